@@ -1,0 +1,25 @@
+-- Parts of a string and two strings in a row are strings.
+use Rattle.std.proofs.Common.{◌≡◌, ℕ, zero, suc, List, [], ◌∷◌, ◌++◌, Bool, true, IsTrue, take, drop, refl, slice_range}
+use Rattle.std.proofs.lemmas.Bool.{and_parts}
+use Rattle.std.specs.Cmp.Derive.{both_true}
+use Rattle.lucid_value.specs.Plain.{is_text, is_text_byte}
+
+all_taken : (n : ℕ) (bs : List ℕ) → is_text bs ≡ true → is_text (take n bs) ≡ true
+all_taken zero bs h = refl
+all_taken (suc n) [] h = refl
+all_taken (suc n) (b ∷ bs) h = let p = and_parts (is_text_byte b) (is_text bs) h in both_true p.0 (all_taken n bs p.1)
+
+all_dropped : (n : ℕ) (bs : List ℕ) → is_text bs ≡ true → is_text (drop n bs) ≡ true
+all_dropped zero bs h = h
+all_dropped (suc n) [] h = refl
+all_dropped (suc n) (b ∷ bs) h = let p = and_parts (is_text_byte b) (is_text bs) h in all_dropped n bs p.1
+
+is_true : (b : Bool) → IsTrue b → b ≡ true
+is_true b h = h
+
+pub text_cut : (bs : List ℕ) (i j : ℕ) → IsTrue (is_text bs) → IsTrue (is_text (slice_range bs i j))
+text_cut bs i j h = all_taken _ (drop i bs) (all_dropped i bs h)
+
+pub text_joined : (bs cs : List ℕ) → IsTrue (is_text bs) → IsTrue (is_text cs) → IsTrue (is_text (bs ++ cs))
+text_joined [] cs h k = k
+text_joined (b ∷ bs) cs h k = let p = and_parts (is_text_byte b) (is_text bs) h in both_true p.0 (text_joined bs cs p.1 k)

@@ -1,0 +1,16 @@
+use Rattle.std.proofs.Common.{◌≡◌, ◌+◌, ◌≤◌, map, vec_len, IsTrue}
+use Rattle.lucid_value.specs.Plain.{weights, nestings, all_well_formed}
+use Rattle.lucid_value.specs.View.{plain}
+use Rattle.lucid_value.specs.Lists.{joined, onto}
+use Rattle.lucid_value.proofs.build.join.Given as goal
+
+abbrev pub invariant-loop-item : goal.invariant-loop-item
+invariant-loop-item l = record {
+  same : onto (map (λ v. plain v.now) l.items.items) l.made ≡ joined l.left l.initial.made;
+  light : weights (onto (map (λ v. plain v.now) l.items.items) l.made) + 1 ≤ 65536;
+  flat : nestings (onto (map (λ v. plain v.now) l.items.items) l.made) + 1 ≤ 64;
+  formed : IsTrue (all_well_formed (onto (map (λ v. plain v.now) l.items.items) l.made));
+}
+
+abbrev pub decreases-loop-item : goal.decreases-loop-item
+decreases-loop-item l = vec_len l.items

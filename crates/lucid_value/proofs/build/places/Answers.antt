@@ -1,0 +1,14 @@
+use Rattle.std.proofs.Common.{◌≡◌, ◌∙◌, ap, map, arith}
+use Rattle.std.proofs.lemmas.Grind.{common_steps}
+use Rattle.lucid_value.specs.Plain.{Items, item}
+use Rattle.lucid_value.specs.View.{plain}
+use Rattle.lucid_value.specs.Lists.{onto}
+use Rattle.lucid_value.proofs.Joined.{taken}
+use Rattle.lucid_value.proofs.build.places.Goals as goal
+
+pub loop-rest-preserved : goal.loop-rest-preserved
+loop-rest-preserved c =
+    let vs : Items = c.deref-in-More.result.now.rest in
+    let q : item (plain c.deref.result.now.item) vs ≡ c.loop-rest.rest.now = grind (arith, common_steps) in
+    taken (λ v. plain v.now) c.push.new.self.items c.loop-rest.items.items _ vs c.in_ok-push.ensures.items
+    ∙ ap (onto (map (λ v. plain v.now) c.loop-rest.items.items)) q ∙ c.loop-rest.invariant

@@ -1,0 +1,101 @@
+-- The plain form of a value, its weight, its nesting and its rules.
+use Rattle.std.specs.Prelude.{ℕ, ℤ, Bool, true, false, List, [], ◌∷◌, ◌+◌, ◌&&◌, ◌||◌, max, length, codes, nat_eq, nat_le, nat_lt, not, ◌==◌}
+use Rattle.std.specs.Cmp.Lexicographic.{pointwise}
+use Rattle.std.specs.List.{list_all}
+use Rattle.std.specs.Char.{is_ascii_alphabetic, is_ascii_alphanumeric}
+
+mutual
+  pub data PlainValue : Type 0 where
+    int : ℤ → PlainValue
+    truth : Bool → PlainValue
+    word : List ℕ → PlainValue
+    text : List ℕ → PlainValue
+    list : Items → PlainValue
+    eod : PlainValue
+    fault : PlainValue
+
+  pub data Items : Type 0 where
+    no_items : Items
+    item : PlainValue → Items → Items
+
+abbrev pub listed : Items → List PlainValue
+listed no_items = []
+listed (item v vs) = v ∷ listed vs
+
+abbrev mutual
+  pub weight : PlainValue → ℕ
+  weight (int n) = 1
+  weight (truth b) = 1
+  weight (word bs) = length bs + 1
+  weight (text bs) = length bs + 1
+  weight (list vs) = weights vs + 1
+  weight eod = 1
+  weight fault = 1
+
+  pub weights : Items → ℕ
+  weights no_items = 0
+  weights (item v vs) = weight v + weights vs
+
+abbrev mutual
+  pub nesting : PlainValue → ℕ
+  nesting (int n) = 0
+  nesting (truth b) = 0
+  nesting (word bs) = 0
+  nesting (text bs) = 0
+  nesting (list vs) = nestings vs + 1
+  nesting eod = 0
+  nesting fault = 0
+
+  pub nestings : Items → ℕ
+  nestings no_items = 0
+  nestings (item v vs) = max (nesting v) (nestings vs)
+
+-- a letter, then letters and digits
+abbrev pub is_wordlike : List ℕ → Bool
+is_wordlike [] = false
+is_wordlike (b ∷ bs) = is_ascii_alphabetic b && list_all is_ascii_alphanumeric bs
+
+abbrev pub same_bytes : List ℕ → List ℕ → Bool
+same_bytes bs cs = pointwise (λ b c. b == c) bs cs
+
+abbrev pub spells_constant : List ℕ → Bool
+spells_constant bs = same_bytes bs (codes "true") || same_bytes bs (codes "false") || same_bytes bs (codes "eod") || same_bytes bs (codes "error")
+
+abbrev pub is_word : List ℕ → Bool
+is_word bs = is_wordlike bs && not (spells_constant bs)
+
+-- light enough for a word or a string
+abbrev pub is_light : List ℕ → Bool
+is_light bs = nat_lt (length bs) 65536
+
+-- a byte that may stand in a string
+abbrev pub is_text_byte : ℕ → Bool
+is_text_byte b = nat_le 32 b && nat_le b 126 && not (nat_eq b 96) && not (nat_eq b 39)
+
+abbrev pub is_text : List ℕ → Bool
+is_text bs = list_all is_text_byte bs
+
+-- a value that a list may hold
+abbrev pub may_be_held : PlainValue → Bool
+may_be_held (int n) = true
+may_be_held (truth b) = true
+may_be_held (word bs) = true
+may_be_held (text bs) = true
+may_be_held (list vs) = true
+may_be_held eod = false
+may_be_held fault = false
+
+-- the bytes of all words and strings are as they should be, and no list holds `eod` or `error`
+abbrev mutual
+  pub well_formed : PlainValue → Bool
+  well_formed (int n) = true
+  well_formed (truth b) = true
+  well_formed (word bs) = is_word bs
+  well_formed (text bs) = is_text bs
+  well_formed (list vs) = all_well_formed vs
+  well_formed eod = true
+  well_formed fault = true
+
+  pub all_well_formed : Items → Bool
+  all_well_formed no_items = true
+  all_well_formed (item v vs) = may_be_held v && well_formed v && all_well_formed vs

@@ -1,0 +1,128 @@
+//! Lists made of lists.
+ghost use Rattle.std.specs.Prelude.{◌≡◌, ◌+◌, ◌≤◌, ◌<◌, IfOk, IsTrue, slice_get, map};
+ghost use Rattle.std.specs.Option.{option_map};
+ghost use Rattle.lucid_value.specs.Plain.{no_items, listed, weight, weights, nesting, well_formed, may_be_held};
+ghost use Rattle.lucid_value.specs.View.{plain};
+ghost use Rattle.lucid_value.specs.Lists.{in_front, limited_list, first_of, rest_of, joined, onto};
+
+use crate::{Cell, Link, List, MAX_NESTING, MAX_WEIGHT, Value};
+use std::alloc::{AllocError, Global};
+use std::rc::Rc;
+
+impl List {
+    // The item at the index, or `None` where the list is no longer than that.
+    pub fn item(&self, index: u32) -> Option<&Value>
+        ensures { option_map (λ value. plain value.now) result ≡ slice_get (listed self.now) index }
+    {
+        let mut rest = self;
+        let mut left = index;
+        while let Link::More(cell) = &rest.top {
+            if left == 0 {
+                return Some(&cell.item);
+            }
+            left -= 1;
+            rest = &cell.rest;
+        }
+        None
+    }
+
+    // The list with the item in front.
+    fn with(alloc: Global, item: Value, rest: List) -> Result<List, AllocError>
+        requires held { IsTrue (may_be_held (plain item)) }
+        requires light { weight (plain item) + weights rest + 1 ≤ 65536 }
+        requires flat { nesting (plain item) < 64 }
+        ensures { IfOk result (λ list. list ≡ in_front (plain item) rest) }
+    {
+        item.is_formed();
+        rest.is_formed();
+        let len = rest.len() + 1;
+        let weight = item.weight() + rest.weight();
+        let nesting = (item.nesting() + 1).max(rest.nesting());
+        let cell = Rc::new(
+            alloc,
+            Cell {
+                item,
+                rest,
+                len,
+                weight,
+                nesting,
+            },
+        )?;
+        Ok(List {
+            top: Link::More(cell),
+        })
+    }
+}
+
+// The places of the items, in order.
+#[tactic(auto, using(crate::proofs::Joined::onto_more))]
+fn places(alloc: Global, list: &List) -> Result<Vec<&Value>, AllocError>
+    ensures { IfOk result (λ items. onto (map (λ value. plain value.now) items.items) no_items ≡ list.now) }
+{
+    let mut items = Vec::with_capacity(alloc, list.len() as usize)?;
+    let mut rest = list;
+    while let Link::More(cell) = &rest.top {
+        items.push(&cell.item)?;
+        rest = &cell.rest;
+    }
+    Ok(items)
+}
+
+// The items of the left list and then those of the right one.
+#[tactic(auto, using(crate::proofs::Joined::onto_more, crate::proofs::Joined::onto_joined))]
+fn join(alloc: Global, left: &List, right: List) -> Result<List, AllocError>
+    requires { weights left.now + weights right + 1 ≤ 65536 }
+    ensures { IfOk result (λ list. list ≡ joined left.now right) }
+{
+    left.is_formed();
+    right.is_formed();
+    let mut items = places(alloc, left)?;
+    let mut made = right;
+    while let Some(item) = items.pop() {
+        made = List::with(alloc, item.copy(alloc)?, made)?;
+    }
+    Ok(made)
+}
+
+#[tactic(auto, using(crate::proofs::Joined::joined_over, crate::proofs::Joined::joined_within))]
+pub fn append(alloc: Global, left: &List, right: &List) -> Result<Value, AllocError>
+    ensures { IfOk result (λ value. plain value ≡ limited_list (joined left.now right.now)) }
+{
+    left.is_formed();
+    right.is_formed();
+    if left.weight() + right.weight() - 1 > MAX_WEIGHT {
+        return Ok(Value::Fault);
+    }
+    Ok(Value::List(join(alloc, left, right.copy()?)?))
+}
+
+pub fn cons(alloc: Global, item: &Value, list: &List) -> Result<Value, AllocError>
+    requires { IsTrue (may_be_held (plain item.now)) }
+    ensures { IfOk result (λ value. plain value ≡ limited_list (in_front (plain item.now) list.now)) }
+{
+    let weight = item.weight() + list.weight();
+    let nesting = (item.nesting() + 1).max(list.nesting());
+    if weight > MAX_WEIGHT || nesting > MAX_NESTING {
+        return Ok(Value::Fault);
+    }
+    let made = List::with(alloc, item.copy(alloc)?, list.copy()?)?;
+    Ok(Value::List(made))
+}
+
+pub fn head(alloc: Global, list: &List) -> Result<Value, AllocError>
+    ensures { IfOk result (λ value. plain value ≡ first_of list.now) }
+{
+    match &list.top {
+        Link::End => Ok(Value::Fault),
+        Link::More(cell) => cell.item.copy(alloc),
+    }
+}
+
+pub fn tail(alloc: Global, list: &List) -> Result<Value, AllocError>
+    ensures { IfOk result (λ value. plain value ≡ rest_of list.now) }
+{
+    match &list.top {
+        Link::End => Ok(Value::Fault),
+        Link::More(cell) => Ok(Value::List(cell.rest.copy()?)),
+    }
+}

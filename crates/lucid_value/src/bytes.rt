@@ -1,0 +1,100 @@
+//! Words and strings, made from bytes.
+ghost use Rattle.std.specs.Prelude.{◌≡◌, ◌&&◌, IfOk, IsErrOf, IsTrue, not, ◌↔◌};
+ghost use Rattle.lucid_value.specs.declared.bytes.MakeRefusal.TheVariants.{NoMemory};
+ghost use Rattle.std.specs.List.{list_all};
+ghost use Rattle.std.specs.Char.{is_ascii_alphanumeric};
+ghost use Rattle.lucid_value.specs.Plain.{is_word, is_wordlike, spells_constant, is_text, is_text_byte, is_light};
+
+use crate::{MAX_WEIGHT, Text, Word};
+use std::alloc::{AllocError, Global};
+use std::rc::Rc;
+
+#[derive(Debug, Drop)]
+pub enum MakeRefusal {
+    NotThat,
+    NoMemory,
+}
+
+impl From<AllocError> for MakeRefusal {
+    ghost from_gives = { λ _ made. made ≡ NoMemory };
+
+    fn from(_error: AllocError) -> MakeRefusal {
+        MakeRefusal::NoMemory
+    }
+}
+
+fn spells_constant(bytes: &[u8]) -> bool
+    ensures { result ≡ spells_constant bytes.now }
+{
+    bytes == b"true".as_slice()
+        || bytes == b"false".as_slice()
+        || bytes == b"eod".as_slice()
+        || bytes == b"error".as_slice()
+}
+
+fn are_alphanumeric(bytes: &[u8]) -> bool
+    ensures { result ≡ list_all is_ascii_alphanumeric bytes.now }
+{
+    bytes.iter().all(|b| b.is_ascii_alphanumeric())
+}
+
+fn looks_like_word(bytes: &[u8]) -> bool
+    ensures { result ≡ is_wordlike bytes.now }
+{
+    match bytes {
+        [] => false,
+        [first, rest @ ..] => first.is_ascii_alphabetic() && are_alphanumeric(rest),
+    }
+}
+
+fn can_be_word(bytes: &[u8]) -> bool
+    ensures { result ≡ (is_word bytes.now && is_light bytes.now) }
+{
+    looks_like_word(bytes) && !spells_constant(bytes) && bytes.len() < MAX_WEIGHT as usize
+}
+
+fn can_stand_in_text(byte: u8) -> bool
+    ensures { result ≡ is_text_byte byte }
+{
+    byte >= 32 && byte <= 126 && byte != b'`' && byte != b'\''
+}
+
+fn looks_like_text(bytes: &[u8]) -> bool
+    ensures { result ≡ is_text bytes.now }
+{
+    bytes.iter().all(|b| can_stand_in_text(*b))
+}
+
+fn can_be_text(bytes: &[u8]) -> bool
+    ensures { result ≡ (is_text bytes.now && is_light bytes.now) }
+{
+    looks_like_text(bytes) && bytes.len() < MAX_WEIGHT as usize
+}
+
+impl Word {
+    pub fn make(alloc: Global, bytes: &[u8]) -> Result<Word, MakeRefusal>
+        ensures made { IfOk result (λ word. word ≡ bytes.now) }
+        ensures refused { IsErrOf result MakeRefusal.NotThat ↔ IsTrue (not (is_word bytes.now && is_light bytes.now)) }
+    {
+        if !can_be_word(bytes) {
+            return Err(MakeRefusal::NotThat);
+        }
+        let kept = Vec::from_slice(alloc, bytes)?;
+        let bytes = Rc::new(alloc, kept).map_err(AllocError::from)?;
+        Ok(Word { bytes })
+    }
+}
+
+impl Text {
+    pub fn make(alloc: Global, bytes: &[u8]) -> Result<Text, MakeRefusal>
+        ensures made { IfOk result (λ text. text ≡ bytes.now) }
+        ensures refused { IsErrOf result MakeRefusal.NotThat ↔ IsTrue (not (is_text bytes.now && is_light bytes.now)) }
+    {
+        if !can_be_text(bytes) {
+            return Err(MakeRefusal::NotThat);
+        }
+        let kept = Vec::from_slice(alloc, bytes)?;
+        let bytes = Rc::new(alloc, kept).map_err(AllocError::from)?;
+        Ok(Text { bytes })
+    }
+}
