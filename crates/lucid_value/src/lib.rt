@@ -7,6 +7,7 @@ ghost use Rattle.lucid_value.specs.View.{plain};
 
 pub use crate::build::{append, cons, head, tail};
 pub use crate::bytes::MakeRefusal;
+pub use crate::name::Name;
 pub use crate::texts::{cut, join, pick_item};
 use std::alloc::{AllocError, Global};
 use std::marker::Model;
@@ -14,6 +15,7 @@ use std::rc::Rc;
 
 mod build;
 mod bytes;
+mod name;
 mod same;
 mod show;
 #[cfg(test)]

@@ -1,0 +1,15 @@
+pub mod Tree
+pub mod Size
+pub mod Codes
+pub mod Lists
+pub mod TreesFall
+pub mod DefsView
+pub mod DefsFall
+pub mod View
+pub mod Rows
+pub mod Levels
+pub mod Env
+pub mod Meaning
+pub mod Demand
+pub mod WellMade
+pub mod Output

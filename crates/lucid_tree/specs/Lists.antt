@@ -1,0 +1,11 @@
+-- Lists of trees as one plain form.
+use Rattle.std.specs.Prelude.{List, [], ◌∷◌}
+use Rattle.lucid_tree.specs.Tree.{PlainTree, PlainTrees, no_trees, tree}
+
+abbrev pub trees_of : List PlainTree → PlainTrees
+trees_of [] = no_trees
+trees_of (e ∷ es) = tree e (trees_of es)
+
+abbrev pub listed : PlainTrees → List PlainTree
+listed no_trees = []
+listed (tree e es) = e ∷ listed es
