@@ -1,0 +1,28 @@
+ghost use Rattle.std.specs.Prelude.{◌<◌, length};
+
+use super::*;
+use std::test::Fail;
+
+// One pick through the trait, as the engine makes it.
+fn picked<P: Pick>(pick: &mut P, ready: &[usize]) -> usize
+    requires { 0 < length ready.now }
+{
+    pick.pick(ready)
+}
+
+#[test]
+fn the_newest_and_the_oldest_stand_at_the_ends(rt: HostRuntime) {
+    assert_eq!(rt; picked(&mut Newest, &[7]), 0);
+    assert_eq!(rt; picked(&mut Newest, &[4, 9, 2]), 2);
+    assert_eq!(rt; picked(&mut Oldest, &[7]), 0);
+    assert_eq!(rt; picked(&mut Oldest, &[4, 9, 2]), 0);
+}
+
+#[test]
+fn listed_numbers_are_used_in_order_and_then_place_0(rt: HostRuntime) -> Result<(), Fail> {
+    let mut listed = Listed::make(vec![in rt.alloc(); 1, 5, 2]?);
+    for want in [1, 2, 2, 0, 0] {
+        assert_eq!(rt; picked(&mut listed, &[4, 9, 2]), want);
+    }
+    Ok(())
+}
