@@ -1,0 +1,96 @@
+-- Contexts: cutting, and which contexts are further out.
+use Rattle.std.proofs.Common.{◌≡◌, ℕ, suc, ◌<◌, ◌≤◌, ◌⊎◌, inl, inr, Bool, true, false, Option, Some, None, ◌==◌, if◌then◌else◌, refl, ◌∙◌, ap, sym, subst, arith}
+use Rattle.std.proofs.lemmas.Bool.Decides.{nat_tests}
+use Rattle.lucid_tags.specs.Contexts.{Context, root, call_frame, frozen_frame, frames, base_of, cut, IsOuter}
+
+same-number : (n : ℕ) → (n == n) ≡ true
+same-number n = grind (arith, nat_tests)
+
+other-number : (l n : ℕ) → l < n → (l == n) ≡ false
+other-number l n h = grind (arith, nat_tests)
+
+above-number : (l n : ℕ) → n < l → (l == n) ≡ false
+above-number l n h = grind (arith, nat_tests)
+
+-- below the innermost frame a cut is that of the base
+pub cut-call_frame : (level place : ℕ) (caller base : Context) → level ≤ frames base → cut level (call_frame place caller base) ≡ cut level base
+cut-call_frame level place caller base h = let b : level < suc (frames base) = omega arith in rw (other-number level (suc (frames base)) b) refl
+
+pub cut-frozen_frame : (level time : ℕ) (base : Context) → level ≤ frames base → cut level (frozen_frame time base) ≡ cut level base
+cut-frozen_frame level time base h = let b : level < suc (frames base) = omega arith in rw (other-number level (suc (frames base)) b) refl
+
+-- at its own level a cut is the whole context
+pub cut-frames : (c : Context) → cut (frames c) c ≡ Some c
+cut-frames root = refl
+cut-frames (call_frame place caller base) = rw (same-number (suc (frames base))) refl
+cut-frames (frozen_frame time base) = rw (same-number (suc (frames base))) refl
+
+-- above its level there is none
+pub cut-above : (c : Context) (level : ℕ) → frames c < level → cut level c ≡ None
+cut-above root level h = rw (above-number level 0 h) refl
+cut-above (call_frame place caller base) level h = rw (above-number level (suc (frames base)) h) (cut-above base level (omega arith))
+cut-above (frozen_frame time base) level h = rw (above-number level (suc (frames base)) h) (cut-above base level (omega arith))
+
+-- a context is further out than itself, and so is its base
+pub outer-itself : (c : Context) → IsOuter c c
+outer-itself c = record { lower = omega arith; same = λ level h. refl }
+
+pub outer-base_of : (c : Context) → IsOuter (base_of c) c
+outer-base_of root = outer-itself root
+outer-base_of (call_frame place caller base) = record { lower = omega arith; same = λ level h. cut-call_frame level place caller base h }
+outer-base_of (frozen_frame time base) = record { lower = omega arith; same = λ level h. cut-frozen_frame level time base h }
+
+pub outer-outer : (a b c : Context) → IsOuter a b → IsOuter b c → IsOuter a c
+outer-outer a b c p q = record {
+  lower = omega (arith, p.lower, q.lower);
+  same = λ level h. q.same level (omega (arith, h, p.lower)) ∙ p.same level h;
+}
+
+-- cutting at the level of a context further out gives it
+pub cut-outer : (outer inner : Context) → IsOuter outer inner → cut (frames outer) inner ≡ Some outer
+cut-outer outer inner h = h.same (frames outer) (omega arith) ∙ cut-frames outer
+
+-- the base has a frame less
+pub frames-base_of : (c : Context) → frames (base_of c) ≤ frames c
+frames-base_of c = (outer-base_of c).lower
+
+-- a cut that leaves out the innermost frame gives the base
+pub cut-base_of : (c : Context) (level : ℕ) → suc level ≡ frames c → cut level c ≡ Some (base_of c)
+cut-base_of root level h = absurd (omega arith)
+cut-base_of (call_frame place caller base) level h =
+    let own : frames base ≡ level = omega arith in
+    subst (λ n. cut n (call_frame place caller base) ≡ Some base) own (cut-call_frame (frames base) place caller base (omega arith) ∙ cut-frames base)
+cut-base_of (frozen_frame time base) level h =
+    let own : frames base ≡ level = omega arith in
+    subst (λ n. cut n (frozen_frame time base) ≡ Some base) own (cut-frozen_frame (frames base) time base (omega arith) ∙ cut-frames base)
+
+-- a cut has as many frames as the level says, and is further out
+chosen : (b : Bool) (x f : Context) (rest : Option Context) → (if b then Some x else rest) ≡ Some f → ((b ≡ true) × (x ≡ f)) ⊎ (rest ≡ Some f)
+chosen true x f rest h = inl (refl, cc)
+chosen false x f rest h = inr h
+
+equal-numbers : (l n : ℕ) → (l == n) ≡ true → n ≡ l
+equal-numbers l n h = grind (arith, nat_tests)
+
+module _ (level : ℕ) (f : Context) where
+  abbrev IsThere : Context → Type 0
+  IsThere c = (frames f ≡ level) × IsOuter f c
+
+  at_own : (c : Context) → (level == frames c) ≡ true → c ≡ f → IsThere c
+  at_own c b e = (ap frames (sym e) ∙ equal-numbers level (frames c) b, subst (λ x. IsOuter x c) e (outer-itself c))
+
+  at_base : (c : Context) → IsThere (base_of c) → IsThere c
+  at_base c h = (h.0, outer-outer f (base_of c) c h.1 (outer-base_of c))
+
+  pub frames-cut : (c : Context) → cut level c ≡ Some f → (frames f ≡ level) × IsOuter f c
+  frames-cut root h = elim (chosen (level == 0) root f None h) [ inl p ↦ at_own root p.0 p.1 | inr p ↦ absurd (cc) ]
+  frames-cut (call_frame place caller base) h =
+      elim (chosen (level == suc (frames base)) (call_frame place caller base) f (cut level base) h) [
+        | inl p ↦ at_own (call_frame place caller base) p.0 p.1
+        | inr p ↦ at_base (call_frame place caller base) (frames-cut base p)
+      ]
+  frames-cut (frozen_frame time base) h =
+      elim (chosen (level == suc (frames base)) (frozen_frame time base) f (cut level base) h) [
+        | inl p ↦ at_own (frozen_frame time base) p.0 p.1
+        | inr p ↦ at_base (frozen_frame time base) (frames-cut base p)
+      ]

@@ -1,0 +1,5 @@
+pub mod ContextLemmas
+pub mod ListLemmas
+pub mod RowLemmas
+pub mod RowEquality
+pub mod TagLemmas

@@ -1,0 +1,5 @@
+use Rattle.lucid_tags.proofs.TagLemmas.{empty-one_for_one}
+use Rattle.lucid_tags.proofs.Tags.make.Goals as goal
+
+pub returns-clause-one_for_one : goal.returns-clause-one_for_one
+returns-clause-one_for_one c = empty-one_for_one c.new.result.entries c.new.ensures.empty

@@ -1,0 +1,47 @@
+-- What a tag stands for, over the list of the known contexts.
+use Rattle.std.specs.Prelude.{◌≡◌, ℕ, ◌<◌, ◌↔◌, ◌⊎◌, List, [], ◌∷◌, ◌++◌, length}
+use Rattle.std.proofs.Common.{lit<}
+use Rattle.lucid_tags.specs.declared.Tag.{Tag}
+use Rattle.lucid_tags.specs.declared.Frame.{Frame}
+use Rattle.lucid_tags.specs.declared.Frame.TheVariants.{Call, Frozen}
+use Rattle.lucid_tags.specs.Contexts.{Context, call_frame, frozen_frame, base_of, context_at}
+
+-- the place of a tag's context in the list of the known contexts
+abbrev pub number_of : Tag → ℕ
+number_of tag = tag.number
+
+-- the space that a tag stands for
+abbrev pub space_of : Tag → ℕ
+space_of tag = tag.space
+
+-- the tag of the empty context at space 0
+abbrev pub root_tag : Tag
+root_tag = record { number = 0; space = 0; in_range = lit< tt }
+
+-- a tag is known where its context is
+abbrev pub IsKnown : List Context → Tag → Type 0
+IsKnown known tag = number_of tag < length known
+
+-- the context that a known tag stands for
+abbrev pub context_of : List Context → Tag → Context
+context_of known tag = context_at known (number_of tag)
+
+-- no context is known at two places, so known tags are equal exactly where their contexts and their spaces are
+pub record IsOneForOne (known : List Context) : Type 0 where
+  pub places : (i j : ℕ) → i < length known → j < length known → context_at known i ≡ context_at known j → i ≡ j
+  pub tags : (a b : Tag) → IsKnown known a → IsKnown known b → (a ≡ b) ↔ ((context_of known a ≡ context_of known b) × (space_of a ≡ space_of b))
+
+-- known tags stay known, and stand for the same contexts
+pub record KeepsKnown (old new : List Context) : Type 0 where
+  pub known : (tag : Tag) → IsKnown old tag → IsKnown new tag
+  pub same : (tag : Tag) → IsKnown old tag → context_of new tag ≡ context_of old tag
+
+-- a context was known, and nothing changed, or it is now known after all the others
+abbrev pub AddsAtMost : (old new : List Context) → Context → Type 0
+AddsAtMost old new c = (new ≡ old) ⊎ (new ≡ old ++ c ∷ [])
+
+-- a frame is the innermost one of a context, and its caller is a known tag at space 0
+abbrev pub IsInnermost : List Context → Frame → Context → Type 0
+IsInnermost known (Call place caller) c =
+    IsKnown known caller × (space_of caller ≡ 0) × (c ≡ call_frame place (context_of known caller) (base_of c))
+IsInnermost known (Frozen time) c = c ≡ frozen_frame time (base_of c)

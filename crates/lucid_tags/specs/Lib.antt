@@ -1,0 +1,4 @@
+pub mod Contexts
+pub mod ContextCode
+pub mod Known
+pub mod Rows

@@ -1,0 +1,234 @@
+//! Tags: contexts as small values, each with a space.
+//!
+//! A context is the list of the frames in which an equation is evaluated. Each context is stored once, as a frame over another
+//! context, and a tag names it by a number. So tags are compared in place of contexts, and no context is ever copied.
+#![tactic(auto)]
+
+ghost use Rattle.std.specs.Prelude.{◌≡◌, ◌<◌, ◌≤◌, ◌^◌, ◌↔◌, ◌∷◌, [], length, IsNone, IfSome, IfOk, OnOk, OnErr};
+
+use crate::rows::{Depth, Row, RowFrame};
+use indexmap::IndexMap;
+use std::alloc::{AllocError, Global};
+use std::marker::Model;
+
+mod rows;
+#[cfg(test)]
+mod tests;
+
+/// A context, by its number in the `Tags` that gave the tag, and a space.
+#[derive(Clone, Copy, PartialEq, Eq, Hash, Debug)]
+pub struct Tag {
+    number: u32,
+    space: u64,
+    ghost in_range: { space < 2 ^ 63 },
+}
+
+/// The innermost frame of a context.
+#[derive(Clone, Copy, PartialEq, Eq, Hash, Debug)]
+pub enum Frame {
+    /// A call at a place of the program, from the caller's context. The caller has space 0.
+    Call { place: u32, caller: Tag },
+    /// A block whose current values are those at this time.
+    Frozen { time: u64 },
+}
+
+impl Tag {
+    ghost use Rattle.lucid_tags.specs.Known.{number_of, space_of};
+
+    // A context at space 0.
+    fn of_context(number: u32) -> Tag
+        ensures context { number_of result ≡ number }
+        ensures space { space_of result ≡ 0 }
+    {
+        Tag { number, space: 0 }
+    }
+
+    /// The space.
+    pub fn space(self) -> u64
+        ensures space { result ≡ space_of self }
+        ensures in_range { result < 2 ^ 63 }
+    {
+        self.space
+    }
+
+    /// The same context at another space.
+    pub fn at_space(self, space: u64) -> Tag
+        requires { space < 2 ^ 63 }
+        ensures context { number_of result ≡ number_of self }
+        ensures space { space_of result ≡ space }
+    {
+        Tag {
+            number: self.number,
+            space,
+        }
+    }
+}
+
+/// The contexts that are known, and a tag for each of them at each space.
+#[derive(Drop)]
+pub struct Tags {
+    rows: IndexMap<Row, Depth>,
+}
+
+impl Model for Tags {
+    ghost use Rattle.std.specs.Prelude.{List};
+    ghost use Rattle.lucid_tags.specs.Contexts.{Context};
+    ghost use Rattle.lucid_tags.specs.ContextCode.{known_code};
+
+    ghost Value = { List Context };
+
+    ghost coded = { known_code };
+
+    ghost use Rattle.lucid_tags.specs.Rows.{contexts, AreRows};
+
+    ghost view = { λ t. contexts t.rows.entries };
+
+    ghost invariant = { λ t. AreRows t.rows.entries };
+}
+
+impl Tags {
+    ghost use Rattle.lucid_tags.specs.Contexts.{root, call_frame, frozen_frame, frames, cut};
+    ghost use Rattle.lucid_tags.specs.Rows.{with_frame, CallerBelow};
+    ghost use Rattle.lucid_tags.specs.Known.{root_tag, space_of, context_of, IsKnown, IsOneForOne, KeepsKnown, AddsAtMost, IsInnermost};
+
+    /// Only the empty context is known. Nothing is allocated.
+    pub fn make(alloc: Global) -> Tags
+        ensures known { result ≡ root ∷ [] }
+        ensures one_for_one { IsOneForOne result }
+    {
+        Tags {
+            rows: IndexMap::new(alloc),
+        }
+    }
+
+    /// The empty context at space 0.
+    pub fn root(&self) -> Tag
+        ensures tag { result ≡ root_tag }
+        ensures known { IsKnown self.now result }
+        ensures context { context_of self.now result ≡ root }
+        ensures one_for_one { IsOneForOne self.now }
+    {
+        let _rows = &self.rows;
+        Tag::of_context(0)
+    }
+
+    // The context of the base with a frame added, at the base's space.
+    fn enter(&mut self, base: Tag, frame: RowFrame) -> Result<Tag, AllocError>
+        requires base { IsKnown self.old base }
+        requires caller { CallerBelow (length self.old) frame }
+        ensures known { IfOk result (λ tag. IsKnown self.new tag) }
+        ensures context { IfOk result (λ tag. context_of self.new tag ≡ with_frame self.old frame (context_of self.old base)) }
+        ensures space { IfOk result (λ tag. space_of tag ≡ space_of base) }
+        ensures added { OnOk result (AddsAtMost self.old self.new (with_frame self.old frame (context_of self.old base))) }
+        ensures err { OnErr result (self.new ≡ self.old) }
+        ensures keeps { KeepsKnown self.old self.new }
+        ensures one_for_one { IsOneForOne self.new }
+    {
+        let row = Row {
+            base: base.number,
+            frame,
+        };
+        let number = rows::intern(&mut self.rows, row)?;
+        Ok(Tag {
+            number,
+            space: base.space,
+        })
+    }
+
+    /// The context of the base with the frame of a call added, at the base's space. The caller's space doesn't count.
+    pub fn enter_call(&mut self, base: Tag, place: u32, caller: Tag) -> Result<Tag, AllocError>
+        requires base { IsKnown self.old base }
+        requires caller { IsKnown self.old caller }
+        ensures known { IfOk result (λ tag. IsKnown self.new tag) }
+        ensures context { IfOk result (λ tag. context_of self.new tag ≡ call_frame place (context_of self.old caller) (context_of self.old base)) }
+        ensures space { IfOk result (λ tag. space_of tag ≡ space_of base) }
+
+        // No other context becomes known, and none at a refusal. Known tags keep what they stand for.
+        ensures added { OnOk result (AddsAtMost self.old self.new (call_frame place (context_of self.old caller) (context_of self.old base))) }
+        ensures err { OnErr result (self.new ≡ self.old) }
+        ensures keeps { KeepsKnown self.old self.new }
+        ensures one_for_one { IsOneForOne self.new }
+    {
+        let caller = caller.number;
+        self.enter(base, RowFrame::Call { place, caller })
+    }
+
+    /// The context of the base with a frozen time added, at the base's space.
+    pub fn enter_frozen(&mut self, base: Tag, time: u64) -> Result<Tag, AllocError>
+        requires { IsKnown self.old base }
+        ensures known { IfOk result (λ tag. IsKnown self.new tag) }
+        ensures context { IfOk result (λ tag. context_of self.new tag ≡ frozen_frame time (context_of self.old base)) }
+        ensures space { IfOk result (λ tag. space_of tag ≡ space_of base) }
+
+        // No other context becomes known, and none at a refusal. Known tags keep what they stand for.
+        ensures added { OnOk result (AddsAtMost self.old self.new (frozen_frame time (context_of self.old base))) }
+        ensures err { OnErr result (self.new ≡ self.old) }
+        ensures keeps { KeepsKnown self.old self.new }
+        ensures one_for_one { IsOneForOne self.new }
+    {
+        self.enter(base, RowFrame::Frozen { time })
+    }
+
+    /// The context of the outermost `level` frames, at the same space.
+    pub fn cut(&self, tag: Tag, level: u32) -> Tag
+        requires known { IsKnown self.now tag }
+        requires level { level ≤ frames (context_of self.now tag) }
+        ensures known { IsKnown self.now result }
+        ensures context { cut level (context_of self.now tag) ≡ Some (context_of self.now result) }
+        ensures space { space_of result ≡ space_of tag }
+        ensures one_for_one { IsOneForOne self.now }
+    {
+        Tag {
+            number: rows::cut_to(&self.rows, tag.number, level),
+            space: tag.space,
+        }
+    }
+
+    /// The number of frames.
+    pub fn level(&self, tag: Tag) -> u64
+        requires { IsKnown self.now tag }
+        ensures level { result ≡ frames (context_of self.now tag) }
+        ensures in_range { result < 2 ^ 32 }
+        ensures one_for_one { IsOneForOne self.now }
+    {
+        u64::from(rows::depth_of(&self.rows, tag.number).level)
+    }
+
+    /// The innermost frame, or `None` where the context is empty.
+    pub fn frame(&self, tag: Tag) -> Option<Frame>
+        requires { IsKnown self.now tag }
+        ensures empty { IsNone result ↔ (context_of self.now tag ≡ root) }
+        ensures innermost { IfSome result (λ frame. IsInnermost self.now frame (context_of self.now tag)) }
+        ensures one_for_one { IsOneForOne self.now }
+    {
+        let rows = &self.rows;
+        if tag.number == 0 {
+            return None;
+        }
+        Some(match rows::row_of(rows, tag.number).frame {
+            RowFrame::Call { place, caller } => Frame::Call {
+                place,
+                caller: Tag::of_context(caller),
+            },
+            RowFrame::Frozen { time } => Frame::Frozen { time },
+        })
+    }
+
+    /// The number of known contexts, the empty one included.
+    pub fn count(&self) -> u64
+        ensures count { result ≡ length self.now }
+        ensures one_for_one { IsOneForOne self.now }
+    {
+        self.rows.len() as u64 + 1
+    }
+
+    /// Forgets all contexts but the empty one. The memory is kept.
+    pub fn reset(&mut self)
+        ensures known { self.new ≡ root ∷ [] }
+        ensures one_for_one { IsOneForOne self.new }
+    {
+        if !self.rows.is_empty() {
+            self.rows.clear();
+        }
+    }
+}
