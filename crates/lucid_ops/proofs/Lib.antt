@@ -1,0 +1,6 @@
+pub mod NarrowResults
+pub mod Places
+pub mod Powers
+pub mod RowsInOrder
+pub mod Rule
+pub mod Strings

@@ -1,41 +1,44 @@
--- The algebra of the operators over numbers without bounds: what each data operator gives.
--- Every rule here is this language's own; where a row of the operator table names no case, the result is `error`.
-use Rattle.std.specs.Prelude.{ℕ, ℤ, pos, negsuc, Bool, true, false, List, [], ◌∷◌, ◌++◌, length, not, ◌+ℤ◌, ◌-ℤ◌, ◌*ℤ◌, neg_ℤ, unsigned_abs, int_div, int_rem, nat_lt, nat_eq, if◌then◌else◌, Option, Some, None}
+-- The algebra of the operators: what each data operator gives for its arguments, over numbers without bounds.
+-- Every rule here is this language's own. The value written `error` is `fault` here. It is the result where an operator's row
+-- names no case for the arguments, and where the result is no value: an integer that has no place among those of 128 bits, a
+-- list or a string that passes a limit. Where the arguments are values, only the rows with `place`, `limited_list` and
+-- `limited_text` can come to that.
+use Rattle.std.specs.Prelude.{ℤ, pos, negsuc, Bool, true, false, List, [], ◌∷◌, ◌++◌, length, not, ◌+ℤ◌, ◌-ℤ◌, ◌*ℤ◌, neg_ℤ, unsigned_abs, int_div, int_rem, nat_eq, if◌then◌else◌, Option, Some, None}
 use Rattle.std.specs.Int.{int_pow}
+use Rattle.std.specs.List.{list_any}
 use Rattle.std.specs.Ordering.{is_lt, is_le, is_gt, is_ge}
 use Rattle.std.specs.Fmt.{signed_decimal}
 use Rattle.std.specs.declared.cmp.Ordering.{Ordering}
 use Rattle.std.specs.declared.cmp.Ordering.TheVariants.{Less, Equal, Greater}
-use Rattle.lucid_value.specs.Plain.{PlainValue, int, truth, word, text, list, eod, fault, Items, no_items, item, listed, is_word, is_light}
+use Rattle.lucid_value.specs.Plain.{PlainValue, int, truth, word, text, list, eod, fault, no_items, listed, is_word, is_i128}
 use Rattle.lucid_value.specs.Equality.{same_value}
 use Rattle.lucid_value.specs.Lists.{limited_list, in_front, joined, first_of, rest_of}
 use Rattle.lucid_value.specs.Texts.{limited_text, cut_of, pick_of, order_of}
 use Rattle.lucid_ops.specs.declared.op.Op.{Op}
 use Rattle.lucid_ops.specs.declared.op.Op.TheVariants.{Add, Sub, Mul, Div, Mod, Pow, Neg, Abs, Eq, Ne, Lt, Le, Gt, Ge, Cmp, Not, Head, Tail, Cons, Append, Join, Length, Substr, Nth, MakeWord, MakeString, IsInt, IsWord, IsString, IsList, IsTruth, IsNull, IsAtom, IsEod, IsError}
 
--- the number as a value, where it has a place among the integers of 128 bits
+-- the number as a value, or `error` where it has no place among the integers of 128 bits
 abbrev pub integer : ℤ → PlainValue
-integer (pos n) = if nat_lt n 170141183460469231731687303715884105728 then int (pos n) else fault
-integer (negsuc n) = if nat_lt n 170141183460469231731687303715884105728 then int (negsuc n) else fault
+integer z = if is_i128 z then int z else fault
 
--- a quotient or a remainder, where the divisor isn't 0
+-- a quotient or a remainder, and an error where the divisor is 0
 abbrev pub unless_zero : (divisor : ℤ) → PlainValue → PlainValue
 unless_zero (pos n) result = if nat_eq n 0 then fault else result
 unless_zero (negsuc n) result = result
 
--- a test of the order of two values, where they have one
+-- a test of the order of two values, and an error where they have none: integers, words and strings have one among their kind
 abbrev pub tested : (Ordering → Bool) → Option Ordering → PlainValue
 tested test None = fault
 tested test (Some order) = truth (test order)
 
--- the order of two values as a number: -1, 0 or 1
+-- the order of two values as a number: -1, 0 or 1, and an error where they have none
 abbrev pub compared : Option Ordering → PlainValue
 compared None = fault
 compared (Some Less) = int (negsuc 0)
 compared (Some Equal) = int (pos 0)
 compared (Some Greater) = int (pos 1)
 
--- the tests of kinds
+-- the kind of a value
 abbrev pub is_int : PlainValue → Bool
 is_int (int n) = true
 is_int _ = false
@@ -56,11 +59,12 @@ abbrev pub is_truth : PlainValue → Bool
 is_truth (truth b) = true
 is_truth _ = false
 
--- the empty list
+-- whether it is the empty list
 abbrev pub is_null : PlainValue → Bool
 is_null (list no_items) = true
 is_null _ = false
 
+-- whether it is the end of data, or the value written `error`
 abbrev pub is_eod : PlainValue → Bool
 is_eod eod = true
 is_eod _ = false
@@ -69,7 +73,7 @@ abbrev pub is_error : PlainValue → Bool
 is_error fault = true
 is_error _ = false
 
--- The row of an operator of one argument that is neither end of data nor error, integers being placed by `place`.
+-- The row of an operator of one argument that is neither end of data nor an error. Integers are placed by `place`.
 abbrev pub row_of_one : (place : ℤ → PlainValue) → Op → PlainValue → PlainValue
 row_of_one place Neg (int n) = place (neg_ℤ n)
 row_of_one place Abs (int n) = place (pos (unsigned_abs n))
@@ -90,7 +94,8 @@ row_of_one place IsNull v = truth (is_null v)
 row_of_one place IsAtom v = truth (not (is_list v))
 row_of_one place _ v = fault
 
--- The row of an operator of two such arguments.
+-- The row of an operator of two such arguments. `Div` rounds toward zero, `Mod` is the remainder of that division with the
+-- dividend's sign, and a power has an exponent of at least 0. Values of two kinds are not equal.
 abbrev pub row_of_two : (place : ℤ → PlainValue) → Op → PlainValue → PlainValue → PlainValue
 row_of_two place Add (int a) (int b) = place (a +ℤ b)
 row_of_two place Sub (int a) (int b) = place (a -ℤ b)
@@ -111,48 +116,34 @@ row_of_two place Join (text bs) (text cs) = limited_text (bs ++ cs)
 row_of_two place Nth (list vs) (int i) = pick_of vs i
 row_of_two place _ v w = fault
 
--- The row of an operator of three such arguments.
+-- The row of an operator of three such arguments: the bytes of a string from one place up to another.
 abbrev pub row_of_three : Op → PlainValue → PlainValue → PlainValue → PlainValue
 row_of_three Substr (text bs) (int i) (int j) = cut_of bs i j
 row_of_three _ u v w = fault
 
+-- the row of an operator, by the number of its arguments
 abbrev pub row_of : (place : ℤ → PlainValue) → Op → List PlainValue → PlainValue
 row_of place op (u ∷ []) = row_of_one place op u
 row_of place op (u ∷ v ∷ []) = row_of_two place op u v
 row_of place op (u ∷ v ∷ w ∷ []) = row_of_three op u v w
 row_of place op _ = fault
 
--- The rule of all operators but two: end of data goes before error, and error before the operator's row.
-abbrev pub unless_eod : PlainValue → PlainValue → PlainValue
-unless_eod eod result = eod
-unless_eod _ result = result
-
-abbrev pub unless_error : PlainValue → PlainValue → PlainValue
-unless_error fault result = fault
-unless_error _ result = result
-
-abbrev pub eod_first : List PlainValue → PlainValue → PlainValue
-eod_first [] result = result
-eod_first (v ∷ vs) result = unless_eod v (eod_first vs result)
-
-abbrev pub error_next : List PlainValue → PlainValue → PlainValue
-error_next [] result = result
-error_next (v ∷ vs) result = unless_error v (error_next vs result)
-
+-- The rule of all operators but two: end of data where an argument is, else an error where an argument is one, else what the
+-- operator's row gives.
 abbrev pub by_rule : List PlainValue → PlainValue → PlainValue
-by_rule vs result = eod_first vs (error_next vs result)
+by_rule vs result = if list_any is_eod vs then eod else (if list_any is_error vs then fault else result)
 
--- The two operators that look at every value, end of data and error too.
+-- What the two operators give that look at every value, end of data and errors too.
 abbrev pub seen_by : (PlainValue → Bool) → List PlainValue → PlainValue
 seen_by test (v ∷ []) = truth (test v)
 seen_by test _ = fault
 
--- What an operator gives for its arguments, where the integers that have a place are given by `place`.
+-- What an operator gives for its arguments, where `place` gives the integers that have a place, and an error for all others.
 abbrev pub algebra_in : (place : ℤ → PlainValue) → Op → List PlainValue → PlainValue
 algebra_in place IsEod vs = seen_by is_eod vs
 algebra_in place IsError vs = seen_by is_error vs
 algebra_in place op vs = by_rule vs (row_of place op vs)
 
--- What an operator gives for its arguments: the algebra of the language.
+-- The algebra of the language: what an operator gives for its arguments, with integers of 128 bits.
 abbrev pub algebra : Op → List PlainValue → PlainValue
 algebra op vs = algebra_in integer op vs

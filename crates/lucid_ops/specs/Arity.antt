@@ -1,8 +1,9 @@
--- The number of arguments of an operator.
+-- The number of arguments that an operator takes. This is this language's own rule.
 use Rattle.std.specs.Prelude.{ℕ}
 use Rattle.lucid_ops.specs.declared.op.Op.{Op}
 use Rattle.lucid_ops.specs.declared.op.Op.TheVariants.{Add, Sub, Mul, Div, Mod, Pow, Neg, Abs, Eq, Ne, Lt, Le, Gt, Ge, Cmp, Not, Head, Tail, Cons, Append, Join, Length, Substr, Nth, MakeWord, MakeString, IsInt, IsWord, IsString, IsList, IsTruth, IsNull, IsAtom, IsEod, IsError}
 
+-- how many arguments an operator takes
 abbrev pub arity : Op → ℕ
 arity Add = 2
 arity Sub = 2

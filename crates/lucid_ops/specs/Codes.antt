@@ -1,9 +1,9 @@
--- How the logic stores an operator: as its number among the operators.
+-- The operators in a row, and each one's number among them: by it the logic stores an operator.
 use Rattle.std.proofs.Common.{◌≡◌, ℕ, List, [], ◌∷◌, refl, get_or}
 use Rattle.lucid_ops.specs.declared.op.Op.{Op}
 use Rattle.lucid_ops.specs.declared.op.Op.TheVariants.{Add, Sub, Mul, Div, Mod, Pow, Neg, Abs, Eq, Ne, Lt, Le, Gt, Ge, Cmp, Not, Head, Tail, Cons, Append, Join, Length, Substr, Nth, MakeWord, MakeString, IsInt, IsWord, IsString, IsList, IsTruth, IsNull, IsAtom, IsEod, IsError}
 
--- the operators in their order
+-- the operators in the order in which they are declared
 abbrev pub operators : List Op
 operators = Add ∷ Sub ∷ Mul ∷ Div ∷ Mod ∷ Pow ∷ Neg ∷ Abs ∷ Eq ∷ Ne ∷ Lt ∷ Le ∷ Gt ∷ Ge ∷ Cmp ∷ Not ∷ Head ∷ Tail ∷ Cons ∷ Append ∷ Join ∷ Length ∷ Substr ∷ Nth ∷ MakeWord ∷ MakeString ∷ IsInt ∷ IsWord ∷ IsString ∷ IsList ∷ IsTruth ∷ IsNull ∷ IsAtom ∷ IsEod ∷ IsError ∷ []
 
@@ -45,6 +45,7 @@ operator_number IsAtom = 32
 operator_number IsEod = 33
 operator_number IsError = 34
 
+-- an operator's number gives it back
 pub operator_there : (o : Op) → get_or operators (operator_number o) Add ≡ o
 operator_there Add = refl
 operator_there Sub = refl

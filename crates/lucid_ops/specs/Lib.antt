@@ -1,3 +1,6 @@
 pub mod Algebra
-pub mod Codes
 pub mod Arity
+pub mod Codes
+pub mod Narrow
+pub mod Row
+pub mod Rows

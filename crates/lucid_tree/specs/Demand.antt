@@ -4,10 +4,11 @@ use Rattle.std.specs.Prelude.{ℕ, zero, suc, ◌+◌, List, [], ◌∷◌, ◌+
 use Rattle.std.specs.List.{filter_map}
 use Rattle.lucid_tree.specs.Tree.{PlainTree, form, name, call, block, PlainTrees, no_trees, tree}
 use Rattle.lucid_tree.specs.Rows.{plan, trace}
-use Rattle.lucid_tree.specs.Levels.{Target, element_of, goes_to, nowhere, Elements, Given, nothing_held, below, Event, looked_up, referred, entered, deeper, look_up_of, reference_of, entered_of}
+use Rattle.lucid_tree.specs.Levels.{element_of, goes_to, nowhere, Elements, Given, nothing_held, below, Event, entered, deeper, look_up_of, reference_of, entered_of}
 use Rattle.lucid_tree.specs.Env.{Env, scope, frozen_at, Referent, Position, Aim, name_target, call_target}
 use Rattle.lucid_tree.specs.Meaning.{value, part_at}
 
+-- what a walk of trees meets, in order
 abbrev pub Events : Type 0
 Events = List (Event Referent Env)
 
@@ -33,11 +34,13 @@ abbrev mutual
   walk_at g m d deep (block at e ds) env t s =
       frozen_entry (frozen_at ds t) (scope ds (frozen_at ds t) env) ++ walk_at g m d deep e (scope ds (frozen_at ds t) env) t s
 
+  -- that of a part, by its number
   pub walk_part : Given Referent → (m d : ℕ) → (deep : Aim → ℕ → Events) → PlainTrees → Env → (part time space : ℕ) → Events
   walk_part g m d deep no_trees env i t s = []
   walk_part g m d deep (tree e es) env zero t s = walk_at g m d deep e env t s
   walk_part g m d deep (tree e es) env (suc i) t s = walk_part g m d deep es env i t s
 
+-- the walk from a position
 abbrev pub walk : Given Referent → (m d : ℕ) → (deep : Aim → ℕ → Events) → Position → (time space : ℕ) → Events
 walk g m d deep x t s = walk_at g m d deep x.tree x.env t s
 

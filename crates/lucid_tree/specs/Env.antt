@@ -20,9 +20,11 @@ pub data Found : Type 0 where
   function_def : (at : ℕ) → (names : List (List ℕ)) → (places : List ℕ) → PlainTree → Found
   current_def : (at : ℕ) → PlainTree → Found
 
+-- the names have the same bytes
 abbrev pub same_name : List ℕ → List ℕ → Bool
 same_name a b = pointwise nat_eq a b
 
+-- the first definition of the name in a block
 abbrev pub definition : List ℕ → PlainDefs → Found
 definition n no_defs = absent
 definition n (defines at x e ds) = if same_name n x then plain_def at e else definition n ds
@@ -72,21 +74,24 @@ in_scope (current_def at e) f rest z t outer = frozen_target at f e rest z
 abbrev pub param : List ℕ → List (List ℕ) → Option ℕ
 param n ns = position (λ x. same_name n x) ns
 
+-- the tree of that number, from 0
 abbrev pub tree_at : PlainTrees → ℕ → Option PlainTree
 tree_at no_trees i = None
 tree_at (tree e es) zero = Some e
 tree_at (tree e es) (suc i) = tree_at es i
 
+-- a parameter's actual, in the caller's environment
 abbrev pub to_actual : (at : ℕ) → Option PlainTree → (f caller : Env) → ℕ → Aim
 to_actual at None f caller t = nowhere
 to_actual at (Some e) f caller t = to_tree (record { at = at; env = f; time = t }) e caller t
 
--- where the entry is a call's
+-- where the entry is a call's: the parameter of that number, or further out
 abbrev pub in_args : Option ℕ → (places : List ℕ) → PlainTrees → (f caller : Env) → ℕ → (outer : Aim) → Aim
 in_args None ats es f caller t outer = outer
 in_args (Some i) ats es f caller t outer = to_actual (get_or ats i 0) (tree_at es i) f caller t
 
--- what a name goes on with at a time
+-- What a name goes on with at a time: a plain name its right side in the environment from its entry on, a parameter its actual, a
+-- current name its right side, a free name an element. A function without arguments goes on with nothing: such trees are refused.
 abbrev pub name_target : List ℕ → Env → ℕ → Aim
 name_target n empty t = element_of n t
 name_target n (scope ds z rest) t = in_scope (definition n ds) (scope ds z rest) rest z t (name_target n rest t)
@@ -106,7 +111,9 @@ abbrev pub unless_param : Option ℕ → Aim → Aim
 unless_param None outer = outer
 unless_param (Some i) outer = nowhere
 
--- what a call at a place goes on with, from the environment f outwards
+-- What a call at a place goes on with, from the environment f outwards: the function's right side, behind an entry with its
+-- parameters, the arguments and the caller's environment. A call of what is no function goes on with nothing: such trees are
+-- refused.
 abbrev pub call_target : (at : ℕ) → List ℕ → PlainTrees → (caller f : Env) → ℕ → Aim
 call_target at n es env empty t = nowhere
 call_target at n es env (scope ds z rest) t = called (definition n ds) at es env (scope ds z rest) t (call_target at n es env rest t)

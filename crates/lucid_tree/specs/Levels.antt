@@ -22,6 +22,7 @@ pub record Given (K : Type 0) : Type 0 where
 abbrev pub nothing_held : {K : Type 0} → Elements → Given K
 nothing_held b = record { element = b; held = λ k s. None }
 
+-- the first value, or else the second
 abbrev pub or_else : Option PlainValue → Option PlainValue → Option PlainValue
 or_else None o = o
 or_else (Some v) o = Some v
@@ -58,7 +59,7 @@ module _ {K X C : Type 0} (walk : (m d : ℕ) → (Target K X → ℕ → List (
   deeper (suc m) d (goes_to k x u) s = referred k s ∷ walk m d (deeper m d) x u s
   deeper (suc m) d nowhere s = []
 
--- the three readings of a walk
+-- The three readings of a walk: the look-ups, the references, and what is entered.
 abbrev pub look_up_of : {K C : Type 0} → Event K C → Option (List ℕ × ℕ)
 look_up_of (looked_up n j) = Some (n, j)
 look_up_of _ = None

@@ -11,5 +11,12 @@ pub mod Levels
 pub mod Env
 pub mod Meaning
 pub mod Demand
+pub mod Members
 pub mod WellMade
 pub mod Output
+pub mod Find
+pub mod Spaceless
+pub mod Laws
+pub mod SamplePrograms
+pub mod Samples
+pub mod DemandSamples

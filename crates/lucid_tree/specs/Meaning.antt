@@ -1,10 +1,10 @@
 -- The approximations of a tree, and what it means: the least fixed point of its equations, as the limit of its approximations
 -- (Wadge and Ashcroft's equations, with this language's own rules for end of data, error, current names and space).
-use Rattle.std.specs.Prelude.{◌≡◌, ℕ, zero, suc, List, Option, Some, None}
+use Rattle.std.specs.Prelude.{◌≡◌, ℕ, zero, suc, Option, Some, None}
 use Rattle.lucid_value.specs.Plain.{PlainValue}
 use Rattle.lucid_tree.specs.Tree.{PlainTree, form, name, call, block, PlainTrees, no_trees, tree}
 use Rattle.lucid_tree.specs.Rows.{plan, run}
-use Rattle.lucid_tree.specs.Levels.{Elements, Given, nothing_held, Below, below, approximation}
+use Rattle.lucid_tree.specs.Levels.{Elements, Given, nothing_held, Below, approximation}
 use Rattle.lucid_tree.specs.Env.{Env, scope, frozen_at, Referent, Position, name_target, call_target}
 
 -- The value of a tree at m, where the references have the values `b`.
@@ -21,6 +21,7 @@ abbrev mutual
   part_at m b (tree e es) env zero t s = value_at m b e env t s
   part_at m b (tree e es) env (suc i) t s = part_at m b es env i t s
 
+-- The value at a position.
 abbrev pub value : (m : ℕ) → Below Referent Position → Position → (time space : ℕ) → Option PlainValue
 value m b x t s = value_at m b x.tree x.env t s
 

@@ -24,6 +24,7 @@ pub data Plan : Type 0 where
 abbrev pub last : ℕ
 last = 9223372036854775807
 
+-- on with the first of the values
 abbrev pub single : (PlainValue → Plan) → List PlainValue → Plan
 single k [] = nothing
 single k (v ∷ vs) = k v
@@ -49,15 +50,18 @@ by_place (int (pos n)) k = if nat_le n last then k n else gives fault
 by_place eod k = gives eod
 by_place _ k = gives fault
 
+-- the second part of `and` and `or`: a truth or end of data as it is, else an error
 abbrev pub only_truth : PlainValue → PlainValue
 only_truth (truth b) = truth b
 only_truth eod = eod
 only_truth _ = fault
 
+-- one plan at 0, and another one less further on
 abbrev pub at_zero : ℕ → Plan → (ℕ → Plan) → Plan
 at_zero zero a b = a
 at_zero (suc n) a b = b n
 
+-- a plan below the last time or space, an error there
 abbrev pub below_last : ℕ → Plan → Plan
 below_last t a = if nat_lt t last then a else gives fault
 
@@ -100,14 +104,17 @@ plan m atspace t s = look 1 t s 0 (λ y. by_place y (λ r. part_at 0 t r))
 abbrev pub Reader : Type 0 → Type 0
 Reader A = (part time space : ℕ) → A
 
+-- a value in front of values, where all are there
 abbrev pub add_value : Option PlainValue → Option (List PlainValue) → Option (List PlainValue)
 add_value (Some v) (Some vs) = Some (v ∷ vs)
 add_value _ _ = None
 
+-- the values that the looks read, where each reads one
 abbrev pub all_values : Reader (Option PlainValue) → List Look → Option (List PlainValue)
 all_values p [] = Some []
 all_values p (l ∷ ls) = add_value (p l.part l.time l.space) (all_values p ls)
 
+-- on with the values, where they are there
 abbrev pub with_values : {A : Type 0} → Option (List PlainValue) → (none : A) → (List PlainValue → A) → A
 with_values None a k = a
 with_values (Some vs) a k = k vs
@@ -123,7 +130,7 @@ abbrev pub gather : {A : Type 0} → (m : ℕ) → Reader (List A) → List Look
 gather m see [] = []
 gather m see (l ∷ ls) = (if nat_le l.least m then see l.part l.time l.space else []) ++ gather m see ls
 
--- what a plan sees at m, where `decide` gives the values on which it goes_to on
+-- what a plan sees at m, where `decide` gives the values on which it goes on
 abbrev pub trace : {A : Type 0} → (m : ℕ) → Plan → (decide : Reader (Option PlainValue)) → Reader (List A) → List A
 trace m (gives v) decide see = []
 trace m nothing decide see = []

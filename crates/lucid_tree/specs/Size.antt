@@ -1,12 +1,13 @@
--- Counts of trees and of their nodes.
+-- How many trees a list has, and how many nodes trees and definitions have. Measures of recursions go by these.
 use Rattle.std.specs.Prelude.{ℕ, ◌+◌}
 use Rattle.lucid_tree.specs.Tree.{PlainTree, form, name, call, block, PlainTrees, no_trees, tree, PlainDefs, no_defs, defines, defines_function, defines_current}
 
+-- the number of trees in a list
 abbrev pub count : PlainTrees → ℕ
 count no_trees = 0
 count (tree e es) = count es + 1
 
--- the number of nodes
+-- the number of nodes; a block's are its own, its subject's and those of the right sides
 abbrev mutual
   pub nodes : PlainTree → ℕ
   nodes (form at f es) = nodes_in es + 1

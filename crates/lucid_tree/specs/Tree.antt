@@ -68,3 +68,9 @@ atspace_of at x y = form at atspace (tree x (tree y no_trees))
 
 pattern abbrev pub if_of : ℕ → PlainTree → PlainTree → PlainTree → PlainTree
 if_of at c x y = form at choose (tree c (tree x (tree y no_trees)))
+
+pattern abbrev pub and_of : ℕ → PlainTree → PlainTree → PlainTree
+and_of at x y = form at both (tree x (tree y no_trees))
+
+pattern abbrev pub or_of : ℕ → PlainTree → PlainTree → PlainTree
+or_of at x y = form at either (tree x (tree y no_trees))

@@ -1,17 +1,19 @@
 -- The plain form of a tree, one level at a time: the trees inside are seen as their plain forms.
-use Rattle.std.specs.Prelude.{ℕ, List, [], ◌∷◌, length}
+use Rattle.std.specs.Prelude.{ℕ}
 use Rattle.lucid_value.specs.View.{plain as plain_value}
-use Rattle.lucid_tree.specs.Tree.{Head, const, apply, choose, both, either, first, next, fby, whenever, asa, upon, attime, initial, succ, sby, atspace, PlainTree, form, name, call, block, PlainTrees, no_trees, tree, PlainDefs, no_defs, defines, defines_function, defines_current}
+use Rattle.lucid_tree.specs.Tree.{Head, const, apply, choose, both, either, first, next, fby, whenever, asa, upon, attime, initial, succ, sby, atspace, PlainTree, form, name, call, block, no_trees, tree}
 use Rattle.lucid_tree.specs.Size.{count}
 use Rattle.lucid_tree.specs.declared.tree.Kind.{Kind}
 use Rattle.lucid_tree.specs.declared.tree.Kind.TheVariants.{Const, Name, Call, Apply, If, And, Or, First, Next, Fby, Whenever, Asa, Upon, Attime, Initial, Succ, Sby, Atspace, Scope}
 
+-- a form with one part, and with two
 abbrev one : ℕ → Head → PlainTree → PlainTree
 one at f a = form at f (tree a no_trees)
 
 abbrev two : ℕ → Head → PlainTree → PlainTree → PlainTree
 two at f a b = form at f (tree a (tree b no_trees))
 
+-- the plain tree of a node at a place
 abbrev pub tree_of : ℕ → Kind → PlainTree
 tree_of at (Const v) = form at (const (plain_value v)) no_trees
 tree_of at (Name n) = name at n

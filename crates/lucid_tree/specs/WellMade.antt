@@ -1,8 +1,9 @@
 -- Depth, places, and the trees that are well made.
-use Rattle.std.specs.Prelude.{◌≡◌, ℕ, ◌+◌, ◌<◌, max, Bool, true, List, [], ◌∷◌, ◌++◌, length, ◌&&◌, ◌⊎◌, nat_eq, nat_lt, IsTrue}
+use Rattle.std.specs.Prelude.{ℕ, ◌+◌, ◌<◌, max, Bool, true, List, [], ◌∷◌, ◌++◌, length, ◌&&◌, nat_eq, nat_lt, IsTrue}
 use Rattle.lucid_ops.specs.Arity.{arity}
 use Rattle.lucid_tree.specs.Tree.{Head, apply, PlainTree, form, name, call, block, PlainTrees, no_trees, tree, PlainDefs, no_defs, defines, defines_function, defines_current}
 use Rattle.lucid_tree.specs.Size.{count}
+pub use Rattle.lucid_tree.specs.Members.{In, AllDiffer}
 
 -- The root has depth 1, and a part of a node has one more than the node; the parts of a block are its subject and the right sides
 -- of its definitions. The depth of a tree is the greatest depth of a node.
@@ -64,16 +65,6 @@ abbrev mutual
   defs_are_shaped (defines_function at x ns ats e ds) =
       nat_lt 0 (length ns) && nat_eq (length ats) (length ns) && is_shaped e && defs_are_shaped ds
   defs_are_shaped (defines_current at x e ds) = is_shaped e && defs_are_shaped ds
-
--- x stands in the list
-abbrev pub In : {A : Type 0} → A → List A → Type 0
-In x [] = ⊥
-In x (y ∷ ys) = (x ≡ y) ⊎ In x ys
-
--- no item stands in the list twice
-abbrev pub AllDiffer : {A : Type 0} → List A → Type 0
-AllDiffer [] = Unit {0}
-AllDiffer (x ∷ xs) = (In x xs → ⊥) × AllDiffer xs
 
 -- The tree is well made: its operators and functions are shaped, no two of its nodes, definitions and parameters have the same
 -- place, and there are fewer than 2^31 of these together.

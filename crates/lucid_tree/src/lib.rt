@@ -4,5 +4,11 @@
 pub use crate::lists::{Names, Places32};
 pub use crate::tree::{Block, Def, DefKind, Defs, Kind, Tree, Trees};
 
+mod copy;
+mod depth;
+pub mod laws;
 mod lists;
+pub mod samples;
+#[cfg(test)]
+mod tests;
 mod tree;

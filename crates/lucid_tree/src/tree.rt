@@ -21,33 +21,51 @@ pub struct Tree {
 #[cycle(tree)]
 #[derive(Drop)]
 pub enum Kind {
+    /// A constant.
     Const(Value),
+    /// A name without arguments.
     Name(Name),
+    /// `name(arguments)`: a call of a function.
     Call {
         name: Name,
         args: Trees,
     },
+    /// A data operator on its arguments.
     Apply {
         op: Op,
         args: Trees,
     },
+    /// `if test then yes else no fi`.
     If {
         test: Box<Tree>,
         yes: Box<Tree>,
         no: Box<Tree>,
     },
+    /// `left and right`.
     And(Box<Tree>, Box<Tree>),
+    /// `left or right`.
     Or(Box<Tree>, Box<Tree>),
+    /// `first part`.
     First(Box<Tree>),
+    /// `next part`.
     Next(Box<Tree>),
+    /// `left fby right`.
     Fby(Box<Tree>, Box<Tree>),
+    /// `left whenever right`.
     Whenever(Box<Tree>, Box<Tree>),
+    /// `left asa right`.
     Asa(Box<Tree>, Box<Tree>),
+    /// `left upon right`.
     Upon(Box<Tree>, Box<Tree>),
+    /// `left attime right`.
     Attime(Box<Tree>, Box<Tree>),
+    /// `initial part`.
     Initial(Box<Tree>),
+    /// `succ part`.
     Succ(Box<Tree>),
+    /// `left sby right`.
     Sby(Box<Tree>, Box<Tree>),
+    /// `left atspace right`.
     Atspace(Box<Tree>, Box<Tree>),
     /// `subject where definitions end`.
     Scope(Box<Block>),

@@ -1,11 +1,12 @@
 -- Lists that are joined, and values in front of lists.
-use Rattle.std.proofs.Common.{◌≡◌, ◌+◌, ◌≤◌, max, ◌<◌, refl, ap, ◌∙◌, map, arith, List, [], ◌∷◌, ◌++◌, IsTrue, ◌&&◌}
+use Rattle.std.proofs.Common.{◌≡◌, ◌+◌, ◌≤◌, max, ◌<◌, refl, ap, ◌∙◌, map, arith, List, [], ◌∷◌, ◌++◌, IsTrue, ◌&&◌, Bool, true, false}
+use Rattle.std.specs.Prelude.{◌↔◌, nat_le, if◌then◌else◌}
 use Rattle.std.proofs.lemmas.Bool.Decides.{nat_tests}
-use Rattle.std.proofs.lemmas.Bool.{and_parts}
+use Rattle.std.proofs.lemmas.Bool.{and_parts, leb-true, le-leb}
 use Rattle.std.specs.Cmp.Derive.{both_true}
 use Rattle.std.proofs.lemmas.List.{map-append}
 use Rattle.lucid_value.specs.Plain.{PlainValue, list, fault, Items, no_items, item, weights, nestings, may_be_held, well_formed, all_well_formed}
-use Rattle.lucid_value.specs.Lists.{joined, onto, limited_list}
+use Rattle.lucid_value.specs.Lists.{joined, onto, limited_list, IsOverLimit, first_of, rest_of}
 
 pub weights_joined : (us vs : Items) → weights (joined us vs) ≡ weights us + weights vs
 weights_joined no_items vs = omega arith
@@ -33,6 +34,26 @@ joined_over us vs h = limited_list_over (joined us vs) (omega (arith, weights_jo
 pub joined_within : (us vs : Items) → weights us + weights vs + 1 ≤ 65536 → nestings us + 1 ≤ 64 → nestings vs + 1 ≤ 64 → limited_list (joined us vs) ≡ list (joined us vs)
 joined_within us vs h k l =
     limited_list_within (joined us vs) (omega (arith, weights_joined us vs)) (omega (arith, nestings_joined us vs))
+
+-- `error` stands exactly where a limit is passed, and for the first item and the rest exactly where there is none
+pub over_limit : (vs : Items) → (limited_list vs ≡ fault) ↔ IsOverLimit vs
+over_limit vs = at (nat_le (weights vs + 1) 65536) (nat_le (nestings vs + 1) 64) refl refl
+  where
+    at : (m n : Bool) → nat_le (weights vs + 1) 65536 ≡ m → nat_le (nestings vs + 1) 64 ≡ n → ((if m && n then list vs else fault) ≡ fault) ↔ IsOverLimit vs
+    at true true e f = (λ k. cc, λ k. absurd (k (leb-true _ _ e, leb-true _ _ f)))
+    at true false e f = (λ k p. let g = le-leb _ _ p.1 in cc, λ k. refl)
+    at false n e f = (λ k p. let g = le-leb _ _ p.0 in cc, λ k. refl)
+
+pub first_missing : (vs : Items) → IsTrue (all_well_formed vs) → (first_of vs ≡ fault) ↔ (vs ≡ no_items)
+first_missing no_items h = (λ k. refl, λ k. refl)
+first_missing (item v vs) h =
+    let p = and_parts (may_be_held v && well_formed v) (all_well_formed vs) h in
+    let q = (and_parts (may_be_held v) (well_formed v) p.0).0 in
+    (λ k. cc (ap may_be_held k), λ k. cc)
+
+pub rest_missing : (vs : Items) → (rest_of vs ≡ fault) ↔ (vs ≡ no_items)
+rest_missing no_items = (λ k. refl, λ k. refl)
+rest_missing (item v vs) = (λ k. cc, λ k. cc)
 
 pub onto_more : (us : List PlainValue) (v : PlainValue) (vs : Items) → onto (us ++ v ∷ []) vs ≡ onto us (item v vs)
 onto_more [] v vs = refl

@@ -1,10 +1,12 @@
--- How the logic stores a plain value: as a tree of numbers that gives it back.
+-- How the logic stores a plain value: as a tree of numbers that gives it back. Nothing here has a meaning of its own:
+-- the model of `List` needs it, and so does a model of any type that holds plain values.
 use Rattle.std.proofs.Common.{◌≡◌, ℕ, zero, suc, Bool, true, false, List, [], ◌∷◌, refl, ap, pos, negsuc}
 use Rattle.std.specs.Coded.{Coded, code_by}
 use base.Stored.{Gv, gnil, gnum, gcons}
 use Rattle.lucid_value.specs.Plain.{PlainValue, int, truth, word, text, list, eod, fault, Items, no_items, item}
 use denote.Struct.Codes.{itself}
 
+-- bytes as a chain of numbers, back from it, and that they come back
 abbrev pub bytes_code : List ℕ → Gv
 bytes_code [] = gnil
 bytes_code (b ∷ bs) = gcons (gnum b) (bytes_code bs)
@@ -20,6 +22,7 @@ pub bytes_there : (bs : List ℕ) → bytes_back (bytes_code bs) ≡ bs
 bytes_there [] = refl
 bytes_there (b ∷ bs) = ap (λ cs. b ∷ cs) (bytes_there bs)
 
+-- a truth as a number, and back
 abbrev bool_code : Bool → ℕ
 bool_code true = 1
 bool_code false = 0
@@ -28,6 +31,7 @@ abbrev bool_back : ℕ → Bool
 bool_back zero = false
 bool_back (suc n) = true
 
+-- a value as a number for its kind and its parts
 abbrev mutual
   pub value_code : PlainValue → Gv
   value_code (int (pos n)) = gcons (gnum 0) (gnum n)
@@ -44,6 +48,7 @@ abbrev mutual
   items_code no_items = gnil
   items_code (item v vs) = gcons (value_code v) (items_code vs)
 
+-- a value back from its code; trees that code none give any
 abbrev mutual
   pub value_back : Gv → PlainValue
   value_back gnil = fault
@@ -69,6 +74,7 @@ abbrev mutual
   items_back (gnum n) = no_items
   items_back (gcons x more) = item (value_back x) (items_back more)
 
+-- each value comes back from its code
 mutual
   pub value_there : (v : PlainValue) → value_back (value_code v) ≡ v
   value_there (int (pos n)) = refl
@@ -85,6 +91,7 @@ mutual
   items_there no_items = refl
   items_there (item v vs) = λ i. item (value_there v i) (items_there vs i)
 
+-- what the logic asks for at `PlainValue` and at `Items`
 abbrev pub coded_value : Coded PlainValue
 coded_value = code_by Gv itself value_code value_back value_there
 

@@ -11,6 +11,7 @@ use Rattle.lucid_value.specs.View.{plain}
 use Rattle.lucid_value.specs.declared.Value.{Value}
 use Rattle.lucid_value.specs.Equality.{same_value, same_items}
 
+-- what the test calls one is one
 mutual
   alike : (v w : PlainValue) → same_value v w ≡ true → v ≡ w
   alike (int m) (int n) h = ap int ((signed_Decides m n).0 h)
@@ -35,6 +36,7 @@ mutual
       let p = and_parts (same_value v w) (same_items vs ws) h in
       λ i. item (alike v w p.0 i) (all_alike vs ws p.1 i)
 
+-- the test calls each value itself
 mutual
   self_alike : (v : PlainValue) → same_value v v ≡ true
   self_alike (int m) = (signed_Decides m m).1 refl
@@ -50,8 +52,10 @@ mutual
   all_self_alike no_items = refl
   all_self_alike (item v vs) = both_true (self_alike v) (all_self_alike vs)
 
+-- the test says whether two plain values are equal
 pub same_decides : (v w : PlainValue) → Decides (same_value v w) (v ≡ w)
 same_decides v w = (alike v w, λ e. let P : PlainValue → Type 0 = λ x. same_value v x ≡ true in subst P e (self_alike v))
 
+-- so `==` of values is symmetric and transitive
 pub values_per : IsPartialEquivalence (λ (v w : Value). same_value (plain v) (plain w))
 values_per = on_per plain (partial_equiv_from_equiv (decided same_value same_decides))

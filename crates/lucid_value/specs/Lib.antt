@@ -1,4 +1,5 @@
 pub mod Plain
+pub mod Names
 pub mod Codes
 pub mod View
 pub mod Lists
@@ -6,3 +7,9 @@ pub mod Equality
 pub mod Texts
 pub mod ValueText
 pub mod EqualityDecides
+pub mod Reading
+pub mod Lines
+pub mod ListScan
+pub mod Trimming
+pub mod Elements
+pub mod Laws

@@ -1,11 +1,12 @@
 -- The plain form of a value, one level at a time, and what a list keeps.
 use Rattle.std.specs.Prelude.{ℕ, ◌≤◌, ◌≡◌, ◌+◌, length, IsTrue}
-use Rattle.lucid_value.specs.Plain.{PlainValue, int, truth, word, text, list, eod, fault, Items, no_items, item, listed, weights, nestings, all_well_formed}
+use Rattle.lucid_value.specs.Plain.{PlainValue, int, truth, word, text, list, eod, fault, Items, no_items, item, listed, weights, nestings, all_well_formed, all_in_range}
 use Rattle.lucid_value.specs.declared.Value.{Value}
 use Rattle.lucid_value.specs.declared.Value.TheVariants.{Int, Truth, Word, Text, List as ListV, Eod, Fault}
 use Rattle.lucid_value.specs.declared.Link.{Link}
 use Rattle.lucid_value.specs.declared.Link.TheVariants.{End, More}
 
+-- The plain form of a value.
 abbrev pub plain : Value → PlainValue
 plain (Int n) = int n
 plain (Truth b) = truth b
@@ -15,10 +16,12 @@ plain (ListV l) = list l
 plain Eod = eod
 plain Fault = fault
 
+-- the items of a chain of cells, the first one in front
 abbrev pub items : Link → Items
 items End = no_items
 items (More c) = item (plain c.value.item) c.value.rest
 
+-- the length, the weight and the nesting that the first cell keeps
 abbrev pub kept_len : Link → ℕ
 kept_len End = 0
 kept_len (More c) = c.value.len
@@ -55,3 +58,4 @@ pub record IsKept (top : Link) : Type 0 where
   pub light : kept_weight top ≤ 65536
   pub flat : kept_nesting top ≤ 64
   pub formed : IsTrue (all_well_formed (items top))
+  pub ranged : IsTrue (all_in_range (items top))

@@ -1,16 +1,16 @@
 //! Lists made of lists.
-ghost use Rattle.std.specs.Prelude.{◌≡◌, ◌+◌, ◌≤◌, ◌<◌, IfOk, IsTrue, slice_get, map};
+ghost use Rattle.std.specs.Prelude.{◌≡◌, ◌+◌, ◌≤◌, ◌<◌, IfOk, IsTrue, ◌↔◌, slice_get, map};
 ghost use Rattle.std.specs.Option.{option_map};
-ghost use Rattle.lucid_value.specs.Plain.{no_items, listed, weight, weights, nesting, well_formed, may_be_held};
+ghost use Rattle.lucid_value.specs.Plain.{fault, no_items, listed, weight, weights, nesting, well_formed, may_be_held};
 ghost use Rattle.lucid_value.specs.View.{plain};
-ghost use Rattle.lucid_value.specs.Lists.{in_front, limited_list, first_of, rest_of, joined, onto};
+ghost use Rattle.lucid_value.specs.Lists.{in_front, limited_list, IsOverLimit, first_of, rest_of, joined, onto};
 
 use crate::{Cell, Link, List, MAX_NESTING, MAX_WEIGHT, Value};
 use std::alloc::{AllocError, Global};
 use std::rc::Rc;
 
 impl List {
-    // The item at the index, or `None` where the list is no longer than that.
+    /// The item at the index, from 0; `None` where the index is not below the length.
     pub fn item(&self, index: u32) -> Option<&Value>
         ensures { option_map (λ value. plain value.now) result ≡ slice_get (listed self.now) index }
     {
@@ -27,14 +27,14 @@ impl List {
     }
 
     // The list with the item in front.
-    fn with(alloc: Global, item: Value, rest: List) -> Result<List, AllocError>
+    pub(crate) fn with(alloc: Global, item: Value, rest: List) -> Result<List, AllocError>
         requires held { IsTrue (may_be_held (plain item)) }
         requires light { weight (plain item) + weights rest + 1 ≤ 65536 }
         requires flat { nesting (plain item) < 64 }
         ensures { IfOk result (λ list. list ≡ in_front (plain item) rest) }
     {
-        item.is_formed();
-        rest.is_formed();
+        item.keeps_rules();
+        rest.keeps_rules();
         let len = rest.len() + 1;
         let weight = item.weight() + rest.weight();
         let nesting = (item.nesting() + 1).max(rest.nesting());
@@ -74,8 +74,8 @@ fn join(alloc: Global, left: &List, right: List) -> Result<List, AllocError>
     requires { weights left.now + weights right + 1 ≤ 65536 }
     ensures { IfOk result (λ list. list ≡ joined left.now right) }
 {
-    left.is_formed();
-    right.is_formed();
+    left.keeps_rules();
+    right.keeps_rules();
     let mut items = places(alloc, left)?;
     let mut made = right;
     while let Some(item) = items.pop() {
@@ -84,21 +84,26 @@ fn join(alloc: Global, left: &List, right: List) -> Result<List, AllocError>
     Ok(made)
 }
 
-#[tactic(auto, using(crate::proofs::Joined::joined_over, crate::proofs::Joined::joined_within))]
+/// The items of the left list and then those of the right one, or `Fault` past the limit of weight.
+#[tactic(auto, using(crate::proofs::Joined::joined_over, crate::proofs::Joined::joined_within, crate::proofs::Joined::weights_joined))]
 pub fn append(alloc: Global, left: &List, right: &List) -> Result<Value, AllocError>
-    ensures { IfOk result (λ value. plain value ≡ limited_list (joined left.now right.now)) }
+    ensures value { IfOk result (λ value. plain value ≡ limited_list (joined left.now right.now)) }
+    ensures over { IfOk result (λ value. (plain value ≡ fault) ↔ (65536 < weights left.now + weights right.now + 1)) }
 {
-    left.is_formed();
-    right.is_formed();
+    left.keeps_rules();
+    right.keeps_rules();
     if left.weight() + right.weight() - 1 > MAX_WEIGHT {
         return Ok(Value::Fault);
     }
     Ok(Value::List(join(alloc, left, right.copy()?)?))
 }
 
+/// The list with the item in front, or `Fault` past a limit of weight or nesting.
+#[tactic(auto, using(crate::proofs::Joined::over_limit))]
 pub fn cons(alloc: Global, item: &Value, list: &List) -> Result<Value, AllocError>
     requires { IsTrue (may_be_held (plain item.now)) }
-    ensures { IfOk result (λ value. plain value ≡ limited_list (in_front (plain item.now) list.now)) }
+    ensures value { IfOk result (λ value. plain value ≡ limited_list (in_front (plain item.now) list.now)) }
+    ensures over { IfOk result (λ value. (plain value ≡ fault) ↔ IsOverLimit (in_front (plain item.now) list.now)) }
 {
     let weight = item.weight() + list.weight();
     let nesting = (item.nesting() + 1).max(list.nesting());
@@ -109,17 +114,24 @@ pub fn cons(alloc: Global, item: &Value, list: &List) -> Result<Value, AllocErro
     Ok(Value::List(made))
 }
 
+/// The first item, or `Fault` where there is none.
+#[tactic(auto, using(crate::proofs::Joined::first_missing))]
 pub fn head(alloc: Global, list: &List) -> Result<Value, AllocError>
-    ensures { IfOk result (λ value. plain value ≡ first_of list.now) }
+    ensures value { IfOk result (λ value. plain value ≡ first_of list.now) }
+    ensures empty { IfOk result (λ value. (plain value ≡ fault) ↔ (list.now ≡ no_items)) }
 {
+    list.keeps_rules();
     match &list.top {
         Link::End => Ok(Value::Fault),
         Link::More(cell) => cell.item.copy(alloc),
     }
 }
 
-pub fn tail(alloc: Global, list: &List) -> Result<Value, AllocError>
-    ensures { IfOk result (λ value. plain value ≡ rest_of list.now) }
+/// The list of all items but the first, or `Fault` where there is none. It takes constant time.
+#[tactic(auto, using(crate::proofs::Joined::rest_missing))]
+pub fn tail(_alloc: Global, list: &List) -> Result<Value, AllocError>
+    ensures value { IfOk result (λ value. plain value ≡ rest_of list.now) }
+    ensures empty { IfOk result (λ value. (plain value ≡ fault) ↔ (list.now ≡ no_items)) }
 {
     match &list.top {
         Link::End => Ok(Value::Fault),

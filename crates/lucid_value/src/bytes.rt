@@ -8,10 +8,16 @@ ghost use Rattle.lucid_value.specs.Plain.{is_word, is_wordlike, spells_constant,
 use crate::{MAX_WEIGHT, Text, Word};
 use std::alloc::{AllocError, Global};
 use std::rc::Rc;
+use thiserror::Error;
 
-#[derive(Debug, Drop)]
+/// Why bytes were not made into a word, a string or a name.
+#[derive(Debug, Drop, Error)]
 pub enum MakeRefusal {
+    /// The bytes break the rule of that type.
+    #[error("the bytes break the rule of the type")]
     NotThat,
+    /// Want of memory.
+    #[error("no memory")]
     NoMemory,
 }
 
@@ -38,7 +44,7 @@ fn are_alphanumeric(bytes: &[u8]) -> bool
     bytes.iter().all(|b| b.is_ascii_alphanumeric())
 }
 
-fn looks_like_word(bytes: &[u8]) -> bool
+pub(crate) fn looks_like_word(bytes: &[u8]) -> bool
     ensures { result ≡ is_wordlike bytes.now }
 {
     match bytes {
@@ -72,6 +78,7 @@ fn can_be_text(bytes: &[u8]) -> bool
 }
 
 impl Word {
+    /// The word of these bytes.
     pub fn make(alloc: Global, bytes: &[u8]) -> Result<Word, MakeRefusal>
         ensures made { IfOk result (λ word. word ≡ bytes.now) }
         ensures refused { IsErrOf result MakeRefusal.NotThat ↔ IsTrue (not (is_word bytes.now && is_light bytes.now)) }
@@ -86,6 +93,7 @@ impl Word {
 }
 
 impl Text {
+    /// The string of these bytes.
     pub fn make(alloc: Global, bytes: &[u8]) -> Result<Text, MakeRefusal>
         ensures made { IfOk result (λ text. text ≡ bytes.now) }
         ensures refused { IsErrOf result MakeRefusal.NotThat ↔ IsTrue (not (is_text bytes.now && is_light bytes.now)) }

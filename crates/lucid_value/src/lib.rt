@@ -1,31 +1,50 @@
-//! Values: integers, truths, words, strings and lists, with copies that take constant time.
+//! Values: integers, truths, words, strings, lists, end of data and error, with their texts, their reading, their limits
+//! and their lists. A copy takes constant time whatever the value: a list is a chain of shared cells, a word or a string a
+//! shared buffer. Contracts see a value in its plain form.
 #![tactic(auto)]
 
 ghost use Rattle.std.specs.Prelude.{◌≡◌, ◌+◌, ◌≤◌, ◌<◌, IfOk, IsTrue, length, MatchOption};
-ghost use Rattle.lucid_value.specs.Plain.{no_items, listed, weight, weights, nesting, nestings, well_formed, all_well_formed, is_word, is_text};
+ghost use Rattle.lucid_value.specs.Plain.{no_items, listed, weight, weights, nesting, nestings, well_formed, all_well_formed, in_range, all_in_range, is_i128, is_value, is_word, is_text};
 ghost use Rattle.lucid_value.specs.View.{plain};
 
 pub use crate::build::{append, cons, head, tail};
 pub use crate::bytes::MakeRefusal;
-pub use crate::name::Name;
+pub use crate::laws::{
+    element_is, one_element, one_line_reading, one_list_front, one_reading, text_is_read,
+};
+pub use crate::list_scan::list_front;
+pub use crate::names::{Name, is_reserved};
+pub use crate::numbers::Numbers;
+pub use crate::read::{ReadRefusal, read_value};
 pub use crate::texts::{cut, join, pick_item};
 use std::alloc::{AllocError, Global};
 use std::marker::Model;
 use std::rc::Rc;
 
+mod atoms;
 mod build;
 mod bytes;
-mod name;
+mod debug;
+mod laws;
+mod list_scan;
+mod names;
+mod numbers;
+mod read;
 mod same;
 mod show;
+mod stack;
 #[cfg(test)]
 mod tests;
 mod texts;
 
+/// No value weighs more. A word or a string weighs 1 and one for each byte, a list 1 and the weights of its items, all
+/// else 1.
 pub const MAX_WEIGHT: u32 = 65536;
 
+/// No list nests deeper. The empty list has 1, any other list one more than its deepest item.
 pub const MAX_NESTING: u32 = 64;
 
+/// A word: a letter, then letters and digits, and none of `true`, `false`, `eod` and `error`. It is seen as its bytes.
 #[derive(Drop)]
 pub struct Word {
     bytes: Rc<Vec<u8>>,
@@ -44,6 +63,7 @@ impl Model for Word {
     ghost invariant = { λ w. IsTrue (is_word w.bytes.value.items) × (length w.bytes.value.items < 65536) };
 }
 
+/// A string: bytes 32 to 126 without the two quotes. It is seen as its bytes.
 #[derive(Drop)]
 pub struct Text {
     bytes: Rc<Vec<u8>>,
@@ -62,6 +82,7 @@ impl Model for Text {
     ghost invariant = { λ w. IsTrue (is_text w.bytes.value.items) × (length w.bytes.value.items < 65536) };
 }
 
+/// A value.
 #[cycle(value)]
 #[derive(Drop)]
 pub enum Value {
@@ -70,22 +91,27 @@ pub enum Value {
     Word(Word),
     Text(Text),
     List(List),
+    /// The end of data, written `eod`.
     Eod,
+    /// The value written `error`.
     Fault,
 }
 
+/// A list of values, none of which is `Eod` or `Fault`. It is seen as its items in their plain form.
 #[cycle(value)]
 #[derive(Drop)]
 pub struct List {
     top: Link,
 }
 
+// The first cell, or the end.
 #[cycle(value)]
 enum Link {
     End,
     More(Rc<Cell>),
 }
 
+// An item and the items behind it, with the length, the weight and the nesting of the list that begins here.
 #[cycle(value)]
 #[derive(Drop)]
 struct Cell {
@@ -117,6 +143,7 @@ impl Model for List {
     ghost size_decreases = { λ a h. Prim.grind (arith) };
 }
 
+// Along the chain a loop, so that a long list is dropped in little stack; into an item a recursion, 64 deep at most.
 impl Drop for Link {
     fn drop(mut self) {
         loop {
@@ -136,12 +163,14 @@ impl Drop for Link {
 }
 
 impl List {
-    pub fn empty() -> List
+    /// The empty list. It takes no memory.
+    pub fn empty(_alloc: Global) -> List
         ensures { result ≡ no_items }
     {
         List { top: Link::End }
     }
 
+    /// The number of items.
     pub fn len(&self) -> u32
         ensures exact { result ≡ length (listed self.now) }
         ensures short { result ≤ weights self.now }
@@ -152,6 +181,7 @@ impl List {
         }
     }
 
+    /// The same list. It takes constant time: the cells are shared.
     pub fn copy(&self) -> Result<List, AllocError>
         ensures { IfOk result (λ list. list ≡ self.now) }
     {
@@ -185,9 +215,10 @@ impl List {
 }
 
 impl List {
-    // Its items are well formed, and it is within the limits.
-    fn is_formed(&self)
+    /// A list keeps the rules of the language. The function does nothing: its contract is the fact.
+    pub fn keeps_rules(&self)
         ensures formed { IsTrue (all_well_formed self.now) }
+        ensures ranged { IsTrue (all_in_range self.now) }
         ensures light { weights self.now + 1 ≤ 65536 }
         ensures flat { nestings self.now + 1 ≤ 64 }
     {
@@ -196,18 +227,22 @@ impl List {
 }
 
 impl Word {
-    fn is_formed(&self)
-        ensures { IsTrue (is_word self.now) }
+    /// A word keeps its rule. The function does nothing: its contract is the fact.
+    pub fn keeps_rules(&self)
+        ensures rule { IsTrue (is_word self.now) }
+        ensures light { length self.now < 65536 }
     {
         let _ = &self.bytes;
     }
 
+    /// Its bytes.
     pub fn bytes(&self) -> &[u8]
         ensures { result.now ≡ self.now }
     {
         self.bytes.as_slice()
     }
 
+    /// The same word. It takes constant time: the bytes are shared.
     pub fn copy(&self) -> Result<Word, AllocError>
         ensures { IfOk result (λ word. word ≡ self.now) }
     {
@@ -218,19 +253,22 @@ impl Word {
 }
 
 impl Text {
-    fn is_formed(&self)
+    /// A string keeps its rule. The function does nothing: its contract is the fact.
+    pub fn keeps_rules(&self)
         ensures rule { IsTrue (is_text self.now) }
         ensures light { length self.now < 65536 }
     {
         let _ = &self.bytes;
     }
 
+    /// Its bytes.
     pub fn bytes(&self) -> &[u8]
         ensures { result.now ≡ self.now }
     {
         self.bytes.as_slice()
     }
 
+    /// The same string. It takes constant time: the bytes are shared.
     pub fn copy(&self) -> Result<Text, AllocError>
         ensures { IfOk result (λ text. text ≡ self.now) }
     {
@@ -240,24 +278,47 @@ impl Text {
     }
 }
 
+// An integer of this type is one of the language.
+fn is_in_range(n: i128)
+    ensures { IsTrue (is_i128 n) }
+{
+    let _ = n;
+}
+
 impl Value {
+    // The rules, but for the limits.
     fn is_formed(&self)
-        ensures { IsTrue (well_formed (plain self.now)) }
+        ensures formed { IsTrue (well_formed (plain self.now)) }
+        ensures ranged { IsTrue (in_range (plain self.now)) }
     {
         match self {
-            Value::Word(w) => w.is_formed(),
-            Value::Text(t) => t.is_formed(),
-            Value::List(l) => l.is_formed(),
-            _ => (),
+            Value::Int(n) => is_in_range(*n),
+            Value::Word(w) => w.keeps_rules(),
+            Value::Text(t) => t.keeps_rules(),
+            Value::List(l) => l.keeps_rules(),
+            Value::Truth(_) | Value::Eod | Value::Fault => (),
         }
     }
 
+    /// A value keeps the rules of the language. The function does nothing: its contract is the fact.
+    pub fn keeps_rules(&self)
+        ensures value { IsTrue (is_value (plain self.now)) }
+        ensures formed { IsTrue (well_formed (plain self.now)) }
+        ensures ranged { IsTrue (in_range (plain self.now)) }
+    {
+        self.is_formed();
+        let _weight = self.weight();
+        let _nesting = self.nesting();
+    }
+
+    /// The same value. It takes constant time: what it holds is shared.
     pub fn copy(&self, _alloc: Global) -> Result<Value, AllocError>
         ensures { IfOk result (λ value. value ≡ self.now) }
     {
         self.clone()
     }
 
+    /// Its weight.
     pub fn weight(&self) -> u32
         ensures exact { result ≡ weight (plain self.now) }
         ensures light { result ≤ 65536 }
@@ -271,6 +332,7 @@ impl Value {
         }
     }
 
+    /// Its nesting: 0 but for a list.
     pub fn nesting(&self) -> u32
         ensures exact { result ≡ nesting (plain self.now) }
         ensures flat { result ≤ 64 }

@@ -6,6 +6,7 @@ ghost use Rattle.lucid_value.specs.Equality.{same_value, same_items};
 use crate::{Link, List, Value};
 
 impl Value {
+    /// Whether the two values are one.
     #[tactic(auto, using(crate::specs::EqualityDecides::same_decides))]
     pub fn same(&self, other: &Value) -> bool
         ensures { IsTrue result ↔ (plain self.now ≡ plain other.now) }

@@ -5,7 +5,7 @@ ghost use Rattle.lucid_value.specs.ValueText.{value_text, list_text};
 
 use crate::{Link, List, Value};
 use itoa::Buffer;
-use std::alloc::AllocError;
+use std::alloc::{AllocError, Global};
 
 // Appends the bytes, or changes nothing.
 fn add(to: &mut Vec<u8>, bytes: &[u8]) -> Result<(), AllocError>
@@ -56,7 +56,8 @@ fn put_list(list: &List, to: &mut Vec<u8>) -> Result<(), AllocError>
 }
 
 impl Value {
-    pub fn show(&self, to: &mut Vec<u8>) -> Result<(), AllocError>
+    /// Appends the text of the value.
+    pub fn show(&self, _alloc: Global, to: &mut Vec<u8>) -> Result<(), AllocError>
         ensures { MatchResult result (λ _. to.new.items ≡ to.old.items ++ value_text (plain self.now))
             (λ _. to.new.items ≡ to.old.items) }
     {

@@ -16,7 +16,7 @@ loop-item-init c =
       same = e;
       light = rw e (omega (arith, weights_joined c.args.left.now ws, ap weights c.right.view_is));
       flat = rw e (omega (arith, nestings_joined c.args.left.now ws, ap nestings c.right.view_is));
-      formed = rw e (formed_joined c.args.left.now ws c.is_formed.ensures.formed c.right.invariant.formed);
+      formed = rw e (formed_joined c.args.left.now ws c.keeps_rules.ensures.formed c.right.invariant.formed);
     }
 
 pub with-requires-clause-held : goal.with-requires-clause-held

@@ -1,0 +1,9 @@
+use Rattle.std.proofs.Common.{◌≡◌, map, length}
+use Rattle.lucid_ops.specs.Rows.{rises}
+use Rattle.lucid_ops.proofs.table.rise.Given as goal
+
+abbrev pub invariant-loop-rest : goal.invariant-loop-rest
+invariant-loop-rest g l = rises (map g.R.TableRow.seen_row l.rest) ≡ rises (map g.R.TableRow.seen_row l.fn.rows)
+
+abbrev pub decreases-loop-rest : goal.decreases-loop-rest
+decreases-loop-rest g l = length l.rest

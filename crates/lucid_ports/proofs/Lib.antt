@@ -1,0 +1,7 @@
+pub mod ContentsLemmas
+pub mod SliceGet
+pub mod FilesLemmas
+pub mod MemoryLemmas
+pub mod EndlessLemmas
+pub mod WorldLemmas
+pub mod WritingLemmas

@@ -1,0 +1,11 @@
+-- What stays over several calls.
+use Rattle.std.proofs.Common.{ℕ, ◌∙◌, arith}
+use Rattle.lucid_ports.specs.World.{World, KeepsOthers}
+
+-- two calls in a row on one place
+pub KeepsOthers-trans : (number : ℕ) (a b c : World) → KeepsOthers number a b → KeepsOthers number b c → KeepsOthers number a c
+KeepsOthers-trans number a b c first second = record {
+  names = λ name. second.names name ∙ first.names name;
+  others = λ k other. second.others k other ∙ first.others k other;
+  faults = omega (arith, first.faults, second.faults);
+}

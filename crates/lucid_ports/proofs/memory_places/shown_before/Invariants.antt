@@ -1,0 +1,12 @@
+use Rattle.std.proofs.Common.{◌≡◌, ◌⊎◌, ℕ, ◌+◌, ◌<◌, ◌≤◌, Contains, get_or}
+use Rattle.lucid_ports.specs.declared.memory_places.FailAt.{FailAt}
+use Rattle.lucid_ports.specs.Memory.{fail_at}
+use Rattle.lucid_ports.proofs.memory_places.shown_before.Given as goal
+
+abbrev pub invariant-loop-failure : goal.invariant-loop-failure
+invariant-loop-failure l = record {
+  bound : l.shown ≤ l.left;
+  before : (j : ℕ) (d : FailAt) → j < l.failure-index → (get_or l.failures j d).place ≡ l.place → l.position ≤ (get_or l.failures j d).position
+      → l.position + l.shown ≤ (get_or l.failures j d).position;
+  whole : (l.shown ≡ l.left) ⊎ Contains l.failures (fail_at l.place (l.position + l.shown));
+}

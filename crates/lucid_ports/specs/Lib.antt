@@ -1,0 +1,14 @@
+pub mod World
+pub mod Faults
+pub mod Reading
+pub mod Writing
+pub mod Narrow
+pub mod NarrowParts
+pub mod Files
+pub mod Memory
+pub mod MemoryView
+pub mod Sink
+pub mod Endless
+pub mod EndlessView
+pub mod RealSinkView
+pub mod RealPlacesView

@@ -1,0 +1,38 @@
+//! The outside of the interpreter: places that are read by pieces, sinks that are written to, objects in memory that
+//! stand for them in tests, and the real ones.
+#![tactic(auto)]
+
+mod endless;
+mod fault;
+mod files;
+mod mark;
+mod memory_places;
+mod memory_sink;
+mod narrow;
+mod piece_limit;
+mod places;
+mod reading;
+mod real_places;
+mod real_sink;
+mod run;
+mod sink;
+mod sources;
+mod window;
+mod writing;
+
+pub use endless::Endless;
+pub use fault::PortFault;
+pub use files::MemoryFile;
+pub use memory_places::{FailAt, MemoryPlaces};
+pub use memory_sink::MemorySink;
+pub use narrow::Narrow;
+pub use places::Places;
+pub use reading::read_at_most;
+pub use real_places::RealPlaces;
+pub use real_sink::RealSink;
+pub use run::{Options, RunFault, Summary};
+pub use sink::Sink;
+pub use writing::write_whole;
+
+#[cfg(test)]
+mod tests;

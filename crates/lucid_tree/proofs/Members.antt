@@ -1,0 +1,67 @@
+-- Lists that stand inside others: appended, chosen by a test, and read by a filter.
+use Rattle.std.proofs.Common.{◌≡◌, Bool, true, false, List, [], ◌∷◌, ◌++◌, Option, Some, None, refl, sym, ap, ◌∙◌, if◌then◌else◌, arith, ◌⊎◌, inl, inr}
+use Rattle.std.specs.List.{filter_map, cons_option}
+use Rattle.lucid_tree.specs.Members.{In, Inside}
+
+pub in_left : {A : Type 0} (x : A) (xs ys : List A) → In x xs → In x (xs ++ ys)
+in_left x [] ys h = absurd h
+in_left x (y ∷ xs) ys (inl e) = inl e
+in_left x (y ∷ xs) ys (inr h) = inr (in_left x xs ys h)
+
+pub in_right : {A : Type 0} (x : A) (xs ys : List A) → In x ys → In x (xs ++ ys)
+in_right x [] ys h = h
+in_right x (y ∷ xs) ys h = inr (in_right x xs ys h)
+
+pub in_either : {A : Type 0} (x : A) (xs ys : List A) → In x (xs ++ ys) → In x xs ⊎ In x ys
+in_either x [] ys h = inr h
+in_either x (y ∷ xs) ys (inl e) = inl (inl e)
+in_either x (y ∷ xs) ys (inr h) =
+    elim (in_either x xs ys h) [ inl a ↦ inl (inr a) | inr b ↦ inr b ]
+
+pub inside_itself : {A : Type 0} (xs : List A) → Inside xs xs
+inside_itself xs x i = i
+
+pub inside-append : {A : Type 0} (xs xs' ys ys' : List A) → Inside xs xs' → Inside ys ys' → Inside (xs ++ ys) (xs' ++ ys')
+inside-append xs xs' ys ys' h k x i =
+    elim (in_either x xs ys i) [ inl a ↦ in_left x xs' ys' (h x a) | inr b ↦ in_right x xs' ys' (k x b) ]
+
+-- the same items in front
+pub inside-after : {A : Type 0} (xs ys ys' : List A) → Inside ys ys' → Inside (xs ++ ys) (xs ++ ys')
+inside-after xs ys ys' h = inside-append xs xs ys ys' (inside_itself xs) h
+
+-- one item in front
+pub inside-cons : {A : Type 0} (y : A) (ys ys' : List A) → Inside ys ys' → Inside (y ∷ ys) (y ∷ ys')
+inside-cons y ys ys' h x (inl e) = inl e
+inside-cons y ys ys' h x (inr i) = inr (h x i)
+
+-- what a test shows, where the second test holds as soon as the first does
+pub inside-if : {A : Type 0} (b b' : Bool) (xs ys : List A) → (b ≡ true → b' ≡ true) → Inside xs ys → Inside (if b then xs else []) (if b' then ys else [])
+inside-if true b' xs ys h k x i = rw (h refl) (k x i)
+inside-if false b' xs ys h k x i = absurd i
+
+in_cons : {B : Type 0} (y : B) (o : Option B) (ys : List B) → In y (cons_option o ys) → (o ≡ Some y) ⊎ In y ys
+in_cons y None ys i = inr i
+in_cons y (Some z) ys (inl e) = inl (ap Some (sym e))
+in_cons y (Some z) ys (inr i) = inr i
+
+cons_here : {B : Type 0} (y : B) (o : Option B) (ys : List B) → o ≡ Some y → In y (cons_option o ys)
+cons_here y None ys e = absurd (grind arith)
+cons_here y (Some z) ys e = inl (cc)
+
+cons_there : {B : Type 0} (y : B) (o : Option B) (ys : List B) → In y ys → In y (cons_option o ys)
+cons_there y None ys i = i
+cons_there y (Some z) ys i = inr i
+
+-- what an item is read as stands among what the list is read as
+pub in_read : {A B : Type 0} (f : A → Option B) (x : A) (y : B) (ys : List A) → f x ≡ Some y → In x ys → In y (filter_map f ys)
+in_read f x y [] e i = absurd i
+in_read f x y (z ∷ ys) e (inl h) = cons_here y (f z) (filter_map f ys) (ap f (sym h) ∙ e)
+in_read f x y (z ∷ ys) e (inr i) = cons_there y (f z) (filter_map f ys) (in_read f x y ys e i)
+
+pub inside-read : {A B : Type 0} (f : A → Option B) (xs ys : List A) → Inside xs ys → Inside (filter_map f xs) (filter_map f ys)
+inside-read f [] ys h y i = absurd i
+inside-read f (x ∷ xs) ys h y i =
+    elim (in_cons y (f x) (filter_map f xs) i) [
+      | inl e ↦ in_read f x y ys e (h x (inl refl))
+      | inr j ↦ inside-read f xs ys (λ z k. h z (inr k)) y j
+    ]
