@@ -1,0 +1,6 @@
+pub mod Drops
+pub mod Lists
+pub mod Pushes
+pub mod Brought
+pub mod RecencyTurns
+pub mod Paces

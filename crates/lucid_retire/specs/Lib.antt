@@ -1,0 +1,6 @@
+pub mod Turns
+pub mod Aging
+pub mod Script
+pub mod Recency
+pub mod RecencyCode
+pub mod Policies

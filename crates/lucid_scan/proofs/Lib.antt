@@ -1,0 +1,11 @@
+pub mod Runs
+pub mod Numbers
+pub mod ListTexts
+pub mod Between
+pub mod Lead
+pub mod Longest
+pub mod Scanned
+pub mod Once
+pub mod Refused
+pub mod Spans
+pub mod Pieces

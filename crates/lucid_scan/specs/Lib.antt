@@ -1,0 +1,5 @@
+pub mod Texts
+pub mod Tokens
+pub mod Refusals
+pub mod Fronts
+pub mod Laws

@@ -1,0 +1,129 @@
+use crate::{ScanRefusal, Token, TokenKind, scan};
+use std::test::Fail;
+
+fn token(kind: TokenKind, from: u32, to: u32) -> Token {
+    Token { kind, from, to }
+}
+
+#[test]
+fn longest_match(rt: HostRuntime) -> Result<(), Fail> {
+    let tokens = scan(rt.alloc(), b"a<>b")?;
+    let wanted = [
+        token(TokenKind::Name, 0, 1),
+        token(TokenKind::Fixed, 1, 3),
+        token(TokenKind::Name, 3, 4),
+    ];
+    assert_eq!(rt; tokens.as_slice(), wanted.as_slice());
+    Ok(())
+}
+
+#[test]
+fn each_kind(rt: HostRuntime) -> Result<(), Fail> {
+    let source = b"x1_y 007\t\"dog\"// a \" in a comment\r\n`it is' [%1 dog [% %]%] [] end";
+    let tokens = scan(rt.alloc(), source)?;
+    let wanted = [
+        token(TokenKind::Name, 0, 4),
+        token(TokenKind::Int, 5, 8),
+        token(TokenKind::Quoted, 9, 14),
+        token(TokenKind::Text, 35, 42),
+        token(TokenKind::ListText, 43, 58),
+        token(TokenKind::Fixed, 59, 61),
+        token(TokenKind::Fixed, 62, 65),
+    ];
+    assert_eq!(rt; tokens.as_slice(), wanted.as_slice());
+    Ok(())
+}
+
+#[test]
+fn marks_and_reserved_words(rt: HostRuntime) -> Result<(), Fail> {
+    let source =
+        b"( ) , ; = [] + - * ** < <= > >= :: <> ^ where end is current if then else fi first \
+        next fby whenever wvr asa upon attime and or not true false eod error div mod eq ne hd tl length \
+        substr nth mkword mkstring isint isword isstring islist istruth isnull isatom iseod iserror abs \
+        cmp initial succ sby atspace";
+    let tokens = scan(rt.alloc(), source)?;
+    assert_eq!(rt; tokens.len(), 17 + 49);
+    for token in tokens.iter() {
+        assert_eq!(rt;
+            token.kind,
+            TokenKind::Fixed,
+            "from {} to {}",
+            token.from,
+            token.to
+        );
+    }
+    Ok(())
+}
+
+#[test]
+fn refusals(rt: HostRuntime) {
+    let table = [
+        (b"`abc".as_slice(), ScanRefusal::OpenText { at: 0 }),
+        (b"x where x = 1 ? 2; end", ScanRefusal::BadByte { at: 14 }),
+        (b") ?", ScanRefusal::BadByte { at: 2 }),
+        (b"[% 1 // 2 %]", ScanRefusal::OpenText { at: 0 }),
+        (b"a :: [x]", ScanRefusal::BadByte { at: 5 }),
+        (b"a \"eod\"", ScanRefusal::BadByte { at: 2 }),
+        (
+            b"170141183460469231731687303715884105728",
+            ScanRefusal::BigNumber { at: 0 },
+        ),
+    ];
+    for (source, refusal) in table {
+        assert_eq!(rt; scan(rt.alloc(), source).err(), Some(refusal), "{source:?}");
+    }
+}
+
+#[test]
+fn messages(rt: HostRuntime) -> Result<(), Fail> {
+    let table = [
+        (ScanRefusal::TooLong, "source too long"),
+        (ScanRefusal::BadByte { at: 14 }, "bad byte at 14"),
+        (ScanRefusal::OpenText { at: 0 }, "open text at 0"),
+        (ScanRefusal::BigNumber { at: 0 }, "number too big at 0"),
+        (ScanRefusal::NoMemory, "no memory"),
+    ];
+    for (refusal, wanted) in table {
+        let message = format!(in rt.alloc(); "{refusal}")?;
+        assert_eq!(rt; message.as_str(), wanted);
+    }
+    Ok(())
+}
+
+#[test]
+fn greatest_integer(rt: HostRuntime) -> Result<(), Fail> {
+    let tokens = scan(rt.alloc(), b"00170141183460469231731687303715884105727")?;
+    assert_eq!(rt;
+        tokens.as_slice(),
+        [token(TokenKind::Int, 0, 41)].as_slice()
+    );
+    Ok(())
+}
+
+#[test]
+fn cut_sources(rt: HostRuntime) {
+    let source = b"total :: largest :: [] where // sales\n\
+        total = sale fby total + next sale; \
+        largest = sale fby if next sale > largest then next sale else largest fi; end";
+    assert_eq!(rt; source.len(), 151);
+    for n in 0..152 {
+        let wanted = match n {
+            7 => Some(ScanRefusal::BadByte { at: 6 }),
+            18 => Some(ScanRefusal::BadByte { at: 17 }),
+            21 => Some(ScanRefusal::BadByte { at: 20 }),
+            30 => Some(ScanRefusal::BadByte { at: 29 }),
+            _ => None,
+        };
+        assert_eq!(rt; scan(rt.alloc(), &source[..n]).err(), wanted, "{n} bytes");
+    }
+}
+
+#[test]
+fn long_sources(rt: HostRuntime) -> Result<(), Fail> {
+    let blanks = vec![in rt.alloc(); b' '; 1_048_577]?;
+    assert_eq!(rt; scan(rt.alloc(), &blanks).err(), Some(ScanRefusal::TooLong));
+    assert_eq!(rt; scan(rt.alloc(), &blanks[1..])?.len(), 0);
+    let marks = vec![in rt.alloc(); b'('; 1_048_576]?;
+    assert_eq!(rt; scan(rt.alloc(), &marks)?.len(), 1_048_576);
+    Ok(())
+}

@@ -1,0 +1,10 @@
+use Rattle.std.proofs.Common.{refl}
+use Rattle.lucid_store.proofs.warehouse.Warehouse.sweep.Goals as goal
+
+pub returns : goal.returns
+returns c = rw (← c.self.view_is) (record {
+  entries = c.age_entries.ensures.each;
+  touched = c.held_only-self-inside.ensures;
+  lost = refl;
+  count = c.age_entries.ensures.count;
+})

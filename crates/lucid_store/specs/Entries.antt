@@ -1,0 +1,100 @@
+-- The warehouse as a finite map from keys to a value and an age, and what each call makes of the map. All of it is this
+-- project's own.
+use Rattle.std.specs.Prelude.{◌≡◌, ℕ, ◌+◌, ◌^◌, ◌-◌, ◌≤◌, List, [], Option, Some, None, Bool, true, false, IsSome, IfSome, is_some, if◌then◌else◌, option_map, option_and_then, length, min, nat_le}
+use Rattle.std.specs.Map.{lookup, keys_of}
+use Rattle.std.specs.List.{IsDistinct}
+use Rattle.lucid_value.specs.declared.Value.{Value}
+use Rattle.lucid_value.specs.Plain.{PlainValue}
+use Rattle.lucid_value.specs.View.{plain}
+use Rattle.lucid_store.specs.declared.Key.{Key}
+use Rattle.lucid_store.specs.declared.warehouse.Entry.{Entry}
+use Rattle.lucid_store.specs.Stored.{Stored}
+use Rattle.lucid_store.specs.Keys.{same_key}
+
+-- the value and the age that a key has, if it is held
+abbrev pub entry_at : Stored → Key → Option Entry
+entry_at w key = lookup (same_key key) w.entries
+
+abbrev pub value_at : Stored → Key → Option Value
+value_at w key = option_map (λ e. e.value) (entry_at w key)
+
+-- the plain form of the value that a key has
+abbrev pub held : Stored → Key → Option PlainValue
+held w key = option_map plain (value_at w key)
+
+abbrev pub age_at : Stored → Key → Option ℕ
+age_at w key = option_map (λ e. e.age) (entry_at w key)
+
+abbrev pub IsHeld : Stored → Key → Type 0
+IsHeld w key = IsSome (entry_at w key)
+
+-- how many keys are held
+abbrev pub count_of : Stored → ℕ
+count_of w = length w.entries
+
+-- no key is held twice
+abbrev pub IsOneForEach : Stored → Type 0
+IsOneForEach w = IsDistinct same_key (keys_of w.entries)
+
+-- the key last touched is held
+abbrev pub TouchedIsHeld : Stored → Type 0
+TouchedIsHeld w = IfSome w.touched (IsHeld w)
+
+-- nothing is held, nothing was lost, and no key was touched
+abbrev pub empty_warehouse : Stored
+empty_warehouse = record { entries = []; lost = 0; touched = None }
+
+-- a value that was just touched
+abbrev pub fresh : Value → Entry
+fresh value = record { value = value; age = 0 }
+
+-- an entry that was just touched
+abbrev pub renewed : Entry → Entry
+renewed e = record e { age = 0 }
+
+-- the key has this entry, or none, and every other key has what it had
+abbrev pub SetsOnly : Stored → Stored → Key → Option Entry → Type 0
+SetsOnly old new key entry = (q : Key) → entry_at new q ≡ (if same_key key q then entry else entry_at old q)
+
+-- a look-up of a key: where it is held, its age becomes 0 and it is the key last touched
+pub record IsTouched (old new : Stored) (key : Key) : Type 0 where
+  pub entries : SetsOnly old new key (option_map renewed (entry_at old key))
+  pub touched : new.touched ≡ (if is_some (entry_at old key) then Some key else old.touched)
+  pub lost : new.lost ≡ old.lost
+  pub count : count_of new ≡ count_of old
+
+-- one more, up to the greatest 32-bit number
+abbrev pub older : ℕ → ℕ
+older age = min (age + 1) (2 ^ 32 - 1)
+
+-- an entry that is one sweep older
+abbrev pub aged : Entry → Entry
+aged e = record e { age = older e.age }
+
+-- whether an entry is still within the limit once it is one sweep older
+abbrev pub is_young : ℕ → Entry → Bool
+is_young limit e = nat_le (older e.age) limit
+
+-- an entry after a sweep: one older, and gone where that is over the limit
+abbrev pub swept : ℕ → Entry → Option Entry
+swept limit e = if is_young limit e then Some (aged e) else None
+
+-- the key last touched, forgotten unless it passes the test
+abbrev pub touched_if : (Key → Bool) → Option Key → Option Key
+touched_if test None = None
+touched_if test (Some key) = if test key then Some key else None
+
+-- a sweep: every age rises by one, and what is then older than the limit is gone
+pub record IsSwept (limit : ℕ) (old new : Stored) : Type 0 where
+  pub entries : (q : Key) → entry_at new q ≡ option_and_then (swept limit) (entry_at old q)
+  pub touched : new.touched ≡ touched_if (λ key. is_some (entry_at new key)) old.touched
+  pub lost : new.lost ≡ old.lost
+  pub count : count_of new ≤ count_of old
+
+-- one more, up to the greatest 64-bit number
+abbrev pub one_more_lost : Stored → Stored
+one_more_lost w = record w { lost = min (w.lost + 1) (2 ^ 64 - 1) }
+
+-- nothing is held any more
+abbrev pub cleared : Stored → Stored
+cleared w = record w { entries = []; touched = None }
