@@ -68,6 +68,7 @@ module _ (r : Recency) (few : AreRecent r) (keys : List Key) (old mid : Stored) 
         notes = notes;
         lost = lost;
         forgotten = forgotten;
+        one_for_each = one_mid;
         cut = uncut_at (nat_lt r.room (count_of mid)) keys keys mid mid fits refl refl;
       };
       agreed = λ agrees. drops_noted one old.touched notes agrees;
@@ -84,6 +85,7 @@ module _ (r : Recency) (few : AreRecent r) (keys : List Key) (old mid : Stored) 
         notes = notes;
         lost = lost;
         forgotten = forgotten;
+        one_for_each = one_mid;
         cut = cut_at (nat_lt r.room (count_of mid)) [] keys (cleared mid) mid over refl refl;
       };
       agreed = λ agrees. let fits = within_room agrees in cc;

@@ -4,7 +4,7 @@ use Rattle.std.specs.Set.{is_member}
 use Rattle.lucid_store.specs.declared.Key.{Key}
 use Rattle.lucid_store.specs.Keys.{same_key}
 use Rattle.lucid_store.specs.Stored.{Stored}
-use Rattle.lucid_store.specs.Entries.{entry_at, age_at, count_of, cleared, IsSwept}
+use Rattle.lucid_store.specs.Entries.{entry_at, age_at, count_of, cleared, IsSwept, IsOneForEach}
 
 -- a policy that sweeps every so many turns by an age limit, and how many turns it has taken since the last sweep
 pub record Aging : Type 0 where
@@ -35,6 +35,7 @@ IsSparingTurn a old new = MatchBool (is_sweeping a) (IsSwept a.limit old new) (n
 pub record IsAgesTurn (a : Aging) (old new : Stored) : Type 0 where
   pub swept : Stored
   pub sweeps : IsSparingTurn a old swept
+  pub one_for_each : IsOneForEach swept
   pub cut : new ≡ cut_to_most a swept
 
 -- a held key was touched as many sweeps ago as its age says, and that is within the limit

@@ -5,7 +5,7 @@ use Rattle.std.specs.Set.{is_member, remove_key}
 use Rattle.lucid_store.specs.declared.Key.{Key}
 use Rattle.lucid_store.specs.Stored.{Stored}
 use Rattle.lucid_store.specs.Keys.{same_key}
-use Rattle.lucid_store.specs.Entries.{entry_at, count_of, cleared}
+use Rattle.lucid_store.specs.Entries.{entry_at, count_of, cleared, IsOneForEach}
 use Rattle.lucid_retire.specs.Script.{DropsThose}
 
 -- the keys of the recency list, the most recently touched first, and how many the policy leaves at most
@@ -60,6 +60,7 @@ pub record IsNotedTurn (r : Recency) (keys : List Key) (old new : Stored) : Type
   pub notes : IsNoted r old.touched noted_keys old noted
   pub lost : noted.lost ≡ old.lost
   pub forgotten : noted.touched ≡ None
+  pub one_for_each : IsOneForEach noted
   pub cut : MatchBool (nat_lt r.room (count_of noted)) ((keys ≡ []) × (new ≡ cleared noted)) ((keys ≡ noted_keys) × (new ≡ noted))
 
 -- the list's keys are the held keys, but for a touched key that is new

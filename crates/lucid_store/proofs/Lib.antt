@@ -1,3 +1,4 @@
 pub mod KeyLemmas
 pub mod Sweeps
 pub mod TouchedLemmas
+pub mod CallerLemmas

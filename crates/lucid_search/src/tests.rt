@@ -1,0 +1,41 @@
+use super::*;
+use lucid_tags::Tags;
+
+const MANY: u64 = 100_000;
+
+#[test]
+fn best_noted_position(rt: HostRuntime) {
+    let root = Tags::make(rt.alloc()).root();
+    let mut positions = Positions::make(rt.alloc());
+    positions.note(1, root, 3, 7);
+    assert_eq!(rt; positions.best(1, root, 5), Some((3, 7)));
+    assert_eq!(rt; positions.best(1, root, 2), None);
+}
+
+#[test]
+fn calls_with_ample_memory(rt: HostRuntime) {
+    let root = Tags::make(rt.alloc()).root();
+    let mut positions = Positions::make(rt.alloc());
+    positions.note(1, root, 3, 7);
+    positions.note(1, root, 8, 9);
+    positions.note(1, root, 5, 1);
+    positions.note(1, root, 5, 8);
+    positions.note(2, root, 6, 10);
+    positions.note(1, root.at_space(1), 6, 11);
+    assert_eq!(rt; positions.best(1, root, 7), Some((5, 8)));
+    assert_eq!(rt; positions.best(1, root, 8), Some((8, 9)));
+    assert_eq!(rt; positions.best(1, root.at_space(1), 9), Some((6, 11)));
+    assert_eq!(rt; positions.best(2, root, 9), Some((6, 10)));
+    positions.clear();
+    assert_eq!(rt; positions.best(1, root, 9), None);
+}
+
+#[test]
+fn notes_in_rising_order(rt: HostRuntime) {
+    let root = Tags::make(rt.alloc()).root();
+    let mut positions = Positions::make(rt.alloc());
+    for key in 0..MANY {
+        positions.note(1, root, key, key);
+        assert_eq!(rt; positions.best(1, root, MANY), Some((key, key)));
+    }
+}

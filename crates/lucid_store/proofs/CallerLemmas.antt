@@ -1,0 +1,46 @@
+-- What a caller's proof cites of the words in `specs/Entries.antt`.
+use Rattle.std.proofs.Common.{◌≡◌, ◌≢◌, ◌⊎◌, inl, inr, Bool, true, false, cond, Option, Some, None, refl, ap, sym, ◌∙◌, subst}
+use Rattle.std.specs.Prelude.{option_map}
+use Rattle.lucid_value.specs.View.{plain}
+use Rattle.lucid_store.specs.declared.Key.{Key}
+use Rattle.lucid_store.specs.declared.warehouse.Entry.{Entry}
+use Rattle.lucid_store.specs.Stored.{Stored}
+use Rattle.lucid_store.specs.Keys.{same_key}
+use Rattle.lucid_store.specs.Entries.{entry_at, value_at, held, renewed, SetsOnly, IsTouched}
+use Rattle.lucid_store.proofs.KeyLemmas.{key_from_same, same_itself}
+
+pub other_key : (a b : Key) → b ≢ a → same_key a b ≡ false
+other_key a b apart = by (same_key a b) refl
+  where
+    by : (t : Bool) → same_key a b ≡ t → t ≡ false
+    by true h = absurd (apart (sym (key_from_same a b h)))
+    by false h = refl
+
+-- two keys are equal, or they are not
+pub key_cases : (a b : Key) → (a ≡ b) ⊎ (a ≢ b)
+key_cases a b = by (same_key a b) refl
+  where
+    by : (t : Bool) → same_key a b ≡ t → (a ≡ b) ⊎ (a ≢ b)
+    by true h = inl (key_from_same a b h)
+    by false h = inr (λ e. let same = subst (λ k. same_key a k ≡ true) e (same_itself a) in cc)
+
+-- what a key has that was set, and any other key
+pub set_here : (old new : Stored) (key : Key) (entry : Option Entry) → SetsOnly old new key entry → entry_at new key ≡ entry
+set_here old new key entry sets = sets key ∙ ap (λ t. cond t entry (entry_at old key)) (same_itself key)
+
+pub set_apart : (old new : Stored) (key : Key) (entry : Option Entry) → SetsOnly old new key entry → (q : Key) → q ≢ key → entry_at new q ≡ entry_at old q
+set_apart old new key entry sets q apart = sets q ∙ ap (λ t. cond t entry (entry_at old q)) (other_key key q apart)
+
+-- a look-up leaves each value as it was
+pub value_at-touched : (old new : Stored) (key : Key) → IsTouched old new key → (q : Key) → value_at new q ≡ value_at old q
+value_at-touched old new key touched q = ap (option_map (λ (x : Entry). x.value)) (touched.entries q) ∙ by (same_key key q) refl
+  where
+    renewed_value : (e : Option Entry) → option_map (λ x. x.value) (option_map renewed e) ≡ option_map (λ x. x.value) e
+    renewed_value None = refl
+    renewed_value (Some e) = refl
+    by : (t : Bool) → same_key key q ≡ t → option_map (λ x. x.value) (cond t (option_map renewed (entry_at old key)) (entry_at old q)) ≡ value_at old q
+    by true h = renewed_value (entry_at old key) ∙ ap (value_at old) (key_from_same key q h)
+    by false h = refl
+
+pub held-touched : (old new : Stored) (key : Key) → IsTouched old new key → (q : Key) → held new q ≡ held old q
+held-touched old new key touched q = ap (option_map plain) (value_at-touched old new key touched q)
