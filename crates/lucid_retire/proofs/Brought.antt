@@ -1,9 +1,8 @@
 -- What is held and what is listed, once a key is brought to the front of the list.
-use Rattle.std.proofs.Common.{◌≡◌, ℕ, zero, suc, ◌+◌, ◌-◌, ◌≤◌, ◌<◌, Bool, true, false, cond, not, ◌||◌, ◌&&◌, List, [], ◌∷◌, length, take, Option, Some, None, is_some, refl, ap, sym, ◌∙◌, subst, arith}
+use Rattle.std.proofs.Common.{◌≡◌, ℕ, zero, suc, ◌+◌, ◌-◌, ◌≤◌, Bool, true, false, cond, not, ◌||◌, ◌&&◌, List, [], ◌∷◌, length, take, Option, Some, None, is_some, refl, ap, sym, ◌∙◌, subst, arith}
 use Rattle.std.specs.Prelude.{slice_get, nat_lt}
-use Rattle.std.specs.List.{IsDistinct, list_any}
-use Rattle.std.specs.Map.{lookup, keys_of}
-use Rattle.std.specs.Set.{remove_key, is_member}
+use Rattle.std.specs.List.{IsDistinct}
+use Rattle.std.specs.Map.{keys_of}
 use Rattle.std.proofs.lemmas.Bool.Decides.{nat_tests}
 use Rattle.std.proofs.lemmas.Map.Entries.{length-keys_of}
 use Rattle.std.proofs.lemmas.Option.{slice_get_past}
@@ -15,7 +14,7 @@ use Rattle.lucid_store.specs.Stored.{Stored}
 use Rattle.lucid_store.specs.Keys.{same_key}
 use Rattle.lucid_store.specs.Entries.{entry_at, count_of, IsOneForEach}
 use Rattle.lucid_store.proofs.KeyLemmas.{same_key_equiv, key_from_same}
-use Rattle.lucid_retire.specs.Recency.{Recency, is_listed, is_the, to_front, brought, pushed_out, last_of, Agrees, AreHeld, AreRecent, DropsKey}
+use Rattle.lucid_retire.specs.Recency.{Recency, is_listed, is_the, to_front, brought, pushed_out, last_of, AreHeld, AreRecent, DropsKey}
 use Rattle.lucid_retire.proofs.Lists.{apart_item, listed-front, length-remove-le, IsDistinct-front}
 
 -- ---- lists
@@ -80,6 +79,7 @@ module _ (r : Recency) (few : AreRecent r) (old : Stored) where
         or_false : (b : Bool) → (b || false) ≡ b
         or_false true = refl
         or_false false = refl
+
         by : (t : Bool) → same_key k q ≡ t → (e : Option Entry) → is_some e ≡ (is_listed r.keys q || same_key k q) → is_some (cond t None e) ≡ is_listed r.keys q
         by true same e h = sym (subst (λ x. is_listed r.keys x ≡ false) (key_from_same k q same) unlisted)
         by false other e h = h ∙ ap (λ b. is_listed r.keys q || b) other ∙ or_false (is_listed r.keys q)
@@ -88,15 +88,17 @@ module _ (r : Recency) (few : AreRecent r) (old : Stored) where
     pub count_front : IsOneForEach old → count_of old ≡ length (to_front k r.keys)
     count_front one = sym (length-keys_of old.entries)
         ∙ length-from_same_keys same_key_equiv (keys_of old.entries) (to_front k r.keys) one (IsDistinct-front same_key_equiv k r.keys few.distinct)
-            (λ q. sym (is_some-lookup (same_key q) old.entries) ∙ front_is_held q)
+        (λ q. sym (is_some-lookup (same_key q) old.entries) ∙ front_is_held q)
 
     pub falls_out : IsOneForEach old → pushed_out r.room k r.keys ≡ cond (nat_lt r.room (count_of old)) (last_of (to_front k r.keys)) None
     falls_out one = by (nat_lt r.room (count_of old)) refl
       where
         over : nat_lt r.room (count_of old) ≡ true → r.room ≡ length (to_front k r.keys) - 1
         over t = let c = count_front one in let le = length-front k r.keys r.room few.few in grind (arith, nat_tests)
+
         within : nat_lt r.room (count_of old) ≡ false → length (to_front k r.keys) ≤ r.room
         within t = let c = count_front one in grind (arith, nat_tests)
+
         by : (t : Bool) → nat_lt r.room (count_of old) ≡ t → pushed_out r.room k r.keys ≡ cond t (last_of (to_front k r.keys)) None
         by true t = ap (slice_get (to_front k r.keys)) (over t)
         by false t = slice_get_past (to_front k r.keys) r.room (within t)

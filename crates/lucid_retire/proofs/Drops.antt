@@ -1,5 +1,5 @@
 -- Turns that only drop.
-use Rattle.std.proofs.Common.{◌≡◌, Bool, true, false, cond, IsTrue, Option, Some, None, refl, sym, ap, ◌∙◌, subst}
+use Rattle.std.proofs.Common.{◌≡◌, Bool, true, false, cond, Option, Some, None, sym, ap, ◌∙◌, subst}
 use Rattle.std.specs.Prelude.{option_map, option_and_then}
 use Rattle.lucid_value.specs.Plain.{PlainValue}
 use Rattle.lucid_value.specs.View.{plain}
@@ -36,6 +36,7 @@ only_from_swept limit old new sweeps = λ key value h. was (entry_at old key) va
     stays : (t : Bool) (e : Entry) (value : PlainValue) → plain_of (cond t (Some (aged e)) None) ≡ Some value → Some (plain e.value) ≡ Some value
     stays true e value h = h
     stays false e value h = cc
+
     was : (e : Option Entry) (value : PlainValue) → plain_of (option_and_then (swept limit) e) ≡ Some value → plain_of e ≡ Some value
     was None value h = h
     was (Some e) value h = stays (is_young limit e) e value h

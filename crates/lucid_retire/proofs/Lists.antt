@@ -1,11 +1,10 @@
 -- Lists of different keys, one of which is brought to the front.
-use Rattle.std.proofs.Common.{◌≡◌, ℕ, zero, suc, ◌+◌, ◌-◌, ◌≤◌, ◌<◌, Bool, true, false, cond, not, ◌||◌, ◌&&◌, List, [], ◌∷◌, length, take, Option, Some, None, refl, ap, sym, ◌∙◌, arith}
+use Rattle.std.proofs.Common.{◌≡◌, ℕ, zero, suc, ◌≤◌, Bool, true, false, cond, ◌||◌, List, [], ◌∷◌, length, Some, refl, ap, sym, ◌∙◌, arith}
 use Rattle.std.specs.Prelude.{slice_get}
 use Rattle.std.specs.Cmp.{IsEquivalence}
 use Rattle.std.specs.List.{IsDistinct, AllByRecursion, list_any}
 use Rattle.std.specs.Set.{remove_key}
 use Rattle.std.proofs.lemmas.Map.Keys.{IsDistinct-head, IsDistinct-tail, IsDistinct-cons}
-use Rattle.std.proofs.lemmas.Map.Made.{length-remove_key}
 
 module _ {K : Type 0} {eq : K → K → Bool} (laws : IsEquivalence eq) where
   -- no key is the same as k
@@ -85,6 +84,7 @@ module _ {K : Type 0} {eq : K → K → Bool} (laws : IsEquivalence eq) where
       alike false false true false p r = refl
       alike false false false false p r = refl
       alike a b c d p r = cc
+
       deeper : (a b c d e : Bool) → (a || c) ≡ (d || e) → (a || (b || c)) ≡ ((b || d) || e)
       deeper true true c d e h = refl
       deeper false true c d e h = refl

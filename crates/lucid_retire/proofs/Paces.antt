@@ -1,7 +1,6 @@
 -- A warehouse in which at most one key is touched between two turns of the policy that drops by age.
-use Rattle.std.proofs.Common.{◌≡◌, ℕ, zero, suc, ◌+◌, ◌-◌, ◌*◌, ◌^◌, ◌≤◌, ◌<◌, Bool, true, false, cond, ◌||◌, ◌⊎◌, inl, inr, List, [], ◌∷◌, ◌++◌, length, Option, Some, None, is_some, refl, ap, sym, ◌∙◌, subst, length-append, add-one, arith}
-use Rattle.std.specs.Prelude.{nat_lt, nat_le, ◌==◌, min, MatchBool, option_map, option_and_then}
-use Rattle.std.specs.List.{list_any}
+use Rattle.std.proofs.Common.{◌≡◌, ℕ, zero, suc, ◌+◌, ◌-◌, ◌*◌, ◌^◌, ◌≤◌, ◌<◌, Bool, true, false, cond, ◌||◌, ◌⊎◌, inl, inr, List, [], ◌∷◌, ◌++◌, length, Option, Some, None, is_some, refl, ap, sym, ◌∙◌, subst, length-append, arith}
+use Rattle.std.specs.Prelude.{◌==◌, MatchBool, option_map, option_and_then}
 use Rattle.std.specs.Map.{lookup, keys_of}
 use Rattle.std.specs.Set.{is_member}
 use Rattle.std.proofs.lemmas.Bool.Decides.{nat_tests}
@@ -71,10 +70,12 @@ module _ (a : Aging) (touches : ℕ → List Key) where
       stays : (j : Key) → (entry_at new j ≡ None) ⊎ (entry_at new j ≡ entry_at old j) → IsAccounted a (with_touch key touches) j (age_at new j)
       stays j (inl none) = subst (λ e. IsAccounted a (with_touch key touches) j (age_of e)) (sym none) tt
       stays j (inr same) = subst (λ e. IsAccounted a (with_touch key touches) j (age_of e)) (sym same) (accounted_more key j (age_at old j) (accounts j))
+
       here : (entry_at new key ≡ None) ⊎ ((entry_at new key ≡ entry_at old key) ⊎ (age_at new key ≡ Some 0)) → IsAccounted a (with_touch key touches) key (age_at new key)
       here (inl none) = stays key (inl none)
       here (inr (inl same)) = stays key (inr same)
       here (inr (inr young)) = subst (IsAccounted a (with_touch key touches) key) (sym young) (omega arith, ap (λ b. b || is_member same_key (touches 0) key) (same_itself key))
+
       by : (t : Bool) → same_key key q ≡ t → IsAccounted a (with_touch key touches) q (age_at new q)
       by true same = subst (λ j. IsAccounted a (with_touch key touches) j (age_at new j)) (key_from_same key q same) (here one.touched)
       by false other = stays q (one.others q other)
@@ -97,12 +98,13 @@ module _ (a : Aging) (touches : ℕ → List Key) where
   count-accounted : (w : Stored) → IsOneForEach w → ((k : ℕ) → length (touches k) ≤ a.every) → ((q : Key) → IsAccounted a touches q (age_at w q)) → count_of w ≤ most_of a
   count-accounted w one few accounts =
       let among = length-le_from_is_member same_key_equiv (keys_of w.entries) (all_touches touches a.limit) one
-            (λ q h. listed q (entry_at w q) (is_some-lookup (same_key q) w.entries ∙ h) (accounts q)) in
+      (λ q h. listed q (entry_at w q) (is_some-lookup (same_key q) w.entries ∙ h) (accounts q)) in
       within (count_of w) (length (keys_of w.entries)) (length (all_touches touches a.limit)) (most_of a) (length-keys_of w.entries) among (length-all touches a.every a.limit few)
     where
       listed : (q : Key) (e : Option Entry) → is_some e ≡ true → IsAccounted a touches q (age_of e) → is_member same_key (all_touches touches a.limit) q ≡ true
       listed q None some h = cc
       listed q (Some e) some h = among_all touches q e.age a.limit h.0 h.1
+
       within : (n k l m : ℕ) → k ≡ n → k ≤ l → l ≤ m → n ≤ m
       within n k l m e h g = omega arith
 

@@ -6,7 +6,7 @@ use Rattle.lucid_store.specs.declared.Key.{Key}
 use Rattle.lucid_store.specs.declared.warehouse.Entry.{Entry}
 use Rattle.lucid_store.specs.Stored.{Stored}
 use Rattle.lucid_store.specs.Entries.{entry_at, count_of, cleared, IsOneForEach, TouchedIsHeld}
-use Rattle.lucid_retire.specs.Recency.{Recency, is_listed, is_the, with_touched, last_of, dropped_last, Agrees, AreHeld, AreRecent, DropsKey, IsNoted, IsRefusedAt, IsNotedTurn, IsRecencyTurn}
+use Rattle.lucid_retire.specs.Recency.{Recency, is_listed, is_the, with_touched, last_of, Agrees, AreHeld, AreRecent, DropsKey, IsNoted, IsRefusedAt, IsRecencyTurn}
 use Rattle.lucid_retire.proofs.Brought.{held_after, held_refused, falls_out, length-take-le, count-listed}
 
 or_false : (b : Bool) → (b || false) ≡ b

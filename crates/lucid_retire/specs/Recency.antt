@@ -1,5 +1,5 @@
 -- The policy that keeps what was touched last, and its turns. All of it is this project's own.
-use Rattle.std.specs.Prelude.{◌≡◌, ℕ, ◌-◌, ◌<◌, ◌≤◌, ◌⊎◌, Bool, true, false, ◌||◌, IsTrue, MatchBool, List, [], ◌∷◌, length, take, slice_get, Option, Some, None, is_some, if◌then◌else◌, nat_lt}
+use Rattle.std.specs.Prelude.{◌≡◌, ℕ, ◌-◌, ◌<◌, ◌≤◌, ◌⊎◌, Bool, false, ◌||◌, MatchBool, List, [], ◌∷◌, length, take, slice_get, Option, Some, None, is_some, if◌then◌else◌, nat_lt}
 use Rattle.std.specs.List.{IsDistinct}
 use Rattle.std.specs.Set.{is_member, remove_key}
 use Rattle.lucid_store.specs.declared.Key.{Key}

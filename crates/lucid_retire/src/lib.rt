@@ -8,10 +8,9 @@ ghost use Rattle.std.specs.Prelude.{◌≡◌, ℕ, Bool, true, false, Option, S
 ghost use Rattle.lucid_store.specs.Entries.{cleared};
 ghost use Rattle.lucid_retire.specs.Turns.{IsTurn};
 
-use lucid_store::Warehouse;
-
 pub use ages::Ages;
 pub use last::Last;
+use lucid_store::Warehouse;
 pub use policy::Policy;
 pub use scripted::{Scrap, Scripted};
 

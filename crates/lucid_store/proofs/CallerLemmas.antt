@@ -38,6 +38,7 @@ value_at-touched old new key touched q = ap (option_map (λ (x : Entry). x.value
     renewed_value : (e : Option Entry) → option_map (λ x. x.value) (option_map renewed e) ≡ option_map (λ x. x.value) e
     renewed_value None = refl
     renewed_value (Some e) = refl
+
     by : (t : Bool) → same_key key q ≡ t → option_map (λ x. x.value) (cond t (option_map renewed (entry_at old key)) (entry_at old q)) ≡ value_at old q
     by true h = renewed_value (entry_at old key) ∙ ap (value_at old) (key_from_same key q h)
     by false h = refl

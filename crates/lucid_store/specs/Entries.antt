@@ -1,6 +1,6 @@
 -- The warehouse as a finite map from keys to a value and an age, and what each call makes of the map. All of it is this
 -- project's own.
-use Rattle.std.specs.Prelude.{◌≡◌, ℕ, ◌+◌, ◌^◌, ◌-◌, ◌≤◌, List, [], Option, Some, None, Bool, true, false, IsSome, IfSome, is_some, if◌then◌else◌, option_map, option_and_then, length, min, nat_le}
+use Rattle.std.specs.Prelude.{◌≡◌, ℕ, ◌+◌, ◌^◌, ◌-◌, ◌≤◌, [], Option, Some, None, Bool, IsSome, IfSome, is_some, if◌then◌else◌, option_map, option_and_then, length, min, nat_le}
 use Rattle.std.specs.Map.{lookup, keys_of}
 use Rattle.std.specs.List.{IsDistinct}
 use Rattle.lucid_value.specs.declared.Value.{Value}

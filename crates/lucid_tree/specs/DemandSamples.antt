@@ -14,7 +14,7 @@ abbrev pub late_truths : Elements
 late_truths n j = if same_name n (codes "b") then Some (truth (nat_le 2 j)) else Some (number j)
 
 -- Only the first line is consulted, at whatever time. A search at the limit m looks at times below m; the added number lets it
--- choose beyond that, but not look there. An advance at time t looks only at limits of at least t.
+-- choose beyond that, but not look there. An advance at time t looks at its test only at limits of at least t.
 abbrev pub ConsultedLines : Type 0
 ConsultedLines =
     (consults late_truths 1 0 first_of_a empty 3 0 ≡ (codes "a", 0) ∷ [])

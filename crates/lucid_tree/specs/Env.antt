@@ -39,7 +39,8 @@ frozen_at (defines_function at x ns ats e ds) t = frozen_at ds t
 frozen_at (defines_current at x e ds) t = Some t
 
 -- What a reference refers to, apart from its space: the place of the definition, of the parameter or, for a call, of the call;
--- the environment that `find` gives or, for a call, the one in which the right side is taken; and the time, 0 for a current name.
+-- the environment from the entry that has the name on or, for a call, the one in which the right side is taken; and the time, 0 for a
+-- current name.
 pub record Referent : Type 0 where
   pub at : ℕ
   pub env : Env

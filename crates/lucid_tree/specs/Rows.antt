@@ -7,7 +7,8 @@ use Rattle.lucid_value.specs.Plain.{PlainValue, int, truth, eod, fault}
 use Rattle.lucid_tree.specs.Tree.{Head, const, apply, choose, both, either, first, next, fby, whenever, asa, upon, attime, initial, succ, sby, atspace}
 use Rattle.lucid_ops.specs.Algebra.{algebra}
 
--- A look at a part, by its number, at a time and a space; approximations below `least` do not take it.
+-- A look at a part, by its number, at a time and a space; approximations below `least` do not take it. Only what is demanded
+-- reads `least`: a search has as many looks as its limit, and an advance none below its time, so values need no such number.
 pub record Look : Type 0 where
   pub part : ℕ
   pub time : ℕ

@@ -170,3 +170,27 @@ same_definitions = defines_function 11 (codes "f") (codes "b" ∷ []) (13 ∷ []
 -- f(a) where f(b) = b; end
 abbrev pub calling_same : PlainTree
 calling_same = block 5 (call 0 (codes "f") (tree (name 2 (codes "a")) no_trees)) same_definitions
+
+-- next 1
+abbrev pub next_one : PlainTree
+next_one = next_of 0 (integer 5 1)
+
+-- succ 1
+abbrev pub succ_one : PlainTree
+succ_one = succ_of 0 (integer 5 1)
+
+-- (1 fby 2) attime 9223372036854775807
+abbrev pub at_the_last_time : PlainTree
+at_the_last_time = attime_of 10 (fby_of 3 (integer 1 1) (integer 7 2)) (integer 17 9223372036854775807)
+
+-- 1 attime 9223372036854775808
+abbrev pub past_the_last_time : PlainTree
+past_the_last_time = attime_of 2 (integer 0 1) (integer 9 9223372036854775808)
+
+-- 1 atspace 9223372036854775807
+abbrev pub at_the_last_space : PlainTree
+at_the_last_space = atspace_of 2 (integer 0 1) (integer 10 9223372036854775807)
+
+-- 1 atspace 9223372036854775808
+abbrev pub past_the_last_space : PlainTree
+past_the_last_space = atspace_of 2 (integer 0 1) (integer 10 9223372036854775808)

@@ -2,10 +2,11 @@
 use Rattle.std.specs.Prelude.{◌≡◌, ℕ, zero, suc, false, List, [], ◌∷◌, Some, None}
 use Rattle.lucid_value.specs.Plain.{PlainValue, truth, eod, fault}
 use Rattle.lucid_tree.specs.Tree.{PlainTree}
+use Rattle.lucid_tree.specs.Rows.{last}
 use Rattle.lucid_tree.specs.Levels.{Elements}
 use Rattle.lucid_tree.specs.Env.{empty}
 use Rattle.lucid_tree.specs.Meaning.{val}
-use Rattle.lucid_tree.specs.SamplePrograms.{number, counting, needing_each_other, every_third, advancing, at_times, nested, counting_lines, factorials, calling_twice, false_and, whenever_five, eod_plus_error, binomials, binomial_row, initial_plus, succ_alone}
+use Rattle.lucid_tree.specs.SamplePrograms.{number, counting, needing_each_other, every_third, advancing, at_times, nested, counting_lines, factorials, calling_twice, false_and, whenever_five, eod_plus_error, binomials, binomial_row, initial_plus, succ_alone, next_one, succ_one, at_the_last_time, past_the_last_time, at_the_last_space, past_the_last_space}
 
 -- no input is known
 abbrev pub no_inputs : Elements
@@ -141,3 +142,15 @@ InitialAndSucc =
     × IsFirstAt no_inputs initial_plus 1 2 7 (number 13)
     × IsFirstAt no_inputs succ_alone 1 0 0 (number 9)
     × IsFirstAt no_inputs succ_alone 1 1 3 (number 9)
+
+-- The last time and the last space, and one before each; a place that is the last one, and one past it.
+abbrev pub LastTimeAndSpace : Type 0
+LastTimeAndSpace =
+    IsFirstAt no_inputs next_one 0 last 0 fault
+    × IsFirstAt no_inputs next_one 0 9223372036854775806 0 (number 1)
+    × IsFirstAt no_inputs succ_one 0 0 last fault
+    × IsFirstAt no_inputs succ_one 0 0 9223372036854775806 (number 1)
+    × IsFirstAt no_inputs at_the_last_time 0 0 0 (number 2)
+    × IsFirstAt no_inputs past_the_last_time 0 0 0 fault
+    × IsFirstAt no_inputs at_the_last_space 0 0 0 (number 1)
+    × IsFirstAt no_inputs past_the_last_space 0 0 0 fault

@@ -42,7 +42,7 @@ abbrev mutual
   places_in_defs (defines_function at x ns ats e ds) = at ∷ (ats ++ places e ++ places_in_defs ds)
   places_in_defs (defines_current at x e ds) = at ∷ (places e ++ places_in_defs ds)
 
--- a data operator has as many parts as its arity says
+-- a data operator has as many parts as its arity says; the number in its head is that of its parts
 abbrev pub fits_arity : Head → PlainTrees → Bool
 fits_arity (apply op n) es = nat_eq (count es) (arity op)
 fits_arity _ es = true

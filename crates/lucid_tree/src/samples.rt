@@ -1,6 +1,6 @@
 //! Sample programs: their values at several points, and what they demand. Each is the contract of a function that does nothing.
 ghost use Rattle.lucid_tree.specs.DemandSamples.{ConsultedLines, ReferredNames, EnteredEnvironments, HeldValues};
-ghost use Rattle.lucid_tree.specs.Samples.{CountingUp, NamesThatNeedEachOther, EveryThirdNumber, AdvanceUponTruths, ValuesAtATime, NestedIteration, RunningCounts, RecursiveFunction, TwoCallsOfOneFunction, WhatIsNotLookedAt, BinomialNumbers, InitialAndSucc};
+ghost use Rattle.lucid_tree.specs.Samples.{CountingUp, NamesThatNeedEachOther, EveryThirdNumber, AdvanceUponTruths, ValuesAtATime, NestedIteration, RunningCounts, RecursiveFunction, TwoCallsOfOneFunction, WhatIsNotLookedAt, BinomialNumbers, InitialAndSucc, LastTimeAndSpace};
 
 /// Counting up.
 pub fn counting_up()
@@ -60,6 +60,11 @@ pub fn binomial_numbers()
 /// `initial` and `succ`.
 pub fn initial_and_succ()
     ensures { InitialAndSucc }
+{}
+
+/// The last time and the last space.
+pub fn last_time_and_space()
+    ensures { LastTimeAndSpace }
 {}
 
 /// What is consulted, and what the added number changes.

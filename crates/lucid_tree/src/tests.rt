@@ -97,6 +97,94 @@ fn copies_are_equal(rt: HostRuntime) -> Result<(), Fail> {
     Ok(())
 }
 
+fn boxed(alloc: Global, tree: Tree) -> Result<Box<Tree>, AllocError> {
+    Ok(Box::new(alloc, tree)?)
+}
+
+fn one_box(alloc: Global) -> Result<Box<Tree>, AllocError> {
+    boxed(alloc, integer(0, 1))
+}
+
+fn node(kind: Kind) -> Tree {
+    Tree { at: 0, kind }
+}
+
+// `initial succ first next x`
+fn moved(alloc: Global, x: Tree) -> Result<Tree, AllocError> {
+    let x = node(Kind::Next(boxed(alloc, x)?));
+    let x = node(Kind::First(boxed(alloc, x)?));
+    let x = node(Kind::Succ(boxed(alloc, x)?));
+    Ok(node(Kind::Initial(boxed(alloc, x)?)))
+}
+
+// Each form of two parts over time and space, one in another.
+fn joined(alloc: Global, x: Tree) -> Result<Tree, AllocError> {
+    let x = node(Kind::Whenever(boxed(alloc, x)?, one_box(alloc)?));
+    let x = node(Kind::Asa(boxed(alloc, x)?, one_box(alloc)?));
+    let x = node(Kind::Upon(boxed(alloc, x)?, one_box(alloc)?));
+    let x = node(Kind::Attime(boxed(alloc, x)?, one_box(alloc)?));
+    let x = node(Kind::Sby(boxed(alloc, x)?, one_box(alloc)?));
+    Ok(node(Kind::Atspace(boxed(alloc, x)?, one_box(alloc)?)))
+}
+
+// `if 1 and x then 1 or 1 else 1 fi`
+fn chosen(alloc: Global, x: Tree) -> Result<Tree, AllocError> {
+    let test = node(Kind::And(one_box(alloc)?, boxed(alloc, x)?));
+    let yes = node(Kind::Or(one_box(alloc)?, one_box(alloc)?));
+    Ok(node(Kind::If {
+        test: boxed(alloc, test)?,
+        yes: boxed(alloc, yes)?,
+        no: one_box(alloc)?,
+    }))
+}
+
+// f(x) = 1; n is current 1;
+fn function_and_current(alloc: Global) -> Result<Defs, MakeRefusal> {
+    let mut parameters = Vec::new(alloc);
+    parameters
+        .push(Name::make(alloc, b"x")?)
+        .map_err(AllocError::from)?;
+    let function = DefKind::Function {
+        parameters: Names::from_vec(parameters),
+        places: Places32::from_vec(Vec::from_array(alloc, [3]).map_err(AllocError::from)?),
+        right: integer(0, 1),
+    };
+    let current = DefKind::Current {
+        right: integer(0, 1),
+    };
+    let mut items = Vec::new(alloc);
+    for (at, name, kind) in [(1, b"f", function), (7, b"n", current)] {
+        let name = Name::make(alloc, name)?;
+        items
+            .push(Def { at, name, kind })
+            .map_err(AllocError::from)?;
+    }
+    Ok(Defs::from_vec(items))
+}
+
+// A call in a block, with every other form in its argument.
+fn every_form(alloc: Global) -> Result<Tree, MakeRefusal> {
+    let argument = chosen(alloc, joined(alloc, moved(alloc, counting_up(alloc)?)?)?)?;
+    let args = two(alloc, argument, integer(0, 1))?;
+    let name = Name::make(alloc, b"f")?;
+    let subject = node(Kind::Call { name, args });
+    let defs = function_and_current(alloc)?;
+    let block = Box::new(alloc, Block { subject, defs }).map_err(AllocError::from)?;
+    Ok(node(Kind::Scope(block)))
+}
+
+#[test]
+fn every_form_is_copied(rt: HostRuntime) -> Result<(), Fail> {
+    let tree = every_form(rt.alloc())?;
+    let copied = tree.copy(rt.alloc())?;
+    let Kind::Scope(block) = &copied.kind else {
+        return Err(Fail::new("a block"));
+    };
+    assert_eq!(rt; block.defs.items().len(), 2);
+    assert_eq!(rt; block.defs.items()[1].at, 7);
+    Ok(())
+}
+
 #[test]
 fn depth_of_a_tree(rt: HostRuntime) -> Result<(), Fail> {
     assert_eq!(rt; integer(0, 1).depth(), 1);

@@ -1,9 +1,9 @@
 use Rattle.std.proofs.Common.{rules, ap, ◌∙◌}
 use Rattle.std.specs.Map.{lookup}
 use Rattle.lucid_store.specs.Keys.{same_key}
-use Rattle.lucid_store.specs.Entries.{aged, is_young, swept}
+use Rattle.lucid_store.specs.Entries.{aged, is_young}
 use Rattle.lucid_store.proofs.KeyLemmas.{same_key_equiv}
-use Rattle.lucid_store.proofs.Sweeps.{none_left, kept_from_retain, lookup-kept_entries}
+use Rattle.lucid_store.proofs.Sweeps.{kept_from_retain, lookup-kept_entries}
 use Rattle.lucid_store.proofs.warehouse.age_entries.Goals as goal
 
 pub returns-clause-each : goal.returns-clause-each

@@ -1,8 +1,3 @@
-use Rattle.std.proofs.Common.{subst}
-use Rattle.std.specs.Prelude.{Option, IfSome, IsSome}
-use Rattle.std.specs.Map.{lookup}
-use Rattle.lucid_store.specs.declared.Key.{Key}
-use Rattle.lucid_store.specs.Keys.{same_key}
 use Rattle.lucid_store.proofs.TouchedLemmas.{touched_without}
 use Rattle.lucid_store.proofs.warehouse.Warehouse.remove.Goals as goal
 

@@ -1,0 +1,5 @@
+use Rattle.std.proofs.Common.{refl}
+use Rattle.lucid_tree.proofs.samples.last_time_and_space.Goals as goal
+
+pub returns : goal.returns
+returns c = (refl, refl, refl, refl, refl, refl, refl, refl)
