@@ -1,0 +1,6 @@
+pub mod Cases
+pub mod SlotLemmas
+pub mod RowLemmas
+pub mod ForestLemmas
+pub mod TaskLemmas
+pub mod CallLemmas

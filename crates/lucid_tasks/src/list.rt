@@ -1,0 +1,45 @@
+//! Slots in rising order.
+
+ghost use Rattle.std.specs.Prelude.{◌≡◌, ℕ, ◌<◌, ◌≤◌, ◌+◌, ◌==◌, true, false, length, slice_index, if◌then◌else◌, vec_len, vec_capacity};
+ghost use Rattle.lucid_tasks.specs.Slots.{is_listed, RiseFrom};
+
+// How many of the slots are below one.
+fn place_of(slots: &[usize], slot: usize) -> usize
+    requires { RiseFrom 0 slots.now }
+    ensures bound { result ≤ length slots.now }
+    ensures below { (k : ℕ) → k < result → slice_index slots.now k < slot }
+    ensures from { (k : ℕ) → result ≤ k → k < length slots.now → slot ≤ slice_index slots.now k }
+{
+    match slots.binary_search(&slot) {
+        Ok(place) => place,
+        Err(place) => place,
+    }
+}
+
+// Takes a slot out.
+pub(crate) fn remove_slot(slots: &mut Vec<usize>, slot: usize)
+    requires rising { RiseFrom 0 slots.old.items }
+    requires listed { is_listed slots.old.items slot ≡ true }
+    requires room { vec_len slots.old ≤ vec_capacity slots.old }
+    ensures rising { RiseFrom 0 slots.new.items }
+    ensures listed { (q : ℕ) → is_listed slots.new.items q ≡ (if q == slot then false else is_listed slots.old.items q) }
+    ensures room { vec_len slots.new + 1 ≤ vec_capacity slots.new }
+{
+    let place = place_of(slots, slot);
+    slots.remove(place);
+}
+
+// Puts a slot at its place.
+pub(crate) fn insert_slot(slots: &mut Vec<usize>, slot: usize)
+    requires rising { RiseFrom 0 slots.old.items }
+    requires absent { is_listed slots.old.items slot ≡ false }
+    requires room { vec_len slots.old + 1 ≤ vec_capacity slots.old }
+    ensures rising { RiseFrom 0 slots.new.items }
+    ensures listed { (q : ℕ) → is_listed slots.new.items q ≡ (if q == slot then true else is_listed slots.old.items q) }
+    ensures room { vec_len slots.new ≤ vec_capacity slots.new }
+{
+    let place = place_of(slots, slot);
+    if slots.insert(place, slot).is_err() {
+        unreachable!();
+    }
+}

@@ -1,0 +1,5 @@
+pub mod Adds
+pub mod Asked
+pub mod Each
+pub mod Found
+pub mod Ranges

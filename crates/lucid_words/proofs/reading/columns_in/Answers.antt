@@ -1,0 +1,8 @@
+use Rattle.std.proofs.Common.{codes}
+use Rattle.std.specs.Prelude.{option_map}
+use Rattle.clap.specs.Words.{found_of}
+use Rattle.lucid_words.proofs.Found.{first_is}
+use Rattle.lucid_words.proofs.reading.columns_in.Goals as goal
+
+pub returns : goal.returns
+returns c = rw (first_is (found_of c.args.matches.now) (codes "columns") (option_map (λ s. s.now) c.get_str.result) c.get_str.ensures) c.columns_of.ensures
