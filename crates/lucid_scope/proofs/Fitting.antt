@@ -114,10 +114,10 @@ mutual
       let few : length (places_in_defs ds) < N = omega (arith, l, long) in
       let g = opened-fits (λ n. definition_owner (definition n ds)) (in_block ds) (block-opens ds) (definitions-fit ds b.1 few) k f in
       each-append SiteFits (outside_sites k ds) (sites (in_block ds k) e ++ inside_sites (in_block ds k) no_names ds)
-        (outside-fit k f ds b.1 few)
-        (each-append SiteFits (sites (in_block ds k) e) (inside_sites (in_block ds k) no_names ds)
-          (sites-fit (in_block ds k) g e b.0 (omega (arith, l, long)))
-          (inside-fit (in_block ds k) g no_names ds b.1 few))
+      (outside-fit k f ds b.1 few)
+      (each-append SiteFits (sites (in_block ds k) e) (inside_sites (in_block ds k) no_names ds)
+      (sites-fit (in_block ds k) g e b.0 (omega (arith, l, long)))
+      (inside-fit (in_block ds k) g no_names ds b.1 few))
 
   all-fit : (k : Static) → ScopeFits k → (es : PlainTrees) → are_shaped es ≡ true → length (places_in es) < N → Each SiteFits (sites_in k es)
   all-fit k f no_trees s l = tt
@@ -143,7 +143,7 @@ mutual
       let b = both (is_shaped e) (defs_are_shaped ds) s in
       let long = length-append (places e) (places_in_defs ds) in
       each-append SiteFits (again_if (earlier x) at) (sites k e ++ inside_sites k (also x earlier) ds) (again-fits (earlier x) at)
-        (each-append SiteFits (sites k e) (inside_sites k (also x earlier) ds) (sites-fit k f e b.0 (omega (arith, l, long))) (inside-fit k f (also x earlier) ds b.1 (omega (arith, l, long))))
+      (each-append SiteFits (sites k e) (inside_sites k (also x earlier) ds) (sites-fit k f e b.0 (omega (arith, l, long))) (inside-fit k f (also x earlier) ds b.1 (omega (arith, l, long))))
   inside-fit k f earlier (defines_function at x ns ats e ds) s l =
       let a = both (nat_lt 0 (length ns) && nat_eq (length ats) (length ns) && is_shaped e) (defs_are_shaped ds) s in
       let b = both (nat_lt 0 (length ns) && nat_eq (length ats) (length ns)) (is_shaped e) a.0 in
@@ -153,9 +153,9 @@ mutual
       let few : length ns < 2 ^ 32 = grind (arith, c.1, long, long', l) in
       let g = opened-fits (λ n. parameter_owner at (param n ns)) (in_function at ns ats) (function-opens at ns ats) (parameters-fit at ns few) k f in
       each-append SiteFits (again_if (earlier x) at) ((repeats no_names ns ats ++ sites (in_function at ns ats k) e) ++ inside_sites k (also x earlier) ds) (again-fits (earlier x) at)
-        (each-append SiteFits (repeats no_names ns ats ++ sites (in_function at ns ats k) e) (inside_sites k (also x earlier) ds)
-          (each-append SiteFits (repeats no_names ns ats) (sites (in_function at ns ats k) e) (repeats-fit no_names ns ats) (sites-fit (in_function at ns ats k) g e b.1 (omega (arith, l, long, long'))))
-          (inside-fit k f (also x earlier) ds a.1 (omega (arith, l, long))))
+      (each-append SiteFits (repeats no_names ns ats ++ sites (in_function at ns ats k) e) (inside_sites k (also x earlier) ds)
+      (each-append SiteFits (repeats no_names ns ats) (sites (in_function at ns ats k) e) (repeats-fit no_names ns ats) (sites-fit (in_function at ns ats k) g e b.1 (omega (arith, l, long, long'))))
+      (inside-fit k f (also x earlier) ds a.1 (omega (arith, l, long))))
   inside-fit k f earlier (defines_current at x e ds) s l =
       each-append SiteFits (again_if (earlier x) at) (inside_sites k (also x earlier) ds) (again-fits (earlier x) at)
-        (inside-fit k f (also x earlier) ds (both (is_shaped e) (defs_are_shaped ds) s).1 (omega (arith, l, length-append (places e) (places_in_defs ds))))
+      (inside-fit k f (also x earlier) ds (both (is_shaped e) (defs_are_shaped ds) s).1 (omega (arith, l, length-append (places e) (places_in_defs ds))))

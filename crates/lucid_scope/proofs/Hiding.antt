@@ -58,7 +58,7 @@ pub block-hides : (xs : List Def) (i : ℕ) (d : Def) (o : Owner) (f g h : Owner
 block-hides xs i d o f g h lt is e before sets n =
     let split : drop i xs ≡ d ∷ drop (suc i) xs = drop-cons xs i d lt ∙ ap (λ y. y ∷ drop (suc i) xs) (sym is) in
     let more : definition n (defs_of (drop i xs)) ≡ cond (same_name n d.name) (definition d.name (one_def d no_defs)) (definition n (defs_of (drop (suc i) xs))) =
-      ap (λ l. definition n (defs_of l)) split ∙ definition-first n d (defs_of (drop (suc i) xs)) in
+    ap (λ l. definition n (defs_of l)) split ∙ definition-first n d (defs_of (drop (suc i) xs)) in
     sets n ∙ ap (λ y. cond (same_name n d.name) (Some o) y) (before n)
     ∙ pick (same_name n d.name) (definition d.name (one_def d no_defs)) (definition n (defs_of (drop (suc i) xs))) o (h n) e
     ∙ ap (λ y. or_outer (definition_owner y) (h n)) (sym more)

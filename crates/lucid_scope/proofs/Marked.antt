@@ -82,7 +82,7 @@ step ss l i j hi hj o =
     record {
       order = swap o.order i j;
       marks = map-swap o.order i j hi' hj' ∙ ap (λ x. swap x i j) o.marks;
-      permutes = IsPermutation-trans ss o.order (swap o.order i j) o.permutes (IsPermutation-swap o.order (swap o.order i j) i j hi' hj' refl)
+      permutes = IsPermutation-trans ss o.order (swap o.order i j) o.permutes (IsPermutation-swap o.order (swap o.order i j) i j hi' hj' refl);
     }
 
 pub ordered : (ss : List Site) (ms : List Mark) → IsPermutation (map mark ss) ms → Ordered ss ms

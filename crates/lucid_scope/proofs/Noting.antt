@@ -30,13 +30,13 @@ noting_start s w = record { names = λ n. refl; marks = λ k h. refl }
 
 pub noting_more : (s a b : Walk) (f r w : Found_sites) → Noting s a (λ k. f k ++ r k) w → Noted a b f → Noting s b r w
 noting_more s a b f r w c d = record {
-    names = λ n. d.names n ∙ c.names n;
-    marks = λ k h.
+  names = λ n. d.names n ∙ c.names n;
+  marks = λ k h.
       ap (λ l. l ++ map mark (r k)) (d.marks k (λ n. c.names n ∙ h n))
       ∙ append_assoc a.marks.items (map mark (f k)) (map mark (r k))
       ∙ ap (λ l. a.marks.items ++ l) (sym (map-append mark (f k) (r k)))
-      ∙ c.marks k h
-  }
+      ∙ c.marks k h;
+}
 
 pub noting_end : (s a : Walk) (w : Found_sites) → Noting s a (λ k. []) w → Noted s a w
 noting_end s a w c = record { names = c.names; marks = λ k h. sym (append-nil a.marks.items) ∙ c.marks k h }
@@ -49,13 +49,13 @@ noted_none s = record { names = λ n. refl; marks = λ k h. sym (append-nil s.ma
 
 pub noted_then : (s a b : Walk) (f g : Found_sites) → Noted s a f → Noted a b g → Noted s b (λ k. f k ++ g k)
 noted_then s a b f g c d = record {
-    names = λ n. d.names n ∙ c.names n;
-    marks = λ k h.
+  names = λ n. d.names n ∙ c.names n;
+  marks = λ k h.
       d.marks k (λ n. c.names n ∙ h n)
       ∙ ap (λ l. l ++ map mark (g k)) (c.marks k h)
       ∙ append_assoc s.marks.items (map mark (f k)) (map mark (g k))
-      ∙ ap (λ l. s.marks.items ++ l) (sym (map-append mark (f k) (g k)))
-  }
+      ∙ ap (λ l. s.marks.items ++ l) (sym (map-append mark (f k) (g k)));
+}
 
 pub noted_as : (s a : Walk) (f g : Found_sites) → ((k : Static) → f k ≡ g k) → Noted s a f → Noted s a g
 noted_as s a f g e c = record { names = c.names; marks = λ k h. c.marks k h ∙ ap (λ l. s.marks.items ++ map mark l) (e k) }
@@ -71,11 +71,11 @@ pub noted_scope : (own : List ℕ → Option Owner) (open_scope : Static → Sta
     → end.marks.items ≡ c.marks.items → ((n : List ℕ) → look end.table n ≡ put_back saved (look c.table) n)
     → Noted a end (λ k. f (open_scope k))
 noted_scope own open_scope o a inner c end saved f same entered saves d ends left = record {
-    names = λ n. left n ∙ put_back-alike saved (look c.table) (look inner.table) d.names n ∙ saves n;
-    marks = λ k h.
+  names = λ n. left n ∙ put_back-alike saved (look c.table) (look inner.table) d.names n ∙ saves n;
+  marks = λ k h.
       ends ∙ d.marks (open_scope k) (λ n. entered n ∙ ap (λ x. or_outer (own n) x) (h n) ∙ sym (o.opens k n))
-      ∙ ap (λ l. l ++ map mark (f (open_scope k))) same
-  }
+      ∙ ap (λ l. l ++ map mark (f (open_scope k))) same;
+}
 
 defined : (f : Found) (h k : Static) (m : Meaning) → owner_of (defined_in f h k m) ≡ or_outer (definition_owner f) (owner_of m)
 defined absent h k m = refl

@@ -36,9 +36,9 @@ pub all-sites : (P : Mark → Type 0) (Q : Site → Type 0) (ss : List Site) (ms
 all-sites P Q ss ms o turn h =
     All-permutation Q o.order ss (IsPermutation-sym ss o.order o.permutes)
     (λ k d lt.
-      let long : length ms ≡ length o.order = ap length (sym o.marks) ∙ length-map o.order mark in
-      let same : get_or ms k (mark d) ≡ mark (get_or o.order k d) = ap (λ l. get_or l k (mark d)) (sym o.marks) ∙ get_or-map mark o.order k d (mark d) lt in
-      turn (get_or o.order k d) (subst P same (h k (mark d) (omega (arith, lt, long)))))
+    let long : length ms ≡ length o.order = ap length (sym o.marks) ∙ length-map o.order mark in
+    let same : get_or ms k (mark d) ≡ mark (get_or o.order k d) = ap (λ l. get_or l k (mark d)) (sym o.marks) ∙ get_or-map mark o.order k d (mark d) lt in
+    turn (get_or o.order k d) (subst P same (h k (mark d) (omega (arith, lt, long)))))
 
 itself-true : (x : ℕ) → nat_eq x x ≡ true
 itself-true x = nat_eq_equiv.refl x
@@ -109,7 +109,7 @@ least e ms f o rises h =
       stands = Contains-permutation o.order (all_sites e) s (IsPermutation-sym (all_sites e) o.order o.permutes) (h.index, lt, get_or_default o.order h.index s d lt);
       is = sym (mark-fault s) ∙ ap mark_fault (sym the_mark) ∙ h.is;
       least = All-permutation (λ t. IsSome (fault_of t) → site_at s ≤ site_at t) o.order (all_sites e) (IsPermutation-sym (all_sites e) o.order o.permutes)
-        (λ k g l some.
+          (λ k g l some.
           let l' : k < length ms = omega (arith, l, long) in
           elim (either_side k h.index) [
             | inl before ↦ absurd (none_some (fault_of (get_or o.order k g))
@@ -119,7 +119,7 @@ least e ms f o rises h =
                 let first : (get_or ms h.index (mark d)).at ≡ site_at s = ap (λ (m : Mark). m.at) (here (all_sites e) ms o h.index (mark d) d h.within) ∙ mark-at s in
                 let later : (get_or ms k (mark d)).at ≡ site_at (get_or o.order k g) = ap (λ (m : Mark). m.at) (here (all_sites e) ms o k (mark d) g l') ∙ mark-at (get_or o.order k g) in
                 omega (arith, rise, first, later)
-          ])
+          ]);
     }
 
 -- no fault of the marks is none of the sites
@@ -135,7 +135,7 @@ pub different : (e : PlainTree) (ms : List Mark) → IsWellMade e → Ordered (a
 different e ms w o at =
     let f : ℕ → ℕ = λ x. cond (nat_eq at x) 1 0 in
     let marks : sum_by (λ (m : Mark). f m.at) ms ≡ sum_by (λ s. f (site_at s)) (all_sites e) =
-      ap (λ l. sum_by (λ (m : Mark). f m.at) l) (sym o.marks) ∙ sum-marks f o.order ∙ sum_by-IsPermutation (λ s. f (site_at s)) (all_sites e) o.order o.permutes in
+    ap (λ l. sum_by (λ (m : Mark). f m.at) l) (sym o.marks) ∙ sum-marks f o.order ∙ sum_by-IsPermutation (λ s. f (site_at s)) (all_sites e) o.order o.permutes in
     omega (arith, marks, sites-weight f outermost e, at-most-one at (places e) w.placed)
 
 -- the marks of a well-made tree fit their types
@@ -171,23 +171,23 @@ pub resolved : (e : PlainTree) (ms : List Mark) (inputs : List (List ℕ)) (bind
     → All (λ m. mark_fault m ≡ None) ms → inputs ≡ fold with_mark [] ms → All (λ (m : Mark). bindings m.at ≡ mark_binding inputs m) ms
     → ((at : ℕ) → All (λ (m : Mark). m.at ≡ at → ⊥) ms → bindings at ≡ None) → IsResolved e inputs bindings
 resolved e ms inputs bindings o rises none names bound others = record {
-    no_fault = no-fault e ms o none;
-    inputs_are = record {
-      order = o.order;
-      permutes = o.permutes;
-      rises = λ i j d le lt.
+  no_fault = no-fault e ms o none;
+  inputs_are = record {
+    order = o.order;
+    permutes = o.permutes;
+    rises = λ i j d le lt.
         let long : length ms ≡ length o.order = ap length (sym o.marks) ∙ length-map o.order mark in
         let j' : j < length ms = omega (arith, lt, long) in
         let first : (get_or ms i (mark d)).at ≡ site_at (get_or o.order i d) = ap (λ (m : Mark). m.at) (here (all_sites e) ms o i (mark d) d (omega (arith, le, j'))) ∙ mark-at (get_or o.order i d) in
         let later : (get_or ms j (mark d)).at ≡ site_at (get_or o.order j d) = ap (λ (m : Mark). m.at) (here (all_sites e) ms o j (mark d) d j') ∙ mark-at (get_or o.order j d) in
         omega (arith, rises i j (mark d) le j', first, later);
-      names = names ∙ ap (λ l. fold with_mark [] l) (sym o.marks) ∙ marks-inputs o.order []
-    };
-    bindings_are = record {
-      bound = all-sites (λ (m : Mark). bindings m.at ≡ mark_binding inputs m) (λ s. bindings (site_at s) ≡ binding_for inputs s) (all_sites e) ms o (λ s is. ap bindings (sym (mark-at s)) ∙ is ∙ mark-binding inputs s) bound;
-      others = λ at h. others at (all-marks (λ (m : Mark). m.at ≡ at → ⊥) (λ s. site_at s ≡ at → ⊥) (all_sites e) ms o (λ s no same. no (sym (mark-at s) ∙ same)) h)
-    }
-  }
+    names = names ∙ ap (λ l. fold with_mark [] l) (sym o.marks) ∙ marks-inputs o.order [];
+  };
+  bindings_are = record {
+    bound = all-sites (λ (m : Mark). bindings m.at ≡ mark_binding inputs m) (λ s. bindings (site_at s) ≡ binding_for inputs s) (all_sites e) ms o (λ s is. ap bindings (sym (mark-at s)) ∙ is ∙ mark-binding inputs s) bound;
+    others = λ at h. others at (all-marks (λ (m : Mark). m.at ≡ at → ⊥) (λ s. site_at s ≡ at → ⊥) (all_sites e) ms o (λ s no same. no (sym (mark-at s) ∙ same)) h);
+  };
+}
 
 -- the marks of a descent from the root are those of all sites
 pub all_marked : (start end : Walk) (e : PlainTree) → ((n : List ℕ) → look start.table n ≡ None) → start.marks.items ≡ [] → Noted start end (λ k. sites k e) → end.marks.items ≡ map mark (all_sites e)
@@ -239,31 +239,31 @@ at-last k i h = elim (either_side k i) [ inl l ↦ inl l | inr g ↦ inr (omega 
 pub bind-more : (ms : List Mark) (inputs : List (List ℕ)) (i : ℕ) (m : Mark) (old new : ℕ → Option Binding) → i < length ms → m ≡ get_or ms i m → ArePlacesDifferent ms
     → ((q : ℕ) → new q ≡ cond (nat_eq m.at q) (mark_binding inputs m) (old q)) → Bound ms inputs i old → Bound ms inputs (i + 1) new
 bind-more ms inputs i m old new lt is differ updates b = record {
-    bound = λ k d h. elim (at-last k i h) [
-      | inl l ↦
-          updates (get_or ms k d).at
-          ∙ other-key m.at (get_or ms k d).at (mark_binding inputs m) (old (get_or ms k d).at)
-            (λ e. apart ms differ k i d m l lt (sym e ∙ ap (λ (x : Mark). x.at) is)) (nat_eq m.at (get_or ms k d).at) refl
-          ∙ b.bound k d l
-      | inr e ↦
-          let here : get_or ms k d ≡ m = ap (λ j. get_or ms j d) e ∙ get_or_default ms i d m lt ∙ sym is in
-          rw here (updates m.at ∙ same-key m.at (mark_binding inputs m) (old m.at))
-    ];
-    others = λ at no.
+  bound = λ k d h. elim (at-last k i h) [
+    | inl l ↦
+        updates (get_or ms k d).at
+        ∙ other-key m.at (get_or ms k d).at (mark_binding inputs m) (old (get_or ms k d).at)
+        (λ e. apart ms differ k i d m l lt (sym e ∙ ap (λ (x : Mark). x.at) is)) (nat_eq m.at (get_or ms k d).at) refl
+        ∙ b.bound k d l
+    | inr e ↦
+        let here : get_or ms k d ≡ m = ap (λ j. get_or ms j d) e ∙ get_or_default ms i d m lt ∙ sym is in
+        rw here (updates m.at ∙ same-key m.at (mark_binding inputs m) (old m.at))
+  ];
+  others = λ at no.
       updates at
       ∙ other-key m.at at (mark_binding inputs m) (old at) (λ e. no i m (omega arith) (ap (λ (x : Mark). x.at) (sym is) ∙ e)) (nat_eq m.at at) refl
-      ∙ b.others at (λ k d h. no k d (omega (arith, h)))
-  }
+      ∙ b.others at (λ k d h. no k d (omega (arith, h)));
+}
 
 -- a mark without a binding binds nothing
 pub bind-none : (ms : List Mark) (inputs : List (List ℕ)) (i : ℕ) (m : Mark) (old : ℕ → Option Binding) → i < length ms → m ≡ get_or ms i m → ArePlacesDifferent ms
     → mark_binding inputs m ≡ None → Bound ms inputs i old → Bound ms inputs (i + 1) old
 bind-none ms inputs i m old lt is differ none b = record {
-    bound = λ k d h. elim (at-last k i h) [
-      | inl l ↦ b.bound k d l
-      | inr e ↦
-          let here : get_or ms k d ≡ m = ap (λ j. get_or ms j d) e ∙ get_or_default ms i d m lt ∙ sym is in
-          rw here (b.others m.at (λ j g l same. apart ms differ j i g m l lt (same ∙ ap (λ (x : Mark). x.at) is)) ∙ sym none)
-    ];
-    others = λ at no. b.others at (λ k d h. no k d (omega (arith, h)))
-  }
+  bound = λ k d h. elim (at-last k i h) [
+    | inl l ↦ b.bound k d l
+    | inr e ↦
+        let here : get_or ms k d ≡ m = ap (λ j. get_or ms j d) e ∙ get_or_default ms i d m lt ∙ sym is in
+        rw here (b.others m.at (λ j g l same. apart ms differ j i g m l lt (same ∙ ap (λ (x : Mark). x.at) is)) ∙ sym none)
+  ];
+  others = λ at no. b.others at (λ k d h. no k d (omega (arith, h)));
+}

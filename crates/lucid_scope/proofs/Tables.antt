@@ -30,10 +30,10 @@ module _ {K X : Type 0} (bytes : K → List ℕ) (eq : K → K → Bool) (same :
   step e es k v n h false is =
       ap (λ o. cond (same_name n (bytes e.0)) (Some e.1) o) h
       ∙ cond-swap (same_name n (bytes e.0)) (same_name n (bytes k)) (Some e.1) (Some v) (found n es)
-        (λ p q.
-          let one : bytes k ≡ bytes e.0 = sym (same_one n (bytes k) q) ∙ same_one n (bytes e.0) p in
-          let yes : eq k e.0 ≡ true = same k e.0 ∙ ap (λ x. same_name (bytes k) x) (sym one) ∙ same_itself (bytes k) in
-          grind (arith, is, yes))
+      (λ p q.
+      let one : bytes k ≡ bytes e.0 = sym (same_one n (bytes k) q) ∙ same_one n (bytes e.0) p in
+      let yes : eq k e.0 ≡ true = same k e.0 ∙ ap (λ x. same_name (bytes k) x) (sym one) ∙ same_itself (bytes k) in
+      grind (arith, is, yes))
 
   pub lookup-insert : (es : List (K × X)) (k : K) (v : X) (n : List ℕ) → found n (insert_entry eq es k v) ≡ cond (same_name n (bytes k)) (Some v) (found n es)
   lookup-insert [] k v n = refl

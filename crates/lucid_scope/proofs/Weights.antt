@@ -31,13 +31,15 @@ module _ (f : ℕ → ℕ) where
     sites-weight k (call at x es) =
         omega (arith, sum_by-cons f at (places_in es), sum_by-cons (λ s. f (site_at s)) (called at x (count es) k) (sites_in k es), all-weight k es)
     sites-weight k (block at e ds) =
-        omega (arith,
+        omega (
+          arith,
           sum_by-cons f at (places e ++ places_in_defs ds),
           weight-append (outside_sites k ds) (sites (in_block ds k) e ++ inside_sites (in_block ds k) no_names ds),
           weight-append (sites (in_block ds k) e) (inside_sites (in_block ds k) no_names ds),
           sum_by-append f (places e) (places_in_defs ds),
           sites-weight (in_block ds k) e,
-          defs-weight k (in_block ds k) no_names ds)
+          defs-weight k (in_block ds k) no_names ds,
+        )
 
     all-weight : (k : Static) (es : PlainTrees) → weight (sites_in k es) ≤ sum_by f (places_in es)
     all-weight k no_trees = omega arith
@@ -47,18 +49,21 @@ module _ (f : ℕ → ℕ) where
     defs-weight : (o k : Static) (earlier : Earlier) (ds : PlainDefs) → weight (outside_sites o ds) + weight (inside_sites k earlier ds) ≤ sum_by f (places_in_defs ds)
     defs-weight o k earlier no_defs = omega arith
     defs-weight o k earlier (defines at x e ds) =
-        omega (arith,
+        omega (
+          arith,
           sum_by-cons f at (places e ++ places_in_defs ds),
           weight-append (again_if (earlier x) at) (sites k e ++ inside_sites k (also x earlier) ds),
           weight-append (sites k e) (inside_sites k (also x earlier) ds),
           again-weight (earlier x) at,
           sum_by-append f (places e) (places_in_defs ds),
           sites-weight k e,
-          defs-weight o k (also x earlier) ds)
+          defs-weight o k (also x earlier) ds,
+        )
     defs-weight o k earlier (defines_function at x ns ats e ds) =
         let inner : List Site = sites (in_function at ns ats k) e in
         let rest : List Site = inside_sites k (also x earlier) ds in
-        omega (arith,
+        omega (
+          arith,
           sum_by-cons f at (ats ++ places e ++ places_in_defs ds),
           weight-append (again_if (earlier x) at) ((repeats no_names ns ats ++ inner) ++ rest),
           weight-append (repeats no_names ns ats ++ inner) rest,
@@ -68,13 +73,16 @@ module _ (f : ℕ → ℕ) where
           sum_by-append f (ats ++ places e) (places_in_defs ds),
           sum_by-append f ats (places e),
           sites-weight (in_function at ns ats k) e,
-          defs-weight o k (also x earlier) ds)
+          defs-weight o k (also x earlier) ds,
+        )
     defs-weight o k earlier (defines_current at x e ds) =
-        omega (arith,
+        omega (
+          arith,
           sum_by-cons f at (places e ++ places_in_defs ds),
           weight-append (sites o e) (outside_sites o ds),
           weight-append (again_if (earlier x) at) (inside_sites k (also x earlier) ds),
           again-weight (earlier x) at,
           sum_by-append f (places e) (places_in_defs ds),
           sites-weight o e,
-          defs-weight o k (also x earlier) ds)
+          defs-weight o k (also x earlier) ds,
+        )

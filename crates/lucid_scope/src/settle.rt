@@ -110,7 +110,9 @@ pub(crate) fn inputs_of(alloc: Global, marks: &[Mark]) -> Result<Inputs, AllocEr
         match &mark.what {
             What::Named { name, owner: None } => add_input(alloc, &mut names, &mut set, name)?,
             What::Called {
-                name, owner: None, ..
+                name,
+                owner: None,
+                ..
             } => add_input(alloc, &mut names, &mut set, name)?,
             _ => {}
         }
@@ -126,7 +128,10 @@ fn owned(inputs: &Inputs, name: &Name, owner: Option<Owner>) -> Binding
 {
     match owner {
         None => {
-            let number = inputs.set.get_index_of(name.bytes()).unwrap_or(inputs.set.len());
+            let number = inputs
+                .set
+                .get_index_of(name.bytes())
+                .unwrap_or(inputs.set.len());
             let stream = number as u32;
             Binding::Input { stream }
         }

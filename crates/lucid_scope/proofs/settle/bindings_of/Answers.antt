@@ -17,11 +17,11 @@ loop-mark-preserved c =
     elim c.match-binding_of.branch [
       | in-Some+in_ok-insert-in-Some w ↦
           let b = bind-more ms inputs i m old new c.loop-mark-test.true c.mark-item.is c.requires.differ
-            (λ q.
-              ap (λ (h : HashMap ℕ Binding (BuildHasherDefault FoldHasher)). lookup (nat_eq q) h.entries) w.bindings-is
-              ∙ w.in_ok-insert-in-Some.ensures.updates.0 q
-              ∙ ap (λ o. cond (nat_eq m.at q) o (old q)) (sym w.in-Some.is ∙ c.binding_of.ensures))
-            before in
+          (λ q.
+          ap (λ (h : HashMap ℕ Binding (BuildHasherDefault FoldHasher)). lookup (nat_eq q) h.entries) w.bindings-is
+          ∙ w.in_ok-insert-in-Some.ensures.updates.0 q
+          ∙ ap (λ o. cond (nat_eq m.at q) o (old q)) (sym w.in-Some.is ∙ c.binding_of.ensures))
+          before in
           (b.bound, b.others)
       | in-None w ↦
           let same = ap (λ (h : HashMap ℕ Binding (BuildHasherDefault FoldHasher)). h.entries) w.bindings-is in

@@ -39,12 +39,12 @@ walk_inside-loop-def-preserved t c =
     let right : Static → List Site = λ k. right_sites k d.at d.kind in
     let rest : Static → List Site = λ k. inside_sites k (is_seen c.note_repeat.new.seen) (defs_of (drop (i + 1) xs)) in
     noting_more _ c.note_repeat.new.walk c.walk_right.new.walk right rest _
-      (noting_more _ c.loop-def.walk c.note_repeat.new.walk again (λ k. right k ++ rest k) _
-        (noting_as _ c.loop-def.walk _ (λ k. again k ++ (right k ++ rest k)) _
-          (λ k. inside-next xs i d k (is_seen c.loop-def.seen) (is_seen c.note_repeat.new.seen) c.loop-def-test.true c.def-item.is c.in_ok-note_repeat.ensures.seen)
-          c.loop-def.invariant)
-        c.in_ok-note_repeat.ensures.noted)
-      c.in_ok-walk_right.ensures
+    (noting_more _ c.loop-def.walk c.note_repeat.new.walk again (λ k. right k ++ rest k) _
+    (noting_as _ c.loop-def.walk _ (λ k. again k ++ (right k ++ rest k)) _
+    (λ k. inside-next xs i d k (is_seen c.loop-def.seen) (is_seen c.note_repeat.new.seen) c.loop-def-test.true c.def-item.is c.in_ok-note_repeat.ensures.seen)
+    c.loop-def.invariant)
+    c.in_ok-note_repeat.ensures.noted)
+    c.in_ok-walk_right.ensures
 
 pub walk_kind-returns-in_ok-note_call-in-Call : goal.walk_kind-returns-in_ok-note_call-in-Call
 walk_kind-returns-in_ok-note_call-in-Call t c =
@@ -52,10 +52,10 @@ walk_kind-returns-in_ok-note_call-in-Call t c =
     let same : count c.in-Call.args ≡ given = ap count (sym c.items.ensures) ∙ count-trees c.items.result.now in
     on_ok c.walk_trees.result
     (λ d.
-      noted_as c.args.walk.now c.walk_trees.new.walk (λ k. called c.args.at c.in-Call.name given k ∷ [] ++ sites_in k c.in-Call.args) (λ k. sites k (tree_of c.args.at c.args.kind.now))
-        (λ k. ap (λ n. called c.args.at c.in-Call.name n k ∷ sites_in k c.in-Call.args) (sym same) ∙ ap (λ x. sites k (tree_of c.args.at x)) (sym c.in-Call.is))
-        (noted_then c.args.walk.now c.note_call.new.walk c.walk_trees.new.walk (λ k. called c.args.at c.in-Call.name given k ∷ []) (λ k. sites_in k c.in-Call.args)
-          c.in_ok-note_call-in-Call.ensures d))
+    noted_as c.args.walk.now c.walk_trees.new.walk (λ k. called c.args.at c.in-Call.name given k ∷ [] ++ sites_in k c.in-Call.args) (λ k. sites k (tree_of c.args.at c.args.kind.now))
+    (λ k. ap (λ n. called c.args.at c.in-Call.name n k ∷ sites_in k c.in-Call.args) (sym same) ∙ ap (λ x. sites k (tree_of c.args.at x)) (sym c.in-Call.is))
+    (noted_then c.args.walk.now c.note_call.new.walk c.walk_trees.new.walk (λ k. called c.args.at c.in-Call.name given k ∷ []) (λ k. sites_in k c.in-Call.args)
+    c.in_ok-note_call-in-Call.ensures d))
     c.walk_trees.ensures
 
 pub walk_right-returns-in_ok-walk_tree-in-Function : goal.walk_right-returns-in_ok-walk_tree-in-Function
@@ -66,11 +66,11 @@ walk_right-returns-in_ok-walk_tree-in-Function t c =
     let right : Static → List Site = λ k. sites k c.in-Function.right in
     on_ok c.leave.result
     (λ left.
-      noted_as _ _ (λ k. repeats no_names ps ats ++ right (in_function at ps ats k)) _
-        (λ k. ap (λ x. right_sites k at x) (sym c.in-Function.is))
-        (noted_then _ c.note_repeats.new.walk _ (λ k. repeats no_names ps ats) (λ k. right (in_function at ps ats k))
-          c.in_ok-note_repeats-in-Function.ensures
-          (noted_scope (λ n. parameter_owner at (param n ps)) (in_function at ps ats) (function-opens at ps ats)
-            c.note_repeats.new.walk _ c.walk_tree-in-Function.new.walk _ c.in_ok-saved-in-Function.saved.items right
-            refl c.in_ok-saved-in-Function.ensures.enters c.in_ok-saved-in-Function.ensures.saves c.in_ok-walk_tree-in-Function.ensures refl left)))
+    noted_as _ _ (λ k. repeats no_names ps ats ++ right (in_function at ps ats k)) _
+    (λ k. ap (λ x. right_sites k at x) (sym c.in-Function.is))
+    (noted_then _ c.note_repeats.new.walk _ (λ k. repeats no_names ps ats) (λ k. right (in_function at ps ats k))
+    c.in_ok-note_repeats-in-Function.ensures
+    (noted_scope (λ n. parameter_owner at (param n ps)) (in_function at ps ats) (function-opens at ps ats)
+    c.note_repeats.new.walk _ c.walk_tree-in-Function.new.walk _ c.in_ok-saved-in-Function.saved.items right
+    refl c.in_ok-saved-in-Function.ensures.enters c.in_ok-saved-in-Function.ensures.saves c.in_ok-walk_tree-in-Function.ensures refl left)))
     c.leave.ensures

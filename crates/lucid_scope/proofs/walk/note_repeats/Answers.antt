@@ -16,7 +16,7 @@ returns c =
     noted_as _ _ _ _
     (λ k. ap (λ l. repeats no_names l c.items-places.result.now) c.items-names.ensures ∙ ap (λ l. repeats no_names c.args.names.now l) c.items-places.ensures)
     (noting_end _ _ _
-      (noting_as _ _ _ _ _
-        (λ k. repeats-end c.items-names.result.now c.items-places.result.now c.loop-i.i (is_seen c.loop-i.seen)
-          (elim c.loop-i-test.branch [ then-loop-i-test+else-i-places w ↦ inr (omega arith) | else-loop-i-test w ↦ inl (omega arith) ]))
-        c.loop-i.invariant))
+    (noting_as _ _ _ _ _
+    (λ k. repeats-end c.items-names.result.now c.items-places.result.now c.loop-i.i (is_seen c.loop-i.seen)
+    (elim c.loop-i-test.branch [ then-loop-i-test+else-i-places w ↦ inr (omega arith) | else-loop-i-test w ↦ inl (omega arith) ]))
+    c.loop-i.invariant))
