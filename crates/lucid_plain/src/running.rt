@@ -41,7 +41,13 @@ fn line_of(alloc: Global, value: &Value) -> Result<Vec<u8>, AllocError>
 }
 
 // What stands at a time.
-fn line_at(alloc: Global, streams: &[Stream], tree: &Tree, time: u64, limit: u32) -> Result<Line, AllocError>
+fn line_at(
+    alloc: Global,
+    streams: &[Stream],
+    tree: &Tree,
+    time: u64,
+    limit: u32,
+) -> Result<Line, AllocError>
     requires well_made { IsWellMade tree.now }
     requires time { time < 2 ^ 63 }
     ensures { IfOk result (IsLineAt (elements_of streams.now) limit tree.now time) }

@@ -32,7 +32,12 @@ fn stream_of<'a>(streams: &'a [Stream], name: &Name) -> Option<&'a Stream>
 }
 
 /// Element `index`, from 0, of the input with that name: `Eod` past its last one, and `None` where there is no such input.
-pub fn element(alloc: Global, streams: &[Stream], name: &Name, index: u64) -> Result<Option<Value>, AllocError>
+pub fn element(
+    alloc: Global,
+    streams: &[Stream],
+    name: &Name,
+    index: u64,
+) -> Result<Option<Value>, AllocError>
     ensures { IfOk result (λ value. option_map plain value ≡ elements_of streams.now name.now index) }
 {
     match stream_of(streams, name) {

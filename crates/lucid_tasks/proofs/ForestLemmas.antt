@@ -1,5 +1,5 @@
 -- What stays a forest.
-use Rattle.std.proofs.Common.{◌≡◌, ℕ, zero, suc, ◌<◌, ◌≤◌, ◌+◌, true, false, List, length, Option, Some, None, IsSome, ◌⊎◌, inl, inr, refl, ap, sym, subst, ◌∙◌, arith}
+use Rattle.std.proofs.Common.{◌≡◌, ℕ, zero, suc, ◌<◌, ◌≤◌, ◌+◌, true, false, List, length, Option, Some, None, IsSome, IfSome, ◌⊎◌, inl, inr, refl, ap, sym, subst, ◌∙◌, arith}
 use Rattle.std.specs.Prelude.{option_and_then}
 use Rattle.lucid_tasks.specs.declared.Part.{Part}
 use Rattle.lucid_tasks.specs.declared.TaskRow.{TaskRow}
@@ -101,6 +101,11 @@ ready_is_free rows part h = by_row (row_at rows part.slot) h
     by_row : (o : Option TaskRow) → is_ready o ≡ true → option_and_then (asked_for part.index) o ≡ None
     by_row None h = refl
     by_row (Some row) h = free_asked row.asked part.index h
+
+pub free_where_ready : (rows : List (Option TaskRow)) (o : Option ℕ) → IfSome o (λ slot. is_ready (row_at rows slot) ≡ true)
+    → IfSome o (λ slot. (index : ℕ) → child_of rows (record { slot = slot; index = index }) ≡ None)
+free_where_ready rows None h = h
+free_where_ready rows (Some slot) h = λ index. ready_is_free rows (record { slot = slot; index = index }) h
 
 pub ready_is_row : (o : Option TaskRow) → is_ready o ≡ true → IsSome o
 ready_is_row None h = absurd (true_is_false (sym h))

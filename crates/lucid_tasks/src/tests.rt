@@ -15,13 +15,21 @@ fn task_at(tag: Tag, time: u64) -> Task {
     }
 }
 
-// The newest ready row.
+// The slot of the newest ready row.
+fn newest_slot(tasks: &Tasks) -> Option<usize>
+    ensures ready { IfSome result (λ slot. IsTrue (is_ready (row_at tasks.now slot))) }
+    ensures row { IfSome result (λ slot. IsRow tasks.now slot) }
+{
+    tasks.ready().last().copied()
+}
+
+// The same, of which no part is asked.
 fn newest(tasks: &Tasks) -> Option<usize>
     ensures ready { IfSome result (λ slot. IsTrue (is_ready (row_at tasks.now slot))) }
     ensures row { IfSome result (λ slot. IsRow tasks.now slot) }
     ensures free { IfSome result (λ slot. (index : ℕ) → child_of tasks.now (record { slot = slot; index = index }) ≡ None) }
 {
-    tasks.ready().last().copied()
+    newest_slot(tasks)
 }
 
 // The number of a value.
