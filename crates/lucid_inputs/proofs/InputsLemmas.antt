@@ -1,11 +1,11 @@
 -- Inputs after one of their streams is read on.
-use Rattle.std.proofs.Common.{◌≡◌, ◌≢◌, ℕ, ◌<◌, ◌≤◌, ◌⊎◌, Bool, true, false, List, length, map, Option, None, Some, Ok, Err, MatchOption, IfSome, option_map, slice_set, inl, inr, refl, sym, ap, subst, ◌∙◌, arith}
+use Rattle.std.proofs.Common.{◌≡◌, ◌≢◌, ℕ, ◌<◌, ◌≤◌, ◌⊎◌, Bool, true, false, List, [], ◌∷◌, length, map, Option, None, Some, Ok, Err, MatchOption, IfSome, option_map, slice_set, inl, inr, refl, sym, ap, subst, ◌∙◌, arith}
 use Rattle.std.specs.Prelude.{IsTrue, Result, IfErr, IfOk, OnOk, IsSomeAnd, unwrap_or}
 use Rattle.std.specs.List.{slice_get}
 use Rattle.std.proofs.lemmas.List.{length-map, length-set}
 use Rattle.std.proofs.lemmas.Option.{slice_get-map, slice_get_within, same_Some}
 use Rattle.std.proofs.lemmas.Bool.{cases_eq}
-use Rattle.lucid_ports.specs.World.{Contents, World}
+use Rattle.lucid_ports.specs.World.{Contents, IsFresh, World}
 use Rattle.lucid_ports.proofs.SliceGet.{slice_get-set_same, slice_get-set_other}
 use Rattle.lucid_value.specs.Lines.{IsOverlong}
 use Rattle.lucid_inputs.specs.declared.fault.InputFault.{InputFault}
@@ -14,10 +14,11 @@ use Rattle.lucid_inputs.specs.declared.lines.Element.{Element}
 use Rattle.lucid_inputs.specs.declared.stream.InputStream.{InputStream}
 use Rattle.lucid_inputs.specs.declared.on_demand.Inputs.{Inputs}
 use Rattle.lucid_inputs.specs.Faults.{OnTooLarge}
-use Rattle.lucid_inputs.specs.Inputs.{IsAskable, ReadsStream, stream_at}
+use Rattle.lucid_inputs.specs.Inputs.{IsAskable, ReadsStream, stream_at, streams}
 use Rattle.lucid_inputs.specs.Reading.{IsTooLarge, IsWithin, ReadsOn}
 use Rattle.lucid_inputs.specs.Streams.{FitsPlace, Stream, all_bytes, fresh_stream}
 use Rattle.lucid_inputs.specs.View.{IsRead, IsReady, stream_of}
+use Rattle.lucid_inputs.proofs.StreamLemmas.{fresh_fits}
 
 -- the stream of a number, by the one that stands there
 pub at_is : (streams : List InputStream) (i : ℕ) (s : InputStream) → slice_get streams i ≡ Some s
@@ -117,3 +118,14 @@ askable_then old new number index w0 w1 a r = record {
   reached = omega (arith, a.reached, r.asked.place, r.asked.reached);
   fits = subst (λ p. FitsPlace (stream_at new number) (w1.place p)) (sym r.asked.place) r.asked.fits;
 }
+
+-- inputs of one stream, of which nothing is read, may be asked once its place is reached
+pub fresh_askable : (inputs : Inputs) (place : ℕ) (bytes : Option (List ℕ)) (w : World) → streams inputs ≡ fresh_stream place ∷ [] → place < w.reached
+    → IsFresh bytes (w.place place) → IsAskable inputs 0 w
+fresh_askable inputs place bytes w same reached fresh =
+    let here : stream_at inputs 0 ≡ fresh_stream place = ap (λ ss. unwrap_or (slice_get ss 0) (fresh_stream 0)) same in
+    record {
+      there = omega (arith, ap length same);
+      reached = subst (λ s. s.place < w.reached) (sym here) reached;
+      fits = subst (λ s. FitsPlace s (w.place s.place)) (sym here) (fresh_fits place bytes (w.place place) fresh);
+    }
