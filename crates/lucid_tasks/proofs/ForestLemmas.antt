@@ -61,7 +61,7 @@ module _ (old new : List (Option TaskRow)) where
             let at : parent.index ≡ p.index = ap (λ (part : Part). part.index) is in omega (arith, index, at)
         index_case q p h (inr ne) = f.index q p (sym (parents q ne) ∙ h)
 
-  -- a task goes, and its part is no longer asked
+  -- a task goes, and its part is then not asked
   module _ (slot : ℕ) (parent : Part) (was : parent_of old slot ≡ Some parent)
       (parent_new : parent_of new slot ≡ None) (parents : (q : ℕ) → (q ≡ slot → ⊥) → parent_of new q ≡ parent_of old q)
       (child_new : child_of new parent ≡ None) (children : (p : Part) → (p ≡ parent → ⊥) → child_of new p ≡ child_of old p) where

@@ -66,7 +66,7 @@ fresh task parent = record {
 abbrev pub asking : ℕ → ℕ → TaskRow → TaskRow
 asking index child row = record row { asked = slice_set row.asked index (Some child) }
 
--- the row that has the value of a part, and waits for it no longer
+-- the row that has the value of a part, and so does not wait for it
 abbrev pub settled : ℕ → Value → TaskRow → TaskRow
 settled index value row = record row { asked = slice_set row.asked index None; got = slice_set row.got index (Some value) }
 

@@ -1,7 +1,7 @@
 //! Waiting tasks in slots.
 //!
-//! A new row stands in the slot past all others, so the order of the slots is that of their making. A slot past all others
-//! that is empty is used again.
+//! A new row stands in the slot past all others, so the slots rise in the order in which the rows were made. Rows stay where
+//! they are; an empty slot is used again once it is past all rows.
 
 ghost use Rattle.std.specs.Prelude.{◌≡◌, ℕ, ◌<◌, ◌++◌, ◌∷◌, [], Some, None, IfOk, OnOk, OnErr, IsSome, IsTrue, ◌↔◌, length, true, All};
 ghost use Rattle.lucid_tasks.specs.Rows.{row_at, child_of, parent_of, is_ready, fresh, forgot, with_cursor, returned, IsRow, IsReady, IsForest, SetsOnly, ChangesOnly, Asks, Settles};
@@ -14,8 +14,8 @@ use lucid_value::Value;
 use std::alloc::{AllocError, Global};
 use std::marker::Model;
 
-/// Waiting tasks, seen as a finite map from slots to rows. A parent is a row that has asked for the part, and of the order
-/// of their making the slots tell: a later one is greater.
+/// Waiting tasks, seen as a finite map from slots to rows. The parent of a row is a row too, which has asked it for the part.
+/// Slots rise in the order in which the rows were made.
 #[derive(Drop)]
 pub struct Tasks {
     rows: Vec<Option<TaskRow>>,

@@ -1,6 +1,0 @@
-pub mod LineLemmas
-pub mod StreamLemmas
-pub mod StepLemmas
-pub mod OverlongLemmas
-pub mod TakeLemmas
-pub mod InputsLemmas
