@@ -6,7 +6,7 @@ use Rattle.lucid_ops.specs.declared.op.Side.{Side}
 use Rattle.lucid_ops.specs.declared.op.OpRow.{OpRow}
 
 -- A row: an operator, the bytes that stand for it in a source, how it stands to its arguments, how tightly it binds
--- (from 0, the loosest, to 12), to which side a row of equal operators groups, and the number of its arguments.
+-- (from 0, the loosest, to 12), to which side operators of one level group, and the number of its arguments.
 pub record Row : Type 0 where
   pub op : Op
   pub spelling : List ℕ

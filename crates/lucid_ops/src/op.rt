@@ -2,7 +2,7 @@
 
 use crate::table::TableRow;
 
-/// A data operator: its result is decided by the values of its arguments at one time and place.
+/// A data operator: its result is decided by the values of its arguments at one point, a time and a space.
 #[derive(Clone, Copy, Debug, PartialEq, Eq, Drop)]
 pub enum Op {
     /// The sum of two integers, `+`.
@@ -113,7 +113,8 @@ pub enum Side {
     Left,
     /// The one on the right binds first.
     Right,
-    /// No two stand in a row.
+    /// Two of them that stand between their arguments have no grouping without parentheses. Operators in front of one argument
+    /// are of this kind too; they may follow one another.
     Single,
 }
 

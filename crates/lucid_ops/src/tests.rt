@@ -64,6 +64,23 @@ fn each_holds<R: Abort + AllocGlobal>(rt: &R, rows: &[Row]) -> Result<(), Fail> 
     Ok(())
 }
 
+// Operators at their edges.
+static EDGES: [Row; 8] = [
+    (Op::Div, &[Int(-7), Int(2)], "-3"),
+    (Op::Mod, &[Int(-7), Int(2)], "-1"),
+    (Op::Pow, &[Int(2), Int(63)], "9223372036854775808"),
+    (Op::Div, &[Int(i128::MIN), Int(-1)], "error"),
+    (Op::Mod, &[Int(i128::MIN), Int(-1)], "0"),
+    (Op::Pow, &[Int(0), Int(0)], "1"),
+    (Op::Eq, &[Int(1), Truth(true)], "false"),
+    (Op::Lt, &[Truth(true), Truth(false)], "error"),
+];
+
+#[test]
+fn operators_at_their_edges(rt: HostRuntime) -> Result<(), Fail> {
+    each_holds(&rt, &EDGES)
+}
+
 // Sums, differences, products, quotients and remainders.
 static ARITHMETIC: [Row; 22] = [
     (Op::Add, &[Int(1), Int(2)], "3"),

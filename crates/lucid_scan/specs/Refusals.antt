@@ -11,7 +11,8 @@ use Rattle.lucid_scan.specs.Tokens.{Stuck}
 abbrev pub opens_text : List ℕ → Bool
 opens_text bytes = starts_with nat_eq bytes (codes "`") || starts_with nat_eq bytes (codes "[%")
 
--- The refusal where these bytes stand at the place and begin with no token: a number that is too big, a text with no end, or else a bad byte.
+-- The refusal at a place where the rest of the source begins with no token: it has a number that is too big where it begins with
+-- a digit, a string or list that does not end where it opens one, and else a byte that no token begins with.
 abbrev pub refusal_of : List ℕ → ℕ → ScanRefusal
 refusal_of rest at =
     if first_passes is_ascii_digit rest then refusal.BigNumber at

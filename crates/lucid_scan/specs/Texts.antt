@@ -35,9 +35,9 @@ is_word_value bytes = is_word bytes && is_light bytes
 abbrev pub is_text_value : List ℕ → Bool
 is_text_value bytes = is_text bytes && is_light bytes
 
--- The text is a token of this kind where the bytes `after` follow it. A name, a mark and a reserved word are as they say. An
--- integer is all the digits there are, with a value below 2^127. A quoted word stands between two `"` (34), a string between
--- "`" (96) and "'" (39). A list is what reads as one.
+-- The text is a token of this kind where the bytes `after` follow it. A name is one by `is_name`, and a fixed token is one of the
+-- marks and reserved words. An integer is all the digits there are, with a value below 2^127. A quoted word stands between two `"`
+-- (34), a string between "`" (96) and "'" (39). A list is what reads as one.
 abbrev pub IsTokenText : TokenKind → List ℕ → List ℕ → Type 0
 IsTokenText kind.Name text after = is_name text ≡ true
 IsTokenText kind.Int text after = (is_number text ≡ true) × (first_passes is_ascii_digit after ≡ false) × (number_of text < 2 ^ 127)

@@ -6,7 +6,7 @@ use Rattle.std.specs.Cmp.Derive.{both_true}
 use Rattle.std.proofs.lemmas.Bool.{and_parts, leb-true, leb-false, le-leb, eqb-true}
 use Rattle.std.proofs.lemmas.List.{reverse-append, reverse-reverse}
 use Rattle.lucid_value.specs.Plain.{PlainValue, list, fault, weight, nesting, within_limits}
-use Rattle.lucid_value.specs.Texts.{item_or_fault}
+use Rattle.lucid_value.specs.Texts.{value_or_fault}
 use Rattle.lucid_value.specs.Reading.{Denotes, denotes_list, Reads, ReadsLine}
 use Rattle.lucid_value.specs.Lines.{lines_of, without_end, IsLineValue, line_value, line_unread, line_long, IsElementOf}
 use Rattle.lucid_value.specs.Laws.{ElementIs, OneElement}
@@ -117,7 +117,7 @@ line_is : (line : List ℕ) → IsLineValue line (line_value_of line)
 unfolding line_value_of
 line_is line = at (nat_le (length line) 4194304) (value_read (trimmed line)) refl refl
   where
-    at : (m : Bool) (o : Option PlainValue) → nat_le (length line) 4194304 ≡ m → value_read (trimmed line) ≡ o → IsLineValue line (if m then item_or_fault o else fault)
+    at : (m : Bool) (o : Option PlainValue) → nat_le (length line) 4194304 ≡ m → value_read (trimmed line) ≡ o → IsLineValue line (if m then value_or_fault o else fault)
     at true (Some v) e f = line_value (leb-true _ _ e) (line_sound line v f)
     at true None e f = line_unread (leb-true _ _ e) (λ v r. cc (line_complete line v r))
     at false o e f = line_long (leb-false _ _ e)
@@ -127,12 +127,12 @@ unfolding line_value_of
 one_line_value line v (line_value le r) = let e = le-leb _ _ le in let f = line_complete line v r in rw (e, f) refl
 one_line_value line v (line_unread le n) = let e = le-leb _ _ le in at (value_read (trimmed line)) refl e
   where
-    at : (o : Option PlainValue) → value_read (trimmed line) ≡ o → nat_le (length line) 4194304 ≡ true → fault ≡ (if nat_le (length line) 4194304 then item_or_fault o else fault)
+    at : (o : Option PlainValue) → value_read (trimmed line) ≡ o → nat_le (length line) 4194304 ≡ true → fault ≡ (if nat_le (length line) 4194304 then value_or_fault o else fault)
     at (Some w) f e = absurd (n w (line_sound line w f))
     at None f e = rw e refl
 one_line_value line v (line_long lt) = at (nat_le (length line) 4194304) refl
   where
-    at : (m : Bool) → nat_le (length line) 4194304 ≡ m → fault ≡ (if m then item_or_fault (value_read (trimmed line)) else fault)
+    at : (m : Bool) → nat_le (length line) 4194304 ≡ m → fault ≡ (if m then value_or_fault (value_read (trimmed line)) else fault)
     at true e = absurd (omega (arith, leb-true _ _ e))
     at false e = refl
 

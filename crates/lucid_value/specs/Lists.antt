@@ -1,4 +1,5 @@
--- What the list operations give: the plain list, or `error` past a limit. This language's own rules.
+-- What the list operations give: the plain list, or `error` where its weight would be over 65,536 or its nesting over 64. Lists and
+-- these limits are this language's own rules.
 use Rattle.std.specs.Prelude.{◌+◌, ◌≤◌, nat_le, ◌&&◌, Bool, if◌then◌else◌, List, [], ◌∷◌}
 use Rattle.lucid_value.specs.Plain.{PlainValue, list, fault, Items, no_items, item, weights, nestings}
 

@@ -16,13 +16,13 @@ cut_of bs (pos i) (negsuc j) = fault
 cut_of bs (negsuc i) j = fault
 
 -- the value, or `error` where there is none
-abbrev pub item_or_fault : Option PlainValue → PlainValue
-item_or_fault None = fault
-item_or_fault (Some v) = v
+abbrev pub value_or_fault : Option PlainValue → PlainValue
+value_or_fault None = fault
+value_or_fault (Some v) = v
 
 -- Item i, from 0, or `error` where no item stands there.
 abbrev pub pick_of : Items → ℤ → PlainValue
-pick_of vs (pos i) = item_or_fault (slice_get (listed vs) i)
+pick_of vs (pos i) = value_or_fault (slice_get (listed vs) i)
 pick_of vs (negsuc i) = fault
 
 -- The order of two integers by size, of two words and of two strings by bytes, a proper prefix first; else none.

@@ -34,7 +34,7 @@ abbrev pub kept_nesting : Link → ℕ
 kept_nesting End = 1
 kept_nesting (More c) = c.value.nesting
 
--- how many values stand in it, at all levels
+-- a measure that falls from a list to each of its items: the number of lists and of places for items in a value
 abbrev mutual
   pub size_value : PlainValue → ℕ
   size_value (int n) = 0

@@ -1,4 +1,4 @@
-//! Lists made of lists.
+//! The operations on lists: an item put in front, two lists joined, the first item, the rest.
 ghost use Rattle.std.specs.Prelude.{◌≡◌, ◌+◌, ◌≤◌, ◌<◌, IfOk, IsTrue, ◌↔◌, slice_get, map};
 ghost use Rattle.std.specs.Option.{option_map};
 ghost use Rattle.lucid_value.specs.Plain.{fault, no_items, listed, weight, weights, nesting, well_formed, may_be_held};

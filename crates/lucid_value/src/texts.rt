@@ -1,8 +1,8 @@
-//! Strings made of strings, and the order of values.
+//! Strings joined and cut, an item of a list by its index, and the order of values.
 ghost use Rattle.std.specs.Prelude.{◌≡◌, ◌++◌, ◌<◌, IfOk, IsTrue, ◌↔◌, ◌+◌, length, slice_get};
 ghost use Rattle.lucid_value.specs.Plain.{fault, is_text, listed};
 ghost use Rattle.lucid_value.specs.View.{plain};
-ghost use Rattle.lucid_value.specs.Texts.{limited_text, cut_of, item_or_fault, pick_of, order_of};
+ghost use Rattle.lucid_value.specs.Texts.{limited_text, cut_of, value_or_fault, pick_of, order_of};
 
 use crate::{List, MAX_WEIGHT, Text, Value};
 use std::alloc::{AllocError, Global};
