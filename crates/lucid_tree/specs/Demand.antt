@@ -2,15 +2,16 @@
 -- One walk, and three readings of it.
 use Rattle.std.specs.Prelude.{ℕ, zero, suc, ◌+◌, List, [], ◌∷◌, ◌++◌, Option, Some, None}
 use Rattle.std.specs.List.{filter_map}
+use Rattle.lucid_value.specs.Plain.{PlainValue}
 use Rattle.lucid_tree.specs.Tree.{PlainTree, form, name, call, block, PlainTrees, no_trees, tree}
 use Rattle.lucid_tree.specs.Rows.{plan, trace}
-use Rattle.lucid_tree.specs.Levels.{element_of, goes_to, nowhere, Elements, Given, nothing_held, below, Event, entered, deeper, look_up_of, reference_of, entered_of}
+use Rattle.lucid_tree.specs.Levels.{element_of, goes_to, nowhere, Elements, Given, nothing_held, below, Event, entered, deeper, look_up_of, reference_of, entered_of, valued_of}
 use Rattle.lucid_tree.specs.Env.{Env, scope, frozen_at, Referent, Position, Aim, name_target, call_target}
-use Rattle.lucid_tree.specs.Meaning.{value, part_at}
+use Rattle.lucid_tree.specs.Meaning.{value, part_at, val}
 
 -- what a walk of trees meets, in order
 abbrev pub Events : Type 0
-Events = List (Event Referent Env)
+Events = List (Event Referent Position Env)
 
 -- the environment that a call makes
 abbrev pub entry_of : Aim → Events
@@ -56,6 +57,10 @@ consults b m d e env t s = filter_map look_up_of (seen b m d e env t s)
 -- What the references of names that aren't free refer to, each at its space.
 abbrev pub refers : Elements → (m d : ℕ) → PlainTree → Env → (time space : ℕ) → List (Referent × ℕ)
 refers b m d e env t s = filter_map reference_of (seen b m d e env t s)
+
+-- What the references of the m-th approximation itself refer to, each at its space and with its value at m.
+abbrev pub refers_with_values : Elements → ℕ → PlainTree → Env → (time space : ℕ) → List (Referent × ℕ × PlainValue)
+refers_with_values b m e env t s = filter_map (valued_of (λ x u r. val b m x.tree x.env u r)) (seen b m 0 e env t s)
 
 -- The environments that calls and blocks with a current definition make.
 abbrev pub enters : Elements → (m d : ℕ) → PlainTree → Env → (time space : ℕ) → List Env

@@ -5,7 +5,7 @@ use Rattle.lucid_tree.specs.Tree.{name, no_trees, tree}
 use Rattle.lucid_tree.specs.Levels.{Elements, Given}
 use Rattle.lucid_tree.specs.Env.{Env, empty, scope, args, same_name, Referent}
 use Rattle.lucid_tree.specs.Meaning.{val, hval}
-use Rattle.lucid_tree.specs.Demand.{consults, refers, enters}
+use Rattle.lucid_tree.specs.Demand.{consults, refers, refers_with_values, enters}
 use Rattle.lucid_tree.specs.SamplePrograms.{number, counting, first_of_a, a_whenever_b, a_upon_b, counting_definitions, frozen_definitions, frozen_line, same_definitions, calling_same}
 use Rattle.lucid_tree.specs.Samples.{no_inputs}
 
@@ -32,11 +32,12 @@ counting_scope = scope counting_definitions None empty
 abbrev counted_at : ℕ → Referent
 counted_at t = record { at = 8; env = counting_scope; time = t }
 
--- Each reference of x has the place of its definition; at the limit 2 the third is not reached.
+-- Each reference of x has the place of its definition and the value of x at its time; at the limit 2 the third is not reached.
 abbrev pub ReferredNames : Type 0
 ReferredNames =
     (refers no_inputs 3 0 counting empty 2 0 ≡ (counted_at 2, 0) ∷ (counted_at 1, 0) ∷ (counted_at 0, 0) ∷ [])
     × (refers no_inputs 2 0 counting empty 2 0 ≡ (counted_at 2, 0) ∷ (counted_at 1, 0) ∷ [])
+    × (refers_with_values no_inputs 3 counting empty 2 0 ≡ (counted_at 2, 0, number 2) ∷ (counted_at 1, 0, number 1) ∷ (counted_at 0, 0, number 0) ∷ [])
     × (refers late_truths 2 0 frozen_line empty 3 0 ≡ (record { at = 8; env = scope frozen_definitions (Some 3) empty; time = 0 }, 0) ∷ [])
 
 -- the entry that the call of f makes

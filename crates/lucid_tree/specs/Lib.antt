@@ -7,11 +7,11 @@ pub mod DefsView
 pub mod DefsFall
 pub mod View
 pub mod Rows
+pub mod Members
 pub mod Levels
 pub mod Env
 pub mod Meaning
 pub mod Demand
-pub mod Members
 pub mod WellMade
 pub mod Output
 pub mod Find

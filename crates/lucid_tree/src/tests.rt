@@ -97,6 +97,119 @@ fn copies_are_equal(rt: HostRuntime) -> Result<(), Fail> {
     Ok(())
 }
 
+fn one_box(alloc: Global) -> Result<Box<Tree>, AllocError> {
+    Ok(Box::new(alloc, integer(0, 1))?)
+}
+
+// A form of one part, by a number of its own.
+fn of_one_part(number: u32, x: Box<Tree>) -> Kind {
+    match number {
+        0 => Kind::First(x),
+        1 => Kind::Next(x),
+        2 => Kind::Initial(x),
+        _ => Kind::Succ(x),
+    }
+}
+
+// A form of two parts, by a number of its own.
+fn of_two_parts(number: u32, x: Box<Tree>, y: Box<Tree>) -> Kind {
+    match number {
+        0 => Kind::And(x, y),
+        1 => Kind::Or(x, y),
+        2 => Kind::Fby(x, y),
+        3 => Kind::Whenever(x, y),
+        4 => Kind::Asa(x, y),
+        5 => Kind::Upon(x, y),
+        6 => Kind::Attime(x, y),
+        7 => Kind::Sby(x, y),
+        _ => Kind::Atspace(x, y),
+    }
+}
+
+#[test]
+fn forms_of_one_part_are_copied(rt: HostRuntime) -> Result<(), Fail> {
+    for at in 0..4 {
+        let kind = of_one_part(at, one_box(rt.alloc())?);
+        let copied = Tree { at, kind }.copy(rt.alloc())?;
+        assert_eq!(rt; copied.at, at);
+    }
+    Ok(())
+}
+
+#[test]
+fn forms_of_two_parts_are_copied(rt: HostRuntime) -> Result<(), Fail> {
+    for at in 0..9 {
+        let x = one_box(rt.alloc())?;
+        let kind = of_two_parts(at, x, one_box(rt.alloc())?);
+        let copied = Tree { at, kind }.copy(rt.alloc())?;
+        assert_eq!(rt; copied.at, at);
+    }
+    Ok(())
+}
+
+#[test]
+fn choices_are_copied(rt: HostRuntime) -> Result<(), Fail> {
+    let test = one_box(rt.alloc())?;
+    let yes = one_box(rt.alloc())?;
+    let no = one_box(rt.alloc())?;
+    let kind = Kind::If { test, yes, no };
+    let copied = Tree { at: 7, kind }.copy(rt.alloc())?;
+    assert_eq!(rt; copied.at, 7);
+    Ok(())
+}
+
+#[test]
+fn calls_are_copied(rt: HostRuntime) -> Result<(), Fail> {
+    let name = Name::make(rt.alloc(), b"f")?;
+    let args = two(rt.alloc(), integer(2, 1), integer(5, 2))?;
+    let kind = Kind::Call { name, args };
+    let copied = Tree { at: 0, kind }.copy(rt.alloc())?;
+    let Kind::Call { args, .. } = &copied.kind else {
+        return Err(Fail::new("a call"));
+    };
+    assert_eq!(rt; args.items().len(), 2);
+    Ok(())
+}
+
+// A block with this one definition.
+fn block_of(alloc: Global, kind: DefKind) -> Result<Tree, MakeRefusal> {
+    let name = Name::make(alloc, b"f")?;
+    let mut items = Vec::new(alloc);
+    items
+        .push(Def { at: 9, name, kind })
+        .map_err(AllocError::from)?;
+    let block = Block {
+        subject: integer(0, 1),
+        defs: Defs::from_vec(items),
+    };
+    Ok(Tree {
+        at: 2,
+        kind: Kind::Scope(Box::new(alloc, block).map_err(AllocError::from)?),
+    })
+}
+
+#[test]
+fn functions_are_copied(rt: HostRuntime) -> Result<(), Fail> {
+    let mut parameters = Vec::new(rt.alloc());
+    parameters.push(Name::make(rt.alloc(), b"x")?)?;
+    let kind = DefKind::Function {
+        parameters: Names::from_vec(parameters),
+        places: Places32::from_vec(Vec::from_array(rt.alloc(), [11])?),
+        right: integer(14, 1),
+    };
+    let copied = block_of(rt.alloc(), kind)?.copy(rt.alloc())?;
+    assert_eq!(rt; copied.at, 2);
+    Ok(())
+}
+
+#[test]
+fn current_definitions_are_copied(rt: HostRuntime) -> Result<(), Fail> {
+    let right = integer(14, 1);
+    let copied = block_of(rt.alloc(), DefKind::Current { right })?.copy(rt.alloc())?;
+    assert_eq!(rt; copied.at, 2);
+    Ok(())
+}
+
 #[test]
 fn depth_of_a_tree(rt: HostRuntime) -> Result<(), Fail> {
     assert_eq!(rt; integer(0, 1).depth(), 1);
