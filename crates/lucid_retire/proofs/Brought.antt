@@ -13,7 +13,7 @@ use Rattle.lucid_store.specs.declared.warehouse.Entry.{Entry}
 use Rattle.lucid_store.specs.Stored.{Stored}
 use Rattle.lucid_store.specs.Keys.{same_key}
 use Rattle.lucid_store.specs.Entries.{entry_at, count_of, IsOneForEach}
-use Rattle.lucid_store.proofs.KeyLemmas.{same_key_equiv, key_from_same}
+use Rattle.lucid_store.specs.EqualityDecides.{same_key_is_equality, same_key_equiv}
 use Rattle.lucid_retire.specs.Recency.{Recency, is_listed, is_the, to_front, brought, pushed_out, last_of, AreHeld, AreRecent, DropsKey}
 use Rattle.lucid_retire.proofs.Lists.{apart_item, listed-front, length-remove-le, IsDistinct-front}
 
@@ -81,7 +81,7 @@ module _ (r : Recency) (few : AreRecent r) (old : Stored) where
         or_false false = refl
 
         by : (t : Bool) → same_key k q ≡ t → (e : Option Entry) → is_some e ≡ (is_listed r.keys q || same_key k q) → is_some (cond t None e) ≡ is_listed r.keys q
-        by true same e h = sym (subst (λ x. is_listed r.keys x ≡ false) (key_from_same k q same) unlisted)
+        by true same e h = sym (subst (λ x. is_listed r.keys x ≡ false) ((same_key_is_equality k q).0 same) unlisted)
         by false other e h = h ∙ ap (λ b. is_listed r.keys q || b) other ∙ or_false (is_listed r.keys q)
 
     -- how many are held tells what falls out

@@ -12,7 +12,7 @@ use Rattle.lucid_store.specs.declared.warehouse.Entry.{Entry}
 use Rattle.lucid_store.specs.Stored.{Stored}
 use Rattle.lucid_store.specs.Keys.{same_key}
 use Rattle.lucid_store.specs.Entries.{entry_at, age_at, count_of, older, aged, is_young, swept, IsSwept, IsOneForEach}
-use Rattle.lucid_store.proofs.KeyLemmas.{same_key_equiv, same_itself, key_from_same}
+use Rattle.lucid_store.specs.EqualityDecides.{same_key_is_equality, same_key_equiv}
 use Rattle.lucid_retire.specs.Aging.{Aging, most_of, is_sweeping, after_turn, IsAccounted, IsPaced, TouchesOne, IsSparingTurn}
 
 or_true : (b : Bool) → (b || true) ≡ true
@@ -74,10 +74,10 @@ module _ (a : Aging) (touches : ℕ → List Key) where
       here : (entry_at new key ≡ None) ⊎ ((entry_at new key ≡ entry_at old key) ⊎ (age_at new key ≡ Some 0)) → IsAccounted a (with_touch key touches) key (age_at new key)
       here (inl none) = stays key (inl none)
       here (inr (inl same)) = stays key (inr same)
-      here (inr (inr young)) = subst (IsAccounted a (with_touch key touches) key) (sym young) (omega arith, ap (λ b. b || is_member same_key (touches 0) key) (same_itself key))
+      here (inr (inr young)) = subst (IsAccounted a (with_touch key touches) key) (sym young) (omega arith, ap (λ b. b || is_member same_key (touches 0) key) (same_key_equiv.refl key))
 
       by : (t : Bool) → same_key key q ≡ t → IsAccounted a (with_touch key touches) q (age_at new q)
-      by true same = subst (λ j. IsAccounted a (with_touch key touches) j (age_at new j)) (key_from_same key q same) (here one.touched)
+      by true same = subst (λ j. IsAccounted a (with_touch key touches) j (age_at new j)) ((same_key_is_equality key q).0 same) (here one.touched)
       by false other = stays q (one.others q other)
 
   -- ---- a sweep

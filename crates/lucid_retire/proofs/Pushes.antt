@@ -12,7 +12,7 @@ use Rattle.lru.specs.LruCache.{lru_cache, put_entries, displaced}
 use Rattle.lru.proofs.CallerLemmas.{Contains-lookup_entry}
 use Rattle.lucid_store.specs.declared.Key.{Key}
 use Rattle.lucid_store.specs.Keys.{same_key}
-use Rattle.lucid_store.proofs.KeyLemmas.{same_key_equiv, key_from_same, same_itself}
+use Rattle.lucid_store.specs.EqualityDecides.{same_key_is_equality, same_key_equiv}
 use Rattle.lucid_retire.specs.Recency.{is_listed, to_front, brought, pushed_out, fallen_of}
 use Rattle.lucid_retire.proofs.Lists.{remove-unlisted, apart_from_unlisted, apart_item}
 
@@ -66,7 +66,7 @@ module _ (es : List (Key × Unit {0})) (room : ℕ) (key : Key) (few : length es
       ap (λ ks. key ∷ ks) (sym (take-map (λ e. e.0) (room - 1) es)) ∙ take_front room key keys some
       ∙ ap (λ ks. take room (key ∷ ks)) (sym (remove-unlisted same_key_equiv key keys (unlisted h)))
   front_by (Some e) h =
-      ap (λ k. k ∷ keys_of (remove_entry (same_key key) es)) (sym (key_from_same key e.0 (Contains-lookup_entry (same_key key) es e h).1))
+      ap (λ k. k ∷ keys_of (remove_entry (same_key key) es)) (sym ((same_key_is_equality key e.0).0 (Contains-lookup_entry (same_key key) es e h).1))
       ∙ ap (λ ks. key ∷ ks) (keys_of-remove_entry (same_key key) es) ∙ sym (take_all room (to_front key keys) (short e h))
 
   -- the keys after a push
@@ -85,7 +85,7 @@ module _ (es : List (Key × Unit {0})) (room : ℕ) (key : Key) (few : length es
   out_by None h =
       fallen_new h (slice_get es (room - 1)) refl ∙ get_front room key keys some
       ∙ ap (λ ks. slice_get (key ∷ ks) room) (sym (remove-unlisted same_key_equiv key keys (unlisted h)))
-  out_by (Some e) h = ap (λ t. cond {A = Option Key} t None (Some key)) (same_itself key) ∙ sym (slice_get_past (to_front key keys) room (short e h))
+  out_by (Some e) h = ap (λ t. cond {A = Option Key} t None (Some key)) (same_key_equiv.refl key) ∙ sym (slice_get_past (to_front key keys) room (short e h))
 
   -- the key that falls out
   pub fallen-displaced : fallen_of key (displaced same_key (lru_cache es room) key tt) ≡ pushed_out room key keys

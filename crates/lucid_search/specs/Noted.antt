@@ -4,12 +4,8 @@ use Rattle.std.specs.Ordering.{nat_cmp}
 use Rattle.std.specs.BTreeMap.{BTreeMap, is_at}
 use Rattle.std.specs.Map.{lookup}
 use Rattle.lucid_tags.specs.declared.Tag.{Tag}
-use Rattle.lucid_tags.specs.Known.{number_of, space_of}
+use Rattle.lucid_tags.specs.Known.{same_tag}
 use Rattle.lucid_search.specs.declared.Site.{Site}
-
--- two tags are the same: the same context, by its number, and the same space
-abbrev pub same_tag : Tag → Tag → Bool
-same_tag a b = (number_of a == number_of b) && (space_of a == space_of b)
 
 -- two sites are the same: the same node and tag
 abbrev pub same_site : Site → Site → Bool

@@ -1,5 +1,4 @@
 -- The code of a map of positions, from that of its sites.
-use Rattle.std.specs.Prelude.{ℕ}
 use Rattle.std.specs.Coded.{Coded, coded×, coded_ℕ, coded_list}
 use Rattle.lucid_search.specs.contracts.Site as site
 use Rattle.lucid_search.specs.Noted.{Noted}

@@ -1,5 +1,5 @@
 -- What a caller's proof cites of the words in `specs/Entries.antt`.
-use Rattle.std.proofs.Common.{◌≡◌, ◌≢◌, ◌⊎◌, inl, inr, Bool, true, false, cond, Option, Some, None, refl, ap, sym, ◌∙◌, subst}
+use Rattle.std.proofs.Common.{◌≡◌, ◌≢◌, ◌⊎◌, inl, inr, Bool, true, false, cond, Option, Some, None, refl, ap, sym, ◌∙◌}
 use Rattle.std.specs.Prelude.{option_map}
 use Rattle.lucid_value.specs.View.{plain}
 use Rattle.lucid_store.specs.declared.Key.{Key}
@@ -7,13 +7,13 @@ use Rattle.lucid_store.specs.declared.warehouse.Entry.{Entry}
 use Rattle.lucid_store.specs.Stored.{Stored}
 use Rattle.lucid_store.specs.Keys.{same_key}
 use Rattle.lucid_store.specs.Entries.{entry_at, value_at, held, renewed, SetsOnly, IsTouched}
-use Rattle.lucid_store.proofs.KeyLemmas.{key_from_same, same_itself}
+use Rattle.lucid_store.specs.EqualityDecides.{same_key_is_equality, same_key_equiv}
 
 pub other_key : (a b : Key) → b ≢ a → same_key a b ≡ false
 other_key a b apart = by (same_key a b) refl
   where
     by : (t : Bool) → same_key a b ≡ t → t ≡ false
-    by true h = absurd (apart (sym (key_from_same a b h)))
+    by true h = absurd (apart (sym ((same_key_is_equality a b).0 h)))
     by false h = refl
 
 -- two keys are equal, or they are not
@@ -21,12 +21,12 @@ pub key_cases : (a b : Key) → (a ≡ b) ⊎ (a ≢ b)
 key_cases a b = by (same_key a b) refl
   where
     by : (t : Bool) → same_key a b ≡ t → (a ≡ b) ⊎ (a ≢ b)
-    by true h = inl (key_from_same a b h)
-    by false h = inr (λ e. let same = subst (λ k. same_key a k ≡ true) e (same_itself a) in cc)
+    by true h = inl ((same_key_is_equality a b).0 h)
+    by false h = inr (λ e. let same = (same_key_is_equality a b).1 e in cc)
 
 -- what a key has that was set, and any other key
 pub set_here : (old new : Stored) (key : Key) (entry : Option Entry) → SetsOnly old new key entry → entry_at new key ≡ entry
-set_here old new key entry sets = sets key ∙ ap (λ t. cond t entry (entry_at old key)) (same_itself key)
+set_here old new key entry sets = sets key ∙ ap (λ t. cond t entry (entry_at old key)) (same_key_equiv.refl key)
 
 pub set_apart : (old new : Stored) (key : Key) (entry : Option Entry) → SetsOnly old new key entry → (q : Key) → q ≢ key → entry_at new q ≡ entry_at old q
 set_apart old new key entry sets q apart = sets q ∙ ap (λ t. cond t entry (entry_at old q)) (other_key key q apart)
@@ -40,7 +40,7 @@ value_at-touched old new key touched q = ap (option_map (λ (x : Entry). x.value
     renewed_value (Some e) = refl
 
     by : (t : Bool) → same_key key q ≡ t → option_map (λ x. x.value) (cond t (option_map renewed (entry_at old key)) (entry_at old q)) ≡ value_at old q
-    by true h = renewed_value (entry_at old key) ∙ ap (value_at old) (key_from_same key q h)
+    by true h = renewed_value (entry_at old key) ∙ ap (value_at old) ((same_key_is_equality key q).0 h)
     by false h = refl
 
 pub held-touched : (old new : Stored) (key : Key) → IsTouched old new key → (q : Key) → held new q ≡ held old q

@@ -1,4 +1,3 @@
-pub mod KeyLemmas
 pub mod Sweeps
 pub mod TouchedLemmas
 pub mod CallerLemmas

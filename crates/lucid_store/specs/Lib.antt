@@ -1,4 +1,5 @@
 pub mod Keys
+pub mod EqualityDecides
 pub mod Stored
 pub mod StoredCode
 pub mod Entries

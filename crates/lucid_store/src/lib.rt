@@ -7,6 +7,7 @@
 use lucid_tags::Tag;
 pub use warehouse::Warehouse;
 
+pub mod laws;
 #[cfg(test)]
 mod tests;
 mod warehouse;

@@ -1,26 +1,17 @@
 -- What tags stand for: one tag for one context and space, and known tags that stay known.
-use Rattle.std.proofs.Common.{◌≡◌, suc, ◌<◌, inl, inr, List, [], length, refl, ap, sym, subst, ◌^◌, arith}
-use Rattle.std.specs.Coded.{le_prop}
-use mathlib.Core.HLevel.{is_prop→PathP}
-use Rattle.lucid_tags.specs.declared.Tag.{Tag}
+use Rattle.std.proofs.Common.{◌≡◌, suc, inl, inr, List, [], length, refl, ap, sym, subst, arith}
 use Rattle.lucid_tags.specs.Contexts.{Context, root, context_at}
 use Rattle.lucid_tags.specs.Known.{number_of, space_of, context_of, IsOneForOne, KeepsKnown, AddsAtMost}
+use Rattle.lucid_tags.specs.EqualityDecides.{tag_from_parts}
 use Rattle.lucid_tags.specs.declared.rows.Row.{Row}
 use Rattle.lucid_tags.specs.declared.rows.Depth.{Depth}
 use Rattle.lucid_tags.specs.Rows.{contexts, AreDistinct, AreRows}
 use Rattle.lucid_tags.proofs.RowLemmas.{context_at-left, context_at-first, length-push, length-contexts, AreRows-nil}
 
-pub same_tag : (a b : Tag) → number_of a ≡ number_of b → space_of a ≡ space_of b → a ≡ b
-same_tag a b n s = λ i. record {
-  number = n i;
-  space = s i;
-  in_range = is_prop→PathP (λ j. s j < 2 ^ 63) (λ j. le_prop) a.in_range b.in_range i;
-}
-
 pub one_for_one : (known : List Context) → AreDistinct known → IsOneForOne known
 one_for_one known one = record {
   places = one.same;
-  tags = λ a b h k. (λ e. (ap (context_of known) e, ap space_of e), λ e. same_tag a b (one.same (number_of a) (number_of b) h k e.0) e.1);
+  tags = λ a b h k. (λ e. (ap (context_of known) e, ap space_of e), λ e. tag_from_parts a b (one.same (number_of a) (number_of b) h k e.0) e.1);
 }
 
 -- where at most one context is added, known tags keep what they stand for

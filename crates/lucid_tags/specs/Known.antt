@@ -1,5 +1,5 @@
 -- What a tag stands for, over the list of the known contexts.
-use Rattle.std.specs.Prelude.{◌≡◌, ℕ, ◌<◌, ◌↔◌, ◌⊎◌, List, [], ◌∷◌, ◌++◌, length}
+use Rattle.std.specs.Prelude.{◌≡◌, ℕ, ◌<◌, ◌↔◌, ◌⊎◌, Bool, ◌==◌, ◌&&◌, List, [], ◌∷◌, ◌++◌, length}
 use Rattle.std.proofs.Common.{lit<}
 use Rattle.lucid_tags.specs.declared.Tag.{Tag}
 use Rattle.lucid_tags.specs.declared.Frame.{Frame}
@@ -13,6 +13,10 @@ number_of tag = tag.number
 -- the space that a tag stands for
 abbrev pub space_of : Tag → ℕ
 space_of tag = tag.space
+
+-- two tags are the same: the same context, by its number, and the same space
+abbrev pub same_tag : Tag → Tag → Bool
+same_tag a b = (number_of a == number_of b) && (space_of a == space_of b)
 
 -- the tag of the empty context at space 0
 abbrev pub root_tag : Tag

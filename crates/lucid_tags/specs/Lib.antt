@@ -1,4 +1,5 @@
 pub mod Contexts
 pub mod ContextCode
 pub mod Known
+pub mod EqualityDecides
 pub mod Rows

@@ -11,6 +11,7 @@ use indexmap::IndexMap;
 use std::alloc::{AllocError, Global};
 use std::marker::Model;
 
+pub mod laws;
 mod rows;
 #[cfg(test)]
 mod tests;

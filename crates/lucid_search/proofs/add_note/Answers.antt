@@ -1,4 +1,4 @@
-use Rattle.std.proofs.Common.{◌≡◌, ℕ, Option, Some, None, IsSome, cond, ap, refl, ◌∙◌}
+use Rattle.std.proofs.Common.{ℕ, Option, Some, IsSome, cond, ap, refl, ◌∙◌}
 use Rattle.std.specs.Prelude.{option_and_then}
 use Rattle.std.specs.Ordering.{nat_cmp, is_eq}
 use Rattle.std.specs.BTreeMap.{BTreeMap}

@@ -1,5 +1,3 @@
-use Rattle.std.proofs.Common.{rules, arith, ◌≤◌, ℕ, ◌≡◌, false}
-use Rattle.std.specs.Ordering.{nat_cmp, is_gt}
 use Rattle.std.proofs.lemmas.Map.Keys.{le_from_not_gt, ge_from_not_lt}
 use Rattle.lucid_search.proofs.NoteLemmas.{not_gt_from_le}
 use Rattle.lucid_search.proofs.best_of.Goals as goal

@@ -1,4 +1,4 @@
-use Rattle.std.proofs.Common.{◌≡◌, ℕ, ◌≤◌, Option, Some, None}
+use Rattle.std.proofs.Common.{Some, None}
 use Rattle.lucid_search.specs.declared.Site.{Site}
 use Rattle.lucid_search.specs.Noted.{number_in, number_of_site, noted_of}
 use Rattle.lucid_search.proofs.NoteLemmas.{best_by, none_by, found_at}

@@ -2,7 +2,7 @@ use Rattle.std.proofs.Common.{rules, ap, ◌∙◌}
 use Rattle.std.specs.Map.{lookup}
 use Rattle.lucid_store.specs.Keys.{same_key}
 use Rattle.lucid_store.specs.Entries.{aged, is_young}
-use Rattle.lucid_store.proofs.KeyLemmas.{same_key_equiv}
+use Rattle.lucid_store.specs.EqualityDecides.{same_key_equiv}
 use Rattle.lucid_store.proofs.Sweeps.{kept_from_retain, lookup-kept_entries}
 use Rattle.lucid_store.proofs.warehouse.age_entries.Goals as goal
 
