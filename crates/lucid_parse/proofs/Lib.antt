@@ -1,0 +1,15 @@
+pub mod Levels
+pub mod Complete
+pub mod Sound
+pub mod Viable
+pub mod Exact
+pub mod Filled
+pub mod Deep
+pub mod Built
+pub mod Building
+pub mod Reading
+pub mod WellMade
+pub mod Spellings
+pub mod Texts
+pub mod Parsed
+pub mod Answered

@@ -1,0 +1,75 @@
+-- The machine over borrowed names and values reads the words that they stand for.
+use Rattle.std.proofs.Common.{◌≡◌, ℕ, ◌+◌, ◌<◌, ◌≤◌, List, length, map, take, get_or, Option, Some, None, option_and_then, sym, ◌∙◌, ap, subst, arith}
+use Rattle.std.specs.Option.{option_map}
+use Rattle.std.proofs.lemmas.List.{take_all, get_or-map, length-map}
+use Rattle.std.specs.Borrow.{Bor}
+use Rattle.lucid_value.specs.declared.Value.{Value}
+use Rattle.lucid_parse.specs.declared.sign.Sign.{Sign}
+use Rattle.lucid_parse.specs.declared.sign.SignAt.{SignAt}
+use Rattle.lucid_parse.specs.declared.state.Item.{Item}
+use Rattle.lucid_parse.specs.Grammar.{Word}
+use Rattle.lucid_parse.specs.Machine.{State, start, step, feeds, finish, nodes}
+use Rattle.lucid_value.specs.Plain.{PlainValue}
+use Rattle.lucid_parse.specs.Fill.{fill_sign, fill_item, fill_state}
+use Rattle.lucid_parse.specs.Signs.{name_now, value_now, word_of, words_of, items_of}
+use Rattle.lucid_parse.specs.Verdict.{SpellsNone, IsFault}
+use Rattle.lucid_parse.proofs.Filled.{filled_step, filled_finish}
+use Rattle.lucid_parse.proofs.Exact.{feeds-more, fault_at_step, none_at_step, fault_at_end, none_at_end}
+
+module _ {M V : Type 0} (f : M → List ℕ) (g : V → PlainValue) (ws : List Word) (h : State M V) where
+  module _ (i : ℕ) (d : Word) (s : Sign M V) (fits : i < length ws) (so_far : feeds start (take i ws) ≡ Some (fill_state f g h)) (same : fill_sign f g s ≡ (get_or ws i d).sign) where
+    step_is : (o : Option (State M V)) → step h s (get_or ws i d).at ≡ o → step (fill_state f g h) (get_or ws i d).sign (get_or ws i d).at ≡ option_map (fill_state f g) o
+    step_is o e =
+        ap (λ x. step (fill_state f g h) x (get_or ws i d).at) (sym same) ∙ filled_step f g h s (get_or ws i d).at ∙ ap (option_map (fill_state f g)) e
+
+    pub read_more : (k : State M V) → step h s (get_or ws i d).at ≡ Some k → feeds start (take (i + 1) ws) ≡ Some (fill_state f g k)
+    read_more k e = feeds-more ws i d (fill_state f g h) _ fits so_far (step_is (Some k) e)
+
+    pub stops_here : (end : ℕ) → step h s (get_or ws i d).at ≡ None → SpellsNone ws × IsFault ws end (get_or ws i d).at
+    stops_here end e = (
+      none_at_step ws i end d (fill_state f g h) fits so_far (step_is None e),
+      fault_at_step ws i end d (fill_state f g h) fits so_far (step_is None e),
+    )
+
+  module _ (i : ℕ) (over : length ws ≤ i) (so_far : feeds start (take i ws) ≡ Some (fill_state f g h)) where
+    all_read : feeds start ws ≡ Some (fill_state f g h)
+    all_read = sym (ap (feeds start) (take_all i ws over)) ∙ so_far
+
+    pub stops_at_end : (end : ℕ) → finish h ≡ None → SpellsNone ws × IsFault ws end end
+    stops_at_end end e =
+        let none = filled_finish f g h ∙ ap (option_map (map (fill_item f g))) e in
+        (none_at_end ws end (fill_state f g h) all_read none, fault_at_end ws end (fill_state f g h) all_read none)
+
+    pub nodes_are : (items : List (Item M V)) → finish h ≡ Some items → nodes ws ≡ Some (map (fill_item f g) items)
+    nodes_are items e = ap (option_and_then finish) all_read ∙ filled_finish f g h ∙ ap (option_map (map (fill_item f g))) e
+
+-- The same of the code's signs.
+module _ (signs : List SignAt) (h : State (Bor (List ℕ)) (Bor Value)) where
+  module _ (i : ℕ) (x : SignAt) (fits : i < length signs) (is : x ≡ get_or signs i x) (s : Sign (Bor (List ℕ)) (Bor Value))
+      (so_far : feeds start (take i (words_of signs)) ≡ Some (fill_state name_now value_now h)) (same : fill_sign name_now value_now s ≡ (word_of x).sign) where
+    word_is : get_or (words_of signs) i (word_of x) ≡ word_of x
+    word_is = get_or-map word_of signs i x (word_of x) fits ∙ ap word_of (sym is)
+
+    in_words : i < length (words_of signs)
+    in_words = omega (arith, fits, length-map signs word_of)
+
+    same_sign : fill_sign name_now value_now s ≡ (get_or (words_of signs) i (word_of x)).sign
+    same_sign = same ∙ ap (λ w. w.sign) (sym word_is)
+
+    pub sign_read : (k : State (Bor (List ℕ)) (Bor Value)) → step h s x.at ≡ Some k → feeds start (take (i + 1) (words_of signs)) ≡ Some (fill_state name_now value_now k)
+    sign_read k e = read_more name_now value_now (words_of signs) h i (word_of x) s in_words so_far same_sign k (ap (λ w. step h s w.at) word_is ∙ e)
+
+    pub sign_stops : (end : ℕ) → step h s x.at ≡ None → SpellsNone (words_of signs) × IsFault (words_of signs) end x.at
+    sign_stops end e =
+        subst (λ w. SpellsNone (words_of signs) × IsFault (words_of signs) end w.at) word_is
+        (stops_here name_now value_now (words_of signs) h i (word_of x) s in_words so_far same_sign end (ap (λ w. step h s w.at) word_is ∙ e))
+
+  module _ (i : ℕ) (over : length signs ≤ i) (so_far : feeds start (take i (words_of signs)) ≡ Some (fill_state name_now value_now h)) where
+    past_words : length (words_of signs) ≤ i
+    past_words = omega (arith, over, length-map signs word_of)
+
+    pub signs_stop : (end : ℕ) → finish h ≡ None → SpellsNone (words_of signs) × IsFault (words_of signs) end end
+    signs_stop end e = stops_at_end name_now value_now (words_of signs) h i past_words so_far end e
+
+    pub signs_read : (items : List (Item (Bor (List ℕ)) (Bor Value))) → finish h ≡ Some items → nodes (words_of signs) ≡ Some (items_of items)
+    signs_read items e = nodes_are name_now value_now (words_of signs) h i past_words so_far items e

@@ -1,0 +1,303 @@
+-- Trees that are spelled are well made: their operators and functions are shaped, and their places are places of words, each once.
+use Rattle.std.proofs.Common.{◌≡◌, ℕ, suc, ◌+◌, ◌≤◌, ◌<◌, List, [], ◌∷◌, ◌++◌, length, Bool, true, false, cond, ◌&&◌, inl, inr, refl, sym, ◌∙◌, ap, arith, length-append}
+use Rattle.std.specs.Prelude.{nat_eq}
+use Rattle.std.proofs.lemmas.Bool.{eq-eqb, eqb-true, lt-ltb}
+use Rattle.lucid_tree.specs.Tree.{PlainTree, PlainTrees, no_trees, tree, PlainDefs, no_defs, defines, defines_function, defines_current}
+use Rattle.lucid_tree.specs.Size.{count}
+use Rattle.lucid_tree.specs.WellMade.{places, places_in, places_in_defs, fits_arity, is_shaped, are_shaped, defs_are_shaped, In, AllDiffer, IsWellMade}
+use Rattle.lucid_parse.specs.declared.sign.Between.{Between}
+use Rattle.lucid_parse.specs.declared.sign.Between.TheVariants as between
+use Rattle.lucid_parse.specs.declared.sign.Before.{Before}
+use Rattle.lucid_parse.specs.declared.sign.Before.TheVariants as before
+use Rattle.lucid_parse.specs.declared.sign.Called.{Called}
+use Rattle.lucid_parse.specs.declared.sign.Called.TheVariants as called
+use Rattle.lucid_parse.specs.Grammar
+use Rattle.lucid_parse.specs.Grammar.{Word, trees_and, def_before, defs_and, Defined, Plain, Function, Current, Parameter, names_of, places_of, called_arity, between_head, before_head, called_head, Spells, SpellsArgs, SpellsDefs, SpellsNames}
+
+-- The shape.
+
+fits-between : (b : Between) (x y : PlainTree) → fits_arity (between_head b) (tree x (tree y no_trees)) ≡ true
+fits-between between.Fby x y = refl
+fits-between _ x y = refl
+
+fits-before : (u : Before) (x : PlainTree) → fits_arity (before_head u) (tree x no_trees) ≡ true
+fits-before before.Not x = refl
+fits-before _ x = refl
+
+fits-called : (c : Called) (args : PlainTrees) → count args ≡ called_arity c → fits_arity (called_head c) args ≡ true
+fits-called called.Substr args e = eq-eqb (count args) 3 e
+fits-called called.Nth args e = eq-eqb (count args) 2 e
+
+both : (a b : Bool) → a ≡ true → b ≡ true → (a && b) ≡ true
+both true b e h = h
+both false b e h = cc
+
+first : (a b : Bool) → (a && b) ≡ true → a ≡ true
+first true b h = refl
+first false b h = cc
+
+second : (a b : Bool) → (a && b) ≡ true → b ≡ true
+second true b h = h
+second false b h = cc
+
+are_shaped-and : (ts : PlainTrees) (t : PlainTree) → are_shaped ts ≡ true → is_shaped t ≡ true → are_shaped (trees_and ts t) ≡ true
+are_shaped-and no_trees t h s = both _ _ s refl
+are_shaped-and (tree e ts) t h s = both _ _ (first _ _ h) (are_shaped-and ts t (second _ _ h) s)
+
+-- a function has a parameter
+abbrev HasParameter : Defined → Type 0
+HasParameter Plain = Unit {0}
+HasParameter (Function ps) = 0 < length (names_of ps)
+HasParameter Current = Unit {0}
+
+length-places_of : (ps : List Parameter) → length (places_of ps) ≡ length (names_of ps)
+length-places_of [] = refl
+length-places_of (p ∷ ps) = ap suc (length-places_of ps)
+
+def_is_shaped : (at : ℕ) (n : List ℕ) (h : Defined) (t : PlainTree) → HasParameter h → is_shaped t ≡ true → defs_are_shaped (def_before at n h t no_defs) ≡ true
+def_is_shaped at n Plain t k s = both _ _ s refl
+def_is_shaped at n (Function ps) t k s =
+    both _ _ (both _ _ (both _ _ (lt-ltb 0 (length (names_of ps)) k) (eq-eqb (length (places_of ps)) (length (names_of ps)) (length-places_of ps))) s) refl
+def_is_shaped at n Current t k s = both _ _ s refl
+
+defs_are_shaped-and : (ds : PlainDefs) (at : ℕ) (n : List ℕ) (h : Defined) (t : PlainTree) → HasParameter h → defs_are_shaped ds ≡ true → is_shaped t ≡ true → defs_are_shaped (defs_and ds at n h t) ≡ true
+defs_are_shaped-and no_defs at n h t k d s = def_is_shaped at n h t k s
+defs_are_shaped-and (defines a m e ds) at n h t k d s = both _ _ (first _ _ d) (defs_are_shaped-and ds at n h t k (second _ _ d) s)
+defs_are_shaped-and (defines_function a m ns ats e ds) at n h t k d s = both _ _ (first _ _ d) (defs_are_shaped-and ds at n h t k (second _ _ d) s)
+defs_are_shaped-and (defines_current a m e ds) at n h t k d s = both _ _ (first _ _ d) (defs_are_shaped-and ds at n h t k (second _ _ d) s)
+
+names_of-and : (ps qs : List Parameter) → length (names_of (ps ++ qs)) ≡ length (names_of ps) + length (names_of qs)
+names_of-and [] qs = omega arith
+names_of-and (p ∷ ps) qs = omega (arith, names_of-and ps qs)
+
+some_names : {xs : List Word} {ps : List Parameter} → SpellsNames xs ps → 0 < length (names_of ps)
+some_names Grammar.spells_first_name = omega arith
+some_names (Grammar.spells_more_names p at n {all = all} s) = omega (arith, some_names s, names_of-and all (record { at = at; name = n } ∷ []))
+
+mutual
+  pub shaped : {k : ℕ} {ws : List Word} {t : PlainTree} → Spells k ws t → is_shaped t ≡ true
+  shaped Grammar.spells_const = refl
+  shaped Grammar.spells_name = refl
+  shaped (Grammar.spells_between {x = x} {y = y} s b is low sx sy) = both _ _ (fits-between b x y) (both _ _ (shaped sx) (both _ _ (shaped sy) refl))
+  shaped (Grammar.spells_before {x = x} s u is low sx) = both _ _ (fits-before u x) (both _ _ (shaped sx) refl)
+  shaped (Grammar.spells_inner q sx) = shaped sx
+  shaped (Grammar.spells_if p q r sx sy sz) = both _ _ (shaped sx) (both _ _ (shaped sy) (both _ _ (shaped sz) refl))
+  shaped (Grammar.spells_call q sa) = shaped_args sa
+  shaped (Grammar.spells_operated q c {args = args} all sa) = both _ _ (fits-called c args all) (shaped_args sa)
+  shaped (Grammar.spells_block p low sx sd) = both _ _ (shaped sx) (shaped_defs sd)
+
+  shaped_args : {ws : List Word} {args : PlainTrees} → SpellsArgs ws args → are_shaped args ≡ true
+  shaped_args (Grammar.spells_one sx) = both _ _ (shaped sx) refl
+  shaped_args (Grammar.spells_more p {all = all} {y = y} sa sy) = are_shaped-and all y (shaped_args sa) (shaped sy)
+
+  shaped_defs : {ws : List Word} {all : PlainDefs} → SpellsDefs ws all → defs_are_shaped all ≡ true
+  shaped_defs Grammar.spells_none = refl
+  shaped_defs (Grammar.spells_def at n p q {all = all} {y = y} sd sy) = defs_are_shaped-and all at n Plain y tt (shaped_defs sd) (shaped sy)
+  shaped_defs (Grammar.spells_function at n o p q r {all = all} {parameters = ps} {y = y} sd sn sy) =
+      defs_are_shaped-and all at n (Function ps) y (some_names sn) (shaped_defs sd) (shaped sy)
+  shaped_defs (Grammar.spells_current at n o p q {all = all} {y = y} sd sy) = defs_are_shaped-and all at n Current y tt (shaped_defs sd) (shaped sy)
+
+-- The places. How often a number stands in a list, and a place among words.
+
+one : ℕ → ℕ → ℕ
+one p x = cond (nat_eq p x) 1 0
+
+pub occurs : ℕ → List ℕ → ℕ
+occurs p [] = 0
+occurs p (x ∷ xs) = one p x + occurs p xs
+
+pub occurs_at : ℕ → List Word → ℕ
+occurs_at p [] = 0
+occurs_at p (w ∷ ws) = one p w.at + occurs_at p ws
+
+occurs-append : (p : ℕ) (xs ys : List ℕ) → occurs p (xs ++ ys) ≡ occurs p xs + occurs p ys
+unfolding occurs
+occurs-append p [] ys = omega arith
+occurs-append p (x ∷ xs) ys = omega (arith, occurs-append p xs ys)
+
+occurs_at-append : (p : ℕ) (xs ys : List Word) → occurs_at p (xs ++ ys) ≡ occurs_at p xs + occurs_at p ys
+unfolding occurs_at
+occurs_at-append p [] ys = omega arith
+occurs_at-append p (x ∷ xs) ys = omega (arith, occurs_at-append p xs ys)
+
+-- the places of a definition's parameters
+abbrev own_places : Defined → List ℕ
+own_places Plain = []
+own_places (Function ps) = places_of ps
+own_places Current = []
+
+occurs-trees_and : (p : ℕ) (ts : PlainTrees) (t : PlainTree) → occurs p (places_in (trees_and ts t)) ≡ occurs p (places_in ts) + occurs p (places t)
+unfolding occurs
+occurs-trees_and p no_trees t = simp occurs-append (omega arith)
+occurs-trees_and p (tree s ts) t = simp occurs-append (omega (arith, occurs-trees_and p ts t))
+
+occurs-def : (p at : ℕ) (n : List ℕ) (h : Defined) (t : PlainTree) → occurs p (places_in_defs (def_before at n h t no_defs)) ≡ one p at + (occurs p (own_places h) + occurs p (places t))
+unfolding occurs
+occurs-def p at n Plain t = simp occurs-append (omega arith)
+occurs-def p at n (Function ps) t = simp occurs-append (omega arith)
+occurs-def p at n Current t = simp occurs-append (omega arith)
+
+occurs-defs_and : (p : ℕ) (ds : PlainDefs) (at : ℕ) (n : List ℕ) (h : Defined) (t : PlainTree)
+    → occurs p (places_in_defs (defs_and ds at n h t)) ≡ occurs p (places_in_defs ds) + (one p at + (occurs p (own_places h) + occurs p (places t)))
+unfolding occurs
+occurs-defs_and p no_defs at n h t = omega (arith, occurs-def p at n h t)
+occurs-defs_and p (defines a m s ds) at n h t = simp occurs-append (omega (arith, occurs-defs_and p ds at n h t))
+occurs-defs_and p (defines_function a m ns ats s ds) at n h t = simp occurs-append (omega (arith, occurs-defs_and p ds at n h t))
+occurs-defs_and p (defines_current a m s ds) at n h t = simp occurs-append (omega (arith, occurs-defs_and p ds at n h t))
+
+occurs-places_of : (p : ℕ) (ps : List Parameter) (at : ℕ) (n : List ℕ) → occurs p (places_of (ps ++ record { at = at; name = n } ∷ [])) ≡ occurs p (places_of ps) + one p at
+unfolding occurs
+occurs-places_of p [] at n = omega arith
+occurs-places_of p (q ∷ ps) at n = omega (arith, occurs-places_of p ps at n)
+
+placed_names : {ws : List Word} {ps : List Parameter} → SpellsNames ws ps → (p : ℕ) → occurs p (places_of ps) ≤ occurs_at p ws
+unfolding occurs occurs_at
+placed_names Grammar.spells_first_name p = omega arith
+placed_names (Grammar.spells_more_names q at n {xs = xs} {all = all} s) p = simp (occurs_at-append, occurs-places_of) (omega (arith, placed_names s p))
+
+mutual
+  unfolding occurs occurs_at
+
+  -- no place stands more often in the tree than among the words
+  pub placed : {k : ℕ} {ws : List Word} {t : PlainTree} → Spells k ws t → (p : ℕ) → occurs p (places t) ≤ occurs_at p ws
+  placed Grammar.spells_const p = omega arith
+  placed Grammar.spells_name p = omega arith
+  placed (Grammar.spells_between s b is low sx sy) p = simp (occurs-append, occurs_at-append) (omega (arith, placed sx p, placed sy p))
+  placed (Grammar.spells_before s u is low sx) p = simp (occurs-append, occurs_at-append) (omega (arith, placed sx p))
+  placed (Grammar.spells_inner q sx) p = simp (occurs_at-append) (omega (arith, placed sx p))
+  placed (Grammar.spells_if a b c sx sy sz) p = simp (occurs-append, occurs_at-append) (omega (arith, placed sx p, placed sy p, placed sz p))
+  placed (Grammar.spells_call q sa) p = simp (occurs_at-append) (omega (arith, placed_args sa p))
+  placed (Grammar.spells_operated q c all sa) p = simp (occurs_at-append) (omega (arith, placed_args sa p))
+  placed (Grammar.spells_block q low sx sd) p = simp (occurs-append, occurs_at-append) (omega (arith, placed sx p, placed_defs sd p))
+
+  placed_args : {ws : List Word} {args : PlainTrees} → SpellsArgs ws args → (p : ℕ) → occurs p (places_in args) ≤ occurs_at p ws
+  placed_args (Grammar.spells_one sx) p = simp (occurs-append) (omega (arith, placed sx p))
+  placed_args (Grammar.spells_more q sa sy) p = simp (occurs-trees_and, occurs_at-append) (omega (arith, placed_args sa p, placed sy p))
+
+  placed_defs : {ws : List Word} {all : PlainDefs} → SpellsDefs ws all → (p : ℕ) → occurs p (places_in_defs all) ≤ occurs_at p ws
+  placed_defs Grammar.spells_none p = omega arith
+  placed_defs (Grammar.spells_def at n a b sd sy) p = simp (occurs-defs_and, occurs_at-append) (omega (arith, placed_defs sd p, placed sy p))
+  placed_defs (Grammar.spells_function at n a b c d sd sn sy) p =
+      simp (occurs-defs_and, occurs_at-append) (omega (arith, placed_defs sd p, placed_names sn p, placed sy p))
+  placed_defs (Grammar.spells_current at n a b c sd sy) p = simp (occurs-defs_and, occurs_at-append) (omega (arith, placed_defs sd p, placed sy p))
+
+-- The number of places.
+
+length-trees_and : (ts : PlainTrees) (t : PlainTree) → length (places_in (trees_and ts t)) ≡ length (places_in ts) + length (places t)
+length-trees_and no_trees t = simp length-append (omega arith)
+length-trees_and (tree s ts) t = simp length-append (omega (arith, length-trees_and ts t))
+
+length-def : (at : ℕ) (n : List ℕ) (h : Defined) (t : PlainTree) → length (places_in_defs (def_before at n h t no_defs)) ≡ 1 + (length (own_places h) + length (places t))
+length-def at n Plain t = simp length-append (omega arith)
+length-def at n (Function ps) t = simp length-append (omega arith)
+length-def at n Current t = simp length-append (omega arith)
+
+length-defs_and : (ds : PlainDefs) (at : ℕ) (n : List ℕ) (h : Defined) (t : PlainTree)
+    → length (places_in_defs (defs_and ds at n h t)) ≡ length (places_in_defs ds) + (1 + (length (own_places h) + length (places t)))
+length-defs_and no_defs at n h t = omega (arith, length-def at n h t)
+length-defs_and (defines a m s ds) at n h t = simp length-append (omega (arith, length-defs_and ds at n h t))
+length-defs_and (defines_function a m ns ats s ds) at n h t = simp length-append (omega (arith, length-defs_and ds at n h t))
+length-defs_and (defines_current a m s ds) at n h t = simp length-append (omega (arith, length-defs_and ds at n h t))
+
+length-parameters : (ps : List Parameter) (at : ℕ) (n : List ℕ) → length (places_of (ps ++ record { at = at; name = n } ∷ [])) ≡ length (places_of ps) + 1
+length-parameters [] at n = omega arith
+length-parameters (q ∷ ps) at n = omega (arith, length-parameters ps at n)
+
+few_names : {ws : List Word} {ps : List Parameter} → SpellsNames ws ps → length (places_of ps) ≤ length ws
+few_names Grammar.spells_first_name = omega arith
+few_names (Grammar.spells_more_names q at n s) = simp (length-append, length-parameters) (omega (arith, few_names s))
+
+mutual
+  -- a tree has no more places than words
+  pub few : {k : ℕ} {ws : List Word} {t : PlainTree} → Spells k ws t → length (places t) ≤ length ws
+  few Grammar.spells_const = omega arith
+  few Grammar.spells_name = omega arith
+  few (Grammar.spells_between s b is low sx sy) = simp length-append (omega (arith, few sx, few sy))
+  few (Grammar.spells_before s u is low sx) = simp length-append (omega (arith, few sx))
+  few (Grammar.spells_inner q sx) = simp length-append (omega (arith, few sx))
+  few (Grammar.spells_if a b c sx sy sz) = simp length-append (omega (arith, few sx, few sy, few sz))
+  few (Grammar.spells_call q sa) = simp length-append (omega (arith, few_args sa))
+  few (Grammar.spells_operated q c all sa) = simp length-append (omega (arith, few_args sa))
+  few (Grammar.spells_block q low sx sd) = simp length-append (omega (arith, few sx, few_defs sd))
+
+  few_args : {ws : List Word} {args : PlainTrees} → SpellsArgs ws args → length (places_in args) ≤ length ws
+  few_args (Grammar.spells_one sx) = simp length-append (omega (arith, few sx))
+  few_args (Grammar.spells_more q sa sy) = simp (length-append, length-trees_and) (omega (arith, few_args sa, few sy))
+
+  few_defs : {ws : List Word} {all : PlainDefs} → SpellsDefs ws all → length (places_in_defs all) ≤ length ws
+  few_defs Grammar.spells_none = omega arith
+  few_defs (Grammar.spells_def at n a b sd sy) = simp (length-append, length-defs_and) (omega (arith, few_defs sd, few sy))
+  few_defs (Grammar.spells_function at n a b c d sd sn sy) = simp (length-append, length-defs_and) (omega (arith, few_defs sd, few_names sn, few sy))
+  few_defs (Grammar.spells_current at n a b c sd sy) = simp (length-append, length-defs_and) (omega (arith, few_defs sd, few sy))
+
+-- Words whose places rise.
+
+pub Rises : ℕ → List Word → Type 0
+Rises low [] = Unit {0}
+Rises low (w ∷ ws) = (low ≤ w.at) × Rises (w.at + 1) ws
+
+pub lower : (ws : List Word) (a b : ℕ) → b ≤ a → Rises a ws → Rises b ws
+unfolding Rises
+lower [] a b h r = tt
+lower (w ∷ ws) a b h r = (omega (arith, h, r.0), r.1)
+
+pub rises_next : (w : Word) (ws : List Word) (low : ℕ) → low ≤ w.at → Rises (w.at + 1) ws → Rises low (w ∷ ws)
+unfolding Rises
+rises_next w ws low h r = (h, r)
+
+pub rises_none : (low : ℕ) → Rises low []
+unfolding Rises
+rises_none low = tt
+
+one-less : (p x : ℕ) → p < x → one p x ≡ 0
+unfolding one
+one-less p x h = of (nat_eq p x) refl
+  where
+    of : (b : Bool) → nat_eq p x ≡ b → ◌≡◌ {A = ℕ} (cond b 1 0) 0
+    of true e = let same : p ≡ x = eqb-true p x e in absurd (omega (arith, same, h))
+    of false e = refl
+
+one-most : (p x : ℕ) → one p x ≤ 1
+unfolding one
+one-most p x = of (nat_eq p x)
+  where
+    of : (b : Bool) → cond b 1 0 ≤ 1
+    of true = omega arith
+    of false = omega arith
+
+one-same : (x : ℕ) → one x x ≡ 1
+unfolding one
+one-same x = ap (λ b. cond b 1 0) (eq-eqb x x refl)
+
+not_below : (p : ℕ) (ws : List Word) (low : ℕ) → Rises low ws → p < low → occurs_at p ws ≡ 0
+unfolding occurs_at Rises
+not_below p [] low r h = refl
+not_below p (w ∷ ws) low r h = omega (arith, one-less p w.at (omega (arith, h, r.0)), not_below p ws (w.at + 1) r.1 (omega (arith, h, r.0)))
+
+once : (p : ℕ) (ws : List Word) (low : ℕ) → Rises low ws → occurs_at p ws ≤ 1
+unfolding occurs_at Rises one
+once p [] low r = omega arith
+once p (w ∷ ws) low r = of (nat_eq p w.at) refl (once p ws (w.at + 1) r.1)
+  where
+    of : (b : Bool) → nat_eq p w.at ≡ b → occurs_at p ws ≤ 1 → one p w.at + occurs_at p ws ≤ 1
+    of true e k = let same : p ≡ w.at = eqb-true p w.at e in omega (arith, one-most p w.at, not_below p ws (w.at + 1) r.1 (omega (arith, same)))
+    of false e k = let none : one p w.at ≡ 0 = ap (λ b. cond b 1 0) e in omega (arith, none, k)
+
+in_occurs : (x : ℕ) (xs : List ℕ) → In x xs → 1 ≤ occurs x xs
+unfolding occurs
+in_occurs x [] h = absurd h
+in_occurs x (y ∷ ys) (inl e) = let same : one x y ≡ 1 = ap (one x) (sym e) ∙ one-same x in omega (arith, same)
+in_occurs x (y ∷ ys) (inr h) = omega (arith, in_occurs x ys h)
+
+all_differ : (xs : List ℕ) → ((p : ℕ) → occurs p xs ≤ 1) → AllDiffer xs
+unfolding occurs
+all_differ [] h = tt
+all_differ (x ∷ xs) h = ((λ i. omega (arith, h x, in_occurs x xs i, one-same x)), all_differ xs (λ p. omega (arith, h p)))
+
+-- what words of rising places spell is well made
+pub well_made : {ws : List Word} {t : PlainTree} → Spells 0 ws t → Rises 0 ws → length ws ≤ 1048576 → IsWellMade t
+well_made {ws} {t} s r h = record {
+  shaped = shaped s;
+  placed = all_differ (places t) (λ p. omega (arith, placed s p, once p ws 0 r));
+  few = omega (arith, few s, h);
+}

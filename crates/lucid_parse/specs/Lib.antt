@@ -1,0 +1,13 @@
+pub mod Grammar
+pub mod Machine
+pub mod Flat
+pub mod Fill
+pub mod Verdict
+pub mod Depth
+pub mod Build
+pub mod Signs
+pub mod Refused
+pub mod Words
+pub mod Spellings
+pub mod Spelled
+pub mod Laws

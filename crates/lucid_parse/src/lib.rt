@@ -1,0 +1,21 @@
+//! The parser: from the tokens of a source to the tree that they spell.
+#![tactic(auto)]
+
+pub use crate::parser::parse;
+pub use crate::refusal::ParseRefusal;
+
+mod build;
+mod depth;
+pub mod laws;
+mod level;
+mod machine;
+mod nodes;
+mod parser;
+mod refusal;
+mod sign;
+mod spelling;
+mod stack;
+mod state;
+#[cfg(test)]
+mod tests;
+mod words;

@@ -1,0 +1,113 @@
+//! The signs of a source's tokens.
+ghost use Rattle.std.specs.Prelude.{◌≡◌, ◌∷◌, ◌++◌, [], ℕ, IfOk, IfErr, IsTrue, true, ◌||◌, Some};
+ghost use Rattle.lucid_value.specs.Plain.{PlainValue};
+ghost use Rattle.lucid_value.specs.Names.{is_name, is_reserved};
+ghost use Rattle.lucid_value.specs.Reading.{Reads};
+ghost use Rattle.lucid_value.specs.View.{plain};
+ghost use Rattle.lucid_scan.specs.Texts.{IsBetween, is_mark, is_word_value};
+ghost use Rattle.lucid_scan.specs.Tokens.{Tokens};
+ghost use Rattle.lucid_parse.specs.Signs.{plain_sign, words_of};
+ghost use Rattle.lucid_parse.specs.Spelled.{IsReading, IsTokenOf};
+ghost use Rattle.lucid_parse.specs.Spellings.{fixed_plain};
+ghost use Rattle.lucid_parse.specs.Words.{fixed_sign, StandsFor, Words};
+
+use crate::refusal::ParseRefusal;
+use crate::sign::{Sign, SignAt};
+use crate::spelling::{FixedSign, fixed_sign, with_value};
+use lucid_scan::laws::tokens_stand;
+use lucid_scan::{Token, TokenKind};
+use lucid_value::{MakeRefusal, Name, ReadRefusal, Value, Word, one_line_reading, read_value};
+use std::alloc::Global;
+
+fn make_name(alloc: Global, bytes: &[u8]) -> Result<Name, ParseRefusal>
+    requires { IsTrue (is_name bytes.now) }
+    ensures name { IfOk result (λ name. name ≡ bytes.now) }
+    ensures memory { IfErr result (λ e. e ≡ ParseRefusal.NoMemory) }
+{
+    match Name::make(alloc, bytes) {
+        Ok(name) => Ok(name),
+        Err(MakeRefusal::NotThat) => unreachable!(),
+        Err(MakeRefusal::NoMemory) => Err(ParseRefusal::NoMemory),
+    }
+}
+
+// The word between two `"`.
+fn make_word(alloc: Global, quoted: &[u8]) -> Result<Word, ParseRefusal>
+    requires { IsBetween 34 34 is_word_value quoted.now }
+    ensures word { IfOk result (λ word. quoted.now ≡ 34 ∷ (word ++ 34 ∷ [])) }
+    ensures memory { IfErr result (λ e. e ≡ ParseRefusal.NoMemory) }
+{
+    match Word::make(alloc, &quoted[1..quoted.len() - 1]) {
+        Ok(word) => Ok(word),
+        Err(MakeRefusal::NotThat) => unreachable!(),
+        Err(MakeRefusal::NoMemory) => Err(ParseRefusal::NoMemory),
+    }
+}
+
+// The value that the bytes read as.
+fn make_value(alloc: Global, bytes: &[u8]) -> Result<Value, ParseRefusal>
+    requires { (v : PlainValue) × Reads bytes.now v }
+    ensures value { IfOk result (λ value. IsReading bytes.now (plain value)) }
+    ensures memory { IfErr result (λ e. e ≡ ParseRefusal.NoMemory) }
+{
+    one_line_reading();
+    match read_value(alloc, bytes) {
+        Ok(value) => Ok(value),
+        Err(ReadRefusal::NotValue) => unreachable!(),
+        Err(ReadRefusal::NoMemory) => Err(ParseRefusal::NoMemory),
+    }
+}
+
+// The sign of a mark or of a reserved word.
+fn known_sign(bytes: &[u8]) -> FixedSign
+    requires { (is_mark bytes.now || is_reserved bytes.now) ≡ true }
+    ensures { fixed_sign bytes.now ≡ Some (fixed_plain result) }
+{
+    match fixed_sign(bytes) {
+        Some(sign) => sign,
+        None => unreachable!(),
+    }
+}
+
+/// The sign that a token of this kind and these bytes stands for.
+fn read_sign(
+    alloc: Global,
+    kind: TokenKind,
+    bytes: &[u8],
+) -> Result<Sign<Name, Value>, ParseRefusal>
+    requires { IsTokenOf kind bytes.now }
+    ensures sign { IfOk result (λ sign. StandsFor kind bytes.now (plain_sign sign)) }
+    ensures memory { IfErr result (λ e. e ≡ ParseRefusal.NoMemory) }
+{
+    match kind {
+        TokenKind::Name => Ok(Sign::Name(make_name(alloc, bytes)?)),
+        TokenKind::Int => Ok(Sign::Const(make_value(alloc, bytes)?)),
+        TokenKind::Quoted => Ok(Sign::Const(Value::Word(make_word(alloc, bytes)?))),
+        TokenKind::Text => Ok(Sign::Const(make_value(alloc, bytes)?)),
+        TokenKind::ListText => Ok(Sign::Const(make_value(alloc, bytes)?)),
+        TokenKind::Fixed => Ok(with_value(alloc, known_sign(bytes))),
+    }
+}
+
+/// The signs of the source's tokens.
+pub fn read_signs(
+    alloc: Global,
+    source: &[u8],
+    tokens: &[Token],
+) -> Result<Vec<SignAt>, ParseRefusal>
+    requires { Tokens source.now 0 tokens.now }
+    ensures signs { IfOk result (λ signs. Words source.now tokens.now (words_of signs.items)) }
+    ensures memory { IfErr result (λ e. e ≡ ParseRefusal.NoMemory) }
+{
+    tokens_stand();
+    let mut signs = Vec::new(alloc);
+    for token in tokens {
+        let bytes = &source[token.from as usize..token.to as usize];
+        let sign = read_sign(alloc, token.kind, bytes)?;
+        signs.push(SignAt {
+            sign,
+            at: token.from,
+        })?;
+    }
+    Ok(signs)
+}
