@@ -1,0 +1,104 @@
+-- Owners that are hidden and put back, and the scopes that hide them.
+use Rattle.std.proofs.Common.{◌≡◌, ℕ, suc, ◌+◌, ◌<◌, ◌≤◌, Bool, true, false, cond, List, [], ◌∷◌, ◌++◌, length, drop, get_or, Option, Some, None, refl, sym, ap, ◌∙◌, drop-cons, arith, zero, not, nat_lt}
+use Rattle.std.specs.Option.{option_map}
+use Rattle.std.specs.List.{position_or_len}
+use Rattle.lucid_tree.specs.Tree.{PlainDefs, no_defs}
+use Rattle.lucid_tree.specs.DefsView.{one_def, def_of, defs_of}
+use Rattle.lucid_tree.specs.Env.{Found, same_name, definition, param}
+use Rattle.lucid_tree.specs.declared.tree.Def.{Def}
+use Rattle.lucid_tree.specs.declared.tree.DefKind.{DefKind}
+use Rattle.lucid_tree.specs.declared.tree.DefKind.TheVariants.{Plain, Function, Current}
+use Rattle.lucid_scope.specs.Owners.{or_outer, definition_owner, parameter_owner, with_owner, put_back}
+use Rattle.lucid_scope.specs.declared.table.Owner.{Owner}
+use Rattle.lucid_scope.specs.declared.table.Owner.TheVariants.{Parameter}
+use Rattle.lucid_scope.specs.declared.table.Saved.{Saved}
+use Rattle.lucid_scope.proofs.Names.{same_one, same_itself}
+
+abbrev pub Owners : Type 0
+Owners = List ℕ → Option Owner
+
+pub put_back-snoc : (ss : List Saved) (s : Saved) (f : Owners) (n : List ℕ) → put_back (ss ++ s ∷ []) f n ≡ put_back ss (with_owner s.name s.owner f) n
+put_back-snoc [] s f n = refl
+put_back-snoc (t ∷ ss) s f n = ap (λ o. cond (same_name n t.name) t.owner o) (put_back-snoc ss s f n)
+
+pub put_back-alike : (ss : List Saved) (f g : Owners) → ((n : List ℕ) → f n ≡ g n) → (n : List ℕ) → put_back ss f n ≡ put_back ss g n
+put_back-alike [] f g h n = h n
+put_back-alike (t ∷ ss) f g h n = ap (λ o. cond (same_name n t.name) t.owner o) (put_back-alike ss f g h n)
+
+hidden : (b : Bool) (m x : List ℕ) (o before : Option Owner) (f g : Owners) → same_name m x ≡ b → before ≡ f x → g m ≡ cond b o (f m) → cond b before (g m) ≡ f m
+hidden true m x o before f g is e h = e ∙ ap f (sym (same_one m x is))
+hidden false m x o before f g is e h = h
+
+-- an owner that is hidden and saved is put back
+pub saved_back : (ss : List Saved) (s : Saved) (o : Option Owner) (f g : Owners) → s.owner ≡ f s.name → ((n : List ℕ) → g n ≡ with_owner s.name o f n)
+    → (n : List ℕ) → put_back (ss ++ s ∷ []) g n ≡ put_back ss f n
+saved_back ss s o f g e h n =
+    put_back-snoc ss s g n ∙ put_back-alike ss (with_owner s.name s.owner g) f (λ m. hidden (same_name m s.name) m s.name o s.owner f g refl e (h m)) n
+
+definition-kind : (n : List ℕ) (at : ℕ) (x : List ℕ) (k : DefKind) (ds : PlainDefs) → definition n (def_of at x k ds) ≡ cond (same_name n x) (definition x (def_of at x k no_defs)) (definition n ds)
+definition-kind n at x (Plain e) ds = rw (same_itself x) refl
+definition-kind n at x (Function ps ats e) ds = rw (same_itself x) refl
+definition-kind n at x (Current e) ds = rw (same_itself x) refl
+
+-- the first of several definitions
+pub definition-first : (n : List ℕ) (d : Def) (ds : PlainDefs) → definition n (one_def d ds) ≡ cond (same_name n d.name) (definition d.name (one_def d no_defs)) (definition n ds)
+definition-first n d ds = definition-kind n d.at d.name d.kind ds
+
+pick : (b : Bool) (found rest : Found) (o : Owner) (outer : Option Owner) → Some o ≡ definition_owner found
+    → cond b (Some o) (or_outer (definition_owner rest) outer) ≡ or_outer (definition_owner (cond b found rest)) outer
+pick true found rest o outer e = ap (λ x. or_outer x outer) e
+pick false found rest o outer e = refl
+
+-- one definition more, in front
+pub block-hides : (xs : List Def) (i : ℕ) (d : Def) (o : Owner) (f g h : Owners) → i < length xs → d ≡ get_or xs i d
+    → Some o ≡ definition_owner (definition d.name (one_def d no_defs))
+    → ((n : List ℕ) → f n ≡ or_outer (definition_owner (definition n (defs_of (drop (suc i) xs)))) (h n))
+    → ((n : List ℕ) → g n ≡ with_owner d.name (Some o) f n)
+    → (n : List ℕ) → g n ≡ or_outer (definition_owner (definition n (defs_of (drop i xs)))) (h n)
+block-hides xs i d o f g h lt is e before sets n =
+    let split : drop i xs ≡ d ∷ drop (suc i) xs = drop-cons xs i d lt ∙ ap (λ y. y ∷ drop (suc i) xs) (sym is) in
+    let more : definition n (defs_of (drop i xs)) ≡ cond (same_name n d.name) (definition d.name (one_def d no_defs)) (definition n (defs_of (drop (suc i) xs))) =
+    ap (λ l. definition n (defs_of l)) split ∙ definition-first n d (defs_of (drop (suc i) xs)) in
+    sets n ∙ ap (λ y. cond (same_name n d.name) (Some o) y) (before n)
+    ∙ pick (same_name n d.name) (definition d.name (one_def d no_defs)) (definition n (defs_of (drop (suc i) xs))) o (h n) e
+    ∙ ap (λ y. or_outer (definition_owner y) (h n)) (sym more)
+
+-- a parameter's owner, by its number among those from the i-th on
+abbrev pub later_parameter : (def i : ℕ) → Option ℕ → Option Owner
+later_parameter def i None = None
+later_parameter def i (Some j) = Some (Parameter def (i + j))
+
+place-step : (b : Bool) (p len : ℕ) → cond (nat_lt (cond (not b) (1 + p) 0) (suc len)) (Some (cond (not b) (1 + p) 0)) None ≡ cond b (Some 0) (option_map suc (cond (nat_lt p len) (Some p) None))
+place-step true p len = grind arith
+place-step false p len = grind arith
+
+-- the first of several parameters
+pub param-first : (n x : List ℕ) (xs : List (List ℕ)) → param n (x ∷ xs) ≡ cond (same_name n x) (Some 0) (option_map suc (param n xs))
+param-first n x xs = place-step (same_name n x) (position_or_len (λ y. same_name n y) xs) (length xs)
+
+pick_parameter : (b : Bool) (q : Option ℕ) (def i : ℕ) (o : Option Owner) → cond b (Some (Parameter def i)) (or_outer (later_parameter def (suc i) q) o) ≡ or_outer (later_parameter def i (cond b (Some 0) (option_map suc q))) o
+pick_parameter true q def i o = ap (λ j. Some (Parameter def j)) (omega arith)
+pick_parameter false None def i o = refl
+pick_parameter false (Some j) def i o = ap (λ j. Some (Parameter def j)) (omega arith)
+
+-- one parameter more, in front
+pub function-hides : (xs : List (List ℕ)) (i def : ℕ) (x : List ℕ) (f g h : Owners) → i < length xs → x ≡ get_or xs i x
+    → ((n : List ℕ) → f n ≡ or_outer (later_parameter def (suc i) (param n (drop (suc i) xs))) (h n))
+    → ((n : List ℕ) → g n ≡ with_owner x (Some (Parameter def i)) f n)
+    → (n : List ℕ) → g n ≡ or_outer (later_parameter def i (param n (drop i xs))) (h n)
+function-hides xs i def x f g h lt is before sets n =
+    let split : drop i xs ≡ x ∷ drop (suc i) xs = drop-cons xs i x lt ∙ ap (λ y. y ∷ drop (suc i) xs) (sym is) in
+    let more : param n (drop i xs) ≡ cond (same_name n x) (Some 0) (option_map suc (param n (drop (suc i) xs))) = ap (λ l. param n l) split ∙ param-first n x (drop (suc i) xs) in
+    sets n ∙ ap (λ y. cond (same_name n x) (Some (Parameter def i)) y) (before n)
+    ∙ pick_parameter (same_name n x) (param n (drop (suc i) xs)) def i (h n)
+    ∙ ap (λ y. or_outer (later_parameter def i y) (h n)) (sym more)
+
+pub all_parameters : (def : ℕ) (q : Option ℕ) → later_parameter def 0 q ≡ parameter_owner def q
+all_parameters def None = refl
+all_parameters def (Some j) = ap (λ j. Some (Parameter def j)) (omega arith)
+
+pub nothing-left : {A : Type 0} (xs : List A) (i : ℕ) → length xs ≤ i → drop i xs ≡ []
+nothing-left [] zero h = refl
+nothing-left [] (suc i) h = refl
+nothing-left (x ∷ xs) zero h = absurd (omega (arith, h))
+nothing-left (x ∷ xs) (suc i) h = nothing-left xs i (omega (arith, h))

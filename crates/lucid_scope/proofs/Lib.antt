@@ -1,0 +1,12 @@
+mod Names
+mod Tables
+mod Hiding
+mod Noting
+mod Falls
+mod Marked
+mod Weights
+mod Fitting
+mod Environments
+mod Resolved
+mod Numbering
+mod Unique

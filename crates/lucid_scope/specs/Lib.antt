@@ -1,0 +1,9 @@
+pub mod Scope
+pub mod Sites
+pub mod Bindings
+pub mod Owners
+pub mod Walks
+pub mod Settled
+pub mod Keys
+pub mod Laws
+pub mod Scoped

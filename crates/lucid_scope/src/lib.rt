@@ -1,0 +1,17 @@
+//! Scopes: what each name of a program belongs to, and the faults of names.
+#![tactic(auto)]
+
+pub use crate::refusal::ScopeRefusal;
+pub use crate::resolution::resolve;
+pub use crate::scoped::{Binding, Scoped};
+
+pub mod laws;
+mod marks;
+mod refusal;
+mod resolution;
+mod scoped;
+mod settle;
+mod table;
+#[cfg(test)]
+mod tests;
+mod walk;

@@ -1,0 +1,55 @@
+//! The calls with ample memory.
+ghost use Rattle.std.specs.Prelude.{◌≡◌, IfOk};
+ghost use Rattle.lucid_tree.specs.Tree.{name, call, no_trees, tree};
+
+use crate::{Binding, ScopeRefusal, resolve};
+use lucid_tree::{Kind, Tree, Trees};
+use lucid_value::{MakeRefusal, Name};
+use std::alloc::{AllocError, Global};
+use std::test::Fail;
+
+fn name_at(alloc: Global, at: u32, bytes: &[u8]) -> Result<Tree, MakeRefusal>
+    ensures { IfOk result (λ made. made ≡ name at bytes.now) }
+{
+    let name = Name::make(alloc, bytes)?;
+    Ok(Tree {
+        at,
+        kind: Kind::Name(name),
+    })
+}
+
+fn call_at(alloc: Global, at: u32, bytes: &[u8], argument: Tree) -> Result<Tree, MakeRefusal>
+    ensures { IfOk result (λ made. made ≡ call at bytes.now (tree argument no_trees)) }
+{
+    let name = Name::make(alloc, bytes)?;
+    let mut items = Vec::new(alloc);
+    items.push(argument).map_err(AllocError::from)?;
+    let args = Trees::from_vec(items);
+    Ok(Tree {
+        at,
+        kind: Kind::Call { name, args },
+    })
+}
+
+// y
+#[test]
+fn a_free_name_is_an_input(rt: HostRuntime) -> Result<(), Fail> {
+    let tree = name_at(rt.alloc(), 3, b"y")?;
+    let scoped = resolve(rt.alloc(), &tree)?;
+    assert_eq!(rt; scoped.tree().at, 3);
+    assert_eq!(rt; scoped.inputs().len(), 1);
+    assert_eq!(rt; scoped.inputs()[0].bytes(), b"y".as_slice());
+    assert_eq!(rt; scoped.binding(3), Some(Binding::Input { stream: 0 }));
+    assert_eq!(rt; scoped.binding(0), None);
+    Ok(())
+}
+
+// f(y)
+#[test]
+fn a_free_name_is_no_function(rt: HostRuntime) -> Result<(), Fail> {
+    let argument = name_at(rt.alloc(), 2, b"y")?;
+    let called = call_at(rt.alloc(), 0, b"f", argument)?;
+    let refused = resolve(rt.alloc(), &called);
+    assert!(rt; matches!(refused, Err(ScopeRefusal::NoFunction { at: 0 })));
+    Ok(())
+}
