@@ -1,0 +1,8 @@
+pub mod SliceSet
+pub mod Consumed
+pub mod LineLemmas
+pub mod StreamLemmas
+pub mod StepLemmas
+pub mod OverlongLemmas
+pub mod TakeLemmas
+pub mod InputsLemmas

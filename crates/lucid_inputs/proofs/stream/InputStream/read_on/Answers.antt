@@ -1,0 +1,25 @@
+use Rattle.std.proofs.Common.{◌≡◌, false, arith}
+use Rattle.std.proofs.lemmas.List.{length-map}
+use Rattle.lucid_inputs.specs.View.{element_of}
+use Rattle.lucid_inputs.proofs.StepLemmas.{reads_none, reads_further, step_done, step_smaller, step_within, not_ended}
+use Rattle.lucid_inputs.proofs.stream.InputStream.read_on.Goals as goal
+
+pub pieces-init : goal.pieces-init
+pieces-init g c = record { on = reads_none _ _ _ c.requires.fits; within = c.requires.within }
+
+pub pieces-preserved : goal.pieces-preserved
+pieces-preserved g c =
+    let going : c.pieces.self.ended ≡ false = first_of (cc (c.pieces-test.true), grind (arith, not_ended, c.pieces-test.true)) in
+    let done = step_done _ _ _ _ going c.in_ok-read_piece.ensures.ok in
+    let few = length-map c.pieces.self.elements.items element_of in
+    record {
+      on = reads_further _ _ _ _ _ _ _ c.pieces.invariant.on going (omega (arith, few, c.pieces.self.elements.ok.0, c.len.ensures, c.if-len-index.true)) done
+          c.in_ok-read_piece.ensures.reached c.in_ok-read_piece.ensures.others;
+      within = step_within _ _ _ _ _ done c.if-self-most.true c.in_ok-read_piece.ensures.most;
+    }
+
+pub pieces-smaller : goal.pieces-smaller
+pieces-smaller g c =
+    let going : c.pieces.self.ended ≡ false = first_of (cc (c.pieces-test.true), grind (arith, not_ended, c.pieces-test.true)) in
+    let done = step_done _ _ _ _ going c.in_ok-read_piece.ensures.ok in
+    step_smaller _ _ _ _ _ done going c.if-self-most.true

@@ -1,0 +1,19 @@
+//! Laws of streams. The functions do nothing: each one's contract is the law.
+ghost use Rattle.lucid_inputs.specs.Laws.{ElementsFit, FreshFits, KeepsWithin};
+
+/// Each element that a stream has read is that of all bytes of a place that it fits, and where its end was met there is
+/// none past the last.
+pub fn elements_fit()
+    ensures { ElementsFit }
+{}
+
+/// A stream of which nothing is read fits a place just reached.
+pub fn fresh_fits()
+    ensures { FreshFits }
+{}
+
+/// Whatever the places tell, no more bytes of a stream are consumed than may be, and of a partly read line no more are kept
+/// than its first 4,194,305 bytes.
+pub fn keeps_within()
+    ensures { KeepsWithin }
+{}

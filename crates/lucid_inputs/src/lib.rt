@@ -1,0 +1,16 @@
+//! Inputs whose elements are read on demand: an element is that of its line, a line is consumed through its line end and
+//! not past it, and no line is consumed before it is asked for.
+#![tactic(auto)]
+
+mod fault;
+mod laws;
+mod lines;
+mod on_demand;
+mod stream;
+
+pub use fault::InputFault;
+pub use laws::{elements_fit, fresh_fits, keeps_within};
+pub use on_demand::Inputs;
+
+#[cfg(test)]
+mod tests;

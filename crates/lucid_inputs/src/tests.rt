@@ -1,0 +1,211 @@
+// What no clause says: that the calls succeed with ample memory, and that large inputs take bounded memory and little time.
+ghost use Rattle.std.specs.Prelude.{◌≡◌, IfOk};
+ghost use Rattle.lucid_ports.specs.MemoryView.{memory_world};
+ghost use Rattle.lucid_inputs.specs.Inputs.{IsAskable};
+
+use super::*;
+use lucid_ports::{Endless, FailAt, MemoryFile, MemoryPlaces, Narrow, Places, read_at_most};
+use lucid_value::Value;
+use std::alloc::{AllocError, Global};
+use std::test::Fail;
+
+// The bytes that the shipped program reads of an input at most.
+const MOST: u64 = 268_435_456;
+
+// What a call for an element answers.
+#[derive(Clone, Copy, Debug, PartialEq, Eq)]
+enum Seen {
+    Int(i128),
+    Fault,
+    Eod,
+    Other,
+    Refused(InputFault),
+}
+
+fn answer_of(answer: Result<&Value, InputFault>) -> Seen {
+    match answer {
+        Ok(Value::Int(n)) => Seen::Int(*n),
+        Ok(Value::Fault) => Seen::Fault,
+        Ok(Value::Eod) => Seen::Eod,
+        Ok(_) => Seen::Other,
+        Err(fault) => Seen::Refused(fault),
+    }
+}
+
+fn ask<P: Places>(inputs: &mut Inputs, places: &mut P, index: u64) -> Seen
+    requires { IsAskable inputs.old 0 (P.world places.old) }
+    ensures { IsAskable inputs.new 0 (P.world places.new) }
+{
+    answer_of(inputs.element(places, 0, index))
+}
+
+// One stream, read from the place `a`.
+fn input_a<P: Places>(alloc: Global, places: &mut P, most: u64) -> Result<Inputs, Fail>
+    requires { (P.world places.old).reached ≡ 0 }
+    ensures { IfOk result (λ inputs. IsAskable inputs 0 (P.world places.new)) }
+{
+    fresh_fits();
+    let place = places.reach(alloc, "a")?;
+    let numbers = Vec::from_slice(alloc, &[place])?;
+    let inputs = Inputs::make(alloc, numbers, most)?;
+    Ok(inputs)
+}
+
+// The file `a`, and these failures to come.
+fn file_a(alloc: Global, bytes: Vec<u8>, failures: &[FailAt]) -> Result<MemoryPlaces, AllocError>
+    ensures { IfOk result (λ places. (memory_world places).reached ≡ 0) }
+{
+    let mut files = Vec::new(alloc);
+    files.push(MemoryFile {
+        name: String::from_str(alloc, "a")?,
+        bytes,
+    })?;
+    Ok(MemoryPlaces::make(alloc, files, Vec::from_slice(alloc, failures)?))
+}
+
+// Zeros, a one and a line end.
+fn long_number(alloc: Global, zeros: usize) -> Result<Vec<u8>, AllocError> {
+    let mut bytes = vec![in alloc; b'0'; zeros]?;
+    bytes.push(b'1')?;
+    bytes.push(b'\n')?;
+    Ok(bytes)
+}
+
+#[test]
+fn limit_of_an_input(rt: HostRuntime) -> Result<(), Fail> {
+    let alloc = rt.alloc();
+    for (most, index, answer, consumed) in [
+        (
+            4u64,
+            0u64,
+            Seen::Refused(InputFault::TooLarge { stream: 0 }),
+            4u64,
+        ),
+        (6, 0, Seen::Int(12345), 6),
+        (6, 1, Seen::Refused(InputFault::TooLarge { stream: 0 }), 6),
+        (7, 1, Seen::Eod, 6),
+    ] {
+        let bytes = Vec::from_slice(alloc, b"12345\n")?;
+        let mut places = file_a(alloc, bytes, &[])?;
+        let mut inputs = input_a(alloc, &mut places, most)?;
+        assert_eq!(rt; ask(&mut inputs, &mut places, index), answer, "of {most}");
+        assert_eq!(rt; places.consumed(0), consumed, "of {most}");
+    }
+    Ok(())
+}
+
+#[test]
+fn limit_of_a_line(rt: HostRuntime) -> Result<(), Fail> {
+    let alloc = rt.alloc();
+    for (zeros, answer) in [(4_194_303usize, Seen::Int(1)), (4_194_304, Seen::Fault)] {
+        let mut places = file_a(alloc, long_number(alloc, zeros)?, &[])?;
+        let mut inputs = input_a(alloc, &mut places, 5_000_000)?;
+        assert_eq!(rt; ask(&mut inputs, &mut places, 0), answer, "with {zeros}");
+    }
+    Ok(())
+}
+
+#[test]
+fn a_failure_loses_nothing(rt: HostRuntime) -> Result<(), Fail> {
+    let alloc = rt.alloc();
+    for position in [0u64, 1, 3, 4] {
+        let bytes = Vec::from_slice(alloc, b"7\n89")?;
+        let mut places = file_a(alloc, bytes, &[FailAt { place: 0, position }])?;
+        let mut inputs = input_a(alloc, &mut places, MOST)?;
+        let failed = ask(&mut inputs, &mut places, 1);
+        assert_eq!(rt;
+            failed,
+            Seen::Refused(InputFault::ReadFault),
+            "at {position}"
+        );
+        assert_eq!(rt; places.consumed(0), position);
+        assert_eq!(rt;
+            ask(&mut inputs, &mut places, 1),
+            Seen::Int(89),
+            "at {position}"
+        );
+        assert_eq!(rt;
+            ask(&mut inputs, &mut places, 0),
+            Seen::Int(7),
+            "at {position}"
+        );
+        assert_eq!(rt;
+            ask(&mut inputs, &mut places, 2),
+            Seen::Eod,
+            "at {position}"
+        );
+    }
+    Ok(())
+}
+
+#[test]
+fn pieces_of_any_length(rt: HostRuntime) -> Result<(), Fail> {
+    let alloc = rt.alloc();
+    for most in [1usize, 2, 7, 100] {
+        for (index, answer, left) in [
+            (0u64, Seen::Int(12), b"\n-3 \nx y\n45".as_slice()),
+            (1, Seen::Fault, b"-3 \nx y\n45".as_slice()),
+            (2, Seen::Int(-3), b"x y\n45".as_slice()),
+            (3, Seen::Fault, b"45".as_slice()),
+            (4, Seen::Int(45), b"".as_slice()),
+            (5, Seen::Eod, b"".as_slice()),
+        ] {
+            let bytes = Vec::from_slice(alloc, b"12\n\n-3 \nx y\n45")?;
+            let mut places = Narrow::make(file_a(alloc, bytes, &[])?, most);
+            let mut inputs = input_a(alloc, &mut places, MOST)?;
+            assert_eq!(rt; ask(&mut inputs, &mut places, index), answer, "with {most}");
+            let rest = read_at_most(alloc, &mut places, 0, 100)?;
+            assert_eq!(rt; rest.as_slice(), left, "with {most}");
+        }
+    }
+    Ok(())
+}
+
+#[test]
+fn an_input_without_end(rt: HostRuntime) -> Result<(), Fail> {
+    let alloc = rt.alloc();
+    let mut piece = vec![in alloc; b'1'; 65_536]?;
+    if let Some(first) = piece.get_mut(0) {
+        *first = b'2';
+    }
+    assert!(rt; !piece.is_empty());
+    let mut places = Endless::make(alloc, Vec::new(alloc), piece);
+    let mut inputs = input_a(alloc, &mut places, MOST)?;
+    let answer = ask(&mut inputs, &mut places, 0);
+    assert_eq!(rt; answer, Seen::Refused(InputFault::TooLarge { stream: 0 }));
+    // Whole turns of the piece are consumed: it begins anew.
+    assert_eq!(rt; places.fill(0)?.first().copied(), Some(b'2'));
+    Ok(())
+}
+
+// Lines with a seven each.
+fn lines_of_seven(alloc: Global, count: usize) -> Result<Vec<u8>, AllocError> {
+    let mut bytes = Vec::new(alloc);
+    for _ in 0..count {
+        bytes.extend_from_slice(b"7\n")?;
+    }
+    Ok(bytes)
+}
+
+// How many elements from the first on are seven, of at most `count`.
+fn sevens<P: Places>(inputs: &mut Inputs, places: &mut P, count: u64) -> u64
+    requires { IsAskable inputs.old 0 (P.world places.old) }
+    ensures { IsAskable inputs.new 0 (P.world places.new) }
+{
+    for index in 0..count {
+        if ask(inputs, places, index) != Seen::Int(7) {
+            return index;
+        }
+    }
+    count
+}
+
+#[test]
+fn a_million_lines(rt: HostRuntime) -> Result<(), Fail> {
+    let alloc = rt.alloc();
+    let mut places = file_a(alloc, lines_of_seven(alloc, 1_000_000)?, &[])?;
+    let mut inputs = input_a(alloc, &mut places, MOST)?;
+    assert_eq!(rt; sevens(&mut inputs, &mut places, 2_000_000), 1_000_000);
+    assert_eq!(rt; ask(&mut inputs, &mut places, 1_000_000), Seen::Eod);
+    Ok(())
+}
