@@ -1,0 +1,66 @@
+-- A tree that is well made has few nodes, and its operators have their numbers of arguments.
+use Rattle.std.proofs.Common.{◌≡◌, ℕ, ◌+◌, ◌≤◌, ◌++◌, ◌∷◌, length, true, IsTrue, ◌&&◌, nat_eq, nat_lt, arith}
+use Rattle.std.proofs.lemmas.Bool.{and_parts}
+use Rattle.std.proofs.lemmas.Bool.Decides.{nat_tests}
+use Rattle.std.proofs.lemmas.List.{length-append}
+use Rattle.lucid_ops.specs.Arity.{arity}
+use Rattle.lucid_tree.specs.Tree.{Head, const, apply, choose, both, either, first, next, fby, whenever, asa, upon, attime, initial, succ, sby, atspace, PlainTree, form, name, call, block, PlainTrees, no_trees, tree, PlainDefs, no_defs, defines, defines_function, defines_current}
+use Rattle.lucid_tree.specs.Size.{count, nodes, nodes_in, nodes_in_defs}
+use Rattle.lucid_tree.specs.WellMade.{places, places_in, places_in_defs, fits_arity, is_shaped, are_shaped, defs_are_shaped}
+use Rattle.lucid_plain.specs.Small.{FitsArity, Applies, AllApply, DefsApply}
+
+-- each node has a place
+mutual
+  pub nodes_placed : (e : PlainTree) → nodes e ≤ length (places e)
+  nodes_placed (form at f es) = omega (arith, nodes_in_placed es)
+  nodes_placed (name at n) = omega arith
+  nodes_placed (call at n es) = omega (arith, nodes_in_placed es)
+  nodes_placed (block at e ds) = omega (arith, nodes_placed e, nodes_in_defs_placed ds, length-append (places e) (places_in_defs ds))
+
+  nodes_in_placed : (es : PlainTrees) → nodes_in es ≤ length (places_in es)
+  nodes_in_placed no_trees = omega arith
+  nodes_in_placed (tree e es) = omega (arith, nodes_placed e, nodes_in_placed es, length-append (places e) (places_in es))
+
+  nodes_in_defs_placed : (ds : PlainDefs) → nodes_in_defs ds ≤ length (places_in_defs ds)
+  nodes_in_defs_placed no_defs = omega arith
+  nodes_in_defs_placed (defines at x e ds) = omega (arith, nodes_placed e, nodes_in_defs_placed ds, length-append (places e) (places_in_defs ds))
+  nodes_in_defs_placed (defines_function at x ns ats e ds) =
+      omega (arith, nodes_placed e, nodes_in_defs_placed ds, length-append ats (places e), length-append (ats ++ places e) (places_in_defs ds))
+  nodes_in_defs_placed (defines_current at x e ds) = omega (arith, nodes_placed e, nodes_in_defs_placed ds, length-append (places e) (places_in_defs ds))
+
+fits : (f : Head) (es : PlainTrees) → fits_arity f es ≡ true → FitsArity f es
+fits (apply op n) es h = grind (arith, nat_tests)
+fits (const v) es h = tt
+fits choose es h = tt
+fits both es h = tt
+fits either es h = tt
+fits first es h = tt
+fits next es h = tt
+fits fby es h = tt
+fits whenever es h = tt
+fits asa es h = tt
+fits upon es h = tt
+fits attime es h = tt
+fits initial es h = tt
+fits succ es h = tt
+fits sby es h = tt
+fits atspace es h = tt
+
+mutual
+  pub shaped_applies : (e : PlainTree) → is_shaped e ≡ true → Applies e
+  shaped_applies (form at f es) h = let p = and_parts (fits_arity f es) (are_shaped es) h in (fits f es p.0, all_apply es p.1)
+  shaped_applies (name at n) h = tt
+  shaped_applies (call at n es) h = all_apply es h
+  shaped_applies (block at e ds) h = let p = and_parts (is_shaped e) (defs_are_shaped ds) h in (shaped_applies e p.0, defs_apply ds p.1)
+
+  all_apply : (es : PlainTrees) → are_shaped es ≡ true → AllApply es
+  all_apply no_trees h = tt
+  all_apply (tree e es) h = let p = and_parts (is_shaped e) (are_shaped es) h in (shaped_applies e p.0, all_apply es p.1)
+
+  defs_apply : (ds : PlainDefs) → defs_are_shaped ds ≡ true → DefsApply ds
+  defs_apply no_defs h = tt
+  defs_apply (defines at x e ds) h = let p = and_parts (is_shaped e) (defs_are_shaped ds) h in (shaped_applies e p.0, defs_apply ds p.1)
+  defs_apply (defines_function at x ns ats e ds) h =
+      let p = and_parts (nat_lt 0 (length ns) && nat_eq (length ats) (length ns) && is_shaped e) (defs_are_shaped ds) h in
+      let q = and_parts (nat_lt 0 (length ns) && nat_eq (length ats) (length ns)) (is_shaped e) p.0 in (shaped_applies e q.1, defs_apply ds p.1)
+  defs_apply (defines_current at x e ds) h = let p = and_parts (is_shaped e) (defs_are_shaped ds) h in (shaped_applies e p.0, defs_apply ds p.1)

@@ -1,0 +1,10 @@
+use Rattle.std.proofs.Common.{◌≤◌}
+use Rattle.lucid_plain.specs.Streams.{elements_of}
+use Rattle.lucid_plain.specs.Runs.{Writes}
+use Rattle.lucid_plain.proofs.running.run.Given as goal
+
+abbrev pub invariant-loop-time : goal.invariant-loop-time
+invariant-loop-time g l = record {
+  writes : Writes (elements_of l.streams) l.options.depth l.tree l.time (g.K.Sink.written l.initial.out) (g.K.Sink.written l.out);
+  count : g.K.Sink.faults l.initial.out ≤ g.K.Sink.faults l.out;
+}

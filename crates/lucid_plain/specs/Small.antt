@@ -1,0 +1,38 @@
+-- What the evaluator asks of trees and environments: fewer than 2^31 nodes, on which its measure rests, and operators with as many
+-- arguments as their arities say.
+use Rattle.std.specs.Prelude.{◌≡◌, ℕ, ◌<◌, ◌^◌, Option, Some, None}
+use Rattle.lucid_ops.specs.Arity.{arity}
+use Rattle.lucid_tree.specs.Tree.{Head, apply, PlainTree, form, name, call, block, PlainTrees, no_trees, tree, PlainDefs, no_defs, defines, defines_function, defines_current}
+use Rattle.lucid_tree.specs.Size.{count, nodes_in, nodes_in_defs}
+use Rattle.lucid_tree.specs.Env.{Env, empty, scope, args}
+
+abbrev pub FitsArity : Head → PlainTrees → Type 0
+FitsArity (apply op n) es = count es ≡ arity op
+FitsArity _ es = Unit {0}
+
+-- each operator in the tree has as many arguments as its arity says
+abbrev mutual
+  pub Applies : PlainTree → Type 0
+  Applies (form at f es) = FitsArity f es × AllApply es
+  Applies (name at n) = Unit {0}
+  Applies (call at n es) = AllApply es
+  Applies (block at e ds) = Applies e × DefsApply ds
+
+  pub AllApply : PlainTrees → Type 0
+  AllApply no_trees = Unit {0}
+  AllApply (tree e es) = Applies e × AllApply es
+
+  pub DefsApply : PlainDefs → Type 0
+  DefsApply no_defs = Unit {0}
+  DefsApply (defines at x e ds) = Applies e × DefsApply ds
+  DefsApply (defines_function at x ns ats e ds) = Applies e × DefsApply ds
+  DefsApply (defines_current at x e ds) = Applies e × DefsApply ds
+
+abbrev pub IsTime : Option ℕ → Type 0
+IsTime None = Unit {0}
+IsTime (Some u) = u < 2 ^ 63
+
+abbrev pub IsUsable : Env → Type 0
+IsUsable empty = Unit {0}
+IsUsable (scope ds z rest) = (nodes_in_defs ds < 2 ^ 31) × DefsApply ds × IsTime z × IsUsable rest
+IsUsable (args ns ats es caller rest) = (nodes_in es < 2 ^ 31) × AllApply es × IsUsable caller × IsUsable rest
