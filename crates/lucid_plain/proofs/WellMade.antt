@@ -1,11 +1,10 @@
 -- A tree that is well made has few nodes, and its operators have their numbers of arguments.
-use Rattle.std.proofs.Common.{◌≡◌, ℕ, ◌+◌, ◌≤◌, ◌++◌, ◌∷◌, length, true, IsTrue, ◌&&◌, nat_eq, nat_lt, arith}
+use Rattle.std.proofs.Common.{◌≡◌, ◌≤◌, ◌++◌, length, true, ◌&&◌, nat_eq, nat_lt, arith}
 use Rattle.std.proofs.lemmas.Bool.{and_parts}
 use Rattle.std.proofs.lemmas.Bool.Decides.{nat_tests}
 use Rattle.std.proofs.lemmas.List.{length-append}
-use Rattle.lucid_ops.specs.Arity.{arity}
 use Rattle.lucid_tree.specs.Tree.{Head, const, apply, choose, both, either, first, next, fby, whenever, asa, upon, attime, initial, succ, sby, atspace, PlainTree, form, name, call, block, PlainTrees, no_trees, tree, PlainDefs, no_defs, defines, defines_function, defines_current}
-use Rattle.lucid_tree.specs.Size.{count, nodes, nodes_in, nodes_in_defs}
+use Rattle.lucid_tree.specs.Size.{nodes, nodes_in, nodes_in_defs}
 use Rattle.lucid_tree.specs.WellMade.{places, places_in, places_in_defs, fits_arity, is_shaped, are_shaped, defs_are_shaped}
 use Rattle.lucid_plain.specs.Small.{FitsArity, Applies, AllApply, DefsApply}
 

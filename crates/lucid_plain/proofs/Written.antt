@@ -1,5 +1,5 @@
 -- What a run has written so far.
-use Rattle.std.proofs.Common.{◌≡◌, ℕ, ◌+◌, suc, ◌<◌, ◌≤◌, List, [], ◌++◌, length, take, Option, Some, None, sym, ◌∙◌, ap, subst, add-one, ◌-◌, ◌^◌, inl, inr, true, arith}
+use Rattle.std.proofs.Common.{◌≡◌, ℕ, ◌+◌, suc, ◌<◌, ◌≤◌, List, [], ◌++◌, length, Option, Some, sym, ◌∙◌, ap, subst, add-one, ◌-◌, ◌^◌, inl, inr, true, arith}
 use Rattle.std.specs.Prelude.{Vec}
 use Rattle.std.specs.Global.{Global}
 use Rattle.std.proofs.lemmas.Bool.{cases_lt}
@@ -17,7 +17,7 @@ use Rattle.lucid_ports.specs.declared.run.RunFault.TheVariants.{TooDeep, ReadFau
 use Rattle.lucid_ports.specs.declared.run.Summary.{Summary}
 use Rattle.lucid_plain.specs.declared.running.Line.{Line}
 use Rattle.lucid_plain.specs.declared.running.Line.TheVariants.{Bytes, End}
-use Rattle.lucid_plain.specs.Runs.{Lines, no_lines, one_more, Writes, WritesFront, EndsAt, Finishes, Stops}
+use Rattle.lucid_plain.specs.Runs.{no_lines, one_more, Writes, WritesFront, EndsAt, Finishes, Stops}
 use Rattle.lucid_plain.specs.WritingLines.{HasLine, IsLineAt, FrontOf, StopsLine}
 use Rattle.lucid_plain.proofs.Pieces.{with_nothing, all-all, all-front, front-all}
 

@@ -1,5 +1,5 @@
 -- What a test and a place do, and a search.
-use Rattle.std.specs.Prelude.{ℕ, pos, true, false, List, [], ◌∷◌, Option, Some, None, nat_le, if◌then◌else◌}
+use Rattle.std.specs.Prelude.{ℕ, pos, true, false, List, [], Option, Some, None, nat_le, if◌then◌else◌}
 use Rattle.lucid_value.specs.Plain.{PlainValue, int, truth, eod, fault}
 use Rattle.lucid_plain.specs.declared.streams.Stream.{Stream}
 use Rattle.lucid_tree.specs.Tree.{PlainTree, PlainTrees, tree, no_trees}

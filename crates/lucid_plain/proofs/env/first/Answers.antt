@@ -1,5 +1,4 @@
 use Rattle.std.proofs.Common.{◌≡◌, sym, ◌∙◌, ap}
-use Rattle.lucid_tree.specs.DefsView.{defs_of}
 use Rattle.lucid_tree.specs.Env.{definition, absent}
 use Rattle.lucid_plain.specs.View.{found_in}
 use Rattle.lucid_plain.proofs.Finds.{passed, met, none_left}

@@ -23,7 +23,6 @@ use Rattle.lucid_plain.proofs.Searches.{one_more, no_more, count_ends}
 use Rattle.lucid_plain.proofs.Parts.{nodes_at, applies_at, each_count, each_one, next_all, none_left, undefined_at, op_none, op_some, before_all}
 use Rattle.lucid_plain.proofs.Calls.{IsCallSmall, calling_small, call_going_is}
 use Rattle.lucid_plain.specs.Small.{Applies, AllApply}
-use Rattle.lucid_ops.specs.Arity.{arity}
 use Rattle.lucid_tree.specs.Size.{count}
 use Rattle.std.proofs.Common.{length}
 use Rattle.std.proofs.lemmas.List.{length-map}

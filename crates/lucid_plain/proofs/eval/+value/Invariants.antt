@@ -1,6 +1,5 @@
 use Rattle.std.proofs.Common.{map, drop, ◌≤◌, ◌≡◌, ◌+◌, ◌-◌, ◌*◌, ◌^◌}
 use Rattle.lucid_tree.specs.Size.{nodes, nodes_in, nodes_in_defs}
-use Rattle.lucid_tree.specs.DefsView.{defs_of}
 use Rattle.lucid_tree.specs.Lists.{trees_of}
 use Rattle.lucid_plain.specs.View.{env_of}
 use Rattle.lucid_plain.specs.Turns.{found_by, counted_by, each_value}
