@@ -1,0 +1,20 @@
+pub mod NodeAims
+pub mod NodeGrowth
+pub mod NodeMeant
+pub mod NodeWalks
+pub mod Cuts
+pub mod Targets
+pub mod Same
+pub mod One
+pub mod Evaluated
+pub mod Placed
+pub mod Distinct
+pub mod Numbers
+pub mod Held
+pub mod Promised
+pub mod Listed
+pub mod Made
+pub mod Differ
+pub mod Rising
+pub mod Built
+mod Samples

@@ -1,0 +1,16 @@
+pub mod Nodes
+pub mod Datons
+pub mod Values
+pub mod Visits
+pub mod Laws
+pub mod Static
+pub mod Compiles
+pub mod Places
+pub mod Counts
+pub mod Promise
+pub mod Listing
+pub mod Compile
+pub mod Rows
+pub mod Ranges
+pub mod Programs
+pub mod Built

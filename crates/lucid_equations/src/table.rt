@@ -1,0 +1,19 @@
+//! Equation tables, and the programs that they are.
+use crate::lists::{NameRows, NodeRows, PlaceRows, ScopeRows, Values};
+use lucid_tree::Names;
+
+/// An equation table: lists of rows, which name each other by number, and the number of the root.
+#[derive(Drop)]
+pub struct Table {
+    /// The scopes in which rows stand.
+    pub scopes: ScopeRows,
+    /// The names of the inputs.
+    pub inputs: Names,
+    pub constants: Values,
+    pub nodes: NodeRows,
+    pub names: NameRows,
+    /// The call places.
+    pub places: PlaceRows,
+    /// The number of the node whose value is the program's.
+    pub root: u32,
+}
