@@ -1,0 +1,8 @@
+pub mod Signs
+pub mod Goods
+pub mod Chunks
+pub mod Printed
+pub mod Scanned
+pub mod Loops
+pub mod Falls
+pub mod Operations

@@ -1,0 +1,4 @@
+pub mod Styles
+pub mod Canonical
+pub mod Again
+pub mod Views

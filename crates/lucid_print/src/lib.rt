@@ -1,0 +1,10 @@
+//! The canonical source of a tree: one line, with the least parentheses that the grammar needs.
+#![tactic(auto)]
+
+pub use crate::print::print_tree;
+
+pub mod laws;
+mod print;
+mod style;
+#[cfg(test)]
+mod tests;
