@@ -75,7 +75,11 @@ const OPERATORS: [(&[u8], &[u8]); 50] = [
 ];
 
 /// Blocks, calls, choices and constants, alone and in each other's places.
-const OTHERS: [(&[u8], &[u8]); 28] = [
+const OTHERS: [(&[u8], &[u8]); 29] = [
+    (
+        b"x where x = 0 fby x + 1; end",
+        b"x where x = 0 fby x + 1; end",
+    ),
     (b"(f(a)) whenever ((p))", b"f(a) whenever p"),
     (b"f((x where x = 1; end),(2))", b"f(x where x = 1; end, 2)"),
     (b"f(-a,g((b)))", b"f(- a, g(b))"),
