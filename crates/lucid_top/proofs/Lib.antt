@@ -1,0 +1,10 @@
+pub mod Pieces
+pub mod Reading
+pub mod Meant
+pub mod Sources
+pub mod Inputs
+pub mod Unique
+pub mod Refusals
+pub mod Stages
+pub mod Coming
+pub mod Ends

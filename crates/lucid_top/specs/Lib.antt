@@ -1,0 +1,12 @@
+pub mod Status
+pub mod Refusals
+pub mod Judged
+pub mod Laws
+pub mod Lines
+pub mod Telling
+pub mod Printing
+pub mod Asked
+pub mod Call
+pub mod Comes
+pub mod Clauses
+pub mod Running
