@@ -3,7 +3,7 @@ use Rattle.std.proofs.Common.{◌≡◌, ◌≢◌, ℕ, zero, suc, ◌-◌, ◌
 use Rattle.lucid_value.specs.Plain.{PlainValue, int, truth, word, text, list, eod, fault}
 use Rattle.lucid_plain.specs.declared.streams.Stream.{Stream}
 use Rattle.lucid_tree.specs.Tree.{PlainTree, tree, no_trees}
-use Rattle.lucid_tree.specs.Rows.{Plan, gives, single, by_test, part_at, Reader, add_value, with_values, run, find, count}
+use Rattle.lucid_tree.specs.Rows.{Plan, gives, single, by_test, gives_part, Reader, add_value, with_values, run, find_true, count_true}
 use Rattle.lucid_tree.specs.Env.{Env}
 use Rattle.lucid_tree.specs.Levels.{nothing_held, below}
 use Rattle.lucid_tree.specs.Meaning.{value, val, part_at as part_value}
@@ -40,8 +40,8 @@ module _ (vs : List Stream) (m : ℕ) (x p : PlainTree) (env : Env) (s : ℕ) wh
 
   step : (k j n : ℕ) → found_by vs m x p env (suc k) j n s ≡ by_turning (turn_of (val (elements_of vs) m p env j s)) (look_on k j n) (found_by vs m x p env k (suc j) n s)
   step k j zero =
-      tested (val (elements_of vs) m p env j s) (part_at 0 j s) (find k (suc j) 0 s) reader ∙ ap (λ o. by_turning (turn_of (val (elements_of vs) m p env j s)) o (found_by vs m x p env k (suc j) 0 s)) (valued (val (elements_of vs) m x env j s) reader)
-  step k j (suc n) = tested (val (elements_of vs) m p env j s) (find k (suc j) n s) (find k (suc j) (suc n) s) reader
+      tested (val (elements_of vs) m p env j s) (gives_part 0 j s) (find_true k (suc j) 0 s) reader ∙ ap (λ o. by_turning (turn_of (val (elements_of vs) m p env j s)) o (found_by vs m x p env k (suc j) 0 s)) (valued (val (elements_of vs) m x env j s) reader)
+  step k j (suc n) = tested (val (elements_of vs) m p env j s) (find_true k (suc j) n s) (find_true k (suc j) (suc n) s) reader
 
   step_at : (j n : ℕ) → j < m → found_by vs m x p env (m - j) j n s ≡ by_turning (turn_of (val (elements_of vs) m p env j s)) (look_on (m - (j + 1)) j n) (found_by vs m x p env (m - (j + 1)) (j + 1) n s)
   step_at j n h = let e : m - j ≡ suc (m - suc j) = omega arith in rw (add-one, e) (step (m - suc j) j n)
@@ -60,7 +60,7 @@ module _ (vs : List Stream) (m : ℕ) (x p : PlainTree) (env : Env) (s : ℕ) wh
   ends_at j n o h e = step_at j n h ∙ rw (← e) refl
 
   step_count : (l k j n : ℕ) → counted_by vs m x p env l (suc k) j n s ≡ by_turning (turn_of (val (elements_of vs) m p env j s)) (counted_by vs m x p env l k (suc j) (suc n) s) (counted_by vs m x p env l k (suc j) n s)
-  step_count l k j n = tested (val (elements_of vs) m p env j s) (count k (suc j) (suc n) s l) (count k (suc j) n s l) reader
+  step_count l k j n = tested (val (elements_of vs) m p env j s) (count_true k (suc j) (suc n) s l) (count_true k (suc j) n s l) reader
 
   count_at : (t j n : ℕ) → j < t → counted_by vs m x p env t (t - j) j n s ≡ by_turning (turn_of (val (elements_of vs) m p env j s)) (counted_by vs m x p env t (t - (j + 1)) (j + 1) (n + 1) s) (counted_by vs m x p env t (t - (j + 1)) (j + 1) n s)
   count_at t j n h = let e : t - j ≡ suc (t - suc j) = omega arith in simp add-one (rw e (step_count t (t - suc j) j n))

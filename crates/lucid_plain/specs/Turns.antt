@@ -3,7 +3,7 @@ use Rattle.std.specs.Prelude.{ℕ, pos, true, false, List, [], Option, Some, Non
 use Rattle.lucid_value.specs.Plain.{PlainValue, int, truth, eod, fault}
 use Rattle.lucid_plain.specs.declared.streams.Stream.{Stream}
 use Rattle.lucid_tree.specs.Tree.{PlainTree, PlainTrees, tree, no_trees}
-use Rattle.lucid_tree.specs.Rows.{last, find, count, run, add_value}
+use Rattle.lucid_tree.specs.Rows.{last, find_true, count_true, run, add_value}
 use Rattle.lucid_tree.specs.Env.{Env}
 use Rattle.lucid_tree.specs.Levels.{nothing_held, below}
 use Rattle.lucid_tree.specs.Meaning.{value, val, part_at}
@@ -33,11 +33,11 @@ place_of (Some _) = no_place (Some fault)
 
 -- what a search finds, with `left` times left from j on
 abbrev pub found_by : List Stream → (m : ℕ) → (x p : PlainTree) → Env → (left j n s : ℕ) → Option PlainValue
-found_by vs m x p env left j n s = run (find left j n s) (λ i u r. part_at m (below value (nothing_held (elements_of vs)) m) (tree x (tree p no_trees)) env i u r)
+found_by vs m x p env left j n s = run (find_true left j n s) (λ i u r. part_at m (below value (nothing_held (elements_of vs)) m) (tree x (tree p no_trees)) env i u r)
 
 -- what a count finds, with `left` times left from j on
 abbrev pub counted_by : List Stream → (m : ℕ) → (x p : PlainTree) → Env → (least left j n s : ℕ) → Option PlainValue
-counted_by vs m x p env l left j n s = run (count left j n s l) (λ i u r. part_at m (below value (nothing_held (elements_of vs)) m) (tree x (tree p no_trees)) env i u r)
+counted_by vs m x p env l left j n s = run (count_true left j n s l) (λ i u r. part_at m (below value (nothing_held (elements_of vs)) m) (tree x (tree p no_trees)) env i u r)
 
 -- the values of all trees
 abbrev pub each_value : List Stream → (m : ℕ) → PlainTrees → Env → (t s : ℕ) → Option (List PlainValue)

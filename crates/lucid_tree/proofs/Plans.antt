@@ -3,7 +3,7 @@ use Rattle.std.proofs.Common.{◌≡◌, ℕ, zero, suc, Bool, true, false, List
 use Rattle.std.proofs.lemmas.Bool.Decides.{nat_tests}
 use Rattle.lucid_value.specs.Plain.{PlainValue, int, truth, word, text, list, eod, fault}
 use Rattle.lucid_tree.specs.Tree.{Head, const, apply, choose, both, either, first, next, fby, whenever, asa, upon, attime, initial, succ, sby, atspace}
-use Rattle.lucid_tree.specs.Rows.{Look, Plan, gives, nothing, looks, single, part_at, by_test, at_zero, find, count, plan, Reader, all_values, add_value, with_values, run}
+use Rattle.lucid_tree.specs.Rows.{Look, Plan, gives, nothing, looks, single, gives_part, by_test, at_zero, find_true, count_true, plan, Reader, all_values, add_value, with_values, run}
 
 -- the second plan is the first, or goes on where the first has nothing
 pub data Within : Plan → Plan → Type 0 where
@@ -59,10 +59,10 @@ single-within f f' h [] = from_nothing
 single-within f f' h (v ∷ vs) = h v
 
 -- one more time to look at
-pub find-grows : (left j n s : ℕ) → Within (find left j n s) (find (suc left) j n s)
+pub find-grows : (left j n s : ℕ) → Within (find_true left j n s) (find_true (suc left) j n s)
 find-grows zero j n s = from_nothing
 find-grows (suc left) j n s =
-    same_looks (single-within _ _ (λ v. by_test-within v (at_zero-within n (part_at 0 j s) (λ k. find left (suc j) k s) (λ k. find (suc left) (suc j) k s) (λ k. find-grows left (suc j) k s)) (find-grows left (suc j) n s)))
+    same_looks (single-within _ _ (λ v. by_test-within v (at_zero-within n (gives_part 0 j s) (λ k. find_true left (suc j) k s) (λ k. find_true (suc left) (suc j) k s) (λ k. find-grows left (suc j) k s)) (find-grows left (suc j) n s)))
 
 pub if-within : (b b' : Bool) (p : Plan) → (b ≡ true → b' ≡ true) → Within (if b then p else nothing) (if b' then p else nothing)
 if-within true b' p h = rw (h refl) (within_itself p)
@@ -75,7 +75,7 @@ nat_le-suc t m e = grind (arith, nat_tests)
 pub plan-grows : (m : ℕ) (f : Head) (t s : ℕ) → Within (plan m f t s) (plan (suc m) f t s)
 plan-grows m whenever t s = find-grows m 0 t s
 plan-grows m asa t s = find-grows m 0 0 s
-plan-grows m upon t s = if-within (nat_le t m) (nat_le t (suc m)) (count t 0 0 s t) (nat_le-suc t m)
+plan-grows m upon t s = if-within (nat_le t m) (nat_le t (suc m)) (count_true t 0 0 s t) (nat_le-suc t m)
 plan-grows m (const v) t s = same_value
 plan-grows m (apply op n) t s = within_itself _
 plan-grows m choose t s = within_itself _

@@ -4,7 +4,7 @@ use Rattle.std.specs.Prelude.{pos, negsuc}
 use Rattle.std.proofs.lemmas.Bool.Decides.{nat_tests}
 use Rattle.lucid_value.specs.Plain.{PlainValue, int, truth, word, text, list, eod, fault}
 use Rattle.lucid_tree.specs.Tree.{Head, const, apply, choose, both, either, first, next, fby, whenever, asa, upon, attime, initial, succ, sby, atspace}
-use Rattle.lucid_tree.specs.Rows.{Look, Plan, gives, nothing, looks, look, single, part_at, by_test, by_place, at_zero, arguments, find, count, last, plan, Reader, add_value, all_values, with_values, run, gather, trace}
+use Rattle.lucid_tree.specs.Rows.{Look, Plan, gives, nothing, looks, look, single, gives_part, by_test, by_place, at_zero, arguments, find_true, count_true, last, plan, Reader, add_value, all_values, with_values, run, gather, trace}
 use Rattle.lucid_tree.proofs.Plans.{Within, from_nothing, same_value, same_looks, Keeps, all_values-keeps}
 use Rattle.lucid_tree.proofs.Traces.{TakesMore}
 
@@ -29,7 +29,7 @@ takes_look m i t s l k h g = takes_looks (one_taken h none_taken) (takes_single 
 zero_le : (m : ℕ) → nat_le 0 m ≡ true
 zero_le m = grind (arith, nat_tests)
 
-takes_part : (m i t s : ℕ) → Takes m (part_at i t s)
+takes_part : (m i t s : ℕ) → Takes m (gives_part i t s)
 takes_part m i t s = takes_look m i t s 0 gives (zero_le m) (λ v. takes_value)
 
 takes_test : (m : ℕ) (v : PlainValue) (p q : Plan) → Takes m p → Takes m q → Takes m (by_test v p q)
@@ -64,12 +64,12 @@ all_arguments : (m n i t s : ℕ) → AllTaken m (arguments n i t s)
 all_arguments m zero i t s = none_taken
 all_arguments m (suc n) i t s = one_taken (zero_le m) (all_arguments m n (suc i) t s)
 
-takes_find : (m left j n s : ℕ) → left + j ≤ m → Takes m (find left j n s)
+takes_find : (m left j n s : ℕ) → left + j ≤ m → Takes m (find_true left j n s)
 takes_find m zero j n s h = takes_nothing
 takes_find m (suc left) j n s h =
-    takes_look m 1 j s (suc j) _ (grind (arith, nat_tests)) (λ v. takes_test m v _ _ (takes_zero m n (part_at 0 j s) (λ k. find left (suc j) k s) (takes_part m 0 j s) (λ k. takes_find m left (suc j) k s (omega arith))) (takes_find m left (suc j) n s (omega arith)))
+    takes_look m 1 j s (suc j) _ (grind (arith, nat_tests)) (λ v. takes_test m v _ _ (takes_zero m n (gives_part 0 j s) (λ k. find_true left (suc j) k s) (takes_part m 0 j s) (λ k. takes_find m left (suc j) k s (omega arith))) (takes_find m left (suc j) n s (omega arith)))
 
-takes_count : (m left j n s l : ℕ) → nat_le l m ≡ true → Takes m (count left j n s l)
+takes_count : (m left j n s l : ℕ) → nat_le l m ≡ true → Takes m (count_true left j n s l)
 takes_count m zero j n s l h = takes_part m 0 n s
 takes_count m (suc left) j n s l h =
     takes_look m 1 j s l _ h (λ v. takes_test m v _ _ (takes_count m left (suc j) (suc n) s l h) (takes_count m left (suc j) n s l h))
@@ -82,15 +82,15 @@ takes_plan m choose t s = takes_look m 0 t s 0 _ (zero_le m) (λ c. takes_test m
 takes_plan m both t s = takes_look m 0 t s 0 _ (zero_le m) (λ c. takes_test m c _ _ (takes_look m 1 t s 0 _ (zero_le m) (λ b. takes_value)) takes_value)
 takes_plan m either t s = takes_look m 0 t s 0 _ (zero_le m) (λ c. takes_test m c _ _ takes_value (takes_look m 1 t s 0 _ (zero_le m) (λ b. takes_value)))
 takes_plan m first t s = takes_part m 0 0 s
-takes_plan m next t s = takes_if m (nat_lt t last) (part_at 0 (suc t) s) (gives fault) (λ e. takes_part m 0 (suc t) s) takes_value
-takes_plan m fby t s = takes_zero m t (part_at 0 0 s) (λ u. part_at 1 u s) (takes_part m 0 0 s) (λ u. takes_part m 1 u s)
+takes_plan m next t s = takes_if m (nat_lt t last) (gives_part 0 (suc t) s) (gives fault) (λ e. takes_part m 0 (suc t) s) takes_value
+takes_plan m fby t s = takes_zero m t (gives_part 0 0 s) (λ u. gives_part 1 u s) (takes_part m 0 0 s) (λ u. takes_part m 1 u s)
 takes_plan m whenever t s = takes_find m m 0 t s (omega arith)
 takes_plan m asa t s = takes_find m m 0 0 s (omega arith)
-takes_plan m upon t s = takes_if m (nat_le t m) (count t 0 0 s t) nothing (λ e. takes_count m t 0 0 s t e) takes_nothing
+takes_plan m upon t s = takes_if m (nat_le t m) (count_true t 0 0 s t) nothing (λ e. takes_count m t 0 0 s t e) takes_nothing
 takes_plan m attime t s = takes_look m 1 t s 0 _ (zero_le m) (λ y. takes_place m y _ (λ u. takes_part m 0 u s))
 takes_plan m initial t s = takes_part m 0 t 0
-takes_plan m succ t s = takes_if m (nat_lt s last) (part_at 0 t (suc s)) (gives fault) (λ e. takes_part m 0 t (suc s)) takes_value
-takes_plan m sby t s = takes_zero m s (part_at 0 t 0) (λ r. part_at 1 t r) (takes_part m 0 t 0) (λ r. takes_part m 1 t r)
+takes_plan m succ t s = takes_if m (nat_lt s last) (gives_part 0 t (suc s)) (gives fault) (λ e. takes_part m 0 t (suc s)) takes_value
+takes_plan m sby t s = takes_zero m s (gives_part 0 t 0) (λ r. gives_part 1 t r) (takes_part m 0 t 0) (λ r. takes_part m 1 t r)
 takes_plan m atspace t s = takes_look m 1 t s 0 _ (zero_le m) (λ y. takes_place m y _ (λ r. takes_part m 0 t r))
 
 -- both are there where the list is

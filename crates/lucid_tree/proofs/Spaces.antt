@@ -3,7 +3,7 @@ use Rattle.std.proofs.Common.{◌≡◌, ℕ, zero, suc, Bool, true, false, List
 use Rattle.std.specs.Prelude.{pos, negsuc}
 use Rattle.lucid_value.specs.Plain.{PlainValue, int, truth, word, text, list, eod, fault}
 use Rattle.lucid_tree.specs.Tree.{Head, const, apply, choose, both, either, first, next, fby, whenever, asa, upon, attime, initial, succ, sby, atspace, PlainTree, form, name, call, block, PlainTrees, no_trees, tree, PlainDefs, no_defs, defines, defines_function, defines_current}
-use Rattle.lucid_tree.specs.Rows.{Look, Plan, gives, nothing, looks, look, single, part_at, by_test, by_place, at_zero, arguments, find, count, last, plan, Reader, add_value, all_values, with_values, run}
+use Rattle.lucid_tree.specs.Rows.{Look, Plan, gives, nothing, looks, look, single, gives_part, by_test, by_place, at_zero, arguments, find_true, count_true, last, plan, Reader, add_value, all_values, with_values, run}
 use Rattle.lucid_tree.specs.Levels.{Elements, nothing_held, element_of, goes_to, nowhere, Below, below}
 use Rattle.lucid_tree.specs.Env.{Env, empty, scope, args, Found, absent, plain_def, function_def, current_def, same_name, definition, frozen_at, Referent, Position, Aim, in_scope, frozen_target, param, tree_at, to_actual, in_args, name_target, called, unless_param, call_target}
 use Rattle.lucid_tree.specs.Meaning.{value_at, value, val}
@@ -29,7 +29,7 @@ module _ (s s' : ℕ) where
   look-moved : (i t l : ℕ) (k k' : PlainValue → Plan) → ((v : PlainValue) → Moved (k v) (k' v)) → Moved (look i t s l k) (look i t s' l k')
   look-moved i t l k k' h = both_look (a_look no_look) (single-moved k k' h)
 
-  part-moved : (i t : ℕ) → Moved (part_at i t s) (part_at i t s')
+  part-moved : (i t : ℕ) → Moved (gives_part i t s) (gives_part i t s')
   part-moved i t = look-moved i t 0 gives gives (λ v. both_give)
 
   test-moved : (v : PlainValue) (p p' q q' : Plan) → Moved p p' → Moved q q' → Moved (by_test v p q) (by_test v p' q')
@@ -64,12 +64,12 @@ module _ (s s' : ℕ) where
   arguments-moved zero i t = no_look
   arguments-moved (suc n) i t = a_look (arguments-moved n (suc i) t)
 
-  find-moved : (left j n : ℕ) → Moved (find left j n s) (find left j n s')
+  find-moved : (left j n : ℕ) → Moved (find_true left j n s) (find_true left j n s')
   find-moved zero j n = both_nothing
   find-moved (suc left) j n =
-      look-moved 1 j (suc j) _ _ (λ v. test-moved v _ _ _ _ (zero-moved n (part_at 0 j s) (part_at 0 j s') (λ k. find left (suc j) k s) (λ k. find left (suc j) k s') (part-moved 0 j) (λ k. find-moved left (suc j) k)) (find-moved left (suc j) n))
+      look-moved 1 j (suc j) _ _ (λ v. test-moved v _ _ _ _ (zero-moved n (gives_part 0 j s) (gives_part 0 j s') (λ k. find_true left (suc j) k s) (λ k. find_true left (suc j) k s') (part-moved 0 j) (λ k. find-moved left (suc j) k)) (find-moved left (suc j) n))
 
-  count-moved : (left j n l : ℕ) → Moved (count left j n s l) (count left j n s' l)
+  count-moved : (left j n l : ℕ) → Moved (count_true left j n s l) (count_true left j n s' l)
   count-moved zero j n l = part-moved 0 n
   count-moved (suc left) j n l =
       look-moved 1 j l _ _ (λ v. test-moved v _ _ _ _ (count-moved left (suc j) (suc n) l) (count-moved left (suc j) n l))

@@ -35,8 +35,8 @@ abbrev pub look : (part time space least : ℕ) → (PlainValue → Plan) → Pl
 look i t s l k = looks (record { part = i; time = t; space = s; least = l } ∷ []) (single k)
 
 -- the value of a part
-abbrev pub part_at : (part time space : ℕ) → Plan
-part_at i t s = look i t s 0 gives
+abbrev pub gives_part : (part time space : ℕ) → Plan
+gives_part i t s = look i t s 0 gives
 
 -- on by a truth; what is no truth ends it
 abbrev pub by_test : PlainValue → (on off : Plan) → Plan
@@ -72,34 +72,34 @@ arguments zero i t s = []
 arguments (suc n) i t s = record { part = i; time = t; space = s; least = 0 } ∷ arguments n (suc i) t s
 
 -- part 0 at the time of the true value number n, from 0, of part 1 at the times from j on, of which `left` are left
-abbrev pub find : (left j n space : ℕ) → Plan
-find zero j n s = nothing
-find (suc left) j n s =
-    look 1 j s (suc j) (λ p. by_test p (at_zero n (part_at 0 j s) (λ k. find left (suc j) k s)) (find left (suc j) n s))
+abbrev pub find_true : (left j n space : ℕ) → Plan
+find_true zero j n s = nothing
+find_true (suc left) j n s =
+    look 1 j s (suc j) (λ p. by_test p (at_zero n (gives_part 0 j s) (λ k. find_true left (suc j) k s)) (find_true left (suc j) n s))
 
 -- part 0 at n and the number of true values of part 1 at the times from j on, of which `left` are left
-abbrev pub count : (left j n space least : ℕ) → Plan
-count zero j n s l = part_at 0 n s
-count (suc left) j n s l = look 1 j s l (λ p. by_test p (count left (suc j) (suc n) s l) (count left (suc j) n s l))
+abbrev pub count_true : (left j n space least : ℕ) → Plan
+count_true zero j n s l = gives_part 0 n s
+count_true (suc left) j n s l = look 1 j s l (λ p. by_test p (count_true left (suc j) (suc n) s l) (count_true left (suc j) n s l))
 
 -- the row of a form at a time and a space, for the approximation m
 abbrev pub plan : (m : ℕ) → Head → (time space : ℕ) → Plan
 plan m (const v) t s = gives v
 plan m (apply op n) t s = looks (arguments n 0 t s) (λ vs. gives (algebra op vs))
-plan m choose t s = look 0 t s 0 (λ c. by_test c (part_at 1 t s) (part_at 2 t s))
+plan m choose t s = look 0 t s 0 (λ c. by_test c (gives_part 1 t s) (gives_part 2 t s))
 plan m both t s = look 0 t s 0 (λ a. by_test a (look 1 t s 0 (λ b. gives (only_truth b))) (gives (truth false)))
 plan m either t s = look 0 t s 0 (λ a. by_test a (gives (truth true)) (look 1 t s 0 (λ b. gives (only_truth b))))
-plan m first t s = part_at 0 0 s
-plan m next t s = below_last t (part_at 0 (suc t) s)
-plan m fby t s = at_zero t (part_at 0 0 s) (λ u. part_at 1 u s)
-plan m whenever t s = find m 0 t s
-plan m asa t s = find m 0 0 s
-plan m upon t s = if nat_le t m then count t 0 0 s t else nothing
-plan m attime t s = look 1 t s 0 (λ y. by_place y (λ u. part_at 0 u s))
-plan m initial t s = part_at 0 t 0
-plan m succ t s = below_last s (part_at 0 t (suc s))
-plan m sby t s = at_zero s (part_at 0 t 0) (λ r. part_at 1 t r)
-plan m atspace t s = look 1 t s 0 (λ y. by_place y (λ r. part_at 0 t r))
+plan m first t s = gives_part 0 0 s
+plan m next t s = below_last t (gives_part 0 (suc t) s)
+plan m fby t s = at_zero t (gives_part 0 0 s) (λ u. gives_part 1 u s)
+plan m whenever t s = find_true m 0 t s
+plan m asa t s = find_true m 0 0 s
+plan m upon t s = if nat_le t m then count_true t 0 0 s t else nothing
+plan m attime t s = look 1 t s 0 (λ y. by_place y (λ u. gives_part 0 u s))
+plan m initial t s = gives_part 0 t 0
+plan m succ t s = below_last s (gives_part 0 t (suc s))
+plan m sby t s = at_zero s (gives_part 0 t 0) (λ r. gives_part 1 t r)
+plan m atspace t s = look 1 t s 0 (λ y. by_place y (λ r. gives_part 0 t r))
 
 -- what reads the parts: a part's number, a time and a space
 abbrev pub Reader : Type 0 → Type 0
