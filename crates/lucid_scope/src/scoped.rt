@@ -1,6 +1,7 @@
 //! Trees that are resolved.
 ghost use Rattle.std.specs.Prelude.{◌≡◌, nat_eq};
 ghost use Rattle.std.specs.Map.{lookup};
+ghost use Rattle.lucid_tree.specs.WellMade.{IsWellMade, IsWellMade-prop};
 ghost use Rattle.lucid_scope.specs.Bindings.{IsResolved};
 
 use indexmap::IndexMap;
@@ -22,13 +23,14 @@ pub enum Binding {
     Input { stream: u32 },
 }
 
-/// A tree whose names have no fault, with what each name belongs to.
+/// A tree that is well made and whose names have no fault, with what each name belongs to.
 #[derive(Drop)]
 pub struct Scoped {
     pub(crate) tree: Tree,
     pub(crate) inputs: Vec<Name>,
     pub(crate) bindings: IndexMap<u32, Binding>,
     ghost resolved: { ∥ IsResolved tree inputs.items (λ at. lookup (nat_eq at) bindings.entries) ∥₁ },
+    ghost well_made: { IsWellMade tree } by { IsWellMade-prop tree },
 }
 
 impl Scoped {
@@ -38,6 +40,7 @@ impl Scoped {
     pub fn tree(&self) -> &Tree
         ensures value { result.now ≡ scoped_tree self.now }
         ensures resolved { ∥ IsResolved (scoped_tree self.now) (scoped_inputs self.now) (scoped_binding self.now) ∥₁ }
+        ensures well_made { IsWellMade (scoped_tree self.now) }
     {
         &self.tree
     }

@@ -1,8 +1,10 @@
 -- Depth, places, and the trees that are well made.
 use Rattle.std.specs.Prelude.{ℕ, ◌+◌, ◌<◌, max, Bool, true, List, [], ◌∷◌, ◌++◌, length, ◌&&◌, nat_eq, nat_lt, IsTrue}
+use Rattle.std.proofs.Props.{props}
 use Rattle.lucid_ops.specs.Arity.{arity}
 use Rattle.lucid_tree.specs.Tree.{Head, apply, PlainTree, form, name, call, block, PlainTrees, no_trees, tree, PlainDefs, no_defs, defines, defines_function, defines_current}
 use Rattle.lucid_tree.specs.Size.{count}
+use Rattle.lucid_tree.specs.Members.{AllDiffer-prop}
 pub use Rattle.lucid_tree.specs.Members.{In, AllDiffer}
 
 -- The root has depth 1, and a part of a node has one more than the node; the parts of a block are its subject and the right sides
@@ -72,3 +74,7 @@ pub record IsWellMade (e : PlainTree) : Type 0 where
   pub shaped : IsTrue (is_shaped e)
   pub placed : AllDiffer (places e)
   pub few : length (places e) < 2147483648
+
+-- At most one proof says so.
+pub IsWellMade-prop : (e : PlainTree) → IsProp (IsWellMade e)
+IsWellMade-prop e = hlevel (props, AllDiffer-prop (places e))

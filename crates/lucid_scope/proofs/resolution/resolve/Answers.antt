@@ -60,6 +60,7 @@ invariant_of-result c = record {
       (c.in_ok-inputs.ensures ∙ ap (λ l. fold with_mark [] l) c.deref-2.ensures.value)
       (subst (λ l. All (λ (m : Mark). lookup (nat_eq m.at) c.in_ok-bindings.bindings.entries ≡ mark_binding c.in_ok-inputs.inputs.names.items m) l) c.deref-3.ensures.value c.in_ok-bindings.ensures.bound)
       (λ at h. c.in_ok-bindings.ensures.others at (subst (λ l. All (λ (m : Mark). m.at ≡ at → ⊥) l) (sym c.deref-3.ensures.value) h))));
+  well_made = rw c.in_ok-tree.ensures c.requires;
 }
 
 pub returns-clause-no_fault : goal.returns-clause-no_fault
