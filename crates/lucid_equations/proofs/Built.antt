@@ -19,26 +19,26 @@ use Rattle.lucid_equations.proofs.Made.{get-map, made}
 use Rattle.lucid_equations.proofs.Differ.{distinct-places}
 
 -- the node of that index among some nodes
-abbrev nth : PlainNodes → ℕ → Option PlainNode
+abbrev pub nth : PlainNodes → ℕ → Option PlainNode
 nth no_nodes i = None
 nth (node e es) zero = Some e
 nth (node e es) (suc i) = nth es i
 
-abbrev nth_of : Option PlainNodes → ℕ → Option PlainNode
+abbrev pub nth_of : Option PlainNodes → ℕ → Option PlainNode
 nth_of None i = None
 nth_of (Some es) i = nth es i
 
-nth-all_at : (ts : List PlainNode) (js : List ℕ) (i : ℕ) → option_map (at ts) (slice_get js i) ≡ nth (all_at ts js) i
+pub nth-all_at : (ts : List PlainNode) (js : List ℕ) (i : ℕ) → option_map (at ts) (slice_get js i) ≡ nth (all_at ts js) i
 nth-all_at ts [] i = refl
 nth-all_at ts (j ∷ js) zero = refl
 nth-all_at ts (j ∷ js) (suc i) = nth-all_at ts js i
 
-nth-nodes_for : (nu : Numbers) (k : Static) (es : PlainTrees) (i : ℕ) → option_map (λ e. node_for nu k e) (tree_at es i) ≡ nth (nodes_for nu k es) i
+pub nth-nodes_for : (nu : Numbers) (k : Static) (es : PlainTrees) (i : ℕ) → option_map (λ e. node_for nu k e) (tree_at es i) ≡ nth (nodes_for nu k es) i
 nth-nodes_for nu k no_trees i = refl
 nth-nodes_for nu k (tree e es) zero = refl
 nth-nodes_for nu k (tree e es) (suc i) = nth-nodes_for nu k es i
 
-actuals-read : (ts : List PlainNode) (o : Option PlaceRow) (i : ℕ) → option_map (at ts) (slice_get (actuals_of o) i) ≡ nth_of (option_map (λ r. all_at ts r.actuals) o) i
+pub actuals-read : (ts : List PlainNode) (o : Option PlaceRow) (i : ℕ) → option_map (at ts) (slice_get (actuals_of o) i) ≡ nth_of (option_map (λ r. all_at ts r.actuals) o) i
 actuals-read ts None i = refl
 actuals-read ts (Some r) i = nth-all_at ts r.actuals i
 

@@ -9,7 +9,7 @@ use Rattle.lucid_tree.proofs.Members.{in_left, in_right, in_either}
 use Rattle.lucid_equations.specs.Static.{Static, outermost, in_block, in_function, Origin, Site, Callee, callee}
 use Rattle.lucid_equations.specs.Places.{place_of, first_place, calls_pass_actuals, all_pass_actuals, defs_pass_actuals}
 use Rattle.lucid_equations.specs.Listing.{Stand, origin_of, call_rows, parameter_rows, rows_for, all_rows, def_rows, sites_for, all_sites, def_sites, spots_for, all_spots, def_spots}
-use Rattle.lucid_equations.specs.Compile.{no_numbers, HasDistinctPlaces}
+use Rattle.lucid_equations.specs.Compile.{no_numbers, spot_keys, HasDistinctPlaces}
 
 -- the items of the first list are drawn from the second, none more often than it stands there
 pub record Drawn (xs ys : List ℕ) : Type 0 where
@@ -229,3 +229,7 @@ distinct-places e w h = record {
   calls = (tree_sites-drawn outermost e h).differ w.placed;
   nodes = (spots-drawn outermost e).differ w.placed;
 }
+
+-- no two nodes of a well made tree have one place
+pub distinct-spots : (e : PlainTree) → IsWellMade e → AllDiffer (spot_keys e)
+distinct-spots e w = (spots-drawn outermost e).differ w.placed

@@ -18,3 +18,10 @@ pub mod Differ
 pub mod Rising
 pub mod Built
 mod Samples
+pub mod Growing
+pub mod Falls
+pub mod Adding
+pub mod Scoping
+pub mod Compiled
+pub mod Final
+pub mod Calling

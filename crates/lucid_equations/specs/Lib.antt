@@ -14,3 +14,9 @@ pub mod Rows
 pub mod Ranges
 pub mod Programs
 pub mod Built
+pub mod Numbered
+pub mod Bound
+pub mod Building
+pub mod Holds
+pub mod Forms
+pub mod Steps

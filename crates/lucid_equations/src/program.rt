@@ -1,9 +1,10 @@
 //! Programs: tables whose numbers lead somewhere, and their readers.
-ghost use Rattle.std.specs.Prelude.{◌≡◌, ◌<◌, length, Some};
+ghost use Rattle.std.specs.Prelude.{◌≡◌, ◌<◌, length, Some, IfSome};
 ghost use Rattle.lucid_value.specs.View.{plain};
 ghost use Rattle.lucid_equations.specs.Rows.{node_at, node_by, entry_by, row_at, name_at, actual_at, constant_at};
 ghost use Rattle.lucid_equations.specs.Ranges.{sizes, NodeIsInRange, EntryIsInRange, IsInRange, IsInRange-prop};
 
+use crate::range::is_in_range;
 use crate::rows::{Entry, Node};
 use crate::table::Table;
 use lucid_value::Value;
@@ -18,6 +19,17 @@ pub struct Program {
 
 impl Program {
     ghost use Rattle.lucid_equations.specs.Programs.{table_of, program_equations, count_of_actuals};
+
+    /// The program of a table that is in range, and none of another.
+    pub(crate) fn make(table: Table) -> Option<Program>
+        ensures { IfSome result (λ program. table_of program ≡ table) }
+    {
+        if is_in_range(&table) {
+            Some(Program { table })
+        } else {
+            None
+        }
+    }
 
     /// The table.
     pub fn table(&self) -> &Table

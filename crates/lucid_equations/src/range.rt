@@ -1,0 +1,113 @@
+//! Whether a table's numbers are in range.
+ghost use Rattle.std.specs.Prelude.{◌≡◌, true};
+ghost use Rattle.lucid_equations.specs.Ranges.{sizes, EachBelow, NodeIsInRange, NodesAreInRange, EntryIsInRange, NamesAreInRange, PlacesAreInRange, IsInRange};
+
+use crate::rows::{Entry, Node};
+use crate::table::Table;
+
+/// Whether the root, the parts of nodes and what else they name, the bodies of names, and the actuals of call places are there, and
+/// the places past an operator's arguments are lower than the node, as 0 is.
+pub(crate) fn is_in_range(table: &Table) -> bool
+    ensures { result ≡ true → IsInRange table.now }
+{
+    (table.root as usize) < table.nodes.items().len()
+        && table.inputs.items().len() < 0xffff_ffff
+        && are_nodes_in_range(table)
+        && are_names_in_range(table)
+        && are_places_in_range(table)
+}
+
+// Whether each number is below a bound.
+fn are_below(bound: usize, ids: &[u32]) -> bool
+    ensures { result ≡ true → EachBelow bound ids.now }
+{
+    for id in ids {
+        if *id as usize >= bound {
+            return false;
+        }
+    }
+    true
+}
+
+fn is_node_in_range(table: &Table, id: usize, node: &Node) -> bool
+    ensures { result ≡ true → NodeIsInRange (sizes table.now) id node.now }
+{
+    match node {
+        Node::Const { constant } => (*constant as usize) < table.constants.items().len(),
+        Node::Input { stream } => (*stream as usize) < table.inputs.items().len(),
+        Node::Apply { op: _, args } => are_below(id, args),
+        Node::If { test, yes, no } => {
+            (*test as usize) < id && (*yes as usize) < id && (*no as usize) < id
+        }
+        Node::And { left, right }
+        | Node::Or { left, right }
+        | Node::Fby { left, right }
+        | Node::Whenever { left, right }
+        | Node::Asa { left, right }
+        | Node::Upon { left, right }
+        | Node::Attime { left, right }
+        | Node::Sby { left, right }
+        | Node::Atspace { left, right } => (*left as usize) < id && (*right as usize) < id,
+        Node::First { of } | Node::Next { of } | Node::Initial { of } | Node::Succ { of } => {
+            (*of as usize) < id
+        }
+        Node::Freeze { subject } => (*subject as usize) < id,
+        Node::Refer { name, level: _ } => (*name as usize) < table.names.items().len(),
+        Node::Call {
+            name,
+            place,
+            level: _,
+        } => {
+            (*name as usize) < table.names.items().len()
+                && (*place as usize) < table.places.items().len()
+        }
+    }
+}
+
+fn are_nodes_in_range(table: &Table) -> bool
+    ensures { result ≡ true → NodesAreInRange (sizes table.now) 0 table.now.nodes }
+{
+    let rows = table.nodes.items();
+    for (id, row) in rows.iter().enumerate() {
+        if !is_node_in_range(table, id, &row.node) {
+            return false;
+        }
+    }
+    true
+}
+
+fn is_entry_in_range(table: &Table, entry: &Entry) -> bool
+    ensures { result ≡ true → EntryIsInRange (sizes table.now) entry.now }
+{
+    match entry {
+        Entry::Plain { body } | Entry::Current { body } | Entry::Called { body } => {
+            (*body as usize) < table.nodes.items().len()
+        }
+        Entry::Parameter { index: _ } => true,
+    }
+}
+
+fn are_names_in_range(table: &Table) -> bool
+    ensures { result ≡ true → NamesAreInRange (sizes table.now) table.now.names }
+{
+    let rows = table.names.items();
+    for row in rows {
+        if !is_entry_in_range(table, &row.kind) {
+            return false;
+        }
+    }
+    true
+}
+
+fn are_places_in_range(table: &Table) -> bool
+    ensures { result ≡ true → PlacesAreInRange (sizes table.now) table.now.places }
+{
+    let nodes = table.nodes.items().len();
+    let rows = table.places.items();
+    for row in rows {
+        if !are_below(nodes, row.actuals.items()) {
+            return false;
+        }
+    }
+    true
+}
