@@ -1,6 +1,6 @@
 //! The value of a compiled table by plain recursion, from the public readers of programs alone: slow on purpose, it keeps nothing.
 //! No input has an element here.
-ghost use Rattle.std.specs.Prelude.{◌≡◌, ◌<◌, length, IfSome};
+ghost use Rattle.std.specs.Prelude.{◌≡◌, ◌<◌, ◌+◌, length, IfSome};
 ghost use Rattle.lucid_ops.specs.Arity.{arity};
 ghost use Rattle.lucid_equations.specs.Ranges.{EachBelow};
 ghost use Rattle.lucid_equations.specs.Programs.{table_of};
@@ -69,6 +69,21 @@ impl<'a> Point<'a> {
         ensures { result.limit ≡ self.entry.limit }
     {
         Point { space, ..self }
+    }
+
+    fn within(self, context: &'a Context<'a>) -> Point<'a>
+        ensures { result.limit ≡ self.entry.limit }
+    {
+        Point { context, ..self }
+    }
+
+    // The point by the approximation just below.
+    fn below(self) -> Point<'a>
+        requires { 0 < self.limit }
+        ensures { result.limit + 1 ≡ self.entry.limit }
+    {
+        let limit = self.limit - 1;
+        Point { limit, ..self }
     }
 }
 
@@ -308,47 +323,17 @@ impl Evaluator<'_> {
         if at.limit == 0 {
             return Ok(None);
         }
-        let limit = at.limit - 1;
+        let lower = at.below();
         match (self.program.entry(name), at.context) {
-            (Entry::Plain { body } | Entry::Called { body }, _) => {
-                self.value(body, Point { limit, ..at })
-            }
-            (
-                Entry::Parameter { index },
-                Context::Call {
-                    place,
-                    caller: context,
-                    ..
-                },
-            ) => {
+            (Entry::Plain { body } | Entry::Called { body }, _) => self.value(body, lower),
+            (Entry::Parameter { index }, Context::Call { place, caller, .. }) => {
                 match self.actual(*place, index) {
-                    Some(actual) => self.value(
-                        actual,
-                        Point {
-                            context,
-                            limit,
-                            ..at
-                        },
-                    ),
+                    Some(actual) => self.value(actual, lower.within(caller)),
                     None => Ok(None),
                 }
             }
-            (
-                Entry::Current { body },
-                Context::Frozen {
-                    time,
-                    outer: context,
-                },
-            ) => {
-                self.value(
-                    body,
-                    Point {
-                        context,
-                        time: *time,
-                        limit,
-                        ..at
-                    },
-                )
+            (Entry::Current { body }, Context::Frozen { time, outer }) => {
+                self.value(body, lower.at_time(*time).within(outer))
             }
             _ => Ok(None),
         }
