@@ -69,24 +69,35 @@ fn scoped(alloc: Global, source: &[u8]) -> Result<Scoped, Fail> {
     Ok(resolve(alloc, &tree)?)
 }
 
+// The values of the tree at a limit, which are those of the table.
+fn same_values<R: Abort + AllocGlobal>(
+    rt: &R,
+    source: &str,
+    scoped: &Scoped,
+    program: &Program,
+    count: u32,
+    limit: u32,
+) -> Result<String, Fail> {
+    let of_tree = tree_values(rt.alloc(), scoped.tree(), count, limit)?;
+    let of_table = table_values(rt.alloc(), program, count, limit)?;
+    assert_eq!(rt;
+        of_table.as_str(),
+        of_tree.as_str(),
+        "{source} at limit {limit}"
+    );
+    Ok(of_tree)
+}
+
 // The tree and the table have the row's values at its limit, and the same ones at each lower limit.
 fn keeps_values<R: Abort + AllocGlobal>(rt: &R, row: &Row) -> Result<(), Fail> {
     let (source, count, limit, values) = *row;
     let scoped = scoped(rt.alloc(), source.as_bytes())?;
     let program = compile(rt.alloc(), &scoped)?;
     for lower in 0..limit {
-        let of_tree = tree_values(rt.alloc(), scoped.tree(), count, lower)?;
-        let of_table = table_values(rt.alloc(), &program, count, lower)?;
-        assert_eq!(rt;
-            of_table.as_str(),
-            of_tree.as_str(),
-            "{source} at limit {lower}"
-        );
+        same_values(rt, source, &scoped, &program, count, lower)?;
     }
-    let of_tree = tree_values(rt.alloc(), scoped.tree(), count, limit)?;
-    assert_eq!(rt; of_tree.as_str(), values, "{source}");
-    let of_table = table_values(rt.alloc(), &program, count, limit)?;
-    assert_eq!(rt; of_table.as_str(), values, "{source}");
+    let text = same_values(rt, source, &scoped, &program, count, limit)?;
+    assert_eq!(rt; text.as_str(), values, "{source}");
     Ok(())
 }
 
@@ -98,7 +109,7 @@ fn each_keeps_values<R: Abort + AllocGlobal>(rt: &R, rows: &[Row]) -> Result<(),
 }
 
 // Names, forms over time and functions.
-static OVER_TIME: [Row; 14] = [
+static OVER_TIME: [Row; 16] = [
     ("1", 3, 1, "1 / 1 / 1"),
     ("x where x = 0 fby x + 1; end", 5, 6, "0 / 1 / 2 / 3 / 4"),
     (
@@ -144,6 +155,18 @@ static OVER_TIME: [Row; 14] = [
         3,
         9,
         "11 / 23 / 36",
+    ),
+    (
+        "f(n, 10) where f(x, y) = y - x; n = 0 fby n + 1; end",
+        3,
+        6,
+        "10 / 9 / 8",
+    ),
+    (
+        "x + y where x is current (y where y is current k + 1; end); y = 10; end where k = 0 fby k + 1; end",
+        3,
+        7,
+        "11 / 12 / 13",
     ),
     (
         "x where x = [] fby i :: x; i = 0 fby i + 1; end",
