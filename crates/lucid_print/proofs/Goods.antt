@@ -1,18 +1,17 @@
 -- Signs whose text is read as they are, before every byte that may come behind it.
-use Rattle.std.proofs.Common.{◌≡◌, ℕ, zero, suc, ◌+◌, ◌^◌, ◌<◌, ◌≤◌, List, [], ◌∷◌, ◌++◌, length, take, Option, Some, Bool, true, false, not, cond, ◌&&◌, ◌||◌, eqb, inl, inr, refl, sym, ◌∙◌, ap, subst, arith, rules}
-use Rattle.std.specs.Prelude.{pos, nat_lt, neg_ℤ, codes}
+use Rattle.std.proofs.Common.{◌≡◌, ℕ, zero, suc, ◌^◌, ◌<◌, ◌≤◌, List, [], ◌∷◌, ◌++◌, length, take, Some, Bool, true, false, not, cond, ◌&&◌, ◌||◌, eqb, inl, inr, refl, sym, ◌∙◌, ap, subst, arith, rules}
+use Rattle.std.specs.Prelude.{pos, neg_ℤ}
 use Rattle.std.specs.Fmt.{decimal}
 use Rattle.std.specs.List.{list_all}
 use Rattle.std.specs.Char.{is_ascii_digit}
 use Rattle.std.proofs.lemmas.Fmt.{decimal_is_IsNumeral_wide}
 use Rattle.std.proofs.lemmas.Str.Parse.{IsDigitsTest, WeighsDigits, IsNumeralModel, numerals_by_weight}
 use Rattle.std.proofs.lemmas.List.{append_cancel_right}
-use Rattle.std.proofs.lemmas.Bool.{or_cases, and_parts, not-true, eqb-true, lt-ltb, le-leb, leb-true}
+use Rattle.std.proofs.lemmas.Bool.{or_cases, and_parts, not-true, eqb-true, lt-ltb, le-leb}
 use Rattle.lucid_value.specs.Plain.{PlainValue, int, truth, word, text, list, eod, fault, Items, no_items, item, weight, nesting, may_be_held, well_formed, all_well_formed, in_range, all_in_range, is_i128, is_value, within_limits, same_bytes}
 use Rattle.lucid_value.specs.Names.{is_name, is_name_byte, is_reserved, reserved_words}
 use Rattle.lucid_value.specs.Reading.{is_number, number_of, Denotes, denotes_number, denotes_minus, denotes_true, denotes_false, denotes_word, denotes_text, denotes_list, denotes_eod, denotes_fault, DenotesItems, denotes_none, denotes_item, Reads}
 use Rattle.lucid_value.specs.Laws.{TextIsRead}
-use Rattle.lucid_value.specs.ValueText.{value_text}
 use Rattle.lucid_scan.specs.declared.token.TokenKind.{TokenKind}
 use Rattle.lucid_scan.specs.declared.token.TokenKind.TheVariants as kind
 use Rattle.lucid_scan.specs.Texts.{is_mark, is_word_value, is_text_value, IsTokenText}

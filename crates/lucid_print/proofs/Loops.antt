@@ -1,7 +1,7 @@
 -- What the loops of the printer write is the rest of the text, item by item.
 use Rattle.std.proofs.Common.{◌≡◌, ℕ, zero, suc, ◌+◌, ◌<◌, ◌≤◌, List, [], ◌∷◌, ◌++◌, length, drop, get_or, refl, sym, ◌∙◌, ap, arith, add-one, append_assoc, append-nil}
 use Rattle.std.specs.Prelude.{codes}
-use Rattle.lucid_tree.specs.Tree.{PlainTree, PlainTrees, no_trees, tree, PlainDefs, no_defs, defines, defines_function, defines_current}
+use Rattle.lucid_tree.specs.Tree.{PlainTree, PlainDefs, no_defs}
 use Rattle.lucid_tree.specs.Lists.{trees_of}
 use Rattle.lucid_tree.specs.DefsView.{defs_of, one_def, def_of}
 use Rattle.lucid_tree.specs.declared.tree.Def.{Def}

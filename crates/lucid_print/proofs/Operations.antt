@@ -1,5 +1,5 @@
 -- A data operator with its arguments, as a form of these parts.
-use Rattle.std.proofs.Common.{◌≡◌, ℕ, ◌+◌, ◌<◌, ◌≤◌, List, [], ◌∷◌, ◌++◌, length, get_or, ◌⊎◌, inl, inr, Result, Ok, Err, Box, Global, refl, sym, ◌∙◌, ap, subst, arith, append_assoc, append-nil}
+use Rattle.std.proofs.Common.{◌≡◌, ℕ, ◌<◌, ◌≤◌, List, [], ◌∷◌, ◌++◌, length, get_or, ◌⊎◌, inl, inr, Result, Ok, Err, Box, Global, refl, sym, ◌∙◌, ap, subst, arith, append_assoc, append-nil}
 use Rattle.std.specs.Result.{OnOk}
 use Rattle.lucid_tree.specs.Tree.{PlainTree, PlainTrees}
 use Rattle.lucid_tree.specs.Lists.{trees_of}

@@ -1,10 +1,10 @@
 -- The signs of the canonical source of a tree that was parsed spell the tree again, up to places.
-use Rattle.std.proofs.Common.{◌≡◌, ℕ, ◌+◌, ◌≤◌, ◌<◌, List, [], ◌∷◌, ◌++◌, Bool, true, false, cond, refl, sym, ◌∙◌, ap, subst, arith, le_refl, zero-le, append_assoc, append-nil}
+use Rattle.std.proofs.Common.{◌≡◌, ℕ, ◌+◌, ◌≤◌, List, [], ◌∷◌, ◌++◌, Bool, true, false, refl, sym, ◌∙◌, ap, subst, arith, zero-le, append_assoc, append-nil}
 use Rattle.std.specs.Prelude.{codes, nat_lt}
 use Rattle.std.proofs.lemmas.Bool.{cond-true, cond-false, ltb-false}
 use Rattle.lucid_value.specs.Plain.{PlainValue}
 use Rattle.lucid_value.specs.Laws.{TextIsRead}
-use Rattle.lucid_tree.specs.Tree.{Head, const, choose, PlainTree, form, name, call, block, PlainTrees, no_trees, tree, PlainDefs, no_defs, defines, defines_function, defines_current}
+use Rattle.lucid_tree.specs.Tree.{const, choose, PlainTree, form, name, call, block, PlainTrees, no_trees, tree, PlainDefs, no_defs, defines, defines_function, defines_current}
 use Rattle.lucid_tree.specs.Size.{count}
 use Rattle.lucid_parse.specs.declared.sign.Between.{Between}
 use Rattle.lucid_parse.specs.declared.sign.Between.TheVariants as between
@@ -14,13 +14,13 @@ use Rattle.lucid_parse.specs.declared.sign.Called.{Called}
 use Rattle.lucid_parse.specs.declared.sign.Sign.TheVariants as sign
 use Rattle.lucid_parse.specs.Grammar
 use Rattle.lucid_parse.specs.Grammar.{PlainSign, Word, word, Spells, SpellsArgs, SpellsDefs, SpellsNames, trees_and, def_before, defs_and, Parameter, parameter, names_of, places_of, Defined, Plain, Function, Current, between_of, before_of, between_head, before_head, called_head, called_arity}
-use Rattle.lucid_print.specs.Styles.{Style, style, style_level, level}
-use Rattle.lucid_print.specs.Canonical.{Part, part, placed, parted, parted_more, texts, form_text, constant_text, source, parts, definitions}
+use Rattle.lucid_print.specs.Styles.{style_level, level}
+use Rattle.lucid_print.specs.Canonical.{placed, parted, parted_more, texts, form_text, source, parts, definitions}
 use Rattle.lucid_print.specs.Again.{unplaced, all_unplaced, defs_unplaced}
 use Rattle.lucid_print.specs.Views.{part_of}
 use Rattle.lucid_print.proofs.Signs.{sign_of, sign_before, sign_is, sign_before_is, sign_text, is_open, after, style-between, style-before, style-called}
 use Rattle.lucid_print.proofs.Goods.{Good, IsWritten, open_good, close_good, comma_good, semicolon_good, equals_good, is_good, current_good, where_good, end_good, if_good, then_good, else_good, fi_good, minus_good, between_good, before_good, called_good, const_good, written_name_good}
-use Rattle.lucid_print.proofs.Chunks.{Chunk, signs, chunk_as, IsPlain, single, led, operated, trailed, ended, closed, called, with_comma, Definitions, no_definitions, and_definition, blocked}
+use Rattle.lucid_print.proofs.Chunks.{Chunk, chunk_as, IsPlain, single, led, operated, trailed, ended, closed, called, with_comma, Definitions, no_definitions, and_definition, blocked}
 
 abbrev pub signs_of : List Word → List PlainSign
 signs_of [] = []

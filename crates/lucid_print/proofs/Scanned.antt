@@ -1,5 +1,5 @@
 -- A text of good signs is scanned as words of these signs.
-use Rattle.std.proofs.Common.{◌≡◌, ℕ, zero, suc, ◌+◌, ◌-◌, ◌≤◌, ◌<◌, List, [], ◌∷◌, ◌++◌, length, take, drop, Bool, true, false, cond, ◌&&◌, ◌||◌, inl, inr, refl, sym, ◌∙◌, ap, subst, arith, le_refl, zero-le, append_assoc, length-append}
+use Rattle.std.proofs.Common.{◌≡◌, ℕ, suc, ◌+◌, ◌-◌, ◌≤◌, List, [], ◌∷◌, ◌++◌, length, take, drop, Bool, true, false, cond, ◌&&◌, ◌||◌, inl, inr, refl, sym, ◌∙◌, ap, subst, arith, le_refl, zero-le, append_assoc, length-append}
 use Rattle.std.specs.Prelude.{slice_range, max}
 use Rattle.std.specs.List.{All}
 use Rattle.std.proofs.Math.Seq.{take-append_seam, drop-append_seam}
@@ -18,9 +18,8 @@ use Rattle.lucid_parse.specs.declared.refusal.ParseRefusal.TheVariants as parse_
 use Rattle.lucid_parse.specs.Grammar.{PlainSign, Word, word, Spells}
 use Rattle.lucid_parse.specs.Laws.{WordsAreUnique, WordsSpellOneTree}
 use Rattle.lucid_parse.specs.Spelled.{SpellsTree, IsRefused}
-use Rattle.lucid_parse.specs.Words
-use Rattle.lucid_parse.specs.Words.{Words, StandsFor, bytes_of}
-use Rattle.lucid_print.specs.Canonical.{source, canonical}
+use Rattle.lucid_parse.specs.Words.{Words, StandsFor}
+use Rattle.lucid_print.specs.Canonical.{canonical}
 use Rattle.lucid_print.specs.Again.{unplaced, all_unplaced, defs_unplaced, IsReadAs, IsParsed}
 use Rattle.lucid_print.proofs.Signs.{sign_text, is_open, is_closer, is_callable, is_tight, gap, after}
 use Rattle.lucid_print.proofs.Goods.{Good, AllGood, stoppers, among, or_left, or_right}

@@ -1,8 +1,7 @@
 -- The text of signs: each sign's own, and a blank between two or none.
-use Rattle.std.proofs.Common.{◌≡◌, ℕ, ◌+◌, List, [], ◌∷◌, ◌++◌, Option, Some, Bool, true, false, cond, ◌&&◌, ◌||◌, refl, sym, ◌∙◌, ap, append_assoc}
+use Rattle.std.proofs.Common.{◌≡◌, ℕ, List, [], ◌∷◌, ◌++◌, Some, Bool, true, false, cond, ◌&&◌, ◌||◌, refl, sym, ◌∙◌, ap, append_assoc}
 use Rattle.std.specs.Prelude.{codes}
 use Rattle.std.proofs.lemmas.Bool.{cond-true, cond-false}
-use Rattle.lucid_tree.specs.Tree.{Head}
 use Rattle.lucid_parse.specs.declared.sign.Between.{Between}
 use Rattle.lucid_parse.specs.declared.sign.Between.TheVariants as between
 use Rattle.lucid_parse.specs.declared.sign.Before.{Before}

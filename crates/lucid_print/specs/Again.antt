@@ -1,5 +1,5 @@
 -- What the canonical source of a tree that was parsed is read as.
-use Rattle.std.specs.Prelude.{◌≡◌, ℕ, ◌≤◌, List, [], ◌∷◌, length}
+use Rattle.std.specs.Prelude.{◌≡◌, ℕ, ◌≤◌, List, [], length}
 use Rattle.lucid_scan.specs.declared.token.Token.{Token}
 use Rattle.lucid_scan.specs.Tokens.{Tokens}
 use Rattle.lucid_scan.specs.declared.refusal.ScanRefusal.{ScanRefusal}

@@ -1,6 +1,6 @@
 -- The canonical source of a tree: one line, with the least parentheses. It is this language's own.
 use Rattle.std.specs.Prelude.{ℕ, List, [], ◌∷◌, ◌++◌, codes, nat_lt, if◌then◌else◌}
-use Rattle.lucid_value.specs.Plain.{PlainValue, int, truth, word, text as string, list, eod, fault, Items, no_items, item}
+use Rattle.lucid_value.specs.Plain.{PlainValue, word, list, no_items}
 use Rattle.lucid_value.specs.ValueText.{value_text}
 use Rattle.lucid_tree.specs.Tree.{PlainTree, form, name, call, block, PlainTrees, no_trees, tree, PlainDefs, no_defs, defines, defines_function, defines_current}
 use Rattle.lucid_print.specs.Styles.{Style, constant, conditional, between, before, called, style, level}

@@ -1,5 +1,5 @@
 -- From what is known of the first bytes of the source to what an answer says.
-use Rattle.std.proofs.Common.{◌≡◌, ℕ, List, take, Option, Some, None, ◌⊎◌, inl, inr, sym, subst, refl}
+use Rattle.std.proofs.Common.{◌≡◌, ℕ, List, take, Option, Some, None, inr, sym, subst, refl}
 use Rattle.std.specs.Prelude.{IfSome}
 use Rattle.lucid_tree.specs.Tree.{PlainTree}
 use Rattle.lucid_words.specs.Asked.{PlainWords, words_asked}

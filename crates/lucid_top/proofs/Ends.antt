@@ -1,11 +1,10 @@
 -- From what comes of a call, and how it is told, to the clauses of the command.
-use Rattle.std.proofs.Common.{◌≡◌, ◌≢◌, ℕ, ◌<◌, ◌≤◌, List, [], length, Option, Some, None, ◌⊎◌, inl, inr, refl, sym, ◌∙◌, ap, subst, arith}
+use Rattle.std.proofs.Common.{◌≡◌, ℕ, ◌<◌, ◌≤◌, List, length, Option, Some, None, ◌⊎◌, inl, inr, sym, ◌∙◌, ap, subst, arith}
 use Rattle.std.proofs.Math.Nat.{le_refl}
 use Rattle.std.proofs.lemmas.List.{take_all}
 use Rattle.lucid_ports.specs.Writing.{with_front, with_all}
-use Rattle.std.specs.Prelude.{IsSome, IfSome, codes}
-use Rattle.lucid_words.specs.Asked.{PlainWords, words_asked}
-use Rattle.lucid_tree.specs.Tree.{PlainTree}
+use Rattle.std.specs.Prelude.{IsSome, IfSome}
+use Rattle.lucid_words.specs.Asked.{words_asked}
 use Rattle.lucid_tree.specs.Env.{empty}
 use Rattle.lucid_tree.specs.Meaning.{val}
 use Rattle.lucid_ports.specs.World.{World}
@@ -20,10 +19,10 @@ use Rattle.lucid_top.specs.Asked.{program_in, depth_for}
 use Rattle.lucid_top.specs.Judged.{IsProgram, RefusedAs}
 use Rattle.lucid_top.specs.Laws.{ProgramIsNotRefused, OneProgram, OneRefusal}
 use Rattle.lucid_top.specs.Lines.{answer_line}
-use Rattle.lucid_top.specs.Printing.{IsTooDeep, no_elements, HasLine}
+use Rattle.lucid_top.specs.Printing.{IsTooDeep, no_elements}
 use Rattle.lucid_top.specs.Telling.{FrontOf, Tells}
 use Rattle.lucid_top.specs.Call.{Call, Source, Run, IsTold, count_of, depth_of}
-use Rattle.lucid_top.specs.Comes.{SourceOf, RunOf, AsksForRun, AsksForMore, IsRefused, WritesFront, WritesAll, WritesUpTo, ReadFails, WriteFails, Comes}
+use Rattle.lucid_top.specs.Comes.{SourceOf, RunOf, AsksForRun, AsksForMore, IsRefused, WritesFront, WritesAll, WritesUpTo, ReadFails, Comes}
 use Rattle.lucid_top.specs.Clauses.{Reports, Prefix, Done, TooDeep, Refused, Usage, ReadFault, WriteFault, NoMemory, OrNoMemory, IsRefusedWith, IsDeepEnough, Complete, RefusedWhere, UsageWhere, MeetsClauses}
 
 -- what a status says

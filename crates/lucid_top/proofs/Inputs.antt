@@ -1,5 +1,5 @@
 -- A program with no inputs by one list of them has none by any other.
-use Rattle.std.proofs.Common.{◌≡◌, ℕ, List, [], ◌∷◌, ◌++◌, Bool, true, false, refl, sym, ◌∙◌, ap, subst}
+use Rattle.std.proofs.Common.{◌≡◌, ℕ, List, [], ◌∷◌, ◌++◌, Bool, true, false, refl, sym, ◌∙◌, subst}
 use Rattle.std.specs.Prelude.{All, fold, cond}
 use Rattle.std.specs.List.{list_any, AllByRecursion}
 use Rattle.std.proofs.lemmas.List.Elements.{All-from_recursion, recursion_from_All}
@@ -9,7 +9,7 @@ use Rattle.lucid_tree.specs.Tree.{PlainTree}
 use Rattle.lucid_tree.specs.Env.{same_name}
 use Rattle.lucid_scope.specs.Scope.{Meaning, free, plain_name, parameter, current_name, function, meaning}
 use Rattle.lucid_scope.specs.Sites.{Site, named, called, again}
-use Rattle.lucid_scope.specs.Bindings.{with_input, with_site, free_names, all_sites, AreInputs}
+use Rattle.lucid_scope.specs.Bindings.{with_input, with_site, all_sites, AreInputs}
 use Rattle.lucid_top.specs.Judged.{HasInputs}
 
 -- a list with one more is not empty

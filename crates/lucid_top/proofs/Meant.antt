@@ -1,14 +1,13 @@
 -- The lines of a run are those of the program's meaning.
-use Rattle.std.proofs.Common.{◌≡◌, ℕ, zero, suc, ◌<◌, ◌≤◌, List, [], ◌++◌, Option, Some, None, Bool, true, false, ◌⊎◌, inl, inr, sym, subst, arith}
+use Rattle.std.proofs.Common.{◌≡◌, ℕ, zero, suc, ◌<◌, ◌≤◌, List, Option, Bool, true, false, ◌⊎◌, inl, inr, subst, arith}
 use Rattle.std.proofs.lemmas.Bool.{cases_lt}
-use Rattle.lucid_value.specs.Plain.{PlainValue, eod}
+use Rattle.lucid_value.specs.Plain.{eod}
 use Rattle.lucid_tree.specs.Tree.{PlainTree}
 use Rattle.lucid_tree.specs.Levels.{Elements}
 use Rattle.lucid_tree.specs.Env.{empty}
-use Rattle.lucid_tree.specs.Meaning.{val, Means}
-use Rattle.lucid_tree.specs.Output.{Output, line, no_lines as no_output, one_line_more}
+use Rattle.lucid_tree.specs.Meaning.{Means}
+use Rattle.lucid_tree.specs.Output.{Output, no_lines as no_output, one_line_more}
 use Rattle.lucid_ports.specs.declared.run.Summary.{Summary}
-use Rattle.lucid_ports.specs.Writing.{with_front, with_all}
 use Rattle.lucid_plain.specs.Runs.{Lines, no_lines, one_more, Writes, WritesFront, EndsAt, Finishes, StopsAt}
 use Rattle.lucid_top.specs.Printing.{no_elements, Prints, PrintsFront, IsDone, HasLine, IsTooDeep}
 

@@ -1,5 +1,5 @@
 -- What a place that was just reached gives.
-use Rattle.std.proofs.Common.{◌≡◌, ℕ, ◌≤◌, ◌<◌, ◌-◌, ◌^◌, List, take, Option, Some, None, Result, Ok, Err, subst, inl, inr, arith}
+use Rattle.std.proofs.Common.{◌≡◌, ℕ, ◌≤◌, ◌-◌, ◌^◌, List, take, Option, Some, None, Result, Ok, Err, subst, inl, inr, arith}
 use Rattle.std.specs.Prelude.{IfSome, IfOk, option_map}
 use Rattle.std.proofs.lemmas.Bool.{cases_lt}
 use Rattle.lucid_ports.specs.Faults.{Rises}

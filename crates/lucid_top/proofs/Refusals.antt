@@ -1,8 +1,7 @@
 -- A source has at most one refusal.
-use Rattle.std.proofs.Common.{◌≡◌, ℕ, ◌<◌, ◌≤◌, List, length, Option, Some, None, ◌⊎◌, inl, inr, refl, sym, ◌∙◌, ap, subst, arith}
+use Rattle.std.proofs.Common.{◌≡◌, ℕ, ◌≤◌, List, length, Option, Some, None, inl, inr, sym, ◌∙◌, ap, subst, arith}
 use Rattle.std.proofs.lemmas.List.Elements.{All-contains}
 use Rattle.lucid_tree.specs.Tree.{PlainTree}
-use Rattle.lucid_tree.specs.WellMade.{depth}
 use Rattle.lucid_scan.specs.declared.token.Token.{Token}
 use Rattle.lucid_scan.specs.declared.refusal.ScanRefusal.{ScanRefusal}
 use Rattle.lucid_scan.specs.declared.refusal.ScanRefusal.TheVariants as scan
@@ -20,7 +19,7 @@ use Rattle.lucid_scope.specs.Laws.{LeastFaultIsUnique}
 use Rattle.lucid_top.specs.declared.refusal.Refusal.{Refusal}
 use Rattle.lucid_top.specs.declared.refusal.Refusal.TheVariants as refusal
 use Rattle.lucid_top.specs.Refusals.{scan_refusal, parse_refusal, scope_refusal}
-use Rattle.lucid_top.specs.Judged.{HasTokens, Spelt, RefusedNames, RefusedAs, by_scan, by_parse, by_names}
+use Rattle.lucid_top.specs.Judged.{HasTokens, Spelt, RefusedNames, by_scan, by_parse, by_names}
 use Rattle.lucid_top.specs.Laws.{OneRefusal}
 use Rattle.lucid_top.proofs.Unique.{Laws, one_tree, not_by_parse, not_at_fault}
 

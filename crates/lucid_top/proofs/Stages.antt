@@ -1,6 +1,6 @@
 -- What becomes of a source, stage by stage.
-use Rattle.std.proofs.Common.{◌≡◌, ◌≢◌, ℕ, ◌≤◌, ◌<◌, List, [], length, Bool, true, false, Option, Some, None, Result, Ok, Err, ◌⊎◌, ◌∙◌, sym, ap, subst, inl, inr, refl, arith}
-use Rattle.std.specs.Prelude.{IfOk, IfErr, OnOk, IsSomeAnd}
+use Rattle.std.proofs.Common.{◌≡◌, ℕ, ◌≤◌, ◌<◌, List, [], length, Bool, true, false, Option, Some, None, Result, Ok, Err, ◌⊎◌, ◌∙◌, sym, ap, subst, inl, inr}
+use Rattle.std.specs.Prelude.{IfOk, IsSomeAnd}
 use Rattle.std.specs.declared.alloc.AllocError.{AllocError}
 use Rattle.std.specs.Bool.{MatchBool, ◌==◌}
 use Rattle.std.proofs.lemmas.Bool.{eqb-true}
@@ -12,7 +12,7 @@ use Rattle.lucid_scan.specs.declared.token.Token.{Token}
 use Rattle.lucid_scan.specs.declared.refusal.ScanRefusal.{ScanRefusal}
 use Rattle.lucid_scan.specs.Refusals.{Refuses}
 use Rattle.lucid_parse.specs.declared.refusal.ParseRefusal.{ParseRefusal}
-use Rattle.lucid_parse.specs.Spelled.{SpellsTree, IsRefused}
+use Rattle.lucid_parse.specs.Spelled.{IsRefused}
 use Rattle.lucid_scope.specs.declared.refusal.ScopeRefusal.{ScopeRefusal}
 use Rattle.lucid_scope.specs.declared.refusal.ScopeRefusal.TheVariants as scope
 use Rattle.lucid_scope.specs.declared.scoped.Binding.{Binding}
@@ -21,7 +21,7 @@ use Rattle.lucid_top.specs.declared.refusal.Refusal.{Refusal}
 use Rattle.lucid_top.specs.declared.verdict.Verdict.{Verdict}
 use Rattle.lucid_top.specs.declared.verdict.Verdict.TheVariants as verdict
 use Rattle.lucid_top.specs.Refusals.{scan_refusal, parse_refusal, scope_refusal}
-use Rattle.lucid_top.specs.Judged.{HasTokens, Spelt, IsProgram, IsBuilt, IsNotBuilt, HasInputs, RefusedNames, RefusedAs, by_scan, by_parse, by_names, Judged, JudgedNames, IfAccepted}
+use Rattle.lucid_top.specs.Judged.{HasTokens, Spelt, IsBuilt, IsNotBuilt, HasInputs, by_scan, by_parse, by_names, Judged, JudgedNames, IfAccepted}
 
 -- the answer is this refusal, if it is one
 abbrev pub IsThat : Option Refusal → Result Verdict AllocError → Type 0

@@ -1,5 +1,5 @@
 -- A source is at most one program, and none where it is refused.
-use Rattle.std.proofs.Common.{◌≡◌, ℕ, ◌<◌, ◌≤◌, List, Option, Some, None, ◌⊎◌, inl, inr, refl, sym, ◌∙◌, ap, subst, arith}
+use Rattle.std.proofs.Common.{◌≡◌, ℕ, ◌<◌, List, Option, Some, None, inl, inr, refl, sym, ap, subst, arith}
 use Rattle.std.proofs.lemmas.List.Elements.{All-contains}
 use Rattle.lucid_tree.specs.Tree.{PlainTree}
 use Rattle.lucid_tree.specs.WellMade.{depth}
@@ -17,8 +17,8 @@ use Rattle.lucid_parse.specs.Laws.{WordsAreUnique, WordsSpellOneTree, TokensSpel
 use Rattle.lucid_scope.specs.declared.refusal.ScopeRefusal.{ScopeRefusal}
 use Rattle.lucid_scope.specs.Bindings.{HasNoFault, IsLeastFault, fault_of}
 use Rattle.lucid_top.specs.declared.refusal.Refusal.{Refusal}
-use Rattle.lucid_top.specs.Refusals.{scan_refusal, parse_refusal, scope_refusal}
-use Rattle.lucid_top.specs.Judged.{HasTokens, Spelt, IsProgram, IsBuilt, IsNotBuilt, RefusedNames, RefusedAs, by_scan, by_parse, by_names}
+use Rattle.lucid_top.specs.Refusals.{scan_refusal, parse_refusal}
+use Rattle.lucid_top.specs.Judged.{HasTokens, Spelt, IsBuilt, IsNotBuilt, RefusedNames, by_scan, by_parse, by_names}
 use Rattle.lucid_top.specs.Laws.{ProgramIsNotRefused, OneProgram}
 use Rattle.lucid_top.proofs.Inputs.{not_both}
 

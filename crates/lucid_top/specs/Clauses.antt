@@ -1,5 +1,5 @@
 -- The clauses of the command: what holds of a call and its status.
-use Rattle.std.specs.Prelude.{◌≡◌, ◌≢◌, ℕ, ◌<◌, ◌≤◌, ◌⊎◌, List, [], Option, None, IsSome, codes}
+use Rattle.std.specs.Prelude.{◌≡◌, ◌≢◌, ℕ, ◌<◌, ◌≤◌, ◌⊎◌, List, [], None, IsSome, codes}
 use Rattle.lucid_ports.specs.Faults.{Rises}
 use Rattle.lucid_ports.specs.World.{World}
 use Rattle.lucid_ports.specs.Writing.{with_all}

@@ -1,5 +1,5 @@
 -- What each answer of the command says: of the words, of the source, of the output, and of the counts of faults.
-use Rattle.std.specs.Prelude.{◌≡◌, ℕ, ◌⊎◌, List, Option, Some, None}
+use Rattle.std.specs.Prelude.{◌≡◌, ℕ, ◌⊎◌, List, Some, None}
 use Rattle.lucid_ports.specs.Faults.{Rises}
 use Rattle.lucid_words.specs.Asked.{PlainWords, words_asked}
 use Rattle.lucid_top.specs.declared.answer.Answer.{Answer}

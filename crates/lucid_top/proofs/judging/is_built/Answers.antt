@@ -1,5 +1,4 @@
 use Rattle.std.proofs.Common.{inl}
-use Rattle.lucid_tree.specs.Tree.{PlainTree}
 use Rattle.lucid_scope.specs.Scoped.{scoped_tree, scoped_inputs, scoped_binding}
 use Rattle.lucid_top.specs.Judged.{HasInputs}
 use Rattle.lucid_top.proofs.Stages.{inputs_of, empty_names, some_names, shallow_built}
