@@ -89,3 +89,22 @@ fn many_functions(rt: HostRuntime) -> Result<(), Fail> {
     assert_eq!(rt; program.nodes(), 40_000 - 1);
     Ok(())
 }
+
+// not not .. true, as deep as a tree may be.
+fn deepest(alloc: Global) -> Result<String, AllocError> {
+    let mut text = String::new(alloc);
+    for _ in 1..400 {
+        text.push_str("not ")?;
+    }
+    text.push_str("true")?;
+    Ok(text)
+}
+
+#[test]
+fn deepest_tree(rt: HostRuntime) -> Result<(), Fail> {
+    let source = deepest(rt.alloc())?;
+    let program = program_of(rt.alloc(), source.as_bytes())?;
+    assert_eq!(rt; program.nodes(), 400);
+    assert_eq!(rt; program.root(), 399);
+    Ok(())
+}
