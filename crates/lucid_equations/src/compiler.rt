@@ -9,7 +9,7 @@ ghost use Rattle.lucid_tree.specs.Size.{count};
 ghost use Rattle.lucid_tree.specs.DefsView.{one_def};
 ghost use Rattle.lucid_scope.specs.Scoped.{scoped_tree, scoped_inputs, scoped_binding};
 ghost use Rattle.lucid_equations.specs.Promise.{KeepsTree};
-ghost use Rattle.lucid_equations.specs.Programs.{program_equations};
+ghost use Rattle.lucid_equations.specs.Programs.{table_of as table_in, program_equations};
 ghost use Rattle.lucid_equations.specs.Numbered.{name_mark, function_mark};
 ghost use Rattle.lucid_equations.specs.Places.{first_place as place_of_first};
 ghost use Rattle.lucid_equations.specs.Bound.{reference_by, callee_place, Log};
@@ -478,10 +478,11 @@ fn copied(alloc: Global, names: &[Name]) -> Result<Vec<Name>, AllocError>
 }
 
 /// The program of a tree that was resolved. Its table keeps the tree: the same approximations at every limit and point, also with
-/// held values, the same elements consulted, as many different datons. Both walks are linear in the tree. The one refusal is want
-/// of memory, also where a list of rows would pass 2^32 - 2 rows.
+/// held values, the same elements consulted, as many different datons. Its inputs are the tree's, in their order. Both walks are
+/// linear in the tree. The one refusal is want of memory, also where a list of rows would pass 2^32 - 2 rows.
 pub fn compile(alloc: Global, scoped: &Scoped) -> Result<Program, AllocError>
-    ensures { IfOk result (λ program. KeepsTree (program_equations program) (scoped_tree scoped.now)) }
+    ensures keeps { IfOk result (λ program. KeepsTree (program_equations program) (scoped_tree scoped.now)) }
+    ensures inputs { IfOk result (λ program. (table_in program).inputs ≡ scoped_inputs scoped.now) }
 {
     let tree = scoped.tree();
     let numbering = Numbering::of_tree(alloc, tree)?;
