@@ -238,3 +238,28 @@ static AT_EDGES: [Row; 17] = [
 fn at_edges(rt: HostRuntime) -> Result<(), Fail> {
     each_keeps_values(&rt, &AT_EDGES)
 }
+
+// A text that doubles at each time, and is too heavy from time 16 on: the texts of the sixteen strings and of two errors.
+#[test]
+fn weight_of_a_text(rt: HostRuntime) -> Result<(), Fail> {
+    let scoped = scoped(rt.alloc(), b"x where x = `a' fby x ^ x; end")?;
+    let program = compile(rt.alloc(), &scoped)?;
+    let text = same_values(&rt, "a text that doubles", &scoped, &program, 18, 18)?;
+    assert_eq!(rt; text.len(), 65_535 + 16 * 2 + 2 * 5 + 17 * 3);
+    Ok(())
+}
+
+// not not .. true, as deep as a tree may be.
+#[test]
+fn deepest_tree(rt: HostRuntime) -> Result<(), Fail> {
+    let mut source = String::new(rt.alloc());
+    for _ in 1..400 {
+        source.push_str("not ")?;
+    }
+    source.push_str("true")?;
+    let scoped = scoped(rt.alloc(), source.as_bytes())?;
+    let program = compile(rt.alloc(), &scoped)?;
+    let text = same_values(&rt, "399 times not", &scoped, &program, 1, 1)?;
+    assert_eq!(rt; text.as_str(), "false");
+    Ok(())
+}
