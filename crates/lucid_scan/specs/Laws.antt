@@ -8,7 +8,7 @@ use Rattle.lucid_scan.specs.declared.token.TokenKind.{TokenKind}
 use Rattle.lucid_scan.specs.declared.token.TokenKind.TheVariants as kind
 use Rattle.lucid_scan.specs.Texts.{is_mark, first_passes, IsTokenText}
 use Rattle.lucid_scan.specs.Tokens.{Stands, IsLongest, gap, Tokens}
-use Rattle.lucid_scan.specs.Refusals.{Refuses}
+use Rattle.lucid_scan.specs.Refusals.{Refuses, most_source_bytes}
 
 -- A source has at most one list of tokens.
 abbrev pub TokensAreUnique : Type 0
@@ -17,7 +17,7 @@ TokensAreUnique = (source : List ℕ) (ts us : List Token) → Tokens source 0 t
 -- A source that has tokens and isn't too long is refused for want of memory alone.
 abbrev pub TokensAreNotRefused : Type 0
 TokensAreNotRefused =
-    (source : List ℕ) (ts : List Token) (why : ScanRefusal) → Tokens source 0 ts → length source ≤ 1048576 → Refuses source why → why ≡ refusal.NoMemory
+    (source : List ℕ) (ts : List Token) (why : ScanRefusal) → Tokens source 0 ts → length source ≤ most_source_bytes → Refuses source why → why ≡ refusal.NoMemory
 
 -- Want of memory apart, a source has at most one refusal.
 abbrev pub RefusalIsUnique : Type 0

@@ -7,6 +7,10 @@ use Rattle.lucid_scan.specs.declared.refusal.ScanRefusal.TheVariants as refusal
 use Rattle.lucid_scan.specs.Texts.{first_passes}
 use Rattle.lucid_scan.specs.Tokens.{Stuck}
 
+-- the most bytes of a source; a longer one is refused
+abbrev pub most_source_bytes : ℕ
+most_source_bytes = 1048576
+
 -- the bytes begin as a string or a list does
 abbrev pub opens_text : List ℕ → Bool
 opens_text bytes = starts_with nat_eq bytes (codes "`") || starts_with nat_eq bytes (codes "[%")
@@ -21,11 +25,11 @@ refusal_of rest at =
 
 -- Behind the source's first tokens stand bytes that begin with none, and they are refused so.
 abbrev pub IsStuckBy : List ℕ → ScanRefusal → Type 0
-IsStuckBy source why = (length source ≤ 1048576) × ((at : ℕ) × (rest : List ℕ) × Stuck source 0 at rest × (why ≡ refusal_of rest at))
+IsStuckBy source why = (length source ≤ most_source_bytes) × ((at : ℕ) × (rest : List ℕ) × Stuck source 0 at rest × (why ≡ refusal_of rest at))
 
 -- The source is refused so. For want of memory any source may be.
 abbrev pub Refuses : List ℕ → ScanRefusal → Type 0
-Refuses source refusal.TooLong = 1048576 < length source
+Refuses source refusal.TooLong = most_source_bytes < length source
 Refuses source (refusal.BadByte at) = IsStuckBy source (refusal.BadByte at)
 Refuses source (refusal.OpenText at) = IsStuckBy source (refusal.OpenText at)
 Refuses source (refusal.BigNumber at) = IsStuckBy source (refusal.BigNumber at)

@@ -7,24 +7,7 @@ ghost use Rattle.lucid_value.specs.Names.{is_name_byte};
 ghost use Rattle.lucid_value.specs.Reading.{is_blank, number_of};
 ghost use Rattle.lucid_scan.specs.Tokens.{gap};
 
-fn is_name_byte(byte: u8) -> bool
-    ensures { result ≡ is_name_byte byte }
-{
-    byte.is_ascii_alphanumeric() || byte == b'_'
-}
-
-/// Whether the byte may stand in a string.
-pub fn is_text_byte(byte: u8) -> bool
-    ensures { result ≡ is_text_byte byte }
-{
-    byte >= 32 && byte <= 126 && byte != b'`' && byte != b'\''
-}
-
-fn is_blank(byte: u8) -> bool
-    ensures { result ≡ is_blank byte }
-{
-    byte == b'\t' || byte == b'\n' || byte == b'\r' || byte == b' '
-}
+use lucid_value::{is_blank, is_name_byte, is_text_byte};
 
 /// How many bytes of a name the bytes begin with.
 pub fn name_len(bytes: &[u8]) -> usize

@@ -6,9 +6,9 @@ ghost use Rattle.lucid_scan.specs.Tokens.{IsLongest, NoneStands};
 ghost use Rattle.lucid_scan.specs.Fronts.{Closed, IsMarkFront, IsLongestMark, NoMarkStands, is_other};
 
 use crate::bytes::{digits_len, fits, name_len, text_len, word_len};
+use crate::marks::is_mark;
 use crate::token::TokenKind;
-use crate::words::{is_mark, is_text_value, is_word_value};
-use lucid_value::{is_reserved, list_front, one_list_front};
+use lucid_value::{can_be_text, can_be_word, is_reserved, list_front, one_list_front};
 use std::alloc::{AllocError, Global};
 
 /// The kind and the length of a token that bytes begin with.
@@ -56,7 +56,7 @@ fn number_token(bytes: &[u8]) -> Option<Front>
 fn closes_word(inside: &[u8], n: usize) -> bool
     ensures { IsTrue result ↔ Closed 34 is_word_value inside.now n }
 {
-    n < inside.len() && inside[n] == b'"' && is_word_value(&inside[..n])
+    n < inside.len() && inside[n] == b'"' && can_be_word(&inside[..n])
 }
 
 /// The token where `"` stands: a word between two of these.
@@ -80,7 +80,7 @@ fn quoted_token(bytes: &[u8]) -> Option<Front>
 fn closes_text(inside: &[u8], n: usize) -> bool
     ensures { IsTrue result ↔ Closed 39 is_text_value inside.now n }
 {
-    n < inside.len() && inside[n] == b'\'' && is_text_value(&inside[..n])
+    n < inside.len() && inside[n] == b'\'' && can_be_text(&inside[..n])
 }
 
 /// The token where a backquote stands: a string.

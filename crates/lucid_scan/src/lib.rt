@@ -2,15 +2,15 @@
 #![tactic(auto)]
 
 pub use crate::refusal::ScanRefusal;
-pub use crate::scanner::scan;
+pub use crate::scanner::{MAX_SOURCE_BYTES, scan};
 pub use crate::token::{Token, TokenKind};
 
 mod bytes;
 mod front;
 pub mod laws;
+mod marks;
 mod refusal;
 mod scanner;
 #[cfg(test)]
 mod tests;
 mod token;
-mod words;

@@ -1,7 +1,7 @@
 //! The tokens of a source.
 ghost use Rattle.std.specs.Prelude.{◌≡◌, ◌≤◌, length, IfOk, IfErr};
 ghost use Rattle.lucid_scan.specs.Tokens.{Tokens};
-ghost use Rattle.lucid_scan.specs.Refusals.{Refuses};
+ghost use Rattle.lucid_scan.specs.Refusals.{Refuses, most_source_bytes};
 
 use crate::bytes::gap_len;
 use crate::front::token_at;
@@ -9,8 +9,8 @@ use crate::refusal::{ScanRefusal, refusal_of};
 use crate::token::Token;
 use std::alloc::Global;
 
-/// The most bytes of a source.
-const MAX_LEN: usize = 1_048_576;
+/// The most bytes of a source. A longer one is refused.
+pub const MAX_SOURCE_BYTES: usize = 1_048_576;
 
 /// The tokens of the source, each the longest that stands at its place.
 ///
@@ -18,10 +18,10 @@ const MAX_LEN: usize = 1_048_576;
 /// want of memory comes exactly where its clause holds.
 pub fn scan(alloc: Global, source: &[u8]) -> Result<Vec<Token>, ScanRefusal>
     ensures tokens { IfOk result (λ tokens. Tokens source.now 0 tokens.items) }
-    ensures short { IfOk result (λ _. length source.now ≤ 1048576) }
+    ensures short { IfOk result (λ _. length source.now ≤ most_source_bytes) }
     ensures refused { IfErr result (Refuses source.now) }
 {
-    if source.len() > MAX_LEN {
+    if source.len() > MAX_SOURCE_BYTES {
         return Err(ScanRefusal::TooLong);
     }
     let mut tokens = Vec::new(alloc);

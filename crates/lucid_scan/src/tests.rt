@@ -1,4 +1,6 @@
-use crate::{ScanRefusal, Token, TokenKind, scan};
+//! Sources with their tokens or their refusals, up to the limits.
+use crate::{MAX_SOURCE_BYTES, ScanRefusal, Token, TokenKind, scan};
+use std::alloc::{AllocError, Global};
 use std::test::Fail;
 
 fn token(kind: TokenKind, from: u32, to: u32) -> Token {
@@ -58,19 +60,23 @@ fn marks_and_reserved_words(rt: HostRuntime) -> Result<(), Fail> {
 #[test]
 fn refusals(rt: HostRuntime) {
     let table = [
-        (b"`abc".as_slice(), ScanRefusal::OpenText { at: 0 }),
-        (b"x where x = 1 ? 2; end", ScanRefusal::BadByte { at: 14 }),
-        (b") ?", ScanRefusal::BadByte { at: 2 }),
-        (b"[% 1 // 2 %]", ScanRefusal::OpenText { at: 0 }),
-        (b"a :: [x]", ScanRefusal::BadByte { at: 5 }),
-        (b"a \"eod\"", ScanRefusal::BadByte { at: 2 }),
+        ("`abc", ScanRefusal::OpenText { at: 0 }),
+        ("x where x = 1 ? 2; end", ScanRefusal::BadByte { at: 14 }),
+        (") ?", ScanRefusal::BadByte { at: 2 }),
+        ("[% 1 // 2 %]", ScanRefusal::OpenText { at: 0 }),
+        ("a :: [x]", ScanRefusal::BadByte { at: 5 }),
+        ("a \"eod\"", ScanRefusal::BadByte { at: 2 }),
         (
-            b"170141183460469231731687303715884105728",
+            "170141183460469231731687303715884105728",
             ScanRefusal::BigNumber { at: 0 },
         ),
     ];
     for (source, refusal) in table {
-        assert_eq!(rt; scan(rt.alloc(), source).err(), Some(refusal), "{source:?}");
+        assert_eq!(rt;
+            scan(rt.alloc(), source.as_bytes()).err(),
+            Some(refusal),
+            "{source:?}"
+        );
     }
 }
 
@@ -85,7 +91,7 @@ fn messages(rt: HostRuntime) -> Result<(), Fail> {
     ];
     for (refusal, wanted) in table {
         let message = format!(in rt.alloc(); "{refusal}")?;
-        assert_eq!(rt; message.as_str(), wanted);
+        assert_eq!(rt; message.as_str(), wanted, "{refusal:?}");
     }
     Ok(())
 }
@@ -120,10 +126,68 @@ fn cut_sources(rt: HostRuntime) {
 
 #[test]
 fn long_sources(rt: HostRuntime) -> Result<(), Fail> {
-    let blanks = vec![in rt.alloc(); b' '; 1_048_577]?;
+    let blanks = vec![in rt.alloc(); b' '; MAX_SOURCE_BYTES + 1]?;
     assert_eq!(rt; scan(rt.alloc(), &blanks).err(), Some(ScanRefusal::TooLong));
     assert_eq!(rt; scan(rt.alloc(), &blanks[1..])?.len(), 0);
     let marks = vec![in rt.alloc(); b'('; 1_048_576]?;
     assert_eq!(rt; scan(rt.alloc(), &marks)?.len(), 1_048_576);
+    Ok(())
+}
+
+// What opens a text, what is repeated in it and how often, and what closes it.
+type Repeated = (&'static str, &'static str, u32, &'static str);
+
+// The text of a row.
+fn source_of(alloc: Global, (open, piece, times, close): Repeated) -> Result<Vec<u8>, AllocError> {
+    let mut source = Vec::from_slice(alloc, open.as_bytes())?;
+    for _ in 0..times {
+        source.extend_from_slice(piece.as_bytes())?;
+    }
+    source.extend_from_slice(close.as_bytes())?;
+    Ok(source)
+}
+
+// The kind of the one token that takes the whole source; none where it isn't one token.
+fn whole(alloc: Global, source: &[u8]) -> Result<Option<TokenKind>, ScanRefusal> {
+    let tokens = scan(alloc, source)?;
+    match tokens.as_slice() {
+        [only] => {
+            if only.from == 0 && only.to as usize == source.len() {
+                Ok(Some(only.kind))
+            } else {
+                Ok(None)
+            }
+        }
+        _ => Ok(None),
+    }
+}
+
+#[test]
+fn texts_at_their_limits(rt: HostRuntime) -> Result<(), Fail> {
+    let table = [
+        (("\"", "a", 65_535, "\""), Ok(Some(TokenKind::Quoted))),
+        (
+            ("\"", "a", 65_536, "\""),
+            Err(ScanRefusal::BadByte { at: 0 }),
+        ),
+        (("`", "a", 65_535, "'"), Ok(Some(TokenKind::Text))),
+        (
+            ("`", "a", 65_536, "'"),
+            Err(ScanRefusal::OpenText { at: 0 }),
+        ),
+        (("[%", " 1", 65_535, "%]"), Ok(Some(TokenKind::ListText))),
+        (
+            ("[%", " 1", 65_536, "%]"),
+            Err(ScanRefusal::OpenText { at: 0 }),
+        ),
+    ];
+    for (repeated, wanted) in table {
+        let source = source_of(rt.alloc(), repeated)?;
+        assert_eq!(rt;
+            whole(rt.alloc(), source.as_slice()),
+            wanted,
+            "{repeated:?}"
+        );
+    }
     Ok(())
 }

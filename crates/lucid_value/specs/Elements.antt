@@ -1,9 +1,9 @@
--- The elements of an input, as a function. It reads a line as the reader does; that it gives the element of `IsElement`, and
--- no other value is that element, are laws.
+-- The elements of an input, computed: a line is read here as the reader reads it, byte by byte. What an element is, `IsElement`
+-- in Lines.antt says; that `element` gives it, and that no other value is that element, are laws.
 use Rattle.std.specs.Prelude.{ℕ, List, [], ◌∷◌, length, reverse, nat_eq, nat_le, if◌then◌else◌, Option, Some, None, slice_get}
 use Rattle.lucid_value.specs.Plain.{PlainValue, list, eod, fault, within_limits}
 use Rattle.lucid_value.specs.Texts.{value_or_fault}
-use Rattle.lucid_value.specs.Lines.{lines_of, without_end}
+use Rattle.lucid_value.specs.Lines.{lines_of, without_end, most_line_bytes}
 use Rattle.lucid_value.specs.ListScan.{State, state, start, runs, opened, atom_value, text_value}
 use Rattle.lucid_value.specs.Trimming.{after_blanks}
 use Rattle.lucid_value.specs.declared.list_scan.Focus.TheVariants.{Done}
@@ -41,9 +41,9 @@ value_read bytes = if_within_limits (value_by_kind (quotes_off bytes) (opened by
 abbrev pub trimmed : List ℕ → List ℕ
 trimmed line = reverse (after_blanks (reverse (after_blanks line)))
 
--- The value of a line: what it reads as without the blanks at both ends; `error` where it reads as nothing or has over 4,194,304 bytes.
+-- The value of a line: what it reads as without the blanks at both ends; `error` where it reads as nothing or is too long.
 unfoldable pub line_value_of : List ℕ → PlainValue
-line_value_of line = if nat_le (length line) 4194304 then value_or_fault (value_read (trimmed line)) else fault
+line_value_of line = if nat_le (length line) most_line_bytes then value_or_fault (value_read (trimmed line)) else fault
 
 abbrev pub element_of_line : Option (List ℕ) → PlainValue
 element_of_line None = eod

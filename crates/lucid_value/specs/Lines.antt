@@ -19,12 +19,15 @@ abbrev pub without_end : List ℕ → List ℕ
 without_end [] = []
 without_end (b ∷ bs) = if b == 10 then [] else b ∷ without_end bs
 
--- What a line is: the value that it reads as, `error` where it reads as none, and `error` where it is longer than any
--- line that is read, 4,194,304 bytes.
+-- the most bytes of a line that is read
+abbrev pub most_line_bytes : ℕ
+most_line_bytes = 4194304
+
+-- What a line is: the value that it reads as, `error` where it reads as none, and `error` where it is too long.
 pub data IsLineValue : List ℕ → PlainValue → Type 0 where
-  line_value : {line : List ℕ} {v : PlainValue} → length line ≤ 4194304 → ReadsLine line v → IsLineValue line v
-  line_unread : {line : List ℕ} → length line ≤ 4194304 → ReadsAsNone line → IsLineValue line fault
-  line_long : {line : List ℕ} → 4194304 < length line → IsLineValue line fault
+  line_value : {line : List ℕ} {v : PlainValue} → length line ≤ most_line_bytes → ReadsLine line v → IsLineValue line v
+  line_unread : {line : List ℕ} → length line ≤ most_line_bytes → ReadsAsNone line → IsLineValue line fault
+  line_long : {line : List ℕ} → most_line_bytes < length line → IsLineValue line fault
 
 -- The element of a line, or the end of data past the last line.
 abbrev pub IsElementOf : Option (List ℕ) → PlainValue → Type 0

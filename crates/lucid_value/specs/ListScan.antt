@@ -1,8 +1,8 @@
 -- The scan of the bytes of a list, one byte at a time, with the lists that are open. The code of the reader does a step
 -- where a step is done here. What the bytes mean is said by `Denotes` alone; that the scan gives it is proved.
-use Rattle.std.specs.Prelude.{◌≡◌, ℕ, ◌^◌, ◌≤◌, pos, neg_ℤ, Bool, true, false, List, [], ◌∷◌, ◌++◌, length, take, ◌&&◌, ◌||◌, nat_eq, nat_le, nat_lt, codes, if◌then◌else◌, Option, Some, None, Result, Ok, Err}
+use Rattle.std.specs.Prelude.{◌≡◌, ℕ, ◌-◌, ◌^◌, ◌≤◌, pos, neg_ℤ, Bool, true, false, List, [], ◌∷◌, ◌++◌, length, take, ◌&&◌, ◌||◌, nat_eq, nat_le, nat_lt, codes, if◌then◌else◌, Option, Some, None, Result, Ok, Err}
 use Rattle.std.specs.Char.{is_ascii_alphanumeric}
-use Rattle.lucid_value.specs.Plain.{PlainValue, int, truth, word, text, list, eod, fault, Items, no_items, item, same_bytes, is_wordlike, is_word, is_text, is_light, may_be_held}
+use Rattle.lucid_value.specs.Plain.{PlainValue, int, truth, word, text, list, eod, fault, Items, no_items, item, same_bytes, is_wordlike, is_word, is_text, is_light, may_be_held, most_nesting}
 use Rattle.lucid_value.specs.Lists.{fits}
 use Rattle.lucid_value.specs.Reading.{is_blank, is_number, number_of}
 use Rattle.lucid_value.specs.declared.list_scan.Focus.{Focus}
@@ -95,7 +95,7 @@ read_text b bs vs outer = if nat_eq b 39 then put_some (text_value bs) bs vs out
 
 -- the second byte of `[%`
 abbrev pub open_list : ℕ → List ℕ → Items → List Items → Option State
-open_list b bs vs outer = if nat_eq b 37 && nat_lt (length outer) 63 then Some (state Ready bs no_items (vs ∷ outer)) else None
+open_list b bs vs outer = if nat_eq b 37 && nat_lt (length outer) (most_nesting - 1) then Some (state Ready bs no_items (vs ∷ outer)) else None
 
 -- the list is whole: the outermost one, or an item of the one around it
 abbrev pub close_list : List ℕ → Items → List Items → Option State

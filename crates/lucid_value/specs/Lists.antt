@@ -1,19 +1,19 @@
--- What the list operations give: the plain list, or `error` where its weight would be over 65,536 or its nesting over 64. Lists and
--- these limits are this language's own rules.
+-- What the list operations give: the plain list, or `error` where it would pass a limit of weight or nesting. Lists and these
+-- limits are this language's own rules.
 use Rattle.std.specs.Prelude.{◌+◌, ◌≤◌, nat_le, ◌&&◌, Bool, if◌then◌else◌, List, [], ◌∷◌}
-use Rattle.lucid_value.specs.Plain.{PlainValue, list, fault, Items, no_items, item, weights, nestings}
+use Rattle.lucid_value.specs.Plain.{PlainValue, list, fault, Items, no_items, item, weights, nestings, most_weight, most_nesting}
 
 -- a list of these items is within the limits of weight and nesting
 abbrev pub fits : Items → Bool
-fits vs = nat_le (weights vs + 1) 65536 && nat_le (nestings vs + 1) 64
+fits vs = nat_le (weights vs + 1) most_weight && nat_le (nestings vs + 1) most_nesting
 
 -- The list of these items, or `error` where it passes a limit.
 abbrev pub limited_list : Items → PlainValue
 limited_list vs = if fits vs then list vs else fault
 
--- A list of these items passes a limit: it is heavier than 65,536 or nests deeper than 64.
+-- A list of these items passes a limit: it is too heavy or nests too deep.
 abbrev pub IsOverLimit : Items → Type 0
-IsOverLimit vs = ¬ ((weights vs + 1 ≤ 65536) × (nestings vs + 1 ≤ 64))
+IsOverLimit vs = ¬ ((weights vs + 1 ≤ most_weight) × (nestings vs + 1 ≤ most_nesting))
 
 -- the items with a value in front
 abbrev pub in_front : PlainValue → Items → Items

@@ -26,6 +26,14 @@ abbrev pub listed : Items → List PlainValue
 listed no_items = []
 listed (item v vs) = v ∷ listed vs
 
+-- the greatest weight of a value
+abbrev pub most_weight : ℕ
+most_weight = 65536
+
+-- the greatest nesting of a value
+abbrev pub most_nesting : ℕ
+most_nesting = 64
+
 -- Weight: a word or a string weighs 1 and one for each byte, a list 1 and the weights of its items, all else 1.
 abbrev mutual
   pub weight : PlainValue → ℕ
@@ -75,9 +83,9 @@ spells_constant bs = same_bytes bs (codes "true") || same_bytes bs (codes "false
 abbrev pub is_word : List ℕ → Bool
 is_word bs = is_wordlike bs && not (spells_constant bs)
 
--- light enough for a word or a string, whose weight is one more than its bytes and at most 65,536
+-- light enough for a word or a string, whose weight is one more than its bytes
 abbrev pub is_light : List ℕ → Bool
-is_light bs = nat_lt (length bs) 65536
+is_light bs = nat_lt (length bs) most_weight
 
 -- a byte that may stand in a string: 32 to 126 without the quotes "`" (96) and "'" (39)
 abbrev pub is_text_byte : ℕ → Bool
@@ -132,9 +140,9 @@ abbrev mutual
   all_in_range no_items = true
   all_in_range (item v vs) = in_range v && all_in_range vs
 
--- within the limits: a weight of at most 65,536 and a nesting of at most 64
+-- within the limits of weight and nesting
 abbrev pub within_limits : PlainValue → Bool
-within_limits v = nat_le (weight v) 65536 && nat_le (nesting v) 64
+within_limits v = nat_le (weight v) most_weight && nat_le (nesting v) most_nesting
 
 -- A value of the language: well formed, its integers in range, within the limits.
 abbrev pub is_value : PlainValue → Bool

@@ -2,7 +2,7 @@
 use Rattle.std.specs.Prelude.{◌≡◌, ℕ, ◌+◌, ◌-◌, ◌*◌, ◌^◌, ◌<◌, ◌≤◌, pos, neg_ℤ, Bool, true, false, List, [], ◌∷◌, ◌++◌, length, take, ◌||◌, nat_eq, codes, IsTrue, Option, Some, None}
 use Rattle.std.specs.List.{list_all}
 use Rattle.std.specs.Char.{is_ascii_digit}
-use Rattle.lucid_value.specs.Plain.{PlainValue, int, truth, word, text, list, eod, fault, Items, no_items, item, weight, nesting, is_word, is_text, may_be_held}
+use Rattle.lucid_value.specs.Plain.{PlainValue, int, truth, word, text, list, eod, fault, Items, no_items, item, weight, nesting, is_word, is_text, may_be_held, most_weight, most_nesting}
 
 -- a blank: tab, line feed, carriage return or space
 abbrev pub is_blank : ℕ → Bool
@@ -50,8 +50,8 @@ mutual
 -- The bytes read as the value: they are a way to write it, and it is within the limits of weight and nesting.
 pub record Reads (bytes : List ℕ) (v : PlainValue) : Type 0 where
   pub denotes : Denotes bytes v
-  pub light : weight v ≤ 65536
-  pub flat : nesting v ≤ 64
+  pub light : weight v ≤ most_weight
+  pub flat : nesting v ≤ most_nesting
 
 -- The line reads as the value, blanks at both ends ignored.
 pub record ReadsLine (line : List ℕ) (v : PlainValue) : Type 0 where

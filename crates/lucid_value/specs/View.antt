@@ -1,6 +1,6 @@
 -- The plain form of a value, one level at a time, and what a list keeps.
 use Rattle.std.specs.Prelude.{ℕ, ◌≤◌, ◌≡◌, ◌+◌, length, IsTrue}
-use Rattle.lucid_value.specs.Plain.{PlainValue, int, truth, word, text, list, eod, fault, Items, no_items, item, listed, weights, nestings, all_well_formed, all_in_range}
+use Rattle.lucid_value.specs.Plain.{PlainValue, int, truth, word, text, list, eod, fault, Items, no_items, item, listed, weights, nestings, all_well_formed, all_in_range, most_weight, most_nesting}
 use Rattle.lucid_value.specs.declared.Value.{Value}
 use Rattle.lucid_value.specs.declared.Value.TheVariants.{Int, Truth, Word, Text, List as ListV, Eod, Fault}
 use Rattle.lucid_value.specs.declared.Link.{Link}
@@ -55,7 +55,7 @@ pub record IsKept (top : Link) : Type 0 where
   pub weighs : kept_weight top ≡ weights (items top) + 1
   pub nests : kept_nesting top ≡ nestings (items top) + 1
   pub short : kept_len top + 1 ≤ kept_weight top
-  pub light : kept_weight top ≤ 65536
-  pub flat : kept_nesting top ≤ 64
+  pub light : kept_weight top ≤ most_weight
+  pub flat : kept_nesting top ≤ most_nesting
   pub formed : IsTrue (all_well_formed (items top))
   pub ranged : IsTrue (all_in_range (items top))

@@ -1,9 +1,10 @@
-//! Words and strings, made from bytes.
+//! Which bytes are blanks, words and strings; words and strings made from bytes.
 ghost use Rattle.std.specs.Prelude.{◌≡◌, ◌&&◌, IfOk, IsErrOf, IsTrue, not, ◌↔◌};
 ghost use Rattle.lucid_value.specs.declared.bytes.MakeRefusal.TheVariants.{NoMemory};
 ghost use Rattle.std.specs.List.{list_all};
 ghost use Rattle.std.specs.Char.{is_ascii_alphanumeric};
 ghost use Rattle.lucid_value.specs.Plain.{is_word, is_wordlike, spells_constant, is_text, is_text_byte, is_light};
+ghost use Rattle.lucid_value.specs.Reading.{is_blank};
 
 use crate::{MAX_WEIGHT, Text, Word};
 use std::alloc::{AllocError, Global};
@@ -27,6 +28,13 @@ impl From<AllocError> for MakeRefusal {
     fn from(_error: AllocError) -> MakeRefusal {
         MakeRefusal::NoMemory
     }
+}
+
+/// Whether the byte is a blank: a tab, a line feed, a carriage return or a space.
+pub fn is_blank(byte: u8) -> bool
+    ensures { result ≡ is_blank byte }
+{
+    byte == b'\t' || byte == b'\n' || byte == b'\r' || byte == b' '
 }
 
 fn spells_constant(bytes: &[u8]) -> bool
@@ -53,13 +61,15 @@ pub(crate) fn looks_like_word(bytes: &[u8]) -> bool
     }
 }
 
-fn can_be_word(bytes: &[u8]) -> bool
+/// Whether the bytes are those of a word.
+pub fn can_be_word(bytes: &[u8]) -> bool
     ensures { result ≡ (is_word bytes.now && is_light bytes.now) }
 {
     looks_like_word(bytes) && !spells_constant(bytes) && bytes.len() < MAX_WEIGHT as usize
 }
 
-fn can_stand_in_text(byte: u8) -> bool
+/// Whether the byte may stand in a string.
+pub fn is_text_byte(byte: u8) -> bool
     ensures { result ≡ is_text_byte byte }
 {
     byte >= 32 && byte <= 126 && byte != b'`' && byte != b'\''
@@ -68,10 +78,11 @@ fn can_stand_in_text(byte: u8) -> bool
 fn looks_like_text(bytes: &[u8]) -> bool
     ensures { result ≡ is_text bytes.now }
 {
-    bytes.iter().all(|b| can_stand_in_text(*b))
+    bytes.iter().all(|b| is_text_byte(*b))
 }
 
-fn can_be_text(bytes: &[u8]) -> bool
+/// Whether the bytes are those of a string.
+pub fn can_be_text(bytes: &[u8]) -> bool
     ensures { result ≡ (is_text bytes.now && is_light bytes.now) }
 {
     looks_like_text(bytes) && bytes.len() < MAX_WEIGHT as usize

@@ -4,29 +4,32 @@
 #![tactic(auto)]
 
 ghost use Rattle.std.specs.Prelude.{◌≡◌, ◌+◌, ◌≤◌, ◌<◌, IfOk, IsTrue, length, MatchOption};
-ghost use Rattle.lucid_value.specs.Plain.{no_items, listed, weight, weights, nesting, nestings, well_formed, all_well_formed, in_range, all_in_range, is_i128, is_value, is_word, is_text};
+ghost use Rattle.lucid_value.specs.Plain.{no_items, listed, weight, weights, nesting, nestings, well_formed, all_well_formed, in_range, all_in_range, is_i128, is_value, is_word, is_text, most_weight, most_nesting};
+ghost use Rattle.lucid_value.specs.Texts.{order_of};
 ghost use Rattle.lucid_value.specs.View.{plain};
 
-pub use crate::build::{append, cons, head, tail};
-pub use crate::bytes::MakeRefusal;
+pub use crate::bytes::{MakeRefusal, can_be_text, can_be_word, is_blank, is_text_byte};
 pub use crate::laws::{
     element_is, one_element, one_line_reading, one_list_front, one_reading, text_is_read,
 };
 pub use crate::list_scan::list_front;
-pub use crate::names::{Name, is_reserved};
+pub use crate::lists::{append, cons, head, pick_item, tail};
+pub use crate::names::{Name, is_name_byte, is_reserved};
 pub use crate::numbers::Numbers;
 pub use crate::read::{ReadRefusal, read_value};
-pub use crate::texts::{cut, join, pick_item};
+pub use crate::stack::Stack;
+pub use crate::texts::{cut, join};
 use std::alloc::{AllocError, Global};
+use std::cmp::Ordering;
 use std::marker::Model;
 use std::rc::Rc;
 
 mod atoms;
-mod build;
 mod bytes;
 mod debug;
 mod laws;
 mod list_scan;
+mod lists;
 mod names;
 mod numbers;
 mod read;
@@ -39,7 +42,7 @@ mod texts;
 
 /// No value weighs more. A word or a string weighs 1 and one for each byte, a list 1 and the weights of its items, all
 /// else 1.
-pub const MAX_WEIGHT: u32 = 65536;
+pub const MAX_WEIGHT: u32 = 65_536;
 
 /// No list nests deeper. The empty list has 1, any other list one more than its deepest item.
 pub const MAX_NESTING: u32 = 64;
@@ -56,11 +59,11 @@ impl Model for Word {
     ghost Value = { List ℕ };
 
     ghost use Rattle.std.specs.Prelude.{◌<◌, length, IsTrue};
-    ghost use Rattle.lucid_value.specs.Plain.{is_word};
+    ghost use Rattle.lucid_value.specs.Plain.{is_word, most_weight};
 
     ghost view = { λ w. w.bytes.value.items };
 
-    ghost invariant = { λ w. IsTrue (is_word w.bytes.value.items) × (length w.bytes.value.items < 65536) };
+    ghost invariant = { λ w. IsTrue (is_word w.bytes.value.items) × (length w.bytes.value.items < most_weight) };
 }
 
 /// A string: bytes 32 to 126 without the two quotes. It is seen as its bytes.
@@ -75,11 +78,11 @@ impl Model for Text {
     ghost Value = { List ℕ };
 
     ghost use Rattle.std.specs.Prelude.{◌<◌, length, IsTrue};
-    ghost use Rattle.lucid_value.specs.Plain.{is_text};
+    ghost use Rattle.lucid_value.specs.Plain.{is_text, most_weight};
 
     ghost view = { λ w. w.bytes.value.items };
 
-    ghost invariant = { λ w. IsTrue (is_text w.bytes.value.items) × (length w.bytes.value.items < 65536) };
+    ghost invariant = { λ w. IsTrue (is_text w.bytes.value.items) × (length w.bytes.value.items < most_weight) };
 }
 
 /// A value.
@@ -195,7 +198,7 @@ impl List {
 
     fn weight(&self) -> u32
         ensures exact { result ≡ weights self.now + 1 }
-        ensures light { result ≤ 65536 }
+        ensures light { result ≤ most_weight }
     {
         match &self.top {
             Link::End => 1,
@@ -205,7 +208,7 @@ impl List {
 
     fn nesting(&self) -> u32
         ensures exact { result ≡ nestings self.now + 1 }
-        ensures flat { result ≤ 64 }
+        ensures flat { result ≤ most_nesting }
     {
         match &self.top {
             Link::End => 1,
@@ -219,8 +222,8 @@ impl List {
     pub fn keeps_rules(&self)
         ensures formed { IsTrue (all_well_formed self.now) }
         ensures ranged { IsTrue (all_in_range self.now) }
-        ensures light { weights self.now + 1 ≤ 65536 }
-        ensures flat { nestings self.now + 1 ≤ 64 }
+        ensures light { weights self.now + 1 ≤ most_weight }
+        ensures flat { nestings self.now + 1 ≤ most_nesting }
     {
         let _ = &self.top;
     }
@@ -230,7 +233,7 @@ impl Word {
     /// A word keeps its rule. The function does nothing: its contract is the fact.
     pub fn keeps_rules(&self)
         ensures rule { IsTrue (is_word self.now) }
-        ensures light { length self.now < 65536 }
+        ensures light { length self.now < most_weight }
     {
         let _ = &self.bytes;
     }
@@ -256,7 +259,7 @@ impl Text {
     /// A string keeps its rule. The function does nothing: its contract is the fact.
     pub fn keeps_rules(&self)
         ensures rule { IsTrue (is_text self.now) }
-        ensures light { length self.now < 65536 }
+        ensures light { length self.now < most_weight }
     {
         let _ = &self.bytes;
     }
@@ -321,7 +324,7 @@ impl Value {
     /// Its weight.
     pub fn weight(&self) -> u32
         ensures exact { result ≡ weight (plain self.now) }
-        ensures light { result ≤ 65536 }
+        ensures light { result ≤ most_weight }
         ensures heavy { 0 < result }
     {
         match self {
@@ -335,11 +338,23 @@ impl Value {
     /// Its nesting: 0 but for a list.
     pub fn nesting(&self) -> u32
         ensures exact { result ≡ nesting (plain self.now) }
-        ensures flat { result ≤ 64 }
+        ensures flat { result ≤ most_nesting }
     {
         match self {
             Value::List(l) => l.nesting(),
             _ => 0,
+        }
+    }
+
+    /// The order of two integers by size, or of two words or two strings by bytes.
+    pub fn order(&self, other: &Value) -> Option<Ordering>
+        ensures { result ≡ order_of (plain self.now) (plain other.now) }
+    {
+        match (self, other) {
+            (Value::Int(m), Value::Int(n)) => Some(m.cmp(n)),
+            (Value::Word(v), Value::Word(w)) => Some(v.bytes().cmp(&w.bytes())),
+            (Value::Text(v), Value::Text(w)) => Some(v.bytes().cmp(&w.bytes())),
+            _ => None,
         }
     }
 }

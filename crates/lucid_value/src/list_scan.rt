@@ -5,9 +5,10 @@ ghost use Rattle.std.specs.Option.{option_map};
 ghost use Rattle.lucid_value.specs.View.{plain};
 ghost use Rattle.lucid_value.specs.Lists.{fits, in_front};
 ghost use Rattle.lucid_value.specs.ListScan.{turned, put, put_some, begin, go_on, read_atom, read_text, open_list, close_list, end_list, step, start, state_of, is_done, opened, Went, Goes, IsScanned, is_atom_byte, atom_value, text_value};
-ghost use Rattle.lucid_value.specs.Reading.{is_blank, IsFront};
+ghost use Rattle.lucid_value.specs.Reading.{IsFront};
 
 use crate::atoms::{read_atom, read_text};
+use crate::bytes::is_blank;
 use crate::stack::Stack;
 use crate::{Link, List, MAX_NESTING, MAX_WEIGHT, Value};
 use std::alloc::{AllocError, Global};
@@ -65,12 +66,6 @@ fn fits_in_front(item: &Value, list: &List) -> bool
 {
     item.weight() + list.weight() <= MAX_WEIGHT
         && (item.nesting() + 1).max(list.nesting()) <= MAX_NESTING
-}
-
-pub fn is_blank(byte: u8) -> bool
-    ensures { result ≡ is_blank byte }
-{
-    byte == 9 || byte == 10 || byte == 13 || byte == 32
 }
 
 fn is_atom_byte(byte: u8) -> bool

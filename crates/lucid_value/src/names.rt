@@ -28,7 +28,8 @@ impl Model for Name {
     ghost invariant = { λ n. IsTrue (is_name n.bytes.value.items) };
 }
 
-fn is_name_byte(byte: u8) -> bool
+/// Whether the byte may stand in a name: a letter, a digit or `_`.
+pub fn is_name_byte(byte: u8) -> bool
     ensures { result ≡ is_name_byte byte }
 {
     byte.is_ascii_alphanumeric() || byte == b'_'

@@ -7,7 +7,8 @@ ghost use Rattle.lucid_value.specs.Trimming.{after_blanks, IsUnquoted, IsRead};
 
 use crate::Value;
 use crate::atoms::{read_atom, read_text};
-use crate::list_scan::{is_blank, opened, scan_list};
+use crate::bytes::is_blank;
+use crate::list_scan::{opened, scan_list};
 use std::alloc::{AllocError, Global};
 use thiserror::Error;
 

@@ -1,9 +1,10 @@
-//! The operations on lists: an item put in front, two lists joined, the first item, the rest.
+//! The operations on lists: an item by its index, an item put in front, two lists joined, the first item, the rest.
 ghost use Rattle.std.specs.Prelude.{◌≡◌, ◌+◌, ◌≤◌, ◌<◌, IfOk, IsTrue, ◌↔◌, slice_get, map};
 ghost use Rattle.std.specs.Option.{option_map};
-ghost use Rattle.lucid_value.specs.Plain.{fault, no_items, listed, weight, weights, nesting, well_formed, may_be_held};
+ghost use Rattle.lucid_value.specs.Plain.{fault, no_items, listed, weight, weights, nesting, well_formed, may_be_held, most_weight, most_nesting};
 ghost use Rattle.lucid_value.specs.View.{plain};
 ghost use Rattle.lucid_value.specs.Lists.{in_front, limited_list, IsOverLimit, first_of, rest_of, joined, onto};
+ghost use Rattle.lucid_value.specs.Texts.{value_or_fault, pick_of};
 
 use crate::{Cell, Link, List, MAX_NESTING, MAX_WEIGHT, Value};
 use std::alloc::{AllocError, Global};
@@ -29,8 +30,8 @@ impl List {
     // The list with the item in front.
     pub(crate) fn with(alloc: Global, item: Value, rest: List) -> Result<List, AllocError>
         requires held { IsTrue (may_be_held (plain item)) }
-        requires light { weight (plain item) + weights rest + 1 ≤ 65536 }
-        requires flat { nesting (plain item) < 64 }
+        requires light { weight (plain item) + weights rest + 1 ≤ most_weight }
+        requires flat { nesting (plain item) < most_nesting }
         ensures { IfOk result (λ list. list ≡ in_front (plain item) rest) }
     {
         item.keeps_rules();
@@ -71,7 +72,7 @@ fn places(alloc: Global, list: &List) -> Result<Vec<&Value>, AllocError>
 // The items of the left list and then those of the right one.
 #[tactic(auto, using(crate::proofs::Joined::onto_more, crate::proofs::Joined::onto_joined))]
 fn join(alloc: Global, left: &List, right: List) -> Result<List, AllocError>
-    requires { weights left.now + weights right + 1 ≤ 65536 }
+    requires { weights left.now + weights right + 1 ≤ most_weight }
     ensures { IfOk result (λ list. list ≡ joined left.now right) }
 {
     left.keeps_rules();
@@ -88,7 +89,7 @@ fn join(alloc: Global, left: &List, right: List) -> Result<List, AllocError>
 #[tactic(auto, using(crate::proofs::Joined::joined_over, crate::proofs::Joined::joined_within, crate::proofs::Joined::weights_joined))]
 pub fn append(alloc: Global, left: &List, right: &List) -> Result<Value, AllocError>
     ensures value { IfOk result (λ value. plain value ≡ limited_list (joined left.now right.now)) }
-    ensures over { IfOk result (λ value. (plain value ≡ fault) ↔ (65536 < weights left.now + weights right.now + 1)) }
+    ensures over { IfOk result (λ value. (plain value ≡ fault) ↔ (most_weight < weights left.now + weights right.now + 1)) }
 {
     left.keeps_rules();
     right.keeps_rules();
@@ -136,5 +137,18 @@ pub fn tail(_alloc: Global, list: &List) -> Result<Value, AllocError>
     match &list.top {
         Link::End => Ok(Value::Fault),
         Link::More(cell) => Ok(Value::List(cell.rest.copy()?)),
+    }
+}
+
+/// The item at a place, from 0, or `Fault` where none stands there.
+pub fn pick_item(alloc: Global, list: &List, index: i128) -> Result<Value, AllocError>
+    ensures { IfOk result (λ value. plain value ≡ pick_of list.now index) }
+{
+    if index < 0 || index >= list.len() as i128 {
+        return Ok(Value::Fault);
+    }
+    match list.item(index as u32) {
+        Some(item) => item.copy(alloc),
+        None => Ok(Value::Fault),
     }
 }

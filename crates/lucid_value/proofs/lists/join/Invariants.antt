@@ -2,7 +2,7 @@ use Rattle.std.proofs.Common.{◌≡◌, ◌+◌, ◌≤◌, map, vec_len, IsTru
 use Rattle.lucid_value.specs.Plain.{weights, nestings, all_well_formed}
 use Rattle.lucid_value.specs.View.{plain}
 use Rattle.lucid_value.specs.Lists.{joined, onto}
-use Rattle.lucid_value.proofs.build.join.Given as goal
+use Rattle.lucid_value.proofs.lists.join.Given as goal
 
 abbrev pub invariant-loop-item : goal.invariant-loop-item
 invariant-loop-item l = record {

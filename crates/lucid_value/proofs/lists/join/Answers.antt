@@ -5,7 +5,7 @@ use Rattle.lucid_value.specs.View.{plain}
 use Rattle.lucid_value.specs.Lists.{onto, joined}
 use Rattle.lucid_value.proofs.Joined.{taken, onto_joined, onto_light, onto_flat, onto_formed, weights_joined, nestings_joined, formed_joined}
 use Rattle.lucid_value.specs.contracts.List.{the_view}
-use Rattle.lucid_value.proofs.build.join.Goals as goal
+use Rattle.lucid_value.proofs.lists.join.Goals as goal
 
 pub loop-item-init : goal.loop-item-init
 loop-item-init c =

@@ -4,7 +4,7 @@ use Rattle.lucid_value.specs.Plain.{Items, item}
 use Rattle.lucid_value.specs.View.{plain}
 use Rattle.lucid_value.specs.Lists.{onto}
 use Rattle.lucid_value.proofs.Joined.{taken}
-use Rattle.lucid_value.proofs.build.places.Goals as goal
+use Rattle.lucid_value.proofs.lists.places.Goals as goal
 
 pub loop-rest-preserved : goal.loop-rest-preserved
 loop-rest-preserved c =
