@@ -1,4 +1,5 @@
 pub mod NarrowResults
+pub mod OperatorRows
 pub mod Places
 pub mod Powers
 pub mod RowsInOrder

@@ -77,24 +77,6 @@ pub enum Op {
     IsError,
 }
 
-impl Op {
-    ghost use Rattle.std.specs.Prelude.{◌≡◌};
-    ghost use Rattle.lucid_ops.specs.Arity.{arity};
-
-    /// The number of arguments that it takes.
-    pub fn arity(self) -> usize
-        ensures { result ≡ arity self }
-    {
-        match self {
-            Op::Substr => 3,
-            Op::Neg | Op::Abs | Op::Not | Op::Head | Op::Tail | Op::Length => 1,
-            Op::MakeWord | Op::MakeString | Op::IsInt | Op::IsWord | Op::IsString | Op::IsList => 1,
-            Op::IsTruth | Op::IsNull | Op::IsAtom | Op::IsEod | Op::IsError => 1,
-            _ => 2,
-        }
-    }
-}
-
 /// How an operator stands to its arguments in a source.
 #[derive(Clone, Copy, Debug, PartialEq, Eq, PartialOrd, Ord, Drop)]
 pub enum Form {
@@ -116,6 +98,33 @@ pub enum Side {
     /// Two of them that stand between their arguments have no grouping without parentheses. Operators in front of one argument
     /// are of this kind too; they may follow one another.
     Single,
+}
+
+impl Side {
+    ghost use Rattle.std.specs.Prelude.{◌≡◌, ◌<◌};
+    ghost use Rattle.lucid_ops.specs.Row.{left_level, right_level};
+
+    /// The least level of the argument to the left of an operator of this side and level.
+    pub fn left_level(self, level: u8) -> u8
+        requires { level < 255 }
+        ensures { result ≡ left_level self level }
+    {
+        match self {
+            Side::Left => level,
+            Side::Right | Side::Single => level + 1,
+        }
+    }
+
+    /// The least level of the argument to its right.
+    pub fn right_level(self, level: u8) -> u8
+        requires { level < 255 }
+        ensures { result ≡ right_level self level }
+    {
+        match self {
+            Side::Right => level,
+            Side::Left | Side::Single => level + 1,
+        }
+    }
 }
 
 /// A row of the operator table.

@@ -1,5 +1,4 @@
 //! Worked rows of every operator. What is expected comes from the language's table of operators.
-use crate::rows::ROWS;
 use crate::tests::Sample::{Bare, Eod, Error, Int, Ints, Quoted, Truth};
 use crate::{Form, Op, OpTable, Side, apply, standard};
 use lucid_value::{List, Text, Value, Word, cons};
@@ -477,30 +476,47 @@ fn each_kind_at_substr(rt: HostRuntime) -> Result<(), Fail> {
     Ok(())
 }
 
+// The form, the spelling, the level and the side of some operators.
+static FOUND: [(Form, &'static [u8], Op, u8, Side); 8] = [
+    (Form::Before, b"-", Op::Neg, 11, Side::Single),
+    (Form::Between, b"-", Op::Sub, 8, Side::Left),
+    (Form::Before, b"not", Op::Not, 5, Side::Single),
+    (Form::Between, b"**", Op::Pow, 10, Side::Right),
+    (Form::Between, b"cmp", Op::Cmp, 6, Side::Single),
+    (Form::Between, b"<>", Op::Append, 7, Side::Right),
+    (Form::Called, b"nth", Op::Nth, 12, Side::Single),
+    (Form::Called, b"substr", Op::Substr, 12, Side::Single),
+];
+
 #[test]
-fn each_row_is_found(rt: HostRuntime) {
+fn rows_are_found(rt: HostRuntime) {
     let table = standard();
-    for row in &ROWS {
+    for (form, spelling, op, level, side) in &FOUND {
+        let row = table.find(*form, *spelling);
         assert_eq!(rt;
-            table.find(row.form, row.spelling).map(|found| found.op),
-            Some(row.op)
+            row.map(|row| (row.op, row.level, row.side)),
+            Some((*op, *level, *side)),
+            "{op:?}"
         );
+        assert_eq!(rt; row, Some(op.row()), "{op:?}");
+        assert_eq!(rt; Op::find(*form, *spelling), Some(*op), "{op:?}");
     }
-    let minus = table
-        .find(Form::Before, b"-")
-        .map(|row| (row.op, row.level, row.arity));
-    assert_eq!(rt; minus, Some((Op::Neg, 11, 1)));
-    let power = table
-        .find(Form::Between, b"**")
-        .map(|row| (row.op, row.level, row.side));
-    assert_eq!(rt; power, Some((Op::Pow, 10, Side::Right)));
     assert!(rt; table.find(Form::Called, b"-").is_none());
     assert!(rt; table.find(Form::Between, b"").is_none());
+    assert!(rt; Op::find(Form::Before, b"**").is_none());
+}
+
+#[test]
+fn levels_of_arguments(rt: HostRuntime) {
+    let left = [Side::Left, Side::Right, Side::Single].map(|side| side.left_level(7));
+    assert_eq!(rt; left, [7, 8, 8]);
+    let right = [Side::Left, Side::Right, Side::Single].map(|side| side.right_level(7));
+    assert_eq!(rt; right, [8, 7, 8]);
 }
 
 #[test]
 fn rows_of_a_table_rise(rt: HostRuntime) {
-    let [first, second, ..] = ROWS;
+    let (first, second) = (Op::Neg.row(), Op::Abs.row());
     assert!(rt; OpTable::make([first, second]).is_some());
     assert!(rt; OpTable::make([second, first]).is_none());
     assert!(rt; OpTable::make([first, first]).is_none());

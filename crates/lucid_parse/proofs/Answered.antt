@@ -1,4 +1,4 @@
--- What is answered for the words is answered for the tokens whose words they are.
+-- What is answered for the terminals is answered for the tokens whose terminals they are.
 use Rattle.std.proofs.Common.{◌≡◌, ℕ, ◌≤◌, List, length, sym, subst, arith, Result, Ok, Err}
 use Rattle.std.specs.Prelude.{IfOk, IfErr}
 use Rattle.lucid_tree.specs.Tree.{PlainTree}
@@ -7,11 +7,11 @@ use Rattle.lucid_scan.specs.declared.token.Token.{Token}
 use Rattle.lucid_scan.specs.Laws.{IsInOrder}
 use Rattle.lucid_parse.specs.declared.refusal.ParseRefusal.{ParseRefusal}
 use Rattle.lucid_parse.specs.declared.refusal.ParseRefusal.TheVariants as refusal
-use Rattle.lucid_parse.specs.Grammar.{Word, Spells}
-use Rattle.lucid_parse.specs.Words.{Words}
+use Rattle.lucid_parse.specs.Grammar.{PlacedTerminal, Spells}
+use Rattle.lucid_parse.specs.Terminals.{Terminals}
 use Rattle.lucid_parse.specs.Refused.{AreRefused}
 use Rattle.lucid_parse.specs.Spelled.{SpellsTree, IsRefused}
-use Rattle.lucid_parse.specs.Laws.{WordsAreUnique}
+use Rattle.lucid_parse.specs.Laws.{TerminalsAreUnique}
 use Rattle.lucid_parse.proofs.Built.{one_tree}
 use Rattle.lucid_parse.proofs.WellMade.{few, well_made}
 use Rattle.lucid_parse.proofs.Texts.{words_rise, words_length}
@@ -20,12 +20,12 @@ use Rattle.lucid_parse.proofs.Texts.{words_rise, words_length}
 pub refused_memory : (source : List ℕ) (ts : List Token) (e : ParseRefusal) → e ≡ refusal.NoMemory → IsRefused source ts e
 refused_memory source ts e is = subst (IsRefused source ts) (sym is) tt
 
-refused_as : (source : List ℕ) (ts : List Token) (ws : List Word) (e : ParseRefusal) → Words source ts ws → AreRefused e ws (length source) → IsRefused source ts e
+refused_as : (source : List ℕ) (ts : List Token) (ws : List PlacedTerminal) (e : ParseRefusal) → Terminals source ts ws → AreRefused e ws (length source) → IsRefused source ts e
 refused_as source ts ws (refusal.Syntax at) w a = (ws, w, a)
 refused_as source ts ws (refusal.TooNested at) w a = (ws, w, a)
 refused_as source ts ws refusal.NoMemory w a = tt
 
-module _ (source : List ℕ) (ts : List Token) (ws : List Word) (w : Words source ts ws) where
+module _ (source : List ℕ) (ts : List Token) (ws : List PlacedTerminal) (w : Terminals source ts ws) where
   pub spelled : (r : Result PlainTree ParseRefusal) → IfOk r (λ t. Spells 0 ws t) → IfOk r (λ t. SpellsTree source ts t)
   spelled (Ok t) h = (ws, w, h)
   spelled (Err e) h = tt
@@ -44,6 +44,6 @@ module _ (source : List ℕ) (ts : List Token) (ws : List Word) (w : Words sourc
   all_few (Ok t) f s h = omega (arith, f, s, words_length w, few h)
   all_few (Err e) f s h = tt
 
--- tokens of one list of words spell at most one tree
-pub tokens-one : WordsAreUnique → (source : List ℕ) (ts : List Token) (t u : PlainTree) → SpellsTree source ts t → SpellsTree source ts u → t ≡ u
+-- tokens of one list of terminals spell at most one tree
+pub tokens-one : TerminalsAreUnique → (source : List ℕ) (ts : List Token) (t u : PlainTree) → SpellsTree source ts t → SpellsTree source ts u → t ≡ u
 tokens-one law source ts t u g h = one_tree h.0 t u (subst (λ l. Spells 0 l t) (law source ts g.0 h.0 g.1 h.1) g.2) h.2

@@ -5,7 +5,7 @@ use Rattle.std.specs.Borrow.{Bor}
 use Rattle.lucid_value.specs.declared.Value.{Value}
 use Rattle.lucid_parse.specs.declared.state.Item.{Item}
 use Rattle.lucid_parse.specs.Fill.{fill_item}
-use Rattle.lucid_parse.specs.Signs.{name_now, value_now, items_of}
+use Rattle.lucid_parse.specs.Views.{name_now, value_now, items_of}
 use Rattle.lucid_parse.specs.Build.{PlainPiles, no_piles, put_on, built}
 use Rattle.lucid_parse.proofs.Built.{built-more}
 

@@ -11,11 +11,11 @@ use Rattle.lucid_tree.specs.declared.tree.DefKind.TheVariants as def_kind
 use Rattle.lucid_parse.specs.declared.state.Item.TheVariants as item
 use Rattle.lucid_parse.specs.declared.state.Defines.TheVariants as kind
 use Rattle.lucid_parse.specs.Grammar
-use Rattle.lucid_parse.specs.Grammar.{Word, trees_and, defs_and, Defined, Plain, Function, Current, Parameter, names_of, places_of, called_arity, called_head, Spells, SpellsArgs, SpellsDefs}
+use Rattle.lucid_parse.specs.Grammar.{PlacedTerminal, trees_and, defs_and, Defined, Plain, Function, Current, Parameter, names_of, places_of, called_arity, called_head, Spells, SpellsArgs, SpellsDefs}
 use Rattle.lucid_parse.specs.Machine.{PlainItem}
 use Rattle.lucid_parse.specs.Flat.{written, written_parts, written_all, written_defs, with_parameters}
 use Rattle.lucid_parse.specs.Build.{PlainPiles, piles, no_piles, definition, gather, put_on, built}
-use Rattle.lucid_parse.proofs.Levels.{node-between, node-before, node-called}
+use Rattle.lucid_parse.proofs.Levels.{node-infix, node-prefix, node-called}
 use Rattle.lucid_parse.proofs.Complete.{written_parts-and, written_all-and, written_defs-and}
 use Rattle.lucid_parse.proofs.Exact.{spelled_nodes}
 
@@ -133,15 +133,15 @@ built-parameters (x ∷ ps) out p q ns ats e =
 mutual
   unfolding written
 
-  pub built-written : {k : ℕ} {ws : List Word} {t : PlainTree} → Spells k ws t → (out : List PlainItem) (p q : PlainPiles)
+  pub built-written : {k : ℕ} {ws : List PlacedTerminal} {t : PlainTree} → Spells k ws t → (out : List PlainItem) (p q : PlainPiles)
       → built out p ≡ Some q → built (written out t) p ≡ Some (with_tree t q)
   built-written (Grammar.spells_const {at = at} {v = v}) out p q e = grow out (item.Const at v) p q _ e refl
   built-written (Grammar.spells_name {at = at} {n = n}) out p q e = grow out (item.Name at n) p q _ e refl
-  built-written (Grammar.spells_between {at = at} {x = x} {y = y} s b is low sx sy) out p q e =
-      grow_as (written (written out x) y) _ (item.Between b at) p (with_tree y (with_tree x q)) _ (node-between b at)
+  built-written (Grammar.spells_infix {at = at} {x = x} {y = y} s b is low sx sy) out p q e =
+      grow_as (written (written out x) y) _ (item.Infix b at) p (with_tree y (with_tree x q)) _ (node-infix s b is at)
       (built-written sy (written out x) p (with_tree x q) (built-written sx out p q e)) refl
-  built-written (Grammar.spells_before {at = at} {x = x} s u is low sx) out p q e =
-      grow_as (written out x) _ (item.Before u at) p (with_tree x q) _ (node-before u at) (built-written sx out p q e) refl
+  built-written (Grammar.spells_prefix {at = at} {x = x} s u is low sx) out p q e =
+      grow_as (written out x) _ (item.Prefix u at) p (with_tree x q) _ (node-prefix s u is at) (built-written sx out p q e) refl
   built-written (Grammar.spells_inner r sx) out p q e = built-written sx out p q e
   built-written (Grammar.spells_if {at = at} a b c {x = x} {y = y} {z = z} sx sy sz) out p q e =
       grow (written (written (written out x) y) z) (item.If at) p (with_tree z (with_tree y (with_tree x q))) _
@@ -151,8 +151,8 @@ mutual
       grow (written_all (out ++ item.NoTrees ∷ []) args) (item.Call at n) p (with_list (tree_list args) q) _
       (built-args sa (out ++ item.NoTrees ∷ []) p q (grow out item.NoTrees p q _ e refl))
       (ap (λ a. Some (with_tree (call at n a) q)) (trees_of-list args))
-  built-written (Grammar.spells_operated {at = at} r c {args = args} all sa) out p q e =
-      grow_as (written_parts out args) _ (item.Operated c at) p (with_trees args q) _ (node-called c at)
+  built-written (Grammar.spells_called {at = at} r c {args = args} all sa) out p q e =
+      grow_as (written_parts out args) _ (item.Called c at) p (with_trees args q) _ (node-called c at)
       (built-parts sa out p q e)
       (ap (option_and_then (λ g. Some (piles (form at (called_head c) g.0 ∷ g.1) q.lists q.names q.places q.blocks)))
       (ap (λ n. gather n (piled args q.trees) no_trees) (sym all) ∙ taken args q.trees))
@@ -161,7 +161,7 @@ mutual
       (built-defs sd (written out x ++ item.NoDefs ∷ []) p (with_tree x q) (grow (written out x) item.NoDefs p (with_tree x q) _ (built-written sx out p q e) refl))
       (ap (λ a. Some (with_tree (block at x a) q)) (defs_of-list all))
 
-  built-parts : {ws : List Word} {args : PlainTrees} → SpellsArgs ws args → (out : List PlainItem) (p q : PlainPiles)
+  built-parts : {ws : List PlacedTerminal} {args : PlainTrees} → SpellsArgs ws args → (out : List PlainItem) (p q : PlainPiles)
       → built out p ≡ Some q → built (written_parts out args) p ≡ Some (with_trees args q)
   built-parts (Grammar.spells_one sx) out p q e = built-written sx out p q e
   built-parts (Grammar.spells_more r {all = all} {y = y} sa sy) out p q e =
@@ -169,7 +169,7 @@ mutual
       ∙ built-written sy (written_parts out all) p (with_trees all q) (built-parts sa out p q e)
       ∙ ap (λ l. Some (piles l q.lists q.names q.places q.blocks)) (sym (piled-and all y q.trees))
 
-  built-args : {ws : List Word} {args : PlainTrees} → SpellsArgs ws args → (out : List PlainItem) (p q : PlainPiles)
+  built-args : {ws : List PlacedTerminal} {args : PlainTrees} → SpellsArgs ws args → (out : List PlainItem) (p q : PlainPiles)
       → built out p ≡ Some (with_list [] q) → built (written_all out args) p ≡ Some (with_list (tree_list args) q)
   built-args (Grammar.spells_one {x = x} sx) out p q e = grow (written out x) item.More p (with_tree x (with_list [] q)) _ (built-written sx out p (with_list [] q) e) refl
   built-args (Grammar.spells_more r {all = all} {y = y} sa sy) out p q e =
@@ -178,7 +178,7 @@ mutual
       (built-written sy (written_all out all) p (with_list (tree_list all) q) (built-args sa out p q e)) refl
       ∙ ap (λ l. Some (with_list l q)) (tree_list-and all y)
 
-  built-defs : {ws : List Word} {all : PlainDefs} → SpellsDefs ws all → (out : List PlainItem) (p q : PlainPiles)
+  built-defs : {ws : List PlacedTerminal} {all : PlainDefs} → SpellsDefs ws all → (out : List PlainItem) (p q : PlainPiles)
       → built out p ≡ Some (with_block [] q) → built (written_defs out all) p ≡ Some (with_block (def_list all) q)
   built-defs Grammar.spells_none out p q e = e
   built-defs (Grammar.spells_def at n a b {all = all} {y = y} sd sy) out p q e =
@@ -201,7 +201,7 @@ mutual
       ∙ ap (λ l. Some (with_block l q)) (def_list-and all at n (Function ps) y)
 
 -- the nodes of a tree that is spelled build it
-pub rebuilt : {k : ℕ} {ws : List Word} {t : PlainTree} → Spells k ws t → built (written [] t) no_piles ≡ Some (piles (t ∷ []) [] [] [] [])
+pub rebuilt : {k : ℕ} {ws : List PlacedTerminal} {t : PlainTree} → Spells k ws t → built (written [] t) no_piles ≡ Some (piles (t ∷ []) [] [] [] [])
 rebuilt s = built-written s [] no_piles no_piles refl
 
 abbrev first_trees : Option PlainPiles → List PlainTree
@@ -209,13 +209,13 @@ first_trees None = []
 first_trees (Some p) = p.trees
 
 -- two trees with the same nodes are one
-pub written-one : {j k : ℕ} {us ws : List Word} {x y : PlainTree} → Spells j us x → Spells k ws y → written [] x ≡ written [] y → x ≡ y
+pub written-one : {j k : ℕ} {us ws : List PlacedTerminal} {x y : PlainTree} → Spells j us x → Spells k ws y → written [] x ≡ written [] y → x ≡ y
 written-one {x = x} {y = y} s t e =
     let same : ◌≡◌ {A = Option PlainPiles} (Some (piles (x ∷ []) [] [] [] [])) (Some (piles (y ∷ []) [] [] [] [])) = sym (rebuilt s) ∙ ap (λ l. built l no_piles) e ∙ rebuilt t in
     let lists : ◌≡◌ {A = List PlainTree} (x ∷ []) (y ∷ []) = ap first_trees same in cc
 
--- words spell at most one tree
-pub one_tree : (ws : List Word) (x y : PlainTree) → Spells 0 ws x → Spells 0 ws y → x ≡ y
+-- terminals spell at most one tree
+pub one_tree : (ws : List PlacedTerminal) (x y : PlainTree) → Spells 0 ws x → Spells 0 ws y → x ≡ y
 one_tree ws x y s t =
     let same : ◌≡◌ {A = Option (List PlainItem)} (Some (written [] x)) (Some (written [] y)) = sym (spelled_nodes ws x s) ∙ spelled_nodes ws y t in
     written-one s t (cc)
@@ -236,13 +236,13 @@ built-front (x ∷ xs) ys p r e f = of (put_on x p) e f (λ q g h. built-front x
     of (Some q) g h k = k q g h
 
 -- no node of a tree that is spelled lacks its parts
-pub never_lacks : {ws : List Word} {t : PlainTree} → Spells 0 ws t → (items : List PlainItem) (n : ℕ) → items ≡ written [] t → built (take n items) no_piles ≡ None → ⊥
+pub never_lacks : {ws : List PlacedTerminal} {t : PlainTree} → Spells 0 ws t → (items : List PlainItem) (n : ℕ) → items ≡ written [] t → built (take n items) no_piles ≡ None → ⊥
 never_lacks {t = t} s items n e f =
     built-front (take n items) (drop n items) no_piles (piles (t ∷ []) [] [] [] [])
     (ap (λ l. built l no_piles) (take-append-drop n items ∙ e) ∙ rebuilt s) f
 
 -- in the end there is the tree
-pub all_built : {ws : List Word} {t : PlainTree} → Spells 0 ws t → (items : List PlainItem) (n : ℕ) (p : PlainPiles) → items ≡ written [] t → length items ≤ n → built (take n items) no_piles ≡ Some p → p.trees ≡ t ∷ []
+pub all_built : {ws : List PlacedTerminal} {t : PlainTree} → Spells 0 ws t → (items : List PlainItem) (n : ℕ) (p : PlainPiles) → items ≡ written [] t → length items ≤ n → built (take n items) no_piles ≡ Some p → p.trees ≡ t ∷ []
 all_built {t = t} s items n p e h f =
     let same : Some p ≡ Some (piles (t ∷ []) [] [] [] []) = sym f ∙ ap (λ l. built l no_piles) (take_all n items h ∙ e) ∙ rebuilt s in
     let one : p ≡ piles (t ∷ []) [] [] [] [] = cc in

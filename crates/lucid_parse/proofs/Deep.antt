@@ -10,12 +10,12 @@ use Rattle.lucid_parse.specs.declared.state.Item.{Item}
 use Rattle.lucid_parse.specs.declared.state.Item.TheVariants as item
 use Rattle.lucid_parse.specs.declared.state.Defines.TheVariants as kind
 use Rattle.lucid_parse.specs.Grammar
-use Rattle.lucid_parse.specs.Grammar.{Word, trees_and, defs_and, Defined, Plain, Function, Current, Parameter, called_arity, Spells, SpellsArgs, SpellsDefs}
+use Rattle.lucid_parse.specs.Grammar.{PlacedTerminal, trees_and, defs_and, Defined, Plain, Function, Current, Parameter, called_arity, Spells, SpellsArgs, SpellsDefs}
 use Rattle.lucid_parse.specs.Machine.{PlainItem}
 use Rattle.lucid_parse.specs.Fill.{fill_item}
 use Rattle.lucid_parse.specs.Flat.{written, written_parts, written_all, written_defs, with_parameters}
 use Rattle.lucid_parse.specs.Depth.{here, at_depth, at_depth_in, at_depth_in_defs, IsLeast, lesser, least_in, found, copies, below, search_from}
-use Rattle.lucid_parse.proofs.Levels.{node-between, node-before, node-called}
+use Rattle.lucid_parse.proofs.Levels.{node-infix, node-prefix, node-called}
 use Rattle.lucid_parse.proofs.Complete.{written_parts-and, written_all-and, written_defs-and, count-and}
 
 least_in-append : (best : Option ℕ) (xs ys : List ℕ) → least_in best (xs ++ ys) ≡ least_in (least_in best ys) xs
@@ -58,16 +58,16 @@ copies-more n d ds = ap (λ k. copies k d ds) (add-one n)
 mutual
   unfolding written at_depth
 
-  searched : {k : ℕ} {ws : List Word} {t : PlainTree} → Spells k ws t → (out : List PlainItem) (d : ℕ) (ds : List ℕ) (best : Option ℕ) → from_end (written out t) (d ∷ ds) best ≡ from_end out ds (least_in best (at_depth d t))
+  searched : {k : ℕ} {ws : List PlacedTerminal} {t : PlainTree} → Spells k ws t → (out : List PlainItem) (d : ℕ) (ds : List ℕ) (best : Option ℕ) → from_end (written out t) (d ∷ ds) best ≡ from_end out ds (least_in best (at_depth d t))
   searched (Grammar.spells_const {at = at} {v = v}) out d ds best = from_end-push out (item.Const at v) d ds best
   searched (Grammar.spells_name {at = at} {n = n}) out d ds best = from_end-push out (item.Name at n) d ds best
-  searched (Grammar.spells_between {at = at} {x = x} {y = y} s b is low sx sy) out d ds best =
-      from_end-as (written (written out x) y) _ (item.Between b at) d ds best (node-between b at)
+  searched (Grammar.spells_infix {at = at} {x = x} {y = y} s b is low sx sy) out d ds best =
+      from_end-as (written (written out x) y) _ (item.Infix b at) d ds best (node-infix s b is at)
       ∙ searched sy (written out x) (pred d) (pred d ∷ ds) (least_in best (here d at))
       ∙ searched sx out (pred d) ds (least_in (least_in best (here d at)) (at_depth (pred d) y))
       ∙ ap (from_end out ds) (sym (simp least_in-append))
-  searched (Grammar.spells_before {at = at} {x = x} s u is low sx) out d ds best =
-      from_end-as (written out x) _ (item.Before u at) d ds best (node-before u at)
+  searched (Grammar.spells_prefix {at = at} {x = x} s u is low sx) out d ds best =
+      from_end-as (written out x) _ (item.Prefix u at) d ds best (node-prefix s u is at)
       ∙ searched sx out (pred d) ds (least_in best (here d at))
       ∙ ap (from_end out ds) (sym (simp least_in-append))
   searched (Grammar.spells_inner q sx) out d ds best = searched sx out d ds best
@@ -82,8 +82,8 @@ mutual
       ∙ searched_args sa (out ++ item.NoTrees ∷ []) (pred d) ds (least_in best (here d at))
       ∙ from_end-push out item.NoTrees (pred d) ds (least_in (least_in best (here d at)) (at_depth_in (pred d) args))
       ∙ ap (from_end out ds) (sym (least_in-append best (at_depth_in (pred d) args) (here d at)))
-  searched (Grammar.spells_operated {at = at} q c {args = args} all sa) out d ds best =
-      from_end-as (written_parts out args) _ (item.Operated c at) d ds best (node-called c at)
+  searched (Grammar.spells_called {at = at} q c {args = args} all sa) out d ds best =
+      from_end-as (written_parts out args) _ (item.Called c at) d ds best (node-called c at)
       ∙ ap (λ n. from_end (written_parts out args) (copies n (pred d) ds) (least_in best (here d at))) (sym all)
       ∙ searched_parts sa out (pred d) ds (least_in best (here d at))
       ∙ ap (from_end out ds) (sym (least_in-append best (at_depth_in (pred d) args) (here d at)))
@@ -94,7 +94,7 @@ mutual
       ∙ searched sx out (pred d) ds (least_in (least_in best (here d at)) (at_depth_in_defs (pred d) all))
       ∙ ap (from_end out ds) (sym (simp least_in-append))
 
-  searched_parts : {ws : List Word} {args : PlainTrees} → SpellsArgs ws args → (out : List PlainItem) (d : ℕ) (ds : List ℕ) (best : Option ℕ)
+  searched_parts : {ws : List PlacedTerminal} {args : PlainTrees} → SpellsArgs ws args → (out : List PlainItem) (d : ℕ) (ds : List ℕ) (best : Option ℕ)
       → from_end (written_parts out args) (copies (count args) d ds) best ≡ from_end out ds (least_in best (at_depth_in d args))
   searched_parts (Grammar.spells_one {x = x} sx) out d ds best = searched sx out d ds best ∙ ap (from_end out ds) (sym (simp least_in-append))
   searched_parts (Grammar.spells_more p {all = all} {y = y} sa sy) out d ds best =
@@ -104,7 +104,7 @@ mutual
       ∙ searched_parts sa out d ds (least_in best (at_depth d y))
       ∙ ap (from_end out ds) (sym (ap (least_in best) (at_depth_in-and d all y) ∙ least_in-append best (at_depth_in d all) (at_depth d y)))
 
-  searched_args : {ws : List Word} {args : PlainTrees} → SpellsArgs ws args → (out : List PlainItem) (d : ℕ) (ds : List ℕ) (best : Option ℕ)
+  searched_args : {ws : List PlacedTerminal} {args : PlainTrees} → SpellsArgs ws args → (out : List PlainItem) (d : ℕ) (ds : List ℕ) (best : Option ℕ)
       → from_end (written_all out args) (d ∷ ds) best ≡ from_end out (d ∷ ds) (least_in best (at_depth_in d args))
   searched_args (Grammar.spells_one {x = x} sx) out d ds best =
       from_end-push (written out x) item.More d ds best ∙ searched sx out d (d ∷ ds) best ∙ ap (from_end out (d ∷ ds)) (sym (simp least_in-append))
@@ -115,7 +115,7 @@ mutual
       ∙ searched_args sa out d ds (least_in best (at_depth d y))
       ∙ ap (from_end out (d ∷ ds)) (sym (ap (least_in best) (at_depth_in-and d all y) ∙ least_in-append best (at_depth_in d all) (at_depth d y)))
 
-  searched_defs : {ws : List Word} {all : PlainDefs} → SpellsDefs ws all → (out : List PlainItem) (d : ℕ) (ds : List ℕ) (best : Option ℕ)
+  searched_defs : {ws : List PlacedTerminal} {all : PlainDefs} → SpellsDefs ws all → (out : List PlainItem) (d : ℕ) (ds : List ℕ) (best : Option ℕ)
       → from_end (written_defs out all) (d ∷ ds) best ≡ from_end out (d ∷ ds) (least_in best (at_depth_in_defs d all))
   searched_defs Grammar.spells_none out d ds best = refl
   searched_defs (Grammar.spells_def at n p q {all = all} {y = y} sd sy) out d ds best =
@@ -141,7 +141,7 @@ mutual
       ∙ ap (from_end out (d ∷ ds)) (sym (ap (least_in best) (at_depth_in_defs-and d all at n (Function ps) y) ∙ least_in-append best (at_depth_in_defs d all) (at_depth d y)))
 
 -- what the search finds in a program
-pub search_finds : {k : ℕ} {ws : List Word} {t : PlainTree} → Spells k ws t → (d : ℕ) → search_from (reverse (written [] t)) (d ∷ []) None ≡ least_in None (at_depth d t)
+pub search_finds : {k : ℕ} {ws : List PlacedTerminal} {t : PlainTree} → Spells k ws t → (d : ℕ) → search_from (reverse (written [] t)) (d ∷ []) None ≡ least_in None (at_depth d t)
 unfolding from_end
 search_finds s d = searched s [] d [] None
 
@@ -280,18 +280,18 @@ module _ {M N V W : Type 0} (f : M → N) (g : V → W) where
   found-filled : (i : Item M V) (d : ℕ) (best : Option ℕ) → found (fill_item f g i) d best ≡ found i d best
   found-filled (item.Const p v) d best = refl
   found-filled (item.Name p n) d best = refl
-  found-filled (item.Between b p) d best = refl
-  found-filled (item.Before u p) d best = refl
-  found-filled (item.Operated c p) d best = refl
+  found-filled (item.Infix b p) d best = refl
+  found-filled (item.Prefix u p) d best = refl
+  found-filled (item.Called c p) d best = refl
   found-filled (item.If p) d best = refl
   found-filled (item.Call p n) d best = refl
   found-filled (item.Block p) d best = refl
   found-filled _ d best = refl
 
   below-filled : (i : Item M V) (d : ℕ) (ds : List ℕ) → below (fill_item f g i) d ds ≡ below i d ds
-  below-filled (item.Between b p) d ds = refl
-  below-filled (item.Before u p) d ds = refl
-  below-filled (item.Operated c p) d ds = refl
+  below-filled (item.Infix b p) d ds = refl
+  below-filled (item.Prefix u p) d ds = refl
+  below-filled (item.Called c p) d ds = refl
   below-filled (item.If p) d ds = refl
   below-filled (item.Call p n) d ds = refl
   below-filled (item.Block p) d ds = refl

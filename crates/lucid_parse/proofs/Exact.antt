@@ -3,7 +3,7 @@ use Rattle.std.proofs.Common.{◌≡◌, ℕ, ◌+◌, ◌≤◌, ◌<◌, List,
 use Rattle.std.proofs.lemmas.List.{take_more, take_all, take-append-drop, take-take, get_or-map}
 use Rattle.std.proofs.lemmas.Bool.{cases_lt}
 use Rattle.lucid_tree.specs.Tree.{PlainTree}
-use Rattle.lucid_parse.specs.Grammar.{Word, Spells}
+use Rattle.lucid_parse.specs.Grammar.{PlacedTerminal, Spells}
 use Rattle.lucid_parse.specs.Machine.{PlainState, start, step, feeds, finish, nodes}
 use Rattle.lucid_parse.specs.Flat.{written}
 use Rattle.lucid_parse.specs.Verdict.{Begins, SpellsNone, place_of, IsFault}
@@ -12,41 +12,41 @@ use Rattle.lucid_parse.proofs.Sound.{feeds_mean, start_means}
 use Rattle.lucid_parse.proofs.Viable.{viable, begins_front}
 
 -- what is spelled is written
-pub spelled_nodes : (ts : List Word) (t : PlainTree) → Spells 0 ts t → nodes ts ≡ Some (written [] t)
+pub spelled_nodes : (ts : List PlacedTerminal) (t : PlainTree) → Spells 0 ts t → nodes ts ≡ Some (written [] t)
 spelled_nodes ts t s = let o = complete s zero-le 0 [] [] zero-le tt in ap (option_and_then finish) o.done.reads ∙ o.done.ends
 
 -- what goes on to some state has come to one
-front : (xs ys : List Word) (g h : PlainState) → feeds g (xs ++ ys) ≡ Some h → (i : PlainState) × (feeds g xs ≡ Some i)
+front : (xs ys : List PlacedTerminal) (g h : PlainState) → feeds g (xs ++ ys) ≡ Some h → (i : PlainState) × (feeds g xs ≡ Some i)
 front [] ys g h e = (g, refl)
-front (x ∷ xs) ys g h e = onto (step g x.sign x.at) refl e (λ i f. front xs ys i h f)
+front (x ∷ xs) ys g h e = onto (step g x.terminal x.at) refl e (λ i f. front xs ys i h f)
   where
-    onto : (o : Option PlainState) → step g x.sign x.at ≡ o → option_and_then (λ i. feeds i (xs ++ ys)) o ≡ Some h
+    onto : (o : Option PlainState) → step g x.terminal x.at ≡ o → option_and_then (λ i. feeds i (xs ++ ys)) o ≡ Some h
         → ((i : PlainState) → feeds i (xs ++ ys) ≡ Some h → (j : PlainState) × (feeds i xs ≡ Some j)) → (j : PlainState) × (option_and_then (λ i. feeds i xs) o ≡ Some j)
     onto None s e k = cc
     onto (Some i) s e k = k i e
 
-begins_reached : (ts : List Word) → Begins ts → (g : PlainState) × (feeds start ts ≡ Some g)
+begins_reached : (ts : List PlacedTerminal) → Begins ts → (g : PlainState) × (feeds start ts ≡ Some g)
 begins_reached ts h = let o = complete h.2 zero-le 0 [] [] zero-le tt in front ts h.0 start o.done.after o.done.reads
 
-pub reached_begins : (ts : List Word) (g : PlainState) → feeds start ts ≡ Some g → Begins ts
+pub reached_begins : (ts : List PlacedTerminal) (g : PlainState) → feeds start ts ≡ Some g → Begins ts
 reached_begins ts g e = viable g.focus g.frames g.out ts (feeds_mean ts start g [] start_means e)
 
-place-end : (ts : List Word) (end : ℕ) → end ≡ place_of ts end (length ts)
+place-end : (ts : List PlacedTerminal) (end : ℕ) → end ≡ place_of ts end (length ts)
 place-end [] end = refl
 place-end (t ∷ ts) end = place-end ts end
 
 -- where a step fails, no program goes on
-no_way : (ts : List Word) (t : Word) (g : PlainState) → feeds start ts ≡ Some g → step g t.sign t.at ≡ None → Begins (ts ++ t ∷ []) → ⊥
+no_way : (ts : List PlacedTerminal) (t : PlacedTerminal) (g : PlainState) → feeds start ts ≡ Some g → step g t.terminal t.at ≡ None → Begins (ts ++ t ∷ []) → ⊥
 no_way ts t g e f h =
     let r = begins_reached (ts ++ t ∷ []) h in
     let stops : feeds start (ts ++ t ∷ []) ≡ None = feeds-append ts (t ∷ []) start g e ∙ ap (option_and_then (λ i. feeds i [])) f in
     let no : None ≡ Some r.0 = sym stops ∙ r.1 in cc
 
-begins_take : (ts : List Word) (i : ℕ) (t : PlainTree) → Spells 0 ts t → Begins (take i ts)
+begins_take : (ts : List PlacedTerminal) (i : ℕ) (t : PlainTree) → Spells 0 ts t → Begins (take i ts)
 begins_take ts i t s = (drop i ts, t, subst (λ l. Spells 0 l t) (sym (take-append-drop i ts)) s)
 
--- a step over the next word
-pub feeds-more : (ts : List Word) (i : ℕ) (d : Word) (g : PlainState) (o : Option PlainState) → i < length ts → feeds start (take i ts) ≡ Some g → step g (get_or ts i d).sign (get_or ts i d).at ≡ o
+-- a step over the next terminal
+pub feeds-more : (ts : List PlacedTerminal) (i : ℕ) (d : PlacedTerminal) (g : PlainState) (o : Option PlainState) → i < length ts → feeds start (take i ts) ≡ Some g → step g (get_or ts i d).terminal (get_or ts i d).at ≡ o
     → feeds start (take (i + 1) ts) ≡ o
 feeds-more ts i d g o h e f =
     ap (feeds start) (take_more ts i d h) ∙ feeds-append (take i ts) (get_or ts i d ∷ []) start g e ∙ ap (option_and_then (λ j. feeds j [])) f ∙ last o
@@ -55,7 +55,7 @@ feeds-more ts i d g o h e f =
     last None = refl
     last (Some j) = refl
 
-module _ (ts : List Word) (i end : ℕ) (d : Word) (g : PlainState) (h : i < length ts) (e : feeds start (take i ts) ≡ Some g) (f : step g (get_or ts i d).sign (get_or ts i d).at ≡ None) where
+module _ (ts : List PlacedTerminal) (i end : ℕ) (d : PlacedTerminal) (g : PlainState) (h : i < length ts) (e : feeds start (take i ts) ≡ Some g) (f : step g (get_or ts i d).terminal (get_or ts i d).at ≡ None) where
   stuck : Begins (take (i + 1) ts) → ⊥
   stuck b = no_way (take i ts) (get_or ts i d) g e f (subst Begins (take_more ts i d h) b)
 
@@ -71,7 +71,7 @@ module _ (ts : List Word) (i end : ℕ) (d : Word) (g : PlainState) (h : i < len
   pub none_at_step : SpellsNone ts
   none_at_step x s = stuck (begins_take ts (i + 1) x s)
 
-module _ (ts : List Word) (end : ℕ) (g : PlainState) (e : feeds start ts ≡ Some g) (f : finish g ≡ None) where
+module _ (ts : List PlacedTerminal) (end : ℕ) (g : PlainState) (e : feeds start ts ≡ Some g) (f : finish g ≡ None) where
   pub fault_at_end : IsFault ts end end
   fault_at_end = record {
     index = length ts;
@@ -85,15 +85,15 @@ module _ (ts : List Word) (end : ℕ) (g : PlainState) (e : feeds start ts ≡ S
   none_at_end x s = let no : None ≡ Some (written [] x) = sym (ap (option_and_then finish) e ∙ f) ∙ spelled_nodes ts x s in cc
 
 -- the fault has one place
-earlier : (ts : List Word) (i j : ℕ) → i ≤ j → Begins (take j ts) → Begins (take i ts)
+earlier : (ts : List PlacedTerminal) (i j : ℕ) → i ≤ j → Begins (take j ts) → Begins (take i ts)
 earlier ts i j h b =
     begins_front (take i ts) (drop i (take j ts))
     (subst Begins (sym (take-append-drop i (take j ts)) ∙ ap (λ l. l ++ drop i (take j ts)) (take-take i j ts h)) b)
 
-not_before : (ts : List Word) (end a b : ℕ) (f : IsFault ts end a) (g : IsFault ts end b) → f.index < g.index → ⊥
+not_before : (ts : List PlacedTerminal) (end a b : ℕ) (f : IsFault ts end a) (g : IsFault ts end b) → f.index < g.index → ⊥
 not_before ts end a b f g h = f.through (omega (arith, h, g.within)) (earlier ts (f.index + 1) g.index (omega (arith, h)) g.before)
 
-pub fault_one : (ts : List Word) (end a b : ℕ) → IsFault ts end a → IsFault ts end b → a ≡ b
+pub fault_one : (ts : List PlacedTerminal) (end a b : ℕ) → IsFault ts end a → IsFault ts end b → a ≡ b
 fault_one ts end a b f g =
     elim (cases_lt f.index g.index) [
       | inl h ↦ absurd (not_before ts end a b f g h)

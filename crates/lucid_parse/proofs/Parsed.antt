@@ -1,4 +1,4 @@
--- What the nodes say of the words.
+-- What the nodes say of the terminals.
 use Rattle.std.proofs.Common.{◌≡◌, ℕ, ◌<◌, ◌≤◌, List, [], ◌∷◌, ◌++◌, map, reverse, Option, Some, None, option_and_then, refl, sym, ◌∙◌, ap, subst, arith, lit≤}
 use Rattle.std.proofs.lemmas.List.{map-append, reverse-append}
 use Rattle.std.specs.Borrow.{Bor}
@@ -6,10 +6,10 @@ use Rattle.lucid_value.specs.declared.Value.{Value}
 use Rattle.lucid_tree.specs.Tree.{PlainTree}
 use Rattle.lucid_tree.specs.WellMade.{depth}
 use Rattle.lucid_parse.specs.declared.state.Item.{Item}
-use Rattle.lucid_parse.specs.Grammar.{Word, Spells}
+use Rattle.lucid_parse.specs.Grammar.{PlacedTerminal, Spells}
 use Rattle.lucid_parse.specs.Machine.{PlainState, PlainItem, start, feeds, finish, nodes}
 use Rattle.lucid_parse.specs.Fill.{fill_item}
-use Rattle.lucid_parse.specs.Signs.{items_of, name_now, value_now}
+use Rattle.lucid_parse.specs.Views.{items_of, name_now, value_now}
 use Rattle.lucid_parse.specs.Flat.{written}
 use Rattle.lucid_parse.specs.Depth.{at_depth, IsLeast, least_in, search_from}
 use Rattle.lucid_parse.proofs.Sound.{sound}
@@ -21,24 +21,24 @@ reverse-map f (x ∷ xs) =
     reverse-append (f x ∷ []) (map f xs) ∙ ap (λ l. l ++ f x ∷ []) (reverse-map f xs)
     ∙ sym (map-append f (reverse xs) (x ∷ [])) ∙ ap (map f) (sym (reverse-append (x ∷ []) xs))
 
--- the words spell a tree, and these are its nodes
-pub record Spelling (ws : List Word) (items : List PlainItem) : Type 0 where
+-- the terminals spell a tree, and these are its nodes
+pub record Spelling (ws : List PlacedTerminal) (items : List PlainItem) : Type 0 where
   pub tree : PlainTree
   pub spells : Spells 0 ws tree
   pub nodes_are : items ≡ written [] tree
 
-reached : (ws : List Word) (items : List PlainItem) (o : Option PlainState) → feeds start ws ≡ o → option_and_then finish o ≡ Some items → Spelling ws items
+reached : (ws : List PlacedTerminal) (items : List PlainItem) (o : Option PlainState) → feeds start ws ≡ o → option_and_then finish o ≡ Some items → Spelling ws items
 reached ws items None s e = cc
 reached ws items (Some g) s e = let h = sound ws g items s e in record { tree = h.0; spells = h.1; nodes_are = h.2 }
 
-pub spelling_of : (ws : List Word) (items : List PlainItem) → nodes ws ≡ Some items → Spelling ws items
+pub spelling_of : (ws : List PlacedTerminal) (items : List PlainItem) → nodes ws ≡ Some items → Spelling ws items
 spelling_of ws items e = reached ws items (feeds start ws) refl e
 
 abbrev CodeItem : Type 0
 CodeItem = Item (Bor (List ℕ)) (Bor Value)
 
--- What was found in the same nodes, for the words whose nodes these are.
-module _ (ws : List Word) (items seen : List CodeItem) (e : nodes ws ≡ Some (items_of items)) (same : seen ≡ items) (r : Option ℕ) (f : r ≡ search_from (reverse seen) (401 ∷ []) None) where
+-- What was found in the same nodes, for the terminals whose nodes these are.
+module _ (ws : List PlacedTerminal) (items seen : List CodeItem) (e : nodes ws ≡ Some (items_of items)) (same : seen ≡ items) (r : Option ℕ) (f : r ≡ search_from (reverse seen) (401 ∷ []) None) where
   abbrev pub spelling : Spelling ws (items_of items)
   spelling = spelling_of ws (items_of items) e
 
@@ -63,17 +63,17 @@ module _ (ws : List Word) (items seen : List CodeItem) (e : nodes ws ≡ Some (i
       omega (arith, there)
 
 -- there is a tree with these nodes, which isn't too deep where none of them was found to be
-pub have_tree : (ws : List Word) (items again : List CodeItem) → nodes ws ≡ Some (items_of items) → again ≡ items
+pub have_tree : (ws : List PlacedTerminal) (items again : List CodeItem) → nodes ws ≡ Some (items_of items) → again ≡ items
     → (seen : List CodeItem) → seen ≡ items → (r : Option ℕ) → r ≡ search_from (reverse seen) (401 ∷ []) None → r ≡ None
-    → (us : List Word) × (t : PlainTree) × Spells 0 us t × (items_of again ≡ written [] t) × (depth t ≤ 400)
+    → (us : List PlacedTerminal) × (t : PlainTree) × Spells 0 us t × (items_of again ≡ written [] t) × (depth t ≤ 400)
 have_tree ws items again e k seen same r f is =
     let s = spelling_of ws (items_of items) e in (ws, s.tree, s.spells, ap items_of k ∙ s.nodes_are, not_nested ws items seen e same r f is s.tree refl)
 
 -- and what was built of them is that tree
 abbrev IsBuilt : List CodeItem → PlainTree → Type 0
-IsBuilt items tree = (us : List Word) → (t : PlainTree) → Spells 0 us t → items_of items ≡ written [] t → tree ≡ t
+IsBuilt items tree = (us : List PlacedTerminal) → (t : PlainTree) → Spells 0 us t → items_of items ≡ written [] t → tree ≡ t
 
-module _ (ws : List Word) (items again : List CodeItem) (e : nodes ws ≡ Some (items_of items)) (k : again ≡ items) (tree : PlainTree) (built : IsBuilt again tree) where
+module _ (ws : List PlacedTerminal) (items again : List CodeItem) (e : nodes ws ≡ Some (items_of items)) (k : again ≡ items) (tree : PlainTree) (built : IsBuilt again tree) where
   pub built_is : tree ≡ (spelling_of ws (items_of items) e).tree
   built_is = let s = spelling_of ws (items_of items) e in built ws s.tree s.spells (ap items_of k ∙ s.nodes_are)
 

@@ -1,24 +1,24 @@
--- The machine over borrowed names and values reads the words that they stand for.
+-- The machine over borrowed names and values reads the terminals that they stand for.
 use Rattle.std.proofs.Common.{◌≡◌, ℕ, ◌+◌, ◌<◌, ◌≤◌, List, length, map, take, get_or, Option, Some, None, option_and_then, sym, ◌∙◌, ap, subst, arith}
 use Rattle.std.specs.Option.{option_map}
 use Rattle.std.proofs.lemmas.List.{take_all, get_or-map, length-map}
 use Rattle.std.specs.Borrow.{Bor}
 use Rattle.lucid_value.specs.declared.Value.{Value}
-use Rattle.lucid_parse.specs.declared.sign.Sign.{Sign}
-use Rattle.lucid_parse.specs.declared.sign.SignAt.{SignAt}
+use Rattle.lucid_parse.specs.declared.terminal.Terminal.{Terminal}
+use Rattle.lucid_parse.specs.declared.terminal.TerminalAt.{TerminalAt}
 use Rattle.lucid_parse.specs.declared.state.Item.{Item}
-use Rattle.lucid_parse.specs.Grammar.{Word}
+use Rattle.lucid_parse.specs.Grammar.{PlacedTerminal}
 use Rattle.lucid_parse.specs.Machine.{State, start, step, feeds, finish, nodes}
 use Rattle.lucid_value.specs.Plain.{PlainValue}
-use Rattle.lucid_parse.specs.Fill.{fill_sign, fill_item, fill_state}
-use Rattle.lucid_parse.specs.Signs.{name_now, value_now, word_of, words_of, items_of}
+use Rattle.lucid_parse.specs.Fill.{fill_terminal, fill_item, fill_state}
+use Rattle.lucid_parse.specs.Views.{name_now, value_now, placed_of, terminals_of, items_of}
 use Rattle.lucid_parse.specs.Verdict.{SpellsNone, IsFault}
 use Rattle.lucid_parse.proofs.Filled.{filled_step, filled_finish}
 use Rattle.lucid_parse.proofs.Exact.{feeds-more, fault_at_step, none_at_step, fault_at_end, none_at_end}
 
-module _ {M V : Type 0} (f : M → List ℕ) (g : V → PlainValue) (ws : List Word) (h : State M V) where
-  module _ (i : ℕ) (d : Word) (s : Sign M V) (fits : i < length ws) (so_far : feeds start (take i ws) ≡ Some (fill_state f g h)) (same : fill_sign f g s ≡ (get_or ws i d).sign) where
-    step_is : (o : Option (State M V)) → step h s (get_or ws i d).at ≡ o → step (fill_state f g h) (get_or ws i d).sign (get_or ws i d).at ≡ option_map (fill_state f g) o
+module _ {M V : Type 0} (f : M → List ℕ) (g : V → PlainValue) (ws : List PlacedTerminal) (h : State M V) where
+  module _ (i : ℕ) (d : PlacedTerminal) (s : Terminal M V) (fits : i < length ws) (so_far : feeds start (take i ws) ≡ Some (fill_state f g h)) (same : fill_terminal f g s ≡ (get_or ws i d).terminal) where
+    step_is : (o : Option (State M V)) → step h s (get_or ws i d).at ≡ o → step (fill_state f g h) (get_or ws i d).terminal (get_or ws i d).at ≡ option_map (fill_state f g) o
     step_is o e =
         ap (λ x. step (fill_state f g h) x (get_or ws i d).at) (sym same) ∙ filled_step f g h s (get_or ws i d).at ∙ ap (option_map (fill_state f g)) e
 
@@ -43,33 +43,33 @@ module _ {M V : Type 0} (f : M → List ℕ) (g : V → PlainValue) (ws : List W
     pub nodes_are : (items : List (Item M V)) → finish h ≡ Some items → nodes ws ≡ Some (map (fill_item f g) items)
     nodes_are items e = ap (option_and_then finish) all_read ∙ filled_finish f g h ∙ ap (option_map (map (fill_item f g))) e
 
--- The same of the code's signs.
-module _ (signs : List SignAt) (h : State (Bor (List ℕ)) (Bor Value)) where
-  module _ (i : ℕ) (x : SignAt) (fits : i < length signs) (is : x ≡ get_or signs i x) (s : Sign (Bor (List ℕ)) (Bor Value))
-      (so_far : feeds start (take i (words_of signs)) ≡ Some (fill_state name_now value_now h)) (same : fill_sign name_now value_now s ≡ (word_of x).sign) where
-    word_is : get_or (words_of signs) i (word_of x) ≡ word_of x
-    word_is = get_or-map word_of signs i x (word_of x) fits ∙ ap word_of (sym is)
+-- The same of the code's terminals.
+module _ (terminals : List TerminalAt) (h : State (Bor (List ℕ)) (Bor Value)) where
+  module _ (i : ℕ) (x : TerminalAt) (fits : i < length terminals) (is : x ≡ get_or terminals i x) (s : Terminal (Bor (List ℕ)) (Bor Value))
+      (so_far : feeds start (take i (terminals_of terminals)) ≡ Some (fill_state name_now value_now h)) (same : fill_terminal name_now value_now s ≡ (placed_of x).terminal) where
+    word_is : get_or (terminals_of terminals) i (placed_of x) ≡ placed_of x
+    word_is = get_or-map placed_of terminals i x (placed_of x) fits ∙ ap placed_of (sym is)
 
-    in_words : i < length (words_of signs)
-    in_words = omega (arith, fits, length-map signs word_of)
+    in_words : i < length (terminals_of terminals)
+    in_words = omega (arith, fits, length-map terminals placed_of)
 
-    same_sign : fill_sign name_now value_now s ≡ (get_or (words_of signs) i (word_of x)).sign
-    same_sign = same ∙ ap (λ w. w.sign) (sym word_is)
+    same_terminal : fill_terminal name_now value_now s ≡ (get_or (terminals_of terminals) i (placed_of x)).terminal
+    same_terminal = same ∙ ap (λ w. w.terminal) (sym word_is)
 
-    pub sign_read : (k : State (Bor (List ℕ)) (Bor Value)) → step h s x.at ≡ Some k → feeds start (take (i + 1) (words_of signs)) ≡ Some (fill_state name_now value_now k)
-    sign_read k e = read_more name_now value_now (words_of signs) h i (word_of x) s in_words so_far same_sign k (ap (λ w. step h s w.at) word_is ∙ e)
+    pub terminal_read : (k : State (Bor (List ℕ)) (Bor Value)) → step h s x.at ≡ Some k → feeds start (take (i + 1) (terminals_of terminals)) ≡ Some (fill_state name_now value_now k)
+    terminal_read k e = read_more name_now value_now (terminals_of terminals) h i (placed_of x) s in_words so_far same_terminal k (ap (λ w. step h s w.at) word_is ∙ e)
 
-    pub sign_stops : (end : ℕ) → step h s x.at ≡ None → SpellsNone (words_of signs) × IsFault (words_of signs) end x.at
-    sign_stops end e =
-        subst (λ w. SpellsNone (words_of signs) × IsFault (words_of signs) end w.at) word_is
-        (stops_here name_now value_now (words_of signs) h i (word_of x) s in_words so_far same_sign end (ap (λ w. step h s w.at) word_is ∙ e))
+    pub terminal_stops : (end : ℕ) → step h s x.at ≡ None → SpellsNone (terminals_of terminals) × IsFault (terminals_of terminals) end x.at
+    terminal_stops end e =
+        subst (λ w. SpellsNone (terminals_of terminals) × IsFault (terminals_of terminals) end w.at) word_is
+        (stops_here name_now value_now (terminals_of terminals) h i (placed_of x) s in_words so_far same_terminal end (ap (λ w. step h s w.at) word_is ∙ e))
 
-  module _ (i : ℕ) (over : length signs ≤ i) (so_far : feeds start (take i (words_of signs)) ≡ Some (fill_state name_now value_now h)) where
-    past_words : length (words_of signs) ≤ i
-    past_words = omega (arith, over, length-map signs word_of)
+  module _ (i : ℕ) (over : length terminals ≤ i) (so_far : feeds start (take i (terminals_of terminals)) ≡ Some (fill_state name_now value_now h)) where
+    past_words : length (terminals_of terminals) ≤ i
+    past_words = omega (arith, over, length-map terminals placed_of)
 
-    pub signs_stop : (end : ℕ) → finish h ≡ None → SpellsNone (words_of signs) × IsFault (words_of signs) end end
-    signs_stop end e = stops_at_end name_now value_now (words_of signs) h i past_words so_far end e
+    pub terminals_stop : (end : ℕ) → finish h ≡ None → SpellsNone (terminals_of terminals) × IsFault (terminals_of terminals) end end
+    terminals_stop end e = stops_at_end name_now value_now (terminals_of terminals) h i past_words so_far end e
 
-    pub signs_read : (items : List (Item (Bor (List ℕ)) (Bor Value))) → finish h ≡ Some items → nodes (words_of signs) ≡ Some (items_of items)
-    signs_read items e = nodes_are name_now value_now (words_of signs) h i past_words so_far items e
+    pub terminals_read : (items : List (Item (Bor (List ℕ)) (Bor Value))) → finish h ≡ Some items → nodes (terminals_of terminals) ≡ Some (items_of items)
+    terminals_read items e = nodes_are name_now value_now (terminals_of terminals) h i past_words so_far items e

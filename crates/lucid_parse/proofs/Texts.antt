@@ -1,4 +1,4 @@
--- What the bytes of tokens read as, and the words of tokens.
+-- What the bytes of tokens read as, and the terminals of tokens.
 use Rattle.std.proofs.Common.{◌≡◌, ℕ, suc, ◌+◌, ◌-◌, ◌<◌, ◌≤◌, List, [], ◌∷◌, ◌++◌, length, take, get_or, Option, Some, true, refl, sym, ◌∙◌, ap, subst, arith, length-append, length-drop, pos}
 use Rattle.std.specs.Prelude.{slice_range}
 use Rattle.std.proofs.lemmas.Bool.{ltb-true, and_parts}
@@ -13,11 +13,11 @@ use Rattle.lucid_scan.specs.declared.token.Token.{Token}
 use Rattle.lucid_scan.specs.Texts.{IsTokenText, IsBetween, is_word_value, is_text_value}
 use Rattle.lucid_scan.specs.Laws.{IsInOrder, StandsIn, TokensStand}
 use Rattle.lucid_scan.specs.Tokens.{Tokens}
-use Rattle.lucid_parse.specs.declared.sign.SignAt.{SignAt}
-use Rattle.lucid_parse.specs.Signs.{plain_sign, word_of, words_of}
-use Rattle.lucid_parse.specs.declared.sign.Sign.TheVariants as sign
-use Rattle.lucid_parse.specs.Grammar.{PlainSign, Word, word}
-use Rattle.lucid_parse.specs.Words.{StandsFor, Words, bytes_of}
+use Rattle.lucid_parse.specs.declared.terminal.TerminalAt.{TerminalAt}
+use Rattle.lucid_parse.specs.Views.{plain_terminal, placed_of, terminals_of}
+use Rattle.lucid_parse.specs.declared.terminal.Terminal.TheVariants as terminal
+use Rattle.lucid_parse.specs.Grammar.{PlainTerminal, PlacedTerminal, terminal_at}
+use Rattle.lucid_parse.specs.Terminals.{StandsFor, Terminals, bytes_of}
 use Rattle.lucid_parse.specs.Spelled.{IsReading, IsTokenOf}
 use Rattle.lucid_parse.proofs.WellMade.{Rises, rises_none, rises_next, lower}
 
@@ -43,14 +43,14 @@ pub list_has : (bytes : List ℕ) → IsTokenOf kind.ListText bytes → (v : Pla
 list_has bytes h = (list h.1.0, h.1.1)
 
 -- and it stands for that value
-pub int_stands : (bytes : List ℕ) (v : PlainValue) → IsTokenOf kind.Int bytes → IsReading bytes v → StandsFor kind.Int bytes (sign.Const v)
-int_stands bytes v h r = ap sign.Const (r _ (int_reads bytes h.0 h.1))
+pub int_stands : (bytes : List ℕ) (v : PlainValue) → IsTokenOf kind.Int bytes → IsReading bytes v → StandsFor kind.Int bytes (terminal.Const v)
+int_stands bytes v h r = ap terminal.Const (r _ (int_reads bytes h.0 h.1))
 
-pub text_stands : (bytes : List ℕ) (v : PlainValue) → IsTokenOf kind.Text bytes → IsReading bytes v → StandsFor kind.Text bytes (sign.Const v)
-text_stands bytes v h r = (h.1.0, h.1.1, ap sign.Const (r (text h.1.0) (subst (λ b. Reads b (text h.1.0)) (sym h.1.1) (text_reads h.1.0 h.1.2))))
+pub text_stands : (bytes : List ℕ) (v : PlainValue) → IsTokenOf kind.Text bytes → IsReading bytes v → StandsFor kind.Text bytes (terminal.Const v)
+text_stands bytes v h r = (h.1.0, h.1.1, ap terminal.Const (r (text h.1.0) (subst (λ b. Reads b (text h.1.0)) (sym h.1.1) (text_reads h.1.0 h.1.2))))
 
-pub list_stands : (bytes : List ℕ) (v : PlainValue) → IsTokenOf kind.ListText bytes → IsReading bytes v → StandsFor kind.ListText bytes (sign.Const v)
-list_stands bytes v h r = (h.1.0, h.1.1, ap sign.Const (r _ h.1.1))
+pub list_stands : (bytes : List ℕ) (v : PlainValue) → IsTokenOf kind.ListText bytes → IsReading bytes v → StandsFor kind.ListText bytes (terminal.Const v)
+list_stands bytes v h r = (h.1.0, h.1.1, ap terminal.Const (r _ h.1.1))
 
 -- bytes with no blank around them, as a line
 as_line : (bytes : List ℕ) (v : PlainValue) → Reads bytes v → ReadsLine bytes v
@@ -80,27 +80,27 @@ inside_of bytes h = ap (λ l. slice_range l 1 (length l - 1)) h.1 ∙ between_is
 pub quoted_length : (bytes : List ℕ) → IsBetween 34 34 is_word_value bytes → 2 ≤ length bytes
 quoted_length bytes h = let e = ap length h.1 in omega (arith, e, length-append h.0 (34 ∷ []))
 
--- words of one token more
-pub words-push : {source : List ℕ} {ts : List Token} {ws : List Word} → Words source ts ws → (t : Token) (s : PlainSign) → StandsFor t.kind (bytes_of source t) s
-    → Words source (ts ++ t ∷ []) (ws ++ word s t.from ∷ [])
-words-push Words.words_none t s h = Words.words_next t s h Words.words_none
-words-push (Words.words_next u r k more) t s h = Words.words_next u r k (words-push more t s h)
+-- terminals of one token more
+pub words-push : {source : List ℕ} {ts : List Token} {ws : List PlacedTerminal} → Terminals source ts ws → (t : Token) (s : PlainTerminal) → StandsFor t.kind (bytes_of source t) s
+    → Terminals source (ts ++ t ∷ []) (ws ++ terminal_at s t.from ∷ [])
+words-push Terminals.terminals_none t s h = Terminals.terminals_next t s h Terminals.terminals_none
+words-push (Terminals.terminals_next u r k more) t s h = Terminals.terminals_next u r k (words-push more t s h)
 
 -- one token of a source more
-pub words_more : (source : List ℕ) (ts : List Token) (i : ℕ) (d : Token) (signs more : List SignAt) (s : SignAt) → Words source (take i ts) (words_of signs) → i < length ts
-    → more ≡ signs ++ s ∷ [] → s.at ≡ (get_or ts i d).from → StandsFor (get_or ts i d).kind (bytes_of source (get_or ts i d)) (plain_sign s.sign)
-    → Words source (take (i + 1) ts) (words_of more)
-words_more source ts i d signs more s w h e at k =
-    subst (λ l. Words source l (words_of more)) (sym (take_more ts i d h))
-    (subst (λ l. Words source (take i ts ++ get_or ts i d ∷ []) l)
-    (ap (λ p. words_of signs ++ word (plain_sign s.sign) p ∷ []) (sym at) ∙ sym (map-append word_of signs (s ∷ [])) ∙ ap words_of (sym e))
-    (words-push w (get_or ts i d) (plain_sign s.sign) k))
+pub words_more : (source : List ℕ) (ts : List Token) (i : ℕ) (d : Token) (terminals more : List TerminalAt) (s : TerminalAt) → Terminals source (take i ts) (terminals_of terminals) → i < length ts
+    → more ≡ terminals ++ s ∷ [] → s.at ≡ (get_or ts i d).from → StandsFor (get_or ts i d).kind (bytes_of source (get_or ts i d)) (plain_terminal s.terminal)
+    → Terminals source (take (i + 1) ts) (terminals_of more)
+words_more source ts i d terminals more s w h e at k =
+    subst (λ l. Terminals source l (terminals_of more)) (sym (take_more ts i d h))
+    (subst (λ l. Terminals source (take i ts ++ get_or ts i d ∷ []) l)
+    (ap (λ p. terminals_of terminals ++ terminal_at (plain_terminal s.terminal) p ∷ []) (sym at) ∙ sym (map-append placed_of terminals (s ∷ [])) ∙ ap terminals_of (sym e))
+    (words-push w (get_or ts i d) (plain_terminal s.terminal) k))
 
-pub no_words : (source : List ℕ) (signs : List SignAt) → signs ≡ [] → Words source [] (words_of signs)
-no_words source signs e = subst (λ l. Words source [] (words_of l)) (sym e) Words.words_none
+pub no_words : (source : List ℕ) (terminals : List TerminalAt) → terminals ≡ [] → Terminals source [] (terminals_of terminals)
+no_words source terminals e = subst (λ l. Terminals source [] (terminals_of l)) (sym e) Terminals.terminals_none
 
-pub words_again : (source : List ℕ) (ts : List Token) (signs again : List SignAt) → Words source ts (words_of signs) → again ≡ signs → Words source ts (words_of again)
-words_again source ts signs again w e = subst (λ l. Words source ts (words_of l)) (sym e) w
+pub words_again : (source : List ℕ) (ts : List Token) (terminals again : List TerminalAt) → Terminals source ts (terminals_of terminals) → again ≡ terminals → Terminals source ts (terminals_of again)
+words_again source ts terminals again w e = subst (λ l. Terminals source ts (terminals_of l)) (sym e) w
 
 -- a token's span lies within the source
 module _ (source : List ℕ) (ts : List Token) (tokens : Tokens source 0 ts) (law : TokensStand) (i : ℕ) (d : Token) (h : i < length ts) where
@@ -113,15 +113,15 @@ module _ (source : List ℕ) (ts : List Token) (tokens : Tokens source 0 ts) (la
   pub ends_within : (get_or ts i d).to ≤ length source
   ends_within = omega (arith, stands_there.some, stands_there.within, length-drop (get_or ts i d).from source)
 
--- words stand at rising places, as many as the tokens
-pub words_rise : {source : List ℕ} {ts : List Token} {ws : List Word} → Words source ts ws → (low limit : ℕ) → IsInOrder low ts limit → Rises low ws
-words_rise Words.words_none low limit h = rises_none low
-words_rise (Words.words_next {ws = ws} t s k more) low limit h =
-    rises_next (word s t.from) ws low h.0 (lower ws t.to (t.from + 1) (omega (arith, h.1)) (words_rise more t.to limit h.2))
+-- terminals stand at rising places, as many as the tokens
+pub words_rise : {source : List ℕ} {ts : List Token} {ws : List PlacedTerminal} → Terminals source ts ws → (low limit : ℕ) → IsInOrder low ts limit → Rises low ws
+words_rise Terminals.terminals_none low limit h = rises_none low
+words_rise (Terminals.terminals_next {ws = ws} t s k more) low limit h =
+    rises_next (terminal_at s t.from) ws low h.0 (lower ws t.to (t.from + 1) (omega (arith, h.1)) (words_rise more t.to limit h.2))
 
-pub words_length : {source : List ℕ} {ts : List Token} {ws : List Word} → Words source ts ws → length ws ≡ length ts
-words_length Words.words_none = refl
-words_length (Words.words_next t s k more) = ap suc (words_length more)
+pub words_length : {source : List ℕ} {ts : List Token} {ws : List PlacedTerminal} → Terminals source ts ws → length ws ≡ length ts
+words_length Terminals.terminals_none = refl
+words_length (Terminals.terminals_next t s k more) = ap suc (words_length more)
 
 snoc-one : (xs ys : List ℕ) (b : ℕ) → xs ++ b ∷ [] ≡ ys ++ b ∷ [] → xs ≡ ys
 snoc-one [] [] b e = refl
@@ -134,16 +134,16 @@ snoc-one (x ∷ xs) (y ∷ ys) b e = let rest : xs ++ b ∷ [] ≡ ys ++ b ∷ [
 inside-one : (xs ys : List ℕ) (a b : ℕ) → a ∷ (xs ++ b ∷ []) ≡ a ∷ (ys ++ b ∷ []) → xs ≡ ys
 inside-one xs ys a b e = let rest : xs ++ b ∷ [] ≡ ys ++ b ∷ [] = cc in snoc-one xs ys b rest
 
--- a token stands for one sign
-stands-one : OneReading → (k : TokenKind) (bytes : List ℕ) (r s : PlainSign) → StandsFor k bytes r → StandsFor k bytes s → r ≡ s
+-- a token stands for one terminal
+stands-one : OneReading → (k : TokenKind) (bytes : List ℕ) (r s : PlainTerminal) → StandsFor k bytes r → StandsFor k bytes s → r ≡ s
 stands-one law kind.Name bytes r s g h = g ∙ sym h
 stands-one law kind.Int bytes r s g h = g ∙ sym h
-stands-one law kind.Quoted bytes r s g h = g.2 ∙ ap (λ l. sign.Const (word_value l)) (inside-one g.0 h.0 34 34 (sym g.1 ∙ h.1)) ∙ sym h.2
-stands-one law kind.Text bytes r s g h = g.2 ∙ ap (λ l. sign.Const (text l)) (inside-one g.0 h.0 96 39 (sym g.1 ∙ h.1)) ∙ sym h.2
-stands-one law kind.ListText bytes r s g h = g.2 ∙ ap sign.Const (law bytes (list g.0) (list h.0) g.1 h.1) ∙ sym h.2
-stands-one law kind.Fixed bytes r s g h = let same : ◌≡◌ {A = Option PlainSign} (Some r) (Some s) = sym g ∙ h in cc
+stands-one law kind.Quoted bytes r s g h = g.2 ∙ ap (λ l. terminal.Const (word_value l)) (inside-one g.0 h.0 34 34 (sym g.1 ∙ h.1)) ∙ sym h.2
+stands-one law kind.Text bytes r s g h = g.2 ∙ ap (λ l. terminal.Const (text l)) (inside-one g.0 h.0 96 39 (sym g.1 ∙ h.1)) ∙ sym h.2
+stands-one law kind.ListText bytes r s g h = g.2 ∙ ap terminal.Const (law bytes (list g.0) (list h.0) g.1 h.1) ∙ sym h.2
+stands-one law kind.Fixed bytes r s g h = let same : ◌≡◌ {A = Option PlainTerminal} (Some r) (Some s) = sym g ∙ h in cc
 
-pub words-one : OneReading → {source : List ℕ} {ts : List Token} {us ws : List Word} → Words source ts us → Words source ts ws → us ≡ ws
-words-one law Words.words_none Words.words_none = refl
-words-one law (Words.words_next {ws = us} t r g more) (Words.words_next {ws = ws} u s h again) =
-    ap (λ x. word x t.from ∷ us) (stands-one law t.kind _ r s g h) ∙ ap (λ l. word s t.from ∷ l) (words-one law more again)
+pub words-one : OneReading → {source : List ℕ} {ts : List Token} {us ws : List PlacedTerminal} → Terminals source ts us → Terminals source ts ws → us ≡ ws
+words-one law Terminals.terminals_none Terminals.terminals_none = refl
+words-one law (Terminals.terminals_next {ws = us} t r g more) (Terminals.terminals_next {ws = ws} u s h again) =
+    ap (λ x. terminal_at x t.from ∷ us) (stands-one law t.kind _ r s g h) ∙ ap (λ l. terminal_at s t.from ∷ l) (words-one law more again)

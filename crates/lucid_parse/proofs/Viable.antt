@@ -4,9 +4,9 @@ use Rattle.std.proofs.Common.{◌≡◌, ℕ, zero, suc, ◌+◌, List, [], ◌�
 use Rattle.lucid_value.specs.Plain.{eod}
 use Rattle.lucid_tree.specs.Tree.{const, PlainTree, form, PlainTrees, no_trees, tree}
 use Rattle.lucid_tree.specs.Size.{count}
-use Rattle.lucid_parse.specs.declared.sign.Sign.TheVariants as sign
+use Rattle.lucid_parse.specs.declared.terminal.Terminal.TheVariants as terminal
 use Rattle.lucid_parse.specs.Grammar
-use Rattle.lucid_parse.specs.Grammar.{Word, word, trees_and, called_arity, Spells, SpellsArgs}
+use Rattle.lucid_parse.specs.Grammar.{PlacedTerminal, terminal_at, trees_and, called_arity, Spells, SpellsArgs}
 use Rattle.lucid_parse.specs.Machine.{PlainFrame, PlainFocus, PlainItem}
 use Rattle.lucid_parse.specs.Verdict.{Begins}
 use Rattle.lucid_parse.proofs.Levels.{called_arity_positive}
@@ -14,108 +14,108 @@ use Rattle.lucid_parse.proofs.Complete.{count-and}
 use Rattle.lucid_parse.proofs.Sound
 use Rattle.lucid_parse.proofs.Sound.{Context, Means, looser}
 
-begins_along : (ts us : List Word) → ts ≡ us → Begins ts → Begins us
+begins_along : (ts us : List PlacedTerminal) → ts ≡ us → Begins ts → Begins us
 begins_along ts us e h = subst Begins e h
 
-pub begins_front : (xs ys : List Word) → Begins (xs ++ ys) → Begins xs
+pub begins_front : (xs ys : List PlacedTerminal) → Begins (xs ++ ys) → Begins xs
 begins_front xs ys h = (ys ++ h.0, h.1, subst (λ l. Spells 0 l h.1) (append_assoc xs ys h.0) h.2)
 
 -- a program begins with the tokens, when it begins with them and some more
-short : (ts us more : List Word) → us ≡ ts ++ more → Begins us → Begins ts
+short : (ts us more : List PlacedTerminal) → us ≡ ts ++ more → Begins us → Begins ts
 short ts us more e h = begins_front ts more (begins_along us (ts ++ more) e h)
 
--- an operand of one word
-one : List Word
-one = word (sign.Const eod) 0 ∷ []
+-- an operand of one terminal
+one : List PlacedTerminal
+one = terminal_at (terminal.Const eod) 0 ∷ []
 
 spells_one_word : {k : ℕ} → Spells k one (form 0 (const eod) no_trees)
 unfolding one
 spells_one_word = Grammar.spells_const
 
 -- so many more arguments
-pub pad : ℕ → List Word
+pub pad : ℕ → List PlacedTerminal
 pad zero = []
-pad (suc n) = word sign.Comma 0 ∷ (one ++ pad n)
+pad (suc n) = terminal_at terminal.Comma 0 ∷ (one ++ pad n)
 
-pub record Padded (xs : List Word) (all : PlainTrees) (n : ℕ) : Type 0 where
+pub record Padded (xs : List PlacedTerminal) (all : PlainTrees) (n : ℕ) : Type 0 where
   pub args : PlainTrees
   pub spells : SpellsArgs (xs ++ pad n) args
   pub counts : count args ≡ n + count all
 
-padded : (n : ℕ) (xs : List Word) (all : PlainTrees) → SpellsArgs xs all → Padded xs all n
+padded : (n : ℕ) (xs : List PlacedTerminal) (all : PlainTrees) → SpellsArgs xs all → Padded xs all n
 unfolding pad one
 padded zero xs all s = record { args = all; spells = subst (λ l. SpellsArgs l all) (sym (append-nil xs)) s; counts = omega arith }
 padded (suc n) xs all s =
-    let p = padded n (xs ++ word sign.Comma 0 ∷ one) (trees_and all (form 0 (const eod) no_trees)) (Grammar.spells_more 0 s spells_one_word) in
+    let p = padded n (xs ++ terminal_at terminal.Comma 0 ∷ one) (trees_and all (form 0 (const eod) no_trees)) (Grammar.spells_more 0 s spells_one_word) in
     record {
       args = p.args;
-      spells = subst (λ l. SpellsArgs l p.args) (append_assoc xs (word sign.Comma 0 ∷ one) (pad n)) p.spells;
+      spells = subst (λ l. SpellsArgs l p.args) (append_assoc xs (terminal_at terminal.Comma 0 ∷ one) (pad n)) p.spells;
       counts = omega (arith, p.counts, count-and all (form 0 (const eod) no_trees));
     }
 
-pub closing : {frames : List PlainFrame} {j : ℕ} {pre : List Word} {out : List PlainItem} → Context frames j pre out → (xs : List Word) (x : PlainTree) → Spells j xs x → Begins (pre ++ xs)
+pub closing : {frames : List PlainFrame} {j : ℕ} {pre : List PlacedTerminal} {out : List PlainItem} → Context frames j pre out → (xs : List PlacedTerminal) (x : PlainTree) → Spells j xs x → Begins (pre ++ xs)
 closing Sound.outermost xs x sx = ([], x, subst (λ l. Spells 0 l x) (sym (append-nil xs)) sx)
 closing (Sound.in_left {at = at} s b is low c sw) xs x sx =
-    begins_along _ _ (simp append_assoc) (closing c _ _ (Grammar.spells_between {at = at} s b is low sw sx))
+    begins_along _ _ (simp append_assoc) (closing c _ _ (Grammar.spells_infix {at = at} s b is low sw sx))
 closing (Sound.in_before {at = at} s u is low c) xs x sx =
-    begins_along _ _ (simp append_assoc) (closing c _ _ (Grammar.spells_before {at = at} s u is low sx))
+    begins_along _ _ (simp append_assoc) (closing c _ _ (Grammar.spells_prefix {at = at} s u is low sx))
 closing (Sound.in_open p c) xs x sx =
-    short _ _ (word sign.Close 0 ∷ []) (simp append_assoc) (closing c _ _ (Grammar.spells_inner {p = p} 0 sx))
+    short _ _ (terminal_at terminal.Close 0 ∷ []) (simp append_assoc) (closing c _ _ (Grammar.spells_inner {p = p} 0 sx))
 closing (Sound.in_test {at = at} c) xs x sx =
-    short _ _ (word sign.Then 0 ∷ (one ++ word sign.Else 0 ∷ (one ++ word sign.Fi 0 ∷ []))) (simp append_assoc)
+    short _ _ (terminal_at terminal.Then 0 ∷ (one ++ terminal_at terminal.Else 0 ∷ (one ++ terminal_at terminal.Fi 0 ∷ []))) (simp append_assoc)
     (closing c _ _ (Grammar.spells_if {at = at} 0 0 0 sx spells_one_word spells_one_word))
 closing (Sound.in_yes {at = at} p c sw) xs x sx =
-    short _ _ (word sign.Else 0 ∷ (one ++ word sign.Fi 0 ∷ [])) (simp append_assoc)
+    short _ _ (terminal_at terminal.Else 0 ∷ (one ++ terminal_at terminal.Fi 0 ∷ [])) (simp append_assoc)
     (closing c _ _ (Grammar.spells_if {at = at} p 0 0 sw sx spells_one_word))
 closing (Sound.in_no {at = at} p q c sw sv) xs x sx =
-    short _ _ (word sign.Fi 0 ∷ []) (simp append_assoc) (closing c _ _ (Grammar.spells_if {at = at} p q 0 sw sv sx))
+    short _ _ (terminal_at terminal.Fi 0 ∷ []) (simp append_assoc) (closing c _ _ (Grammar.spells_if {at = at} p q 0 sw sv sx))
 closing (Sound.in_first {at = at} {n = n} p c) xs x sx =
-    short _ _ (word sign.Close 0 ∷ []) (simp append_assoc) (closing c _ _ (Grammar.spells_call {at = at} {p = p} 0 {n = n} (Grammar.spells_one sx)))
+    short _ _ (terminal_at terminal.Close 0 ∷ []) (simp append_assoc) (closing c _ _ (Grammar.spells_call {at = at} {p = p} 0 {n = n} (Grammar.spells_one sx)))
 closing (Sound.in_more {at = at} {n = n} p q c sa) xs x sx =
-    short _ _ (word sign.Close 0 ∷ []) (simp append_assoc) (closing c _ _ (Grammar.spells_call {at = at} {p = p} 0 {n = n} (Grammar.spells_more q sa sx)))
+    short _ _ (terminal_at terminal.Close 0 ∷ []) (simp append_assoc) (closing c _ _ (Grammar.spells_call {at = at} {p = p} 0 {n = n} (Grammar.spells_more q sa sx)))
 closing (Sound.in_right {at = at} {p = p} {n = n} q c sw sd) xs x sx =
-    short _ _ (word sign.Semicolon 0 ∷ word sign.End 0 ∷ []) (simp append_assoc)
+    short _ _ (terminal_at terminal.Semicolon 0 ∷ terminal_at terminal.End 0 ∷ []) (simp append_assoc)
     (closing c _ _ (Grammar.spells_block {at = at} 0 zero-le sw (Grammar.spells_def p n q 0 sd sx)))
 closing (Sound.in_part {at = at} p {c = c} ctx) xs x sx =
     let all = padded (called_arity c - 1) xs (tree x no_trees) (Grammar.spells_one sx) in
-    short _ _ (pad (called_arity c - 1) ++ word sign.Close 0 ∷ []) (simp append_assoc)
-    (closing ctx _ _ (Grammar.spells_operated {at = at} {p = p} 0 c (omega (arith, all.counts, called_arity_positive c)) all.spells))
+    short _ _ (pad (called_arity c - 1) ++ terminal_at terminal.Close 0 ∷ []) (simp append_assoc)
+    (closing ctx _ _ (Grammar.spells_called {at = at} {p = p} 0 c (omega (arith, all.counts, called_arity_positive c)) all.spells))
 closing (Sound.in_parts {at = at} {more = more} p q {c = c} {all = before} ctx sa n) xs x sx =
     let all = padded more _ (trees_and before x) (Grammar.spells_more q sa sx) in
-    short _ _ (pad more ++ word sign.Close 0 ∷ []) (simp append_assoc)
-    (closing ctx _ _ (Grammar.spells_operated {at = at} {p = p} 0 c (omega (arith, all.counts, n, count-and before x)) all.spells))
+    short _ _ (pad more ++ terminal_at terminal.Close 0 ∷ []) (simp append_assoc)
+    (closing ctx _ _ (Grammar.spells_called {at = at} {p = p} 0 c (omega (arith, all.counts, n, count-and before x)) all.spells))
 closing (Sound.in_current {at = at} {p = p} {n = n} o q c sw sd) xs x sx =
-    short _ _ (word sign.Semicolon 0 ∷ word sign.End 0 ∷ []) (simp append_assoc)
+    short _ _ (terminal_at terminal.Semicolon 0 ∷ terminal_at terminal.End 0 ∷ []) (simp append_assoc)
     (closing c _ _ (Grammar.spells_block {at = at} 0 zero-le sw (Grammar.spells_current p n o q 0 sd sx)))
 closing (Sound.in_function {at = at} {p = p} {n = n} o q r c sw sd sn) xs x sx =
-    short _ _ (word sign.Semicolon 0 ∷ word sign.End 0 ∷ []) (simp append_assoc)
+    short _ _ (terminal_at terminal.Semicolon 0 ∷ terminal_at terminal.End 0 ∷ []) (simp append_assoc)
     (closing c _ _ (Grammar.spells_block {at = at} 0 zero-le sw (Grammar.spells_function p n o q r 0 sd sn sx)))
 
-pub viable : (f : PlainFocus) (frames : List PlainFrame) (out : List PlainItem) (ts : List Word) → Means f frames out ts → Begins ts
+pub viable : (f : PlainFocus) (frames : List PlainFrame) (out : List PlainItem) (ts : List PlacedTerminal) → Means f frames out ts → Begins ts
 viable f frames out ts (Sound.awaits c) = short _ _ one refl (closing c one _ spells_one_word)
 viable f frames _ _ (Sound.holds (Sound.has {j = j} c h s)) = closing c _ _ (looser s j h)
 viable f frames out _ (Sound.named {p = p} {n = n} c) = closing c _ _ (Grammar.spells_name {at = p} {n = n})
 viable f frames _ _ (Sound.heads {at = at} c sx sd) =
-    short _ _ (word sign.End 0 ∷ []) (simp append_assoc) (closing c _ _ (Grammar.spells_block {at = at} 0 zero-le sx sd))
+    short _ _ (terminal_at terminal.End 0 ∷ []) (simp append_assoc) (closing c _ _ (Grammar.spells_block {at = at} 0 zero-le sx sd))
 viable f frames _ _ (Sound.headed {at = at} {p = p} {n = n} c sx sd) =
-    short _ _ (word sign.Equals 0 ∷ (one ++ word sign.Semicolon 0 ∷ word sign.End 0 ∷ [])) (simp append_assoc)
+    short _ _ (terminal_at terminal.Equals 0 ∷ (one ++ terminal_at terminal.Semicolon 0 ∷ terminal_at terminal.End 0 ∷ [])) (simp append_assoc)
     (closing c _ _ (Grammar.spells_block {at = at} 0 zero-le sx (Grammar.spells_def p n 0 0 sd spells_one_word)))
 viable f frames out _ (Sound.opens {p = p} {c = c} ctx) =
     let all = padded (called_arity c - 1) one (tree (form 0 (const eod) no_trees) no_trees) (Grammar.spells_one spells_one_word) in
-    short _ _ (word sign.Open 0 ∷ ((one ++ pad (called_arity c - 1)) ++ word sign.Close 0 ∷ [])) (simp append_assoc)
-    (closing ctx _ _ (Grammar.spells_operated {at = p} {p = 0} 0 c (omega (arith, all.counts, called_arity_positive c)) all.spells))
+    short _ _ (terminal_at terminal.Open 0 ∷ ((one ++ pad (called_arity c - 1)) ++ terminal_at terminal.Close 0 ∷ [])) (simp append_assoc)
+    (closing ctx _ _ (Grammar.spells_called {at = p} {p = 0} 0 c (omega (arith, all.counts, called_arity_positive c)) all.spells))
 viable f frames _ _ (Sound.frozen {at = at} {p = p} {n = n} o c sx sd) =
-    short _ _ (word sign.Current 0 ∷ (one ++ word sign.Semicolon 0 ∷ word sign.End 0 ∷ [])) (simp append_assoc)
+    short _ _ (terminal_at terminal.Current 0 ∷ (one ++ terminal_at terminal.Semicolon 0 ∷ terminal_at terminal.End 0 ∷ [])) (simp append_assoc)
     (closing c _ _ (Grammar.spells_block {at = at} 0 zero-le sx (Grammar.spells_current p n o 0 0 sd spells_one_word)))
 viable f frames _ _ (Sound.no_names_yet {at = at} {p = p} {n = n} o c sx sd) =
-    short _ _ (word (sign.Name []) 0 ∷ word sign.Close 0 ∷ word sign.Equals 0 ∷ (one ++ word sign.Semicolon 0 ∷ word sign.End 0 ∷ [])) (simp append_assoc)
+    short _ _ (terminal_at (terminal.Name []) 0 ∷ terminal_at terminal.Close 0 ∷ terminal_at terminal.Equals 0 ∷ (one ++ terminal_at terminal.Semicolon 0 ∷ terminal_at terminal.End 0 ∷ [])) (simp append_assoc)
     (closing c _ _ (Grammar.spells_block {at = at} 0 zero-le sx (Grammar.spells_function p n o 0 0 0 sd (Grammar.spells_first_name {at = 0} {n = []}) spells_one_word)))
 viable f frames _ _ (Sound.more_names {at = at} {p = p} {n = n} o q c sx sd sn) =
-    short _ _ (word (sign.Name []) 0 ∷ word sign.Close 0 ∷ word sign.Equals 0 ∷ (one ++ word sign.Semicolon 0 ∷ word sign.End 0 ∷ [])) (simp append_assoc)
+    short _ _ (terminal_at (terminal.Name []) 0 ∷ terminal_at terminal.Close 0 ∷ terminal_at terminal.Equals 0 ∷ (one ++ terminal_at terminal.Semicolon 0 ∷ terminal_at terminal.End 0 ∷ [])) (simp append_assoc)
     (closing c _ _ (Grammar.spells_block {at = at} 0 zero-le sx (Grammar.spells_function p n o 0 0 0 sd (Grammar.spells_more_names q 0 [] sn) spells_one_word)))
 viable f frames _ _ (Sound.has_names {at = at} {p = p} {n = n} o c sx sd sn) =
-    short _ _ (word sign.Close 0 ∷ word sign.Equals 0 ∷ (one ++ word sign.Semicolon 0 ∷ word sign.End 0 ∷ [])) (simp append_assoc)
+    short _ _ (terminal_at terminal.Close 0 ∷ terminal_at terminal.Equals 0 ∷ (one ++ terminal_at terminal.Semicolon 0 ∷ terminal_at terminal.End 0 ∷ [])) (simp append_assoc)
     (closing c _ _ (Grammar.spells_block {at = at} 0 zero-le sx (Grammar.spells_function p n o 0 0 0 sd sn spells_one_word)))
 viable f frames _ _ (Sound.is_ready {at = at} {p = p} {n = n} o q c sx sd sn) =
-    short _ _ (word sign.Equals 0 ∷ (one ++ word sign.Semicolon 0 ∷ word sign.End 0 ∷ [])) (simp append_assoc)
+    short _ _ (terminal_at terminal.Equals 0 ∷ (one ++ terminal_at terminal.Semicolon 0 ∷ terminal_at terminal.End 0 ∷ [])) (simp append_assoc)
     (closing c _ _ (Grammar.spells_block {at = at} 0 zero-le sx (Grammar.spells_function p n o q 0 0 sd sn spells_one_word)))

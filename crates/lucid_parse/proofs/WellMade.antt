@@ -1,28 +1,32 @@
--- Trees that are spelled are well made: their operators and functions are shaped, and their places are places of words, each once.
-use Rattle.std.proofs.Common.{◌≡◌, ℕ, suc, ◌+◌, ◌≤◌, ◌<◌, List, [], ◌∷◌, ◌++◌, length, Bool, true, false, cond, ◌&&◌, inl, inr, refl, sym, ◌∙◌, ap, arith, length-append}
+-- Trees that are spelled are well made: their operators and functions are shaped, and their places are places of terminals, each once.
+use Rattle.std.proofs.Common.{◌≡◌, ℕ, suc, ◌+◌, ◌≤◌, ◌<◌, List, [], ◌∷◌, ◌++◌, length, Bool, true, false, Some, cond, ◌&&◌, inl, inr, refl, sym, ◌∙◌, ap, arith, length-append}
 use Rattle.std.specs.Prelude.{nat_eq}
 use Rattle.std.proofs.lemmas.Bool.{eq-eqb, eqb-true, lt-ltb}
 use Rattle.lucid_tree.specs.Tree.{PlainTree, PlainTrees, no_trees, tree, PlainDefs, no_defs, defines, defines_function, defines_current}
 use Rattle.lucid_tree.specs.Size.{count}
 use Rattle.lucid_tree.specs.WellMade.{places, places_in, places_in_defs, fits_arity, is_shaped, are_shaped, defs_are_shaped, In, AllDiffer, IsWellMade}
-use Rattle.lucid_parse.specs.declared.sign.Between.{Between}
-use Rattle.lucid_parse.specs.declared.sign.Between.TheVariants as between
-use Rattle.lucid_parse.specs.declared.sign.Before.{Before}
-use Rattle.lucid_parse.specs.declared.sign.Before.TheVariants as before
-use Rattle.lucid_parse.specs.declared.sign.Called.{Called}
-use Rattle.lucid_parse.specs.declared.sign.Called.TheVariants as called
+use Rattle.lucid_parse.specs.declared.terminal.Infix.{Infix}
+use Rattle.lucid_parse.specs.declared.terminal.Infix.TheVariants as infixes
+use Rattle.lucid_parse.specs.declared.terminal.Prefix.{Prefix}
+use Rattle.lucid_parse.specs.declared.terminal.Prefix.TheVariants as prefixes
+use Rattle.lucid_parse.specs.declared.terminal.Called.{Called}
+use Rattle.lucid_parse.specs.declared.terminal.Called.TheVariants as called
+use Rattle.lucid_ops.specs.Arity.{arity}
+use Rattle.lucid_parse.proofs.Levels.{stands_between, stands_before, between_arity, before_arity}
 use Rattle.lucid_parse.specs.Grammar
-use Rattle.lucid_parse.specs.Grammar.{Word, trees_and, def_before, defs_and, Defined, Plain, Function, Current, Parameter, names_of, places_of, called_arity, between_head, before_head, called_head, Spells, SpellsArgs, SpellsDefs, SpellsNames}
+use Rattle.lucid_parse.specs.Grammar.{PlacedTerminal, trees_and, def_before, defs_and, Defined, Plain, Function, Current, Parameter, names_of, places_of, called_arity, PlainTerminal, infix_of, prefix_of, infix_head, prefix_head, called_head, Spells, SpellsArgs, SpellsDefs, SpellsNames}
 
 -- The shape.
 
-fits-between : (b : Between) (x y : PlainTree) → fits_arity (between_head b) (tree x (tree y no_trees)) ≡ true
-fits-between between.Fby x y = refl
-fits-between _ x y = refl
+fits-infix : (s : PlainTerminal) (b : Infix) → infix_of s ≡ Some b → (x y : PlainTree) → fits_arity (infix_head b) (tree x (tree y no_trees)) ≡ true
+fits-infix s (infixes.Operator o) e x y = eq-eqb 2 (arity o) (sym (between_arity o (stands_between s o e)))
+fits-infix s infixes.Fby e x y = refl
+fits-infix s _ e x y = refl
 
-fits-before : (u : Before) (x : PlainTree) → fits_arity (before_head u) (tree x no_trees) ≡ true
-fits-before before.Not x = refl
-fits-before _ x = refl
+fits-prefix : (s : PlainTerminal) (u : Prefix) → prefix_of s ≡ Some u → (x : PlainTree) → fits_arity (prefix_head u) (tree x no_trees) ≡ true
+fits-prefix s (prefixes.Operator o) e x = eq-eqb 1 (arity o) (sym (before_arity o (stands_before s o e)))
+fits-prefix s prefixes.First e x = refl
+fits-prefix s _ e x = refl
 
 fits-called : (c : Called) (args : PlainTrees) → count args ≡ called_arity c → fits_arity (called_head c) args ≡ true
 fits-called called.Substr args e = eq-eqb (count args) 3 e
@@ -70,34 +74,34 @@ names_of-and : (ps qs : List Parameter) → length (names_of (ps ++ qs)) ≡ len
 names_of-and [] qs = omega arith
 names_of-and (p ∷ ps) qs = omega (arith, names_of-and ps qs)
 
-some_names : {xs : List Word} {ps : List Parameter} → SpellsNames xs ps → 0 < length (names_of ps)
+some_names : {xs : List PlacedTerminal} {ps : List Parameter} → SpellsNames xs ps → 0 < length (names_of ps)
 some_names Grammar.spells_first_name = omega arith
 some_names (Grammar.spells_more_names p at n {all = all} s) = omega (arith, some_names s, names_of-and all (record { at = at; name = n } ∷ []))
 
 mutual
-  pub shaped : {k : ℕ} {ws : List Word} {t : PlainTree} → Spells k ws t → is_shaped t ≡ true
+  pub shaped : {k : ℕ} {ws : List PlacedTerminal} {t : PlainTree} → Spells k ws t → is_shaped t ≡ true
   shaped Grammar.spells_const = refl
   shaped Grammar.spells_name = refl
-  shaped (Grammar.spells_between {x = x} {y = y} s b is low sx sy) = both _ _ (fits-between b x y) (both _ _ (shaped sx) (both _ _ (shaped sy) refl))
-  shaped (Grammar.spells_before {x = x} s u is low sx) = both _ _ (fits-before u x) (both _ _ (shaped sx) refl)
+  shaped (Grammar.spells_infix {x = x} {y = y} s b is low sx sy) = both _ _ (fits-infix s b is x y) (both _ _ (shaped sx) (both _ _ (shaped sy) refl))
+  shaped (Grammar.spells_prefix {x = x} s u is low sx) = both _ _ (fits-prefix s u is x) (both _ _ (shaped sx) refl)
   shaped (Grammar.spells_inner q sx) = shaped sx
   shaped (Grammar.spells_if p q r sx sy sz) = both _ _ (shaped sx) (both _ _ (shaped sy) (both _ _ (shaped sz) refl))
   shaped (Grammar.spells_call q sa) = shaped_args sa
-  shaped (Grammar.spells_operated q c {args = args} all sa) = both _ _ (fits-called c args all) (shaped_args sa)
+  shaped (Grammar.spells_called q c {args = args} all sa) = both _ _ (fits-called c args all) (shaped_args sa)
   shaped (Grammar.spells_block p low sx sd) = both _ _ (shaped sx) (shaped_defs sd)
 
-  shaped_args : {ws : List Word} {args : PlainTrees} → SpellsArgs ws args → are_shaped args ≡ true
+  shaped_args : {ws : List PlacedTerminal} {args : PlainTrees} → SpellsArgs ws args → are_shaped args ≡ true
   shaped_args (Grammar.spells_one sx) = both _ _ (shaped sx) refl
   shaped_args (Grammar.spells_more p {all = all} {y = y} sa sy) = are_shaped-and all y (shaped_args sa) (shaped sy)
 
-  shaped_defs : {ws : List Word} {all : PlainDefs} → SpellsDefs ws all → defs_are_shaped all ≡ true
+  shaped_defs : {ws : List PlacedTerminal} {all : PlainDefs} → SpellsDefs ws all → defs_are_shaped all ≡ true
   shaped_defs Grammar.spells_none = refl
   shaped_defs (Grammar.spells_def at n p q {all = all} {y = y} sd sy) = defs_are_shaped-and all at n Plain y tt (shaped_defs sd) (shaped sy)
   shaped_defs (Grammar.spells_function at n o p q r {all = all} {parameters = ps} {y = y} sd sn sy) =
       defs_are_shaped-and all at n (Function ps) y (some_names sn) (shaped_defs sd) (shaped sy)
   shaped_defs (Grammar.spells_current at n o p q {all = all} {y = y} sd sy) = defs_are_shaped-and all at n Current y tt (shaped_defs sd) (shaped sy)
 
--- The places. How often a number stands in a list, and a place among words.
+-- The places. How often a number stands in a list, and a place among terminals.
 
 one : ℕ → ℕ → ℕ
 one p x = cond (nat_eq p x) 1 0
@@ -106,7 +110,7 @@ pub occurs : ℕ → List ℕ → ℕ
 occurs p [] = 0
 occurs p (x ∷ xs) = one p x + occurs p xs
 
-pub occurs_at : ℕ → List Word → ℕ
+pub occurs_at : ℕ → List PlacedTerminal → ℕ
 occurs_at p [] = 0
 occurs_at p (w ∷ ws) = one p w.at + occurs_at p ws
 
@@ -115,7 +119,7 @@ unfolding occurs
 occurs-append p [] ys = omega arith
 occurs-append p (x ∷ xs) ys = omega (arith, occurs-append p xs ys)
 
-occurs_at-append : (p : ℕ) (xs ys : List Word) → occurs_at p (xs ++ ys) ≡ occurs_at p xs + occurs_at p ys
+occurs_at-append : (p : ℕ) (xs ys : List PlacedTerminal) → occurs_at p (xs ++ ys) ≡ occurs_at p xs + occurs_at p ys
 unfolding occurs_at
 occurs_at-append p [] ys = omega arith
 occurs_at-append p (x ∷ xs) ys = omega (arith, occurs_at-append p xs ys)
@@ -150,7 +154,7 @@ unfolding occurs
 occurs-places_of p [] at n = omega arith
 occurs-places_of p (q ∷ ps) at n = omega (arith, occurs-places_of p ps at n)
 
-placed_names : {ws : List Word} {ps : List Parameter} → SpellsNames ws ps → (p : ℕ) → occurs p (places_of ps) ≤ occurs_at p ws
+placed_names : {ws : List PlacedTerminal} {ps : List Parameter} → SpellsNames ws ps → (p : ℕ) → occurs p (places_of ps) ≤ occurs_at p ws
 unfolding occurs occurs_at
 placed_names Grammar.spells_first_name p = omega arith
 placed_names (Grammar.spells_more_names q at n {xs = xs} {all = all} s) p = simp (occurs_at-append, occurs-places_of) (omega (arith, placed_names s p))
@@ -158,23 +162,23 @@ placed_names (Grammar.spells_more_names q at n {xs = xs} {all = all} s) p = simp
 mutual
   unfolding occurs occurs_at
 
-  -- no place stands more often in the tree than among the words
-  pub placed : {k : ℕ} {ws : List Word} {t : PlainTree} → Spells k ws t → (p : ℕ) → occurs p (places t) ≤ occurs_at p ws
+  -- no place stands more often in the tree than among the terminals
+  pub placed : {k : ℕ} {ws : List PlacedTerminal} {t : PlainTree} → Spells k ws t → (p : ℕ) → occurs p (places t) ≤ occurs_at p ws
   placed Grammar.spells_const p = omega arith
   placed Grammar.spells_name p = omega arith
-  placed (Grammar.spells_between s b is low sx sy) p = simp (occurs-append, occurs_at-append) (omega (arith, placed sx p, placed sy p))
-  placed (Grammar.spells_before s u is low sx) p = simp (occurs-append, occurs_at-append) (omega (arith, placed sx p))
+  placed (Grammar.spells_infix s b is low sx sy) p = simp (occurs-append, occurs_at-append) (omega (arith, placed sx p, placed sy p))
+  placed (Grammar.spells_prefix s u is low sx) p = simp (occurs-append, occurs_at-append) (omega (arith, placed sx p))
   placed (Grammar.spells_inner q sx) p = simp (occurs_at-append) (omega (arith, placed sx p))
   placed (Grammar.spells_if a b c sx sy sz) p = simp (occurs-append, occurs_at-append) (omega (arith, placed sx p, placed sy p, placed sz p))
   placed (Grammar.spells_call q sa) p = simp (occurs_at-append) (omega (arith, placed_args sa p))
-  placed (Grammar.spells_operated q c all sa) p = simp (occurs_at-append) (omega (arith, placed_args sa p))
+  placed (Grammar.spells_called q c all sa) p = simp (occurs_at-append) (omega (arith, placed_args sa p))
   placed (Grammar.spells_block q low sx sd) p = simp (occurs-append, occurs_at-append) (omega (arith, placed sx p, placed_defs sd p))
 
-  placed_args : {ws : List Word} {args : PlainTrees} → SpellsArgs ws args → (p : ℕ) → occurs p (places_in args) ≤ occurs_at p ws
+  placed_args : {ws : List PlacedTerminal} {args : PlainTrees} → SpellsArgs ws args → (p : ℕ) → occurs p (places_in args) ≤ occurs_at p ws
   placed_args (Grammar.spells_one sx) p = simp (occurs-append) (omega (arith, placed sx p))
   placed_args (Grammar.spells_more q sa sy) p = simp (occurs-trees_and, occurs_at-append) (omega (arith, placed_args sa p, placed sy p))
 
-  placed_defs : {ws : List Word} {all : PlainDefs} → SpellsDefs ws all → (p : ℕ) → occurs p (places_in_defs all) ≤ occurs_at p ws
+  placed_defs : {ws : List PlacedTerminal} {all : PlainDefs} → SpellsDefs ws all → (p : ℕ) → occurs p (places_in_defs all) ≤ occurs_at p ws
   placed_defs Grammar.spells_none p = omega arith
   placed_defs (Grammar.spells_def at n a b sd sy) p = simp (occurs-defs_and, occurs_at-append) (omega (arith, placed_defs sd p, placed sy p))
   placed_defs (Grammar.spells_function at n a b c d sd sn sy) p =
@@ -203,45 +207,45 @@ length-parameters : (ps : List Parameter) (at : ℕ) (n : List ℕ) → length (
 length-parameters [] at n = omega arith
 length-parameters (q ∷ ps) at n = omega (arith, length-parameters ps at n)
 
-few_names : {ws : List Word} {ps : List Parameter} → SpellsNames ws ps → length (places_of ps) ≤ length ws
+few_names : {ws : List PlacedTerminal} {ps : List Parameter} → SpellsNames ws ps → length (places_of ps) ≤ length ws
 few_names Grammar.spells_first_name = omega arith
 few_names (Grammar.spells_more_names q at n s) = simp (length-append, length-parameters) (omega (arith, few_names s))
 
 mutual
-  -- a tree has no more places than words
-  pub few : {k : ℕ} {ws : List Word} {t : PlainTree} → Spells k ws t → length (places t) ≤ length ws
+  -- a tree has no more places than terminals
+  pub few : {k : ℕ} {ws : List PlacedTerminal} {t : PlainTree} → Spells k ws t → length (places t) ≤ length ws
   few Grammar.spells_const = omega arith
   few Grammar.spells_name = omega arith
-  few (Grammar.spells_between s b is low sx sy) = simp length-append (omega (arith, few sx, few sy))
-  few (Grammar.spells_before s u is low sx) = simp length-append (omega (arith, few sx))
+  few (Grammar.spells_infix s b is low sx sy) = simp length-append (omega (arith, few sx, few sy))
+  few (Grammar.spells_prefix s u is low sx) = simp length-append (omega (arith, few sx))
   few (Grammar.spells_inner q sx) = simp length-append (omega (arith, few sx))
   few (Grammar.spells_if a b c sx sy sz) = simp length-append (omega (arith, few sx, few sy, few sz))
   few (Grammar.spells_call q sa) = simp length-append (omega (arith, few_args sa))
-  few (Grammar.spells_operated q c all sa) = simp length-append (omega (arith, few_args sa))
+  few (Grammar.spells_called q c all sa) = simp length-append (omega (arith, few_args sa))
   few (Grammar.spells_block q low sx sd) = simp length-append (omega (arith, few sx, few_defs sd))
 
-  few_args : {ws : List Word} {args : PlainTrees} → SpellsArgs ws args → length (places_in args) ≤ length ws
+  few_args : {ws : List PlacedTerminal} {args : PlainTrees} → SpellsArgs ws args → length (places_in args) ≤ length ws
   few_args (Grammar.spells_one sx) = simp length-append (omega (arith, few sx))
   few_args (Grammar.spells_more q sa sy) = simp (length-append, length-trees_and) (omega (arith, few_args sa, few sy))
 
-  few_defs : {ws : List Word} {all : PlainDefs} → SpellsDefs ws all → length (places_in_defs all) ≤ length ws
+  few_defs : {ws : List PlacedTerminal} {all : PlainDefs} → SpellsDefs ws all → length (places_in_defs all) ≤ length ws
   few_defs Grammar.spells_none = omega arith
   few_defs (Grammar.spells_def at n a b sd sy) = simp (length-append, length-defs_and) (omega (arith, few_defs sd, few sy))
   few_defs (Grammar.spells_function at n a b c d sd sn sy) = simp (length-append, length-defs_and) (omega (arith, few_defs sd, few_names sn, few sy))
   few_defs (Grammar.spells_current at n a b c sd sy) = simp (length-append, length-defs_and) (omega (arith, few_defs sd, few sy))
 
--- Words whose places rise.
+-- Terminals whose places rise.
 
-pub Rises : ℕ → List Word → Type 0
+pub Rises : ℕ → List PlacedTerminal → Type 0
 Rises low [] = Unit {0}
 Rises low (w ∷ ws) = (low ≤ w.at) × Rises (w.at + 1) ws
 
-pub lower : (ws : List Word) (a b : ℕ) → b ≤ a → Rises a ws → Rises b ws
+pub lower : (ws : List PlacedTerminal) (a b : ℕ) → b ≤ a → Rises a ws → Rises b ws
 unfolding Rises
 lower [] a b h r = tt
 lower (w ∷ ws) a b h r = (omega (arith, h, r.0), r.1)
 
-pub rises_next : (w : Word) (ws : List Word) (low : ℕ) → low ≤ w.at → Rises (w.at + 1) ws → Rises low (w ∷ ws)
+pub rises_next : (w : PlacedTerminal) (ws : List PlacedTerminal) (low : ℕ) → low ≤ w.at → Rises (w.at + 1) ws → Rises low (w ∷ ws)
 unfolding Rises
 rises_next w ws low h r = (h, r)
 
@@ -269,12 +273,12 @@ one-same : (x : ℕ) → one x x ≡ 1
 unfolding one
 one-same x = ap (λ b. cond b 1 0) (eq-eqb x x refl)
 
-not_below : (p : ℕ) (ws : List Word) (low : ℕ) → Rises low ws → p < low → occurs_at p ws ≡ 0
+not_below : (p : ℕ) (ws : List PlacedTerminal) (low : ℕ) → Rises low ws → p < low → occurs_at p ws ≡ 0
 unfolding occurs_at Rises
 not_below p [] low r h = refl
 not_below p (w ∷ ws) low r h = omega (arith, one-less p w.at (omega (arith, h, r.0)), not_below p ws (w.at + 1) r.1 (omega (arith, h, r.0)))
 
-once : (p : ℕ) (ws : List Word) (low : ℕ) → Rises low ws → occurs_at p ws ≤ 1
+once : (p : ℕ) (ws : List PlacedTerminal) (low : ℕ) → Rises low ws → occurs_at p ws ≤ 1
 unfolding occurs_at Rises one
 once p [] low r = omega arith
 once p (w ∷ ws) low r = of (nat_eq p w.at) refl (once p ws (w.at + 1) r.1)
@@ -294,8 +298,8 @@ unfolding occurs
 all_differ [] h = tt
 all_differ (x ∷ xs) h = ((λ i. omega (arith, h x, in_occurs x xs i, one-same x)), all_differ xs (λ p. omega (arith, h p)))
 
--- what words of rising places spell is well made
-pub well_made : {ws : List Word} {t : PlainTree} → Spells 0 ws t → Rises 0 ws → length ws ≤ 1048576 → IsWellMade t
+-- what terminals of rising places spell is well made
+pub well_made : {ws : List PlacedTerminal} {t : PlainTree} → Spells 0 ws t → Rises 0 ws → length ws ≤ 1048576 → IsWellMade t
 well_made {ws} {t} s r h = record {
   shaped = shaped s;
   placed = all_differ (places t) (λ p. omega (arith, placed s p, once p ws 0 r));

@@ -9,7 +9,7 @@ use Rattle.lucid_tree.specs.declared.tree.DefKind.TheVariants as def_kind
 use Rattle.lucid_parse.specs.declared.state.Item.TheVariants as item
 use Rattle.lucid_parse.specs.declared.state.Defines.TheVariants as kind
 use Rattle.lucid_parse.specs.declared.build.Piles as code
-use Rattle.lucid_parse.specs.Grammar.{between_head, before_head, called_head, called_arity}
+use Rattle.lucid_parse.specs.Grammar.{infix_head, prefix_head, called_head, called_arity}
 use Rattle.lucid_parse.specs.Machine.{PlainItem}
 
 -- a head that is no data operator's
@@ -43,9 +43,9 @@ gather (suc n) (t ∷ ts) parts = gather n ts (tree t parts)
 abbrev pub put : PlainItem → List PlainTree → List (List PlainTree) → List (List (List ℕ)) → List (List ℕ) → List (List Def) → Option PlainPiles
 put (item.Const at v) ts ls ns ats ds = Some (piles (form at (const v) no_trees ∷ ts) ls ns ats ds)
 put (item.Name at n) ts ls ns ats ds = Some (piles (name at n ∷ ts) ls ns ats ds)
-put (item.Between b at) (y ∷ x ∷ ts) ls ns ats ds = Some (piles (form at (between_head b) (tree x (tree y no_trees)) ∷ ts) ls ns ats ds)
-put (item.Before u at) (x ∷ ts) ls ns ats ds = Some (piles (form at (before_head u) (tree x no_trees) ∷ ts) ls ns ats ds)
-put (item.Operated c at) ts ls ns ats ds =
+put (item.Infix b at) (y ∷ x ∷ ts) ls ns ats ds = Some (piles (form at (infix_head b) (tree x (tree y no_trees)) ∷ ts) ls ns ats ds)
+put (item.Prefix u at) (x ∷ ts) ls ns ats ds = Some (piles (form at (prefix_head u) (tree x no_trees) ∷ ts) ls ns ats ds)
+put (item.Called c at) ts ls ns ats ds =
     option_and_then (λ g. Some (piles (form at (called_head c) g.0 ∷ g.1) ls ns ats ds)) (gather (called_arity c) ts no_trees)
 put (item.If at) (z ∷ y ∷ x ∷ ts) ls ns ats ds = Some (piles (form at choose (tree x (tree y (tree z no_trees))) ∷ ts) ls ns ats ds)
 put item.NoTrees ts ls ns ats ds = Some (piles ts ([] ∷ ls) ns ats ds)

@@ -46,9 +46,9 @@ least_in best (p ∷ ps) = lesser p (least_in best ps)
 abbrev pub found : {N V : Type 0} → Item N V → ℕ → Option ℕ → Option ℕ
 found (item.Const at v) d best = least_in best (here d at)
 found (item.Name at n) d best = least_in best (here d at)
-found (item.Between b at) d best = least_in best (here d at)
-found (item.Before u at) d best = least_in best (here d at)
-found (item.Operated c at) d best = least_in best (here d at)
+found (item.Infix b at) d best = least_in best (here d at)
+found (item.Prefix u at) d best = least_in best (here d at)
+found (item.Called c at) d best = least_in best (here d at)
 found (item.If at) d best = least_in best (here d at)
 found (item.Call at n) d best = least_in best (here d at)
 found (item.Block at) d best = least_in best (here d at)
@@ -61,9 +61,9 @@ copies (suc n) d ds = d ∷ copies n d ds
 
 -- the depths of its parts, the last first
 abbrev pub below : {N V : Type 0} → Item N V → ℕ → List ℕ → List ℕ
-below (item.Between b at) d ds = pred d ∷ pred d ∷ ds
-below (item.Before u at) d ds = pred d ∷ ds
-below (item.Operated c at) d ds = copies (called_arity c) (pred d) ds
+below (item.Infix b at) d ds = pred d ∷ pred d ∷ ds
+below (item.Prefix u at) d ds = pred d ∷ ds
+below (item.Called c at) d ds = copies (called_arity c) (pred d) ds
 below (item.If at) d ds = pred d ∷ pred d ∷ pred d ∷ ds
 below (item.Call at n) d ds = pred d ∷ ds
 below (item.Block at) d ds = pred d ∷ pred d ∷ ds

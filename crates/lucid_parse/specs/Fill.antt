@@ -1,7 +1,7 @@
 -- What the parser keeps, with its names and its values read through two functions.
 use Rattle.std.specs.Prelude.{map}
-use Rattle.lucid_parse.specs.declared.sign.Sign.{Sign}
-use Rattle.lucid_parse.specs.declared.sign.Sign.TheVariants as sign
+use Rattle.lucid_parse.specs.declared.terminal.Terminal.{Terminal}
+use Rattle.lucid_parse.specs.declared.terminal.Terminal.TheVariants as terminal
 use Rattle.lucid_parse.specs.declared.state.Frame.{Frame}
 use Rattle.lucid_parse.specs.declared.state.Frame.TheVariants as frame
 use Rattle.lucid_parse.specs.declared.state.Focus.{Focus}
@@ -10,37 +10,37 @@ use Rattle.lucid_parse.specs.declared.state.Item.{Item}
 use Rattle.lucid_parse.specs.declared.state.Item.TheVariants as item
 use Rattle.lucid_parse.specs.Machine.{State, state}
 
-abbrev pub fill_sign : {M N V W : Type 0} → (M → N) → (V → W) → Sign M V → Sign N W
-fill_sign f g (sign.Name n) = sign.Name (f n)
-fill_sign f g (sign.Const v) = sign.Const (g v)
-fill_sign f g (sign.Between b) = sign.Between b
-fill_sign f g (sign.Before u) = sign.Before u
-fill_sign f g (sign.Called c) = sign.Called c
-fill_sign f g sign.Minus = sign.Minus
-fill_sign f g sign.Is = sign.Is
-fill_sign f g sign.Current = sign.Current
-fill_sign f g sign.Where = sign.Where
-fill_sign f g sign.End = sign.End
-fill_sign f g sign.If = sign.If
-fill_sign f g sign.Then = sign.Then
-fill_sign f g sign.Else = sign.Else
-fill_sign f g sign.Fi = sign.Fi
-fill_sign f g sign.Open = sign.Open
-fill_sign f g sign.Close = sign.Close
-fill_sign f g sign.Comma = sign.Comma
-fill_sign f g sign.Semicolon = sign.Semicolon
-fill_sign f g sign.Equals = sign.Equals
+abbrev pub fill_terminal : {M N V W : Type 0} → (M → N) → (V → W) → Terminal M V → Terminal N W
+fill_terminal f g (terminal.Name n) = terminal.Name (f n)
+fill_terminal f g (terminal.Const v) = terminal.Const (g v)
+fill_terminal f g (terminal.Infix b) = terminal.Infix b
+fill_terminal f g (terminal.Prefix u) = terminal.Prefix u
+fill_terminal f g (terminal.Called c) = terminal.Called c
+fill_terminal f g terminal.Minus = terminal.Minus
+fill_terminal f g terminal.Is = terminal.Is
+fill_terminal f g terminal.Current = terminal.Current
+fill_terminal f g terminal.Where = terminal.Where
+fill_terminal f g terminal.End = terminal.End
+fill_terminal f g terminal.If = terminal.If
+fill_terminal f g terminal.Then = terminal.Then
+fill_terminal f g terminal.Else = terminal.Else
+fill_terminal f g terminal.Fi = terminal.Fi
+fill_terminal f g terminal.Open = terminal.Open
+fill_terminal f g terminal.Close = terminal.Close
+fill_terminal f g terminal.Comma = terminal.Comma
+fill_terminal f g terminal.Semicolon = terminal.Semicolon
+fill_terminal f g terminal.Equals = terminal.Equals
 
 abbrev pub fill_frame : {M N : Type 0} → (M → N) → Frame M → Frame N
-fill_frame f (frame.Left b p k) = frame.Left b p k
-fill_frame f (frame.Before u p k) = frame.Before u p k
-fill_frame f (frame.Open k) = frame.Open k
+fill_frame f (frame.Infix b p k) = frame.Infix b p k
+fill_frame f (frame.Prefix u p k) = frame.Prefix u p k
+fill_frame f (frame.Parenthesis k) = frame.Parenthesis k
 fill_frame f (frame.Test p k) = frame.Test p k
 fill_frame f (frame.Yes p k) = frame.Yes p k
 fill_frame f (frame.No p k) = frame.No p k
-fill_frame f (frame.Args p n k) = frame.Args p (f n) k
-fill_frame f (frame.Parts c p more k) = frame.Parts c p more k
-fill_frame f (frame.Right p d q n) = frame.Right p d q (f n)
+fill_frame f (frame.Arguments p n k) = frame.Arguments p (f n) k
+fill_frame f (frame.Operands c p more k) = frame.Operands c p more k
+fill_frame f (frame.RightSide p d q n) = frame.RightSide p d q (f n)
 
 abbrev pub fill_focus : {M N : Type 0} → (M → N) → Focus M → Focus N
 fill_focus f (focus.Await k) = focus.Await k
@@ -57,9 +57,9 @@ fill_focus f (focus.Ready p q n) = focus.Ready p q (f n)
 abbrev pub fill_item : {M N V W : Type 0} → (M → N) → (V → W) → Item M V → Item N W
 fill_item f g (item.Const p v) = item.Const p (g v)
 fill_item f g (item.Name p n) = item.Name p (f n)
-fill_item f g (item.Between b p) = item.Between b p
-fill_item f g (item.Before u p) = item.Before u p
-fill_item f g (item.Operated c p) = item.Operated c p
+fill_item f g (item.Infix b p) = item.Infix b p
+fill_item f g (item.Prefix u p) = item.Prefix u p
+fill_item f g (item.Called c p) = item.Called c p
 fill_item f g (item.If p) = item.If p
 fill_item f g item.NoTrees = item.NoTrees
 fill_item f g item.More = item.More

@@ -1,23 +1,23 @@
--- What holds of all words and tokens.
+-- What holds of all terminals and tokens.
 use Rattle.std.specs.Prelude.{◌≡◌, ℕ, List}
 use Rattle.lucid_tree.specs.Tree.{PlainTree}
 use Rattle.lucid_scan.specs.declared.token.Token.{Token}
-use Rattle.lucid_parse.specs.Grammar.{Word, Spells}
-use Rattle.lucid_parse.specs.Words.{Words}
+use Rattle.lucid_parse.specs.Grammar.{PlacedTerminal, Spells}
+use Rattle.lucid_parse.specs.Terminals.{Terminals}
 use Rattle.lucid_parse.specs.Verdict.{IsFault}
 use Rattle.lucid_parse.specs.Spelled.{SpellsTree}
 
--- Words spell at most one tree.
-abbrev pub WordsSpellOneTree : Type 0
-WordsSpellOneTree = (ws : List Word) (t u : PlainTree) → Spells 0 ws t → Spells 0 ws u → t ≡ u
+-- Terminals spell at most one tree.
+abbrev pub TerminalsSpellOneTree : Type 0
+TerminalsSpellOneTree = (ws : List PlacedTerminal) (t u : PlainTree) → Spells 0 ws t → Spells 0 ws u → t ≡ u
 
--- Words have at most one fault.
+-- Terminals have at most one fault.
 abbrev pub FaultIsUnique : Type 0
-FaultIsUnique = (ws : List Word) (end at other : ℕ) → IsFault ws end at → IsFault ws end other → at ≡ other
+FaultIsUnique = (ws : List PlacedTerminal) (end at other : ℕ) → IsFault ws end at → IsFault ws end other → at ≡ other
 
--- Tokens have at most one list of words.
-abbrev pub WordsAreUnique : Type 0
-WordsAreUnique = (source : List ℕ) (ts : List Token) (us ws : List Word) → Words source ts us → Words source ts ws → us ≡ ws
+-- Tokens have at most one list of terminals.
+abbrev pub TerminalsAreUnique : Type 0
+TerminalsAreUnique = (source : List ℕ) (ts : List Token) (us ws : List PlacedTerminal) → Terminals source ts us → Terminals source ts ws → us ≡ ws
 
 -- Tokens spell at most one tree.
 abbrev pub TokensSpellOneTree : Type 0

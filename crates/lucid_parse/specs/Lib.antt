@@ -5,9 +5,9 @@ pub mod Fill
 pub mod Verdict
 pub mod Depth
 pub mod Build
-pub mod Signs
+pub mod Views
 pub mod Refused
-pub mod Words
+pub mod Terminals
 pub mod Spellings
 pub mod Spelled
 pub mod Laws

@@ -1,16 +1,16 @@
--- What a refusal says of the words.
+-- What a refusal says of the terminals.
 use Rattle.std.specs.Prelude.{ℕ, List, ◌<◌}
 use Rattle.lucid_tree.specs.Tree.{PlainTree}
 use Rattle.lucid_tree.specs.WellMade.{depth}
 use Rattle.lucid_parse.specs.declared.refusal.ParseRefusal.{ParseRefusal}
 use Rattle.lucid_parse.specs.declared.refusal.ParseRefusal.TheVariants as refusal
-use Rattle.lucid_parse.specs.Grammar.{Word, Spells}
+use Rattle.lucid_parse.specs.Grammar.{PlacedTerminal, Spells}
 use Rattle.lucid_parse.specs.Depth.{at_depth, IsLeast}
 use Rattle.lucid_parse.specs.Verdict.{SpellsNone, IsFault}
 
--- Syntax: the words spell no tree, and the place is that of the fault. TooNested: they spell a tree of depth over 400, and the
--- place is the least of a node at depth 401. For want of memory any words may be refused.
-abbrev pub AreRefused : ParseRefusal → List Word → (end : ℕ) → Type 0
+-- Syntax: the terminals spell no tree, and the place is that of the fault. TooNested: they spell a tree of depth over 400, and the
+-- place is the least of a node at depth 401. For want of memory any terminals may be refused.
+abbrev pub AreRefused : ParseRefusal → List PlacedTerminal → (end : ℕ) → Type 0
 AreRefused (refusal.Syntax at) ws end = SpellsNone ws × IsFault ws end at
 AreRefused (refusal.TooNested at) ws end = (t : PlainTree) × Spells 0 ws t × (400 < depth t) × IsLeast (at_depth 401 t) at
 AreRefused refusal.NoMemory ws end = Unit {0}

@@ -8,24 +8,24 @@ use Rattle.lucid_value.specs.Plain.{PlainValue}
 use Rattle.lucid_value.specs.Reading.{Reads}
 use Rattle.lucid_parse.specs.declared.refusal.ParseRefusal.{ParseRefusal}
 use Rattle.lucid_parse.specs.declared.refusal.ParseRefusal.TheVariants as refusal
-use Rattle.lucid_parse.specs.Grammar.{Word, Spells}
-use Rattle.lucid_parse.specs.Words.{Words}
+use Rattle.lucid_parse.specs.Grammar.{PlacedTerminal, Spells}
+use Rattle.lucid_parse.specs.Terminals.{Terminals}
 use Rattle.lucid_parse.specs.Refused.{AreRefused}
 
--- The tokens spell the tree, as a program: their words do, at level 0.
+-- The tokens spell the tree, as a program: their terminals do, at level 0.
 abbrev pub SpellsTree : (source : List ℕ) → List Token → PlainTree → Type 0
-SpellsTree source ts t = (ws : List Word) × Words source ts ws × Spells 0 ws t
+SpellsTree source ts t = (ws : List PlacedTerminal) × Terminals source ts ws × Spells 0 ws t
 
--- The tokens are refused so: their words are. For want of memory any tokens may be refused.
+-- The tokens are refused so: their terminals are. For want of memory any tokens may be refused.
 abbrev pub IsRefused : (source : List ℕ) → List Token → ParseRefusal → Type 0
-IsRefused source ts (refusal.Syntax at) = (ws : List Word) × Words source ts ws × AreRefused (refusal.Syntax at) ws (length source)
-IsRefused source ts (refusal.TooNested at) = (ws : List Word) × Words source ts ws × AreRefused (refusal.TooNested at) ws (length source)
+IsRefused source ts (refusal.Syntax at) = (ws : List PlacedTerminal) × Terminals source ts ws × AreRefused (refusal.Syntax at) ws (length source)
+IsRefused source ts (refusal.TooNested at) = (ws : List PlacedTerminal) × Terminals source ts ws × AreRefused (refusal.TooNested at) ws (length source)
 IsRefused source ts refusal.NoMemory = Unit {0}
 
 -- The bytes are those of a token of the kind, whatever follows them.
 abbrev pub IsTokenOf : TokenKind → List ℕ → Type 0
 IsTokenOf k bytes = (after : List ℕ) × IsTokenText k bytes after
 
--- The value is the one that the bytes read as, and there is one.
+-- The bytes read as no other value.
 abbrev pub IsReading : List ℕ → PlainValue → Type 0
 IsReading bytes v = (w : PlainValue) → Reads bytes w → v ≡ w

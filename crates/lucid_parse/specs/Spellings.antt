@@ -2,12 +2,12 @@
 use Rattle.std.specs.Prelude.{ℕ, List, [], true, false}
 use Rattle.std.specs.declared.convert.Infallible.{Infallible}
 use Rattle.lucid_value.specs.Plain.{PlainValue, truth, list, eod, fault, no_items}
-use Rattle.lucid_parse.specs.declared.sign.Sign.{Sign}
+use Rattle.lucid_parse.specs.declared.terminal.Terminal.{Terminal}
 use Rattle.lucid_parse.specs.declared.spelling.FixedValue.{FixedValue}
 use Rattle.lucid_parse.specs.declared.spelling.FixedValue.TheVariants as fixed
 use Rattle.lucid_parse.specs.declared.spelling.Spelling.{Spelling}
-use Rattle.lucid_parse.specs.Grammar.{PlainSign}
-use Rattle.lucid_parse.specs.Fill.{fill_sign}
+use Rattle.lucid_parse.specs.Grammar.{PlainTerminal}
+use Rattle.lucid_parse.specs.Fill.{fill_terminal}
 
 abbrev pub fixed_value : FixedValue → PlainValue
 fixed_value fixed.EmptyList = list no_items
@@ -16,8 +16,8 @@ fixed_value fixed.False = truth false
 fixed_value fixed.Eod = eod
 fixed_value fixed.Error = fault
 
-abbrev pub fixed_plain : Sign Infallible FixedValue → PlainSign
-fixed_plain s = fill_sign (λ _. []) fixed_value s
+abbrev pub fixed_plain : Terminal Infallible FixedValue → PlainTerminal
+fixed_plain s = fill_terminal (λ _. []) fixed_value s
 
-abbrev pub pair_of : Spelling → List ℕ × PlainSign
-pair_of s = (s.bytes.now, fixed_plain s.sign)
+abbrev pub pair_of : Spelling → List ℕ × PlainTerminal
+pair_of s = (s.bytes.now, fixed_plain s.terminal)

@@ -1,21 +1,20 @@
 //! A tree from its nodes.
 
-ghost use Rattle.std.specs.Prelude.{◌≡◌, ◌≤◌, List, [], ◌∷◌, IfOk, MatchOption};
+ghost use Rattle.std.specs.Prelude.{◌≡◌, ◌≤◌, List, [], ◌∷◌, IfOk};
 ghost use Rattle.lucid_value.specs.View.{plain};
 ghost use Rattle.lucid_tree.specs.Tree.{apply, form, tree, no_trees, PlainTree};
 ghost use Rattle.lucid_tree.specs.WellMade.{depth};
-ghost use Rattle.lucid_parse.specs.Grammar.{between_head, before_head, Spells, Word};
+ghost use Rattle.lucid_parse.specs.Grammar.{infix_head, prefix_head, Spells, PlacedTerminal};
 ghost use Rattle.lucid_parse.specs.Fill.{fill_item};
 ghost use Rattle.lucid_parse.specs.Flat.{written};
-ghost use Rattle.lucid_parse.specs.Signs.{items_of, name_now, value_now};
+ghost use Rattle.lucid_parse.specs.Views.{items_of, name_now, value_now};
 ghost use Rattle.lucid_parse.specs.Build.{IsOverStreams, no_piles, plain_piles, put_on, Puts};
 
-use crate::sign::{Before, Between, Called};
-use crate::stack::Stack;
 use crate::state::{BorrowedItem, Defines, Item};
+use crate::terminal::{Called, Infix, Prefix};
 use lucid_ops::Op;
 use lucid_tree::{Block, Def, DefKind, Defs, Kind, Names, Places32, Tree, Trees};
-use lucid_value::{Name, Value};
+use lucid_value::{Name, Stack, Value};
 use std::alloc::{AllocError, Global};
 
 /// The trees, the lists of trees, of parameters and their places, and of definitions that no node has taken yet.
@@ -46,112 +45,56 @@ fn apply_two(alloc: Global, at: u32, op: Op, x: Tree, y: Tree) -> Result<Tree, A
     Ok(Tree { at, kind })
 }
 
-// The data operator that an operator between two trees is, if it is one.
-fn operator_of(b: Between) -> Option<Op>
-    ensures { MatchOption result (IsOverStreams (between_head b)) (λ op. between_head b ≡ apply op 2) }
-{
-    let op = match b {
-        Between::Fby
-        | Between::Sby
-        | Between::Whenever
-        | Between::Asa
-        | Between::Upon
-        | Between::Attime
-        | Between::Atspace
-        | Between::Or
-        | Between::And => return None,
-        Between::Eq => Op::Eq,
-        Between::Ne => Op::Ne,
-        Between::Lt => Op::Lt,
-        Between::Le => Op::Le,
-        Between::Gt => Op::Gt,
-        Between::Ge => Op::Ge,
-        Between::Cmp => Op::Cmp,
-        Between::Cons => Op::Cons,
-        Between::Append => Op::Append,
-        Between::Join => Op::Join,
-        Between::Add => Op::Add,
-        Between::Sub => Op::Sub,
-        Between::Mul => Op::Mul,
-        Between::Div => Op::Div,
-        Between::Mod => Op::Mod,
-        Between::Pow => Op::Pow,
-    };
-    Some(op)
-}
-
 // The tree of an operator between two trees that is no data operator.
-fn stream_tree(alloc: Global, at: u32, b: Between, x: Tree, y: Tree) -> Result<Tree, AllocError>
-    requires { IsOverStreams (between_head b) }
-    ensures { IfOk result (λ t. t ≡ form at (between_head b) (tree x (tree y no_trees))) }
+fn stream_tree(
+    alloc: Global,
+    at: u32,
+    operator: Infix,
+    x: Tree,
+    y: Tree,
+) -> Result<Tree, AllocError>
+    requires { IsOverStreams (infix_head operator) }
+    ensures { IfOk result (λ t. t ≡ form at (infix_head operator) (tree x (tree y no_trees))) }
 {
     let x = Box::new(alloc, x)?;
     let y = Box::new(alloc, y)?;
-    let kind = match b {
-        Between::Fby => Kind::Fby(x, y),
-        Between::Sby => Kind::Sby(x, y),
-        Between::Whenever => Kind::Whenever(x, y),
-        Between::Asa => Kind::Asa(x, y),
-        Between::Upon => Kind::Upon(x, y),
-        Between::Attime => Kind::Attime(x, y),
-        Between::Atspace => Kind::Atspace(x, y),
-        Between::Or => Kind::Or(x, y),
-        Between::And => Kind::And(x, y),
-        _ => unreachable!(),
+    let kind = match operator {
+        Infix::Fby => Kind::Fby(x, y),
+        Infix::Sby => Kind::Sby(x, y),
+        Infix::Whenever => Kind::Whenever(x, y),
+        Infix::Asa => Kind::Asa(x, y),
+        Infix::Upon => Kind::Upon(x, y),
+        Infix::Attime => Kind::Attime(x, y),
+        Infix::Atspace => Kind::Atspace(x, y),
+        Infix::Or => Kind::Or(x, y),
+        Infix::And => Kind::And(x, y),
+        Infix::Operator(_) => unreachable!(),
     };
     Ok(Tree { at, kind })
 }
 
 // The tree of an operator between two trees.
-fn between_tree(alloc: Global, at: u32, b: Between, x: Tree, y: Tree) -> Result<Tree, AllocError>
-    ensures { IfOk result (λ t. t ≡ form at (between_head b) (tree x (tree y no_trees))) }
+fn infix_tree(alloc: Global, at: u32, operator: Infix, x: Tree, y: Tree) -> Result<Tree, AllocError>
+    ensures { IfOk result (λ t. t ≡ form at (infix_head operator) (tree x (tree y no_trees))) }
 {
-    match operator_of(b) {
-        Some(op) => apply_two(alloc, at, op, x, y),
-        None => stream_tree(alloc, at, b, x, y),
+    match operator {
+        Infix::Operator(op) => apply_two(alloc, at, op, x, y),
+        _ => stream_tree(alloc, at, operator, x, y),
     }
 }
 
 // The tree of an operator before a tree.
-fn before_tree(alloc: Global, at: u32, u: Before, x: Tree) -> Result<Tree, AllocError>
-    ensures { IfOk result (λ t. t ≡ form at (before_head u) (tree x no_trees)) }
+fn prefix_tree(alloc: Global, at: u32, operator: Prefix, x: Tree) -> Result<Tree, AllocError>
+    ensures { IfOk result (λ t. t ≡ form at (prefix_head operator) (tree x no_trees)) }
 {
-    let op = match u {
-        Before::First => {
-            let kind = Kind::First(Box::new(alloc, x)?);
-            return Ok(Tree { at, kind });
-        }
-        Before::Next => {
-            let kind = Kind::Next(Box::new(alloc, x)?);
-            return Ok(Tree { at, kind });
-        }
-        Before::Initial => {
-            let kind = Kind::Initial(Box::new(alloc, x)?);
-            return Ok(Tree { at, kind });
-        }
-        Before::Succ => {
-            let kind = Kind::Succ(Box::new(alloc, x)?);
-            return Ok(Tree { at, kind });
-        }
-        Before::Not => Op::Not,
-        Before::Neg => Op::Neg,
-        Before::Abs => Op::Abs,
-        Before::Head => Op::Head,
-        Before::Tail => Op::Tail,
-        Before::Length => Op::Length,
-        Before::MakeWord => Op::MakeWord,
-        Before::MakeString => Op::MakeString,
-        Before::IsInt => Op::IsInt,
-        Before::IsWord => Op::IsWord,
-        Before::IsString => Op::IsString,
-        Before::IsList => Op::IsList,
-        Before::IsTruth => Op::IsTruth,
-        Before::IsNull => Op::IsNull,
-        Before::IsAtom => Op::IsAtom,
-        Before::IsEod => Op::IsEod,
-        Before::IsError => Op::IsError,
+    let kind = match operator {
+        Prefix::Operator(op) => return apply_one(alloc, at, op, x),
+        Prefix::First => Kind::First(Box::new(alloc, x)?),
+        Prefix::Next => Kind::Next(Box::new(alloc, x)?),
+        Prefix::Initial => Kind::Initial(Box::new(alloc, x)?),
+        Prefix::Succ => Kind::Succ(Box::new(alloc, x)?),
     };
-    apply_one(alloc, at, op, x)
+    Ok(Tree { at, kind })
 }
 
 impl Piles {
@@ -183,8 +126,8 @@ impl Piles {
         Ok(true)
     }
 
-    fn put_between(&mut self, alloc: Global, b: Between, at: u32) -> Result<bool, AllocError>
-        ensures { Puts result self.new (put_on (Item.Between b at) (plain_piles self.old)) }
+    fn put_infix(&mut self, alloc: Global, operator: Infix, at: u32) -> Result<bool, AllocError>
+        ensures { Puts result self.new (put_on (Item.Infix operator at) (plain_piles self.old)) }
     {
         let Some(y) = self.trees.pop() else {
             return Ok(false);
@@ -192,22 +135,22 @@ impl Piles {
         let Some(x) = self.trees.pop() else {
             return Ok(false);
         };
-        self.trees.push(between_tree(alloc, at, b, x, y)?)?;
+        self.trees.push(infix_tree(alloc, at, operator, x, y)?)?;
         Ok(true)
     }
 
-    fn put_before(&mut self, alloc: Global, u: Before, at: u32) -> Result<bool, AllocError>
-        ensures { Puts result self.new (put_on (Item.Before u at) (plain_piles self.old)) }
+    fn put_prefix(&mut self, alloc: Global, operator: Prefix, at: u32) -> Result<bool, AllocError>
+        ensures { Puts result self.new (put_on (Item.Prefix operator at) (plain_piles self.old)) }
     {
         let Some(x) = self.trees.pop() else {
             return Ok(false);
         };
-        self.trees.push(before_tree(alloc, at, u, x)?)?;
+        self.trees.push(prefix_tree(alloc, at, operator, x)?)?;
         Ok(true)
     }
 
     fn put_nth(&mut self, alloc: Global, at: u32) -> Result<bool, AllocError>
-        ensures { Puts result self.new (put_on (Item.Operated Called.Nth at) (plain_piles self.old)) }
+        ensures { Puts result self.new (put_on (Item.Called Called.Nth at) (plain_piles self.old)) }
     {
         let Some(y) = self.trees.pop() else {
             return Ok(false);
@@ -220,7 +163,7 @@ impl Piles {
     }
 
     fn put_substr(&mut self, alloc: Global, at: u32) -> Result<bool, AllocError>
-        ensures { Puts result self.new (put_on (Item.Operated Called.Substr at) (plain_piles self.old)) }
+        ensures { Puts result self.new (put_on (Item.Called Called.Substr at) (plain_piles self.old)) }
     {
         let Some(z) = self.trees.pop() else {
             return Ok(false);
@@ -405,31 +348,49 @@ impl Piles {
         ensures { Puts result self.new (put_on (fill_item name_now value_now item.entry) (plain_piles self.old)) }
     {
         match item {
-            Item::Const(at, value) => self.put_const(alloc, at, value),
-            Item::Name(at, name) => self.put_name(at, name),
-            Item::Between(b, at) => self.put_between(alloc, b, at),
-            Item::Before(u, at) => self.put_before(alloc, u, at),
-            Item::Operated(Called::Nth, at) => self.put_nth(alloc, at),
-            Item::Operated(Called::Substr, at) => self.put_substr(alloc, at),
-            Item::If(at) => self.put_if(alloc, at),
+            Item::Const { at, value } => self.put_const(alloc, at, value),
+            Item::Name { at, name } => self.put_name(at, name),
+            Item::Infix { operator, at } => self.put_infix(alloc, operator, at),
+            Item::Prefix { operator, at } => self.put_prefix(alloc, operator, at),
+            Item::Called {
+                called: Called::Nth,
+                at,
+            } => self.put_nth(alloc, at),
+            Item::Called {
+                called: Called::Substr,
+                at,
+            } => self.put_substr(alloc, at),
+            Item::If { at } => self.put_if(alloc, at),
             Item::NoTrees => self.put_no_trees(alloc),
             Item::More => self.put_more(),
-            Item::Call(at, name) => self.put_call(at, name),
+            Item::Call { at, name } => self.put_call(at, name),
             Item::NoNames => self.put_no_names(alloc),
-            Item::Param(at, name) => self.put_param(at, name),
+            Item::Param { at, name } => self.put_param(at, name),
             Item::NoDefs => self.put_no_defs(alloc),
-            Item::Def(Defines::Plain, at, name) => self.put_plain(at, name),
-            Item::Def(Defines::Current, at, name) => self.put_current(at, name),
-            Item::Def(Defines::Function, at, name) => self.put_function(at, name),
-            Item::Block(at) => self.put_block(alloc, at),
+            Item::Def {
+                defines: Defines::Plain,
+                at,
+                name,
+            } => self.put_plain(at, name),
+            Item::Def {
+                defines: Defines::Current,
+                at,
+                name,
+            } => self.put_current(at, name),
+            Item::Def {
+                defines: Defines::Function,
+                at,
+                name,
+            } => self.put_function(at, name),
+            Item::Block { at } => self.put_block(alloc, at),
         }
     }
 }
 
 /// The tree that the nodes are those of. A tree of depth over 400 is never built.
 pub fn build(alloc: Global, items: &[BorrowedItem<'_>]) -> Result<Tree, AllocError>
-    requires { (ws : List Word) × (t : PlainTree) × Spells 0 ws t × (items_of items.now ≡ written [] t) × (depth t ≤ 400) }
-    ensures { IfOk result (λ tree. (ws : List Word) → (t : PlainTree) → Spells 0 ws t → items_of items.now ≡ written [] t → tree ≡ t) }
+    requires { (ws : List PlacedTerminal) × (t : PlainTree) × Spells 0 ws t × (items_of items.now ≡ written [] t) × (depth t ≤ 400) }
+    ensures { IfOk result (λ tree. (ws : List PlacedTerminal) → (t : PlainTree) → Spells 0 ws t → items_of items.now ≡ written [] t → tree ≡ t) }
 {
     let mut piles = Piles::new(alloc);
     for item in items {

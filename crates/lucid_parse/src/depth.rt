@@ -1,11 +1,11 @@
-//! The first place that is too deep.
+//! The least place that is too deep.
 
 ghost use Rattle.std.specs.Prelude.{◌≡◌, List, [], ◌∷◌, None, IfOk, OnOk, reverse};
 ghost use Rattle.lucid_parse.specs.Depth.{below, found, here, least_in, search_from};
 
-use crate::sign::Called;
-use crate::stack::Stack;
 use crate::state::{Defines, Item};
+use crate::terminal::Called;
+use lucid_value::Stack;
 use std::alloc::{AllocError, Global};
 
 /// Puts the depths that are sought from a node's parts onto the stack, the last part's last.
@@ -18,27 +18,39 @@ fn push_below<N: Copy, V: Copy>(
 {
     let inner = depth.saturating_sub(1);
     match item {
-        Item::Between(_, _) | Item::Block(_) | Item::Operated(Called::Nth, _) => {
+        Item::Infix { .. }
+        | Item::Block { .. }
+        | Item::Called {
+            called: Called::Nth,
+            ..
+        } => {
             depths.push(inner)?;
             depths.push(inner)
         }
-        Item::Before(_, _) | Item::Call(_, _) => depths.push(inner),
-        Item::Param(_, _) => depths.push(depth),
-        Item::Def(Defines::Function, _, _) => {
+        Item::Prefix { .. } | Item::Call { .. } => depths.push(inner),
+        Item::Param { .. } => depths.push(depth),
+        Item::Def {
+            defines: Defines::Function,
+            ..
+        } => {
             depths.push(depth)?;
             depths.push(depth)?;
             depths.push(depth)
         }
-        Item::If(_) | Item::Operated(Called::Substr, _) => {
+        Item::If { .. }
+        | Item::Called {
+            called: Called::Substr,
+            ..
+        } => {
             depths.push(inner)?;
             depths.push(inner)?;
             depths.push(inner)
         }
-        Item::More | Item::Def(_, _, _) => {
+        Item::More | Item::Def { .. } => {
             depths.push(depth)?;
             depths.push(depth)
         }
-        Item::Const(_, _) | Item::Name(_, _) | Item::NoTrees | Item::NoNames | Item::NoDefs => Ok(
+        Item::Const { .. } | Item::Name { .. } | Item::NoTrees | Item::NoNames | Item::NoDefs => Ok(
             (),
         ),
     }
@@ -62,20 +74,20 @@ fn found_with<N: Copy, V: Copy>(best: Option<u32>, item: Item<N, V>, depth: u32)
     ensures { result ≡ found item depth best }
 {
     match item {
-        Item::Const(at, _)
-        | Item::Name(at, _)
-        | Item::Between(_, at)
-        | Item::Before(_, at)
-        | Item::If(at)
-        | Item::Call(at, _)
-        | Item::Operated(_, at)
-        | Item::Block(at) => lesser_of(best, depth, at),
+        Item::Const { at, .. }
+        | Item::Name { at, .. }
+        | Item::Infix { at, .. }
+        | Item::Prefix { at, .. }
+        | Item::If { at }
+        | Item::Call { at, .. }
+        | Item::Called { at, .. }
+        | Item::Block { at } => lesser_of(best, depth, at),
         Item::NoTrees
         | Item::More
         | Item::NoNames
-        | Item::Param(_, _)
+        | Item::Param { .. }
         | Item::NoDefs
-        | Item::Def(_, _, _) => best,
+        | Item::Def { .. } => best,
     }
 }
 

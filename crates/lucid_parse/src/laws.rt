@@ -1,22 +1,22 @@
-//! What holds of all words and tokens.
-ghost use Rattle.lucid_parse.specs.Laws.{WordsSpellOneTree, FaultIsUnique, WordsAreUnique, TokensSpellOneTree};
+//! What holds of all terminals and tokens.
+ghost use Rattle.lucid_parse.specs.Laws.{TerminalsSpellOneTree, FaultIsUnique, TerminalsAreUnique, TokensSpellOneTree};
 
 use lucid_value::one_reading;
 
-/// Words spell at most one tree.
+/// Terminals spell at most one tree.
 #[tactic(auto, using(crate::proofs::Built::one_tree))]
-pub fn words_spell_one_tree()
-    ensures { WordsSpellOneTree }
+pub fn terminals_spell_one_tree()
+    ensures { TerminalsSpellOneTree }
 {}
 
-/// Words have at most one fault.
+/// Terminals have at most one fault.
 pub fn fault_is_unique()
     ensures { FaultIsUnique }
 {}
 
-/// Tokens have at most one list of words.
-pub fn words_are_unique()
-    ensures { WordsAreUnique }
+/// Tokens have at most one list of terminals.
+pub fn terminals_are_unique()
+    ensures { TerminalsAreUnique }
 {
     one_reading();
 }
@@ -25,5 +25,5 @@ pub fn words_are_unique()
 pub fn tokens_spell_one_tree()
     ensures { TokensSpellOneTree }
 {
-    words_are_unique();
+    terminals_are_unique();
 }

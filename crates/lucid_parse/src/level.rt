@@ -1,141 +1,103 @@
 //! The levels at which the operators bind.
 
-ghost use Rattle.std.specs.Prelude.{◌≡◌};
-ghost use Rattle.lucid_parse.specs.Grammar.{level, left, right, rank, between_of, before_of, called_arity};
+ghost use Rattle.std.specs.Prelude.{◌≡◌, ◌≤◌};
+ghost use Rattle.lucid_parse.specs.Grammar.{infix_level, infix_side, left, right, prefix_level, infix_of, prefix_of, called_arity, called_operator};
 
-use crate::sign::{Before, Between, Called, Sign};
+use crate::terminal::{Called, Infix, Prefix, Terminal};
+use lucid_ops::{Form, Op, Side};
 
 /// The operator's own level.
-pub fn level_of(b: Between) -> u8
-    ensures { result ≡ level b }
+pub fn infix_level(operator: Infix) -> u8
+    ensures value { result ≡ infix_level operator }
+    ensures most { result ≤ 12 }
 {
-    match b {
-        Between::Fby | Between::Sby => 1,
-        Between::Whenever | Between::Asa | Between::Upon | Between::Attime | Between::Atspace => 2,
-        Between::Or => 3,
-        Between::And => 4,
-        Between::Eq
-        | Between::Ne
-        | Between::Lt
-        | Between::Le
-        | Between::Gt
-        | Between::Ge
-        | Between::Cmp => 6,
-        Between::Cons | Between::Append | Between::Join => 7,
-        Between::Add | Between::Sub => 8,
-        Between::Mul | Between::Div | Between::Mod => 9,
-        Between::Pow => 10,
+    match operator {
+        Infix::Operator(op) => op.row().level,
+        Infix::Fby | Infix::Sby => 1,
+        Infix::Whenever | Infix::Asa | Infix::Upon | Infix::Attime | Infix::Atspace => 2,
+        Infix::Or => 3,
+        Infix::And => 4,
+    }
+}
+
+/// The side to which a row of such operators groups.
+fn infix_side(operator: Infix) -> Side
+    ensures { result ≡ infix_side operator }
+{
+    match operator {
+        Infix::Operator(op) => op.row().side,
+        Infix::Fby | Infix::Sby => Side::Right,
+        _ => Side::Left,
     }
 }
 
 /// The least level of its left operand.
-pub fn left_of(b: Between) -> u8
-    ensures { result ≡ left b }
+pub fn left_level(operator: Infix) -> u8
+    ensures { result ≡ left operator }
 {
-    match b {
-        Between::Fby
-        | Between::Sby
-        | Between::Whenever
-        | Between::Asa
-        | Between::Upon
-        | Between::Attime
-        | Between::Atspace => 2,
-        Between::Or => 3,
-        Between::And => 4,
-        Between::Eq
-        | Between::Ne
-        | Between::Lt
-        | Between::Le
-        | Between::Gt
-        | Between::Ge
-        | Between::Cmp => 7,
-        Between::Cons | Between::Append | Between::Join | Between::Add | Between::Sub => 8,
-        Between::Mul | Between::Div | Between::Mod => 9,
-        Between::Pow => 11,
-    }
+    infix_side(operator).left_level(infix_level(operator))
 }
 
 /// The least level of its right operand.
-pub fn right_of(b: Between) -> u8
-    ensures { result ≡ right b }
+pub fn right_level(operator: Infix) -> u8
+    ensures { result ≡ right operator }
 {
-    match b {
-        Between::Sby | Between::Fby => 1,
-        Between::Whenever | Between::Asa | Between::Upon | Between::Attime | Between::Atspace => 3,
-        Between::Or => 4,
-        Between::And => 5,
-        Between::Eq
-        | Between::Ne
-        | Between::Lt
-        | Between::Le
-        | Between::Gt
-        | Between::Ge
-        | Between::Cmp
-        | Between::Cons
-        | Between::Append
-        | Between::Join => 7,
-        Between::Add | Between::Sub => 9,
-        Between::Mul | Between::Div | Between::Mod | Between::Pow => 10,
-    }
+    infix_side(operator).right_level(infix_level(operator))
 }
 
 /// The level of an operator before its operand.
-pub fn rank_of(u: Before) -> u8
-    ensures { result ≡ rank u }
+pub fn prefix_level(operator: Prefix) -> u8
+    ensures { result ≡ prefix_level operator }
 {
-    match u {
-        Before::Not => 5,
-        Before::Neg
-        | Before::Abs
-        | Before::First
-        | Before::Next
-        | Before::Initial
-        | Before::Succ
-        | Before::Head
-        | Before::Tail
-        | Before::Length
-        | Before::MakeWord
-        | Before::MakeString
-        | Before::IsInt
-        | Before::IsWord
-        | Before::IsString
-        | Before::IsList
-        | Before::IsTruth
-        | Before::IsNull
-        | Before::IsAtom
-        | Before::IsEod
-        | Before::IsError => 11,
+    match operator {
+        Prefix::Operator(op) => op.row().level,
+        Prefix::First | Prefix::Next | Prefix::Initial | Prefix::Succ => 11,
     }
 }
 
-/// The operator that a sign is between two operands.
-pub fn as_between<N: Copy, V: Copy>(s: Sign<N, V>) -> Option<Between>
-    ensures { result ≡ between_of s }
+/// The operator that a terminal is between two operands.
+pub fn as_infix<N: Copy, V: Copy>(terminal: Terminal<N, V>) -> Option<Infix>
+    ensures { result ≡ infix_of terminal }
 {
-    match s {
-        Sign::Between(b) => Some(b),
-        Sign::Minus => Some(Between::Sub),
+    match terminal {
+        Terminal::Infix(Infix::Operator(op)) => match op.row().form {
+            Form::Between => Some(Infix::Operator(op)),
+            Form::Before | Form::Called => None,
+        },
+        Terminal::Infix(operator) => Some(operator),
+        Terminal::Minus => Some(Infix::Operator(Op::Sub)),
         _ => None,
     }
 }
 
-/// The operator that a sign is before an operand.
-pub fn as_before<N: Copy, V: Copy>(s: Sign<N, V>) -> Option<Before>
-    ensures { result ≡ before_of s }
+/// The operator that a terminal is before an operand.
+pub fn as_prefix<N: Copy, V: Copy>(terminal: Terminal<N, V>) -> Option<Prefix>
+    ensures { result ≡ prefix_of terminal }
 {
-    match s {
-        Sign::Before(u) => Some(u),
-        Sign::Minus => Some(Before::Neg),
+    match terminal {
+        Terminal::Prefix(Prefix::Operator(op)) => match op.row().form {
+            Form::Before => Some(Prefix::Operator(op)),
+            Form::Between | Form::Called => None,
+        },
+        Terminal::Prefix(operator) => Some(operator),
+        Terminal::Minus => Some(Prefix::Operator(Op::Neg)),
         _ => None,
+    }
+}
+
+/// The data operator that is called.
+pub fn called_operator(called: Called) -> Op
+    ensures { result ≡ called_operator called }
+{
+    match called {
+        Called::Substr => Op::Substr,
+        Called::Nth => Op::Nth,
     }
 }
 
 /// How many arguments a called operator has.
-pub fn arity_of(c: Called) -> u8
-    ensures { result ≡ called_arity c }
+pub fn called_arity(called: Called) -> u8
+    ensures { result ≡ called_arity called }
 {
-    match c {
-        Called::Substr => 3,
-        Called::Nth => 2,
-    }
+    called_operator(called).row().arity
 }

@@ -12,10 +12,7 @@ mod machine;
 mod nodes;
 mod parser;
 mod refusal;
-mod sign;
 mod spelling;
-mod stack;
 mod state;
-#[cfg(test)]
-mod tests;
-mod words;
+mod terminal;
+mod terminals;

@@ -1,50 +1,73 @@
-//! The parser as a machine over signs.
+//! The parser as a machine over terminals.
 
 ghost use Rattle.std.specs.Prelude.{◌≡◌, List, [], ◌∷◌, Option, Some, None, Result, OnOk, IfOk, MatchOption, if◌then◌else◌};
-ghost use Rattle.lucid_parse.specs.Grammar.{before_of, between_of};
+ghost use Rattle.lucid_parse.specs.Grammar.{prefix_of, infix_of};
 ghost use Rattle.lucid_parse.specs.Machine.{State, state, takes, shift, inner_frames, inner_out, after_frame, close, settle, prefixed, begin, step_named, step_heads, step_headed, step_at, step, finished, finish, Steps, IsInBlock};
 
-use crate::level::{arity_of, as_before, as_between, left_of, level_of, rank_of, right_of};
-use crate::sign::{Between, Called, Sign};
-use crate::stack::Stack;
+use crate::level::{
+    as_infix, as_prefix, called_arity, infix_level, left_level, prefix_level, right_level,
+};
 use crate::state::{Defines, Focus, Frame, Item};
+use crate::terminal::{Called, Infix, Terminal};
+use lucid_value::Stack;
 use std::alloc::AllocError;
 
-/// Whether the operator may take an operand of level `m` in a place that allows level `k`.
-fn may_take(b: Between, m: u8, k: u8) -> bool
-    ensures { result ≡ takes b m k }
+/// The level of what stands alone or in parentheses, which binds tightest.
+const TIGHTEST: u8 = 12;
+
+/// Whether the operator may take an operand of this level in a place that allows a level.
+fn may_take(operator: Infix, level: u8, allowed: u8) -> bool
+    ensures { result ≡ takes operator level allowed }
 {
-    left_of(b) <= m && k <= level_of(b)
+    left_level(operator) <= level && allowed <= infix_level(operator)
 }
 
-/// An operator after an operand of level `m` in a place that allows level `k`.
+/// An operator after an operand of this level in a place that allows a level.
 fn shift_to<N: Copy, V: Copy>(
     frames: &mut Stack<Frame<N>>,
     out: &mut Vec<Item<N, V>>,
-    b: Between,
+    operator: Infix,
     at: u32,
-    m: u8,
-    k: u8,
+    level: u8,
+    allowed: u8,
 ) -> Result<Option<Focus<N>>, AllocError>
-    ensures { Steps result frames.new out.new.items (shift b at m k frames.old out.old.items) }
+    ensures { Steps result frames.new out.new.items (shift operator at level allowed frames.old out.old.items) }
 {
-    let mut operand = m;
-    let mut place = k;
+    let mut operand = level;
+    let mut place = allowed;
     loop {
-        if may_take(b, operand, place) {
-            frames.push(Frame::Left(b, at, place))?;
-            return Ok(Some(Focus::Await(right_of(b))));
+        if may_take(operator, operand, place) {
+            frames.push(Frame::Infix {
+                operator,
+                at,
+                allowed: place,
+            })?;
+            return Ok(Some(Focus::Await {
+                allowed: right_level(operator),
+            }));
         }
         match frames.pop() {
-            Some(Frame::Left(c, p, j)) => {
-                out.push(Item::Between(c, p))?;
-                operand = level_of(c);
-                place = j;
+            Some(
+                Frame::Infix {
+                    operator,
+                    at,
+                    allowed,
+                },
+            ) => {
+                out.push(Item::Infix { operator, at })?;
+                operand = infix_level(operator);
+                place = allowed;
             }
-            Some(Frame::Before(u, p, j)) => {
-                out.push(Item::Before(u, p))?;
-                operand = rank_of(u);
-                place = j;
+            Some(
+                Frame::Prefix {
+                    operator,
+                    at,
+                    allowed,
+                },
+            ) => {
+                out.push(Item::Prefix { operator, at })?;
+                operand = prefix_level(operator);
+                place = allowed;
             }
             _ => return Ok(None),
         }
@@ -56,252 +79,354 @@ fn close_operators<N: Copy, V: Copy>(
     frames: &mut Stack<Frame<N>>,
     out: &mut Vec<Item<N, V>>,
 ) -> Result<Option<Frame<N>>, AllocError>
-    ensures { IfOk result (λ r. (out.new.items ≡ inner_out frames.old out.old.items)
-        × MatchOption r ((inner_frames frames.old ≡ []) × (frames.new ≡ [])) (λ f. inner_frames frames.old ≡ f ∷ frames.new)) }
+    ensures { IfOk result (λ inner. (out.new.items ≡ inner_out frames.old out.old.items)
+        × MatchOption inner ((inner_frames frames.old ≡ []) × (frames.new ≡ [])) (λ f. inner_frames frames.old ≡ f ∷ frames.new)) }
 {
     loop {
         match frames.pop() {
-            Some(Frame::Left(c, p, _)) => out.push(Item::Between(c, p))?,
-            Some(Frame::Before(u, p, _)) => out.push(Item::Before(u, p))?,
-            r => return Ok(r),
+            Some(Frame::Infix { operator, at, .. }) => out.push(Item::Infix { operator, at })?,
+            Some(Frame::Prefix { operator, at, .. }) => out.push(Item::Prefix { operator, at })?,
+            open => return Ok(open),
         }
     }
 }
 
-/// A sign behind an argument of a called operator that wants so many more.
-fn close_part<N: Copy, V: Copy>(
+/// A terminal behind an operand of a called operator that wants so many more.
+fn close_operand<N: Copy, V: Copy>(
     frames: &mut Stack<Frame<N>>,
     out: &mut Vec<Item<N, V>>,
-    c: Called,
+    called: Called,
     at: u32,
     more: u8,
-    k: u8,
-    s: Sign<N, V>,
+    allowed: u8,
+    terminal: Terminal<N, V>,
 ) -> Result<Option<Focus<N>>, AllocError>
-    ensures { Steps result frames.new out.new.items (after_frame (Frame.Parts c at more k) s frames.old out.old.items) }
+    ensures { Steps result frames.new out.new.items (after_frame (Frame.Operands called at more allowed) terminal frames.old out.old.items) }
 {
-    match s {
-        Sign::Comma if more != 0 => {
-            frames.push(Frame::Parts(c, at, more - 1, k))?;
-            Ok(Some(Focus::Await(0)))
+    match terminal {
+        Terminal::Comma if more != 0 => {
+            frames.push(Frame::Operands {
+                called,
+                at,
+                more: more - 1,
+                allowed,
+            })?;
+            Ok(Some(Focus::Await { allowed: 0 }))
         }
-        Sign::Close if more == 0 => {
-            out.push(Item::Operated(c, at))?;
-            Ok(Some(Focus::Have(12, k)))
+        Terminal::Close if more == 0 => {
+            out.push(Item::Called { called, at })?;
+            Ok(Some(Focus::Have {
+                level: TIGHTEST,
+                allowed,
+            }))
         }
         _ => Ok(None),
     }
 }
 
-/// A sign that ends the innermost of what is open, where no operator waits.
+/// A terminal behind an argument of a call.
+fn close_argument<N: Copy, V: Copy>(
+    frames: &mut Stack<Frame<N>>,
+    out: &mut Vec<Item<N, V>>,
+    at: u32,
+    name: N,
+    allowed: u8,
+    terminal: Terminal<N, V>,
+) -> Result<Option<Focus<N>>, AllocError>
+    ensures { Steps result frames.new out.new.items (after_frame (Frame.Arguments at name allowed) terminal frames.old out.old.items) }
+{
+    match terminal {
+        Terminal::Comma => {
+            out.push(Item::More)?;
+            frames.push(Frame::Arguments { at, name, allowed })?;
+            Ok(Some(Focus::Await { allowed: 0 }))
+        }
+        Terminal::Close => {
+            out.push(Item::More)?;
+            out.push(Item::Call { at, name })?;
+            Ok(Some(Focus::Have {
+                level: TIGHTEST,
+                allowed,
+            }))
+        }
+        _ => Ok(None),
+    }
+}
+
+/// A terminal that ends the innermost of what is open, where no operator waits.
 fn close_frame<N: Copy, V: Copy>(
     frames: &mut Stack<Frame<N>>,
     out: &mut Vec<Item<N, V>>,
     frame: Frame<N>,
-    s: Sign<N, V>,
+    terminal: Terminal<N, V>,
 ) -> Result<Option<Focus<N>>, AllocError>
-    ensures { Steps result frames.new out.new.items (after_frame frame s frames.old out.old.items) }
+    ensures { Steps result frames.new out.new.items (after_frame frame terminal frames.old out.old.items) }
 {
-    match (frame, s) {
-        (Frame::Open(k), Sign::Close) => Ok(Some(Focus::Have(12, k))),
-        (Frame::Test(at, k), Sign::Then) => {
-            frames.push(Frame::Yes(at, k))?;
-            Ok(Some(Focus::Await(0)))
+    match (frame, terminal) {
+        (Frame::Parenthesis { allowed }, Terminal::Close) => Ok(Some(Focus::Have {
+            level: TIGHTEST,
+            allowed,
+        })),
+        (Frame::Test { at, allowed }, Terminal::Then) => {
+            frames.push(Frame::Yes { at, allowed })?;
+            Ok(Some(Focus::Await { allowed: 0 }))
         }
-        (Frame::Yes(at, k), Sign::Else) => {
-            frames.push(Frame::No(at, k))?;
-            Ok(Some(Focus::Await(0)))
+        (Frame::Yes { at, allowed }, Terminal::Else) => {
+            frames.push(Frame::No { at, allowed })?;
+            Ok(Some(Focus::Await { allowed: 0 }))
         }
-        (Frame::No(at, k), Sign::Fi) => {
-            out.push(Item::If(at))?;
-            Ok(Some(Focus::Have(12, k)))
+        (Frame::No { at, allowed }, Terminal::Fi) => {
+            out.push(Item::If { at })?;
+            Ok(Some(Focus::Have {
+                level: TIGHTEST,
+                allowed,
+            }))
         }
-        (Frame::Args(at, n, k), Sign::Comma) => {
-            out.push(Item::More)?;
-            frames.push(Frame::Args(at, n, k))?;
-            Ok(Some(Focus::Await(0)))
-        }
-        (Frame::Args(at, n, k), Sign::Close) => {
-            out.push(Item::More)?;
-            out.push(Item::Call(at, n))?;
-            Ok(Some(Focus::Have(12, k)))
-        }
-        (Frame::Parts(c, at, more, k), _) => close_part(frames, out, c, at, more, k, s),
-        (Frame::Right(at, d, p, n), Sign::Semicolon) => {
-            out.push(Item::Def(d, p, n))?;
-            Ok(Some(Focus::Heads(at)))
+        (Frame::Arguments { at, name, allowed }, _) => close_argument(
+            frames, out, at, name, allowed, terminal,
+        ),
+        (
+            Frame::Operands {
+                called,
+                at,
+                more,
+                allowed,
+            },
+            _,
+        ) => close_operand(frames, out, called, at, more, allowed, terminal),
+        (
+            Frame::RightSide {
+                block,
+                defines,
+                at,
+                name,
+            },
+            Terminal::Semicolon,
+        ) => {
+            out.push(Item::Def { defines, at, name })?;
+            Ok(Some(Focus::Heads { block }))
         }
         _ => Ok(None),
     }
 }
 
-/// A sign that is no operator, after an operand.
+/// A terminal that is no operator, after an operand.
 fn close_at<N: Copy, V: Copy>(
     frames: &mut Stack<Frame<N>>,
     out: &mut Vec<Item<N, V>>,
-    s: Sign<N, V>,
+    terminal: Terminal<N, V>,
     at: u32,
 ) -> Result<Option<Focus<N>>, AllocError>
-    ensures { Steps result frames.new out.new.items (close s at (inner_frames frames.old) (inner_out frames.old out.old.items)) }
+    ensures { Steps result frames.new out.new.items (close terminal at (inner_frames frames.old) (inner_out frames.old out.old.items)) }
 {
     let open = close_operators(frames, out)?;
-    if let Sign::Where = s {
+    if let Terminal::Where = terminal {
         out.push(Item::NoDefs)?;
-        if let Some(f) = open {
-            frames.push(f)?;
+        if let Some(frame) = open {
+            frames.push(frame)?;
         }
-        return Ok(Some(Focus::Heads(at)));
+        return Ok(Some(Focus::Heads { block: at }));
     }
     match open {
-        Some(f) => close_frame(frames, out, f, s),
+        Some(frame) => close_frame(frames, out, frame, terminal),
         None => Ok(None),
     }
 }
 
-/// A sign after an operand of level `m` in a place that allows level `k`.
+/// A terminal after an operand of this level in a place that allows a level.
 fn settle_to<N: Copy, V: Copy>(
     frames: &mut Stack<Frame<N>>,
     out: &mut Vec<Item<N, V>>,
-    s: Sign<N, V>,
+    terminal: Terminal<N, V>,
     at: u32,
-    m: u8,
-    k: u8,
+    level: u8,
+    allowed: u8,
 ) -> Result<Option<Focus<N>>, AllocError>
-    ensures { Steps result frames.new out.new.items (settle s at m k frames.old out.old.items) }
+    ensures { Steps result frames.new out.new.items (settle terminal at level allowed frames.old out.old.items) }
 {
-    match as_between(s) {
-        Some(b) => shift_to(frames, out, b, at, m, k),
-        None => close_at(frames, out, s, at),
+    match as_infix(terminal) {
+        Some(operator) => shift_to(frames, out, operator, at, level, allowed),
+        None => close_at(frames, out, terminal, at),
     }
 }
 
-/// A sign that begins an operand, in a place that allows level `k`.
+/// A terminal that begins an operand, in a place that allows a level.
 fn begin_at<N: Copy, V: Copy>(
     frames: &mut Stack<Frame<N>>,
     out: &mut Vec<Item<N, V>>,
-    s: Sign<N, V>,
+    terminal: Terminal<N, V>,
     at: u32,
-    k: u8,
+    allowed: u8,
 ) -> Result<Option<Focus<N>>, AllocError>
-    ensures { Steps result frames.new out.new.items (begin s at k frames.old out.old.items) }
+    ensures { Steps result frames.new out.new.items (begin terminal at allowed frames.old out.old.items) }
 {
-    match s {
-        Sign::Name(n) => Ok(Some(Focus::Named(at, n, k))),
-        Sign::Const(v) => {
-            out.push(Item::Const(at, v))?;
-            Ok(Some(Focus::Have(12, k)))
+    match terminal {
+        Terminal::Name(name) => Ok(Some(Focus::Named { at, name, allowed })),
+        Terminal::Const(value) => {
+            out.push(Item::Const { at, value })?;
+            Ok(Some(Focus::Have {
+                level: TIGHTEST,
+                allowed,
+            }))
         }
-        Sign::Called(c) => Ok(Some(Focus::Opens(c, at, k))),
-        Sign::If => {
-            frames.push(Frame::Test(at, k))?;
-            Ok(Some(Focus::Await(0)))
+        Terminal::Called(called) => Ok(Some(Focus::Opens {
+            called,
+            at,
+            allowed,
+        })),
+        Terminal::If => {
+            frames.push(Frame::Test { at, allowed })?;
+            Ok(Some(Focus::Await { allowed: 0 }))
         }
-        Sign::Open => {
-            frames.push(Frame::Open(k))?;
-            Ok(Some(Focus::Await(0)))
+        Terminal::Open => {
+            frames.push(Frame::Parenthesis { allowed })?;
+            Ok(Some(Focus::Await { allowed: 0 }))
         }
-        _ => match as_before(s) {
-            Some(u) if k <= rank_of(u) => {
-                frames.push(Frame::Before(u, at, k))?;
-                Ok(Some(Focus::Await(rank_of(u))))
+        _ => match as_prefix(terminal) {
+            Some(operator) if allowed <= prefix_level(operator) => {
+                frames.push(Frame::Prefix {
+                    operator,
+                    at,
+                    allowed,
+                })?;
+                Ok(Some(Focus::Await {
+                    allowed: prefix_level(operator),
+                }))
             }
             _ => Ok(None),
         },
     }
 }
 
-/// A sign after a name: a call, or what follows an operand.
+/// A terminal at `next` after the name at `at`: a call, or what follows an operand.
 fn step_name<N: Copy, V: Copy>(
     frames: &mut Stack<Frame<N>>,
     out: &mut Vec<Item<N, V>>,
-    s: Sign<N, V>,
+    terminal: Terminal<N, V>,
+    next: u32,
     at: u32,
-    p: u32,
-    n: N,
-    k: u8,
+    name: N,
+    allowed: u8,
 ) -> Result<Option<Focus<N>>, AllocError>
-    ensures { Steps result frames.new out.new.items (step_named s at p n k frames.old out.old.items) }
+    ensures { Steps result frames.new out.new.items (step_named terminal next at name allowed frames.old out.old.items) }
 {
-    if let Sign::Open = s {
+    if let Terminal::Open = terminal {
         out.push(Item::NoTrees)?;
-        frames.push(Frame::Args(p, n, k))?;
-        return Ok(Some(Focus::Await(0)));
+        frames.push(Frame::Arguments { at, name, allowed })?;
+        return Ok(Some(Focus::Await { allowed: 0 }));
     }
-    out.push(Item::Name(p, n))?;
-    settle_to(frames, out, s, at, 12, k)
+    out.push(Item::Name { at, name })?;
+    settle_to(frames, out, terminal, next, TIGHTEST, allowed)
 }
 
-/// A sign in a block, where no operand stands.
+/// A terminal at `next` in a block, where no operand stands.
 fn step_block<N: Copy, V: Copy>(
     frames: &mut Stack<Frame<N>>,
     out: &mut Vec<Item<N, V>>,
     focus: Focus<N>,
-    s: Sign<N, V>,
-    at: u32,
+    terminal: Terminal<N, V>,
+    next: u32,
 ) -> Result<Option<Focus<N>>, AllocError>
     requires { IsInBlock focus }
-    ensures { Steps result frames.new out.new.items (step_at focus s at frames.old out.old.items) }
+    ensures { Steps result frames.new out.new.items (step_at focus terminal next frames.old out.old.items) }
 {
-    match (focus, s) {
-        (Focus::Heads(p), Sign::Name(n)) => Ok(Some(Focus::Headed(p, at, n))),
-        (Focus::Heads(p), Sign::End) => {
-            out.push(Item::Block(p))?;
-            Ok(Some(Focus::Have(0, 0)))
+    let (defines, block, at, name) = match (focus, terminal) {
+        (Focus::Heads { block }, Terminal::Name(name)) => {
+            return Ok(Some(Focus::Headed {
+                block,
+                at: next,
+                name,
+            }));
         }
-        (Focus::Headed(p, q, n), Sign::Equals) => {
-            frames.push(Frame::Right(p, Defines::Plain, q, n))?;
-            Ok(Some(Focus::Await(0)))
+        (Focus::Heads { block }, Terminal::End) => {
+            out.push(Item::Block { at: block })?;
+            return Ok(Some(Focus::Have {
+                level: 0,
+                allowed: 0,
+            }));
         }
-        (Focus::Headed(p, q, n), Sign::Is) => Ok(Some(Focus::Frozen(p, q, n))),
-        (Focus::Headed(p, q, n), Sign::Open) => {
+        (Focus::Headed { block, at, name }, Terminal::Is) => {
+            return Ok(Some(Focus::Frozen { block, at, name }));
+        }
+        (Focus::Headed { block, at, name }, Terminal::Open) => {
             out.push(Item::NoNames)?;
-            Ok(Some(Focus::Names(p, q, n)))
+            return Ok(Some(Focus::Names { block, at, name }));
         }
-        (Focus::Frozen(p, q, n), Sign::Current) => {
-            frames.push(Frame::Right(p, Defines::Current, q, n))?;
-            Ok(Some(Focus::Await(0)))
+        (Focus::Names { block, at, name }, Terminal::Name(parameter)) => {
+            out.push(Item::Param {
+                at: next,
+                name: parameter,
+            })?;
+            return Ok(Some(Focus::Listed { block, at, name }));
         }
-        (Focus::Names(p, q, n), Sign::Name(m)) => {
-            out.push(Item::Param(at, m))?;
-            Ok(Some(Focus::Listed(p, q, n)))
+        (Focus::Listed { block, at, name }, Terminal::Comma) => {
+            return Ok(Some(Focus::Names { block, at, name }));
         }
-        (Focus::Listed(p, q, n), Sign::Comma) => Ok(Some(Focus::Names(p, q, n))),
-        (Focus::Listed(p, q, n), Sign::Close) => Ok(Some(Focus::Ready(p, q, n))),
-        (Focus::Ready(p, q, n), Sign::Equals) => {
-            frames.push(Frame::Right(p, Defines::Function, q, n))?;
-            Ok(Some(Focus::Await(0)))
+        (Focus::Listed { block, at, name }, Terminal::Close) => {
+            return Ok(Some(Focus::Ready { block, at, name }));
         }
-        _ => Ok(None),
-    }
+        (Focus::Headed { block, at, name }, Terminal::Equals) => (Defines::Plain, block, at, name),
+        (Focus::Frozen { block, at, name }, Terminal::Current) => (
+            Defines::Current,
+            block,
+            at,
+            name,
+        ),
+        (Focus::Ready { block, at, name }, Terminal::Equals) => (
+            Defines::Function,
+            block,
+            at,
+            name,
+        ),
+        _ => return Ok(None),
+    };
+    frames.push(Frame::RightSide {
+        block,
+        defines,
+        at,
+        name,
+    })?;
+    Ok(Some(Focus::Await { allowed: 0 }))
 }
 
-/// What the sign leads to, or none where no program goes on so.
+/// What the terminal at `next` leads to, or none where no program goes on so.
 pub fn step_to<N: Copy, V: Copy>(
     frames: &mut Stack<Frame<N>>,
     out: &mut Vec<Item<N, V>>,
     focus: Focus<N>,
-    s: Sign<N, V>,
-    at: u32,
+    terminal: Terminal<N, V>,
+    next: u32,
 ) -> Result<Option<Focus<N>>, AllocError>
-    ensures { Steps result frames.new out.new.items (step (state focus frames.old out.old.items) s at) }
+    ensures { Steps result frames.new out.new.items (step (state focus frames.old out.old.items) terminal next) }
 {
     match focus {
-        Focus::Await(k) => begin_at(frames, out, s, at, k),
-        Focus::Named(p, n, k) => step_name(frames, out, s, at, p, n, k),
-        Focus::Have(m, k) => settle_to(frames, out, s, at, m, k),
-        Focus::Opens(c, p, k) => match s {
-            Sign::Open => {
-                frames.push(Frame::Parts(c, p, arity_of(c) - 1, k))?;
-                Ok(Some(Focus::Await(0)))
+        Focus::Await { allowed } => begin_at(frames, out, terminal, next, allowed),
+        Focus::Named { at, name, allowed } => {
+            step_name(frames, out, terminal, next, at, name, allowed)
+        }
+        Focus::Have { level, allowed } => settle_to(frames, out, terminal, next, level, allowed),
+        Focus::Opens {
+            called,
+            at,
+            allowed,
+        } => match terminal {
+            Terminal::Open => {
+                frames.push(Frame::Operands {
+                    called,
+                    at,
+                    more: called_arity(called) - 1,
+                    allowed,
+                })?;
+                Ok(Some(Focus::Await { allowed: 0 }))
             }
             _ => Ok(None),
         },
-        Focus::Heads(_)
-        | Focus::Headed(_, _, _)
-        | Focus::Frozen(_, _, _)
-        | Focus::Names(_, _, _)
-        | Focus::Listed(_, _, _)
-        | Focus::Ready(_, _, _) => step_block(frames, out, focus, s, at),
+        Focus::Heads { .. }
+        | Focus::Headed { .. }
+        | Focus::Frozen { .. }
+        | Focus::Names { .. }
+        | Focus::Listed { .. }
+        | Focus::Ready { .. } => step_block(frames, out, focus, terminal, next),
     }
 }
 
@@ -310,26 +435,26 @@ fn ends<N: Copy, V: Copy>(
     frames: &mut Stack<Frame<N>>,
     out: &mut Vec<Item<N, V>>,
 ) -> Result<bool, AllocError>
-    ensures { IfOk result (λ b. finished frames.old out.old.items ≡ (if b then Some out.new.items else None)) }
+    ensures { IfOk result (λ ended. finished frames.old out.old.items ≡ (if ended then Some out.new.items else None)) }
 {
     let open = close_operators(frames, out)?;
     Ok(open.is_none())
 }
 
-/// Whether a program ends after the signs that led to the focus; what waits is written then.
+/// Whether a program ends after the terminals that led to the focus; what waits is written then.
 pub fn finish_to<N: Copy, V: Copy>(
     frames: &mut Stack<Frame<N>>,
     out: &mut Vec<Item<N, V>>,
     focus: Focus<N>,
 ) -> Result<bool, AllocError>
-    ensures { IfOk result (λ b. finish (state focus frames.old out.old.items) ≡ (if b then Some out.new.items else None)) }
+    ensures { IfOk result (λ ended. finish (state focus frames.old out.old.items) ≡ (if ended then Some out.new.items else None)) }
 {
     match focus {
-        Focus::Named(p, n, _) => {
-            out.push(Item::Name(p, n))?;
+        Focus::Named { at, name, .. } => {
+            out.push(Item::Name { at, name })?;
             ends(frames, out)
         }
-        Focus::Have(_, _) => ends(frames, out),
+        Focus::Have { .. } => ends(frames, out),
         _ => Ok(false),
     }
 }

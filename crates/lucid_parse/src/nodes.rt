@@ -1,33 +1,39 @@
-//! The nodes of the program that signs are.
+//! The nodes of the program that terminals are.
 
 ghost use Rattle.std.specs.Prelude.{◌≡◌, Some, IfOk, IfErr};
 ghost use Rattle.lucid_parse.specs.Machine.{nodes};
-ghost use Rattle.lucid_parse.specs.Signs.{items_of, words_of};
+ghost use Rattle.lucid_parse.specs.Views.{items_of, terminals_of};
 ghost use Rattle.lucid_parse.specs.Refused.{AreRefused};
 
 use crate::machine::{finish_to, step_to};
 use crate::refusal::ParseRefusal;
-use crate::sign::SignAt;
-use crate::stack::Stack;
 use crate::state::{BorrowedItem, Focus};
+use crate::terminal::TerminalAt;
+use lucid_value::Stack;
 use std::alloc::Global;
 
 /// The nodes of the program, each behind its parts; `end` is the source's length.
 pub fn read_nodes(
     alloc: Global,
-    signs: &[SignAt],
+    terminals: &[TerminalAt],
     end: u32,
 ) -> Result<Vec<BorrowedItem<'_>>, ParseRefusal>
-    ensures ok { IfOk result (λ v. nodes (words_of signs.now) ≡ Some (items_of v.items)) }
-    ensures refused { IfErr result (λ e. AreRefused e (words_of signs.now) end) }
+    ensures ok { IfOk result (λ v. nodes (terminals_of terminals.now) ≡ Some (items_of v.items)) }
+    ensures refused { IfErr result (λ e. AreRefused e (terminals_of terminals.now) end) }
 {
     let mut frames = Stack::new(alloc);
     let mut out = Vec::new(alloc);
-    let mut focus = Focus::Await(0);
-    for sign in signs {
-        match step_to(&mut frames, &mut out, focus, sign.borrowed(), sign.at)? {
+    let mut focus = Focus::Await { allowed: 0 };
+    for terminal in terminals {
+        match step_to(
+            &mut frames,
+            &mut out,
+            focus,
+            terminal.borrowed(),
+            terminal.at,
+        )? {
             Some(next) => focus = next,
-            None => return Err(ParseRefusal::Syntax { at: sign.at }),
+            None => return Err(ParseRefusal::Syntax { at: terminal.at }),
         }
     }
     if finish_to(&mut frames, &mut out, focus)? {

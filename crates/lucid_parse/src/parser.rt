@@ -5,15 +5,15 @@ ghost use Rattle.lucid_scan.specs.Tokens.{Tokens};
 ghost use Rattle.lucid_tree.specs.WellMade.{depth, places, IsWellMade};
 ghost use Rattle.lucid_parse.specs.Grammar.{Spells};
 ghost use Rattle.lucid_parse.specs.Refused.{AreRefused};
-ghost use Rattle.lucid_parse.specs.Signs.{words_of};
+ghost use Rattle.lucid_parse.specs.Views.{terminals_of};
 ghost use Rattle.lucid_parse.specs.Spelled.{IsRefused, SpellsTree};
 
 use crate::build::build;
 use crate::depth::least_at;
 use crate::nodes::read_nodes;
 use crate::refusal::ParseRefusal;
-use crate::sign::SignAt;
-use crate::words::read_signs;
+use crate::terminal::TerminalAt;
+use crate::terminals::read_terminals;
 use lucid_scan::Token;
 use lucid_scan::laws::{tokens_are_few, tokens_are_in_order};
 use lucid_tree::Tree;
@@ -22,13 +22,13 @@ use std::alloc::Global;
 /// The depth of the first nodes that are too deep.
 const TOO_DEEP: u32 = 401;
 
-/// The tree that the signs spell, where it isn't too deep; `end` is the source's length.
-fn parse_signs(alloc: Global, signs: &[SignAt], end: u32) -> Result<Tree, ParseRefusal>
-    ensures spelled { IfOk result (λ tree. Spells 0 (words_of signs.now) tree) }
+/// The tree that the terminals spell, where it isn't too deep; `end` is the source's length.
+fn parse_terminals(alloc: Global, terminals: &[TerminalAt], end: u32) -> Result<Tree, ParseRefusal>
+    ensures spelled { IfOk result (λ tree. Spells 0 (terminals_of terminals.now) tree) }
     ensures shallow { IfOk result (λ tree. depth tree ≤ 400) }
-    ensures refused { IfErr result (λ e. AreRefused e (words_of signs.now) end) }
+    ensures refused { IfErr result (λ e. AreRefused e (terminals_of terminals.now) end) }
 {
-    let items = read_nodes(alloc, signs, end)?;
+    let items = read_nodes(alloc, terminals, end)?;
     if let Some(at) = least_at(alloc, &items, TOO_DEEP)? {
         return Err(ParseRefusal::TooNested { at });
     }
@@ -39,7 +39,7 @@ fn parse_signs(alloc: Global, signs: &[SignAt], end: u32) -> Result<Tree, ParseR
 /// The tree that the source's tokens spell, where its depth is at most 400.
 ///
 /// Parentheses are no nodes and may be nested without bound: the parser has a stack of its own. The time is linear in the
-/// source. By the laws `tokens_spell_one_tree`, `words_are_unique` and `fault_is_unique` of this crate, each answer but want of
+/// source. By the laws `tokens_spell_one_tree`, `terminals_are_unique` and `fault_is_unique` of this crate, each answer but want of
 /// memory comes exactly where its clause holds.
 #[tactic(auto, using(crate::proofs::Answered::refused_memory))]
 pub fn parse(alloc: Global, source: &[u8], tokens: &[Token]) -> Result<Tree, ParseRefusal>
@@ -53,6 +53,6 @@ pub fn parse(alloc: Global, source: &[u8], tokens: &[Token]) -> Result<Tree, Par
 {
     tokens_are_in_order();
     tokens_are_few();
-    let signs = read_signs(alloc, source, tokens)?;
-    parse_signs(alloc, &signs, source.len() as u32)
+    let terminals = read_terminals(alloc, source, tokens)?;
+    parse_terminals(alloc, &terminals, source.len() as u32)
 }

@@ -1,12 +1,13 @@
-//! The signs of marks and reserved words.
+//! The terminals of marks and reserved words.
 ghost use Rattle.std.specs.Prelude.{◌≡◌, map};
 ghost use Rattle.std.specs.Option.{option_map};
 ghost use Rattle.lucid_value.specs.View.{plain};
-ghost use Rattle.lucid_parse.specs.Signs.{plain_sign};
-ghost use Rattle.lucid_parse.specs.Words.{sign_in, fixed_sign};
+ghost use Rattle.lucid_parse.specs.Views.{plain_terminal};
+ghost use Rattle.lucid_parse.specs.Terminals.{terminal_in, operator_terminal, fixed_terminal};
 ghost use Rattle.lucid_parse.specs.Spellings.{fixed_value, fixed_plain, pair_of};
 
-use crate::sign::{Before, Between, Called, Sign};
+use crate::terminal::{Called, Infix, Prefix, Terminal};
+use lucid_ops::{Form, Op};
 use lucid_value::{List, Name, Value};
 use std::alloc::Global;
 use std::convert::Infallible;
@@ -21,95 +22,62 @@ pub enum FixedValue {
     Error,
 }
 
-/// The sign of a mark or of a reserved word. It holds no name.
-pub type FixedSign = Sign<Infallible, FixedValue>;
+/// The terminal of a mark or of a reserved word. It holds no name.
+pub type FixedTerminal = Terminal<Infallible, FixedValue>;
 
-/// A mark or a reserved word, with its sign.
+/// A mark or a reserved word, with its terminal.
 #[derive(Clone, Copy)]
 pub struct Spelling {
     pub bytes: &'static [u8],
-    pub sign: FixedSign,
+    pub terminal: FixedTerminal,
 }
 
 macro_rules! spelling {
-    ($bytes:literal, $sign:expr) => {
+    ($bytes:literal, $terminal:expr) => {
         Spelling {
             bytes: $bytes,
-            sign: $sign,
+            terminal: $terminal,
         }
     };
 }
 
-const MARKS: [Spelling; 17] = [
-    spelling!(b"(", Sign::Open),
-    spelling!(b")", Sign::Close),
-    spelling!(b",", Sign::Comma),
-    spelling!(b";", Sign::Semicolon),
-    spelling!(b"=", Sign::Equals),
-    spelling!(b"[]", Sign::Const(FixedValue::EmptyList)),
-    spelling!(b"+", Sign::Between(Between::Add)),
-    spelling!(b"-", Sign::Minus),
-    spelling!(b"*", Sign::Between(Between::Mul)),
-    spelling!(b"**", Sign::Between(Between::Pow)),
-    spelling!(b"<", Sign::Between(Between::Lt)),
-    spelling!(b"<=", Sign::Between(Between::Le)),
-    spelling!(b">", Sign::Between(Between::Gt)),
-    spelling!(b">=", Sign::Between(Between::Ge)),
-    spelling!(b"::", Sign::Between(Between::Cons)),
-    spelling!(b"<>", Sign::Between(Between::Append)),
-    spelling!(b"^", Sign::Between(Between::Join)),
-];
-
-const RESERVED_WORDS: [Spelling; 49] = [
-    spelling!(b"where", Sign::Where),
-    spelling!(b"end", Sign::End),
-    spelling!(b"is", Sign::Is),
-    spelling!(b"current", Sign::Current),
-    spelling!(b"if", Sign::If),
-    spelling!(b"then", Sign::Then),
-    spelling!(b"else", Sign::Else),
-    spelling!(b"fi", Sign::Fi),
-    spelling!(b"first", Sign::Before(Before::First)),
-    spelling!(b"next", Sign::Before(Before::Next)),
-    spelling!(b"fby", Sign::Between(Between::Fby)),
-    spelling!(b"whenever", Sign::Between(Between::Whenever)),
-    spelling!(b"wvr", Sign::Between(Between::Whenever)),
-    spelling!(b"asa", Sign::Between(Between::Asa)),
-    spelling!(b"upon", Sign::Between(Between::Upon)),
-    spelling!(b"attime", Sign::Between(Between::Attime)),
-    spelling!(b"and", Sign::Between(Between::And)),
-    spelling!(b"or", Sign::Between(Between::Or)),
-    spelling!(b"not", Sign::Before(Before::Not)),
-    spelling!(b"true", Sign::Const(FixedValue::True)),
-    spelling!(b"false", Sign::Const(FixedValue::False)),
-    spelling!(b"eod", Sign::Const(FixedValue::Eod)),
-    spelling!(b"error", Sign::Const(FixedValue::Error)),
-    spelling!(b"div", Sign::Between(Between::Div)),
-    spelling!(b"mod", Sign::Between(Between::Mod)),
-    spelling!(b"eq", Sign::Between(Between::Eq)),
-    spelling!(b"ne", Sign::Between(Between::Ne)),
-    spelling!(b"hd", Sign::Before(Before::Head)),
-    spelling!(b"tl", Sign::Before(Before::Tail)),
-    spelling!(b"length", Sign::Before(Before::Length)),
-    spelling!(b"substr", Sign::Called(Called::Substr)),
-    spelling!(b"nth", Sign::Called(Called::Nth)),
-    spelling!(b"mkword", Sign::Before(Before::MakeWord)),
-    spelling!(b"mkstring", Sign::Before(Before::MakeString)),
-    spelling!(b"isint", Sign::Before(Before::IsInt)),
-    spelling!(b"isword", Sign::Before(Before::IsWord)),
-    spelling!(b"isstring", Sign::Before(Before::IsString)),
-    spelling!(b"islist", Sign::Before(Before::IsList)),
-    spelling!(b"istruth", Sign::Before(Before::IsTruth)),
-    spelling!(b"isnull", Sign::Before(Before::IsNull)),
-    spelling!(b"isatom", Sign::Before(Before::IsAtom)),
-    spelling!(b"iseod", Sign::Before(Before::IsEod)),
-    spelling!(b"iserror", Sign::Before(Before::IsError)),
-    spelling!(b"abs", Sign::Before(Before::Abs)),
-    spelling!(b"cmp", Sign::Between(Between::Cmp)),
-    spelling!(b"initial", Sign::Before(Before::Initial)),
-    spelling!(b"succ", Sign::Before(Before::Succ)),
-    spelling!(b"sby", Sign::Between(Between::Sby)),
-    spelling!(b"atspace", Sign::Between(Between::Atspace)),
+// The marks and the reserved words that stand for no data operator, but `-`, which stands for two, and those of called ones.
+const FORMS: [Spelling; 35] = [
+    spelling!(b"(", Terminal::Open),
+    spelling!(b")", Terminal::Close),
+    spelling!(b",", Terminal::Comma),
+    spelling!(b";", Terminal::Semicolon),
+    spelling!(b"=", Terminal::Equals),
+    spelling!(b"[]", Terminal::Const(FixedValue::EmptyList)),
+    spelling!(b"-", Terminal::Minus),
+    spelling!(b"where", Terminal::Where),
+    spelling!(b"end", Terminal::End),
+    spelling!(b"is", Terminal::Is),
+    spelling!(b"current", Terminal::Current),
+    spelling!(b"if", Terminal::If),
+    spelling!(b"then", Terminal::Then),
+    spelling!(b"else", Terminal::Else),
+    spelling!(b"fi", Terminal::Fi),
+    spelling!(b"first", Terminal::Prefix(Prefix::First)),
+    spelling!(b"next", Terminal::Prefix(Prefix::Next)),
+    spelling!(b"fby", Terminal::Infix(Infix::Fby)),
+    spelling!(b"whenever", Terminal::Infix(Infix::Whenever)),
+    spelling!(b"wvr", Terminal::Infix(Infix::Whenever)),
+    spelling!(b"asa", Terminal::Infix(Infix::Asa)),
+    spelling!(b"upon", Terminal::Infix(Infix::Upon)),
+    spelling!(b"attime", Terminal::Infix(Infix::Attime)),
+    spelling!(b"and", Terminal::Infix(Infix::And)),
+    spelling!(b"or", Terminal::Infix(Infix::Or)),
+    spelling!(b"true", Terminal::Const(FixedValue::True)),
+    spelling!(b"false", Terminal::Const(FixedValue::False)),
+    spelling!(b"eod", Terminal::Const(FixedValue::Eod)),
+    spelling!(b"error", Terminal::Const(FixedValue::Error)),
+    spelling!(b"substr", Terminal::Called(Called::Substr)),
+    spelling!(b"nth", Terminal::Called(Called::Nth)),
+    spelling!(b"initial", Terminal::Prefix(Prefix::Initial)),
+    spelling!(b"succ", Terminal::Prefix(Prefix::Succ)),
+    spelling!(b"sby", Terminal::Infix(Infix::Sby)),
+    spelling!(b"atspace", Terminal::Infix(Infix::Atspace)),
 ];
 
 impl FixedValue {
@@ -126,51 +94,65 @@ impl FixedValue {
     }
 }
 
-// The sign of the first spelling with these bytes.
+// The terminal of the first spelling with these bytes.
 #[tactic(auto, using(crate::proofs::Spellings::found_here, crate::proofs::Spellings::not_here))]
-fn sign_among(bytes: &[u8], spellings: &[Spelling]) -> Option<FixedSign>
-    ensures { option_map fixed_plain result ≡ sign_in bytes.now (map pair_of spellings.now) }
+fn terminal_among(bytes: &[u8], spellings: &[Spelling]) -> Option<FixedTerminal>
+    ensures { option_map fixed_plain result ≡ terminal_in bytes.now (map pair_of spellings.now) }
 {
     for spelling in spellings {
         if bytes == spelling.bytes {
-            return Some(spelling.sign);
+            return Some(spelling.terminal);
         }
     }
     None
 }
 
-/// The sign of a mark or of a reserved word.
-pub fn fixed_sign(bytes: &[u8]) -> Option<FixedSign>
-    ensures { option_map fixed_plain result ≡ fixed_sign bytes.now }
+// The terminal of a data operator that the bytes spell between its operands, or before its operand.
+fn operator_terminal(bytes: &[u8]) -> Option<FixedTerminal>
+    ensures { option_map fixed_plain result ≡ operator_terminal bytes.now }
 {
-    match sign_among(bytes, &MARKS) {
-        Some(sign) => Some(sign),
-        None => sign_among(bytes, &RESERVED_WORDS),
+    if let Some(op) = Op::find(Form::Between, bytes) {
+        return Some(Terminal::Infix(Infix::Operator(op)));
+    }
+    match Op::find(Form::Before, bytes) {
+        Some(op) => Some(Terminal::Prefix(Prefix::Operator(op))),
+        None => None,
     }
 }
 
-/// The sign, with its value if it is a constant's.
-pub fn with_value(alloc: Global, sign: FixedSign) -> Sign<Name, Value>
-    ensures { plain_sign result ≡ fixed_plain sign }
+/// The terminal of a mark or of a reserved word.
+
+pub fn fixed_terminal(bytes: &[u8]) -> Option<FixedTerminal>
+    ensures { option_map fixed_plain result ≡ fixed_terminal bytes.now }
 {
-    match sign {
-        Sign::Const(value) => Sign::Const(value.value(alloc)),
-        Sign::Between(b) => Sign::Between(b),
-        Sign::Before(u) => Sign::Before(u),
-        Sign::Called(c) => Sign::Called(c),
-        Sign::Minus => Sign::Minus,
-        Sign::Is => Sign::Is,
-        Sign::Current => Sign::Current,
-        Sign::Where => Sign::Where,
-        Sign::End => Sign::End,
-        Sign::If => Sign::If,
-        Sign::Then => Sign::Then,
-        Sign::Else => Sign::Else,
-        Sign::Fi => Sign::Fi,
-        Sign::Open => Sign::Open,
-        Sign::Close => Sign::Close,
-        Sign::Comma => Sign::Comma,
-        Sign::Semicolon => Sign::Semicolon,
-        Sign::Equals => Sign::Equals,
+    match terminal_among(bytes, &FORMS) {
+        Some(terminal) => Some(terminal),
+        None => operator_terminal(bytes),
+    }
+}
+
+/// The terminal, with its value if it is a constant's.
+pub fn with_value(alloc: Global, terminal: FixedTerminal) -> Terminal<Name, Value>
+    ensures { plain_terminal result ≡ fixed_plain terminal }
+{
+    match terminal {
+        Terminal::Const(value) => Terminal::Const(value.value(alloc)),
+        Terminal::Infix(operator) => Terminal::Infix(operator),
+        Terminal::Prefix(operator) => Terminal::Prefix(operator),
+        Terminal::Called(called) => Terminal::Called(called),
+        Terminal::Minus => Terminal::Minus,
+        Terminal::Is => Terminal::Is,
+        Terminal::Current => Terminal::Current,
+        Terminal::Where => Terminal::Where,
+        Terminal::End => Terminal::End,
+        Terminal::If => Terminal::If,
+        Terminal::Then => Terminal::Then,
+        Terminal::Else => Terminal::Else,
+        Terminal::Fi => Terminal::Fi,
+        Terminal::Open => Terminal::Open,
+        Terminal::Close => Terminal::Close,
+        Terminal::Comma => Terminal::Comma,
+        Terminal::Semicolon => Terminal::Semicolon,
+        Terminal::Equals => Terminal::Equals,
     }
 }

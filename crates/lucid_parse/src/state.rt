@@ -1,6 +1,6 @@
 //! What the parser keeps while it reads. `N` is what it holds of a name, and `V` of a constant's value.
 
-use crate::sign::{Before, Between, Called};
+use crate::terminal::{Called, Infix, Prefix};
 use lucid_value::{Name, Value};
 
 /// What a definition defines its name as.
@@ -11,85 +11,153 @@ pub enum Defines {
     Current,
 }
 
-/// What is open round the operand that is read. The last number is the least level that the place of the whole form allows.
+/// What is open round the operand that is read. `at` is the place of a form, and `allowed` the least level that the place of the
+/// whole form allows.
 #[derive(Clone, Copy)]
 pub enum Frame<N> {
-    /// An operator and its place: its left operand is written, and the right one is read.
-    Left(Between, u32, u8),
-    /// An operator and its place: its operand is read.
-    Before(Before, u32, u8),
+    /// An operator whose left operand is written, and whose right one is read.
+    Infix {
+        operator: Infix,
+        at: u32,
+        allowed: u8,
+    },
+    /// An operator whose operand is read.
+    Prefix {
+        operator: Prefix,
+        at: u32,
+        allowed: u8,
+    },
     /// A parenthesis.
-    Open(u8),
-    /// The place of an `if` whose condition is read.
-    Test(u32, u8),
-    /// The same for what stands between its `then` and its `else`.
-    Yes(u32, u8),
-    /// The same for what stands behind its `else`.
-    No(u32, u8),
-    /// A call, with its place and its name: the arguments before this one are written.
-    Args(u32, N, u8),
-    /// A called operator with its place, and the number of arguments behind this one.
-    Parts(Called, u32, u8, u8),
-    /// The place of a block, and of a definition of it what it defines, its place and its name: the right side is read.
-    Right(u32, Defines, u32, N),
+    Parenthesis {
+        allowed: u8,
+    },
+    /// An `if` whose condition is read.
+    Test {
+        at: u32,
+        allowed: u8,
+    },
+    /// An `if` where what stands between its `then` and its `else` is read.
+    Yes {
+        at: u32,
+        allowed: u8,
+    },
+    /// An `if` where what stands behind its `else` is read.
+    No {
+        at: u32,
+        allowed: u8,
+    },
+    /// A call whose arguments before this one are written.
+    Arguments {
+        at: u32,
+        name: N,
+        allowed: u8,
+    },
+    /// A called operator, with the number of operands behind this one.
+    Operands {
+        called: Called,
+        at: u32,
+        more: u8,
+        allowed: u8,
+    },
+    /// The right side of a definition in the block at `block`: what it defines, its place and its name.
+    RightSide {
+        block: u32,
+        defines: Defines,
+        at: u32,
+        name: N,
+    },
 }
 
-/// What comes next.
+/// What comes next. `at` is the place of a form or a definition, `allowed` the least level that the place of the form allows, and
+/// `block` the place of a block.
 #[derive(Clone, Copy)]
 pub enum Focus<N> {
     /// An operand of this level or a tighter one.
-    Await(u8),
-    /// What follows a name, of which these are the place, the name and the least level that the place allows.
-    Named(u32, N, u8),
-    /// The parenthesis of a called operator at this place, which allows this level.
-    Opens(Called, u32, u8),
-    /// What follows an operand of the first level, in a place that allows the second.
-    Have(u8, u8),
-    /// A definition or the end of the block at this place.
-    Heads(u32),
-    /// In the block at this place, what follows the name of a definition, of which these are the place and the name.
-    Headed(u32, u32, N),
+    Await {
+        allowed: u8,
+    },
+    /// What follows a name.
+    Named {
+        at: u32,
+        name: N,
+        allowed: u8,
+    },
+    /// The parenthesis of a called operator.
+    Opens {
+        called: Called,
+        at: u32,
+        allowed: u8,
+    },
+    /// What follows an operand of this level.
+    Have {
+        level: u8,
+        allowed: u8,
+    },
+    /// A definition or the end of the block.
+    Heads {
+        block: u32,
+    },
+    /// What follows the name of a definition.
+    Headed {
+        block: u32,
+        at: u32,
+        name: N,
+    },
     /// The same behind `is`.
-    Frozen(u32, u32, N),
+    Frozen {
+        block: u32,
+        at: u32,
+        name: N,
+    },
     /// The next parameter of the definition.
-    Names(u32, u32, N),
+    Names {
+        block: u32,
+        at: u32,
+        name: N,
+    },
     /// A comma or the end of its parameters.
-    Listed(u32, u32, N),
+    Listed {
+        block: u32,
+        at: u32,
+        name: N,
+    },
     /// The equals sign behind its parameters.
-    Ready(u32, u32, N),
+    Ready {
+        block: u32,
+        at: u32,
+        name: N,
+    },
 }
 
-/// A node of the tree that is read. Nodes are written behind their parts.
+/// A node of the tree that is read, with its place. Nodes are written behind their parts.
 #[derive(Clone, Copy)]
 pub enum Item<N, V> {
-    /// A constant, with its place.
-    Const(u32, V),
-    /// A name, with its place.
-    Name(u32, N),
-    /// An operator between, of the two trees before it, with its place.
-    Between(Between, u32),
-    /// An operator before, of the tree before it, with its place.
-    Before(Before, u32),
-    /// A called operator, of as many trees before it as it has arguments, with its place.
-    Operated(Called, u32),
-    /// An `if` of the three trees before it, with its place.
-    If(u32),
+    Const { at: u32, value: V },
+    Name { at: u32, name: N },
+    /// An operator of the two trees before it.
+    Infix { operator: Infix, at: u32 },
+    /// An operator of the tree before it.
+    Prefix { operator: Prefix, at: u32 },
+    /// A called operator, of as many trees before it as it has arguments.
+    Called { called: Called, at: u32 },
+    /// An `if` of the three trees before it.
+    If { at: u32 },
     /// An empty list of arguments.
     NoTrees,
     /// The tree before it goes to the end of the list of arguments before that.
     More,
-    /// A call of the list of arguments before it, with its place and its name.
-    Call(u32, N),
+    /// A call of the list of arguments before it.
+    Call { at: u32, name: N },
     /// An empty list of parameters.
     NoNames,
-    /// A parameter with its place and its name, which goes to the end of the list before it.
-    Param(u32, N),
+    /// A parameter, which goes to the end of the list before it.
+    Param { at: u32, name: N },
     /// An empty list of definitions.
     NoDefs,
-    /// A definition with its place and its name, which goes to the end of the list before it; its right side is the tree before it.
-    Def(Defines, u32, N),
-    /// A block of the tree and of the list of definitions before it, with its place.
-    Block(u32),
+    /// A definition, which goes to the end of the list before it; its right side is the tree before it.
+    Def { defines: Defines, at: u32, name: N },
+    /// A block of the tree and of the list of definitions before it.
+    Block { at: u32 },
 }
 
 /// A node that borrows its name or its value.

@@ -1,5 +1,5 @@
--- Signs whose text is read as they are, before every byte that may come behind it.
-use Rattle.std.proofs.Common.{◌≡◌, ℕ, zero, suc, ◌^◌, ◌<◌, ◌≤◌, List, [], ◌∷◌, ◌++◌, length, take, Some, Bool, true, false, not, cond, ◌&&◌, ◌||◌, eqb, inl, inr, refl, sym, ◌∙◌, ap, subst, arith, rules}
+-- Terminals whose text is read as they are, before every byte that may come behind it.
+use Rattle.std.proofs.Common.{◌≡◌, ℕ, zero, suc, ◌^◌, ◌<◌, ◌≤◌, List, [], ◌∷◌, ◌++◌, length, take, Some, Bool, true, false, not, cond, ◌&&◌, ◌||◌, eqb, inl, inr, refl, sym, ◌∙◌, ap, subst, arith, rules, Option, None}
 use Rattle.std.specs.Prelude.{pos, neg_ℤ}
 use Rattle.std.specs.Fmt.{decimal}
 use Rattle.std.specs.List.{list_all}
@@ -16,18 +16,23 @@ use Rattle.lucid_scan.specs.declared.token.TokenKind.{TokenKind}
 use Rattle.lucid_scan.specs.declared.token.TokenKind.TheVariants as kind
 use Rattle.lucid_scan.specs.Texts.{is_mark, is_word_value, is_text_value, IsTokenText}
 use Rattle.lucid_scan.specs.Laws.{Stops}
-use Rattle.lucid_parse.specs.declared.sign.Between.{Between}
-use Rattle.lucid_parse.specs.declared.sign.Between.TheVariants as between
-use Rattle.lucid_parse.specs.declared.sign.Before.{Before}
-use Rattle.lucid_parse.specs.declared.sign.Before.TheVariants as before
-use Rattle.lucid_parse.specs.declared.sign.Called.{Called}
-use Rattle.lucid_parse.specs.declared.sign.Called.TheVariants as called
-use Rattle.lucid_parse.specs.declared.sign.Sign.TheVariants as sign
-use Rattle.lucid_parse.specs.Grammar.{PlainSign}
-use Rattle.lucid_parse.specs.Words.{StandsFor, sign_in, fixed_sign, mark_signs, word_signs}
-use Rattle.lucid_print.proofs.Signs.{sign_of, sign_before, sign_text, is_open}
+use Rattle.lucid_parse.specs.declared.terminal.Infix.{Infix}
+use Rattle.lucid_parse.specs.declared.terminal.Infix.TheVariants as infixes
+use Rattle.lucid_parse.specs.declared.terminal.Prefix.{Prefix}
+use Rattle.lucid_parse.specs.declared.terminal.Prefix.TheVariants as prefixes
+use Rattle.lucid_parse.specs.declared.terminal.Called.{Called}
+use Rattle.lucid_parse.specs.declared.terminal.Called.TheVariants as called
+use Rattle.lucid_parse.specs.declared.terminal.Terminal.TheVariants as terminal
+use Rattle.std.specs.Option.{option_or, option_map}
+use Rattle.lucid_ops.specs.declared.op.Op.{Op}
+use Rattle.lucid_ops.specs.declared.op.Op.TheVariants as op
+use Rattle.lucid_ops.specs.declared.op.Form.TheVariants as shape
+use Rattle.lucid_ops.specs.Rows.{operator_of}
+use Rattle.lucid_parse.specs.Grammar.{PlainTerminal, infix_as_written, prefix_as_written}
+use Rattle.lucid_parse.specs.Terminals.{StandsFor, terminal_in, operator_terminal, fixed_terminal, form_terminals}
+use Rattle.lucid_print.proofs.Terminals.{terminal_of, terminal_before, terminal_text, is_open}
 
--- the bytes that may come behind a sign's text
+-- the bytes that may come behind a terminal's text
 abbrev pub stoppers : List ℕ
 stoppers = 10 ∷ 32 ∷ 40 ∷ 41 ∷ 44 ∷ 59 ∷ []
 
@@ -45,18 +50,18 @@ among_every p (c ∷ cs) b h k =
     let two = and_parts (p c) (every p cs) h in
     elim (or_cases (eqb b c) (among b cs) k) [ inl e ↦ ap p (eqb-true b c e) ∙ two.0 | inr r ↦ among_every p cs b two.1 r ]
 
--- The sign's text is a token that stands for it and that no byte behind it makes longer.
-pub record Good (s : PlainSign) : Type 0 where
+-- The terminal's text is a token that stands for it and that no byte behind it makes longer.
+pub record Good (s : PlainTerminal) : Type 0 where
   pub kind : TokenKind
-  pub stands : StandsFor kind (sign_text s) s
-  pub token : (b : ℕ) (after : List ℕ) → (is_open s || among b stoppers) ≡ true → IsTokenText kind (sign_text s) (b ∷ after)
-  pub stops : (b : ℕ) (after : List ℕ) → (is_open s || among b stoppers) ≡ true → Stops kind (sign_text s) (b ∷ after)
+  pub stands : StandsFor kind (terminal_text s) s
+  pub token : (b : ℕ) (after : List ℕ) → (is_open s || among b stoppers) ≡ true → IsTokenText kind (terminal_text s) (b ∷ after)
+  pub stops : (b : ℕ) (after : List ℕ) → (is_open s || among b stoppers) ≡ true → Stops kind (terminal_text s) (b ∷ after)
 
-abbrev pub AllGood : List PlainSign → Type 0
+abbrev pub AllGood : List PlainTerminal → Type 0
 AllGood [] = Unit {0}
 AllGood (s ∷ ss) = Good s × AllGood ss
 
-pub good_append : (a b : List PlainSign) → AllGood a → AllGood b → AllGood (a ++ b)
+pub good_append : (a b : List PlainTerminal) → AllGood a → AllGood b → AllGood (a ++ b)
 good_append [] b h k = k
 good_append (s ∷ a) b h k = (h.0, good_append a b h.1 k)
 
@@ -79,21 +84,21 @@ or_left true b h = refl
 or_left false b h = cc
 
 -- a reserved word
-reserved_good : (s : PlainSign) → fixed_sign (sign_text s) ≡ Some s → is_reserved (sign_text s) ≡ true → is_open s ≡ false → Good s
+reserved_good : (s : PlainTerminal) → fixed_terminal (terminal_text s) ≡ Some s → is_reserved (terminal_text s) ≡ true → is_open s ≡ false → Good s
 reserved_good s e r o = record {
   kind = kind.Fixed;
   stands = e;
-  token = λ b after h. or_right (is_mark (sign_text s)) (is_reserved (sign_text s)) r;
+  token = λ b after h. or_right (is_mark (terminal_text s)) (is_reserved (terminal_text s)) r;
   stops = λ b after h. inl (r, stop_name b (false_or (is_open s) (among b stoppers) o h));
 }
 
 -- a mark of one byte, and of two
-one_good : (s : PlainSign) (m : ℕ) → sign_text s ≡ m ∷ [] → fixed_sign (sign_text s) ≡ Some s → is_mark (sign_text s) ≡ true
+one_good : (s : PlainTerminal) (m : ℕ) → terminal_text s ≡ m ∷ [] → fixed_terminal (terminal_text s) ≡ Some s → is_mark (terminal_text s) ≡ true
     → every (λ b. not (is_mark (m ∷ b ∷ []))) stoppers ≡ true → is_open s ≡ false → Good s
 one_good s m t e k stop o = record {
   kind = kind.Fixed;
   stands = e;
-  token = λ b after h. or_left (is_mark (sign_text s)) (is_reserved (sign_text s)) k;
+  token = λ b after h. or_left (is_mark (terminal_text s)) (is_reserved (terminal_text s)) k;
   stops = λ b after h. inr (
     k,
     λ long.
@@ -103,114 +108,137 @@ one_good s m t e k stop o = record {
   );
 }
 
-two_good : (s : PlainSign) → length (sign_text s) ≡ 2 → fixed_sign (sign_text s) ≡ Some s → is_mark (sign_text s) ≡ true → Good s
+two_good : (s : PlainTerminal) → length (terminal_text s) ≡ 2 → fixed_terminal (terminal_text s) ≡ Some s → is_mark (terminal_text s) ≡ true → Good s
 two_good s n e k = record {
   kind = kind.Fixed;
   stands = e;
-  token = λ b after h. or_left (is_mark (sign_text s)) (is_reserved (sign_text s)) k;
+  token = λ b after h. or_left (is_mark (terminal_text s)) (is_reserved (terminal_text s)) k;
   stops = λ b after h. inr (k, λ long. n);
 }
 
-pub open_good : Good sign.Open
-unfolding mark_signs word_signs reserved_words
+pub open_good : Good terminal.Open
+unfolding form_terminals reserved_words
 open_good = record { kind = kind.Fixed; stands = refl; token = λ b after h. refl; stops = λ b after h. inr (refl, λ long. cc) }
 
-pub close_good : Good sign.Close
-unfolding mark_signs word_signs reserved_words
-close_good = one_good sign.Close 41 refl refl refl refl refl
+pub close_good : Good terminal.Close
+unfolding form_terminals reserved_words
+close_good = one_good terminal.Close 41 refl refl refl refl refl
 
-pub comma_good : Good sign.Comma
-unfolding mark_signs word_signs reserved_words
-comma_good = one_good sign.Comma 44 refl refl refl refl refl
+pub comma_good : Good terminal.Comma
+unfolding form_terminals reserved_words
+comma_good = one_good terminal.Comma 44 refl refl refl refl refl
 
-pub semicolon_good : Good sign.Semicolon
-unfolding mark_signs word_signs reserved_words
-semicolon_good = one_good sign.Semicolon 59 refl refl refl refl refl
+pub semicolon_good : Good terminal.Semicolon
+unfolding form_terminals reserved_words
+semicolon_good = one_good terminal.Semicolon 59 refl refl refl refl refl
 
-pub equals_good : Good sign.Equals
-unfolding mark_signs word_signs reserved_words
-equals_good = one_good sign.Equals 61 refl refl refl refl refl
+pub equals_good : Good terminal.Equals
+unfolding form_terminals reserved_words
+equals_good = one_good terminal.Equals 61 refl refl refl refl refl
 
-pub minus_good : Good sign.Minus
-unfolding mark_signs word_signs reserved_words
-minus_good = one_good sign.Minus 45 refl refl refl refl refl
+pub minus_good : Good terminal.Minus
+unfolding form_terminals reserved_words
+minus_good = one_good terminal.Minus 45 refl refl refl refl refl
 
-pub is_good : Good sign.Is
-unfolding mark_signs word_signs reserved_words
-is_good = reserved_good sign.Is refl refl refl
+pub is_good : Good terminal.Is
+unfolding form_terminals reserved_words
+is_good = reserved_good terminal.Is refl refl refl
 
-pub current_good : Good sign.Current
-unfolding mark_signs word_signs reserved_words
-current_good = reserved_good sign.Current refl refl refl
+pub current_good : Good terminal.Current
+unfolding form_terminals reserved_words
+current_good = reserved_good terminal.Current refl refl refl
 
-pub where_good : Good sign.Where
-unfolding mark_signs word_signs reserved_words
-where_good = reserved_good sign.Where refl refl refl
+pub where_good : Good terminal.Where
+unfolding form_terminals reserved_words
+where_good = reserved_good terminal.Where refl refl refl
 
-pub end_good : Good sign.End
-unfolding mark_signs word_signs reserved_words
-end_good = reserved_good sign.End refl refl refl
+pub end_good : Good terminal.End
+unfolding form_terminals reserved_words
+end_good = reserved_good terminal.End refl refl refl
 
-pub if_good : Good sign.If
-unfolding mark_signs word_signs reserved_words
-if_good = reserved_good sign.If refl refl refl
+pub if_good : Good terminal.If
+unfolding form_terminals reserved_words
+if_good = reserved_good terminal.If refl refl refl
 
-pub then_good : Good sign.Then
-unfolding mark_signs word_signs reserved_words
-then_good = reserved_good sign.Then refl refl refl
+pub then_good : Good terminal.Then
+unfolding form_terminals reserved_words
+then_good = reserved_good terminal.Then refl refl refl
 
-pub else_good : Good sign.Else
-unfolding mark_signs word_signs reserved_words
-else_good = reserved_good sign.Else refl refl refl
+pub else_good : Good terminal.Else
+unfolding form_terminals reserved_words
+else_good = reserved_good terminal.Else refl refl refl
 
-pub fi_good : Good sign.Fi
-unfolding mark_signs word_signs reserved_words
-fi_good = reserved_good sign.Fi refl refl refl
+pub fi_good : Good terminal.Fi
+unfolding form_terminals reserved_words
+fi_good = reserved_good terminal.Fi refl refl refl
 
-pub between_good : (b : Between) → Good (sign_of b)
-unfolding mark_signs word_signs reserved_words
-between_good between.Sub = minus_good
-between_good between.Add = one_good (sign.Between between.Add) 43 refl refl refl refl refl
-between_good between.Mul = one_good (sign.Between between.Mul) 42 refl refl refl refl refl
-between_good between.Lt = one_good (sign.Between between.Lt) 60 refl refl refl refl refl
-between_good between.Gt = one_good (sign.Between between.Gt) 62 refl refl refl refl refl
-between_good between.Join = one_good (sign.Between between.Join) 94 refl refl refl refl refl
-between_good between.Le = two_good (sign.Between between.Le) refl refl refl
-between_good between.Ge = two_good (sign.Between between.Ge) refl refl refl
-between_good between.Pow = two_good (sign.Between between.Pow) refl refl refl
-between_good between.Cons = two_good (sign.Between between.Cons) refl refl refl
-between_good between.Append = two_good (sign.Between between.Append) refl refl refl
-between_good b = reserved_good (sign.Between b) refl refl refl
+pub between_good : (b : Infix) → infix_as_written b ≡ Some b → Good (terminal_of b)
+unfolding form_terminals reserved_words
+between_good (infixes.Operator op.Sub) w = minus_good
+between_good (infixes.Operator op.Add) w = one_good (terminal.Infix (infixes.Operator op.Add)) 43 refl refl refl refl refl
+between_good (infixes.Operator op.Mul) w = one_good (terminal.Infix (infixes.Operator op.Mul)) 42 refl refl refl refl refl
+between_good (infixes.Operator op.Lt) w = one_good (terminal.Infix (infixes.Operator op.Lt)) 60 refl refl refl refl refl
+between_good (infixes.Operator op.Gt) w = one_good (terminal.Infix (infixes.Operator op.Gt)) 62 refl refl refl refl refl
+between_good (infixes.Operator op.Join) w = one_good (terminal.Infix (infixes.Operator op.Join)) 94 refl refl refl refl refl
+between_good (infixes.Operator op.Le) w = two_good (terminal.Infix (infixes.Operator op.Le)) refl refl refl
+between_good (infixes.Operator op.Ge) w = two_good (terminal.Infix (infixes.Operator op.Ge)) refl refl refl
+between_good (infixes.Operator op.Pow) w = two_good (terminal.Infix (infixes.Operator op.Pow)) refl refl refl
+between_good (infixes.Operator op.Cons) w = two_good (terminal.Infix (infixes.Operator op.Cons)) refl refl refl
+between_good (infixes.Operator op.Append) w = two_good (terminal.Infix (infixes.Operator op.Append)) refl refl refl
+between_good (infixes.Operator op.Div) w = reserved_good (terminal.Infix (infixes.Operator op.Div)) refl refl refl
+between_good (infixes.Operator op.Mod) w = reserved_good (terminal.Infix (infixes.Operator op.Mod)) refl refl refl
+between_good (infixes.Operator op.Eq) w = reserved_good (terminal.Infix (infixes.Operator op.Eq)) refl refl refl
+between_good (infixes.Operator op.Ne) w = reserved_good (terminal.Infix (infixes.Operator op.Ne)) refl refl refl
+between_good (infixes.Operator op.Cmp) w = reserved_good (terminal.Infix (infixes.Operator op.Cmp)) refl refl refl
+between_good (infixes.Operator _) w = cc
+between_good b w = reserved_good (terminal.Infix b) refl refl refl
 
-pub before_good : (u : Before) → Good (sign_before u)
-unfolding mark_signs word_signs reserved_words
-before_good before.Neg = minus_good
-before_good u = reserved_good (sign.Before u) refl refl refl
+pub before_good : (u : Prefix) → prefix_as_written u ≡ Some u → Good (terminal_before u)
+unfolding form_terminals reserved_words
+before_good (prefixes.Operator op.Neg) w = minus_good
+before_good (prefixes.Operator op.Abs) w = reserved_good (terminal.Prefix (prefixes.Operator op.Abs)) refl refl refl
+before_good (prefixes.Operator op.Head) w = reserved_good (terminal.Prefix (prefixes.Operator op.Head)) refl refl refl
+before_good (prefixes.Operator op.IsAtom) w = reserved_good (terminal.Prefix (prefixes.Operator op.IsAtom)) refl refl refl
+before_good (prefixes.Operator op.IsEod) w = reserved_good (terminal.Prefix (prefixes.Operator op.IsEod)) refl refl refl
+before_good (prefixes.Operator op.IsError) w = reserved_good (terminal.Prefix (prefixes.Operator op.IsError)) refl refl refl
+before_good (prefixes.Operator op.IsInt) w = reserved_good (terminal.Prefix (prefixes.Operator op.IsInt)) refl refl refl
+before_good (prefixes.Operator op.IsList) w = reserved_good (terminal.Prefix (prefixes.Operator op.IsList)) refl refl refl
+before_good (prefixes.Operator op.IsNull) w = reserved_good (terminal.Prefix (prefixes.Operator op.IsNull)) refl refl refl
+before_good (prefixes.Operator op.IsString) w = reserved_good (terminal.Prefix (prefixes.Operator op.IsString)) refl refl refl
+before_good (prefixes.Operator op.IsTruth) w = reserved_good (terminal.Prefix (prefixes.Operator op.IsTruth)) refl refl refl
+before_good (prefixes.Operator op.IsWord) w = reserved_good (terminal.Prefix (prefixes.Operator op.IsWord)) refl refl refl
+before_good (prefixes.Operator op.Length) w = reserved_good (terminal.Prefix (prefixes.Operator op.Length)) refl refl refl
+before_good (prefixes.Operator op.MakeString) w = reserved_good (terminal.Prefix (prefixes.Operator op.MakeString)) refl refl refl
+before_good (prefixes.Operator op.MakeWord) w = reserved_good (terminal.Prefix (prefixes.Operator op.MakeWord)) refl refl refl
+before_good (prefixes.Operator op.Not) w = reserved_good (terminal.Prefix (prefixes.Operator op.Not)) refl refl refl
+before_good (prefixes.Operator op.Tail) w = reserved_good (terminal.Prefix (prefixes.Operator op.Tail)) refl refl refl
+before_good (prefixes.Operator _) w = cc
+before_good u w = reserved_good (terminal.Prefix u) refl refl refl
 
-pub called_good : (c : Called) → Good (sign.Called c)
-unfolding mark_signs word_signs reserved_words
-called_good called.Substr = reserved_good (sign.Called called.Substr) refl refl refl
-called_good called.Nth = reserved_good (sign.Called called.Nth) refl refl refl
+pub called_good : (c : Called) → Good (terminal.Called c)
+unfolding form_terminals reserved_words
+called_good called.Substr = reserved_good (terminal.Called called.Substr) refl refl refl
+called_good called.Nth = reserved_good (terminal.Called called.Nth) refl refl refl
 
-truth_good : (b : Bool) → Good (sign.Const (truth b))
-unfolding mark_signs word_signs reserved_words
-truth_good true = reserved_good (sign.Const (truth true)) refl refl refl
-truth_good false = reserved_good (sign.Const (truth false)) refl refl refl
+truth_good : (b : Bool) → Good (terminal.Const (truth b))
+unfolding form_terminals reserved_words
+truth_good true = reserved_good (terminal.Const (truth true)) refl refl refl
+truth_good false = reserved_good (terminal.Const (truth false)) refl refl refl
 
-eod_good : Good (sign.Const eod)
-unfolding mark_signs word_signs reserved_words
-eod_good = reserved_good (sign.Const eod) refl refl refl
+eod_good : Good (terminal.Const eod)
+unfolding form_terminals reserved_words
+eod_good = reserved_good (terminal.Const eod) refl refl refl
 
-fault_good : Good (sign.Const fault)
-unfolding mark_signs word_signs reserved_words
-fault_good = reserved_good (sign.Const fault) refl refl refl
+fault_good : Good (terminal.Const fault)
+unfolding form_terminals reserved_words
+fault_good = reserved_good (terminal.Const fault) refl refl refl
 
-empty_good : Good (sign.Const (list no_items))
-unfolding mark_signs word_signs reserved_words
-empty_good = two_good (sign.Const (list no_items)) refl refl refl
+empty_good : Good (terminal.Const (list no_items))
+unfolding form_terminals reserved_words
+empty_good = two_good (terminal.Const (list no_items)) refl refl refl
 
 -- a name
-pub name_good : (n : List ℕ) → is_name n ≡ true → Good (sign.Name n)
+pub name_good : (n : List ℕ) → is_name n ≡ true → Good (terminal.Name n)
 name_good n h = record { kind = kind.Name; stands = refl; token = λ b after k. h; stops = λ b after k. stop_name b k }
 
 -- decimal digits and their number are what std reads
@@ -237,19 +265,19 @@ value : (n : ℕ) → n < 2 ^ 127 → number_of (decimal n) ≡ n
 value n h = let k = decimal_is_IsNumeral_wide n (omega arith) in numerals.same (decimal n) k.0.1 ∙ k.1
 
 -- a number
-number_good : (n : ℕ) → n < 2 ^ 127 → Good (sign.Const (int (pos n)))
+number_good : (n : ℕ) → n < 2 ^ 127 → Good (terminal.Const (int (pos n)))
 number_good n h = record {
   kind = kind.Int;
-  stands = ap (λ m. sign.Const (int (pos m))) (sym (value n h));
+  stands = ap (λ m. terminal.Const (int (pos m))) (sym (value n h));
   token = λ b after k. (digits n h, stop_digit b k, subst (λ m. m < 2 ^ 127) (sym (value n h)) h);
   stops = λ b after k. tt;
 }
 
 -- a word, and a string
-word_good : (bs : List ℕ) → is_word_value bs ≡ true → Good (sign.Const (word bs))
+word_good : (bs : List ℕ) → is_word_value bs ≡ true → Good (terminal.Const (word bs))
 word_good bs h = record { kind = kind.Quoted; stands = (bs, refl, refl); token = λ b after k. (bs, refl, h); stops = λ b after k. tt }
 
-string_good : (bs : List ℕ) → is_text_value bs ≡ true → Good (sign.Const (text bs))
+string_good : (bs : List ℕ) → is_text_value bs ≡ true → Good (terminal.Const (text bs))
 string_good bs h = record { kind = kind.Text; stands = (bs, refl, refl); token = λ b after k. (bs, refl, h); stops = λ b after k. tt }
 
 -- what is denoted keeps the rules of values
@@ -287,7 +315,7 @@ what_reads {bs} {v} r =
     (both _ _ (le-leb (weight v) 65536 r.light) (le-leb (nesting v) 64 r.flat))
 
 -- a list
-list_good : TextIsRead → (vs : Items) (bytes : List ℕ) → Reads bytes (list vs) → Good (sign.Const (list vs))
+list_good : TextIsRead → (vs : Items) (bytes : List ℕ) → Reads bytes (list vs) → Good (terminal.Const (list vs))
 list_good law no_items bytes r = empty_good
 list_good law (item v vs) bytes r = record {
   kind = kind.ListText;
@@ -297,34 +325,44 @@ list_good law (item v vs) bytes r = record {
 }
 
 -- a constant among marks and reserved words
-abbrev is_fixed : PlainSign → Bool
-is_fixed (sign.Const (truth b)) = true
-is_fixed (sign.Const eod) = true
-is_fixed (sign.Const fault) = true
-is_fixed (sign.Const (list no_items)) = true
-is_fixed (sign.Const v) = false
-is_fixed (sign.Name n) = false
+abbrev is_fixed : PlainTerminal → Bool
+is_fixed (terminal.Const (truth b)) = true
+is_fixed (terminal.Const eod) = true
+is_fixed (terminal.Const fault) = true
+is_fixed (terminal.Const (list no_items)) = true
+is_fixed (terminal.Const v) = false
+is_fixed (terminal.Name n) = false
 is_fixed _ = true
 
-abbrev every_fixed : List (List ℕ × PlainSign) → Bool
+abbrev every_fixed : List (List ℕ × PlainTerminal) → Bool
 every_fixed [] = true
 every_fixed (p ∷ ps) = is_fixed p.1 && every_fixed ps
 
-fixed_in : (bytes : List ℕ) (ps : List (List ℕ × PlainSign)) (s : PlainSign) → every_fixed ps ≡ true → sign_in bytes ps ≡ Some s → is_fixed s ≡ true
+fixed_in : (bytes : List ℕ) (ps : List (List ℕ × PlainTerminal)) (s : PlainTerminal) → every_fixed ps ≡ true → terminal_in bytes ps ≡ Some s → is_fixed s ≡ true
 fixed_in bytes [] s h e = cc
 fixed_in bytes (p ∷ ps) s h e =
     let two = and_parts (is_fixed p.1) (every_fixed ps) h in
     of (same_bytes bytes p.0) e two.0 (λ f. fixed_in bytes ps s two.1 f)
   where
-    of : (b : Bool) → cond b (Some p.1) (sign_in bytes ps) ≡ Some s → is_fixed p.1 ≡ true → (sign_in bytes ps ≡ Some s → is_fixed s ≡ true) → is_fixed s ≡ true
+    of : (b : Bool) → cond b (Some p.1) (terminal_in bytes ps) ≡ Some s → is_fixed p.1 ≡ true → (terminal_in bytes ps ≡ Some s → is_fixed s ≡ true) → is_fixed s ≡ true
     of true f k l = let same : p.1 ≡ s = cc in sym (ap is_fixed same) ∙ k
     of false f k l = l f
 
-fixed_fixed : (bytes : List ℕ) (s : PlainSign) → fixed_sign bytes ≡ Some s → is_fixed s ≡ true
-unfolding mark_signs word_signs
-fixed_fixed bytes s e = fixed_in bytes (mark_signs ++ word_signs) s refl e
+operator_fixed : (a b : Option Op) (s : PlainTerminal)
+    → option_or (option_map (λ o. terminal.Infix (infixes.Operator o)) a) (option_map (λ o. terminal.Prefix (prefixes.Operator o)) b) ≡ Some s → is_fixed s ≡ true
+operator_fixed (Some o) b s e = let same : terminal.Infix (infixes.Operator o) ≡ s = cc in sym (ap is_fixed same)
+operator_fixed None (Some o) s e = let same : terminal.Prefix (prefixes.Operator o) ≡ s = cc in sym (ap is_fixed same)
+operator_fixed None None s e = cc
 
-fixed_good : (v : PlainValue) → is_fixed (sign.Const v) ≡ true → Good (sign.Const v)
+fixed_by : (bytes : List ℕ) (o : Option PlainTerminal) (s : PlainTerminal) → terminal_in bytes form_terminals ≡ o → option_or o (operator_terminal bytes) ≡ Some s → is_fixed s ≡ true
+unfolding form_terminals
+fixed_by bytes (Some x) s f e = fixed_in bytes form_terminals s refl (f ∙ e)
+fixed_by bytes None s f e = operator_fixed (operator_of shape.Between bytes) (operator_of shape.Before bytes) s e
+
+fixed_fixed : (bytes : List ℕ) (s : PlainTerminal) → fixed_terminal bytes ≡ Some s → is_fixed s ≡ true
+fixed_fixed bytes s e = fixed_by bytes (terminal_in bytes form_terminals) s refl e
+
+fixed_good : (v : PlainValue) → is_fixed (terminal.Const v) ≡ true → Good (terminal.Const v)
 fixed_good (truth b) h = truth_good b
 fixed_good eod h = eod_good
 fixed_good fault h = fault_good
@@ -334,11 +372,11 @@ fixed_good (int n) h = cc
 fixed_good (word bs) h = cc
 fixed_good (text bs) h = cc
 
--- A sign for which some token stands.
-abbrev pub IsWritten : PlainSign → Type 0
+-- A terminal for which some token stands.
+abbrev pub IsWritten : PlainTerminal → Type 0
 IsWritten s = (k : TokenKind) × (bytes : List ℕ) × (after : List ℕ) × IsTokenText k bytes after × StandsFor k bytes s
 
-as_const : {v w : PlainValue} → ◌≡◌ {A = PlainSign} (sign.Const v) (sign.Const w) → Good (sign.Const w) → Good (sign.Const v)
+as_const : {v w : PlainValue} → ◌≡◌ {A = PlainTerminal} (terminal.Const v) (terminal.Const w) → Good (terminal.Const w) → Good (terminal.Const v)
 as_const e g = subst Good (sym e) g
 
 snoc-one : (xs ys : List ℕ) (b : ℕ) → xs ++ b ∷ [] ≡ ys ++ b ∷ [] → xs ≡ ys
@@ -347,27 +385,27 @@ snoc-one xs ys b e = append_cancel_right xs ys (b ∷ []) e
 inside-one : (xs ys : List ℕ) (a b : ℕ) → a ∷ (xs ++ b ∷ []) ≡ a ∷ (ys ++ b ∷ []) → xs ≡ ys
 inside-one xs ys a b e = let rest : xs ++ b ∷ [] ≡ ys ++ b ∷ [] = cc in snoc-one xs ys b rest
 
-const_by : TextIsRead → (v : PlainValue) (k : TokenKind) (bytes after : List ℕ) → IsTokenText k bytes after → StandsFor k bytes (sign.Const v) → Good (sign.Const v)
-const_by law v kind.Name bytes after t h = absurd (let e : ◌≡◌ {A = PlainSign} (sign.Const v) (sign.Name bytes) = h in cc)
+const_by : TextIsRead → (v : PlainValue) (k : TokenKind) (bytes after : List ℕ) → IsTokenText k bytes after → StandsFor k bytes (terminal.Const v) → Good (terminal.Const v)
+const_by law v kind.Name bytes after t h = absurd (let e : ◌≡◌ {A = PlainTerminal} (terminal.Const v) (terminal.Name bytes) = h in cc)
 const_by law v kind.Int bytes after t h = as_const h (number_good (number_of bytes) t.2)
 const_by law v kind.Quoted bytes after t h =
     as_const h.2 (word_good h.0 (ap is_word_value (inside-one h.0 t.0 34 34 (sym h.1 ∙ t.1)) ∙ t.2))
 const_by law v kind.Text bytes after t h =
     as_const h.2 (string_good h.0 (ap is_text_value (inside-one h.0 t.0 96 39 (sym h.1 ∙ t.1)) ∙ t.2))
 const_by law v kind.ListText bytes after t h = as_const h.2 (list_good law h.0 bytes h.1)
-const_by law v kind.Fixed bytes after t h = fixed_good v (fixed_fixed bytes (sign.Const v) h)
+const_by law v kind.Fixed bytes after t h = fixed_good v (fixed_fixed bytes (terminal.Const v) h)
 
 -- what is written is good
-pub const_good : TextIsRead → (v : PlainValue) → IsWritten (sign.Const v) → Good (sign.Const v)
+pub const_good : TextIsRead → (v : PlainValue) → IsWritten (terminal.Const v) → Good (terminal.Const v)
 const_good law v w = const_by law v w.0 w.1 w.2 w.3 w.4
 
-name_by : (n : List ℕ) (k : TokenKind) (bytes after : List ℕ) → IsTokenText k bytes after → StandsFor k bytes (sign.Name n) → is_name n ≡ true
-name_by n kind.Name bytes after t h = let e : ◌≡◌ {A = PlainSign} (sign.Name n) (sign.Name bytes) = h in let same : n ≡ bytes = cc in ap is_name same ∙ t
-name_by n kind.Int bytes after t h = absurd (let e : ◌≡◌ {A = PlainSign} (sign.Name n) (sign.Const (int (pos (number_of bytes)))) = h in cc)
-name_by n kind.Quoted bytes after t h = absurd (let e : ◌≡◌ {A = PlainSign} (sign.Name n) (sign.Const (word h.0)) = h.2 in cc)
-name_by n kind.Text bytes after t h = absurd (let e : ◌≡◌ {A = PlainSign} (sign.Name n) (sign.Const (text h.0)) = h.2 in cc)
-name_by n kind.ListText bytes after t h = absurd (let e : ◌≡◌ {A = PlainSign} (sign.Name n) (sign.Const (list h.0)) = h.2 in cc)
-name_by n kind.Fixed bytes after t h = let never : false ≡ true = fixed_fixed bytes (sign.Name n) h in cc
+name_by : (n : List ℕ) (k : TokenKind) (bytes after : List ℕ) → IsTokenText k bytes after → StandsFor k bytes (terminal.Name n) → is_name n ≡ true
+name_by n kind.Name bytes after t h = let e : ◌≡◌ {A = PlainTerminal} (terminal.Name n) (terminal.Name bytes) = h in let same : n ≡ bytes = cc in ap is_name same ∙ t
+name_by n kind.Int bytes after t h = absurd (let e : ◌≡◌ {A = PlainTerminal} (terminal.Name n) (terminal.Const (int (pos (number_of bytes)))) = h in cc)
+name_by n kind.Quoted bytes after t h = absurd (let e : ◌≡◌ {A = PlainTerminal} (terminal.Name n) (terminal.Const (word h.0)) = h.2 in cc)
+name_by n kind.Text bytes after t h = absurd (let e : ◌≡◌ {A = PlainTerminal} (terminal.Name n) (terminal.Const (text h.0)) = h.2 in cc)
+name_by n kind.ListText bytes after t h = absurd (let e : ◌≡◌ {A = PlainTerminal} (terminal.Name n) (terminal.Const (list h.0)) = h.2 in cc)
+name_by n kind.Fixed bytes after t h = let never : false ≡ true = fixed_fixed bytes (terminal.Name n) h in cc
 
-pub written_name_good : (n : List ℕ) → IsWritten (sign.Name n) → Good (sign.Name n)
+pub written_name_good : (n : List ℕ) → IsWritten (terminal.Name n) → Good (terminal.Name n)
 written_name_good n w = name_good n (name_by n w.0 w.1 w.2 w.3 w.4)

@@ -1,4 +1,4 @@
-pub mod Signs
+pub mod Terminals
 pub mod Goods
 pub mod Chunks
 pub mod Printed

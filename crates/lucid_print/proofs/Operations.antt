@@ -91,14 +91,14 @@ before_written k a x o t n h ex is e at =
     (ap (λ s. form_text s (part_of x ∷ [])) is ∙ ap (λ z. form_text (prefix_of k) (part_of z ∷ [])) ex ∙ before_source k a h at)
 
 -- the arguments' forms
-pub two_parts : (s : code.Style) (o : Infix) (args : PlainTrees) (xs : List PlainTree) (x y : PlainTree) → s ≡ variant.Between o → trees_of xs ≡ args
+pub two_parts : (s : code.Style) (o : Infix) (args : PlainTrees) (xs : List PlainTree) (x y : PlainTree) → s ≡ variant.Infix o → trees_of xs ≡ args
     → 2 ≤ length xs → length xs < 3 → x ≡ get_or xs 0 x → y ≡ get_or xs 1 y
     → form_text (infix_style o) (part_of x ∷ part_of y ∷ []) ≡ form_text (seen_style s) (parts args)
 unfolding source
 two_parts s o args xs x y is all h k e f =
     sym (ap (λ z. form_text (seen_style z) (parts args)) is ∙ ap (λ l. form_text (infix_style o) (parts l)) (sym all ∙ ap trees_of (two_items xs x y h k e f)))
 
-pub one_part : (s : code.Style) (o : Prefix) (args : PlainTrees) (xs : List PlainTree) (x : PlainTree) → s ≡ variant.Before o → trees_of xs ≡ args
+pub one_part : (s : code.Style) (o : Prefix) (args : PlainTrees) (xs : List PlainTree) (x : PlainTree) → s ≡ variant.Prefix o → trees_of xs ≡ args
     → 1 ≤ length xs → length xs < 2 → x ≡ get_or xs 0 x
     → form_text (prefix_style o) (part_of x ∷ []) ≡ form_text (seen_style s) (parts args)
 unfolding source
@@ -121,13 +121,13 @@ not_one o (a ∷ []) (inr h) = absurd (omega arith)
 not_one o (a ∷ (b ∷ xs)) h = refl
 
 -- another number of arguments
-pub other_between : (b : List ℕ) (s : code.Style) (o : Infix) (args : PlainTrees) (xs : List PlainTree) → s ≡ variant.Between o → trees_of xs ≡ args
+pub other_between : (b : List ℕ) (s : code.Style) (o : Infix) (args : PlainTrees) (xs : List PlainTree) → s ≡ variant.Infix o → trees_of xs ≡ args
     → (length xs < 2) ⊎ (3 ≤ length xs) → b ≡ b ++ form_text (seen_style s) (parts args)
 other_between b s o args xs is all h =
     sym (append-nil b)
     ∙ ap (λ l. b ++ l) (sym (ap (λ z. form_text (seen_style z) (parts args)) is ∙ ap (λ l. form_text (infix_style o) (parts l)) (sym all) ∙ not_two o xs h))
 
-pub other_before : (b : List ℕ) (s : code.Style) (o : Prefix) (args : PlainTrees) (xs : List PlainTree) → s ≡ variant.Before o → trees_of xs ≡ args
+pub other_before : (b : List ℕ) (s : code.Style) (o : Prefix) (args : PlainTrees) (xs : List PlainTree) → s ≡ variant.Prefix o → trees_of xs ≡ args
     → (length xs < 1) ⊎ (2 ≤ length xs) → b ≡ b ++ form_text (seen_style s) (parts args)
 other_before b s o args xs is all h =
     sym (append-nil b)

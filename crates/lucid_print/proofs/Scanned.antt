@@ -1,4 +1,4 @@
--- A text of good signs is scanned as words of these signs.
+-- A text of good terminals is scanned as words of these terminals.
 use Rattle.std.proofs.Common.{◌≡◌, ℕ, suc, ◌+◌, ◌-◌, ◌≤◌, List, [], ◌∷◌, ◌++◌, length, take, drop, Bool, true, false, cond, ◌&&◌, ◌||◌, inl, inr, refl, sym, ◌∙◌, ap, subst, arith, le_refl, zero-le, append_assoc, length-append}
 use Rattle.std.specs.Prelude.{slice_range, max}
 use Rattle.std.specs.List.{All}
@@ -12,21 +12,21 @@ use Rattle.lucid_scan.specs.Tokens.{gap as gap_length}
 use Rattle.lucid_scan.specs.Laws.{TextsAreLongest, TextsBeginNoGap, TokensStand, TokensAreNotRefused, StandsIn}
 use Rattle.lucid_tree.specs.Tree.{PlainTree, form, name, call, block, PlainTrees, no_trees, tree, PlainDefs, no_defs, defines, defines_function, defines_current}
 use Rattle.lucid_tree.specs.WellMade.{depth, depths, depths_in_defs}
-use Rattle.lucid_parse.specs.declared.sign.Sign.TheVariants as sign
+use Rattle.lucid_parse.specs.declared.terminal.Terminal.TheVariants as terminal
 use Rattle.lucid_parse.specs.declared.refusal.ParseRefusal.{ParseRefusal}
 use Rattle.lucid_parse.specs.declared.refusal.ParseRefusal.TheVariants as parse_refusal
-use Rattle.lucid_parse.specs.Grammar.{PlainSign, Word, word, Spells}
-use Rattle.lucid_parse.specs.Laws.{WordsAreUnique, WordsSpellOneTree}
+use Rattle.lucid_parse.specs.Grammar.{PlainTerminal, PlacedTerminal, terminal_at, Spells}
+use Rattle.lucid_parse.specs.Laws.{TerminalsAreUnique, TerminalsSpellOneTree}
 use Rattle.lucid_parse.specs.Spelled.{SpellsTree, IsRefused}
-use Rattle.lucid_parse.specs.Words.{Words, StandsFor}
+use Rattle.lucid_parse.specs.Terminals.{Terminals, StandsFor}
 use Rattle.lucid_print.specs.Canonical.{canonical}
 use Rattle.lucid_print.specs.Again.{unplaced, all_unplaced, defs_unplaced, IsReadAs, IsParsed}
-use Rattle.lucid_print.proofs.Signs.{sign_text, is_open, is_closer, is_callable, is_tight, gap, after}
+use Rattle.lucid_print.proofs.Terminals.{terminal_text, is_open, is_closer, is_callable, is_tight, gap, after}
 use Rattle.lucid_print.proofs.Goods.{Good, AllGood, stoppers, among, or_left, or_right}
-use Rattle.lucid_print.proofs.Printed.{signs_of, AllWritten, looser, print}
+use Rattle.lucid_print.proofs.Printed.{terminals_of, AllWritten, looser, print}
 
--- the byte behind a sign
-record Next (s : PlainSign) (bytes : List ℕ) : Type 0 where
+-- the byte behind a terminal
+record Next (s : PlainTerminal) (bytes : List ℕ) : Type 0 where
   byte : ℕ
   more : List ℕ
   is : bytes ≡ byte ∷ more
@@ -42,22 +42,22 @@ some [] b = record { byte = b; more = []; is = refl }
 some (x ∷ xs) b = record { byte = x; more = xs ++ b ∷ []; is = refl }
 
 -- the byte of a mark that closes, and of the one that opens
-record Stopper (s : PlainSign) : Type 0 where
+record Stopper (s : PlainTerminal) : Type 0 where
   byte : ℕ
-  is : sign_text s ≡ byte ∷ []
+  is : terminal_text s ≡ byte ∷ []
   stops : among byte stoppers ≡ true
 
-closer : (s : PlainSign) → is_closer s ≡ true → Stopper s
-closer sign.Close h = record { byte = 41; is = refl; stops = refl }
-closer sign.Comma h = record { byte = 44; is = refl; stops = refl }
-closer sign.Semicolon h = record { byte = 59; is = refl; stops = refl }
+closer : (s : PlainTerminal) → is_closer s ≡ true → Stopper s
+closer terminal.Close h = record { byte = 41; is = refl; stops = refl }
+closer terminal.Comma h = record { byte = 44; is = refl; stops = refl }
+closer terminal.Semicolon h = record { byte = 59; is = refl; stops = refl }
 closer _ h = cc
 
-opener : (s : PlainSign) → is_open s ≡ true → Stopper s
-opener sign.Open h = record { byte = 40; is = refl; stops = refl }
+opener : (s : PlainTerminal) → is_open s ≡ true → Stopper s
+opener terminal.Open h = record { byte = 40; is = refl; stops = refl }
 opener _ h = cc
 
-by_stopper : (l s : PlainSign) (tail : List ℕ) → Stopper s → Next l ((sign_text s ++ tail) ++ 10 ∷ [])
+by_stopper : (l s : PlainTerminal) (tail : List ℕ) → Stopper s → Next l ((terminal_text s ++ tail) ++ 10 ∷ [])
 by_stopper l s tail p = record {
   byte = p.byte;
   more = tail ++ 10 ∷ [];
@@ -65,29 +65,29 @@ by_stopper l s tail p = record {
   fits = or_right (is_open l) (among p.byte stoppers) p.stops;
 }
 
-next : (l : PlainSign) (ss : List PlainSign) → Next l (after l ss ++ 10 ∷ [])
+next : (l : PlainTerminal) (ss : List PlainTerminal) → Next l (after l ss ++ 10 ∷ [])
 next l [] = record { byte = 10; more = []; is = refl; fits = or_right (is_open l) true refl }
 next l (s ∷ ss) = of (is_tight l s) refl
   where
     blank : is_tight l s ≡ false → Next l (after l (s ∷ ss) ++ 10 ∷ [])
     blank e = record {
       byte = 32;
-      more = (sign_text s ++ after s ss) ++ 10 ∷ [];
-      is = ap (λ g. (g ++ (sign_text s ++ after s ss)) ++ 10 ∷ []) (cond-false (is_tight l s) [] (32 ∷ []) e);
+      more = (terminal_text s ++ after s ss) ++ 10 ∷ [];
+      is = ap (λ g. (g ++ (terminal_text s ++ after s ss)) ++ 10 ∷ []) (cond-false (is_tight l s) [] (32 ∷ []) e);
       fits = or_right (is_open l) true refl;
     }
 
-    along : is_tight l s ≡ true → Next l ((sign_text s ++ after s ss) ++ 10 ∷ []) → Next l (after l (s ∷ ss) ++ 10 ∷ [])
+    along : is_tight l s ≡ true → Next l ((terminal_text s ++ after s ss) ++ 10 ∷ []) → Next l (after l (s ∷ ss) ++ 10 ∷ [])
     along e n = record {
       byte = n.byte;
       more = n.more;
-      is = ap (λ g. (g ++ (sign_text s ++ after s ss)) ++ 10 ∷ []) (cond-true (is_tight l s) [] (32 ∷ []) e) ∙ n.is;
+      is = ap (λ g. (g ++ (terminal_text s ++ after s ss)) ++ 10 ∷ []) (cond-true (is_tight l s) [] (32 ∷ []) e) ∙ n.is;
       fits = n.fits;
     }
 
-    behind_open : is_open l ≡ true → Next l ((sign_text s ++ after s ss) ++ 10 ∷ [])
+    behind_open : is_open l ≡ true → Next l ((terminal_text s ++ after s ss) ++ 10 ∷ [])
     behind_open o =
-        let x = some (sign_text s ++ after s ss) 10 in
+        let x = some (terminal_text s ++ after s ss) 10 in
         record { byte = x.byte; more = x.more; is = x.is; fits = or_left (is_open l) (among x.byte stoppers) o }
 
     of : (b : Bool) → is_tight l s ≡ b → Next l (after l (s ∷ ss) ++ 10 ∷ [])
@@ -109,7 +109,7 @@ next_by bytes at g n k here rest ts e f l d more =
     (tokens_next k n (subst (λ x. IsLongest x k n) (sym there) l)
     (subst (λ x. Tokens x ((at + gap_length bytes) + n) ts) (sym (ap (drop n) there ∙ d)) (subst (λ i. Tokens rest ((at + i) + n) ts) (sym e) more)))
 
--- the blank between signs is a gap of the scanner
+-- the blank between terminals is a gap of the scanner
 abbrev spaces : Bool → List ℕ
 spaces b = cond b [] (32 ∷ [])
 
@@ -130,30 +130,30 @@ slice_mid a t r from to e f =
     ∙ ap (take (length t)) (drop-append_seam a (t ++ r))
     ∙ take-append_seam t r
 
-pub record Scanned (whole bytes : List ℕ) (at : ℕ) (ss : List PlainSign) : Type 0 where
+pub record Scanned (whole bytes : List ℕ) (at : ℕ) (ss : List PlainTerminal) : Type 0 where
   pub tokens : List Token
   pub are_tokens : Tokens bytes at tokens
-  pub words : List Word
-  pub are_words : Words whole tokens words
-  pub signs : signs_of words ≡ ss
+  pub words : List PlacedTerminal
+  pub are_words : Terminals whole tokens words
+  pub terminals : terminals_of words ≡ ss
 
 module _ (longest : TextsAreLongest) (none : TextsBeginNoGap) where
-  module _ (s : PlainSign) (g : Good s) (rest : List ℕ) (n : Next s rest) where
-    there : IsLongest (sign_text s ++ rest) g.kind (length (sign_text s))
-    there = subst (λ r. IsLongest (sign_text s ++ r) g.kind (length (sign_text s))) (sym n.is)
-        (longest g.kind (sign_text s) (n.byte ∷ n.more) (g.token n.byte n.more n.fits) (g.stops n.byte n.more n.fits))
+  module _ (s : PlainTerminal) (g : Good s) (rest : List ℕ) (n : Next s rest) where
+    there : IsLongest (terminal_text s ++ rest) g.kind (length (terminal_text s))
+    there = subst (λ r. IsLongest (terminal_text s ++ r) g.kind (length (terminal_text s))) (sym n.is)
+        (longest g.kind (terminal_text s) (n.byte ∷ n.more) (g.token n.byte n.more n.fits) (g.stops n.byte n.more n.fits))
 
-    no_gap : gap_length (sign_text s ++ rest) ≡ 0
-    no_gap = ap (λ r. gap_length (sign_text s ++ r)) n.is ∙ none g.kind (sign_text s) (n.byte ∷ n.more) (g.token n.byte n.more n.fits)
+    no_gap : gap_length (terminal_text s ++ rest) ≡ 0
+    no_gap = ap (λ r. gap_length (terminal_text s ++ r)) n.is ∙ none g.kind (terminal_text s) (n.byte ∷ n.more) (g.token n.byte n.more n.fits)
 
-  -- one sign more in front
-  one_more : (l s : PlainSign) (ss : List PlainSign) (g : Good s) (pre : List ℕ)
-      → Scanned (((pre ++ gap l s) ++ sign_text s) ++ (after s ss ++ 10 ∷ [])) (after s ss ++ 10 ∷ []) (length ((pre ++ gap l s) ++ sign_text s)) ss
+  -- one terminal more in front
+  one_more : (l s : PlainTerminal) (ss : List PlainTerminal) (g : Good s) (pre : List ℕ)
+      → Scanned (((pre ++ gap l s) ++ terminal_text s) ++ (after s ss ++ 10 ∷ [])) (after s ss ++ 10 ∷ []) (length ((pre ++ gap l s) ++ terminal_text s)) ss
       → Scanned (pre ++ (after l (s ∷ ss) ++ 10 ∷ [])) (after l (s ∷ ss) ++ 10 ∷ []) (length pre) (s ∷ ss)
   one_more l s ss g pre more =
       let rest = after s ss ++ 10 ∷ [] in
       let b = gap l s in
-      let t = sign_text s in
+      let t = terminal_text s in
       let from = length pre + length b in
       let bytes : b ++ (t ++ rest) ≡ after l (s ∷ ss) ++ 10 ∷ [] =
       ap (λ x. b ++ x) (sym (append_assoc t (after s ss) (10 ∷ []))) ∙ sym (append_assoc b (t ++ after s ss) (10 ∷ [])) in
@@ -167,25 +167,25 @@ module _ (longest : TextsAreLongest) (none : TextsBeginNoGap) where
             (spaced (is_tight l s) (t ++ rest) (no_gap s g rest (next s ss))) (past_spaces (is_tight l s) (t ++ rest))
             (there s g rest (next s ss)) (drop-append_seam t rest)
             (subst (λ i. Tokens rest i more.tokens) place more.are_tokens));
-        words = word s from ∷ more.words;
-        are_words = subst (λ x. Words x (token g.kind from (from + length t) ∷ more.tokens) (word s from ∷ more.words)) whole
-            (Words.words_next (token g.kind from (from + length t)) s
+        words = terminal_at s from ∷ more.words;
+        are_words = subst (λ x. Terminals x (token g.kind from (from + length t) ∷ more.tokens) (terminal_at s from ∷ more.words)) whole
+            (Terminals.terminals_next (token g.kind from (from + length t)) s
             (subst (λ x. StandsFor g.kind x s) (sym (slice_mid (pre ++ b) t rest from (from + length t) (sym (length-append pre b)) refl)) g.stands)
             more.are_words);
-        signs = ap (λ x. s ∷ x) more.signs;
+        terminals = ap (λ x. s ∷ x) more.terminals;
       }
 
-  pub scanned : (ss : List PlainSign) → AllGood ss → (l : PlainSign) (pre : List ℕ) → Scanned (pre ++ (after l ss ++ 10 ∷ [])) (after l ss ++ 10 ∷ []) (length pre) ss
-  scanned [] g l pre = record { tokens = []; are_tokens = tokens_end (le_one); words = []; are_words = Words.words_none; signs = refl }
+  pub scanned : (ss : List PlainTerminal) → AllGood ss → (l : PlainTerminal) (pre : List ℕ) → Scanned (pre ++ (after l ss ++ 10 ∷ [])) (after l ss ++ 10 ∷ []) (length pre) ss
+  scanned [] g l pre = record { tokens = []; are_tokens = tokens_end (le_one); words = []; are_words = Terminals.terminals_none; terminals = refl }
     where
       le_one : length {A = ℕ} (10 ∷ []) ≤ gap_length (10 ∷ [])
       le_one = le_refl 1
-  scanned (s ∷ ss) g l pre = one_more l s ss g.0 pre (scanned ss g.1 s ((pre ++ gap l s) ++ sign_text s))
+  scanned (s ∷ ss) g l pre = one_more l s ss g.0 pre (scanned ss g.1 s ((pre ++ gap l s) ++ terminal_text s))
 
 -- the words of a source are written
-words_written : {whole : List ℕ} {ts : List Token} {ws : List Word} → Words whole ts ws → All (StandsIn whole) ts → AllWritten ws
-words_written Words.words_none h = tt
-words_written {whole} (Words.words_next {ts = ts} t s stands more) h =
+words_written : {whole : List ℕ} {ts : List Token} {ws : List PlacedTerminal} → Terminals whole ts ws → All (StandsIn whole) ts → AllWritten ws
+words_written Terminals.terminals_none h = tt
+words_written {whole} (Terminals.terminals_next {ts = ts} t s stands more) h =
     let here : StandsIn whole t = h 0 t (omega arith) in
     ((t.kind, take (t.to - t.from) (drop t.from whole), drop (t.to - t.from) (drop t.from whole), here.text, stands), words_written more (λ k d lt. h (suc k) d (omega (arith, lt))))
 
@@ -212,7 +212,7 @@ mutual
       ap (λ k. max k (depths_in_defs (defs_unplaced ds))) (depth-unplaced e) ∙ ap (λ k. max (depth e) k) (defs_depth-unplaced ds)
 
 -- what is spelled by few levels isn't refused but for want of memory
-not_refused : WordsAreUnique → WordsSpellOneTree → (whole : List ℕ) (ts : List Token) (t : PlainTree) → SpellsTree whole ts t → depth t ≤ 400
+not_refused : TerminalsAreUnique → TerminalsSpellOneTree → (whole : List ℕ) (ts : List Token) (t : PlainTree) → SpellsTree whole ts t → depth t ≤ 400
     → (why : ParseRefusal) → IsRefused whole ts why → why ≡ parse_refusal.NoMemory
 not_refused unique one whole ts t s shallow (parse_refusal.Syntax at) r =
     let same : r.0 ≡ s.0 = unique whole ts r.0 s.0 r.1 s.1 in
@@ -223,16 +223,16 @@ not_refused unique one whole ts t s shallow (parse_refusal.TooNested at) r =
     absurd (omega (arith, r.2.2, ap depth tree, shallow))
 not_refused unique one whole ts t s shallow parse_refusal.NoMemory r = refl
 
-pub read_again : TextIsRead → TextsAreLongest → TextsBeginNoGap → TokensStand → TokensAreNotRefused → WordsAreUnique → WordsSpellOneTree
+pub read_again : TextIsRead → TextsAreLongest → TextsBeginNoGap → TokensStand → TokensAreNotRefused → TerminalsAreUnique → TerminalsSpellOneTree
     → (e : PlainTree) → IsParsed e → length (canonical e) ≤ 1048576 → IsReadAs (canonical e) e
 read_again law longest none stand scans unique one e p short =
     let written = words_written p.spells.1 (stand p.source p.tokens p.are_tokens) in
     let q = print law p.spells.2 written in
-    let s = scanned longest none (q.chunk.first ∷ q.chunk.rest) q.chunk.good sign.Open [] in
-    let a = q.again s.words s.signs in
-    let same : after sign.Open (q.chunk.first ∷ q.chunk.rest) ++ 10 ∷ [] ≡ canonical e = ap (λ x. x ++ 10 ∷ []) q.chunk.text in
+    let s = scanned longest none (q.chunk.first ∷ q.chunk.rest) q.chunk.good terminal.Open [] in
+    let a = q.again s.words s.terminals in
+    let same : after terminal.Open (q.chunk.first ∷ q.chunk.rest) ++ 10 ∷ [] ≡ canonical e = ap (λ x. x ++ 10 ∷ []) q.chunk.text in
     let tokens : Tokens (canonical e) 0 s.tokens = subst (λ x. Tokens x 0 s.tokens) same s.are_tokens in
-    let words : Words (canonical e) s.tokens s.words = subst (λ x. Words x s.tokens s.words) same s.are_words in
+    let words : Terminals (canonical e) s.tokens s.words = subst (λ x. Terminals x s.tokens s.words) same s.are_words in
     let spells : SpellsTree (canonical e) s.tokens a.tree = (s.words, words, looser a.spells 0 zero-le) in
     let shallow : depth a.tree ≤ 400 = omega (arith, depth-unplaced a.tree, depth-unplaced e, ap depth a.same, p.shallow) in
     record {

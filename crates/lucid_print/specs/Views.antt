@@ -6,7 +6,7 @@ use Rattle.lucid_tree.specs.declared.tree.Kind.TheVariants as kind
 use Rattle.lucid_print.specs.declared.style.Infix.{Infix}
 use Rattle.lucid_print.specs.declared.style.Prefix.{Prefix}
 use Rattle.lucid_print.specs.declared.style.Style as code
-use Rattle.lucid_print.specs.declared.style.Style.TheVariants.{Between, Before, Called}
+use Rattle.lucid_print.specs.declared.style.Style.TheVariants.{Infix as InfixStyle, Prefix as PrefixStyle, Called}
 use Rattle.lucid_print.specs.Styles.{Style, between, before, called, style, level}
 use Rattle.lucid_print.specs.Canonical.{Part, part, placed, source}
 
@@ -17,8 +17,8 @@ abbrev pub prefix_style : Prefix → Style
 prefix_style p = before p.spelling.now p.level
 
 abbrev pub seen_style : code.Style → Style
-seen_style (Between i) = infix_style i
-seen_style (Before p) = prefix_style p
+seen_style (InfixStyle i) = infix_style i
+seen_style (PrefixStyle p) = prefix_style p
 seen_style (Called s) = called s.now
 
 abbrev pub part_of : PlainTree → Part

@@ -1,7 +1,7 @@
 //! What canonical sources are read as. The function does nothing: its contract is the law.
 ghost use Rattle.lucid_print.specs.Again.{CanonicalIsReadAgain};
 
-use lucid_parse::laws::{words_are_unique, words_spell_one_tree};
+use lucid_parse::laws::{terminals_are_unique, terminals_spell_one_tree};
 use lucid_scan::laws::{
     texts_are_longest, texts_begin_no_gap, tokens_are_not_refused, tokens_stand,
 };
@@ -16,6 +16,6 @@ pub fn canonical_is_read_again()
     texts_begin_no_gap();
     tokens_stand();
     tokens_are_not_refused();
-    words_are_unique();
-    words_spell_one_tree();
+    terminals_are_unique();
+    terminals_spell_one_tree();
 }

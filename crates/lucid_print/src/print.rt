@@ -155,14 +155,14 @@ fn put_operation(
     ensures { OnOk result (to.new.items ≡ to.old.items ++ form_text (seen_style style) (parts args.now)) }
 {
     match style {
-        Style::Between(operator) => match args.items() {
+        Style::Infix(operator) => match args.items() {
             [left, right] => {
                 put_left(alloc, operator, left, to)?;
                 put_placed(alloc, right, operator.right, to)
             }
             _ => Ok(()),
         },
-        Style::Before(prefix) => match args.items() {
+        Style::Prefix(prefix) => match args.items() {
             [part] => put_before(alloc, prefix, part, to),
             _ => Ok(()),
         },

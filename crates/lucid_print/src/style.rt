@@ -1,10 +1,10 @@
 //! How the operators are written, and the levels of all forms. 0 binds loosest.
 ghost use Rattle.std.specs.Prelude.{◌≡◌, ◌<◌, ℕ};
 ghost use Rattle.lucid_tree.specs.View.{tree_of};
-ghost use Rattle.lucid_print.specs.Styles.{leftward, rightward, alone as alone_style, before as before_style, operator, level, style_level};
+ghost use Rattle.lucid_print.specs.Styles.{grouped, before as before_style, operator, level, style_level};
 ghost use Rattle.lucid_print.specs.Views.{infix_style, prefix_style, seen_style, infix_of, prefix_of};
 
-use lucid_ops::Op;
+use lucid_ops::{Form, Op, Side};
 use lucid_tree::Kind;
 
 /// The level of a form that binds tightest.
@@ -21,42 +21,16 @@ pub(crate) struct Infix {
 }
 
 impl Infix {
-    /// One whose rows group to the left.
-    pub(crate) fn leftward(level: u8, spelling: &'static [u8]) -> Infix
-        requires { level < 12 }
-        ensures { infix_style result ≡ leftward level spelling.now }
+    /// One of this level, of which a row groups to the side.
+    pub(crate) fn grouped(side: Side, level: u8, spelling: &'static [u8]) -> Infix
+        requires { level < 255 }
+        ensures { infix_style result ≡ grouped side level spelling.now }
     {
         Infix {
             spelling,
             level,
-            left: level,
-            right: level + 1,
-        }
-    }
-
-    /// One whose rows group to the right.
-    pub(crate) fn rightward(level: u8, spelling: &'static [u8]) -> Infix
-        requires { level < 12 }
-        ensures { infix_style result ≡ rightward level spelling.now }
-    {
-        Infix {
-            spelling,
-            level,
-            left: level + 1,
-            right: level,
-        }
-    }
-
-    /// One that stands in no row without parentheses.
-    pub(crate) fn alone(level: u8, spelling: &'static [u8]) -> Infix
-        requires { level < 12 }
-        ensures { infix_style result ≡ alone_style level spelling.now }
-    {
-        Infix {
-            spelling,
-            level,
-            left: level + 1,
-            right: level + 1,
+            left: side.left_level(level),
+            right: side.right_level(level),
         }
     }
 }
@@ -80,47 +54,20 @@ impl Prefix {
 /// How a data operator is written.
 #[derive(Clone, Copy)]
 pub(crate) enum Style {
-    Between(Infix),
-    Before(Prefix),
+    Infix(Infix),
+    Prefix(Prefix),
     /// Before its parts in parentheses.
     Called(&'static [u8]),
 }
 
 impl Style {
-    fn leftward(level: u8, spelling: &'static [u8]) -> Style
-        requires { level < 12 }
-        ensures { seen_style result ≡ leftward level spelling.now }
-    {
-        Style::Between(Infix::leftward(level, spelling))
-    }
-
-    fn rightward(level: u8, spelling: &'static [u8]) -> Style
-        requires { level < 12 }
-        ensures { seen_style result ≡ rightward level spelling.now }
-    {
-        Style::Between(Infix::rightward(level, spelling))
-    }
-
-    fn alone(level: u8, spelling: &'static [u8]) -> Style
-        requires { level < 12 }
-        ensures { seen_style result ≡ alone_style level spelling.now }
-    {
-        Style::Between(Infix::alone(level, spelling))
-    }
-
-    fn before(level: u8, spelling: &'static [u8]) -> Style
-        ensures { seen_style result ≡ before_style spelling.now level }
-    {
-        Style::Before(Prefix::at(level, spelling))
-    }
-
     /// The level of its form.
     fn level(self) -> u8
         ensures { result ≡ style_level (seen_style self) }
     {
         match self {
-            Style::Between(operator) => operator.level,
-            Style::Before(prefix) => prefix.level,
+            Style::Infix(operator) => operator.level,
+            Style::Prefix(operator) => operator.level,
             Style::Called(_) => TIGHTEST,
         }
     }
@@ -130,42 +77,11 @@ impl Style {
 pub(crate) fn style_of(op: Op) -> Style
     ensures { seen_style result ≡ operator op }
 {
-    match op {
-        Op::Add => Style::leftward(8, b"+"),
-        Op::Sub => Style::leftward(8, b"-"),
-        Op::Mul => Style::leftward(9, b"*"),
-        Op::Div => Style::leftward(9, b"div"),
-        Op::Mod => Style::leftward(9, b"mod"),
-        Op::Pow => Style::rightward(10, b"**"),
-        Op::Neg => Style::before(11, b"-"),
-        Op::Abs => Style::before(11, b"abs"),
-        Op::Eq => Style::alone(6, b"eq"),
-        Op::Ne => Style::alone(6, b"ne"),
-        Op::Lt => Style::alone(6, b"<"),
-        Op::Le => Style::alone(6, b"<="),
-        Op::Gt => Style::alone(6, b">"),
-        Op::Ge => Style::alone(6, b">="),
-        Op::Cmp => Style::alone(6, b"cmp"),
-        Op::Not => Style::before(5, b"not"),
-        Op::Head => Style::before(11, b"hd"),
-        Op::Tail => Style::before(11, b"tl"),
-        Op::Cons => Style::rightward(7, b"::"),
-        Op::Append => Style::rightward(7, b"<>"),
-        Op::Join => Style::rightward(7, b"^"),
-        Op::Length => Style::before(11, b"length"),
-        Op::Substr => Style::Called(b"substr"),
-        Op::Nth => Style::Called(b"nth"),
-        Op::MakeWord => Style::before(11, b"mkword"),
-        Op::MakeString => Style::before(11, b"mkstring"),
-        Op::IsInt => Style::before(11, b"isint"),
-        Op::IsWord => Style::before(11, b"isword"),
-        Op::IsString => Style::before(11, b"isstring"),
-        Op::IsList => Style::before(11, b"islist"),
-        Op::IsTruth => Style::before(11, b"istruth"),
-        Op::IsNull => Style::before(11, b"isnull"),
-        Op::IsAtom => Style::before(11, b"isatom"),
-        Op::IsEod => Style::before(11, b"iseod"),
-        Op::IsError => Style::before(11, b"iserror"),
+    let row = op.row();
+    match row.form {
+        Form::Between => Style::Infix(Infix::grouped(row.side, row.level, row.spelling)),
+        Form::Before => Style::Prefix(Prefix::at(row.level, row.spelling)),
+        Form::Called => Style::Called(row.spelling),
     }
 }
 
@@ -174,15 +90,15 @@ pub(crate) fn infix_of(kind: &Kind) -> Infix
     ensures { infix_style result ≡ infix_of kind.now }
 {
     match kind {
-        Kind::Fby(_, _) => Infix::rightward(1, b"fby"),
-        Kind::Sby(_, _) => Infix::rightward(1, b"sby"),
-        Kind::Whenever(_, _) => Infix::leftward(2, b"whenever"),
-        Kind::Asa(_, _) => Infix::leftward(2, b"asa"),
-        Kind::Upon(_, _) => Infix::leftward(2, b"upon"),
-        Kind::Attime(_, _) => Infix::leftward(2, b"attime"),
-        Kind::Or(_, _) => Infix::leftward(3, b"or"),
-        Kind::And(_, _) => Infix::leftward(4, b"and"),
-        _ => Infix::leftward(2, b"atspace"),
+        Kind::Fby(_, _) => Infix::grouped(Side::Right, 1, b"fby"),
+        Kind::Sby(_, _) => Infix::grouped(Side::Right, 1, b"sby"),
+        Kind::Whenever(_, _) => Infix::grouped(Side::Left, 2, b"whenever"),
+        Kind::Asa(_, _) => Infix::grouped(Side::Left, 2, b"asa"),
+        Kind::Upon(_, _) => Infix::grouped(Side::Left, 2, b"upon"),
+        Kind::Attime(_, _) => Infix::grouped(Side::Left, 2, b"attime"),
+        Kind::Or(_, _) => Infix::grouped(Side::Left, 3, b"or"),
+        Kind::And(_, _) => Infix::grouped(Side::Left, 4, b"and"),
+        _ => Infix::grouped(Side::Left, 2, b"atspace"),
     }
 }
 

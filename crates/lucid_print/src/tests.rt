@@ -141,7 +141,7 @@ const OTHERS: [(&[u8], &[u8]); 29] = [
 fn operators_in_the_places_of_operators(rt: HostRuntime) -> Result<(), Fail> {
     for (source, wanted) in OPERATORS {
         let text = canonical(rt.alloc(), source)?;
-        assert_eq!(rt; text.as_slice(), wanted);
+        assert_eq!(rt; text.as_slice(), wanted, "{source:?}");
     }
     Ok(())
 }
@@ -150,7 +150,7 @@ fn operators_in_the_places_of_operators(rt: HostRuntime) -> Result<(), Fail> {
 fn other_forms_and_their_places(rt: HostRuntime) -> Result<(), Fail> {
     for (source, wanted) in OTHERS {
         let text = canonical(rt.alloc(), source)?;
-        assert_eq!(rt; text.as_slice(), wanted);
+        assert_eq!(rt; text.as_slice(), wanted, "{source:?}");
     }
     Ok(())
 }
@@ -180,7 +180,7 @@ const PROGRAMS: [&[u8]; 17] = [
 fn programs_that_are_canonical(rt: HostRuntime) -> Result<(), Fail> {
     for program in PROGRAMS {
         let text = canonical(rt.alloc(), program)?;
-        assert_eq!(rt; text.as_slice(), program);
+        assert_eq!(rt; text.as_slice(), program, "{program:?}");
     }
     Ok(())
 }

@@ -51,9 +51,9 @@ pub put_operation-returns-in_ok-put_left-in-len2 : goal.put_operation-returns-in
 put_operation-returns-in_ok-put_left-in-len2 t c =
     on_ok c.put_placed.result
     (λ h.
-    two_written c.in-Between.operator c.left-item.result c.right-item.result c.args.to.now.items c.put_left.new.to.items c.put_placed.new.to.items c.in_ok-put_left-in-len2.ensures h
+    two_written c.in-Infix.operator c.left-item.result c.right-item.result c.args.to.now.items c.put_left.new.to.items c.put_placed.new.to.items c.in_ok-put_left-in-len2.ensures h
     ∙ ap (λ l. c.args.to.now.items ++ l)
-    (two_parts c.args.style c.in-Between.operator c.args.args.now c.items.result.now c.left-item.result c.right-item.result c.in-Between.is c.items.ensures
+    (two_parts c.args.style c.in-Infix.operator c.args.args.now c.items.result.now c.left-item.result c.right-item.result c.in-Infix.is c.items.ensures
     c.in-len2.len_at_least c.in-len2.len_below c.left-item.is c.right-item.is))
     c.put_placed.ensures
 
@@ -72,27 +72,27 @@ put_kind-returns-in_ok-put_left-in-And t c =
 
 pub put_operation-returns-in_default : goal.put_operation-returns-in_default
 put_operation-returns-in_default t c =
-    other_between c.args.to.now.items c.args.style c.in-Between.operator c.args.args.now c.items.result.now c.in-Between.is c.items.ensures (inl c.in_default.len_below)
+    other_between c.args.to.now.items c.args.style c.in-Infix.operator c.args.args.now c.items.result.now c.in-Infix.is c.items.ensures (inl c.in_default.len_below)
 
 pub put_operation-returns-in_default-2 : goal.put_operation-returns-in_default-2
 put_operation-returns-in_default-2 t c =
-    other_between c.args.to.now.items c.args.style c.in-Between.operator c.args.args.now c.items.result.now c.in-Between.is c.items.ensures (inr c.in_default.len_at_least)
+    other_between c.args.to.now.items c.args.style c.in-Infix.operator c.args.args.now c.items.result.now c.in-Infix.is c.items.ensures (inr c.in_default.len_at_least)
 
 pub put_operation-returns-in-len1 : goal.put_operation-returns-in-len1
 put_operation-returns-in-len1 t c =
     on_ok c.put_before.result
     (λ h. h ∙ ap (λ l. c.args.to.now.items ++ l)
-    (one_part c.args.style c.in-Before.prefix c.args.args.now c.items-in-Before.result.now c.part-item.result c.in-Before.is c.items-in-Before.ensures
+    (one_part c.args.style c.in-Prefix.prefix c.args.args.now c.items-in-Prefix.result.now c.part-item.result c.in-Prefix.is c.items-in-Prefix.ensures
     c.in-len1.len_at_least c.in-len1.len_below c.part-item.is))
     c.put_before.ensures
 
 pub put_operation-returns-in_default-items : goal.put_operation-returns-in_default-items
 put_operation-returns-in_default-items t c =
-    other_before c.args.to.now.items c.args.style c.in-Before.prefix c.args.args.now c.items-in-Before.result.now c.in-Before.is c.items-in-Before.ensures (inl c.in_default-items.len_below)
+    other_before c.args.to.now.items c.args.style c.in-Prefix.prefix c.args.args.now c.items-in-Prefix.result.now c.in-Prefix.is c.items-in-Prefix.ensures (inl c.in_default-items.len_below)
 
 pub put_operation-returns-in_default-items-2 : goal.put_operation-returns-in_default-items-2
 put_operation-returns-in_default-items-2 t c =
-    other_before c.args.to.now.items c.args.style c.in-Before.prefix c.args.args.now c.items-in-Before.result.now c.in-Before.is c.items-in-Before.ensures (inr c.in_default-items.len_at_least)
+    other_before c.args.to.now.items c.args.style c.in-Prefix.prefix c.args.args.now c.items-in-Prefix.result.now c.in-Prefix.is c.items-in-Prefix.ensures (inr c.in_default-items.len_at_least)
 
 pub put_definition-returns-in_ok-put_tree-in-Current : goal.put_definition-returns-in_ok-put_tree-in-Current
 put_definition-returns-in_ok-put_tree-in-Current t c =

@@ -1,6 +1,6 @@
 use Rattle.std.proofs.Common.{sym}
 use Rattle.lucid_parse.proofs.Spellings.{not_here}
-use Rattle.lucid_parse.proofs.spelling.sign_among.Goals as goal
+use Rattle.lucid_parse.proofs.spelling.terminal_among.Goals as goal
 
 pub loop-spelling-preserved : goal.loop-spelling-preserved
 loop-spelling-preserved c =

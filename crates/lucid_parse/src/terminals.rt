@@ -1,4 +1,4 @@
-//! The signs of a source's tokens.
+//! The terminals of a source's tokens.
 ghost use Rattle.std.specs.Prelude.{◌≡◌, ◌∷◌, ◌++◌, [], ℕ, IfOk, IfErr, IsTrue, true, ◌||◌, Some};
 ghost use Rattle.lucid_value.specs.Plain.{PlainValue};
 ghost use Rattle.lucid_value.specs.Names.{is_name, is_reserved};
@@ -6,14 +6,14 @@ ghost use Rattle.lucid_value.specs.Reading.{Reads};
 ghost use Rattle.lucid_value.specs.View.{plain};
 ghost use Rattle.lucid_scan.specs.Texts.{IsBetween, is_mark, is_word_value};
 ghost use Rattle.lucid_scan.specs.Tokens.{Tokens};
-ghost use Rattle.lucid_parse.specs.Signs.{plain_sign, words_of};
+ghost use Rattle.lucid_parse.specs.Views.{plain_terminal, terminals_of};
 ghost use Rattle.lucid_parse.specs.Spelled.{IsReading, IsTokenOf};
 ghost use Rattle.lucid_parse.specs.Spellings.{fixed_plain};
-ghost use Rattle.lucid_parse.specs.Words.{fixed_sign, StandsFor, Words};
+ghost use Rattle.lucid_parse.specs.Terminals.{fixed_terminal, StandsFor, Terminals};
 
 use crate::refusal::ParseRefusal;
-use crate::sign::{Sign, SignAt};
-use crate::spelling::{FixedSign, fixed_sign, with_value};
+use crate::spelling::{FixedTerminal, fixed_terminal, with_value};
+use crate::terminal::{Terminal, TerminalAt};
 use lucid_scan::laws::tokens_stand;
 use lucid_scan::{Token, TokenKind};
 use lucid_value::{MakeRefusal, Name, ReadRefusal, Value, Word, one_line_reading, read_value};
@@ -58,56 +58,56 @@ fn make_value(alloc: Global, bytes: &[u8]) -> Result<Value, ParseRefusal>
     }
 }
 
-// The sign of a mark or of a reserved word.
-fn known_sign(bytes: &[u8]) -> FixedSign
+// The terminal of a mark or of a reserved word.
+fn known_terminal(bytes: &[u8]) -> FixedTerminal
     requires { (is_mark bytes.now || is_reserved bytes.now) ≡ true }
-    ensures { fixed_sign bytes.now ≡ Some (fixed_plain result) }
+    ensures { fixed_terminal bytes.now ≡ Some (fixed_plain result) }
 {
-    match fixed_sign(bytes) {
-        Some(sign) => sign,
+    match fixed_terminal(bytes) {
+        Some(terminal) => terminal,
         None => unreachable!(),
     }
 }
 
-/// The sign that a token of this kind and these bytes stands for.
-fn read_sign(
+/// The terminal that a token of this kind and these bytes stands for.
+fn read_terminal(
     alloc: Global,
     kind: TokenKind,
     bytes: &[u8],
-) -> Result<Sign<Name, Value>, ParseRefusal>
+) -> Result<Terminal<Name, Value>, ParseRefusal>
     requires { IsTokenOf kind bytes.now }
-    ensures sign { IfOk result (λ sign. StandsFor kind bytes.now (plain_sign sign)) }
+    ensures terminal { IfOk result (λ terminal. StandsFor kind bytes.now (plain_terminal terminal)) }
     ensures memory { IfErr result (λ e. e ≡ ParseRefusal.NoMemory) }
 {
     match kind {
-        TokenKind::Name => Ok(Sign::Name(make_name(alloc, bytes)?)),
-        TokenKind::Int => Ok(Sign::Const(make_value(alloc, bytes)?)),
-        TokenKind::Quoted => Ok(Sign::Const(Value::Word(make_word(alloc, bytes)?))),
-        TokenKind::Text => Ok(Sign::Const(make_value(alloc, bytes)?)),
-        TokenKind::ListText => Ok(Sign::Const(make_value(alloc, bytes)?)),
-        TokenKind::Fixed => Ok(with_value(alloc, known_sign(bytes))),
+        TokenKind::Name => Ok(Terminal::Name(make_name(alloc, bytes)?)),
+        TokenKind::Int => Ok(Terminal::Const(make_value(alloc, bytes)?)),
+        TokenKind::Quoted => Ok(Terminal::Const(Value::Word(make_word(alloc, bytes)?))),
+        TokenKind::Text => Ok(Terminal::Const(make_value(alloc, bytes)?)),
+        TokenKind::ListText => Ok(Terminal::Const(make_value(alloc, bytes)?)),
+        TokenKind::Fixed => Ok(with_value(alloc, known_terminal(bytes))),
     }
 }
 
-/// The signs of the source's tokens.
-pub fn read_signs(
+/// The terminals of the source's tokens.
+pub fn read_terminals(
     alloc: Global,
     source: &[u8],
     tokens: &[Token],
-) -> Result<Vec<SignAt>, ParseRefusal>
+) -> Result<Vec<TerminalAt>, ParseRefusal>
     requires { Tokens source.now 0 tokens.now }
-    ensures signs { IfOk result (λ signs. Words source.now tokens.now (words_of signs.items)) }
+    ensures terminals { IfOk result (λ terminals. Terminals source.now tokens.now (terminals_of terminals.items)) }
     ensures memory { IfErr result (λ e. e ≡ ParseRefusal.NoMemory) }
 {
     tokens_stand();
-    let mut signs = Vec::new(alloc);
+    let mut terminals = Vec::new(alloc);
     for token in tokens {
         let bytes = &source[token.from as usize..token.to as usize];
-        let sign = read_sign(alloc, token.kind, bytes)?;
-        signs.push(SignAt {
-            sign,
+        let terminal = read_terminal(alloc, token.kind, bytes)?;
+        terminals.push(TerminalAt {
+            terminal,
             at: token.from,
         })?;
     }
-    Ok(signs)
+    Ok(terminals)
 }

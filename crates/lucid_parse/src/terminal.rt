@@ -1,0 +1,105 @@
+//! The terminals of the grammar: what tokens stand for.
+
+use lucid_ops::Op;
+use lucid_value::{Name, Value};
+
+/// An operator between two operands: a data operator, or one over streams.
+#[derive(Clone, Copy)]
+pub enum Infix {
+    Operator(Op),
+    Fby,
+    Sby,
+    Whenever,
+    Asa,
+    Upon,
+    Attime,
+    Atspace,
+    Or,
+    And,
+}
+
+/// An operator before its operand: a data operator, or one over streams.
+#[derive(Clone, Copy)]
+pub enum Prefix {
+    Operator(Op),
+    First,
+    Next,
+    Initial,
+    Succ,
+}
+
+/// An operator that is called.
+#[derive(Clone, Copy)]
+pub enum Called {
+    Substr,
+    Nth,
+}
+
+/// What a token stands for: a name, a constant, or a mark or reserved word. `N` is what it holds of a name, and `V` of a
+/// constant's value.
+#[derive(Clone, Copy)]
+pub enum Terminal<N, V> {
+    Name(N),
+    Const(V),
+    Infix(Infix),
+    Prefix(Prefix),
+    Called(Called),
+    /// `-`, which stands between two operands or before one.
+    Minus,
+    Is,
+    Current,
+    Where,
+    End,
+    If,
+    Then,
+    Else,
+    Fi,
+    Open,
+    Close,
+    Comma,
+    Semicolon,
+    Equals,
+}
+
+/// A terminal that borrows its name or its value.
+pub type BorrowedTerminal<'a> = Terminal<&'a Name, &'a Value>;
+
+/// A terminal with the place of its token.
+#[derive(Drop)]
+pub struct TerminalAt {
+    pub terminal: Terminal<Name, Value>,
+    pub at: u32,
+}
+
+impl TerminalAt {
+    ghost use Rattle.std.specs.Prelude.{◌≡◌};
+    ghost use Rattle.lucid_parse.specs.Fill.{fill_terminal};
+    ghost use Rattle.lucid_parse.specs.Views.{name_now, value_now, placed_of};
+
+    /// The terminal, with its name or its value borrowed.
+    pub fn borrowed(&self) -> BorrowedTerminal<'_>
+        ensures { fill_terminal name_now value_now result ≡ (placed_of self.now).terminal }
+    {
+        match &self.terminal {
+            Terminal::Name(name) => Terminal::Name(name),
+            Terminal::Const(value) => Terminal::Const(value),
+            Terminal::Infix(operator) => Terminal::Infix(*operator),
+            Terminal::Prefix(operator) => Terminal::Prefix(*operator),
+            Terminal::Called(operator) => Terminal::Called(*operator),
+            Terminal::Minus => Terminal::Minus,
+            Terminal::Is => Terminal::Is,
+            Terminal::Current => Terminal::Current,
+            Terminal::Where => Terminal::Where,
+            Terminal::End => Terminal::End,
+            Terminal::If => Terminal::If,
+            Terminal::Then => Terminal::Then,
+            Terminal::Else => Terminal::Else,
+            Terminal::Fi => Terminal::Fi,
+            Terminal::Open => Terminal::Open,
+            Terminal::Close => Terminal::Close,
+            Terminal::Comma => Terminal::Comma,
+            Terminal::Semicolon => Terminal::Semicolon,
+            Terminal::Equals => Terminal::Equals,
+        }
+    }
+}
