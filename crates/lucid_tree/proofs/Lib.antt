@@ -10,9 +10,15 @@ pub mod Exact
 pub mod RunsMeant
 pub mod LevelMeant
 pub mod Meant
+pub mod Ways
+pub mod RestsDefined
+pub mod RestsTraced
+pub mod SearchesLead
 pub mod Outputs
 pub mod Spaces
 pub mod Undone
+pub mod Shifts
+pub mod SearchEquations
 pub mod References
 mod Falls
 mod Copies

@@ -9,18 +9,18 @@ use Rattle.lucid_tree.specs.Env.{Env}
 use Rattle.lucid_tree.specs.Meaning.{val}
 
 -- the value of one look alone
-alone : (o : Option PlainValue) (r : Reader (Option PlainValue)) → with_values (add_value o (Some [])) None (λ vs. run (single gives vs) r) ≡ o
+pub alone : (o : Option PlainValue) (r : Reader (Option PlainValue)) → with_values (add_value o (Some [])) None (λ vs. run (single gives vs) r) ≡ o
 alone None r = refl
 alone (Some v) r = refl
 
 module _ (b : Elements) (env : Env) where
-  first_is : (m i t s : ℕ) (x : PlainTree) → val b m (first_of i x) env t s ≡ val b m x env 0 s
+  pub first_is : (m i t s : ℕ) (x : PlainTree) → val b m (first_of i x) env t s ≡ val b m x env 0 s
   first_is m i t s x = alone (val b m x env 0 s) _
 
   pub first-fby : (m i j k t s : ℕ) (x y : PlainTree) → val b m (first_of i (fby_of j x y)) env t s ≡ val b m (first_of k x) env t s
   first-fby m i j k t s x y = rw (first_is m i t s (fby_of j x y), first_is m k t s x) (alone (val b m x env 0 s) _)
 
-  next_is : (m i t s : ℕ) (x : PlainTree) → t < last → val b m (next_of i x) env t s ≡ val b m x env (suc t) s
+  pub next_is : (m i t s : ℕ) (x : PlainTree) → t < last → val b m (next_of i x) env t s ≡ val b m x env (suc t) s
   next_is m i t s x h = let e : nat_lt t last ≡ true = grind (arith, nat_tests) in rw e (alone (val b m x env (suc t) s) _)
 
   fby_later : (m j t s : ℕ) (x y : PlainTree) → val b m (fby_of j x y) env (suc t) s ≡ val b m y env t s

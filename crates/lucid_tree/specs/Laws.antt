@@ -1,7 +1,7 @@
 -- The laws of the meaning, over all inputs b, limits m, environments and points. Each is the contract of a function of `laws`.
-use Rattle.std.specs.Prelude.{◌≡◌, ℕ, ◌+◌, ◌<◌, ◌≤◌, List, Option, Some, None, ◌↔◌}
+use Rattle.std.specs.Prelude.{◌≡◌, ℕ, ◌+◌, ◌<◌, ◌≤◌, max, List, Option, Some, None, ◌↔◌}
 use Rattle.lucid_value.specs.Plain.{PlainValue}
-use Rattle.lucid_tree.specs.Tree.{PlainTree, name, call, PlainTrees, PlainDefs, first_of, next_of, fby_of, whenever_of, asa_of, initial_of, succ_of, sby_of}
+use Rattle.lucid_tree.specs.Tree.{PlainTree, name, call, PlainTrees, PlainDefs, first_of, next_of, fby_of, whenever_of, asa_of, upon_of, initial_of, succ_of, sby_of, if_of}
 use Rattle.lucid_tree.specs.Members.{Inside}
 use Rattle.lucid_tree.specs.Rows.{last}
 use Rattle.lucid_tree.specs.Levels.{Elements}
@@ -105,3 +105,35 @@ ConsultsGrowWithLimit =
 abbrev pub ConsultsGrowWithAdded : Type 0
 ConsultsGrowWithAdded =
     (b : Elements) (m d : ℕ) (e : PlainTree) (env : Env) (t s : ℕ) → Inside (consults b m d e env t s) (consults b m (d + 1) e env t s)
+
+-- What one side of an equation has, the other has: the right side at the same limit, the left side at the greater of limit and
+-- time, and one. It is said of limits up to the last time, since `next` at the last time is an error.
+pub record IsEquation (b : Elements) (left right : PlainTree) (env : Env) : Type 0 where
+  pub to_right : (m t s : ℕ) (v : PlainValue) → m ≤ last → t ≤ last → val b m left env t s ≡ Some v → val b m right env t s ≡ Some v
+  pub to_left : (m t s : ℕ) (v : PlainValue) → m ≤ last → t ≤ last → val b m right env t s ≡ Some v → val b (max m t + 1) left env t s ≡ Some v
+
+-- The right side of the equation of `whenever`: if first P then X fby (next X whenever next P) else (next X whenever next P) fi,
+-- its nodes at any places, here by their numbers.
+abbrev pub whenever_unfolded : (at : ℕ → ℕ) → (x p : PlainTree) → PlainTree
+whenever_unfolded at x p =
+    if_of (at 0) (first_of (at 1) p)
+    (fby_of (at 2) x (whenever_of (at 3) (next_of (at 4) x) (next_of (at 5) p)))
+    (whenever_of (at 6) (next_of (at 7) x) (next_of (at 8) p))
+
+-- The right side of the equation of `upon`: X fby (if first P then next X upon next P else X upon next P fi).
+abbrev pub upon_unfolded : (at : ℕ → ℕ) → (x p : PlainTree) → PlainTree
+upon_unfolded at x p =
+    fby_of (at 0) x
+    (if_of (at 1) (first_of (at 2) p)
+    (upon_of (at 3) (next_of (at 4) x) (next_of (at 5) p))
+    (upon_of (at 6) x (next_of (at 7) p)))
+
+-- X whenever P = if first P then X fby (next X whenever next P) else (next X whenever next P) fi, Wadge and Ashcroft's equation.
+abbrev pub WheneverEquation : Type 0
+WheneverEquation =
+    (b : Elements) (x p : PlainTree) (env : Env) (i : ℕ) (at : ℕ → ℕ) → IsEquation b (whenever_of i x p) (whenever_unfolded at x p) env
+
+-- X upon P = X fby (if first P then next X upon next P else X upon next P fi), this language's own.
+abbrev pub UponEquation : Type 0
+UponEquation =
+    (b : Elements) (x p : PlainTree) (env : Env) (i : ℕ) (at : ℕ → ℕ) → IsEquation b (upon_of i x p) (upon_unfolded at x p) env

@@ -7,6 +7,7 @@ pub mod DefsView
 pub mod DefsFall
 pub mod View
 pub mod Rows
+pub mod Rests
 pub mod Members
 pub mod Levels
 pub mod Env
@@ -17,6 +18,8 @@ pub mod Output
 pub mod Find
 pub mod Spaceless
 pub mod Laws
+pub mod PlanLaws
 pub mod SamplePrograms
 pub mod Samples
 pub mod DemandSamples
+pub mod EquationSamples

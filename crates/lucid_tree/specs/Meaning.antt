@@ -1,5 +1,6 @@
 -- The approximations of a tree, and what it means: the least fixed point of its equations, as the limit of its approximations
--- (Wadge and Ashcroft's equations, with this language's own rules for end of data, error, current names and space).
+-- (Wadge and Ashcroft's equations, with this language's own rules for `upon`, `attime`, end of data, error, current names and
+-- space).
 use Rattle.std.specs.Prelude.{◌≡◌, ℕ, zero, suc, Option, Some, None}
 use Rattle.lucid_value.specs.Plain.{PlainValue}
 use Rattle.lucid_tree.specs.Tree.{PlainTree, form, name, call, block, PlainTrees, no_trees, tree}

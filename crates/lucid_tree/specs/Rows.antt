@@ -1,6 +1,6 @@
 -- What each form does at a time and a space: its row, as a plan of looks at its parts.
--- The rows of `first`, `next`, `fby`, `whenever`, `asa` and `upon` are Wadge and Ashcroft's (Lucid, the Dataflow Programming
--- Language, 1985); those of `attime`, of the four forms over space, and what end of data and error do, are this language's own.
+-- The rows of `first`, `next`, `fby`, `whenever` and `asa` are Wadge and Ashcroft's (Lucid, the Dataflow Programming Language,
+-- 1985); those of `upon`, of `attime`, of the four forms over space, and what end of data and error do, are this language's own.
 -- A plan says nothing of who looks: approximations, demands and held values all read the same plans.
 use Rattle.std.specs.Prelude.{ℕ, zero, suc, pos, true, false, List, [], ◌∷◌, ◌++◌, Option, Some, None, nat_lt, nat_le, if◌then◌else◌}
 use Rattle.lucid_value.specs.Plain.{PlainValue, int, truth, eod, fault}

@@ -9,11 +9,11 @@ use Rattle.lucid_tree.specs.Tree.{apply, PlainTree, form, name, call, block, no_
 abbrev pub number : ℕ → PlainValue
 number n = int (pos n)
 
-abbrev integer : (at : ℕ) → ℕ → PlainTree
+abbrev pub integer : (at : ℕ) → ℕ → PlainTree
 integer at n = constant at (number n)
 
 -- a data operator between two arguments
-abbrev between : (at : ℕ) → Op → PlainTree → PlainTree → PlainTree
+abbrev pub between : (at : ℕ) → Op → PlainTree → PlainTree → PlainTree
 between at op x y = form at (apply op 2) (tree x (tree y no_trees))
 
 -- x where x = 0 fby x + 1; end

@@ -1,5 +1,6 @@
 //! Sample programs: their values at several points, and what they demand. Each is the contract of a function that does nothing.
 ghost use Rattle.lucid_tree.specs.DemandSamples.{ConsultedLines, ReferredNames, EnteredEnvironments, HeldValues};
+ghost use Rattle.lucid_tree.specs.EquationSamples.{SidesOfEquations};
 ghost use Rattle.lucid_tree.specs.Samples.{CountingUp, NamesThatNeedEachOther, EveryThirdNumber, AdvanceUponTruths, ValuesAtATime, NestedIteration, RunningCounts, RecursiveFunction, TwoCallsOfOneFunction, WhatIsNotLookedAt, BinomialNumbers, InitialAndSucc, LastTimeAndSpace};
 
 /// Counting up.
@@ -65,6 +66,11 @@ pub fn initial_and_succ()
 /// The last time and the last space.
 pub fn last_time_and_space()
     ensures { LastTimeAndSpace }
+{}
+
+/// Both sides of the equations of searches.
+pub fn sides_of_equations()
+    ensures { SidesOfEquations }
 {}
 
 /// What is consulted, and what the added number changes.
