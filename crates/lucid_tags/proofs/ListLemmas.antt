@@ -1,31 +1,30 @@
--- Keys and places of the entries of a map.
-use Rattle.std.proofs.Common.{◌≡◌, ℕ, zero, suc, ◌⊎◌, inl, inr, Bool, true, false, cond, List, [], ◌∷◌, ◌++◌, length, Option, Some, None, refl, ap, subst}
+-- Items of lists.
+use Rattle.std.proofs.Common.{◌≡◌, ℕ, zero, suc, ◌⊎◌, inl, inr, Bool, true, false, not, ◌||◌, if◌then◌else◌, List, [], ◌∷◌, ◌++◌, length, Some, refl, ap, subst}
 use Rattle.std.specs.Prelude.{slice_get}
-use Rattle.std.specs.Map.{lookup, lookup_key}
+use Rattle.std.specs.List.{list_any}
 
-passes-some : {K : Type 0} (b : Bool) (x k : K) (rest : Option K) → cond b (Some x) rest ≡ Some k → ((b ≡ true) × (x ≡ k)) ⊎ (rest ≡ Some k)
-passes-some true x k rest h = inl (refl, cc)
-passes-some false x k rest h = inr h
+neither : (a b : Bool) → (a || b) ≡ false → (a ≡ false) × (b ≡ false)
+neither true b h = absurd (cc)
+neither false b h = (refl, h)
 
-passes-none : {X : Type 0} (b : Bool) (x : X) (rest : Option X) → cond b (Some x) rest ≡ None → (b ≡ false) × (rest ≡ None)
-passes-none true x rest h = absurd (cc)
-passes-none false x rest h = (refl, h)
+-- where no item passes, each fails
+pub fails-list_any : {X : Type 0} (test : X → Bool) (xs : List X) → list_any test xs ≡ false → (i : ℕ) (x : X) → slice_get xs i ≡ Some x → test x ≡ false
+fails-list_any test [] h i x at = absurd (cc)
+fails-list_any test (y ∷ xs) h zero x at = let p : y ≡ x = cc in subst (λ q. test q ≡ false) p (neither (test y) (list_any test xs) h).0
+fails-list_any test (y ∷ xs) h (suc i) x at = fails-list_any test xs (neither (test y) (list_any test xs) h).1 i x at
 
-module _ {K X : Type 0} (test : K → Bool) where
-  -- where no key passes, the key of each entry fails
-  pub fails-lookup : (es : List (K × X)) → lookup test es ≡ None → (i : ℕ) (e : K × X) → slice_get es i ≡ Some e → test e.0 ≡ false
-  fails-lookup [] h i e at = absurd (cc)
-  fails-lookup (x ∷ es) h zero e at = let p : x ≡ e = cc in subst (λ q. test q.0 ≡ false) p (passes-none (test x.0) x.1 (lookup test es) h).0
-  fails-lookup (x ∷ es) h (suc i) e at = fails-lookup es (passes-none (test x.0) x.1 (lookup test es) h).1 i e at
+pub none_passes : (b : Bool) → true ≡ not b → b ≡ false
+none_passes true h = absurd (cc)
+none_passes false h = refl
 
-  -- the key that is found passes
-  pub passes-lookup_key : (es : List (K × X)) (k : K) → lookup_key test es ≡ Some k → test k ≡ true
-  passes-lookup_key [] k h = absurd (cc)
-  passes-lookup_key (x ∷ es) k h =
-      elim (passes-some (test x.0) x.0 k (lookup_key test es) h) [
-        | inl p ↦ subst (λ q. test q ≡ true) p.1 p.0
-        | inr p ↦ passes-lookup_key es k p
-      ]
+-- the items after one is inserted
+pub inserted-present : {X : Type 0} (b : Bool) (xs : List X) (x : X) → false ≡ not b → (if b then xs else xs ++ x ∷ []) ≡ xs
+inserted-present true xs x h = refl
+inserted-present false xs x h = absurd (cc)
+
+pub inserted-absent : {X : Type 0} (b : Bool) (xs : List X) (x : X) → true ≡ not b → (if b then xs else xs ++ x ∷ []) ≡ xs ++ x ∷ []
+inserted-absent true xs x h = absurd (cc)
+inserted-absent false xs x h = refl
 
 -- an item of a longer list is one of the list, or the last
 pub slice_get-push : {X : Type 0} (xs : List X) (x y : X) (i : ℕ) → slice_get (xs ++ x ∷ []) i ≡ Some y → (slice_get xs i ≡ Some y) ⊎ ((i ≡ length xs) × (x ≡ y))

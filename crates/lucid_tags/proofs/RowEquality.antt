@@ -1,6 +1,7 @@
 -- Rows are equal exactly where their comparison says so.
 use Rattle.std.proofs.Common.{◌≡◌, ◌≢◌, ℕ, Bool, true, false, ◌==◌, ◌&&◌, ap, sym, ◌∙◌, subst, arith}
 use Rattle.std.proofs.lemmas.Bool.Decides.{nat_tests}
+use Rattle.std.specs.Bool.{Decides}
 use Rattle.lucid_tags.specs.declared.rows.Row.{Row}
 use Rattle.lucid_tags.specs.declared.rows.RowFrame.{RowFrame}
 use Rattle.lucid_tags.specs.declared.rows.RowFrame.TheVariants.{Call, Frozen}
@@ -31,3 +32,7 @@ itself m (Frozen t) = grind (arith, nat_tests)
 
 pub other_row : (a b : Row) → eq-value.it a b ≡ false → b ≢ a
 other_row a b h e = let p : true ≡ false = sym (itself a.base a.frame) ∙ subst (λ r. eq-value.it a r ≡ false) e h in cc
+
+-- the comparison of rows decides equality
+pub row_decides : (a b : Row) → Decides (eq-value.it a b) (a ≡ b)
+row_decides a b = (same_row a b, λ e. subst (λ r. eq-value.it a r ≡ true) e (itself a.base a.frame))

@@ -1,16 +1,21 @@
 -- The known contexts of a table of rows, and what adding a row does.
-use Rattle.std.proofs.Common.{◌≡◌, ◌≢◌, ℕ, zero, suc, ◌+◌, ◌-◌, ◌<◌, ◌≤◌, ◌^◌, ◌⊎◌, inl, inr, List, [], ◌∷◌, ◌++◌, length, Some, refl, ap, sym, ◌∙◌, subst, arith, get_or, length-append}
+use Rattle.std.proofs.Common.{◌≡◌, ◌≢◌, ℕ, zero, suc, ◌+◌, ◌-◌, ◌<◌, ◌≤◌, ◌^◌, ◌⊎◌, inl, inr, List, [], ◌∷◌, ◌++◌, length, Some, Option, None, IfNone, IfSome, Result, Ok, Err, OnErr, true, false, not, refl, ap, sym, ◌∙◌, subst, arith, get_or, length-append}
 use Rattle.std.specs.Prelude.{slice_get}
 use Rattle.std.proofs.lemmas.List.{get_or_append_left}
 use Rattle.std.proofs.lemmas.Option.{slice_get_within, slice_get-get_or}
+use Rattle.std.specs.List.{find, list_any}
+use Rattle.std.proofs.lemmas.Map.Made.{IfSome-find_same}
 use Rattle.lucid_tags.specs.declared.rows.Row.{Row}
 use Rattle.lucid_tags.specs.declared.rows.RowFrame.{RowFrame}
 use Rattle.lucid_tags.specs.declared.rows.RowFrame.TheVariants.{Call, Frozen}
 use Rattle.lucid_tags.specs.declared.rows.Depth.{Depth}
+use Rattle.lucid_tags.specs.contracts.rows.RowPartialEq.TheImpl.{eq-value}
 use Rattle.lucid_tags.specs.Contexts.{Context, root, frozen_frame, frames, base_of, IsOuter, context_at}
-use Rattle.lucid_tags.specs.Rows.{with_frame, row_context, CallerBelow, contexts_after, contexts, IsDepth, IsRow, AreDistinct, AreRows}
+use Rattle.lucid_tags.specs.Rows.{with_frame, row_context, CallerBelow, contexts_after, contexts, IsDepth, IsRow, AreDepths, AreDistinct, AreRows}
+use Rattle.lucid_tags.specs.Known.{IsUnknown}
 use Rattle.lucid_tags.proofs.ContextLemmas.{outer-itself, outer-base_of, outer-outer}
-use Rattle.lucid_tags.proofs.ListLemmas.{slice_get-push}
+use Rattle.lucid_tags.proofs.ListLemmas.{slice_get-push, fails-list_any, none_passes}
+use Rattle.lucid_tags.proofs.RowEquality.{other_row, row_decides, same_row}
 
 -- a context added at the end leaves the others
 pub context_at-left : (known : List Context) (c : Context) (n : ℕ) → n < length known → context_at (known ++ c ∷ []) n ≡ context_at known n
@@ -24,33 +29,33 @@ pub length-push : (known : List Context) (c : Context) → length (known ++ c �
 length-push known c = omega (arith, length-append known (c ∷ []))
 
 -- how many contexts there are
-pub length-contexts_after : (known : List Context) (rows : List (Row × Depth)) → length (contexts_after known rows) ≡ length known + length rows
+pub length-contexts_after : (known : List Context) (rows : List Row) → length (contexts_after known rows) ≡ length known + length rows
 length-contexts_after known [] = omega arith
-length-contexts_after known (e ∷ rows) =
-    let c = row_context known e.0 in
+length-contexts_after known (row ∷ rows) =
+    let c = row_context known row in
     omega (arith, length-contexts_after (known ++ c ∷ []) rows, length-push known c)
 
-pub length-contexts : (rows : List (Row × Depth)) → length (contexts rows) ≡ suc (length rows)
+pub length-contexts : (rows : List Row) → length (contexts rows) ≡ suc (length rows)
 length-contexts rows = omega (arith, length-contexts_after (root ∷ []) rows)
 
 -- the contexts that were known stay
-pub context_at-contexts_after : (known : List Context) (rows : List (Row × Depth)) (n : ℕ) → n < length known → context_at (contexts_after known rows) n ≡ context_at known n
+pub context_at-contexts_after : (known : List Context) (rows : List Row) (n : ℕ) → n < length known → context_at (contexts_after known rows) n ≡ context_at known n
 context_at-contexts_after known [] n h = refl
-context_at-contexts_after known (e ∷ rows) n h =
-    let c = row_context known e.0 in
+context_at-contexts_after known (row ∷ rows) n h =
+    let c = row_context known row in
     context_at-contexts_after (known ++ c ∷ []) rows n (omega (arith, h, length-push known c)) ∙ context_at-left known c n h
 
 -- number 0 is that of the empty context
-pub context_at-first : (rows : List (Row × Depth)) → context_at (contexts rows) 0 ≡ root
+pub context_at-first : (rows : List Row) → context_at (contexts rows) 0 ≡ root
 context_at-first rows = context_at-contexts_after (root ∷ []) rows 0 (omega arith)
 
 -- a row at the end adds its context at the end
-pub contexts_after-push : (known : List Context) (rows : List (Row × Depth)) (e : Row × Depth) → contexts_after known (rows ++ e ∷ []) ≡ contexts_after known rows ++ row_context (contexts_after known rows) e.0 ∷ []
-contexts_after-push known [] e = refl
-contexts_after-push known (x ∷ rows) e = contexts_after-push (known ++ row_context known x.0 ∷ []) rows e
+pub contexts_after-push : (known : List Context) (rows : List Row) (row : Row) → contexts_after known (rows ++ row ∷ []) ≡ contexts_after known rows ++ row_context (contexts_after known rows) row ∷ []
+contexts_after-push known [] row = refl
+contexts_after-push known (x ∷ rows) row = contexts_after-push (known ++ row_context known x ∷ []) rows row
 
-pub contexts-push : (rows : List (Row × Depth)) (row : Row) (depth : Depth) → contexts (rows ++ (row, depth) ∷ []) ≡ contexts rows ++ row_context (contexts rows) row ∷ []
-contexts-push rows row depth = contexts_after-push (root ∷ []) rows (row, depth)
+pub contexts-push : (rows : List Row) (row : Row) → contexts (rows ++ row ∷ []) ≡ contexts rows ++ row_context (contexts rows) row ∷ []
+contexts-push rows row = contexts_after-push (root ∷ []) rows row
 
 -- a frame over known contexts stands for the same once one more is known
 pub with_frame-left : (known : List Context) (c : Context) (f : RowFrame) (base other : Context) → CallerBelow (length known) f → base ≡ other → with_frame (known ++ c ∷ []) f base ≡ with_frame known f other
@@ -119,14 +124,14 @@ same_rows known one r s rb sb rc sc e =
     λ i. record { base = b i; frame = f.0 i }
 
 -- the context of a row that isn't in the table isn't known
-pub fresh : (rows : List (Row × Depth)) → AreRows rows → (row : Row) → row.base < length (contexts rows) → CallerBelow (length (contexts rows)) row.frame → ((i : ℕ) (e : Row × Depth) → slice_get rows i ≡ Some e → e.0 ≢ row) → (n : ℕ) → n < length (contexts rows) → context_at (contexts rows) n ≢ row_context (contexts rows) row
-fresh rows h row b f absent zero l e = with_frame-full (contexts rows) row.frame _ (sym (context_at-first rows) ∙ e)
-fresh rows h row b f absent (suc i) l e =
+pub fresh : (rows : List Row) (depths : List Depth) → AreRows rows depths → (row : Row) → row.base < length (contexts rows) → CallerBelow (length (contexts rows)) row.frame → ((i : ℕ) (r : Row) → slice_get rows i ≡ Some r → r ≢ row) → IsUnknown (contexts rows) (row_context (contexts rows) row)
+fresh rows depths h row b f absent zero l e = with_frame-full (contexts rows) row.frame _ (sym (context_at-first rows) ∙ e)
+fresh rows depths h row b f absent (suc i) l e =
     let within : i < length rows = omega (arith, l, length-contexts rows) in
-    let there = get_or rows i (row, record { level = 0; outer = 0 }) in
-    let at : slice_get rows i ≡ Some there = slice_get-get_or rows i _ within in
+    let there = get_or rows i row in
+    let at : slice_get rows i ≡ Some there = slice_get-get_or rows i row within in
     let r = h.row i there at in
-    absent i there at (same_rows (contexts rows) h.distinct there.0 row (omega (arith, r.base, l)) b (caller_below (suc i) (length (contexts rows)) there.0.frame (omega arith) r.caller) f (sym r.context ∙ e))
+    absent i there at (same_rows (contexts rows) h.distinct there row (omega (arith, r.base, l)) b (caller_below (suc i) (length (contexts rows)) there.frame (omega arith) r.caller) f (sym r.context ∙ e))
 
 -- distinct contexts, and one more that isn't among them
 last_or_below : (i n : ℕ) → i < suc n → (i < n) ⊎ (i ≡ n)
@@ -168,60 +173,89 @@ module _ (known : List Context) (row : Row) (base : row.base < length known) whe
         outer = rw (inner, out) (outer-outer _ _ _ outer over_base);
       }
 
--- a table with one more row, whose base and caller are known, at a right depth, and which isn't in it yet
-pub record Addable (rows : List (Row × Depth)) (row : Row) (depth : Depth) : Type 0 where
+-- depths stay right once one more context is known
+pub AreDepths-left : (known : List Context) (c : Context) (depths : List Depth) → length depths < length known → AreDepths known depths → AreDepths (known ++ c ∷ []) depths
+AreDepths-left known c depths few h = record {
+  depth = λ i d at. IsDepth-left known c (suc i) d (omega (arith, slice_get_within depths i d at)) (h.depth i d at);
+}
+
+-- a table whose rows are right has as many depths as contexts but the empty one
+pub length-depths : (rows : List Row) (depths : List Depth) → AreRows rows depths → length (contexts rows) ≡ suc (length depths)
+length-depths rows depths h = omega (arith, length-contexts rows, h.even)
+
+-- a row whose base and caller are known, and which isn't in the table yet
+pub record Addable (rows : List Row) (row : Row) : Type 0 where
   pub base : row.base < length (contexts rows)
   pub caller : CallerBelow (length (contexts rows)) row.frame
-  pub absent : (i : ℕ) (e : Row × Depth) → slice_get rows i ≡ Some e → e.0 ≢ row
-  pub level : depth.level ≡ frames (context_at (contexts rows) row.base) + 1
-  pub low : depth.level ≤ row.base + 1
-  pub before : depth.outer ≤ row.base
-  pub outer : IsOuter (context_at (contexts rows) depth.outer) (context_at (contexts rows) row.base)
+  pub absent : (i : ℕ) (r : Row) → slice_get rows i ≡ Some r → r ≢ row
   pub few : suc (length rows) < 2 ^ 32
 
-module _ (rows : List (Row × Depth)) (h : AreRows rows) (row : Row) (depth : Depth) (a : Addable rows row depth) where
-  row_at : (i : ℕ) (e : Row × Depth) → (slice_get rows i ≡ Some e) ⊎ ((i ≡ length rows) × ((row, depth) ≡ e)) → IsRow (contexts rows ++ row_context (contexts rows) row ∷ []) (suc i) e.0
-  row_at i e (inl p) = IsRow-left (contexts rows) _ (suc i) e.0 (omega (arith, slice_get_within rows i e p, length-contexts rows)) (h.row i e p)
-  row_at i e (inr p) =
+-- the depth of a context over that of the base is right
+pub record IsDepthOver (known : List Context) (base : ℕ) (depth : Depth) : Type 0 where
+  pub level : depth.level ≡ frames (context_at known base) + 1
+  pub low : depth.level ≤ base + 1
+  pub before : depth.outer ≤ base
+  pub outer : IsOuter (context_at known depth.outer) (context_at known base)
+
+-- also where one more context is known
+pub IsDepthOver-shorter : (known : List Context) (c : Context) (base : ℕ) (depth : Depth) → base < length known → IsDepthOver (known ++ c ∷ []) base depth → IsDepthOver known base depth
+IsDepthOver-shorter known c base depth h d =
+    let inner = sym (context_at-left known c base h) in
+    let outer = sym (context_at-left known c depth.outer (omega (arith, h, d.before))) in
+    record {
+      level = omega (arith, d.level, ap frames inner);
+      low = d.low;
+      before = d.before;
+      outer = rw (inner, outer) d.outer;
+    }
+
+module _ (rows : List Row) (depths : List Depth) (h : AreRows rows depths) (row : Row) (depth : Depth) (a : Addable rows row) (d : IsDepthOver (contexts rows) row.base depth) where
+  row_at : (i : ℕ) (r : Row) → (slice_get rows i ≡ Some r) ⊎ ((i ≡ length rows) × (row ≡ r)) → IsRow (contexts rows ++ row_context (contexts rows) row ∷ []) (suc i) r
+  row_at i r (inl p) = IsRow-left (contexts rows) _ (suc i) r (omega (arith, slice_get_within rows i r p, length-contexts rows)) (h.row i r p)
+  row_at i r (inr p) =
       let number : length (contexts rows) ≡ suc i = omega (arith, length-contexts rows, p.0) in
-      subst (λ q. IsRow (contexts rows ++ row_context (contexts rows) row ∷ []) (suc i) q.0) p.1
+      subst (λ q. IsRow (contexts rows ++ row_context (contexts rows) row ∷ []) (suc i) q) p.1
       (subst (λ n. IsRow (contexts rows ++ row_context (contexts rows) row ∷ []) n row) number (IsRow-last (contexts rows) row a.base a.caller))
 
-  depth_at : (i : ℕ) (e : Row × Depth) → (slice_get rows i ≡ Some e) ⊎ ((i ≡ length rows) × ((row, depth) ≡ e)) → IsDepth (contexts rows ++ row_context (contexts rows) row ∷ []) (suc i) e.1
-  depth_at i e (inl p) = IsDepth-left (contexts rows) _ (suc i) e.1 (omega (arith, slice_get_within rows i e p, length-contexts rows)) (h.depth i e p)
+  depth_at : (i : ℕ) (e : Depth) → (slice_get depths i ≡ Some e) ⊎ ((i ≡ length depths) × (depth ≡ e)) → IsDepth (contexts rows ++ row_context (contexts rows) row ∷ []) (suc i) e
+  depth_at i e (inl p) = IsDepth-left (contexts rows) _ (suc i) e (omega (arith, slice_get_within depths i e p, length-depths rows depths h)) (h.deep.depth i e p)
   depth_at i e (inr p) =
-      let number : length (contexts rows) ≡ suc i = omega (arith, length-contexts rows, p.0) in
-      subst (λ q. IsDepth (contexts rows ++ row_context (contexts rows) row ∷ []) (suc i) q.1) p.1
-      (subst (λ n. IsDepth (contexts rows ++ row_context (contexts rows) row ∷ []) n depth) number (IsDepth-last (contexts rows) row a.base depth a.level a.low a.before a.outer))
+      let number : length (contexts rows) ≡ suc i = omega (arith, length-depths rows depths h, p.0) in
+      subst (λ q. IsDepth (contexts rows ++ row_context (contexts rows) row ∷ []) (suc i) q) p.1
+      (subst (λ n. IsDepth (contexts rows ++ row_context (contexts rows) row ∷ []) n depth) number (IsDepth-last (contexts rows) row a.base depth d.level d.low d.before d.outer))
 
-  pub AreRows-push : AreRows (rows ++ (row, depth) ∷ [])
+  pub AreRows-push : AreRows (rows ++ row ∷ []) (depths ++ depth ∷ [])
   AreRows-push = record {
-    row = λ i e at. subst (λ k. IsRow k (suc i) e.0) (sym (contexts-push rows row depth)) (row_at i e (slice_get-push rows (row, depth) e i at));
-    depth = λ i e at. subst (λ k. IsDepth k (suc i) e.1) (sym (contexts-push rows row depth)) (depth_at i e (slice_get-push rows (row, depth) e i at));
-    distinct = subst AreDistinct (sym (contexts-push rows row depth)) (distinct-push (contexts rows) (row_context (contexts rows) row) h.distinct (fresh rows h row a.base a.caller a.absent));
-    few = omega (arith, a.few, length-append rows ((row, depth) ∷ []));
+    row = λ i r at. subst (λ k. IsRow k (suc i) r) (sym (contexts-push rows row)) (row_at i r (slice_get-push rows row r i at));
+    deep = record {
+      depth = λ i e at. subst (λ k. IsDepth k (suc i) e) (sym (contexts-push rows row)) (depth_at i e (slice_get-push depths depth e i at));
+    };
+    even = omega (arith, h.even, length-append rows (row ∷ []), length-append depths (depth ∷ []));
+    distinct = subst AreDistinct (sym (contexts-push rows row)) (distinct-push (contexts rows) (row_context (contexts rows) row) h.distinct (fresh rows depths h row a.base a.caller a.absent));
+    few = omega (arith, a.few, length-append rows (row ∷ []));
   }
 
 -- an empty table
-pub AreRows-nil : AreRows []
+pub AreRows-nil : AreRows [] []
 AreRows-nil = record {
-  row = λ i e at. absurd (cc);
-  depth = λ i e at. absurd (cc);
+  row = λ i r at. absurd (cc);
+  deep = record { depth = λ i d at. absurd (cc) };
+  even = refl;
   distinct = record { same = λ i j h k e. omega arith };
   few = omega arith;
 }
 
 -- the row and the depth of a context that isn't empty
-pub row_of-at : (rows : List (Row × Depth)) → AreRows rows → (n : ℕ) → 0 < n → (e : Row × Depth) → slice_get rows (n - 1) ≡ Some e → IsRow (contexts rows) n e.0
-row_of-at rows h zero l e at = absurd (omega arith)
-row_of-at rows h (suc i) l e at = h.row i e (subst (λ k. slice_get rows k ≡ Some e) (omega arith) at)
+pub row_of-at : (rows : List Row) (depths : List Depth) → AreRows rows depths → (n : ℕ) → 0 < n → (r : Row) → slice_get rows (n - 1) ≡ Some r → IsRow (contexts rows) n r
+row_of-at rows depths h zero l r at = absurd (omega arith)
+row_of-at rows depths h (suc i) l r at = h.row i r (subst (λ k. slice_get rows k ≡ Some r) (omega arith) at)
 
-pub depth_of-at : (rows : List (Row × Depth)) → AreRows rows → (n : ℕ) → 0 < n → (e : Row × Depth) → slice_get rows (n - 1) ≡ Some e → IsDepth (contexts rows) n e.1
-depth_of-at rows h zero l e at = absurd (omega arith)
-depth_of-at rows h (suc i) l e at = h.depth i e (subst (λ k. slice_get rows k ≡ Some e) (omega arith) at)
+pub depth_of-at : (known : List Context) (depths : List Depth) → AreDepths known depths → (n : ℕ) → 0 < n → (d : Depth) → slice_get depths (n - 1) ≡ Some d → IsDepth known n d
+depth_of-at known depths h zero l d at = absurd (omega arith)
+depth_of-at known depths h (suc i) l d at = h.depth i d (subst (λ k. slice_get depths k ≡ Some d) (omega arith) at)
 
 -- the empty context is at the level 0
-pub IsDepth-first : (rows : List (Row × Depth)) → (n : ℕ) → n ≡ 0 → IsDepth (contexts rows) n (record { level = 0; outer = 0 })
+pub IsDepth-first : (rows : List Row) → (n : ℕ) → n ≡ 0 → IsDepth (contexts rows) n (record { level = 0; outer = 0 })
 IsDepth-first rows n e = record {
   level = rw e (ap frames (sym (context_at-first rows)));
   low = omega arith;
@@ -229,3 +263,53 @@ IsDepth-first rows n e = record {
   lower = λ p. e;
   outer = rw e (outer-itself (context_at (contexts rows) 0));
 }
+
+-- the context of a row that stands in the table
+pub context_of-row : (rows : List Row) (depths : List Depth) → AreRows rows depths → (row : Row) (i : ℕ) → slice_get rows i ≡ Some row → context_at (contexts rows) (suc i) ≡ row_context (contexts rows) row
+context_of-row rows depths h row i at = (h.row i row at).context
+
+-- what is found is the row itself
+pub found_row : (rows : List Row) (row there : Row) → Some there ≡ find (eq-value.it row) rows → there ≡ row
+found_row rows row there e = subst (λ o. IfSome o (λ k. k ≡ row)) (sym e) (IfSome-find_same row_decides row rows)
+
+-- where no row is found, its context isn't known
+pub fresh-none : (rows : List Row) (depths : List Depth) → AreRows rows depths → (row : Row) → row.base < length (contexts rows) → CallerBelow (length (contexts rows)) row.frame → list_any (eq-value.it row) rows ≡ false → IsUnknown (contexts rows) (row_context (contexts rows) row)
+fresh-none rows depths h row b f none = fresh rows depths h row b f (λ i r at. other_row row r (fails-list_any (eq-value.it row) rows none i r at))
+
+-- a row that is stored at an index
+pub stored_row : (rows : List Row) (i : ℕ) (row : Row) → (k : Row) × (slice_get rows i ≡ Some k) × (eq-value.it row k ≡ true) → slice_get rows i ≡ Some row
+stored_row rows i row s = s.1 ∙ ap Some (sym (same_row row s.0 s.2))
+
+-- the context of the last row
+pub added_context : (rows : List Row) (row : Row) → row.base < length (contexts rows) → CallerBelow (length (contexts rows)) row.frame → row_context (contexts (rows ++ row ∷ [])) row ≡ row_context (contexts rows) row
+added_context rows row b f = ap (λ k. row_context k row) (contexts-push rows row) ∙ row_context-left (contexts rows) (row_context (contexts rows) row) row b f
+
+-- depths stay right behind one more row
+pub AreDepths-push : (rows : List Row) (depths : List Depth) → AreRows rows depths → (row : Row) → AreDepths (contexts (rows ++ row ∷ [])) depths
+AreDepths-push rows depths h row =
+    subst (λ k. AreDepths k depths) (sym (contexts-push rows row))
+    (AreDepths-left (contexts rows) (row_context (contexts rows) row) depths (omega (arith, length-depths rows depths h)) h.deep)
+
+-- the depth of a last row is right over those before it
+pub IsDepthOver-before : (rows : List Row) (row : Row) (depth : Depth) → row.base < length (contexts rows) → IsDepthOver (contexts (rows ++ row ∷ [])) row.base depth → IsDepthOver (contexts rows) row.base depth
+IsDepthOver-before rows row depth b d =
+    IsDepthOver-shorter (contexts rows) (row_context (contexts rows) row) row.base depth b
+    (subst (λ k. IsDepthOver k row.base depth) (contexts-push rows row) d)
+
+-- a row that isn't found can be added
+pub addable : (rows : List Row) (row : Row) → row.base < length (contexts rows) → CallerBelow (length (contexts rows)) row.frame → true ≡ not (list_any (eq-value.it row) rows) → suc (length rows) < 2 ^ 32 → Addable rows row
+addable rows row b f none few = record {
+  base = b;
+  caller = f;
+  absent = λ i r at. other_row row r (fails-list_any (eq-value.it row) rows (none_passes _ none) i r at);
+  few = few;
+}
+
+-- what holds whatever the answer
+pub if_none : {T P : Type 0} (o : Option T) → P → IfNone o P
+if_none None p = p
+if_none (Some x) p = tt
+
+pub on_err : {T E P : Type 0} (r : Result T E) → P → OnErr r P
+on_err (Ok x) p = tt
+on_err (Err e) p = p

@@ -6,7 +6,7 @@ use Rattle.lucid_tags.specs.EqualityDecides.{tag_from_parts}
 use Rattle.lucid_tags.specs.declared.rows.Row.{Row}
 use Rattle.lucid_tags.specs.declared.rows.Depth.{Depth}
 use Rattle.lucid_tags.specs.Rows.{contexts, AreDistinct, AreRows}
-use Rattle.lucid_tags.proofs.RowLemmas.{context_at-left, context_at-first, length-push, length-contexts, AreRows-nil}
+use Rattle.lucid_tags.proofs.RowLemmas.{context_at-left, context_at-first, length-push, length-contexts, length-depths, AreRows-nil}
 
 pub one_for_one : (known : List Context) → AreDistinct known → IsOneForOne known
 one_for_one known one = record {
@@ -23,15 +23,18 @@ keeps_known old new c (inr e) = subst (KeepsKnown old) (sym e) (record {
 })
 
 -- what the known contexts are like, seen from a table
-module _ (rows : List (Row × Depth)) (known : List Context) (seen : contexts rows ≡ known) where
-  pub seen-one_for_one : AreRows rows → IsOneForOne known
+module _ (rows : List Row) (known : List Context) (seen : contexts rows ≡ known) where
+  pub seen-one_for_one : {depths : List Depth} → AreRows rows depths → IsOneForOne known
   seen-one_for_one h = subst IsOneForOne seen (one_for_one (contexts rows) h.distinct)
 
   pub seen-length : length known ≡ suc (length rows)
   seen-length = subst (λ k. length k ≡ suc (length rows)) seen (length-contexts rows)
 
+  pub seen-depths : {depths : List Depth} → AreRows rows depths → length known ≡ suc (length depths)
+  seen-depths {depths} h = subst (λ k. length k ≡ suc (length depths)) seen (length-depths rows depths h)
+
   pub seen-first : context_at known 0 ≡ root
   seen-first = subst (λ k. context_at k 0 ≡ root) seen (context_at-first rows)
 
-pub empty-one_for_one : (rows : List (Row × Depth)) → rows ≡ [] → IsOneForOne (contexts rows)
+pub empty-one_for_one : (rows : List Row) → rows ≡ [] → IsOneForOne (contexts rows)
 empty-one_for_one rows e = subst (λ r. IsOneForOne (contexts r)) (sym e) (one_for_one (contexts []) AreRows-nil.distinct)

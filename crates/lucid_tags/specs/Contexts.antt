@@ -1,5 +1,5 @@
 -- Contexts: in which frames an equation is evaluated. Plain data, with no tags in it.
-use Rattle.std.specs.Prelude.{◌≡◌, ℕ, suc, ◌≤◌, List, Option, Some, None, ◌==◌, if◌then◌else◌, slice_index_or}
+use Rattle.std.specs.Prelude.{◌≡◌, ℕ, suc, ◌≤◌, Bool, true, false, ◌==◌, ◌&&◌, List, Option, Some, None, if◌then◌else◌, slice_index_or}
 
 -- A context is a list of frames, here the innermost one first. A frame is a call's place with the context of its caller, or
 -- the time at which a block is frozen, and stands over the context of the frames further out, its base. `root` is the empty
@@ -9,6 +9,14 @@ pub data Context : Type 0 where
   root : Context
   call_frame : (place : ℕ) → (caller : Context) → (base : Context) → Context
   frozen_frame : (time : ℕ) → (base : Context) → Context
+
+-- two contexts are the same: frame by frame, with the callers' contexts
+abbrev pub same_context : Context → Context → Bool
+same_context root root = true
+same_context (call_frame p caller base) (call_frame q other_caller other_base) =
+    (p == q) && (same_context caller other_caller && same_context base other_base)
+same_context (frozen_frame t base) (frozen_frame u other_base) = (t == u) && same_context base other_base
+same_context _ _ = false
 
 -- the number of frames; a caller's frames are not counted
 abbrev pub frames : Context → ℕ

@@ -1,5 +1,5 @@
 -- What a tag stands for, over the list of the known contexts.
-use Rattle.std.specs.Prelude.{◌≡◌, ℕ, ◌<◌, ◌↔◌, ◌⊎◌, Bool, ◌==◌, ◌&&◌, List, [], ◌∷◌, ◌++◌, length}
+use Rattle.std.specs.Prelude.{◌≡◌, ◌≢◌, ℕ, ◌<◌, ◌↔◌, ◌⊎◌, Bool, ◌==◌, ◌&&◌, List, [], ◌∷◌, ◌++◌, length}
 use Rattle.std.proofs.Common.{lit<}
 use Rattle.lucid_tags.specs.declared.Tag.{Tag}
 use Rattle.lucid_tags.specs.declared.Frame.{Frame}
@@ -29,6 +29,10 @@ IsKnown known tag = number_of tag < length known
 -- the context that a known tag stands for
 abbrev pub context_of : List Context → Tag → Context
 context_of known tag = context_at known (number_of tag)
+
+-- no known context is this one
+abbrev pub IsUnknown : List Context → Context → Type 0
+IsUnknown known c = (i : ℕ) → i < length known → context_at known i ≢ c
 
 -- no context is known at two places, so known tags are equal exactly where their contexts and their spaces are
 pub record IsOneForOne (known : List Context) : Type 0 where

@@ -1,5 +1,6 @@
 pub mod Contexts
 pub mod ContextCode
 pub mod Known
+pub mod Keys
 pub mod EqualityDecides
 pub mod Rows

@@ -21,12 +21,12 @@ CallerBelow bound (Call place caller) = caller < bound
 CallerBelow bound (Frozen time) = Unit {0}
 
 -- the known contexts, once the rows are added to those that are known
-abbrev pub contexts_after : List Context → List (Row × Depth) → List Context
+abbrev pub contexts_after : List Context → List Row → List Context
 contexts_after known [] = known
-contexts_after known (e ∷ rows) = contexts_after (known ++ row_context known e.0 ∷ []) rows
+contexts_after known (row ∷ rows) = contexts_after (known ++ row_context known row ∷ []) rows
 
 -- the known contexts of a table: the empty one, and then those of its rows
-abbrev pub contexts : List (Row × Depth) → List Context
+abbrev pub contexts : List Row → List Context
 contexts rows = contexts_after (root ∷ []) rows
 
 -- what is kept of the depth of the context at a number is right: its level, and a context further out, which has a lower number
@@ -48,9 +48,14 @@ pub record IsRow (known : List Context) (number : ℕ) (row : Row) : Type 0 wher
 pub record AreDistinct (known : List Context) : Type 0 where
   pub same : (i j : ℕ) → i < length known → j < length known → context_at known i ≡ context_at known j → i ≡ j
 
--- each row of a table and its depth are right, no two rows have one context, and the numbers fit
-pub record AreRows (rows : List (Row × Depth)) : Type 0 where
-  pub row : (index : ℕ) (e : Row × Depth) → slice_get rows index ≡ Some e → IsRow (contexts rows) (suc index) e.0
-  pub depth : (index : ℕ) (e : Row × Depth) → slice_get rows index ≡ Some e → IsDepth (contexts rows) (suc index) e.1
+-- the depths of the contexts from number 1 on are right
+pub record AreDepths (known : List Context) (depths : List Depth) : Type 0 where
+  pub depth : (index : ℕ) (d : Depth) → slice_get depths index ≡ Some d → IsDepth known (suc index) d
+
+-- each row of a table is right, and so is its depth, no two rows have one context, and the numbers fit
+pub record AreRows (rows : List Row) (depths : List Depth) : Type 0 where
+  pub row : (index : ℕ) (r : Row) → slice_get rows index ≡ Some r → IsRow (contexts rows) (suc index) r
+  pub deep : AreDepths (contexts rows) depths
+  pub even : length depths ≡ length rows
   pub distinct : AreDistinct (contexts rows)
   pub few : length rows < 2 ^ 32

@@ -1,4 +1,4 @@
-//! Tags: contexts as small values, each with a space.
+//! Tags: contexts as small values, each with a space; and keys of datons.
 //!
 //! A context is the list of the frames in which an equation is evaluated. Each context is stored once, as a frame over another
 //! context, and a tag names it by a number. So tags are compared in place of contexts, and no context is ever copied.
@@ -6,8 +6,7 @@
 
 ghost use Rattle.std.specs.Prelude.{◌≡◌, ◌<◌, ◌≤◌, ◌^◌, ◌↔◌, ◌∷◌, [], length, IsNone, IfSome, IfOk, OnOk, OnErr};
 
-use crate::rows::{Depth, Row, RowFrame};
-use indexmap::IndexMap;
+use crate::rows::{Row, RowFrame, Table};
 use std::alloc::{AllocError, Global};
 use std::marker::Model;
 
@@ -22,6 +21,17 @@ pub struct Tag {
     number: u32,
     space: u64,
     ghost in_range: { space < 2 ^ 63 },
+}
+
+/// The key of a daton: a name in a context, at a space and a time.
+#[derive(Clone, Copy, PartialEq, Eq, Hash, Debug)]
+pub struct Key {
+    /// The number of the name.
+    pub name: u32,
+    /// The context and the space.
+    pub tag: Tag,
+    /// The time.
+    pub time: u64,
 }
 
 /// The innermost frame of a context.
@@ -68,7 +78,7 @@ impl Tag {
 /// The contexts that are known, and a tag for each of them at each space.
 #[derive(Drop)]
 pub struct Tags {
-    rows: IndexMap<Row, Depth>,
+    table: Table,
 }
 
 impl Model for Tags {
@@ -82,15 +92,15 @@ impl Model for Tags {
 
     ghost use Rattle.lucid_tags.specs.Rows.{contexts, AreRows};
 
-    ghost view = { λ t. contexts t.rows.entries };
+    ghost view = { λ t. contexts t.table.rows.keys };
 
-    ghost invariant = { λ t. AreRows t.rows.entries };
+    ghost invariant = { λ t. AreRows t.table.rows.keys t.table.depths.items };
 }
 
 impl Tags {
     ghost use Rattle.lucid_tags.specs.Contexts.{root, call_frame, frozen_frame, frames, cut};
     ghost use Rattle.lucid_tags.specs.Rows.{with_frame, CallerBelow};
-    ghost use Rattle.lucid_tags.specs.Known.{root_tag, space_of, context_of, IsKnown, IsOneForOne, KeepsKnown, AddsAtMost, IsInnermost};
+    ghost use Rattle.lucid_tags.specs.Known.{root_tag, space_of, context_of, IsKnown, IsOneForOne, IsUnknown, KeepsKnown, AddsAtMost, IsInnermost};
 
     /// Only the empty context is known. Nothing is allocated.
     pub fn make(alloc: Global) -> Tags
@@ -98,7 +108,7 @@ impl Tags {
         ensures one_for_one { IsOneForOne result }
     {
         Tags {
-            rows: IndexMap::new(alloc),
+            table: Table::make(alloc),
         }
     }
 
@@ -109,7 +119,7 @@ impl Tags {
         ensures context { context_of self.now result ≡ root }
         ensures one_for_one { IsOneForOne self.now }
     {
-        let _rows = &self.rows;
+        let _table = &self.table;
         Tag::of_context(0)
     }
 
@@ -121,6 +131,7 @@ impl Tags {
         ensures context { IfOk result (λ tag. context_of self.new tag ≡ with_frame self.old frame (context_of self.old base)) }
         ensures space { IfOk result (λ tag. space_of tag ≡ space_of base) }
         ensures added { OnOk result (AddsAtMost self.old self.new (with_frame self.old frame (context_of self.old base))) }
+        ensures unknown { OnErr result (IsUnknown self.old (with_frame self.old frame (context_of self.old base))) }
         ensures err { OnErr result (self.new ≡ self.old) }
         ensures keeps { KeepsKnown self.old self.new }
         ensures one_for_one { IsOneForOne self.new }
@@ -129,7 +140,7 @@ impl Tags {
             base: base.number,
             frame,
         };
-        let number = rows::intern(&mut self.rows, row)?;
+        let number = self.table.intern(row)?;
         Ok(Tag {
             number,
             space: base.space,
@@ -143,6 +154,9 @@ impl Tags {
         ensures known { IfOk result (λ tag. IsKnown self.new tag) }
         ensures context { IfOk result (λ tag. context_of self.new tag ≡ call_frame place (context_of self.old caller) (context_of self.old base)) }
         ensures space { IfOk result (λ tag. space_of tag ≡ space_of base) }
+
+        // A context that is known already is never refused.
+        ensures unknown { OnErr result (IsUnknown self.old (call_frame place (context_of self.old caller) (context_of self.old base))) }
 
         // No other context becomes known, and none at a refusal. Known tags keep what they stand for.
         ensures added { OnOk result (AddsAtMost self.old self.new (call_frame place (context_of self.old caller) (context_of self.old base))) }
@@ -160,6 +174,9 @@ impl Tags {
         ensures known { IfOk result (λ tag. IsKnown self.new tag) }
         ensures context { IfOk result (λ tag. context_of self.new tag ≡ frozen_frame time (context_of self.old base)) }
         ensures space { IfOk result (λ tag. space_of tag ≡ space_of base) }
+
+        // A context that is known already is never refused.
+        ensures unknown { OnErr result (IsUnknown self.old (frozen_frame time (context_of self.old base))) }
 
         // No other context becomes known, and none at a refusal. Known tags keep what they stand for.
         ensures added { OnOk result (AddsAtMost self.old self.new (frozen_frame time (context_of self.old base))) }
@@ -180,7 +197,7 @@ impl Tags {
         ensures one_for_one { IsOneForOne self.now }
     {
         Tag {
-            number: rows::cut_to(&self.rows, tag.number, level),
+            number: self.table.cut_to(tag.number, level),
             space: tag.space,
         }
     }
@@ -192,7 +209,7 @@ impl Tags {
         ensures in_range { result < 2 ^ 32 }
         ensures one_for_one { IsOneForOne self.now }
     {
-        u64::from(rows::depth_of(&self.rows, tag.number).level)
+        u64::from(self.table.depth_of(tag.number).level)
     }
 
     /// The innermost frame, or `None` where the context is empty.
@@ -202,11 +219,11 @@ impl Tags {
         ensures innermost { IfSome result (λ frame. IsInnermost self.now frame (context_of self.now tag)) }
         ensures one_for_one { IsOneForOne self.now }
     {
-        let rows = &self.rows;
+        let table = &self.table;
         if tag.number == 0 {
             return None;
         }
-        Some(match rows::row_of(rows, tag.number).frame {
+        Some(match table.row_of(tag.number).frame {
             RowFrame::Call { place, caller } => Frame::Call {
                 place,
                 caller: Tag::of_context(caller),
@@ -220,7 +237,7 @@ impl Tags {
         ensures count { result ≡ length self.now }
         ensures one_for_one { IsOneForOne self.now }
     {
-        self.rows.len() as u64 + 1
+        self.table.len() as u64 + 1
     }
 
     /// Forgets all contexts but the empty one. The memory is kept.
@@ -228,8 +245,8 @@ impl Tags {
         ensures known { self.new ≡ root ∷ [] }
         ensures one_for_one { IsOneForOne self.new }
     {
-        if !self.rows.is_empty() {
-            self.rows.clear();
+        if self.table.len() > 0 {
+            self.table.clear();
         }
     }
 }

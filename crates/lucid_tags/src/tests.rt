@@ -2,6 +2,7 @@ ghost use Rattle.std.specs.Prelude.{IfOk};
 ghost use Rattle.lucid_tags.specs.Known.{IsKnown};
 
 use super::*;
+use indexmap::IndexMap;
 use std::test::Fail;
 
 const MANY: u64 = 1_000_000;

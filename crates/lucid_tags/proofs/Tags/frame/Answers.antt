@@ -5,4 +5,4 @@ use Rattle.lucid_tags.proofs.Tags.frame.Goals as goal
 
 pub returns-then-tag-eq0-clause-empty : goal.returns-then-tag-eq0-clause-empty
 returns-then-tag-eq0-clause-empty c =
-    (λ e. ap (context_at c.args.self.now) c.if-tag-eq0.true ∙ seen-first c.self.inside.rows.entries c.args.self.now c.self.view_is, λ e. refl)
+    (λ e. ap (context_at c.args.self.now) c.if-tag-eq0.true ∙ seen-first c.self.inside.table.rows.keys c.args.self.now c.self.view_is, λ e. refl)
