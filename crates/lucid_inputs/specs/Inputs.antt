@@ -1,5 +1,5 @@
 -- What inputs show, and what a call for an element does to them.
-use Rattle.std.specs.Prelude.{◌≡◌, ◌≢◌, ◌<◌, ℕ, List, map, length, unwrap_or, ⊤, Result, IfOk, IfErr, IsSomeAnd}
+use Rattle.std.specs.Prelude.{◌≡◌, ◌≢◌, ◌<◌, ℕ, List, map, length, unwrap_or, ⊤, Result, IfOk, IfErr, IsSomeAnd, option_map}
 use Rattle.std.specs.List.{slice_get}
 use Rattle.std.specs.Borrow.{follows_so, MutBor, Bor, Fml}
 use mathlib.Core.Option.{none}
@@ -11,7 +11,7 @@ use Rattle.lucid_inputs.specs.declared.on_demand.Inputs.{Inputs}
 use Rattle.lucid_inputs.specs.contracts.on_demand.Inputs.{the_row}
 use Rattle.lucid_inputs.specs.Faults.{OnTooLarge}
 use Rattle.lucid_inputs.specs.Reading.{GivesElement, ReadsOn}
-use Rattle.lucid_inputs.specs.Streams.{FitsPlace, Stream, fresh_stream}
+use Rattle.lucid_inputs.specs.Streams.{FitsPlace, Stream, all_bytes, fresh_stream}
 use Rattle.lucid_inputs.specs.View.{stream_of, IsReady}
 
 -- the streams
@@ -22,9 +22,17 @@ streams inputs = map stream_of inputs.streams.items
 abbrev pub stream_at : Inputs → ℕ → Stream
 stream_at inputs number = unwrap_or (slice_get (streams inputs) number) (fresh_stream 0)
 
+-- the numbers of the streams' places, in order
+abbrev pub place_numbers : Inputs → List ℕ
+place_numbers inputs = map (λ s. s.place) (streams inputs)
+
 -- how many bytes of each stream may be read
 abbrev pub most_bytes : Inputs → ℕ
 most_bytes inputs = inputs.most
+
+-- the stream of that number fits its place, where that tells its bytes
+abbrev pub FitsAt : Inputs → ℕ → World → Type 0
+FitsAt inputs number w = FitsPlace (stream_at inputs number) (w.place (stream_at inputs number).place)
 
 -- The stream of that number is read on, and nothing else changes.
 pub record ReadsStream (old : Inputs) (number index : ℕ) (new : Inputs) (before after : World) : Type 0 where
@@ -32,6 +40,11 @@ pub record ReadsStream (old : Inputs) (number index : ℕ) (new : Inputs) (befor
   pub others : (k : ℕ) → k ≢ number → stream_at new k ≡ stream_at old k
   pub count : length (streams new) ≡ length (streams old)
   pub most : most_bytes new ≡ most_bytes old
+  -- each stream is read from the place that it was read from, and fits it if it did before
+  pub places : place_numbers new ≡ place_numbers old
+  pub fits : (k : ℕ) → k < length (streams old) → FitsAt old k before → FitsAt new k after
+  -- no place has other bytes than it had, whether they are consumed or left
+  pub bytes : (k : ℕ) → option_map all_bytes (after.place k).contents ≡ option_map all_bytes (before.place k).contents
 
 -- What stands once the borrow of an element is over, whatever the answer was.
 pub record Answers (old : Inputs) (number index : ℕ) (result : Result (Bor Value) InputFault) (new : Inputs) (before after : World) : Type 0 where
@@ -53,4 +66,8 @@ HasReady inputs number index = IsSomeAnd (slice_get inputs.streams.items number)
 pub record IsAskable (inputs : Inputs) (number : ℕ) (w : World) : Type 0 where
   pub there : number < length (streams inputs)
   pub reached : (stream_at inputs number).place < w.reached
-  pub fits : FitsPlace (stream_at inputs number) (w.place (stream_at inputs number).place)
+  pub fits : FitsAt inputs number w
+
+-- each stream may be asked
+abbrev pub AreAskable : Inputs → World → Type 0
+AreAskable inputs w = (k : ℕ) → k < length (streams inputs) → IsAskable inputs k w

@@ -18,6 +18,10 @@ element_of (Unread line) = line_value_of line.bytes.items
 abbrev pub stream_of : InputStream → Stream
 stream_of s = record { place = s.place; elements = map element_of s.elements.items; ended = s.ended; partial = s.partial.bytes.items; consumed = s.consumed }
 
+-- the number of the place that it is read from
+abbrev pub place_of : InputStream → ℕ
+place_of s = s.place
+
 -- its value is read
 abbrev pub IsRead : Element → Type 0
 IsRead (Read v) = Unit {0}

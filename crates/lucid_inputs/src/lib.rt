@@ -9,7 +9,7 @@ mod on_demand;
 mod stream;
 
 pub use fault::InputFault;
-pub use laws::{elements_fit, fresh_fits, keeps_within};
+pub use laws::{asked_again, elements_fit, fresh_fits, keeps_within, places_differ};
 pub use on_demand::Inputs;
 
 #[cfg(test)]

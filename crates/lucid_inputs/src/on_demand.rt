@@ -5,7 +5,7 @@ ghost use Rattle.lucid_inputs.specs.declared.stream.InputStream.{InputStream as 
 ghost use Rattle.lucid_inputs.specs.Faults.{OnTooLarge, is_eod};
 ghost use Rattle.lucid_inputs.specs.Reading.{GivesElement, IsTooLarge, IsWithin};
 ghost use Rattle.lucid_inputs.specs.Streams.{FitsPlace, all_bytes, fresh_stream};
-ghost use Rattle.lucid_inputs.specs.View.{stream_of};
+ghost use Rattle.lucid_inputs.specs.View.{place_of, stream_of};
 
 use crate::InputFault;
 use crate::lines::Element;
@@ -23,6 +23,7 @@ pub struct Inputs {
     // What is lent past the last element of a stream.
     past_end: Value,
     ghost ends: { IsTrue (is_eod past_end) },
+    ghost apart: { AllPairs (λ a b. a ≢ b) (map place_of streams.items) },
     ghost within: { (k : ℕ) (s : Input) → slice_get streams.items k ≡ Some s → IsWithin (stream_of s) most },
 }
 
@@ -46,6 +47,13 @@ impl Inputs {
             most,
             past_end: Value::Eod,
         })
+    }
+
+    /// The number of streams.
+    pub fn count(&self) -> u64
+        ensures { result ≡ length (streams self.now) }
+    {
+        self.streams.len() as u64
     }
 
     // Reads the stream on for an element, and reads its value.

@@ -1,7 +1,7 @@
 // What no clause says: that the calls succeed with ample memory, and that large inputs take bounded memory and little time.
-ghost use Rattle.std.specs.Prelude.{◌≡◌, IfOk};
+ghost use Rattle.std.specs.Prelude.{◌≡◌, ◌<◌, length, IfOk};
 ghost use Rattle.lucid_ports.specs.MemoryView.{memory_world};
-ghost use Rattle.lucid_inputs.specs.Inputs.{IsAskable};
+ghost use Rattle.lucid_inputs.specs.Inputs.{AreAskable, IsAskable, streams};
 
 use super::*;
 use lucid_ports::{Endless, FailAt, MemoryFile, MemoryPlaces, Narrow, Places, read_at_most};
@@ -207,5 +207,146 @@ fn a_million_lines(rt: HostRuntime) -> Result<(), Fail> {
     let mut inputs = input_a(alloc, &mut places, MOST)?;
     assert_eq!(rt; sevens(&mut inputs, &mut places, 2_000_000), 1_000_000);
     assert_eq!(rt; ask(&mut inputs, &mut places, 1_000_000), Seen::Eod);
+    Ok(())
+}
+
+// One of two streams, read from the places `a` and `b`.
+#[derive(Clone, Copy)]
+enum Side {
+    A,
+    B,
+}
+
+fn number(side: Side) -> u32
+    ensures { result < 2 }
+{
+    match side {
+        Side::A => 0,
+        Side::B => 1,
+    }
+}
+
+// An element that is asked for, what is answered, and how much of each place is consumed then.
+#[derive(Clone, Copy)]
+struct Turn {
+    side: Side,
+    index: u64,
+    answer: Seen,
+    consumed: (u64, u64),
+}
+
+fn asked(side: Side, index: u64, answer: Seen, consumed: (u64, u64)) -> Turn {
+    Turn {
+        side,
+        index,
+        answer,
+        consumed,
+    }
+}
+
+// The files `a`, of three whole lines, and `b`, whose last line has no line end.
+fn two_files(alloc: Global) -> Result<MemoryPlaces, AllocError>
+    ensures { IfOk result (λ places. (memory_world places).reached ≡ 0) }
+{
+    let mut files = Vec::new(alloc);
+    files.push(MemoryFile {
+        name: String::from_str(alloc, "a")?,
+        bytes: Vec::from_slice(alloc, b"1\n22\n333\n")?,
+    })?;
+    files.push(MemoryFile {
+        name: String::from_str(alloc, "b")?,
+        bytes: Vec::from_slice(alloc, b"-4\nx y\n5")?,
+    })?;
+    Ok(MemoryPlaces::make(alloc, files, Vec::new(alloc)))
+}
+
+// Two streams, read from the places `a` and `b`.
+fn input_both<P: Places>(alloc: Global, places: &mut P) -> Result<Inputs, Fail>
+    requires { (P.world places.old).reached ≡ 0 }
+    ensures askable { IfOk result (λ inputs. AreAskable inputs (P.world places.new)) }
+    ensures count { IfOk result (λ inputs. length (streams inputs) ≡ 2) }
+    ensures reached { IfOk result (λ _. (P.world places.new).reached ≡ 2) }
+{
+    fresh_fits();
+    let a = places.reach(alloc, "a")?;
+    let b = places.reach(alloc, "b")?;
+    let numbers = Vec::from_slice(alloc, &[a, b])?;
+    let inputs = Inputs::make(alloc, numbers, MOST)?;
+    Ok(inputs)
+}
+
+fn ask_side<P: Places>(inputs: &mut Inputs, places: &mut P, side: Side, index: u64) -> Seen
+    requires askable { AreAskable inputs.old (P.world places.old) }
+    requires count { length (streams inputs.old) ≡ 2 }
+    ensures askable { AreAskable inputs.new (P.world places.new) }
+    ensures count { length (streams inputs.new) ≡ 2 }
+    ensures reached { (P.world places.new).reached ≡ (P.world places.old).reached }
+{
+    asked_again();
+    answer_of(inputs.element(places, number(side), index))
+}
+
+// The number of the first turn that goes otherwise.
+fn first_wrong(inputs: &mut Inputs, places: &mut MemoryPlaces, turns: &[Turn]) -> Option<usize>
+    requires askable { AreAskable inputs.old (memory_world places.old) }
+    requires count { length (streams inputs.old) ≡ 2 }
+    requires reached { (memory_world places.old).reached ≡ 2 }
+{
+    for (number, turn) in turns.iter().enumerate() {
+        let answer = ask_side(inputs, places, turn.side, turn.index);
+        if answer != turn.answer || (places.consumed(0), places.consumed(1)) != turn.consumed {
+            return Some(number);
+        }
+    }
+    None
+}
+
+#[test]
+fn two_streams_in_turns(rt: HostRuntime) -> Result<(), Fail> {
+    let alloc = rt.alloc();
+    for (row, turns) in [
+        (
+            "line by line",
+            [
+                asked(Side::A, 0, Seen::Int(1), (2, 0)),
+                asked(Side::B, 0, Seen::Int(-4), (2, 3)),
+                asked(Side::A, 1, Seen::Int(22), (5, 3)),
+                asked(Side::B, 1, Seen::Fault, (5, 7)),
+                asked(Side::A, 2, Seen::Int(333), (9, 7)),
+                asked(Side::B, 2, Seen::Int(5), (9, 8)),
+            ],
+        ),
+        (
+            "the second ahead",
+            [
+                asked(Side::B, 1, Seen::Fault, (0, 7)),
+                asked(Side::A, 0, Seen::Int(1), (2, 7)),
+                asked(Side::B, 3, Seen::Eod, (2, 8)),
+                asked(Side::A, 2, Seen::Int(333), (9, 8)),
+                asked(Side::B, 0, Seen::Int(-4), (9, 8)),
+                asked(Side::A, 1, Seen::Int(22), (9, 8)),
+            ],
+        ),
+        (
+            "the first to its end",
+            [
+                asked(Side::A, 3, Seen::Eod, (9, 0)),
+                asked(Side::B, 0, Seen::Int(-4), (9, 3)),
+                asked(Side::A, 0, Seen::Int(1), (9, 3)),
+                asked(Side::B, 2, Seen::Int(5), (9, 8)),
+                asked(Side::A, 2, Seen::Int(333), (9, 8)),
+                asked(Side::B, 1, Seen::Fault, (9, 8)),
+            ],
+        ),
+    ] {
+        let mut places = two_files(alloc)?;
+        let mut inputs = input_both(alloc, &mut places)?;
+        assert_eq!(rt; inputs.count(), 2);
+        assert_eq!(rt;
+            first_wrong(&mut inputs, &mut places, turns.as_slice()),
+            None,
+            "{row}"
+        );
+    }
     Ok(())
 }

@@ -16,8 +16,9 @@ mod tests;
 /// A choice among the tasks that are ready.
 ///
 /// `ready` names the tasks in order of their making, the oldest first; the answer is a place in that list, counted
-/// from 0, and not the name that stands there. A pick takes no memory. It may change the picker, as `Listed` does.
-pub trait Pick {
+/// from 0, and not the name that stands there. A pick takes no memory. It may change the picker, as `Listed` does. A
+/// picker can be let go of by who owns it.
+pub trait Pick: Drop {
     /// The place in `ready` of the task that steps next.
     fn pick(&mut self, ready: &[usize]) -> usize
         requires { 0 < length ready.now }

@@ -10,6 +10,13 @@ fn picked<P: Pick>(pick: &mut P, ready: &[usize]) -> usize
     pick.pick(ready)
 }
 
+// One pick by a picker that is owned, and then let go of.
+fn picked_once<P: Pick>(mut pick: P, ready: &[usize]) -> usize
+    requires { 0 < length ready.now }
+{
+    pick.pick(ready)
+}
+
 #[test]
 fn the_newest_and_the_oldest_stand_at_the_ends(rt: HostRuntime) {
     assert_eq!(rt; picked(&mut Newest, &[7]), 0);
@@ -24,5 +31,13 @@ fn listed_numbers_are_used_in_order_and_then_place_0(rt: HostRuntime) -> Result<
     for want in [1, 2, 2, 0, 0] {
         assert_eq!(rt; picked(&mut listed, &[4, 9, 2]), want);
     }
+    Ok(())
+}
+
+#[test]
+fn a_run_owns_its_picker(rt: HostRuntime) -> Result<(), Fail> {
+    let listed = Listed::make(vec![in rt.alloc(); 4]?);
+    assert_eq!(rt; picked_once(listed, &[4, 9, 2]), 1);
+    assert_eq!(rt; picked_once(Newest, &[4, 9, 2]), 2);
     Ok(())
 }

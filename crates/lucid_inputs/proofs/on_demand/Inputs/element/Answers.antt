@@ -1,4 +1,5 @@
 use Rattle.std.proofs.Common.{refl}
+use Rattle.lucid_inputs.specs.Inputs.{stream_at}
 use Rattle.lucid_inputs.proofs.OverlongLemmas.{element_told}
 use Rattle.lucid_inputs.proofs.on_demand.Inputs.element.Goals as goal
 
@@ -8,7 +9,8 @@ returns g c =
       (refl, λ _. tt, record { reads = reads; element = c.value.ensures; too_large = tt }),
       record {
         after = tt;
-        element = element_told _ _ _ _ _ _ reads.asked c.value.ensures;
+        element = element_told c.args.index _ (stream_at c.args.self.now c.args.stream) (stream_at c.read_on.new.self c.args.stream) (g.P.Places.world c.args.places.now)
+            (g.P.Places.world c.read_on.new.places) reads.asked c.value.ensures;
         too_large = tt;
         not_too_large = c.in_ok-read_on.ensures.not_too_large;
         failed = λ e. cc;
