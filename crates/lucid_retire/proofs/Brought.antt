@@ -8,12 +8,11 @@ use Rattle.std.proofs.lemmas.Map.Entries.{length-keys_of}
 use Rattle.std.proofs.lemmas.Option.{slice_get_past}
 use Rattle.std.proofs.lemmas.Map.Keys.{IsDistinct-head, IsDistinct-tail}
 use Rattle.std.proofs.lemmas.Map.Made.{is_some-lookup, length-le_from_is_member, length-from_same_keys}
-use Rattle.lucid_store.specs.declared.Key.{Key}
-use Rattle.lucid_store.specs.declared.warehouse.Entry.{Entry}
-use Rattle.lucid_store.specs.Stored.{Stored}
-use Rattle.lucid_store.specs.Keys.{same_key}
+use Rattle.lucid_tags.specs.declared.Key.{Key}
+use Rattle.lucid_store.specs.Stored.{Entry, Stored}
+use Rattle.lucid_tags.specs.Keys.{same_key}
 use Rattle.lucid_store.specs.Entries.{entry_at, count_of, IsOneForEach}
-use Rattle.lucid_store.specs.EqualityDecides.{same_key_is_equality, same_key_equiv}
+use Rattle.lucid_tags.specs.EqualityDecides.{same_key_is_equality, same_key_equiv}
 use Rattle.lucid_retire.specs.Recency.{Recency, is_listed, is_the, to_front, brought, pushed_out, last_of, AreHeld, AreRecent, DropsKey}
 use Rattle.lucid_retire.proofs.Lists.{apart_item, listed-front, length-remove-le, IsDistinct-front}
 

@@ -1,12 +1,11 @@
 -- Turns that only drop.
 use Rattle.std.proofs.Common.{◌≡◌, Bool, true, false, cond, Option, Some, None, sym, ap, ◌∙◌, subst}
-use Rattle.std.specs.Prelude.{option_map, option_and_then}
+use Rattle.std.specs.Prelude.{nat_le, option_map, option_and_then}
 use Rattle.lucid_value.specs.Plain.{PlainValue}
 use Rattle.lucid_value.specs.View.{plain}
-use Rattle.lucid_store.specs.declared.Key.{Key}
-use Rattle.lucid_store.specs.declared.warehouse.Entry.{Entry}
-use Rattle.lucid_store.specs.Stored.{Stored}
-use Rattle.lucid_store.specs.Entries.{held, entry_at, cleared, swept, is_young, aged, IsSwept}
+use Rattle.lucid_tags.specs.declared.Key.{Key}
+use Rattle.lucid_store.specs.Stored.{Entry, Stored}
+use Rattle.lucid_store.specs.Entries.{held, entry_at, cleared, older, swept, aged, IsSwept}
 use Rattle.lucid_retire.specs.Turns.{OnlyDrops}
 use Rattle.lucid_retire.specs.Script.{DropsThose}
 
@@ -39,4 +38,4 @@ only_from_swept limit old new sweeps = λ key value h. was (entry_at old key) va
 
     was : (e : Option Entry) (value : PlainValue) → plain_of (option_and_then (swept limit) e) ≡ Some value → plain_of e ≡ Some value
     was None value h = h
-    was (Some e) value h = stays (is_young limit e) e value h
+    was (Some e) value h = stays (nat_le (older e.age) limit) e value h

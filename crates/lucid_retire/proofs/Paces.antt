@@ -1,18 +1,17 @@
 -- A warehouse in which at most one key is touched between two turns of the policy that drops by age.
 use Rattle.std.proofs.Common.{◌≡◌, ℕ, zero, suc, ◌+◌, ◌-◌, ◌*◌, ◌^◌, ◌≤◌, ◌<◌, Bool, true, false, cond, ◌||◌, ◌⊎◌, inl, inr, List, [], ◌∷◌, ◌++◌, length, Option, Some, None, is_some, refl, ap, sym, ◌∙◌, subst, length-append, arith}
-use Rattle.std.specs.Prelude.{◌==◌, MatchBool, option_map, option_and_then}
+use Rattle.std.specs.Prelude.{◌==◌, nat_le, MatchBool, option_map, option_and_then}
 use Rattle.std.specs.Map.{lookup, keys_of}
 use Rattle.std.specs.Set.{is_member}
 use Rattle.std.proofs.lemmas.Bool.Decides.{nat_tests}
 use Rattle.std.proofs.lemmas.List.Folds.{list_any-append}
 use Rattle.std.proofs.lemmas.Map.Entries.{length-keys_of}
 use Rattle.std.proofs.lemmas.Map.Made.{is_some-lookup, length-le_from_is_member}
-use Rattle.lucid_store.specs.declared.Key.{Key}
-use Rattle.lucid_store.specs.declared.warehouse.Entry.{Entry}
-use Rattle.lucid_store.specs.Stored.{Stored}
-use Rattle.lucid_store.specs.Keys.{same_key}
-use Rattle.lucid_store.specs.Entries.{entry_at, age_at, count_of, older, aged, is_young, swept, IsSwept, IsOneForEach}
-use Rattle.lucid_store.specs.EqualityDecides.{same_key_is_equality, same_key_equiv}
+use Rattle.lucid_tags.specs.declared.Key.{Key}
+use Rattle.lucid_store.specs.Stored.{Entry, Stored}
+use Rattle.lucid_tags.specs.Keys.{same_key}
+use Rattle.lucid_store.specs.Entries.{entry_at, age_at, count_of, older, aged, swept, IsSwept, IsOneForEach}
+use Rattle.lucid_tags.specs.EqualityDecides.{same_key_is_equality, same_key_equiv}
 use Rattle.lucid_retire.specs.Aging.{Aging, most_of, is_sweeping, after_turn, IsAccounted, IsPaced, TouchesOne, IsSparingTurn}
 
 or_true : (b : Bool) → (b || true) ≡ true
@@ -87,9 +86,9 @@ module _ (a : Aging) (touches : ℕ → List Key) where
 
   accounted_swept : a.limit < 2 ^ 32 - 1 → (q : Key) (e : Option Entry) → IsAccounted a touches q (age_of e) → IsAccounted a (later touches) q (age_of (option_and_then (swept a.limit) e))
   accounted_swept small q None h = tt
-  accounted_swept small q (Some e) h = by (is_young a.limit e) refl
+  accounted_swept small q (Some e) h = by (nat_le (older e.age) a.limit) refl
     where
-      by : (t : Bool) → is_young a.limit e ≡ t → IsAccounted a (later touches) q (age_of (cond {A = Option Entry} t (Some (aged e)) None))
+      by : (t : Bool) → nat_le (older e.age) a.limit ≡ t → IsAccounted a (later touches) q (age_of (cond {A = Option Entry} t (Some (aged e)) None))
       by true young = (let within : older e.age ≤ a.limit = grind (arith, nat_tests) in within, subst (λ n. is_member same_key (later touches n) q ≡ true) (sym (one_older e.age h.0 small)) h.1)
       by false old = tt
 

@@ -10,9 +10,9 @@ use Rattle.std.proofs.lemmas.Map.Entries.{length-keys_of}
 use Rattle.std.proofs.lemmas.Map.Made.{is_some-lookup, length-remove_key}
 use Rattle.lru.specs.LruCache.{lru_cache, put_entries, displaced}
 use Rattle.lru.proofs.CallerLemmas.{Contains-lookup_entry}
-use Rattle.lucid_store.specs.declared.Key.{Key}
-use Rattle.lucid_store.specs.Keys.{same_key}
-use Rattle.lucid_store.specs.EqualityDecides.{same_key_is_equality, same_key_equiv}
+use Rattle.lucid_tags.specs.declared.Key.{Key}
+use Rattle.lucid_tags.specs.Keys.{same_key}
+use Rattle.lucid_tags.specs.EqualityDecides.{same_key_is_equality, same_key_equiv}
 use Rattle.lucid_retire.specs.Recency.{is_listed, to_front, brought, pushed_out, fallen_of}
 use Rattle.lucid_retire.proofs.Lists.{remove-unlisted, apart_from_unlisted, apart_item}
 

@@ -1,8 +1,8 @@
 -- The policy that drops by age, and its turns. All of it is this project's own.
 use Rattle.std.specs.Prelude.{◌≡◌, ℕ, ◌+◌, ◌*◌, ◌≤◌, ◌⊎◌, Bool, true, false, MatchBool, List, length, Option, Some, None, if◌then◌else◌, ◌==◌, nat_lt}
 use Rattle.std.specs.Set.{is_member}
-use Rattle.lucid_store.specs.declared.Key.{Key}
-use Rattle.lucid_store.specs.Keys.{same_key}
+use Rattle.lucid_tags.specs.declared.Key.{Key}
+use Rattle.lucid_tags.specs.Keys.{same_key}
 use Rattle.lucid_store.specs.Stored.{Stored}
 use Rattle.lucid_store.specs.Entries.{entry_at, age_at, count_of, cleared, IsSwept, IsOneForEach}
 

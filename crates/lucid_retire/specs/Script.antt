@@ -1,9 +1,9 @@
 -- The policy that drops what a list says, and its turns. All of it is this project's own.
 use Rattle.std.specs.Prelude.{◌≡◌, ℕ, ◌+◌, ◌^◌, Bool, false, ◌&&◌, ◌==◌, List, Option, Some, None, if◌then◌else◌, nat_lt}
 use Rattle.std.specs.List.{list_any}
-use Rattle.lucid_store.specs.declared.Key.{Key}
+use Rattle.lucid_tags.specs.declared.Key.{Key}
 use Rattle.lucid_store.specs.Stored.{Stored}
-use Rattle.lucid_store.specs.Keys.{same_key}
+use Rattle.lucid_tags.specs.Keys.{same_key}
 use Rattle.lucid_store.specs.Entries.{entry_at}
 use Rattle.lucid_retire.specs.declared.scripted.Scrap.{Scrap}
 

@@ -1,7 +1,7 @@
 -- What a turn of a policy does to a warehouse. All of it is this project's own.
 use Rattle.std.specs.Prelude.{◌≡◌, ℕ, ◌≤◌, Bool, IsTrue, Option, Some, None}
 use Rattle.lucid_value.specs.Plain.{PlainValue}
-use Rattle.lucid_store.specs.declared.Key.{Key}
+use Rattle.lucid_tags.specs.declared.Key.{Key}
 use Rattle.lucid_store.specs.Stored.{Stored}
 use Rattle.lucid_store.specs.Entries.{held, count_of}
 

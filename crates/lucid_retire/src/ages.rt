@@ -1,7 +1,7 @@
 //! The policy that drops by age.
 
 ghost use Rattle.std.specs.Prelude.{◌≡◌, ℕ, ◌-◌, ◌^◌, ◌<◌, ◌≤◌, Bool, false, Option, Some};
-ghost use Rattle.lucid_store.specs.declared.Key.{Key};
+ghost use Rattle.lucid_tags.specs.declared.Key.{Key};
 ghost use Rattle.lucid_store.specs.Stored.{Stored};
 ghost use Rattle.lucid_store.specs.Entries.{count_of};
 ghost use Rattle.lucid_retire.specs.Turns.{IsTurn};

@@ -13,14 +13,16 @@ use std::marker::Model;
 use std::num::NonZeroUsize;
 
 /// Keeps what was touched last, as many keys as there is room for. It is seen as its recency list of keys, the most recently
-/// touched first.
+/// touched first, with the number of touched keys that it dropped for want of memory in the list.
 ///
 /// Where the warehouse is empty, a turn empties the list. Else it takes the key last touched and brings it to the front of the
-/// list, and drops the key that then falls out of the list. For want of memory in the list it drops the touched key alone.
-/// Where more than the room are still held, the list and the warehouse are both emptied.
+/// list, and drops the key that then falls out of the list. For want of memory in the list it drops the touched key alone, and
+/// counts that. Where more than the room are still held, the list and the warehouse are both emptied.
 #[derive(Drop)]
 pub struct Last {
     recent: LruCache<Key, ()>,
+    // How many touched keys were dropped for want of memory in the list, up to the greatest u64.
+    unlisted: u64,
 }
 
 impl Model for Last {
@@ -32,7 +34,7 @@ impl Model for Last {
 
     ghost coded = { recency_code };
 
-    ghost view = { λ l. record { keys = keys_of l.recent.entries; room = l.recent.cap } };
+    ghost view = { λ l. record { keys = keys_of l.recent.entries; room = l.recent.cap; unlisted = l.unlisted } };
 }
 
 // The key that fell out of the list at a push, which gives back the pushed key if that was listed.
@@ -47,11 +49,12 @@ impl Last {
     /// Leaves at most so many keys. The list is empty.
     pub fn make(alloc: Global, room: u32) -> Result<Last, AllocError>
         requires { 1 ≤ room }
-        ensures { IfOk result (λ last. last ≡ record { keys = []; room = room }) }
+        ensures { IfOk result (λ last. last ≡ record { keys = []; room = room; unlisted = 0 }) }
     {
         let room = NonZeroUsize::new(room as usize).unwrap();
         Ok(Last {
             recent: LruCache::sparse(alloc, room)?,
+            unlisted: 0,
         })
     }
 
@@ -61,6 +64,13 @@ impl Last {
         ensures { AreRecent self.now }
     {
         let _count = self.recent.len();
+    }
+
+    /// How many touched keys were dropped for want of memory in the list, up to the greatest u64.
+    pub fn unlisted(&self) -> u64
+        ensures { result ≡ self.now.unlisted }
+    {
+        self.unlisted
     }
 
     // How many keys a turn leaves at most.
@@ -91,7 +101,7 @@ impl Last {
 
     // Takes the key last touched, and notes it in the list.
     fn note(&mut self, warehouse: &mut Warehouse)
-        ensures notes { IsNoted self.old warehouse.old.touched self.new.keys warehouse.old warehouse.new }
+        ensures notes { IsNoted self.old warehouse.old.touched self.new warehouse.old warehouse.new }
         ensures room { self.new.room ≡ self.old.room }
         ensures lost { warehouse.new.lost ≡ warehouse.old.lost }
         ensures forgotten { warehouse.new.touched ≡ None }
@@ -105,6 +115,7 @@ impl Last {
                 warehouse.remove(out);
             }
             Err(AllocError) => {
+                self.unlisted = self.unlisted.saturating_add(1);
                 warehouse.remove(key);
             }
         }
@@ -121,7 +132,7 @@ impl Retire for Last {
     fn turn(&mut self, warehouse: &mut Warehouse)
         ensures turn { IsTurn false false (Some self.old.room) warehouse.old warehouse.new }
         ensures room { self.new.room ≡ self.old.room }
-        ensures dropped { IsRecencyTurn self.old self.new.keys warehouse.old warehouse.new }
+        ensures dropped { IsRecencyTurn self.old self.new warehouse.old warehouse.new }
     {
         self.keeps_rules();
         if warehouse.len() == 0 {

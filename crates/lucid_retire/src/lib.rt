@@ -1,6 +1,6 @@
 //! Policies that say what a warehouse drops.
 //!
-//! A policy has a turn after each step of the engine, and may then drop values. Whatever it drops, what a program means stays
+//! A policy has a turn before each step of the engine, and may then drop values. Whatever it drops, what a program means stays
 //! the same: a value that is needed again is computed again.
 #![tactic(auto)]
 
@@ -21,8 +21,8 @@ mod scripted;
 #[cfg(test)]
 mod tests;
 
-/// A policy that says what a warehouse drops. A turn drops values and adds none.
-pub trait Retire {
+/// A policy that says what a warehouse drops. A turn drops values and adds none. A run owns its policy and lets it go.
+pub trait Retire: Drop {
     /// Whether a turn drops nothing.
     ghost keeps: { Self → Bool };
 

@@ -18,11 +18,11 @@ fn put_and_turn<A: Abort, R: Retire>(rt: &A, policy: &mut R, warehouse: &mut War
     policy.turn(warehouse);
 }
 
-// How many of the first keys are held.
-fn count_after<A: Abort, R: Retire>(rt: &A, alloc: Global, policy: &mut R, keys: u64) -> u64 {
+// How many of the first keys are held. It owns the policy and lets it go.
+fn count_after<A: Abort, R: Retire>(rt: &A, alloc: Global, mut policy: R, keys: u64) -> u64 {
     let mut warehouse = Warehouse::make(alloc);
     for time in 0..keys {
-        put_and_turn(rt, policy, &mut warehouse, key_at(alloc, time));
+        put_and_turn(rt, &mut policy, &mut warehouse, key_at(alloc, time));
     }
     warehouse.len()
 }
@@ -41,6 +41,7 @@ fn the_room_of_the_last_policy(rt: HostRuntime) -> Result<(), Fail> {
     assert!(rt; !warehouse.remove(a));
     assert!(rt; warehouse.remove(b));
     assert!(rt; warehouse.remove(c));
+    assert_eq!(rt; last.unlisted(), 0);
     Ok(())
 }
 
@@ -51,16 +52,16 @@ fn each_policy_has_its_turns(rt: HostRuntime) -> Result<(), Fail> {
         turn: 3,
         key: key_at(alloc, 1),
     };
-    let mut scripted = Scripted::make(alloc, vec![in alloc; scrap]?);
-    assert_eq!(rt; count_after(&rt, alloc, &mut scripted, 5), 4);
+    let scripted = Scripted::make(alloc, vec![in alloc; scrap]?);
+    assert_eq!(rt; count_after(&rt, alloc, scripted, 5), 4);
     let policies = [
         (Policy::Keep(Keep), 5),
         (Policy::Nothing(Nothing), 0),
         (Policy::Ages(Ages::make(2, 1)), 3),
         (Policy::Last(Last::make(alloc, 3)?), 3),
     ];
-    for (mut policy, want) in policies {
-        assert_eq!(rt; count_after(&rt, alloc, &mut policy, 5), want);
+    for (policy, want) in policies {
+        assert_eq!(rt; count_after(&rt, alloc, policy, 5), want);
     }
     Ok(())
 }

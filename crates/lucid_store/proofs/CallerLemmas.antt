@@ -2,12 +2,11 @@
 use Rattle.std.proofs.Common.{◌≡◌, ◌≢◌, ◌⊎◌, inl, inr, Bool, true, false, cond, Option, Some, None, refl, ap, sym, ◌∙◌}
 use Rattle.std.specs.Prelude.{option_map}
 use Rattle.lucid_value.specs.View.{plain}
-use Rattle.lucid_store.specs.declared.Key.{Key}
-use Rattle.lucid_store.specs.declared.warehouse.Entry.{Entry}
-use Rattle.lucid_store.specs.Stored.{Stored}
-use Rattle.lucid_store.specs.Keys.{same_key}
+use Rattle.lucid_tags.specs.declared.Key.{Key}
+use Rattle.lucid_store.specs.Stored.{Entry, Stored}
+use Rattle.lucid_tags.specs.Keys.{same_key}
 use Rattle.lucid_store.specs.Entries.{entry_at, value_at, held, renewed, SetsOnly, IsTouched}
-use Rattle.lucid_store.specs.EqualityDecides.{same_key_is_equality, same_key_equiv}
+use Rattle.lucid_tags.specs.EqualityDecides.{same_key_is_equality, same_key_equiv}
 
 pub other_key : (a b : Key) → b ≢ a → same_key a b ≡ false
 other_key a b apart = by (same_key a b) refl

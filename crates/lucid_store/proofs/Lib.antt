@@ -1,3 +1,3 @@
-pub mod Sweeps
+pub mod Besides
 pub mod TouchedLemmas
 pub mod CallerLemmas

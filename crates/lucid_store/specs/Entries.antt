@@ -6,10 +6,9 @@ use Rattle.std.specs.List.{IsDistinct}
 use Rattle.lucid_value.specs.declared.Value.{Value}
 use Rattle.lucid_value.specs.Plain.{PlainValue}
 use Rattle.lucid_value.specs.View.{plain}
-use Rattle.lucid_store.specs.declared.Key.{Key}
-use Rattle.lucid_store.specs.declared.warehouse.Entry.{Entry}
-use Rattle.lucid_store.specs.Stored.{Stored}
-use Rattle.lucid_store.specs.Keys.{same_key}
+use Rattle.lucid_tags.specs.declared.Key.{Key}
+use Rattle.lucid_store.specs.Stored.{Entry, Stored}
+use Rattle.lucid_tags.specs.Keys.{same_key}
 
 -- the value and the age that a key has, if it is held
 abbrev pub entry_at : Stored → Key → Option Entry
@@ -71,13 +70,13 @@ older age = min (age + 1) (2 ^ 32 - 1)
 abbrev pub aged : Entry → Entry
 aged e = record e { age = older e.age }
 
--- whether an entry is still within the limit once it is one sweep older
-abbrev pub is_young : ℕ → Entry → Bool
-is_young limit e = nat_le (older e.age) limit
+-- an entry, unless its age is over the limit
+abbrev pub within : ℕ → Entry → Option Entry
+within limit e = if nat_le e.age limit then Some e else None
 
 -- an entry after a sweep: one older, and gone where that is over the limit
 abbrev pub swept : ℕ → Entry → Option Entry
-swept limit e = if is_young limit e then Some (aged e) else None
+swept limit e = within limit (aged e)
 
 -- the key last touched, forgotten unless it passes the test
 abbrev pub touched_if : (Key → Bool) → Option Key → Option Key

@@ -2,7 +2,7 @@
 use Rattle.std.specs.Prelude.{⊤}
 use Rattle.std.specs.Borrow.{follows_so, MutBor, Fml}
 use mathlib.Core.Option.{none}
-use Rattle.lucid_store.specs.declared.Key.{Key}
+use Rattle.lucid_tags.specs.declared.Key.{Key}
 use Rattle.lucid_store.specs.declared.warehouse.Warehouse.{Warehouse}
 use Rattle.lucid_store.specs.contracts.warehouse.Warehouse.{the_row}
 use Rattle.lucid_store.specs.Entries.{IsTouched}

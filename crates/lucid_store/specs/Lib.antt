@@ -1,6 +1,5 @@
-pub mod Keys
-pub mod EqualityDecides
 pub mod Stored
 pub mod StoredCode
+pub mod Beside
 pub mod Entries
 pub mod Lending

@@ -1,5 +1,5 @@
 use super::*;
-use lucid_tags::Tags;
+use lucid_tags::{Tag, Tags};
 use lucid_value::Value;
 use std::test::Fail;
 

@@ -3,30 +3,24 @@
 ghost use Rattle.std.specs.Prelude.{◌≡◌, ℕ, ◌+◌, ◌≤◌, Some, None, OnOk, OnErr, IfErr, IfSome, if◌then◌else◌, is_some, not, length, option_copied, option_and_then};
 ghost use Rattle.std.specs.Borrow.{sem};
 ghost use Rattle.std.specs.Map.{lookup};
-ghost use Rattle.lucid_store.specs.declared.Key.{Key};
-ghost use Rattle.lucid_store.specs.Keys.{same_key};
-ghost use Rattle.lucid_store.specs.Entries.{entry_at, value_at, count_of, fresh, touched_if, one_more_lost, cleared, empty_warehouse, IsHeld, IsOneForEach, TouchedIsHeld, SetsOnly, IsTouched, IsSwept, aged, is_young, swept};
+ghost use Rattle.lucid_tags.specs.declared.Key.{Key};
+ghost use Rattle.lucid_tags.specs.Keys.{same_key};
+ghost use Rattle.lucid_store.specs.Entries.{entry_at, value_at, count_of, fresh, touched_if, one_more_lost, cleared, empty_warehouse, IsHeld, IsOneForEach, TouchedIsHeld, SetsOnly, IsTouched, IsSwept, swept};
+ghost use Rattle.lucid_store.specs.Beside.{value_in};
 ghost use Rattle.lucid_store.specs.Lending.{EndsTouched};
 
 use crate::Key;
-use indexmap::IndexMap;
+use crate::datons::Datons;
 use lucid_value::Value;
 use std::alloc::Global;
 use std::marker::Model;
-
-// A value, and the number of sweeps since it was last touched.
-#[derive(Drop)]
-pub(crate) struct Entry {
-    pub(crate) value: Value,
-    pub(crate) age: u32,
-}
 
 /// Values by their keys, each with its age: the number of sweeps since it was last touched, up to the greatest u32. It is
 /// seen as a finite map from keys to a value and an age, with the number of values that were lost and the key last touched.
 /// That key, where there is one, is held.
 #[derive(Drop)]
 pub struct Warehouse {
-    entries: IndexMap<Key, Entry>,
+    datons: Datons,
     lost: u64,
     touched: Option<Key>,
 }
@@ -41,9 +35,9 @@ impl Model for Warehouse {
 
     ghost use Rattle.lucid_store.specs.Entries.{TouchedIsHeld};
 
-    ghost view = { λ w. record { entries = w.entries.entries; lost = w.lost; touched = w.touched } };
+    ghost view = { λ w. record { entries = w.datons; lost = w.lost; touched = w.touched } };
 
-    ghost invariant = { λ w. TouchedIsHeld (record { entries = w.entries.entries; lost = w.lost; touched = w.touched }) };
+    ghost invariant = { λ w. TouchedIsHeld (record { entries = w.datons; lost = w.lost; touched = w.touched }) };
 }
 
 // The key, unless it is the other one.
@@ -55,33 +49,11 @@ fn without(touched: Option<Key>, other: Key) -> Option<Key>
 }
 
 // The key, if it is held.
-fn held_only(touched: Option<Key>, entries: &IndexMap<Key, Entry>) -> Option<Key>
-    ensures { result ≡ touched_if (λ q. is_some (lookup (same_key q) entries.now.entries)) touched }
+fn held_only(touched: Option<Key>, datons: &Datons) -> Option<Key>
+    ensures { result ≡ touched_if (λ q. is_some (lookup (same_key q) datons.now)) touched }
 {
     let key = touched?;
-    if entries.contains_key(&key) {
-        Some(key)
-    } else {
-        None
-    }
-}
-
-// Every age rises by one, and the entries that are then over the limit go.
-fn age_entries(entries: &mut IndexMap<Key, Entry>, limit: u32)
-    ensures each { (q : Key) → lookup (same_key q) entries.new.entries ≡ option_and_then (swept limit) (lookup (same_key q) entries.old.entries) }
-    ensures count { length entries.new.entries ≤ length entries.old.entries }
-{
-    if entries.len() == 0 {
-        return;
-    }
-    entries.retain(
-        |_key: &Key, entry: &mut Entry| -> bool
-            ensures { (result ≡ is_young limit entry.old) × (entry.new ≡ aged entry.old) }
-        {
-            entry.age = entry.age.saturating_add(1);
-            entry.age <= limit
-        },
-    );
+    if datons.has(key) { Some(key) } else { None }
 }
 
 impl Warehouse {
@@ -90,28 +62,27 @@ impl Warehouse {
         ensures { result ≡ empty_warehouse }
     {
         Warehouse {
-            entries: IndexMap::new(alloc),
+            datons: Datons::make(alloc),
             lost: 0,
             touched: None,
         }
     }
 
-    // The value of a key, which is not touched.
-    fn value(&self, key: Key) -> Option<&Value>
-        ensures { option_copied result ≡ value_at self.now key }
+    // The value at a place.
+    fn value(&self, index: usize) -> Option<&Value>
+        ensures { option_copied result ≡ value_in self.now.entries index }
     {
-        self.entries.get(&key).map(|entry| &entry.value)
+        self.datons.value(index)
     }
 
-    // Touches a key, if it is held.
-    fn touch(&mut self, key: Key)
+    // Touches a key, if it is held, and gives its place.
+    fn touch(&mut self, key: Key) -> Option<usize>
         ensures after { IsTouched self.old self.new key }
-        ensures value { value_at self.new key ≡ value_at self.old key }
+        ensures value { option_and_then (value_in self.new.entries) result ≡ value_at self.old key }
     {
-        if let Some(entry) = self.entries.get_mut(&key) {
-            entry.age = 0;
-            self.touched = Some(key);
-        }
+        let index = self.datons.renew(key)?;
+        self.touched = Some(key);
+        Some(index)
     }
 
     /// The value of a key, which is then the key last touched, with age 0. It takes no memory.
@@ -119,8 +90,8 @@ impl Warehouse {
         ensures* after { sem 𝓛 (EndsTouched self.entry key) }
         ensures value { option_copied result ≡ value_at self.old key }
     {
-        self.touch(key);
-        self.value(key)
+        let index = self.touch(key)?;
+        self.value(index)
     }
 
     /// Holds a value under a key, with age 0, in place of the value that the key had. It is then the key last touched. For
@@ -134,14 +105,13 @@ impl Warehouse {
         ensures lost { OnErr result (self.new ≡ one_more_lost self.old) }
         ensures absent { OnErr result (entry_at self.old key ≡ None) }
     {
-        match self.entries.insert(key, Entry { value, age: 0 }) {
-            Ok(_) => {
+        match self.datons.put(key, value) {
+            Ok(()) => {
                 self.touched = Some(key);
                 Ok(())
             }
-            Err(refused) => {
+            Err(value) => {
                 self.lost = self.lost.saturating_add(1);
-                let (_, Entry { value, age: _ }) = refused.value;
                 Err(value)
             }
         }
@@ -160,8 +130,8 @@ impl Warehouse {
     pub fn sweep(&mut self, limit: u32)
         ensures { IsSwept limit self.old self.new }
     {
-        age_entries(&mut self.entries, limit);
-        self.touched = held_only(self.touched, &self.entries);
+        self.datons.sweep(limit);
+        self.touched = held_only(self.touched, &self.datons);
     }
 
     /// Removes a key and its value, and says whether it was held.
@@ -173,7 +143,7 @@ impl Warehouse {
         ensures count { count_of self.new + (if result then 1 else 0) ≡ count_of self.old }
     {
         self.touched = without(self.touched, key);
-        self.entries.swap_remove(&key).is_some()
+        self.datons.forget(key)
     }
 
     /// Removes all. How many values were lost stays.
@@ -181,10 +151,7 @@ impl Warehouse {
         ensures { self.new ≡ cleared self.old }
     {
         self.touched = None;
-        // A map clears all its memory, however few its entries.
-        if !self.entries.is_empty() {
-            self.entries.clear();
-        }
+        self.datons.clear();
     }
 
     /// How many keys are held.
@@ -194,7 +161,7 @@ impl Warehouse {
         ensures touched { TouchedIsHeld self.now }
     {
         let _touched = &self.touched;
-        self.entries.len() as u64
+        self.datons.len() as u64
     }
 
     /// How many values were lost for want of memory, up to the greatest u64.

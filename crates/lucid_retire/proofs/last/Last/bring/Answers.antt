@@ -1,7 +1,7 @@
 use Rattle.std.proofs.Common.{◌≡◌, ap, subst, ◌∙◌}
 use Rattle.std.proofs.lemmas.Result.{err_from_is_err_and}
 use Rattle.lru.specs.LruCache.{displaced}
-use Rattle.lucid_store.specs.Keys.{same_key}
+use Rattle.lucid_tags.specs.Keys.{same_key}
 use Rattle.lucid_retire.specs.Recency.{Recency, pushed_out, fallen_of}
 use Rattle.lucid_retire.proofs.Pushes.{not_listed, keys_of-push, fallen-displaced}
 use Rattle.lucid_retire.proofs.last.Last.bring.Goals as goal
@@ -15,7 +15,7 @@ pub returns-clause-front : goal.returns-clause-front
 returns-clause-front c =
     let room = c.self.inside.recent.cap in
     let same = keys_of-push c.self.inside.recent.entries room c.args.key c.len-count.ensures.valid.1 c.len-count.ensures.valid.2 in
-    rw (← c.self.view_is, c.in_ok-pushed.ensures.entries) (ap (λ ks. let r : Recency = record { keys = ks; room = room } in r) same)
+    rw (← c.self.view_is, c.in_ok-pushed.ensures.entries) (ap (λ ks. let r : Recency = record { keys = ks; room = room; unlisted = c.self.inside.unlisted } in r) same)
 
 pub returns-clause-out : goal.returns-clause-out
 returns-clause-out c =

@@ -3,8 +3,8 @@ use Rattle.lucid_store.proofs.warehouse.Warehouse.sweep.Goals as goal
 
 pub returns : goal.returns
 returns c = rw (← c.self.view_is) (record {
-  entries = c.age_entries.ensures.each;
+  entries = c.sweep.ensures.each;
   touched = c.held_only-self-inside.ensures;
   lost = refl;
-  count = c.age_entries.ensures.count;
+  count = c.sweep.ensures.count;
 })

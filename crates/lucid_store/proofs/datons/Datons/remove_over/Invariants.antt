@@ -1,0 +1,18 @@
+use Rattle.std.proofs.Common.{◌≡◌, ◌≤◌, length}
+use Rattle.std.specs.Prelude.{option_and_then}
+use Rattle.std.specs.List.{AllWithin}
+use Rattle.std.specs.Map.{lookup}
+use Rattle.lucid_tags.specs.declared.Key.{Key}
+use Rattle.lucid_tags.specs.Keys.{same_key}
+use Rattle.lucid_store.specs.Beside.{ages_of}
+use Rattle.lucid_store.specs.Entries.{within}
+use Rattle.lucid_store.proofs.datons.Datons.remove_over.Given as goal
+
+-- of the entries that were over the limit some are gone, and none is left at the place or later
+abbrev pub invariant-loop-index : goal.invariant-loop-index
+invariant-loop-index l = record {
+  each : (q : Key) → option_and_then (within l.limit) (lookup (same_key q) l.self) ≡ option_and_then (within l.limit) (lookup (same_key q) l.initial.self);
+  later : AllWithin (λ age. age ≤ l.limit) (ages_of l.self) l.index (length l.self);
+  inside : l.index ≤ length l.self;
+  count : length l.self ≤ length l.initial.self;
+}

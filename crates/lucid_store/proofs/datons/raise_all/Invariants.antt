@@ -1,0 +1,7 @@
+use Rattle.std.proofs.Common.{◌≡◌, ◌++◌, map, take, drop}
+use Rattle.lucid_store.specs.Entries.{older}
+use Rattle.lucid_store.proofs.datons.raise_all.Given as goal
+
+-- the ages so far have risen
+abbrev pub invariant-loop-index : goal.invariant-loop-index
+invariant-loop-index l = l.ages ≡ map older (take l.index l.initial.ages) ++ drop l.index l.initial.ages

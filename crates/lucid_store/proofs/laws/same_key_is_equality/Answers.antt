@@ -1,5 +1,0 @@
-use Rattle.lucid_store.specs.EqualityDecides.{same_key_is_equality}
-use Rattle.lucid_store.proofs.laws.same_key_is_equality.Goals as goal
-
-pub returns : goal.returns
-returns c = same_key_is_equality
