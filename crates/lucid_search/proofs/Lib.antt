@@ -1,2 +1,3 @@
 pub mod SiteLemmas
+pub mod NumberedLemmas
 pub mod NoteLemmas

@@ -4,15 +4,17 @@
 //! node at the same tag can begin. A position is a key with a number; what the two are is the caller's affair.
 #![tactic(auto)]
 
-ghost use Rattle.std.specs.Prelude.{◌≡◌, ℕ, ◌≤◌, [], None, IfSome, IfNone, OnOk, OnErr, ◌⊎◌};
-ghost use Rattle.lucid_search.specs.Noted.{number_at, number_in, noted_of, IsBest, IsBestOf, NotesOnly, SameNotes};
+ghost use Rattle.std.specs.Prelude.{◌≡◌, ℕ, ◌≤◌, [], None, IfSome, IfNone, OnOk, OnErr};
+ghost use Rattle.lucid_search.specs.Numbered.{number_in, SetsOne};
+ghost use Rattle.lucid_search.specs.Noted.{number_at, number_of_site, nothing_noted, IsBest, NotesSite, SameSites, NotesOrMisses};
 
 use indexmap::IndexMap;
 use lucid_tags::Tag;
+use notes::Notes;
 use std::alloc::{AllocError, Global};
-use std::collections::BTreeMap;
 use std::marker::Model;
 
+mod notes;
 #[cfg(test)]
 mod tests;
 
@@ -23,11 +25,13 @@ pub(crate) struct Site {
     pub(crate) tag: Tag,
 }
 
-/// Noted positions, seen as a finite map from a node, a tag and a key to a number.
+/// Noted positions, seen as a finite map from a node, a tag and a key to a number, and the number of notes that were missed for
+/// want of memory.
 #[derive(Drop)]
 pub struct Positions {
     alloc: Global,
-    sites: IndexMap<Site, BTreeMap<u64, u64>>,
+    sites: IndexMap<Site, Notes>,
+    missed: u64,
 }
 
 impl Model for Positions {
@@ -38,51 +42,39 @@ impl Model for Positions {
 
     ghost coded = { noted_code };
 
-    ghost use Rattle.lucid_search.specs.Noted.{noted_of};
-
-    ghost view = { λ p. noted_of p.sites.entries };
-}
-
-// The pair with the greatest key that is at most `key`.
-fn best_of(numbers: &BTreeMap<u64, u64>, key: u64) -> Option<(u64, u64)>
-    ensures best { IfSome result (IsBestOf numbers.now.entries key) }
-    ensures none { IfNone result ((q : ℕ) → q ≤ key → number_in numbers.now.entries q ≡ None) }
-{
-    match numbers.range(..=key).next_back() {
-        Some((best, number)) => Some((*best, *number)),
-        None => None,
-    }
+    ghost view = { λ p. record { sites = p.sites.entries; missed = p.missed } };
 }
 
 // Notes a number at a site and a key.
 fn add_note(
     alloc: Global,
-    sites: &mut IndexMap<Site, BTreeMap<u64, u64>>,
+    sites: &mut IndexMap<Site, Notes>,
     site: Site,
     key: u64,
     number: u64,
 ) -> Result<(), AllocError>
-    ensures ok { OnOk result (NotesOnly (noted_of sites.old.entries) (noted_of sites.new.entries) site.node site.tag key number) }
-    ensures err { OnErr result (SameNotes (noted_of sites.old.entries) (noted_of sites.new.entries)) }
+    ensures ok { OnOk result (NotesSite sites.old.entries sites.new.entries site key number) }
+    ensures err { OnErr result (SameSites sites.old.entries sites.new.entries) }
 {
-    if let Some(numbers) = sites.get_mut(&site) {
-        numbers.insert(key, number)?;
+    if let Some(notes) = sites.get_mut(&site) {
+        notes.set(key, number)?;
         return Ok(());
     }
-    let mut numbers = BTreeMap::new(alloc);
-    numbers.insert(key, number)?;
-    sites.insert(site, numbers)?;
+    let mut notes = Notes::make(alloc);
+    notes.set(key, number)?;
+    sites.insert(site, notes)?;
     Ok(())
 }
 
 impl Positions {
-    /// No position is noted. It takes no memory.
+    /// No position is noted, and none was missed. It takes no memory.
     pub fn make(alloc: Global) -> Positions
-        ensures { result ≡ [] }
+        ensures { result ≡ nothing_noted }
     {
         Positions {
             alloc,
             sites: IndexMap::new(alloc),
+            missed: 0,
         }
     }
 
@@ -92,22 +84,32 @@ impl Positions {
         ensures none { IfNone result ((q : ℕ) → q ≤ key → number_at self.now node tag q ≡ None) }
     {
         match self.sites.get(&Site { node, tag }) {
-            Some(numbers) => best_of(numbers, key),
+            Some(notes) => notes.best(key),
             None => None,
         }
     }
 
-    /// Notes a number at a key, in place of the number that was noted there. For want of memory nothing changes: a lost note
-    /// costs a later search only work.
+    /// Notes a number at a key, in place of the number that was noted there. For want of memory nothing is noted, which costs a
+    /// later search only work: the note counts as missed.
     pub fn note(&mut self, node: u32, tag: Tag, key: u64, number: u64)
-        ensures { NotesOnly self.old self.new node tag key number ⊎ SameNotes self.old self.new }
+        ensures { NotesOrMisses self.old self.new node tag key number }
     {
-        let _ = add_note(self.alloc, &mut self.sites, Site { node, tag }, key, number);
+        match add_note(self.alloc, &mut self.sites, Site { node, tag }, key, number) {
+            Ok(()) => (),
+            Err(_) => self.missed = self.missed.saturating_add(1),
+        }
+    }
+
+    /// How many notes were missed. It stays at the greatest u64.
+    pub fn missed(&self) -> u64
+        ensures { result ≡ self.now.missed }
+    {
+        self.missed
     }
 
     /// Forgets all positions.
     pub fn clear(&mut self)
-        ensures { self.new ≡ [] }
+        ensures { self.new ≡ record self.old { sites = [] } }
     {
         // A map clears all its memory, however few its entries.
         if !self.sites.is_empty() {

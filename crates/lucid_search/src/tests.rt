@@ -26,8 +26,29 @@ fn calls_with_ample_memory(rt: HostRuntime) {
     assert_eq!(rt; positions.best(1, root, 8), Some((8, 9)));
     assert_eq!(rt; positions.best(1, root.at_space(1), 9), Some((6, 11)));
     assert_eq!(rt; positions.best(2, root, 9), Some((6, 10)));
+    assert_eq!(rt; positions.missed(), 0);
     positions.clear();
     assert_eq!(rt; positions.best(1, root, 9), None);
+}
+
+#[test]
+fn notes_of_a_site_out_of_order(rt: HostRuntime) {
+    let root = Tags::make(rt.alloc()).root();
+    let mut positions = Positions::make(rt.alloc());
+    for (key, number) in [(6, 60), (2, 20), (9, 90), (4, 40), (2, 21), (0, 1)] {
+        positions.note(3, root, key, number);
+    }
+    let rows = [
+        (0, Some((0, 1))),
+        (1, Some((0, 1))),
+        (2, Some((2, 21))),
+        (5, Some((4, 40))),
+        (8, Some((6, 60))),
+        (99, Some((9, 90))),
+    ];
+    for (key, best) in rows {
+        assert_eq!(rt; positions.best(3, root, key), best);
+    }
 }
 
 #[test]

@@ -1,17 +1,17 @@
 -- What stays a forest.
 use Rattle.std.proofs.Common.{◌≡◌, ℕ, zero, suc, ◌<◌, ◌≤◌, ◌+◌, true, false, List, length, Option, Some, None, IsSome, IfSome, ◌⊎◌, inl, inr, refl, ap, sym, subst, ◌∙◌, arith}
-use Rattle.std.specs.Prelude.{option_and_then}
+use Rattle.std.specs.Prelude.{option_and_then, option_map}
 use Rattle.lucid_tasks.specs.declared.Part.{Part}
-use Rattle.lucid_tasks.specs.declared.TaskRow.{TaskRow}
-use Rattle.lucid_tasks.specs.Rows.{row_at, parent_of, child_of, asked_for, is_ready, IsRow, IsReady, IsForest}
+use Rattle.lucid_tasks.specs.Rows.{TaskRow, row_at, parent_of, child_of, asked_slot, state_at, is_ready, IsRow, IsReady, IsForest}
 use Rattle.lucid_tasks.proofs.Cases.{number_cases, part_cases, some_is, none_is_some}
-use Rattle.lucid_tasks.proofs.RowLemmas.{row_below, free_asked, some_asked}
+use Rattle.lucid_tasks.proofs.RowLemmas.{row_below, free_part, some_asked}
 
 pub parent_from_row : (rows : List (Option TaskRow)) (q : ℕ) (o : Option TaskRow) → row_at rows q ≡ o → parent_of rows q ≡ option_and_then (λ (row : TaskRow). row.parent) o
 parent_from_row rows q o e = ap (option_and_then (λ (row : TaskRow). row.parent)) e
 
-pub child_from_row : (rows : List (Option TaskRow)) (part : Part) (o : Option TaskRow) → row_at rows part.slot ≡ o → child_of rows part ≡ option_and_then (asked_for part.index) o
-child_from_row rows part o e = ap (option_and_then (asked_for part.index)) e
+-- the slot of the task that was asked for a part of a row, if there is a row
+abbrev pub child_in : ℕ → Option TaskRow → Option ℕ
+child_in index o = option_and_then asked_slot (option_map (state_at index) o)
 
 module _ (old new : List (Option TaskRow)) where
   pub forest_by_links : ((q : ℕ) → parent_of new q ≡ parent_of old q) → ((p : Part) → child_of new p ≡ child_of old p) → IsForest old → IsForest new
@@ -98,9 +98,9 @@ true_is_false e = cc
 pub ready_is_free : (rows : List (Option TaskRow)) (part : Part) → is_ready (row_at rows part.slot) ≡ true → child_of rows part ≡ None
 ready_is_free rows part h = by_row (row_at rows part.slot) h
   where
-    by_row : (o : Option TaskRow) → is_ready o ≡ true → option_and_then (asked_for part.index) o ≡ None
+    by_row : (o : Option TaskRow) → is_ready o ≡ true → child_in part.index o ≡ None
     by_row None h = refl
-    by_row (Some row) h = free_asked row.asked part.index h
+    by_row (Some row) h = free_part row.parts part.index h
 
 pub free_where_ready : (rows : List (Option TaskRow)) (o : Option ℕ) → IfSome o (λ slot. is_ready (row_at rows slot) ≡ true)
     → IfSome o (λ slot. (index : ℕ) → child_of rows (record { slot = slot; index = index }) ≡ None)
@@ -116,9 +116,9 @@ pub waits_for : (rows : List (Option TaskRow)) (slot : ℕ) → IsRow rows slot 
     → (index : ℕ) × ((child : ℕ) × (child_of rows (record { slot = slot; index = index }) ≡ Some child))
 waits_for rows slot some h = by_row (row_at rows slot) some h
   where
-    by_row : (o : Option TaskRow) → IsSome o → is_ready o ≡ false → (index : ℕ) × ((child : ℕ) × (option_and_then (asked_for index) o ≡ Some child))
+    by_row : (o : Option TaskRow) → IsSome o → is_ready o ≡ false → (index : ℕ) × ((child : ℕ) × (child_in index o ≡ Some child))
     by_row None some h = absurd (true_is_false (sym some))
-    by_row (Some row) some h = some_asked row.asked h
+    by_row (Some row) some h = some_asked row.parts h
 
 parent_is_row : (rows : List (Option TaskRow)) (q : ℕ) (part : Part) → parent_of rows q ≡ Some part → IsRow rows q
 parent_is_row rows q part h = by_row (row_at rows q) h

@@ -1,92 +1,99 @@
--- Rows in their slots, after a write at one slot.
-use Rattle.std.proofs.Common.{◌≡◌, ℕ, zero, suc, ◌<◌, Bool, true, false, ◌&&◌, List, [], ◌∷◌, ◌++◌, length, set, Option, Some, None, refl, ap, sym, ◌∙◌, arith}
-use Rattle.std.specs.Prelude.{slice_get, is_none}
-use Rattle.std.specs.Option.{option_flatten}
+-- Rows in their slots, and how their parts stand.
+use Rattle.std.proofs.Common.{◌≡◌, ◌≢◌, ℕ, zero, suc, ◌<◌, Bool, true, false, ◌&&◌, List, [], ◌∷◌, length, get_or, set, Option, Some, None, refl, ap, sym, subst, ◌∙◌, arith}
 use Rattle.std.specs.List.{list_all}
-use Rattle.lucid_tasks.specs.declared.TaskRow.{TaskRow}
-use Rattle.lucid_tasks.specs.Rows.{row_at}
+use Rattle.std.specs.Prelude.{option_map, option_and_then}
+use Rattle.lucid_tasks.specs.Rows.{PartState, Idle, Asked, Got, TaskRow, row_at, state_at, got_of, got_value, asked_slot, is_free, is_idle, is_ready, all_idle, HaveThree, IsIdleRow}
 use Rattle.lucid_tasks.proofs.Cases.{none_is_some}
-
-pub row_past : (rows : List (Option TaskRow)) → row_at rows (length rows) ≡ None
-row_past [] = refl
-row_past (r ∷ rows) = row_past rows
 
 pub row_below : (rows : List (Option TaskRow)) (q : ℕ) (row : TaskRow) → row_at rows q ≡ Some row → q < length rows
 row_below [] q row h = absurd (none_is_some row h)
 row_below (r ∷ rows) zero row h = omega arith
 row_below (r ∷ rows) (suc q) row h = let rest = row_below rows q row h in omega (arith, rest)
 
-pub push_same : (rows : List (Option TaskRow)) (row : TaskRow) → row_at (rows ++ Some row ∷ []) (length rows) ≡ Some row
-push_same [] row = refl
-push_same (r ∷ rows) row = push_same rows row
+true_is_false : true ≡ false → ⊥
+true_is_false e = cc
 
-pub push_other : (rows : List (Option TaskRow)) (row : TaskRow) (q : ℕ) → (q ≡ length rows → ⊥) → row_at (rows ++ Some row ∷ []) q ≡ row_at rows q
-push_other [] row zero ne = absurd (ne refl)
-push_other [] row (suc q) ne = refl
-push_other (r ∷ rows) row zero ne = refl
-push_other (r ∷ rows) row (suc q) ne = push_other rows row q (λ e. ne (ap suc e))
+-- ---- parts that are asked
 
-pub set_same : (rows : List (Option TaskRow)) (slot : ℕ) (o : Option TaskRow) → slot < length rows → row_at (set rows slot o) slot ≡ o
-set_same [] slot o h = absurd (omega (arith, h))
-set_same (r ∷ rows) zero o h = refl
-set_same (r ∷ rows) (suc slot) o h = set_same rows slot o (omega (arith, h))
+pub free_part : (parts : List PartState) (i : ℕ) → list_all is_free parts ≡ true → asked_slot (get_or parts i Idle) ≡ None
+free_part [] i h = refl
+free_part (Idle ∷ parts) zero h = refl
+free_part (Idle ∷ parts) (suc i) h = free_part parts i h
+free_part (Got v ∷ parts) zero h = refl
+free_part (Got v ∷ parts) (suc i) h = free_part parts i h
+free_part (Asked s ∷ parts) i h = absurd (true_is_false (sym h))
 
-pub set_other : (rows : List (Option TaskRow)) (slot : ℕ) (o : Option TaskRow) (q : ℕ) → (q ≡ slot → ⊥) → row_at (set rows slot o) q ≡ row_at rows q
-set_other [] slot o q ne = refl
-set_other (r ∷ rows) zero o zero ne = absurd (ne refl)
-set_other (r ∷ rows) zero o (suc q) ne = refl
-set_other (r ∷ rows) (suc slot) o zero ne = refl
-set_other (r ∷ rows) (suc slot) o (suc q) ne = set_other rows slot o q (λ e. ne (ap suc e))
+-- some part is asked, where not all are free
+pub some_asked : (parts : List PartState) → list_all is_free parts ≡ false → (i : ℕ) × ((child : ℕ) × (asked_slot (get_or parts i Idle) ≡ Some child))
+some_asked [] h = absurd (true_is_false h)
+some_asked (Idle ∷ parts) h = let rest = some_asked parts h in (suc rest.0, rest.1)
+some_asked (Got v ∷ parts) h = let rest = some_asked parts h in (suc rest.0, rest.1)
+some_asked (Asked s ∷ parts) h = (0, (s, refl))
 
--- an empty slot at the end may go
-pub trimmed : (rows : List (Option TaskRow)) (q : ℕ) → row_at rows q ≡ row_at (rows ++ None ∷ []) q
-trimmed [] zero = refl
-trimmed [] (suc q) = refl
-trimmed (r ∷ rows) zero = refl
-trimmed (r ∷ rows) (suc q) = trimmed rows q
+pub fresh_part : (i : ℕ) → asked_slot (get_or all_idle i Idle) ≡ None
+fresh_part i = free_part all_idle i refl
 
--- ---- which parts are asked
+-- ---- a part that is set
 
-pub asked_set_same : (asked : List (Option ℕ)) (index child : ℕ) → index < length asked → option_flatten (slice_get (set asked index (Some child)) index) ≡ Some child
-asked_set_same [] index child h = absurd (omega (arith, h))
-asked_set_same (a ∷ asked) zero child h = refl
-asked_set_same (a ∷ asked) (suc index) child h = asked_set_same asked index child (omega (arith, h))
+pub part_set : (parts : List PartState) (i : ℕ) (s : PartState) → i < length parts → get_or (set parts i s) i Idle ≡ s
+part_set [] i s h = absurd (omega (arith, h))
+part_set (p ∷ parts) zero s h = refl
+part_set (p ∷ parts) (suc i) s h = part_set parts i s (omega (arith, h))
 
-pub asked_set_none : (asked : List (Option ℕ)) (index : ℕ) → option_flatten (slice_get (set asked index None) index) ≡ None
-asked_set_none [] index = refl
-asked_set_none (a ∷ asked) zero = refl
-asked_set_none (a ∷ asked) (suc index) = asked_set_none asked index
+pub part_other : (parts : List PartState) (i : ℕ) (s : PartState) (k : ℕ) → k ≢ i → get_or (set parts i s) k Idle ≡ get_or parts k Idle
+part_other [] i s k ne = refl
+part_other (p ∷ parts) zero s zero ne = absurd (ne refl)
+part_other (p ∷ parts) zero s (suc k) ne = refl
+part_other (p ∷ parts) (suc i) s zero ne = refl
+part_other (p ∷ parts) (suc i) s (suc k) ne = part_other parts i s k (λ e. ne (ap suc e))
 
-pub asked_set_other : (asked : List (Option ℕ)) (index : ℕ) (o : Option ℕ) (i : ℕ) → (i ≡ index → ⊥) → option_flatten (slice_get (set asked index o) i) ≡ option_flatten (slice_get asked i)
-asked_set_other [] index o i ne = refl
-asked_set_other (a ∷ asked) zero o zero ne = absurd (ne refl)
-asked_set_other (a ∷ asked) zero o (suc i) ne = refl
-asked_set_other (a ∷ asked) (suc index) o zero ne = refl
-asked_set_other (a ∷ asked) (suc index) o (suc i) ne = asked_set_other asked index o i (λ e. ne (ap suc e))
+pub parts_length : (parts : List PartState) (i : ℕ) (s : PartState) → length (set parts i s) ≡ length parts
+parts_length [] i s = refl
+parts_length (p ∷ parts) zero s = refl
+parts_length (p ∷ parts) (suc i) s = ap suc (parts_length parts i s)
 
 and_false : (b : Bool) → b && false ≡ false
 and_false true = refl
 and_false false = refl
 
-pub asked_waits : (asked : List (Option ℕ)) (index child : ℕ) → index < length asked → list_all is_none (set asked index (Some child)) ≡ false
-asked_waits [] index child h = absurd (omega (arith, h))
-asked_waits (a ∷ asked) zero child h = refl
-asked_waits (a ∷ asked) (suc index) child h = ap (λ b. is_none a && b) (asked_waits asked index child (omega (arith, h))) ∙ and_false (is_none a)
+-- a row of which a part is asked waits
+pub asked_waits : (parts : List PartState) (i child : ℕ) → i < length parts → list_all is_free (set parts i (Asked child)) ≡ false
+asked_waits [] i child h = absurd (omega (arith, h))
+asked_waits (p ∷ parts) zero child h = refl
+asked_waits (p ∷ parts) (suc i) child h = ap (λ b. is_free p && b) (asked_waits parts i child (omega (arith, h))) ∙ and_false (is_free p)
 
-true_is_false : true ≡ false → ⊥
-true_is_false e = cc
+-- a part that is free before and after says nothing of the others
+pub free_set : (parts : List PartState) (i : ℕ) (s : PartState) → is_free s ≡ is_free (get_or parts i Idle) → list_all is_free (set parts i s) ≡ list_all is_free parts
+free_set [] i s e = refl
+free_set (p ∷ parts) zero s e = ap (λ b. b && list_all is_free parts) e
+free_set (p ∷ parts) (suc i) s e = ap (λ b. is_free p && b) (free_set parts i s e)
 
-pub free_asked : (asked : List (Option ℕ)) (i : ℕ) → list_all is_none asked ≡ true → option_flatten (slice_get asked i) ≡ None
-free_asked [] i h = refl
-free_asked (None ∷ asked) zero h = refl
-free_asked (None ∷ asked) (suc i) h = free_asked asked i h
-free_asked (Some child ∷ asked) i h = absurd (true_is_false (sym h))
+-- ---- parts that are idle
 
-pub fresh_asked : (i : ℕ) → let asked : List (Option ℕ) = None ∷ None ∷ None ∷ [] in option_flatten (slice_get asked i) ≡ None
-fresh_asked i = free_asked (None ∷ None ∷ None ∷ []) i refl
+-- a part that is free and has no value is idle
+pub free_is_idle : (parts : List PartState) (i : ℕ) → list_all is_free parts ≡ true → got_value (get_or parts i Idle) ≡ None → get_or parts i Idle ≡ Idle
+free_is_idle [] i h e = refl
+free_is_idle (Idle ∷ parts) zero h e = refl
+free_is_idle (Idle ∷ parts) (suc i) h e = free_is_idle parts i h e
+free_is_idle (Got v ∷ parts) zero h e = absurd (none_is_some v (sym e))
+free_is_idle (Got v ∷ parts) (suc i) h e = free_is_idle parts i h e
+free_is_idle (Asked s ∷ parts) i h e = absurd (true_is_false (sym h))
 
--- some part is asked, where not all are free
-pub some_asked : (asked : List (Option ℕ)) → list_all is_none asked ≡ false → (i : ℕ) × ((child : ℕ) × (option_flatten (slice_get asked i) ≡ Some child))
-some_asked [] h = absurd (true_is_false h)
-some_asked (None ∷ asked) h = let rest = some_asked asked h in (suc rest.0, rest.1)
-some_asked (Some child ∷ asked) h = (0, (child, refl))
+all_are_idle : (parts : List PartState) → ((i : ℕ) → i < length parts → get_or parts i Idle ≡ Idle) → list_all is_idle parts ≡ true
+all_are_idle [] h = refl
+all_are_idle (p ∷ parts) h = ap (λ s. is_idle s && list_all is_idle parts) (h 0 (omega arith)) ∙ all_are_idle parts (λ i l. h (suc i) (omega (arith, l)))
+
+pub idle_row : (rows : List (Option TaskRow)) (slot : ℕ) → HaveThree rows → is_ready (row_at rows slot) ≡ true
+    → got_of rows (record { slot = slot; index = 0 }) ≡ None → got_of rows (record { slot = slot; index = 1 }) ≡ None → got_of rows (record { slot = slot; index = 2 }) ≡ None → IsIdleRow rows slot
+idle_row rows slot three h zeroth first second = by_row (row_at rows slot) refl h zeroth first second
+  where
+    each : (row : TaskRow) → list_all is_free row.parts ≡ true → got_value (state_at 0 row) ≡ None → got_value (state_at 1 row) ≡ None → got_value (state_at 2 row) ≡ None → (i : ℕ) → i < 3 → get_or row.parts i Idle ≡ Idle
+    each row h a b c zero l = free_is_idle row.parts 0 h a
+    each row h a b c (suc zero) l = free_is_idle row.parts 1 h b
+    each row h a b c (suc (suc zero)) l = free_is_idle row.parts 2 h c
+    each row h a b c (suc (suc (suc i))) l = absurd (omega (arith, l))
+
+    by_row : (o : Option TaskRow) → row_at rows slot ≡ o → is_ready o ≡ true → option_and_then got_value (option_map (state_at 0) o) ≡ None → option_and_then got_value (option_map (state_at 1) o) ≡ None
+        → option_and_then got_value (option_map (state_at 2) o) ≡ None → option_map (λ (row : TaskRow). list_all is_idle row.parts) o ≡ Some true
+    by_row None at h a b c = absurd (true_is_false (sym h))
+    by_row (Some row) at h a b c = ap Some (all_are_idle row.parts (λ i l. each row h a b c i (subst (λ n. i < n) (three slot row at) l)))

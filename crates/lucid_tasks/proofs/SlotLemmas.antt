@@ -1,5 +1,5 @@
 -- Lists of slots that rise.
-use Rattle.std.proofs.Common.{◌≡◌, ℕ, zero, suc, ◌<◌, ◌≤◌, Bool, true, false, cond, ◌==◌, ◌||◌, List, [], ◌∷◌, ◌++◌, length, get_or, Some, refl, ap, sym, subst, ◌∙◌, arith}
+use Rattle.std.proofs.Common.{◌≡◌, ℕ, zero, suc, ◌<◌, ◌≤◌, ◌-◌, Bool, true, false, cond, ◌==◌, ◌||◌, List, [], ◌∷◌, ◌++◌, length, get_or, Some, refl, ap, sym, subst, ◌∙◌, arith}
 use Rattle.std.proofs.lemmas.Bool.Decides.{nat_tests}
 use Rattle.std.specs.Prelude.{slice_get, insert, remove}
 use Rattle.lucid_tasks.specs.Slots.{is_listed, RiseFrom}
@@ -190,3 +190,20 @@ pub insert_in : (xs items : List ℕ) (i s : ℕ) → xs ≡ items → RiseFrom 
     → ((k : ℕ) → k < i → get_or xs k 0 < s) → ((k : ℕ) → i ≤ k → k < length xs → s ≤ get_or xs k 0) → i ≤ length xs → RiseFrom 0 (insert items i s)
 insert_in xs items i s e r l below from h =
     rise_insert 0 items i s r (omega arith) l (subst (λ ys. (k : ℕ) → k < i → get_or ys k 0 < s) e below) (subst (λ ys. (k : ℕ) → i ≤ k → k < length ys → s ≤ get_or ys k 0) e from) (subst (λ ys. i ≤ length ys) e h)
+
+-- ---- by the last slot
+
+last_is : (xs : List ℕ) (i x : ℕ) → Some x ≡ slice_get xs i → (i < length xs) × (get_or xs i 0 ≡ x)
+last_is [] i x e = absurd (none_is_some x (sym e))
+last_is (y ∷ xs) zero x e = (omega arith, some_is 0 y x (sym e))
+last_is (y ∷ xs) (suc i) x e = let rest = last_is xs i x e in (omega (arith, rest.0), rest.1)
+
+pub below_last : (xs : List ℕ) (s x : ℕ) → RiseFrom 0 xs → Some x ≡ slice_get xs (length xs - 1) → x < s → (k : ℕ) → k < length xs → get_or xs k 0 < s
+below_last xs s x r e h k l =
+    let last = last_is xs (length xs - 1) x e in
+    let up = rise_sorted 0 xs r k (length xs - 1) (omega (arith, l)) last.0 in omega (arith, up, last.1, h)
+
+pub below_before_last : (xs : List ℕ) (s x : ℕ) → RiseFrom 0 xs → Some x ≡ slice_get xs (length xs - 1) → x ≡ s → (k : ℕ) → k < length xs - 1 → get_or xs k 0 < s
+below_before_last xs s x r e h k l =
+    let last = last_is xs (length xs - 1) x e in
+    let up = rise_strict 0 xs r k (length xs - 1) l last.0 in omega (arith, up, last.1, h)

@@ -1,3 +1,5 @@
 pub mod Slots
+pub mod Numbered
 pub mod Rows
 pub mod RowsCode
+pub mod Laid

@@ -1,13 +1,28 @@
 -- Waiting tasks as a finite map from slots to rows, and what each call makes of it. All of it is this project's own.
-use Rattle.std.specs.Prelude.{◌≡◌, ◌≢◌, ℕ, ◌<◌, List, [], ◌∷◌, Option, Some, None, Bool, false, ◌==◌, if◌then◌else◌, IsSome, is_none, option_map, option_and_then, slice_get, slice_set}
+use Rattle.std.specs.Prelude.{◌≡◌, ◌≢◌, ℕ, ◌<◌, List, [], ◌∷◌, Option, Some, None, Bool, true, false, ◌==◌, if◌then◌else◌, IsSome, length, option_map, option_and_then, slice_get, slice_index_or, slice_set}
 use Rattle.std.specs.Option.{option_flatten}
 use Rattle.std.specs.List.{list_all}
 use Rattle.lucid_value.specs.declared.Value.{Value}
 use Rattle.lucid_tasks.specs.declared.Task.{Task}
 use Rattle.lucid_tasks.specs.declared.Cursor.{Cursor}
 use Rattle.lucid_tasks.specs.declared.Part.{Part}
-use Rattle.lucid_tasks.specs.declared.TaskRow.{TaskRow}
+use Rattle.lucid_tags.specs.declared.Key.{Key}
 use Rattle.lucid_tasks.specs.Slots.{is_listed, RiseFrom}
+
+-- A part of a row is idle; or a task was asked for it, whose row stands in a slot; or it has a value. It is never two of these.
+pub data PartState : Type 0 where
+  Idle : PartState
+  Asked : (slot : ℕ) → PartState
+  Got : (value : Value) → PartState
+
+-- A row: what is asked for, the part that it is to give a value to, where its search stands if it has one, the key of the daton
+-- whose value its own is to become, and its parts.
+pub record TaskRow : Type 0 where
+  pub task : Task
+  pub parent : Option Part
+  pub cursor : Cursor
+  pub key : Option Key
+  pub parts : List PartState
 
 -- the row in a slot, if there is one
 abbrev pub row_at : List (Option TaskRow) → ℕ → Option TaskRow
@@ -16,22 +31,52 @@ row_at rows slot = option_flatten (slice_get rows slot)
 abbrev pub IsRow : List (Option TaskRow) → ℕ → Type 0
 IsRow rows slot = IsSome (row_at rows slot)
 
--- the slot of the task that was asked for a part of a row and hasn't settled, if there is one
-abbrev pub asked_for : ℕ → TaskRow → Option ℕ
-asked_for index row = option_flatten (slice_get row.asked index)
+-- the slot of the task that was asked for a part, if that is how the part stands
+abbrev pub asked_slot : PartState → Option ℕ
+asked_slot Idle = None
+asked_slot (Asked slot) = Some slot
+asked_slot (Got value) = None
+
+-- the value of a part, if that is how the part stands
+abbrev pub got_value : PartState → Option Value
+got_value Idle = None
+got_value (Asked slot) = None
+got_value (Got value) = Some value
+
+-- a part that no task is asked for
+abbrev pub is_free : PartState → Bool
+is_free Idle = true
+is_free (Asked slot) = false
+is_free (Got value) = true
+
+-- how a part of a row stands
+abbrev pub state_at : ℕ → TaskRow → PartState
+state_at index row = slice_index_or row.parts index Idle
 
 -- the same by the part
+abbrev pub state_of : List (Option TaskRow) → Part → Option PartState
+state_of rows part = option_map (state_at part.index) (row_at rows part.slot)
+
+-- the slot of the task that was asked for a part, if one was
 abbrev pub child_of : List (Option TaskRow) → Part → Option ℕ
-child_of rows part = option_and_then (asked_for part.index) (row_at rows part.slot)
+child_of rows part = option_and_then asked_slot (state_of rows part)
+
+-- the value of a part, if it has one
+abbrev pub got_of : List (Option TaskRow) → Part → Option Value
+got_of rows part = option_and_then got_value (state_of rows part)
 
 -- the part that the task in a slot was asked for, if there is one
 abbrev pub parent_of : List (Option TaskRow) → ℕ → Option Part
 parent_of rows slot = option_and_then (λ row. row.parent) (row_at rows slot)
 
+-- the key of the daton whose value that of the task in a slot is to become, if there is one
+abbrev pub key_of : List (Option TaskRow) → ℕ → Option Key
+key_of rows slot = option_and_then (λ row. row.key) (row_at rows slot)
+
 -- a row that waits for none of its parts
 abbrev pub is_ready : Option TaskRow → Bool
 is_ready None = false
-is_ready (Some row) = list_all is_none row.asked
+is_ready (Some row) = list_all is_free row.parts
 
 -- the same by the other rows: a row that is no row's parent
 pub record IsReady (rows : List (Option TaskRow)) (slot : ℕ) : Type 0 where
@@ -46,40 +91,57 @@ pub record IsForest (rows : List (Option TaskRow)) : Type 0 where
   pub older : (slot : ℕ) (part : Part) → parent_of rows slot ≡ Some part → part.slot < slot
   pub index : (slot : ℕ) (part : Part) → parent_of rows slot ≡ Some part → part.index < 3
 
+-- each row has three parts
+abbrev pub HaveThree : List (Option TaskRow) → Type 0
+HaveThree rows = (slot : ℕ) (row : TaskRow) → row_at rows slot ≡ Some row → length row.parts ≡ 3
+
 -- the rows are a forest, and the slots are those of the ready rows, in order
 pub record AreTasks (rows : List (Option TaskRow)) (ready : List ℕ) : Type 0 where
   pub forest : IsForest rows
   pub rising : RiseFrom 0 ready
   pub listed : (slot : ℕ) → is_listed ready slot ≡ is_ready (row_at rows slot)
+  pub three : HaveThree rows
 
--- a new row: nothing is asked, nothing is got, and the cursor is at 0, 0
+abbrev pub all_idle : List PartState
+all_idle = Idle ∷ Idle ∷ Idle ∷ []
+
+-- where a search begins
+abbrev pub start : Cursor
+start = record { time = 0; count = 0 }
+
+-- a new row: each part is idle, the cursor is at 0, 0, and there is no key
 abbrev pub fresh : Task → Option Part → TaskRow
-fresh task parent = record {
-  task = task;
-  parent = parent;
-  cursor = record { time = 0; count = 0 };
-  asked = None ∷ None ∷ None ∷ [];
-  got = None ∷ None ∷ None ∷ [];
-}
+fresh task parent = record { task = task; parent = parent; cursor = start; key = None; parts = all_idle }
 
--- the row that waits for a part, for which the task in a slot was asked
-abbrev pub asking : ℕ → ℕ → TaskRow → TaskRow
-asking index child row = record row { asked = slice_set row.asked index (Some child) }
+-- the row with a part that stands so
+abbrev pub with_part : ℕ → PartState → TaskRow → TaskRow
+with_part index state row = record row { parts = slice_set row.parts index state }
 
--- the row that has the value of a part, and so does not wait for it
-abbrev pub settled : ℕ → Value → TaskRow → TaskRow
-settled index value row = record row { asked = slice_set row.asked index None; got = slice_set row.got index (Some value) }
+-- how a part stands once its value, if it has one, was taken out
+abbrev pub emptied : PartState → PartState
+emptied Idle = Idle
+emptied (Asked slot) = Asked slot
+emptied (Got value) = Idle
 
 -- the row without the value of a part
-abbrev pub forgot : ℕ → TaskRow → TaskRow
-forgot index row = record row { got = slice_set row.got index None }
+abbrev pub taken : ℕ → TaskRow → TaskRow
+taken index row = with_part index (emptied (state_at index row)) row
 
 abbrev pub with_cursor : Cursor → TaskRow → TaskRow
 with_cursor cursor row = record row { cursor = cursor }
 
--- each slot has the row that it had
-abbrev pub SameRows : List (Option TaskRow) → List (Option TaskRow) → Type 0
-SameRows old new = (q : ℕ) → row_at new q ≡ row_at old q
+-- the row of another task in the same place, which remembers a key
+abbrev pub becoming : Task → Key → TaskRow → TaskRow
+becoming task key row = record row { task = task; cursor = start; key = Some key }
+
+-- a row of which no part is asked or got
+abbrev pub is_idle : PartState → Bool
+is_idle Idle = true
+is_idle (Asked slot) = false
+is_idle (Got value) = false
+
+abbrev pub IsIdleRow : List (Option TaskRow) → ℕ → Type 0
+IsIdleRow rows slot = option_map (λ row. list_all is_idle row.parts) (row_at rows slot) ≡ Some true
 
 -- the slot has this row, or none, and every other slot the row that it had
 abbrev pub SetsOnly : List (Option TaskRow) → List (Option TaskRow) → ℕ → Option TaskRow → Type 0
@@ -92,12 +154,12 @@ ChangesOnly old new slot change = (q : ℕ) → row_at new q ≡ (if q == slot t
 -- a new row stands in the slot, its parent waits for it, and every other slot has the row that it had
 abbrev pub Asks : List (Option TaskRow) → List (Option TaskRow) → Part → ℕ → Task → Type 0
 Asks old new parent slot task = (q : ℕ) → row_at new q ≡ (if q == slot then Some (fresh task (Some parent))
-    else if q == parent.slot then option_map (asking parent.index slot) (row_at old q) else row_at old q)
+    else if q == parent.slot then option_map (with_part parent.index (Asked slot)) (row_at old q) else row_at old q)
 
 -- a row once a value was given to a part, if to any: only the part's row changes
 abbrev pub given : Option Part → Value → ℕ → Option TaskRow → Option TaskRow
 given None value slot row = row
-given (Some part) value slot row = if slot == part.slot then option_map (settled part.index value) row else row
+given (Some part) value slot row = if slot == part.slot then option_map (with_part part.index (Got value)) row else row
 
 -- the row in the slot is gone, its parent, if it has one, has the value, and every other slot has the row that it had
 abbrev pub Settles : List (Option TaskRow) → List (Option TaskRow) → ℕ → Value → Type 0
@@ -107,3 +169,7 @@ Settles old new slot value = (q : ℕ) → row_at new q ≡ (if q == slot then N
 abbrev pub returned : Option Part → Value → Option Value
 returned None value = Some value
 returned (Some part) value = None
+
+-- the slot is past those of all rows
+abbrev pub IsPast : List (Option TaskRow) → ℕ → Type 0
+IsPast rows slot = (q : ℕ) → IsRow rows q → q < slot

@@ -3,13 +3,18 @@
 ghost use Rattle.std.specs.Prelude.{◌≡◌, ℕ, ◌<◌, ◌≤◌, ◌+◌, ◌==◌, true, false, length, slice_index, if◌then◌else◌, vec_len, vec_capacity};
 ghost use Rattle.lucid_tasks.specs.Slots.{is_listed, RiseFrom};
 
-// How many of the slots are below one.
+// How many of the slots are below one. The end is tried first: nearly always the newest task is worked on.
 fn place_of(slots: &[usize], slot: usize) -> usize
     requires { RiseFrom 0 slots.now }
     ensures bound { result ≤ length slots.now }
     ensures below { (k : ℕ) → k < result → slice_index slots.now k < slot }
     ensures from { (k : ℕ) → result ≤ k → k < length slots.now → slot ≤ slice_index slots.now k }
 {
+    match slots.last() {
+        Some(last) if *last < slot => return slots.len(),
+        Some(last) if *last == slot => return slots.len() - 1,
+        _ => (),
+    }
     match slots.binary_search(&slot) {
         Ok(place) => place,
         Err(place) => place,
@@ -24,6 +29,8 @@ pub(crate) fn remove_slot(slots: &mut Vec<usize>, slot: usize)
     ensures rising { RiseFrom 0 slots.new.items }
     ensures listed { (q : ℕ) → is_listed slots.new.items q ≡ (if q == slot then false else is_listed slots.old.items q) }
     ensures room { vec_len slots.new + 1 ≤ vec_capacity slots.new }
+    ensures capacity { vec_capacity slots.new ≡ vec_capacity slots.old }
+    ensures len { vec_len slots.new + 1 ≡ vec_len slots.old }
 {
     let place = place_of(slots, slot);
     slots.remove(place);

@@ -1,140 +1,295 @@
 //! Rows in their slots.
+//!
+//! A row is a few words; the values of its parts lie beside. An ended row stays where it is until it is past all others.
 
-ghost use Rattle.std.specs.Prelude.{◌≡◌, ℕ, ◌<◌, ◌≤◌, ◌++◌, ◌∷◌, [], Some, None, IfOk, OnOk, OnErr, IsSome, length, slice_set, vec_len, vec_capacity, false};
-ghost use Rattle.lucid_tasks.specs.declared.TaskRow.{TaskRow};
-ghost use Rattle.lucid_tasks.specs.Rows.{row_at, parent_of, is_ready, fresh, asking, settled, forgot, with_cursor, SetsOnly, SameRows};
+ghost use Rattle.std.specs.Prelude.{◌≡◌, ℕ, ◌<◌, ◌≤◌, ◌+◌, ◌^◌, ◌∷◌, [], Some, None, IfOk, IfSome, OnOk, OnErr, IsSome, length, option_copied, option_map, slice_get, true, false};
+ghost use Rattle.lucid_tasks.specs.declared.rows.Row.{Row};
+ghost use Rattle.lucid_tasks.specs.Rows.{row_at, parent_of, key_of, got_of, is_ready, fresh, start, taken, with_part, with_cursor, becoming, IsRow, IsPast, HaveThree, SetsOnly, ChangesOnly, Asked, Got};
+ghost use Rattle.lucid_tasks.specs.Laid.{part_number, named, laid_parent, Shows, Trims};
 
-use crate::{Cursor, Part, Task, TaskRow};
+use crate::pool::Pool;
+use crate::{Cursor, Key, Part, Task};
+use lucid_tags::Tag;
 use lucid_value::Value;
-use std::alloc::AllocError;
+use std::alloc::{AllocError, Global};
+use std::marker::Model;
 
 const START: Cursor = Cursor { time: 0, count: 0 };
 
-// A new row, which has asked for nothing and has nothing.
-pub(crate) fn new_row(task: Task, parent: Option<Part>) -> TaskRow
-    ensures { result ≡ fresh task parent }
+// A row as it lies in memory. A slot is named by one more than its number, and 0 names none.
+#[derive(Clone, Copy)]
+pub(crate) struct Row {
+    pub(crate) task: Task,
+    pub(crate) cursor: Cursor,
+    pub(crate) key_tag: Tag,
+    pub(crate) key_time: u64,
+    pub(crate) key_name: u32,
+    pub(crate) parent: u32,
+    pub(crate) asked: [u32; 3],
+    pub(crate) parent_index: u8,
+    pub(crate) keyed: bool,
+    pub(crate) live: bool,
+}
+
+// Rows in their slots, seen as a finite map.
+#[derive(Drop)]
+pub(crate) struct Rows {
+    rows: Vec<Row>,
+    pool: Pool,
+}
+
+impl Model for Rows {
+    ghost use Rattle.std.specs.Prelude.{List, Option};
+    ghost use Rattle.lucid_tasks.specs.RowsCode.{rows_code};
+    ghost use Rattle.lucid_tasks.specs.Rows.{TaskRow};
+    ghost use Rattle.lucid_tasks.specs.Laid.{laid_from, AreLaid};
+
+    ghost Value = { List (Option TaskRow) };
+
+    ghost coded = { rows_code };
+
+    ghost view = { λ r. laid_from r.pool.0 0 r.rows.items };
+
+    ghost invariant = { λ r. AreLaid r.rows.items r.pool };
+}
+
+// The number of a part among the values.
+fn number(slot: usize, index: u32) -> usize
+    requires slot { slot < 2 ^ 32 }
+    requires index { index < 3 }
+    ensures { result ≡ part_number slot index }
 {
-    TaskRow {
+    3 * slot + 2 - index as usize
+}
+
+// A new row, which has asked for nothing.
+fn new_row(task: Task, parent: Option<Part>) -> Row
+    requires { IfSome parent (λ part. (part.slot + 1 < 2 ^ 32) × (part.index < 3)) }
+    ensures task { result.task ≡ task }
+    ensures parent { laid_parent result ≡ parent }
+    ensures cursor { result.cursor ≡ start }
+    ensures key { result.keyed ≡ false }
+    ensures asked { result.asked ≡ 0 ∷ 0 ∷ 0 ∷ [] }
+    ensures live { result.live ≡ true }
+{
+    let (parent, parent_index) = match parent {
+        Some(part) => (part.slot as u32 + 1, part.index as u8),
+        None => (0, 0),
+    };
+    Row {
         task,
-        parent,
         cursor: START,
-        asked: [None, None, None],
-        got: [None, None, None],
+        key_tag: task.tag,
+        key_time: 0,
+        key_name: 0,
+        parent,
+        asked: [0; 3],
+        parent_index,
+        keyed: false,
+        live: true,
     }
 }
 
-// Whether the row waits for none of its parts.
-fn waits_for_none(row: &TaskRow) -> bool
-    ensures { result ≡ is_ready (Some row.now) }
+// Drops the ended rows at the end.
+fn trim(rows: &mut Vec<Row>)
+    ensures { Trims rows.old.items rows.new.items }
 {
-    row.asked.iter().all(|child| child.is_none())
-}
-
-// Adds a row in a new slot, which is listed as ready, at the end of both.
-pub(crate) fn add_row(
-    rows: &mut Vec<Option<TaskRow>>,
-    ready: &mut Vec<usize>,
-    row: TaskRow,
-) -> Result<usize, AllocError>
-    requires { vec_len ready.old ≤ vec_capacity ready.old }
-    ensures slot { IfOk result (λ slot. slot ≡ length rows.old.items) }
-    ensures rows { OnOk result (rows.new.items ≡ rows.old.items ++ Some row ∷ []) }
-    ensures ready { OnOk result (ready.new.items ≡ ready.old.items ++ length rows.old.items ∷ []) }
-    ensures err_rows { OnErr result (rows.new.items ≡ rows.old.items) }
-    ensures err_ready { OnErr result (ready.new.items ≡ ready.old.items) }
-    ensures room { vec_len ready.new ≤ vec_capacity ready.new }
-{
-    let slot = rows.len();
-    ready.reserve(1)?;
-    rows.push(Some(row))?;
-    if ready.push(slot).is_err() {
-        unreachable!();
-    }
-    Ok(slot)
-}
-
-// Drops the empty slots at the end.
-fn trim(rows: &mut Vec<Option<TaskRow>>)
-    ensures { SameRows rows.old.items rows.new.items }
-{
-    while let Some(None) = rows.last() {
+    while let Some(row) = rows.last() {
+        if row.live {
+            break;
+        }
         let _ = rows.pop();
     }
 }
 
-// Empties a slot, and tells the parent of the row that stood there.
-pub(crate) fn remove_row(rows: &mut Vec<Option<TaskRow>>, slot: usize) -> Option<Part>
-    requires { IsSome (row_at rows.old.items slot) }
-    ensures parent { result ≡ parent_of rows.old.items slot }
-    ensures rows { SetsOnly rows.old.items rows.new.items slot None }
-{
-    let parent = match &rows[slot] {
-        Some(row) => row.parent,
-        None => unreachable!(),
-    };
-    rows[slot] = None;
-    trim(rows);
-    parent
-}
-
-// Notes the slot of the task that was asked for a part, and tells whether the row waited for no part before.
-pub(crate) fn mark_asked(rows: &mut Vec<Option<TaskRow>>, part: Part, child: usize) -> bool
-    requires row { IsSome (row_at rows.old.items part.slot) }
-    requires index { part.index < 3 }
-    ensures was { result ≡ is_ready (row_at rows.old.items part.slot) }
-    ensures rows { (row : TaskRow) → row_at rows.old.items part.slot ≡ Some row → rows.new.items ≡ slice_set rows.old.items part.slot (Some (asking part.index child row)) }
-    ensures three { (row : TaskRow) → row_at rows.old.items part.slot ≡ Some row → length row.asked ≡ 3 }
-{
-    match &mut rows[part.slot] {
-        Some(row) => {
-            let was = waits_for_none(row);
-            row.asked[part.index as usize] = Some(child);
-            was
+impl Rows {
+    // No row is there.
+    pub(crate) fn make(alloc: Global) -> Rows
+        ensures { result ≡ [] }
+    {
+        Rows {
+            rows: Vec::new(alloc),
+            pool: Pool::make(alloc),
         }
-        None => unreachable!(),
     }
-}
 
-// Gives a part its value, and tells whether the row waits for no part now.
-pub(crate) fn give(rows: &mut Vec<Option<TaskRow>>, part: Part, value: Value) -> bool
-    requires row { IsSome (row_at rows.old.items part.slot) }
-    requires index { part.index < 3 }
-    ensures ready { (row : TaskRow) → row_at rows.old.items part.slot ≡ Some row → result ≡ is_ready (Some (settled part.index value row)) }
-    ensures rows { (row : TaskRow) → row_at rows.old.items part.slot ≡ Some row → rows.new.items ≡ slice_set rows.old.items part.slot (Some (settled part.index value row)) }
-{
-    match &mut rows[part.slot] {
-        Some(row) => {
-            row.asked[part.index as usize] = None;
-            row.got[part.index as usize] = Some(value);
-            waits_for_none(row)
-        }
-        None => unreachable!(),
+    // The row in a slot as it lies.
+    fn row(&self, slot: usize) -> &Row
+        requires { IsRow self.now slot }
+        ensures slot { slot + 1 < 2 ^ 32 }
+        ensures row { Shows (row_at self.now slot) result.now }
+    {
+        &self.rows[slot]
     }
-}
 
-// Moves a row's cursor.
-pub(crate) fn move_cursor(rows: &mut Vec<Option<TaskRow>>, slot: usize, cursor: Cursor)
-    requires { IsSome (row_at rows.old.items slot) }
-    ensures { (row : TaskRow) → row_at rows.old.items slot ≡ Some row → rows.new.items ≡ slice_set rows.old.items slot (Some (with_cursor cursor row)) }
-{
-    match &mut rows[slot] {
-        Some(row) => {
-            row.cursor = cursor;
-        }
-        None => unreachable!(),
+    // What is asked for.
+    pub(crate) fn task(&self, slot: usize) -> Task
+        requires { IsRow self.now slot }
+        ensures { option_map (λ row. row.task) (row_at self.now slot) ≡ Some result }
+    {
+        self.row(slot).task
     }
-}
 
-// Drops the value of a part.
-pub(crate) fn drop_value(rows: &mut Vec<Option<TaskRow>>, part: Part)
-    requires row { IsSome (row_at rows.old.items part.slot) }
-    requires index { part.index < 3 }
-    ensures { (row : TaskRow) → row_at rows.old.items part.slot ≡ Some row → rows.new.items ≡ slice_set rows.old.items part.slot (Some (forgot part.index row)) }
-{
-    match &mut rows[part.slot] {
-        Some(row) => {
-            row.got[part.index as usize] = None;
+    // The part that the task is to give a value to.
+    pub(crate) fn parent(&self, slot: usize) -> Option<Part>
+        requires { IsRow self.now slot }
+        ensures { result ≡ parent_of self.now slot }
+    {
+        let row = self.row(slot);
+        if row.parent == 0 {
+            return None;
         }
-        None => unreachable!(),
+        Some(Part {
+            slot: row.parent as usize - 1,
+            index: row.parent_index as u32,
+        })
+    }
+
+    // Where the search stands.
+    pub(crate) fn cursor(&self, slot: usize) -> Cursor
+        requires { IsRow self.now slot }
+        ensures { option_map (λ row. row.cursor) (row_at self.now slot) ≡ Some result }
+    {
+        self.row(slot).cursor
+    }
+
+    // The key that is remembered.
+    pub(crate) fn key(&self, slot: usize) -> Option<Key>
+        requires { IsRow self.now slot }
+        ensures { result ≡ key_of self.now slot }
+    {
+        let row = self.row(slot);
+        if !row.keyed {
+            return None;
+        }
+        Some(Key {
+            name: row.key_name,
+            tag: row.key_tag,
+            time: row.key_time,
+        })
+    }
+
+    // Whether the row waits for none of its parts.
+    pub(crate) fn is_ready(&self, slot: usize) -> bool
+        requires { IsRow self.now slot }
+        ensures { result ≡ is_ready (row_at self.now slot) }
+    {
+        let asked = self.row(slot).asked;
+        asked[0] == 0 && asked[1] == 0 && asked[2] == 0
+    }
+
+    // The value of a part.
+    pub(crate) fn got(&self, slot: usize, index: u32) -> Option<&Value>
+        requires row { IsRow self.now slot }
+        requires index { index < 3 }
+        ensures { option_copied result ≡ got_of self.now (record { slot = slot; index = index }) }
+    {
+        let _row = self.row(slot);
+        self.pool.get(number(slot, index))
+    }
+
+    // Adds a row in a new slot, past all others.
+    pub(crate) fn add(&mut self, task: Task, parent: Option<Part>) -> Result<usize, AllocError>
+        requires { IfSome parent (λ part. IsRow self.old part.slot × (part.index < 3)) }
+        ensures row { IfOk result (λ slot. SetsOnly self.old self.new slot (Some (fresh task parent))) }
+        ensures newest { IfOk result (IsPast self.old) }
+        ensures err { OnErr result (self.new ≡ self.old) }
+    {
+        let slot = self.rows.len();
+        if slot >= u32::MAX as usize {
+            return Err(AllocError);
+        }
+        self.pool.reserve(3 * slot + 3)?;
+        self.rows.push(new_row(task, parent))?;
+        Ok(slot)
+    }
+
+    // Ends a row that has no value of a part.
+    fn end(&mut self, slot: usize)
+        requires row { IsRow self.old slot }
+        requires empty { (index : ℕ) → index < 3 → got_of self.old (record { slot = slot; index = index }) ≡ None }
+        ensures { SetsOnly self.old self.new slot None }
+    {
+        self.rows[slot].live = false;
+        trim(&mut self.rows);
+    }
+
+    // Ends a row, and tells its parent.
+    pub(crate) fn remove(&mut self, slot: usize) -> Option<Part>
+        requires { IsRow self.old slot }
+        ensures parent { result ≡ parent_of self.old slot }
+        ensures rows { SetsOnly self.old self.new slot None }
+    {
+        let parent = self.parent(slot);
+        let _ = self.take(Part { slot, index: 0 });
+        let _ = self.take(Part { slot, index: 1 });
+        let _ = self.take(Part { slot, index: 2 });
+        self.end(slot);
+        parent
+    }
+
+    // Notes the slot of the task that is asked for a part.
+    pub(crate) fn mark_asked(&mut self, part: Part, child: usize)
+        requires row { IsRow self.old part.slot }
+        requires index { part.index < 3 }
+        requires empty { got_of self.old part ≡ None }
+        requires child { IsRow self.old child }
+        ensures { ChangesOnly self.old self.new part.slot (with_part part.index (Asked child)) }
+    {
+        let _child = self.row(child);
+        self.rows[part.slot].asked[part.index as usize] = child as u32 + 1;
+    }
+
+    // Gives a part its value.
+    pub(crate) fn give(&mut self, part: Part, value: Value)
+        requires row { IsRow self.old part.slot }
+        requires index { part.index < 3 }
+        requires empty { got_of self.old part ≡ None }
+        ensures { ChangesOnly self.old self.new part.slot (with_part part.index (Got value)) }
+    {
+        let _row = self.row(part.slot);
+        self.pool.put(number(part.slot, part.index), value);
+        self.rows[part.slot].asked[part.index as usize] = 0;
+    }
+
+    // Takes the value of a part out.
+    pub(crate) fn take(&mut self, part: Part) -> Option<Value>
+        requires row { IsRow self.old part.slot }
+        requires index { part.index < 3 }
+        ensures value { result ≡ got_of self.old part }
+        ensures rows { ChangesOnly self.old self.new part.slot (taken part.index) }
+    {
+        let _row = self.row(part.slot);
+        self.pool.take(number(part.slot, part.index))
+    }
+
+    // Moves a row's cursor.
+    pub(crate) fn set_cursor(&mut self, slot: usize, cursor: Cursor)
+        requires { IsRow self.old slot }
+        ensures { ChangesOnly self.old self.new slot (with_cursor cursor) }
+    {
+        self.rows[slot].cursor = cursor;
+    }
+
+    // Changes a row's task, and remembers a key.
+    pub(crate) fn become_body(&mut self, slot: usize, task: Task, key: Key)
+        requires { IsRow self.old slot }
+        ensures { ChangesOnly self.old self.new slot (becoming task key) }
+    {
+        let row = &mut self.rows[slot];
+        row.task = task;
+        row.cursor = START;
+        row.key_name = key.name;
+        row.key_tag = key.tag;
+        row.key_time = key.time;
+        row.keyed = true;
+    }
+
+    // Ends all rows.
+    pub(crate) fn clear(&mut self)
+        ensures { self.new ≡ [] }
+    {
+        self.rows.clear();
+        self.pool.clear();
     }
 }

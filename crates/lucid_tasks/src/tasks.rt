@@ -3,39 +3,38 @@
 //! A new row stands in the slot past all others, so the slots rise in the order in which the rows were made. Rows stay where
 //! they are; an empty slot is used again once it is past all rows.
 
-ghost use Rattle.std.specs.Prelude.{◌≡◌, ℕ, ◌<◌, ◌++◌, ◌∷◌, [], Some, None, IfOk, OnOk, OnErr, IsSome, IsTrue, ◌↔◌, length, true, All};
-ghost use Rattle.lucid_tasks.specs.Rows.{row_at, child_of, parent_of, is_ready, fresh, forgot, with_cursor, returned, IsRow, IsReady, IsForest, SetsOnly, ChangesOnly, Asks, Settles};
+ghost use Rattle.std.specs.Prelude.{◌≡◌, ℕ, ◌<◌, [], Some, None, IfOk, OnErr, IsTrue, ◌↔◌, length, true, All, option_copied, option_map};
+ghost use Rattle.lucid_tasks.specs.Rows.{row_at, state_of, got_of, parent_of, key_of, is_ready, fresh, taken, with_part, with_cursor, becoming, returned, IsRow, IsReady, IsPast, IsIdleRow, IsForest, HaveThree, SetsOnly, ChangesOnly, Asks, Settles, Idle, Got};
 ghost use Rattle.lucid_tasks.specs.Slots.{is_listed, RiseFrom};
 
 use crate::list::{insert_slot, remove_slot};
-use crate::rows::{add_row, drop_value, give, mark_asked, move_cursor, new_row, remove_row};
-use crate::{Cursor, Part, Task, TaskRow};
+use crate::rows::Rows;
+use crate::{Cursor, Key, Part, Task};
 use lucid_value::Value;
 use std::alloc::{AllocError, Global};
 use std::marker::Model;
 
 /// Waiting tasks, seen as a finite map from slots to rows. The parent of a row is a row too, which has asked it for the part.
-/// Slots rise in the order in which the rows were made.
+/// Slots rise in the order in which the rows were made. A slot is below 2^32 - 1.
 #[derive(Drop)]
 pub struct Tasks {
-    rows: Vec<Option<TaskRow>>,
+    rows: Rows,
     // The slots of the ready rows, in order.
     ready: Vec<usize>,
 }
 
 impl Model for Tasks {
     ghost use Rattle.std.specs.Prelude.{List, Option, ◌≤◌, vec_len, vec_capacity};
-    ghost use Rattle.lucid_tasks.specs.declared.TaskRow.{TaskRow};
     ghost use Rattle.lucid_tasks.specs.RowsCode.{rows_code};
-    ghost use Rattle.lucid_tasks.specs.Rows.{AreTasks};
+    ghost use Rattle.lucid_tasks.specs.Rows.{TaskRow, AreTasks};
 
     ghost Value = { List (Option TaskRow) };
 
     ghost coded = { rows_code };
 
-    ghost view = { λ t. t.rows.items };
+    ghost view = { λ t. t.rows };
 
-    ghost invariant = { λ t. AreTasks t.rows.items t.ready.items × (vec_len t.ready ≤ vec_capacity t.ready) };
+    ghost invariant = { λ t. AreTasks t.rows t.ready.items × (vec_len t.ready ≤ vec_capacity t.ready) };
 }
 
 impl Tasks {
@@ -44,34 +43,44 @@ impl Tasks {
         ensures { result ≡ [] }
     {
         Tasks {
-            rows: Vec::new(alloc),
+            rows: Rows::make(alloc),
             ready: Vec::new(alloc),
         }
     }
 
-    /// Adds a task that no other waits for, and gives its slot, which is past those of all rows.
+    /// Adds a task that no other waits for, and gives its slot, which is past those of all rows. It is refused for want of memory
+    /// alone, and at 2^32 - 1 slots.
     pub fn begin(&mut self, task: Task) -> Result<usize, AllocError>
         ensures row { IfOk result (λ slot. SetsOnly self.old self.new slot (Some (fresh task None))) }
-        ensures newest { IfOk result (λ slot. (q : ℕ) → IsRow self.old q → q < slot) }
+        ensures newest { IfOk result (IsPast self.old) }
         ensures err { OnErr result (self.new ≡ self.old) }
     {
-        add_row(&mut self.rows, &mut self.ready, new_row(task, None))
+        self.ready.reserve(1)?;
+        let slot = self.rows.add(task, None)?;
+        if self.ready.push(slot).is_err() {
+            unreachable!();
+        }
+        Ok(slot)
     }
 
-    /// Asks a new task for a part, and gives its slot, which is past those of all rows.
+    /// Asks a new task for an idle part, and gives its slot, which is past those of all rows. It is refused as `begin` is.
     pub fn ask(&mut self, parent: Part, task: Task) -> Result<usize, AllocError>
         requires row { IsRow self.old parent.slot }
         requires index { parent.index < 3 }
-        requires free { child_of self.old parent ≡ None }
+        requires idle { state_of self.old parent ≡ Some Idle }
         ensures rows { IfOk result (λ slot. Asks self.old self.new parent slot task) }
-        ensures newest { IfOk result (λ slot. (q : ℕ) → IsRow self.old q → q < slot) }
+        ensures newest { IfOk result (IsPast self.old) }
         ensures err { OnErr result (self.new ≡ self.old) }
     {
-        let row = new_row(task, Some(parent));
-        let slot = add_row(&mut self.rows, &mut self.ready, row)?;
-        if mark_asked(&mut self.rows, parent, slot) {
+        self.ready.reserve(1)?;
+        let slot = self.rows.add(task, Some(parent))?;
+        if self.rows.is_ready(parent.slot) {
             remove_slot(&mut self.ready, parent.slot);
         }
+        if self.ready.push(slot).is_err() {
+            unreachable!();
+        }
+        self.rows.mark_asked(parent, slot);
         Ok(slot)
     }
 
@@ -82,27 +91,57 @@ impl Tasks {
         ensures rows { Settles self.old self.new slot value }
         ensures returned { result ≡ returned (parent_of self.old slot) value }
     {
-        let parent = remove_row(&mut self.rows, slot);
+        let parent = self.rows.remove(slot);
         remove_slot(&mut self.ready, slot);
         let Some(part) = parent else {
             return Some(value);
         };
-        if give(&mut self.rows, part, value) {
+        self.rows.give(part, value);
+        if self.rows.is_ready(part.slot) {
             insert_slot(&mut self.ready, part.slot);
         }
         None
     }
 
-    /// The row in a slot.
-    pub fn row(&self, slot: usize) -> &TaskRow
+    /// What the row in a slot is to find.
+    pub fn task(&self, slot: usize) -> Task
         requires { IsRow self.now slot }
-        ensures row { row_at self.now slot ≡ Some result.now }
-        ensures forest { IsForest self.now }
+        ensures { option_map (λ row. row.task) (row_at self.now slot) ≡ Some result }
     {
-        match &self.rows[slot] {
-            Some(row) => row,
-            None => unreachable!(),
-        }
+        self.rows.task(slot)
+    }
+
+    /// The part that a task is to give a value to.
+    pub fn parent(&self, slot: usize) -> Option<Part>
+        requires { IsRow self.now slot }
+        ensures { result ≡ parent_of self.now slot }
+    {
+        self.rows.parent(slot)
+    }
+
+    /// Where a task's search stands.
+    pub fn cursor(&self, slot: usize) -> Cursor
+        requires { IsRow self.now slot }
+        ensures { option_map (λ row. row.cursor) (row_at self.now slot) ≡ Some result }
+    {
+        self.rows.cursor(slot)
+    }
+
+    /// The key of the daton whose value a task's is to become.
+    pub fn key(&self, slot: usize) -> Option<Key>
+        requires { IsRow self.now slot }
+        ensures { result ≡ key_of self.now slot }
+    {
+        self.rows.key(slot)
+    }
+
+    /// The value of a part, if it has one.
+    pub fn got(&self, slot: usize, index: u32) -> Option<&Value>
+        requires row { IsRow self.now slot }
+        requires index { index < 3 }
+        ensures { option_copied result ≡ got_of self.now (record { slot = slot; index = index }) }
+    {
+        self.rows.got(slot, index)
     }
 
     /// Moves a task's cursor.
@@ -110,16 +149,36 @@ impl Tasks {
         requires { IsRow self.old slot }
         ensures { ChangesOnly self.old self.new slot (with_cursor cursor) }
     {
-        move_cursor(&mut self.rows, slot, cursor);
+        self.rows.set_cursor(slot, cursor);
     }
 
-    /// Drops the value of a part.
-    pub fn forget(&mut self, part: Part)
+    /// Gives an idle part its value without a task. It takes no memory.
+    pub fn give(&mut self, part: Part, value: Value)
         requires row { IsRow self.old part.slot }
         requires index { part.index < 3 }
-        ensures { ChangesOnly self.old self.new part.slot (forgot part.index) }
+        requires idle { state_of self.old part ≡ Some Idle }
+        ensures { ChangesOnly self.old self.new part.slot (with_part part.index (Got value)) }
     {
-        drop_value(&mut self.rows, part);
+        self.rows.give(part, value);
+    }
+
+    /// Moves the value of a part out, if it has one. The part is then idle.
+    pub fn take(&mut self, part: Part) -> Option<Value>
+        requires row { IsRow self.old part.slot }
+        requires index { part.index < 3 }
+        ensures value { result ≡ got_of self.old part }
+        ensures rows { ChangesOnly self.old self.new part.slot (taken part.index) }
+    {
+        self.rows.take(part)
+    }
+
+    /// Puts another task in the place of one of which no part is asked or got. The cursor is at 0, 0 then, and the key is
+    /// remembered: it is that of the daton whose value the new task's is to become.
+    pub fn become_body(&mut self, slot: usize, task: Task, key: Key)
+        requires { IsIdleRow self.old slot }
+        ensures { ChangesOnly self.old self.new slot (becoming task key) }
+    {
+        self.rows.become_body(slot, task, key);
     }
 
     /// The slots of the ready rows, in the order of their making.
@@ -132,6 +191,7 @@ impl Tasks {
         ensures meaning { (slot : ℕ) → IsTrue (is_ready (row_at self.now slot)) ↔ IsReady self.now slot }
         ensures some { (slot : ℕ) → IsRow self.now slot → 0 < length result.now }
         ensures forest { IsForest self.now }
+        ensures three { HaveThree self.now }
     {
         let _rows = &self.rows;
         self.ready.as_slice()

@@ -1,35 +1,28 @@
-ghost use Rattle.std.specs.Prelude.{◌≡◌, ℕ, IfSome, IsTrue, None};
-ghost use Rattle.lucid_tasks.specs.Rows.{row_at, child_of, is_ready, IsRow};
+ghost use Rattle.std.specs.Prelude.{◌≡◌, ℕ, ◌<◌, IfSome, IsTrue, Some};
+ghost use Rattle.lucid_tasks.specs.Rows.{row_at, state_of, is_ready, IsRow, IsIdleRow, HaveThree, Idle};
 
 use super::*;
 use lucid_tags::{Tag, Tags};
+use lucid_value::Value;
 
 const MANY: u64 = 1_000_000;
 
 fn task_at(tag: Tag, time: u64) -> Task {
     Task {
         node: 1,
+        depth: 9,
         tag,
         time,
-        depth: 9,
     }
 }
 
 // The slot of the newest ready row.
-fn newest_slot(tasks: &Tasks) -> Option<usize>
-    ensures ready { IfSome result (λ slot. IsTrue (is_ready (row_at tasks.now slot))) }
-    ensures row { IfSome result (λ slot. IsRow tasks.now slot) }
-{
-    tasks.ready().last().copied()
-}
-
-// The same, of which no part is asked.
 fn newest(tasks: &Tasks) -> Option<usize>
     ensures ready { IfSome result (λ slot. IsTrue (is_ready (row_at tasks.now slot))) }
     ensures row { IfSome result (λ slot. IsRow tasks.now slot) }
-    ensures free { IfSome result (λ slot. (index : ℕ) → child_of tasks.now (record { slot = slot; index = index }) ≡ None) }
+    ensures three { HaveThree tasks.now }
 {
-    newest_slot(tasks)
+    tasks.ready().last().copied()
 }
 
 // The number of a value.
@@ -40,11 +33,28 @@ fn number(value: Option<&Value>) -> Option<i128> {
     }
 }
 
-// The number that a row has of a part.
-fn part_number(row: &TaskRow, index: usize) -> Option<i128> {
-    match row.got.get(index) {
-        Some(got) => number(got.as_ref()),
-        None => None,
+// The same, where a part of the row is idle.
+fn newest_idle(tasks: &Tasks, index: u32) -> Option<usize>
+    requires { index < 3 }
+    ensures ready { IfSome result (λ slot. IsTrue (is_ready (row_at tasks.now slot))) }
+    ensures row { IfSome result (λ slot. IsRow tasks.now slot) }
+    ensures idle { IfSome result (λ slot. state_of tasks.now (record { slot = slot; index = index }) ≡ Some Idle) }
+{
+    let slot = newest(tasks)?;
+    match tasks.got(slot, index) {
+        Some(_) => None,
+        None => Some(slot),
+    }
+}
+
+// The same, where each part of the row is idle.
+fn newest_untouched(tasks: &Tasks) -> Option<usize>
+    ensures { IfSome result (IsIdleRow tasks.now) }
+{
+    let slot = newest(tasks)?;
+    match (tasks.got(slot, 0), tasks.got(slot, 1), tasks.got(slot, 2)) {
+        (None, None, None) => Some(slot),
+        _ => None,
     }
 }
 
@@ -53,7 +63,7 @@ fn settling_a_part(rt: HostRuntime) {
     let tag = Tags::make(rt.alloc()).root();
     let mut tasks = Tasks::make(rt.alloc());
     let begun = tasks.begin(task_at(tag, 0)).ok();
-    let root = newest(&tasks).expect(&rt, "a root");
+    let root = newest_idle(&tasks, 1).expect(&rt, "a root");
     assert_eq!(rt; begun, Some(root));
     let part = Part {
         slot: root,
@@ -62,12 +72,70 @@ fn settling_a_part(rt: HostRuntime) {
     let asked = tasks.ask(part, task_at(tag, 1)).ok();
     let child = newest(&tasks).expect(&rt, "a child");
     assert_eq!(rt; asked, Some(child));
-    assert_eq!(rt; tasks.row(child).parent, Some(part));
+    assert_eq!(rt; tasks.parent(child), Some(part));
+    assert_eq!(rt; tasks.key(child), None);
     assert!(rt; tasks.settle(child, Value::Int(5)).is_none());
     assert_eq!(rt; newest(&tasks), Some(root));
     let root = newest(&tasks).expect(&rt, "a root");
-    assert_eq!(rt; part_number(tasks.row(root), 1), Some(5));
-    assert_eq!(rt; part_number(tasks.row(root), 0), None);
+    assert_eq!(rt; tasks.parent(root), None);
+    assert_eq!(rt; number(tasks.got(root, 1)), Some(5));
+    assert_eq!(rt; number(tasks.got(root, 0)), None);
+}
+
+#[test]
+fn a_part_given_without_a_row(rt: HostRuntime) {
+    let tag = Tags::make(rt.alloc()).root();
+    let mut tasks = Tasks::make(rt.alloc());
+    assert!(rt; tasks.begin(task_at(tag, 0)).is_ok());
+    let slot = newest_idle(&tasks, 0).expect(&rt, "a root");
+    tasks.give(Part { slot, index: 0 }, Value::Int(7));
+    assert_eq!(rt; tasks.ready().len(), 1);
+    let slot = newest_idle(&tasks, 2).expect(&rt, "a root");
+    tasks.give(Part { slot, index: 2 }, Value::Int(8));
+    assert_eq!(rt; newest_idle(&tasks, 0), None);
+    let slot = newest(&tasks).expect(&rt, "a root");
+    assert_eq!(rt; number(tasks.got(slot, 0)), Some(7));
+    assert_eq!(rt; number(tasks.got(slot, 1)), None);
+    assert_eq!(rt; number(tasks.got(slot, 2)), Some(8));
+}
+
+#[test]
+fn values_moved_out(rt: HostRuntime) {
+    let tag = Tags::make(rt.alloc()).root();
+    let mut tasks = Tasks::make(rt.alloc());
+    assert!(rt; tasks.begin(task_at(tag, 0)).is_ok());
+    for index in 0..3u32 {
+        let slot = newest_idle(&tasks, index).expect(&rt, "a root");
+        tasks.give(Part { slot, index }, Value::Int(index as i128));
+    }
+    for index in [1u32, 0, 2] {
+        let slot = newest(&tasks).expect(&rt, "a root");
+        let taken = tasks.take(Part { slot, index });
+        assert_eq!(rt; number(taken.as_ref()), Some(index as i128));
+        let slot = newest(&tasks).expect(&rt, "a root");
+        assert_eq!(rt; number(tasks.got(slot, index)), None);
+    }
+}
+
+#[test]
+fn a_row_changed_in_place(rt: HostRuntime) {
+    let tag = Tags::make(rt.alloc()).root();
+    let mut tasks = Tasks::make(rt.alloc());
+    assert!(rt; tasks.begin(task_at(tag, 0)).is_ok());
+    let slot = newest(&tasks).expect(&rt, "a root");
+    tasks.set_cursor(slot, Cursor { time: 3, count: 2 });
+    let slot = newest_untouched(&tasks).expect(&rt, "a root");
+    let key = Key {
+        name: 4,
+        tag,
+        time: 6,
+    };
+    tasks.become_body(slot, task_at(tag, 6), key);
+    let slot = newest(&tasks).expect(&rt, "a root");
+    assert_eq!(rt; tasks.task(slot), task_at(tag, 6));
+    assert_eq!(rt; tasks.cursor(slot), Cursor { time: 0, count: 0 });
+    assert_eq!(rt; tasks.key(slot), Some(key));
+    assert_eq!(rt; tasks.ready().len(), 1);
 }
 
 #[test]
@@ -79,13 +147,7 @@ fn calls_with_ample_memory(rt: HostRuntime) {
     let cursor = Cursor { time: 3, count: 2 };
     tasks.set_cursor(root, cursor);
     let root = newest(&tasks).expect(&rt, "a root");
-    assert_eq!(rt; tasks.row(root).cursor, cursor);
-    tasks.forget(Part {
-        slot: root,
-        index: 2,
-    });
-    let root = newest(&tasks).expect(&rt, "a root");
-    assert_eq!(rt; part_number(tasks.row(root), 2), None);
+    assert_eq!(rt; tasks.cursor(root), cursor);
     let value = tasks.settle(root, Value::Int(4));
     assert_eq!(rt; number(value.as_ref()), Some(4));
     assert_eq!(rt; newest(&tasks), None);
@@ -100,7 +162,7 @@ fn a_million_tasks_one_below_the_other(rt: HostRuntime) {
     let mut tasks = Tasks::make(rt.alloc());
     assert!(rt; tasks.begin(task_at(tag, 0)).is_ok());
     for time in 1..MANY {
-        let slot = newest(&tasks).expect(&rt, "the newest task");
+        let slot = newest_idle(&tasks, 0).expect(&rt, "the newest task");
         assert!(rt;
             tasks
                 .ask(Part { slot, index: 0 }, task_at(tag, time))
@@ -109,7 +171,7 @@ fn a_million_tasks_one_below_the_other(rt: HostRuntime) {
     }
     for time in 1..MANY {
         let slot = newest(&tasks).expect(&rt, "the newest task");
-        assert_eq!(rt; tasks.row(slot).task.time, MANY - time);
+        assert_eq!(rt; tasks.task(slot).time, MANY - time);
         assert!(rt; tasks.settle(slot, Value::Int(1)).is_none());
     }
     let root = newest(&tasks).expect(&rt, "the root");

@@ -1,9 +1,9 @@
 use Rattle.std.proofs.Common.{vec_len}
-use Rattle.lucid_tasks.specs.Rows.{SameRows}
+use Rattle.lucid_tasks.specs.Laid.{Trims}
 use Rattle.lucid_tasks.proofs.rows.trim.Given as goal
 
-abbrev pub invariant-loop-rows : goal.invariant-loop-rows
-invariant-loop-rows l = SameRows l.initial.rows.items l.rows.items
+abbrev pub invariant-loop-row : goal.invariant-loop-row
+invariant-loop-row l = Trims l.initial.rows.items l.rows.items
 
-abbrev pub decreases-loop-rows : goal.decreases-loop-rows
-decreases-loop-rows l = vec_len l.rows
+abbrev pub decreases-loop-row : goal.decreases-loop-row
+decreases-loop-row l = vec_len l.rows

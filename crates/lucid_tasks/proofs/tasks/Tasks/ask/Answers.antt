@@ -1,34 +1,31 @@
-use Rattle.std.proofs.Common.{◌<◌, subst, sym, ◌∙◌, arith}
-use Rattle.lucid_tasks.proofs.ForestLemmas.{is_below}
-use Rattle.lucid_tasks.proofs.CallLemmas.{ask_rising, ask_listed, ask_rows, ask_tasks, ask_else}
+use Rattle.std.proofs.Common.{◌≡◌, ◌≤◌, ℕ, List, [], ◌∷◌, ◌++◌, ◌==◌, cond, false, Option, Some, vec_len, refl, sym, subst, ap, rules, ◌∙◌}
+use Rattle.std.specs.Prelude.{vec_capacity}
+use Rattle.lucid_tasks.specs.Slots.{is_listed, RiseFrom}
+use Rattle.lucid_tasks.specs.Rows.{TaskRow, IsRow, ChangesOnly, state_of, with_part, Idle, Asked}
+use Rattle.lucid_tasks.proofs.CallLemmas.{stays_listed, pushed_after}
+use Rattle.lucid_tasks.proofs.TaskLemmas.{asked_tasks}
 use Rattle.lucid_tasks.proofs.tasks.Tasks.ask.Goals as goal
+use Rattle.lucid_tasks.proofs.tasks.Tasks.ask.Goals.{then-is_ready, else-is_ready}
 
-pub remove_slot-requires-clause-rising : goal.remove_slot-requires-clause-rising
-remove_slot-requires-clause-rising c = ask_rising c.self.inside.rows.items c.add_row.new.rows.items c.add_row.new.rows.items c.self.inside.ready.items c.add_row.new.ready.items c.in_ok-slot.slot c.args.task c.args.parent c.new_row-row.result c.new_row-row.ensures c.in_ok-slot.ensures.rows c.in_ok-slot.ensures.ready c.self.invariant.0
-
-pub remove_slot-requires-clause-listed : goal.remove_slot-requires-clause-listed
-remove_slot-requires-clause-listed c = ask_listed c.self.inside.rows.items c.add_row.new.rows.items c.add_row.new.rows.items c.self.inside.ready.items c.add_row.new.ready.items c.in_ok-slot.slot c.args.task c.args.parent c.new_row-row.result c.new_row-row.ensures c.in_ok-slot.ensures.rows c.in_ok-slot.ensures.ready c.self.invariant.0 c.args.parent.slot ∙ sym c.mark_asked.ensures.was ∙ c.if-mark_asked.true
-
-pub invariant_of-self-then-mark_asked : goal.invariant_of-self-then-mark_asked
-invariant_of-self-then-mark_asked c = (
-  ask_tasks c.self.inside.rows.items c.add_row.new.rows.items c.mark_asked.new.rows.items c.self.inside.ready.items c.add_row.new.ready.items c.in_ok-slot.slot c.args.task c.args.parent c.new_row-row.result c.new_row-row.ensures c.in_ok-slot.ensures.rows c.in_ok-slot.ensures.ready c.self.invariant.0 (rw c.self.view_is c.requires.row) c.requires.index (rw c.self.view_is c.requires.free) c.in_ok-slot.ensures.slot c.mark_asked.ensures.rows c.mark_asked.ensures.three c.remove_slot.new.slots.items c.remove_slot.ensures.rising c.remove_slot.ensures.listed,
-  omega (arith, c.remove_slot.ensures.room),
-)
-
-pub invariant_of-self-else-mark_asked : goal.invariant_of-self-else-mark_asked
-invariant_of-self-else-mark_asked c = (
-  ask_else c.self.inside.rows.items c.add_row.new.rows.items c.mark_asked.new.rows.items c.self.inside.ready.items c.add_row.new.ready.items c.in_ok-slot.slot c.args.task c.args.parent c.new_row-row.result c.new_row-row.ensures c.in_ok-slot.ensures.rows c.in_ok-slot.ensures.ready c.self.invariant.0 (rw c.self.view_is c.requires.row) c.requires.index (rw c.self.view_is c.requires.free) c.in_ok-slot.ensures.slot c.mark_asked.ensures.rows c.mark_asked.ensures.three (sym c.mark_asked.ensures.was ∙ c.if-mark_asked.false),
-  c.in_ok-slot.ensures.room,
-)
-
-pub returns-then-mark_asked-clause-rows : goal.returns-then-mark_asked-clause-rows
-returns-then-mark_asked-clause-rows c = rw (← c.self.view_is) (ask_rows c.self.inside.rows.items c.add_row.new.rows.items c.mark_asked.new.rows.items c.self.inside.ready.items c.add_row.new.ready.items c.in_ok-slot.slot c.args.task c.args.parent c.new_row-row.result c.new_row-row.ensures c.in_ok-slot.ensures.rows c.in_ok-slot.ensures.ready c.self.invariant.0 (rw c.self.view_is c.requires.row) c.requires.index (rw c.self.view_is c.requires.free) c.in_ok-slot.ensures.slot c.mark_asked.ensures.rows c.mark_asked.ensures.three)
-
-pub returns-then-mark_asked-clause-newest : goal.returns-then-mark_asked-clause-newest
-returns-then-mark_asked-clause-newest c = rw (← c.self.view_is) (λ q row. subst (λ m. q < m) (sym c.in_ok-slot.ensures.slot) (is_below c.self.inside.rows.items q row))
-
-pub returns-else-mark_asked-clause-rows : goal.returns-else-mark_asked-clause-rows
-returns-else-mark_asked-clause-rows c = rw (← c.self.view_is) (ask_rows c.self.inside.rows.items c.add_row.new.rows.items c.mark_asked.new.rows.items c.self.inside.ready.items c.add_row.new.ready.items c.in_ok-slot.slot c.args.task c.args.parent c.new_row-row.result c.new_row-row.ensures c.in_ok-slot.ensures.rows c.in_ok-slot.ensures.ready c.self.invariant.0 (rw c.self.view_is c.requires.row) c.requires.index (rw c.self.view_is c.requires.free) c.in_ok-slot.ensures.slot c.mark_asked.ensures.rows c.mark_asked.ensures.three)
-
-pub returns-else-mark_asked-clause-newest : goal.returns-else-mark_asked-clause-newest
-returns-else-mark_asked-clause-newest c = rw (← c.self.view_is) (λ q row. subst (λ m. q < m) (sym c.in_ok-slot.ensures.slot) (is_below c.self.inside.rows.items q row))
+pub invariant_of-self-2 : goal.invariant_of-self-2
+invariant_of-self-2 c =
+    let some = subst (λ v. IsRow v c.args.parent.slot) (sym c.self.view_is) c.requires.row in
+    let idle = subst (λ v. state_of v c.args.parent ≡ Some Idle) (sym c.self.view_is) c.requires.idle in
+    let items : c.push.new.self.items ≡ c.if-is_ready.self-inside.ready.items ++ c.in_ok-slot.slot ∷ [] = search rules in
+    let room : vec_len c.push.new.self ≤ vec_capacity c.push.new.self = search rules in
+    let rows : c.if-is_ready.self-inside.rows ≡ c.add.new.self = elim c.if-is_ready.branch [
+      | then-is_ready w ↦ rw w.self-inside-is refl
+      | else-is_ready w ↦ rw w.self-inside-is refl
+    ] in
+    let left : RiseFrom 0 c.if-is_ready.self-inside.ready.items × ((q : ℕ) → is_listed c.if-is_ready.self-inside.ready.items q ≡ cond (q == c.args.parent.slot) false (is_listed c.self.inside.ready.items q)) = elim c.if-is_ready.branch [
+      | then-is_ready w ↦ rw w.self-inside-is (w.remove_slot.ensures.rising, λ q. w.remove_slot.ensures.listed q ∙ ap (λ (xs : List ℕ). cond (q == c.args.parent.slot) false (is_listed xs q)) c.reserve.ensures.items)
+      | else-is_ready w ↦ rw (w.self-inside-is, c.reserve.ensures.items) (
+        c.self.invariant.0.rising,
+        stays_listed c.self.inside.rows c.add.new.self c.args.parent c.in_ok-slot.slot c.args.task c.in_ok-slot.ensures.row c.in_ok-slot.ensures.newest some c.self.inside.ready.items c.self.invariant.0 (sym c.is_ready.ensures ∙ w.if-is_ready.false),
+      )
+    ] in
+    let after = pushed_after c.self.inside.rows c.add.new.self c.args.parent c.in_ok-slot.slot c.args.task c.in_ok-slot.ensures.row c.in_ok-slot.ensures.newest some c.self.inside.ready.items c.self.invariant.0 c.if-is_ready.self-inside.ready.items c.push.new.self.items left.0 left.1 items in (
+      asked_tasks c.self.inside.rows c.add.new.self c.mark_asked.new.self c.args.parent c.in_ok-slot.slot c.args.task c.in_ok-slot.ensures.row c.in_ok-slot.ensures.newest (subst (λ (v : List (Option TaskRow)). ChangesOnly v c.mark_asked.new.self c.args.parent.slot (with_part c.args.parent.index (Asked c.in_ok-slot.slot))) rows c.mark_asked.ensures) some c.requires.index idle
+          c.self.inside.ready.items c.self.invariant.0 c.push.new.self.items after.0 after.1,
+      room,
+    )

@@ -1,15 +1,10 @@
-use Rattle.lucid_tasks.proofs.CallLemmas.{begin_tasks, begin_sets, newest_row}
+use Rattle.std.proofs.Common.{◌≡◌, ◌≤◌, [], ◌∷◌, ◌++◌, vec_len, rules}
+use Rattle.std.specs.Prelude.{vec_capacity}
+use Rattle.lucid_tasks.proofs.TaskLemmas.{begun_tasks}
 use Rattle.lucid_tasks.proofs.tasks.Tasks.begin.Goals as goal
 
-pub invariant_of-self : goal.invariant_of-self
-invariant_of-self c = (
-  begin_tasks c.self.inside.rows.items c.add_row.new.rows.items c.args.task c.new_row.result c.new_row.ensures c.self.inside.ready.items c.add_row.new.ready.items c.add_row.result
-      c.add_row.ensures.rows c.add_row.ensures.ready c.add_row.ensures.err_rows c.add_row.ensures.err_ready c.self.invariant.0,
-  c.add_row.ensures.room,
-)
-
-pub returns-clause-row : goal.returns-clause-row
-returns-clause-row c = rw (← c.self.view_is) (begin_sets c.self.inside.rows.items c.add_row.new.rows.items c.args.task c.new_row.result c.new_row.ensures c.add_row.result c.add_row.ensures.slot c.add_row.ensures.rows)
-
-pub returns-clause-newest : goal.returns-clause-newest
-returns-clause-newest c = rw (← c.self.view_is) (newest_row c.self.inside.rows.items c.add_row.result c.add_row.ensures.slot)
+pub invariant_of-self-2 : goal.invariant_of-self-2
+invariant_of-self-2 c =
+    let items : c.push.new.self.items ≡ c.self.inside.ready.items ++ c.in_ok-slot.slot ∷ [] = search rules in
+    let room : vec_len c.push.new.self ≤ vec_capacity c.push.new.self = search rules in
+    (rw items (begun_tasks c.self.inside.rows c.add.new.self c.in_ok-slot.slot c.args.task c.in_ok-slot.ensures.row c.in_ok-slot.ensures.newest c.self.inside.ready.items c.self.invariant.0), room)

@@ -1,16 +1,7 @@
-use Rattle.std.proofs.Common.{refl}
-use Rattle.lucid_tasks.specs.Rows.{with_cursor}
-use Rattle.lucid_tasks.proofs.TaskLemmas.{changed_tasks}
-use Rattle.lucid_tasks.proofs.CallLemmas.{only_changes}
+use Rattle.std.proofs.Common.{sym, subst, refl}
+use Rattle.lucid_tasks.specs.Rows.{IsRow, with_cursor}
+use Rattle.lucid_tasks.proofs.TaskLemmas.{words_tasks}
 use Rattle.lucid_tasks.proofs.tasks.Tasks.set_cursor.Goals as goal
 
 pub invariant_of-self : goal.invariant_of-self
-invariant_of-self c = (
-  changed_tasks c.self.inside.rows.items c.move_cursor.new.rows.items c.args.slot (with_cursor c.args.cursor) (λ row. refl) (λ row. refl)
-      (only_changes c.self.inside.rows.items c.move_cursor.new.rows.items c.args.slot (with_cursor c.args.cursor) (rw c.self.view_is c.requires) c.move_cursor.ensures)
-      c.self.inside.ready.items c.self.invariant.0,
-  c.self.invariant.1,
-)
-
-pub returns : goal.returns
-returns c = rw (← c.self.view_is) (only_changes c.self.inside.rows.items c.move_cursor.new.rows.items c.args.slot (with_cursor c.args.cursor) (rw c.self.view_is c.requires) c.move_cursor.ensures)
+invariant_of-self c = (words_tasks c.self.inside.rows c.set_cursor.new.self c.args.slot (with_cursor c.args.cursor) c.set_cursor.ensures (subst (λ v. IsRow v c.args.slot) (sym c.self.view_is) c.requires) (λ row. refl) (λ row. refl) c.self.inside.ready.items c.self.invariant.0, c.self.invariant.1)
