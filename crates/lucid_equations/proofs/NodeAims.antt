@@ -2,8 +2,8 @@
 use Rattle.std.proofs.Common.{◌≡◌, ℕ, Option, Some, None, refl, sym, ap, ◌∙◌}
 use Rattle.lucid_tree.specs.Levels.{goes_to, nowhere, element_of}
 use Rattle.lucid_tags.specs.Contexts.{Context, root, call_frame, frozen_frame, cut}
-use Rattle.lucid_equations.specs.Nodes.{PlainNode, PlainEntry, plain_entry, called_entry, current_entry, parameter_entry, Reference, input, refer, Equations}
-use Rattle.lucid_equations.specs.Datons.{Daton, NodePosition, NodeAim, to_node, to_actual, by_entry, name_aim, reference_aim, called_from, call_aim}
+use Rattle.lucid_equations.specs.Nodes.{PlainNode, row, freeze, reference, invoke, PlainEntry, plain_entry, called_entry, current_entry, parameter_entry, Reference, input, refer, Equations}
+use Rattle.lucid_equations.specs.Datons.{Daton, NodePosition, NodeAim, to_node, to_actual, by_entry, name_aim, reference_aim, called_from, call_aim, node_aim}
 use Rattle.lucid_equations.specs.Laws.{GoesByItsDaton}
 
 -- the daton that an aim names, or else this one
@@ -54,3 +54,9 @@ module _ (p : Equations) where
 
   pub call-by_daton : (n at l : ℕ) (c : Context) (t : ℕ) → GoesByItsDaton p (call_aim p n at l c t)
   call-by_daton n at l c t d x u e = name-same n (called_from at c (cut l c)) t d x u e
+
+  pub node-by_daton : (e : PlainNode) (c : Context) (t : ℕ) → GoesByItsDaton p (node_aim p e c t)
+  node-by_daton (row f es) c t d x u e = absurd (not-going d x u e)
+  node-by_daton (freeze y) c t d x u e = absurd (not-going d x u e)
+  node-by_daton (reference r) c t d x u e = reference-by_daton r c t d x u e
+  node-by_daton (invoke n at l) c t d x u e = call-by_daton n at l c t d x u e

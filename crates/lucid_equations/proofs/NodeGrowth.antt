@@ -48,7 +48,7 @@ module _ (p : Equations) where
     value_at-keeps m b b' h (reference r) c t s = h (reference_aim p r c t) s (reference-by_daton p r c t)
     value_at-keeps m b b' h (invoke n at l) c t s = h (call_aim p n at l c t) s (call-by_daton p n at l c t)
 
-    part_at-keeps : (m : ℕ) (b b' : Below Daton NodePosition) → ((a : NodeAim) (s : ℕ) → GoesByItsDaton p a → Keeps (b a s) (b' a s)) → (es : PlainNodes) (c : Context) (i t s : ℕ) → Keeps (part_at p m b es c i t s) (part_at p m b' es c i t s)
+    pub part_at-keeps : (m : ℕ) (b b' : Below Daton NodePosition) → ((a : NodeAim) (s : ℕ) → GoesByItsDaton p a → Keeps (b a s) (b' a s)) → (es : PlainNodes) (c : Context) (i t s : ℕ) → Keeps (part_at p m b es c i t s) (part_at p m b' es c i t s)
     part_at-keeps m b b' h no_nodes c i t s x d = d
     part_at-keeps m b b' h (node e es) c zero t s x d = value_at-keeps m b b' h e c t s x d
     part_at-keeps m b b' h (node e es) c (suc i) t s x d = part_at-keeps m b b' h es c i t s x d

@@ -1,15 +1,19 @@
 -- Datons, and what references on nodes go on with. The source is Wadge and Ashcroft's eduction, which demands the value of a
 -- variable in a context at a time; callers and frozen times in contexts are this language's own.
-use Rattle.std.specs.Prelude.{ℕ, Option, Some, None}
+use Rattle.std.specs.Prelude.{ℕ, Option, Some, None, Bool, ◌==◌, ◌&&◌}
 use Rattle.lucid_tree.specs.Levels.{Target, element_of, goes_to, nowhere}
-use Rattle.lucid_tags.specs.Contexts.{Context, call_frame, frozen_frame, cut}
-use Rattle.lucid_equations.specs.Nodes.{PlainNode, PlainEntry, plain_entry, called_entry, current_entry, parameter_entry, Reference, input, refer, Equations}
+use Rattle.lucid_tags.specs.Contexts.{Context, call_frame, frozen_frame, cut, same_context}
+use Rattle.lucid_equations.specs.Nodes.{PlainNode, row, freeze, reference, invoke, PlainEntry, plain_entry, called_entry, current_entry, parameter_entry, Reference, input, refer, Equations}
 
 -- What a reference refers to, apart from its space: the number of a name, a context, and a time, 0 for a current name.
 pub record Daton : Type 0 where
   pub name : ℕ
   pub context : Context
   pub time : ℕ
+
+-- two datons are the same: the same name, context and time
+abbrev pub same_daton : Daton → Daton → Bool
+same_daton d k = (d.name == k.name) && (same_context d.context k.context && (d.time == k.time))
 
 -- where a node is evaluated: in a context
 pub record NodePosition : Type 0 where
@@ -61,3 +65,10 @@ call_aim p n at l c t = name_aim p n (called_from at c (cut l c)) t
 -- what a daton goes on with
 abbrev pub daton_aim : Equations → Daton → NodeAim
 daton_aim p d = by_entry p (p.entry d.name) d.name d.context d.time
+
+-- what a node goes on with at a time, where it is a reference or a call
+abbrev pub node_aim : Equations → PlainNode → Context → (time : ℕ) → NodeAim
+node_aim p (row f es) c t = nowhere
+node_aim p (freeze e) c t = nowhere
+node_aim p (reference r) c t = reference_aim p r c t
+node_aim p (invoke n at l) c t = call_aim p n at l c t

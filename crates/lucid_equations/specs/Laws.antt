@@ -1,12 +1,13 @@
 -- The laws of nodes, over all tables p, inputs b, contexts and points. Each is the contract of a function of `laws`.
 use Rattle.std.specs.Prelude.{◌≡◌, ℕ, ◌+◌, ◌≤◌, Some, ◌↔◌}
 use Rattle.std.specs.List.{filter_map}
+use Rattle.std.specs.Bool.{Decides}
 use Rattle.lucid_value.specs.Plain.{PlainValue}
 use Rattle.lucid_tree.specs.Members.{In, Inside}
-use Rattle.lucid_tree.specs.Levels.{goes_to, Elements, Given, reference_of}
+use Rattle.lucid_tree.specs.Levels.{goes_to, Elements, Given, reference_of, entered_of}
 use Rattle.lucid_tags.specs.Contexts.{Context}
-use Rattle.lucid_equations.specs.Nodes.{PlainNode, Reference, Equations}
-use Rattle.lucid_equations.specs.Datons.{Daton, NodePosition, NodeAim, reference_aim, call_aim, daton_aim}
+use Rattle.lucid_equations.specs.Nodes.{PlainNode, invoke, Reference, Equations}
+use Rattle.lucid_equations.specs.Datons.{Daton, same_daton, NodePosition, NodeAim, reference_aim, call_aim, node_aim, daton_aim}
 use Rattle.lucid_equations.specs.Values.{node_hval, node_val, NodeMeans}
 use Rattle.lucid_equations.specs.Visits.{node_visits, IsNeeded}
 
@@ -30,6 +31,10 @@ ReferencesGoByDatons = (p : Equations) (r : Reference) (c : Context) (t : ℕ) �
 
 abbrev pub CallsGoByDatons : Type 0
 CallsGoByDatons = (p : Equations) (n at l : ℕ) (c : Context) (t : ℕ) → GoesByItsDaton p (call_aim p n at l c t)
+
+-- So it is for whatever node refers to it.
+abbrev pub NodesGoByDatons : Type 0
+NodesGoByDatons = (p : Equations) (e : PlainNode) (c : Context) (t : ℕ) → GoesByItsDaton p (node_aim p e c t)
 
 -- Each held value is one that its daton means: that the position means with which the daton goes on.
 abbrev pub HeldIsMeant : Equations → Given Daton → Type 0
@@ -75,3 +80,24 @@ VisitsGrowWithLimit =
 abbrev pub VisitsGrowWithAdded : Type 0
 VisitsGrowWithAdded =
     (p : Equations) (b : Elements) (m d : ℕ) (e : PlainNode) (c : Context) (t s : ℕ) → Inside (node_visits p b m d e c t s) (node_visits p b m (d + 1) e c t s)
+
+-- So what is visited with less is visited with more.
+abbrev pub MoreVisitsMore : Type 0
+MoreVisitsMore =
+    (p : Equations) (b : Elements) (m n d k : ℕ) → m ≤ n → d ≤ k → (e : PlainNode) (c : Context) (t s : ℕ)
+    → Inside (node_visits p b m d e c t s) (node_visits p b n k e c t s)
+
+-- A call enters the context that its daton stands in, which has the call's own frame, at each limit.
+abbrev pub CallsEnterTheirContexts : Type 0
+CallsEnterTheirContexts =
+    (p : Equations) (b : Elements) (m d n at l : ℕ) (c : Context) (t s : ℕ) (k : Daton) (x : NodePosition) (u : ℕ)
+    → call_aim p n at l c t ≡ goes_to k x u → In k.context (filter_map entered_of (node_visits p b m d (invoke n at l) c t s))
+
+-- What is visited at m, where the approximation m + d decides the choices, is visited at m + d itself.
+abbrev pub AddedIsLimit : Type 0
+AddedIsLimit =
+    (p : Equations) (b : Elements) (m d : ℕ) (e : PlainNode) (c : Context) (t s : ℕ) → Inside (node_visits p b m d e c t s) (node_visits p b (m + d) 0 e c t s)
+
+-- The test of the same daton decides equality.
+abbrev pub SameDatonIsEquality : Type 0
+SameDatonIsEquality = (d k : Daton) → Decides (same_daton d k) (d ≡ k)

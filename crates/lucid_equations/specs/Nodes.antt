@@ -1,6 +1,6 @@
 -- Equation tables, as plain forms. A node is seen as a tree of nodes; a table as its root and what it has for each number of a
 -- name and of a call place.
-use Rattle.std.specs.Prelude.{ℕ, List, Option}
+use Rattle.std.specs.Prelude.{ℕ, zero, suc, List, Option, Some, None}
 use Rattle.lucid_tree.specs.Tree.{Head}
 
 -- What a name becomes: an element of an input, or a reference of a name's row, in the context of the outermost frames.
@@ -20,6 +20,12 @@ mutual
   pub data PlainNodes : Type 0 where
     no_nodes : PlainNodes
     node : PlainNode → PlainNodes → PlainNodes
+
+-- the part of a number, from 0
+abbrev pub part_of : PlainNodes → (part : ℕ) → Option PlainNode
+part_of no_nodes i = None
+part_of (node e es) zero = Some e
+part_of (node e es) (suc i) = part_of es i
 
 -- The row of a name: a plain name's right side, a call's body, a current name's right side, or a parameter's index.
 pub data PlainEntry : Type 0 where

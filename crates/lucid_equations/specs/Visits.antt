@@ -14,10 +14,10 @@ use Rattle.lucid_equations.specs.Values.{part_at, node_value, node_val}
 abbrev pub NodeEvents : Type 0
 NodeEvents = List (Event Daton NodePosition Context)
 
--- the context that a call enters
+-- the context that a call enters: its daton's, which has the call's own frame, wherever the call goes on
 abbrev pub context_of : NodeAim → NodeEvents
 context_of (element_of n j) = []
-context_of (goes_to d x u) = entered x.context ∷ []
+context_of (goes_to d x u) = entered d.context ∷ []
 context_of nowhere = []
 
 -- The walk at m, where choices are those of the approximation m + d, and `deep` is what references meet.

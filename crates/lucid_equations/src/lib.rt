@@ -1,18 +1,14 @@
-//! Equation tables: from trees to numbers, each approximation kept.
+//! Equation tables: rows that name each other by numbers, what they mean, and the readers of a program.
 #![tactic(auto)]
 
-pub use crate::compiler::compile;
 pub use crate::lists::{NameRows, NodeRows, Numbers32, PlaceRows, ScopeRows, Values};
 pub use crate::program::Program;
 pub use crate::rows::{Entry, NameRow, Node, NodeRow, PlaceRow, ScopeKind, ScopeRow};
 pub use crate::table::Table;
 
-mod building;
-mod compiler;
-mod forms;
+mod differ;
 pub mod laws;
 mod lists;
-mod numbering;
 mod program;
 mod range;
 mod rows;

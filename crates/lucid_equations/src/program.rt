@@ -1,33 +1,38 @@
 //! Programs: tables whose numbers lead somewhere, and their readers.
-ghost use Rattle.std.specs.Prelude.{◌≡◌, ◌<◌, length, Some, IfSome};
+ghost use Rattle.std.specs.Prelude.{◌≡◌, ◌<◌, ◌↔◌, true, length, Some, is_some, IfOk, IfSome};
 ghost use Rattle.lucid_value.specs.View.{plain};
+ghost use Rattle.lucid_tree.specs.Members.{AllDiffer, AllDiffer-prop};
 ghost use Rattle.lucid_equations.specs.Rows.{node_at, node_by, entry_by, row_at, name_at, actual_at, constant_at};
 ghost use Rattle.lucid_equations.specs.Ranges.{sizes, NodeIsInRange, EntryIsInRange, IsInRange, IsInRange-prop};
 
+use crate::differ::do_differ;
 use crate::range::is_in_range;
 use crate::rows::{Entry, Node};
 use crate::table::Table;
 use lucid_value::Value;
+use std::alloc::{AllocError, Global};
 
 /// A program: a table in which each number of a root, a node, an entry or an actual is in range, and the parts of a node have
-/// lower numbers than the node. Its readers take no memory.
+/// lower numbers than the node, and the names of its inputs differ. Its readers take no memory.
 #[derive(Drop)]
 pub struct Program {
     table: Table,
     ghost in_range: { IsInRange table } by { IsInRange-prop table },
+    ghost inputs_differ: { AllDiffer table.inputs } by { AllDiffer-prop table.inputs },
 }
 
 impl Program {
     ghost use Rattle.lucid_equations.specs.Programs.{table_of, program_equations, count_of_actuals};
 
-    /// The program of a table that is in range, and none of another.
-    pub(crate) fn make(table: Table) -> Option<Program>
-        ensures { IfSome result (λ program. table_of program ≡ table) }
+    /// The program of a table whose numbers are in range and whose inputs' names differ. Another table has none.
+    pub fn make(alloc: Global, table: Table) -> Result<Option<Program>, AllocError>
+        ensures table { IfOk result (λ made. IfSome made (λ program. table_of program ≡ table)) }
+        ensures exactly { IfOk result (λ made. (is_some made ≡ true) ↔ (IsInRange table × AllDiffer table.inputs)) }
     {
-        if is_in_range(&table) {
-            Some(Program { table })
+        if is_in_range(&table) && do_differ(alloc, table.inputs.items())? {
+            Ok(Some(Program { table }))
         } else {
-            None
+            Ok(None)
         }
     }
 
@@ -35,6 +40,7 @@ impl Program {
     pub fn table(&self) -> &Table
         ensures value { result.now ≡ table_of self.now }
         ensures in_range { IsInRange (table_of self.now) }
+        ensures inputs_differ { AllDiffer (table_of self.now).inputs }
     {
         &self.table
     }
@@ -64,7 +70,8 @@ impl Program {
 
     /// The number of inputs.
     pub fn streams(&self) -> u32
-        ensures { result ≡ length (table_of self.now).inputs }
+        ensures value { result ≡ length (table_of self.now).inputs }
+        ensures differ { AllDiffer (table_of self.now).inputs }
     {
         self.table.inputs.items().len() as u32
     }

@@ -1,17 +1,16 @@
 //! Whether a table's numbers are in range.
-ghost use Rattle.std.specs.Prelude.{◌≡◌, true};
+ghost use Rattle.std.specs.Prelude.{◌≡◌, ◌↔◌, true};
 ghost use Rattle.lucid_equations.specs.Ranges.{sizes, EachBelow, NodeIsInRange, NodesAreInRange, EntryIsInRange, NamesAreInRange, PlacesAreInRange, IsInRange};
 
 use crate::rows::{Entry, Node};
 use crate::table::Table;
 
-/// Whether the root, the parts of nodes and what else they name, the bodies of names, and the actuals of call places are there, and
-/// the places past an operator's arguments are lower than the node, as 0 is.
+/// Whether the root, the parts of nodes and what else they name, the bodies of names, and the actuals of call places are there.
 pub(crate) fn is_in_range(table: &Table) -> bool
-    ensures { result ≡ true → IsInRange table.now }
+    ensures { (result ≡ true) ↔ IsInRange table.now }
 {
     (table.root as usize) < table.nodes.items().len()
-        && table.inputs.items().len() < 0xffff_ffff
+        && table.inputs.items().len() <= 0xffff_ffff
         && are_nodes_in_range(table)
         && are_names_in_range(table)
         && are_places_in_range(table)
@@ -19,7 +18,7 @@ pub(crate) fn is_in_range(table: &Table) -> bool
 
 // Whether each number is below a bound.
 fn are_below(bound: usize, ids: &[u32]) -> bool
-    ensures { result ≡ true → EachBelow bound ids.now }
+    ensures { (result ≡ true) ↔ EachBelow bound ids.now }
 {
     for id in ids {
         if *id as usize >= bound {
@@ -30,12 +29,12 @@ fn are_below(bound: usize, ids: &[u32]) -> bool
 }
 
 fn is_node_in_range(table: &Table, id: usize, node: &Node) -> bool
-    ensures { result ≡ true → NodeIsInRange (sizes table.now) id node.now }
+    ensures { (result ≡ true) ↔ NodeIsInRange (sizes table.now) id node.now }
 {
     match node {
         Node::Const { constant } => (*constant as usize) < table.constants.items().len(),
         Node::Input { stream } => (*stream as usize) < table.inputs.items().len(),
-        Node::Apply { op: _, args } => are_below(id, args),
+        Node::Apply { op, args } => are_below(id, &args[..op.arity()]),
         Node::If { test, yes, no } => {
             (*test as usize) < id && (*yes as usize) < id && (*no as usize) < id
         }
@@ -65,7 +64,7 @@ fn is_node_in_range(table: &Table, id: usize, node: &Node) -> bool
 }
 
 fn are_nodes_in_range(table: &Table) -> bool
-    ensures { result ≡ true → NodesAreInRange (sizes table.now) 0 table.now.nodes }
+    ensures { (result ≡ true) ↔ NodesAreInRange (sizes table.now) 0 table.now.nodes }
 {
     let rows = table.nodes.items();
     for (id, row) in rows.iter().enumerate() {
@@ -77,7 +76,7 @@ fn are_nodes_in_range(table: &Table) -> bool
 }
 
 fn is_entry_in_range(table: &Table, entry: &Entry) -> bool
-    ensures { result ≡ true → EntryIsInRange (sizes table.now) entry.now }
+    ensures { (result ≡ true) ↔ EntryIsInRange (sizes table.now) entry.now }
 {
     match entry {
         Entry::Plain { body } | Entry::Current { body } | Entry::Called { body } => {
@@ -88,7 +87,7 @@ fn is_entry_in_range(table: &Table, entry: &Entry) -> bool
 }
 
 fn are_names_in_range(table: &Table) -> bool
-    ensures { result ≡ true → NamesAreInRange (sizes table.now) table.now.names }
+    ensures { (result ≡ true) ↔ NamesAreInRange (sizes table.now) table.now.names }
 {
     let rows = table.names.items();
     for row in rows {
@@ -100,7 +99,7 @@ fn are_names_in_range(table: &Table) -> bool
 }
 
 fn are_places_in_range(table: &Table) -> bool
-    ensures { result ≡ true → PlacesAreInRange (sizes table.now) table.now.places }
+    ensures { (result ≡ true) ↔ PlacesAreInRange (sizes table.now) table.now.places }
 {
     let nodes = table.nodes.items().len();
     let rows = table.places.items();

@@ -10,3 +10,4 @@ mod Environments
 mod Resolved
 mod Numbering
 mod Unique
+mod Inputs

@@ -69,7 +69,7 @@ sum-marks : (f : ℕ → ℕ) (ss : List Site) → sum_by (λ (m : Mark). f m.at
 sum-marks f [] = refl
 sum-marks f (s ∷ ss) = omega (arith, sum_by-cons (λ (m : Mark). f m.at) (mark s) (map mark ss), sum_by-cons (λ s. f (site_at s)) s ss, ap f (mark-at s), sum-marks f ss)
 
-sum-ones : {X : Type 0} (xs : List X) → sum_by (λ (x : X). 1) xs ≡ length xs
+pub sum-ones : {X : Type 0} (xs : List X) → sum_by (λ (x : X). 1) xs ≡ length xs
 sum-ones [] = refl
 sum-ones {X = X} (x ∷ xs) = omega (arith, sum_by-cons (λ (y : X). 1) x xs, sum-ones xs)
 

@@ -1,11 +1,14 @@
 -- The binding of a name is what an environment finds: an environment that matches what is in scope goes where the name's meaning says.
 -- And one fault alone is at the least place.
-use Rattle.std.specs.Prelude.{◌≡◌, ℕ, List, Option}
+use Rattle.std.specs.Prelude.{◌≡◌, ℕ, List, Option, Some, slice_get}
+use Rattle.std.specs.List.{position_or_len}
 use Rattle.lucid_tree.specs.Levels.{element_of, nowhere}
 use Rattle.lucid_tree.specs.Tree.{PlainTree, PlainTrees, PlainDefs}
+use Rattle.lucid_tree.specs.Members.{In}
 use Rattle.lucid_tree.specs.WellMade.{IsWellMade}
-use Rattle.lucid_tree.specs.Env.{Env, empty, scope, args, Aim, to_tree, frozen_target, to_actual, tree_at, name_target, call_target}
-use Rattle.lucid_scope.specs.Bindings.{HasNoFault, IsLeastFault}
+use Rattle.lucid_tree.specs.Env.{same_name, Env, empty, scope, args, Aim, to_tree, frozen_target, to_actual, tree_at, name_target, call_target}
+use Rattle.lucid_scope.specs.Sites.{named}
+use Rattle.lucid_scope.specs.Bindings.{all_sites, AreInputs, HasNoFault, IsLeastFault}
 use Rattle.lucid_scope.specs.declared.refusal.ScopeRefusal.{ScopeRefusal}
 use Rattle.lucid_scope.specs.Scope.{Static, outermost, in_block, in_function, Meaning, free, plain_name, parameter, current_name, function, meaning}
 
@@ -79,3 +82,9 @@ LeastFaultIsUnique = (e : PlainTree) (f g : ScopeRefusal) → IsWellMade e → I
 -- and has none where no name is at fault
 abbrev pub NoFaultIsLeast : Type 0
 NoFaultIsLeast = (e : PlainTree) (f : ScopeRefusal) → HasNoFault e → IsLeastFault e f → ⊥
+
+-- a free name is the input of its number
+abbrev pub FreeNamesAreInputs : Type 0
+FreeNamesAreInputs =
+    (e : PlainTree) (inputs : List (List ℕ)) → AreInputs e inputs → (at : ℕ) (x : List ℕ) (k : Static) → In (named at x k) (all_sites e) → meaning x k ≡ free
+    → slice_get inputs (position_or_len (same_name x) inputs) ≡ Some x

@@ -1,7 +1,8 @@
 //! Trees that are resolved.
-ghost use Rattle.std.specs.Prelude.{◌≡◌, nat_eq};
+ghost use Rattle.std.specs.Prelude.{◌≡◌, ◌≤◌, length, nat_eq};
 ghost use Rattle.std.specs.Map.{lookup};
-ghost use Rattle.lucid_tree.specs.WellMade.{IsWellMade, IsWellMade-prop};
+ghost use Rattle.lucid_tree.specs.Members.{AllDiffer};
+ghost use Rattle.lucid_tree.specs.WellMade.{places, IsWellMade, IsWellMade-prop};
 ghost use Rattle.lucid_scope.specs.Bindings.{IsResolved};
 
 use indexmap::IndexMap;
@@ -48,6 +49,8 @@ impl Scoped {
     /// The inputs: the free names, in the order of their first places, without repeats.
     pub fn inputs(&self) -> &[Name]
         ensures value { result.now ≡ scoped_inputs self.now }
+        ensures differ { AllDiffer (scoped_inputs self.now) }
+        ensures few { length (scoped_inputs self.now) ≤ length (places (scoped_tree self.now)) }
         ensures resolved { ∥ IsResolved (scoped_tree self.now) (scoped_inputs self.now) (scoped_binding self.now) ∥₁ }
     {
         &self.inputs

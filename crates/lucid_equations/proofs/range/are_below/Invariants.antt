@@ -1,7 +1,7 @@
-use Rattle.std.proofs.Common.{drop}
+use Rattle.std.proofs.Common.{drop, ◌↔◌}
 use Rattle.lucid_equations.specs.Ranges.{EachBelow}
 use Rattle.lucid_equations.proofs.range.are_below.Given as goal
 
 -- all are below where those from this one on are
 abbrev pub invariant-loop-id : goal.invariant-loop-id
-invariant-loop-id l = EachBelow l.bound (drop l.id-index l.ids) → EachBelow l.bound l.ids
+invariant-loop-id l = EachBelow l.bound (drop l.id-index l.ids) ↔ EachBelow l.bound l.ids

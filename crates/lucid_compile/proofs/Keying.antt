@@ -1,0 +1,35 @@
+-- The keys of a resolved tree differ, those of each kind.
+use Rattle.std.proofs.Common.{◌≡◌, ◌++◌, map, IsTrue, sym, ap, ◌∙◌, subst, arith}
+use Rattle.std.proofs.lemmas.List.{map-append}
+use Rattle.lucid_tree.specs.Tree.{PlainTree}
+use Rattle.lucid_tree.specs.Members.{AllDiffer}
+use Rattle.lucid_tree.specs.WellMade.{places, IsWellMade}
+use Rattle.lucid_scope.specs.Scope.{outermost as no_scope}
+use Rattle.lucid_scope.specs.Sites.{sites as name_sites}
+use Rattle.lucid_compile.specs.Static.{outermost}
+use Rattle.lucid_compile.specs.Places.{calls_pass_actuals}
+use Rattle.lucid_compile.specs.Numbered.{key_at}
+use Rattle.lucid_compile.specs.Keys.{stand_key, call_key, place_key, key_of_function}
+use Rattle.lucid_compile.specs.Bound.{Numbered, Log, no_log, added}
+use Rattle.lucid_compile.proofs.Made.{map_map}
+use Rattle.lucid_compile.proofs.Passing.{NoFaults, passes}
+use Rattle.lucid_compile.proofs.Logs.{names_at, calls_at, sites_at, functions_at, times, once-differ, differ-once, names-times, functions-times, sites-times, times-append, own-first}
+
+module _ (w : Numbered) (e : PlainTree) (made : IsWellMade e) where
+  abbrev z : Log
+  z = added w outermost e no_log
+
+  pub names-differ : AllDiffer (map key_at (map stand_key z.names ++ map call_key z.calls))
+  names-differ =
+      let same : map key_at (map stand_key z.names ++ map call_key z.calls) ≡ names_at z ++ calls_at z =
+      map-append key_at (map stand_key z.names) (map call_key z.calls) ∙ (λ j. map_map key_at stand_key z.names j ++ map_map key_at call_key z.calls j) in
+      subst AllDiffer (sym same) (once-differ (names_at z ++ calls_at z) (λ x. omega (arith, times-append x (names_at z) (calls_at z), names-times w x outermost e no_log, differ-once (places e) made.placed x)))
+
+  pub functions-differ : AllDiffer (map key_at (map key_of_function z.functions))
+  functions-differ =
+      subst AllDiffer (sym (map_map key_at key_of_function z.functions)) (once-differ (functions_at z) (λ x. omega (arith, functions-times w x outermost e no_log, differ-once (places e) made.placed x)))
+
+  pub places-differ : NoFaults (name_sites no_scope e) → AllDiffer (map key_at (map place_key z.sites))
+  places-differ n =
+      let h : IsTrue (calls_pass_actuals e) = passes no_scope e n tt made.shaped in
+      subst AllDiffer (sym (map_map key_at place_key z.sites)) (once-differ (sites_at z) (λ x. omega (arith, sites-times w x outermost e no_log h, ap (times x) (own-first e), differ-once (places e) made.placed x)))

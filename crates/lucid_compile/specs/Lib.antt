@@ -1,0 +1,15 @@
+pub mod Static
+pub mod Compiles
+pub mod Places
+pub mod Counts
+pub mod Promise
+pub mod Listing
+pub mod Compile
+pub mod Built
+pub mod Numbered
+pub mod Bound
+pub mod Building
+pub mod Holds
+pub mod Forms
+pub mod Steps
+pub mod Keys

@@ -1,0 +1,114 @@
+//! The lists of a table while it is built: each only grows.
+ghost use Rattle.std.specs.Prelude.{◌≡◌, IfOk, OnOk};
+ghost use Rattle.lucid_value.specs.View.{plain};
+ghost use Rattle.lucid_compile.specs.Building.{lists, no_lists, with_name, with_body, with_place, OneConstant, OneNode};
+
+use crate::numbering::number;
+use lucid_equations::{Entry, NameRow, Node, NodeRow, PlaceRow, ScopeKind, ScopeRow};
+use lucid_value::Value;
+use std::alloc::{AllocError, Global};
+
+/// What is in scope at a tree: the number of its scope, and the number of frames there.
+#[derive(Clone, Copy)]
+pub(crate) struct Here {
+    pub(crate) scope: u32,
+    pub(crate) level: u32,
+}
+
+/// A function's right side: its scope, and its node.
+#[derive(Clone, Copy)]
+pub(crate) struct Body {
+    pub(crate) scope: u32,
+    pub(crate) body: u32,
+}
+
+/// The lists. The rows of calls are made last, so of each call its place is noted.
+#[derive(Drop)]
+pub(crate) struct Rows {
+    pub(crate) scopes: Vec<ScopeRow>,
+    pub(crate) constants: Vec<Value>,
+    pub(crate) nodes: Vec<NodeRow>,
+    pub(crate) names: Vec<NameRow>,
+    pub(crate) places: Vec<PlaceRow>,
+    pub(crate) bodies: Vec<Body>,
+    pub(crate) calls: Vec<u32>,
+}
+
+impl Rows {
+    /// No rows.
+    pub(crate) fn make(alloc: Global) -> Rows
+        ensures { lists result ≡ no_lists }
+    {
+        Rows {
+            scopes: Vec::new(alloc),
+            constants: Vec::new(alloc),
+            nodes: Vec::new(alloc),
+            names: Vec::new(alloc),
+            places: Vec::new(alloc),
+            bodies: Vec::new(alloc),
+            calls: Vec::new(alloc),
+        }
+    }
+
+    /// One scope more.
+    pub(crate) fn open(&mut self, parent: u32, kind: ScopeKind) -> Result<u32, AllocError>
+        ensures { OnOk result (lists self.new ≡ lists self.old) }
+    {
+        let id = number(self.scopes.len())?;
+        self.scopes.push(ScopeRow { parent, kind })?;
+        Ok(id)
+    }
+
+    /// One constant more.
+    pub(crate) fn keep(&mut self, alloc: Global, value: &Value) -> Result<u32, AllocError>
+        ensures { IfOk result (λ id. OneConstant (lists self.old) (lists self.new) (plain value.now) id) }
+    {
+        let id = number(self.constants.len())?;
+        let value = value.copy(alloc)?;
+        self.constants.push(value)?;
+        Ok(id)
+    }
+
+    /// One node more.
+    pub(crate) fn push(&mut self, here: Here, node: Node) -> Result<u32, AllocError>
+        ensures { IfOk result (λ id. OneNode (lists self.old) (lists self.new) (record { scope = here.scope; node = node }) id) }
+    {
+        let id = number(self.nodes.len())?;
+        let scope = here.scope;
+        self.nodes.push(NodeRow { scope, node })?;
+        Ok(id)
+    }
+
+    /// One name more.
+    pub(crate) fn add_name(&mut self, row: NameRow) -> Result<(), AllocError>
+        ensures { OnOk result (lists self.new ≡ with_name row (lists self.old)) }
+    {
+        self.names.push(row)?;
+        Ok(())
+    }
+
+    /// The row of a name that is defined here.
+    pub(crate) fn define(&mut self, here: Here, kind: Entry) -> Result<(), AllocError>
+        ensures { OnOk result (lists self.new ≡ with_name (record { scope = here.scope; kind = kind }) (lists self.old)) }
+    {
+        let scope = here.scope;
+        self.add_name(NameRow { scope, kind })
+    }
+
+    /// The right side of a function.
+    pub(crate) fn close(&mut self, body: Body) -> Result<(), AllocError>
+        ensures { OnOk result (lists self.new ≡ with_body body (lists self.old)) }
+    {
+        self.bodies.push(body)?;
+        Ok(())
+    }
+
+    /// One call place more. The place of the call is noted.
+    pub(crate) fn add_place(&mut self, at: u32, row: PlaceRow) -> Result<(), AllocError>
+        ensures { OnOk result (lists self.new ≡ with_place row at (lists self.old)) }
+    {
+        self.places.push(row)?;
+        self.calls.push(at)?;
+        Ok(())
+    }
+}

@@ -1,0 +1,461 @@
+//! From a tree to its table: a second walk over the tree. Each part is made before the node that has it, so a part's number is
+//! lower. The rows of calls come after those of all other names, when the bodies of the functions are made. Each row is made at the
+//! number that the first walk gave it.
+ghost use Rattle.std.specs.Prelude.{◌≡◌, ◌+◌, ◌≤◌, ℕ, List, [], ◌∷◌, length, take, get_or, slice_get, IfOk, OnOk};
+ghost use Rattle.lucid_tree.specs.View.{tree_of};
+ghost use Rattle.lucid_tree.specs.Tree.{apply, choose, no_trees, tree as one_more, no_defs, block as a_block, call as a_call};
+ghost use Rattle.lucid_tree.specs.Size.{count};
+ghost use Rattle.lucid_tree.specs.DefsView.{one_def};
+ghost use Rattle.lucid_scope.specs.Scoped.{scoped_tree, scoped_inputs, scoped_binding};
+ghost use Rattle.lucid_compile.specs.Promise.{KeepsTree};
+ghost use Rattle.lucid_equations.specs.Programs.{table_of as table_in, program_equations};
+ghost use Rattle.lucid_compile.specs.Numbered.{name_mark, function_mark};
+ghost use Rattle.lucid_compile.specs.Bound.{name_node, callee_place, Log};
+ghost use Rattle.lucid_compile.specs.Building.{lists};
+ghost use Rattle.lucid_compile.specs.Forms.{head_of_unary, head_of_binary, AddsForm};
+ghost use Rattle.lucid_compile.specs.Holds.{Holds, AddsTree, AddsTrees, AddsDefs};
+ghost use Rattle.lucid_compile.specs.Steps.{numbered, AddsParameters, with_names, HoldsCalls, callee_number, row_by, IsTableOf};
+
+use crate::building::{Body, Here, Rows};
+use crate::forms::{BinaryForm, UnaryForm};
+use crate::numbering::{Mark, Numbering, first_place, has_frame, number};
+use lucid_equations::{
+    Entry, NameRow, NameRows, Node, NodeRows, Numbers32, PlaceRow, PlaceRows, Program, ScopeKind,
+    ScopeRows, Table, Values,
+};
+use lucid_ops::Op;
+use lucid_scope::laws::free_names_are_inputs;
+use lucid_scope::{Binding, Scoped};
+use lucid_tree::{Block, Def, DefKind, Defs, Kind, Names, Places32, Tree, Trees};
+use lucid_value::Name;
+use std::alloc::{AllocError, Global};
+
+// What is read while a tree is compiled.
+#[derive(Drop)]
+struct Source<'a> {
+    alloc: Global,
+    scoped: &'a Scoped,
+    numbering: &'a Numbering,
+}
+
+// The number of the tree's node, which the table then has.
+#[cycle(compile)]
+fn add_tree(source: &Source, rows: &mut Rows, tree: &Tree, here: Here) -> Result<u32, AllocError>
+    ensures { IfOk result (λ id. AddsTree (numbered source.now) (lists rows.old) (lists rows.new) here.level tree.now id) }
+{
+    add_kind(source, rows, tree.at, &tree.kind, here)
+}
+
+// The same of a node at a place.
+#[cycle(compile)]
+fn add_kind(
+    source: &Source,
+    rows: &mut Rows,
+    at: u32,
+    kind: &Kind,
+    here: Here,
+) -> Result<u32, AllocError>
+    ensures { IfOk result (λ id. AddsTree (numbered source.now) (lists rows.old) (lists rows.new) here.level (tree_of at kind.now) id) }
+{
+    match kind {
+        Kind::Const(value) => {
+            let constant = rows.keep(source.alloc, value)?;
+            rows.push(here, Node::Const { constant })
+        }
+        Kind::Name(_) => {
+            let node = named(source, at)?;
+            rows.push(here, node)
+        }
+        Kind::Call { name, args } => add_call(source, rows, at, name, args, here),
+        Kind::Apply { op, args } => add_apply(source, rows, *op, args, here),
+        Kind::If { test, yes, no } => add_choice(source, rows, test, yes, no, here),
+        Kind::And(a, b) => add_binary(source, rows, BinaryForm::And, a, b, here),
+        Kind::Or(a, b) => add_binary(source, rows, BinaryForm::Or, a, b, here),
+        Kind::First(a) => add_unary(source, rows, UnaryForm::First, a, here),
+        Kind::Next(a) => add_unary(source, rows, UnaryForm::Next, a, here),
+        Kind::Fby(a, b) => add_binary(source, rows, BinaryForm::Fby, a, b, here),
+        Kind::Whenever(a, b) => add_binary(source, rows, BinaryForm::Whenever, a, b, here),
+        Kind::Asa(a, b) => add_binary(source, rows, BinaryForm::Asa, a, b, here),
+        Kind::Upon(a, b) => add_binary(source, rows, BinaryForm::Upon, a, b, here),
+        Kind::Attime(a, b) => add_binary(source, rows, BinaryForm::Attime, a, b, here),
+        Kind::Initial(a) => add_unary(source, rows, UnaryForm::Initial, a, here),
+        Kind::Succ(a) => add_unary(source, rows, UnaryForm::Succ, a, here),
+        Kind::Sby(a, b) => add_binary(source, rows, BinaryForm::Sby, a, b, here),
+        Kind::Atspace(a, b) => add_binary(source, rows, BinaryForm::Atspace, a, b, here),
+        Kind::Scope(block) => add_block(source, rows, at, block, here),
+    }
+}
+
+// The number of the node of an operator on its arguments.
+#[cycle(compile)]
+fn add_apply(
+    source: &Source,
+    rows: &mut Rows,
+    op: Op,
+    args: &Trees,
+    here: Here,
+) -> Result<u32, AllocError>
+    ensures { IfOk result (λ id. AddsForm (numbered source.now) (lists rows.old) (lists rows.new) here.level (apply op (count args.now)) args.now id) }
+{
+    let ids = add_trees(source, rows, args, here)?;
+    let args = three(&ids);
+    rows.push(here, Node::Apply { op, args })
+}
+
+// The number of an `if`'s node.
+#[cycle(compile)]
+fn add_choice(
+    source: &Source,
+    rows: &mut Rows,
+    test: &Tree,
+    yes: &Tree,
+    no: &Tree,
+    here: Here,
+) -> Result<u32, AllocError>
+    ensures { IfOk result (λ id. AddsForm (numbered source.now) (lists rows.old) (lists rows.new) here.level choose (one_more test.now (one_more yes.now (one_more no.now no_trees))) id) }
+{
+    let test = add_tree(source, rows, test, here)?;
+    let yes = add_tree(source, rows, yes, here)?;
+    let no = add_tree(source, rows, no, here)?;
+    rows.push(here, Node::If { test, yes, no })
+}
+
+// The number of the node of a form of one part.
+#[cycle(compile)]
+fn add_unary(
+    source: &Source,
+    rows: &mut Rows,
+    form: UnaryForm,
+    part: &Tree,
+    here: Here,
+) -> Result<u32, AllocError>
+    ensures { IfOk result (λ id. AddsForm (numbered source.now) (lists rows.old) (lists rows.new) here.level (head_of_unary form) (one_more part.now no_trees) id) }
+{
+    let of = add_tree(source, rows, part, here)?;
+    rows.push(here, form.node(of))
+}
+
+// The number of the node of a form of two parts.
+#[cycle(compile)]
+fn add_binary(
+    source: &Source,
+    rows: &mut Rows,
+    form: BinaryForm,
+    left: &Tree,
+    right: &Tree,
+    here: Here,
+) -> Result<u32, AllocError>
+    ensures { IfOk result (λ id. AddsForm (numbered source.now) (lists rows.old) (lists rows.new) here.level (head_of_binary form) (one_more left.now (one_more right.now no_trees)) id) }
+{
+    let left = add_tree(source, rows, left, here)?;
+    let right = add_tree(source, rows, right, here)?;
+    rows.push(here, form.node(left, right))
+}
+
+// The numbers of the trees' nodes, in order.
+#[cycle(compile)]
+fn add_trees(
+    source: &Source,
+    rows: &mut Rows,
+    trees: &Trees,
+    here: Here,
+) -> Result<Vec<u32>, AllocError>
+    ensures { IfOk result (λ ids. AddsTrees (numbered source.now) (lists rows.old) (lists rows.new) here.level trees.now ids.items) }
+{
+    let mut ids = Vec::new(source.alloc);
+    let items = trees.items();
+    for tree in items {
+        let id = add_tree(source, rows, tree, here)?;
+        ids.push(id)?;
+    }
+    Ok(ids)
+}
+
+// The numbers of an operator's arguments, and 0 past them. No operator has more than three.
+fn three(ids: &[u32]) -> [u32; 3]
+    ensures { length ids.now ≤ 3 → take (length ids.now) result ≡ ids.now }
+{
+    match ids {
+        [] => [0, 0, 0],
+        [first] => [*first, 0, 0],
+        [first, second] => [*first, *second, 0],
+        [first, second, third, ..] => [*first, *second, *third],
+    }
+}
+
+// A name without arguments, by its binding. In a tree that was resolved it has one, and it is no function's.
+fn named(source: &Source, at: u32) -> Result<Node, AllocError>
+    ensures { IfOk result (λ node. node ≡ name_node (numbered source.now) at) }
+{
+    match source.scoped.binding(at) {
+        Some(Binding::Plain { def }) => Ok(named_at(source.numbering, def)),
+        Some(Binding::Current { def }) => Ok(named_at(source.numbering, def)),
+        Some(Binding::Parameter { def, index }) => parameter(source.numbering, def, index),
+        Some(Binding::Input { stream }) => Ok(Node::Input { stream }),
+        Some(Binding::Function { .. }) | None => Ok(Node::Refer { name: 0, level: 0 }),
+    }
+}
+
+// The reference of the name that is defined at a place.
+fn named_at(numbering: &Numbering, def: u32) -> Node
+    ensures { result ≡ Node.Refer (name_mark numbering.now def).number (name_mark numbering.now def).level }
+{
+    let mark = numbering.name(def);
+    Node::Refer {
+        name: mark.number,
+        level: mark.level,
+    }
+}
+
+// The reference of a parameter.
+fn parameter(numbering: &Numbering, def: u32, index: u32) -> Result<Node, AllocError>
+    ensures { IfOk result (λ node. node ≡ Node.Refer ((function_mark numbering.now def).first + index) ((function_mark numbering.now def).level + 1)) }
+{
+    let mark = numbering.function(def);
+    let name = number(mark.first as usize + index as usize)?;
+    let level = number(mark.level as usize + 1)?;
+    Ok(Node::Refer { name, level })
+}
+
+// The number of a call's node. Its actuals are made before it.
+#[cycle(compile)]
+fn add_call(
+    source: &Source,
+    rows: &mut Rows,
+    at: u32,
+    name: &Name,
+    args: &Trees,
+    here: Here,
+) -> Result<u32, AllocError>
+    ensures { IfOk result (λ id. AddsTree (numbered source.now) (lists rows.old) (lists rows.new) here.level (a_call at name.now args.now) id) }
+{
+    let ids = add_trees(source, rows, args, here)?;
+    number(ids.len())?;
+    let function = called(source, at);
+    let name = source.numbering.name(at).number;
+    let place = source.numbering.place(first_place(args));
+    let row = PlaceRow {
+        scope: here.scope,
+        name,
+        actuals: Numbers32::from_vec(ids),
+    };
+    rows.add_place(at, row)?;
+    rows.push(
+        here,
+        Node::Call {
+            name,
+            place,
+            level: function.level,
+        },
+    )
+}
+
+// The place of the function that a call with a binding calls.
+fn callee(binding: Option<Binding>) -> u32
+    ensures { result ≡ callee_place binding }
+{
+    match binding {
+        Some(Binding::Function { def }) => def,
+        _ => 0,
+    }
+}
+
+// The function that is called at a place, by its binding.
+fn called(source: &Source, at: u32) -> Mark
+    ensures { result ≡ function_mark source.now.numbering.now (callee_place (scoped_binding source.now.scoped.now at)) }
+{
+    source.numbering.function(callee(source.scoped.binding(at)))
+}
+
+// The number of a block's node: that of its subject, or that of a node that freezes the time for it.
+#[cycle(compile)]
+fn add_block(
+    source: &Source,
+    rows: &mut Rows,
+    at: u32,
+    block: &Block,
+    here: Here,
+) -> Result<u32, AllocError>
+    ensures { IfOk result (λ id. AddsTree (numbered source.now) (lists rows.old) (lists rows.new) here.level (a_block at block.now.subject block.now.defs) id) }
+{
+    if has_frame(&block.defs) {
+        let inside = opened(rows, here, ScopeKind::Frozen)?;
+        let subject = add_tree(source, rows, &block.subject, inside)?;
+        add_defs(source, rows, &block.defs, inside, here)?;
+        rows.push(here, Node::Freeze { subject })
+    } else {
+        let subject = add_tree(source, rows, &block.subject, here)?;
+        add_defs(source, rows, &block.defs, here, here)?;
+        Ok(subject)
+    }
+}
+
+// A scope with one frame more.
+fn opened(rows: &mut Rows, here: Here, kind: ScopeKind) -> Result<Here, AllocError>
+    ensures lists { OnOk result (lists rows.new ≡ lists rows.old) }
+    ensures level { IfOk result (λ inside. inside.level ≡ here.level + 1) }
+{
+    let scope = rows.open(here.scope, kind)?;
+    let level = number(here.level as usize + 1)?;
+    Ok(Here { scope, level })
+}
+
+// The rows of a block's definitions, in order.
+#[cycle(compile)]
+fn add_defs(
+    source: &Source,
+    rows: &mut Rows,
+    defs: &Defs,
+    inside: Here,
+    outside: Here,
+) -> Result<(), AllocError>
+    ensures { OnOk result (AddsDefs (numbered source.now) (lists rows.old) (lists rows.new) inside.level outside.level defs.now) }
+{
+    let items = defs.items();
+    for def in items {
+        add_def(source, rows, def, inside, outside)?;
+    }
+    Ok(())
+}
+
+// The row of a definition. A current name's right side stands outside the block.
+#[cycle(compile)]
+fn add_def(
+    source: &Source,
+    rows: &mut Rows,
+    def: &Def,
+    inside: Here,
+    outside: Here,
+) -> Result<(), AllocError>
+    ensures { OnOk result (AddsDefs (numbered source.now) (lists rows.old) (lists rows.new) inside.level outside.level (one_def def.now no_defs)) }
+{
+    match &def.kind {
+        DefKind::Plain { right } => {
+            let body = add_tree(source, rows, right, inside)?;
+            rows.define(inside, Entry::Plain { body })
+        }
+        DefKind::Function { places, right, .. } => {
+            let called = opened(rows, inside, ScopeKind::Called)?;
+            add_parameters(source, rows, places, called)?;
+            let body = add_tree(source, rows, right, called)?;
+            let scope = called.scope;
+            rows.close(Body { scope, body })
+        }
+        DefKind::Current { right } => {
+            let body = add_tree(source, rows, right, outside)?;
+            rows.define(inside, Entry::Current { body })
+        }
+    }
+}
+
+// The rows of a function's parameters.
+fn add_parameters(
+    source: &Source,
+    rows: &mut Rows,
+    places: &Places32,
+    here: Here,
+) -> Result<(), AllocError>
+    ensures { OnOk result (AddsParameters (numbered source.now) (lists rows.old) (lists rows.new) here.level places.now) }
+{
+    let places = places.items();
+    let mut i = 0;
+    while i < places.len() {
+        let index = number(i)?;
+        rows.define(here, Entry::Parameter { index })?;
+        i += 1;
+    }
+    Ok(())
+}
+
+// The rows of the calls, in order.
+fn add_calls(source: &Source, rows: &mut Rows) -> Result<(), AllocError>
+    ensures others { OnOk result (lists rows.new ≡ with_names (lists rows.new).names (lists rows.old)) }
+    ensures names { OnOk result ((g : Log) → Holds (numbered source.now) (lists rows.old) g → HoldsCalls (numbered source.now) (lists rows.old) (lists rows.new).names g (lists rows.old).calls) }
+{
+    let mut i = 0;
+    while i < rows.calls.len() {
+        let at = rows.calls[i];
+        let row = call_row(source, &rows.bodies, at);
+        rows.add_name(row)?;
+        i += 1;
+    }
+    Ok(())
+}
+
+// The row of the call at a place. Of a tree that was resolved it has a body.
+fn call_row(source: &Source, bodies: &[Body], at: u32) -> NameRow
+    ensures { result ≡ row_by (slice_get bodies.now (callee_number (numbered source.now) at)) }
+{
+    match bodies.get(called(source, at).number as usize) {
+        Some(found) => {
+            let scope = found.scope;
+            let body = found.body;
+            let kind = Entry::Called { body };
+            NameRow { scope, kind }
+        }
+        None => {
+            let kind = Entry::Parameter { index: 0 };
+            NameRow { scope: 0, kind }
+        }
+    }
+}
+
+// The table of the lists, whose root is a node.
+fn table_of(rows: Rows, inputs: Vec<Name>, root: u32) -> Result<Table, AllocError>
+    ensures { IfOk result (λ table. IsTableOf (lists rows) inputs.items root table) }
+{
+    number(inputs.len())?;
+    number(rows.scopes.len())?;
+    number(rows.constants.len())?;
+    number(rows.nodes.len())?;
+    number(rows.names.len())?;
+    number(rows.places.len())?;
+    Ok(Table {
+        scopes: ScopeRows::from_vec(rows.scopes),
+        inputs: Names::from_vec(inputs),
+        constants: Values::from_vec(rows.constants),
+        nodes: NodeRows::from_vec(rows.nodes),
+        names: NameRows::from_vec(rows.names),
+        places: PlaceRows::from_vec(rows.places),
+        root,
+    })
+}
+
+// The same names.
+fn copied(alloc: Global, names: &[Name]) -> Result<Vec<Name>, AllocError>
+    ensures { IfOk result (λ made. made.items ≡ names.now) }
+{
+    let mut made = Vec::new(alloc);
+    for name in names {
+        let name = name.copy()?;
+        made.push(name)?;
+    }
+    Ok(made)
+}
+
+/// The program of a tree that was resolved. Its table keeps the tree: the same approximations at every limit and point, also with
+/// held values, the same elements consulted, as many different datons. Its inputs are the tree's, in their order. Both walks are
+/// linear in the tree. The one refusal is want of memory, also where a list of rows would pass 2^32 - 2 rows.
+pub fn compile(alloc: Global, scoped: &Scoped) -> Result<Program, AllocError>
+    ensures keeps { IfOk result (λ program. KeepsTree (program_equations program) (scoped_tree scoped.now)) }
+    ensures inputs { IfOk result (λ program. (table_in program).inputs ≡ scoped_inputs scoped.now) }
+{
+    free_names_are_inputs();
+    let tree = scoped.tree();
+    let numbering = Numbering::of_tree(alloc, scoped)?;
+    let source = Source {
+        alloc,
+        scoped,
+        numbering: &numbering,
+    };
+    let mut rows = Rows::make(alloc);
+    let scope = rows.open(0, ScopeKind::Root)?;
+    let root = add_tree(&source, &mut rows, tree, Here { scope, level: 0 })?;
+    add_calls(&source, &mut rows)?;
+    let inputs = copied(alloc, scoped.inputs())?;
+    let table = table_of(rows, inputs, root)?;
+    match Program::make(alloc, table)? {
+        Some(program) => Ok(program),
+        None => unreachable!(),
+    }
+}

@@ -1,0 +1,10 @@
+//! The compiler: from resolved trees to equation tables, each approximation kept.
+#![tactic(auto)]
+
+pub use crate::compiler::compile;
+
+mod building;
+mod compiler;
+mod forms;
+pub mod laws;
+mod numbering;

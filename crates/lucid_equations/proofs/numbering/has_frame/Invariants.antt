@@ -1,8 +1,0 @@
-use Rattle.std.proofs.Common.{◌≡◌, drop}
-use Rattle.lucid_tree.specs.DefsView.{defs_of}
-use Rattle.lucid_equations.specs.Static.{freezes}
-use Rattle.lucid_equations.proofs.numbering.has_frame.Given as goal
-
--- whether the block has a frame rests on the definitions that are left
-abbrev pub invariant-loop-def : goal.invariant-loop-def
-invariant-loop-def l = freezes (defs_of (drop l.def-index l.items)) ≡ freezes l.defs
