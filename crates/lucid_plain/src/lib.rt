@@ -11,5 +11,3 @@ mod eval;
 mod program;
 mod running;
 mod streams;
-#[cfg(test)]
-mod tests;

@@ -1,5 +1,7 @@
-//! Sources as programs: where the rows of a small one stand, and that large ones are compiled.
-use lucid_equations::{Entry, Node, Program, compile};
+//! Sources as programs: where the rows of a small one stand, and that large ones are compiled. The crate of the compiler has no
+//! tests of its own: its trees come from sources, so its tests stand here.
+use lucid_compile::compile;
+use lucid_equations::{Entry, Node, Program, ScopeKind};
 use lucid_parse::parse;
 use lucid_scan::scan;
 use lucid_scope::resolve;
@@ -40,6 +42,41 @@ fn a_function_and_a_current_name(rt: HostRuntime) -> Result<(), Fail> {
     assert!(rt; matches!(program.entry(1), Entry::Current { body: 6 }));
     assert!(rt; matches!(program.entry(2), Entry::Called { body: 5 }));
     assert!(rt; matches!(program.entry(3), Entry::Called { body: 5 }));
+    Ok(())
+}
+
+// Each row of that program stands in its scope: 0 outside, 1 in the block, 2 in the function; and each call place has the row of its
+// own call.
+#[test]
+fn a_function_and_a_current_name_by_scopes(rt: HostRuntime) -> Result<(), Fail> {
+    let source = b"f(5) where f(a) = a fby f(x); x is current y; end";
+    let program = program_of(rt.alloc(), source)?;
+    let table = program.table();
+    let scopes = table.scopes.items();
+    assert_eq!(rt; scopes.len(), 3);
+    let root = scopes[0];
+    assert!(rt; root.parent == 0);
+    assert!(rt; matches!(root.kind, ScopeKind::Root));
+    let block = scopes[1];
+    assert!(rt; block.parent == 0);
+    assert!(rt; matches!(block.kind, ScopeKind::Frozen));
+    let function = scopes[2];
+    assert!(rt; function.parent == 1);
+    assert!(rt; matches!(function.kind, ScopeKind::Called));
+    let nodes = table.nodes.items();
+    assert_eq!(rt; nodes.len(), 8);
+    assert!(rt; nodes[0].scope == 1 && nodes[1].scope == 1);
+    assert!(rt; nodes[2].scope == 2 && nodes[3].scope == 2);
+    assert!(rt; nodes[4].scope == 2 && nodes[5].scope == 2);
+    assert!(rt; nodes[6].scope == 0 && nodes[7].scope == 0);
+    let names = table.names.items();
+    assert_eq!(rt; names.len(), 4);
+    assert!(rt; names[0].scope == 2 && names[1].scope == 1);
+    assert!(rt; names[2].scope == 2 && names[3].scope == 2);
+    let places = table.places.items();
+    assert_eq!(rt; places.len(), 2);
+    assert!(rt; places[0].scope == 1 && places[0].name == 2);
+    assert!(rt; places[1].scope == 2 && places[1].name == 3);
     Ok(())
 }
 

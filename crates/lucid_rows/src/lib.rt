@@ -1,10 +1,19 @@
-//! Worked rows that take several crates: sources as text, what their names belong to, and their values as trees and as tables.
+//! Worked rows that take several crates: sources as text, the trees that they spell, what their names belong to, their values as trees and
+//! as tables, and the command.
 #![tactic(auto)]
 
 #[cfg(test)]
+mod command;
+#[cfg(test)]
 mod compiled;
 #[cfg(test)]
+mod grouped;
+#[cfg(test)]
 mod names;
+#[cfg(test)]
+mod parsed;
+#[cfg(test)]
+mod runs;
 #[cfg(test)]
 mod table_value;
 #[cfg(test)]

@@ -3,7 +3,8 @@
 ghost use Rattle.lucid_tree.specs.WellMade.{IsWellMade};
 
 use crate::table_value::{Context, Evaluator, Point};
-use lucid_equations::{Program, compile};
+use lucid_compile::compile;
+use lucid_equations::Program;
 use lucid_parse::parse;
 use lucid_plain::approximation;
 use lucid_scan::scan;

@@ -9,8 +9,8 @@ use Rattle.lucid_scan.specs.Laws.{RefusalIsUnique}
 use Rattle.lucid_scan.specs.Refusals.{Refuses}
 use Rattle.lucid_parse.specs.declared.refusal.ParseRefusal.{ParseRefusal}
 use Rattle.lucid_parse.specs.declared.refusal.ParseRefusal.TheVariants as parse
-use Rattle.lucid_parse.specs.Grammar.{Word, Spells}
-use Rattle.lucid_parse.specs.Words.{Words}
+use Rattle.lucid_parse.specs.Grammar.{PlacedTerminal, Spells}
+use Rattle.lucid_parse.specs.Terminals.{Terminals}
 use Rattle.lucid_parse.specs.Depth.{at_depth, IsLeast}
 use Rattle.lucid_parse.specs.Verdict.{IsFault}
 use Rattle.lucid_parse.specs.Spelled.{IsRefused}
@@ -50,9 +50,9 @@ least_once places a b x y =
     let back : b ≤ a = All-contains (λ p. b ≤ p) places a y.least x.among in omega (arith, there, back)
 
 -- the words of the same tokens
-same_words : Laws → (source : List ℕ) (ts us : List Token) (ws vs : List Word) → HasTokens source ts → HasTokens source us → Words source ts ws → Words source us vs → ws ≡ vs
+same_words : Laws → (source : List ℕ) (ts us : List Token) (ws vs : List PlacedTerminal) → HasTokens source ts → HasTokens source us → Terminals source ts ws → Terminals source us vs → ws ≡ vs
 same_words l source ts us ws vs a b x y =
-    let same : us ≡ ts = l.tokens source us ts b.listed a.listed in l.words source ts ws vs x (subst (λ t. Words source t vs) same y)
+    let same : us ≡ ts = l.tokens source us ts b.listed a.listed in l.words source ts ws vs x (subst (λ t. Terminals source t vs) same y)
 
 parse_parse : Laws → RefusalLaws → (source : List ℕ) (ts us : List Token) (e f : ParseRefusal) (v w : Refusal) → parse_refusal e ≡ Some v → parse_refusal f ≡ Some w
     → HasTokens source ts → HasTokens source us → IsRefused source ts e → IsRefused source us f → v ≡ w

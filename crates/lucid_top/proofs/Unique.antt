@@ -10,10 +10,10 @@ use Rattle.lucid_scan.specs.Tokens.{Tokens}
 use Rattle.lucid_scan.specs.Laws.{TokensAreUnique, TokensAreNotRefused}
 use Rattle.lucid_parse.specs.declared.refusal.ParseRefusal.{ParseRefusal}
 use Rattle.lucid_parse.specs.declared.refusal.ParseRefusal.TheVariants as parse
-use Rattle.lucid_parse.specs.Grammar.{Word, Spells}
-use Rattle.lucid_parse.specs.Words.{Words}
+use Rattle.lucid_parse.specs.Grammar.{PlacedTerminal, Spells}
+use Rattle.lucid_parse.specs.Terminals.{Terminals}
 use Rattle.lucid_parse.specs.Spelled.{SpellsTree, IsRefused}
-use Rattle.lucid_parse.specs.Laws.{WordsAreUnique, WordsSpellOneTree, TokensSpellOneTree}
+use Rattle.lucid_parse.specs.Laws.{TerminalsAreUnique, TerminalsSpellOneTree, TokensSpellOneTree}
 use Rattle.lucid_scope.specs.declared.refusal.ScopeRefusal.{ScopeRefusal}
 use Rattle.lucid_scope.specs.Bindings.{HasNoFault, IsLeastFault, fault_of}
 use Rattle.lucid_top.specs.declared.refusal.Refusal.{Refusal}
@@ -26,8 +26,8 @@ use Rattle.lucid_top.proofs.Inputs.{not_both}
 pub record Laws : Type 0 where
   pub tokens : TokensAreUnique
   pub accepted : TokensAreNotRefused
-  pub words : WordsAreUnique
-  pub trees : WordsSpellOneTree
+  pub words : TerminalsAreUnique
+  pub trees : TerminalsSpellOneTree
   pub spelt : TokensSpellOneTree
 
 pub one_tree : Laws → (source : List ℕ) (p q : PlainTree) → Spelt source p → Spelt source q → p ≡ q
@@ -36,7 +36,7 @@ one_tree l source p q a b =
     l.spelt source b.tokens p q (subst (λ ts. SpellsTree source ts p) same a.spelt) b.spelt
 
 -- the words of the program's tokens spell it, whichever they are
-spelt_by : Laws → (source : List ℕ) (p : PlainTree) (tokens : List Token) (ws : List Word) → Spelt source p → Tokens source 0 tokens → Words source tokens ws
+spelt_by : Laws → (source : List ℕ) (p : PlainTree) (tokens : List Token) (ws : List PlacedTerminal) → Spelt source p → Tokens source 0 tokens → Terminals source tokens ws
     → Spells 0 ws p
 spelt_by l source p tokens ws a listed words =
     let same : a.tokens ≡ tokens = l.tokens source a.tokens tokens a.scanned.listed listed in

@@ -2,7 +2,7 @@
 ghost use Rattle.lucid_top.specs.Laws.{ProgramIsNotRefused, OneProgram, OneRefusal};
 
 use lucid_parse::laws::{
-    fault_is_unique, tokens_spell_one_tree, words_are_unique, words_spell_one_tree,
+    fault_is_unique, terminals_are_unique, terminals_spell_one_tree, tokens_spell_one_tree,
 };
 use lucid_scan::laws::{refusal_is_unique, tokens_are_not_refused, tokens_are_unique};
 use lucid_scope::laws::least_fault_is_unique;
@@ -16,8 +16,8 @@ pub fn one_verdict()
     tokens_are_unique();
     tokens_are_not_refused();
     refusal_is_unique();
-    words_are_unique();
-    words_spell_one_tree();
+    terminals_are_unique();
+    terminals_spell_one_tree();
     tokens_spell_one_tree();
     fault_is_unique();
     least_fault_is_unique();

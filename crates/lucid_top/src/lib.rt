@@ -15,8 +15,6 @@ mod report;
 mod running;
 mod source;
 mod status;
-#[cfg(test)]
-mod tests;
 mod top;
 mod verdict;
 mod words;

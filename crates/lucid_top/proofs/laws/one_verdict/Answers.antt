@@ -7,8 +7,8 @@ returns c =
     let laws : Laws = record {
       tokens = c.tokens_are_unique.ensures;
       accepted = c.tokens_are_not_refused.ensures;
-      words = c.words_are_unique.ensures;
-      trees = c.words_spell_one_tree.ensures;
+      words = c.terminals_are_unique.ensures;
+      trees = c.terminals_spell_one_tree.ensures;
       spelt = c.tokens_spell_one_tree.ensures;
     } in
     let refusals : RefusalLaws = record {

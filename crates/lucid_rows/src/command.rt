@@ -1,10 +1,11 @@
-// Worked programs over files and sinks in memory.
+//! The command whole, over files and sinks in memory. Each row is worked out by hand.
 ghost use Rattle.std.specs.Prelude.{◌≡◌, IfOk};
 ghost use Rattle.lucid_ports.specs.MemoryView.{memory_world};
 
-use super::*;
 use lucid_ports::{MemoryFile, MemoryPlaces, MemorySink};
+use lucid_top::{Status, lucid};
 use std::alloc::{AllocError, Global};
+use std::process::Abort;
 use std::test::Fail;
 
 // The words, parted by one blank each, the bytes of the file `p`, which writes fail, and what is wanted.
@@ -49,14 +50,13 @@ fn passes(alloc: Global, row: &Row) -> Result<bool, AllocError> {
     Ok(status == row.status && out.written() == row.out && report.written() == row.report)
 }
 
-// The number of the first row that doesn't pass.
-fn first_failing(alloc: Global, rows: &[Row]) -> Result<Option<usize>, AllocError> {
-    for (number, row) in rows.iter().enumerate() {
-        if !passes(alloc, row)? {
-            return Ok(Some(number));
-        }
+fn each_passes<R: Abort + AllocGlobal>(rt: &R, rows: &[Row]) -> Result<(), Fail> {
+    for row in rows {
+        let words = row.words;
+        let source = str::from_utf8(row.source)?;
+        assert!(rt; passes(rt.alloc(), row)?, "{words}: {source}");
     }
-    Ok(None)
+    Ok(())
 }
 
 const COUNTING: &[u8] = b"x where x = 0 fby x + 1; end";
@@ -138,8 +138,7 @@ static RUNS: [Row; 8] = [
 
 #[test]
 fn programs_are_run(rt: HostRuntime) -> Result<(), Fail> {
-    assert_eq!(rt; first_failing(rt.alloc(), &RUNS)?, None);
-    Ok(())
+    each_passes(&rt, &RUNS)
 }
 
 static REFUSALS: [Row; 15] = [
@@ -267,6 +266,5 @@ static REFUSALS: [Row; 15] = [
 
 #[test]
 fn refusals_are_reported(rt: HostRuntime) -> Result<(), Fail> {
-    assert_eq!(rt; first_failing(rt.alloc(), &REFUSALS)?, None);
-    Ok(())
+    each_passes(&rt, &REFUSALS)
 }

@@ -1,0 +1,109 @@
+//! Runs of sources by the plain evaluator. Each row is worked out by hand.
+use lucid_parse::parse;
+use lucid_plain::{Stream, approximation, run};
+use lucid_ports::{MemorySink, Options, RunFault, Summary};
+use lucid_scan::scan;
+use lucid_value::{Name, Value};
+use std::alloc::Global;
+use std::test::Fail;
+
+/// A source, the writes that fail, what a run of at most three lines with a limit of 50 answers, and what it writes.
+type Row = (
+    &'static str,
+    [u64; 1],
+    Result<Summary, RunFault>,
+    &'static str,
+);
+
+// The answer of a run of three lines at most, and what it wrote.
+fn three_lines(
+    alloc: Global,
+    source: &str,
+    failures: &[u64],
+) -> Result<(Result<Summary, RunFault>, MemorySink), Fail> {
+    let tokens = scan(alloc, source.as_bytes())?;
+    let tree = parse(alloc, source.as_bytes(), &tokens)?;
+    let mut out = MemorySink::make(alloc, 100, Vec::from_slice(alloc, failures)?);
+    let options = Options {
+        count: 3,
+        depth: 50,
+    };
+    let answer = run(alloc, &[], &tree, &mut out, &options);
+    Ok((answer, out))
+}
+
+const fn done(lines: u32, ended: bool) -> Result<Summary, RunFault> {
+    Ok(Summary {
+        lines,
+        ended,
+        held: 0,
+        lost: 0,
+        cleared: 0,
+    })
+}
+
+const TOO_DEEP: Result<Summary, RunFault> = Err(RunFault::TooDeep {
+    time: 0,
+    lost: 0,
+    cleared: 0,
+});
+
+#[test]
+fn lines_ends_and_faults(rt: HostRuntime) -> Result<(), Fail> {
+    let rows: [Row; 7] = [
+        ("1", [9], done(3, false), "1\n1\n1\n"),
+        ("1 whenever 5", [9], done(3, false), "error\nerror\nerror\n"),
+        ("1 asa false", [9], TOO_DEEP, ""),
+        ("eod + error", [9], done(0, true), ""),
+        (
+            "x where x = 0 fby x + 1; end",
+            [9],
+            done(3, false),
+            "0\n1\n2\n",
+        ),
+        (
+            "x where x = 0 fby x + 1; end",
+            [1],
+            Err(RunFault::WriteFault),
+            "0\n",
+        ),
+        ("x where x = x; end", [9], TOO_DEEP, ""),
+    ];
+    for (source, failures, answer, written) in rows {
+        let (answered, out) = three_lines(rt.alloc(), source, &failures)?;
+        assert_eq!(rt; answered, answer, "{source}");
+        assert_eq!(rt; out.written(), written.as_bytes(), "{source}");
+    }
+    Ok(())
+}
+
+// The last element, end of data past it, and an input that isn't there.
+#[test]
+fn an_input(rt: HostRuntime) -> Result<(), Fail> {
+    let alloc = rt.alloc();
+    let name = Name::make(alloc, b"x")?;
+    let elements = Vec::from_array(alloc, [Value::Int(7), Value::Int(8)])?;
+    let streams = [Stream { name, elements }];
+    let tokens = scan(alloc, b"x")?;
+    let tree = parse(alloc, b"x", &tokens)?;
+    let last = approximation(alloc, &streams, &tree, 1, 0, 1)?;
+    assert!(rt; matches!(last, Some(Value::Int(8))));
+    let past = approximation(alloc, &streams, &tree, 2, 0, 1)?;
+    assert!(rt; matches!(past, Some(Value::Eod)));
+    let absent = approximation(alloc, &[], &tree, 0, 0, 1)?;
+    assert!(rt; absent.is_none());
+    Ok(())
+}
+
+// As deep as the tree, as often as the limit.
+#[test]
+fn a_deep_tree_at_a_deep_limit(rt: HostRuntime) -> Result<(), Fail> {
+    let alloc = rt.alloc();
+    let source =
+        "x where x = not not not not not not not not not not not not not not not not not not not not not not not not not not not not not x; end";
+    let tokens = scan(alloc, source.as_bytes())?;
+    let tree = parse(alloc, source.as_bytes(), &tokens)?;
+    let value = approximation(alloc, &[], &tree, 0, 0, 100)?;
+    assert!(rt; value.is_none());
+    Ok(())
+}
