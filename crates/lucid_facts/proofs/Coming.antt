@@ -1,0 +1,59 @@
+-- Where the values of a row's parts lead it, as a decision says it: it stands at the rest of its form's plan, and comes on by a value.
+use Rattle.std.proofs.Common.{◌≡◌, ℕ, zero, suc, ◌+◌, ◌<◌, ◌≤◌, [], ◌∷◌, Some, refl, ap, inl, inr, arith}
+use Rattle.std.specs.Prelude.{true, nat_lt}
+use Rattle.std.proofs.lemmas.Bool.{cases_lt}
+use Rattle.std.proofs.lemmas.Bool.Decides.{nat_tests}
+use Rattle.lucid_value.specs.Plain.{PlainValue}
+use Rattle.lucid_ops.specs.declared.op.Op.{Op}
+use Rattle.lucid_tree.specs.Tree.{Head, apply}
+use Rattle.lucid_tree.specs.Members.{In}
+use Rattle.lucid_tree.specs.Rows.{Plan, look, arguments}
+use Rattle.lucid_tree.specs.Rests.{at_start, and_then, rest_at}
+use Rattle.lucid_equations.specs.Nodes.{row, PlainNodes}
+use Rattle.lucid_equations.specs.declared.table.Table.{Table}
+use Rattle.lucid_facts.specs.Tasks.{PlainRow, idle, state_at, value_of_part}
+use Rattle.lucid_facts.specs.Parts.{node_of, look_of_row}
+use Rattle.lucid_facts.specs.Decisions.{ComesTo, MayAsk}
+
+-- the rest of the form's plan where the row's search stands
+abbrev pub rest_of : Head → PlainRow → Plan
+rest_of f r = rest_at f r.task.limit r.cursor.time r.cursor.count r.task.time r.task.space
+
+-- A row stands at the rest of its form's plan.
+pub stands_at_its_rest : (T : Table) (r : PlainRow) (f : Head) (es : PlainNodes) → node_of T r.task ≡ row f es → (s : ComesTo T r (rest_of f r)) × (s.form ≡ f)
+stands_at_its_rest T r f es e = (record { form = f; nodes = es; is = e; along = at_start }, refl)
+
+-- Where one look stands next, and a part of the row answers it, the row comes on by the part's value.
+pub comes_on : (T : Table) (r : PlainRow) (index t s least : ℕ) (k : PlainValue → Plan) (v : PlainValue) (at : ComesTo T r (look index t s least k))
+    → look_of_row at.form r index ≡ Some (record { part = index; time = t; space = s; least = least }) → value_of_part r index ≡ Some v
+    → (s : ComesTo T r (k v)) × (s.form ≡ at.form)
+comes_on T r index t s least k v at l has = (
+  record { form = at.form; nodes = at.nodes; is = at.is; along = and_then (v ∷ []) at.along (record { index = index; look = l; value = has }, tt) },
+  refl,
+)
+
+-- The look at an argument is among those at all arguments.
+among_arguments : (count first i t s : ℕ) → first ≤ i → i < first + count → In (record { part = i; time = t; space = s; least = 0 }) (arguments count first t s)
+among_arguments zero first i t s low high = absurd (omega (arith, low, high))
+among_arguments (suc n) first i t s low high =
+    elim (cases_lt first i) [
+      | inl l ↦ inr (among_arguments n (suc first) i t s l (omega (arith, high)))
+      | inr l ↦ (let e : i ≡ first = omega (arith, l, low) in inl (ap (λ k. record { part = k; time = t; space = s; least = 0 }) e))
+    ]
+
+-- Each idle argument of an operator may be asked for, whatever the others are.
+pub arguments_may_be_asked : (T : Table) (r : PlainRow) (op : Op) (count : ℕ) (es : PlainNodes) (i : ℕ) → node_of T r.task ≡ row (apply op count) es → i < count → count ≤ 3
+    → state_at r.parts i ≡ idle → MayAsk T r i
+arguments_may_be_asked T r op count es i e low few free = record {
+  stands_next = arguments count 0 r.task.time r.task.space;
+  go_on = _;
+  at = record { form = apply op count; nodes = es; is = e; along = at_start };
+  look = record { part = i; time = r.task.time; space = r.task.space; least = 0 };
+  is = argument;
+  next = among_arguments count 0 i r.task.time r.task.space (omega arith) (omega (arith, low));
+  free = free;
+  few = omega (arith, low, few);
+}
+  where
+    argument : look_of_row (apply op count) r i ≡ Some (record { part = i; time = r.task.time; space = r.task.space; least = 0 })
+    argument = let yes : nat_lt i count ≡ true = grind (arith, nat_tests) in rw yes refl

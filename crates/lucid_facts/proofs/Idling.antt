@@ -1,0 +1,110 @@
+-- Which parts of a row that waits for none are idle.
+use Rattle.std.proofs.Common.{◌≡◌, ℕ, zero, suc, ◌<◌, List, [], ◌∷◌, Some, None, refl, sym, ap, ◌∙◌, subst, arith, length}
+use Rattle.std.specs.Prelude.{Bool, true, false, ◌&&◌}
+use Rattle.std.specs.List.{list_all}
+use Rattle.lucid_value.specs.Plain.{PlainValue}
+use Rattle.lucid_tree.specs.Tree.{Head, const, apply, choose, both, either, first, next, fby, whenever, asa, upon, attime, initial, succ, sby, atspace}
+use Rattle.lucid_tree.specs.Levels.{Elements}
+use Rattle.lucid_tree.specs.Rows.{Look}
+use Rattle.lucid_equations.specs.Nodes.{row, PlainNodes}
+use Rattle.lucid_equations.specs.declared.table.Table.{Table}
+use Rattle.lucid_facts.specs.Tasks.{PlainTask, PlainRow, PartState, idle, asked, got, is_free, waits_for_none, all_idle, state_at, value_in, value_of_part}
+use Rattle.lucid_facts.specs.Parts.{node_of, look_of_row, IsReference, IsPart, part_by_look, part_by_body}
+use Rattle.lucid_facts.specs.Stands.{Holding}
+use Rattle.lucid_facts.specs.Held.{is_search}
+use Rattle.lucid_facts.specs.Demands.{Demand, table_of}
+use Rattle.lucid_facts.specs.Rows.{RowFacts}
+
+-- a part that no task was asked for and that has no value is idle
+free_is_idle : (s : PartState) → is_free s ≡ true → ((v : PlainValue) → value_in s ≡ Some v → ⊥) → s ≡ idle
+free_is_idle idle f n = refl
+free_is_idle (asked slot) f n = absurd (cc)
+free_is_idle (got v) f n = absurd (n v refl)
+
+both_true : (a b : Bool) → (a && b) ≡ true → (a ≡ true) × (b ≡ true)
+both_true true true e = (refl, refl)
+both_true true false e = absurd (cc)
+both_true false b e = absurd (cc)
+
+parts_are_free : (ps : List PartState) (i : ℕ) → list_all is_free ps ≡ true → is_free (state_at ps i) ≡ true
+parts_are_free [] i e = refl
+parts_are_free (p ∷ ps) zero e = (both_true (is_free p) (list_all is_free ps) e).0
+parts_are_free (p ∷ ps) (suc i) e = parts_are_free ps i (both_true (is_free p) (list_all is_free ps) e).1
+
+-- A part without a value, of a row that waits for none, is idle.
+pub part-is_idle : (r : PlainRow) (i : ℕ) → waits_for_none r ≡ true → ((v : PlainValue) → value_of_part r i ≡ Some v → ⊥) → state_at r.parts i ≡ idle
+part-is_idle r i e n = free_is_idle (state_at r.parts i) (parts_are_free r.parts i e) n
+
+-- a node is of one form
+pub one-form : (f g : Head) (es gs : PlainNodes) → row f es ≡ row g gs → f ≡ g
+one-form f g es gs e = cc
+
+-- a search has no look but at its parts 0 and 1
+no_third : (f : Head) (r : PlainRow) (l : Look) → is_search f ≡ true → look_of_row f r 2 ≡ Some l → ⊥
+no_third (const v) r l s e = absurd (cc)
+no_third (apply op n) r l s e = absurd (cc)
+no_third choose r l s e = absurd (cc)
+no_third both r l s e = absurd (cc)
+no_third either r l s e = absurd (cc)
+no_third first r l s e = absurd (cc)
+no_third next r l s e = absurd (cc)
+no_third fby r l s e = absurd (cc)
+no_third whenever r l s e = absurd (cc)
+no_third asa r l s e = absurd (cc)
+no_third upon r l s e = absurd (cc)
+no_third attime r l s e = absurd (cc)
+no_third initial r l s e = absurd (cc)
+no_third succ r l s e = absurd (cc)
+no_third sby r l s e = absurd (cc)
+no_third atspace r l s e = absurd (cc)
+
+no_third_part : (T : Table) (r : PlainRow) (f : Head) (es : PlainNodes) (j : ℕ) (x : PlainTask) → node_of T r.task ≡ row f es → is_search f ≡ true → j ≡ 2 → IsPart T r j x → ⊥
+no_third_part T r f es j x e s two (part_by_look {f = g} {es = gs} {l = l} i n q t) =
+    no_third g r l (subst (λ h. is_search h ≡ true) (one-form f g es gs (sym e ∙ n)) s) (subst (λ k. look_of_row g r k ≡ Some l) two q)
+no_third_part T r f es j x e s two (part_by_body k g) = absurd (cc)
+
+-- The third part of a search that waits for none is idle: a search has no look there.
+pub search-is_idle : (d : Demand) (b : Elements) (h : Holding) (lost : ℕ) (r : PlainRow) (f : Head) (es : PlainNodes) → RowFacts d b h lost r
+    → node_of (table_of d) r.task ≡ row f es → is_search f ≡ true → waits_for_none r ≡ true → state_at r.parts 2 ≡ idle
+search-is_idle d b h lost r f es facts e s free =
+    part-is_idle r 2 free (λ v q. let a = facts.got_parts 2 v q in no_third_part (table_of d) r f es 2 a.task e s refl a.is)
+
+all_idle_list : (ps : List PartState) → length ps ≡ 3 → ((i : ℕ) → i < 3 → state_at ps i ≡ idle) → ps ≡ all_idle
+all_idle_list [] n h = absurd (cc)
+all_idle_list (p ∷ []) n h = absurd (cc)
+all_idle_list (p ∷ (q ∷ [])) n h = absurd (cc)
+all_idle_list (p ∷ (q ∷ (r ∷ []))) n h =
+    ap (λ x. x ∷ (q ∷ (r ∷ []))) (h 0 (omega arith)) ∙ ap (λ x. idle ∷ (x ∷ (r ∷ []))) (h 1 (omega arith)) ∙ ap (λ x. idle ∷ (idle ∷ (x ∷ []))) (h 2 (omega arith))
+all_idle_list (p ∷ (q ∷ (r ∷ (s ∷ ps)))) n h = absurd (omega (arith, n))
+
+-- Three parts of which each is idle are all idle.
+pub all-are_idle : (r : PlainRow) → length r.parts ≡ 3 → ((i : ℕ) → i < 3 → state_at r.parts i ≡ idle) → r.parts ≡ all_idle
+all-are_idle r n h = all_idle_list r.parts n h
+
+-- So are all parts of a search that waits for none, and whose subject and stream have no value yet.
+pub search-is_all_idle : (d : Demand) (b : Elements) (h : Holding) (lost : ℕ) (r : PlainRow) (f : Head) (es : PlainNodes) → RowFacts d b h lost r
+    → node_of (table_of d) r.task ≡ row f es → is_search f ≡ true → waits_for_none r ≡ true → value_of_part r 0 ≡ None → value_of_part r 1 ≡ None → r.parts ≡ all_idle
+search-is_all_idle d b h lost r f es facts e s free no_subject no_stream = all-are_idle r facts.three each
+  where
+    valueless : (i : ℕ) → value_of_part r i ≡ None → (v : PlainValue) → value_of_part r i ≡ Some v → ⊥
+    valueless i n v q = let z : None ≡ Some v = sym n ∙ q in absurd (cc)
+
+    each : (i : ℕ) → i < 3 → state_at r.parts i ≡ idle
+    each zero lt = part-is_idle r 0 free (valueless 0 no_subject)
+    each (suc zero) lt = part-is_idle r 1 free (valueless 1 no_stream)
+    each (suc (suc zero)) lt = search-is_idle d b h lost r f es facts e s free
+    each (suc (suc (suc i))) lt = absurd (omega (arith, lt))
+
+-- a reference has no part but its body
+no_more_parts : (T : Table) (r : PlainRow) (i j : ℕ) (x : PlainTask) → IsReference (node_of T r.task) → j ≡ suc i → IsPart T r j x → ⊥
+no_more_parts T r i j x ref e (part_by_look {f = g} {es = gs} {l = l} k n q t) = subst (λ z. IsReference z) n ref
+no_more_parts T r i j x ref e (part_by_body k g) = absurd (cc)
+
+-- All parts of a reference that waits for none, and of which no body was asked for, are idle.
+pub reference-is_idle : (d : Demand) (b : Elements) (h : Holding) (lost : ℕ) (r : PlainRow) → RowFacts d b h lost r → IsReference (node_of (table_of d) r.task)
+    → waits_for_none r ≡ true → state_at r.parts 0 ≡ idle → r.parts ≡ all_idle
+reference-is_idle d b h lost r facts ref free z = all-are_idle r facts.three each
+  where
+    each : (i : ℕ) → i < 3 → state_at r.parts i ≡ idle
+    each zero lt = z
+    each (suc i) lt = part-is_idle r (suc i) free (λ v q. let a = facts.got_parts (suc i) v q in no_more_parts (table_of d) r i (suc i) a.task ref refl a.is)

@@ -1,0 +1,125 @@
+-- Rows in a list: which slots have one, which are ready, and what a change of one leaves.
+use Rattle.std.proofs.Common.{◌≡◌, ◌≢◌, ℕ, zero, suc, ◌<◌, ◌≤◌, ◌==◌, List, [], ◌∷◌, Option, Some, None, Bool, true, false, ◌&&◌, refl, sym, ap, ◌∙◌, arith}
+use Rattle.std.specs.Prelude.{IsSome, if◌then◌else◌, length, map, option_map, option_and_then, slice_set, slice_index_or}
+use Rattle.std.specs.List.{list_all}
+use Rattle.lucid_value.specs.declared.Value.{Value}
+use Rattle.lucid_tags.specs.Contexts.{Context}
+use Rattle.lucid_tasks.specs.declared.Task.{Task}
+use Rattle.lucid_tasks.specs.Rows as rows
+use Rattle.lucid_tasks.specs.Rows.{TaskRow, Idle, Asked, Got, row_at}
+use Rattle.lucid_facts.specs.Tasks.{PlainRow, idle, all_idle, new_row, waits_for_none, plain_task, plain_state, plain_row, plain_rows}
+use Rattle.lucid_facts.proofs.Slots.{at_it, at_another}
+use Rattle.lucid_facts.proofs.Seeing.{plain_ready}
+use Rattle.lucid_facts.proofs.Changing.{settles_after_taking}
+
+-- ---- which slots have a row
+
+-- a plain row is that of a row
+pub row_of_plain : (known : List Context) (rs : List (Option TaskRow)) (q : ℕ) (p : PlainRow) → plain_rows known rs q ≡ Some p → (r : TaskRow) × (row_at rs q ≡ Some r) × (plain_row known r ≡ p)
+row_of_plain known rs q p = go (row_at rs q)
+  where
+    go : (o : Option TaskRow) → option_map (plain_row known) o ≡ Some p → (r : TaskRow) × (o ≡ Some r) × (plain_row known r ≡ p)
+    go None e = absurd (cc)
+    go (Some r) e = (r, refl, cc)
+
+-- and a row's is there
+pub plain_of_row : (known : List Context) (rs : List (Option TaskRow)) (q : ℕ) (r : TaskRow) → row_at rs q ≡ Some r → plain_rows known rs q ≡ Some (plain_row known r)
+plain_of_row known rs q r at = ap (λ o. option_map (plain_row known) o) at
+
+-- a slot that is past all rows is past all plain rows
+pub plain_past : (known : List Context) (rs : List (Option TaskRow)) (slot : ℕ) → rows.IsPast rs slot → (q : ℕ) → IsSome (plain_rows known rs q) → q < slot
+plain_past known rs slot past q some = past q (go (row_at rs q) some)
+  where
+    go : (o : Option TaskRow) → IsSome (option_map (plain_row known) o) → IsSome o
+    go None e = e
+    go (Some r) e = refl
+
+-- a row stands below the list's length
+pub row_is_below : (rs : List (Option TaskRow)) (q : ℕ) (r : TaskRow) → row_at rs q ≡ Some r → q < length rs
+row_is_below [] q r e = absurd (cc)
+row_is_below (o ∷ rs) zero r e = omega arith
+row_is_below (o ∷ rs) (suc q) r e = let h = row_is_below rs q r e in omega (arith, h)
+
+-- past the list's end there is no row
+pub none_past : (known : List Context) (rs : List (Option TaskRow)) (q : ℕ) → length rs ≤ q → plain_rows known rs q ≡ None
+none_past known [] q l = refl
+none_past known (o ∷ rs) zero l = absurd (omega (arith, l))
+none_past known (o ∷ rs) (suc q) l = none_past known rs q (omega (arith, l))
+
+-- a ready slot has a row, which waits for none of its parts
+pub ready_row : (known : List Context) (rs : List (Option TaskRow)) (slot : ℕ) → rows.is_ready (row_at rs slot) ≡ true
+    → (r : TaskRow) × (row_at rs slot ≡ Some r) × (waits_for_none (plain_row known r) ≡ true)
+ready_row known rs slot = go (row_at rs slot)
+  where
+    go : (o : Option TaskRow) → rows.is_ready o ≡ true → (r : TaskRow) × (o ≡ Some r) × (waits_for_none (plain_row known r) ≡ true)
+    go None e = absurd (cc)
+    go (Some r) e = (r, refl, sym (plain_ready known r) ∙ e)
+
+-- ---- what a change leaves
+
+-- a demand's first row
+pub plain_first : (known : List Context) (new : List (Option TaskRow)) (slot : ℕ) (x : Task) → rows.SetsOnly [] new slot (Some (rows.fresh x None))
+    → (q : ℕ) → plain_rows known new q ≡ (if q == slot then Some (new_row (plain_task known x) None None) else None)
+plain_first known new slot x sets q = ap (λ o. option_map (plain_row known) o) (sets q) ∙ go (q == slot)
+  where
+    go : (t : Bool) → option_map (plain_row known) (if t then Some (rows.fresh x None) else None) ≡ (if t then Some (new_row (plain_task known x) None None) else None)
+    go true = refl
+    go false = refl
+
+-- the row that was changed, and the others
+pub changed_there : (old new : List (Option TaskRow)) (slot : ℕ) (f : TaskRow → TaskRow) (r : TaskRow) → rows.ChangesOnly old new slot f → row_at old slot ≡ Some r → row_at new slot ≡ Some (f r)
+changed_there old new slot f r changes at = changes slot ∙ at_it slot slot (option_map f (row_at old slot)) (row_at old slot) refl ∙ ap (λ o. option_map f o) at
+
+pub same_elsewhere : (old new : List (Option TaskRow)) (slot : ℕ) (f : TaskRow → TaskRow) → rows.ChangesOnly old new slot f → (q : ℕ) → q ≢ slot → row_at new q ≡ row_at old q
+same_elsewhere old new slot f changes q n = changes q ∙ at_another q slot (option_map f (row_at old q)) (row_at old q) n
+
+same_parent : (i : ℕ) (o : Option TaskRow) → option_and_then (λ row. row.parent) (option_map (rows.taken i) o) ≡ option_and_then (λ row. row.parent) o
+same_parent i None = refl
+same_parent i (Some r) = refl
+
+-- a row that settles once a value of its own was taken settles from where it stood before
+pub settles_after_take : (old taken new : List (Option TaskRow)) (slot i : ℕ) (v : Value) → rows.ChangesOnly old taken slot (rows.taken i) → rows.Settles taken new slot v
+    → rows.Settles old new slot v
+settles_after_take old taken new slot i v takes =
+    settles_after_taking old taken new slot v (same_elsewhere old taken slot (rows.taken i) takes)
+    (ap (λ o. option_and_then (λ row. row.parent) o) (takes slot ∙ at_it slot slot (option_map (rows.taken i) (row_at old slot)) (row_at old slot) refl) ∙ same_parent i (row_at old slot))
+
+emptied_free : (s : rows.PartState) → rows.is_free (rows.emptied s) ≡ rows.is_free s
+emptied_free Idle = refl
+emptied_free (Asked slot) = refl
+emptied_free (Got v) = refl
+
+free_taken : (ps : List rows.PartState) (i : ℕ) → list_all rows.is_free (slice_set ps i (rows.emptied (slice_index_or ps i Idle))) ≡ list_all rows.is_free ps
+free_taken [] i = refl
+free_taken (p ∷ ps) zero = ap (λ b. b && list_all rows.is_free ps) (emptied_free p)
+free_taken (p ∷ ps) (suc i) = ap (λ b. rows.is_free p && b) (free_taken ps i)
+
+-- a row whose value was taken is ready where it was
+pub ready_after_take : (old taken : List (Option TaskRow)) (slot i : ℕ) → rows.ChangesOnly old taken slot (rows.taken i) → rows.is_ready (row_at taken slot) ≡ rows.is_ready (row_at old slot)
+ready_after_take old taken slot i takes =
+    ap (λ o. rows.is_ready o) (takes slot ∙ at_it slot slot (option_map (rows.taken i) (row_at old slot)) (row_at old slot) refl) ∙ go (row_at old slot)
+  where
+    go : (o : Option TaskRow) → rows.is_ready (option_map (rows.taken i) o) ≡ rows.is_ready o
+    go None = refl
+    go (Some r) = free_taken r.parts i
+
+-- a row all of whose plain parts are idle is idle
+idle_of_plain : (s : rows.PartState) → plain_state s ≡ idle → rows.is_idle s ≡ true
+idle_of_plain Idle e = refl
+idle_of_plain (Asked slot) e = absurd (cc)
+idle_of_plain (Got v) e = absurd (cc)
+
+idle_parts : (ps : List rows.PartState) → map plain_state ps ≡ all_idle → list_all rows.is_idle ps ≡ true
+idle_parts [] e = refl
+idle_parts (a ∷ []) e = absurd (cc)
+idle_parts (a ∷ b ∷ []) e = absurd (cc)
+idle_parts (a ∷ b ∷ c ∷ []) e =
+    let first : plain_state a ≡ idle = cc in
+    let second : plain_state b ≡ idle = cc in
+    let third : plain_state c ≡ idle = cc in
+    ap (λ t. t && (rows.is_idle b && (rows.is_idle c && true))) (idle_of_plain a first) ∙ ap (λ t. t && (rows.is_idle c && true)) (idle_of_plain b second)
+    ∙ ap (λ t. t && true) (idle_of_plain c third)
+idle_parts (a ∷ b ∷ c ∷ d ∷ ps) e = absurd (cc)
+
+pub idle_row : (known : List Context) (rs : List (Option TaskRow)) (slot : ℕ) (r : TaskRow) → row_at rs slot ≡ Some r → (plain_row known r).parts ≡ all_idle → rows.IsIdleRow rs slot
+idle_row known rs slot r at free = ap (λ o. option_map (λ row. list_all rows.is_idle row.parts) o) at ∙ ap Some (idle_parts r.parts free)

@@ -1,0 +1,100 @@
+-- What is held and noted stays right, and closed, where more elements are read.
+use Rattle.std.proofs.Common.{◌≡◌, ℕ, ◌<◌, List, Option, Some, None, refl, sym, ap, ◌∙◌, subst, true≢false}
+use Rattle.std.specs.Prelude.{IsSome}
+use Rattle.lucid_value.specs.Plain.{PlainValue, truth}
+use Rattle.lucid_tree.specs.Tree.{Head}
+use Rattle.lucid_tree.specs.Levels.{Elements, goes_to}
+use Rattle.lucid_tree.proofs.SearchesLead.{count-keeps, counted_truth}
+use Rattle.lucid_tags.specs.Contexts.{Context}
+use Rattle.lucid_tags.specs.Known.{context_of, space_of}
+use Rattle.lucid_search.specs.Noted.{Noted}
+use Rattle.lucid_equations.specs.Nodes.{PlainNode, PlainNodes, row, Equations}
+use Rattle.lucid_equations.specs.Datons.{Daton, NodePosition, NodeAim, daton_aim}
+use Rattle.lucid_equations.specs.Values.{node_val, NodeMeans}
+use Rattle.lucid_equations.specs.Rows.{node_at, equations_of}
+use Rattle.lucid_equations.specs.MoreElements.{Extends}
+use Rattle.lucid_equations.specs.Laws.{HeldIsMeant}
+use Rattle.lucid_equations.specs.declared.table.Table.{Table}
+use Rattle.lucid_equations.proofs.MoreElements.{node_hval-extends, meaning-extends, needed-same}
+use Rattle.lucid_facts.specs.Stands.{Holding, given}
+use Rattle.lucid_facts.specs.Held.{HoldsRight, IsClosed, Counted, NotedRight, AllNotedRight, AllNotedClosed, cursor_noted}
+
+-- What is held is right by more elements too,
+pub right_over : (p : Equations) (b c : Elements) → Extends b c → (h : Holding) → HoldsRight p b h → HoldsRight p c h
+right_over p b c more h right d s v e =
+    let m = right d s v e in
+    record { position = m.position; time = m.time; aim = m.aim; means = meaning-extends p b c more m.position.node m.position.context m.time s v m.means }
+
+abbrev position_in : NodePosition → NodeAim → NodePosition
+position_in z (goes_to k y u) = y
+position_in z _ = z
+
+abbrev time_in : NodeAim → ℕ
+time_in (goes_to k y u) = u
+time_in _ = 0
+
+-- what a daton that is held goes on with means its value
+pub held_means : (p : Equations) (b : Elements) (h : Holding) → HoldsRight p b h → (d : Daton) (x : NodePosition) (u s : ℕ) (v : PlainValue) → daton_aim p d ≡ goes_to d x u → h d s ≡ Some v
+    → NodeMeans p b x.node x.context u s v
+held_means p b h right d x u s v aim e =
+    let m = right d s v e in
+    let y : m.position ≡ x = ap (position_in x) (sym m.aim ∙ aim) in
+    let t : m.time ≡ u = ap time_in (sym m.aim ∙ aim) in
+    subst (λ z. NodeMeans p b x.node x.context z s v) t (subst (λ z. NodeMeans p b z.node z.context m.time s v) y m.means)
+
+-- So what is held is meant.
+pub right_is_meant : (p : Equations) (b : Elements) (h : Holding) → HoldsRight p b h → HeldIsMeant p (given b h)
+right_is_meant p b h right d x u s v aim e = held_means p b h right d x u s v aim e
+
+pub value_of_some : (o : Option PlainValue) → IsSome o → (v : PlainValue) × (o ≡ Some v)
+value_of_some None h = absurd (true≢false (sym h))
+value_of_some (Some v) h = (v, refl)
+
+-- closed,
+pub closed_over : (p : Equations) (b c : Elements) → Extends b c → (h : Holding) → HoldsRight p b h → IsClosed p b h → IsClosed p c h
+closed_over p b c more h right closed d x u s i aim k n =
+    let v = value_of_some (h d s) i in
+    closed d x u s i aim k ((needed-same p b c more x.node x.context u s v.0 (held_means p b h right d x u s v.0 aim v.1) k).0 n)
+
+-- and what is noted is counted,
+counted_over : (p : Equations) (b c : Elements) → Extends b c → (e : PlainNode) (f : Context) (s t n : ℕ) → Counted p b e f s t n → Counted p c e f s t n
+counted_over p b c more e f s t n r =
+    (r.0, count-keeps (λ u. node_val p b r.0 e f u s) (λ u. node_val p c r.0 e f u s) (λ u v h. node_hval-extends p b c more (λ d z. None) r.0 e f u s v h) t n r.1)
+
+pub noted_over : (T : Table) (b c : Elements) → Extends b c → (known : List Context) (noted : Noted) → AllNotedRight T b known noted → AllNotedRight T c known noted
+noted_over T b c more known noted right node tag key number e =
+    let r = right node tag key number e in
+    record {
+      form = r.form;
+      nodes = r.nodes;
+      is = r.is;
+      search = r.search;
+      known_tag = r.known_tag;
+      stream = r.stream;
+      part = r.part;
+      counted = counted_over (equations_of T) b c more (node_at T r.stream) (context_of known tag) (space_of tag) (cursor_noted r.form key number).time (cursor_noted r.form key number).count r.counted;
+    }
+
+form_of : (f g : Head) (es fs : PlainNodes) → row f es ≡ row g fs → f ≡ g
+form_of f g es fs e = cc
+
+some_once : {A : Type 0} {x y : A} → ◌≡◌ {A = Option A} (Some x) (Some y) → x ≡ y
+some_once e = cc
+
+-- with all that the looks before it need.
+pub noted_closed_over : (T : Table) (b c : Elements) → Extends b c → (known : List Context) (noted : Noted) (h : Holding) → AllNotedRight T b known noted → AllNotedClosed T b known noted h → AllNotedClosed T c known noted h
+noted_closed_over T b c more known noted h right closed node tag key number e form nodes is stream part u lt k n =
+    closed node tag key number e form nodes is stream part u lt k ((needed-same (equations_of T) b c more (node_at T stream) (context_of known tag) u (space_of tag) there.0 there.1 k).0 n)
+  where
+    r : NotedRight T b known node tag key number
+    r = right node tag key number e
+
+    truth_there : (g : Head) → form ≡ g → (q : ℕ) → stream ≡ q → Counted (equations_of T) b (node_at T q) (context_of known tag) (space_of tag) (cursor_noted g key number).time (cursor_noted g key number).count
+        → (v : PlainValue) × NodeMeans (equations_of T) b (node_at T stream) (context_of known tag) u (space_of tag) v
+    truth_there g same q this count =
+        let t = counted_truth (λ w. node_val (equations_of T) b count.0 (node_at T q) (context_of known tag) w (space_of tag)) (cursor_noted g key number).time (cursor_noted g key number).count count.1 u
+        (subst (λ z. u < (cursor_noted z key number).time) same lt) in
+        (truth t.0, subst (λ z. NodeMeans (equations_of T) b (node_at T z) (context_of known tag) u (space_of tag) (truth t.0)) (sym this) (count.0, t.1))
+
+    there : (v : PlainValue) × NodeMeans (equations_of T) b (node_at T stream) (context_of known tag) u (space_of tag) v
+    there = truth_there r.form (form_of form r.form nodes r.nodes (sym is ∙ r.is)) r.stream (some_once (sym part ∙ r.part)) r.counted

@@ -1,0 +1,113 @@
+-- What only moves the point, by the row that a table has for the node.
+use Rattle.std.proofs.Common.{◌≡◌, ℕ, zero, suc, ◌<◌, ◌≤◌, ◌-◌, Bool, true, false, Option, Some, None, if◌then◌else◌, nat_lt, option_map, option_and_then, slice_get, refl, sym, ap, ◌∙◌, arith}
+use Rattle.std.proofs.lemmas.Bool.Decides.{nat_tests}
+use Rattle.lucid_tree.specs.Rows.{last}
+use Rattle.lucid_tags.specs.Contexts.{frozen_frame}
+use Rattle.lucid_equations.specs.Nodes.{PlainNode, row, freeze, reference, invoke}
+use Rattle.lucid_equations.specs.Moving.{Onward, onward}
+use Rattle.lucid_equations.specs.Rows.{row_at, node_by, parts}
+use Rattle.lucid_equations.specs.declared.rows.Node.{Node}
+use Rattle.lucid_equations.specs.declared.rows.Node.TheVariants.{Const, Input, Apply, If, And, Or, First, Next, Fby, Whenever, Asa, Upon, Attime, Initial, Succ, Sby, Atspace, Freeze, Refer, Call}
+use Rattle.lucid_equations.specs.declared.table.Table.{Table}
+use Rattle.lucid_facts.specs.Tasks.{PlainTask}
+use Rattle.lucid_facts.specs.Parts.{node_of, moved, moved_by}
+
+-- the left part now, and then the right part one before
+abbrev pub fby_row : PlainTask → (left right time : ℕ) → Option PlainTask
+fby_row x a b zero = Some (record x { node = a; time = 0 })
+fby_row x a b (suc t) = Some (record x { node = b; time = t })
+
+abbrev pub sby_row : PlainTask → (left right space : ℕ) → Option PlainTask
+sby_row x a b zero = Some (record x { node = a; space = 0 })
+sby_row x a b (suc s) = Some (record x { node = b; space = s })
+
+-- what a row goes on with that only moves the point
+abbrev pub moved_row : PlainTask → Node → Option PlainTask
+moved_row x (First a) = Some (record x { node = a; time = 0 })
+moved_row x (Next a) = if nat_lt x.time last then Some (record x { node = a; time = suc x.time }) else None
+moved_row x (Fby a b) = fby_row x a b x.time
+moved_row x (Initial a) = Some (record x { node = a; space = 0 })
+moved_row x (Succ a) = if nat_lt x.space last then Some (record x { node = a; space = suc x.space }) else None
+moved_row x (Sby a b) = sby_row x a b x.space
+moved_row x (Freeze a) = Some (record x { node = a; context = frozen_frame x.time x.context })
+moved_row x _ = None
+
+-- the number of a row's part
+abbrev part_in : Option Node → ℕ → Option ℕ
+part_in o i = option_and_then (λ n. slice_get (parts n) i) o
+
+-- what moves the point, with the row in place of its number
+abbrev moved_with : PlainTask → Option Node → PlainNode → Option PlainTask
+moved_with x o (row f es) = option_and_then (λ q. option_map (λ n. record x { node = n; time = q.time; space = q.space }) (part_in o q.part)) (onward f x.time x.space)
+moved_with x o (freeze e) = option_map (λ n. record x { node = n; context = frozen_frame x.time x.context }) (part_in o 0)
+moved_with x o (reference r) = None
+moved_with x o (invoke n at l) = None
+
+same-with : (T : Table) (x : PlainTask) (e : PlainNode) → moved_by T x e ≡ moved_with x (row_at T x.node) e
+same-with T x (row f es) = refl
+same-with T x (freeze e) = refl
+same-with T x (reference r) = refl
+same-with T x (invoke n at l) = refl
+
+below-last : (to : Onward → Option PlainTask) (b : Bool) (q : Onward) → option_and_then to (if b then Some q else None) ≡ (if b then to q else None)
+below-last to true q = refl
+below-last to false q = refl
+
+moved-fby : (T : Table) (x : PlainTask) (a b t : ℕ) → moved_with (record x { time = t }) (Some (Fby a b)) (node_by T (Fby a b)) ≡ moved_row (record x { time = t }) (Fby a b)
+moved-fby T x a b zero = refl
+moved-fby T x a b (suc t) = refl
+
+moved-sby : (T : Table) (x : PlainTask) (a b s : ℕ) → moved_with (record x { space = s }) (Some (Sby a b)) (node_by T (Sby a b)) ≡ moved_row (record x { space = s }) (Sby a b)
+moved-sby T x a b zero = refl
+moved-sby T x a b (suc s) = refl
+
+by-row : (T : Table) (x : PlainTask) (n : Node) → moved_with x (Some n) (node_by T n) ≡ moved_row x n
+by-row T x (First a) = refl
+by-row T x (Next a) = below-last (λ q. option_map (λ n. record x { node = n; time = q.time; space = q.space }) (part_in (Some (Next a)) q.part)) (nat_lt x.time last) (record { part = 0; time = suc x.time; space = x.space })
+by-row T x (Fby a b) = moved-fby T x a b x.time
+by-row T x (Initial a) = refl
+by-row T x (Succ a) = below-last (λ q. option_map (λ n. record x { node = n; time = q.time; space = q.space }) (part_in (Some (Succ a)) q.part)) (nat_lt x.space last) (record { part = 0; time = x.time; space = suc x.space })
+by-row T x (Sby a b) = moved-sby T x a b x.space
+by-row T x (Freeze a) = refl
+by-row T x (Const k) = refl
+by-row T x (Input k) = refl
+by-row T x (Apply op args) = refl
+by-row T x (If a b c) = refl
+by-row T x (And a b) = refl
+by-row T x (Or a b) = refl
+by-row T x (Whenever a b) = refl
+by-row T x (Asa a b) = refl
+by-row T x (Upon a b) = refl
+by-row T x (Attime a b) = refl
+by-row T x (Atspace a b) = refl
+by-row T x (Refer n l) = refl
+by-row T x (Call n q l) = refl
+
+-- A task goes on with what its row goes on with.
+pub moved-by_row : (T : Table) (x : PlainTask) (n : Node) → row_at T x.node ≡ Some n → node_of T x ≡ node_by T n → moved_row x n ≡ moved T x
+moved-by_row T x n h is =
+    sym (ap (moved_by T x) is ∙ same-with T x (node_by T n) ∙ ap (λ o. moved_with x o (node_by T n)) h ∙ by-row T x n)
+
+-- where there is a last time or space, and where there is not
+pub before-last : {A : Type 0} (t : ℕ) (y : A) → t < last → Some y ≡ (if nat_lt t last then Some y else None)
+before-last t y low = let h : nat_lt t last ≡ true = grind (arith, nat_tests) in sym (ap (λ b. if b then Some y else None) h)
+
+pub at-last : {A : Type 0} (t : ℕ) (y : A) → last ≤ t → None ≡ (if nat_lt t last then Some y else None)
+at-last t y low = let h : nat_lt t last ≡ false = grind (arith, nat_tests) in sym (ap (λ b. if b then Some y else None) h)
+
+-- at the first time or space, and at a later one
+pub fby-first : (x : PlainTask) (a b t : ℕ) → t ≡ 0 → Some (record x { node = a; time = t }) ≡ fby_row x a b t
+fby-first x a b zero h = refl
+fby-first x a b (suc t) h = absurd (omega (arith, h))
+
+pub fby-later : (x : PlainTask) (a b t : ℕ) → 0 < t → Some (record x { node = b; time = t - 1 }) ≡ fby_row x a b t
+fby-later x a b zero h = absurd (omega (arith, h))
+fby-later x a b (suc t) h = let same : suc t - 1 ≡ t = omega arith in ap (λ u. Some (record x { node = b; time = u })) same
+
+pub sby-first : (x : PlainTask) (a b s : ℕ) → s ≡ 0 → Some (record x { node = a; space = s }) ≡ sby_row x a b s
+sby-first x a b zero h = refl
+sby-first x a b (suc s) h = absurd (omega (arith, h))
+
+pub sby-later : (x : PlainTask) (a b s : ℕ) → 0 < s → Some (record x { node = b; space = s - 1 }) ≡ sby_row x a b s
+sby-later x a b zero h = absurd (omega (arith, h))
+sby-later x a b (suc s) h = let same : suc s - 1 ≡ s = omega arith in ap (λ r. Some (record x { node = b; space = r })) same

@@ -1,0 +1,164 @@
+-- What is true of all that is owned stays true at each change that a step makes: a value is put, values are dropped, a search's position
+-- is noted, contexts become known.
+use Rattle.std.proofs.Common.{◌≡◌, ℕ, ◌+◌, ◌≤◌, List, [], ◌∷◌, ◌++◌, Option, Some, None, ◌⊎◌, inl, inr, refl, sym, subst, arith, le_refl, true}
+use Rattle.std.specs.Prelude.{IsTrue}
+use Rattle.lucid_value.specs.Plain.{PlainValue}
+use Rattle.lucid_value.specs.View.{plain}
+use Rattle.lucid_value.specs.declared.Value.{Value}
+use Rattle.lucid_tree.specs.Members.{In}
+use Rattle.lucid_tree.specs.Tree.{Head}
+use Rattle.lucid_tree.specs.Levels.{Elements}
+use Rattle.lucid_tags.specs.Contexts.{Context}
+use Rattle.lucid_tags.specs.Known.{IsKnown, IsOneForOne, KeepsKnown, AddsAtMost, context_of, space_of}
+use Rattle.lucid_tags.specs.declared.Tag.{Tag}
+use Rattle.lucid_tags.specs.declared.Key.{Key}
+use Rattle.lucid_store.specs.Stored.{Stored}
+use Rattle.lucid_store.specs.Entries.{held, count_of, SetsOnly, fresh}
+use Rattle.lucid_search.specs.Noted.{Noted, number_at, NotesOrMisses}
+use Rattle.lucid_ports.specs.World.{World}
+use Rattle.lucid_equations.specs.Nodes.{PlainNodes, row}
+use Rattle.lucid_facts.specs.Tasks.{DatonAt, PlainRow, plain_key}
+use Rattle.lucid_facts.specs.Parts.{node_of}
+use Rattle.lucid_facts.specs.Held.{held_in, AreKeysKnown, is_search, key_noted}
+use Rattle.lucid_facts.specs.Engine.{EngineView, holding, MayHave, GoesOn, HoldsFew}
+use Rattle.lucid_facts.specs.Demands.{Demand, table_of, IsEntered}
+use Rattle.lucid_facts.specs.Rows.{MayPut, RowFacts}
+use Rattle.lucid_facts.specs.Stock.{StockFacts}
+use Rattle.lucid_equations.specs.Datons.{Daton}
+use Rattle.lucid_facts.specs.Changes.{PutsDaton}
+use Rattle.lucid_facts.specs.Going.{IsDemand, Owns, WithinRoom}
+use Rattle.lucid_facts.proofs.HeldByKey.{held_drops, held_stays, held_as_tags_grow, put_by_key}
+use Rattle.lucid_facts.proofs.Stocking.{stock_puts, stock_drops, stock_enters}
+use Rattle.lucid_facts.proofs.Noting.{stock_notes}
+use Rattle.lucid_facts.proofs.History.{keeps_known_then}
+
+-- What a change to the contexts, to what is held and to what is noted leaves of what has only grown: contexts and the count of losses
+-- don't fall.
+since_then : (first now : EngineView) → GoesOn first now → (known : List Context) (stored : Stored) (noted : Noted) → KeepsKnown now.known known → now.stored.lost ≤ stored.lost
+    → GoesOn first (record now { known = known; stored = stored; noted = noted })
+since_then first now go known stored noted keeps more = record {
+  table = go.table;
+  most = go.most;
+  keeps = go.keeps;
+  empties = go.empties;
+  room = go.room;
+  elements = go.elements;
+  known = keeps_known_then first.known now.known known go.known keeps;
+  lost = omega (arith, go.lost, more);
+  places = go.places;
+}
+
+known_itself : (known : List Context) → KeepsKnown known known
+known_itself known = record { known = λ tag h. h; same = λ tag h. refl }
+
+module _ (d : Demand) (now : EngineView) (w : World) (owns : Owns d now w) where
+  -- The value of a daton is put under its key, which every row and every later step then finds.
+  pub owns_puts : (k : Key) (v : Value) (stored : Stored) → IsKnown now.known k.tag → SetsOnly now.stored stored k (Some (fresh v)) → stored.lost ≡ now.stored.lost
+      → (HoldsFew d.first.room d.first.stored → HoldsFew d.first.room stored)
+      → ((b : Elements) → MayHave now b → MayPut d b (holding now) now.stored.lost (plain_key now.known k) (plain v)) → Owns d (record now { stored = stored }) w
+  owns_puts k v stored there sets same few may = record {
+    stock = record {
+      stock = λ b m. subst (λ n. StockFacts d b now.known (held_in now.known stored) n now.noted) (sym same)
+          (stock_puts d b now.known (holding now) (held_in now.known stored) now.stored.lost now.noted (plain_key now.known k) (plain v) (owns.stock.stock b m) (may b m) puts.0).0;
+      drawn = owns.stock.drawn;
+      askable = owns.stock.askable;
+    };
+    keys = puts.1;
+    contexts = owns.contexts;
+    since = record {
+      goes_on = since_then d.first now owns.since.goes_on now.known stored now.noted (known_itself now.known) (omega (arith, same));
+      reads_only = owns.since.reads_only;
+      few = few;
+    };
+  }
+    where
+      puts : PutsDaton (held_in now.known now.stored) (held_in now.known stored) (plain_key now.known k) (plain v) × AreKeysKnown now.known stored
+      puts = put_by_key now.known now.stored stored k v owns.contexts owns.keys there sets
+
+  -- Values are dropped, and noted positions with them: by a policy's turn, at a look-up, or at a put for which there is no memory.
+  pub owns_drops : (stored : Stored) (noted : Noted) → ((k : Key) (v : PlainValue) → held stored k ≡ Some v → held now.stored k ≡ Some v)
+      → (IsTrue d.first.keeps → (k : Key) → held stored k ≡ held now.stored k) → now.stored.lost ≤ stored.lost
+      → ((node : ℕ) (tag : Tag) (key number : ℕ) → number_at noted node tag key ≡ Some number → number_at now.noted node tag key ≡ Some number)
+      → (HoldsFew d.first.room d.first.stored → HoldsFew d.first.room stored) → Owns d (record now { stored = stored; noted = noted }) w
+  owns_drops stored noted drops same more notes few = record {
+    stock = record {
+      stock = λ b m. stock_drops d b now.known (holding now) (held_in now.known stored) now.stored.lost stored.lost now.noted noted (owns.stock.stock b m) (λ z. omega (arith, more, z)) gone.1
+          (λ keeps k. (held_stays now.known now.stored stored owns.contexts owns.keys (same keeps)).1 k) notes;
+      drawn = owns.stock.drawn;
+      askable = owns.stock.askable;
+    };
+    keys = gone.0;
+    contexts = owns.contexts;
+    since = record {
+      goes_on = since_then d.first now owns.since.goes_on now.known stored noted (known_itself now.known) more;
+      reads_only = owns.since.reads_only;
+      few = few;
+    };
+  }
+    where
+      gone : AreKeysKnown now.known stored × ((k : DatonAt) (v : PlainValue) → held_in now.known stored k.0 k.1 ≡ Some v → held_in now.known now.stored k.0 k.1 ≡ Some v)
+      gone = held_drops now.known now.stored stored owns.contexts owns.keys drops
+
+  -- A row notes where its search stands.
+  pub owns_notes : IsDemand d → (noted : Noted) (r : PlainRow) (tag : Tag) (f : Head) (es : PlainNodes) → ((b : Elements) → MayHave now b → RowFacts d b (holding now) now.stored.lost r)
+      → node_of (table_of d) r.task ≡ row f es → is_search f ≡ true → IsKnown now.known tag → context_of now.known tag ≡ r.task.context → space_of tag ≡ r.task.space
+      → NotesOrMisses now.noted noted r.task.node tag (key_noted f r.cursor).0 (key_noted f r.cursor).1 → Owns d (record now { noted = noted }) w
+  owns_notes demand noted r tag f es ready is search known context space notes = record {
+    stock = record {
+      stock = λ b m. stock_notes d b now.known (holding now) now.stored.lost now.noted noted r tag f es demand (owns.stock.stock b m) (ready b m) is search known context space notes;
+      drawn = owns.stock.drawn;
+      askable = owns.stock.askable;
+    };
+    keys = owns.keys;
+    contexts = owns.contexts;
+    since = record {
+      goes_on = since_then d.first now owns.since.goes_on now.known now.stored noted (known_itself now.known) (le_refl now.stored.lost);
+      reads_only = owns.since.reads_only;
+      few = owns.since.few;
+    };
+  }
+
+  -- Contexts that the root enters become known.
+  pub owns_enters : (known : List Context) → KeepsKnown now.known known → IsOneForOne known → ((b : Elements) → MayHave now b → (c : Context) → In c known → In c now.known ⊎ IsEntered d b c)
+      → Owns d (record now { known = known }) w
+  owns_enters known keeps contexts enters = record {
+    stock = record {
+      stock = λ b m. subst (λ h. StockFacts d b known h now.stored.lost now.noted) (sym same) (stock_enters d b now.known known (holding now) now.stored.lost now.noted (owns.stock.stock b m) keeps (enters b m));
+      drawn = owns.stock.drawn;
+      askable = owns.stock.askable;
+    };
+    keys = grown.0;
+    contexts = contexts;
+    since = record {
+      goes_on = since_then d.first now owns.since.goes_on known now.stored now.noted keeps (le_refl now.stored.lost);
+      reads_only = owns.since.reads_only;
+      few = owns.since.few;
+    };
+  }
+    where
+      grown : AreKeysKnown known now.stored × ((c : Daton) (s : ℕ) → held_in known now.stored c s ≡ held_in now.known now.stored c s)
+      grown = held_as_tags_grow now.known known now.stored keeps owns.keys
+
+      same : held_in known now.stored ≡ holding now
+      same = λ i c s. grown.1 c s i
+
+-- where a context was known, or is known now after all others, whatever is known was known or is this one
+pub added_cases : (old new : List Context) (c : Context) → AddsAtMost old new c → (x : Context) → In x new → In x old ⊎ (x ≡ c)
+added_cases old new c (inl e) x i = inl (subst (λ k. In x k) e i)
+added_cases old new c (inr e) x i = last old (subst (λ k. In x k) e i)
+  where
+    last : (k : List Context) → In x (k ++ c ∷ []) → In x k ⊎ (x ≡ c)
+    last [] (inl e) = inr e
+    last [] (inr j) = absurd j
+    last (y ∷ k) (inl e) = inl (inl e)
+    last (y ∷ k) (inr j) = elim (last k j) [ inl l ↦ inl (inr l) | inr e ↦ inr e ]
+
+-- where at most as many are held as the policy leaves, a put leaves few
+pub few_after : (room : Option ℕ) (old new : Stored) → WithinRoom room old → count_of new ≤ count_of old + 1 → HoldsFew room new
+few_after None old new within more = tt
+few_after (Some r) old new within more = omega (arith, within, more)
+
+-- and where no more is held
+pub few_where_fewer : (room : Option ℕ) (old new : Stored) → count_of new ≤ count_of old → HoldsFew room old → HoldsFew room new
+few_where_fewer None old new fewer few = tt
+few_where_fewer (Some r) old new fewer few = omega (arith, fewer, few)

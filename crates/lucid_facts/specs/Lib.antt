@@ -1,0 +1,14 @@
+pub mod Tasks
+pub mod Elements
+pub mod Parts
+pub mod Stands
+pub mod Held
+pub mod Engine
+pub mod EngineCode
+pub mod Demands
+pub mod Rows
+pub mod Stock
+pub mod Decisions
+pub mod Changes
+pub mod Measure
+pub mod Going
