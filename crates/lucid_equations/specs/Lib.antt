@@ -8,6 +8,8 @@ pub mod Moving
 pub mod Needs
 pub mod Rows
 pub mod Ranges
+pub mod Sound
+pub mod Counts
 pub mod Parts
 pub mod RowParts
 pub mod Looks

@@ -7,6 +7,9 @@ use Rattle.std.proofs.lemmas.Bool.Decides.{Decides-eqb}
 use Rattle.std.proofs.lemmas.Slice.Eq.{slice_eq-Decides}
 use Rattle.lucid_value.specs.Plain.{same_bytes}
 use Rattle.lucid_value.specs.Names.{is_reserved, reserved_words}
+use Rattle.lucid_ops.specs.declared.op.Op.{Op}
+use Rattle.lucid_ops.specs.declared.op.Op.TheVariants as op
+use Rattle.lucid_ops.specs.Rows.{operator_row}
 use Rattle.lucid_scan.specs.Texts.{is_mark, marks}
 use Rattle.lucid_parse.specs.declared.spelling.Spelling.{Spelling}
 use Rattle.lucid_parse.specs.Spellings.{fixed_plain, pair_of}
@@ -73,3 +76,9 @@ has_terminal bytes h e = of (is_mark bytes) refl h
     of : (b : Bool) → is_mark bytes ≡ b → (b || is_reserved bytes) ≡ true → ⊥
     of true m h = never (stands_of bytes marks marks_stand m)
     of false m h = never (stands_of bytes reserved_words words_stand h)
+
+-- the spelling of each data operator is a mark or a reserved word
+pub operators_are_tokens : (o : Op) → (is_mark (operator_row o).spelling || is_reserved (operator_row o).spelling) ≡ true
+unfolding reserved_words
+operators_are_tokens op.Add = refl
+operators_are_tokens _ = refl

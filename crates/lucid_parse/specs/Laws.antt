@@ -1,7 +1,11 @@
 -- What holds of all terminals and tokens.
-use Rattle.std.specs.Prelude.{◌≡◌, ℕ, List}
+use Rattle.std.specs.Prelude.{◌≡◌, ℕ, List, true, ◌||◌}
+use Rattle.lucid_value.specs.Names.{is_reserved}
+use Rattle.lucid_ops.specs.declared.op.Op.{Op}
+use Rattle.lucid_ops.specs.Rows.{operator_row}
 use Rattle.lucid_tree.specs.Tree.{PlainTree}
 use Rattle.lucid_scan.specs.declared.token.Token.{Token}
+use Rattle.lucid_scan.specs.Texts.{is_mark}
 use Rattle.lucid_parse.specs.Grammar.{PlacedTerminal, Spells}
 use Rattle.lucid_parse.specs.Terminals.{Terminals}
 use Rattle.lucid_parse.specs.Verdict.{IsFault}
@@ -22,3 +26,7 @@ TerminalsAreUnique = (source : List ℕ) (ts : List Token) (us ws : List PlacedT
 -- Tokens spell at most one tree.
 abbrev pub TokensSpellOneTree : Type 0
 TokensSpellOneTree = (source : List ℕ) (ts : List Token) (t u : PlainTree) → SpellsTree source ts t → SpellsTree source ts u → t ≡ u
+
+-- The spelling of each data operator is a token: a mark or a reserved word.
+abbrev pub OperatorsAreTokens : Type 0
+OperatorsAreTokens = (o : Op) → (is_mark (operator_row o).spelling || is_reserved (operator_row o).spelling) ≡ true

@@ -1,5 +1,5 @@
 //! What holds of all terminals and tokens.
-ghost use Rattle.lucid_parse.specs.Laws.{TerminalsSpellOneTree, FaultIsUnique, TerminalsAreUnique, TokensSpellOneTree};
+ghost use Rattle.lucid_parse.specs.Laws.{TerminalsSpellOneTree, FaultIsUnique, TerminalsAreUnique, TokensSpellOneTree, OperatorsAreTokens};
 
 use lucid_value::one_reading;
 
@@ -27,3 +27,9 @@ pub fn tokens_spell_one_tree()
 {
     terminals_are_unique();
 }
+
+/// The spelling of each data operator is a mark or a reserved word.
+#[tactic(auto, using(crate::proofs::Spellings::operators_are_tokens))]
+pub fn operators_are_tokens()
+    ensures { OperatorsAreTokens }
+{}

@@ -103,6 +103,7 @@ impl Warehouse {
         ensures count { OnOk result (count_of self.new ≡ count_of self.old + (if is_some (entry_at self.old key) then 0 else 1)) }
         ensures value_returned { IfErr result (λ v. v ≡ value) }
         ensures lost { OnErr result (self.new ≡ one_more_lost self.old) }
+        ensures no_less_lost { self.old.lost ≤ self.new.lost }
         ensures absent { OnErr result (entry_at self.old key ≡ None) }
     {
         match self.datons.put(key, value) {
