@@ -1,11 +1,9 @@
 -- What a tree adds, from what its parts add.
-use Rattle.std.proofs.Common.{◌≡◌, ℕ, suc, ◌+◌, ◌<◌, ◌≤◌, Bool, true, false, ◌&&◌, IsTrue, nat_eq, nat_lt, if◌then◌else◌, length, List, [], ◌∷◌, ◌++◌, take, get_or, Option, Some, None, Result, Ok, Err, IfOk, OnOk, refl, sym, ap, ◌∙◌, subst, arith, add-zero, take_all, length-take-le}
-use Rattle.std.proofs.lemmas.Bool.Decides.{nat_tests}
+use Rattle.std.proofs.Common.{◌≡◌, ℕ, suc, ◌+◌, ◌<◌, ◌≤◌, Bool, true, false, ◌&&◌, IsTrue, nat_eq, nat_lt, if◌then◌else◌, length, List, [], ◌∷◌, ◌++◌, take, drop, get_or, slice_get, Some, Result, Ok, Err, IfOk, OnOk, refl, sym, ap, ◌∙◌, subst, arith, add-zero, take_all, length-take-le}
 use Rattle.std.proofs.lemmas.List.{take_more}
 use Rattle.lucid_value.specs.Plain.{PlainValue}
 use Rattle.lucid_ops.specs.declared.op.Op.{Op}
-use Rattle.lucid_ops.specs.declared.op.Op.TheVariants.{Add, Sub, Mul, Div, Mod, Pow, Neg, Abs, Eq, Ne, Lt, Le, Gt, Ge, Cmp, Not, Head as HeadOp, Tail, Cons, Append, Join, Length, Substr, Nth, MakeWord, MakeString, IsInt, IsWord, IsString, IsList, IsTruth, IsNull, IsAtom, IsEod, IsError}
-use Rattle.lucid_tree.specs.WellMade.{fits_arity, is_shaped, are_shaped, defs_are_shaped}
+use Rattle.lucid_tree.specs.WellMade.{fits_arity, is_shaped}
 use Rattle.lucid_ops.specs.Arity.{arity}
 use Rattle.lucid_tree.specs.Tree.{Head, const, apply, choose, PlainTree, form, name, call, block, PlainTrees, no_trees, tree, PlainDefs, no_defs, defines, defines_function, defines_current}
 use Rattle.lucid_tree.specs.Size.{count}
@@ -15,27 +13,30 @@ use Rattle.lucid_tree.specs.declared.tree.Def.{Def}
 use Rattle.lucid_tree.specs.declared.tree.DefKind.{DefKind}
 use Rattle.lucid_tree.specs.declared.tree.DefKind.TheVariants.{Plain as PlainKind, Function as FunctionKind, Current as CurrentKind}
 use Rattle.lucid_scope.specs.Scoped.{scoped_inputs, scoped_binding}
-use Rattle.lucid_scope.specs.declared.scoped.Binding.{Binding}
-use Rattle.lucid_scope.specs.declared.scoped.Binding.TheVariants.{Plain as PlainName, Current as CurrentName, Parameter as ParameterName, Function as FunctionName, Input as InputName}
-use Rattle.lucid_equations.specs.Nodes.{PlainNode, PlainNodes, row, freeze, reference, invoke, no_nodes, node, plain_entry, current_entry, parameter_entry}
-use Rattle.lucid_compile.specs.Static.{Static, in_block, in_function, Site, freezes, level}
+use Rattle.lucid_equations.specs.Nodes.{PlainNode, PlainNodes, row, freeze, invoke, no_nodes, node, plain_entry, current_entry, parameter_entry}
+use Rattle.lucid_compile.specs.Static.{Static, in_block, freezes, frame, level, in_body}
 use Rattle.lucid_compile.specs.Places.{first_place}
-use Rattle.lucid_compile.specs.Listing.{Stand}
 use Rattle.lucid_equations.specs.Ranges.{EachBelow}
 use Rattle.lucid_equations.specs.Rows.{at as node_at_index, all_at, parts, as_node}
 use Rattle.lucid_equations.specs.declared.rows.Node.TheVariants.{Const, Apply, If, Freeze, Call}
+use Rattle.lucid_equations.specs.Sound.{ScopeIs, StandsIn, EachStandsIn, PartsStand, AreZero, IsFilled}
 use Rattle.lucid_equations.specs.declared.rows.Entry.TheVariants.{Plain, Parameter, Current}
 use Rattle.lucid_equations.specs.declared.rows.NodeRow.{NodeRow}
 use Rattle.lucid_equations.specs.declared.rows.PlaceRow.{PlaceRow}
 use Rattle.lucid_compile.specs.declared.building.Body.{Body}
-use Rattle.lucid_compile.specs.declared.numbering.Numbering.{Numbering}
+use Rattle.lucid_compile.specs.declared.building.Here.{Here}
+use Rattle.lucid_compile.proofs.Opening.{some-last, here-tree, here-trees, here-defs, here-parameters, here-scopes}
+use Rattle.lucid_equations.specs.declared.rows.ScopeRow.{ScopeRow}
+use Rattle.lucid_equations.specs.declared.rows.ScopeKind.TheVariants.{Called as CalledScope, Frozen as FrozenScope}
 use Rattle.lucid_compile.specs.Numbered.{name_mark, function_mark, call_number}
-use Rattle.lucid_compile.specs.Building.{Lists, with_name, with_place, with_body, OneConstant, OneNode}
-use Rattle.lucid_compile.specs.Bound.{Numbered, reference_by, node_by, name_node, callee_place, bound_node, bound_nodes, form_stand, name_stand, call_stand, block_stands, CallStand, FunctionStand, NodeStand, Log, with_nodes, with_call, with_parameters, added, added_all, added_defs}
+use Rattle.lucid_compile.specs.Building.{Lists, with_name, with_place, with_body, OneScope, OneConstant, OneNode}
+use Rattle.lucid_compile.specs.Bound.{Stand, Numbered, name_node, callee_place, bound_node, bound_nodes, form_stand, name_stand, call_stand, block_stands, CallStand, FunctionStand, NodeStand, Log, with_nodes, with_scopes, block_scopes, with_call, with_parameters, added, added_all, added_defs}
 use Rattle.lucid_compile.specs.Forms.{IsForm, AddsForm}
-use Rattle.lucid_compile.specs.Holds.{nodes_in, IsKnown, HasTarget, Holds, Grown, GrownTo, AllGrownTo, AddsTree, AddsTrees, AddsDefs}
+use Rattle.lucid_compile.specs.Holds.{nodes_in, IsKnown, IsOpen, StandsAt, Grown, GrownTo, AllGrownTo, AddsTree, AddsTrees, AddsDefs}
 use Rattle.lucid_compile.specs.Steps.{AddsParameters}
-use Rattle.lucid_compile.proofs.Growing.{no-nodes, at-kept, all_at-kept, grown-none, grown-then, push-grown, keep-grown, keep-constant, keep-known, define-grown, close-grown, place-grown, within-kept, each-kept}
+use Rattle.lucid_compile.proofs.Growing.{begins-then, scope-kept, stands-kept, each-stands-kept, no-nodes, no-scopes, open-grown, opened-is, parent-below, at-kept, all_at-kept, grown-none, grown-then, push-grown, keep-grown, keep-constant, keep-known, define-grown, close-grown, place-grown, within-kept, each-kept}
+use Rattle.lucid_compile.proofs.Shapes.{left-true, right-true, shaped-front, shaped-defs, few, as_many, freezes-front, freezes-last}
+use Rattle.lucid_compile.proofs.Named.{parts-own, named-stands, named-filled, named-means, named-known, named-parts}
 
 pub if_ok : {T E : Type 0} (r : Result T E) (P Q : T → Type 0) → IfOk r P → ((x : T) → P x → Q x) → IfOk r Q
 if_ok (Ok x) P Q h f = f x h
@@ -82,83 +83,6 @@ parameters-after k i (x ∷ ats) at g =
     let e : suc i + length ats ≡ i + suc (length ats) = omega arith in
     parameters-after k (suc i) ats at _ ∙ ap (λ j. with_parameters k j (at ∷ []) (with_parameters k i (x ∷ ats) g)) e
 
--- both tests hold
-pub left-true : (a b : Bool) → IsTrue (a && b) → IsTrue a
-left-true true b h = refl
-left-true false b h = h
-
-pub right-true : (a b : Bool) → IsTrue (a && b) → IsTrue b
-right-true true b h = h
-right-true false b h = absurd (cc)
-
-both-true : (a b : Bool) → IsTrue a → IsTrue b → IsTrue (a && b)
-both-true true b h g = g
-both-true false b h g = h
-
-shaped-front : (xs : List PlainTree) (x : PlainTree) → IsTrue (are_shaped (trees_of (xs ++ x ∷ []))) → IsTrue (are_shaped (trees_of xs)) × IsTrue (is_shaped x)
-shaped-front [] x h = (refl, left-true (is_shaped x) true h)
-shaped-front (y ∷ xs) x h =
-    let r = shaped-front xs x (right-true (is_shaped y) _ h) in
-    (both-true (is_shaped y) _ (left-true (is_shaped y) _ h) r.0, r.1)
-
-shaped-one : (d : Def) (ds : PlainDefs) (x : DefKind) → IsTrue (defs_are_shaped (def_of d.at d.name x ds)) → IsTrue (defs_are_shaped (def_of d.at d.name x no_defs)) × IsTrue (defs_are_shaped ds)
-shaped-one d ds (PlainKind e) h = (both-true (is_shaped e) true (left-true (is_shaped e) _ h) refl, right-true (is_shaped e) _ h)
-shaped-one d ds (FunctionKind ps ats e) h = (both-true _ true (left-true _ (defs_are_shaped ds) h) refl, right-true _ (defs_are_shaped ds) h)
-shaped-one d ds (CurrentKind e) h = (both-true (is_shaped e) true (left-true (is_shaped e) _ h) refl, right-true (is_shaped e) _ h)
-
-shaped-joined : (d : Def) (ds : PlainDefs) (x : DefKind) → IsTrue (defs_are_shaped (def_of d.at d.name x no_defs)) → IsTrue (defs_are_shaped ds) → IsTrue (defs_are_shaped (def_of d.at d.name x ds))
-shaped-joined d ds (PlainKind e) h g = both-true (is_shaped e) _ (left-true (is_shaped e) _ h) g
-shaped-joined d ds (FunctionKind ps ats e) h g = both-true _ (defs_are_shaped ds) (left-true _ true h) g
-shaped-joined d ds (CurrentKind e) h g = both-true (is_shaped e) _ (left-true (is_shaped e) _ h) g
-
-shaped-defs : (xs : List Def) (d : Def) → IsTrue (defs_are_shaped (defs_of (xs ++ d ∷ []))) → IsTrue (defs_are_shaped (defs_of xs)) × IsTrue (defs_are_shaped (one_def d no_defs))
-shaped-defs [] d h = (refl, h)
-shaped-defs (x ∷ xs) d h =
-    let s = shaped-one x (defs_of (xs ++ d ∷ [])) x.kind h in
-    let r = shaped-defs xs d s.1 in
-    (shaped-joined x (defs_of xs) x.kind s.0 r.0, r.1)
-
--- no operator has more than three arguments
-few : (op : Op) → arity op ≤ 3
-few Add = omega arith
-few Sub = omega arith
-few Mul = omega arith
-few Div = omega arith
-few Mod = omega arith
-few Pow = omega arith
-few Neg = omega arith
-few Abs = omega arith
-few Eq = omega arith
-few Ne = omega arith
-few Lt = omega arith
-few Le = omega arith
-few Gt = omega arith
-few Ge = omega arith
-few Cmp = omega arith
-few Not = omega arith
-few HeadOp = omega arith
-few Tail = omega arith
-few Cons = omega arith
-few Append = omega arith
-few Join = omega arith
-few Length = omega arith
-few Substr = omega arith
-few Nth = omega arith
-few MakeWord = omega arith
-few MakeString = omega arith
-few IsInt = omega arith
-few IsWord = omega arith
-few IsString = omega arith
-few IsList = omega arith
-few IsTruth = omega arith
-few IsNull = omega arith
-few IsAtom = omega arith
-few IsEod = omega arith
-few IsError = omega arith
-
-as_many : (n m : ℕ) → IsTrue (nat_eq n m) → n ≡ m
-as_many n m h = grind (arith, nat_tests)
-
 abbrev count-nodes : PlainNodes → ℕ
 count-nodes no_nodes = 0
 count-nodes (node x xs) = count-nodes xs + 1
@@ -175,128 +99,116 @@ count-bound w (tree e es) = ap (λ n. n + 1) (count-bound w es)
 pub next-taken : {A : Type 0} (xs : List A) (i : ℕ) (x : A) → i < length xs → x ≡ get_or xs i x → take (i + 1) xs ≡ take i xs ++ x ∷ []
 next-taken xs i x h is = take_more xs i x h ∙ ap (λ y. take i xs ++ y ∷ []) (sym is)
 
-count-same : (w : Numbered) (ts : List PlainNode) (ids : List ℕ) (es : PlainTrees) → all_at ts ids ≡ bound_nodes w es → length ids ≡ count es
+pub count-same : (w : Numbered) (ts : List PlainNode) (ids : List ℕ) (es : PlainTrees) → all_at ts ids ≡ bound_nodes w es → length ids ≡ count es
 count-same w ts ids es e = sym (count-at ts ids) ∙ ap count-nodes e ∙ count-bound w es
 
--- the row of a node that is a name
-named-means : (vs : List PlainValue) (inputs : List (List ℕ)) (ts : List PlainNode) (g : Numbering) (b : Option Binding) → as_node vs inputs ts (node_by g b) ≡ reference (reference_by g inputs b)
-named-means vs inputs ts g None = refl
-named-means vs inputs ts g (Some (PlainName d)) = refl
-named-means vs inputs ts g (Some (CurrentName d)) = refl
-named-means vs inputs ts g (Some (ParameterName d i)) = refl
-named-means vs inputs ts g (Some (FunctionName d)) = refl
-named-means vs inputs ts g (Some (InputName s)) = refl
+-- one number more stands there too
+each-stands-after : (rs : List NodeRow) (s : ℕ) (ids : List ℕ) (id : ℕ) → EachStandsIn rs s ids → StandsIn rs s id → EachStandsIn rs s (ids ++ id ∷ [])
+each-stands-after rs s [] id h b = (b, tt)
+each-stands-after rs s (i ∷ ids) id h b = (h.0, each-stands-after rs s ids id h.1 b)
 
-named-known : (n : ℕ) (g : Numbering) (b : Option Binding) → IsKnown n (node_by g b)
-named-known n g None = tt
-named-known n g (Some (PlainName d)) = tt
-named-known n g (Some (CurrentName d)) = tt
-named-known n g (Some (ParameterName d i)) = tt
-named-known n g (Some (FunctionName d)) = tt
-named-known n g (Some (InputName s)) = tt
-
-named-parts : (n : ℕ) (g : Numbering) (b : Option Binding) → EachBelow n (parts (node_by g b))
-named-parts n g None = tt
-named-parts n g (Some (PlainName d)) = tt
-named-parts n g (Some (CurrentName d)) = tt
-named-parts n g (Some (ParameterName d i)) = tt
-named-parts n g (Some (FunctionName d)) = tt
-named-parts n g (Some (InputName s)) = tt
+-- the row of a scope that was opened
+opened-row : (o n : Lists) (r : ScopeRow) (id : ℕ) → OneScope o n r id → slice_get n.scopes id ≡ Some r
+opened-row o n r id s = ap (λ (l : Lists). slice_get l.scopes id) s.lists ∙ ap (slice_get (o.scopes ++ r ∷ [])) s.number ∙ some-last o.scopes r
 
 module _ (w : Numbered) where
-  grown-on : (o m n : Lists) (g h : Log) (x : PlainNode) (id : ℕ) → Grown w o m g → GrownTo w m n h x id → GrownTo w o n h x id
-  grown-on o m n g h x id a b = record { grown = grown-then w o m n g h a b.grown; within = b.within; is = b.is }
+  grown-on : (o m n : Lists) (g h : Log) (x : PlainNode) (s id : ℕ) → Grown w o m g → GrownTo w m n h x s id → GrownTo w o n h x s id
+  grown-on o m n g h x s id a b = record { grown = grown-then w o m n g h a b.grown; within = b.within; is = b.is; stands = b.stands }
 
-  pub no_trees-added : (o : Lists) (d : ℕ) → AddsTrees w o o d no_trees []
-  no_trees-added o d = λ k g l t h. record { grown = grown-none w o g h; within = tt; are = refl }
+  pub no_trees-added : (o : Lists) (d : Here) → AddsTrees w o o d no_trees []
+  no_trees-added o d = λ k g l t h. record { grown = grown-none w o g h; within = tt; are = refl; stand = tt }
 
-  pub trees-one : (o m n : Lists) (d : ℕ) (xs : List PlainTree) (ids : List ℕ) (x : PlainTree) (id : ℕ) → AddsTrees w o m d (trees_of xs) ids → AddsTree w m n d x id → AddsTrees w o n d (trees_of (xs ++ x ∷ [])) (ids ++ id ∷ [])
+  pub trees-one : (o m n : Lists) (d : Here) (xs : List PlainTree) (ids : List ℕ) (x : PlainTree) (id : ℕ) → AddsTrees w o m d (trees_of xs) ids → AddsTree w m n d x id → AddsTrees w o n d (trees_of (xs ++ x ∷ [])) (ids ++ id ∷ [])
   trees-one o m n d xs ids x id a b = λ k g l t h.
       let s = shaped-front xs x t in
-      let p : AllGrownTo w o m (added_all w k (trees_of xs) g) (bound_nodes w (trees_of xs)) ids = a k g l s.0 h in
-      let q : GrownTo w m n (added w k x (added_all w k (trees_of xs) g)) (bound_node w x) id = b k (added_all w k (trees_of xs) g) l s.1 p.grown.holds in
-      subst (λ z. AllGrownTo w o n z (bound_nodes w (trees_of (xs ++ x ∷ []))) (ids ++ id ∷ [])) (sym (added-after w k xs x g)) (record {
+      let p : AllGrownTo w o m (added_all w k (trees_of xs) g) (bound_nodes w (trees_of xs)) d.scope ids = a k g l s.0 h in
+      let q : GrownTo w m n (added w k x (added_all w k (trees_of xs) g)) (bound_node w x) d.scope id = b k (added_all w k (trees_of xs) g) (here-trees w k d k (trees_of xs) g l) s.1 p.grown.holds in
+      subst (λ z. AllGrownTo w o n z (bound_nodes w (trees_of (xs ++ x ∷ []))) d.scope (ids ++ id ∷ [])) (sym (added-after w k xs x g)) (record {
         grown = grown-then w o m n _ _ p.grown q.grown;
         within = each-after _ ids id (each-kept (nodes_in w m) (nodes_in w n) q.grown.begins ids p.within) q.within;
         are = all_at-after (nodes_in w n) ids id ∙ (λ j. after ((all_at-kept (nodes_in w m) (nodes_in w n) ids q.grown.begins p.within ∙ p.are) j) (q.is j)) ∙ sym (bound-after w xs x);
+        stand = each-stands-after n.nodes d.scope ids id (each-stands-kept m.nodes n.nodes q.grown.rows d.scope ids p.stand) q.stands;
       })
 
-  pub trees-more : (o m n : Lists) (d : ℕ) (xs : List PlainTree) (i : ℕ) (x : PlainTree) (ids more : List ℕ) (id : ℕ) → i < length xs → x ≡ get_or xs i x → more ≡ ids ++ id ∷ [] → AddsTrees w o m d (trees_of (take i xs)) ids → AddsTree w m n d x id → AddsTrees w o n d (trees_of (take (i + 1) xs)) more
+  pub trees-more : (o m n : Lists) (d : Here) (xs : List PlainTree) (i : ℕ) (x : PlainTree) (ids more : List ℕ) (id : ℕ) → i < length xs → x ≡ get_or xs i x → more ≡ ids ++ id ∷ [] → AddsTrees w o m d (trees_of (take i xs)) ids → AddsTree w m n d x id → AddsTrees w o n d (trees_of (take (i + 1) xs)) more
   trees-more o m n d xs i x ids more id h is e a b =
       subst (λ ys. AddsTrees w o n d (trees_of ys) more) (sym (next-taken xs i x h is)) (subst (AddsTrees w o n d (trees_of (take i xs ++ x ∷ []))) (sym e) (trees-one o m n d (take i xs) ids x id a b))
 
-  pub trees-done : (o n : Lists) (d : ℕ) (xs : List PlainTree) (es : PlainTrees) (i : ℕ) (ids : List ℕ) → length xs ≤ i → trees_of xs ≡ es → AddsTrees w o n d (trees_of (take i xs)) ids → AddsTrees w o n d es ids
+  pub trees-done : (o n : Lists) (d : Here) (xs : List PlainTree) (es : PlainTrees) (i : ℕ) (ids : List ℕ) → length xs ≤ i → trees_of xs ≡ es → AddsTrees w o n d (trees_of (take i xs)) ids → AddsTrees w o n d es ids
   trees-done o n d xs es i ids h e a = subst (λ z. AddsTrees w o n d z ids) (ap trees_of (take_all i xs h) ∙ e) a
 
   -- a first part, and then others
-  pub tree-then : (o m n : Lists) (d : ℕ) (e : PlainTree) (es : PlainTrees) (id : ℕ) (ids : List ℕ) → AddsTree w o m d e id → AddsTrees w m n d es ids → AddsTrees w o n d (tree e es) (id ∷ ids)
+  pub tree-then : (o m n : Lists) (d : Here) (e : PlainTree) (es : PlainTrees) (id : ℕ) (ids : List ℕ) → AddsTree w o m d e id → AddsTrees w m n d es ids → AddsTrees w o n d (tree e es) (id ∷ ids)
   tree-then o m n d e es id ids a b = λ k g l t h.
-      let p : GrownTo w o m (added w k e g) (bound_node w e) id = a k g l (left-true (is_shaped e) _ t) h in
-      let q : AllGrownTo w m n (added_all w k es (added w k e g)) (bound_nodes w es) ids = b k (added w k e g) l (right-true (is_shaped e) _ t) p.grown.holds in
+      let p : GrownTo w o m (added w k e g) (bound_node w e) d.scope id = a k g l (left-true (is_shaped e) _ t) h in
+      let q : AllGrownTo w m n (added_all w k es (added w k e g)) (bound_nodes w es) d.scope ids = b k (added w k e g) (here-tree w k d k e g l) (right-true (is_shaped e) _ t) p.grown.holds in
       record {
         grown = grown-then w o m n _ _ p.grown q.grown;
         within = (within-kept (nodes_in w m) (nodes_in w n) q.grown.begins id p.within, q.within);
         are = λ j. node ((at-kept (nodes_in w m) (nodes_in w n) id q.grown.begins p.within ∙ p.is) j) (q.are j);
+        stand = (stands-kept m.nodes n.nodes q.grown.rows d.scope id p.stands, q.stand);
       }
 
-  pub tree-alone : (o n : Lists) (d : ℕ) (e : PlainTree) (id : ℕ) → AddsTree w o n d e id → AddsTrees w o n d (tree e no_trees) (id ∷ [])
+  pub tree-alone : (o n : Lists) (d : Here) (e : PlainTree) (id : ℕ) → AddsTree w o n d e id → AddsTrees w o n d (tree e no_trees) (id ∷ [])
   tree-alone o n d e id a = tree-then o n n d e no_trees id [] a (no_trees-added n d)
 
-  pub tree-pair : (o m n : Lists) (d : ℕ) (a b : PlainTree) (i j : ℕ) → AddsTree w o m d a i → AddsTree w m n d b j → AddsTrees w o n d (tree a (tree b no_trees)) (i ∷ j ∷ [])
+  pub tree-pair : (o m n : Lists) (d : Here) (a b : PlainTree) (i j : ℕ) → AddsTree w o m d a i → AddsTree w m n d b j → AddsTrees w o n d (tree a (tree b no_trees)) (i ∷ j ∷ [])
   tree-pair o m n d a b i j x y = tree-then o m n d a (tree b no_trees) i (j ∷ []) x (tree-alone m n d b j y)
 
   -- a form with these parts
-  form-added : (o m n : Lists) (d : ℕ) (f : Head) (es : PlainTrees) (ids : List ℕ) (r : NodeRow) (id : ℕ) → AddsTrees w o m d es ids → OneNode m n r id → IsForm f ids r.node → AddsForm w o n d f es id
-  form-added o m n d f es ids r id a s is = λ k g l t h.
-      let p : AllGrownTo w o m (added_all w k es g) (bound_nodes w es) ids = a k g l (right-true (fits_arity f es) _ t) h in
-      grown-on o m n _ _ _ id p.grown
-      (subst (λ z. GrownTo w m n (with_nodes (form_stand k ∷ []) (added_all w k es g)) z id) (is.means m.constants (scoped_inputs w.scoped) (nodes_in w m) ∙ ap (row f) p.are)
-      (push-grown w m n (added_all w k es g) r (form_stand k) id p.grown.holds s (is.known (length m.constants)) (subst (EachBelow (length (nodes_in w m))) (sym is.parts_are) p.within) is.alone))
+  form-added : (o m n : Lists) (d : Here) (f : Head) (es : PlainTrees) (ids : List ℕ) (r : NodeRow) (id : ℕ) → AddsTrees w o m d es ids → OneNode m n r id → IsForm f ids r.node → r.scope ≡ d.scope → AddsForm w o n d f es id
+  form-added o m n d f es ids r id a s is here = λ k g l t h.
+      let p : AllGrownTo w o m (added_all w k es g) (bound_nodes w es) d.scope ids = a k g l (right-true (fits_arity f es) _ t) h in
+      grown-on o m n _ _ _ _ id p.grown
+      (subst (λ y. GrownTo w m n (with_nodes (form_stand k ∷ []) (added_all w k es g)) (row f (bound_nodes w es)) y id) here (subst (λ z. GrownTo w m n (with_nodes (form_stand k ∷ []) (added_all w k es g)) z r.scope id) (is.means m.constants (scoped_inputs w.scoped) (nodes_in w m) ∙ ap (row f) p.are)
+      (push-grown w m n (added_all w k es g) r (form_stand k) id p.grown.holds s (is.known (length m.constants)) (subst (EachBelow (length (nodes_in w m))) (sym is.parts_are) p.within) is.alone (subst (λ y. IsOpen (added_all w k es g).scopes y k) (sym here) (here-trees w k d k es g l).1)
+      (parts-own m.scopes m.nodes r.scope r.node is.own (subst (λ y. EachStandsIn m.nodes y (parts r.node)) (sym here) (subst (EachStandsIn m.nodes d.scope) (sym is.parts_are) p.stand))) is.filled)))
 
-  pub unary-added : (o m n : Lists) (d : ℕ) (f : Head) (e : PlainTree) (i : ℕ) (r : NodeRow) (id : ℕ) → AddsTree w o m d e i → IsForm f (i ∷ []) r.node → OneNode m n r id → AddsForm w o n d f (tree e no_trees) id
-  unary-added o m n d f e i r id a is s = form-added o m n d f (tree e no_trees) (i ∷ []) r id (tree-alone o m d e i a) s is
+  pub unary-added : (o m n : Lists) (d : Here) (f : Head) (e : PlainTree) (i : ℕ) (r : NodeRow) (id : ℕ) → AddsTree w o m d e i → IsForm f (i ∷ []) r.node → OneNode m n r id → r.scope ≡ d.scope → AddsForm w o n d f (tree e no_trees) id
+  unary-added o m n d f e i r id a is s here = form-added o m n d f (tree e no_trees) (i ∷ []) r id (tree-alone o m d e i a) s is here
 
-  pub binary-added : (o m l n : Lists) (d : ℕ) (f : Head) (a b : PlainTree) (i j : ℕ) (r : NodeRow) (id : ℕ) → AddsTree w o m d a i → AddsTree w m l d b j → IsForm f (i ∷ j ∷ []) r.node → OneNode l n r id → AddsForm w o n d f (tree a (tree b no_trees)) id
-  binary-added o m l n d f a b i j r id x y is s = form-added o l n d f (tree a (tree b no_trees)) (i ∷ j ∷ []) r id (tree-pair o m l d a b i j x y) s is
+  pub binary-added : (o m l n : Lists) (d : Here) (f : Head) (a b : PlainTree) (i j : ℕ) (r : NodeRow) (id : ℕ) → AddsTree w o m d a i → AddsTree w m l d b j → IsForm f (i ∷ j ∷ []) r.node → OneNode l n r id → r.scope ≡ d.scope → AddsForm w o n d f (tree a (tree b no_trees)) id
+  binary-added o m l n d f a b i j r id x y is s here = form-added o l n d f (tree a (tree b no_trees)) (i ∷ j ∷ []) r id (tree-pair o m l d a b i j x y) s is here
 
-  pub choice-added : (o m l p n : Lists) (d : ℕ) (a b c : PlainTree) (i j q scope id : ℕ) → AddsTree w o m d a i → AddsTree w m l d b j → AddsTree w l p d c q → OneNode p n (record { scope = scope; node = If i j q }) id → AddsForm w o n d choose (tree a (tree b (tree c no_trees))) id
-  choice-added o m l p n d a b c i j q scope id x y z s =
-      form-added o p n d choose (tree a (tree b (tree c no_trees))) (i ∷ j ∷ q ∷ []) (record { scope = scope; node = If i j q }) id
-      (tree-then o m p d a (tree b (tree c no_trees)) i (j ∷ q ∷ []) x (tree-pair m l p d b c j q y z)) s (record { means = λ vs ns ts. refl; known = λ n. tt; parts_are = refl; alone = tt })
+  pub choice-added : (o m l p n : Lists) (d : Here) (a b c : PlainTree) (i j q id : ℕ) → AddsTree w o m d a i → AddsTree w m l d b j → AddsTree w l p d c q → OneNode p n (record { scope = d.scope; node = If i j q }) id → AddsForm w o n d choose (tree a (tree b (tree c no_trees))) id
+  choice-added o m l p n d a b c i j q id x y z s =
+      form-added o p n d choose (tree a (tree b (tree c no_trees))) (i ∷ j ∷ q ∷ []) (record { scope = d.scope; node = If i j q }) id
+      (tree-then o m p d a (tree b (tree c no_trees)) i (j ∷ q ∷ []) x (tree-pair m l p d b c j q y z)) s (record { means = λ vs ns ts. refl; known = λ n. tt; parts_are = refl; alone = tt; own = tt; filled = tt }) refl
 
-  pub apply-added : (o m n : Lists) (d : ℕ) (op : Op) (es : PlainTrees) (ids args : List ℕ) (scope id : ℕ) → AddsTrees w o m d es ids → (length ids ≤ 3 → take (length ids) args ≡ ids) → OneNode m n (record { scope = scope; node = Apply op args }) id → AddsForm w o n d (apply op (count es)) es id
-  apply-added o m n d op es ids args scope id a takes s = λ k g l t h.
-      let p : AllGrownTo w o m (added_all w k es g) (bound_nodes w es) ids = a k g l (right-true (nat_eq (count es) (arity op)) _ t) h in
+  pub apply-added : (o m n : Lists) (d : Here) (op : Op) (es : PlainTrees) (ids args : List ℕ) (id : ℕ) → AddsTrees w o m d es ids → (length ids ≤ 3 → take (length ids) args ≡ ids) → AreZero (drop (length ids) args) → OneNode m n (record { scope = d.scope; node = Apply op args }) id → AddsForm w o n d (apply op (count es)) es id
+  apply-added o m n d op es ids args id a takes zeros s = λ k g l t h.
+      let p : AllGrownTo w o m (added_all w k es g) (bound_nodes w es) d.scope ids = a k g l (right-true (nat_eq (count es) (arity op)) _ t) h in
       let same : length ids ≡ count es = count-same w (nodes_in w m) ids es p.are in
       let fits : length ids ≡ arity op = same ∙ as_many (count es) (arity op) (left-true (nat_eq (count es) (arity op)) _ t) in
       let taken : take (length ids) args ≡ ids = takes (omega (arith, fits, few op)) in
-      form-added o m n d (apply op (count es)) es ids (record { scope = scope; node = Apply op args }) id a s
-      (record { means = λ vs ns ts j. row (apply op ((sym fits ∙ same) j)) (all_at ts ((ap (λ z. take z args) (sym fits) ∙ taken) j)); known = λ n. tt; parts_are = ap (λ z. take z args) (sym fits) ∙ taken; alone = tt }) k g l t h
+      form-added o m n d (apply op (count es)) es ids (record { scope = d.scope; node = Apply op args }) id a s
+      (record { means = λ vs ns ts j. row (apply op ((sym fits ∙ same) j)) (all_at ts ((ap (λ z. take z args) (sym fits) ∙ taken) j)); known = λ n. tt; parts_are = ap (λ z. take z args) (sym fits) ∙ taken; alone = tt; own = tt; filled = subst (λ z. AreZero (drop z args)) fits zeros }) refl k g l t h
 
-  pub const-added : (o m n : Lists) (d at : ℕ) (v : PlainValue) (scope c id : ℕ) → OneConstant o m v c → OneNode m n (record { scope = scope; node = Const c }) id → AddsTree w o n d (form at (const v) no_trees) id
-  const-added o m n d at v scope c id a s = λ k g l t h.
+  pub const-added : (o m n : Lists) (d : Here) (at : ℕ) (v : PlainValue) (c id : ℕ) → OneConstant o m v c → OneNode m n (record { scope = d.scope; node = Const c }) id → AddsTree w o n d (form at (const v) no_trees) id
+  const-added o m n d at v c id a s = λ k g l t h.
       let p : Grown w o m g = keep-grown w o m g v c h a in
-      grown-on o m n _ _ _ id p
-      (subst (λ z. GrownTo w m n (with_nodes (form_stand k ∷ []) g) z id) (ap (λ x. row (const x) no_nodes) (keep-constant w o m v c a)) (push-grown w m n g (record { scope = scope; node = Const c }) (form_stand k) id p.holds s (keep-known w o m v c a) tt tt))
+      grown-on o m n _ _ _ _ id p
+      (subst (λ z. GrownTo w m n (with_nodes (form_stand k ∷ []) g) z d.scope id) (ap (λ x. row (const x) no_nodes) (keep-constant w o m v c a)) (push-grown w m n g (record { scope = d.scope; node = Const c }) (form_stand k) id p.holds s (keep-known w o m v c a) tt tt l.1 tt tt))
 
-  pub name-added : (o n : Lists) (d at : ℕ) (x : List ℕ) (r : NodeRow) (id : ℕ) → r.node ≡ name_node w at → OneNode o n r id → AddsTree w o n d (name at x) id
-  name-added o n d at x r id is s = λ k g l t h.
+  pub name-added : (o n : Lists) (d : Here) (at : ℕ) (x : List ℕ) (r : NodeRow) (id : ℕ) → r.node ≡ name_node w at → r.scope ≡ d.scope → OneNode o n r id → AddsTree w o n d (name at x) id
+  name-added o n d at x r id is here s = λ k g l t h.
       let b = scoped_binding w.scoped at in
-      subst (λ z. GrownTo w o n (with_nodes (name_stand k at ∷ []) g) z id) (ap (as_node o.constants (scoped_inputs w.scoped) (nodes_in w o)) is ∙ named-means o.constants (scoped_inputs w.scoped) (nodes_in w o) w.numbering b)
-      (push-grown w o n g r (name_stand k at) id h s (subst (IsKnown (length o.constants)) (sym is) (named-known (length o.constants) w.numbering b)) (subst (λ x. EachBelow (length (nodes_in w o)) (parts x)) (sym is) (named-parts (length (nodes_in w o)) w.numbering b)) is)
+      subst (λ y. GrownTo w o n (with_nodes (name_stand k at ∷ []) g) (bound_node w (name at x)) y id) here (subst (λ z. GrownTo w o n (with_nodes (name_stand k at ∷ []) g) z r.scope id) (ap (as_node o.constants (scoped_inputs w.scoped) (nodes_in w o)) is ∙ named-means o.constants (scoped_inputs w.scoped) (nodes_in w o) w.numbering b)
+      (push-grown w o n g r (name_stand k at) id h s (subst (IsKnown (length o.constants)) (sym is) (named-known (length o.constants) w.numbering b)) (subst (λ x. EachBelow (length (nodes_in w o)) (parts x)) (sym is) (named-parts (length (nodes_in w o)) w.numbering b)) is
+      (subst (λ y. IsOpen g.scopes y k) (sym here) l.1) (subst (PartsStand o.scopes o.nodes r.scope) (sym is) (named-stands o.scopes o.nodes r.scope w.numbering b)) (subst IsFilled (sym is) (named-filled w.numbering b))))
 
-  pub call-added : (o m l n : Lists) (d at : ℕ) (x : List ℕ) (es : PlainTrees) (ids : List ℕ) (p : PlaceRow) (q scope number depth id : ℕ) → AddsTrees w o m d es ids → l ≡ with_place p at m → p.actuals ≡ ids → q ≡ call_number w.numbering (first_place es)
+  pub call-added : (o m l n : Lists) (d : Here) (at : ℕ) (x : List ℕ) (es : PlainTrees) (ids : List ℕ) (p : PlaceRow) (q number depth id : ℕ) → AddsTrees w o m d es ids → l ≡ with_place p at m → p.actuals ≡ ids → p.scope ≡ d.scope → p.name ≡ (name_mark w.numbering at).number → q ≡ call_number w.numbering (first_place es)
       → number ≡ (name_mark w.numbering at).number → depth ≡ (function_mark w.numbering (callee_place (scoped_binding w.scoped at))).level
-      → OneNode l n (record { scope = scope; node = Call number q depth }) id → AddsTree w o n d (call at x es) id
-  call-added o m l n d at x es ids p q scope number depth id a b actuals place is_number is_depth s = λ k g e u h.
-      let r : AllGrownTo w o m (added_all w k es g) (bound_nodes w es) ids = a k g e u h in
-      let c : CallStand = record { at = at; name = x; home = k } in
-      let t : Site = record { actuals = es; caller = k } in
+      → OneNode l n (record { scope = d.scope; node = Call number q depth }) id → AddsTree w o n d (call at x es) id
+  call-added o m l n d at x es ids p q number depth id a b actuals here named place is_number is_depth s = λ k g e u h.
+      let r : AllGrownTo w o m (added_all w k es g) (bound_nodes w es) d.scope ids = a k g e u h in
+      let on : StandsAt (added_all w k es g) k d = here-trees w k d k es g e in
+      let c : CallStand = record { at = at; actuals = es; home = k } in
       let v : NodeStand = call_stand k at (first_place es) in
-      let z : Log = with_call c t (added_all w k es g) in
-      let y : Grown w m l z = place-grown w m l (added_all w k es g) c t p r.grown.holds b (subst (EachBelow (length (nodes_in w m))) (sym actuals) r.within) (ap (all_at (nodes_in w m)) actuals ∙ r.are) in
-      grown-on o l n _ _ _ id (grown-then w o m l _ _ r.grown y)
-      (subst (λ b. GrownTo w l n (with_nodes (v ∷ []) z) b id) (λ j. invoke (is_number j) (place j) (is_depth j)) (push-grown w l n z (record { scope = scope; node = Call number q depth }) v id y.holds s tt tt (λ j. Call (is_number j) (place j) (is_depth j))))
+      let z : Log = with_call c (added_all w k es g) in
+      let y : Grown w m l z = place-grown w m l (added_all w k es g) c p r.grown.holds b (subst (EachBelow (length (nodes_in w m))) (sym actuals) r.within) (ap (all_at (nodes_in w m)) actuals ∙ r.are) (subst (λ y. IsOpen (added_all w k es g).scopes y k) (sym here) on.1) named (subst (λ y. EachStandsIn m.nodes y p.actuals) (sym here) (subst (EachStandsIn m.nodes d.scope) (sym actuals) r.stand)) in
+      grown-on o l n _ _ _ _ id (grown-then w o m l _ _ r.grown y)
+      (subst (λ b. GrownTo w l n (with_nodes (v ∷ []) z) b d.scope id) (λ j. invoke (is_number j) (place j) (is_depth j)) (push-grown w l n z (record { scope = d.scope; node = Call number q depth }) v id y.holds s tt tt (λ j. Call (is_number j) (place j) (is_depth j)) on.1 tt tt))
 
   level-frozen : (b : Bool) (n m : ℕ) → b ≡ true → n ≡ m → (if b then suc n else n) ≡ m + 1
   level-frozen b n m e h = rw e (omega (arith, h))
@@ -304,83 +216,111 @@ module _ (w : Numbered) where
   level-open : (b : Bool) (n m : ℕ) → b ≡ false → n ≡ m → (if b then suc n else n) ≡ m
   level-open b n m e h = rw e h
 
-  pub frozen-added : (o m l n : Lists) (d at : ℕ) (e : PlainTree) (ds : PlainDefs) (i scope id : ℕ) → freezes ds ≡ true → AddsTree w o m (d + 1) e i → AddsDefs w m l (d + 1) d ds → OneNode l n (record { scope = scope; node = Freeze i }) id → AddsTree w o n d (block at e ds) id
-  frozen-added o m l n d at e ds i scope id f a b s = λ k g q u h.
-      let inside : level (in_block ds k) ≡ d + 1 = level-frozen (freezes ds) (level k) d f q in
-      let r : GrownTo w o m (added w (in_block ds k) e g) (bound_node w e) i = a (in_block ds k) g inside (left-true (is_shaped e) _ u) h in
-      let z : Log = added_defs w (in_block ds k) k ds (added w (in_block ds k) e g) in
-      let t : Grown w m l z = b (in_block ds k) k (added w (in_block ds k) e g) inside q (right-true (is_shaped e) _ u) r.grown.holds in
-      grown-on o l n _ _ _ id (grown-then w o m l _ _ r.grown t)
-      (subst (λ b. GrownTo w l n (with_nodes (block_stands b k) z) (if b then freeze (bound_node w e) else bound_node w e) id) (sym f)
-      (subst (λ x. GrownTo w l n (with_nodes (form_stand k ∷ []) z) x id) (ap freeze (at-kept (nodes_in w m) (nodes_in w l) i t.begins r.within ∙ r.is)) (push-grown w l n z (record { scope = scope; node = Freeze i }) (form_stand k) id t.holds s tt (within-kept (nodes_in w m) (nodes_in w l) t.begins i r.within, tt) tt)))
+  not-both : (b : Bool) → b ≡ true → b ≡ false → ⊥
+  not-both b x y =
+      let q : true ≡ false = sym x ∙ y in
+      cc
 
-  -- the same with a scope that was opened
-  pub frozen-opened : (o p m l n : Lists) (d inner at : ℕ) (e : PlainTree) (ds : PlainDefs) (i scope id : ℕ) → freezes ds ≡ true → p ≡ o → inner ≡ d + 1 → AddsTree w p m inner e i → AddsDefs w m l inner d ds → OneNode l n (record { scope = scope; node = Freeze i }) id → AddsTree w o n d (block at e ds) id
-  frozen-opened o p m l n d inner at e ds i scope id f same depth a b s =
-      frozen-added o m l n d at e ds i scope id f (subst (λ z. AddsTree w z m (d + 1) e i) same (subst (λ z. AddsTree w p m z e i) depth a)) (subst (λ z. AddsDefs w m l z d ds) depth b) s
+  frame-frozen : (b : Bool) (k q : Static) → b ≡ true → (if b then k else q) ≡ k
+  frame-frozen b k q e = rw e refl
 
-  pub open-added : (o m l : Lists) (d at : ℕ) (e : PlainTree) (ds : PlainDefs) (i : ℕ) → freezes ds ≡ false → AddsTree w o m d e i → AddsDefs w m l d d ds → AddsTree w o l d (block at e ds) i
+  frame-open : (b : Bool) (k q : Static) → b ≡ false → (if b then k else q) ≡ q
+  frame-open b k q e = rw e refl
+
+  -- in a scope that was opened
+  pub frozen-opened : (o p m l n : Lists) (d inner : Here) (at : ℕ) (e : PlainTree) (ds : PlainDefs) (i id : ℕ) → freezes ds ≡ true → OneScope o p (record { parent = d.scope; kind = FrozenScope }) inner.scope → inner.level ≡ d.level + 1 → AddsTree w p m inner e i → AddsDefs w m l inner d ds
+      → OneNode l n (record { scope = d.scope; node = Freeze i }) id → AddsTree w o n d (block at e ds) id
+  frozen-opened o p m l n d inner at e ds i id f opens depth a b s = λ k g q u h.
+      let y : Static = in_block ds k in
+      let x : ScopeRow = record { parent = d.scope; kind = FrozenScope } in
+      let own : frame y ≡ y = frame-frozen (freezes ds) y (frame k) f in
+      let first : Log = with_scopes (y ∷ []) g in
+      let v : Grown w o p first = open-grown w o p g y x inner.scope h opens (refl, parent-below w o p g x inner.scope d.scope k h opens q.1, q.1) in
+      let inside : StandsAt first y inner = (level-frozen (freezes ds) (level k) d.level f q.0 ∙ sym depth, opened-is w o p g y x inner.scope h opens own) in
+      let r : GrownTo w p m (added w y e first) (bound_node w e) inner.scope i = a y first inside (left-true (is_shaped e) _ u) v.holds in
+      let z : Log = added_defs w y k ds (added w y e first) in
+      let on : StandsAt (added w y e first) k d = here-tree w k d y e first (here-scopes w k d (y ∷ []) g q) in
+      let row : ScopeIs p.scopes inner.scope d.scope FrozenScope = opened-row o p x inner.scope opens in
+      let t : Grown w m l z = b y k (added w y e first) (here-tree w y inner y e first inside) on (λ _. scope-kept p.scopes m.scopes r.grown.outer inner.scope d.scope FrozenScope row) (right-true (is_shaped e) _ u) r.grown.holds in
+      let last : StandsAt z k d = here-defs w k d y k ds (added w y e first) on in
+      subst (λ c. GrownTo w o n (with_nodes (block_stands c k) (added_defs w y k ds (added w y e (with_scopes (block_scopes c y) g)))) (if c then freeze (bound_node w e) else bound_node w e) d.scope id) (sym f)
+      (grown-on o l n _ _ _ _ id (grown-then w o p l _ _ v (grown-then w p m l _ _ r.grown t))
+      (subst (λ c. GrownTo w l n (with_nodes (form_stand k ∷ []) z) c d.scope id) (ap freeze (at-kept (nodes_in w m) (nodes_in w l) i t.begins r.within ∙ r.is))
+      (push-grown w l n z (record { scope = d.scope; node = Freeze i }) (form_stand k) id t.holds s tt (within-kept (nodes_in w m) (nodes_in w l) t.begins i r.within, tt) tt last.1 (inner.scope, scope-kept p.scopes l.scopes (begins-then p.scopes m.scopes l.scopes r.grown.outer t.outer) inner.scope d.scope FrozenScope row, stands-kept m.nodes l.nodes t.rows inner.scope i r.stands) tt)))
+
+  pub open-added : (o m l : Lists) (d : Here) (at : ℕ) (e : PlainTree) (ds : PlainDefs) (i : ℕ) → freezes ds ≡ false → AddsTree w o m d e i → AddsDefs w m l d d ds → AddsTree w o l d (block at e ds) i
   open-added o m l d at e ds i f a b = λ k g q u h.
-      let inside : level (in_block ds k) ≡ d = level-open (freezes ds) (level k) d f q in
-      let r : GrownTo w o m (added w (in_block ds k) e g) (bound_node w e) i = a (in_block ds k) g inside (left-true (is_shaped e) _ u) h in
-      let z : Log = added_defs w (in_block ds k) k ds (added w (in_block ds k) e g) in
-      let t : Grown w m l z = b (in_block ds k) k (added w (in_block ds k) e g) inside q (right-true (is_shaped e) _ u) r.grown.holds in
-      subst (λ b. GrownTo w o l (with_nodes (block_stands b k) z) (if b then freeze (bound_node w e) else bound_node w e) i) (sym f)
-      (subst (λ x. GrownTo w o l x (bound_node w e) i) (sym (no-nodes z)) (record {
+      let y : Static = in_block ds k in
+      let same : frame y ≡ frame k = frame-open (freezes ds) y (frame k) f in
+      let inside : StandsAt g y d = (level-open (freezes ds) (level k) d.level f q.0, q.1 ∙ ap Some (sym same)) in
+      let r : GrownTo w o m (added w y e g) (bound_node w e) d.scope i = a y g inside (left-true (is_shaped e) _ u) h in
+      let z : Log = added_defs w y k ds (added w y e g) in
+      let t : Grown w m l z = b y k (added w y e g) (here-tree w y d y e g inside) (here-tree w k d y e g q) (λ x. absurd (not-both (freezes ds) x f)) (right-true (is_shaped e) _ u) r.grown.holds in
+      subst (λ c. GrownTo w o l (with_nodes (block_stands c k) (added_defs w y k ds (added w y e (with_scopes (block_scopes c y) g)))) (if c then freeze (bound_node w e) else bound_node w e) d.scope i) (sym f)
+      (subst (λ x. GrownTo w o l (with_nodes [] (added_defs w y k ds (added w y e x))) (bound_node w e) d.scope i) (sym (no-scopes g)) (subst (λ x. GrownTo w o l x (bound_node w e) d.scope i) (sym (no-nodes z)) (record {
         grown = grown-then w o m l _ _ r.grown t;
         within = within-kept (nodes_in w m) (nodes_in w l) t.begins i r.within;
         is = at-kept (nodes_in w m) (nodes_in w l) i t.begins r.within ∙ r.is;
-      }))
+        stands = stands-kept m.nodes l.nodes t.rows d.scope i r.stands;
+      })))
 
   -- definitions
 
-  pub no_defs-added : (o : Lists) (i d : ℕ) → AddsDefs w o o i d no_defs
-  no_defs-added o i d = λ k q g a b t h. grown-none w o g h
+  pub no_defs-added : (o : Lists) (i d : Here) → AddsDefs w o o i d no_defs
+  no_defs-added o i d = λ k q g a b z t h. grown-none w o g h
 
-  pub defs-one : (o m n : Lists) (i d : ℕ) (xs : List Def) (x : Def) → AddsDefs w o m i d (defs_of xs) → AddsDefs w m n i d (one_def x no_defs) → AddsDefs w o n i d (defs_of (xs ++ x ∷ []))
-  defs-one o m n i d xs x a b = λ k q g e f t h.
+  pub defs-one : (o m n : Lists) (i d : Here) (xs : List Def) (x : Def) → AddsDefs w o m i d (defs_of xs) → AddsDefs w m n i d (one_def x no_defs) → AddsDefs w o n i d (defs_of (xs ++ x ∷ []))
+  defs-one o m n i d xs x a b = λ k q g e f z t h.
       let s = shaped-defs xs x t in
-      let p : Grown w o m (added_defs w k q (defs_of xs) g) = a k q g e f s.0 h in
-      subst (Grown w o n) (sym (defs-after w k q xs x g)) (grown-then w o m n _ _ p (b k q (added_defs w k q (defs_of xs) g) e f s.1 p.holds))
+      let front = λ (y : freezes (defs_of xs) ≡ true). z (freezes-front xs x y) in
+      let p : Grown w o m (added_defs w k q (defs_of xs) g) = a k q g e f front s.0 h in
+      subst (Grown w o n) (sym (defs-after w k q xs x g)) (grown-then w o m n _ _ p (b k q (added_defs w k q (defs_of xs) g) (here-defs w k i k q (defs_of xs) g e) (here-defs w q d k q (defs_of xs) g f) (λ y. scope-kept o.scopes m.scopes p.outer i.scope d.scope FrozenScope (z (freezes-last xs x y))) s.1 p.holds))
 
-  pub defs-more : (o m n : Lists) (i d : ℕ) (xs : List Def) (j : ℕ) (x : Def) → j < length xs → x ≡ get_or xs j x → AddsDefs w o m i d (defs_of (take j xs)) → AddsDefs w m n i d (one_def x no_defs) → AddsDefs w o n i d (defs_of (take (j + 1) xs))
+  pub defs-more : (o m n : Lists) (i d : Here) (xs : List Def) (j : ℕ) (x : Def) → j < length xs → x ≡ get_or xs j x → AddsDefs w o m i d (defs_of (take j xs)) → AddsDefs w m n i d (one_def x no_defs) → AddsDefs w o n i d (defs_of (take (j + 1) xs))
   defs-more o m n i d xs j x h is a b = subst (λ ys. AddsDefs w o n i d (defs_of ys)) (sym (next-taken xs j x h is)) (defs-one o m n i d (take j xs) x a b)
 
-  pub defs-done : (o n : Lists) (i d : ℕ) (xs : List Def) (ds : PlainDefs) (j : ℕ) → length xs ≤ j → defs_of xs ≡ ds → AddsDefs w o n i d (defs_of (take j xs)) → AddsDefs w o n i d ds
+  pub defs-done : (o n : Lists) (i d : Here) (xs : List Def) (ds : PlainDefs) (j : ℕ) → length xs ≤ j → defs_of xs ≡ ds → AddsDefs w o n i d (defs_of (take j xs)) → AddsDefs w o n i d ds
   defs-done o n i d xs ds j h e a = subst (AddsDefs w o n i d) (ap defs_of (take_all j xs h) ∙ e) a
 
-  pub plain-added : (o m n : Lists) (i d at : ℕ) (x : List ℕ) (e : PlainTree) (body scope : ℕ) → AddsTree w o m i e body → n ≡ with_name (record { scope = scope; kind = Plain body }) m → AddsDefs w o n i d (defines at x e no_defs)
-  plain-added o m n i d at x e body scope a s = λ k q g u v t h.
-      let p : GrownTo w o m (added w k e g) (bound_node w e) body = a k g u (left-true (is_shaped e) _ t) h in
-      grown-then w o m n _ _ p.grown (define-grown w m n (added w k e g) (record { at = at; home = k; entry = plain_entry (bound_node w e) }) (record { scope = scope; kind = Plain body }) p.grown.holds s (p.within, ap plain_entry p.is))
+  pub plain-added : (o m n : Lists) (i d : Here) (at : ℕ) (x : List ℕ) (e : PlainTree) (body : ℕ) → AddsTree w o m i e body → n ≡ with_name (record { scope = i.scope; kind = Plain body }) m → AddsDefs w o n i d (defines at x e no_defs)
+  plain-added o m n i d at x e body a s = λ k q g u v fz t h.
+      let p : GrownTo w o m (added w k e g) (bound_node w e) i.scope body = a k g u (left-true (is_shaped e) _ t) h in
+      grown-then w o m n _ _ p.grown (define-grown w m n (added w k e g) (record { at = at; home = k; entry = plain_entry (bound_node w e) }) (record { scope = i.scope; kind = Plain body }) p.grown.holds s (p.within, ap plain_entry p.is) (here-tree w k i k e g u).1 p.stands)
 
-  pub current-added : (o m n : Lists) (i d at : ℕ) (x : List ℕ) (e : PlainTree) (body scope : ℕ) → AddsTree w o m d e body → n ≡ with_name (record { scope = scope; kind = Current body }) m → AddsDefs w o n i d (defines_current at x e no_defs)
-  current-added o m n i d at x e body scope a s = λ k q g u v t h.
-      let p : GrownTo w o m (added w q e g) (bound_node w e) body = a q g v (left-true (is_shaped e) _ t) h in
-      grown-then w o m n _ _ p.grown (define-grown w m n (added w q e g) (record { at = at; home = k; entry = current_entry (bound_node w e) }) (record { scope = scope; kind = Current body }) p.grown.holds s (p.within, ap current_entry p.is))
+  pub current-added : (o m n : Lists) (i d : Here) (at : ℕ) (x : List ℕ) (e : PlainTree) (body : ℕ) → AddsTree w o m d e body → n ≡ with_name (record { scope = i.scope; kind = Current body }) m → AddsDefs w o n i d (defines_current at x e no_defs)
+  current-added o m n i d at x e body a s = λ k q g u v fz t h.
+      let p : GrownTo w o m (added w q e g) (bound_node w e) d.scope body = a q g v (left-true (is_shaped e) _ t) h in
+      grown-then w o m n _ _ p.grown (define-grown w m n (added w q e g) (record { at = at; home = k; entry = current_entry (bound_node w e) }) (record { scope = i.scope; kind = Current body }) p.grown.holds s (p.within, ap current_entry p.is) (here-tree w k i q e g u).1 (d.scope, scope-kept o.scopes m.scopes p.grown.outer i.scope d.scope FrozenScope (fz refl), p.stands))
 
-  pub no_parameters-added : (o : Lists) (d : ℕ) → AddsParameters w o o d []
-  no_parameters-added o d = λ k g l h. grown-none w o g h
+  pub no_parameters-added : (o : Lists) (d : Here) → AddsParameters w o o d []
+  no_parameters-added o d = λ k g l c h. grown-none w o g h
 
-  pub parameters-more : (o m n : Lists) (d : ℕ) (ats : List ℕ) (i index scope : ℕ) → i < length ats → index ≡ i → AddsParameters w o m d (take i ats) → n ≡ with_name (record { scope = scope; kind = Parameter index }) m → AddsParameters w o n d (take (i + 1) ats)
-  parameters-more o m n d ats i index scope h e a s =
+  pub parameters-more : (o m n : Lists) (d : Here) (ats : List ℕ) (i index : ℕ) → i < length ats → index ≡ i → AddsParameters w o m d (take i ats) → n ≡ with_name (record { scope = d.scope; kind = Parameter index }) m → AddsParameters w o n d (take (i + 1) ats)
+  parameters-more o m n d ats i index h e a s =
       let at : ℕ = get_or ats i 0 in
       let count : length (take i ats) ≡ i = length-take-le i ats (omega arith) in
-      subst (AddsParameters w o n d) (sym (take_more ats i 0 h)) (λ k g u held.
+      subst (AddsParameters w o n d) (sym (take_more ats i 0 h)) (λ k g u c held.
       let before : Log = with_parameters k 0 (take i ats) g in
-      let p : Grown w o m before = a k g u held in
+      let p : Grown w o m before = a k g u c held in
       let number : index ≡ 0 + length (take i ats) = omega (arith, e, count) in
       let one : Stand = record { at = at; home = k; entry = parameter_entry (0 + length (take i ats)) } in
-      subst (Grown w o n) (sym (parameters-after k 0 (take i ats) at g)) (grown-then w o m n _ _ p (define-grown w m n before one (record { scope = scope; kind = Parameter index }) p.holds s (ap parameter_entry number))))
+      subst (Grown w o n) (sym (parameters-after k 0 (take i ats) at g)) (grown-then w o m n _ _ p (define-grown w m n before one (record { scope = d.scope; kind = Parameter index }) p.holds s (ap parameter_entry number) (here-parameters w k d k 0 (take i ats) g u).1 (c.0, scope-kept o.scopes m.scopes p.outer d.scope c.0 CalledScope c.1))))
 
-  pub function-opened : (o p m l n : Lists) (i inner d at : ℕ) (x : List ℕ) (ns : List (List ℕ)) (ats : List ℕ) (e : PlainTree) (b : Body) → p ≡ o → inner ≡ i + 1 → AddsParameters w p m inner ats → AddsTree w m l inner e b.body → n ≡ with_body b l
-      → AddsDefs w o n i d (defines_function at x ns ats e no_defs)
-  function-opened o p m l n i inner d at x ns ats e b same deeper a c s = λ k q g u v t h.
-      let f : Static = in_function ns ats k in
-      let inside : level f ≡ inner = omega (arith, u, deeper) in
-      let before : Log = with_parameters f 0 ats g in
-      let y : Grown w o m before = subst (λ z. Grown w z m before) same (a f g inside (subst (λ z. Holds w z g) (sym same) h)) in
+  pub function-opened : (o p m l n : Lists) (i inner d : Here) (at : ℕ) (x : List ℕ) (ns : List (List ℕ)) (ats : List ℕ) (e : PlainTree) (body : ℕ) → OneScope o p (record { parent = i.scope; kind = CalledScope }) inner.scope → inner.level ≡ i.level + 1 → AddsParameters w p m inner ats → AddsTree w m l inner e body
+      → n ≡ with_body (record { scope = inner.scope; body = body }) l → AddsDefs w o n i d (defines_function at x ns ats e no_defs)
+  function-opened o p m l n i inner d at x ns ats e body opens deeper a c s = λ k q g u v fz t h.
+      let f : Static = in_body ns ats k in
+      let y : ScopeRow = record { parent = i.scope; kind = CalledScope } in
+      let first : Log = with_scopes (f ∷ []) g in
+      let z : Grown w o p first = open-grown w o p g f y inner.scope h opens (refl, parent-below w o p g y inner.scope i.scope k h opens u.1, u.1) in
+      let deep : level f ≡ inner.level = omega (arith, u.0, deeper) in
+      let inside : StandsAt first f inner = (deep, opened-is w o p g f y inner.scope h opens refl) in
+      let called : ScopeIs p.scopes inner.scope i.scope CalledScope = opened-row o p y inner.scope opens in
+      let before : Log = with_parameters f 0 ats first in
+      let j : Grown w p m before = a f first inside (i.scope, called) z.holds in
+      let on : StandsAt before f inner = here-parameters w f inner f 0 ats first inside in
       let shape : IsTrue (is_shaped e) = right-true (nat_lt 0 (length ns) && nat_eq (length ats) (length ns)) _ (left-true _ true t) in
-      let r : GrownTo w m l (added w f e before) (bound_node w e) b.body = c f before inside shape y.holds in
+      let r : GrownTo w m l (added w f e before) (bound_node w e) inner.scope body = c f before on shape j.holds in
       let stand : FunctionStand = record { at = at; first = length g.names; names = ns; places = ats; right = e; home = k } in
-      grown-then w o l n _ _ (grown-then w o m l _ _ y r.grown) (close-grown w l n (added w f e before) stand b r.grown.holds s r.within r.is)
+      let row : Body = record { scope = inner.scope; body = body } in
+      grown-then w o l n _ _ (grown-then w o m l _ _ (grown-then w o p m _ _ z j) r.grown) (close-grown w l n (added w f e before) stand row r.grown.holds s r.within r.is (here-tree w f inner f e before on).1 (i.scope, scope-kept p.scopes l.scopes (begins-then p.scopes m.scopes l.scopes j.outer r.grown.outer) inner.scope i.scope CalledScope called, r.stands))

@@ -1,37 +1,51 @@
 -- The rows of calls, one after another.
-use Rattle.std.proofs.Common.{◌≡◌, ℕ, zero, suc, ◌+◌, ◌<◌, length, List, [], ◌∷◌, ◌++◌, map, take, get_or, slice_get, refl, sym, ap, ◌∙◌, subst, append_assoc}
-use Rattle.std.proofs.lemmas.List.{map-append, take_more}
+use Rattle.std.proofs.Common.{◌≡◌, ℕ, zero, suc, ◌+◌, ◌<◌, ◌≤◌, length, List, [], ◌∷◌, ◌++◌, map, take, get_or, slice_get, refl, sym, ap, ◌∙◌, subst, append_assoc, take_all}
+use Rattle.std.proofs.lemmas.List.{append-nil, map-append, take_more}
 use Rattle.lucid_equations.specs.Nodes.{PlainNode, called_entry}
 use Rattle.lucid_equations.specs.declared.rows.NameRow.{NameRow}
 use Rattle.lucid_compile.specs.declared.building.Body.{Body}
+use Rattle.lucid_compile.specs.Static.{Static, outermost}
 use Rattle.lucid_compile.specs.Building.{Lists, with_name}
-use Rattle.lucid_compile.specs.Bound.{Numbered, FunctionStand, Log}
-use Rattle.lucid_compile.specs.Holds.{nodes_in, IsEntry, NamesHold, FunctionsHold, Holds}
-use Rattle.lucid_compile.specs.Steps.{callee_number, row_of_call, call_row, row_by, with_names, HoldsCalls}
-use Rattle.lucid_compile.proofs.Growing.{names-one}
+use Rattle.lucid_compile.specs.Bound.{Stand, Numbered, FunctionStand, Log}
+use Rattle.lucid_compile.specs.Holds.{nodes_in, OneForOne, IsOpen, IsNameRow, NamesHold, IsBody, Holds}
+use Rattle.lucid_compile.specs.Steps.{callee_number, row_of_call, call_row, row_by, rows_of_calls, with_names, with_calls}
+use Rattle.lucid_compile.proofs.Pairs.{pairs-join, pairs-made}
+use Rattle.lucid_compile.proofs.Indices.{map_map}
 
-call-entry : (w : Numbered) (at : ℕ) (ts : List PlainNode) (bs : List Body) (fs : List FunctionStand) (m : ℕ) → FunctionsHold w ts bs fs → IsEntry ts (row_by (slice_get bs m)).kind (row_of_call w at (slice_get fs m)).entry
-call-entry w at ts [] [] m h = refl
-call-entry w at ts [] (f ∷ fs) m h = absurd h
-call-entry w at ts (x ∷ bs) [] m h = absurd h
-call-entry w at ts (x ∷ bs) (f ∷ fs) zero h = (h.0, ap called_entry h.1)
-call-entry w at ts (x ∷ bs) (f ∷ fs) (suc m) h = call-entry w at ts bs fs m h.2
+call-entry : (w : Numbered) (at : ℕ) (ks : List Static) (ts : List PlainNode) (i : ℕ) (bs : List Body) (fs : List FunctionStand) (m : ℕ) → IsOpen ks 0 outermost → OneForOne (λ i b f. IsBody w ks ts b f) i bs fs → IsNameRow ks ts (row_by (slice_get bs m)) (row_of_call w at (slice_get fs m))
+call-entry w at ks ts i [] [] m o h = (refl, o)
+call-entry w at ks ts i [] (f ∷ fs) m o h = absurd h
+call-entry w at ks ts i (x ∷ bs) [] m o h = absurd h
+call-entry w at ks ts i (x ∷ bs) (f ∷ fs) zero o h = ((h.0.0, ap called_entry h.0.1), h.0.2)
+call-entry w at ks ts i (x ∷ bs) (f ∷ fs) (suc m) o h = call-entry w at ks ts (suc i) bs fs m o h.1
 
-calls-one : (w : Numbered) (o : Lists) (g : Log) (rs : List NameRow) (cs : List ℕ) (at : ℕ) (r : NameRow) → Holds w o g → HoldsCalls w o rs g cs → r ≡ row_by (slice_get o.bodies (callee_number w at)) → HoldsCalls w o (rs ++ r ∷ []) g (cs ++ at ∷ [])
-calls-one w o g rs cs at r h k is =
-    let entry : IsEntry (nodes_in w o) r.kind (call_row w g.functions at).entry = subst (λ x. IsEntry (nodes_in w o) x.kind (call_row w g.functions at).entry) (sym is) (call-entry w at (nodes_in w o) o.bodies g.functions (callee_number w at) h.functions) in
-    subst (NamesHold (nodes_in w o) (rs ++ r ∷ []))
-    (append_assoc g.names (map (call_row w g.functions) cs) (call_row w g.functions at ∷ []) ∙ ap (λ l. g.names ++ l) (sym (map-append (call_row w g.functions) cs (at ∷ []))))
-    (names-one (nodes_in w o) rs (g.names ++ map (call_row w g.functions) cs) r (call_row w g.functions at) k entry)
+-- the names' rows, and after them those of the calls
+pub calls-held : (w : Numbered) (o : Lists) (g : Log) → Holds w o g → NamesHold g.scopes (nodes_in w o) (with_calls w o).names (g.names ++ map (λ c. call_row w g.functions c.at) g.calls)
+calls-held w o g h =
+    let P : ℕ → NameRow → Stand → Type 0 = λ i r s. IsNameRow g.scopes (nodes_in w o) r s in
+    let made : ℕ → NameRow = λ at. row_by (slice_get o.bodies (callee_number w at)) in
+    let same : rows_of_calls w o.bodies o.calls ≡ map (λ c. made c.at) g.calls = ap (map made) h.calls ∙ map_map made (λ c. c.at) g.calls in
+    pairs-join P 0 o.names g.names (rows_of_calls w o.bodies o.calls) (map (λ c. call_row w g.functions c.at) g.calls) h.names
+    (subst (λ rs. OneForOne P (0 + length o.names) rs (map (λ c. call_row w g.functions c.at) g.calls)) (sym same)
+    (pairs-made P (λ c. made c.at) (λ c. call_row w g.functions c.at) (λ i c. call-entry w c.at g.scopes (nodes_in w o) 0 o.bodies g.functions (callee_number w c.at) h.outer h.functions) (0 + length o.names) g.calls))
 
-pub others-one : (i o n : Lists) (r : NameRow) → o ≡ with_names o.names i → n ≡ with_name r o → n ≡ with_names n.names i
-others-one i o n r e s = s ∙ ap (with_name r) e ∙ ap (λ z. with_names z i) (sym (ap (λ l. l.names) s))
+-- the rows of the calls before an index
+pub calls-none : (w : Numbered) (o : Lists) → o ≡ with_names (o.names ++ rows_of_calls w o.bodies (take 0 o.calls)) o
+calls-none w o = ap (λ rs. with_names rs o) (sym (append-nil o.names))
 
-pub calls-more : (w : Numbered) (o c n : Lists) (i at : ℕ) (r : NameRow) → c ≡ with_names c.names o → i < length c.calls → at ≡ get_or c.calls i 0 → r ≡ row_by (slice_get c.bodies (callee_number w at)) → n ≡ with_name r c
-    → ((g : Log) → Holds w o g → HoldsCalls w o c.names g (take i o.calls)) → (g : Log) → Holds w o g → HoldsCalls w o n.names g (take (i + 1) o.calls)
-calls-more w o c n i at r same h here is s before g k =
-    let calls : c.calls ≡ o.calls = ap (λ l. l.calls) same in
+pub calls-more : (w : Numbered) (o c n : Lists) (i at : ℕ) (r : NameRow) → c ≡ with_names (o.names ++ rows_of_calls w o.bodies (take i o.calls)) o → i < length c.calls → at ≡ get_or c.calls i 0 → r ≡ row_by (slice_get c.bodies (callee_number w at)) → n ≡ with_name r c
+    → n ≡ with_names (o.names ++ rows_of_calls w o.bodies (take (i + 1) o.calls)) o
+calls-more w o c n i at r same h here is s =
+    let made : ℕ → NameRow = λ at. row_by (slice_get o.bodies (callee_number w at)) in
+    let before : List NameRow = rows_of_calls w o.bodies (take i o.calls) in
+    let calls : c.calls ≡ o.calls = ap (λ (l : Lists). l.calls) same in
     let within : i < length o.calls = subst (λ l. i < length l) calls h in
     let next : take (i + 1) o.calls ≡ take i o.calls ++ at ∷ [] = take_more o.calls i 0 within ∙ ap (λ y. take i o.calls ++ y ∷ []) (sym (here ∙ ap (λ l. get_or l i 0) calls)) in
-    let one : HoldsCalls w o (c.names ++ r ∷ []) g (take i o.calls ++ at ∷ []) = calls-one w o g c.names (take i o.calls) at r k (before g k) (is ∙ ap (λ l. row_by (slice_get l.bodies (callee_number w at))) same) in
-    subst (λ rs. HoldsCalls w o rs g (take (i + 1) o.calls)) (sym (ap (λ l. l.names) s)) (subst (HoldsCalls w o (c.names ++ r ∷ []) g) (sym next) one)
+    let row : r ≡ made at = is ∙ ap (λ (l : Lists). row_by (slice_get l.bodies (callee_number w at))) same in
+    let rows : rows_of_calls w o.bodies (take (i + 1) o.calls) ≡ before ++ r ∷ [] = ap (map made) next ∙ map-append made (take i o.calls) (at ∷ []) ∙ ap (λ y. before ++ y ∷ []) (sym row) in
+    s ∙ ap (with_name r) same ∙ ap (λ rs. with_names rs o) (append_assoc o.names before (r ∷ []) ∙ ap (λ l. o.names ++ l) (sym rows))
+
+pub calls-all : (w : Numbered) (o c : Lists) (i : ℕ) → c ≡ with_names (o.names ++ rows_of_calls w o.bodies (take i o.calls)) o → length c.calls ≤ i → c ≡ with_calls w o
+calls-all w o c i same h =
+    let past : length o.calls ≤ i = subst (λ (l : Lists). length l.calls ≤ i) same h in
+    same ∙ ap (λ cs. with_names (o.names ++ rows_of_calls w o.bodies cs) o) (take_all i o.calls past)

@@ -6,51 +6,52 @@ use Rattle.lucid_tree.specs.Env.{same_name}
 use Rattle.lucid_tree.specs.Size.{count}
 use Rattle.lucid_tree.specs.Members.{In}
 use Rattle.lucid_tree.proofs.Members.{in_left, in_right}
-use Rattle.lucid_scope.specs.Scope.{Static as Scopes, outermost as no_scope, in_block as block_scope, in_function as function_scope, free, meaning}
+use Rattle.lucid_scope.specs.Scope.{free, meaning}
 use Rattle.lucid_scope.specs.Sites.{Site as NameSite, named, called, again, site_at, sites, sites_in, outside_sites, inside_sites, Earlier, also, no_names, again_if, repeats}
 use Rattle.lucid_scope.specs.Bindings.{binding_for, fault_of}
 use Rattle.lucid_scope.specs.Scoped.{scoped_binding, scoped_inputs}
 use Rattle.lucid_equations.specs.Nodes.{row, freeze, reference, invoke, node, Equations, plain_entry, called_entry, current_entry, parameter_entry}
-use Rattle.lucid_compile.specs.Static.{Static, in_block, in_function, freezes, level, Origin, Site, Source, callee, call_level, node_for, nodes_for}
+use Rattle.lucid_compile.specs.Static.{Static, in_block, in_function, freezes, level, Origin, Source, call_level, reference_of, node_for, nodes_for, in_body, outermost}
 use Rattle.lucid_compile.specs.Compiles.{HasRow, Parameters, Actuals, Callable, Kept, AllKept, DefsKept}
 use Rattle.lucid_compile.specs.Places.{first_place}
-use Rattle.lucid_compile.specs.Listing.{Stand, spots_for, all_spots, def_spots}
+use Rattle.lucid_compile.proofs.Spots.{spots_for, all_spots, def_spots}
 use Rattle.lucid_compile.specs.Numbered.{name_mark, function_mark, call_number}
-use Rattle.lucid_compile.specs.Bound.{Numbered, numbers_in, bound_node, bound_nodes, callee_place, CallStand, FunctionStand, NodeStand, Log, with_nodes, with_stand, with_call, with_function, with_parameters, added, added_all, added_defs}
-use Rattle.lucid_compile.proofs.Scoping.{not_some, forget, reference-is, callee-is, IsListed, IsThere, DefsKnown, Known, meaning-known, name-is, Calls, call-is}
+use Rattle.lucid_compile.specs.Bound.{Stand, Numbered, numbers_in, bound_node, bound_nodes, callee_place, CallStand, FunctionStand, NodeStand, Log, with_nodes, with_scopes, opened_block, opened_function, with_stand, with_call, with_function, with_parameters, added, added_all, added_defs}
+use Rattle.lucid_compile.proofs.Scoping.{not_some, forget, meaning-bare, IsListed, IsThere, DefsKnown, Known, meaning-known, name-is, Calls, call-is}
 
 -- what stands in a log stands in another
 pub record Within (a b : Log) : Type 0 where
   pub names : (s : Stand) → In s a.names → In s b.names
   pub calls : (c : CallStand) → In c a.calls → In c b.calls
-  pub sites : (s : Site) → In s a.sites → In s b.sites
   pub functions : (f : FunctionStand) → In f a.functions → In f b.functions
 
 pub within-itself : (a : Log) → Within a a
-within-itself a = record { names = λ s i. i; calls = λ s i. i; sites = λ s i. i; functions = λ s i. i }
+within-itself a = record { names = λ s i. i; calls = λ s i. i; functions = λ s i. i }
 
 pub within-then : (a b c : Log) → Within a b → Within b c → Within a c
 within-then a b c h g = record {
   names = λ s i. g.names s (h.names s i);
   calls = λ s i. g.calls s (h.calls s i);
-  sites = λ s i. g.sites s (h.sites s i);
   functions = λ s i. g.functions s (h.functions s i);
 }
 
 pub within-stand : (s : Stand) (a : Log) → Within a (with_stand s a)
-within-stand s a = record { names = λ x i. in_left x a.names (s ∷ []) i; calls = λ x i. i; sites = λ x i. i; functions = λ x i. i }
+within-stand s a = record { names = λ x i. in_left x a.names (s ∷ []) i; calls = λ x i. i; functions = λ x i. i }
 
 pub within-nodes : (ss : List NodeStand) (a : Log) → Within a (with_nodes ss a)
-within-nodes ss a = record { names = λ x i. i; calls = λ x i. i; sites = λ x i. i; functions = λ x i. i }
+within-nodes ss a = record { names = λ x i. i; calls = λ x i. i; functions = λ x i. i }
+
+pub within-scopes : (ks : List Static) (a : Log) → Within a (with_scopes ks a)
+within-scopes ks a = record { names = λ x i. i; calls = λ x i. i; functions = λ x i. i }
 
 pub before-nodes : (ss : List NodeStand) (a z : Log) → Within (with_nodes ss a) z → Within a z
 before-nodes ss a z i = within-then a (with_nodes ss a) z (within-nodes ss a) i
 
-pub within-call : (c : CallStand) (s : Site) (a : Log) → Within a (with_call c s a)
-within-call c s a = record { names = λ x i. i; calls = λ x i. in_left x a.calls (c ∷ []) i; sites = λ x i. in_left x a.sites (s ∷ []) i; functions = λ x i. i }
+pub within-call : (c : CallStand) (a : Log) → Within a (with_call c a)
+within-call c a = record { names = λ x i. i; calls = λ x i. in_left x a.calls (c ∷ []) i; functions = λ x i. i }
 
 pub within-function : (f : FunctionStand) (a : Log) → Within a (with_function f a)
-within-function f a = record { names = λ x i. i; calls = λ x i. i; sites = λ x i. i; functions = λ x i. in_left x a.functions (f ∷ []) i }
+within-function f a = record { names = λ x i. i; calls = λ x i. i; functions = λ x i. in_left x a.functions (f ∷ []) i }
 
 within-parameters : (k : Static) (i : ℕ) (ats : List ℕ) (a : Log) → Within a (with_parameters k i ats a)
 within-parameters k i [] a = within-itself a
@@ -64,12 +65,13 @@ module _ (w : Numbered) where
     within-tree k (form at f es) a = within-then a (added_all w k es a) _ (within-trees k es a) (within-nodes _ (added_all w k es a))
     within-tree k (name at x) a = within-nodes _ a
     within-tree k (call at x es) a =
-        let b : Log = with_call (record { at = at; name = x; home = k }) (record { actuals = es; caller = k }) (added_all w k es a) in
-        within-then a (added_all w k es a) _ (within-trees k es a) (within-then (added_all w k es a) b _ (within-call _ _ (added_all w k es a)) (within-nodes _ b))
+        let b : Log = with_call (record { at = at; actuals = es; home = k }) (added_all w k es a) in
+        within-then a (added_all w k es a) _ (within-trees k es a) (within-then (added_all w k es a) b _ (within-call _ (added_all w k es a)) (within-nodes _ b))
     within-tree k (block at e ds) a =
-        let b : Log = added w (in_block ds k) e a in
+        let o : Log = opened_block ds k a in
+        let b : Log = added w (in_block ds k) e o in
         let c : Log = added_defs w (in_block ds k) k ds b in
-        within-then a b _ (within-tree (in_block ds k) e a) (within-then b c _ (within-defs (in_block ds k) k ds b) (within-nodes _ c))
+        within-then a b _ (within-then a o b (within-scopes _ a) (within-tree (in_block ds k) e o)) (within-then b c _ (within-defs (in_block ds k) k ds b) (within-nodes _ c))
 
     pub within-trees : (k : Static) (es : PlainTrees) (a : Log) → Within a (added_all w k es a)
     within-trees k no_trees a = within-itself a
@@ -81,17 +83,18 @@ module _ (w : Numbered) where
         let s : Stand = record { at = at; home = k; entry = plain_entry (bound_node w e) } in
         within-then a (added w k e a) _ (within-tree k e a) (within-then (added w k e a) (with_stand s (added w k e a)) _ (within-stand s (added w k e a)) (within-defs k o ds (with_stand s (added w k e a))))
     within-defs k o (defines_function at x ns ats e ds) a =
-        let h : Static = in_function ns ats k in
+        let h : Static = in_body ns ats k in
         let f : FunctionStand = record { at = at; first = length a.names; names = ns; places = ats; right = e; home = k } in
-        let b : Log = with_parameters h 0 ats a in
-        within-then a b _ (within-parameters h 0 ats a) (within-then b (added w h e b) _ (within-tree h e b) (within-then (added w h e b) (with_function f (added w h e b)) _ (within-function f (added w h e b)) (within-defs k o ds (with_function f (added w h e b)))))
+        let u : Log = opened_function ns ats k a in
+        let b : Log = with_parameters h 0 ats u in
+        within-then a b _ (within-then a u b (within-scopes _ a) (within-parameters h 0 ats u)) (within-then b (added w h e b) _ (within-tree h e b) (within-then (added w h e b) (with_function f (added w h e b)) _ (within-function f (added w h e b)) (within-defs k o ds (with_function f (added w h e b)))))
     within-defs k o (defines_current at x e ds) a =
         let s : Stand = record { at = at; home = k; entry = current_entry (bound_node w e) } in
         within-then a (added w o e a) _ (within-tree o e a) (within-then (added w o e a) (with_stand s (added w o e a)) _ (within-stand s (added w o e a)) (within-defs k o ds (with_stand s (added w o e a))))
 
 -- What a whole log `z` has, by the lists that hold it: each name its level, each function its mark.
 pub record IsWhole (w : Numbered) (z : Log) : Type 0 where
-  pub names : (s : Stand) → In s z.names → IsListed w.numbering z.names z.functions (λ _ _. Unit {0}) s.at s.home
+  pub names : (s : Stand) → In s z.names → IsListed w.numbering z.names s.at s.home
   pub functions : (f : FunctionStand) → In f z.functions → IsThere w.numbering z.names z.functions (λ _ _. Unit {0}) f
 
 read : (xs : List (List ℕ)) (j : ℕ) (x : List ℕ) → slice_get xs j ≡ Some x → get_or xs j [] ≡ x
@@ -126,7 +129,7 @@ module _ (w : Numbered) (z : Log) (whole : IsWhole w z) where
   abbrev pub Rights : (R : PlainTree → Static → Type 0) → Static → PlainDefs → Type 0
   Rights R k no_defs = Unit {0}
   Rights R k (defines at x e ds) = Rights R k ds
-  Rights R k (defines_function at x ns ats e ds) = R e (in_function ns ats k) × Rights R k ds
+  Rights R k (defines_function at x ns ats e ds) = R e (in_body ns ats k) × Rights R k ds
   Rights R k (defines_current at x e ds) = Rights R k ds
 
   pub no-rights : (k : Static) (ds : PlainDefs) → Rights Nothing k ds
@@ -141,67 +144,66 @@ module _ (w : Numbered) (z : Log) (whole : IsWhole w z) where
   last-function : (f : FunctionStand) (a b : Log) → Within (with_function f a) b → In f b.functions
   last-function f a b h = h.functions f (in_right f a.functions (f ∷ []) (inl refl))
 
-  listed-with : (R : PlainTree → Static → Type 0) {at : ℕ} {k : Static} → IsListed w.numbering z.names z.functions (λ _ _. Unit {0}) at k → IsListed w.numbering z.names z.functions R at k
-  listed-with R h = record { depth = h.depth; entry = h.entry; found = h.found }
-
-  there-with : (R : PlainTree → Static → Type 0) (f : FunctionStand) → In f z.functions → R f.right (in_function f.names f.places f.home) → IsThere w.numbering z.names z.functions R f
-  there-with R f i r = let h = whole.functions f i in record { depth = h.depth; parameters = h.parameters; within = h.within; found = h.found; counts = h.counts; right_is = r }
+  there-with : (R : PlainTree → Static → Type 0) (f : FunctionStand) → In f z.functions → R f.right (in_body f.names f.places f.home) → IsThere w.numbering z.names z.functions R f
+  there-with R f i r = let h = whole.functions f i in record { depth = h.depth; parameters = h.parameters; found = h.found; counts = h.counts; right_is = r }
 
   pub defs-known : (R : PlainTree → Static → Type 0) (k o : Static) (ds : PlainDefs) (a : Log) → Within (added_defs w k o ds a) z → Rights R k ds → DefsKnown w.numbering z.names z.functions R k ds
   defs-known R k o no_defs a h r = tt
   defs-known R k o (defines at x e ds) a h r =
       let s : Stand = record { at = at; home = k; entry = plain_entry (bound_node w e) } in
       let b : Log = with_stand s (added w k e a) in
-      (listed-with R (whole.names s (last-name s (added w k e a) z (within-then b (added_defs w k o ds b) z (within-defs w k o ds b) h))), defs-known R k o ds b h r)
+      (whole.names s (last-name s (added w k e a) z (within-then b (added_defs w k o ds b) z (within-defs w k o ds b) h)), defs-known R k o ds b h r)
   defs-known R k o (defines_function at x ns ats e ds) a h r =
       let f : FunctionStand = record { at = at; first = length a.names; names = ns; places = ats; right = e; home = k } in
-      let c : Log = added w (in_function ns ats k) e (with_parameters (in_function ns ats k) 0 ats a) in
+      let c : Log = added w (in_body ns ats k) e (with_parameters (in_body ns ats k) 0 ats (opened_function ns ats k a)) in
       let b : Log = with_function f c in
       ((length a.names, there-with R f (last-function f c z (within-then b (added_defs w k o ds b) z (within-defs w k o ds b) h)) r.0), defs-known R k o ds b h r.1)
   defs-known R k o (defines_current at x e ds) a h r =
       let s : Stand = record { at = at; home = k; entry = current_entry (bound_node w e) } in
       let b : Log = with_stand s (added w o e a) in
-      (listed-with R (whole.names s (last-name s (added w o e a) z (within-then b (added_defs w k o ds b) z (within-defs w k o ds b) h))), defs-known R k o ds b h r)
+      (whole.names s (last-name s (added w o e a) z (within-then b (added_defs w k o ds b) z (within-defs w k o ds b) h)), defs-known R k o ds b h r)
 
-  pub function-known : (R : PlainTree → Static → Type 0) (k : Scopes) (at n : ℕ) (ns : List (List ℕ)) (ats : List ℕ) (e : PlainTree) → IsThere w.numbering z.names z.functions R (record { at = at; first = n; names = ns; places = ats; right = e; home = forget k }) → Known w.numbering z.names z.functions R k → Known w.numbering z.names z.functions R (function_scope at ns ats k)
-  function-known R k at n ns ats e t h = (t.parameters, t.depth, t.within, h)
+  pub function-known : (R : PlainTree → Static → Type 0) (k : Static) (at n : ℕ) (ns : List (List ℕ)) (ats : List ℕ) (e : PlainTree) → IsThere w.numbering z.names z.functions R (record { at = at; first = n; names = ns; places = ats; right = e; home = forget k }) → Known w.numbering z.names z.functions R k → Known w.numbering z.names z.functions R (in_function at ns ats k)
+  function-known R k at n ns ats e t h = (t.parameters, t.depth, h)
 
   mutual
-    pub node-is : (k : Scopes) (e : PlainTree) (a : Log) → AreFit w (sites k e) → Known w.numbering z.names z.functions Nothing k → Within (added w (forget k) e a) z → bound_node w e ≡ node_for (numbers_in w) (forget k) e
+    pub node-is : (k : Static) (e : PlainTree) (a : Log) → AreFit w (sites k e) → Known w.numbering z.names z.functions Nothing k → Within (added w (forget k) e a) z → bound_node w e ≡ node_for (numbers_in w) (forget k) e
     node-is k (form at f es) a h s i = ap (row f) (nodes-are k es a h s (before-nodes _ _ z i))
     node-is k (name at x) a h s i =
         let fit = h (named at x k) (inl refl) in
-        ap reference (name-is w z.names z.functions Nothing (level (forget k)) at x (scoped_inputs w.scoped) (scoped_binding w.scoped at) (meaning x k) fit.0 fit.1 (λ q. read (scoped_inputs w.scoped) (position_or_len (same_name x) (scoped_inputs w.scoped)) x (fit.2 q)) (meaning-known w.numbering z.names z.functions Nothing x k s) ∙ sym (reference-is (numbers_in w) (level (forget k)) x k))
+        ap reference (name-is w z.names z.functions Nothing (level (forget k)) at x (scoped_inputs w.scoped) (scoped_binding w.scoped at) (meaning x k) fit.0 fit.1
+        (λ q. read (scoped_inputs w.scoped) (position_or_len (same_name x) (scoped_inputs w.scoped)) x (fit.2 q)) (meaning-known w.numbering z.names z.functions Nothing x k s) ∙ ap (reference_of (numbers_in w) (level (forget k)) x) (sym (meaning-bare x k)))
     node-is k (call at x es) a h s i =
         let fit = h (called at x (count es) k) (inl refl) in
         let c = call-is w z.names z.functions Nothing at (count es) x (scoped_inputs w.scoped) (scoped_binding w.scoped at) (meaning x k) fit.0 fit.1 (meaning-known w.numbering z.names z.functions Nothing x k s) in
         ap (invoke (name_mark w.numbering at).number (call_number w.numbering (first_place es)))
-        (ap (λ p. (function_mark w.numbering p).level) c.place ∙ c.there.depth ∙ sym (ap (call_level (level (forget k))) (callee-is x k ∙ c.is)))
+        (ap (λ p. (function_mark w.numbering p).level) c.place ∙ c.there.depth ∙ sym (ap (call_level (level (forget k))) (meaning-bare x k ∙ c.is)))
     node-is k (block at e ds) a h s i =
-        let q : Scopes = block_scope ds k in
-        let b : Log = added w (forget q) e a in
+        let q : Static = in_block ds k in
+        let u : Log = opened_block ds (forget k) a in
+        let b : Log = added w (forget q) e u in
         let inside = fit-right w (outside_sites k ds) _ h in
         let on : Within (added_defs w (forget q) (forget k) ds b) z = before-nodes _ _ z i in
         let known : Known w.numbering z.names z.functions Nothing q = (defs-known Nothing (forget q) (forget k) ds b on (no-rights (forget q) ds), s) in
-        let part : bound_node w e ≡ node_for (numbers_in w) (forget q) e = node-is q e a (fit-left w (sites q e) _ inside) known (within-then b _ z (within-defs w (forget q) (forget k) ds b) on) in
+        let part : bound_node w e ≡ node_for (numbers_in w) (forget q) e = node-is q e u (fit-left w (sites q e) _ inside) known (within-then b _ z (within-defs w (forget q) (forget k) ds b) on) in
         λ j. if freezes ds then freeze (part j) else part j
 
-    nodes-are : (k : Scopes) (es : PlainTrees) (a : Log) → AreFit w (sites_in k es) → Known w.numbering z.names z.functions Nothing k → Within (added_all w (forget k) es a) z → bound_nodes w es ≡ nodes_for (numbers_in w) (forget k) es
+    nodes-are : (k : Static) (es : PlainTrees) (a : Log) → AreFit w (sites_in k es) → Known w.numbering z.names z.functions Nothing k → Within (added_all w (forget k) es a) z → bound_nodes w es ≡ nodes_for (numbers_in w) (forget k) es
     nodes-are k no_trees a h s i = refl
     nodes-are k (tree e es) a h s i =
         let b : Log = added w (forget k) e a in
         λ j. node (node-is k e a (fit-left w (sites k e) (sites_in k es) h) s (within-then b _ z (within-trees w (forget k) es b) i) j) (nodes-are k es b (fit-right w (sites k e) (sites_in k es) h) s i j)
 
   -- the right sides of a block's functions are what they become
-  rights-are : (k : Scopes) (o : Static) (earlier : Earlier) (ds : PlainDefs) (a : Log) → AreFit w (inside_sites k earlier ds) → Known w.numbering z.names z.functions Nothing k → DefsKnown w.numbering z.names z.functions Nothing (forget k) ds → Within (added_defs w (forget k) o ds a) z → Rights (Same w) (forget k) ds
+  rights-are : (k : Static) (o : Static) (earlier : Earlier) (ds : PlainDefs) (a : Log) → AreFit w (inside_sites k earlier ds) → Known w.numbering z.names z.functions Nothing k → DefsKnown w.numbering z.names z.functions Nothing (forget k) ds → Within (added_defs w (forget k) o ds a) z → Rights (Same w) (forget k) ds
   rights-are k o earlier no_defs a h s d i = tt
   rights-are k o earlier (defines at x e ds) a h s d i =
       rights-are k o (also x earlier) ds _ (fit-right w (sites k e) _ (fit-right w (again_if (earlier x) at) _ h)) s d.1 i
   rights-are k o earlier (defines_function at x ns ats e ds) a h s d i =
       let own = fit-right w (again_if (earlier x) at) _ h in
-      let q : Scopes = function_scope at ns ats k in
+      let q : Static = in_function at ns ats k in
       let f : FunctionStand = record { at = at; first = length a.names; names = ns; places = ats; right = e; home = forget k } in
-      let b : Log = with_parameters (forget q) 0 ats a in
+      let b : Log = with_parameters (forget q) 0 ats (opened_function ns ats (forget k) a) in
       let c : Log = added w (forget q) e b in
       let on : Within c z = within-then c (with_function f c) z (within-function f c) (within-then (with_function f c) _ z (within-defs w (forget k) o ds (with_function f c)) i) in
       (node-is q e b (fit-right w (repeats no_names ns ats) (sites q e) (fit-left w _ (inside_sites k (also x earlier) ds) own)) (function-known Nothing k at d.0.0 ns ats e d.0.1 s) on, rights-are k o (also x earlier) ds _ (fit-right w _ (inside_sites k (also x earlier) ds) own) s d.1 i)
@@ -209,27 +211,24 @@ module _ (w : Numbered) (z : Log) (whole : IsWhole w z) where
 
   -- Where what is known goes with the right sides, so does less.
   less-there : (f : FunctionStand) → IsThere w.numbering z.names z.functions (Same w) f → IsThere w.numbering z.names z.functions Nothing f
-  less-there f t = record { depth = t.depth; parameters = t.parameters; within = t.within; found = t.found; counts = t.counts; right_is = tt }
-
-  less-listed : {at : ℕ} {k : Static} → IsListed w.numbering z.names z.functions (Same w) at k → IsListed w.numbering z.names z.functions Nothing at k
-  less-listed h = record { depth = h.depth; entry = h.entry; found = h.found }
+  less-there f t = record { depth = t.depth; parameters = t.parameters; found = t.found; counts = t.counts; right_is = tt }
 
   less-defs : (k : Static) (ds : PlainDefs) → DefsKnown w.numbering z.names z.functions (Same w) k ds → DefsKnown w.numbering z.names z.functions Nothing k ds
   less-defs k no_defs h = tt
-  less-defs k (defines at x e ds) h = (less-listed h.0, less-defs k ds h.1)
+  less-defs k (defines at x e ds) h = (h.0, less-defs k ds h.1)
   less-defs k (defines_function at x ns ats e ds) h = ((h.0.0, less-there _ h.0.1), less-defs k ds h.1)
-  less-defs k (defines_current at x e ds) h = (less-listed h.0, less-defs k ds h.1)
+  less-defs k (defines_current at x e ds) h = (h.0, less-defs k ds h.1)
 
-  less-known : (k : Scopes) → Known w.numbering z.names z.functions (Same w) k → Known w.numbering z.names z.functions Nothing k
-  less-known no_scope h = tt
-  less-known (block_scope ds k) h = (less-defs (in_block ds (forget k)) ds h.0, less-known k h.1)
-  less-known (function_scope d ns ats k) h = (h.0, h.1, h.2, less-known k h.3)
+  less-known : (k : Static) → Known w.numbering z.names z.functions (Same w) k → Known w.numbering z.names z.functions Nothing k
+  less-known outermost h = tt
+  less-known (in_block ds k) h = (less-defs (in_block ds (forget k)) ds h.0, less-known k h.1)
+  less-known (in_function d ns ats k) h = (h.0, h.1, less-known k h.2)
 
   module _ (so : Source) (p : Equations)
       (have : (s : Stand) → In s z.names → HasRow (numbers_in w) so p s.at s.home s.entry)
       (have-call : (c : CallStand) (f : FunctionStand) → In c z.calls → callee_place (scoped_binding w.scoped c.at) ≡ f.at → IsThere w.numbering z.names z.functions (Same w) f
-      → HasRow (numbers_in w) so p c.at (in_function f.names f.places f.home) (called_entry (bound_node w f.right)))
-      (have-site : (s : Site) → In s z.sites → bound_nodes w s.actuals ≡ nodes_for (numbers_in w) s.caller s.actuals → Actuals (numbers_in w) so p s.caller s.actuals) where
+      → HasRow (numbers_in w) so p c.at (in_body f.names f.places f.home) (called_entry (bound_node w f.right)))
+      (have-place : (c : CallStand) → In c z.calls → bound_nodes w c.actuals ≡ nodes_for (numbers_in w) c.home c.actuals → Actuals (numbers_in w) so p c.home c.actuals) where
     abbrev HaveSpots : List Origin → Type 0
     HaveSpots os = (o : Origin) → In o os → so.scope_at o.at ≡ o.home
 
@@ -258,29 +257,30 @@ module _ (w : Numbered) (z : Log) (whole : IsWhole w z) where
         let e : 0 + j ≡ j = omega arith in
         subst (λ y. HasRow (numbers_in w) so p (get_or ats j 0) k (parameter_entry y)) e (parameters-from k 0 ats a h j (omega (arith, b, count)))
 
-    call-kept : (k : Scopes) (at : ℕ) (x : List ℕ) (c : CallStand) → c.at ≡ at → In c z.calls → Calls w z.names z.functions (Same w) (scoped_binding w.scoped at) (meaning x k) → Callable (numbers_in w) so p at (callee x (forget k))
+    call-kept : (k : Static) (at : ℕ) (x : List ℕ) (c : CallStand) → c.at ≡ at → In c z.calls → Calls w z.names z.functions (Same w) (scoped_binding w.scoped at) (meaning x k) → Callable (numbers_in w) so p at (meaning x (forget k))
     call-kept k at x c e i q =
-        subst (Callable (numbers_in w) so p at) (sym (callee-is x k ∙ q.is))
-        (subst (λ n. HasRow (numbers_in w) so p at (in_function q.stand.names q.stand.places q.stand.home) (called_entry n)) q.there.right_is
-        (subst (λ b. HasRow (numbers_in w) so p b (in_function q.stand.names q.stand.places q.stand.home) (called_entry (bound_node w q.stand.right))) e
+        subst (Callable (numbers_in w) so p at) (sym (meaning-bare x k ∙ q.is))
+        (subst (λ n. HasRow (numbers_in w) so p at (in_body q.stand.names q.stand.places q.stand.home) (called_entry n)) q.there.right_is
+        (subst (λ b. HasRow (numbers_in w) so p b (in_body q.stand.names q.stand.places q.stand.home) (called_entry (bound_node w q.stand.right))) e
         (have-call c q.stand i (ap (λ b. callee_place (scoped_binding w.scoped b)) e ∙ q.place) q.there)))
 
     mutual
-      pub kept-bound : (k : Scopes) (e : PlainTree) (a : Log) → AreFit w (sites k e) → Known w.numbering z.names z.functions (Same w) k → Within (added w (forget k) e a) z → HaveSpots (spots_for (forget k) e) → Kept (numbers_in w) so p (forget k) e
+      pub kept-bound : (k : Static) (e : PlainTree) (a : Log) → AreFit w (sites k e) → Known w.numbering z.names z.functions (Same w) k → Within (added w (forget k) e a) z → HaveSpots (spots_for (forget k) e) → Kept (numbers_in w) so p (forget k) e
       kept-bound k (form at f es) a h s i o = (all-bound k es a h s (before-nodes _ _ z i) (spots-later _ _ o), o _ (inl refl))
       kept-bound k (name at x) a h s i o = o _ (inl refl)
       kept-bound k (call at x es) a h s i o =
           let fit = h (called at x (count es) k) (inl refl) in
-          let c : CallStand = record { at = at; name = x; home = forget k } in
-          let t : Site = record { actuals = es; caller = forget k } in
+          let c : CallStand = record { at = at; actuals = es; home = forget k } in
           let b : Log = added_all w (forget k) es a in
           let parts = λ (y : NameSite) (q : In y (sites_in k es)). h y (inr q) in
           let q = call-is w z.names z.functions (Same w) at (count es) x (scoped_inputs w.scoped) (scoped_binding w.scoped at) (meaning x k) fit.0 fit.1 (meaning-known w.numbering z.names z.functions (Same w) x k s) in
-          let on : Within b z = within-then b (with_call c t b) z (within-call c t b) (before-nodes _ _ z i) in
-          (call-kept k at x c refl (i.calls c (in_right c b.calls (c ∷ []) (inl refl))) q, have-site t (i.sites t (in_right t b.sites (t ∷ []) (inl refl))) (nodes-are k es a parts (less-known k s) on), all-bound k es a parts s on (spots-later _ _ o), o _ (inl refl))
+          let on : Within b z = within-then b (with_call c b) z (within-call c b) (before-nodes _ _ z i) in
+          let there : In c z.calls = i.calls c (in_right c b.calls (c ∷ []) (inl refl)) in
+          (call-kept k at x c refl there q, have-place c there (nodes-are k es a parts (less-known k s) on), all-bound k es a parts s on (spots-later _ _ o), o _ (inl refl))
       kept-bound k (block at e ds) a h s i o =
-          let q : Scopes = block_scope ds k in
-          let b : Log = added w (forget q) e a in
+          let q : Static = in_block ds k in
+          let u : Log = opened_block ds (forget k) a in
+          let b : Log = added w (forget q) e u in
           let outside = fit-left w (outside_sites k ds) _ h in
           let inside = fit-right w (outside_sites k ds) _ h in
           let defs = fit-right w (sites q e) _ inside in
@@ -288,15 +288,16 @@ module _ (w : Numbered) (z : Log) (whole : IsWhole w z) where
           let less : Known w.numbering z.names z.functions Nothing q = (defs-known Nothing (forget q) (forget k) ds b on (no-rights (forget q) ds), less-known k s) in
           let rights = rights-are q (forget k) no_names ds b defs less less.0 on in
           let known : Known w.numbering z.names z.functions (Same w) q = (defs-known (Same w) (forget q) (forget k) ds b on rights, s) in
-          (kept-bound q e a (fit-left w (sites q e) _ inside) known (within-then b _ z (within-defs w (forget q) (forget k) ds b) on) (spots-left (spots_for (forget q) e) _ (spots-later _ _ o)), defs-bound q k no_names ds b outside defs known known.0 s on (spots-right (spots_for (forget q) e) _ (spots-later _ _ o)), o _ (inl refl))
+          (kept-bound q e u (fit-left w (sites q e) _ inside) known (within-then b _ z (within-defs w (forget q) (forget k) ds b) on) (spots-left (spots_for (forget q) e) _ (spots-later _ _ o)), defs-bound q k no_names ds b outside defs known known.0 s on (spots-right (spots_for (forget q) e) _ (spots-later _ _ o)), o _ (inl refl))
 
-      all-bound : (k : Scopes) (es : PlainTrees) (a : Log) → AreFit w (sites_in k es) → Known w.numbering z.names z.functions (Same w) k → Within (added_all w (forget k) es a) z → HaveSpots (all_spots (forget k) es) → AllKept (numbers_in w) so p (forget k) es
+      all-bound : (k : Static) (es : PlainTrees) (a : Log) → AreFit w (sites_in k es) → Known w.numbering z.names z.functions (Same w) k → Within (added_all w (forget k) es a) z → HaveSpots (all_spots (forget k) es) → AllKept (numbers_in w) so p (forget k) es
       all-bound k no_trees a h s i o = tt
       all-bound k (tree e es) a h s i o =
           let b : Log = added w (forget k) e a in
           (kept-bound k e a (fit-left w (sites k e) (sites_in k es) h) s (within-then b _ z (within-trees w (forget k) es b) i) (spots-left (spots_for (forget k) e) _ o), all-bound k es b (fit-right w (sites k e) (sites_in k es) h) s i (spots-right (spots_for (forget k) e) _ o))
 
-      defs-bound : (k q : Scopes) (earlier : Earlier) (ds : PlainDefs) (a : Log) → AreFit w (outside_sites q ds) → AreFit w (inside_sites k earlier ds) → Known w.numbering z.names z.functions (Same w) k → DefsKnown w.numbering z.names z.functions (Same w) (forget k) ds → Known w.numbering z.names z.functions (Same w) q → Within (added_defs w (forget k) (forget q) ds a) z → HaveSpots (def_spots (forget k) (forget q) ds) → DefsKept (numbers_in w) so p (forget k) (forget q) ds
+      defs-bound : (k q : Static) (earlier : Earlier) (ds : PlainDefs) (a : Log) → AreFit w (outside_sites q ds) → AreFit w (inside_sites k earlier ds) → Known w.numbering z.names z.functions (Same w) k → DefsKnown w.numbering z.names z.functions (Same w) (forget k) ds → Known w.numbering z.names z.functions (Same w) q
+          → Within (added_defs w (forget k) (forget q) ds a) z → HaveSpots (def_spots (forget k) (forget q) ds) → DefsKept (numbers_in w) so p (forget k) (forget q) ds
       defs-bound k q earlier no_defs a out h s d t i o = tt
       defs-bound k q earlier (defines at x e ds) a out h s d t i o =
           let v : Stand = record { at = at; home = forget k; entry = plain_entry (bound_node w e) } in
@@ -308,9 +309,10 @@ module _ (w : Numbered) (z : Log) (whole : IsWhole w z) where
           let before : Within c z = within-then c b z (within-stand v c) on in
           (subst (λ n. HasRow (numbers_in w) so p at (forget k) (plain_entry n)) (node-is k e a part (less-known k s) before) (have v (last-name v c z on)), kept-bound k e a part s before (spots-left (spots_for (forget k) e) _ o), defs-bound k q (also x earlier) ds b out (fit-right w (sites k e) _ own) s d.1 t i (spots-right (spots_for (forget k) e) _ o))
       defs-bound k q earlier (defines_function at x ns ats e ds) a out h s d t i o =
-          let v : Scopes = function_scope at ns ats k in
+          let v : Static = in_function at ns ats k in
           let f : FunctionStand = record { at = at; first = length a.names; names = ns; places = ats; right = e; home = forget k } in
-          let c : Log = with_parameters (forget v) 0 ats a in
+          let u : Log = opened_function ns ats (forget k) a in
+          let c : Log = with_parameters (forget v) 0 ats u in
           let l : Log = added w (forget v) e c in
           let b : Log = with_function f l in
           let on : Within b z = within-then b _ z (within-defs w (forget k) (forget q) ds b) i in
@@ -318,7 +320,7 @@ module _ (w : Numbered) (z : Log) (whole : IsWhole w z) where
           let first : Within c z = within-then c l z (within-tree w (forget v) e c) before in
           let own = fit-right w (again_if (earlier x) at) _ h in
           let part = fit-right w (repeats no_names ns ats) (sites v e) (fit-left w _ (inside_sites k (also x earlier) ds) own) in
-          (parameters-kept ats (forget v) ns a d.0.1.counts first, kept-bound v e c part (function-known (Same w) k at d.0.0 ns ats e d.0.1 s) before (spots-left (spots_for (forget v) e) _ o), defs-bound k q (also x earlier) ds b out (fit-right w _ (inside_sites k (also x earlier) ds) own) s d.1 t i (spots-right (spots_for (forget v) e) _ o))
+          (parameters-kept ats (forget v) ns u d.0.1.counts first, kept-bound v e c part (function-known (Same w) k at d.0.0 ns ats e d.0.1 s) before (spots-left (spots_for (forget v) e) _ o), defs-bound k q (also x earlier) ds b out (fit-right w _ (inside_sites k (also x earlier) ds) own) s d.1 t i (spots-right (spots_for (forget v) e) _ o))
       defs-bound k q earlier (defines_current at x e ds) a out h s d t i o =
           let v : Stand = record { at = at; home = forget k; entry = current_entry (bound_node w e) } in
           let c : Log = added w (forget q) e a in

@@ -1,7 +1,7 @@
 -- Counts of different items, under a function that is one for one on the list.
 use Rattle.std.proofs.Common.{◌≡◌, ℕ, suc, ◌≤◌, length, List, [], ◌∷◌, map, refl, sym, ap, ◌∙◌, subst, inl, inr, arith}
 use Rattle.lucid_tree.specs.Members.{In, Inside, AllDiffer}
-use Rattle.lucid_compile.specs.Counts.{HasDistinct}
+use Rattle.lucid_equations.specs.Counts.{HasDistinct}
 
 module _ {A B : Type 0} (f : A → B) where
   pub in_map : (x : A) (xs : List A) → In x xs → In (f x) (map f xs)

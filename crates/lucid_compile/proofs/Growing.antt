@@ -1,5 +1,5 @@
 -- Lists that hold what was added hold it with one thing more.
-use Rattle.std.proofs.Common.{◌≡◌, ℕ, suc, ◌+◌, ◌<◌, ◌≤◌, length, List, [], ◌∷◌, ◌++◌, get_or, refl, sym, ap, ◌∙◌, subst, arith, length-append, append_assoc}
+use Rattle.std.proofs.Common.{◌≡◌, ℕ, zero, suc, ◌+◌, ◌<◌, ◌≤◌, length, List, [], ◌∷◌, ◌++◌, get_or, Some, None, slice_get, refl, sym, ap, ◌∙◌, subst, arith, length-append, append_assoc}
 use Rattle.std.proofs.lemmas.List.{append-nil, map-append}
 use Rattle.std.proofs.Math.Seq.{get_or-append_seam}
 use Rattle.std.proofs.lemmas.List.{get_or_append_left}
@@ -7,8 +7,14 @@ use Rattle.lucid_value.specs.Plain.{PlainValue, fault}
 use Rattle.lucid_tree.specs.Tree.{const}
 use Rattle.lucid_scope.specs.Scoped.{scoped_inputs}
 use Rattle.lucid_equations.specs.Nodes.{PlainNode, PlainEntry, row, no_nodes, node, plain_entry, called_entry, current_entry}
-use Rattle.lucid_compile.specs.Static.{Site}
-use Rattle.lucid_compile.specs.Listing.{Stand}
+use Rattle.lucid_compile.specs.Static.{Static, outermost, in_block, in_function, frame, in_body}
+use Rattle.lucid_compile.specs.Numbered.{name_mark}
+use Rattle.lucid_equations.specs.declared.rows.ScopeRow.{ScopeRow}
+use Rattle.lucid_equations.specs.Sound.{ScopeIs, StandsIn, EachStandsIn, PartsStand, EntryStands, IsFilled}
+use Rattle.lucid_equations.specs.declared.rows.ScopeKind.{ScopeKind}
+use Rattle.lucid_equations.specs.declared.rows.ScopeKind.TheVariants.{Called as CalledScope, Frozen as FrozenScope}
+use Rattle.std.specs.Option.{option_map}
+use Rattle.lucid_compile.proofs.Opening.{index-below, some-left, some-last}
 use Rattle.lucid_equations.specs.Ranges.{EachBelow}
 use Rattle.lucid_equations.specs.Rows.{no_node, at, all_at, parts, as_node, grow}
 use Rattle.lucid_equations.specs.declared.rows.Node.{Node}
@@ -19,11 +25,12 @@ use Rattle.lucid_equations.specs.declared.rows.NodeRow.{NodeRow}
 use Rattle.lucid_equations.specs.declared.rows.NameRow.{NameRow}
 use Rattle.lucid_equations.specs.declared.rows.PlaceRow.{PlaceRow}
 use Rattle.lucid_compile.specs.declared.building.Body.{Body}
-use Rattle.lucid_compile.specs.Building.{Lists, with_name, with_body, with_place, OneConstant, OneNode}
-use Rattle.lucid_compile.specs.Bound.{Numbered, bound_node, bound_nodes, CallStand, FunctionStand, NodeStand, Log, with_nodes, with_stand, with_call, with_function}
-use Rattle.lucid_compile.specs.Holds.{nodes_in, IsKnown, AreKnown, HasTarget, NodesHold, IsEntry, NamesHold, SitesHold, FunctionsHold, Holds, Begins, Grown, GrownTo}
+use Rattle.lucid_compile.specs.Building.{Lists, with_name, with_body, with_place, OneScope, OneConstant, OneNode}
+use Rattle.lucid_compile.specs.Bound.{Stand, Numbered, bound_node, bound_nodes, CallStand, FunctionStand, NodeStand, Log, with_nodes, with_scopes, with_stand, with_call, with_function}
+use Rattle.lucid_compile.specs.Holds.{nodes_in, IsKnown, AreKnown, EachRow, NodeFits, NameFits, PlaceFits, BodyFits, IsOpen, IsScopeRow, ScopesHold, HasTarget, IsNodeRow, NodesHold, IsEntry, IsNameRow, NamesHold, IsPlaceRow, PlacesHold, IsBody, FunctionsHold, Holds, Begins, Grown, GrownTo}
+use Rattle.lucid_compile.proofs.Pairs.{pairs-one, pairs-count, pairs-kept}
 
-pub begins-then : (xs ys zs : List PlainNode) → Begins xs ys → Begins ys zs → Begins xs zs
+pub begins-then : {A : Type 0} (xs ys zs : List A) → Begins xs ys → Begins ys zs → Begins xs zs
 begins-then xs ys zs h k = (h.0 ++ k.0, k.1 ∙ ap (λ l. l ++ k.0) h.1 ∙ append_assoc xs h.0 k.0)
 
 pub at-kept : (ts us : List PlainNode) (i : ℕ) → Begins ts us → i < length ts → at us i ≡ at ts i
@@ -33,7 +40,7 @@ pub all_at-kept : (ts us : List PlainNode) (is : List ℕ) → Begins ts us → 
 all_at-kept ts us [] b h = refl
 all_at-kept ts us (i ∷ is) b h = λ j. node (at-kept ts us i b h.0 j) (all_at-kept ts us is b h.1 j)
 
-pub begins-itself : (xs : List PlainNode) → Begins xs xs
+pub begins-itself : {A : Type 0} (xs : List A) → Begins xs xs
 begins-itself xs = ([], sym (append-nil xs))
 
 -- constants
@@ -108,6 +115,64 @@ grow-count vs ns ts (r ∷ rs) =
     let g = length-append ts (as_node vs ns ts r.node ∷ []) in
     omega (arith, h, g)
 
+-- each row of some and one more, and what follows of each
+
+pub each-one : {A : Type 0} (P : A → Type 0) (rs : List A) (r : A) → EachRow P rs → P r → EachRow P (rs ++ r ∷ [])
+each-one P [] r h g = (g, tt)
+each-one P (x ∷ rs) r h g = (h.0, each-one P rs r h.1 g)
+
+pub each-row : {A : Type 0} (P Q : A → Type 0) (rs : List A) → ((r : A) → P r → Q r) → EachRow P rs → EachRow Q rs
+each-row P Q [] f h = tt
+each-row P Q (r ∷ rs) f h = (f r h.0, each-row P Q rs f h.1)
+
+-- what stands somewhere stays where more rows are there
+
+pub scope-kept : (xs ys : List ScopeRow) → Begins xs ys → (s p : ℕ) (k : ScopeKind) → ScopeIs xs s p k → ScopeIs ys s p k
+scope-kept xs ys b s p k h = ap (λ l. slice_get l s) b.1 ∙ some-left xs b.0 s (record { parent = p; kind = k }) h
+
+stands-left : (rs more : List NodeRow) (s id : ℕ) → StandsIn rs s id → StandsIn (rs ++ more) s id
+stands-left [] more s id h =
+    let q : None ≡ Some s = h in
+    absurd (cc)
+stands-left (r ∷ rs) more s zero h = h
+stands-left (r ∷ rs) more s (suc id) h = stands-left rs more s id h
+
+pub stands-kept : (rs qs : List NodeRow) → Begins rs qs → (s id : ℕ) → StandsIn rs s id → StandsIn qs s id
+stands-kept rs qs b s id h = subst (λ l. StandsIn l s id) (sym b.1) (stands-left rs b.0 s id h)
+
+pub each-stands-kept : (rs qs : List NodeRow) → Begins rs qs → (s : ℕ) (ids : List ℕ) → EachStandsIn rs s ids → EachStandsIn qs s ids
+each-stands-kept rs qs b s [] h = tt
+each-stands-kept rs qs b s (id ∷ ids) h = (stands-kept rs qs b s id h.0, each-stands-kept rs qs b s ids h.1)
+
+module _ (xs ys : List ScopeRow) (rs qs : List NodeRow) (a : Begins xs ys) (b : Begins rs qs) where
+  pub parts-kept : (s : ℕ) (n : Node) → PartsStand xs rs s n → PartsStand ys qs s n
+  parts-kept s (Const k) h = tt
+  parts-kept s (Input k) h = tt
+  parts-kept s (Apply op args) h = each-stands-kept rs qs b s (parts (Apply op args)) h
+  parts-kept s (If x y z) h = each-stands-kept rs qs b s (x ∷ y ∷ z ∷ []) h
+  parts-kept s (And x y) h = each-stands-kept rs qs b s (x ∷ y ∷ []) h
+  parts-kept s (Or x y) h = each-stands-kept rs qs b s (x ∷ y ∷ []) h
+  parts-kept s (First x) h = each-stands-kept rs qs b s (x ∷ []) h
+  parts-kept s (Next x) h = each-stands-kept rs qs b s (x ∷ []) h
+  parts-kept s (Fby x y) h = each-stands-kept rs qs b s (x ∷ y ∷ []) h
+  parts-kept s (Whenever x y) h = each-stands-kept rs qs b s (x ∷ y ∷ []) h
+  parts-kept s (Asa x y) h = each-stands-kept rs qs b s (x ∷ y ∷ []) h
+  parts-kept s (Upon x y) h = each-stands-kept rs qs b s (x ∷ y ∷ []) h
+  parts-kept s (Attime x y) h = each-stands-kept rs qs b s (x ∷ y ∷ []) h
+  parts-kept s (Initial x) h = each-stands-kept rs qs b s (x ∷ []) h
+  parts-kept s (Succ x) h = each-stands-kept rs qs b s (x ∷ []) h
+  parts-kept s (Sby x y) h = each-stands-kept rs qs b s (x ∷ y ∷ []) h
+  parts-kept s (Atspace x y) h = each-stands-kept rs qs b s (x ∷ y ∷ []) h
+  parts-kept s (Freeze x) h = (h.0, scope-kept xs ys a h.0 s FrozenScope h.1, stands-kept rs qs b h.0 x h.2)
+  parts-kept s (Refer n l) h = tt
+  parts-kept s (Call n q l) h = tt
+
+  pub entry-stands-kept : (s : ℕ) (e : Entry) → EntryStands xs rs s e → EntryStands ys qs s e
+  entry-stands-kept s (Plain x) h = stands-kept rs qs b s x h
+  entry-stands-kept s (Parameter i) h = (h.0, scope-kept xs ys a s h.0 CalledScope h.1)
+  entry-stands-kept s (Current x) h = (h.0, scope-kept xs ys a s h.0 FrozenScope h.1, stands-kept rs qs b h.0 x h.2)
+  entry-stands-kept s (Called x) h = (h.0, scope-kept xs ys a s h.0 CalledScope h.1, stands-kept rs qs b s x h.2)
+
 -- what is held stays where the nodes before stay
 
 module _ (ts us : List PlainNode) (b : Begins ts us) where
@@ -124,89 +189,97 @@ module _ (ts us : List PlainNode) (b : Begins ts us) where
   entry-kept (Current a) e h = (within-kept a h.0, ap current_entry (at-kept ts us a b h.0) ∙ h.1)
   entry-kept (Called a) e h = (within-kept a h.0, ap called_entry (at-kept ts us a b h.0) ∙ h.1)
 
-  pub names-kept : (rs : List NameRow) (ss : List Stand) → NamesHold ts rs ss → NamesHold us rs ss
-  names-kept [] [] h = tt
-  names-kept [] (s ∷ ss) h = absurd h
-  names-kept (r ∷ rs) [] h = absurd h
-  names-kept (r ∷ rs) (s ∷ ss) h = (entry-kept r.kind s.entry h.0, names-kept rs ss h.1)
+  pub names-kept : (ks : List Static) (rs : List NameRow) (ss : List Stand) → NamesHold ks ts rs ss → NamesHold ks us rs ss
+  names-kept ks rs ss h = pairs-kept (λ i r s. IsNameRow ks ts r s) (λ i r s. IsNameRow ks us r s) (λ i r s x. (entry-kept r.kind s.entry x.0, x.1)) 0 rs ss h
 
-  sites-kept : (w : Numbered) (rs : List PlaceRow) (ss : List Site) → SitesHold w ts rs ss → SitesHold w us rs ss
-  sites-kept w [] [] h = tt
-  sites-kept w [] (s ∷ ss) h = absurd h
-  sites-kept w (r ∷ rs) [] h = absurd h
-  sites-kept w (r ∷ rs) (s ∷ ss) h = (each-kept r.actuals h.0, all_at-kept ts us r.actuals b h.0 ∙ h.1, sites-kept w rs ss h.2)
+  places-kept : (w : Numbered) (ks : List Static) (rs : List PlaceRow) (cs : List CallStand) → PlacesHold w ks ts rs cs → PlacesHold w ks us rs cs
+  places-kept w ks rs cs h =
+      pairs-kept (λ i r c. IsPlaceRow w ks ts r c) (λ i r c. IsPlaceRow w ks us r c) (λ i r c x. (each-kept r.actuals x.0, all_at-kept ts us r.actuals b x.0 ∙ x.1, x.2, x.3)) 0 rs cs h
 
-  functions-kept : (w : Numbered) (bs : List Body) (fs : List FunctionStand) → FunctionsHold w ts bs fs → FunctionsHold w us bs fs
-  functions-kept w [] [] h = tt
-  functions-kept w [] (f ∷ fs) h = absurd h
-  functions-kept w (x ∷ bs) [] h = absurd h
-  functions-kept w (x ∷ bs) (f ∷ fs) h = (within-kept x.body h.0, at-kept ts us x.body b h.0 ∙ h.1, functions-kept w bs fs h.2)
+  functions-kept : (w : Numbered) (ks : List Static) (bs : List Body) (fs : List FunctionStand) → FunctionsHold w ks ts bs fs → FunctionsHold w ks us bs fs
+  functions-kept w ks bs fs h = pairs-kept (λ i x f. IsBody w ks ts x f) (λ i x f. IsBody w ks us x f) (λ i x f y. (within-kept x.body y.0, at-kept ts us x.body b y.0 ∙ y.1, y.2)) 0 bs fs h
 
--- one row more
+-- what is held stays where more scopes are open
 
-nodes-one : (w : Numbered) (i : ℕ) (rs : List NodeRow) (ss : List NodeStand) (r : NodeRow) (s : NodeStand) → NodesHold w i rs ss → EachBelow (i + length rs) (parts r.node) → HasTarget w r.node s.target → NodesHold w i (rs ++ r ∷ []) (ss ++ s ∷ [])
-nodes-one w i [] [] r s h b x =
-    let e : i + 0 ≡ i = omega arith in
-    (subst (λ n. EachBelow n (parts r.node)) e b, x, tt)
-nodes-one w i [] (_ ∷ ss) r s h b x = absurd h
-nodes-one w i (_ ∷ rs) [] r s h b x = absurd h
-nodes-one w i (y ∷ rs) (_ ∷ ss) r s h b x =
-    let e : i + length (y ∷ rs) ≡ suc i + length rs = omega arith in
-    (h.0, h.1, nodes-one w (suc i) rs ss r s h.2 (subst (λ n. EachBelow n (parts r.node)) e b) x)
+module _ (ks more : List Static) where
+  scope-row-open : (i : ℕ) (r : ScopeRow) (k : Static) → IsScopeRow ks i r k → IsScopeRow (ks ++ more) i r k
+  scope-row-open i r outermost h = h
+  scope-row-open i r (in_block ds k) h = (h.0, h.1, some-left ks more r.parent (frame k) h.2)
+  scope-row-open i r (in_function d ns ats k) h = (h.0, h.1, some-left ks more r.parent (frame k) h.2)
+
+  scopes-open : (rs : List ScopeRow) (ss : List Static) → ScopesHold ks rs ss → ScopesHold (ks ++ more) rs ss
+  scopes-open rs ss h = pairs-kept (IsScopeRow ks) (IsScopeRow (ks ++ more)) scope-row-open 0 rs ss h
+
+  nodes-open : (w : Numbered) (rs : List NodeRow) (ss : List NodeStand) → NodesHold w ks rs ss → NodesHold w (ks ++ more) rs ss
+  nodes-open w rs ss h = pairs-kept (IsNodeRow w ks) (IsNodeRow w (ks ++ more)) (λ i r s x. (x.0, x.1, some-left ks more r.scope (frame s.home) x.2)) 0 rs ss h
+
+  names-open : (ts : List PlainNode) (rs : List NameRow) (ss : List Stand) → NamesHold ks ts rs ss → NamesHold (ks ++ more) ts rs ss
+  names-open ts rs ss h = pairs-kept (λ i r s. IsNameRow ks ts r s) (λ i r s. IsNameRow (ks ++ more) ts r s) (λ i r s x. (x.0, some-left ks more r.scope (frame s.home) x.1)) 0 rs ss h
+
+  places-open : (w : Numbered) (ts : List PlainNode) (rs : List PlaceRow) (cs : List CallStand) → PlacesHold w ks ts rs cs → PlacesHold w (ks ++ more) ts rs cs
+  places-open w ts rs cs h =
+      pairs-kept (λ i r c. IsPlaceRow w ks ts r c) (λ i r c. IsPlaceRow w (ks ++ more) ts r c) (λ i r c x. (x.0, x.1, some-left ks more r.scope (frame c.home) x.2, x.3)) 0 rs cs h
+
+  functions-open : (w : Numbered) (ts : List PlainNode) (bs : List Body) (fs : List FunctionStand) → FunctionsHold w ks ts bs fs → FunctionsHold w (ks ++ more) ts bs fs
+  functions-open w ts bs fs h =
+      pairs-kept (λ i x f. IsBody w ks ts x f) (λ i x f. IsBody w (ks ++ more) ts x f) (λ i x f y. (y.0, y.1, some-left ks more x.scope (in_body f.names f.places f.home) y.2)) 0 bs fs h
 
 pub no-nodes : (g : Log) → with_nodes [] g ≡ g
-no-nodes g = λ j. record { names = g.names; calls = g.calls; sites = g.sites; functions = g.functions; nodes = append-nil g.nodes j }
+no-nodes g = λ j. record { names = g.names; calls = g.calls; functions = g.functions; nodes = append-nil g.nodes j; scopes = g.scopes }
 
-pub names-one : (ts : List PlainNode) (rs : List NameRow) (ss : List Stand) (r : NameRow) (s : Stand) → NamesHold ts rs ss → IsEntry ts r.kind s.entry → NamesHold ts (rs ++ r ∷ []) (ss ++ s ∷ [])
-names-one ts [] [] r s h x = (x, tt)
-names-one ts [] (_ ∷ ss) r s h x = absurd h
-names-one ts (_ ∷ rs) [] r s h x = absurd h
-names-one ts (_ ∷ rs) (_ ∷ ss) r s h x = (h.0, names-one ts rs ss r s h.1 x)
-
-sites-one : (w : Numbered) (ts : List PlainNode) (rs : List PlaceRow) (ss : List Site) (r : PlaceRow) (s : Site) → SitesHold w ts rs ss → EachBelow (length ts) r.actuals → all_at ts r.actuals ≡ bound_nodes w s.actuals → SitesHold w ts (rs ++ r ∷ []) (ss ++ s ∷ [])
-sites-one w ts [] [] r s h b x = (b, x, tt)
-sites-one w ts [] (_ ∷ ss) r s h b x = absurd h
-sites-one w ts (_ ∷ rs) [] r s h b x = absurd h
-sites-one w ts (_ ∷ rs) (_ ∷ ss) r s h b x = (h.0, h.1, sites-one w ts rs ss r s h.2 b x)
-
-functions-one : (w : Numbered) (ts : List PlainNode) (bs : List Body) (fs : List FunctionStand) (x : Body) (f : FunctionStand) → FunctionsHold w ts bs fs → x.body < length ts → at ts x.body ≡ bound_node w f.right → FunctionsHold w ts (bs ++ x ∷ []) (fs ++ f ∷ [])
-functions-one w ts [] [] x f h b y = (b, y, tt)
-functions-one w ts [] (_ ∷ fs) x f h b y = absurd h
-functions-one w ts (_ ∷ bs) [] x f h b y = absurd h
-functions-one w ts (_ ∷ bs) (_ ∷ fs) x f h b y = (h.0, h.1, functions-one w ts bs fs x f h.2 b y)
+pub no-scopes : (g : Log) → with_scopes [] g ≡ g
+no-scopes g = λ j. record { names = g.names; calls = g.calls; functions = g.functions; nodes = g.nodes; scopes = append-nil g.scopes j }
 
 module _ (w : Numbered) where
   pub grown-none : (o : Lists) (g : Log) → Holds w o g → Grown w o o g
-  grown-none o g h = record { holds = h; begins = begins-itself (nodes_in w o) }
+  grown-none o g h = record { holds = h; begins = begins-itself (nodes_in w o); rows = begins-itself o.nodes; outer = begins-itself o.scopes }
 
   pub grown-then : (o m n : Lists) (g h : Log) → Grown w o m g → Grown w m n h → Grown w o n h
-  grown-then o m n g h a b = record { holds = b.holds; begins = begins-then (nodes_in w o) (nodes_in w m) (nodes_in w n) a.begins b.begins }
+  grown-then o m n g h a b = record { holds = b.holds; begins = begins-then (nodes_in w o) (nodes_in w m) (nodes_in w n) a.begins b.begins; rows = begins-then o.nodes m.nodes n.nodes a.rows b.rows; outer = begins-then o.scopes m.scopes n.scopes a.outer b.outer }
 
   -- what is held, with other nodes
-  with-more : (o n : Lists) (g : Log) (more : List NodeStand) → Holds w o g → Begins (nodes_in w o) (nodes_in w n) → AreKnown (length n.constants) n.nodes → NodesHold w 0 n.nodes (g.nodes ++ more) → n.names ≡ o.names → n.places ≡ o.places → n.bodies ≡ o.bodies → n.calls ≡ o.calls → Grown w o n (with_nodes more g)
-  with-more o n g more h b k nodes names places bodies calls = record {
-    begins = b;
-    holds = record {
-      known = k;
-      nodes = nodes;
-      names = rw names (names-kept (nodes_in w o) (nodes_in w n) b o.names g.names h.names);
-      sites = rw places (sites-kept (nodes_in w o) (nodes_in w n) b w o.places g.sites h.sites);
-      functions = rw bodies (functions-kept (nodes_in w o) (nodes_in w n) b w o.bodies g.functions h.functions);
-      calls = calls ∙ h.calls;
-    };
-  }
+  with-more : (o n : Lists) (g : Log) (more : List NodeStand) → Holds w o g → Begins (nodes_in w o) (nodes_in w n) → AreKnown (length n.constants) n.nodes → NodesHold w g.scopes n.nodes (g.nodes ++ more) → Begins o.nodes n.nodes → EachRow (NodeFits n.scopes n.nodes) n.nodes → n.scopes ≡ o.scopes → n.names ≡ o.names
+      → n.places ≡ o.places → n.bodies ≡ o.bodies → n.calls ≡ o.calls → Grown w o n (with_nodes more g)
+  with-more o n g more h b k nodes later parts scopes names places bodies calls =
+      let outer : Begins o.scopes n.scopes = ([], scopes ∙ sym (append-nil o.scopes)) in
+      record {
+        begins = b;
+        rows = later;
+        outer = outer;
+        holds = record {
+          known = k;
+          outer = h.outer;
+          scopes = rw scopes h.scopes;
+          nodes = nodes;
+          names = rw names (names-kept (nodes_in w o) (nodes_in w n) b g.scopes o.names g.names h.names);
+          places = rw places (places-kept (nodes_in w o) (nodes_in w n) b w g.scopes o.places g.calls h.places);
+          functions = rw bodies (functions-kept (nodes_in w o) (nodes_in w n) b w g.scopes o.bodies g.functions h.functions);
+          calls = calls ∙ h.calls;
+          parts = parts;
+          entries = rw names (each-row (NameFits o.scopes o.nodes) (NameFits n.scopes n.nodes) o.names (λ r x. entry-stands-kept o.scopes n.scopes o.nodes n.nodes outer later r.scope r.kind x) h.entries);
+          actuals = rw places (each-row (PlaceFits o.nodes) (PlaceFits n.nodes) o.places (λ r x. each-stands-kept o.nodes n.nodes later r.scope r.actuals x) h.actuals);
+          rights = rw bodies (each-row (BodyFits o.scopes o.nodes) (BodyFits n.scopes n.nodes) o.bodies (λ x y. entry-stands-kept o.scopes n.scopes o.nodes n.nodes outer later x.scope (Called x.body) y) h.rights);
+        };
+      }
 
-  pub push-grown : (o n : Lists) (g : Log) (r : NodeRow) (v : NodeStand) (id : ℕ) → Holds w o g → OneNode o n r id → IsKnown (length o.constants) r.node → EachBelow (length (nodes_in w o)) (parts r.node) → HasTarget w r.node v.target
-      → GrownTo w o n (with_nodes (v ∷ []) g) (as_node o.constants (scoped_inputs w.scoped) (nodes_in w o) r.node) id
-  push-grown o n g r v id h s k b a =
+  pub push-grown : (o n : Lists) (g : Log) (r : NodeRow) (v : NodeStand) (id : ℕ) → Holds w o g → OneNode o n r id → IsKnown (length o.constants) r.node → EachBelow (length (nodes_in w o)) (parts r.node) → HasTarget w r.node v.target → IsOpen g.scopes r.scope v.home → PartsStand o.scopes o.nodes r.scope r.node → IsFilled r.node
+      → GrownTo w o n (with_nodes (v ∷ []) g) (as_node o.constants (scoped_inputs w.scoped) (nodes_in w o) r.node) r.scope id
+  push-grown o n g r v id h s k b a c q z =
       let x : PlainNode = as_node o.constants (scoped_inputs w.scoped) (nodes_in w o) r.node in
       let more : nodes_in w n ≡ nodes_in w o ++ x ∷ [] = ap (nodes_in w) s.lists ∙ grow-one o.constants (scoped_inputs w.scoped) [] o.nodes r in
       let count : length (nodes_in w o) ≡ length o.nodes = omega (arith, grow-count o.constants (scoped_inputs w.scoped) [] o.nodes) in
       let zero_more : length (nodes_in w o) ≡ 0 + length o.nodes = omega (arith, count) in
+      let later : Begins o.nodes n.nodes = (r ∷ [], ap (λ (l : Lists). l.nodes) s.lists) in
+      let here : Begins o.scopes o.scopes = begins-itself o.scopes in
+      let end : Begins o.nodes (o.nodes ++ r ∷ []) = (r ∷ [], refl) in
+      let kept : (y : NodeRow) → NodeFits o.scopes o.nodes y → NodeFits o.scopes (o.nodes ++ r ∷ []) y = λ y u. (parts-kept o.scopes o.scopes o.nodes (o.nodes ++ r ∷ []) here end y.scope y.node u.0, u.1) in
+      let fitting : EachRow (NodeFits o.scopes (o.nodes ++ r ∷ [])) (o.nodes ++ r ∷ []) = each-one (NodeFits o.scopes (o.nodes ++ r ∷ [])) o.nodes r (each-row (NodeFits o.scopes o.nodes) (NodeFits o.scopes (o.nodes ++ r ∷ [])) o.nodes kept h.parts) (kept r (q, z)) in
       record {
-        grown = with-more o n g (v ∷ []) h (x ∷ [], more) (rw s.lists (known-one (length o.constants) o.nodes r h.known k)) (rw s.lists (nodes-one w 0 o.nodes g.nodes r v h.nodes (subst (λ c. EachBelow c (parts r.node)) zero_more b) a)) (ap (λ l. l.names) s.lists) (ap (λ l. l.places) s.lists) (ap (λ l. l.bodies) s.lists) (ap (λ l. l.calls) s.lists);
+        grown = with-more o n g (v ∷ []) h (x ∷ [], more) (rw s.lists (known-one (length o.constants) o.nodes r h.known k)) (rw s.lists (pairs-one (IsNodeRow w g.scopes) 0 o.nodes g.nodes r v h.nodes (subst (λ c. EachBelow c (parts r.node)) zero_more b, a, c))) later
+            (rw s.lists fitting) (ap (λ (l : Lists). l.scopes) s.lists) (ap (λ l. l.names) s.lists) (ap (λ l. l.places) s.lists) (ap (λ l. l.bodies) s.lists) (ap (λ l. l.calls) s.lists);
         within = omega (arith, s.number, count, ap length more, length-append (nodes_in w o) (x ∷ []));
         is = ap (λ l. at l id) more ∙ ap (λ i. at (nodes_in w o ++ x ∷ []) i) (s.number ∙ sym count) ∙ get_or-append_seam (nodes_in w o) x [] no_node;
+        stands = ap (λ (l : Lists). option_map (λ y. y.scope) (slice_get l.nodes id)) s.lists ∙ ap (λ i. option_map (λ y. y.scope) (slice_get (o.nodes ++ r ∷ []) i)) s.number ∙ ap (option_map (λ y. y.scope)) (some-last o.nodes r);
       }
 
   pub keep-grown : (o n : Lists) (g : Log) (v : PlainValue) (id : ℕ) → Holds w o g → OneConstant o n v id → Grown w o n g
@@ -214,7 +287,8 @@ module _ (w : Numbered) where
       let same : nodes_in w n ≡ nodes_in w o = ap (nodes_in w) s.lists ∙ grow-more o.constants (v ∷ []) (scoped_inputs w.scoped) [] o.nodes h.known in
       let count : length (o.constants ++ v ∷ []) ≡ length o.constants + 1 = length-append o.constants (v ∷ []) in
       subst (Grown w o n) (no-nodes g)
-      (with-more o n g [] h ([], same ∙ sym (append-nil (nodes_in w o))) (rw s.lists (all_known-less (length o.constants) (length (o.constants ++ v ∷ [])) o.nodes (omega (arith, count)) h.known)) (rw s.lists (subst (NodesHold w 0 o.nodes) (sym (append-nil g.nodes)) h.nodes)) (ap (λ l. l.names) s.lists) (ap (λ l. l.places) s.lists) (ap (λ l. l.bodies) s.lists) (ap (λ l. l.calls) s.lists))
+      (with-more o n g [] h ([], same ∙ sym (append-nil (nodes_in w o))) (rw s.lists (all_known-less (length o.constants) (length (o.constants ++ v ∷ [])) o.nodes (omega (arith, count)) h.known)) (rw s.lists (subst (NodesHold w g.scopes o.nodes) (sym (append-nil g.nodes)) h.nodes))
+      (subst (Begins o.nodes) (sym (ap (λ (l : Lists). l.nodes) s.lists)) (begins-itself o.nodes)) (rw s.lists h.parts) (ap (λ (l : Lists). l.scopes) s.lists) (ap (λ l. l.names) s.lists) (ap (λ l. l.places) s.lists) (ap (λ l. l.bodies) s.lists) (ap (λ l. l.calls) s.lists))
 
   pub keep-constant : (o n : Lists) (v : PlainValue) (id : ℕ) → OneConstant o n v id → get_or n.constants id fault ≡ v
   keep-constant o n v id s = ap (λ l. get_or l.constants id fault) s.lists ∙ ap (λ i. get_or (o.constants ++ v ∷ []) i fault) s.number ∙ get_or-append_seam o.constants v [] fault
@@ -222,44 +296,103 @@ module _ (w : Numbered) where
   pub keep-known : (o n : Lists) (v : PlainValue) (id : ℕ) → OneConstant o n v id → id < length n.constants
   keep-known o n v id s = omega (arith, s.number, ap (λ l. length l.constants) s.lists, length-append o.constants (v ∷ []))
 
-  pub define-grown : (o n : Lists) (g : Log) (s : Stand) (r : NameRow) → Holds w o g → n ≡ with_name r o → IsEntry (nodes_in w o) r.kind s.entry → Grown w o n (with_stand s g)
-  define-grown o n g s r h x e =
+  -- a scope of its own, which is then open
+  pub open-grown : (o n : Lists) (g : Log) (k : Static) (r : ScopeRow) (id : ℕ) → Holds w o g → OneScope o n r id → IsScopeRow g.scopes id r k → Grown w o n (with_scopes (k ∷ []) g)
+  open-grown o n g k r id h s x =
+      let more : List Static = k ∷ [] in
+      let number : id ≡ 0 + length o.scopes = omega (arith, s.number) in
+      subst (λ z. Grown w o z (with_scopes more g)) (sym s.lists) (record {
+        begins = begins-itself (nodes_in w o);
+        rows = begins-itself o.nodes;
+        outer = (r ∷ [], refl);
+        holds = record {
+          known = h.known;
+          outer = some-left g.scopes more 0 outermost h.outer;
+          scopes = pairs-one (IsScopeRow (g.scopes ++ more)) 0 o.scopes g.scopes r k (scopes-open g.scopes more o.scopes g.scopes h.scopes) (subst (λ i. IsScopeRow (g.scopes ++ more) i r k) number (scope-row-open g.scopes more id r k x));
+          nodes = nodes-open g.scopes more w o.nodes g.nodes h.nodes;
+          names = names-open g.scopes more (nodes_in w o) o.names g.names h.names;
+          places = places-open g.scopes more w (nodes_in w o) o.places g.calls h.places;
+          functions = functions-open g.scopes more w (nodes_in w o) o.bodies g.functions h.functions;
+          calls = h.calls;
+          parts = each-row (NodeFits o.scopes o.nodes) (NodeFits (o.scopes ++ r ∷ []) o.nodes) o.nodes (λ y u. (parts-kept o.scopes (o.scopes ++ r ∷ []) o.nodes o.nodes (r ∷ [], refl) (begins-itself o.nodes) y.scope y.node u.0, u.1)) h.parts;
+          entries = each-row (NameFits o.scopes o.nodes) (NameFits (o.scopes ++ r ∷ []) o.nodes) o.names (λ y u. entry-stands-kept o.scopes (o.scopes ++ r ∷ []) o.nodes o.nodes (r ∷ [], refl) (begins-itself o.nodes) y.scope y.kind u) h.entries;
+          actuals = h.actuals;
+          rights = each-row (BodyFits o.scopes o.nodes) (BodyFits (o.scopes ++ r ∷ []) o.nodes) o.bodies (λ y u. entry-stands-kept o.scopes (o.scopes ++ r ∷ []) o.nodes o.nodes (r ∷ [], refl) (begins-itself o.nodes) y.scope (Called y.body) u) h.rights;
+        };
+      })
+
+  -- that scope is what is in scope, where it is its own frame
+  pub opened-is : (o n : Lists) (g : Log) (k : Static) (r : ScopeRow) (id : ℕ) → Holds w o g → OneScope o n r id → frame k ≡ k → IsOpen (g.scopes ++ k ∷ []) id k
+  opened-is o n g k r id h s own =
+      let count = pairs-count (IsScopeRow g.scopes) 0 o.scopes g.scopes h.scopes in
+      ap (slice_get (g.scopes ++ k ∷ [])) (s.number ∙ count) ∙ some-last g.scopes k ∙ ap Some (sym own)
+
+  -- a parent that is open has a lower number
+  pub parent-below : (o n : Lists) (g : Log) (r : ScopeRow) (id parent : ℕ) (k : Static) → Holds w o g → OneScope o n r id → IsOpen g.scopes parent k → parent < id
+  parent-below o n g r id parent k h s c = omega (arith, index-below g.scopes parent (frame k) c, s.number, pairs-count (IsScopeRow g.scopes) 0 o.scopes g.scopes h.scopes)
+
+  pub define-grown : (o n : Lists) (g : Log) (s : Stand) (r : NameRow) → Holds w o g → n ≡ with_name r o → IsEntry (nodes_in w o) r.kind s.entry → IsOpen g.scopes r.scope s.home → EntryStands o.scopes o.nodes r.scope r.kind → Grown w o n (with_stand s g)
+  define-grown o n g s r h x e c q =
       subst (λ z. Grown w o z (with_stand s g)) (sym x) (record {
         begins = begins-itself (nodes_in w o);
+        rows = begins-itself o.nodes;
+        outer = begins-itself o.scopes;
         holds = record {
           known = h.known;
+          outer = h.outer;
+          scopes = h.scopes;
           nodes = h.nodes;
-          names = names-one (nodes_in w o) o.names g.names r s h.names e;
-          sites = h.sites;
+          names = pairs-one (λ i r s. IsNameRow g.scopes (nodes_in w o) r s) 0 o.names g.names r s h.names (e, c);
+          places = h.places;
           functions = h.functions;
           calls = h.calls;
+          parts = h.parts;
+          entries = each-one (NameFits o.scopes o.nodes) o.names r h.entries q;
+          actuals = h.actuals;
+          rights = h.rights;
         };
       })
 
-  pub close-grown : (o n : Lists) (g : Log) (f : FunctionStand) (b : Body) → Holds w o g → n ≡ with_body b o → b.body < length (nodes_in w o) → at (nodes_in w o) b.body ≡ bound_node w f.right → Grown w o n (with_function f g)
-  close-grown o n g f b h x l e =
+  pub close-grown : (o n : Lists) (g : Log) (f : FunctionStand) (b : Body) → Holds w o g → n ≡ with_body b o → b.body < length (nodes_in w o) → at (nodes_in w o) b.body ≡ bound_node w f.right → IsOpen g.scopes b.scope (in_body f.names f.places f.home) → EntryStands o.scopes o.nodes b.scope (Called b.body) → Grown w o n (with_function f g)
+  close-grown o n g f b h x l e c q =
       subst (λ z. Grown w o z (with_function f g)) (sym x) (record {
         begins = begins-itself (nodes_in w o);
+        rows = begins-itself o.nodes;
+        outer = begins-itself o.scopes;
         holds = record {
           known = h.known;
+          outer = h.outer;
+          scopes = h.scopes;
           nodes = h.nodes;
           names = h.names;
-          sites = h.sites;
-          functions = functions-one w (nodes_in w o) o.bodies g.functions b f h.functions l e;
+          places = h.places;
+          functions = pairs-one (λ i x f. IsBody w g.scopes (nodes_in w o) x f) 0 o.bodies g.functions b f h.functions (l, e, c);
           calls = h.calls;
+          parts = h.parts;
+          entries = h.entries;
+          actuals = h.actuals;
+          rights = each-one (BodyFits o.scopes o.nodes) o.bodies b h.rights q;
         };
       })
 
-  pub place-grown : (o n : Lists) (g : Log) (c : CallStand) (s : Site) (r : PlaceRow) → Holds w o g → n ≡ with_place r c.at o → EachBelow (length (nodes_in w o)) r.actuals → all_at (nodes_in w o) r.actuals ≡ bound_nodes w s.actuals → Grown w o n (with_call c s g)
-  place-grown o n g c s r h x l e =
-      subst (λ z. Grown w o z (with_call c s g)) (sym x) (record {
+  pub place-grown : (o n : Lists) (g : Log) (c : CallStand) (r : PlaceRow) → Holds w o g → n ≡ with_place r c.at o → EachBelow (length (nodes_in w o)) r.actuals → all_at (nodes_in w o) r.actuals ≡ bound_nodes w c.actuals → IsOpen g.scopes r.scope c.home → r.name ≡ (name_mark w.numbering c.at).number → EachStandsIn o.nodes r.scope r.actuals → Grown w o n (with_call c g)
+  place-grown o n g c r h x l e i is_name q =
+      subst (λ z. Grown w o z (with_call c g)) (sym x) (record {
         begins = begins-itself (nodes_in w o);
+        rows = begins-itself o.nodes;
+        outer = begins-itself o.scopes;
         holds = record {
           known = h.known;
+          outer = h.outer;
+          scopes = h.scopes;
           nodes = h.nodes;
           names = h.names;
-          sites = sites-one w (nodes_in w o) o.places g.sites r s h.sites l e;
+          places = pairs-one (λ i r c. IsPlaceRow w g.scopes (nodes_in w o) r c) 0 o.places g.calls r c h.places (l, e, i, is_name);
           functions = h.functions;
           calls = ap (λ l. l ++ c.at ∷ []) h.calls ∙ sym (map-append (λ z. z.at) g.calls (c ∷ []));
+          parts = h.parts;
+          entries = h.entries;
+          actuals = each-one (PlaceFits o.nodes) o.places r h.actuals q;
+          rights = h.rights;
         };
       })

@@ -10,7 +10,8 @@ use Rattle.lucid_tags.specs.Contexts.{root}
 use Rattle.lucid_equations.specs.Nodes.{Equations}
 use Rattle.lucid_equations.specs.Datons.{Daton}
 use Rattle.lucid_equations.specs.Values.{node_hval, eqhval}
-use Rattle.lucid_compile.specs.Counts.{Points, valued_datons, valued_entries}
+use Rattle.lucid_equations.specs.Counts.{Points, valued_datons}
+use Rattle.lucid_compile.specs.Counts.{valued_entries}
 use Rattle.lucid_compile.specs.Static.{Numbers, Source, daton_of}
 use Rattle.lucid_compile.specs.Compiles.{Compiles}
 use Rattle.lucid_compile.proofs.Targets.{Placed}

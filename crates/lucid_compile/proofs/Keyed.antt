@@ -6,21 +6,20 @@ use Rattle.lucid_tree.specs.Lists.{trees_of}
 use Rattle.lucid_tree.specs.DefsView.{one_def, defs_of}
 use Rattle.lucid_tree.specs.declared.tree.Def.{Def}
 use Rattle.lucid_equations.specs.Nodes.{plain_entry, current_entry, parameter_entry}
-use Rattle.lucid_compile.specs.Static.{Static, in_block, in_function, Site, freezes, level}
+use Rattle.lucid_compile.specs.Static.{Static, in_block, freezes, level, in_body}
 use Rattle.lucid_compile.specs.Places.{first_place}
-use Rattle.lucid_compile.specs.Listing.{Stand}
-use Rattle.lucid_compile.specs.Bound.{bound_node, CallStand, FunctionStand, Log, with_stand, with_call, with_function, with_parameters, added, added_all, added_defs}
+use Rattle.lucid_compile.specs.Bound.{Stand, bound_node, CallStand, FunctionStand, Log, with_stand, with_call, with_function, opened_block, opened_function, with_parameters, added, added_all, added_defs}
 use Rattle.lucid_compile.specs.Keys.{plain_key, function_key, stand_key, call_key, place_key, key_of_function, KeyLists, keys_of, with_name_key, with_function_key, with_call_key, ListsTree, ListsTrees, ListsDefs, ListsParameters}
 use Rattle.lucid_compile.proofs.Adding.{added-after, defs-after, parameters-after, next-taken}
 
 stand-keys : (s : Stand) (g : Log) → with_name_key (stand_key s) (keys_of g) ≡ keys_of (with_stand s g)
-stand-keys s g = λ j. record { names = sym (map-append stand_key g.names (s ∷ [])) j; calls = map call_key g.calls; places = map place_key g.sites; functions = map key_of_function g.functions }
+stand-keys s g = λ j. record { names = sym (map-append stand_key g.names (s ∷ [])) j; calls = map call_key g.calls; places = map place_key g.calls; functions = map key_of_function g.functions }
 
-call-keys : (c : CallStand) (s : Site) (g : Log) → with_call_key (call_key c) (place_key s) (keys_of g) ≡ keys_of (with_call c s g)
-call-keys c s g = λ j. record { names = map stand_key g.names; calls = sym (map-append call_key g.calls (c ∷ [])) j; places = sym (map-append place_key g.sites (s ∷ [])) j; functions = map key_of_function g.functions }
+call-keys : (c : CallStand) (g : Log) → with_call_key (call_key c) (place_key c) (keys_of g) ≡ keys_of (with_call c g)
+call-keys c g = λ j. record { names = map stand_key g.names; calls = sym (map-append call_key g.calls (c ∷ [])) j; places = sym (map-append place_key g.calls (c ∷ [])) j; functions = map key_of_function g.functions }
 
 function-keys : (f : FunctionStand) (g : Log) → with_function_key (key_of_function f) (keys_of g) ≡ keys_of (with_function f g)
-function-keys f g = λ j. record { names = map stand_key g.names; calls = map call_key g.calls; places = map place_key g.sites; functions = sym (map-append key_of_function g.functions (f ∷ [])) j }
+function-keys f g = λ j. record { names = map stand_key g.names; calls = map call_key g.calls; places = map place_key g.calls; functions = sym (map-append key_of_function g.functions (f ∷ [])) j }
 
 pub nothing-listed : (o : KeyLists) (d at : ℕ) (f : Head) → ListsTree o o d (form at f no_trees)
 nothing-listed o d at f = λ w k g l h. h
@@ -57,9 +56,8 @@ parameters-one o m n d ats i at h is a e =
 
 pub call-listed : (o m n : KeyLists) (d at first : ℕ) (x : List ℕ) (es : PlainTrees) → first ≡ first_place es → ListsTrees o m d es → n ≡ with_call_key (plain_key at d) (plain_key first d) m → ListsTree o n d (call at x es)
 call-listed o m n d at first x es f a e = λ w k g l h.
-    let c : CallStand = record { at = at; name = x; home = k } in
-    let s : Site = record { actuals = es; caller = k } in
-    e ∙ (λ j. with_call_key (plain_key at (sym l j)) (plain_key (f j) (sym l j)) (a w k g l h j)) ∙ call-keys c s (added_all w k es g)
+    let c : CallStand = record { at = at; actuals = es; home = k } in
+    e ∙ (λ j. with_call_key (plain_key at (sym l j)) (plain_key (f j) (sym l j)) (a w k g l h j)) ∙ call-keys c (added_all w k es g)
 
 pub plain-listed : (o m n : KeyLists) (i d at : ℕ) (x : List ℕ) (e : PlainTree) → ListsTree o m i e → n ≡ with_name_key (plain_key at i) m → ListsDefs o n i d (defines at x e no_defs)
 plain-listed o m n i d at x e a is = λ w k q g u v h.
@@ -74,10 +72,11 @@ current-listed o m n i d at x e a is = λ w k q g u v h.
 pub function-listed : (o m l n : KeyLists) (i inner d at first : ℕ) (x : List ℕ) (ns : List (List ℕ)) (ats : List ℕ) (e : PlainTree) → first ≡ length o.names → inner ≡ i + 1 → ListsParameters o m inner ats → ListsTree m l inner e → n ≡ with_function_key (function_key at first i) l
     → ListsDefs o n i d (defines_function at x ns ats e no_defs)
 function-listed o m l n i inner d at first x ns ats e f deeper a b is = λ w k q g u v h.
-    let y : Static = in_function ns ats k in
+    let y : Static = in_body ns ats k in
     let inside : level y ≡ inner = omega (arith, u, deeper) in
-    let before : Log = with_parameters y 0 ats g in
-    let p : m ≡ keys_of before = a y g inside h in
+    let begun : Log = opened_function ns ats k g in
+    let before : Log = with_parameters y 0 ats begun in
+    let p : m ≡ keys_of before = a y begun inside h in
     let s : FunctionStand = record { at = at; first = length g.names; names = ns; places = ats; right = e; home = k } in
     let count : first ≡ length g.names = f ∙ ap (λ z. length z.names) h ∙ length-map g.names stand_key in
     is ∙ (λ j. with_function_key (function_key at (count j) (sym u j)) (b w y before inside p j)) ∙ function-keys s (added w y e before)
@@ -85,4 +84,5 @@ function-listed o m l n i inner d at first x ns ats e f deeper a b is = λ w k q
 pub block-listed : (o m n : KeyLists) (d inside at : ℕ) (e : PlainTree) (ds : PlainDefs) → inside ≡ (if freezes ds then suc d else d) → ListsTree o m inside e → ListsDefs m n inside d ds → ListsTree o n d (block at e ds)
 block-listed o m n d inside at e ds is a b = λ w k g l h.
     let deep : level (in_block ds k) ≡ inside = ap (λ z. if freezes ds then suc z else z) l ∙ sym is in
-    b w (in_block ds k) k (added w (in_block ds k) e g) deep l (a w (in_block ds k) g deep h)
+    let begun : Log = opened_block ds k g in
+    b w (in_block ds k) k (added w (in_block ds k) e begun) deep l (a w (in_block ds k) begun deep h)

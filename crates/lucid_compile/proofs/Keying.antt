@@ -4,15 +4,13 @@ use Rattle.std.proofs.lemmas.List.{map-append}
 use Rattle.lucid_tree.specs.Tree.{PlainTree}
 use Rattle.lucid_tree.specs.Members.{AllDiffer}
 use Rattle.lucid_tree.specs.WellMade.{places, IsWellMade}
-use Rattle.lucid_scope.specs.Scope.{outermost as no_scope}
 use Rattle.lucid_scope.specs.Sites.{sites as name_sites}
 use Rattle.lucid_compile.specs.Static.{outermost}
-use Rattle.lucid_compile.specs.Places.{calls_pass_actuals}
 use Rattle.lucid_compile.specs.Numbered.{key_at}
 use Rattle.lucid_compile.specs.Keys.{stand_key, call_key, place_key, key_of_function}
 use Rattle.lucid_compile.specs.Bound.{Numbered, Log, no_log, added}
-use Rattle.lucid_compile.proofs.Made.{map_map}
-use Rattle.lucid_compile.proofs.Passing.{NoFaults, passes}
+use Rattle.lucid_compile.proofs.Indices.{map_map}
+use Rattle.lucid_compile.proofs.Passing.{calls_pass_actuals, NoFaults, passes}
 use Rattle.lucid_compile.proofs.Logs.{names_at, calls_at, sites_at, functions_at, times, once-differ, differ-once, names-times, functions-times, sites-times, times-append, own-first}
 
 module _ (w : Numbered) (e : PlainTree) (made : IsWellMade e) where
@@ -29,7 +27,7 @@ module _ (w : Numbered) (e : PlainTree) (made : IsWellMade e) where
   functions-differ =
       subst AllDiffer (sym (map_map key_at key_of_function z.functions)) (once-differ (functions_at z) (λ x. omega (arith, functions-times w x outermost e no_log, differ-once (places e) made.placed x)))
 
-  pub places-differ : NoFaults (name_sites no_scope e) → AllDiffer (map key_at (map place_key z.sites))
+  pub places-differ : NoFaults (name_sites outermost e) → AllDiffer (map key_at (map place_key z.calls))
   places-differ n =
-      let h : IsTrue (calls_pass_actuals e) = passes no_scope e n tt made.shaped in
-      subst AllDiffer (sym (map_map key_at place_key z.sites)) (once-differ (sites_at z) (λ x. omega (arith, sites-times w x outermost e no_log h, ap (times x) (own-first e), differ-once (places e) made.placed x)))
+      let h : IsTrue (calls_pass_actuals e) = passes outermost e n tt made.shaped in
+      subst AllDiffer (sym (map_map key_at place_key z.calls)) (once-differ (sites_at z) (λ x. omega (arith, sites-times w x outermost e no_log h, ap (times x) (own-first e), differ-once (places e) made.placed x)))

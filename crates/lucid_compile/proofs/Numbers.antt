@@ -13,7 +13,8 @@ use Rattle.lucid_equations.specs.Nodes.{Equations}
 use Rattle.lucid_equations.specs.Datons.{Daton, NodePosition}
 use Rattle.lucid_equations.specs.Values.{node_val}
 use Rattle.lucid_equations.specs.Visits.{consults_on_nodes, visited_datons, visited_values, visited_contexts}
-use Rattle.lucid_compile.specs.Counts.{HasDistinct, Points, datons, valued_datons, contexts, entries, valued_entries, environments}
+use Rattle.lucid_equations.specs.Counts.{HasDistinct, Points, datons, valued_datons, contexts}
+use Rattle.lucid_compile.specs.Counts.{entries, valued_entries, environments}
 use Rattle.lucid_compile.specs.Static.{Numbers, Source, static_of, context_for, daton_of, position_for, event_of}
 use Rattle.lucid_compile.specs.Compiles.{Kept, Good, Compiles}
 use Rattle.lucid_compile.proofs.Targets.{Placed}

@@ -11,22 +11,22 @@ use Rattle.lucid_compile.proofs.Targets.{Placed}
 abbrev defs_in : Static → PlainDefs
 defs_in outermost = no_defs
 defs_in (in_block ds k) = ds
-defs_in (in_function ns ats k) = no_defs
+defs_in (in_function d ns ats k) = no_defs
 
 abbrev names_in : Static → List (List ℕ)
 names_in outermost = []
 names_in (in_block ds k) = []
-names_in (in_function ns ats k) = ns
+names_in (in_function d ns ats k) = ns
 
 abbrev places_in : Static → List ℕ
 places_in outermost = []
 places_in (in_block ds k) = []
-places_in (in_function ns ats k) = ats
+places_in (in_function d ns ats k) = ats
 
 abbrev outer_of : Static → Static
 outer_of outermost = outermost
 outer_of (in_block ds k) = k
-outer_of (in_function ns ats k) = k
+outer_of (in_function d ns ats k) = k
 
 abbrev time_in : Context → ℕ
 time_in root = 0

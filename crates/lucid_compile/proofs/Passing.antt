@@ -7,25 +7,43 @@ use Rattle.lucid_tree.specs.Members.{In}
 use Rattle.lucid_tree.specs.WellMade.{is_shaped, are_shaped, defs_are_shaped}
 use Rattle.lucid_tree.specs.Env.{Found, absent, plain_def, function_def, current_def, definition, param, same_name}
 use Rattle.lucid_tree.proofs.Members.{in_left, in_right}
-use Rattle.lucid_scope.specs.Scope.{Static as Scopes, outermost as no_scope, in_block as block_scope, in_function as function_scope, Meaning, free, plain_name, parameter, current_name, function, meaning, defined_in, parameter_in}
+use Rattle.lucid_scope.specs.Scope.{Static, outermost, in_block, in_function, Meaning, free, plain_name, parameter, current_name, function, meaning, defined_in, parameter_in}
 use Rattle.lucid_scope.specs.Sites.{Site as NameSite, called, sites, sites_in, outside_sites, inside_sites, Earlier, also, no_names, again_if, repeats}
 use Rattle.lucid_scope.specs.Bindings.{fault_of, call_fault}
 use Rattle.lucid_scope.specs.declared.refusal.ScopeRefusal.TheVariants.{Arity}
-use Rattle.lucid_compile.specs.Places.{has_some, calls_pass_actuals, all_pass_actuals, defs_pass_actuals}
-use Rattle.lucid_compile.proofs.Adding.{left-true, right-true}
+use Rattle.lucid_compile.proofs.Shapes.{left-true, right-true, both-true}
 
-both-true : (a b : Bool) → IsTrue a → IsTrue b → IsTrue (a && b)
-both-true true b h g = g
-both-true false b h g = h
+-- a call passes at least one actual
+abbrev pub has_some : PlainTrees → Bool
+has_some no_trees = false
+has_some (tree e es) = true
+
+-- every call in a tree passes at least one actual
+abbrev mutual
+  pub calls_pass_actuals : PlainTree → Bool
+  calls_pass_actuals (form at f es) = all_pass_actuals es
+  calls_pass_actuals (name at x) = true
+  calls_pass_actuals (call at x es) = has_some es && all_pass_actuals es
+  calls_pass_actuals (block at e ds) = calls_pass_actuals e && defs_pass_actuals ds
+
+  pub all_pass_actuals : PlainTrees → Bool
+  all_pass_actuals no_trees = true
+  all_pass_actuals (tree e es) = calls_pass_actuals e && all_pass_actuals es
+
+  pub defs_pass_actuals : PlainDefs → Bool
+  defs_pass_actuals no_defs = true
+  defs_pass_actuals (defines at x e ds) = calls_pass_actuals e && defs_pass_actuals ds
+  defs_pass_actuals (defines_function at x ns ats e ds) = calls_pass_actuals e && defs_pass_actuals ds
+  defs_pass_actuals (defines_current at x e ds) = calls_pass_actuals e && defs_pass_actuals ds
 
 not_some : {A : Type 0} (x : A) → Some x ≡ None → ⊥
 not_some x e = cc
 
 -- the functions in scope have a parameter
-abbrev pub ScopesAreShaped : Scopes → Type 0
-ScopesAreShaped no_scope = Unit {0}
-ScopesAreShaped (block_scope ds k) = IsTrue (defs_are_shaped ds) × ScopesAreShaped k
-ScopesAreShaped (function_scope d ns ats k) = ScopesAreShaped k
+abbrev pub ScopesAreShaped : Static → Type 0
+ScopesAreShaped outermost = Unit {0}
+ScopesAreShaped (in_block ds k) = IsTrue (defs_are_shaped ds) × ScopesAreShaped k
+ScopesAreShaped (in_function d ns ats k) = ScopesAreShaped k
 
 abbrev FoundIsShaped : Found → Type 0
 FoundIsShaped absent = Unit {0}
@@ -52,20 +70,20 @@ found-shaped n (defines_function at x ns ats e ds) h =
     either-shaped (same_name n x) (function_def at ns ats e) (definition n ds) (left-true (nat_lt 0 (length ns)) _ (left-true _ (is_shaped e) front)) (found-shaped n ds (right-true ((nat_lt 0 (length ns) && nat_eq (length ats) (length ns)) && is_shaped e) _ h))
 found-shaped n (defines_current at x e ds) h = either-shaped (same_name n x) (current_def at e) (definition n ds) tt (found-shaped n ds (right-true (is_shaped e) _ h))
 
-defined-shaped : (f : Found) (h k : Scopes) (m : Meaning) → FoundIsShaped f → MeaningIsShaped m → MeaningIsShaped (defined_in f h k m)
+defined-shaped : (f : Found) (h k : Static) (m : Meaning) → FoundIsShaped f → MeaningIsShaped m → MeaningIsShaped (defined_in f h k m)
 defined-shaped absent h k m a b = b
 defined-shaped (plain_def at e) h k m a b = tt
 defined-shaped (function_def at ns ats e) h k m a b = a
 defined-shaped (current_def at e) h k m a b = tt
 
-parameter-shaped : (o : Option ℕ) (d : ℕ) (ats : List ℕ) (h : Scopes) (m : Meaning) → MeaningIsShaped m → MeaningIsShaped (parameter_in o d ats h m)
+parameter-shaped : (o : Option ℕ) (d : ℕ) (ats : List ℕ) (h : Static) (m : Meaning) → MeaningIsShaped m → MeaningIsShaped (parameter_in o d ats h m)
 parameter-shaped None d ats h m b = b
 parameter-shaped (Some i) d ats h m b = tt
 
-meaning-shaped : (x : List ℕ) (k : Scopes) → ScopesAreShaped k → MeaningIsShaped (meaning x k)
-meaning-shaped x no_scope h = tt
-meaning-shaped x (block_scope ds k) h = defined-shaped (definition x ds) (block_scope ds k) k (meaning x k) (found-shaped x ds h.0) (meaning-shaped x k h.1)
-meaning-shaped x (function_scope d ns ats k) h = parameter-shaped (param x ns) d ats (function_scope d ns ats k) (meaning x k) (meaning-shaped x k h)
+meaning-shaped : (x : List ℕ) (k : Static) → ScopesAreShaped k → MeaningIsShaped (meaning x k)
+meaning-shaped x outermost h = tt
+meaning-shaped x (in_block ds k) h = defined-shaped (definition x ds) (in_block ds k) k (meaning x k) (found-shaped x ds h.0) (meaning-shaped x k h.1)
+meaning-shaped x (in_function d ns ats k) h = parameter-shaped (param x ns) d ats (in_function d ns ats k) (meaning x k) (meaning-shaped x k h)
 
 given-some : (at n : ℕ) (m : Meaning) → call_fault at n m ≡ None → MeaningIsShaped m → IsTrue (nat_lt 0 n)
 given-some at n free e h = absurd (not_some _ e)
@@ -92,30 +110,30 @@ none-right : (xs ys : List NameSite) → NoFaults (xs ++ ys) → NoFaults ys
 none-right xs ys h = λ s i. h s (in_right s xs ys i)
 
 mutual
-  pub passes : (k : Scopes) (e : PlainTree) → NoFaults (sites k e) → ScopesAreShaped k → IsTrue (is_shaped e) → IsTrue (calls_pass_actuals e)
+  pub passes : (k : Static) (e : PlainTree) → NoFaults (sites k e) → ScopesAreShaped k → IsTrue (is_shaped e) → IsTrue (calls_pass_actuals e)
   passes k (form at f es) n s t = all-pass k es n s (right-true _ (are_shaped es) t)
   passes k (name at x) n s t = refl
   passes k (call at x es) n s t =
       both-true (has_some es) _ (some-given es (given-some at (count es) (meaning x k) (n (called at x (count es) k) (inl refl)) (meaning-shaped x k s))) (all-pass k es (λ y i. n y (inr i)) s t)
   passes k (block at e ds) n s t =
-      let q : Scopes = block_scope ds k in
+      let q : Static = in_block ds k in
       let inside = none-right (outside_sites k ds) _ n in
       let rest : IsTrue (defs_are_shaped ds) = right-true (is_shaped e) _ t in
       both-true (calls_pass_actuals e) _ (passes q e (none-left (sites q e) _ inside) (rest, s) (left-true (is_shaped e) _ t)) (defs-pass q k no_names ds (none-left (outside_sites k ds) _ n) (none-right (sites q e) _ inside) (rest, s) s rest)
 
-  all-pass : (k : Scopes) (es : PlainTrees) → NoFaults (sites_in k es) → ScopesAreShaped k → IsTrue (are_shaped es) → IsTrue (all_pass_actuals es)
+  all-pass : (k : Static) (es : PlainTrees) → NoFaults (sites_in k es) → ScopesAreShaped k → IsTrue (are_shaped es) → IsTrue (all_pass_actuals es)
   all-pass k no_trees n s t = refl
   all-pass k (tree e es) n s t =
       both-true (calls_pass_actuals e) _ (passes k e (none-left (sites k e) _ n) s (left-true (is_shaped e) _ t)) (all-pass k es (none-right (sites k e) _ n) s (right-true (is_shaped e) _ t))
 
-  defs-pass : (k q : Scopes) (earlier : Earlier) (ds : PlainDefs) → NoFaults (outside_sites q ds) → NoFaults (inside_sites k earlier ds) → ScopesAreShaped k → ScopesAreShaped q → IsTrue (defs_are_shaped ds) → IsTrue (defs_pass_actuals ds)
+  defs-pass : (k q : Static) (earlier : Earlier) (ds : PlainDefs) → NoFaults (outside_sites q ds) → NoFaults (inside_sites k earlier ds) → ScopesAreShaped k → ScopesAreShaped q → IsTrue (defs_are_shaped ds) → IsTrue (defs_pass_actuals ds)
   defs-pass k q earlier no_defs out n s u t = refl
   defs-pass k q earlier (defines at x e ds) out n s u t =
       let own = none-right (again_if (earlier x) at) _ n in
       both-true (calls_pass_actuals e) _ (passes k e (none-left (sites k e) _ own) s (left-true (is_shaped e) _ t)) (defs-pass k q (also x earlier) ds out (none-right (sites k e) _ own) s u (right-true (is_shaped e) _ t))
   defs-pass k q earlier (defines_function at x ns ats e ds) out n s u t =
       let own = none-right (again_if (earlier x) at) _ n in
-      let v : Scopes = function_scope at ns ats k in
+      let v : Static = in_function at ns ats k in
       let front : IsTrue ((nat_lt 0 (length ns) && nat_eq (length ats) (length ns)) && is_shaped e) = left-true _ (defs_are_shaped ds) t in
       let part = none-right (repeats no_names ns ats) (sites v e) (none-left _ (inside_sites k (also x earlier) ds) own) in
       both-true (calls_pass_actuals e) _ (passes v e part s (right-true (nat_lt 0 (length ns) && nat_eq (length ats) (length ns)) _ front)) (defs-pass k q (also x earlier) ds out (none-right _ (inside_sites k (also x earlier) ds) own) s u (right-true ((nat_lt 0 (length ns) && nat_eq (length ats) (length ns)) && is_shaped e) _ t))

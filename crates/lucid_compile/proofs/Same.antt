@@ -16,7 +16,8 @@ use Rattle.lucid_equations.specs.Datons.{Daton, NodePosition, NodeAim, reference
 use Rattle.lucid_equations.specs.Values.{value_at, part_at, node_value, node_val, eqval}
 use Rattle.lucid_equations.specs.Visits.{context_of, walk_at, walk_part, node_walk, node_visits, visits}
 use Rattle.lucid_tags.specs.Contexts.{Context, root}
-use Rattle.lucid_compile.specs.Static.{freezes, level, Numbers, Source, callee, call_level, reference_for, node_for, nodes_for, static_of, context_for, daton_of, position_for, event_of}
+use Rattle.lucid_scope.specs.Scope.{meaning}
+use Rattle.lucid_compile.specs.Static.{freezes, level, Numbers, Source, call_level, reference_of, node_for, nodes_for, static_of, context_for, daton_of, position_for, event_of}
 use Rattle.lucid_compile.specs.Compiles.{Kept, AllKept, Good, Compiles}
 use Rattle.lucid_compile.proofs.Cuts.{frames-level}
 use Rattle.lucid_compile.proofs.Targets.{target_of, Placed, Fits, name-goal, call-goal, name-fits, call-fits}
@@ -32,10 +33,10 @@ run_same : (q : Plan) (r r' : Reader (Option PlainValue)) → ((i t s : ℕ) →
 run_same q r r' h = λ i. run q (λ j t s. h j t s i)
 
 module _ (nu : Numbers) (so : Source) (p : Equations) where
-  name-same : (x : List ℕ) (env : Env) (t : ℕ) → Good nu so p env → reference_aim p (reference_for nu (level (static_of env)) x (static_of env)) (context_for nu env) t ≡ target_of nu so p (name_target x env t)
+  name-same : (x : List ℕ) (env : Env) (t : ℕ) → Good nu so p env → reference_aim p (reference_of nu (level (static_of env)) x (meaning x (static_of env))) (context_for nu env) t ≡ target_of nu so p (name_target x env t)
   name-same x env t g = name-goal nu so p (context_for nu env) (level (static_of env)) (frames-level nu so p env g) x t env g (λ l b. refl)
 
-  call-same : (at : ℕ) (x : List ℕ) (es : PlainTrees) (env : Env) (t : ℕ) → Good nu so p env → Kept nu so p (static_of env) (call at x es) → call_aim p (nu.name at) (nu.place es) (call_level (level (static_of env)) (callee x (static_of env))) (context_for nu env) t ≡ target_of nu so p (call_target at x es env env t)
+  call-same : (at : ℕ) (x : List ℕ) (es : PlainTrees) (env : Env) (t : ℕ) → Good nu so p env → Kept nu so p (static_of env) (call at x es) → call_aim p (nu.name at) (nu.place es) (call_level (level (static_of env)) (meaning x (static_of env))) (context_for nu env) t ≡ target_of nu so p (call_target at x es env env t)
   call-same at x es env t g k = call-goal nu so p at x es env t (level (static_of env)) (frames-level nu so p env g) env g (λ l b. refl) k.0
 
   mutual
@@ -97,7 +98,8 @@ map_trace : {A B : Type 0} (f : A → B) (m : ℕ) (q : Plan) (d d' : Reader (Op
 map_trace f m (gives v) d d' see see' h k = refl
 map_trace f m nothing d d' see see' h k = refl
 map_trace f m (looks ls c) d d' see see' h k =
-    (λ i. map_gather f m see see' k ls i ++ with_values (all_values (λ j t s. h j t s i) ls) [] (λ vs. trace m (c vs) d' see')) ∙ ap (λ zs. map f (gather m see ls) ++ zs) (map_later f (all_values d ls) (λ vs. trace m (c vs) d see) (λ vs. trace m (c vs) d' see') (λ vs. map_trace f m (c vs) d d' see see' h k)) ∙ sym (map-append f (gather m see ls) (with_values (all_values d ls) [] (λ vs. trace m (c vs) d see)))
+    (λ i. map_gather f m see see' k ls i ++ with_values (all_values (λ j t s. h j t s i) ls) [] (λ vs. trace m (c vs) d' see')) ∙ ap (λ zs. map f (gather m see ls) ++ zs)
+    (map_later f (all_values d ls) (λ vs. trace m (c vs) d see) (λ vs. trace m (c vs) d' see') (λ vs. map_trace f m (c vs) d d' see see' h k)) ∙ sym (map-append f (gather m see ls) (with_values (all_values d ls) [] (λ vs. trace m (c vs) d see)))
 
 module _ (nu : Numbers) (so : Source) (p : Equations) (element : List ℕ → ℕ → Option PlainValue) (held : Referent → ℕ → Option PlainValue) (kept : Daton → ℕ → Option PlainValue) (alike : HeldAlike nu so p held kept) where
   abbrev g : levels.Given Referent
@@ -129,9 +131,11 @@ module _ (nu : Numbers) (so : Source) (p : Equations) (element : List ℕ → �
   entry-same at x es env (args ns ats bs caller rest) t = past-enters (param x ns) (call_target at x es env rest t) (entry-same at x es env rest t)
 
   mutual
-    walk-same : (m d : ℕ) (dp : Aim → ℕ → List (Event Referent Position Env)) (dp' : NodeAim → ℕ → List (Event Daton NodePosition Context)) → ((a : Aim) (s : ℕ) → Fits nu so p a → dp' (target_of nu so p a) s ≡ map event (dp a s)) → (e : PlainTree) (env : Env) (t s : ℕ) → Good nu so p env → Kept nu so p (static_of env) e → walk_at p g' m d dp' (node_for nu (static_of env) e) (context_for nu env) t s ≡ map event (seen_of_trees.walk_at g m d dp e env t s)
+    walk-same : (m d : ℕ) (dp : Aim → ℕ → List (Event Referent Position Env)) (dp' : NodeAim → ℕ → List (Event Daton NodePosition Context)) → ((a : Aim) (s : ℕ) → Fits nu so p a → dp' (target_of nu so p a) s ≡ map event (dp a s)) → (e : PlainTree) (env : Env) (t s : ℕ) → Good nu so p env → Kept nu so p (static_of env) e
+        → walk_at p g' m d dp' (node_for nu (static_of env) e) (context_for nu env) t s ≡ map event (seen_of_trees.walk_at g m d dp e env t s)
     walk-same m d dp dp' h (form at f es) env t s good k =
-        map_trace event m (plan (m + d) f t s) (λ i u r. of_trees.part_at (m + d) (levels.below of_trees.value g (m + d)) es env i u r) (λ i u r. part_at p (m + d) (levels.below (node_value p) g' (m + d)) (nodes_for nu (static_of env) es) (context_for nu env) i u r) (λ i u r. seen_of_trees.walk_part g m d dp es env i u r) (λ i u r. walk_part p g' m d dp' (nodes_for nu (static_of env) es) (context_for nu env) i u r) (λ i u r. sym (part-same nu so p (m + d) (levels.below of_trees.value g (m + d)) (levels.below (node_value p) g' (m + d)) (below-same nu so p element held kept alike (m + d)) es env i u r good k.0)) (λ i u r. walk_part-same m d dp dp' h es env i u r good k.0)
+        map_trace event m (plan (m + d) f t s) (λ i u r. of_trees.part_at (m + d) (levels.below of_trees.value g (m + d)) es env i u r) (λ i u r. part_at p (m + d) (levels.below (node_value p) g' (m + d)) (nodes_for nu (static_of env) es) (context_for nu env) i u r) (λ i u r. seen_of_trees.walk_part g m d dp es env i u r)
+        (λ i u r. walk_part p g' m d dp' (nodes_for nu (static_of env) es) (context_for nu env) i u r) (λ i u r. sym (part-same nu so p (m + d) (levels.below of_trees.value g (m + d)) (levels.below (node_value p) g' (m + d)) (below-same nu so p element held kept alike (m + d)) es env i u r good k.0)) (λ i u r. walk_part-same m d dp dp' h es env i u r good k.0)
     walk-same m d dp dp' h (name at x) env t s good k = rw (name-same nu so p x env t good) (h (name_target x env t) s (name-fits nu so p x t env good))
     walk-same m d dp dp' h (call at x es) env t s good k =
         rw (call-same nu so p at x es env t good k) ((λ i. entry-same at x es env env t i ++ h (call_target at x es env env t) s (call-fits nu so p at x es env t good k.1 k.2 env good k.0) i) ∙ sym (map-append event (seen_of_trees.entry_of (call_target at x es env env t)) (dp (call_target at x es env env t) s)))
@@ -141,7 +145,8 @@ module _ (nu : Numbers) (so : Source) (p : Equations) (element : List ℕ → �
           | inr o ↦ rw (o.0, o.1) (walk-same m d dp dp' h e (scope ds None env) t s (rw o.0 tt, k.1, good) k.0)
         ]
 
-    walk_part-same : (m d : ℕ) (dp : Aim → ℕ → List (Event Referent Position Env)) (dp' : NodeAim → ℕ → List (Event Daton NodePosition Context)) → ((a : Aim) (s : ℕ) → Fits nu so p a → dp' (target_of nu so p a) s ≡ map event (dp a s)) → (es : PlainTrees) (env : Env) (i t s : ℕ) → Good nu so p env → AllKept nu so p (static_of env) es → walk_part p g' m d dp' (nodes_for nu (static_of env) es) (context_for nu env) i t s ≡ map event (seen_of_trees.walk_part g m d dp es env i t s)
+    walk_part-same : (m d : ℕ) (dp : Aim → ℕ → List (Event Referent Position Env)) (dp' : NodeAim → ℕ → List (Event Daton NodePosition Context)) → ((a : Aim) (s : ℕ) → Fits nu so p a → dp' (target_of nu so p a) s ≡ map event (dp a s)) → (es : PlainTrees) (env : Env) (i t s : ℕ) → Good nu so p env
+        → AllKept nu so p (static_of env) es → walk_part p g' m d dp' (nodes_for nu (static_of env) es) (context_for nu env) i t s ≡ map event (seen_of_trees.walk_part g m d dp es env i t s)
     walk_part-same m d dp dp' h no_trees env i t s good k = refl
     walk_part-same m d dp dp' h (tree e es) env zero t s good k = walk-same m d dp dp' h e env t s good k.0
     walk_part-same m d dp dp' h (tree e es) env (suc i) t s good k = walk_part-same m d dp dp' h es env i t s good k.1

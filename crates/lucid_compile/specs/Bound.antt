@@ -5,12 +5,11 @@ use Rattle.lucid_scope.specs.declared.scoped.Scoped.{Scoped}
 use Rattle.lucid_scope.specs.Scoped.{scoped_inputs, scoped_binding}
 use Rattle.lucid_scope.specs.declared.scoped.Binding.{Binding}
 use Rattle.lucid_scope.specs.declared.scoped.Binding.TheVariants.{Plain, Parameter, Current, Function, Input}
-use Rattle.lucid_equations.specs.Nodes.{Reference, input, refer, PlainNode, row, freeze, reference, invoke, PlainNodes, no_nodes, node, plain_entry, current_entry, parameter_entry}
+use Rattle.lucid_equations.specs.Nodes.{Reference, input, refer, PlainNode, row, freeze, reference, invoke, PlainNodes, no_nodes, node, PlainEntry, plain_entry, current_entry, parameter_entry}
 use Rattle.lucid_equations.specs.declared.rows.Node.{Node}
 use Rattle.lucid_equations.specs.declared.rows.Node.TheVariants.{Input as InputNode, Refer, Call}
-use Rattle.lucid_compile.specs.Static.{Static, in_block, in_function, freezes, Site, Numbers}
+use Rattle.lucid_compile.specs.Static.{Static, outermost, in_block, freezes, Numbers, in_body}
 use Rattle.lucid_compile.specs.Places.{first_place}
-use Rattle.lucid_compile.specs.Listing.{Stand}
 use Rattle.lucid_compile.specs.declared.numbering.Numbering.{Numbering}
 use Rattle.lucid_compile.specs.Numbered.{name_mark, function_mark, call_number}
 
@@ -69,10 +68,16 @@ abbrev mutual
   bound_nodes w no_trees = no_nodes
   bound_nodes w (tree e es) = node (bound_node w e) (bound_nodes w es)
 
--- a call, with what is in scope there
+-- a row of a name, with the place that it comes from and what is in scope from its entry on
+pub record Stand : Type 0 where
+  pub at : ℕ
+  pub home : Static
+  pub entry : PlainEntry
+
+-- a call, with its actual trees and what is in scope there
 pub record CallStand : Type 0 where
   pub at : ℕ
-  pub name : List ℕ
+  pub actuals : PlainTrees
   pub home : Static
 
 -- a function, with the number of its first parameter and what is in scope from its block on
@@ -108,28 +113,44 @@ call_stand k at first = record { target = of_call at first; home = k }
 abbrev pub block_stands : Bool → Static → List NodeStand
 block_stands b k = if b then form_stand k ∷ [] else []
 
--- what trees added to a table, in order: the rows of names but for calls, the calls, the call places, the functions, and the nodes
+-- such a block has a scope of its own
+abbrev pub block_scopes : Bool → Static → List Static
+block_scopes b k = if b then k ∷ [] else []
+
+-- what trees added to a table, in order: the rows of names but for calls, the calls, the functions, the nodes, and the scopes by what is in
+-- scope there; each call has a call place
 pub record Log : Type 0 where
   pub names : List Stand
   pub calls : List CallStand
-  pub sites : List Site
   pub functions : List FunctionStand
   pub nodes : List NodeStand
+  pub scopes : List Static
 
+-- before any tree there is the outermost scope alone
 abbrev pub no_log : Log
-no_log = record { names = []; calls = []; sites = []; functions = []; nodes = [] }
+no_log = record { names = []; calls = []; functions = []; nodes = []; scopes = outermost ∷ [] }
 
 abbrev pub with_nodes : List NodeStand → Log → Log
-with_nodes ss l = record { names = l.names; calls = l.calls; sites = l.sites; functions = l.functions; nodes = l.nodes ++ ss }
+with_nodes ss l = record { names = l.names; calls = l.calls; functions = l.functions; nodes = l.nodes ++ ss; scopes = l.scopes }
+
+abbrev pub with_scopes : List Static → Log → Log
+with_scopes ks l = record { names = l.names; calls = l.calls; functions = l.functions; nodes = l.nodes; scopes = l.scopes ++ ks }
 
 abbrev pub with_stand : Stand → Log → Log
-with_stand s l = record { names = l.names ++ s ∷ []; calls = l.calls; sites = l.sites; functions = l.functions; nodes = l.nodes }
+with_stand s l = record { names = l.names ++ s ∷ []; calls = l.calls; functions = l.functions; nodes = l.nodes; scopes = l.scopes }
 
-abbrev pub with_call : CallStand → Site → Log → Log
-with_call c s l = record { names = l.names; calls = l.calls ++ c ∷ []; sites = l.sites ++ s ∷ []; functions = l.functions; nodes = l.nodes }
+abbrev pub with_call : CallStand → Log → Log
+with_call c l = record { names = l.names; calls = l.calls ++ c ∷ []; functions = l.functions; nodes = l.nodes; scopes = l.scopes }
 
 abbrev pub with_function : FunctionStand → Log → Log
-with_function f l = record { names = l.names; calls = l.calls; sites = l.sites; functions = l.functions ++ f ∷ []; nodes = l.nodes }
+with_function f l = record { names = l.names; calls = l.calls; functions = l.functions ++ f ∷ []; nodes = l.nodes; scopes = l.scopes }
+
+-- the scope of a block that freezes the time, and that of a function
+abbrev pub opened_block : PlainDefs → Static → Log → Log
+opened_block ds k l = with_scopes (block_scopes (freezes ds) (in_block ds k)) l
+
+abbrev pub opened_function : (names : List (List ℕ)) → (places : List ℕ) → Static → Log → Log
+opened_function ns ats k l = with_scopes (in_body ns ats k ∷ []) l
 
 -- a function's parameters, from number i on
 abbrev pub with_parameters : Static → (i : ℕ) → (places : List ℕ) → Log → Log
@@ -141,8 +162,8 @@ abbrev mutual
   pub added : Numbered → Static → PlainTree → Log → Log
   added w k (form at f es) l = with_nodes (form_stand k ∷ []) (added_all w k es l)
   added w k (name at x) l = with_nodes (name_stand k at ∷ []) l
-  added w k (call at x es) l = with_nodes (call_stand k at (first_place es) ∷ []) (with_call (record { at = at; name = x; home = k }) (record { actuals = es; caller = k }) (added_all w k es l))
-  added w k (block at e ds) l = with_nodes (block_stands (freezes ds) k) (added_defs w (in_block ds k) k ds (added w (in_block ds k) e l))
+  added w k (call at x es) l = with_nodes (call_stand k at (first_place es) ∷ []) (with_call (record { at = at; actuals = es; home = k }) (added_all w k es l))
+  added w k (block at e ds) l = with_nodes (block_stands (freezes ds) k) (added_defs w (in_block ds k) k ds (added w (in_block ds k) e (opened_block ds k l)))
 
   pub added_all : Numbered → Static → PlainTrees → Log → Log
   added_all w k no_trees l = l
@@ -152,5 +173,5 @@ abbrev mutual
   added_defs w k o no_defs l = l
   added_defs w k o (defines at x e ds) l = added_defs w k o ds (with_stand (record { at = at; home = k; entry = plain_entry (bound_node w e) }) (added w k e l))
   added_defs w k o (defines_function at x ns ats e ds) l =
-      added_defs w k o ds (with_function (record { at = at; first = length l.names; names = ns; places = ats; right = e; home = k }) (added w (in_function ns ats k) e (with_parameters (in_function ns ats k) 0 ats l)))
+      added_defs w k o ds (with_function (record { at = at; first = length l.names; names = ns; places = ats; right = e; home = k }) (added w (in_body ns ats k) e (with_parameters (in_body ns ats k) 0 ats (opened_function ns ats k l))))
   added_defs w k o (defines_current at x e ds) l = added_defs w k o ds (with_stand (record { at = at; home = k; entry = current_entry (bound_node w e) }) (added w o e l))

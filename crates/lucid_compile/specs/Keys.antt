@@ -1,14 +1,13 @@
 -- The keys of a table's rows, in the order of the rows: what the first walk lists for what the second one adds.
 use Rattle.std.specs.Prelude.{◌≡◌, ℕ, List, [], ◌∷◌, ◌++◌, map, length}
 use Rattle.lucid_tree.specs.Tree.{PlainTree, PlainTrees, PlainDefs}
-use Rattle.lucid_compile.specs.Static.{Static, Site, level}
+use Rattle.lucid_compile.specs.Static.{Static, level}
 use Rattle.lucid_compile.specs.Places.{first_place}
-use Rattle.lucid_compile.specs.Listing.{Stand}
 use Rattle.lucid_compile.specs.declared.numbering.Key.{Key}
 use Rattle.lucid_compile.specs.declared.numbering.Keys.{Keys}
 use Rattle.lucid_compile.specs.declared.numbering.Numbering.{Numbering}
 use Rattle.lucid_compile.specs.Numbered.{mark_of, function_of, call_of, AreMarked}
-use Rattle.lucid_compile.specs.Bound.{Numbered, CallStand, FunctionStand, Log, with_parameters, added, added_all, added_defs}
+use Rattle.lucid_compile.specs.Bound.{Stand, Numbered, CallStand, FunctionStand, Log, with_parameters, added, added_all, added_defs}
 
 -- the key of what stands at a place, and that of a function
 abbrev pub plain_key : (at level : ℕ) → Key
@@ -24,8 +23,8 @@ stand_key s = plain_key s.at (level s.home)
 abbrev pub call_key : CallStand → Key
 call_key c = plain_key c.at (level c.home)
 
-abbrev pub place_key : Site → Key
-place_key s = plain_key (first_place s.actuals) (level s.caller)
+abbrev pub place_key : CallStand → Key
+place_key c = plain_key (first_place c.actuals) (level c.home)
 
 abbrev pub key_of_function : FunctionStand → Key
 key_of_function f = function_key f.at f.first (level f.home)
@@ -41,7 +40,7 @@ abbrev pub key_lists : Keys → KeyLists
 key_lists k = record { names = k.names.items; calls = k.calls.items; places = k.places.items; functions = k.functions.items }
 
 abbrev pub keys_of : Log → KeyLists
-keys_of g = record { names = map stand_key g.names; calls = map call_key g.calls; places = map place_key g.sites; functions = map key_of_function g.functions }
+keys_of g = record { names = map stand_key g.names; calls = map call_key g.calls; places = map place_key g.calls; functions = map key_of_function g.functions }
 
 abbrev pub with_name_key : Key → KeyLists → KeyLists
 with_name_key k l = record { names = l.names ++ k ∷ []; calls = l.calls; places = l.places; functions = l.functions }

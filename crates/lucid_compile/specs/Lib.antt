@@ -3,9 +3,6 @@ pub mod Compiles
 pub mod Places
 pub mod Counts
 pub mod Promise
-pub mod Listing
-pub mod Compile
-pub mod Built
 pub mod Numbered
 pub mod Bound
 pub mod Building
@@ -13,3 +10,4 @@ pub mod Holds
 pub mod Forms
 pub mod Steps
 pub mod Keys
+pub mod Scopes

@@ -1,9 +1,8 @@
 -- What is promised of a table that was compiled from a tree: no value is changed by it at any approximation, nor what is
 -- consulted, nor the number of what is referred to.
-use Rattle.std.specs.Prelude.{◌≡◌, ℕ, ◌≤◌, List, map, Option, ◌↔◌, IsTrue}
+use Rattle.std.specs.Prelude.{◌≡◌, ℕ, ◌≤◌, List, map, Option, ◌↔◌}
 use Rattle.lucid_value.specs.Plain.{PlainValue}
 use Rattle.lucid_tree.specs.Tree.{Head, PlainTree, form, name, call, block, PlainTrees, tree, PlainDefs}
-use Rattle.lucid_tree.specs.WellMade.{IsWellMade}
 use Rattle.lucid_tree.specs.Levels.{goes_to, Elements, HoldsExactly}
 use Rattle.lucid_tree.specs.Env.{Env, empty, scope, frozen_at, Referent, Position, name_target, call_target}
 use Rattle.lucid_tree.specs.Meaning.{val, hval}
@@ -12,11 +11,11 @@ use Rattle.lucid_equations.specs.Nodes.{Equations}
 use Rattle.lucid_equations.specs.Datons.{Daton}
 use Rattle.lucid_equations.specs.Values.{eqval, eqhval}
 use Rattle.lucid_equations.specs.Visits.{visits, consults_on_nodes}
-use Rattle.lucid_compile.specs.Counts.{HasDistinct, Points, datons, valued_datons, contexts, entries, valued_entries, environments}
+use Rattle.lucid_equations.specs.Counts.{HasDistinct, Points, datons, valued_datons, contexts}
+use Rattle.lucid_compile.specs.Counts.{entries, valued_entries, environments}
 use Rattle.lucid_compile.specs.Static.{Numbers, Source, context_for, event_of}
 use Rattle.lucid_compile.specs.Compiles.{Compiles}
-use Rattle.lucid_compile.specs.Places.{place_of, calls_pass_actuals}
-use Rattle.lucid_compile.specs.Compile.{equations_for}
+use Rattle.lucid_compile.specs.Places.{place_of}
 
 -- The root's approximations are the tree's, at every limit and point.
 abbrev pub HasSameValues : Equations → PlainTree → Type 0
@@ -83,7 +82,3 @@ pub record KeepsTree (p : Equations) (e : PlainTree) : Type 0 where
 -- A table that has what each part of the tree needs keeps the tree.
 abbrev pub CompiledTablesKeepTrees : Type 0
 CompiledTablesKeepTrees = (nu : Numbers) (so : Source) (p : Equations) (e : PlainTree) → Compiles nu so p e → KeepsTree p e
-
--- Each well made tree whose calls pass actuals has a table that keeps it.
-abbrev pub EachTreeHasATable : Type 0
-EachTreeHasATable = (e : PlainTree) → IsWellMade e → IsTrue (calls_pass_actuals e) → KeepsTree (equations_for e) e

@@ -1,18 +1,17 @@
--- The names in scope at a tree, the node that a tree becomes there, and what stands in the table for what stands on trees.
-use Rattle.std.specs.Prelude.{ℕ, suc, Bool, true, false, List, Option, Some, None, get_or, if◌then◌else◌}
+-- The node that a tree becomes, by what its names belong to, and what stands in the table for what stands on trees.
+use Rattle.std.specs.Prelude.{ℕ, suc, Bool, true, false, List, Some, None, if◌then◌else◌}
 use Rattle.lucid_tree.specs.Tree.{PlainTree, form, name, call, block, PlainTrees, no_trees, tree, PlainDefs, no_defs, defines, defines_function, defines_current}
-use Rattle.lucid_tree.specs.Env.{Env, empty, scope, args, Found, absent, plain_def, function_def, current_def, definition, param, Referent, Position}
+use Rattle.lucid_tree.specs.Env.{Env, empty, scope, args, Referent, Position}
 use Rattle.lucid_tree.specs.Levels.{Event, looked_up, referred, entered}
 use Rattle.lucid_tags.specs.Contexts.{Context, root, call_frame, frozen_frame}
+pub use Rattle.lucid_scope.specs.Scope.{Static, outermost, in_block, in_function}
+use Rattle.lucid_scope.specs.Scope.{Meaning, free, plain_name, parameter, current_name, function, meaning}
 use Rattle.lucid_equations.specs.Nodes.{Reference, input, refer, PlainNode, row, freeze, reference, invoke, PlainNodes, no_nodes, node}
 use Rattle.lucid_equations.specs.Datons.{Daton, NodePosition}
 
--- What is in scope, innermost first: a block's definitions, or a function's parameters with their places. It is an environment
--- without its frozen times, actuals and callers.
-pub data Static : Type 0 where
-  outermost : Static
-  in_block : PlainDefs → Static → Static
-  in_function : (names : List (List ℕ)) → (places : List ℕ) → Static → Static
+-- what is in scope in a function's body; an environment doesn't tell the place of the function's definition, and 0 stands for it
+abbrev pub in_body : (names : List (List ℕ)) → (places : List ℕ) → Static → Static
+in_body ns ats k = in_function 0 ns ats k
 
 -- a block with a current definition has a frame
 abbrev pub freezes : PlainDefs → Bool
@@ -21,11 +20,17 @@ freezes (defines at x e ds) = freezes ds
 freezes (defines_function at x ns ats e ds) = freezes ds
 freezes (defines_current at x e ds) = true
 
+-- the innermost entry that has a scope of its own in the table: a block that does not freeze has none
+abbrev pub frame : Static → Static
+frame outermost = outermost
+frame (in_block ds k) = if freezes ds then in_block ds k else frame k
+frame (in_function d ns ats k) = in_function d ns ats k
+
 -- the number of frames of its contexts: a block has one where it freezes, a function's parameters always
 abbrev pub level : Static → ℕ
 level outermost = 0
 level (in_block ds k) = if freezes ds then suc (level k) else level k
-level (in_function ns ats k) = suc (level k)
+level (in_function d ns ats k) = suc (level k)
 
 -- Where a name's row comes from: the place of the definition, parameter or call, and what is in scope from its entry on
 pub record Origin : Type 0 where
@@ -49,62 +54,31 @@ pub record Source : Type 0 where
   pub site : (place : ℕ) → Site
   pub scope_at : (at : ℕ) → Static
 
--- A function that is in scope, with what is in scope from its block on.
-pub record Callee : Type 0 where
-  pub names : List (List ℕ)
-  pub places : List ℕ
-  pub right : PlainTree
-  pub home : Static
-
--- the block's own function, or else the one outside
-abbrev pub callee_in : Found → Static → (outer : Option Callee) → Option Callee
-callee_in absent k outer = outer
-callee_in (plain_def at e) k outer = None
-callee_in (function_def at ns ats e) k outer = Some (record { names = ns; places = ats; right = e; home = k })
-callee_in (current_def at e) k outer = None
-
--- a parameter is no function
-abbrev pub callee_past : Option ℕ → (outer : Option Callee) → Option Callee
-callee_past None outer = outer
-callee_past (Some i) outer = None
-
--- the function that a call of the name calls
-abbrev pub callee : List ℕ → Static → Option Callee
-callee x outermost = None
-callee x (in_block ds k) = callee_in (definition x ds) (in_block ds k) (callee x k)
-callee x (in_function ns ats k) = callee_past (param x ns) (callee x k)
-
--- the level of a call; what is no function has a level above all frames, which leads nowhere
-abbrev pub call_level : (top : ℕ) → Option Callee → ℕ
-call_level top None = suc top
-call_level top (Some f) = level f.home
+-- the level of a call, by what its name belongs to; what is no function has a level above all frames, which leads nowhere
+abbrev pub call_level : (top : ℕ) → Meaning → ℕ
+call_level top free = suc top
+call_level top (plain_name d e k) = suc top
+call_level top (parameter d i p k) = suc top
+call_level top (current_name d e k o) = suc top
+call_level top (function d ns ats e k) = level k
 
 module _ (nu : Numbers) where
-  -- where the block has the name: a function without arguments leads nowhere
-  abbrev pub defined_at : (top : ℕ) → Found → (level : ℕ) → (outer : Reference) → Reference
-  defined_at top absent l outer = outer
-  defined_at top (plain_def at e) l outer = refer (nu.name at) l
-  defined_at top (function_def at ns ats e) l outer = refer 0 (suc top)
-  defined_at top (current_def at e) l outer = refer (nu.name at) l
-
-  -- where the function has a parameter with the name
-  abbrev pub parameter_at : Option ℕ → (places : List ℕ) → (level : ℕ) → (outer : Reference) → Reference
-  parameter_at None ats l outer = outer
-  parameter_at (Some i) ats l outer = refer (nu.name (get_or ats i 0)) l
-
-  -- What a name becomes: a reference of the row of its definition or parameter, in the frames of the scope from its entry on.
-  abbrev pub reference_for : (top : ℕ) → List ℕ → Static → Reference
-  reference_for top x outermost = input x
-  reference_for top x (in_block ds k) = defined_at top (definition x ds) (level (in_block ds k)) (reference_for top x k)
-  reference_for top x (in_function ns ats k) = parameter_at (param x ns) ats (level (in_function ns ats k)) (reference_for top x k)
+  -- What a name becomes, by what it belongs to: an input, or a reference of the row of its definition or parameter, in the frames of
+  -- the scope from its entry on. A function without arguments leads nowhere.
+  abbrev pub reference_of : (top : ℕ) → List ℕ → Meaning → Reference
+  reference_of top x free = input x
+  reference_of top x (plain_name d e k) = refer (nu.name d) (level k)
+  reference_of top x (parameter d i p k) = refer (nu.name p) (level k)
+  reference_of top x (current_name d e k o) = refer (nu.name d) (level k)
+  reference_of top x (function d ns ats e k) = refer 0 (suc top)
 
   -- What a tree becomes: a form the same form of its parts; a block its subject, with the time frozen where it has a current
   -- definition; a name a reference; a call a call.
   abbrev mutual
     pub node_for : Static → PlainTree → PlainNode
     node_for k (form at f es) = row f (nodes_for k es)
-    node_for k (name at x) = reference (reference_for (level k) x k)
-    node_for k (call at x es) = invoke (nu.name at) (nu.place es) (call_level (level k) (callee x k))
+    node_for k (name at x) = reference (reference_of (level k) x (meaning x k))
+    node_for k (call at x es) = invoke (nu.name at) (nu.place es) (call_level (level k) (meaning x k))
     node_for k (block at e ds) = if freezes ds then freeze (node_for (in_block ds k) e) else node_for (in_block ds k) e
 
     pub nodes_for : Static → PlainTrees → PlainNodes
@@ -115,7 +89,7 @@ module _ (nu : Numbers) where
 abbrev pub static_of : Env → Static
 static_of empty = outermost
 static_of (scope ds z env) = in_block ds (static_of env)
-static_of (args ns ats es caller env) = in_function ns ats (static_of env)
+static_of (args ns ats es caller env) = in_body ns ats (static_of env)
 
 -- The context that matches an environment, entry by entry: a scope with a frozen time has a frame with that time, one without
 -- has none; a call has a frame with the place of the call that has these actuals, and with the context that matches the caller's

@@ -1,7 +1,7 @@
 //! The lists of a table while it is built: each only grows.
 ghost use Rattle.std.specs.Prelude.{◌≡◌, IfOk, OnOk};
 ghost use Rattle.lucid_value.specs.View.{plain};
-ghost use Rattle.lucid_compile.specs.Building.{lists, no_lists, with_name, with_body, with_place, OneConstant, OneNode};
+ghost use Rattle.lucid_compile.specs.Building.{lists, no_lists, with_name, with_body, with_place, OneScope, OneConstant, OneNode};
 
 use crate::numbering::number;
 use lucid_equations::{Entry, NameRow, Node, NodeRow, PlaceRow, ScopeKind, ScopeRow};
@@ -52,7 +52,7 @@ impl Rows {
 
     /// One scope more.
     pub(crate) fn open(&mut self, parent: u32, kind: ScopeKind) -> Result<u32, AllocError>
-        ensures { OnOk result (lists self.new ≡ lists self.old) }
+        ensures { IfOk result (λ id. OneScope (lists self.old) (lists self.new) (record { parent = parent; kind = kind }) id) }
     {
         let id = number(self.scopes.len())?;
         self.scopes.push(ScopeRow { parent, kind })?;

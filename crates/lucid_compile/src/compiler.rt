@@ -1,20 +1,22 @@
 //! From a tree to its table: a second walk over the tree. Each part is made before the node that has it, so a part's number is
 //! lower. The rows of calls come after those of all other names, when the bodies of the functions are made. Each row is made at the
 //! number that the first walk gave it.
-ghost use Rattle.std.specs.Prelude.{◌≡◌, ◌+◌, ◌≤◌, ℕ, List, [], ◌∷◌, length, take, get_or, slice_get, IfOk, OnOk};
+ghost use Rattle.std.specs.Prelude.{◌≡◌, ◌+◌, ◌≤◌, ℕ, List, [], ◌∷◌, length, take, drop, get_or, slice_get, IfOk, OnOk};
 ghost use Rattle.lucid_tree.specs.View.{tree_of};
 ghost use Rattle.lucid_tree.specs.Tree.{apply, choose, no_trees, tree as one_more, no_defs, block as a_block, call as a_call};
 ghost use Rattle.lucid_tree.specs.Size.{count};
 ghost use Rattle.lucid_tree.specs.DefsView.{one_def};
 ghost use Rattle.lucid_scope.specs.Scoped.{scoped_tree, scoped_inputs, scoped_binding};
 ghost use Rattle.lucid_compile.specs.Promise.{KeepsTree};
+ghost use Rattle.lucid_compile.specs.Scopes.{HasScopes};
+ghost use Rattle.lucid_equations.specs.Sound.{AreZero, IsSound};
 ghost use Rattle.lucid_equations.specs.Programs.{table_of as table_in, program_equations};
 ghost use Rattle.lucid_compile.specs.Numbered.{name_mark, function_mark};
-ghost use Rattle.lucid_compile.specs.Bound.{name_node, callee_place, Log};
-ghost use Rattle.lucid_compile.specs.Building.{lists};
+ghost use Rattle.lucid_compile.specs.Bound.{name_node, callee_place};
+ghost use Rattle.lucid_compile.specs.Building.{lists, OneScope};
 ghost use Rattle.lucid_compile.specs.Forms.{head_of_unary, head_of_binary, AddsForm};
-ghost use Rattle.lucid_compile.specs.Holds.{Holds, AddsTree, AddsTrees, AddsDefs};
-ghost use Rattle.lucid_compile.specs.Steps.{numbered, AddsParameters, with_names, HoldsCalls, callee_number, row_by, IsTableOf};
+ghost use Rattle.lucid_compile.specs.Holds.{AddsTree, AddsTrees, AddsDefs};
+ghost use Rattle.lucid_compile.specs.Steps.{numbered, AddsParameters, with_calls, callee_number, row_by, IsTableOf};
 
 use crate::building::{Body, Here, Rows};
 use crate::forms::{BinaryForm, UnaryForm};
@@ -41,7 +43,7 @@ struct Source<'a> {
 // The number of the tree's node, which the table then has.
 #[cycle(compile)]
 fn add_tree(source: &Source, rows: &mut Rows, tree: &Tree, here: Here) -> Result<u32, AllocError>
-    ensures { IfOk result (λ id. AddsTree (numbered source.now) (lists rows.old) (lists rows.new) here.level tree.now id) }
+    ensures { IfOk result (λ id. AddsTree (numbered source.now) (lists rows.old) (lists rows.new) here tree.now id) }
 {
     add_kind(source, rows, tree.at, &tree.kind, here)
 }
@@ -55,7 +57,7 @@ fn add_kind(
     kind: &Kind,
     here: Here,
 ) -> Result<u32, AllocError>
-    ensures { IfOk result (λ id. AddsTree (numbered source.now) (lists rows.old) (lists rows.new) here.level (tree_of at kind.now) id) }
+    ensures { IfOk result (λ id. AddsTree (numbered source.now) (lists rows.old) (lists rows.new) here (tree_of at kind.now) id) }
 {
     match kind {
         Kind::Const(value) => {
@@ -95,7 +97,7 @@ fn add_apply(
     args: &Trees,
     here: Here,
 ) -> Result<u32, AllocError>
-    ensures { IfOk result (λ id. AddsForm (numbered source.now) (lists rows.old) (lists rows.new) here.level (apply op (count args.now)) args.now id) }
+    ensures { IfOk result (λ id. AddsForm (numbered source.now) (lists rows.old) (lists rows.new) here (apply op (count args.now)) args.now id) }
 {
     let ids = add_trees(source, rows, args, here)?;
     let args = three(&ids);
@@ -112,7 +114,7 @@ fn add_choice(
     no: &Tree,
     here: Here,
 ) -> Result<u32, AllocError>
-    ensures { IfOk result (λ id. AddsForm (numbered source.now) (lists rows.old) (lists rows.new) here.level choose (one_more test.now (one_more yes.now (one_more no.now no_trees))) id) }
+    ensures { IfOk result (λ id. AddsForm (numbered source.now) (lists rows.old) (lists rows.new) here choose (one_more test.now (one_more yes.now (one_more no.now no_trees))) id) }
 {
     let test = add_tree(source, rows, test, here)?;
     let yes = add_tree(source, rows, yes, here)?;
@@ -129,7 +131,7 @@ fn add_unary(
     part: &Tree,
     here: Here,
 ) -> Result<u32, AllocError>
-    ensures { IfOk result (λ id. AddsForm (numbered source.now) (lists rows.old) (lists rows.new) here.level (head_of_unary form) (one_more part.now no_trees) id) }
+    ensures { IfOk result (λ id. AddsForm (numbered source.now) (lists rows.old) (lists rows.new) here (head_of_unary form) (one_more part.now no_trees) id) }
 {
     let of = add_tree(source, rows, part, here)?;
     rows.push(here, form.node(of))
@@ -145,7 +147,7 @@ fn add_binary(
     right: &Tree,
     here: Here,
 ) -> Result<u32, AllocError>
-    ensures { IfOk result (λ id. AddsForm (numbered source.now) (lists rows.old) (lists rows.new) here.level (head_of_binary form) (one_more left.now (one_more right.now no_trees)) id) }
+    ensures { IfOk result (λ id. AddsForm (numbered source.now) (lists rows.old) (lists rows.new) here (head_of_binary form) (one_more left.now (one_more right.now no_trees)) id) }
 {
     let left = add_tree(source, rows, left, here)?;
     let right = add_tree(source, rows, right, here)?;
@@ -160,7 +162,7 @@ fn add_trees(
     trees: &Trees,
     here: Here,
 ) -> Result<Vec<u32>, AllocError>
-    ensures { IfOk result (λ ids. AddsTrees (numbered source.now) (lists rows.old) (lists rows.new) here.level trees.now ids.items) }
+    ensures { IfOk result (λ ids. AddsTrees (numbered source.now) (lists rows.old) (lists rows.new) here trees.now ids.items) }
 {
     let mut ids = Vec::new(source.alloc);
     let items = trees.items();
@@ -173,7 +175,8 @@ fn add_trees(
 
 // The numbers of an operator's arguments, and 0 past them. No operator has more than three.
 fn three(ids: &[u32]) -> [u32; 3]
-    ensures { length ids.now ≤ 3 → take (length ids.now) result ≡ ids.now }
+    ensures first { length ids.now ≤ 3 → take (length ids.now) result ≡ ids.now }
+    ensures rest { AreZero (drop (length ids.now) result) }
 {
     match ids {
         [] => [0, 0, 0],
@@ -227,7 +230,7 @@ fn add_call(
     args: &Trees,
     here: Here,
 ) -> Result<u32, AllocError>
-    ensures { IfOk result (λ id. AddsTree (numbered source.now) (lists rows.old) (lists rows.new) here.level (a_call at name.now args.now) id) }
+    ensures { IfOk result (λ id. AddsTree (numbered source.now) (lists rows.old) (lists rows.new) here (a_call at name.now args.now) id) }
 {
     let ids = add_trees(source, rows, args, here)?;
     number(ids.len())?;
@@ -276,7 +279,7 @@ fn add_block(
     block: &Block,
     here: Here,
 ) -> Result<u32, AllocError>
-    ensures { IfOk result (λ id. AddsTree (numbered source.now) (lists rows.old) (lists rows.new) here.level (a_block at block.now.subject block.now.defs) id) }
+    ensures { IfOk result (λ id. AddsTree (numbered source.now) (lists rows.old) (lists rows.new) here (a_block at block.now.subject block.now.defs) id) }
 {
     if has_frame(&block.defs) {
         let inside = opened(rows, here, ScopeKind::Frozen)?;
@@ -292,7 +295,7 @@ fn add_block(
 
 // A scope with one frame more.
 fn opened(rows: &mut Rows, here: Here, kind: ScopeKind) -> Result<Here, AllocError>
-    ensures lists { OnOk result (lists rows.new ≡ lists rows.old) }
+    ensures scope { IfOk result (λ inside. OneScope (lists rows.old) (lists rows.new) (record { parent = here.scope; kind = kind }) inside.scope) }
     ensures level { IfOk result (λ inside. inside.level ≡ here.level + 1) }
 {
     let scope = rows.open(here.scope, kind)?;
@@ -309,7 +312,7 @@ fn add_defs(
     inside: Here,
     outside: Here,
 ) -> Result<(), AllocError>
-    ensures { OnOk result (AddsDefs (numbered source.now) (lists rows.old) (lists rows.new) inside.level outside.level defs.now) }
+    ensures { OnOk result (AddsDefs (numbered source.now) (lists rows.old) (lists rows.new) inside outside defs.now) }
 {
     let items = defs.items();
     for def in items {
@@ -327,7 +330,7 @@ fn add_def(
     inside: Here,
     outside: Here,
 ) -> Result<(), AllocError>
-    ensures { OnOk result (AddsDefs (numbered source.now) (lists rows.old) (lists rows.new) inside.level outside.level (one_def def.now no_defs)) }
+    ensures { OnOk result (AddsDefs (numbered source.now) (lists rows.old) (lists rows.new) inside outside (one_def def.now no_defs)) }
 {
     match &def.kind {
         DefKind::Plain { right } => {
@@ -355,7 +358,7 @@ fn add_parameters(
     places: &Places32,
     here: Here,
 ) -> Result<(), AllocError>
-    ensures { OnOk result (AddsParameters (numbered source.now) (lists rows.old) (lists rows.new) here.level places.now) }
+    ensures { OnOk result (AddsParameters (numbered source.now) (lists rows.old) (lists rows.new) here places.now) }
 {
     let places = places.items();
     let mut i = 0;
@@ -369,8 +372,7 @@ fn add_parameters(
 
 // The rows of the calls, in order.
 fn add_calls(source: &Source, rows: &mut Rows) -> Result<(), AllocError>
-    ensures others { OnOk result (lists rows.new ≡ with_names (lists rows.new).names (lists rows.old)) }
-    ensures names { OnOk result ((g : Log) → Holds (numbered source.now) (lists rows.old) g → HoldsCalls (numbered source.now) (lists rows.old) (lists rows.new).names g (lists rows.old).calls) }
+    ensures { OnOk result (lists rows.new ≡ with_calls (numbered source.now) (lists rows.old)) }
 {
     let mut i = 0;
     while i < rows.calls.len() {
@@ -434,10 +436,13 @@ fn copied(alloc: Global, names: &[Name]) -> Result<Vec<Name>, AllocError>
 }
 
 /// The program of a tree that was resolved. Its table keeps the tree: the same approximations at every limit and point, also with
-/// held values, the same elements consulted, as many different datons. Its inputs are the tree's, in their order. Both walks are
-/// linear in the tree. The one refusal is want of memory, also where a list of rows would pass 2^32 - 2 rows.
+/// held values, the same elements consulted, as many different datons. With at most 1,048,576 inputs the table is sound. Its inputs are
+/// the tree's, in their order. Both walks are linear in the tree. The one refusal is want of memory, also where a list of rows would pass
+/// 2^32 - 2 rows.
 pub fn compile(alloc: Global, scoped: &Scoped) -> Result<Program, AllocError>
     ensures keeps { IfOk result (λ program. KeepsTree (program_equations program) (scoped_tree scoped.now)) }
+    ensures scopes { IfOk result (λ program. HasScopes (table_in program) scoped.now) }
+    ensures sound { IfOk result (λ program. length (scoped_inputs scoped.now) ≤ 1048576 → IsSound (table_in program)) }
     ensures inputs { IfOk result (λ program. (table_in program).inputs ≡ scoped_inputs scoped.now) }
 {
     free_names_are_inputs();

@@ -1,7 +1,7 @@
 //! Sources as programs: where the rows of a small one stand, and that large ones are compiled. The crate of the compiler has no
 //! tests of its own: its trees come from sources, so its tests stand here.
 use lucid_compile::compile;
-use lucid_equations::{Entry, Node, Program, ScopeKind};
+use lucid_equations::{Entry, Node, Program, ScopeKind, Table};
 use lucid_parse::parse;
 use lucid_scan::scan;
 use lucid_scope::resolve;
@@ -45,38 +45,143 @@ fn a_function_and_a_current_name(rt: HostRuntime) -> Result<(), Fail> {
     Ok(())
 }
 
-// Each row of that program stands in its scope: 0 outside, 1 in the block, 2 in the function; and each call place has the row of its
-// own call.
+/// A source, and its table's scopes, nodes, names and call places as text.
+type Row = (
+    &'static str,
+    &'static str,
+    &'static str,
+    &'static str,
+    &'static str,
+);
+
+// A row is parted from those before it.
+fn part(text: &mut String) -> Result<(), AllocError> {
+    if !text.is_empty() {
+        text.push_str(" / ")?;
+    }
+    Ok(())
+}
+
+// The kind and the parent of each scope.
+fn scopes_of(alloc: Global, table: &Table) -> Result<String, Fail> {
+    let mut text = String::new(alloc);
+    for row in table.scopes.items() {
+        part(&mut text)?;
+        let parent = row.parent;
+        match row.kind {
+            ScopeKind::Root => write!(text, "root in {parent}")?,
+            ScopeKind::Called => write!(text, "called in {parent}")?,
+            ScopeKind::Frozen => write!(text, "frozen in {parent}")?,
+        }
+    }
+    Ok(text)
+}
+
+// The scope of each node, and of references and calls the name with the level.
+fn nodes_of(alloc: Global, table: &Table) -> Result<String, Fail> {
+    let mut text = String::new(alloc);
+    for row in table.nodes.items() {
+        part(&mut text)?;
+        let scope = row.scope;
+        write!(text, "{scope}")?;
+        match row.node {
+            Node::Refer { name, level } => write!(text, " refers {name} at {level}")?,
+            Node::Call { name, level, .. } => write!(text, " calls {name} at {level}")?,
+            _ => {}
+        }
+    }
+    Ok(text)
+}
+
+// The entry and the scope of each name.
+fn names_of(alloc: Global, table: &Table) -> Result<String, Fail> {
+    let mut text = String::new(alloc);
+    for row in table.names.items() {
+        part(&mut text)?;
+        let scope = row.scope;
+        match row.kind {
+            Entry::Plain { body } => write!(text, "plain {body} in {scope}")?,
+            Entry::Parameter { index } => write!(text, "parameter {index} in {scope}")?,
+            Entry::Current { body } => write!(text, "current {body} in {scope}")?,
+            Entry::Called { body } => write!(text, "called {body} in {scope}")?,
+        }
+    }
+    Ok(text)
+}
+
+// The name, the scope and the actuals of each call place.
+fn places_of(alloc: Global, table: &Table) -> Result<String, Fail> {
+    let mut text = String::new(alloc);
+    for row in table.places.items() {
+        part(&mut text)?;
+        let name = row.name;
+        let scope = row.scope;
+        write!(text, "{name} in {scope}:")?;
+        for actual in row.actuals.items() {
+            write!(text, " {actual}")?;
+        }
+    }
+    Ok(text)
+}
+
+// Expected rows by hand, from how a program is a table: a function has a called scope, and a block with a current definition a frozen
+// one; a current name's right side stands outside its block; a level counts the frames of the scope that a name is defined in. A node
+// stands behind its parts, a subject before the definitions, and the names of calls behind all others.
+static ROWS: [Row; 6] = [
+    (
+        "f(5) where f(a) = a fby f(x); x is current y; end",
+        "root in 0 / frozen in 0 / called in 1",
+        "1 / 1 calls 2 at 1 / 2 refers 0 at 2 / 2 refers 1 at 1 / 2 calls 3 at 1 / 2 / 0 / 0",
+        "parameter 0 in 2 / current 6 in 1 / called 5 in 2 / called 5 in 2",
+        "2 in 1: 0 / 3 in 2: 3",
+    ),
+    (
+        "x where x = 1; end",
+        "root in 0",
+        "0 refers 0 at 0 / 0",
+        "plain 1 in 0",
+        "",
+    ),
+    (
+        "f(1) where f(a) = g(2) where g(b) = a + b; end; end",
+        "root in 0 / called in 0 / called in 1",
+        "0 / 0 calls 2 at 0 / 1 / 1 calls 3 at 1 / 2 refers 0 at 1 / 2 refers 1 at 2 / 2",
+        "parameter 0 in 1 / parameter 0 in 2 / called 3 in 1 / called 6 in 2",
+        "2 in 0: 0 / 3 in 1: 2",
+    ),
+    (
+        "f(1, 2) where f(a, b) = x where x is current b; end; end",
+        "root in 0 / called in 0 / frozen in 1",
+        "0 / 0 / 0 calls 3 at 0 / 2 refers 2 at 2 / 1 refers 1 at 1 / 1",
+        "parameter 0 in 1 / parameter 1 in 1 / current 4 in 2 / called 5 in 1",
+        "3 in 0: 0 1",
+    ),
+    (
+        "(x where x is current k; end) + (x where x is current k; end) where k = 1; end",
+        "root in 0 / frozen in 0 / frozen in 0",
+        "1 refers 0 at 1 / 0 refers 2 at 0 / 0 / 2 refers 1 at 1 / 0 refers 2 at 0 / 0 / 0 / 0",
+        "current 1 in 1 / current 4 in 2 / plain 7 in 0",
+        "",
+    ),
+    (
+        "f(f(1)) where f(a) = a; end",
+        "root in 0 / called in 0",
+        "0 / 0 calls 1 at 0 / 0 calls 2 at 0 / 1 refers 0 at 1",
+        "parameter 0 in 1 / called 3 in 1 / called 3 in 1",
+        "1 in 0: 0 / 2 in 0: 1",
+    ),
+];
+
 #[test]
-fn a_function_and_a_current_name_by_scopes(rt: HostRuntime) -> Result<(), Fail> {
-    let source = b"f(5) where f(a) = a fby f(x); x is current y; end";
-    let program = program_of(rt.alloc(), source)?;
-    let table = program.table();
-    let scopes = table.scopes.items();
-    assert_eq!(rt; scopes.len(), 3);
-    let root = scopes[0];
-    assert!(rt; root.parent == 0);
-    assert!(rt; matches!(root.kind, ScopeKind::Root));
-    let block = scopes[1];
-    assert!(rt; block.parent == 0);
-    assert!(rt; matches!(block.kind, ScopeKind::Frozen));
-    let function = scopes[2];
-    assert!(rt; function.parent == 1);
-    assert!(rt; matches!(function.kind, ScopeKind::Called));
-    let nodes = table.nodes.items();
-    assert_eq!(rt; nodes.len(), 8);
-    assert!(rt; nodes[0].scope == 1 && nodes[1].scope == 1);
-    assert!(rt; nodes[2].scope == 2 && nodes[3].scope == 2);
-    assert!(rt; nodes[4].scope == 2 && nodes[5].scope == 2);
-    assert!(rt; nodes[6].scope == 0 && nodes[7].scope == 0);
-    let names = table.names.items();
-    assert_eq!(rt; names.len(), 4);
-    assert!(rt; names[0].scope == 2 && names[1].scope == 1);
-    assert!(rt; names[2].scope == 2 && names[3].scope == 2);
-    let places = table.places.items();
-    assert_eq!(rt; places.len(), 2);
-    assert!(rt; places[0].scope == 1 && places[0].name == 2);
-    assert!(rt; places[1].scope == 2 && places[1].name == 3);
+fn rows_in_their_scopes(rt: HostRuntime) -> Result<(), Fail> {
+    for (source, scopes, nodes, names, places) in ROWS {
+        let program = program_of(rt.alloc(), source.as_bytes())?;
+        let table = program.table();
+        assert_eq!(rt; scopes_of(rt.alloc(), table)?.as_str(), scopes, "{source}");
+        assert_eq!(rt; nodes_of(rt.alloc(), table)?.as_str(), nodes, "{source}");
+        assert_eq!(rt; names_of(rt.alloc(), table)?.as_str(), names, "{source}");
+        assert_eq!(rt; places_of(rt.alloc(), table)?.as_str(), places, "{source}");
+    }
     Ok(())
 }
 

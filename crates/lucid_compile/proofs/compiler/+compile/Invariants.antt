@@ -11,11 +11,11 @@ use Rattle.lucid_compile.proofs.compiler.+compile.Given as goal
 
 -- the trees before this one are there
 abbrev pub invariant-add_trees-loop-tree : goal.invariant-add_trees-loop-tree
-invariant-add_trees-loop-tree l = AddsTrees (numbered l.source) (lists l.initial.rows) (lists l.rows) l.here.level (trees_of (take l.tree-index l.items)) l.ids.items
+invariant-add_trees-loop-tree l = AddsTrees (numbered l.source) (lists l.initial.rows) (lists l.rows) l.here (trees_of (take l.tree-index l.items)) l.ids.items
 
 -- the definitions before this one are there
 abbrev pub invariant-add_defs-loop-def : goal.invariant-add_defs-loop-def
-invariant-add_defs-loop-def l = AddsDefs (numbered l.source) (lists l.initial.rows) (lists l.rows) l.inside.level l.outside.level (defs_of (take l.def-index l.items))
+invariant-add_defs-loop-def l = AddsDefs (numbered l.source) (lists l.initial.rows) (lists l.rows) l.inside l.outside (defs_of (take l.def-index l.items))
 
 -- each call goes to fewer nodes, or to the same in a step that is below this one
 abbrev pub decreases-add_tree : goal.decreases-add_tree
