@@ -7,6 +7,8 @@ mod command;
 #[cfg(test)]
 mod compiled;
 #[cfg(test)]
+mod cycles;
+#[cfg(test)]
 mod grouped;
 #[cfg(test)]
 mod names;

@@ -1,0 +1,147 @@
+-- The edges of a program have small numbers.
+use Rattle.std.proofs.Common.{◌≡◌, ℕ, suc, ◌+◌, ◌<◌, ◌≤◌, Bool, true, false, cond, List, [], ◌∷◌, ◌++◌, length, Option, Some, None, inl, inr, refl, sym, subst, arith, length-append, nat_lt}
+use Rattle.std.specs.Prelude.{ℤ, pos, ◌+ℤ◌, ◌-ℤ◌, option_map}
+use Rattle.std.specs.List.{All}
+use Rattle.std.proofs.lemmas.Int.{ints}
+use Rattle.std.proofs.lemmas.Bool.Decides.{nat_tests}
+use Rattle.std.proofs.lemmas.List.Elements.{All-nil, All-cons, All-append, All-map, All-weaker}
+use Rattle.std.proofs.lemmas.List.Sums.{count_by-le-length, sum_by-cons}
+use Rattle.lucid_tree.specs.Tree.{const, apply, choose, both, either, first, next, fby, whenever, asa, upon, attime, initial, succ, sby, atspace, PlainTree, form, name, call, block, PlainTrees, no_trees, tree, PlainDefs, no_defs, defines, defines_function, defines_current}
+use Rattle.lucid_tree.specs.Members.{In}
+use Rattle.lucid_tree.specs.WellMade.{IsWellMade, places, places_in, places_in_defs}
+use Rattle.lucid_scope.specs.declared.scoped.Binding.{Binding}
+use Rattle.lucid_scope.specs.declared.scoped.Binding.TheVariants.{Plain, Parameter, Current, Function, Input}
+use Rattle.lucid_cycles.specs.declared.edge.Edge.{Edge}
+use Rattle.lucid_cycles.specs.Judged.{plain_names, plain_names_in, plain_names_in_defs}
+use Rattle.lucid_cycles.specs.Graph.{Bindings, edge_to, edges, edges_in, edges_in_defs, number, numbered, graph}
+use Rattle.lucid_cycles.specs.Rounds.{Fits, FromBelow, IsSmall}
+use Rattle.lucid_cycles.proofs.Trails.{in-left, in-right}
+
+pub fits-part : (w : ℤ) (n m : ℕ) → m ≤ n → Fits w n → Fits w m
+fits-part w n m h f = let l = f.low in let u = f.high in record { low = omega (arith, ints, l); high = omega (arith, ints, u) }
+
+pub fits-zero : (n : ℕ) → n ≤ 4294967296 → Fits (pos 0) n
+fits-zero n h = record { low = omega (arith, ints); high = omega (arith, ints) }
+
+pub fits-next : (w : ℤ) (n m : ℕ) → m + 1 ≤ n → Fits w n → Fits (w -ℤ pos 1) m
+fits-next w n m h f = let l = f.low in let u = f.high in record { low = omega (arith, ints, l); high = omega (arith, ints, u) }
+
+pub fits-fby : (w : ℤ) (n m : ℕ) → m + 1 ≤ n → Fits w n → Fits (w +ℤ pos 1) m
+fits-fby w n m h f = let l = f.low in let u = f.high in record { low = omega (arith, ints, l); high = omega (arith, ints, u) }
+
+pub fits-under : (w : ℤ) (n : ℕ) → Fits w n → n ≤ 4294967296
+fits-under w n f = let l = f.low in let u = f.high in omega (arith, ints, l, u)
+
+-- the names from which edges go are among these
+abbrev Known : List ℕ → Option ℕ → Type 0
+Known ds None = Unit {0}
+Known ds (Some d) = In d ds
+
+record Good (ds : List ℕ) (e : Edge) : Type 0 where
+  known : Known ds e.from
+  fits : Fits e.delay 0
+
+one-edge : (ds : List ℕ) (x : Option ℕ) (w : ℤ) (o : Option Binding) → Known ds x → Fits w 0 → All (Good ds) (edge_to x w o)
+one-edge ds x w None k f = All-nil (Good ds)
+one-edge ds x w (Some (Plain d)) k f = All-cons (Good ds) (record { from = x; to = d; delay = w }) [] (record { known = k; fits = f }) (All-nil (Good ds))
+one-edge ds x w (Some (Parameter d i)) k f = All-nil (Good ds)
+one-edge ds x w (Some (Current d)) k f = All-nil (Good ds)
+one-edge ds x w (Some (Function d)) k f = All-nil (Good ds)
+one-edge ds x w (Some (Input i)) k f = All-nil (Good ds)
+
+abbrev Has : List ℕ → List ℕ → Type 0
+Has ds xs = (d : ℕ) → In d xs → In d ds
+
+module _ (b : Bindings) (ds : List ℕ) where
+  mutual
+    good-edges : (x : Option ℕ) (w : ℤ) (e : PlainTree) → Known ds x → Has ds (plain_names e) → Fits w (length (places e)) → All (Good ds) (edges b x w e)
+    good-edges x w (name at n) k h f = one-edge ds x w (b at) k (fits-part w 1 0 (omega arith) f)
+    good-edges x w (call at n es) k h f = good-edges-in x w es k h (fits-part w (suc (length (places_in es))) (length (places_in es)) (omega arith) f)
+    good-edges x w (block at e es) k h f =
+        let all = length-append (places e) (places_in_defs es) in
+        let under = fits-under w _ f in
+        All-append (Good ds) (edges b x w e) (edges_in_defs b es)
+        (good-edges x w e k (λ d i. h d (in-left d (plain_names e) (plain_names_in_defs es) i)) (fits-part w (suc (length (places e ++ places_in_defs es))) (length (places e)) (omega (arith, all)) f))
+        (good-edges-of es (λ d i. h d (in-right d (plain_names e) (plain_names_in_defs es) i)) (omega (arith, all, under)))
+    good-edges x w (form at first es) k h f = good-edges-in x (pos 0) es k h (fits-zero (length (places_in es)) (omega (arith, fits-under w _ f)))
+    good-edges x w (form at next es) k h f = good-edges-in x (w -ℤ pos 1) es k h (fits-next w (suc (length (places_in es))) (length (places_in es)) (omega arith) f)
+    good-edges x w (form at fby no_trees) k h f = All-nil (Good ds)
+    good-edges x w (form at fby (tree e es)) k h f =
+        let all = length-append (places e) (places_in es) in
+        All-append (Good ds) (edges b x w e) (edges_in b x (w +ℤ pos 1) es)
+        (good-edges x w e k (λ d i. h d (in-left d (plain_names e) (plain_names_in es) i)) (fits-part w (suc (length (places e ++ places_in es))) (length (places e)) (omega (arith, all)) f))
+        (good-edges-in x (w +ℤ pos 1) es k (λ d i. h d (in-right d (plain_names e) (plain_names_in es) i)) (fits-fby w (suc (length (places e ++ places_in es))) (length (places_in es)) (omega (arith, all)) f))
+    good-edges x w (form at (const v) es) k h f = good-edges-in x w es k h (fits-part w (suc (length (places_in es))) (length (places_in es)) (omega arith) f)
+    good-edges x w (form at (apply op n) es) k h f = good-edges-in x w es k h (fits-part w (suc (length (places_in es))) (length (places_in es)) (omega arith) f)
+    good-edges x w (form at choose es) k h f = good-edges-in x w es k h (fits-part w (suc (length (places_in es))) (length (places_in es)) (omega arith) f)
+    good-edges x w (form at both es) k h f = good-edges-in x w es k h (fits-part w (suc (length (places_in es))) (length (places_in es)) (omega arith) f)
+    good-edges x w (form at either es) k h f = good-edges-in x w es k h (fits-part w (suc (length (places_in es))) (length (places_in es)) (omega arith) f)
+    good-edges x w (form at whenever es) k h f = good-edges-in x w es k h (fits-part w (suc (length (places_in es))) (length (places_in es)) (omega arith) f)
+    good-edges x w (form at asa es) k h f = good-edges-in x w es k h (fits-part w (suc (length (places_in es))) (length (places_in es)) (omega arith) f)
+    good-edges x w (form at upon es) k h f = good-edges-in x w es k h (fits-part w (suc (length (places_in es))) (length (places_in es)) (omega arith) f)
+    good-edges x w (form at attime es) k h f = good-edges-in x w es k h (fits-part w (suc (length (places_in es))) (length (places_in es)) (omega arith) f)
+    good-edges x w (form at initial es) k h f = good-edges-in x w es k h (fits-part w (suc (length (places_in es))) (length (places_in es)) (omega arith) f)
+    good-edges x w (form at succ es) k h f = good-edges-in x w es k h (fits-part w (suc (length (places_in es))) (length (places_in es)) (omega arith) f)
+    good-edges x w (form at sby es) k h f = good-edges-in x w es k h (fits-part w (suc (length (places_in es))) (length (places_in es)) (omega arith) f)
+    good-edges x w (form at atspace es) k h f = good-edges-in x w es k h (fits-part w (suc (length (places_in es))) (length (places_in es)) (omega arith) f)
+
+    good-edges-in : (x : Option ℕ) (w : ℤ) (es : PlainTrees) → Known ds x → Has ds (plain_names_in es) → Fits w (length (places_in es)) → All (Good ds) (edges_in b x w es)
+    good-edges-in x w no_trees k h f = All-nil (Good ds)
+    good-edges-in x w (tree e es) k h f =
+        let all = length-append (places e) (places_in es) in
+        All-append (Good ds) (edges b x w e) (edges_in b x w es)
+        (good-edges x w e k (λ d i. h d (in-left d (plain_names e) (plain_names_in es) i)) (fits-part w (length (places e ++ places_in es)) (length (places e)) (omega (arith, all)) f))
+        (good-edges-in x w es k (λ d i. h d (in-right d (plain_names e) (plain_names_in es) i)) (fits-part w (length (places e ++ places_in es)) (length (places_in es)) (omega (arith, all)) f))
+
+    good-edges-of : (es : PlainDefs) → Has ds (plain_names_in_defs es) → length (places_in_defs es) ≤ 4294967296 → All (Good ds) (edges_in_defs b es)
+    good-edges-of no_defs h f = All-nil (Good ds)
+    good-edges-of (defines at n e es) h f =
+        let all = length-append (places e) (places_in_defs es) in
+        All-append (Good ds) (edges b (Some at) (pos 0) e) (edges_in_defs b es)
+        (good-edges (Some at) (pos 0) e (h at (inl refl)) (λ d i. h d (inr (in-left d (plain_names e) (plain_names_in_defs es) i))) (fits-zero (length (places e)) (omega (arith, all, f))))
+        (good-edges-of es (λ d i. h d (inr (in-right d (plain_names e) (plain_names_in_defs es) i))) (omega (arith, all, f)))
+    good-edges-of (defines_function at n ns ats e es) h f =
+        let all = length-append (ats ++ places e) (places_in_defs es) in
+        good-edges-of es (λ d i. h d (in-right d (plain_names e) (plain_names_in_defs es) i)) (omega (arith, all, f))
+    good-edges-of (defines_current at n e es) h f =
+        let all = length-append (places e) (places_in_defs es) in
+        good-edges-of es (λ d i. h d (in-right d (plain_names e) (plain_names_in_defs es) i)) (omega (arith, all, f))
+
+-- a name's number is below how many names there are
+lesser-not : (b : Bool) (n m : ℕ) → b ≡ false → n ≤ m → cond b 1 0 + n < suc m
+lesser-not true n m e h = cc
+lesser-not false n m e h = omega (arith, h)
+
+not-itself : (x d : ℕ) → d ≡ x → nat_lt x d ≡ false
+not-itself x d e = grind (arith, nat_tests)
+
+less-more : (b : Bool) (n m : ℕ) → n < m → cond b 1 0 + n < suc m
+less-more true n m h = omega (arith, h)
+less-more false n m h = omega (arith, h)
+
+number-more : (d x : ℕ) (ds : List ℕ) → number (x ∷ ds) d ≡ cond (nat_lt x d) 1 0 + number ds d
+number-more d x ds = sum_by-cons (λ y. cond (nat_lt y d) 1 0) x ds
+
+number-below : (d : ℕ) (ds : List ℕ) → In d ds → number ds d < length ds
+number-below d [] i = absurd i
+number-below d (x ∷ ds) (inl e) =
+    subst (λ n. n < suc (length ds)) (sym (number-more d x ds)) (lesser-not (nat_lt x d) (number ds d) (length ds) (not-itself x d e) (count_by-le-length (λ y. nat_lt y d) ds))
+number-below d (x ∷ ds) (inr i) = subst (λ n. n < suc (length ds)) (sym (number-more d x ds)) (less-more (nat_lt x d) (number ds d) (length ds) (number-below d ds i))
+
+below-from : (ds : List ℕ) (x : Option ℕ) → Known ds x → FromBelow (length ds) (option_map (number ds) x)
+below-from ds None k = tt
+below-from ds (Some d) k = number-below d ds k
+
+small : (ds : List ℕ) (e : Edge) → Good ds e → IsSmall (length ds) (numbered ds e)
+small ds e g =
+    let l = g.fits.low in
+    let u = g.fits.high in
+    record { from_below = below-from ds e.from g.known; low = omega (arith, ints, l); high = omega (arith, ints, u) }
+
+pub graph-small : (e : PlainTree) (b : Bindings) → IsWellMade e → All (IsSmall (length (plain_names e))) (graph e b)
+graph-small e b w =
+    let ds : List ℕ = plain_names e in
+    let few = w.few in
+    All-map (IsSmall (length ds)) (numbered ds) (edges b None (pos 0) e)
+    (All-weaker (Good ds) (λ x. IsSmall (length ds) (numbered ds x)) (λ x g. small ds x g) (edges b None (pos 0) e)
+    (good-edges b ds None (pos 0) e tt (λ d i. i) (fits-zero (length (places e)) (omega (arith, few)))))

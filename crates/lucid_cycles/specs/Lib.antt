@@ -1,0 +1,9 @@
+pub mod Judged
+pub mod Graph
+pub mod Cycles
+pub mod Potentials
+pub mod Judgments
+pub mod Laws
+pub mod Walks
+pub mod Rounds
+pub mod Closes

@@ -1,0 +1,71 @@
+//! Programs are judged.
+ghost use Rattle.std.specs.Prelude.{◌≡◌, ◌≤◌, ◌↔◌, length, IfOk, IfErr, OnOk, IsTrue};
+ghost use Rattle.lucid_scope.specs.Scoped.{scoped_tree, scoped_binding};
+ghost use Rattle.lucid_cycles.specs.Judged.{IsJudged};
+ghost use Rattle.lucid_cycles.specs.Graph.{factor_of};
+ghost use Rattle.lucid_cycles.specs.Judgments.{IsEnough, IsJudgment, IsJudgeRefusal};
+ghost use Rattle.lucid_cycles.specs.Laws.{IsDefinedAtDepth};
+
+use crate::edges::{add_tree, number_edges};
+use crate::holds::{Ask, tree_holds};
+use crate::judgment::{JudgeRefusal, Judgment};
+use crate::laws::enough_is_enough;
+use crate::names::{MOST_NAMES, Names, list_tree};
+use crate::outside::note_tree;
+use crate::settle::settle;
+use lucid_scope::Scoped;
+use lucid_value::Numbers;
+use std::alloc::Global;
+
+/// Judges a program by the delays along its cycles of references: a depth that is enough at each time, by the least potentials, or a
+/// cycle whose delays have a sum of at most 0. The potentials are found by the relaxation of Bellman and Ford, in at most as many rounds
+/// as there are names, and one, of a step for each reference; the cycle is read back from the rounds.
+pub fn judge(alloc: Global, scoped: &Scoped) -> Result<Judgment, JudgeRefusal>
+    ensures judged { OnOk result (IsJudged (scoped_tree scoped.now)) }
+    ensures judgment { IfOk result (λ judgment. IsJudgment (scoped_tree scoped.now) (scoped_binding scoped.now) judgment) }
+    ensures refusal { IfErr result (λ refusal. IsJudgeRefusal (scoped_tree scoped.now) refusal) }
+{
+    let tree = scoped.tree();
+    let mut least = None;
+    note_tree(&mut least, tree);
+    if let Some(at) = least {
+        return Err(JudgeRefusal::Outside { at });
+    }
+    let mut names = Names::none();
+    list_tree(&mut names, tree);
+    if names.count > MOST_NAMES {
+        return Err(JudgeRefusal::TooMany);
+    }
+    let mut found = Vec::new(alloc);
+    add_tree(&mut found, scoped, None, 0, tree)?;
+    let edges = number_edges(alloc, &names, &found)?;
+    Ok(settle(alloc, &edges, names.count)?)
+}
+
+// Whether there is one potential for each name, the factor is that of so many names, and the number added isn't less than 2.
+fn counts_hold(names: usize, potentials: &[u64], factor: u64, add: u64) -> bool
+    ensures { IsTrue result ↔ ((length potentials.now ≡ names) × (factor ≡ factor_of names) × (2 ≤ add)) }
+{
+    potentials.len() == names && factor == names.max(1) as u64 && add >= 2
+}
+
+/// Whether the depth limit `factor * t + add` is enough for the value at each time t, by these potentials of the plain names.
+pub fn enough(scoped: &Scoped, factor: u64, add: u64, potentials: &Numbers) -> bool
+    requires { IsJudged (scoped_tree scoped.now) }
+    ensures value { IsTrue result ↔ IsEnough (scoped_tree scoped.now) (scoped_binding scoped.now) factor add potentials.now }
+    ensures depth { IsTrue result → IsDefinedAtDepth (scoped_tree scoped.now) factor add }
+{
+    let tree = scoped.tree();
+    let mut names = Names::none();
+    list_tree(&mut names, tree);
+    let names = &names;
+    let potentials = potentials.items();
+    let ask = Ask {
+        names,
+        potentials,
+        factor,
+        add,
+    };
+    enough_is_enough();
+    counts_hold(names.count, potentials, factor, add) && tree_holds(&ask, scoped, None, 0, tree)
+}

@@ -1,0 +1,20 @@
+//! The test of cycles by sums of delays: a depth that is enough for a program at each time, or a cycle of references without delay.
+#![tactic(auto)]
+
+pub use crate::delays::Delays;
+pub use crate::edge::Edge;
+pub use crate::judging::{enough, judge};
+pub use crate::judgment::{JudgeRefusal, Judgment};
+
+mod cycle;
+mod delays;
+mod edge;
+mod edges;
+mod holds;
+mod judging;
+mod judgment;
+mod laws;
+mod names;
+mod outside;
+mod rounds;
+mod settle;

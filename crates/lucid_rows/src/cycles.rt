@@ -1,0 +1,232 @@
+//! What the test of cycles says of sources. The crate of the test has no sources of its own, so its tests stand here. Each row is worked
+//! out by hand from the delays of the references.
+use lucid_cycles::{JudgeRefusal, Judgment, enough, judge};
+use lucid_parse::parse;
+use lucid_scan::scan;
+use lucid_scope::{Scoped, resolve};
+use lucid_value::Numbers;
+use std::alloc::{AllocError, Global};
+use std::process::Abort;
+use std::test::Fail;
+
+/// A source, and its judgment as text: the depth and the potentials, the numbers of a cycle's names and its delays, or the refusal.
+type Row = (&'static str, &'static str);
+
+fn scoped_of(alloc: Global, source: &[u8]) -> Result<Scoped, Fail> {
+    let tokens = scan(alloc, source)?;
+    let tree = parse(alloc, source, &tokens)?;
+    Ok(resolve(alloc, &tree)?)
+}
+
+fn told(alloc: Global, judgment: &Judgment) -> Result<String, AllocError> {
+    let mut text = String::new(alloc);
+    match judgment {
+        Judgment::Enough {
+            factor,
+            add,
+            potentials,
+        } => {
+            write!(text, "depth {factor} * t + {add}, potentials")?;
+            for potential in potentials.items() {
+                write!(text, " {potential}")?;
+            }
+        }
+        Judgment::Cycle { names, delays } => {
+            text.push_str("cycle")?;
+            for name in names.items() {
+                write!(text, " {name}")?;
+            }
+            text.push_str(", delays")?;
+            for delay in delays.items() {
+                write!(text, " {delay}")?;
+            }
+        }
+    }
+    Ok(text)
+}
+
+fn judged(alloc: Global, source: &[u8]) -> Result<String, Fail> {
+    let scoped = scoped_of(alloc, source)?;
+    match judge(alloc, &scoped) {
+        Ok(judgment) => Ok(told(alloc, &judgment)?),
+        Err(refusal) => Ok(refusal.to_string(alloc)?),
+    }
+}
+
+fn each_is_judged<R: Abort + AllocGlobal>(rt: &R, rows: &[Row]) -> Result<(), Fail> {
+    for (source, expected) in rows {
+        let text = judged(rt.alloc(), source.as_bytes())?;
+        assert_eq!(rt; text.as_str(), *expected, "{source}");
+    }
+    Ok(())
+}
+
+// A depth is enough.
+static ENOUGH: [Row; 9] = [
+    ("x where x = 0 fby x + 1; end", "depth 1 * t + 2, potentials 0"),
+    (
+        "f where f = 0 fby g; g = 1 fby f + g; end",
+        "depth 2 * t + 2, potentials 0 0",
+    ),
+    ("a + 1", "depth 1 * t + 2, potentials"),
+    // two cycles that share a name
+    (
+        "x where x = 0 fby y + z; y = x; z = x; end",
+        "depth 3 * t + 2, potentials 0 1 1",
+    ),
+    // inside `first` the delay begins again
+    ("x where x = first (0 fby x); end", "depth 1 * t + 2, potentials 0"),
+    // a name that nothing demands
+    (
+        "1 where x = 0 fby x; y = x; end",
+        "depth 2 * t + 2, potentials 0 1",
+    ),
+    // a block's subject belongs to what the block stands in
+    (
+        "x where x = y where y = 0 fby x; end; end",
+        "depth 2 * t + 3, potentials 1 0",
+    ),
+    ("next next x where x = 0 fby x; end", "depth 1 * t + 4, potentials 0"),
+    ("0 fby x where x = 0 fby x; end", "depth 1 * t + 2, potentials 0"),
+];
+
+#[test]
+fn a_depth_is_enough(rt: HostRuntime) -> Result<(), Fail> {
+    each_is_judged(&rt, &ENOUGH)
+}
+
+// A cycle has a sum of at most 0.
+static CYCLES: [Row; 8] = [
+    ("x where x = 0 fby y; y = next x; end", "cycle 0 1, delays 1 -1"),
+    ("x where x = next x; end", "cycle 0, delays -1"),
+    ("x where x = x; end", "cycle 0, delays 0"),
+    // two cycles that share a name
+    (
+        "x where x = 0 fby y + z; y = x; z = next x; end",
+        "cycle 0 2, delays 1 -1",
+    ),
+    // inside `first` the delay is 0
+    ("x where x = 0 fby first x; end", "cycle 0, delays 0"),
+    // a name that nothing demands
+    ("1 where x = x; end", "cycle 0, delays 0"),
+    // the least name of a cycle needn't be the first name of all
+    ("x where x = y; y = z; z = y; end", "cycle 1 2, delays 0 0"),
+    // a block's subject belongs to what the block stands in
+    (
+        "x where x = next (y where y = x; end); end",
+        "cycle 0 1, delays -1 0",
+    ),
+];
+
+#[test]
+fn a_cycle_has_no_delay(rt: HostRuntime) -> Result<(), Fail> {
+    each_is_judged(&rt, &CYCLES)
+}
+
+static OUTSIDE: [Row; 6] = [
+    ("1 asa false", "not judged at 2"),
+    ("(initial 1) asa true", "not judged at 1"),
+    ("initial 1", "not judged at 0"),
+    ("f(1) where f(y) = y; end", "not judged at 0"),
+    ("1 where f(y) = y; end", "not judged at 8"),
+    ("x where x is current 1; end", "not judged at 8"),
+];
+
+#[test]
+fn some_programs_are_not_judged(rt: HostRuntime) -> Result<(), Fail> {
+    each_is_judged(&rt, &OUTSIDE)
+}
+
+// x0 where x0 = 0; x1 = x0 + 1; x2 = x1 + 1; .. end
+fn chain(alloc: Global, count: u32) -> Result<String, AllocError> {
+    let mut text = String::new(alloc);
+    text.push_str("x0 where x0 = 0;\n")?;
+    for number in 1..count {
+        let last = number - 1;
+        write!(text, "x{number} = x{last} + 1;\n")?;
+    }
+    text.push_str("end")?;
+    Ok(text)
+}
+
+#[test]
+fn two_thousand_names_are_judged(rt: HostRuntime) -> Result<(), Fail> {
+    let source = chain(rt.alloc(), 2000)?;
+    let scoped = scoped_of(rt.alloc(), source.as_bytes())?;
+    let judgment = judge(rt.alloc(), &scoped)?;
+    assert!(rt; matches!(judgment, Judgment::Enough { factor: 2000, add: 2, .. }));
+    let source = chain(rt.alloc(), 2001)?;
+    let scoped = scoped_of(rt.alloc(), source.as_bytes())?;
+    let refused = judge(rt.alloc(), &scoped);
+    assert!(rt; matches!(refused, Err(JudgeRefusal::TooMany)));
+    Ok(())
+}
+
+// x0 where x0 = LAST; x1 = x0 + x0 + x0 + x0 + x0; x2 = x1 + x1 + x0 + x0 + x0; .. end: each name has five references of lesser ones
+fn wide(alloc: Global, count: u32, last: &str) -> Result<String, AllocError> {
+    let mut text = String::new(alloc);
+    write!(text, "x0 where x0 = {last};\n")?;
+    for number in 1..count {
+        write!(text, "x{number} = x{}", number - 1)?;
+        for part in 2..=5 {
+            write!(text, " + x{}", number / part)?;
+        }
+        text.push_str(";\n")?;
+    }
+    text.push_str("end")?;
+    Ok(text)
+}
+
+// The potential of each name is its number, so there are as many rounds as names; with an edge back to the last name the one cycle
+// without delay through all of them is found after all rounds.
+#[test]
+fn ten_thousand_references_are_judged(rt: HostRuntime) -> Result<(), Fail> {
+    let source = wide(rt.alloc(), 2000, "0")?;
+    let scoped = scoped_of(rt.alloc(), source.as_bytes())?;
+    let judgment = judge(rt.alloc(), &scoped)?;
+    assert!(rt; matches!(judgment, Judgment::Enough { factor: 2000, add: 2, .. }));
+    let source = wide(rt.alloc(), 2000, "x1999")?;
+    let scoped = scoped_of(rt.alloc(), source.as_bytes())?;
+    let judgment = judge(rt.alloc(), &scoped)?;
+    assert!(rt; matches!(judgment, Judgment::Cycle { .. }));
+    Ok(())
+}
+
+// v1000 where v0 = 1 fby (v0 + 1) mod 1000; v1 = v0 fby (v1 + v0) mod 1000; .. end
+fn made(alloc: Global, last: u32) -> Result<String, AllocError> {
+    let mut text = String::new(alloc);
+    write!(text, "v{last} where\nv0 = 1 fby (v0 + 1) mod 1000;\n")?;
+    for number in 1..=last {
+        let before = number - 1;
+        write!(text, "v{number} = v{before} fby (v{number} + v{before}) mod 1000;\n")?;
+    }
+    text.push_str("end")?;
+    Ok(text)
+}
+
+#[test]
+fn a_made_program_is_judged(rt: HostRuntime) -> Result<(), Fail> {
+    let source = made(rt.alloc(), 1000)?;
+    let scoped = scoped_of(rt.alloc(), source.as_bytes())?;
+    let judgment = judge(rt.alloc(), &scoped)?;
+    assert!(rt; matches!(&judgment, Judgment::Enough { factor: 1001, add: 1002, .. }));
+    if let Judgment::Enough { potentials, .. } = &judgment {
+        assert!(rt; potentials.items().iter().copied().eq(0..1001));
+    }
+    Ok(())
+}
+
+#[test]
+fn a_depth_is_checked(rt: HostRuntime) -> Result<(), Fail> {
+    let scoped = scoped_of(rt.alloc(), b"x where x = y where y = 0 fby x; end; end")?;
+    let judgment = judge(rt.alloc(), &scoped)?;
+    assert!(rt; matches!(judgment, Judgment::Enough { factor: 2, add: 3, .. }));
+    let potentials = Numbers::from_vec(vec![in rt.alloc(); 1, 0]?);
+    assert!(rt; enough(&scoped, 2, 3, &potentials));
+    assert!(rt; enough(&scoped, 2, 4, &potentials));
+    assert!(rt; !enough(&scoped, 2, 2, &potentials));
+    assert!(rt; !enough(&scoped, 1, 3, &potentials));
+    let potentials = Numbers::from_vec(vec![in rt.alloc(); 0, 0]?);
+    assert!(rt; !enough(&scoped, 2, 3, &potentials));
+    Ok(())
+}
