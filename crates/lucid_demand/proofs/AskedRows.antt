@@ -1,0 +1,233 @@
+-- An operator's row asks for its arguments one after another.
+use Rattle.std.proofs.lemmas.Bool.{cases_lt}
+use Rattle.std.proofs.Common.{◌≡◌, ℕ, zero, suc, ◌+◌, ◌<◌, ◌≤◌, ◌⊎◌, inl, inr, List, [], ◌∷◌, length, Option, Some, None, true, false, refl, sym, ap, ◌∙◌, subst, arith, le_refl}
+use Rattle.std.specs.Borrow.{Bor}
+use Rattle.std.specs.Prelude.{is_some, option_copied, IsSome, IsTrue, Result, Ok, Err, ⊤, slice_get, slice_index_or, option_map, option_and_then}
+use Rattle.std.specs.List.{list_all}
+use Rattle.lucid_value.specs.declared.Value.{Value}
+use Rattle.lucid_ops.specs.declared.op.Op.{Op}
+use Rattle.lucid_ops.specs.Arity.{arity}
+use Rattle.lucid_tags.specs.Known.{IsKnown, KeepsKnown}
+use Rattle.lucid_tasks.specs.declared.Part.{Part}
+use Rattle.lucid_tasks.specs.declared.Task.{Task}
+use Rattle.lucid_tasks.specs.Rows as rows
+use Rattle.lucid_tasks.specs.Rows.{TaskRow, Idle, Asked, Got, row_at, state_of, got_of, is_ready, IsRow}
+use Rattle.lucid_ports.specs.World.{World}
+use Rattle.lucid_equations.specs.Rows.{parts}
+use Rattle.lucid_equations.specs.Rows as table
+use Rattle.lucid_equations.specs.declared.rows.Node.TheVariants as node
+use Rattle.lucid_facts.specs.Tasks.{idle, state_at, plain_task, plain_state, plain_row}
+use Rattle.lucid_facts.specs.Parts.{IsPart}
+use Rattle.lucid_facts.specs.Engine.{EngineView}
+use Rattle.lucid_facts.specs.Demands.{Demand, table_of}
+use Rattle.lucid_facts.specs.Decisions.{MayAsk}
+use Rattle.lucid_facts.specs.Going.{Waits}
+use Rattle.lucid_facts.proofs.Seeing.{plain_at}
+use Rattle.lucid_facts.proofs.Coming.{arguments_may_be_asked}
+use Rattle.lucid_demand.specs.Evaluating.{Evaluating, Stepped, cost}
+use Rattle.lucid_demand.specs.Acting.{DemandIn, MayAct}
+use Rattle.lucid_demand.specs.Asking.{CanAsk, CanAskAll, SetsPart, AsksIn}
+use Rattle.lucid_demand.specs.Searching.{MayAskNow}
+use Rattle.lucid_demand.specs.declared.decide.Decision.TheVariants as decision
+use Rattle.lucid_demand.specs.declared.fault.DemandFault.{DemandFault}
+use Rattle.lucid_demand.specs.declared.fault.DemandFault.TheVariants.{NoMemory}
+use Rattle.lucid_demand.proofs.OperatorParts.{operator_node, operator_part}
+use Rattle.lucid_demand.proofs.SettledRows.{refused, ready_is_there}
+use Rattle.lucid_demand.proofs.TakenParts.{other_part}
+use Rattle.lucid_demand.proofs.GoneRows.{goes_on_step}
+
+-- a part that is free and has no value is idle
+free_idle : (s : rows.PartState) → rows.is_free s ≡ true → rows.got_value s ≡ None → s ≡ Idle
+free_idle Idle f n = refl
+free_idle (Asked slot) f n = absurd (cc)
+free_idle (Got v) f n = absurd (cc)
+
+-- each part of a ready row is free
+free_at : (ps : List rows.PartState) (i : ℕ) → list_all rows.is_free ps ≡ true → rows.is_free (slice_index_or ps i Idle) ≡ true
+free_at [] i h = refl
+free_at (Idle ∷ ps) zero h = refl
+free_at (Idle ∷ ps) (suc i) h = free_at ps i h
+free_at (Asked s ∷ ps) i h = absurd (cc)
+free_at (Got v ∷ ps) zero h = refl
+free_at (Got v ∷ ps) (suc i) h = free_at ps i h
+
+-- a part whose plain state is idle is idle
+plain_idle_state : (s : rows.PartState) → plain_state s ≡ idle → s ≡ Idle
+plain_idle_state Idle e = refl
+plain_idle_state (Asked slot) e = absurd (cc)
+plain_idle_state (Got v) e = absurd (cc)
+
+-- In a demand the rows wait on, and some part was asked or given, or nothing was done and no part before this one is idle.
+pub record AskedIn (d : Demand) (old now : Evaluating) (w : World) (first : TaskRow) (index : ℕ) : Type 0 where
+  pub waits : Waits d now.engine w now.rows
+  pub some : (cost d now < cost d old) ⊎ ((now ≡ old) × ((i : ℕ) → i < index → rows.state_at i first ≡ Idle → ⊥))
+
+-- The parts before this one were asked, given or had; from it on they are as they were.
+pub record AskedBelow (old now : Evaluating) (slot : ℕ) (op : Op) (args : List ℕ) (task : Task) (index : ℕ) : Type 0 where
+  pub row : TaskRow
+  pub there : row_at now.rows slot ≡ Some row
+  pub first : TaskRow
+  pub first_there : row_at old.rows slot ≡ Some first
+  pub is_task : first.task ≡ task
+  pub same_task : row.task ≡ first.task
+  pub rest : (i : ℕ) → index ≤ i → rows.state_at i row ≡ rows.state_at i first
+  pub only : now.engine ≡ record old.engine { known = now.engine.known }
+  pub keeps : KeepsKnown old.engine.known now.engine.known
+  pub in_demand : (i : DemandIn) → MayAct i.demand old i.world slot (decision.AskAll op args) → AskedIn i.demand old now i.world first index
+
+-- before the first part
+pub asks_begin : (old : Evaluating) (slot : ℕ) (op : Op) (args : List ℕ) (task : Task) → IsTrue (is_ready (row_at old.rows slot)) → option_map (λ row. row.task) (row_at old.rows slot) ≡ Some task
+    → AskedBelow old old slot op args task 0
+asks_begin old slot op args task ready told = record {
+  row = its.0;
+  there = its.1;
+  first = its.0;
+  first_there = its.1;
+  is_task = (let both : Some its.0.task ≡ Some task = sym (ap (option_map (λ (row : TaskRow). row.task)) its.1) ∙ told in cc);
+  same_task = refl;
+  rest = λ i l. refl;
+  only = refl;
+  keeps = record { known = λ tag k. k; same = λ tag k. refl };
+  in_demand = λ i act. record { waits = act.step.waits; some = inr (refl, λ k l e. absurd (omega (arith, l))) };
+}
+  where
+    its : (r : TaskRow) × (row_at old.rows slot ≡ Some r)
+    its = ready_is_there old.rows slot ready
+
+module _ (old now : Evaluating) (slot : ℕ) (op : Op) (args : List ℕ) (task : Task) (index : ℕ) (b : AskedBelow old now slot op args task index) (ready : IsTrue (is_ready (row_at old.rows slot))) where
+  -- the row is there
+  pub asking_row : IsRow now.rows slot
+  asking_row = subst (λ o. IsSome o) (sym b.there) refl
+
+  first_free : list_all rows.is_free b.first.parts ≡ true
+  first_free = subst (λ o. IsTrue (is_ready o)) b.first_there ready
+
+  -- a part that has a value wasn't idle
+  pub part_is_got : IsSome (got_of now.rows (record { slot = slot; index = index })) → AskedBelow old now slot op args task (index + 1)
+  part_is_got got = record {
+    row = b.row;
+    there = b.there;
+    first = b.first;
+    first_there = b.first_there;
+    is_task = b.is_task;
+    same_task = b.same_task;
+    rest = λ i l. b.rest i (omega (arith, l));
+    only = b.only;
+    keeps = b.keeps;
+    in_demand = λ i act. on i act (b.in_demand i act);
+  }
+    where
+      not_idle : rows.state_at index b.first ≡ Idle → ⊥
+      not_idle e = absurd (no_value (rows.state_at index b.row) (b.rest index (le_refl index) ∙ e) (subst (λ o. IsSome (option_and_then rows.got_value (option_map (rows.state_at index) o))) b.there got))
+        where
+          no_value : (s : rows.PartState) → s ≡ Idle → IsSome (rows.got_value s) → ⊥
+          no_value s e h = let f : IsSome (rows.got_value Idle) = subst (λ z. IsSome (rows.got_value z)) e h in absurd (cc)
+
+      below : ((i : ℕ) → i < index → rows.state_at i b.first ≡ Idle → ⊥) → (i : ℕ) → i < index + 1 → rows.state_at i b.first ≡ Idle → ⊥
+      below f i l e = by (cases_lt i index)
+        where
+          by : (i < index) ⊎ (index ≤ i) → ⊥
+          by (inl lt) = f i lt e
+          by (inr le) = let same : i ≡ index = omega (arith, l, le) in not_idle (subst (λ k. rows.state_at k b.first ≡ Idle) same e)
+
+      on : (i : DemandIn) → MayAct i.demand old i.world slot (decision.AskAll op args) → AskedIn i.demand old now i.world b.first index → AskedIn i.demand old now i.world b.first (index + 1)
+      on i act a = record { waits = a.waits; some = elim a.some [ inl less ↦ inl less | inr same ↦ inr (same.0, below same.1) ] }
+
+  -- A part that has no value is idle, and may be asked.
+  module _ (none : got_of now.rows (record { slot = slot; index = index }) ≡ None) where
+    part_is_free : rows.state_at index b.row ≡ Idle
+    part_is_free = free_idle (rows.state_at index b.row) (subst (λ s. rows.is_free s ≡ true) (sym (b.rest index (le_refl index))) (free_at b.first.parts index first_free))
+        (sym (ap (λ o. option_and_then rows.got_value (option_map (rows.state_at index) o)) b.there) ∙ none)
+
+    pub part_is_idle : state_of now.rows (record { slot = slot; index = index }) ≡ Some Idle
+    part_is_idle = ap (option_map (rows.state_at index)) b.there ∙ ap Some part_is_free
+
+    pub can_ask_argument : (n : ℕ) → CanAskAll old slot op args → index < arity op → arity op ≤ 3 → slice_get args index ≡ Some n
+        → CanAsk now (record { slot = slot; index = index }) (record task { node = n })
+    can_ask_argument n can low few arg = record {
+      row = asking_row;
+      index = omega (arith, low, few);
+      idle = part_is_idle;
+      there = subst (λ (e : EngineView). n < length e.table.nodes) (sym b.only) (can.there index n low arg);
+      known = b.keeps.known task.tag (subst (λ (x : Task). IsKnown old.engine.known x.tag) b.is_task (can.known b.first b.first_there));
+    }
+
+    module _ (n : ℕ) (low : index < arity op) (few : arity op ≤ 3) (arg : slice_get args index ≡ Some n) (i : DemandIn) (act : MayAct i.demand old i.world slot (decision.AskAll op args)) where
+      its_row : (r : TaskRow) → row_at now.rows slot ≡ Some r → b.row ≡ r
+      its_row r at = let both : Some b.row ≡ Some r = sym b.there ∙ at in cc
+
+      plain_free : state_at (plain_row now.engine.known b.row).parts index ≡ idle
+      plain_free = plain_at b.row.parts index ∙ ap plain_state part_is_free
+
+      operator : table.row_at (table_of i.demand) b.row.task.node ≡ Some (node.Apply op args)
+      operator = subst (λ (x : Task). table.row_at (table_of i.demand) x.node ≡ Some (node.Apply op args)) (sym b.same_task) ((act.justified b.first b.first_there).0)
+
+      -- The argument may be asked for.
+      pub may_ask_argument : MayAskNow i.demand now i.world (record { slot = slot; index = index }) (record task { node = n })
+      may_ask_argument = record {
+        demand = act.step.demand;
+        waits = (b.in_demand i act).waits;
+        justified = λ r at. subst (λ (q : TaskRow). MayAsk (table_of i.demand) (plain_row now.engine.known q) index
+            × IsPart (table_of i.demand) (plain_row now.engine.known q) index (plain_task now.engine.known (record task { node = n })) × IsKnown now.engine.known task.tag) (its_row r at) (
+              arguments_may_be_asked (table_of i.demand) (plain_row now.engine.known b.row) op (arity op) (operator_node (table_of i.demand) b.row.task.node op args act.step.demand.in_range operator).0 index
+                  (operator_node (table_of i.demand) b.row.task.node op args act.step.demand.in_range operator).1 low few plain_free,
+              subst (λ (x : Task). IsPart (table_of i.demand) (plain_row now.engine.known b.row) index (plain_task now.engine.known (record x { node = n }))) (b.same_task ∙ b.is_task)
+                  (operator_part (table_of i.demand) (plain_row now.engine.known b.row) op args index n act.step.demand.in_range operator low arg),
+              subst (λ (x : Task). IsKnown now.engine.known x.tag) (b.same_task ∙ b.is_task) (((b.in_demand i act).waits.known slot b.row b.there).task),
+            );
+      }
+
+    -- The part was asked or given: the next may be.
+    pub part_is_next : (new : Evaluating) (n : ℕ) → SetsPart now new (record { slot = slot; index = index }) → index < arity op → arity op ≤ 3 → slice_get args index ≡ Some n
+        → ((i : DemandIn) → MayAskNow i.demand now i.world (record { slot = slot; index = index }) (record task { node = n })
+        → Waits i.demand new.engine i.world new.rows × (cost i.demand new < cost i.demand now)) → AskedBelow old new slot op args task (index + 1)
+    part_is_next new n sets low few arg goes = record {
+      row = rows.with_part index sets.state b.row;
+      there = sets.row ∙ ap (option_map (rows.with_part index sets.state)) b.there;
+      first = b.first;
+      first_there = b.first_there;
+      is_task = b.is_task;
+      same_task = b.same_task;
+      rest = λ i l. other_part b.row.parts index i sets.state (λ e. absurd (omega (arith, e, l))) ∙ b.rest i (omega (arith, l));
+      only = sets.only ∙ ap (λ (e : EngineView). record e { known = new.engine.known }) b.only;
+      keeps = record { known = λ tag k. sets.keeps.known tag (b.keeps.known tag k); same = λ tag k. sets.keeps.same tag (b.keeps.known tag k) ∙ b.keeps.same tag k };
+      in_demand = λ i act. on i act (goes i (may_ask_argument n low few arg i act)) (b.in_demand i act);
+    }
+      where
+        on : (i : DemandIn) → MayAct i.demand old i.world slot (decision.AskAll op args) → Waits i.demand new.engine i.world new.rows × (cost i.demand new < cost i.demand now)
+            → AskedIn i.demand old now i.world b.first index → AskedIn i.demand old new i.world b.first (index + 1)
+        on i act g a = record { waits = g.0; some = inl (less a.some) }
+          where
+            less : (cost i.demand now < cost i.demand old) ⊎ ((now ≡ old) × ((k : ℕ) → k < index → rows.state_at k b.first ≡ Idle → ⊥)) → cost i.demand new < cost i.demand old
+            less (inl l) = omega (arith, l, g.1)
+            less (inr same) = subst (λ e. cost i.demand new < cost i.demand e) same.0 g.1
+
+    -- It is refused for want of memory.
+    pub asks_refused : (new : Evaluating) (n : ℕ) {E : Type 0} (result : Result ⊤ E) → index < arity op → arity op ≤ 3 → slice_get args index ≡ Some n
+        → ((i : DemandIn) → MayAskNow i.demand now i.world (record { slot = slot; index = index }) (record task { node = n }) → AsksIn i.demand now new i.world result)
+        → (res : Result (Option Value) DemandFault) → res ≡ Err NoMemory → (i : DemandIn) → MayAct i.demand old i.world slot (decision.AskAll op args) → Stepped i.demand old new i.world i.world res
+    asks_refused new n result low few arg asks res is i act =
+        subst (λ z. Stepped i.demand old new i.world i.world z) (sym is) (refused i.demand old new i.world i.world ((asks i (may_ask_argument n low few arg i act)).owns))
+
+  -- After the last part some was asked or given, since one was idle.
+  pub asks_end : arity op ≤ index → (i : DemandIn) → MayAct i.demand old i.world slot (decision.AskAll op args) → Stepped i.demand old now i.world i.world (Ok None)
+  asks_end all i act = goes_on_step i.demand old now i.world a.waits (elim a.some [ inl less ↦ less | inr same ↦ absurd (one_was_idle same.1) ])
+    where
+      a : AskedIn i.demand old now i.world b.first index
+      a = b.in_demand i act
+
+      one_was_idle : ((k : ℕ) → k < index → rows.state_at k b.first ≡ Idle → ⊥) → ⊥
+      one_was_idle f =
+          let j = (act.justified b.first b.first_there).1 in
+          let low : j.0 < arity op = j.1 in
+          f j.0 (omega (arith, low, all)) (plain_idle_state (rows.state_at j.0 b.first) (sym (plain_at b.first.parts j.0) ∙ j.2))
+
+-- What is told of a part's value: there is none,
+pub told_none : (inner now : Evaluating) (part : Part) (r : Option (Bor Value)) → inner ≡ now → option_copied r ≡ got_of inner.rows part → is_some r ≡ false → got_of now.rows part ≡ None
+told_none inner now part None view e h = sym (ap (λ (z : Evaluating). got_of z.rows part) view) ∙ sym e
+told_none inner now part (Some v) view e h = absurd (cc)
+
+-- or there is one.
+pub told_some : (inner now : Evaluating) (part : Part) (r : Option (Bor Value)) → inner ≡ now → option_copied r ≡ got_of inner.rows part → is_some r ≡ true → IsSome (got_of now.rows part)
+told_some inner now part None view e h = absurd (cc)
+told_some inner now part (Some v) view e h = subst (λ o. IsSome o) (e ∙ ap (λ (z : Evaluating). got_of z.rows part) view) refl

@@ -1,0 +1,64 @@
+-- A row that settles with a value which answers its task takes a step.
+use Rattle.std.proofs.Common.{◌≡◌, ℕ, ◌<◌, List, Option, Some, None, true, refl, sym, ◌∙◌, subst}
+use Rattle.std.specs.Prelude.{IsTrue, IsSome, Ok, Err}
+use Rattle.lucid_value.specs.declared.Value.{Value}
+use Rattle.lucid_value.specs.View.{plain}
+use Rattle.lucid_tree.specs.Levels.{Elements}
+use Rattle.lucid_tasks.specs.declared.Part.{Part}
+use Rattle.lucid_tasks.specs.Rows as rows
+use Rattle.lucid_tasks.specs.Rows.{TaskRow, row_at, is_ready, returned}
+use Rattle.lucid_ports.specs.World.{World}
+use Rattle.lucid_facts.specs.Tasks.{DatonAt, plain_task, plain_row, waits_for_none}
+use Rattle.lucid_facts.specs.Stands.{IsDefined}
+use Rattle.lucid_facts.specs.Engine.{EngineView, holding, MayHave}
+use Rattle.lucid_facts.specs.Demands.{Demand, table_of, stays, Answers}
+use Rattle.lucid_facts.specs.Going.{Owns, Waits}
+use Rattle.lucid_facts.proofs.Seeing.{plain_ready}
+use Rattle.lucid_facts.proofs.Acting.{cost_of, GoesDown, settles_goes_down, root_is_answered}
+use Rattle.lucid_demand.specs.Evaluating.{Evaluating, Stepped, cost}
+use Rattle.lucid_demand.specs.declared.fault.DemandFault.TheVariants.{TooDeep}
+
+-- The rows wait on, a value answers a ready row's task, and what the row remembers is held, or was lost.
+pub record Answered (d : Demand) (now : EngineView) (w : World) (before : List (Option TaskRow)) (r : TaskRow) (v : Value) : Type 0 where
+  pub waits : Waits d now w before
+  pub ready : IsTrue (is_ready (Some r))
+  pub answers : (b : Elements) → MayHave now b → Answers d b (holding now) now.stored.lost (plain_task now.known r.task) (plain v)
+  pub there : IsTrue d.first.keeps → now.stored.lost ≡ 0 → (k : DatonAt) → (plain_row now.known r).key ≡ Some k → IsSome (holding now k.0 k.1)
+
+-- The row goes, and its parent has the value, or it answers the root.
+pub row_goes : (d : Demand) (old new : Evaluating) (w : World) (before : List (Option TaskRow)) (slot : ℕ) (r : TaskRow) (v : Value) → row_at before slot ≡ Some r
+    → Answered d new.engine w before r v → rows.Settles before new.rows slot v → cost_of d new.engine.known before ≡ cost d old → Stepped d old new w w (Ok (returned r.parent v))
+row_goes d old new w before slot r v at a settles same = go r.parent refl
+  where
+    go : (p : Option Part) → r.parent ≡ p → Stepped d old new w w (Ok (returned p v))
+    go None up = record {
+      owns = a.waits.going.owns;
+      goes_on = tt;
+      answers = λ b m. root_is_answered d new.engine w before new.rows a.waits slot r (plain v) at up b m (a.answers b m) a.there;
+      deep = λ e. absurd (cc);
+      too_large = tt;
+      failed = λ e. absurd (cc);
+    }
+    go (Some part) up = record {
+      owns = a.waits.going.owns;
+      goes_on = (down.waits, subst (λ n. cost d new < n) same down.less);
+      answers = tt;
+      deep = λ e. absurd (cc);
+      too_large = tt;
+      failed = λ e. absurd (cc);
+    }
+      where
+        ready : waits_for_none (plain_row new.engine.known r) ≡ true
+        ready = sym (plain_ready new.engine.known r) ∙ a.ready
+
+        down : GoesDown d new.engine w before new.rows
+        down = settles_goes_down d new.engine w before new.rows a.waits slot r part v at ready up a.answers a.there settles
+
+-- A step that goes on.
+pub goes_on_step : (d : Demand) (old new : Evaluating) (w : World) → Waits d new.engine w new.rows → cost d new < cost d old → Stepped d old new w w (Ok None)
+goes_on_step d old new w waits less = record { owns = waits.going.owns; goes_on = (waits, less); answers = tt; deep = λ e. absurd (cc); too_large = tt; failed = λ e. absurd (cc) }
+
+-- A step that is refused as too deep, rightly.
+pub too_deep_step : (d : Demand) (old new : Evaluating) (w : World) → Owns d new.engine w
+    → ((b : Elements) → MayHave new.engine b → IsDefined (table_of d) b (stays d) d.root → ⊥) → Stepped d old new w w (Err TooDeep)
+too_deep_step d old new w owns undefined = record { owns = owns; goes_on = tt; answers = tt; deep = λ e. undefined; too_large = tt; failed = λ e. absurd (cc) }

@@ -1,0 +1,66 @@
+-- What is true of a demand's loop stays true where contexts become known that the root enters.
+use Rattle.std.proofs.Common.{◌≡◌, ℕ, zero, suc, ◌<◌, ◌⊎◌, inl, inr, Bool, true, false, List, [], ◌∷◌, length, Option, refl, sym, ◌∙◌, subst, arith}
+use Rattle.std.specs.Prelude.{IsSome, slice_index_or}
+use Rattle.std.specs.List.{filter_map}
+use Rattle.lucid_tree.specs.Members.{In}
+use Rattle.lucid_tree.specs.Levels.{Elements, entered_of}
+use Rattle.lucid_tree.proofs.Members.{inside-read}
+use Rattle.lucid_tags.specs.Contexts.{Context, root, same_context}
+use Rattle.lucid_tags.specs.Known.{IsKnown, IsOneForOne, KeepsKnown, context_of}
+use Rattle.lucid_tags.specs.EqualityDecides.{same_context_is_equality}
+use Rattle.lucid_tasks.specs.Rows.{TaskRow}
+use Rattle.lucid_tasks.specs.declared.Task.{Task}
+use Rattle.lucid_ports.specs.World.{World}
+use Rattle.lucid_equations.specs.Ranges.{IsInRange}
+use Rattle.lucid_facts.specs.Tasks.{PlainTask, plain_task, plain_rows}
+use Rattle.lucid_facts.specs.Parts.{passed_contexts}
+use Rattle.lucid_facts.specs.Stands.{task_visits}
+use Rattle.lucid_facts.specs.Held.{held_in}
+use Rattle.lucid_facts.specs.Engine.{EngineView, known_elements, holding, MayHave}
+use Rattle.lucid_facts.specs.Demands.{Demand, table_of, IsSeen, IsEntered}
+use Rattle.lucid_facts.specs.Going.{Waits}
+use Rattle.lucid_facts.proofs.HeldByKey.{held_as_tags_grow}
+use Rattle.lucid_facts.proofs.Passing.{passing-enters}
+use Rattle.lucid_facts.proofs.Owning.{owns_enters}
+use Rattle.lucid_facts.proofs.Knowing.{rows_stay_known, all_rows_as_tags_grow}
+use Rattle.lucid_facts.proofs.Working.{work_over, work_same}
+
+-- What a task enters that the root sees, the root enters.
+pub entered_by_root : (d : Demand) (b : Elements) (x : PlainTask) (c : Context) → IsSeen d b x → ((e : ℕ) → In c (filter_map entered_of (task_visits (table_of d) b e x))) → IsEntered d b c
+entered_by_root d b x c seen enters = record {
+  added = seen.added;
+  none = seen.none;
+  holds = λ e l. inside-read entered_of (task_visits (table_of d) b e x) (task_visits (table_of d) b e d.root) (seen.holds e l) c (enters e);
+}
+
+-- the context of a known tag is known
+place_is_known : (known : List Context) (n : ℕ) → n < length known → In (slice_index_or known n root) known
+place_is_known [] n l = absurd (omega (arith, l))
+place_is_known (c ∷ known) zero l = inl refl
+place_is_known (c ∷ known) (suc n) l = inr (place_is_known known n (omega (arith, l)))
+
+-- Each context on the way of a task that only moves the point is known, or the root enters it.
+pub way_is_entered : (d : Demand) (b : Elements) (known : List Context) (x : Task) (c : Context) → IsInRange (table_of d) → IsKnown known x.tag → IsSeen d b (plain_task known x)
+    → (steps : ℕ) → In c (passed_contexts (table_of d) steps (plain_task known x)) → In c known ⊎ IsEntered d b c
+way_is_entered d b known x c range tag seen steps i = by (same_context c (context_of known x.tag)) refl
+  where
+    by : (t : Bool) → same_context c (context_of known x.tag) ≡ t → In c known ⊎ IsEntered d b c
+    by true e = inl (subst (λ z. In z known) (sym ((same_context_is_equality c (context_of known x.tag)).0 e)) (place_is_known known x.tag.number tag))
+    by false e = inr (entered_by_root d b (plain_task known x) c seen (λ k.
+        elim (passing-enters (table_of d) range b x.depth k (plain_task known x) steps c i) [
+          | inl same ↦ (let yes = (same_context_is_equality c (context_of known x.tag)).1 same in let both : true ≡ false = sym yes ∙ e in absurd (cc))
+          | inr j ↦ j
+        ]))
+
+-- The rows wait on where such contexts become known.
+pub waits_grow : (d : Demand) (now : EngineView) (w : World) (rs : List (Option TaskRow)) (known : List Context) → KeepsKnown now.known known → IsOneForOne known
+    → ((b : Elements) → MayHave now b → (c : Context) → In c known → In c now.known ⊎ IsEntered d b c) → Waits d now w rs → Waits d (record now { known = known }) w rs
+waits_grow d now w rs known keeps contexts enters waits = record {
+  going = record {
+    work = work_over d (known_elements now) (holding now) (held_in known now.stored) now.stored.lost now.stored.lost (plain_rows known rs)
+        (λ k z. (z, λ q i. subst (λ o. IsSome o) (sym ((held_as_tags_grow now.known known now.stored keeps waits.going.owns.keys).1 q.0 q.1)) i))
+        (work_same d (known_elements now) (holding now) now.stored.lost (plain_rows now.known rs) (plain_rows known rs) (λ q. all_rows_as_tags_grow now.known known rs keeps waits.known q) waits.going.work);
+    owns = owns_enters d now w waits.going.owns known keeps contexts enters;
+  };
+  known = rows_stay_known now.known known rs keeps waits.known;
+}

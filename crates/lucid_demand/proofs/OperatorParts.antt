@@ -1,0 +1,45 @@
+-- The arguments of an operator's node: each is a part of its row, with a lower number.
+use Rattle.std.proofs.Common.{◌≡◌, ℕ, zero, suc, ◌<◌, List, [], ◌∷◌, Some, true, refl, ap, ◌∙◌, arith}
+use Rattle.std.specs.Prelude.{take, slice_get, option_map, option_and_then, nat_lt}
+use Rattle.std.proofs.lemmas.Bool.Decides.{nat_tests}
+use Rattle.lucid_ops.specs.declared.op.Op.{Op}
+use Rattle.lucid_ops.specs.Arity.{arity}
+use Rattle.lucid_tree.specs.Tree.{apply}
+use Rattle.lucid_equations.specs.Nodes.{row, PlainNodes}
+use Rattle.lucid_equations.specs.Ranges.{IsInRange}
+use Rattle.lucid_equations.specs.Rows.{node_at, row_at, parts}
+use Rattle.lucid_equations.specs.declared.rows.Node.TheVariants as node
+use Rattle.lucid_equations.specs.declared.table.Table.{Table}
+use Rattle.lucid_equations.proofs.PartsRead.{row-node, part-lower}
+use Rattle.lucid_facts.specs.Tasks.{PlainRow}
+use Rattle.lucid_facts.specs.Parts.{part_number, look_of_row, IsPart, part_by_look}
+use Rattle.lucid_facts.proofs.Looking.{has_part}
+
+-- what is taken of a list is there
+taken_at : {A : Type 0} (xs : List A) (n i : ℕ) → i < n → slice_get (take n xs) i ≡ slice_get xs i
+taken_at xs zero i l = absurd (omega (arith, l))
+taken_at [] (suc n) i l = refl
+taken_at (x ∷ xs) (suc n) zero l = refl
+taken_at (x ∷ xs) (suc n) (suc i) l = taken_at xs n i (omega (arith, l))
+
+module _ (T : Table) (id : ℕ) (op : Op) (args : List ℕ) (range : IsInRange T) (is : row_at T id ≡ Some (node.Apply op args)) where
+  -- the node applies the operator
+  pub operator_node : (es : PlainNodes) × (node_at T id ≡ row (apply op (arity op)) es)
+  operator_node = (_, row-node T range id (node.Apply op args) is)
+
+  -- and has each argument as a part.
+  pub operator_argument : (i n : ℕ) → i < arity op → slice_get args i ≡ Some n → part_number T id i ≡ Some n
+  operator_argument i n low arg = ap (option_and_then (λ x. slice_get (parts x) i)) is ∙ taken_at args (arity op) i low ∙ arg
+
+  pub argument_is_lower : (i n : ℕ) → i < arity op → slice_get args i ≡ Some n → n < id
+  argument_is_lower i n low arg = part-lower T range id i n (has_part T id i n (operator_argument i n low arg))
+
+-- The task of an argument is the row's part.
+pub operator_part : (T : Table) (r : PlainRow) (op : Op) (args : List ℕ) (i n : ℕ) → IsInRange T → row_at T r.task.node ≡ Some (node.Apply op args) → i < arity op → slice_get args i ≡ Some n
+    → IsPart T r i (record r.task { node = n })
+operator_part T r op args i n range is low arg =
+    part_by_look {f = apply op (arity op)} {es = (operator_node T r.task.node op args range is).0} {l = record { part = i; time = r.task.time; space = r.task.space; least = 0 }} i
+    (operator_node T r.task.node op args range is).1 look (ap (option_map (λ m. record r.task { node = m; time = r.task.time; space = r.task.space })) (operator_argument T r.task.node op args range is i n low arg))
+  where
+    look : look_of_row (apply op (arity op)) r i ≡ Some (record { part = i; time = r.task.time; space = r.task.space; least = 0 })
+    look = let yes : nat_lt i (arity op) ≡ true = grind (arith, nat_tests) in rw yes refl

@@ -1,0 +1,102 @@
+-- What stays true while what only moves the point is passed, move by move.
+use Rattle.std.proofs.Common.{◌≡◌, ℕ, suc, ◌<◌, ◌⊎◌, inl, inr, List, [], ◌∷◌, Option, Some, None, IfSome, option_map, refl, sym, ap, ◌∙◌, subst, arith, lit<}
+use Rattle.lucid_tree.specs.Members.{In}
+use Rattle.lucid_tags.specs.Contexts.{Context, frozen_frame}
+use Rattle.lucid_tags.specs.Known.{IsKnown, IsUnknown, IsOneForOne, KeepsKnown}
+use Rattle.lucid_tags.specs.declared.Tag.{Tag}
+use Rattle.lucid_tasks.specs.declared.Task.{Task}
+use Rattle.lucid_equations.specs.Ranges.{IsInRange}
+use Rattle.lucid_equations.specs.declared.table.Table.{Table}
+use Rattle.lucid_facts.specs.Tasks.{PlainTask, plain_task}
+use Rattle.lucid_facts.specs.Parts.{node_of, IsTask, moved, on_with, passed, passed_contexts}
+use Rattle.lucid_facts.proofs.Moving.{moved-moves}
+use Rattle.lucid_facts.proofs.Passing.{passed-once, passed-way, passed-already}
+use Rattle.lucid_facts.proofs.MovedRows.{moved-by_row}
+use Rattle.lucid_equations.specs.Rows.{row_at, node_by}
+use Rattle.lucid_equations.specs.declared.rows.Node.TheVariants.{Freeze}
+use Rattle.lucid_demand.specs.Aims.{EntersUnknown}
+
+-- the contexts of the frozen times on the way of a task
+abbrev way : Table → List Context → Task → List Context
+way T known x = passed_contexts T (suc x.node) (plain_task known x)
+
+-- A task was reached from the first one by what only moves the point.
+pub record Passes (T : Table) (old now : List Context) (first task : Task) : Type 0 where
+  pub known : IsKnown now task.tag
+  pub there : IsTask T (plain_task now task)
+  pub same : passed T (plain_task now task) ≡ passed T (plain_task old first)
+  pub left : (c : Context) → In c (way T now task) → In c (way T old first)
+  pub entered : (c : Context) → In c now → In c old ⊎ In c (way T old first)
+  pub keeps : KeepsKnown old now
+  pub one_for_one : IsOneForOne old → IsOneForOne now
+
+keeps-itself : (known : List Context) → KeepsKnown known known
+keeps-itself known = record { known = λ tag k. k; same = λ tag k. refl }
+
+keeps-then : (a b c : List Context) → KeepsKnown a b → KeepsKnown b c → KeepsKnown a c
+keeps-then a b c p q = record { known = λ tag k. q.known tag (p.known tag k); same = λ tag k. q.same tag (p.known tag k) ∙ p.same tag k }
+
+-- known tasks are the same where more contexts are known
+pub task-kept : (old new : List Context) (x : Task) → KeepsKnown old new → IsKnown old x.tag → plain_task new x ≡ plain_task old x
+task-kept old new x p k = ap (λ c. record (plain_task old x) { context = c }) (p.same x.tag k)
+
+pub passes-begin : (T : Table) (known : List Context) (x : Task) → IsTask T (plain_task known x) → IsKnown known x.tag → Passes T known known x x
+passes-begin T known x there k = record { known = k; there = there; same = refl; left = λ c i. i; entered = λ c i. inl i; keeps = keeps-itself known; one_for_one = λ o. o }
+
+-- the contexts of one move are those of the first on the way
+once-on : (T : Table) (x : PlainTask) (n : ℕ) (c : Context) (o : Option PlainTask) → In c (on_with o [] (λ y. y.context ∷ [])) → In c (on_with o [] (λ y. y.context ∷ passed_contexts T n y))
+once-on T x n c None i = i
+once-on T x n c (Some y) (inl e) = inl e
+once-on T x n c (Some y) (inr i) = absurd i
+
+-- what a move from here enters is on the way
+entered-on : (T : Table) (old now : List Context) (first task : Task) → Passes T old now first task → (c : Context) → In c (passed_contexts T 1 (plain_task now task)) → In c (way T old first)
+entered-on T old now first task p c i = p.left c (once-on T (plain_task now task) task.node c (moved T (plain_task now task)) i)
+
+known-on : (T : Table) (old now new : List Context) (first task : Task) → Passes T old now first task
+    → ((c : Context) → In c new → In c now ⊎ In c (passed_contexts T 1 (plain_task now task))) → (c : Context) → In c new → In c old ⊎ In c (way T old first)
+known-on T old now new first task p f c i = elim (f c i) [ inl j ↦ p.entered c j | inr j ↦ inr (entered-on T old now first task p c j) ]
+
+-- a move goes on,
+pub passes-on : (T : Table) → IsInRange T → (old now new : List Context) (first task next : Task) → Passes T old now first task
+    → option_map (plain_task new) (Some next) ≡ moved T (plain_task now task) → IfSome (Some next) (λ y. IsKnown new y.tag)
+    → ((c : Context) → In c new → In c now ⊎ In c (passed_contexts T 1 (plain_task now task))) → KeepsKnown now new → (IsOneForOne now → IsOneForOne new) → Passes T old new first next
+passes-on T range old now new first task next p is k f q one =
+    let m = moved-moves T range (plain_task now task) (plain_task new next) (sym is) in
+    record {
+      known = k;
+      there = omega (arith, m.lower, p.there);
+      same = sym (passed-once T range (plain_task now task) (plain_task new next) (sym is)) ∙ p.same;
+      left = λ c i. p.left c (subst (In c) (sym (passed-way T range (plain_task now task) (plain_task new next) (sym is))) (inr i));
+      entered = known-on T old now new first task p f;
+      keeps = keeps-then old now new p.keeps q;
+      one_for_one = λ o. one (p.one_for_one o);
+    }
+
+-- each to a lower node,
+pub next-lower : (T : Table) → IsInRange T → (now new : List Context) (task next : Task) → option_map (plain_task new) (Some next) ≡ moved T (plain_task now task) → next.node < task.node
+next-lower T range now new task next is = (moved-moves T range (plain_task now task) (plain_task new next) (sym is)).lower
+
+-- and where there is none, the last task is reached.
+pub passes-end : (T : Table) → IsInRange T → (old now new : List Context) (first task : Task) → Passes T old now first task → None ≡ moved T (plain_task now task) → KeepsKnown now new
+    → plain_task new task ≡ passed T (plain_task old first)
+passes-end T range old now new first task p is q = task-kept now new task q p.known ∙ sym (passed-already T range (plain_task now task) (sym is)) ∙ p.same
+
+pub entered-end : (T : Table) (old now new : List Context) (first task : Task) → Passes T old now first task
+    → ((c : Context) → In c new → In c now ⊎ In c (passed_contexts T 1 (plain_task now task))) → (c : Context) → In c new → In c old ⊎ In c (way T old first)
+entered-end T old now new first task p f = known-on T old now new first task p f
+
+pub keeps-end : (T : Table) (old now new : List Context) (first task : Task) → Passes T old now first task → KeepsKnown now new → KeepsKnown old new
+keeps-end T old now new first task p q = keeps-then old now new p.keeps q
+
+-- what isn't known later wasn't known before
+unknown-before : (old now : List Context) (c : Context) → KeepsKnown old now → IsUnknown now c → IsUnknown old c
+unknown-before old now c p u i low e =
+    let tag : Tag = record { number = i; space = 0; in_range = lit< tt } in u i (p.known tag low) (p.same tag low ∙ e)
+
+pub unknown-on : (T : Table) (old now : List Context) (first task : Task) → Passes T old now first task → EntersUnknown now (passed_contexts T 1 (plain_task now task)) → EntersUnknown old (way T old first)
+unknown-on T old now first task p u = (u.0, entered-on T old now first task p u.0 u.1, unknown-before old now u.0 p.keeps u.2)
+
+-- a frozen time's context is that of one move
+pub frozen-way : (T : Table) (x : PlainTask) (a : ℕ) → row_at T x.node ≡ Some (Freeze a) → node_of T x ≡ node_by T (Freeze a) → In (frozen_frame x.time x.context) (passed_contexts T 1 x)
+frozen-way T x a h is = subst (λ o. In (frozen_frame x.time x.context) (on_with o [] (λ y. y.context ∷ []))) (moved-by_row T x (Freeze a) h is) (inl refl)

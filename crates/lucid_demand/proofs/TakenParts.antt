@@ -1,0 +1,62 @@
+-- The values of a row's parts, as they are taken one after another.
+use Rattle.std.proofs.Common.{◌≡◌, ℕ, zero, suc, List, [], ◌∷◌, length, Option, Some, None, refl, sym, ap, ◌∙◌, arith}
+use Rattle.std.specs.Result.{IsErrAnd}
+use Rattle.std.specs.Prelude.{Result, Ok, Err, IfOk, IsTrue, IsSome, map, option_map, option_and_then, slice_set, slice_index_or}
+use Rattle.lucid_value.specs.declared.Value.{Value}
+use Rattle.lucid_value.specs.Plain.{PlainValue}
+use Rattle.lucid_value.specs.View.{plain}
+use Rattle.lucid_ops.specs.declared.op.Op.{Op}
+use Rattle.lucid_ops.specs.Arity.{arity}
+use Rattle.lucid_ops.specs.Algebra.{algebra}
+use Rattle.lucid_tasks.specs.Rows as rows
+use Rattle.lucid_tasks.specs.Rows.{TaskRow, Idle, row_at, got_of, is_ready}
+use Rattle.lucid_demand.specs.Acting.{HaveGot}
+use Rattle.lucid_demand.proofs.SettledRows.{changed_row}
+
+-- a row that is ready is a row
+pub ready_is_row : (o : Option TaskRow) → IsTrue (is_ready o) → IsSome o
+ready_is_row None e = absurd (cc)
+ready_is_row (Some r) e = refl
+
+pub other_part : (ps : List rows.PartState) (i k : ℕ) (y : rows.PartState) → (k ≡ i → ⊥) → slice_index_or (slice_set ps i y) k Idle ≡ slice_index_or ps k Idle
+other_part [] i k y n = refl
+other_part (p ∷ ps) zero zero y n = absurd (n refl)
+other_part (p ∷ ps) zero (suc k) y n = refl
+other_part (p ∷ ps) (suc i) zero y n = refl
+other_part (p ∷ ps) (suc i) (suc k) y n = other_part ps i k y (λ e. n (ap suc e))
+
+-- another part has the value that it had
+pub got_stays : (old new : List (Option TaskRow)) (slot i k : ℕ) → rows.ChangesOnly old new slot (rows.taken i) → (k ≡ i → ⊥)
+    → got_of new (record { slot = slot; index = k }) ≡ got_of old (record { slot = slot; index = k })
+got_stays old new slot i k changes n = ap (λ o. option_and_then rows.got_value (option_map (rows.state_at k) o)) (changed_row old new slot (rows.taken i) changes) ∙ go (row_at old slot)
+  where
+    go : (o : Option TaskRow) → option_and_then rows.got_value (option_map (rows.state_at k) (option_map (rows.taken i) o)) ≡ option_and_then rows.got_value (option_map (rows.state_at k) o)
+    go None = refl
+    go (Some r) = ap rows.got_value (other_part r.parts i k (rows.emptied (rows.state_at i r)) n)
+
+-- the parts from one on have these values
+abbrev pub AreGot : List (Option TaskRow) → (slot index : ℕ) → List Value → Type 0
+AreGot rs slot i [] = Unit {0}
+AreGot rs slot i (a ∷ args) = (got_of rs (record { slot = slot; index = i }) ≡ Some a) × AreGot rs slot (suc i) args
+
+-- they are the values that the parts have
+pub same_args : (rs : List (Option TaskRow)) (slot i : ℕ) (vs : List PlainValue) (args : List Value) → length vs ≡ length args → HaveGot rs slot i vs → AreGot rs slot i args → vs ≡ map plain args
+same_args rs slot i [] [] l h g = refl
+same_args rs slot i [] (a ∷ args) l h g = absurd (omega (arith, l))
+same_args rs slot i (v ∷ vs) [] l h g = absurd (omega (arith, l))
+same_args rs slot i (v ∷ vs) (a ∷ args) l h g =
+    let both : Some (plain a) ≡ Some v = sym (ap (option_map plain) g.0) ∙ h.0 in
+    let one : v ≡ plain a = cc in
+    let rest = same_args rs slot (suc i) vs args (omega (arith, l)) h.1 g.1 in
+    ap (λ x. x ∷ vs) one ∙ ap (λ xs. plain a ∷ xs) rest
+
+-- What an operator gives for the values that were taken, it gives for those that the parts had.
+pub applied_value : {E : Type 0} (op : Op) (rs : List (Option TaskRow)) (slot : ℕ) (args : List Value) (result : Result Value E) → IfOk result (λ v. plain v ≡ algebra op (map plain args))
+    → length args ≡ arity op → AreGot rs slot 0 args → IfOk result (λ v. (vs : List PlainValue) → length vs ≡ arity op → HaveGot rs slot 0 vs → plain v ≡ algebra op vs)
+applied_value op rs slot args (Ok v) is count got = λ vs l h. is ∙ ap (algebra op) (sym (same_args rs slot 0 vs args (l ∙ sym count) h got))
+applied_value op rs slot args (Err e) is count got = tt
+
+-- a refusal that is this one
+pub err_is : {A E : Type 0} (r : Result A E) (x : E) → IsErrAnd r (λ e. e ≡ x) → r ≡ Err x
+err_is (Ok a) x h = absurd h
+err_is (Err e) x h = ap Err h

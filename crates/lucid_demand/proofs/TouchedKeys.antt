@@ -1,0 +1,55 @@
+-- What a look-up leaves: a hit renews an age, and no value changes.
+use Rattle.std.proofs.Common.{◌≡◌, List, Option, Some, None, refl, sym, ap, ◌∙◌, subst, arith}
+use Rattle.std.specs.Prelude.{IsSome, option_map}
+use Rattle.lucid_value.specs.declared.Value.{Value}
+use Rattle.lucid_value.specs.Plain.{PlainValue}
+use Rattle.lucid_value.specs.View.{plain}
+use Rattle.lucid_tags.specs.Known.{IsKnown}
+use Rattle.lucid_tags.specs.declared.Key.{Key}
+use Rattle.lucid_tasks.specs.Rows.{TaskRow}
+use Rattle.lucid_ports.specs.World.{World}
+use Rattle.lucid_store.specs.Stored.{Stored}
+use Rattle.lucid_store.specs.Entries.{value_at, IsTouched}
+use Rattle.lucid_store.proofs.CallerLemmas.{held-touched}
+use Rattle.lucid_facts.specs.Tasks.{DatonAt, plain_key, plain_rows}
+use Rattle.lucid_facts.specs.Held.{held_in}
+use Rattle.lucid_facts.specs.Engine.{EngineView, known_elements, holding}
+use Rattle.lucid_facts.specs.Demands.{Demand, stays}
+use Rattle.lucid_facts.specs.Going.{Owns, Waits}
+use Rattle.lucid_facts.proofs.HeldByKey.{held_by_key, held_stays}
+use Rattle.lucid_facts.proofs.Owning.{owns_drops, few_where_fewer}
+use Rattle.lucid_facts.proofs.Working.{work_over}
+
+module _ (d : Demand) (now : EngineView) (w : World) (rs : List (Option TaskRow)) (stored : Stored) (key : Key) (waits : Waits d now w rs) (touched : IsTouched now.stored stored key) where
+  -- each daton is held as it was
+  held_as_before : (k : DatonAt) → held_in now.known stored k.0 k.1 ≡ holding now k.0 k.1
+  held_as_before k = (held_stays now.known now.stored stored waits.going.owns.contexts waits.going.owns.keys (held-touched now.stored stored key touched)).1 k
+
+  -- The rows wait on after a look-up.
+  pub waits_touched : Waits d (record now { stored = stored }) w rs
+  waits_touched = record {
+    going = record {
+      work = work_over d (known_elements now) (holding now) (held_in now.known stored) now.stored.lost stored.lost (plain_rows now.known rs)
+          (λ keeps z. (sym touched.lost ∙ z, λ q i. subst (λ o. IsSome o) (sym (held_as_before q)) i)) waits.going.work;
+      owns = owns_drops d now w waits.going.owns stored now.noted (λ k v h. sym (held-touched now.stored stored key touched k) ∙ h) (λ keeps k. held-touched now.stored stored key touched k)
+          (omega (arith, touched.lost)) (λ node tag k number h. h)
+          (λ h. few_where_fewer d.first.room now.stored stored (omega (arith, touched.count)) (waits.going.owns.since.few h));
+    };
+    known = waits.known;
+  }
+
+  -- What is found under a known key is what is held of its daton, before and after.
+  pub found_is_held : (found : Option Value) → IsKnown now.known key.tag → found ≡ value_at now.stored key → holding now (plain_key now.known key).0 (plain_key now.known key).1 ≡ option_map plain found
+  found_is_held found tag is = held_by_key now.known now.stored key waits.going.owns.contexts waits.going.owns.keys tag ∙ ap (option_map plain) (sym is)
+
+  pub found_is_held_then : (found : Option Value) → IsKnown now.known key.tag → found ≡ value_at now.stored key
+      → held_in now.known stored (plain_key now.known key).0 (plain_key now.known key).1 ≡ option_map plain found
+  found_is_held_then found tag is = held_as_before (plain_key now.known key) ∙ found_is_held found tag is
+
+-- What isn't held doesn't stay held.
+pub absent_is_no_stay : (d : Demand) (now : EngineView) (w : World) (k : DatonAt) → Owns d now w → holding now k.0 k.1 ≡ None → stays d k.0 k.1 ≡ None
+absent_is_no_stay d now w k owns none = go (stays d k.0 k.1) refl
+  where
+    go : (o : Option PlainValue) → stays d k.0 k.1 ≡ o → o ≡ None
+    go None e = refl
+    go (Some v) e = let both : None ≡ Some v = sym none ∙ (owns.stock.stock (known_elements now) (λ n j u h. h)).stays k.0 k.1 v e in absurd (cc)

@@ -1,0 +1,51 @@
+-- What a search notes and where it begins; and what a step may still do once a search was noted.
+use Rattle.std.specs.Prelude.{◌≡◌, ℕ, ◌<◌, ◌≤◌, List, Option, Some, None}
+use Rattle.lucid_tasks.specs.declared.Cursor.{Cursor}
+use Rattle.lucid_tasks.specs.declared.Part.{Part}
+use Rattle.lucid_tasks.specs.declared.Task.{Task}
+use Rattle.lucid_tasks.specs.Rows.{TaskRow, row_at, ChangesOnly, with_cursor}
+use Rattle.lucid_ports.specs.World.{World}
+use Rattle.lucid_equations.specs.declared.rows.Node.{Node}
+use Rattle.lucid_equations.specs.declared.rows.Node.TheVariants.{Whenever, Asa, Upon}
+use Rattle.lucid_facts.specs.Tasks.{plain_row}
+use Rattle.lucid_facts.specs.Demands.{Demand, table_of}
+use Rattle.lucid_facts.specs.Going.{IsDemand, Waits}
+use Rattle.lucid_demand.specs.Evaluating.{Evaluating}
+use Rattle.lucid_demand.specs.Justified.{Justified}
+use Rattle.lucid_demand.specs.declared.decide.Decision.TheVariants as decision
+use Rattle.lucid_demand.specs.declared.searches.Search.{Search}
+use Rattle.lucid_demand.specs.declared.searches.Search.TheVariants.{Find, Count}
+
+-- The search of a form for a time, if the form searches: `whenever` passes as many true values as the time says, `asa` none, and `upon`
+-- counts those below the time.
+abbrev pub search_for : Node → (time : ℕ) → Option Search
+search_for (Whenever left right) t = Some (Find t)
+search_for (Asa left right) t = Some (Find 0)
+search_for (Upon left right) t = Some (Count t)
+search_for _ t = None
+
+-- the pair of a key and a number that is noted where a search stands at a cursor
+abbrev pub noted_of : Search → Cursor → ℕ × ℕ
+noted_of (Find wanted) c = (c.count, c.time)
+noted_of (Count time) c = (c.time, c.count)
+
+-- the greatest key at which a search may begin
+abbrev pub greatest_key : Search → ℕ
+greatest_key (Find wanted) = wanted
+greatest_key (Count time) = time
+
+-- The row in the slot stands at a cursor, and is else the row that it was, as every other is.
+pub record StandsAt (old new : List (Option TaskRow)) (slot : ℕ) : Type 0 where
+  pub cursor : Cursor
+  pub rows : ChangesOnly old new slot (with_cursor cursor)
+
+-- The search of the row in the slot stands before its limit, and counted no more true values than it looked at.
+pub record CanLookOn (rows : List (Option TaskRow)) (slot : ℕ) : Type 0 where
+  pub before : (r : TaskRow) → row_at rows slot ≡ Some r → r.cursor.time < r.task.depth
+  pub few : (r : TaskRow) → row_at rows slot ≡ Some r → r.cursor.count ≤ r.cursor.time
+
+-- A row may ask for a part now, which is justified. Its search may have been noted, and other parts of it asked.
+pub record MayAskNow (d : Demand) (e : Evaluating) (w : World) (part : Part) (task : Task) : Type 0 where
+  pub demand : IsDemand d
+  pub waits : Waits d e.engine w e.rows
+  pub justified : (r : TaskRow) → row_at e.rows part.slot ≡ Some r → Justified (table_of d) e.engine.known (plain_row e.engine.known r) (decision.Ask part.index task)

@@ -1,0 +1,139 @@
+//! A row asks for parts, and a reference goes on with its body.
+ghost use Rattle.std.specs.Prelude.{◌≡◌, IfOk, OnOk};
+ghost use Rattle.lucid_store.specs.Entries.{value_at, IsTouched};
+ghost use Rattle.lucid_demand.specs.Evaluating.{Stepped as Steps};
+ghost use Rattle.lucid_demand.specs.Acting.{DemandIn, MayAct};
+ghost use Rattle.lucid_demand.specs.Asking.{CanAsk, CanAskAll, CanRefer, CanFollow, MayFollow, SetsPart, AsksIn, FindsAim};
+ghost use Rattle.lucid_demand.specs.Searching.{MayAskNow};
+ghost use Rattle.lucid_demand.specs.declared.decide.Decision.TheVariants as decision;
+
+use crate::DemandFault;
+use crate::aim::{Aim, call_aim, name_aim};
+use crate::evaluation::{Evaluation, Stepped};
+use crate::passing::passed;
+use lucid_equations::Node;
+use lucid_ops::Op;
+use lucid_retire::Retire;
+use lucid_schedule::Pick;
+use lucid_tasks::{Key, Part, Task};
+use lucid_value::Value;
+use std::alloc::AllocError;
+
+impl<R: Retire, S: Pick> Evaluation<R, S> {
+    ghost use Rattle.std.specs.Prelude.{ℕ, ◌<◌, length};
+    ghost use Rattle.lucid_tags.specs.Known.{IsKnown};
+
+    // Asks for a part: by a row, or at once where what is left of it is a constant.
+    fn ask_part(&mut self, part: Part, task: Task) -> Result<(), AllocError>
+        requires { CanAsk self.old part task }
+        ensures sets { OnOk result (SetsPart self.old self.new part) }
+        ensures asks { (i : DemandIn) → MayAskNow i.demand self.old i.world part task → AsksIn i.demand self.old self.new i.world result }
+    {
+        let task = passed(&self.program, &mut self.tags, task)?;
+        match self.program.node(task.node) {
+            Node::Const { constant } => {
+                let value = self.program.constant(constant).copy(self.alloc)?;
+                self.tasks.give(part, value);
+            }
+            _ => {
+                self.tasks.ask(part, task)?;
+            }
+        }
+        Ok(())
+    }
+
+    pub(crate) fn ask(&mut self, part: Part, task: Task) -> Stepped
+        requires { CanAsk self.old part task }
+        ensures { (i : DemandIn) → MayAskNow i.demand self.old i.world part task → Steps i.demand self.old self.new i.world i.world result }
+    {
+        self.ask_part(part, task)?;
+        Ok(None)
+    }
+
+    pub(crate) fn ask_all(&mut self, slot: usize, op: Op, args: [u32; 3]) -> Stepped
+        requires { CanAskAll self.old slot op args }
+        ensures { (i : DemandIn) → MayAct i.demand self.old i.world slot (decision.AskAll op args) → Steps i.demand self.old self.new i.world i.world result }
+    {
+        let task = self.tasks.task(slot);
+        for index in 0..op.arity() as u32 {
+            if self.tasks.got(slot, index).is_none() {
+                let node = args[index as usize];
+                self.ask_part(Part { slot, index }, Task { node, ..task })?;
+            }
+        }
+        Ok(None)
+    }
+
+    // What a task's reference goes on with.
+    pub(crate) fn aim(&mut self, task: Task) -> Result<Option<Aim>, AllocError>
+        requires there { task.node < length self.old.engine.table.nodes }
+        requires known { IsKnown self.old.engine.known task.tag }
+        ensures { FindsAim self.old self.new task result }
+    {
+        match self.program.node(task.node) {
+            Node::Refer { name, level } => Ok(name_aim(
+                &self.program,
+                &self.tags,
+                name,
+                level,
+                task.tag,
+                task.time,
+            )),
+            Node::Call { name, place, level } => call_aim(
+                &self.program,
+                &mut self.tags,
+                name,
+                place,
+                level,
+                task.tag,
+                task.time,
+            ),
+            _ => Ok(None),
+        }
+    }
+
+    // A copy of the value that is held under a key.
+    fn held(&mut self, key: Key) -> Result<Option<Value>, AllocError>
+        ensures value { IfOk result (λ found. found ≡ value_at self.old.engine.stored key) }
+        ensures touched { IsTouched self.old.engine.stored self.new.engine.stored key }
+        ensures only { self.new ≡ record self.old { engine = record self.old.engine { stored = self.new.engine.stored } } }
+    {
+        let Some(value) = self.warehouse.get(key) else {
+            return Ok(None);
+        };
+        Ok(Some(value.copy(self.alloc)?))
+    }
+
+    // A reference becomes its body, or asks for it where that is a reference itself.
+    fn follow(&mut self, slot: usize, aim: Aim, depth: u32) -> Stepped
+        requires { CanFollow self.old slot aim }
+        ensures { (i : DemandIn) → MayFollow i.demand self.old i.world slot aim depth → Steps i.demand self.old self.new i.world i.world result }
+    {
+        let body = passed(&self.program, &mut self.tags, aim.task(depth))?;
+        match self.program.node(body.node) {
+            Node::Refer { .. } | Node::Call { .. } => {
+                self.tasks.ask(Part { slot, index: 0 }, body)?;
+            }
+            _ => self.tasks.become_body(slot, body, aim.key),
+        }
+        Ok(None)
+    }
+
+    // A reference takes the held value, at any depth; else it goes on with its body.
+    pub(crate) fn refer(&mut self, slot: usize) -> Stepped
+        requires { CanRefer self.old slot }
+        ensures { (i : DemandIn) → MayAct i.demand self.old i.world slot decision.Refer → Steps i.demand self.old self.new i.world i.world result }
+    {
+        let task = self.tasks.task(slot);
+        let Some(aim) = self.aim(task)? else {
+            return Err(DemandFault::TooDeep);
+        };
+        if let Some(value) = self.held(aim.key)? {
+            return Ok(self.tasks.settle(slot, value));
+        }
+        if task.depth == 0 {
+            return Err(DemandFault::TooDeep);
+        }
+        self.follow(slot, aim, task.depth - 1)
+    }
+}

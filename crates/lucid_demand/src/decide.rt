@@ -1,0 +1,426 @@
+//! What a ready row does next. It is decided by the row alone, and takes no memory.
+ghost use Rattle.std.specs.Prelude.{◌≡◌, ℕ, ◌<◌, List, Option, Some, option_map, is_none};
+ghost use Rattle.lucid_value.specs.View.{plain};
+ghost use Rattle.lucid_tags.specs.Contexts.{Context};
+ghost use Rattle.lucid_tasks.specs.Rows.{TaskRow, IsRow, row_at, got_of};
+ghost use Rattle.lucid_equations.specs.Programs.{table_of};
+ghost use Rattle.lucid_facts.specs.Tasks.{plain_row};
+ghost use Rattle.lucid_demand.specs.Justified.{Justified};
+ghost use Rattle.lucid_demand.specs.Answers.{MayDecide};
+ghost use Rattle.lucid_equations.specs.declared.rows.Node.TheVariants as node;
+
+use crate::passing::LAST;
+use lucid_equations::{Node, Program};
+use lucid_ops::Op;
+use lucid_tasks::{Task, Tasks};
+use lucid_value::Value;
+
+/// What a ready row does next.
+#[derive(Clone, Copy)]
+pub(crate) enum Decision {
+    /// It settles with the value of a part.
+    Part { index: u32 },
+    /// It settles with an operator applied to the values of its first parts.
+    Apply { op: Op },
+    /// It settles with a constant.
+    Constant { constant: u32 },
+    /// It settles with a truth, end of data or an error, which its form gives by itself.
+    Truth(bool),
+    End,
+    Fault,
+    /// It settles with the value of its reference's body.
+    Body,
+    /// It asks for a part.
+    Ask { index: u32, task: Task },
+    /// It asks for its arguments.
+    AskAll { op: Op, args: [u32; 3] },
+    /// Its search goes on to the next time, after a truth.
+    Move { seen: bool },
+    /// It looks for its daton.
+    Refer,
+    /// It reads the element of its time.
+    Read { stream: u32 },
+    /// Its approximation has no value.
+    Refuse,
+}
+
+// What a decision tells of a part: no value yet, a truth, a time or a space, the end of data, or any other value.
+#[derive(Clone, Copy)]
+enum Answer {
+    Absent,
+    Holds(bool),
+    At(u64),
+    Ended,
+    Other,
+}
+
+// A ready row: its slot and its task.
+#[derive(Clone, Copy)]
+struct Ready {
+    slot: usize,
+    task: Task,
+}
+
+impl Ready {
+    ghost use Rattle.lucid_demand.specs.Answers.{answer_of, part_or_ask, truth_or_ask, DecidesFor};
+
+    fn answer(self, tasks: &Tasks, index: u32) -> Answer
+        requires row { IsRow tasks.now self.slot }
+        requires index { index < 3 }
+        ensures { result ≡ answer_of (option_map plain (got_of tasks.now (record { slot = self.slot; index = index }))) }
+    {
+        match tasks.got(self.slot, index) {
+            None => Answer::Absent,
+            Some(Value::Truth(holds)) => Answer::Holds(*holds),
+            Some(Value::Int(n)) if *n >= 0 && *n <= i128::from(LAST) => Answer::At(*n as u64),
+            Some(Value::Eod) => Answer::Ended,
+            Some(_) => Answer::Other,
+        }
+    }
+
+    // The value of the part, once it is there.
+    fn part_or_ask(self, tasks: &Tasks, index: u32, task: Task) -> Decision
+        requires row { IsRow tasks.now self.slot }
+        requires index { index < 3 }
+        ensures { result ≡ part_or_ask (got_of tasks.now (record { slot = self.slot; index = index })) index task }
+    {
+        match tasks.got(self.slot, index) {
+            Some(_) => Decision::Part { index },
+            None => Decision::Ask { index, task },
+        }
+    }
+
+    fn choose(self, tasks: &Tasks, test: u32, yes: u32, no: u32) -> Decision
+        requires { IsRow tasks.now self.slot }
+        ensures { DecidesFor tasks.now self.slot self.task (node.If test yes no) result }
+    {
+        match self.answer(tasks, 0) {
+            Answer::Absent => Decision::Ask {
+                index: 0,
+                task: Task {
+                    node: test,
+                    ..self.task
+                },
+            },
+            Answer::Holds(true) => self.part_or_ask(
+                tasks,
+                1,
+                Task {
+                    node: yes,
+                    ..self.task
+                },
+            ),
+            Answer::Holds(false) => self.part_or_ask(
+                tasks,
+                2,
+                Task {
+                    node: no,
+                    ..self.task
+                },
+            ),
+            Answer::Ended => Decision::End,
+            Answer::At(_) | Answer::Other => Decision::Fault,
+        }
+    }
+
+    // The second side of `and` and `or`, where the first doesn't decide.
+    fn right_side(self, tasks: &Tasks, right: u32) -> Decision
+        requires { IsRow tasks.now self.slot }
+        ensures { result ≡ truth_or_ask (answer_of (option_map plain (got_of tasks.now (record { slot = self.slot; index = 1 })))) (record self.task { node = right }) }
+    {
+        match self.answer(tasks, 1) {
+            Answer::Absent => Decision::Ask {
+                index: 1,
+                task: Task {
+                    node: right,
+                    ..self.task
+                },
+            },
+            Answer::Holds(holds) => Decision::Truth(holds),
+            Answer::Ended => Decision::End,
+            Answer::At(_) | Answer::Other => Decision::Fault,
+        }
+    }
+
+    fn both(self, tasks: &Tasks, left: u32, right: u32) -> Decision
+        requires { IsRow tasks.now self.slot }
+        ensures { DecidesFor tasks.now self.slot self.task (node.And left right) result }
+    {
+        match self.answer(tasks, 0) {
+            Answer::Absent => Decision::Ask {
+                index: 0,
+                task: Task {
+                    node: left,
+                    ..self.task
+                },
+            },
+            Answer::Holds(true) => self.right_side(tasks, right),
+            Answer::Holds(false) => Decision::Truth(false),
+            Answer::Ended => Decision::End,
+            Answer::At(_) | Answer::Other => Decision::Fault,
+        }
+    }
+
+    fn either(self, tasks: &Tasks, left: u32, right: u32) -> Decision
+        requires { IsRow tasks.now self.slot }
+        ensures { DecidesFor tasks.now self.slot self.task (node.Or left right) result }
+    {
+        match self.answer(tasks, 0) {
+            Answer::Absent => Decision::Ask {
+                index: 0,
+                task: Task {
+                    node: left,
+                    ..self.task
+                },
+            },
+            Answer::Holds(true) => Decision::Truth(true),
+            Answer::Holds(false) => self.right_side(tasks, right),
+            Answer::Ended => Decision::End,
+            Answer::At(_) | Answer::Other => Decision::Fault,
+        }
+    }
+
+    // The part at the time that another part gives.
+    fn attime(self, tasks: &Tasks, left: u32, right: u32) -> Decision
+        requires { IsRow tasks.now self.slot }
+        ensures { DecidesFor tasks.now self.slot self.task (node.Attime left right) result }
+    {
+        match self.answer(tasks, 1) {
+            Answer::Absent => Decision::Ask {
+                index: 1,
+                task: Task {
+                    node: right,
+                    ..self.task
+                },
+            },
+            Answer::At(time) => self.part_or_ask(
+                tasks,
+                0,
+                Task {
+                    node: left,
+                    time,
+                    ..self.task
+                },
+            ),
+            Answer::Ended => Decision::End,
+            Answer::Holds(_) | Answer::Other => Decision::Fault,
+        }
+    }
+
+    // The part at the space that another part gives.
+    fn atspace(self, tasks: &Tasks, left: u32, right: u32) -> Decision
+        requires { IsRow tasks.now self.slot }
+        ensures { DecidesFor tasks.now self.slot self.task (node.Atspace left right) result }
+    {
+        match self.answer(tasks, 1) {
+            Answer::Absent => Decision::Ask {
+                index: 1,
+                task: Task {
+                    node: right,
+                    ..self.task
+                },
+            },
+            Answer::At(space) => {
+                let tag = self.task.tag.at_space(space);
+                self.part_or_ask(
+                    tasks,
+                    0,
+                    Task {
+                        node: left,
+                        tag,
+                        ..self.task
+                    },
+                )
+            }
+            Answer::Ended => Decision::End,
+            Answer::Holds(_) | Answer::Other => Decision::Fault,
+        }
+    }
+
+    fn whenever(self, tasks: &Tasks, left: u32, right: u32) -> Decision
+        requires { IsRow tasks.now self.slot }
+        ensures { DecidesFor tasks.now self.slot self.task (node.Whenever left right) result }
+    {
+        let cursor = tasks.cursor(self.slot);
+        if cursor.time >= u64::from(self.task.depth) {
+            return Decision::Refuse;
+        }
+        match self.answer(tasks, 1) {
+            Answer::Absent => Decision::Ask {
+                index: 1,
+                task: Task {
+                    node: right,
+                    time: cursor.time,
+                    ..self.task
+                },
+            },
+            Answer::Holds(true) => {
+                if cursor.count >= self.task.time {
+                    return self.part_or_ask(
+                        tasks,
+                        0,
+                        Task {
+                            node: left,
+                            time: cursor.time,
+                            ..self.task
+                        },
+                    );
+                }
+                Decision::Move { seen: true }
+            }
+            Answer::Holds(false) => Decision::Move { seen: false },
+            Answer::Ended => Decision::End,
+            Answer::At(_) | Answer::Other => Decision::Fault,
+        }
+    }
+
+    fn asa(self, tasks: &Tasks, left: u32, right: u32) -> Decision
+        requires { IsRow tasks.now self.slot }
+        ensures { DecidesFor tasks.now self.slot self.task (node.Asa left right) result }
+    {
+        let cursor = tasks.cursor(self.slot);
+        if cursor.time >= u64::from(self.task.depth) {
+            return Decision::Refuse;
+        }
+        match self.answer(tasks, 1) {
+            Answer::Absent => Decision::Ask {
+                index: 1,
+                task: Task {
+                    node: right,
+                    time: cursor.time,
+                    ..self.task
+                },
+            },
+            Answer::Holds(true) => self.part_or_ask(
+                tasks,
+                0,
+                Task {
+                    node: left,
+                    time: cursor.time,
+                    ..self.task
+                },
+            ),
+            Answer::Holds(false) => Decision::Move { seen: false },
+            Answer::Ended => Decision::End,
+            Answer::At(_) | Answer::Other => Decision::Fault,
+        }
+    }
+
+    fn upon(self, tasks: &Tasks, left: u32, right: u32) -> Decision
+        requires { IsRow tasks.now self.slot }
+        ensures { DecidesFor tasks.now self.slot self.task (node.Upon left right) result }
+    {
+        let cursor = tasks.cursor(self.slot);
+        if self.task.time > u64::from(self.task.depth) {
+            return Decision::Refuse;
+        }
+        if cursor.time >= self.task.time {
+            return self.part_or_ask(
+                tasks,
+                0,
+                Task {
+                    node: left,
+                    time: cursor.count,
+                    ..self.task
+                },
+            );
+        }
+        match self.answer(tasks, 1) {
+            Answer::Absent => Decision::Ask {
+                index: 1,
+                task: Task {
+                    node: right,
+                    time: cursor.time,
+                    ..self.task
+                },
+            },
+            Answer::Holds(holds) => Decision::Move { seen: holds },
+            Answer::Ended => Decision::End,
+            Answer::At(_) | Answer::Other => Decision::Fault,
+        }
+    }
+
+    // Whether a part has no value yet.
+    fn lacks(self, tasks: &Tasks, index: u32) -> bool
+        requires row { IsRow tasks.now self.slot }
+        requires index { index < 3 }
+        ensures { result ≡ is_none (got_of tasks.now (record { slot = self.slot; index = index })) }
+    {
+        tasks.got(self.slot, index).is_none()
+    }
+
+    fn apply(self, tasks: &Tasks, op: Op, args: [u32; 3]) -> Decision
+        requires { IsRow tasks.now self.slot }
+        ensures { DecidesFor tasks.now self.slot self.task (node.Apply op args) result }
+    {
+        let arity = op.arity();
+        if self.lacks(tasks, 0) {
+            return Decision::AskAll { op, args };
+        }
+        if arity == 1 {
+            return Decision::Apply { op };
+        }
+        if self.lacks(tasks, 1) {
+            return Decision::AskAll { op, args };
+        }
+        if arity == 2 {
+            return Decision::Apply { op };
+        }
+        if self.lacks(tasks, 2) {
+            return Decision::AskAll { op, args };
+        }
+        Decision::Apply { op }
+    }
+
+    fn refer(self, tasks: &Tasks) -> Decision
+        requires { IsRow tasks.now self.slot }
+        ensures names { (name level : ℕ) → DecidesFor tasks.now self.slot self.task (node.Refer name level) result }
+        ensures calls { (name place level : ℕ) → DecidesFor tasks.now self.slot self.task (node.Call name place level) result }
+    {
+        if self.lacks(tasks, 0) {
+            Decision::Refer
+        } else {
+            Decision::Body
+        }
+    }
+
+    fn read(self, stream: u32) -> Decision
+        ensures { (forest : List (Option TaskRow)) → DecidesFor forest self.slot self.task (node.Input stream) result }
+    {
+        if self.task.depth == 0 {
+            Decision::Refuse
+        } else {
+            Decision::Read { stream }
+        }
+    }
+}
+
+/// What the ready row in a slot does next.
+pub(crate) fn decide(program: &Program, tasks: &Tasks, slot: usize) -> Decision
+    ghost known: { List Context }
+    requires { MayDecide (table_of program.now) known tasks.now slot }
+    ensures { (its : TaskRow) → row_at tasks.now slot ≡ Some its → Justified (table_of program.now) known (plain_row known its) result }
+{
+    let task = tasks.task(slot);
+    let ready = Ready { slot, task };
+    match program.node(task.node) {
+        Node::Const { constant } => Decision::Constant { constant },
+        Node::Input { stream } => ready.read(stream),
+        Node::Apply { op, args } => ready.apply(tasks, op, args),
+        Node::If { test, yes, no } => ready.choose(tasks, test, yes, no),
+        Node::And { left, right } => ready.both(tasks, left, right),
+        Node::Or { left, right } => ready.either(tasks, left, right),
+        Node::Whenever { left, right } => ready.whenever(tasks, left, right),
+        Node::Asa { left, right } => ready.asa(tasks, left, right),
+        Node::Upon { left, right } => ready.upon(tasks, left, right),
+        Node::Attime { left, right } => ready.attime(tasks, left, right),
+        Node::Atspace { left, right } => ready.atspace(tasks, left, right),
+        Node::Next { .. } | Node::Succ { .. } => Decision::Fault,
+        Node::Refer { .. } | Node::Call { .. } => ready.refer(tasks),
+        Node::First { .. }
+        | Node::Fby { .. }
+        | Node::Initial { .. }
+        | Node::Sby { .. }
+        | Node::Freeze { .. } => unreachable!(),
+    }
+}

@@ -1,0 +1,137 @@
+//! Searches begin at the best noted position, and note where they end.
+ghost use Rattle.std.specs.Prelude.{◌≡◌, ℕ, ◌≤◌, None, IfSome, IfNone, IsTrue};
+ghost use Rattle.lucid_search.specs.Noted.{number_at, IsBest, NotesOrMisses};
+ghost use Rattle.lucid_tasks.specs.Rows.{row_at, is_ready};
+ghost use Rattle.lucid_facts.specs.Going.{Owns};
+ghost use Rattle.lucid_demand.specs.Evaluating.{MayStep, Stepped as Steps, cost};
+ghost use Rattle.lucid_demand.specs.Acting.{DemandIn, MayAct, IsReadyTask};
+ghost use Rattle.lucid_demand.specs.Searching.{search_for, noted_of, greatest_key, StandsAt, CanLookOn, MayAskNow};
+ghost use Rattle.lucid_demand.specs.declared.decide.Decision.TheVariants as decision;
+
+use crate::evaluation::{Evaluation, Stepped};
+use lucid_equations::Node;
+use lucid_retire::Retire;
+use lucid_schedule::Pick;
+use lucid_search::Positions;
+use lucid_tasks::{Cursor, Part, Task};
+
+/// What a search wants, by which its positions are noted.
+#[derive(Clone, Copy)]
+pub(crate) enum Search {
+    /// `whenever` and `asa` want so many true values to be passed: noted are counts, each with a time.
+    Find { wanted: u64 },
+    /// `upon` wants the count of true values below a time: noted are times, each with a count.
+    Count { time: u64 },
+}
+
+/// The search of a node at a time, if it is one.
+pub(crate) fn search_of(node: Node, time: u64) -> Option<Search>
+    ensures { result ≡ search_for node time }
+{
+    match node {
+        Node::Whenever { .. } => Some(Search::Find { wanted: time }),
+        Node::Asa { .. } => Some(Search::Find { wanted: 0 }),
+        Node::Upon { .. } => Some(Search::Count { time }),
+        _ => None,
+    }
+}
+
+/// The best noted position of a search, if there is one.
+pub(crate) fn best(positions: &Positions, task: Task, search: Search) -> Option<Cursor>
+    ensures best { IfSome result (λ cursor. IsBest positions.now task.node task.tag (greatest_key search) (noted_of search cursor)) }
+    ensures none { IfNone result ((key : ℕ) → key ≤ greatest_key search → number_at positions.now task.node task.tag key ≡ None) }
+{
+    match search {
+        Search::Find { wanted } => {
+            let (count, time) = positions.best(task.node, task.tag, wanted)?;
+            Some(Cursor { time, count })
+        }
+        Search::Count { time } => {
+            let (time, count) = positions.best(task.node, task.tag, time)?;
+            Some(Cursor { time, count })
+        }
+    }
+}
+
+/// Notes where a search stands.
+pub(crate) fn note(positions: &mut Positions, task: Task, search: Search, cursor: Cursor)
+    ensures { let pair = noted_of search cursor in NotesOrMisses positions.old positions.new task.node task.tag pair.0 pair.1 }
+{
+    match search {
+        Search::Find { .. } => positions.note(task.node, task.tag, cursor.count, cursor.time),
+        Search::Count { .. } => positions.note(task.node, task.tag, cursor.time, cursor.count),
+    }
+}
+
+impl<R: Retire, S: Pick> Evaluation<R, S> {
+    // A search that looked at nothing so far begins at the best noted position.
+    pub(crate) fn begin_search(&mut self, slot: usize)
+        requires { IsReadyTask self.old slot }
+        ensures step { (i : DemandIn) → MayStep i.demand self.old i.world slot → MayStep i.demand self.new i.world slot }
+        ensures cost { (i : DemandIn) → MayStep i.demand self.old i.world slot → cost i.demand self.new ≤ cost i.demand self.old }
+        ensures rows { StandsAt self.old.rows self.new.rows slot }
+        ensures engine { self.new.engine ≡ self.old.engine }
+    {
+        let task = self.tasks.task(slot);
+        let Some(search) = search_of(self.program.node(task.node), task.time) else {
+            return;
+        };
+        let cursor = self.tasks.cursor(slot);
+        if cursor.time != 0
+            || self.tasks.got(slot, 0).is_some()
+            || self.tasks.got(slot, 1).is_some()
+        {
+            return;
+        }
+        if let Some(cursor) = best(&self.positions, task, search) {
+            self.tasks.set_cursor(slot, cursor);
+        }
+    }
+
+    // Notes where a search stands that looks no further.
+    pub(crate) fn note_here(&mut self, slot: usize)
+        requires { IsReadyTask self.old slot }
+        ensures owns { (i : DemandIn) → MayStep i.demand self.old i.world slot → Owns i.demand self.new.engine i.world }
+        ensures only { self.new.engine ≡ record self.old.engine { noted = self.new.engine.noted } }
+        ensures rows { self.new.rows ≡ self.old.rows }
+    {
+        let task = self.tasks.task(slot);
+        if let Some(search) = search_of(self.program.node(task.node), task.time) {
+            note(&mut self.positions, task, search, self.tasks.cursor(slot));
+        }
+    }
+
+    // A search that asks for what it found looks no further.
+    pub(crate) fn note_end(&mut self, slot: usize, index: u32)
+        requires { IsReadyTask self.old slot }
+        ensures asks { (i : DemandIn) (task : Task) → MayAct i.demand self.old i.world slot (decision.Ask index task) → MayAskNow i.demand self.new i.world (record { slot = slot; index = index }) task }
+        ensures only { self.new.engine ≡ record self.old.engine { noted = self.new.engine.noted } }
+        ensures rows { self.new.rows ≡ self.old.rows }
+    {
+        if index == 0 {
+            self.note_here(slot);
+        }
+    }
+
+    // The next time of a search, after a truth at this one.
+    pub(crate) fn look_on(&mut self, slot: usize, seen: bool) -> Stepped
+        requires ready { IsTrue (is_ready (row_at self.old.rows slot)) }
+        requires on { CanLookOn self.old.rows slot }
+        ensures { (i : DemandIn) → MayAct i.demand self.old i.world slot (decision.Move seen) → Steps i.demand self.old self.new i.world i.world result }
+    {
+        // The limit is below 2^32.
+        let _ = self.tasks.task(slot);
+        let cursor = self.tasks.cursor(slot);
+        let _ = self.tasks.take(Part { slot, index: 0 });
+        let _ = self.tasks.take(Part { slot, index: 1 });
+        let count = cursor.count + u64::from(seen);
+        self.tasks.set_cursor(
+            slot,
+            Cursor {
+                time: cursor.time + 1,
+                count,
+            },
+        );
+        Ok(None)
+    }
+}

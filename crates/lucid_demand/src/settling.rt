@@ -1,0 +1,168 @@
+//! A row settles: its value stands in its parent's part, or is the demand's.
+ghost use Rattle.std.specs.Prelude.{◌≡◌, ℕ, ◌<◌, ◌≤◌, List, length, Some, OnOk, OnErr, IfOk, IsSome, IsTrue};
+ghost use Rattle.lucid_value.specs.Plain.{PlainValue};
+ghost use Rattle.lucid_value.specs.View.{plain};
+ghost use Rattle.lucid_ops.specs.Arity.{arity};
+ghost use Rattle.lucid_ops.specs.Algebra.{algebra};
+ghost use Rattle.lucid_tasks.specs.Rows.{row_at, key_of, got_of, taken, is_ready, ChangesOnly, IsRow};
+ghost use Rattle.lucid_facts.specs.Demands.{Demand};
+ghost use Rattle.lucid_facts.specs.Engine.{AreAskable};
+ghost use Rattle.lucid_demand.specs.Evaluating.{Stepped as Steps};
+ghost use Rattle.lucid_demand.specs.Acting.{DemandIn, Settling, MayAct, MayGive, MaySettle, IsTaken, IsKept, IsReadyTask, HaveGot};
+ghost use Rattle.lucid_demand.specs.Asking.{HasTask};
+ghost use Rattle.lucid_demand.specs.Reading.{ReadsElement};
+ghost use Rattle.lucid_demand.specs.declared.decide.Decision.TheVariants as decision;
+
+use crate::DemandFault;
+use crate::evaluation::{Evaluation, Stepped};
+use lucid_ops::{Op, apply};
+use lucid_ports::Places;
+use lucid_retire::Retire;
+use lucid_schedule::Pick;
+use lucid_tasks::{Key, Part};
+use lucid_value::Value;
+use std::alloc::AllocError;
+
+impl<R: Retire, S: Pick> Evaluation<R, S> {
+    // Puts a copy of a value under a key.
+    fn put(&mut self, key: Key, value: &Value) -> Result<(), AllocError>
+        ensures kept { OnOk result (IsKept (Some key) self.old.engine self.new.engine value.now) }
+        ensures rows { self.new.rows ≡ self.old.rows }
+        ensures err { OnErr result (self.new ≡ self.old) }
+    {
+        let copy = value.copy(self.alloc)?;
+        let _ = self.warehouse.put(key, copy);
+        Ok(())
+    }
+
+    // The same under the key that a row remembers, if it remembers one.
+    fn keep(&mut self, slot: usize, value: &Value) -> Result<(), AllocError>
+        requires { IsRow self.old.rows slot }
+        ensures kept { OnOk result (IsKept (key_of self.old.rows slot) self.old.engine self.new.engine value.now) }
+        ensures rows { self.new.rows ≡ self.old.rows }
+        ensures err { OnErr result (self.new ≡ self.old) }
+    {
+        match self.tasks.key(slot) {
+            Some(key) => self.put(key, value),
+            None => Ok(()),
+        }
+    }
+
+    // Takes the value of a part that has one.
+    fn take_part(&mut self, slot: usize, index: u32) -> Value
+        requires row { IsRow self.old.rows slot }
+        requires index { index < 3 }
+        requires got { IsSome (got_of self.old.rows (record { slot = slot; index = index })) }
+        ensures value { got_of self.old.rows (record { slot = slot; index = index }) ≡ Some result }
+        ensures rows { ChangesOnly self.old.rows self.new.rows slot (taken index) }
+        ensures engine { self.new.engine ≡ self.old.engine }
+    {
+        match self.tasks.take(Part { slot, index }) {
+            Some(value) => value,
+            None => unreachable!(),
+        }
+    }
+
+    // An operator applied to the values of the row's parts.
+    fn applied(&mut self, slot: usize, op: Op) -> Result<Value, AllocError>
+        requires ready { IsTrue (is_ready (row_at self.old.rows slot)) }
+        requires got { (index : ℕ) → index < arity op → IsSome (got_of self.old.rows (record { slot = slot; index = index })) }
+        ensures value { IfOk result (λ v. (vs : List PlainValue) → length vs ≡ arity op → HaveGot self.old.rows slot 0 vs → plain v ≡ algebra op vs) }
+        ensures taken { IsTaken self.old.rows self.new.rows slot }
+        ensures engine { self.new.engine ≡ self.old.engine }
+    {
+        let first = self.take_part(slot, 0);
+        match op.arity() {
+            1 => apply(self.alloc, op, &[first]),
+            2 => {
+                let second = self.take_part(slot, 1);
+                apply(self.alloc, op, &[first, second])
+            }
+            _ => {
+                let second = self.take_part(slot, 1);
+                let third = self.take_part(slot, 2);
+                apply(self.alloc, op, &[first, second, third])
+            }
+        }
+    }
+
+    // A copy of the element of a time. The stream is read on for it.
+    fn element<P: Places>(
+        &mut self,
+        places: &mut P,
+        stream: u32,
+        time: u64,
+    ) -> Result<Value, DemandFault>
+        requires stream { stream < length self.old.engine.streams }
+        requires askable { AreAskable self.old.engine.streams (P.world places.old) }
+        ensures reads { ReadsElement self.old.engine self.new.engine stream time (P.world places.old) (P.world places.new) result }
+        ensures rows { self.new.rows ≡ self.old.rows }
+    {
+        Ok(self.inputs.element(places, stream, time)?.copy(self.alloc)?)
+    }
+
+    // The row's value: its daton's, where it remembers one.
+    pub(crate) fn settle(&mut self, slot: usize, value: Value) -> Stepped
+        requires { IsTrue (is_ready (row_at self.old.rows slot)) }
+        ensures { (s : Settling) → MaySettle s self.old slot value
+            → Steps s.demand (record { engine = self.old.engine; rows = s.before }) self.new s.world s.world result }
+    {
+        self.keep(slot, &value)?;
+        Ok(self.tasks.settle(slot, value))
+    }
+
+    pub(crate) fn settle_part(&mut self, slot: usize, index: u32) -> Stepped
+        requires ready { IsTrue (is_ready (row_at self.old.rows slot)) }
+        requires index { index < 3 }
+        requires got { IsSome (got_of self.old.rows (record { slot = slot; index = index })) }
+        ensures { (i : DemandIn) → MayAct i.demand self.old i.world slot (decision.Part index) → Steps i.demand self.old self.new i.world i.world result }
+    {
+        let value = self.take_part(slot, index);
+        self.settle(slot, value)
+    }
+
+    pub(crate) fn settle_applied(&mut self, slot: usize, op: Op) -> Stepped
+        requires ready { IsTrue (is_ready (row_at self.old.rows slot)) }
+        requires got { (index : ℕ) → index < arity op → IsSome (got_of self.old.rows (record { slot = slot; index = index })) }
+        ensures { (i : DemandIn) → MayAct i.demand self.old i.world slot (decision.Apply op) → Steps i.demand self.old self.new i.world i.world result }
+    {
+        let value = self.applied(slot, op)?;
+        self.settle(slot, value)
+    }
+
+    // The value of a reference's body is its own.
+    pub(crate) fn settle_body(&mut self, slot: usize) -> Stepped
+        requires ready { IsTrue (is_ready (row_at self.old.rows slot)) }
+        requires got { IsSome (got_of self.old.rows (record { slot = slot; index = 0 })) }
+        requires task { HasTask self.old slot }
+        ensures { (i : DemandIn) → MayAct i.demand self.old i.world slot decision.Body → Steps i.demand self.old self.new i.world i.world result }
+    {
+        let task = self.tasks.task(slot);
+        let value = self.take_part(slot, 0);
+        if let Some(aim) = self.aim(task)? {
+            self.put(aim.key, &value)?;
+        }
+        Ok(self.tasks.settle(slot, value))
+    }
+
+    // Settles with what a form gives by itself.
+    pub(crate) fn end(&mut self, slot: usize, value: Value) -> Stepped
+        requires { IsReadyTask self.old slot }
+        ensures { (i : DemandIn) → MayGive i.demand self.old i.world slot (plain value) → Steps i.demand self.old self.new i.world i.world result }
+    {
+        self.note_here(slot);
+        self.settle(slot, value)
+    }
+
+    pub(crate) fn read<P: Places>(&mut self, places: &mut P, slot: usize, stream: u32) -> Stepped
+        requires ready { IsTrue (is_ready (row_at self.old.rows slot)) }
+        requires stream { stream < length self.old.engine.streams }
+        requires askable { AreAskable self.old.engine.streams (P.world places.old) }
+        ensures steps { (d : Demand) → MayAct d self.old (P.world places.old) slot (decision.Read stream) → Steps d self.old self.new (P.world places.old) (P.world places.new) result }
+        ensures faults { (P.world places.old).faults ≤ (P.world places.new).faults }
+    {
+        let time = self.tasks.task(slot).time;
+        let value = self.element(places, stream, time)?;
+        self.settle(slot, value)
+    }
+}
