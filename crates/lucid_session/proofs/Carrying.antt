@@ -1,0 +1,174 @@
+-- The figures of a table's run are those of what the table stands for.
+use Rattle.std.proofs.Common.{◌≡◌, ℕ, ◌<◌, Bool, true, false, cond, ◌==◌, ◌&&◌, List, [], ◌∷◌, Option, Some, None, refl, sym, ap, ◌∙◌, subst, inl, inr, arith}
+use Rattle.std.specs.Prelude.{Result, Ok, Err, IsTrue, IsSome, IfOk, if◌then◌else◌, option_map}
+use Rattle.std.specs.List.{filter_map, cons_option}
+use Rattle.std.specs.Bool.{Decides}
+use Rattle.std.proofs.lemmas.Bool.Decides.{Decides-eqb, Decides-and, not_from_Decides}
+use Rattle.lucid_value.specs.Plain.{PlainValue}
+use Rattle.lucid_tree.specs.Members.{In}
+use Rattle.lucid_tree.specs.Levels.{Elements, HoldsExactly, goes_to, Event, looked_up, referred, entered, valued_of}
+use Rattle.lucid_tree.specs.Env.{Referent, Env}
+use Rattle.lucid_tags.specs.Contexts.{Context, root, same_context}
+use Rattle.lucid_tags.specs.EqualityDecides.{same_context_is_equality}
+use Rattle.lucid_equations.specs.Nodes.{Equations}
+use Rattle.lucid_equations.specs.Datons.{Daton, same_daton, NodePosition, NodeAim, daton_aim}
+use Rattle.lucid_equations.specs.Values.{node_val, eqval}
+use Rattle.lucid_equations.specs.Visits.{NodeEvents, visits, visited_values}
+use Rattle.lucid_equations.specs.Counts.{HasDistinct, Points, valued_datons}
+use Rattle.lucid_equations.specs.Rows.{equations_of}
+use Rattle.lucid_equations.specs.declared.table.Table.{Table}
+use Rattle.lucid_equations.proofs.SameDatons.{same-daton}
+use Rattle.lucid_equations.proofs.Reached.{reached}
+use Rattle.lucid_ports.specs.declared.run.Summary.{Summary}
+use Rattle.lucid_ports.specs.declared.run.RunFault.{RunFault}
+use Rattle.lucid_ports.specs.declared.run.RunFault.TheVariants.{TooDeep, ReadFault, WriteFault, TooLarge, NoMemory}
+use Rattle.lucid_session.specs.Runs.{RunView, ForSomeAdded}
+use Rattle.lucid_session.specs.Figures.{Counted, table_counted, points_below, IsDefinedBelow, times_of, Figures, HasMoreThan, OnClearings, OnDepth}
+use Rattle.lucid_session.specs.Laws.{StandsFor, FiguresCarry}
+use Rattle.lucid_session.proofs.Counting.{counted}
+use Rattle.lucid_session.proofs.Points.{point_below}
+use Rattle.lucid_session.proofs.Lists.{from_flat, some_value, some_once}
+
+-- one value at most is listed of each daton at a space
+abbrev IsOnce : List (Daton × ℕ × PlainValue) → Type 0
+IsOnce xs = (k : Daton) (s : ℕ) (v w : PlainValue) → In (k, s, v) xs → In (k, s, w) xs → v ≡ w
+
+-- the first value that is listed of a daton at a space
+abbrev listed : List (Daton × ℕ × PlainValue) → Daton → ℕ → Option PlainValue
+listed [] k s = None
+listed (x ∷ xs) k s = if same_daton k x.0 && (s == x.1) then Some x.2 else listed xs k s
+
+same_place : (k : Daton) (s : ℕ) (x : Daton × ℕ × PlainValue) → Decides (same_daton k x.0 && (s == x.1)) ((k ≡ x.0) × (s ≡ x.1))
+same_place k s x = Decides-and (same_daton k x.0) (s == x.1) (same-daton k x.0) (Decides-eqb s x.1)
+
+is_listed : (xs : List (Daton × ℕ × PlainValue)) (k : Daton) (s : ℕ) (v : PlainValue) → listed xs k s ≡ Some v → In (k, s, v) xs
+is_listed [] k s v e = absurd (cc)
+is_listed (x ∷ xs) k s v e = by (is_listed xs k s v) (same_daton k x.0 && (s == x.1)) refl e
+  where
+    by : (listed xs k s ≡ Some v → In (k, s, v) xs) → (t : Bool) → same_daton k x.0 && (s == x.1) ≡ t → cond t (Some x.2) (listed xs k s) ≡ Some v → In (k, s, v) (x ∷ xs)
+    by more true h i = let at = (same_place k s x).0 h in let value : v ≡ x.2 = cc in inl (λ j. (at.0 j, at.1 j, value j))
+    by more false h i = inr (more i)
+
+is_there : (xs : List (Daton × ℕ × PlainValue)) (k : Daton) (s : ℕ) (v : PlainValue) → In (k, s, v) xs → (w : PlainValue) × (listed xs k s ≡ Some w)
+is_there [] k s v i = absurd i
+is_there (x ∷ xs) k s v i = by (is_there xs k s v) (same_daton k x.0 && (s == x.1)) refl i
+  where
+    by : (In (k, s, v) xs → (w : PlainValue) × (listed xs k s ≡ Some w)) → (t : Bool) → same_daton k x.0 && (s == x.1) ≡ t → In (k, s, v) (x ∷ xs)
+        → (w : PlainValue) × (cond t (Some x.2) (listed xs k s) ≡ Some w)
+    by more true h i = (x.2, refl)
+    by more false h (inl e) = absurd (not_from_Decides (same_daton k x.0 && (s == x.1)) (same_place k s x) h (ap (λ z. z.0) e, ap (λ z. z.1) e))
+    by more false h (inr i) = more i
+
+-- what is listed once is held exactly by the look-up
+holds_listed : (xs : List (Daton × ℕ × PlainValue)) → IsOnce xs → HoldsExactly xs (listed xs)
+holds_listed xs once k s v = (
+  is_listed xs k s v,
+  λ i. let r = is_there xs k s v i in r.1 ∙ ap Some (once k s r.0 v (is_listed xs k s r.0 r.1) i),
+)
+
+-- a daton with a value, as it was gone to
+pub record WentTo (p : Equations) (b : Elements) (m : ℕ) (xs : NodeEvents) (k : Daton) (s : ℕ) (v : PlainValue) : Type 0 where
+  pub position : NodePosition
+  pub time : ℕ
+  pub there : In (referred k position time s) xs
+  pub value : node_val p b m position.node position.context time s ≡ Some v
+
+abbrev pub values_at : Equations → Elements → ℕ → NodePosition → ℕ → ℕ → Option PlainValue
+values_at p b m x u r = node_val p b m x.node x.context u r
+
+pub went-to : (p : Equations) (b : Elements) (m : ℕ) (xs : NodeEvents) (k : Daton) (s : ℕ) (v : PlainValue) → In (k, s, v) (filter_map (valued_of (values_at p b m)) xs) → WentTo p b m xs k s v
+went-to p b m [] k s v i = absurd i
+went-to p b m (x ∷ xs) k s v i = by (went-to p b m xs k s v) x i
+  where
+    later : (x : Event Daton NodePosition Context) → WentTo p b m xs k s v → WentTo p b m (x ∷ xs) k s v
+    later x w = record { position = w.position; time = w.time; there = inr w.there; value = w.value }
+
+    at : (In (k, s, v) (filter_map (valued_of (values_at p b m)) xs) → WentTo p b m xs k s v) → (d : Daton) (y : NodePosition) (u r : ℕ) (o : Option PlainValue) → values_at p b m y u r ≡ o
+        → In (k, s, v) (cons_option (option_map (λ w. (d, r, w)) o) (filter_map (valued_of (values_at p b m)) xs)) → WentTo p b m (referred d y u r ∷ xs) k s v
+    at more d y u r None e i = later (referred d y u r) (more i)
+    at more d y u r (Some w) e (inl h) =
+        let daton : k ≡ d = ap (λ z. z.0) h in
+        let space : s ≡ r = ap (λ z. z.1) h in
+        let value : w ≡ v = ap (λ z. z.2) (sym h) in
+        record { position = y; time = u; there = inl (λ i. referred (daton i) y u (space i)); value = ap (values_at p b m y u) space ∙ e ∙ ap Some value }
+    at more d y u r (Some w) e (inr j) = later (referred d y u r) (more j)
+
+    by : (In (k, s, v) (filter_map (valued_of (values_at p b m)) xs) → WentTo p b m xs k s v) → (x : Event Daton NodePosition Context) → In (k, s, v) (filter_map (valued_of (values_at p b m)) (x ∷ xs)) → WentTo p b m (x ∷ xs) k s v
+    by more (looked_up n j) i = later (looked_up n j) (more i)
+    by more (entered c) i = later (entered c) (more i)
+    by more (referred d y u r) i = at more d y u r (values_at p b m y u r) refl i
+
+abbrev place_in : NodePosition → NodeAim → NodePosition
+place_in z (goes_to k y u) = y
+place_in z _ = z
+
+abbrev time_in : NodeAim → ℕ
+time_in (goes_to k y u) = u
+time_in _ = 0
+
+-- a daton that was gone to goes on where it was gone on
+pub goes_on : (T : Table) (b : Elements) (m t s : ℕ) (z : PlainValue) → eqval (equations_of T) b m t s ≡ Some z → (k : Daton) (r : ℕ) (v : PlainValue)
+    → (w : WentTo (equations_of T) b m (visits (equations_of T) b m 0 t s) k r v) → daton_aim (equations_of T) k ≡ goes_to k w.position w.time
+goes_on T b m t s z e k r v w = (reached (equations_of T) b k w.position w.time r m (equations_of T).root root t s z e w.there).goes
+
+-- where the root has values, one value is listed of each daton at a space
+values_once : (T : Table) (b : Elements) (m : ℕ) (points : Points) → ((x : ℕ × ℕ) → In x points → IsSome (eqval (equations_of T) b m x.0 x.1)) → IsOnce (valued_datons (equations_of T) b m points)
+values_once T b m points defined k s v w i j =
+    let x = from_flat (λ x. visited_values (equations_of T) b m x.0 x.1) (k, s, v) points i in
+    let y = from_flat (λ x. visited_values (equations_of T) b m x.0 x.1) (k, s, w) points j in
+    let p = went-to (equations_of T) b m (visits (equations_of T) b m 0 x.item.0 x.item.1) k s v x.gives in
+    let q = went-to (equations_of T) b m (visits (equations_of T) b m 0 y.item.0 y.item.1) k s w y.gives in
+    let f = some_value (eqval (equations_of T) b m x.item.0 x.item.1) (defined x.item x.among) in
+    let g = some_value (eqval (equations_of T) b m y.item.0 y.item.1) (defined y.item y.among) in
+    let aims : ◌≡◌ {A = NodeAim} (goes_to k p.position p.time) (goes_to k q.position q.time) =
+    sym (goes_on T b m x.item.0 x.item.1 f.0 f.1 k s v p) ∙ goes_on T b m y.item.0 y.item.1 g.0 g.1 k s w q in
+    some_once (sym p.value ∙ (λ i. values_at (equations_of T) b m (ap (place_in p.position) aims i) (ap time_in aims i) s) ∙ q.value)
+
+module _ (T : Table) (D : Counted Referent Env) (stands : StandsFor (table_counted T) D) (b : Elements) where
+  defined_too : (m w : ℕ) → IsDefinedBelow D b m w → IsDefinedBelow (table_counted T) b m w
+  defined_too m w defined t lt = subst (λ o. IsSome o) (sym (stands.values b m t)) (defined t lt)
+
+  -- what the values before a time needed can be held
+  kept : (m w : ℕ) → IsDefinedBelow D b m w → HoldsExactly (valued_datons (equations_of T) b m (points_below w)) (listed (valued_datons (equations_of T) b m (points_below w)))
+  kept m w defined = holds_listed (valued_datons (equations_of T) b m (points_below w)) (values_once T b m (points_below w) (λ x i.
+      let at = point_below w x i in subst (λ s. IsSome (eqval (equations_of T) b m x.0 s)) (sym at.1) (defined_too m w defined x.0 at.0)))
+
+  more_too : (few m d : ℕ) (points : Points) → HasMoreThan few ((table_counted T).enters b m d points) → HasMoreThan few (D.enters b m d points)
+  more_too few m d points more n h =
+      let k = counted same_context same_context_is_equality ((table_counted T).enters b m d points) in
+      omega (arith, more k.0 k.1, stands.no_more b m d points n k.0 h k.1)
+
+  module _ (r : RunView) where
+    held_too : (result : Result Summary RunFault) → Figures (table_counted T) b r result → IsTrue r.policy.keeps
+        → IfOk result (λ s. s.lost ≡ 0 → s.cleared ≡ 0 → (m : ℕ) → IsDefinedBelow D b m (times_of s) → HasDistinct (D.refers b m 0 (points_below (times_of s))) s.held)
+    held_too (Ok s) f keeps = λ lost cleared m defined. stands.as_many b m 0 (points_below (times_of s)) s.held (f.held keeps lost cleared m (defined_too m (times_of s) defined))
+    held_too (Err e) f keeps = tt
+
+    deep_too : (result : Result Summary RunFault) → Figures (table_counted T) b r result → IsTrue r.policy.keeps
+        → OnDepth result (λ time lost cleared. lost ≡ 0 → cleared ≡ 0 → (m : ℕ) → IsDefinedBelow D b m time
+        → (held : Referent → (space : ℕ) → Option PlainValue) → HoldsExactly (D.valued b m (points_below time)) held → D.held_value b held r.depth time ≡ None)
+    deep_too (Ok s) f keeps = tt
+    deep_too (Err (TooDeep time lost cleared)) f keeps = λ none again m defined held exactly.
+        let all = valued_datons (equations_of T) b m (points_below time) in
+        sym (stands.held b m (points_below time) held (listed all) exactly (kept m time defined) r.depth time)
+        ∙ f.deep keeps none again m (defined_too m time defined) (listed all) (kept m time defined)
+    deep_too (Err ReadFault) f keeps = tt
+    deep_too (Err WriteFault) f keeps = tt
+    deep_too (Err (TooLarge number)) f keeps = tt
+    deep_too (Err NoMemory) f keeps = tt
+
+    some_added : (times : ℕ) → ForSomeAdded r (λ d. HasMoreThan 999999 ((table_counted T).enters b r.depth d (points_below times)))
+        → ForSomeAdded r (λ d. HasMoreThan 999999 (D.enters b r.depth d (points_below times)))
+    some_added times s = record { added = s.added; none = s.none; holds = λ d le. more_too 999999 r.depth d (points_below times) (s.holds d le) }
+
+    cleared_too : (result : Result Summary RunFault) → Figures (table_counted T) b r result
+        → OnClearings result (λ times cleared. 0 < cleared → ForSomeAdded r (λ d. HasMoreThan 999999 (D.enters b r.depth d (points_below times))))
+    cleared_too (Ok s) f = λ lt. some_added (times_of s) (f.cleared lt)
+    cleared_too (Err (TooDeep time lost cleared)) f = λ lt. some_added (ℕ.suc time) (f.cleared lt)
+    cleared_too (Err ReadFault) f = tt
+    cleared_too (Err WriteFault) f = tt
+    cleared_too (Err (TooLarge number)) f = tt
+    cleared_too (Err NoMemory) f = tt
+
+pub figures_too : FiguresCarry
+figures_too T D stands b r result f = record { held = held_too T D stands b r result f; deep = deep_too T D stands b r result f; cleared = cleared_too T D stands b r result f }

@@ -1,0 +1,72 @@
+-- How many different items a list has, and no list of different items is longer than one that has them all.
+use Rattle.std.proofs.Common.{◌≡◌, ℕ, suc, ◌≤◌, length, Bool, true, false, List, [], ◌∷◌, refl, sym, ap, ◌∙◌, subst, inl, inr, ◌⊎◌, arith}
+use Rattle.std.specs.Bool.{Decides}
+use Rattle.std.proofs.lemmas.Bool.Decides.{not_from_Decides}
+use Rattle.lucid_tree.specs.Members.{In, Inside, AllDiffer}
+use Rattle.lucid_equations.specs.Counts.{HasDistinct}
+
+module _ {A : Type 0} where
+  -- the list without the item, which it has
+  without : (v : A) (us : List A) → In v us → List A
+  without v [] i = []
+  without v (u ∷ us) (inl e) = us
+  without v (u ∷ us) (inr i) = u ∷ without v us i
+
+  length-without : (v : A) (us : List A) (i : In v us) → suc (length (without v us i)) ≡ length us
+  unfolding without
+  length-without v [] i = absurd i
+  length-without v (u ∷ us) (inl e) = refl
+  length-without v (u ∷ us) (inr i) = ap suc (length-without v us i)
+
+  in-without : (v : A) (us : List A) (i : In v us) (x : A) → (x ≡ v → ⊥) → In x us → In x (without v us i)
+  unfolding without
+  in-without v [] i x d j = absurd j
+  in-without v (u ∷ us) (inl e) x d (inl e') = absurd (d (e' ∙ sym e))
+  in-without v (u ∷ us) (inl e) x d (inr j) = j
+  in-without v (u ∷ us) (inr i) x d (inl e) = inl e
+  in-without v (u ∷ us) (inr i) x d (inr j) = inr (in-without v us i x d j)
+
+  -- A list of different items that all stand in another is no longer.
+  pub fewer : (vs us : List A) → AllDiffer vs → Inside vs us → length vs ≤ length us
+  fewer [] us r h = omega arith
+  fewer (v ∷ vs) us r h =
+      let i : In v us = h v (inl refl) in
+      omega (arith, length-without v us i, fewer vs (without v us i) r.1 (λ x j. in-without v us i x (λ e. r.0 (subst (λ z. In z vs) e j)) (h x (inr j))))
+
+  module _ (same : A → A → Bool) (decides : (x y : A) → Decides (same x y) (x ≡ y)) where
+    -- an item stands in a list, or doesn't
+    pub in_or_not : (x : A) (xs : List A) → In x xs ⊎ (In x xs → ⊥)
+    in_or_not x [] = inr (λ i. i)
+    in_or_not x (y ∷ ys) = by (same x y) refl (in_or_not x ys)
+      where
+        by : (t : Bool) → same x y ≡ t → In x ys ⊎ (In x ys → ⊥) → In x (y ∷ ys) ⊎ (In x (y ∷ ys) → ⊥)
+        by true e r = inl (inl ((decides x y).0 e))
+        by false e (inl i) = inl (inr i)
+        by false e (inr n) = inr (λ i. elim i [ inl h ↦ not_from_Decides (same x y) (decides x y) e h | inr j ↦ n j ])
+
+    one-more : (x : A) (xs : List A) (n : ℕ) → HasDistinct xs n → In x xs ⊎ (In x xs → ⊥) → (k : ℕ) × HasDistinct (x ∷ xs) k
+    one-more x xs n h (inl i) = (
+      n,
+      record {
+        items = h.items;
+        once = h.once;
+        inside = λ y j. inr (h.inside y j);
+        outside = λ y j. elim j [ inl e ↦ subst (λ z. In z h.items) (sym e) (h.outside x i) | inr q ↦ h.outside y q ];
+        size = h.size;
+      },
+    )
+    one-more x xs n h (inr not) = (
+      suc n,
+      record {
+        items = x ∷ h.items;
+        once = ((λ i. not (h.inside x i)), h.once);
+        inside = λ y j. elim j [ inl e ↦ inl e | inr q ↦ inr (h.inside y q) ];
+        outside = λ y j. elim j [ inl e ↦ inl e | inr q ↦ inr (h.outside y q) ];
+        size = ap suc h.size;
+      },
+    )
+
+    -- Each list has a number of different items.
+    pub counted : (xs : List A) → (n : ℕ) × HasDistinct xs n
+    counted [] = (0, record { items = []; once = tt; inside = λ x i. i; outside = λ x i. i; size = refl })
+    counted (x ∷ xs) = let r = counted xs in one-more x xs r.0 r.1 (in_or_not x xs)

@@ -1,0 +1,17 @@
+pub mod Alike
+pub mod Stopped
+pub mod Lists
+pub mod Points
+pub mod Counting
+pub mod Carrying
+pub mod Added
+pub mod Moments
+pub mod Told
+pub mod Drawing
+pub mod Knowing
+pub mod Holding
+pub mod Deepening
+pub mod Going
+pub mod Ending
+pub mod Writing
+pub mod Steps

@@ -1,0 +1,64 @@
+-- What stands in a list that is made of several; and optional values.
+use Rattle.std.proofs.Common.{◌≡◌, List, [], ◌∷◌, Option, Some, None, refl, sym, ap, subst, suc, length, map, inl, inr, true≢false}
+use Rattle.std.specs.Prelude.{IsSome}
+use Rattle.std.specs.List.{flat_map}
+use Rattle.lucid_tree.specs.Members.{In}
+use Rattle.lucid_tree.proofs.Members.{in_left, in_right, in_either}
+
+module _ {A B : Type 0} (f : A → List B) where
+  -- an item that stands in what one of them gives
+  pub record From (y : B) (xs : List A) : Type 0 where
+    pub item : A
+    pub among : In item xs
+    pub gives : In y (f item)
+
+  pub from_flat : (y : B) (xs : List A) → In y (flat_map f xs) → From y xs
+  from_flat y [] i = absurd i
+  from_flat y (x ∷ xs) i = elim (in_either y (f x) (flat_map f xs) i) [
+    | inl j ↦ record { item = x; among = inl refl; gives = j }
+    | inr j ↦ let r = from_flat y xs j in record { item = r.item; among = inr r.among; gives = r.gives }
+  ]
+
+  pub in_flat : (y : B) (x : A) (xs : List A) → In x xs → In y (f x) → In y (flat_map f xs)
+  in_flat y x [] i j = absurd i
+  in_flat y x (z ∷ xs) (inl e) j = in_left y (f z) (flat_map f xs) (subst (λ v. In y (f v)) e j)
+  in_flat y x (z ∷ xs) (inr i) j = in_right y (f z) (flat_map f xs) (in_flat y x xs i j)
+
+module _ {A B : Type 0} (f : A → B) where
+  pub in_map : (x : A) (xs : List A) → In x xs → In (f x) (map f xs)
+  in_map x [] h = h
+  in_map x (y ∷ ys) (inl e) = inl (ap f e)
+  in_map x (y ∷ ys) (inr h) = inr (in_map x ys h)
+
+  -- an item of the image is that of an item
+  pub record FromMap (y : B) (xs : List A) : Type 0 where
+    pub item : A
+    pub among : In item xs
+    pub is : y ≡ f item
+
+  pub from_map : (y : B) (xs : List A) → In y (map f xs) → FromMap y xs
+  from_map y [] i = absurd i
+  from_map y (x ∷ xs) (inl e) = record { item = x; among = inl refl; is = e }
+  from_map y (x ∷ xs) (inr i) = let r = from_map y xs i in record { item = r.item; among = inr r.among; is = r.is }
+
+  pub length_map : (xs : List A) → length (map f xs) ≡ length xs
+  length_map [] = refl
+  length_map (x ∷ xs) = ap suc (length_map xs)
+
+pub some_value : {A : Type 0} (o : Option A) → IsSome o → (v : A) × (o ≡ Some v)
+some_value None h = absurd (true≢false (sym h))
+some_value (Some v) h = (v, refl)
+
+pub some_once : {A : Type 0} {x y : A} → ◌≡◌ {A = Option A} (Some x) (Some y) → x ≡ y
+some_once e = cc
+
+pub none_some : {A : Type 0} {x : A} → ◌≡◌ {A = Option A} None (Some x) → ⊥
+none_some e = cc
+
+pub is_none : {A : Type 0} (o : Option A) → o ≡ None → IsSome o → ⊥
+is_none None e h = true≢false (sym h)
+is_none (Some x) e h = cc
+
+pub some_is : {A : Type 0} (o : Option A) (v : A) → o ≡ Some v → IsSome o
+some_is None v e = cc
+some_is (Some x) v e = refl

@@ -1,0 +1,24 @@
+-- The points of the times below one.
+use Rattle.std.proofs.Common.{◌≡◌, ℕ, zero, suc, ◌<◌, [], ◌∷◌, ◌⊎◌, inl, inr, ap, arith}
+use Rattle.std.proofs.lemmas.Bool.{cases_lt}
+use Rattle.lucid_tree.specs.Members.{In}
+use Rattle.lucid_tree.proofs.Members.{in_left, in_right, in_either}
+use Rattle.lucid_session.specs.Figures.{points_below}
+
+-- Each of them stands at space 0, at a time below,
+pub point_below : (w : ℕ) (x : ℕ × ℕ) → In x (points_below w) → (x.0 < w) × (x.1 ≡ 0)
+point_below zero x i = absurd i
+point_below (suc w) x i = by (point_below w x) (in_either x (points_below w) ((w, 0) ∷ []) i)
+  where
+    by : (In x (points_below w) → (x.0 < w) × (x.1 ≡ 0)) → In x (points_below w) ⊎ In x ((w, 0) ∷ []) → (x.0 < suc w) × (x.1 ≡ 0)
+    by before (inl j) = let r = before j in (omega (arith, r.0), r.1)
+    by before (inr (inl e)) = (omega (arith, ap (λ z. z.0) e), ap (λ z. z.1) e)
+    by before (inr (inr j)) = absurd j
+
+-- and each such point is one of them.
+pub below_point : (w t : ℕ) → t < w → In (t, 0) (points_below w)
+below_point zero t lt = absurd (omega (arith, lt))
+below_point (suc w) t lt = elim (cases_lt t w) [
+  | inl lower ↦ in_left (t, 0) (points_below w) ((w, 0) ∷ []) (below_point w t lower)
+  | inr le ↦ let at : t ≡ w = omega (arith, lt, le) in in_right (t, 0) (points_below w) ((w, 0) ∷ []) (inl (ap (λ u. (u, 0)) at))
+]

@@ -1,0 +1,59 @@
+-- A run for which there was no memory before it did anything.
+use Rattle.std.proofs.Common.{◌≡◌, ℕ, List, [], length, Option, Some, None, refl, sym, ap, ◌∙◌, inl, inr, arith, append-nil}
+use Rattle.std.specs.Prelude.{Err}
+use Rattle.lucid_tree.specs.Levels.{Elements}
+use Rattle.lucid_ports.specs.Writing.{with_all}
+use Rattle.lucid_ports.specs.declared.run.RunFault.TheVariants.{NoMemory}
+use Rattle.lucid_session.specs.Subject.{Subject, no_lines}
+use Rattle.lucid_session.specs.Runs.{RunView, Ran, Causes}
+use Rattle.lucid_session.specs.Figures.{Counted, Figures}
+
+-- nothing is written
+pub with_nothing : (o : Option (List ℕ)) → o ≡ with_all [] o
+with_nothing None = refl
+with_nothing (Some bytes) = ap Some (sym (append-nil bytes))
+
+-- two contents of one place are the same
+pub same_some : {A : Type 0} (o p : Option A) (x y : A) → p ≡ o → o ≡ Some x → p ≡ Some y → x ≡ y
+same_some o p x y same a b = cc
+
+-- Nothing was done: the places and the output are as they were.
+pub record DidNothing (r : RunView) : Type 0 where
+  pub after : r.after ≡ r.before
+  pub out_after : r.out_after ≡ r.out_before
+
+pub ran_nothing : (S : Subject) (b : Elements) (r : RunView) → DidNothing r → Ran S b r (Err NoMemory)
+ran_nothing S b r did = record {
+  out = record {
+    whole = 0;
+    within = omega arith;
+    bytes = [];
+    output = no_lines;
+    front = [];
+    begun = inl refl;
+    written = ap (λ o. o.bytes) did.out_after ∙ with_nothing r.out_before.bytes;
+  };
+  done = tt;
+  deep = tt;
+  exact = λ e t w. elim w [ inl lt ↦ absurd (omega arith) | inr at ↦ absurd at.1 ];
+  complete = λ deep read write long. refl;
+  consumed = record {
+    added = 0;
+    none = λ e. refl;
+    holds = λ d le k n q is old new before after.
+        inl (omega (arith, ap (λ c. length c.consumed) (same_some (r.before.place q).contents (r.after.place q).contents old new (ap (λ w. (w.place q).contents) did.after) before after)));
+  };
+  too_large = tt;
+}
+
+pub figures_nothing : {K E : Type 0} (C : Counted K E) (b : Elements) (r : RunView) → Figures C b r (Err NoMemory)
+figures_nothing C b r = record { held = λ k. tt; deep = λ k. tt; cleared = tt }
+
+pub causes_nothing : (r : RunView) → DidNothing r → Causes r (Err NoMemory)
+causes_nothing r did = record {
+  read = λ e. cc;
+  write = λ e. cc;
+  read_count = omega (arith, ap (λ w. w.faults) did.after);
+  write_count = omega (arith, ap (λ o. o.faults) did.out_after);
+  held = tt;
+}

@@ -1,0 +1,178 @@
+-- What holds of a run, whatever its policy drops and whoever picks. It is said over a subject, from outside: by what the places and the
+-- output tell before and after.
+use Rattle.std.specs.Prelude.{◌≡◌, ℕ, ◌+◌, ◌<◌, ◌≤◌, ◌⊎◌, Bool, true, false, List, [], ◌++◌, length, take, Option, Some, IsTrue, IfSome, Result, Ok, Err, IfOk, IfErr, IsErrOf, slice_get}
+use Rattle.lucid_value.specs.Lines.{end_of_line, IsOverlong}
+use Rattle.lucid_value.specs.Elements.{element}
+use Rattle.lucid_tree.specs.Levels.{Elements}
+use Rattle.lucid_ports.specs.World.{World, Contents}
+use Rattle.lucid_ports.specs.Faults.{Rises}
+use Rattle.lucid_ports.specs.Writing.{with_all}
+use Rattle.lucid_ports.specs.declared.run.Options.{Options}
+use Rattle.lucid_ports.specs.declared.run.Summary.{Summary}
+use Rattle.lucid_ports.specs.declared.run.RunFault.{RunFault}
+use Rattle.lucid_ports.specs.declared.run.RunFault.TheVariants.{TooDeep, ReadFault, WriteFault, TooLarge, NoMemory}
+use Rattle.lucid_inputs.specs.Streams.{all_bytes}
+use Rattle.lucid_inputs.specs.Inputs.{streams, most_bytes}
+use Rattle.lucid_inputs.specs.declared.on_demand.Inputs.{Inputs}
+use Rattle.lucid_equations.specs.declared.table.Table.{Table}
+use Rattle.lucid_facts.specs.Engine.{places_of}
+use Rattle.lucid_session.specs.Subject.{Subject, Output}
+
+-- the bytes written to a sink, where it tells them, and its count of faults
+pub record Told : Type 0 where
+  pub bytes : Option (List ℕ)
+  pub faults : ℕ
+
+-- what a policy is said to do: to drop nothing, to drop all, and how many it leaves at most
+pub record PolicyView : Type 0 where
+  pub keeps : Bool
+  pub empties : Bool
+  pub room : Option ℕ
+
+-- A run from outside: how many lines it may write and how deep its values may be, its policy, the names of its inputs and their places,
+-- how many bytes of each may be read, and what the places and the output tell before and after.
+pub record RunView : Type 0 where
+  pub count : ℕ
+  pub depth : ℕ
+  pub policy : PolicyView
+  pub names : List (List ℕ)
+  pub places : List ℕ
+  pub most : ℕ
+  pub before : World
+  pub after : World
+  pub out_before : Told
+  pub out_after : Told
+
+-- the run of a table over its inputs
+abbrev pub run_view : Options → PolicyView → Table → Inputs → (before after : World) → (out_before out_after : Told) → RunView
+run_view options policy T inputs w v o p = record {
+  count = options.count;
+  depth = options.depth;
+  policy = policy;
+  names = T.inputs;
+  places = places_of (streams inputs);
+  most = most_bytes inputs;
+  before = w;
+  after = v;
+  out_before = o;
+  out_after = p;
+}
+
+-- the input of that number has this name and this place
+abbrev pub IsInput : RunView → (number : ℕ) → (name : List ℕ) → (place : ℕ) → Type 0
+IsInput r k n q = (slice_get r.names k ≡ Some n) × (slice_get r.places k ≡ Some q)
+
+-- The place of each input tells its bytes, and these are the elements of its lines.
+abbrev pub HasElements : RunView → Elements → Type 0
+HasElements r b = (k : ℕ) (n : List ℕ) (q : ℕ) → IsInput r k n q
+    → (c : Contents) × ((r.before.place q).contents ≡ Some c) × ((j : ℕ) → b n j ≡ Some (element (all_bytes c) j))
+
+-- The front of a line that stands next, without the line's end; nothing, where no further line was begun.
+abbrev pub IsBegun : Subject → Elements → (count whole : ℕ) → List ℕ → Type 0
+IsBegun S b c w front = (front ≡ []) ⊎ ((w < c) × ((next : List ℕ) × S.line b w next × ((n : ℕ) × (n < length next) × (front ≡ take n next))))
+
+-- What is written: so many whole lines, which are the subject's output, and a front of the next.
+pub record Written (S : Subject) (b : Elements) (r : RunView) : Type 0 where
+  pub whole : ℕ
+  pub within : whole ≤ r.count
+  pub bytes : List ℕ
+  pub output : Output S b whole bytes
+  pub front : List ℕ
+  pub begun : IsBegun S b r.count whole front
+  pub written : r.out_after.bytes ≡ with_all (bytes ++ front) r.out_before.bytes
+
+-- The times attempted are those below the count, through the one after the whole lines.
+abbrev pub IsAttempted : RunView → (whole time : ℕ) → Type 0
+IsAttempted r w t = (t < r.count) × (t ≤ w)
+
+-- At some time attempted the limit's approximation consults the pair.
+abbrev pub IsConsulted : Subject → Elements → RunView → (whole added : ℕ) → List ℕ × ℕ → Type 0
+IsConsulted S b r w d pair = (t : ℕ) × IsAttempted r w t × S.consults b r.depth d t pair
+
+-- an added number, 0 under a policy that empties, from which on this holds
+pub record ForSomeAdded (r : RunView) (P : ℕ → Type 0) : Type 0 where
+  pub added : ℕ
+  pub none : IsTrue r.policy.empties → added ≡ 0
+  pub holds : (d : ℕ) → added ≤ d → P d
+
+-- Of each input no more is consumed than was, or through the end of an element that is consulted at a time attempted.
+abbrev pub ConsumesWithin : Subject → Elements → RunView → (whole added : ℕ) → Type 0
+ConsumesWithin S b r w d = (k : ℕ) (n : List ℕ) (q : ℕ) → IsInput r k n q
+    → (old new : Contents) → (r.before.place q).contents ≡ Some old → (r.after.place q).contents ≡ Some new
+    → (length new.consumed ≤ length old.consumed) ⊎ ((j : ℕ) × IsConsulted S b r w d (n, j) × (length new.consumed ≤ end_of_line (all_bytes old) j))
+
+-- An element of this input is consulted at a time attempted that lies past the bytes that may be read.
+pub record ConsultsOverlong (S : Subject) (b : Elements) (r : RunView) (whole number : ℕ) : Type 0 where
+  pub name : List ℕ
+  pub place : ℕ
+  pub is : IsInput r number name place
+  pub index : ℕ
+  pub consulted : ForSomeAdded r (λ d. IsConsulted S b r whole d (name, index))
+  pub overlong : IfSome (r.before.place place).contents (λ c. IsOverlong (all_bytes c) index r.most)
+
+-- how a run that is done ended: by the subject's end, below the count; or by the count
+abbrev pub EndsAt : Subject → Elements → RunView → (ended : Bool) → (whole : ℕ) → Type 0
+EndsAt S b r true w = (w < r.count) × S.ends b w
+EndsAt S b r false w = w ≡ r.count
+
+-- Of a run that is done exactly whole lines are written, as many as the summary says, to the end or to the count.
+pub record IsDone (S : Subject) (b : Elements) (r : RunView) (out : Written S b r) (s : Summary) : Type 0 where
+  pub lines : s.lines ≡ out.whole
+  pub nothing_begun : out.front ≡ []
+  pub ends : EndsAt S b r s.ended out.whole
+
+-- Where the run is too deep at a time, the limit's approximation is undefined then, and exactly the lines of the times before are written.
+pub record IsTooDeep (S : Subject) (b : Elements) (r : RunView) (out : Written S b r) (time : ℕ) : Type 0 where
+  pub lines : time ≡ out.whole
+  pub nothing_begun : out.front ≡ []
+  pub within : time < r.count
+  pub undefined : S.undefined b r.depth time
+
+-- what is said of the time, where the run was too deep; of the input, where one was too large
+abbrev pub OnTooDeep : RunFault → (ℕ → Type 0) → Type 0
+OnTooDeep (TooDeep time lost cleared) P = P time
+OnTooDeep _ P = Unit {0}
+
+abbrev pub OnTooLarge : RunFault → (ℕ → Type 0) → Type 0
+OnTooLarge (TooLarge number) P = P number
+OnTooLarge _ P = Unit {0}
+
+-- the subject ended the run, by the summary
+abbrev pub IsEnded : Result Summary RunFault → Type 0
+IsEnded (Ok s) = s.ended ≡ true
+IsEnded (Err e) = ⊥
+
+-- The approximation of the limit is defined at each time below the count, through the first end.
+abbrev pub IsDeepEnough : Subject → Elements → RunView → Type 0
+IsDeepEnough S b r = (t : ℕ) → t < r.count → ((u : ℕ) → u < t → S.ends b u → ⊥) → S.defined b r.depth t
+
+-- a summary, or the one answer that may come in place of it: want of memory
+abbrev pub IsOkOrNoMemory : Result Summary RunFault → Type 0
+IsOkOrNoMemory (Ok s) = Unit {0}
+IsOkOrNoMemory (Err e) = e ≡ NoMemory
+
+-- The headline of a run.
+pub record Ran (S : Subject) (b : Elements) (r : RunView) (result : Result Summary RunFault) : Type 0 where
+  -- What is written are the lines of the subject, in order and without gaps.
+  pub out : Written S b r
+  -- Done: to the count, or to the first end.
+  pub done : IfOk result (IsDone S b r out)
+  -- Too deep comes only where the approximation of the limit is undefined. Under a policy that empties, a line is written and an end ends
+  -- the run only where that is defined.
+  pub deep : IfErr result (λ e. OnTooDeep e (IsTooDeep S b r out))
+  pub exact : IsTrue r.policy.empties → (t : ℕ) → (t < out.whole) ⊎ ((t ≡ out.whole) × IsEnded result) → S.defined b r.depth t
+  -- Complete: where the limit is deep enough, no call on the places or the output failed and nothing overlong is consulted, it is done.
+  pub complete : IsDeepEnough S b r → (Rises r.before.faults r.after.faults → ⊥) → (Rises r.out_before.faults r.out_after.faults → ⊥)
+      → ((k : ℕ) → ConsultsOverlong S b r out.whole k → ⊥) → IsOkOrNoMemory result
+  -- No input is consumed past what is consulted, and one is too large only where an element past the bytes that may be read is consulted.
+  pub consumed : ForSomeAdded r (ConsumesWithin S b r out.whole)
+  pub too_large : IfErr result (λ e. OnTooLarge e (ConsultsOverlong S b r out.whole))
+
+-- The causes of faults, and the most that is held, whatever the places and the output tell.
+pub record Causes (r : RunView) (result : Result Summary RunFault) : Type 0 where
+  pub read : IsErrOf result ReadFault → Rises r.before.faults r.after.faults
+  pub write : IsErrOf result WriteFault → Rises r.out_before.faults r.out_after.faults
+  pub read_count : r.before.faults ≤ r.after.faults
+  pub write_count : r.out_before.faults ≤ r.out_after.faults
+  -- where the policy leaves at most so many, at most one more is held
+  pub held : IfOk result (λ s. IfSome r.policy.room (λ most. s.held ≤ most + 1))
