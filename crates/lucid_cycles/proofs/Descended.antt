@@ -10,11 +10,12 @@ use Rattle.lucid_scope.specs.Bindings.{IsResolved}
 use Rattle.lucid_cycles.specs.declared.edge.Edge.{Edge}
 use Rattle.lucid_cycles.specs.declared.names.Names.{Names}
 use Rattle.lucid_cycles.specs.declared.judgment.Judgment.{Judgment}
+use Rattle.lucid_cycles.specs.declared.judgment.Judgment.TheVariants.{Enough, Cycle}
 use Rattle.lucid_cycles.specs.Judged.{outside, plain_names, IsJudged}
 use Rattle.lucid_cycles.specs.Graph.{Bindings, edges, numbered, graph, factor_of}
 use Rattle.lucid_cycles.specs.Potentials.{Falls, Adds}
 use Rattle.lucid_cycles.specs.Judgments.{names_of, IsEnough, IsGraphJudgment, IsJudgment}
-use Rattle.lucid_cycles.specs.Laws.{HasParts, EnoughIsEnough, IsDefinedAtDepth}
+use Rattle.lucid_cycles.specs.Laws.{HasParts, EnoughIsEnough, IsDefinedAtDepth, IsDefinedAsJudged}
 use Rattle.lucid_cycles.specs.Walks.{with_name, listed_names, HasAsked}
 use Rattle.lucid_cycles.proofs.Lists.{all-both, all-unmap}
 use Rattle.lucid_cycles.proofs.Table.{roomy, crowded}
@@ -95,3 +96,9 @@ enough-counts e b m factor add p h q = (q.potentials.each ∙ sym h.count, q.fac
 pub defined : EnoughIsEnough → (e : PlainTree) (inputs : List (List ℕ)) (b : Bindings) (factor add : ℕ) (p : List ℕ) → HasParts e → ∥ IsResolved e inputs b ∥₁ → outside e ≡ [] → IsEnough e b factor add p → IsDefinedAtDepth e factor add
 defined law e inputs b factor add p parts resolved inside q elements there t s =
     ∥∥₁_elim resolved (hlevel props) (λ r. law e inputs b factor add p parts r inside q elements there t s)
+
+-- and so is the depth of a judgment
+pub judged-defined : EnoughIsEnough → (e : PlainTree) (inputs : List (List ℕ)) (b : Bindings) (j : Judgment) → HasParts e → ∥ IsResolved e inputs b ∥₁ → outside e ≡ [] → IsJudgment e b j → IsDefinedAsJudged e j
+judged-defined law e inputs b (Enough f c p) parts resolved inside q =
+    defined law e inputs b f c p parts resolved inside (record { factor_is = q.factor_is; potentials = q.potentials.are; added = q.added.enough })
+judged-defined law e inputs b (Cycle names delays) parts resolved inside q = tt

@@ -6,6 +6,8 @@ use Rattle.lucid_tree.specs.Levels.{Elements}
 use Rattle.lucid_tree.specs.Env.{empty}
 use Rattle.lucid_tree.specs.Meaning.{val}
 use Rattle.lucid_scope.specs.Bindings.{IsResolved}
+use Rattle.lucid_cycles.specs.declared.judgment.Judgment.{Judgment}
+use Rattle.lucid_cycles.specs.declared.judgment.Judgment.TheVariants.{Enough, Cycle}
 use Rattle.lucid_cycles.specs.Judged.{outside}
 use Rattle.lucid_cycles.specs.Graph.{Bindings}
 use Rattle.lucid_cycles.specs.Judgments.{IsEnough}
@@ -43,6 +45,11 @@ abbrev mutual
 -- The approximation at factor * t + add is defined at every time t, at each space, whatever the elements of the inputs are.
 abbrev pub IsDefinedAtDepth : PlainTree → (factor add : ℕ) → Type 0
 IsDefinedAtDepth e a c = (b : Elements) → ((n : List ℕ) (j : ℕ) → IsSome (b n j)) → (t s : ℕ) → IsSome (val b (a * t + c) e empty t s)
+
+-- The depth that a judgment says is enough.
+abbrev pub IsDefinedAsJudged : PlainTree → Judgment → Type 0
+IsDefinedAsJudged e (Enough f c p) = IsDefinedAtDepth e f c
+IsDefinedAsJudged e (Cycle names delays) = Unit {0}
 
 -- What is enough by potentials is enough.
 abbrev pub EnoughIsEnough : Type 0

@@ -4,7 +4,7 @@ ghost use Rattle.lucid_scope.specs.Scoped.{scoped_tree, scoped_binding};
 ghost use Rattle.lucid_cycles.specs.Judged.{IsJudged};
 ghost use Rattle.lucid_cycles.specs.Graph.{factor_of};
 ghost use Rattle.lucid_cycles.specs.Judgments.{IsEnough, IsJudgment, IsJudgeRefusal};
-ghost use Rattle.lucid_cycles.specs.Laws.{IsDefinedAtDepth};
+ghost use Rattle.lucid_cycles.specs.Laws.{IsDefinedAtDepth, IsDefinedAsJudged};
 
 use crate::edges::{add_tree, number_edges};
 use crate::holds::{Ask, tree_holds};
@@ -23,6 +23,7 @@ use std::alloc::Global;
 pub fn judge(alloc: Global, scoped: &Scoped) -> Result<Judgment, JudgeRefusal>
     ensures judged { OnOk result (IsJudged (scoped_tree scoped.now)) }
     ensures judgment { IfOk result (λ judgment. IsJudgment (scoped_tree scoped.now) (scoped_binding scoped.now) judgment) }
+    ensures depth { IfOk result (λ judgment. IsDefinedAsJudged (scoped_tree scoped.now) judgment) }
     ensures refusal { IfErr result (λ refusal. IsJudgeRefusal (scoped_tree scoped.now) refusal) }
 {
     let tree = scoped.tree();
@@ -39,6 +40,7 @@ pub fn judge(alloc: Global, scoped: &Scoped) -> Result<Judgment, JudgeRefusal>
     let mut found = Vec::new(alloc);
     add_tree(&mut found, scoped, None, 0, tree)?;
     let edges = number_edges(alloc, &names, &found)?;
+    enough_is_enough();
     Ok(settle(alloc, &edges, names.count)?)
 }
 

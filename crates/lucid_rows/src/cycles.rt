@@ -63,7 +63,10 @@ fn each_is_judged<R: Abort + AllocGlobal>(rt: &R, rows: &[Row]) -> Result<(), Fa
 
 // A depth is enough.
 static ENOUGH: [Row; 9] = [
-    ("x where x = 0 fby x + 1; end", "depth 1 * t + 2, potentials 0"),
+    (
+        "x where x = 0 fby x + 1; end",
+        "depth 1 * t + 2, potentials 0",
+    ),
     (
         "f where f = 0 fby g; g = 1 fby f + g; end",
         "depth 2 * t + 2, potentials 0 0",
@@ -75,7 +78,10 @@ static ENOUGH: [Row; 9] = [
         "depth 3 * t + 2, potentials 0 1 1",
     ),
     // inside `first` the delay begins again
-    ("x where x = first (0 fby x); end", "depth 1 * t + 2, potentials 0"),
+    (
+        "x where x = first (0 fby x); end",
+        "depth 1 * t + 2, potentials 0",
+    ),
     // a name that nothing demands
     (
         "1 where x = 0 fby x; y = x; end",
@@ -86,8 +92,14 @@ static ENOUGH: [Row; 9] = [
         "x where x = y where y = 0 fby x; end; end",
         "depth 2 * t + 3, potentials 1 0",
     ),
-    ("next next x where x = 0 fby x; end", "depth 1 * t + 4, potentials 0"),
-    ("0 fby x where x = 0 fby x; end", "depth 1 * t + 2, potentials 0"),
+    (
+        "next next x where x = 0 fby x; end",
+        "depth 1 * t + 4, potentials 0",
+    ),
+    (
+        "0 fby x where x = 0 fby x; end",
+        "depth 1 * t + 2, potentials 0",
+    ),
 ];
 
 #[test]
@@ -97,7 +109,10 @@ fn a_depth_is_enough(rt: HostRuntime) -> Result<(), Fail> {
 
 // A cycle has a sum of at most 0.
 static CYCLES: [Row; 8] = [
-    ("x where x = 0 fby y; y = next x; end", "cycle 0 1, delays 1 -1"),
+    (
+        "x where x = 0 fby y; y = next x; end",
+        "cycle 0 1, delays 1 -1",
+    ),
     ("x where x = next x; end", "cycle 0, delays -1"),
     ("x where x = x; end", "cycle 0, delays 0"),
     // two cycles that share a name
@@ -154,7 +169,16 @@ fn two_thousand_names_are_judged(rt: HostRuntime) -> Result<(), Fail> {
     let source = chain(rt.alloc(), 2000)?;
     let scoped = scoped_of(rt.alloc(), source.as_bytes())?;
     let judgment = judge(rt.alloc(), &scoped)?;
-    assert!(rt; matches!(judgment, Judgment::Enough { factor: 2000, add: 2, .. }));
+    assert!(rt;
+        matches!(
+            judgment,
+            Judgment::Enough {
+                factor: 2000,
+                add: 2,
+                ..
+            }
+        )
+    );
     let source = chain(rt.alloc(), 2001)?;
     let scoped = scoped_of(rt.alloc(), source.as_bytes())?;
     let refused = judge(rt.alloc(), &scoped);
@@ -184,7 +208,16 @@ fn ten_thousand_references_are_judged(rt: HostRuntime) -> Result<(), Fail> {
     let source = wide(rt.alloc(), 2000, "0")?;
     let scoped = scoped_of(rt.alloc(), source.as_bytes())?;
     let judgment = judge(rt.alloc(), &scoped)?;
-    assert!(rt; matches!(judgment, Judgment::Enough { factor: 2000, add: 2, .. }));
+    assert!(rt;
+        matches!(
+            judgment,
+            Judgment::Enough {
+                factor: 2000,
+                add: 2,
+                ..
+            }
+        )
+    );
     let source = wide(rt.alloc(), 2000, "x1999")?;
     let scoped = scoped_of(rt.alloc(), source.as_bytes())?;
     let judgment = judge(rt.alloc(), &scoped)?;
@@ -198,7 +231,10 @@ fn made(alloc: Global, last: u32) -> Result<String, AllocError> {
     write!(text, "v{last} where\nv0 = 1 fby (v0 + 1) mod 1000;\n")?;
     for number in 1..=last {
         let before = number - 1;
-        write!(text, "v{number} = v{before} fby (v{number} + v{before}) mod 1000;\n")?;
+        write!(
+            text,
+            "v{number} = v{before} fby (v{number} + v{before}) mod 1000;\n"
+        )?;
     }
     text.push_str("end")?;
     Ok(text)
@@ -209,7 +245,16 @@ fn a_made_program_is_judged(rt: HostRuntime) -> Result<(), Fail> {
     let source = made(rt.alloc(), 1000)?;
     let scoped = scoped_of(rt.alloc(), source.as_bytes())?;
     let judgment = judge(rt.alloc(), &scoped)?;
-    assert!(rt; matches!(&judgment, Judgment::Enough { factor: 1001, add: 1002, .. }));
+    assert!(rt;
+        matches!(
+            &judgment,
+            Judgment::Enough {
+                factor: 1001,
+                add: 1002,
+                ..
+            }
+        )
+    );
     if let Judgment::Enough { potentials, .. } = &judgment {
         assert!(rt; potentials.items().iter().copied().eq(0..1001));
     }
@@ -220,7 +265,16 @@ fn a_made_program_is_judged(rt: HostRuntime) -> Result<(), Fail> {
 fn a_depth_is_checked(rt: HostRuntime) -> Result<(), Fail> {
     let scoped = scoped_of(rt.alloc(), b"x where x = y where y = 0 fby x; end; end")?;
     let judgment = judge(rt.alloc(), &scoped)?;
-    assert!(rt; matches!(judgment, Judgment::Enough { factor: 2, add: 3, .. }));
+    assert!(rt;
+        matches!(
+            judgment,
+            Judgment::Enough {
+                factor: 2,
+                add: 3,
+                ..
+            }
+        )
+    );
     let potentials = Numbers::from_vec(vec![in rt.alloc(); 1, 0]?);
     assert!(rt; enough(&scoped, 2, 3, &potentials));
     assert!(rt; enough(&scoped, 2, 4, &potentials));

@@ -2,14 +2,15 @@ use Rattle.std.proofs.Common.{◌≡◌, ◌++◌, length, fold, None, sym, ap, 
 use Rattle.std.specs.Prelude.{pos}
 use Rattle.std.specs.List.{All}
 use Rattle.lucid_tree.specs.Tree.{PlainTree}
-use Rattle.lucid_scope.specs.Scoped.{scoped_tree, scoped_binding}
+use Rattle.lucid_scope.specs.Scoped.{scoped_tree, scoped_inputs, scoped_binding}
 use Rattle.lucid_cycles.specs.Judged.{outside, plain_names}
 use Rattle.lucid_cycles.specs.Graph.{Bindings, edges, graph}
+use Rattle.lucid_cycles.specs.Laws.{HasParts}
 use Rattle.lucid_cycles.specs.Rounds.{IsSmall}
 use Rattle.lucid_cycles.specs.Walks.{lesser, with_name}
 use Rattle.lucid_cycles.proofs.Small.{graph-small}
 use Rattle.lucid_cycles.proofs.Table.{none-outside, first-outside}
-use Rattle.lucid_cycles.proofs.Descended.{HasNames, has-names, too-many, graph-is, judgment-is}
+use Rattle.lucid_cycles.proofs.Descended.{HasNames, has-names, too-many, graph-is, judgment-is, judged-defined}
 use Rattle.lucid_cycles.proofs.judging.judge.Goals as goal
 
 pub returns-in-Some-clause-refusal : goal.returns-in-Some-clause-refusal
@@ -53,3 +54,9 @@ returns-clause-judgment c =
     c.deref.ensures.value ∙ c.in_ok-add_tree.ensures ∙ ap (λ z. z ++ edges b None (pos 0) c.tree-tree.result.now) c.new-found.ensures.items ∙ ap (edges b None (pos 0)) c.tree-tree.ensures.value in
     let g : c.deref-2.result.now ≡ graph e b = graph-is e b c.list_tree.new.names c.deref.result.now c.deref-2.result.now h f (c.deref-2.ensures.value ∙ c.in_ok-edges.ensures) in
     judgment-is e b c.deref-2.result.now c.list_tree.new.names.count c.in_ok-settle.field-0 g h.count c.in_ok-settle.ensures
+
+pub returns-clause-depth : goal.returns-clause-depth
+returns-clause-depth c =
+    let e : PlainTree = scoped_tree c.args.scoped.now in
+    judged-defined c.enough_is_enough.ensures e (scoped_inputs c.args.scoped.now) (scoped_binding c.args.scoped.now) c.in_ok-settle.field-0 (subst HasParts c.tree-tree.ensures.value c.list_tree.ensures.parts) c.tree-tree.ensures.resolved
+    (returns-clause-judged c).inside (returns-clause-judgment c)
