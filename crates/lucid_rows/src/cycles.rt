@@ -201,8 +201,8 @@ fn wide(alloc: Global, count: u32, last: &str) -> Result<String, AllocError> {
     Ok(text)
 }
 
-// The potential of each name is its number, so there are as many rounds as names; with an edge back to the last name the one cycle
-// without delay through all of them is found after all rounds.
+// Each name needs the one before it, so potentials rise in as many rounds as there are names; with the last name in the place of 0
+// there are cycles without delay.
 #[test]
 fn ten_thousand_references_are_judged(rt: HostRuntime) -> Result<(), Fail> {
     let source = wide(rt.alloc(), 2000, "0")?;
