@@ -2,20 +2,18 @@
 #![tactic(auto)]
 
 use lucid_ports::{RealPlaces, RealSink};
-use lucid_top::{Answer, Status, lucid, tell};
-use std::alloc::AllocError;
+use lucid_top::{Refusal, Status, Stop, lucid, tell};
 use std::process::ExitCode;
 use std::{env, io};
 
-// The words of the command line; `Answer::Usage` where one isn't UTF-8.
-fn all_words(rt: &HostRuntime) -> Result<Vec<String>, Answer> {
+// The words of the command line; they are refused as usage where one isn't UTF-8.
+fn all_words(rt: &HostRuntime) -> Result<Vec<String>, Stop> {
     let words = env::args(rt).map_err(|error| match error.kind() {
-        io::ErrorKind::InvalidData => Answer::Usage,
-        _ => Answer::NoMemory,
+        io::ErrorKind::InvalidData => Stop::Refused(Refusal::Usage),
+        _ => Stop::NoMemory,
     })?;
-    words
-        .collect(rt.alloc())
-        .map_err(|_: AllocError| Answer::NoMemory)
+    let words = words.collect(rt.alloc())?;
+    Ok(words)
 }
 
 // The status of a call over the real files and streams.
@@ -23,7 +21,7 @@ fn real_status(rt: &HostRuntime) -> Status {
     let mut report = RealSink::make(rt.stderr());
     let words = match all_words(rt) {
         Ok(words) => words,
-        Err(answer) => return tell(&mut report, answer),
+        Err(stop) => return tell(&mut report, &Err(stop)),
     };
     let words = match words.as_slice() {
         [_, words @ ..] => words,

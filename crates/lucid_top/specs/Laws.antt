@@ -1,17 +1,28 @@
 -- What holds of every source.
 use Rattle.std.specs.Prelude.{◌≡◌, ℕ, List}
 use Rattle.lucid_tree.specs.Tree.{PlainTree}
+use Rattle.lucid_tree.specs.WellMade.{IsWellMade}
+use Rattle.lucid_scope.specs.Bindings.{HasNoFault}
 use Rattle.lucid_top.specs.declared.refusal.Refusal.{Refusal}
-use Rattle.lucid_top.specs.Judged.{IsProgram, RefusedAs}
+use Rattle.lucid_top.specs.Judged.{Spelt, RefusesText, RefusesNames, HasInputs}
 
--- A program isn't refused.
-abbrev pub ProgramIsNotRefused : Type 0
-ProgramIsNotRefused = (source : List ℕ) (p : PlainTree) (why : Refusal) → IsProgram source p → RefusedAs source why → ⊥
+-- A source spells at most one tree, and none where its text is refused; and its text has at most one refusal.
+abbrev pub OneTree : Type 0
+OneTree = (source : List ℕ) (p q : PlainTree) → Spelt source p → Spelt source q → p ≡ q
 
--- A source is at most one program.
-abbrev pub OneProgram : Type 0
-OneProgram = (source : List ℕ) (p q : PlainTree) → IsProgram source p → IsProgram source q → p ≡ q
+abbrev pub TreeIsNotRefused : Type 0
+TreeIsNotRefused = (source : List ℕ) (p : PlainTree) (why : Refusal) → Spelt source p → RefusesText source why → ⊥
 
--- A source has at most one refusal.
-abbrev pub OneRefusal : Type 0
-OneRefusal = (source : List ℕ) (v w : Refusal) → RefusedAs source v → RefusedAs source w → v ≡ w
+abbrev pub OneTextRefusal : Type 0
+OneTextRefusal = (source : List ℕ) (v w : Refusal) → RefusesText source v → RefusesText source w → v ≡ w
+
+-- The names of a tree are not refused where none is at fault; those of a well-made tree have at most one refusal, and it has one list of
+-- free names.
+abbrev pub NamesAreNotRefused : Type 0
+NamesAreNotRefused = (p : PlainTree) (why : Refusal) → HasNoFault p → RefusesNames p why → ⊥
+
+abbrev pub OneNameRefusal : Type 0
+OneNameRefusal = (p : PlainTree) (v w : Refusal) → IsWellMade p → RefusesNames p v → RefusesNames p w → v ≡ w
+
+abbrev pub OneListOfInputs : Type 0
+OneListOfInputs = (p : PlainTree) (a b : List (List ℕ)) → IsWellMade p → HasInputs p a → HasInputs p b → a ≡ b

@@ -1,5 +1,6 @@
--- The refusals of the scanner, the parser and the scopes as refusals of a source; want of memory is none.
-use Rattle.std.specs.Prelude.{Option, Some, None}
+-- The refusals of the words, the scanner, the parser and the scopes, as a call's own. Want of memory is no refusal.
+use Rattle.lucid_words.specs.declared.WordsRefusal.{WordsRefusal}
+use Rattle.lucid_words.specs.declared.WordsRefusal.TheVariants as words
 use Rattle.lucid_scan.specs.declared.refusal.ScanRefusal.{ScanRefusal}
 use Rattle.lucid_scan.specs.declared.refusal.ScanRefusal.TheVariants as scan
 use Rattle.lucid_parse.specs.declared.refusal.ParseRefusal.{ParseRefusal}
@@ -8,23 +9,35 @@ use Rattle.lucid_scope.specs.declared.refusal.ScopeRefusal.{ScopeRefusal}
 use Rattle.lucid_scope.specs.declared.refusal.ScopeRefusal.TheVariants as scope
 use Rattle.lucid_top.specs.declared.refusal.Refusal.{Refusal}
 use Rattle.lucid_top.specs.declared.refusal.Refusal.TheVariants as refusal
+use Rattle.lucid_top.specs.declared.stop.Stop.{Stop}
+use Rattle.lucid_top.specs.declared.stop.Stop.TheVariants as stop
 
-abbrev pub scan_refusal : ScanRefusal → Option Refusal
-scan_refusal scan.TooLong = Some refusal.TooLong
-scan_refusal (scan.BadByte at) = Some (refusal.BadByte at)
-scan_refusal (scan.OpenText at) = Some (refusal.OpenText at)
-scan_refusal (scan.BigNumber at) = Some (refusal.BigNumber at)
-scan_refusal scan.NoMemory = None
+abbrev pub words_stop : WordsRefusal → Stop
+words_stop words.Usage = stop.Refused refusal.Usage
+words_stop words.NoMemory = stop.NoMemory
 
-abbrev pub parse_refusal : ParseRefusal → Option Refusal
-parse_refusal (parse.Syntax at) = Some (refusal.Syntax at)
-parse_refusal (parse.TooNested at) = Some (refusal.TooNested at)
-parse_refusal parse.NoMemory = None
+abbrev pub scan_stop : ScanRefusal → Stop
+scan_stop scan.TooLong = stop.Refused refusal.TooLong
+scan_stop (scan.BadByte at) = stop.Refused (refusal.BadByte at)
+scan_stop (scan.OpenText at) = stop.Refused (refusal.OpenText at)
+scan_stop (scan.BigNumber at) = stop.Refused (refusal.BigNumber at)
+scan_stop scan.NoMemory = stop.NoMemory
 
-abbrev pub scope_refusal : ScopeRefusal → Option Refusal
-scope_refusal (scope.Twice at) = Some (refusal.Twice at)
-scope_refusal (scope.NoFunction at) = Some (refusal.NoFunction at)
-scope_refusal (scope.NotFunction at) = Some (refusal.NotFunction at)
-scope_refusal (scope.IsFunction at) = Some (refusal.IsFunction at)
-scope_refusal (scope.Arity at wanted given) = Some (refusal.Arity at wanted given)
-scope_refusal scope.NoMemory = None
+abbrev pub parse_stop : ParseRefusal → Stop
+parse_stop (parse.Syntax at) = stop.Refused (refusal.Syntax at)
+parse_stop (parse.TooNested at) = stop.Refused (refusal.TooNested at)
+parse_stop parse.NoMemory = stop.NoMemory
+
+abbrev pub scope_stop : ScopeRefusal → Stop
+scope_stop (scope.Twice at) = stop.Refused (refusal.Twice at)
+scope_stop (scope.NoFunction at) = stop.Refused (refusal.NoFunction at)
+scope_stop (scope.NotFunction at) = stop.Refused (refusal.NotFunction at)
+scope_stop (scope.IsFunction at) = stop.Refused (refusal.IsFunction at)
+scope_stop (scope.Arity at wanted given) = stop.Refused (refusal.Arity at wanted given)
+scope_stop scope.NoMemory = stop.NoMemory
+
+-- The call stops by a refusal of which this holds, or for want of memory.
+abbrev pub IsRefusalOf : (Refusal → Type 0) → Stop → Type 0
+IsRefusalOf P (stop.Refused why) = P why
+IsRefusalOf P stop.NoMemory = Unit {0}
+IsRefusalOf P _ = ⊥

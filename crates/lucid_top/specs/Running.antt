@@ -1,16 +1,42 @@
--- What comes of running a program without inputs: c lines at most, by the approximation n.
-use Rattle.std.specs.Prelude.{ℕ, List, Option}
-use Rattle.lucid_tree.specs.Tree.{PlainTree}
+-- What the outcome of a run says besides the lines.
+use Rattle.std.specs.Prelude.{◌≡◌, ℕ, ◌+◌, ◌≤◌, Bool, List, Some, IfSome, Ok, Err, slice_get}
 use Rattle.lucid_ports.specs.Faults.{Rises}
-use Rattle.lucid_top.specs.declared.answer.Answer.{Answer}
-use Rattle.lucid_top.specs.declared.answer.Answer.TheVariants as answer
-use Rattle.lucid_top.specs.Printing.{PrintsFront, IsDone, IsTooDeep}
+use Rattle.lucid_ports.specs.declared.run.RunFault.{RunFault}
+use Rattle.lucid_ports.specs.declared.run.RunFault.TheVariants as fault
+use Rattle.lucid_words.specs.Asked.{PlainWords}
+use Rattle.lucid_top.specs.declared.stop.Done.TheVariants as done
+use Rattle.lucid_top.specs.declared.stop.Stop.{Stop}
+use Rattle.lucid_top.specs.declared.stop.Stop.TheVariants as stop
+use Rattle.lucid_top.specs.Status.{Outcome}
+use Rattle.lucid_top.specs.Tasks.{wants_figures}
+use Rattle.lucid_top.specs.Runs.{policy_named}
 
-abbrev pub RunAnswers : PlainTree → (c n : ℕ) → Answer → (old new : Option (List ℕ)) → (faults_before faults_after : ℕ) → Type 0
-RunAnswers p c n answer.Done old new f g = IsDone p c old new
-RunAnswers p c n (answer.TooDeep time) old new f g = IsTooDeep p n c time old new
-RunAnswers p c n answer.WriteFault old new f g = PrintsFront p c old new × Rises f g
-RunAnswers p c n answer.NoMemory old new f g = PrintsFront p c old new
-RunAnswers p c n (answer.Refused why) old new f g = ⊥
-RunAnswers p c n answer.Usage old new f g = ⊥
-RunAnswers p c n answer.ReadFault old new f g = ⊥
+-- at most one more value is held than the policy of the words leaves
+abbrev pub HoldsWithin : PlainWords → (held : ℕ) → Type 0
+HoldsWithin w held = IfSome (policy_named w.policy w.age w.room).room (λ most. held ≤ most + 1)
+
+-- A run by these words, of a program with these free names, has such outcomes alone. The counts of faults are those of the places and
+-- of the output.
+abbrev pub RunComesOnly : PlainWords → (free : List (List ℕ)) → (faults faults' out_faults out_faults' : ℕ) → Outcome → Type 0
+RunComesOnly w free f f' g g' (Ok (done.Ran summary stats)) = (stats ≡ wants_figures w) × HoldsWithin w summary.held
+RunComesOnly w free f f' g g' (Ok done.Printed) = ⊥
+RunComesOnly w free f f' g g' (Err (stop.Refused why)) = ⊥
+RunComesOnly w free f f' g g' (Err stop.ReadFault) = Rises f f'
+RunComesOnly w free f f' g g' (Err stop.WriteFault) = Rises g g'
+RunComesOnly w free f f' g g' (Err (stop.TooDeep time lost cleared stats)) = stats ≡ wants_figures w
+RunComesOnly w free f f' g g' (Err (stop.TooLarge stream name)) = slice_get free stream ≡ Some name
+RunComesOnly w free f f' g g' (Err stop.NoMemory) = Unit {0}
+
+-- the input of that number is too large, by its name, or there was no memory
+abbrev pub IsLargeStop : (free : List (List ℕ)) → (stream : ℕ) → Stop → Type 0
+IsLargeStop free k (stop.TooLarge stream name) = (stream ≡ k) × (slice_get free k ≡ Some name)
+IsLargeStop free k stop.NoMemory = Unit {0}
+IsLargeStop free k _ = ⊥
+
+-- why a run stopped, as what stops the call
+abbrev pub IsRunStop : (free : List (List ℕ)) → (stats : Bool) → RunFault → Stop → Type 0
+IsRunStop free stats (fault.TooDeep time lost cleared) s = s ≡ stop.TooDeep time lost cleared stats
+IsRunStop free stats fault.ReadFault s = s ≡ stop.ReadFault
+IsRunStop free stats fault.WriteFault s = s ≡ stop.WriteFault
+IsRunStop free stats (fault.TooLarge stream) s = IsLargeStop free stream s
+IsRunStop free stats fault.NoMemory s = s ≡ stop.NoMemory

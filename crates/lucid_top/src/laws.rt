@@ -1,5 +1,5 @@
-// What holds of every source.
-ghost use Rattle.lucid_top.specs.Laws.{ProgramIsNotRefused, OneProgram, OneRefusal};
+//! What holds of every source and every tree.
+ghost use Rattle.lucid_top.specs.Laws.{OneTree, TreeIsNotRefused, OneTextRefusal, NamesAreNotRefused, OneNameRefusal, OneListOfInputs};
 
 use lucid_parse::laws::{
     fault_is_unique, terminals_are_unique, terminals_spell_one_tree, tokens_spell_one_tree,
@@ -7,11 +7,15 @@ use lucid_parse::laws::{
 use lucid_scan::laws::{refusal_is_unique, tokens_are_not_refused, tokens_are_unique};
 use lucid_scope::laws::least_fault_is_unique;
 
-/// A source is at most one program, and none where it is refused; and it has at most one refusal.
+/// A source spells one tree or has one refusal, and not both; the names of a tree that is well made have no fault or one, and the tree
+/// one list of free names.
 pub fn one_verdict()
-    ensures not_refused { ProgramIsNotRefused }
-    ensures one_program { OneProgram }
-    ensures one_refusal { OneRefusal }
+    ensures one_tree { OneTree }
+    ensures not_refused { TreeIsNotRefused }
+    ensures one_text_refusal { OneTextRefusal }
+    ensures names_not_refused { NamesAreNotRefused }
+    ensures one_name_refusal { OneNameRefusal }
+    ensures one_list { OneListOfInputs }
 {
     tokens_are_unique();
     tokens_are_not_refused();

@@ -1,20 +1,21 @@
-//! The command whole: it runs a pLucid program and writes the values of its stream, one a line.
+//! The command whole: it runs a pLucid program and writes the values of its stream, one a line, or prints its source.
 #![tactic(auto)]
 
-pub use crate::answer::Answer;
 pub use crate::refusal::Refusal;
 pub use crate::report::tell;
 pub use crate::status::Status;
+pub use crate::stop::{Done, Stop};
 pub use crate::top::lucid;
 
-mod answer;
+mod files;
 mod judging;
 mod laws;
+mod places;
+mod printing;
 mod refusal;
 mod report;
 mod running;
-mod source;
 mod status;
+mod stop;
+mod task;
 mod top;
-mod verdict;
-mod words;

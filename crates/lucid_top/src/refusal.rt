@@ -1,15 +1,14 @@
-// Why a source is refused.
-ghost use Rattle.std.specs.Prelude.{◌≡◌};
-ghost use Rattle.lucid_top.specs.Refusals.{scan_refusal, parse_refusal, scope_refusal};
+//! Why a call is refused.
+use lucid_value::Name;
 
-use lucid_parse::ParseRefusal;
-use lucid_scan::ScanRefusal;
-use lucid_scope::ScopeRefusal;
-
-/// Why a source is refused. A place is an offset in bytes.
-#[derive(Clone, Copy)]
+/// Why a call is refused, in the order in which the causes are looked for. A place is an offset in bytes.
+#[derive(Drop)]
 pub enum Refusal {
-    /// It has more than 1,048,576 bytes.
+    /// The words are refused.
+    Usage,
+    /// What the words ask for isn't built yet.
+    NotBuilt,
+    /// The source has more than 1,048,576 bytes.
     TooLong,
     /// No token begins at the place, and neither a number nor an open text does.
     BadByte { at: u32 },
@@ -31,46 +30,10 @@ pub enum Refusal {
     IsFunction { at: u32 },
     /// A call with another number of arguments than the function has parameters.
     Arity { at: u32, wanted: u32, given: u32 },
-    /// A program with inputs, or with a tree more than 30 deep.
-    NotBuilt,
-}
-
-impl Refusal {
-    /// The scanner's refusal; none for want of memory.
-    pub fn of_scan(refusal: ScanRefusal) -> Option<Refusal>
-        ensures { result ≡ scan_refusal refusal }
-    {
-        match refusal {
-            ScanRefusal::TooLong => Some(Refusal::TooLong),
-            ScanRefusal::BadByte { at } => Some(Refusal::BadByte { at }),
-            ScanRefusal::OpenText { at } => Some(Refusal::OpenText { at }),
-            ScanRefusal::BigNumber { at } => Some(Refusal::BigNumber { at }),
-            ScanRefusal::NoMemory => None,
-        }
-    }
-
-    /// The parser's refusal; none for want of memory.
-    pub fn of_parse(refusal: ParseRefusal) -> Option<Refusal>
-        ensures { result ≡ parse_refusal refusal }
-    {
-        match refusal {
-            ParseRefusal::Syntax { at } => Some(Refusal::Syntax { at }),
-            ParseRefusal::TooNested { at } => Some(Refusal::TooNested { at }),
-            ParseRefusal::NoMemory => None,
-        }
-    }
-
-    /// The refusal of a tree's names; none for want of memory.
-    pub fn of_scope(refusal: ScopeRefusal) -> Option<Refusal>
-        ensures { result ≡ scope_refusal refusal }
-    {
-        match refusal {
-            ScopeRefusal::Twice { at } => Some(Refusal::Twice { at }),
-            ScopeRefusal::NoFunction { at } => Some(Refusal::NoFunction { at }),
-            ScopeRefusal::NotFunction { at } => Some(Refusal::NotFunction { at }),
-            ScopeRefusal::IsFunction { at } => Some(Refusal::IsFunction { at }),
-            ScopeRefusal::Arity { at, wanted, given } => Some(Refusal::Arity { at, wanted, given }),
-            ScopeRefusal::NoMemory => None,
-        }
-    }
+    /// A file is given for a name that isn't free.
+    NotFree { name: Name },
+    /// A file is given for a name for which an earlier word gave one.
+    GivenTwice { name: Name },
+    /// No file is given for two free names or more.
+    NoInput,
 }

@@ -1,20 +1,47 @@
-// The report: one line of fixed texts and digits, which takes no memory.
-ghost use Rattle.std.specs.Prelude.{◌≡◌, ◌≤◌, ◌++◌, codes, decimal};
-ghost use Rattle.lucid_top.specs.Lines.{line_at, refusal_line, answer_line};
-ghost use Rattle.lucid_top.specs.Telling.{joined, WritesLine, Tells};
+//! The report: one line of fixed texts, names and digits, which takes no memory.
+ghost use Rattle.std.specs.Prelude.{◌≤◌, ◌++◌, ◌∷◌, []};
+ghost use Rattle.lucid_top.specs.Call.{told};
+ghost use Rattle.lucid_top.specs.Lines.{line_of, line_at, refusal_line, depth_line, figures_line, stop_line, outcome_line};
+ghost use Rattle.lucid_top.specs.Telling.{WritesLine, Tells};
 
-use crate::answer::Answer;
 use crate::refusal::Refusal;
 use crate::status::Status;
+use crate::stop::{Done, Stop};
 use itoa::Buffer;
-use lucid_ports::{PortFault, Sink, write_whole};
+use lucid_ports::{PortFault, Sink, Summary, write_whole};
+use lucid_value::Name;
 
-// Writes pieces, one behind the other.
-fn write_pieces<E: Sink>(report: &mut E, pieces: &[&[u8]]) -> Result<(), PortFault>
-    ensures { WritesLine (joined pieces.now) result (E.written report.old) (E.written report.new) (E.faults report.old) (E.faults report.new) }
+const USAGE: &[u8] =
+    b"usage: lucid [--count N] [--depth N] [--policy keep|none|age|last] [--age K] [--room N] [--stats] [--print] [--columns LIST] [--cycles] [--why T] [--check FILE] [--flat] [--from-flat] PROGRAM [NAME=FILE]... | lucid --make N\n";
+
+// A part of a line.
+#[derive(Clone, Copy)]
+enum Part<'a> {
+    // these bytes
+    Text(&'a [u8]),
+    // the digits of a number
+    Number(u64),
+}
+
+use Part::{Number, Text};
+
+// Writes one part of a line.
+fn write_part<E: Sink>(report: &mut E, part: Part<'_>) -> Result<(), PortFault>
+    ensures line { WritesLine (line_of (part.entry ∷ [])) result (told E.written E.faults report.old) (told E.written E.faults report.new) }
+    ensures count { E.faults report.old ≤ E.faults report.new }
 {
-    for piece in pieces {
-        match write_whole(report, piece) {
+    match part {
+        Text(text) => write_whole(report, text),
+        Number(number) => write_whole(report, Buffer::new().format(number).as_bytes()),
+    }
+}
+
+// Writes a line of these parts.
+fn write_line<E: Sink>(report: &mut E, parts: &[Part<'_>]) -> Result<(), PortFault>
+    ensures { WritesLine (line_of parts.now) result (told E.written E.faults report.old) (told E.written E.faults report.new) }
+{
+    for part in parts {
+        match write_part(report, *part) {
             Ok(()) => {}
             Err(fault) => return Err(fault),
         }
@@ -22,92 +49,165 @@ fn write_pieces<E: Sink>(report: &mut E, pieces: &[&[u8]]) -> Result<(), PortFau
     Ok(())
 }
 
-// Writes a line whole.
-fn write_text<E: Sink>(report: &mut E, line: &[u8]) -> Result<(), PortFault>
-    ensures { WritesLine line.now result (E.written report.old) (E.written report.new) (E.faults report.old) (E.faults report.new) }
-{
-    write_whole(report, line)
-}
-
-// Writes a text, a number and a line feed.
+// Writes a line that ends with a number.
 fn write_at<E: Sink>(report: &mut E, text: &[u8], number: u64) -> Result<(), PortFault>
-    ensures { WritesLine (line_at text.now number) result (E.written report.old) (E.written report.new) (E.faults report.old) (E.faults report.new) }
+    ensures { WritesLine (line_at text.now number) result (told E.written E.faults report.old) (told E.written E.faults report.new) }
 {
-    let mut digits = Buffer::new();
-    let number = digits.format(number).as_bytes();
-    write_pieces(report, &[text, number, b"\n".as_slice()])
+    write_line(report, &[Text(text), Number(number), Text(b"\n")])
 }
 
 // Writes the line of a call with another number of arguments than the function has parameters.
 fn write_arity<E: Sink>(report: &mut E, at: u32, wanted: u32, given: u32) -> Result<(), PortFault>
-    ensures { WritesLine (refusal_line (Refusal.Arity at wanted given)) result (E.written report.old) (E.written report.new) (E.faults report.old) (E.faults report.new) }
+    ensures { WritesLine (refusal_line (Refusal.Arity at wanted given)) result (told E.written E.faults report.old) (told E.written E.faults report.new) }
 {
-    let mut place = Buffer::new();
-    let mut parameters = Buffer::new();
-    let mut arguments = Buffer::new();
-    let at = place.format(at).as_bytes();
-    let wanted = parameters.format(wanted).as_bytes();
-    let given = arguments.format(given).as_bytes();
-    write_pieces(
+    write_line(
         report,
         &[
-            b"wrong number of arguments at ".as_slice(),
-            at,
-            b": ".as_slice(),
-            wanted,
-            b" wanted, ".as_slice(),
-            given,
-            b" given\n".as_slice(),
+            Text(b"wrong number of arguments at "),
+            Number(u64::from(at)),
+            Text(b": "),
+            Number(u64::from(wanted)),
+            Text(b" wanted, "),
+            Number(u64::from(given)),
+            Text(b" given\n"),
         ],
     )
 }
 
+// Writes a line whole.
+fn write_text<E: Sink>(report: &mut E, line: &[u8]) -> Result<(), PortFault>
+    ensures { WritesLine line.now result (told E.written E.faults report.old) (told E.written E.faults report.new) }
+{
+    write_line(report, &[Text(line)])
+}
+
+// Writes a text, a name and another text.
+fn write_named<E: Sink>(
+    report: &mut E,
+    before: &[u8],
+    name: &Name,
+    after: &[u8],
+) -> Result<(), PortFault>
+    ensures { WritesLine (before.now ++ (name.now ++ after.now)) result (told E.written E.faults report.old) (told E.written E.faults report.new) }
+{
+    write_line(report, &[Text(before), Text(name.bytes()), Text(after)])
+}
+
 // Writes the line of a refusal.
-fn write_refusal<E: Sink>(report: &mut E, refusal: Refusal) -> Result<(), PortFault>
-    ensures { WritesLine (refusal_line refusal) result (E.written report.old) (E.written report.new) (E.faults report.old) (E.faults report.new) }
+fn write_refusal<E: Sink>(report: &mut E, refusal: &Refusal) -> Result<(), PortFault>
+    ensures { WritesLine (refusal_line refusal.now) result (told E.written E.faults report.old) (told E.written E.faults report.new) }
 {
     match refusal {
-        Refusal::TooLong => write_text(report, b"source too long\n"),
-        Refusal::BadByte { at } => write_at(report, b"bad byte at ", u64::from(at)),
-        Refusal::OpenText { at } => write_at(report, b"open text at ", u64::from(at)),
-        Refusal::BigNumber { at } => write_at(report, b"number too big at ", u64::from(at)),
-        Refusal::Syntax { at } => write_at(report, b"syntax at ", u64::from(at)),
-        Refusal::TooNested { at } => write_at(report, b"too nested at ", u64::from(at)),
-        Refusal::Twice { at } => write_at(report, b"defined twice at ", u64::from(at)),
-        Refusal::NoFunction { at } => write_at(report, b"no such function at ", u64::from(at)),
-        Refusal::NotFunction { at } => write_at(report, b"not a function at ", u64::from(at)),
-        Refusal::IsFunction { at } => {
-            write_at(report, b"function without arguments at ", u64::from(at))
-        }
-        Refusal::Arity { at, wanted, given } => write_arity(report, at, wanted, given),
+        Refusal::Usage => write_text(report, USAGE),
         Refusal::NotBuilt => write_text(report, b"not built yet\n"),
+        Refusal::TooLong => write_text(report, b"source too long\n"),
+        Refusal::BadByte { at } => write_at(report, b"bad byte at ", u64::from(*at)),
+        Refusal::OpenText { at } => write_at(report, b"open text at ", u64::from(*at)),
+        Refusal::BigNumber { at } => write_at(report, b"number too big at ", u64::from(*at)),
+        Refusal::Syntax { at } => write_at(report, b"syntax at ", u64::from(*at)),
+        Refusal::TooNested { at } => write_at(report, b"too nested at ", u64::from(*at)),
+        Refusal::Twice { at } => write_at(report, b"defined twice at ", u64::from(*at)),
+        Refusal::NoFunction { at } => write_at(report, b"no such function at ", u64::from(*at)),
+        Refusal::NotFunction { at } => write_at(report, b"not a function at ", u64::from(*at)),
+        Refusal::IsFunction { at } => {
+            write_at(report, b"function without arguments at ", u64::from(*at))
+        }
+        Refusal::Arity { at, wanted, given } => write_arity(report, *at, *wanted, *given),
+        Refusal::NotFree { name } => write_named(report, b"no input is named ", name, b"\n"),
+        Refusal::GivenTwice { name } => write_named(report, b"", name, b" is given twice\n"),
+        Refusal::NoInput => write_text(report, b"no input for two names\n"),
     }
 }
 
-// Writes the line of an answer.
-fn write_answer<E: Sink>(report: &mut E, answer: Answer) -> Result<(), PortFault>
-    ensures { WritesLine (answer_line answer) result (E.written report.old) (E.written report.new) (E.faults report.old) (E.faults report.new) }
+// Writes the line of a value that is too deep, with the two counts of the run or without.
+fn write_depth<E: Sink>(
+    report: &mut E,
+    time: u64,
+    lost: u64,
+    cleared: u64,
+    stats: bool,
+) -> Result<(), PortFault>
+    ensures { WritesLine (depth_line time lost cleared stats) result (told E.written E.faults report.old) (told E.written E.faults report.new) }
 {
-    match answer {
-        Answer::Done => write_text(report, b""),
-        Answer::Refused(refusal) => write_refusal(report, refusal),
-        Answer::Usage => write_text(
+    if stats {
+        write_line(
             report,
-            b"usage: lucid [--count N] [--depth N] [--policy keep|none|age|last] [--age K] [--room N] [--stats] [--print] [--columns LIST] [--cycles] [--why T] [--check FILE] [--flat] [--from-flat] PROGRAM [NAME=FILE]... | lucid --make N\n",
-        ),
-        Answer::ReadFault => write_text(report, b"read fault\n"),
-        Answer::WriteFault => write_text(report, b"write fault\n"),
-        Answer::TooDeep { time } => write_at(report, b"too deep at time ", time),
-        Answer::NoMemory => write_text(report, b"no memory\n"),
+            &[
+                Text(b"too deep at time "),
+                Number(time),
+                Text(b" lost "),
+                Number(lost),
+                Text(b" cleared "),
+                Number(cleared),
+                Text(b"\n"),
+            ],
+        )
+    } else {
+        write_at(report, b"too deep at time ", time)
     }
 }
 
-/// Reports an answer, and gives the status. A fault of the report doesn't change it.
-pub fn tell<E: Sink>(report: &mut E, answer: Answer) -> Status
-    ensures { Tells answer result (E.written report.old) (E.written report.new) (E.faults report.old) (E.faults report.new) }
+// Writes the line of a call that was stopped.
+fn write_stop<E: Sink>(report: &mut E, stop: &Stop) -> Result<(), PortFault>
+    ensures { WritesLine (stop_line stop.now) result (told E.written E.faults report.old) (told E.written E.faults report.new) }
 {
-    match write_answer(report, answer) {
-        Ok(()) | Err(PortFault::Failed) => answer.status(),
+    match stop {
+        Stop::Refused(refusal) => write_refusal(report, refusal),
+        Stop::ReadFault => write_text(report, b"read fault\n"),
+        Stop::WriteFault => write_text(report, b"write fault\n"),
+        Stop::TooDeep {
+            time,
+            lost,
+            cleared,
+            stats,
+        } => write_depth(report, *time, *lost, *cleared, *stats),
+        Stop::TooLarge { name, .. } => write_named(report, b"input ", name, b" too large\n"),
+        Stop::NoMemory => write_text(report, b"no memory\n"),
+    }
+}
+
+// Writes the line of the figures of a run.
+fn write_figures<E: Sink>(report: &mut E, summary: Summary) -> Result<(), PortFault>
+    ensures { WritesLine (figures_line summary) result (told E.written E.faults report.old) (told E.written E.faults report.new) }
+{
+    write_line(
+        report,
+        &[
+            Text(b"lines "),
+            Number(u64::from(summary.lines)),
+            Text(b" held "),
+            Number(summary.held),
+            Text(b" lost "),
+            Number(summary.lost),
+            Text(b" cleared "),
+            Number(summary.cleared),
+            Text(b"\n"),
+        ],
+    )
+}
+
+// Writes the line of what comes of a call, if there is one.
+fn write_outcome<E: Sink>(report: &mut E, outcome: &Result<Done, Stop>) -> Result<(), PortFault>
+    ensures { WritesLine (outcome_line outcome.now) result (told E.written E.faults report.old) (told E.written E.faults report.new) }
+{
+    match outcome {
+        Ok(
+            Done::Ran {
+                summary,
+                stats: true,
+            },
+        ) => write_figures(report, *summary),
+        Ok(Done::Ran { stats: false, .. } | Done::Printed) => Ok(()),
+        Err(stop) => write_stop(report, stop),
+    }
+}
+
+/// Reports what comes of a call, and gives the status. A fault of the report doesn't change it.
+pub fn tell<E: Sink>(report: &mut E, outcome: &Result<Done, Stop>) -> Status
+    ensures { Tells outcome.now result (told E.written E.faults report.old) (told E.written E.faults report.new) }
+{
+    match write_outcome(report, outcome) {
+        Ok(()) | Err(PortFault::Failed) => Status::of(outcome),
         Err(PortFault::NoMemory) => Status::NoMemory,
     }
 }

@@ -1,39 +1,132 @@
-// Running a program without inputs.
-ghost use Rattle.std.specs.Prelude.{◌≡◌, min};
-ghost use Rattle.lucid_tree.specs.WellMade.{IsWellMade};
-ghost use Rattle.lucid_top.specs.Running.{RunAnswers};
+//! Running a program.
+ghost use Rattle.std.specs.Prelude.{◌≡◌, ◌≢◌, ◌≤◌, AllPairs, length, IfOk};
+ghost use Rattle.lucid_ports.specs.World.{World};
+ghost use Rattle.lucid_scope.specs.Scoped.{scoped_tree, scoped_inputs};
+ghost use Rattle.lucid_words.specs.Asked.{plain_words};
+ghost use Rattle.lucid_words.specs.Numbers.{IsFromTo};
+ghost use Rattle.lucid_retire.specs.Policies.{keeps_all, empties_all, most_held};
+ghost use Rattle.lucid_session.specs.Runs.{PolicyView};
+ghost use Rattle.lucid_top.specs.Call.{told};
+ghost use Rattle.lucid_top.specs.Tasks.{wants_figures};
+ghost use Rattle.lucid_top.specs.Places.{AreUnread};
+ghost use Rattle.lucid_top.specs.Runs.{policy_named, viewed, RanSo};
+ghost use Rattle.lucid_top.specs.Running.{RunComesOnly, IsRunStop, IsLargeStop};
 
-use crate::answer::Answer;
-use lucid_plain::{Stream, run};
-use lucid_ports::{Options, RunFault, Sink};
-use lucid_tree::Tree;
-use std::alloc::Global;
+use crate::stop::{Done, Stop};
+use lucid_compile::compile;
+use lucid_inputs::{Inputs, fresh_fits};
+use lucid_ports::{Places, RunFault, Sink};
+use lucid_retire::{Ages, Keep, Last, Nothing, Policy};
+use lucid_schedule::Newest;
+use lucid_scope::Scoped;
+use lucid_session::laws::{figures_carry, same_streams_run_alike};
+use lucid_session::run;
+use lucid_value::Name;
+use lucid_words::{PolicyWord, Source, Words};
+use std::alloc::{AllocError, Global};
 
-// How many references deep a value may be at most: the evaluator recurses on the machine's stack.
-const MAX_DEPTH: u32 = 100;
+// How many bytes of an input may be read: one more than it may have.
+const MOST_INPUT_BYTES: u64 = 268_435_456;
 
-// The depth that is asked for, but no more than that.
-fn capped(depth: u32) -> u32
-    ensures { result ≡ min depth 100 }
+// How many turns of the policy by age there are from one sweep to the next.
+const TURNS_BETWEEN_SWEEPS: u32 = 1000;
+
+// The policy that the words ask for.
+fn policy_of(alloc: Global, words: &Words) -> Result<Policy, AllocError>
+    requires { IsFromTo 1 1000000 words.now.room }
+    ensures { IfOk result (λ policy. record { keeps = keeps_all policy; empties = empties_all policy; room = most_held policy } ≡ policy_named words.now.policy words.now.age words.now.room) }
 {
-    depth.min(MAX_DEPTH)
+    match words.policy {
+        PolicyWord::Keep => Ok(Policy::Keep(Keep)),
+        PolicyWord::Nothing => Ok(Policy::Nothing(Nothing)),
+        PolicyWord::Ages => Ok(Policy::Ages(Ages::make(TURNS_BETWEEN_SWEEPS, words.age))),
+        PolicyWord::Last => Ok(Policy::Last(Last::make(alloc, words.room)?)),
+    }
 }
 
-/// Runs a program that has no inputs.
-pub fn run_program<K: Sink>(alloc: Global, tree: &Tree, out: &mut K, options: Options) -> Answer
-    requires { IsWellMade tree.now }
-    ensures { RunAnswers tree.now options.count (min options.depth 100) result (K.written out.old) (K.written out.new) (K.faults out.old) (K.faults out.new) }
+// Whether the figures of a run are reported: where `--stats` is given, and of a made program.
+fn wants_figures(words: &Words) -> bool
+    ensures { result ≡ wants_figures (plain_words words.now) }
 {
-    let limited = Options {
-        count: options.count,
-        depth: capped(options.depth),
-    };
-    let streams: [Stream; 0] = [];
-    match run(alloc, &streams, tree, out, &limited) {
-        Ok(_) => Answer::Done,
-        Err(RunFault::TooDeep { time, .. }) => Answer::TooDeep { time },
-        Err(RunFault::WriteFault) => Answer::WriteFault,
-        Err(RunFault::NoMemory) => Answer::NoMemory,
-        Err(RunFault::ReadFault | RunFault::TooLarge { .. }) => unreachable!(),
+    match words.source {
+        Source::Made(_) => true,
+        Source::File(_) => words.stats,
+    }
+}
+
+// Why a run stopped, with the name of an input that is too large.
+fn run_stop(inputs: &[Name], fault: RunFault, stats: bool) -> Stop
+    ensures { IsRunStop inputs.now stats fault result }
+{
+    match fault {
+        RunFault::TooDeep {
+            time,
+            lost,
+            cleared,
+        } => Stop::TooDeep {
+            time,
+            lost,
+            cleared,
+            stats,
+        },
+        RunFault::ReadFault => Stop::ReadFault,
+        RunFault::WriteFault => Stop::WriteFault,
+        RunFault::TooLarge { stream } => large_stop(inputs, stream),
+        RunFault::NoMemory => Stop::NoMemory,
+    }
+}
+
+// An input is too large.
+fn large_stop(inputs: &[Name], stream: u32) -> Stop
+    ensures { IsLargeStop inputs.now stream result }
+{
+    match inputs.get(stream as usize) {
+        Some(name) => match name.copy() {
+            Ok(name) => Stop::TooLarge { stream, name },
+            Err(_) => Stop::NoMemory,
+        },
+        None => Stop::NoMemory,
+    }
+}
+
+/// Runs the program over the places of its inputs.
+pub fn run_program<P: Places, K: Sink>(
+    alloc: Global,
+    words: &Words,
+    scoped: &Scoped,
+    numbers: Vec<u32>,
+    places: &mut P,
+    out: &mut K,
+) -> Result<Done, Stop>
+    requires room { IsFromTo 1 1000000 words.now.room }
+    requires count { length numbers.items ≡ length (scoped_inputs scoped.now) }
+    requires differ { AllPairs (λ a b. a ≢ b) numbers.items }
+    requires unread { AreUnread numbers.items (P.world places.old) }
+    ensures ran { RanSo (scoped_tree scoped.now)
+        (viewed (plain_words words.now) (scoped_inputs scoped.now) numbers.items (P.world places.old) (P.world places.new) (told K.written K.faults out.old) (told K.written K.faults out.new))
+        result }
+    ensures comes_only { RunComesOnly (plain_words words.now) (scoped_inputs scoped.now) (P.world places.old).faults (P.world places.new).faults (K.faults out.old) (K.faults out.new) result }
+    ensures reached { (P.world places.new).reached ≡ (P.world places.old).reached }
+    ensures faults { (P.world places.old).faults ≤ (P.world places.new).faults }
+{
+    fresh_fits();
+    same_streams_run_alike();
+    figures_carry();
+    let program = compile(alloc, scoped)?;
+    let inputs = Inputs::make(alloc, numbers, MOST_INPUT_BYTES)?;
+    let policy = policy_of(alloc, words)?;
+    let stats = wants_figures(words);
+    match run(
+        alloc,
+        program,
+        places,
+        inputs,
+        out,
+        policy,
+        Newest,
+        &words.options,
+    ) {
+        Ok(summary) => Ok(Done::Ran { summary, stats }),
+        Err(fault) => Err(run_stop(scoped.inputs(), fault, stats)),
     }
 }

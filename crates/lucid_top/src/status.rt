@@ -1,15 +1,18 @@
-// How a call ends.
+//! How a call ends.
 ghost use Rattle.std.specs.Prelude.{◌≡◌};
-ghost use Rattle.lucid_top.specs.Status.{code_of};
+ghost use Rattle.lucid_top.specs.Status.{code_of, refusal_status, stop_status, status_of};
+
+use crate::refusal::Refusal;
+use crate::stop::{Done, Stop};
 
 /// How a call ends.
 #[derive(Clone, Copy, Debug, PartialEq, Eq)]
 pub enum Status {
-    /// The run was done.
+    /// What the words ask for was done.
     Done,
-    /// The source was refused.
+    /// The source, or what the words ask of it, is refused.
     Refused,
-    /// The words were refused.
+    /// The words are refused.
     Usage,
     /// A call on the places failed.
     ReadFault,
@@ -37,6 +40,40 @@ impl Status {
             Status::TooDeep => 5,
             Status::TooLarge => 6,
             Status::NoMemory => 7,
+        }
+    }
+
+    // The status of a refusal.
+    fn of_refusal(refusal: &Refusal) -> Status
+        ensures { result ≡ refusal_status refusal.now }
+    {
+        match refusal {
+            Refusal::Usage | Refusal::NotFree { .. } | Refusal::GivenTwice { .. } => Status::Usage,
+            _ => Status::Refused,
+        }
+    }
+
+    // The status of a call that was stopped.
+    fn of_stop(stop: &Stop) -> Status
+        ensures { result ≡ stop_status stop.now }
+    {
+        match stop {
+            Stop::Refused(refusal) => Status::of_refusal(refusal),
+            Stop::ReadFault => Status::ReadFault,
+            Stop::WriteFault => Status::WriteFault,
+            Stop::TooDeep { .. } => Status::TooDeep,
+            Stop::TooLarge { .. } => Status::TooLarge,
+            Stop::NoMemory => Status::NoMemory,
+        }
+    }
+
+    /// The status of what comes of a call.
+    pub fn of(outcome: &Result<Done, Stop>) -> Status
+        ensures { result ≡ status_of outcome.now }
+    {
+        match outcome {
+            Ok(_) => Status::Done,
+            Err(stop) => Status::of_stop(stop),
         }
     }
 }

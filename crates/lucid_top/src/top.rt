@@ -1,59 +1,127 @@
-// The command.
-ghost use Rattle.std.specs.Prelude.{◌≡◌, ◌≤◌, map};
+//! The command.
+ghost use Rattle.std.specs.Prelude.{◌≡◌, ◌≤◌, Some, length, map, IfOk, IfErr, OnOk, true};
 ghost use Rattle.std.specs.String.{string_bytes};
-ghost use Rattle.lucid_top.specs.Call.{call};
-ghost use Rattle.lucid_top.specs.Comes.{Comes};
+ghost use Rattle.lucid_tree.specs.WellMade.{places as all_places, IsWellMade};
+ghost use Rattle.lucid_words.specs.Asked.{plain_words, words_asked};
+ghost use Rattle.lucid_words.specs.Plain.{plain_source};
+ghost use Rattle.lucid_words.specs.Numbers.{IsFromTo, MadeIsFromTo};
+ghost use Rattle.lucid_top.specs.Call.{call, told};
+ghost use Rattle.lucid_top.specs.Tasks.{task_of, form_of, is_built};
+ghost use Rattle.lucid_top.specs.Runs.{first_place};
+ghost use Rattle.lucid_scope.specs.Scoped.{scoped_tree};
+ghost use Rattle.lucid_top.specs.Places.{KeepsNames, SpeltBySource, IsAccepted, IsSourceStop, IsProgramStop};
+ghost use Rattle.lucid_top.specs.Coming.{Comes};
 ghost use Rattle.lucid_top.specs.Clauses.{MeetsClauses};
 
-use crate::answer::Answer;
-use crate::judging::judge;
+use crate::files::input_files;
+use crate::judging::{read_tree, resolve_names};
 use crate::laws::one_verdict;
+use crate::places::{reach_files, read_source};
+use crate::printing::print_program;
 use crate::refusal::Refusal;
 use crate::report::tell;
 use crate::running::run_program;
-use crate::source::read_source;
 use crate::status::Status;
-use crate::verdict::Verdict;
-use crate::words::program_in;
-use lucid_ports::{Places, PortFault, Sink};
-use lucid_words::{WordsRefusal, read_words};
+use crate::stop::{Done, Stop};
+use crate::task::{Form, Task};
+use lucid_ports::{Places, Sink};
+use lucid_scope::Scoped;
+use lucid_tree::Tree;
+use lucid_words::{Words, read_words};
 use std::alloc::Global;
 
-// Does what the words ask for, and gives what comes of it.
-fn answer_of<P: Places, K: Sink>(
+// The tree of the source that the words name.
+fn tree_of<P: Places>(alloc: Global, words: &Words, places: &mut P) -> Result<Tree, Stop>
+    requires made { MadeIsFromTo 1 10000 words.now.source }
+    requires none { (P.world places.old).reached ≡ 0 }
+    ensures spelt { IfOk result (SpeltBySource (plain_source words.now.source) (P.world places.old)) }
+    ensures well_made { IfOk result IsWellMade }
+    ensures few_nodes { IfOk result (λ tree. length (all_places tree) ≤ 1048576) }
+    ensures reached { OnOk result ((P.world places.new).reached ≡ first_place (plain_source words.now.source)) }
+    ensures few { (P.world places.new).reached ≤ first_place (plain_source words.now.source) }
+    ensures keeps { KeepsNames (P.world places.old) (P.world places.new) }
+    ensures stopped { IfErr result (IsSourceStop (plain_source words.now.source) (P.world places.old) (P.world places.new)) }
+{
+    let source = read_source(alloc, &words.source, places)?;
+    read_tree(alloc, &source)
+}
+
+// The tree of the source that the words name, with what its names belong to.
+fn program_of<P: Places>(alloc: Global, words: &Words, places: &mut P) -> Result<Scoped, Stop>
+    requires made { MadeIsFromTo 1 10000 words.now.source }
+    requires none { (P.world places.old).reached ≡ 0 }
+    ensures accepted { IfOk result (λ scoped. IsAccepted (plain_source words.now.source) (P.world places.old) (scoped_tree scoped)) }
+    ensures reached { OnOk result ((P.world places.new).reached ≡ first_place (plain_source words.now.source)) }
+    ensures few { (P.world places.new).reached ≤ first_place (plain_source words.now.source) }
+    ensures keeps { KeepsNames (P.world places.old) (P.world places.new) }
+    ensures stopped { IfErr result (IsProgramStop (plain_source words.now.source) (P.world places.old) (P.world places.new)) }
+{
+    let tree = tree_of(alloc, words, places)?;
+    resolve_names(alloc, &tree)
+}
+
+// Runs the program that the words name.
+fn run_task<P: Places, K: Sink>(
+    alloc: Global,
+    words: &Words,
+    places: &mut P,
+    out: &mut K,
+) -> Result<Done, Stop>
+    requires made { MadeIsFromTo 1 10000 words.now.source }
+    requires room { IsFromTo 1 1000000 words.now.room }
+    requires task { task_of (plain_words words.now) ≡ Task.Run }
+    requires built { is_built (task_of (plain_words words.now)) (form_of (plain_words words.now)) ≡ true }
+    requires none { (P.world places.old).reached ≡ 0 }
+    ensures { Comes (call (Some (plain_words words.now)) (P.world places.old) (P.world places.new) (told K.written K.faults out.old) (told K.written K.faults out.new)) result }
+{
+    let scoped = program_of(alloc, words, places)?;
+    let files = input_files(alloc, scoped.inputs(), &words.given)?;
+    let numbers = reach_files(alloc, places, &files)?;
+    run_program(alloc, words, &scoped, numbers, places, out)
+}
+
+// Prints the program that the words name.
+fn print_task<P: Places, K: Sink>(
+    alloc: Global,
+    words: &Words,
+    places: &mut P,
+    out: &mut K,
+) -> Result<Done, Stop>
+    requires made { MadeIsFromTo 1 10000 words.now.source }
+    requires task { task_of (plain_words words.now) ≡ Task.Print }
+    requires built { is_built (task_of (plain_words words.now)) (form_of (plain_words words.now)) ≡ true }
+    requires none { (P.world places.old).reached ≡ 0 }
+    ensures { Comes (call (Some (plain_words words.now)) (P.world places.old) (P.world places.new) (told K.written K.faults out.old) (told K.written K.faults out.new)) result }
+{
+    let tree = tree_of(alloc, words, places)?;
+    print_program(alloc, &tree, out)
+}
+
+// Does what the words ask for.
+fn do_task<P: Places, K: Sink>(
     alloc: Global,
     words: &[String],
     places: &mut P,
     out: &mut K,
-) -> Answer
+) -> Result<Done, Stop>
     requires { (P.world places.old).reached ≡ 0 }
-    ensures comes { Comes
-        (call (map string_bytes words.now) P.world places.old places.new K.written K.faults out.old out.new K.written K.faults out.old out.new)
-        result }
-    ensures reached { (P.world places.new).reached ≤ 1 }
+    ensures { Comes (call (words_asked (map string_bytes words.now)) (P.world places.old) (P.world places.new) (told K.written K.faults out.old) (told K.written K.faults out.new)) result }
 {
-    let words = match read_words(alloc, words) {
-        Ok(words) => words,
-        Err(WordsRefusal::Usage) => return Answer::Usage,
-        Err(WordsRefusal::NoMemory) => return Answer::NoMemory,
-    };
-    let Some(name) = program_in(&words) else {
-        return Answer::Refused(Refusal::NotBuilt);
-    };
-    let source = match read_source(alloc, places, name) {
-        Ok(source) => source,
-        Err(PortFault::Failed) => return Answer::ReadFault,
-        Err(PortFault::NoMemory) => return Answer::NoMemory,
-    };
-    match judge(alloc, &source) {
-        Ok(Verdict::Accepted(tree)) => run_program(alloc, &tree, out, words.options),
-        Ok(Verdict::Refused(refusal)) => Answer::Refused(refusal),
-        Err(_) => Answer::NoMemory,
+    let words = read_words(alloc, words)?;
+    if Form::of(&words) == Form::Flat {
+        return Err(Stop::Refused(Refusal::NotBuilt));
+    }
+    match Task::of(&words) {
+        Task::Run => run_task(alloc, &words, places, out),
+        Task::Print => print_task(alloc, &words, places, out),
+        Task::Columns | Task::Cycles | Task::Why | Task::Check | Task::Flat => {
+            Err(Stop::Refused(Refusal::NotBuilt))
+        }
     }
 }
 
-/// The command: runs the program that the words name, writes the values of its stream to `out`, one a line, and reports how it
-/// ended on `report`. The words are those after the command's own name.
+/// The command: does what the words ask for, writes to `out`, and reports on `report` how it ended. The words are those after the
+/// command's own name.
 pub fn lucid<P: Places, K: Sink, E: Sink>(
     alloc: Global,
     words: &[String],
@@ -63,10 +131,10 @@ pub fn lucid<P: Places, K: Sink, E: Sink>(
 ) -> Status
     requires { (P.world places.old).reached ≡ 0 }
     ensures { MeetsClauses
-        (call (map string_bytes words.now) P.world places.old places.new K.written K.faults out.old out.new E.written E.faults report.old report.new)
-        result }
+        (call (words_asked (map string_bytes words.now)) (P.world places.old) (P.world places.new) (told K.written K.faults out.old) (told K.written K.faults out.new))
+        (told E.written E.faults report.old) (told E.written E.faults report.new) result }
 {
     one_verdict();
-    let answer = answer_of(alloc, words, places, out);
-    tell(report, answer)
+    let outcome = do_task(alloc, words, places, out);
+    tell(report, &outcome)
 }

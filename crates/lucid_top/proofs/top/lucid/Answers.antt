@@ -1,5 +1,25 @@
-use Rattle.lucid_top.proofs.Ends.{meets}
+use Rattle.std.proofs.Common.{map}
+use Rattle.std.specs.String.{string_bytes}
+use Rattle.lucid_words.specs.Asked.{words_asked}
+use Rattle.lucid_top.specs.Call.{call, told}
+use Rattle.lucid_top.proofs.OneCall.{OneVerdict}
+use Rattle.lucid_top.proofs.Meeting.{meets}
 use Rattle.lucid_top.proofs.top.lucid.Goals as goal
 
 pub returns : goal.returns
-returns g c = meets c.one_verdict.ensures.not_refused c.one_verdict.ensures.one_program c.one_verdict.ensures.one_refusal _ _ _ c.answer_of-answer.ensures.comes c.tell.ensures c.answer_of-answer.ensures.reached
+returns g c =
+    let laws : OneVerdict = record {
+      one_tree = c.one_verdict.ensures.one_tree;
+      not_refused = c.one_verdict.ensures.not_refused;
+      one_text_refusal = c.one_verdict.ensures.one_text_refusal;
+      names_not_refused = c.one_verdict.ensures.names_not_refused;
+      one_name_refusal = c.one_verdict.ensures.one_name_refusal;
+      one_list = c.one_verdict.ensures.one_list;
+    } in
+    let asked = words_asked (map (string_bytes {Z = Rattle.std.specs.Global.Global}) c.args.words.now) in
+    let out_before = told g.K.Sink.written g.K.Sink.faults c.args.out.now in
+    let out_after = told g.K.Sink.written g.K.Sink.faults c.do_task-outcome.new.out in
+    let before = told g.E.Sink.written g.E.Sink.faults c.args.report.now in
+    let after = told g.E.Sink.written g.E.Sink.faults c.tell.new.report in
+    meets laws (call asked (g.P.Places.world c.args.places.now) (g.P.Places.world c.do_task-outcome.new.places) out_before out_after) before after c.do_task-outcome.result c.tell.result
+    c.do_task-outcome.ensures c.tell.ensures

@@ -1,0 +1,97 @@
+-- A run that never began, and one that ended for want of memory in place of another fault: what is promised of runs holds of them.
+use Rattle.std.proofs.Common.{◌≡◌, ℕ, ◌≤◌, ◌<◌, List, [], length, Option, Some, None, Result, Err, inl, inr, refl, ap, sym, subst, ◌∙◌, arith}
+use Rattle.std.specs.Prelude.{IsSomeAnd}
+use Rattle.std.proofs.lemmas.List.{append-nil}
+use Rattle.std.proofs.Math.Nat.{le_refl}
+use Rattle.lucid_ports.specs.Writing.{with_all}
+use Rattle.lucid_ports.specs.World.{Contents}
+use Rattle.lucid_ports.specs.Faults.{Rises}
+use Rattle.lucid_ports.specs.declared.run.Summary.{Summary}
+use Rattle.lucid_ports.specs.declared.run.RunFault.{RunFault}
+use Rattle.lucid_ports.specs.declared.run.RunFault.TheVariants as fault
+use Rattle.lucid_tree.specs.Tree.{PlainTree}
+use Rattle.lucid_tree.specs.Levels.{Elements}
+use Rattle.lucid_session.specs.Subject.{Subject, stream_subject, tree_stream, no_lines}
+use Rattle.lucid_session.specs.Runs.{RunView, IsInput, HasElements, Ran}
+use Rattle.lucid_session.specs.Figures.{Figures}
+use Rattle.lucid_top.specs.declared.stop.Stop.{Stop}
+use Rattle.lucid_top.specs.declared.stop.Stop.TheVariants as stop
+use Rattle.lucid_top.specs.Status.{Outcome}
+use Rattle.lucid_top.specs.Runs.{tree_counted, run_result, RanSo}
+
+-- what is promised of the result of a run
+abbrev pub RanWith : PlainTree → RunView → Result Summary RunFault → Type 0
+RanWith e r result = (b : Elements) → HasElements r b → Ran (stream_subject (tree_stream e)) b r result × Figures (tree_counted e) b r result
+
+-- the outcome of that result
+pub ran_with : (e : PlainTree) (r : RunView) (o : Outcome) (result : Result Summary RunFault) → run_result o ≡ Some result → RanWith e r result → RanSo e r o
+ran_with e r o result is h b has =
+    subst (λ x. IsSomeAnd x (λ y. Ran (stream_subject (tree_stream e)) b r y × Figures (tree_counted e) b r y)) (sym is) (h b has)
+
+with_nothing : (o : Option (List ℕ)) → o ≡ with_all [] o
+with_nothing None = refl
+with_nothing (Some bytes) = ap Some (sym (append-nil bytes))
+
+-- nothing is consumed of any input
+abbrev pub ConsumesNothing : RunView → Type 0
+ConsumesNothing r = (k : ℕ) (n : List ℕ) (q : ℕ) → IsInput r k n q → (old new : Contents) → (r.before.place q).contents ≡ Some old → (r.after.place q).contents ≡ Some new
+    → length new.consumed ≤ length old.consumed
+
+not_below_zero : (t : ℕ) → t < 0 → ⊥
+not_below_zero t h = absurd (omega arith)
+
+unread : (S : Subject) (b : Elements) (r : RunView) → r.out_after.bytes ≡ r.out_before.bytes → ConsumesNothing r → Rises r.before.faults r.after.faults
+    → Ran S b r (Err fault.ReadFault)
+unread S b r silent nothing rises = record {
+  out = record { whole = 0; within = omega arith; bytes = []; output = no_lines; front = []; begun = inl refl; written = silent ∙ with_nothing r.out_before.bytes };
+  done = tt;
+  deep = tt;
+  exact = λ empties t h. elim h [ inl below ↦ absurd (not_below_zero t below) | inr ended ↦ absurd ended.1 ];
+  complete = λ deep reads writes large. absurd (reads rises);
+  consumed = record { added = 0; none = λ _. refl; holds = λ d le k n q is old new x y. inl (nothing k n q is old new x y) };
+  too_large = tt;
+}
+
+unmade : (S : Subject) (b : Elements) (r : RunView) → r.out_after.bytes ≡ r.out_before.bytes → ConsumesNothing r → Ran S b r (Err fault.NoMemory)
+unmade S b r silent nothing = record {
+  out = record { whole = 0; within = omega arith; bytes = []; output = no_lines; front = []; begun = inl refl; written = silent ∙ with_nothing r.out_before.bytes };
+  done = tt;
+  deep = tt;
+  exact = λ empties t h. elim h [ inl below ↦ absurd (not_below_zero t below) | inr ended ↦ absurd ended.1 ];
+  complete = λ deep reads writes large. refl;
+  consumed = record { added = 0; none = λ _. refl; holds = λ d le k n q is old new x y. inl (nothing k n q is old new x y) };
+  too_large = tt;
+}
+
+pub never_read : (e : PlainTree) (r : RunView) → r.out_after.bytes ≡ r.out_before.bytes → ConsumesNothing r → Rises r.before.faults r.after.faults
+    → RanWith e r (Err fault.ReadFault)
+never_read e r silent nothing rises b has =
+    (unread (stream_subject (tree_stream e)) b r silent nothing rises, record { held = λ _. tt; deep = λ _. tt; cleared = tt })
+
+pub never_made : (e : PlainTree) (r : RunView) → r.out_after.bytes ≡ r.out_before.bytes → ConsumesNothing r → RanWith e r (Err fault.NoMemory)
+never_made e r silent nothing b has = (unmade (stream_subject (tree_stream e)) b r silent nothing, record { held = λ _. tt; deep = λ _. tt; cleared = tt })
+
+-- a fault of which no memory was left to tell
+for_memory : (S : Subject) (b : Elements) (r : RunView) (f : RunFault) → Ran S b r (Err f) → Ran S b r (Err fault.NoMemory)
+for_memory S b r f x = record {
+  out = x.out;
+  done = tt;
+  deep = tt;
+  exact = x.exact;
+  complete = λ deep reads writes large. refl;
+  consumed = x.consumed;
+  too_large = tt;
+}
+
+pub want_of_memory : (e : PlainTree) (r : RunView) (f : RunFault) → RanWith e r (Err f) → RanWith e r (Err fault.NoMemory)
+want_of_memory e r f h b has =
+    (for_memory (stream_subject (tree_stream e)) b r f (h b has).0, record { held = λ _. tt; deep = λ _. tt; cleared = tt })
+
+-- a place that tells the same tells the same number of bytes consumed
+pub same_contents : (x : Option Contents) (old new : Contents) → x ≡ Some old → x ≡ Some new → length new.consumed ≤ length old.consumed
+same_contents x old new a b = let same : old ≡ new = cc (a, b) in subst (λ c. length new.consumed ≤ length c.consumed) (sym same) (le_refl (length new.consumed))
+
+-- want of memory before the run
+pub no_memory : (e : PlainTree) (r : RunView) (o : Outcome) (s : Stop) → o ≡ Err s → s ≡ stop.NoMemory → r.out_after.bytes ≡ r.out_before.bytes → ConsumesNothing r → RanSo e r o
+no_memory e r o s is memory silent nothing =
+    ran_with e r o (Err fault.NoMemory) (ap run_result is ∙ ap (λ (x : Stop). run_result (Err x)) memory) (never_made e r silent nothing)

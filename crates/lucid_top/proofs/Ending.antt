@@ -1,0 +1,295 @@
+-- How a call comes to its outcome: it stops early, or it prints.
+use Rattle.std.proofs.Common.{◌≡◌, ◌≢◌, ℕ, ◌+◌, ◌-◌, ◌<◌, ◌≤◌, true, false, List, [], length, get_or, Option, Some, None, Result, Ok, Err, ◌⊎◌, inl, inr, refl, sym, ap, subst, ◌∙◌, arith}
+use Rattle.std.specs.Prelude.{slice_get, option_map, IfOk, OnOk}
+use Rattle.std.proofs.lemmas.Option.{slice_get-get_or}
+use Rattle.std.proofs.Math.Logic.{∥∥₁_map}
+use Rattle.std.proofs.Math.Nat.{le_refl}
+use Rattle.std.proofs.lemmas.List.{take_all}
+use Rattle.lucid_ports.specs.World.{World, Contents, unread}
+use Rattle.lucid_ports.specs.Writing.{with_all}
+use Rattle.lucid_tree.specs.Tree.{PlainTree}
+use Rattle.lucid_tree.specs.WellMade.{places, IsWellMade}
+use Rattle.lucid_scope.specs.Bindings.{HasNoFault, IsResolved}
+use Rattle.lucid_scope.specs.declared.scoped.Binding.{Binding}
+use Rattle.lucid_scope.specs.declared.scoped.Scoped.{Scoped}
+use Rattle.lucid_scope.specs.Scoped.{scoped_tree}
+use Rattle.lucid_print.specs.Canonical.{canonical}
+use Rattle.lucid_words.specs.Plain.{PlainSource, file, made}
+use Rattle.lucid_words.specs.Asked.{PlainWords}
+use Rattle.lucid_session.specs.Runs.{Told}
+use Rattle.lucid_words.specs.declared.WordsRefusal.{WordsRefusal}
+use Rattle.lucid_words.specs.declared.WordsRefusal.TheVariants as words
+use Rattle.lucid_top.specs.declared.refusal.Refusal.{Refusal}
+use Rattle.lucid_top.specs.declared.refusal.Refusal.TheVariants as refusal
+use Rattle.lucid_top.specs.declared.stop.Done.TheVariants as done
+use Rattle.lucid_top.specs.declared.stop.Stop.{Stop}
+use Rattle.lucid_top.specs.declared.stop.Stop.TheVariants as stop
+use Rattle.lucid_top.specs.declared.task.Form.{Form}
+use Rattle.lucid_top.specs.declared.task.Form.TheVariants as form
+use Rattle.lucid_top.specs.declared.task.Task.{Task}
+use Rattle.lucid_top.specs.declared.task.Task.TheVariants as task
+use Rattle.lucid_top.specs.Status.{Outcome}
+use Rattle.lucid_top.specs.Call.{Call}
+use Rattle.lucid_top.specs.Tasks.{task_of, form_of, is_built}
+use Rattle.lucid_top.specs.Telling.{WritesWhole, WritesFront}
+use Rattle.lucid_top.specs.Refusals.{words_stop, IsRefusalOf}
+use Rattle.lucid_top.specs.Judged.{RefusesNames, HasInputs}
+use Rattle.lucid_top.specs.Files.{RefusesGiven}
+use Rattle.lucid_top.specs.Stages.{Asks, HasSource, HasTree, HasNames, IsPrinted, by_words, by_task, by_text, by_names, by_given}
+use Rattle.lucid_top.specs.Runs.{first_place}
+use Rattle.lucid_top.specs.Places.{KeepsNames, SpeltBySource, IsAccepted, IsSourceStop, IsProgramStop, IsReadStop, AreFresh}
+use Rattle.lucid_top.specs.Printing.{PrintsOnly}
+use Rattle.lucid_top.specs.Clauses.{WritesNothing, Prints}
+use Rattle.lucid_top.specs.Coming.{Rests, Comes}
+use Rattle.lucid_top.proofs.Pieces.{rises_from}
+
+-- the words of a call ask for what is built
+pub record Begins (c : Call) (w : PlainWords) : Type 0 where
+  pub read : c.asked ≡ Some w
+  pub built : is_built (task_of w) (form_of w) ≡ true
+
+abbrev pub asks_of : (c : Call) (w : PlainWords) → Begins c w → Asks c
+asks_of c w b = record { words = w; read = b.read; built = b.built }
+
+abbrev pub tree_of : (c : Call) (w : PlainWords) (p : PlainTree) → Begins c w → SpeltBySource w.source c.before p → HasTree c
+tree_of c w p b s = record { source = record { asks = asks_of c w b; bytes = s.bytes; is = s.is }; tree = p; spelt = s.spelt }
+
+pub first_place_le : (s : PlainSource) → first_place s ≤ 1
+first_place_le (file name) = omega arith
+first_place_le (made n) = omega arith
+
+-- where no place but the source's is reached, nothing of an input is read
+pub rests_of : (c : Call) (w : PlainWords) → c.asked ≡ Some w → WritesNothing c → c.after.reached ≤ first_place w.source → Rests c
+rests_of c w read silent few = record {
+  silent = silent;
+  unread = λ v asked q le lt new is.
+      let same : v ≡ w = cc (asked, read) in
+      let le' : first_place w.source ≤ q = subst (λ (u : PlainWords). first_place u.source ≤ q) same le in
+      absurd (omega (arith, few, le', lt));
+}
+
+few_places : (c : Call) (s : PlainSource) → c.after.reached ≤ first_place s → c.after.reached ≤ 1048577
+few_places c s few = let one = first_place_le s in omega (arith, few, one)
+
+-- the source stops the call
+pub source_stops : (c : Call) (w : PlainWords) (s : Stop) → Begins c w → IsSourceStop w.source c.before c.after s → WritesNothing c → c.after.reached ≤ first_place w.source
+    → Comes c (Err s)
+source_stops c w (stop.Refused why) b why_stops silent few =
+    let source : HasSource c = record { asks = asks_of c w b; bytes = why_stops.0; is = why_stops.1 } in
+    record {
+      only = (by_text source why_stops.2, silent);
+      how = inl ((by_text source why_stops.2, tt), rests_of c w b.read silent few);
+      few_places = few_places c w.source few;
+    }
+source_stops c w stop.ReadFault b why_stops silent few =
+    record { only = why_stops; how = inl (asks_of c w b, rests_of c w b.read silent few); few_places = few_places c w.source few }
+source_stops c w stop.NoMemory b why_stops silent few =
+    record { only = tt; how = inl (tt, rests_of c w b.read silent few); few_places = few_places c w.source few }
+source_stops c w stop.WriteFault b why_stops silent few = absurd why_stops
+source_stops c w (stop.TooDeep t l x f) b why_stops silent few = absurd why_stops
+source_stops c w (stop.TooLarge k n) b why_stops silent few = absurd why_stops
+
+-- what is written whole is written in front
+pub whole_front : (text : List ℕ) (before after : Told) → WritesWhole text before after → WritesFront text before after
+whole_front text before after h =
+    (length text, le_refl (length text), h ∙ ap (λ l. with_all l before.bytes) (sym (take_all (length text) text (le_refl (length text)))))
+
+-- the tree is printed
+pub prints : (c : Call) (w : PlainWords) (p : PlainTree) (o : Outcome) → Begins c w → task_of w ≡ task.Print → SpeltBySource w.source c.before p
+    → c.after.reached ≤ first_place w.source → PrintsOnly (canonical p) c.out_before c.out_after o → Comes c o
+prints c w p (Ok done.Printed) b is s few h =
+    let t : IsPrinted c = record { program = tree_of c w p b s; task = is } in
+    let text : Prints c (Ok done.Printed) (canonical p) = record { front = whole_front (canonical p) c.out_before c.out_after h; whole = λ _. h; complete = λ _ _. inl refl } in
+    record { only = t; how = inr (inr (t, text)); few_places = few_places c w.source few }
+prints c w p (Err stop.WriteFault) b is s few h =
+    let t : IsPrinted c = record { program = tree_of c w p b s; task = is } in
+    let text : Prints c (Err stop.WriteFault) (canonical p) = record { front = h.0; whole = λ e. absurd (cc e); complete = λ _ writes. absurd (writes h.1) } in
+    record { only = h.1; how = inr (inr (t, text)); few_places = few_places c w.source few }
+prints c w p (Err stop.NoMemory) b is s few h =
+    let t : IsPrinted c = record { program = tree_of c w p b s; task = is } in
+    let text : Prints c (Err stop.NoMemory) (canonical p) = record { front = h; whole = λ e. absurd (cc e); complete = λ _ _. inr refl } in
+    record { only = tt; how = inr (inr (t, text)); few_places = few_places c w.source few }
+prints c w p (Ok (done.Ran summary stats)) b is s few h = absurd h
+prints c w p (Err (stop.Refused why)) b is s few h = absurd h
+prints c w p (Err stop.ReadFault) b is s few h = absurd h
+prints c w p (Err (stop.TooDeep t l x f)) b is s few h = absurd h
+prints c w p (Err (stop.TooLarge k n)) b is s few h = absurd h
+
+-- where only a run is asked for, the names are looked at
+pub not_print : (w : PlainWords) → task_of w ≡ task.Run → task_of w ≢ task.Print
+not_print w is is_print = absurd (cc (is, is_print))
+
+-- the tree is accepted
+accepted : (source : PlainSource) (w : World) (p q : PlainTree) → SpeltBySource source w p → HasNoFault p → IsWellMade p → length (places p) ≤ 1048576 → q ≡ p → IsAccepted source w q
+accepted source w p q spelt none well few same =
+    let here : IsAccepted source w p = record { spelt = spelt; no_fault = none; well_made = well; few = few } in subst (IsAccepted source w) (sym same) here
+
+pub all_accepted : (source : PlainSource) (w : World) (p : PlainTree) (r : Result Scoped Stop) → SpeltBySource source w p → IsWellMade p → length (places p) ≤ 1048576
+    → IfOk r (λ s. scoped_tree s ≡ p) → OnOk r (HasNoFault p) → IfOk r (λ s. IsAccepted source w (scoped_tree s))
+all_accepted source w p (Ok s) spelt well few same none = accepted source w p (scoped_tree s) spelt none well few same
+all_accepted source w p (Err e) spelt well few same none = tt
+
+-- the names stop the call
+pub names_stop : (source : PlainSource) (old new : World) (p : PlainTree) (s : Stop) → SpeltBySource source old p → IsWellMade p → IsRefusalOf (RefusesNames p) s → IsProgramStop source old new s
+names_stop source old new p (stop.Refused why) spelt well refused = inr (p, spelt, well, refused)
+names_stop source old new p stop.NoMemory spelt well refused = tt
+names_stop source old new p stop.ReadFault spelt well refused = absurd refused
+names_stop source old new p stop.WriteFault spelt well refused = absurd refused
+names_stop source old new p (stop.TooDeep t l x f) spelt well refused = absurd refused
+names_stop source old new p (stop.TooLarge k n) spelt well refused = absurd refused
+
+pub source_stop : (source : PlainSource) (old new : World) (s : Stop) → IsSourceStop source old new s → IsProgramStop source old new s
+source_stop source old new (stop.Refused why) h = inl h
+source_stop source old new stop.NoMemory h = h
+source_stop source old new stop.ReadFault h = h
+source_stop source old new stop.WriteFault h = h
+source_stop source old new (stop.TooDeep t l x f) h = h
+source_stop source old new (stop.TooLarge k n) h = h
+
+names_refuse : (c : Call) (w : PlainWords) (p : PlainTree) (why : Refusal) → Begins c w → task_of w ≡ task.Run → SpeltBySource w.source c.before p → IsWellMade p → RefusesNames p why
+    → WritesNothing c → c.after.reached ≤ first_place w.source → Comes c (Err (stop.Refused why))
+names_refuse c w p why b is spelt well refused silent few = record {
+  only = (by_names (tree_of c w p b spelt) (not_print w is) refused, silent);
+  how = inl ((by_names (tree_of c w p b spelt) (not_print w is) refused, well), rests_of c w b.read silent few);
+  few_places = few_places c w.source few;
+}
+
+-- the source or the names stop the call
+pub program_stops : (c : Call) (w : PlainWords) (s : Stop) → Begins c w → task_of w ≡ task.Run → IsProgramStop w.source c.before c.after s → WritesNothing c
+    → c.after.reached ≤ first_place w.source → Comes c (Err s)
+program_stops c w (stop.Refused why) b is (inl text) silent few = source_stops c w (stop.Refused why) b text silent few
+program_stops c w (stop.Refused why) b is (inr names) silent few = names_refuse c w names.0 why b is names.1 names.2 names.3 silent few
+program_stops c w stop.NoMemory b is h silent few = source_stops c w stop.NoMemory b h silent few
+program_stops c w stop.ReadFault b is h silent few = source_stops c w stop.ReadFault b h silent few
+program_stops c w stop.WriteFault b is h silent few = absurd h
+program_stops c w (stop.TooDeep t l x f) b is h silent few = absurd h
+program_stops c w (stop.TooLarge k n) b is h silent few = absurd h
+
+-- the names of the program that is run
+abbrev pub names_of : (c : Call) (w : PlainWords) (p : PlainTree) (free : List (List ℕ)) → Begins c w → task_of w ≡ task.Run → IsAccepted w.source c.before p → HasInputs p free → HasNames c
+names_of c w p free b is a inputs =
+    record { program = tree_of c w p b a.spelt; task = not_print w is; no_fault = a.no_fault; free = free; are_free = inputs }
+
+-- the words NAME=FILE stop the call
+pub given_stops : (c : Call) (w : PlainWords) (p : PlainTree) (free : List (List ℕ)) (s : Stop) → Begins c w → task_of w ≡ task.Run → IsAccepted w.source c.before p → HasInputs p free
+    → IsRefusalOf (RefusesGiven free w.given) s → WritesNothing c → c.after.reached ≤ first_place w.source → Comes c (Err s)
+given_stops c w p free (stop.Refused why) b is a inputs refused silent few = record {
+  only = (by_given (names_of c w p free b is a inputs) refused, silent);
+  how = inl ((by_given (names_of c w p free b is a inputs) refused, a.well_made), rests_of c w b.read silent few);
+  few_places = few_places c w.source few;
+}
+given_stops c w p free stop.NoMemory b is a inputs refused silent few =
+    record { only = tt; how = inl (tt, rests_of c w b.read silent few); few_places = few_places c w.source few }
+given_stops c w p free stop.ReadFault b is a inputs refused silent few = absurd refused
+given_stops c w p free stop.WriteFault b is a inputs refused silent few = absurd refused
+given_stops c w p free (stop.TooDeep t l x f) b is a inputs refused silent few = absurd refused
+given_stops c w p free (stop.TooLarge k n) b is a inputs refused silent few = absurd refused
+
+-- the free names of a tree that was resolved
+pub inputs_of : (q : PlainTree) (names : List (List ℕ)) (bindings : ℕ → Option Binding) → ∥ IsResolved q names bindings ∥₁ → HasInputs q names
+inputs_of q names bindings resolved = ∥∥₁_map resolved (λ r. r.inputs_are)
+
+-- of a place that nothing was consumed of
+nothing_consumed : (held : Option (List ℕ)) (contents : Option Contents) (new : Contents) → contents ≡ option_map unread held → contents ≡ Some new → new.consumed ≡ []
+nothing_consumed None contents new fresh is = absurd (cc (fresh, is))
+nothing_consumed (Some bytes) contents new fresh is = let same : new ≡ unread bytes = cc (fresh, is) in ap (λ (x : Contents). x.consumed) same
+
+within : (q w n v : ℕ) → w ≤ q → q < v → v ≤ w + n → (k : ℕ) × (q ≡ w + k) × (k < n)
+within q w n v le lt few = (q - w, omega (arith, le), omega (arith, le, lt, few))
+
+fresh_consumed : (files : List (List ℕ)) (old new : World) → AreFresh files old new → new.reached ≤ old.reached + length files → (q : ℕ) → old.reached ≤ q → q < new.reached
+    → (c : Contents) → (new.place q).contents ≡ Some c → c.consumed ≡ []
+fresh_consumed files old new fresh few q le lt c is =
+    let k = within q old.reached (length files) new.reached le lt few in
+    let file : List ℕ = get_or files k.0 [] in
+    let there : slice_get files k.0 ≡ Some file = slice_get-get_or files k.0 [] k.2 in
+    let lt' : old.reached + k.0 < new.reached = omega (arith, k.1, lt) in
+    let place = fresh k.0 file there lt' in
+    nothing_consumed (old.holds file) (new.place (old.reached + k.0)).contents c place.contents (subst (λ n. (new.place n).contents ≡ Some c) k.1 is)
+
+-- the places of the inputs stop the call
+pub reaching_stops : (c : Call) (w : PlainWords) (files : List (List ℕ)) (v : World) (s : Stop) → Begins c w → v.reached ≡ first_place w.source → KeepsNames c.before v → KeepsNames v c.after
+    → AreFresh files v c.after → c.after.reached ≤ v.reached + length files → length files ≤ 1048576 → IsReadStop v c.after s → WritesNothing c → Comes c (Err s)
+reaching_stops c w files v s b first k k' fresh few short why silent =
+    let one = first_place_le w.source in
+    let rests : Rests c = record {
+      silent = silent;
+      unread = λ u asked q le lt new is.
+          let same : u ≡ w = cc (asked, b.read) in
+          let le' : first_place w.source ≤ q = subst (λ (x : PlainWords). first_place x.source ≤ q) same le in
+          fresh_consumed files v c.after fresh few q (omega (arith, first, le')) lt new is;
+    } in
+    ends s why rests (omega (arith, few, short, first, one))
+  where
+    ends : (x : Stop) → IsReadStop v c.after x → Rests c → c.after.reached ≤ 1048577 → Comes c (Err x)
+    ends stop.ReadFault rises rests few' = record { only = rises_from c.before.faults v.faults c.after.faults k.faults k'.faults rises; how = inl (asks_of c w b, rests); few_places = few' }
+    ends stop.NoMemory rises rests few' = record { only = tt; how = inl (tt, rests); few_places = few' }
+    ends (stop.Refused y) rises rests few' = absurd rises
+    ends stop.WriteFault rises rests few' = absurd rises
+    ends (stop.TooDeep t l x f) rises rests few' = absurd rises
+    ends (stop.TooLarge j n) rises rests few' = absurd rises
+
+-- where nothing is reached, nothing is read
+nothing_reached : (c : Call) → WritesNothing c → c.after.reached ≡ 0 → Rests c
+nothing_reached c silent none = record { silent = silent; unread = λ v asked q le lt new is. absurd (omega (arith, lt, none)) }
+
+-- the words stop the call
+pub words_stops : (c : Call) (e : WordsRefusal) → (e ≡ words.Usage → c.asked ≡ None) → WritesNothing c → c.after.reached ≡ 0 → Comes c (Err (words_stop e))
+words_stops c words.Usage refused silent none = record {
+  only = (by_words (refused refl), silent);
+  how = inl ((by_words (refused refl), tt), nothing_reached c silent none);
+  few_places = omega (arith, none);
+}
+words_stops c words.NoMemory refused silent none = record { only = tt; how = inl (tt, nothing_reached c silent none); few_places = omega (arith, none) }
+
+-- what they ask for isn't built
+pub not_built_stops : (c : Call) (w : PlainWords) → c.asked ≡ Some w → is_built (task_of w) (form_of w) ≡ false → WritesNothing c → c.after.reached ≡ 0
+    → Comes c (Err (stop.Refused refusal.NotBuilt))
+not_built_stops c w read not_built silent none = record {
+  only = (by_task w read not_built, silent);
+  how = inl ((by_task w read not_built, tt), nothing_reached c silent none);
+  few_places = omega (arith, none);
+}
+
+-- no flat form is built
+flat_is_not : (t : Task) (f : Form) → f ≡ form.Flat → is_built t f ≡ false
+flat_is_not t f is = ap (is_built t) is
+
+pub flat_stops : (c : Call) (w : PlainWords) (f : Form) → c.asked ≡ Some w → f ≡ form_of w → f ≡ form.Flat → WritesNothing c → c.after.reached ≡ 0
+    → Comes c (Err (stop.Refused refusal.NotBuilt))
+flat_stops c w f read of flat silent none = not_built_stops c w read (flat_is_not (task_of w) (form_of w) (sym of ∙ flat)) silent none
+
+-- what is asked for is neither a run nor a printing
+abbrev pub IsOther : Task → Type 0
+IsOther t = (t ≡ task.Columns) ⊎ ((t ≡ task.Cycles) ⊎ ((t ≡ task.Why) ⊎ ((t ≡ task.Check) ⊎ (t ≡ task.Flat))))
+
+other_is_not : (t : Task) (f : Form) → IsOther t → is_built t f ≡ false
+other_is_not task.Run f (inl is) = absurd (cc is)
+other_is_not task.Run f (inr (inl is)) = absurd (cc is)
+other_is_not task.Run f (inr (inr (inl is))) = absurd (cc is)
+other_is_not task.Run f (inr (inr (inr (inl is)))) = absurd (cc is)
+other_is_not task.Run f (inr (inr (inr (inr is)))) = absurd (cc is)
+other_is_not task.Print f (inl is) = absurd (cc is)
+other_is_not task.Print f (inr (inl is)) = absurd (cc is)
+other_is_not task.Print f (inr (inr (inl is))) = absurd (cc is)
+other_is_not task.Print f (inr (inr (inr (inl is)))) = absurd (cc is)
+other_is_not task.Print f (inr (inr (inr (inr is)))) = absurd (cc is)
+other_is_not task.Columns form.Text is = refl
+other_is_not task.Columns form.Made is = refl
+other_is_not task.Columns form.Flat is = refl
+other_is_not task.Cycles form.Text is = refl
+other_is_not task.Cycles form.Made is = refl
+other_is_not task.Cycles form.Flat is = refl
+other_is_not task.Why form.Text is = refl
+other_is_not task.Why form.Made is = refl
+other_is_not task.Why form.Flat is = refl
+other_is_not task.Check form.Text is = refl
+other_is_not task.Check form.Made is = refl
+other_is_not task.Check form.Flat is = refl
+other_is_not task.Flat form.Text is = refl
+other_is_not task.Flat form.Made is = refl
+other_is_not task.Flat form.Flat is = refl
+
+pub others_stop : (c : Call) (w : PlainWords) (t : Task) → c.asked ≡ Some w → t ≡ task_of w → IsOther t → WritesNothing c → c.after.reached ≡ 0
+    → Comes c (Err (stop.Refused refusal.NotBuilt))
+others_stop c w t read of other silent none = not_built_stops c w read (other_is_not (task_of w) (form_of w) (subst IsOther of other)) silent none

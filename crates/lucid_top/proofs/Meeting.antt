@@ -1,0 +1,166 @@
+-- From how a call comes to its outcome to the clauses of the command.
+use Rattle.std.proofs.Common.{◌≡◌, ℕ, ◌≤◌, Bool, true, false, cond, nat_lt, List, [], length, Option, Some, None, Ok, Err, ◌⊎◌, inl, inr, refl, sym, ◌∙◌, ap, subst, arith}
+use Rattle.std.proofs.lemmas.Bool.{ltb-true}
+use Rattle.std.proofs.lemmas.List.{append-nil}
+use Rattle.lucid_ports.specs.World.{Contents}
+use Rattle.lucid_ports.specs.Writing.{with_front}
+use Rattle.lucid_ports.specs.declared.run.RunFault.TheVariants as fault
+use Rattle.lucid_tree.specs.Tree.{PlainTree}
+use Rattle.lucid_tree.specs.WellMade.{IsWellMade}
+use Rattle.lucid_print.specs.Canonical.{canonical}
+use Rattle.lucid_words.specs.Asked.{PlainWords}
+use Rattle.lucid_session.specs.Runs.{Told}
+use Rattle.lucid_top.specs.declared.refusal.Refusal.{Refusal}
+use Rattle.lucid_top.specs.declared.refusal.Refusal.TheVariants as refusal
+use Rattle.lucid_top.specs.declared.stop.Stop.TheVariants as stop
+use Rattle.lucid_top.specs.declared.status.Status.{Status}
+use Rattle.lucid_top.specs.Status.{Outcome}
+use Rattle.lucid_top.specs.Call.{Call}
+use Rattle.lucid_top.specs.Tasks.{task_of, form_of, is_built}
+use Rattle.lucid_top.specs.Telling.{Tells, WritesFront}
+use Rattle.lucid_top.specs.Stages.{Asks, IsPrinted, IsRun, Refuses, by_words, by_task, by_text, by_names, by_given}
+use Rattle.lucid_top.specs.Runs.{Program, first_place, program_of, unread_place, view_of, RanSo}
+use Rattle.lucid_top.specs.Clauses.{WritesNothing, TellsSource, ReadFails, ComesOnly, IsRefusedSo, Prints, MeetsClauses}
+use Rattle.lucid_top.specs.Coming.{Rests, StopsEarly, EndsRun, EndsPrinting, Comes}
+use Rattle.lucid_top.proofs.RunEnds.{in_range}
+use Rattle.lucid_top.proofs.Begun.{ConsumesNothing, ran_with, never_read, never_made, same_contents}
+use Rattle.lucid_top.proofs.OneCall.{OneVerdict, not_asked, not_unbuilt, not_both, same_words, same_tree, same_free, one_refusal, run_not_refused, run_not_stopped, printed_not_refused}
+
+-- how a call comes to its outcome
+abbrev pub How : Call → Outcome → Type 0
+How c o = (StopsEarly c o × Rests c) ⊎ (EndsRun c o ⊎ EndsPrinting c o)
+
+-- by words that are refused, or don't ask for what is built, nothing is read, run or printed
+stopped_by_words : (c : Call) (o : Outcome) (why : Refusal) → (Asks c → ⊥) → ((v : Refusal) → Refuses c v → v ≡ why) → How c o → IsRefusedSo o why
+stopped_by_words c (Err (stop.Refused v)) why asks one (inl early) = inl (ap (λ x. Err (stop.Refused x)) (one v early.0.0))
+stopped_by_words c (Err stop.ReadFault) why asks one (inl early) = absurd (asks early.0)
+stopped_by_words c (Err stop.NoMemory) why asks one (inl early) = inr refl
+stopped_by_words c (Err stop.WriteFault) why asks one (inl early) = absurd early.0
+stopped_by_words c (Err (stop.TooDeep t l x f)) why asks one (inl early) = absurd early.0
+stopped_by_words c (Err (stop.TooLarge k n)) why asks one (inl early) = absurd early.0
+stopped_by_words c (Ok done) why asks one (inl early) = absurd early.0
+stopped_by_words c o why asks one (inr (inl run)) = absurd (asks run.0.names.program.source.asks)
+stopped_by_words c o why asks one (inr (inr printing)) = absurd (asks printing.0.program.source.asks)
+
+-- where nothing of an input was consumed, nothing is
+rested : (c : Call) (r : IsRun c) → Rests c → (q : ℕ) → first_place (program_of r).words.source ≤ q → (b : Bool) → nat_lt q c.after.reached ≡ b → (old new : Contents)
+    → (unread_place c (program_of r) q).contents ≡ Some old → (cond b (c.after.place q) (unread_place c (program_of r) q)).contents ≡ Some new → length new.consumed ≤ length old.consumed
+rested c r rests q le true lt old new before after =
+    let none : new.consumed ≡ [] = rests.unread (program_of r).words r.names.program.source.asks.read q le (ltb-true q c.after.reached lt) new after in
+    let zero : length new.consumed ≡ 0 = ap length none in omega (arith, zero)
+rested c r rests q le false lt old new before after = same_contents (unread_place c (program_of r) q).contents old new before after
+
+consumes_nothing : (c : Call) (r : IsRun c) → Rests c → ConsumesNothing (view_of c (program_of r))
+consumes_nothing c r rests k n q is old new before after =
+    let at = in_range (first_place (program_of r).words.source) (length (program_of r).free) k q is.1 in
+    rested c r rests q (omega (arith, at.0)) (nat_lt q c.after.reached) refl old new before after
+
+-- what is written of nothing
+front_of_nothing : (text : List ℕ) (before after : Told) → after.bytes ≡ before.bytes → WritesFront text before after
+front_of_nothing text before after silent = (0, omega arith, silent ∙ nothing before.bytes)
+  where
+    nothing : (o : Option (List ℕ)) → o ≡ with_front 0 text o
+    nothing None = refl
+    nothing (Some bytes) = ap Some (sym (append-nil bytes))
+
+-- the program of these words, with this tree and these free names
+abbrev program_with : PlainWords → PlainTree → List (List ℕ) → Program
+program_with w t f = record { words = w; tree = t; free = f }
+
+one_program : {v w : PlainWords} {s t : PlainTree} {f g : List (List ℕ)} → v ≡ w → s ≡ t → f ≡ g → program_with v s f ≡ program_with w t g
+one_program a b e = cc (a, b, e)
+
+module _ (l : OneVerdict) (c : Call) (told : TellsSource c) where
+  first : (o : Outcome) (why : Refusal) → Refuses c why → (o ≡ Err stop.ReadFault → ⊥) → How c o → IsRefusedSo o why
+  first (Err (stop.Refused v)) why refused no_read (inl early) = inl (ap (λ x. Err (stop.Refused x)) (one_refusal l c told v why early.0.0 early.0.1 refused))
+  first (Err stop.ReadFault) why refused no_read (inl early) = absurd (no_read refl)
+  first (Err stop.NoMemory) why refused no_read (inl early) = inr refl
+  first (Err stop.WriteFault) why refused no_read (inl early) = absurd early.0
+  first (Err (stop.TooDeep t d x f)) why refused no_read (inl early) = absurd early.0
+  first (Err (stop.TooLarge k n)) why refused no_read (inl early) = absurd early.0
+  first (Ok done) why refused no_read (inl early) = absurd early.0
+  first o why refused no_read (inr (inl run)) =
+      absurd (run_not_refused l c told run.0 why refused (λ n. same_free l c told run.0.names.program run.1 run.0.names n))
+  first o why refused no_read (inr (inr printing)) = absurd (printed_not_refused l c told printing.0 why refused)
+
+  -- the run of the code's program is the run of any
+  same_program : (r q : IsRun c) → IsWellMade (program_of q).tree → program_of q ≡ program_of r
+  same_program r q well =
+      let words : (program_of q).words ≡ (program_of r).words = same_words q.names.program.source.asks r.names.program.source.asks in
+      let tree : (program_of q).tree ≡ (program_of r).tree = same_tree l c told q.names.program r.names.program in
+      let free : (program_of q).free ≡ (program_of r).free = same_free l c told q.names.program well q.names r.names in
+      one_program words tree free
+
+  runs_so : (r : IsRun c) (o : Outcome) → ComesOnly c o → How c o → RanSo (program_of r).tree (view_of c (program_of r)) o
+  runs_so r (Err (stop.Refused v)) only (inl early) = absurd (run_not_stopped l c told r v early.0.0 early.0.1)
+  runs_so r (Err stop.ReadFault) only (inl early) =
+      let view = view_of c (program_of r) in
+      ran_with (program_of r).tree view (Err stop.ReadFault) (Err fault.ReadFault) refl (never_read (program_of r).tree view early.1.silent (consumes_nothing c r early.1) only)
+  runs_so r (Err stop.NoMemory) only (inl early) =
+      let view = view_of c (program_of r) in
+      ran_with (program_of r).tree view (Err stop.NoMemory) (Err fault.NoMemory) refl (never_made (program_of r).tree view early.1.silent (consumes_nothing c r early.1))
+  runs_so r (Err stop.WriteFault) only (inl early) = absurd early.0
+  runs_so r (Err (stop.TooDeep t d x f)) only (inl early) = absurd early.0
+  runs_so r (Err (stop.TooLarge k n)) only (inl early) = absurd early.0
+  runs_so r (Ok done) only (inl early) = absurd early.0
+  runs_so r o only (inr (inl run)) = subst (λ p. RanSo p.tree (view_of c p) o) (same_program r run.0 run.1) run.2
+  runs_so r o only (inr (inr printing)) = absurd (not_both r.names.program.source.asks printing.0.program.source.asks r.task printing.0.task)
+
+  prints_so : (p : IsPrinted c) (o : Outcome) → ComesOnly c o → How c o → Prints c o (canonical p.program.tree)
+  prints_so p (Err (stop.Refused v)) only (inl early) = absurd (printed_not_refused l c told p v early.0.0)
+  prints_so p (Err stop.ReadFault) only (inl early) = record {
+    front = front_of_nothing (canonical p.program.tree) c.out_before c.out_after early.1.silent;
+    whole = λ e. absurd (cc e);
+    complete = λ reads writes. absurd (reads only);
+  }
+  prints_so p (Err stop.NoMemory) only (inl early) = record {
+    front = front_of_nothing (canonical p.program.tree) c.out_before c.out_after early.1.silent;
+    whole = λ e. absurd (cc e);
+    complete = λ reads writes. inr refl;
+  }
+  prints_so p (Err stop.WriteFault) only (inl early) = absurd early.0
+  prints_so p (Err (stop.TooDeep t d x f)) only (inl early) = absurd early.0
+  prints_so p (Err (stop.TooLarge k n)) only (inl early) = absurd early.0
+  prints_so p (Ok done) only (inl early) = absurd early.0
+  prints_so p o only (inr (inl run)) = absurd (not_both run.0.names.program.source.asks p.program.source.asks run.0.task p.task)
+  prints_so p o only (inr (inr printing)) = subst (λ t. Prints c o (canonical t)) (same_tree l c told printing.0.program p.program) printing.1
+
+-- a read fault is counted
+counted : (c : Call) (o : Outcome) → ComesOnly c o → (ReadFails c → ⊥) → o ≡ Err stop.ReadFault → ⊥
+counted c o only reads is = reads (subst (ComesOnly c) is only)
+
+-- words that are refused or don't ask for what is built have that refusal alone
+only_usage : (c : Call) → c.asked ≡ None → (v : Refusal) → Refuses c v → v ≡ refusal.Usage
+only_usage c none v (by_words none') = refl
+only_usage c none v (by_task u read not_built) = absurd (cc (none, read))
+only_usage c none v (by_text s refused) = absurd (not_asked s.asks none)
+only_usage c none v (by_names t other refused) = absurd (not_asked t.source.asks none)
+only_usage c none v (by_given n refused) = absurd (not_asked n.program.source.asks none)
+
+only_unbuilt : (c : Call) (w : PlainWords) → c.asked ≡ Some w → is_built (task_of w) (form_of w) ≡ false → (v : Refusal) → Refuses c v → v ≡ refusal.NotBuilt
+only_unbuilt c w read not_built v (by_words none) = absurd (cc (none, read))
+only_unbuilt c w read not_built v (by_task u read' not_built') = refl
+only_unbuilt c w read not_built v (by_text s refused) = absurd (not_unbuilt s.asks w read not_built)
+only_unbuilt c w read not_built v (by_names t other refused) = absurd (not_unbuilt t.source.asks w read not_built)
+only_unbuilt c w read not_built v (by_given n refused) = absurd (not_unbuilt n.program.source.asks w read not_built)
+
+silent_or : (c : Call) (o : Outcome) → How c o → WritesNothing c ⊎ (IsRun c ⊎ IsPrinted c)
+silent_or c o (inl early) = inl early.1.silent
+silent_or c o (inr (inl run)) = inr (inl run.0)
+silent_or c o (inr (inr printing)) = inr (inr printing.0)
+
+pub meets : OneVerdict → (c : Call) (before after : Told) (o : Outcome) (s : Status) → Comes c o → Tells o s before after → MeetsClauses c before after s
+meets l c before after o s h tells = record {
+  outcome = o;
+  report = tells;
+  comes_only = h.only;
+  refused_where = record {
+    usage = λ none. stopped_by_words c o refusal.Usage (λ a. not_asked a none) (only_usage c none) h.how;
+    not_built = λ w read not_built. stopped_by_words c o refusal.NotBuilt (λ a. not_unbuilt a w read not_built) (only_unbuilt c w read not_built) h.how;
+    first = λ why refused told reads. first l c told o why refused (counted c o h.only reads) h.how;
+  };
+  silent = silent_or c o h.how;
+  headline = λ r told. runs_so l c told r o h.only h.how;
+  printed = λ p told. prints_so l c told p o h.only h.how;
+  few_places = h.few_places;
+}

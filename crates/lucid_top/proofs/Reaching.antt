@@ -1,0 +1,68 @@
+-- Places that are reached one behind the other.
+use Rattle.std.proofs.Common.{◌≡◌, ℕ, zero, suc, ◌+◌, ◌<◌, ◌≢◌, List, [], ◌∷◌, ◌++◌, length, map, get_or, Option, Some, None, Result, Ok, Err, take, ap, sym, subst, ◌∙◌, inl, inr, arith, add-zero, add-one}
+use Rattle.std.specs.Prelude.{IfSome, IfOk, slice_get, option_map}
+use Rattle.std.specs.List.{range_with_len}
+use Rattle.std.proofs.lemmas.Bool.{cases_lt}
+use Rattle.std.proofs.lemmas.Option.{slice_get-map, slice_get-get_or}
+use denote.Ref.{Bor}
+use Rattle.lucid_ports.specs.World.{World, Contents, IsFresh, KeepsOthers, unread}
+use Rattle.lucid_top.specs.Places.{KeepsNames, AreFresh}
+
+-- its first bytes are those of its name
+read_fresh : (most : ℕ) (bytes : List ℕ) (held : Option (List ℕ)) (contents : Option Contents) → contents ≡ option_map unread held
+    → IfSome contents (λ c. bytes ≡ take most c.left) → IfSome held (λ source. bytes ≡ take most source)
+read_fresh most bytes None contents fresh read = tt
+read_fresh most bytes (Some source) contents fresh read = let P : Option Contents → Type 0 = λ o. IfSome o (λ c. bytes ≡ take most c.left) in subst P fresh read
+
+-- the same of a call's answer
+pub read_all : {B E : Type 0} (r : Result B E) (items : B → List ℕ) (most : ℕ) (held : Option (List ℕ)) (contents : Option Contents) → contents ≡ option_map unread held
+    → IfOk r (λ b. IfSome contents (λ c. items b ≡ take most c.left)) → IfOk r (λ b. IfSome held (λ source. items b ≡ take most source))
+read_all (Ok b) items most held contents fresh read = read_fresh most (items b) held contents fresh read
+read_all (Err e) items most held contents fresh read = tt
+
+-- names stay from call to call
+pub keeps_on : (w v u : World) (number : ℕ) → KeepsNames w v → KeepsOthers number v u → KeepsNames w u
+keeps_on w v u number k o = record { names = λ name. o.names name ∙ k.names name; faults = omega (arith, k.faults, o.faults) }
+
+-- where no place was reached since, what was fresh is
+fresh_still : (files : List (List ℕ)) (w v u : World) → AreFresh files w v → KeepsOthers v.reached v u
+    → (k : ℕ) (file : List ℕ) → slice_get files k ≡ Some file → w.reached + k < v.reached → IsFresh (w.holds file) (u.place (w.reached + k))
+fresh_still files w v u fresh o k file is lt =
+    let differ : w.reached + k ≢ v.reached = λ e. absurd (omega (arith, e, lt)) in
+    subst (IsFresh (w.holds file)) (sym (o.others (w.reached + k) differ)) (fresh k file is lt)
+
+pub fresh_after : (files : List (List ℕ)) (w v u : World) → AreFresh files w v → KeepsOthers v.reached v u → u.reached ≡ v.reached → AreFresh files w u
+fresh_after files w v u fresh o same k file is lt = fresh_still files w v u fresh o k file is (omega (arith, lt, same))
+
+-- and the place of the next file is, once that is reached
+last_fresh : (files : List (List ℕ)) (w v u : World) (i k : ℕ) (name file : List ℕ) → v.reached ≡ w.reached + i → slice_get files i ≡ Some name → k ≡ i → slice_get files k ≡ Some file
+    → KeepsNames w v → IsFresh (v.holds name) (u.place v.reached) → IsFresh (w.holds file) (u.place (w.reached + k))
+last_fresh files w v u i k name file at is same is' keeps fresh =
+    let one : slice_get files i ≡ Some file = subst (λ j. slice_get files j ≡ Some file) same is' in
+    let names : name ≡ file = cc (is, one) in
+    let place : v.reached ≡ w.reached + k = omega (arith, at, same) in
+    subst (λ q. IsFresh (w.holds file) (u.place q)) place (subst (λ h. IsFresh h (u.place v.reached)) (ap v.holds names ∙ keeps.names file) fresh)
+
+pub fresh_more : (files : List (List ℕ)) (w v u : World) (i : ℕ) (name : List ℕ) → v.reached ≡ w.reached + i → slice_get files i ≡ Some name → AreFresh files w v → KeepsNames w v
+    → KeepsOthers v.reached v u → u.reached ≡ v.reached + 1 → (q : ℕ) → q ≡ v.reached → IsFresh (v.holds name) (u.place q) → AreFresh files w u
+fresh_more files w v u i name at is fresh keeps o more q number new k file is' lt =
+    elim (cases_lt k i) [
+      | inl before ↦ fresh_still files w v u fresh o k file is' (omega (arith, before, at))
+      | inr past ↦ last_fresh files w v u i k name file at is (omega (arith, past, lt, more, at)) is' keeps (subst (λ p. IsFresh (v.holds name) (u.place p)) number new)
+    ]
+
+-- one number more
+range_suc : (a n : ℕ) → range_with_len a (suc n) ≡ range_with_len a n ++ (a + n) ∷ []
+range_suc a zero = ap (λ x. x ∷ []) (sym (add-zero a))
+range_suc a (suc n) =
+    let same : (a + 1) + n ≡ a + suc n = omega arith in
+    ap (λ rest. a ∷ rest) (range_suc (a + 1) n ∙ ap (λ x. range_with_len (a + 1) n ++ x ∷ []) same)
+
+pub range_more : (a n q : ℕ) (numbers numbers' : List ℕ) → numbers ≡ range_with_len a n → q ≡ a + n → numbers' ≡ numbers ++ q ∷ [] → numbers' ≡ range_with_len a (n + 1)
+range_more a n q numbers numbers' are at more =
+    let last : range_with_len a (n + 1) ≡ range_with_len a n ++ (a + n) ∷ [] = rw add-one (range_suc a n) in
+    more ∙ ap (λ l. l ++ q ∷ []) are ∙ ap (λ x. range_with_len a n ++ x ∷ []) at ∙ sym last
+
+-- the name of a file
+pub named_at : (files : List (Bor (List ℕ))) (i : ℕ) (d : Bor (List ℕ)) → i < length files → slice_get (map (λ file. file.now) files) i ≡ Some (get_or files i d).now
+named_at files i d h = slice_get-map (λ file. file.now) files i ∙ ap (option_map (λ file. file.now)) (slice_get-get_or files i d h)

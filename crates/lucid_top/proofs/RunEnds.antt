@@ -1,0 +1,162 @@
+-- How a call comes to its outcome that runs its program.
+use Rattle.std.proofs.Common.{◌≡◌, ◌≢◌, ℕ, ◌+◌, ◌-◌, ◌<◌, ◌≤◌, Bool, true, cond, List, [], length, map, get_or, nat_lt, Some, Ok, Err, inl, inr, sym, ap, subst, ◌∙◌, arith}
+use Rattle.std.specs.Prelude.{slice_get, unwrap_or, option_map, AllPairs, codes}
+use denote.Ref.{Bor}
+use Rattle.std.proofs.lemmas.Bool.{lt-ltb}
+use Rattle.std.specs.List.{range_with_len}
+use Rattle.std.proofs.lemmas.List.{length-map}
+use Rattle.std.proofs.lemmas.List.FromFn.{length-range_with_len, get_or-range_with_len}
+use Rattle.std.proofs.lemmas.Option.{slice_get-get_or, slice_get_within, get_or_from_slice_get, unwrap_or-slice_get}
+use Rattle.lucid_ports.specs.World.{World, Place, IsFresh, unread}
+use Rattle.lucid_tree.specs.Tree.{PlainTree}
+use Rattle.lucid_words.specs.declared.Given.{Given as Word}
+use Rattle.lucid_words.specs.Plain.{plain_given}
+use Rattle.lucid_words.specs.Asked.{PlainWords}
+use Rattle.lucid_top.specs.declared.stop.Done.TheVariants as done
+use Rattle.lucid_top.specs.declared.stop.Stop.TheVariants as stop
+use Rattle.lucid_top.specs.declared.task.Task.TheVariants as task
+use Rattle.lucid_top.specs.Status.{Outcome}
+use Rattle.lucid_top.specs.Call.{Call}
+use Rattle.lucid_top.specs.Tasks.{task_of}
+use Rattle.lucid_top.specs.Judged.{HasInputs}
+use Rattle.lucid_top.specs.Files.{Given, FitsGiven, file_given, files_for}
+use Rattle.lucid_top.specs.Stages.{IsRun}
+use Rattle.lucid_top.specs.Places.{KeepsNames, IsAccepted, AreFresh, AreUnread}
+use Rattle.lucid_top.specs.Runs.{first_place, program_of, input_places, unread_place, world_before, world_after, viewed, RanSo}
+use Rattle.lucid_top.specs.Running.{RunComesOnly}
+use Rattle.lucid_top.specs.Clauses.{ComesOnly}
+use Rattle.lucid_top.specs.Coming.{Comes}
+use Rattle.lucid_top.proofs.Pieces.{rises_from}
+use Rattle.lucid_top.proofs.Ending.{Begins, names_of, first_place_le}
+use Rattle.lucid_top.proofs.Views.{TellAlike, ran_alike}
+
+-- a number of a range
+pub in_range : (a n k q : ℕ) → slice_get (range_with_len a n) k ≡ Some q → (q ≡ a + k) × (k < n)
+in_range a n k q at =
+    let long : length (range_with_len a n) ≡ n = length-range_with_len a n in
+    let lt : k < n = omega (arith, slice_get_within (range_with_len a n) k q at, long) in
+    (sym (get_or_from_slice_get (range_with_len a n) k q q at) ∙ get_or-range_with_len a n k q lt, lt)
+
+-- the numbers of a range differ
+pub range_differs : (a n : ℕ) → AllPairs (λ x y. x ≢ y) (range_with_len a n)
+range_differs a n i j d lt below same =
+    let long : length (range_with_len a n) ≡ n = length-range_with_len a n in
+    let first : get_or (range_with_len a n) i d ≡ a + i = get_or-range_with_len a n i d (omega (arith, lt, below, long)) in
+    let later : get_or (range_with_len a n) j d ≡ a + j = get_or-range_with_len a n j d (omega (arith, below, long)) in
+    absurd (omega (arith, first, later, same, lt))
+
+-- nothing is read of the places just reached
+pub all_unread : (files : List (List ℕ)) (old new : World) (numbers : List ℕ) → AreFresh files old new → new.reached ≡ old.reached + length files
+    → numbers ≡ range_with_len old.reached (length files) → AreUnread numbers new
+all_unread files old new numbers fresh reached are k q at =
+    let here = in_range old.reached (length files) k q (subst (λ l. slice_get l k ≡ Some q) are at) in
+    let lt : q < new.reached = omega (arith, here.0, here.1, reached) in
+    let lt' : old.reached + k < new.reached = omega (arith, here.1, reached) in
+    let file : List ℕ = get_or files k [] in
+    let place : IsFresh (old.holds file) (new.place (old.reached + k)) = fresh k file (slice_get-get_or files k [] here.1) lt' in
+    (lt, (old.holds file, subst (λ n. IsFresh (old.holds file) (new.place n)) (sym here.0) place))
+
+-- what a test lets through
+let_through : (b : Bool) (x y : Place) → b ≡ true → (cond b x y).contents ≡ x.contents
+let_through b x y is = ap (λ t. (cond t x y).contents) is
+
+-- the same by names that are the same and by the same words
+pub carried : (P : List (List ℕ) → Given → Type 0) (a b : List (List ℕ)) (ws vs : List Word) → a ≡ b → ws ≡ vs → P a (map plain_given ws) → P b (map plain_given vs)
+carried P a b ws vs names words h = subst (λ x. P x (map plain_given vs)) names (subst (λ (y : List Word). P a (map plain_given y)) words h)
+
+-- the files as they are reached
+pub refs_are : (refs refs' : List (Bor (List ℕ))) (files : List (List ℕ)) → refs ≡ refs' → map (λ file. file.now) refs' ≡ files → map (λ file. file.now) refs ≡ files
+refs_are refs refs' files same is = ap (map (λ (file : Bor (List ℕ)). file.now)) same ∙ is
+
+pub refs_long : (refs : List (Bor (List ℕ))) (files : List (List ℕ)) → map (λ file. file.now) refs ≡ files → length refs ≡ length files
+refs_long refs files is = sym (length-map refs (λ (file : Bor (List ℕ)). file.now)) ∙ ap length is
+
+-- as many files as names
+pub files_long : (free : List (List ℕ)) (given : Given) → length (files_for free given) ≡ length free
+files_long free given = length-map free (λ n. unwrap_or (file_given given n) (codes "-"))
+
+-- the files that are reached are those of the free names
+pub record Reached (free : List (List ℕ)) (given : Given) (v u : World) (numbers : List ℕ) : Type 0 where
+  pub fresh : AreFresh (files_for free given) v u
+  pub reached : u.reached ≡ v.reached + length (files_for free given)
+  pub numbers_are : numbers ≡ range_with_len v.reached (length (files_for free given))
+
+pub reached_of : (free : List (List ℕ)) (given : Given) (refs refs' : List (Bor (List ℕ))) (v u : World) (numbers : List ℕ) → refs ≡ refs' → map (λ file. file.now) refs' ≡ files_for free given
+    → AreFresh (map (λ file. file.now) refs) v u → u.reached ≡ v.reached + length refs → numbers ≡ range_with_len v.reached (length refs) → Reached free given v u numbers
+reached_of free given refs refs' v u numbers same are fresh reached numbers_are =
+    let files : map (λ file. file.now) refs ≡ files_for free given = refs_are refs refs' (files_for free given) same are in
+    let long : length refs ≡ length (files_for free given) = refs_long refs (files_for free given) files in
+    record { fresh = subst (λ fs. AreFresh fs v u) files fresh; reached = omega (arith, reached, long); numbers_are = numbers_are ∙ ap (range_with_len v.reached) long }
+
+-- what the places tell of the inputs before the run, told from the files
+told_before : (c : Call) (w : PlainWords) (p : PlainTree) (free : List (List ℕ)) (v u : World) → v.reached ≡ first_place w.source → KeepsNames c.before v
+    → AreFresh (files_for free w.given) v u → u.reached ≡ v.reached + length (files_for free w.given)
+    → (k q : ℕ) → slice_get (range_with_len (first_place w.source) (length free)) k ≡ Some q
+    → (unread_place c (record { words = w; tree = p; free = free }) q).contents ≡ (u.place q).contents
+told_before c w p free v u first kept fresh reached k q at =
+    let files : List (List ℕ) = files_for free w.given in
+    let long : length files ≡ length free = files_long free w.given in
+    let here = in_range (first_place w.source) (length free) k q at in
+    let below : k < length files = omega (arith, here.1, long) in
+    let file : List ℕ = get_or files k [] in
+    let at_place : q ≡ v.reached + k = omega (arith, here.0, first) in
+    let back : q - first_place w.source ≡ k = omega (arith, here.0) in
+    let place : IsFresh (v.holds file) (u.place (v.reached + k)) = fresh k file (slice_get-get_or files k [] below) (omega (arith, below, reached)) in
+    let name : unwrap_or (slice_get files (q - first_place w.source)) [] ≡ file = ap (λ j. unwrap_or (slice_get files j) []) back ∙ unwrap_or-slice_get files k [] in
+    ap (λ n. option_map unread (c.before.holds n)) name ∙ ap (option_map unread) (sym (kept.names file)) ∙ sym place.contents ∙ ap (λ n. (u.place n).contents) (sym at_place)
+
+-- the command's own view of its inputs tells the same as their places
+tells_alike : (c : Call) (w : PlainWords) (p : PlainTree) (free : List (List ℕ)) (v u : World) → v.reached ≡ first_place w.source → KeepsNames c.before v → KeepsNames v u
+    → AreFresh (files_for free w.given) v u → u.reached ≡ v.reached + length (files_for free w.given) → c.after.reached ≡ u.reached → u.faults ≤ c.after.faults
+    → TellAlike (input_places (record { words = w; tree = p; free = free })) u c.after
+    (world_before c (record { words = w; tree = p; free = free })) (world_after c (record { words = w; tree = p; free = free }))
+tells_alike c w p free v u first kept kept' fresh reached same mono = record {
+  before = told_before c w p free v u first kept fresh reached;
+  after = λ k q at.
+      let here = in_range (first_place w.source) (length free) k q at in
+      let long : length (files_for free w.given) ≡ length free = files_long free w.given in
+      let lt : q < c.after.reached = omega (arith, here.0, here.1, long, first, reached, same) in
+      let_through (nat_lt q c.after.reached) (c.after.place q) (unread_place c (record { words = w; tree = p; free = free }) q) (lt-ltb q c.after.reached lt);
+  faults = λ rises. rises_from c.before.faults u.faults c.after.faults (omega (arith, kept.faults, kept'.faults)) mono rises;
+}
+
+-- what a run has for its outcome, the call has
+run_only : (c : Call) (r : IsRun c) (u : World) (o : Outcome) → c.before.faults ≤ u.faults → u.faults ≤ c.after.faults
+    → RunComesOnly (program_of r).words (program_of r).free u.faults c.after.faults c.out_before.faults c.out_after.faults o → ComesOnly c o
+run_only c r u (Ok (done.Ran summary stats)) le mono h = (r, h.0, h.1)
+run_only c r u (Ok done.Printed) le mono h = absurd h
+run_only c r u (Err (stop.Refused why)) le mono h = absurd h
+run_only c r u (Err stop.ReadFault) le mono h = rises_from c.before.faults u.faults c.after.faults le mono h
+run_only c r u (Err stop.WriteFault) le mono h = h
+run_only c r u (Err (stop.TooDeep time lost cleared stats)) le mono h = (r, h)
+run_only c r u (Err (stop.TooLarge stream name)) le mono h = (r, h)
+run_only c r u (Err stop.NoMemory) le mono h = tt
+
+-- what is known of a run once it has ended, over the places as they were after the source was read, and once the inputs were reached
+pub record Ended (c : Call) (w : PlainWords) (p : PlainTree) (free : List (List ℕ)) (v u : World) (numbers : List ℕ) (o : Outcome) : Type 0 where
+  pub first : v.reached ≡ first_place w.source
+  pub kept : KeepsNames c.before v
+  pub kept_on : KeepsNames v u
+  pub inputs : Reached free w.given v u numbers
+  pub few : length free ≤ 1048576
+  pub same_reached : c.after.reached ≡ u.reached
+  pub faults : u.faults ≤ c.after.faults
+  pub ran : RanSo p (viewed w free numbers u c.after c.out_before c.out_after) o
+  pub only : RunComesOnly w free u.faults c.after.faults c.out_before.faults c.out_after.faults o
+
+pub runs : (c : Call) (w : PlainWords) (p : PlainTree) (free : List (List ℕ)) (v u : World) (numbers : List ℕ) (o : Outcome) → Begins c w → task_of w ≡ task.Run
+    → IsAccepted w.source c.before p → HasInputs p free → FitsGiven free w.given → Ended c w p free v u numbers o → Comes c o
+runs c w p free v u numbers o b is a inputs fits e =
+    let r : IsRun c = record { names = names_of c w p free b is a inputs; task = is; fits = fits } in
+    let long : length (files_for free w.given) ≡ length free = files_long free w.given in
+    let places : numbers ≡ range_with_len (first_place w.source) (length free) =
+    e.inputs.numbers_are ∙ ap (λ n. range_with_len n (length (files_for free w.given))) e.first ∙ ap (range_with_len (first_place w.source)) long in
+    let seen : RanSo p (viewed w free (range_with_len (first_place w.source) (length free)) u c.after c.out_before c.out_after) o =
+    subst (λ qs. RanSo p (viewed w free qs u c.after c.out_before c.out_after) o) places e.ran in
+    let alike = tells_alike c w p free v u e.first e.kept e.kept_on e.inputs.fresh e.inputs.reached e.same_reached e.faults in
+    let one = first_place_le w.source in
+    record {
+      only = run_only c r u o (omega (arith, e.kept.faults, e.kept_on.faults)) e.faults e.only;
+      how = inr (inl (r, a.well_made, ran_alike w free (range_with_len (first_place w.source) (length free)) u c.after (world_before c (program_of r)) (world_after c (program_of r)) c.out_before c.out_after alike p o seen));
+      few_places = omega (arith, e.same_reached, e.inputs.reached, long, e.few, e.first, one);
+    }

@@ -1,0 +1,7 @@
+use Rattle.std.proofs.Common.{◌≡◌, map, drop}
+use Rattle.lucid_words.specs.Plain.{plain_given}
+use Rattle.lucid_top.specs.Files.{file_given}
+use Rattle.lucid_top.proofs.files.file_given.Given as goal
+
+abbrev pub invariant-loop-word : goal.invariant-loop-word
+invariant-loop-word l = file_given (map plain_given (drop l.word-index l.given)) l.name ≡ file_given (map plain_given l.given) l.name

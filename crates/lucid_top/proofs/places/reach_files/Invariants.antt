@@ -1,0 +1,12 @@
+use Rattle.std.proofs.Common.{◌≡◌, ◌+◌, map}
+use Rattle.std.specs.List.{range_with_len}
+use Rattle.lucid_top.specs.Places.{KeepsNames, AreFresh}
+use Rattle.lucid_top.proofs.places.reach_files.Given as goal
+
+abbrev pub invariant-loop-file : goal.invariant-loop-file
+invariant-loop-file g l = record {
+  numbers : l.numbers.items ≡ range_with_len (g.P.Places.world l.initial.places).reached l.file-index;
+  reached : (g.P.Places.world l.places).reached ≡ (g.P.Places.world l.initial.places).reached + l.file-index;
+  fresh : AreFresh (map (λ file. file.now) l.files) (g.P.Places.world l.initial.places) (g.P.Places.world l.places);
+  keeps : KeepsNames (g.P.Places.world l.initial.places) (g.P.Places.world l.places);
+}

@@ -1,5 +1,0 @@
-use Rattle.lucid_top.proofs.Reading.{read_all}
-use Rattle.lucid_top.proofs.source.read_source.Goals as goal
-
-pub returns-clause-bytes : goal.returns-clause-bytes
-returns-clause-bytes g c = read_all c.read_at_most.result (λ bytes. bytes.items) 1048577 _ _ c.in_ok-place.ensures.fresh.contents c.read_at_most.ensures.bytes

@@ -1,0 +1,25 @@
+use Rattle.std.proofs.lemmas.Result.{IfErr-weaker, err_from_is_err_and}
+use Rattle.lucid_words.specs.Plain.{plain_source}
+use Rattle.lucid_top.specs.Places.{IsProgramStop}
+use Rattle.lucid_top.specs.Judged.{RefusesNames}
+use Rattle.lucid_top.specs.Refusals.{IsRefusalOf}
+use Rattle.lucid_top.proofs.Ending.{all_accepted, names_stop, source_stop}
+use Rattle.lucid_top.proofs.top.program_of.Goals as goal
+
+pub returns-in_err-tree-clause-stopped : goal.returns-in_err-tree-clause-stopped
+returns-in_err-tree-clause-stopped g c =
+    let p = err_from_is_err_and c.from_residual.result c.from_residual.ensures.1 in
+    rw (p.1, p.2) (source_stop (plain_source c.args.words.now.source) (g.P.Places.world c.args.places.now) (g.P.Places.world c.tree_of.new.places) c.in_err-tree.field-0.0 c.in_err-tree.ensures.stopped)
+
+pub returns-clause-accepted : goal.returns-clause-accepted
+returns-clause-accepted g c =
+    all_accepted (plain_source c.args.words.now.source) (g.P.Places.world c.args.places.now) c.in_ok-tree.tree c.resolve_names.result c.in_ok-tree.ensures.spelt
+    c.in_ok-tree.ensures.well_made c.in_ok-tree.ensures.few_nodes c.resolve_names.ensures.tree c.resolve_names.ensures.no_fault
+
+pub returns-clause-stopped : goal.returns-clause-stopped
+returns-clause-stopped g c =
+    IfErr-weaker c.resolve_names.result (IsRefusalOf (RefusesNames c.in_ok-tree.tree))
+    (IsProgramStop (plain_source c.args.words.now.source) (g.P.Places.world c.args.places.now) (g.P.Places.world c.tree_of.new.places))
+    (λ s refused. names_stop (plain_source c.args.words.now.source) (g.P.Places.world c.args.places.now) (g.P.Places.world c.tree_of.new.places) c.in_ok-tree.tree s
+    c.in_ok-tree.ensures.spelt c.in_ok-tree.ensures.well_made refused)
+    c.resolve_names.ensures.refused

@@ -1,0 +1,70 @@
+-- What the places tell while the source is read and the inputs are reached.
+use Rattle.std.specs.Prelude.{◌≡◌, ℕ, ◌+◌, ◌<◌, ◌≤◌, ◌⊎◌, List, length, Option, Some, take, IfSome, slice_get}
+use Rattle.lucid_ports.specs.World.{World, IsFresh}
+use Rattle.lucid_ports.specs.Faults.{Rises}
+use Rattle.lucid_ports.specs.declared.fault.PortFault.{PortFault}
+use Rattle.lucid_ports.specs.declared.fault.PortFault.TheVariants.{Failed, NoMemory}
+use Rattle.lucid_make.specs.Source.{made_source}
+use Rattle.lucid_tree.specs.Tree.{PlainTree}
+use Rattle.lucid_tree.specs.WellMade.{places, IsWellMade}
+use Rattle.lucid_scope.specs.Bindings.{HasNoFault}
+use Rattle.lucid_words.specs.Plain.{PlainSource, file, made}
+use Rattle.lucid_top.specs.declared.stop.Stop.{Stop}
+use Rattle.lucid_top.specs.declared.stop.Stop.TheVariants as stop
+use Rattle.lucid_top.specs.Judged.{Spelt, RefusesText, RefusesNames}
+use Rattle.lucid_top.specs.Stages.{IsSource}
+
+-- no name holds anything else, and faults are only counted
+pub record KeepsNames (old new : World) : Type 0 where
+  pub names : (name : List ℕ) → new.holds name ≡ old.holds name
+  pub faults : old.faults ≤ new.faults
+
+-- The source, but of a file that is too long only the first bytes, one more than a source may have.
+abbrev pub IsSourceFront : PlainSource → World → List ℕ → Type 0
+IsSourceFront (file name) w bytes = IfSome (w.holds name) (λ held. bytes ≡ take 1048577 held)
+IsSourceFront (made n) w bytes = bytes ≡ made_source n
+
+-- A call on the places failed, which is counted, or there was no memory.
+abbrev pub IsReadStop : (old new : World) → Stop → Type 0
+IsReadStop old new stop.ReadFault = Rises old.faults new.faults
+IsReadStop old new stop.NoMemory = Unit {0}
+IsReadStop old new _ = ⊥
+
+-- The tree is that of the source.
+pub record SpeltBySource (source : PlainSource) (w : World) (p : PlainTree) : Type 0 where
+  pub bytes : List ℕ
+  pub is : IsSource source w bytes
+  pub spelt : Spelt bytes p
+
+-- The text of the source is refused so; or it can't be read; or there was no memory.
+abbrev pub IsSourceStop : PlainSource → (old new : World) → Stop → Type 0
+IsSourceStop source old new (stop.Refused why) = (bytes : List ℕ) × IsSource source old bytes × RefusesText bytes why
+IsSourceStop source old new stop.ReadFault = Rises old.faults new.faults
+IsSourceStop source old new stop.NoMemory = Unit {0}
+IsSourceStop source old new _ = ⊥
+
+-- The tree is that of the source and no name of it is at fault; it is well made, and has no more nodes than a source may have bytes.
+pub record IsAccepted (source : PlainSource) (w : World) (p : PlainTree) : Type 0 where
+  pub spelt : SpeltBySource source w p
+  pub no_fault : HasNoFault p
+  pub well_made : IsWellMade p
+  pub few : length (places p) ≤ 1048576
+
+-- The source stops the call, or the names of its tree are refused.
+abbrev pub IsProgramStop : PlainSource → (old new : World) → Stop → Type 0
+IsProgramStop source old new (stop.Refused why) =
+    IsSourceStop source old new (stop.Refused why) ⊎ ((p : PlainTree) × SpeltBySource source old p × IsWellMade p × RefusesNames p why)
+IsProgramStop source old new s = IsSourceStop source old new s
+
+-- Each of the places that are newly reached, in the order of the files, is a fresh place of its file.
+abbrev pub AreFresh : (files : List (List ℕ)) → (old new : World) → Type 0
+AreFresh files old new = (k : ℕ) (file : List ℕ) → slice_get files k ≡ Some file → old.reached + k < new.reached → IsFresh (old.holds file) (new.place (old.reached + k))
+
+-- nothing is read of the places with these numbers, which are reached
+abbrev pub AreUnread : (numbers : List ℕ) → World → Type 0
+AreUnread numbers w = (k : ℕ) (q : ℕ) → slice_get numbers k ≡ Some q → (q < w.reached) × ((bytes : Option (List ℕ)) × IsFresh bytes (w.place q))
+
+-- a refusal of the places, as what stops a call
+abbrev pub read_stop : PortFault → Stop
+read_stop Failed = stop.ReadFault
+read_stop NoMemory = stop.NoMemory

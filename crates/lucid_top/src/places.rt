@@ -1,0 +1,87 @@
+//! What is read from: the source, and the places of the inputs.
+ghost use Rattle.std.specs.Prelude.{◌≡◌, ◌≤◌, ◌<◌, ◌+◌, length, map, take, IfOk, IfErr, IfSome, OnOk, IsErrOf};
+ghost use Rattle.std.specs.List.{range_with_len};
+ghost use Rattle.lucid_ports.specs.Faults.{Rises};
+ghost use Rattle.lucid_words.specs.Plain.{plain_source};
+ghost use Rattle.lucid_words.specs.Numbers.{MadeIsFromTo};
+ghost use Rattle.lucid_top.specs.Runs.{first_place};
+ghost use Rattle.lucid_top.specs.Places.{KeepsNames, IsSourceFront, IsReadStop, AreFresh, read_stop};
+
+use crate::stop::Stop;
+use lucid_make::make_source;
+use lucid_ports::{Places, PortFault, read_at_most};
+use lucid_words::Source;
+use std::alloc::Global;
+
+// One byte more than a source may have.
+const PAST_LIMIT: usize = 1_048_577;
+
+// A refusal of the places.
+fn read_stop(fault: PortFault) -> Stop
+    ensures { result ≡ read_stop fault }
+{
+    match fault {
+        PortFault::Failed => Stop::ReadFault,
+        PortFault::NoMemory => Stop::NoMemory,
+    }
+}
+
+// Reaches the file of that name and reads it, to its end or to one byte more than a source may have.
+fn read_file<P: Places>(alloc: Global, places: &mut P, name: &str) -> Result<Vec<u8>, PortFault>
+    requires { (P.world places.old).reached ≡ 0 }
+    ensures bytes { IfOk result (λ bytes. IfSome ((P.world places.old).holds name.now) (λ held. bytes.items ≡ take 1048577 held)) }
+    ensures reached { OnOk result ((P.world places.new).reached ≡ 1) }
+    ensures few { (P.world places.new).reached ≤ 1 }
+    ensures keeps { KeepsNames (P.world places.old) (P.world places.new) }
+    ensures failed { IsErrOf result PortFault.Failed → Rises (P.world places.old).faults (P.world places.new).faults }
+{
+    let place = places.reach(alloc, name)?;
+    read_at_most(alloc, places, place, PAST_LIMIT)
+}
+
+/// The first bytes of the source: all, or one more than a source may have.
+pub fn read_source<P: Places>(
+    alloc: Global,
+    source: &Source,
+    places: &mut P,
+) -> Result<Vec<u8>, Stop>
+    requires made { MadeIsFromTo 1 10000 source.now }
+    requires none { (P.world places.old).reached ≡ 0 }
+    ensures source { IfOk result (λ bytes. IsSourceFront (plain_source source.now) (P.world places.old) bytes.items) }
+    ensures reached { OnOk result ((P.world places.new).reached ≡ first_place (plain_source source.now)) }
+    ensures few { (P.world places.new).reached ≤ first_place (plain_source source.now) }
+    ensures keeps { KeepsNames (P.world places.old) (P.world places.new) }
+    ensures stopped { IfErr result (IsReadStop (P.world places.old) (P.world places.new)) }
+{
+    match source {
+        Source::File(name) => match read_file(alloc, places, name) {
+            Ok(bytes) => Ok(bytes),
+            Err(fault) => Err(read_stop(fault)),
+        },
+        Source::Made(n) => Ok(make_source(alloc, *n)?),
+    }
+}
+
+/// Reaches the place of each file, in order, and gives their numbers.
+pub fn reach_files<P: Places>(
+    alloc: Global,
+    places: &mut P,
+    files: &[&str],
+) -> Result<Vec<u32>, Stop>
+    requires { (P.world places.old).reached + length files.now < 2000000 }
+    ensures numbers { IfOk result (λ numbers. numbers.items ≡ range_with_len (P.world places.old).reached (length files.now)) }
+    ensures reached { OnOk result ((P.world places.new).reached ≡ (P.world places.old).reached + length files.now) }
+    ensures few { (P.world places.new).reached ≤ (P.world places.old).reached + length files.now }
+    ensures fresh { AreFresh (map (λ file. file.now) files.now) (P.world places.old) (P.world places.new) }
+    ensures keeps { KeepsNames (P.world places.old) (P.world places.new) }
+    ensures stopped { IfErr result (IsReadStop (P.world places.old) (P.world places.new)) }
+{
+    let mut numbers = Vec::new(alloc);
+    for file in files {
+        match places.reach(alloc, file) {
+            Ok(place) => numbers.push(place)?,
+            Err(fault) => return Err(read_stop(fault)),
+        }
+    }
+    Ok(numbers)
+}

@@ -1,0 +1,117 @@
+//! What comes of a call.
+ghost use Rattle.std.specs.Prelude.{◌≡◌};
+ghost use Rattle.lucid_top.specs.declared.stop.Stop.TheVariants.{NoMemory};
+ghost use Rattle.lucid_top.specs.Refusals.{words_stop, scan_stop, parse_stop, scope_stop};
+
+use crate::refusal::Refusal;
+use lucid_parse::ParseRefusal;
+use lucid_ports::Summary;
+use lucid_scan::ScanRefusal;
+use lucid_scope::ScopeRefusal;
+use lucid_value::Name;
+use lucid_words::WordsRefusal;
+use std::alloc::{AllocError, AllocFailed};
+
+/// What a call has done.
+#[derive(Clone, Copy)]
+pub enum Done {
+    /// The program was run. `stats` says whether the summary is reported.
+    Ran { summary: Summary, stats: bool },
+    /// The canonical source was printed.
+    Printed,
+}
+
+/// Why a call ends before it has done what the words ask for.
+#[derive(Drop)]
+pub enum Stop {
+    /// The call is refused.
+    Refused(Refusal),
+    /// A call on the places failed.
+    ReadFault,
+    /// A write on the output failed.
+    WriteFault,
+    /// The value at the time is deeper than the limit. `stats` says whether the two counts of the run are reported.
+    TooDeep {
+        time: u64,
+        lost: u64,
+        cleared: u64,
+        stats: bool,
+    },
+    /// An element of this input lies past the bytes that may be read.
+    TooLarge {
+        stream: u32,
+        name: Name,
+    },
+    /// There was no memory.
+    NoMemory,
+}
+
+impl From<AllocError> for Stop {
+    ghost from_gives = { λ _ stop. stop ≡ NoMemory };
+
+    fn from(_: AllocError) -> Stop {
+        Stop::NoMemory
+    }
+}
+
+impl<T: Drop> From<AllocFailed<T>> for Stop {
+    ghost from_gives = { λ _ stop. stop ≡ NoMemory };
+
+    fn from(_: AllocFailed<T>) -> Stop {
+        Stop::NoMemory
+    }
+}
+
+impl From<WordsRefusal> for Stop {
+    ghost from_gives = { λ refusal stop. stop ≡ words_stop refusal };
+
+    fn from(refusal: WordsRefusal) -> Stop {
+        match refusal {
+            WordsRefusal::Usage => Stop::Refused(Refusal::Usage),
+            WordsRefusal::NoMemory => Stop::NoMemory,
+        }
+    }
+}
+
+impl From<ScanRefusal> for Stop {
+    ghost from_gives = { λ refusal stop. stop ≡ scan_stop refusal };
+
+    fn from(refusal: ScanRefusal) -> Stop {
+        match refusal {
+            ScanRefusal::TooLong => Stop::Refused(Refusal::TooLong),
+            ScanRefusal::BadByte { at } => Stop::Refused(Refusal::BadByte { at }),
+            ScanRefusal::OpenText { at } => Stop::Refused(Refusal::OpenText { at }),
+            ScanRefusal::BigNumber { at } => Stop::Refused(Refusal::BigNumber { at }),
+            ScanRefusal::NoMemory => Stop::NoMemory,
+        }
+    }
+}
+
+impl From<ParseRefusal> for Stop {
+    ghost from_gives = { λ refusal stop. stop ≡ parse_stop refusal };
+
+    fn from(refusal: ParseRefusal) -> Stop {
+        match refusal {
+            ParseRefusal::Syntax { at } => Stop::Refused(Refusal::Syntax { at }),
+            ParseRefusal::TooNested { at } => Stop::Refused(Refusal::TooNested { at }),
+            ParseRefusal::NoMemory => Stop::NoMemory,
+        }
+    }
+}
+
+impl From<ScopeRefusal> for Stop {
+    ghost from_gives = { λ refusal stop. stop ≡ scope_stop refusal };
+
+    fn from(refusal: ScopeRefusal) -> Stop {
+        match refusal {
+            ScopeRefusal::Twice { at } => Stop::Refused(Refusal::Twice { at }),
+            ScopeRefusal::NoFunction { at } => Stop::Refused(Refusal::NoFunction { at }),
+            ScopeRefusal::NotFunction { at } => Stop::Refused(Refusal::NotFunction { at }),
+            ScopeRefusal::IsFunction { at } => Stop::Refused(Refusal::IsFunction { at }),
+            ScopeRefusal::Arity { at, wanted, given } => {
+                Stop::Refused(Refusal::Arity { at, wanted, given })
+            }
+            ScopeRefusal::NoMemory => Stop::NoMemory,
+        }
+    }
+}
