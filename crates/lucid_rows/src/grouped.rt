@@ -4,6 +4,7 @@ use lucid_parse::parse;
 use lucid_print::print_tree;
 use lucid_scan::scan;
 use std::alloc::Global;
+use std::process::Abort;
 use std::test::Fail;
 
 // The canonical source of the tree that a source spells.
@@ -88,7 +89,7 @@ fn sources_spell_the_trees_of_their_parenthesised_texts(rt: HostRuntime) -> Resu
 }
 
 /// The accepted sources of the worked rows.
-static ACCEPTED: [&'static str; 39] = [
+static ACCEPTED: [&'static str; 50] = [
     "1",
     "x where x = 0 fby x + 1; end",
     "f where f = 0 fby g; g = 1 fby f + g; end",
@@ -103,22 +104,27 @@ static ACCEPTED: [&'static str; 39] = [
     "sum(x) + sum(y) where sum(z) = s where s = z fby s + next z; end; x = 1 fby x + 1; y = 10; end",
     "s where s = a fby s + next a; end",
     "first a",
+    "a",
+    "a attime 9223372036854775807",
     "x where x = [] fby i :: x; i = 0 fby i + 1; end",
     "x where x = 1; x = 2; end",
     "a + b",
     "total :: largest :: [] where // sales\ntotal = sale fby total + next sale; largest = sale fby if next sale > largest then next sale else largest fi; end",
     "(next 1) attime 9223372036854775807",
     "(1 fby 2) attime 9223372036854775807",
+    "1 attime 9223372036854775808",
     "false and x where x = x; end",
     "1 whenever 5",
     "eod + error",
     "f(1) where f = 2; end",
     "f where f(x) = x; end",
     "f(1, 2) where f(x) = x; end",
+    "f(1)",
     "x where x = `a' fby x ^ x; end",
     "a+b*c wvr(p)",
     "(a - b) - (c - d)",
     "2 ** 126 + (2 ** 126 - 1)",
+    "2 ** 127",
     "abs (0 - 5) cmp 3",
     "abs true",
     "p atspace 2 where p = (1 sby 0) fby (1 sby p + succ p); end",
@@ -128,14 +134,29 @@ static ACCEPTED: [&'static str; 39] = [
     "succ x where x = 4 sby 9; end",
     "a where a = 1 fby a + 1; b = a * a; c = 5 fby eod; end",
     "x where x = 0 fby y; y = next x; end",
+    "m where m is current n; end where n is current k; end where k = 0 fby k + 1; end",
+    "x upon true where x = 0 fby x + 1; end",
+    "b + a + b",
+    "a + x where x = x; end",
+    "(a + x) + (b + x) where x = x; end",
+    "v2 where\nv0 = 1 fby (v0 + 1) mod 1000;\nv1 = v0 fby (v1 + v0) mod 1000;\nv2 = v1 fby (v2 + v1) mod 1000;\nend\n",
 ];
 
+// The printed text spells the tree again.
+fn is_read_again<R: Abort + AllocGlobal>(rt: &R, source: &str) -> Result<(), Fail> {
+    let text = canonical(rt.alloc(), source)?;
+    let again = canonical(rt.alloc(), &text)?;
+    assert_eq!(rt; text, again, "{source}");
+    Ok(())
+}
+
+// As accepted as those, the deepest tree.
 #[test]
 fn printed_texts_spell_the_same_trees(rt: HostRuntime) -> Result<(), Fail> {
     for source in &ACCEPTED {
-        let text = canonical(rt.alloc(), source)?;
-        let again = canonical(rt.alloc(), &text)?;
-        assert_eq!(rt; text, again, "{source}");
+        is_read_again(&rt, source)?;
     }
-    Ok(())
+    let mut deepest = "not ".repeat(rt.alloc(), 399)?;
+    deepest.push_str("true")?;
+    is_read_again(&rt, &deepest)
 }

@@ -1,9 +1,7 @@
-//! Worked rows that take several crates: sources as text, the trees that they spell, what their names belong to, their values as trees and
-//! as tables, and the command.
+//! Worked rows that take several crates: sources as text, the trees that they spell, what their names belong to, and their values as trees
+//! and as tables.
 #![tactic(auto)]
 
-#[cfg(test)]
-mod command;
 #[cfg(test)]
 mod compiled;
 #[cfg(test)]

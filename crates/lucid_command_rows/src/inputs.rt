@@ -1,0 +1,146 @@
+//! Programs over inputs: their lines, and how many bytes they consume.
+use crate::row::{DONE, Row, call, each_passes, file, places_of};
+use crate::streams::COUNTING;
+use lucid_ports::{Endless, FailAt, Narrow};
+use lucid_top::Status;
+use std::test::Fail;
+
+pub(crate) const RUNNING_SUM: &str = "s where s = a fby s + next a; end";
+
+/// The total and the largest of sales.
+pub(crate) const SALES: &str =
+    "total :: largest :: [] where // sales\ntotal = sale fby total + next sale; largest = sale fby if next sale > largest then next sale else largest fi; end";
+
+pub(crate) const THREE_SALES: &str = "120\r\n80\r\n200\r\n";
+
+pub(crate) const TOTALS: &str = "[% 120 120 %]\n[% 200 120 %]\n[% 400 200 %]\n";
+
+static LINES: [Row; 8] = [
+    // running counts
+    Row {
+        source: "c where c = n where e is current a; n = (if a eq e then 1 else 0 fi) fby n + (if next a eq e then 1 else 0 fi); end; end",
+        inputs: &[("-", "5\n5\n7\n5\n")],
+        out: "1\n2\n1\n3\n",
+        ..DONE
+    },
+    // running sum
+    Row {
+        source: RUNNING_SUM,
+        inputs: &[("-", "3\n4\n5")],
+        out: "3\n7\n12\n",
+        ..DONE
+    },
+    // first element alone is read
+    Row {
+        words: "--count 3 p",
+        source: "first a",
+        inputs: &[("-", "7\n8\n9\n")],
+        out: "7\n7\n7\n",
+        taken: Some(&[2]),
+        ..DONE
+    },
+    // lines that are no values
+    Row {
+        words: "--count 3 p",
+        source: "a",
+        inputs: &[("-", "3 x y\n\ndog\n")],
+        out: "error\nerror\ndog\n",
+        ..DONE
+    },
+    // two inputs
+    Row {
+        words: "p a=f b=g",
+        source: "a + b",
+        inputs: &[("f", "1\n2\n"), ("g", "10\n")],
+        out: "11\n",
+        ..DONE
+    },
+    // total and largest of sales
+    Row {
+        source: SALES,
+        inputs: &[("-", THREE_SALES)],
+        out: TOTALS,
+        ..DONE
+    },
+    // end of data in the input
+    Row {
+        source: "a",
+        inputs: &[("-", "1\neod\n2\n")],
+        out: "1\n",
+        taken: Some(&[6]),
+        ..DONE
+    },
+    // the last time of an input
+    Row {
+        source: "a attime 9223372036854775807",
+        inputs: &[("-", "1\n")],
+        taken: Some(&[2]),
+        ..DONE
+    },
+];
+
+// A write fault, and read faults.
+static FAULTS: [Row; 3] = [
+    // the second write fails
+    Row {
+        source: COUNTING,
+        writes: &[1],
+        status: Status::WriteFault,
+        out: "0\n",
+        report: "write fault\n",
+        ..DONE
+    },
+    // the read past the third byte of the input fails
+    Row {
+        source: RUNNING_SUM,
+        inputs: &[("-", "3\n4\n5")],
+        reads: &[FailAt {
+            place: 1,
+            position: 3,
+        }],
+        status: Status::ReadFault,
+        out: "3\n",
+        report: "read fault\n",
+        taken: Some(&[3]),
+        ..DONE
+    },
+    // no such program
+    Row {
+        words: "q",
+        source: COUNTING,
+        status: Status::ReadFault,
+        report: "read fault\n",
+        ..DONE
+    },
+];
+
+#[test]
+fn programs_over_inputs(rt: HostRuntime) -> Result<(), Fail> {
+    each_passes(&rt, &LINES)?;
+    each_passes(&rt, &FAULTS)
+}
+
+#[test]
+fn sales_byte_by_byte(rt: HostRuntime) -> Result<(), Fail> {
+    let alloc = rt.alloc();
+    let places = places_of(alloc, SALES.as_bytes(), &[("-", THREE_SALES)], &[])?;
+    let answer = call(alloc, "p", &mut Narrow::make(places, 1), 100, &[])?;
+    assert_eq!(rt; answer.status, Status::Done);
+    assert_eq!(rt; answer.out.as_str(), TOTALS);
+    Ok(())
+}
+
+// The input gives the byte `1` without end.
+#[test]
+fn an_input_too_large(rt: HostRuntime) -> Result<(), Fail> {
+    let alloc = rt.alloc();
+    let mut files = Vec::new(alloc);
+    files.push(file(alloc, "p", b"a")?)?;
+    let piece = vec![in alloc; 49; 65_536]?;
+    let mut places = Endless::make(alloc, files, piece);
+    let answer = call(alloc, "p", &mut places, 100, &[])?;
+    assert_eq!(rt; answer.status, Status::TooLarge);
+    assert_eq!(rt; answer.out.as_str(), "");
+    assert_eq!(rt; answer.report.as_str(), "input a too large\n");
+    Ok(())
+}

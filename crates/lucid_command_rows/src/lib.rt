@@ -1,0 +1,20 @@
+//! The worked rows of the command, over files and sinks in memory. Each is worked out by hand from the rules of the language and of the
+//! command's words.
+#![tactic(auto)]
+
+#[cfg(test)]
+mod cut;
+#[cfg(test)]
+mod edges;
+#[cfg(test)]
+mod failures;
+#[cfg(test)]
+mod inputs;
+#[cfg(test)]
+mod large;
+#[cfg(test)]
+mod refused;
+#[cfg(test)]
+mod row;
+#[cfg(test)]
+mod streams;

@@ -1,0 +1,179 @@
+//! Sources and words that are refused, and what isn't built yet.
+use crate::row::{REFUSED, Row, USAGE, call, each_passes, places_of};
+use crate::streams::COUNTING;
+use lucid_top::Status;
+use std::test::Fail;
+
+// Bytes that are no tokens, and tokens that spell no program.
+static SOURCES: [Row; 6] = [
+    Row {
+        source: "",
+        report: "syntax at 0\n",
+        ..REFUSED
+    },
+    Row {
+        source: "`abc",
+        report: "open text at 0\n",
+        ..REFUSED
+    },
+    Row {
+        source: "x where x = 1 ? 2; end",
+        report: "bad byte at 14\n",
+        ..REFUSED
+    },
+    Row {
+        source: "170141183460469231731687303715884105728",
+        report: "number too big at 0\n",
+        ..REFUSED
+    },
+    Row {
+        source: "x where x = ; end",
+        report: "syntax at 12\n",
+        ..REFUSED
+    },
+    // a reserved word as a name
+    Row {
+        source: "succ where succ = 1; end",
+        report: "syntax at 5\n",
+        ..REFUSED
+    },
+];
+
+static NAMES: [Row; 6] = [
+    Row {
+        source: "x where x = 1; x = 2; end",
+        report: "defined twice at 15\n",
+        ..REFUSED
+    },
+    Row {
+        source: "f(1)",
+        report: "no such function at 0\n",
+        ..REFUSED
+    },
+    Row {
+        source: "f(1) where f = 2; end",
+        report: "not a function at 0\n",
+        ..REFUSED
+    },
+    Row {
+        source: "f where f(x) = x; end",
+        report: "function without arguments at 0\n",
+        ..REFUSED
+    },
+    Row {
+        source: "f(1, 2) where f(x) = x; end",
+        report: "wrong number of arguments at 0: 1 wanted, 2 given\n",
+        ..REFUSED
+    },
+    // two inputs without files
+    Row {
+        source: "a + b",
+        report: "no input for two names\n",
+        ..REFUSED
+    },
+];
+
+static WORDS: [Row; 6] = [
+    // no words
+    Row {
+        words: "",
+        source: COUNTING,
+        ..USAGE
+    },
+    Row {
+        words: "--count 0 p",
+        source: COUNTING,
+        ..USAGE
+    },
+    Row {
+        words: "p -",
+        source: COUNTING,
+        ..USAGE
+    },
+    Row {
+        words: "-",
+        source: COUNTING,
+        ..USAGE
+    },
+    Row {
+        words: "p a=f",
+        source: "1",
+        inputs: &[("f", "1\n")],
+        report: "no input is named a\n",
+        ..USAGE
+    },
+    Row {
+        words: "p a=f a=g",
+        source: "a",
+        inputs: &[("f", "1\n"), ("g", "2\n")],
+        report: "a is given twice\n",
+        ..USAGE
+    },
+];
+
+const THREE_COLUMNS: &str = "a where a = 1 fby a + 1; b = a * a; c = 5 fby eod; end";
+
+static NOT_BUILT: [Row; 7] = [
+    Row {
+        words: "--columns a,b,c --count 3 p",
+        source: THREE_COLUMNS,
+        report: "not built yet\n",
+        ..REFUSED
+    },
+    // columns that are no list of names
+    Row {
+        words: "--columns a, p",
+        source: THREE_COLUMNS,
+        ..USAGE
+    },
+    Row {
+        words: "--cycles p",
+        source: COUNTING,
+        report: "not built yet\n",
+        ..REFUSED
+    },
+    Row {
+        words: "--why 3 p",
+        source: COUNTING,
+        report: "not built yet\n",
+        ..REFUSED
+    },
+    Row {
+        words: "--check f p",
+        source: COUNTING,
+        inputs: &[("f", "j 0 0 0 0 0 1\n")],
+        report: "not built yet\n",
+        ..REFUSED
+    },
+    Row {
+        words: "--flat p",
+        source: COUNTING,
+        report: "not built yet\n",
+        ..REFUSED
+    },
+    Row {
+        words: "--from-flat --count 2 p",
+        source: "lucid flat 1\nconst 1\nnode 0 const 0\nroot 0\n",
+        report: "not built yet\n",
+        ..REFUSED
+    },
+];
+
+#[test]
+fn refused_sources_names_and_words(rt: HostRuntime) -> Result<(), Fail> {
+    each_passes(&rt, &SOURCES)?;
+    each_passes(&rt, &NAMES)?;
+    each_passes(&rt, &WORDS)?;
+    each_passes(&rt, &NOT_BUILT)
+}
+
+#[test]
+fn a_source_too_long(rt: HostRuntime) -> Result<(), Fail> {
+    let alloc = rt.alloc();
+    let source = " ".repeat(alloc, 1_048_577)?;
+    let mut places = places_of(alloc, source.as_bytes(), &[], &[])?;
+    let answer = call(alloc, "p", &mut places, 100, &[])?;
+    assert_eq!(rt; answer.status, Status::Refused);
+    assert_eq!(rt; answer.report.as_str(), "source too long\n");
+    Ok(())
+}

@@ -1,0 +1,160 @@
+//! A row: what the command is asked, over which files, and all that it does.
+ghost use Rattle.std.specs.Prelude.{◌≡◌, ◌≤◌, IfOk, OnOk};
+ghost use Rattle.lucid_ports.specs.MemoryView.{memory_world};
+
+use lucid_ports::{FailAt, MemoryFile, MemoryPlaces, MemorySink, Places};
+use lucid_top::{Status, lucid};
+use std::alloc::{AllocError, Global};
+use std::process::Abort;
+use std::test::Fail;
+
+/// A row. The file `p` has the source.
+#[derive(Clone, Copy)]
+pub(crate) struct Row {
+    /// The words, parted by blanks.
+    pub(crate) words: &'static str,
+    pub(crate) source: &'static str,
+    /// The files of the inputs by their names, and their bytes.
+    pub(crate) inputs: &'static [(&'static str, &'static str)],
+    /// The reads that fail.
+    pub(crate) reads: &'static [FailAt],
+    /// The writes that fail, each counted from 0.
+    pub(crate) writes: &'static [u64],
+    pub(crate) status: Status,
+    pub(crate) out: &'static str,
+    pub(crate) report: &'static str,
+    /// The bytes consumed of each input that is reached, where the row says so.
+    pub(crate) taken: Option<&'static [u64]>,
+}
+
+/// A run of `p` that is done.
+pub(crate) const DONE: Row = Row {
+    words: "p",
+    source: "",
+    inputs: &[],
+    reads: &[],
+    writes: &[],
+    status: Status::Done,
+    out: "",
+    report: "",
+    taken: None,
+};
+
+/// A source that is refused.
+pub(crate) const REFUSED: Row = Row {
+    status: Status::Refused,
+    ..DONE
+};
+
+/// Row of words that are refused.
+pub(crate) const USAGE: Row = Row {
+    status: Status::Usage,
+    report: "usage: lucid [--count N] [--depth N] [--policy keep|none|age|last] [--age K] [--room N] [--stats] [--print] [--columns LIST] [--cycles] [--why T] [--check FILE] [--flat] [--from-flat] PROGRAM [NAME=FILE]... | lucid --make N\n",
+    ..DONE
+};
+
+/// A run that ends at a value that is too deep.
+pub(crate) const TOO_DEEP: Row = Row {
+    status: Status::TooDeep,
+    ..DONE
+};
+
+/// What a call of the command answered, wrote and reported.
+#[derive(Drop)]
+pub(crate) struct Answer {
+    pub(crate) status: Status,
+    pub(crate) out: String,
+    pub(crate) report: String,
+}
+
+// What was written to a sink.
+fn written(alloc: Global, sink: &MemorySink) -> Result<String, Fail> {
+    let bytes = Vec::from_slice(alloc, sink.written())?;
+    Ok(String::from_utf8(bytes)?)
+}
+
+/// Calls the command. A write takes at most `most` bytes of its piece, and the listed ones fail.
+pub(crate) fn call<P: Places>(
+    alloc: Global,
+    words: &str,
+    places: &mut P,
+    most: usize,
+    writes: &[u64],
+) -> Result<Answer, Fail>
+    requires none { (P.world places.old).reached ≡ 0 }
+    requires some { 1 ≤ most }
+    ensures few { OnOk result ((P.world places.new).reached ≤ 1048577) }
+{
+    let mut list = Vec::new(alloc);
+    for word in words.split_whitespace() {
+        list.push(String::from_str(alloc, word)?)?;
+    }
+    let mut out = MemorySink::make(alloc, most, Vec::from_slice(alloc, writes)?);
+    let mut report = MemorySink::make(alloc, 100, Vec::new(alloc));
+    let status = lucid(alloc, &list, places, &mut out, &mut report);
+    Ok(Answer {
+        status,
+        out: written(alloc, &out)?,
+        report: written(alloc, &report)?,
+    })
+}
+
+/// A file of that name.
+pub(crate) fn file(alloc: Global, name: &str, bytes: &[u8]) -> Result<MemoryFile, AllocError> {
+    Ok(MemoryFile {
+        name: String::from_str(alloc, name)?,
+        bytes: Vec::from_slice(alloc, bytes)?,
+    })
+}
+
+/// The file `p` with the source, and the files of the inputs; and the reads that fail.
+pub(crate) fn places_of(
+    alloc: Global,
+    source: &[u8],
+    inputs: &[(&str, &str)],
+    reads: &[FailAt],
+) -> Result<MemoryPlaces, AllocError>
+    ensures { IfOk result (λ places. (memory_world places).reached ≡ 0) }
+{
+    let mut files = Vec::new(alloc);
+    files.push(file(alloc, "p", source)?)?;
+    for (name, bytes) in inputs {
+        files.push(file(alloc, name, bytes.as_bytes())?)?;
+    }
+    Ok(MemoryPlaces::make(alloc, files, Vec::from_slice(alloc, reads)?))
+}
+
+/// The bytes consumed of each input that was reached, the source's place being the first.
+pub(crate) fn taken(alloc: Global, places: &mut MemoryPlaces) -> Result<Vec<u64>, Fail>
+    requires { (memory_world places.old).reached ≤ 1048577 }
+{
+    let mut taken = Vec::new(alloc);
+    let reached = places.reach(alloc, "p")?;
+    for place in 1..reached {
+        taken.push(places.consumed(place))?;
+    }
+    Ok(taken)
+}
+
+// The call does what the row says.
+fn passes<R: Abort + AllocGlobal>(rt: &R, row: &Row) -> Result<(), Fail> {
+    let alloc = rt.alloc();
+    let (words, source) = (row.words, row.source);
+    let mut places = places_of(alloc, source.as_bytes(), row.inputs, row.reads)?;
+    let answer = call(alloc, words, &mut places, 100, row.writes)?;
+    assert_eq!(rt; answer.status, row.status, "{words}: {source}");
+    assert_eq!(rt; answer.out.as_str(), row.out, "{words}: {source}");
+    assert_eq!(rt; answer.report.as_str(), row.report, "{words}: {source}");
+    if let Some(wanted) = row.taken {
+        let taken = taken(alloc, &mut places)?;
+        assert_eq!(rt; taken.as_slice(), wanted, "{words}: {source}");
+    }
+    Ok(())
+}
+
+pub(crate) fn each_passes<R: Abort + AllocGlobal>(rt: &R, rows: &[Row]) -> Result<(), Fail> {
+    for row in rows {
+        passes(rt, row)?;
+    }
+    Ok(())
+}
