@@ -1,9 +1,8 @@
 -- What stays true while what only moves the point is passed, move by move.
-use Rattle.std.proofs.Common.{◌≡◌, ℕ, suc, ◌<◌, ◌⊎◌, inl, inr, List, [], ◌∷◌, Option, Some, None, IfSome, option_map, refl, sym, ap, ◌∙◌, subst, arith, lit<}
+use Rattle.std.proofs.Common.{◌≡◌, ℕ, suc, ◌<◌, ◌⊎◌, inl, inr, List, [], ◌∷◌, Option, Some, None, IfSome, option_map, refl, sym, ap, ◌∙◌, subst, arith}
 use Rattle.lucid_tree.specs.Members.{In}
 use Rattle.lucid_tags.specs.Contexts.{Context, frozen_frame}
-use Rattle.lucid_tags.specs.Known.{IsKnown, IsUnknown, IsOneForOne, KeepsKnown}
-use Rattle.lucid_tags.specs.declared.Tag.{Tag}
+use Rattle.lucid_tags.specs.Known.{tag_of, IsKnown, IsUnknown, IsOneForOne, KeepsKnown}
 use Rattle.lucid_tasks.specs.declared.Task.{Task}
 use Rattle.lucid_equations.specs.Ranges.{IsInRange}
 use Rattle.lucid_equations.specs.declared.table.Table.{Table}
@@ -92,7 +91,7 @@ keeps-end T old now new first task p q = keeps-then old now new p.keeps q
 -- what isn't known later wasn't known before
 unknown-before : (old now : List Context) (c : Context) → KeepsKnown old now → IsUnknown now c → IsUnknown old c
 unknown-before old now c p u i low e =
-    let tag : Tag = record { number = i; space = 0; in_range = lit< tt } in u i (p.known tag low) (p.same tag low ∙ e)
+    u i (p.known (tag_of i) low) (p.same (tag_of i) low ∙ e)
 
 pub unknown-on : (T : Table) (old now : List Context) (first task : Task) → Passes T old now first task → EntersUnknown now (passed_contexts T 1 (plain_task now task)) → EntersUnknown old (way T old first)
 unknown-on T old now first task p u = (u.0, entered-on T old now first task p u.0 u.1, unknown-before old now u.0 p.keeps u.2)

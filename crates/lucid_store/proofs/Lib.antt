@@ -1,3 +1,4 @@
+pub mod AgeLemmas
 pub mod Besides
 pub mod TouchedLemmas
 pub mod CallerLemmas

@@ -1,4 +1,5 @@
 pub mod Stored
+pub mod Ages
 pub mod StoredCode
 pub mod Beside
 pub mod Entries

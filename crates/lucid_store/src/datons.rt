@@ -1,6 +1,6 @@
 //! Values by their keys, with their ages beside them.
 
-ghost use Rattle.std.specs.Prelude.{◌≡◌, ℕ, ◌+◌, ◌≤◌, ◌<◌, [], Some, None, OnOk, OnErr, IfErr, IfNone, if◌then◌else◌, is_some, length, map, slice_set, option_map, option_and_then, option_copied};
+ghost use Rattle.std.specs.Prelude.{◌≡◌, ℕ, ◌+◌, ◌≤◌, ◌<◌, [], Some, None, OnOk, OnErr, IfErr, IfNone, if◌then◌else◌, is_some, length, option_map, option_and_then, option_copied};
 ghost use Rattle.std.specs.List.{AllWithin};
 ghost use Rattle.std.specs.Map.{lookup, keys_of};
 ghost use Rattle.std.specs.List.{IsDistinct};
@@ -10,6 +10,7 @@ ghost use Rattle.lucid_store.specs.Beside.{ages_of, value_in, place_of, Sets};
 ghost use Rattle.lucid_store.specs.Entries.{fresh, renewed, older, swept, within};
 
 use crate::Key;
+use crate::ages::Ages;
 use indexmap::IndexMap;
 use lucid_value::Value;
 use std::alloc::Global;
@@ -22,7 +23,7 @@ use std::marker::Model;
 pub(crate) struct Datons {
     values: IndexMap<Key, Value>,
     // The age of each value, at its place.
-    ages: Vec<u32>,
+    ages: Ages,
 }
 
 impl Model for Datons {
@@ -39,35 +40,9 @@ impl Model for Datons {
 
     ghost coded = { entries_code };
 
-    ghost view = { λ d. beside d.values.entries d.ages.items };
+    ghost view = { λ d. beside d.values.entries d.ages };
 
-    ghost invariant = { λ d. (length d.ages.items ≡ length d.values.entries) × IsDistinct same_key (keys_of d.values.entries) };
-}
-
-// An age becomes 0.
-fn reset_age(ages: &mut Vec<u32>, index: usize)
-    requires { index < length ages.old.items }
-    ensures { ages.new.items ≡ slice_set ages.old.items index 0 }
-{
-    if ages[index] != 0 {
-        ages[index] = 0;
-    }
-}
-
-// Every age rises by one.
-fn raise_ages(ages: &mut Vec<u32>)
-    ensures { ages.new.items ≡ map older ages.old.items }
-{
-    raise_all(ages.as_mut_slice());
-}
-
-// The same of a slice.
-fn raise_all(ages: &mut [u32])
-    ensures { ages.new ≡ map older ages.old }
-{
-    for index in 0..ages.len() {
-        ages[index] = ages[index].saturating_add(1);
-    }
+    ghost invariant = { λ d. (length d.ages ≡ length d.values.entries) × IsDistinct same_key (keys_of d.values.entries) };
 }
 
 impl Datons {
@@ -77,7 +52,7 @@ impl Datons {
     {
         Datons {
             values: IndexMap::new(alloc),
-            ages: Vec::new(alloc),
+            ages: Ages::make(alloc),
         }
     }
 
@@ -120,7 +95,7 @@ impl Datons {
         ensures value { option_and_then (value_in self.new) result ≡ option_map (λ e. e.value) (lookup (same_key key) self.old) }
     {
         let index = self.values.get_index_of(&key)?;
-        reset_age(&mut self.ages, index);
+        self.ages.reset(index);
         Some(index)
     }
 
@@ -135,10 +110,10 @@ impl Datons {
     {
         match self.values.insert_full(key, value) {
             Ok((index, Some(_))) => {
-                reset_age(&mut self.ages, index);
+                self.ages.reset(index);
                 Ok(())
             }
-            Ok((_, None)) => match self.ages.push(0) {
+            Ok((_, None)) => match self.ages.add() {
                 Ok(()) => Ok(()),
                 // A value without room for its age goes again.
                 Err(_) => {
@@ -183,7 +158,7 @@ impl Datons {
     {
         // From the end, so that the entry that takes a removed one's place was looked at before.
         for index in (0..self.len()).rev() {
-            if self.ages[index] > limit {
+            if self.ages.at(index) > limit {
                 self.remove(index);
             }
         }
@@ -194,7 +169,7 @@ impl Datons {
         ensures each { (q : Key) → lookup (same_key q) self.new ≡ option_and_then (swept limit) (lookup (same_key q) self.old) }
         ensures count { length self.new ≤ length self.old }
     {
-        raise_ages(&mut self.ages);
+        self.ages.raise();
         self.remove_over(limit);
     }
 

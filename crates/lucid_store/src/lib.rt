@@ -7,6 +7,7 @@
 pub use lucid_tags::Key;
 pub use warehouse::Warehouse;
 
+mod ages;
 mod datons;
 #[cfg(test)]
 mod tests;

@@ -1,5 +1,5 @@
 -- The tests of the same tag, of the same key and of the same context decide equality.
-use Rattle.std.proofs.Common.{◌≡◌, ◌<◌, ◌^◌, ℕ, false, ◌==◌, ◌&&◌, ap, refl}
+use Rattle.std.proofs.Common.{◌≡◌, ◌<◌, ◌^◌, ℕ, false, ◌==◌, ◌&&◌, ap, refl, arith}
 use Rattle.std.specs.Bool.{Decides}
 use Rattle.std.specs.Cmp.{IsEquivalence, decided}
 use Rattle.std.specs.Coded.{le_prop}
@@ -15,17 +15,31 @@ use Rattle.lucid_tags.specs.Keys.{same_key}
 abbrev pub SameTagIsEquality : Type 0
 SameTagIsEquality = (a b : Tag) → Decides (same_tag a b) (a ≡ b)
 
--- tags of the same number and space are equal
-pub tag_from_parts : (a b : Tag) → number_of a ≡ number_of b → space_of a ≡ space_of b → a ≡ b
-tag_from_parts a b n s = λ i. record {
+-- tags of the same number and the same halves are equal
+same_parts : (a b : Tag) → number_of a ≡ number_of b → a.space_high ≡ b.space_high → a.space_low ≡ b.space_low → a ≡ b
+same_parts a b n high low = λ i. record {
   number = n i;
-  space = s i;
-  in_range = is_prop→PathP (λ j. s j < 2 ^ 63) (λ j. le_prop) a.in_range b.in_range i;
+  space_high = high i;
+  space_low = low i;
+  in_range = is_prop→PathP (λ j. high j < 2 ^ 31) (λ j. le_prop) a.in_range b.in_range i;
+  low_in_range = is_prop→PathP (λ j. low j < 2 ^ 32) (λ j. le_prop) a.low_in_range b.low_in_range i;
 }
 
+-- equal spaces have equal halves
+high_halves : (a b : Tag) → space_of a ≡ space_of b → a.space_high ≡ b.space_high
+high_halves a b e = omega (arith, e, a.low_in_range, b.low_in_range)
+
+low_halves : (a b : Tag) → space_of a ≡ space_of b → a.space_low ≡ b.space_low
+low_halves a b e = omega (arith, e, a.low_in_range, b.low_in_range)
+
+-- tags of the same number and space are equal
+pub tag_from_parts : (a b : Tag) → number_of a ≡ number_of b → space_of a ≡ space_of b → a ≡ b
+tag_from_parts a b n s = same_parts a b n (high_halves a b s) (low_halves a b s)
+
 pub same_tag_is_equality : SameTagIsEquality
-same_tag_is_equality a b = Decides-like (same_tag a b) (λ e. tag_from_parts a b e.0 e.1) (λ e. (ap number_of e, ap space_of e))
-    (Decides-and (number_of a == number_of b) (space_of a == space_of b) (Decides-eqb (number_of a) (number_of b)) (Decides-eqb (space_of a) (space_of b)))
+same_tag_is_equality a b = Decides-like (same_tag a b) (λ e. same_parts a b e.0 e.1.0 e.1.1) (λ e. (ap number_of e, (ap (λ t. t.space_high) e, ap (λ t. t.space_low) e)))
+    (Decides-and (number_of a == number_of b) ((a.space_high == b.space_high) && (a.space_low == b.space_low)) (Decides-eqb (number_of a) (number_of b))
+    (Decides-and (a.space_high == b.space_high) (a.space_low == b.space_low) (Decides-eqb a.space_high b.space_high) (Decides-eqb a.space_low b.space_low)))
 
 -- Two keys are equal exactly where they are the same.
 abbrev pub SameKeyIsEquality : Type 0

@@ -1,5 +1,5 @@
 -- What a tag stands for, over the list of the known contexts.
-use Rattle.std.specs.Prelude.{◌≡◌, ◌≢◌, ℕ, ◌<◌, ◌↔◌, ◌⊎◌, Bool, ◌==◌, ◌&&◌, List, [], ◌∷◌, ◌++◌, length}
+use Rattle.std.specs.Prelude.{◌≡◌, ◌≢◌, ℕ, ◌<◌, ◌+◌, ◌*◌, ◌^◌, ◌↔◌, ◌⊎◌, Bool, ◌==◌, ◌&&◌, List, [], ◌∷◌, ◌++◌, length}
 use Rattle.std.proofs.Common.{lit<}
 use Rattle.lucid_tags.specs.declared.Tag.{Tag}
 use Rattle.lucid_tags.specs.declared.Frame.{Frame}
@@ -10,17 +10,21 @@ use Rattle.lucid_tags.specs.Contexts.{Context, call_frame, frozen_frame, base_of
 abbrev pub number_of : Tag → ℕ
 number_of tag = tag.number
 
--- the space that a tag stands for
+-- the space that a tag stands for, of which it has two halves
 abbrev pub space_of : Tag → ℕ
-space_of tag = tag.space
+space_of tag = tag.space_high * 2 ^ 32 + tag.space_low
 
--- two tags are the same: the same context, by its number, and the same space
+-- two tags are the same: the same context, by its number, and the same space, by its halves
 abbrev pub same_tag : Tag → Tag → Bool
-same_tag a b = (number_of a == number_of b) && (space_of a == space_of b)
+same_tag a b = (number_of a == number_of b) && ((a.space_high == b.space_high) && (a.space_low == b.space_low))
+
+-- the tag of the context at a place, at space 0
+abbrev pub tag_of : (number : ℕ) → Tag
+tag_of n = record { number = n; space_high = 0; space_low = 0; in_range = lit< tt; low_in_range = lit< tt }
 
 -- the tag of the empty context at space 0
 abbrev pub root_tag : Tag
-root_tag = record { number = 0; space = 0; in_range = lit< tt }
+root_tag = tag_of 0
 
 -- a tag is known where its context is
 abbrev pub IsKnown : List Context → Tag → Type 0

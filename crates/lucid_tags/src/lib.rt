@@ -4,7 +4,7 @@
 //! context, and a tag names it by a number. So tags are compared in place of contexts, and no context is ever copied.
 #![tactic(auto)]
 
-ghost use Rattle.std.specs.Prelude.{◌≡◌, ◌<◌, ◌≤◌, ◌^◌, ◌↔◌, ◌∷◌, [], length, IsNone, IfSome, IfOk, OnOk, OnErr};
+ghost use Rattle.std.specs.Prelude.{◌≡◌, ◌<◌, ◌≤◌, ◌*◌, ◌+◌, ◌^◌, ◌↔◌, ◌∷◌, [], length, IsNone, IfSome, IfOk, OnOk, OnErr};
 
 use crate::rows::{Row, RowFrame, Table};
 use std::alloc::{AllocError, Global};
@@ -15,12 +15,19 @@ mod rows;
 #[cfg(test)]
 mod tests;
 
+// How many values the low half of a space has.
+const HALF: u64 = 1 << 32;
+
 /// A context, by its number in the `Tags` that gave the tag, and a space.
+///
+/// The space stands in two halves, so that a tag has 12 bytes and no padding, and a key 24: a store has a key for each value.
 #[derive(Clone, Copy, PartialEq, Eq, Hash, Debug)]
 pub struct Tag {
     number: u32,
-    space: u64,
-    ghost in_range: { space < 2 ^ 63 },
+    space_high: u32,
+    space_low: u32,
+    ghost in_range: { space_high < 2 ^ 31 },
+    ghost low_in_range: { space_low < 2 ^ 32 },
 }
 
 /// The key of a daton: a name in a context, at a space and a time.
@@ -51,7 +58,23 @@ impl Tag {
         ensures context { number_of result ≡ number }
         ensures space { space_of result ≡ 0 }
     {
-        Tag { number, space: 0 }
+        Tag {
+            number,
+            space_high: 0,
+            space_low: 0,
+        }
+    }
+
+    // Another context at the same space.
+    fn with_number(self, number: u32) -> Tag
+        ensures context { number_of result ≡ number }
+        ensures space { space_of result ≡ space_of self }
+    {
+        Tag {
+            number,
+            space_high: self.space_high,
+            space_low: self.space_low,
+        }
     }
 
     /// The space.
@@ -59,7 +82,7 @@ impl Tag {
         ensures space { result ≡ space_of self }
         ensures in_range { result < 2 ^ 63 }
     {
-        self.space
+        u64::from(self.space_high) * HALF + u64::from(self.space_low)
     }
 
     /// The same context at another space.
@@ -70,7 +93,8 @@ impl Tag {
     {
         Tag {
             number: self.number,
-            space,
+            space_high: (space / HALF) as u32,
+            space_low: (space % HALF) as u32,
         }
     }
 }
@@ -141,10 +165,7 @@ impl Tags {
             frame,
         };
         let number = self.table.intern(row)?;
-        Ok(Tag {
-            number,
-            space: base.space,
-        })
+        Ok(base.with_number(number))
     }
 
     /// The context of the base with the frame of a call added, at the base's space. The caller's space doesn't count.
@@ -196,10 +217,7 @@ impl Tags {
         ensures space { space_of result ≡ space_of tag }
         ensures one_for_one { IsOneForOne self.now }
     {
-        Tag {
-            number: self.table.cut_to(tag.number, level),
-            space: tag.space,
-        }
+        tag.with_number(self.table.cut_to(tag.number, level))
     }
 
     /// The number of frames.

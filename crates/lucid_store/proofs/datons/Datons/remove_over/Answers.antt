@@ -1,29 +1,28 @@
 use Rattle.std.proofs.Common.{◌≡◌, ◌≤◌, ◌<◌, ◌+◌, ◌-◌, length, slice_get, Some, ap, sym, subst, ◌∙◌, arith}
 use Rattle.std.specs.List.{AllWithin}
-use Rattle.std.proofs.lemmas.Option.{slice_get_read}
 use Rattle.lucid_store.specs.Beside.{beside, ages_of}
 use Rattle.lucid_store.proofs.Besides.{length-beside, ages-beside, over_goes, age_placed, more_within, all_within}
 use Rattle.lucid_store.proofs.datons.Datons.remove_over.Goals as goal
 
-pub index-requires : goal.index-requires
-index-requires c =
-    let len = length-beside c.self-in-loop-index.inside.values.entries c.self-in-loop-index.inside.ages.items in
-    let inside : c.loop-index.index ≤ length (beside c.self-in-loop-index.inside.values.entries c.self-in-loop-index.inside.ages.items) = rw c.self-in-loop-index.view_is c.loop-index.invariant.inside in
+pub at-requires : goal.at-requires
+at-requires c =
+    let len = length-beside c.self-in-loop-index.inside.values.entries c.self-in-loop-index.inside.ages in
+    let inside : c.loop-index.index ≤ length (beside c.self-in-loop-index.inside.values.entries c.self-in-loop-index.inside.ages) = rw c.self-in-loop-index.view_is c.loop-index.invariant.inside in
     let same = c.self-in-loop-index.invariant.0 in
     omega (arith, len, inside, same)
 
-pub loop-index-preserved-then-index-limit : goal.loop-index-preserved-then-index-limit
-loop-index-preserved-then-index-limit c =
+pub loop-index-preserved-then-at-limit : goal.loop-index-preserved-then-at-limit
+loop-index-preserved-then-at-limit c =
     let es = c.self-in-loop-index.inside.values.entries in
-    let ages = c.self-in-loop-index.inside.ages.items in
+    let ages = c.self-in-loop-index.inside.ages in
     let len = length-beside es ages in
     let inside : c.loop-index.index ≤ length (beside es ages) = rw c.self-in-loop-index.view_is c.loop-index.invariant.inside in
     let same = c.self-in-loop-index.invariant.0 in
     let within : c.loop-index.index - 1 < length ages = omega (arith, len, inside, same) in
-    let read : slice_get ages (c.loop-index.index - 1) ≡ Some c.index.result.now = slice_get_read ages (length ages) (c.loop-index.index - 1) c.index.result.now (λ _. length ages) within c.index.ensures in
-    let age : slice_get (ages_of c.loop-index.self) (c.loop-index.index - 1) ≡ Some c.index.result.now = subst (λ l. slice_get (ages_of l) (c.loop-index.index - 1) ≡ Some c.index.result.now) c.self-in-loop-index.view_is (ap (λ l. slice_get l (c.loop-index.index - 1)) (ages-beside es ages same) ∙ read) in
-    let x = age_placed c.remove.result c.loop-index.self (c.loop-index.index - 1) c.index.result.now c.remove.ensures.place age in
-    let over : c.args.limit < x.0.age = subst (λ n. c.args.limit < n) (sym x.2) c.if-index-limit.true in
+    let read : slice_get ages (c.loop-index.index - 1) ≡ Some c.at.result = c.at.ensures in
+    let age : slice_get (ages_of c.loop-index.self) (c.loop-index.index - 1) ≡ Some c.at.result = subst (λ l. slice_get (ages_of l) (c.loop-index.index - 1) ≡ Some c.at.result) c.self-in-loop-index.view_is (ap (λ l. slice_get l (c.loop-index.index - 1)) (ages-beside es ages same) ∙ read) in
+    let x = age_placed c.remove.result c.loop-index.self (c.loop-index.index - 1) c.at.result c.remove.ensures.place age in
+    let over : c.args.limit < x.0.age = subst (λ n. c.args.limit < n) (sym x.2) c.if-at-limit.true in
     let next : c.loop-index.index - 1 + 1 ≡ c.loop-index.index = omega arith in
     let count = c.remove.ensures.count in
     let few = c.loop-index.invariant.count in
@@ -38,20 +37,20 @@ loop-index-preserved-then-index-limit c =
 pub loop-index-preserved : goal.loop-index-preserved
 loop-index-preserved c =
     let es = c.self-in-loop-index.inside.values.entries in
-    let ages = c.self-in-loop-index.inside.ages.items in
+    let ages = c.self-in-loop-index.inside.ages in
     let len = length-beside es ages in
     let inside : c.loop-index.index ≤ length (beside es ages) = rw c.self-in-loop-index.view_is c.loop-index.invariant.inside in
     let same = c.self-in-loop-index.invariant.0 in
     let within : c.loop-index.index - 1 < length ages = omega (arith, len, inside, same) in
-    let read : slice_get ages (c.loop-index.index - 1) ≡ Some c.index.result.now = slice_get_read ages (length ages) (c.loop-index.index - 1) c.index.result.now (λ _. length ages) within c.index.ensures in
-    let age : slice_get (ages_of c.loop-index.self) (c.loop-index.index - 1) ≡ Some c.index.result.now = subst (λ l. slice_get (ages_of l) (c.loop-index.index - 1) ≡ Some c.index.result.now) c.self-in-loop-index.view_is (ap (λ l. slice_get l (c.loop-index.index - 1)) (ages-beside es ages same) ∙ read) in
-    let young : c.index.result.now ≤ c.args.limit = omega arith in
+    let read : slice_get ages (c.loop-index.index - 1) ≡ Some c.at.result = c.at.ensures in
+    let age : slice_get (ages_of c.loop-index.self) (c.loop-index.index - 1) ≡ Some c.at.result = subst (λ l. slice_get (ages_of l) (c.loop-index.index - 1) ≡ Some c.at.result) c.self-in-loop-index.view_is (ap (λ l. slice_get l (c.loop-index.index - 1)) (ages-beside es ages same) ∙ read) in
+    let young : c.at.result ≤ c.args.limit = omega arith in
     let next : c.loop-index.index - 1 + 1 ≡ c.loop-index.index = omega arith in
     let few = c.loop-index.invariant.count in
     let low = c.loop-index.invariant.inside in
     record {
       each = c.loop-index.invariant.each;
-      later = more_within (ages_of c.loop-index.self) (c.loop-index.index - 1) (length c.loop-index.self) c.args.limit c.index.result.now age young (subst (λ n. AllWithin (λ age. age ≤ c.args.limit) (ages_of c.loop-index.self) n (length c.loop-index.self)) (sym next) c.loop-index.invariant.later);
+      later = more_within (ages_of c.loop-index.self) (c.loop-index.index - 1) (length c.loop-index.self) c.args.limit c.at.result age young (subst (λ n. AllWithin (λ age. age ≤ c.args.limit) (ages_of c.loop-index.self) n (length c.loop-index.self)) (sym next) c.loop-index.invariant.later);
       inside = omega (arith, low);
       count = few;
     }

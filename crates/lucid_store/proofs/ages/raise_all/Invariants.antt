@@ -1,6 +1,6 @@
 use Rattle.std.proofs.Common.{◌≡◌, ◌++◌, map, take, drop}
 use Rattle.lucid_store.specs.Entries.{older}
-use Rattle.lucid_store.proofs.datons.raise_all.Given as goal
+use Rattle.lucid_store.proofs.ages.raise_all.Given as goal
 
 -- the ages so far have risen
 abbrev pub invariant-loop-index : goal.invariant-loop-index
