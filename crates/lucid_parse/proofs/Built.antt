@@ -19,38 +19,38 @@ use Rattle.lucid_parse.proofs.Levels.{node-infix, node-prefix, node-called}
 use Rattle.lucid_parse.proofs.Complete.{written_parts-and, written_all-and, written_defs-and}
 use Rattle.lucid_parse.proofs.Exact.{spelled_nodes}
 
-over : (f g : PlainPiles → Option PlainPiles) (h : PlainPiles → Option PlainPiles) (o : Option PlainPiles) → ((q : PlainPiles) → f q ≡ option_and_then h (g q))
+over : (f g : PlainPiles → Option PlainPiles) (h : PlainPiles → Option PlainPiles) (o : Option PlainPiles) → ((now : PlainPiles) → f now ≡ option_and_then h (g now))
     → option_and_then f o ≡ option_and_then h (option_and_then g o)
 over f g h None k = refl
-over f g h (Some q) k = k q
+over f g h (Some now) k = k now
 
 last : (o : Option PlainPiles) → option_and_then (built []) o ≡ o
 last None = refl
-last (Some q) = refl
+last (Some now) = refl
 
-pub built-push : (out : List PlainItem) (i : PlainItem) (p : PlainPiles) → built (out ++ i ∷ []) p ≡ option_and_then (put_on i) (built out p)
-built-push [] i p = last (put_on i p)
-built-push (x ∷ out) i p = over (built (out ++ i ∷ [])) (built out) (put_on i) (put_on x p) (λ q. built-push out i q)
+pub built-push : (out : List PlainItem) (i : PlainItem) (from : PlainPiles) → built (out ++ i ∷ []) from ≡ option_and_then (put_on i) (built out from)
+built-push [] i from = last (put_on i from)
+built-push (x ∷ out) i from = over (built (out ++ i ∷ [])) (built out) (put_on i) (put_on x from) (λ now. built-push out i now)
 
-grow : (out : List PlainItem) (i : PlainItem) (p q r : PlainPiles) → built out p ≡ Some q → put_on i q ≡ Some r → built (out ++ i ∷ []) p ≡ Some r
-grow out i p q r e f = built-push out i p ∙ ap (option_and_then (put_on i)) e ∙ f
+grow : (out : List PlainItem) (i : PlainItem) (from now after : PlainPiles) → built out from ≡ Some now → put_on i now ≡ Some after → built (out ++ i ∷ []) from ≡ Some after
+grow out i from now after e f = built-push out i from ∙ ap (option_and_then (put_on i)) e ∙ f
 
 -- the same where the node is an equal one
-grow_as : (out : List PlainItem) (j i : PlainItem) (p q r : PlainPiles) → j ≡ i → built out p ≡ Some q → put_on i q ≡ Some r → built (out ++ j ∷ []) p ≡ Some r
-grow_as out j i p q r s e f = ap (λ x. built (out ++ x ∷ []) p) s ∙ grow out i p q r e f
+grow_as : (out : List PlainItem) (j i : PlainItem) (from now after : PlainPiles) → j ≡ i → built out from ≡ Some now → put_on i now ≡ Some after → built (out ++ j ∷ []) from ≡ Some after
+grow_as out j i from now after s e f = ap (λ x. built (out ++ x ∷ []) from) s ∙ grow out i from now after e f
 
 -- piles with one more on top
 abbrev with_tree : PlainTree → PlainPiles → PlainPiles
-with_tree t q = piles (t ∷ q.trees) q.lists q.names q.places q.blocks
+with_tree t now = piles (t ∷ now.trees) now.lists now.names now.places now.blocks
 
 abbrev with_list : List PlainTree → PlainPiles → PlainPiles
-with_list l q = piles q.trees (l ∷ q.lists) q.names q.places q.blocks
+with_list l now = piles now.trees (l ∷ now.lists) now.names now.places now.blocks
 
 abbrev with_names : List (List ℕ) → List ℕ → PlainPiles → PlainPiles
-with_names ns ats q = piles q.trees q.lists (ns ∷ q.names) (ats ∷ q.places) q.blocks
+with_names ns ats now = piles now.trees now.lists (ns ∷ now.names) (ats ∷ now.places) now.blocks
 
 abbrev with_block : List Def → PlainPiles → PlainPiles
-with_block ds q = piles q.trees q.lists q.names q.places (ds ∷ q.blocks)
+with_block ds now = piles now.trees now.lists now.names now.places (ds ∷ now.blocks)
 
 -- trees on a pile, the last on top
 abbrev piled : PlainTrees → List PlainTree → List PlainTree
@@ -58,7 +58,7 @@ piled no_trees ts = ts
 piled (tree t more) ts = piled more (t ∷ ts)
 
 abbrev with_trees : PlainTrees → PlainPiles → PlainPiles
-with_trees parts q = piles (piled parts q.trees) q.lists q.names q.places q.blocks
+with_trees parts now = piles (piled parts now.trees) now.lists now.names now.places now.blocks
 
 piled-and : (parts : PlainTrees) (t : PlainTree) (ts : List PlainTree) → piled (trees_and parts t) ts ≡ t ∷ piled parts ts
 piled-and no_trees t ts = refl
@@ -82,7 +82,7 @@ gathered (tree t parts) ts n more =
 taken : (parts : PlainTrees) (ts : List PlainTree) → gather (count parts) (piled parts ts) no_trees ≡ Some (parts, ts)
 taken parts ts =
     ap (λ k. gather k (piled parts ts) no_trees) (let e : count parts ≡ count parts + 0 = omega arith in e)
-    ∙ gathered parts ts 0 no_trees ∙ ap (λ p. Some (p, ts)) (in_front-none parts)
+    ∙ gathered parts ts 0 no_trees ∙ ap (λ all. Some (all, ts)) (in_front-none parts)
 
 -- trees and definitions as lists
 abbrev tree_list : PlainTrees → List PlainTree
@@ -122,94 +122,94 @@ defs_of-list (defines at n e ds) = ap (defines at n e) (defs_of-list ds)
 defs_of-list (defines_function at n ns ats e ds) = ap (defines_function at n ns ats e) (defs_of-list ds)
 defs_of-list (defines_current at n e ds) = ap (defines_current at n e) (defs_of-list ds)
 
-built-parameters : (ps : List Parameter) (out : List PlainItem) (p q : PlainPiles) (ns : List (List ℕ)) (ats : List ℕ)
-    → built out p ≡ Some (with_names ns ats q) → built (with_parameters out ps) p ≡ Some (with_names (ns ++ names_of ps) (ats ++ places_of ps) q)
-built-parameters [] out p q ns ats e = e ∙ ap (λ l. Some (with_names l ats q)) (sym (append-nil ns)) ∙ ap (λ l. Some (with_names (ns ++ []) l q)) (sym (append-nil ats))
-built-parameters (x ∷ ps) out p q ns ats e =
-    built-parameters ps (out ++ item.Param x.at x.name ∷ []) p q (ns ++ x.name ∷ []) (ats ++ x.at ∷ []) (grow out (item.Param x.at x.name) p _ _ e refl)
-    ∙ ap (λ l. Some (with_names l ((ats ++ x.at ∷ []) ++ places_of ps) q)) (append_assoc ns (x.name ∷ []) (names_of ps))
-    ∙ ap (λ l. Some (with_names (ns ++ x.name ∷ names_of ps) l q)) (append_assoc ats (x.at ∷ []) (places_of ps))
+built-parameters : (ps : List Parameter) (out : List PlainItem) (from now : PlainPiles) (ns : List (List ℕ)) (ats : List ℕ)
+    → built out from ≡ Some (with_names ns ats now) → built (with_parameters out ps) from ≡ Some (with_names (ns ++ names_of ps) (ats ++ places_of ps) now)
+built-parameters [] out from now ns ats e = e ∙ ap (λ l. Some (with_names l ats now)) (sym (append-nil ns)) ∙ ap (λ l. Some (with_names (ns ++ []) l now)) (sym (append-nil ats))
+built-parameters (x ∷ ps) out from now ns ats e =
+    built-parameters ps (out ++ item.Param x.at x.name ∷ []) from now (ns ++ x.name ∷ []) (ats ++ x.at ∷ []) (grow out (item.Param x.at x.name) from _ _ e refl)
+    ∙ ap (λ l. Some (with_names l ((ats ++ x.at ∷ []) ++ places_of ps) now)) (append_assoc ns (x.name ∷ []) (names_of ps))
+    ∙ ap (λ l. Some (with_names (ns ++ x.name ∷ names_of ps) l now)) (append_assoc ats (x.at ∷ []) (places_of ps))
 
 mutual
   unfolding written
 
-  pub built-written : {k : ℕ} {ws : List PlacedTerminal} {t : PlainTree} → Spells k ws t → (out : List PlainItem) (p q : PlainPiles)
-      → built out p ≡ Some q → built (written out t) p ≡ Some (with_tree t q)
-  built-written (Grammar.spells_const {at = at} {v = v}) out p q e = grow out (item.Const at v) p q _ e refl
-  built-written (Grammar.spells_name {at = at} {n = n}) out p q e = grow out (item.Name at n) p q _ e refl
-  built-written (Grammar.spells_infix {at = at} {x = x} {y = y} s b is low sx sy) out p q e =
-      grow_as (written (written out x) y) _ (item.Infix b at) p (with_tree y (with_tree x q)) _ (node-infix s b is at)
-      (built-written sy (written out x) p (with_tree x q) (built-written sx out p q e)) refl
-  built-written (Grammar.spells_prefix {at = at} {x = x} s u is low sx) out p q e =
-      grow_as (written out x) _ (item.Prefix u at) p (with_tree x q) _ (node-prefix s u is at) (built-written sx out p q e) refl
-  built-written (Grammar.spells_inner r sx) out p q e = built-written sx out p q e
-  built-written (Grammar.spells_if {at = at} a b c {x = x} {y = y} {z = z} sx sy sz) out p q e =
-      grow (written (written (written out x) y) z) (item.If at) p (with_tree z (with_tree y (with_tree x q))) _
-      (built-written sz (written (written out x) y) p (with_tree y (with_tree x q))
-      (built-written sy (written out x) p (with_tree x q) (built-written sx out p q e))) refl
-  built-written (Grammar.spells_call {at = at} r {n = n} {args = args} sa) out p q e =
-      grow (written_all (out ++ item.NoTrees ∷ []) args) (item.Call at n) p (with_list (tree_list args) q) _
-      (built-args sa (out ++ item.NoTrees ∷ []) p q (grow out item.NoTrees p q _ e refl))
-      (ap (λ a. Some (with_tree (call at n a) q)) (trees_of-list args))
-  built-written (Grammar.spells_called {at = at} r c {args = args} all sa) out p q e =
-      grow_as (written_parts out args) _ (item.Called c at) p (with_trees args q) _ (node-called c at)
-      (built-parts sa out p q e)
-      (ap (option_and_then (λ g. Some (piles (form at (called_head c) g.0 ∷ g.1) q.lists q.names q.places q.blocks)))
-      (ap (λ n. gather n (piled args q.trees) no_trees) (sym all) ∙ taken args q.trees))
-  built-written (Grammar.spells_block {at = at} r {x = x} {all = all} low sx sd) out p q e =
-      grow (written_defs (written out x ++ item.NoDefs ∷ []) all) (item.Block at) p (with_block (def_list all) (with_tree x q)) _
-      (built-defs sd (written out x ++ item.NoDefs ∷ []) p (with_tree x q) (grow (written out x) item.NoDefs p (with_tree x q) _ (built-written sx out p q e) refl))
-      (ap (λ a. Some (with_tree (block at x a) q)) (defs_of-list all))
+  pub built-written : {allowed : ℕ} {ws : List PlacedTerminal} {t : PlainTree} → Spells allowed ws t → (out : List PlainItem) (from now : PlainPiles)
+      → built out from ≡ Some now → built (written out t) from ≡ Some (with_tree t now)
+  built-written (Grammar.spells_const {at = at} {v = v}) out from now e = grow out (item.Const at v) from now _ e refl
+  built-written (Grammar.spells_name {at = at} {n = n}) out from now e = grow out (item.Name at n) from now _ e refl
+  built-written (Grammar.spells_infix {at = at} {x = x} {y = y} terminal operator is low sx sy) out from now e =
+      grow_as (written (written out x) y) _ (item.Infix operator at) from (with_tree y (with_tree x now)) _ (node-infix terminal operator is at)
+      (built-written sy (written out x) from (with_tree x now) (built-written sx out from now e)) refl
+  built-written (Grammar.spells_prefix {at = at} {x = x} terminal operator is low sx) out from now e =
+      grow_as (written out x) _ (item.Prefix operator at) from (with_tree x now) _ (node-prefix terminal operator is at) (built-written sx out from now e) refl
+  built-written (Grammar.spells_inner close_at sx) out from now e = built-written sx out from now e
+  built-written (Grammar.spells_if {at = at} then_at else_at fi_at {x = x} {y = y} {z = z} sx sy sz) out from now e =
+      grow (written (written (written out x) y) z) (item.If at) from (with_tree z (with_tree y (with_tree x now))) _
+      (built-written sz (written (written out x) y) from (with_tree y (with_tree x now))
+      (built-written sy (written out x) from (with_tree x now) (built-written sx out from now e))) refl
+  built-written (Grammar.spells_call {at = at} close_at {n = n} {args = args} sa) out from now e =
+      grow (written_all (out ++ item.NoTrees ∷ []) args) (item.Call at n) from (with_list (tree_list args) now) _
+      (built-args sa (out ++ item.NoTrees ∷ []) from now (grow out item.NoTrees from now _ e refl))
+      (ap (λ a. Some (with_tree (call at n a) now)) (trees_of-list args))
+  built-written (Grammar.spells_called {at = at} close_at operator {args = args} all sa) out from now e =
+      grow_as (written_parts out args) _ (item.Called operator at) from (with_trees args now) _ (node-called operator at)
+      (built-parts sa out from now e)
+      (ap (option_and_then (λ g. Some (piles (form at (called_head operator) g.0 ∷ g.1) now.lists now.names now.places now.blocks)))
+      (ap (λ n. gather n (piled args now.trees) no_trees) (sym all) ∙ taken args now.trees))
+  built-written (Grammar.spells_block {at = at} end_at {x = x} {all = all} low sx sd) out from now e =
+      grow (written_defs (written out x ++ item.NoDefs ∷ []) all) (item.Block at) from (with_block (def_list all) (with_tree x now)) _
+      (built-defs sd (written out x ++ item.NoDefs ∷ []) from (with_tree x now) (grow (written out x) item.NoDefs from (with_tree x now) _ (built-written sx out from now e) refl))
+      (ap (λ a. Some (with_tree (block at x a) now)) (defs_of-list all))
 
-  built-parts : {ws : List PlacedTerminal} {args : PlainTrees} → SpellsArgs ws args → (out : List PlainItem) (p q : PlainPiles)
-      → built out p ≡ Some q → built (written_parts out args) p ≡ Some (with_trees args q)
-  built-parts (Grammar.spells_one sx) out p q e = built-written sx out p q e
-  built-parts (Grammar.spells_more r {all = all} {y = y} sa sy) out p q e =
-      ap (λ o. built o p) (written_parts-and out all y)
-      ∙ built-written sy (written_parts out all) p (with_trees all q) (built-parts sa out p q e)
-      ∙ ap (λ l. Some (piles l q.lists q.names q.places q.blocks)) (sym (piled-and all y q.trees))
+  built-parts : {ws : List PlacedTerminal} {args : PlainTrees} → SpellsArgs ws args → (out : List PlainItem) (from now : PlainPiles)
+      → built out from ≡ Some now → built (written_parts out args) from ≡ Some (with_trees args now)
+  built-parts (Grammar.spells_one sx) out from now e = built-written sx out from now e
+  built-parts (Grammar.spells_more comma_at {all = all} {y = y} sa sy) out from now e =
+      ap (λ o. built o from) (written_parts-and out all y)
+      ∙ built-written sy (written_parts out all) from (with_trees all now) (built-parts sa out from now e)
+      ∙ ap (λ l. Some (piles l now.lists now.names now.places now.blocks)) (sym (piled-and all y now.trees))
 
-  built-args : {ws : List PlacedTerminal} {args : PlainTrees} → SpellsArgs ws args → (out : List PlainItem) (p q : PlainPiles)
-      → built out p ≡ Some (with_list [] q) → built (written_all out args) p ≡ Some (with_list (tree_list args) q)
-  built-args (Grammar.spells_one {x = x} sx) out p q e = grow (written out x) item.More p (with_tree x (with_list [] q)) _ (built-written sx out p (with_list [] q) e) refl
-  built-args (Grammar.spells_more r {all = all} {y = y} sa sy) out p q e =
-      ap (λ o. built o p) (written_all-and out all y)
-      ∙ grow (written (written_all out all) y) item.More p (with_tree y (with_list (tree_list all) q)) _
-      (built-written sy (written_all out all) p (with_list (tree_list all) q) (built-args sa out p q e)) refl
-      ∙ ap (λ l. Some (with_list l q)) (tree_list-and all y)
+  built-args : {ws : List PlacedTerminal} {args : PlainTrees} → SpellsArgs ws args → (out : List PlainItem) (from now : PlainPiles)
+      → built out from ≡ Some (with_list [] now) → built (written_all out args) from ≡ Some (with_list (tree_list args) now)
+  built-args (Grammar.spells_one {x = x} sx) out from now e = grow (written out x) item.More from (with_tree x (with_list [] now)) _ (built-written sx out from (with_list [] now) e) refl
+  built-args (Grammar.spells_more comma_at {all = all} {y = y} sa sy) out from now e =
+      ap (λ o. built o from) (written_all-and out all y)
+      ∙ grow (written (written_all out all) y) item.More from (with_tree y (with_list (tree_list all) now)) _
+      (built-written sy (written_all out all) from (with_list (tree_list all) now) (built-args sa out from now e)) refl
+      ∙ ap (λ l. Some (with_list l now)) (tree_list-and all y)
 
-  built-defs : {ws : List PlacedTerminal} {all : PlainDefs} → SpellsDefs ws all → (out : List PlainItem) (p q : PlainPiles)
-      → built out p ≡ Some (with_block [] q) → built (written_defs out all) p ≡ Some (with_block (def_list all) q)
-  built-defs Grammar.spells_none out p q e = e
-  built-defs (Grammar.spells_def at n a b {all = all} {y = y} sd sy) out p q e =
-      ap (λ o. built o p) (written_defs-and out all at n Plain y)
-      ∙ grow (written (written_defs out all) y) (item.Def kind.Plain at n) p (with_tree y (with_block (def_list all) q)) _
-      (built-written sy (written_defs out all) p (with_block (def_list all) q) (built-defs sd out p q e)) refl
-      ∙ ap (λ l. Some (with_block l q)) (def_list-and all at n Plain y)
-  built-defs (Grammar.spells_current at n a b c {all = all} {y = y} sd sy) out p q e =
-      ap (λ o. built o p) (written_defs-and out all at n Current y)
-      ∙ grow (written (written_defs out all) y) (item.Def kind.Current at n) p (with_tree y (with_block (def_list all) q)) _
-      (built-written sy (written_defs out all) p (with_block (def_list all) q) (built-defs sd out p q e)) refl
-      ∙ ap (λ l. Some (with_block l q)) (def_list-and all at n Current y)
-  built-defs (Grammar.spells_function at n a b c d {all = all} {parameters = ps} {y = y} sd sn sy) out p q e =
+  built-defs : {ws : List PlacedTerminal} {all : PlainDefs} → SpellsDefs ws all → (out : List PlainItem) (from now : PlainPiles)
+      → built out from ≡ Some (with_block [] now) → built (written_defs out all) from ≡ Some (with_block (def_list all) now)
+  built-defs Grammar.spells_none out from now e = e
+  built-defs (Grammar.spells_def at n equals_at semicolon_at {all = all} {y = y} sd sy) out from now e =
+      ap (λ o. built o from) (written_defs-and out all at n Plain y)
+      ∙ grow (written (written_defs out all) y) (item.Def kind.Plain at n) from (with_tree y (with_block (def_list all) now)) _
+      (built-written sy (written_defs out all) from (with_block (def_list all) now) (built-defs sd out from now e)) refl
+      ∙ ap (λ l. Some (with_block l now)) (def_list-and all at n Plain y)
+  built-defs (Grammar.spells_current at n is_at current_at semicolon_at {all = all} {y = y} sd sy) out from now e =
+      ap (λ o. built o from) (written_defs-and out all at n Current y)
+      ∙ grow (written (written_defs out all) y) (item.Def kind.Current at n) from (with_tree y (with_block (def_list all) now)) _
+      (built-written sy (written_defs out all) from (with_block (def_list all) now) (built-defs sd out from now e)) refl
+      ∙ ap (λ l. Some (with_block l now)) (def_list-and all at n Current y)
+  built-defs (Grammar.spells_function at n open_at close_at equals_at semicolon_at {all = all} {parameters = ps} {y = y} sd sn sy) out from now e =
       let named = with_parameters (written_defs out all ++ item.NoNames ∷ []) ps in
-      ap (λ o. built o p) (written_defs-and out all at n (Function ps) y)
-      ∙ grow (written named y) (item.Def kind.Function at n) p (with_tree y (with_names (names_of ps) (places_of ps) (with_block (def_list all) q))) _
-      (built-written sy named p (with_names (names_of ps) (places_of ps) (with_block (def_list all) q))
-      (built-parameters ps (written_defs out all ++ item.NoNames ∷ []) p (with_block (def_list all) q) [] []
-      (grow (written_defs out all) item.NoNames p (with_block (def_list all) q) _ (built-defs sd out p q e) refl))) refl
-      ∙ ap (λ l. Some (with_block l q)) (def_list-and all at n (Function ps) y)
+      ap (λ o. built o from) (written_defs-and out all at n (Function ps) y)
+      ∙ grow (written named y) (item.Def kind.Function at n) from (with_tree y (with_names (names_of ps) (places_of ps) (with_block (def_list all) now))) _
+      (built-written sy named from (with_names (names_of ps) (places_of ps) (with_block (def_list all) now))
+      (built-parameters ps (written_defs out all ++ item.NoNames ∷ []) from (with_block (def_list all) now) [] []
+      (grow (written_defs out all) item.NoNames from (with_block (def_list all) now) _ (built-defs sd out from now e) refl))) refl
+      ∙ ap (λ l. Some (with_block l now)) (def_list-and all at n (Function ps) y)
 
 -- the nodes of a tree that is spelled build it
-pub rebuilt : {k : ℕ} {ws : List PlacedTerminal} {t : PlainTree} → Spells k ws t → built (written [] t) no_piles ≡ Some (piles (t ∷ []) [] [] [] [])
+pub rebuilt : {allowed : ℕ} {ws : List PlacedTerminal} {t : PlainTree} → Spells allowed ws t → built (written [] t) no_piles ≡ Some (piles (t ∷ []) [] [] [] [])
 rebuilt s = built-written s [] no_piles no_piles refl
 
 abbrev first_trees : Option PlainPiles → List PlainTree
 first_trees None = []
-first_trees (Some p) = p.trees
+first_trees (Some held) = held.trees
 
 -- two trees with the same nodes are one
-pub written-one : {j k : ℕ} {us ws : List PlacedTerminal} {x y : PlainTree} → Spells j us x → Spells k ws y → written [] x ≡ written [] y → x ≡ y
+pub written-one : {outer allowed : ℕ} {us ws : List PlacedTerminal} {x y : PlainTree} → Spells outer us x → Spells allowed ws y → written [] x ≡ written [] y → x ≡ y
 written-one {x = x} {y = y} s t e =
     let same : ◌≡◌ {A = Option PlainPiles} (Some (piles (x ∷ []) [] [] [] [])) (Some (piles (y ∷ []) [] [] [] [])) = sym (rebuilt s) ∙ ap (λ l. built l no_piles) e ∙ rebuilt t in
     let lists : ◌≡◌ {A = List PlainTree} (x ∷ []) (y ∷ []) = ap first_trees same in cc
@@ -221,19 +221,19 @@ one_tree ws x y s t =
     written-one s t (cc)
 
 -- a node more
-pub built-more : (items : List PlainItem) (i : ℕ) (d : PlainItem) (p q : PlainPiles) (o : Option PlainPiles) → i < length items → built (take i items) p ≡ Some q → put_on (get_or items i d) q ≡ o
-    → built (take (i + 1) items) p ≡ o
-built-more items i d p q o h e f =
-    ap (λ l. built l p) (take_more items i d h) ∙ built-push (take i items) (get_or items i d) p ∙ ap (option_and_then (put_on (get_or items i d))) e ∙ f
+pub built-more : (items : List PlainItem) (i : ℕ) (d : PlainItem) (from now : PlainPiles) (o : Option PlainPiles) → i < length items → built (take i items) from ≡ Some now → put_on (get_or items i d) now ≡ o
+    → built (take (i + 1) items) from ≡ o
+built-more items i d from now o h e f =
+    ap (λ l. built l from) (take_more items i d h) ∙ built-push (take i items) (get_or items i d) from ∙ ap (option_and_then (put_on (get_or items i d))) e ∙ f
 
-built-front : (xs ys : List PlainItem) (p r : PlainPiles) → built (xs ++ ys) p ≡ Some r → built xs p ≡ None → ⊥
-built-front [] ys p r e f = cc
-built-front (x ∷ xs) ys p r e f = of (put_on x p) e f (λ q g h. built-front xs ys q r g h)
+built-front : (xs ys : List PlainItem) (from after : PlainPiles) → built (xs ++ ys) from ≡ Some after → built xs from ≡ None → ⊥
+built-front [] ys from after e f = cc
+built-front (x ∷ xs) ys from after e f = of (put_on x from) e f (λ now g h. built-front xs ys now after g h)
   where
-    of : (o : Option PlainPiles) → option_and_then (built (xs ++ ys)) o ≡ Some r → option_and_then (built xs) o ≡ None
-        → ((q : PlainPiles) → built (xs ++ ys) q ≡ Some r → built xs q ≡ None → ⊥) → ⊥
+    of : (o : Option PlainPiles) → option_and_then (built (xs ++ ys)) o ≡ Some after → option_and_then (built xs) o ≡ None
+        → ((now : PlainPiles) → built (xs ++ ys) now ≡ Some after → built xs now ≡ None → ⊥) → ⊥
     of None g h k = cc
-    of (Some q) g h k = k q g h
+    of (Some now) g h k = k now g h
 
 -- no node of a tree that is spelled lacks its parts
 pub never_lacks : {ws : List PlacedTerminal} {t : PlainTree} → Spells 0 ws t → (items : List PlainItem) (n : ℕ) → items ≡ written [] t → built (take n items) no_piles ≡ None → ⊥
@@ -242,8 +242,8 @@ never_lacks {t = t} s items n e f =
     (ap (λ l. built l no_piles) (take-append-drop n items ∙ e) ∙ rebuilt s) f
 
 -- in the end there is the tree
-pub all_built : {ws : List PlacedTerminal} {t : PlainTree} → Spells 0 ws t → (items : List PlainItem) (n : ℕ) (p : PlainPiles) → items ≡ written [] t → length items ≤ n → built (take n items) no_piles ≡ Some p → p.trees ≡ t ∷ []
-all_built {t = t} s items n p e h f =
-    let same : Some p ≡ Some (piles (t ∷ []) [] [] [] []) = sym f ∙ ap (λ l. built l no_piles) (take_all n items h ∙ e) ∙ rebuilt s in
-    let one : p ≡ piles (t ∷ []) [] [] [] [] = cc in
-    ap (λ q. q.trees) one
+pub all_built : {ws : List PlacedTerminal} {t : PlainTree} → Spells 0 ws t → (items : List PlainItem) (n : ℕ) (from : PlainPiles) → items ≡ written [] t → length items ≤ n → built (take n items) no_piles ≡ Some from → from.trees ≡ t ∷ []
+all_built {t = t} s items n from e h f =
+    let same : Some from ≡ Some (piles (t ∷ []) [] [] [] []) = sym f ∙ ap (λ l. built l no_piles) (take_all n items h ∙ e) ∙ rebuilt s in
+    let one : from ≡ piles (t ∷ []) [] [] [] [] = cc in
+    ap (λ now. now.trees) one

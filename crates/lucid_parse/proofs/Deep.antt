@@ -31,8 +31,8 @@ unfolding from_end
 from_end-push out i d ds best = ap (λ l. search_from l (d ∷ ds) best) (reverse-append out (i ∷ []))
 
 -- the same where the node is an equal one
-from_end-as : (out : List PlainItem) (j i : PlainItem) (d : ℕ) (ds : List ℕ) (best : Option ℕ) → j ≡ i → from_end (out ++ j ∷ []) (d ∷ ds) best ≡ from_end out (below i d ds) (found i d best)
-from_end-as out j i d ds best e = ap (λ x. from_end (out ++ x ∷ []) (d ∷ ds) best) e ∙ from_end-push out i d ds best
+from_end-as : (out : List PlainItem) (other i : PlainItem) (d : ℕ) (ds : List ℕ) (best : Option ℕ) → other ≡ i → from_end (out ++ other ∷ []) (d ∷ ds) best ≡ from_end out (below i d ds) (found i d best)
+from_end-as out other i d ds best e = ap (λ x. from_end (out ++ x ∷ []) (d ∷ ds) best) e ∙ from_end-push out i d ds best
 
 searched_parameters : (ps : List Parameter) (out : List PlainItem) (d : ℕ) (ds : List ℕ) (best : Option ℕ) → from_end (with_parameters out ps) (d ∷ ds) best ≡ from_end out (d ∷ ds) best
 searched_parameters [] out d ds best = refl
@@ -58,36 +58,36 @@ copies-more n d ds = ap (λ k. copies k d ds) (add-one n)
 mutual
   unfolding written at_depth
 
-  searched : {k : ℕ} {ws : List PlacedTerminal} {t : PlainTree} → Spells k ws t → (out : List PlainItem) (d : ℕ) (ds : List ℕ) (best : Option ℕ) → from_end (written out t) (d ∷ ds) best ≡ from_end out ds (least_in best (at_depth d t))
+  searched : {allowed : ℕ} {ws : List PlacedTerminal} {t : PlainTree} → Spells allowed ws t → (out : List PlainItem) (d : ℕ) (ds : List ℕ) (best : Option ℕ) → from_end (written out t) (d ∷ ds) best ≡ from_end out ds (least_in best (at_depth d t))
   searched (Grammar.spells_const {at = at} {v = v}) out d ds best = from_end-push out (item.Const at v) d ds best
   searched (Grammar.spells_name {at = at} {n = n}) out d ds best = from_end-push out (item.Name at n) d ds best
-  searched (Grammar.spells_infix {at = at} {x = x} {y = y} s b is low sx sy) out d ds best =
-      from_end-as (written (written out x) y) _ (item.Infix b at) d ds best (node-infix s b is at)
+  searched (Grammar.spells_infix {at = at} {x = x} {y = y} terminal operator is low sx sy) out d ds best =
+      from_end-as (written (written out x) y) _ (item.Infix operator at) d ds best (node-infix terminal operator is at)
       ∙ searched sy (written out x) (pred d) (pred d ∷ ds) (least_in best (here d at))
       ∙ searched sx out (pred d) ds (least_in (least_in best (here d at)) (at_depth (pred d) y))
       ∙ ap (from_end out ds) (sym (simp least_in-append))
-  searched (Grammar.spells_prefix {at = at} {x = x} s u is low sx) out d ds best =
-      from_end-as (written out x) _ (item.Prefix u at) d ds best (node-prefix s u is at)
+  searched (Grammar.spells_prefix {at = at} {x = x} terminal operator is low sx) out d ds best =
+      from_end-as (written out x) _ (item.Prefix operator at) d ds best (node-prefix terminal operator is at)
       ∙ searched sx out (pred d) ds (least_in best (here d at))
       ∙ ap (from_end out ds) (sym (simp least_in-append))
-  searched (Grammar.spells_inner q sx) out d ds best = searched sx out d ds best
-  searched (Grammar.spells_if {at = at} p q r {x = x} {y = y} {z = z} sx sy sz) out d ds best =
+  searched (Grammar.spells_inner close_at sx) out d ds best = searched sx out d ds best
+  searched (Grammar.spells_if {at = at} then_at else_at fi_at {x = x} {y = y} {z = z} sx sy sz) out d ds best =
       from_end-push (written (written (written out x) y) z) (item.If at) d ds best
       ∙ searched sz (written (written out x) y) (pred d) (pred d ∷ pred d ∷ ds) (least_in best (here d at))
       ∙ searched sy (written out x) (pred d) (pred d ∷ ds) (least_in (least_in best (here d at)) (at_depth (pred d) z))
       ∙ searched sx out (pred d) ds (least_in (least_in (least_in best (here d at)) (at_depth (pred d) z)) (at_depth (pred d) y))
       ∙ ap (from_end out ds) (sym (simp least_in-append))
-  searched (Grammar.spells_call {at = at} q {n = n} {args = args} sa) out d ds best =
+  searched (Grammar.spells_call {at = at} close_at {n = n} {args = args} sa) out d ds best =
       from_end-push (written_all (out ++ item.NoTrees ∷ []) args) (item.Call at n) d ds best
       ∙ searched_args sa (out ++ item.NoTrees ∷ []) (pred d) ds (least_in best (here d at))
       ∙ from_end-push out item.NoTrees (pred d) ds (least_in (least_in best (here d at)) (at_depth_in (pred d) args))
       ∙ ap (from_end out ds) (sym (least_in-append best (at_depth_in (pred d) args) (here d at)))
-  searched (Grammar.spells_called {at = at} q c {args = args} all sa) out d ds best =
-      from_end-as (written_parts out args) _ (item.Called c at) d ds best (node-called c at)
+  searched (Grammar.spells_called {at = at} close_at operator {args = args} all sa) out d ds best =
+      from_end-as (written_parts out args) _ (item.Called operator at) d ds best (node-called operator at)
       ∙ ap (λ n. from_end (written_parts out args) (copies n (pred d) ds) (least_in best (here d at))) (sym all)
       ∙ searched_parts sa out (pred d) ds (least_in best (here d at))
       ∙ ap (from_end out ds) (sym (least_in-append best (at_depth_in (pred d) args) (here d at)))
-  searched (Grammar.spells_block {at = at} p {x = x} {all = all} low sx sd) out d ds best =
+  searched (Grammar.spells_block {at = at} end_at {x = x} {all = all} low sx sd) out d ds best =
       from_end-push (written_defs (written out x ++ item.NoDefs ∷ []) all) (item.Block at) d ds best
       ∙ searched_defs sd (written out x ++ item.NoDefs ∷ []) (pred d) (pred d ∷ ds) (least_in best (here d at))
       ∙ from_end-push (written out x) item.NoDefs (pred d) (pred d ∷ ds) (least_in (least_in best (here d at)) (at_depth_in_defs (pred d) all))
@@ -97,7 +97,7 @@ mutual
   searched_parts : {ws : List PlacedTerminal} {args : PlainTrees} → SpellsArgs ws args → (out : List PlainItem) (d : ℕ) (ds : List ℕ) (best : Option ℕ)
       → from_end (written_parts out args) (copies (count args) d ds) best ≡ from_end out ds (least_in best (at_depth_in d args))
   searched_parts (Grammar.spells_one {x = x} sx) out d ds best = searched sx out d ds best ∙ ap (from_end out ds) (sym (simp least_in-append))
-  searched_parts (Grammar.spells_more p {all = all} {y = y} sa sy) out d ds best =
+  searched_parts (Grammar.spells_more comma_at {all = all} {y = y} sa sy) out d ds best =
       ap (λ o. from_end o (copies (count (trees_and all y)) d ds) best) (written_parts-and out all y)
       ∙ ap (λ l. from_end (written (written_parts out all) y) l best) (ap (λ n. copies n d ds) (count-and all y) ∙ copies-more (count all) d ds)
       ∙ searched sy (written_parts out all) d (copies (count all) d ds) best
@@ -108,7 +108,7 @@ mutual
       → from_end (written_all out args) (d ∷ ds) best ≡ from_end out (d ∷ ds) (least_in best (at_depth_in d args))
   searched_args (Grammar.spells_one {x = x} sx) out d ds best =
       from_end-push (written out x) item.More d ds best ∙ searched sx out d (d ∷ ds) best ∙ ap (from_end out (d ∷ ds)) (sym (simp least_in-append))
-  searched_args (Grammar.spells_more p {all = all} {y = y} sa sy) out d ds best =
+  searched_args (Grammar.spells_more comma_at {all = all} {y = y} sa sy) out d ds best =
       ap (λ o. from_end o (d ∷ ds) best) (written_all-and out all y)
       ∙ from_end-push (written (written_all out all) y) item.More d ds best
       ∙ searched sy (written_all out all) d (d ∷ ds) best
@@ -118,21 +118,21 @@ mutual
   searched_defs : {ws : List PlacedTerminal} {all : PlainDefs} → SpellsDefs ws all → (out : List PlainItem) (d : ℕ) (ds : List ℕ) (best : Option ℕ)
       → from_end (written_defs out all) (d ∷ ds) best ≡ from_end out (d ∷ ds) (least_in best (at_depth_in_defs d all))
   searched_defs Grammar.spells_none out d ds best = refl
-  searched_defs (Grammar.spells_def at n p q {all = all} {y = y} sd sy) out d ds best =
+  searched_defs (Grammar.spells_def at n equals_at semicolon_at {all = all} {y = y} sd sy) out d ds best =
       ap (λ o. from_end o (d ∷ ds) best) (written_defs-and out all at n Plain y)
       ∙ from_end-push (written (written_defs out all) y) (item.Def kind.Plain at n) d ds best
       ∙ searched sy (written_defs out all) d (d ∷ ds) best
       ∙ searched_defs sd out d ds (least_in best (at_depth d y))
       ∙ ap (from_end out (d ∷ ds)) (sym (ap (least_in best) (at_depth_in_defs-and d all at n Plain y) ∙ least_in-append best (at_depth_in_defs d all) (at_depth d y)))
-  searched_defs (Grammar.spells_current at n o p q {all = all} {y = y} sd sy) out d ds best =
-      ap (λ o. from_end o (d ∷ ds) best) (written_defs-and out all at n Current y)
+  searched_defs (Grammar.spells_current at n is_at current_at semicolon_at {all = all} {y = y} sd sy) out d ds best =
+      ap (λ is_at. from_end is_at (d ∷ ds) best) (written_defs-and out all at n Current y)
       ∙ from_end-push (written (written_defs out all) y) (item.Def kind.Current at n) d ds best
       ∙ searched sy (written_defs out all) d (d ∷ ds) best
       ∙ searched_defs sd out d ds (least_in best (at_depth d y))
       ∙ ap (from_end out (d ∷ ds)) (sym (ap (least_in best) (at_depth_in_defs-and d all at n Current y) ∙ least_in-append best (at_depth_in_defs d all) (at_depth d y)))
-  searched_defs (Grammar.spells_function at n o p q r {all = all} {parameters = ps} {y = y} sd sn sy) out d ds best =
+  searched_defs (Grammar.spells_function at n open_at close_at equals_at semicolon_at {all = all} {parameters = ps} {y = y} sd sn sy) out d ds best =
       let named = with_parameters (written_defs out all ++ item.NoNames ∷ []) ps in
-      ap (λ o. from_end o (d ∷ ds) best) (written_defs-and out all at n (Function ps) y)
+      ap (λ open_at. from_end open_at (d ∷ ds) best) (written_defs-and out all at n (Function ps) y)
       ∙ from_end-push (written named y) (item.Def kind.Function at n) d ds best
       ∙ searched sy named d (d ∷ d ∷ ds) best
       ∙ searched_parameters ps (written_defs out all ++ item.NoNames ∷ []) d (d ∷ ds) (least_in best (at_depth d y))
@@ -141,7 +141,7 @@ mutual
       ∙ ap (from_end out (d ∷ ds)) (sym (ap (least_in best) (at_depth_in_defs-and d all at n (Function ps) y) ∙ least_in-append best (at_depth_in_defs d all) (at_depth d y)))
 
 -- what the search finds in a program
-pub search_finds : {k : ℕ} {ws : List PlacedTerminal} {t : PlainTree} → Spells k ws t → (d : ℕ) → search_from (reverse (written [] t)) (d ∷ []) None ≡ least_in None (at_depth d t)
+pub search_finds : {allowed : ℕ} {ws : List PlacedTerminal} {t : PlainTree} → Spells allowed ws t → (d : ℕ) → search_from (reverse (written [] t)) (d ∷ []) None ≡ least_in None (at_depth d t)
 unfolding from_end
 search_finds s d = searched s [] d [] None
 
@@ -151,18 +151,18 @@ Contains-first x xs = (0, omega arith, refl)
 Contains-later : (x y : ℕ) (xs : List ℕ) → Contains xs y → Contains (x ∷ xs) y
 Contains-later x y xs h = (suc h.0, omega (arith, h.1), h.2)
 
-IsLeast-one : (p : ℕ) → IsLeast (p ∷ []) p
-IsLeast-one p = record { among = Contains-first p []; least = All-cons (λ q. p ≤ q) p [] (omega arith) (All-nil (λ q. p ≤ q)) }
+IsLeast-one : (place : ℕ) → IsLeast (place ∷ []) place
+IsLeast-one place = record { among = Contains-first place []; least = All-cons (λ q. place ≤ q) place [] (omega arith) (All-nil (λ q. place ≤ q)) }
 
-IsLeast-more : (p q : ℕ) (ps : List ℕ) → IsLeast ps q → IsLeast (p ∷ ps) (min p q)
-IsLeast-more p q ps h = elim (cases_le p q) [
-  | inl le ↦ subst (IsLeast (p ∷ ps)) (let e : p ≡ min p q = omega arith in e) (record {
-    among = Contains-first p ps;
-    least = All-cons (λ r. p ≤ r) p ps (omega arith) (All-weaker (λ r. q ≤ r) (λ r. p ≤ r) (λ r k. omega arith) ps h.least);
+IsLeast-more : (place other : ℕ) (ps : List ℕ) → IsLeast ps other → IsLeast (place ∷ ps) (min place other)
+IsLeast-more place other ps h = elim (cases_le place other) [
+  | inl le ↦ subst (IsLeast (place ∷ ps)) (let e : place ≡ min place other = omega arith in e) (record {
+    among = Contains-first place ps;
+    least = All-cons (λ r. place ≤ r) place ps (omega arith) (All-weaker (λ r. other ≤ r) (λ r. place ≤ r) (λ r k. omega arith) ps h.least);
   })
-  | inr le ↦ subst (IsLeast (p ∷ ps)) (let e : q ≡ min p q = omega arith in e) (record {
-    among = Contains-later p q ps h.among;
-    least = All-cons (λ r. q ≤ r) p ps (omega arith) h.least;
+  | inr le ↦ subst (IsLeast (place ∷ ps)) (let e : other ≡ min place other = omega arith in e) (record {
+    among = Contains-later place other ps h.among;
+    least = All-cons (λ r. other ≤ r) place ps (omega arith) h.least;
   })
 ]
   where
@@ -278,28 +278,28 @@ search_from-more items i x d ds best h =
 -- The search looks at no name and no value.
 module _ {M N V W : Type 0} (f : M → N) (g : V → W) where
   found-filled : (i : Item M V) (d : ℕ) (best : Option ℕ) → found (fill_item f g i) d best ≡ found i d best
-  found-filled (item.Const p v) d best = refl
-  found-filled (item.Name p n) d best = refl
-  found-filled (item.Infix b p) d best = refl
-  found-filled (item.Prefix u p) d best = refl
-  found-filled (item.Called c p) d best = refl
-  found-filled (item.If p) d best = refl
-  found-filled (item.Call p n) d best = refl
-  found-filled (item.Block p) d best = refl
+  found-filled (item.Const at v) d best = refl
+  found-filled (item.Name at n) d best = refl
+  found-filled (item.Infix operator at) d best = refl
+  found-filled (item.Prefix operator at) d best = refl
+  found-filled (item.Called operator at) d best = refl
+  found-filled (item.If at) d best = refl
+  found-filled (item.Call at n) d best = refl
+  found-filled (item.Block at) d best = refl
   found-filled _ d best = refl
 
   below-filled : (i : Item M V) (d : ℕ) (ds : List ℕ) → below (fill_item f g i) d ds ≡ below i d ds
-  below-filled (item.Infix b p) d ds = refl
-  below-filled (item.Prefix u p) d ds = refl
-  below-filled (item.Called c p) d ds = refl
-  below-filled (item.If p) d ds = refl
-  below-filled (item.Call p n) d ds = refl
-  below-filled (item.Block p) d ds = refl
+  below-filled (item.Infix operator at) d ds = refl
+  below-filled (item.Prefix operator at) d ds = refl
+  below-filled (item.Called operator at) d ds = refl
+  below-filled (item.If at) d ds = refl
+  below-filled (item.Call at n) d ds = refl
+  below-filled (item.Block at) d ds = refl
   below-filled item.More d ds = refl
-  below-filled (item.Def kind.Function p n) d ds = refl
-  below-filled (item.Def kind.Plain p n) d ds = refl
-  below-filled (item.Def kind.Current p n) d ds = refl
-  below-filled (item.Param p n) d ds = refl
+  below-filled (item.Def kind.Function at n) d ds = refl
+  below-filled (item.Def kind.Plain at n) d ds = refl
+  below-filled (item.Def kind.Current at n) d ds = refl
+  below-filled (item.Param at n) d ds = refl
   below-filled _ d ds = refl
 
   pub search_from-filled : (is : List (Item M V)) (ds : List ℕ) (best : Option ℕ) → search_from (map (fill_item f g) is) ds best ≡ search_from is ds best

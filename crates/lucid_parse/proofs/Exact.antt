@@ -85,10 +85,10 @@ module _ (ts : List PlacedTerminal) (end : ℕ) (g : PlainState) (e : feeds star
   none_at_end x s = let no : None ≡ Some (written [] x) = sym (ap (option_and_then finish) e ∙ f) ∙ spelled_nodes ts x s in cc
 
 -- the fault has one place
-earlier : (ts : List PlacedTerminal) (i j : ℕ) → i ≤ j → Begins (take j ts) → Begins (take i ts)
-earlier ts i j h b =
-    begins_front (take i ts) (drop i (take j ts))
-    (subst Begins (sym (take-append-drop i (take j ts)) ∙ ap (λ l. l ++ drop i (take j ts)) (take-take i j ts h)) b)
+earlier : (ts : List PlacedTerminal) (i later : ℕ) → i ≤ later → Begins (take later ts) → Begins (take i ts)
+earlier ts i later h b =
+    begins_front (take i ts) (drop i (take later ts))
+    (subst Begins (sym (take-append-drop i (take later ts)) ∙ ap (λ l. l ++ drop i (take later ts)) (take-take i later ts h)) b)
 
 not_before : (ts : List PlacedTerminal) (end a b : ℕ) (f : IsFault ts end a) (g : IsFault ts end b) → f.index < g.index → ⊥
 not_before ts end a b f g h = f.through (omega (arith, h, g.within)) (earlier ts (f.index + 1) g.index (omega (arith, h)) g.before)

@@ -13,3 +13,4 @@ pub mod Spellings
 pub mod Texts
 pub mod Parsed
 pub mod Answered
+pub mod Verdicts

@@ -81,26 +81,26 @@ pub quoted_length : (bytes : List ℕ) → IsBetween 34 34 is_word_value bytes �
 quoted_length bytes h = let e = ap length h.1 in omega (arith, e, length-append h.0 (34 ∷ []))
 
 -- terminals of one token more
-pub words-push : {source : List ℕ} {ts : List Token} {ws : List PlacedTerminal} → Terminals source ts ws → (t : Token) (s : PlainTerminal) → StandsFor t.kind (bytes_of source t) s
-    → Terminals source (ts ++ t ∷ []) (ws ++ terminal_at s t.from ∷ [])
-words-push Terminals.terminals_none t s h = Terminals.terminals_next t s h Terminals.terminals_none
-words-push (Terminals.terminals_next u r k more) t s h = Terminals.terminals_next u r k (words-push more t s h)
+pub terminals-push : {source : List ℕ} {ts : List Token} {ws : List PlacedTerminal} → Terminals source ts ws → (t : Token) (terminal : PlainTerminal) → StandsFor t.kind (bytes_of source t) terminal
+    → Terminals source (ts ++ t ∷ []) (ws ++ terminal_at terminal t.from ∷ [])
+terminals-push Terminals.terminals_none t terminal h = Terminals.terminals_next t terminal h Terminals.terminals_none
+terminals-push (Terminals.terminals_next u r k more) t terminal h = Terminals.terminals_next u r k (terminals-push more t terminal h)
 
 -- one token of a source more
-pub words_more : (source : List ℕ) (ts : List Token) (i : ℕ) (d : Token) (terminals more : List TerminalAt) (s : TerminalAt) → Terminals source (take i ts) (terminals_of terminals) → i < length ts
+pub terminals_more : (source : List ℕ) (ts : List Token) (i : ℕ) (d : Token) (terminals more : List TerminalAt) (s : TerminalAt) → Terminals source (take i ts) (terminals_of terminals) → i < length ts
     → more ≡ terminals ++ s ∷ [] → s.at ≡ (get_or ts i d).from → StandsFor (get_or ts i d).kind (bytes_of source (get_or ts i d)) (plain_terminal s.terminal)
     → Terminals source (take (i + 1) ts) (terminals_of more)
-words_more source ts i d terminals more s w h e at k =
+terminals_more source ts i d terminals more s w h e at k =
     subst (λ l. Terminals source l (terminals_of more)) (sym (take_more ts i d h))
     (subst (λ l. Terminals source (take i ts ++ get_or ts i d ∷ []) l)
     (ap (λ p. terminals_of terminals ++ terminal_at (plain_terminal s.terminal) p ∷ []) (sym at) ∙ sym (map-append placed_of terminals (s ∷ [])) ∙ ap terminals_of (sym e))
-    (words-push w (get_or ts i d) (plain_terminal s.terminal) k))
+    (terminals-push w (get_or ts i d) (plain_terminal s.terminal) k))
 
-pub no_words : (source : List ℕ) (terminals : List TerminalAt) → terminals ≡ [] → Terminals source [] (terminals_of terminals)
-no_words source terminals e = subst (λ l. Terminals source [] (terminals_of l)) (sym e) Terminals.terminals_none
+pub no_terminals : (source : List ℕ) (terminals : List TerminalAt) → terminals ≡ [] → Terminals source [] (terminals_of terminals)
+no_terminals source terminals e = subst (λ l. Terminals source [] (terminals_of l)) (sym e) Terminals.terminals_none
 
-pub words_again : (source : List ℕ) (ts : List Token) (terminals again : List TerminalAt) → Terminals source ts (terminals_of terminals) → again ≡ terminals → Terminals source ts (terminals_of again)
-words_again source ts terminals again w e = subst (λ l. Terminals source ts (terminals_of l)) (sym e) w
+pub terminals_again : (source : List ℕ) (ts : List Token) (terminals again : List TerminalAt) → Terminals source ts (terminals_of terminals) → again ≡ terminals → Terminals source ts (terminals_of again)
+terminals_again source ts terminals again w e = subst (λ l. Terminals source ts (terminals_of l)) (sym e) w
 
 -- a token's span lies within the source
 module _ (source : List ℕ) (ts : List Token) (tokens : Tokens source 0 ts) (law : TokensStand) (i : ℕ) (d : Token) (h : i < length ts) where
@@ -114,14 +114,14 @@ module _ (source : List ℕ) (ts : List Token) (tokens : Tokens source 0 ts) (la
   ends_within = omega (arith, stands_there.some, stands_there.within, length-drop (get_or ts i d).from source)
 
 -- terminals stand at rising places, as many as the tokens
-pub words_rise : {source : List ℕ} {ts : List Token} {ws : List PlacedTerminal} → Terminals source ts ws → (low limit : ℕ) → IsInOrder low ts limit → Rises low ws
-words_rise Terminals.terminals_none low limit h = rises_none low
-words_rise (Terminals.terminals_next {ws = ws} t s k more) low limit h =
-    rises_next (terminal_at s t.from) ws low h.0 (lower ws t.to (t.from + 1) (omega (arith, h.1)) (words_rise more t.to limit h.2))
+pub terminals_rise : {source : List ℕ} {ts : List Token} {ws : List PlacedTerminal} → Terminals source ts ws → (low limit : ℕ) → IsInOrder low ts limit → Rises low ws
+terminals_rise Terminals.terminals_none low limit h = rises_none low
+terminals_rise (Terminals.terminals_next {ws = ws} t s k more) low limit h =
+    rises_next (terminal_at s t.from) ws low h.0 (lower ws t.to (t.from + 1) (omega (arith, h.1)) (terminals_rise more t.to limit h.2))
 
-pub words_length : {source : List ℕ} {ts : List Token} {ws : List PlacedTerminal} → Terminals source ts ws → length ws ≡ length ts
-words_length Terminals.terminals_none = refl
-words_length (Terminals.terminals_next t s k more) = ap suc (words_length more)
+pub terminals_length : {source : List ℕ} {ts : List Token} {ws : List PlacedTerminal} → Terminals source ts ws → length ws ≡ length ts
+terminals_length Terminals.terminals_none = refl
+terminals_length (Terminals.terminals_next t s k more) = ap suc (terminals_length more)
 
 snoc-one : (xs ys : List ℕ) (b : ℕ) → xs ++ b ∷ [] ≡ ys ++ b ∷ [] → xs ≡ ys
 snoc-one [] [] b e = refl
@@ -135,15 +135,15 @@ inside-one : (xs ys : List ℕ) (a b : ℕ) → a ∷ (xs ++ b ∷ []) ≡ a ∷
 inside-one xs ys a b e = let rest : xs ++ b ∷ [] ≡ ys ++ b ∷ [] = cc in snoc-one xs ys b rest
 
 -- a token stands for one terminal
-stands-one : OneReading → (k : TokenKind) (bytes : List ℕ) (r s : PlainTerminal) → StandsFor k bytes r → StandsFor k bytes s → r ≡ s
-stands-one law kind.Name bytes r s g h = g ∙ sym h
-stands-one law kind.Int bytes r s g h = g ∙ sym h
-stands-one law kind.Quoted bytes r s g h = g.2 ∙ ap (λ l. terminal.Const (word_value l)) (inside-one g.0 h.0 34 34 (sym g.1 ∙ h.1)) ∙ sym h.2
-stands-one law kind.Text bytes r s g h = g.2 ∙ ap (λ l. terminal.Const (text l)) (inside-one g.0 h.0 96 39 (sym g.1 ∙ h.1)) ∙ sym h.2
-stands-one law kind.ListText bytes r s g h = g.2 ∙ ap terminal.Const (law bytes (list g.0) (list h.0) g.1 h.1) ∙ sym h.2
-stands-one law kind.Fixed bytes r s g h = let same : ◌≡◌ {A = Option PlainTerminal} (Some r) (Some s) = sym g ∙ h in cc
+stands-one : OneReading → (k : TokenKind) (bytes : List ℕ) (one other : PlainTerminal) → StandsFor k bytes one → StandsFor k bytes other → one ≡ other
+stands-one law kind.Name bytes one other g h = g ∙ sym h
+stands-one law kind.Int bytes one other g h = g ∙ sym h
+stands-one law kind.Quoted bytes one other g h = g.2 ∙ ap (λ l. terminal.Const (word_value l)) (inside-one g.0 h.0 34 34 (sym g.1 ∙ h.1)) ∙ sym h.2
+stands-one law kind.Text bytes one other g h = g.2 ∙ ap (λ l. terminal.Const (text l)) (inside-one g.0 h.0 96 39 (sym g.1 ∙ h.1)) ∙ sym h.2
+stands-one law kind.ListText bytes one other g h = g.2 ∙ ap terminal.Const (law bytes (list g.0) (list h.0) g.1 h.1) ∙ sym h.2
+stands-one law kind.Fixed bytes one other g h = let same : ◌≡◌ {A = Option PlainTerminal} (Some one) (Some other) = sym g ∙ h in cc
 
-pub words-one : OneReading → {source : List ℕ} {ts : List Token} {us ws : List PlacedTerminal} → Terminals source ts us → Terminals source ts ws → us ≡ ws
-words-one law Terminals.terminals_none Terminals.terminals_none = refl
-words-one law (Terminals.terminals_next {ws = us} t r g more) (Terminals.terminals_next {ws = ws} u s h again) =
-    ap (λ x. terminal_at x t.from ∷ us) (stands-one law t.kind _ r s g h) ∙ ap (λ l. terminal_at s t.from ∷ l) (words-one law more again)
+pub terminals-one : OneReading → {source : List ℕ} {ts : List Token} {us ws : List PlacedTerminal} → Terminals source ts us → Terminals source ts ws → us ≡ ws
+terminals-one law Terminals.terminals_none Terminals.terminals_none = refl
+terminals-one law (Terminals.terminals_next {ws = us} t r g more) (Terminals.terminals_next {ws = ws} u s h again) =
+    ap (λ x. terminal_at x t.from ∷ us) (stands-one law t.kind _ r s g h) ∙ ap (λ l. terminal_at s t.from ∷ l) (terminals-one law more again)

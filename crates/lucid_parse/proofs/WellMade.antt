@@ -18,17 +18,17 @@ use Rattle.lucid_parse.specs.Grammar.{PlacedTerminal, trees_and, def_before, def
 
 -- The shape.
 
-fits-infix : (s : PlainTerminal) (b : Infix) → infix_of s ≡ Some b → (x y : PlainTree) → fits_arity (infix_head b) (tree x (tree y no_trees)) ≡ true
-fits-infix s (infixes.Operator o) e x y = eq-eqb 2 (arity o) (sym (between_arity o (stands_between s o e)))
-fits-infix s infixes.Fby e x y = refl
-fits-infix s _ e x y = refl
+fits-infix : (terminal : PlainTerminal) (operator : Infix) → infix_of terminal ≡ Some operator → (x y : PlainTree) → fits_arity (infix_head operator) (tree x (tree y no_trees)) ≡ true
+fits-infix terminal (infixes.Operator o) e x y = eq-eqb 2 (arity o) (sym (between_arity o (stands_between terminal o e)))
+fits-infix terminal infixes.Fby e x y = refl
+fits-infix terminal _ e x y = refl
 
-fits-prefix : (s : PlainTerminal) (u : Prefix) → prefix_of s ≡ Some u → (x : PlainTree) → fits_arity (prefix_head u) (tree x no_trees) ≡ true
-fits-prefix s (prefixes.Operator o) e x = eq-eqb 1 (arity o) (sym (before_arity o (stands_before s o e)))
-fits-prefix s prefixes.First e x = refl
-fits-prefix s _ e x = refl
+fits-prefix : (terminal : PlainTerminal) (operator : Prefix) → prefix_of terminal ≡ Some operator → (x : PlainTree) → fits_arity (prefix_head operator) (tree x no_trees) ≡ true
+fits-prefix terminal (prefixes.Operator o) e x = eq-eqb 1 (arity o) (sym (before_arity o (stands_before terminal o e)))
+fits-prefix terminal prefixes.First e x = refl
+fits-prefix terminal _ e x = refl
 
-fits-called : (c : Called) (args : PlainTrees) → count args ≡ called_arity c → fits_arity (called_head c) args ≡ true
+fits-called : (operator : Called) (args : PlainTrees) → count args ≡ called_arity operator → fits_arity (called_head operator) args ≡ true
 fits-called called.Substr args e = eq-eqb (count args) 3 e
 fits-called called.Nth args e = eq-eqb (count args) 2 e
 
@@ -76,53 +76,53 @@ names_of-and (p ∷ ps) qs = omega (arith, names_of-and ps qs)
 
 some_names : {xs : List PlacedTerminal} {ps : List Parameter} → SpellsNames xs ps → 0 < length (names_of ps)
 some_names Grammar.spells_first_name = omega arith
-some_names (Grammar.spells_more_names p at n {all = all} s) = omega (arith, some_names s, names_of-and all (record { at = at; name = n } ∷ []))
+some_names (Grammar.spells_more_names comma_at at n {all = all} sn) = omega (arith, some_names sn, names_of-and all (record { at = at; name = n } ∷ []))
 
 mutual
-  pub shaped : {k : ℕ} {ws : List PlacedTerminal} {t : PlainTree} → Spells k ws t → is_shaped t ≡ true
+  pub shaped : {level : ℕ} {ws : List PlacedTerminal} {t : PlainTree} → Spells level ws t → is_shaped t ≡ true
   shaped Grammar.spells_const = refl
   shaped Grammar.spells_name = refl
-  shaped (Grammar.spells_infix {x = x} {y = y} s b is low sx sy) = both _ _ (fits-infix s b is x y) (both _ _ (shaped sx) (both _ _ (shaped sy) refl))
-  shaped (Grammar.spells_prefix {x = x} s u is low sx) = both _ _ (fits-prefix s u is x) (both _ _ (shaped sx) refl)
-  shaped (Grammar.spells_inner q sx) = shaped sx
-  shaped (Grammar.spells_if p q r sx sy sz) = both _ _ (shaped sx) (both _ _ (shaped sy) (both _ _ (shaped sz) refl))
-  shaped (Grammar.spells_call q sa) = shaped_args sa
-  shaped (Grammar.spells_called q c {args = args} all sa) = both _ _ (fits-called c args all) (shaped_args sa)
-  shaped (Grammar.spells_block p low sx sd) = both _ _ (shaped sx) (shaped_defs sd)
+  shaped (Grammar.spells_infix {x = x} {y = y} terminal operator is low sx sy) = both _ _ (fits-infix terminal operator is x y) (both _ _ (shaped sx) (both _ _ (shaped sy) refl))
+  shaped (Grammar.spells_prefix {x = x} terminal operator is low sx) = both _ _ (fits-prefix terminal operator is x) (both _ _ (shaped sx) refl)
+  shaped (Grammar.spells_inner close_at sx) = shaped sx
+  shaped (Grammar.spells_if then_at else_at fi_at sx sy sz) = both _ _ (shaped sx) (both _ _ (shaped sy) (both _ _ (shaped sz) refl))
+  shaped (Grammar.spells_call close_at sa) = shaped_args sa
+  shaped (Grammar.spells_called close_at operator {args = args} all sa) = both _ _ (fits-called operator args all) (shaped_args sa)
+  shaped (Grammar.spells_block end_at low sx sd) = both _ _ (shaped sx) (shaped_defs sd)
 
   shaped_args : {ws : List PlacedTerminal} {args : PlainTrees} → SpellsArgs ws args → are_shaped args ≡ true
   shaped_args (Grammar.spells_one sx) = both _ _ (shaped sx) refl
-  shaped_args (Grammar.spells_more p {all = all} {y = y} sa sy) = are_shaped-and all y (shaped_args sa) (shaped sy)
+  shaped_args (Grammar.spells_more comma_at {all = all} {y = y} sa sy) = are_shaped-and all y (shaped_args sa) (shaped sy)
 
   shaped_defs : {ws : List PlacedTerminal} {all : PlainDefs} → SpellsDefs ws all → defs_are_shaped all ≡ true
   shaped_defs Grammar.spells_none = refl
-  shaped_defs (Grammar.spells_def at n p q {all = all} {y = y} sd sy) = defs_are_shaped-and all at n Plain y tt (shaped_defs sd) (shaped sy)
-  shaped_defs (Grammar.spells_function at n o p q r {all = all} {parameters = ps} {y = y} sd sn sy) =
+  shaped_defs (Grammar.spells_def at n equals_at semicolon_at {all = all} {y = y} sd sy) = defs_are_shaped-and all at n Plain y tt (shaped_defs sd) (shaped sy)
+  shaped_defs (Grammar.spells_function at n open_at close_at equals_at semicolon_at {all = all} {parameters = ps} {y = y} sd sn sy) =
       defs_are_shaped-and all at n (Function ps) y (some_names sn) (shaped_defs sd) (shaped sy)
-  shaped_defs (Grammar.spells_current at n o p q {all = all} {y = y} sd sy) = defs_are_shaped-and all at n Current y tt (shaped_defs sd) (shaped sy)
+  shaped_defs (Grammar.spells_current at n is_at current_at semicolon_at {all = all} {y = y} sd sy) = defs_are_shaped-and all at n Current y tt (shaped_defs sd) (shaped sy)
 
 -- The places. How often a number stands in a list, and a place among terminals.
 
 one : ℕ → ℕ → ℕ
-one p x = cond (nat_eq p x) 1 0
+one place x = cond (nat_eq place x) 1 0
 
 pub occurs : ℕ → List ℕ → ℕ
-occurs p [] = 0
-occurs p (x ∷ xs) = one p x + occurs p xs
+occurs place [] = 0
+occurs place (x ∷ xs) = one place x + occurs place xs
 
 pub occurs_at : ℕ → List PlacedTerminal → ℕ
-occurs_at p [] = 0
-occurs_at p (w ∷ ws) = one p w.at + occurs_at p ws
+occurs_at place [] = 0
+occurs_at place (w ∷ ws) = one place w.at + occurs_at place ws
 
-occurs-append : (p : ℕ) (xs ys : List ℕ) → occurs p (xs ++ ys) ≡ occurs p xs + occurs p ys
+occurs-append : (place : ℕ) (xs ys : List ℕ) → occurs place (xs ++ ys) ≡ occurs place xs + occurs place ys
 unfolding occurs
-occurs-append p [] ys = omega arith
-occurs-append p (x ∷ xs) ys = omega (arith, occurs-append p xs ys)
+occurs-append place [] ys = omega arith
+occurs-append place (x ∷ xs) ys = omega (arith, occurs-append place xs ys)
 
-occurs_at-append : (p : ℕ) (xs ys : List PlacedTerminal) → occurs_at p (xs ++ ys) ≡ occurs_at p xs + occurs_at p ys
+occurs_at-append : (place : ℕ) (xs ys : List PlacedTerminal) → occurs_at place (xs ++ ys) ≡ occurs_at place xs + occurs_at place ys
 unfolding occurs_at
-occurs_at-append p [] ys = omega arith
-occurs_at-append p (x ∷ xs) ys = omega (arith, occurs_at-append p xs ys)
+occurs_at-append place [] ys = omega arith
+occurs_at-append place (x ∷ xs) ys = omega (arith, occurs_at-append place xs ys)
 
 -- the places of a definition's parameters
 abbrev own_places : Defined → List ℕ
@@ -130,60 +130,60 @@ own_places Plain = []
 own_places (Function ps) = places_of ps
 own_places Current = []
 
-occurs-trees_and : (p : ℕ) (ts : PlainTrees) (t : PlainTree) → occurs p (places_in (trees_and ts t)) ≡ occurs p (places_in ts) + occurs p (places t)
+occurs-trees_and : (place : ℕ) (ts : PlainTrees) (t : PlainTree) → occurs place (places_in (trees_and ts t)) ≡ occurs place (places_in ts) + occurs place (places t)
 unfolding occurs
-occurs-trees_and p no_trees t = simp occurs-append (omega arith)
-occurs-trees_and p (tree s ts) t = simp occurs-append (omega (arith, occurs-trees_and p ts t))
+occurs-trees_and place no_trees t = simp occurs-append (omega arith)
+occurs-trees_and place (tree s ts) t = simp occurs-append (omega (arith, occurs-trees_and place ts t))
 
-occurs-def : (p at : ℕ) (n : List ℕ) (h : Defined) (t : PlainTree) → occurs p (places_in_defs (def_before at n h t no_defs)) ≡ one p at + (occurs p (own_places h) + occurs p (places t))
+occurs-def : (place at : ℕ) (n : List ℕ) (h : Defined) (t : PlainTree) → occurs place (places_in_defs (def_before at n h t no_defs)) ≡ one place at + (occurs place (own_places h) + occurs place (places t))
 unfolding occurs
-occurs-def p at n Plain t = simp occurs-append (omega arith)
-occurs-def p at n (Function ps) t = simp occurs-append (omega arith)
-occurs-def p at n Current t = simp occurs-append (omega arith)
+occurs-def place at n Plain t = simp occurs-append (omega arith)
+occurs-def place at n (Function ps) t = simp occurs-append (omega arith)
+occurs-def place at n Current t = simp occurs-append (omega arith)
 
-occurs-defs_and : (p : ℕ) (ds : PlainDefs) (at : ℕ) (n : List ℕ) (h : Defined) (t : PlainTree)
-    → occurs p (places_in_defs (defs_and ds at n h t)) ≡ occurs p (places_in_defs ds) + (one p at + (occurs p (own_places h) + occurs p (places t)))
+occurs-defs_and : (place : ℕ) (ds : PlainDefs) (at : ℕ) (n : List ℕ) (h : Defined) (t : PlainTree)
+    → occurs place (places_in_defs (defs_and ds at n h t)) ≡ occurs place (places_in_defs ds) + (one place at + (occurs place (own_places h) + occurs place (places t)))
 unfolding occurs
-occurs-defs_and p no_defs at n h t = omega (arith, occurs-def p at n h t)
-occurs-defs_and p (defines a m s ds) at n h t = simp occurs-append (omega (arith, occurs-defs_and p ds at n h t))
-occurs-defs_and p (defines_function a m ns ats s ds) at n h t = simp occurs-append (omega (arith, occurs-defs_and p ds at n h t))
-occurs-defs_and p (defines_current a m s ds) at n h t = simp occurs-append (omega (arith, occurs-defs_and p ds at n h t))
+occurs-defs_and place no_defs at n h t = omega (arith, occurs-def place at n h t)
+occurs-defs_and place (defines a m s ds) at n h t = simp occurs-append (omega (arith, occurs-defs_and place ds at n h t))
+occurs-defs_and place (defines_function a m ns ats s ds) at n h t = simp occurs-append (omega (arith, occurs-defs_and place ds at n h t))
+occurs-defs_and place (defines_current a m s ds) at n h t = simp occurs-append (omega (arith, occurs-defs_and place ds at n h t))
 
-occurs-places_of : (p : ℕ) (ps : List Parameter) (at : ℕ) (n : List ℕ) → occurs p (places_of (ps ++ record { at = at; name = n } ∷ [])) ≡ occurs p (places_of ps) + one p at
+occurs-places_of : (place : ℕ) (ps : List Parameter) (at : ℕ) (n : List ℕ) → occurs place (places_of (ps ++ record { at = at; name = n } ∷ [])) ≡ occurs place (places_of ps) + one place at
 unfolding occurs
-occurs-places_of p [] at n = omega arith
-occurs-places_of p (q ∷ ps) at n = omega (arith, occurs-places_of p ps at n)
+occurs-places_of place [] at n = omega arith
+occurs-places_of place (q ∷ ps) at n = omega (arith, occurs-places_of place ps at n)
 
-placed_names : {ws : List PlacedTerminal} {ps : List Parameter} → SpellsNames ws ps → (p : ℕ) → occurs p (places_of ps) ≤ occurs_at p ws
+placed_names : {ws : List PlacedTerminal} {ps : List Parameter} → SpellsNames ws ps → (place : ℕ) → occurs place (places_of ps) ≤ occurs_at place ws
 unfolding occurs occurs_at
-placed_names Grammar.spells_first_name p = omega arith
-placed_names (Grammar.spells_more_names q at n {xs = xs} {all = all} s) p = simp (occurs_at-append, occurs-places_of) (omega (arith, placed_names s p))
+placed_names Grammar.spells_first_name place = omega arith
+placed_names (Grammar.spells_more_names comma_at at n {xs = xs} {all = all} sn) place = simp (occurs_at-append, occurs-places_of) (omega (arith, placed_names sn place))
 
 mutual
   unfolding occurs occurs_at
 
   -- no place stands more often in the tree than among the terminals
-  pub placed : {k : ℕ} {ws : List PlacedTerminal} {t : PlainTree} → Spells k ws t → (p : ℕ) → occurs p (places t) ≤ occurs_at p ws
-  placed Grammar.spells_const p = omega arith
-  placed Grammar.spells_name p = omega arith
-  placed (Grammar.spells_infix s b is low sx sy) p = simp (occurs-append, occurs_at-append) (omega (arith, placed sx p, placed sy p))
-  placed (Grammar.spells_prefix s u is low sx) p = simp (occurs-append, occurs_at-append) (omega (arith, placed sx p))
-  placed (Grammar.spells_inner q sx) p = simp (occurs_at-append) (omega (arith, placed sx p))
-  placed (Grammar.spells_if a b c sx sy sz) p = simp (occurs-append, occurs_at-append) (omega (arith, placed sx p, placed sy p, placed sz p))
-  placed (Grammar.spells_call q sa) p = simp (occurs_at-append) (omega (arith, placed_args sa p))
-  placed (Grammar.spells_called q c all sa) p = simp (occurs_at-append) (omega (arith, placed_args sa p))
-  placed (Grammar.spells_block q low sx sd) p = simp (occurs-append, occurs_at-append) (omega (arith, placed sx p, placed_defs sd p))
+  pub placed : {allowed : ℕ} {ws : List PlacedTerminal} {t : PlainTree} → Spells allowed ws t → (place : ℕ) → occurs place (places t) ≤ occurs_at place ws
+  placed Grammar.spells_const place = omega arith
+  placed Grammar.spells_name place = omega arith
+  placed (Grammar.spells_infix terminal operator is low sx sy) place = simp (occurs-append, occurs_at-append) (omega (arith, placed sx place, placed sy place))
+  placed (Grammar.spells_prefix terminal operator is low sx) place = simp (occurs-append, occurs_at-append) (omega (arith, placed sx place))
+  placed (Grammar.spells_inner close_at sx) place = simp (occurs_at-append) (omega (arith, placed sx place))
+  placed (Grammar.spells_if then_at else_at fi_at sx sy sz) place = simp (occurs-append, occurs_at-append) (omega (arith, placed sx place, placed sy place, placed sz place))
+  placed (Grammar.spells_call close_at sa) place = simp (occurs_at-append) (omega (arith, placed_args sa place))
+  placed (Grammar.spells_called close_at operator all sa) place = simp (occurs_at-append) (omega (arith, placed_args sa place))
+  placed (Grammar.spells_block end_at low sx sd) place = simp (occurs-append, occurs_at-append) (omega (arith, placed sx place, placed_defs sd place))
 
-  placed_args : {ws : List PlacedTerminal} {args : PlainTrees} → SpellsArgs ws args → (p : ℕ) → occurs p (places_in args) ≤ occurs_at p ws
-  placed_args (Grammar.spells_one sx) p = simp (occurs-append) (omega (arith, placed sx p))
-  placed_args (Grammar.spells_more q sa sy) p = simp (occurs-trees_and, occurs_at-append) (omega (arith, placed_args sa p, placed sy p))
+  placed_args : {ws : List PlacedTerminal} {args : PlainTrees} → SpellsArgs ws args → (place : ℕ) → occurs place (places_in args) ≤ occurs_at place ws
+  placed_args (Grammar.spells_one sx) place = simp (occurs-append) (omega (arith, placed sx place))
+  placed_args (Grammar.spells_more comma_at sa sy) place = simp (occurs-trees_and, occurs_at-append) (omega (arith, placed_args sa place, placed sy place))
 
-  placed_defs : {ws : List PlacedTerminal} {all : PlainDefs} → SpellsDefs ws all → (p : ℕ) → occurs p (places_in_defs all) ≤ occurs_at p ws
-  placed_defs Grammar.spells_none p = omega arith
-  placed_defs (Grammar.spells_def at n a b sd sy) p = simp (occurs-defs_and, occurs_at-append) (omega (arith, placed_defs sd p, placed sy p))
-  placed_defs (Grammar.spells_function at n a b c d sd sn sy) p =
-      simp (occurs-defs_and, occurs_at-append) (omega (arith, placed_defs sd p, placed_names sn p, placed sy p))
-  placed_defs (Grammar.spells_current at n a b c sd sy) p = simp (occurs-defs_and, occurs_at-append) (omega (arith, placed_defs sd p, placed sy p))
+  placed_defs : {ws : List PlacedTerminal} {all : PlainDefs} → SpellsDefs ws all → (place : ℕ) → occurs place (places_in_defs all) ≤ occurs_at place ws
+  placed_defs Grammar.spells_none place = omega arith
+  placed_defs (Grammar.spells_def at n equals_at semicolon_at sd sy) place = simp (occurs-defs_and, occurs_at-append) (omega (arith, placed_defs sd place, placed sy place))
+  placed_defs (Grammar.spells_function at n open_at close_at equals_at semicolon_at sd sn sy) place =
+      simp (occurs-defs_and, occurs_at-append) (omega (arith, placed_defs sd place, placed_names sn place, placed sy place))
+  placed_defs (Grammar.spells_current at n is_at current_at semicolon_at sd sy) place = simp (occurs-defs_and, occurs_at-append) (omega (arith, placed_defs sd place, placed sy place))
 
 -- The number of places.
 
@@ -209,30 +209,30 @@ length-parameters (q ∷ ps) at n = omega (arith, length-parameters ps at n)
 
 few_names : {ws : List PlacedTerminal} {ps : List Parameter} → SpellsNames ws ps → length (places_of ps) ≤ length ws
 few_names Grammar.spells_first_name = omega arith
-few_names (Grammar.spells_more_names q at n s) = simp (length-append, length-parameters) (omega (arith, few_names s))
+few_names (Grammar.spells_more_names comma_at at n sn) = simp (length-append, length-parameters) (omega (arith, few_names sn))
 
 mutual
   -- a tree has no more places than terminals
-  pub few : {k : ℕ} {ws : List PlacedTerminal} {t : PlainTree} → Spells k ws t → length (places t) ≤ length ws
+  pub few : {level : ℕ} {ws : List PlacedTerminal} {t : PlainTree} → Spells level ws t → length (places t) ≤ length ws
   few Grammar.spells_const = omega arith
   few Grammar.spells_name = omega arith
-  few (Grammar.spells_infix s b is low sx sy) = simp length-append (omega (arith, few sx, few sy))
-  few (Grammar.spells_prefix s u is low sx) = simp length-append (omega (arith, few sx))
-  few (Grammar.spells_inner q sx) = simp length-append (omega (arith, few sx))
-  few (Grammar.spells_if a b c sx sy sz) = simp length-append (omega (arith, few sx, few sy, few sz))
-  few (Grammar.spells_call q sa) = simp length-append (omega (arith, few_args sa))
-  few (Grammar.spells_called q c all sa) = simp length-append (omega (arith, few_args sa))
-  few (Grammar.spells_block q low sx sd) = simp length-append (omega (arith, few sx, few_defs sd))
+  few (Grammar.spells_infix terminal operator is low sx sy) = simp length-append (omega (arith, few sx, few sy))
+  few (Grammar.spells_prefix terminal operator is low sx) = simp length-append (omega (arith, few sx))
+  few (Grammar.spells_inner close_at sx) = simp length-append (omega (arith, few sx))
+  few (Grammar.spells_if then_at else_at fi_at sx sy sz) = simp length-append (omega (arith, few sx, few sy, few sz))
+  few (Grammar.spells_call close_at sa) = simp length-append (omega (arith, few_args sa))
+  few (Grammar.spells_called close_at operator all sa) = simp length-append (omega (arith, few_args sa))
+  few (Grammar.spells_block end_at low sx sd) = simp length-append (omega (arith, few sx, few_defs sd))
 
   few_args : {ws : List PlacedTerminal} {args : PlainTrees} → SpellsArgs ws args → length (places_in args) ≤ length ws
   few_args (Grammar.spells_one sx) = simp length-append (omega (arith, few sx))
-  few_args (Grammar.spells_more q sa sy) = simp (length-append, length-trees_and) (omega (arith, few_args sa, few sy))
+  few_args (Grammar.spells_more comma_at sa sy) = simp (length-append, length-trees_and) (omega (arith, few_args sa, few sy))
 
   few_defs : {ws : List PlacedTerminal} {all : PlainDefs} → SpellsDefs ws all → length (places_in_defs all) ≤ length ws
   few_defs Grammar.spells_none = omega arith
-  few_defs (Grammar.spells_def at n a b sd sy) = simp (length-append, length-defs_and) (omega (arith, few_defs sd, few sy))
-  few_defs (Grammar.spells_function at n a b c d sd sn sy) = simp (length-append, length-defs_and) (omega (arith, few_defs sd, few_names sn, few sy))
-  few_defs (Grammar.spells_current at n a b c sd sy) = simp (length-append, length-defs_and) (omega (arith, few_defs sd, few sy))
+  few_defs (Grammar.spells_def at n equals_at semicolon_at sd sy) = simp (length-append, length-defs_and) (omega (arith, few_defs sd, few sy))
+  few_defs (Grammar.spells_function at n open_at close_at equals_at semicolon_at sd sn sy) = simp (length-append, length-defs_and) (omega (arith, few_defs sd, few_names sn, few sy))
+  few_defs (Grammar.spells_current at n is_at current_at semicolon_at sd sy) = simp (length-append, length-defs_and) (omega (arith, few_defs sd, few sy))
 
 -- Terminals whose places rise.
 
@@ -240,10 +240,10 @@ pub Rises : ℕ → List PlacedTerminal → Type 0
 Rises low [] = Unit {0}
 Rises low (w ∷ ws) = (low ≤ w.at) × Rises (w.at + 1) ws
 
-pub lower : (ws : List PlacedTerminal) (a b : ℕ) → b ≤ a → Rises a ws → Rises b ws
+pub lower : (ws : List PlacedTerminal) (low least : ℕ) → least ≤ low → Rises low ws → Rises least ws
 unfolding Rises
-lower [] a b h r = tt
-lower (w ∷ ws) a b h r = (omega (arith, h, r.0), r.1)
+lower [] low least h r = tt
+lower (w ∷ ws) low least h r = (omega (arith, h, r.0), r.1)
 
 pub rises_next : (w : PlacedTerminal) (ws : List PlacedTerminal) (low : ℕ) → low ≤ w.at → Rises (w.at + 1) ws → Rises low (w ∷ ws)
 unfolding Rises
@@ -253,17 +253,17 @@ pub rises_none : (low : ℕ) → Rises low []
 unfolding Rises
 rises_none low = tt
 
-one-less : (p x : ℕ) → p < x → one p x ≡ 0
+one-less : (place x : ℕ) → place < x → one place x ≡ 0
 unfolding one
-one-less p x h = of (nat_eq p x) refl
+one-less place x h = of (nat_eq place x) refl
   where
-    of : (b : Bool) → nat_eq p x ≡ b → ◌≡◌ {A = ℕ} (cond b 1 0) 0
-    of true e = let same : p ≡ x = eqb-true p x e in absurd (omega (arith, same, h))
+    of : (b : Bool) → nat_eq place x ≡ b → ◌≡◌ {A = ℕ} (cond b 1 0) 0
+    of true e = let same : place ≡ x = eqb-true place x e in absurd (omega (arith, same, h))
     of false e = refl
 
-one-most : (p x : ℕ) → one p x ≤ 1
+one-most : (place x : ℕ) → one place x ≤ 1
 unfolding one
-one-most p x = of (nat_eq p x)
+one-most place x = of (nat_eq place x)
   where
     of : (b : Bool) → cond b 1 0 ≤ 1
     of true = omega arith
@@ -273,19 +273,19 @@ one-same : (x : ℕ) → one x x ≡ 1
 unfolding one
 one-same x = ap (λ b. cond b 1 0) (eq-eqb x x refl)
 
-not_below : (p : ℕ) (ws : List PlacedTerminal) (low : ℕ) → Rises low ws → p < low → occurs_at p ws ≡ 0
+not_below : (place : ℕ) (ws : List PlacedTerminal) (low : ℕ) → Rises low ws → place < low → occurs_at place ws ≡ 0
 unfolding occurs_at Rises
-not_below p [] low r h = refl
-not_below p (w ∷ ws) low r h = omega (arith, one-less p w.at (omega (arith, h, r.0)), not_below p ws (w.at + 1) r.1 (omega (arith, h, r.0)))
+not_below place [] low r h = refl
+not_below place (w ∷ ws) low r h = omega (arith, one-less place w.at (omega (arith, h, r.0)), not_below place ws (w.at + 1) r.1 (omega (arith, h, r.0)))
 
-once : (p : ℕ) (ws : List PlacedTerminal) (low : ℕ) → Rises low ws → occurs_at p ws ≤ 1
+once : (place : ℕ) (ws : List PlacedTerminal) (low : ℕ) → Rises low ws → occurs_at place ws ≤ 1
 unfolding occurs_at Rises one
-once p [] low r = omega arith
-once p (w ∷ ws) low r = of (nat_eq p w.at) refl (once p ws (w.at + 1) r.1)
+once place [] low r = omega arith
+once place (w ∷ ws) low r = of (nat_eq place w.at) refl (once place ws (w.at + 1) r.1)
   where
-    of : (b : Bool) → nat_eq p w.at ≡ b → occurs_at p ws ≤ 1 → one p w.at + occurs_at p ws ≤ 1
-    of true e k = let same : p ≡ w.at = eqb-true p w.at e in omega (arith, one-most p w.at, not_below p ws (w.at + 1) r.1 (omega (arith, same)))
-    of false e k = let none : one p w.at ≡ 0 = ap (λ b. cond b 1 0) e in omega (arith, none, k)
+    of : (b : Bool) → nat_eq place w.at ≡ b → occurs_at place ws ≤ 1 → one place w.at + occurs_at place ws ≤ 1
+    of true e k = let same : place ≡ w.at = eqb-true place w.at e in omega (arith, one-most place w.at, not_below place ws (w.at + 1) r.1 (omega (arith, same)))
+    of false e k = let none : one place w.at ≡ 0 = ap (λ b. cond b 1 0) e in omega (arith, none, k)
 
 in_occurs : (x : ℕ) (xs : List ℕ) → In x xs → 1 ≤ occurs x xs
 unfolding occurs
@@ -293,10 +293,10 @@ in_occurs x [] h = absurd h
 in_occurs x (y ∷ ys) (inl e) = let same : one x y ≡ 1 = ap (one x) (sym e) ∙ one-same x in omega (arith, same)
 in_occurs x (y ∷ ys) (inr h) = omega (arith, in_occurs x ys h)
 
-all_differ : (xs : List ℕ) → ((p : ℕ) → occurs p xs ≤ 1) → AllDiffer xs
+all_differ : (xs : List ℕ) → ((place : ℕ) → occurs place xs ≤ 1) → AllDiffer xs
 unfolding occurs
 all_differ [] h = tt
-all_differ (x ∷ xs) h = ((λ i. omega (arith, h x, in_occurs x xs i, one-same x)), all_differ xs (λ p. omega (arith, h p)))
+all_differ (x ∷ xs) h = ((λ i. omega (arith, h x, in_occurs x xs i, one-same x)), all_differ xs (λ place. omega (arith, h place)))
 
 -- what terminals of rising places spell is well made
 pub well_made : {ws : List PlacedTerminal} {t : PlainTree} → Spells 0 ws t → Rises 0 ws → length ws ≤ 1048576 → IsWellMade t

@@ -14,7 +14,7 @@ use Rattle.lucid_parse.specs.Machine.{PlainItem}
 
 -- a head that is no data operator's
 abbrev pub IsOverStreams : Head → Type 0
-IsOverStreams (apply op n) = ⊥
+IsOverStreams (apply operator count) = ⊥
 IsOverStreams _ = Unit {0}
 
 -- the trees, the lists of trees, of parameters and their places, and of definitions that no node has taken yet, the last first
@@ -26,53 +26,55 @@ pub record PlainPiles : Type 0 where
   pub blocks : List (List Def)
 
 abbrev pub piles : List PlainTree → List (List PlainTree) → List (List (List ℕ)) → List (List ℕ) → List (List Def) → PlainPiles
-piles ts ls ns ats ds = record { trees = ts; lists = ls; names = ns; places = ats; blocks = ds }
+piles trees lists names places blocks = record { trees = trees; lists = lists; names = names; places = places; blocks = blocks }
 
 abbrev pub no_piles : PlainPiles
 no_piles = piles [] [] [] [] []
 
 abbrev pub definition : ℕ → List ℕ → DefKind → Def
-definition at n k = record { at = at; name = n; kind = k }
+definition at n described = record { at = at; name = n; kind = described }
 
--- the last n trees of a pile, in order and in front of those taken before, and what is under them
+-- so many trees from the top of a pile, in order and in front of those taken before, and what is under them
 abbrev pub gather : ℕ → List PlainTree → PlainTrees → Option (PlainTrees × List PlainTree)
-gather zero ts parts = Some (parts, ts)
-gather (suc n) [] parts = None
-gather (suc n) (t ∷ ts) parts = gather n ts (tree t parts)
+gather zero rest parts = Some (parts, rest)
+gather (suc more) [] parts = None
+gather (suc more) (last ∷ rest) parts = gather more rest (tree last parts)
 
 abbrev pub put : PlainItem → List PlainTree → List (List PlainTree) → List (List (List ℕ)) → List (List ℕ) → List (List Def) → Option PlainPiles
-put (item.Const at v) ts ls ns ats ds = Some (piles (form at (const v) no_trees ∷ ts) ls ns ats ds)
-put (item.Name at n) ts ls ns ats ds = Some (piles (name at n ∷ ts) ls ns ats ds)
-put (item.Infix b at) (y ∷ x ∷ ts) ls ns ats ds = Some (piles (form at (infix_head b) (tree x (tree y no_trees)) ∷ ts) ls ns ats ds)
-put (item.Prefix u at) (x ∷ ts) ls ns ats ds = Some (piles (form at (prefix_head u) (tree x no_trees) ∷ ts) ls ns ats ds)
-put (item.Called c at) ts ls ns ats ds =
-    option_and_then (λ g. Some (piles (form at (called_head c) g.0 ∷ g.1) ls ns ats ds)) (gather (called_arity c) ts no_trees)
-put (item.If at) (z ∷ y ∷ x ∷ ts) ls ns ats ds = Some (piles (form at choose (tree x (tree y (tree z no_trees))) ∷ ts) ls ns ats ds)
-put item.NoTrees ts ls ns ats ds = Some (piles ts ([] ∷ ls) ns ats ds)
-put item.More (t ∷ ts) (l ∷ ls) ns ats ds = Some (piles ts ((l ++ t ∷ []) ∷ ls) ns ats ds)
-put (item.Call at n) ts (l ∷ ls) ns ats ds = Some (piles (call at n (trees_of l) ∷ ts) ls ns ats ds)
-put item.NoNames ts ls ns ats ds = Some (piles ts ls ([] ∷ ns) ([] ∷ ats) ds)
-put (item.Param p n) ts ls (m ∷ ns) (at ∷ ats) ds = Some (piles ts ls ((m ++ n ∷ []) ∷ ns) ((at ++ p ∷ []) ∷ ats) ds)
-put item.NoDefs ts ls ns ats ds = Some (piles ts ls ns ats ([] ∷ ds))
-put (item.Def kind.Plain p n) (t ∷ ts) ls ns ats (d ∷ ds) = Some (piles ts ls ns ats ((d ++ definition p n (def_kind.Plain t) ∷ []) ∷ ds))
-put (item.Def kind.Current p n) (t ∷ ts) ls ns ats (d ∷ ds) = Some (piles ts ls ns ats ((d ++ definition p n (def_kind.Current t) ∷ []) ∷ ds))
-put (item.Def kind.Function p n) (t ∷ ts) ls (m ∷ ns) (at ∷ ats) (d ∷ ds) =
-    Some (piles ts ls ns ats ((d ++ definition p n (def_kind.Function m at t) ∷ []) ∷ ds))
-put (item.Block at) (x ∷ ts) ls ns ats (d ∷ ds) = Some (piles (block at x (defs_of d) ∷ ts) ls ns ats ds)
+put (item.Const at value) trees lists names places blocks = Some (piles (form at (const value) no_trees ∷ trees) lists names places blocks)
+put (item.Name at n) trees lists names places blocks = Some (piles (name at n ∷ trees) lists names places blocks)
+put (item.Infix operator at) (y ∷ x ∷ trees) lists names places blocks = Some (piles (form at (infix_head operator) (tree x (tree y no_trees)) ∷ trees) lists names places blocks)
+put (item.Prefix operator at) (x ∷ trees) lists names places blocks = Some (piles (form at (prefix_head operator) (tree x no_trees) ∷ trees) lists names places blocks)
+put (item.Called operator at) trees lists names places blocks =
+    option_and_then (λ taken. Some (piles (form at (called_head operator) taken.0 ∷ taken.1) lists names places blocks)) (gather (called_arity operator) trees no_trees)
+put (item.If at) (z ∷ y ∷ x ∷ trees) lists names places blocks = Some (piles (form at choose (tree x (tree y (tree z no_trees))) ∷ trees) lists names places blocks)
+put item.NoTrees trees lists names places blocks = Some (piles trees ([] ∷ lists) names places blocks)
+put item.More (last ∷ trees) (list ∷ lists) names places blocks = Some (piles trees ((list ++ last ∷ []) ∷ lists) names places blocks)
+put (item.Call at n) trees (list ∷ lists) names places blocks = Some (piles (call at n (trees_of list) ∷ trees) lists names places blocks)
+put item.NoNames trees lists names places blocks = Some (piles trees lists ([] ∷ names) ([] ∷ places) blocks)
+put (item.Param at n) trees lists (parameters ∷ names) (theirs ∷ places) blocks = Some (piles trees lists ((parameters ++ n ∷ []) ∷ names) ((theirs ++ at ∷ []) ∷ places) blocks)
+put item.NoDefs trees lists names places blocks = Some (piles trees lists names places ([] ∷ blocks))
+put (item.Def kind.Plain at n) (right_side ∷ trees) lists names places (defs ∷ blocks) =
+    Some (piles trees lists names places ((defs ++ definition at n (def_kind.Plain right_side) ∷ []) ∷ blocks))
+put (item.Def kind.Current at n) (right_side ∷ trees) lists names places (defs ∷ blocks) =
+    Some (piles trees lists names places ((defs ++ definition at n (def_kind.Current right_side) ∷ []) ∷ blocks))
+put (item.Def kind.Function at n) (right_side ∷ trees) lists (parameters ∷ names) (theirs ∷ places) (defs ∷ blocks) =
+    Some (piles trees lists names places ((defs ++ definition at n (def_kind.Function parameters theirs right_side) ∷ []) ∷ blocks))
+put (item.Block at) (subject ∷ trees) lists names places (defs ∷ blocks) = Some (piles (block at subject (defs_of defs) ∷ trees) lists names places blocks)
 put _ _ _ _ _ _ = None
 
 abbrev pub put_on : PlainItem → PlainPiles → Option PlainPiles
-put_on i p = put i p.trees p.lists p.names p.places p.blocks
+put_on node held = put node held.trees held.lists held.names held.places held.blocks
 
 abbrev pub built : List PlainItem → PlainPiles → Option PlainPiles
-built [] p = Some p
-built (i ∷ is) p = option_and_then (built is) (put_on i p)
+built [] held = Some held
+built (node ∷ more) held = option_and_then (built more) (put_on node held)
 
 -- the plain form of the code's piles
 abbrev pub plain_piles : code.Piles → PlainPiles
-plain_piles p = piles p.trees (map (λ v. v.items) p.lists) (map (λ v. v.items) p.names) (map (λ v. v.items) p.places) (map (λ v. v.items) p.blocks)
+plain_piles held = piles held.trees (map (λ v. v.items) held.lists) (map (λ v. v.items) held.names) (map (λ v. v.items) held.places) (map (λ v. v.items) held.blocks)
 
 -- the node took its parts where the answer is true, and lacks one where it is false
 abbrev pub Puts : {E : Type 0} → Result Bool E → code.Piles → Option PlainPiles → Type 0
-Puts (Ok b) p o = MatchBool b (o ≡ Some (plain_piles p)) (o ≡ None)
-Puts (Err e) p o = Unit {0}
+Puts (Ok there) now wanted = MatchBool there (wanted ≡ Some (plain_piles now)) (wanted ≡ None)
+Puts (Err error) now wanted = Unit {0}

@@ -11,64 +11,64 @@ use Rattle.lucid_parse.specs.declared.state.Item.TheVariants as item
 use Rattle.lucid_parse.specs.Machine.{State, state}
 
 abbrev pub fill_terminal : {M N V W : Type 0} → (M → N) → (V → W) → Terminal M V → Terminal N W
-fill_terminal f g (terminal.Name n) = terminal.Name (f n)
-fill_terminal f g (terminal.Const v) = terminal.Const (g v)
-fill_terminal f g (terminal.Infix b) = terminal.Infix b
-fill_terminal f g (terminal.Prefix u) = terminal.Prefix u
-fill_terminal f g (terminal.Called c) = terminal.Called c
-fill_terminal f g terminal.Minus = terminal.Minus
-fill_terminal f g terminal.Is = terminal.Is
-fill_terminal f g terminal.Current = terminal.Current
-fill_terminal f g terminal.Where = terminal.Where
-fill_terminal f g terminal.End = terminal.End
-fill_terminal f g terminal.If = terminal.If
-fill_terminal f g terminal.Then = terminal.Then
-fill_terminal f g terminal.Else = terminal.Else
-fill_terminal f g terminal.Fi = terminal.Fi
-fill_terminal f g terminal.Open = terminal.Open
-fill_terminal f g terminal.Close = terminal.Close
-fill_terminal f g terminal.Comma = terminal.Comma
-fill_terminal f g terminal.Semicolon = terminal.Semicolon
-fill_terminal f g terminal.Equals = terminal.Equals
+fill_terminal on_name on_value (terminal.Name name) = terminal.Name (on_name name)
+fill_terminal on_name on_value (terminal.Const value) = terminal.Const (on_value value)
+fill_terminal on_name on_value (terminal.Infix operator) = terminal.Infix operator
+fill_terminal on_name on_value (terminal.Prefix operator) = terminal.Prefix operator
+fill_terminal on_name on_value (terminal.Called operator) = terminal.Called operator
+fill_terminal on_name on_value terminal.Minus = terminal.Minus
+fill_terminal on_name on_value terminal.Is = terminal.Is
+fill_terminal on_name on_value terminal.Current = terminal.Current
+fill_terminal on_name on_value terminal.Where = terminal.Where
+fill_terminal on_name on_value terminal.End = terminal.End
+fill_terminal on_name on_value terminal.If = terminal.If
+fill_terminal on_name on_value terminal.Then = terminal.Then
+fill_terminal on_name on_value terminal.Else = terminal.Else
+fill_terminal on_name on_value terminal.Fi = terminal.Fi
+fill_terminal on_name on_value terminal.Open = terminal.Open
+fill_terminal on_name on_value terminal.Close = terminal.Close
+fill_terminal on_name on_value terminal.Comma = terminal.Comma
+fill_terminal on_name on_value terminal.Semicolon = terminal.Semicolon
+fill_terminal on_name on_value terminal.Equals = terminal.Equals
 
 abbrev pub fill_frame : {M N : Type 0} → (M → N) → Frame M → Frame N
-fill_frame f (frame.Infix b p k) = frame.Infix b p k
-fill_frame f (frame.Prefix u p k) = frame.Prefix u p k
-fill_frame f (frame.Parenthesis k) = frame.Parenthesis k
-fill_frame f (frame.Test p k) = frame.Test p k
-fill_frame f (frame.Yes p k) = frame.Yes p k
-fill_frame f (frame.No p k) = frame.No p k
-fill_frame f (frame.Arguments p n k) = frame.Arguments p (f n) k
-fill_frame f (frame.Operands c p more k) = frame.Operands c p more k
-fill_frame f (frame.RightSide p d q n) = frame.RightSide p d q (f n)
+fill_frame on_name (frame.Infix operator at allowed) = frame.Infix operator at allowed
+fill_frame on_name (frame.Prefix operator at allowed) = frame.Prefix operator at allowed
+fill_frame on_name (frame.Parenthesis allowed) = frame.Parenthesis allowed
+fill_frame on_name (frame.Test at allowed) = frame.Test at allowed
+fill_frame on_name (frame.Yes at allowed) = frame.Yes at allowed
+fill_frame on_name (frame.No at allowed) = frame.No at allowed
+fill_frame on_name (frame.Arguments at name allowed) = frame.Arguments at (on_name name) allowed
+fill_frame on_name (frame.Operands operator at more allowed) = frame.Operands operator at more allowed
+fill_frame on_name (frame.RightSide block defines at name) = frame.RightSide block defines at (on_name name)
 
 abbrev pub fill_focus : {M N : Type 0} → (M → N) → Focus M → Focus N
-fill_focus f (focus.Await k) = focus.Await k
-fill_focus f (focus.Named p n k) = focus.Named p (f n) k
-fill_focus f (focus.Opens c p k) = focus.Opens c p k
-fill_focus f (focus.Have m k) = focus.Have m k
-fill_focus f (focus.Heads p) = focus.Heads p
-fill_focus f (focus.Headed p q n) = focus.Headed p q (f n)
-fill_focus f (focus.Frozen p q n) = focus.Frozen p q (f n)
-fill_focus f (focus.Names p q n) = focus.Names p q (f n)
-fill_focus f (focus.Listed p q n) = focus.Listed p q (f n)
-fill_focus f (focus.Ready p q n) = focus.Ready p q (f n)
+fill_focus on_name (focus.Await allowed) = focus.Await allowed
+fill_focus on_name (focus.Named at name allowed) = focus.Named at (on_name name) allowed
+fill_focus on_name (focus.Opens operator at allowed) = focus.Opens operator at allowed
+fill_focus on_name (focus.Have level allowed) = focus.Have level allowed
+fill_focus on_name (focus.Heads block) = focus.Heads block
+fill_focus on_name (focus.Headed block at name) = focus.Headed block at (on_name name)
+fill_focus on_name (focus.Frozen block at name) = focus.Frozen block at (on_name name)
+fill_focus on_name (focus.Names block at name) = focus.Names block at (on_name name)
+fill_focus on_name (focus.Listed block at name) = focus.Listed block at (on_name name)
+fill_focus on_name (focus.Ready block at name) = focus.Ready block at (on_name name)
 
 abbrev pub fill_item : {M N V W : Type 0} → (M → N) → (V → W) → Item M V → Item N W
-fill_item f g (item.Const p v) = item.Const p (g v)
-fill_item f g (item.Name p n) = item.Name p (f n)
-fill_item f g (item.Infix b p) = item.Infix b p
-fill_item f g (item.Prefix u p) = item.Prefix u p
-fill_item f g (item.Called c p) = item.Called c p
-fill_item f g (item.If p) = item.If p
-fill_item f g item.NoTrees = item.NoTrees
-fill_item f g item.More = item.More
-fill_item f g (item.Call p n) = item.Call p (f n)
-fill_item f g item.NoNames = item.NoNames
-fill_item f g (item.Param p n) = item.Param p (f n)
-fill_item f g item.NoDefs = item.NoDefs
-fill_item f g (item.Def d p n) = item.Def d p (f n)
-fill_item f g (item.Block p) = item.Block p
+fill_item on_name on_value (item.Const at value) = item.Const at (on_value value)
+fill_item on_name on_value (item.Name at name) = item.Name at (on_name name)
+fill_item on_name on_value (item.Infix operator at) = item.Infix operator at
+fill_item on_name on_value (item.Prefix operator at) = item.Prefix operator at
+fill_item on_name on_value (item.Called operator at) = item.Called operator at
+fill_item on_name on_value (item.If at) = item.If at
+fill_item on_name on_value item.NoTrees = item.NoTrees
+fill_item on_name on_value item.More = item.More
+fill_item on_name on_value (item.Call at name) = item.Call at (on_name name)
+fill_item on_name on_value item.NoNames = item.NoNames
+fill_item on_name on_value (item.Param at name) = item.Param at (on_name name)
+fill_item on_name on_value item.NoDefs = item.NoDefs
+fill_item on_name on_value (item.Def defines at name) = item.Def defines at (on_name name)
+fill_item on_name on_value (item.Block at) = item.Block at
 
 abbrev pub fill_state : {M N V W : Type 0} → (M → N) → (V → W) → State M V → State N W
-fill_state f g h = state (fill_focus f h.focus) (map (fill_frame f) h.frames) (map (fill_item f g) h.out)
+fill_state on_name on_value machine = state (fill_focus on_name machine.focus) (map (fill_frame on_name) machine.frames) (map (fill_item on_name on_value) machine.out)

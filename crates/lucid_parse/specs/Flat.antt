@@ -22,14 +22,14 @@ called_of op.Substr = called.Substr
 called_of _ = called.Nth
 
 abbrev pub operator_node : Form → Op → ℕ → PlainItem
-operator_node shape.Before o at = item.Prefix (prefixes.Operator o) at
-operator_node shape.Between o at = item.Infix (infixes.Operator o) at
-operator_node shape.Called o at = item.Called (called_of o) at
+operator_node shape.Before operator at = item.Prefix (prefixes.Operator operator) at
+operator_node shape.Between operator at = item.Infix (infixes.Operator operator) at
+operator_node shape.Called operator at = item.Called (called_of operator) at
 
 -- the node of a form with this head
 abbrev pub node : Head → ℕ → PlainItem
-node (const v) at = item.Const at v
-node (apply o n) at = operator_node (operator_row o).form o at
+node (const value) at = item.Const at value
+node (apply operator count) at = operator_node (operator_row operator).form operator at
 node choose at = item.If at
 node both at = item.Infix infixes.And at
 node either at = item.Infix infixes.Or at
@@ -48,20 +48,20 @@ node atspace at = item.Infix infixes.Atspace at
 -- the kind of a definition, and the list with its parameters at its end
 abbrev pub kind_of : Defined → Defines
 kind_of Plain = kind.Plain
-kind_of (Function ps) = kind.Function
+kind_of (Function parameters) = kind.Function
 kind_of Current = kind.Current
 
 abbrev pub listed : List PlainItem → (names : List (List ℕ)) → (places : List ℕ) → List PlainItem
-listed out (n ∷ ns) (at ∷ ats) = listed (out ++ item.Param at n ∷ []) ns ats
+listed out (n ∷ names) (at ∷ places) = listed (out ++ item.Param at n ∷ []) names places
 listed out _ _ = out
 
 abbrev pub with_parameters : List PlainItem → List Parameter → List PlainItem
 with_parameters out [] = out
-with_parameters out (p ∷ ps) = with_parameters (out ++ item.Param p.at p.name ∷ []) ps
+with_parameters out (one ∷ more) = with_parameters (out ++ item.Param one.at one.name ∷ []) more
 
 abbrev pub headed : List PlainItem → Defined → List PlainItem
 headed out Plain = out
-headed out (Function ps) = with_parameters (out ++ item.NoNames ∷ []) ps
+headed out (Function parameters) = with_parameters (out ++ item.NoNames ∷ []) parameters
 headed out Current = out
 
 -- the list with a tree's nodes at its end
@@ -74,15 +74,15 @@ unfoldable mutual
 
   pub written_parts : List PlainItem → PlainTrees → List PlainItem
   written_parts out no_trees = out
-  written_parts out (tree t ts) = written_parts (written out t) ts
+  written_parts out (tree one more) = written_parts (written out one) more
 
   pub written_all : List PlainItem → PlainTrees → List PlainItem
   written_all out no_trees = out
-  written_all out (tree t ts) = written_all (written out t ++ item.More ∷ []) ts
+  written_all out (tree one more) = written_all (written out one ++ item.More ∷ []) more
 
   pub written_defs : List PlainItem → PlainDefs → List PlainItem
   written_defs out no_defs = out
-  written_defs out (defines at n t ds) = written_defs (written out t ++ item.Def kind.Plain at n ∷ []) ds
-  written_defs out (defines_function at n ns ats t ds) =
-      written_defs (written (listed (out ++ item.NoNames ∷ []) ns ats) t ++ item.Def kind.Function at n ∷ []) ds
-  written_defs out (defines_current at n t ds) = written_defs (written out t ++ item.Def kind.Current at n ∷ []) ds
+  written_defs out (defines at n right_side more) = written_defs (written out right_side ++ item.Def kind.Plain at n ∷ []) more
+  written_defs out (defines_function at n names places right_side more) =
+      written_defs (written (listed (out ++ item.NoNames ∷ []) names places) right_side ++ item.Def kind.Function at n ∷ []) more
+  written_defs out (defines_current at n right_side more) = written_defs (written out right_side ++ item.Def kind.Current at n ∷ []) more

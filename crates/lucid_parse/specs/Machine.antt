@@ -37,167 +37,178 @@ PlainItem = Item (List ℕ) PlainValue
 abbrev pub PlainState : Type 0
 PlainState = State (List ℕ) PlainValue
 
--- whether the operator may take an operand of level m in a place that allows level k
-abbrev pub takes : Infix → ℕ → ℕ → Bool
-takes b m k = nat_le (left b) m && nat_le k (infix_level b)
+-- whether the operator may take an operand of this level in a place that allows a level
+abbrev pub takes : Infix → (level allowed : ℕ) → Bool
+takes operator level allowed = nat_le (left operator) level && nat_le allowed (infix_level operator)
 
-abbrev pub taken : {N V : Type 0} → Infix → ℕ → ℕ → ℕ → List (Frame N) → List (Item N V) → Option (State N V) → Option (State N V)
-taken b at m k frames out other = cond (takes b m k) (Some (state (focus.Await (right b)) (frame.Infix b at k ∷ frames) out)) other
+abbrev pub taken : {N V : Type 0} → Infix → (at level allowed : ℕ) → List (Frame N) → List (Item N V) → Option (State N V) → Option (State N V)
+taken operator at level allowed frames out other = cond (takes operator level allowed) (Some (state (focus.Await (right operator)) (frame.Infix operator at allowed ∷ frames) out)) other
 
--- an operator after an operand of level m in a place that allows level k
-abbrev pub shift : {N V : Type 0} → Infix → ℕ → ℕ → ℕ → List (Frame N) → List (Item N V) → Option (State N V)
-shift b at m k (frame.Infix c p j ∷ frames) out = taken b at m k (frame.Infix c p j ∷ frames) out (shift b at (infix_level c) j frames (out ++ item.Infix c p ∷ []))
-shift b at m k (frame.Prefix u p j ∷ frames) out = taken b at m k (frame.Prefix u p j ∷ frames) out (shift b at (prefix_level u) j frames (out ++ item.Prefix u p ∷ []))
-shift b at m k frames out = taken b at m k frames out None
+-- an operator after an operand of this level in a place that allows a level
+abbrev pub shift : {N V : Type 0} → Infix → (at level allowed : ℕ) → List (Frame N) → List (Item N V) → Option (State N V)
+shift operator at level allowed (frame.Infix waiting place outer ∷ frames) out = taken operator at level allowed (frame.Infix waiting place outer ∷ frames) out (shift operator at (infix_level waiting) outer frames (out ++ item.Infix waiting place ∷ []))
+shift operator at level allowed (frame.Prefix waiting place outer ∷ frames) out = taken operator at level allowed (frame.Prefix waiting place outer ∷ frames) out (shift operator at (prefix_level waiting) outer frames (out ++ item.Prefix waiting place ∷ []))
+shift operator at level allowed frames out = taken operator at level allowed frames out None
 
 -- the frames and the output once no operator waits for its right operand
 abbrev pub inner_frames : {N : Type 0} → List (Frame N) → List (Frame N)
-inner_frames (frame.Infix c p j ∷ frames) = inner_frames frames
-inner_frames (frame.Prefix u p j ∷ frames) = inner_frames frames
+inner_frames (frame.Infix operator at allowed ∷ frames) = inner_frames frames
+inner_frames (frame.Prefix operator at allowed ∷ frames) = inner_frames frames
 inner_frames frames = frames
 
 abbrev pub inner_out : {N V : Type 0} → List (Frame N) → List (Item N V) → List (Item N V)
-inner_out (frame.Infix c p j ∷ frames) out = inner_out frames (out ++ item.Infix c p ∷ [])
-inner_out (frame.Prefix u p j ∷ frames) out = inner_out frames (out ++ item.Prefix u p ∷ [])
+inner_out (frame.Infix operator at allowed ∷ frames) out = inner_out frames (out ++ item.Infix operator at ∷ [])
+inner_out (frame.Prefix operator at allowed ∷ frames) out = inner_out frames (out ++ item.Prefix operator at ∷ [])
 inner_out frames out = out
 
 abbrev pub after_frame : {N V : Type 0} → Frame N → Terminal N V → List (Frame N) → List (Item N V) → Option (State N V)
-after_frame (frame.Parenthesis k) terminal.Close frames out = Some (state (focus.Have 12 k) frames out)
-after_frame (frame.Test at k) terminal.Then frames out = Some (state (focus.Await 0) (frame.Yes at k ∷ frames) out)
-after_frame (frame.Yes at k) terminal.Else frames out = Some (state (focus.Await 0) (frame.No at k ∷ frames) out)
-after_frame (frame.No at k) terminal.Fi frames out = Some (state (focus.Have 12 k) frames (out ++ item.If at ∷ []))
-after_frame (frame.Arguments at n k) terminal.Comma frames out = Some (state (focus.Await 0) (frame.Arguments at n k ∷ frames) (out ++ item.More ∷ []))
-after_frame (frame.Arguments at n k) terminal.Close frames out = Some (state (focus.Have 12 k) frames ((out ++ item.More ∷ []) ++ item.Call at n ∷ []))
-after_frame (frame.Operands c at more k) terminal.Comma frames out = cond (nat_eq more 0) None (Some (state (focus.Await 0) (frame.Operands c at (more - 1) k ∷ frames) out))
-after_frame (frame.Operands c at more k) terminal.Close frames out = cond (nat_eq more 0) (Some (state (focus.Have 12 k) frames (out ++ item.Called c at ∷ []))) None
-after_frame (frame.RightSide at d p n) terminal.Semicolon frames out = Some (state (focus.Heads at) frames (out ++ item.Def d p n ∷ []))
+after_frame (frame.Parenthesis allowed) terminal.Close frames out = Some (state (focus.Have 12 allowed) frames out)
+after_frame (frame.Test at allowed) terminal.Then frames out = Some (state (focus.Await 0) (frame.Yes at allowed ∷ frames) out)
+after_frame (frame.Yes at allowed) terminal.Else frames out = Some (state (focus.Await 0) (frame.No at allowed ∷ frames) out)
+after_frame (frame.No at allowed) terminal.Fi frames out = Some (state (focus.Have 12 allowed) frames (out ++ item.If at ∷ []))
+after_frame (frame.Arguments at name allowed) terminal.Comma frames out = Some (state (focus.Await 0) (frame.Arguments at name allowed ∷ frames) (out ++ item.More ∷ []))
+after_frame (frame.Arguments at name allowed) terminal.Close frames out = Some (state (focus.Have 12 allowed) frames ((out ++ item.More ∷ []) ++ item.Call at name ∷ []))
+after_frame (frame.Operands called at more allowed) terminal.Comma frames out = cond (nat_eq more 0) None (Some (state (focus.Await 0) (frame.Operands called at (more - 1) allowed ∷ frames) out))
+after_frame (frame.Operands called at more allowed) terminal.Close frames out = cond (nat_eq more 0) (Some (state (focus.Have 12 allowed) frames (out ++ item.Called called at ∷ []))) None
+after_frame (frame.RightSide block defines at name) terminal.Semicolon frames out = Some (state (focus.Heads block) frames (out ++ item.Def defines at name ∷ []))
 after_frame _ _ _ _ = None
 
 abbrev pub close_top : {N V : Type 0} → Terminal N V → List (Frame N) → List (Item N V) → Option (State N V)
-close_top s [] out = None
-close_top s (f ∷ frames) out = after_frame f s frames out
+close_top terminal [] out = None
+close_top terminal (innermost ∷ frames) out = after_frame innermost terminal frames out
 
 -- a terminal that is no operator, after an operand
-abbrev pub close : {N V : Type 0} → Terminal N V → ℕ → List (Frame N) → List (Item N V) → Option (State N V)
+abbrev pub close : {N V : Type 0} → Terminal N V → (at : ℕ) → List (Frame N) → List (Item N V) → Option (State N V)
 close terminal.Where at frames out = Some (state (focus.Heads at) frames (out ++ item.NoDefs ∷ []))
-close s at frames out = close_top s frames out
+close terminal at frames out = close_top terminal frames out
 
-abbrev pub settle_at : {N V : Type 0} → Option Infix → Terminal N V → ℕ → ℕ → ℕ → List (Frame N) → List (Item N V) → Option (State N V)
-settle_at (Some b) s at m k frames out = shift b at m k frames out
-settle_at None s at m k frames out = close s at (inner_frames frames) (inner_out frames out)
+abbrev pub settle_at : {N V : Type 0} → Option Infix → Terminal N V → (at level allowed : ℕ) → List (Frame N) → List (Item N V) → Option (State N V)
+settle_at (Some operator) terminal at level allowed frames out = shift operator at level allowed frames out
+settle_at None terminal at level allowed frames out = close terminal at (inner_frames frames) (inner_out frames out)
 
--- a terminal after an operand of level m in a place that allows level k
-abbrev pub settle : {N V : Type 0} → Terminal N V → ℕ → ℕ → ℕ → List (Frame N) → List (Item N V) → Option (State N V)
-settle s at m k frames out = settle_at (infix_of s) s at m k frames out
+-- a terminal after an operand of this level in a place that allows a level
+abbrev pub settle : {N V : Type 0} → Terminal N V → (at level allowed : ℕ) → List (Frame N) → List (Item N V) → Option (State N V)
+settle terminal at level allowed frames out = settle_at (infix_of terminal) terminal at level allowed frames out
 
-abbrev pub prefixed : {N V : Type 0} → Option Prefix → ℕ → ℕ → List (Frame N) → List (Item N V) → Option (State N V)
-prefixed None at k frames out = None
-prefixed (Some u) at k frames out = cond (nat_le k (prefix_level u)) (Some (state (focus.Await (prefix_level u)) (frame.Prefix u at k ∷ frames) out)) None
+abbrev pub prefixed : {N V : Type 0} → Option Prefix → (at allowed : ℕ) → List (Frame N) → List (Item N V) → Option (State N V)
+prefixed None at allowed frames out = None
+prefixed (Some operator) at allowed frames out = cond (nat_le allowed (prefix_level operator)) (Some (state (focus.Await (prefix_level operator)) (frame.Prefix operator at allowed ∷ frames) out)) None
 
 -- a terminal that begins an operand
-abbrev pub begin : {N V : Type 0} → Terminal N V → ℕ → ℕ → List (Frame N) → List (Item N V) → Option (State N V)
-begin (terminal.Name n) at k frames out = Some (state (focus.Named at n k) frames out)
-begin (terminal.Const v) at k frames out = Some (state (focus.Have 12 k) frames (out ++ item.Const at v ∷ []))
-begin (terminal.Called c) at k frames out = Some (state (focus.Opens c at k) frames out)
-begin terminal.If at k frames out = Some (state (focus.Await 0) (frame.Test at k ∷ frames) out)
-begin terminal.Open at k frames out = Some (state (focus.Await 0) (frame.Parenthesis k ∷ frames) out)
-begin s at k frames out = prefixed (prefix_of s) at k frames out
+abbrev pub begin : {N V : Type 0} → Terminal N V → (at allowed : ℕ) → List (Frame N) → List (Item N V) → Option (State N V)
+begin (terminal.Name name) at allowed frames out = Some (state (focus.Named at name allowed) frames out)
+begin (terminal.Const value) at allowed frames out = Some (state (focus.Have 12 allowed) frames (out ++ item.Const at value ∷ []))
+begin (terminal.Called called) at allowed frames out = Some (state (focus.Opens called at allowed) frames out)
+begin terminal.If at allowed frames out = Some (state (focus.Await 0) (frame.Test at allowed ∷ frames) out)
+begin terminal.Open at allowed frames out = Some (state (focus.Await 0) (frame.Parenthesis allowed ∷ frames) out)
+begin terminal at allowed frames out = prefixed (prefix_of terminal) at allowed frames out
 
-abbrev pub step_named : {N V : Type 0} → Terminal N V → ℕ → ℕ → N → ℕ → List (Frame N) → List (Item N V) → Option (State N V)
-step_named terminal.Open at p n k frames out = Some (state (focus.Await 0) (frame.Arguments p n k ∷ frames) (out ++ item.NoTrees ∷ []))
-step_named s at p n k frames out = settle s at 12 k frames (out ++ item.Name p n ∷ [])
+abbrev pub step_named : {N V : Type 0} → Terminal N V → (next at : ℕ) → N → (allowed : ℕ) → List (Frame N) → List (Item N V) → Option (State N V)
+step_named terminal.Open next at name allowed frames out = Some (state (focus.Await 0) (frame.Arguments at name allowed ∷ frames) (out ++ item.NoTrees ∷ []))
+step_named terminal next at name allowed frames out = settle terminal next 12 allowed frames (out ++ item.Name at name ∷ [])
 
-abbrev pub step_heads : {N V : Type 0} → Terminal N V → ℕ → ℕ → List (Frame N) → List (Item N V) → Option (State N V)
-step_heads (terminal.Name n) at p frames out = Some (state (focus.Headed p at n) frames out)
-step_heads terminal.End at p frames out = Some (state (focus.Have 0 0) frames (out ++ item.Block p ∷ []))
+abbrev pub step_heads : {N V : Type 0} → Terminal N V → (next block : ℕ) → List (Frame N) → List (Item N V) → Option (State N V)
+step_heads (terminal.Name name) next block frames out = Some (state (focus.Headed block next name) frames out)
+step_heads terminal.End next block frames out = Some (state (focus.Have 0 0) frames (out ++ item.Block block ∷ []))
 step_heads _ _ _ _ _ = None
 
-abbrev pub step_headed : {N V : Type 0} → Terminal N V → ℕ → ℕ → N → List (Frame N) → List (Item N V) → Option (State N V)
-step_headed terminal.Equals p q n frames out = Some (state (focus.Await 0) (frame.RightSide p kind.Plain q n ∷ frames) out)
-step_headed terminal.Is p q n frames out = Some (state (focus.Frozen p q n) frames out)
-step_headed terminal.Open p q n frames out = Some (state (focus.Names p q n) frames (out ++ item.NoNames ∷ []))
+abbrev pub step_headed : {N V : Type 0} → Terminal N V → (block at : ℕ) → N → List (Frame N) → List (Item N V) → Option (State N V)
+step_headed terminal.Equals block at name frames out = Some (state (focus.Await 0) (frame.RightSide block kind.Plain at name ∷ frames) out)
+step_headed terminal.Is block at name frames out = Some (state (focus.Frozen block at name) frames out)
+step_headed terminal.Open block at name frames out = Some (state (focus.Names block at name) frames (out ++ item.NoNames ∷ []))
 step_headed _ _ _ _ _ _ = None
 
-abbrev pub step_frozen : {N V : Type 0} → Terminal N V → ℕ → ℕ → N → List (Frame N) → List (Item N V) → Option (State N V)
-step_frozen terminal.Current p q n frames out = Some (state (focus.Await 0) (frame.RightSide p kind.Current q n ∷ frames) out)
+abbrev pub step_frozen : {N V : Type 0} → Terminal N V → (block at : ℕ) → N → List (Frame N) → List (Item N V) → Option (State N V)
+step_frozen terminal.Current block at name frames out = Some (state (focus.Await 0) (frame.RightSide block kind.Current at name ∷ frames) out)
 step_frozen _ _ _ _ _ _ = None
 
-abbrev pub step_names : {N V : Type 0} → Terminal N V → ℕ → ℕ → ℕ → N → List (Frame N) → List (Item N V) → Option (State N V)
-step_names (terminal.Name m) at p q n frames out = Some (state (focus.Listed p q n) frames (out ++ item.Param at m ∷ []))
+abbrev pub step_names : {N V : Type 0} → Terminal N V → (next block at : ℕ) → N → List (Frame N) → List (Item N V) → Option (State N V)
+step_names (terminal.Name parameter) next block at name frames out = Some (state (focus.Listed block at name) frames (out ++ item.Param next parameter ∷ []))
 step_names _ _ _ _ _ _ _ = None
 
-abbrev pub step_listed : {N V : Type 0} → Terminal N V → ℕ → ℕ → N → List (Frame N) → List (Item N V) → Option (State N V)
-step_listed terminal.Comma p q n frames out = Some (state (focus.Names p q n) frames out)
-step_listed terminal.Close p q n frames out = Some (state (focus.Ready p q n) frames out)
+abbrev pub step_listed : {N V : Type 0} → Terminal N V → (block at : ℕ) → N → List (Frame N) → List (Item N V) → Option (State N V)
+step_listed terminal.Comma block at name frames out = Some (state (focus.Names block at name) frames out)
+step_listed terminal.Close block at name frames out = Some (state (focus.Ready block at name) frames out)
 step_listed _ _ _ _ _ _ = None
 
-abbrev pub step_ready : {N V : Type 0} → Terminal N V → ℕ → ℕ → N → List (Frame N) → List (Item N V) → Option (State N V)
-step_ready terminal.Equals p q n frames out = Some (state (focus.Await 0) (frame.RightSide p kind.Function q n ∷ frames) out)
+abbrev pub step_ready : {N V : Type 0} → Terminal N V → (block at : ℕ) → N → List (Frame N) → List (Item N V) → Option (State N V)
+step_ready terminal.Equals block at name frames out = Some (state (focus.Await 0) (frame.RightSide block kind.Function at name ∷ frames) out)
 step_ready _ _ _ _ _ _ = None
 
-abbrev pub step_opens : {N V : Type 0} → Terminal N V → Called → ℕ → ℕ → List (Frame N) → List (Item N V) → Option (State N V)
-step_opens terminal.Open c p k frames out = Some (state (focus.Await 0) (frame.Operands c p (called_arity c - 1) k ∷ frames) out)
+abbrev pub step_opens : {N V : Type 0} → Terminal N V → Called → (at allowed : ℕ) → List (Frame N) → List (Item N V) → Option (State N V)
+step_opens terminal.Open called at allowed frames out = Some (state (focus.Await 0) (frame.Operands called at (called_arity called - 1) allowed ∷ frames) out)
 step_opens _ _ _ _ _ _ = None
 
-abbrev pub step_at : {N V : Type 0} → Focus N → Terminal N V → ℕ → List (Frame N) → List (Item N V) → Option (State N V)
-step_at (focus.Await k) s at frames out = begin s at k frames out
-step_at (focus.Named p n k) s at frames out = step_named s at p n k frames out
-step_at (focus.Have m k) s at frames out = settle s at m k frames out
-step_at (focus.Heads p) s at frames out = step_heads s at p frames out
-step_at (focus.Headed p q n) s at frames out = step_headed s p q n frames out
-step_at (focus.Frozen p q n) s at frames out = step_frozen s p q n frames out
-step_at (focus.Names p q n) s at frames out = step_names s at p q n frames out
-step_at (focus.Listed p q n) s at frames out = step_listed s p q n frames out
-step_at (focus.Ready p q n) s at frames out = step_ready s p q n frames out
-step_at (focus.Opens c p k) s at frames out = step_opens s c p k frames out
+abbrev pub step_at : {N V : Type 0} → Focus N → Terminal N V → (next : ℕ) → List (Frame N) → List (Item N V) → Option (State N V)
+step_at (focus.Await allowed) terminal next frames out = begin terminal next allowed frames out
+step_at (focus.Named at name allowed) terminal next frames out = step_named terminal next at name allowed frames out
+step_at (focus.Have level allowed) terminal next frames out = settle terminal next level allowed frames out
+step_at (focus.Heads block) terminal next frames out = step_heads terminal next block frames out
+step_at (focus.Headed block at name) terminal next frames out = step_headed terminal block at name frames out
+step_at (focus.Frozen block at name) terminal next frames out = step_frozen terminal block at name frames out
+step_at (focus.Names block at name) terminal next frames out = step_names terminal next block at name frames out
+step_at (focus.Listed block at name) terminal next frames out = step_listed terminal block at name frames out
+step_at (focus.Ready block at name) terminal next frames out = step_ready terminal block at name frames out
+step_at (focus.Opens called at allowed) terminal next frames out = step_opens terminal called at allowed frames out
 
-abbrev pub step : {N V : Type 0} → State N V → Terminal N V → ℕ → Option (State N V)
-step g s at = step_at g.focus s at g.frames g.out
+abbrev pub step : {N V : Type 0} → State N V → Terminal N V → (next : ℕ) → Option (State N V)
+step machine terminal next = step_at machine.focus terminal next machine.frames machine.out
 
 -- the state through the terminals
 abbrev pub feeds : PlainState → List PlacedTerminal → Option PlainState
-feeds g [] = Some g
-feeds g (w ∷ ws) = option_and_then (λ h. feeds h ws) (step g w.terminal w.at)
+feeds machine [] = Some machine
+feeds machine (first ∷ rest) = option_and_then (λ moved. feeds moved rest) (step machine first.terminal first.at)
 
 abbrev pub if_empty : {N V : Type 0} → List (Frame N) → List (Item N V) → Option (List (Item N V))
 if_empty [] out = Some out
-if_empty (f ∷ frames) out = None
+if_empty (innermost ∷ frames) out = None
 
 -- what is written of a whole program
 abbrev pub finished : {N V : Type 0} → List (Frame N) → List (Item N V) → Option (List (Item N V))
 finished frames out = if_empty (inner_frames frames) (inner_out frames out)
 
 abbrev pub finish_at : {N V : Type 0} → Focus N → List (Frame N) → List (Item N V) → Option (List (Item N V))
-finish_at (focus.Named p n k) frames out = finished frames (out ++ item.Name p n ∷ [])
-finish_at (focus.Have m k) frames out = finished frames out
+finish_at (focus.Named at name allowed) frames out = finished frames (out ++ item.Name at name ∷ [])
+finish_at (focus.Have level allowed) frames out = finished frames out
 finish_at _ _ _ = None
 
 abbrev pub finish : {N V : Type 0} → State N V → Option (List (Item N V))
-finish g = finish_at g.focus g.frames g.out
+finish machine = finish_at machine.focus machine.frames machine.out
 
 abbrev pub start : {N V : Type 0} → State N V
 start = state (focus.Await 0) [] []
 
 -- the nodes of the program that the terminals are
 abbrev pub nodes : List PlacedTerminal → Option (List PlainItem)
-nodes ws = option_and_then finish (feeds start ws)
+nodes terminals = option_and_then finish (feeds start terminals)
 
 -- The focus and what a step leaves behind it are those of the state, and none where there is none.
 abbrev pub Reaches : {N V : Type 0} → Option (Focus N) → List (Frame N) → List (Item N V) → Option (State N V) → Type 0
-Reaches (Some f) frames out g = g ≡ Some (state f frames out)
-Reaches None frames out g = g ≡ None
+Reaches (Some focus) frames out target = target ≡ Some (state focus frames out)
+Reaches None frames out target = target ≡ None
 
 -- the same of a call that may lack memory
 abbrev pub Steps : {N V E : Type 0} → Result (Option (Focus N)) E → List (Frame N) → List (Item N V) → Option (State N V) → Type 0
-Steps (Ok r) frames out g = Reaches r frames out g
-Steps (Err e) frames out g = Unit {0}
+Steps (Ok reached) frames out target = Reaches reached frames out target
+Steps (Err error) frames out target = Unit {0}
 
--- a place in a block where no operand stands
-abbrev pub IsInBlock : {N : Type 0} → Focus N → Type 0
-IsInBlock (focus.Heads p) = Unit {0}
-IsInBlock (focus.Headed p q n) = Unit {0}
-IsInBlock (focus.Frozen p q n) = Unit {0}
-IsInBlock (focus.Names p q n) = Unit {0}
-IsInBlock (focus.Listed p q n) = Unit {0}
-IsInBlock (focus.Ready p q n) = Unit {0}
-IsInBlock _ = ⊥
+-- a definition's head, or the end of the block
+abbrev pub IsAtHead : {N : Type 0} → Focus N → Type 0
+IsAtHead (focus.Heads block) = Unit {0}
+IsAtHead (focus.Headed block at name) = Unit {0}
+IsAtHead (focus.Frozen block at name) = Unit {0}
+IsAtHead _ = ⊥
+
+-- a definition's parameters, or what follows them
+abbrev pub IsAtParameters : {N : Type 0} → Focus N → Type 0
+IsAtParameters (focus.Names block at name) = Unit {0}
+IsAtParameters (focus.Listed block at name) = Unit {0}
+IsAtParameters (focus.Ready block at name) = Unit {0}
+IsAtParameters _ = ⊥
+
+-- a part of an `if`
+abbrev pub IsOfIf : {N : Type 0} → Frame N → Type 0
+IsOfIf (frame.Test at allowed) = Unit {0}
+IsOfIf (frame.Yes at allowed) = Unit {0}
+IsOfIf (frame.No at allowed) = Unit {0}
+IsOfIf _ = ⊥

@@ -11,6 +11,6 @@ use Rattle.lucid_parse.specs.Verdict.{SpellsNone, IsFault}
 -- Syntax: the terminals spell no tree, and the place is that of the fault. TooNested: they spell a tree of depth over 400, and the
 -- place is the least of a node at depth 401. For want of memory any terminals may be refused.
 abbrev pub AreRefused : ParseRefusal → List PlacedTerminal → (end : ℕ) → Type 0
-AreRefused (refusal.Syntax at) ws end = SpellsNone ws × IsFault ws end at
-AreRefused (refusal.TooNested at) ws end = (t : PlainTree) × Spells 0 ws t × (400 < depth t) × IsLeast (at_depth 401 t) at
-AreRefused refusal.NoMemory ws end = Unit {0}
+AreRefused (refusal.Syntax at) terminals end = SpellsNone terminals × IsFault terminals end at
+AreRefused (refusal.TooNested at) terminals end = (tree : PlainTree) × Spells 0 terminals tree × (400 < depth tree) × IsLeast (at_depth 401 tree) at
+AreRefused refusal.NoMemory terminals end = Unit {0}

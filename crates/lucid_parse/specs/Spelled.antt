@@ -14,18 +14,18 @@ use Rattle.lucid_parse.specs.Refused.{AreRefused}
 
 -- The tokens spell the tree, as a program: their terminals do, at level 0.
 abbrev pub SpellsTree : (source : List ℕ) → List Token → PlainTree → Type 0
-SpellsTree source ts t = (ws : List PlacedTerminal) × Terminals source ts ws × Spells 0 ws t
+SpellsTree source tokens tree = (terminals : List PlacedTerminal) × Terminals source tokens terminals × Spells 0 terminals tree
 
 -- The tokens are refused so: their terminals are. For want of memory any tokens may be refused.
 abbrev pub IsRefused : (source : List ℕ) → List Token → ParseRefusal → Type 0
-IsRefused source ts (refusal.Syntax at) = (ws : List PlacedTerminal) × Terminals source ts ws × AreRefused (refusal.Syntax at) ws (length source)
-IsRefused source ts (refusal.TooNested at) = (ws : List PlacedTerminal) × Terminals source ts ws × AreRefused (refusal.TooNested at) ws (length source)
-IsRefused source ts refusal.NoMemory = Unit {0}
+IsRefused source tokens (refusal.Syntax at) = (terminals : List PlacedTerminal) × Terminals source tokens terminals × AreRefused (refusal.Syntax at) terminals (length source)
+IsRefused source tokens (refusal.TooNested at) = (terminals : List PlacedTerminal) × Terminals source tokens terminals × AreRefused (refusal.TooNested at) terminals (length source)
+IsRefused source tokens refusal.NoMemory = Unit {0}
 
 -- The bytes are those of a token of the kind, whatever follows them.
 abbrev pub IsTokenOf : TokenKind → List ℕ → Type 0
-IsTokenOf k bytes = (after : List ℕ) × IsTokenText k bytes after
+IsTokenOf kind bytes = (after : List ℕ) × IsTokenText kind bytes after
 
 -- The bytes read as no other value.
 abbrev pub IsReading : List ℕ → PlainValue → Type 0
-IsReading bytes v = (w : PlainValue) → Reads bytes w → v ≡ w
+IsReading bytes value = (other : PlainValue) → Reads bytes other → value ≡ other

@@ -17,7 +17,7 @@ fixed_value fixed.Eod = eod
 fixed_value fixed.Error = fault
 
 abbrev pub fixed_plain : Terminal Infallible FixedValue → PlainTerminal
-fixed_plain s = fill_terminal (λ _. []) fixed_value s
+fixed_plain terminal = fill_terminal (λ _. []) fixed_value terminal
 
 abbrev pub pair_of : Spelling → List ℕ × PlainTerminal
-pair_of s = (s.bytes.now, fixed_plain s.terminal)
+pair_of spelling = (spelling.bytes.now, fixed_plain spelling.terminal)

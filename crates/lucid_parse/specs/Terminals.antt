@@ -37,7 +37,7 @@ terminal_in text (pair ∷ pairs) = if same_bytes text pair.0 then Some pair.1 e
 -- The terminal of a data operator that the text spells between its operands, or before its operand.
 abbrev pub operator_terminal : List ℕ → Option PlainTerminal
 operator_terminal text =
-    option_or (option_map (λ o. terminal.Infix (infixes.Operator o)) (operator_of form.Between text)) (option_map (λ o. terminal.Prefix (prefixes.Operator o)) (operator_of form.Before text))
+    option_or (option_map (λ operator. terminal.Infix (infixes.Operator operator)) (operator_of form.Between text)) (option_map (λ operator. terminal.Prefix (prefixes.Operator operator)) (operator_of form.Before text))
 
 -- The terminal of a mark or of a reserved word.
 abbrev pub fixed_terminal : List ℕ → Option PlainTerminal
@@ -45,19 +45,19 @@ fixed_terminal text = option_or (terminal_in text form_terminals) (operator_term
 
 -- A token of this kind and this text stands for the terminal.
 abbrev pub StandsFor : TokenKind → List ℕ → PlainTerminal → Type 0
-StandsFor kind.Name bytes s = s ≡ terminal.Name bytes
-StandsFor kind.Int bytes s = s ≡ terminal.Const (int (pos (number_of bytes)))
-StandsFor kind.Quoted bytes s = (inside : List ℕ) × (bytes ≡ 34 ∷ (inside ++ 34 ∷ [])) × (s ≡ terminal.Const (word_value inside))
-StandsFor kind.Text bytes s = (inside : List ℕ) × (bytes ≡ 96 ∷ (inside ++ 39 ∷ [])) × (s ≡ terminal.Const (string inside))
-StandsFor kind.ListText bytes s = (items : Items) × Reads bytes (list items) × (s ≡ terminal.Const (list items))
-StandsFor kind.Fixed bytes s = fixed_terminal bytes ≡ Some s
+StandsFor kind.Name bytes which = which ≡ terminal.Name bytes
+StandsFor kind.Int bytes which = which ≡ terminal.Const (int (pos (number_of bytes)))
+StandsFor kind.Quoted bytes which = (inside : List ℕ) × (bytes ≡ 34 ∷ (inside ++ 34 ∷ [])) × (which ≡ terminal.Const (word_value inside))
+StandsFor kind.Text bytes which = (inside : List ℕ) × (bytes ≡ 96 ∷ (inside ++ 39 ∷ [])) × (which ≡ terminal.Const (string inside))
+StandsFor kind.ListText bytes which = (items : Items) × Reads bytes (list items) × (which ≡ terminal.Const (list items))
+StandsFor kind.Fixed bytes which = fixed_terminal bytes ≡ Some which
 
 -- the bytes of a token
 abbrev pub bytes_of : List ℕ → Token → List ℕ
-bytes_of source t = slice_range source t.from t.to
+bytes_of source token = slice_range source token.from token.to
 
 -- The terminals of the source's tokens, each at the place of its token's first byte.
 pub data Terminals (source : List ℕ) : List Token → List PlacedTerminal → Type 0 where
   terminals_none : Terminals source [] []
-  terminals_next : {ts : List Token} {ws : List PlacedTerminal} (t : Token) (s : PlainTerminal) → StandsFor t.kind (bytes_of source t) s → Terminals source ts ws
-      → Terminals source (t ∷ ts) (terminal_at s t.from ∷ ws)
+  terminals_next : {ts : List Token} {ws : List PlacedTerminal} (token : Token) (terminal : PlainTerminal) → StandsFor token.kind (bytes_of source token) terminal → Terminals source ts ws
+      → Terminals source (token ∷ ts) (terminal_at terminal token.from ∷ ws)

@@ -13,16 +13,16 @@ use Rattle.lucid_parse.specs.Fill.{fill_terminal, fill_item}
 
 -- the bytes of a borrowed name, and the plain form of a borrowed value
 abbrev pub name_now : Bor (List ℕ) → List ℕ
-name_now n = n.now
+name_now name = name.now
 
 abbrev pub value_now : Bor Value → PlainValue
-value_now v = plain v.now
+value_now value = plain value.now
 
 abbrev pub plain_terminal : Terminal (List ℕ) Value → PlainTerminal
-plain_terminal s = fill_terminal (λ n. n) plain s
+plain_terminal terminal = fill_terminal (λ name. name) plain terminal
 
 abbrev pub placed_of : TerminalAt → PlacedTerminal
-placed_of s = terminal_at (plain_terminal s.terminal) s.at
+placed_of placed = terminal_at (plain_terminal placed.terminal) placed.at
 
 abbrev pub terminals_of : List TerminalAt → List PlacedTerminal
 terminals_of terminals = map placed_of terminals

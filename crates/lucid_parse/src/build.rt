@@ -28,19 +28,19 @@ pub struct Piles {
 }
 
 // An operator over one tree.
-fn apply_one(alloc: Global, at: u32, op: Op, x: Tree) -> Result<Tree, AllocError>
-    ensures { IfOk result (λ t. t ≡ form at (apply op 1) (tree x no_trees)) }
+fn apply_one(alloc: Global, at: u32, op: Op, operand: Tree) -> Result<Tree, AllocError>
+    ensures { IfOk result (λ made. made ≡ form at (apply op 1) (tree operand no_trees)) }
 {
-    let args = Trees::from_vec(vec![in alloc; x]?);
+    let args = Trees::from_vec(vec![in alloc; operand]?);
     let kind = Kind::Apply { op, args };
     Ok(Tree { at, kind })
 }
 
 // An operator over two trees.
-fn apply_two(alloc: Global, at: u32, op: Op, x: Tree, y: Tree) -> Result<Tree, AllocError>
-    ensures { IfOk result (λ t. t ≡ form at (apply op 2) (tree x (tree y no_trees))) }
+fn apply_two(alloc: Global, at: u32, op: Op, left: Tree, right: Tree) -> Result<Tree, AllocError>
+    ensures { IfOk result (λ made. made ≡ form at (apply op 2) (tree left (tree right no_trees))) }
 {
-    let args = Trees::from_vec(vec![in alloc; x, y]?);
+    let args = Trees::from_vec(vec![in alloc; left, right]?);
     let kind = Kind::Apply { op, args };
     Ok(Tree { at, kind })
 }
@@ -50,49 +50,55 @@ fn stream_tree(
     alloc: Global,
     at: u32,
     operator: Infix,
-    x: Tree,
-    y: Tree,
+    left: Tree,
+    right: Tree,
 ) -> Result<Tree, AllocError>
     requires { IsOverStreams (infix_head operator) }
-    ensures { IfOk result (λ t. t ≡ form at (infix_head operator) (tree x (tree y no_trees))) }
+    ensures { IfOk result (λ made. made ≡ form at (infix_head operator) (tree left (tree right no_trees))) }
 {
-    let x = Box::new(alloc, x)?;
-    let y = Box::new(alloc, y)?;
+    let left = Box::new(alloc, left)?;
+    let right = Box::new(alloc, right)?;
     let kind = match operator {
-        Infix::Fby => Kind::Fby(x, y),
-        Infix::Sby => Kind::Sby(x, y),
-        Infix::Whenever => Kind::Whenever(x, y),
-        Infix::Asa => Kind::Asa(x, y),
-        Infix::Upon => Kind::Upon(x, y),
-        Infix::Attime => Kind::Attime(x, y),
-        Infix::Atspace => Kind::Atspace(x, y),
-        Infix::Or => Kind::Or(x, y),
-        Infix::And => Kind::And(x, y),
+        Infix::Fby => Kind::Fby(left, right),
+        Infix::Sby => Kind::Sby(left, right),
+        Infix::Whenever => Kind::Whenever(left, right),
+        Infix::Asa => Kind::Asa(left, right),
+        Infix::Upon => Kind::Upon(left, right),
+        Infix::Attime => Kind::Attime(left, right),
+        Infix::Atspace => Kind::Atspace(left, right),
+        Infix::Or => Kind::Or(left, right),
+        Infix::And => Kind::And(left, right),
         Infix::Operator(_) => unreachable!(),
     };
     Ok(Tree { at, kind })
 }
 
 // The tree of an operator between two trees.
-fn infix_tree(alloc: Global, at: u32, operator: Infix, x: Tree, y: Tree) -> Result<Tree, AllocError>
-    ensures { IfOk result (λ t. t ≡ form at (infix_head operator) (tree x (tree y no_trees))) }
+fn infix_tree(
+    alloc: Global,
+    at: u32,
+    operator: Infix,
+    left: Tree,
+    right: Tree,
+) -> Result<Tree, AllocError>
+    ensures { IfOk result (λ made. made ≡ form at (infix_head operator) (tree left (tree right no_trees))) }
 {
     match operator {
-        Infix::Operator(op) => apply_two(alloc, at, op, x, y),
-        _ => stream_tree(alloc, at, operator, x, y),
+        Infix::Operator(op) => apply_two(alloc, at, op, left, right),
+        _ => stream_tree(alloc, at, operator, left, right),
     }
 }
 
 // The tree of an operator before a tree.
-fn prefix_tree(alloc: Global, at: u32, operator: Prefix, x: Tree) -> Result<Tree, AllocError>
-    ensures { IfOk result (λ t. t ≡ form at (prefix_head operator) (tree x no_trees)) }
+fn prefix_tree(alloc: Global, at: u32, operator: Prefix, operand: Tree) -> Result<Tree, AllocError>
+    ensures { IfOk result (λ made. made ≡ form at (prefix_head operator) (tree operand no_trees)) }
 {
     let kind = match operator {
-        Prefix::Operator(op) => return apply_one(alloc, at, op, x),
-        Prefix::First => Kind::First(Box::new(alloc, x)?),
-        Prefix::Next => Kind::Next(Box::new(alloc, x)?),
-        Prefix::Initial => Kind::Initial(Box::new(alloc, x)?),
-        Prefix::Succ => Kind::Succ(Box::new(alloc, x)?),
+        Prefix::Operator(op) => return apply_one(alloc, at, op, operand),
+        Prefix::First => Kind::First(Box::new(alloc, operand)?),
+        Prefix::Next => Kind::Next(Box::new(alloc, operand)?),
+        Prefix::Initial => Kind::Initial(Box::new(alloc, operand)?),
+        Prefix::Succ => Kind::Succ(Box::new(alloc, operand)?),
     };
     Ok(Tree { at, kind })
 }
@@ -129,52 +135,54 @@ impl Piles {
     fn put_infix(&mut self, alloc: Global, operator: Infix, at: u32) -> Result<bool, AllocError>
         ensures { Puts result self.new (put_on (Item.Infix operator at) (plain_piles self.old)) }
     {
-        let Some(y) = self.trees.pop() else {
+        let Some(right) = self.trees.pop() else {
             return Ok(false);
         };
-        let Some(x) = self.trees.pop() else {
+        let Some(left) = self.trees.pop() else {
             return Ok(false);
         };
-        self.trees.push(infix_tree(alloc, at, operator, x, y)?)?;
+        self.trees
+            .push(infix_tree(alloc, at, operator, left, right)?)?;
         Ok(true)
     }
 
     fn put_prefix(&mut self, alloc: Global, operator: Prefix, at: u32) -> Result<bool, AllocError>
         ensures { Puts result self.new (put_on (Item.Prefix operator at) (plain_piles self.old)) }
     {
-        let Some(x) = self.trees.pop() else {
+        let Some(operand) = self.trees.pop() else {
             return Ok(false);
         };
-        self.trees.push(prefix_tree(alloc, at, operator, x)?)?;
+        self.trees.push(prefix_tree(alloc, at, operator, operand)?)?;
         Ok(true)
     }
 
     fn put_nth(&mut self, alloc: Global, at: u32) -> Result<bool, AllocError>
         ensures { Puts result self.new (put_on (Item.Called Called.Nth at) (plain_piles self.old)) }
     {
-        let Some(y) = self.trees.pop() else {
+        let Some(right) = self.trees.pop() else {
             return Ok(false);
         };
-        let Some(x) = self.trees.pop() else {
+        let Some(left) = self.trees.pop() else {
             return Ok(false);
         };
-        self.trees.push(apply_two(alloc, at, Op::Nth, x, y)?)?;
+        self.trees
+            .push(apply_two(alloc, at, Op::Nth, left, right)?)?;
         Ok(true)
     }
 
     fn put_substr(&mut self, alloc: Global, at: u32) -> Result<bool, AllocError>
         ensures { Puts result self.new (put_on (Item.Called Called.Substr at) (plain_piles self.old)) }
     {
-        let Some(z) = self.trees.pop() else {
+        let Some(third) = self.trees.pop() else {
             return Ok(false);
         };
-        let Some(y) = self.trees.pop() else {
+        let Some(second) = self.trees.pop() else {
             return Ok(false);
         };
-        let Some(x) = self.trees.pop() else {
+        let Some(first) = self.trees.pop() else {
             return Ok(false);
         };
-        let args = Trees::from_vec(vec![in alloc; x, y, z]?);
+        let args = Trees::from_vec(vec![in alloc; first, second, third]?);
         let kind = Kind::Apply {
             op: Op::Substr,
             args,
@@ -389,8 +397,8 @@ impl Piles {
 
 /// The tree that the nodes are those of. A tree of depth over 400 is never built.
 pub fn build(alloc: Global, items: &[BorrowedItem<'_>]) -> Result<Tree, AllocError>
-    requires { (ws : List PlacedTerminal) × (t : PlainTree) × Spells 0 ws t × (items_of items.now ≡ written [] t) × (depth t ≤ 400) }
-    ensures { IfOk result (λ tree. (ws : List PlacedTerminal) → (t : PlainTree) → Spells 0 ws t → items_of items.now ≡ written [] t → tree ≡ t) }
+    requires { (terminals : List PlacedTerminal) × (spelled : PlainTree) × Spells 0 terminals spelled × (items_of items.now ≡ written [] spelled) × (depth spelled ≤ 400) }
+    ensures { IfOk result (λ tree. (terminals : List PlacedTerminal) → (spelled : PlainTree) → Spells 0 terminals spelled → items_of items.now ≡ written [] spelled → tree ≡ spelled) }
 {
     let mut piles = Piles::new(alloc);
     for item in items {

@@ -65,7 +65,7 @@ fn lesser_of(best: Option<u32>, depth: u32, at: u32) -> Option<u32>
     }
     match best {
         None => Some(at),
-        Some(p) => Some(at.min(p)),
+        Some(least) => Some(at.min(least)),
     }
 }
 
@@ -97,18 +97,18 @@ pub fn least_at<N: Copy, V: Copy>(
     items: &[Item<N, V>],
     depth: u32,
 ) -> Result<Option<u32>, AllocError>
-    ensures { IfOk result (λ r. r ≡ search_from (reverse items.now) (depth ∷ []) None) }
+    ensures { IfOk result (λ least. least ≡ search_from (reverse items.now) (depth ∷ []) None) }
 {
     let mut depths = Stack::new(alloc);
     depths.push(depth)?;
     let mut best = None;
     for i in (0..items.len()).rev() {
-        let Some(d) = depths.pop() else {
+        let Some(sought) = depths.pop() else {
             return Ok(best);
         };
         let item = items[i];
-        best = found_with(best, item, d);
-        push_below(&mut depths, item, d)?;
+        best = found_with(best, item, sought);
+        push_below(&mut depths, item, sought)?;
     }
     Ok(best)
 }

@@ -1,6 +1,7 @@
 //! What holds of all terminals and tokens.
-ghost use Rattle.lucid_parse.specs.Laws.{TerminalsSpellOneTree, FaultIsUnique, TerminalsAreUnique, TokensSpellOneTree, OperatorsAreTokens};
+ghost use Rattle.lucid_parse.specs.Laws.{TerminalsSpellOneTree, FaultIsUnique, TerminalsAreUnique, TokensSpellOneTree, SpelledTreesAreWellMade, SpelledPlacesAreFew, TokensHaveOneRefusal, SpelledTokensAreNotRefused, OperatorsAreTokens};
 
+use lucid_scan::laws::{tokens_are_few, tokens_are_in_order};
 use lucid_value::one_reading;
 
 /// Terminals spell at most one tree.
@@ -26,6 +27,25 @@ pub fn tokens_spell_one_tree()
     ensures { TokensSpellOneTree }
 {
     terminals_are_unique();
+}
+
+/// The tree that the tokens of a source spell is well made, and has at most as many places as the source has bytes.
+pub fn spelled_trees_are_well_made()
+    ensures well_made { SpelledTreesAreWellMade }
+    ensures few { SpelledPlacesAreFew }
+{
+    tokens_are_in_order();
+    tokens_are_few();
+}
+
+/// Want of memory apart, tokens have at most one refusal, and none where they spell a tree of depth 400 or less.
+pub fn tokens_have_one_refusal()
+    ensures one { TokensHaveOneRefusal }
+    ensures excluded { SpelledTokensAreNotRefused }
+{
+    terminals_are_unique();
+    terminals_spell_one_tree();
+    fault_is_unique();
 }
 
 /// The spelling of each data operator is a mark or a reserved word.

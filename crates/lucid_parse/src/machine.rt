@@ -2,7 +2,7 @@
 
 ghost use Rattle.std.specs.Prelude.{◌≡◌, List, [], ◌∷◌, Option, Some, None, Result, OnOk, IfOk, MatchOption, if◌then◌else◌};
 ghost use Rattle.lucid_parse.specs.Grammar.{prefix_of, infix_of};
-ghost use Rattle.lucid_parse.specs.Machine.{State, state, takes, shift, inner_frames, inner_out, after_frame, close, settle, prefixed, begin, step_named, step_heads, step_headed, step_at, step, finished, finish, Steps, IsInBlock};
+ghost use Rattle.lucid_parse.specs.Machine.{State, state, takes, shift, inner_frames, inner_out, after_frame, close, settle, prefixed, begin, step_named, step_heads, step_headed, step_at, step, finished, finish, Steps, IsAtHead, IsAtParameters, IsOfIf};
 
 use crate::level::{
     as_infix, as_prefix, called_arity, infix_level, left_level, prefix_level, right_level,
@@ -80,7 +80,7 @@ fn close_operators<N: Copy, V: Copy>(
     out: &mut Vec<Item<N, V>>,
 ) -> Result<Option<Frame<N>>, AllocError>
     ensures { IfOk result (λ inner. (out.new.items ≡ inner_out frames.old out.old.items)
-        × MatchOption inner ((inner_frames frames.old ≡ []) × (frames.new ≡ [])) (λ f. inner_frames frames.old ≡ f ∷ frames.new)) }
+        × MatchOption inner ((inner_frames frames.old ≡ []) × (frames.new ≡ [])) (λ frame. inner_frames frames.old ≡ frame ∷ frames.new)) }
 {
     loop {
         match frames.pop() {
@@ -153,20 +153,17 @@ fn close_argument<N: Copy, V: Copy>(
     }
 }
 
-/// A terminal that ends the innermost of what is open, where no operator waits.
-fn close_frame<N: Copy, V: Copy>(
+/// A terminal behind a part of an `if`.
+fn close_branch<N: Copy, V: Copy>(
     frames: &mut Stack<Frame<N>>,
     out: &mut Vec<Item<N, V>>,
     frame: Frame<N>,
     terminal: Terminal<N, V>,
 ) -> Result<Option<Focus<N>>, AllocError>
+    requires { IsOfIf frame }
     ensures { Steps result frames.new out.new.items (after_frame frame terminal frames.old out.old.items) }
 {
     match (frame, terminal) {
-        (Frame::Parenthesis { allowed }, Terminal::Close) => Ok(Some(Focus::Have {
-            level: TIGHTEST,
-            allowed,
-        })),
         (Frame::Test { at, allowed }, Terminal::Then) => {
             frames.push(Frame::Yes { at, allowed })?;
             Ok(Some(Focus::Await { allowed: 0 }))
@@ -182,6 +179,27 @@ fn close_frame<N: Copy, V: Copy>(
                 allowed,
             }))
         }
+        _ => Ok(None),
+    }
+}
+
+/// A terminal that ends the innermost of what is open, where no operator waits.
+fn close_frame<N: Copy, V: Copy>(
+    frames: &mut Stack<Frame<N>>,
+    out: &mut Vec<Item<N, V>>,
+    frame: Frame<N>,
+    terminal: Terminal<N, V>,
+) -> Result<Option<Focus<N>>, AllocError>
+    ensures { Steps result frames.new out.new.items (after_frame frame terminal frames.old out.old.items) }
+{
+    match (frame, terminal) {
+        (Frame::Parenthesis { allowed }, Terminal::Close) => Ok(Some(Focus::Have {
+            level: TIGHTEST,
+            allowed,
+        })),
+        (Frame::Test { .. } | Frame::Yes { .. } | Frame::No { .. }, _) => close_branch(
+            frames, out, frame, terminal,
+        ),
         (Frame::Arguments { at, name, allowed }, _) => close_argument(
             frames, out, at, name, allowed, terminal,
         ),
@@ -319,15 +337,15 @@ fn step_name<N: Copy, V: Copy>(
     settle_to(frames, out, terminal, next, TIGHTEST, allowed)
 }
 
-/// A terminal at `next` in a block, where no operand stands.
-fn step_block<N: Copy, V: Copy>(
+/// A terminal at `next` at a definition's head, or where the block may end.
+fn step_head<N: Copy, V: Copy>(
     frames: &mut Stack<Frame<N>>,
     out: &mut Vec<Item<N, V>>,
     focus: Focus<N>,
     terminal: Terminal<N, V>,
     next: u32,
 ) -> Result<Option<Focus<N>>, AllocError>
-    requires { IsInBlock focus }
+    requires { IsAtHead focus }
     ensures { Steps result frames.new out.new.items (step_at focus terminal next frames.old out.old.items) }
 {
     let (defines, block, at, name) = match (focus, terminal) {
@@ -352,28 +370,9 @@ fn step_block<N: Copy, V: Copy>(
             out.push(Item::NoNames)?;
             return Ok(Some(Focus::Names { block, at, name }));
         }
-        (Focus::Names { block, at, name }, Terminal::Name(parameter)) => {
-            out.push(Item::Param {
-                at: next,
-                name: parameter,
-            })?;
-            return Ok(Some(Focus::Listed { block, at, name }));
-        }
-        (Focus::Listed { block, at, name }, Terminal::Comma) => {
-            return Ok(Some(Focus::Names { block, at, name }));
-        }
-        (Focus::Listed { block, at, name }, Terminal::Close) => {
-            return Ok(Some(Focus::Ready { block, at, name }));
-        }
         (Focus::Headed { block, at, name }, Terminal::Equals) => (Defines::Plain, block, at, name),
         (Focus::Frozen { block, at, name }, Terminal::Current) => (
             Defines::Current,
-            block,
-            at,
-            name,
-        ),
-        (Focus::Ready { block, at, name }, Terminal::Equals) => (
-            Defines::Function,
             block,
             at,
             name,
@@ -387,6 +386,44 @@ fn step_block<N: Copy, V: Copy>(
         name,
     })?;
     Ok(Some(Focus::Await { allowed: 0 }))
+}
+
+/// A terminal at `next` among a definition's parameters, or behind them.
+fn step_parameters<N: Copy, V: Copy>(
+    frames: &mut Stack<Frame<N>>,
+    out: &mut Vec<Item<N, V>>,
+    focus: Focus<N>,
+    terminal: Terminal<N, V>,
+    next: u32,
+) -> Result<Option<Focus<N>>, AllocError>
+    requires { IsAtParameters focus }
+    ensures { Steps result frames.new out.new.items (step_at focus terminal next frames.old out.old.items) }
+{
+    match (focus, terminal) {
+        (Focus::Names { block, at, name }, Terminal::Name(parameter)) => {
+            out.push(Item::Param {
+                at: next,
+                name: parameter,
+            })?;
+            Ok(Some(Focus::Listed { block, at, name }))
+        }
+        (Focus::Listed { block, at, name }, Terminal::Comma) => {
+            Ok(Some(Focus::Names { block, at, name }))
+        }
+        (Focus::Listed { block, at, name }, Terminal::Close) => {
+            Ok(Some(Focus::Ready { block, at, name }))
+        }
+        (Focus::Ready { block, at, name }, Terminal::Equals) => {
+            frames.push(Frame::RightSide {
+                block,
+                defines: Defines::Function,
+                at,
+                name,
+            })?;
+            Ok(Some(Focus::Await { allowed: 0 }))
+        }
+        _ => Ok(None),
+    }
 }
 
 /// What the terminal at `next` leads to, or none where no program goes on so.
@@ -421,12 +458,12 @@ pub fn step_to<N: Copy, V: Copy>(
             }
             _ => Ok(None),
         },
-        Focus::Heads { .. }
-        | Focus::Headed { .. }
-        | Focus::Frozen { .. }
-        | Focus::Names { .. }
-        | Focus::Listed { .. }
-        | Focus::Ready { .. } => step_block(frames, out, focus, terminal, next),
+        Focus::Heads { .. } | Focus::Headed { .. } | Focus::Frozen { .. } => {
+            step_head(frames, out, focus, terminal, next)
+        }
+        Focus::Names { .. } | Focus::Listed { .. } | Focus::Ready { .. } => {
+            step_parameters(frames, out, focus, terminal, next)
+        }
     }
 }
 

@@ -18,8 +18,8 @@ pub fn read_nodes(
     terminals: &[TerminalAt],
     end: u32,
 ) -> Result<Vec<BorrowedItem<'_>>, ParseRefusal>
-    ensures ok { IfOk result (λ v. nodes (terminals_of terminals.now) ≡ Some (items_of v.items)) }
-    ensures refused { IfErr result (λ e. AreRefused e (terminals_of terminals.now) end) }
+    ensures ok { IfOk result (λ items. nodes (terminals_of terminals.now) ≡ Some (items_of items.items)) }
+    ensures refused { IfErr result (λ refusal. AreRefused refusal (terminals_of terminals.now) end) }
 {
     let mut frames = Stack::new(alloc);
     let mut out = Vec::new(alloc);

@@ -10,12 +10,12 @@ ghost use Rattle.lucid_parse.specs.Spelled.{IsRefused, SpellsTree};
 
 use crate::build::build;
 use crate::depth::least_at;
+use crate::laws::spelled_trees_are_well_made;
 use crate::nodes::read_nodes;
 use crate::refusal::ParseRefusal;
 use crate::terminal::TerminalAt;
 use crate::terminals::read_terminals;
 use lucid_scan::Token;
-use lucid_scan::laws::{tokens_are_few, tokens_are_in_order};
 use lucid_tree::Tree;
 use std::alloc::Global;
 
@@ -26,7 +26,7 @@ const TOO_DEEP: u32 = 401;
 fn parse_terminals(alloc: Global, terminals: &[TerminalAt], end: u32) -> Result<Tree, ParseRefusal>
     ensures spelled { IfOk result (λ tree. Spells 0 (terminals_of terminals.now) tree) }
     ensures shallow { IfOk result (λ tree. depth tree ≤ 400) }
-    ensures refused { IfErr result (λ e. AreRefused e (terminals_of terminals.now) end) }
+    ensures refused { IfErr result (λ refusal. AreRefused refusal (terminals_of terminals.now) end) }
 {
     let items = read_nodes(alloc, terminals, end)?;
     if let Some(at) = least_at(alloc, &items, TOO_DEEP)? {
@@ -39,8 +39,8 @@ fn parse_terminals(alloc: Global, terminals: &[TerminalAt], end: u32) -> Result<
 /// The tree that the source's tokens spell, where its depth is at most 400.
 ///
 /// Parentheses are no nodes and may be nested without bound: the parser has a stack of its own. The time is linear in the
-/// source. By the laws `tokens_spell_one_tree`, `terminals_are_unique` and `fault_is_unique` of this crate, each answer but want of
-/// memory comes exactly where its clause holds.
+/// source. By the laws `tokens_spell_one_tree` and `tokens_have_one_refusal` of this crate, each answer but want of memory comes
+/// exactly where its clause holds.
 #[tactic(auto, using(crate::proofs::Answered::refused_memory))]
 pub fn parse(alloc: Global, source: &[u8], tokens: &[Token]) -> Result<Tree, ParseRefusal>
     requires short { length source.now ≤ 1048576 }
@@ -51,8 +51,7 @@ pub fn parse(alloc: Global, source: &[u8], tokens: &[Token]) -> Result<Tree, Par
     ensures few { IfOk result (λ tree. length (places tree) ≤ 1048576) }
     ensures refused { IfErr result (λ refusal. IsRefused source.now tokens.now refusal) }
 {
-    tokens_are_in_order();
-    tokens_are_few();
+    spelled_trees_are_well_made();
     let terminals = read_terminals(alloc, source, tokens)?;
     parse_terminals(alloc, &terminals, source.len() as u32)
 }

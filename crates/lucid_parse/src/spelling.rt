@@ -121,7 +121,6 @@ fn operator_terminal(bytes: &[u8]) -> Option<FixedTerminal>
 }
 
 /// The terminal of a mark or of a reserved word.
-
 pub fn fixed_terminal(bytes: &[u8]) -> Option<FixedTerminal>
     ensures { option_map fixed_plain result ≡ fixed_terminal bytes.now }
 {

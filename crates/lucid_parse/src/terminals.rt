@@ -22,7 +22,7 @@ use std::alloc::Global;
 fn make_name(alloc: Global, bytes: &[u8]) -> Result<Name, ParseRefusal>
     requires { IsTrue (is_name bytes.now) }
     ensures name { IfOk result (λ name. name ≡ bytes.now) }
-    ensures memory { IfErr result (λ e. e ≡ ParseRefusal.NoMemory) }
+    ensures memory { IfErr result (λ refusal. refusal ≡ ParseRefusal.NoMemory) }
 {
     match Name::make(alloc, bytes) {
         Ok(name) => Ok(name),
@@ -35,7 +35,7 @@ fn make_name(alloc: Global, bytes: &[u8]) -> Result<Name, ParseRefusal>
 fn make_word(alloc: Global, quoted: &[u8]) -> Result<Word, ParseRefusal>
     requires { IsBetween 34 34 is_word_value quoted.now }
     ensures word { IfOk result (λ word. quoted.now ≡ 34 ∷ (word ++ 34 ∷ [])) }
-    ensures memory { IfErr result (λ e. e ≡ ParseRefusal.NoMemory) }
+    ensures memory { IfErr result (λ refusal. refusal ≡ ParseRefusal.NoMemory) }
 {
     match Word::make(alloc, &quoted[1..quoted.len() - 1]) {
         Ok(word) => Ok(word),
@@ -46,9 +46,9 @@ fn make_word(alloc: Global, quoted: &[u8]) -> Result<Word, ParseRefusal>
 
 // The value that the bytes read as.
 fn make_value(alloc: Global, bytes: &[u8]) -> Result<Value, ParseRefusal>
-    requires { (v : PlainValue) × Reads bytes.now v }
+    requires { (read : PlainValue) × Reads bytes.now read }
     ensures value { IfOk result (λ value. IsReading bytes.now (plain value)) }
-    ensures memory { IfErr result (λ e. e ≡ ParseRefusal.NoMemory) }
+    ensures memory { IfErr result (λ refusal. refusal ≡ ParseRefusal.NoMemory) }
 {
     one_line_reading();
     match read_value(alloc, bytes) {
@@ -77,7 +77,7 @@ fn read_terminal(
 ) -> Result<Terminal<Name, Value>, ParseRefusal>
     requires { IsTokenOf kind bytes.now }
     ensures terminal { IfOk result (λ terminal. StandsFor kind bytes.now (plain_terminal terminal)) }
-    ensures memory { IfErr result (λ e. e ≡ ParseRefusal.NoMemory) }
+    ensures memory { IfErr result (λ refusal. refusal ≡ ParseRefusal.NoMemory) }
 {
     match kind {
         TokenKind::Name => Ok(Terminal::Name(make_name(alloc, bytes)?)),
@@ -97,7 +97,7 @@ pub fn read_terminals(
 ) -> Result<Vec<TerminalAt>, ParseRefusal>
     requires { Tokens source.now 0 tokens.now }
     ensures terminals { IfOk result (λ terminals. Terminals source.now tokens.now (terminals_of terminals.items)) }
-    ensures memory { IfErr result (λ e. e ≡ ParseRefusal.NoMemory) }
+    ensures memory { IfErr result (λ refusal. refusal ≡ ParseRefusal.NoMemory) }
 {
     tokens_stand();
     let mut terminals = Vec::new(alloc);

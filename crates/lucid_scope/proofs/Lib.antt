@@ -11,3 +11,4 @@ mod Resolved
 mod Numbering
 mod Unique
 mod Inputs
+mod OneList

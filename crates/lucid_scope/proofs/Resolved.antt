@@ -43,7 +43,8 @@ all-sites P Q ss ms o turn h =
 itself-true : (x : ℕ) → nat_eq x x ≡ true
 itself-true x = nat_eq_equiv.refl x
 
-itself : (x : ℕ) → ◌≡◌ {A = ℕ} (cond (nat_eq x x) 1 0) 1
+-- one where the number is
+pub itself : (x : ℕ) → ◌≡◌ {A = ℕ} (cond (nat_eq x x) 1 0) 1
 itself x = rw (itself-true x) refl
 
 side : (a b : ℕ) (t : Bool) → nat_lt a b ≡ t → (a < b) ⊎ (b ≤ a)
@@ -126,7 +127,8 @@ least e ms f o rises h =
 pub no-fault : (e : PlainTree) (ms : List Mark) → Ordered (all_sites e) ms → All (λ m. mark_fault m ≡ None) ms → HasNoFault e
 no-fault e ms o h = all-sites (λ m. mark_fault m ≡ None) (λ s. fault_of s ≡ None) (all_sites e) ms o (λ s is. sym (mark-fault s) ∙ is) h
 
-at-most-one : (at : ℕ) (xs : List ℕ) → AllDiffer xs → sum_by (λ x. cond (nat_eq at x) 1 0) xs ≤ 1
+-- no number stands twice in a list whose items all differ
+pub at-most-one : (at : ℕ) (xs : List ℕ) → AllDiffer xs → sum_by (λ x. cond (nat_eq at x) 1 0) xs ≤ 1
 at-most-one at [] h = omega arith
 at-most-one at (x ∷ xs) h = omega (arith, sum_by-cons (λ x. cond (nat_eq at x) 1 0) x xs, once at x xs (nat_eq at x) refl h (at-most-one at xs h.1))
 

@@ -1,5 +1,5 @@
 -- The binding of a name is what an environment finds: an environment that matches what is in scope goes where the name's meaning says.
--- And one fault alone is at the least place.
+-- One fault alone is at the least place, and a tree has one list of inputs.
 use Rattle.std.specs.Prelude.{◌≡◌, ℕ, List, Option, Some, slice_get}
 use Rattle.std.specs.List.{position_or_len}
 use Rattle.lucid_tree.specs.Levels.{element_of, nowhere}
@@ -82,6 +82,10 @@ LeastFaultIsUnique = (e : PlainTree) (f g : ScopeRefusal) → IsWellMade e → I
 -- and has none where no name is at fault
 abbrev pub NoFaultIsLeast : Type 0
 NoFaultIsLeast = (e : PlainTree) (f : ScopeRefusal) → HasNoFault e → IsLeastFault e f → ⊥
+
+-- a well-made tree has one list of inputs
+abbrev pub InputsAreUnique : Type 0
+InputsAreUnique = (e : PlainTree) (a b : List (List ℕ)) → IsWellMade e → AreInputs e a → AreInputs e b → a ≡ b
 
 -- a free name is the input of its number
 abbrev pub FreeNamesAreInputs : Type 0

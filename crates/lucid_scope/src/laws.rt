@@ -1,5 +1,5 @@
 //! Laws of scopes: references go on with what their names belong to, and a tree has one answer.
-ghost use Rattle.lucid_scope.specs.Laws.{NamesGoWhereTheyBelong, CallsGoWhereTheyBelong, LeastFaultIsUnique, NoFaultIsLeast, FreeNamesAreInputs};
+ghost use Rattle.lucid_scope.specs.Laws.{NamesGoWhereTheyBelong, CallsGoWhereTheyBelong, LeastFaultIsUnique, NoFaultIsLeast, InputsAreUnique, FreeNamesAreInputs};
 
 /// In an environment that matches what is in scope, each name and each call goes on where its meaning says: a plain name with its
 /// right side, a parameter with its actual, a current name with its right side at the frozen time, a free name with an element of
@@ -14,6 +14,11 @@ pub fn names_go_where_they_belong()
 pub fn least_fault_is_unique()
     ensures unique { LeastFaultIsUnique }
     ensures excluded { NoFaultIsLeast }
+{}
+
+/// A well-made tree has one list of inputs: no two of its names stand at one place, so one order alone has their places rise.
+pub fn inputs_are_unique()
+    ensures { InputsAreUnique }
 {}
 
 /// Each free name of a program is the input of its number.

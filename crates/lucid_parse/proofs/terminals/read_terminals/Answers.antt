@@ -2,14 +2,14 @@
 use Rattle.std.proofs.Common.{arith, refl}
 use Rattle.lucid_scan.specs.declared.token.Token.{Token}
 use Rattle.lucid_scan.specs.declared.token.TokenKind.TheVariants as kind
-use Rattle.lucid_parse.proofs.Texts.{words_more, no_words, starts_before, ends_within}
+use Rattle.lucid_parse.proofs.Texts.{terminals_more, no_terminals, starts_before, ends_within}
 use Rattle.lucid_parse.proofs.terminals.read_terminals.Goals as goal
 
 abbrev none : Token
 none = record { kind = kind.Name; from = 0; to = 0 }
 
 pub loop-token-init : goal.loop-token-init
-loop-token-init c = no_words c.args.source.now _ c.new-terminals.ensures.items
+loop-token-init c = no_terminals c.args.source.now _ c.new-terminals.ensures.items
 
 pub slice_bounds-bytes-count : goal.slice_bounds-bytes-count
 slice_bounds-bytes-count c =
@@ -28,5 +28,5 @@ slice_bounds-bytes-end c =
 
 pub loop-token-preserved : goal.loop-token-preserved
 loop-token-preserved c =
-    words_more c.args.source.now c.args.tokens.now c.loop-token.token-index none c.loop-token.terminals.items _ _ c.loop-token.invariant c.loop-token-test.true
+    terminals_more c.args.source.now c.args.tokens.now c.loop-token.token-index none c.loop-token.terminals.items _ _ c.loop-token.invariant c.loop-token-test.true
     c.in_ok-push.ensures.items refl c.in_ok-terminal.ensures.terminal
