@@ -39,7 +39,8 @@ impl Aim {
     }
 }
 
-// A parameter goes on with its actual in the caller's context, a current name with its body at the time of its frame, without that.
+// In its own context, a plain name or a function goes on with its body there, a parameter with its actual in the caller's context, and a
+// current name with its body in the context round its frame, at the time that the frame has frozen.
 fn by_frame(program: &Program, tags: &Tags, name: u32, tag: Tag, time: u64) -> Option<Aim>
     requires name { name < length (table_of program.now).names }
     requires known { IsKnown tags.now tag }

@@ -415,6 +415,7 @@ pub(crate) fn decide(program: &Program, tasks: &Tasks, slot: usize) -> Decision
         Node::Upon { left, right } => ready.upon(tasks, left, right),
         Node::Attime { left, right } => ready.attime(tasks, left, right),
         Node::Atspace { left, right } => ready.atspace(tasks, left, right),
+        // Only the last time and the last space are not passed.
         Node::Next { .. } | Node::Succ { .. } => Decision::Fault,
         Node::Refer { .. } | Node::Call { .. } => ready.refer(tasks),
         Node::First { .. }

@@ -68,6 +68,7 @@ impl<R: Retire, S: Pick> Engine<R, S> {
         }) }
         ensures sound { IfOk result (λ engine. IsSound engine) }
     {
+        // Each number in the table is of a row that is there, and no two streams are read from one place.
         let _ = program.table();
         lucid_inputs::places_differ();
         Ok(Engine {

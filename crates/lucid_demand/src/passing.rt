@@ -1,5 +1,5 @@
 //! What only moves the point is passed before a row is made.
-ghost use Rattle.std.specs.Prelude.{◌≡◌, ◌⊎◌, suc, option_map, IfSome, IfOk, OnOk, OnErr};
+ghost use Rattle.std.specs.Prelude.{◌≡◌, ◌⊎◌, ◌<◌, ◌^◌, List, suc, option_map, IfSome, IfOk, OnOk, OnErr};
 ghost use Rattle.lucid_tree.specs.Members.{In};
 ghost use Rattle.lucid_tags.specs.Contexts.{Context};
 ghost use Rattle.lucid_tags.specs.Known.{IsKnown, IsOneForOne, KeepsKnown};
@@ -16,6 +16,30 @@ use std::alloc::AllocError;
 /// The last time, and the last space.
 pub(crate) const LAST: u64 = (1 << 63) - 1;
 
+// The task of a part, at another time.
+fn at_time(task: Task, part: u32, time: u64) -> Task
+    ensures { result ≡ record task { node = part; time = time } }
+{
+    Task {
+        node: part,
+        time,
+        ..task
+    }
+}
+
+// The task of a part, at another space.
+fn at_space(task: Task, part: u32, space: u64) -> Task
+    requires { space < 2 ^ 63 }
+    ensures task { (known : List Context) → plain_task known result ≡ record (plain_task known task) { node = part; space = space } }
+    ensures known { (known : List Context) → IsKnown known task.tag → IsKnown known result.tag }
+{
+    Task {
+        node: part,
+        tag: task.tag.at_space(space),
+        ..task
+    }
+}
+
 // A task after its node, where that only moves the point: one part at one point, in one context.
 fn moved(program: &Program, tags: &mut Tags, task: Task) -> Result<Option<Task>, AllocError>
     requires task { parts.IsTask (table_of program.now) (plain_task tags.old task) }
@@ -30,38 +54,14 @@ fn moved(program: &Program, tags: &mut Tags, task: Task) -> Result<Option<Task>,
     let space = task.tag.space();
     let time = task.time;
     Ok(match program.node(task.node) {
-        Node::First { of } => Some(Task {
-            node: of,
-            time: 0,
-            ..task
-        }),
-        Node::Next { of } if time < LAST => Some(Task {
-            node: of,
-            time: time + 1,
-            ..task
-        }),
-        Node::Fby { left, .. } if time == 0 => Some(Task { node: left, ..task }),
-        Node::Fby { right, .. } => Some(Task {
-            node: right,
-            time: time - 1,
-            ..task
-        }),
-        Node::Initial { of } => Some(Task {
-            node: of,
-            tag: task.tag.at_space(0),
-            ..task
-        }),
-        Node::Succ { of } if space < LAST => Some(Task {
-            node: of,
-            tag: task.tag.at_space(space + 1),
-            ..task
-        }),
-        Node::Sby { left, .. } if space == 0 => Some(Task { node: left, ..task }),
-        Node::Sby { right, .. } => Some(Task {
-            node: right,
-            tag: task.tag.at_space(space - 1),
-            ..task
-        }),
+        Node::First { of } => Some(at_time(task, of, 0)),
+        Node::Next { of } if time < LAST => Some(at_time(task, of, time + 1)),
+        Node::Fby { left, .. } if time == 0 => Some(at_time(task, left, 0)),
+        Node::Fby { right, .. } => Some(at_time(task, right, time - 1)),
+        Node::Initial { of } => Some(at_space(task, of, 0)),
+        Node::Succ { of } if space < LAST => Some(at_space(task, of, space + 1)),
+        Node::Sby { left, .. } if space == 0 => Some(at_space(task, left, 0)),
+        Node::Sby { right, .. } => Some(at_space(task, right, space - 1)),
         Node::Freeze { subject } => Some(Task {
             node: subject,
             tag: tags.enter_frozen(task.tag, time)?,

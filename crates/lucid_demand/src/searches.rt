@@ -119,7 +119,7 @@ impl<R: Retire, S: Pick> Evaluation<R, S> {
         requires on { CanLookOn self.old.rows slot }
         ensures { (i : DemandIn) → MayAct i.demand self.old i.world slot (decision.Move seen) → Steps i.demand self.old self.new i.world i.world result }
     {
-        // The limit is below 2^32.
+        // The cursor's time is below the task's limit, and so below 2^32.
         let _ = self.tasks.task(slot);
         let cursor = self.tasks.cursor(slot);
         let _ = self.tasks.take(Part { slot, index: 0 });

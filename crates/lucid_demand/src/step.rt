@@ -58,7 +58,7 @@ impl<R: Retire, S: Pick> Evaluation<R, S> {
             Decision::Part { index } => self.settle_part(slot, index),
             Decision::Apply { op } => self.settle_applied(slot, op),
             Decision::Constant { constant } => self.settle_constant(slot, constant),
-            Decision::Truth(seen) => self.give(slot, Value::Truth(seen)),
+            Decision::Truth(holds) => self.give(slot, Value::Truth(holds)),
             Decision::End => self.end(slot, Value::Eod),
             Decision::Fault => self.end(slot, Value::Fault),
             Decision::Body => self.settle_body(slot),
