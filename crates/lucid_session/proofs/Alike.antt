@@ -19,6 +19,7 @@ of_tree e b _ _ tree.no_lines = no_lines
 of_tree e b _ _ (tree.one_line_more {k = k} {bytes = bytes} before v means goes_on) =
     one_line_more (of_tree e b k bytes before) (tree.line v) (v, means, goes_on, refl)
 
+-- Each is the other.
 pub output_of_trees : TreesWriteTheirOutput
 output_of_trees e b k bytes = (of_stream e b k bytes, of_tree e b k bytes)
 
@@ -26,5 +27,6 @@ output_of_trees e b k bytes = (of_stream e b k bytes, of_tree e b k bytes)
 same_stream : (x y : OneStream) → AreSameStream x y → x ≡ y
 same_stream x y same = λ i. record { value = λ b m t. same.values b m t i; pairs = λ b m d t. same.pairs b m d t i }
 
+-- So a run of the one does what a run of the other does.
 pub same_runs : SameStreamsRunAlike
 same_runs x y same b r result = subst (λ z. Ran (stream_subject z) b r result) (same_stream x y same)

@@ -73,9 +73,11 @@ pub record WentTo (p : Equations) (b : Elements) (m : ℕ) (xs : NodeEvents) (k 
   pub there : In (referred k position time s) xs
   pub value : node_val p b m position.node position.context time s ≡ Some v
 
+-- the values of positions by an approximation
 abbrev pub values_at : Equations → Elements → ℕ → NodePosition → ℕ → ℕ → Option PlainValue
 values_at p b m x u r = node_val p b m x.node x.context u r
 
+-- A value that is listed with its daton at a space is that of where the daton was gone on.
 pub went-to : (p : Equations) (b : Elements) (m : ℕ) (xs : NodeEvents) (k : Daton) (s : ℕ) (v : PlainValue) → In (k, s, v) (filter_map (valued_of (values_at p b m)) xs) → WentTo p b m xs k s v
 went-to p b m [] k s v i = absurd i
 went-to p b m (x ∷ xs) k s v i = by (went-to p b m xs k s v) x i
@@ -170,5 +172,6 @@ module _ (T : Table) (D : Counted Referent Env) (stands : StandsFor (table_count
     cleared_too (Err (TooLarge number)) f = tt
     cleared_too (Err NoMemory) f = tt
 
+-- So the figures of a table are those of each subject for which it stands.
 pub figures_too : FiguresCarry
 figures_too T D stands b r result f = record { held = held_too T D stands b r result f; deep = deep_too T D stands b r result f; cleared = cleared_too T D stands b r result f }

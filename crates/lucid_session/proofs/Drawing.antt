@@ -11,13 +11,10 @@ use Rattle.lucid_equations.specs.Rows.{equations_of}
 use Rattle.lucid_facts.specs.Engine.{EngineView, AreAskable, ReadsOnly, DrawsWithin, VisitsNew, places_of}
 use Rattle.lucid_facts.specs.Engine as facts
 use Rattle.lucid_session.specs.Runs.{Told, HasElements}
-use Rattle.lucid_session.proofs.Lists.{some_once}
+use Rattle.lucid_session.proofs.Lists.{some_once, none_some}
 use Rattle.lucid_session.proofs.Added.{Added, at_once, so, both, of_numbers}
 use Rattle.lucid_session.proofs.Moments.{Start, seen, of_run, IsConsultedBelow, DrawsBelow}
 use Rattle.lucid_session.proofs.Told.{stream_at, tells_too}
-
-none_some : {A : Type 0} {x : A} → ◌≡◌ {A = Option A} None (Some x) → ⊥
-none_some e = cc
 
 -- what stands, or nothing
 found : {A : Type 0} (o : Option A) → ((x : A) × (o ≡ Some x)) ⊎ (o ≡ None)

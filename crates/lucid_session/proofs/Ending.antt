@@ -22,6 +22,7 @@ use Rattle.lucid_equations.proofs.NodeGrowth.{node-meant_once}
 use Rattle.lucid_tags.specs.Contexts.{root}
 use Rattle.lucid_facts.specs.Engine.{EngineView, IsSound, ReadsOnly, places_of}
 use Rattle.lucid_facts.specs.Engine as facts
+use Rattle.lucid_demand.specs.Demanded as demand
 use Rattle.lucid_demand.specs.declared.fault.DemandFault.{DemandFault}
 use Rattle.lucid_demand.specs.declared.fault.DemandFault.TheVariants.{TooDeep, ReadFault, TooLarge, NoMemory}
 use Rattle.lucid_session.specs.Subject.{Subject, stream_subject, table_stream, StreamMeans, Output, no_lines, one_line_more}
@@ -39,6 +40,7 @@ use Rattle.lucid_session.proofs.Told.{place_at}
 use Rattle.lucid_session.proofs.Going.{Found, Asked}
 use Rattle.lucid_session.proofs.Holding.{held_count}
 
+-- the subject of a run: its table's stream
 abbrev pub subject : Start → Subject
 subject z = stream_subject (table_stream z.table)
 
@@ -192,6 +194,7 @@ module _ (z : Start) (e : EngineView) (w : World) (o : Told) (t c : ℕ) where
     write = write f;
     read_count = asked.reads_only.faults;
     write_count = asked.out_faults;
+    too_large = large f asked.too_large;
     held = tt;
   }
     where
@@ -206,6 +209,12 @@ module _ (z : Start) (e : EngineView) (w : World) (o : Told) (t c : ℕ) where
       write ReadFault h = absurd (cc)
       write (TooLarge k) h = absurd (cc)
       write NoMemory h = absurd (cc)
+
+      large : (f : DemandFault) → demand.OnTooLarge f (λ k. k < length z.table.inputs) → runs.OnTooLarge (of_demand t e.stored.lost c f) (λ k. k < length z.table.inputs)
+      large TooDeep h = tt
+      large ReadFault h = tt
+      large (TooLarge k) h = h
+      large NoMemory h = tt
 
   -- A refused demand ends a run.
   pub promise_refused : (f : DemandFault) → Asked z e w o t c (Err f) → t < z.count → Promises z.table (seen z w o) (Err (of_demand t e.stored.lost c f))
@@ -227,7 +236,7 @@ module _ (z : Start) (e : EngineView) (w : World) (o : Told) (t c : ℕ) where
         (omega (arith, early)) (omega (arith, early)) (omega arith);
     figures = λ b has. let f = asked.found b has in
         figures_done z b w o e (record { lines = t; ended = true; held = count_of e.stored; lost = e.stored.lost; cleared = c }) t (suc t) c f.lines f.visited asked.sound each f.holds refl refl refl refl;
-    causes = record { read = λ h. absurd (cc); write = λ h. absurd (cc); read_count = asked.reads_only.faults; write_count = asked.out_faults; held = asked.few_held };
+    causes = record { read = λ h. absurd (cc); write = λ h. absurd (cc); read_count = asked.reads_only.faults; write_count = asked.out_faults; too_large = tt; held = asked.few_held };
     reads_only = asked.reads_only;
   }
 
@@ -241,7 +250,7 @@ module _ (z : Start) (e : EngineView) (w : World) (o : Told) (t c : ℕ) where
         (omega (arith, all)) (omega (arith, all)) (omega arith);
     figures = λ b has. let f = going.so_far b has in
         figures_done z b w o e (record { lines = t; ended = false; held = count_of e.stored; lost = e.stored.lost; cleared = c }) t t c f.lines f.visited going.sound each f.holds refl refl refl refl;
-    causes = record { read = λ h. absurd (cc); write = λ h. absurd (cc); read_count = going.reads_only.faults; write_count = going.out_faults; held = going.few_held };
+    causes = record { read = λ h. absurd (cc); write = λ h. absurd (cc); read_count = going.reads_only.faults; write_count = going.out_faults; too_large = tt; held = going.few_held };
     reads_only = going.reads_only;
   }
 

@@ -2,6 +2,7 @@
 use Rattle.std.proofs.Common.{◌≡◌, ℕ, suc, ◌+◌, ◌<◌, ◌≤◌, ◌-◌, ◌^◌, [], ◌∷◌, length, Option, Some, None, refl, sym, ap, ◌∙◌, subst, arith, ◌⊎◌, inl, inr}
 use Rattle.std.specs.Prelude.{IsTrue, IfSome, Result, Ok, Err, IfOk, IfErr, IsErrOf}
 use Rattle.std.proofs.lemmas.Bool.{cases_lt}
+use Rattle.std.proofs.lemmas.Option.{slice_get_within}
 use Rattle.lucid_value.specs.declared.Value.{Value}
 use Rattle.lucid_value.specs.View.{plain}
 use Rattle.lucid_tree.specs.Members.{In}
@@ -15,6 +16,7 @@ use Rattle.lucid_equations.specs.Counts.{valued_datons}
 use Rattle.lucid_equations.specs.Rows.{equations_of}
 use Rattle.lucid_facts.specs.Stands.{Holding}
 use Rattle.lucid_facts.specs.Held.{HoldsRight}
+use Rattle.lucid_facts.specs.Elements.{elements_told}
 use Rattle.lucid_facts.specs.Engine.{EngineView, IsSound, AreAskable, ReadsOnly, HoldsFew, MayHave, ConsultsOverlong, HoldsNeeded, GoesOn, known_elements, places_of, holding}
 use Rattle.lucid_facts.proofs.History.{reads_only_then, reads_only_itself}
 use Rattle.lucid_facts.proofs.MoreRead.{right_over}
@@ -26,6 +28,7 @@ use Rattle.lucid_session.specs.Subject.{StreamMeans, table_stream, no_lines}
 use Rattle.lucid_session.specs.Runs.{Told, HasElements}
 use Rattle.lucid_session.specs.Figures.{points_below, table_counted, IsDefinedBelow, HasMoreThan}
 use Rattle.lucid_session.proofs.Added.{at_once, so}
+use Rattle.lucid_session.proofs.Lists.{some_once}
 use Rattle.lucid_session.proofs.Stopped.{with_nothing}
 use Rattle.lucid_session.proofs.Moments.{Start, seen, of_run, HasLines, Visited, HoldsBelow, SoFar, Going, DrawsBelow, entered_below}
 use Rattle.lucid_session.proofs.Told.{may_have}
@@ -34,12 +37,10 @@ use Rattle.lucid_session.proofs.Knowing.{known_more, more_later}
 use Rattle.lucid_session.proofs.Holding.{holds_nothing, holds_more}
 use Rattle.lucid_session.proofs.Deepening.{same_held_value}
 
+-- where nothing is held, few are, whatever the bound
 pub few_at : (room : Option ℕ) (n : ℕ) → n ≡ 0 → IfSome room (λ r. n ≤ r + 1)
 few_at None n e = tt
 few_at (Some r) n e = omega (arith, e)
-
-some_once : {A : Type 0} {x y : A} → ◌≡◌ {A = Option A} (Some x) (Some y) → x ≡ y
-some_once e = cc
 
 same_contents : {A : Type 0} (o : Option A) (x y : A) → o ≡ Some x → o ≡ Some y → x ≡ y
 same_contents o x y e f = some_once (sym e ∙ f)
@@ -103,6 +104,7 @@ pub record Asked (z : Start) (e : EngineView) (w : World) (o : Told) (time clear
   pub few_clearings : cleared ≤ time
   pub out_faults : z.out_before.faults ≤ o.faults
   pub failed : IsErrOf result ReadFault → Rises z.before.faults w.faults
+  pub too_large : IfErr result (λ f. demand.OnTooLarge f (λ k. k < length z.table.inputs))
   pub found : (b : Elements) → HasElements (seen z w o) b → Found z b e w o time cleared result
 
 -- A count that rose in one of several steps rose over all of them.
@@ -153,6 +155,15 @@ module _ (z : Start) (e f : EngineView) (w v : World) (o : Told) (t c : ℕ) (re
     large (Err (TooLarge k)) b may h = h b may
     large (Err NoMemory) b may h = tt
 
+    -- a stream that is too large by some elements that there may be has a name
+    named : (r : Result Value DemandFault) (b : Elements) → IfErr r (λ q. demand.OnTooLarge q (λ k. ConsultsOverlong (of_run z f) b v k z.depth t 0))
+        → IfErr r (λ q. demand.OnTooLarge q (λ k. k < length z.table.inputs))
+    named (Ok x) b h = tt
+    named (Err TooDeep) b h = tt
+    named (Err ReadFault) b h = tt
+    named (Err (TooLarge k)) b h = slice_get_within z.table.inputs k h.name h.named
+    named (Err NoMemory) b h = tt
+
     found_now : (b : Elements) → HasElements (seen z v o) b → Found z b f v o t c result
     found_now b has = record {
       lines = far.lines;
@@ -190,8 +201,13 @@ module _ (z : Start) (e f : EngineView) (w v : World) (o : Told) (t c : ℕ) (re
       few_clearings = going.few_clearings;
       out_faults = going.out_faults;
       failed = λ x. rises_over z.before.faults w.faults v.faults v.faults going.reads_only.faults d.reads_only.faults (omega arith) (d.failed x);
+      too_large = named result elements (large result elements d.told d.too_large);
       found = found_now;
     }
+      where
+        -- the elements that the places tell
+        elements : Elements
+        elements = elements_told z.table.inputs f.streams v
 
   -- After a demand.
   pub asked : Demanded e f w v t 0 z.depth result → Asked z f v o t c result

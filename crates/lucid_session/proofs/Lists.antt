@@ -45,20 +45,25 @@ module _ {A B : Type 0} (f : A → B) where
   length_map [] = refl
   length_map (x ∷ xs) = ap suc (length_map xs)
 
+-- what is there is some value;
 pub some_value : {A : Type 0} (o : Option A) → IsSome o → (v : A) × (o ≡ Some v)
 some_value None h = absurd (true≢false (sym h))
 some_value (Some v) h = (v, refl)
 
+-- equal options that are there have equal values;
 pub some_once : {A : Type 0} {x y : A} → ◌≡◌ {A = Option A} (Some x) (Some y) → x ≡ y
 some_once e = cc
 
+-- nothing is no value;
 pub none_some : {A : Type 0} {x : A} → ◌≡◌ {A = Option A} None (Some x) → ⊥
 none_some e = cc
 
+-- what is nothing isn't there;
 pub is_none : {A : Type 0} (o : Option A) → o ≡ None → IsSome o → ⊥
 is_none None e h = true≢false (sym h)
 is_none (Some x) e h = cc
 
+-- and what is some value is there
 pub some_is : {A : Type 0} (o : Option A) (v : A) → o ≡ Some v → IsSome o
 some_is None v e = cc
 some_is (Some x) v e = refl

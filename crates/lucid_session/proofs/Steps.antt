@@ -76,6 +76,7 @@ fresh_there e x w sound is askable known stored = record {
   askable = subst (λ (y : EngineView). AreAskable y.streams w) (sym is) askable;
 }
 
+-- So what its run promises is promised of it as it is made.
 pub run_there : (options : Options) (e x : EngineView) (w v : World) (o p : Told) (result : Result Summary RunFault) → e ≡ x
     → Promises e.table (engine_run options e w v o p) result → Promises x.table (engine_run options x w v o p) result
 run_there options e x w v o p result is = subst (λ (y : EngineView). Promises y.table (engine_run options y w v o p) result) is

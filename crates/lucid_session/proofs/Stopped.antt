@@ -22,6 +22,7 @@ pub record DidNothing (r : RunView) : Type 0 where
   pub after : r.after ≡ r.before
   pub out_after : r.out_after ≡ r.out_before
 
+-- Then it has written the lines of no time,
 pub ran_nothing : (S : Subject) (b : Elements) (r : RunView) → DidNothing r → Ran S b r (Err NoMemory)
 ran_nothing S b r did = record {
   out = record {
@@ -46,14 +47,17 @@ ran_nothing S b r did = record {
   too_large = tt;
 }
 
+-- its figures say nothing,
 pub figures_nothing : {K E : Type 0} (C : Counted K E) (b : Elements) (r : RunView) → Figures C b r (Err NoMemory)
 figures_nothing C b r = record { held = λ k. tt; deep = λ k. tt; cleared = tt }
 
+-- and nothing failed.
 pub causes_nothing : (r : RunView) → DidNothing r → Causes r (Err NoMemory)
 causes_nothing r did = record {
   read = λ e. cc;
   write = λ e. cc;
   read_count = omega (arith, ap (λ w. w.faults) did.after);
   write_count = omega (arith, ap (λ o. o.faults) did.out_after);
+  too_large = tt;
   held = tt;
 }

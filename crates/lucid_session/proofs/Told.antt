@@ -12,11 +12,8 @@ use Rattle.lucid_facts.specs.Elements.{told_in, elements_told}
 use Rattle.lucid_facts.specs.Engine.{EngineView, MayHave, AreAskable, ReadsOnly, places_of}
 use Rattle.lucid_facts.proofs.Places.{same_name_decides, told_extends}
 use Rattle.lucid_session.specs.Runs.{Told, HasElements}
-use Rattle.lucid_session.proofs.Lists.{some_once}
+use Rattle.lucid_session.proofs.Lists.{some_once, none_some}
 use Rattle.lucid_session.proofs.Moments.{Start, seen}
-
-none_some : {A : Type 0} {x : A} → ◌≡◌ {A = Option A} None (Some x) → ⊥
-none_some e = cc
 
 -- the place of a stream that has a number
 pub place_at : (streams : List Stream) (k : ℕ) (s : Stream) → slice_get streams k ≡ Some s → slice_get (places_of streams) k ≡ Some s.place

@@ -150,6 +150,7 @@ module _ (z : Start) (e : EngineView) (w : World) (o p : Told) (t c : ℕ) (v : 
         write = λ h. rises_over z.out_before.faults o.faults p.faults p.faults asked.out_faults writes.faults (omega arith) (writes.failed (ap Err (err_once h)));
         read_count = asked.reads_only.faults;
         write_count = omega (arith, asked.out_faults, writes.faults);
+        too_large = quiet (λ x. OnTooLarge x (λ k. k < length z.table.inputs)) tt tt q writes.refused;
         held = tt;
       };
       reads_only = asked.reads_only;

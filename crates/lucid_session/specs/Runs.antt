@@ -168,11 +168,13 @@ pub record Ran (S : Subject) (b : Elements) (r : RunView) (result : Result Summa
   pub consumed : ForSomeAdded r (ConsumesWithin S b r out.whole)
   pub too_large : IfErr result (λ e. OnTooLarge e (ConsultsOverlong S b r out.whole))
 
--- The causes of faults, and the most that is held, whatever the places and the output tell.
+-- The causes of faults, which input is too large, and the most that is held, whatever the places and the output tell.
 pub record Causes (r : RunView) (result : Result Summary RunFault) : Type 0 where
   pub read : IsErrOf result ReadFault → Rises r.before.faults r.after.faults
   pub write : IsErrOf result WriteFault → Rises r.out_before.faults r.out_after.faults
   pub read_count : r.before.faults ≤ r.after.faults
   pub write_count : r.out_before.faults ≤ r.out_after.faults
+  -- an input that is too large is one of the program's, by its number
+  pub too_large : IfErr result (λ e. OnTooLarge e (λ number. number < length r.names))
   -- where the policy leaves at most so many, at most one more is held
   pub held : IfOk result (λ s. IfSome r.policy.room (λ most. s.held ≤ most + 1))

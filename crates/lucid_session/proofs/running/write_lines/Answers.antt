@@ -27,8 +27,8 @@ pub returns-in_err-write_line : goal.returns-in_err-write_line
 returns-in_err-write_line g c =
     let p = err_from_is_err_and c.from_residual.result c.from_residual.ensures.1 in
     rw (p.1, p.2)
-    (unwritten_there _ _ _ _ _ _ _ _ _ c.loop-time.invariant.going c.from.ensures c.loop-time-test.true c.in-Ok.value c.in-Ok.ensures
-    c.if-is_end.ensures _ c.in_err-write_line.field-0.0 c.in_err-write_line.ensures)
+    (unwritten_there _ _ _ _ _ _ _ _ _ c.loop-time.invariant.going c.from.ensures c.loop-time-test.true c.in-Ok.value c.in-Ok.ensures c.if-is_end.ensures
+    (record { bytes = g.K.Sink.written c.write_line.new.out; faults = g.K.Sink.faults c.write_line.new.out }) c.in_err-write_line.field-0.0 c.in_err-write_line.ensures)
 
 pub overflow_add-cleared : goal.overflow_add-cleared
 overflow_add-cleared g c = omega (arith, c.loop-time.invariant.going.few_clearings, c.loop-time-test.true, c.args.options.now.count_within)
