@@ -1,0 +1,16 @@
+pub mod Chosen
+pub mod WordLemmas
+pub mod ConstantLemmas
+pub mod NumberLemmas
+pub mod Spaced
+pub mod TextMade
+pub mod Rising
+pub mod Gathering
+pub mod LineBytes
+pub mod NodesRead
+pub mod NodesGiven
+pub mod RowsGiven
+pub mod TailsRead
+pub mod RowLemmas
+pub mod WholeLines
+pub mod OneTable

@@ -1,0 +1,199 @@
+-- Which bytes the words and the lines of rows don't have: no word but a constant's text has a blank (32), and no line has a line end (10).
+use Rattle.std.proofs.Common.{◌≡◌, ℕ, ◌<◌, ◌≤◌, ◌^◌, suc, Bool, true, false, ◌&&◌, List, [], ◌∷◌, ◌++◌, map, refl, sym, ap, ◌∙◌, arith, pos, negsuc}
+use Rattle.std.specs.Prelude.{◌==◌, decimal, codes, IsTrue, not}
+use Rattle.std.specs.Char.{is_ascii_alphabetic, is_ascii_alphanumeric}
+use Rattle.std.specs.Int.{IsInRange}
+use Rattle.std.specs.List.{AllByRecursion, list_all, join_with_byte}
+use Rattle.std.specs.Str.Parse.{AllDigits}
+use Rattle.std.proofs.lemmas.Bool.{and_parts, ne_eqb, ltb-true, le-leb}
+use Rattle.std.proofs.lemmas.Fmt.{decimal_is_IsNumeral, decimal_is_IsNumeral_wide}
+use Rattle.std.proofs.lemmas.List.Elements.{All-from_recursion}
+use Rattle.std.proofs.lemmas.Str.Parse.{digit_from_value}
+use Rattle.lucid_value.specs.Plain.{PlainValue, int, truth, word, text, list, eod, fault, Items, no_items, item, is_value, well_formed, all_well_formed, in_range, all_in_range, within_limits, may_be_held, is_wordlike, spells_constant, is_text_byte}
+use Rattle.lucid_value.specs.Names.{is_name, is_namelike, is_name_byte, is_reserved}
+use Rattle.lucid_value.specs.ValueText.{value_text, items_text}
+use Rattle.lucid_ops.specs.declared.op.Op.{Op}
+use Rattle.lucid_ops.specs.declared.op.Op.TheVariants.{Add, Sub, Mul, Div, Mod, Pow, Neg, Abs, Eq, Ne, Lt, Le, Gt, Ge, Cmp, Not, Head, Tail, Cons, Append, Join, Length, Substr, Nth, MakeWord, MakeString, IsInt, IsWord, IsString, IsList, IsTruth, IsNull, IsAtom, IsEod, IsError}
+use Rattle.lucid_equations.specs.Ranges.{EachBelow}
+use Rattle.lucid_equations.specs.declared.rows.ScopeKind.{ScopeKind}
+use Rattle.lucid_equations.specs.declared.rows.ScopeKind.TheVariants.{Root, Called as CalledScope, Frozen as FrozenScope}
+use Rattle.lucid_equations.specs.declared.rows.Node.{Node}
+use Rattle.lucid_equations.specs.declared.rows.Node.TheVariants.{Const, Input, Apply, If, And, Or, First, Next, Fby, Whenever, Asa, Upon, Attime, Initial, Succ, Sby, Atspace, Freeze, Refer, Call}
+use Rattle.lucid_flat.specs.FlatText.{kind_word, op_word, node_words}
+use Rattle.lucid_flat.specs.FlatTables.{NodeFits}
+use Rattle.lucid_flat.specs.Words.{HasNone}
+
+-- no byte of the list is this one
+abbrev pub Lacks : ℕ → List ℕ → Type 0
+Lacks c bs = AllByRecursion (λ b. (b == c) ≡ false) bs
+
+pub has_none : (c : ℕ) (bs : List ℕ) → Lacks c bs → HasNone c bs
+has_none c bs h = All-from_recursion _ bs h
+
+pub lacks-append : (c : ℕ) (xs ys : List ℕ) → Lacks c xs → Lacks c ys → Lacks c (xs ++ ys)
+lacks-append c [] ys h k = k
+lacks-append c (x ∷ xs) ys h k = (h.0, lacks-append c xs ys h.1 k)
+
+-- a byte that fails a test, where all pass it
+lacks_by : (c : ℕ) (p : ℕ → Bool) → p c ≡ false → (bs : List ℕ) → list_all p bs ≡ true → Lacks c bs
+lacks_by c p f [] h = tt
+lacks_by c p f (b ∷ bs) h =
+    let k = and_parts (p b) (list_all p bs) h in
+    (ne_eqb b c (λ e. let q : true ≡ false = sym k.0 ∙ (ap p e ∙ f) in cc), lacks_by c p f bs k.1)
+
+-- digits have neither a blank nor a line end
+digits_lack : (c : ℕ) → c < 48 → (ds : List ℕ) → AllDigits 10 ds → Lacks c ds
+digits_lack c l [] h = tt
+digits_lack c l (d ∷ ds) h = (ne_eqb d c (λ e. omega (arith, digit_from_value d h.0)), digits_lack c l ds h.1)
+
+pub decimal_lacks : (c n : ℕ) → c < 48 → n < 2 ^ 32 → Lacks c (decimal n)
+decimal_lacks c n l h = digits_lack c l (decimal n) (decimal_is_IsNumeral n (omega arith)).0.1
+
+-- nor has a name
+name_lacks_by : (c : ℕ) → is_ascii_alphabetic c ≡ false → is_name_byte c ≡ false → (n : List ℕ) → is_namelike n ≡ true → Lacks c n
+name_lacks_by c a f [] h = absurd (cc)
+name_lacks_by c a f (b ∷ bs) h =
+    let k = and_parts (is_ascii_alphabetic b) (list_all is_name_byte bs) h in
+    (ne_eqb b c (λ e. let q : true ≡ false = sym k.0 ∙ (ap is_ascii_alphabetic e ∙ a) in cc), lacks_by c is_name_byte f bs k.1)
+
+pub name_lacks : (c : ℕ) → is_ascii_alphabetic c ≡ false → is_name_byte c ≡ false → (n : List ℕ) → IsTrue (is_name n) → Lacks c n
+name_lacks c a f n h = name_lacks_by c a f n (and_parts (is_namelike n) (not (is_reserved n)) h).0
+
+-- a value's text has no line end
+word_lacks : (bs : List ℕ) → is_wordlike bs ≡ true → Lacks 10 bs
+word_lacks [] h = absurd (cc)
+word_lacks (b ∷ bs) h =
+    let k = and_parts (is_ascii_alphabetic b) (list_all is_ascii_alphanumeric bs) h in
+    (ne_eqb b 10 (λ e. let q : true ≡ false = sym k.0 ∙ ap is_ascii_alphabetic e in cc), lacks_by 10 is_ascii_alphanumeric refl bs k.1)
+
+number_lacks : (n : ℕ) → n ≤ 2 ^ 127 → Lacks 10 (decimal n)
+number_lacks n h = digits_lack 10 (omega arith) (decimal n) (decimal_is_IsNumeral_wide n (omega arith)).0.1
+
+mutual
+  text_lacks : (v : PlainValue) → well_formed v ≡ true → in_range v ≡ true → Lacks 10 (value_text v)
+  text_lacks (int (pos n)) f r = let h = ltb-true n (2 ^ 127) r in number_lacks n (omega arith)
+  text_lacks (int (negsuc n)) f r = let h = ltb-true n (2 ^ 127) r in (refl, number_lacks (suc n) (omega arith))
+  text_lacks (truth true) f r = (refl, (refl, (refl, (refl, tt))))
+  text_lacks (truth false) f r = (refl, (refl, (refl, (refl, (refl, tt)))))
+  text_lacks (word bs) f r = word_lacks bs (and_parts (is_wordlike bs) (not (spells_constant bs)) f).0
+  text_lacks (text bs) f r = (refl, lacks-append 10 bs (39 ∷ []) (lacks_by 10 is_text_byte refl bs f) (refl, tt))
+  text_lacks (list vs) f r = (refl, (refl, lacks-append 10 (items_text vs) (codes " %]") (items_lack vs f r) (refl, (refl, (refl, tt)))))
+  text_lacks eod f r = (refl, (refl, (refl, tt)))
+  text_lacks fault f r = (refl, (refl, (refl, (refl, (refl, tt)))))
+
+  items_lack : (vs : Items) → all_well_formed vs ≡ true → all_in_range vs ≡ true → Lacks 10 (items_text vs)
+  items_lack no_items f r = tt
+  items_lack (item v vs) f r =
+      let p = and_parts (may_be_held v && well_formed v) (all_well_formed vs) f in
+      let q = and_parts (may_be_held v) (well_formed v) p.0 in
+      let s = and_parts (in_range v) (all_in_range vs) r in
+      (refl, lacks-append 10 (value_text v) (items_text vs) (text_lacks v q.1 s.0) (items_lack vs p.1 s.1))
+
+pub value_lacks : (v : PlainValue) → IsTrue (is_value v) → Lacks 10 (value_text v)
+value_lacks v h =
+    let p = and_parts (well_formed v && in_range v) (within_limits v) h in
+    let q = and_parts (well_formed v) (in_range v) p.0 in text_lacks v q.0 q.1
+
+-- nor have words that have none, joined by blanks
+pub join_lacks : (ws : List (List ℕ)) → AllByRecursion (Lacks 10) ws → Lacks 10 (join_with_byte 32 ws)
+join_lacks [] h = tt
+join_lacks (w ∷ []) h = h.0
+join_lacks (w ∷ v ∷ ws) h = lacks-append 10 w (32 ∷ join_with_byte 32 (v ∷ ws)) h.0 (refl, join_lacks (v ∷ ws) h.1)
+
+-- letters and digits alone
+abbrev pub IsSolid : List ℕ → Type 0
+IsSolid w = list_all is_ascii_alphanumeric w ≡ true
+
+pub solid_lacks : (c : ℕ) → is_ascii_alphanumeric c ≡ false → (w : List ℕ) → IsSolid w → Lacks c w
+solid_lacks c f w h = lacks_by c is_ascii_alphanumeric f w h
+
+pub all_solid_lack : (c : ℕ) → is_ascii_alphanumeric c ≡ false → (ws : List (List ℕ)) → AllByRecursion IsSolid ws → AllByRecursion (Lacks c) ws
+all_solid_lack c f [] h = tt
+all_solid_lack c f (w ∷ ws) h = (solid_lacks c f w h.0, all_solid_lack c f ws h.1)
+
+and_true : (a b : Bool) → a ≡ true → b ≡ true → (a && b) ≡ true
+and_true true true h k = refl
+and_true true false h k = absurd (cc)
+and_true false b h k = absurd (cc)
+
+digit_solid : (d : ℕ) → IsInRange 48 57 d → is_ascii_alphanumeric d ≡ true
+digit_solid d r = rw (le-leb 48 d r.0, le-leb d 57 r.1) refl
+
+digits_solid : (ds : List ℕ) → AllDigits 10 ds → IsSolid ds
+digits_solid [] h = refl
+digits_solid (d ∷ ds) h =
+    let r = digit_from_value d h.0 in
+    and_true (is_ascii_alphanumeric d) (list_all is_ascii_alphanumeric ds) (digit_solid d r) (digits_solid ds h.1)
+
+-- the digits of a number are such a word
+pub decimal_solid : (n : ℕ) → n < 2 ^ 32 → IsSolid (decimal n)
+decimal_solid n h = digits_solid (decimal n) (decimal_is_IsNumeral n (omega arith)).0.1
+
+pub decimals_solid : (ns : List ℕ) → EachBelow (2 ^ 32) ns → AllByRecursion IsSolid (map decimal ns)
+decimals_solid [] h = tt
+decimals_solid (n ∷ ns) h = (decimal_solid n h.0, decimals_solid ns h.1)
+
+op_solid : (op : Op) → IsSolid (op_word op)
+op_solid Add = refl
+op_solid Sub = refl
+op_solid Mul = refl
+op_solid Div = refl
+op_solid Mod = refl
+op_solid Pow = refl
+op_solid Neg = refl
+op_solid Abs = refl
+op_solid Eq = refl
+op_solid Ne = refl
+op_solid Lt = refl
+op_solid Le = refl
+op_solid Gt = refl
+op_solid Ge = refl
+op_solid Cmp = refl
+op_solid Not = refl
+op_solid Head = refl
+op_solid Tail = refl
+op_solid Cons = refl
+op_solid Append = refl
+op_solid Join = refl
+op_solid Length = refl
+op_solid Substr = refl
+op_solid Nth = refl
+op_solid MakeWord = refl
+op_solid MakeString = refl
+op_solid IsInt = refl
+op_solid IsWord = refl
+op_solid IsString = refl
+op_solid IsList = refl
+op_solid IsTruth = refl
+op_solid IsNull = refl
+op_solid IsAtom = refl
+op_solid IsEod = refl
+op_solid IsError = refl
+
+-- and so are the words of a node
+pub node_solid : (n : Node) → NodeFits n → AllByRecursion IsSolid (node_words n)
+node_solid (Apply op args) h = (refl, (op_solid op, decimals_solid args h.0))
+node_solid (Const a) h = (refl, (decimal_solid a h, tt))
+node_solid (Input a) h = (refl, (decimal_solid a h, tt))
+node_solid (First a) h = (refl, (decimal_solid a h, tt))
+node_solid (Next a) h = (refl, (decimal_solid a h, tt))
+node_solid (Initial a) h = (refl, (decimal_solid a h, tt))
+node_solid (Succ a) h = (refl, (decimal_solid a h, tt))
+node_solid (Freeze a) h = (refl, (decimal_solid a h, tt))
+node_solid (And a b) h = (refl, (decimal_solid a h.0, (decimal_solid b h.1, tt)))
+node_solid (Or a b) h = (refl, (decimal_solid a h.0, (decimal_solid b h.1, tt)))
+node_solid (Fby a b) h = (refl, (decimal_solid a h.0, (decimal_solid b h.1, tt)))
+node_solid (Whenever a b) h = (refl, (decimal_solid a h.0, (decimal_solid b h.1, tt)))
+node_solid (Asa a b) h = (refl, (decimal_solid a h.0, (decimal_solid b h.1, tt)))
+node_solid (Upon a b) h = (refl, (decimal_solid a h.0, (decimal_solid b h.1, tt)))
+node_solid (Attime a b) h = (refl, (decimal_solid a h.0, (decimal_solid b h.1, tt)))
+node_solid (Sby a b) h = (refl, (decimal_solid a h.0, (decimal_solid b h.1, tt)))
+node_solid (Atspace a b) h = (refl, (decimal_solid a h.0, (decimal_solid b h.1, tt)))
+node_solid (Refer a b) h = (refl, (decimal_solid a h.0, (decimal_solid b h.1, tt)))
+node_solid (If a b c) h = (refl, (decimal_solid a h.0, (decimal_solid b h.1, (decimal_solid c h.2, tt))))
+node_solid (Call a b c) h = (refl, (decimal_solid a h.0, (decimal_solid b h.1, (decimal_solid c h.2, tt))))
+
+pub kind_solid : (k : ScopeKind) → IsSolid (kind_word k)
+kind_solid Root = refl
+kind_solid CalledScope = refl
+kind_solid FrozenScope = refl

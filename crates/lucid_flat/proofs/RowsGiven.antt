@@ -1,0 +1,157 @@
+-- A row's line: its first word and the words behind it, which are read as the row.
+use Rattle.std.proofs.Common.{◌≡◌, ◌≢◌, ℕ, ◌<◌, ◌^◌, List, [], ◌∷◌, ◌++◌, map, length, Some, refl, ap, ◌∙◌}
+use Rattle.std.specs.Prelude.{decimal, codes}
+use Rattle.std.specs.List.{AllByRecursion, join_with_byte}
+use Rattle.std.specs.Option.{option_map}
+use Rattle.std.proofs.lemmas.Bool.{lt-ltb}
+use Rattle.lucid_value.specs.ValueText.{value_text}
+use Rattle.lucid_equations.specs.Ranges.{EachBelow}
+use Rattle.lucid_equations.specs.declared.rows.ScopeKind.{ScopeKind}
+use Rattle.lucid_equations.specs.declared.rows.ScopeKind.TheVariants.{Root, Called as CalledScope, Frozen as FrozenScope}
+use Rattle.lucid_equations.specs.declared.rows.ScopeRow.{ScopeRow}
+use Rattle.lucid_equations.specs.declared.rows.Entry.{Entry}
+use Rattle.lucid_equations.specs.declared.rows.Entry.TheVariants.{Plain, Parameter, Current, Called}
+use Rattle.lucid_equations.specs.declared.rows.NodeRow.{NodeRow}
+use Rattle.lucid_equations.specs.declared.rows.NameRow.{NameRow}
+use Rattle.lucid_equations.specs.declared.rows.PlaceRow.{PlaceRow}
+use Rattle.lucid_flat.specs.FlatText.{FlatRow, scope_row, input_row, constant_row, node_row, name_row, place_row, root_row, kind_word, node_words, entry_word, entry_number, row_line}
+use Rattle.lucid_flat.specs.FlatTables.{NodeFits, RowFits}
+use Rattle.lucid_flat.specs.Words.{words_of, numbers_of}
+use Rattle.lucid_flat.specs.RowTails.{kind_of, scope_of, input_of, node_row_of, pair_of, entry_of, name_of, few_numbers_of, place_of, root_of, tail_row}
+use Rattle.lucid_flat.proofs.LineBytes.{Lacks, has_none, IsSolid, all_solid_lack, decimal_solid, decimals_solid, node_solid, kind_solid}
+use Rattle.lucid_flat.proofs.NodesGiven.{node_of-words}
+use Rattle.lucid_flat.proofs.WordLemmas.{words_of_one, words_of_more, number_of-decimal, take_number-decimal}
+
+-- the first word of a row's line, and the words behind it
+abbrev pub row_head : FlatRow → List ℕ
+row_head (scope_row r) = codes "scope"
+row_head (input_row n) = codes "input"
+row_head (constant_row v) = codes "const"
+row_head (node_row r) = codes "node"
+row_head (name_row r) = entry_word r.kind
+row_head (place_row r) = codes "place"
+row_head (root_row n) = codes "root"
+
+abbrev pub row_rest : FlatRow → List (List ℕ)
+row_rest (scope_row r) = decimal r.parent ∷ kind_word r.kind ∷ []
+row_rest (input_row n) = n ∷ []
+row_rest (constant_row v) = value_text v ∷ []
+row_rest (node_row r) = decimal r.scope ∷ node_words r.node
+row_rest (name_row r) = decimal r.scope ∷ decimal (entry_number r.kind) ∷ []
+row_rest (place_row r) = decimal r.scope ∷ decimal r.name ∷ map decimal r.actuals
+row_rest (root_row n) = decimal n ∷ []
+
+abbrev pub row_tail : FlatRow → List ℕ
+row_tail r = join_with_byte 32 (row_rest r)
+
+-- a line is the first word, a blank and what is behind it
+pub line_parts : (r : FlatRow) → row_line r ≡ row_head r ++ 32 ∷ row_tail r
+line_parts (scope_row r) = refl
+line_parts (input_row n) = refl
+line_parts (constant_row v) = refl
+line_parts (node_row r) = refl
+line_parts (name_row r) = refl
+line_parts (place_row r) = refl
+line_parts (root_row n) = refl
+
+entry_word_lacks : (e : Entry) → Lacks 32 (entry_word e)
+entry_word_lacks (Plain a) = (refl, (refl, (refl, (refl, (refl, tt)))))
+entry_word_lacks (Parameter i) = (refl, (refl, (refl, (refl, (refl, (refl, (refl, (refl, (refl, tt)))))))))
+entry_word_lacks (Current a) = (refl, (refl, (refl, (refl, (refl, (refl, (refl, tt)))))))
+entry_word_lacks (Called a) = (refl, (refl, (refl, (refl, (refl, (refl, tt))))))
+
+-- the first word has no blank
+pub head_lacks : (r : FlatRow) → Lacks 32 (row_head r)
+head_lacks (scope_row r) = (refl, (refl, (refl, (refl, (refl, tt)))))
+head_lacks (input_row n) = (refl, (refl, (refl, (refl, (refl, tt)))))
+head_lacks (constant_row v) = (refl, (refl, (refl, (refl, (refl, tt)))))
+head_lacks (node_row r) = (refl, (refl, (refl, (refl, tt))))
+head_lacks (name_row r) = entry_word_lacks r.kind
+head_lacks (place_row r) = (refl, (refl, (refl, (refl, (refl, tt)))))
+head_lacks (root_row n) = (refl, (refl, (refl, (refl, tt))))
+
+-- the words of words without blanks, joined by blanks, are these words
+pub words_of-join : (w : List ℕ) (ws : List (List ℕ)) → AllByRecursion (Lacks 32) (w ∷ ws) → words_of (join_with_byte 32 (w ∷ ws)) ≡ w ∷ ws
+words_of-join w [] h = words_of_one w (has_none 32 w h.0)
+words_of-join w (v ∷ ws) h = words_of_more w (join_with_byte 32 (v ∷ ws)) _ refl (has_none 32 w h.0) ∙ ap (λ (us : List (List ℕ)). w ∷ us) (words_of-join v ws h.1)
+
+-- the kind of its own word
+kind_of-word : (k : ScopeKind) → k ≢ Root → kind_of (kind_word k) ≡ Some k
+kind_of-word Root h = absurd (h refl)
+kind_of-word CalledScope h = refl
+kind_of-word FrozenScope h = refl
+
+scope_of-words : (r : ScopeRow) → r.parent < 2 ^ 32 → r.kind ≢ Root → scope_of (decimal r.parent ∷ kind_word r.kind ∷ []) ≡ Some r
+unfolding scope_of
+scope_of-words r h k = rw (take_number-decimal r.parent (kind_word r.kind ∷ []) h, kind_of-word r.kind k) refl
+
+node_row_of-words : (r : NodeRow) → r.scope < 2 ^ 32 → NodeFits r.node → node_row_of (decimal r.scope ∷ node_words r.node) ≡ Some r
+unfolding node_row_of
+node_row_of-words r h k = rw (take_number-decimal r.scope (node_words r.node) h, node_of-words r.node k) refl
+
+pair_of-words : (a b : ℕ) → a < 2 ^ 32 → b < 2 ^ 32 → pair_of (decimal a ∷ decimal b ∷ []) ≡ Some (a, b)
+unfolding pair_of
+pair_of-words a b h k = rw (take_number-decimal a (decimal b ∷ []) h, take_number-decimal b [] k) refl
+
+entry_of-word : (e : Entry) → entry_of (entry_word e) (entry_number e) ≡ Some e
+entry_of-word (Plain a) = refl
+entry_of-word (Parameter i) = refl
+entry_of-word (Current a) = refl
+entry_of-word (Called a) = refl
+
+name_of-words : (r : NameRow) → r.scope < 2 ^ 32 → entry_number r.kind < 2 ^ 32 → name_of (entry_word r.kind) (decimal r.scope ∷ decimal (entry_number r.kind) ∷ []) ≡ Some r
+unfolding name_of
+name_of-words r h k = rw (pair_of-words r.scope (entry_number r.kind) h k, entry_of-word r.kind) refl
+
+numbers_of-words : (ns : List ℕ) → EachBelow (2 ^ 32) ns → numbers_of (map decimal ns) ≡ Some ns
+numbers_of-words [] h = refl
+numbers_of-words (n ∷ ns) h = rw (number_of-decimal n h.0, numbers_of-words ns h.1) refl
+
+few_numbers_of-words : (ns : List ℕ) → EachBelow (2 ^ 32) ns → length ns < 2 ^ 32 → few_numbers_of (map decimal ns) ≡ Some ns
+few_numbers_of-words ns h l = rw (numbers_of-words ns h, lt-ltb (length ns) (2 ^ 32) l) refl
+
+place_of-words : (r : PlaceRow) → RowFits (place_row r) → place_of (decimal r.scope ∷ decimal r.name ∷ map decimal r.actuals) ≡ Some r
+unfolding place_of
+place_of-words r h =
+    rw (take_number-decimal r.scope (decimal r.name ∷ map decimal r.actuals) h.0, take_number-decimal r.name (map decimal r.actuals) h.1, few_numbers_of-words r.actuals h.2 h.3) refl
+
+root_of-words : (n : ℕ) → n < 2 ^ 32 → root_of (decimal n ∷ []) ≡ Some n
+unfolding root_of
+root_of-words n h = rw (take_number-decimal n [] h) refl
+
+-- a row that is no constant
+abbrev pub IsNoConstant : FlatRow → Type 0
+IsNoConstant (constant_row v) = ⊥
+IsNoConstant _ = Unit {0}
+
+-- what is behind the first word of a row with numbers is words of letters and digits
+name_tail : (e : Entry) (t : List ℕ) → tail_row (entry_word e) t ≡ option_map name_row (name_of (entry_word e) (words_of t))
+unfolding tail_row
+name_tail (Plain a) t = refl
+name_tail (Parameter i) t = refl
+name_tail (Current a) t = refl
+name_tail (Called a) t = refl
+
+spaced_words : (w : List ℕ) (ws : List (List ℕ)) → AllByRecursion IsSolid (w ∷ ws) → words_of (join_with_byte 32 (w ∷ ws)) ≡ w ∷ ws
+spaced_words w ws h = words_of-join w ws (all_solid_lack 32 refl (w ∷ ws) h)
+
+-- A row that is no constant is read from the first word of its line and what is behind.
+pub tail_row-parts : (r : FlatRow) → RowFits r → IsNoConstant r → tail_row (row_head r) (row_tail r) ≡ Some r
+unfolding tail_row input_of
+tail_row-parts (scope_row r) h n =
+    let words = spaced_words (decimal r.parent) (kind_word r.kind ∷ []) (decimal_solid r.parent h.0, (kind_solid r.kind, tt)) in
+    ap (option_map scope_row) (ap scope_of words ∙ scope_of-words r h.0 h.1)
+tail_row-parts (input_row n) h c = rw h refl
+tail_row-parts (constant_row v) h n = absurd n
+tail_row-parts (node_row r) h n =
+    let words = spaced_words (decimal r.scope) (node_words r.node) (decimal_solid r.scope h.0, node_solid r.node h.1) in
+    ap (option_map node_row) (ap node_row_of words ∙ node_row_of-words r h.0 h.1)
+tail_row-parts (name_row r) h n =
+    let words = spaced_words (decimal r.scope) (decimal (entry_number r.kind) ∷ []) (decimal_solid r.scope h.0, (decimal_solid (entry_number r.kind) h.1, tt)) in
+    name_tail r.kind (row_tail (name_row r)) ∙ ap (option_map name_row) (ap (name_of (entry_word r.kind)) words ∙ name_of-words r h.0 h.1)
+tail_row-parts (place_row r) h n =
+    let words = spaced_words (decimal r.scope) (decimal r.name ∷ map decimal r.actuals) (decimal_solid r.scope h.0, (decimal_solid r.name h.1, decimals_solid r.actuals h.2)) in
+    ap (option_map place_row) (ap place_of words ∙ place_of-words r h)
+tail_row-parts (root_row n) h c =
+    let words = spaced_words (decimal n) [] (decimal_solid n h, tt) in
+    ap (option_map root_row) (ap root_of words ∙ root_of-words n h)

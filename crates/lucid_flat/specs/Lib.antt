@@ -1,0 +1,10 @@
+pub mod FlatText
+pub mod FlatTables
+pub mod Words
+pub mod Forms
+pub mod RowTails
+pub mod RowLines
+pub mod Shown
+pub mod Gathered
+pub mod LinesRead
+pub mod Laws

@@ -1,0 +1,16 @@
+pub mod RightRows
+pub mod Nesting
+pub mod NestMade
+pub mod FormsRight
+pub mod Rights
+pub mod InRange
+pub mod Wanting
+pub mod Leaping
+pub mod NamesRight
+pub mod LeadRange
+pub mod LeadRows
+pub mod LeadCuts
+pub mod LeadSteps
+pub mod LeadWalks
+pub mod LeadFrames
+pub mod LeadAstray

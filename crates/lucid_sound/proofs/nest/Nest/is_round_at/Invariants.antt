@@ -1,0 +1,14 @@
+use Rattle.std.proofs.Common.{◌<◌, ◌≤◌, length, slice_index}
+use Rattle.lucid_equations.specs.Sound.{IsRound}
+use Rattle.lucid_sound.proofs.nest.Nest.is_round_at.Given as goal
+
+-- the walk has come to a scope that is the scope or stands round it, not too far out
+abbrev pub invariant-loop-at : goal.invariant-loop-at
+invariant-loop-at l = record {
+  known : l.at < length l.rows;
+  round : IsRound l.rows l.at l.scope;
+  deep : l.level ≤ slice_index l.self.depths.items l.at;
+}
+
+abbrev pub decreases-loop-at : goal.decreases-loop-at
+decreases-loop-at l = l.at

@@ -1,0 +1,8 @@
+pub mod WrongRows
+pub mod Nests
+pub mod Forms
+pub mod Wants
+pub mod Met
+pub mod Fits
+pub mod Laws
+pub mod Astray
