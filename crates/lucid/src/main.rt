@@ -1,17 +1,30 @@
 //! The command `lucid`: runs a pLucid program and prints the values of its stream, one a line.
 #![tactic(auto)]
 
+ghost use Rattle.std.specs.Prelude.{◌≡◌, ◌≢◌};
+ghost use Rattle.std.specs.Process.{exit_status};
+ghost use Rattle.lucid_top.specs.Status.{code_of};
+
 use lucid_ports::{RealPlaces, RealSink};
 use lucid_top::{Refusal, Status, Stop, lucid, tell};
+use std::env;
+use std::io::ErrorKind;
 use std::process::ExitCode;
-use std::{env, io};
 
-// The words of the command line; they are refused as usage where one isn't UTF-8.
-fn all_words(rt: &HostRuntime) -> Result<Vec<String>, Stop> {
-    let words = env::args(rt).map_err(|error| match error.kind() {
-        io::ErrorKind::InvalidData => Stop::Refused(Refusal::Usage),
+// Why there are no words: one isn't UTF-8, which is usage, or there was no memory.
+fn no_words(kind: ErrorKind) -> Stop
+    ensures usage { kind ≡ ErrorKind.InvalidData → result ≡ Stop.Refused Refusal.Usage }
+    ensures memory { kind ≢ ErrorKind.InvalidData → result ≡ Stop.NoMemory }
+{
+    match kind {
+        ErrorKind::InvalidData => Stop::Refused(Refusal::Usage),
         _ => Stop::NoMemory,
-    })?;
+    }
+}
+
+// The words of the command line, the command's own name first.
+fn all_words(rt: &HostRuntime) -> Result<Vec<String>, Stop> {
+    let words = env::args(rt).map_err(|error| no_words(error.kind()))?;
     let words = words.collect(rt.alloc())?;
     Ok(words)
 }
@@ -32,6 +45,13 @@ fn real_status(rt: &HostRuntime) -> Status {
     lucid(rt.alloc(), words, &mut places, &mut out, &mut report)
 }
 
+// The exit code of a status.
+fn exit_code(status: Status) -> ExitCode
+    ensures { exit_status result ≡ code_of status }
+{
+    ExitCode::from(status.code())
+}
+
 fn main(rt: HostRuntime) -> ExitCode {
-    ExitCode::from(real_status(&rt).code())
+    exit_code(real_status(&rt))
 }

@@ -83,6 +83,12 @@ module _ (l : OneVerdict) (c : Call) (told : TellsSource c) where
       absurd (run_not_refused l c told run.0 why refused (λ n. same_free l c told run.0.names.program run.1 run.0.names n))
   first o why refused no_read (inr (inr printing)) = absurd (printed_not_refused l c told printing.0 why refused)
 
+  refused_silent : (o : Outcome) (why : Refusal) → Refuses c why → How c o → WritesNothing c
+  refused_silent o why refused (inl early) = early.1.silent
+  refused_silent o why refused (inr (inl run)) =
+      absurd (run_not_refused l c told run.0 why refused (λ n. same_free l c told run.0.names.program run.1 run.0.names n))
+  refused_silent o why refused (inr (inr printing)) = absurd (printed_not_refused l c told printing.0 why refused)
+
   -- the run of the code's program is the run of any
   same_program : (r q : IsRun c) → IsWellMade (program_of q).tree → program_of q ≡ program_of r
   same_program r q well =
@@ -158,6 +164,7 @@ meets l c before after o s h tells = record {
     usage = λ none. stopped_by_words c o refusal.Usage (λ a. not_asked a none) (only_usage c none) h.how;
     not_built = λ w read not_built. stopped_by_words c o refusal.NotBuilt (λ a. not_unbuilt a w read not_built) (only_unbuilt c w read not_built) h.how;
     first = λ why refused told reads. first l c told o why refused (counted c o h.only reads) h.how;
+    silent = λ why refused told. refused_silent l c told o why refused h.how;
   };
   silent = silent_or c o h.how;
   headline = λ r told. runs_so l c told r o h.only h.how;

@@ -1,6 +1,6 @@
 -- Places that are reached one behind the other.
 use Rattle.std.proofs.Common.{◌≡◌, ℕ, zero, suc, ◌+◌, ◌<◌, ◌≢◌, List, [], ◌∷◌, ◌++◌, length, map, get_or, Option, Some, None, Result, Ok, Err, take, ap, sym, subst, ◌∙◌, inl, inr, arith, add-zero, add-one}
-use Rattle.std.specs.Prelude.{IfSome, IfOk, slice_get, option_map}
+use Rattle.std.specs.Prelude.{IfSome, IfOk, IsErrAnd, OnErr, MatchResult, slice_get, option_map}
 use Rattle.std.specs.List.{range_with_len}
 use Rattle.std.proofs.lemmas.Bool.{cases_lt}
 use Rattle.std.proofs.lemmas.Option.{slice_get-map, slice_get-get_or}
@@ -66,3 +66,14 @@ range_more a n q numbers numbers' are at more =
 -- the name of a file
 pub named_at : (files : List (Bor (List ℕ))) (i : ℕ) (d : Bor (List ℕ)) → i < length files → slice_get (map (λ file. file.now) files) i ≡ Some (get_or files i d).now
 named_at files i d h = slice_get-map (λ file. file.now) files i ∙ ap (option_map (λ file. file.now)) (slice_get-get_or files i d h)
+
+-- what is given where only the refusal was changed was given before; and where it is refused, it was refused
+pub given_before : {A D E : Type 0} (old : Result A E) (new : Result A D) (a : A) (P : E → D → Type 0) → MatchResult old (λ x. new ≡ Ok x) (λ e. IsErrAnd new (P e)) → new ≡ Ok a → old ≡ Ok a
+given_before (Ok x) new a P same is = let here : new ≡ Ok x = same in cc (here, is)
+given_before (Err e) (Ok x) a P other is = absurd other
+given_before (Err e) (Err d) a P other is = absurd (cc is)
+
+pub refused_before : {A D E : Type 0} (old : Result A E) (new : Result A D) (d : D) (P : E → D → Type 0) (X : Type 0) → MatchResult old (λ x. new ≡ Ok x) (λ e. IsErrAnd new (P e)) → new ≡ Err d
+    → OnErr old X → X
+refused_before (Ok x) new d P X same is refused = let here : new ≡ Ok x = same in absurd (cc (here, is))
+refused_before (Err e) new d P X other is refused = refused

@@ -14,7 +14,7 @@ use Rattle.lucid_top.specs.Call.{Call}
 use Rattle.lucid_top.specs.Tasks.{task_of, form_of, is_built, wants_figures}
 use Rattle.lucid_top.specs.Telling.{Tells, WritesWhole, WritesFront}
 use Rattle.lucid_top.specs.Stages.{IsTold, Asks, IsPrinted, IsRun, Refuses}
-use Rattle.lucid_top.specs.Runs.{program_of, view_of, RanSo}
+use Rattle.lucid_top.specs.Runs.{most_places, program_of, view_of, RanSo}
 use Rattle.lucid_top.specs.Running.{HoldsWithin}
 
 -- a call on the places failed
@@ -55,6 +55,8 @@ pub record RefusedWhere (c : Call) (o : Outcome) : Type 0 where
   pub usage : c.asked ≡ None → IsRefusedSo o refusal.Usage
   pub not_built : (w : PlainWords) → c.asked ≡ Some w → is_built (task_of w) (form_of w) ≡ false → IsRefusedSo o refusal.NotBuilt
   pub first : (why : Refusal) → Refuses c why → TellsSource c → (ReadFails c → ⊥) → IsRefusedSo o why
+  -- However such a call ends, it writes nothing.
+  pub silent : (why : Refusal) → Refuses c why → TellsSource c → WritesNothing c
 
 -- The text is printed: whole, or a front of it. Less than the whole is printed only where a call failed or there was no memory.
 pub record Prints (c : Call) (o : Outcome) (text : List ℕ) : Type 0 where
@@ -76,5 +78,5 @@ pub record MeetsClauses (c : Call) (report_before report_after : Told) (s : Stat
   pub headline : (r : IsRun c) → TellsSource c → RanSo (program_of r).tree (view_of c (program_of r)) outcome
   -- A source that spells a tree is printed.
   pub printed : (p : IsPrinted c) → TellsSource c → Prints c outcome (canonical p.program.tree)
-  -- No more places are reached than those of the source and of the inputs.
-  pub few_places : c.after.reached ≤ 1048577
+  -- No more places are reached than a source and its free names can need.
+  pub few_places : c.after.reached ≤ most_places

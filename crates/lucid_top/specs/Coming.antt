@@ -9,7 +9,7 @@ use Rattle.lucid_top.specs.declared.stop.Stop.TheVariants as stop
 use Rattle.lucid_top.specs.Status.{Outcome}
 use Rattle.lucid_top.specs.Call.{Call}
 use Rattle.lucid_top.specs.Stages.{Asks, IsPrinted, IsRun, Refuses, by_words, by_task, by_text, by_names, by_given}
-use Rattle.lucid_top.specs.Runs.{first_place, program_of, view_of, RanSo}
+use Rattle.lucid_top.specs.Runs.{most_places, first_place, program_of, view_of, RanSo}
 use Rattle.lucid_top.specs.Clauses.{WritesNothing, ComesOnly, Prints}
 
 -- Nothing is written, and of no input is anything consumed.
@@ -43,4 +43,4 @@ EndsPrinting c o = (p : IsPrinted c) × Prints c o (canonical p.program.tree)
 pub record Comes (c : Call) (o : Outcome) : Type 0 where
   pub only : ComesOnly c o
   pub how : (StopsEarly c o × Rests c) ⊎ (EndsRun c o ⊎ EndsPrinting c o)
-  pub few_places : c.after.reached ≤ 1048577
+  pub few_places : c.after.reached ≤ most_places

@@ -20,12 +20,16 @@ pub record HasTokens (source : List ℕ) (tokens : List Token) : Type 0 where
   pub short : length source ≤ most_source_bytes
   pub listed : Tokens source 0 tokens
 
--- The source spells the tree, which is at most 400 deep.
+-- how deep a tree may be
+abbrev pub most_tree_depth : ℕ
+most_tree_depth = 400
+
+-- The source spells the tree, which isn't too deep.
 pub record Spelt (source : List ℕ) (p : PlainTree) : Type 0 where
   pub tokens : List Token
   pub scanned : HasTokens source tokens
   pub spelt : SpellsTree source tokens p
-  pub shallow : depth p ≤ 400
+  pub shallow : depth p ≤ most_tree_depth
 
 -- The text of a source is refused so, by the scanner or, where it has tokens, by the parser.
 pub data RefusesText (source : List ℕ) (why : Refusal) : Type 0 where

@@ -7,6 +7,7 @@ use Rattle.lucid_ports.specs.declared.fault.PortFault.TheVariants.{Failed, NoMem
 use Rattle.lucid_make.specs.Source.{made_source}
 use Rattle.lucid_tree.specs.Tree.{PlainTree}
 use Rattle.lucid_tree.specs.WellMade.{places, IsWellMade}
+use Rattle.lucid_scan.specs.Refusals.{most_source_bytes}
 use Rattle.lucid_scope.specs.Bindings.{HasNoFault}
 use Rattle.lucid_words.specs.Plain.{PlainSource, file, made}
 use Rattle.lucid_top.specs.declared.stop.Stop.{Stop}
@@ -21,7 +22,7 @@ pub record KeepsNames (old new : World) : Type 0 where
 
 -- The source, but of a file that is too long only the first bytes, one more than a source may have.
 abbrev pub IsSourceFront : PlainSource → World → List ℕ → Type 0
-IsSourceFront (file name) w bytes = IfSome (w.holds name) (λ held. bytes ≡ take 1048577 held)
+IsSourceFront (file name) w bytes = IfSome (w.holds name) (λ held. bytes ≡ take (most_source_bytes + 1) held)
 IsSourceFront (made n) w bytes = bytes ≡ made_source n
 
 -- A call on the places failed, which is counted, or there was no memory.
@@ -48,7 +49,7 @@ pub record IsAccepted (source : PlainSource) (w : World) (p : PlainTree) : Type 
   pub spelt : SpeltBySource source w p
   pub no_fault : HasNoFault p
   pub well_made : IsWellMade p
-  pub few : length (places p) ≤ 1048576
+  pub few : length (places p) ≤ most_source_bytes
 
 -- The source stops the call, or the names of its tree are refused.
 abbrev pub IsProgramStop : PlainSource → (old new : World) → Stop → Type 0

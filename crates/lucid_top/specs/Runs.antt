@@ -10,6 +10,7 @@ use Rattle.lucid_tree.specs.Env.{Env, empty, Referent}
 use Rattle.lucid_tree.specs.Meaning.{val, hval}
 use Rattle.lucid_compile.specs.Counts.{entries, valued_entries, environments}
 use Rattle.lucid_tree.specs.Levels.{Elements}
+use Rattle.lucid_scan.specs.Refusals.{most_source_bytes}
 use Rattle.lucid_session.specs.Subject.{stream_subject, tree_stream}
 use Rattle.lucid_session.specs.Runs.{PolicyView, RunView, Told, HasElements, Ran}
 use Rattle.lucid_session.specs.Figures.{Counted, Figures}
@@ -23,6 +24,10 @@ use Rattle.lucid_top.specs.Status.{Outcome}
 use Rattle.lucid_top.specs.Call.{Call}
 use Rattle.lucid_top.specs.Stages.{IsRun}
 use Rattle.lucid_top.specs.Files.{files_for}
+
+-- how many places a call reaches at most: the source's, and one for each free name, of which there are no more than bytes
+abbrev pub most_places : ℕ
+most_places = most_source_bytes + 1
 
 -- how many bytes of each input may be read: one more than an input may have
 abbrev pub most_input_bytes : ℕ

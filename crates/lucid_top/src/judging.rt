@@ -1,6 +1,7 @@
 //! Judging a source: scanning, parsing and the names, in this order.
 ghost use Rattle.std.specs.Prelude.{◌≡◌, ◌≤◌, length, IfOk, IfErr, OnOk};
 ghost use Rattle.lucid_tree.specs.WellMade.{places, IsWellMade};
+ghost use Rattle.lucid_scan.specs.Refusals.{most_source_bytes};
 ghost use Rattle.lucid_scope.specs.Bindings.{HasNoFault};
 ghost use Rattle.lucid_scope.specs.Scoped.{scoped_tree};
 ghost use Rattle.lucid_top.specs.Judged.{Spelt, RefusesText, RefusesNames};
@@ -17,7 +18,7 @@ use std::alloc::Global;
 pub fn read_tree(alloc: Global, source: &[u8]) -> Result<Tree, Stop>
     ensures spelt { IfOk result (Spelt source.now) }
     ensures well_made { IfOk result IsWellMade }
-    ensures few { IfOk result (λ tree. length (places tree) ≤ 1048576) }
+    ensures few { IfOk result (λ tree. length (places tree) ≤ most_source_bytes) }
     ensures refused { IfErr result (IsRefusalOf (RefusesText source.now)) }
 {
     let tokens = scan(alloc, source)?;

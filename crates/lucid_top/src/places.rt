@@ -1,6 +1,7 @@
 //! What is read from: the source, and the places of the inputs.
 ghost use Rattle.std.specs.Prelude.{◌≡◌, ◌≤◌, ◌<◌, ◌+◌, length, map, take, IfOk, IfErr, IfSome, OnOk, IsErrOf};
 ghost use Rattle.std.specs.List.{range_with_len};
+ghost use Rattle.lucid_scan.specs.Refusals.{most_source_bytes};
 ghost use Rattle.lucid_ports.specs.Faults.{Rises};
 ghost use Rattle.lucid_words.specs.Plain.{plain_source};
 ghost use Rattle.lucid_words.specs.Numbers.{MadeIsFromTo};
@@ -29,7 +30,7 @@ fn read_stop(fault: PortFault) -> Stop
 // Reaches the file of that name and reads it, to its end or to one byte more than a source may have.
 fn read_file<P: Places>(alloc: Global, places: &mut P, name: &str) -> Result<Vec<u8>, PortFault>
     requires { (P.world places.old).reached ≡ 0 }
-    ensures bytes { IfOk result (λ bytes. IfSome ((P.world places.old).holds name.now) (λ held. bytes.items ≡ take 1048577 held)) }
+    ensures bytes { IfOk result (λ bytes. IfSome ((P.world places.old).holds name.now) (λ held. bytes.items ≡ take (most_source_bytes + 1) held)) }
     ensures reached { OnOk result ((P.world places.new).reached ≡ 1) }
     ensures few { (P.world places.new).reached ≤ 1 }
     ensures keeps { KeepsNames (P.world places.old) (P.world places.new) }
@@ -54,10 +55,7 @@ pub fn read_source<P: Places>(
     ensures stopped { IfErr result (IsReadStop (P.world places.old) (P.world places.new)) }
 {
     match source {
-        Source::File(name) => match read_file(alloc, places, name) {
-            Ok(bytes) => Ok(bytes),
-            Err(fault) => Err(read_stop(fault)),
-        },
+        Source::File(name) => read_file(alloc, places, name).map_err(read_stop),
         Source::Made(n) => Ok(make_source(alloc, *n)?),
     }
 }
@@ -78,10 +76,8 @@ pub fn reach_files<P: Places>(
 {
     let mut numbers = Vec::new(alloc);
     for file in files {
-        match places.reach(alloc, file) {
-            Ok(place) => numbers.push(place)?,
-            Err(fault) => return Err(read_stop(fault)),
-        }
+        let place = places.reach(alloc, file).map_err(read_stop)?;
+        numbers.push(place)?;
     }
     Ok(numbers)
 }

@@ -41,10 +41,7 @@ fn write_line<E: Sink>(report: &mut E, parts: &[Part<'_>]) -> Result<(), PortFau
     ensures { WritesLine (line_of parts.now) result (told E.written E.faults report.old) (told E.written E.faults report.new) }
 {
     for part in parts {
-        match write_part(report, *part) {
-            Ok(()) => {}
-            Err(fault) => return Err(fault),
-        }
+        write_part(report, *part)?;
     }
     Ok(())
 }

@@ -1,6 +1,7 @@
 //! The command.
 ghost use Rattle.std.specs.Prelude.{◌≡◌, ◌≤◌, Some, length, map, IfOk, IfErr, OnOk, true};
 ghost use Rattle.std.specs.String.{string_bytes};
+ghost use Rattle.lucid_scan.specs.Refusals.{most_source_bytes};
 ghost use Rattle.lucid_tree.specs.WellMade.{places as all_places, IsWellMade};
 ghost use Rattle.lucid_words.specs.Asked.{plain_words, words_asked};
 ghost use Rattle.lucid_words.specs.Plain.{plain_source};
@@ -36,7 +37,7 @@ fn tree_of<P: Places>(alloc: Global, words: &Words, places: &mut P) -> Result<Tr
     requires none { (P.world places.old).reached ≡ 0 }
     ensures spelt { IfOk result (SpeltBySource (plain_source words.now.source) (P.world places.old)) }
     ensures well_made { IfOk result IsWellMade }
-    ensures few_nodes { IfOk result (λ tree. length (all_places tree) ≤ 1048576) }
+    ensures few_nodes { IfOk result (λ tree. length (all_places tree) ≤ most_source_bytes) }
     ensures reached { OnOk result ((P.world places.new).reached ≡ first_place (plain_source words.now.source)) }
     ensures few { (P.world places.new).reached ≤ first_place (plain_source words.now.source) }
     ensures keeps { KeepsNames (P.world places.old) (P.world places.new) }

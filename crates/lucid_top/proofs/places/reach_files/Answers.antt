@@ -1,26 +1,36 @@
 use Rattle.std.proofs.Common.{map, arith}
-use Rattle.lucid_top.proofs.Reaching.{keeps_on, fresh_after, fresh_more, range_more, named_at}
+use Rattle.lucid_top.proofs.Reaching.{keeps_on, fresh_after, fresh_more, range_more, named_at, given_before, refused_before}
 use Rattle.lucid_top.proofs.places.reach_files.Goals as goal
 
-pub returns-in_err-push-in-Ok-clause-fresh : goal.returns-in_err-push-in-Ok-clause-fresh
-returns-in_err-push-in-Ok-clause-fresh g c =
+pub returns-in_err-place-clause-fresh : goal.returns-in_err-place-clause-fresh
+returns-in_err-place-clause-fresh g c =
+    fresh_after (map (λ file. file.now) c.args.files.now) (g.P.Places.world c.args.places.now) (g.P.Places.world c.loop-file.places) (g.P.Places.world c.reach.new.self)
+    c.loop-file.invariant.fresh c.reach.ensures.others
+    (refused_before c.reach.result c.map_err.result c.in_err-place.field-0.0 _ _ c.map_err.ensures.cases c.in_err-place.was c.reach.ensures.refused)
+
+pub returns-in_err-push-clause-fresh : goal.returns-in_err-push-clause-fresh
+returns-in_err-push-clause-fresh g c =
+    let given = given_before c.reach.result c.map_err.result c.in_ok-place.place _ c.map_err.ensures.cases c.in_ok-place.was in
+    let number = rw given at c.reach.ensures.number in
+    let added = rw given at c.reach.ensures.added in
+    let fresh = rw given at c.reach.ensures.fresh in
     fresh_more (map (λ file. file.now) c.args.files.now) (g.P.Places.world c.args.places.now) (g.P.Places.world c.loop-file.places) (g.P.Places.world c.reach.new.self)
     c.loop-file.file-index _ c.loop-file.invariant.reached (named_at c.args.files.now c.loop-file.file-index _ c.loop-file-test.true) c.loop-file.invariant.fresh
-    c.loop-file.invariant.keeps c.reach.ensures.others c.in-Ok.ensures.added c.in-Ok.place c.in-Ok.ensures.number c.in-Ok.ensures.fresh
-
-pub returns-in-Err-clause-fresh : goal.returns-in-Err-clause-fresh
-returns-in-Err-clause-fresh g c =
-    fresh_after (map (λ file. file.now) c.args.files.now) (g.P.Places.world c.args.places.now) (g.P.Places.world c.loop-file.places) (g.P.Places.world c.reach.new.self)
-    c.loop-file.invariant.fresh c.reach.ensures.others c.in-Err.ensures.refused
+    c.loop-file.invariant.keeps c.reach.ensures.others added c.in_ok-place.place number fresh
 
 pub loop-file-preserved : goal.loop-file-preserved
-loop-file-preserved g c = record {
-  numbers = range_more (g.P.Places.world c.args.places.now).reached c.loop-file.file-index c.in-Ok.place c.loop-file.numbers.items c.push.new.self.items
-      c.loop-file.invariant.numbers (omega (arith, c.in-Ok.ensures.number, c.loop-file.invariant.reached)) c.in_ok-push-in-Ok.ensures.items;
-  reached = omega (arith, c.in-Ok.ensures.added, c.loop-file.invariant.reached);
-  fresh = fresh_more (map (λ file. file.now) c.args.files.now) (g.P.Places.world c.args.places.now) (g.P.Places.world c.loop-file.places) (g.P.Places.world c.reach.new.self)
-      c.loop-file.file-index _ c.loop-file.invariant.reached (named_at c.args.files.now c.loop-file.file-index _ c.loop-file-test.true) c.loop-file.invariant.fresh
-      c.loop-file.invariant.keeps c.reach.ensures.others c.in-Ok.ensures.added c.in-Ok.place c.in-Ok.ensures.number c.in-Ok.ensures.fresh;
-  keeps = keeps_on (g.P.Places.world c.args.places.now) (g.P.Places.world c.loop-file.places) (g.P.Places.world c.reach.new.self) (g.P.Places.world c.loop-file.places).reached
-      c.loop-file.invariant.keeps c.reach.ensures.others;
-}
+loop-file-preserved g c =
+    let given = given_before c.reach.result c.map_err.result c.in_ok-place.place _ c.map_err.ensures.cases c.in_ok-place.was in
+    let number = rw given at c.reach.ensures.number in
+    let added = rw given at c.reach.ensures.added in
+    let fresh = rw given at c.reach.ensures.fresh in
+    record {
+      numbers = range_more (g.P.Places.world c.args.places.now).reached c.loop-file.file-index c.in_ok-place.place c.loop-file.numbers.items c.push.new.self.items
+          c.loop-file.invariant.numbers (omega (arith, number, c.loop-file.invariant.reached)) c.in_ok-push.ensures.items;
+      reached = omega (arith, added, c.loop-file.invariant.reached);
+      fresh = fresh_more (map (λ file. file.now) c.args.files.now) (g.P.Places.world c.args.places.now) (g.P.Places.world c.loop-file.places) (g.P.Places.world c.reach.new.self)
+          c.loop-file.file-index _ c.loop-file.invariant.reached (named_at c.args.files.now c.loop-file.file-index _ c.loop-file-test.true) c.loop-file.invariant.fresh
+          c.loop-file.invariant.keeps c.reach.ensures.others added c.in_ok-place.place number fresh;
+      keeps = keeps_on (g.P.Places.world c.args.places.now) (g.P.Places.world c.loop-file.places) (g.P.Places.world c.reach.new.self) (g.P.Places.world c.loop-file.places).reached
+          c.loop-file.invariant.keeps c.reach.ensures.others;
+    }
