@@ -17,3 +17,7 @@ pub mod Descended
 pub mod Shapes
 pub mod Nodes
 pub mod Telling
+pub mod Ordered
+pub mod Totals
+pub mod Found
+pub mod Defined

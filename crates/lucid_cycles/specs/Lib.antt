@@ -7,3 +7,5 @@ pub mod Laws
 pub mod Walks
 pub mod Rounds
 pub mod Closes
+pub mod JudgmentLine
+pub mod Found

@@ -7,6 +7,7 @@ pub use crate::judging::{enough, judge};
 pub use crate::judgment::{JudgeRefusal, Judgment};
 
 mod cycle;
+mod definitions;
 mod delays;
 mod edge;
 mod edges;
@@ -14,6 +15,7 @@ mod holds;
 mod judging;
 mod judgment;
 mod laws;
+mod line;
 mod names;
 mod outside;
 mod rounds;

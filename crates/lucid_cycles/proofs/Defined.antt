@@ -1,0 +1,155 @@
+-- The definitions of a tree's plain names: their places, the nodes by their parts, and the one with a number.
+use Rattle.std.proofs.Common.{◌≡◌, ℕ, ◌+◌, ◌<◌, ◌≤◌, Bool, true, false, cond, List, [], ◌∷◌, ◌++◌, length, get_or, map, ◌⊎◌, inl, inr, Box, Global, refl, sym, ap, subst, ◌∙◌, arith, append_assoc}
+use Rattle.std.specs.Prelude.{nat_eq, nat_lt}
+use Rattle.std.specs.Borrow.{Bor}
+use Rattle.std.specs.List.{count_by, filter, flat_map, join_by}
+use Rattle.std.specs.List.Sorted.{IsPermutation, IsNonDecreasingBy}
+use Rattle.std.proofs.lemmas.Bool.Decides.{nat_tests}
+use Rattle.std.proofs.lemmas.List.{append-nil, get_or-map, get_or_default, length-map, map-append}
+use Rattle.std.proofs.lemmas.List.Sums.{sum_by-cons, sum_by-append}
+use Rattle.lucid_tree.specs.Tree.{PlainTree, form, name, call, block, PlainTrees, no_trees, tree, PlainDefs, no_defs, defines, defines_function, defines_current}
+use Rattle.lucid_tree.specs.Members.{In, AllDiffer}
+use Rattle.lucid_tree.specs.WellMade.{places, places_in, places_in_defs}
+use Rattle.lucid_tree.specs.DefsView.{def_of}
+use Rattle.lucid_tree.specs.View.{tree_of}
+use Rattle.lucid_tree.specs.declared.tree.Def.{Def}
+use Rattle.lucid_tree.specs.declared.tree.DefKind.{DefKind}
+use Rattle.lucid_tree.specs.declared.tree.DefKind.TheVariants.{Plain, Function, Current}
+use Rattle.lucid_tree.specs.declared.tree.Kind.{Kind}
+use Rattle.lucid_tree.specs.declared.tree.Kind.TheVariants.{And, Or, Fby, Whenever, Asa, Upon, Attime, Sby, Atspace}
+use Rattle.lucid_cycles.specs.Judged.{plain_names, plain_names_in, plain_names_in_defs}
+use Rattle.lucid_cycles.specs.JudgmentLine.{Definition, definitions, definitions_in, definitions_in_defs, definition_text, name_text}
+use Rattle.lucid_cycles.specs.Found.{definition, found_definitions, definitions_of_def, text_at}
+use Rattle.lucid_cycles.proofs.Ordered.{Once, count-map, no-more, one-at, none-at, lt-or}
+use Rattle.lucid_cycles.proofs.Found.{text-in, text-out}
+use Rattle.lucid_cycles.proofs.Shapes.{pair}
+
+-- a definition, and those after it
+pub definitions-def : (at : ℕ) (n : List ℕ) (k : DefKind) (ds : PlainDefs) → definitions_in_defs (def_of at n k ds) ≡ definitions_of_def at n k ++ definitions_in_defs ds
+definitions-def at n (Plain e) ds = refl
+definitions-def at n (Function ps ats e) ds = refl
+definitions-def at n (Current e) ds = refl
+
+-- nodes of two parts
+two-parts : (k : Kind) (a b : Box PlainTree Global) → ((k ≡ And a b) ⊎ ((k ≡ Or a b) ⊎ ((k ≡ Fby a b) ⊎ ((k ≡ Whenever a b) ⊎ ((k ≡ Asa a b) ⊎ ((k ≡ Upon a b) ⊎ ((k ≡ Attime a b) ⊎ ((k ≡ Sby a b) ⊎ (k ≡ Atspace a b))))))))) → (at : ℕ) → definitions (tree_of at k) ≡ definitions_in (pair a b)
+two-parts k a b (inl e) at = ap (λ x. definitions (tree_of at x)) e
+two-parts k a b (inr (inl e)) at = ap (λ x. definitions (tree_of at x)) e
+two-parts k a b (inr (inr (inl e))) at = ap (λ x. definitions (tree_of at x)) e
+two-parts k a b (inr (inr (inr (inl e)))) at = ap (λ x. definitions (tree_of at x)) e
+two-parts k a b (inr (inr (inr (inr (inl e))))) at = ap (λ x. definitions (tree_of at x)) e
+two-parts k a b (inr (inr (inr (inr (inr (inl e)))))) at = ap (λ x. definitions (tree_of at x)) e
+two-parts k a b (inr (inr (inr (inr (inr (inr (inl e))))))) at = ap (λ x. definitions (tree_of at x)) e
+two-parts k a b (inr (inr (inr (inr (inr (inr (inr (inl e)))))))) at = ap (λ x. definitions (tree_of at x)) e
+two-parts k a b (inr (inr (inr (inr (inr (inr (inr (inr e)))))))) at = ap (λ x. definitions (tree_of at x)) e
+
+-- what is found after such a node, by what is found after each part
+pub two-found : (k : Kind) (at : ℕ) (a b : Box PlainTree Global) (x y : PlainTree) (old mid new : List Definition) → ((k ≡ And a b) ⊎ ((k ≡ Or a b) ⊎ ((k ≡ Fby a b) ⊎ ((k ≡ Whenever a b) ⊎ ((k ≡ Asa a b) ⊎ ((k ≡ Upon a b) ⊎ ((k ≡ Attime a b) ⊎ ((k ≡ Sby a b) ⊎ (k ≡ Atspace a b))))))))) → x ≡ a.value → y ≡ b.value
+    → mid ≡ old ++ definitions x → new ≡ mid ++ definitions y → new ≡ old ++ definitions (tree_of at k)
+two-found k at a b x y old mid new p f g m n =
+    let m' : mid ≡ old ++ definitions a.value = subst (λ z. mid ≡ old ++ definitions z) f m in
+    let n' : new ≡ mid ++ definitions b.value = subst (λ z. new ≡ mid ++ definitions z) g n in
+    n' ∙ ap (λ z. z ++ definitions b.value) m' ∙ append_assoc old (definitions a.value) (definitions b.value)
+    ∙ ap (λ z. old ++ (definitions a.value ++ z)) (sym (append-nil (definitions b.value))) ∙ ap (λ z. old ++ z) (sym (two-parts k a b p at))
+
+-- the places of the definitions are those of the plain names
+both-parts : (xs ys : List Definition) (ns ms : List ℕ) → ns ≡ map (λ (d : Definition). d.at) xs → ms ≡ map (λ (d : Definition). d.at) ys → ns ++ ms ≡ map (λ (d : Definition). d.at) (xs ++ ys)
+both-parts xs ys ns ms p q = ap (λ z. z ++ ms) p ∙ ap (λ z. map (λ (d : Definition). d.at) xs ++ z) q ∙ sym (map-append (λ (d : Definition). d.at) xs ys)
+
+mutual
+  pub names-places : (e : PlainTree) → plain_names e ≡ map (λ (d : Definition). d.at) (definitions e)
+  names-places (form at f es) = names-places-in es
+  names-places (name at n) = refl
+  names-places (call at n es) = names-places-in es
+  names-places (block at e ds) = both-parts (definitions e) (definitions_in_defs ds) (plain_names e) (plain_names_in_defs ds) (names-places e) (names-places-defs ds)
+
+  names-places-in : (es : PlainTrees) → plain_names_in es ≡ map (λ (d : Definition). d.at) (definitions_in es)
+  names-places-in no_trees = refl
+  names-places-in (tree e es) = both-parts (definitions e) (definitions_in es) (plain_names e) (plain_names_in es) (names-places e) (names-places-in es)
+
+  names-places-defs : (ds : PlainDefs) → plain_names_in_defs ds ≡ map (λ (d : Definition). d.at) (definitions_in_defs ds)
+  names-places-defs no_defs = refl
+  names-places-defs (defines at x e ds) = ap (λ z. at ∷ z) (both-parts (definitions e) (definitions_in_defs ds) (plain_names e) (plain_names_in_defs ds) (names-places e) (names-places-defs ds))
+  names-places-defs (defines_function at x ns ats e ds) = both-parts (definitions e) (definitions_in_defs ds) (plain_names e) (plain_names_in_defs ds) (names-places e) (names-places-defs ds)
+  names-places-defs (defines_current at x e ds) = both-parts (definitions e) (definitions_in_defs ds) (plain_names e) (plain_names_in_defs ds) (names-places e) (names-places-defs ds)
+
+-- how often a place stands in a list
+abbrev times : ℕ → List ℕ → ℕ
+times x xs = count_by (λ y. nat_eq x y) xs
+
+times-cons : (x y : ℕ) (xs : List ℕ) → times x (y ∷ xs) ≡ cond (nat_eq x y) 1 0 + times x xs
+times-cons x y xs = sum_by-cons (λ z. cond (nat_eq x z) 1 0) y xs
+
+times-append : (x : ℕ) (xs ys : List ℕ) → times x (xs ++ ys) ≡ times x xs + times x ys
+times-append x xs ys = sum_by-append (λ z. cond (nat_eq x z) 1 0) xs ys
+
+-- and a plain name's place stands no more often among the names than among all places
+mutual
+  few : (x : ℕ) (e : PlainTree) → times x (plain_names e) ≤ times x (places e)
+  few x (form at f es) = omega (arith, few-in x es, times-cons x at (places_in es))
+  few x (name at n) = omega arith
+  few x (call at n es) = omega (arith, few-in x es, times-cons x at (places_in es))
+  few x (block at e ds) = omega (arith, few x e, few-defs x ds, times-append x (plain_names e) (plain_names_in_defs ds), times-append x (places e) (places_in_defs ds), times-cons x at (places e ++ places_in_defs ds))
+
+  few-in : (x : ℕ) (es : PlainTrees) → times x (plain_names_in es) ≤ times x (places_in es)
+  few-in x no_trees = omega arith
+  few-in x (tree e es) = omega (arith, few x e, few-in x es, times-append x (plain_names e) (plain_names_in es), times-append x (places e) (places_in es))
+
+  few-defs : (x : ℕ) (ds : PlainDefs) → times x (plain_names_in_defs ds) ≤ times x (places_in_defs ds)
+  few-defs x no_defs = omega arith
+  few-defs x (defines at n e ds) = omega (arith, few x e, few-defs x ds, times-append x (plain_names e) (plain_names_in_defs ds), times-append x (places e) (places_in_defs ds), times-cons x at (plain_names e ++ plain_names_in_defs ds), times-cons x at (places e ++ places_in_defs ds))
+  few-defs x (defines_function at n ns ats e ds) = omega (arith, few x e, few-defs x ds, times-append x (plain_names e) (plain_names_in_defs ds), times-append x (ats ++ places e) (places_in_defs ds), times-append x ats (places e), times-cons x at ((ats ++ places e) ++ places_in_defs ds))
+  few-defs x (defines_current at n e ds) = omega (arith, few x e, few-defs x ds, times-append x (plain_names e) (plain_names_in_defs ds), times-append x (places e) (places_in_defs ds), times-cons x at (places e ++ places_in_defs ds))
+
+eq-of : (x y : ℕ) → nat_eq x y ≡ true → x ≡ y
+eq-of x y h = grind (arith, nat_tests, h)
+
+absent-on : (x y : ℕ) (xs : List ℕ) (b : Bool) → nat_eq x y ≡ b → (In x (y ∷ xs) → ⊥) → times x xs ≡ 0 → times x (y ∷ xs) ≡ 0
+absent-on x y xs true e h r = absurd (h (inl (eq-of x y e)))
+absent-on x y xs false e h r = no-more (λ z. nat_eq x z) y xs e ∙ r
+
+absent : (x : ℕ) (xs : List ℕ) → (In x xs → ⊥) → times x xs ≡ 0
+absent x [] h = refl
+absent x (y ∷ xs) h = absent-on x y xs (nat_eq x y) refl h (absent x xs (λ i. h (inr i)))
+
+once-on : (x y : ℕ) (xs : List ℕ) (b : Bool) → nat_eq x y ≡ b → (In y xs → ⊥) → times x xs ≤ 1 → times x (y ∷ xs) ≤ 1
+once-on x y xs true e h r =
+    let none : times x xs ≡ 0 = absent x xs (λ i. h (subst (λ z. In z xs) (eq-of x y e) i)) in
+    omega (arith, times-cons x y xs, ap {B = ℕ} (λ b. cond b 1 0) e, none)
+once-on x y xs false e h r = omega (arith, no-more (λ z. nat_eq x z) y xs e, r)
+
+once : (x : ℕ) (xs : List ℕ) → AllDiffer xs → times x xs ≤ 1
+once x [] h = omega arith
+once x (y ∷ xs) h = once-on x y xs (nat_eq x y) refl h.0 (once x xs h.1)
+
+pub defined-once : (e : PlainTree) → AllDiffer (places e) → Once (λ (d : Definition). d.at) (definitions e)
+defined-once e h x =
+    let same : times x (map (λ (d : Definition). d.at) (definitions e)) ≡ count_by (λ (d : Definition). nat_eq x d.at) (definitions e) = count-map (λ (d : Definition). d.at) (λ y. nat_eq x y) (definitions e) in
+    omega (arith, same, ap (λ l. times x l) (names-places e), few x e, once x (places e) h)
+
+-- the text of a name is that of the definition at the place of its number
+text-of : (e : PlainTree) (k : ℕ) (l : List Definition) → filter (λ (d : Definition). nat_eq (count_by (λ x. nat_lt x d.at) (map (λ (z : Definition). z.at) (definitions e))) k) (definitions e) ≡ l → name_text e k ≡ flat_map definition_text l
+text-of e k l h =
+    ap (λ ns. flat_map definition_text (filter (λ (d : Definition). nat_eq (count_by (λ x. nat_lt x d.at) ns) k) (definitions e))) (names-places e) ∙ ap (λ l. flat_map definition_text l) h
+
+named-at : (e : PlainTree) (x : Bor Def) (ds : List (Bor Def)) → AllDiffer (places e) → IsPermutation (definitions e) (found_definitions ds) → IsNonDecreasingBy (λ (d : Definition). d.at) (found_definitions ds) → (k : ℕ)
+    → (k < length ds) ⊎ (length ds ≤ k) → text_at ds k ≡ name_text e k
+named-at e x ds h p s k (inl l) =
+    let there : k < length (found_definitions ds) = omega (arith, l, length-map ds definition) in
+    let one = one-at (λ (d : Definition). d.at) (definitions e) (found_definitions ds) p s (defined-once e h) k (definition x) there in
+    text-in ds k (get_or ds k x) l (get_or_default ds k x (get_or ds k x) l) ∙ ap definition_text (sym (get_or-map definition ds k x (definition x) l)) ∙ sym (append-nil (definition_text (get_or (found_definitions ds) k (definition x)))) ∙ sym (text-of e k _ one)
+named-at e x ds h p s k (inr l) =
+    let there : length (found_definitions ds) ≤ k = omega (arith, l, length-map ds definition) in
+    text-out ds k l ∙ sym (text-of e k _ (none-at (λ (d : Definition). d.at) (definitions e) (found_definitions ds) p s (defined-once e h) k there))
+
+pub named : (e : PlainTree) (ds : List (Bor Def)) → AllDiffer (places e) → IsPermutation (definitions e) (found_definitions ds) → IsNonDecreasingBy (λ (d : Definition). d.at) (found_definitions ds) → (k : ℕ) → text_at ds k ≡ name_text e k
+named e [] h p s k = sym (text-of e k _ (none-at (λ (d : Definition). d.at) (definitions e) [] p s (defined-once e h) k (omega arith)))
+named e (x ∷ ds) h p s k = named-at e x (x ∷ ds) h p s k (lt-or k (length (x ∷ ds)))
+
+-- lists of texts that are the same one by one are joined to the same
+flat-same : (f g : ℕ → List ℕ) (sep xs : List ℕ) → ((k : ℕ) → f k ≡ g k) → flat_map (λ y. sep ++ f y) xs ≡ flat_map (λ y. sep ++ g y) xs
+flat-same f g sep [] h = refl
+flat-same f g sep (x ∷ xs) h = ap (λ z. (sep ++ z) ++ flat_map (λ y. sep ++ f y) xs) (h x) ∙ ap (λ z. (sep ++ g x) ++ z) (flat-same f g sep xs h)
+
+pub join-same : (f g : ℕ → List ℕ) (sep xs : List ℕ) → ((k : ℕ) → f k ≡ g k) → join_by f sep xs ≡ join_by g sep xs
+join-same f g sep [] h = refl
+join-same f g sep (x ∷ xs) h = ap (λ z. z ++ flat_map (λ y. sep ++ f y) xs) (h x) ∙ ap (λ z. g x ++ z) (flat-same f g sep xs h)

@@ -1,0 +1,8 @@
+use Rattle.std.proofs.Common.{◌≡◌, ◌++◌, take, codes}
+use Rattle.std.specs.List.{flat_map}
+use Rattle.lucid_cycles.specs.Found.{text_at}
+use Rattle.lucid_cycles.proofs.line.put_names.Given as goal
+
+abbrev pub invariant-loop-number : goal.invariant-loop-number
+invariant-loop-number l =
+    l.line.items ≡ l.initial.line.items ++ flat_map (λ y. codes ", " ++ text_at l.found y) (take l.number-index l.others)
