@@ -5,6 +5,8 @@
 #[cfg(test)]
 mod cut;
 #[cfg(test)]
+mod cycles;
+#[cfg(test)]
 mod edges;
 #[cfg(test)]
 mod failures;

@@ -113,7 +113,7 @@ static WORDS: [Row; 6] = [
 
 const THREE_COLUMNS: &str = "a where a = 1 fby a + 1; b = a * a; c = 5 fby eod; end";
 
-static NOT_BUILT: [Row; 7] = [
+static NOT_BUILT: [Row; 6] = [
     Row {
         words: "--columns a,b,c --count 3 p",
         source: THREE_COLUMNS,
@@ -125,12 +125,6 @@ static NOT_BUILT: [Row; 7] = [
         words: "--columns a, p",
         source: THREE_COLUMNS,
         ..USAGE
-    },
-    Row {
-        words: "--cycles p",
-        source: COUNTING,
-        report: "not built yet\n",
-        ..REFUSED
     },
     Row {
         words: "--why 3 p",

@@ -1,4 +1,4 @@
--- How a call comes to its outcome: it stops early, or it prints.
+-- How a call comes to its outcome: it stops early, or it writes a text.
 use Rattle.std.proofs.Common.{◌≡◌, ◌≢◌, ℕ, ◌+◌, ◌-◌, ◌<◌, ◌≤◌, true, false, List, [], length, get_or, Option, Some, None, Result, Ok, Err, ◌⊎◌, inl, inr, refl, sym, ap, subst, ◌∙◌, arith}
 use Rattle.std.specs.Prelude.{slice_get, option_map, IfOk, OnOk}
 use Rattle.std.proofs.lemmas.Option.{slice_get-get_or}
@@ -13,7 +13,9 @@ use Rattle.lucid_scope.specs.Bindings.{HasNoFault, IsResolved}
 use Rattle.lucid_scope.specs.declared.scoped.Binding.{Binding}
 use Rattle.lucid_scope.specs.declared.scoped.Scoped.{Scoped}
 use Rattle.lucid_scope.specs.Scoped.{scoped_tree}
-use Rattle.lucid_print.specs.Canonical.{canonical}
+use Rattle.lucid_cycles.specs.Judgments.{IsJudgeRefusal}
+use Rattle.lucid_cycles.specs.declared.judgment.JudgeRefusal.{JudgeRefusal}
+use Rattle.lucid_cycles.specs.declared.judgment.JudgeRefusal.TheVariants as judge
 use Rattle.lucid_words.specs.Plain.{PlainSource, file, made}
 use Rattle.lucid_words.specs.Asked.{PlainWords}
 use Rattle.lucid_session.specs.Runs.{Told}
@@ -32,14 +34,14 @@ use Rattle.lucid_top.specs.Status.{Outcome}
 use Rattle.lucid_top.specs.Call.{Call}
 use Rattle.lucid_top.specs.Tasks.{task_of, form_of, is_built}
 use Rattle.lucid_top.specs.Telling.{WritesWhole, WritesFront}
-use Rattle.lucid_top.specs.Refusals.{words_stop, IsRefusalOf}
+use Rattle.lucid_top.specs.Refusals.{words_stop, judge_stop, IsRefusalOf}
 use Rattle.lucid_top.specs.Judged.{RefusesNames, HasInputs}
 use Rattle.lucid_top.specs.Files.{RefusesGiven}
-use Rattle.lucid_top.specs.Stages.{Asks, HasSource, HasTree, HasNames, IsPrinted, by_words, by_task, by_text, by_names, by_given}
+use Rattle.lucid_top.specs.Stages.{Asks, HasSource, HasTree, HasNames, IsWriting, IsTextFor, by_words, by_task, by_text, by_names, by_judging, by_given}
 use Rattle.lucid_top.specs.Runs.{first_place}
 use Rattle.lucid_top.specs.Places.{KeepsNames, SpeltBySource, IsAccepted, IsSourceStop, IsProgramStop, IsReadStop, AreFresh}
-use Rattle.lucid_top.specs.Printing.{PrintsOnly}
-use Rattle.lucid_top.specs.Clauses.{WritesNothing, Prints}
+use Rattle.lucid_top.specs.Writing.{WritesSome, WritesSomeFront, WritesOnly}
+use Rattle.lucid_top.specs.Clauses.{WritesNothing}
 use Rattle.lucid_top.specs.Coming.{Rests, Comes}
 use Rattle.lucid_top.proofs.Pieces.{rises_from}
 
@@ -94,30 +96,46 @@ pub whole_front : (text : List ℕ) (before after : Told) → WritesWhole text b
 whole_front text before after h =
     (length text, le_refl (length text), h ∙ ap (λ l. with_all l before.bytes) (sym (take_all (length text) text (le_refl (length text)))))
 
--- the tree is printed
-pub prints : (c : Call) (w : PlainWords) (p : PlainTree) (o : Outcome) → Begins c w → task_of w ≡ task.Print → SpeltBySource w.source c.before p
-    → c.after.reached ≤ first_place w.source → PrintsOnly (canonical p) c.out_before c.out_after o → Comes c o
-prints c w p (Ok done.Printed) b is s few h =
-    let t : IsPrinted c = record { program = tree_of c w p b s; task = is } in
-    let text : Prints c (Ok done.Printed) (canonical p) = record { front = whole_front (canonical p) c.out_before c.out_after h; whole = λ _. h; complete = λ _ _. inl refl } in
-    record { only = t; how = inr (inr (t, text)); few_places = few_places c w.source few }
-prints c w p (Err stop.WriteFault) b is s few h =
-    let t : IsPrinted c = record { program = tree_of c w p b s; task = is } in
-    let text : Prints c (Err stop.WriteFault) (canonical p) = record { front = h.0; whole = λ e. absurd (cc e); complete = λ _ writes. absurd (writes h.1) } in
-    record { only = h.1; how = inr (inr (t, text)); few_places = few_places c w.source few }
-prints c w p (Err stop.NoMemory) b is s few h =
-    let t : IsPrinted c = record { program = tree_of c w p b s; task = is } in
-    let text : Prints c (Err stop.NoMemory) (canonical p) = record { front = h; whole = λ e. absurd (cc e); complete = λ _ _. inr refl } in
-    record { only = tt; how = inr (inr (t, text)); few_places = few_places c w.source few }
-prints c w p (Ok (done.Ran summary stats)) b is s few h = absurd h
-prints c w p (Err (stop.Refused why)) b is s few h = absurd h
-prints c w p (Err stop.ReadFault) b is s few h = absurd h
-prints c w p (Err (stop.TooDeep t l x f)) b is s few h = absurd h
-prints c w p (Err (stop.TooLarge k n)) b is s few h = absurd h
+-- texts of one kind are written, which are texts of another
+pub as_text : (P Q : List ℕ → Type 0) (before after : Told) (o : Outcome) → ((text : List ℕ) → P text → Q text) → WritesOnly P before after o → WritesOnly Q before after o
+as_text P Q before after (Ok done.Written) f h = (h.0, f h.0 h.1, h.2)
+as_text P Q before after (Err stop.WriteFault) f h = ((h.0.0, f h.0.0 h.0.1, h.0.2), h.1)
+as_text P Q before after (Err stop.NoMemory) f h = elim h [ inl silent ↦ inl silent | inr some ↦ inr (some.0, f some.0 some.1, some.2) ]
+as_text P Q before after (Ok (done.Ran summary stats)) f h = absurd h
+as_text P Q before after (Err (stop.Refused why)) f h = absurd h
+as_text P Q before after (Err stop.ReadFault) f h = absurd h
+as_text P Q before after (Err (stop.TooDeep t l x y)) f h = absurd h
+as_text P Q before after (Err (stop.TooLarge k n)) f h = absurd h
 
--- where only a run is asked for, the names are looked at
-pub not_print : (w : PlainWords) → task_of w ≡ task.Run → task_of w ≢ task.Print
-not_print w is is_print = absurd (cc (is, is_print))
+front_of_some : (P : List ℕ → Type 0) (before after : Told) → WritesSome P before after → WritesSomeFront P before after
+front_of_some P before after h = (h.0, h.1, whole_front h.0 before after h.2)
+
+-- the text that is asked for is written
+pub writes : (c : Call) (w : PlainWords) (x : IsWriting c) (o : Outcome) → c.after.reached ≤ first_place w.source → WritesOnly (IsTextFor x) c.out_before c.out_after o → Comes c o
+writes c w x (Ok done.Written) few h = record {
+  only = x;
+  how = inr (inr (x, record { front = inr (front_of_some (IsTextFor x) c.out_before c.out_after h); whole = λ _. h; complete = λ _ _. inl refl }));
+  few_places = few_places c w.source few;
+}
+writes c w x (Err stop.WriteFault) few h = record {
+  only = h.1;
+  how = inr (inr (x, record { front = inr h.0; whole = λ e. absurd (cc e); complete = λ _ writes. absurd (writes h.1) }));
+  few_places = few_places c w.source few;
+}
+writes c w x (Err stop.NoMemory) few h = record {
+  only = tt;
+  how = inr (inr (x, record { front = h; whole = λ e. absurd (cc e); complete = λ _ _. inr refl }));
+  few_places = few_places c w.source few;
+}
+writes c w x (Ok (done.Ran summary stats)) few h = absurd h
+writes c w x (Err (stop.Refused why)) few h = absurd h
+writes c w x (Err stop.ReadFault) few h = absurd h
+writes c w x (Err (stop.TooDeep t l y f)) few h = absurd h
+writes c w x (Err (stop.TooLarge k n)) few h = absurd h
+
+-- where something else than the canonical source is asked for, the names are looked at
+pub not_print : (w : PlainWords) (t : Task) → task_of w ≡ t → (t ≡ task.Print → ⊥) → task_of w ≢ task.Print
+not_print w t is other is_print = other (sym is ∙ is_print)
 
 -- the tree is accepted
 accepted : (source : PlainSource) (w : World) (p q : PlainTree) → SpeltBySource source w p → HasNoFault p → IsWellMade p → length (places p) ≤ 1048576 → q ≡ p → IsAccepted source w q
@@ -146,16 +164,16 @@ source_stop source old new stop.WriteFault h = h
 source_stop source old new (stop.TooDeep t l x f) h = h
 source_stop source old new (stop.TooLarge k n) h = h
 
-names_refuse : (c : Call) (w : PlainWords) (p : PlainTree) (why : Refusal) → Begins c w → task_of w ≡ task.Run → SpeltBySource w.source c.before p → IsWellMade p → RefusesNames p why
+names_refuse : (c : Call) (w : PlainWords) (p : PlainTree) (why : Refusal) → Begins c w → task_of w ≢ task.Print → SpeltBySource w.source c.before p → IsWellMade p → RefusesNames p why
     → WritesNothing c → c.after.reached ≤ first_place w.source → Comes c (Err (stop.Refused why))
-names_refuse c w p why b is spelt well refused silent few = record {
-  only = (by_names (tree_of c w p b spelt) (not_print w is) refused, silent);
-  how = inl ((by_names (tree_of c w p b spelt) (not_print w is) refused, well), rests_of c w b.read silent few);
+names_refuse c w p why b other spelt well refused silent few = record {
+  only = (by_names (tree_of c w p b spelt) other refused, silent);
+  how = inl ((by_names (tree_of c w p b spelt) other refused, well), rests_of c w b.read silent few);
   few_places = few_places c w.source few;
 }
 
 -- the source or the names stop the call
-pub program_stops : (c : Call) (w : PlainWords) (s : Stop) → Begins c w → task_of w ≡ task.Run → IsProgramStop w.source c.before c.after s → WritesNothing c
+pub program_stops : (c : Call) (w : PlainWords) (s : Stop) → Begins c w → task_of w ≢ task.Print → IsProgramStop w.source c.before c.after s → WritesNothing c
     → c.after.reached ≤ first_place w.source → Comes c (Err s)
 program_stops c w (stop.Refused why) b is (inl text) silent few = source_stops c w (stop.Refused why) b text silent few
 program_stops c w (stop.Refused why) b is (inr names) silent few = names_refuse c w names.0 why b is names.1 names.2 names.3 silent few
@@ -165,19 +183,48 @@ program_stops c w stop.WriteFault b is h silent few = absurd h
 program_stops c w (stop.TooDeep t l x f) b is h silent few = absurd h
 program_stops c w (stop.TooLarge k n) b is h silent few = absurd h
 
--- the names of the program that is run
-abbrev pub names_of : (c : Call) (w : PlainWords) (p : PlainTree) (free : List (List ℕ)) → Begins c w → task_of w ≡ task.Run → IsAccepted w.source c.before p → HasInputs p free → HasNames c
-names_of c w p free b is a inputs =
-    record { program = tree_of c w p b a.spelt; task = not_print w is; no_fault = a.no_fault; free = free; are_free = inputs }
+-- the names of the program that is run or judged
+abbrev pub names_of : (c : Call) (w : PlainWords) (p : PlainTree) (free : List (List ℕ)) → Begins c w → task_of w ≢ task.Print → IsAccepted w.source c.before p → HasInputs p free → HasNames c
+names_of c w p free b other a inputs =
+    record { program = tree_of c w p b a.spelt; task = other; no_fault = a.no_fault; free = free; are_free = inputs }
+
+-- a run is no printing, nor is a judgment
+pub run_not_print : (w : PlainWords) → task_of w ≡ task.Run → task_of w ≢ task.Print
+run_not_print w is = not_print w task.Run is (λ e. absurd (cc e))
+
+pub cycles_not_print : (w : PlainWords) → task_of w ≡ task.Cycles → task_of w ≢ task.Print
+cycles_not_print w is = not_print w task.Cycles is (λ e. absurd (cc e))
+
+-- the judgment stops the call
+pub judging_stops : (c : Call) (w : PlainWords) (p : PlainTree) (free : List (List ℕ)) (e : JudgeRefusal) → Begins c w → task_of w ≡ task.Cycles → IsAccepted w.source c.before p
+    → HasInputs p free → IsJudgeRefusal p e → WritesNothing c → c.after.reached ≤ first_place w.source → Comes c (Err (judge_stop e))
+judging_stops c w p free (judge.Outside at) b is a inputs refused silent few =
+    let names = names_of c w p free b (cycles_not_print w is) a inputs in
+    record {
+      only = (by_judging names is (record { refusal = judge.Outside at; is = refl; refused = refused }), silent);
+      how = inl ((by_judging names is (record { refusal = judge.Outside at; is = refl; refused = refused }), a.well_made), rests_of c w b.read silent few);
+      few_places = few_places c w.source few;
+    }
+judging_stops c w p free judge.TooMany b is a inputs refused silent few =
+    let names = names_of c w p free b (cycles_not_print w is) a inputs in
+    record {
+      only = (by_judging names is (record { refusal = judge.TooMany; is = refl; refused = refused }), silent);
+      how = inl ((by_judging names is (record { refusal = judge.TooMany; is = refl; refused = refused }), a.well_made), rests_of c w b.read silent few);
+      few_places = few_places c w.source few;
+    }
+judging_stops c w p free judge.NoMemory b is a inputs refused silent few =
+    record { only = tt; how = inl (tt, rests_of c w b.read silent few); few_places = few_places c w.source few }
 
 -- the words NAME=FILE stop the call
 pub given_stops : (c : Call) (w : PlainWords) (p : PlainTree) (free : List (List ℕ)) (s : Stop) → Begins c w → task_of w ≡ task.Run → IsAccepted w.source c.before p → HasInputs p free
     → IsRefusalOf (RefusesGiven free w.given) s → WritesNothing c → c.after.reached ≤ first_place w.source → Comes c (Err s)
-given_stops c w p free (stop.Refused why) b is a inputs refused silent few = record {
-  only = (by_given (names_of c w p free b is a inputs) refused, silent);
-  how = inl ((by_given (names_of c w p free b is a inputs) refused, a.well_made), rests_of c w b.read silent few);
-  few_places = few_places c w.source few;
-}
+given_stops c w p free (stop.Refused why) b is a inputs refused silent few =
+    let names = names_of c w p free b (run_not_print w is) a inputs in
+    record {
+      only = (by_given names is refused, silent);
+      how = inl ((by_given names is refused, a.well_made), rests_of c w b.read silent few);
+      few_places = few_places c w.source few;
+    }
 given_stops c w p free stop.NoMemory b is a inputs refused silent few =
     record { only = tt; how = inl (tt, rests_of c w b.read silent few); few_places = few_places c w.source few }
 given_stops c w p free stop.ReadFault b is a inputs refused silent few = absurd refused
@@ -251,45 +298,12 @@ not_built_stops c w read not_built silent none = record {
   few_places = omega (arith, none);
 }
 
--- no flat form is built
-flat_is_not : (t : Task) (f : Form) → f ≡ form.Flat → is_built t f ≡ false
-flat_is_not t f is = ap (is_built t) is
-
-pub flat_stops : (c : Call) (w : PlainWords) (f : Form) → c.asked ≡ Some w → f ≡ form_of w → f ≡ form.Flat → WritesNothing c → c.after.reached ≡ 0
-    → Comes c (Err (stop.Refused refusal.NotBuilt))
-flat_stops c w f read of flat silent none = not_built_stops c w read (flat_is_not (task_of w) (form_of w) (sym of ∙ flat)) silent none
-
--- what is asked for is neither a run nor a printing
+-- what is asked for is something that isn't built
 abbrev pub IsOther : Task → Type 0
-IsOther t = (t ≡ task.Columns) ⊎ ((t ≡ task.Cycles) ⊎ ((t ≡ task.Why) ⊎ ((t ≡ task.Check) ⊎ (t ≡ task.Flat))))
+IsOther t = (t ≡ task.Columns) ⊎ ((t ≡ task.Why) ⊎ ((t ≡ task.Check) ⊎ (t ≡ task.Flat)))
 
-other_is_not : (t : Task) (f : Form) → IsOther t → is_built t f ≡ false
-other_is_not task.Run f (inl is) = absurd (cc is)
-other_is_not task.Run f (inr (inl is)) = absurd (cc is)
-other_is_not task.Run f (inr (inr (inl is))) = absurd (cc is)
-other_is_not task.Run f (inr (inr (inr (inl is)))) = absurd (cc is)
-other_is_not task.Run f (inr (inr (inr (inr is)))) = absurd (cc is)
-other_is_not task.Print f (inl is) = absurd (cc is)
-other_is_not task.Print f (inr (inl is)) = absurd (cc is)
-other_is_not task.Print f (inr (inr (inl is))) = absurd (cc is)
-other_is_not task.Print f (inr (inr (inr (inl is)))) = absurd (cc is)
-other_is_not task.Print f (inr (inr (inr (inr is)))) = absurd (cc is)
-other_is_not task.Columns form.Text is = refl
-other_is_not task.Columns form.Made is = refl
-other_is_not task.Columns form.Flat is = refl
-other_is_not task.Cycles form.Text is = refl
-other_is_not task.Cycles form.Made is = refl
-other_is_not task.Cycles form.Flat is = refl
-other_is_not task.Why form.Text is = refl
-other_is_not task.Why form.Made is = refl
-other_is_not task.Why form.Flat is = refl
-other_is_not task.Check form.Text is = refl
-other_is_not task.Check form.Made is = refl
-other_is_not task.Check form.Flat is = refl
-other_is_not task.Flat form.Text is = refl
-other_is_not task.Flat form.Made is = refl
-other_is_not task.Flat form.Flat is = refl
-
-pub others_stop : (c : Call) (w : PlainWords) (t : Task) → c.asked ≡ Some w → t ≡ task_of w → IsOther t → WritesNothing c → c.after.reached ≡ 0
-    → Comes c (Err (stop.Refused refusal.NotBuilt))
-others_stop c w t read of other silent none = not_built_stops c w read (other_is_not (task_of w) (form_of w) (subst IsOther of other)) silent none
+pub other_is_not : (t : Task) (f : Form) → IsOther t → is_built t f ≡ false
+other_is_not t f (inl is) = ap (λ x. is_built x f) is
+other_is_not t f (inr (inl is)) = ap (λ x. is_built x f) is
+other_is_not t f (inr (inr (inl is))) = ap (λ x. is_built x f) is
+other_is_not t f (inr (inr (inr is))) = ap (λ x. is_built x f) is

@@ -12,5 +12,6 @@ pub mod Asking
 pub mod Weights
 pub mod OneList
 pub mod Verdicts
+pub mod NoJudgment
 pub mod OneCall
 pub mod Meeting

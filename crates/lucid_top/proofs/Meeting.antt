@@ -7,30 +7,30 @@ use Rattle.lucid_ports.specs.Writing.{with_front}
 use Rattle.lucid_ports.specs.declared.run.RunFault.TheVariants as fault
 use Rattle.lucid_tree.specs.Tree.{PlainTree}
 use Rattle.lucid_tree.specs.WellMade.{IsWellMade}
-use Rattle.lucid_print.specs.Canonical.{canonical}
 use Rattle.lucid_words.specs.Asked.{PlainWords}
 use Rattle.lucid_session.specs.Runs.{Told}
 use Rattle.lucid_top.specs.declared.refusal.Refusal.{Refusal}
 use Rattle.lucid_top.specs.declared.refusal.Refusal.TheVariants as refusal
+use Rattle.lucid_top.specs.declared.stop.Done.TheVariants as done
 use Rattle.lucid_top.specs.declared.stop.Stop.TheVariants as stop
 use Rattle.lucid_top.specs.declared.status.Status.{Status}
 use Rattle.lucid_top.specs.Status.{Outcome}
 use Rattle.lucid_top.specs.Call.{Call}
 use Rattle.lucid_top.specs.Tasks.{task_of, form_of, is_built}
-use Rattle.lucid_top.specs.Telling.{Tells, WritesFront}
-use Rattle.lucid_top.specs.Stages.{Asks, IsPrinted, IsRun, Refuses, by_words, by_task, by_text, by_names, by_given}
+use Rattle.lucid_top.specs.Telling.{Tells}
+use Rattle.lucid_top.specs.Stages.{Asks, IsWriting, IsTextFor, prints, judges, IsRun, Refuses, by_words, by_task, by_text, by_names, by_judging, by_given}
 use Rattle.lucid_top.specs.Runs.{Program, first_place, program_of, unread_place, view_of, RanSo}
-use Rattle.lucid_top.specs.Clauses.{WritesNothing, TellsSource, ReadFails, ComesOnly, IsRefusedSo, Prints, MeetsClauses}
-use Rattle.lucid_top.specs.Coming.{Rests, StopsEarly, EndsRun, EndsPrinting, Comes}
+use Rattle.lucid_top.specs.Clauses.{WritesNothing, TellsSource, ReadFails, ComesOnly, IsRefusedSo, Writes, MeetsClauses}
+use Rattle.lucid_top.specs.Coming.{Rests, StopsEarly, EndsRun, EndsWriting, Comes}
 use Rattle.lucid_top.proofs.RunEnds.{in_range}
 use Rattle.lucid_top.proofs.Begun.{ConsumesNothing, ran_with, never_read, never_made, same_contents}
-use Rattle.lucid_top.proofs.OneCall.{OneVerdict, not_asked, not_unbuilt, not_both, same_words, same_tree, same_free, one_refusal, run_not_refused, run_not_stopped, printed_not_refused}
+use Rattle.lucid_top.proofs.OneCall.{OneVerdict, not_asked, not_unbuilt, run_or_text, same_words, same_tree, same_free, same_text, one_refusal, run_not_refused, run_not_stopped, text_not_refused}
 
 -- how a call comes to its outcome
 abbrev pub How : Call → Outcome → Type 0
-How c o = (StopsEarly c o × Rests c) ⊎ (EndsRun c o ⊎ EndsPrinting c o)
+How c o = (StopsEarly c o × Rests c) ⊎ (EndsRun c o ⊎ EndsWriting c o)
 
--- by words that are refused, or don't ask for what is built, nothing is read, run or printed
+-- by words that are refused, or don't ask for what is built, nothing is read, run or written
 stopped_by_words : (c : Call) (o : Outcome) (why : Refusal) → (Asks c → ⊥) → ((v : Refusal) → Refuses c v → v ≡ why) → How c o → IsRefusedSo o why
 stopped_by_words c (Err (stop.Refused v)) why asks one (inl early) = inl (ap (λ x. Err (stop.Refused x)) (one v early.0.0))
 stopped_by_words c (Err stop.ReadFault) why asks one (inl early) = absurd (asks early.0)
@@ -40,7 +40,8 @@ stopped_by_words c (Err (stop.TooDeep t l x f)) why asks one (inl early) = absur
 stopped_by_words c (Err (stop.TooLarge k n)) why asks one (inl early) = absurd early.0
 stopped_by_words c (Ok done) why asks one (inl early) = absurd early.0
 stopped_by_words c o why asks one (inr (inl run)) = absurd (asks run.0.names.program.source.asks)
-stopped_by_words c o why asks one (inr (inr printing)) = absurd (asks printing.0.program.source.asks)
+stopped_by_words c o why asks one (inr (inr (prints t is, writing))) = absurd (asks t.source.asks)
+stopped_by_words c o why asks one (inr (inr (judges n is judged, writing))) = absurd (asks n.program.source.asks)
 
 -- where nothing of an input was consumed, nothing is
 rested : (c : Call) (r : IsRun c) → Rests c → (q : ℕ) → first_place (program_of r).words.source ≤ q → (b : Bool) → nat_lt q c.after.reached ≡ b → (old new : Contents)
@@ -55,13 +56,13 @@ consumes_nothing c r rests k n q is old new before after =
     let at = in_range (first_place (program_of r).words.source) (length (program_of r).free) k q is.1 in
     rested c r rests q (omega (arith, at.0)) (nat_lt q c.after.reached) refl old new before after
 
--- what is written of nothing
-front_of_nothing : (text : List ℕ) (before after : Told) → after.bytes ≡ before.bytes → WritesFront text before after
-front_of_nothing text before after silent = (0, omega arith, silent ∙ nothing before.bytes)
-  where
-    nothing : (o : Option (List ℕ)) → o ≡ with_front 0 text o
-    nothing None = refl
-    nothing (Some bytes) = ap Some (sym (append-nil bytes))
+-- texts of one kind are texts of another
+as_text : (c : Call) (o : Outcome) (P Q : List ℕ → Type 0) → ((text : List ℕ) → P text → Q text) → Writes c o P → Writes c o Q
+as_text c o P Q h w = record {
+  front = elim w.front [ inl silent ↦ inl silent | inr some ↦ inr (some.0, h some.0 some.1, some.2) ];
+  whole = λ is. let some = w.whole is in (some.0, h some.0 some.1, some.2);
+  complete = w.complete;
+}
 
 -- the program of these words, with this tree and these free names
 abbrev program_with : PlainWords → PlainTree → List (List ℕ) → Program
@@ -81,13 +82,13 @@ module _ (l : OneVerdict) (c : Call) (told : TellsSource c) where
   first (Ok done) why refused no_read (inl early) = absurd early.0
   first o why refused no_read (inr (inl run)) =
       absurd (run_not_refused l c told run.0 why refused (λ n. same_free l c told run.0.names.program run.1 run.0.names n))
-  first o why refused no_read (inr (inr printing)) = absurd (printed_not_refused l c told printing.0 why refused)
+  first o why refused no_read (inr (inr writing)) = absurd (text_not_refused l c told writing.0 why refused)
 
   refused_silent : (o : Outcome) (why : Refusal) → Refuses c why → How c o → WritesNothing c
   refused_silent o why refused (inl early) = early.1.silent
   refused_silent o why refused (inr (inl run)) =
       absurd (run_not_refused l c told run.0 why refused (λ n. same_free l c told run.0.names.program run.1 run.0.names n))
-  refused_silent o why refused (inr (inr printing)) = absurd (printed_not_refused l c told printing.0 why refused)
+  refused_silent o why refused (inr (inr writing)) = absurd (text_not_refused l c told writing.0 why refused)
 
   -- the run of the code's program is the run of any
   same_program : (r q : IsRun c) → IsWellMade (program_of q).tree → program_of q ≡ program_of r
@@ -110,26 +111,19 @@ module _ (l : OneVerdict) (c : Call) (told : TellsSource c) where
   runs_so r (Err (stop.TooLarge k n)) only (inl early) = absurd early.0
   runs_so r (Ok done) only (inl early) = absurd early.0
   runs_so r o only (inr (inl run)) = subst (λ p. RanSo p.tree (view_of c p) o) (same_program r run.0 run.1) run.2
-  runs_so r o only (inr (inr printing)) = absurd (not_both r.names.program.source.asks printing.0.program.source.asks r.task printing.0.task)
+  runs_so r o only (inr (inr writing)) = absurd (run_or_text r writing.0)
 
-  prints_so : (p : IsPrinted c) (o : Outcome) → ComesOnly c o → How c o → Prints c o (canonical p.program.tree)
-  prints_so p (Err (stop.Refused v)) only (inl early) = absurd (printed_not_refused l c told p v early.0.0)
-  prints_so p (Err stop.ReadFault) only (inl early) = record {
-    front = front_of_nothing (canonical p.program.tree) c.out_before c.out_after early.1.silent;
-    whole = λ e. absurd (cc e);
-    complete = λ reads writes. absurd (reads only);
-  }
-  prints_so p (Err stop.NoMemory) only (inl early) = record {
-    front = front_of_nothing (canonical p.program.tree) c.out_before c.out_after early.1.silent;
-    whole = λ e. absurd (cc e);
-    complete = λ reads writes. inr refl;
-  }
-  prints_so p (Err stop.WriteFault) only (inl early) = absurd early.0
-  prints_so p (Err (stop.TooDeep t d x f)) only (inl early) = absurd early.0
-  prints_so p (Err (stop.TooLarge k n)) only (inl early) = absurd early.0
-  prints_so p (Ok done) only (inl early) = absurd early.0
-  prints_so p o only (inr (inl run)) = absurd (not_both run.0.names.program.source.asks p.program.source.asks run.0.task p.task)
-  prints_so p o only (inr (inr printing)) = subst (λ t. Prints c o (canonical t)) (same_tree l c told printing.0.program p.program) printing.1
+  writes_so : (x : IsWriting c) (o : Outcome) → ComesOnly c o → How c o → Writes c o (IsTextFor x)
+  writes_so x (Err (stop.Refused v)) only (inl early) = absurd (text_not_refused l c told x v early.0.0)
+  writes_so x (Err stop.ReadFault) only (inl early) =
+      record { front = inl early.1.silent; whole = λ e. absurd (cc e); complete = λ reads writes. absurd (reads only) }
+  writes_so x (Err stop.NoMemory) only (inl early) = record { front = inl early.1.silent; whole = λ e. absurd (cc e); complete = λ reads writes. inr refl }
+  writes_so x (Err stop.WriteFault) only (inl early) = absurd early.0
+  writes_so x (Err (stop.TooDeep t d y f)) only (inl early) = absurd early.0
+  writes_so x (Err (stop.TooLarge k n)) only (inl early) = absurd early.0
+  writes_so x (Ok done) only (inl early) = absurd early.0
+  writes_so x o only (inr (inl run)) = absurd (run_or_text run.0 x)
+  writes_so x o only (inr (inr writing)) = as_text c o (IsTextFor writing.0) (IsTextFor x) (same_text l c told writing.0 x) writing.1
 
 -- a read fault is counted
 counted : (c : Call) (o : Outcome) → ComesOnly c o → (ReadFails c → ⊥) → o ≡ Err stop.ReadFault → ⊥
@@ -141,19 +135,21 @@ only_usage c none v (by_words none') = refl
 only_usage c none v (by_task u read not_built) = absurd (cc (none, read))
 only_usage c none v (by_text s refused) = absurd (not_asked s.asks none)
 only_usage c none v (by_names t other refused) = absurd (not_asked t.source.asks none)
-only_usage c none v (by_given n refused) = absurd (not_asked n.program.source.asks none)
+only_usage c none v (by_judging n is refused) = absurd (not_asked n.program.source.asks none)
+only_usage c none v (by_given n is refused) = absurd (not_asked n.program.source.asks none)
 
 only_unbuilt : (c : Call) (w : PlainWords) → c.asked ≡ Some w → is_built (task_of w) (form_of w) ≡ false → (v : Refusal) → Refuses c v → v ≡ refusal.NotBuilt
 only_unbuilt c w read not_built v (by_words none) = absurd (cc (none, read))
 only_unbuilt c w read not_built v (by_task u read' not_built') = refl
 only_unbuilt c w read not_built v (by_text s refused) = absurd (not_unbuilt s.asks w read not_built)
 only_unbuilt c w read not_built v (by_names t other refused) = absurd (not_unbuilt t.source.asks w read not_built)
-only_unbuilt c w read not_built v (by_given n refused) = absurd (not_unbuilt n.program.source.asks w read not_built)
+only_unbuilt c w read not_built v (by_judging n is refused) = absurd (not_unbuilt n.program.source.asks w read not_built)
+only_unbuilt c w read not_built v (by_given n is refused) = absurd (not_unbuilt n.program.source.asks w read not_built)
 
-silent_or : (c : Call) (o : Outcome) → How c o → WritesNothing c ⊎ (IsRun c ⊎ IsPrinted c)
+silent_or : (c : Call) (o : Outcome) → How c o → WritesNothing c ⊎ (IsRun c ⊎ IsWriting c)
 silent_or c o (inl early) = inl early.1.silent
 silent_or c o (inr (inl run)) = inr (inl run.0)
-silent_or c o (inr (inr printing)) = inr (inr printing.0)
+silent_or c o (inr (inr writing)) = inr (inr writing.0)
 
 pub meets : OneVerdict → (c : Call) (before after : Told) (o : Outcome) (s : Status) → Comes c o → Tells o s before after → MeetsClauses c before after s
 meets l c before after o s h tells = record {
@@ -168,6 +164,6 @@ meets l c before after o s h tells = record {
   };
   silent = silent_or c o h.how;
   headline = λ r told. runs_so l c told r o h.only h.how;
-  printed = λ p told. prints_so l c told p o h.only h.how;
+  written = λ x told. writes_so l c told x o h.only h.how;
   few_places = h.few_places;
 }

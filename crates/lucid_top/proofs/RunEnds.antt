@@ -27,7 +27,7 @@ use Rattle.lucid_top.specs.Running.{RunComesOnly}
 use Rattle.lucid_top.specs.Clauses.{ComesOnly}
 use Rattle.lucid_top.specs.Coming.{Comes}
 use Rattle.lucid_top.proofs.Pieces.{rises_from}
-use Rattle.lucid_top.proofs.Ending.{Begins, names_of, first_place_le}
+use Rattle.lucid_top.proofs.Ending.{Begins, names_of, run_not_print, first_place_le}
 use Rattle.lucid_top.proofs.Views.{TellAlike, ran_alike}
 
 -- a number of a range
@@ -124,7 +124,7 @@ tells_alike c w p free v u first kept kept' fresh reached same mono = record {
 run_only : (c : Call) (r : IsRun c) (u : World) (o : Outcome) → c.before.faults ≤ u.faults → u.faults ≤ c.after.faults
     → RunComesOnly (program_of r).words (program_of r).free u.faults c.after.faults c.out_before.faults c.out_after.faults o → ComesOnly c o
 run_only c r u (Ok (done.Ran summary stats)) le mono h = (r, h.0, h.1)
-run_only c r u (Ok done.Printed) le mono h = absurd h
+run_only c r u (Ok done.Written) le mono h = absurd h
 run_only c r u (Err (stop.Refused why)) le mono h = absurd h
 run_only c r u (Err stop.ReadFault) le mono h = rises_from c.before.faults u.faults c.after.faults le mono h
 run_only c r u (Err stop.WriteFault) le mono h = h
@@ -147,7 +147,7 @@ pub record Ended (c : Call) (w : PlainWords) (p : PlainTree) (free : List (List 
 pub runs : (c : Call) (w : PlainWords) (p : PlainTree) (free : List (List ℕ)) (v u : World) (numbers : List ℕ) (o : Outcome) → Begins c w → task_of w ≡ task.Run
     → IsAccepted w.source c.before p → HasInputs p free → FitsGiven free w.given → Ended c w p free v u numbers o → Comes c o
 runs c w p free v u numbers o b is a inputs fits e =
-    let r : IsRun c = record { names = names_of c w p free b is a inputs; task = is; fits = fits } in
+    let r : IsRun c = record { names = names_of c w p free b (run_not_print w is) a inputs; task = is; fits = fits } in
     let long : length (files_for free w.given) ≡ length free = files_long free w.given in
     let places : numbers ≡ range_with_len (first_place w.source) (length free) =
     e.inputs.numbers_are ∙ ap (λ n. range_with_len n (length (files_for free w.given))) e.first ∙ ap (range_with_len (first_place w.source)) long in

@@ -1,7 +1,6 @@
 -- The clauses of the command: what holds of a call and its status.
 use Rattle.std.specs.Prelude.{◌≡◌, ℕ, ◌≤◌, ◌⊎◌, List, Some, None, Ok, Err, false, slice_get}
 use Rattle.lucid_ports.specs.Faults.{Rises}
-use Rattle.lucid_print.specs.Canonical.{canonical}
 use Rattle.lucid_words.specs.Asked.{PlainWords}
 use Rattle.lucid_session.specs.Runs.{Told}
 use Rattle.lucid_top.specs.declared.refusal.Refusal.{Refusal}
@@ -12,8 +11,9 @@ use Rattle.lucid_top.specs.declared.stop.Stop.TheVariants as stop
 use Rattle.lucid_top.specs.Status.{Outcome}
 use Rattle.lucid_top.specs.Call.{Call}
 use Rattle.lucid_top.specs.Tasks.{task_of, form_of, is_built, wants_figures}
-use Rattle.lucid_top.specs.Telling.{Tells, WritesWhole, WritesFront}
-use Rattle.lucid_top.specs.Stages.{IsTold, Asks, IsPrinted, IsRun, Refuses}
+use Rattle.lucid_top.specs.Telling.{Tells}
+use Rattle.lucid_top.specs.Writing.{WritesSome, WritesSomeFront}
+use Rattle.lucid_top.specs.Stages.{IsTold, Asks, IsWriting, IsTextFor, IsRun, Refuses}
 use Rattle.lucid_top.specs.Runs.{most_places, program_of, view_of, RanSo}
 use Rattle.lucid_top.specs.Running.{HoldsWithin}
 
@@ -37,7 +37,7 @@ TellsSource c = (a : Asks c) → IsTold a.words.source c.before
 abbrev pub ComesOnly : Call → Outcome → Type 0
 ComesOnly c (Ok (done.Ran summary stats)) =
     (r : IsRun c) × (stats ≡ wants_figures (program_of r).words) × HoldsWithin (program_of r).words summary.held
-ComesOnly c (Ok done.Printed) = IsPrinted c
+ComesOnly c (Ok done.Written) = IsWriting c
 ComesOnly c (Err (stop.Refused why)) = Refuses c why × WritesNothing c
 ComesOnly c (Err stop.ReadFault) = ReadFails c
 ComesOnly c (Err stop.WriteFault) = WriteFails c
@@ -58,11 +58,12 @@ pub record RefusedWhere (c : Call) (o : Outcome) : Type 0 where
   -- However such a call ends, it writes nothing.
   pub silent : (why : Refusal) → Refuses c why → TellsSource c → WritesNothing c
 
--- The text is printed: whole, or a front of it. Less than the whole is printed only where a call failed or there was no memory.
-pub record Prints (c : Call) (o : Outcome) (text : List ℕ) : Type 0 where
-  pub front : WritesFront text c.out_before c.out_after
-  pub whole : o ≡ Ok done.Printed → WritesWhole text c.out_before c.out_after
-  pub complete : (ReadFails c → ⊥) → (WriteFails c → ⊥) → (o ≡ Ok done.Printed) ⊎ (o ≡ Err stop.NoMemory)
+-- A text of a kind is written: whole, or a front of it, or nothing. Less than the whole is written only where a call failed or there was no
+-- memory.
+pub record Writes (c : Call) (o : Outcome) (IsText : List ℕ → Type 0) : Type 0 where
+  pub front : WritesNothing c ⊎ WritesSomeFront IsText c.out_before c.out_after
+  pub whole : o ≡ Ok done.Written → WritesSome IsText c.out_before c.out_after
+  pub complete : (ReadFails c → ⊥) → (WriteFails c → ⊥) → (o ≡ Ok done.Written) ⊎ (o ≡ Err stop.NoMemory)
 
 -- The clauses, of a call, what its report tells before and after, and its status. They are said of one outcome, of which the status and
 -- the line of the report are told.
@@ -72,11 +73,11 @@ pub record MeetsClauses (c : Call) (report_before report_after : Told) (s : Stat
   -- When each outcome comes; and that a refusal comes wherever it is the first.
   pub comes_only : ComesOnly c outcome
   pub refused_where : RefusedWhere c outcome
-  -- Nothing is written but by a run or a printing.
-  pub silent : WritesNothing c ⊎ (IsRun c ⊎ IsPrinted c)
+  -- Nothing is written but by a run, or where a text is asked for.
+  pub silent : WritesNothing c ⊎ (IsRun c ⊎ IsWriting c)
   -- The headline: a program that is accepted is run. What is written are the values of its least fixed point, in order and without gaps.
   pub headline : (r : IsRun c) → TellsSource c → RanSo (program_of r).tree (view_of c (program_of r)) outcome
-  -- A source that spells a tree is printed.
-  pub printed : (p : IsPrinted c) → TellsSource c → Prints c outcome (canonical p.program.tree)
+  -- Where a text is asked for, of the tree that the source spells, that text is written.
+  pub written : (x : IsWriting c) → TellsSource c → Writes c outcome (IsTextFor x)
   -- No more places are reached than a source and its free names can need.
   pub few_places : c.after.reached ≤ most_places

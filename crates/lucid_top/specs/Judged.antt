@@ -1,5 +1,5 @@
 -- What becomes of a source: the scanner or the parser refuses its text, or it spells a tree; then the names of the tree are refused, or
--- none is at fault.
+-- none is at fault; and then its judgment may be refused.
 use Rattle.std.specs.Prelude.{◌≡◌, ℕ, ◌≤◌, List, length}
 use Rattle.lucid_tree.specs.Tree.{PlainTree}
 use Rattle.lucid_tree.specs.WellMade.{depth}
@@ -10,10 +10,14 @@ use Rattle.lucid_scan.specs.Refusals.{Refuses, most_source_bytes}
 use Rattle.lucid_parse.specs.declared.refusal.ParseRefusal.{ParseRefusal}
 use Rattle.lucid_parse.specs.Spelled.{SpellsTree, IsRefused}
 use Rattle.lucid_scope.specs.declared.refusal.ScopeRefusal.{ScopeRefusal}
-use Rattle.lucid_scope.specs.Bindings.{IsLeastFault, AreInputs}
+use Rattle.lucid_scope.specs.Bindings.{IsLeastFault, AreInputs, IsResolved}
+use Rattle.lucid_scope.specs.Scoped.{scoped_tree, scoped_inputs, scoped_binding}
+use Rattle.lucid_scope.specs.declared.scoped.Scoped.{Scoped}
 use Rattle.lucid_top.specs.declared.refusal.Refusal.{Refusal}
 use Rattle.lucid_top.specs.declared.stop.Stop.TheVariants as stop
-use Rattle.lucid_top.specs.Refusals.{scan_stop, parse_stop, scope_stop}
+use Rattle.lucid_cycles.specs.declared.judgment.JudgeRefusal.{JudgeRefusal}
+use Rattle.lucid_cycles.specs.Judgments.{IsJudgeRefusal}
+use Rattle.lucid_top.specs.Refusals.{scan_stop, parse_stop, scope_stop, judge_stop}
 
 -- The source isn't too long, and these are its tokens.
 pub record HasTokens (source : List ℕ) (tokens : List Token) : Type 0 where
@@ -42,6 +46,16 @@ pub record RefusesNames (p : PlainTree) (why : Refusal) : Type 0 where
   pub fault : ScopeRefusal
   pub is : scope_stop fault ≡ stop.Refused why
   pub least : IsLeastFault p fault
+
+-- The inputs are the tree's free names, and each name belongs to what is told of it.
+abbrev pub AreResolved : Scoped → Type 0
+AreResolved s = ∥ IsResolved (scoped_tree s) (scoped_inputs s) (scoped_binding s) ∥₁
+
+-- The judgment of a tree is refused so: by what isn't judged at the least place, or by too many names.
+pub record RefusesJudging (p : PlainTree) (why : Refusal) : Type 0 where
+  pub refusal : JudgeRefusal
+  pub is : judge_stop refusal ≡ stop.Refused why
+  pub refused : IsJudgeRefusal p refusal
 
 -- The free names of a tree are these, in the order of their first places.
 abbrev pub HasInputs : PlainTree → List (List ℕ) → Type 0

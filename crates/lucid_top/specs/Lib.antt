@@ -4,13 +4,14 @@ pub mod Status
 pub mod Lines
 pub mod Telling
 pub mod Judged
+pub mod Texts
 pub mod Files
 pub mod Call
 pub mod Stages
 pub mod Places
 pub mod Runs
 pub mod Running
-pub mod Printing
+pub mod Writing
 pub mod Clauses
 pub mod Coming
 pub mod Laws

@@ -33,6 +33,8 @@ refusal_line (refusal.NotFunction at) = line_at (codes "not a function at ") at
 refusal_line (refusal.IsFunction at) = line_at (codes "function without arguments at ") at
 refusal_line (refusal.Arity at wanted given) =
     codes "wrong number of arguments at " ++ (decimal at ++ (codes ": " ++ (decimal wanted ++ (codes " wanted, " ++ (decimal given ++ codes " given\n")))))
+refusal_line (refusal.NotJudged at) = line_at (codes "not judged at ") at
+refusal_line refusal.TooManyNames = codes "too many names\n"
 refusal_line (refusal.NotFree name) = codes "no input is named " ++ (name ++ codes "\n")
 refusal_line (refusal.GivenTwice name) = name ++ codes " is given twice\n"
 refusal_line refusal.NoInput = codes "no input for two names\n"
@@ -58,7 +60,7 @@ stop_line stop.NoMemory = codes "no memory\n"
 -- the line of an outcome, or nothing where it has none
 abbrev pub outcome_line : Outcome → List ℕ
 outcome_line (Ok (done.Ran summary stats)) = if stats then figures_line summary else []
-outcome_line (Ok done.Printed) = []
+outcome_line (Ok done.Written) = []
 outcome_line (Err why) = stop_line why
 
 -- the parts of a line, one behind the other

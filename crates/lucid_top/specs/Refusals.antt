@@ -1,4 +1,4 @@
--- The refusals of the words, the scanner, the parser and the scopes, as a call's own. Want of memory is no refusal.
+-- The refusals of the words, the scanner, the parser, the scopes and the judgment of cycles, as a call's own. Want of memory is no refusal.
 use Rattle.lucid_words.specs.declared.WordsRefusal.{WordsRefusal}
 use Rattle.lucid_words.specs.declared.WordsRefusal.TheVariants as words
 use Rattle.lucid_scan.specs.declared.refusal.ScanRefusal.{ScanRefusal}
@@ -7,6 +7,8 @@ use Rattle.lucid_parse.specs.declared.refusal.ParseRefusal.{ParseRefusal}
 use Rattle.lucid_parse.specs.declared.refusal.ParseRefusal.TheVariants as parse
 use Rattle.lucid_scope.specs.declared.refusal.ScopeRefusal.{ScopeRefusal}
 use Rattle.lucid_scope.specs.declared.refusal.ScopeRefusal.TheVariants as scope
+use Rattle.lucid_cycles.specs.declared.judgment.JudgeRefusal.{JudgeRefusal}
+use Rattle.lucid_cycles.specs.declared.judgment.JudgeRefusal.TheVariants as judge
 use Rattle.lucid_top.specs.declared.refusal.Refusal.{Refusal}
 use Rattle.lucid_top.specs.declared.refusal.Refusal.TheVariants as refusal
 use Rattle.lucid_top.specs.declared.stop.Stop.{Stop}
@@ -35,6 +37,11 @@ scope_stop (scope.NotFunction at) = stop.Refused (refusal.NotFunction at)
 scope_stop (scope.IsFunction at) = stop.Refused (refusal.IsFunction at)
 scope_stop (scope.Arity at wanted given) = stop.Refused (refusal.Arity at wanted given)
 scope_stop scope.NoMemory = stop.NoMemory
+
+abbrev pub judge_stop : JudgeRefusal → Stop
+judge_stop (judge.Outside at) = stop.Refused (refusal.NotJudged at)
+judge_stop judge.TooMany = stop.Refused refusal.TooManyNames
+judge_stop judge.NoMemory = stop.NoMemory
 
 -- The call stops by a refusal of which this holds, or for want of memory.
 abbrev pub IsRefusalOf : (Refusal → Type 0) → Stop → Type 0

@@ -19,7 +19,7 @@ HoldsWithin w held = IfSome (policy_named w.policy w.age w.room).room (λ most. 
 -- of the output.
 abbrev pub RunComesOnly : PlainWords → (free : List (List ℕ)) → (faults faults' out_faults out_faults' : ℕ) → Outcome → Type 0
 RunComesOnly w free f f' g g' (Ok (done.Ran summary stats)) = (stats ≡ wants_figures w) × HoldsWithin w summary.held
-RunComesOnly w free f f' g g' (Ok done.Printed) = ⊥
+RunComesOnly w free f f' g g' (Ok done.Written) = ⊥
 RunComesOnly w free f f' g g' (Err (stop.Refused why)) = ⊥
 RunComesOnly w free f f' g g' (Err stop.ReadFault) = Rises f f'
 RunComesOnly w free f f' g g' (Err stop.WriteFault) = Rises g g'

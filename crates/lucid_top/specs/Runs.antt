@@ -112,7 +112,7 @@ tree_counted e = record {
 -- how a run ended that has this outcome; none for an outcome that a run doesn't have
 abbrev pub run_result : Outcome → Option (Result Summary RunFault)
 run_result (Ok (done.Ran summary stats)) = Some (Ok summary)
-run_result (Ok done.Printed) = None
+run_result (Ok done.Written) = None
 run_result (Err (stop.Refused why)) = None
 run_result (Err stop.ReadFault) = Some (Err fault.ReadFault)
 run_result (Err stop.WriteFault) = Some (Err fault.WriteFault)

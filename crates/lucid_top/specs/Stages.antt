@@ -11,7 +11,10 @@ use Rattle.lucid_top.specs.declared.refusal.Refusal.TheVariants as refusal
 use Rattle.lucid_top.specs.declared.task.Task.TheVariants as task
 use Rattle.lucid_top.specs.Call.{Call}
 use Rattle.lucid_top.specs.Tasks.{task_of, form_of, is_built}
-use Rattle.lucid_top.specs.Judged.{Spelt, RefusesText, RefusesNames, HasInputs}
+use Rattle.lucid_print.specs.Canonical.{canonical}
+use Rattle.lucid_cycles.specs.Judged.{IsJudged}
+use Rattle.lucid_top.specs.Judged.{Spelt, RefusesText, RefusesNames, RefusesJudging, HasInputs}
+use Rattle.lucid_top.specs.Texts.{IsJudgmentLine}
 use Rattle.lucid_top.specs.Files.{RefusesGiven, FitsGiven}
 
 -- The source: what the file of its name holds, where that is told; or the text of a made program.
@@ -42,12 +45,7 @@ pub record HasTree (c : Call) : Type 0 where
   pub tree : PlainTree
   pub spelt : Spelt source.bytes tree
 
--- The tree is printed.
-pub record IsPrinted (c : Call) : Type 0 where
-  pub program : HasTree c
-  pub task : task_of program.source.asks.words ≡ task.Print
-
--- Or its names are looked at, and none is at fault.
+-- But for a printing, the names of the tree are looked at, and none is at fault.
 pub record HasNames (c : Call) : Type 0 where
   pub program : HasTree c
   pub task : task_of program.source.asks.words ≢ task.Print
@@ -55,7 +53,17 @@ pub record HasNames (c : Call) : Type 0 where
   pub free : List (List ℕ)
   pub are_free : HasInputs program.tree free
 
--- The words give each free name a file, but for one at most. The program is run.
+-- A text is written, and nothing is run: the canonical source; or the line of the judgment, where the tree is judged.
+pub data IsWriting (c : Call) : Type 0 where
+  prints : (t : HasTree c) → task_of t.source.asks.words ≡ task.Print → IsWriting c
+  judges : (n : HasNames c) → task_of n.program.source.asks.words ≡ task.Cycles → IsJudged n.program.tree → IsWriting c
+
+-- It is such a text.
+abbrev pub IsTextFor : {c : Call} → IsWriting c → (text : List ℕ) → Type 0
+IsTextFor (prints t task) text = text ≡ canonical t.tree
+IsTextFor (judges n task judged) text = IsJudgmentLine n.program.tree text
+
+-- Or the program is run: the words give each free name a file, but for one at most.
 pub record IsRun (c : Call) : Type 0 where
   pub names : HasNames c
   pub task : task_of names.program.source.asks.words ≡ task.Run
@@ -67,4 +75,6 @@ pub data Refuses (c : Call) : (why : Refusal) → Type 0 where
   by_task : (w : PlainWords) → c.asked ≡ Some w → is_built (task_of w) (form_of w) ≡ false → Refuses c refusal.NotBuilt
   by_text : {why : Refusal} → (s : HasSource c) → RefusesText s.bytes why → Refuses c why
   by_names : {why : Refusal} → (t : HasTree c) → task_of t.source.asks.words ≢ task.Print → RefusesNames t.tree why → Refuses c why
-  by_given : {why : Refusal} → (n : HasNames c) → RefusesGiven n.free n.program.source.asks.words.given why → Refuses c why
+  by_judging : {why : Refusal} → (n : HasNames c) → task_of n.program.source.asks.words ≡ task.Cycles → RefusesJudging n.program.tree why → Refuses c why
+  by_given : {why : Refusal} → (n : HasNames c) → task_of n.program.source.asks.words ≡ task.Run
+      → RefusesGiven n.free n.program.source.asks.words.given why → Refuses c why

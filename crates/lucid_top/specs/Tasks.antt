@@ -26,11 +26,16 @@ form_for (file name) false = form.Text
 abbrev pub form_of : PlainWords → Form
 form_of w = form_for w.source w.from_flat
 
--- What is built so far: runs and printing, of texts.
+-- whether a source is a text
+abbrev pub is_text : Form → Bool
+is_text form.Flat = false
+is_text f = true
+
+-- What is built so far, of texts: runs, the canonical source and the judgment of cycles.
 abbrev pub is_built : Task → Form → Bool
-is_built t form.Flat = false
-is_built task.Run f = true
-is_built task.Print f = true
+is_built task.Run f = is_text f
+is_built task.Print f = is_text f
+is_built task.Cycles f = is_text f
 is_built t f = false
 
 abbrev pub is_made : PlainSource → Bool

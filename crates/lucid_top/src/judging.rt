@@ -4,7 +4,7 @@ ghost use Rattle.lucid_tree.specs.WellMade.{places, IsWellMade};
 ghost use Rattle.lucid_scan.specs.Refusals.{most_source_bytes};
 ghost use Rattle.lucid_scope.specs.Bindings.{HasNoFault};
 ghost use Rattle.lucid_scope.specs.Scoped.{scoped_tree};
-ghost use Rattle.lucid_top.specs.Judged.{Spelt, RefusesText, RefusesNames};
+ghost use Rattle.lucid_top.specs.Judged.{Spelt, RefusesText, RefusesNames, AreResolved};
 ghost use Rattle.lucid_top.specs.Refusals.{IsRefusalOf};
 
 use crate::stop::Stop;
@@ -26,13 +26,22 @@ pub fn read_tree(alloc: Global, source: &[u8]) -> Result<Tree, Stop>
     Ok(tree)
 }
 
+// What every tree tells that was resolved.
+fn are_resolved(scoped: &Scoped)
+    ensures { AreResolved scoped.now }
+{
+    scoped.inputs();
+}
+
 /// The tree with what its names belong to.
 pub fn resolve_names(alloc: Global, tree: &Tree) -> Result<Scoped, Stop>
     requires { IsWellMade tree.now }
     ensures tree { IfOk result (λ scoped. scoped_tree scoped ≡ tree.now) }
     ensures no_fault { OnOk result (HasNoFault tree.now) }
+    ensures resolved { IfOk result AreResolved }
     ensures refused { IfErr result (IsRefusalOf (RefusesNames tree.now)) }
 {
     let scoped = resolve(alloc, tree)?;
+    are_resolved(&scoped);
     Ok(scoped)
 }

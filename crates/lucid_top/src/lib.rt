@@ -1,4 +1,5 @@
-//! The command whole: it runs a pLucid program and writes the values of its stream, one a line, or prints its source.
+//! The command whole: it runs a pLucid program and writes the values of its stream, one a line; or it writes a text of the program, its
+//! canonical source or the judgment of its cycles.
 #![tactic(auto)]
 
 pub use crate::refusal::Refusal;
@@ -11,7 +12,6 @@ mod files;
 mod judging;
 mod laws;
 mod places;
-mod printing;
 mod refusal;
 mod report;
 mod running;
@@ -19,3 +19,4 @@ mod status;
 mod stop;
 mod task;
 mod top;
+mod writing;

@@ -30,6 +30,10 @@ pub enum Refusal {
     IsFunction { at: u32 },
     /// A call with another number of arguments than the function has parameters.
     Arity { at: u32, wanted: u32, given: u32 },
+    /// What isn't judged stands at the place.
+    NotJudged { at: u32 },
+    /// More plain names are defined than a judged program may have.
+    TooManyNames,
     /// A file is given for a name that isn't free.
     NotFree { name: Name },
     /// A file is given for a name for which an earlier word gave one.

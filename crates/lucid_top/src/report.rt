@@ -110,6 +110,8 @@ fn write_refusal<E: Sink>(report: &mut E, refusal: &Refusal) -> Result<(), PortF
             write_at(report, b"function without arguments at ", u64::from(*at))
         }
         Refusal::Arity { at, wanted, given } => write_arity(report, *at, *wanted, *given),
+        Refusal::NotJudged { at } => write_at(report, b"not judged at ", u64::from(*at)),
+        Refusal::TooManyNames => write_text(report, b"too many names\n"),
         Refusal::NotFree { name } => write_named(report, b"no input is named ", name, b"\n"),
         Refusal::GivenTwice { name } => write_named(report, b"", name, b" is given twice\n"),
         Refusal::NoInput => write_text(report, b"no input for two names\n"),
@@ -194,7 +196,7 @@ fn write_outcome<E: Sink>(report: &mut E, outcome: &Result<Done, Stop>) -> Resul
                 stats: true,
             },
         ) => write_figures(report, *summary),
-        Ok(Done::Ran { stats: false, .. } | Done::Printed) => Ok(()),
+        Ok(Done::Ran { stats: false, .. } | Done::Written) => Ok(()),
         Err(stop) => write_stop(report, stop),
     }
 }

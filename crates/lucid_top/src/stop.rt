@@ -1,9 +1,10 @@
 //! What comes of a call.
 ghost use Rattle.std.specs.Prelude.{◌≡◌};
 ghost use Rattle.lucid_top.specs.declared.stop.Stop.TheVariants.{NoMemory};
-ghost use Rattle.lucid_top.specs.Refusals.{words_stop, scan_stop, parse_stop, scope_stop};
+ghost use Rattle.lucid_top.specs.Refusals.{words_stop, scan_stop, parse_stop, scope_stop, judge_stop};
 
 use crate::refusal::Refusal;
+use lucid_cycles::JudgeRefusal;
 use lucid_parse::ParseRefusal;
 use lucid_ports::Summary;
 use lucid_scan::ScanRefusal;
@@ -17,8 +18,8 @@ use std::alloc::{AllocError, AllocFailed};
 pub enum Done {
     /// The program was run. `stats` says whether the summary is reported.
     Ran { summary: Summary, stats: bool },
-    /// The canonical source was printed.
-    Printed,
+    /// The text that is asked for was written.
+    Written,
 }
 
 /// Why a call ends before it has done what the words ask for.
@@ -112,6 +113,18 @@ impl From<ScopeRefusal> for Stop {
                 Stop::Refused(Refusal::Arity { at, wanted, given })
             }
             ScopeRefusal::NoMemory => Stop::NoMemory,
+        }
+    }
+}
+
+impl From<JudgeRefusal> for Stop {
+    ghost from_gives = { λ refusal stop. stop ≡ judge_stop refusal };
+
+    fn from(refusal: JudgeRefusal) -> Stop {
+        match refusal {
+            JudgeRefusal::Outside { at } => Stop::Refused(Refusal::NotJudged { at }),
+            JudgeRefusal::TooMany => Stop::Refused(Refusal::TooManyNames),
+            JudgeRefusal::NoMemory => Stop::NoMemory,
         }
     }
 }

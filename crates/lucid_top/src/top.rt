@@ -10,6 +10,7 @@ ghost use Rattle.lucid_top.specs.Call.{call, told};
 ghost use Rattle.lucid_top.specs.Tasks.{task_of, form_of, is_built};
 ghost use Rattle.lucid_top.specs.Runs.{first_place};
 ghost use Rattle.lucid_scope.specs.Scoped.{scoped_tree};
+ghost use Rattle.lucid_top.specs.Judged.{AreResolved};
 ghost use Rattle.lucid_top.specs.Places.{KeepsNames, SpeltBySource, IsAccepted, IsSourceStop, IsProgramStop};
 ghost use Rattle.lucid_top.specs.Coming.{Comes};
 ghost use Rattle.lucid_top.specs.Clauses.{MeetsClauses};
@@ -18,13 +19,14 @@ use crate::files::input_files;
 use crate::judging::{read_tree, resolve_names};
 use crate::laws::one_verdict;
 use crate::places::{reach_files, read_source};
-use crate::printing::print_program;
 use crate::refusal::Refusal;
 use crate::report::tell;
 use crate::running::run_program;
 use crate::status::Status;
 use crate::stop::{Done, Stop};
 use crate::task::{Form, Task};
+use crate::writing::{print_program, write_judgment};
+use lucid_cycles::judge;
 use lucid_ports::{Places, Sink};
 use lucid_scope::Scoped;
 use lucid_tree::Tree;
@@ -52,6 +54,7 @@ fn program_of<P: Places>(alloc: Global, words: &Words, places: &mut P) -> Result
     requires made { MadeIsFromTo 1 10000 words.now.source }
     requires none { (P.world places.old).reached ≡ 0 }
     ensures accepted { IfOk result (λ scoped. IsAccepted (plain_source words.now.source) (P.world places.old) (scoped_tree scoped)) }
+    ensures resolved { IfOk result AreResolved }
     ensures reached { OnOk result ((P.world places.new).reached ≡ first_place (plain_source words.now.source)) }
     ensures few { (P.world places.new).reached ≤ first_place (plain_source words.now.source) }
     ensures keeps { KeepsNames (P.world places.old) (P.world places.new) }
@@ -98,6 +101,24 @@ fn print_task<P: Places, K: Sink>(
     print_program(alloc, &tree, out)
 }
 
+// Judges the cycles of the program that the words name.
+fn cycles_task<P: Places, K: Sink>(
+    alloc: Global,
+    words: &Words,
+    places: &mut P,
+    out: &mut K,
+) -> Result<Done, Stop>
+    requires made { MadeIsFromTo 1 10000 words.now.source }
+    requires task { task_of (plain_words words.now) ≡ Task.Cycles }
+    requires built { is_built (task_of (plain_words words.now)) (form_of (plain_words words.now)) ≡ true }
+    requires none { (P.world places.old).reached ≡ 0 }
+    ensures { Comes (call (Some (plain_words words.now)) (P.world places.old) (P.world places.new) (told K.written K.faults out.old) (told K.written K.faults out.new)) result }
+{
+    let scoped = program_of(alloc, words, places)?;
+    let judgment = judge(alloc, &scoped)?;
+    write_judgment(alloc, &scoped, &judgment, out)
+}
+
 // Does what the words ask for.
 fn do_task<P: Places, K: Sink>(
     alloc: Global,
@@ -109,15 +130,15 @@ fn do_task<P: Places, K: Sink>(
     ensures { Comes (call (words_asked (map string_bytes words.now)) (P.world places.old) (P.world places.new) (told K.written K.faults out.old) (told K.written K.faults out.new)) result }
 {
     let words = read_words(alloc, words)?;
-    if Form::of(&words) == Form::Flat {
+    let task = Task::of(&words);
+    if !task.is_built(Form::of(&words)) {
         return Err(Stop::Refused(Refusal::NotBuilt));
     }
-    match Task::of(&words) {
+    match task {
         Task::Run => run_task(alloc, &words, places, out),
         Task::Print => print_task(alloc, &words, places, out),
-        Task::Columns | Task::Cycles | Task::Why | Task::Check | Task::Flat => {
-            Err(Stop::Refused(Refusal::NotBuilt))
-        }
+        Task::Cycles => cycles_task(alloc, &words, places, out),
+        Task::Columns | Task::Why | Task::Check | Task::Flat => unreachable!(),
     }
 }
 

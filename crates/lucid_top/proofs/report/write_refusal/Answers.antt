@@ -23,3 +23,9 @@ returns-in-GivenTwice g c = rw c.in-GivenTwice.is c.write_named-in-GivenTwice.en
 
 pub returns-in-NoInput : goal.returns-in-NoInput
 returns-in-NoInput g c = rw c.in-NoInput.is c.write_text-in-NoInput.ensures
+
+pub returns-in-NotJudged : goal.returns-in-NotJudged
+returns-in-NotJudged g c = rw (c.in-NotJudged.is, ← c.from-in-NotJudged.ensures) c.write_at-in-NotJudged.ensures
+
+pub returns-in-TooManyNames : goal.returns-in-TooManyNames
+returns-in-TooManyNames g c = rw c.in-TooManyNames.is c.write_text-in-TooManyNames.ensures

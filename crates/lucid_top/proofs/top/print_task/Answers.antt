@@ -2,7 +2,8 @@ use Rattle.std.proofs.Common.{Some, refl}
 use Rattle.std.proofs.lemmas.Result.{err_from_is_err_and}
 use Rattle.lucid_words.specs.Asked.{plain_words}
 use Rattle.lucid_top.specs.Call.{Call, call, told}
-use Rattle.lucid_top.proofs.Ending.{source_stops, prints}
+use Rattle.lucid_top.specs.Stages.{prints}
+use Rattle.lucid_top.proofs.Ending.{Begins, source_stops, tree_of, writes}
 use Rattle.lucid_top.proofs.top.print_task.Goals as goal
 
 pub returns-in_err-tree : goal.returns-in_err-tree
@@ -14,5 +15,6 @@ returns-in_err-tree g c =
 pub returns : goal.returns
 returns g c =
     let the_call : Call = call (Some (plain_words c.args.words.now)) (g.P.Places.world c.args.places.now) (g.P.Places.world c.tree_of.new.places) (told g.K.Sink.written g.K.Sink.faults c.args.out.now) (told g.K.Sink.written g.K.Sink.faults c.print_program.new.out) in
-    prints the_call (plain_words c.args.words.now) c.in_ok-tree.tree c.print_program.result (record { read = refl; built = c.requires.built }) c.requires.task c.in_ok-tree.ensures.spelt
+    let begins : Begins the_call (plain_words c.args.words.now) = record { read = refl; built = c.requires.built } in
+    writes the_call (plain_words c.args.words.now) (prints (tree_of the_call (plain_words c.args.words.now) c.in_ok-tree.tree begins c.in_ok-tree.ensures.spelt) c.requires.task) c.print_program.result
     c.in_ok-tree.ensures.few c.print_program.ensures

@@ -8,7 +8,7 @@ use Rattle.lucid_top.specs.Call.{Call, call, told}
 use Rattle.lucid_top.specs.Refusals.{IsRefusalOf}
 use Rattle.lucid_top.specs.Files.{RefusesGiven, FitsGiven, files_for}
 use Rattle.lucid_top.specs.Places.{AreFresh}
-use Rattle.lucid_top.proofs.Ending.{program_stops, given_stops, reaching_stops, inputs_of, first_place_le}
+use Rattle.lucid_top.proofs.Ending.{program_stops, run_not_print, given_stops, reaching_stops, inputs_of, first_place_le}
 use Rattle.lucid_top.proofs.RunEnds.{carried, refs_are, refs_long, files_long, reached_of, range_differs, all_unread, runs}
 use Rattle.lucid_top.proofs.top.run_task.Goals as goal
 
@@ -16,7 +16,7 @@ pub returns-in_err-scoped : goal.returns-in_err-scoped
 returns-in_err-scoped g c =
     let p = err_from_is_err_and c.from_residual.result c.from_residual.ensures.1 in
     let the_call : Call = call (Some (plain_words c.args.words.now)) (g.P.Places.world c.args.places.now) (g.P.Places.world c.program_of.new.places) (told g.K.Sink.written g.K.Sink.faults c.args.out.now) (told g.K.Sink.written g.K.Sink.faults c.args.out.now) in
-    rw (p.1, p.2) (program_stops the_call (plain_words c.args.words.now) c.in_err-scoped.field-0.0 (record { read = refl; built = c.requires.built }) c.requires.task c.in_err-scoped.ensures.stopped refl c.in_err-scoped.ensures.few)
+    rw (p.1, p.2) (program_stops the_call (plain_words c.args.words.now) c.in_err-scoped.field-0.0 (record { read = refl; built = c.requires.built }) (run_not_print (plain_words c.args.words.now) c.requires.task) c.in_err-scoped.ensures.stopped refl c.in_err-scoped.ensures.few)
 
 pub returns-in_err-files : goal.returns-in_err-files
 returns-in_err-files g c =

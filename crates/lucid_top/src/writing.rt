@@ -1,0 +1,51 @@
+//! The texts that are written of a program.
+ghost use Rattle.std.specs.Prelude.{◌≡◌};
+ghost use Rattle.lucid_tree.specs.WellMade.{IsWellMade};
+ghost use Rattle.lucid_print.specs.Canonical.{canonical};
+ghost use Rattle.lucid_scope.specs.Scoped.{scoped_tree};
+ghost use Rattle.lucid_cycles.specs.JudgmentLine.{judgment_line};
+ghost use Rattle.lucid_top.specs.Call.{told};
+ghost use Rattle.lucid_top.specs.Writing.{WritesOnly};
+
+use crate::stop::{Done, Stop};
+use lucid_cycles::Judgment;
+use lucid_ports::{PortFault, Sink, write_whole};
+use lucid_print::print_tree;
+use lucid_scope::Scoped;
+use lucid_tree::Tree;
+use std::alloc::Global;
+
+// Writes the text.
+fn write_out<K: Sink>(text: &[u8], out: &mut K) -> Result<Done, Stop>
+    ensures { WritesOnly (λ written. written ≡ text.now) (told K.written K.faults out.old) (told K.written K.faults out.new) result }
+{
+    match write_whole(out, text) {
+        Ok(()) => Ok(Done::Written),
+        Err(PortFault::Failed) => Err(Stop::WriteFault),
+        Err(PortFault::NoMemory) => Err(Stop::NoMemory),
+    }
+}
+
+/// Writes the canonical source.
+pub fn print_program<K: Sink>(alloc: Global, tree: &Tree, out: &mut K) -> Result<Done, Stop>
+    requires { IsWellMade tree.now }
+    ensures { WritesOnly (λ text. text ≡ canonical tree.now) (told K.written K.faults out.old) (told K.written K.faults out.new) result }
+{
+    let mut text = Vec::new(alloc);
+    print_tree(alloc, tree, &mut text)?;
+    write_out(&text, out)
+}
+
+/// Writes the line of a judgment.
+pub fn write_judgment<K: Sink>(
+    alloc: Global,
+    scoped: &Scoped,
+    judgment: &Judgment,
+    out: &mut K,
+) -> Result<Done, Stop>
+    ensures { WritesOnly (λ line. line ≡ judgment_line (scoped_tree scoped.now) judgment.now) (told K.written K.faults out.old) (told K.written K.faults out.new) result }
+{
+    let mut line = Vec::new(alloc);
+    judgment.show(alloc, scoped, &mut line)?;
+    write_out(&line, out)
+}
