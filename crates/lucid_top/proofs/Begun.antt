@@ -9,24 +9,24 @@ use Rattle.lucid_ports.specs.Faults.{Rises}
 use Rattle.lucid_ports.specs.declared.run.Summary.{Summary}
 use Rattle.lucid_ports.specs.declared.run.RunFault.{RunFault}
 use Rattle.lucid_ports.specs.declared.run.RunFault.TheVariants as fault
-use Rattle.lucid_tree.specs.Tree.{PlainTree}
 use Rattle.lucid_tree.specs.Levels.{Elements}
-use Rattle.lucid_session.specs.Subject.{Subject, stream_subject, tree_stream, no_lines}
+use Rattle.lucid_session.specs.Subject.{Subject, stream_subject, no_lines}
 use Rattle.lucid_session.specs.Runs.{RunView, IsInput, HasElements, Ran}
 use Rattle.lucid_session.specs.Figures.{Figures}
 use Rattle.lucid_top.specs.declared.stop.Stop.{Stop}
 use Rattle.lucid_top.specs.declared.stop.Stop.TheVariants as stop
 use Rattle.lucid_top.specs.Status.{Outcome}
-use Rattle.lucid_top.specs.Runs.{tree_counted, run_result, RanSo}
+use Rattle.lucid_top.specs.Programs.{Program, program_stream, program_counted}
+use Rattle.lucid_top.specs.Runs.{run_result, RanSo}
 
 -- what is promised of the result of a run
-abbrev pub RanWith : PlainTree → RunView → Result Summary RunFault → Type 0
-RanWith e r result = (b : Elements) → HasElements r b → Ran (stream_subject (tree_stream e)) b r result × Figures (tree_counted e) b r result
+abbrev pub RanWith : Program → RunView → Result Summary RunFault → Type 0
+RanWith p r result = (b : Elements) → HasElements r b → Ran (stream_subject (program_stream p)) b r result × Figures (program_counted p) b r result
 
 -- the outcome of that result
-pub ran_with : (e : PlainTree) (r : RunView) (o : Outcome) (result : Result Summary RunFault) → run_result o ≡ Some result → RanWith e r result → RanSo e r o
-ran_with e r o result is h b has =
-    subst (λ x. IsSomeAnd x (λ y. Ran (stream_subject (tree_stream e)) b r y × Figures (tree_counted e) b r y)) (sym is) (h b has)
+pub ran_with : (p : Program) (r : RunView) (o : Outcome) (result : Result Summary RunFault) → run_result o ≡ Some result → RanWith p r result → RanSo p r o
+ran_with p r o result is h b has =
+    subst (λ x. IsSomeAnd x (λ y. Ran (stream_subject (program_stream p)) b r y × Figures (program_counted p) b r y)) (sym is) (h b has)
 
 with_nothing : (o : Option (List ℕ)) → o ≡ with_all [] o
 with_nothing None = refl
@@ -63,13 +63,13 @@ unmade S b r silent nothing = record {
   too_large = tt;
 }
 
-pub never_read : (e : PlainTree) (r : RunView) → r.out_after.bytes ≡ r.out_before.bytes → ConsumesNothing r → Rises r.before.faults r.after.faults
-    → RanWith e r (Err fault.ReadFault)
-never_read e r silent nothing rises b has =
-    (unread (stream_subject (tree_stream e)) b r silent nothing rises, record { held = λ _. tt; deep = λ _. tt; cleared = tt })
+pub never_read : (p : Program) (r : RunView) → r.out_after.bytes ≡ r.out_before.bytes → ConsumesNothing r → Rises r.before.faults r.after.faults
+    → RanWith p r (Err fault.ReadFault)
+never_read p r silent nothing rises b has =
+    (unread (stream_subject (program_stream p)) b r silent nothing rises, record { held = λ _. tt; deep = λ _. tt; cleared = tt })
 
-pub never_made : (e : PlainTree) (r : RunView) → r.out_after.bytes ≡ r.out_before.bytes → ConsumesNothing r → RanWith e r (Err fault.NoMemory)
-never_made e r silent nothing b has = (unmade (stream_subject (tree_stream e)) b r silent nothing, record { held = λ _. tt; deep = λ _. tt; cleared = tt })
+pub never_made : (p : Program) (r : RunView) → r.out_after.bytes ≡ r.out_before.bytes → ConsumesNothing r → RanWith p r (Err fault.NoMemory)
+never_made p r silent nothing b has = (unmade (stream_subject (program_stream p)) b r silent nothing, record { held = λ _. tt; deep = λ _. tt; cleared = tt })
 
 -- a fault of which no memory was left to tell
 for_memory : (S : Subject) (b : Elements) (r : RunView) (f : RunFault) → Ran S b r (Err f) → Ran S b r (Err fault.NoMemory)
@@ -83,15 +83,15 @@ for_memory S b r f x = record {
   too_large = tt;
 }
 
-pub want_of_memory : (e : PlainTree) (r : RunView) (f : RunFault) → RanWith e r (Err f) → RanWith e r (Err fault.NoMemory)
-want_of_memory e r f h b has =
-    (for_memory (stream_subject (tree_stream e)) b r f (h b has).0, record { held = λ _. tt; deep = λ _. tt; cleared = tt })
+pub want_of_memory : (p : Program) (r : RunView) (f : RunFault) → RanWith p r (Err f) → RanWith p r (Err fault.NoMemory)
+want_of_memory p r f h b has =
+    (for_memory (stream_subject (program_stream p)) b r f (h b has).0, record { held = λ _. tt; deep = λ _. tt; cleared = tt })
 
 -- a place that tells the same tells the same number of bytes consumed
 pub same_contents : (x : Option Contents) (old new : Contents) → x ≡ Some old → x ≡ Some new → length new.consumed ≤ length old.consumed
 same_contents x old new a b = let same : old ≡ new = cc (a, b) in subst (λ c. length new.consumed ≤ length c.consumed) (sym same) (le_refl (length new.consumed))
 
 -- want of memory before the run
-pub no_memory : (e : PlainTree) (r : RunView) (o : Outcome) (s : Stop) → o ≡ Err s → s ≡ stop.NoMemory → r.out_after.bytes ≡ r.out_before.bytes → ConsumesNothing r → RanSo e r o
-no_memory e r o s is memory silent nothing =
-    ran_with e r o (Err fault.NoMemory) (ap run_result is ∙ ap (λ (x : Stop). run_result (Err x)) memory) (never_made e r silent nothing)
+pub no_memory : (p : Program) (r : RunView) (o : Outcome) (s : Stop) → o ≡ Err s → s ≡ stop.NoMemory → r.out_after.bytes ≡ r.out_before.bytes → ConsumesNothing r → RanSo p r o
+no_memory p r o s is memory silent nothing =
+    ran_with p r o (Err fault.NoMemory) (ap run_result is ∙ ap (λ (x : Stop). run_result (Err x)) memory) (never_made p r silent nothing)

@@ -8,6 +8,8 @@ use Rattle.std.proofs.lemmas.List.{take_all}
 use Rattle.lucid_ports.specs.World.{World, Contents, unread}
 use Rattle.lucid_ports.specs.Writing.{with_all}
 use Rattle.lucid_tree.specs.Tree.{PlainTree}
+use Rattle.lucid_equations.specs.declared.table.Table.{Table}
+use Rattle.lucid_scan.specs.Refusals.{most_source_bytes}
 use Rattle.lucid_tree.specs.WellMade.{places, IsWellMade}
 use Rattle.lucid_scope.specs.Bindings.{HasNoFault, IsResolved}
 use Rattle.lucid_scope.specs.declared.scoped.Binding.{Binding}
@@ -35,14 +37,15 @@ use Rattle.lucid_top.specs.Call.{Call}
 use Rattle.lucid_top.specs.Tasks.{task_of, form_of, is_built}
 use Rattle.lucid_top.specs.Telling.{WritesWhole, WritesFront}
 use Rattle.lucid_top.specs.Refusals.{words_stop, judge_stop, IsRefusalOf}
-use Rattle.lucid_top.specs.Judged.{RefusesNames, HasInputs}
+use Rattle.lucid_top.specs.Judged.{RefusesText, RefusesNames, HasInputs}
+use Rattle.lucid_top.specs.Flat.{RefusesFlat}
 use Rattle.lucid_top.specs.Files.{RefusesGiven}
-use Rattle.lucid_top.specs.Stages.{Asks, HasSource, HasTree, HasNames, IsWriting, IsTextFor, by_words, by_task, by_text, by_names, by_judging, by_given}
-use Rattle.lucid_top.specs.Runs.{first_place}
-use Rattle.lucid_top.specs.Places.{KeepsNames, SpeltBySource, IsAccepted, IsSourceStop, IsProgramStop, IsReadStop, AreFresh}
+use Rattle.lucid_top.specs.Stages.{IsSource, Asks, HasTree, HasFlat, HasNames, IsWriting, IsTextFor, asks_for, inputs_in, Refuses, by_words, by_task, by_text, by_flat, by_names, by_judging, by_given}
+use Rattle.lucid_top.specs.Runs.{most_places, first_place}
+use Rattle.lucid_top.specs.Places.{KeepsNames, SpeltBySource, FlatBySource, IsAccepted, IsSourceStop, IsProgramStop, IsReadStop, AreFresh}
 use Rattle.lucid_top.specs.Writing.{WritesSome, WritesSomeFront, WritesOnly}
 use Rattle.lucid_top.specs.Clauses.{WritesNothing}
-use Rattle.lucid_top.specs.Coming.{Rests, Comes}
+use Rattle.lucid_top.specs.Coming.{Rests, IsOfMade, RunsTable, Comes}
 use Rattle.lucid_top.proofs.Pieces.{rises_from}
 
 -- the words of a call ask for what is built
@@ -50,11 +53,26 @@ pub record Begins (c : Call) (w : PlainWords) : Type 0 where
   pub read : c.asked ≡ Some w
   pub built : is_built (task_of w) (form_of w) ≡ true
 
+-- and the source is no flat form; it is one
+abbrev pub IsText : PlainWords → Type 0
+IsText w = form_of w ≢ form.Flat
+
+abbrev pub IsFlat : PlainWords → Type 0
+IsFlat w = form_of w ≡ form.Flat
+
+-- what is built of texts alone is asked for of a text
+pub of_text : (w : PlainWords) (t : Task) → task_of w ≡ t → is_built t form.Flat ≡ false → is_built (task_of w) (form_of w) ≡ true → IsText w
+of_text w t is not built flat =
+    let there : is_built t form.Flat ≡ true = subst (λ f. is_built t f ≡ true) flat (subst (λ x. is_built x (form_of w) ≡ true) is built) in absurd (cc (there, not))
+
 abbrev pub asks_of : (c : Call) (w : PlainWords) → Begins c w → Asks c
 asks_of c w b = record { words = w; read = b.read; built = b.built }
 
-abbrev pub tree_of : (c : Call) (w : PlainWords) (p : PlainTree) → Begins c w → SpeltBySource w.source c.before p → HasTree c
-tree_of c w p b s = record { source = record { asks = asks_of c w b; bytes = s.bytes; is = s.is }; tree = p; spelt = s.spelt }
+abbrev pub tree_of : (c : Call) (w : PlainWords) (p : PlainTree) → Begins c w → IsText w → SpeltBySource w.source c.before p → HasTree c
+tree_of c w p b text s = record { source = record { asks = asks_of c w b; bytes = s.bytes; is = s.is }; form = text; tree = p; spelt = s.spelt }
+
+abbrev pub flat_of : (c : Call) (w : PlainWords) (t : Table) → Begins c w → IsFlat w → FlatBySource w.source c.before t → HasFlat c
+flat_of c w t b flat s = record { source = record { asks = asks_of c w b; bytes = s.bytes; is = s.is }; form = flat; table = t; spelt = s.spelt }
 
 pub first_place_le : (s : PlainSource) → first_place s ≤ 1
 first_place_le (file name) = omega arith
@@ -73,23 +91,32 @@ rests_of c w read silent few = record {
 few_places : (c : Call) (s : PlainSource) → c.after.reached ≤ first_place s → c.after.reached ≤ 1048577
 few_places c s few = let one = first_place_le s in omega (arith, few, one)
 
--- the source stops the call
-pub source_stops : (c : Call) (w : PlainWords) (s : Stop) → Begins c w → IsSourceStop w.source c.before c.after s → WritesNothing c → c.after.reached ≤ first_place w.source
-    → Comes c (Err s)
-source_stops c w (stop.Refused why) b why_stops silent few =
-    let source : HasSource c = record { asks = asks_of c w b; bytes = why_stops.0; is = why_stops.1 } in
-    record {
-      only = (by_text source why_stops.2, silent);
-      how = inl ((by_text source why_stops.2, tt), rests_of c w b.read silent few);
-      few_places = few_places c w.source few;
-    }
-source_stops c w stop.ReadFault b why_stops silent few =
+-- the source stops the call, which is refused as its text is
+stops_by : (Refused : List ℕ → Refusal → Type 0) (c : Call) (w : PlainWords) (s : Stop) → Begins c w
+    → ((bytes : List ℕ) → IsSource w.source c.before bytes → (why : Refusal) → Refused bytes why → (r : Refuses c why) × IsOfMade r)
+    → IsSourceStop Refused w.source c.before c.after s → WritesNothing c → c.after.reached ≤ first_place w.source → Comes c (Err s)
+stops_by Refused c w (stop.Refused why) b refuses why_stops silent few =
+    let r = refuses why_stops.0 why_stops.1 why why_stops.2 in
+    record { only = (r.0, silent); how = inl (r, rests_of c w b.read silent few); few_places = few_places c w.source few }
+stops_by Refused c w stop.ReadFault b refuses why_stops silent few =
     record { only = why_stops; how = inl (asks_of c w b, rests_of c w b.read silent few); few_places = few_places c w.source few }
-source_stops c w stop.NoMemory b why_stops silent few =
+stops_by Refused c w stop.NoMemory b refuses why_stops silent few =
     record { only = tt; how = inl (tt, rests_of c w b.read silent few); few_places = few_places c w.source few }
-source_stops c w stop.WriteFault b why_stops silent few = absurd why_stops
-source_stops c w (stop.TooDeep t l x f) b why_stops silent few = absurd why_stops
-source_stops c w (stop.TooLarge k n) b why_stops silent few = absurd why_stops
+stops_by Refused c w stop.WriteFault b refuses why_stops silent few = absurd why_stops
+stops_by Refused c w (stop.TooDeep t l x f) b refuses why_stops silent few = absurd why_stops
+stops_by Refused c w (stop.TooLarge k n) b refuses why_stops silent few = absurd why_stops
+
+pub source_stops : (c : Call) (w : PlainWords) (s : Stop) → Begins c w → IsText w → IsSourceStop RefusesText w.source c.before c.after s → WritesNothing c
+    → c.after.reached ≤ first_place w.source → Comes c (Err s)
+source_stops c w s b text = stops_by RefusesText c w s b (λ bytes is why r. (by_text (record { asks = asks_of c w b; bytes = bytes; is = is }) text r, tt))
+
+pub flat_stops : (c : Call) (w : PlainWords) (s : Stop) → Begins c w → IsFlat w → IsSourceStop RefusesFlat w.source c.before c.after s → WritesNothing c
+    → c.after.reached ≤ first_place w.source → Comes c (Err s)
+flat_stops c w s b flat = stops_by RefusesFlat c w s b (λ bytes is why r. (by_flat (record { asks = asks_of c w b; bytes = bytes; is = is }) flat r, tt))
+
+-- want of memory stops the call
+pub memory_stops : (c : Call) (w : PlainWords) → c.asked ≡ Some w → WritesNothing c → c.after.reached ≤ first_place w.source → Comes c (Err stop.NoMemory)
+memory_stops c w read silent few = record { only = tt; how = inl (tt, rests_of c w read silent few); few_places = few_places c w.source few }
 
 -- what is written whole is written in front
 pub whole_front : (text : List ℕ) (before after : Told) → WritesWhole text before after → WritesFront text before after
@@ -156,7 +183,7 @@ names_stop source old new p stop.WriteFault spelt well refused = absurd refused
 names_stop source old new p (stop.TooDeep t l x f) spelt well refused = absurd refused
 names_stop source old new p (stop.TooLarge k n) spelt well refused = absurd refused
 
-pub source_stop : (source : PlainSource) (old new : World) (s : Stop) → IsSourceStop source old new s → IsProgramStop source old new s
+pub source_stop : (source : PlainSource) (old new : World) (s : Stop) → IsSourceStop RefusesText source old new s → IsProgramStop source old new s
 source_stop source old new (stop.Refused why) h = inl h
 source_stop source old new stop.NoMemory h = h
 source_stop source old new stop.ReadFault h = h
@@ -164,73 +191,81 @@ source_stop source old new stop.WriteFault h = h
 source_stop source old new (stop.TooDeep t l x f) h = h
 source_stop source old new (stop.TooLarge k n) h = h
 
-names_refuse : (c : Call) (w : PlainWords) (p : PlainTree) (why : Refusal) → Begins c w → task_of w ≢ task.Print → SpeltBySource w.source c.before p → IsWellMade p → RefusesNames p why
+names_refuse : (c : Call) (w : PlainWords) (p : PlainTree) (why : Refusal) → Begins c w → IsText w → task_of w ≢ task.Print → SpeltBySource w.source c.before p → IsWellMade p → RefusesNames p why
     → WritesNothing c → c.after.reached ≤ first_place w.source → Comes c (Err (stop.Refused why))
-names_refuse c w p why b other spelt well refused silent few = record {
-  only = (by_names (tree_of c w p b spelt) other refused, silent);
-  how = inl ((by_names (tree_of c w p b spelt) other refused, well), rests_of c w b.read silent few);
+names_refuse c w p why b text other spelt well refused silent few = record {
+  only = (by_names (tree_of c w p b text spelt) other refused, silent);
+  how = inl ((by_names (tree_of c w p b text spelt) other refused, well), rests_of c w b.read silent few);
   few_places = few_places c w.source few;
 }
 
 -- the source or the names stop the call
-pub program_stops : (c : Call) (w : PlainWords) (s : Stop) → Begins c w → task_of w ≢ task.Print → IsProgramStop w.source c.before c.after s → WritesNothing c
+pub program_stops : (c : Call) (w : PlainWords) (s : Stop) → Begins c w → IsText w → task_of w ≢ task.Print → IsProgramStop w.source c.before c.after s → WritesNothing c
     → c.after.reached ≤ first_place w.source → Comes c (Err s)
-program_stops c w (stop.Refused why) b is (inl text) silent few = source_stops c w (stop.Refused why) b text silent few
-program_stops c w (stop.Refused why) b is (inr names) silent few = names_refuse c w names.0 why b is names.1 names.2 names.3 silent few
-program_stops c w stop.NoMemory b is h silent few = source_stops c w stop.NoMemory b h silent few
-program_stops c w stop.ReadFault b is h silent few = source_stops c w stop.ReadFault b h silent few
-program_stops c w stop.WriteFault b is h silent few = absurd h
-program_stops c w (stop.TooDeep t l x f) b is h silent few = absurd h
-program_stops c w (stop.TooLarge k n) b is h silent few = absurd h
+program_stops c w (stop.Refused why) b text other (inl h) silent few = source_stops c w (stop.Refused why) b text h silent few
+program_stops c w (stop.Refused why) b text other (inr names) silent few = names_refuse c w names.0 why b text other names.1 names.2 names.3 silent few
+program_stops c w stop.NoMemory b text other h silent few = source_stops c w stop.NoMemory b text h silent few
+program_stops c w stop.ReadFault b text other h silent few = source_stops c w stop.ReadFault b text h silent few
+program_stops c w stop.WriteFault b text other h silent few = absurd h
+program_stops c w (stop.TooDeep t l x f) b text other h silent few = absurd h
+program_stops c w (stop.TooLarge k n) b text other h silent few = absurd h
 
 -- the names of the program that is run or judged
-abbrev pub names_of : (c : Call) (w : PlainWords) (p : PlainTree) (free : List (List ℕ)) → Begins c w → task_of w ≢ task.Print → IsAccepted w.source c.before p → HasInputs p free → HasNames c
-names_of c w p free b other a inputs =
-    record { program = tree_of c w p b a.spelt; task = other; no_fault = a.no_fault; free = free; are_free = inputs }
+abbrev pub names_of : (c : Call) (w : PlainWords) (p : PlainTree) (free : List (List ℕ)) → Begins c w → IsText w → task_of w ≢ task.Print → IsAccepted w.source c.before p → HasInputs p free
+    → HasNames c
+names_of c w p free b text other a inputs =
+    record { program = tree_of c w p b text a.spelt; task = other; no_fault = a.no_fault; free = free; are_free = inputs }
 
 -- a run is no printing, nor is a judgment
 pub run_not_print : (w : PlainWords) → task_of w ≡ task.Run → task_of w ≢ task.Print
 run_not_print w is = not_print w task.Run is (λ e. absurd (cc e))
 
+pub flat_not_print : (w : PlainWords) → task_of w ≡ task.Flat → task_of w ≢ task.Print
+flat_not_print w is = not_print w task.Flat is (λ e. absurd (cc e))
+
 pub cycles_not_print : (w : PlainWords) → task_of w ≡ task.Cycles → task_of w ≢ task.Print
 cycles_not_print w is = not_print w task.Cycles is (λ e. absurd (cc e))
 
 -- the judgment stops the call
-pub judging_stops : (c : Call) (w : PlainWords) (p : PlainTree) (free : List (List ℕ)) (e : JudgeRefusal) → Begins c w → task_of w ≡ task.Cycles → IsAccepted w.source c.before p
+pub judging_stops : (c : Call) (w : PlainWords) (p : PlainTree) (free : List (List ℕ)) (e : JudgeRefusal) → Begins c w → IsText w → task_of w ≡ task.Cycles → IsAccepted w.source c.before p
     → HasInputs p free → IsJudgeRefusal p e → WritesNothing c → c.after.reached ≤ first_place w.source → Comes c (Err (judge_stop e))
-judging_stops c w p free (judge.Outside at) b is a inputs refused silent few =
-    let names = names_of c w p free b (cycles_not_print w is) a inputs in
+judging_stops c w p free (judge.Outside at) b text is a inputs refused silent few =
+    let names = names_of c w p free b text (cycles_not_print w is) a inputs in
     record {
       only = (by_judging names is (record { refusal = judge.Outside at; is = refl; refused = refused }), silent);
       how = inl ((by_judging names is (record { refusal = judge.Outside at; is = refl; refused = refused }), a.well_made), rests_of c w b.read silent few);
       few_places = few_places c w.source few;
     }
-judging_stops c w p free judge.TooMany b is a inputs refused silent few =
-    let names = names_of c w p free b (cycles_not_print w is) a inputs in
+judging_stops c w p free judge.TooMany b text is a inputs refused silent few =
+    let names = names_of c w p free b text (cycles_not_print w is) a inputs in
     record {
       only = (by_judging names is (record { refusal = judge.TooMany; is = refl; refused = refused }), silent);
       how = inl ((by_judging names is (record { refusal = judge.TooMany; is = refl; refused = refused }), a.well_made), rests_of c w b.read silent few);
       few_places = few_places c w.source few;
     }
-judging_stops c w p free judge.NoMemory b is a inputs refused silent few =
+judging_stops c w p free judge.NoMemory b text is a inputs refused silent few =
     record { only = tt; how = inl (tt, rests_of c w b.read silent few); few_places = few_places c w.source few }
 
+-- the words of a program that is run
+pub words_of : (c : Call) (w : PlainWords) (t : Table) (v : World) (b : RunsTable c w t v) → (asks_for b.program).words ≡ w
+words_of c w t v b =
+    let there = (asks_for b.program).read in
+    let here = b.read in cc (there, here)
+
 -- the words NAME=FILE stop the call
-pub given_stops : (c : Call) (w : PlainWords) (p : PlainTree) (free : List (List ℕ)) (s : Stop) → Begins c w → task_of w ≡ task.Run → IsAccepted w.source c.before p → HasInputs p free
-    → IsRefusalOf (RefusesGiven free w.given) s → WritesNothing c → c.after.reached ≤ first_place w.source → Comes c (Err s)
-given_stops c w p free (stop.Refused why) b is a inputs refused silent few =
-    let names = names_of c w p free b (run_not_print w is) a inputs in
-    record {
-      only = (by_given names is refused, silent);
-      how = inl ((by_given names is refused, a.well_made), rests_of c w b.read silent few);
-      few_places = few_places c w.source few;
-    }
-given_stops c w p free stop.NoMemory b is a inputs refused silent few =
-    record { only = tt; how = inl (tt, rests_of c w b.read silent few); few_places = few_places c w.source few }
-given_stops c w p free stop.ReadFault b is a inputs refused silent few = absurd refused
-given_stops c w p free stop.WriteFault b is a inputs refused silent few = absurd refused
-given_stops c w p free (stop.TooDeep t l x f) b is a inputs refused silent few = absurd refused
-given_stops c w p free (stop.TooLarge k n) b is a inputs refused silent few = absurd refused
+pub given_stops : (c : Call) (w : PlainWords) (t : Table) (v : World) (s : Stop) → RunsTable c w t v → IsRefusalOf (RefusesGiven t.inputs w.given) s → WritesNothing c
+    → c.after.reached ≤ first_place w.source → Comes c (Err s)
+given_stops c w t v (stop.Refused why) b refused silent few =
+    let same : (asks_for b.program).words ≡ w = words_of c w t v b in
+    let is : task_of (asks_for b.program).words ≡ task.Run = ap task_of same ∙ b.task in
+    let here : RefusesGiven (inputs_in b.program) (asks_for b.program).words.given why =
+    subst (λ (u : PlainWords). RefusesGiven (inputs_in b.program) u.given why) (sym same) (subst (λ names. RefusesGiven names w.given why) (sym b.inputs) refused) in
+    record { only = (by_given b.program is here, silent); how = inl ((by_given b.program is here, b.made), rests_of c w b.read silent few); few_places = few_places c w.source few }
+given_stops c w t v stop.NoMemory b refused silent few = memory_stops c w b.read silent few
+given_stops c w t v stop.ReadFault b refused silent few = absurd refused
+given_stops c w t v stop.WriteFault b refused silent few = absurd refused
+given_stops c w t v (stop.TooDeep d l x f) b refused silent few = absurd refused
+given_stops c w t v (stop.TooLarge k n) b refused silent few = absurd refused
 
 -- the free names of a tree that was resolved
 pub inputs_of : (q : PlainTree) (names : List (List ℕ)) (bindings : ℕ → Option Binding) → ∥ IsResolved q names bindings ∥₁ → HasInputs q names
@@ -255,25 +290,28 @@ fresh_consumed files old new fresh few q le lt c is =
     nothing_consumed (old.holds file) (new.place (old.reached + k.0)).contents c place.contents (subst (λ n. (new.place n).contents ≡ Some c) k.1 is)
 
 -- the places of the inputs stop the call
-pub reaching_stops : (c : Call) (w : PlainWords) (files : List (List ℕ)) (v : World) (s : Stop) → Begins c w → v.reached ≡ first_place w.source → KeepsNames c.before v → KeepsNames v c.after
-    → AreFresh files v c.after → c.after.reached ≤ v.reached + length files → length files ≤ 1048576 → IsReadStop v c.after s → WritesNothing c → Comes c (Err s)
-reaching_stops c w files v s b first k k' fresh few short why silent =
+pub reaching_stops : (c : Call) (w : PlainWords) (t : Table) (files : List (List ℕ)) (v : World) (s : Stop) → RunsTable c w t v → KeepsNames v c.after
+    → AreFresh files v c.after → c.after.reached ≤ v.reached + length files → length files ≤ most_source_bytes → IsReadStop v c.after s → WritesNothing c → Comes c (Err s)
+reaching_stops c w t files v s b kept fresh few short why silent =
     let one = first_place_le w.source in
+    let first = b.first in
     let rests : Rests c = record {
       silent = silent;
       unread = λ u asked q le lt new is.
-          let same : u ≡ w = cc (asked, b.read) in
+          let here = b.read in
+          let same : u ≡ w = cc (asked, here) in
           let le' : first_place w.source ≤ q = subst (λ (x : PlainWords). first_place x.source ≤ q) same le in
           fresh_consumed files v c.after fresh few q (omega (arith, first, le')) lt new is;
     } in
     ends s why rests (omega (arith, few, short, first, one))
   where
-    ends : (x : Stop) → IsReadStop v c.after x → Rests c → c.after.reached ≤ 1048577 → Comes c (Err x)
-    ends stop.ReadFault rises rests few' = record { only = rises_from c.before.faults v.faults c.after.faults k.faults k'.faults rises; how = inl (asks_of c w b, rests); few_places = few' }
+    ends : (x : Stop) → IsReadStop v c.after x → Rests c → c.after.reached ≤ most_places → Comes c (Err x)
+    ends stop.ReadFault rises rests few' =
+        record { only = rises_from c.before.faults v.faults c.after.faults b.kept.faults kept.faults rises; how = inl (asks_for b.program, rests); few_places = few' }
     ends stop.NoMemory rises rests few' = record { only = tt; how = inl (tt, rests); few_places = few' }
     ends (stop.Refused y) rises rests few' = absurd rises
     ends stop.WriteFault rises rests few' = absurd rises
-    ends (stop.TooDeep t l x f) rises rests few' = absurd rises
+    ends (stop.TooDeep d l x f) rises rests few' = absurd rises
     ends (stop.TooLarge j n) rises rests few' = absurd rises
 
 -- where nothing is reached, nothing is read
@@ -300,10 +338,9 @@ not_built_stops c w read not_built silent none = record {
 
 -- what is asked for is something that isn't built
 abbrev pub IsOther : Task → Type 0
-IsOther t = (t ≡ task.Columns) ⊎ ((t ≡ task.Why) ⊎ ((t ≡ task.Check) ⊎ (t ≡ task.Flat)))
+IsOther t = (t ≡ task.Columns) ⊎ ((t ≡ task.Why) ⊎ (t ≡ task.Check))
 
 pub other_is_not : (t : Task) (f : Form) → IsOther t → is_built t f ≡ false
 other_is_not t f (inl is) = ap (λ x. is_built x f) is
 other_is_not t f (inr (inl is)) = ap (λ x. is_built x f) is
-other_is_not t f (inr (inr (inl is))) = ap (λ x. is_built x f) is
-other_is_not t f (inr (inr (inr is))) = ap (λ x. is_built x f) is
+other_is_not t f (inr (inr is)) = ap (λ x. is_built x f) is

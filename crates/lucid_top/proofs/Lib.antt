@@ -13,5 +13,7 @@ pub mod Weights
 pub mod OneList
 pub mod Verdicts
 pub mod NoJudgment
+pub mod FirstWrong
+pub mod FlatVerdicts
 pub mod OneCall
 pub mod Meeting

@@ -1,30 +1,25 @@
 -- From how a call comes to its outcome to the clauses of the command.
-use Rattle.std.proofs.Common.{◌≡◌, ℕ, ◌≤◌, Bool, true, false, cond, nat_lt, List, [], length, Option, Some, None, Ok, Err, ◌⊎◌, inl, inr, refl, sym, ◌∙◌, ap, subst, arith}
+use Rattle.std.proofs.Common.{◌≡◌, ℕ, ◌≤◌, Bool, true, false, cond, nat_lt, List, [], length, Some, None, Ok, Err, ◌⊎◌, inl, inr, refl, ap, subst, arith}
 use Rattle.std.proofs.lemmas.Bool.{ltb-true}
-use Rattle.std.proofs.lemmas.List.{append-nil}
 use Rattle.lucid_ports.specs.World.{Contents}
-use Rattle.lucid_ports.specs.Writing.{with_front}
 use Rattle.lucid_ports.specs.declared.run.RunFault.TheVariants as fault
-use Rattle.lucid_tree.specs.Tree.{PlainTree}
-use Rattle.lucid_tree.specs.WellMade.{IsWellMade}
 use Rattle.lucid_words.specs.Asked.{PlainWords}
 use Rattle.lucid_session.specs.Runs.{Told}
 use Rattle.lucid_top.specs.declared.refusal.Refusal.{Refusal}
 use Rattle.lucid_top.specs.declared.refusal.Refusal.TheVariants as refusal
-use Rattle.lucid_top.specs.declared.stop.Done.TheVariants as done
 use Rattle.lucid_top.specs.declared.stop.Stop.TheVariants as stop
 use Rattle.lucid_top.specs.declared.status.Status.{Status}
 use Rattle.lucid_top.specs.Status.{Outcome}
 use Rattle.lucid_top.specs.Call.{Call}
 use Rattle.lucid_top.specs.Tasks.{task_of, form_of, is_built}
 use Rattle.lucid_top.specs.Telling.{Tells}
-use Rattle.lucid_top.specs.Stages.{Asks, IsWriting, IsTextFor, prints, judges, IsRun, Refuses, by_words, by_task, by_text, by_names, by_judging, by_given}
-use Rattle.lucid_top.specs.Runs.{Program, first_place, program_of, unread_place, view_of, RanSo}
+use Rattle.lucid_top.specs.Stages.{Asks, IsWriting, IsTextFor, prints, judges, flattens, asks_for, IsRun, Refuses, by_words, by_task, by_text, by_flat, by_names, by_judging, by_given}
+use Rattle.lucid_top.specs.Runs.{first_place, run_of, unread_place, view_of, RanSo}
 use Rattle.lucid_top.specs.Clauses.{WritesNothing, TellsSource, ReadFails, ComesOnly, IsRefusedSo, Writes, MeetsClauses}
 use Rattle.lucid_top.specs.Coming.{Rests, StopsEarly, EndsRun, EndsWriting, Comes}
 use Rattle.lucid_top.proofs.RunEnds.{in_range}
 use Rattle.lucid_top.proofs.Begun.{ConsumesNothing, ran_with, never_read, never_made, same_contents}
-use Rattle.lucid_top.proofs.OneCall.{OneVerdict, not_asked, not_unbuilt, run_or_text, same_words, same_tree, same_free, same_text, one_refusal, run_not_refused, run_not_stopped, text_not_refused}
+use Rattle.lucid_top.proofs.OneCall.{OneVerdict, not_asked, not_unbuilt, run_or_text, same_inputs, same_run, same_text, one_refusal, run_not_refused, run_not_stopped, text_not_refused}
 
 -- how a call comes to its outcome
 abbrev pub How : Call → Outcome → Type 0
@@ -39,21 +34,22 @@ stopped_by_words c (Err stop.WriteFault) why asks one (inl early) = absurd early
 stopped_by_words c (Err (stop.TooDeep t l x f)) why asks one (inl early) = absurd early.0
 stopped_by_words c (Err (stop.TooLarge k n)) why asks one (inl early) = absurd early.0
 stopped_by_words c (Ok done) why asks one (inl early) = absurd early.0
-stopped_by_words c o why asks one (inr (inl run)) = absurd (asks run.0.names.program.source.asks)
+stopped_by_words c o why asks one (inr (inl run)) = absurd (asks (asks_for run.0.program))
 stopped_by_words c o why asks one (inr (inr (prints t is, writing))) = absurd (asks t.source.asks)
 stopped_by_words c o why asks one (inr (inr (judges n is judged, writing))) = absurd (asks n.program.source.asks)
+stopped_by_words c o why asks one (inr (inr (flattens n is, writing))) = absurd (asks n.program.source.asks)
 
 -- where nothing of an input was consumed, nothing is
-rested : (c : Call) (r : IsRun c) → Rests c → (q : ℕ) → first_place (program_of r).words.source ≤ q → (b : Bool) → nat_lt q c.after.reached ≡ b → (old new : Contents)
-    → (unread_place c (program_of r) q).contents ≡ Some old → (cond b (c.after.place q) (unread_place c (program_of r) q)).contents ≡ Some new → length new.consumed ≤ length old.consumed
+rested : (c : Call) (r : IsRun c) → Rests c → (q : ℕ) → first_place (run_of r).words.source ≤ q → (b : Bool) → nat_lt q c.after.reached ≡ b → (old new : Contents)
+    → (unread_place c (run_of r) q).contents ≡ Some old → (cond b (c.after.place q) (unread_place c (run_of r) q)).contents ≡ Some new → length new.consumed ≤ length old.consumed
 rested c r rests q le true lt old new before after =
-    let none : new.consumed ≡ [] = rests.unread (program_of r).words r.names.program.source.asks.read q le (ltb-true q c.after.reached lt) new after in
+    let none : new.consumed ≡ [] = rests.unread (run_of r).words (asks_for r.program).read q le (ltb-true q c.after.reached lt) new after in
     let zero : length new.consumed ≡ 0 = ap length none in omega (arith, zero)
-rested c r rests q le false lt old new before after = same_contents (unread_place c (program_of r) q).contents old new before after
+rested c r rests q le false lt old new before after = same_contents (unread_place c (run_of r) q).contents old new before after
 
-consumes_nothing : (c : Call) (r : IsRun c) → Rests c → ConsumesNothing (view_of c (program_of r))
+consumes_nothing : (c : Call) (r : IsRun c) → Rests c → ConsumesNothing (view_of c (run_of r))
 consumes_nothing c r rests k n q is old new before after =
-    let at = in_range (first_place (program_of r).words.source) (length (program_of r).free) k q is.1 in
+    let at = in_range (first_place (run_of r).words.source) (length (run_of r).inputs) k q is.1 in
     rested c r rests q (omega (arith, at.0)) (nat_lt q c.after.reached) refl old new before after
 
 -- texts of one kind are texts of another
@@ -63,13 +59,6 @@ as_text c o P Q h w = record {
   whole = λ is. let some = w.whole is in (some.0, h some.0 some.1, some.2);
   complete = w.complete;
 }
-
--- the program of these words, with this tree and these free names
-abbrev program_with : PlainWords → PlainTree → List (List ℕ) → Program
-program_with w t f = record { words = w; tree = t; free = f }
-
-one_program : {v w : PlainWords} {s t : PlainTree} {f g : List (List ℕ)} → v ≡ w → s ≡ t → f ≡ g → program_with v s f ≡ program_with w t g
-one_program a b e = cc (a, b, e)
 
 module _ (l : OneVerdict) (c : Call) (told : TellsSource c) where
   first : (o : Outcome) (why : Refusal) → Refuses c why → (o ≡ Err stop.ReadFault → ⊥) → How c o → IsRefusedSo o why
@@ -81,36 +70,28 @@ module _ (l : OneVerdict) (c : Call) (told : TellsSource c) where
   first (Err (stop.TooLarge k n)) why refused no_read (inl early) = absurd early.0
   first (Ok done) why refused no_read (inl early) = absurd early.0
   first o why refused no_read (inr (inl run)) =
-      absurd (run_not_refused l c told run.0 why refused (λ n. same_free l c told run.0.names.program run.1 run.0.names n))
+      absurd (run_not_refused l c told run.0 why refused (λ q. same_inputs l c told run.0.program q run.1))
   first o why refused no_read (inr (inr writing)) = absurd (text_not_refused l c told writing.0 why refused)
 
   refused_silent : (o : Outcome) (why : Refusal) → Refuses c why → How c o → WritesNothing c
   refused_silent o why refused (inl early) = early.1.silent
   refused_silent o why refused (inr (inl run)) =
-      absurd (run_not_refused l c told run.0 why refused (λ n. same_free l c told run.0.names.program run.1 run.0.names n))
+      absurd (run_not_refused l c told run.0 why refused (λ q. same_inputs l c told run.0.program q run.1))
   refused_silent o why refused (inr (inr writing)) = absurd (text_not_refused l c told writing.0 why refused)
 
-  -- the run of the code's program is the run of any
-  same_program : (r q : IsRun c) → IsWellMade (program_of q).tree → program_of q ≡ program_of r
-  same_program r q well =
-      let words : (program_of q).words ≡ (program_of r).words = same_words q.names.program.source.asks r.names.program.source.asks in
-      let tree : (program_of q).tree ≡ (program_of r).tree = same_tree l c told q.names.program r.names.program in
-      let free : (program_of q).free ≡ (program_of r).free = same_free l c told q.names.program well q.names r.names in
-      one_program words tree free
-
-  runs_so : (r : IsRun c) (o : Outcome) → ComesOnly c o → How c o → RanSo (program_of r).tree (view_of c (program_of r)) o
+  runs_so : (r : IsRun c) (o : Outcome) → ComesOnly c o → How c o → RanSo (run_of r).program (view_of c (run_of r)) o
   runs_so r (Err (stop.Refused v)) only (inl early) = absurd (run_not_stopped l c told r v early.0.0 early.0.1)
   runs_so r (Err stop.ReadFault) only (inl early) =
-      let view = view_of c (program_of r) in
-      ran_with (program_of r).tree view (Err stop.ReadFault) (Err fault.ReadFault) refl (never_read (program_of r).tree view early.1.silent (consumes_nothing c r early.1) only)
+      let view = view_of c (run_of r) in
+      ran_with (run_of r).program view (Err stop.ReadFault) (Err fault.ReadFault) refl (never_read (run_of r).program view early.1.silent (consumes_nothing c r early.1) only)
   runs_so r (Err stop.NoMemory) only (inl early) =
-      let view = view_of c (program_of r) in
-      ran_with (program_of r).tree view (Err stop.NoMemory) (Err fault.NoMemory) refl (never_made (program_of r).tree view early.1.silent (consumes_nothing c r early.1))
+      let view = view_of c (run_of r) in
+      ran_with (run_of r).program view (Err stop.NoMemory) (Err fault.NoMemory) refl (never_made (run_of r).program view early.1.silent (consumes_nothing c r early.1))
   runs_so r (Err stop.WriteFault) only (inl early) = absurd early.0
   runs_so r (Err (stop.TooDeep t d x f)) only (inl early) = absurd early.0
   runs_so r (Err (stop.TooLarge k n)) only (inl early) = absurd early.0
   runs_so r (Ok done) only (inl early) = absurd early.0
-  runs_so r o only (inr (inl run)) = subst (λ p. RanSo p.tree (view_of c p) o) (same_program r run.0 run.1) run.2
+  runs_so r o only (inr (inl run)) = subst (λ p. RanSo p.program (view_of c p) o) (same_run l c told r run.0 run.1) run.2
   runs_so r o only (inr (inr writing)) = absurd (run_or_text r writing.0)
 
   writes_so : (x : IsWriting c) (o : Outcome) → ComesOnly c o → How c o → Writes c o (IsTextFor x)
@@ -133,18 +114,20 @@ counted c o only reads is = reads (subst (ComesOnly c) is only)
 only_usage : (c : Call) → c.asked ≡ None → (v : Refusal) → Refuses c v → v ≡ refusal.Usage
 only_usage c none v (by_words none') = refl
 only_usage c none v (by_task u read not_built) = absurd (cc (none, read))
-only_usage c none v (by_text s refused) = absurd (not_asked s.asks none)
+only_usage c none v (by_text s other refused) = absurd (not_asked s.asks none)
+only_usage c none v (by_flat s is refused) = absurd (not_asked s.asks none)
 only_usage c none v (by_names t other refused) = absurd (not_asked t.source.asks none)
 only_usage c none v (by_judging n is refused) = absurd (not_asked n.program.source.asks none)
-only_usage c none v (by_given n is refused) = absurd (not_asked n.program.source.asks none)
+only_usage c none v (by_given p is refused) = absurd (not_asked (asks_for p) none)
 
 only_unbuilt : (c : Call) (w : PlainWords) → c.asked ≡ Some w → is_built (task_of w) (form_of w) ≡ false → (v : Refusal) → Refuses c v → v ≡ refusal.NotBuilt
 only_unbuilt c w read not_built v (by_words none) = absurd (cc (none, read))
 only_unbuilt c w read not_built v (by_task u read' not_built') = refl
-only_unbuilt c w read not_built v (by_text s refused) = absurd (not_unbuilt s.asks w read not_built)
+only_unbuilt c w read not_built v (by_text s other refused) = absurd (not_unbuilt s.asks w read not_built)
+only_unbuilt c w read not_built v (by_flat s is refused) = absurd (not_unbuilt s.asks w read not_built)
 only_unbuilt c w read not_built v (by_names t other refused) = absurd (not_unbuilt t.source.asks w read not_built)
 only_unbuilt c w read not_built v (by_judging n is refused) = absurd (not_unbuilt n.program.source.asks w read not_built)
-only_unbuilt c w read not_built v (by_given n is refused) = absurd (not_unbuilt n.program.source.asks w read not_built)
+only_unbuilt c w read not_built v (by_given p is refused) = absurd (not_unbuilt (asks_for p) w read not_built)
 
 silent_or : (c : Call) (o : Outcome) → How c o → WritesNothing c ⊎ (IsRun c ⊎ IsWriting c)
 silent_or c o (inl early) = inl early.1.silent

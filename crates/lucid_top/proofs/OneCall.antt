@@ -1,10 +1,11 @@
 -- A call has one of each thing: words, source, tree, free names, first refusal; and where it has a run or a text, no refusal.
-use Rattle.std.proofs.Common.{◌≡◌, ℕ, ◌<◌, false, List, length, Option, Some, None, ◌⊎◌, inl, inr, refl, sym, ◌∙◌, ap, subst, arith}
+use Rattle.std.proofs.Common.{◌≡◌, ◌≢◌, ℕ, ◌<◌, false, List, length, Option, Some, None, ◌⊎◌, inl, inr, refl, sym, ◌∙◌, ap, subst, arith}
 use Rattle.std.specs.Prelude.{IsSome, IfSome, slice_get, option_and_then, take}
 use Rattle.std.proofs.lemmas.Option.{slice_get_within}
 use Rattle.std.proofs.lemmas.Bool.{cases_order}
 use Rattle.lucid_ports.specs.World.{World}
 use Rattle.lucid_tree.specs.WellMade.{IsWellMade}
+use Rattle.lucid_equations.specs.declared.table.Table.{Table}
 use Rattle.lucid_print.specs.Canonical.{canonical}
 use Rattle.lucid_scope.specs.Bindings.{HasNoFault}
 use Rattle.lucid_words.specs.Plain.{PlainSource, file, made}
@@ -13,16 +14,20 @@ use Rattle.lucid_cycles.specs.Judged.{IsJudged}
 use Rattle.lucid_top.specs.declared.refusal.Refusal.{Refusal}
 use Rattle.lucid_top.specs.declared.task.Task.{Task}
 use Rattle.lucid_top.specs.declared.task.Task.TheVariants as task
+use Rattle.lucid_top.specs.declared.task.Form.TheVariants as form
 use Rattle.lucid_top.specs.Call.{Call}
 use Rattle.lucid_top.specs.Tasks.{task_of, form_of, is_built}
 use Rattle.lucid_top.specs.Judged.{Spelt, RefusesText, RefusesNames, RefusesJudging, HasInputs}
 use Rattle.lucid_top.specs.Files.{Given, word_refusal, refusal_at, AreRightBelow, RefusedFirst, RefusesGiven, FitsGiven, by_word, by_two}
-use Rattle.lucid_top.specs.Stages.{IsSource, IsTold, Asks, HasSource, HasTree, HasNames, IsWriting, IsTextFor, prints, judges, IsRun, Refuses, by_words, by_task, by_text, by_names, by_judging, by_given}
-use Rattle.lucid_top.specs.Texts.{IsJudgmentLine}
+use Rattle.lucid_top.specs.Stages.{IsSource, IsTold, Asks, HasSource, HasTree, HasFlat, HasNames, IsWriting, IsTextFor, prints, judges, flattens, HasProgram, by_tree, by_table, asks_for, program_in, inputs_in, IsRun, Refuses, by_words, by_task, by_text, by_flat, by_names, by_judging, by_given}
+use Rattle.lucid_top.specs.Texts.{IsJudgmentLine, IsFlatForm}
+use Rattle.lucid_top.specs.Flat.{SpellsTable, RefusesFlat}
+use Rattle.lucid_top.specs.Programs.{Program, of_tree, of_table}
+use Rattle.lucid_top.specs.Runs.{Run, run_of}
 use Rattle.lucid_top.specs.Clauses.{TellsSource}
-use Rattle.lucid_top.specs.Coming.{IsOfMade}
+use Rattle.lucid_top.specs.Coming.{IsMade, IsOfMade}
 use Rattle.lucid_top.proofs.NoJudgment.{one_judging_refusal, judged_not_refused}
-use Rattle.lucid_top.specs.Laws.{OneTree, TreeIsNotRefused, OneTextRefusal, NamesAreNotRefused, OneNameRefusal, OneListOfInputs}
+use Rattle.lucid_top.specs.Laws.{OneTree, TreeIsNotRefused, OneTextRefusal, NamesAreNotRefused, OneNameRefusal, OneListOfInputs, OneFlatTable, TableIsNotRefused, OneFlatRefusal}
 
 -- what holds of every source
 pub record OneVerdict : Type 0 where
@@ -32,6 +37,9 @@ pub record OneVerdict : Type 0 where
   pub names_not_refused : NamesAreNotRefused
   pub one_name_refusal : OneNameRefusal
   pub one_list : OneListOfInputs
+  pub one_flat_table : OneFlatTable
+  pub table_not_refused : TableIsNotRefused
+  pub one_flat_refusal : OneFlatRefusal
 
 -- what a name holds is one list of bytes, where it is told; so is a source
 held_once : (held : Option (List ℕ)) (a b : List ℕ) → IsSome held → IfSome held (λ h. a ≡ h) → IfSome held (λ h. b ≡ h) → a ≡ b
@@ -101,10 +109,22 @@ not_unbuilt a w read not_built =
 pub one_task : {c : Call} (a b : Asks c) (x y : Task) → task_of a.words ≡ x → task_of b.words ≡ y → x ≡ y
 one_task a b x y is js = sym is ∙ ap task_of (same_words a b) ∙ js
 
+-- what is no flat form isn't one
+one_form : {c : Call} (a b : Asks c) → form_of a.words ≡ form.Flat → form_of b.words ≢ form.Flat → ⊥
+one_form a b is other = other (ap form_of (same_words b a) ∙ is)
+
 -- a run isn't a text
 pub run_or_text : {c : Call} → IsRun c → IsWriting c → ⊥
-run_or_text r (prints t is) = absurd (cc (one_task r.names.program.source.asks t.source.asks task.Run task.Print r.task is))
-run_or_text r (judges n is judged) = absurd (cc (one_task r.names.program.source.asks n.program.source.asks task.Run task.Cycles r.task is))
+run_or_text r (prints t is) = absurd (cc (one_task (asks_for r.program) t.source.asks task.Run task.Print r.task is))
+run_or_text r (judges n is judged) = absurd (cc (one_task (asks_for r.program) n.program.source.asks task.Run task.Cycles r.task is))
+run_or_text r (flattens n is) = absurd (cc (one_task (asks_for r.program) n.program.source.asks task.Run task.Flat r.task is))
+
+-- a run of these words, of this program, with inputs of these names
+abbrev run_with : PlainWords → Program → List (List ℕ) → Run
+run_with w p f = record { words = w; program = p; inputs = f }
+
+one_run : {v w : PlainWords} {p q : Program} {f g : List (List ℕ)} → v ≡ w → p ≡ q → f ≡ g → run_with v p f ≡ run_with w q g
+one_run a b e = cc (a, b, e)
 
 module _ (l : OneVerdict) (c : Call) (told : TellsSource c) where
   -- the source of a call is one, and so are its tree and the free names of that
@@ -123,107 +143,168 @@ module _ (l : OneVerdict) (c : Call) (told : TellsSource c) where
       let there : HasInputs t.tree m.free = subst (λ p. HasInputs p m.free) (same_tree m.program t) m.are_free in
       l.one_list t.tree n.free m.free well here there
 
-  -- a tree isn't refused, nor are names without a fault
+  same_table : (f g : HasFlat c) → f.table ≡ g.table
+  same_table f g = l.one_flat_table f.source.bytes f.table g.table f.spelt (subst (λ b. SpellsTable b g.table) (same_bytes g.source f.source) g.spelt)
+
+  -- the program of a call is one, and so are the names of its inputs
+  pub same_inputs : (p q : HasProgram c) → IsMade p → inputs_in p ≡ inputs_in q
+  same_inputs (by_tree n) (by_tree m) well = same_free n.program well n m
+  same_inputs (by_tree n) (by_table g) well = absurd (one_form g.source.asks n.program.source.asks g.form n.program.form)
+  same_inputs (by_table f) (by_tree m) well = absurd (one_form f.source.asks m.program.source.asks f.form m.program.form)
+  same_inputs (by_table f) (by_table g) well = ap (λ (t : Table). t.inputs) (same_table f g)
+
+  same_program : (p q : HasProgram c) → program_in p ≡ program_in q
+  same_program (by_tree n) (by_tree m) = ap of_tree (same_tree n.program m.program)
+  same_program (by_tree n) (by_table g) = absurd (one_form g.source.asks n.program.source.asks g.form n.program.form)
+  same_program (by_table f) (by_tree m) = absurd (one_form f.source.asks m.program.source.asks f.form m.program.form)
+  same_program (by_table f) (by_table g) = ap of_table (same_table f g)
+
+  -- the run of a program is one
+  pub same_run : (r q : IsRun c) → IsMade q.program → run_of q ≡ run_of r
+  same_run r q well =
+      one_run (same_words (asks_for q.program) (asks_for r.program)) (same_program q.program r.program) (same_inputs q.program r.program well)
+
+  -- a tree isn't refused, nor is a table, nor are names without a fault
   text_not : (s : HasSource c) (v : Refusal) → RefusesText s.bytes v → HasTree c → ⊥
   text_not s v refused t = l.not_refused s.bytes t.tree v (subst (λ b. Spelt b t.tree) (same_bytes t.source s) t.spelt) refused
 
   names_not : (t : HasTree c) (v : Refusal) → RefusesNames t.tree v → HasNames c → ⊥
   names_not t v refused n = l.names_not_refused t.tree v (subst HasNoFault (same_tree n.program t) n.no_fault) refused
 
-  -- the words NAME=FILE, by one list of free names
-  given_there : (n m : HasNames c) (w : Refusal) → n.free ≡ m.free → RefusesGiven m.free m.program.source.asks.words.given w
-      → RefusesGiven n.free n.program.source.asks.words.given w
-  given_there n m w same refused =
-      let words : m.program.source.asks.words ≡ n.program.source.asks.words = same_words m.program.source.asks n.program.source.asks in
-      subst (λ f. RefusesGiven f n.program.source.asks.words.given w) (sym same) (subst (λ (u : PlainWords). RefusesGiven m.free u.given w) words refused)
+  flat_not : (s : HasSource c) (v : Refusal) → RefusesFlat s.bytes v → HasFlat c → ⊥
+  flat_not s v refused f = l.table_not_refused s.bytes f.table v (subst (λ b. SpellsTable b f.table) (same_bytes f.source s) f.spelt) refused
+
+  -- nor is a program refused, at any stage before
+  text_program : (s : HasSource c) (v : Refusal) → form_of s.asks.words ≢ form.Flat → RefusesText s.bytes v → HasProgram c → ⊥
+  text_program s v other refused (by_tree n) = text_not s v refused n.program
+  text_program s v other refused (by_table f) = one_form f.source.asks s.asks f.form other
+
+  flat_program : (s : HasSource c) (v : Refusal) → form_of s.asks.words ≡ form.Flat → RefusesFlat s.bytes v → HasProgram c → ⊥
+  flat_program s v is refused (by_tree n) = one_form s.asks n.program.source.asks is n.program.form
+  flat_program s v is refused (by_table f) = flat_not s v refused f
+
+  names_program : (t : HasTree c) (v : Refusal) → RefusesNames t.tree v → HasProgram c → ⊥
+  names_program t v refused (by_tree n) = names_not t v refused n
+  names_program t v refused (by_table f) = one_form f.source.asks t.source.asks f.form t.form
+
+  -- the words NAME=FILE, by one list of names
+  given_there : (p q : HasProgram c) (w : Refusal) → inputs_in p ≡ inputs_in q → RefusesGiven (inputs_in q) (asks_for q).words.given w
+      → RefusesGiven (inputs_in p) (asks_for p).words.given w
+  given_there p q w same refused =
+      let words : (asks_for q).words ≡ (asks_for p).words = same_words (asks_for q) (asks_for p) in
+      subst (λ f. RefusesGiven f (asks_for p).words.given w) (sym same) (subst (λ (u : PlainWords). RefusesGiven (inputs_in q) u.given w) words refused)
 
   -- nor is a judged tree
   judging_not : (n : HasNames c) (v : Refusal) → IsJudged n.program.tree → (m : HasNames c) → RefusesJudging m.program.tree v → ⊥
   judging_not n v judged m refused = judged_not_refused n.program.tree v judged (subst (λ p. RefusesJudging p v) (same_tree m.program n.program) refused)
 
-  -- one who judges runs nothing
-  judging_or_run : (n m : HasNames c) → task_of n.program.source.asks.words ≡ task.Cycles → task_of m.program.source.asks.words ≡ task.Run → ⊥
-  judging_or_run n m is js = absurd (cc (one_task n.program.source.asks m.program.source.asks task.Cycles task.Run is js))
+  -- who judges runs nothing
+  judging_or_run : (n : HasNames c) (p : HasProgram c) → task_of n.program.source.asks.words ≡ task.Cycles → task_of (asks_for p).words ≡ task.Run → ⊥
+  judging_or_run n p is js = absurd (cc (one_task n.program.source.asks (asks_for p) task.Cycles task.Run is js))
 
   -- A call has one first refusal.
   pub one_refusal : (v w : Refusal) (a : Refuses c v) → IsOfMade a → Refuses c w → v ≡ w
   one_refusal v w (by_words none) is_made (by_words none') = refl
-  one_refusal v w (by_words none) is_made (by_task u read not_built) = absurd (cc (none, read))
-  one_refusal v w (by_words none) is_made (by_text s refused) = absurd (not_asked s.asks none)
-  one_refusal v w (by_words none) is_made (by_names t other refused) = absurd (not_asked t.source.asks none)
-  one_refusal v w (by_words none) is_made (by_judging n is refused) = absurd (not_asked n.program.source.asks none)
-  one_refusal v w (by_words none) is_made (by_given n is refused) = absurd (not_asked n.program.source.asks none)
-  one_refusal v w (by_task u read not_built) is_made (by_words none) = absurd (cc (none, read))
-  one_refusal v w (by_task u read not_built) is_made (by_task u' read' not_built') = refl
-  one_refusal v w (by_task u read not_built) is_made (by_text s refused) = absurd (not_unbuilt s.asks u read not_built)
-  one_refusal v w (by_task u read not_built) is_made (by_names t other refused) = absurd (not_unbuilt t.source.asks u read not_built)
-  one_refusal v w (by_task u read not_built) is_made (by_judging n is refused) = absurd (not_unbuilt n.program.source.asks u read not_built)
-  one_refusal v w (by_task u read not_built) is_made (by_given n is refused) = absurd (not_unbuilt n.program.source.asks u read not_built)
-  one_refusal v w (by_text s refused) is_made (by_words none) = absurd (not_asked s.asks none)
-  one_refusal v w (by_text s refused) is_made (by_task u read not_built) = absurd (not_unbuilt s.asks u read not_built)
-  one_refusal v w (by_text s refused) is_made (by_text s' refused') =
-      l.one_text_refusal s.bytes v w refused (subst (λ b. RefusesText b w) (same_bytes s' s) refused')
-  one_refusal v w (by_text s refused) is_made (by_names t other refused') = absurd (text_not s v refused t)
-  one_refusal v w (by_text s refused) is_made (by_judging n is refused') = absurd (text_not s v refused n.program)
-  one_refusal v w (by_text s refused) is_made (by_given n is refused') = absurd (text_not s v refused n.program)
-  one_refusal v w (by_names t other refused) is_made (by_words none) = absurd (not_asked t.source.asks none)
-  one_refusal v w (by_names t other refused) is_made (by_task u read not_built) = absurd (not_unbuilt t.source.asks u read not_built)
-  one_refusal v w (by_names t other refused) is_made (by_text s refused') = absurd (text_not s w refused' t)
-  one_refusal v w (by_names t other refused) is_made (by_names t' other' refused') =
-      l.one_name_refusal t.tree v w is_made refused (subst (λ p. RefusesNames p w) (same_tree t' t) refused')
-  one_refusal v w (by_names t other refused) is_made (by_judging n is refused') = absurd (names_not t v refused n)
-  one_refusal v w (by_names t other refused) is_made (by_given n is refused') = absurd (names_not t v refused n)
-  one_refusal v w (by_judging n is refused) is_made (by_words none) = absurd (not_asked n.program.source.asks none)
-  one_refusal v w (by_judging n is refused) is_made (by_task u read not_built) = absurd (not_unbuilt n.program.source.asks u read not_built)
-  one_refusal v w (by_judging n is refused) is_made (by_text s refused') = absurd (text_not s w refused' n.program)
-  one_refusal v w (by_judging n is refused) is_made (by_names t other refused') = absurd (names_not t w refused' n)
-  one_refusal v w (by_judging n is refused) is_made (by_judging m js refused') =
-      one_judging_refusal n.program.tree v w refused (subst (λ p. RefusesJudging p w) (same_tree m.program n.program) refused')
-  one_refusal v w (by_judging n is refused) is_made (by_given m js refused') = absurd (judging_or_run n m is js)
-  one_refusal v w (by_given n is refused) is_made (by_words none) = absurd (not_asked n.program.source.asks none)
-  one_refusal v w (by_given n is refused) is_made (by_task u read not_built) = absurd (not_unbuilt n.program.source.asks u read not_built)
-  one_refusal v w (by_given n is refused) is_made (by_text s refused') = absurd (text_not s w refused' n.program)
-  one_refusal v w (by_given n is refused) is_made (by_names t other refused') = absurd (names_not t w refused' n)
-  one_refusal v w (by_given n is refused) is_made (by_judging m js refused') = absurd (judging_or_run m n js is)
-  one_refusal v w (by_given n is refused) is_made (by_given m js refused') =
-      given_once n.free n.program.source.asks.words.given v w refused (given_there n m w (same_free n.program is_made n m) refused')
+  one_refusal v w (by_words none) is_made (by_task u' read' nb') = absurd (cc (none, read'))
+  one_refusal v w (by_words none) is_made (by_text s' other' r') = absurd (not_asked s'.asks none)
+  one_refusal v w (by_words none) is_made (by_flat s' is' r') = absurd (not_asked s'.asks none)
+  one_refusal v w (by_words none) is_made (by_names t' other' r') = absurd (not_asked t'.source.asks none)
+  one_refusal v w (by_words none) is_made (by_judging n' is' r') = absurd (not_asked n'.program.source.asks none)
+  one_refusal v w (by_words none) is_made (by_given p' is' r') = absurd (not_asked (asks_for p') none)
+  one_refusal v w (by_task u read nb) is_made (by_words none') = absurd (cc (none', read))
+  one_refusal v w (by_task u read nb) is_made (by_task u' read' nb') = refl
+  one_refusal v w (by_task u read nb) is_made (by_text s' other' r') = absurd (not_unbuilt s'.asks u read nb)
+  one_refusal v w (by_task u read nb) is_made (by_flat s' is' r') = absurd (not_unbuilt s'.asks u read nb)
+  one_refusal v w (by_task u read nb) is_made (by_names t' other' r') = absurd (not_unbuilt t'.source.asks u read nb)
+  one_refusal v w (by_task u read nb) is_made (by_judging n' is' r') = absurd (not_unbuilt n'.program.source.asks u read nb)
+  one_refusal v w (by_task u read nb) is_made (by_given p' is' r') = absurd (not_unbuilt (asks_for p') u read nb)
+  one_refusal v w (by_text s other r) is_made (by_words none') = absurd (not_asked s.asks none')
+  one_refusal v w (by_text s other r) is_made (by_task u' read' nb') = absurd (not_unbuilt s.asks u' read' nb')
+  one_refusal v w (by_text s other r) is_made (by_text s' other' r') = l.one_text_refusal s.bytes v w r (subst (λ b. RefusesText b w) (same_bytes s' s) r')
+  one_refusal v w (by_text s other r) is_made (by_flat s' is' r') = absurd (one_form s'.asks s.asks is' other)
+  one_refusal v w (by_text s other r) is_made (by_names t' other' r') = absurd (text_not s v r t')
+  one_refusal v w (by_text s other r) is_made (by_judging n' is' r') = absurd (text_not s v r n'.program)
+  one_refusal v w (by_text s other r) is_made (by_given p' is' r') = absurd (text_program s v other r p')
+  one_refusal v w (by_flat s is r) is_made (by_words none') = absurd (not_asked s.asks none')
+  one_refusal v w (by_flat s is r) is_made (by_task u' read' nb') = absurd (not_unbuilt s.asks u' read' nb')
+  one_refusal v w (by_flat s is r) is_made (by_text s' other' r') = absurd (one_form s.asks s'.asks is other')
+  one_refusal v w (by_flat s is r) is_made (by_flat s' is' r') = l.one_flat_refusal s.bytes v w r (subst (λ b. RefusesFlat b w) (same_bytes s' s) r')
+  one_refusal v w (by_flat s is r) is_made (by_names t' other' r') = absurd (one_form s.asks t'.source.asks is t'.form)
+  one_refusal v w (by_flat s is r) is_made (by_judging n' is' r') = absurd (one_form s.asks n'.program.source.asks is n'.program.form)
+  one_refusal v w (by_flat s is r) is_made (by_given p' is' r') = absurd (flat_program s v is r p')
+  one_refusal v w (by_names t other r) is_made (by_words none') = absurd (not_asked t.source.asks none')
+  one_refusal v w (by_names t other r) is_made (by_task u' read' nb') = absurd (not_unbuilt t.source.asks u' read' nb')
+  one_refusal v w (by_names t other r) is_made (by_text s' other' r') = absurd (text_not s' w r' t)
+  one_refusal v w (by_names t other r) is_made (by_flat s' is' r') = absurd (one_form s'.asks t.source.asks is' t.form)
+  one_refusal v w (by_names t other r) is_made (by_names t' other' r') = l.one_name_refusal t.tree v w is_made r (subst (λ p. RefusesNames p w) (same_tree t' t) r')
+  one_refusal v w (by_names t other r) is_made (by_judging n' is' r') = absurd (names_not t v r n')
+  one_refusal v w (by_names t other r) is_made (by_given p' is' r') = absurd (names_program t v r p')
+  one_refusal v w (by_judging n is r) is_made (by_words none') = absurd (not_asked n.program.source.asks none')
+  one_refusal v w (by_judging n is r) is_made (by_task u' read' nb') = absurd (not_unbuilt n.program.source.asks u' read' nb')
+  one_refusal v w (by_judging n is r) is_made (by_text s' other' r') = absurd (text_not s' w r' n.program)
+  one_refusal v w (by_judging n is r) is_made (by_flat s' is' r') = absurd (one_form s'.asks n.program.source.asks is' n.program.form)
+  one_refusal v w (by_judging n is r) is_made (by_names t' other' r') = absurd (names_not t' w r' n)
+  one_refusal v w (by_judging n is r) is_made (by_judging n' is' r') = one_judging_refusal n.program.tree v w r (subst (λ p. RefusesJudging p w) (same_tree n'.program n.program) r')
+  one_refusal v w (by_judging n is r) is_made (by_given p' is' r') = absurd (judging_or_run n p' is is')
+  one_refusal v w (by_given p is r) is_made (by_words none') = absurd (not_asked (asks_for p) none')
+  one_refusal v w (by_given p is r) is_made (by_task u' read' nb') = absurd (not_unbuilt (asks_for p) u' read' nb')
+  one_refusal v w (by_given p is r) is_made (by_text s' other' r') = absurd (text_program s' w other' r' p)
+  one_refusal v w (by_given p is r) is_made (by_flat s' is' r') = absurd (flat_program s' w is' r' p)
+  one_refusal v w (by_given p is r) is_made (by_names t' other' r') = absurd (names_program t' w r' p)
+  one_refusal v w (by_given p is r) is_made (by_judging n' is' r') = absurd (judging_or_run n' p is' is)
+  one_refusal v w (by_given p is r) is_made (by_given p' is' r') = given_once (inputs_in p) (asks_for p).words.given v w r (given_there p p' w (same_inputs p p' is_made) r')
 
   -- a program that is run isn't refused, nor is one of which a text is written
-  pub run_not_refused : (r : IsRun c) (v : Refusal) → Refuses c v → ((n : HasNames c) → r.names.free ≡ n.free) → ⊥
-  run_not_refused r v (by_words none) lists = not_asked r.names.program.source.asks none
-  run_not_refused r v (by_task u read not_built) lists = not_unbuilt r.names.program.source.asks u read not_built
-  run_not_refused r v (by_text s refused) lists = text_not s v refused r.names.program
-  run_not_refused r v (by_names t other refused) lists = names_not t v refused r.names
-  run_not_refused r v (by_judging n is refused) lists = judging_or_run n r.names is r.task
-  run_not_refused r v (by_given n is refused) lists =
-      given_fits r.names.free r.names.program.source.asks.words.given v (given_there r.names n v (lists n) refused) r.fits
+  pub run_not_refused : (x : IsRun c) (v : Refusal) → Refuses c v → ((q : HasProgram c) → inputs_in x.program ≡ inputs_in q) → ⊥
+  run_not_refused x v (by_words none) lists = not_asked (asks_for x.program) none
+  run_not_refused x v (by_task u read nb) lists = not_unbuilt (asks_for x.program) u read nb
+  run_not_refused x v (by_text s other r) lists = text_program s v other r x.program
+  run_not_refused x v (by_flat s is r) lists = flat_program s v is r x.program
+  run_not_refused x v (by_names t other r) lists = names_program t v r x.program
+  run_not_refused x v (by_judging n is r) lists = judging_or_run n x.program is x.task
+  run_not_refused x v (by_given p is r) lists = given_fits (inputs_in x.program) (asks_for x.program).words.given v (given_there x.program p v (lists p) r) x.fits
 
   pub text_not_refused : (x : IsWriting c) (v : Refusal) → Refuses c v → ⊥
-  text_not_refused (prints p js) v (by_words none) = not_asked p.source.asks none
-  text_not_refused (prints p js) v (by_task u read not_built) = not_unbuilt p.source.asks u read not_built
-  text_not_refused (prints p js) v (by_text s refused) = text_not s v refused p
-  text_not_refused (prints p js) v (by_names t other refused) = absurd (other (ap task_of (same_words t.source.asks p.source.asks) ∙ js))
-  text_not_refused (prints p js) v (by_judging n is refused) = absurd (cc (one_task n.program.source.asks p.source.asks task.Cycles task.Print is js))
-  text_not_refused (prints p js) v (by_given n is refused) = absurd (cc (one_task n.program.source.asks p.source.asks task.Run task.Print is js))
-  text_not_refused (judges m js judged) v (by_words none) = not_asked m.program.source.asks none
-  text_not_refused (judges m js judged) v (by_task u read not_built) = not_unbuilt m.program.source.asks u read not_built
-  text_not_refused (judges m js judged) v (by_text s refused) = text_not s v refused m.program
-  text_not_refused (judges m js judged) v (by_names t other refused) = names_not t v refused m
-  text_not_refused (judges m js judged) v (by_judging n is refused) = judging_not m v judged n refused
-  text_not_refused (judges m js judged) v (by_given n is refused) = judging_or_run m n js is
+  text_not_refused (prints q js) v (by_words none) = absurd (not_asked q.source.asks none)
+  text_not_refused (prints q js) v (by_task u read nb) = absurd (not_unbuilt q.source.asks u read nb)
+  text_not_refused (prints q js) v (by_text s other r) = absurd (text_not s v r q)
+  text_not_refused (prints q js) v (by_flat s is r) = absurd (one_form s.asks q.source.asks is q.form)
+  text_not_refused (prints q js) v (by_names t other r) = absurd (other (ap task_of (same_words t.source.asks q.source.asks) ∙ js))
+  text_not_refused (prints q js) v (by_judging n is r) = absurd (cc (one_task n.program.source.asks q.source.asks task.Cycles task.Print is js))
+  text_not_refused (prints q js) v (by_given p is r) = absurd (cc (one_task (asks_for p) q.source.asks task.Run task.Print is js))
+  text_not_refused (judges m js judged) v (by_words none) = absurd (not_asked m.program.source.asks none)
+  text_not_refused (judges m js judged) v (by_task u read nb) = absurd (not_unbuilt m.program.source.asks u read nb)
+  text_not_refused (judges m js judged) v (by_text s other r) = absurd (text_not s v r m.program)
+  text_not_refused (judges m js judged) v (by_flat s is r) = absurd (one_form s.asks m.program.source.asks is m.program.form)
+  text_not_refused (judges m js judged) v (by_names t other r) = absurd (names_not t v r m)
+  text_not_refused (judges m js judged) v (by_judging n is r) = absurd (judging_not m v judged n r)
+  text_not_refused (judges m js judged) v (by_given p is r) = absurd (cc (one_task (asks_for p) m.program.source.asks task.Run task.Cycles is js))
+  text_not_refused (flattens m js) v (by_words none) = absurd (not_asked m.program.source.asks none)
+  text_not_refused (flattens m js) v (by_task u read nb) = absurd (not_unbuilt m.program.source.asks u read nb)
+  text_not_refused (flattens m js) v (by_text s other r) = absurd (text_not s v r m.program)
+  text_not_refused (flattens m js) v (by_flat s is r) = absurd (one_form s.asks m.program.source.asks is m.program.form)
+  text_not_refused (flattens m js) v (by_names t other r) = absurd (names_not t v r m)
+  text_not_refused (flattens m js) v (by_judging n is r) = absurd (cc (one_task n.program.source.asks m.program.source.asks task.Cycles task.Flat is js))
+  text_not_refused (flattens m js) v (by_given p is r) = absurd (cc (one_task (asks_for p) m.program.source.asks task.Run task.Flat is js))
 
   -- a call writes texts of one kind, of one tree
   pub same_text : (x y : IsWriting c) (text : List ℕ) → IsTextFor x text → IsTextFor y text
-  same_text (prints t is) (prints u js) text h = h ∙ ap canonical (same_tree t u)
-  same_text (prints t is) (judges m js judged) text h = absurd (cc (one_task t.source.asks m.program.source.asks task.Print task.Cycles is js))
-  same_text (judges n is judged) (prints u js) text h = absurd (cc (one_task n.program.source.asks u.source.asks task.Cycles task.Print is js))
-  same_text (judges n is judged) (judges m js judged') text h = subst (λ p. IsJudgmentLine p text) (same_tree n.program m.program) h
+  same_text (prints t is) (prints t' is') text h = h ∙ ap canonical (same_tree t t')
+  same_text (prints t is) (judges n' is' judged') text h = absurd (cc (one_task t.source.asks n'.program.source.asks task.Print task.Cycles is is'))
+  same_text (prints t is) (flattens n' is') text h = absurd (cc (one_task t.source.asks n'.program.source.asks task.Print task.Flat is is'))
+  same_text (judges n is judged) (prints t' is') text h = absurd (cc (one_task n.program.source.asks t'.source.asks task.Cycles task.Print is is'))
+  same_text (judges n is judged) (judges n' is' judged') text h = subst (λ p. IsJudgmentLine p text) (same_tree n.program n'.program) h
+  same_text (judges n is judged) (flattens n' is') text h = absurd (cc (one_task n.program.source.asks n'.program.source.asks task.Cycles task.Flat is is'))
+  same_text (flattens n is) (prints t' is') text h = absurd (cc (one_task n.program.source.asks t'.source.asks task.Flat task.Print is is'))
+  same_text (flattens n is) (judges n' is' judged') text h = absurd (cc (one_task n.program.source.asks n'.program.source.asks task.Flat task.Cycles is is'))
+  same_text (flattens n is) (flattens n' is') text h = subst (λ p. IsFlatForm p text) (same_tree n.program n'.program) h
 
   -- nor is one that is run stopped by the refusal of a well-made tree
-  pub run_not_stopped : (r : IsRun c) (v : Refusal) (a : Refuses c v) → IsOfMade a → ⊥
-  run_not_stopped r v (by_words none) is_made = not_asked r.names.program.source.asks none
-  run_not_stopped r v (by_task u read not_built) is_made = not_unbuilt r.names.program.source.asks u read not_built
-  run_not_stopped r v (by_text s refused) is_made = text_not s v refused r.names.program
-  run_not_stopped r v (by_names t other refused) is_made = names_not t v refused r.names
-  run_not_stopped r v (by_judging n is refused) is_made = judging_or_run n r.names is r.task
-  run_not_stopped r v (by_given n is refused) is_made = run_not_refused r v (by_given n is refused) (λ m. same_free n.program is_made r.names m)
+  pub run_not_stopped : (x : IsRun c) (v : Refusal) (a : Refuses c v) → IsOfMade a → ⊥
+  run_not_stopped x v (by_words none) is_made = not_asked (asks_for x.program) none
+  run_not_stopped x v (by_task u read nb) is_made = not_unbuilt (asks_for x.program) u read nb
+  run_not_stopped x v (by_text s other r) is_made = text_program s v other r x.program
+  run_not_stopped x v (by_flat s is r) is_made = flat_program s v is r x.program
+  run_not_stopped x v (by_names t other r) is_made = names_program t v r x.program
+  run_not_stopped x v (by_judging n is r) is_made = judging_or_run n x.program is x.task
+  run_not_stopped x v (by_given p is r) is_made = run_not_refused x v (by_given p is r) (λ q. sym (same_inputs p x.program is_made) ∙ same_inputs p q is_made)

@@ -1,5 +1,5 @@
--- What the scanner and the parser refuse, as refusals of a call.
-use Rattle.std.proofs.Common.{ℕ, List, refl}
+-- What the scanner, the parser and the flat form refuse, as refusals of a call.
+use Rattle.std.proofs.Common.{ℕ, ◌≤◌, List, length, refl}
 use Rattle.lucid_scan.specs.declared.token.Token.{Token}
 use Rattle.lucid_scan.specs.declared.refusal.ScanRefusal.{ScanRefusal}
 use Rattle.lucid_scan.specs.declared.refusal.ScanRefusal.TheVariants as scan
@@ -7,7 +7,15 @@ use Rattle.lucid_scan.specs.Refusals.{Refuses}
 use Rattle.lucid_parse.specs.declared.refusal.ParseRefusal.{ParseRefusal}
 use Rattle.lucid_parse.specs.declared.refusal.ParseRefusal.TheVariants as parse
 use Rattle.lucid_parse.specs.Spelled.{IsRefused}
-use Rattle.lucid_top.specs.Refusals.{scan_stop, parse_stop, IsRefusalOf}
+use Rattle.lucid_equations.specs.declared.table.Table.{Table}
+use Rattle.lucid_flat.specs.declared.read.FlatRefusal.{FlatRefusal}
+use Rattle.lucid_flat.specs.declared.read.FlatRefusal.TheVariants as flat
+use Rattle.lucid_flat.specs.LinesRead.{IsRefused as IsLineRefused}
+use Rattle.lucid_sound.specs.declared.program.BuildRefusal.{BuildRefusal}
+use Rattle.lucid_sound.specs.declared.program.BuildRefusal.TheVariants as build
+use Rattle.lucid_sound.specs.WrongRows.{IsRefused as IsTableRefused}
+use Rattle.lucid_top.specs.Flat.{most_flat_bytes, HasTable, RefusesFlat, by_line, by_row}
+use Rattle.lucid_top.specs.Refusals.{scan_stop, parse_stop, flat_stop, build_stop, IsRefusalOf}
 use Rattle.lucid_top.specs.Judged.{HasTokens, RefusesText, by_scan, by_parse}
 
 pub scan_refuses : (source : List ℕ) (e : ScanRefusal) → Refuses source e → IsRefusalOf (RefusesText source) (scan_stop e)
@@ -22,3 +30,15 @@ pub parse_refuses : (source : List ℕ) (tokens : List Token) (e : ParseRefusal)
 parse_refuses source tokens (parse.Syntax at) has r = by_parse (parse.Syntax at) tokens refl has r
 parse_refuses source tokens (parse.TooNested at) has r = by_parse (parse.TooNested at) tokens refl has r
 parse_refuses source tokens parse.NoMemory has r = tt
+
+pub flat_refuses : (source : List ℕ) (e : FlatRefusal) → length source ≤ most_flat_bytes → IsLineRefused source e → IsRefusalOf (RefusesFlat source) (flat_stop e)
+flat_refuses source (flat.Form line) short r = by_line short r
+flat_refuses source flat.NoMemory short r = tt
+
+pub build_refuses : (source : List ℕ) (t : Table) (e : BuildRefusal) → HasTable source t → IsTableRefused t e → IsRefusalOf (RefusesFlat source) (build_stop e)
+build_refuses source t (build.Scope at) has r = by_row t (build.Scope at) refl has r
+build_refuses source t (build.Node at) has r = by_row t (build.Node at) refl has r
+build_refuses source t (build.Name at) has r = by_row t (build.Name at) refl has r
+build_refuses source t (build.Place at) has r = by_row t (build.Place at) refl has r
+build_refuses source t build.Root has r = by_row t build.Root refl has r
+build_refuses source t build.NoMemory has r = tt

@@ -8,26 +8,26 @@ use Rattle.std.proofs.lemmas.List.{length-map}
 use Rattle.std.proofs.lemmas.List.FromFn.{length-range_with_len, get_or-range_with_len}
 use Rattle.std.proofs.lemmas.Option.{slice_get-get_or, slice_get_within, get_or_from_slice_get, unwrap_or-slice_get}
 use Rattle.lucid_ports.specs.World.{World, Place, IsFresh, unread}
-use Rattle.lucid_tree.specs.Tree.{PlainTree}
+use Rattle.lucid_equations.specs.declared.table.Table.{Table}
+use Rattle.lucid_scan.specs.Refusals.{most_source_bytes}
 use Rattle.lucid_words.specs.declared.Given.{Given as Word}
 use Rattle.lucid_words.specs.Plain.{plain_given}
 use Rattle.lucid_words.specs.Asked.{PlainWords}
 use Rattle.lucid_top.specs.declared.stop.Done.TheVariants as done
 use Rattle.lucid_top.specs.declared.stop.Stop.TheVariants as stop
-use Rattle.lucid_top.specs.declared.task.Task.TheVariants as task
 use Rattle.lucid_top.specs.Status.{Outcome}
 use Rattle.lucid_top.specs.Call.{Call}
 use Rattle.lucid_top.specs.Tasks.{task_of}
-use Rattle.lucid_top.specs.Judged.{HasInputs}
+use Rattle.lucid_top.specs.Programs.{Program, of_table}
 use Rattle.lucid_top.specs.Files.{Given, FitsGiven, file_given, files_for}
-use Rattle.lucid_top.specs.Stages.{IsRun}
-use Rattle.lucid_top.specs.Places.{KeepsNames, IsAccepted, AreFresh, AreUnread}
-use Rattle.lucid_top.specs.Runs.{first_place, program_of, input_places, unread_place, world_before, world_after, viewed, RanSo}
+use Rattle.lucid_top.specs.Stages.{asks_for, program_in, inputs_in, IsRun}
+use Rattle.lucid_top.specs.Places.{KeepsNames, AreFresh, AreUnread}
+use Rattle.lucid_top.specs.Runs.{Run, first_place, run_of, input_places, unread_place, world_before, world_after, viewed, view_of, RanSo}
 use Rattle.lucid_top.specs.Running.{RunComesOnly}
 use Rattle.lucid_top.specs.Clauses.{ComesOnly}
-use Rattle.lucid_top.specs.Coming.{Comes}
+use Rattle.lucid_top.specs.Coming.{RunsTable, Comes}
 use Rattle.lucid_top.proofs.Pieces.{rises_from}
-use Rattle.lucid_top.proofs.Ending.{Begins, names_of, run_not_print, first_place_le}
+use Rattle.lucid_top.proofs.Ending.{words_of, first_place_le}
 use Rattle.lucid_top.proofs.Views.{TellAlike, ran_alike}
 
 -- a number of a range
@@ -89,10 +89,10 @@ reached_of free given refs refs' v u numbers same are fresh reached numbers_are 
     record { fresh = subst (λ fs. AreFresh fs v u) files fresh; reached = omega (arith, reached, long); numbers_are = numbers_are ∙ ap (range_with_len v.reached) long }
 
 -- what the places tell of the inputs before the run, told from the files
-told_before : (c : Call) (w : PlainWords) (p : PlainTree) (free : List (List ℕ)) (v u : World) → v.reached ≡ first_place w.source → KeepsNames c.before v
+told_before : (c : Call) (w : PlainWords) (p : Program) (free : List (List ℕ)) (v u : World) → v.reached ≡ first_place w.source → KeepsNames c.before v
     → AreFresh (files_for free w.given) v u → u.reached ≡ v.reached + length (files_for free w.given)
     → (k q : ℕ) → slice_get (range_with_len (first_place w.source) (length free)) k ≡ Some q
-    → (unread_place c (record { words = w; tree = p; free = free }) q).contents ≡ (u.place q).contents
+    → (unread_place c (record { words = w; program = p; inputs = free }) q).contents ≡ (u.place q).contents
 told_before c w p free v u first kept fresh reached k q at =
     let files : List (List ℕ) = files_for free w.given in
     let long : length files ≡ length free = files_long free w.given in
@@ -106,23 +106,23 @@ told_before c w p free v u first kept fresh reached k q at =
     ap (λ n. option_map unread (c.before.holds n)) name ∙ ap (option_map unread) (sym (kept.names file)) ∙ sym place.contents ∙ ap (λ n. (u.place n).contents) (sym at_place)
 
 -- the command's own view of its inputs tells the same as their places
-tells_alike : (c : Call) (w : PlainWords) (p : PlainTree) (free : List (List ℕ)) (v u : World) → v.reached ≡ first_place w.source → KeepsNames c.before v → KeepsNames v u
+tells_alike : (c : Call) (w : PlainWords) (p : Program) (free : List (List ℕ)) (v u : World) → v.reached ≡ first_place w.source → KeepsNames c.before v → KeepsNames v u
     → AreFresh (files_for free w.given) v u → u.reached ≡ v.reached + length (files_for free w.given) → c.after.reached ≡ u.reached → u.faults ≤ c.after.faults
-    → TellAlike (input_places (record { words = w; tree = p; free = free })) u c.after
-    (world_before c (record { words = w; tree = p; free = free })) (world_after c (record { words = w; tree = p; free = free }))
+    → TellAlike (input_places (record { words = w; program = p; inputs = free })) u c.after
+    (world_before c (record { words = w; program = p; inputs = free })) (world_after c (record { words = w; program = p; inputs = free }))
 tells_alike c w p free v u first kept kept' fresh reached same mono = record {
   before = told_before c w p free v u first kept fresh reached;
   after = λ k q at.
       let here = in_range (first_place w.source) (length free) k q at in
       let long : length (files_for free w.given) ≡ length free = files_long free w.given in
       let lt : q < c.after.reached = omega (arith, here.0, here.1, long, first, reached, same) in
-      let_through (nat_lt q c.after.reached) (c.after.place q) (unread_place c (record { words = w; tree = p; free = free }) q) (lt-ltb q c.after.reached lt);
+      let_through (nat_lt q c.after.reached) (c.after.place q) (unread_place c (record { words = w; program = p; inputs = free }) q) (lt-ltb q c.after.reached lt);
   faults = λ rises. rises_from c.before.faults u.faults c.after.faults (omega (arith, kept.faults, kept'.faults)) mono rises;
 }
 
 -- what a run has for its outcome, the call has
 run_only : (c : Call) (r : IsRun c) (u : World) (o : Outcome) → c.before.faults ≤ u.faults → u.faults ≤ c.after.faults
-    → RunComesOnly (program_of r).words (program_of r).free u.faults c.after.faults c.out_before.faults c.out_after.faults o → ComesOnly c o
+    → RunComesOnly (run_of r).words (run_of r).inputs u.faults c.after.faults c.out_before.faults c.out_after.faults o → ComesOnly c o
 run_only c r u (Ok (done.Ran summary stats)) le mono h = (r, h.0, h.1)
 run_only c r u (Ok done.Written) le mono h = absurd h
 run_only c r u (Err (stop.Refused why)) le mono h = absurd h
@@ -133,30 +133,45 @@ run_only c r u (Err (stop.TooLarge stream name)) le mono h = (r, h)
 run_only c r u (Err stop.NoMemory) le mono h = tt
 
 -- what is known of a run once it has ended, over the places as they were after the source was read, and once the inputs were reached
-pub record Ended (c : Call) (w : PlainWords) (p : PlainTree) (free : List (List ℕ)) (v u : World) (numbers : List ℕ) (o : Outcome) : Type 0 where
-  pub first : v.reached ≡ first_place w.source
-  pub kept : KeepsNames c.before v
+pub record Ended (c : Call) (w : PlainWords) (t : Table) (v u : World) (numbers : List ℕ) (o : Outcome) : Type 0 where
   pub kept_on : KeepsNames v u
-  pub inputs : Reached free w.given v u numbers
-  pub few : length free ≤ 1048576
+  pub inputs : Reached t.inputs w.given v u numbers
+  pub few : length t.inputs ≤ most_source_bytes
   pub same_reached : c.after.reached ≡ u.reached
   pub faults : u.faults ≤ c.after.faults
-  pub ran : RanSo p (viewed w free numbers u c.after c.out_before c.out_after) o
-  pub only : RunComesOnly w free u.faults c.after.faults c.out_before.faults c.out_after.faults o
+  pub ran : RanSo (of_table t) (viewed w t.inputs numbers u c.after c.out_before c.out_after) o
+  pub only : RunComesOnly w t.inputs u.faults c.after.faults c.out_before.faults c.out_after.faults o
 
-pub runs : (c : Call) (w : PlainWords) (p : PlainTree) (free : List (List ℕ)) (v u : World) (numbers : List ℕ) (o : Outcome) → Begins c w → task_of w ≡ task.Run
-    → IsAccepted w.source c.before p → HasInputs p free → FitsGiven free w.given → Ended c w p free v u numbers o → Comes c o
-runs c w p free v u numbers o b is a inputs fits e =
-    let r : IsRun c = record { names = names_of c w p free b (run_not_print w is) a inputs; task = is; fits = fits } in
-    let long : length (files_for free w.given) ≡ length free = files_long free w.given in
-    let places : numbers ≡ range_with_len (first_place w.source) (length free) =
-    e.inputs.numbers_are ∙ ap (λ n. range_with_len n (length (files_for free w.given))) e.first ∙ ap (range_with_len (first_place w.source)) long in
-    let seen : RanSo p (viewed w free (range_with_len (first_place w.source) (length free)) u c.after c.out_before c.out_after) o =
-    subst (λ qs. RanSo p (viewed w free qs u c.after c.out_before c.out_after) o) places e.ran in
-    let alike = tells_alike c w p free v u e.first e.kept e.kept_on e.inputs.fresh e.inputs.reached e.same_reached e.faults in
+-- a run of these words, of this program, with inputs of these names
+abbrev run_with : PlainWords → Program → List (List ℕ) → Run
+run_with w p names = record { words = w; program = p; inputs = names }
+
+one_run : {v w : PlainWords} (p : Program) {f g : List (List ℕ)} → v ≡ w → f ≡ g → run_with v p f ≡ run_with w p g
+one_run p a b = cc (a, b)
+
+pub runs : (c : Call) (w : PlainWords) (t : Table) (v u : World) (numbers : List ℕ) (o : Outcome) → RunsTable c w t v → FitsGiven t.inputs w.given → Ended c w t v u numbers o → Comes c o
+runs c w t v u numbers o b fits e =
+    let p : Program = program_in b.program in
+    let words : (asks_for b.program).words ≡ w = words_of c w t v b in
+    let fits' : FitsGiven (inputs_in b.program) (asks_for b.program).words.given =
+    subst (λ (x : PlainWords). FitsGiven (inputs_in b.program) x.given) (sym words) (subst (λ names. FitsGiven names w.given) (sym b.inputs) fits) in
+    let r : IsRun c = record { program = b.program; task = ap task_of words ∙ b.task; fits = fits' } in
+    let same : run_with w p t.inputs ≡ run_of r = one_run p (sym words) (sym b.inputs) in
+    let long : length (files_for t.inputs w.given) ≡ length t.inputs = files_long t.inputs w.given in
+    let places : numbers ≡ range_with_len (first_place w.source) (length t.inputs) =
+    e.inputs.numbers_are ∙ ap (λ n. range_with_len n (length (files_for t.inputs w.given))) b.first ∙ ap (range_with_len (first_place w.source)) long in
+    let seen : RanSo p (viewed w t.inputs (range_with_len (first_place w.source) (length t.inputs)) u c.after c.out_before c.out_after) o =
+    subst (λ qs. RanSo p (viewed w t.inputs qs u c.after c.out_before c.out_after) o) places (b.runs _ o e.ran) in
+    let alike = tells_alike c w p t.inputs v u b.first b.kept e.kept_on e.inputs.fresh e.inputs.reached e.same_reached e.faults in
     let one = first_place_le w.source in
+    let first = b.first in
+    let few = e.few in
+    let ran : RanSo p (view_of c (run_with w p t.inputs)) o =
+    ran_alike w t.inputs (range_with_len (first_place w.source) (length t.inputs)) u c.after (world_before c (run_with w p t.inputs)) (world_after c (run_with w p t.inputs)) c.out_before c.out_after alike p o seen in
+    let only : RunComesOnly (run_of r).words (run_of r).inputs u.faults c.after.faults c.out_before.faults c.out_after.faults o =
+    subst (λ (x : Run). RunComesOnly x.words x.inputs u.faults c.after.faults c.out_before.faults c.out_after.faults o) same e.only in
     record {
-      only = run_only c r u o (omega (arith, e.kept.faults, e.kept_on.faults)) e.faults e.only;
-      how = inr (inl (r, a.well_made, ran_alike w free (range_with_len (first_place w.source) (length free)) u c.after (world_before c (program_of r)) (world_after c (program_of r)) c.out_before c.out_after alike p o seen));
-      few_places = omega (arith, e.same_reached, e.inputs.reached, long, e.few, e.first, one);
+      only = run_only c r u o (omega (arith, b.kept.faults, e.kept_on.faults)) e.faults only;
+      how = inr (inl (r, b.made, subst (λ (x : Run). RanSo x.program (view_of c x) o) same ran));
+      few_places = omega (arith, e.same_reached, e.inputs.reached, long, few, first, one);
     }

@@ -8,14 +8,14 @@ use Rattle.lucid_ports.specs.declared.run.Summary.{Summary}
 use Rattle.lucid_ports.specs.declared.run.RunFault.{RunFault}
 use Rattle.lucid_ports.specs.declared.run.RunFault.TheVariants as fault
 use Rattle.lucid_inputs.specs.Streams.{all_bytes}
-use Rattle.lucid_tree.specs.Tree.{PlainTree}
 use Rattle.lucid_tree.specs.Levels.{Elements}
 use Rattle.lucid_words.specs.Asked.{PlainWords}
-use Rattle.lucid_session.specs.Subject.{Subject, stream_subject, tree_stream}
+use Rattle.lucid_session.specs.Subject.{Subject, stream_subject}
 use Rattle.lucid_session.specs.Runs.{Told, HasElements, Written, ForSomeAdded, ConsultsOverlong, IsDone, IsTooDeep, OnTooDeep, OnTooLarge, Ran}
 use Rattle.lucid_session.specs.Figures.{Counted, Figures, OnClearings}
 use Rattle.lucid_top.specs.Status.{Outcome}
-use Rattle.lucid_top.specs.Runs.{tree_counted, viewed, most_input_bytes, run_result, RanSo}
+use Rattle.lucid_top.specs.Programs.{Program, program_stream, program_counted}
+use Rattle.lucid_top.specs.Runs.{viewed, most_input_bytes, run_result, RanSo}
 
 -- what is said of the input that is too large, of the time that is too deep and of clearings, weakened
 large_weaker : (result : Result Summary RunFault) (P Q : ℕ → Type 0) → ((k : ℕ) → P k → Q k) → IfErr result (λ e. OnTooLarge e P) → IfErr result (λ e. OnTooLarge e Q)
@@ -98,11 +98,11 @@ module _ (w : PlainWords) (free : List (List ℕ)) (qs : List ℕ) (u v u' v' : 
   elements_back : (b : Elements) → HasElements (viewed w free qs u' v' o p) b → HasElements (viewed w free qs u v o p) b
   elements_back b has k n q is = let x = has k n q is in (x.0, sym (a.before k q is.1) ∙ x.1, x.2)
 
-  some_ran : (e : PlainTree) (b : Elements) (x : Option (Result Summary RunFault))
-      → IsSomeAnd x (λ y. Ran (stream_subject (tree_stream e)) b (viewed w free qs u v o p) y × Figures (tree_counted e) b (viewed w free qs u v o p) y)
-      → IsSomeAnd x (λ y. Ran (stream_subject (tree_stream e)) b (viewed w free qs u' v' o p) y × Figures (tree_counted e) b (viewed w free qs u' v' o p) y)
-  some_ran e b None h = absurd h
-  some_ran e b (Some y) h = (ran_too (stream_subject (tree_stream e)) b y h.0, figures_too (tree_counted e) b y h.1)
+  some_ran : (prog : Program) (b : Elements) (x : Option (Result Summary RunFault))
+      → IsSomeAnd x (λ y. Ran (stream_subject (program_stream prog)) b (viewed w free qs u v o p) y × Figures (program_counted prog) b (viewed w free qs u v o p) y)
+      → IsSomeAnd x (λ y. Ran (stream_subject (program_stream prog)) b (viewed w free qs u' v' o p) y × Figures (program_counted prog) b (viewed w free qs u' v' o p) y)
+  some_ran prog b None h = absurd h
+  some_ran prog b (Some y) h = (ran_too (stream_subject (program_stream prog)) b y h.0, figures_too (program_counted prog) b y h.1)
 
-  pub ran_alike : (e : PlainTree) (out : Outcome) → RanSo e (viewed w free qs u v o p) out → RanSo e (viewed w free qs u' v' o p) out
-  ran_alike e out h b has = some_ran e b (run_result out) (h b (elements_back b has))
+  pub ran_alike : (prog : Program) (out : Outcome) → RanSo prog (viewed w free qs u v o p) out → RanSo prog (viewed w free qs u' v' o p) out
+  ran_alike prog out h b has = some_ran prog b (run_result out) (h b (elements_back b has))

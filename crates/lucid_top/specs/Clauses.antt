@@ -14,7 +14,7 @@ use Rattle.lucid_top.specs.Tasks.{task_of, form_of, is_built, wants_figures}
 use Rattle.lucid_top.specs.Telling.{Tells}
 use Rattle.lucid_top.specs.Writing.{WritesSome, WritesSomeFront}
 use Rattle.lucid_top.specs.Stages.{IsTold, Asks, IsWriting, IsTextFor, IsRun, Refuses}
-use Rattle.lucid_top.specs.Runs.{most_places, program_of, view_of, RanSo}
+use Rattle.lucid_top.specs.Runs.{most_places, run_of, view_of, RanSo}
 use Rattle.lucid_top.specs.Running.{HoldsWithin}
 
 -- a call on the places failed
@@ -36,13 +36,13 @@ TellsSource c = (a : Asks c) → IsTold a.words.source c.before
 -- Each outcome comes only where this holds.
 abbrev pub ComesOnly : Call → Outcome → Type 0
 ComesOnly c (Ok (done.Ran summary stats)) =
-    (r : IsRun c) × (stats ≡ wants_figures (program_of r).words) × HoldsWithin (program_of r).words summary.held
+    (r : IsRun c) × (stats ≡ wants_figures (run_of r).words) × HoldsWithin (run_of r).words summary.held
 ComesOnly c (Ok done.Written) = IsWriting c
 ComesOnly c (Err (stop.Refused why)) = Refuses c why × WritesNothing c
 ComesOnly c (Err stop.ReadFault) = ReadFails c
 ComesOnly c (Err stop.WriteFault) = WriteFails c
-ComesOnly c (Err (stop.TooDeep time lost cleared stats)) = (r : IsRun c) × (stats ≡ wants_figures (program_of r).words)
-ComesOnly c (Err (stop.TooLarge stream name)) = (r : IsRun c) × (slice_get (program_of r).free stream ≡ Some name)
+ComesOnly c (Err (stop.TooDeep time lost cleared stats)) = (r : IsRun c) × (stats ≡ wants_figures (run_of r).words)
+ComesOnly c (Err (stop.TooLarge stream name)) = (r : IsRun c) × (slice_get (run_of r).inputs stream ≡ Some name)
 ComesOnly c (Err stop.NoMemory) = Unit {0}
 
 -- the outcome is that refusal, or there was no memory
@@ -75,9 +75,9 @@ pub record MeetsClauses (c : Call) (report_before report_after : Told) (s : Stat
   pub refused_where : RefusedWhere c outcome
   -- Nothing is written but by a run, or where a text is asked for.
   pub silent : WritesNothing c ⊎ (IsRun c ⊎ IsWriting c)
-  -- The headline: a program that is accepted is run. What is written are the values of its least fixed point, in order and without gaps.
-  pub headline : (r : IsRun c) → TellsSource c → RanSo (program_of r).tree (view_of c (program_of r)) outcome
+  -- The headline: a program that is accepted is run, be it a tree or a table. What is written are the values of its least fixed point, in order and without gaps.
+  pub headline : (r : IsRun c) → TellsSource c → RanSo (run_of r).program (view_of c (run_of r)) outcome
   -- Where a text is asked for, of the tree that the source spells, that text is written.
   pub written : (x : IsWriting c) → TellsSource c → Writes c outcome (IsTextFor x)
-  -- No more places are reached than a source and its free names can need.
+  -- No more places are reached than a source and its inputs can need.
   pub few_places : c.after.reached ≤ most_places

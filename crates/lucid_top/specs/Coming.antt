@@ -1,14 +1,20 @@
 -- How a call comes to its outcome, as its parts say it.
 use Rattle.std.specs.Prelude.{◌≡◌, ℕ, ◌<◌, ◌≤◌, ◌⊎◌, [], Some, Err}
-use Rattle.lucid_ports.specs.World.{Contents}
+use Rattle.lucid_ports.specs.World.{World, Contents}
 use Rattle.lucid_tree.specs.WellMade.{IsWellMade}
 use Rattle.lucid_words.specs.Asked.{PlainWords}
 use Rattle.lucid_top.specs.declared.refusal.Refusal.{Refusal}
 use Rattle.lucid_top.specs.declared.stop.Stop.TheVariants as stop
+use Rattle.lucid_equations.specs.declared.table.Table.{Table}
+use Rattle.lucid_session.specs.Runs.{RunView}
+use Rattle.lucid_top.specs.declared.task.Task.TheVariants as task
 use Rattle.lucid_top.specs.Status.{Outcome}
+use Rattle.lucid_top.specs.Tasks.{task_of}
+use Rattle.lucid_top.specs.Programs.{of_table}
+use Rattle.lucid_top.specs.Places.{KeepsNames}
 use Rattle.lucid_top.specs.Call.{Call}
-use Rattle.lucid_top.specs.Stages.{Asks, IsWriting, IsTextFor, IsRun, Refuses, by_words, by_task, by_text, by_names, by_judging, by_given}
-use Rattle.lucid_top.specs.Runs.{most_places, first_place, program_of, view_of, RanSo}
+use Rattle.lucid_top.specs.Stages.{Asks, IsWriting, IsTextFor, HasProgram, by_tree, by_table, program_in, inputs_in, IsRun, Refuses, by_words, by_task, by_text, by_flat, by_names, by_judging, by_given}
+use Rattle.lucid_top.specs.Runs.{most_places, first_place, run_of, view_of, RanSo}
 use Rattle.lucid_top.specs.Clauses.{WritesNothing, ComesOnly, Writes}
 
 -- Nothing is written, and of no input is anything consumed.
@@ -17,14 +23,19 @@ pub record Rests (c : Call) : Type 0 where
   pub unread : (w : PlainWords) → c.asked ≡ Some w → (q : ℕ) → first_place w.source ≤ q → q < c.after.reached
       → (new : Contents) → (c.after.place q).contents ≡ Some new → new.consumed ≡ []
 
--- The tree of a refusal that comes after it was read is well made.
+-- The tree of a program that is run is well made, and so is that of a refusal that comes after it was read.
+abbrev pub IsMade : {c : Call} → HasProgram c → Type 0
+IsMade (by_tree n) = IsWellMade n.program.tree
+IsMade (by_table f) = Unit {0}
+
 abbrev pub IsOfMade : {c : Call} {why : Refusal} → Refuses c why → Type 0
 IsOfMade (by_words none) = Unit {0}
 IsOfMade (by_task w asked not_built) = Unit {0}
-IsOfMade (by_text s refused) = Unit {0}
+IsOfMade (by_text s form refused) = Unit {0}
+IsOfMade (by_flat s form refused) = Unit {0}
 IsOfMade (by_names t task refused) = IsWellMade t.tree
 IsOfMade (by_judging n task refused) = IsWellMade n.program.tree
-IsOfMade (by_given n task refused) = IsWellMade n.program.tree
+IsOfMade (by_given p task refused) = IsMade p
 
 -- What stops a call before a run or a text begins. Nothing is read where the words don't ask for what is built.
 abbrev pub StopsEarly : Call → Outcome → Type 0
@@ -33,9 +44,9 @@ StopsEarly c (Err stop.ReadFault) = Asks c
 StopsEarly c (Err stop.NoMemory) = Unit {0}
 StopsEarly c _ = ⊥
 
--- A run, with the tree that is run; or a text.
+-- A run, or a text.
 abbrev pub EndsRun : Call → Outcome → Type 0
-EndsRun c o = (r : IsRun c) × IsWellMade (program_of r).tree × RanSo (program_of r).tree (view_of c (program_of r)) o
+EndsRun c o = (r : IsRun c) × IsMade r.program × RanSo (run_of r).program (view_of c (run_of r)) o
 
 abbrev pub EndsWriting : Call → Outcome → Type 0
 EndsWriting c o = (x : IsWriting c) × Writes c o (IsTextFor x)
@@ -44,3 +55,15 @@ pub record Comes (c : Call) (o : Outcome) : Type 0 where
   pub only : ComesOnly c o
   pub how : (StopsEarly c o × Rests c) ⊎ (EndsRun c o ⊎ EndsWriting c o)
   pub few_places : c.after.reached ≤ most_places
+
+-- A call is about to run a table, its source being read: its words ask for a run, it has a program with the table's inputs, and runs of the
+-- table are runs of the program.
+pub record RunsTable (c : Call) (w : PlainWords) (t : Table) (v : World) : Type 0 where
+  pub read : c.asked ≡ Some w
+  pub task : task_of w ≡ task.Run
+  pub program : HasProgram c
+  pub made : IsMade program
+  pub inputs : inputs_in program ≡ t.inputs
+  pub runs : (r : RunView) (o : Outcome) → RanSo (of_table t) r o → RanSo (program_in program) r o
+  pub kept : KeepsNames c.before v
+  pub first : v.reached ≡ first_place w.source

@@ -2,7 +2,7 @@
 -- none is at fault; and then its judgment may be refused.
 use Rattle.std.specs.Prelude.{◌≡◌, ℕ, ◌≤◌, List, length}
 use Rattle.lucid_tree.specs.Tree.{PlainTree}
-use Rattle.lucid_tree.specs.WellMade.{depth}
+use Rattle.lucid_tree.specs.WellMade.{depth, places}
 use Rattle.lucid_scan.specs.declared.token.Token.{Token}
 use Rattle.lucid_scan.specs.declared.refusal.ScanRefusal.{ScanRefusal}
 use Rattle.lucid_scan.specs.Tokens.{Tokens}
@@ -47,9 +47,10 @@ pub record RefusesNames (p : PlainTree) (why : Refusal) : Type 0 where
   pub is : scope_stop fault ≡ stop.Refused why
   pub least : IsLeastFault p fault
 
--- The inputs are the tree's free names, and each name belongs to what is told of it.
-abbrev pub AreResolved : Scoped → Type 0
-AreResolved s = ∥ IsResolved (scoped_tree s) (scoped_inputs s) (scoped_binding s) ∥₁
+-- The inputs are the tree's free names, of which there are no more than nodes, and each name belongs to what is told of it.
+pub record AreResolved (s : Scoped) : Type 0 where
+  pub resolved : ∥ IsResolved (scoped_tree s) (scoped_inputs s) (scoped_binding s) ∥₁
+  pub few : length (scoped_inputs s) ≤ length (places (scoped_tree s))
 
 -- The judgment of a tree is refused so: by what isn't judged at the least place, or by too many names.
 pub record RefusesJudging (p : PlainTree) (why : Refusal) : Type 0 where

@@ -4,7 +4,9 @@ use Rattle.lucid_tree.specs.Tree.{PlainTree}
 use Rattle.lucid_tree.specs.WellMade.{IsWellMade}
 use Rattle.lucid_scope.specs.Bindings.{HasNoFault}
 use Rattle.lucid_top.specs.declared.refusal.Refusal.{Refusal}
+use Rattle.lucid_equations.specs.declared.table.Table.{Table}
 use Rattle.lucid_top.specs.Judged.{Spelt, RefusesText, RefusesNames, HasInputs}
+use Rattle.lucid_top.specs.Flat.{SpellsTable, RefusesFlat}
 
 -- A source spells at most one tree, and none where its text is refused; and its text has at most one refusal.
 abbrev pub OneTree : Type 0
@@ -26,3 +28,13 @@ OneNameRefusal = (p : PlainTree) (v w : Refusal) → IsWellMade p → RefusesNam
 
 abbrev pub OneListOfInputs : Type 0
 OneListOfInputs = (p : PlainTree) (a b : List (List ℕ)) → IsWellMade p → HasInputs p a → HasInputs p b → a ≡ b
+
+-- A flat source is the text of at most one sound table, and none where it is refused; and it has at most one refusal.
+abbrev pub OneFlatTable : Type 0
+OneFlatTable = (source : List ℕ) (t u : Table) → SpellsTable source t → SpellsTable source u → t ≡ u
+
+abbrev pub TableIsNotRefused : Type 0
+TableIsNotRefused = (source : List ℕ) (t : Table) (why : Refusal) → SpellsTable source t → RefusesFlat source why → ⊥
+
+abbrev pub OneFlatRefusal : Type 0
+OneFlatRefusal = (source : List ℕ) (v w : Refusal) → RefusesFlat source v → RefusesFlat source w → v ≡ w

@@ -5,6 +5,8 @@ pub mod Lines
 pub mod Telling
 pub mod Judged
 pub mod Texts
+pub mod Flat
+pub mod Programs
 pub mod Files
 pub mod Call
 pub mod Stages

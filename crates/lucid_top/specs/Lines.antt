@@ -14,6 +14,10 @@ use Rattle.lucid_top.specs.Status.{Outcome}
 abbrev pub line_at : List ℕ → ℕ → List ℕ
 line_at text n = text ++ (decimal n ++ codes "\n")
 
+-- a text, a number and another text
+abbrev pub line_with : List ℕ → ℕ → List ℕ → List ℕ
+line_with before n after = before ++ (decimal n ++ after)
+
 abbrev pub usage_line : List ℕ
 usage_line =
     codes "usage: lucid [--count N] [--depth N] [--policy keep|none|age|last] [--age K] [--room N] [--stats] [--print] [--columns LIST] [--cycles] [--why T] [--check FILE] [--flat] [--from-flat] PROGRAM [NAME=FILE]... | lucid --make N\n"
@@ -33,6 +37,12 @@ refusal_line (refusal.NotFunction at) = line_at (codes "not a function at ") at
 refusal_line (refusal.IsFunction at) = line_at (codes "function without arguments at ") at
 refusal_line (refusal.Arity at wanted given) =
     codes "wrong number of arguments at " ++ (decimal at ++ (codes ": " ++ (decimal wanted ++ (codes " wanted, " ++ (decimal given ++ codes " given\n")))))
+refusal_line (refusal.NoFlatLine line) = line_with (codes "line ") line (codes " is no flat line\n")
+refusal_line (refusal.FlatScope at) = line_with (codes "flat scope ") at (codes " is wrong\n")
+refusal_line (refusal.FlatNode at) = line_with (codes "flat node ") at (codes " is wrong\n")
+refusal_line (refusal.FlatName at) = line_with (codes "flat name ") at (codes " is wrong\n")
+refusal_line (refusal.FlatPlace at) = line_with (codes "flat place ") at (codes " is wrong\n")
+refusal_line refusal.FlatRoot = codes "flat root is wrong\n"
 refusal_line (refusal.NotJudged at) = line_at (codes "not judged at ") at
 refusal_line refusal.TooManyNames = codes "too many names\n"
 refusal_line (refusal.NotFree name) = codes "no input is named " ++ (name ++ codes "\n")

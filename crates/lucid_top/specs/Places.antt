@@ -10,9 +10,12 @@ use Rattle.lucid_tree.specs.WellMade.{places, IsWellMade}
 use Rattle.lucid_scan.specs.Refusals.{most_source_bytes}
 use Rattle.lucid_scope.specs.Bindings.{HasNoFault}
 use Rattle.lucid_words.specs.Plain.{PlainSource, file, made}
+use Rattle.lucid_equations.specs.declared.table.Table.{Table}
+use Rattle.lucid_top.specs.declared.refusal.Refusal.{Refusal}
 use Rattle.lucid_top.specs.declared.stop.Stop.{Stop}
 use Rattle.lucid_top.specs.declared.stop.Stop.TheVariants as stop
 use Rattle.lucid_top.specs.Judged.{Spelt, RefusesText, RefusesNames}
+use Rattle.lucid_top.specs.Flat.{SpellsTable}
 use Rattle.lucid_top.specs.Stages.{IsSource}
 
 -- no name holds anything else, and faults are only counted
@@ -20,10 +23,10 @@ pub record KeepsNames (old new : World) : Type 0 where
   pub names : (name : List ℕ) → new.holds name ≡ old.holds name
   pub faults : old.faults ≤ new.faults
 
--- The source, but of a file that is too long only the first bytes, one more than a source may have.
-abbrev pub IsSourceFront : PlainSource → World → List ℕ → Type 0
-IsSourceFront (file name) w bytes = IfSome (w.holds name) (λ held. bytes ≡ take (most_source_bytes + 1) held)
-IsSourceFront (made n) w bytes = bytes ≡ made_source n
+-- The source, but of a file at most so many of its first bytes.
+abbrev pub IsSourceFront : (most : ℕ) → PlainSource → World → List ℕ → Type 0
+IsSourceFront most (file name) w bytes = IfSome (w.holds name) (λ held. bytes ≡ take most held)
+IsSourceFront most (made n) w bytes = bytes ≡ made_source n
 
 -- A call on the places failed, which is counted, or there was no memory.
 abbrev pub IsReadStop : (old new : World) → Stop → Type 0
@@ -37,12 +40,18 @@ pub record SpeltBySource (source : PlainSource) (w : World) (p : PlainTree) : Ty
   pub is : IsSource source w bytes
   pub spelt : Spelt bytes p
 
--- The text of the source is refused so; or it can't be read; or there was no memory.
-abbrev pub IsSourceStop : PlainSource → (old new : World) → Stop → Type 0
-IsSourceStop source old new (stop.Refused why) = (bytes : List ℕ) × IsSource source old bytes × RefusesText bytes why
-IsSourceStop source old new stop.ReadFault = Rises old.faults new.faults
-IsSourceStop source old new stop.NoMemory = Unit {0}
-IsSourceStop source old new _ = ⊥
+-- The table is that of the source.
+pub record FlatBySource (source : PlainSource) (w : World) (t : Table) : Type 0 where
+  pub bytes : List ℕ
+  pub is : IsSource source w bytes
+  pub spelt : SpellsTable bytes t
+
+-- The source is refused so, as a text or as a flat form; or it can't be read; or there was no memory.
+abbrev pub IsSourceStop : (Refused : List ℕ → Refusal → Type 0) → PlainSource → (old new : World) → Stop → Type 0
+IsSourceStop Refused source old new (stop.Refused why) = (bytes : List ℕ) × IsSource source old bytes × Refused bytes why
+IsSourceStop Refused source old new stop.ReadFault = Rises old.faults new.faults
+IsSourceStop Refused source old new stop.NoMemory = Unit {0}
+IsSourceStop Refused source old new _ = ⊥
 
 -- The tree is that of the source and no name of it is at fault; it is well made, and has no more nodes than a source may have bytes.
 pub record IsAccepted (source : PlainSource) (w : World) (p : PlainTree) : Type 0 where
@@ -54,8 +63,8 @@ pub record IsAccepted (source : PlainSource) (w : World) (p : PlainTree) : Type 
 -- The source stops the call, or the names of its tree are refused.
 abbrev pub IsProgramStop : PlainSource → (old new : World) → Stop → Type 0
 IsProgramStop source old new (stop.Refused why) =
-    IsSourceStop source old new (stop.Refused why) ⊎ ((p : PlainTree) × SpeltBySource source old p × IsWellMade p × RefusesNames p why)
-IsProgramStop source old new s = IsSourceStop source old new s
+    IsSourceStop RefusesText source old new (stop.Refused why) ⊎ ((p : PlainTree) × SpeltBySource source old p × IsWellMade p × RefusesNames p why)
+IsProgramStop source old new s = IsSourceStop RefusesText source old new s
 
 -- Each of the places that are newly reached, in the order of the files, is a fresh place of its file.
 abbrev pub AreFresh : (files : List (List ℕ)) → (old new : World) → Type 0

@@ -1,4 +1,4 @@
--- The refusals of the words, the scanner, the parser, the scopes and the judgment of cycles, as a call's own. Want of memory is no refusal.
+-- The refusals of the words, the scanner, the parser, the scopes, the judgment of cycles and the flat form, as a call's own. Want of memory is no refusal.
 use Rattle.lucid_words.specs.declared.WordsRefusal.{WordsRefusal}
 use Rattle.lucid_words.specs.declared.WordsRefusal.TheVariants as words
 use Rattle.lucid_scan.specs.declared.refusal.ScanRefusal.{ScanRefusal}
@@ -9,6 +9,10 @@ use Rattle.lucid_scope.specs.declared.refusal.ScopeRefusal.{ScopeRefusal}
 use Rattle.lucid_scope.specs.declared.refusal.ScopeRefusal.TheVariants as scope
 use Rattle.lucid_cycles.specs.declared.judgment.JudgeRefusal.{JudgeRefusal}
 use Rattle.lucid_cycles.specs.declared.judgment.JudgeRefusal.TheVariants as judge
+use Rattle.lucid_flat.specs.declared.read.FlatRefusal.{FlatRefusal}
+use Rattle.lucid_flat.specs.declared.read.FlatRefusal.TheVariants as flat
+use Rattle.lucid_sound.specs.declared.program.BuildRefusal.{BuildRefusal}
+use Rattle.lucid_sound.specs.declared.program.BuildRefusal.TheVariants as build
 use Rattle.lucid_top.specs.declared.refusal.Refusal.{Refusal}
 use Rattle.lucid_top.specs.declared.refusal.Refusal.TheVariants as refusal
 use Rattle.lucid_top.specs.declared.stop.Stop.{Stop}
@@ -42,6 +46,18 @@ abbrev pub judge_stop : JudgeRefusal → Stop
 judge_stop (judge.Outside at) = stop.Refused (refusal.NotJudged at)
 judge_stop judge.TooMany = stop.Refused refusal.TooManyNames
 judge_stop judge.NoMemory = stop.NoMemory
+
+abbrev pub flat_stop : FlatRefusal → Stop
+flat_stop (flat.Form line) = stop.Refused (refusal.NoFlatLine line)
+flat_stop flat.NoMemory = stop.NoMemory
+
+abbrev pub build_stop : BuildRefusal → Stop
+build_stop (build.Scope at) = stop.Refused (refusal.FlatScope at)
+build_stop (build.Node at) = stop.Refused (refusal.FlatNode at)
+build_stop (build.Name at) = stop.Refused (refusal.FlatName at)
+build_stop (build.Place at) = stop.Refused (refusal.FlatPlace at)
+build_stop build.Root = stop.Refused refusal.FlatRoot
+build_stop build.NoMemory = stop.NoMemory
 
 -- The call stops by a refusal of which this holds, or for want of memory.
 abbrev pub IsRefusalOf : (Refusal → Type 0) → Stop → Type 0

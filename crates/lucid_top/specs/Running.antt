@@ -15,7 +15,7 @@ use Rattle.lucid_top.specs.Runs.{policy_named}
 abbrev pub HoldsWithin : PlainWords → (held : ℕ) → Type 0
 HoldsWithin w held = IfSome (policy_named w.policy w.age w.room).room (λ most. held ≤ most + 1)
 
--- A run by these words, of a program with these free names, has such outcomes alone. The counts of faults are those of the places and
+-- A run by these words, of a program with inputs of these names, has such outcomes alone. The counts of faults are those of the places and
 -- of the output.
 abbrev pub RunComesOnly : PlainWords → (free : List (List ℕ)) → (faults faults' out_faults out_faults' : ℕ) → Outcome → Type 0
 RunComesOnly w free f f' g g' (Ok (done.Ran summary stats)) = (stats ≡ wants_figures w) × HoldsWithin w summary.held

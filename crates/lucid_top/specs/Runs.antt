@@ -5,15 +5,11 @@ use Rattle.lucid_ports.specs.World.{World, Place, unread}
 use Rattle.lucid_ports.specs.declared.run.Summary.{Summary}
 use Rattle.lucid_ports.specs.declared.run.RunFault.{RunFault}
 use Rattle.lucid_ports.specs.declared.run.RunFault.TheVariants as fault
-use Rattle.lucid_tree.specs.Tree.{PlainTree}
-use Rattle.lucid_tree.specs.Env.{Env, empty, Referent}
-use Rattle.lucid_tree.specs.Meaning.{val, hval}
-use Rattle.lucid_compile.specs.Counts.{entries, valued_entries, environments}
 use Rattle.lucid_tree.specs.Levels.{Elements}
 use Rattle.lucid_scan.specs.Refusals.{most_source_bytes}
-use Rattle.lucid_session.specs.Subject.{stream_subject, tree_stream}
+use Rattle.lucid_session.specs.Subject.{stream_subject}
 use Rattle.lucid_session.specs.Runs.{PolicyView, RunView, Told, HasElements, Ran}
-use Rattle.lucid_session.specs.Figures.{Counted, Figures}
+use Rattle.lucid_session.specs.Figures.{Figures}
 use Rattle.lucid_words.specs.declared.PolicyWord.{PolicyWord}
 use Rattle.lucid_words.specs.declared.PolicyWord.TheVariants as policy
 use Rattle.lucid_words.specs.Plain.{PlainSource, file, made}
@@ -22,10 +18,11 @@ use Rattle.lucid_top.specs.declared.stop.Done.TheVariants as done
 use Rattle.lucid_top.specs.declared.stop.Stop.TheVariants as stop
 use Rattle.lucid_top.specs.Status.{Outcome}
 use Rattle.lucid_top.specs.Call.{Call}
-use Rattle.lucid_top.specs.Stages.{IsRun}
+use Rattle.lucid_top.specs.Programs.{Program, program_stream, program_counted}
+use Rattle.lucid_top.specs.Stages.{asks_for, program_in, inputs_in, IsRun}
 use Rattle.lucid_top.specs.Files.{files_for}
 
--- how many places a call reaches at most: the source's, and one for each free name, of which there are no more than bytes
+-- how many places a call reaches at most: the source's, and one for each input, of which there are no more than bytes of a text
 abbrev pub most_places : ℕ
 most_places = most_source_bytes + 1
 
@@ -49,44 +46,44 @@ abbrev pub first_place : PlainSource → ℕ
 first_place (file name) = 1
 first_place (made n) = 0
 
--- What is run: the words, the program and its free names.
-pub record Program : Type 0 where
+-- A run that is asked for: the words, the program and the names of its inputs.
+pub record Run : Type 0 where
   pub words : PlainWords
-  pub tree : PlainTree
-  pub free : List (List ℕ)
+  pub program : Program
+  pub inputs : List (List ℕ)
 
-abbrev pub program_of : {c : Call} → IsRun c → Program
-program_of r = record { words = r.names.program.source.asks.words; tree = r.names.program.tree; free = r.names.free }
+abbrev pub run_of : {c : Call} → IsRun c → Run
+run_of r = record { words = (asks_for r.program).words; program = program_in r.program; inputs = inputs_in r.program }
 
 -- the files and the places of its inputs
-abbrev pub input_files : Program → List (List ℕ)
-input_files p = files_for p.free p.words.given
+abbrev pub input_files : Run → List (List ℕ)
+input_files p = files_for p.inputs p.words.given
 
-abbrev pub input_places : Program → List ℕ
-input_places p = range_with_len (first_place p.words.source) (length p.free)
+abbrev pub input_places : Run → List ℕ
+input_places p = range_with_len (first_place p.words.source) (length p.inputs)
 
 -- the place of an input just reached, at which all that its file holds is left, where that is told
 abbrev pub fresh_place : World → (name : List ℕ) → Place
 fresh_place w name = record { contents = option_map unread (w.holds name); shown = 0; used = 0 }
 
 -- the place of that number, before anything of an input is read
-abbrev pub unread_place : Call → Program → (number : ℕ) → Place
+abbrev pub unread_place : Call → Run → (number : ℕ) → Place
 unread_place c p q = fresh_place c.before (unwrap_or (slice_get (input_files p) (q - first_place p.words.source)) [])
 
 -- The places before the run, with those of all inputs, and after it. An input that was never reached is unread.
-abbrev pub world_before : Call → Program → World
+abbrev pub world_before : Call → Run → World
 world_before c p = record c.before { place = unread_place c p }
 
-abbrev pub world_after : Call → Program → World
+abbrev pub world_after : Call → Run → World
 world_after c p = record c.after { place = λ q. if nat_lt q c.after.reached then c.after.place q else unread_place c p q }
 
--- a run by these words of a program with these free names, whose inputs are read from these places
-abbrev pub viewed : PlainWords → (free : List (List ℕ)) → (places : List ℕ) → (before after : World) → (out_before out_after : Told) → RunView
-viewed w free places before after o p = record {
+-- a run by these words of a program with inputs of these names, which are read from these places
+abbrev pub viewed : PlainWords → (names : List (List ℕ)) → (places : List ℕ) → (before after : World) → (out_before out_after : Told) → RunView
+viewed w names places before after o p = record {
   count = w.count;
   depth = w.depth;
   policy = policy_named w.policy w.age w.room;
-  names = free;
+  names = names;
   places = places;
   most = most_input_bytes;
   before = before;
@@ -96,18 +93,8 @@ viewed w free places before after o p = record {
 }
 
 -- the run of a call, from outside
-abbrev pub view_of : Call → Program → RunView
-view_of c p = viewed p.words p.free (input_places p) (world_before c p) (world_after c p) c.out_before c.out_after
-
--- what is counted of a tree at space 0: the entries that it refers to, and the environments that it enters
-abbrev pub tree_counted : PlainTree → Counted Referent Env
-tree_counted e = record {
-  refers = λ b m d points. entries b m d e points;
-  valued = λ b m points. valued_entries b m e points;
-  enters = λ b m d points. environments b m d e points;
-  value = λ b m t. val b m e empty t 0;
-  held_value = λ b held m t. hval (record { element = b; held = held }) m e empty t 0;
-}
+abbrev pub view_of : Call → Run → RunView
+view_of c p = viewed p.words p.inputs (input_places p) (world_before c p) (world_after c p) c.out_before c.out_after
 
 -- how a run ended that has this outcome; none for an outcome that a run doesn't have
 abbrev pub run_result : Outcome → Option (Result Summary RunFault)
@@ -120,8 +107,8 @@ run_result (Err (stop.TooDeep time lost cleared stats)) = Some (Err (fault.TooDe
 run_result (Err (stop.TooLarge stream name)) = Some (Err (fault.TooLarge stream))
 run_result (Err stop.NoMemory) = Some (Err fault.NoMemory)
 
--- The run of this tree, seen so, has this outcome, and what is promised of runs holds of it: the headline and the figures, by the
+-- The run of this program, seen so, has this outcome, and what is promised of runs holds of it: the headline and the figures, by the
 -- elements of the inputs.
-abbrev pub RanSo : PlainTree → RunView → Outcome → Type 0
-RanSo e r o = (b : Elements) → HasElements r b
-    → IsSomeAnd (run_result o) (λ result. Ran (stream_subject (tree_stream e)) b r result × Figures (tree_counted e) b r result)
+abbrev pub RanSo : Program → RunView → Outcome → Type 0
+RanSo p r o = (b : Elements) → HasElements r b
+    → IsSomeAnd (run_result o) (λ result. Ran (stream_subject (program_stream p)) b r result × Figures (program_counted p) b r result)

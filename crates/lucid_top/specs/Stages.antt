@@ -4,17 +4,21 @@ use Rattle.lucid_ports.specs.World.{World}
 use Rattle.lucid_make.specs.Source.{made_source}
 use Rattle.lucid_tree.specs.Tree.{PlainTree}
 use Rattle.lucid_scope.specs.Bindings.{HasNoFault}
+use Rattle.lucid_equations.specs.declared.table.Table.{Table}
 use Rattle.lucid_words.specs.Plain.{PlainSource, file, made}
 use Rattle.lucid_words.specs.Asked.{PlainWords}
 use Rattle.lucid_top.specs.declared.refusal.Refusal.{Refusal}
 use Rattle.lucid_top.specs.declared.refusal.Refusal.TheVariants as refusal
 use Rattle.lucid_top.specs.declared.task.Task.TheVariants as task
+use Rattle.lucid_top.specs.declared.task.Form.TheVariants as form
 use Rattle.lucid_top.specs.Call.{Call}
 use Rattle.lucid_top.specs.Tasks.{task_of, form_of, is_built}
 use Rattle.lucid_print.specs.Canonical.{canonical}
 use Rattle.lucid_cycles.specs.Judged.{IsJudged}
 use Rattle.lucid_top.specs.Judged.{Spelt, RefusesText, RefusesNames, RefusesJudging, HasInputs}
-use Rattle.lucid_top.specs.Texts.{IsJudgmentLine}
+use Rattle.lucid_top.specs.Texts.{IsJudgmentLine, IsFlatForm}
+use Rattle.lucid_top.specs.Flat.{SpellsTable, RefusesFlat}
+use Rattle.lucid_top.specs.Programs.{Program, of_tree, of_table}
 use Rattle.lucid_top.specs.Files.{RefusesGiven, FitsGiven}
 
 -- The source: what the file of its name holds, where that is told; or the text of a made program.
@@ -42,10 +46,18 @@ pub record HasSource (c : Call) : Type 0 where
 -- It spells a tree.
 pub record HasTree (c : Call) : Type 0 where
   pub source : HasSource c
+  pub form : form_of source.asks.words ≢ form.Flat
   pub tree : PlainTree
   pub spelt : Spelt source.bytes tree
 
--- But for a printing, the names of the tree are looked at, and none is at fault.
+-- Or it is in the flat form, the text of a sound table.
+pub record HasFlat (c : Call) : Type 0 where
+  pub source : HasSource c
+  pub form : form_of source.asks.words ≡ form.Flat
+  pub table : Table
+  pub spelt : SpellsTable source.bytes table
+
+-- But for a printing, the names of a tree are looked at, and none is at fault.
 pub record HasNames (c : Call) : Type 0 where
   pub program : HasTree c
   pub task : task_of program.source.asks.words ≢ task.Print
@@ -53,28 +65,49 @@ pub record HasNames (c : Call) : Type 0 where
   pub free : List (List ℕ)
   pub are_free : HasInputs program.tree free
 
--- A text is written, and nothing is run: the canonical source; or the line of the judgment, where the tree is judged.
+-- A text is written, and nothing is run: the canonical source; or, where the tree is judged, the line of its judgment; or its flat form.
 pub data IsWriting (c : Call) : Type 0 where
   prints : (t : HasTree c) → task_of t.source.asks.words ≡ task.Print → IsWriting c
   judges : (n : HasNames c) → task_of n.program.source.asks.words ≡ task.Cycles → IsJudged n.program.tree → IsWriting c
+  flattens : (n : HasNames c) → task_of n.program.source.asks.words ≡ task.Flat → IsWriting c
 
 -- It is such a text.
 abbrev pub IsTextFor : {c : Call} → IsWriting c → (text : List ℕ) → Type 0
 IsTextFor (prints t task) text = text ≡ canonical t.tree
 IsTextFor (judges n task judged) text = IsJudgmentLine n.program.tree text
+IsTextFor (flattens n task) text = IsFlatForm n.program.tree text
 
--- Or the program is run: the words give each free name a file, but for one at most.
+-- Or there is a program to run: a tree none of whose names is at fault, or a sound table.
+pub data HasProgram (c : Call) : Type 0 where
+  by_tree : HasNames c → HasProgram c
+  by_table : HasFlat c → HasProgram c
+
+-- its words, the program itself, and the names of its inputs
+abbrev pub asks_for : {c : Call} → HasProgram c → Asks c
+asks_for (by_tree n) = n.program.source.asks
+asks_for (by_table f) = f.source.asks
+
+abbrev pub program_in : {c : Call} → HasProgram c → Program
+program_in (by_tree n) = of_tree n.program.tree
+program_in (by_table f) = of_table f.table
+
+abbrev pub inputs_in : {c : Call} → HasProgram c → List (List ℕ)
+inputs_in (by_tree n) = n.free
+inputs_in (by_table f) = f.table.inputs
+
+-- It is run: the words give each input a file, but for one at most.
 pub record IsRun (c : Call) : Type 0 where
-  pub names : HasNames c
-  pub task : task_of names.program.source.asks.words ≡ task.Run
-  pub fits : FitsGiven names.free names.program.source.asks.words.given
+  pub program : HasProgram c
+  pub task : task_of (asks_for program).words ≡ task.Run
+  pub fits : FitsGiven (inputs_in program) (asks_for program).words.given
 
 -- The call is refused so, by the first stage that refuses it.
 pub data Refuses (c : Call) : (why : Refusal) → Type 0 where
   by_words : c.asked ≡ None → Refuses c refusal.Usage
   by_task : (w : PlainWords) → c.asked ≡ Some w → is_built (task_of w) (form_of w) ≡ false → Refuses c refusal.NotBuilt
-  by_text : {why : Refusal} → (s : HasSource c) → RefusesText s.bytes why → Refuses c why
+  by_text : {why : Refusal} → (s : HasSource c) → form_of s.asks.words ≢ form.Flat → RefusesText s.bytes why → Refuses c why
+  by_flat : {why : Refusal} → (s : HasSource c) → form_of s.asks.words ≡ form.Flat → RefusesFlat s.bytes why → Refuses c why
   by_names : {why : Refusal} → (t : HasTree c) → task_of t.source.asks.words ≢ task.Print → RefusesNames t.tree why → Refuses c why
   by_judging : {why : Refusal} → (n : HasNames c) → task_of n.program.source.asks.words ≡ task.Cycles → RefusesJudging n.program.tree why → Refuses c why
-  by_given : {why : Refusal} → (n : HasNames c) → task_of n.program.source.asks.words ≡ task.Run
-      → RefusesGiven n.free n.program.source.asks.words.given why → Refuses c why
+  by_given : {why : Refusal} → (p : HasProgram c) → task_of (asks_for p).words ≡ task.Run → RefusesGiven (inputs_in p) (asks_for p).words.given why
+      → Refuses c why

@@ -31,11 +31,13 @@ abbrev pub is_text : Form → Bool
 is_text form.Flat = false
 is_text f = true
 
--- What is built so far, of texts: runs, the canonical source and the judgment of cycles.
+-- What is built so far: runs; and of texts the canonical source, the judgment of cycles and the flat form. Words that ask for something else
+-- than a run of a flat form are refused before.
 abbrev pub is_built : Task → Form → Bool
-is_built task.Run f = is_text f
+is_built task.Run f = true
 is_built task.Print f = is_text f
 is_built task.Cycles f = is_text f
+is_built task.Flat f = is_text f
 is_built t f = false
 
 abbrev pub is_made : PlainSource → Bool

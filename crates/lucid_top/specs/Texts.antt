@@ -7,6 +7,12 @@ use Rattle.lucid_cycles.specs.Judgments.{IsJudgment}
 use Rattle.lucid_cycles.specs.JudgmentLine.{judgment_line}
 use Rattle.lucid_cycles.specs.Laws.{IsDefinedAsJudged}
 use Rattle.lucid_cycles.specs.declared.judgment.Judgment.{Judgment}
+use Rattle.lucid_equations.specs.Rows.{equations_of}
+use Rattle.lucid_equations.specs.Sound.{IsSound}
+use Rattle.lucid_equations.specs.declared.table.Table.{Table}
+use Rattle.lucid_compile.specs.Promise.{KeepsTree}
+use Rattle.lucid_flat.specs.FlatTables.{IsTextOf}
+use Rattle.lucid_top.specs.Judged.{HasInputs}
 
 -- The line of a judgment of the tree, by what its names belong to. The depth that it says is enough at a time is enough, whatever the inputs
 -- are.
@@ -18,3 +24,11 @@ pub record IsJudgmentLine (p : PlainTree) (line : List ℕ) : Type 0 where
   pub judged : IsJudgment p bindings judgment
   pub enough : IsDefinedAsJudged p judgment
   pub is : line ≡ judgment_line p judgment
+
+-- A flat form of the tree: the text of a sound table that keeps the tree, and whose inputs are the tree's free names.
+pub record IsFlatForm (p : PlainTree) (text : List ℕ) : Type 0 where
+  pub table : Table
+  pub sound : IsSound table
+  pub keeps : KeepsTree (equations_of table) p
+  pub inputs : HasInputs p table.inputs
+  pub is : IsTextOf text table

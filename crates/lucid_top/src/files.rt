@@ -10,7 +10,7 @@ use crate::refusal::Refusal;
 use crate::stop::Stop;
 use lucid_value::Name;
 use lucid_words::Given;
-use std::alloc::Global;
+use std::alloc::{AllocError, Global};
 
 // The name of standard input.
 const STANDARD_INPUT: &str = "-";
@@ -56,6 +56,17 @@ fn check_words(free: &[Name], given: &[Given]) -> Result<(), Stop>
         check_word(free, &given[..k], &word.name)?;
     }
     Ok(())
+}
+
+/// Copies of the names.
+pub fn copied_names(alloc: Global, names: &[Name]) -> Result<Vec<Name>, AllocError>
+    ensures { IfOk result (λ copies. copies.items ≡ names.now) }
+{
+    let mut copies = Vec::new(alloc);
+    for name in names {
+        copies.push(name.copy()?)?;
+    }
+    Ok(copies)
 }
 
 // How many free names are without a file.

@@ -1,5 +1,5 @@
 //! The command whole: it runs a pLucid program and writes the values of its stream, one a line; or it writes a text of the program, its
-//! canonical source or the judgment of its cycles.
+//! canonical source, the judgment of its cycles or its flat form, a table without functions.
 #![tactic(auto)]
 
 pub use crate::refusal::Refusal;
@@ -9,6 +9,7 @@ pub use crate::stop::{Done, Stop};
 pub use crate::top::lucid;
 
 mod files;
+mod flat;
 mod judging;
 mod laws;
 mod places;

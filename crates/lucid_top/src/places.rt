@@ -1,7 +1,6 @@
 //! What is read from: the source, and the places of the inputs.
 ghost use Rattle.std.specs.Prelude.{◌≡◌, ◌≤◌, ◌<◌, ◌+◌, length, map, take, IfOk, IfErr, IfSome, OnOk, IsErrOf};
 ghost use Rattle.std.specs.List.{range_with_len};
-ghost use Rattle.lucid_scan.specs.Refusals.{most_source_bytes};
 ghost use Rattle.lucid_ports.specs.Faults.{Rises};
 ghost use Rattle.lucid_words.specs.Plain.{plain_source};
 ghost use Rattle.lucid_words.specs.Numbers.{MadeIsFromTo};
@@ -14,9 +13,6 @@ use lucid_ports::{Places, PortFault, read_at_most};
 use lucid_words::Source;
 use std::alloc::Global;
 
-// One byte more than a source may have.
-const PAST_LIMIT: usize = 1_048_577;
-
 // A refusal of the places.
 fn read_stop(fault: PortFault) -> Stop
     ensures { result ≡ read_stop fault }
@@ -27,35 +23,41 @@ fn read_stop(fault: PortFault) -> Stop
     }
 }
 
-// Reaches the file of that name and reads it, to its end or to one byte more than a source may have.
-fn read_file<P: Places>(alloc: Global, places: &mut P, name: &str) -> Result<Vec<u8>, PortFault>
+// Reaches the file of that name and reads it, to its end or to so many bytes.
+fn read_file<P: Places>(
+    alloc: Global,
+    places: &mut P,
+    name: &str,
+    most: usize,
+) -> Result<Vec<u8>, PortFault>
     requires { (P.world places.old).reached ≡ 0 }
-    ensures bytes { IfOk result (λ bytes. IfSome ((P.world places.old).holds name.now) (λ held. bytes.items ≡ take (most_source_bytes + 1) held)) }
+    ensures bytes { IfOk result (λ bytes. IfSome ((P.world places.old).holds name.now) (λ held. bytes.items ≡ take most held)) }
     ensures reached { OnOk result ((P.world places.new).reached ≡ 1) }
     ensures few { (P.world places.new).reached ≤ 1 }
     ensures keeps { KeepsNames (P.world places.old) (P.world places.new) }
     ensures failed { IsErrOf result PortFault.Failed → Rises (P.world places.old).faults (P.world places.new).faults }
 {
     let place = places.reach(alloc, name)?;
-    read_at_most(alloc, places, place, PAST_LIMIT)
+    read_at_most(alloc, places, place, most)
 }
 
-/// The first bytes of the source: all, or one more than a source may have.
+/// The first bytes of the source: all, or of a file at most so many.
 pub fn read_source<P: Places>(
     alloc: Global,
     source: &Source,
+    most: usize,
     places: &mut P,
 ) -> Result<Vec<u8>, Stop>
     requires made { MadeIsFromTo 1 10000 source.now }
     requires none { (P.world places.old).reached ≡ 0 }
-    ensures source { IfOk result (λ bytes. IsSourceFront (plain_source source.now) (P.world places.old) bytes.items) }
+    ensures source { IfOk result (λ bytes. IsSourceFront most (plain_source source.now) (P.world places.old) bytes.items) }
     ensures reached { OnOk result ((P.world places.new).reached ≡ first_place (plain_source source.now)) }
     ensures few { (P.world places.new).reached ≤ first_place (plain_source source.now) }
     ensures keeps { KeepsNames (P.world places.old) (P.world places.new) }
     ensures stopped { IfErr result (IsReadStop (P.world places.old) (P.world places.new)) }
 {
     match source {
-        Source::File(name) => read_file(alloc, places, name).map_err(read_stop),
+        Source::File(name) => read_file(alloc, places, name, most).map_err(read_stop),
         Source::Made(n) => Ok(make_source(alloc, *n)?),
     }
 }

@@ -8,7 +8,7 @@ pub enum Refusal {
     Usage,
     /// What the words ask for isn't built yet.
     NotBuilt,
-    /// The source has more than 1,048,576 bytes.
+    /// The source has more than 1,048,576 bytes, or in the flat form more than 67,108,864.
     TooLong,
     /// No token begins at the place, and neither a number nor an open text does.
     BadByte { at: u32 },
@@ -30,6 +30,18 @@ pub enum Refusal {
     IsFunction { at: u32 },
     /// A call with another number of arguments than the function has parameters.
     Arity { at: u32, wanted: u32, given: u32 },
+    /// No table's text goes on with the line, from 1.
+    NoFlatLine { line: u64 },
+    /// The row of a scope is wrong in the flat form, by its number.
+    FlatScope { at: u32 },
+    /// The row of a node is.
+    FlatNode { at: u32 },
+    /// The row of a name is.
+    FlatName { at: u32 },
+    /// The row of a call place is.
+    FlatPlace { at: u32 },
+    /// The root is, or the inputs are.
+    FlatRoot,
     /// What isn't judged stands at the place.
     NotJudged { at: u32 },
     /// More plain names are defined than a judged program may have.

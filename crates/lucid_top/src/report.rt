@@ -1,7 +1,7 @@
 //! The report: one line of fixed texts, names and digits, which takes no memory.
-ghost use Rattle.std.specs.Prelude.{◌≤◌, ◌++◌, ◌∷◌, []};
+ghost use Rattle.std.specs.Prelude.{◌≤◌, ◌++◌, ◌∷◌, [], codes};
 ghost use Rattle.lucid_top.specs.Call.{told};
-ghost use Rattle.lucid_top.specs.Lines.{line_of, line_at, refusal_line, depth_line, figures_line, stop_line, outcome_line};
+ghost use Rattle.lucid_top.specs.Lines.{line_of, line_at, line_with, refusal_line, depth_line, figures_line, stop_line, outcome_line};
 ghost use Rattle.lucid_top.specs.Telling.{WritesLine, Tells};
 
 use crate::refusal::Refusal;
@@ -51,6 +51,25 @@ fn write_at<E: Sink>(report: &mut E, text: &[u8], number: u64) -> Result<(), Por
     ensures { WritesLine (line_at text.now number) result (told E.written E.faults report.old) (told E.written E.faults report.new) }
 {
     write_line(report, &[Text(text), Number(number), Text(b"\n")])
+}
+
+// Writes a text, a number and another text.
+fn write_numbered<'a, E: Sink>(
+    report: &mut E,
+    before: &'a [u8],
+    number: u64,
+    after: &'a [u8],
+) -> Result<(), PortFault>
+    ensures { WritesLine (line_with before.now number after.now) result (told E.written E.faults report.old) (told E.written E.faults report.new) }
+{
+    write_line(report, &[Text(before), Number(number), Text(after)])
+}
+
+// Writes the line of a row that is wrong in the flat form.
+fn write_wrong<E: Sink>(report: &mut E, row: &[u8], at: u32) -> Result<(), PortFault>
+    ensures { WritesLine (line_with row.now at (codes " is wrong\n")) result (told E.written E.faults report.old) (told E.written E.faults report.new) }
+{
+    write_numbered(report, row, u64::from(at), b" is wrong\n")
 }
 
 // Writes the line of a call with another number of arguments than the function has parameters.
@@ -110,6 +129,14 @@ fn write_refusal<E: Sink>(report: &mut E, refusal: &Refusal) -> Result<(), PortF
             write_at(report, b"function without arguments at ", u64::from(*at))
         }
         Refusal::Arity { at, wanted, given } => write_arity(report, *at, *wanted, *given),
+        Refusal::NoFlatLine { line } => {
+            write_numbered(report, b"line ", *line, b" is no flat line\n")
+        }
+        Refusal::FlatScope { at } => write_wrong(report, b"flat scope ", *at),
+        Refusal::FlatNode { at } => write_wrong(report, b"flat node ", *at),
+        Refusal::FlatName { at } => write_wrong(report, b"flat name ", *at),
+        Refusal::FlatPlace { at } => write_wrong(report, b"flat place ", *at),
+        Refusal::FlatRoot => write_text(report, b"flat root is wrong\n"),
         Refusal::NotJudged { at } => write_at(report, b"not judged at ", u64::from(*at)),
         Refusal::TooManyNames => write_text(report, b"too many names\n"),
         Refusal::NotFree { name } => write_named(report, b"no input is named ", name, b"\n"),

@@ -1,25 +1,24 @@
 //! Running a program.
-ghost use Rattle.std.specs.Prelude.{◌≡◌, ◌≢◌, ◌≤◌, AllPairs, length, IfOk};
+ghost use Rattle.std.specs.Prelude.{◌≡◌, ◌≢◌, ◌≤◌, ◌<◌, AllPairs, length, IfOk};
 ghost use Rattle.lucid_ports.specs.World.{World};
-ghost use Rattle.lucid_scope.specs.Scoped.{scoped_tree, scoped_inputs};
+ghost use Rattle.lucid_equations.specs.Programs.{table_of};
 ghost use Rattle.lucid_words.specs.Asked.{plain_words};
 ghost use Rattle.lucid_words.specs.Numbers.{IsFromTo};
 ghost use Rattle.lucid_retire.specs.Policies.{keeps_all, empties_all, most_held};
-ghost use Rattle.lucid_session.specs.Runs.{PolicyView};
+ghost use Rattle.lucid_session.specs.Runs.{PolicyView, OnTooLarge};
 ghost use Rattle.lucid_top.specs.Call.{told};
 ghost use Rattle.lucid_top.specs.Tasks.{wants_figures};
 ghost use Rattle.lucid_top.specs.Places.{AreUnread};
+ghost use Rattle.lucid_top.specs.Programs.{of_table};
 ghost use Rattle.lucid_top.specs.Runs.{policy_named, viewed, RanSo};
 ghost use Rattle.lucid_top.specs.Running.{RunComesOnly, IsRunStop, IsLargeStop};
 
 use crate::stop::{Done, Stop};
-use lucid_compile::compile;
+use lucid_equations::Program;
 use lucid_inputs::{Inputs, fresh_fits};
 use lucid_ports::{Places, RunFault, Sink};
 use lucid_retire::{Ages, Keep, Last, Nothing, Policy};
 use lucid_schedule::Newest;
-use lucid_scope::Scoped;
-use lucid_session::laws::{figures_carry, same_streams_run_alike};
 use lucid_session::run;
 use lucid_value::Name;
 use lucid_words::{PolicyWord, Source, Words};
@@ -54,8 +53,20 @@ fn wants_figures(words: &Words) -> bool
     }
 }
 
+// An input is too large.
+fn large_stop(inputs: &[Name], stream: u32) -> Stop
+    requires { stream < length inputs.now }
+    ensures { IsLargeStop inputs.now stream result }
+{
+    match inputs[stream as usize].copy() {
+        Ok(name) => Stop::TooLarge { stream, name },
+        Err(_) => Stop::NoMemory,
+    }
+}
+
 // Why a run stopped, with the name of an input that is too large.
 fn run_stop(inputs: &[Name], fault: RunFault, stats: bool) -> Stop
+    requires { OnTooLarge fault (λ number. number < length inputs.now) }
     ensures { IsRunStop inputs.now stats fault result }
 {
     match fault {
@@ -76,43 +87,29 @@ fn run_stop(inputs: &[Name], fault: RunFault, stats: bool) -> Stop
     }
 }
 
-// An input is too large.
-fn large_stop(inputs: &[Name], stream: u32) -> Stop
-    ensures { IsLargeStop inputs.now stream result }
-{
-    match inputs.get(stream as usize) {
-        Some(name) => match name.copy() {
-            Ok(name) => Stop::TooLarge { stream, name },
-            Err(_) => Stop::NoMemory,
-        },
-        None => Stop::NoMemory,
-    }
-}
-
-/// Runs the program over the places of its inputs.
+/// Runs the program over the places of its inputs, which have these names.
 pub fn run_program<P: Places, K: Sink>(
     alloc: Global,
     words: &Words,
-    scoped: &Scoped,
+    names: &[Name],
+    program: Program,
     numbers: Vec<u32>,
     places: &mut P,
     out: &mut K,
 ) -> Result<Done, Stop>
     requires room { IsFromTo 1 1000000 words.now.room }
-    requires count { length numbers.items ≡ length (scoped_inputs scoped.now) }
+    requires names { names.now ≡ (table_of program).inputs }
+    requires count { length numbers.items ≡ length names.now }
     requires differ { AllPairs (λ a b. a ≢ b) numbers.items }
     requires unread { AreUnread numbers.items (P.world places.old) }
-    ensures ran { RanSo (scoped_tree scoped.now)
-        (viewed (plain_words words.now) (scoped_inputs scoped.now) numbers.items (P.world places.old) (P.world places.new) (told K.written K.faults out.old) (told K.written K.faults out.new))
+    ensures ran { RanSo (of_table (table_of program))
+        (viewed (plain_words words.now) names.now numbers.items (P.world places.old) (P.world places.new) (told K.written K.faults out.old) (told K.written K.faults out.new))
         result }
-    ensures comes_only { RunComesOnly (plain_words words.now) (scoped_inputs scoped.now) (P.world places.old).faults (P.world places.new).faults (K.faults out.old) (K.faults out.new) result }
+    ensures comes_only { RunComesOnly (plain_words words.now) names.now (P.world places.old).faults (P.world places.new).faults (K.faults out.old) (K.faults out.new) result }
     ensures reached { (P.world places.new).reached ≡ (P.world places.old).reached }
     ensures faults { (P.world places.old).faults ≤ (P.world places.new).faults }
 {
     fresh_fits();
-    same_streams_run_alike();
-    figures_carry();
-    let program = compile(alloc, scoped)?;
     let inputs = Inputs::make(alloc, numbers, MOST_INPUT_BYTES)?;
     let policy = policy_of(alloc, words)?;
     let stats = wants_figures(words);
@@ -127,6 +124,6 @@ pub fn run_program<P: Places, K: Sink>(
         &words.options,
     ) {
         Ok(summary) => Ok(Done::Ran { summary, stats }),
-        Err(fault) => Err(run_stop(scoped.inputs(), fault, stats)),
+        Err(fault) => Err(run_stop(names, fault, stats)),
     }
 }

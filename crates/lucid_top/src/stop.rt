@@ -1,14 +1,16 @@
 //! What comes of a call.
 ghost use Rattle.std.specs.Prelude.{◌≡◌};
 ghost use Rattle.lucid_top.specs.declared.stop.Stop.TheVariants.{NoMemory};
-ghost use Rattle.lucid_top.specs.Refusals.{words_stop, scan_stop, parse_stop, scope_stop, judge_stop};
+ghost use Rattle.lucid_top.specs.Refusals.{words_stop, scan_stop, parse_stop, scope_stop, judge_stop, flat_stop, build_stop};
 
 use crate::refusal::Refusal;
 use lucid_cycles::JudgeRefusal;
+use lucid_flat::FlatRefusal;
 use lucid_parse::ParseRefusal;
 use lucid_ports::Summary;
 use lucid_scan::ScanRefusal;
 use lucid_scope::ScopeRefusal;
+use lucid_sound::BuildRefusal;
 use lucid_value::Name;
 use lucid_words::WordsRefusal;
 use std::alloc::{AllocError, AllocFailed};
@@ -125,6 +127,32 @@ impl From<JudgeRefusal> for Stop {
             JudgeRefusal::Outside { at } => Stop::Refused(Refusal::NotJudged { at }),
             JudgeRefusal::TooMany => Stop::Refused(Refusal::TooManyNames),
             JudgeRefusal::NoMemory => Stop::NoMemory,
+        }
+    }
+}
+
+impl From<FlatRefusal> for Stop {
+    ghost from_gives = { λ refusal stop. stop ≡ flat_stop refusal };
+
+    fn from(refusal: FlatRefusal) -> Stop {
+        match refusal {
+            FlatRefusal::Form { line } => Stop::Refused(Refusal::NoFlatLine { line }),
+            FlatRefusal::NoMemory => Stop::NoMemory,
+        }
+    }
+}
+
+impl From<BuildRefusal> for Stop {
+    ghost from_gives = { λ refusal stop. stop ≡ build_stop refusal };
+
+    fn from(refusal: BuildRefusal) -> Stop {
+        match refusal {
+            BuildRefusal::Scope { at } => Stop::Refused(Refusal::FlatScope { at }),
+            BuildRefusal::Node { at } => Stop::Refused(Refusal::FlatNode { at }),
+            BuildRefusal::Name { at } => Stop::Refused(Refusal::FlatName { at }),
+            BuildRefusal::Place { at } => Stop::Refused(Refusal::FlatPlace { at }),
+            BuildRefusal::Root => Stop::Refused(Refusal::FlatRoot),
+            BuildRefusal::NoMemory => Stop::NoMemory,
         }
     }
 }

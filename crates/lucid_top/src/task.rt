@@ -62,8 +62,9 @@ impl Task {
         ensures { result ≡ is_built self form }
     {
         match self {
-            Task::Run | Task::Print | Task::Cycles => form.is_text(),
-            Task::Columns | Task::Why | Task::Check | Task::Flat => false,
+            Task::Run => true,
+            Task::Print | Task::Cycles | Task::Flat => form.is_text(),
+            Task::Columns | Task::Why | Task::Check => false,
         }
     }
 }

@@ -1,5 +1,5 @@
 //! The command.
-ghost use Rattle.std.specs.Prelude.{◌≡◌, ◌≤◌, Some, length, map, IfOk, IfErr, OnOk, true};
+ghost use Rattle.std.specs.Prelude.{◌≡◌, ◌≢◌, ◌≤◌, Some, length, map, IfOk, IfErr, OnOk, true};
 ghost use Rattle.std.specs.String.{string_bytes};
 ghost use Rattle.lucid_scan.specs.Refusals.{most_source_bytes};
 ghost use Rattle.lucid_tree.specs.WellMade.{places as all_places, IsWellMade};
@@ -10,12 +10,16 @@ ghost use Rattle.lucid_top.specs.Call.{call, told};
 ghost use Rattle.lucid_top.specs.Tasks.{task_of, form_of, is_built};
 ghost use Rattle.lucid_top.specs.Runs.{first_place};
 ghost use Rattle.lucid_scope.specs.Scoped.{scoped_tree};
-ghost use Rattle.lucid_top.specs.Judged.{AreResolved};
-ghost use Rattle.lucid_top.specs.Places.{KeepsNames, SpeltBySource, IsAccepted, IsSourceStop, IsProgramStop};
-ghost use Rattle.lucid_top.specs.Coming.{Comes};
+ghost use Rattle.lucid_ports.specs.World.{World};
+ghost use Rattle.lucid_equations.specs.Programs.{table_of};
+ghost use Rattle.lucid_top.specs.Judged.{RefusesText, AreResolved};
+ghost use Rattle.lucid_top.specs.Flat.{RefusesFlat};
+ghost use Rattle.lucid_top.specs.Places.{KeepsNames, SpeltBySource, FlatBySource, IsAccepted, IsSourceStop, IsProgramStop};
+ghost use Rattle.lucid_top.specs.Coming.{Comes, RunsTable};
 ghost use Rattle.lucid_top.specs.Clauses.{MeetsClauses};
 
-use crate::files::input_files;
+use crate::files::{copied_names, input_files};
+use crate::flat::read_program;
 use crate::judging::{read_tree, resolve_names};
 use crate::laws::one_verdict;
 use crate::places::{reach_files, read_source};
@@ -25,13 +29,22 @@ use crate::running::run_program;
 use crate::status::Status;
 use crate::stop::{Done, Stop};
 use crate::task::{Form, Task};
-use crate::writing::{print_program, write_judgment};
+use crate::writing::{print_program, write_flat, write_judgment};
+use lucid_compile::compile;
 use lucid_cycles::judge;
+use lucid_equations::Program;
 use lucid_ports::{Places, Sink};
 use lucid_scope::Scoped;
+use lucid_session::laws::{figures_carry, same_streams_run_alike};
 use lucid_tree::Tree;
+use lucid_value::Name;
 use lucid_words::{Words, read_words};
 use std::alloc::Global;
+
+// One byte more than a source may have, as a text and in the flat form.
+const PAST_SOURCE: usize = 1_048_577;
+
+const PAST_FLAT: usize = 67_108_865;
 
 // The tree of the source that the words name.
 fn tree_of<P: Places>(alloc: Global, words: &Words, places: &mut P) -> Result<Tree, Stop>
@@ -43,9 +56,9 @@ fn tree_of<P: Places>(alloc: Global, words: &Words, places: &mut P) -> Result<Tr
     ensures reached { OnOk result ((P.world places.new).reached ≡ first_place (plain_source words.now.source)) }
     ensures few { (P.world places.new).reached ≤ first_place (plain_source words.now.source) }
     ensures keeps { KeepsNames (P.world places.old) (P.world places.new) }
-    ensures stopped { IfErr result (IsSourceStop (plain_source words.now.source) (P.world places.old) (P.world places.new)) }
+    ensures stopped { IfErr result (IsSourceStop RefusesText (plain_source words.now.source) (P.world places.old) (P.world places.new)) }
 {
-    let source = read_source(alloc, &words.source, places)?;
+    let source = read_source(alloc, &words.source, PAST_SOURCE, places)?;
     read_tree(alloc, &source)
 }
 
@@ -64,6 +77,84 @@ fn program_of<P: Places>(alloc: Global, words: &Words, places: &mut P) -> Result
     resolve_names(alloc, &tree)
 }
 
+// The program of the table of the source, in the flat form, that the words name.
+fn flat_program<P: Places>(alloc: Global, words: &Words, places: &mut P) -> Result<Program, Stop>
+    requires made { MadeIsFromTo 1 10000 words.now.source }
+    requires none { (P.world places.old).reached ≡ 0 }
+    ensures spelt { IfOk result (λ program. FlatBySource (plain_source words.now.source) (P.world places.old) (table_of program)) }
+    ensures reached { OnOk result ((P.world places.new).reached ≡ first_place (plain_source words.now.source)) }
+    ensures few { (P.world places.new).reached ≤ first_place (plain_source words.now.source) }
+    ensures keeps { KeepsNames (P.world places.old) (P.world places.new) }
+    ensures stopped { IfErr result (IsSourceStop RefusesFlat (plain_source words.now.source) (P.world places.old) (P.world places.new)) }
+{
+    let source = read_source(alloc, &words.source, PAST_FLAT, places)?;
+    read_program(alloc, &source)
+}
+
+// Runs the program over the files that the words give its inputs, which have these names.
+fn run_inputs<P: Places, K: Sink>(
+    alloc: Global,
+    words: &Words,
+    names: &[Name],
+    program: Program,
+    places: &mut P,
+    out: &mut K,
+) -> Result<Done, Stop>
+    requires room { IsFromTo 1 1000000 words.now.room }
+    requires names { names.now ≡ (table_of program).inputs }
+    requires few { length names.now ≤ most_source_bytes }
+    requires one { (P.world places.old).reached ≤ 1 }
+    ensures { (before : World)
+        → RunsTable (call (Some (plain_words words.now)) before (P.world places.new) (told K.written K.faults out.old) (told K.written K.faults out.new)) (plain_words words.now) (table_of program) (P.world places.old)
+        → Comes (call (Some (plain_words words.now)) before (P.world places.new) (told K.written K.faults out.old) (told K.written K.faults out.new)) result }
+{
+    let files = input_files(alloc, names, &words.given)?;
+    let numbers = reach_files(alloc, places, &files)?;
+    run_program(alloc, words, names, program, numbers, places, out)
+}
+
+// Runs the tree of the source that the words name.
+fn run_tree<P: Places, K: Sink>(
+    alloc: Global,
+    words: &Words,
+    places: &mut P,
+    out: &mut K,
+) -> Result<Done, Stop>
+    requires made { MadeIsFromTo 1 10000 words.now.source }
+    requires room { IsFromTo 1 1000000 words.now.room }
+    requires task { task_of (plain_words words.now) ≡ Task.Run }
+    requires form { form_of (plain_words words.now) ≢ Form.Flat }
+    requires built { is_built (task_of (plain_words words.now)) (form_of (plain_words words.now)) ≡ true }
+    requires none { (P.world places.old).reached ≡ 0 }
+    ensures { Comes (call (Some (plain_words words.now)) (P.world places.old) (P.world places.new) (told K.written K.faults out.old) (told K.written K.faults out.new)) result }
+{
+    same_streams_run_alike();
+    figures_carry();
+    let scoped = program_of(alloc, words, places)?;
+    let program = compile(alloc, &scoped)?;
+    run_inputs(alloc, words, scoped.inputs(), program, places, out)
+}
+
+// Runs the table of the source that the words name.
+fn run_table<P: Places, K: Sink>(
+    alloc: Global,
+    words: &Words,
+    places: &mut P,
+    out: &mut K,
+) -> Result<Done, Stop>
+    requires made { MadeIsFromTo 1 10000 words.now.source }
+    requires room { IsFromTo 1 1000000 words.now.room }
+    requires task { task_of (plain_words words.now) ≡ Task.Run }
+    requires form { form_of (plain_words words.now) ≡ Form.Flat }
+    requires built { is_built (task_of (plain_words words.now)) (form_of (plain_words words.now)) ≡ true }
+    requires none { (P.world places.old).reached ≡ 0 }
+    ensures { Comes (call (Some (plain_words words.now)) (P.world places.old) (P.world places.new) (told K.written K.faults out.old) (told K.written K.faults out.new)) result }
+{
+    let program = flat_program(alloc, words, places)?;
+    let names = copied_names(alloc, program.table().inputs.items())?;
+    run_inputs(alloc, words, &names, program, places, out)
+}
+
 // Runs the program that the words name.
 fn run_task<P: Places, K: Sink>(
     alloc: Global,
@@ -78,10 +169,10 @@ fn run_task<P: Places, K: Sink>(
     requires none { (P.world places.old).reached ≡ 0 }
     ensures { Comes (call (Some (plain_words words.now)) (P.world places.old) (P.world places.new) (told K.written K.faults out.old) (told K.written K.faults out.new)) result }
 {
-    let scoped = program_of(alloc, words, places)?;
-    let files = input_files(alloc, scoped.inputs(), &words.given)?;
-    let numbers = reach_files(alloc, places, &files)?;
-    run_program(alloc, words, &scoped, numbers, places, out)
+    match Form::of(words) {
+        Form::Flat => run_table(alloc, words, places, out),
+        Form::Text | Form::Made => run_tree(alloc, words, places, out),
+    }
 }
 
 // Prints the program that the words name.
@@ -119,6 +210,23 @@ fn cycles_task<P: Places, K: Sink>(
     write_judgment(alloc, &scoped, &judgment, out)
 }
 
+// Writes the flat form of the program that the words name.
+fn flat_task<P: Places, K: Sink>(
+    alloc: Global,
+    words: &Words,
+    places: &mut P,
+    out: &mut K,
+) -> Result<Done, Stop>
+    requires made { MadeIsFromTo 1 10000 words.now.source }
+    requires task { task_of (plain_words words.now) ≡ Task.Flat }
+    requires built { is_built (task_of (plain_words words.now)) (form_of (plain_words words.now)) ≡ true }
+    requires none { (P.world places.old).reached ≡ 0 }
+    ensures { Comes (call (Some (plain_words words.now)) (P.world places.old) (P.world places.new) (told K.written K.faults out.old) (told K.written K.faults out.new)) result }
+{
+    let scoped = program_of(alloc, words, places)?;
+    write_flat(alloc, &scoped, out)
+}
+
 // Does what the words ask for.
 fn do_task<P: Places, K: Sink>(
     alloc: Global,
@@ -138,7 +246,8 @@ fn do_task<P: Places, K: Sink>(
         Task::Run => run_task(alloc, &words, places, out),
         Task::Print => print_task(alloc, &words, places, out),
         Task::Cycles => cycles_task(alloc, &words, places, out),
-        Task::Columns | Task::Why | Task::Check | Task::Flat => unreachable!(),
+        Task::Flat => flat_task(alloc, &words, places, out),
+        Task::Columns | Task::Why | Task::Check => unreachable!(),
     }
 }
 

@@ -1,14 +1,19 @@
 //! The texts that are written of a program.
-ghost use Rattle.std.specs.Prelude.{◌≡◌};
+ghost use Rattle.std.specs.Prelude.{◌≡◌, ◌≤◌, length};
 ghost use Rattle.lucid_tree.specs.WellMade.{IsWellMade};
 ghost use Rattle.lucid_print.specs.Canonical.{canonical};
-ghost use Rattle.lucid_scope.specs.Scoped.{scoped_tree};
+ghost use Rattle.lucid_scan.specs.Refusals.{most_source_bytes};
+ghost use Rattle.lucid_scope.specs.Scoped.{scoped_tree, scoped_inputs};
 ghost use Rattle.lucid_cycles.specs.JudgmentLine.{judgment_line};
 ghost use Rattle.lucid_top.specs.Call.{told};
+ghost use Rattle.lucid_top.specs.Judged.{AreResolved};
+ghost use Rattle.lucid_top.specs.Texts.{IsFlatForm};
 ghost use Rattle.lucid_top.specs.Writing.{WritesOnly};
 
 use crate::stop::{Done, Stop};
+use lucid_compile::compile;
 use lucid_cycles::Judgment;
+use lucid_flat::show_flat;
 use lucid_ports::{PortFault, Sink, write_whole};
 use lucid_print::print_tree;
 use lucid_scope::Scoped;
@@ -48,4 +53,16 @@ pub fn write_judgment<K: Sink>(
     let mut line = Vec::new(alloc);
     judgment.show(alloc, scoped, &mut line)?;
     write_out(&line, out)
+}
+
+/// Writes the flat form.
+pub fn write_flat<K: Sink>(alloc: Global, scoped: &Scoped, out: &mut K) -> Result<Done, Stop>
+    requires resolved { AreResolved scoped.now }
+    requires few { length (scoped_inputs scoped.now) ≤ most_source_bytes }
+    ensures { WritesOnly (IsFlatForm (scoped_tree scoped.now)) (told K.written K.faults out.old) (told K.written K.faults out.new) result }
+{
+    let program = compile(alloc, scoped)?;
+    let mut text = Vec::new(alloc);
+    show_flat(alloc, program.table(), &mut text)?;
+    write_out(&text, out)
 }

@@ -1,5 +1,6 @@
 use Rattle.lucid_top.proofs.Verdicts.{Laws, one_text_refusal, one_name_refusal}
 use Rattle.lucid_top.proofs.OneList.{one_list_of_inputs}
+use Rattle.lucid_top.proofs.FlatVerdicts.{one_flat_table, table_is_not_refused, one_flat_refusal}
 use Rattle.lucid_top.proofs.laws.one_verdict.Goals as goal
 
 pub returns-clause-one_text_refusal : goal.returns-clause-one_text_refusal
@@ -18,3 +19,12 @@ returns-clause-one_name_refusal c = one_name_refusal c.least_fault_is_unique.ens
 
 pub returns-clause-one_list : goal.returns-clause-one_list
 returns-clause-one_list c = one_list_of_inputs
+
+pub returns-clause-one_flat_table : goal.returns-clause-one_flat_table
+returns-clause-one_flat_table c = one_flat_table c.one_table.ensures
+
+pub returns-clause-table_not_refused : goal.returns-clause-table_not_refused
+returns-clause-table_not_refused c = table_is_not_refused c.one_table.ensures
+
+pub returns-clause-one_flat_refusal : goal.returns-clause-one_flat_refusal
+returns-clause-one_flat_refusal c = one_flat_refusal c.one_table.ensures

@@ -29,3 +29,21 @@ returns-in-NotJudged g c = rw (c.in-NotJudged.is, ← c.from-in-NotJudged.ensure
 
 pub returns-in-TooManyNames : goal.returns-in-TooManyNames
 returns-in-TooManyNames g c = rw c.in-TooManyNames.is c.write_text-in-TooManyNames.ensures
+
+pub returns-in-NoFlatLine : goal.returns-in-NoFlatLine
+returns-in-NoFlatLine g c = rw c.in-NoFlatLine.is c.write_numbered.ensures
+
+pub returns-in-FlatScope : goal.returns-in-FlatScope
+returns-in-FlatScope g c = rw c.in-FlatScope.is c.write_wrong.ensures
+
+pub returns-in-FlatNode : goal.returns-in-FlatNode
+returns-in-FlatNode g c = rw c.in-FlatNode.is c.write_wrong-in-FlatNode.ensures
+
+pub returns-in-FlatName : goal.returns-in-FlatName
+returns-in-FlatName g c = rw c.in-FlatName.is c.write_wrong-in-FlatName.ensures
+
+pub returns-in-FlatPlace : goal.returns-in-FlatPlace
+returns-in-FlatPlace g c = rw c.in-FlatPlace.is c.write_wrong-in-FlatPlace.ensures
+
+pub returns-in-FlatRoot : goal.returns-in-FlatRoot
+returns-in-FlatRoot g c = rw c.in-FlatRoot.is c.write_text-in-FlatRoot.ensures

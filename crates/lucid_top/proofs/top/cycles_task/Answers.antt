@@ -3,25 +3,26 @@ use Rattle.std.proofs.lemmas.Result.{err_from_is_err_and}
 use Rattle.lucid_scope.specs.Scoped.{scoped_tree, scoped_inputs, scoped_binding}
 use Rattle.lucid_words.specs.Asked.{plain_words}
 use Rattle.lucid_cycles.specs.JudgmentLine.{judgment_line}
+use Rattle.lucid_top.specs.declared.task.Task.TheVariants as task
 use Rattle.lucid_top.specs.Call.{Call, call, told}
 use Rattle.lucid_top.specs.Stages.{judges, IsTextFor}
-use Rattle.lucid_top.proofs.Ending.{Begins, program_stops, cycles_not_print, judging_stops, inputs_of, names_of, as_text, writes}
+use Rattle.lucid_top.proofs.Ending.{Begins, of_text, program_stops, cycles_not_print, judging_stops, inputs_of, names_of, as_text, writes}
 use Rattle.lucid_top.proofs.top.cycles_task.Goals as goal
 
 pub returns-in_err-scoped : goal.returns-in_err-scoped
 returns-in_err-scoped g c =
     let p = err_from_is_err_and c.from_residual.result c.from_residual.ensures.1 in
     let the_call : Call = call (Some (plain_words c.args.words.now)) (g.P.Places.world c.args.places.now) (g.P.Places.world c.program_of.new.places) (told g.K.Sink.written g.K.Sink.faults c.args.out.now) (told g.K.Sink.written g.K.Sink.faults c.args.out.now) in
-    rw (p.1, p.2) (program_stops the_call (plain_words c.args.words.now) c.in_err-scoped.field-0.0 (record { read = refl; built = c.requires.built }) (cycles_not_print (plain_words c.args.words.now) c.requires.task) c.in_err-scoped.ensures.stopped refl c.in_err-scoped.ensures.few)
+    rw (p.1, p.2) (program_stops the_call (plain_words c.args.words.now) c.in_err-scoped.field-0.0 (record { read = refl; built = c.requires.built }) (of_text (plain_words c.args.words.now) task.Cycles c.requires.task refl c.requires.built) (cycles_not_print (plain_words c.args.words.now) c.requires.task) c.in_err-scoped.ensures.stopped refl c.in_err-scoped.ensures.few)
 
 pub returns-in_err-judgment : goal.returns-in_err-judgment
 returns-in_err-judgment g c =
     let p = err_from_is_err_and c.from_residual-in_err-judgment.result c.from_residual-in_err-judgment.ensures.1 in
     let the_call : Call = call (Some (plain_words c.args.words.now)) (g.P.Places.world c.args.places.now) (g.P.Places.world c.program_of.new.places) (told g.K.Sink.written g.K.Sink.faults c.args.out.now) (told g.K.Sink.written g.K.Sink.faults c.args.out.now) in
-    let inputs = inputs_of (scoped_tree c.in_ok-scoped.scoped) (scoped_inputs c.in_ok-scoped.scoped) (scoped_binding c.in_ok-scoped.scoped) c.in_ok-scoped.ensures.resolved in
+    let inputs = inputs_of (scoped_tree c.in_ok-scoped.scoped) (scoped_inputs c.in_ok-scoped.scoped) (scoped_binding c.in_ok-scoped.scoped) c.in_ok-scoped.ensures.resolved.resolved in
     rw (p.1, p.2) (
     judging_stops the_call (plain_words c.args.words.now) (scoped_tree c.in_ok-scoped.scoped) (scoped_inputs c.in_ok-scoped.scoped) c.in_err-judgment.field-0.0 (record { read = refl; built = c.requires.built })
-    c.requires.task c.in_ok-scoped.ensures.accepted inputs c.in_err-judgment.ensures.refusal refl c.in_ok-scoped.ensures.few
+    (of_text (plain_words c.args.words.now) task.Cycles c.requires.task refl c.requires.built) c.requires.task c.in_ok-scoped.ensures.accepted inputs c.in_err-judgment.ensures.refusal refl c.in_ok-scoped.ensures.few
     )
 
 pub returns : goal.returns
@@ -29,8 +30,8 @@ returns g c =
     let the_call : Call = call (Some (plain_words c.args.words.now)) (g.P.Places.world c.args.places.now) (g.P.Places.world c.program_of.new.places) (told g.K.Sink.written g.K.Sink.faults c.args.out.now) (told g.K.Sink.written g.K.Sink.faults c.write_judgment.new.out) in
     let begins : Begins the_call (plain_words c.args.words.now) = record { read = refl; built = c.requires.built } in
     let tree = scoped_tree c.in_ok-scoped.scoped in
-    let inputs = inputs_of tree (scoped_inputs c.in_ok-scoped.scoped) (scoped_binding c.in_ok-scoped.scoped) c.in_ok-scoped.ensures.resolved in
-    let names = names_of the_call (plain_words c.args.words.now) tree (scoped_inputs c.in_ok-scoped.scoped) begins (cycles_not_print (plain_words c.args.words.now) c.requires.task) c.in_ok-scoped.ensures.accepted inputs in
+    let inputs = inputs_of tree (scoped_inputs c.in_ok-scoped.scoped) (scoped_binding c.in_ok-scoped.scoped) c.in_ok-scoped.ensures.resolved.resolved in
+    let names = names_of the_call (plain_words c.args.words.now) tree (scoped_inputs c.in_ok-scoped.scoped) begins (of_text (plain_words c.args.words.now) task.Cycles c.requires.task refl c.requires.built) (cycles_not_print (plain_words c.args.words.now) c.requires.task) c.in_ok-scoped.ensures.accepted inputs in
     let x = judges names c.requires.task c.in_ok-judgment.ensures.judged in
     writes the_call (plain_words c.args.words.now) x c.write_judgment.result c.in_ok-scoped.ensures.few
     (as_text (λ line. line ≡ judgment_line tree c.in_ok-judgment.judgment) (IsTextFor x) (told g.K.Sink.written g.K.Sink.faults c.args.out.now) (told g.K.Sink.written g.K.Sink.faults c.write_judgment.new.out)
@@ -38,7 +39,7 @@ returns g c =
     (λ line is. record {
       inputs = scoped_inputs c.in_ok-scoped.scoped;
       bindings = scoped_binding c.in_ok-scoped.scoped;
-      resolved = c.in_ok-scoped.ensures.resolved;
+      resolved = c.in_ok-scoped.ensures.resolved.resolved;
       judgment = c.in_ok-judgment.judgment;
       judged = c.in_ok-judgment.ensures.judgment;
       enough = c.in_ok-judgment.ensures.depth;

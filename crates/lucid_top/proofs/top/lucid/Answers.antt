@@ -15,6 +15,9 @@ returns g c =
       names_not_refused = c.one_verdict.ensures.names_not_refused;
       one_name_refusal = c.one_verdict.ensures.one_name_refusal;
       one_list = c.one_verdict.ensures.one_list;
+      one_flat_table = c.one_verdict.ensures.one_flat_table;
+      table_not_refused = c.one_verdict.ensures.table_not_refused;
+      one_flat_refusal = c.one_verdict.ensures.one_flat_refusal;
     } in
     let asked = words_asked (map (string_bytes {Z = Rattle.std.specs.Global.Global}) c.args.words.now) in
     let out_before = told g.K.Sink.written g.K.Sink.faults c.args.out.now in

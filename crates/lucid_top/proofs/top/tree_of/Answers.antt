@@ -17,7 +17,7 @@ returns-clause-spelt g c =
 pub returns-clause-stopped : goal.returns-clause-stopped
 returns-clause-stopped g c =
     IfErr-weaker c.read_tree.result (IsRefusalOf (RefusesText c.deref.result.now))
-    (IsSourceStop (plain_source c.args.words.now.source) (g.P.Places.world c.args.places.now) (g.P.Places.world c.read_source.new.places))
+    (IsSourceStop RefusesText (plain_source c.args.words.now.source) (g.P.Places.world c.args.places.now) (g.P.Places.world c.read_source.new.places))
     (λ s refused. text_stop (plain_source c.args.words.now.source) (g.P.Places.world c.args.places.now) (g.P.Places.world c.read_source.new.places) c.in_ok-source.source.items s
     c.in_ok-source.ensures.source (subst (λ (bytes : List ℕ). IsRefusalOf (RefusesText bytes) s) c.deref.ensures.value refused))
     c.read_tree.ensures.refused

@@ -1,0 +1,29 @@
+use Rattle.std.proofs.Common.{List, ℕ, subst}
+use Rattle.std.proofs.lemmas.Result.{IfOk-weaker, IfErr-weaker, err_from_is_err_and}
+use Rattle.lucid_equations.specs.Programs.{table_of}
+use Rattle.lucid_words.specs.Plain.{plain_source}
+use Rattle.lucid_top.specs.Refusals.{IsRefusalOf}
+use Rattle.lucid_top.specs.Flat.{SpellsTable, RefusesFlat}
+use Rattle.lucid_top.specs.Places.{FlatBySource, IsSourceStop}
+use Rattle.lucid_top.proofs.Sources.{flat_by, flat_stop, read_stops}
+use Rattle.lucid_top.proofs.top.flat_program.Goals as goal
+
+pub returns-in_err-source-clause-stopped : goal.returns-in_err-source-clause-stopped
+returns-in_err-source-clause-stopped g c =
+    let p = err_from_is_err_and c.from_residual.result c.from_residual.ensures.1 in
+    rw (p.1, p.2) (read_stops RefusesFlat (plain_source c.args.words.now.source) (g.P.Places.world c.args.places.now) (g.P.Places.world c.read_source.new.places) c.in_err-source.field-0.0 c.in_err-source.ensures.stopped)
+
+pub returns-clause-spelt : goal.returns-clause-spelt
+returns-clause-spelt g c =
+    IfOk-weaker c.read_program.result (λ program. SpellsTable c.deref.result.now (table_of program)) (λ program. FlatBySource (plain_source c.args.words.now.source) (g.P.Places.world c.args.places.now) (table_of program))
+    (λ program spelt. flat_by (plain_source c.args.words.now.source) (g.P.Places.world c.args.places.now) c.in_ok-source.source.items (table_of program) c.in_ok-source.ensures.source
+    (subst (λ (bytes : List ℕ). SpellsTable bytes (table_of program)) c.deref.ensures.value spelt))
+    c.read_program.ensures.spelt
+
+pub returns-clause-stopped : goal.returns-clause-stopped
+returns-clause-stopped g c =
+    IfErr-weaker c.read_program.result (IsRefusalOf (RefusesFlat c.deref.result.now))
+    (IsSourceStop RefusesFlat (plain_source c.args.words.now.source) (g.P.Places.world c.args.places.now) (g.P.Places.world c.read_source.new.places))
+    (λ s refused. flat_stop (plain_source c.args.words.now.source) (g.P.Places.world c.args.places.now) (g.P.Places.world c.read_source.new.places) c.in_ok-source.source.items s
+    c.in_ok-source.ensures.source (subst (λ (bytes : List ℕ). IsRefusalOf (RefusesFlat bytes) s) c.deref.ensures.value refused))
+    c.read_program.ensures.refused
