@@ -4,7 +4,7 @@ use crate::row::{DONE, Row, call, each_passes, places_of};
 use lucid_top::Status;
 use std::test::Fail;
 
-static OVER_TIME: [Row; 6] = [
+pub(crate) static OVER_TIME: [Row; 6] = [
     // the last time, and past it
     Row {
         words: "--count 1 p",
@@ -45,7 +45,7 @@ static OVER_TIME: [Row; 6] = [
     },
 ];
 
-static OVER_SPACE: [Row; 5] = [
+pub(crate) static OVER_SPACE: [Row; 5] = [
     // binomial numbers
     Row {
         words: "--count 6 p",
@@ -81,7 +81,7 @@ static OVER_SPACE: [Row; 5] = [
     },
 ];
 
-static INTEGERS: [Row; 4] = [
+pub(crate) static INTEGERS: [Row; 4] = [
     // the widest integers
     Row {
         words: "--count 1 p",

@@ -15,7 +15,7 @@ pub(crate) const THREE_SALES: &str = "120\r\n80\r\n200\r\n";
 
 pub(crate) const TOTALS: &str = "[% 120 120 %]\n[% 200 120 %]\n[% 400 200 %]\n";
 
-static LINES: [Row; 8] = [
+pub(crate) static LINES: [Row; 8] = [
     // running counts
     Row {
         source: "c where c = n where e is current a; n = (if a eq e then 1 else 0 fi) fby n + (if next a eq e then 1 else 0 fi); end; end",
@@ -80,7 +80,7 @@ static LINES: [Row; 8] = [
 ];
 
 // A write fault, and read faults.
-static FAULTS: [Row; 3] = [
+pub(crate) static FAULTS: [Row; 3] = [
     // the second write fails
     Row {
         source: COUNTING,

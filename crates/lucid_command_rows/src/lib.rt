@@ -11,6 +11,8 @@ mod edges;
 #[cfg(test)]
 mod failures;
 #[cfg(test)]
+mod flat;
+#[cfg(test)]
 mod inputs;
 #[cfg(test)]
 mod large;

@@ -113,7 +113,7 @@ static WORDS: [Row; 6] = [
 
 const THREE_COLUMNS: &str = "a where a = 1 fby a + 1; b = a * a; c = 5 fby eod; end";
 
-static NOT_BUILT: [Row; 6] = [
+static NOT_BUILT: [Row; 4] = [
     Row {
         words: "--columns a,b,c --count 3 p",
         source: THREE_COLUMNS,
@@ -136,18 +136,6 @@ static NOT_BUILT: [Row; 6] = [
         words: "--check f p",
         source: COUNTING,
         inputs: &[("f", "j 0 0 0 0 0 1\n")],
-        report: "not built yet\n",
-        ..REFUSED
-    },
-    Row {
-        words: "--flat p",
-        source: COUNTING,
-        report: "not built yet\n",
-        ..REFUSED
-    },
-    Row {
-        words: "--from-flat --count 2 p",
-        source: "lucid flat 1\nconst 1\nnode 0 const 0\nroot 0\n",
         report: "not built yet\n",
         ..REFUSED
     },

@@ -152,6 +152,37 @@ fn passes<R: Abort + AllocGlobal>(rt: &R, row: &Row) -> Result<(), Fail> {
     Ok(())
 }
 
+// The flat form of the row's program runs as the program does.
+fn passes_flat<R: Abort + AllocGlobal>(rt: &R, row: &Row) -> Result<(), Fail> {
+    let alloc = rt.alloc();
+    let mut places = places_of(alloc, row.source.as_bytes(), &[], &[])?;
+    let flat = call(alloc, "--flat p", &mut places, 100, &[])?;
+    assert_eq!(rt; flat.status, Status::Done, "{}", row.source);
+    assert_eq!(rt; flat.report.as_str(), "", "{}", row.source);
+    let words = row.words;
+    let words = format!(in alloc; "--from-flat {words}")?;
+    let text = flat.out.as_bytes();
+    let mut places = places_of(alloc, text, row.inputs, row.reads)?;
+    let answer = call(alloc, &words, &mut places, 100, row.writes)?;
+    let source = row.source;
+    assert_eq!(rt; answer.status, row.status, "{words}: {source}");
+    assert_eq!(rt; answer.out.as_str(), row.out, "{words}: {source}");
+    assert_eq!(rt; answer.report.as_str(), row.report, "{words}: {source}");
+    if let Some(wanted) = row.taken {
+        let taken = taken(alloc, &mut places)?;
+        assert_eq!(rt; taken.as_slice(), wanted, "{words}: {source}");
+    }
+    Ok(())
+}
+
+/// Each row passes by the flat form of its program.
+pub(crate) fn each_passes_flat<R: Abort + AllocGlobal>(rt: &R, rows: &[Row]) -> Result<(), Fail> {
+    for row in rows {
+        passes_flat(rt, row)?;
+    }
+    Ok(())
+}
+
 pub(crate) fn each_passes<R: Abort + AllocGlobal>(rt: &R, rows: &[Row]) -> Result<(), Fail> {
     for row in rows {
         passes(rt, row)?;

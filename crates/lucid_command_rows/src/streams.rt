@@ -6,7 +6,7 @@ use std::test::Fail;
 pub(crate) const COUNTING: &str = "x where x = 0 fby x + 1; end";
 
 // Names and forms over time.
-static OVER_TIME: [Row; 9] = [
+pub(crate) static OVER_TIME: [Row; 9] = [
     // a constant
     Row {
         words: "--count 3 p",
@@ -71,7 +71,7 @@ static OVER_TIME: [Row; 9] = [
 ];
 
 // Functions.
-static CALLS: [Row; 2] = [
+pub(crate) static CALLS: [Row; 2] = [
     // recursive function
     Row {
         words: "--count 5 p",
@@ -91,7 +91,7 @@ static CALLS: [Row; 2] = [
 const THIRDS: &str = "n whenever n mod 3 eq 0 where n = 0 fby n + 1; end";
 
 // Every third number, whatever is forgotten.
-static POLICIES: [Row; 4] = [
+pub(crate) static POLICIES: [Row; 4] = [
     Row {
         words: "--count 4 p",
         source: THIRDS,
@@ -120,7 +120,7 @@ static POLICIES: [Row; 4] = [
 ];
 
 // Values that are too deep.
-static DEEP: [Row; 5] = [
+pub(crate) static DEEP: [Row; 5] = [
     // depth without a store
     Row {
         words: "--count 5 --depth 3 --policy none p",

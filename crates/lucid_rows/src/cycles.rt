@@ -152,6 +152,48 @@ fn some_programs_are_not_judged(rt: HostRuntime) -> Result<(), Fail> {
     each_is_judged(&rt, &OUTSIDE)
 }
 
+fn line_of(alloc: Global, source: &[u8]) -> Result<String, Fail> {
+    let scoped = scoped_of(alloc, source)?;
+    let judgment = judge(alloc, &scoped)?;
+    let mut line = Vec::new(alloc);
+    judgment.show(alloc, &scoped, &mut line)?;
+    Ok(String::from_utf8(line)?)
+}
+
+// The line of each judgment. The places are counted by hand, from 0.
+static LINES: [Row; 6] = [
+    ("x where x = 0 fby x + 1; end", "depth 1 * t + 2\n"),
+    (
+        "f where f = 0 fby g; g = 1 fby f + g; end",
+        "depth 2 * t + 2\n",
+    ),
+    (
+        "x where x = 0 fby y; y = next x; end",
+        "cycle x at 8, y at 21: sum 0\n",
+    ),
+    // a sum below 0
+    ("x where x = next x; end", "cycle x at 8: sum -1\n"),
+    // the least name of a cycle needn't be the first name of all
+    (
+        "x where x = y; y = z; z = y; end",
+        "cycle y at 15, z at 22: sum 0\n",
+    ),
+    // a name of a block inside a definition
+    (
+        "x where x = next (yy where yy = x; end); end",
+        "cycle x at 8, yy at 27: sum -1\n",
+    ),
+];
+
+#[test]
+fn a_judgment_has_a_line(rt: HostRuntime) -> Result<(), Fail> {
+    for (source, expected) in &LINES {
+        let line = line_of(rt.alloc(), source.as_bytes())?;
+        assert_eq!(rt; line.as_str(), *expected, "{source}");
+    }
+    Ok(())
+}
+
 // x0 where x0 = 0; x1 = x0 + 1; x2 = x1 + 1; .. end
 fn chain(alloc: Global, count: u32) -> Result<String, AllocError> {
     let mut text = String::new(alloc);

@@ -7,6 +7,8 @@ mod compiled;
 #[cfg(test)]
 mod cycles;
 #[cfg(test)]
+mod flat;
+#[cfg(test)]
 mod grouped;
 #[cfg(test)]
 mod names;
