@@ -1,13 +1,8 @@
 //! Tables as texts: which are read, which are sound, and which row is wrong in another. The rules are those of the flat form: a text has a
 //! line for each row, and a table is sound by seven rules.
-use lucid_compile::compile;
-use lucid_flat::{FlatRefusal, read_flat, show_flat};
-use lucid_parse::parse;
-use lucid_scan::scan;
-use lucid_scope::resolve;
+use lucid_flat::{FlatRefusal, read_flat};
 use lucid_sound::build;
 use std::alloc::Global;
-use std::process::Abort;
 use std::test::Fail;
 
 // What a text is: a program, or a table with a wrong row, or no table from a line on.
@@ -152,36 +147,4 @@ fn texts_by_hand(rt: HostRuntime) -> Result<(), Fail> {
     let told = verdict(alloc, b"lucid flat 1\nconst 1\nnod 0 const 0\nroot 0\n")?;
     assert_eq!(rt; told.as_str(), "line 3 is no flat line");
     Ok(())
-}
-
-// The compiled program's table is shown as a text that is read as a sound table, whose text is the same.
-fn is_shown_and_built(alloc: Global, rt: &impl Abort, source: &[u8]) -> Result<(), Fail> {
-    let tokens = scan(alloc, source)?;
-    let tree = parse(alloc, source, &tokens)?;
-    let scoped = resolve(alloc, &tree)?;
-    let program = compile(alloc, &scoped)?;
-    let mut text = Vec::new(alloc);
-    show_flat(alloc, program.table(), &mut text)?;
-    let again = build(alloc, read_flat(alloc, &text)?)?;
-    let mut shown = Vec::new(alloc);
-    show_flat(alloc, again.table(), &mut shown)?;
-    assert_eq!(rt; shown.as_slice(), text.as_slice());
-    Ok(())
-}
-
-#[test]
-fn compiled_programs(rt: HostRuntime) -> Result<(), Fail> {
-    let alloc = rt.alloc();
-    is_shown_and_built(alloc, &rt, b"1")?;
-    is_shown_and_built(alloc, &rt, b"x where x = 0 fby x + 1; end")?;
-    is_shown_and_built(
-        alloc,
-        &rt,
-        b"f(5) where f(a) = a fby f(x); x is current y; end",
-    )?;
-    is_shown_and_built(
-        alloc,
-        &rt,
-        b"g(n, 1) where g(n, a) = if n eq 0 then a else g(n - 1, n * a) fi; n = 0 fby n + 1; end",
-    )
 }

@@ -1,5 +1,5 @@
 use Rattle.std.proofs.Common.{◌≡◌, ◌≤◌, ◌+◌, ◌*◌, ◌^◌, length, max}
-use Rattle.lucid_rows.proofs.table_value.Evaluator.+value.Given as goal
+use Rattle.lucid_table_rows.proofs.table_value.Evaluator.+value.Given as goal
 
 -- a name that is entered lowers the limit, and each other step goes to a node with a lower number
 abbrev pub decreases-value : goal.decreases-value
