@@ -14,4 +14,3 @@ pub mod Parts
 pub mod RowParts
 pub mod Looks
 pub mod Programs
-pub mod Keys

@@ -1,8 +1,10 @@
-use Rattle.std.proofs.Common.{◌≡◌, map, take}
-use Rattle.lucid_tree.specs.Members.{AllDiffer}
-use Rattle.lucid_equations.specs.Keys.{key_bytes}
+use Rattle.std.proofs.Common.{ℕ, List, take, Bor}
+use Rattle.std.specs.Bool.{Decides}
+use Rattle.std.specs.BTreeSet.{contains}
+use Rattle.lucid_tree.specs.Members.{In, AllDiffer}
+use Rattle.lucid_equations.proofs.Names.{names_cmp}
 use Rattle.lucid_equations.proofs.differ.do_differ.Given as goal
 
 -- the earlier names are those before this one, and they differ
 abbrev pub invariant-loop-name : goal.invariant-loop-name
-invariant-loop-name l = (map key_bytes l.earlier.keys ≡ take l.name-index l.names) × AllDiffer (take l.name-index l.names)
+invariant-loop-name l = ((key : Bor (List ℕ)) → Decides (contains names_cmp l.earlier key) (In key.now (take l.name-index l.names))) × AllDiffer (take l.name-index l.names)
