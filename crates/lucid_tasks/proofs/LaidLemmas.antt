@@ -360,7 +360,7 @@ module _ (rows : List Row) (values after : Values) (l : AreLaid rows values) (sa
       (λ ne. at values.0 (rows ++ row ∷ []) q ∙ ap (option_and_then (laid_row values.0 q)) (get_push_other rows row q ne) ∙ sym (at values.0 rows q)))
     where
       key_is : laid_key row ≡ None
-      key_is = ap (λ b. cond b (Some (record { name = row.key_name; tag = row.key_tag; time = row.key_time })) None) keyed
+      key_is = ap (λ b. cond b (Some row.key) None) keyed
 
       parts_are : three_of (laid_state values.0 (length rows) row) ≡ all_idle
       parts_are = three_same (λ _. Idle) (laid_state values.0 (length rows) row) idle_state

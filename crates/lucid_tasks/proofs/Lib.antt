@@ -1,4 +1,5 @@
 pub mod Cases
+pub mod EndLemmas
 pub mod SlotLemmas
 pub mod NumberedLemmas
 pub mod LaidLemmas

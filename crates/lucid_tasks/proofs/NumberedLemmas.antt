@@ -4,6 +4,7 @@ use Rattle.std.specs.List.{insert, remove}
 use Rattle.std.specs.List.Sorted.{IsSearchInRange, IsBinarySearchResult, IsNonDecreasingBy}
 use Rattle.std.specs.Ordering.{nat_cmp, ordering_index}
 use Rattle.std.proofs.lemmas.Cmp.{ranked}
+use Rattle.std.proofs.lemmas.List.{get_or_default}
 use Rattle.std.proofs.lemmas.List.Sorted.{IsNonDecreasingBy-from_default}
 use Rattle.std.proofs.lemmas.List.Edits.{length-insert, length-remove, get_or-insert_below, get_or-insert_at, get_or-insert_above, get_or-remove_below, get_or-remove_above}
 use Rattle.std.proofs.lemmas.Bool.Decides.{nat_tests}
@@ -159,6 +160,12 @@ module _ {X : Type 0} (l items : List (ℕ × X)) (e : items ≡ l) (n i : ℕ) 
   pub found_removed : (d : ℕ × X) (left : List (ℕ × X)) → IsAt l n i → left ≡ remove items i → SetsOne (value_at l) (value_at left) n None
   found_removed d left at is = subst (λ xs. SetsOne (value_at l) (value_at xs) n None) (sym (is ∙ ap (λ (xs : List (ℕ × X)). remove xs i) e)) (removed_sets l d (subst Rises e up) n i at)
 
+  pub found_keeps : (d : ℕ × X) (room more : ℕ) (left : List (ℕ × X)) → IsAt l n i → AreBelow room items → more ≡ room → left ≡ remove items i → Rises left × AreBelow more left
+  found_keeps d room more left at low same is =
+      let there = subst (λ xs. IsAt xs n i) (sym e) at in
+      let below = removed_below items d up n i there room low in
+      subst (λ xs. Rises xs × AreBelow more xs) (sym is) (removed_rises items d up n i there, λ x a b. let under = below x a b in omega (arith, under, same))
+
   pub not_found : (d : ℕ × X) → IsAt l n i → value_at l n ≡ None → ⊥
   not_found d at none = none_is_some (get_or l i d).1 (sym none ∙ value_there l d (subst Rises e up) n i at)
 
@@ -176,3 +183,21 @@ module _ {X : Type 0} (l items : List (ℕ × X)) (e : items ≡ l) (n i : ℕ) 
 
 pub unset : {X : Type 0} (l : List (ℕ × X)) (n : ℕ) → value_at l n ≡ None → SetsOne (value_at l) (value_at l) n None
 unset l n none q = chosen q n (value_at l q) None (value_at l q) (λ e. ap (value_at l) e ∙ none) (λ _. refl)
+
+-- no number from one on has a value where that would stand at the end
+pub none_past : {X : Type 0} (l : List (ℕ × X)) (n : ℕ) → IsGapFor l n (length l) → (q : ℕ) → n ≤ q → value_at l q ≡ None
+none_past l n gap q le = none_has l q (λ d j lt is. let below = gap.smaller d j lt in omega (arith, below, is, le))
+
+-- a number between those of the last two pairs
+pub between_last : {X : Type 0} (l items : List (ℕ × X)) → items ≡ l → Rises items → (n i j : ℕ) (a b : ℕ × X) → j ≡ i + 1 → j + 1 ≡ length items
+    → a ≡ get_or items i a → b ≡ get_or items j b → a.0 < n → n < b.0 → IsGapFor l n j
+between_last {X} l items e up n i j a b next len before last less more = subst (λ xs. IsGapFor xs n j) e (record {
+  in_range = omega (arith, len);
+  smaller = λ d k lt.
+      let here : number_at d items i ≡ a.0 = ap (λ (x : ℕ × X). x.0) (get_or_default items i d a (omega (arith, len, next)) ∙ sym before) in
+      grind (arith, less, here, up d k i, λ (same : k ≡ i). ap (number_at d items) same);
+  greater = λ d k le lt.
+      let here : number_at d items j ≡ b.0 = ap (λ (x : ℕ × X). x.0) (get_or_default items j d b (omega (arith, len)) ∙ sym last) in
+      let same : k ≡ j = omega (arith, le, lt, len) in
+      let there = ap (number_at d items) same in omega (arith, more, here, there);
+})

@@ -40,7 +40,7 @@ laid_parent row = option_map (λ s. record { slot = s; index = row.parent_index 
 
 -- the key that a row remembers
 abbrev pub laid_key : Row → Option Key
-laid_key row = if row.keyed then Some (record { name = row.key_name; tag = row.key_tag; time = row.key_time }) else None
+laid_key row = if row.keyed then Some row.key else None
 
 -- a living row
 abbrev pub laid : List (ℕ × Value) → ℕ → Row → TaskRow

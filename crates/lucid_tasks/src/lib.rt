@@ -16,16 +16,18 @@ mod tasks;
 mod tests;
 
 /// One node at one tag and time, with the approximation that is left as its depth.
+///
+/// The tag and the node fill 16 bytes, so that a task is copied by whole words.
 #[derive(Clone, Copy, PartialEq, Eq, Debug)]
 pub struct Task {
-    /// The number of the node.
-    pub node: u32,
-    /// How many names deep it may still look.
-    pub depth: u32,
     /// The context and the space.
     pub tag: Tag,
+    /// The number of the node.
+    pub node: u32,
     /// The time.
     pub time: u64,
+    /// How many names deep it may still look.
+    pub depth: u32,
 }
 
 /// Where a search stands: the time of its next look, and how many true values it passed.

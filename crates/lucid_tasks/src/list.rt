@@ -3,7 +3,22 @@
 ghost use Rattle.std.specs.Prelude.{◌≡◌, ℕ, ◌<◌, ◌≤◌, ◌+◌, ◌==◌, true, false, length, slice_index, if◌then◌else◌, vec_len, vec_capacity};
 ghost use Rattle.lucid_tasks.specs.Slots.{is_listed, RiseFrom};
 
-// How many of the slots are below one. The end is tried first: nearly always the newest task is worked on.
+// How many of the slots are below one. Few are searched, so it stands apart.
+#[inline(never)]
+fn search_slot(slots: &[usize], slot: usize) -> usize
+    requires { RiseFrom 0 slots.now }
+    ensures bound { result ≤ length slots.now }
+    ensures below { (k : ℕ) → k < result → slice_index slots.now k < slot }
+    ensures from { (k : ℕ) → result ≤ k → k < length slots.now → slot ≤ slice_index slots.now k }
+{
+    match slots.binary_search(&slot) {
+        Ok(place) => place,
+        Err(place) => place,
+    }
+}
+
+// The same. The end is tried first: nearly always the newest task is worked on.
+#[inline(always)]
 fn place_of(slots: &[usize], slot: usize) -> usize
     requires { RiseFrom 0 slots.now }
     ensures bound { result ≤ length slots.now }
@@ -11,17 +26,15 @@ fn place_of(slots: &[usize], slot: usize) -> usize
     ensures from { (k : ℕ) → result ≤ k → k < length slots.now → slot ≤ slice_index slots.now k }
 {
     match slots.last() {
-        Some(last) if *last < slot => return slots.len(),
-        Some(last) if *last == slot => return slots.len() - 1,
-        _ => (),
-    }
-    match slots.binary_search(&slot) {
-        Ok(place) => place,
-        Err(place) => place,
+        None => 0,
+        Some(last) if *last < slot => slots.len(),
+        Some(last) if *last == slot => slots.len() - 1,
+        Some(_) => search_slot(slots, slot),
     }
 }
 
 // Takes a slot out.
+#[inline(always)]
 pub(crate) fn remove_slot(slots: &mut Vec<usize>, slot: usize)
     requires rising { RiseFrom 0 slots.old.items }
     requires listed { is_listed slots.old.items slot ≡ true }
@@ -33,10 +46,15 @@ pub(crate) fn remove_slot(slots: &mut Vec<usize>, slot: usize)
     ensures len { vec_len slots.new + 1 ≡ vec_len slots.old }
 {
     let place = place_of(slots, slot);
-    slots.remove(place);
+    if place + 1 == slots.len() {
+        slots.take_last();
+    } else {
+        slots.remove(place);
+    }
 }
 
 // Puts a slot at its place.
+#[inline(always)]
 pub(crate) fn insert_slot(slots: &mut Vec<usize>, slot: usize)
     requires rising { RiseFrom 0 slots.old.items }
     requires absent { is_listed slots.old.items slot ≡ false }
@@ -46,7 +64,9 @@ pub(crate) fn insert_slot(slots: &mut Vec<usize>, slot: usize)
     ensures room { vec_len slots.new ≤ vec_capacity slots.new }
 {
     let place = place_of(slots, slot);
-    if slots.insert(place, slot).is_err() {
+    if place == slots.len() {
+        slots.push_reserved(slot);
+    } else if slots.insert(place, slot).is_err() {
         unreachable!();
     }
 }

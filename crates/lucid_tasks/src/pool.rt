@@ -1,9 +1,9 @@
 //! The values of parts, by the parts' numbers.
 //!
 //! The pairs stand in rising order of their numbers. A task that is worked on is nearly always the newest, so its parts have the
-//! greatest numbers; the end is tried before the pairs are searched.
+//! greatest numbers; the last two are tried before the pairs are searched.
 
-ghost use Rattle.std.specs.Prelude.{◌≡◌, ℕ, ◌<◌, ◌≤◌, [], None, Some, IfOk, IfErr, OnOk, OnErr, option_copied};
+ghost use Rattle.std.specs.Prelude.{◌≡◌, ℕ, ◌<◌, ◌≤◌, [], length, IsTrue, ◌↔◌, None, Some, IfOk, IfErr, OnOk, OnErr, option_copied};
 ghost use Rattle.lucid_tasks.specs.Numbered.{value_at, IsAt, IsGapFor, SetsOne};
 
 use lucid_value::Value;
@@ -41,7 +41,17 @@ impl Pool {
         }
     }
 
-    // Where a number stands, or where it would.
+    // Where a number stands, or where it would. Few numbers are searched, so it stands apart.
+    #[inline(never)]
+    fn search(&self, number: usize) -> Result<usize, usize>
+        ensures found { IfOk result (IsAt self.now.0 number) }
+        ensures absent { IfErr result (IsGapFor self.now.0 number) }
+    {
+        self.values.binary_search_by_key(&number, |pair| pair.0)
+    }
+
+    // The same, told by the last two pairs where they are enough.
+    #[inline(always)]
     fn place(&self, number: usize) -> Result<usize, usize>
         ensures found { IfOk result (IsAt self.now.0 number) }
         ensures absent { IfErr result (IsGapFor self.now.0 number) }
@@ -57,10 +67,21 @@ impl Pool {
         if last == number {
             return Ok(end - 1);
         }
-        self.values.binary_search_by_key(&number, |pair| pair.0)
+        if end == 1 {
+            return Err(0);
+        }
+        let before = self.values[end - 2].0;
+        if before < number {
+            return Err(end - 1);
+        }
+        if before == number {
+            return Ok(end - 2);
+        }
+        self.search(number)
     }
 
     // Makes room for each number below one.
+    #[inline(always)]
     pub(crate) fn reserve(&mut self, room: usize) -> Result<(), AllocError>
         ensures values { self.new.0 ≡ self.old.0 }
         ensures ok { OnOk result (room ≤ self.new.1) }
@@ -74,6 +95,7 @@ impl Pool {
     }
 
     // The value of a number.
+    #[inline(always)]
     pub(crate) fn get(&self, number: usize) -> Option<&Value>
         ensures { option_copied result ≡ value_at self.now.0 number }
     {
@@ -84,6 +106,7 @@ impl Pool {
     }
 
     // Gives a number a value.
+    #[inline(always)]
     pub(crate) fn put(&mut self, number: usize, value: Value)
         requires room { number < self.old.1 }
         requires absent { value_at self.old.0 number ≡ None }
@@ -92,23 +115,59 @@ impl Pool {
     {
         match self.place(number) {
             Ok(_) => unreachable!(),
-            Err(at) => match self.values.insert(at, (number, value)) {
-                Ok(()) => (),
-                Err(_) => unreachable!(),
-            },
+            Err(at) if at == self.values.len() => self.values.push_reserved((number, value)),
+            Err(at) => self.put_inside(at, number, value),
+        }
+    }
+
+    // Puts a value at its place before others.
+    #[inline(never)]
+    fn put_inside(&mut self, at: usize, number: usize, value: Value)
+        requires room { number < self.old.1 }
+        requires gap { IsGapFor self.old.0 number at }
+        ensures values { SetsOne (value_at self.old.0) (value_at self.new.0) number (Some value) }
+        ensures room { self.old.1 ≤ self.new.1 }
+    {
+        if self.values.insert(at, (number, value)).is_err() {
+            unreachable!();
         }
     }
 
     // Takes the value of a number out.
+    #[inline(always)]
     pub(crate) fn take(&mut self, number: usize) -> Option<Value>
         ensures value { result ≡ value_at self.old.0 number }
         ensures values { SetsOne (value_at self.old.0) (value_at self.new.0) number None }
         ensures room { self.old.1 ≤ self.new.1 }
     {
         match self.place(number) {
-            Ok(at) => Some(self.values.remove(at).1),
+            Ok(at) if at + 1 == self.values.len() => Some(self.values.take_last().1),
+            Ok(at) => Some(self.take_inside(at, number)),
             Err(_) => None,
         }
+    }
+
+    // Takes out the value at a place before others.
+    #[inline(never)]
+    fn take_inside(&mut self, at: usize, number: usize) -> Value
+        requires { IsAt self.old.0 number at }
+        ensures value { Some result ≡ value_at self.old.0 number }
+        ensures values { SetsOne (value_at self.old.0) (value_at self.new.0) number None }
+        ensures room { self.old.1 ≤ self.new.1 }
+    {
+        self.values.remove(at).1
+    }
+
+    // Whether no value stands at this number or past it.
+    #[inline(always)]
+    pub(crate) fn ends_below(&self, number: usize) -> bool
+        ensures { IsTrue result ↔ IsGapFor self.now.0 number (length self.now.0) }
+    {
+        let end = self.values.len();
+        if end == 0 {
+            return true;
+        }
+        self.values[end - 1].0 < number
     }
 
     // Drops all values.

@@ -9,23 +9,20 @@ ghost use Rattle.lucid_tasks.specs.Laid.{part_number, named, laid_parent, Shows,
 
 use crate::pool::Pool;
 use crate::{Cursor, Key, Part, Task};
-use lucid_tags::Tag;
 use lucid_value::Value;
 use std::alloc::{AllocError, Global};
 use std::marker::Model;
 
 const START: Cursor = Cursor { time: 0, count: 0 };
 
-// A row as it lies in memory. A slot is named by one more than its number, and 0 names none.
+// A row as it lies in memory, without holes between its fields. A slot is named by one more than its number, and 0 names none.
 #[derive(Clone, Copy)]
 pub(crate) struct Row {
     pub(crate) task: Task,
     pub(crate) cursor: Cursor,
-    pub(crate) key_tag: Tag,
-    pub(crate) key_time: u64,
-    pub(crate) key_name: u32,
-    pub(crate) parent: u32,
     pub(crate) asked: [u32; 3],
+    pub(crate) parent: u32,
+    pub(crate) key: Key,
     pub(crate) parent_index: u8,
     pub(crate) keyed: bool,
     pub(crate) live: bool,
@@ -54,6 +51,7 @@ impl Model for Rows {
 }
 
 // The number of a part among the values.
+#[inline(always)]
 fn number(slot: usize, index: u32) -> usize
     requires slot { slot < 2 ^ 32 }
     requires index { index < 3 }
@@ -63,6 +61,7 @@ fn number(slot: usize, index: u32) -> usize
 }
 
 // A new row, which has asked for nothing.
+#[inline(always)]
 fn new_row(task: Task, parent: Option<Part>) -> Row
     requires { IfSome parent (λ part. (part.slot + 1 < 2 ^ 32) × (part.index < 3)) }
     ensures task { result.task ≡ task }
@@ -79,11 +78,13 @@ fn new_row(task: Task, parent: Option<Part>) -> Row
     Row {
         task,
         cursor: START,
-        key_tag: task.tag,
-        key_time: 0,
-        key_name: 0,
-        parent,
         asked: [0; 3],
+        parent,
+        key: Key {
+            name: 0,
+            tag: task.tag,
+            time: 0,
+        },
         parent_index,
         keyed: false,
         live: true,
@@ -91,6 +92,7 @@ fn new_row(task: Task, parent: Option<Part>) -> Row
 }
 
 // Drops the ended rows at the end.
+#[inline(always)]
 fn trim(rows: &mut Vec<Row>)
     ensures { Trims rows.old.items rows.new.items }
 {
@@ -114,6 +116,7 @@ impl Rows {
     }
 
     // The row in a slot as it lies.
+    #[inline(always)]
     fn row(&self, slot: usize) -> &Row
         requires { IsRow self.now slot }
         ensures slot { slot + 1 < 2 ^ 32 }
@@ -123,6 +126,7 @@ impl Rows {
     }
 
     // What is asked for.
+    #[inline(always)]
     pub(crate) fn task(&self, slot: usize) -> Task
         requires { IsRow self.now slot }
         ensures { option_map (λ row. row.task) (row_at self.now slot) ≡ Some result }
@@ -131,6 +135,7 @@ impl Rows {
     }
 
     // The part that the task is to give a value to.
+    #[inline(always)]
     pub(crate) fn parent(&self, slot: usize) -> Option<Part>
         requires { IsRow self.now slot }
         ensures { result ≡ parent_of self.now slot }
@@ -146,6 +151,7 @@ impl Rows {
     }
 
     // Where the search stands.
+    #[inline(always)]
     pub(crate) fn cursor(&self, slot: usize) -> Cursor
         requires { IsRow self.now slot }
         ensures { option_map (λ row. row.cursor) (row_at self.now slot) ≡ Some result }
@@ -154,6 +160,7 @@ impl Rows {
     }
 
     // The key that is remembered.
+    #[inline(always)]
     pub(crate) fn key(&self, slot: usize) -> Option<Key>
         requires { IsRow self.now slot }
         ensures { result ≡ key_of self.now slot }
@@ -162,14 +169,11 @@ impl Rows {
         if !row.keyed {
             return None;
         }
-        Some(Key {
-            name: row.key_name,
-            tag: row.key_tag,
-            time: row.key_time,
-        })
+        Some(row.key)
     }
 
     // Whether the row waits for none of its parts.
+    #[inline(always)]
     pub(crate) fn is_ready(&self, slot: usize) -> bool
         requires { IsRow self.now slot }
         ensures { result ≡ is_ready (row_at self.now slot) }
@@ -179,6 +183,7 @@ impl Rows {
     }
 
     // The value of a part.
+    #[inline(always)]
     pub(crate) fn got(&self, slot: usize, index: u32) -> Option<&Value>
         requires row { IsRow self.now slot }
         requires index { index < 3 }
@@ -189,6 +194,7 @@ impl Rows {
     }
 
     // Adds a row in a new slot, past all others.
+    #[inline(always)]
     pub(crate) fn add(&mut self, task: Task, parent: Option<Part>) -> Result<usize, AllocError>
         requires { IfSome parent (λ part. IsRow self.old part.slot × (part.index < 3)) }
         ensures row { IfOk result (λ slot. SetsOnly self.old self.new slot (Some (fresh task parent))) }
@@ -200,11 +206,13 @@ impl Rows {
             return Err(AllocError);
         }
         self.pool.reserve(3 * slot + 3)?;
-        self.rows.push(new_row(task, parent))?;
+        self.rows.reserve(1)?;
+        self.rows.push_reserved(new_row(task, parent));
         Ok(slot)
     }
 
     // Ends a row that has no value of a part.
+    #[inline(always)]
     fn end(&mut self, slot: usize)
         requires row { IsRow self.old slot }
         requires empty { (index : ℕ) → index < 3 → got_of self.old (record { slot = slot; index = index }) ≡ None }
@@ -214,21 +222,46 @@ impl Rows {
         trim(&mut self.rows);
     }
 
+    // Ends a row with the values of its parts. Few rows have any left, so it stands apart.
+    #[inline(never)]
+    fn end_with_values(&mut self, slot: usize)
+        requires { IsRow self.old slot }
+        ensures { SetsOnly self.old self.new slot None }
+    {
+        let _ = self.take(Part { slot, index: 0 });
+        let _ = self.take(Part { slot, index: 1 });
+        let _ = self.take(Part { slot, index: 2 });
+        self.end(slot);
+    }
+
+    // Ends a row, at once where neither it nor a later one has a value of a part.
+    #[inline(always)]
+    fn drop_row(&mut self, slot: usize)
+        requires { IsRow self.old slot }
+        ensures { SetsOnly self.old self.new slot None }
+    {
+        let _row = self.row(slot);
+        if self.pool.ends_below(number(slot, 2)) {
+            self.end(slot);
+        } else {
+            self.end_with_values(slot);
+        }
+    }
+
     // Ends a row, and tells its parent.
+    #[inline(always)]
     pub(crate) fn remove(&mut self, slot: usize) -> Option<Part>
         requires { IsRow self.old slot }
         ensures parent { result ≡ parent_of self.old slot }
         ensures rows { SetsOnly self.old self.new slot None }
     {
         let parent = self.parent(slot);
-        let _ = self.take(Part { slot, index: 0 });
-        let _ = self.take(Part { slot, index: 1 });
-        let _ = self.take(Part { slot, index: 2 });
-        self.end(slot);
+        self.drop_row(slot);
         parent
     }
 
     // Notes the slot of the task that is asked for a part.
+    #[inline(always)]
     pub(crate) fn mark_asked(&mut self, part: Part, child: usize)
         requires row { IsRow self.old part.slot }
         requires index { part.index < 3 }
@@ -241,6 +274,7 @@ impl Rows {
     }
 
     // Gives a part its value.
+    #[inline(always)]
     pub(crate) fn give(&mut self, part: Part, value: Value)
         requires row { IsRow self.old part.slot }
         requires index { part.index < 3 }
@@ -253,6 +287,7 @@ impl Rows {
     }
 
     // Takes the value of a part out.
+    #[inline(always)]
     pub(crate) fn take(&mut self, part: Part) -> Option<Value>
         requires row { IsRow self.old part.slot }
         requires index { part.index < 3 }
@@ -264,6 +299,7 @@ impl Rows {
     }
 
     // Moves a row's cursor.
+    #[inline(always)]
     pub(crate) fn set_cursor(&mut self, slot: usize, cursor: Cursor)
         requires { IsRow self.old slot }
         ensures { ChangesOnly self.old self.new slot (with_cursor cursor) }
@@ -272,6 +308,7 @@ impl Rows {
     }
 
     // Changes a row's task, and remembers a key.
+    #[inline(always)]
     pub(crate) fn become_body(&mut self, slot: usize, task: Task, key: Key)
         requires { IsRow self.old slot }
         ensures { ChangesOnly self.old self.new slot (becoming task key) }
@@ -279,9 +316,7 @@ impl Rows {
         let row = &mut self.rows[slot];
         row.task = task;
         row.cursor = START;
-        row.key_name = key.name;
-        row.key_tag = key.tag;
-        row.key_time = key.time;
+        row.key = key;
         row.keyed = true;
     }
 

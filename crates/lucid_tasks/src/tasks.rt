@@ -57,13 +57,12 @@ impl Tasks {
     {
         self.ready.reserve(1)?;
         let slot = self.rows.add(task, None)?;
-        if self.ready.push(slot).is_err() {
-            unreachable!();
-        }
+        self.ready.push_reserved(slot);
         Ok(slot)
     }
 
     /// Asks a new task for an idle part, and gives its slot, which is past those of all rows. It is refused as `begin` is.
+    #[inline(always)]
     pub fn ask(&mut self, parent: Part, task: Task) -> Result<usize, AllocError>
         requires row { IsRow self.old parent.slot }
         requires index { parent.index < 3 }
@@ -77,15 +76,14 @@ impl Tasks {
         if self.rows.is_ready(parent.slot) {
             remove_slot(&mut self.ready, parent.slot);
         }
-        if self.ready.push(slot).is_err() {
-            unreachable!();
-        }
+        self.ready.push_reserved(slot);
         self.rows.mark_asked(parent, slot);
         Ok(slot)
     }
 
     /// Ends a ready task. Its value goes to the part that it was asked for, or comes back where there is none. It takes no
     /// memory.
+    #[inline(always)]
     pub fn settle(&mut self, slot: usize, value: Value) -> Option<Value>
         requires { IsTrue (is_ready (row_at self.old slot)) }
         ensures rows { Settles self.old self.new slot value }
@@ -104,6 +102,7 @@ impl Tasks {
     }
 
     /// What the row in a slot is to find.
+    #[inline(always)]
     pub fn task(&self, slot: usize) -> Task
         requires { IsRow self.now slot }
         ensures { option_map (λ row. row.task) (row_at self.now slot) ≡ Some result }
@@ -112,6 +111,7 @@ impl Tasks {
     }
 
     /// The part that a task is to give a value to.
+    #[inline(always)]
     pub fn parent(&self, slot: usize) -> Option<Part>
         requires { IsRow self.now slot }
         ensures { result ≡ parent_of self.now slot }
@@ -120,6 +120,7 @@ impl Tasks {
     }
 
     /// Where a task's search stands.
+    #[inline(always)]
     pub fn cursor(&self, slot: usize) -> Cursor
         requires { IsRow self.now slot }
         ensures { option_map (λ row. row.cursor) (row_at self.now slot) ≡ Some result }
@@ -128,6 +129,7 @@ impl Tasks {
     }
 
     /// The key of the daton whose value a task's is to become.
+    #[inline(always)]
     pub fn key(&self, slot: usize) -> Option<Key>
         requires { IsRow self.now slot }
         ensures { result ≡ key_of self.now slot }
@@ -136,6 +138,7 @@ impl Tasks {
     }
 
     /// The value of a part, if it has one.
+    #[inline(always)]
     pub fn got(&self, slot: usize, index: u32) -> Option<&Value>
         requires row { IsRow self.now slot }
         requires index { index < 3 }
@@ -145,6 +148,7 @@ impl Tasks {
     }
 
     /// Moves a task's cursor.
+    #[inline(always)]
     pub fn set_cursor(&mut self, slot: usize, cursor: Cursor)
         requires { IsRow self.old slot }
         ensures { ChangesOnly self.old self.new slot (with_cursor cursor) }
@@ -153,6 +157,7 @@ impl Tasks {
     }
 
     /// Gives an idle part its value without a task. It takes no memory.
+    #[inline(always)]
     pub fn give(&mut self, part: Part, value: Value)
         requires row { IsRow self.old part.slot }
         requires index { part.index < 3 }
@@ -163,6 +168,7 @@ impl Tasks {
     }
 
     /// Moves the value of a part out, if it has one. The part is then idle.
+    #[inline(always)]
     pub fn take(&mut self, part: Part) -> Option<Value>
         requires row { IsRow self.old part.slot }
         requires index { part.index < 3 }
@@ -174,6 +180,7 @@ impl Tasks {
 
     /// Puts another task in the place of one of which no part is asked or got. The cursor is at 0, 0 then, and the key is
     /// remembered: it is that of the daton whose value the new task's is to become.
+    #[inline(always)]
     pub fn become_body(&mut self, slot: usize, task: Task, key: Key)
         requires { IsIdleRow self.old slot }
         ensures { ChangesOnly self.old self.new slot (becoming task key) }
@@ -182,6 +189,7 @@ impl Tasks {
     }
 
     /// The slots of the ready rows, in the order of their making.
+    #[inline(always)]
     pub fn ready(&self) -> &[usize]
         ensures rising { RiseFrom 0 result.now }
         ensures listed { (slot : ℕ) → is_listed result.now slot ≡ is_ready (row_at self.now slot) }

@@ -12,13 +12,13 @@ pub invariant_of-self : goal.invariant_of-self
 invariant_of-self c =
     let some = subst (λ v. IsRow v c.args.slot) (sym c.self.view_is) c.requires in
     let row = c.index_mut-row.result.now in
-    words_laid c.self.inside.rows.items c.self.inside.pool c.self.invariant c.args.slot row (record row { task = c.args.task; cursor = record { time = 0; count = 0 }; key_tag = c.args.key.tag; key_time = c.args.key.time; key_name = c.args.key.name; keyed = true })
+    words_laid c.self.inside.rows.items c.self.inside.pool c.self.invariant c.args.slot row (record row { task = c.args.task; cursor = record { time = 0; count = 0 }; key = c.args.key; keyed = true })
     (at_it c.self.inside.rows.items c.self.inside.pool c.args.slot row some c.index_mut-row.ensures.value) (live_it c.self.inside.rows.items c.self.inside.pool c.args.slot row some c.index_mut-row.ensures.value) refl refl
 
 pub returns : goal.returns
 returns c =
     let some = subst (λ v. IsRow v c.args.slot) (sym c.self.view_is) c.requires in
     let row = c.index_mut-row.result.now in
-    rw (← c.self.view_is) (words_changes c.self.inside.rows.items c.self.inside.pool c.self.invariant c.args.slot row (record row { task = c.args.task; cursor = record { time = 0; count = 0 }; key_tag = c.args.key.tag; key_time = c.args.key.time; key_name = c.args.key.name; keyed = true })
+    rw (← c.self.view_is) (words_changes c.self.inside.rows.items c.self.inside.pool c.self.invariant c.args.slot row (record row { task = c.args.task; cursor = record { time = 0; count = 0 }; key = c.args.key; keyed = true })
     (at_it c.self.inside.rows.items c.self.inside.pool c.args.slot row some c.index_mut-row.ensures.value) (live_it c.self.inside.rows.items c.self.inside.pool c.args.slot row some c.index_mut-row.ensures.value) refl refl
     (becoming c.args.task c.args.key) refl)

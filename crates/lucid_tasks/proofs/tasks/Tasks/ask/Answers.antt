@@ -11,8 +11,8 @@ pub invariant_of-self-2 : goal.invariant_of-self-2
 invariant_of-self-2 c =
     let some = subst (λ v. IsRow v c.args.parent.slot) (sym c.self.view_is) c.requires.row in
     let idle = subst (λ v. state_of v c.args.parent ≡ Some Idle) (sym c.self.view_is) c.requires.idle in
-    let items : c.push.new.self.items ≡ c.if-is_ready.self-inside.ready.items ++ c.in_ok-slot.slot ∷ [] = search rules in
-    let room : vec_len c.push.new.self ≤ vec_capacity c.push.new.self = search rules in
+    let items : c.push_reserved.new.self.items ≡ c.if-is_ready.self-inside.ready.items ++ c.in_ok-slot.slot ∷ [] = search rules in
+    let room : vec_len c.push_reserved.new.self ≤ vec_capacity c.push_reserved.new.self = search rules in
     let rows : c.if-is_ready.self-inside.rows ≡ c.add.new.self = elim c.if-is_ready.branch [
       | then-is_ready w ↦ rw w.self-inside-is refl
       | else-is_ready w ↦ rw w.self-inside-is refl
@@ -24,8 +24,8 @@ invariant_of-self-2 c =
         stays_listed c.self.inside.rows c.add.new.self c.args.parent c.in_ok-slot.slot c.args.task c.in_ok-slot.ensures.row c.in_ok-slot.ensures.newest some c.self.inside.ready.items c.self.invariant.0 (sym c.is_ready.ensures ∙ w.if-is_ready.false),
       )
     ] in
-    let after = pushed_after c.self.inside.rows c.add.new.self c.args.parent c.in_ok-slot.slot c.args.task c.in_ok-slot.ensures.row c.in_ok-slot.ensures.newest some c.self.inside.ready.items c.self.invariant.0 c.if-is_ready.self-inside.ready.items c.push.new.self.items left.0 left.1 items in (
+    let after = pushed_after c.self.inside.rows c.add.new.self c.args.parent c.in_ok-slot.slot c.args.task c.in_ok-slot.ensures.row c.in_ok-slot.ensures.newest some c.self.inside.ready.items c.self.invariant.0 c.if-is_ready.self-inside.ready.items c.push_reserved.new.self.items left.0 left.1 items in (
       asked_tasks c.self.inside.rows c.add.new.self c.mark_asked.new.self c.args.parent c.in_ok-slot.slot c.args.task c.in_ok-slot.ensures.row c.in_ok-slot.ensures.newest (subst (λ (v : List (Option TaskRow)). ChangesOnly v c.mark_asked.new.self c.args.parent.slot (with_part c.args.parent.index (Asked c.in_ok-slot.slot))) rows c.mark_asked.ensures) some c.requires.index idle
-          c.self.inside.ready.items c.self.invariant.0 c.push.new.self.items after.0 after.1,
+          c.self.inside.ready.items c.self.invariant.0 c.push_reserved.new.self.items after.0 after.1,
       room,
     )

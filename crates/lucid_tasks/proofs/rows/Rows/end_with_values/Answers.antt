@@ -1,5 +1,5 @@
 use Rattle.lucid_tasks.proofs.TaskLemmas.{still_row, all_empty, emptied_gone}
-use Rattle.lucid_tasks.proofs.rows.Rows.remove.Goals as goal
+use Rattle.lucid_tasks.proofs.rows.Rows.end_with_values.Goals as goal
 
 pub end-requires-clause-row : goal.end-requires-clause-row
 end-requires-clause-row c = still_row c.take-2.new.self c.take-3.new.self c.args.slot 2 c.take-3.ensures.rows
@@ -8,5 +8,5 @@ end-requires-clause-row c = still_row c.take-2.new.self c.take-3.new.self c.args
 pub end-requires-clause-empty : goal.end-requires-clause-empty
 end-requires-clause-empty c = all_empty c.args.self.now c.take.new.self c.take-2.new.self c.take-3.new.self c.args.slot c.take.ensures.rows c.take-2.ensures.rows c.take-3.ensures.rows
 
-pub returns-clause-rows : goal.returns-clause-rows
-returns-clause-rows c = emptied_gone c.args.self.now c.take.new.self c.take-2.new.self c.take-3.new.self c.args.slot c.take.ensures.rows c.take-2.ensures.rows c.take-3.ensures.rows c.end.new.self c.end.ensures
+pub returns : goal.returns
+returns c = emptied_gone c.args.self.now c.take.new.self c.take-2.new.self c.take-3.new.self c.args.slot c.take.ensures.rows c.take-2.ensures.rows c.take-3.ensures.rows c.end.new.self c.end.ensures

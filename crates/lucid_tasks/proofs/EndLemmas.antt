@@ -1,0 +1,32 @@
+-- Edits at the end of a list.
+use Rattle.std.proofs.Common.{◌≡◌, ℕ, zero, suc, ◌+◌, List, [], ◌∷◌, ◌++◌, length, get_or, length-append, refl, sym, ap, subst, ◌∙◌, arith}
+use Rattle.std.specs.List.{insert, remove}
+
+module _ {X : Type 0} where
+  pub removed_end : (xs : List X) (x : X) (i : ℕ) → i + 1 ≡ length (xs ++ x ∷ []) → remove (xs ++ x ∷ []) i ≡ xs
+  removed_end [] x zero e = refl
+  removed_end [] x (suc i) e = absurd (omega (arith, e))
+  removed_end (y ∷ xs) x zero e = let len = length-append xs (x ∷ []) in absurd (omega (arith, e, len))
+  removed_end (y ∷ xs) x (suc i) e = ap (λ l. y ∷ l) (removed_end xs x i (omega (arith, e)))
+
+  pub last_at : (xs : List X) (x d : X) (i : ℕ) → i + 1 ≡ length (xs ++ x ∷ []) → get_or (xs ++ x ∷ []) i d ≡ x
+  last_at [] x d zero e = refl
+  last_at [] x d (suc i) e = absurd (omega (arith, e))
+  last_at (y ∷ xs) x d zero e = let len = length-append xs (x ∷ []) in absurd (omega (arith, e, len))
+  last_at (y ∷ xs) x d (suc i) e = last_at xs x d i (omega (arith, e))
+
+  pub inserted_end : (xs : List X) (x : X) (i : ℕ) → i ≡ length xs → insert xs i x ≡ xs ++ x ∷ []
+  inserted_end [] x zero e = refl
+  inserted_end [] x (suc i) e = absurd (omega (arith, e))
+  inserted_end (y ∷ xs) x zero e = absurd (omega (arith, e))
+  inserted_end (y ∷ xs) x (suc i) e = ap (λ l. y ∷ l) (inserted_end xs x i (omega (arith, e)))
+
+  -- what is left, and the one that left, of a list that ended in it
+  pub last_of : (left items : List X) (x : X) (i : ℕ) → items ≡ left ++ x ∷ [] → i + 1 ≡ length items → (left ≡ remove items i) × (x ≡ get_or items i x)
+  last_of left items x i e h =
+      let end = subst (λ (ys : List X). i + 1 ≡ length ys) e h in
+      (sym (ap (λ (ys : List X). remove ys i) e ∙ removed_end left x i end), sym (ap (λ (ys : List X). get_or ys i x) e ∙ last_at left x x i end))
+
+  -- a list with a new end
+  pub end_of : (items after : List X) (x : X) (i : ℕ) → i ≡ length items → after ≡ items ++ x ∷ [] → after ≡ insert items i x
+  end_of items after x i h is = is ∙ sym (inserted_end items x i h)
