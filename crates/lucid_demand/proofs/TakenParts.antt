@@ -1,7 +1,7 @@
 -- The values of a row's parts, as they are taken one after another.
 use Rattle.std.proofs.Common.{◌≡◌, ℕ, zero, suc, List, [], ◌∷◌, length, Option, Some, None, refl, sym, ap, ◌∙◌, arith}
 use Rattle.std.specs.Result.{IsErrAnd}
-use Rattle.std.specs.Prelude.{Result, Ok, Err, IfOk, IsTrue, IsSome, map, option_map, option_and_then, slice_set, slice_index_or}
+use Rattle.std.specs.Prelude.{Result, Ok, Err, ⊤, IfOk, IsTrue, IsSome, map, option_map, option_and_then, slice_set, slice_index_or}
 use Rattle.lucid_value.specs.declared.Value.{Value}
 use Rattle.lucid_value.specs.Plain.{PlainValue}
 use Rattle.lucid_value.specs.View.{plain}
@@ -10,7 +10,9 @@ use Rattle.lucid_ops.specs.Arity.{arity}
 use Rattle.lucid_ops.specs.Algebra.{algebra}
 use Rattle.lucid_tasks.specs.Rows as rows
 use Rattle.lucid_tasks.specs.Rows.{TaskRow, Idle, row_at, got_of, is_ready}
+use Rattle.lucid_demand.specs.Evaluating.{gave}
 use Rattle.lucid_demand.specs.Acting.{HaveGot}
+use Rattle.lucid_demand.specs.declared.fault.DemandFault.{DemandFault}
 use Rattle.lucid_demand.proofs.SettledRows.{changed_row}
 
 -- a row that is ready is a row
@@ -60,3 +62,7 @@ applied_value op rs slot args (Err e) is count got = tt
 pub err_is : {A E : Type 0} (r : Result A E) (x : E) → IsErrAnd r (λ e. e ≡ x) → r ≡ Err x
 err_is (Ok a) x h = absurd h
 err_is (Err e) x h = ap Err h
+
+-- so it is where there is an answer beside it
+pub gave_err : (r : Result ⊤ DemandFault) (answer : Option Value) (x : DemandFault) → IsErrAnd r (λ e. e ≡ x) → gave r answer ≡ Err x
+gave_err r answer x h = ap (λ z. gave z answer) (err_is r x h)

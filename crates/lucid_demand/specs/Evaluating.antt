@@ -1,5 +1,5 @@
 -- An evaluation as its functions see it: the engine, and the rows that wait; and what one step of a row does.
-use Rattle.std.specs.Prelude.{◌≡◌, ℕ, ◌<◌, List, Option, Some, None, IsTrue, Result, Ok, Err, IfErr, length}
+use Rattle.std.specs.Prelude.{◌≡◌, ℕ, ◌<◌, List, Option, Some, None, IsTrue, Result, Ok, Err, IfErr, ⊤, length}
 use Rattle.lucid_value.specs.declared.Value.{Value}
 use Rattle.lucid_value.specs.View.{plain}
 use Rattle.lucid_tree.specs.Levels.{Elements}
@@ -33,6 +33,11 @@ pub record MayStep (d : Demand) (e : Evaluating) (w : World) (slot : ℕ) : Type
   pub emptied : IsEmptied d (holding e.engine) e.engine.noted
   pub within : WithinRoom d.first.room e.engine.stored
   pub ready : IsTrue (is_ready (row_at e.rows slot))
+
+-- what a step or a turn gave: a refusal, or else what the answer is then
+abbrev pub gave : Result ⊤ DemandFault → Option Value → Result (Option Value) DemandFault
+gave (Ok done) answer = Ok answer
+gave (Err fault) answer = Err fault
 
 -- what is said of a value, where a step or a turn gave one
 abbrev pub OnAnswer : Result (Option Value) DemandFault → (Value → Type 0) → Type 0

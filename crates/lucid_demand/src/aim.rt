@@ -27,6 +27,7 @@ pub(crate) struct Aim {
 
 impl Aim {
     /// The task of the body, with one reference less to look through.
+    #[inline(always)]
     pub(crate) fn task(&self, depth: u32) -> Task
         ensures { result ≡ record { node = self.now.body; tag = self.now.tag; time = self.now.time; depth = depth } }
     {
@@ -41,6 +42,7 @@ impl Aim {
 
 // In its own context, a plain name or a function goes on with its body there, a parameter with its actual in the caller's context, and a
 // current name with its body in the context round its frame, at the time that the frame has frozen.
+#[inline(always)]
 fn by_frame(program: &Program, tags: &Tags, name: u32, tag: Tag, time: u64) -> Option<Aim>
     requires name { name < length (table_of program.now).names }
     requires known { IsKnown tags.now tag }
@@ -78,6 +80,7 @@ fn by_frame(program: &Program, tags: &Tags, name: u32, tag: Tag, time: u64) -> O
 }
 
 // The actual of a call place, if it has one of that index.
+#[inline(always)]
 fn actual(program: &Program, place: u32, index: u32) -> Option<u32>
     ensures actual { result ≡ actual_at (table_of program.now) place index }
     ensures there { IfSome result (λ n. n < length (table_of program.now).nodes) }
@@ -90,6 +93,7 @@ fn actual(program: &Program, place: u32, index: u32) -> Option<u32>
 }
 
 /// What the reference of a name goes on with: nothing where its context has too few frames, or a frame of another kind.
+#[inline(always)]
 pub(crate) fn name_aim(
     program: &Program,
     tags: &Tags,
@@ -110,6 +114,7 @@ pub(crate) fn name_aim(
 }
 
 // Whether a call of the name at the place leads somewhere, whoever calls it and when.
+#[inline(always)]
 fn leads(program: &Program, name: u32, place: u32) -> bool
     requires name { name < length (table_of program.now).names }
     ensures somewhere { result ≡ true → (caller base : Context) (time : ℕ)

@@ -1,7 +1,7 @@
 //! A row asks for parts, and a reference goes on with its body.
-ghost use Rattle.std.specs.Prelude.{◌≡◌, IfOk, OnOk};
+ghost use Rattle.std.specs.Prelude.{◌≡◌, ◌∷◌, [], None, IfOk, OnOk};
 ghost use Rattle.lucid_store.specs.Entries.{value_at, IsTouched};
-ghost use Rattle.lucid_demand.specs.Evaluating.{Stepped as Steps};
+ghost use Rattle.lucid_demand.specs.Evaluating.{gave, Stepped as Steps};
 ghost use Rattle.lucid_demand.specs.Acting.{DemandIn, MayAct};
 ghost use Rattle.lucid_demand.specs.Asking.{CanAsk, CanAskAll, CanRefer, CanFollow, MayFollow, SetsPart, AsksIn, FindsAim};
 ghost use Rattle.lucid_demand.specs.Searching.{MayAskNow};
@@ -24,6 +24,7 @@ impl<R: Retire, S: Pick> Evaluation<R, S> {
     ghost use Rattle.lucid_tags.specs.Known.{IsKnown};
 
     // Asks for a part: by a row, or at once where what is left of it is a constant.
+    #[inline(always)]
     fn ask_part(&mut self, part: Part, task: Task) -> Result<(), AllocError>
         requires { CanAsk self.old part task }
         ensures sets { OnOk result (SetsPart self.old self.new part) }
@@ -42,18 +43,31 @@ impl<R: Retire, S: Pick> Evaluation<R, S> {
         Ok(())
     }
 
+    #[inline(always)]
     pub(crate) fn ask(&mut self, part: Part, task: Task) -> Stepped
         requires { CanAsk self.old part task }
-        ensures { (i : DemandIn) → MayAskNow i.demand self.old i.world part task → Steps i.demand self.old self.new i.world i.world result }
+        ensures { (i : DemandIn) → MayAskNow i.demand self.old i.world part task → Steps i.demand self.old self.new i.world i.world (gave result None) }
     {
         self.ask_part(part, task)?;
-        Ok(None)
+        Ok(())
     }
 
+    #[inline(always)]
     pub(crate) fn ask_all(&mut self, slot: usize, op: Op, args: [u32; 3]) -> Stepped
         requires { CanAskAll self.old slot op args }
-        ensures { (i : DemandIn) → MayAct i.demand self.old i.world slot (decision.AskAll op args) → Steps i.demand self.old self.new i.world i.world result }
+        ensures { (i : DemandIn) → MayAct i.demand self.old i.world slot (decision.AskAll op args) → Steps i.demand self.old self.new i.world i.world (gave result None) }
     {
+        let [first, second, third] = args;
+        self.ask_each(slot, op, first, second, third)
+    }
+
+    // The same, with the arguments' nodes one by one, so that no list of them is passed in memory.
+    #[inline(never)]
+    fn ask_each(&mut self, slot: usize, op: Op, first: u32, second: u32, third: u32) -> Stepped
+        requires { CanAskAll self.old slot op (first ∷ second ∷ third ∷ []) }
+        ensures { (i : DemandIn) → MayAct i.demand self.old i.world slot (decision.AskAll op (first ∷ second ∷ third ∷ [])) → Steps i.demand self.old self.new i.world i.world (gave result None) }
+    {
+        let args = [first, second, third];
         let task = self.tasks.task(slot);
         for index in 0..op.arity() as u32 {
             if self.tasks.got(slot, index).is_none() {
@@ -61,10 +75,11 @@ impl<R: Retire, S: Pick> Evaluation<R, S> {
                 self.ask_part(Part { slot, index }, Task { node, ..task })?;
             }
         }
-        Ok(None)
+        Ok(())
     }
 
     // What a task's reference goes on with.
+    #[inline(always)]
     pub(crate) fn aim(&mut self, task: Task) -> Result<Option<Aim>, AllocError>
         requires there { task.node < length self.old.engine.table.nodes }
         requires known { IsKnown self.old.engine.known task.tag }
@@ -93,6 +108,7 @@ impl<R: Retire, S: Pick> Evaluation<R, S> {
     }
 
     // A copy of the value that is held under a key.
+    #[inline(always)]
     fn held(&mut self, key: Key) -> Result<Option<Value>, AllocError>
         ensures value { IfOk result (λ found. found ≡ value_at self.old.engine.stored key) }
         ensures touched { IsTouched self.old.engine.stored self.new.engine.stored key }
@@ -105,9 +121,10 @@ impl<R: Retire, S: Pick> Evaluation<R, S> {
     }
 
     // A reference becomes its body, or asks for it where that is a reference itself.
+    #[inline(always)]
     fn follow(&mut self, slot: usize, aim: Aim, depth: u32) -> Stepped
         requires { CanFollow self.old slot aim }
-        ensures { (i : DemandIn) → MayFollow i.demand self.old i.world slot aim depth → Steps i.demand self.old self.new i.world i.world result }
+        ensures { (i : DemandIn) → MayFollow i.demand self.old i.world slot aim depth → Steps i.demand self.old self.new i.world i.world (gave result None) }
     {
         let body = passed(&self.program, &mut self.tags, aim.task(depth))?;
         match self.program.node(body.node) {
@@ -116,20 +133,23 @@ impl<R: Retire, S: Pick> Evaluation<R, S> {
             }
             _ => self.tasks.become_body(slot, body, aim.key),
         }
-        Ok(None)
+        Ok(())
     }
 
     // A reference takes the held value, at any depth; else it goes on with its body.
-    pub(crate) fn refer(&mut self, slot: usize) -> Stepped
-        requires { CanRefer self.old slot }
-        ensures { (i : DemandIn) → MayAct i.demand self.old i.world slot decision.Refer → Steps i.demand self.old self.new i.world i.world result }
+    #[inline(never)]
+    pub(crate) fn refer(&mut self, slot: usize, answer: &mut Option<Value>) -> Stepped
+        requires can { CanRefer self.old slot }
+        requires open { answer.old ≡ None }
+        ensures { (i : DemandIn) → MayAct i.demand self.old i.world slot decision.Refer → Steps i.demand self.old self.new i.world i.world (gave result answer.new) }
     {
         let task = self.tasks.task(slot);
         let Some(aim) = self.aim(task)? else {
             return Err(DemandFault::TooDeep);
         };
         if let Some(value) = self.held(aim.key)? {
-            return Ok(self.tasks.settle(slot, value));
+            *answer = self.tasks.settle(slot, value);
+            return Ok(());
         }
         if task.depth == 0 {
             return Err(DemandFault::TooDeep);

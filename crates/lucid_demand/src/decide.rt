@@ -64,6 +64,7 @@ struct Ready {
 impl Ready {
     ghost use Rattle.lucid_demand.specs.Answers.{answer_of, part_or_ask, truth_or_ask, DecidesFor};
 
+    #[inline(always)]
     fn answer(self, tasks: &Tasks, index: u32) -> Answer
         requires row { IsRow tasks.now self.slot }
         requires index { index < 3 }
@@ -79,6 +80,7 @@ impl Ready {
     }
 
     // The value of the part, once it is there.
+    #[inline(always)]
     fn part_or_ask(self, tasks: &Tasks, index: u32, task: Task) -> Decision
         requires row { IsRow tasks.now self.slot }
         requires index { index < 3 }
@@ -90,6 +92,7 @@ impl Ready {
         }
     }
 
+    #[inline(always)]
     fn choose(self, tasks: &Tasks, test: u32, yes: u32, no: u32) -> Decision
         requires { IsRow tasks.now self.slot }
         ensures { DecidesFor tasks.now self.slot self.task (node.If test yes no) result }
@@ -124,6 +127,7 @@ impl Ready {
     }
 
     // The second side of `and` and `or`, where the first doesn't decide.
+    #[inline(always)]
     fn right_side(self, tasks: &Tasks, right: u32) -> Decision
         requires { IsRow tasks.now self.slot }
         ensures { result ≡ truth_or_ask (answer_of (option_map plain (got_of tasks.now (record { slot = self.slot; index = 1 })))) (record self.task { node = right }) }
@@ -142,6 +146,7 @@ impl Ready {
         }
     }
 
+    #[inline(always)]
     fn both(self, tasks: &Tasks, left: u32, right: u32) -> Decision
         requires { IsRow tasks.now self.slot }
         ensures { DecidesFor tasks.now self.slot self.task (node.And left right) result }
@@ -161,6 +166,7 @@ impl Ready {
         }
     }
 
+    #[inline(always)]
     fn either(self, tasks: &Tasks, left: u32, right: u32) -> Decision
         requires { IsRow tasks.now self.slot }
         ensures { DecidesFor tasks.now self.slot self.task (node.Or left right) result }
@@ -181,6 +187,7 @@ impl Ready {
     }
 
     // The part at the time that another part gives.
+    #[inline(always)]
     fn attime(self, tasks: &Tasks, left: u32, right: u32) -> Decision
         requires { IsRow tasks.now self.slot }
         ensures { DecidesFor tasks.now self.slot self.task (node.Attime left right) result }
@@ -237,6 +244,7 @@ impl Ready {
         }
     }
 
+    #[inline(always)]
     fn whenever(self, tasks: &Tasks, left: u32, right: u32) -> Decision
         requires { IsRow tasks.now self.slot }
         ensures { DecidesFor tasks.now self.slot self.task (node.Whenever left right) result }
@@ -274,6 +282,7 @@ impl Ready {
         }
     }
 
+    #[inline(always)]
     fn asa(self, tasks: &Tasks, left: u32, right: u32) -> Decision
         requires { IsRow tasks.now self.slot }
         ensures { DecidesFor tasks.now self.slot self.task (node.Asa left right) result }
@@ -306,6 +315,7 @@ impl Ready {
         }
     }
 
+    #[inline(always)]
     fn upon(self, tasks: &Tasks, left: u32, right: u32) -> Decision
         requires { IsRow tasks.now self.slot }
         ensures { DecidesFor tasks.now self.slot self.task (node.Upon left right) result }
@@ -341,6 +351,7 @@ impl Ready {
     }
 
     // Whether a part has no value yet.
+    #[inline(always)]
     fn lacks(self, tasks: &Tasks, index: u32) -> bool
         requires row { IsRow tasks.now self.slot }
         requires index { index < 3 }
@@ -349,6 +360,7 @@ impl Ready {
         tasks.got(self.slot, index).is_none()
     }
 
+    #[inline(always)]
     fn apply(self, tasks: &Tasks, op: Op, args: [u32; 3]) -> Decision
         requires { IsRow tasks.now self.slot }
         ensures { DecidesFor tasks.now self.slot self.task (node.Apply op args) result }
@@ -372,6 +384,7 @@ impl Ready {
         Decision::Apply { op }
     }
 
+    #[inline(always)]
     fn refer(self, tasks: &Tasks) -> Decision
         requires { IsRow tasks.now self.slot }
         ensures names { (name level : ℕ) → DecidesFor tasks.now self.slot self.task (node.Refer name level) result }
@@ -384,6 +397,7 @@ impl Ready {
         }
     }
 
+    #[inline(always)]
     fn read(self, stream: u32) -> Decision
         ensures { (forest : List (Option TaskRow)) → DecidesFor forest self.slot self.task (node.Input stream) result }
     {
@@ -396,6 +410,7 @@ impl Ready {
 }
 
 /// What the ready row in a slot does next.
+#[inline(always)]
 pub(crate) fn decide(program: &Program, tasks: &Tasks, slot: usize) -> Decision
     ghost known: { List Context }
     requires { MayDecide (table_of program.now) known tasks.now slot }

@@ -1,5 +1,5 @@
 //! All that an engine owns, and the turns of a demand.
-ghost use Rattle.std.specs.Prelude.{◌≡◌, ◌∷◌, [], ℕ, ◌<◌, ◌≤◌, ◌^◌, IsTrue, OnOk};
+ghost use Rattle.std.specs.Prelude.{◌≡◌, ◌∷◌, [], ℕ, ◌<◌, ◌≤◌, ◌^◌, IsTrue, None, OnOk};
 ghost use Rattle.lucid_tags.specs.Contexts.{root as empty_context};
 ghost use Rattle.lucid_tags.specs.Known.{IsOneForOne};
 ghost use Rattle.lucid_tasks.specs.Rows.{row_at, is_ready, IsRow};
@@ -9,7 +9,7 @@ ghost use Rattle.lucid_facts.specs.Engine.{IsSound, AreAskable};
 ghost use Rattle.lucid_facts.specs.Demands.{Demand, demand_of};
 ghost use Rattle.lucid_facts.specs.Going.{Owns};
 ghost use Rattle.lucid_demand.specs.Demanded.{MayDemand};
-ghost use Rattle.lucid_demand.specs.Evaluating.{Stepped as Steps};
+ghost use Rattle.lucid_demand.specs.Evaluating.{gave, Stepped as Steps};
 ghost use Rattle.lucid_demand.specs.LoopEnds.{LoopEnds};
 ghost use Rattle.lucid_demand.specs.Turning.{MayTurn, IsTurned};
 
@@ -28,8 +28,9 @@ use lucid_value::Value;
 use std::alloc::{AllocError, Global};
 use std::marker::Model;
 
-/// What a step or a turn gives: the value of the demand's root, where that was settled.
-pub(crate) type Stepped = Result<Option<Value>, DemandFault>;
+/// What a step or a turn gives. The value of the demand's root goes to an answer beside it, where that was settled: so none is moved where
+/// there is none.
+pub(crate) type Stepped = Result<(), DemandFault>;
 
 /// A program with what is known of it: contexts, waiting tasks, held values, noted positions, the elements read; and who drops and who
 /// picks.
@@ -87,8 +88,10 @@ impl<R: Retire, S: Pick> Evaluation<R, S> {
         ensures { LoopEnds self.old.engine self.new.engine (P.world places.old) (P.world places.new) time space limit result }
     {
         self.begin(time, space, limit)?;
+        let mut answer = None;
         loop {
-            if let Some(value) = self.turn(places)? {
+            self.turn(places, &mut answer)?;
+            if let Some(value) = answer {
                 return Ok(value);
             }
         }
@@ -113,6 +116,7 @@ impl<R: Retire, S: Pick> Evaluation<R, S> {
     }
 
     // The policy drops values. Noted positions go with the last of them.
+    #[inline(always)]
     fn drop_values(&mut self)
         ensures turned { IsTurned self.old.engine self.new.engine }
         ensures rows { self.new.rows ≡ self.old.rows }
@@ -124,6 +128,7 @@ impl<R: Retire, S: Pick> Evaluation<R, S> {
     }
 
     // The slot of the ready row that is picked.
+    #[inline(always)]
     fn pick_ready(&mut self) -> usize
         requires { (slot : ℕ) × IsRow self.old.rows slot }
         ensures ready { IsTrue (is_ready (row_at self.old.rows result)) }
@@ -133,15 +138,17 @@ impl<R: Retire, S: Pick> Evaluation<R, S> {
         ready[self.pick.pick(ready)]
     }
 
-    // The policy drops values, then a task that waits for nothing takes one step. The root's value, where that was it.
-    fn turn<P: Places>(&mut self, places: &mut P) -> Stepped
-        requires { (d : Demand) × MayTurn d self.old (P.world places.old) }
-        ensures steps { (d : Demand) → MayTurn d self.old (P.world places.old) → Steps d self.old self.new (P.world places.old) (P.world places.new) result }
+    // The policy drops values, then a task that waits for nothing takes one step. The answer is the root's value, where that was it.
+    #[inline(always)]
+    fn turn<P: Places>(&mut self, places: &mut P, answer: &mut Option<Value>) -> Stepped
+        requires may { (d : Demand) × MayTurn d self.old (P.world places.old) }
+        requires open { answer.old ≡ None }
+        ensures steps { (d : Demand) → MayTurn d self.old (P.world places.old) → Steps d self.old self.new (P.world places.old) (P.world places.new) (gave result answer.new) }
         ensures faults { (P.world places.old).faults ≤ (P.world places.new).faults }
     {
         self.drop_values();
         let slot = self.pick_ready();
-        self.step(places, slot)
+        self.step(places, slot, answer)
     }
 
     /// Drops contexts, held values and noted positions.

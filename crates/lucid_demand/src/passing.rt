@@ -17,6 +17,7 @@ use std::alloc::AllocError;
 pub(crate) const LAST: u64 = (1 << 63) - 1;
 
 // The task of a part, at another time.
+#[inline(always)]
 fn at_time(task: Task, part: u32, time: u64) -> Task
     ensures { result ≡ record task { node = part; time = time } }
 {
@@ -28,6 +29,7 @@ fn at_time(task: Task, part: u32, time: u64) -> Task
 }
 
 // The task of a part, at another space.
+#[inline(always)]
 fn at_space(task: Task, part: u32, space: u64) -> Task
     requires { space < 2 ^ 63 }
     ensures task { (known : List Context) → plain_task known result ≡ record (plain_task known task) { node = part; space = space } }
@@ -41,6 +43,7 @@ fn at_space(task: Task, part: u32, space: u64) -> Task
 }
 
 // A task after its node, where that only moves the point: one part at one point, in one context.
+#[inline(always)]
 fn moved(program: &Program, tags: &mut Tags, task: Task) -> Result<Option<Task>, AllocError>
     requires task { parts.IsTask (table_of program.now) (plain_task tags.old task) }
     requires known { IsKnown tags.old task.tag }
@@ -84,6 +87,7 @@ fn moved(program: &Program, tags: &mut Tags, task: Task) -> Result<Option<Task>,
 }
 
 /// The task after everything that only moves the point. Each move leads to a lower node, so it ends.
+#[inline(always)]
 pub(crate) fn passed(program: &Program, tags: &mut Tags, task: Task) -> Result<Task, AllocError>
     requires task { parts.IsTask (table_of program.now) (plain_task tags.old task) }
     requires known { IsKnown tags.old task.tag }

@@ -1,9 +1,9 @@
 //! Searches begin at the best noted position, and note where they end.
-ghost use Rattle.std.specs.Prelude.{◌≡◌, ℕ, ◌≤◌, None, IfSome, IfNone, IsTrue};
+ghost use Rattle.std.specs.Prelude.{◌≡◌, ℕ, ◌≤◌, None, IfSome, IfNone, IsTrue, is_some};
 ghost use Rattle.lucid_search.specs.Noted.{number_at, IsBest, NotesOrMisses};
 ghost use Rattle.lucid_tasks.specs.Rows.{row_at, is_ready};
 ghost use Rattle.lucid_facts.specs.Going.{Owns};
-ghost use Rattle.lucid_demand.specs.Evaluating.{MayStep, Stepped as Steps, cost};
+ghost use Rattle.lucid_demand.specs.Evaluating.{MayStep, gave, Stepped as Steps, cost};
 ghost use Rattle.lucid_demand.specs.Acting.{DemandIn, MayAct, IsReadyTask};
 ghost use Rattle.lucid_demand.specs.Searching.{search_for, noted_of, greatest_key, StandsAt, CanLookOn, MayAskNow};
 ghost use Rattle.lucid_demand.specs.declared.decide.Decision.TheVariants as decision;
@@ -36,6 +36,17 @@ pub(crate) fn search_of(node: Node, time: u64) -> Option<Search>
     }
 }
 
+/// Whether a node is a search.
+#[inline(always)]
+pub(crate) fn is_search(node: Node) -> bool
+    ensures { result ≡ is_some (search_for node 0) }
+{
+    match node {
+        Node::Whenever { .. } | Node::Asa { .. } | Node::Upon { .. } => true,
+        _ => false,
+    }
+}
+
 /// The best noted position of a search, if there is one.
 pub(crate) fn best(positions: &Positions, task: Task, search: Search) -> Option<Cursor>
     ensures best { IfSome result (λ cursor. IsBest positions.now task.node task.tag (greatest_key search) (noted_of search cursor)) }
@@ -64,8 +75,24 @@ pub(crate) fn note(positions: &mut Positions, task: Task, search: Search, cursor
 }
 
 impl<R: Retire, S: Pick> Evaluation<R, S> {
-    // A search that looked at nothing so far begins at the best noted position.
+    // A search that looked at nothing so far begins at the best noted position. Most tasks are no search, so that is asked first.
+    #[inline(always)]
     pub(crate) fn begin_search(&mut self, slot: usize)
+        requires { IsReadyTask self.old slot }
+        ensures step { (i : DemandIn) → MayStep i.demand self.old i.world slot → MayStep i.demand self.new i.world slot }
+        ensures cost { (i : DemandIn) → MayStep i.demand self.old i.world slot → cost i.demand self.new ≤ cost i.demand self.old }
+        ensures rows { StandsAt self.old.rows self.new.rows slot }
+        ensures engine { self.new.engine ≡ self.old.engine }
+    {
+        let task = self.tasks.task(slot);
+        if is_search(self.program.node(task.node)) {
+            self.begin_at_best(slot);
+        }
+    }
+
+    // The same of a search.
+    #[inline(never)]
+    fn begin_at_best(&mut self, slot: usize)
         requires { IsReadyTask self.old slot }
         ensures step { (i : DemandIn) → MayStep i.demand self.old i.world slot → MayStep i.demand self.new i.world slot }
         ensures cost { (i : DemandIn) → MayStep i.demand self.old i.world slot → cost i.demand self.new ≤ cost i.demand self.old }
@@ -89,6 +116,7 @@ impl<R: Retire, S: Pick> Evaluation<R, S> {
     }
 
     // Notes where a search stands that looks no further.
+    #[inline(never)]
     pub(crate) fn note_here(&mut self, slot: usize)
         requires { IsReadyTask self.old slot }
         ensures owns { (i : DemandIn) → MayStep i.demand self.old i.world slot → Owns i.demand self.new.engine i.world }
@@ -102,6 +130,7 @@ impl<R: Retire, S: Pick> Evaluation<R, S> {
     }
 
     // A search that asks for what it found looks no further.
+    #[inline(always)]
     pub(crate) fn note_end(&mut self, slot: usize, index: u32)
         requires { IsReadyTask self.old slot }
         ensures asks { (i : DemandIn) (task : Task) → MayAct i.demand self.old i.world slot (decision.Ask index task) → MayAskNow i.demand self.new i.world (record { slot = slot; index = index }) task }
@@ -114,10 +143,11 @@ impl<R: Retire, S: Pick> Evaluation<R, S> {
     }
 
     // The next time of a search, after a truth at this one.
+    #[inline(never)]
     pub(crate) fn look_on(&mut self, slot: usize, seen: bool) -> Stepped
         requires ready { IsTrue (is_ready (row_at self.old.rows slot)) }
         requires on { CanLookOn self.old.rows slot }
-        ensures { (i : DemandIn) → MayAct i.demand self.old i.world slot (decision.Move seen) → Steps i.demand self.old self.new i.world i.world result }
+        ensures { (i : DemandIn) → MayAct i.demand self.old i.world slot (decision.Move seen) → Steps i.demand self.old self.new i.world i.world (gave result None) }
     {
         // The cursor's time is below the task's limit, and so below 2^32.
         let _ = self.tasks.task(slot);
@@ -132,6 +162,6 @@ impl<R: Retire, S: Pick> Evaluation<R, S> {
                 count,
             },
         );
-        Ok(None)
+        Ok(())
     }
 }

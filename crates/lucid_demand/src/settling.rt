@@ -7,7 +7,7 @@ ghost use Rattle.lucid_ops.specs.Algebra.{algebra};
 ghost use Rattle.lucid_tasks.specs.Rows.{row_at, key_of, got_of, taken, is_ready, ChangesOnly, IsRow};
 ghost use Rattle.lucid_facts.specs.Demands.{Demand};
 ghost use Rattle.lucid_facts.specs.Engine.{AreAskable};
-ghost use Rattle.lucid_demand.specs.Evaluating.{Stepped as Steps};
+ghost use Rattle.lucid_demand.specs.Evaluating.{gave, Stepped as Steps};
 ghost use Rattle.lucid_demand.specs.Acting.{DemandIn, Settling, MayAct, MayGive, MaySettle, IsTaken, IsKept, IsReadyTask, HaveGot};
 ghost use Rattle.lucid_demand.specs.Asking.{HasTask};
 ghost use Rattle.lucid_demand.specs.Reading.{ReadsElement};
@@ -25,6 +25,7 @@ use std::alloc::AllocError;
 
 impl<R: Retire, S: Pick> Evaluation<R, S> {
     // Puts a copy of a value under a key.
+    #[inline(always)]
     fn put(&mut self, key: Key, value: &Value) -> Result<(), AllocError>
         ensures kept { OnOk result (IsKept (Some key) self.old.engine self.new.engine value.now) }
         ensures rows { self.new.rows ≡ self.old.rows }
@@ -36,6 +37,7 @@ impl<R: Retire, S: Pick> Evaluation<R, S> {
     }
 
     // The same under the key that a row remembers, if it remembers one.
+    #[inline(always)]
     fn keep(&mut self, slot: usize, value: &Value) -> Result<(), AllocError>
         requires { IsRow self.old.rows slot }
         ensures kept { OnOk result (IsKept (key_of self.old.rows slot) self.old.engine self.new.engine value.now) }
@@ -49,6 +51,7 @@ impl<R: Retire, S: Pick> Evaluation<R, S> {
     }
 
     // Takes the value of a part that has one.
+    #[inline(always)]
     fn take_part(&mut self, slot: usize, index: u32) -> Value
         requires row { IsRow self.old.rows slot }
         requires index { index < 3 }
@@ -63,7 +66,53 @@ impl<R: Retire, S: Pick> Evaluation<R, S> {
         }
     }
 
-    // An operator applied to the values of the row's parts.
+    // An operator applied to the value of the row's first part.
+    #[inline(never)]
+    fn applied_to_one(&mut self, slot: usize, op: Op) -> Result<Value, AllocError>
+        requires ready { IsTrue (is_ready (row_at self.old.rows slot)) }
+        requires count { arity op ≡ 1 }
+        requires got { (index : ℕ) → index < 1 → IsSome (got_of self.old.rows (record { slot = slot; index = index })) }
+        ensures value { IfOk result (λ v. (vs : List PlainValue) → length vs ≡ arity op → HaveGot self.old.rows slot 0 vs → plain v ≡ algebra op vs) }
+        ensures taken { IsTaken self.old.rows self.new.rows slot }
+        ensures engine { self.new.engine ≡ self.old.engine }
+    {
+        let first = self.take_part(slot, 0);
+        apply(self.alloc, op, &[first])
+    }
+
+    // The same with two values.
+    #[inline(always)]
+    fn applied_to_two(&mut self, slot: usize, op: Op) -> Result<Value, AllocError>
+        requires ready { IsTrue (is_ready (row_at self.old.rows slot)) }
+        requires count { arity op ≡ 2 }
+        requires got { (index : ℕ) → index < 2 → IsSome (got_of self.old.rows (record { slot = slot; index = index })) }
+        ensures value { IfOk result (λ v. (vs : List PlainValue) → length vs ≡ arity op → HaveGot self.old.rows slot 0 vs → plain v ≡ algebra op vs) }
+        ensures taken { IsTaken self.old.rows self.new.rows slot }
+        ensures engine { self.new.engine ≡ self.old.engine }
+    {
+        let first = self.take_part(slot, 0);
+        let second = self.take_part(slot, 1);
+        apply(self.alloc, op, &[first, second])
+    }
+
+    // The same with three values.
+    #[inline(never)]
+    fn applied_to_three(&mut self, slot: usize, op: Op) -> Result<Value, AllocError>
+        requires ready { IsTrue (is_ready (row_at self.old.rows slot)) }
+        requires count { arity op ≡ 3 }
+        requires got { (index : ℕ) → index < 3 → IsSome (got_of self.old.rows (record { slot = slot; index = index })) }
+        ensures value { IfOk result (λ v. (vs : List PlainValue) → length vs ≡ arity op → HaveGot self.old.rows slot 0 vs → plain v ≡ algebra op vs) }
+        ensures taken { IsTaken self.old.rows self.new.rows slot }
+        ensures engine { self.new.engine ≡ self.old.engine }
+    {
+        let first = self.take_part(slot, 0);
+        let second = self.take_part(slot, 1);
+        let third = self.take_part(slot, 2);
+        apply(self.alloc, op, &[first, second, third])
+    }
+
+    // An operator applied to the values of the row's parts. Room for values is made by how many there are.
+    #[inline(always)]
     fn applied(&mut self, slot: usize, op: Op) -> Result<Value, AllocError>
         requires ready { IsTrue (is_ready (row_at self.old.rows slot)) }
         requires got { (index : ℕ) → index < arity op → IsSome (got_of self.old.rows (record { slot = slot; index = index })) }
@@ -71,18 +120,10 @@ impl<R: Retire, S: Pick> Evaluation<R, S> {
         ensures taken { IsTaken self.old.rows self.new.rows slot }
         ensures engine { self.new.engine ≡ self.old.engine }
     {
-        let first = self.take_part(slot, 0);
         match op.arity() {
-            1 => apply(self.alloc, op, &[first]),
-            2 => {
-                let second = self.take_part(slot, 1);
-                apply(self.alloc, op, &[first, second])
-            }
-            _ => {
-                let second = self.take_part(slot, 1);
-                let third = self.take_part(slot, 2);
-                apply(self.alloc, op, &[first, second, third])
-            }
+            1 => self.applied_to_one(slot, op),
+            2 => self.applied_to_two(slot, op),
+            _ => self.applied_to_three(slot, op),
         }
     }
 
@@ -102,67 +143,96 @@ impl<R: Retire, S: Pick> Evaluation<R, S> {
     }
 
     // The row's value: its daton's, where it remembers one.
-    pub(crate) fn settle(&mut self, slot: usize, value: Value) -> Stepped
+    #[inline(always)]
+    pub(crate) fn settle(
+        &mut self,
+        slot: usize,
+        value: Value,
+        answer: &mut Option<Value>,
+    ) -> Stepped
         requires { IsTrue (is_ready (row_at self.old.rows slot)) }
         ensures { (s : Settling) → MaySettle s self.old slot value
-            → Steps s.demand (record { engine = self.old.engine; rows = s.before }) self.new s.world s.world result }
+            → Steps s.demand (record { engine = self.old.engine; rows = s.before }) self.new s.world s.world (gave result answer.new) }
     {
         self.keep(slot, &value)?;
-        Ok(self.tasks.settle(slot, value))
+        *answer = self.tasks.settle(slot, value);
+        Ok(())
     }
 
-    pub(crate) fn settle_part(&mut self, slot: usize, index: u32) -> Stepped
+    #[inline(never)]
+    pub(crate) fn settle_part(
+        &mut self,
+        slot: usize,
+        index: u32,
+        answer: &mut Option<Value>,
+    ) -> Stepped
         requires ready { IsTrue (is_ready (row_at self.old.rows slot)) }
         requires index { index < 3 }
         requires got { IsSome (got_of self.old.rows (record { slot = slot; index = index })) }
-        ensures { (i : DemandIn) → MayAct i.demand self.old i.world slot (decision.Part index) → Steps i.demand self.old self.new i.world i.world result }
+        ensures { (i : DemandIn) → MayAct i.demand self.old i.world slot (decision.Part index) → Steps i.demand self.old self.new i.world i.world (gave result answer.new) }
     {
         let value = self.take_part(slot, index);
-        self.settle(slot, value)
+        self.settle(slot, value, answer)
     }
 
-    pub(crate) fn settle_applied(&mut self, slot: usize, op: Op) -> Stepped
+    #[inline(never)]
+    pub(crate) fn settle_applied(
+        &mut self,
+        slot: usize,
+        op: Op,
+        answer: &mut Option<Value>,
+    ) -> Stepped
         requires ready { IsTrue (is_ready (row_at self.old.rows slot)) }
         requires got { (index : ℕ) → index < arity op → IsSome (got_of self.old.rows (record { slot = slot; index = index })) }
-        ensures { (i : DemandIn) → MayAct i.demand self.old i.world slot (decision.Apply op) → Steps i.demand self.old self.new i.world i.world result }
+        ensures { (i : DemandIn) → MayAct i.demand self.old i.world slot (decision.Apply op) → Steps i.demand self.old self.new i.world i.world (gave result answer.new) }
     {
         let value = self.applied(slot, op)?;
-        self.settle(slot, value)
+        self.settle(slot, value, answer)
     }
 
     // The value of a reference's body is its own.
-    pub(crate) fn settle_body(&mut self, slot: usize) -> Stepped
+    #[inline(never)]
+    pub(crate) fn settle_body(&mut self, slot: usize, answer: &mut Option<Value>) -> Stepped
         requires ready { IsTrue (is_ready (row_at self.old.rows slot)) }
         requires got { IsSome (got_of self.old.rows (record { slot = slot; index = 0 })) }
         requires task { HasTask self.old slot }
-        ensures { (i : DemandIn) → MayAct i.demand self.old i.world slot decision.Body → Steps i.demand self.old self.new i.world i.world result }
+        ensures { (i : DemandIn) → MayAct i.demand self.old i.world slot decision.Body → Steps i.demand self.old self.new i.world i.world (gave result answer.new) }
     {
         let task = self.tasks.task(slot);
         let value = self.take_part(slot, 0);
         if let Some(aim) = self.aim(task)? {
             self.put(aim.key, &value)?;
         }
-        Ok(self.tasks.settle(slot, value))
+        *answer = self.tasks.settle(slot, value);
+        Ok(())
     }
 
     // Settles with what a form gives by itself.
-    pub(crate) fn end(&mut self, slot: usize, value: Value) -> Stepped
+    #[inline(never)]
+    pub(crate) fn end(&mut self, slot: usize, value: Value, answer: &mut Option<Value>) -> Stepped
         requires { IsReadyTask self.old slot }
-        ensures { (i : DemandIn) → MayGive i.demand self.old i.world slot (plain value) → Steps i.demand self.old self.new i.world i.world result }
+        ensures { (i : DemandIn) → MayGive i.demand self.old i.world slot (plain value) → Steps i.demand self.old self.new i.world i.world (gave result answer.new) }
     {
         self.note_here(slot);
-        self.settle(slot, value)
+        self.settle(slot, value, answer)
     }
 
-    pub(crate) fn read<P: Places>(&mut self, places: &mut P, slot: usize, stream: u32) -> Stepped
+    #[inline(never)]
+    pub(crate) fn read<P: Places>(
+        &mut self,
+        places: &mut P,
+        slot: usize,
+        stream: u32,
+        answer: &mut Option<Value>,
+    ) -> Stepped
         requires ready { IsTrue (is_ready (row_at self.old.rows slot)) }
         requires stream { stream < length self.old.engine.streams }
         requires askable { AreAskable self.old.engine.streams (P.world places.old) }
-        ensures steps { (d : Demand) → MayAct d self.old (P.world places.old) slot (decision.Read stream) → Steps d self.old self.new (P.world places.old) (P.world places.new) result }
+        ensures steps { (d : Demand) → MayAct d self.old (P.world places.old) slot (decision.Read stream) → Steps d self.old self.new (P.world places.old) (P.world places.new) (gave result answer.new) }
         ensures faults { (P.world places.old).faults ≤ (P.world places.new).faults }
     {
         let time = self.tasks.task(slot).time;
         let value = self.element(places, stream, time)?;
-        self.settle(slot, value)
+        self.settle(slot, value, answer)
     }
 }

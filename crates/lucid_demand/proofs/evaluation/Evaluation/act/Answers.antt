@@ -1,3 +1,5 @@
+use Rattle.std.proofs.Common.{sym, subst}
+use Rattle.lucid_demand.specs.Evaluating.{Stepped, gave}
 use Rattle.lucid_demand.proofs.LookingOn.{can_look_on}
 use Rattle.lucid_demand.proofs.MayAsk.{can_ask_all, can_refer, has_task}
 use Rattle.lucid_demand.proofs.SettledRows.{part_is_there}
@@ -6,54 +8,54 @@ use Rattle.lucid_demand.proofs.evaluation.Evaluation.act.Goals as goal
 
 pub settle_part-requires-clause-got : goal.settle_part-requires-clause-got
 settle_part-requires-clause-got g c =
-    let d = c.requires.0 in
+    let d = c.requires.may.0 in
     let w = g.P.Places.world c.args.places.now in
-    (part_is_there d c.args.self.now w c.args.slot c.in-Part.index (decided_so d c.args.self.now w c.args.slot c.in-Part.is c.requires.1)).1
+    (part_is_there d c.args.self.now w c.args.slot c.in-Part.index (decided_so d c.args.self.now w c.args.slot c.in-Part.is c.requires.may.1)).1
 
 pub settle_applied-requires-clause-got : goal.settle_applied-requires-clause-got
 settle_applied-requires-clause-got g c =
-    let d = c.requires.0 in
+    let d = c.requires.may.0 in
     let w = g.P.Places.world c.args.places.now in
-    arguments_are_there d c.args.self.now w c.args.slot c.in-Apply.op (decided_so d c.args.self.now w c.args.slot c.in-Apply.is c.requires.1)
+    arguments_are_there d c.args.self.now w c.args.slot c.in-Apply.op (decided_so d c.args.self.now w c.args.slot c.in-Apply.is c.requires.may.1)
 
 pub end-requires : goal.end-requires
-end-requires g c = ready_task c.requires.0 c.args.self.now (g.P.Places.world c.args.places.now) c.args.slot c.requires.1.step
+end-requires g c = ready_task c.requires.may.0 c.args.self.now (g.P.Places.world c.args.places.now) c.args.slot c.requires.may.1.step
 
 pub end-requires-in-Fault : goal.end-requires-in-Fault
-end-requires-in-Fault g c = ready_task c.requires.0 c.args.self.now (g.P.Places.world c.args.places.now) c.args.slot c.requires.1.step
+end-requires-in-Fault g c = ready_task c.requires.may.0 c.args.self.now (g.P.Places.world c.args.places.now) c.args.slot c.requires.may.1.step
 
 pub settle_body-requires-clause-task : goal.settle_body-requires-clause-task
-settle_body-requires-clause-task g c = has_task c.requires.0 c.args.self.now (g.P.Places.world c.args.places.now) c.args.slot c.requires.1.step
+settle_body-requires-clause-task g c = has_task c.requires.may.0 c.args.self.now (g.P.Places.world c.args.places.now) c.args.slot c.requires.may.1.step
 
 pub ask_noted-requires : goal.ask_noted-requires
 ask_noted-requires g c =
-    let d = c.requires.0 in
+    let d = c.requires.may.0 in
     let w = g.P.Places.world c.args.places.now in
-    (record { demand = d; world = w }, decided_so d c.args.self.now w c.args.slot c.in-Ask.is c.requires.1)
+    (record { demand = d; world = w }, decided_so d c.args.self.now w c.args.slot c.in-Ask.is c.requires.may.1)
 
 pub ask_all-requires : goal.ask_all-requires
 ask_all-requires g c =
-    let d = c.requires.0 in
+    let d = c.requires.may.0 in
     let w = g.P.Places.world c.args.places.now in
-    can_ask_all d c.args.self.now w c.args.slot c.in-AskAll.op c.in-AskAll.args (decided_so d c.args.self.now w c.args.slot c.in-AskAll.is c.requires.1)
+    can_ask_all d c.args.self.now w c.args.slot c.in-AskAll.op c.in-AskAll.args (decided_so d c.args.self.now w c.args.slot c.in-AskAll.is c.requires.may.1)
 
 pub look_on-requires-clause-on : goal.look_on-requires-clause-on
 look_on-requires-clause-on g c =
-    let d = c.requires.0 in
+    let d = c.requires.may.0 in
     let w = g.P.Places.world c.args.places.now in
-    can_look_on d c.args.self.now w c.args.slot c.in-Move.seen (decided_so d c.args.self.now w c.args.slot c.in-Move.is c.requires.1)
+    can_look_on d c.args.self.now w c.args.slot c.in-Move.seen (decided_so d c.args.self.now w c.args.slot c.in-Move.is c.requires.may.1)
 
-pub refer-requires : goal.refer-requires
-refer-requires g c =
-    let d = c.requires.0 in
+pub refer-requires-clause-can : goal.refer-requires-clause-can
+refer-requires-clause-can g c =
+    let d = c.requires.may.0 in
     let w = g.P.Places.world c.args.places.now in
-    can_refer d c.args.self.now w c.args.slot (decided_so d c.args.self.now w c.args.slot c.in-Refer.is c.requires.1)
+    can_refer d c.args.self.now w c.args.slot (decided_so d c.args.self.now w c.args.slot c.in-Refer.is c.requires.may.1)
 
 pub read-requires-clause-stream : goal.read-requires-clause-stream
 read-requires-clause-stream g c =
-    let d = c.requires.0 in
+    let d = c.requires.may.0 in
     let w = g.P.Places.world c.args.places.now in
-    stream_is_there d c.args.self.now w c.args.slot c.in-Read.stream (decided_so d c.args.self.now w c.args.slot c.in-Read.is c.requires.1)
+    stream_is_there d c.args.self.now w c.args.slot c.in-Read.stream (decided_so d c.args.self.now w c.args.slot c.in-Read.is c.requires.may.1)
 
 pub returns-in-Part-clause-steps : goal.returns-in-Part-clause-steps
 returns-in-Part-clause-steps g c = λ d act.
@@ -93,17 +95,20 @@ returns-in-Body-clause-steps g c = λ d act.
 pub returns-in-Ask-clause-steps : goal.returns-in-Ask-clause-steps
 returns-in-Ask-clause-steps g c = λ d act.
     let w = g.P.Places.world c.args.places.now in
-    c.ask_noted.ensures (record { demand = d; world = w }) (decided_so d c.args.self.now w c.args.slot c.in-Ask.is act)
+    subst (λ o. Stepped d c.args.self.now c.ask_noted.new.self w w (gave c.ask_noted.result o)) (sym c.requires.open)
+    (c.ask_noted.ensures (record { demand = d; world = w }) (decided_so d c.args.self.now w c.args.slot c.in-Ask.is act))
 
 pub returns-in-AskAll-clause-steps : goal.returns-in-AskAll-clause-steps
 returns-in-AskAll-clause-steps g c = λ d act.
     let w = g.P.Places.world c.args.places.now in
-    c.ask_all.ensures (record { demand = d; world = w }) (decided_so d c.args.self.now w c.args.slot c.in-AskAll.is act)
+    subst (λ o. Stepped d c.args.self.now c.ask_all.new.self w w (gave c.ask_all.result o)) (sym c.requires.open)
+    (c.ask_all.ensures (record { demand = d; world = w }) (decided_so d c.args.self.now w c.args.slot c.in-AskAll.is act))
 
 pub returns-in-Move-clause-steps : goal.returns-in-Move-clause-steps
 returns-in-Move-clause-steps g c = λ d act.
     let w = g.P.Places.world c.args.places.now in
-    c.look_on.ensures (record { demand = d; world = w }) (decided_so d c.args.self.now w c.args.slot c.in-Move.is act)
+    subst (λ o. Stepped d c.args.self.now c.look_on.new.self w w (gave c.look_on.result o)) (sym c.requires.open)
+    (c.look_on.ensures (record { demand = d; world = w }) (decided_so d c.args.self.now w c.args.slot c.in-Move.is act))
 
 pub returns-in-Refer-clause-steps : goal.returns-in-Refer-clause-steps
 returns-in-Refer-clause-steps g c = λ d act.

@@ -1,6 +1,7 @@
 use Rattle.std.proofs.Common.{sym, ap, subst, arith}
-use Rattle.std.specs.Prelude.{is_some}
+use Rattle.std.specs.Prelude.{None, is_some}
 use Rattle.lucid_tasks.specs.Rows.{IsRow}
+use Rattle.lucid_demand.specs.Evaluating.{gave}
 use Rattle.lucid_demand.proofs.Beginning.{stepped_from_less, noted_costs}
 use Rattle.lucid_demand.proofs.MayAsk.{can_ask}
 use Rattle.lucid_demand.proofs.SettledRows.{ready_is_there}
@@ -20,4 +21,4 @@ ask-requires g c =
 pub returns : goal.returns
 returns g c = λ i act.
     let same = noted_costs i.demand c.args.self.now c.note_end.new.self c.note_end.new.self.engine.noted c.note_end.ensures.only c.note_end.ensures.rows in
-    stepped_from_less i.demand c.args.self.now c.note_end.new.self c.ask.new.self i.world i.world c.ask.result (omega (arith, same)) (c.ask.ensures i (c.note_end.ensures.asks i c.args.task act))
+    stepped_from_less i.demand c.args.self.now c.note_end.new.self c.ask.new.self i.world i.world (gave c.ask.result None) (omega (arith, same)) (c.ask.ensures i (c.note_end.ensures.asks i c.args.task act))

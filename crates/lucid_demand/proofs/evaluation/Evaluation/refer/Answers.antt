@@ -2,9 +2,11 @@ use Rattle.std.proofs.Common.{◌≡◌, ◌-◌, refl, ap, sym, ◌∙◌, subs
 use Rattle.std.specs.Prelude.{Ok, Some, IsTrue, option_map}
 use Rattle.lucid_tasks.specs.Rows.{TaskRow, row_at, is_ready}
 use Rattle.lucid_store.specs.Entries.{value_at}
-use Rattle.lucid_demand.specs.Evaluating.{Evaluating}
+use Rattle.lucid_demand.specs.Evaluating.{Evaluating, Stepped, gave}
+use Rattle.lucid_demand.specs.Acting.{DemandIn}
+use Rattle.lucid_demand.specs.Asking.{MayFollow}
 use Rattle.lucid_demand.specs.declared.fault.DemandFault.TheVariants.{NoMemory}
-use Rattle.lucid_demand.proofs.TakenParts.{err_is}
+use Rattle.lucid_demand.proofs.TakenParts.{gave_err}
 use Rattle.lucid_demand.proofs.IdleRows.{idle_is_ready}
 use Rattle.lucid_demand.proofs.ReferredRows.{refer_refused, refer_nowhere, refer_lost, refer_settles, refer_too_deep, refer_follows}
 use Rattle.lucid_demand.proofs.evaluation.Evaluation.refer.Goals as goal
@@ -13,7 +15,7 @@ pub returns-in_err-aim : goal.returns-in_err-aim
 returns-in_err-aim g c = λ i act.
     refer_refused c.args.self.now c.aim.new.self c.args.slot c.task-task.result c.aim.result
     (subst (λ (e : Evaluating). option_map (λ (row : TaskRow). row.task) (row_at e.rows c.args.slot) ≡ Some c.task-task.result) c.self.view_is c.task-task.ensures) c.aim.ensures i act
-    c.from_residual.result (err_is c.from_residual.result NoMemory c.from_residual.ensures.1)
+    (gave c.from_residual.result c.args.answer.now) (gave_err c.from_residual.result c.args.answer.now NoMemory c.from_residual.ensures.1)
 
 pub returns-in_default : goal.returns-in_default
 returns-in_default g c = λ i act.
@@ -26,13 +28,13 @@ returns-in_err-value g c = λ i act.
     refer_lost c.args.self.now c.aim.new.self c.args.slot c.task-task.result c.aim.result
     (subst (λ (e : Evaluating). option_map (λ (row : TaskRow). row.task) (row_at e.rows c.args.slot) ≡ Some c.task-task.result) c.self.view_is c.task-task.ensures) c.aim.ensures i act
     c.in-Some.aim (c.in_ok-aim.was ∙ ap Ok c.in-Some.is) c.held.new.self (value_at c.aim.new.self.engine.stored c.in-Some.aim.key) refl c.held.ensures.touched c.held.ensures.only
-    c.from_residual-in_err-value.result (err_is c.from_residual-in_err-value.result NoMemory c.from_residual-in_err-value.ensures.1)
+    (gave c.from_residual-in_err-value.result c.args.answer.now) (gave_err c.from_residual-in_err-value.result c.args.answer.now NoMemory c.from_residual-in_err-value.ensures.1)
 
 pub settle-requires : goal.settle-requires
 settle-requires g c =
     subst (λ rs. IsTrue (is_ready (row_at rs c.args.slot)))
     (sym (ap (λ (e : Evaluating). e.rows) c.self-2.view_is ∙ ap (λ (e : Evaluating). e.rows) c.held.ensures.only ∙ ap (λ (e : Evaluating). e.rows) c.aim.ensures.only))
-    (idle_is_ready c.args.self.now.rows c.args.slot c.requires.idle)
+    (idle_is_ready c.args.self.now.rows c.args.slot c.requires.can.idle)
 
 pub returns-in-Some-2 : goal.returns-in-Some-2
 returns-in-Some-2 g c = λ i act.
@@ -53,4 +55,6 @@ returns g c = λ i act.
     refer_follows c.args.self.now c.aim.new.self c.args.slot c.task-task.result c.aim.result
     (subst (λ (e : Evaluating). option_map (λ (row : TaskRow). row.task) (row_at e.rows c.args.slot) ≡ Some c.task-task.result) c.self.view_is c.task-task.ensures) c.aim.ensures i act
     c.in-Some.aim (c.in_ok-aim.was ∙ ap Ok c.in-Some.is) c.held.new.self c.in_ok-value.field-0 c.in_ok-value.ensures.value c.held.ensures.touched c.held.ensures.only
-    c.in_default-2.is (c.task-task.result.depth - 1) (omega (arith, c.if-task-eq0.false)) c.follow.new.self c.follow.result c.follow.ensures
+    c.in_default-2.is (c.task-task.result.depth - 1) (omega (arith, c.if-task-eq0.false)) c.follow.new.self (gave c.follow.result c.args.answer.now)
+    (subst (λ o. (j : DemandIn) → MayFollow j.demand c.held.new.self j.world c.args.slot c.in-Some.aim (c.task-task.result.depth - 1) → Stepped j.demand c.held.new.self c.follow.new.self j.world j.world (gave c.follow.result o))
+    (sym c.requires.open) c.follow.ensures)

@@ -1,9 +1,9 @@
 use Rattle.std.proofs.Common.{◌≡◌, refl, ap, sym, ◌∙◌, subst}
 use Rattle.std.specs.Prelude.{Ok, Some, IsTrue, option_map}
 use Rattle.lucid_tasks.specs.Rows.{TaskRow, row_at, is_ready}
-use Rattle.lucid_demand.specs.Evaluating.{Evaluating}
+use Rattle.lucid_demand.specs.Evaluating.{Evaluating, gave}
 use Rattle.lucid_demand.specs.declared.fault.DemandFault.TheVariants.{NoMemory}
-use Rattle.lucid_demand.proofs.TakenParts.{err_is}
+use Rattle.lucid_demand.proofs.TakenParts.{gave_err}
 use Rattle.lucid_demand.proofs.SettledRows.{ready_taken}
 use Rattle.lucid_demand.proofs.BodyRows.{body_refused, body_is_aimed, body_settles}
 use Rattle.lucid_demand.proofs.evaluation.Evaluation.settle_body.Goals as goal
@@ -14,14 +14,14 @@ returns-in_err-aim g c = λ i act.
     body_refused c.args.self.now c.take_part-value.new.self c.aim.new.self c.args.slot c.task-task.result c.take_part-value.result c.aim.result
     (subst (λ (e : Evaluating). option_map (λ (row : TaskRow). row.task) (row_at e.rows c.args.slot) ≡ Some c.task-task.result) c.self.view_is c.task-task.ensures)
     c.take_part-value.ensures.engine c.take_part-value.ensures.rows c.take_part-value.ensures.value c.aim.ensures i act c.aim.new.self refl
-    c.from_residual.result (err_is c.from_residual.result NoMemory c.from_residual.ensures.1)
+    (gave c.from_residual.result c.args.answer.now) (gave_err c.from_residual.result c.args.answer.now NoMemory c.from_residual.ensures.1)
 
 pub returns-in_err-put : goal.returns-in_err-put
 returns-in_err-put g c = λ i act.
     body_refused c.args.self.now c.take_part-value.new.self c.aim.new.self c.args.slot c.task-task.result c.take_part-value.result c.aim.result
     (subst (λ (e : Evaluating). option_map (λ (row : TaskRow). row.task) (row_at e.rows c.args.slot) ≡ Some c.task-task.result) c.self.view_is c.task-task.ensures)
     c.take_part-value.ensures.engine c.take_part-value.ensures.rows c.take_part-value.ensures.value c.aim.ensures i act c.put.new.self c.in_err-put.ensures.err
-    c.from_residual-in_err-put.result (err_is c.from_residual-in_err-put.result NoMemory c.from_residual-in_err-put.ensures.1)
+    (gave c.from_residual-in_err-put.result c.args.answer.now) (gave_err c.from_residual-in_err-put.result c.args.answer.now NoMemory c.from_residual-in_err-put.ensures.1)
 
 pub settle-requires : goal.settle-requires
 settle-requires g c =
