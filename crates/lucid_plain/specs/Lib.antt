@@ -1,6 +1,6 @@
 pub mod Streams
-pub mod Small
 pub mod View
+pub mod Small
 pub mod Turns
 pub mod Turned
 pub mod Runs

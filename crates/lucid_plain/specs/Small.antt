@@ -5,6 +5,8 @@ use Rattle.lucid_ops.specs.Arity.{arity}
 use Rattle.lucid_tree.specs.Tree.{Head, apply, PlainTree, form, name, call, block, PlainTrees, no_trees, tree, PlainDefs, no_defs, defines, defines_function, defines_current}
 use Rattle.lucid_tree.specs.Size.{count, nodes_in, nodes_in_defs}
 use Rattle.lucid_tree.specs.Env.{Env, empty, scope, args}
+use Rattle.lucid_plain.specs.declared.eval.Point.{Point}
+use Rattle.lucid_plain.specs.View.{env_of}
 
 abbrev pub FitsArity : Head → PlainTrees → Type 0
 FitsArity (apply op n) es = count es ≡ arity op
@@ -36,3 +38,7 @@ abbrev pub IsUsable : Env → Type 0
 IsUsable empty = Unit {0}
 IsUsable (scope ds z rest) = (nodes_in_defs ds < 2 ^ 31) × DefsApply ds × IsTime z × IsUsable rest
 IsUsable (args ns ats es caller rest) = (nodes_in es < 2 ^ 31) × AllApply es × IsUsable caller × IsUsable rest
+
+-- a point in such an environment, at a time and a space that there are: from 0 to 2^63 - 1
+abbrev pub IsPoint : Point → Type 0
+IsPoint at = IsUsable (env_of at.env.now) × (at.time < 2 ^ 63) × (at.space < 2 ^ 63)

@@ -13,7 +13,7 @@ ghost use Rattle.lucid_plain.specs.View.{env_of};
 ghost use Rattle.lucid_plain.specs.Streams.{elements_of};
 ghost use Rattle.lucid_plain.specs.Turns.{turn_of, place_of, found_by, counted_by};
 ghost use Rattle.lucid_plain.specs.Turned.{turn_seen, place_seen};
-ghost use Rattle.lucid_plain.specs.Small.{Applies, AllApply, DefsApply, IsUsable, IsTime};
+ghost use Rattle.lucid_plain.specs.Small.{Applies, AllApply, DefsApply, IsPoint, IsTime};
 
 use crate::env::{Callee, Env, Target, callee_of, goal_of};
 use crate::streams::{Stream, element};
@@ -22,17 +22,27 @@ use lucid_tree::{Block, DefKind, Defs, Kind, Tree, Trees};
 use lucid_value::{Name, Value};
 use std::alloc::{AllocError, Global};
 
+/// The last time, and the last space.
 pub const LAST: u64 = 9_223_372_036_854_775_807;
 
+/// Where a tree is evaluated: in an environment, at a time and a space, by the approximation of a limit.
+#[derive(Clone, Copy)]
+pub struct Point<'a> {
+    pub env: &'a Env<'a>,
+    pub time: u64,
+    pub space: u64,
+    pub limit: u32,
+}
+
 // The frozen time of the block's scope, where it has a current definition.
-fn frozen_time(defs: &Defs, t: u64) -> Option<u64>
-    requires { t < 2 ^ 63 }
-    ensures value { result ≡ frozen_at defs.now t }
+fn frozen_time(defs: &Defs, time: u64) -> Option<u64>
+    requires { time < 2 ^ 63 }
+    ensures value { result ≡ frozen_at defs.now time }
     ensures small { IsTime result }
 {
-    for d in defs.items() {
-        if let DefKind::Current { .. } = d.kind {
-            return Some(t);
+    for def in defs.items() {
+        if let DefKind::Current { .. } = def.kind {
+            return Some(time);
         }
     }
     None
@@ -45,22 +55,22 @@ enum Turn {
     Ends(Option<Value>),
 }
 
-fn tested(o: Option<Value>) -> Turn
-    ensures { turn_seen result ≡ turn_of (option_map plain o) }
+fn tested(value: Option<Value>) -> Turn
+    ensures { turn_seen result ≡ turn_of (option_map plain value) }
 {
-    match o {
-        Some(Value::Truth(b)) => { if b { Turn::On } else { Turn::Off } }
+    match value {
+        Some(Value::Truth(truth)) => { if truth { Turn::On } else { Turn::Off } }
         Some(Value::Eod) => Turn::Ends(Some(Value::Eod)),
         Some(_) => Turn::Ends(Some(Value::Fault)),
         None => Turn::Ends(None),
     }
 }
 
-fn truth_alone(o: Option<Value>) -> Option<Value>
-    ensures { option_map plain result ≡ option_map only_truth (option_map plain o) }
+fn truth_alone(value: Option<Value>) -> Option<Value>
+    ensures { option_map plain result ≡ option_map only_truth (option_map plain value) }
 {
-    match o {
-        Some(Value::Truth(b)) => Some(Value::Truth(b)),
+    match value {
+        Some(Value::Truth(truth)) => Some(Value::Truth(truth)),
         Some(Value::Eod) => Some(Value::Eod),
         Some(_) => Some(Value::Fault),
         None => None,
@@ -73,13 +83,13 @@ enum Place {
     Ends(Option<Value>),
 }
 
-fn placed(o: Option<Value>) -> Place
-    ensures { place_seen result ≡ place_of (option_map plain o) }
+fn placed(value: Option<Value>) -> Place
+    ensures { place_seen result ≡ place_of (option_map plain value) }
 {
-    match o {
-        Some(Value::Int(n)) => {
-            if 0 <= n && n <= LAST as i128 {
-                Place::At(n as u64)
+    match value {
+        Some(Value::Int(number)) => {
+            if 0 <= number && number <= LAST as i128 {
+                Place::At(number as u64)
             } else {
                 Place::Ends(Some(Value::Fault))
             }
@@ -90,392 +100,329 @@ fn placed(o: Option<Value>) -> Place
     }
 }
 
-// The value of a tree. It calls a function of its own for each form that needs room on the stack, which isn't inlined: so its own
-// frame, of which a walk down a tree has as many as the tree is deep, stays small.
-#[cycle(value)]
-pub fn value(
-    alloc: Global,
-    streams: &[Stream],
-    tree: &Tree,
-    env: &Env,
-    t: u64,
-    s: u64,
-    m: u32,
-) -> Result<Option<Value>, AllocError>
-    requires small { nodes tree.now < 2 ^ 31 }
-    requires applies { Applies tree.now }
-    requires small_env { IsUsable (env_of env.now) }
-    requires time { t < 2 ^ 63 }
-    requires space { s < 2 ^ 63 }
-    ensures { IfOk result (λ o. option_map plain o ≡ val (elements_of streams.now) m tree.now (env_of env.now) t s) }
-{
-    match &tree.kind {
-        Kind::Const(v) => constant(alloc, v),
-        Kind::Name(n) => named(alloc, streams, n, env, t, s, m),
-        Kind::Call { name, args } => called(alloc, streams, tree.at, name, args, env, t, s, m),
-        Kind::Apply { op, args } => applied(alloc, streams, *op, args, env, t, s, m),
-        Kind::If { test, yes, no } => choose(alloc, streams, test, yes, no, env, t, s, m),
-        Kind::And(a, b) => both(alloc, streams, a, b, env, t, s, m),
-        Kind::Or(a, b) => either(alloc, streams, a, b, env, t, s, m),
-        Kind::First(x) => value(alloc, streams, x, env, 0, s, m),
-        Kind::Next(x) if t < LAST => value(alloc, streams, x, env, t + 1, s, m),
-        Kind::Fby(x, _) if t == 0 => value(alloc, streams, x, env, 0, s, m),
-        Kind::Fby(_, y) => value(alloc, streams, y, env, t - 1, s, m),
-        Kind::Whenever(x, p) => search(alloc, streams, x, p, t, env, s, m),
-        Kind::Asa(x, p) => search(alloc, streams, x, p, 0, env, s, m),
-        Kind::Upon(x, p) if t <= m as u64 => counted(alloc, streams, x, p, env, t, s, m),
-        Kind::Upon(_, _) => Ok(None),
-        Kind::Attime(x, y) => attime(alloc, streams, x, y, env, t, s, m),
-        Kind::Initial(x) => value(alloc, streams, x, env, t, 0, m),
-        Kind::Succ(x) if s < LAST => value(alloc, streams, x, env, t, s + 1, m),
-        Kind::Next(_) | Kind::Succ(_) => Ok(Some(Value::Fault)),
-        Kind::Sby(x, _) if s == 0 => value(alloc, streams, x, env, t, 0, m),
-        Kind::Sby(_, y) => value(alloc, streams, y, env, t, s - 1, m),
-        Kind::Atspace(x, y) => atspace(alloc, streams, x, y, env, t, s, m),
-        Kind::Scope(block) => scoped(alloc, streams, block, env, t, s, m),
-    }
+/// Evaluates trees over inputs in memory.
+#[derive(Drop)]
+pub struct Evaluator<'a> {
+    pub alloc: Global,
+    pub streams: &'a [Stream],
 }
 
-#[inline(never)]
-fn constant(alloc: Global, v: &Value) -> Result<Option<Value>, AllocError>
-    ensures { IfOk result (λ o. option_map plain o ≡ Some (plain v.now)) }
-{
-    Ok(Some(v.copy(alloc)?))
-}
-
-// A name.
-#[cycle(value)]
-#[inline(never)]
-fn named(
-    alloc: Global,
-    streams: &[Stream],
-    name: &Name,
-    env: &Env,
-    t: u64,
-    s: u64,
-    m: u32,
-) -> Result<Option<Value>, AllocError>
-    requires small_env { IsUsable (env_of env.now) }
-    requires time { t < 2 ^ 63 }
-    requires space { s < 2 ^ 63 }
-    ensures { IfOk result (λ o. option_map plain o
-        ≡ below value_of (nothing_held (elements_of streams.now)) m (name_target name.now (env_of env.now) t) s) }
-{
-    if m == 0 {
-        return Ok(None);
+impl Evaluator<'_> {
+    /// The value of a tree at a point; `None` where the approximation is undefined. It calls a function of its own for each form
+    /// that needs room on the stack, which isn't inlined: so its own frame, of which a walk down a tree has as many as the tree is
+    /// deep, stays small.
+    #[cycle(value)]
+    pub fn value(&self, tree: &Tree, at: &Point) -> Result<Option<Value>, AllocError>
+        requires small { nodes tree.now < 2 ^ 31 }
+        requires applies { Applies tree.now }
+        requires point { IsPoint at.now }
+        ensures { IfOk result (λ found. option_map plain found
+            ≡ val (elements_of self.now.streams.now) at.now.limit tree.now (env_of at.now.env.now) at.now.time at.now.space) }
+    {
+        match &tree.kind {
+            Kind::Const(constant) => self.constant(constant),
+            Kind::Name(name) => self.named(name, at),
+            Kind::Call { name, args } => self.called(tree.at, name, args, at),
+            Kind::Apply { op, args } => self.applied(*op, args, at),
+            Kind::If { test, yes, no } => self.choose(test, yes, no, at),
+            Kind::And(left, right) => self.both(left, right, at),
+            Kind::Or(left, right) => self.either(left, right, at),
+            Kind::First(of) => self.value(of, &Point { time: 0, ..*at }),
+            Kind::Next(of) if at.time < LAST => {
+                let time = at.time + 1;
+                self.value(of, &Point { time, ..*at })
+            }
+            Kind::Fby(left, _) if at.time == 0 => self.value(left, at),
+            Kind::Fby(_, right) => {
+                let time = at.time - 1;
+                self.value(right, &Point { time, ..*at })
+            }
+            Kind::Whenever(left, right) => self.search(left, right, at.time, at),
+            Kind::Asa(left, right) => self.search(left, right, 0, at),
+            Kind::Upon(left, right) if at.time <= at.limit as u64 => self.counted(left, right, at),
+            Kind::Upon(_, _) => Ok(None),
+            Kind::Attime(left, right) => self.attime(left, right, at),
+            Kind::Initial(of) => self.value(of, &Point { space: 0, ..*at }),
+            Kind::Succ(of) if at.space < LAST => {
+                let space = at.space + 1;
+                self.value(of, &Point { space, ..*at })
+            }
+            Kind::Next(_) | Kind::Succ(_) => Ok(Some(Value::Fault)),
+            Kind::Sby(left, _) if at.space == 0 => self.value(left, at),
+            Kind::Sby(_, right) => {
+                let space = at.space - 1;
+                self.value(right, &Point { space, ..*at })
+            }
+            Kind::Atspace(left, right) => self.atspace(left, right, at),
+            Kind::Scope(block) => self.scoped(block, at),
+        }
     }
-    match goal_of(&*name, &*env, t) {
-        Target::Element(j) => element(alloc, &*streams, &*name, j),
-        Target::Goes { tree, env, time } => value(alloc, streams, tree, env, time, s, m - 1),
-        Target::Lost => Ok(None),
-    }
-}
 
-// A choice.
-#[cycle(value)]
-#[inline(never)]
-fn choose(
-    alloc: Global,
-    streams: &[Stream],
-    test: &Tree,
-    yes: &Tree,
-    no: &Tree,
-    env: &Env,
-    t: u64,
-    s: u64,
-    m: u32,
-) -> Result<Option<Value>, AllocError>
-    requires small { nodes test.now + nodes yes.now + nodes no.now < 2 ^ 31 }
-    requires applies { Applies test.now × Applies yes.now × Applies no.now }
-    requires small_env { IsUsable (env_of env.now) }
-    requires time { t < 2 ^ 63 }
-    requires space { s < 2 ^ 63 }
-    ensures { IfOk result (λ o. option_map plain o
-        ≡ val (elements_of streams.now) m (form 0 choose_form (a_tree test.now (a_tree yes.now (a_tree no.now no_trees)))) (env_of env.now) t s) }
-{
-    match tested(value(alloc, streams, test, env, t, s, m)?) {
-        Turn::On => value(alloc, streams, yes, env, t, s, m),
-        Turn::Off => value(alloc, streams, no, env, t, s, m),
-        Turn::Ends(o) => Ok(o),
+    #[inline(never)]
+    fn constant(&self, constant: &Value) -> Result<Option<Value>, AllocError>
+        ensures { IfOk result (λ found. option_map plain found ≡ Some (plain constant.now)) }
+    {
+        Ok(Some(constant.copy(self.alloc)?))
     }
-}
 
-#[cycle(value)]
-#[inline(never)]
-fn both(
-    alloc: Global,
-    streams: &[Stream],
-    a: &Tree,
-    b: &Tree,
-    env: &Env,
-    t: u64,
-    s: u64,
-    m: u32,
-) -> Result<Option<Value>, AllocError>
-    requires small { nodes a.now + nodes b.now < 2 ^ 31 }
-    requires applies { Applies a.now × Applies b.now }
-    requires small_env { IsUsable (env_of env.now) }
-    requires time { t < 2 ^ 63 }
-    requires space { s < 2 ^ 63 }
-    ensures { IfOk result (λ o. option_map plain o
-        ≡ val (elements_of streams.now) m (form 0 both_form (a_tree a.now (a_tree b.now no_trees))) (env_of env.now) t s) }
-{
-    match tested(value(alloc, streams, a, env, t, s, m)?) {
-        Turn::On => Ok(truth_alone(value(alloc, streams, b, env, t, s, m)?)),
-        Turn::Off => Ok(Some(Value::Truth(false))),
-        Turn::Ends(o) => Ok(o),
+    // A name.
+    #[cycle(value)]
+    #[inline(never)]
+    fn named(&self, name: &Name, at: &Point) -> Result<Option<Value>, AllocError>
+        requires point { IsPoint at.now }
+        ensures { IfOk result (λ found. option_map plain found
+            ≡ below value_of (nothing_held (elements_of self.now.streams.now)) at.now.limit (name_target name.now (env_of at.now.env.now) at.now.time) at.now.space) }
+    {
+        if at.limit == 0 {
+            return Ok(None);
+        }
+        let limit = at.limit - 1;
+        match goal_of(name, at.env, at.time) {
+            Target::Element(index) => element(self.alloc, self.streams, name, index),
+            Target::Goes { tree, env, time } => {
+                let below = Point {
+                    env,
+                    time,
+                    limit,
+                    ..*at
+                };
+                self.value(tree, &below)
+            }
+            Target::Lost => Ok(None),
+        }
     }
-}
 
-#[cycle(value)]
-#[inline(never)]
-fn either(
-    alloc: Global,
-    streams: &[Stream],
-    a: &Tree,
-    b: &Tree,
-    env: &Env,
-    t: u64,
-    s: u64,
-    m: u32,
-) -> Result<Option<Value>, AllocError>
-    requires small { nodes a.now + nodes b.now < 2 ^ 31 }
-    requires applies { Applies a.now × Applies b.now }
-    requires small_env { IsUsable (env_of env.now) }
-    requires time { t < 2 ^ 63 }
-    requires space { s < 2 ^ 63 }
-    ensures { IfOk result (λ o. option_map plain o
-        ≡ val (elements_of streams.now) m (form 0 either_form (a_tree a.now (a_tree b.now no_trees))) (env_of env.now) t s) }
-{
-    match tested(value(alloc, streams, a, env, t, s, m)?) {
-        Turn::On => Ok(Some(Value::Truth(true))),
-        Turn::Off => Ok(truth_alone(value(alloc, streams, b, env, t, s, m)?)),
-        Turn::Ends(o) => Ok(o),
+    // A choice.
+    #[cycle(value)]
+    #[inline(never)]
+    fn choose(
+        &self,
+        test: &Tree,
+        yes: &Tree,
+        no: &Tree,
+        at: &Point,
+    ) -> Result<Option<Value>, AllocError>
+        requires small { nodes test.now + nodes yes.now + nodes no.now < 2 ^ 31 }
+        requires applies { Applies test.now × Applies yes.now × Applies no.now }
+        requires point { IsPoint at.now }
+        ensures { IfOk result (λ found. option_map plain found
+            ≡ val (elements_of self.now.streams.now) at.now.limit (form 0 choose_form (a_tree test.now (a_tree yes.now (a_tree no.now no_trees)))) (env_of at.now.env.now) at.now.time at.now.space) }
+    {
+        match tested(self.value(test, at)?) {
+            Turn::On => self.value(yes, at),
+            Turn::Off => self.value(no, at),
+            Turn::Ends(end) => Ok(end),
+        }
     }
-}
 
-// `x` at the time of the true value number `n` of `p`.
-#[cycle(value)]
-#[inline(never)]
-fn search(
-    alloc: Global,
-    streams: &[Stream],
-    x: &Tree,
-    p: &Tree,
-    n: u64,
-    env: &Env,
-    s: u64,
-    m: u32,
-) -> Result<Option<Value>, AllocError>
-    requires small { nodes x.now + nodes p.now < 2 ^ 31 }
-    requires applies { Applies x.now × Applies p.now }
-    requires small_env { IsUsable (env_of env.now) }
-    requires space { s < 2 ^ 63 }
-    ensures { IfOk result (λ o. option_map plain o ≡ found_by streams.now m x.now p.now (env_of env.now) m 0 n s) }
-{
-    let mut left = n;
-    for j in 0..m {
-        match tested(value(alloc, streams, p, env, j as u64, s, m)?) {
-            Turn::On => {
-                if left == 0 {
-                    return value(alloc, streams, x, env, j as u64, s, m);
+    #[cycle(value)]
+    #[inline(never)]
+    fn both(&self, left: &Tree, right: &Tree, at: &Point) -> Result<Option<Value>, AllocError>
+        requires small { nodes left.now + nodes right.now < 2 ^ 31 }
+        requires applies { Applies left.now × Applies right.now }
+        requires point { IsPoint at.now }
+        ensures { IfOk result (λ found. option_map plain found
+            ≡ val (elements_of self.now.streams.now) at.now.limit (form 0 both_form (a_tree left.now (a_tree right.now no_trees))) (env_of at.now.env.now) at.now.time at.now.space) }
+    {
+        match tested(self.value(left, at)?) {
+            Turn::On => Ok(truth_alone(self.value(right, at)?)),
+            Turn::Off => Ok(Some(Value::Truth(false))),
+            Turn::Ends(end) => Ok(end),
+        }
+    }
+
+    #[cycle(value)]
+    #[inline(never)]
+    fn either(&self, left: &Tree, right: &Tree, at: &Point) -> Result<Option<Value>, AllocError>
+        requires small { nodes left.now + nodes right.now < 2 ^ 31 }
+        requires applies { Applies left.now × Applies right.now }
+        requires point { IsPoint at.now }
+        ensures { IfOk result (λ found. option_map plain found
+            ≡ val (elements_of self.now.streams.now) at.now.limit (form 0 either_form (a_tree left.now (a_tree right.now no_trees))) (env_of at.now.env.now) at.now.time at.now.space) }
+    {
+        match tested(self.value(left, at)?) {
+            Turn::On => Ok(Some(Value::Truth(true))),
+            Turn::Off => Ok(truth_alone(self.value(right, at)?)),
+            Turn::Ends(end) => Ok(end),
+        }
+    }
+
+    // The subject at the time of the true value of that number, from 0, of the test.
+    #[cycle(value)]
+    #[inline(never)]
+    fn search(
+        &self,
+        subject: &Tree,
+        test: &Tree,
+        number: u64,
+        at: &Point,
+    ) -> Result<Option<Value>, AllocError>
+        requires small { nodes subject.now + nodes test.now < 2 ^ 31 }
+        requires applies { Applies subject.now × Applies test.now }
+        requires point { IsPoint at.now }
+        ensures { IfOk result (λ found. option_map plain found
+            ≡ found_by self.now.streams.now at.now.limit subject.now test.now (env_of at.now.env.now) at.now.limit 0 number at.now.space) }
+    {
+        let mut left = number;
+        for j in 0..at.limit {
+            let time = j as u64;
+            match tested(self.value(test, &Point { time, ..*at })?) {
+                Turn::On => {
+                    if left == 0 {
+                        return self.value(subject, &Point { time, ..*at });
+                    }
+                    left -= 1;
                 }
-                left -= 1;
+                Turn::Off => {}
+                Turn::Ends(end) => return Ok(end),
             }
-            Turn::Off => {}
-            Turn::Ends(o) => return Ok(o),
+        }
+        Ok(None)
+    }
+
+    // A block.
+    #[cycle(value)]
+    #[inline(never)]
+    fn scoped(&self, block: &Block, at: &Point) -> Result<Option<Value>, AllocError>
+        requires small { nodes block.now.subject + nodes_in_defs block.now.defs < 2 ^ 31 }
+        requires applies { Applies block.now.subject × DefsApply block.now.defs }
+        requires point { IsPoint at.now }
+        ensures { IfOk result (λ found. option_map plain found
+            ≡ val (elements_of self.now.streams.now) at.now.limit (a_block 0 block.now.subject block.now.defs) (env_of at.now.env.now) at.now.time at.now.space) }
+    {
+        let frozen = frozen_time(&block.defs, at.time);
+        let inner = Env::Scope {
+            defs: &block.defs,
+            frozen,
+            rest: at.env,
+        };
+        self.value(&block.subject, &Point { env: &inner, ..*at })
+    }
+
+    #[cycle(value)]
+    #[inline(never)]
+    fn attime(&self, left: &Tree, right: &Tree, at: &Point) -> Result<Option<Value>, AllocError>
+        requires small { nodes left.now + nodes right.now < 2 ^ 31 }
+        requires applies { Applies left.now × Applies right.now }
+        requires point { IsPoint at.now }
+        ensures { IfOk result (λ found. option_map plain found
+            ≡ val (elements_of self.now.streams.now) at.now.limit (form 0 attime_form (a_tree left.now (a_tree right.now no_trees))) (env_of at.now.env.now) at.now.time at.now.space) }
+    {
+        match placed(self.value(right, at)?) {
+            Place::At(time) => self.value(left, &Point { time, ..*at }),
+            Place::Ends(end) => Ok(end),
         }
     }
-    Ok(None)
-}
 
-// A block.
-#[cycle(value)]
-#[inline(never)]
-fn scoped(
-    alloc: Global,
-    streams: &[Stream],
-    block: &Block,
-    env: &Env,
-    t: u64,
-    s: u64,
-    m: u32,
-) -> Result<Option<Value>, AllocError>
-    requires small { nodes block.now.subject + nodes_in_defs block.now.defs < 2 ^ 31 }
-    requires applies { Applies block.now.subject × DefsApply block.now.defs }
-    requires small_env { IsUsable (env_of env.now) }
-    requires time { t < 2 ^ 63 }
-    requires space { s < 2 ^ 63 }
-    ensures { IfOk result (λ o. option_map plain o
-        ≡ val (elements_of streams.now) m (a_block 0 block.now.subject block.now.defs) (env_of env.now) t s) }
-{
-    let frozen = frozen_time(&block.defs, t);
-    let inner = Env::Scope {
-        defs: &block.defs,
-        frozen,
-        rest: &*env,
-    };
-    value(alloc, streams, &block.subject, &inner, t, s, m)
-}
-
-#[cycle(value)]
-#[inline(never)]
-fn attime(
-    alloc: Global,
-    streams: &[Stream],
-    x: &Tree,
-    y: &Tree,
-    env: &Env,
-    t: u64,
-    s: u64,
-    m: u32,
-) -> Result<Option<Value>, AllocError>
-    requires small { nodes x.now + nodes y.now < 2 ^ 31 }
-    requires applies { Applies x.now × Applies y.now }
-    requires small_env { IsUsable (env_of env.now) }
-    requires time { t < 2 ^ 63 }
-    requires space { s < 2 ^ 63 }
-    ensures { IfOk result (λ o. option_map plain o
-        ≡ val (elements_of streams.now) m (form 0 attime_form (a_tree x.now (a_tree y.now no_trees))) (env_of env.now) t s) }
-{
-    match placed(value(alloc, streams, y, env, t, s, m)?) {
-        Place::At(u) => value(alloc, streams, x, env, u, s, m),
-        Place::Ends(o) => Ok(o),
-    }
-}
-
-#[cycle(value)]
-#[inline(never)]
-fn atspace(
-    alloc: Global,
-    streams: &[Stream],
-    x: &Tree,
-    y: &Tree,
-    env: &Env,
-    t: u64,
-    s: u64,
-    m: u32,
-) -> Result<Option<Value>, AllocError>
-    requires small { nodes x.now + nodes y.now < 2 ^ 31 }
-    requires applies { Applies x.now × Applies y.now }
-    requires small_env { IsUsable (env_of env.now) }
-    requires time { t < 2 ^ 63 }
-    requires space { s < 2 ^ 63 }
-    ensures { IfOk result (λ o. option_map plain o
-        ≡ val (elements_of streams.now) m (form 0 atspace_form (a_tree x.now (a_tree y.now no_trees))) (env_of env.now) t s) }
-{
-    match placed(value(alloc, streams, y, env, t, s, m)?) {
-        Place::At(u) => value(alloc, streams, x, env, t, u, m),
-        Place::Ends(o) => Ok(o),
-    }
-}
-
-// A data operator on the values of all arguments.
-#[cycle(value)]
-#[inline(never)]
-fn applied(
-    alloc: Global,
-    streams: &[Stream],
-    op: Op,
-    args: &Trees,
-    env: &Env,
-    t: u64,
-    s: u64,
-    m: u32,
-) -> Result<Option<Value>, AllocError>
-    requires small { nodes_in args.now < 2 ^ 31 }
-    requires arity { count args.now ≡ arity op }
-    requires applies { AllApply args.now }
-    requires small_env { IsUsable (env_of env.now) }
-    requires time { t < 2 ^ 63 }
-    requires space { s < 2 ^ 63 }
-    ensures { IfOk result (λ o. option_map plain o
-        ≡ val (elements_of streams.now) m (form 0 (apply_form op (count args.now)) args.now) (env_of env.now) t s) }
-{
-    let mut values = Vec::with_capacity(alloc, args.items().len())?;
-    for e in args.items() {
-        match value(alloc, streams, e, env, t, s, m)? {
-            None => return Ok(None),
-            Some(v) => values.push(v)?,
+    #[cycle(value)]
+    #[inline(never)]
+    fn atspace(&self, left: &Tree, right: &Tree, at: &Point) -> Result<Option<Value>, AllocError>
+        requires small { nodes left.now + nodes right.now < 2 ^ 31 }
+        requires applies { Applies left.now × Applies right.now }
+        requires point { IsPoint at.now }
+        ensures { IfOk result (λ found. option_map plain found
+            ≡ val (elements_of self.now.streams.now) at.now.limit (form 0 atspace_form (a_tree left.now (a_tree right.now no_trees))) (env_of at.now.env.now) at.now.time at.now.space) }
+    {
+        match placed(self.value(right, at)?) {
+            Place::At(space) => self.value(left, &Point { space, ..*at }),
+            Place::Ends(end) => Ok(end),
         }
     }
-    Ok(Some(apply(alloc, op, &values)?))
-}
 
-// `x` at the number of true values of `p` below the time.
-#[cycle(value)]
-#[inline(never)]
-fn counted(
-    alloc: Global,
-    streams: &[Stream],
-    x: &Tree,
-    p: &Tree,
-    env: &Env,
-    t: u64,
-    s: u64,
-    m: u32,
-) -> Result<Option<Value>, AllocError>
-    requires small { nodes x.now + nodes p.now < 2 ^ 31 }
-    requires applies { Applies x.now × Applies p.now }
-    requires small_env { IsUsable (env_of env.now) }
-    requires time { t < 2 ^ 63 }
-    requires space { s < 2 ^ 63 }
-    ensures { IfOk result (λ o. option_map plain o ≡ counted_by streams.now m x.now p.now (env_of env.now) t t 0 0 s) }
-{
-    let mut n: u64 = 0;
-    for j in 0..t {
-        match tested(value(alloc, streams, p, env, j, s, m)?) {
-            Turn::On => {
-                n += 1;
+    // A data operator on the values of all arguments.
+    #[cycle(value)]
+    #[inline(never)]
+    fn applied(&self, op: Op, args: &Trees, at: &Point) -> Result<Option<Value>, AllocError>
+        requires small { nodes_in args.now < 2 ^ 31 }
+        requires arity { count args.now ≡ arity op }
+        requires applies { AllApply args.now }
+        requires point { IsPoint at.now }
+        ensures { IfOk result (λ found. option_map plain found
+            ≡ val (elements_of self.now.streams.now) at.now.limit (form 0 (apply_form op (count args.now)) args.now) (env_of at.now.env.now) at.now.time at.now.space) }
+    {
+        let mut values = Vec::with_capacity(self.alloc, args.items().len())?;
+        for arg in args.items() {
+            match self.value(arg, at)? {
+                None => return Ok(None),
+                Some(value) => values.push(value)?,
             }
-            Turn::Off => {}
-            Turn::Ends(o) => return Ok(o),
         }
+        Ok(Some(apply(self.alloc, op, &values)?))
     }
-    value(alloc, streams, x, env, n, s, m)
-}
 
-// A call.
-#[cycle(value)]
-#[inline(never)]
-fn called(
-    alloc: Global,
-    streams: &[Stream],
-    at: u32,
-    name: &Name,
-    args: &Trees,
-    env: &Env,
-    t: u64,
-    s: u64,
-    m: u32,
-) -> Result<Option<Value>, AllocError>
-    requires small { nodes_in args.now < 2 ^ 31 }
-    requires applies { AllApply args.now }
-    requires small_env { IsUsable (env_of env.now) }
-    requires time { t < 2 ^ 63 }
-    requires space { s < 2 ^ 63 }
-    ensures { IfOk result (λ o. option_map plain o
-        ≡ below value_of (nothing_held (elements_of streams.now)) m (call_target at name.now args.now (env_of env.now) (env_of env.now) t) s) }
-{
-    if m == 0 {
-        return Ok(None);
+    // The subject at the number of true values of the test below the time.
+    #[cycle(value)]
+    #[inline(never)]
+    fn counted(&self, subject: &Tree, test: &Tree, at: &Point) -> Result<Option<Value>, AllocError>
+        requires small { nodes subject.now + nodes test.now < 2 ^ 31 }
+        requires applies { Applies subject.now × Applies test.now }
+        requires point { IsPoint at.now }
+        ensures { IfOk result (λ found. option_map plain found
+            ≡ counted_by self.now.streams.now at.now.limit subject.now test.now (env_of at.now.env.now) at.now.time at.now.time 0 0 at.now.space) }
+    {
+        let mut number: u64 = 0;
+        for time in 0..at.time {
+            match tested(self.value(test, &Point { time, ..*at })?) {
+                Turn::On => {
+                    number += 1;
+                }
+                Turn::Off => {}
+                Turn::Ends(end) => return Ok(end),
+            }
+        }
+        self.value(
+            subject,
+            &Point {
+                time: number,
+                ..*at
+            },
+        )
     }
-    match callee_of(name, &*env) {
-        Callee::Is {
-            names,
-            places,
-            tree,
-            env: outer,
-        } => {
-            let inner = Env::Args {
+
+    // A call.
+    #[cycle(value)]
+    #[inline(never)]
+    fn called(
+        &self,
+        place: u32,
+        name: &Name,
+        args: &Trees,
+        at: &Point,
+    ) -> Result<Option<Value>, AllocError>
+        requires small { nodes_in args.now < 2 ^ 31 }
+        requires applies { AllApply args.now }
+        requires point { IsPoint at.now }
+        ensures { IfOk result (λ found. option_map plain found
+            ≡ below value_of (nothing_held (elements_of self.now.streams.now)) at.now.limit (call_target place name.now args.now (env_of at.now.env.now) (env_of at.now.env.now) at.now.time) at.now.space) }
+    {
+        if at.limit == 0 {
+            return Ok(None);
+        }
+        let limit = at.limit - 1;
+        match callee_of(name, at.env) {
+            Callee::Is {
                 names,
                 places,
-                actuals: &*args,
-                caller: &*env,
-                rest: outer,
-            };
-            value(alloc, streams, tree, &inner, t, s, m - 1)
+                tree,
+                env: outer,
+            } => {
+                let inner = Env::Args {
+                    names,
+                    places,
+                    actuals: args,
+                    caller: at.env,
+                    rest: outer,
+                };
+                self.value(
+                    tree,
+                    &Point {
+                        env: &inner,
+                        limit,
+                        ..*at
+                    },
+                )
+            }
+            Callee::Lost => Ok(None),
         }
-        Callee::Lost => Ok(None),
     }
 }

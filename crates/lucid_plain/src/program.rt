@@ -8,7 +8,7 @@ ghost use Rattle.lucid_tree.specs.Meaning.{val};
 ghost use Rattle.lucid_plain.specs.Streams.{elements_of};
 
 use crate::env::Env;
-use crate::eval::value;
+use crate::eval::{Evaluator, Point};
 use crate::streams::Stream;
 use lucid_tree::Tree;
 use lucid_value::Value;
@@ -29,5 +29,12 @@ pub fn approximation(
     requires space { space < 2 ^ 63 }
     ensures { IfOk result (λ found. option_map plain found ≡ val (elements_of streams.now) limit tree.now empty time space) }
 {
-    value(alloc, streams, tree, &Env::Empty, time, space, limit)
+    let evaluator = Evaluator { alloc, streams };
+    let at = Point {
+        env: &Env::Empty,
+        time,
+        space,
+        limit,
+    };
+    evaluator.value(tree, &at)
 }

@@ -3,5 +3,5 @@ use Rattle.lucid_tree.specs.DefsView.{defs_of}
 use Rattle.lucid_tree.specs.Env.{frozen_at}
 use Rattle.lucid_plain.proofs.eval.frozen_time.Given as goal
 
-abbrev pub invariant-loop-d : goal.invariant-loop-d
-invariant-loop-d l = frozen_at (defs_of (drop l.d-index l.d-items)) l.t ≡ frozen_at (defs_of l.d-items) l.t
+abbrev pub invariant-loop-def : goal.invariant-loop-def
+invariant-loop-def l = frozen_at (defs_of (drop l.def-index l.def-items)) l.time ≡ frozen_at (defs_of l.def-items) l.time
