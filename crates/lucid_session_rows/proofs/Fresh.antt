@@ -1,0 +1,30 @@
+-- Streams of which nothing is read may be asked once their places are reached.
+use Rattle.std.proofs.Common.{◌≡◌, ◌<◌, ℕ, zero, suc, List, [], ◌∷◌, Option, sym, subst}
+use Rattle.std.proofs.lemmas.Option.{none-some, same_Some}
+use Rattle.lucid_ports.specs.World.{World, Place, IsFresh}
+use Rattle.lucid_inputs.specs.Streams.{Stream, FitsPlace, fresh_stream}
+use Rattle.lucid_inputs.specs.Laws.{FreshFits}
+use Rattle.lucid_facts.specs.Engine.{AreAskable}
+
+pub none_askable : (streams : List Stream) (w : World) → streams ≡ [] → AreAskable streams w
+none_askable streams w same = subst (λ its. AreAskable its w) (sym same) at
+  where
+    at : AreAskable [] w
+    at k s e = absurd (none-some s e)
+
+module _ (fits : FreshFits) (w : World) where
+  -- a stream may be asked
+  abbrev IsAskable : Stream → Type 0
+  IsAskable s = (s.place < w.reached) × FitsPlace s (w.place s.place)
+
+  -- the stream that is read from a place just reached
+  fresh : (a : ℕ) (x : Option (List ℕ)) (s : Stream) → fresh_stream a ≡ s → a < w.reached → IsFresh x (w.place a) → IsAskable s
+  fresh a x s same within new = subst IsAskable same (within, fits a x (w.place a) new)
+
+  pub one_askable : (streams : List Stream) (a : ℕ) (x : Option (List ℕ)) → streams ≡ fresh_stream a ∷ [] → a < w.reached → IsFresh x (w.place a)
+      → AreAskable streams w
+  one_askable streams a x same within new = subst (λ its. AreAskable its w) (sym same) at
+    where
+      at : AreAskable (fresh_stream a ∷ []) w
+      at zero s e = fresh a x s (same_Some _ _ e) within new
+      at (suc k) s e = absurd (none-some s e)

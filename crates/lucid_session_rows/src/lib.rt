@@ -1,0 +1,11 @@
+//! Worked rows of runs, by `run` itself over files and sinks in memory.
+#![tactic(auto)]
+
+#[cfg(test)]
+mod choices;
+#[cfg(test)]
+mod large;
+#[cfg(test)]
+mod pieces;
+#[cfg(test)]
+mod program_run;
