@@ -4,3 +4,4 @@ pub mod StoredCode
 pub mod Beside
 pub mod Entries
 pub mod Lending
+pub mod Hashing

@@ -11,9 +11,11 @@ ghost use Rattle.lucid_store.specs.Entries.{fresh, renewed, older, swept, within
 
 use crate::Key;
 use crate::ages::Ages;
+use crate::hashing::KeyHasher;
 use indexmap::IndexMap;
 use lucid_value::Value;
 use std::alloc::Global;
+use std::hash::BuildHasherDefault;
 use std::marker::Model;
 
 /// Values by their keys, and their ages. It is seen as the list of the entries, each a key with its value and its age.
@@ -21,7 +23,7 @@ use std::marker::Model;
 /// The ages stand in a list of their own, so that a look-up writes none where it is 0 already.
 #[derive(Drop)]
 pub(crate) struct Datons {
-    values: IndexMap<Key, Value>,
+    values: IndexMap<Key, Value, BuildHasherDefault<KeyHasher>>,
     // The age of each value, at its place.
     ages: Ages,
 }
@@ -51,7 +53,7 @@ impl Datons {
         ensures { result ≡ [] }
     {
         Datons {
-            values: IndexMap::new(alloc),
+            values: IndexMap::with_hasher(alloc, BuildHasherDefault::new()),
             ages: Ages::make(alloc),
         }
     }

@@ -9,6 +9,7 @@ pub use warehouse::Warehouse;
 
 mod ages;
 mod datons;
+mod hashing;
 #[cfg(test)]
 mod tests;
 mod warehouse;

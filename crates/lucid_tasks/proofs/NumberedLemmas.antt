@@ -1,5 +1,5 @@
 -- What a search finds among pairs whose numbers rise, and what an edit at that place does.
-use Rattle.std.proofs.Common.{◌≡◌, ℕ, zero, suc, ◌+◌, ◌-◌, ◌<◌, ◌≤◌, ◌≢◌, ◌==◌, true, false, cond, List, [], ◌∷◌, length, get_or, Some, None, Result, Ok, Err, IfOk, IfErr, refl, sym, ap, subst, ◌∙◌, arith}
+use Rattle.std.proofs.Common.{◌≡◌, ℕ, zero, suc, ◌+◌, ◌-◌, ◌<◌, ◌≤◌, ◌≢◌, ◌==◌, true, false, cond, List, [], ◌∷◌, length, get_or, slice_get, Some, None, Result, Ok, Err, IfOk, IfErr, refl, sym, ap, subst, ◌∙◌, arith}
 use Rattle.std.specs.List.{insert, remove}
 use Rattle.std.specs.List.Sorted.{IsSearchInRange, IsBinarySearchResult, IsNonDecreasingBy}
 use Rattle.std.specs.Ordering.{nat_cmp, ordering_index}
@@ -201,3 +201,16 @@ between_last {X} l items e up n i j a b next len before last less more = subst (
       let same : k ≡ j = omega (arith, le, lt, len) in
       let there = ap (number_at d items) same in omega (arith, more, here, there);
 })
+
+at_place : {X : Type 0} (xs : List X) (i : ℕ) (x d : X) → Some x ≡ slice_get xs i → (i < length xs) × (get_or xs i d ≡ x)
+at_place [] i x d e = absurd (cc)
+at_place (y ∷ xs) zero x d e = let same : y ≡ x = cc in (omega arith, same)
+at_place (y ∷ xs) (suc i) x d e = let rest = at_place xs i x d e in (omega (arith, rest.0), rest.1)
+
+-- The last pair stands at the last place.
+pub last_is_at : {X : Type 0} (l items xs : List (ℕ × X)) (n : ℕ) (pair : ℕ × X) → xs ≡ items → items ≡ l → Some pair ≡ slice_get xs (length xs - 1) → pair.0 ≡ n → IsAt l n (length l - 1)
+last_is_at {X} l items xs n pair same is e has =
+    subst (λ (ys : List (ℕ × X)). IsAt ys n (length ys - 1)) (same ∙ is) (record {
+      in_range = (at_place xs (length xs - 1) pair pair e).0;
+      has = λ d. ap (λ (p : ℕ × X). p.0) ((at_place xs (length xs - 1) pair d e).1) ∙ has;
+    })

@@ -3,6 +3,7 @@ use Rattle.std.proofs.Common.{◌≡◌, ℕ, zero, suc, ◌<◌, ◌≤◌, ◌
 use Rattle.std.proofs.lemmas.Bool.Decides.{nat_tests}
 use Rattle.std.specs.Prelude.{slice_get, insert, remove}
 use Rattle.lucid_tasks.specs.Slots.{is_listed, RiseFrom}
+use Rattle.lucid_tasks.proofs.EndLemmas.{end_of}
 use Rattle.lucid_tasks.proofs.Cases.{same_number, number_itself, below_differs, above_differs, chosen, some_is, none_is_some}
 
 -- what is listed is at least the bound
@@ -207,3 +208,17 @@ pub below_before_last : (xs : List ℕ) (s x : ℕ) → RiseFrom 0 xs → Some x
 below_before_last xs s x r e h k l =
     let last = last_is xs (length xs - 1) x e in
     let up = rise_strict 0 xs r k (length xs - 1) l last.0 in omega (arith, up, last.1, h)
+
+-- The last slot stands at the last place.
+pub last_there : (xs items : List ℕ) (s x : ℕ) → xs ≡ items → Some x ≡ slice_get xs (length xs - 1) → x ≡ s → (0 < length items) × (slice_get items (length items - 1) ≡ Some s)
+last_there xs items s x same e is =
+    let there = last_is xs (length xs - 1) x e in
+    subst (λ (ys : List ℕ). (0 < length ys) × (slice_get ys (length ys - 1) ≡ Some s)) same (omega (arith, there.0), sym e ∙ ap Some is)
+
+-- A slot past the last one is put at the end.
+pub pushed_past : (xs items after : List ℕ) (s x : ℕ) → xs ≡ items → RiseFrom 0 items → is_listed items s ≡ false → Some x ≡ slice_get xs (length xs - 1) → x < s → after ≡ items ++ s ∷ []
+    → RiseFrom 0 after
+pushed_past xs items after s x same r absent e less is =
+    let last = subst (λ (ys : List ℕ). Some x ≡ slice_get ys (length ys - 1)) same e in
+    subst (λ (ys : List ℕ). RiseFrom 0 ys) (sym (end_of items after s (length items) refl is))
+    (rise_insert 0 items (length items) s r (omega arith) absent (λ k h. below_last items s x r last less k h) (λ k h l. absurd (omega (arith, h, l))) (omega arith))

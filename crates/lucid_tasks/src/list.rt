@@ -33,6 +33,22 @@ fn place_of(slots: &[usize], slot: usize) -> usize
     }
 }
 
+// Takes a slot out, wherever it stands. Few stand before others, so it stands apart.
+#[inline(never)]
+fn remove_inside(slots: &mut Vec<usize>, slot: usize)
+    requires rising { RiseFrom 0 slots.old.items }
+    requires listed { is_listed slots.old.items slot ≡ true }
+    requires room { vec_len slots.old ≤ vec_capacity slots.old }
+    ensures rising { RiseFrom 0 slots.new.items }
+    ensures listed { (q : ℕ) → is_listed slots.new.items q ≡ (if q == slot then false else is_listed slots.old.items q) }
+    ensures room { vec_len slots.new + 1 ≤ vec_capacity slots.new }
+    ensures capacity { vec_capacity slots.new ≡ vec_capacity slots.old }
+    ensures len { vec_len slots.new + 1 ≡ vec_len slots.old }
+{
+    let place = place_of(slots, slot);
+    slots.remove(place);
+}
+
 // Takes a slot out.
 #[inline(always)]
 pub(crate) fn remove_slot(slots: &mut Vec<usize>, slot: usize)
@@ -45,11 +61,27 @@ pub(crate) fn remove_slot(slots: &mut Vec<usize>, slot: usize)
     ensures capacity { vec_capacity slots.new ≡ vec_capacity slots.old }
     ensures len { vec_len slots.new + 1 ≡ vec_len slots.old }
 {
+    match slots.last() {
+        Some(last) if *last == slot => {
+            slots.take_last();
+        }
+        _ => remove_inside(slots, slot),
+    }
+}
+
+// Puts a slot at its place, wherever that is. Few are before others, so it stands apart.
+#[inline(never)]
+fn insert_inside(slots: &mut Vec<usize>, slot: usize)
+    requires rising { RiseFrom 0 slots.old.items }
+    requires absent { is_listed slots.old.items slot ≡ false }
+    requires room { vec_len slots.old + 1 ≤ vec_capacity slots.old }
+    ensures rising { RiseFrom 0 slots.new.items }
+    ensures listed { (q : ℕ) → is_listed slots.new.items q ≡ (if q == slot then true else is_listed slots.old.items q) }
+    ensures room { vec_len slots.new ≤ vec_capacity slots.new }
+{
     let place = place_of(slots, slot);
-    if place + 1 == slots.len() {
-        slots.take_last();
-    } else {
-        slots.remove(place);
+    if slots.insert(place, slot).is_err() {
+        unreachable!();
     }
 }
 
@@ -63,10 +95,9 @@ pub(crate) fn insert_slot(slots: &mut Vec<usize>, slot: usize)
     ensures listed { (q : ℕ) → is_listed slots.new.items q ≡ (if q == slot then true else is_listed slots.old.items q) }
     ensures room { vec_len slots.new ≤ vec_capacity slots.new }
 {
-    let place = place_of(slots, slot);
-    if place == slots.len() {
-        slots.push_reserved(slot);
-    } else if slots.insert(place, slot).is_err() {
-        unreachable!();
+    match slots.last() {
+        None => slots.push_reserved(slot),
+        Some(last) if *last < slot => slots.push_reserved(slot),
+        Some(_) => insert_inside(slots, slot),
     }
 }

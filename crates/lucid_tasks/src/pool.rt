@@ -105,23 +105,8 @@ impl Pool {
         }
     }
 
-    // Gives a number a value.
-    #[inline(always)]
-    pub(crate) fn put(&mut self, number: usize, value: Value)
-        requires room { number < self.old.1 }
-        requires absent { value_at self.old.0 number ≡ None }
-        ensures values { SetsOne (value_at self.old.0) (value_at self.new.0) number (Some value) }
-        ensures room { self.old.1 ≤ self.new.1 }
-    {
-        match self.place(number) {
-            Ok(_) => unreachable!(),
-            Err(at) if at == self.values.len() => self.values.push_reserved((number, value)),
-            Err(at) => self.put_inside(at, number, value),
-        }
-    }
-
     // Puts a value at its place before others.
-    #[inline(never)]
+    #[inline(always)]
     fn put_inside(&mut self, at: usize, number: usize, value: Value)
         requires room { number < self.old.1 }
         requires gap { IsGapFor self.old.0 number at }
@@ -133,22 +118,38 @@ impl Pool {
         }
     }
 
-    // Takes the value of a number out.
-    #[inline(always)]
-    pub(crate) fn take(&mut self, number: usize) -> Option<Value>
-        ensures value { result ≡ value_at self.old.0 number }
-        ensures values { SetsOne (value_at self.old.0) (value_at self.new.0) number None }
+    // Gives a number a value, wherever it stands. Few stand before others, so it stands apart.
+    #[inline(never)]
+    fn put_searched(&mut self, number: usize, value: Value)
+        requires room { number < self.old.1 }
+        requires absent { value_at self.old.0 number ≡ None }
+        ensures values { SetsOne (value_at self.old.0) (value_at self.new.0) number (Some value) }
         ensures room { self.old.1 ≤ self.new.1 }
     {
+        let _values = &self.values;
         match self.place(number) {
-            Ok(at) if at + 1 == self.values.len() => Some(self.values.take_last().1),
-            Ok(at) => Some(self.take_inside(at, number)),
-            Err(_) => None,
+            Ok(_) => unreachable!(),
+            Err(at) => self.put_inside(at, number, value),
+        }
+    }
+
+    // Gives a number a value.
+    #[inline(always)]
+    pub(crate) fn put(&mut self, number: usize, value: Value)
+        requires room { number < self.old.1 }
+        requires absent { value_at self.old.0 number ≡ None }
+        ensures values { SetsOne (value_at self.old.0) (value_at self.new.0) number (Some value) }
+        ensures room { self.old.1 ≤ self.new.1 }
+    {
+        if self.ends_below(number) {
+            self.values.push_reserved((number, value));
+        } else {
+            self.put_searched(number, value);
         }
     }
 
     // Takes out the value at a place before others.
-    #[inline(never)]
+    #[inline(always)]
     fn take_inside(&mut self, at: usize, number: usize) -> Value
         requires { IsAt self.old.0 number at }
         ensures value { Some result ≡ value_at self.old.0 number }
@@ -156,6 +157,32 @@ impl Pool {
         ensures room { self.old.1 ≤ self.new.1 }
     {
         self.values.remove(at).1
+    }
+
+    // Takes the value of a number out, wherever it stands. Few stand before others, so it stands apart.
+    #[inline(never)]
+    fn take_searched(&mut self, number: usize) -> Option<Value>
+        ensures value { result ≡ value_at self.old.0 number }
+        ensures values { SetsOne (value_at self.old.0) (value_at self.new.0) number None }
+        ensures room { self.old.1 ≤ self.new.1 }
+    {
+        match self.place(number) {
+            Ok(at) => Some(self.take_inside(at, number)),
+            Err(_) => None,
+        }
+    }
+
+    // Takes the value of a number out.
+    #[inline(always)]
+    pub(crate) fn take(&mut self, number: usize) -> Option<Value>
+        ensures value { result ≡ value_at self.old.0 number }
+        ensures values { SetsOne (value_at self.old.0) (value_at self.new.0) number None }
+        ensures room { self.old.1 ≤ self.new.1 }
+    {
+        match self.values.last() {
+            Some(last) if last.0 == number => Some(self.values.take_last().1),
+            _ => self.take_searched(number),
+        }
     }
 
     // Whether no value stands at this number or past it.

@@ -1,0 +1,10 @@
+-- A number is what its bytes are read as.
+use Rattle.std.proofs.Common.{ap, sym, ◌∙◌}
+use Rattle.std.specs.Hash.{le_bytes}
+use Rattle.std.proofs.lemmas.Nat.{from_le_bytes-to_le_bytes_8}
+use Rattle.lucid_store.specs.Hashing as hashing
+use Rattle.lucid_store.proofs.hashing.KeyHasherHasher.write_u64.Goals as goal
+
+pub returns : goal.returns
+unfolding le_bytes
+returns c = c.add.ensures ∙ ap (hashing.added c.args.self.now) (sym (from_le_bytes-to_le_bytes_8 c.args.number c.ranges.number.fits))
