@@ -1,6 +1,6 @@
 //! Single engines that hold all: long runs and deep ones, and one that is cleared.
-use lucid_retire::{Keep, Retire};
-use lucid_schedule::{Newest, Pick};
+use lucid_retire::Keep;
+use lucid_schedule::Newest;
 use lucid_trials::{Demand, Demands, Outcome, OverFiles, Setup, times_below};
 use std::alloc::{AllocError, Global};
 use std::process::Abort;
@@ -78,10 +78,11 @@ fn deep_references(rt: HostRuntime) -> Result<(), Fail> {
     Ok(())
 }
 
-// Nothing is held, and a demand needs the depth that it would on a new engine.
-fn is_as_new<A: Abort + AllocGlobal, R: Retire, S: Pick>(
+// Nothing is held, and a demand needs the depth that it would on a new engine. It is borrowed here, since assertions in the function that
+// owns it take minutes to prove.
+fn is_as_new<A: Abort + AllocGlobal>(
     rt: &A,
-    engine: &mut OverFiles<R, S>,
+    engine: &mut OverFiles<Keep, Newest>,
 ) -> Result<(), Fail> {
     let alloc = rt.alloc();
     assert_eq!(rt; engine.held(), 0);
@@ -96,22 +97,15 @@ fn is_as_new<A: Abort + AllocGlobal, R: Retire, S: Pick>(
 }
 
 // Contexts and what is held are dropped at each clearing.
-fn clears<A: Abort + AllocGlobal, R: Retire, S: Pick>(
-    rt: &A,
-    policy: R,
-    pick: S,
-) -> Result<(), Fail> {
+#[test]
+fn cleared(rt: HostRuntime) -> Result<(), Fail> {
+    let alloc = rt.alloc();
     let source = "m where m is current x; end where x = 0 fby x + 1; end";
     let setup = Setup::of(source, &[]);
-    let mut engine = OverFiles::make(rt.alloc(), &setup, policy, pick)?;
+    let mut engine = OverFiles::make(alloc, &setup, Keep, Newest)?;
     for _ in 0..3 {
-        is_as_new(rt, &mut engine)?;
+        is_as_new(&rt, &mut engine)?;
         engine.clear();
     }
     Ok(())
-}
-
-#[test]
-fn cleared(rt: HostRuntime) -> Result<(), Fail> {
-    clears(&rt, Keep, Newest)
 }
