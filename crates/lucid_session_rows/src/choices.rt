@@ -1,10 +1,11 @@
 //! Whatever drops values and whatever is picked, a run writes the same lines. Each row is worked out by hand.
-use crate::program_run::Setup;
-use lucid_ports::{MemorySink, Options};
+use crate::program_run::run_of;
+use lucid_ports::{MemorySink, Options, Summary};
 use lucid_retire::{Keep, Last, Nothing, Retire, Scrap, Scripted};
 use lucid_schedule::{Listed, Newest, Oldest, Pick};
 use lucid_store::Key;
 use lucid_tags::Tags;
+use lucid_trials::Setup;
 use std::alloc::{AllocError, Global};
 use std::process::Abort;
 use std::test::Fail;
@@ -71,6 +72,24 @@ static ROWS: [Row; 7] = [
     },
 ];
 
+// The summary of the row's run by a policy and a pick.
+fn summary_of<R: Retire, S: Pick>(
+    alloc: Global,
+    row: Row,
+    out: &mut MemorySink,
+    policy: R,
+    pick: S,
+) -> Result<Summary, Fail> {
+    // The input of a row's program, where it has one, is named so.
+    let files = [("a", row.input), ("sale", row.input)];
+    let setup = Setup::of(row.source, &files);
+    let options = Options {
+        count: 5,
+        depth: 100,
+    };
+    Ok(run_of(alloc, &setup, &options, out, policy, pick)??)
+}
+
 // The run by a policy and a pick writes the row's lines.
 fn passes_by<A: Abort + AllocGlobal, R: Retire, S: Pick>(
     rt: &A,
@@ -80,16 +99,8 @@ fn passes_by<A: Abort + AllocGlobal, R: Retire, S: Pick>(
 ) -> Result<(), Fail> {
     let alloc = rt.alloc();
     let source = row.source;
-    let setup = Setup {
-        source,
-        input: row.input,
-    };
-    let options = Options {
-        count: 5,
-        depth: 100,
-    };
     let mut out = MemorySink::make(alloc, 100, Vec::new(alloc));
-    let summary = setup.run(alloc, &options, &mut out, policy, pick)??;
+    let summary = summary_of(alloc, row, &mut out, policy, pick)?;
     assert_eq!(rt; out.written(), row.lines.as_bytes(), "{source}");
     assert_eq!(rt; summary.ended, row.ended, "{source}");
     Ok(())

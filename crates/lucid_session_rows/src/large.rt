@@ -1,8 +1,9 @@
 //! Long runs: what is held of one that forgets by age, and one whose contexts are cleared.
-use crate::program_run::Setup;
+use crate::program_run::run_of;
 use lucid_ports::{MemorySink, Options, RunFault, Summary};
 use lucid_retire::{Ages, Keep};
 use lucid_schedule::Newest;
+use lucid_trials::Setup;
 use std::alloc::{AllocError, Global};
 use std::test::Fail;
 
@@ -19,16 +20,14 @@ fn numbers_below(alloc: Global, count: u32) -> Result<String, AllocError> {
 #[test]
 fn a_store_that_forgets_by_age(rt: HostRuntime) -> Result<(), Fail> {
     let alloc = rt.alloc();
-    let setup = Setup {
-        source: "x where x = 0 fby x + 1; end",
-        input: "",
-    };
+    let setup = Setup::of("x where x = 0 fby x + 1; end", &[]);
     let options = Options {
         count: 10_000,
         depth: 100,
     };
     let mut out = MemorySink::make(alloc, 100, Vec::new(alloc));
-    let answer = setup.run(alloc, &options, &mut out, Ages::make(1_000, 1), Newest)?;
+    let policy = Ages::make(1_000, 1);
+    let answer = run_of(alloc, &setup, &options, &mut out, policy, Newest)?;
     let summary = answer?;
     assert!(rt; out.written() == numbers_below(alloc, 10_000)?.as_bytes());
     assert_eq!(rt; summary.lines, 10_000);
@@ -37,10 +36,8 @@ fn a_store_that_forgets_by_age(rt: HostRuntime) -> Result<(), Fail> {
 }
 
 // Each line enters two contexts. With the empty one 1,000,001 are known after line 500,000, and all is cleared.
-const CLEARED: Setup = Setup {
-    source: "m where m is current n; end where n is current k; end where k = 0 fby k + 1; end",
-    input: "",
-};
+const CLEARED: &str =
+    "m where m is current n; end where n is current k; end where k = 0 fby k + 1; end";
 
 // After the clearing `k` has to be evaluated from time 0 on, 500,000 references deep.
 #[test]
@@ -51,7 +48,8 @@ fn a_run_that_is_cleared(rt: HostRuntime) -> Result<(), Fail> {
         depth: 1_000_000,
     };
     let mut out = MemorySink::make(alloc, 100, Vec::new(alloc));
-    let answer = CLEARED.run(alloc, &options, &mut out, Keep, Newest)?;
+    let setup = Setup::of(CLEARED, &[]);
+    let answer = run_of(alloc, &setup, &options, &mut out, Keep, Newest)?;
     assert_eq!(rt;
         answer,
         Ok(Summary {
@@ -74,7 +72,8 @@ fn too_deep_after_a_clearing(rt: HostRuntime) -> Result<(), Fail> {
         depth: 100_000,
     };
     let mut out = MemorySink::make(alloc, 100, Vec::new(alloc));
-    let answer = CLEARED.run(alloc, &options, &mut out, Keep, Newest)?;
+    let setup = Setup::of(CLEARED, &[]);
+    let answer = run_of(alloc, &setup, &options, &mut out, Keep, Newest)?;
     assert_eq!(rt;
         answer,
         Err(RunFault::TooDeep {

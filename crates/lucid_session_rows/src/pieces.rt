@@ -2,10 +2,11 @@
 ghost use Rattle.std.specs.Prelude.{Some};
 ghost use Rattle.lucid_ports.specs.Sink.{sink_bytes, sink_faults};
 
-use crate::program_run::Setup;
+use crate::program_run::run_of;
 use lucid_ports::{MemorySink, Options, PortFault, RunFault, Sink, Summary};
 use lucid_retire::Keep;
 use lucid_schedule::Newest;
+use lucid_trials::Setup;
 use std::alloc::Global;
 use std::process::Abort;
 use std::test::Fail;
@@ -30,10 +31,7 @@ impl Sink for Pieces {
 }
 
 // The growing list has lines of different lengths.
-const GROWING: Setup = Setup {
-    source: "x where x = [] fby i :: x; i = 0 fby i + 1; end",
-    input: "",
-};
+const GROWING: &str = "x where x = [] fby i :: x; i = 0 fby i + 1; end";
 
 static LINES: [&str; 4] = ["[% %]\n", "[% 0 %]\n", "[% 1 0 %]\n", "[% 2 1 0 %]\n"];
 
@@ -51,7 +49,8 @@ fn four_lines(
         sink: MemorySink::make(alloc, 100, Vec::from_slice(alloc, failures)?),
         pieces: Vec::new(alloc),
     };
-    let answer = GROWING.run(alloc, &options, &mut out, Keep, Newest)?;
+    let setup = Setup::of(GROWING, &[]);
+    let answer = run_of(alloc, &setup, &options, &mut out, Keep, Newest)?;
     Ok((answer, out))
 }
 
