@@ -1,6 +1,6 @@
 -- What asking for a part does to the rows and to what they can still cost.
-use Rattle.std.proofs.Common.{◌≡◌, ℕ, suc, ◌<◌, ◌⊎◌, List, [], Option, Some, None, refl, sym, ◌∙◌, subst, arith}
-use Rattle.std.specs.Prelude.{IsSome, option_map, Result, Ok, Err, OnOk, ⊤}
+use Rattle.std.proofs.Common.{◌≡◌, ℕ, suc, ◌<◌, ◌⊎◌, List, [], length, Option, Some, None, refl, sym, ◌∙◌, subst, arith}
+use Rattle.std.specs.Prelude.{IsSome, option_map, Result, Ok, Err, OnOk}
 use Rattle.std.specs.Result.{IsErrAnd}
 use Rattle.lucid_value.specs.declared.Value.{Value}
 use Rattle.lucid_value.specs.View.{plain}
@@ -16,7 +16,7 @@ use Rattle.lucid_ports.specs.World.{World}
 use Rattle.lucid_equations.specs.Rows.{equations_of}
 use Rattle.lucid_equations.specs.declared.table.Table.{Table}
 use Rattle.lucid_facts.specs.Tasks.{PlainRow, plain_task, plain_row}
-use Rattle.lucid_facts.specs.Parts.{IsPart, passed, passed_contexts}
+use Rattle.lucid_facts.specs.Parts.{rank, IsPart, passed, passed_contexts}
 use Rattle.lucid_facts.specs.Held.{HoldsRight}
 use Rattle.lucid_facts.specs.Engine.{EngineView, holding, MayHave}
 use Rattle.lucid_facts.specs.Demands.{Demand, table_of, stays, Answers}
@@ -32,9 +32,10 @@ use Rattle.lucid_facts.proofs.Asking.{asked_is_right}
 use Rattle.lucid_facts.proofs.Acting.{cost_of, cost_as_tags_grow, GoesDown, asks_goes_down, gives_goes_down}
 use Rattle.lucid_demand.specs.Evaluating.{Evaluating, cost}
 use Rattle.lucid_demand.specs.Acting.{DemandIn}
-use Rattle.lucid_demand.specs.Asking.{CanAsk, SetsPart, AsksIn}
+use Rattle.lucid_demand.specs.Asking.{CanAsk, SetsPart, HoldsNothing, AsksIn, MayAskAs}
 use Rattle.lucid_demand.specs.Searching.{MayAskNow}
 use Rattle.lucid_demand.proofs.SettledRows.{changed_row}
+use Rattle.lucid_demand.proofs.GrownTags.{nothing_grown}
 use Rattle.lucid_demand.proofs.PassedParts.{Passing, last_stands, last_is_right, row_ranks, asks_last, waits_passed}
 
 -- what stays held is right
@@ -116,6 +117,25 @@ module _ (d : Demand) (e : Evaluating) (w : World) (part : Part) (x : Task) (m :
         down : GoesDown d later w e.rows new
         down = gives_goes_down d later w e.rows new asking_waits part r v at may.free may.few (row_ranks d e.engine w e.rows row x passing) answers changes
 
+    -- or it may be asked for by the last task.
+    pub passed_may_be_asked : (y : Task) → plain_task known y ≡ passed (table_of d) (plain_task e.engine.known x) → IsKnown known y.tag → HoldsNothing d later
+        → MayAskAs d (record { engine = later; rows = e.rows }) w part y
+    passed_may_be_asked y is tag nothing = record {
+      demand = m.demand;
+      waits = asking_waits;
+      nothing = nothing;
+      row = r;
+      there = at;
+      free = may.free;
+      few = may.few;
+      ranks = subst (λ (q : PlainRow). 0 < rank (table_of d) q.task) (sym same_row) (row_ranks d e.engine w e.rows row x passing);
+      asks = subst (λ z. AsksFor (table_of d) z part.index (plain_task known y)) (sym same_row)
+          (subst (λ z. AsksFor (table_of d) row part.index z) (sym is) (asks_last d e.engine w e.rows row x passing part.index is_part));
+      right = λ b z. subst (λ q. PartIsRight d b q (plain_task known y)) (sym same_row)
+          (subst (λ q. PartIsRight d b row q) (sym is) (last_is_right d e.engine w e.rows row x passing b z));
+      tag = tag;
+    }
+
 -- The row that asks has that part set, and no other.
 pub sets_asked : (old new : List (Option TaskRow)) (part : Part) (slot : ℕ) (y : Task) → IsSome (row_at old part.slot) → rows.IsPast old slot → rows.Asks old new part slot y
     → row_at new part.slot ≡ option_map (rows.with_part part.index (Asked slot)) (row_at old part.slot)
@@ -128,6 +148,11 @@ sets_asked old new part slot y there past changes =
 pub no_ok : {A E : Type 0} (r : Result A E) (Q : E → Type 0) (P : Type 0) → IsErrAnd r Q → OnOk r P
 no_ok (Ok v) Q P h = absurd h
 no_ok (Err e) Q P h = tt
+
+-- what follows from what is so where nothing is refused
+pub on_ok : {A E : Type 0} (r : Result A E) (P Q : Type 0) → (P → Q) → OnOk r P → OnOk r Q
+on_ok (Ok v) P Q f p = f p
+on_ok (Err e) P Q f p = tt
 
 -- the row that is there
 pub row_there : (o : Option TaskRow) → IsSome o → (r : TaskRow) × (o ≡ Some r)
@@ -148,9 +173,9 @@ module _ (o old : Evaluating) (view : o ≡ old) (part : Part) (x : Task) (can :
   abbrev after : List (Option TaskRow) → Evaluating
   after rs = record { engine = record o.engine { known = known }; rows = rs }
 
-  over : (rs : List (Option TaskRow)) (E : Type 0) (result : Result ⊤ E) → ((i : DemandIn) → MayAskNow i.demand o i.world part x → AsksIn i.demand o (after rs) i.world result)
+  over : (rs : List (Option TaskRow)) (A E : Type 0) (result : Result A E) → ((i : DemandIn) → MayAskNow i.demand o i.world part x → AsksIn i.demand o (after rs) i.world result)
       → (i : DemandIn) → MayAskNow i.demand old i.world part x → AsksIn i.demand old (after rs) i.world result
-  over rs E result f = subst (λ z. (i : DemandIn) → MayAskNow i.demand z i.world part x → AsksIn i.demand z (after rs) i.world result) view f
+  over rs A E result f = subst (λ z. (i : DemandIn) → MayAskNow i.demand z i.world part x → AsksIn i.demand z (after rs) i.world result) view f
 
   module _ (i : DemandIn) (m : MayAskNow i.demand o i.world part x) where
     same_table : o.engine.table ≡ table_of i.demand
@@ -165,37 +190,80 @@ module _ (o old : Evaluating) (view : o ≡ old) (part : Part) (x : Task) (can :
     last_in_demand : (y : Task) → plain_task known y ≡ passed o.engine.table (plain_task o.engine.known x) → plain_task known y ≡ passed (table_of i.demand) (plain_task o.engine.known x)
     last_in_demand y = subst (λ T. plain_task known y ≡ passed T (plain_task o.engine.known x)) same_table
 
-    refused_in : (rs : List (Option TaskRow)) (E : Type 0) (result : Result ⊤ E) (Q : E → Type 0) → IsErrAnd result Q → AsksIn i.demand o (after rs) i.world result
-    refused_in rs E result Q err = record { owns = (asking_waits i.demand o i.world part x m there.0 there.1 known way.keeps contexts entered).going.owns; goes_on = no_ok result Q _ err }
+    refused_in : (rs : List (Option TaskRow)) (A E : Type 0) (result : Result A E) (Q : E → Type 0) → IsErrAnd result Q → AsksIn i.demand o (after rs) i.world result
+    refused_in rs A E result Q err = record {
+      owns = (asking_waits i.demand o i.world part x m there.0 there.1 known way.keeps contexts entered).going.owns;
+      goes_on = no_ok result Q _ err;
+      nothing = no_ok result Q _ err;
+    }
 
-    asked_in : (E : Type 0) (rs : List (Option TaskRow)) (slot : ℕ) (y : Task) → plain_task known y ≡ passed o.engine.table (plain_task o.engine.known x) → IsKnown known y.tag
-        → rows.IsPast o.rows slot → rows.Asks o.rows rs part slot y → AsksIn {E = E} i.demand o (after rs) i.world (Ok tt)
-    asked_in E rs slot y is tag past changes =
+    nothing_here : HoldsNothing i.demand o.engine → HoldsNothing i.demand (record o.engine { known = known })
+    nothing_here = nothing_grown i.demand o.engine known way.keeps m.waits.going.owns.keys
+
+    asked_in : (A E : Type 0) (a : A) (rs : List (Option TaskRow)) (slot : ℕ) (y : Task) → plain_task known y ≡ passed o.engine.table (plain_task o.engine.known x) → IsKnown known y.tag
+        → rows.IsPast o.rows slot → rows.Asks o.rows rs part slot y → AsksIn {A = A} {E = E} i.demand o (after rs) i.world (Ok a)
+    asked_in A E a rs slot y is tag past changes =
         let p = part_is_asked i.demand o i.world part x m there.0 there.1 known way.keeps contexts entered rs slot y (last_in_demand y is) tag past changes in
-        record { owns = p.0.going.owns; goes_on = p }
+        record { owns = p.0.going.owns; goes_on = p; nothing = nothing_here }
 
-    given_in : (E : Type 0) (rs : List (Option TaskRow)) (y : Task) (v : Value) → plain_task known y ≡ passed o.engine.table (plain_task o.engine.known x)
-        → IsConstant o.engine.table (plain_task known y) (plain v) → rows.ChangesOnly o.rows rs part.slot (rows.with_part part.index (Got v)) → AsksIn {E = E} i.demand o (after rs) i.world (Ok tt)
-    given_in E rs y v is constant changes =
+    given_in : (A E : Type 0) (a : A) (rs : List (Option TaskRow)) (y : Task) (v : Value) → plain_task known y ≡ passed o.engine.table (plain_task o.engine.known x)
+        → IsConstant o.engine.table (plain_task known y) (plain v) → rows.ChangesOnly o.rows rs part.slot (rows.with_part part.index (Got v)) → AsksIn {A = A} {E = E} i.demand o (after rs) i.world (Ok a)
+    given_in A E a rs y v is constant changes =
         let p = part_is_given i.demand o i.world part x m there.0 there.1 known way.keeps contexts entered rs y v (last_in_demand y is)
         (subst (λ T. IsConstant T (plain_task known y) (plain v)) same_table constant) changes in
-        record { owns = p.0.going.owns; goes_on = p }
+        record { owns = p.0.going.owns; goes_on = p; nothing = nothing_here }
+
+    -- Or it may be asked for by the last task, and that is asked for.
+    last_may_be_asked : (y : Task) → plain_task known y ≡ passed o.engine.table (plain_task o.engine.known x) → IsKnown known y.tag → HoldsNothing i.demand o.engine
+        → MayAskAs i.demand (after o.rows) i.world part y
+    last_may_be_asked y is tag nothing = passed_may_be_asked i.demand o i.world part x m there.0 there.1 known way.keeps contexts entered y (last_in_demand y is) tag (nothing_here nothing)
+
+    referred_in : {A E : Type 0} (result : Result A E) (rs : Evaluating) (y : Task) → plain_task known y ≡ passed o.engine.table (plain_task o.engine.known x) → IsKnown known y.tag
+        → (MayAskAs i.demand (after o.rows) i.world part y → AsksIn i.demand (after o.rows) rs i.world result) → AsksIn i.demand o rs i.world result
+    referred_in result rs y is tag asks =
+        let p = asks (last_may_be_asked y is tag m.nothing) in
+        let same : cost i.demand (after o.rows) ≡ cost i.demand o = cost_as_tags_grow i.demand o.engine.known known o.rows way.keeps m.waits.known in
+        record {
+          owns = p.owns;
+          goes_on = on_ok result _ _ (λ w. (w.0, subst (λ n. cost i.demand rs < n) same w.1)) p.goes_on;
+          nothing = on_ok result _ _ (λ f h. f (nothing_here h)) p.nothing;
+        }
 
   -- It is refused for want of memory,
-  pub ask_refused : (rs : List (Option TaskRow)) (E : Type 0) (result : Result ⊤ E) (Q : E → Type 0) → IsErrAnd result Q
+  pub ask_refused : (rs : List (Option TaskRow)) (A E : Type 0) (result : Result A E) (Q : E → Type 0) → IsErrAnd result Q
       → (i : DemandIn) → MayAskNow i.demand old i.world part x → AsksIn i.demand old (after rs) i.world result
-  ask_refused rs E result Q err = over rs E result (λ i m. refused_in i m rs E result Q err)
+  ask_refused rs A E result Q err = over rs A E result (λ i m. refused_in i m rs A E result Q err)
 
   -- a row is asked for it,
-  pub ask_asked : (E : Type 0) (rs : List (Option TaskRow)) (slot : ℕ) (y : Task) → plain_task known y ≡ passed o.engine.table (plain_task o.engine.known x) → IsKnown known y.tag
-      → rows.IsPast o.rows slot → rows.Asks o.rows rs part slot y → (i : DemandIn) → MayAskNow i.demand old i.world part x → AsksIn {E = E} i.demand old (after rs) i.world (Ok tt)
-  ask_asked E rs slot y is tag past changes = over rs E (Ok tt) (λ i m. asked_in i m E rs slot y is tag past changes)
+  pub ask_asked : (A E : Type 0) (a : A) (rs : List (Option TaskRow)) (slot : ℕ) (y : Task) → plain_task known y ≡ passed o.engine.table (plain_task o.engine.known x) → IsKnown known y.tag
+      → rows.IsPast o.rows slot → rows.Asks o.rows rs part slot y → (i : DemandIn) → MayAskNow i.demand old i.world part x → AsksIn {A = A} {E = E} i.demand old (after rs) i.world (Ok a)
+  ask_asked A E a rs slot y is tag past changes = over rs A E (Ok a) (λ i m. asked_in i m A E a rs slot y is tag past changes)
 
   -- or it has the constant that is left of it.
-  pub ask_given : (E : Type 0) (rs : List (Option TaskRow)) (y : Task) (v : Value) → plain_task known y ≡ passed o.engine.table (plain_task o.engine.known x)
+  pub ask_given : (A E : Type 0) (a : A) (rs : List (Option TaskRow)) (y : Task) (v : Value) → plain_task known y ≡ passed o.engine.table (plain_task o.engine.known x)
       → IsConstant o.engine.table (plain_task known y) (plain v) → rows.ChangesOnly o.rows rs part.slot (rows.with_part part.index (Got v))
-      → (i : DemandIn) → MayAskNow i.demand old i.world part x → AsksIn {E = E} i.demand old (after rs) i.world (Ok tt)
-  ask_given E rs y v is constant changes = over rs E (Ok tt) (λ i m. given_in i m E rs y v is constant changes)
+      → (i : DemandIn) → MayAskNow i.demand old i.world part x → AsksIn {A = A} {E = E} i.demand old (after rs) i.world (Ok a)
+  ask_given A E a rs y v is constant changes = over rs A E (Ok a) (λ i m. given_in i m A E a rs y v is constant changes)
+
+  -- Or a reference that is left of it is asked for.
+  pub ask_referred : {A E : Type 0} (result : Result A E) (new : Evaluating) (y : Task) → plain_task known y ≡ passed o.engine.table (plain_task o.engine.known x) → IsKnown known y.tag
+      → ((i : DemandIn) → MayAskAs i.demand (after o.rows) i.world part y → AsksIn i.demand (after o.rows) new i.world result)
+      → (i : DemandIn) → MayAskNow i.demand old i.world part x → AsksIn i.demand old new i.world result
+  ask_referred result new y is tag asks = subst (λ z. (i : DemandIn) → MayAskNow i.demand z i.world part x → AsksIn i.demand z new i.world result) view
+      (λ i m. referred_in i m result new y is tag (asks i))
+
+  pub can_ask_last : (y : Task) → y.node < length o.engine.table.nodes → IsKnown known y.tag → CanAsk (after o.rows) part y
+  can_ask_last y there tag =
+      let here : CanAsk o part x = subst (λ z. CanAsk z part x) (sym view) can in
+      record { row = here.row; index = here.index; idle = here.idle; there = there; known = tag }
+
+  pub referred_set : (new : Evaluating) → SetsPart (after o.rows) new part → SetsPart old new part
+  referred_set new sets = subst (λ z. SetsPart z new part) view (record {
+    state = sets.state;
+    row = sets.row;
+    only = sets.only;
+    keeps = record { known = λ tag k. sets.keeps.known tag (way.keeps.known tag k); same = λ tag k. sets.keeps.same tag (way.keeps.known tag k) ∙ way.keeps.same tag k };
+  })
 
   -- The part alone is set of the row.
   pub asks_set : (rs : List (Option TaskRow)) (slot : ℕ) (y : Task) → rows.IsPast o.rows slot → rows.Asks o.rows rs part slot y → SetsPart old (after rs) part

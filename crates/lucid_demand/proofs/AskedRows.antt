@@ -2,7 +2,7 @@
 use Rattle.std.proofs.lemmas.Bool.{cases_lt}
 use Rattle.std.proofs.Common.{◌≡◌, ℕ, zero, suc, ◌+◌, ◌<◌, ◌≤◌, ◌⊎◌, inl, inr, List, [], ◌∷◌, length, Option, Some, None, true, false, refl, sym, ap, ◌∙◌, subst, arith, le_refl}
 use Rattle.std.specs.Borrow.{Bor}
-use Rattle.std.specs.Prelude.{is_some, option_copied, IsSome, IsTrue, Result, Ok, Err, ⊤, slice_get, slice_index_or, option_map, option_and_then}
+use Rattle.std.specs.Prelude.{is_some, option_copied, IsSome, IsTrue, Result, Ok, Err, OnOk, slice_get, slice_index_or, option_map, option_and_then}
 use Rattle.std.specs.List.{list_all}
 use Rattle.lucid_value.specs.declared.Value.{Value}
 use Rattle.lucid_ops.specs.declared.op.Op.{Op}
@@ -26,7 +26,7 @@ use Rattle.lucid_facts.proofs.Seeing.{plain_at}
 use Rattle.lucid_facts.proofs.Coming.{arguments_may_be_asked}
 use Rattle.lucid_demand.specs.Evaluating.{Evaluating, Stepped, cost}
 use Rattle.lucid_demand.specs.Acting.{DemandIn, MayAct}
-use Rattle.lucid_demand.specs.Asking.{CanAsk, CanAskAll, SetsPart, AsksIn}
+use Rattle.lucid_demand.specs.Asking.{CanAsk, CanAskAll, SetsPart, HoldsNothing, AsksIn}
 use Rattle.lucid_demand.specs.Searching.{MayAskNow}
 use Rattle.lucid_demand.specs.declared.decide.Decision.TheVariants as decision
 use Rattle.lucid_demand.specs.declared.fault.DemandFault.{DemandFault}
@@ -60,6 +60,7 @@ plain_idle_state (Got v) e = absurd (cc)
 -- In a demand the rows wait on, and some part was asked or given, or nothing was done and no part before this one is idle.
 pub record AskedIn (d : Demand) (old now : Evaluating) (w : World) (first : TaskRow) (index : ℕ) : Type 0 where
   pub waits : Waits d now.engine w now.rows
+  pub nothing : HoldsNothing d now.engine
   pub some : (cost d now < cost d old) ⊎ ((now ≡ old) × ((i : ℕ) → i < index → rows.state_at i first ≡ Idle → ⊥))
 
 -- The parts before this one were asked, given or had; from it on they are as they were.
@@ -71,7 +72,7 @@ pub record AskedBelow (old now : Evaluating) (slot : ℕ) (op : Op) (args : List
   pub is_task : first.task ≡ task
   pub same_task : row.task ≡ first.task
   pub rest : (i : ℕ) → index ≤ i → rows.state_at i row ≡ rows.state_at i first
-  pub only : now.engine ≡ record old.engine { known = now.engine.known }
+  pub only : now.engine ≡ record old.engine { known = now.engine.known; stored = now.engine.stored }
   pub keeps : KeepsKnown old.engine.known now.engine.known
   pub in_demand : (i : DemandIn) → MayAct i.demand old i.world slot (decision.AskAll op args) → AskedIn i.demand old now i.world first index
 
@@ -88,7 +89,7 @@ asks_begin old slot op args task ready told = record {
   rest = λ i l. refl;
   only = refl;
   keeps = record { known = λ tag k. k; same = λ tag k. refl };
-  in_demand = λ i act. record { waits = act.step.waits; some = inr (refl, λ k l e. absurd (omega (arith, l))) };
+  in_demand = λ i act. record { waits = act.step.waits; nothing = act.step.emptied.nothing; some = inr (refl, λ k l e. absurd (omega (arith, l))) };
 }
   where
     its : (r : TaskRow) × (row_at old.rows slot ≡ Some r)
@@ -131,7 +132,7 @@ module _ (old now : Evaluating) (slot : ℕ) (op : Op) (args : List ℕ) (task :
           by (inr le) = let same : i ≡ index = omega (arith, l, le) in not_idle (subst (λ k. rows.state_at k b.first ≡ Idle) same e)
 
       on : (i : DemandIn) → MayAct i.demand old i.world slot (decision.AskAll op args) → AskedIn i.demand old now i.world b.first index → AskedIn i.demand old now i.world b.first (index + 1)
-      on i act a = record { waits = a.waits; some = elim a.some [ inl less ↦ inl less | inr same ↦ inr (same.0, below same.1) ] }
+      on i act a = record { waits = a.waits; nothing = a.nothing; some = elim a.some [ inl less ↦ inl less | inr same ↦ inr (same.0, below same.1) ] }
 
   -- A part that has no value is idle, and may be asked.
   module _ (none : got_of now.rows (record { slot = slot; index = index }) ≡ None) where
@@ -167,6 +168,7 @@ module _ (old now : Evaluating) (slot : ℕ) (op : Op) (args : List ℕ) (task :
       may_ask_argument = record {
         demand = act.step.demand;
         waits = (b.in_demand i act).waits;
+        nothing = (b.in_demand i act).nothing;
         justified = λ r at. subst (λ (q : TaskRow). MayAsk (table_of i.demand) (plain_row now.engine.known q) index
             × IsPart (table_of i.demand) (plain_row now.engine.known q) index (plain_task now.engine.known (record task { node = n })) × IsKnown now.engine.known task.tag) (its_row r at) (
               arguments_may_be_asked (table_of i.demand) (plain_row now.engine.known b.row) op (arity op) (operator_node (table_of i.demand) b.row.task.node op args act.step.demand.in_range operator).0 index
@@ -179,9 +181,10 @@ module _ (old now : Evaluating) (slot : ℕ) (op : Op) (args : List ℕ) (task :
 
     -- The part was asked or given: the next may be.
     pub part_is_next : (new : Evaluating) (n : ℕ) → SetsPart now new (record { slot = slot; index = index }) → index < arity op → arity op ≤ 3 → slice_get args index ≡ Some n
-        → ((i : DemandIn) → MayAskNow i.demand now i.world (record { slot = slot; index = index }) (record task { node = n })
-        → Waits i.demand new.engine i.world new.rows × (cost i.demand new < cost i.demand now)) → AskedBelow old new slot op args task (index + 1)
-    part_is_next new n sets low few arg goes = record {
+        → {A E : Type 0} (result : Result A E) (a : A) → result ≡ Ok a
+        → ((i : DemandIn) → MayAskNow i.demand now i.world (record { slot = slot; index = index }) (record task { node = n }) → AsksIn i.demand now new i.world result)
+        → AskedBelow old new slot op args task (index + 1)
+    part_is_next new n sets low few arg {A = A} {E = E} result a ok goes = record {
       row = rows.with_part index sets.state b.row;
       there = sets.row ∙ ap (option_map (rows.with_part index sets.state)) b.there;
       first = b.first;
@@ -189,21 +192,24 @@ module _ (old now : Evaluating) (slot : ℕ) (op : Op) (args : List ℕ) (task :
       is_task = b.is_task;
       same_task = b.same_task;
       rest = λ i l. other_part b.row.parts index i sets.state (λ e. absurd (omega (arith, e, l))) ∙ b.rest i (omega (arith, l));
-      only = sets.only ∙ ap (λ (e : EngineView). record e { known = new.engine.known }) b.only;
+      only = sets.only ∙ ap (λ (e : EngineView). record e { known = new.engine.known; stored = new.engine.stored }) b.only;
       keeps = record { known = λ tag k. sets.keeps.known tag (b.keeps.known tag k); same = λ tag k. sets.keeps.same tag (b.keeps.known tag k) ∙ b.keeps.same tag k };
       in_demand = λ i act. on i act (goes i (may_ask_argument n low few arg i act)) (b.in_demand i act);
     }
       where
-        on : (i : DemandIn) → MayAct i.demand old i.world slot (decision.AskAll op args) → Waits i.demand new.engine i.world new.rows × (cost i.demand new < cost i.demand now)
+        on : (i : DemandIn) → MayAct i.demand old i.world slot (decision.AskAll op args) → AsksIn i.demand now new i.world result
             → AskedIn i.demand old now i.world b.first index → AskedIn i.demand old new i.world b.first (index + 1)
-        on i act g a = record { waits = g.0; some = inl (less a.some) }
+        on i act g its = record { waits = went.0; nothing = subst (λ z. OnOk z (HoldsNothing i.demand now.engine → HoldsNothing i.demand new.engine)) ok g.nothing its.nothing; some = inl (less its.some) }
           where
+            went : Waits i.demand new.engine i.world new.rows × (cost i.demand new < cost i.demand now)
+            went = subst (λ z. OnOk z (Waits i.demand new.engine i.world new.rows × (cost i.demand new < cost i.demand now))) ok g.goes_on
+
             less : (cost i.demand now < cost i.demand old) ⊎ ((now ≡ old) × ((k : ℕ) → k < index → rows.state_at k b.first ≡ Idle → ⊥)) → cost i.demand new < cost i.demand old
-            less (inl l) = omega (arith, l, g.1)
-            less (inr same) = subst (λ e. cost i.demand new < cost i.demand e) same.0 g.1
+            less (inl l) = omega (arith, l, went.1)
+            less (inr same) = subst (λ e. cost i.demand new < cost i.demand e) same.0 went.1
 
     -- It is refused for want of memory.
-    pub asks_refused : (new : Evaluating) (n : ℕ) {E : Type 0} (result : Result ⊤ E) → index < arity op → arity op ≤ 3 → slice_get args index ≡ Some n
+    pub asks_refused : (new : Evaluating) (n : ℕ) {A E : Type 0} (result : Result A E) → index < arity op → arity op ≤ 3 → slice_get args index ≡ Some n
         → ((i : DemandIn) → MayAskNow i.demand now i.world (record { slot = slot; index = index }) (record task { node = n }) → AsksIn i.demand now new i.world result)
         → (res : Result (Option Value) DemandFault) → res ≡ Err NoMemory → (i : DemandIn) → MayAct i.demand old i.world slot (decision.AskAll op args) → Stepped i.demand old new i.world i.world res
     asks_refused new n result low few arg asks res is i act =

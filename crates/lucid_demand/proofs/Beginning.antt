@@ -98,5 +98,6 @@ noted_asks i e new slot index task owns only same act =
     (sym same) (record {
       demand = act.step.demand;
       waits = record { going = record { work = act.step.waits.going.work; owns = subst (λ z. Owns i.demand z i.world) only owns }; known = act.step.waits.known };
+      nothing = act.step.emptied.nothing;
       justified = act.justified;
     }))

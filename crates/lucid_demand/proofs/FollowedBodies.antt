@@ -1,7 +1,7 @@
 -- What a reference does that goes on with its body: it becomes the body's row, or asks for it.
-use Rattle.std.proofs.Common.{◌≡◌, ℕ, suc, ◌<◌, ◌⊎◌, List, Option, Some, None, refl, sym, ap, subst, arith}
-use Rattle.std.specs.Prelude.{Result, Ok, Err}
-use Rattle.lucid_value.specs.declared.Value.{Value}
+use Rattle.std.proofs.Common.{◌≡◌, ℕ, suc, ◌<◌, ◌⊎◌, List, Option, Some, None, refl, sym, ap, ◌∙◌, subst, arith}
+use Rattle.std.specs.Prelude.{Result, Ok}
+use Rattle.std.specs.Result.{IsErrAnd}
 use Rattle.lucid_tree.specs.Members.{In}
 use Rattle.lucid_tree.specs.Levels.{Elements}
 use Rattle.lucid_tags.specs.Contexts.{Context}
@@ -21,20 +21,18 @@ use Rattle.lucid_facts.specs.Demands.{Demand, table_of, stays}
 use Rattle.lucid_facts.specs.Rows.{PartIsRight}
 use Rattle.lucid_facts.specs.Decisions.{AsksFor, MayBecome}
 use Rattle.lucid_facts.specs.Going.{Waits}
+use Rattle.lucid_facts.proofs.Slots.{at_another}
 use Rattle.lucid_facts.proofs.Seeing.{rows_as_tags_grow, key_as_tags_grow}
 use Rattle.lucid_facts.proofs.NewRows.{body-is_right}
 use Rattle.lucid_facts.proofs.Acting.{cost_of, cost_as_tags_grow, GoesDown, asks_goes_down, becomes_goes_down}
-use Rattle.lucid_demand.specs.Evaluating.{Evaluating, Stepped, cost}
+use Rattle.lucid_demand.specs.Evaluating.{Evaluating, cost}
 use Rattle.lucid_demand.specs.Acting.{DemandIn}
-use Rattle.lucid_demand.specs.Asking.{CanFollow, MayFollow, body_task}
+use Rattle.lucid_demand.specs.Asking.{HoldsNothing, AsksIn, CanFollow, MayFollow, GoesOnWith, body_task}
 use Rattle.lucid_demand.specs.declared.aim.Aim.{Aim}
 use Rattle.lucid_demand.proofs.PassedParts.{Passing, last_stands, last_is_still, last_is_there, last_is_right, last_is_lower, asks_last, waits_passed}
-use Rattle.lucid_demand.specs.declared.fault.DemandFault.{DemandFault}
-use Rattle.lucid_demand.specs.declared.fault.DemandFault.TheVariants.{NoMemory}
-use Rattle.lucid_demand.proofs.AskedParts.{row_facts, EntersWay}
-use Rattle.lucid_demand.proofs.IdleRows.{plain_of_idle}
-use Rattle.lucid_demand.proofs.SettledRows.{refused}
-use Rattle.lucid_demand.proofs.GoneRows.{goes_on_step}
+use Rattle.lucid_demand.proofs.AskedParts.{row_facts, no_ok, EntersWay}
+use Rattle.lucid_demand.proofs.GrownTags.{nothing_grown}
+use Rattle.lucid_demand.proofs.IdleRows.{is_row_of_idle, plain_of_idle}
 
 -- a row that is a reference remembers no key
 pub no_key : (d : Demand) (now : EngineView) (w : World) (rs : List (Option TaskRow)) (slot : ℕ) (r : TaskRow) → Waits d now w rs → row_at rs slot ≡ Some r
@@ -138,10 +136,10 @@ module _ (o old : Evaluating) (view : o ≡ old) (slot : ℕ) (aim : Aim) (depth
   abbrev after : List (Option TaskRow) → Evaluating
   after rs = record { engine = record o.engine { known = known }; rows = rs }
 
-  over : (rs : List (Option TaskRow)) (result : Result (Option Value) DemandFault)
-      → ((i : DemandIn) → MayFollow i.demand o i.world slot aim depth → Stepped i.demand o (after rs) i.world i.world result)
-      → (i : DemandIn) → MayFollow i.demand old i.world slot aim depth → Stepped i.demand old (after rs) i.world i.world result
-  over rs result f = subst (λ z. (i : DemandIn) → MayFollow i.demand z i.world slot aim depth → Stepped i.demand z (after rs) i.world i.world result) view f
+  over : (rs : List (Option TaskRow)) {A E : Type 0} (result : Result A E)
+      → ((i : DemandIn) → MayFollow i.demand o i.world slot aim depth → AsksIn i.demand o (after rs) i.world result)
+      → (i : DemandIn) → MayFollow i.demand old i.world slot aim depth → AsksIn i.demand old (after rs) i.world result
+  over rs result f = subst (λ z. (i : DemandIn) → MayFollow i.demand z i.world slot aim depth → AsksIn i.demand z (after rs) i.world result) view f
 
   can_here : CanFollow o slot aim
   can_here = subst (λ z. CanFollow z slot aim) (sym view) can
@@ -161,44 +159,69 @@ module _ (o old : Evaluating) (view : o ≡ old) (slot : ℕ) (aim : Aim) (depth
     idle_parts = plain_of_idle o.engine.known o.rows slot m.row can_here.idle m.there
         ((row_facts i.demand o.engine i.world o.rows slot m.row m.waits m.there (known_elements o.engine) (λ n j v e. e)).three)
 
-    refused_in : (rs : List (Option TaskRow)) → Stepped i.demand o (after rs) i.world i.world (Err NoMemory)
-    refused_in rs = refused i.demand o (after rs) i.world i.world
-        ((following_waits i.demand o i.world slot aim depth m idle_parts can_here.known can_here.key_known known way.keeps contexts entered).going.owns)
+    refused_in : (rs : List (Option TaskRow)) {A E : Type 0} (result : Result A E) (Q : E → Type 0) → IsErrAnd result Q → AsksIn i.demand o (after rs) i.world result
+    refused_in rs result Q err = record {
+      owns = (following_waits i.demand o i.world slot aim depth m idle_parts can_here.known can_here.key_known known way.keeps contexts entered).going.owns;
+      goes_on = no_ok result Q _ err;
+      nothing = no_ok result Q _ err;
+    }
+
+    nothing_here : HoldsNothing i.demand o.engine → HoldsNothing i.demand (record o.engine { known = known })
+    nothing_here = nothing_grown i.demand o.engine known way.keeps m.waits.going.owns.keys
 
     last_in_demand : (y : Task) → plain_task known y ≡ passed o.engine.table (plain_task o.engine.known x)
         → plain_task known y ≡ passed (table_of i.demand) (plain_task o.engine.known (body_task aim depth))
     last_in_demand y is = subst (λ T. plain_task known y ≡ passed T (plain_task o.engine.known (body_task aim depth))) same_table
         (subst (λ z. plain_task known y ≡ passed o.engine.table (plain_task o.engine.known z)) is_body is)
 
-    asked_in : (rs : List (Option TaskRow)) (child : ℕ) (y : Task) → plain_task known y ≡ passed o.engine.table (plain_task o.engine.known x) → IsKnown known y.tag
-        → rows.IsPast o.rows child → rows.Asks o.rows rs (record { slot = slot; index = 0 }) child y → Stepped i.demand o (after rs) i.world i.world (Ok None)
-    asked_in rs child y is tag past changes =
+    asked_in : {A E : Type 0} (a : A) (rs : List (Option TaskRow)) (child : ℕ) (y : Task) → plain_task known y ≡ passed o.engine.table (plain_task o.engine.known x) → IsKnown known y.tag
+        → rows.IsPast o.rows child → rows.Asks o.rows rs (record { slot = slot; index = 0 }) child y → AsksIn {A = A} {E = E} i.demand o (after rs) i.world (Ok a)
+    asked_in a rs child y is tag past changes =
         let p = body_is_asked i.demand o i.world slot aim depth m idle_parts can_here.known can_here.key_known known way.keeps contexts entered y (last_in_demand y is) tag rs child past changes in
-        goes_on_step i.demand o (after rs) i.world p.0 p.1
+        record { owns = p.0.going.owns; goes_on = p; nothing = nothing_here }
 
-    become_in : (rs : List (Option TaskRow)) (y : Task) → plain_task known y ≡ passed o.engine.table (plain_task o.engine.known x) → IsKnown known y.tag
-        → (IsReference (node_of o.engine.table (plain_task known y)) → ⊥) → rows.ChangesOnly o.rows rs slot (rows.becoming y aim.key) → Stepped i.demand o (after rs) i.world i.world (Ok None)
-    become_in rs y is tag other changes =
+    become_in : {A E : Type 0} (a : A) (rs : List (Option TaskRow)) (y : Task) → plain_task known y ≡ passed o.engine.table (plain_task o.engine.known x) → IsKnown known y.tag
+        → (IsReference (node_of o.engine.table (plain_task known y)) → ⊥) → rows.ChangesOnly o.rows rs slot (rows.becoming y aim.key) → AsksIn {A = A} {E = E} i.demand o (after rs) i.world (Ok a)
+    become_in a rs y is tag other changes =
         let p = body_is_become i.demand o i.world slot aim depth m idle_parts can_here.known can_here.key_known known way.keeps contexts entered y (last_in_demand y is) tag rs
         (subst (λ T. IsReference (node_of T (plain_task known y)) → ⊥) same_table other) changes in
-        goes_on_step i.demand o (after rs) i.world p.0 p.1
+        record { owns = p.0.going.owns; goes_on = p; nothing = nothing_here }
 
   -- It is refused for want of memory,
-  pub follow_refused : (rs : List (Option TaskRow)) (result : Result (Option Value) DemandFault) → result ≡ Err NoMemory
-      → (i : DemandIn) → MayFollow i.demand old i.world slot aim depth → Stepped i.demand old (after rs) i.world i.world result
-  follow_refused rs result is = over rs result (λ i m. subst (λ r. Stepped i.demand o (after rs) i.world i.world r) (sym is) (refused_in i m rs))
+  pub follow_refused : (rs : List (Option TaskRow)) {A E : Type 0} (result : Result A E) (Q : E → Type 0) → IsErrAnd result Q
+      → (i : DemandIn) → MayFollow i.demand old i.world slot aim depth → AsksIn i.demand old (after rs) i.world result
+  follow_refused rs result Q err = over rs result (λ i m. refused_in i m rs result Q err)
 
   -- a row is asked for the body,
-  pub follow_asks : (rs : List (Option TaskRow)) (child : ℕ) (y : Task) → plain_task known y ≡ passed o.engine.table (plain_task o.engine.known x) → IsKnown known y.tag
+  pub follow_asks : {A E : Type 0} (a : A) (rs : List (Option TaskRow)) (child : ℕ) (y : Task) → plain_task known y ≡ passed o.engine.table (plain_task o.engine.known x) → IsKnown known y.tag
       → rows.IsPast o.rows child → rows.Asks o.rows rs (record { slot = slot; index = 0 }) child y
-      → (i : DemandIn) → MayFollow i.demand old i.world slot aim depth → Stepped i.demand old (after rs) i.world i.world (Ok None)
-  follow_asks rs child y is tag past changes = over rs (Ok None) (λ i m. asked_in i m rs child y is tag past changes)
+      → (i : DemandIn) → MayFollow i.demand old i.world slot aim depth → AsksIn {A = A} {E = E} i.demand old (after rs) i.world (Ok a)
+  follow_asks {A = A} {E = E} a rs child y is tag past changes = over rs {A = A} {E = E} (Ok a) (λ i m. asked_in i m a rs child y is tag past changes)
 
   -- or the row becomes the body's.
-  pub follow_becomes : (rs : List (Option TaskRow)) (y : Task) → plain_task known y ≡ passed o.engine.table (plain_task o.engine.known x) → IsKnown known y.tag
+  pub follow_becomes : {A E : Type 0} (a : A) (rs : List (Option TaskRow)) (y : Task) → plain_task known y ≡ passed o.engine.table (plain_task o.engine.known x) → IsKnown known y.tag
       → (IsReference (node_of o.engine.table (plain_task known y)) → ⊥) → rows.ChangesOnly o.rows rs slot (rows.becoming y aim.key)
-      → (i : DemandIn) → MayFollow i.demand old i.world slot aim depth → Stepped i.demand old (after rs) i.world i.world (Ok None)
-  follow_becomes rs y is tag other changes = over rs (Ok None) (λ i m. become_in i m rs y is tag other changes)
+      → (i : DemandIn) → MayFollow i.demand old i.world slot aim depth → AsksIn {A = A} {E = E} i.demand old (after rs) i.world (Ok a)
+  follow_becomes {A = A} {E = E} a rs y is tag other changes = over rs {A = A} {E = E} (Ok a) (λ i m. become_in i m a rs y is tag other changes)
+
+  -- No older row changes.
+  pub follow_asks_leaves : (rs : List (Option TaskRow)) (child : ℕ) (y : Task) → rows.IsPast o.rows child → rows.Asks o.rows rs (record { slot = slot; index = 0 }) child y
+      → GoesOnWith old (after rs) slot
+  follow_asks_leaves rs child y past changes = subst (λ z. GoesOnWith z (after rs) slot) view (record {
+    older = λ q l. changes q ∙ at_another q child _ _ (λ e. absurd (omega (arith, e, l, low))) ∙ at_another q slot _ _ (λ e. absurd (omega (arith, e, l)));
+    only = refl;
+    keeps = way.keeps;
+  })
+    where
+      low : slot < child
+      low = past slot (is_row_of_idle o.rows slot can_here.idle)
+
+  pub follow_becomes_leaves : (rs : List (Option TaskRow)) (y : Task) → rows.ChangesOnly o.rows rs slot (rows.becoming y aim.key) → GoesOnWith old (after rs) slot
+  follow_becomes_leaves rs y changes = subst (λ z. GoesOnWith z (after rs) slot) view (record {
+    older = λ q l. changes q ∙ at_another q slot _ _ (λ e. absurd (omega (arith, e, l)));
+    only = refl;
+    keeps = way.keeps;
+  })
 
 -- A node that is neither a name's reference nor a call is no reference.
 pub other_by : (T : Table) (n : Node) → ((name level : ℕ) → n ≡ node.Refer name level → ⊥) → ((name place level : ℕ) → n ≡ node.Call name place level → ⊥) → IsReference (node_by T n) → ⊥

@@ -15,10 +15,11 @@ use Rattle.lucid_equations.specs.Ranges.{IsInRange}
 use Rattle.lucid_facts.specs.Tasks.{PlainTask, plain_task, plain_rows}
 use Rattle.lucid_facts.specs.Parts.{passed_contexts}
 use Rattle.lucid_facts.specs.Stands.{task_visits}
-use Rattle.lucid_facts.specs.Held.{held_in}
+use Rattle.lucid_facts.specs.Held.{held_in, AreKeysKnown}
 use Rattle.lucid_facts.specs.Engine.{EngineView, known_elements, holding, MayHave}
 use Rattle.lucid_facts.specs.Demands.{Demand, table_of, IsSeen, IsEntered}
 use Rattle.lucid_facts.specs.Going.{Waits}
+use Rattle.lucid_demand.specs.Asking.{HoldsNothing}
 use Rattle.lucid_facts.proofs.HeldByKey.{held_as_tags_grow}
 use Rattle.lucid_facts.proofs.Passing.{passing-enters}
 use Rattle.lucid_facts.proofs.Owning.{owns_enters}
@@ -64,3 +65,8 @@ waits_grow d now w rs known keeps contexts enters waits = record {
   };
   known = rows_stay_known now.known known rs keeps waits.known;
 }
+
+-- where nothing is held, nothing is where more contexts are known
+pub nothing_grown : (d : Demand) (now : EngineView) (known : List Context) → KeepsKnown now.known known → AreKeysKnown now.known now.stored → HoldsNothing d now
+    → HoldsNothing d (record now { known = known })
+nothing_grown d now known keeps keys nothing = λ empties k s. (held_as_tags_grow now.known known now.stored keeps keys).1 k s ∙ nothing empties k s

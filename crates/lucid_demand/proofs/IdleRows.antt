@@ -1,12 +1,14 @@
 -- A row of which no part was asked or got: each part is idle, and the row is ready.
 use Rattle.std.proofs.Common.{◌≡◌, ℕ, zero, suc, true, List, [], ◌∷◌, length, Option, Some, None, refl, sym, ap, ◌∙◌}
-use Rattle.std.specs.Prelude.{IsTrue, map, option_map, slice_index_or}
+use Rattle.std.specs.Prelude.{IsTrue, IsSome, map, option_map, slice_index_or}
 use Rattle.std.specs.List.{list_all}
 use Rattle.lucid_tags.specs.Contexts.{Context}
 use Rattle.lucid_tasks.specs.declared.Part.{Part}
+use Rattle.lucid_tasks.specs.declared.Task.{Task}
 use Rattle.lucid_tasks.specs.Rows as rows
 use Rattle.lucid_tasks.specs.Rows.{TaskRow, Idle, Asked, Got, row_at, state_of, is_idle, is_ready, IsIdleRow}
 use Rattle.lucid_facts.specs.Tasks.{idle, asked, state_at, all_idle, plain_state, plain_row}
+use Rattle.lucid_facts.proofs.Slots.{at_it}
 use Rattle.lucid_facts.proofs.Idling.{all-are_idle}
 
 each_is_idle : (ps : List rows.PartState) (i : ℕ) → list_all is_idle ps ≡ true → slice_index_or ps i Idle ≡ Idle
@@ -67,6 +69,17 @@ idle_is_ready rs slot h = go (row_at rs slot) h
     go : (o : Option TaskRow) → option_map (λ row. list_all is_idle row.parts) o ≡ Some true → IsTrue (is_ready o)
     go None e = absurd (cc)
     go (Some r) e = let all : list_all is_idle r.parts ≡ true = cc in idle_is_free r.parts all
+
+pub is_row_of_idle : (rs : List (Option TaskRow)) (slot : ℕ) → IsIdleRow rs slot → IsSome (row_at rs slot)
+is_row_of_idle rs slot h = go (row_at rs slot) h
+  where
+    go : (o : Option TaskRow) → option_map (λ row. list_all is_idle row.parts) o ≡ Some true → IsSome o
+    go None e = absurd (cc)
+    go (Some r) e = refl
+
+-- A new row is such a row.
+pub fresh_is_idle : (old new : List (Option TaskRow)) (part : Part) (slot : ℕ) (x : Task) → rows.Asks old new part slot x → IsIdleRow new slot
+fresh_is_idle old new part slot x changes = ap (option_map (λ (row : TaskRow). list_all is_idle row.parts)) (changes slot ∙ at_it slot slot (Some (rows.fresh x (Some part))) _ refl)
 
 -- A row all of whose plain parts are idle is such a row.
 pub idle_of_plain : (known : List Context) (rs : List (Option TaskRow)) (slot : ℕ) (r : TaskRow) → row_at rs slot ≡ Some r → (plain_row known r).parts ≡ all_idle → IsIdleRow rs slot

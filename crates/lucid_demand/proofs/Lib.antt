@@ -2,6 +2,7 @@ pub mod Aims
 pub mod Answers
 pub mod Applying
 pub mod AskedParts
+pub mod AskedReferences
 pub mod AskedRows
 pub mod Beginning
 pub mod BodyRows
@@ -24,6 +25,7 @@ pub mod OperatorParts
 pub mod PassedParts
 pub mod Passes
 pub mod ReadElements
+pub mod ReferencedParts
 pub mod ReferredRows
 pub mod Referring
 pub mod SearchesBegin

@@ -1,6 +1,6 @@
 -- The steps of a reference's row, by what each call leaves.
-use Rattle.std.proofs.Common.{◌≡◌, ℕ, suc, ◌⊎◌, List, Option, Some, None, sym, ap, ◌∙◌, subst}
-use Rattle.std.specs.Prelude.{IfOk, IfSome, Result, Ok, Err, option_map, option_and_then}
+use Rattle.std.proofs.Common.{◌≡◌, ℕ, suc, ◌<◌, ◌⊎◌, List, Option, Some, None, sym, ap, ◌∙◌, subst}
+use Rattle.std.specs.Prelude.{IfOk, IfSome, OnOk, Result, Ok, Err, ⊤, option_map, option_and_then}
 use Rattle.lucid_value.specs.declared.Value.{Value}
 use Rattle.lucid_tree.specs.Members.{In}
 use Rattle.lucid_tags.specs.Contexts.{Context}
@@ -13,16 +13,17 @@ use Rattle.lucid_facts.specs.Tasks.{plain_task}
 use Rattle.lucid_facts.specs.Parts.{node_of, aim_of_task, IsReference}
 use Rattle.lucid_facts.specs.Engine.{EngineView}
 use Rattle.lucid_facts.specs.Demands.{Demand, table_of}
-use Rattle.lucid_facts.specs.Going.{Owns}
-use Rattle.lucid_demand.specs.Evaluating.{Evaluating, Stepped}
+use Rattle.lucid_facts.specs.Going.{Owns, Waits}
+use Rattle.lucid_demand.specs.Evaluating.{Evaluating, Stepped, cost}
 use Rattle.lucid_demand.specs.Acting.{DemandIn, MayAct}
 use Rattle.lucid_demand.specs.Aims.{plain_aim, IsAim}
-use Rattle.lucid_demand.specs.Asking.{Enters, FindsAim, MayFollow}
+use Rattle.lucid_demand.specs.Asking.{Enters, AsksIn, FindsAim, MayFollow}
 use Rattle.lucid_demand.specs.declared.aim.Aim.{Aim}
 use Rattle.lucid_demand.specs.declared.decide.Decision.TheVariants as decision
 use Rattle.lucid_demand.specs.declared.fault.DemandFault.{DemandFault}
 use Rattle.lucid_demand.specs.declared.fault.DemandFault.TheVariants.{TooDeep, NoMemory}
-use Rattle.lucid_demand.proofs.SettledRows.{refused, ready_is_there, stepped_from}
+use Rattle.lucid_demand.proofs.SettledRows.{refused, ready_is_there}
+use Rattle.lucid_demand.proofs.GoneRows.{goes_on_step}
 use Rattle.lucid_demand.proofs.Referring.{Referring, waits_found, nowhere_to_go, waits_looked, settles_held, limit_is_reached, may_follow, same_cost_looked}
 
 -- what is so of a result that is there
@@ -140,10 +141,18 @@ module _ {E : Type 0} (old mid : Evaluating) (slot : ℕ) (x : Task) (result : R
         (ap (λ (y : Task). y.depth) its_task ∙ zero) looked (ap (λ (e : Evaluating). e.engine) looked_is)
 
     -- or it goes on with its body.
-    pub refer_follows : found ≡ None → (depth : ℕ) → x.depth ≡ suc depth → (new : Evaluating) (res : Result (Option Value) DemandFault)
-        → ((j : DemandIn) → MayFollow j.demand looked j.world slot a depth → Stepped j.demand looked new j.world j.world res) → Stepped i.demand old new i.world i.world res
-    refer_follows none depth limit new res steps =
-        stepped_from i.demand old looked new i.world i.world res
-        (same_cost_looked i.demand old i.world slot row mid.engine.known referring a (aim_is (Some a) is) aim_there looked.engine.stored touched_here (sym none ∙ value_here) looked looked_is)
-        (steps i (may_follow i.demand old i.world slot row mid.engine.known referring a (aim_is (Some a) is) aim_there looked.engine.stored touched_here (sym none ∙ value_here) depth
-        (ap (λ (y : Task). y.depth) its_task ∙ limit) looked looked_is))
+    module _ (none : found ≡ None) (depth : ℕ) (limit : x.depth ≡ suc depth) (new : Evaluating) {G : Type 0} (followed : Result ⊤ G)
+        (follows : (j : DemandIn) → MayFollow j.demand looked j.world slot a depth → AsksIn j.demand looked new j.world followed) where
+      its_asking : AsksIn i.demand looked new i.world followed
+      its_asking = follows i (may_follow i.demand old i.world slot row mid.engine.known referring a (aim_is (Some a) is) aim_there looked.engine.stored touched_here (sym none ∙ value_here) depth
+          (ap (λ (y : Task). y.depth) its_task ∙ limit) looked looked_is)
+
+      pub refer_follow_lost : (res : Result (Option Value) DemandFault) → res ≡ Err NoMemory → Stepped i.demand old new i.world i.world res
+      refer_follow_lost res err = subst (λ z. Stepped i.demand old new i.world i.world z) (sym err) (refused i.demand old new i.world i.world its_asking.owns)
+
+      pub refer_follows : (u : ⊤) → followed ≡ Ok u → (res : Result (Option Value) DemandFault) → res ≡ Ok None → Stepped i.demand old new i.world i.world res
+      refer_follows u ok res went =
+          let p = subst (λ z. OnOk z (Waits i.demand new.engine i.world new.rows × (cost i.demand new < cost i.demand looked))) ok its_asking.goes_on in
+          subst (λ z. Stepped i.demand old new i.world i.world z) (sym went)
+          (goes_on_step i.demand old new i.world p.0 (subst (λ n. cost i.demand new < n)
+          (same_cost_looked i.demand old i.world slot row mid.engine.known referring a (aim_is (Some a) is) aim_there looked.engine.stored touched_here (sym none ∙ value_here) looked looked_is) p.1))

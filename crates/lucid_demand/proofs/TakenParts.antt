@@ -1,7 +1,7 @@
--- The values of a row's parts, as they are taken one after another.
-use Rattle.std.proofs.Common.{◌≡◌, ℕ, zero, suc, List, [], ◌∷◌, length, Option, Some, None, refl, sym, ap, ◌∙◌, arith}
+-- The values of a row's parts, to which an operator is applied.
+use Rattle.std.proofs.Common.{◌≡◌, ℕ, zero, suc, List, [], ◌∷◌, length, Option, Some, refl, sym, ap, ◌∙◌, arith}
 use Rattle.std.specs.Result.{IsErrAnd}
-use Rattle.std.specs.Prelude.{Result, Ok, Err, ⊤, IfOk, IsTrue, IsSome, map, option_map, option_and_then, slice_set, slice_index_or}
+use Rattle.std.specs.Prelude.{Result, Ok, Err, ⊤, IfOk, map, option_map, slice_set, slice_index_or}
 use Rattle.lucid_value.specs.declared.Value.{Value}
 use Rattle.lucid_value.specs.Plain.{PlainValue}
 use Rattle.lucid_value.specs.View.{plain}
@@ -13,28 +13,14 @@ use Rattle.lucid_tasks.specs.Rows.{TaskRow, Idle, row_at, got_of, is_ready}
 use Rattle.lucid_demand.specs.Evaluating.{gave}
 use Rattle.lucid_demand.specs.Acting.{HaveGot}
 use Rattle.lucid_demand.specs.declared.fault.DemandFault.{DemandFault}
-use Rattle.lucid_demand.proofs.SettledRows.{changed_row}
 
--- a row that is ready is a row
-pub ready_is_row : (o : Option TaskRow) → IsTrue (is_ready o) → IsSome o
-ready_is_row None e = absurd (cc)
-ready_is_row (Some r) e = refl
-
+-- another part than the one that is set stands as it did
 pub other_part : (ps : List rows.PartState) (i k : ℕ) (y : rows.PartState) → (k ≡ i → ⊥) → slice_index_or (slice_set ps i y) k Idle ≡ slice_index_or ps k Idle
 other_part [] i k y n = refl
 other_part (p ∷ ps) zero zero y n = absurd (n refl)
 other_part (p ∷ ps) zero (suc k) y n = refl
 other_part (p ∷ ps) (suc i) zero y n = refl
 other_part (p ∷ ps) (suc i) (suc k) y n = other_part ps i k y (λ e. n (ap suc e))
-
--- another part has the value that it had
-pub got_stays : (old new : List (Option TaskRow)) (slot i k : ℕ) → rows.ChangesOnly old new slot (rows.taken i) → (k ≡ i → ⊥)
-    → got_of new (record { slot = slot; index = k }) ≡ got_of old (record { slot = slot; index = k })
-got_stays old new slot i k changes n = ap (λ o. option_and_then rows.got_value (option_map (rows.state_at k) o)) (changed_row old new slot (rows.taken i) changes) ∙ go (row_at old slot)
-  where
-    go : (o : Option TaskRow) → option_and_then rows.got_value (option_map (rows.state_at k) (option_map (rows.taken i) o)) ≡ option_and_then rows.got_value (option_map (rows.state_at k) o)
-    go None = refl
-    go (Some r) = ap rows.got_value (other_part r.parts i k (rows.emptied (rows.state_at i r)) n)
 
 -- the parts from one on have these values
 abbrev pub AreGot : List (Option TaskRow) → (slot index : ℕ) → List Value → Type 0
@@ -52,7 +38,7 @@ same_args rs slot i (v ∷ vs) (a ∷ args) l h g =
     let rest = same_args rs slot (suc i) vs args (omega (arith, l)) h.1 g.1 in
     ap (λ x. x ∷ vs) one ∙ ap (λ xs. plain a ∷ xs) rest
 
--- What an operator gives for the values that were taken, it gives for those that the parts had.
+-- What an operator gives for these values, it gives for those that the parts have.
 pub applied_value : {E : Type 0} (op : Op) (rs : List (Option TaskRow)) (slot : ℕ) (args : List Value) (result : Result Value E) → IfOk result (λ v. plain v ≡ algebra op (map plain args))
     → length args ≡ arity op → AreGot rs slot 0 args → IfOk result (λ v. (vs : List PlainValue) → length vs ≡ arity op → HaveGot rs slot 0 vs → plain v ≡ algebra op vs)
 applied_value op rs slot args (Ok v) is count got = λ vs l h. is ∙ ap (algebra op) (sym (same_args rs slot 0 vs args (l ∙ sym count) h got))

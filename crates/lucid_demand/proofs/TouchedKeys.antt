@@ -22,7 +22,7 @@ use Rattle.lucid_facts.proofs.Working.{work_over}
 
 module _ (d : Demand) (now : EngineView) (w : World) (rs : List (Option TaskRow)) (stored : Stored) (key : Key) (waits : Waits d now w rs) (touched : IsTouched now.stored stored key) where
   -- each daton is held as it was
-  held_as_before : (k : DatonAt) → held_in now.known stored k.0 k.1 ≡ holding now k.0 k.1
+  pub held_as_before : (k : DatonAt) → held_in now.known stored k.0 k.1 ≡ holding now k.0 k.1
   held_as_before k = (held_stays now.known now.stored stored waits.going.owns.contexts waits.going.owns.keys (held-touched now.stored stored key touched)).1 k
 
   -- The rows wait on after a look-up.

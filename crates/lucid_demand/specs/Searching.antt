@@ -11,6 +11,7 @@ use Rattle.lucid_facts.specs.Tasks.{plain_row}
 use Rattle.lucid_facts.specs.Demands.{Demand, table_of}
 use Rattle.lucid_facts.specs.Going.{IsDemand, Waits}
 use Rattle.lucid_demand.specs.Evaluating.{Evaluating}
+use Rattle.lucid_demand.specs.Asking.{HoldsNothing}
 use Rattle.lucid_demand.specs.Justified.{Justified}
 use Rattle.lucid_demand.specs.declared.decide.Decision.TheVariants as decision
 use Rattle.lucid_demand.specs.declared.searches.Search.{Search}
@@ -48,4 +49,5 @@ pub record CanLookOn (rows : List (Option TaskRow)) (slot : ℕ) : Type 0 where
 pub record MayAskNow (d : Demand) (e : Evaluating) (w : World) (part : Part) (task : Task) : Type 0 where
   pub demand : IsDemand d
   pub waits : Waits d e.engine w e.rows
+  pub nothing : HoldsNothing d e.engine
   pub justified : (r : TaskRow) → row_at e.rows part.slot ≡ Some r → Justified (table_of d) e.engine.known (plain_row e.engine.known r) (decision.Ask part.index task)

@@ -1,9 +1,12 @@
 //! A row asks for parts, and a reference goes on with its body.
-ghost use Rattle.std.specs.Prelude.{◌≡◌, ◌∷◌, [], None, IfOk, OnOk};
+ghost use Rattle.std.specs.Prelude.{◌≡◌, ◌∷◌, [], Some, None, IfOk, OnOk, OnErr};
+ghost use Rattle.lucid_tasks.specs.Rows.{Idle, Got, state_of, with_part, Asks, ChangesOnly, IsPast, IsRow};
 ghost use Rattle.lucid_store.specs.Entries.{value_at, IsTouched};
+ghost use Rattle.lucid_facts.specs.Tasks.{plain_task};
+ghost use Rattle.lucid_facts.specs.Parts.{node_of, IsReference};
 ghost use Rattle.lucid_demand.specs.Evaluating.{gave, Stepped as Steps};
 ghost use Rattle.lucid_demand.specs.Acting.{DemandIn, MayAct};
-ghost use Rattle.lucid_demand.specs.Asking.{CanAsk, CanAskAll, CanRefer, CanFollow, MayFollow, SetsPart, AsksIn, FindsAim};
+ghost use Rattle.lucid_demand.specs.Asking.{CanAsk, CanAskAll, CanRefer, CanFollow, MayFollow, SetsPart, AsksIn, MayAskAs, FindsAim, GoesOnWith};
 ghost use Rattle.lucid_demand.specs.Searching.{MayAskNow};
 ghost use Rattle.lucid_demand.specs.declared.decide.Decision.TheVariants as decision;
 
@@ -23,9 +26,58 @@ impl<R: Retire, S: Pick> Evaluation<R, S> {
     ghost use Rattle.std.specs.Prelude.{ℕ, ◌<◌, length};
     ghost use Rattle.lucid_tags.specs.Known.{IsKnown};
 
-    // Asks for a part: by a row, or at once where what is left of it is a constant.
+    // A row of a task for a part.
     #[inline(always)]
-    fn ask_part(&mut self, part: Part, task: Task) -> Result<(), AllocError>
+    fn ask_row(&mut self, part: Part, task: Task) -> Result<usize, AllocError>
+        requires { CanAsk self.old part task }
+        ensures rows { IfOk result (λ slot. Asks self.old.rows self.new.rows part slot task) }
+        ensures newest { IfOk result (IsPast self.old.rows) }
+        ensures engine { self.new.engine ≡ self.old.engine }
+        ensures err { OnErr result (self.new ≡ self.old) }
+    {
+        self.tasks.ask(part, task)
+    }
+
+    // A part's value without a row.
+    #[inline(always)]
+    fn give_part(&mut self, part: Part, value: Value)
+        requires row { IsRow self.old.rows part.slot }
+        requires index { part.index < 3 }
+        requires idle { state_of self.old.rows part ≡ Some Idle }
+        ensures rows { ChangesOnly self.old.rows self.new.rows part.slot (with_part part.index (Got value)) }
+        ensures engine { self.new.engine ≡ self.old.engine }
+    {
+        self.tasks.give(part, value);
+    }
+
+    // Asks for a part by a reference: the part has the held value at once, or the reference has a row, which goes on with its body. It tells
+    // whether none was held. A step takes one held value at most, so that a policy, which acts between steps, sees each key that is touched.
+    #[inline(never)]
+    fn ask_reference(&mut self, part: Part, task: Task) -> Result<bool, AllocError>
+        requires part { CanAsk self.old part task }
+        requires reference { IsReference (node_of self.old.engine.table (plain_task self.old.engine.known task)) }
+        ensures sets { OnOk result (SetsPart self.old self.new part) }
+        ensures asks { (i : DemandIn) → MayAskAs i.demand self.old i.world part task → AsksIn i.demand self.old self.new i.world result }
+    {
+        let Some(aim) = self.aim(task)? else {
+            self.ask_row(part, task)?;
+            return Ok(true);
+        };
+        if let Some(value) = self.held(aim.key)? {
+            self.give_part(part, value);
+            return Ok(false);
+        }
+        let slot = self.ask_row(part, task)?;
+        if task.depth > 0 {
+            self.follow(slot, aim, task.depth - 1)?;
+        }
+        Ok(true)
+    }
+
+    // Asks for a part: by a row, or at once where what is left of it is a constant, or a reference whose value is held and that may be looked
+    // for. It tells whether the next may be.
+    #[inline(always)]
+    fn ask_part(&mut self, part: Part, task: Task, looks: bool) -> Result<bool, AllocError>
         requires { CanAsk self.old part task }
         ensures sets { OnOk result (SetsPart self.old self.new part) }
         ensures asks { (i : DemandIn) → MayAskNow i.demand self.old i.world part task → AsksIn i.demand self.old self.new i.world result }
@@ -35,12 +87,14 @@ impl<R: Retire, S: Pick> Evaluation<R, S> {
             Node::Const { constant } => {
                 let value = self.program.constant(constant).copy(self.alloc)?;
                 self.tasks.give(part, value);
+                Ok(looks)
             }
+            Node::Refer { .. } | Node::Call { .. } if looks => self.ask_reference(part, task),
             _ => {
                 self.tasks.ask(part, task)?;
+                Ok(looks)
             }
         }
-        Ok(())
     }
 
     #[inline(always)]
@@ -48,7 +102,7 @@ impl<R: Retire, S: Pick> Evaluation<R, S> {
         requires { CanAsk self.old part task }
         ensures { (i : DemandIn) → MayAskNow i.demand self.old i.world part task → Steps i.demand self.old self.new i.world i.world (gave result None) }
     {
-        self.ask_part(part, task)?;
+        self.ask_part(part, task, true)?;
         Ok(())
     }
 
@@ -69,10 +123,11 @@ impl<R: Retire, S: Pick> Evaluation<R, S> {
     {
         let args = [first, second, third];
         let task = self.tasks.task(slot);
+        let mut looks = true;
         for index in 0..op.arity() as u32 {
             if self.tasks.got(slot, index).is_none() {
                 let node = args[index as usize];
-                self.ask_part(Part { slot, index }, Task { node, ..task })?;
+                looks = self.ask_part(Part { slot, index }, Task { node, ..task }, looks)?;
             }
         }
         Ok(())
@@ -122,9 +177,10 @@ impl<R: Retire, S: Pick> Evaluation<R, S> {
 
     // A reference becomes its body, or asks for it where that is a reference itself.
     #[inline(always)]
-    fn follow(&mut self, slot: usize, aim: Aim, depth: u32) -> Stepped
+    fn follow(&mut self, slot: usize, aim: Aim, depth: u32) -> Result<(), AllocError>
         requires { CanFollow self.old slot aim }
-        ensures { (i : DemandIn) → MayFollow i.demand self.old i.world slot aim depth → Steps i.demand self.old self.new i.world i.world (gave result None) }
+        ensures leaves { OnOk result (GoesOnWith self.old self.new slot) }
+        ensures asks { (i : DemandIn) → MayFollow i.demand self.old i.world slot aim depth → AsksIn i.demand self.old self.new i.world result }
     {
         let body = passed(&self.program, &mut self.tags, aim.task(depth))?;
         match self.program.node(body.node) {
@@ -154,6 +210,7 @@ impl<R: Retire, S: Pick> Evaluation<R, S> {
         if task.depth == 0 {
             return Err(DemandFault::TooDeep);
         }
-        self.follow(slot, aim, task.depth - 1)
+        self.follow(slot, aim, task.depth - 1)?;
+        Ok(())
     }
 }

@@ -1,6 +1,6 @@
 //! A row settles: its value stands in its parent's part, or is the demand's.
 ghost use Rattle.std.specs.Prelude.{◌≡◌, ℕ, ◌<◌, ◌≤◌, List, length, Some, OnOk, OnErr, IfOk, IsSome, IsTrue};
-ghost use Rattle.lucid_value.specs.Plain.{PlainValue};
+ghost use Rattle.lucid_value.specs.Plain.{PlainValue, eod, fault};
 ghost use Rattle.lucid_value.specs.View.{plain};
 ghost use Rattle.lucid_ops.specs.Arity.{arity};
 ghost use Rattle.lucid_ops.specs.Algebra.{algebra};
@@ -15,7 +15,7 @@ ghost use Rattle.lucid_demand.specs.declared.decide.Decision.TheVariants as deci
 
 use crate::DemandFault;
 use crate::evaluation::{Evaluation, Stepped};
-use lucid_ops::{Op, apply};
+use lucid_ops::{Op, apply_to_one, apply_to_three, apply_to_two};
 use lucid_ports::Places;
 use lucid_retire::Retire;
 use lucid_schedule::Pick;
@@ -66,59 +66,60 @@ impl<R: Retire, S: Pick> Evaluation<R, S> {
         }
     }
 
-    // An operator applied to the value of the row's first part.
+    // An operator applied to the value of the row's first part, where it lies.
     #[inline(never)]
-    fn applied_to_one(&mut self, slot: usize, op: Op) -> Result<Value, AllocError>
-        requires ready { IsTrue (is_ready (row_at self.old.rows slot)) }
+    fn applied_to_one(&self, slot: usize, op: Op) -> Result<Value, AllocError>
+        requires row { IsRow self.now.rows slot }
         requires count { arity op ≡ 1 }
-        requires got { (index : ℕ) → index < 1 → IsSome (got_of self.old.rows (record { slot = slot; index = index })) }
-        ensures value { IfOk result (λ v. (vs : List PlainValue) → length vs ≡ arity op → HaveGot self.old.rows slot 0 vs → plain v ≡ algebra op vs) }
-        ensures taken { IsTaken self.old.rows self.new.rows slot }
-        ensures engine { self.new.engine ≡ self.old.engine }
+        requires got { (index : ℕ) → index < 1 → IsSome (got_of self.now.rows (record { slot = slot; index = index })) }
+        ensures { IfOk result (λ v. (vs : List PlainValue) → length vs ≡ arity op → HaveGot self.now.rows slot 0 vs → plain v ≡ algebra op vs) }
     {
-        let first = self.take_part(slot, 0);
-        apply(self.alloc, op, &[first])
+        match self.tasks.got(slot, 0) {
+            Some(first) => apply_to_one(self.alloc, op, first),
+            None => unreachable!(),
+        }
     }
 
     // The same with two values.
     #[inline(always)]
-    fn applied_to_two(&mut self, slot: usize, op: Op) -> Result<Value, AllocError>
-        requires ready { IsTrue (is_ready (row_at self.old.rows slot)) }
+    fn applied_to_two(&self, slot: usize, op: Op) -> Result<Value, AllocError>
+        requires row { IsRow self.now.rows slot }
         requires count { arity op ≡ 2 }
-        requires got { (index : ℕ) → index < 2 → IsSome (got_of self.old.rows (record { slot = slot; index = index })) }
-        ensures value { IfOk result (λ v. (vs : List PlainValue) → length vs ≡ arity op → HaveGot self.old.rows slot 0 vs → plain v ≡ algebra op vs) }
-        ensures taken { IsTaken self.old.rows self.new.rows slot }
-        ensures engine { self.new.engine ≡ self.old.engine }
+        requires got { (index : ℕ) → index < 2 → IsSome (got_of self.now.rows (record { slot = slot; index = index })) }
+        ensures { IfOk result (λ v. (vs : List PlainValue) → length vs ≡ arity op → HaveGot self.now.rows slot 0 vs → plain v ≡ algebra op vs) }
     {
-        let first = self.take_part(slot, 0);
-        let second = self.take_part(slot, 1);
-        apply(self.alloc, op, &[first, second])
+        match (self.tasks.got(slot, 0), self.tasks.got(slot, 1)) {
+            (Some(first), Some(second)) => apply_to_two(self.alloc, op, first, second),
+            _ => unreachable!(),
+        }
     }
 
     // The same with three values.
     #[inline(never)]
-    fn applied_to_three(&mut self, slot: usize, op: Op) -> Result<Value, AllocError>
-        requires ready { IsTrue (is_ready (row_at self.old.rows slot)) }
+    fn applied_to_three(&self, slot: usize, op: Op) -> Result<Value, AllocError>
+        requires row { IsRow self.now.rows slot }
         requires count { arity op ≡ 3 }
-        requires got { (index : ℕ) → index < 3 → IsSome (got_of self.old.rows (record { slot = slot; index = index })) }
-        ensures value { IfOk result (λ v. (vs : List PlainValue) → length vs ≡ arity op → HaveGot self.old.rows slot 0 vs → plain v ≡ algebra op vs) }
-        ensures taken { IsTaken self.old.rows self.new.rows slot }
-        ensures engine { self.new.engine ≡ self.old.engine }
+        requires got { (index : ℕ) → index < 3 → IsSome (got_of self.now.rows (record { slot = slot; index = index })) }
+        ensures { IfOk result (λ v. (vs : List PlainValue) → length vs ≡ arity op → HaveGot self.now.rows slot 0 vs → plain v ≡ algebra op vs) }
     {
-        let first = self.take_part(slot, 0);
-        let second = self.take_part(slot, 1);
-        let third = self.take_part(slot, 2);
-        apply(self.alloc, op, &[first, second, third])
+        match (
+            self.tasks.got(slot, 0),
+            self.tasks.got(slot, 1),
+            self.tasks.got(slot, 2),
+        ) {
+            (Some(first), Some(second), Some(third)) => {
+                apply_to_three(self.alloc, op, first, second, third)
+            }
+            _ => unreachable!(),
+        }
     }
 
-    // An operator applied to the values of the row's parts. Room for values is made by how many there are.
+    // An operator applied to the values of the row's parts.
     #[inline(always)]
-    fn applied(&mut self, slot: usize, op: Op) -> Result<Value, AllocError>
-        requires ready { IsTrue (is_ready (row_at self.old.rows slot)) }
-        requires got { (index : ℕ) → index < arity op → IsSome (got_of self.old.rows (record { slot = slot; index = index })) }
-        ensures value { IfOk result (λ v. (vs : List PlainValue) → length vs ≡ arity op → HaveGot self.old.rows slot 0 vs → plain v ≡ algebra op vs) }
-        ensures taken { IsTaken self.old.rows self.new.rows slot }
-        ensures engine { self.new.engine ≡ self.old.engine }
+    fn applied(&self, slot: usize, op: Op) -> Result<Value, AllocError>
+        requires row { IsRow self.now.rows slot }
+        requires got { (index : ℕ) → index < arity op → IsSome (got_of self.now.rows (record { slot = slot; index = index })) }
+        ensures { IfOk result (λ v. (vs : List PlainValue) → length vs ≡ arity op → HaveGot self.now.rows slot 0 vs → plain v ≡ algebra op vs) }
     {
         match op.arity() {
             1 => self.applied_to_one(slot, op),
@@ -207,9 +208,28 @@ impl<R: Retire, S: Pick> Evaluation<R, S> {
         Ok(())
     }
 
-    // Settles with what a form gives by itself.
+    // Settles with the end of data, once its search was noted. No value is passed to it, as none is to the next, so that a turn clears no room
+    // for one.
     #[inline(never)]
-    pub(crate) fn end(&mut self, slot: usize, value: Value, answer: &mut Option<Value>) -> Stepped
+    pub(crate) fn end_of_data(&mut self, slot: usize, answer: &mut Option<Value>) -> Stepped
+        requires { IsReadyTask self.old slot }
+        ensures { (i : DemandIn) → MayGive i.demand self.old i.world slot eod → Steps i.demand self.old self.new i.world i.world (gave result answer.new) }
+    {
+        self.end(slot, Value::Eod, answer)
+    }
+
+    // The same with an error.
+    #[inline(never)]
+    pub(crate) fn end_in_error(&mut self, slot: usize, answer: &mut Option<Value>) -> Stepped
+        requires { IsReadyTask self.old slot }
+        ensures { (i : DemandIn) → MayGive i.demand self.old i.world slot fault → Steps i.demand self.old self.new i.world i.world (gave result answer.new) }
+    {
+        self.end(slot, Value::Fault, answer)
+    }
+
+    // The same with either.
+    #[inline(never)]
+    fn end(&mut self, slot: usize, value: Value, answer: &mut Option<Value>) -> Stepped
         requires { IsReadyTask self.old slot }
         ensures { (i : DemandIn) → MayGive i.demand self.old i.world slot (plain value) → Steps i.demand self.old self.new i.world i.world (gave result answer.new) }
     {

@@ -1,5 +1,6 @@
 //! One step of a waiting task.
 ghost use Rattle.std.specs.Prelude.{◌≡◌, ◌<◌, ◌≤◌, List, None, Some, length, IsTrue};
+ghost use Rattle.lucid_value.specs.Plain.{truth};
 ghost use Rattle.lucid_value.specs.View.{plain};
 ghost use Rattle.lucid_tags.specs.Contexts.{Context};
 ghost use Rattle.lucid_tasks.specs.Rows.{TaskRow, row_at, is_ready};
@@ -28,6 +29,15 @@ impl<R: Retire, S: Pick> Evaluation<R, S> {
         ensures { (i : DemandIn) → MayGive i.demand self.old i.world slot (plain value) → Steps i.demand self.old self.new i.world i.world (gave result answer.new) }
     {
         self.settle(slot, value, answer)
+    }
+
+    // The same with a truth, which is passed as such: no room for a value is cleared in a turn.
+    #[inline(never)]
+    fn give_truth(&mut self, slot: usize, holds: bool, answer: &mut Option<Value>) -> Stepped
+        requires { IsTrue (is_ready (row_at self.old.rows slot)) }
+        ensures { (i : DemandIn) → MayGive i.demand self.old i.world slot (truth holds) → Steps i.demand self.old self.new i.world i.world (gave result answer.new) }
+    {
+        self.give(slot, Value::Truth(holds), answer)
     }
 
     // Settles with a constant.
@@ -69,9 +79,9 @@ impl<R: Retire, S: Pick> Evaluation<R, S> {
             Decision::Part { index } => self.settle_part(slot, index, answer),
             Decision::Apply { op } => self.settle_applied(slot, op, answer),
             Decision::Constant { constant } => self.settle_constant(slot, constant, answer),
-            Decision::Truth(holds) => self.give(slot, Value::Truth(holds), answer),
-            Decision::End => self.end(slot, Value::Eod, answer),
-            Decision::Fault => self.end(slot, Value::Fault, answer),
+            Decision::Truth(holds) => self.give_truth(slot, holds, answer),
+            Decision::End => self.end_of_data(slot, answer),
+            Decision::Fault => self.end_in_error(slot, answer),
             Decision::Body => self.settle_body(slot, answer),
             Decision::Ask { index, task } => self.ask_noted(slot, index, task),
             Decision::AskAll { op, args } => self.ask_all(slot, op, args),

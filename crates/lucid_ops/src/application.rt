@@ -159,9 +159,10 @@ fn row_of_one(alloc: Global, op: Op, value: &Value) -> Result<Value, AllocError>
     }
 }
 
-// An operator of one argument: the two that look at end of data and errors, the rule of all others, and their rows.
+// The two that look at end of data and errors, the rule of all others, and their rows.
+/// What an operator of one argument gives, as `apply` says it.
 #[tactic(auto, using(crate::proofs::Rule::keeps_rule))]
-fn of_one(alloc: Global, op: Op, value: &Value) -> Result<Value, AllocError>
+pub fn apply_to_one(alloc: Global, op: Op, value: &Value) -> Result<Value, AllocError>
     ensures { IfOk result (λ made. plain made ≡ algebra op (plain value.now ∷ [])) }
 {
     match (op, value) {
@@ -173,9 +174,10 @@ fn of_one(alloc: Global, op: Op, value: &Value) -> Result<Value, AllocError>
     }
 }
 
-// An operator of two arguments: the rule, and the row.
+// The rule, and the row.
+/// What an operator of two arguments gives, as `apply` says it.
 #[tactic(auto, using(crate::proofs::Rule::many_keep_rule))]
-fn of_two(alloc: Global, op: Op, left: &Value, right: &Value) -> Result<Value, AllocError>
+pub fn apply_to_two(alloc: Global, op: Op, left: &Value, right: &Value) -> Result<Value, AllocError>
     requires { arity op ≡ 2 }
     ensures { IfOk result (λ value. plain value ≡ algebra op (plain left.now ∷ plain right.now ∷ [])) }
 {
@@ -186,9 +188,10 @@ fn of_two(alloc: Global, op: Op, left: &Value, right: &Value) -> Result<Value, A
     }
 }
 
-// An operator of three arguments: the rule, and the row.
+// The rule, and the row.
+/// What an operator of three arguments gives, as `apply` says it.
 #[tactic(auto, using(crate::proofs::Rule::many_keep_rule))]
-fn of_three(
+pub fn apply_to_three(
     alloc: Global,
     op: Op,
     first: &Value,
@@ -215,9 +218,9 @@ pub fn apply(alloc: Global, op: Op, args: &[Value]) -> Result<Value, AllocError>
     ensures { IfOk result (λ value. plain value ≡ algebra op (map plain args.now)) }
 {
     match args {
-        [value] => of_one(alloc, op, value),
-        [left, right] => of_two(alloc, op, left, right),
-        [first, second, third] => of_three(alloc, op, first, second, third),
+        [value] => apply_to_one(alloc, op, value),
+        [left, right] => apply_to_two(alloc, op, left, right),
+        [first, second, third] => apply_to_three(alloc, op, first, second, third),
         _ => unreachable!(),
     }
 }

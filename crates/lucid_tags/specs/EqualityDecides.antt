@@ -37,9 +37,9 @@ pub tag_from_parts : (a b : Tag) → number_of a ≡ number_of b → space_of a 
 tag_from_parts a b n s = same_parts a b n (high_halves a b s) (low_halves a b s)
 
 pub same_tag_is_equality : SameTagIsEquality
-same_tag_is_equality a b = Decides-like (same_tag a b) (λ e. same_parts a b e.0 e.1.0 e.1.1) (λ e. (ap number_of e, (ap (λ t. t.space_high) e, ap (λ t. t.space_low) e)))
-    (Decides-and (number_of a == number_of b) ((a.space_high == b.space_high) && (a.space_low == b.space_low)) (Decides-eqb (number_of a) (number_of b))
-    (Decides-and (a.space_high == b.space_high) (a.space_low == b.space_low) (Decides-eqb a.space_high b.space_high) (Decides-eqb a.space_low b.space_low)))
+same_tag_is_equality a b = Decides-like (same_tag a b) (λ e. same_parts a b e.1.1 e.0 e.1.0) (λ e. (ap (λ t. t.space_high) e, (ap (λ t. t.space_low) e, ap number_of e)))
+    (Decides-and (a.space_high == b.space_high) ((a.space_low == b.space_low) && (number_of a == number_of b)) (Decides-eqb a.space_high b.space_high)
+    (Decides-and (a.space_low == b.space_low) (number_of a == number_of b) (Decides-eqb a.space_low b.space_low) (Decides-eqb (number_of a) (number_of b))))
 
 -- Two keys are equal exactly where they are the same.
 abbrev pub SameKeyIsEquality : Type 0

@@ -16,7 +16,7 @@ space_of tag = tag.space_high * 2 ^ 32 + tag.space_low
 
 -- two tags are the same: the same context, by its number, and the same space, by its halves
 abbrev pub same_tag : Tag → Tag → Bool
-same_tag a b = (number_of a == number_of b) && ((a.space_high == b.space_high) && (a.space_low == b.space_low))
+same_tag a b = (a.space_high == b.space_high) && ((a.space_low == b.space_low) && (number_of a == number_of b))
 
 -- the tag of the context at a place, at space 0
 abbrev pub tag_of : (number : ℕ) → Tag

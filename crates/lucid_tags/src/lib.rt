@@ -20,12 +20,13 @@ const HALF: u64 = 1 << 32;
 
 /// A context, by its number in the `Tags` that gave the tag, and a space.
 ///
-/// The space stands in two halves, so that a tag has 12 bytes and no padding, and a key 24: a store has a key for each value.
+/// The space stands in two halves, so that a tag has 12 bytes and no padding, and a key 24: a store has a key for each value. The number
+/// comes last, so that a tag is copied by the pieces it is written in: the two halves together, and the number.
 #[derive(Clone, Copy, PartialEq, Eq, Hash, Debug)]
 pub struct Tag {
-    number: u32,
     space_high: u32,
     space_low: u32,
+    number: u32,
     ghost in_range: { space_high < 2 ^ 31 },
     ghost low_in_range: { space_low < 2 ^ 32 },
 }

@@ -30,3 +30,16 @@ module _ {X : Type 0} where
   -- a list with a new end
   pub end_of : (items after : List X) (x : X) (i : ℕ) → i ≡ length items → after ≡ items ++ x ∷ [] → after ≡ insert items i x
   end_of items after x i h is = is ∙ sym (inserted_end items x i h)
+
+  inserted_before_end : (xs : List X) (x l : X) (i : ℕ) → i ≡ length xs → insert (xs ++ l ∷ []) i x ≡ (xs ++ x ∷ []) ++ l ∷ []
+  inserted_before_end [] x l zero e = refl
+  inserted_before_end [] x l (suc i) e = absurd (omega (arith, e))
+  inserted_before_end (y ∷ xs) x l zero e = absurd (omega (arith, e))
+  inserted_before_end (y ∷ xs) x l (suc i) e = ap (λ ys. y ∷ ys) (inserted_before_end xs x l i (omega (arith, e)))
+
+  -- a list whose end left, and came back after another
+  pub before_end_of : (left items middle after : List X) (l x : X) (i : ℕ) → items ≡ left ++ l ∷ [] → i + 1 ≡ length items → middle ≡ left ++ x ∷ [] → after ≡ middle ++ l ∷ [] → after ≡ insert items i x
+  before_end_of left items middle after l x i e h m a =
+      let len = length-append left (l ∷ []) in
+      let same : length items ≡ length (left ++ l ∷ []) = ap length e in
+      a ∙ ap (λ ys. ys ++ l ∷ []) m ∙ sym (ap (λ ys. insert ys i x) e ∙ inserted_before_end left x l i (omega (arith, h, len, same)))

@@ -3,7 +3,7 @@
 //! The pairs stand in rising order of their numbers. A task that is worked on is nearly always the newest, so its parts have the
 //! greatest numbers; the last two are tried before the pairs are searched.
 
-ghost use Rattle.std.specs.Prelude.{◌≡◌, ℕ, ◌<◌, ◌≤◌, [], length, IsTrue, ◌↔◌, None, Some, IfOk, IfErr, OnOk, OnErr, option_copied};
+ghost use Rattle.std.specs.Prelude.{◌≡◌, ◌+◌, ℕ, ◌<◌, ◌≤◌, [], length, IsTrue, ◌↔◌, None, Some, IfOk, IfErr, OnOk, OnErr, option_copied};
 ghost use Rattle.lucid_tasks.specs.Numbered.{value_at, IsAt, IsGapFor, SetsOne};
 
 use lucid_value::Value;
@@ -118,6 +118,20 @@ impl Pool {
         }
     }
 
+    // Puts a value at its place before the last, by which nothing else is moved.
+    #[inline(always)]
+    fn put_before_last(&mut self, at: usize, number: usize, value: Value)
+        requires room { number < self.old.1 }
+        requires last { at + 1 ≡ length self.old.0 }
+        requires gap { IsGapFor self.old.0 number at }
+        ensures values { SetsOne (value_at self.old.0) (value_at self.new.0) number (Some value) }
+        ensures room { self.old.1 ≤ self.new.1 }
+    {
+        let last = self.values.take_last();
+        self.values.push_reserved((number, value));
+        self.values.push_reserved(last);
+    }
+
     // Gives a number a value, wherever it stands. Few stand before others, so it stands apart.
     #[inline(never)]
     fn put_searched(&mut self, number: usize, value: Value)
@@ -129,6 +143,7 @@ impl Pool {
         let _values = &self.values;
         match self.place(number) {
             Ok(_) => unreachable!(),
+            Err(at) if at + 1 == self.values.len() => self.put_before_last(at, number, value),
             Err(at) => self.put_inside(at, number, value),
         }
     }
@@ -182,6 +197,25 @@ impl Pool {
         match self.values.last() {
             Some(last) if last.0 == number => Some(self.values.take_last().1),
             _ => self.take_searched(number),
+        }
+    }
+
+    // Drops the value of a number, if it has one.
+    #[inline(always)]
+    pub(crate) fn discard(&mut self, number: usize)
+        ensures values { SetsOne (value_at self.old.0) (value_at self.new.0) number None }
+        ensures room { self.old.1 ≤ self.new.1 }
+    {
+        if self.ends_below(number) {
+            return;
+        }
+        match self.values.last() {
+            Some(last) if last.0 == number => {
+                self.values.take_last();
+            }
+            _ => {
+                let _ = self.take_searched(number);
+            }
         }
     }
 

@@ -222,15 +222,26 @@ impl Rows {
         trim(&mut self.rows);
     }
 
-    // Ends a row with the values of its parts. Few rows have any left, so it stands apart.
-    #[inline(never)]
+    // Drops the value of a part, if it has one.
+    #[inline(always)]
+    fn drop_part(&mut self, slot: usize, index: u32)
+        requires row { IsRow self.old slot }
+        requires index { index < 3 }
+        ensures { ChangesOnly self.old self.new slot (taken index) }
+    {
+        let _row = self.row(slot);
+        self.pool.discard(number(slot, index));
+    }
+
+    // Ends a row with the values of its parts. The first part's value is the last that stands, so they go from the end.
+    #[inline(always)]
     fn end_with_values(&mut self, slot: usize)
         requires { IsRow self.old slot }
         ensures { SetsOnly self.old self.new slot None }
     {
-        let _ = self.take(Part { slot, index: 0 });
-        let _ = self.take(Part { slot, index: 1 });
-        let _ = self.take(Part { slot, index: 2 });
+        self.drop_part(slot, 0);
+        self.drop_part(slot, 1);
+        self.drop_part(slot, 2);
         self.end(slot);
     }
 

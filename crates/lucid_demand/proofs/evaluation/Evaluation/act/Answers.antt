@@ -18,11 +18,11 @@ settle_applied-requires-clause-got g c =
     let w = g.P.Places.world c.args.places.now in
     arguments_are_there d c.args.self.now w c.args.slot c.in-Apply.op (decided_so d c.args.self.now w c.args.slot c.in-Apply.is c.requires.may.1)
 
-pub end-requires : goal.end-requires
-end-requires g c = ready_task c.requires.may.0 c.args.self.now (g.P.Places.world c.args.places.now) c.args.slot c.requires.may.1.step
+pub end_of_data-requires : goal.end_of_data-requires
+end_of_data-requires g c = ready_task c.requires.may.0 c.args.self.now (g.P.Places.world c.args.places.now) c.args.slot c.requires.may.1.step
 
-pub end-requires-in-Fault : goal.end-requires-in-Fault
-end-requires-in-Fault g c = ready_task c.requires.may.0 c.args.self.now (g.P.Places.world c.args.places.now) c.args.slot c.requires.may.1.step
+pub end_in_error-requires : goal.end_in_error-requires
+end_in_error-requires g c = ready_task c.requires.may.0 c.args.self.now (g.P.Places.world c.args.places.now) c.args.slot c.requires.may.1.step
 
 pub settle_body-requires-clause-task : goal.settle_body-requires-clause-task
 settle_body-requires-clause-task g c = has_task c.requires.may.0 c.args.self.now (g.P.Places.world c.args.places.now) c.args.slot c.requires.may.1.step
@@ -75,17 +75,17 @@ returns-in-Constant-clause-steps g c = λ d act.
 pub returns-in-Truth-clause-steps : goal.returns-in-Truth-clause-steps
 returns-in-Truth-clause-steps g c = λ d act.
     let w = g.P.Places.world c.args.places.now in
-    c.give.ensures (record { demand = d; world = w }) (truth_gives d c.args.self.now w c.args.slot _ (decided_so d c.args.self.now w c.args.slot c.in-Truth.is act))
+    c.give_truth.ensures (record { demand = d; world = w }) (truth_gives d c.args.self.now w c.args.slot _ (decided_so d c.args.self.now w c.args.slot c.in-Truth.is act))
 
 pub returns-in-End-clause-steps : goal.returns-in-End-clause-steps
 returns-in-End-clause-steps g c = λ d act.
     let w = g.P.Places.world c.args.places.now in
-    c.end.ensures (record { demand = d; world = w }) (end_gives d c.args.self.now w c.args.slot (decided_so d c.args.self.now w c.args.slot c.in-End.is act))
+    c.end_of_data.ensures (record { demand = d; world = w }) (end_gives d c.args.self.now w c.args.slot (decided_so d c.args.self.now w c.args.slot c.in-End.is act))
 
 pub returns-in-Fault-clause-steps : goal.returns-in-Fault-clause-steps
 returns-in-Fault-clause-steps g c = λ d act.
     let w = g.P.Places.world c.args.places.now in
-    c.end-in-Fault.ensures (record { demand = d; world = w }) (fault_gives d c.args.self.now w c.args.slot (decided_so d c.args.self.now w c.args.slot c.in-Fault.is act))
+    c.end_in_error.ensures (record { demand = d; world = w }) (fault_gives d c.args.self.now w c.args.slot (decided_so d c.args.self.now w c.args.slot c.in-Fault.is act))
 
 pub returns-in-Body-clause-steps : goal.returns-in-Body-clause-steps
 returns-in-Body-clause-steps g c = λ d act.

@@ -1,25 +1,20 @@
-use Rattle.std.proofs.Common.{◌≡◌, ◌∷◌, [], sym, ◌∙◌, rules}
+use Rattle.std.proofs.Common.{◌≡◌, ◌∷◌, [], Some, sym, ap, ◌∙◌, rules}
+use Rattle.std.specs.Prelude.{option_copied}
 use Rattle.lucid_ops.specs.Arity.{arity}
-use Rattle.lucid_demand.proofs.SettledRows.{nothing_taken, one_more_taken}
-use Rattle.lucid_demand.proofs.TakenParts.{got_stays, applied_value}
+use Rattle.lucid_tasks.specs.Rows.{got_of}
+use Rattle.lucid_demand.specs.Evaluating.{Evaluating}
+use Rattle.lucid_demand.proofs.TakenParts.{applied_value}
 use Rattle.lucid_demand.proofs.evaluation.Evaluation.applied_to_three.Goals as goal
 
-pub returns-clause-value : goal.returns-clause-value
-returns-clause-value g c =
+pub returns : goal.returns
+returns g c =
     let rows = c.args.self.now.rows in
-    let one = c.take_part-first.new.self.rows in
-    let two = c.take_part-second.new.self.rows in
-    let second = sym (got_stays rows one c.args.slot 0 1 c.take_part-first.ensures.rows (λ e. absurd (cc))) ∙ c.take_part-second.ensures.value in
-    let third =
-    sym (got_stays rows one c.args.slot 0 2 c.take_part-first.ensures.rows (λ e. absurd (cc))) ∙ sym (got_stays one two c.args.slot 1 2 c.take_part-second.ensures.rows (λ e. absurd (cc)))
-    ∙ c.take_part-third.ensures.value in
+    let first : got_of rows (record { slot = c.args.slot; index = 0 }) ≡ Some c.in-Some-Some-Some.first.now =
+    sym (ap (λ (e : Evaluating). got_of e.rows (record { slot = c.args.slot; index = 0 })) c.self.view_is) ∙ sym c.got.ensures ∙ ap option_copied c.in-Some-Some-Some.is-0 in
+    let second : got_of rows (record { slot = c.args.slot; index = 1 }) ≡ Some c.in-Some-Some-Some.second.now =
+    sym (ap (λ (e : Evaluating). got_of e.rows (record { slot = c.args.slot; index = 1 })) c.self.view_is) ∙ sym c.got-2.ensures ∙ ap option_copied c.in-Some-Some-Some.is-1 in
+    let third : got_of rows (record { slot = c.args.slot; index = 2 }) ≡ Some c.in-Some-Some-Some.third.now =
+    sym (ap (λ (e : Evaluating). got_of e.rows (record { slot = c.args.slot; index = 2 })) c.self.view_is) ∙ sym c.got-3.ensures ∙ ap option_copied c.in-Some-Some-Some.is-2 in
     let count : 3 ≡ arity c.args.op = search rules in
-    applied_value c.args.op rows c.args.slot (c.take_part-first.result ∷ c.take_part-second.result ∷ c.take_part-third.result ∷ []) c.apply.result c.apply.ensures count
-    (c.take_part-first.ensures.value, (second, (third, tt)))
-
-pub returns-clause-taken : goal.returns-clause-taken
-returns-clause-taken g c =
-    one_more_taken c.args.self.now.rows c.take_part-second.new.self.rows c.take_part-third.new.self.rows c.args.slot 2
-    (one_more_taken c.args.self.now.rows c.take_part-first.new.self.rows c.take_part-second.new.self.rows c.args.slot 1
-    (one_more_taken c.args.self.now.rows c.args.self.now.rows c.take_part-first.new.self.rows c.args.slot 0 (nothing_taken c.args.self.now.rows c.args.slot c.requires.ready) c.take_part-first.ensures.rows)
-    c.take_part-second.ensures.rows) c.take_part-third.ensures.rows
+    applied_value c.args.op rows c.args.slot (c.in-Some-Some-Some.first.now ∷ c.in-Some-Some-Some.second.now ∷ c.in-Some-Some-Some.third.now ∷ []) c.apply_to_three.result c.apply_to_three.ensures count
+    (first, (second, (third, tt)))

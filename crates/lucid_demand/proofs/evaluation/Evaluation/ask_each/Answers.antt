@@ -7,7 +7,7 @@ use Rattle.lucid_demand.specs.declared.fault.DemandFault.TheVariants.{NoMemory}
 use Rattle.lucid_demand.proofs.TakenParts.{gave_err}
 use Rattle.lucid_demand.proofs.AskedRows.{AskedBelow, told_none, told_some, asks_begin, can_ask_argument, part_is_got, part_is_next, asks_refused, asks_end}
 use Rattle.lucid_demand.proofs.evaluation.Evaluation.ask_each.Goals as goal
-use Rattle.lucid_demand.proofs.evaluation.Evaluation.ask_each.Goals.{then-is_none+in_ok-ask_part, else-is_none}
+use Rattle.lucid_demand.proofs.evaluation.Evaluation.ask_each.Goals.{then-is_none+in_ok-looks, else-is_none}
 
 pub loop-index-init : goal.loop-index-init
 loop-index-init g c =
@@ -20,8 +20,8 @@ ask_part-requires g c =
     (told_none _ c.loop-index.self (record { slot = c.args.slot; index = c.loop-index.index }) c.got.result c.self-in-loop-index.view_is c.got.ensures c.if-is_none.ensures)
     (slice_index_or (c.args.first ∷ c.args.second ∷ c.args.third ∷ []) c.loop-index.index 0) c.requires (omega arith) (omega arith) (slice_get-get_or (c.args.first ∷ c.args.second ∷ c.args.third ∷ []) c.loop-index.index 0 (let l : length (c.args.first ∷ c.args.second ∷ c.args.third ∷ []) ≡ 3 = search rules in omega arith))
 
-pub returns-in_err-ask_part : goal.returns-in_err-ask_part
-returns-in_err-ask_part g c = λ i act.
+pub returns-in_err-looks : goal.returns-in_err-looks
+returns-in_err-looks g c = λ i act.
     asks_refused c.args.self.now c.loop-index.self c.args.slot c.args.op (c.args.first ∷ c.args.second ∷ c.args.third ∷ []) c.task-task.result c.loop-index.index c.loop-index.invariant c.requires.ready
     (told_none _ c.loop-index.self (record { slot = c.args.slot; index = c.loop-index.index }) c.got.result c.self-in-loop-index.view_is c.got.ensures c.if-is_none.ensures)
     c.ask_part.new.self (slice_index_or (c.args.first ∷ c.args.second ∷ c.args.third ∷ []) c.loop-index.index 0) c.ask_part.result (omega arith) (omega arith)
@@ -30,12 +30,12 @@ returns-in_err-ask_part g c = λ i act.
 
 pub loop-index-preserved : goal.loop-index-preserved
 loop-index-preserved g c = elim c.if-is_none.branch [
-  | then-is_none+in_ok-ask_part w ↦
+  | then-is_none+in_ok-looks w ↦
       subst (λ z. AskedBelow c.args.self.now z c.args.slot c.args.op (c.args.first ∷ c.args.second ∷ c.args.third ∷ []) c.task-task.result (c.loop-index.index + 1)) (sym w.self-is)
       (part_is_next c.args.self.now c.loop-index.self c.args.slot c.args.op (c.args.first ∷ c.args.second ∷ c.args.third ∷ []) c.task-task.result c.loop-index.index c.loop-index.invariant c.requires.ready
       (told_none _ c.loop-index.self (record { slot = c.args.slot; index = c.loop-index.index }) c.got.result c.self-in-loop-index.view_is c.got.ensures w.if-is_none.ensures)
-      w.ask_part.new.self (slice_index_or (c.args.first ∷ c.args.second ∷ c.args.third ∷ []) c.loop-index.index 0) w.in_ok-ask_part.ensures.sets (omega arith) (omega arith)
-      (slice_get-get_or (c.args.first ∷ c.args.second ∷ c.args.third ∷ []) c.loop-index.index 0 (let l : length (c.args.first ∷ c.args.second ∷ c.args.third ∷ []) ≡ 3 = search rules in omega arith)) (λ i m. (w.in_ok-ask_part.ensures.asks i m).goes_on))
+      w.ask_part.new.self (slice_index_or (c.args.first ∷ c.args.second ∷ c.args.third ∷ []) c.loop-index.index 0) w.in_ok-looks.ensures.sets (omega arith) (omega arith)
+      (slice_get-get_or (c.args.first ∷ c.args.second ∷ c.args.third ∷ []) c.loop-index.index 0 (let l : length (c.args.first ∷ c.args.second ∷ c.args.third ∷ []) ≡ 3 = search rules in omega arith)) w.ask_part.result w.in_ok-looks.looks w.in_ok-looks.was w.ask_part.ensures.asks)
   | else-is_none w ↦
       subst (λ z. AskedBelow c.args.self.now z c.args.slot c.args.op (c.args.first ∷ c.args.second ∷ c.args.third ∷ []) c.task-task.result (c.loop-index.index + 1)) (sym w.self-is)
       (part_is_got c.args.self.now c.loop-index.self c.args.slot c.args.op (c.args.first ∷ c.args.second ∷ c.args.third ∷ []) c.task-task.result c.loop-index.index c.loop-index.invariant c.requires.ready

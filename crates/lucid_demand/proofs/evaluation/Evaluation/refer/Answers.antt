@@ -2,13 +2,11 @@ use Rattle.std.proofs.Common.{◌≡◌, ◌-◌, refl, ap, sym, ◌∙◌, subs
 use Rattle.std.specs.Prelude.{Ok, Some, IsTrue, option_map}
 use Rattle.lucid_tasks.specs.Rows.{TaskRow, row_at, is_ready}
 use Rattle.lucid_store.specs.Entries.{value_at}
-use Rattle.lucid_demand.specs.Evaluating.{Evaluating, Stepped, gave}
-use Rattle.lucid_demand.specs.Acting.{DemandIn}
-use Rattle.lucid_demand.specs.Asking.{MayFollow}
+use Rattle.lucid_demand.specs.Evaluating.{Evaluating, gave}
 use Rattle.lucid_demand.specs.declared.fault.DemandFault.TheVariants.{NoMemory}
 use Rattle.lucid_demand.proofs.TakenParts.{gave_err}
 use Rattle.lucid_demand.proofs.IdleRows.{idle_is_ready}
-use Rattle.lucid_demand.proofs.ReferredRows.{refer_refused, refer_nowhere, refer_lost, refer_settles, refer_too_deep, refer_follows}
+use Rattle.lucid_demand.proofs.ReferredRows.{refer_refused, refer_nowhere, refer_lost, refer_settles, refer_too_deep, refer_follow_lost, refer_follows}
 use Rattle.lucid_demand.proofs.evaluation.Evaluation.refer.Goals as goal
 
 pub returns-in_err-aim : goal.returns-in_err-aim
@@ -50,11 +48,18 @@ returns-then-task-eq0 g c = λ i act.
     c.in-Some.aim (c.in_ok-aim.was ∙ ap Ok c.in-Some.is) c.held.new.self c.in_ok-value.field-0 c.in_ok-value.ensures.value c.held.ensures.touched c.held.ensures.only
     c.in_default-2.is c.if-task-eq0.true
 
+pub returns-in_err-follow : goal.returns-in_err-follow
+returns-in_err-follow g c = λ i act.
+    refer_follow_lost c.args.self.now c.aim.new.self c.args.slot c.task-task.result c.aim.result
+    (subst (λ (e : Evaluating). option_map (λ (row : TaskRow). row.task) (row_at e.rows c.args.slot) ≡ Some c.task-task.result) c.self.view_is c.task-task.ensures) c.aim.ensures i act
+    c.in-Some.aim (c.in_ok-aim.was ∙ ap Ok c.in-Some.is) c.held.new.self c.in_ok-value.field-0 c.in_ok-value.ensures.value c.held.ensures.touched c.held.ensures.only
+    c.in_default-2.is (c.task-task.result.depth - 1) (omega (arith, c.if-task-eq0.false)) c.follow.new.self c.follow.result c.follow.ensures.asks
+    (gave c.from_residual-in_err-follow.result c.args.answer.now) (gave_err c.from_residual-in_err-follow.result c.args.answer.now NoMemory c.from_residual-in_err-follow.ensures.1)
+
 pub returns : goal.returns
 returns g c = λ i act.
     refer_follows c.args.self.now c.aim.new.self c.args.slot c.task-task.result c.aim.result
     (subst (λ (e : Evaluating). option_map (λ (row : TaskRow). row.task) (row_at e.rows c.args.slot) ≡ Some c.task-task.result) c.self.view_is c.task-task.ensures) c.aim.ensures i act
     c.in-Some.aim (c.in_ok-aim.was ∙ ap Ok c.in-Some.is) c.held.new.self c.in_ok-value.field-0 c.in_ok-value.ensures.value c.held.ensures.touched c.held.ensures.only
-    c.in_default-2.is (c.task-task.result.depth - 1) (omega (arith, c.if-task-eq0.false)) c.follow.new.self (gave c.follow.result c.args.answer.now)
-    (subst (λ o. (j : DemandIn) → MayFollow j.demand c.held.new.self j.world c.args.slot c.in-Some.aim (c.task-task.result.depth - 1) → Stepped j.demand c.held.new.self c.follow.new.self j.world j.world (gave c.follow.result o))
-    (sym c.requires.open) c.follow.ensures)
+    c.in_default-2.is (c.task-task.result.depth - 1) (omega (arith, c.if-task-eq0.false)) c.follow.new.self c.follow.result c.follow.ensures.asks
+    c.in_ok-follow.field-0 c.in_ok-follow.was (Ok c.args.answer.now) (ap Ok c.requires.open)

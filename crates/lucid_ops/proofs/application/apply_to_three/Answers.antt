@@ -1,6 +1,6 @@
 use Rattle.std.proofs.Common.{arith}
 use Rattle.lucid_ops.proofs.Rule.{row_decides_three}
-use Rattle.lucid_ops.proofs.application.of_three.Goals as goal
+use Rattle.lucid_ops.proofs.application.apply_to_three.Goals as goal
 
 pub returns-in_default : goal.returns-in_default
 returns-in_default c =
