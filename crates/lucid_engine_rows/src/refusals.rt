@@ -16,6 +16,18 @@ struct Row {
     consumed: [u64; 2],
 }
 
+// A program over files that are read without a failure, as a static names it.
+macro_rules! setup {
+    ($source:expr, $files:expr) => {
+        Setup {
+            source: $source,
+            files: $files,
+            failures: &[],
+            most: MOST_BYTES,
+        }
+    };
+}
+
 fn answers_so<A: Abort + AllocGlobal>(rt: &A, row: &Row) -> Result<(), Fail> {
     let mut demands = Vec::new(rt.alloc());
     let mut answers = Vec::new(rt.alloc());
@@ -43,24 +55,14 @@ static REFUSED: [Row; 6] = [
     Row {
         plans: &PLANS,
         orders: &ORDERS,
-        setup: Setup {
-            source: COUNTING,
-            files: &[],
-            failures: &[],
-            most: MOST_BYTES,
-        },
+        setup: setup!(COUNTING, &[]),
         answers: &[(3, 3, "too deep"), (3, 4, "3"), (0, 1, "0")],
         consumed: [0, 0],
     },
     Row {
         plans: &PLANS,
         orders: &ORDERS,
-        setup: Setup {
-            source: "1 asa false",
-            files: &[],
-            failures: &[],
-            most: MOST_BYTES,
-        },
+        setup: setup!("1 asa false", &[]),
         answers: &[(0, 50, "too deep"), (1, 20, "too deep")],
         consumed: [0, 0],
     },
@@ -153,12 +155,7 @@ static DEPTHS: [Row; 5] = [
     Row {
         plans: &[Plan::Keep],
         orders: &ORDERS,
-        setup: Setup {
-            source: COUNTING,
-            files: &[],
-            failures: &[],
-            most: MOST_BYTES,
-        },
+        setup: setup!(COUNTING, &[]),
         answers: &[
             (0, 1, "0"),
             (1, 1, "1"),
@@ -174,12 +171,7 @@ static DEPTHS: [Row; 5] = [
     Row {
         plans: &[Plan::Nothing],
         orders: &ORDERS,
-        setup: Setup {
-            source: COUNTING,
-            files: &[],
-            failures: &[],
-            most: MOST_BYTES,
-        },
+        setup: setup!(COUNTING, &[]),
         answers: &[
             (0, 1, "0"),
             (1, 1, "too deep"),
@@ -193,12 +185,7 @@ static DEPTHS: [Row; 5] = [
     Row {
         plans: &[Plan::Keep],
         orders: &ORDERS,
-        setup: Setup {
-            source: DEEP_TEST,
-            files: &[],
-            failures: &[],
-            most: MOST_BYTES,
-        },
+        setup: setup!(DEEP_TEST, &[]),
         answers: &[
             (1, 5, "too deep"),
             (1, 6, "1"),
@@ -212,12 +199,7 @@ static DEPTHS: [Row; 5] = [
     Row {
         plans: &[Plan::Nothing],
         orders: &ORDERS,
-        setup: Setup {
-            source: DEEP_TEST,
-            files: &[],
-            failures: &[],
-            most: MOST_BYTES,
-        },
+        setup: setup!(DEEP_TEST, &[]),
         answers: &[
             (1, 5, "too deep"),
             (1, 6, "1"),
@@ -231,12 +213,7 @@ static DEPTHS: [Row; 5] = [
     Row {
         plans: &PLANS,
         orders: &ORDERS,
-        setup: Setup {
-            source: DEEP_TEST,
-            files: &[],
-            failures: &[],
-            most: MOST_BYTES,
-        },
+        setup: setup!(DEEP_TEST, &[]),
         answers: &[
             (1, 9, "1"),
             (0, 9, "0"),
@@ -259,24 +236,14 @@ static PICKED: [Row; 3] = [
     Row {
         plans: &[Plan::Keep, Plan::Nothing],
         orders: &[Order::Newest],
-        setup: Setup {
-            source: "a + x where x = x; end",
-            files: &[("a", "1\n")],
-            failures: &[],
-            most: MOST_BYTES,
-        },
+        setup: setup!("a + x where x = x; end", &[("a", "1\n")]),
         answers: &[(0, 5, "too deep")],
         consumed: [0, 0],
     },
     Row {
         plans: &[Plan::Keep, Plan::Nothing],
         orders: &[Order::Oldest],
-        setup: Setup {
-            source: "a + x where x = x; end",
-            files: &[("a", "1\n")],
-            failures: &[],
-            most: MOST_BYTES,
-        },
+        setup: setup!("a + x where x = x; end", &[("a", "1\n")]),
         answers: &[(0, 5, "too deep")],
         consumed: [2, 0],
     },
@@ -284,12 +251,10 @@ static PICKED: [Row; 3] = [
     Row {
         plans: &[Plan::Keep, Plan::Nothing],
         orders: &[Order::Oldest],
-        setup: Setup {
-            source: "(a + x) + (b + x) where x = x; end",
-            files: &[("a", "1\n"), ("b", "2\n")],
-            failures: &[],
-            most: MOST_BYTES,
-        },
+        setup: setup!(
+            "(a + x) + (b + x) where x = x; end",
+            &[("a", "1\n"), ("b", "2\n")]
+        ),
         answers: &[(0, 5, "too deep")],
         consumed: [2, 2],
     },

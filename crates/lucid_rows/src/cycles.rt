@@ -1,6 +1,9 @@
 //! What the test of cycles says of sources. The crate of the test has no sources of its own, so its tests stand here. Each row is worked
 //! out by hand from the delays of the references.
-use lucid_cycles::{JudgeRefusal, Judgment, enough, judge};
+ghost use Rattle.lucid_scope.specs.Scoped.{scoped_tree};
+ghost use Rattle.lucid_cycles.specs.Judged.{IsJudged};
+
+use lucid_cycles::{Judgment, enough, judge};
 use lucid_parse::parse;
 use lucid_scan::scan;
 use lucid_scope::{Scoped, resolve};
@@ -53,10 +56,15 @@ fn judged(alloc: Global, source: &[u8]) -> Result<String, Fail> {
     }
 }
 
+fn is_judged_so<R: Abort + AllocGlobal>(rt: &R, source: &str, expected: &str) -> Result<(), Fail> {
+    let text = judged(rt.alloc(), source.as_bytes())?;
+    assert_eq!(rt; text.as_str(), expected, "{source}");
+    Ok(())
+}
+
 fn each_is_judged<R: Abort + AllocGlobal>(rt: &R, rows: &[Row]) -> Result<(), Fail> {
     for (source, expected) in rows {
-        let text = judged(rt.alloc(), source.as_bytes())?;
-        assert_eq!(rt; text.as_str(), *expected, "{source}");
+        is_judged_so(rt, source, expected)?;
     }
     Ok(())
 }
@@ -206,26 +214,20 @@ fn chain(alloc: Global, count: u32) -> Result<String, AllocError> {
     Ok(text)
 }
 
+// The judgment of so many names, each of which needs the one before it at the same time.
+fn rising(alloc: Global, names: u32, add: u32) -> Result<String, AllocError> {
+    let mut text = format!(in alloc; "depth {names} * t + {add}, potentials")?;
+    for potential in 0..names {
+        write!(text, " {potential}")?;
+    }
+    Ok(text)
+}
+
 #[test]
 fn two_thousand_names_are_judged(rt: HostRuntime) -> Result<(), Fail> {
-    let source = chain(rt.alloc(), 2000)?;
-    let scoped = scoped_of(rt.alloc(), source.as_bytes())?;
-    let judgment = judge(rt.alloc(), &scoped)?;
-    assert!(rt;
-        matches!(
-            judgment,
-            Judgment::Enough {
-                factor: 2000,
-                add: 2,
-                ..
-            }
-        )
-    );
-    let source = chain(rt.alloc(), 2001)?;
-    let scoped = scoped_of(rt.alloc(), source.as_bytes())?;
-    let refused = judge(rt.alloc(), &scoped);
-    assert!(rt; matches!(refused, Err(JudgeRefusal::TooMany)));
-    Ok(())
+    let expected = rising(rt.alloc(), 2000, 2)?;
+    is_judged_so(&rt, &chain(rt.alloc(), 2000)?, &expected)?;
+    is_judged_so(&rt, &chain(rt.alloc(), 2001)?, "too many names")
 }
 
 // x0 where x0 = LAST; x1 = x0 + x0 + x0 + x0 + x0; x2 = x1 + x1 + x0 + x0 + x0; .. end: each name has five references of lesser ones
@@ -247,23 +249,10 @@ fn wide(alloc: Global, count: u32, last: &str) -> Result<String, AllocError> {
 // there are cycles without delay.
 #[test]
 fn ten_thousand_references_are_judged(rt: HostRuntime) -> Result<(), Fail> {
-    let source = wide(rt.alloc(), 2000, "0")?;
-    let scoped = scoped_of(rt.alloc(), source.as_bytes())?;
-    let judgment = judge(rt.alloc(), &scoped)?;
-    assert!(rt;
-        matches!(
-            judgment,
-            Judgment::Enough {
-                factor: 2000,
-                add: 2,
-                ..
-            }
-        )
-    );
-    let source = wide(rt.alloc(), 2000, "x1999")?;
-    let scoped = scoped_of(rt.alloc(), source.as_bytes())?;
-    let judgment = judge(rt.alloc(), &scoped)?;
-    assert!(rt; matches!(judgment, Judgment::Cycle { .. }));
+    let expected = rising(rt.alloc(), 2000, 2)?;
+    is_judged_so(&rt, &wide(rt.alloc(), 2000, "0")?, &expected)?;
+    let text = judged(rt.alloc(), wide(rt.alloc(), 2000, "x1999")?.as_bytes())?;
+    assert!(rt; text.starts_with("cycle"));
     Ok(())
 }
 
@@ -284,45 +273,38 @@ fn made(alloc: Global, last: u32) -> Result<String, AllocError> {
 
 #[test]
 fn a_made_program_is_judged(rt: HostRuntime) -> Result<(), Fail> {
-    let source = made(rt.alloc(), 1000)?;
-    let scoped = scoped_of(rt.alloc(), source.as_bytes())?;
-    let judgment = judge(rt.alloc(), &scoped)?;
-    assert!(rt;
-        matches!(
-            &judgment,
-            Judgment::Enough {
-                factor: 1001,
-                add: 1002,
-                ..
-            }
-        )
-    );
-    if let Judgment::Enough { potentials, .. } = &judgment {
-        assert!(rt; potentials.items().iter().copied().eq(0..1001));
-    }
+    let expected = rising(rt.alloc(), 1001, 1002)?;
+    is_judged_so(&rt, &made(rt.alloc(), 1000)?, &expected)
+}
+
+/// A factor, a number that is added, the potentials of two names, and whether that is enough.
+type Depth = (u64, u64, [u64; 2], bool);
+
+static DEPTHS: [Depth; 5] = [
+    (2, 3, [1, 0], true),
+    (2, 4, [1, 0], true),
+    (2, 2, [1, 0], false),
+    (1, 3, [1, 0], false),
+    (2, 3, [0, 0], false),
+];
+
+fn is_checked<R: Abort + AllocGlobal>(rt: &R, scoped: &Scoped, depth: &Depth) -> Result<(), Fail>
+    requires { IsJudged (scoped_tree scoped.now) }
+{
+    let (factor, add, potentials, expected) = *depth;
+    let mut items = Vec::new(rt.alloc());
+    items.extend_from_slice(&potentials)?;
+    let answer = enough(scoped, factor, add, &Numbers::from_vec(items));
+    assert_eq!(rt; answer, expected, "{factor} * t + {add}");
     Ok(())
 }
 
 #[test]
 fn a_depth_is_checked(rt: HostRuntime) -> Result<(), Fail> {
     let scoped = scoped_of(rt.alloc(), b"x where x = y where y = 0 fby x; end; end")?;
-    let judgment = judge(rt.alloc(), &scoped)?;
-    assert!(rt;
-        matches!(
-            judgment,
-            Judgment::Enough {
-                factor: 2,
-                add: 3,
-                ..
-            }
-        )
-    );
-    let potentials = Numbers::from_vec(vec![in rt.alloc(); 1, 0]?);
-    assert!(rt; enough(&scoped, 2, 3, &potentials));
-    assert!(rt; enough(&scoped, 2, 4, &potentials));
-    assert!(rt; !enough(&scoped, 2, 2, &potentials));
-    assert!(rt; !enough(&scoped, 1, 3, &potentials));
-    let potentials = Numbers::from_vec(vec![in rt.alloc(); 0, 0]?);
-    assert!(rt; !enough(&scoped, 2, 3, &potentials));
+    judge(rt.alloc(), &scoped)?;
+    for depth in &DEPTHS {
+        is_checked(&rt, &scoped, depth)?;
+    }
     Ok(())
 }

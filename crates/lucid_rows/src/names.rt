@@ -362,6 +362,11 @@ fn heads(alloc: Global) -> Result<String, AllocError> {
     Ok(source)
 }
 
+fn is_the_outermost<R: Abort>(rt: &R, scoped: &Scoped, last: u32) {
+    assert_eq!(rt; scoped.binding(last), Some(Binding::Plain { def: 8 }));
+    assert_eq!(rt; scoped.inputs().len(), 0);
+}
+
 // The innermost block has 100,000 definitions, and in each stands a name of the outermost one.
 #[test]
 fn many_definitions_in_deep_blocks(rt: HostRuntime) -> Result<(), Fail> {
@@ -371,11 +376,8 @@ fn many_definitions_in_deep_blocks(rt: HostRuntime) -> Result<(), Fail> {
     }
     let last = u32::try_from(source.len().saturating_sub(2))?;
     source.push_str("end")?;
-    for _ in 0..389 {
-        source.push_str("; end")?;
-    }
+    source.push_str(&"; end".repeat(rt.alloc(), 389)?)?;
     let scoped = scoped(rt.alloc(), source.as_bytes())??;
-    assert_eq!(rt; scoped.binding(last), Some(Binding::Plain { def: 8 }));
-    assert_eq!(rt; scoped.inputs().len(), 0);
+    is_the_outermost(&rt, &scoped, last);
     Ok(())
 }

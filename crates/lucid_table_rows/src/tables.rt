@@ -89,15 +89,26 @@ fn same_values<R: Abort + AllocGlobal>(
     Ok(of_tree)
 }
 
+// The values of a source at a limit, if its tree and its table have the same ones at each limit from the least one to it.
+fn values_of<R: Abort + AllocGlobal>(
+    rt: &R,
+    source: &str,
+    count: u32,
+    least: u32,
+    limit: u32,
+) -> Result<String, Fail> {
+    let scoped = scoped(rt.alloc(), source.as_bytes())?;
+    let program = compile(rt.alloc(), &scoped)?;
+    for lower in least..limit {
+        same_values(rt, source, &scoped, &program, count, lower)?;
+    }
+    same_values(rt, source, &scoped, &program, count, limit)
+}
+
 // The tree and the table have the row's values at its limit, and the same ones at each lower limit.
 fn keeps_values<R: Abort + AllocGlobal>(rt: &R, row: &Row) -> Result<(), Fail> {
     let (source, count, limit, values) = *row;
-    let scoped = scoped(rt.alloc(), source.as_bytes())?;
-    let program = compile(rt.alloc(), &scoped)?;
-    for lower in 0..limit {
-        same_values(rt, source, &scoped, &program, count, lower)?;
-    }
-    let text = same_values(rt, source, &scoped, &program, count, limit)?;
+    let text = values_of(rt, source, count, 0, limit)?;
     assert_eq!(rt; text.as_str(), values, "{source}");
     Ok(())
 }
@@ -243,9 +254,7 @@ fn at_edges(rt: HostRuntime) -> Result<(), Fail> {
 // A text that doubles at each time, and is too heavy from time 16 on: the texts of the sixteen strings and of two errors.
 #[test]
 fn weight_of_a_text(rt: HostRuntime) -> Result<(), Fail> {
-    let scoped = scoped(rt.alloc(), b"x where x = `a' fby x ^ x; end")?;
-    let program = compile(rt.alloc(), &scoped)?;
-    let text = same_values(&rt, "a text that doubles", &scoped, &program, 18, 18)?;
+    let text = values_of(&rt, "x where x = `a' fby x ^ x; end", 18, 18, 18)?;
     assert_eq!(rt; text.len(), 65_535 + 16 * 2 + 2 * 5 + 17 * 3);
     Ok(())
 }
@@ -253,14 +262,9 @@ fn weight_of_a_text(rt: HostRuntime) -> Result<(), Fail> {
 // not not .. true, as deep as a tree may be.
 #[test]
 fn deepest_tree(rt: HostRuntime) -> Result<(), Fail> {
-    let mut source = String::new(rt.alloc());
-    for _ in 1..400 {
-        source.push_str("not ")?;
-    }
+    let mut source = "not ".repeat(rt.alloc(), 399)?;
     source.push_str("true")?;
-    let scoped = scoped(rt.alloc(), source.as_bytes())?;
-    let program = compile(rt.alloc(), &scoped)?;
-    let text = same_values(&rt, "399 times not", &scoped, &program, 1, 1)?;
+    let text = values_of(&rt, &source, 1, 1, 1)?;
     assert_eq!(rt; text.as_str(), "false");
     Ok(())
 }
