@@ -10,7 +10,7 @@ use Rattle.lucid_equations.specs.Rows.{equations_of}
 use Rattle.lucid_equations.specs.declared.table.Table.{Table}
 use Rattle.lucid_facts.specs.Stands.{given}
 use Rattle.lucid_facts.specs.Held.{HoldsRight}
-use Rattle.lucid_facts.specs.Engine.{EngineView, places_of, IsSound, MayHave, holding, AreAskable, RootMeans, root_val, HoldsNeeded}
+use Rattle.lucid_facts.specs.Engine.{EngineView, places_of, IsSound, MayHave, holding, AreAskable, RootMeans, root_val, ReadsWithin, HoldsNeeded}
 use Rattle.lucid_facts.specs.Demands.{demand_of, stays}
 use Rattle.lucid_tree.specs.Members.{AllDiffer}
 use Rattle.lucid_tags.specs.Contexts.{root}
@@ -29,8 +29,8 @@ if_ok (Ok v) P Q h f = f v h
 if_ok (Err e) P Q h f = tt
 
 pub demanded : (old new : EngineView) (before after : World) (t s m : ℕ) (result : Result Value DemandFault) → IsSound old → AreAskable old.streams before
-    → LoopEnds old new before after t s m result → Demanded old new before after t s m result
-demanded old new before after t s m result sound ask l = record {
+    → ReadsWithin new → LoopEnds old new before after t s m result → Demanded old new before after t s m result
+demanded old new before after t s m result sound ask within l = record {
   value = if_ok result _ (λ v. (b : Elements) → MayHave new b → RootMeans new b t s (plain v)) l.answers (λ v a b may. let x = (a b may).means in (x.0, at_new b x.0 ∙ x.1));
   exact = λ empties. if_ok result _ (λ v. (b : Elements) → MayHave new b → root_val new b m t s ≡ Some (plain v)) l.answers (λ v a b may. at_new b m ∙ (a b may).exact empties);
   deep = λ e b may. at_new b m ∙ (undefined old before t s m b (right b may) (l.deep e b may)).0;
@@ -38,6 +38,7 @@ demanded old new before after t s m result sound ask l = record {
   drawn = λ b may. (engine_visits old new before after t s m l.owns b may).1;
   too_large = l.too_large;
   failed = l.failed;
+  within = within;
   visited = λ b may. (engine_visits old new before after t s m l.owns b may).0;
   few_held = l.owns.since.few;
   still_held = kept_is_held old new before after t s m l.owns;

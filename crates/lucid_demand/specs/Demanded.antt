@@ -6,7 +6,7 @@ use Rattle.lucid_tree.specs.Levels.{Elements}
 use Rattle.lucid_ports.specs.World.{World}
 use Rattle.lucid_ports.specs.Faults.{Rises}
 use Rattle.lucid_facts.specs.Elements.{elements_told}
-use Rattle.lucid_facts.specs.Engine.{EngineView, IsSound, MayHave, RootMeans, root_val, root_hval, holding, DrawsWithin, ConsultsOverlong, VisitsNew, HoldsFew, StillHolds, HoldsNeeded, AreAskable, GoesOn, ReadsOnly, places_of}
+use Rattle.lucid_facts.specs.Engine.{EngineView, IsSound, MayHave, RootMeans, root_val, root_hval, holding, DrawsWithin, ReadsWithin, ConsultsOverlong, VisitsNew, HoldsFew, StillHolds, HoldsNeeded, AreAskable, GoesOn, ReadsOnly, places_of}
 use Rattle.lucid_demand.specs.declared.fault.DemandFault.{DemandFault}
 use Rattle.lucid_demand.specs.declared.fault.DemandFault.TheVariants.{TooDeep, ReadFault, TooLarge}
 
@@ -36,6 +36,8 @@ pub record Demanded (old new : EngineView) (before after : World) (time space li
   pub drawn : (b : Elements) → MayHave new b → DrawsWithin old new b after limit time space
   pub too_large : IfErr result (λ e. OnTooLarge e (λ k. (b : Elements) → MayHave new b → ConsultsOverlong new b after k limit time space))
   pub failed : IsErrOf result ReadFault → Rises before.faults after.faults
+  -- Whatever the places tell, of no stream more is consumed than may be read.
+  pub within : ReadsWithin new
   -- What is newly held and newly known is visited; at most one more is held than the policy leaves.
   pub visited : (b : Elements) → MayHave new b → VisitsNew old new b limit time space
   pub few_held : HoldsFew old.room old.stored → HoldsFew old.room new.stored

@@ -99,6 +99,8 @@ impl<R: Retire, S: Pick> Engine<R, S> {
         requires { MayDemand self.old (P.world places.old) time space limit }
         ensures { Demanded self.old self.new (P.world places.old) (P.world places.new) time space limit result }
     {
+        // No stream is read on past the bytes that may be read.
+        lucid_inputs::keeps_within();
         let answer = self.evaluation.demand(places, time, space, limit);
         self.evaluation.tasks.clear();
         answer

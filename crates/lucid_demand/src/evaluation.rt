@@ -151,14 +151,15 @@ impl<R: Retire, S: Pick> Evaluation<R, S> {
         self.step(places, slot, answer)
     }
 
-    /// Drops contexts, held values and noted positions.
+    /// Drops contexts, held values and noted positions. The contexts give their memory back: the next demand may have as many tasks wait
+    /// as there were references on the way to what was held.
     pub(crate) fn clear(&mut self)
         ensures cleared { self.new ≡ record self.old {
           engine = record self.old.engine { known = empty_context ∷ []; stored = cleared self.old.engine.stored; noted = record self.old.engine.noted { sites = [] } };
         } }
         ensures one_for_one { IsOneForOne self.new.engine.known }
     {
-        self.tags.reset();
+        self.tags = Tags::make(self.alloc);
         self.warehouse.clear();
         self.positions.clear();
     }

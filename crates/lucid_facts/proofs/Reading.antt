@@ -10,9 +10,9 @@ use Rattle.lucid_ports.specs.World.{World, Contents}
 use Rattle.lucid_inputs.specs.declared.on_demand.Inputs.{Inputs}
 use Rattle.lucid_inputs.specs.Streams.{Stream, FitsPlace, all_bytes, fresh_stream}
 use Rattle.lucid_tags.specs.Known.{IsOneForOne, KeepsKnown}
-use Rattle.lucid_inputs.specs.Laws.{PlacesDiffer}
+use Rattle.lucid_inputs.specs.Laws.{KeepsWithin, PlacesDiffer}
 use Rattle.lucid_inputs.specs.Reading.{ReadsOn}
-use Rattle.lucid_inputs.specs.Inputs.{ReadsStream, streams, stream_at}
+use Rattle.lucid_inputs.specs.Inputs.{ReadsStream, streams, stream_at, most_bytes}
 use Rattle.lucid_equations.specs.Rows.{equations_of}
 use Rattle.lucid_equations.specs.Visits.{consults_on_nodes}
 use Rattle.lucid_equations.specs.MoreElements.{Extends}
@@ -237,3 +237,7 @@ streams_read old new number index before after there r = record {
 pub inputs_apart : PlacesDiffer → (inputs : Inputs) → AllDiffer (places_of (streams inputs))
 inputs_apart differ inputs = places_all_differ (streams inputs) (λ i k s t e f same. differ inputs i k (slice_get_within (streams inputs) i s e) (slice_get_within (streams inputs) k t f)
     (ap (λ o. (unwrap_or o (fresh_stream 0)).place) e ∙ same ∙ sym (ap (λ o. (unwrap_or o (fresh_stream 0)).place) f)))
+
+-- Of each stream of inputs no more bytes are consumed than may be read.
+pub inputs_within : KeepsWithin → (inputs : Inputs) (k : ℕ) (s : Stream) → slice_get (streams inputs) k ≡ Some s → s.consumed ≤ most_bytes inputs
+inputs_within keeps inputs k s e = subst (λ (x : Stream). x.consumed ≤ most_bytes inputs) (ap (λ o. unwrap_or o (fresh_stream 0)) e) (keeps inputs k).0

@@ -91,6 +91,10 @@ DrawsWithin old new b w m t s =
     → IfSome (w.place after.place).contents (λ c. (after.consumed ≤ before.consumed)
     ⊎ ((j : ℕ) × ForSomeAdded old (λ d. In (n, j) (consults_on_nodes (equations_of old.table) b m d t s)) × (after.consumed ≤ end_of_line (all_bytes c) j)))
 
+-- Of each stream no more bytes are consumed than may be read.
+abbrev pub ReadsWithin : EngineView → Type 0
+ReadsWithin e = (k : ℕ) (s : Stream) → slice_get e.streams k ≡ Some s → s.consumed ≤ e.most
+
 -- an overlong element that the limit's approximation consults
 pub record ConsultsOverlong (e : EngineView) (b : Elements) (w : World) (stream limit time space : ℕ) : Type 0 where
   pub name : List ℕ

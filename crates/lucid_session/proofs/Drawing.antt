@@ -10,7 +10,7 @@ use Rattle.lucid_equations.specs.Visits.{consults_on_nodes}
 use Rattle.lucid_equations.specs.Rows.{equations_of}
 use Rattle.lucid_facts.specs.Engine.{EngineView, AreAskable, ReadsOnly, DrawsWithin, VisitsNew, places_of}
 use Rattle.lucid_facts.specs.Engine as facts
-use Rattle.lucid_session.specs.Runs.{Told, HasElements}
+use Rattle.lucid_session.specs.Runs.{Told, HasElements, ReadsWithin}
 use Rattle.lucid_session.proofs.Lists.{some_once, none_some}
 use Rattle.lucid_session.proofs.Added.{Added, at_once, so, both, of_numbers}
 use Rattle.lucid_session.proofs.Moments.{Start, seen, of_run, IsConsultedBelow, DrawsBelow}
@@ -25,6 +25,14 @@ found (Some x) = inl (x, refl)
 counts : (s : Stream) (o : Option Contents) (c : Contents) → IfSome o (λ c. Fits s c) → o ≡ Some c → s.consumed ≡ length c.consumed
 counts s None c fits e = absurd (none_some e)
 counts s (Some d) c fits e = fits.consumed ∙ ap (λ x. length x.consumed) (some_once e)
+
+-- Where each stream fits its place, of no input more is consumed than its stream may read.
+pub reads_within : (z : Start) (e : EngineView) (w : World) (o : Told) → AreAskable e.streams w → places_of e.streams ≡ z.places → facts.ReadsWithin (of_run z e) → ReadsWithin (seen z w o)
+reads_within z e w o ask places few k n q is old new first last =
+    let s = stream_at e.streams k q (ap (λ ps. slice_get ps k) places ∙ is.1) in
+    let counted : s.0.consumed ≡ length new.consumed = counts s.0 (w.place s.0.place).contents new (ask k s.0 s.1).1 (ap (λ x. (w.place x).contents) s.2 ∙ last) in
+    let most : s.0.consumed ≤ z.most = few k s.0 s.1 in
+    inr (omega (arith, counted, most))
 
 drawn_of : (o : Option Contents) (c : Contents) (P : Contents → Type 0) → IfSome o P → o ≡ Some c → P c
 drawn_of None c P h e = absurd (none_some e)

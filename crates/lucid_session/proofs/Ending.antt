@@ -27,7 +27,7 @@ use Rattle.lucid_demand.specs.declared.fault.DemandFault.{DemandFault}
 use Rattle.lucid_demand.specs.declared.fault.DemandFault.TheVariants.{TooDeep, ReadFault, TooLarge, NoMemory}
 use Rattle.lucid_session.specs.Subject.{Subject, stream_subject, table_stream, StreamMeans, Output, no_lines, one_line_more}
 use Rattle.lucid_session.specs.Runs as runs
-use Rattle.lucid_session.specs.Runs.{Told, RunView, HasElements, Written, ForSomeAdded, ConsumesWithin, EndsAt, IsDone, IsDeepEnough, Ran, Causes}
+use Rattle.lucid_session.specs.Runs.{Told, RunView, HasElements, Written, ForSomeAdded, ConsumesWithin, ReadsWithin, EndsAt, IsDone, IsDeepEnough, Ran, Causes}
 use Rattle.lucid_session.specs.Figures.{table_counted, points_below, IsDefinedBelow, times_of, Figures, HasMoreThan}
 use Rattle.lucid_session.specs.Sessions.{Promises}
 use Rattle.lucid_session.specs.Faults.{of_demand}
@@ -96,14 +96,15 @@ module _ (z : Start) (b : Elements) (w : World) (o : Told) where
   -- A run is done after so many lines, and attempted so many times.
   module _ (e : EngineView) (s : Summary) (t a c : ℕ) (lines : HasLines z b o t) (visited : Visited z b e w a c) where
     pub ran_done : s.lines ≡ t → EndsAt (subject z) b (seen z w o) s.ended t → (IsTrue z.policy.empties → s.ended ≡ true → IsSome (eqval (equations_of z.table) b z.depth t 0))
-        → t ≤ z.count → a ≤ z.count → a ≤ suc t → Ran (subject z) b (seen z w o) (Ok s)
-    ran_done all ends last within few near = record {
-      out = written_whole t lines within;
+        → t ≤ z.count → a ≤ z.count → a ≤ suc t → ReadsWithin (seen z w o) → Ran (subject z) b (seen z w o) (Ok s)
+    ran_done all ends last most few near within = record {
+      out = written_whole t lines most;
       done = record { lines = all; nothing_begun = refl; ends = ends };
       deep = tt;
       exact = defined_at t (s.ended ≡ true) lines last;
       complete = λ deep read write long. tt;
       consumed = consumes t a few near visited.drawn;
+      within = within;
       too_large = tt;
     }
 
@@ -147,6 +148,7 @@ module _ (z : Start) (b : Elements) (e : EngineView) (w : World) (o : Told) (t c
     complete = λ deep read write long.
         absurd (is_none (eqval (equations_of z.table) b z.depth t 0) (found.deep refl) (deep t early (no_end z b t found.lines.bytes found.lines.output)));
     consumed = consumes z b w o t (suc t) (omega (arith, early)) (omega arith) found.visited.drawn;
+    within = asked.within;
     too_large = tt;
   }
   ran_refused ReadFault asked found early = record {
@@ -156,6 +158,7 @@ module _ (z : Start) (b : Elements) (e : EngineView) (w : World) (o : Told) (t c
     exact = defined_at z b w o t ⊥ found.lines (λ empties ended. absurd ended);
     complete = λ deep read write long. absurd (read (asked.failed refl));
     consumed = consumes z b w o t (suc t) (omega (arith, early)) (omega arith) found.visited.drawn;
+    within = asked.within;
     too_large = tt;
   }
   ran_refused (TooLarge k) asked found early = record {
@@ -165,6 +168,7 @@ module _ (z : Start) (b : Elements) (e : EngineView) (w : World) (o : Told) (t c
     exact = defined_at z b w o t ⊥ found.lines (λ empties ended. absurd ended);
     complete = λ deep read write long. absurd (long k (overlong z b e w o k t t asked.places asked.reads_only early (omega arith) found.too_large));
     consumed = consumes z b w o t (suc t) (omega (arith, early)) (omega arith) found.visited.drawn;
+    within = asked.within;
     too_large = overlong z b e w o k t t asked.places asked.reads_only early (omega arith) found.too_large;
   }
   ran_refused NoMemory asked found early = record {
@@ -174,6 +178,7 @@ module _ (z : Start) (b : Elements) (e : EngineView) (w : World) (o : Told) (t c
     exact = defined_at z b w o t ⊥ found.lines (λ empties ended. absurd ended);
     complete = λ deep read write long. refl;
     consumed = consumes z b w o t (suc t) (omega (arith, early)) (omega arith) found.visited.drawn;
+    within = asked.within;
     too_large = tt;
   }
 
@@ -233,7 +238,7 @@ module _ (z : Start) (e : EngineView) (w : World) (o : Told) (t c : ℕ) where
         ran_done z b w o e (record { lines = t; ended = true; held = count_of e.stored; lost = e.stored.lost; cleared = c }) t (suc t) c f.lines f.visited refl
         (early, subst (λ x. StreamMeans (table_stream z.table) b t x) end f.value)
         (λ empties ended. some_is (eqval (equations_of z.table) b z.depth t 0) (plain v) (f.exact empties))
-        (omega (arith, early)) (omega (arith, early)) (omega arith);
+        (omega (arith, early)) (omega (arith, early)) (omega arith) asked.within;
     figures = λ b has. let f = asked.found b has in
         figures_done z b w o e (record { lines = t; ended = true; held = count_of e.stored; lost = e.stored.lost; cleared = c }) t (suc t) c f.lines f.visited asked.sound each f.holds refl refl refl refl;
     causes = record { read = λ h. absurd (cc); write = λ h. absurd (cc); read_count = asked.reads_only.faults; write_count = asked.out_faults; too_large = tt; held = asked.few_held };
@@ -247,7 +252,7 @@ module _ (z : Start) (e : EngineView) (w : World) (o : Told) (t c : ℕ) where
     headline = λ b has. let f = going.so_far b has in
         ran_done z b w o e (record { lines = t; ended = false; held = count_of e.stored; lost = e.stored.lost; cleared = c }) t t c f.lines f.visited refl all
         (λ empties ended. absurd (true≢false (sym ended)))
-        (omega (arith, all)) (omega (arith, all)) (omega arith);
+        (omega (arith, all)) (omega (arith, all)) (omega arith) going.within;
     figures = λ b has. let f = going.so_far b has in
         figures_done z b w o e (record { lines = t; ended = false; held = count_of e.stored; lost = e.stored.lost; cleared = c }) t t c f.lines f.visited going.sound each f.holds refl refl refl refl;
     causes = record { read = λ h. absurd (cc); write = λ h. absurd (cc); read_count = going.reads_only.faults; write_count = going.out_faults; too_large = tt; held = going.few_held };

@@ -25,14 +25,14 @@ use Rattle.lucid_demand.specs.Demanded as demand
 use Rattle.lucid_demand.specs.declared.fault.DemandFault.{DemandFault}
 use Rattle.lucid_demand.specs.declared.fault.DemandFault.TheVariants.{TooDeep, ReadFault, TooLarge, NoMemory}
 use Rattle.lucid_session.specs.Subject.{StreamMeans, table_stream, no_lines}
-use Rattle.lucid_session.specs.Runs.{Told, HasElements}
+use Rattle.lucid_session.specs.Runs.{Told, HasElements, ReadsWithin}
 use Rattle.lucid_session.specs.Figures.{points_below, table_counted, IsDefinedBelow, HasMoreThan}
 use Rattle.lucid_session.proofs.Added.{at_once, so}
 use Rattle.lucid_session.proofs.Lists.{some_once}
 use Rattle.lucid_session.proofs.Stopped.{with_nothing}
 use Rattle.lucid_session.proofs.Moments.{Start, seen, of_run, HasLines, Visited, HoldsBelow, SoFar, Going, DrawsBelow, entered_below}
 use Rattle.lucid_session.proofs.Told.{may_have}
-use Rattle.lucid_session.proofs.Drawing.{drawn_more}
+use Rattle.lucid_session.proofs.Drawing.{reads_within, drawn_more}
 use Rattle.lucid_session.proofs.Knowing.{known_more, more_later}
 use Rattle.lucid_session.proofs.Holding.{holds_nothing, holds_more}
 use Rattle.lucid_session.proofs.Deepening.{same_held_value}
@@ -54,6 +54,7 @@ begins z e is sound askable places known stored = record {
   askable = askable;
   places = places;
   reads_only = reads_only_itself z.places z.before;
+  within = λ k n q is old new before after. inl (omega (arith, ap (λ c. length c.consumed) (same_contents (z.before.place q).contents new old after before)));
   few_held = few_at z.policy.room (count_of e.stored) (ap count_of stored);
   few_clearings = omega arith;
   out_faults = omega arith;
@@ -100,6 +101,7 @@ pub record Asked (z : Start) (e : EngineView) (w : World) (o : Told) (time clear
   pub askable : AreAskable e.streams w
   pub places : places_of e.streams ≡ z.places
   pub reads_only : ReadsOnly z.places z.before w
+  pub within : ReadsWithin (seen z w o)
   pub few_held : HoldsFew z.policy.room e.stored
   pub few_clearings : cleared ≤ time
   pub out_faults : z.out_before.faults ≤ o.faults
@@ -197,6 +199,7 @@ module _ (z : Start) (e f : EngineView) (w v : World) (o : Told) (t c : ℕ) (re
       askable = d.fits;
       places = places_now;
       reads_only = reads_now;
+      within = reads_within z f v o d.fits places_now d.within;
       few_held = d.few_held going.few_held;
       few_clearings = going.few_clearings;
       out_faults = going.out_faults;

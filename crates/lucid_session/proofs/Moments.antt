@@ -17,7 +17,7 @@ use Rattle.lucid_equations.specs.Rows.{equations_of}
 use Rattle.lucid_equations.specs.declared.table.Table.{Table}
 use Rattle.lucid_facts.specs.Engine.{EngineView, IsSound, AreAskable, ReadsOnly, HoldsFew, places_of, holding}
 use Rattle.lucid_session.specs.Subject.{stream_subject, table_stream, Output}
-use Rattle.lucid_session.specs.Runs.{Told, PolicyView, RunView, HasElements}
+use Rattle.lucid_session.specs.Runs.{Told, PolicyView, RunView, HasElements, ReadsWithin}
 use Rattle.lucid_session.specs.Figures.{points_below, HasMoreThan}
 use Rattle.lucid_session.proofs.Added.{Added}
 
@@ -116,6 +116,7 @@ pub record Going (z : Start) (e : EngineView) (w : World) (o : Told) (times clea
   pub askable : AreAskable e.streams w
   pub places : places_of e.streams ≡ z.places
   pub reads_only : ReadsOnly z.places z.before w
+  pub within : ReadsWithin (seen z w o)
   pub few_held : HoldsFew z.policy.room e.stored
   pub few_clearings : cleared ≤ times
   pub out_faults : z.out_before.faults ≤ o.faults

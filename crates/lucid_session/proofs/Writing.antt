@@ -22,7 +22,7 @@ use Rattle.lucid_equations.specs.Values.{eqval}
 use Rattle.lucid_equations.specs.Rows.{equations_of}
 use Rattle.lucid_facts.specs.Engine.{EngineView, IsSound, AreAskable, places_of}
 use Rattle.lucid_session.specs.Subject.{Subject, StreamMeans, table_stream, one_line_more}
-use Rattle.lucid_session.specs.Runs.{Told, RunView, HasElements, Written, ForSomeAdded, ConsumesWithin, ConsultsOverlong, IsTooDeep, OnTooDeep, OnTooLarge, Ran}
+use Rattle.lucid_session.specs.Runs.{Told, RunView, HasElements, Written, ForSomeAdded, ConsumesWithin, ReadsWithin, ConsultsOverlong, IsTooDeep, OnTooDeep, OnTooLarge, Ran}
 use Rattle.lucid_session.specs.Figures.{table_counted, points_below, IsDefinedBelow, HasMoreThan, OnDepth, OnClearings}
 use Rattle.lucid_session.specs.Sessions.{Promises}
 use Rattle.lucid_session.specs.Lines.{WritesLine}
@@ -56,15 +56,16 @@ err_once e = cc
 
 -- A run that a refused write ends, or want of memory.
 ran_stopped : (S : Subject) (b : Elements) (r : RunView) (out : Written S b r) → (IsTrue r.policy.empties → (u : ℕ) → u < out.whole → S.defined b r.depth u)
-    → ForSomeAdded r (ConsumesWithin S b r out.whole) → (q : RunFault) → (q ≡ run.WriteFault) ⊎ (q ≡ run.NoMemory)
+    → ForSomeAdded r (ConsumesWithin S b r out.whole) → ReadsWithin r → (q : RunFault) → (q ≡ run.WriteFault) ⊎ (q ≡ run.NoMemory)
     → (q ≡ run.WriteFault → Rises r.out_before.faults r.out_after.faults) → Ran S b r (Err q)
-ran_stopped S b r out exact consumed q refused rises = record {
+ran_stopped S b r out exact consumed within q refused rises = record {
   out = out;
   done = tt;
   deep = quiet (λ x. OnTooDeep x (IsTooDeep S b r out)) tt tt q refused;
   exact = λ empties u at. elim at [ inl lt ↦ exact empties u lt | inr end ↦ absurd end.1 ];
   complete = λ deep read write long. elim refused [ inl is ↦ absurd (write (rises is)) | inr is ↦ is ];
   consumed = consumed;
+  within = within;
   too_large = quiet (λ x. OnTooLarge x (ConsultsOverlong S b r out.whole)) tt tt q refused;
 }
 
@@ -106,6 +107,7 @@ module _ (z : Start) (e : EngineView) (w : World) (o p : Told) (t c : ℕ) (v : 
     askable = asked.askable;
     places = asked.places;
     reads_only = asked.reads_only;
+    within = asked.within;
     few_held = asked.few_held;
     few_clearings = omega (arith, asked.few_clearings);
     out_faults = omega (arith, asked.out_faults, writes.faults);
@@ -130,12 +132,12 @@ module _ (z : Start) (e : EngineView) (w : World) (o p : Told) (t c : ℕ) (v : 
         by : (writes.count < length (line (plain v))) ⊎ (length (line (plain v)) ≤ writes.count) → Ran (subject z) b (seen z w p) (Err q)
         by (inl short) =
             ran_stopped (subject z) b (seen z w p) (written_front z b o p t f.lines (plain v) f.value goes_on w early writes.count short writes.front) f.lines.exact
-            (consumes z b w p t (suc t) (omega (arith, early)) (omega arith) f.visited.drawn) q writes.refused rises
+            (consumes z b w p t (suc t) (omega (arith, early)) (omega arith) f.visited.drawn) asked.within q writes.refused rises
         by (inr long) =
             let written = writes.front ∙ whole_front writes.count (line (plain v)) o.bytes (omega (arith, long, writes.within)) in
             let lines = lines_more z b o p t f.lines (plain v) f.value goes_on written (exact_now b has) in
             ran_stopped (subject z) b (seen z w p) (written_whole z b w p (suc t) lines (omega (arith, early))) lines.exact
-            (consumes z b w p (suc t) (suc t) (omega (arith, early)) (omega arith) f.visited.drawn) q writes.refused rises
+            (consumes z b w p (suc t) (suc t) (omega (arith, early)) (omega arith) f.visited.drawn) asked.within q writes.refused rises
 
     pub promise_unwritten : Promises z.table (seen z w p) (Err q)
     promise_unwritten = record {
@@ -184,6 +186,7 @@ module _ (z : Start) (e f : EngineView) (w : World) (o : Told) (t c : ℕ) (goin
     askable = subst (λ ss. AreAskable ss w) (sym streams) going.askable;
     places = ap places_of streams ∙ going.places;
     reads_only = going.reads_only;
+    within = going.within;
     few_held = few_at z.policy.room (count_of f.stored) (ap (λ x. count_of x.stored) is);
     few_clearings = omega (arith, few);
     out_faults = going.out_faults;

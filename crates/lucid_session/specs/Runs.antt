@@ -101,6 +101,12 @@ ConsumesWithin S b r w d = (k : ℕ) (n : List ℕ) (q : ℕ) → IsInput r k n 
     → (old new : Contents) → (r.before.place q).contents ≡ Some old → (r.after.place q).contents ≡ Some new
     → (length new.consumed ≤ length old.consumed) ⊎ ((j : ℕ) × IsConsulted S b r w d (n, j) × (length new.consumed ≤ end_of_line (all_bytes old) j))
 
+-- Of each input no more is consumed than was, or than may be read.
+abbrev pub ReadsWithin : RunView → Type 0
+ReadsWithin r = (k : ℕ) (n : List ℕ) (q : ℕ) → IsInput r k n q
+    → (old new : Contents) → (r.before.place q).contents ≡ Some old → (r.after.place q).contents ≡ Some new
+    → (length new.consumed ≤ length old.consumed) ⊎ (length new.consumed ≤ r.most)
+
 -- An element of this input is consulted at a time attempted that lies past the bytes that may be read.
 pub record ConsultsOverlong (S : Subject) (b : Elements) (r : RunView) (whole number : ℕ) : Type 0 where
   pub name : List ℕ
@@ -164,8 +170,9 @@ pub record Ran (S : Subject) (b : Elements) (r : RunView) (result : Result Summa
   -- Complete: where the limit is deep enough, no call on the places or the output failed and nothing overlong is consulted, it is done.
   pub complete : IsDeepEnough S b r → (Rises r.before.faults r.after.faults → ⊥) → (Rises r.out_before.faults r.out_after.faults → ⊥)
       → ((k : ℕ) → ConsultsOverlong S b r out.whole k → ⊥) → IsOkOrNoMemory result
-  -- No input is consumed past what is consulted, and one is too large only where an element past the bytes that may be read is consulted.
+  -- No input is consumed past what is consulted, or past the bytes that may be read; one is too large only where an element past these is consulted.
   pub consumed : ForSomeAdded r (ConsumesWithin S b r out.whole)
+  pub within : ReadsWithin r
   pub too_large : IfErr result (λ e. OnTooLarge e (ConsultsOverlong S b r out.whole))
 
 -- The causes of faults, which input is too large, and the most that is held, whatever the places and the output tell.

@@ -49,6 +49,7 @@ unread S b r silent nothing rises = record {
   exact = λ empties t h. elim h [ inl below ↦ absurd (not_below_zero t below) | inr ended ↦ absurd ended.1 ];
   complete = λ deep reads writes large. absurd (reads rises);
   consumed = record { added = 0; none = λ _. refl; holds = λ d le k n q is old new x y. inl (nothing k n q is old new x y) };
+  within = λ k n q is old new x y. inl (nothing k n q is old new x y);
   too_large = tt;
 }
 
@@ -60,6 +61,7 @@ unmade S b r silent nothing = record {
   exact = λ empties t h. elim h [ inl below ↦ absurd (not_below_zero t below) | inr ended ↦ absurd ended.1 ];
   complete = λ deep reads writes large. refl;
   consumed = record { added = 0; none = λ _. refl; holds = λ d le k n q is old new x y. inl (nothing k n q is old new x y) };
+  within = λ k n q is old new x y. inl (nothing k n q is old new x y);
   too_large = tt;
 }
 
@@ -80,6 +82,7 @@ for_memory S b r f x = record {
   exact = x.exact;
   complete = λ deep reads writes large. refl;
   consumed = x.consumed;
+  within = x.within;
   too_large = tt;
 }
 

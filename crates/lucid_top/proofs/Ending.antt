@@ -38,14 +38,14 @@ use Rattle.lucid_top.specs.Tasks.{task_of, form_of, is_built}
 use Rattle.lucid_top.specs.Telling.{WritesWhole, WritesFront}
 use Rattle.lucid_top.specs.Refusals.{words_stop, judge_stop, IsRefusalOf}
 use Rattle.lucid_top.specs.Judged.{RefusesText, RefusesNames, HasInputs}
-use Rattle.lucid_top.specs.Flat.{RefusesFlat}
-use Rattle.lucid_top.specs.Files.{RefusesGiven}
-use Rattle.lucid_top.specs.Stages.{IsSource, Asks, HasTree, HasFlat, HasNames, IsWriting, IsTextFor, asks_for, inputs_in, Refuses, by_words, by_task, by_text, by_flat, by_names, by_judging, by_given}
-use Rattle.lucid_top.specs.Runs.{most_places, first_place}
-use Rattle.lucid_top.specs.Places.{KeepsNames, SpeltBySource, FlatBySource, IsAccepted, IsSourceStop, IsProgramStop, IsReadStop, AreFresh}
+use Rattle.lucid_top.specs.Flat.{most_flat_bytes, RefusesFlat}
+use Rattle.lucid_top.specs.Files.{RefusesGiven, FitsGiven}
+use Rattle.lucid_top.specs.Stages.{IsSource, Asks, HasTree, HasFlat, HasNames, IsWriting, IsTextFor, asks_for, inputs_in, IsRun, Refuses, by_words, by_task, by_text, by_flat, by_names, by_judging, by_given}
+use Rattle.lucid_top.specs.Runs.{most_places, first_place, run_places, run_of}
+use Rattle.lucid_top.specs.Places.{KeepsNames, ReadsSource, most_read, SpeltBySource, FlatBySource, IsAccepted, IsSourceStop, IsProgramStop, IsReadStop, AreFresh}
 use Rattle.lucid_top.specs.Writing.{WritesSome, WritesSomeFront, WritesOnly}
 use Rattle.lucid_top.specs.Clauses.{WritesNothing}
-use Rattle.lucid_top.specs.Coming.{Rests, IsOfMade, RunsTable, Comes}
+use Rattle.lucid_top.specs.Coming.{reaches_nothing, reaches_source, reaches_inputs, Rests, IsOfMade, RunsTable, Comes}
 use Rattle.lucid_top.proofs.Pieces.{rises_from}
 
 -- the words of a call ask for what is built
@@ -65,6 +65,18 @@ pub of_text : (w : PlainWords) (t : Task) → task_of w ≡ t → is_built t for
 of_text w t is not built flat =
     let there : is_built t form.Flat ≡ true = subst (λ f. is_built t f ≡ true) flat (subst (λ x. is_built x (form_of w) ≡ true) is built) in absurd (cc (there, not))
 
+-- how much of a source may be read, by its form
+most_of_text : (f : Form) → f ≢ form.Flat → most_read f ≡ most_source_bytes + 1
+most_of_text form.Flat other = absurd (other refl)
+most_of_text form.Text other = refl
+most_of_text form.Made other = refl
+
+pub within_text : (w : PlainWords) (s : PlainSource) (u : World) → IsText w → ReadsSource (most_source_bytes + 1) s u → ReadsSource (most_read (form_of w)) s u
+within_text w s u text within = subst (λ most. ReadsSource most s u) (sym (most_of_text (form_of w) text)) within
+
+pub within_flat : (w : PlainWords) (s : PlainSource) (u : World) → IsFlat w → ReadsSource (most_flat_bytes + 1) s u → ReadsSource (most_read (form_of w)) s u
+within_flat w s u flat within = subst (λ f. ReadsSource (most_read f) s u) (sym flat) within
+
 abbrev pub asks_of : (c : Call) (w : PlainWords) → Begins c w → Asks c
 asks_of c w b = record { words = w; read = b.read; built = b.built }
 
@@ -79,10 +91,12 @@ first_place_le (file name) = omega arith
 first_place_le (made n) = omega arith
 
 -- where no place but the source's is reached, nothing of an input is read
-pub rests_of : (c : Call) (w : PlainWords) → c.asked ≡ Some w → WritesNothing c → c.after.reached ≤ first_place w.source → Rests c
-rests_of c w read silent few = record {
+pub rests_of : (c : Call) (w : PlainWords) → Begins c w → WritesNothing c → c.after.reached ≤ first_place w.source → Rests c
+rests_of c w b silent few = record {
+  reaches = reaches_source (asks_of c w b) few;
   silent = silent;
   unread = λ v asked q le lt new is.
+      let read = b.read in
       let same : v ≡ w = cc (asked, read) in
       let le' : first_place w.source ≤ q = subst (λ (u : PlainWords). first_place u.source ≤ q) same le in
       absurd (omega (arith, few, le', lt));
@@ -97,11 +111,11 @@ stops_by : (Refused : List ℕ → Refusal → Type 0) (c : Call) (w : PlainWord
     → IsSourceStop Refused w.source c.before c.after s → WritesNothing c → c.after.reached ≤ first_place w.source → Comes c (Err s)
 stops_by Refused c w (stop.Refused why) b refuses why_stops silent few =
     let r = refuses why_stops.0 why_stops.1 why why_stops.2 in
-    record { only = (r.0, silent); how = inl (r, rests_of c w b.read silent few); few_places = few_places c w.source few }
+    record { only = (r.0, silent); how = inl (r, rests_of c w b silent few); few_places = few_places c w.source few }
 stops_by Refused c w stop.ReadFault b refuses why_stops silent few =
-    record { only = why_stops; how = inl (asks_of c w b, rests_of c w b.read silent few); few_places = few_places c w.source few }
+    record { only = why_stops; how = inl (asks_of c w b, rests_of c w b silent few); few_places = few_places c w.source few }
 stops_by Refused c w stop.NoMemory b refuses why_stops silent few =
-    record { only = tt; how = inl (tt, rests_of c w b.read silent few); few_places = few_places c w.source few }
+    record { only = tt; how = inl (tt, rests_of c w b silent few); few_places = few_places c w.source few }
 stops_by Refused c w stop.WriteFault b refuses why_stops silent few = absurd why_stops
 stops_by Refused c w (stop.TooDeep t l x f) b refuses why_stops silent few = absurd why_stops
 stops_by Refused c w (stop.TooLarge k n) b refuses why_stops silent few = absurd why_stops
@@ -115,8 +129,8 @@ pub flat_stops : (c : Call) (w : PlainWords) (s : Stop) → Begins c w → IsFla
 flat_stops c w s b flat = stops_by RefusesFlat c w s b (λ bytes is why r. (by_flat (record { asks = asks_of c w b; bytes = bytes; is = is }) flat r, tt))
 
 -- want of memory stops the call
-pub memory_stops : (c : Call) (w : PlainWords) → c.asked ≡ Some w → WritesNothing c → c.after.reached ≤ first_place w.source → Comes c (Err stop.NoMemory)
-memory_stops c w read silent few = record { only = tt; how = inl (tt, rests_of c w read silent few); few_places = few_places c w.source few }
+pub memory_stops : (c : Call) (w : PlainWords) → Begins c w → WritesNothing c → c.after.reached ≤ first_place w.source → Comes c (Err stop.NoMemory)
+memory_stops c w b silent few = record { only = tt; how = inl (tt, rests_of c w b silent few); few_places = few_places c w.source few }
 
 -- what is written whole is written in front
 pub whole_front : (text : List ℕ) (before after : Told) → WritesWhole text before after → WritesFront text before after
@@ -138,27 +152,27 @@ front_of_some : (P : List ℕ → Type 0) (before after : Told) → WritesSome P
 front_of_some P before after h = (h.0, h.1, whole_front h.0 before after h.2)
 
 -- the text that is asked for is written
-pub writes : (c : Call) (w : PlainWords) (x : IsWriting c) (o : Outcome) → c.after.reached ≤ first_place w.source → WritesOnly (IsTextFor x) c.out_before c.out_after o → Comes c o
-writes c w x (Ok done.Written) few h = record {
+pub writes : (c : Call) (w : PlainWords) (x : IsWriting c) (o : Outcome) → Begins c w → c.after.reached ≤ first_place w.source → WritesOnly (IsTextFor x) c.out_before c.out_after o → Comes c o
+writes c w x (Ok done.Written) b few h = record {
   only = x;
-  how = inr (inr (x, record { front = inr (front_of_some (IsTextFor x) c.out_before c.out_after h); whole = λ _. h; complete = λ _ _. inl refl }));
+  how = inr (inr (x, record { front = inr (front_of_some (IsTextFor x) c.out_before c.out_after h); whole = λ _. h; complete = λ _ _. inl refl }, (asks_of c w b, few)));
   few_places = few_places c w.source few;
 }
-writes c w x (Err stop.WriteFault) few h = record {
+writes c w x (Err stop.WriteFault) b few h = record {
   only = h.1;
-  how = inr (inr (x, record { front = inr h.0; whole = λ e. absurd (cc e); complete = λ _ writes. absurd (writes h.1) }));
+  how = inr (inr (x, record { front = inr h.0; whole = λ e. absurd (cc e); complete = λ _ writes. absurd (writes h.1) }, (asks_of c w b, few)));
   few_places = few_places c w.source few;
 }
-writes c w x (Err stop.NoMemory) few h = record {
+writes c w x (Err stop.NoMemory) b few h = record {
   only = tt;
-  how = inr (inr (x, record { front = h; whole = λ e. absurd (cc e); complete = λ _ _. inr refl }));
+  how = inr (inr (x, record { front = h; whole = λ e. absurd (cc e); complete = λ _ _. inr refl }, (asks_of c w b, few)));
   few_places = few_places c w.source few;
 }
-writes c w x (Ok (done.Ran summary stats)) few h = absurd h
-writes c w x (Err (stop.Refused why)) few h = absurd h
-writes c w x (Err stop.ReadFault) few h = absurd h
-writes c w x (Err (stop.TooDeep t l y f)) few h = absurd h
-writes c w x (Err (stop.TooLarge k n)) few h = absurd h
+writes c w x (Ok (done.Ran summary stats)) b few h = absurd h
+writes c w x (Err (stop.Refused why)) b few h = absurd h
+writes c w x (Err stop.ReadFault) b few h = absurd h
+writes c w x (Err (stop.TooDeep t l y f)) b few h = absurd h
+writes c w x (Err (stop.TooLarge k n)) b few h = absurd h
 
 -- where something else than the canonical source is asked for, the names are looked at
 pub not_print : (w : PlainWords) (t : Task) → task_of w ≡ t → (t ≡ task.Print → ⊥) → task_of w ≢ task.Print
@@ -195,7 +209,7 @@ names_refuse : (c : Call) (w : PlainWords) (p : PlainTree) (why : Refusal) → B
     → WritesNothing c → c.after.reached ≤ first_place w.source → Comes c (Err (stop.Refused why))
 names_refuse c w p why b text other spelt well refused silent few = record {
   only = (by_names (tree_of c w p b text spelt) other refused, silent);
-  how = inl ((by_names (tree_of c w p b text spelt) other refused, well), rests_of c w b.read silent few);
+  how = inl ((by_names (tree_of c w p b text spelt) other refused, well), rests_of c w b silent few);
   few_places = few_places c w.source few;
 }
 
@@ -233,24 +247,46 @@ judging_stops c w p free (judge.Outside at) b text is a inputs refused silent fe
     let names = names_of c w p free b text (cycles_not_print w is) a inputs in
     record {
       only = (by_judging names is (record { refusal = judge.Outside at; is = refl; refused = refused }), silent);
-      how = inl ((by_judging names is (record { refusal = judge.Outside at; is = refl; refused = refused }), a.well_made), rests_of c w b.read silent few);
+      how = inl ((by_judging names is (record { refusal = judge.Outside at; is = refl; refused = refused }), a.well_made), rests_of c w b silent few);
       few_places = few_places c w.source few;
     }
 judging_stops c w p free judge.TooMany b text is a inputs refused silent few =
     let names = names_of c w p free b text (cycles_not_print w is) a inputs in
     record {
       only = (by_judging names is (record { refusal = judge.TooMany; is = refl; refused = refused }), silent);
-      how = inl ((by_judging names is (record { refusal = judge.TooMany; is = refl; refused = refused }), a.well_made), rests_of c w b.read silent few);
+      how = inl ((by_judging names is (record { refusal = judge.TooMany; is = refl; refused = refused }), a.well_made), rests_of c w b silent few);
       few_places = few_places c w.source few;
     }
 judging_stops c w p free judge.NoMemory b text is a inputs refused silent few =
-    record { only = tt; how = inl (tt, rests_of c w b.read silent few); few_places = few_places c w.source few }
+    record { only = tt; how = inl (tt, rests_of c w b silent few); few_places = few_places c w.source few }
 
 -- the words of a program that is run
 pub words_of : (c : Call) (w : PlainWords) (t : Table) (v : World) (b : RunsTable c w t v) → (asks_for b.program).words ≡ w
 words_of c w t v b =
     let there = (asks_for b.program).read in
     let here = b.read in cc (there, here)
+
+-- they ask for what is built
+begins_of : (c : Call) (w : PlainWords) (t : Table) (v : World) → RunsTable c w t v → Begins c w
+begins_of c w t v b =
+    record { read = b.read; built = subst (λ (u : PlainWords). is_built (task_of u) (form_of u) ≡ true) (words_of c w t v b) (asks_for b.program).built }
+
+-- the table is run, where the words give its inputs files
+abbrev pub run_of_table : (c : Call) (w : PlainWords) (t : Table) (v : World) → RunsTable c w t v → FitsGiven t.inputs w.given → IsRun c
+run_of_table c w t v b fits =
+    let words : (asks_for b.program).words ≡ w = words_of c w t v b in
+    record {
+      program = b.program;
+      task = ap task_of words ∙ b.task;
+      fits = subst (λ (x : PlainWords). FitsGiven (inputs_in b.program) x.given) (sym words) (subst (λ names. FitsGiven names w.given) (sym b.inputs) fits);
+    }
+
+-- it reaches the source's place and one for each input of the table
+pub places_of_table : (c : Call) (w : PlainWords) (t : Table) (v : World) (b : RunsTable c w t v) (fits : FitsGiven t.inputs w.given)
+    → run_places (run_of (run_of_table c w t v b fits)) ≡ first_place w.source + length t.inputs
+places_of_table c w t v b fits =
+    let words : (asks_for b.program).words ≡ w = words_of c w t v b in
+    ap (λ (x : PlainWords). first_place x.source + length (inputs_in b.program)) words ∙ ap (λ names. first_place w.source + length names) b.inputs
 
 -- the words NAME=FILE stop the call
 pub given_stops : (c : Call) (w : PlainWords) (t : Table) (v : World) (s : Stop) → RunsTable c w t v → IsRefusalOf (RefusesGiven t.inputs w.given) s → WritesNothing c
@@ -260,8 +296,8 @@ given_stops c w t v (stop.Refused why) b refused silent few =
     let is : task_of (asks_for b.program).words ≡ task.Run = ap task_of same ∙ b.task in
     let here : RefusesGiven (inputs_in b.program) (asks_for b.program).words.given why =
     subst (λ (u : PlainWords). RefusesGiven (inputs_in b.program) u.given why) (sym same) (subst (λ names. RefusesGiven names w.given why) (sym b.inputs) refused) in
-    record { only = (by_given b.program is here, silent); how = inl ((by_given b.program is here, b.made), rests_of c w b.read silent few); few_places = few_places c w.source few }
-given_stops c w t v stop.NoMemory b refused silent few = memory_stops c w b.read silent few
+    record { only = (by_given b.program is here, silent); how = inl ((by_given b.program is here, b.made), rests_of c w (begins_of c w t v b) silent few); few_places = few_places c w.source few }
+given_stops c w t v stop.NoMemory b refused silent few = memory_stops c w (begins_of c w t v b) silent few
 given_stops c w t v stop.ReadFault b refused silent few = absurd refused
 given_stops c w t v stop.WriteFault b refused silent few = absurd refused
 given_stops c w t v (stop.TooDeep d l x f) b refused silent few = absurd refused
@@ -290,12 +326,15 @@ fresh_consumed files old new fresh few q le lt c is =
     nothing_consumed (old.holds file) (new.place (old.reached + k.0)).contents c place.contents (subst (λ n. (new.place n).contents ≡ Some c) k.1 is)
 
 -- the places of the inputs stop the call
-pub reaching_stops : (c : Call) (w : PlainWords) (t : Table) (files : List (List ℕ)) (v : World) (s : Stop) → RunsTable c w t v → KeepsNames v c.after
-    → AreFresh files v c.after → c.after.reached ≤ v.reached + length files → length files ≤ most_source_bytes → IsReadStop v c.after s → WritesNothing c → Comes c (Err s)
-reaching_stops c w t files v s b kept fresh few short why silent =
+pub reaching_stops : (c : Call) (w : PlainWords) (t : Table) (files : List (List ℕ)) (v : World) (s : Stop) → RunsTable c w t v → FitsGiven t.inputs w.given
+    → length files ≡ length t.inputs → KeepsNames v c.after → AreFresh files v c.after → c.after.reached ≤ v.reached + length files → length files ≤ most_source_bytes
+    → IsReadStop v c.after s → WritesNothing c → Comes c (Err s)
+reaching_stops c w t files v s b fits as_many kept fresh few short why silent =
     let one = first_place_le w.source in
     let first = b.first in
+    let places = places_of_table c w t v b fits in
     let rests : Rests c = record {
+      reaches = reaches_inputs (run_of_table c w t v b fits) b.made (omega (arith, few, first, as_many, places));
       silent = silent;
       unread = λ u asked q le lt new is.
           let here = b.read in
@@ -316,7 +355,7 @@ reaching_stops c w t files v s b kept fresh few short why silent =
 
 -- where nothing is reached, nothing is read
 nothing_reached : (c : Call) → WritesNothing c → c.after.reached ≡ 0 → Rests c
-nothing_reached c silent none = record { silent = silent; unread = λ v asked q le lt new is. absurd (omega (arith, lt, none)) }
+nothing_reached c silent none = record { reaches = reaches_nothing none; silent = silent; unread = λ v asked q le lt new is. absurd (omega (arith, lt, none)) }
 
 -- the words stop the call
 pub words_stops : (c : Call) (e : WordsRefusal) → (e ≡ words.Usage → c.asked ≡ None) → WritesNothing c → c.after.reached ≡ 0 → Comes c (Err (words_stop e))

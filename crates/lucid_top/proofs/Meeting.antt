@@ -13,13 +13,14 @@ use Rattle.lucid_top.specs.Status.{Outcome}
 use Rattle.lucid_top.specs.Call.{Call}
 use Rattle.lucid_top.specs.Tasks.{task_of, form_of, is_built}
 use Rattle.lucid_top.specs.Telling.{Tells}
-use Rattle.lucid_top.specs.Stages.{Asks, IsWriting, IsTextFor, prints, judges, flattens, asks_for, IsRun, Refuses, by_words, by_task, by_text, by_flat, by_names, by_judging, by_given}
-use Rattle.lucid_top.specs.Runs.{first_place, run_of, unread_place, view_of, RanSo}
-use Rattle.lucid_top.specs.Clauses.{WritesNothing, TellsSource, ReadFails, ComesOnly, IsRefusedSo, Writes, MeetsClauses}
-use Rattle.lucid_top.specs.Coming.{Rests, StopsEarly, EndsRun, EndsWriting, Comes}
+use Rattle.lucid_top.specs.Stages.{Asks, IsWriting, IsTextFor, asks_for, IsRun, Refuses, by_words, by_task, by_text, by_flat, by_names, by_judging, by_given}
+use Rattle.lucid_top.specs.Runs.{first_place, run_places, run_of, unread_place, view_of, RanSo}
+use Rattle.lucid_top.specs.Places.{ReadsSource, most_read}
+use Rattle.lucid_top.specs.Clauses.{WritesNothing, TellsSource, ReadFails, ComesOnly, IsRefusedSo, Writes, IsEvaluated, MeetsClauses}
+use Rattle.lucid_top.specs.Coming.{IsMade, Reaches, reaches_nothing, reaches_source, reaches_inputs, Rests, StopsEarly, EndsRun, EndsWriting, Comes}
 use Rattle.lucid_top.proofs.RunEnds.{in_range}
 use Rattle.lucid_top.proofs.Begun.{ConsumesNothing, ran_with, never_read, never_made, same_contents}
-use Rattle.lucid_top.proofs.OneCall.{OneVerdict, not_asked, not_unbuilt, run_or_text, same_inputs, same_run, same_text, one_refusal, run_not_refused, run_not_stopped, text_not_refused}
+use Rattle.lucid_top.proofs.OneCall.{OneVerdict, same_words, not_asked, not_unbuilt, run_or_text, same_inputs, same_run, same_text, one_refusal, run_not_refused, run_not_stopped, text_not_refused}
 
 -- how a call comes to its outcome
 abbrev pub How : Call → Outcome → Type 0
@@ -35,9 +36,7 @@ stopped_by_words c (Err (stop.TooDeep t l x f)) why asks one (inl early) = absur
 stopped_by_words c (Err (stop.TooLarge k n)) why asks one (inl early) = absurd early.0
 stopped_by_words c (Ok done) why asks one (inl early) = absurd early.0
 stopped_by_words c o why asks one (inr (inl run)) = absurd (asks (asks_for run.0.program))
-stopped_by_words c o why asks one (inr (inr (prints t is, writing))) = absurd (asks t.source.asks)
-stopped_by_words c o why asks one (inr (inr (judges n is judged, writing))) = absurd (asks n.program.source.asks)
-stopped_by_words c o why asks one (inr (inr (flattens n is, writing))) = absurd (asks n.program.source.asks)
+stopped_by_words c o why asks one (inr (inr writing)) = absurd (asks writing.2.0)
 
 -- where nothing of an input was consumed, nothing is
 rested : (c : Call) (r : IsRun c) → Rests c → (q : ℕ) → first_place (run_of r).words.source ≤ q → (b : Bool) → nat_lt q c.after.reached ≡ b → (old new : Contents)
@@ -59,6 +58,23 @@ as_text c o P Q h w = record {
   whole = λ is. let some = w.whole is in (some.0, h some.0 some.1, some.2);
   complete = w.complete;
 }
+
+-- where nothing is asked for that is built, no place is reached
+none_reached : (c : Call) (o : Outcome) → (Asks c → ⊥) → How c o → c.after.reached ≡ 0
+none_reached c o asks (inl early) = of_early early.1.reaches
+  where
+    of_early : Reaches c → c.after.reached ≡ 0
+    of_early (reaches_nothing none) = none
+    of_early (reaches_source a few) = absurd (asks a)
+    of_early (reaches_inputs r is_made few) = absurd (asks (asks_for r.program))
+none_reached c o asks (inr (inl run)) = absurd (asks (asks_for run.0.program))
+none_reached c o asks (inr (inr writing)) = absurd (asks writing.2.0)
+
+-- where no program is run, at most the source's place is
+few_reached : (c : Call) (a : Asks c) → ((r : IsRun c) → IsMade r.program → ⊥) → Reaches c → c.after.reached ≤ first_place a.words.source
+few_reached c a no_run (reaches_nothing none) = omega (arith, none)
+few_reached c a no_run (reaches_source b few) = subst (λ (w : PlainWords). c.after.reached ≤ first_place w.source) (same_words b a) few
+few_reached c a no_run (reaches_inputs r is_made few) = absurd (no_run r is_made)
 
 module _ (l : OneVerdict) (c : Call) (told : TellsSource c) where
   first : (o : Outcome) (why : Refusal) → Refuses c why → (o ≡ Err stop.ReadFault → ⊥) → How c o → IsRefusedSo o why
@@ -106,6 +122,41 @@ module _ (l : OneVerdict) (c : Call) (told : TellsSource c) where
   writes_so x o only (inr (inl run)) = absurd (run_or_text run.0 x)
   writes_so x o only (inr (inr writing)) = as_text c o (IsTextFor writing.0) (IsTextFor x) (same_text l c told writing.0 x) writing.1
 
+  refused_reaches : (o : Outcome) (a : Asks c) (why : Refusal) → Refuses c why → How c o → c.after.reached ≤ first_place a.words.source
+  refused_reaches o a why refused (inl early) =
+      few_reached c a (λ r is_made. run_not_refused l c told r why refused (λ q. same_inputs l c told r.program q is_made)) early.1.reaches
+  refused_reaches o a why refused (inr (inl run)) =
+      absurd (run_not_refused l c told run.0 why refused (λ q. same_inputs l c told run.0.program q run.1))
+  refused_reaches o a why refused (inr (inr writing)) = absurd (text_not_refused l c told writing.0 why refused)
+
+  text_reaches : (o : Outcome) (a : Asks c) (x : IsWriting c) → How c o → c.after.reached ≤ first_place a.words.source
+  text_reaches o a x (inl early) = few_reached c a (λ r is_made. run_or_text r x) early.1.reaches
+  text_reaches o a x (inr (inl run)) = absurd (run_or_text run.0 x)
+  text_reaches o a x (inr (inr writing)) = few_reached c a (λ r is_made. run_or_text r x) (reaches_source writing.2.0 writing.2.1)
+
+  begun_reaches : (r : IsRun c) → Reaches c → c.after.reached ≤ run_places (run_of r)
+  begun_reaches r (reaches_nothing none) = omega (arith, none)
+  begun_reaches r (reaches_source a few) =
+      let few' : c.after.reached ≤ first_place (run_of r).words.source = subst (λ (w : PlainWords). c.after.reached ≤ first_place w.source) (same_words a (asks_for r.program)) few in
+      omega (arith, few')
+  begun_reaches r (reaches_inputs s is_made few) = subst (λ p. c.after.reached ≤ run_places p) (same_run l c told r s is_made) few
+
+  run_reaches : (r : IsRun c) (o : Outcome) → How c o → c.after.reached ≤ run_places (run_of r)
+  run_reaches r o (inl early) = begun_reaches r early.1.reaches
+  run_reaches r o (inr (inl run)) = let all = subst (λ p. c.after.reached ≡ run_places p) (same_run l c told r run.0 run.1) run.3 in omega (arith, all)
+  run_reaches r o (inr (inr writing)) = absurd (run_or_text r writing.0)
+
+  evaluated_reaches : (r : IsRun c) (o : Outcome) → IsEvaluated o → How c o → c.after.reached ≡ run_places (run_of r)
+  evaluated_reaches r (Err (stop.Refused v)) is (inl early) = absurd is
+  evaluated_reaches r (Err stop.ReadFault) is (inl early) = absurd is
+  evaluated_reaches r (Err stop.NoMemory) is (inl early) = absurd is
+  evaluated_reaches r (Err stop.WriteFault) is (inl early) = absurd early.0
+  evaluated_reaches r (Err (stop.TooDeep t d x f)) is (inl early) = absurd early.0
+  evaluated_reaches r (Err (stop.TooLarge k n)) is (inl early) = absurd early.0
+  evaluated_reaches r (Ok done) is (inl early) = absurd early.0
+  evaluated_reaches r o is (inr (inl run)) = subst (λ p. c.after.reached ≡ run_places p) (same_run l c told r run.0 run.1) run.3
+  evaluated_reaches r o is (inr (inr writing)) = absurd (run_or_text r writing.0)
+
 -- a read fault is counted
 counted : (c : Call) (o : Outcome) → ComesOnly c o → (ReadFails c → ⊥) → o ≡ Err stop.ReadFault → ⊥
 counted c o only reads is = reads (subst (ComesOnly c) is only)
@@ -134,8 +185,9 @@ silent_or c o (inl early) = inl early.1.silent
 silent_or c o (inr (inl run)) = inr (inl run.0)
 silent_or c o (inr (inr writing)) = inr (inr writing.0)
 
-pub meets : OneVerdict → (c : Call) (before after : Told) (o : Outcome) (s : Status) → Comes c o → Tells o s before after → MeetsClauses c before after s
-meets l c before after o s h tells = record {
+pub meets : OneVerdict → (c : Call) (before after : Told) (o : Outcome) (s : Status) → Comes c o → ((a : Asks c) → ReadsSource (most_read (form_of a.words)) a.words.source c.after)
+    → Tells o s before after → MeetsClauses c before after s
+meets l c before after o s h within tells = record {
   outcome = o;
   report = tells;
   comes_only = h.only;
@@ -148,5 +200,13 @@ meets l c before after o s h tells = record {
   silent = silent_or c o h.how;
   headline = λ r told. runs_so l c told r o h.only h.how;
   written = λ x told. writes_so l c told x o h.only h.how;
+  reaches = record {
+    unasked = λ asks. none_reached c o asks h.how;
+    refused = λ a why refused told. refused_reaches l c told o a why refused h.how;
+    written = λ a x told. text_reaches l c told o a x h.how;
+    run = λ r told. run_reaches l c told r o h.how;
+    evaluated = λ r told is. evaluated_reaches l c told r o is h.how;
+  };
+  source_within = within;
   few_places = h.few_places;
 }

@@ -1,11 +1,11 @@
 -- Places that are reached one behind the other.
-use Rattle.std.proofs.Common.{◌≡◌, ℕ, zero, suc, ◌+◌, ◌<◌, ◌≢◌, List, [], ◌∷◌, ◌++◌, length, map, get_or, Option, Some, None, Result, Ok, Err, take, ap, sym, subst, ◌∙◌, inl, inr, arith, add-zero, add-one}
+use Rattle.std.proofs.Common.{◌≡◌, ℕ, zero, suc, ◌+◌, ◌<◌, ◌≤◌, ◌≢◌, List, [], ◌∷◌, ◌++◌, length, map, get_or, Option, Some, None, Result, Ok, Err, take, ap, sym, subst, ◌∙◌, inl, inr, arith, add-zero, add-one}
 use Rattle.std.specs.Prelude.{IfSome, IfOk, IsErrAnd, OnErr, MatchResult, slice_get, option_map}
 use Rattle.std.specs.List.{range_with_len}
 use Rattle.std.proofs.lemmas.Bool.{cases_lt}
 use Rattle.std.proofs.lemmas.Option.{slice_get-map, slice_get-get_or}
 use denote.Ref.{Bor}
-use Rattle.lucid_ports.specs.World.{World, Contents, IsFresh, KeepsOthers, unread}
+use Rattle.lucid_ports.specs.World.{World, Contents, IsFresh, KeepsOthers, unread, advanced}
 use Rattle.lucid_top.specs.Places.{KeepsNames, AreFresh}
 
 -- its first bytes are those of its name
@@ -19,6 +19,28 @@ pub read_all : {B E : Type 0} (r : Result B E) (items : B → List ℕ) (most : 
     → IfOk r (λ b. IfSome contents (λ c. items b ≡ take most c.left)) → IfOk r (λ b. IfSome held (λ source. items b ≡ take most source))
 read_all (Ok b) items most held contents fresh read = read_fresh most (items b) held contents fresh read
 read_all (Err e) items most held contents fresh read = tt
+
+take_short : (n : ℕ) (bytes : List ℕ) → length (take n bytes) ≤ n
+take_short zero bytes = omega arith
+take_short (suc n) [] = omega arith
+take_short (suc n) (b ∷ bytes) = let short = take_short n bytes in omega (arith, short)
+
+-- of a place just reached no more is consumed than is read
+consumed_within : (most n : ℕ) (held : Option (List ℕ)) (old new : Option Contents) → old ≡ option_map unread held → n ≤ most → new ≡ option_map (advanced n) old
+    → IfSome new (λ s. length s.consumed ≤ most)
+consumed_within most n None old new fresh le is = subst (λ o. IfSome o (λ s. length s.consumed ≤ most)) (sym (is ∙ ap (option_map (advanced n)) fresh)) tt
+consumed_within most n (Some bytes) old new fresh le is =
+    let short = take_short n bytes in
+    subst (λ o. IfSome o (λ s. length s.consumed ≤ most)) (sym (is ∙ ap (option_map (advanced n)) fresh)) (omega (arith, short, le))
+
+pub read_within : (most place : ℕ) (held : Option (List ℕ)) (old new : World) → place ≡ 0 → (old.place place).contents ≡ option_map unread held
+    → (n : ℕ) × (n ≤ most) × ((new.place place).contents ≡ option_map (advanced n) (old.place place).contents) → IfSome (new.place 0).contents (λ s. length s.consumed ≤ most)
+read_within most place held old new first fresh read =
+    subst (λ q. IfSome (new.place q).contents (λ s. length s.consumed ≤ most)) first (consumed_within most read.0 held (old.place place).contents (new.place place).contents fresh read.1 read.2)
+
+-- the first place stays as it was, where it was reached before
+pub first_stays : (w v u : World) → (0 < w.reached → v.place 0 ≡ w.place 0) → w.reached ≤ v.reached → KeepsOthers v.reached v u → 0 < w.reached → u.place 0 ≡ w.place 0
+first_stays w v u first le o some = o.others 0 (λ e. absurd (omega (arith, e, le, some))) ∙ first some
 
 -- names stay from call to call
 pub keeps_on : (w v u : World) (number : ℕ) → KeepsNames w v → KeepsOthers number v u → KeepsNames w u

@@ -1,6 +1,6 @@
 -- How a call comes to its outcome that runs its program.
-use Rattle.std.proofs.Common.{◌≡◌, ◌≢◌, ℕ, ◌+◌, ◌-◌, ◌<◌, ◌≤◌, Bool, true, cond, List, [], length, map, get_or, nat_lt, Some, Ok, Err, inl, inr, sym, ap, subst, ◌∙◌, arith}
-use Rattle.std.specs.Prelude.{slice_get, unwrap_or, option_map, AllPairs, codes}
+use Rattle.std.proofs.Common.{◌≡◌, ◌≢◌, ℕ, zero, suc, ◌⊎◌, ◌+◌, ◌-◌, ◌<◌, ◌≤◌, Bool, true, cond, List, [], length, map, get_or, nat_lt, Some, Ok, Err, inl, inr, sym, ap, subst, ◌∙◌, arith}
+use Rattle.std.specs.Prelude.{IfSome, slice_get, unwrap_or, option_map, AllPairs, codes}
 use denote.Ref.{Bor}
 use Rattle.std.proofs.lemmas.Bool.{lt-ltb}
 use Rattle.std.specs.List.{range_with_len}
@@ -8,26 +8,26 @@ use Rattle.std.proofs.lemmas.List.{length-map}
 use Rattle.std.proofs.lemmas.List.FromFn.{length-range_with_len, get_or-range_with_len}
 use Rattle.std.proofs.lemmas.Option.{slice_get-get_or, slice_get_within, get_or_from_slice_get, unwrap_or-slice_get}
 use Rattle.lucid_ports.specs.World.{World, Place, IsFresh, unread}
+use Rattle.lucid_tree.specs.Members.{In}
 use Rattle.lucid_equations.specs.declared.table.Table.{Table}
 use Rattle.lucid_scan.specs.Refusals.{most_source_bytes}
 use Rattle.lucid_words.specs.declared.Given.{Given as Word}
-use Rattle.lucid_words.specs.Plain.{plain_given}
+use Rattle.lucid_words.specs.Plain.{PlainSource, file, made, plain_given}
 use Rattle.lucid_words.specs.Asked.{PlainWords}
 use Rattle.lucid_top.specs.declared.stop.Done.TheVariants as done
 use Rattle.lucid_top.specs.declared.stop.Stop.TheVariants as stop
 use Rattle.lucid_top.specs.Status.{Outcome}
 use Rattle.lucid_top.specs.Call.{Call}
-use Rattle.lucid_top.specs.Tasks.{task_of}
 use Rattle.lucid_top.specs.Programs.{Program, of_table}
 use Rattle.lucid_top.specs.Files.{Given, FitsGiven, file_given, files_for}
-use Rattle.lucid_top.specs.Stages.{asks_for, program_in, inputs_in, IsRun}
-use Rattle.lucid_top.specs.Places.{KeepsNames, AreFresh, AreUnread}
+use Rattle.lucid_top.specs.Stages.{asks_for, program_in, IsRun}
+use Rattle.lucid_top.specs.Places.{KeepsNames, ReadsSource, AreFresh, AreUnread}
 use Rattle.lucid_top.specs.Runs.{Run, first_place, run_of, input_places, unread_place, world_before, world_after, viewed, view_of, RanSo}
 use Rattle.lucid_top.specs.Running.{RunComesOnly}
 use Rattle.lucid_top.specs.Clauses.{ComesOnly}
 use Rattle.lucid_top.specs.Coming.{RunsTable, Comes}
 use Rattle.lucid_top.proofs.Pieces.{rises_from}
-use Rattle.lucid_top.proofs.Ending.{words_of, first_place_le}
+use Rattle.lucid_top.proofs.Ending.{words_of, first_place_le, run_of_table, places_of_table}
 use Rattle.lucid_top.proofs.Views.{TellAlike, ran_alike}
 
 -- a number of a range
@@ -44,6 +44,27 @@ range_differs a n i j d lt below same =
     let first : get_or (range_with_len a n) i d ≡ a + i = get_or-range_with_len a n i d (omega (arith, lt, below, long)) in
     let later : get_or (range_with_len a n) j d ≡ a + j = get_or-range_with_len a n j d (omega (arith, below, long)) in
     absurd (omega (arith, first, later, same, lt))
+
+-- no number below a range stands in it
+not_in_range : (a n k : ℕ) → k < a → In k (range_with_len a n) → ⊥
+not_in_range a zero k below is = is
+not_in_range a (suc n) k below (inl is) = absurd (omega (arith, is, below))
+not_in_range a (suc n) k below (inr is) = not_in_range (a + 1) n k (omega (arith, below)) is
+
+-- the source's place is read no more once the inputs are reached
+pub source_stays : (most : ℕ) (s : PlainSource) (v u : World) → ReadsSource most s v → v.reached ≡ first_place s → (0 < v.reached → u.place 0 ≡ v.place 0) → ReadsSource most s u
+source_stays most (file name) v u within first stays = λ some.
+    let was : 0 < v.reached = omega (arith, first) in
+    subst (λ (p : Place). IfSome p.contents (λ x. length x.consumed ≤ most)) (sym (stays was)) (within was)
+source_stays most (made n) v u within first stays = tt
+
+pub source_run : (most : ℕ) (s : PlainSource) (v u w : World) (n : ℕ) (numbers : List ℕ) → ReadsSource most s v → v.reached ≡ first_place s → (0 < v.reached → u.place 0 ≡ v.place 0)
+    → numbers ≡ range_with_len v.reached n → ((k : ℕ) → In k numbers ⊎ (w.place k ≡ u.place k)) → ReadsSource most s w
+source_run most s v u w n numbers within first stays are others = source_stays most s v w within first (λ some. kept some (others 0))
+  where
+    kept : 0 < v.reached → In 0 numbers ⊎ (w.place 0 ≡ u.place 0) → w.place 0 ≡ v.place 0
+    kept some (inl is) = absurd (not_in_range v.reached n 0 some (subst (In 0) are is))
+    kept some (inr same) = same ∙ stays some
 
 -- nothing is read of the places just reached
 pub all_unread : (files : List (List ℕ)) (old new : World) (numbers : List ℕ) → AreFresh files old new → new.reached ≡ old.reached + length files
@@ -153,9 +174,7 @@ pub runs : (c : Call) (w : PlainWords) (t : Table) (v u : World) (numbers : List
 runs c w t v u numbers o b fits e =
     let p : Program = program_in b.program in
     let words : (asks_for b.program).words ≡ w = words_of c w t v b in
-    let fits' : FitsGiven (inputs_in b.program) (asks_for b.program).words.given =
-    subst (λ (x : PlainWords). FitsGiven (inputs_in b.program) x.given) (sym words) (subst (λ names. FitsGiven names w.given) (sym b.inputs) fits) in
-    let r : IsRun c = record { program = b.program; task = ap task_of words ∙ b.task; fits = fits' } in
+    let r : IsRun c = run_of_table c w t v b fits in
     let same : run_with w p t.inputs ≡ run_of r = one_run p (sym words) (sym b.inputs) in
     let long : length (files_for t.inputs w.given) ≡ length t.inputs = files_long t.inputs w.given in
     let places : numbers ≡ range_with_len (first_place w.source) (length t.inputs) =
@@ -166,12 +185,13 @@ runs c w t v u numbers o b fits e =
     let one = first_place_le w.source in
     let first = b.first in
     let few = e.few in
+    let reached = places_of_table c w t v b fits in
     let ran : RanSo p (view_of c (run_with w p t.inputs)) o =
     ran_alike w t.inputs (range_with_len (first_place w.source) (length t.inputs)) u c.after (world_before c (run_with w p t.inputs)) (world_after c (run_with w p t.inputs)) c.out_before c.out_after alike p o seen in
     let only : RunComesOnly (run_of r).words (run_of r).inputs u.faults c.after.faults c.out_before.faults c.out_after.faults o =
     subst (λ (x : Run). RunComesOnly x.words x.inputs u.faults c.after.faults c.out_before.faults c.out_after.faults o) same e.only in
     record {
       only = run_only c r u o (omega (arith, b.kept.faults, e.kept_on.faults)) e.faults only;
-      how = inr (inl (r, b.made, subst (λ (x : Run). RanSo x.program (view_of c x) o) same ran));
+      how = inr (inl (r, b.made, subst (λ (x : Run). RanSo x.program (view_of c x) o) same ran, omega (arith, e.same_reached, e.inputs.reached, long, first, reached)));
       few_places = omega (arith, e.same_reached, e.inputs.reached, long, few, first, one);
     }

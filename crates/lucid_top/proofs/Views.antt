@@ -84,6 +84,7 @@ module _ (w : PlainWords) (free : List (List ℕ)) (qs : List ℕ) (u v u' v' : 
       none = x.consumed.none;
       holds = λ d le k n q is old new before after. x.consumed.holds d le k n q is old new (sym (a.before k q is.1) ∙ before) (sym (a.after k q is.1) ∙ after);
     };
+    within = λ k n q is old new before after. x.within k n q is old new (sym (a.before k q is.1) ∙ before) (sym (a.after k q is.1) ∙ after);
     too_large = large_weaker result (ConsultsOverlong S b (viewed w free qs u v o p) x.out.whole) (ConsultsOverlong S b (viewed w free qs u' v' o p) x.out.whole)
         (λ k long. overlong_too S b x.out.whole k long) x.too_large;
   }

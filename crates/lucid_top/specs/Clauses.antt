@@ -14,7 +14,8 @@ use Rattle.lucid_top.specs.Tasks.{task_of, form_of, is_built, wants_figures}
 use Rattle.lucid_top.specs.Telling.{Tells}
 use Rattle.lucid_top.specs.Writing.{WritesSome, WritesSomeFront}
 use Rattle.lucid_top.specs.Stages.{IsTold, Asks, IsWriting, IsTextFor, IsRun, Refuses}
-use Rattle.lucid_top.specs.Runs.{most_places, run_of, view_of, RanSo}
+use Rattle.lucid_top.specs.Places.{ReadsSource, most_read}
+use Rattle.lucid_top.specs.Runs.{most_places, first_place, run_places, run_of, view_of, RanSo}
 use Rattle.lucid_top.specs.Running.{HoldsWithin}
 
 -- a call on the places failed
@@ -65,6 +66,24 @@ pub record Writes (c : Call) (o : Outcome) (IsText : List ℕ → Type 0) : Type
   pub whole : o ≡ Ok done.Written → WritesSome IsText c.out_before c.out_after
   pub complete : (ReadFails c → ⊥) → (WriteFails c → ⊥) → (o ≡ Ok done.Written) ⊎ (o ≡ Err stop.NoMemory)
 
+-- the outcome of a run that came to evaluate its program
+abbrev pub IsEvaluated : Outcome → Type 0
+IsEvaluated (Ok (done.Ran summary stats)) = Unit {0}
+IsEvaluated (Err stop.WriteFault) = Unit {0}
+IsEvaluated (Err (stop.TooDeep time lost cleared stats)) = Unit {0}
+IsEvaluated (Err (stop.TooLarge stream name)) = Unit {0}
+IsEvaluated _ = ⊥
+
+-- How many places are reached: none where the words are refused or don't ask for what is built; that of the source alone where the call is
+-- refused or writes a text; in a run that and one for each input, so that no input is read through a second place, and all of them before the
+-- program is evaluated.
+pub record ReachesOnly (c : Call) (o : Outcome) : Type 0 where
+  pub unasked : (Asks c → ⊥) → c.after.reached ≡ 0
+  pub refused : (a : Asks c) (why : Refusal) → Refuses c why → TellsSource c → c.after.reached ≤ first_place a.words.source
+  pub written : (a : Asks c) → IsWriting c → TellsSource c → c.after.reached ≤ first_place a.words.source
+  pub run : (r : IsRun c) → TellsSource c → c.after.reached ≤ run_places (run_of r)
+  pub evaluated : (r : IsRun c) → TellsSource c → IsEvaluated o → c.after.reached ≡ run_places (run_of r)
+
 -- The clauses, of a call, what its report tells before and after, and its status. They are said of one outcome, of which the status and
 -- the line of the report are told.
 pub record MeetsClauses (c : Call) (report_before report_after : Told) (s : Status) : Type 0 where
@@ -79,5 +98,8 @@ pub record MeetsClauses (c : Call) (report_before report_after : Told) (s : Stat
   pub headline : (r : IsRun c) → TellsSource c → RanSo (run_of r).program (view_of c (run_of r)) outcome
   -- Where a text is asked for, of the tree that the source spells, that text is written.
   pub written : (x : IsWriting c) → TellsSource c → Writes c outcome (IsTextFor x)
-  -- No more places are reached than a source and its inputs can need.
+  -- Only what the stages of the call need is reached, and never more places than a source and its inputs can need.
+  pub reaches : ReachesOnly c outcome
+  -- Of the source's file no more is consumed than one byte more than a source may have.
+  pub source_within : (a : Asks c) → ReadsSource (most_read (form_of a.words)) a.words.source c.after
   pub few_places : c.after.reached ≤ most_places

@@ -14,20 +14,29 @@ use Rattle.lucid_top.specs.Programs.{of_table}
 use Rattle.lucid_top.specs.Places.{KeepsNames}
 use Rattle.lucid_top.specs.Call.{Call}
 use Rattle.lucid_top.specs.Stages.{Asks, IsWriting, IsTextFor, HasProgram, by_tree, by_table, program_in, inputs_in, IsRun, Refuses, by_words, by_task, by_text, by_flat, by_names, by_judging, by_given}
-use Rattle.lucid_top.specs.Runs.{most_places, first_place, run_of, view_of, RanSo}
+use Rattle.lucid_top.specs.Runs.{most_places, first_place, run_places, run_of, view_of, RanSo}
 use Rattle.lucid_top.specs.Clauses.{WritesNothing, ComesOnly, Writes}
 
--- Nothing is written, and of no input is anything consumed.
-pub record Rests (c : Call) : Type 0 where
-  pub silent : WritesNothing c
-  pub unread : (w : PlainWords) → c.asked ≡ Some w → (q : ℕ) → first_place w.source ≤ q → q < c.after.reached
-      → (new : Contents) → (c.after.place q).contents ≡ Some new → new.consumed ≡ []
-
--- The tree of a program that is run is well made, and so is that of a refusal that comes after it was read.
+-- The tree of a program that is run is well made.
 abbrev pub IsMade : {c : Call} → HasProgram c → Type 0
 IsMade (by_tree n) = IsWellMade n.program.tree
 IsMade (by_table f) = Unit {0}
 
+-- No place is reached; or, where the words ask for what is built, at most that of the source; or, in a run, at most those of the source and
+-- the inputs.
+pub data Reaches (c : Call) : Type 0 where
+  reaches_nothing : c.after.reached ≡ 0 → Reaches c
+  reaches_source : (a : Asks c) → c.after.reached ≤ first_place a.words.source → Reaches c
+  reaches_inputs : (r : IsRun c) → IsMade r.program → c.after.reached ≤ run_places (run_of r) → Reaches c
+
+-- Little is reached, nothing is written, and of no input is anything consumed.
+pub record Rests (c : Call) : Type 0 where
+  pub reaches : Reaches c
+  pub silent : WritesNothing c
+  pub unread : (w : PlainWords) → c.asked ≡ Some w → (q : ℕ) → first_place w.source ≤ q → q < c.after.reached
+      → (new : Contents) → (c.after.place q).contents ≡ Some new → new.consumed ≡ []
+
+-- The tree of a refusal that comes after it was read is well made.
 abbrev pub IsOfMade : {c : Call} {why : Refusal} → Refuses c why → Type 0
 IsOfMade (by_words none) = Unit {0}
 IsOfMade (by_task w asked not_built) = Unit {0}
@@ -44,12 +53,12 @@ StopsEarly c (Err stop.ReadFault) = Asks c
 StopsEarly c (Err stop.NoMemory) = Unit {0}
 StopsEarly c _ = ⊥
 
--- A run, or a text.
+-- A run, whose inputs are all reached; or a text, for which the source alone is.
 abbrev pub EndsRun : Call → Outcome → Type 0
-EndsRun c o = (r : IsRun c) × IsMade r.program × RanSo (run_of r).program (view_of c (run_of r)) o
+EndsRun c o = (r : IsRun c) × IsMade r.program × RanSo (run_of r).program (view_of c (run_of r)) o × (c.after.reached ≡ run_places (run_of r))
 
 abbrev pub EndsWriting : Call → Outcome → Type 0
-EndsWriting c o = (x : IsWriting c) × Writes c o (IsTextFor x)
+EndsWriting c o = (x : IsWriting c) × Writes c o (IsTextFor x) × ((a : Asks c) × (c.after.reached ≤ first_place a.words.source))
 
 pub record Comes (c : Call) (o : Outcome) : Type 0 where
   pub only : ComesOnly c o

@@ -15,7 +15,9 @@ use Rattle.lucid_top.specs.declared.refusal.Refusal.{Refusal}
 use Rattle.lucid_top.specs.declared.stop.Stop.{Stop}
 use Rattle.lucid_top.specs.declared.stop.Stop.TheVariants as stop
 use Rattle.lucid_top.specs.Judged.{Spelt, RefusesText, RefusesNames}
-use Rattle.lucid_top.specs.Flat.{SpellsTable}
+use Rattle.lucid_top.specs.declared.task.Form.{Form}
+use Rattle.lucid_top.specs.declared.task.Form.TheVariants as form
+use Rattle.lucid_top.specs.Flat.{most_flat_bytes, SpellsTable}
 use Rattle.lucid_top.specs.Stages.{IsSource}
 
 -- no name holds anything else, and faults are only counted
@@ -65,6 +67,16 @@ abbrev pub IsProgramStop : PlainSource → (old new : World) → Stop → Type 0
 IsProgramStop source old new (stop.Refused why) =
     IsSourceStop RefusesText source old new (stop.Refused why) ⊎ ((p : PlainTree) × SpeltBySource source old p × IsWellMade p × RefusesNames p why)
 IsProgramStop source old new s = IsSourceStop RefusesText source old new s
+
+-- how many bytes of a source may be read: one more than it may have, as a text and in the flat form
+abbrev pub most_read : Form → ℕ
+most_read form.Flat = most_flat_bytes + 1
+most_read _ = most_source_bytes + 1
+
+-- Of a file that the source is read from, at most so many bytes are consumed, where its place tells them.
+abbrev pub ReadsSource : (most : ℕ) → PlainSource → World → Type 0
+ReadsSource most (file name) w = 0 < w.reached → IfSome (w.place 0).contents (λ s. length s.consumed ≤ most)
+ReadsSource most (made n) w = Unit {0}
 
 -- Each of the places that are newly reached, in the order of the files, is a fresh place of its file.
 abbrev pub AreFresh : (files : List (List ℕ)) → (old new : World) → Type 0

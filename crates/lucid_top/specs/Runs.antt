@@ -62,6 +62,10 @@ input_files p = files_for p.inputs p.words.given
 abbrev pub input_places : Run → List ℕ
 input_places p = range_with_len (first_place p.words.source) (length p.inputs)
 
+-- how many places a run reaches: that of the source, where there is one, and one for each input
+abbrev pub run_places : Run → ℕ
+run_places p = first_place p.words.source + length p.inputs
+
 -- the place of an input just reached, at which all that its file holds is left, where that is told
 abbrev pub fresh_place : World → (name : List ℕ) → Place
 fresh_place w name = record { contents = option_map unread (w.holds name); shown = 0; used = 0 }

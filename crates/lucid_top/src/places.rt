@@ -5,7 +5,7 @@ ghost use Rattle.lucid_ports.specs.Faults.{Rises};
 ghost use Rattle.lucid_words.specs.Plain.{plain_source};
 ghost use Rattle.lucid_words.specs.Numbers.{MadeIsFromTo};
 ghost use Rattle.lucid_top.specs.Runs.{first_place};
-ghost use Rattle.lucid_top.specs.Places.{KeepsNames, IsSourceFront, IsReadStop, AreFresh, read_stop};
+ghost use Rattle.lucid_top.specs.Places.{KeepsNames, IsSourceFront, ReadsSource, IsReadStop, AreFresh, read_stop};
 
 use crate::stop::Stop;
 use lucid_make::make_source;
@@ -35,6 +35,7 @@ fn read_file<P: Places>(
     ensures reached { OnOk result ((P.world places.new).reached ≡ 1) }
     ensures few { (P.world places.new).reached ≤ 1 }
     ensures keeps { KeepsNames (P.world places.old) (P.world places.new) }
+    ensures within { 0 < (P.world places.new).reached → IfSome ((P.world places.new).place 0).contents (λ s. length s.consumed ≤ most) }
     ensures failed { IsErrOf result PortFault.Failed → Rises (P.world places.old).faults (P.world places.new).faults }
 {
     let place = places.reach(alloc, name)?;
@@ -53,6 +54,7 @@ pub fn read_source<P: Places>(
     ensures source { IfOk result (λ bytes. IsSourceFront most (plain_source source.now) (P.world places.old) bytes.items) }
     ensures reached { OnOk result ((P.world places.new).reached ≡ first_place (plain_source source.now)) }
     ensures few { (P.world places.new).reached ≤ first_place (plain_source source.now) }
+    ensures within { ReadsSource most (plain_source source.now) (P.world places.new) }
     ensures keeps { KeepsNames (P.world places.old) (P.world places.new) }
     ensures stopped { IfErr result (IsReadStop (P.world places.old) (P.world places.new)) }
 {
@@ -73,6 +75,7 @@ pub fn reach_files<P: Places>(
     ensures reached { OnOk result ((P.world places.new).reached ≡ (P.world places.old).reached + length files.now) }
     ensures few { (P.world places.new).reached ≤ (P.world places.old).reached + length files.now }
     ensures fresh { AreFresh (map (λ file. file.now) files.now) (P.world places.old) (P.world places.new) }
+    ensures first { 0 < (P.world places.old).reached → (P.world places.new).place 0 ≡ (P.world places.old).place 0 }
     ensures keeps { KeepsNames (P.world places.old) (P.world places.new) }
     ensures stopped { IfErr result (IsReadStop (P.world places.old) (P.world places.new)) }
 {

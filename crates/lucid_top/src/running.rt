@@ -1,5 +1,6 @@
 //! Running a program.
-ghost use Rattle.std.specs.Prelude.{◌≡◌, ◌≢◌, ◌≤◌, ◌<◌, AllPairs, length, IfOk};
+ghost use Rattle.std.specs.Prelude.{◌≡◌, ◌≢◌, ◌≤◌, ◌<◌, ◌⊎◌, ℕ, AllPairs, length, IfOk};
+ghost use Rattle.lucid_tree.specs.Members.{In};
 ghost use Rattle.lucid_ports.specs.World.{World};
 ghost use Rattle.lucid_equations.specs.Programs.{table_of};
 ghost use Rattle.lucid_words.specs.Asked.{plain_words};
@@ -107,6 +108,7 @@ pub fn run_program<P: Places, K: Sink>(
         result }
     ensures comes_only { RunComesOnly (plain_words words.now) names.now (P.world places.old).faults (P.world places.new).faults (K.faults out.old) (K.faults out.new) result }
     ensures reached { (P.world places.new).reached ≡ (P.world places.old).reached }
+    ensures others { (k : ℕ) → In k numbers.items ⊎ ((P.world places.new).place k ≡ (P.world places.old).place k) }
     ensures faults { (P.world places.old).faults ≤ (P.world places.new).faults }
 {
     fresh_fits();

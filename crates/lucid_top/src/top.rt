@@ -1,9 +1,9 @@
 //! The command.
-ghost use Rattle.std.specs.Prelude.{◌≡◌, ◌≢◌, ◌≤◌, Some, length, map, IfOk, IfErr, OnOk, true};
+ghost use Rattle.std.specs.Prelude.{◌≡◌, ◌≢◌, ℕ, ◌+◌, ◌≤◌, Some, length, map, IfOk, IfErr, OnOk, true};
 ghost use Rattle.std.specs.String.{string_bytes};
 ghost use Rattle.lucid_scan.specs.Refusals.{most_source_bytes};
 ghost use Rattle.lucid_tree.specs.WellMade.{places as all_places, IsWellMade};
-ghost use Rattle.lucid_words.specs.Asked.{plain_words, words_asked};
+ghost use Rattle.lucid_words.specs.Asked.{PlainWords, plain_words, words_asked};
 ghost use Rattle.lucid_words.specs.Plain.{plain_source};
 ghost use Rattle.lucid_words.specs.Numbers.{IsFromTo, MadeIsFromTo};
 ghost use Rattle.lucid_top.specs.Call.{call, told};
@@ -13,8 +13,8 @@ ghost use Rattle.lucid_scope.specs.Scoped.{scoped_tree};
 ghost use Rattle.lucid_ports.specs.World.{World};
 ghost use Rattle.lucid_equations.specs.Programs.{table_of};
 ghost use Rattle.lucid_top.specs.Judged.{RefusesText, AreResolved};
-ghost use Rattle.lucid_top.specs.Flat.{RefusesFlat};
-ghost use Rattle.lucid_top.specs.Places.{KeepsNames, SpeltBySource, FlatBySource, IsAccepted, IsSourceStop, IsProgramStop};
+ghost use Rattle.lucid_top.specs.Flat.{most_flat_bytes, RefusesFlat};
+ghost use Rattle.lucid_top.specs.Places.{KeepsNames, ReadsSource, most_read, SpeltBySource, FlatBySource, IsAccepted, IsSourceStop, IsProgramStop};
 ghost use Rattle.lucid_top.specs.Coming.{Comes, RunsTable};
 ghost use Rattle.lucid_top.specs.Clauses.{MeetsClauses};
 
@@ -55,6 +55,7 @@ fn tree_of<P: Places>(alloc: Global, words: &Words, places: &mut P) -> Result<Tr
     ensures few_nodes { IfOk result (λ tree. length (all_places tree) ≤ most_source_bytes) }
     ensures reached { OnOk result ((P.world places.new).reached ≡ first_place (plain_source words.now.source)) }
     ensures few { (P.world places.new).reached ≤ first_place (plain_source words.now.source) }
+    ensures within { ReadsSource (most_source_bytes + 1) (plain_source words.now.source) (P.world places.new) }
     ensures keeps { KeepsNames (P.world places.old) (P.world places.new) }
     ensures stopped { IfErr result (IsSourceStop RefusesText (plain_source words.now.source) (P.world places.old) (P.world places.new)) }
 {
@@ -70,6 +71,7 @@ fn program_of<P: Places>(alloc: Global, words: &Words, places: &mut P) -> Result
     ensures resolved { IfOk result AreResolved }
     ensures reached { OnOk result ((P.world places.new).reached ≡ first_place (plain_source words.now.source)) }
     ensures few { (P.world places.new).reached ≤ first_place (plain_source words.now.source) }
+    ensures within { ReadsSource (most_source_bytes + 1) (plain_source words.now.source) (P.world places.new) }
     ensures keeps { KeepsNames (P.world places.old) (P.world places.new) }
     ensures stopped { IfErr result (IsProgramStop (plain_source words.now.source) (P.world places.old) (P.world places.new)) }
 {
@@ -84,6 +86,7 @@ fn flat_program<P: Places>(alloc: Global, words: &Words, places: &mut P) -> Resu
     ensures spelt { IfOk result (λ program. FlatBySource (plain_source words.now.source) (P.world places.old) (table_of program)) }
     ensures reached { OnOk result ((P.world places.new).reached ≡ first_place (plain_source words.now.source)) }
     ensures few { (P.world places.new).reached ≤ first_place (plain_source words.now.source) }
+    ensures within { ReadsSource (most_flat_bytes + 1) (plain_source words.now.source) (P.world places.new) }
     ensures keeps { KeepsNames (P.world places.old) (P.world places.new) }
     ensures stopped { IfErr result (IsSourceStop RefusesFlat (plain_source words.now.source) (P.world places.old) (P.world places.new)) }
 {
@@ -104,9 +107,11 @@ fn run_inputs<P: Places, K: Sink>(
     requires names { names.now ≡ (table_of program).inputs }
     requires few { length names.now ≤ most_source_bytes }
     requires one { (P.world places.old).reached ≤ 1 }
-    ensures { (before : World)
+    ensures comes { (before : World)
         → RunsTable (call (Some (plain_words words.now)) before (P.world places.new) (told K.written K.faults out.old) (told K.written K.faults out.new)) (plain_words words.now) (table_of program) (P.world places.old)
         → Comes (call (Some (plain_words words.now)) before (P.world places.new) (told K.written K.faults out.old) (told K.written K.faults out.new)) result }
+    ensures within { (most : ℕ) → (P.world places.old).reached ≡ first_place (plain_source words.now.source)
+        → ReadsSource most (plain_source words.now.source) (P.world places.old) → ReadsSource most (plain_source words.now.source) (P.world places.new) }
 {
     let files = input_files(alloc, names, &words.given)?;
     let numbers = reach_files(alloc, places, &files)?;
@@ -126,7 +131,8 @@ fn run_tree<P: Places, K: Sink>(
     requires form { form_of (plain_words words.now) ≢ Form.Flat }
     requires built { is_built (task_of (plain_words words.now)) (form_of (plain_words words.now)) ≡ true }
     requires none { (P.world places.old).reached ≡ 0 }
-    ensures { Comes (call (Some (plain_words words.now)) (P.world places.old) (P.world places.new) (told K.written K.faults out.old) (told K.written K.faults out.new)) result }
+    ensures comes { Comes (call (Some (plain_words words.now)) (P.world places.old) (P.world places.new) (told K.written K.faults out.old) (told K.written K.faults out.new)) result }
+    ensures within { ReadsSource (most_read (form_of (plain_words words.now))) (plain_source words.now.source) (P.world places.new) }
 {
     same_streams_run_alike();
     figures_carry();
@@ -148,7 +154,8 @@ fn run_table<P: Places, K: Sink>(
     requires form { form_of (plain_words words.now) ≡ Form.Flat }
     requires built { is_built (task_of (plain_words words.now)) (form_of (plain_words words.now)) ≡ true }
     requires none { (P.world places.old).reached ≡ 0 }
-    ensures { Comes (call (Some (plain_words words.now)) (P.world places.old) (P.world places.new) (told K.written K.faults out.old) (told K.written K.faults out.new)) result }
+    ensures comes { Comes (call (Some (plain_words words.now)) (P.world places.old) (P.world places.new) (told K.written K.faults out.old) (told K.written K.faults out.new)) result }
+    ensures within { ReadsSource (most_read (form_of (plain_words words.now))) (plain_source words.now.source) (P.world places.new) }
 {
     let program = flat_program(alloc, words, places)?;
     let names = copied_names(alloc, program.table().inputs.items())?;
@@ -167,7 +174,8 @@ fn run_task<P: Places, K: Sink>(
     requires task { task_of (plain_words words.now) ≡ Task.Run }
     requires built { is_built (task_of (plain_words words.now)) (form_of (plain_words words.now)) ≡ true }
     requires none { (P.world places.old).reached ≡ 0 }
-    ensures { Comes (call (Some (plain_words words.now)) (P.world places.old) (P.world places.new) (told K.written K.faults out.old) (told K.written K.faults out.new)) result }
+    ensures comes { Comes (call (Some (plain_words words.now)) (P.world places.old) (P.world places.new) (told K.written K.faults out.old) (told K.written K.faults out.new)) result }
+    ensures within { ReadsSource (most_read (form_of (plain_words words.now))) (plain_source words.now.source) (P.world places.new) }
 {
     match Form::of(words) {
         Form::Flat => run_table(alloc, words, places, out),
@@ -186,7 +194,8 @@ fn print_task<P: Places, K: Sink>(
     requires task { task_of (plain_words words.now) ≡ Task.Print }
     requires built { is_built (task_of (plain_words words.now)) (form_of (plain_words words.now)) ≡ true }
     requires none { (P.world places.old).reached ≡ 0 }
-    ensures { Comes (call (Some (plain_words words.now)) (P.world places.old) (P.world places.new) (told K.written K.faults out.old) (told K.written K.faults out.new)) result }
+    ensures comes { Comes (call (Some (plain_words words.now)) (P.world places.old) (P.world places.new) (told K.written K.faults out.old) (told K.written K.faults out.new)) result }
+    ensures within { ReadsSource (most_read (form_of (plain_words words.now))) (plain_source words.now.source) (P.world places.new) }
 {
     let tree = tree_of(alloc, words, places)?;
     print_program(alloc, &tree, out)
@@ -203,7 +212,8 @@ fn cycles_task<P: Places, K: Sink>(
     requires task { task_of (plain_words words.now) ≡ Task.Cycles }
     requires built { is_built (task_of (plain_words words.now)) (form_of (plain_words words.now)) ≡ true }
     requires none { (P.world places.old).reached ≡ 0 }
-    ensures { Comes (call (Some (plain_words words.now)) (P.world places.old) (P.world places.new) (told K.written K.faults out.old) (told K.written K.faults out.new)) result }
+    ensures comes { Comes (call (Some (plain_words words.now)) (P.world places.old) (P.world places.new) (told K.written K.faults out.old) (told K.written K.faults out.new)) result }
+    ensures within { ReadsSource (most_read (form_of (plain_words words.now))) (plain_source words.now.source) (P.world places.new) }
 {
     let scoped = program_of(alloc, words, places)?;
     let judgment = judge(alloc, &scoped)?;
@@ -221,7 +231,8 @@ fn flat_task<P: Places, K: Sink>(
     requires task { task_of (plain_words words.now) ≡ Task.Flat }
     requires built { is_built (task_of (plain_words words.now)) (form_of (plain_words words.now)) ≡ true }
     requires none { (P.world places.old).reached ≡ 0 }
-    ensures { Comes (call (Some (plain_words words.now)) (P.world places.old) (P.world places.new) (told K.written K.faults out.old) (told K.written K.faults out.new)) result }
+    ensures comes { Comes (call (Some (plain_words words.now)) (P.world places.old) (P.world places.new) (told K.written K.faults out.old) (told K.written K.faults out.new)) result }
+    ensures within { ReadsSource (most_read (form_of (plain_words words.now))) (plain_source words.now.source) (P.world places.new) }
 {
     let scoped = program_of(alloc, words, places)?;
     write_flat(alloc, &scoped, out)
@@ -235,7 +246,8 @@ fn do_task<P: Places, K: Sink>(
     out: &mut K,
 ) -> Result<Done, Stop>
     requires { (P.world places.old).reached ≡ 0 }
-    ensures { Comes (call (words_asked (map string_bytes words.now)) (P.world places.old) (P.world places.new) (told K.written K.faults out.old) (told K.written K.faults out.new)) result }
+    ensures comes { Comes (call (words_asked (map string_bytes words.now)) (P.world places.old) (P.world places.new) (told K.written K.faults out.old) (told K.written K.faults out.new)) result }
+    ensures within { (w : PlainWords) → words_asked (map string_bytes words.now) ≡ Some w → ReadsSource (most_read (form_of w)) w.source (P.world places.new) }
 {
     let words = read_words(alloc, words)?;
     let task = Task::of(&words);

@@ -1,5 +1,5 @@
 use Rattle.std.proofs.Common.{map, arith}
-use Rattle.lucid_top.proofs.Reaching.{keeps_on, fresh_after, fresh_more, range_more, named_at, given_before, refused_before}
+use Rattle.lucid_top.proofs.Reaching.{keeps_on, first_stays, fresh_after, fresh_more, range_more, named_at, given_before, refused_before}
 use Rattle.lucid_top.proofs.places.reach_files.Goals as goal
 
 pub returns-in_err-place-clause-fresh : goal.returns-in_err-place-clause-fresh
@@ -18,6 +18,16 @@ returns-in_err-push-clause-fresh g c =
     c.loop-file.file-index _ c.loop-file.invariant.reached (named_at c.args.files.now c.loop-file.file-index _ c.loop-file-test.true) c.loop-file.invariant.fresh
     c.loop-file.invariant.keeps c.reach.ensures.others added c.in_ok-place.place number fresh
 
+pub returns-in_err-place-clause-first : goal.returns-in_err-place-clause-first
+returns-in_err-place-clause-first g c =
+    first_stays (g.P.Places.world c.args.places.now) (g.P.Places.world c.loop-file.places) (g.P.Places.world c.reach.new.self) c.loop-file.invariant.first
+    (omega (arith, c.loop-file.invariant.reached)) c.reach.ensures.others
+
+pub returns-in_err-push-clause-first : goal.returns-in_err-push-clause-first
+returns-in_err-push-clause-first g c =
+    first_stays (g.P.Places.world c.args.places.now) (g.P.Places.world c.loop-file.places) (g.P.Places.world c.reach.new.self) c.loop-file.invariant.first
+    (omega (arith, c.loop-file.invariant.reached)) c.reach.ensures.others
+
 pub loop-file-preserved : goal.loop-file-preserved
 loop-file-preserved g c =
     let given = given_before c.reach.result c.map_err.result c.in_ok-place.place _ c.map_err.ensures.cases c.in_ok-place.was in
@@ -31,6 +41,8 @@ loop-file-preserved g c =
       fresh = fresh_more (map (λ file. file.now) c.args.files.now) (g.P.Places.world c.args.places.now) (g.P.Places.world c.loop-file.places) (g.P.Places.world c.reach.new.self)
           c.loop-file.file-index _ c.loop-file.invariant.reached (named_at c.args.files.now c.loop-file.file-index _ c.loop-file-test.true) c.loop-file.invariant.fresh
           c.loop-file.invariant.keeps c.reach.ensures.others added c.in_ok-place.place number fresh;
+      first = first_stays (g.P.Places.world c.args.places.now) (g.P.Places.world c.loop-file.places) (g.P.Places.world c.reach.new.self) c.loop-file.invariant.first
+          (omega (arith, c.loop-file.invariant.reached)) c.reach.ensures.others;
       keeps = keeps_on (g.P.Places.world c.args.places.now) (g.P.Places.world c.loop-file.places) (g.P.Places.world c.reach.new.self) (g.P.Places.world c.loop-file.places).reached
           c.loop-file.invariant.keeps c.reach.ensures.others;
     }

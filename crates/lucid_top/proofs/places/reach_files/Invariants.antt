@@ -1,4 +1,4 @@
-use Rattle.std.proofs.Common.{◌≡◌, ◌+◌, map}
+use Rattle.std.proofs.Common.{◌≡◌, ◌+◌, ◌<◌, map}
 use Rattle.std.specs.List.{range_with_len}
 use Rattle.lucid_top.specs.Places.{KeepsNames, AreFresh}
 use Rattle.lucid_top.proofs.places.reach_files.Given as goal
@@ -8,5 +8,6 @@ invariant-loop-file g l = record {
   numbers : l.numbers.items ≡ range_with_len (g.P.Places.world l.initial.places).reached l.file-index;
   reached : (g.P.Places.world l.places).reached ≡ (g.P.Places.world l.initial.places).reached + l.file-index;
   fresh : AreFresh (map (λ file. file.now) l.files) (g.P.Places.world l.initial.places) (g.P.Places.world l.places);
+  first : 0 < (g.P.Places.world l.initial.places).reached → (g.P.Places.world l.places).place 0 ≡ (g.P.Places.world l.initial.places).place 0;
   keeps : KeepsNames (g.P.Places.world l.initial.places) (g.P.Places.world l.places);
 }

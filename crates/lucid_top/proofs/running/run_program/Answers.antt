@@ -1,5 +1,6 @@
-use Rattle.std.proofs.Common.{◌<◌, Ok, Err, refl, sym, subst, length}
+use Rattle.std.proofs.Common.{◌≡◌, ◌<◌, ◌⊎◌, Ok, Err, refl, sym, subst, length}
 use Rattle.std.proofs.lemmas.Result.{err_from_is_err_and}
+use Rattle.lucid_tree.specs.Members.{In}
 use Rattle.lucid_inputs.specs.Inputs.{streams, most_bytes}
 use Rattle.lucid_facts.specs.Engine.{places_of}
 use Rattle.lucid_equations.specs.Programs.{table_of}
@@ -55,3 +56,13 @@ returns-in-Err-clause-ran g c =
 
 pub run_stop-requires : goal.run_stop-requires
 run_stop-requires g c = subst (λ names. OnTooLarge c.in-Err.fault (λ number. number < length names)) (sym c.requires.names) c.in-Err.ensures.causes.too_large
+
+pub returns-in-Ok-clause-others : goal.returns-in-Ok-clause-others
+returns-in-Ok-clause-others g c k =
+    subst (λ ns. In k ns ⊎ ((g.P.Places.world c.run.new.places).place k ≡ (g.P.Places.world c.args.places.now).place k))
+    (places_are (streams c.in_ok-inputs.inputs) c.args.numbers.items c.in_ok-inputs.ensures.streams) (c.in-Ok.ensures.reads_only.others k)
+
+pub returns-in-Err-clause-others : goal.returns-in-Err-clause-others
+returns-in-Err-clause-others g c k =
+    subst (λ ns. In k ns ⊎ ((g.P.Places.world c.run.new.places).place k ≡ (g.P.Places.world c.args.places.now).place k))
+    (places_are (streams c.in_ok-inputs.inputs) c.args.numbers.items c.in_ok-inputs.ensures.streams) (c.in-Err.ensures.reads_only.others k)

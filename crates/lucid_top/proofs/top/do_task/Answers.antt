@@ -7,16 +7,16 @@ use Rattle.lucid_top.specs.Tasks.{task_of, form_of, is_built}
 use Rattle.lucid_top.proofs.Ending.{words_stops, not_built_stops, other_is_not}
 use Rattle.lucid_top.proofs.top.do_task.Goals as goal
 
-pub returns-in_err-words : goal.returns-in_err-words
-returns-in_err-words g c =
+pub returns-in_err-words-clause-comes : goal.returns-in_err-words-clause-comes
+returns-in_err-words-clause-comes g c =
     let w = g.P.Places.world c.args.places.now in
     let t = told g.K.Sink.written g.K.Sink.faults c.args.out.now in
     let here : Call = call (words_asked (map (string_bytes {Z = Rattle.std.specs.Global.Global}) c.args.words.now)) w w t t in
     let p = err_from_is_err_and c.from_residual.result c.from_residual.ensures.1 in
     rw (p.1, p.2) (words_stops here c.in_err-words.field-0.0 c.in_err-words.ensures.asked refl c.requires)
 
-pub returns-then-not-is_built : goal.returns-then-not-is_built
-returns-then-not-is_built g c =
+pub returns-then-not-is_built-clause-comes : goal.returns-then-not-is_built-clause-comes
+returns-then-not-is_built-clause-comes g c =
     let w = g.P.Places.world c.args.places.now in
     let t = told g.K.Sink.written g.K.Sink.faults c.args.out.now in
     let here : Call = call (words_asked (map (string_bytes {Z = Rattle.std.specs.Global.Global}) c.args.words.now)) w w t t in

@@ -3,6 +3,7 @@ use Rattle.std.specs.Prelude.{AllPairs}
 use Rattle.std.proofs.lemmas.List.FromFn.{length-range_with_len}
 use Rattle.std.proofs.lemmas.Result.{err_from_is_err_and}
 use Rattle.lucid_equations.specs.Programs.{table_of}
+use Rattle.lucid_words.specs.Plain.{plain_source}
 use Rattle.lucid_words.specs.Asked.{plain_words}
 use Rattle.lucid_top.specs.Call.{Call, call, told}
 use Rattle.lucid_top.specs.Refusals.{IsRefusalOf}
@@ -12,11 +13,11 @@ use Rattle.lucid_top.specs.Programs.{of_table}
 use Rattle.lucid_top.specs.Runs.{viewed, RanSo}
 use Rattle.lucid_top.specs.Running.{RunComesOnly}
 use Rattle.lucid_top.proofs.Ending.{given_stops, reaching_stops}
-use Rattle.lucid_top.proofs.RunEnds.{carried, refs_are, refs_long, files_long, reached_of, range_differs, all_unread, runs}
+use Rattle.lucid_top.proofs.RunEnds.{source_stays, source_run, carried, refs_are, refs_long, files_long, reached_of, range_differs, all_unread, runs}
 use Rattle.lucid_top.proofs.top.run_inputs.Goals as goal
 
-pub returns-in_err-files : goal.returns-in_err-files
-returns-in_err-files g c before b =
+pub returns-in_err-files-clause-comes : goal.returns-in_err-files-clause-comes
+returns-in_err-files-clause-comes g c before b =
     let p = err_from_is_err_and c.from_residual.result c.from_residual.ensures.1 in
     let t = table_of c.args.program in
     let world = g.P.Places.world c.args.places.now in
@@ -36,8 +37,8 @@ reach_files-requires g c =
     let same = ap length c.requires.names in
     omega (arith, long, as_many, same, c.requires.few, c.requires.one)
 
-pub returns-in_err-numbers : goal.returns-in_err-numbers
-returns-in_err-numbers g c before b =
+pub returns-in_err-numbers-clause-comes : goal.returns-in_err-numbers-clause-comes
+returns-in_err-numbers-clause-comes g c before b =
     let p = err_from_is_err_and c.from_residual-in_err-numbers.result c.from_residual-in_err-numbers.ensures.1 in
     let t = table_of c.args.program in
     let world = g.P.Places.world c.args.places.now in
@@ -48,9 +49,10 @@ returns-in_err-numbers g c before b =
     let long = refs_long c.deref-2.result.now _ same in
     let as_many = files_long t.inputs (plain_words c.args.words.now).given in
     let names_long = ap length c.requires.names in
+    let fits = carried FitsGiven c.args.names.now t.inputs c.deref.result.now c.args.words.now.given.items c.requires.names c.deref.ensures.value c.in_ok-files.ensures.fits in
     let the_call : Call = call (Some (plain_words c.args.words.now)) before (g.P.Places.world c.reach_files.new.places) out out in
     rw (p.1, p.2) (
-    reaching_stops the_call (plain_words c.args.words.now) t (files_for t.inputs (plain_words c.args.words.now).given) world c.in_err-numbers.field-0.0 b c.in_err-numbers.ensures.keeps
+    reaching_stops the_call (plain_words c.args.words.now) t (files_for t.inputs (plain_words c.args.words.now).given) world c.in_err-numbers.field-0.0 b fits as_many c.in_err-numbers.ensures.keeps
     (subst (λ fs. AreFresh fs world (g.P.Places.world c.reach_files.new.places)) same c.in_err-numbers.ensures.fresh)
     (omega (arith, c.in_err-numbers.ensures.few, long)) (omega (arith, as_many, names_long, c.requires.few)) c.in_err-numbers.ensures.stopped refl
     )
@@ -78,8 +80,8 @@ run_program-requires-clause-unread g c =
     all_unread (files_for t.inputs (plain_words c.args.words.now).given) (g.P.Places.world c.args.places.now) (g.P.Places.world c.reach_files.new.places)
     c.in_ok-numbers.numbers.items reached.fresh reached.reached reached.numbers_are
 
-pub returns : goal.returns
-returns g c before b =
+pub returns-clause-comes : goal.returns-clause-comes
+returns-clause-comes g c before b =
     let t = table_of c.args.program in
     let w = plain_words c.args.words.now in
     let world = g.P.Places.world c.args.places.now in
@@ -104,3 +106,12 @@ returns g c before b =
       ran = subst (λ names. RanSo (of_table t) (viewed w names c.in_ok-numbers.numbers.items reached_world after out out_after) c.run_program.result) c.requires.names c.run_program.ensures.ran;
       only = subst (λ names. RunComesOnly w names reached_world.faults after.faults (g.K.Sink.faults c.args.out.now) (g.K.Sink.faults c.run_program.new.out) c.run_program.result) c.requires.names c.run_program.ensures.comes_only;
     })
+
+pub returns-in_err-numbers-clause-within : goal.returns-in_err-numbers-clause-within
+returns-in_err-numbers-clause-within g c most first within =
+    source_stays most (plain_source c.args.words.now.source) (g.P.Places.world c.args.places.now) (g.P.Places.world c.reach_files.new.places) within first c.in_err-numbers.ensures.first
+
+pub returns-clause-within : goal.returns-clause-within
+returns-clause-within g c most first within =
+    source_run most (plain_source c.args.words.now.source) (g.P.Places.world c.args.places.now) (g.P.Places.world c.reach_files.new.places) (g.P.Places.world c.run_program.new.places)
+    (length c.deref-2.result.now) c.in_ok-numbers.numbers.items within first c.in_ok-numbers.ensures.first c.in_ok-numbers.ensures.numbers c.run_program.ensures.others

@@ -1,27 +1,29 @@
-use Rattle.std.proofs.Common.{Some, refl, sym, ap, ◌∙◌, length, arith}
+use Rattle.std.proofs.Common.{◌+◌, Some, refl, sym, ap, ◌∙◌, length, arith}
 use Rattle.std.proofs.lemmas.Result.{err_from_is_err_and}
 use Rattle.lucid_equations.specs.Programs.{table_of}
+use Rattle.lucid_scan.specs.Refusals.{most_source_bytes}
 use Rattle.lucid_scope.specs.Scoped.{scoped_tree, scoped_inputs, scoped_binding}
+use Rattle.lucid_words.specs.Plain.{plain_source}
 use Rattle.lucid_words.specs.Asked.{plain_words}
 use Rattle.lucid_top.specs.Call.{Call, call, told}
 use Rattle.lucid_top.specs.Stages.{by_tree}
-use Rattle.lucid_top.proofs.Ending.{Begins, program_stops, run_not_print, memory_stops, inputs_of, names_of, first_place_le}
+use Rattle.lucid_top.proofs.Ending.{within_text, Begins, program_stops, run_not_print, memory_stops, inputs_of, names_of, first_place_le}
 use Rattle.lucid_top.proofs.Carrying.{runs_tree}
 use Rattle.lucid_top.proofs.top.run_tree.Goals as goal
 
-pub returns-in_err-scoped : goal.returns-in_err-scoped
-returns-in_err-scoped g c =
+pub returns-in_err-scoped-clause-comes : goal.returns-in_err-scoped-clause-comes
+returns-in_err-scoped-clause-comes g c =
     let p = err_from_is_err_and c.from_residual.result c.from_residual.ensures.1 in
     let w = plain_words c.args.words.now in
     let the_call : Call = call (Some w) (g.P.Places.world c.args.places.now) (g.P.Places.world c.program_of.new.places) (told g.K.Sink.written g.K.Sink.faults c.args.out.now) (told g.K.Sink.written g.K.Sink.faults c.args.out.now) in
     rw (p.1, p.2) (program_stops the_call w c.in_err-scoped.field-0.0 (record { read = refl; built = c.requires.built }) c.requires.form (run_not_print w c.requires.task) c.in_err-scoped.ensures.stopped refl c.in_err-scoped.ensures.few)
 
-pub returns-in_err-program : goal.returns-in_err-program
-returns-in_err-program g c =
+pub returns-in_err-program-clause-comes : goal.returns-in_err-program-clause-comes
+returns-in_err-program-clause-comes g c =
     let p = err_from_is_err_and c.from_residual-in_err-program.result c.from_residual-in_err-program.ensures.1 in
     let w = plain_words c.args.words.now in
     let the_call : Call = call (Some w) (g.P.Places.world c.args.places.now) (g.P.Places.world c.program_of.new.places) (told g.K.Sink.written g.K.Sink.faults c.args.out.now) (told g.K.Sink.written g.K.Sink.faults c.args.out.now) in
-    rw (p.1, p.2) (memory_stops the_call w refl refl c.in_ok-scoped.ensures.few)
+    rw (p.1, p.2) (memory_stops the_call w (record { read = refl; built = c.requires.built }) refl c.in_ok-scoped.ensures.few)
 
 pub run_inputs-requires-clause-names : goal.run_inputs-requires-clause-names
 run_inputs-requires-clause-names g c = c.inputs.ensures.value ∙ sym c.in_ok-program.ensures.inputs
@@ -36,8 +38,8 @@ run_inputs-requires-clause-one g c =
     let one = first_place_le (plain_words c.args.words.now).source in
     omega (arith, one, c.in_ok-scoped.ensures.few)
 
-pub returns : goal.returns
-returns g c =
+pub returns-clause-comes : goal.returns-clause-comes
+returns-clause-comes g c =
     let w = plain_words c.args.words.now in
     let tree = scoped_tree c.in_ok-scoped.scoped in
     let before = g.P.Places.world c.args.places.now in
@@ -45,7 +47,7 @@ returns g c =
     let begins : Begins the_call w = record { read = refl; built = c.requires.built } in
     let inputs = inputs_of tree (scoped_inputs c.in_ok-scoped.scoped) (scoped_binding c.in_ok-scoped.scoped) c.inputs.ensures.resolved in
     let names = names_of the_call w tree (scoped_inputs c.in_ok-scoped.scoped) begins c.requires.form (run_not_print w c.requires.task) c.in_ok-scoped.ensures.accepted inputs in
-    c.run_inputs.ensures before (record {
+    c.run_inputs.ensures.comes before (record {
       read = refl;
       task = c.requires.task;
       program = by_tree names;
@@ -55,3 +57,15 @@ returns g c =
       kept = c.in_ok-scoped.ensures.keeps;
       first = c.in_ok-scoped.ensures.reached;
     })
+
+pub returns-in_err-scoped-clause-within : goal.returns-in_err-scoped-clause-within
+returns-in_err-scoped-clause-within g c =
+    within_text (plain_words c.args.words.now) (plain_source c.args.words.now.source) (g.P.Places.world c.program_of.new.places) c.requires.form c.in_err-scoped.ensures.within
+
+pub returns-in_err-program-clause-within : goal.returns-in_err-program-clause-within
+returns-in_err-program-clause-within g c =
+    within_text (plain_words c.args.words.now) (plain_source c.args.words.now.source) (g.P.Places.world c.program_of.new.places) c.requires.form c.in_ok-scoped.ensures.within
+
+pub returns-clause-within : goal.returns-clause-within
+returns-clause-within g c =
+    within_text (plain_words c.args.words.now) (plain_source c.args.words.now.source) (g.P.Places.world c.run_inputs.new.places) c.requires.form (c.run_inputs.ensures.within (most_source_bytes + 1) c.in_ok-scoped.ensures.reached c.in_ok-scoped.ensures.within)
