@@ -40,16 +40,28 @@ impl Demands<'_> {
         pick: S,
     ) -> Result<Outcome, Fail> {
         let mut engine = OverFiles::make(alloc, &self.setup, policy, pick)?;
-        let mut answers = Vec::new(alloc);
-        let mut consumed = Vec::new(alloc);
+        let mut outcome = Outcome {
+            answers: Vec::new(alloc),
+            consumed: Vec::new(alloc),
+            held: 0,
+        };
+        self.ask_each(alloc, &mut engine, &mut outcome)?;
+        Ok(outcome)
+    }
+
+    // The same of an engine that is borrowed, which takes less to prove than one that is owned.
+    fn ask_each<R: Retire, S: Pick>(
+        &self,
+        alloc: Global,
+        engine: &mut OverFiles<R, S>,
+        outcome: &mut Outcome,
+    ) -> Result<(), Fail> {
         for demand in self.demands {
-            answers.push(engine.ask(alloc, *demand)?)?;
-            consumed.push([engine.consumed(0), engine.consumed(1)])?;
+            outcome.answers.push(engine.ask(alloc, *demand)?)?;
+            let consumed = [engine.consumed(0), engine.consumed(1)];
+            outcome.consumed.push(consumed)?;
         }
-        Ok(Outcome {
-            answers,
-            consumed,
-            held: engine.held(),
-        })
+        outcome.held = engine.held();
+        Ok(())
     }
 }

@@ -78,10 +78,6 @@ impl<R: Retire, S: Pick> OverFiles<R, S> {
             return Err(Fail::new("too many contexts"));
         }
         let (time, space) = (u64::from(time), u64::from(space));
-        if space == 0 {
-            let answer = self.engine.demand(&mut self.places, time, limit);
-            return answer_text(alloc, &answer);
-        }
         let answer = self.engine.demand_at(&mut self.places, time, space, limit);
         answer_text(alloc, &answer)
     }
