@@ -1,5 +1,5 @@
 -- What inputs show, and what a call for an element does to them.
-use Rattle.std.specs.Prelude.{◌≡◌, ◌≢◌, ◌<◌, ℕ, List, map, length, unwrap_or, ⊤, Result, IfOk, IfErr, IsSomeAnd, option_map}
+use Rattle.std.specs.Prelude.{◌≡◌, ◌≢◌, ◌<◌, ℕ, List, map, length, unwrap_or, ⊤, Result, IfOk, OnOk, IfErr, IsSomeAnd, option_map}
 use Rattle.std.specs.List.{slice_get}
 use Rattle.std.specs.Borrow.{follows_so, MutBor, Bor, Fml}
 use mathlib.Core.Option.{none}
@@ -46,21 +46,23 @@ pub record ReadsStream (old : Inputs) (number index : ℕ) (new : Inputs) (befor
   -- no place has other bytes than it had, whether they are consumed or left
   pub bytes : (k : ℕ) → option_map all_bytes (after.place k).contents ≡ option_map all_bytes (before.place k).contents
 
+-- the element of that index of the stream is read, or its end was met and the element lies past the last
+abbrev pub HasReady : Inputs → ℕ → ℕ → Type 0
+HasReady inputs number index = IsSomeAnd (slice_get inputs.streams.items number) (λ s. IsReady s index)
+
 -- What stands once the borrow of an element is over, whatever the answer was.
 pub record Answers (old : Inputs) (number index : ℕ) (result : Result (Bor Value) InputFault) (new : Inputs) (before after : World) : Type 0 where
   pub reads : ReadsStream old number index new before after
   -- the element is the one read at that index, or the end of data past the last
   pub element : IfOk result (λ v. GivesElement (stream_at new number) index (plain v.now))
+  -- and it is there to be looked up
+  pub ready : OnOk result (HasReady new number index)
   -- exactly as many bytes are consumed as may be
   pub too_large : IfErr result (λ e. OnTooLarge e (λ _. (stream_at new number).consumed ≡ most_bytes old))
 
 abbrev pub EndsAnswered : MutBor Inputs → ℕ → ℕ → Result (Bor Value) InputFault → World → World → Fml
 EndsAnswered inputs number index result before after =
     follows_so the_row the_row inputs.ghost_name none (λ _ _. ⊤) (λ new. Answers inputs.now number index result new before after)
-
--- the element of that index of the stream is ready
-abbrev pub HasReady : Inputs → ℕ → ℕ → Type 0
-HasReady inputs number index = IsSomeAnd (slice_get inputs.streams.items number) (λ s. IsReady s index)
 
 -- The stream may be asked for an element: it is there, its place is reached, and where that tells its bytes the stream fits it.
 pub record IsAskable (inputs : Inputs) (number : ℕ) (w : World) : Type 0 where

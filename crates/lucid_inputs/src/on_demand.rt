@@ -1,5 +1,5 @@
 // Inputs whose elements are read on demand.
-ghost use Rattle.std.specs.Prelude.{◌≡◌, ◌≢◌, ◌<◌, ℕ, Some, map, length, AllPairs, IfOk, IfErr, IfSome, OnOk, IsErrOf, IsTrue};
+ghost use Rattle.std.specs.Prelude.{◌≡◌, ◌≢◌, ◌<◌, ℕ, Some, map, length, AllPairs, IfOk, IfErr, IfSome, IfNone, OnOk, IsErrOf, IsTrue};
 ghost use Rattle.std.specs.List.{slice_get};
 ghost use Rattle.lucid_inputs.specs.declared.stream.InputStream.{InputStream as Input};
 ghost use Rattle.lucid_inputs.specs.Faults.{OnTooLarge, is_eod};
@@ -31,7 +31,7 @@ impl Inputs {
     ghost use Rattle.std.specs.Borrow.{sem};
     ghost use Rattle.lucid_value.specs.Elements.{element};
     ghost use Rattle.lucid_value.specs.Lines.{IsOverlong};
-    ghost use Rattle.lucid_ports.specs.Faults.{Rises};
+    ghost use Rattle.lucid_ports.specs.Faults.{CountsNoFaultUnless, Rises};
     ghost use Rattle.lucid_inputs.specs.Inputs.{EndsAnswered, ReadsStream, HasReady, most_bytes, stream_at, streams};
     ghost use Rattle.lucid_value.specs.View.{plain};
 
@@ -69,6 +69,7 @@ impl Inputs {
         ensures reads { ReadsStream self.old stream index self.new (P.world places.old) (P.world places.new) }
         ensures ready { OnOk result (HasReady self.new stream index) }
         ensures failed { IsErrOf result InputFault.ReadFault → Rises (P.world places.old).faults (P.world places.new).faults }
+        ensures counts_no_fault { CountsNoFaultUnless (IsErrOf result InputFault.ReadFault) (P.world places.old).faults (P.world places.new).faults }
         ensures too_large { IfErr result (λ e. OnTooLarge e (λ s. IsTooLarge stream index (most_bytes self.old) (stream_at self.new stream) s
             ((P.world places.old).place (stream_at self.old stream).place).contents)) }
         ensures not_too_large { OnOk result (IfSome ((P.world places.old).place (stream_at self.old stream).place).contents
@@ -87,6 +88,22 @@ impl Inputs {
         match self.streams[stream as usize].elements.get(index as usize) {
             Some(Element::Read(value)) => value,
             _ => &self.past_end,
+        }
+    }
+
+    /// The element of that index, where it was read: past the last line it is the end of data, where the end was met. No place
+    /// is touched.
+    pub fn known(&self, stream: u32, index: u64) -> Option<&Value>
+        requires { stream < length (streams self.now) }
+        ensures element { IfSome result (λ v. GivesElement (stream_at self.now stream) index (plain v.now)) }
+        ensures none { IfNone result (HasReady self.now stream index → ⊥) }
+    {
+        let stream = &self.streams[stream as usize];
+        match stream.elements.get(index as usize) {
+            Some(Element::Read(value)) => Some(value),
+            Some(Element::Unread(_)) => None,
+            None if stream.ended => Some(&self.past_end),
+            None => None,
         }
     }
 
@@ -111,6 +128,7 @@ impl Inputs {
             (λ c. IsOverlong (all_bytes c) index (most_bytes self.old) → ⊥)) }
 
         ensures failed { IsErrOf result InputFault.ReadFault → Rises (P.world places.old).faults (P.world places.new).faults }
+        ensures counts_no_fault { CountsNoFaultUnless (IsErrOf result InputFault.ReadFault) (P.world places.old).faults (P.world places.new).faults }
     {
         self.read_on(places, stream, index)?;
         Ok(self.value(stream, index))

@@ -7,6 +7,7 @@ use super::*;
 use lucid_ports::{Endless, FailAt, MemoryFile, MemoryPlaces, Narrow, Places, read_at_most};
 use lucid_value::Value;
 use std::alloc::{AllocError, Global};
+use std::process::Abort;
 use std::test::Fail;
 
 // The bytes that the shipped program reads of an input at most.
@@ -135,6 +136,37 @@ fn a_failure_loses_nothing(rt: HostRuntime) -> Result<(), Fail> {
             "at {position}"
         );
     }
+    Ok(())
+}
+
+fn look_up(inputs: &Inputs, index: u64) -> Option<Seen>
+    requires { 0 < length (streams inputs.now) }
+{
+    let value = inputs.known(0, index)?;
+    Some(answer_of(Ok(value)))
+}
+
+// Of the lines 7 and 89 the second is asked for, and then what lies past it.
+fn look_up_lines<A: Abort, P: Places>(rt: &A, inputs: &mut Inputs, places: &mut P)
+    requires { IsAskable inputs.old 0 (P.world places.old) }
+{
+    assert_eq!(rt; look_up(inputs, 0), None);
+    assert_eq!(rt; ask(inputs, places, 1), Seen::Int(89));
+    assert_eq!(rt; look_up(inputs, 0), Some(Seen::Int(7)));
+    assert_eq!(rt; look_up(inputs, 1), Some(Seen::Int(89)));
+    assert_eq!(rt; look_up(inputs, 2), None);
+    assert_eq!(rt; ask(inputs, places, 2), Seen::Eod);
+    assert_eq!(rt; look_up(inputs, 2), Some(Seen::Eod));
+    assert_eq!(rt; look_up(inputs, 3), Some(Seen::Eod));
+}
+
+#[test]
+fn what_was_read_is_known(rt: HostRuntime) -> Result<(), Fail> {
+    let alloc = rt.alloc();
+    let bytes = Vec::from_slice(alloc, b"7\n89\n")?;
+    let mut places = file_a(alloc, bytes, &[])?;
+    let mut inputs = input_a(alloc, &mut places, MOST)?;
+    look_up_lines(&rt, &mut inputs, &mut places);
     Ok(())
 }
 

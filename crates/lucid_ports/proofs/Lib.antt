@@ -5,3 +5,4 @@ pub mod MemoryLemmas
 pub mod EndlessLemmas
 pub mod WorldLemmas
 pub mod WritingLemmas
+pub mod OutputLemmas

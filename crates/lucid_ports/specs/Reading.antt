@@ -3,7 +3,7 @@ use Rattle.std.specs.Prelude.{◌≡◌, ℕ, List, length, Result, IfOk, OnErr,
 use denote.Ref.{Bor}
 use Rattle.lucid_ports.specs.declared.fault.PortFault.{PortFault}
 use Rattle.lucid_ports.specs.declared.fault.PortFault.TheVariants.{Failed}
-use Rattle.lucid_ports.specs.Faults.{Rises}
+use Rattle.lucid_ports.specs.Faults.{Rises, CountsNoFaultUnless}
 use Rattle.lucid_ports.specs.World.{World, IsShown, KeepsOthers}
 
 -- What stands once the piece is given back: the place shows it, and a refusal changes nothing but the count of faults.
@@ -13,3 +13,4 @@ pub record Fills (old : World) (number : ℕ) (result : Result (Bor (List ℕ)) 
   pub shown : IfOk result (λ piece. IsShown (length piece.now) (old.place number) (new.place number))
   pub refused : OnErr result (new.place number ≡ old.place number)
   pub failed : IsErrOf result Failed → Rises old.faults new.faults
+  pub counts_no_fault : CountsNoFaultUnless (IsErrOf result Failed) old.faults new.faults

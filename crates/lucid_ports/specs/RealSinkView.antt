@@ -1,6 +1,10 @@
--- How often a real sink has failed.
+-- What a real sink writes to, and how often it has failed.
 use Rattle.std.specs.Prelude.{ℕ}
 use Rattle.lucid_ports.specs.declared.real_sink.RealSink.{RealSink}
+
+-- what it writes to
+abbrev pub sink_writer : {W : Type 0} → RealSink W → W
+sink_writer s = s.writer
 
 -- the count of faults
 abbrev pub sink_count : {W : Type 0} → RealSink W → ℕ

@@ -5,7 +5,7 @@ ghost use Rattle.std.specs.Io.{StartsWith};
 ghost use Rattle.std.specs.Io.BufRead.{Rests};
 ghost use denote.Ref.{Bor};
 ghost use Rattle.lucid_ports.specs.declared.fault.PortFault.{PortFault as Fault};
-ghost use Rattle.lucid_ports.specs.Faults.{Rises};
+ghost use Rattle.lucid_ports.specs.Faults.{CountsNoFaultUnless, Rises};
 ghost use Rattle.lucid_ports.specs.Reading.{Fills};
 ghost use Rattle.lucid_ports.specs.World.{World, IsFresh, IsConsumed, KeepsOthers};
 
@@ -40,6 +40,7 @@ pub trait Places {
 
         ensures refused { OnErr result ((world self.new).reached ≡ (world self.old).reached) }
         ensures failed { IsErrOf result PortFault.Failed → Rises (world self.old).faults (world self.new).faults }
+        ensures counts_no_fault { CountsNoFaultUnless (IsErrOf result PortFault.Failed) (world self.old).faults (world self.new).faults }
         ensures others { KeepsOthers (world self.old).reached (world self.old) (world self.new) }
         ensures gives { reach_gives self.old name.now result self.new };
 
@@ -62,5 +63,6 @@ pub trait Places {
         ensures consumed { IsConsumed n ((world self.old).place place) ((world self.new).place place) }
         ensures reached { (world self.new).reached ≡ (world self.old).reached }
         ensures others { KeepsOthers place (world self.old) (world self.new) }
+        ensures counts_no_fault { (world self.new).faults ≡ (world self.old).faults }
         ensures gives { consume_gives self.old place n self.new };
 }

@@ -1,6 +1,6 @@
 // Reading a place by pieces.
 ghost use Rattle.std.specs.Prelude.{◌≡◌, ◌<◌, ◌≤◌, ◌+◌, ◌++◌, ℕ, [], take, IfOk, IfSome, OnErr, IsErrOf, option_map, vec_len};
-ghost use Rattle.lucid_ports.specs.Faults.{Rises};
+ghost use Rattle.lucid_ports.specs.Faults.{CountsNoFaultUnless, Rises};
 ghost use Rattle.lucid_ports.specs.World.{World, advanced, KeepsOthers};
 
 use crate::{Places, PortFault};
@@ -26,6 +26,7 @@ pub fn read_at_most<P: Places>(
     ensures others { KeepsOthers place (P.world places.old) (P.world places.new) }
 
     ensures failed { IsErrOf result PortFault.Failed → Rises (P.world places.old).faults (P.world places.new).faults }
+    ensures counts_no_fault { CountsNoFaultUnless (IsErrOf result PortFault.Failed) (P.world places.old).faults (P.world places.new).faults }
 {
     let mut bytes = Vec::new(alloc);
     while bytes.len() < most {
@@ -55,6 +56,7 @@ fn take_piece<P: Places>(
     ensures reached { (P.world places.new).reached ≡ (P.world places.old).reached }
     ensures others { KeepsOthers place (P.world places.old) (P.world places.new) }
     ensures failed { IsErrOf result PortFault.Failed → Rises (P.world places.old).faults (P.world places.new).faults }
+    ensures counts_no_fault { CountsNoFaultUnless (IsErrOf result PortFault.Failed) (P.world places.old).faults (P.world places.new).faults }
 {
     let piece = places.fill(place)?;
     let n = room.min(piece.len());

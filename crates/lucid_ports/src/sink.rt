@@ -1,7 +1,7 @@
 // The trait of what is written to.
 ghost use Rattle.std.specs.Prelude.{◌≡◌, ◌≤◌, ℕ, List, [], Option, Result, length, IfOk, OnErr, IsErrOf};
 ghost use Rattle.lucid_ports.specs.declared.fault.PortFault.{PortFault as Fault};
-ghost use Rattle.lucid_ports.specs.Faults.{Rises};
+ghost use Rattle.lucid_ports.specs.Faults.{CountsNoFaultUnless, Rises};
 ghost use Rattle.lucid_ports.specs.Writing.{with_front};
 
 use crate::PortFault;
@@ -25,6 +25,7 @@ pub trait Sink {
 
         ensures refused { OnErr result (written self.new ≡ written self.old) }
         ensures failed { IsErrOf result PortFault.Failed → Rises (faults self.old) (faults self.new) }
+        ensures counts_no_fault { CountsNoFaultUnless (IsErrOf result PortFault.Failed) (faults self.old) (faults self.new) }
         ensures count { faults self.old ≤ faults self.new }
         ensures gives { write_gives self.old piece.now result self.new };
 }

@@ -1,9 +1,12 @@
 // What no clause says: that the calls succeed with ample memory, and the real objects.
-ghost use Rattle.std.specs.Prelude.{◌≡◌, IfOk};
+ghost use Rattle.std.specs.Prelude.{◌≡◌, ◌++◌, IfOk, OnOk};
 ghost use Rattle.lucid_ports.specs.MemoryView.{memory_world};
+ghost use Rattle.lucid_ports.specs.RealSinkView.{sink_writer};
 
 use super::*;
 use std::alloc::{AllocError, Global};
+use std::io::{self, ErrorKind, Write};
+use std::process::Abort;
 use std::test::Fail;
 
 // The file `a` with the bytes `7\n8\n`, and these failures to come.
@@ -127,5 +130,63 @@ fn real_sinks_are_written(rt: HostRuntime) -> Result<(), Fail> {
     assert_eq!(rt; sink.write(b"written\n"), Ok(8));
     let mut full = RealSink::make(std::fs::create(&rt, "/dev/full")?);
     assert_eq!(rt; full.write(b"lost"), Err(PortFault::Failed));
+    Ok(())
+}
+
+// A vector tells what it holds: all of a piece that is written whole.
+fn write_told(sink: &mut RealSink<Vec<u8>>, piece: &[u8]) -> Result<(), PortFault>
+    ensures { OnOk result ((sink_writer sink.new).items ≡ (sink_writer sink.old).items ++ piece.now) }
+{
+    write_whole(sink, piece)
+}
+
+fn write_two<A: Abort>(rt: &A, sink: &mut RealSink<Vec<u8>>) {
+    assert_eq!(rt; write_told(sink, b"ab\n"), Ok(()));
+    assert_eq!(rt; write_told(sink, b"c"), Ok(()));
+    assert_eq!(rt; sink.writer().as_slice(), b"ab\nc".as_slice());
+}
+
+#[test]
+fn a_vector_holds_what_is_written(rt: HostRuntime) -> Result<(), Fail> {
+    let mut sink = RealSink::make(Vec::new(rt.alloc()));
+    write_two(&rt, &mut sink);
+    Ok(())
+}
+
+// A vector that can't be flushed.
+#[derive(Drop)]
+struct Stuck {
+    bytes: Vec<u8>,
+}
+
+impl Write for Stuck {
+    ghost use Rattle.std.specs.Prelude.{Some};
+
+    ghost contents = { λ s. Some s.bytes.items };
+
+    fn write(&mut self, piece: &[u8]) -> io::Result<usize> {
+        self.bytes.write(piece)
+    }
+
+    fn flush(&mut self) -> io::Result<()> {
+        Err(io::Error::from(ErrorKind::BrokenPipe))
+    }
+}
+
+impl Output for Stuck {
+    ghost settled = { λ _ _ told. told };
+}
+
+fn write_stuck<A: Abort>(rt: &A, sink: &mut RealSink<Stuck>) {
+    assert_eq!(rt; sink.write(b"ab"), Ok(2));
+    assert_eq!(rt; sink.write(b"c"), Err(PortFault::Failed));
+    assert_eq!(rt; sink.writer().bytes.as_slice(), b"ab".as_slice());
+}
+
+#[test]
+fn a_failed_flush_is_a_fault_of_the_next_write(rt: HostRuntime) -> Result<(), Fail> {
+    let bytes = Vec::new(rt.alloc());
+    let mut sink = RealSink::make(Stuck { bytes });
+    write_stuck(&rt, &mut sink);
     Ok(())
 }

@@ -1,6 +1,6 @@
 // Writing a piece whole.
 ghost use Rattle.std.specs.Prelude.{◌≡◌, ◌≤◌, ℕ, length, OnOk, IsErrOf};
-ghost use Rattle.lucid_ports.specs.Faults.{Rises};
+ghost use Rattle.lucid_ports.specs.Faults.{CountsNoFaultUnless, Rises};
 ghost use Rattle.lucid_ports.specs.Writing.{with_all, with_front};
 
 use crate::{PortFault, Sink};
@@ -13,6 +13,7 @@ pub fn write_whole<K: Sink>(sink: &mut K, piece: &[u8]) -> Result<(), PortFault>
     ensures front { (n : ℕ) × (n ≤ length piece.now) × (K.written sink.new ≡ with_front n piece.now (K.written sink.old)) }
 
     ensures failed { IsErrOf result PortFault.Failed → Rises (K.faults sink.old) (K.faults sink.new) }
+    ensures counts_no_fault { CountsNoFaultUnless (IsErrOf result PortFault.Failed) (K.faults sink.old) (K.faults sink.new) }
     ensures count { K.faults sink.old ≤ K.faults sink.new }
 {
     let mut done = 0;

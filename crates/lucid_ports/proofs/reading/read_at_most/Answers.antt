@@ -20,5 +20,6 @@ loop-bytes-preserved g c =
       bytes = both_read _ _ _ _ _ _ _ before.contents taken.len before.bytes taken.bytes;
       contents = both_consumed _ _ _ _ _ _ before.contents taken.len taken.consumed;
       reached = search rules;
+      faults = search rules;
       others = KeepsOthers-trans _ _ _ _ before.others taken.others;
     }

@@ -11,6 +11,7 @@ invariant-loop-bytes g l =
       bytes : IfSome (old.place l.place).contents (λ c. l.bytes.items ≡ take (vec_len l.bytes) c.left);
       contents : (new.place l.place).contents ≡ option_map (advanced (vec_len l.bytes)) (old.place l.place).contents;
       reached : new.reached ≡ old.reached;
+      faults : new.faults ≡ old.faults;
       others : KeepsOthers l.place old new;
     }
 

@@ -1,4 +1,4 @@
-use Rattle.std.proofs.Common.{arith, refl}
+use Rattle.std.proofs.Common.{arith, refl, rules}
 use Rattle.std.proofs.lemmas.List.{take_rest, length-drop}
 use Rattle.lucid_ports.proofs.WritingLemmas.{both_written}
 use Rattle.lucid_ports.proofs.writing.write_whole.Goals as goal
@@ -11,5 +11,5 @@ loop-done-preserved g c =
     record {
       within = omega (arith, taken.bound, length-drop c.loop-done.done piece);
       written = both_written c.loop-done.done c.in_ok-taken.taken _ piece _ _ _ _ (take_rest piece c.loop-done.done) refl before.written taken.appended;
-      count = omega (arith, before.count, c.write.ensures.count);
+      faults = search rules;
     }

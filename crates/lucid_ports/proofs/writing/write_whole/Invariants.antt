@@ -6,7 +6,7 @@ abbrev pub invariant-loop-done : goal.invariant-loop-done
 invariant-loop-done g l = record {
   within : l.done ≤ length l.piece;
   written : g.K.Sink.written l.sink ≡ with_front l.done l.piece (g.K.Sink.written l.initial.sink);
-  count : g.K.Sink.faults l.initial.sink ≤ g.K.Sink.faults l.sink;
+  faults : g.K.Sink.faults l.sink ≡ g.K.Sink.faults l.initial.sink;
 }
 
 abbrev pub decreases-loop-done : goal.decreases-loop-done

@@ -1,4 +1,4 @@
-use Rattle.std.proofs.Common.{refl}
+use Rattle.std.proofs.Common.{refl, rules}
 use Rattle.lucid_inputs.specs.Inputs.{stream_at}
 use Rattle.lucid_inputs.proofs.OverlongLemmas.{element_told}
 use Rattle.lucid_inputs.proofs.on_demand.Inputs.element.Goals as goal
@@ -6,7 +6,7 @@ use Rattle.lucid_inputs.proofs.on_demand.Inputs.element.Goals as goal
 pub returns : goal.returns
 returns g c =
     let reads = c.in_ok-read_on.ensures.reads in (
-      (refl, λ _. tt, record { reads = reads; element = c.value.ensures; too_large = tt }),
+      (refl, λ _. tt, record { reads = reads; element = c.value.ensures; too_large = tt; ready = c.in_ok-read_on.ensures.ready }),
       record {
         after = tt;
         element = element_told c.args.index _ (stream_at c.args.self.now c.args.stream) (stream_at c.read_on.new.self c.args.stream) (g.P.Places.world c.args.places.now)
@@ -14,5 +14,6 @@ returns g c =
         too_large = tt;
         not_too_large = c.in_ok-read_on.ensures.not_too_large;
         failed = λ e. cc;
+        counts_no_fault = search rules;
       },
     )

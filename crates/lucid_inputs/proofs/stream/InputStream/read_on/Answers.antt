@@ -1,11 +1,11 @@
-use Rattle.std.proofs.Common.{◌≡◌, false, arith}
+use Rattle.std.proofs.Common.{◌≡◌, false, refl, rules, arith}
 use Rattle.std.proofs.lemmas.List.{length-map}
 use Rattle.lucid_inputs.specs.View.{element_of}
 use Rattle.lucid_inputs.proofs.StepLemmas.{reads_none, reads_further, step_done, step_smaller, step_within, not_ended}
 use Rattle.lucid_inputs.proofs.stream.InputStream.read_on.Goals as goal
 
 pub pieces-init : goal.pieces-init
-pieces-init g c = record { on = reads_none _ _ _ c.requires.fits; within = c.requires.within }
+pieces-init g c = record { on = reads_none _ _ _ c.requires.fits; faults = refl; within = c.requires.within }
 
 pub pieces-preserved : goal.pieces-preserved
 pieces-preserved g c =
@@ -15,6 +15,7 @@ pieces-preserved g c =
     record {
       on = reads_further _ _ _ _ _ _ _ c.pieces.invariant.on going (omega (arith, few, c.pieces.self.elements.ok.0, c.len.ensures, c.if-len-index.true)) done
           c.in_ok-read_piece.ensures.reached c.in_ok-read_piece.ensures.others;
+      faults = search rules;
       within = step_within _ _ _ _ _ done c.if-self-most.true c.in_ok-read_piece.ensures.most;
     }
 

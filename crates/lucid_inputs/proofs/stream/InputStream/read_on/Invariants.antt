@@ -1,4 +1,4 @@
-use Rattle.std.proofs.Common.{◌+◌, ◌-◌, cond}
+use Rattle.std.proofs.Common.{◌≡◌, ◌+◌, ◌-◌, cond}
 use Rattle.lucid_inputs.specs.Reading.{ReadsOn, IsWithin}
 use Rattle.lucid_inputs.specs.View.{stream_of}
 use Rattle.lucid_inputs.proofs.stream.InputStream.read_on.Given as goal
@@ -6,6 +6,7 @@ use Rattle.lucid_inputs.proofs.stream.InputStream.read_on.Given as goal
 abbrev pub invariant-pieces : goal.invariant-pieces
 invariant-pieces g l = record {
   on : ReadsOn l.index (stream_of l.initial.self) (stream_of l.self) (g.P.Places.world l.initial.places) (g.P.Places.world l.places);
+  faults : (g.P.Places.world l.places).faults ≡ (g.P.Places.world l.initial.places).faults;
   within : IsWithin (stream_of l.self) l.most;
 }
 

@@ -1,4 +1,4 @@
-use Rattle.std.proofs.Common.{◌≡◌, ◌<◌, length, option_map, IfSome, refl, sym, ap, subst, ◌∙◌, arith, le_refl}
+use Rattle.std.proofs.Common.{◌≡◌, ◌<◌, length, option_map, IfSome, inr, refl, sym, ap, subst, ◌∙◌, arith, le_refl}
 use Rattle.std.proofs.lemmas.Option.{slice_get_read}
 use Rattle.lucid_ports.specs.declared.endless.EndlessPlace.{EndlessPlace}
 use Rattle.lucid_ports.specs.Endless.{position_in, next_bytes}
@@ -38,6 +38,7 @@ returns c =
             shown = endless_shown _ _ p q _ was is (c.showing.ensures.shown ∙ long) c.showing.ensures.used;
             refused = tt;
             failed = λ fails. cc;
+            counts_no_fault = inr refl;
           },
           record {
             piece = subst (λ o. IfSome (option_map (spot_of files piece) o) (λ spot. c.next_from.result.now ≡ next_bytes piece spot)) (sym was) (sym here);

@@ -1,4 +1,4 @@
-use Rattle.std.proofs.Common.{◌≡◌, ◌<◌, ◌≤◌, ◌⊎◌, ◌+◌, ℕ, length, drop, IfSome, Contains, refl, sym, ap, subst, ◌∙◌, arith, le_refl}
+use Rattle.std.proofs.Common.{◌≡◌, ◌<◌, ◌≤◌, ◌⊎◌, ◌+◌, ℕ, length, drop, IfSome, Contains, inr, refl, sym, ap, subst, ◌∙◌, arith, le_refl}
 use Rattle.std.proofs.lemmas.Option.{slice_get_read}
 use Rattle.lucid_ports.specs.declared.memory_places.MemoryPlace.{MemoryPlace}
 use Rattle.lucid_ports.specs.Files.{bytes_at}
@@ -48,6 +48,7 @@ returns c =
             shown = shows;
             refused = tt;
             failed = λ fails. cc;
+            counts_no_fault = inr refl;
           },
           record { piece = shows_piece _ _ _ _ _ _ clauses; faults = refl },
         ),
