@@ -57,3 +57,8 @@ abbrev pub IsInnermost : List Context → Frame → Context → Type 0
 IsInnermost known (Call place caller) c =
     IsKnown known caller × (space_of caller ≡ 0) × (c ≡ call_frame place (context_of known caller) (base_of c))
 IsInnermost known (Frozen time) c = c ≡ frozen_frame time (base_of c)
+
+-- the context of a frame's caller, if there is one, has a lower number than this
+abbrev pub HasLowerCaller : ℕ → Frame → Type 0
+HasLowerCaller number (Call place caller) = number_of caller < number
+HasLowerCaller number (Frozen time) = Unit {0}

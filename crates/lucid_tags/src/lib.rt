@@ -78,6 +78,14 @@ impl Tag {
         }
     }
 
+    /// The number of the context: its place in the order in which contexts became known, from 0 for the empty one. The number of a
+    /// known tag is below the number of known contexts.
+    pub fn number(self) -> u32
+        ensures { result ≡ number_of self }
+    {
+        self.number
+    }
+
     /// The space.
     pub fn space(self) -> u64
         ensures space { result ≡ space_of self }
@@ -125,7 +133,7 @@ impl Model for Tags {
 impl Tags {
     ghost use Rattle.lucid_tags.specs.Contexts.{root, call_frame, frozen_frame, frames, cut};
     ghost use Rattle.lucid_tags.specs.Rows.{with_frame, CallerBelow};
-    ghost use Rattle.lucid_tags.specs.Known.{root_tag, space_of, context_of, IsKnown, IsOneForOne, IsUnknown, KeepsKnown, AddsAtMost, IsInnermost};
+    ghost use Rattle.lucid_tags.specs.Known.{root_tag, space_of, context_of, IsKnown, IsOneForOne, IsUnknown, KeepsKnown, AddsAtMost, IsInnermost, HasLowerCaller, number_of};
 
     /// Only the empty context is known. Nothing is allocated.
     pub fn make(alloc: Global) -> Tags
@@ -146,6 +154,18 @@ impl Tags {
     {
         let _table = &self.table;
         Tag::of_context(0)
+    }
+
+    /// The known context of a number, at space 0.
+    pub fn numbered(&self, number: u32) -> Tag
+        requires { number < length self.now }
+        ensures context { number_of result ≡ number }
+        ensures space { space_of result ≡ 0 }
+        ensures known { IsKnown self.now result }
+        ensures one_for_one { IsOneForOne self.now }
+    {
+        let _table = &self.table;
+        Tag::of_context(number)
     }
 
     // The context of the base with a frame added, at the base's space.
@@ -216,6 +236,10 @@ impl Tags {
         ensures known { IsKnown self.now result }
         ensures context { cut level (context_of self.now tag) ≡ Some (context_of self.now result) }
         ensures space { space_of result ≡ space_of tag }
+
+        // A context further out became known earlier.
+        ensures no_higher { number_of result ≤ number_of tag }
+        ensures lower { level < frames (context_of self.now tag) → number_of result < number_of tag }
         ensures one_for_one { IsOneForOne self.now }
     {
         tag.with_number(self.table.cut_to(tag.number, level))
@@ -236,6 +260,9 @@ impl Tags {
         requires { IsKnown self.now tag }
         ensures empty { IsNone result ↔ (context_of self.now tag ≡ root) }
         ensures innermost { IfSome result (λ frame. IsInnermost self.now frame (context_of self.now tag)) }
+
+        // The caller's context became known earlier.
+        ensures lower { IfSome result (λ frame. HasLowerCaller (number_of tag) frame) }
         ensures one_for_one { IsOneForOne self.now }
     {
         let table = &self.table;

@@ -157,6 +157,8 @@ impl Table {
         requires level { level ≤ frames (context_at (contexts self.now.rows.keys) number) }
         ensures known { result < length (contexts self.now.rows.keys) }
         ensures context { cut level (context_at (contexts self.now.rows.keys) number) ≡ Some (context_at (contexts self.now.rows.keys) result) }
+        ensures no_higher { result ≤ number }
+        ensures lower { level < frames (context_at (contexts self.now.rows.keys) number) → result < number }
     {
         let mut at = number;
         let mut depth = self.depth_of(at);

@@ -3,6 +3,7 @@ ghost use Rattle.lucid_tags.specs.Known.{IsKnown};
 
 use super::*;
 use indexmap::IndexMap;
+use std::process::Abort;
 use std::test::Fail;
 
 const MANY: u64 = 1_000_000;
@@ -15,9 +16,7 @@ struct Key {
     time: u64,
 }
 
-#[test]
-fn one_tag_for_one_context(rt: HostRuntime) -> Result<(), Fail> {
-    let mut tags = Tags::make(rt.alloc());
+fn check_one_tag_for_one_context(rt: &impl Abort, tags: &mut Tags) -> Result<(), Fail> {
     let root = tags.root();
     let call = tags.enter_call(root, 3, root)?;
     let again = tags.enter_call(root, 3, root)?;
@@ -29,8 +28,11 @@ fn one_tag_for_one_context(rt: HostRuntime) -> Result<(), Fail> {
 }
 
 #[test]
-fn frames_of_a_call(rt: HostRuntime) -> Result<(), Fail> {
-    let mut tags = Tags::make(rt.alloc());
+fn one_tag_for_one_context(rt: HostRuntime) -> Result<(), Fail> {
+    check_one_tag_for_one_context(&rt, &mut Tags::make(rt.alloc()))
+}
+
+fn check_frames_of_a_call(rt: &impl Abort, tags: &mut Tags) -> Result<(), Fail> {
     let root = tags.root();
     let outer = tags.enter_frozen(root, 7)?;
     let caller = tags.enter_frozen(outer, 8)?;
@@ -49,9 +51,30 @@ fn frames_of_a_call(rt: HostRuntime) -> Result<(), Fail> {
 }
 
 #[test]
-fn key_of_a_map(rt: HostRuntime) -> Result<(), Fail> {
-    let mut tags = Tags::make(rt.alloc());
-    let mut values = IndexMap::new(rt.alloc());
+fn frames_of_a_call(rt: HostRuntime) -> Result<(), Fail> {
+    check_frames_of_a_call(&rt, &mut Tags::make(rt.alloc()))
+}
+
+fn check_numbers(rt: &impl Abort, tags: &mut Tags) -> Result<(), Fail> {
+    let root = tags.root();
+    assert_eq!(rt; root.number(), 0);
+    let outer = tags.enter_frozen(root, 7)?;
+    assert_eq!(rt; outer.number(), 1);
+    let inner = tags.enter_call(root, 3, outer)?;
+    assert_eq!(rt; inner.at_space(4).number(), 2);
+    assert_eq!(rt; tags.numbered(2), inner);
+    assert_eq!(rt; tags.cut(inner, 0).number(), 0);
+    Ok(())
+}
+
+#[test]
+fn numbers_in_order(rt: HostRuntime) -> Result<(), Fail> {
+    check_numbers(&rt, &mut Tags::make(rt.alloc()))
+}
+
+// The value of the context frozen at 5, where that of each context is its key's.
+fn value_of_a_key(alloc: Global, tags: &mut Tags) -> Result<Option<u64>, AllocError> {
+    let mut values = IndexMap::new(alloc);
     let root = tags.root();
     let tag = tags.enter_frozen(root, 5)?;
     for (tag, value) in [(root, 0), (tag, 1), (tag.at_space(1), 2)] {
@@ -67,7 +90,13 @@ fn key_of_a_map(rt: HostRuntime) -> Result<(), Fail> {
         tag: tags.enter_frozen(root, 5)?,
         time: 6,
     };
-    assert_eq!(rt; values.get(&key).copied(), Some(1));
+    Ok(values.get(&key).copied())
+}
+
+#[test]
+fn key_of_a_map(rt: HostRuntime) -> Result<(), Fail> {
+    let value = value_of_a_key(rt.alloc(), &mut Tags::make(rt.alloc()))?;
+    assert_eq!(rt; value, Some(1));
     Ok(())
 }
 
@@ -92,11 +121,9 @@ fn spread(tags: &mut Tags, many: u32) -> Result<Tag, AllocError> {
     Ok(tag)
 }
 
-#[test]
-fn a_million_nested(rt: HostRuntime) -> Result<(), Fail> {
-    let mut tags = Tags::make(rt.alloc());
-    let first = nest(&mut tags, MANY)?;
-    let tag = nest(&mut tags, MANY)?;
+fn check_a_million_nested(rt: &impl Abort, tags: &mut Tags) -> Result<(), Fail> {
+    let first = nest(tags, MANY)?;
+    let tag = nest(tags, MANY)?;
     assert_eq!(rt; tag, first);
     assert_eq!(rt; tags.count(), MANY + 1);
     let level = tags.level(tag);
@@ -107,10 +134,18 @@ fn a_million_nested(rt: HostRuntime) -> Result<(), Fail> {
 }
 
 #[test]
-fn a_million_side_by_side(rt: HostRuntime) -> Result<(), Fail> {
-    let mut tags = Tags::make(rt.alloc());
-    let first = spread(&mut tags, 1_000_000)?;
-    assert_eq!(rt; spread(&mut tags, 1_000_000)?, first);
+fn a_million_nested(rt: HostRuntime) -> Result<(), Fail> {
+    check_a_million_nested(&rt, &mut Tags::make(rt.alloc()))
+}
+
+fn check_a_million_side_by_side(rt: &impl Abort, tags: &mut Tags) -> Result<(), Fail> {
+    let first = spread(tags, 1_000_000)?;
+    assert_eq!(rt; spread(tags, 1_000_000)?, first);
     assert_eq!(rt; tags.count(), MANY + 1);
     Ok(())
+}
+
+#[test]
+fn a_million_side_by_side(rt: HostRuntime) -> Result<(), Fail> {
+    check_a_million_side_by_side(&rt, &mut Tags::make(rt.alloc()))
 }

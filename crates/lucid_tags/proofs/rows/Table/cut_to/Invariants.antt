@@ -6,6 +6,7 @@ use Rattle.lucid_tags.proofs.rows.Table.cut_to.Given as goal
 abbrev pub invariant-loop-depth : goal.invariant-loop-depth
 invariant-loop-depth l = record {
   known : l.at ≤ length l.self.depths.items;
+  before : l.at ≤ l.fn.number;
   right : IsDepth (contexts l.self.rows.keys) l.at l.depth;
   deep : l.level ≤ l.depth.level;
   outer : IsOuter (context_at (contexts l.self.rows.keys) l.at) (context_at (contexts l.self.rows.keys) l.fn.number);
