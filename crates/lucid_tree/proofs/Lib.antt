@@ -20,6 +20,7 @@ pub mod Undone
 pub mod Shifts
 pub mod SearchEquations
 pub mod References
+mod Counts
 mod Falls
 mod Copies
 mod Depths

@@ -1,5 +1,5 @@
 -- The equations of `whenever` and `upon`, unfolded by one time.
-use Rattle.std.proofs.Common.{◌≡◌, ℕ, zero, suc, ◌+◌, ◌≤◌, ◌<◌, max, Bool, Option, Some, true, false, refl, sym, ap, ◌∙◌, nat_le, if◌then◌else◌, arith}
+use Rattle.std.proofs.Common.{◌≡◌, ℕ, zero, suc, ◌+◌, ◌≤◌, ◌<◌, Option, None, true, false, refl, sym, ap, ◌∙◌, nat_le, if◌then◌else◌, arith}
 use Rattle.std.proofs.lemmas.Bool.Decides.{nat_tests}
 use Rattle.lucid_value.specs.Plain.{PlainValue}
 use Rattle.lucid_tree.specs.Tree.{PlainTree, no_trees, tree, first_of, next_of, fby_of, whenever_of, upon_of, if_of}
@@ -119,21 +119,17 @@ module _ (b : Elements) (env : Env) (x p : PlainTree) where
         ∙ sym (alone (val b m (if_of (at 1) (first_of (at 2) p) (upon_of (at 3) (next_of (at 4) x) (next_of (at 5) p)) (upon_of (at 6) x (next_of (at 7) p))) env u s) _)
 
 -- an advance is undefined below its time
-in_time : (c : Bool) (a : Plan) (r : Reader (Option PlainValue)) (v : PlainValue) → run (if c then a else nothing) r ≡ Some v → c ≡ true
-in_time true a r v e = refl
-in_time false a r v e = absurd (grind arith)
-
-reached : (t m : ℕ) → nat_le t m ≡ true → t ≤ m
-reached t m e = grind (arith, nat_tests)
+too_early : (t m : ℕ) (a : Plan) (r : Reader (Option PlainValue)) → m < t → run (if nat_le t m then a else nothing) r ≡ None
+too_early t m a r h = let e : nat_le t m ≡ false = grind (arith, nat_tests) in rw e refl
 
 pub whenever-equation : WheneverEquation
 whenever-equation b x p env i at = record {
-  to_right = λ m t s v l k e. whenever-right b env x p at i m t s l v e;
-  to_left = λ m t s v l k e. val-up b (suc m) (max m t + 1) (omega arith) (whenever_of i x p) env t s v (right-whenever b env x p at i m t s l v e);
+  to_right = λ m t s v l e. whenever-right b env x p at i m t s l v e;
+  to_left = λ m t s v l e. val-up b (suc m) (m + 1) (omega arith) (whenever_of i x p) env t s v (right-whenever b env x p at i m t s l v e);
 }
 
 pub upon-equation : UponEquation
 upon-equation b x p env i at = record {
-  to_right = λ m t s v l k e. sym (upon-same b env x p at i m t s (reached t m (in_time (nat_le t m) (count_true t 0 0 s t) (here b env x p m) v e)) k) ∙ e;
-  to_left = λ m t s v l k e. upon-same b env x p at i (max m t + 1) t s (omega arith) k ∙ val-up b m (max m t + 1) (omega arith) (upon_unfolded at x p) env t s v e;
+  same = λ m t s h l. upon-same b env x p at i m t s h l;
+  undefined_before = λ m t s h. too_early t m (count_true t 0 0 s t) (here b env x p m) h;
 }

@@ -71,8 +71,8 @@ pub record AreFirstAt (e : Sides) (m n t s : ℕ) (v : PlainValue) : Type 0 wher
   pub left : IsFirstAt no_inputs e.left m t s v
   pub right : IsFirstAt no_inputs e.right n t s v
 
--- The right side needs no greater limit than the left one; the left one may need one more, and an advance needs one of at least
--- its time.
+-- The right side needs no greater limit than the left one; `whenever` may need one more than its right side, and `upon` needs a limit
+-- of at least its time.
 abbrev pub SidesOfEquations : Type 0
 SidesOfEquations =
     AreFirstAt every_third_sides 4 4 1 0 (number 3)

@@ -1,5 +1,5 @@
 -- The laws of the meaning, over all inputs b, limits m, environments and points. Each is the contract of a function of `laws`.
-use Rattle.std.specs.Prelude.{◌≡◌, ℕ, ◌+◌, ◌<◌, ◌≤◌, max, List, Option, Some, None, ◌↔◌}
+use Rattle.std.specs.Prelude.{◌≡◌, ℕ, ◌+◌, ◌<◌, ◌≤◌, List, Option, Some, None, ◌↔◌}
 use Rattle.lucid_value.specs.Plain.{PlainValue}
 use Rattle.lucid_tree.specs.Tree.{PlainTree, name, call, PlainTrees, PlainDefs, first_of, next_of, fby_of, whenever_of, asa_of, upon_of, initial_of, succ_of, sby_of, if_of}
 use Rattle.lucid_tree.specs.Members.{Inside}
@@ -106,11 +106,16 @@ abbrev pub ConsultsGrowWithAdded : Type 0
 ConsultsGrowWithAdded =
     (b : Elements) (m d : ℕ) (e : PlainTree) (env : Env) (t s : ℕ) → Inside (consults b m d e env t s) (consults b m (d + 1) e env t s)
 
--- What one side of an equation has, the other has: the right side at the same limit, the left side at the greater of limit and
--- time, and one. It is said of limits up to the last time, since `next` at the last time is an error.
-pub record IsEquation (b : Elements) (left right : PlainTree) (env : Env) : Type 0 where
-  pub to_right : (m t s : ℕ) (v : PlainValue) → m ≤ last → t ≤ last → val b m left env t s ≡ Some v → val b m right env t s ≡ Some v
-  pub to_left : (m t s : ℕ) (v : PlainValue) → m ≤ last → t ≤ last → val b m right env t s ≡ Some v → val b (max m t + 1) left env t s ≡ Some v
+-- What the left side has, the right side has at the same limit; what the right side has, the left side has at one more. It is said of
+-- limits up to the last time, since `next` at the last time is an error.
+pub record IsEqualWithOneMore (b : Elements) (left right : PlainTree) (env : Env) : Type 0 where
+  pub to_right : (m t s : ℕ) (v : PlainValue) → m ≤ last → val b m left env t s ≡ Some v → val b m right env t s ≡ Some v
+  pub to_left : (m t s : ℕ) (v : PlainValue) → m ≤ last → val b m right env t s ≡ Some v → val b (m + 1) left env t s ≡ Some v
+
+-- At a time up to the last, the two sides are the same at each limit of at least the time; below it the left side is undefined.
+pub record IsEqualFromItsTime (b : Elements) (left right : PlainTree) (env : Env) : Type 0 where
+  pub same : (m t s : ℕ) → t ≤ m → t ≤ last → val b m left env t s ≡ val b m right env t s
+  pub undefined_before : (m t s : ℕ) → m < t → val b m left env t s ≡ None
 
 -- The right side of the equation of `whenever`: if first P then X fby (next X whenever next P) else (next X whenever next P) fi,
 -- its nodes at any places, here by their numbers.
@@ -131,9 +136,9 @@ upon_unfolded at x p =
 -- X whenever P = if first P then X fby (next X whenever next P) else (next X whenever next P) fi, Wadge and Ashcroft's equation.
 abbrev pub WheneverEquation : Type 0
 WheneverEquation =
-    (b : Elements) (x p : PlainTree) (env : Env) (i : ℕ) (at : ℕ → ℕ) → IsEquation b (whenever_of i x p) (whenever_unfolded at x p) env
+    (b : Elements) (x p : PlainTree) (env : Env) (i : ℕ) (at : ℕ → ℕ) → IsEqualWithOneMore b (whenever_of i x p) (whenever_unfolded at x p) env
 
 -- X upon P = X fby (if first P then next X upon next P else X upon next P fi), this language's own.
 abbrev pub UponEquation : Type 0
 UponEquation =
-    (b : Elements) (x p : PlainTree) (env : Env) (i : ℕ) (at : ℕ → ℕ) → IsEquation b (upon_of i x p) (upon_unfolded at x p) env
+    (b : Elements) (x p : PlainTree) (env : Env) (i : ℕ) (at : ℕ → ℕ) → IsEqualFromItsTime b (upon_of i x p) (upon_unfolded at x p) env

@@ -6,6 +6,9 @@ pub mod TreesFall
 pub mod DefsView
 pub mod DefsFall
 pub mod View
+pub mod Left
+pub mod Rights
+pub mod Shape
 pub mod Rows
 pub mod Rests
 pub mod Members

@@ -34,6 +34,7 @@ hval g m e env t s = approximation value g m (record { tree = e; env = env }) t 
 abbrev pub val : Elements → ℕ → PlainTree → Env → (time space : ℕ) → Option PlainValue
 val b m e env t s = hval (nothing_held b) m e env t s
 
--- The tree means the value at a point: some approximation gives it there.
+-- The tree means the value at a point: some approximation gives it there. The approximations are those of every limit, and a search looks
+-- at every number below its limit: also past the last time, which the limit of no engine reaches.
 abbrev pub Means : Elements → PlainTree → Env → (time space : ℕ) → PlainValue → Type 0
 Means b e env t s v = (m : ℕ) × (val b m e env t s ≡ Some v)

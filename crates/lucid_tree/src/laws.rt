@@ -30,7 +30,7 @@ pub fn asa_is_first_of_whenever()
     ensures { AsaIsFirstOfWhenever }
 {}
 
-/// `whenever` and `upon` are what their equations, unfolded by one time, say.
+/// `whenever` and `upon` are what their equations say, `whenever` at one more, `upon` at each limit of at least its time.
 pub fn search_equations()
     ensures whenever { WheneverEquation }
     ensures upon { UponEquation }

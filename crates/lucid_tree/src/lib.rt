@@ -1,14 +1,20 @@
 //! Trees and what they mean: the approximations of a program, and the laws that they obey.
 #![tactic(auto)]
 
+pub use crate::definitions::Definitions;
 pub use crate::lists::{Names, Places32};
+pub use crate::parts::Parts;
+pub use crate::shape::{Head, Shape};
 pub use crate::tree::{Block, Def, DefKind, Defs, Kind, Tree, Trees};
 
 mod copy;
+mod definitions;
 mod depth;
 pub mod laws;
 mod lists;
+mod parts;
 pub mod samples;
+mod shape;
 #[cfg(test)]
 mod tests;
 mod tree;

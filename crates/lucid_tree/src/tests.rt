@@ -5,7 +5,7 @@ ghost use Rattle.lucid_tree.specs.SamplePrograms.{counting};
 ghost use Rattle.lucid_tree.specs.WellMade.{IsWellMade};
 ghost use Rattle.lucid_value.specs.Plain.{int};
 
-use crate::{Block, Def, DefKind, Defs, Kind, Names, Places32, Tree, Trees};
+use crate::{Block, Def, DefKind, Defs, Kind, Names, Places32, Shape, Tree, Trees};
 use lucid_ops::Op;
 use lucid_value::{MakeRefusal, Name, Value};
 use std::alloc::{AllocError, Global};
@@ -84,17 +84,33 @@ fn counting_up(alloc: Global) -> Result<Tree, MakeRefusal>
     })
 }
 
-#[test]
-fn copies_are_equal(rt: HostRuntime) -> Result<(), Fail> {
-    let tree = counting_up(rt.alloc())?;
-    let copied = tree.copy(rt.alloc())?;
-    assert_eq!(rt; copied.depth(), 4);
-    let Kind::Scope(block) = &copied.kind else {
+// The place of a block's subject, and the number of its definitions.
+fn of_block(tree: &Tree) -> Result<(u32, usize), Fail> {
+    let Kind::Scope(block) = &tree.kind else {
         return Err(Fail::new("a block"));
     };
-    assert_eq!(rt; block.defs.items().len(), 1);
-    assert_eq!(rt; block.subject.at, 0);
+    Ok((block.subject.at, block.defs.items().len()))
+}
+
+// The depth of a copy of the counting program, the place of its subject, and the number of its definitions.
+fn copied_counting(alloc: Global) -> Result<(u32, u32, usize), Fail> {
+    let copied = counting_up(alloc)?.copy(alloc)?;
+    let (at, defs) = of_block(&copied)?;
+    Ok((copied.depth(), at, defs))
+}
+
+#[test]
+fn copies_are_equal(rt: HostRuntime) -> Result<(), Fail> {
+    let (depth, at, defs) = copied_counting(rt.alloc())?;
+    assert_eq!(rt; depth, 4);
+    assert_eq!(rt; defs, 1);
+    assert_eq!(rt; at, 0);
     Ok(())
+}
+
+// The place of a copy of the tree.
+fn copied_at(alloc: Global, tree: Tree) -> Result<u32, AllocError> {
+    Ok(tree.copy(alloc)?.at)
 }
 
 fn one_box(alloc: Global) -> Result<Box<Tree>, AllocError> {
@@ -130,8 +146,7 @@ fn of_two_parts(number: u32, x: Box<Tree>, y: Box<Tree>) -> Kind {
 fn forms_of_one_part_are_copied(rt: HostRuntime) -> Result<(), Fail> {
     for at in 0..4 {
         let kind = of_one_part(at, one_box(rt.alloc())?);
-        let copied = Tree { at, kind }.copy(rt.alloc())?;
-        assert_eq!(rt; copied.at, at);
+        assert_eq!(rt; copied_at(rt.alloc(), Tree { at, kind })?, at);
     }
     Ok(())
 }
@@ -141,8 +156,7 @@ fn forms_of_two_parts_are_copied(rt: HostRuntime) -> Result<(), Fail> {
     for at in 0..9 {
         let x = one_box(rt.alloc())?;
         let kind = of_two_parts(at, x, one_box(rt.alloc())?);
-        let copied = Tree { at, kind }.copy(rt.alloc())?;
-        assert_eq!(rt; copied.at, at);
+        assert_eq!(rt; copied_at(rt.alloc(), Tree { at, kind })?, at);
     }
     Ok(())
 }
@@ -153,9 +167,17 @@ fn choices_are_copied(rt: HostRuntime) -> Result<(), Fail> {
     let yes = one_box(rt.alloc())?;
     let no = one_box(rt.alloc())?;
     let kind = Kind::If { test, yes, no };
-    let copied = Tree { at: 7, kind }.copy(rt.alloc())?;
-    assert_eq!(rt; copied.at, 7);
+    assert_eq!(rt; copied_at(rt.alloc(), Tree { at: 7, kind })?, 7);
     Ok(())
+}
+
+// The number of arguments of a call's copy.
+fn copied_arguments(alloc: Global, call: Tree) -> Result<usize, Fail> {
+    let copied = call.copy(alloc)?;
+    let Kind::Call { args, .. } = &copied.kind else {
+        return Err(Fail::new("a call"));
+    };
+    Ok(args.items().len())
 }
 
 #[test]
@@ -163,11 +185,7 @@ fn calls_are_copied(rt: HostRuntime) -> Result<(), Fail> {
     let name = Name::make(rt.alloc(), b"f")?;
     let args = two(rt.alloc(), integer(2, 1), integer(5, 2))?;
     let kind = Kind::Call { name, args };
-    let copied = Tree { at: 0, kind }.copy(rt.alloc())?;
-    let Kind::Call { args, .. } = &copied.kind else {
-        return Err(Fail::new("a call"));
-    };
-    assert_eq!(rt; args.items().len(), 2);
+    assert_eq!(rt; copied_arguments(rt.alloc(), Tree { at: 0, kind })?, 2);
     Ok(())
 }
 
@@ -197,24 +215,35 @@ fn functions_are_copied(rt: HostRuntime) -> Result<(), Fail> {
         places: Places32::from_vec(Vec::from_array(rt.alloc(), [11])?),
         right: integer(14, 1),
     };
-    let copied = block_of(rt.alloc(), kind)?.copy(rt.alloc())?;
-    assert_eq!(rt; copied.at, 2);
+    assert_eq!(rt; copied_at(rt.alloc(), block_of(rt.alloc(), kind)?)?, 2);
     Ok(())
 }
 
 #[test]
 fn current_definitions_are_copied(rt: HostRuntime) -> Result<(), Fail> {
     let right = integer(14, 1);
-    let copied = block_of(rt.alloc(), DefKind::Current { right })?.copy(rt.alloc())?;
-    assert_eq!(rt; copied.at, 2);
+    let block = block_of(rt.alloc(), DefKind::Current { right })?;
+    assert_eq!(rt; copied_at(rt.alloc(), block)?, 2);
     Ok(())
+}
+
+// The depths of a constant and of the counting program.
+fn depths(alloc: Global) -> Result<(u32, u32), MakeRefusal> {
+    Ok((integer(0, 1).depth(), counting_up(alloc)?.depth()))
 }
 
 #[test]
 fn depth_of_a_tree(rt: HostRuntime) -> Result<(), Fail> {
-    assert_eq!(rt; integer(0, 1).depth(), 1);
-    assert_eq!(rt; counting_up(rt.alloc())?.depth(), 4);
+    let (constant, counting) = depths(rt.alloc())?;
+    assert_eq!(rt; constant, 1);
+    assert_eq!(rt; counting, 4);
     Ok(())
+}
+
+// The number of names in a list, and the first byte of the last.
+fn of_names(names: Names) -> Option<(usize, u8)> {
+    let last = names.items().last()?;
+    Some((names.items().len(), *last.bytes().first()?))
 }
 
 #[test]
@@ -222,10 +251,44 @@ fn lists_give_their_items(rt: HostRuntime) -> Result<(), Fail> {
     let mut names = Vec::new(rt.alloc());
     names.push(Name::make(rt.alloc(), b"f")?)?;
     names.push(Name::make(rt.alloc(), b"g")?)?;
-    let names = Names::from_vec(names);
-    assert_eq!(rt; names.items().len(), 2);
-    assert_eq!(rt; names.items()[1].bytes(), b"g".as_slice());
+    assert_eq!(rt; of_names(Names::from_vec(names)), Some((2, b'g')));
     let places = Places32::from_vec(Vec::from_array(rt.alloc(), [3, 5])?);
     assert_eq!(rt; places.items(), [3, 5].as_slice());
+    Ok(())
+}
+
+// The places of the parts of a form.
+fn places_of(tree: &Tree) -> Option<(u32, u32)> {
+    let Shape::Form { mut parts, .. } = tree.shape() else {
+        return None;
+    };
+    Some((parts.next()?.at, parts.next()?.at))
+}
+
+// The places of the parts of the first definition's right side.
+fn places_in_block(tree: &Tree) -> Option<(u32, u32)> {
+    let Shape::Scope { defs, .. } = tree.shape() else {
+        return None;
+    };
+    places_of(defs.definitions().next()?.right())
+}
+
+#[test]
+fn shapes_give_their_parts(rt: HostRuntime) -> Result<(), Fail> {
+    let places = places_in_block(&counting_up(rt.alloc())?);
+    assert_eq!(rt; places, Some((12, 20)));
+    Ok(())
+}
+
+// The places of two trees in a list.
+fn places_in(trees: &Trees) -> Option<(u32, u32)> {
+    let mut parts = trees.parts();
+    Some((parts.next()?.at, parts.next()?.at))
+}
+
+#[test]
+fn lists_give_their_trees(rt: HostRuntime) -> Result<(), Fail> {
+    let places = places_in(&two(rt.alloc(), integer(3, 1), integer(5, 2))?);
+    assert_eq!(rt; places, Some((3, 5)));
     Ok(())
 }

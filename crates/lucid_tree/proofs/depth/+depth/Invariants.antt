@@ -1,29 +1,27 @@
-use Rattle.std.proofs.Common.{◌≡◌, ◌+◌, ◌*◌, max, drop}
-use Rattle.lucid_tree.specs.Tree.{no_defs}
+use Rattle.std.proofs.Common.{◌≡◌, ◌+◌, ◌*◌, ◌≤◌, max}
 use Rattle.lucid_tree.specs.Size.{nodes, nodes_in, nodes_in_defs}
-use Rattle.lucid_tree.specs.Lists.{trees_of}
-use Rattle.lucid_tree.specs.View.{tree_of}
-use Rattle.lucid_tree.specs.DefsView.{one_def, defs_of}
 use Rattle.lucid_tree.specs.WellMade.{depths, depths_in_defs}
 use Rattle.lucid_tree.proofs.depth.+depth.Given as goal
 
-abbrev pub decreases-depth_below : goal.decreases-depth_below
-decreases-depth_below l = 4 * nodes (tree_of 0 l.kind.now)
-
 abbrev pub decreases-depth_of : goal.decreases-depth_of
-decreases-depth_of l = 4 * nodes l.tree.now + 1
+decreases-depth_of l = 2 * nodes l.tree.now
 
-abbrev pub decreases-depth_of_def : goal.decreases-depth_of_def
-decreases-depth_of_def l = 4 * nodes_in_defs (one_def l.def.now no_defs) + 2
+abbrev pub decreases-depth_of_parts : goal.decreases-depth_of_parts
+decreases-depth_of_parts l = 2 * nodes_in l.parts + 1
 
 abbrev pub decreases-depth_of_defs : goal.decreases-depth_of_defs
-decreases-depth_of_defs l = 4 * nodes_in_defs l.defs.now + 3
+decreases-depth_of_defs l = 2 * nodes_in_defs l.defs + 1
 
-abbrev pub decreases-depth_of_trees : goal.decreases-depth_of_trees
-decreases-depth_of_trees l = 4 * nodes_in l.trees.now + 2
+abbrev pub invariant-depth_of_parts-loop-part : goal.invariant-depth_of_parts-loop-part
+invariant-depth_of_parts-loop-part l =
+    (goal.iterator-depth_of_parts-loop-part).can_next l.part-iterator
+    × (goal.iterator-depth_of_parts-loop-part).is_finite l.part-iterator
+    × (max l.deepest (depths l.part-iterator) ≡ depths l.fn.parts)
+    × (nodes_in l.part-iterator ≤ nodes_in l.fn.parts)
 
 abbrev pub invariant-depth_of_defs-loop-def : goal.invariant-depth_of_defs-loop-def
-invariant-depth_of_defs-loop-def l = max l.deepest (depths_in_defs (defs_of (drop l.def-index l.items))) ≡ depths_in_defs l.defs
-
-abbrev pub invariant-depth_of_trees-loop-tree : goal.invariant-depth_of_trees-loop-tree
-invariant-depth_of_trees-loop-tree l = max l.deepest (depths (trees_of (drop l.tree-index l.items))) ≡ depths l.trees
+invariant-depth_of_defs-loop-def l =
+    (goal.iterator-depth_of_defs-loop-def).can_next l.def-iterator
+    × (goal.iterator-depth_of_defs-loop-def).is_finite l.def-iterator
+    × (max l.deepest (depths_in_defs l.def-iterator) ≡ depths_in_defs l.fn.defs)
+    × (nodes_in_defs l.def-iterator ≤ nodes_in_defs l.fn.defs)
