@@ -1,0 +1,5 @@
+pub mod Below
+pub mod Fixed
+mod Parts
+pub mod Rules
+mod Loops

@@ -1,0 +1,3 @@
+pub mod Equations
+pub mod Rules
+pub mod Laws
