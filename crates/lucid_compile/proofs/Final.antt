@@ -29,7 +29,7 @@ use Rattle.lucid_compile.specs.Static.{outermost, Origin, Site, Source, nodes_fo
 use Rattle.lucid_compile.specs.Compiles.{HasRow, Actuals}
 use Rattle.lucid_compile.specs.Places.{first_place}
 use Rattle.lucid_compile.specs.Promise.{KeepsTree}
-use Rattle.lucid_compile.specs.Scopes.{HasRows}
+use Rattle.lucid_compile.proofs.HeldRows.{HasRows, have-scopes}
 use Rattle.lucid_compile.specs.Numbered.{function_of, or_no_mark, name_mark, function_mark, call_number, mark_by}
 use Rattle.lucid_compile.specs.Keys.{key_of_function, keys_of, IsNumberingOf}
 use Rattle.lucid_compile.specs.Building.{Lists, no_lists, with_scope, OneScope}
@@ -265,6 +265,7 @@ module _ (w : Numbered) (e : PlainTree) (o n : Lists) (root : ℕ) (t : Table)
         bodies = bodies-stand t bodies;
         places = places-pass t w z rows apart numbers met homes actuals;
         root = record { root = subst (StandsIn t.nodes 0) (sym is.root_is) (subst (λ rs. StandsIn rs 0 root) (sym rows-same) grown.stands); differ = differ; few = few };
+        homes = have-scopes t w z rows;
       }
 
   is-made : IsMade w e t

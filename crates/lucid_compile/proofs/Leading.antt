@@ -26,7 +26,7 @@ use Rattle.lucid_compile.specs.Keys.{keys_of, IsNumberingOf}
 use Rattle.lucid_compile.specs.Bound.{Stand, Numbered, bound_node, node_by, callee_place, Target, no_target, of_name, of_call, CallStand, Log}
 use Rattle.lucid_compile.specs.Holds.{EachRow, IsOpen, HasTarget, IsNodeRow, IsEntry, IsNameRow, IsPlaceRow, IsBody, FunctionsHold, NameFits, PlaceFits, BodyFits}
 use Rattle.lucid_compile.specs.Steps.{callee_number, row_of_call, call_row, row_by, rows_of_calls}
-use Rattle.lucid_compile.specs.Scopes.{HasRows}
+use Rattle.lucid_compile.proofs.HeldRows.{HasRows}
 use Rattle.lucid_compile.proofs.Opening.{some-left, slice-past}
 use Rattle.lucid_compile.proofs.Growing.{each-row}
 use Rattle.lucid_compile.proofs.Adding.{count-same}

@@ -31,6 +31,7 @@ pub mod Apart
 pub mod Depths
 pub mod Meeting
 pub mod Indices
+pub mod HeldRows
 pub mod Leading
 pub mod Passing
 pub mod Keying

@@ -10,4 +10,3 @@ pub mod Holds
 pub mod Forms
 pub mod Steps
 pub mod Keys
-pub mod Scopes

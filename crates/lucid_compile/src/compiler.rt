@@ -8,7 +8,6 @@ ghost use Rattle.lucid_tree.specs.Size.{count};
 ghost use Rattle.lucid_tree.specs.DefsView.{one_def};
 ghost use Rattle.lucid_scope.specs.Scoped.{scoped_tree, scoped_inputs, scoped_binding};
 ghost use Rattle.lucid_compile.specs.Promise.{KeepsTree};
-ghost use Rattle.lucid_compile.specs.Scopes.{HasScopes};
 ghost use Rattle.lucid_equations.specs.Sound.{AreZero, IsSound};
 ghost use Rattle.lucid_equations.specs.Programs.{table_of as table_in, program_equations};
 ghost use Rattle.lucid_compile.specs.Numbered.{name_mark, function_mark};
@@ -441,7 +440,6 @@ fn copied(alloc: Global, names: &[Name]) -> Result<Vec<Name>, AllocError>
 /// 2^32 - 2 rows.
 pub fn compile(alloc: Global, scoped: &Scoped) -> Result<Program, AllocError>
     ensures keeps { IfOk result (λ program. KeepsTree (program_equations program) (scoped_tree scoped.now)) }
-    ensures scopes { IfOk result (λ program. HasScopes (table_in program) scoped.now) }
     ensures sound { IfOk result (λ program. length (scoped_inputs scoped.now) ≤ 1048576 → IsSound (table_in program)) }
     ensures inputs { IfOk result (λ program. (table_in program).inputs ≡ scoped_inputs scoped.now) }
 {

@@ -9,6 +9,7 @@ pub mod AddedNumbers
 pub mod Moving
 pub mod SameDatons
 pub mod PartsRead
+pub mod NumbersRead
 pub mod Looked
 pub mod Reached
 pub mod Needs

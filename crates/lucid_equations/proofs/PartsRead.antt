@@ -59,7 +59,7 @@ part-at ts [] i k e = absurd (none_some k e)
 part-at ts (j ∷ is) zero k e = let h : j ≡ k = cc in ap (λ z. Some (at ts z)) h
 part-at ts (j ∷ is) (suc i) k e = part-at ts is i k e
 
-each-lower : (n : ℕ) (is : List ℕ) (i k : ℕ) → EachBelow n is → slice_get is i ≡ Some k → k < n
+pub each-lower : (n : ℕ) (is : List ℕ) (i k : ℕ) → EachBelow n is → slice_get is i ≡ Some k → k < n
 each-lower n [] i k b e = absurd (none_some k e)
 each-lower n (j ∷ is) zero k b e = let h : j ≡ k = cc in subst (λ z. z < n) h b.0
 each-lower n (j ∷ is) (suc i) k b e = each-lower n is i k b.1 e

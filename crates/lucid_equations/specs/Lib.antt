@@ -12,5 +12,6 @@ pub mod Sound
 pub mod Counts
 pub mod Parts
 pub mod RowParts
+pub mod NumberAims
 pub mod Looks
 pub mod Programs

@@ -1,4 +1,4 @@
--- Sound tables: each row stands in a scope, and what it names stands in that scope or in one round it, in seven rules. The table of a
+-- Sound tables: each row stands in a scope, and what it names stands in that scope or in one round it, in eight rules. The table of a
 -- compiled program is sound; a table that was read from text may be unsound.
 use Rattle.std.specs.Prelude.{◌≡◌, ◌≢◌, ℕ, suc, ◌<◌, ◌≤◌, List, [], ◌∷◌, length, Some, slice_get, drop}
 use Rattle.std.specs.Option.{option_map}
@@ -14,6 +14,7 @@ use Rattle.lucid_equations.specs.declared.rows.Node.TheVariants.{Apply, Freeze, 
 use Rattle.lucid_equations.specs.declared.rows.Entry.{Entry}
 use Rattle.lucid_equations.specs.declared.rows.Entry.TheVariants.{Plain, Parameter, Current, Called}
 use Rattle.lucid_equations.specs.declared.rows.NodeRow.{NodeRow}
+use Rattle.lucid_equations.specs.declared.rows.NameRow.{NameRow}
 use Rattle.lucid_equations.specs.declared.rows.PlaceRow.{PlaceRow}
 use Rattle.lucid_equations.specs.declared.table.Table.{Table}
 
@@ -143,6 +144,12 @@ module _ (t : Table) where
     pub differ : AllDiffer t.inputs
     pub few : length t.inputs ≤ 1048576
 
+  -- 8. The scope of each node, of each name and of each call place is there.
+  pub record RowsHaveScopes : Type 0 where
+    pub nodes : (id : ℕ) (r : NodeRow) → slice_get t.nodes id ≡ Some r → r.scope < length t.scopes
+    pub names : (n : ℕ) (r : NameRow) → slice_get t.names n ≡ Some r → r.scope < length t.scopes
+    pub places : (q : ℕ) (r : PlaceRow) → slice_get t.places q ≡ Some r → r.scope < length t.scopes
+
 -- The table is sound.
 pub record IsSound (t : Table) : Type 0 where
   pub scopes : ScopesNest t
@@ -152,3 +159,4 @@ pub record IsSound (t : Table) : Type 0 where
   pub bodies : BodiesStand t
   pub places : PlacesPass t
   pub root : RootStands t
+  pub homes : RowsHaveScopes t

@@ -5,6 +5,7 @@ ghost use Rattle.lucid_equations.specs.Moving.{SixFormsOnlyMove, MovingKeepsValu
 ghost use Rattle.lucid_equations.specs.Needs.{VisitedDatonsHaveValues, VisitedIsNeeded, NeedsOfDatonsAreNeeded, ReferencesHaveValues, ElementsHaveValues, NowhereHasNoValue, ReferencesVisit, ElementsAreLookedUp, ReferencesNeedNoMore, ReferencesNeedAll};
 ghost use Rattle.lucid_equations.specs.Parts.{PartsAreReadByNumber, PartsAreVisitedByNumber, LooksAreVisited, FormsNeedWhatLooksNeed};
 ghost use Rattle.lucid_equations.specs.RowParts.{RowsAreTheirNodes, PartsAreLower, PartsAreTheirNodes, PartsReadTheirNodes, PartsVisitTheirNodes};
+ghost use Rattle.lucid_equations.specs.NumberAims.{NodesGoByNumbers, DatonsGoByNumbers, AimsLeadToNodes};
 ghost use Rattle.lucid_equations.specs.Looks.{PartsNeverLose, PartsNeverDiffer, NextLooksAreVisited, NextLooksAreVisitedFromSomeOn, NeedsAreOfTheWay};
 
 /// A defined approximation is the same at each greater limit, and so at most one value is meant.
@@ -131,4 +132,11 @@ pub fn parts_are_their_nodes()
     ensures nodes { PartsAreTheirNodes }
     ensures values { PartsReadTheirNodes }
     ensures visits { PartsVisitTheirNodes }
+{}
+
+/// What a node of a table in range, and a daton, goes on with is the plain aim of its aim by numbers, whose number is a node's.
+pub fn aims_go_by_numbers()
+    ensures nodes { NodesGoByNumbers }
+    ensures datons { DatonsGoByNumbers }
+    ensures lead { AimsLeadToNodes }
 {}

@@ -1,6 +1,6 @@
 //! Whether a table's numbers are in range.
 ghost use Rattle.std.specs.Prelude.{◌≡◌, ◌↔◌, true};
-ghost use Rattle.lucid_equations.specs.Ranges.{sizes, EachBelow, NodeIsInRange, NodesAreInRange, EntryIsInRange, NamesAreInRange, PlacesAreInRange, IsInRange};
+ghost use Rattle.lucid_equations.specs.Ranges.{sizes, EachBelow, NodeNames, NodeIsInRange, NodesAreInRange, EntryIsInRange, NamesAreInRange, PlacesAreInRange, IsInRange};
 
 use crate::rows::{Entry, Node};
 use crate::table::Table;
@@ -28,29 +28,13 @@ fn are_below(bound: usize, ids: &[u32]) -> bool
     true
 }
 
-fn is_node_in_range(table: &Table, id: usize, node: &Node) -> bool
-    ensures { (result ≡ true) ↔ NodeIsInRange (sizes table.now) id node.now }
+// Whether what a node names besides its parts is there.
+fn are_names_there(table: &Table, node: &Node) -> bool
+    ensures { (result ≡ true) ↔ NodeNames (sizes table.now) node.now }
 {
     match node {
         Node::Const { constant } => (*constant as usize) < table.constants.items().len(),
         Node::Input { stream } => (*stream as usize) < table.inputs.items().len(),
-        Node::Apply { op, args } => are_below(id, &args[..op.arity()]),
-        Node::If { test, yes, no } => {
-            (*test as usize) < id && (*yes as usize) < id && (*no as usize) < id
-        }
-        Node::And { left, right }
-        | Node::Or { left, right }
-        | Node::Fby { left, right }
-        | Node::Whenever { left, right }
-        | Node::Asa { left, right }
-        | Node::Upon { left, right }
-        | Node::Attime { left, right }
-        | Node::Sby { left, right }
-        | Node::Atspace { left, right } => (*left as usize) < id && (*right as usize) < id,
-        Node::First { of } | Node::Next { of } | Node::Initial { of } | Node::Succ { of } => {
-            (*of as usize) < id
-        }
-        Node::Freeze { subject } => (*subject as usize) < id,
         Node::Refer { name, level: _ } => (*name as usize) < table.names.items().len(),
         Node::Call {
             name,
@@ -60,7 +44,14 @@ fn is_node_in_range(table: &Table, id: usize, node: &Node) -> bool
             (*name as usize) < table.names.items().len()
                 && (*place as usize) < table.places.items().len()
         }
+        _ => true,
     }
+}
+
+fn is_node_in_range(table: &Table, id: usize, node: &Node) -> bool
+    ensures { (result ≡ true) ↔ NodeIsInRange (sizes table.now) id node.now }
+{
+    are_below(id, node.parts().as_slice()) && are_names_there(table, node)
 }
 
 fn are_nodes_in_range(table: &Table) -> bool

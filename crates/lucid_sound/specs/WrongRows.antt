@@ -1,5 +1,4 @@
--- Which row of a table is wrong, and which is the first: each rule of a sound table is a rule on the rows of one list, and each row's scope has
--- to be there.
+-- Which row of a table is wrong, and which is the first: each rule of a sound table is a rule on the rows of one list.
 use Rattle.std.specs.Prelude.{◌≡◌, ◌≢◌, ℕ, ◌<◌, List, [], length, Some, slice_get}
 use Rattle.lucid_equations.specs.Sound.{EntryStands, NodeNests, ReferenceLeads, CallLeads, PlacePasses, RootStands, IsSound}
 use Rattle.lucid_equations.specs.declared.rows.ScopeKind.TheVariants.{Root as RootScope}
@@ -77,17 +76,7 @@ pub data IsFirstWrongRow (t : Table) : BuildRefusal → Type 0 where
   wrong_place : (at : ℕ) → ScopesAreRight t → NodesAreRight t → NamesAreRight t → IsFirstWrong (λ id. PlaceIsRight t) t.places at → IsFirstWrongRow t (Place at)
   wrong_root : RowsAreRight t → (RootStands t → ⊥) → IsFirstWrongRow t Root
 
--- Each row's scope is there.
-pub record HaveScopes (t : Table) : Type 0 where
-  pub nodes : (id : ℕ) (r : NodeRow) → slice_get t.nodes id ≡ Some r → r.scope < length t.scopes
-  pub names : (id : ℕ) (r : NameRow) → slice_get t.names id ≡ Some r → r.scope < length t.scopes
-  pub places : (id : ℕ) (r : PlaceRow) → slice_get t.places id ≡ Some r → r.scope < length t.scopes
-
--- The table is sound, and each row's scope is there.
-abbrev pub IsBuildable : Table → Type 0
-IsBuildable t = IsSound t × HaveScopes t
-
--- Why a table is refused: its first wrong row, where it isn't buildable, or want of memory.
+-- Why a table is refused: its first wrong row, where it isn't sound, or want of memory.
 abbrev pub IsRefused : Table → BuildRefusal → Type 0
 IsRefused t NoMemory = Unit {0}
-IsRefused t why = IsFirstWrongRow t why × (IsBuildable t → ⊥)
+IsRefused t why = IsFirstWrongRow t why × (IsSound t → ⊥)

@@ -17,7 +17,7 @@ pub fn references_of_sound_tables_lead()
     ensures frames { DatonsOfSoundTablesHaveTheirFrames }
 {}
 
-/// A table that breaks a rule of sound tables may meet a reference that leads nowhere: one for each of the seven rules does. It may also visit a
+/// A table that breaks a rule of sound tables may meet a reference that leads nowhere: one for each of the first seven does. It may also visit a
 /// daton without the frame that its entry wants.
 pub fn unsound_tables_go_astray()
     ensures nowhere { UnsoundTablesGoAstray }

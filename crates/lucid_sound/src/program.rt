@@ -1,8 +1,8 @@
 //! The program of a table, where the table is sound.
 ghost use Rattle.std.specs.Prelude.{◌≡◌, ◌≤◌, ◌↔◌, length, true, IfOk, IfErr};
 ghost use Rattle.lucid_equations.specs.Programs.{table_of};
-ghost use Rattle.lucid_equations.specs.Sound.{StandsIn};
-ghost use Rattle.lucid_sound.specs.WrongRows.{RowsAreRight, IsRefused, IsBuildable};
+ghost use Rattle.lucid_equations.specs.Sound.{StandsIn, IsSound};
+ghost use Rattle.lucid_sound.specs.WrongRows.{RowsAreRight, IsRefused};
 ghost use Rattle.lucid_sound.specs.declared.program.BuildRefusal.TheVariants.{NoMemory};
 
 use crate::names::{first_wrong_name, stands_in};
@@ -81,7 +81,7 @@ fn is_root_right(table: &Table) -> bool
 /// The program of a sound table. Another table has none, and the first wrong row is told.
 pub fn build(alloc: Global, table: Table) -> Result<Program, BuildRefusal>
     ensures program { IfOk result (λ program. table_of program ≡ table) }
-    ensures sound { IfOk result (λ _. IsBuildable table) }
+    ensures sound { IfOk result (λ _. IsSound table) }
     ensures refused { IfErr result (IsRefused table) }
 {
     check_rows(alloc, &table)?;

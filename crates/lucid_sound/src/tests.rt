@@ -211,3 +211,14 @@ fn the_names_of_inputs_differ(rt: HostRuntime) -> Result<(), Fail> {
     rows.second_input = b'x';
     is_refused(rt.alloc(), &rt, &rows, "the root is wrong")
 }
+
+#[test]
+fn the_scope_of_a_row_is_there(rt: HostRuntime) -> Result<(), Fail> {
+    let mut rows = sound();
+    rows.root = 5;
+    rows.nodes[6] = NodeRow {
+        scope: 4,
+        node: Node::Const { constant: 0 },
+    };
+    is_refused(rt.alloc(), &rt, &rows, "node 6 is wrong")
+}

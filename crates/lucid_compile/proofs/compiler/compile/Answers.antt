@@ -10,7 +10,6 @@ use Rattle.lucid_equations.specs.Sound.{IsSound}
 use Rattle.lucid_compile.specs.Building.{lists}
 use Rattle.lucid_compile.specs.Bound.{Numbered}
 use Rattle.lucid_compile.specs.Promise.{KeepsTree}
-use Rattle.lucid_compile.specs.Scopes.{HasScopes}
 use Rattle.lucid_compile.proofs.Final.{IsMade, table-made}
 use Rattle.lucid_compile.proofs.compiler.compile.Goals as goal
 
@@ -34,11 +33,9 @@ returns c =
     table-made w (lists c.make-rows.result) (lists c.open.new.self) (lists c.add_tree.new.rows) (lists c.add_calls.new.rows) c.tree-tree.result.now c.in_ok-inputs.inputs.items c.in_ok-scope.scope c.in_ok-root.root t c.tree-tree.ensures.well_made c.free_names_are_inputs.ensures c.tree-tree.ensures.resolved (c.in_ok-numbering.ensures w)
     c.make-rows.ensures c.in_ok-scope.ensures c.tree-tree.ensures.value c.in_ok-root.ensures c.in_ok-add_calls.ensures inputs c.in_ok-table.ensures in
     let same : table_of c.in-Some.program ≡ t = table-is c.in_ok-program.field-0 c.in-Some.program t c.in-Some.is c.in_ok-program.ensures.table in
-    let scopes : HasScopes t c.args.scoped.now = record { numbering = w.numbering; numbers = c.in_ok-numbering.ensures w; rows = made.rows } in
     let sound : length (scoped_inputs c.args.scoped.now) ≤ 1048576 → IsSound t = λ few. made.sound (subst AllDiffer (sym names) c.inputs.ensures.differ) (omega (arith, ap length names, few)) in
     record {
       keeps = subst (λ t. KeepsTree (equations_of t) (scoped_tree c.args.scoped.now)) (sym same) made.keeps;
-      scopes = subst (λ t. HasScopes t c.args.scoped.now) (sym same) scopes;
       sound = subst (λ t. length (scoped_inputs c.args.scoped.now) ≤ 1048576 → IsSound t) (sym same) sound;
       inputs = ap (λ (x : Table). x.inputs) same ∙ names;
     }
