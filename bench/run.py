@@ -22,6 +22,9 @@ import time
 HERE = os.path.dirname(os.path.abspath(__file__))
 BUILT = os.path.join(HERE, "..", "crates", "lucid", "out", "lucid")
 
+# How many times more lines an input has than the program writes. Each is a number below 1,000.
+NUMBERS = {"running_sum": 1, "input_whenever": 2, "input_upon": 2, "input_asa": 1, "input_nested": 3}
+
 # Each program: its file (none for a made one), its lines, and further words.
 PROGRAMS = {
     "count_up": ("count_up", 1_000_000, []),
@@ -35,12 +38,20 @@ PROGRAMS = {
     "factorial": ("factorial", 300, []),
     "filter": ("filter", 100_000, ["--depth", "1000000"]),
     "list_build": ("list_build", 3_000, []),
+    "input_whenever": ("input_whenever", 100_000, ["--depth", "1000000"]),
+    "input_upon": ("input_upon", 100_000, ["--depth", "1000000"]),
+    "input_asa": ("input_asa", 100_000, ["--depth", "1000000"]),
+    "input_nested": ("input_nested", 100_000, ["--depth", "1000000"]),
     "deep": ("deep", 1, ["--depth", "1000000"]),
 }
 
 # Each kind of growth: its program, and lines, words and the bytes of an input's line at half and at full size.
 GROWTH = {
     "lines": ("count_up", [(500_000, [], 0), (1_000_000, [], 0)]),
+    "whenever": ("input_whenever", [(50_000, ["--depth", "1000000"], 0), (100_000, ["--depth", "1000000"], 0)]),
+    "upon": ("input_upon", [(50_000, ["--depth", "1000000"], 0), (100_000, ["--depth", "1000000"], 0)]),
+    "asa": ("input_asa", [(50_000, ["--depth", "1000000"], 0), (100_000, ["--depth", "1000000"], 0)]),
+    "one search in another": ("input_nested", [(50_000, ["--depth", "1000000"], 0), (100_000, ["--depth", "1000000"], 0)]),
     "contexts": ("nested_time", [(250_000, ["--depth", "1000000"], 0), (499_999, ["--depth", "1000000"], 0)]),
     "items of a list": ("list_build", [(30_000, [], 0), (60_000, [], 0)]),
     "made names": (None, [(2, ["--make", "5000"], 0), (2, ["--make", "10000"], 0)]),
@@ -76,8 +87,8 @@ def input_of(room, program, lines, width):
     """Writes the input that the program reads, and returns its path."""
     path = f"{room}/input"
     with open(path, "w", encoding="ascii") as out:
-        if program == "running_sum":
-            out.writelines(f"{i * 7919 % 1000}\n" for i in range(lines))
+        if program in NUMBERS:
+            out.writelines(f"{i * 7919 % 1000}\n" for i in range(lines * NUMBERS[program]))
         elif width:
             text = "`" + "a" * (width - 3) + "'\n"
             out.writelines(text for _ in range(lines))
@@ -94,7 +105,7 @@ def medians(calls, given, times):
 
 
 def programs(binaries, only, times, room):
-    print(f"{'program':12} {'lines':>9} {'who':8} {'seconds':>8} {'cpu':>8} {'ratio':>6} {'lines/s':>10} {'MiB':>7}")
+    print(f"{'program':14} {'lines':>9} {'who':8} {'seconds':>8} {'cpu':>8} {'ratio':>6} {'lines/s':>10} {'MiB':>7}")
     ratios = {name: [] for name in binaries}
     for name in only or PROGRAMS:
         program, lines, more = PROGRAMS[name]
@@ -105,20 +116,20 @@ def programs(binaries, only, times, room):
         for who, (took, work) in found.items():
             ratio = found["lucid"][1] / work
             ratios[who].append(ratio)
-            print(f"{name:12} {lines:9} {who:8} {took:8.3f} {work:8.3f} {ratio:6.2f} {lines / took:10.0f} {most[who]:7.1f}", flush=True)
+            print(f"{name:14} {lines:9} {who:8} {took:8.3f} {work:8.3f} {ratio:6.2f} {lines / took:10.0f} {most[who]:7.1f}", flush=True)
     for who, its in ratios.items():
         if who != "lucid":
             print(f"processor time of lucid to {who}, geometric mean over {len(its)} programs: {statistics.geometric_mean(its):.2f}")
 
 
 def growth(binary, times, room):
-    print(f"{'what grows':18} {'half':>8} {'full':>8} {'full/half':>9}")
+    print(f"{'what grows':21} {'half':>8} {'full':>8} {'full/half':>9}")
     for name, (program, sizes) in GROWTH.items():
         took = []
         for lines, more, width in sizes:
             given = input_of(room, program, lines, width)
             took.append(medians({"lucid": words_of(binary, program, lines, more)}, given, times)["lucid"][1])
-        print(f"{name:18} {took[0]:8.3f} {took[1]:8.3f} {took[1] / took[0]:9.2f}", flush=True)
+        print(f"{name:21} {took[0]:8.3f} {took[1]:8.3f} {took[1] / took[0]:9.2f}", flush=True)
 
 
 def main():

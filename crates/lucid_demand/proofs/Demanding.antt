@@ -38,6 +38,7 @@ demanded old new before after t s m result sound ask within l = record {
   drawn = λ b may. (engine_visits old new before after t s m l.owns b may).1;
   too_large = l.too_large;
   failed = l.failed;
+  counts = l.counts;
   within = within;
   visited = λ b may. (engine_visits old new before after t s m l.owns b may).0;
   few_held = l.owns.since.few;

@@ -1,12 +1,12 @@
 -- What a call for an element does to what an evaluation owns, by what the inputs say of it.
-use Rattle.std.proofs.Common.{◌≡◌, ℕ, zero, suc, ◌<◌, List, [], ◌∷◌, length, arith, Some, refl, sym, ap, ◌∙◌, subst}
+use Rattle.std.proofs.Common.{◌≡◌, ℕ, zero, suc, ◌<◌, List, [], ◌∷◌, length, arith, Some, inl, inr, refl, sym, ap, ◌∙◌, subst}
 use Rattle.std.specs.Prelude.{IfSome, Result, Ok, Err, IfOk, IfErr, IsErrOf, slice_get, unwrap_or}
 use Rattle.std.specs.Borrow.{Bor}
 use Rattle.lucid_value.specs.declared.Value.{Value}
 use Rattle.lucid_value.specs.View.{plain}
 use Rattle.lucid_value.specs.Lines.{IsOverlong}
 use Rattle.lucid_ports.specs.World.{World}
-use Rattle.lucid_ports.specs.Faults.{Rises}
+use Rattle.lucid_ports.specs.Faults.{Rises, CountsNoFaultUnless}
 use Rattle.lucid_inputs.specs.declared.fault.InputFault.{InputFault}
 use Rattle.lucid_inputs.specs.declared.fault.InputFault.TheVariants as input
 use Rattle.lucid_inputs.specs.declared.on_demand.Inputs.{Inputs}
@@ -16,7 +16,7 @@ use Rattle.lucid_inputs.specs.Reading.{GivesElement}
 use Rattle.lucid_inputs.specs.Streams.{Stream, FitsPlace, all_bytes, fresh_stream}
 use Rattle.lucid_facts.specs.Engine.{EngineView, AreAskable}
 use Rattle.lucid_facts.proofs.Reading.{StreamsRead, streams_read}
-use Rattle.lucid_demand.specs.Faults.{fault_of}
+use Rattle.lucid_demand.specs.Faults.{fault_of, CountsReadFaults}
 use Rattle.lucid_demand.specs.Demanded.{OnTooLarge}
 use Rattle.lucid_demand.specs.Evaluating.{Evaluating}
 use Rattle.lucid_demand.specs.Reading.{ReadsElement}
@@ -37,13 +37,13 @@ may_be_read ins ss k w same below ask =
 -- how an answer of the inputs becomes one of a demand
 pub data Comes (answer : Result (Bor Value) InputFault) (result : Result Value DemandFault) : Type 0 where
   read_value : (b : Bor Value) (v : Value) → answer ≡ Ok b → result ≡ Ok v → plain v ≡ plain b.now → Comes answer result
-  no_copy : result ≡ Err NoMemory → Comes answer result
+  no_copy : (b : Bor Value) → answer ≡ Ok b → result ≡ Err NoMemory → Comes answer result
   refused_by : (f : InputFault) → answer ≡ Err f → result ≡ Err (fault_of f) → Comes answer result
 
 module _ (first : EngineView) (ins outs : Inputs) (number index : ℕ) (before after : World) (answer : Result (Bor Value) InputFault) (streams_are : streams ins ≡ first.streams)
     (most_is : most_bytes ins ≡ first.most) (below : number < length first.streams) (a : Answers ins number index answer outs before after)
     (large : IfErr answer (λ e. inputs.OnTooLarge e (λ s. (s ≡ number) × IfSome (before.place (stream_at ins number).place).contents (λ c. IsOverlong (all_bytes c) index (most_bytes ins)))))
-    (failed : IsErrOf answer input.ReadFault → Rises before.faults after.faults) where
+    (failed : IsErrOf answer input.ReadFault → Rises before.faults after.faults) (unless : CountsNoFaultUnless (IsErrOf answer input.ReadFault) before.faults after.faults) where
   abbrev later : EngineView
   later = record first { streams = streams outs; most = most_bytes outs }
 
@@ -58,7 +58,7 @@ module _ (first : EngineView) (ins outs : Inputs) (number index : ℕ) (before a
   gives result (read_value b v is ok same) =
       subst (λ z. IfOk z (λ x. GivesElement (stream_at outs number) index (plain x))) (sym ok)
       (subst (λ z. GivesElement (stream_at outs number) index z) (sym same) (subst (λ z. IfOk z (λ x. GivesElement (stream_at outs number) index (plain x.now))) is a.element))
-  gives result (no_copy is) = subst (λ z. IfOk z (λ x. GivesElement (stream_at outs number) index (plain x))) (sym is) tt
+  gives result (no_copy b ok is) = subst (λ z. IfOk z (λ x. GivesElement (stream_at outs number) index (plain x))) (sym is) tt
   gives result (refused_by f is err) = subst (λ z. IfOk z (λ x. GivesElement (stream_at outs number) index (plain x))) (sym err) tt
 
   -- what is said of the stream that is too large
@@ -75,7 +75,7 @@ module _ (first : EngineView) (ins outs : Inputs) (number index : ℕ) (before a
 
   too_large : (result : Result Value DemandFault) → Comes answer result → IfErr result (λ e. OnTooLarge e IsPast)
   too_large result (read_value b v is ok same) = subst (λ z. IfErr z (λ e. OnTooLarge e IsPast)) (sym ok) tt
-  too_large result (no_copy is) = subst (λ z. IfErr z (λ e. OnTooLarge e IsPast)) (sym is) tt
+  too_large result (no_copy b ok is) = subst (λ z. IfErr z (λ e. OnTooLarge e IsPast)) (sym is) tt
   too_large result (refused_by f is err) = subst (λ z. IfErr z (λ e. OnTooLarge e IsPast)) (sym err) (past f is)
 
   read_failed : (f : InputFault) → answer ≡ Err f → fault_of f ≡ ReadFault → Rises before.faults after.faults
@@ -88,17 +88,29 @@ module _ (first : EngineView) (ins outs : Inputs) (number index : ℕ) (before a
   never_deep input.NoMemory e = absurd (cc)
   never_deep (input.TooLarge s) e = absurd (cc)
 
+  same_refusal : (g h : InputFault) → ◌≡◌ {A = Result (Bor Value) InputFault} (Err g) (Err h) → g ≡ h
+  same_refusal g h q = cc
+
   same_fault : (g h : DemandFault) → ◌≡◌ {A = Result Value DemandFault} (Err g) (Err h) → g ≡ h
   same_fault g h q = cc
 
   failed_so : (result : Result Value DemandFault) → Comes answer result → result ≡ Err ReadFault → Rises before.faults after.faults
   failed_so result (read_value b v is ok same) e = let f = sym ok ∙ e in absurd (cc)
-  failed_so result (no_copy is) e = let f = sym is ∙ e in absurd (cc)
+  failed_so result (no_copy b ok is) e = let f = sym is ∙ e in absurd (cc)
   failed_so result (refused_by f is err) e = read_failed f is (same_fault (fault_of f) ReadFault (sym err ∙ e))
+
+  counts_so : (result : Result Value DemandFault) → Comes answer result → CountsReadFaults result before after
+  counts_so result comes = counted unless comes
+    where
+      counted : CountsNoFaultUnless (IsErrOf answer input.ReadFault) before.faults after.faults → Comes answer result → CountsReadFaults result before after
+      counted (inr same) c = inr same
+      counted (inl refused) (read_value b v is ok same) = let f = sym is ∙ refused in absurd (cc)
+      counted (inl refused) (no_copy b ok is) = let f = sym ok ∙ refused in absurd (cc)
+      counted (inl refused) (refused_by f is err) = inl (err ∙ ap (λ z. Err (fault_of z)) (same_refusal f input.ReadFault (sym is ∙ refused)))
 
   deep_so : (result : Result Value DemandFault) → Comes answer result → result ≡ Err TooDeep → ⊥
   deep_so result (read_value b v is ok same) e = let f = sym ok ∙ e in absurd (cc)
-  deep_so result (no_copy is) e = let f = sym is ∙ e in absurd (cc)
+  deep_so result (no_copy b ok is) e = let f = sym is ∙ e in absurd (cc)
   deep_so result (refused_by f is err) e = never_deep f (same_fault (fault_of f) TooDeep (sym err ∙ e))
 
   pub element_read : (result : Result Value DemandFault) → Comes answer result → ReadsElement first later number index before after result
@@ -116,6 +128,7 @@ module _ (first : EngineView) (ins outs : Inputs) (number index : ℕ) (before a
     element = gives result comes;
     too_large = too_large result comes;
     failed = failed_so result comes;
+    counts = counts_so result comes;
     not_deep = deep_so result comes;
   }
 
@@ -123,8 +136,8 @@ module _ (first : EngineView) (ins outs : Inputs) (number index : ℕ) (before a
 pub element_read_in : (old view : Evaluating) (ins outs : Inputs) (number index : ℕ) (before after : World) (answer : Result (Bor Value) InputFault) → view ≡ old → streams ins ≡ view.engine.streams
     → most_bytes ins ≡ view.engine.most → number < length old.engine.streams → Answers ins number index answer outs before after
     → IfErr answer (λ e. inputs.OnTooLarge e (λ s. (s ≡ number) × IfSome (before.place (stream_at ins number).place).contents (λ c. IsOverlong (all_bytes c) index (most_bytes ins))))
-    → (IsErrOf answer input.ReadFault → Rises before.faults after.faults) → (result : Result Value DemandFault) → Comes answer result
+    → (IsErrOf answer input.ReadFault → Rises before.faults after.faults) → CountsNoFaultUnless (IsErrOf answer input.ReadFault) before.faults after.faults → (result : Result Value DemandFault) → Comes answer result
     → ReadsElement old.engine (record view.engine { streams = streams outs; most = most_bytes outs }) number index before after result
-element_read_in old view ins outs number index before after answer same streams_are most_is below a large failed result comes =
+element_read_in old view ins outs number index before after answer same streams_are most_is below a large failed unless result comes =
     subst (λ (z : Evaluating). ReadsElement z.engine (record view.engine { streams = streams outs; most = most_bytes outs }) number index before after result) same
-    (element_read view.engine ins outs number index before after answer streams_are most_is (subst (λ (z : Evaluating). number < length z.engine.streams) (sym same) below) a large failed result comes)
+    (element_read view.engine ins outs number index before after answer streams_are most_is (subst (λ (z : Evaluating). number < length z.engine.streams) (sym same) below) a large failed unless result comes)

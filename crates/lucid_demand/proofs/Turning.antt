@@ -41,7 +41,7 @@ few_within (Some n) w h = omega (arith, h)
 module _ (d : Demand) (now : EngineView) (w : World) (rs : List (Option TaskRow)) (waits : Waits d now w rs) (stored : Stored) (noted : Noted)
     (turn : IsTurn now.keeps now.empties now.room now.stored stored)
     (notes : (node : ℕ) (tag : Tag) (key number : ℕ) → number_at noted node tag key ≡ Some number → number_at now.noted node tag key ≡ Some number)
-    (unnoted : count_of stored ≡ 0 → (node : ℕ) (tag : Tag) (key : ℕ) → number_at noted node tag key ≡ None) where
+    (unnoted : IsTrue now.empties → (node : ℕ) (tag : Tag) (key : ℕ) → number_at noted node tag key ≡ None) where
   abbrev later : EngineView
   later = record now { stored = stored; noted = noted }
 
@@ -71,14 +71,17 @@ module _ (d : Demand) (now : EngineView) (w : World) (rs : List (Option TaskRow)
     known = waits.known;
   }
 
+  empties_now : IsTrue d.first.empties → IsTrue now.empties
+  empties_now e = waits.going.owns.since.goes_on.empties ∙ e
+
   none_left : IsTrue d.first.empties → count_of stored ≡ 0
-  none_left e = turn.emptied (waits.going.owns.since.goes_on.empties ∙ e)
+  none_left e = turn.emptied (empties_now e)
 
   -- and under a policy that empties nothing is held or noted.
   pub emptied_turn : IsEmptied d (holding later) noted
   emptied_turn = record {
     nothing = λ e k s. ap (λ es. option_map (λ x. plain x.value) (lookup (is_key_of now.known k s) es)) (no_entries stored.entries (none_left e));
-    unnoted = λ e. unnoted (none_left e);
+    unnoted = λ e. unnoted (empties_now e);
   }
 
 -- After the policy's turn a ready row may take its step.

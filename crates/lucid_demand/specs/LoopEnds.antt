@@ -12,6 +12,7 @@ use Rattle.lucid_facts.specs.Going.{Owns}
 use Rattle.lucid_demand.specs.declared.fault.DemandFault.{DemandFault}
 use Rattle.lucid_demand.specs.declared.fault.DemandFault.TheVariants.{TooDeep, ReadFault}
 use Rattle.lucid_demand.specs.Demanded.{OnTooLarge}
+use Rattle.lucid_demand.specs.Faults.{CountsReadFaults}
 
 -- What is true when a demand's loop ends, whatever it answers.
 pub record LoopEnds (old new : EngineView) (before after : World) (time space limit : ℕ) (result : Result Value DemandFault) : Type 0 where
@@ -21,3 +22,4 @@ pub record LoopEnds (old new : EngineView) (before after : World) (time space li
   pub deep : IsErrOf result TooDeep → (b : Elements) → MayHave new b → IsDefined old.table b (stays (demand_of old before time space limit)) (demand_of old before time space limit).root → ⊥
   pub too_large : IfErr result (λ e. OnTooLarge e (λ k. (b : Elements) → MayHave new b → ConsultsOverlong new b after k limit time space))
   pub failed : IsErrOf result ReadFault → Rises before.faults after.faults
+  pub counts : CountsReadFaults result before after

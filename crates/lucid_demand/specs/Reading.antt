@@ -9,6 +9,7 @@ use Rattle.lucid_inputs.specs.Streams.{Stream, all_bytes}
 use Rattle.lucid_inputs.specs.Reading.{ReadsOn, GivesElement}
 use Rattle.lucid_facts.specs.Engine.{EngineView}
 use Rattle.lucid_demand.specs.Demanded.{OnTooLarge}
+use Rattle.lucid_demand.specs.Faults.{CountsReadFaults}
 use Rattle.lucid_demand.specs.declared.fault.DemandFault.{DemandFault}
 use Rattle.lucid_demand.specs.declared.fault.DemandFault.TheVariants.{TooDeep, ReadFault}
 
@@ -27,4 +28,5 @@ pub record ReadsElement (old new : EngineView) (number index : ℕ) (before afte
   pub element : IfOk result (λ v. GivesElement to index (plain v))
   pub too_large : IfErr result (λ e. OnTooLarge e (λ k. (k ≡ number) × (to.consumed ≡ old.most) × IfSome (before.place from.place).contents (λ c. IsOverlong (all_bytes c) index old.most)))
   pub failed : result ≡ Err ReadFault → Rises before.faults after.faults
+  pub counts : CountsReadFaults result before after
   pub not_deep : result ≡ Err TooDeep → ⊥

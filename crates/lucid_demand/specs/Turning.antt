@@ -1,7 +1,6 @@
 -- What the parts of a turn do: the policy drops values, and one of the ready rows is picked.
-use Rattle.std.specs.Prelude.{◌≡◌, ℕ, Some, None}
+use Rattle.std.specs.Prelude.{◌≡◌, ℕ, IsTrue, false, Some, None}
 use Rattle.lucid_tags.specs.declared.Tag.{Tag}
-use Rattle.lucid_store.specs.Entries.{count_of}
 use Rattle.lucid_search.specs.Noted.{number_at}
 use Rattle.lucid_retire.specs.Turns.{IsTurn}
 use Rattle.lucid_ports.specs.World.{World}
@@ -15,9 +14,10 @@ pub record MayTurn (d : Demand) (e : Evaluating) (w : World) : Type 0 where
   pub demand : IsDemand d
   pub waits : Waits d e.engine w e.rows
 
--- The policy had its turn. No position is noted anew, and none stays where nothing is held.
+-- The policy had its turn. Under a policy that empties no noted position stays, and under any other each does.
 pub record IsTurned (old new : EngineView) : Type 0 where
   pub turn : IsTurn old.keeps old.empties old.room old.stored new.stored
   pub noted : (node : ℕ) (tag : Tag) (key number : ℕ) → number_at new.noted node tag key ≡ Some number → number_at old.noted node tag key ≡ Some number
-  pub unnoted : count_of new.stored ≡ 0 → (node : ℕ) (tag : Tag) (key : ℕ) → number_at new.noted node tag key ≡ None
+  pub unnoted : IsTrue old.empties → (node : ℕ) (tag : Tag) (key : ℕ) → number_at new.noted node tag key ≡ None
+  pub stays : old.empties ≡ false → new.noted ≡ old.noted
   pub only : new ≡ record old { stored = new.stored; noted = new.noted }

@@ -8,6 +8,7 @@ ghost use Rattle.lucid_ports.specs.World.{World};
 ghost use Rattle.lucid_facts.specs.Engine.{IsSound, AreAskable};
 ghost use Rattle.lucid_facts.specs.Demands.{Demand, demand_of};
 ghost use Rattle.lucid_facts.specs.Going.{Owns};
+ghost use Rattle.lucid_demand.specs.Faults.{CountsReadFaults};
 ghost use Rattle.lucid_demand.specs.Demanded.{MayDemand};
 ghost use Rattle.lucid_demand.specs.Evaluating.{gave, Stepped as Steps};
 ghost use Rattle.lucid_demand.specs.LoopEnds.{LoopEnds};
@@ -115,14 +116,14 @@ impl<R: Retire, S: Pick> Evaluation<R, S> {
         Ok(())
     }
 
-    // The policy drops values. Noted positions go with the last of them.
+    // The policy drops values. Under one that leaves nothing, noted positions go too.
     #[inline(always)]
     fn drop_values(&mut self)
         ensures turned { IsTurned self.old.engine self.new.engine }
         ensures rows { self.new.rows ≡ self.old.rows }
     {
         self.policy.turn(&mut self.warehouse);
-        if self.warehouse.len() == 0 {
+        if self.policy.is_emptying() {
             self.positions.clear();
         }
     }
@@ -145,6 +146,7 @@ impl<R: Retire, S: Pick> Evaluation<R, S> {
         requires open { answer.old ≡ None }
         ensures steps { (d : Demand) → MayTurn d self.old (P.world places.old) → Steps d self.old self.new (P.world places.old) (P.world places.new) (gave result answer.new) }
         ensures faults { (P.world places.old).faults ≤ (P.world places.new).faults }
+        ensures counts { CountsReadFaults result (P.world places.old) (P.world places.new) }
     {
         self.drop_values();
         let slot = self.pick_ready();

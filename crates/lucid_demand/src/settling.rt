@@ -7,6 +7,7 @@ ghost use Rattle.lucid_ops.specs.Algebra.{algebra};
 ghost use Rattle.lucid_tasks.specs.Rows.{row_at, key_of, got_of, taken, is_ready, ChangesOnly, IsRow};
 ghost use Rattle.lucid_facts.specs.Demands.{Demand};
 ghost use Rattle.lucid_facts.specs.Engine.{AreAskable};
+ghost use Rattle.lucid_demand.specs.Faults.{CountsReadFaults};
 ghost use Rattle.lucid_demand.specs.Evaluating.{gave, Stepped as Steps};
 ghost use Rattle.lucid_demand.specs.Acting.{DemandIn, Settling, MayAct, MayGive, MaySettle, IsTaken, IsKept, IsReadyTask, HaveGot};
 ghost use Rattle.lucid_demand.specs.Asking.{HasTask};
@@ -250,6 +251,7 @@ impl<R: Retire, S: Pick> Evaluation<R, S> {
         requires askable { AreAskable self.old.engine.streams (P.world places.old) }
         ensures steps { (d : Demand) → MayAct d self.old (P.world places.old) slot (decision.Read stream) → Steps d self.old self.new (P.world places.old) (P.world places.new) (gave result answer.new) }
         ensures faults { (P.world places.old).faults ≤ (P.world places.new).faults }
+        ensures counts { CountsReadFaults result (P.world places.old) (P.world places.new) }
     {
         let time = self.tasks.task(slot).time;
         let value = self.element(places, stream, time)?;

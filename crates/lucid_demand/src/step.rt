@@ -6,6 +6,7 @@ ghost use Rattle.lucid_tags.specs.Contexts.{Context};
 ghost use Rattle.lucid_tasks.specs.Rows.{TaskRow, row_at, is_ready};
 ghost use Rattle.lucid_facts.specs.Tasks.{plain_row};
 ghost use Rattle.lucid_facts.specs.Demands.{Demand};
+ghost use Rattle.lucid_demand.specs.Faults.{CountsReadFaults};
 ghost use Rattle.lucid_demand.specs.Answers.{MayDecide};
 ghost use Rattle.lucid_demand.specs.Justified.{Justified};
 ghost use Rattle.lucid_demand.specs.Evaluating.{MayStep, gave, Stepped as Steps};
@@ -74,6 +75,7 @@ impl<R: Retire, S: Pick> Evaluation<R, S> {
         requires open { answer.old ≡ None }
         ensures steps { (d : Demand) → MayAct d self.old (P.world places.old) slot decision → Steps d self.old self.new (P.world places.old) (P.world places.new) (gave result answer.new) }
         ensures faults { (P.world places.old).faults ≤ (P.world places.new).faults }
+        ensures counts { CountsReadFaults result (P.world places.old) (P.world places.new) }
     {
         match decision {
             Decision::Part { index } => self.settle_part(slot, index, answer),
@@ -114,6 +116,7 @@ impl<R: Retire, S: Pick> Evaluation<R, S> {
         requires open { answer.old ≡ None }
         ensures steps { (d : Demand) → MayStep d self.old (P.world places.old) slot → Steps d self.old self.new (P.world places.old) (P.world places.new) (gave result answer.new) }
         ensures faults { (P.world places.old).faults ≤ (P.world places.new).faults }
+        ensures counts { CountsReadFaults result (P.world places.old) (P.world places.new) }
     {
         self.begin_search(slot);
         let decision = self.decided(slot);

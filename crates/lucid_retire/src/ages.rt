@@ -90,6 +90,12 @@ impl Retire for Ages {
 
     ghost most = { λ a. Some (most_of a) };
 
+    fn is_emptying(&self) -> bool
+        ensures { result ≡ false }
+    {
+        false
+    }
+
     fn turn(&mut self, warehouse: &mut Warehouse)
         ensures turn { IsTurn false false (Some (most_of self.old)) warehouse.old warehouse.new }
         ensures counted { self.new ≡ after_turn self.old }

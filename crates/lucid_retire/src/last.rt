@@ -129,6 +129,12 @@ impl Retire for Last {
 
     ghost most = { λ l. Some l.room };
 
+    fn is_emptying(&self) -> bool
+        ensures { result ≡ false }
+    {
+        false
+    }
+
     fn turn(&mut self, warehouse: &mut Warehouse)
         ensures turn { IsTurn false false (Some self.old.room) warehouse.old warehouse.new }
         ensures room { self.new.room ≡ self.old.room }

@@ -32,6 +32,10 @@ pub trait Retire: Drop {
     /// How many keys are held after a turn at most, if there is a bound.
     ghost most: { Self → Option ℕ };
 
+    /// Whether nothing is held after a turn.
+    fn is_emptying(&self) -> bool
+        ensures { result ≡ empties self.now };
+
     /// Drops what the policy doesn't keep.
     fn turn(&mut self, warehouse: &mut Warehouse)
         ensures turn { IsTurn (keeps self.old) (empties self.old) (most self.old) warehouse.old warehouse.new }
@@ -51,6 +55,12 @@ impl Retire for Keep {
 
     ghost most = { λ _. None };
 
+    fn is_emptying(&self) -> bool
+        ensures { result ≡ false }
+    {
+        false
+    }
+
     fn turn(&mut self, warehouse: &mut Warehouse)
         ensures turn { IsTurn true false None warehouse.old warehouse.new }
         ensures same { warehouse.new ≡ warehouse.old }
@@ -69,6 +79,12 @@ impl Retire for Nothing {
     ghost empties = { λ _. true };
 
     ghost most = { λ _. Some 0 };
+
+    fn is_emptying(&self) -> bool
+        ensures { result ≡ true }
+    {
+        true
+    }
 
     fn turn(&mut self, warehouse: &mut Warehouse)
         ensures turn { IsTurn false true (Some 0) warehouse.old warehouse.new }

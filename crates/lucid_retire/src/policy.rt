@@ -23,6 +23,17 @@ impl Retire for Policy {
 
     ghost most = { most_held };
 
+    fn is_emptying(&self) -> bool
+        ensures { result ≡ empties_all self.now }
+    {
+        match self {
+            Policy::Keep(keep) => keep.is_emptying(),
+            Policy::Nothing(nothing) => nothing.is_emptying(),
+            Policy::Ages(ages) => ages.is_emptying(),
+            Policy::Last(last) => last.is_emptying(),
+        }
+    }
+
     fn turn(&mut self, warehouse: &mut Warehouse)
         ensures turn { IsTurn (keeps_all self.old) (empties_all self.old) (most_held self.old) warehouse.old warehouse.new }
         ensures dropped { IsPolicyTurn self.old self.new warehouse.old warehouse.new }

@@ -66,6 +66,12 @@ impl Retire for Scripted {
 
     ghost most = { λ _. None };
 
+    fn is_emptying(&self) -> bool
+        ensures { result ≡ false }
+    {
+        false
+    }
+
     fn turn(&mut self, warehouse: &mut Warehouse)
         ensures turn { IsTurn false false None warehouse.old warehouse.new }
         ensures counted { self.new ≡ record self.old { turn = turn_after self.old.turn } }

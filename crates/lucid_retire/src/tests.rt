@@ -61,6 +61,7 @@ fn each_policy_has_its_turns(rt: HostRuntime) -> Result<(), Fail> {
         (Policy::Last(Last::make(alloc, 3)?), 3),
     ];
     for (policy, want) in policies {
+        assert_eq!(rt; policy.is_emptying(), want == 0);
         assert_eq!(rt; count_after(&rt, alloc, policy, 5), want);
     }
     Ok(())

@@ -3,6 +3,7 @@ use crate::hashing::KeyHasher;
 use lucid_tags::{Tag, Tags};
 use lucid_value::Value;
 use std::hash::{BuildHasher, BuildHasherDefault};
+use std::process::Abort;
 use std::test::Fail;
 
 const MANY: u64 = 1_000_000;
@@ -54,6 +55,30 @@ fn calls_with_ample_memory(rt: HostRuntime) {
     assert_eq!(rt; warehouse.len(), 0);
     assert_eq!(rt; warehouse.take_touched(), None);
     assert_eq!(rt; warehouse.lost(), 0);
+}
+
+// Puts a value at each of the first times. Once one came back, each further one does, though there is memory again.
+fn put_each<A: Abort>(rt: &A, warehouse: &mut Warehouse, tag: Tag, times: u64) {
+    let mut refused = false;
+    for time in 0..times {
+        let held = warehouse.put(key_at(tag, time), Value::Int(7)).is_ok();
+        assert!(rt; !(held && refused), "at {time}");
+        refused = !held;
+    }
+}
+
+// To be tried with each allocation failing in turn: after the first that is refused none is asked for, until a key is removed.
+#[test]
+fn no_memory_is_asked_for_after_a_refusal(rt: HostRuntime) {
+    let root = Tags::make(rt.alloc()).root();
+    let mut warehouse = Warehouse::make(rt.alloc());
+    put_each(&rt, &mut warehouse, root, 100);
+    let lost = warehouse.lost();
+    assert_eq!(rt; warehouse.len().saturating_add(lost), 100);
+    warehouse.clear();
+    put_each(&rt, &mut warehouse, root, 100);
+    assert_eq!(rt; warehouse.len(), 100);
+    assert_eq!(rt; warehouse.lost(), lost);
 }
 
 // How many groups a hash can name.

@@ -18,11 +18,15 @@ use std::marker::Model;
 /// Values by their keys, each with its age: the number of sweeps since it was last touched, up to the greatest u32. It is
 /// seen as a finite map from keys to a value and an age, with the number of values that were lost and the key last touched.
 /// That key, where there is one, is held.
+///
+/// Once memory was refused, it asks for none until a key was removed: each asking for more of a large store costs much.
 #[derive(Drop)]
 pub struct Warehouse {
     datons: Datons,
     lost: u64,
     touched: Option<Key>,
+    // Whether memory was refused since a key was last removed.
+    full: bool,
 }
 
 impl Model for Warehouse {
@@ -65,6 +69,7 @@ impl Warehouse {
             datons: Datons::make(alloc),
             lost: 0,
             touched: None,
+            full: false,
         }
     }
 
@@ -94,6 +99,25 @@ impl Warehouse {
         self.value(index)
     }
 
+    // Holds a value under a key, with age 0. It comes back for want of memory, and where memory was refused before and the key
+    // isn't held.
+    fn hold(&mut self, key: Key, value: Value) -> Result<(), Value>
+        ensures entries { OnOk result (SetsOnly self.old self.new key (Some (fresh value))) }
+        ensures count { OnOk result (count_of self.new ≡ count_of self.old + (if is_some (entry_at self.old key) then 0 else 1)) }
+        ensures touched { OnOk result (self.new.touched ≡ Some key) }
+        ensures lost { self.new.lost ≡ self.old.lost }
+        ensures value_returned { IfErr result (λ v. v ≡ value) }
+        ensures err { OnErr result (self.new ≡ self.old) }
+        ensures absent { OnErr result (entry_at self.old key ≡ None) }
+    {
+        if self.full && !self.datons.has(key) {
+            return Err(value);
+        }
+        self.datons.put(key, value)?;
+        self.touched = Some(key);
+        Ok(())
+    }
+
     /// Holds a value under a key, with age 0, in place of the value that the key had. It is then the key last touched. For
     /// want of memory the value comes back and is counted as lost; a key that is held takes no memory.
     pub fn put(&mut self, key: Key, value: Value) -> Result<(), Value>
@@ -106,16 +130,12 @@ impl Warehouse {
         ensures no_less_lost { self.old.lost ≤ self.new.lost }
         ensures absent { OnErr result (entry_at self.old key ≡ None) }
     {
-        match self.datons.put(key, value) {
-            Ok(()) => {
-                self.touched = Some(key);
-                Ok(())
-            }
-            Err(value) => {
-                self.lost = self.lost.saturating_add(1);
-                Err(value)
-            }
+        let held = self.hold(key, value);
+        if held.is_err() {
+            self.full = true;
+            self.lost = self.lost.saturating_add(1);
         }
+        held
     }
 
     /// The key last touched, which is then forgotten.
@@ -131,7 +151,9 @@ impl Warehouse {
     pub fn sweep(&mut self, limit: u32)
         ensures { IsSwept limit self.old self.new }
     {
+        let held = self.datons.len();
         self.datons.sweep(limit);
+        self.full &= self.datons.len() == held;
         self.touched = held_only(self.touched, &self.datons);
     }
 
@@ -144,7 +166,9 @@ impl Warehouse {
         ensures count { count_of self.new + (if result then 1 else 0) ≡ count_of self.old }
     {
         self.touched = without(self.touched, key);
-        self.datons.forget(key)
+        let was = self.datons.forget(key);
+        self.full &= !was;
+        was
     }
 
     /// Removes all. How many values were lost stays.
@@ -152,6 +176,7 @@ impl Warehouse {
         ensures { self.new ≡ cleared self.old }
     {
         self.touched = None;
+        self.full = false;
         self.datons.clear();
     }
 
