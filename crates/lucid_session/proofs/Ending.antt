@@ -1,5 +1,5 @@
 -- How a run ends, and what it has promised then.
-use Rattle.std.proofs.Common.{◌≡◌, ℕ, suc, ◌<◌, ◌≤◌, true, false, List, [], length, Option, Some, None, refl, sym, ap, ◌∙◌, subst, arith, ◌⊎◌, inl, inr, append-nil, true≢false}
+use Rattle.std.proofs.Common.{◌≡◌, ◌≢◌, ℕ, suc, ◌<◌, ◌≤◌, Bool, true, false, List, [], length, Option, Some, None, refl, sym, ap, ◌∙◌, subst, arith, ◌⊎◌, inl, inr, append-nil, true≢false}
 use Rattle.std.specs.Prelude.{IsTrue, IsSome, IfSome, Ok, Err, IsErrOf, option_map, slice_get}
 use Rattle.std.proofs.lemmas.Bool.{cases_lt}
 use Rattle.std.proofs.lemmas.Option.{slice_get_within}
@@ -9,7 +9,7 @@ use Rattle.lucid_value.specs.View.{plain}
 use Rattle.lucid_value.specs.Lines.{IsOverlong, end_of_line}
 use Rattle.lucid_tree.specs.Levels.{Elements}
 use Rattle.lucid_store.specs.Entries.{count_of, IsOneForEach}
-use Rattle.lucid_ports.specs.Faults.{Rises}
+use Rattle.lucid_ports.specs.Faults.{Rises, CountsNoFaultUnless}
 use Rattle.lucid_ports.specs.World.{World, Contents}
 use Rattle.lucid_ports.specs.Writing.{with_all}
 use Rattle.lucid_ports.specs.declared.run.Summary.{Summary}
@@ -87,11 +87,20 @@ module _ (z : Start) (b : Elements) (w : World) (o : Told) where
   much : (e : EngineView) (a c : ℕ) → Visited z b e w a c → 0 < c → ForSomeAdded (seen z w o) (λ d. HasMoreThan 999999 ((table_counted z.table).enters b z.depth d (points_below a)))
   much e a c visited lt = let r = visited.clearings lt in record { added = r.added; none = r.none; holds = r.holds }
 
-  -- the limit's approximation is defined at the times of lines, under a policy that empties
+  -- the limit's approximation is defined at the times of whole lines and at the end, under a policy that empties
   pub defined_at : (t : ℕ) (ended : Type 0) → HasLines z b o t → (IsTrue z.policy.empties → ended → IsSome (eqval (equations_of z.table) b z.depth t 0))
-      → IsTrue z.policy.empties → (u : ℕ) → (u < t) ⊎ ((u ≡ t) × ended) → IsSome (eqval (equations_of z.table) b z.depth u 0)
+      → IsTrue z.policy.empties → (u : ℕ) → (u < t) ⊎ ((u ≡ t) × (ended ⊎ (◌≢◌ {A = List ℕ} [] []))) → IsSome (eqval (equations_of z.table) b z.depth u 0)
   defined_at t ended lines last empties u (inl lt) = lines.exact empties u lt
-  defined_at t ended lines last empties u (inr at) = subst (λ q. IsSome (eqval (equations_of z.table) b z.depth q 0)) (sym at.0) (last empties at.1)
+  defined_at t ended lines last empties u (inr at) = subst (λ q. IsSome (eqval (equations_of z.table) b z.depth q 0)) (sym at.0) (there at.1)
+    where
+      there : ended ⊎ (◌≢◌ {A = List ℕ} [] []) → IsSome (eqval (equations_of z.table) b z.depth t 0)
+      there (inl is) = last empties is
+      there (inr begun) = absurd (begun refl)
+
+  -- below the count a run that is done has ended
+  has_ended : (ended : Bool) (t : ℕ) → EndsAt (subject z) b (seen z w o) ended t → t < z.count → ended ≡ true
+  has_ended true t ends early = refl
+  has_ended false t ends early = absurd (omega (arith, ends, early))
 
   -- A run is done after so many lines, and attempted so many times.
   module _ (e : EngineView) (s : Summary) (t a c : ℕ) (lines : HasLines z b o t) (visited : Visited z b e w a c) where
@@ -99,10 +108,12 @@ module _ (z : Start) (b : Elements) (w : World) (o : Told) where
         → t ≤ z.count → a ≤ z.count → a ≤ suc t → ReadsWithin (seen z w o) → Ran (subject z) b (seen z w o) (Ok s)
     ran_done all ends last most few near within = record {
       out = written_whole t lines most;
-      done = record { lines = all; nothing_begun = refl; ends = ends };
+      cut_off = inl refl;
+      done = record { lines = all; ends = ends };
       deep = tt;
       exact = defined_at t (s.ended ≡ true) lines last;
-      complete = λ deep read write long. tt;
+      stops = λ early defined quiet. has_ended s.ended t ends early;
+      complete = λ deep quiet. tt;
       consumed = consumes t a few near visited.drawn;
       within = within;
       too_large = tt;
@@ -142,10 +153,12 @@ module _ (z : Start) (b : Elements) (e : EngineView) (w : World) (o : Told) (t c
   ran_refused : (f : DemandFault) → Asked z e w o t c (Err f) → Found z b e w o t c (Err f) → t < z.count → Ran (subject z) b (seen z w o) (Err (of_demand t e.stored.lost c f))
   ran_refused TooDeep asked found early = record {
     out = written_whole z b w o t found.lines (omega (arith, early));
+    cut_off = inl refl;
     done = tt;
-    deep = record { lines = refl; nothing_begun = refl; within = early; undefined = found.deep refl };
+    deep = record { lines = refl; within = early; undefined = found.deep refl };
     exact = defined_at z b w o t ⊥ found.lines (λ empties ended. absurd ended);
-    complete = λ deep read write long.
+    stops = λ before defined quiet. absurd (is_none (eqval (equations_of z.table) b z.depth t 0) (found.deep refl) defined);
+    complete = λ deep quiet.
         absurd (is_none (eqval (equations_of z.table) b z.depth t 0) (found.deep refl) (deep t early (no_end z b t found.lines.bytes found.lines.output)));
     consumed = consumes z b w o t (suc t) (omega (arith, early)) (omega arith) found.visited.drawn;
     within = asked.within;
@@ -153,30 +166,36 @@ module _ (z : Start) (b : Elements) (e : EngineView) (w : World) (o : Told) (t c
   }
   ran_refused ReadFault asked found early = record {
     out = written_whole z b w o t found.lines (omega (arith, early));
+    cut_off = inl refl;
     done = tt;
     deep = tt;
     exact = defined_at z b w o t ⊥ found.lines (λ empties ended. absurd ended);
-    complete = λ deep read write long. absurd (read (asked.failed refl));
+    stops = λ before defined quiet. absurd (quiet.no_read_failed (asked.failed refl));
+    complete = λ deep quiet. absurd (quiet.no_read_failed (asked.failed refl));
     consumed = consumes z b w o t (suc t) (omega (arith, early)) (omega arith) found.visited.drawn;
     within = asked.within;
     too_large = tt;
   }
   ran_refused (TooLarge k) asked found early = record {
     out = written_whole z b w o t found.lines (omega (arith, early));
+    cut_off = inl refl;
     done = tt;
     deep = tt;
     exact = defined_at z b w o t ⊥ found.lines (λ empties ended. absurd ended);
-    complete = λ deep read write long. absurd (long k (overlong z b e w o k t t asked.places asked.reads_only early (omega arith) found.too_large));
+    stops = λ before defined quiet. absurd (quiet.none_overlong k (overlong z b e w o k t t asked.places asked.reads_only early (omega arith) found.too_large));
+    complete = λ deep quiet. absurd (quiet.none_overlong k (overlong z b e w o k t t asked.places asked.reads_only early (omega arith) found.too_large));
     consumed = consumes z b w o t (suc t) (omega (arith, early)) (omega arith) found.visited.drawn;
     within = asked.within;
     too_large = overlong z b e w o k t t asked.places asked.reads_only early (omega arith) found.too_large;
   }
   ran_refused NoMemory asked found early = record {
     out = written_whole z b w o t found.lines (omega (arith, early));
+    cut_off = inl refl;
     done = tt;
     deep = tt;
     exact = defined_at z b w o t ⊥ found.lines (λ empties ended. absurd ended);
-    complete = λ deep read write long. refl;
+    stops = λ before defined quiet. refl;
+    complete = λ deep quiet. refl;
     consumed = consumes z b w o t (suc t) (omega (arith, early)) (omega arith) found.visited.drawn;
     within = asked.within;
     too_large = tt;
@@ -197,8 +216,10 @@ module _ (z : Start) (e : EngineView) (w : World) (o : Told) (t c : ℕ) where
   causes_refused f asked = record {
     read = read f asked.failed;
     write = write f;
+    no_other_read = other f asked.counts_no_fault;
+    no_other_write = inr asked.no_write_failed;
     read_count = asked.reads_only.faults;
-    write_count = asked.out_faults;
+    write_count = omega (arith, asked.no_write_failed);
     too_large = large f asked.too_large;
     held = tt;
   }
@@ -208,6 +229,16 @@ module _ (z : Start) (e : EngineView) (w : World) (o : Told) (t c : ℕ) where
       read ReadFault failed h = failed refl
       read (TooLarge k) failed h = absurd (cc)
       read NoMemory failed h = absurd (cc)
+
+      other : (f : DemandFault) → CountsNoFaultUnless (IsErrOf {T = Value} (Err f) ReadFault) z.before.faults w.faults
+          → CountsNoFaultUnless (IsErrOf {T = Summary} (Err (of_demand t e.stored.lost c f)) run.ReadFault) z.before.faults w.faults
+      other ReadFault counts = inl refl
+      other TooDeep (inl fault) = absurd (cc)
+      other TooDeep (inr same) = inr same
+      other (TooLarge k) (inl fault) = absurd (cc)
+      other (TooLarge k) (inr same) = inr same
+      other NoMemory (inl fault) = absurd (cc)
+      other NoMemory (inr same) = inr same
 
       write : (f : DemandFault) → IsErrOf {T = Summary} (Err (of_demand t e.stored.lost c f)) run.WriteFault → Rises z.out_before.faults o.faults
       write TooDeep h = absurd (cc)
@@ -241,7 +272,16 @@ module _ (z : Start) (e : EngineView) (w : World) (o : Told) (t c : ℕ) where
         (omega (arith, early)) (omega (arith, early)) (omega arith) asked.within;
     figures = λ b has. let f = asked.found b has in
         figures_done z b w o e (record { lines = t; ended = true; held = count_of e.stored; lost = e.stored.lost; cleared = c }) t (suc t) c f.lines f.visited asked.sound each f.holds refl refl refl refl;
-    causes = record { read = λ h. absurd (cc); write = λ h. absurd (cc); read_count = asked.reads_only.faults; write_count = asked.out_faults; too_large = tt; held = asked.few_held };
+    causes = record {
+      read = λ h. absurd (cc);
+      write = λ h. absurd (cc);
+      no_other_read = elim asked.counts_no_fault [ inl fault ↦ absurd (cc) | inr same ↦ inr same ];
+      no_other_write = inr asked.no_write_failed;
+      read_count = asked.reads_only.faults;
+      write_count = omega (arith, asked.no_write_failed);
+      too_large = tt;
+      held = asked.few_held;
+    };
     reads_only = asked.reads_only;
   }
 
@@ -255,7 +295,16 @@ module _ (z : Start) (e : EngineView) (w : World) (o : Told) (t c : ℕ) where
         (omega (arith, all)) (omega (arith, all)) (omega arith) going.within;
     figures = λ b has. let f = going.so_far b has in
         figures_done z b w o e (record { lines = t; ended = false; held = count_of e.stored; lost = e.stored.lost; cleared = c }) t t c f.lines f.visited going.sound each f.holds refl refl refl refl;
-    causes = record { read = λ h. absurd (cc); write = λ h. absurd (cc); read_count = going.reads_only.faults; write_count = going.out_faults; too_large = tt; held = going.few_held };
+    causes = record {
+      read = λ h. absurd (cc);
+      write = λ h. absurd (cc);
+      no_other_read = inr going.no_read_failed;
+      no_other_write = inr going.no_write_failed;
+      read_count = going.reads_only.faults;
+      write_count = omega (arith, going.no_write_failed);
+      too_large = tt;
+      held = going.few_held;
+    };
     reads_only = going.reads_only;
   }
 

@@ -9,7 +9,7 @@ use Rattle.lucid_tree.specs.Members.{In}
 use Rattle.lucid_tree.specs.Levels.{Elements, HoldsExactly}
 use Rattle.lucid_tags.specs.Contexts.{Context, root}
 use Rattle.lucid_store.specs.Entries.{count_of, empty_warehouse}
-use Rattle.lucid_ports.specs.Faults.{Rises}
+use Rattle.lucid_ports.specs.Faults.{Rises, CountsNoFaultUnless}
 use Rattle.lucid_ports.specs.World.{World}
 use Rattle.lucid_equations.specs.Values.{eqval, eqhval}
 use Rattle.lucid_equations.specs.Counts.{valued_datons}
@@ -57,7 +57,8 @@ begins z e is sound askable places known stored = record {
   within = λ k n q is old new before after. inl (omega (arith, ap (λ c. length c.consumed) (same_contents (z.before.place q).contents new old after before)));
   few_held = few_at z.policy.room (count_of e.stored) (ap count_of stored);
   few_clearings = omega arith;
-  out_faults = omega arith;
+  no_read_failed = refl;
+  no_write_failed = refl;
   so_far = λ b has. record {
     lines = record { bytes = []; output = no_lines; written = with_nothing z.out_before.bytes; exact = λ empties u lt. absurd (omega (arith, lt)) };
     visited = record {
@@ -104,8 +105,9 @@ pub record Asked (z : Start) (e : EngineView) (w : World) (o : Told) (time clear
   pub within : ReadsWithin (seen z w o)
   pub few_held : HoldsFew z.policy.room e.stored
   pub few_clearings : cleared ≤ time
-  pub out_faults : z.out_before.faults ≤ o.faults
+  pub no_write_failed : o.faults ≡ z.out_before.faults
   pub failed : IsErrOf result ReadFault → Rises z.before.faults w.faults
+  pub counts_no_fault : CountsNoFaultUnless (IsErrOf result ReadFault) z.before.faults w.faults
   pub too_large : IfErr result (λ f. demand.OnTooLarge f (λ k. k < length z.table.inputs))
   pub found : (b : Elements) → HasElements (seen z w o) b → Found z b e w o time cleared result
 
@@ -202,8 +204,9 @@ module _ (z : Start) (e f : EngineView) (w v : World) (o : Told) (t c : ℕ) (re
       within = reads_within z f v o d.fits places_now d.within;
       few_held = d.few_held going.few_held;
       few_clearings = going.few_clearings;
-      out_faults = going.out_faults;
+      no_write_failed = going.no_write_failed;
       failed = λ x. rises_over z.before.faults w.faults v.faults v.faults going.reads_only.faults d.reads_only.faults (omega arith) (d.failed x);
+      counts_no_fault = elim d.counts [ inl fault ↦ inl fault | inr same ↦ inr (same ∙ going.no_read_failed) ];
       too_large = named result elements (large result elements d.told d.too_large);
       found = found_now;
     }

@@ -119,5 +119,6 @@ pub record Going (z : Start) (e : EngineView) (w : World) (o : Told) (times clea
   pub within : ReadsWithin (seen z w o)
   pub few_held : HoldsFew z.policy.room e.stored
   pub few_clearings : cleared ≤ times
-  pub out_faults : z.out_before.faults ≤ o.faults
+  pub no_read_failed : w.faults ≡ z.before.faults
+  pub no_write_failed : o.faults ≡ z.out_before.faults
   pub so_far : (b : Elements) → HasElements (seen z w o) b → SoFar z b e w o times cleared

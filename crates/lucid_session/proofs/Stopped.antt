@@ -34,10 +34,12 @@ ran_nothing S b r did = record {
     begun = inl refl;
     written = ap (λ o. o.bytes) did.out_after ∙ with_nothing r.out_before.bytes;
   };
+  cut_off = inl refl;
   done = tt;
   deep = tt;
-  exact = λ e t w. elim w [ inl lt ↦ absurd (omega arith) | inr at ↦ absurd at.1 ];
-  complete = λ deep read write long. refl;
+  exact = λ e t w. elim w [ inl lt ↦ absurd (omega arith) | inr at ↦ elim at.1 [ inl ended ↦ absurd ended | inr begun ↦ absurd (begun refl) ] ];
+  stops = λ early defined quiet. refl;
+  complete = λ deep quiet. refl;
   consumed = record {
     added = 0;
     none = λ e. refl;
@@ -58,6 +60,8 @@ pub causes_nothing : (r : RunView) → DidNothing r → Causes r (Err NoMemory)
 causes_nothing r did = record {
   read = λ e. cc;
   write = λ e. cc;
+  no_other_read = inr (ap (λ w. w.faults) did.after);
+  no_other_write = inr (ap (λ o. o.faults) did.out_after);
   read_count = omega (arith, ap (λ w. w.faults) did.after);
   write_count = omega (arith, ap (λ o. o.faults) did.out_after);
   too_large = tt;

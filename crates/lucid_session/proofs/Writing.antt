@@ -1,5 +1,5 @@
 -- A line is written, or its front, and the engine may be cleared.
-use Rattle.std.proofs.Common.{◌≡◌, ℕ, suc, ◌<◌, ◌≤◌, List, [], ◌∷◌, ◌++◌, length, take, Option, Some, None, refl, sym, ap, ◌∙◌, subst, arith, ◌⊎◌, inl, inr, append_assoc}
+use Rattle.std.proofs.Common.{◌≡◌, ◌≢◌, ℕ, suc, ◌<◌, ◌≤◌, List, [], ◌∷◌, ◌++◌, length, take, Option, Some, None, refl, sym, ap, ◌∙◌, subst, arith, ◌⊎◌, inl, inr, append_assoc}
 use Rattle.std.proofs.Math.Seq.{take-length}
 use Rattle.std.proofs.lemmas.Bool.{cases_lt}
 use Rattle.std.specs.Prelude.{IsTrue, IsSome, Result, Ok, Err, IsErrOf}
@@ -22,7 +22,7 @@ use Rattle.lucid_equations.specs.Values.{eqval}
 use Rattle.lucid_equations.specs.Rows.{equations_of}
 use Rattle.lucid_facts.specs.Engine.{EngineView, IsSound, AreAskable, places_of}
 use Rattle.lucid_session.specs.Subject.{Subject, StreamMeans, table_stream, one_line_more}
-use Rattle.lucid_session.specs.Runs.{Told, RunView, HasElements, Written, ForSomeAdded, ConsumesWithin, ReadsWithin, ConsultsOverlong, IsTooDeep, OnTooDeep, OnTooLarge, Ran}
+use Rattle.lucid_session.specs.Runs.{Told, RunView, HasElements, Written, ForSomeAdded, ConsumesWithin, ReadsWithin, ConsultsOverlong, IsTooDeep, OnTooDeep, OnTooLarge, IsShown, Ran}
 use Rattle.lucid_session.specs.Figures.{table_counted, points_below, IsDefinedBelow, HasMoreThan, OnDepth, OnClearings}
 use Rattle.lucid_session.specs.Sessions.{Promises}
 use Rattle.lucid_session.specs.Lines.{WritesLine}
@@ -30,7 +30,7 @@ use Rattle.lucid_session.proofs.Added.{at_once}
 use Rattle.lucid_session.proofs.Lists.{some_is}
 use Rattle.lucid_session.proofs.Moments.{Start, seen, HasLines, Going, entered_below}
 use Rattle.lucid_session.proofs.Knowing.{much_entered}
-use Rattle.lucid_session.proofs.Going.{Found, Asked, rises_over, few_at}
+use Rattle.lucid_session.proofs.Going.{Found, Asked, few_at}
 use Rattle.lucid_session.proofs.Ending.{subject, written_whole, consumes}
 
 -- two pieces are one
@@ -51,23 +51,34 @@ not_read : (q : RunFault) → (q ≡ run.WriteFault) ⊎ (q ≡ run.NoMemory) �
 not_read q (inl a) h = cc
 not_read q (inr a) h = cc
 
-err_once : {q r : RunFault} → ◌≡◌ {A = Result Summary RunFault} (Err q) (Err r) → q ≡ r
+err_once : {T : Type 0} {q r : RunFault} → ◌≡◌ {A = Result T RunFault} (Err q) (Err r) → q ≡ r
 err_once e = cc
 
 -- A run that a refused write ends, or want of memory.
 ran_stopped : (S : Subject) (b : Elements) (r : RunView) (out : Written S b r) → (IsTrue r.policy.empties → (u : ℕ) → u < out.whole → S.defined b r.depth u)
+    → (IsTrue r.policy.empties → out.front ≢ [] → S.defined b r.depth out.whole)
     → ForSomeAdded r (ConsumesWithin S b r out.whole) → ReadsWithin r → (q : RunFault) → (q ≡ run.WriteFault) ⊎ (q ≡ run.NoMemory)
     → (q ≡ run.WriteFault → Rises r.out_before.faults r.out_after.faults) → Ran S b r (Err q)
-ran_stopped S b r out exact consumed within q refused rises = record {
+ran_stopped S b r out exact begun consumed within q refused rises = record {
   out = out;
+  cut_off = inr refused;
   done = tt;
   deep = quiet (λ x. OnTooDeep x (IsTooDeep S b r out)) tt tt q refused;
-  exact = λ empties u at. elim at [ inl lt ↦ exact empties u lt | inr end ↦ absurd end.1 ];
-  complete = λ deep read write long. elim refused [ inl is ↦ absurd (write (rises is)) | inr is ↦ is ];
+  exact = shown;
+  stops = λ early defined undisturbed. memory undisturbed.no_write_failed refused;
+  complete = λ deep undisturbed. memory undisturbed.no_write_failed refused;
   consumed = consumed;
   within = within;
   too_large = quiet (λ x. OnTooLarge x (ConsultsOverlong S b r out.whole)) tt tt q refused;
 }
+  where
+    memory : (Rises r.out_before.faults r.out_after.faults → ⊥) → (q ≡ run.WriteFault) ⊎ (q ≡ run.NoMemory) → q ≡ run.NoMemory
+    memory writes (inl is) = absurd (writes (rises is))
+    memory writes (inr is) = is
+
+    shown : IsTrue r.policy.empties → (u : ℕ) → IsShown out.whole out.front (Err q) u → S.defined b r.depth u
+    shown empties u (inl lt) = exact empties u lt
+    shown empties u (inr at) = subst (S.defined b r.depth) (sym at.0) (elim at.1 [ inl ended ↦ absurd ended | inr some ↦ begun empties some ])
 
 module _ (z : Start) (b : Elements) (o p : Told) (t : ℕ) (lines : HasLines z b o t) (v : PlainValue) (means : StreamMeans (table_stream z.table) b t v) (goes_on : v ≡ eod → ⊥) where
   -- one line more is written
@@ -110,7 +121,8 @@ module _ (z : Start) (e : EngineView) (w : World) (o p : Told) (t c : ℕ) (v : 
     within = asked.within;
     few_held = asked.few_held;
     few_clearings = omega (arith, asked.few_clearings);
-    out_faults = omega (arith, asked.out_faults, writes.faults);
+    no_read_failed = elim asked.counts_no_fault [ inl fault ↦ absurd (cc fault) | inr same ↦ same ];
+    no_write_failed = elim writes.counts_no_fault [ inl fault ↦ absurd (cc fault) | inr same ↦ same ∙ asked.no_write_failed ];
     so_far = λ b has. let f = asked.found b has in record {
       lines = lines_more z b o p t f.lines (plain v) f.value goes_on writes.whole (exact_now b has);
       visited = f.visited;
@@ -127,16 +139,18 @@ module _ (z : Start) (e : EngineView) (w : World) (o p : Told) (t c : ℕ) (v : 
         f = asked.found b has
 
         rises : q ≡ run.WriteFault → Rises z.out_before.faults p.faults
-        rises is = rises_over z.out_before.faults o.faults p.faults p.faults asked.out_faults writes.faults (omega arith) (writes.failed (ap Err is))
+        rises is = subst (λ f. Rises f p.faults) asked.no_write_failed (writes.failed (ap Err is))
 
         by : (writes.count < length (line (plain v))) ⊎ (length (line (plain v)) ≤ writes.count) → Ran (subject z) b (seen z w p) (Err q)
         by (inl short) =
             ran_stopped (subject z) b (seen z w p) (written_front z b o p t f.lines (plain v) f.value goes_on w early writes.count short writes.front) f.lines.exact
+            (λ empties some. exact_now b has empties)
             (consumes z b w p t (suc t) (omega (arith, early)) (omega arith) f.visited.drawn) asked.within q writes.refused rises
         by (inr long) =
             let written = writes.front ∙ whole_front writes.count (line (plain v)) o.bytes (omega (arith, long, writes.within)) in
             let lines = lines_more z b o p t f.lines (plain v) f.value goes_on written (exact_now b has) in
             ran_stopped (subject z) b (seen z w p) (written_whole z b w p (suc t) lines (omega (arith, early))) lines.exact
+            (λ empties some. absurd (some refl))
             (consumes z b w p (suc t) (suc t) (omega (arith, early)) (omega arith) f.visited.drawn) asked.within q writes.refused rises
 
     pub promise_unwritten : Promises z.table (seen z w p) (Err q)
@@ -149,9 +163,11 @@ module _ (z : Start) (e : EngineView) (w : World) (o p : Told) (t c : ℕ) (v : 
       };
       causes = record {
         read = λ h. absurd (not_read q writes.refused h);
-        write = λ h. rises_over z.out_before.faults o.faults p.faults p.faults asked.out_faults writes.faults (omega arith) (writes.failed (ap Err (err_once h)));
+        write = λ h. subst (λ f. Rises f p.faults) asked.no_write_failed (writes.failed (ap Err (err_once h)));
+        no_other_read = elim asked.counts_no_fault [ inl fault ↦ absurd (cc fault) | inr same ↦ inr same ];
+        no_other_write = elim writes.counts_no_fault [ inl fault ↦ inl (ap Err (err_once fault)) | inr same ↦ inr (same ∙ asked.no_write_failed) ];
         read_count = asked.reads_only.faults;
-        write_count = omega (arith, asked.out_faults, writes.faults);
+        write_count = omega (arith, asked.no_write_failed, writes.faults);
         too_large = quiet (λ x. OnTooLarge x (λ k. k < length z.table.inputs)) tt tt q writes.refused;
         held = tt;
       };
@@ -189,7 +205,8 @@ module _ (z : Start) (e f : EngineView) (w : World) (o : Told) (t c : ℕ) (goin
     within = going.within;
     few_held = few_at z.policy.room (count_of f.stored) (ap (λ x. count_of x.stored) is);
     few_clearings = omega (arith, few);
-    out_faults = going.out_faults;
+    no_read_failed = going.no_read_failed;
+    no_write_failed = going.no_write_failed;
     so_far = λ b has. let far = going.so_far b has in record {
       lines = far.lines;
       visited = record {

@@ -1,6 +1,6 @@
 -- The writing of one line.
 use Rattle.std.specs.Prelude.{◌≡◌, ℕ, ◌≤◌, List, length, ◌⊎◌, Result, OnOk, IfErr, IsErrOf}
-use Rattle.lucid_ports.specs.Faults.{Rises}
+use Rattle.lucid_ports.specs.Faults.{Rises, CountsNoFaultUnless}
 use Rattle.lucid_ports.specs.Writing.{with_front, with_all}
 use Rattle.lucid_ports.specs.declared.run.RunFault.{RunFault}
 use Rattle.lucid_ports.specs.declared.run.RunFault.TheVariants.{WriteFault, NoMemory}
@@ -14,4 +14,5 @@ pub record WritesLine (line : List ℕ) (before after : Told) (result : Result (
   pub front : after.bytes ≡ with_front count line before.bytes
   pub refused : IfErr result (λ e. (e ≡ WriteFault) ⊎ (e ≡ NoMemory))
   pub failed : IsErrOf result WriteFault → Rises before.faults after.faults
+  pub counts_no_fault : CountsNoFaultUnless (IsErrOf result WriteFault) before.faults after.faults
   pub faults : before.faults ≤ after.faults

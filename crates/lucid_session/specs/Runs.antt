@@ -1,11 +1,11 @@
 -- What holds of a run, whatever its policy drops and whoever picks. It is said over a subject, from outside: by what the places and the
 -- output tell before and after.
-use Rattle.std.specs.Prelude.{◌≡◌, ℕ, ◌+◌, ◌<◌, ◌≤◌, ◌⊎◌, Bool, true, false, List, [], ◌++◌, length, take, Option, Some, IsTrue, IfSome, Result, Ok, Err, IfOk, IfErr, IsErrOf, slice_get}
+use Rattle.std.specs.Prelude.{◌≡◌, ◌≢◌, ℕ, ◌+◌, ◌<◌, ◌≤◌, ◌⊎◌, Bool, true, false, List, [], ◌++◌, length, take, Option, Some, IsTrue, IfSome, Result, Ok, Err, IfOk, IfErr, IsErrOf, slice_get}
 use Rattle.lucid_value.specs.Lines.{end_of_line, IsOverlong}
 use Rattle.lucid_value.specs.Elements.{element}
 use Rattle.lucid_tree.specs.Levels.{Elements}
 use Rattle.lucid_ports.specs.World.{World, Contents}
-use Rattle.lucid_ports.specs.Faults.{Rises}
+use Rattle.lucid_ports.specs.Faults.{Rises, CountsNoFaultUnless}
 use Rattle.lucid_ports.specs.Writing.{with_all}
 use Rattle.lucid_ports.specs.declared.run.Options.{Options}
 use Rattle.lucid_ports.specs.declared.run.Summary.{Summary}
@@ -121,16 +121,14 @@ abbrev pub EndsAt : Subject → Elements → RunView → (ended : Bool) → (who
 EndsAt S b r true w = (w < r.count) × S.ends b w
 EndsAt S b r false w = w ≡ r.count
 
--- Of a run that is done exactly whole lines are written, as many as the summary says, to the end or to the count.
+-- Of a run that is done as many whole lines are written as the summary says, to the end or to the count.
 pub record IsDone (S : Subject) (b : Elements) (r : RunView) (out : Written S b r) (s : Summary) : Type 0 where
   pub lines : s.lines ≡ out.whole
-  pub nothing_begun : out.front ≡ []
   pub ends : EndsAt S b r s.ended out.whole
 
--- Where the run is too deep at a time, the limit's approximation is undefined then, and exactly the lines of the times before are written.
+-- Where the run is too deep at a time, the limit's approximation is undefined then, and the whole lines are those of the times before.
 pub record IsTooDeep (S : Subject) (b : Elements) (r : RunView) (out : Written S b r) (time : ℕ) : Type 0 where
   pub lines : time ≡ out.whole
-  pub nothing_begun : out.front ≡ []
   pub within : time < r.count
   pub undefined : S.undefined b r.depth time
 
@@ -148,6 +146,26 @@ abbrev pub IsEnded : Result Summary RunFault → Type 0
 IsEnded (Ok s) = s.ended ≡ true
 IsEnded (Err e) = ⊥
 
+-- Something is shown of a time: its line is written, or begun, or the end stood there and ended the run.
+abbrev pub IsShown : (whole : ℕ) → (front : List ℕ) → Result Summary RunFault → (time : ℕ) → Type 0
+IsShown w front result t = (t < w) ⊎ ((t ≡ w) × (IsEnded result ⊎ (front ≢ [])))
+
+-- a write failed, or there was no memory
+abbrev pub IsWriteFaultOrNoMemory : Result Summary RunFault → Type 0
+IsWriteFaultOrNoMemory (Ok s) = ⊥
+IsWriteFaultOrNoMemory (Err e) = (e ≡ WriteFault) ⊎ (e ≡ NoMemory)
+
+-- No call on the places or the output failed, and at the times attempted nothing overlong is consulted.
+pub record IsUndisturbed (S : Subject) (b : Elements) (r : RunView) (whole : ℕ) : Type 0 where
+  pub no_read_failed : Rises r.before.faults r.after.faults → ⊥
+  pub no_write_failed : Rises r.out_before.faults r.out_after.faults → ⊥
+  pub none_overlong : (k : ℕ) → ConsultsOverlong S b r whole k → ⊥
+
+-- the subject ended the run, or there was no memory
+abbrev pub IsEndedOrNoMemory : Result Summary RunFault → Type 0
+IsEndedOrNoMemory (Ok s) = s.ended ≡ true
+IsEndedOrNoMemory (Err e) = e ≡ NoMemory
+
 -- The approximation of the limit is defined at each time below the count, through the first end.
 abbrev pub IsDeepEnough : Subject → Elements → RunView → Type 0
 IsDeepEnough S b r = (t : ℕ) → t < r.count → ((u : ℕ) → u < t → S.ends b u → ⊥) → S.defined b r.depth t
@@ -159,17 +177,20 @@ IsOkOrNoMemory (Err e) = e ≡ NoMemory
 
 -- The headline of a run.
 pub record Ran (S : Subject) (b : Elements) (r : RunView) (result : Result Summary RunFault) : Type 0 where
-  -- What is written are the lines of the subject, in order and without gaps.
+  -- What is written are the lines of the subject, in order and without gaps. A line is begun only where its write failed, or for want of memory.
   pub out : Written S b r
+  pub cut_off : (out.front ≡ []) ⊎ IsWriteFaultOrNoMemory result
   -- Done: to the count, or to the first end.
   pub done : IfOk result (IsDone S b r out)
-  -- Too deep comes only where the approximation of the limit is undefined. Under a policy that empties, a line is written and an end ends
-  -- the run only where that is defined.
+  -- Too deep comes only where the approximation of the limit is undefined. Under a policy that empties, a line is written or begun, and an
+  -- end ends the run, only where that is defined.
   pub deep : IfErr result (λ e. OnTooDeep e (IsTooDeep S b r out))
-  pub exact : IsTrue r.policy.empties → (t : ℕ) → (t < out.whole) ⊎ ((t ≡ out.whole) × IsEnded result) → S.defined b r.depth t
-  -- Complete: where the limit is deep enough, no call on the places or the output failed and nothing overlong is consulted, it is done.
-  pub complete : IsDeepEnough S b r → (Rises r.before.faults r.after.faults → ⊥) → (Rises r.out_before.faults r.out_after.faults → ⊥)
-      → ((k : ℕ) → ConsultsOverlong S b r out.whole k → ⊥) → IsOkOrNoMemory result
+  pub exact : IsTrue r.policy.empties → (t : ℕ) → IsShown out.whole out.front result t → S.defined b r.depth t
+  -- What the limit's approximation defines is written: where it is defined at the time behind the whole lines, below the count, and nothing
+  -- disturbs the run, that time has the end, or there was no memory.
+  pub stops : out.whole < r.count → S.defined b r.depth out.whole → IsUndisturbed S b r out.whole → IsEndedOrNoMemory result
+  -- Complete: where the limit is deep enough and nothing disturbs the run, it is done.
+  pub complete : IsDeepEnough S b r → IsUndisturbed S b r out.whole → IsOkOrNoMemory result
   -- No input is consumed past what is consulted, or past the bytes that may be read; one is too large only where an element past these is consulted.
   pub consumed : ForSomeAdded r (ConsumesWithin S b r out.whole)
   pub within : ReadsWithin r
@@ -177,8 +198,12 @@ pub record Ran (S : Subject) (b : Elements) (r : RunView) (result : Result Summa
 
 -- The causes of faults, which input is too large, and the most that is held, whatever the places and the output tell.
 pub record Causes (r : RunView) (result : Result Summary RunFault) : Type 0 where
+  -- A read fault comes exactly where a call on the places failed, and a write fault where one on the output did: a count of faults rises
+  -- then, and is else as it was.
   pub read : IsErrOf result ReadFault → Rises r.before.faults r.after.faults
   pub write : IsErrOf result WriteFault → Rises r.out_before.faults r.out_after.faults
+  pub no_other_read : CountsNoFaultUnless (IsErrOf result ReadFault) r.before.faults r.after.faults
+  pub no_other_write : CountsNoFaultUnless (IsErrOf result WriteFault) r.out_before.faults r.out_after.faults
   pub read_count : r.before.faults ≤ r.after.faults
   pub write_count : r.out_before.faults ≤ r.out_after.faults
   -- an input that is too large is one of the program's, by its number

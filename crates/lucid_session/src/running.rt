@@ -24,8 +24,8 @@ const MOST_TAGS: u64 = 1_000_000;
 
 /// Writes the lines of a program, from time 0 on, to the first end of data or to the count of the options.
 ///
-/// Each value is demanded when its time comes, and its line is handed to `out` before the next is demanded. Whatever the policy drops at
-/// each turn, and whatever is picked, the lines are those of the values that the program means.
+/// Whatever the policy drops at each turn, and whatever is picked, the lines are those of the values that the program means. Each value is
+/// demanded when its time comes, and its line written then; of that the clauses see only what is consumed where a write fails.
 pub fn run<P: Places, K: Sink, R: Retire, S: Pick>(
     alloc: Global,
     program: Program,

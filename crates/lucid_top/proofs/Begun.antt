@@ -44,10 +44,12 @@ unread : (S : Subject) (b : Elements) (r : RunView) → r.out_after.bytes ≡ r.
     → Ran S b r (Err fault.ReadFault)
 unread S b r silent nothing rises = record {
   out = record { whole = 0; within = omega arith; bytes = []; output = no_lines; front = []; begun = inl refl; written = silent ∙ with_nothing r.out_before.bytes };
+  cut_off = inl refl;
   done = tt;
   deep = tt;
-  exact = λ empties t h. elim h [ inl below ↦ absurd (not_below_zero t below) | inr ended ↦ absurd ended.1 ];
-  complete = λ deep reads writes large. absurd (reads rises);
+  exact = λ empties t h. elim h [ inl below ↦ absurd (not_below_zero t below) | inr at ↦ elim at.1 [ inl ended ↦ absurd ended | inr begun ↦ absurd (begun refl) ] ];
+  stops = λ early defined quiet. absurd (quiet.no_read_failed rises);
+  complete = λ deep quiet. absurd (quiet.no_read_failed rises);
   consumed = record { added = 0; none = λ _. refl; holds = λ d le k n q is old new x y. inl (nothing k n q is old new x y) };
   within = λ k n q is old new x y. inl (nothing k n q is old new x y);
   too_large = tt;
@@ -56,10 +58,12 @@ unread S b r silent nothing rises = record {
 unmade : (S : Subject) (b : Elements) (r : RunView) → r.out_after.bytes ≡ r.out_before.bytes → ConsumesNothing r → Ran S b r (Err fault.NoMemory)
 unmade S b r silent nothing = record {
   out = record { whole = 0; within = omega arith; bytes = []; output = no_lines; front = []; begun = inl refl; written = silent ∙ with_nothing r.out_before.bytes };
+  cut_off = inl refl;
   done = tt;
   deep = tt;
-  exact = λ empties t h. elim h [ inl below ↦ absurd (not_below_zero t below) | inr ended ↦ absurd ended.1 ];
-  complete = λ deep reads writes large. refl;
+  exact = λ empties t h. elim h [ inl below ↦ absurd (not_below_zero t below) | inr at ↦ elim at.1 [ inl ended ↦ absurd ended | inr begun ↦ absurd (begun refl) ] ];
+  stops = λ early defined quiet. refl;
+  complete = λ deep quiet. refl;
   consumed = record { added = 0; none = λ _. refl; holds = λ d le k n q is old new x y. inl (nothing k n q is old new x y) };
   within = λ k n q is old new x y. inl (nothing k n q is old new x y);
   too_large = tt;
@@ -77,10 +81,12 @@ never_made p r silent nothing b has = (unmade (stream_subject (program_stream p)
 for_memory : (S : Subject) (b : Elements) (r : RunView) (f : RunFault) → Ran S b r (Err f) → Ran S b r (Err fault.NoMemory)
 for_memory S b r f x = record {
   out = x.out;
+  cut_off = inr (inr refl);
   done = tt;
   deep = tt;
   exact = x.exact;
-  complete = λ deep reads writes large. refl;
+  stops = λ early defined quiet. refl;
+  complete = λ deep quiet. refl;
   consumed = x.consumed;
   within = x.within;
   too_large = tt;

@@ -2,10 +2,11 @@
 use Rattle.std.proofs.Common.{◌≡◌, ℕ, ◌+◌, ◌<◌, ◌≤◌, List, take, drop, ◌++◌, append_assoc, ◌⊎◌, inl, inr, refl, sym, ap, subst, ◌∙◌, arith}
 use Rattle.std.proofs.lemmas.Bool.{cases_order}
 use Rattle.std.proofs.lemmas.List.{take-take, take-append-drop}
+use Rattle.lucid_equations.specs.Sound.{IsSound}
 use Rattle.lucid_equations.specs.declared.table.Table.{Table}
 use Rattle.lucid_flat.specs.FlatTables.{whole_lines, GoesOn, IsFirstWrongLine}
 use Rattle.lucid_flat.specs.Laws.{OneTable}
-use Rattle.lucid_sound.specs.WrongRows.{IsRefused, IsFirstWrongRow, IsBuildable}
+use Rattle.lucid_sound.specs.WrongRows.{IsRefused, IsFirstWrongRow}
 use Rattle.lucid_sound.specs.declared.program.BuildRefusal.{BuildRefusal}
 use Rattle.lucid_sound.specs.declared.program.BuildRefusal.TheVariants as build
 use Rattle.lucid_top.specs.declared.refusal.Refusal.{Refusal}
@@ -39,7 +40,7 @@ line_once bytes a b x y = ordered (cases_order x.before y.before)
     ordered (inr (inl below)) = absurd (x.ends (goes_less bytes (x.before + 1) y.before (omega (arith, below)) y.goes))
     ordered (inr (inr above)) = absurd (y.ends (goes_less bytes (y.before + 1) x.before (omega (arith, above)) x.goes))
 
--- a row that is told is the first wrong one, and the table can't be run
+-- a row that is told is the first wrong one, and the table isn't sound
 wrong_row : (t : Table) (e : BuildRefusal) (v : Refusal) → build_stop e ≡ stop.Refused v → IsRefused t e → IsFirstWrongRow t e
 wrong_row t (build.Scope at) v is r = r.0
 wrong_row t (build.Node at) v is r = r.0
@@ -48,7 +49,7 @@ wrong_row t (build.Place at) v is r = r.0
 wrong_row t build.Root v is r = r.0
 wrong_row t build.NoMemory v is r = absurd (cc is)
 
-not_sound : (t : Table) (e : BuildRefusal) (v : Refusal) → build_stop e ≡ stop.Refused v → IsRefused t e → IsBuildable t → ⊥
+not_sound : (t : Table) (e : BuildRefusal) (v : Refusal) → build_stop e ≡ stop.Refused v → IsRefused t e → IsSound t → ⊥
 not_sound t (build.Scope at) v is r = r.1
 not_sound t (build.Node at) v is r = r.1
 not_sound t (build.Name at) v is r = r.1

@@ -1,4 +1,5 @@
 pub mod Pieces
+pub mod Counting
 pub mod Naming
 pub mod Reaching
 pub mod Refusing
@@ -17,3 +18,6 @@ pub mod FirstWrong
 pub mod FlatVerdicts
 pub mod OneCall
 pub mod Meeting
+mod Headlines
+mod CountingSource
+mod Witnesses

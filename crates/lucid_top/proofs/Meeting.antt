@@ -16,7 +16,7 @@ use Rattle.lucid_top.specs.Telling.{Tells}
 use Rattle.lucid_top.specs.Stages.{Asks, IsWriting, IsTextFor, asks_for, IsRun, Refuses, by_words, by_task, by_text, by_flat, by_names, by_judging, by_given}
 use Rattle.lucid_top.specs.Runs.{first_place, run_places, run_of, unread_place, view_of, RanSo}
 use Rattle.lucid_top.specs.Places.{ReadsSource, most_read}
-use Rattle.lucid_top.specs.Clauses.{WritesNothing, TellsSource, ReadFails, ComesOnly, IsRefusedSo, Writes, IsEvaluated, MeetsClauses}
+use Rattle.lucid_top.specs.Clauses.{WritesNothing, TellsSource, ReadFails, ComesOnly, IsRefusedSo, Writes, TellsFaults, IsEvaluated, MeetsClauses}
 use Rattle.lucid_top.specs.Coming.{IsMade, Reaches, reaches_nothing, reaches_source, reaches_inputs, Rests, StopsEarly, EndsRun, EndsWriting, Comes}
 use Rattle.lucid_top.proofs.RunEnds.{in_range}
 use Rattle.lucid_top.proofs.Begun.{ConsumesNothing, ran_with, never_read, never_made, same_contents}
@@ -186,11 +186,12 @@ silent_or c o (inr (inl run)) = inr (inl run.0)
 silent_or c o (inr (inr writing)) = inr (inr writing.0)
 
 pub meets : OneVerdict → (c : Call) (before after : Told) (o : Outcome) (s : Status) → Comes c o → ((a : Asks c) → ReadsSource (most_read (form_of a.words)) a.words.source c.after)
-    → Tells o s before after → MeetsClauses c before after s
-meets l c before after o s h within tells = record {
+    → TellsFaults c o → Tells o s before after → MeetsClauses c before after s
+meets l c before after o s h within faults tells = record {
   outcome = o;
   report = tells;
   comes_only = h.only;
+  tells_faults = faults;
   refused_where = record {
     usage = λ none. stopped_by_words c o refusal.Usage (λ a. not_asked a none) (only_usage c none) h.how;
     not_built = λ w read not_built. stopped_by_words c o refusal.NotBuilt (λ a. not_unbuilt a w read not_built) (only_unbuilt c w read not_built) h.how;

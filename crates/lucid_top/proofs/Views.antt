@@ -11,7 +11,7 @@ use Rattle.lucid_inputs.specs.Streams.{all_bytes}
 use Rattle.lucid_tree.specs.Levels.{Elements}
 use Rattle.lucid_words.specs.Asked.{PlainWords}
 use Rattle.lucid_session.specs.Subject.{Subject, stream_subject}
-use Rattle.lucid_session.specs.Runs.{Told, HasElements, Written, ForSomeAdded, ConsultsOverlong, IsDone, IsTooDeep, OnTooDeep, OnTooLarge, Ran}
+use Rattle.lucid_session.specs.Runs.{Told, HasElements, Written, ForSomeAdded, ConsultsOverlong, IsDone, IsTooDeep, OnTooDeep, OnTooLarge, IsUndisturbed, Ran}
 use Rattle.lucid_session.specs.Figures.{Counted, Figures, OnClearings}
 use Rattle.lucid_top.specs.Status.{Outcome}
 use Rattle.lucid_top.specs.Programs.{Program, program_stream, program_counted}
@@ -69,16 +69,25 @@ module _ (w : PlainWords) (free : List (List ℕ)) (qs : List ℕ) (u v u' v' : 
   written_too : (S : Subject) (b : Elements) → Written S b (viewed w free qs u v o p) → Written S b (viewed w free qs u' v' o p)
   written_too S b x = record { whole = x.whole; within = x.within; bytes = x.bytes; output = x.output; front = x.front; begun = x.begun; written = x.written }
 
+  quiet_back : (S : Subject) (b : Elements) (whole : ℕ) → IsUndisturbed S b (viewed w free qs u' v' o p) whole → IsUndisturbed S b (viewed w free qs u v o p) whole
+  quiet_back S b whole quiet = record {
+    no_read_failed = λ rises. quiet.no_read_failed (a.faults rises);
+    no_write_failed = quiet.no_write_failed;
+    none_overlong = λ k long. quiet.none_overlong k (overlong_too S b whole k long);
+  }
+
   ran_too : (S : Subject) (b : Elements) (result : Result Summary RunFault) → Ran S b (viewed w free qs u v o p) result → Ran S b (viewed w free qs u' v' o p) result
   unfolding written_too
   ran_too S b result x = record {
     out = written_too S b x.out;
+    cut_off = x.cut_off;
     done = ok_weaker result (IsDone S b (viewed w free qs u v o p) x.out) (IsDone S b (viewed w free qs u' v' o p) (written_too S b x.out))
-        (λ s h. record { lines = h.lines; nothing_begun = h.nothing_begun; ends = h.ends }) x.done;
+        (λ s h. record { lines = h.lines; ends = h.ends }) x.done;
     deep = deep_weaker result (IsTooDeep S b (viewed w free qs u v o p) x.out) (IsTooDeep S b (viewed w free qs u' v' o p) (written_too S b x.out))
-        (λ t h. record { lines = h.lines; nothing_begun = h.nothing_begun; within = h.within; undefined = h.undefined }) x.deep;
+        (λ t h. record { lines = h.lines; within = h.within; undefined = h.undefined }) x.deep;
     exact = x.exact;
-    complete = λ enough reads writes large. x.complete enough (λ rises. reads (a.faults rises)) writes (λ k long. large k (overlong_too S b x.out.whole k long));
+    stops = λ early defined quiet. x.stops early defined (quiet_back S b x.out.whole quiet);
+    complete = λ enough quiet. x.complete enough (quiet_back S b x.out.whole quiet);
     consumed = record {
       added = x.consumed.added;
       none = x.consumed.none;

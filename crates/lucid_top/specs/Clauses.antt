@@ -14,7 +14,7 @@ use Rattle.lucid_top.specs.Tasks.{task_of, form_of, is_built, wants_figures}
 use Rattle.lucid_top.specs.Telling.{Tells}
 use Rattle.lucid_top.specs.Writing.{WritesSome, WritesSomeFront}
 use Rattle.lucid_top.specs.Stages.{IsTold, Asks, IsWriting, IsTextFor, IsRun, Refuses}
-use Rattle.lucid_top.specs.Places.{ReadsSource, most_read}
+use Rattle.lucid_top.specs.Places.{CountsNoRead, CountsNoWrite, ReadsSource, most_read}
 use Rattle.lucid_top.specs.Runs.{most_places, first_place, run_places, run_of, view_of, RanSo}
 use Rattle.lucid_top.specs.Running.{HoldsWithin}
 
@@ -66,6 +66,11 @@ pub record Writes (c : Call) (o : Outcome) (IsText : List ℕ → Type 0) : Type
   pub whole : o ≡ Ok done.Written → WritesSome IsText c.out_before c.out_after
   pub complete : (ReadFails c → ⊥) → (WriteFails c → ⊥) → (o ≡ Ok done.Written) ⊎ (o ≡ Err stop.NoMemory)
 
+-- A read fault and a write fault come wherever a call failed: a count of faults is as it was, unless the outcome is that fault.
+pub record TellsFaults (c : Call) (o : Outcome) : Type 0 where
+  pub reads : CountsNoRead o c.before c.after
+  pub writes : CountsNoWrite o c.out_before.faults c.out_after.faults
+
 -- the outcome of a run that came to evaluate its program
 abbrev pub IsEvaluated : Outcome → Type 0
 IsEvaluated (Ok (done.Ran summary stats)) = Unit {0}
@@ -89,8 +94,9 @@ pub record ReachesOnly (c : Call) (o : Outcome) : Type 0 where
 pub record MeetsClauses (c : Call) (report_before report_after : Told) (s : Status) : Type 0 where
   pub outcome : Outcome
   pub report : Tells outcome s report_before report_after
-  -- When each outcome comes; and that a refusal comes wherever it is the first.
+  -- When each outcome comes; that a fault comes wherever a call failed, and a refusal wherever it is the first.
   pub comes_only : ComesOnly c outcome
+  pub tells_faults : TellsFaults c outcome
   pub refused_where : RefusedWhere c outcome
   -- Nothing is written but by a run, or where a text is asked for.
   pub silent : WritesNothing c ⊎ (IsRun c ⊎ IsWriting c)

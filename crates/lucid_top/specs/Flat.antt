@@ -1,8 +1,9 @@
 -- What becomes of a source in the flat form: it is too long, or no table's text, or the text of a table with a wrong row; or of a sound table.
 use Rattle.std.specs.Prelude.{◌≡◌, ℕ, ◌<◌, ◌≤◌, List, length}
+use Rattle.lucid_equations.specs.Sound.{IsSound}
 use Rattle.lucid_equations.specs.declared.table.Table.{Table}
 use Rattle.lucid_flat.specs.FlatTables.{IsTextOf, IsFirstWrongLine}
-use Rattle.lucid_sound.specs.WrongRows.{IsRefused, IsBuildable}
+use Rattle.lucid_sound.specs.WrongRows.{IsRefused}
 use Rattle.lucid_sound.specs.declared.program.BuildRefusal.{BuildRefusal}
 use Rattle.lucid_top.specs.declared.refusal.Refusal.{Refusal}
 use Rattle.lucid_top.specs.declared.refusal.Refusal.TheVariants as refusal
@@ -18,10 +19,10 @@ pub record HasTable (source : List ℕ) (t : Table) : Type 0 where
   pub short : length source ≤ most_flat_bytes
   pub text : IsTextOf source t
 
--- The source is the text of a table that can be run.
+-- The source is the text of a sound table.
 pub record SpellsTable (source : List ℕ) (t : Table) : Type 0 where
   pub has : HasTable source t
-  pub sound : IsBuildable t
+  pub sound : IsSound t
 
 -- The source is refused so.
 pub data RefusesFlat (source : List ℕ) : (why : Refusal) → Type 0 where

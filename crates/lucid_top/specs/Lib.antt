@@ -4,8 +4,8 @@ pub mod Status
 pub mod Lines
 pub mod Telling
 pub mod Judged
-pub mod Texts
 pub mod Flat
+pub mod Texts
 pub mod Programs
 pub mod Files
 pub mod Call
@@ -15,5 +15,7 @@ pub mod Runs
 pub mod Running
 pub mod Writing
 pub mod Clauses
+pub mod Headline
+pub mod Witness
 pub mod Coming
 pub mod Laws

@@ -1,7 +1,7 @@
 -- What the places tell while the source is read and the inputs are reached.
-use Rattle.std.specs.Prelude.{◌≡◌, ℕ, ◌+◌, ◌<◌, ◌≤◌, ◌⊎◌, List, length, Option, Some, take, IfSome, slice_get}
+use Rattle.std.specs.Prelude.{◌≡◌, ℕ, ◌+◌, ◌<◌, ◌≤◌, ◌⊎◌, List, length, Option, Some, take, IfSome, Result, IsErrOf, slice_get}
 use Rattle.lucid_ports.specs.World.{World, IsFresh}
-use Rattle.lucid_ports.specs.Faults.{Rises}
+use Rattle.lucid_ports.specs.Faults.{Rises, CountsNoFaultUnless}
 use Rattle.lucid_ports.specs.declared.fault.PortFault.{PortFault}
 use Rattle.lucid_ports.specs.declared.fault.PortFault.TheVariants.{Failed, NoMemory}
 use Rattle.lucid_make.specs.Source.{made_source}
@@ -24,6 +24,13 @@ use Rattle.lucid_top.specs.Stages.{IsSource}
 pub record KeepsNames (old new : World) : Type 0 where
   pub names : (name : List ℕ) → new.holds name ≡ old.holds name
   pub faults : old.faults ≤ new.faults
+
+-- The count of faults of the places is as it was, unless the answer is a read fault; that of the output, unless it is a write fault.
+abbrev pub CountsNoRead : {T : Type 0} → Result T Stop → (old new : World) → Type 0
+CountsNoRead result v w = CountsNoFaultUnless (IsErrOf result stop.ReadFault) v.faults w.faults
+
+abbrev pub CountsNoWrite : {T : Type 0} → Result T Stop → (old new : ℕ) → Type 0
+CountsNoWrite result f g = CountsNoFaultUnless (IsErrOf result stop.WriteFault) f g
 
 -- The source, but of a file at most so many of its first bytes.
 abbrev pub IsSourceFront : (most : ℕ) → PlainSource → World → List ℕ → Type 0

@@ -11,7 +11,7 @@ use Rattle.lucid_top.specs.Status.{Outcome}
 use Rattle.lucid_top.specs.Tasks.{wants_figures}
 use Rattle.lucid_top.specs.Runs.{policy_named}
 
--- at most one more value is held than the policy of the words leaves
+-- the number of held values is at most one more than the policy of the words leaves
 abbrev pub HoldsWithin : PlainWords → (held : ℕ) → Type 0
 HoldsWithin w held = IfSome (policy_named w.policy w.age w.room).room (λ most. held ≤ most + 1)
 

@@ -10,6 +10,8 @@ use Rattle.lucid_scan.specs.Refusals.{most_source_bytes}
 use Rattle.lucid_session.specs.Subject.{stream_subject}
 use Rattle.lucid_session.specs.Runs.{PolicyView, RunView, Told, HasElements, Ran}
 use Rattle.lucid_session.specs.Figures.{Figures}
+use Rattle.lucid_retire.specs.declared.policy.Policy.{Policy}
+use Rattle.lucid_retire.specs.declared.policy.Policy.TheVariants as retire
 use Rattle.lucid_words.specs.declared.PolicyWord.{PolicyWord}
 use Rattle.lucid_words.specs.declared.PolicyWord.TheVariants as policy
 use Rattle.lucid_words.specs.Plain.{PlainSource, file, made}
@@ -34,12 +36,20 @@ most_input_bytes = 268435456
 abbrev pub turns_between_sweeps : ℕ
 turns_between_sweeps = 1000
 
--- The policy that a word names. That by age leaves no more than was touched since the last sweeps; the last one as many as there is room for.
+-- What the policy that a word names does. That by age leaves no more than was touched since the last sweeps; the last one as many as there is
+-- room for.
 abbrev pub policy_named : PolicyWord → (age room : ℕ) → PolicyView
 policy_named policy.Keep age room = record { keeps = true; empties = false; room = None }
 policy_named policy.Nothing age room = record { keeps = false; empties = true; room = Some 0 }
 policy_named policy.Ages age room = record { keeps = false; empties = false; room = Some (turns_between_sweeps * (age + 1)) }
 policy_named policy.Last age room = record { keeps = false; empties = false; room = Some room }
+
+-- The policy itself, with its numbers, as it is before its first turn.
+abbrev pub policy_asked : PolicyWord → (age room : ℕ) → Policy
+policy_asked policy.Keep age room = retire.Keep (record {})
+policy_asked policy.Nothing age room = retire.Nothing (record {})
+policy_asked policy.Ages age room = retire.Ages (record { every = turns_between_sweeps; limit = age; since = 0 })
+policy_asked policy.Last age room = retire.Last (record { keys = []; room = room; unlisted = 0 })
 
 -- The place of the first input: that of the source, where there is one, comes before.
 abbrev pub first_place : PlainSource → ℕ

@@ -1,5 +1,5 @@
 -- The texts that are written of a tree.
-use Rattle.std.specs.Prelude.{◌≡◌, ℕ, List}
+use Rattle.std.specs.Prelude.{◌≡◌, ℕ, ◌≤◌, List, length}
 use Rattle.lucid_tree.specs.Tree.{PlainTree}
 use Rattle.lucid_scope.specs.Bindings.{IsResolved}
 use Rattle.lucid_cycles.specs.Graph.{Bindings}
@@ -13,6 +13,7 @@ use Rattle.lucid_equations.specs.declared.table.Table.{Table}
 use Rattle.lucid_compile.specs.Promise.{KeepsTree}
 use Rattle.lucid_flat.specs.FlatTables.{IsTextOf}
 use Rattle.lucid_top.specs.Judged.{HasInputs}
+use Rattle.lucid_top.specs.Flat.{most_flat_bytes, SpellsTable}
 
 -- The line of a judgment of the tree, by what its names belong to. The depth that it says is enough at a time is enough, whatever the inputs
 -- are.
@@ -25,10 +26,12 @@ pub record IsJudgmentLine (p : PlainTree) (line : List ℕ) : Type 0 where
   pub enough : IsDefinedAsJudged p judgment
   pub is : line ≡ judgment_line p judgment
 
--- A flat form of the tree: the text of a sound table that keeps the tree, and whose inputs are the tree's free names.
+-- A flat form of the tree: the text of a sound table that keeps the tree, and whose inputs are the tree's free names. Read as a source in the
+-- flat form, it spells this table again, unless it is too long to be read.
 pub record IsFlatForm (p : PlainTree) (text : List ℕ) : Type 0 where
   pub table : Table
   pub sound : IsSound table
   pub keeps : KeepsTree (equations_of table) p
   pub inputs : HasInputs p table.inputs
   pub is : IsTextOf text table
+  pub again : length text ≤ most_flat_bytes → SpellsTable text table

@@ -2,14 +2,17 @@
 //! canonical source, the judgment of its cycles or its flat form, a table without functions.
 #![tactic(auto)]
 
+pub use crate::arguments::lucid_from_arguments;
 pub use crate::refusal::Refusal;
 pub use crate::report::tell;
 pub use crate::status::Status;
 pub use crate::stop::{Done, Stop};
 pub use crate::top::lucid;
 
+mod arguments;
 mod files;
 mod flat;
+pub mod headline;
 mod judging;
 mod laws;
 mod places;

@@ -1,11 +1,11 @@
 //! What is read from: the source, and the places of the inputs.
 ghost use Rattle.std.specs.Prelude.{◌≡◌, ◌≤◌, ◌<◌, ◌+◌, length, map, take, IfOk, IfErr, IfSome, OnOk, IsErrOf};
 ghost use Rattle.std.specs.List.{range_with_len};
-ghost use Rattle.lucid_ports.specs.Faults.{Rises};
+ghost use Rattle.lucid_ports.specs.Faults.{Rises, CountsNoFaultUnless};
 ghost use Rattle.lucid_words.specs.Plain.{plain_source};
 ghost use Rattle.lucid_words.specs.Numbers.{MadeIsFromTo};
 ghost use Rattle.lucid_top.specs.Runs.{first_place};
-ghost use Rattle.lucid_top.specs.Places.{KeepsNames, IsSourceFront, ReadsSource, IsReadStop, AreFresh, read_stop};
+ghost use Rattle.lucid_top.specs.Places.{KeepsNames, CountsNoRead, IsSourceFront, ReadsSource, IsReadStop, AreFresh, read_stop};
 
 use crate::stop::Stop;
 use lucid_make::make_source;
@@ -37,6 +37,7 @@ fn read_file<P: Places>(
     ensures keeps { KeepsNames (P.world places.old) (P.world places.new) }
     ensures within { 0 < (P.world places.new).reached → IfSome ((P.world places.new).place 0).contents (λ s. length s.consumed ≤ most) }
     ensures failed { IsErrOf result PortFault.Failed → Rises (P.world places.old).faults (P.world places.new).faults }
+    ensures counts_no_fault { CountsNoFaultUnless (IsErrOf result PortFault.Failed) (P.world places.old).faults (P.world places.new).faults }
 {
     let place = places.reach(alloc, name)?;
     read_at_most(alloc, places, place, most)
@@ -57,6 +58,7 @@ pub fn read_source<P: Places>(
     ensures within { ReadsSource most (plain_source source.now) (P.world places.new) }
     ensures keeps { KeepsNames (P.world places.old) (P.world places.new) }
     ensures stopped { IfErr result (IsReadStop (P.world places.old) (P.world places.new)) }
+    ensures counts_no_read { CountsNoRead result (P.world places.old) (P.world places.new) }
 {
     match source {
         Source::File(name) => read_file(alloc, places, name, most).map_err(read_stop),
@@ -78,6 +80,7 @@ pub fn reach_files<P: Places>(
     ensures first { 0 < (P.world places.old).reached → (P.world places.new).place 0 ≡ (P.world places.old).place 0 }
     ensures keeps { KeepsNames (P.world places.old) (P.world places.new) }
     ensures stopped { IfErr result (IsReadStop (P.world places.old) (P.world places.new)) }
+    ensures counts_no_read { CountsNoRead result (P.world places.old) (P.world places.new) }
 {
     let mut numbers = Vec::new(alloc);
     for file in files {

@@ -9,9 +9,9 @@ ghost use Rattle.lucid_retire.specs.Policies.{keeps_all, empties_all, most_held}
 ghost use Rattle.lucid_session.specs.Runs.{PolicyView, OnTooLarge};
 ghost use Rattle.lucid_top.specs.Call.{told};
 ghost use Rattle.lucid_top.specs.Tasks.{wants_figures};
-ghost use Rattle.lucid_top.specs.Places.{AreUnread};
+ghost use Rattle.lucid_top.specs.Places.{AreUnread, CountsNoRead, CountsNoWrite};
 ghost use Rattle.lucid_top.specs.Programs.{of_table};
-ghost use Rattle.lucid_top.specs.Runs.{policy_named, viewed, RanSo};
+ghost use Rattle.lucid_top.specs.Runs.{policy_named, policy_asked, viewed, RanSo};
 ghost use Rattle.lucid_top.specs.Running.{RunComesOnly, IsRunStop, IsLargeStop};
 
 use crate::stop::{Done, Stop};
@@ -34,7 +34,8 @@ const TURNS_BETWEEN_SWEEPS: u32 = 1000;
 // The policy that the words ask for.
 fn policy_of(alloc: Global, words: &Words) -> Result<Policy, AllocError>
     requires { IsFromTo 1 1000000 words.now.room }
-    ensures { IfOk result (λ policy. record { keeps = keeps_all policy; empties = empties_all policy; room = most_held policy } ≡ policy_named words.now.policy words.now.age words.now.room) }
+    ensures asked { IfOk result (λ policy. policy ≡ policy_asked words.now.policy words.now.age words.now.room) }
+    ensures named { IfOk result (λ policy. record { keeps = keeps_all policy; empties = empties_all policy; room = most_held policy } ≡ policy_named words.now.policy words.now.age words.now.room) }
 {
     match words.policy {
         PolicyWord::Keep => Ok(Policy::Keep(Keep)),
@@ -110,6 +111,8 @@ pub fn run_program<P: Places, K: Sink>(
     ensures reached { (P.world places.new).reached ≡ (P.world places.old).reached }
     ensures others { (k : ℕ) → In k numbers.items ⊎ ((P.world places.new).place k ≡ (P.world places.old).place k) }
     ensures faults { (P.world places.old).faults ≤ (P.world places.new).faults }
+    ensures counts_no_read { CountsNoRead result (P.world places.old) (P.world places.new) }
+    ensures counts_no_write { CountsNoWrite result (K.faults out.old) (K.faults out.new) }
 {
     fresh_fits();
     let inputs = Inputs::make(alloc, numbers, MOST_INPUT_BYTES)?;

@@ -14,7 +14,7 @@ ghost use Rattle.lucid_ports.specs.World.{World};
 ghost use Rattle.lucid_equations.specs.Programs.{table_of};
 ghost use Rattle.lucid_top.specs.Judged.{RefusesText, AreResolved};
 ghost use Rattle.lucid_top.specs.Flat.{most_flat_bytes, RefusesFlat};
-ghost use Rattle.lucid_top.specs.Places.{KeepsNames, ReadsSource, most_read, SpeltBySource, FlatBySource, IsAccepted, IsSourceStop, IsProgramStop};
+ghost use Rattle.lucid_top.specs.Places.{KeepsNames, CountsNoRead, CountsNoWrite, ReadsSource, most_read, SpeltBySource, FlatBySource, IsAccepted, IsSourceStop, IsProgramStop};
 ghost use Rattle.lucid_top.specs.Coming.{Comes, RunsTable};
 ghost use Rattle.lucid_top.specs.Clauses.{MeetsClauses};
 
@@ -57,6 +57,7 @@ fn tree_of<P: Places>(alloc: Global, words: &Words, places: &mut P) -> Result<Tr
     ensures few { (P.world places.new).reached ≤ first_place (plain_source words.now.source) }
     ensures within { ReadsSource (most_source_bytes + 1) (plain_source words.now.source) (P.world places.new) }
     ensures keeps { KeepsNames (P.world places.old) (P.world places.new) }
+    ensures counts_no_read { CountsNoRead result (P.world places.old) (P.world places.new) }
     ensures stopped { IfErr result (IsSourceStop RefusesText (plain_source words.now.source) (P.world places.old) (P.world places.new)) }
 {
     let source = read_source(alloc, &words.source, PAST_SOURCE, places)?;
@@ -73,6 +74,7 @@ fn program_of<P: Places>(alloc: Global, words: &Words, places: &mut P) -> Result
     ensures few { (P.world places.new).reached ≤ first_place (plain_source words.now.source) }
     ensures within { ReadsSource (most_source_bytes + 1) (plain_source words.now.source) (P.world places.new) }
     ensures keeps { KeepsNames (P.world places.old) (P.world places.new) }
+    ensures counts_no_read { CountsNoRead result (P.world places.old) (P.world places.new) }
     ensures stopped { IfErr result (IsProgramStop (plain_source words.now.source) (P.world places.old) (P.world places.new)) }
 {
     let tree = tree_of(alloc, words, places)?;
@@ -88,6 +90,7 @@ fn flat_program<P: Places>(alloc: Global, words: &Words, places: &mut P) -> Resu
     ensures few { (P.world places.new).reached ≤ first_place (plain_source words.now.source) }
     ensures within { ReadsSource (most_flat_bytes + 1) (plain_source words.now.source) (P.world places.new) }
     ensures keeps { KeepsNames (P.world places.old) (P.world places.new) }
+    ensures counts_no_read { CountsNoRead result (P.world places.old) (P.world places.new) }
     ensures stopped { IfErr result (IsSourceStop RefusesFlat (plain_source words.now.source) (P.world places.old) (P.world places.new)) }
 {
     let source = read_source(alloc, &words.source, PAST_FLAT, places)?;
@@ -110,6 +113,8 @@ fn run_inputs<P: Places, K: Sink>(
     ensures comes { (before : World)
         → RunsTable (call (Some (plain_words words.now)) before (P.world places.new) (told K.written K.faults out.old) (told K.written K.faults out.new)) (plain_words words.now) (table_of program) (P.world places.old)
         → Comes (call (Some (plain_words words.now)) before (P.world places.new) (told K.written K.faults out.old) (told K.written K.faults out.new)) result }
+    ensures counts_no_read { CountsNoRead result (P.world places.old) (P.world places.new) }
+    ensures counts_no_write { CountsNoWrite result (K.faults out.old) (K.faults out.new) }
     ensures within { (most : ℕ) → (P.world places.old).reached ≡ first_place (plain_source words.now.source)
         → ReadsSource most (plain_source words.now.source) (P.world places.old) → ReadsSource most (plain_source words.now.source) (P.world places.new) }
 {
@@ -132,6 +137,8 @@ fn run_tree<P: Places, K: Sink>(
     requires built { is_built (task_of (plain_words words.now)) (form_of (plain_words words.now)) ≡ true }
     requires none { (P.world places.old).reached ≡ 0 }
     ensures comes { Comes (call (Some (plain_words words.now)) (P.world places.old) (P.world places.new) (told K.written K.faults out.old) (told K.written K.faults out.new)) result }
+    ensures counts_no_read { CountsNoRead result (P.world places.old) (P.world places.new) }
+    ensures counts_no_write { CountsNoWrite result (K.faults out.old) (K.faults out.new) }
     ensures within { ReadsSource (most_read (form_of (plain_words words.now))) (plain_source words.now.source) (P.world places.new) }
 {
     same_streams_run_alike();
@@ -155,6 +162,8 @@ fn run_table<P: Places, K: Sink>(
     requires built { is_built (task_of (plain_words words.now)) (form_of (plain_words words.now)) ≡ true }
     requires none { (P.world places.old).reached ≡ 0 }
     ensures comes { Comes (call (Some (plain_words words.now)) (P.world places.old) (P.world places.new) (told K.written K.faults out.old) (told K.written K.faults out.new)) result }
+    ensures counts_no_read { CountsNoRead result (P.world places.old) (P.world places.new) }
+    ensures counts_no_write { CountsNoWrite result (K.faults out.old) (K.faults out.new) }
     ensures within { ReadsSource (most_read (form_of (plain_words words.now))) (plain_source words.now.source) (P.world places.new) }
 {
     let program = flat_program(alloc, words, places)?;
@@ -175,6 +184,8 @@ fn run_task<P: Places, K: Sink>(
     requires built { is_built (task_of (plain_words words.now)) (form_of (plain_words words.now)) ≡ true }
     requires none { (P.world places.old).reached ≡ 0 }
     ensures comes { Comes (call (Some (plain_words words.now)) (P.world places.old) (P.world places.new) (told K.written K.faults out.old) (told K.written K.faults out.new)) result }
+    ensures counts_no_read { CountsNoRead result (P.world places.old) (P.world places.new) }
+    ensures counts_no_write { CountsNoWrite result (K.faults out.old) (K.faults out.new) }
     ensures within { ReadsSource (most_read (form_of (plain_words words.now))) (plain_source words.now.source) (P.world places.new) }
 {
     match Form::of(words) {
@@ -195,6 +206,8 @@ fn print_task<P: Places, K: Sink>(
     requires built { is_built (task_of (plain_words words.now)) (form_of (plain_words words.now)) ≡ true }
     requires none { (P.world places.old).reached ≡ 0 }
     ensures comes { Comes (call (Some (plain_words words.now)) (P.world places.old) (P.world places.new) (told K.written K.faults out.old) (told K.written K.faults out.new)) result }
+    ensures counts_no_read { CountsNoRead result (P.world places.old) (P.world places.new) }
+    ensures counts_no_write { CountsNoWrite result (K.faults out.old) (K.faults out.new) }
     ensures within { ReadsSource (most_read (form_of (plain_words words.now))) (plain_source words.now.source) (P.world places.new) }
 {
     let tree = tree_of(alloc, words, places)?;
@@ -213,6 +226,8 @@ fn cycles_task<P: Places, K: Sink>(
     requires built { is_built (task_of (plain_words words.now)) (form_of (plain_words words.now)) ≡ true }
     requires none { (P.world places.old).reached ≡ 0 }
     ensures comes { Comes (call (Some (plain_words words.now)) (P.world places.old) (P.world places.new) (told K.written K.faults out.old) (told K.written K.faults out.new)) result }
+    ensures counts_no_read { CountsNoRead result (P.world places.old) (P.world places.new) }
+    ensures counts_no_write { CountsNoWrite result (K.faults out.old) (K.faults out.new) }
     ensures within { ReadsSource (most_read (form_of (plain_words words.now))) (plain_source words.now.source) (P.world places.new) }
 {
     let scoped = program_of(alloc, words, places)?;
@@ -232,6 +247,8 @@ fn flat_task<P: Places, K: Sink>(
     requires built { is_built (task_of (plain_words words.now)) (form_of (plain_words words.now)) ≡ true }
     requires none { (P.world places.old).reached ≡ 0 }
     ensures comes { Comes (call (Some (plain_words words.now)) (P.world places.old) (P.world places.new) (told K.written K.faults out.old) (told K.written K.faults out.new)) result }
+    ensures counts_no_read { CountsNoRead result (P.world places.old) (P.world places.new) }
+    ensures counts_no_write { CountsNoWrite result (K.faults out.old) (K.faults out.new) }
     ensures within { ReadsSource (most_read (form_of (plain_words words.now))) (plain_source words.now.source) (P.world places.new) }
 {
     let scoped = program_of(alloc, words, places)?;
@@ -247,6 +264,8 @@ fn do_task<P: Places, K: Sink>(
 ) -> Result<Done, Stop>
     requires { (P.world places.old).reached ≡ 0 }
     ensures comes { Comes (call (words_asked (map string_bytes words.now)) (P.world places.old) (P.world places.new) (told K.written K.faults out.old) (told K.written K.faults out.new)) result }
+    ensures counts_no_read { CountsNoRead result (P.world places.old) (P.world places.new) }
+    ensures counts_no_write { CountsNoWrite result (K.faults out.old) (K.faults out.new) }
     ensures within { (w : PlainWords) → words_asked (map string_bytes words.now) ≡ Some w → ReadsSource (most_read (form_of w)) w.source (P.world places.new) }
 {
     let words = read_words(alloc, words)?;

@@ -7,6 +7,7 @@ ghost use Rattle.lucid_scope.specs.Scoped.{scoped_tree, scoped_inputs};
 ghost use Rattle.lucid_cycles.specs.JudgmentLine.{judgment_line};
 ghost use Rattle.lucid_top.specs.Call.{told};
 ghost use Rattle.lucid_top.specs.Judged.{AreResolved};
+ghost use Rattle.lucid_top.specs.Places.{CountsNoWrite};
 ghost use Rattle.lucid_top.specs.Texts.{IsFlatForm};
 ghost use Rattle.lucid_top.specs.Writing.{WritesOnly};
 
@@ -22,7 +23,8 @@ use std::alloc::Global;
 
 // Writes the text.
 fn write_out<K: Sink>(text: &[u8], out: &mut K) -> Result<Done, Stop>
-    ensures { WritesOnly (λ written. written ≡ text.now) (told K.written K.faults out.old) (told K.written K.faults out.new) result }
+    ensures writes { WritesOnly (λ written. written ≡ text.now) (told K.written K.faults out.old) (told K.written K.faults out.new) result }
+    ensures counts_no_write { CountsNoWrite result (K.faults out.old) (K.faults out.new) }
 {
     match write_whole(out, text) {
         Ok(()) => Ok(Done::Written),
@@ -34,7 +36,8 @@ fn write_out<K: Sink>(text: &[u8], out: &mut K) -> Result<Done, Stop>
 /// Writes the canonical source.
 pub fn print_program<K: Sink>(alloc: Global, tree: &Tree, out: &mut K) -> Result<Done, Stop>
     requires { IsWellMade tree.now }
-    ensures { WritesOnly (λ text. text ≡ canonical tree.now) (told K.written K.faults out.old) (told K.written K.faults out.new) result }
+    ensures writes { WritesOnly (λ text. text ≡ canonical tree.now) (told K.written K.faults out.old) (told K.written K.faults out.new) result }
+    ensures counts_no_write { CountsNoWrite result (K.faults out.old) (K.faults out.new) }
 {
     let mut text = Vec::new(alloc);
     print_tree(alloc, tree, &mut text)?;
@@ -48,7 +51,8 @@ pub fn write_judgment<K: Sink>(
     judgment: &Judgment,
     out: &mut K,
 ) -> Result<Done, Stop>
-    ensures { WritesOnly (λ line. line ≡ judgment_line (scoped_tree scoped.now) judgment.now) (told K.written K.faults out.old) (told K.written K.faults out.new) result }
+    ensures writes { WritesOnly (λ line. line ≡ judgment_line (scoped_tree scoped.now) judgment.now) (told K.written K.faults out.old) (told K.written K.faults out.new) result }
+    ensures counts_no_write { CountsNoWrite result (K.faults out.old) (K.faults out.new) }
 {
     let mut line = Vec::new(alloc);
     judgment.show(alloc, scoped, &mut line)?;
@@ -59,7 +63,8 @@ pub fn write_judgment<K: Sink>(
 pub fn write_flat<K: Sink>(alloc: Global, scoped: &Scoped, out: &mut K) -> Result<Done, Stop>
     requires resolved { AreResolved scoped.now }
     requires few { length (scoped_inputs scoped.now) ≤ most_source_bytes }
-    ensures { WritesOnly (IsFlatForm (scoped_tree scoped.now)) (told K.written K.faults out.old) (told K.written K.faults out.new) result }
+    ensures writes { WritesOnly (IsFlatForm (scoped_tree scoped.now)) (told K.written K.faults out.old) (told K.written K.faults out.new) result }
+    ensures counts_no_write { CountsNoWrite result (K.faults out.old) (K.faults out.new) }
 {
     let program = compile(alloc, scoped)?;
     let mut text = Vec::new(alloc);

@@ -1,4 +1,6 @@
-use Rattle.std.proofs.Common.{map, arith}
+use Rattle.std.proofs.Common.{map, ◌∙◌, arith}
+use Rattle.lucid_ports.specs.declared.fault.PortFault.TheVariants.{Failed}
+use Rattle.lucid_top.proofs.Counting.{none_at_ok}
 use Rattle.lucid_top.proofs.Reaching.{keeps_on, first_stays, fresh_after, fresh_more, range_more, named_at, given_before, refused_before}
 use Rattle.lucid_top.proofs.places.reach_files.Goals as goal
 
@@ -34,6 +36,7 @@ loop-file-preserved g c =
     let number = rw given at c.reach.ensures.number in
     let added = rw given at c.reach.ensures.added in
     let fresh = rw given at c.reach.ensures.fresh in
+    let counted = rw given at c.reach.ensures.counts_no_fault in
     record {
       numbers = range_more (g.P.Places.world c.args.places.now).reached c.loop-file.file-index c.in_ok-place.place c.loop-file.numbers.items c.push.new.self.items
           c.loop-file.invariant.numbers (omega (arith, number, c.loop-file.invariant.reached)) c.in_ok-push.ensures.items;
@@ -43,6 +46,7 @@ loop-file-preserved g c =
           c.loop-file.invariant.keeps c.reach.ensures.others added c.in_ok-place.place number fresh;
       first = first_stays (g.P.Places.world c.args.places.now) (g.P.Places.world c.loop-file.places) (g.P.Places.world c.reach.new.self) c.loop-file.invariant.first
           (omega (arith, c.loop-file.invariant.reached)) c.reach.ensures.others;
+      no_read_failed = none_at_ok c.in_ok-place.place Failed (g.P.Places.world c.loop-file.places).faults (g.P.Places.world c.reach.new.self).faults counted ∙ c.loop-file.invariant.no_read_failed;
       keeps = keeps_on (g.P.Places.world c.args.places.now) (g.P.Places.world c.loop-file.places) (g.P.Places.world c.reach.new.self) (g.P.Places.world c.loop-file.places).reached
           c.loop-file.invariant.keeps c.reach.ensures.others;
     }

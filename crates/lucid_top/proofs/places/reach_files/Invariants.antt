@@ -9,5 +9,6 @@ invariant-loop-file g l = record {
   reached : (g.P.Places.world l.places).reached ≡ (g.P.Places.world l.initial.places).reached + l.file-index;
   fresh : AreFresh (map (λ file. file.now) l.files) (g.P.Places.world l.initial.places) (g.P.Places.world l.places);
   first : 0 < (g.P.Places.world l.initial.places).reached → (g.P.Places.world l.places).place 0 ≡ (g.P.Places.world l.initial.places).place 0;
+  no_read_failed : (g.P.Places.world l.places).faults ≡ (g.P.Places.world l.initial.places).faults;
   keeps : KeepsNames (g.P.Places.world l.initial.places) (g.P.Places.world l.places);
 }

@@ -13,6 +13,7 @@ use Rattle.lucid_top.specs.Runs.{viewed}
 use Rattle.lucid_top.proofs.Asking.{askable, places_are}
 use Rattle.lucid_top.proofs.Begun.{no_memory, same_contents}
 use Rattle.lucid_top.proofs.Carrying.{seen_same, stopped_run}
+use Rattle.lucid_top.proofs.Counting.{run_read, run_written}
 use Rattle.lucid_top.proofs.running.run_program.Goals as goal
 
 pub returns-in_err-inputs-clause-ran : goal.returns-in_err-inputs-clause-ran
@@ -39,7 +40,7 @@ returns-in-Ok-clause-ran g c =
     (told g.K.Sink.written g.K.Sink.faults c.args.out.now) (told g.K.Sink.written g.K.Sink.faults c.run.new.out) (Ok c.in-Ok.summary)
     (record { keeps = keeps_all c.in_ok-policy.policy; empties = empties_all c.in_ok-policy.policy; room = most_held c.in_ok-policy.policy })
     (table_of c.args.program).inputs c.args.names.now (places_of (streams c.in_ok-inputs.inputs)) c.args.numbers.items (most_bytes c.in_ok-inputs.inputs)
-    c.in_ok-policy.ensures (sym c.requires.names) (places_are (streams c.in_ok-inputs.inputs) c.args.numbers.items c.in_ok-inputs.ensures.streams) c.in_ok-inputs.ensures.most
+    c.in_ok-policy.ensures.named (sym c.requires.names) (places_are (streams c.in_ok-inputs.inputs) c.args.numbers.items c.in_ok-inputs.ensures.streams) c.in_ok-inputs.ensures.most
     (λ b has. (c.in-Ok.ensures.headline b has, c.in-Ok.ensures.figures b has))
 
 pub returns-in-Err-clause-ran : goal.returns-in-Err-clause-ran
@@ -51,7 +52,7 @@ returns-in-Err-clause-ran g c =
     (told g.K.Sink.written g.K.Sink.faults c.args.out.now) (told g.K.Sink.written g.K.Sink.faults c.run.new.out) (Err c.in-Err.fault)
     (record { keeps = keeps_all c.in_ok-policy.policy; empties = empties_all c.in_ok-policy.policy; room = most_held c.in_ok-policy.policy })
     (table_of c.args.program).inputs c.args.names.now (places_of (streams c.in_ok-inputs.inputs)) c.args.numbers.items (most_bytes c.in_ok-inputs.inputs)
-    c.in_ok-policy.ensures (sym c.requires.names) (places_are (streams c.in_ok-inputs.inputs) c.args.numbers.items c.in_ok-inputs.ensures.streams) c.in_ok-inputs.ensures.most
+    c.in_ok-policy.ensures.named (sym c.requires.names) (places_are (streams c.in_ok-inputs.inputs) c.args.numbers.items c.in_ok-inputs.ensures.streams) c.in_ok-inputs.ensures.most
     (λ b has. (c.in-Err.ensures.headline b has, c.in-Err.ensures.figures b has)))
 
 pub run_stop-requires : goal.run_stop-requires
@@ -66,3 +67,11 @@ pub returns-in-Err-clause-others : goal.returns-in-Err-clause-others
 returns-in-Err-clause-others g c k =
     subst (λ ns. In k ns ⊎ ((g.P.Places.world c.run.new.places).place k ≡ (g.P.Places.world c.args.places.now).place k))
     (places_are (streams c.in_ok-inputs.inputs) c.args.numbers.items c.in_ok-inputs.ensures.streams) (c.in-Err.ensures.reads_only.others k)
+
+pub returns-in-Err-clause-counts_no_read : goal.returns-in-Err-clause-counts_no_read
+returns-in-Err-clause-counts_no_read g c =
+    run_read c.args.names.now c.wants_figures-stats.result c.in-Err.fault c.run_stop.result (g.P.Places.world c.args.places.now).faults (g.P.Places.world c.run.new.places).faults c.run_stop.ensures c.in-Err.ensures.causes.no_other_read
+
+pub returns-in-Err-clause-counts_no_write : goal.returns-in-Err-clause-counts_no_write
+returns-in-Err-clause-counts_no_write g c =
+    run_written c.args.names.now c.wants_figures-stats.result c.in-Err.fault c.run_stop.result (g.K.Sink.faults c.args.out.now) (g.K.Sink.faults c.run.new.out) c.run_stop.ensures c.in-Err.ensures.causes.no_other_write

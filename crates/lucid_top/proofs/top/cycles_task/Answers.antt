@@ -1,4 +1,4 @@
-use Rattle.std.proofs.Common.{◌≡◌, Some, refl}
+use Rattle.std.proofs.Common.{◌≡◌, Some, refl, inr}
 use Rattle.std.proofs.lemmas.Result.{err_from_is_err_and}
 use Rattle.lucid_scope.specs.Scoped.{scoped_tree, scoped_inputs, scoped_binding}
 use Rattle.lucid_words.specs.Plain.{plain_source}
@@ -8,6 +8,8 @@ use Rattle.lucid_top.specs.declared.task.Task.TheVariants as task
 use Rattle.lucid_top.specs.Call.{Call, call, told}
 use Rattle.lucid_top.specs.Stages.{judges, IsTextFor}
 use Rattle.lucid_top.proofs.Ending.{within_text, Begins, of_text, program_stops, cycles_not_print, judging_stops, inputs_of, names_of, as_text, writes}
+use Rattle.lucid_top.specs.declared.stop.Stop.TheVariants as stop
+use Rattle.lucid_top.proofs.Counting.{none_at_ok, handed_on}
 use Rattle.lucid_top.proofs.top.cycles_task.Goals as goal
 
 pub returns-in_err-scoped-clause-comes : goal.returns-in_err-scoped-clause-comes
@@ -46,7 +48,7 @@ returns-clause-comes g c =
       enough = c.in_ok-judgment.ensures.depth;
       is = is;
     })
-    c.write_judgment.ensures)
+    c.write_judgment.ensures.writes)
 
 pub returns-in_err-scoped-clause-within : goal.returns-in_err-scoped-clause-within
 returns-in_err-scoped-clause-within g c =
@@ -59,3 +61,14 @@ returns-in_err-judgment-clause-within g c =
 pub returns-clause-within : goal.returns-clause-within
 returns-clause-within g c =
     within_text (plain_words c.args.words.now) (plain_source c.args.words.now.source) (g.P.Places.world c.program_of.new.places) (of_text (plain_words c.args.words.now) task.Cycles c.requires.task refl c.requires.built) c.in_ok-scoped.ensures.within
+
+pub returns-in_err-scoped-clause-counts_no_read : goal.returns-in_err-scoped-clause-counts_no_read
+returns-in_err-scoped-clause-counts_no_read g c =
+    let p = err_from_is_err_and c.from_residual.result c.from_residual.ensures.1 in
+    rw (p.1) (handed_on c.in_err-scoped.field-0.0 p.0 stop.ReadFault (g.P.Places.world c.args.places.now).faults (g.P.Places.world c.program_of.new.places).faults p.2 c.in_err-scoped.ensures.counts_no_read)
+
+pub returns-in_err-judgment-clause-counts_no_read : goal.returns-in_err-judgment-clause-counts_no_read
+returns-in_err-judgment-clause-counts_no_read g c = inr (none_at_ok c.in_ok-scoped.scoped stop.ReadFault (g.P.Places.world c.args.places.now).faults (g.P.Places.world c.program_of.new.places).faults c.in_ok-scoped.ensures.counts_no_read)
+
+pub returns-clause-counts_no_read : goal.returns-clause-counts_no_read
+returns-clause-counts_no_read g c = inr (none_at_ok c.in_ok-scoped.scoped stop.ReadFault (g.P.Places.world c.args.places.now).faults (g.P.Places.world c.program_of.new.places).faults c.in_ok-scoped.ensures.counts_no_read)

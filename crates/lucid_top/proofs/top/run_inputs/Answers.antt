@@ -14,6 +14,8 @@ use Rattle.lucid_top.specs.Runs.{viewed, RanSo}
 use Rattle.lucid_top.specs.Running.{RunComesOnly}
 use Rattle.lucid_top.proofs.Ending.{given_stops, reaching_stops}
 use Rattle.lucid_top.proofs.RunEnds.{source_stays, source_run, carried, refs_are, refs_long, files_long, reached_of, range_differs, all_unread, runs}
+use Rattle.lucid_top.specs.declared.stop.Stop.TheVariants as stop
+use Rattle.lucid_top.proofs.Counting.{none_at_ok, handed_on, counts_then}
 use Rattle.lucid_top.proofs.top.run_inputs.Goals as goal
 
 pub returns-in_err-files-clause-comes : goal.returns-in_err-files-clause-comes
@@ -115,3 +117,13 @@ pub returns-clause-within : goal.returns-clause-within
 returns-clause-within g c most first within =
     source_run most (plain_source c.args.words.now.source) (g.P.Places.world c.args.places.now) (g.P.Places.world c.reach_files.new.places) (g.P.Places.world c.run_program.new.places)
     (length c.deref-2.result.now) c.in_ok-numbers.numbers.items within first c.in_ok-numbers.ensures.first c.in_ok-numbers.ensures.numbers c.run_program.ensures.others
+
+pub returns-in_err-numbers-clause-counts_no_read : goal.returns-in_err-numbers-clause-counts_no_read
+returns-in_err-numbers-clause-counts_no_read g c =
+    let p = err_from_is_err_and c.from_residual-in_err-numbers.result c.from_residual-in_err-numbers.ensures.1 in
+    rw (p.1) (handed_on c.in_err-numbers.field-0.0 p.0 stop.ReadFault (g.P.Places.world c.args.places.now).faults (g.P.Places.world c.reach_files.new.places).faults p.2 c.in_err-numbers.ensures.counts_no_read)
+
+pub returns-clause-counts_no_read : goal.returns-clause-counts_no_read
+returns-clause-counts_no_read g c =
+    counts_then (g.P.Places.world c.args.places.now).faults (g.P.Places.world c.reach_files.new.places).faults (g.P.Places.world c.run_program.new.places).faults
+    (none_at_ok c.in_ok-numbers.numbers stop.ReadFault (g.P.Places.world c.args.places.now).faults (g.P.Places.world c.reach_files.new.places).faults c.in_ok-numbers.ensures.counts_no_read) c.run_program.ensures.counts_no_read

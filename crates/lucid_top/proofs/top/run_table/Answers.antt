@@ -1,4 +1,4 @@
-use Rattle.std.proofs.Common.{◌+◌, Some, refl, ap, ◌∙◌, length, arith}
+use Rattle.std.proofs.Common.{◌+◌, Some, refl, ap, ◌∙◌, length, arith, inr}
 use Rattle.std.proofs.lemmas.Result.{err_from_is_err_and}
 use Rattle.lucid_equations.specs.Programs.{table_of}
 use Rattle.lucid_words.specs.Plain.{plain_source}
@@ -7,6 +7,8 @@ use Rattle.lucid_top.specs.Flat.{most_flat_bytes}
 use Rattle.lucid_top.specs.Call.{Call, call, told}
 use Rattle.lucid_top.specs.Stages.{by_table}
 use Rattle.lucid_top.proofs.Ending.{within_flat, Begins, flat_stops, flat_of, memory_stops, first_place_le}
+use Rattle.lucid_top.specs.declared.stop.Stop.TheVariants as stop
+use Rattle.lucid_top.proofs.Counting.{none_at_ok, handed_on, counts_then}
 use Rattle.lucid_top.proofs.top.run_table.Goals as goal
 
 pub returns-in_err-program-clause-comes : goal.returns-in_err-program-clause-comes
@@ -25,7 +27,7 @@ returns-in_err-names-clause-comes g c =
 
 pub run_inputs-requires-clause-few : goal.run_inputs-requires-clause-few
 run_inputs-requires-clause-few g c =
-    let names = c.in_ok-program.ensures.spelt.spelt.sound.0.root.few in
+    let names = c.in_ok-program.ensures.spelt.spelt.sound.root.few in
     let same = ap length (c.deref.ensures.value ∙ c.in_ok-names.ensures ∙ c.items.ensures ∙ ap (λ t. t.inputs) c.table.ensures.value) in
     omega (arith, names, same)
 
@@ -62,3 +64,16 @@ returns-in_err-names-clause-within g c =
 pub returns-clause-within : goal.returns-clause-within
 returns-clause-within g c =
     within_flat (plain_words c.args.words.now) (plain_source c.args.words.now.source) (g.P.Places.world c.run_inputs.new.places) c.requires.form (c.run_inputs.ensures.within (most_flat_bytes + 1) c.in_ok-program.ensures.reached c.in_ok-program.ensures.within)
+
+pub returns-in_err-program-clause-counts_no_read : goal.returns-in_err-program-clause-counts_no_read
+returns-in_err-program-clause-counts_no_read g c =
+    let p = err_from_is_err_and c.from_residual.result c.from_residual.ensures.1 in
+    rw (p.1) (handed_on c.in_err-program.field-0.0 p.0 stop.ReadFault (g.P.Places.world c.args.places.now).faults (g.P.Places.world c.flat_program.new.places).faults p.2 c.in_err-program.ensures.counts_no_read)
+
+pub returns-in_err-names-clause-counts_no_read : goal.returns-in_err-names-clause-counts_no_read
+returns-in_err-names-clause-counts_no_read g c = inr (none_at_ok c.in_ok-program.program stop.ReadFault (g.P.Places.world c.args.places.now).faults (g.P.Places.world c.flat_program.new.places).faults c.in_ok-program.ensures.counts_no_read)
+
+pub returns-clause-counts_no_read : goal.returns-clause-counts_no_read
+returns-clause-counts_no_read g c =
+    counts_then (g.P.Places.world c.args.places.now).faults (g.P.Places.world c.flat_program.new.places).faults (g.P.Places.world c.run_inputs.new.places).faults
+    (none_at_ok c.in_ok-program.program stop.ReadFault (g.P.Places.world c.args.places.now).faults (g.P.Places.world c.flat_program.new.places).faults c.in_ok-program.ensures.counts_no_read) c.run_inputs.ensures.counts_no_read

@@ -1,4 +1,4 @@
-use Rattle.std.proofs.Common.{◌+◌, Some, refl, sym, ap, ◌∙◌, length, arith}
+use Rattle.std.proofs.Common.{◌+◌, Some, refl, sym, ap, ◌∙◌, length, arith, inr}
 use Rattle.std.proofs.lemmas.Result.{err_from_is_err_and}
 use Rattle.lucid_equations.specs.Programs.{table_of}
 use Rattle.lucid_scan.specs.Refusals.{most_source_bytes}
@@ -9,6 +9,8 @@ use Rattle.lucid_top.specs.Call.{Call, call, told}
 use Rattle.lucid_top.specs.Stages.{by_tree}
 use Rattle.lucid_top.proofs.Ending.{within_text, Begins, program_stops, run_not_print, memory_stops, inputs_of, names_of, first_place_le}
 use Rattle.lucid_top.proofs.Carrying.{runs_tree}
+use Rattle.lucid_top.specs.declared.stop.Stop.TheVariants as stop
+use Rattle.lucid_top.proofs.Counting.{none_at_ok, handed_on, counts_then}
 use Rattle.lucid_top.proofs.top.run_tree.Goals as goal
 
 pub returns-in_err-scoped-clause-comes : goal.returns-in_err-scoped-clause-comes
@@ -69,3 +71,16 @@ returns-in_err-program-clause-within g c =
 pub returns-clause-within : goal.returns-clause-within
 returns-clause-within g c =
     within_text (plain_words c.args.words.now) (plain_source c.args.words.now.source) (g.P.Places.world c.run_inputs.new.places) c.requires.form (c.run_inputs.ensures.within (most_source_bytes + 1) c.in_ok-scoped.ensures.reached c.in_ok-scoped.ensures.within)
+
+pub returns-in_err-scoped-clause-counts_no_read : goal.returns-in_err-scoped-clause-counts_no_read
+returns-in_err-scoped-clause-counts_no_read g c =
+    let p = err_from_is_err_and c.from_residual.result c.from_residual.ensures.1 in
+    rw (p.1) (handed_on c.in_err-scoped.field-0.0 p.0 stop.ReadFault (g.P.Places.world c.args.places.now).faults (g.P.Places.world c.program_of.new.places).faults p.2 c.in_err-scoped.ensures.counts_no_read)
+
+pub returns-in_err-program-clause-counts_no_read : goal.returns-in_err-program-clause-counts_no_read
+returns-in_err-program-clause-counts_no_read g c = inr (none_at_ok c.in_ok-scoped.scoped stop.ReadFault (g.P.Places.world c.args.places.now).faults (g.P.Places.world c.program_of.new.places).faults c.in_ok-scoped.ensures.counts_no_read)
+
+pub returns-clause-counts_no_read : goal.returns-clause-counts_no_read
+returns-clause-counts_no_read g c =
+    counts_then (g.P.Places.world c.args.places.now).faults (g.P.Places.world c.program_of.new.places).faults (g.P.Places.world c.run_inputs.new.places).faults
+    (none_at_ok c.in_ok-scoped.scoped stop.ReadFault (g.P.Places.world c.args.places.now).faults (g.P.Places.world c.program_of.new.places).faults c.in_ok-scoped.ensures.counts_no_read) c.run_inputs.ensures.counts_no_read

@@ -1,0 +1,102 @@
+-- The counting program is a witness of the headline.
+use Rattle.std.proofs.Common.{◌≡◌, ℕ, zero, suc, ◌≤◌, List, [], ◌++◌, Option, Some, None, false, inl, inr, refl, ◌∙◌, ap, arith}
+use Rattle.std.specs.Prelude.{codes}
+use Rattle.std.specs.Fmt.{digits}
+use Rattle.lucid_value.specs.Plain.{eod}
+use Rattle.lucid_value.specs.Laws.{TextIsRead}
+use Rattle.lucid_tree.specs.SamplePrograms.{number, counting}
+use Rattle.lucid_tree.specs.Output.{line}
+use Rattle.lucid_scan.specs.Laws.{TextsAreLongest}
+use Rattle.clap.proofs.OnLiterals.{clap_on_literals}
+use Rattle.lucid_words.specs.declared.PolicyWord.TheVariants as policy
+use Rattle.lucid_words.specs.Plain.{file}
+use Rattle.lucid_words.specs.Asked.{PlainWords, words_asked}
+use Rattle.lucid_top.specs.declared.status.Status.{Status}
+use Rattle.lucid_top.specs.declared.status.Status.TheVariants as status
+use Rattle.lucid_top.specs.Call.{Call}
+use Rattle.lucid_top.specs.Headline.{RunsProgram, elements, Lines, no_lines, one_line_more, Headline}
+use Rattle.lucid_top.specs.Witness.{three_lines, counting_source, three_numbers, CountsToThree, CountingIsAWitness}
+use Rattle.lucid_top.proofs.CountingSource.{counting-spelt, counting-no-fault, counting-inputs, counting-value}
+
+-- what the words ask for
+abbrev three_words : PlainWords
+three_words = record {
+  source = file (codes "p");
+  given = [];
+  count = 3;
+  depth = 100000;
+  policy = policy.Keep;
+  age = 10;
+  room = 10000;
+  stats = false;
+  print = false;
+  columns = [];
+  cycles = false;
+  why = None;
+  check = [];
+  flat = false;
+  from_flat = false;
+}
+
+words_are : words_asked three_lines ≡ Some three_words
+unfolding words_asked clap_on_literals
+words_are = refl
+
+no_input : {A : Type 0} (n : List ℕ) → ◌≡◌ {A = Option (List ℕ)} None (Some n) → A
+no_input n e = absurd (cc e)
+
+-- the first lines of the program are those of 0, 1, 2
+abbrev first_lines : ℕ → List ℕ
+first_lines zero = []
+first_lines (suc k) = first_lines k ++ line (number k)
+
+module _ (longest : TextsAreLongest) (read : TextIsRead) (c : Call) (is : CountsToThree c) where
+  abbrev runs : RunsProgram c
+  runs = record {
+    words = three_words;
+    name = codes "p";
+    source = counting_source;
+    program = counting;
+    inputs = [];
+    bytes_of = λ n. [];
+    already = [];
+    asked = is.asked ∙ words_are;
+    run = refl;
+    named = refl;
+    is_text = refl;
+    held = is.held;
+    spelt = counting-spelt longest read;
+    no_fault = counting-no-fault;
+    has_inputs = counting-inputs;
+    given = record { right = λ k lt. absurd (omega (arith, lt)); one_left = omega arith };
+    inputs_held = λ k n e. no_input n e;
+    told = is.nothing_written;
+  }
+
+  lines_are : (k : ℕ) (bytes : List ℕ) → Lines runs k bytes → k ≤ 3 → bytes ≡ first_lines k
+  lines_are _ _ no_lines le = refl
+  lines_are _ _ (one_line_more {k = k} {bytes = bytes} before v d goes_on) le =
+      ap (λ x. x ++ line v) (lines_are k bytes before (omega (arith, le)))
+      ∙ ap (λ w. first_lines k ++ line w) (counting-value (elements runs) k v (omega (arith, le)) d)
+
+  three : (s : Status) (h : Headline runs s) → s ≡ status.Done → h.whole ≡ 3
+  three s h e = elim (h.done e) [
+    | inl all ↦ all
+    | inr ends ↦ let never : eod ≡ number h.whole = counting-value (elements runs) h.whole eod ends.0 ends.1 in absurd (cc never)
+  ]
+
+  none_begun : (s : Status) (h : Headline runs s) → s ≡ status.Done → h.front ≡ []
+  none_begun s h e = elim h.begun [
+    | inl none ↦ none
+    | inr cut ↦ elim cut.0 [ inl f ↦ absurd (cc (e, f)) | inr f ↦ absurd (cc (e, f)) ]
+  ]
+
+  writes : (s : Status) → Headline runs s → s ≡ status.Done → c.out_after.bytes ≡ Some three_numbers
+  unfolding digits
+  writes s h e =
+      h.written
+      ∙ ap (λ f. Some (h.lines ++ f)) (none_begun s h e)
+      ∙ ap (λ l. Some (l ++ [])) (lines_are h.whole h.lines h.are_lines h.within ∙ ap first_lines (three s h e))
+
+pub counting-witness : TextsAreLongest → TextIsRead → CountingIsAWitness
+counting-witness longest read c is = record { runs = runs longest read c is; writes = writes longest read c is }

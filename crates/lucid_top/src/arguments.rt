@@ -1,0 +1,37 @@
+//! The command by all arguments of a command line.
+ghost use Rattle.std.specs.Prelude.{◌≡◌, drop, map};
+ghost use Rattle.std.specs.String.{string_bytes};
+ghost use Rattle.lucid_words.specs.Asked.{words_asked};
+ghost use Rattle.lucid_top.specs.Call.{call, told};
+ghost use Rattle.lucid_top.specs.Clauses.{MeetsClauses};
+
+use crate::status::Status;
+use crate::top::lucid;
+use lucid_ports::{Places, Sink};
+use std::alloc::Global;
+
+// The words after the command's own name.
+fn words_of(arguments: &[String]) -> &[String]
+    ensures { result.now ≡ drop 1 arguments.now }
+{
+    match arguments {
+        [_, words @ ..] => words,
+        [] => &[],
+    }
+}
+
+/// The command by all arguments of a command line, of which the first is the command's own name: does what the others ask for, as `lucid`.
+pub fn lucid_from_arguments<P: Places, K: Sink, E: Sink>(
+    alloc: Global,
+    arguments: &[String],
+    places: &mut P,
+    out: &mut K,
+    report: &mut E,
+) -> Status
+    requires { (P.world places.old).reached ≡ 0 }
+    ensures { MeetsClauses
+        (call (words_asked (map string_bytes (drop 1 arguments.now))) (P.world places.old) (P.world places.new) (told K.written K.faults out.old) (told K.written K.faults out.new))
+        (told E.written E.faults report.old) (told E.written E.faults report.new) result }
+{
+    lucid(alloc, words_of(arguments), places, out, report)
+}
