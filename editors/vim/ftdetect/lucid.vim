@@ -1,0 +1,2 @@
+" Files of pLucid programs are those that end in .lucid.
+autocmd BufRead,BufNewFile *.lucid setfiletype lucid

@@ -1,0 +1,2 @@
+for time in range(10):
+    print(time)

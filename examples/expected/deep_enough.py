@@ -1,0 +1,2 @@
+for time in range(10):
+    print(sum(range(time + 11)))

@@ -1,0 +1,2 @@
+for time in range(8):
+    print(3 * time)

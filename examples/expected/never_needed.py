@@ -1,0 +1,2 @@
+for n in range(20):
+    print(n)

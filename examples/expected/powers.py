@@ -1,0 +1,2 @@
+for exponent in range(20):
+    print(3 ** exponent)

@@ -1,0 +1,5 @@
+from pathlib import Path
+
+readings = [int(line) for line in Path(__file__).parents[1].joinpath("inputs/readings.txt").read_text().split()]
+for time in range(0, len(readings), 4):
+    print("[%", time, readings[time], "%]")

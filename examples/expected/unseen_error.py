@@ -1,0 +1,2 @@
+for n in range(1, 11):
+    print(1000 // n)

@@ -1,0 +1,6 @@
+from pathlib import Path
+
+readings = [int(line) for line in Path(__file__).parents[1].joinpath("inputs/readings.txt").read_text().split()]
+for reading in readings:
+    if reading > 20:
+        print(reading)
