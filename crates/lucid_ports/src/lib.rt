@@ -18,6 +18,7 @@ mod real_sink;
 mod run;
 mod sink;
 mod sources;
+mod standard_input;
 mod window;
 mod writing;
 

@@ -1,12 +1,13 @@
 // The real places.
-ghost use Rattle.std.specs.Prelude.{◌≡◌, ◌-◌, ◌≤◌, IfSome, IfNone, length};
+ghost use Rattle.std.specs.Prelude.{◌≡◌, ◌+◌, ◌-◌, ◌≤◌, IfSome, IfNone, length};
 ghost use Rattle.lucid_ports.specs.Faults.{faults_after};
 ghost use Rattle.lucid_ports.specs.RealPlacesView.{real_world};
 
+use crate::standard_input::StandardInput;
 use crate::window::Window;
 use crate::{Places, PortFault};
 use std::alloc::Global;
-use std::io::Read;
+use std::io::{BufRead, Read};
 use std::rt::Files;
 use std::{fs, io};
 
@@ -15,7 +16,8 @@ const STANDARD_INPUT: &str = "-";
 
 /// Files by their paths, and standard input under the name `-`. They tell nothing of contents.
 ///
-/// A file that can't be opened is a fault, and so is a failed read.
+/// A file that can't be opened is a fault, and so is a failed read. Where standard input can seek, what was shown of it and not consumed is
+/// given back when the places are dropped.
 #[derive(Drop)]
 pub struct RealPlaces<R, F, I> {
     rt: R,
@@ -32,7 +34,7 @@ struct RealPlace<F, I> {
 #[derive(Drop)]
 enum Source<F, I> {
     File(F),
-    Input(I),
+    Input(StandardInput<I>),
 }
 
 impl<R: Files + Input> RealPlaces<R, <R as Files>::File, <R as Input>::Reader> {
@@ -79,11 +81,11 @@ impl<R: Files + Input> Places for RealPlaces<R, <R as Files>::File, <R as Input>
     }
 
     fn consume(&mut self, place: u32, n: usize) {
-        self.places[place as usize].window.consume(n);
+        self.places[place as usize].consume(n);
     }
 }
 
-impl<F: Read, I: Read> RealPlace<F, I> {
+impl<F: Read, I: BufRead> RealPlace<F, I> {
     // Shows what is there, or else what one more read gives; none where that fails.
     fn fill(&mut self) -> Option<()>
         ensures used { IfSome result (λ _. self.new.window.used ≡ 0) }
@@ -92,8 +94,19 @@ impl<F: Read, I: Read> RealPlace<F, I> {
     {
         match &mut self.source {
             Source::File(file) => self.window.fill(file),
-            Source::Input(input) => self.window.fill(input),
+            Source::Input(input) => input.fill(&mut self.window),
         }
+    }
+
+    fn consume(&mut self, count: usize)
+        requires { count ≤ self.old.window.end - self.old.window.start }
+        ensures shown { self.new.window.end - self.new.window.start ≡ self.old.window.end - self.old.window.start - count }
+        ensures used { self.new.window.used ≡ self.old.window.used + count }
+    {
+        if let Source::Input(input) = &mut self.source {
+            input.consume(count);
+        }
+        self.window.consume(count);
     }
 }
 
@@ -102,7 +115,7 @@ fn open<R: Files + Input>(
     name: &str,
 ) -> io::Result<Source<<R as Files>::File, <R as Input>::Reader>> {
     if name == STANDARD_INPUT {
-        return Ok(Source::Input(rt.reader()));
+        return Ok(Source::Input(StandardInput::make(rt.reader())));
     }
     Ok(Source::File(fs::open(rt, name)?))
 }

@@ -2,7 +2,7 @@
 ghost use Rattle.std.specs.Prelude.{◌≡◌, ◌+◌, ◌-◌, ◌<◌, ◌≤◌, ◌^◌, length, IfOk, IfSome, IfNone, vec_len};
 
 use std::alloc::{AllocError, Global};
-use std::io::Read;
+use std::io::{BufRead, Read};
 
 const CAPACITY: usize = 65536;
 
@@ -52,6 +52,21 @@ impl Window {
         Some(())
     }
 
+    // Shows what is there, or else what the reader shows, which keeps it; none where that fails.
+    pub(crate) fn fill_ahead<R: BufRead>(&mut self, from: &mut R) -> Option<()>
+        ensures used { IfSome result (λ _. self.new.used ≡ 0) }
+        ensures shown { IfNone result (self.new.end - self.new.start ≡ self.old.end - self.old.start) }
+        ensures kept { IfNone result (self.new.used ≡ self.old.used) }
+    {
+        if self.start == self.end {
+            let count = copy_over(from, &mut self.buffer)?;
+            self.start = 0;
+            self.end = count;
+        }
+        self.used = 0;
+        Some(())
+    }
+
     pub(crate) fn consume(&mut self, count: usize)
         requires { count ≤ self.old.end - self.old.start }
         ensures shown { self.new.end - self.new.start ≡ self.old.end - self.old.start - count }
@@ -68,4 +83,15 @@ fn read_over<R: Read>(from: &mut R, buffer: &mut Vec<u8>) -> Option<usize>
     ensures bound { IfSome result (λ n. n ≤ vec_len buffer.new) }
 {
     from.read(buffer.as_mut_slice()).ok()
+}
+
+// Copies what the reader shows, as far as the buffer goes; nothing is taken of the reader.
+fn copy_over<R: BufRead>(from: &mut R, buffer: &mut Vec<u8>) -> Option<usize>
+    ensures len { vec_len buffer.new ≡ vec_len buffer.old }
+    ensures bound { IfSome result (λ n. n ≤ vec_len buffer.new) }
+{
+    let shown = from.fill_buf().ok()?;
+    let count = shown.len().min(buffer.len());
+    buffer[..count].copy_from_slice(&shown[..count]);
+    Some(count)
 }

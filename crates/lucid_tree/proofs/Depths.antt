@@ -1,5 +1,5 @@
 -- A tree is no deeper than it has nodes, and has no more nodes than places.
-use Rattle.std.proofs.Common.{ℕ, ◌≤◌, ◌++◌, length, arith, length-append}
+use Rattle.std.proofs.Common.{◌≤◌, ◌++◌, length, arith, length-append}
 use Rattle.lucid_tree.specs.Tree.{PlainTree, form, name, call, block, PlainTrees, no_trees, tree, PlainDefs, no_defs, defines, defines_function, defines_current}
 use Rattle.lucid_tree.specs.Size.{nodes, nodes_in, nodes_in_defs}
 use Rattle.lucid_tree.specs.WellMade.{depth, depths, depths_in_defs, places, places_in, places_in_defs}

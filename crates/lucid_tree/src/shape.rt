@@ -1,9 +1,11 @@
 //! What a node is: a form with its parts, a name, a call, or a block.
 ghost use Rattle.std.specs.Prelude.{◌≡◌};
 ghost use Rattle.lucid_tree.specs.Shape.{shape_tree, FitsShape};
+ghost use Rattle.lucid_tree.specs.Size.{count};
+ghost use Rattle.lucid_tree.specs.Tree.{no_trees, tree};
 
 use crate::parts::Parts;
-use crate::tree::{Defs, Kind, Tree};
+use crate::tree::{Defs, Kind, Tree, Trees};
 use lucid_ops::Op;
 use lucid_value::{Name, Value};
 
@@ -62,98 +64,24 @@ impl Tree {
     {
         let at = self.at;
         match &self.kind {
-            Kind::Const(value) => Shape::Form {
-                at,
-                head: Head::Const(value),
-                parts: Parts::slice(&[]),
-            },
+            Kind::Const(value) => none(at, Head::Const(value)),
             Kind::Name(name) => Shape::Name { at, name },
-            Kind::Call { name, args } => Shape::Call {
-                at,
-                name,
-                args: Parts::slice(args.items()),
-            },
-            Kind::Apply { op, args } => {
-                let items = args.items();
-                Shape::Form {
-                    at,
-                    head: Head::Apply {
-                        op: *op,
-                        arity: items.len(),
-                    },
-                    parts: Parts::slice(items),
-                }
-            }
-            Kind::If { test, yes, no } => Shape::Form {
-                at,
-                head: Head::Choose,
-                parts: Parts::three(test, yes, no),
-            },
-            Kind::And(a, b) => Shape::Form {
-                at,
-                head: Head::Both,
-                parts: Parts::two(a, b),
-            },
-            Kind::Or(a, b) => Shape::Form {
-                at,
-                head: Head::Either,
-                parts: Parts::two(a, b),
-            },
-            Kind::First(a) => Shape::Form {
-                at,
-                head: Head::First,
-                parts: Parts::one(a),
-            },
-            Kind::Next(a) => Shape::Form {
-                at,
-                head: Head::Next,
-                parts: Parts::one(a),
-            },
-            Kind::Fby(a, b) => Shape::Form {
-                at,
-                head: Head::Fby,
-                parts: Parts::two(a, b),
-            },
-            Kind::Whenever(a, b) => Shape::Form {
-                at,
-                head: Head::Whenever,
-                parts: Parts::two(a, b),
-            },
-            Kind::Asa(a, b) => Shape::Form {
-                at,
-                head: Head::Asa,
-                parts: Parts::two(a, b),
-            },
-            Kind::Upon(a, b) => Shape::Form {
-                at,
-                head: Head::Upon,
-                parts: Parts::two(a, b),
-            },
-            Kind::Attime(a, b) => Shape::Form {
-                at,
-                head: Head::Attime,
-                parts: Parts::two(a, b),
-            },
-            Kind::Initial(a) => Shape::Form {
-                at,
-                head: Head::Initial,
-                parts: Parts::one(a),
-            },
-            Kind::Succ(a) => Shape::Form {
-                at,
-                head: Head::Succ,
-                parts: Parts::one(a),
-            },
-            Kind::Sby(a, b) => Shape::Form {
-                at,
-                head: Head::Sby,
-                parts: Parts::two(a, b),
-            },
-            Kind::Atspace(a, b) => Shape::Form {
-                at,
-                head: Head::Atspace,
-                parts: Parts::two(a, b),
-            },
+            Kind::Call { name, args } => call(at, name, args),
+            Kind::Apply { op, args } => apply(at, *op, args),
+            Kind::If { test, yes, no } => three(at, Head::Choose, test, yes, no),
+            Kind::And(a, b) => two(at, Head::Both, a, b),
+            Kind::Or(a, b) => two(at, Head::Either, a, b),
+            Kind::First(a) => one(at, Head::First, a),
+            Kind::Next(a) => one(at, Head::Next, a),
+            Kind::Fby(a, b) => two(at, Head::Fby, a, b),
+            Kind::Whenever(a, b) => two(at, Head::Whenever, a, b),
+            Kind::Asa(a, b) => two(at, Head::Asa, a, b),
+            Kind::Upon(a, b) => two(at, Head::Upon, a, b),
+            Kind::Attime(a, b) => two(at, Head::Attime, a, b),
+            Kind::Initial(a) => one(at, Head::Initial, a),
+            Kind::Succ(a) => one(at, Head::Succ, a),
+            Kind::Sby(a, b) => two(at, Head::Sby, a, b),
+            Kind::Atspace(a, b) => two(at, Head::Atspace, a, b),
             Kind::Scope(block) => Shape::Scope {
                 at,
                 subject: &block.subject,
@@ -161,4 +89,56 @@ impl Tree {
             },
         }
     }
+}
+
+// A form without parts.
+fn none(at: u32, head: Head<'_>) -> Shape<'_>
+    ensures { result ≡ Shape.Form at head.entry no_trees }
+{
+    let parts = Parts::slice(&[]);
+    Shape::Form { at, head, parts }
+}
+
+// A form with one part.
+fn one<'a>(at: u32, head: Head<'a>, a: &'a Tree) -> Shape<'a>
+    ensures { result ≡ Shape.Form at head.entry (tree a.now no_trees) }
+{
+    let parts = Parts::one(a);
+    Shape::Form { at, head, parts }
+}
+
+// A form with two parts.
+fn two<'a>(at: u32, head: Head<'a>, a: &'a Tree, b: &'a Tree) -> Shape<'a>
+    ensures { result ≡ Shape.Form at head.entry (tree a.now (tree b.now no_trees)) }
+{
+    let parts = Parts::two(a, b);
+    Shape::Form { at, head, parts }
+}
+
+// A form with three parts.
+fn three<'a>(at: u32, head: Head<'a>, a: &'a Tree, b: &'a Tree, c: &'a Tree) -> Shape<'a>
+    ensures { result ≡ Shape.Form at head.entry (tree a.now (tree b.now (tree c.now no_trees))) }
+{
+    let parts = Parts::three(a, b, c);
+    Shape::Form { at, head, parts }
+}
+
+// A data operator with its arguments.
+fn apply(at: u32, op: Op, args: &Trees) -> Shape<'_>
+    ensures { result ≡ Shape.Form at (Head.Apply op (count args.now)) args.now }
+{
+    let head = Head::Apply {
+        op,
+        arity: args.items().len(),
+    };
+    let parts = args.parts();
+    Shape::Form { at, head, parts }
+}
+
+// A call with its arguments.
+fn call<'a>(at: u32, name: &'a Name, args: &'a Trees) -> Shape<'a>
+    ensures { result ≡ Shape.Call at name.entry args.now }
+{
+    let args = args.parts();
+    Shape::Call { at, name, args }
 }
