@@ -325,6 +325,16 @@ def the_flat_form_lists_the_inputs(run):
 
 
 @case
+def a_table_has_rows_for_what_nothing_reaches(run):
+    run.source("x where x = 0 fby x + 1; y = z * 7; z = 5; end")
+    table = run.lucid("--flat", "p")
+    kept = [it for it in table.out.decode().splitlines() if it.startswith(("plain ", "const "))]
+    check(sorted(it.split()[0] for it in kept) == ["const"] * 4 + ["plain"] * 3, shown(kept))
+    run.write("table", table.out)
+    run.lucid("--from-flat", "--count=2", "table").must(lines(0, 1))
+
+
+@case
 def a_table_goes_round(run):
     source = "c where c = n where e is current a; n = (if a eq e then 1 else 0 fi) fby n + (if next a eq e then 1 else 0 fi); end; end"
     run.source(source)

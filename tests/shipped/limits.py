@@ -164,10 +164,41 @@ def a_million_lines_in_little_memory_by_the_last_values(run):
 
 
 @long_case
-def want_of_memory_does_not_stall_a_run(run):
+def want_of_memory_slows_a_run_and_spoils_no_line(run):
     run.needs_a_plain_command()
     run.source(UP)
-    run.shell('ulimit -v 50000; timeout 10 "$LUCID" --count=1000000 p | tail -n 1').must(lines(999_999))
+    ended = run.shell('ulimit -v 50000; timeout 10 "$LUCID" --count=1000000 p')
+    got = ended.out.splitlines(keepends=True)
+    check(len(got) > 100_000, f"only {len(got)} lines came before the memory was used up and in ten seconds")
+    check(got == [b"%d\n" % k for k in range(len(got))], shown(ended.out[-60:]))
+
+
+@long_case
+def a_run_past_a_clearing(run):
+    # each line enters a context of its own and 100,000 inside it, so that more than 1,000,000 are known after ten
+    inner = "m attime 100000 where a is current n; m = a fby (y where x is current m; y = x + 1; end); end"
+    run.source(f"{inner} where n = 0 fby n + 1; end")
+    ended = run.lucid("p", "--count=12", "--depth=1000000", "--stats")
+    check(ended.status == 0 and ended.out.decode() == lines(*range(100_000, 100_012)), shown(ended.out))
+    check(ended.report.startswith(b"lines 12 held ") and ended.report.endswith(b" lost 0 cleared 1\n"), shown(ended.report))
+
+
+@case
+def a_list_and_a_string_that_are_built_at_their_ends(run):
+    run.source("x where x = [] fby x <> (n :: []); n = 0 fby n + 1; end")
+    last = run.lucid("p", "--count=1000").out.splitlines()[-1]
+    check(last == b"[% " + b" ".join(b"%d" % k for k in range(999)) + b" %]", shown(last[-60:]))
+    run.source("length (x attime 3000) where x = `a' fby x ^ `b'; end")
+    run.lucid("p", "--count=1").must(lines(3001))
+    run.source("nth(a, 9999)")
+    run.lucid("p", "--count=1", given="[% " + " ".join(str(k * k) for k in range(10_000)) + " %]\n").must(lines(9999 * 9999))
+
+
+@case
+def a_node_that_several_rows_of_a_table_name(run):
+    rows = "".join(f"node 0 apply add {k} {k} 0\n" for k in range(15))
+    run.write("table", f"lucid flat 1\nconst 1\nnode 0 const 0\n{rows}root 15\n")
+    run.lucid("--from-flat", "--count=1", "table").must(lines(2**15))
 
 
 @long_case

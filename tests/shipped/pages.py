@@ -6,6 +6,7 @@ A fence is what its first line says:
   ```input NAME         a file of that name for the programs up to the next heading; `-` is the standard input
   ```output STATUS      what the program above it writes, and the status where it isn't 0; each program has one
   ```report             what it writes on the standard error
+  ```antt FILE          the file of definitions, whole but for its first comment and the lines that import names
 
 All other fences are text. Tables whose columns have these names are run too, a row a program: `source`, `words`, `output` and
 `status`; `example` and `its values`, of the streams `n` and `p`; `example` and `value`; `program` and `line`, of `--cycles`.
@@ -13,6 +14,7 @@ All other fences are text. Tables whose columns have these names are run too, a 
 import os
 import re
 import shlex
+from itertools import zip_longest
 
 from harness import Case, Failed, check, lines, shown
 
@@ -84,6 +86,20 @@ def one(name, shown_program):
         run.source(it.source, "program.lucid")
         run.lucid("program.lucid", *it.words, given=it.inputs.get("-", "")).must(it.out, it.status, it.report)
     return Case(f"{name} line {shown_program.at}", work)
+
+
+def quoted(name, fence):
+    """The case that a fence quotes its file."""
+    def work(run):
+        with open(os.path.join(run.top, fence.words.strip()), encoding="utf-8") as it:
+            text = re.split(r"^use .*\n\n", it.read(), flags=re.MULTILINE)[-1]
+        check(fence.text == text, f"line {fence.at}: the file says {shown(first_other(text, fence.text))}")
+    return Case(f"{name} line {fence.at} of definitions", work)
+
+
+def first_other(text, other):
+    """The first line of a text that another one hasn't in its place."""
+    return next((a for a, b in zip_longest(text.splitlines(), other.splitlines()) if a != b), "")
 
 
 def spans(cell):
@@ -188,7 +204,8 @@ def in_page(top, name):
     with open(os.path.join(top, name), encoding="utf-8") as it:
         page = it.read()
     try:
-        return [one(name, it) for it in programs(page)] + rows(name, page)
+        quotes = [quoted(name, it) for it in fences(page) if it.kind == "antt"]
+        return [one(name, it) for it in programs(page)] + quotes + rows(name, page)
     except Failed as trouble:
         def work(_, trouble=trouble):
             raise trouble

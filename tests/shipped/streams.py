@@ -41,6 +41,16 @@ def standard_input_is_a_pipe_that_comes_by_single_bytes(run):
 
 
 @case
+def a_line_is_out_before_the_next_is_computed(run):
+    run.source("x where x = 1 fby f(60); f(n) = if n < 2 then n else f(n - 1) + f(n - 2) fi; end")
+    child = run.start(["p"])
+    check(line_from(child.stdout) == b"1\n", "the first line")
+    check(child.poll() is None, "the second value came at once")
+    os.killpg(child.pid, signal.SIGKILL)
+    child.communicate()
+
+
+@case
 def standard_input_is_a_file(run):
     run.source(SUM)
     with open(run.path(run.write("f", "3\n4\n5")), "rb") as given:
@@ -196,19 +206,22 @@ def of_a_pipe_at_most_65536_bytes_are_taken_past_the_line(run):
 
 
 @case
-def of_a_file_at_most_65536_bytes_are_taken_past_the_line(run):
-    given = lines(*range(100_000, 140_000))
-    out, left = left_of(run, "a", "--count=3", given, False)
-    check(out == given[:21].encode(), shown(out))
-    taken = len(given) - left
-    check(21 <= taken <= 21 + 65_536, f"{taken} bytes are gone")
-
-
-@case
 def of_a_file_what_was_not_needed_is_given_back(run):
     given = lines(*range(100_000, 140_000))
     _, left = left_of(run, "a", "--count=3", given, False)
     check(len(given) - left == 21, f"{len(given) - left} bytes are gone, and three lines have 21")
+
+
+@case
+def runs_that_share_a_file_each_go_on_where_the_one_before_ended(run):
+    run.source("a")
+    run.source(SUM, "sum")
+    run.write("f", "".join(f"{k}\n" for k in range(10_000)))
+    ended = run.shell('("$LUCID" --count=3 p; "$LUCID" --count=2 sum; "$LUCID" --count=3000 p | tail -n 1; head -n 1) < f')
+    ended.must(lines(0, 1, 2, 3, 7, 3004, 3005))
+    for text, rest in (("7", ""), ("\n", ""), ("7\n8", "8"), ("7\n\n", "\n")):
+        run.write("f", text)
+        run.shell('("$LUCID" --count=1 p; cat) < f').must(lines("error" if text == "\n" else 7) + rest)
 
 
 @case

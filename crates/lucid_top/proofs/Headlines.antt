@@ -40,7 +40,7 @@ use Rattle.lucid_top.specs.Files.{file_given, files_for}
 use Rattle.lucid_top.specs.Stages.{IsSource, IsTold, Asks, HasNames, by_tree, IsRun}
 use Rattle.lucid_top.specs.Runs.{run_of, view_of, run_result, most_input_bytes, first_place}
 use Rattle.lucid_top.specs.Clauses.{ReadFails, WriteFails, TellsSource, ComesOnly, MeetsClauses}
-use Rattle.lucid_top.specs.Headline.{RunsProgram, elements, Lines, no_lines, one_line_more, IsFrontOfNext, IsConsulted, ForSomeAdded, ConsultsOverlong, ConsumesWithin, Headline, HeadlineFollows}
+use Rattle.lucid_top.specs.Headline.{RunsProgram, elements, Has, Lines, no_lines, one_line_more, IsConsulted, ForSomeAdded, ConsultsOverlong, ConsumesWithin, Headline, HeadlineFollows}
 use Rattle.lucid_top.proofs.OneCall.{same_words}
 use Rattle.lucid_top.proofs.RunEnds.{in_range}
 
@@ -50,21 +50,21 @@ module _ (c : Call) (g : RunsProgram c) where
 
   -- the stages of the call
   abbrev asks : Asks c
-  asks = record { words = g.words; read = g.asked; built = ap (λ t. is_built t (form_of g.words)) g.run }
+  asks = record { words = g.words; read = g.asked; built = ap (λ t. is_built t (form_of g.words)) g.run.0 }
 
   is_source : IsSource g.words.source c.before g.source
-  is_source = subst (λ s. IsSource s c.before g.source) (sym g.named) (subst (λ o. IfSome o (λ held. g.source ≡ held)) (sym g.held) refl)
+  is_source = subst (λ s. IsSource s c.before g.source) (sym g.run.1.0) (subst (λ o. IfSome o (λ held. g.source ≡ held)) (sym g.held) refl)
 
   is_told : IsTold g.words.source c.before
-  is_told = subst (λ s. IsTold s c.before) (sym g.named) (subst (λ o. IsSome o) (sym g.held) refl)
+  is_told = subst (λ s. IsTold s c.before) (sym g.run.1.0) (subst (λ o. IsSome o) (sym g.held) refl)
 
   no_flat : form_of g.words ≢ form.Flat
   no_flat e =
-      let is : form_of g.words ≡ form.Text = ap (λ s. form_for s g.words.from_flat) g.named ∙ ap (λ f. form_for (file g.name) f) g.is_text in
+      let is : form_of g.words ≡ form.Text = ap (λ s. form_for s g.words.from_flat) g.run.1.0 ∙ ap (λ f. form_for (file g.name) f) g.run.1.1 in
       absurd (cc (e, is))
 
   no_print : task_of g.words ≢ task.Print
-  no_print e = let is = g.run in absurd (cc (e, is))
+  no_print e = let is = g.run.0 in absurd (cc (e, is))
 
   abbrev names : HasNames c
   names = record {
@@ -76,7 +76,7 @@ module _ (c : Call) (g : RunsProgram c) where
   }
 
   abbrev is_run : IsRun c
-  is_run = record { program = by_tree names; task = g.run; fits = g.given }
+  is_run = record { program = by_tree names; task = g.run.0; fits = g.given }
 
   tells : TellsSource c
   tells a = subst (λ (w : PlainWords). IsTold w.source c.before) (same_words asks a) is_told
@@ -86,7 +86,7 @@ module _ (c : Call) (g : RunsProgram c) where
 
   -- the place of an input: its file is told before the run
   first_is : first_place g.words.source ≡ 1
-  first_is = ap first_place g.named
+  first_is = ap first_place g.run.1.0
 
   place_of : (k : ℕ) (n : List ℕ) → slice_get g.inputs k ≡ Some n → slice_get view.places k ≡ Some (1 + k)
   place_of k n is =
@@ -115,8 +115,12 @@ module _ (c : Call) (g : RunsProgram c) where
       subst (λ x. Lines g (suc k) (bytes ++ x)) (sym stands.3)
       (one_line_more (lines_of k bytes before) stands.0 (means-derives b g.program empty k 0 stands.0 stands.1) stands.2)
 
+  -- a front of the line that stands next
+  abbrev IsFrontOfNext : (whole : ℕ) → List ℕ → Type 0
+  IsFrontOfNext whole front = (v : PlainValue) × (n : ℕ) × Has g whole v × (v ≡ eod → ⊥) × (n < length (line v)) × (front ≡ take n (line v))
+
   begun_of : (whole : ℕ) (front : List ℕ) (P : Type 0) → run.IsBegun (stream_subject (tree_stream g.program)) b g.words.count whole front → (front ≡ []) ⊎ P
-      → (front ≡ []) ⊎ (P × (whole < g.words.count) × IsFrontOfNext g whole front)
+      → (front ≡ []) ⊎ (P × (whole < g.words.count) × IsFrontOfNext whole front)
   begun_of whole front P (inl none) cut = inl none
   begun_of whole front P (inr x) (inl none) = inl none
   begun_of whole front P (inr x) (inr cut) =
@@ -129,15 +133,15 @@ module _ (c : Call) (g : RunsProgram c) where
   consulted_too whole d n j x = (x.0, x.1.0, x.1.1, x.2)
 
   some_added : (P Q : ℕ → Type 0) → ((d : ℕ) → P d → Q d) → run.ForSomeAdded view P → ForSomeAdded Q
-  some_added P Q h x = record { added = x.added; holds = λ d le. h d (x.holds d le) }
+  some_added P Q h x = (x.added, λ d le. h d (x.holds d le))
 
   overlong_too : (whole k : ℕ) → run.ConsultsOverlong (stream_subject (tree_stream g.program)) b view whole k → ConsultsOverlong g whole
-  overlong_too whole k x = record {
-    input = x.name;
-    index = x.index;
-    consulted = some_added (λ d. run.IsConsulted (stream_subject (tree_stream g.program)) b view whole d (x.name, x.index)) (λ d. IsConsulted g whole d x.name x.index) (λ d. consulted_too whole d x.name x.index) x.consulted;
-    overlong = subst (λ o. IfSome o (λ y. IsOverlong (all_bytes y) x.index most_input_bytes)) (file_is k x.name x.place x.is.0 x.is.1) x.overlong;
-  }
+  overlong_too whole k x = (
+    x.name,
+    x.index,
+    some_added (λ d. run.IsConsulted (stream_subject (tree_stream g.program)) b view whole d (x.name, x.index)) (λ d. IsConsulted g whole d x.name x.index) (λ d. consulted_too whole d x.name x.index) x.consulted,
+    subst (λ o. IfSome o (λ y. IsOverlong (all_bytes y) x.index most_input_bytes)) (file_is k x.name x.place x.is.0 x.is.1) x.overlong
+  )
 
   -- the place of an input that was reached, after the run
   after_is : (q : ℕ) → q < c.after.reached → view.after.place q ≡ c.after.place q

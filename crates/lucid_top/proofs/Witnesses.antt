@@ -61,9 +61,7 @@ module _ (longest : TextsAreLongest) (read : TextIsRead) (c : Call) (is : Counts
     bytes_of = λ n. [];
     already = [];
     asked = is.asked ∙ words_are;
-    run = refl;
-    named = refl;
-    is_text = refl;
+    run = (refl, refl, refl);
     held = is.held;
     spelt = counting-spelt longest read;
     no_fault = counting-no-fault;

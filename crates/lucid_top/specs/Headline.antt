@@ -39,9 +39,7 @@ pub record RunsProgram (c : Call) : Type 0 where
   pub bytes_of : (input : List ℕ) → List ℕ
   pub already : List ℕ
   pub asked : c.asked ≡ Some words
-  pub run : task_of words ≡ task.Run
-  pub named : words.source ≡ file name
-  pub is_text : words.from_flat ≡ false
+  pub run : (task_of words ≡ task.Run) × (words.source ≡ file name) × (words.from_flat ≡ false)
   pub held : c.before.holds name ≡ Some source
   pub spelt : Spelt source program
   pub no_fault : HasNoFault program
@@ -67,26 +65,18 @@ pub data Lines {c : Call} (r : RunsProgram c) : (k : ℕ) → (bytes : List ℕ)
   no_lines : Lines r zero []
   one_line_more : {k : ℕ} {bytes : List ℕ} → Lines r k bytes → (v : PlainValue) → Has r k v → (v ≡ eod → ⊥) → Lines r (suc k) (bytes ++ line v)
 
--- a front of the line that stands next, without its end
-abbrev pub IsFrontOfNext : {c : Call} → RunsProgram c → (whole : ℕ) → (front : List ℕ) → Type 0
-IsFrontOfNext r whole front = (v : PlainValue) × (n : ℕ) × Has r whole v × (v ≡ eod → ⊥) × (n < length (line v)) × (front ≡ take n (line v))
-
 -- At a time below the count, the one after the whole lines at most, the approximation of the depth limit consults the element of the input;
 -- its choices are those of the approximation that is greater by the added number.
 abbrev pub IsConsulted : {c : Call} → RunsProgram c → (whole added : ℕ) → (input : List ℕ) → (index : ℕ) → Type 0
 IsConsulted r whole d n j = (t : ℕ) × (t < r.words.count) × (t ≤ whole) × In (n, j) (consults (elements r) r.words.depth d r.program empty t 0)
 
 -- so it is for each added number from some on
-pub record ForSomeAdded (P : ℕ → Type 0) : Type 0 where
-  pub added : ℕ
-  pub holds : (d : ℕ) → added ≤ d → P d
+abbrev pub ForSomeAdded : (ℕ → Type 0) → Type 0
+ForSomeAdded P = (a : ℕ) × ((d : ℕ) → a ≤ d → P d)
 
 -- an element that is consulted lies past the bytes of its input that may be read
-pub record ConsultsOverlong {c : Call} (r : RunsProgram c) (whole : ℕ) : Type 0 where
-  pub input : List ℕ
-  pub index : ℕ
-  pub consulted : ForSomeAdded (λ d. IsConsulted r whole d input index)
-  pub overlong : IsOverlong (r.bytes_of input) index most_input_bytes
+abbrev pub ConsultsOverlong : {c : Call} → RunsProgram c → (whole : ℕ) → Type 0
+ConsultsOverlong r whole = (n : List ℕ) × (j : ℕ) × ForSomeAdded (λ d. IsConsulted r whole d n j) × IsOverlong (r.bytes_of n) j most_input_bytes
 
 -- Of each input that was reached no more is consumed than through the end of the line of an element that is consulted.
 abbrev pub ConsumesWithin : {c : Call} → RunsProgram c → (whole added : ℕ) → Type 0
@@ -96,13 +86,14 @@ ConsumesWithin {c} r whole d = (k : ℕ) (n : List ℕ) (new : Contents) → sli
 -- The headline.
 pub record Headline {c : Call} (r : RunsProgram c) (s : Status) : Type 0 where
   -- What is written are the first lines of the program, in order and without gaps; where a write failed or there was no memory, also a front of
-  -- the next.
+  -- the next, without its end.
   pub whole : ℕ
   pub lines : List ℕ
   pub front : List ℕ
   pub within : whole ≤ r.words.count
   pub are_lines : Lines r whole lines
-  pub begun : (front ≡ []) ⊎ (((s ≡ status.WriteFault) ⊎ (s ≡ status.NoMemory)) × (whole < r.words.count) × IsFrontOfNext r whole front)
+  pub begun : (front ≡ []) ⊎ (((s ≡ status.WriteFault) ⊎ (s ≡ status.NoMemory)) × (whole < r.words.count)
+      × ((v : PlainValue) × (n : ℕ) × Has r whole v × (v ≡ eod → ⊥) × (n < length (line v)) × (front ≡ take n (line v))))
   pub written : c.out_after.bytes ≡ Some (r.already ++ (lines ++ front))
   -- Done: as many lines as the count, or up to the first end of data.
   pub done : s ≡ status.Done → (whole ≡ r.words.count) ⊎ ((whole < r.words.count) × Has r whole eod)
@@ -111,7 +102,7 @@ pub record Headline {c : Call} (r : RunsProgram c) (s : Status) : Type 0 where
   -- Complete: where it is defined there, no call failed and nothing overlong is consulted, the end of data stands there, or there was no memory.
   pub complete : whole < r.words.count → IsSome (at_limit r whole) → (ReadFails c → ⊥) → (WriteFails c → ⊥) → (ConsultsOverlong r whole → ⊥)
       → (s ≡ status.Done) ⊎ (s ≡ status.NoMemory)
-  -- No other status comes without its cause, and none of a refusal.
+  -- An input too large, a failed read and a failed write come with their causes alone, and no refusal comes; want of memory may come at any time.
   pub too_large : s ≡ status.TooLarge → ConsultsOverlong r whole
   pub read_fault : s ≡ status.ReadFault → ReadFails c
   pub write_fault : s ≡ status.WriteFault → WriteFails c
