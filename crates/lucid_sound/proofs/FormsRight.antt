@@ -5,7 +5,7 @@ use Rattle.lucid_equations.specs.Rows.{parts}
 use Rattle.lucid_equations.specs.Ranges.{EachBelow}
 use Rattle.lucid_equations.specs.Sound.{EachStandsIn, ReferenceLeads, CallLeads}
 use Rattle.lucid_equations.specs.declared.rows.Node.{Node}
-use Rattle.lucid_equations.specs.declared.rows.Node.TheVariants.{Const, Input, Apply, Freeze, Refer, Call}
+use Rattle.lucid_equations.specs.declared.rows.Node.TheVariants.{Const, Input, Freeze, Refer, Call}
 use Rattle.lucid_equations.specs.declared.rows.NodeRow.{NodeRow}
 use Rattle.lucid_equations.specs.declared.table.Table.{Table}
 use Rattle.lucid_sound.specs.WrongRows.{NodeIsRight}
@@ -53,12 +53,6 @@ module _ (t : Table) where
   pub form-node : (s id : ℕ) (n : Node) → s < length t.scopes → FormIsRight t s id n → NodeIsRight t id (row_of s n)
   form-node s id (Const k) here h = record { here = here; nests = record { lower = tt; stand = tt; there = h; filled = tt }; refers = λ n l e. cc; calls = λ n q l e. cc }
   form-node s id (Input k) here h = record { here = here; nests = record { lower = tt; stand = tt; there = h; filled = tt }; refers = λ n l e. cc; calls = λ n q l e. cc }
-  form-node s id (Apply op args) here h = record {
-    here = here;
-    nests = record { lower = parts-below t.nodes s id _ h.0; stand = parts-stand t.nodes s id _ h.0; there = tt; filled = h.1 };
-    refers = λ n l e. cc;
-    calls = λ n q l e. cc;
-  }
   form-node s id (Freeze a) here h = record {
     here = here;
     nests = record { lower = (h.lower, tt); stand = (h.inner, h.frozen, h.stands); there = tt; filled = tt };
@@ -83,7 +77,7 @@ module _ (t : Table) where
   }
   form-node s id n here h = record {
     here = here;
-    nests = record { lower = parts-below t.nodes s id (parts n) h; stand = parts-stand t.nodes s id (parts n) h; there = tt; filled = tt };
+    nests = record { lower = parts-below t.nodes s id (parts n) h.0; stand = parts-stand t.nodes s id (parts n) h.0; there = tt; filled = h.1 };
     refers = λ n l e. cc;
     calls = λ n q l e. cc;
   }
@@ -91,8 +85,7 @@ module _ (t : Table) where
   pub node-form : (s id : ℕ) (n : Node) → NodeIsRight t id (row_of s n) → FormIsRight t s id n
   node-form s id (Const k) h = h.nests.there
   node-form s id (Input k) h = h.nests.there
-  node-form s id (Apply op args) h = (parts-right t.nodes s id _ h.nests.lower h.nests.stand, h.nests.filled)
   node-form s id (Freeze a) h = record { inner = h.nests.stand.0; lower = h.nests.lower.0; frozen = h.nests.stand.1; stands = h.nests.stand.2 }
   node-form s id (Refer m k) h = h.refers m k refl
   node-form s id (Call m p k) h = (call-callee s m p k (h.calls m p k refl), call-place s m p k (h.calls m p k refl))
-  node-form s id n h = parts-right t.nodes s id (parts n) h.nests.lower h.nests.stand
+  node-form s id n h = (parts-right t.nodes s id (parts n) h.nests.lower h.nests.stand, h.nests.filled)

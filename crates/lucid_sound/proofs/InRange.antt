@@ -3,7 +3,7 @@ use Rattle.std.proofs.Common.{◌≡◌, ℕ, suc, ◌+◌, ◌<◌, ◌≤◌, 
 use Rattle.std.specs.Option.{option_map}
 use Rattle.std.proofs.lemmas.Option.{none-some, same_Some, slice_get_within}
 use Rattle.lucid_equations.specs.Ranges.{EachBelow, Sizes, sizes, NodeIsInRange, NodesAreInRange, EntryIsInRange, NamesAreInRange, PlacesAreInRange, IsInRange}
-use Rattle.lucid_equations.specs.Sound.{StandsIn, EachStandsIn, EntryStands}
+use Rattle.lucid_equations.specs.Sound.{StandsIn, EachStandsIn, EntryStands, IsSound}
 use Rattle.lucid_equations.specs.declared.rows.Entry.{Entry}
 use Rattle.lucid_equations.specs.declared.rows.Entry.TheVariants.{Plain, Parameter, Current, Called}
 use Rattle.lucid_equations.specs.declared.rows.NodeRow.{NodeRow}
@@ -11,6 +11,7 @@ use Rattle.lucid_equations.specs.declared.rows.NameRow.{NameRow}
 use Rattle.lucid_equations.specs.declared.rows.PlaceRow.{PlaceRow}
 use Rattle.lucid_equations.specs.declared.table.Table.{Table}
 use Rattle.lucid_sound.specs.WrongRows.{RowsAreRight}
+use Rattle.lucid_sound.proofs.Rights.{sound-rights}
 
 -- the row of a node that stands in a scope
 pub row-there : (o : Option NodeRow) (s : ℕ) → option_map (λ r. r.scope) o ≡ Some s → (r : NodeRow) × (o ≡ Some r) × (r.scope ≡ s)
@@ -18,7 +19,7 @@ row-there None s e = absurd (none-some s e)
 row-there (Some r) s e = (r, refl, same_Some r.scope s e)
 
 -- a node that stands in a scope is there
-pub stands-below : (rs : List NodeRow) (s id : ℕ) → StandsIn rs s id → id < length rs
+stands-below : (rs : List NodeRow) (s id : ℕ) → StandsIn rs s id → id < length rs
 stands-below rs s id h = let r = row-there (slice_get rs id) s h in slice_get_within rs id r.0 r.1
 
 each-below : (rs : List NodeRow) (s : ℕ) (is : List ℕ) → EachStandsIn rs s is → EachBelow (length rs) is
@@ -59,3 +60,7 @@ module _ (t : Table) where
     names-in-range (sizes t) t.names (λ id r at. entry-in-range t r.scope r.kind (h.names id r at).stands),
     places-in-range (sizes t) t.places (λ id r at. each-below t.nodes r.scope r.actuals (h.places id r at).passes.stand),
   )
+
+-- and so are those of a sound one
+pub sound-in_range : (t : Table) → IsSound t → IsInRange t
+sound-in_range t sound = in-range t (sound-rights t sound) sound.root.root sound.root.few

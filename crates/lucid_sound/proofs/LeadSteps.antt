@@ -18,7 +18,7 @@ use Rattle.lucid_sound.specs.Met.{IsMet, IsReference}
 use Rattle.lucid_sound.specs.Met.IsMet.{the_root, part, subject, gone_on}
 use Rattle.lucid_sound.specs.Fits.{Fits, DatonFits}
 use Rattle.lucid_sound.specs.Fits.Fits.{empty, called, frozen}
-use Rattle.lucid_sound.proofs.LeadRange.{sound-in_range}
+use Rattle.lucid_sound.proofs.InRange.{sound-in_range}
 use Rattle.lucid_sound.proofs.LeadRows.{Stands, stands-right}
 use Rattle.lucid_sound.proofs.LeadCuts.{same-parent, CalledFrame, called-frame, frozen-frame, fits-cut}
 

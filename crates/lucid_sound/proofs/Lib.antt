@@ -7,7 +7,6 @@ pub mod InRange
 pub mod Wanting
 pub mod Leaping
 pub mod NamesRight
-pub mod LeadRange
 pub mod LeadRows
 pub mod LeadCuts
 pub mod LeadSteps

@@ -1,14 +1,13 @@
 -- What is right of a node, in parts: its parts, a frozen subject, the callee and the place of a call, and each node by its form; and what is
 -- right of a name, by the row of its scope.
-use Rattle.std.specs.Prelude.{◌≡◌, ℕ, ◌<◌, List, [], ◌∷◌, length, Some, slice_get, drop}
-use Rattle.lucid_ops.specs.Arity.{arity}
+use Rattle.std.specs.Prelude.{◌≡◌, ℕ, ◌<◌, List, [], ◌∷◌, length, Some, slice_get}
 use Rattle.lucid_equations.specs.Rows.{parts}
-use Rattle.lucid_equations.specs.Sound.{ScopeIs, StandsIn, AreZero, IsRound, HasDepth, NameIs, ReferenceLeads}
+use Rattle.lucid_equations.specs.Sound.{ScopeIs, StandsIn, IsFilled, IsRound, HasDepth, NameIs, ReferenceLeads}
 use Rattle.lucid_equations.specs.declared.rows.ScopeKind.{ScopeKind}
 use Rattle.lucid_equations.specs.declared.rows.ScopeKind.TheVariants.{Called as CalledScope, Frozen as FrozenScope}
 use Rattle.lucid_equations.specs.declared.rows.ScopeRow.{ScopeRow}
 use Rattle.lucid_equations.specs.declared.rows.Node.{Node}
-use Rattle.lucid_equations.specs.declared.rows.Node.TheVariants.{Const, Input, Apply, Freeze, Refer, Call}
+use Rattle.lucid_equations.specs.declared.rows.Node.TheVariants.{Const, Input, Freeze, Refer, Call}
 use Rattle.lucid_equations.specs.declared.rows.Entry.{Entry}
 use Rattle.lucid_equations.specs.declared.rows.Entry.TheVariants.{Plain, Parameter, Current, Called}
 use Rattle.lucid_equations.specs.declared.rows.NodeRow.{NodeRow}
@@ -57,8 +56,7 @@ module _ (t : Table) where
   abbrev pub FormIsRight : (scope id : ℕ) → Node → Type 0
   FormIsRight s id (Const k) = k < length t.constants
   FormIsRight s id (Input k) = k < length t.inputs
-  FormIsRight s id (Apply op args) = ArePartsRight t.nodes s id (parts (Apply op args)) × AreZero (drop (arity op) args)
   FormIsRight s id (Freeze a) = SubjectStands s id a
   FormIsRight s id (Refer n l) = ReferenceLeads t s n l
   FormIsRight s id (Call n q l) = CalleeLeads s n l × PlaceLeads s n q
-  FormIsRight s id n = ArePartsRight t.nodes s id (parts n)
+  FormIsRight s id n = ArePartsRight t.nodes s id (parts n) × IsFilled n

@@ -1,6 +1,6 @@
 //! Whether the rows of nodes are right.
 ghost use Rattle.std.specs.Prelude.{◌≡◌, ◌<◌, ◌↔◌, length, true, MatchOption};
-ghost use Rattle.lucid_equations.specs.Sound.{AreZero, ReferenceLeads};
+ghost use Rattle.lucid_equations.specs.Sound.{AreZero, IsFilled, ReferenceLeads};
 ghost use Rattle.lucid_sound.specs.Forms.{ArePartsRight, SubjectStands, CalleeLeads, PlaceLeads, FormIsRight};
 ghost use Rattle.lucid_sound.specs.Nests.{IsNest};
 ghost use Rattle.lucid_sound.specs.WrongRows.{ScopeIsRight, AllRight, NodeIsRight, IsFirstWrong, NodesAreRight};
@@ -30,6 +30,16 @@ fn are_zero(numbers: &[u32]) -> bool
         }
     }
     true
+}
+
+// Whether the numbers past an operator's arity are 0.
+fn is_filled(node: Node) -> bool
+    ensures { (result ≡ true) ↔ IsFilled node }
+{
+    match node {
+        Node::Apply { op, args } => are_zero(&args[op.arity()..]),
+        _ => true,
+    }
 }
 
 // Whether a frozen subject has a lower number and stands in a frozen scope right inside the scope.
@@ -103,31 +113,17 @@ fn is_form_right(table: &Table, nest: &Nest, scope: u32, id: usize, node: Node) 
     ensures { (result ≡ true) ↔ FormIsRight table.now scope id node }
 {
     let rows = table.nodes.items();
+    let parts = node.parts();
     match node {
         Node::Const { constant } => (constant as usize) < table.constants.items().len(),
         Node::Input { stream } => (stream as usize) < table.inputs.items().len(),
-        Node::Apply { op, args } => {
-            are_parts_right(rows, scope, id, &args[..op.arity()]) && are_zero(&args[op.arity()..])
-        }
-        Node::If { test, yes, no } => are_parts_right(rows, scope, id, &[test, yes, no]),
-        Node::And { left, right }
-        | Node::Or { left, right }
-        | Node::Fby { left, right }
-        | Node::Whenever { left, right }
-        | Node::Asa { left, right }
-        | Node::Upon { left, right }
-        | Node::Attime { left, right }
-        | Node::Sby { left, right }
-        | Node::Atspace { left, right } => are_parts_right(rows, scope, id, &[left, right]),
-        Node::First { of } | Node::Next { of } | Node::Initial { of } | Node::Succ { of } => {
-            are_parts_right(rows, scope, id, &[of])
-        }
         Node::Freeze { subject } => is_subject_right(table, scope, id, subject),
         Node::Refer { name, level } => is_reference_right(table, nest, scope, name, level),
         Node::Call { name, place, level } => {
             is_callee_right(table, nest, scope, name, level)
                 && is_place_of(table, scope, name, place)
         }
+        _ => are_parts_right(rows, scope, id, parts.as_slice()) && is_filled(node),
     }
 }
 

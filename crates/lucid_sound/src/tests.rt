@@ -22,81 +22,59 @@ struct Rows {
     second_input: u8,
 }
 
+fn scope(parent: u32, kind: ScopeKind) -> ScopeRow {
+    ScopeRow { parent, kind }
+}
+
+fn node(scope: u32, node: Node) -> NodeRow {
+    NodeRow { scope, node }
+}
+
+fn name(scope: u32, kind: Entry) -> NameRow {
+    NameRow { scope, kind }
+}
+
+// The sum of two nodes, with a third number past the arity.
+fn sum(left: u32, right: u32, past: u32) -> Node {
+    let op = Op::Add;
+    Node::Apply {
+        op,
+        args: [left, right, past],
+    }
+}
+
+// A call at the first place.
+fn call(name: u32) -> Node {
+    Node::Call {
+        name,
+        place: 0,
+        level: 0,
+    }
+}
+
 // A plain name that is a call of a function, whose right side is its parameter; a frozen time with a current name; their sum. Scope 3 has no rows.
 fn sound() -> Rows {
     Rows {
         scopes: [
-            ScopeRow {
-                parent: 0,
-                kind: ScopeKind::Root,
-            },
-            ScopeRow {
-                parent: 0,
-                kind: ScopeKind::Called,
-            },
-            ScopeRow {
-                parent: 0,
-                kind: ScopeKind::Frozen,
-            },
-            ScopeRow {
-                parent: 2,
-                kind: ScopeKind::Called,
-            },
+            scope(0, ScopeKind::Root),
+            scope(0, ScopeKind::Called),
+            scope(0, ScopeKind::Frozen),
+            scope(2, ScopeKind::Called),
         ],
         nodes: [
-            NodeRow {
-                scope: 0,
-                node: Node::Input { stream: 1 },
-            },
-            NodeRow {
-                scope: 1,
-                node: Node::Refer { name: 1, level: 1 },
-            },
-            NodeRow {
-                scope: 0,
-                node: Node::Call {
-                    name: 2,
-                    place: 0,
-                    level: 0,
-                },
-            },
-            NodeRow {
-                scope: 2,
-                node: Node::Refer { name: 3, level: 1 },
-            },
-            NodeRow {
-                scope: 0,
-                node: Node::Freeze { subject: 3 },
-            },
-            NodeRow {
-                scope: 0,
-                node: Node::Refer { name: 0, level: 0 },
-            },
-            NodeRow {
-                scope: 0,
-                node: Node::Apply {
-                    op: Op::Add,
-                    args: [4, 5, 0],
-                },
-            },
+            node(0, Node::Input { stream: 1 }),
+            node(1, Node::Refer { name: 1, level: 1 }),
+            node(0, call(2)),
+            node(2, Node::Refer { name: 3, level: 1 }),
+            node(0, Node::Freeze { subject: 3 }),
+            node(0, Node::Refer { name: 0, level: 0 }),
+            node(0, sum(4, 5, 0)),
         ],
         names: [
-            NameRow {
-                scope: 0,
-                kind: Entry::Plain { body: 2 },
-            },
-            NameRow {
-                scope: 1,
-                kind: Entry::Parameter { index: 0 },
-            },
-            NameRow {
-                scope: 1,
-                kind: Entry::Called { body: 1 },
-            },
-            NameRow {
-                scope: 2,
-                kind: Entry::Current { body: 0 },
-            },
+            name(0, Entry::Plain { body: 2 }),
+            name(1, Entry::Parameter { index: 0 }),
+            name(1, Entry::Called { body: 1 }),
+            name(2, Entry::Current { body: 0 }),
         ],
         actual: 0,
         root: 6,
@@ -159,10 +137,7 @@ fn scopes_nest(rt: HostRuntime) -> Result<(), Fail> {
 #[test]
 fn the_numbers_past_an_arity_are_0(rt: HostRuntime) -> Result<(), Fail> {
     let mut rows = sound();
-    rows.nodes[6].node = Node::Apply {
-        op: Op::Add,
-        args: [4, 5, 1],
-    };
+    rows.nodes[6].node = sum(4, 5, 1);
     is_refused(rt.alloc(), &rt, &rows, "node 6 is wrong")
 }
 
@@ -176,11 +151,7 @@ fn a_reference_has_the_depth_of_its_name(rt: HostRuntime) -> Result<(), Fail> {
 #[test]
 fn a_call_leads_to_a_called_name(rt: HostRuntime) -> Result<(), Fail> {
     let mut rows = sound();
-    rows.nodes[2].node = Node::Call {
-        name: 0,
-        place: 0,
-        level: 0,
-    };
+    rows.nodes[2].node = call(0);
     is_refused(rt.alloc(), &rt, &rows, "node 2 is wrong")
 }
 
@@ -216,9 +187,6 @@ fn the_names_of_inputs_differ(rt: HostRuntime) -> Result<(), Fail> {
 fn the_scope_of_a_row_is_there(rt: HostRuntime) -> Result<(), Fail> {
     let mut rows = sound();
     rows.root = 5;
-    rows.nodes[6] = NodeRow {
-        scope: 4,
-        node: Node::Const { constant: 0 },
-    };
+    rows.nodes[6] = node(4, Node::Const { constant: 0 });
     is_refused(rt.alloc(), &rt, &rows, "node 6 is wrong")
 }
