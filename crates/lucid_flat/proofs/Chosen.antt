@@ -1,7 +1,8 @@
 -- Lemmas on choices by words, and on what a step of reading gave.
-use Rattle.std.proofs.Common.{◌≡◌, ℕ, Bool, true, false, cond, List, [], ◌∷◌, Option, Some, ◌⊎◌, inl, inr, refl, sym, ap, ◌∙◌}
-use Rattle.std.specs.List.{find}
+use Rattle.std.proofs.Common.{◌≡◌, ℕ, Bool, true, false, cond, List, [], ◌∷◌, Option, Some, ◌⊎◌, inl, inr, refl, sym, ap, ◌∙◌, subst}
+use Rattle.std.specs.List.{AllByRecursion, find}
 use Rattle.std.specs.Str.{bytes_eq}
+use Rattle.std.proofs.lemmas.Option.{same_Some}
 use Rattle.std.proofs.lemmas.Slice.Eq.{bytes_eq-Decides}
 use Rattle.lucid_flat.specs.Words.{is_end}
 
@@ -27,6 +28,15 @@ found_by p x y o false h e k = k e
 pub found : {A : Type 0} (p : A → Bool) (xs : List A) (y : A) → find p xs ≡ Some y → p y ≡ true
 found p [] y e = absurd (cc)
 found p (x ∷ xs) y e = found_by p x y (find p xs) (p x) refl e (found p xs y)
+
+-- and has what all have
+among_by : {A : Type 0} (P : A → Type 0) (x y : A) (o : Option A) (b : Bool) → cond b (Some x) o ≡ Some y → P x → (o ≡ Some y → P y) → P y
+among_by P x y o true e h k = subst P (same_Some x y e) h
+among_by P x y o false e h k = k e
+
+pub found_among : {A : Type 0} (P : A → Type 0) (p : A → Bool) (xs : List A) (y : A) → AllByRecursion P xs → find p xs ≡ Some y → P y
+found_among P p [] y h e = absurd (cc)
+found_among P p (x ∷ xs) y h e = among_by P x y (find p xs) (p x) e h.0 (found_among P p xs y h.1)
 
 -- no word is left
 pub no_word : (ws : List (List ℕ)) → is_end ws ≡ true → ws ≡ []

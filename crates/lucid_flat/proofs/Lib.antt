@@ -7,8 +7,8 @@ pub mod TextMade
 pub mod Rising
 pub mod Gathering
 pub mod LineBytes
+pub mod Threes
 pub mod NodesRead
-pub mod NodesGiven
 pub mod RowsGiven
 pub mod TailsRead
 pub mod RowLemmas

@@ -13,13 +13,13 @@ use Rattle.lucid_value.specs.Plain.{PlainValue, int, truth, word, text, list, eo
 use Rattle.lucid_value.specs.Names.{is_name, is_namelike, is_name_byte, is_reserved}
 use Rattle.lucid_value.specs.ValueText.{value_text, items_text}
 use Rattle.lucid_ops.specs.declared.op.Op.{Op}
-use Rattle.lucid_ops.specs.declared.op.Op.TheVariants.{Add, Sub, Mul, Div, Mod, Pow, Neg, Abs, Eq, Ne, Lt, Le, Gt, Ge, Cmp, Not, Head, Tail, Cons, Append, Join, Length, Substr, Nth, MakeWord, MakeString, IsInt, IsWord, IsString, IsList, IsTruth, IsNull, IsAtom, IsEod, IsError}
+use Rattle.lucid_ops.specs.declared.op.Op.TheVariants.{Add}
 use Rattle.lucid_equations.specs.Ranges.{EachBelow}
 use Rattle.lucid_equations.specs.declared.rows.ScopeKind.{ScopeKind}
 use Rattle.lucid_equations.specs.declared.rows.ScopeKind.TheVariants.{Root, Called as CalledScope, Frozen as FrozenScope}
 use Rattle.lucid_equations.specs.declared.rows.Node.{Node}
-use Rattle.lucid_equations.specs.declared.rows.Node.TheVariants.{Const, Input, Apply, If, And, Or, First, Next, Fby, Whenever, Asa, Upon, Attime, Initial, Succ, Sby, Atspace, Freeze, Refer, Call}
-use Rattle.lucid_flat.specs.FlatText.{kind_word, op_word, node_words}
+use Rattle.lucid_equations.specs.declared.rows.Node.TheVariants.{Apply}
+use Rattle.lucid_flat.specs.FlatText.{kind_word, op_word, form_word, node_numbers, node_words}
 use Rattle.lucid_flat.specs.FlatTables.{NodeFits}
 use Rattle.lucid_flat.specs.Words.{HasNone}
 
@@ -135,63 +135,16 @@ decimals_solid (n ∷ ns) h = (decimal_solid n h.0, decimals_solid ns h.1)
 
 op_solid : (op : Op) → IsSolid (op_word op)
 op_solid Add = refl
-op_solid Sub = refl
-op_solid Mul = refl
-op_solid Div = refl
-op_solid Mod = refl
-op_solid Pow = refl
-op_solid Neg = refl
-op_solid Abs = refl
-op_solid Eq = refl
-op_solid Ne = refl
-op_solid Lt = refl
-op_solid Le = refl
-op_solid Gt = refl
-op_solid Ge = refl
-op_solid Cmp = refl
-op_solid Not = refl
-op_solid Head = refl
-op_solid Tail = refl
-op_solid Cons = refl
-op_solid Append = refl
-op_solid Join = refl
-op_solid Length = refl
-op_solid Substr = refl
-op_solid Nth = refl
-op_solid MakeWord = refl
-op_solid MakeString = refl
-op_solid IsInt = refl
-op_solid IsWord = refl
-op_solid IsString = refl
-op_solid IsList = refl
-op_solid IsTruth = refl
-op_solid IsNull = refl
-op_solid IsAtom = refl
-op_solid IsEod = refl
-op_solid IsError = refl
+op_solid op = refl
+
+form_solid : (n : Node) → IsSolid (form_word n)
+form_solid (Apply op args) = refl
+form_solid n = refl
 
 -- and so are the words of a node
 pub node_solid : (n : Node) → NodeFits n → AllByRecursion IsSolid (node_words n)
 node_solid (Apply op args) h = (refl, (op_solid op, decimals_solid args h.0))
-node_solid (Const a) h = (refl, (decimal_solid a h, tt))
-node_solid (Input a) h = (refl, (decimal_solid a h, tt))
-node_solid (First a) h = (refl, (decimal_solid a h, tt))
-node_solid (Next a) h = (refl, (decimal_solid a h, tt))
-node_solid (Initial a) h = (refl, (decimal_solid a h, tt))
-node_solid (Succ a) h = (refl, (decimal_solid a h, tt))
-node_solid (Freeze a) h = (refl, (decimal_solid a h, tt))
-node_solid (And a b) h = (refl, (decimal_solid a h.0, (decimal_solid b h.1, tt)))
-node_solid (Or a b) h = (refl, (decimal_solid a h.0, (decimal_solid b h.1, tt)))
-node_solid (Fby a b) h = (refl, (decimal_solid a h.0, (decimal_solid b h.1, tt)))
-node_solid (Whenever a b) h = (refl, (decimal_solid a h.0, (decimal_solid b h.1, tt)))
-node_solid (Asa a b) h = (refl, (decimal_solid a h.0, (decimal_solid b h.1, tt)))
-node_solid (Upon a b) h = (refl, (decimal_solid a h.0, (decimal_solid b h.1, tt)))
-node_solid (Attime a b) h = (refl, (decimal_solid a h.0, (decimal_solid b h.1, tt)))
-node_solid (Sby a b) h = (refl, (decimal_solid a h.0, (decimal_solid b h.1, tt)))
-node_solid (Atspace a b) h = (refl, (decimal_solid a h.0, (decimal_solid b h.1, tt)))
-node_solid (Refer a b) h = (refl, (decimal_solid a h.0, (decimal_solid b h.1, tt)))
-node_solid (If a b c) h = (refl, (decimal_solid a h.0, (decimal_solid b h.1, (decimal_solid c h.2, tt))))
-node_solid (Call a b c) h = (refl, (decimal_solid a h.0, (decimal_solid b h.1, (decimal_solid c h.2, tt))))
+node_solid n h = (form_solid n, decimals_solid (node_numbers n) h.0)
 
 pub kind_solid : (k : ScopeKind) → IsSolid (kind_word k)
 kind_solid Root = refl

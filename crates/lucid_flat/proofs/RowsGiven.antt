@@ -1,5 +1,5 @@
 -- A row's line: its first word and the words behind it, which are read as the row.
-use Rattle.std.proofs.Common.{◌≡◌, ◌≢◌, ℕ, ◌<◌, ◌^◌, List, [], ◌∷◌, ◌++◌, map, length, Some, refl, ap, ◌∙◌}
+use Rattle.std.proofs.Common.{◌≡◌, ◌≢◌, ℕ, ◌<◌, ◌^◌, List, [], ◌∷◌, ◌++◌, map, length, Some, refl, ap, ◌∙◌, arith}
 use Rattle.std.specs.Prelude.{decimal, codes}
 use Rattle.std.specs.List.{AllByRecursion, join_with_byte}
 use Rattle.std.specs.Option.{option_map}
@@ -16,10 +16,11 @@ use Rattle.lucid_equations.specs.declared.rows.NameRow.{NameRow}
 use Rattle.lucid_equations.specs.declared.rows.PlaceRow.{PlaceRow}
 use Rattle.lucid_flat.specs.FlatText.{FlatRow, scope_row, input_row, constant_row, node_row, name_row, place_row, root_row, kind_word, node_words, entry_word, entry_number, row_line}
 use Rattle.lucid_flat.specs.FlatTables.{NodeFits, RowFits}
-use Rattle.lucid_flat.specs.Words.{words_of, numbers_of}
-use Rattle.lucid_flat.specs.RowTails.{kind_of, scope_of, input_of, node_row_of, pair_of, entry_of, name_of, few_numbers_of, place_of, root_of, tail_row}
+use Rattle.lucid_flat.specs.Words.{words_of, numbers_of, exactly}
+use Rattle.lucid_flat.specs.RowTails.{kind_of, scope_of, input_of, node_row_of, entry_of, name_of, few_numbers_of, place_of, root_of, tail_row}
 use Rattle.lucid_flat.proofs.LineBytes.{Lacks, has_none, IsSolid, all_solid_lack, decimal_solid, decimals_solid, node_solid, kind_solid}
-use Rattle.lucid_flat.proofs.NodesGiven.{node_of-words}
+use Rattle.lucid_flat.proofs.NodesRead.{node_of-words}
+use Rattle.lucid_flat.proofs.Threes.{as_three, exactly-words}
 use Rattle.lucid_flat.proofs.WordLemmas.{words_of_one, words_of_more, number_of-decimal, take_number-decimal}
 
 -- the first word of a row's line, and the words behind it
@@ -89,10 +90,6 @@ node_row_of-words : (r : NodeRow) → r.scope < 2 ^ 32 → NodeFits r.node → n
 unfolding node_row_of
 node_row_of-words r h k = rw (take_number-decimal r.scope (node_words r.node) h, node_of-words r.node k) refl
 
-pair_of-words : (a b : ℕ) → a < 2 ^ 32 → b < 2 ^ 32 → pair_of (decimal a ∷ decimal b ∷ []) ≡ Some (a, b)
-unfolding pair_of
-pair_of-words a b h k = rw (take_number-decimal a (decimal b ∷ []) h, take_number-decimal b [] k) refl
-
 entry_of-word : (e : Entry) → entry_of (entry_word e) (entry_number e) ≡ Some e
 entry_of-word (Plain a) = refl
 entry_of-word (Parameter i) = refl
@@ -101,7 +98,10 @@ entry_of-word (Called a) = refl
 
 name_of-words : (r : NameRow) → r.scope < 2 ^ 32 → entry_number r.kind < 2 ^ 32 → name_of (entry_word r.kind) (decimal r.scope ∷ decimal (entry_number r.kind) ∷ []) ≡ Some r
 unfolding name_of
-name_of-words r h k = rw (pair_of-words r.scope (entry_number r.kind) h k, entry_of-word r.kind) refl
+name_of-words r h k =
+    let ns = r.scope ∷ entry_number r.kind ∷ [] in
+    let e : exactly 2 (decimal r.scope ∷ decimal (entry_number r.kind) ∷ []) ≡ Some (as_three ns) = exactly-words ns (h, (k, tt)) (omega arith, omega arith) in
+    rw (e, entry_of-word r.kind) refl
 
 numbers_of-words : (ns : List ℕ) → EachBelow (2 ^ 32) ns → numbers_of (map decimal ns) ≡ Some ns
 numbers_of-words [] h = refl
@@ -117,7 +117,8 @@ place_of-words r h =
 
 root_of-words : (n : ℕ) → n < 2 ^ 32 → root_of (decimal n ∷ []) ≡ Some n
 unfolding root_of
-root_of-words n h = rw (take_number-decimal n [] h) refl
+root_of-words n h =
+    let e : exactly 1 (decimal n ∷ []) ≡ Some (as_three (n ∷ [])) = exactly-words (n ∷ []) (h, tt) (omega arith, omega arith) in rw e refl
 
 -- a row that is no constant
 abbrev pub IsNoConstant : FlatRow → Type 0

@@ -1,5 +1,5 @@
 -- A row that was read from a line has that line.
-use Rattle.std.proofs.Common.{◌≡◌, ◌≢◌, ℕ, ◌<◌, ◌^◌, cond, List, [], ◌∷◌, ◌++◌, map, length, Option, Some, None, ◌⊎◌, inl, inr, refl, sym, ap, ◌∙◌, subst}
+use Rattle.std.proofs.Common.{◌≡◌, ◌≢◌, ℕ, ◌<◌, ◌^◌, cond, List, [], ◌∷◌, ◌++◌, map, length, take, Option, Some, None, ◌⊎◌, inl, inr, refl, sym, ap, ◌∙◌, subst}
 use Rattle.std.specs.Prelude.{decimal, codes, nat_lt, IsTrue}
 use Rattle.std.specs.List.{join_with_byte}
 use Rattle.std.specs.Option.{option_map}
@@ -19,11 +19,12 @@ use Rattle.lucid_equations.specs.declared.rows.NameRow.{NameRow}
 use Rattle.lucid_equations.specs.declared.rows.PlaceRow.{PlaceRow}
 use Rattle.lucid_flat.specs.FlatText.{FlatRow, scope_row, input_row, node_row, name_row, place_row, root_row, kind_word, entry_word, entry_number, row_line}
 use Rattle.lucid_flat.specs.FlatTables.{RowFits}
-use Rattle.lucid_flat.specs.Words.{words_of, number_of, numbers_of, take_word, take_number, is_end}
-use Rattle.lucid_flat.specs.RowTails.{kind_of, scope_of, input_of, node_row_of, pair_of, entry_of, name_of, few_numbers_of, place_of, root_of, tail_row}
+use Rattle.lucid_flat.specs.Words.{words_of, number_of, numbers_of, take_word, take_number, is_end, exactly, listed}
+use Rattle.lucid_flat.specs.RowTails.{kind_of, scope_of, input_of, node_row_of, entry_of, name_of, few_numbers_of, place_of, root_of, tail_row}
 use Rattle.lucid_flat.proofs.Chosen.{by_word, no_word}
 use Rattle.lucid_flat.proofs.NodesRead.{node_read}
 use Rattle.lucid_flat.proofs.RowsGiven.{row_head, row_rest, line_parts}
+use Rattle.lucid_flat.proofs.Threes.{exactly_read}
 use Rattle.lucid_flat.proofs.WordLemmas.{number_of_some, taken}
 
 -- a kind that was read has its word, and is no root's
@@ -74,16 +75,6 @@ node_row_read ws r e =
     subst P (same_Some (record { scope = s.0; node = n }) r l) (d.0 ∙ ap (λ (us : List (List ℕ)). decimal s.0 ∷ us) g.0, (d.1, g.1))))
 
 -- two numbers
-pair_read : (ws : List (List ℕ)) (p : ℕ × ℕ) → pair_of ws ≡ Some p → (ws ≡ decimal p.0 ∷ decimal p.1 ∷ []) × (p.0 < 2 ^ 32) × (p.1 < 2 ^ 32)
-unfolding pair_of
-pair_read ws p e =
-    option_and_then_some _ (take_number ws) p e (λ a t k.
-    option_and_then_some _ (take_number a.1) p k (λ b u l.
-    let q = cond_some (is_end b.1) (a.0, b.0) p l in
-    let d = taken ws a t in
-    let g = taken a.1 b u in
-    let words = d.0 ∙ ap (λ (us : List (List ℕ)). decimal a.0 ∷ us) (g.0 ∙ ap (λ (us : List (List ℕ)). decimal b.0 ∷ us) (no_word b.1 q.0)) in
-    let P : ℕ × ℕ → Type 0 = λ x. (ws ≡ decimal x.0 ∷ decimal x.1 ∷ []) × (x.0 < 2 ^ 32) × (x.1 < 2 ^ 32) in subst P q.1 (words, d.1, g.1)))
 
 -- an entry with its word and its number
 abbrev IsEntry : List ℕ → ℕ → Entry → Type 0
@@ -120,12 +111,15 @@ entry_read w n e h =
 name_read : (w : List ℕ) (ws : List (List ℕ)) (r : NameRow) → name_of w ws ≡ Some r → (w ≡ entry_word r.kind) × Reads ws (name_row r)
 unfolding name_of
 name_read w ws r e =
-    option_and_then_some _ (pair_of ws) r e (λ p t k.
-    option_and_then_some _ (entry_of w p.1) r k (λ x u l.
-    let d = pair_read ws p t in
-    let g = entry_read w p.1 x u in
+    option_and_then_some _ (exactly 2 ws) r e (λ ns t k.
+    option_and_then_some _ (entry_of w ns.second) r k (λ x u l.
+    let d = exactly_read 2 ws ns t in
+    let g = entry_read w ns.second x u in
+    let both : listed ns ≡ ns.first ∷ ns.second ∷ [] = ap (λ i. take i (ns.first ∷ ns.second ∷ ns.third ∷ [])) d.1 in
+    let below = subst (EachBelow (2 ^ 32)) both d.0.1 in
+    let words = (d.0.0 ∙ ap (map decimal) both) ∙ ap (λ (n : ℕ). decimal ns.first ∷ decimal n ∷ []) g.1 in
     let P : NameRow → Type 0 = λ y. (w ≡ entry_word y.kind) × Reads ws (name_row y) in
-    subst P (same_Some (record { scope = p.0; kind = x }) r l) (g.0, (d.0 ∙ ap (λ (n : ℕ). decimal p.0 ∷ decimal n ∷ []) g.1, (d.1, subst (λ n. n < 2 ^ 32) g.1 d.2)))))
+    subst P (same_Some (record { scope = ns.first; kind = x }) r l) (g.0, (words, (below.0, subst (λ n. n < 2 ^ 32) g.1 below.1.0)))))
 
 -- numbers that were read
 numbers_read : (ws : List (List ℕ)) (ns : List ℕ) → numbers_of ws ≡ Some ns → (ws ≡ map decimal ns) × EachBelow (2 ^ 32) ns
@@ -164,10 +158,11 @@ place_read ws r e =
 root_read : (ws : List (List ℕ)) (n : ℕ) → root_of ws ≡ Some n → Reads ws (root_row n)
 unfolding root_of
 root_read ws n e =
-    option_and_then_some _ (take_number ws) n e (λ a t k.
-    let q = cond_some (is_end a.1) a.0 n k in
-    let d = taken ws a t in
-    let P : ℕ → Type 0 = λ x. Reads ws (root_row x) in subst P q.1 (d.0 ∙ ap (λ (us : List (List ℕ)). decimal a.0 ∷ us) (no_word a.1 q.0), d.1))
+    option_and_then_some _ (exactly 1 ws) n e (λ ns t k.
+    let d = exactly_read 1 ws ns t in
+    let first : listed ns ≡ ns.first ∷ [] = ap (λ i. take i (ns.first ∷ ns.second ∷ ns.third ∷ [])) d.1 in
+    let P : ℕ → Type 0 = λ x. Reads ws (root_row x) in
+    subst P (same_Some ns.first n k) (d.0.0 ∙ ap (map decimal) first, (subst (EachBelow (2 ^ 32)) first d.0.1).0))
 
 -- the line of the first word and what is behind it
 abbrev pub HasLine : (w t : List ℕ) → FlatRow → Type 0

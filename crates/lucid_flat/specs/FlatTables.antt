@@ -8,9 +8,9 @@ use Rattle.lucid_equations.specs.Sound.{ScopeIs}
 use Rattle.lucid_equations.specs.declared.rows.ScopeKind.{ScopeKind}
 use Rattle.lucid_equations.specs.declared.rows.ScopeKind.TheVariants.{Root}
 use Rattle.lucid_equations.specs.declared.rows.Node.{Node}
-use Rattle.lucid_equations.specs.declared.rows.Node.TheVariants.{Const, Input, Apply, If, And, Or, First, Next, Fby, Whenever, Asa, Upon, Attime, Initial, Succ, Sby, Atspace, Freeze, Refer, Call}
+use Rattle.lucid_equations.specs.declared.rows.Node.TheVariants.{Apply}
 use Rattle.lucid_equations.specs.declared.table.Table.{Table}
-use Rattle.lucid_flat.specs.FlatText.{FlatRow, scope_row, input_row, constant_row, node_row, name_row, place_row, root_row, entry_number, flat_rows, flat_lines, flat_text}
+use Rattle.lucid_flat.specs.FlatText.{FlatRow, scope_row, input_row, constant_row, node_row, name_row, place_row, root_row, node_numbers, entry_number, flat_rows, flat_lines, flat_text}
 
 -- scope 0 is there, is its own parent and is the one root
 pub record HasOneRoot (t : Table) : Type 0 where
@@ -28,28 +28,14 @@ Are32 ns = EachBelow (2 ^ 32) ns
 abbrev pub IsShort : {A : Type 0} → List A → Type 0
 IsShort xs = length xs < 2 ^ 32
 
+-- a data operator has three numbers
+abbrev pub HasPlaces : Node → Type 0
+HasPlaces (Apply op args) = length args ≡ 3
+HasPlaces _ = Unit {0}
+
 -- the numbers of a node are of 32 bits, those of a data operator three
 abbrev pub NodeFits : Node → Type 0
-NodeFits (Const k) = Is32 k
-NodeFits (Input k) = Is32 k
-NodeFits (Apply op args) = Are32 args × (length args ≡ 3)
-NodeFits (If a b c) = Is32 a × Is32 b × Is32 c
-NodeFits (And a b) = Is32 a × Is32 b
-NodeFits (Or a b) = Is32 a × Is32 b
-NodeFits (First a) = Is32 a
-NodeFits (Next a) = Is32 a
-NodeFits (Fby a b) = Is32 a × Is32 b
-NodeFits (Whenever a b) = Is32 a × Is32 b
-NodeFits (Asa a b) = Is32 a × Is32 b
-NodeFits (Upon a b) = Is32 a × Is32 b
-NodeFits (Attime a b) = Is32 a × Is32 b
-NodeFits (Initial a) = Is32 a
-NodeFits (Succ a) = Is32 a
-NodeFits (Sby a b) = Is32 a × Is32 b
-NodeFits (Atspace a b) = Is32 a × Is32 b
-NodeFits (Freeze a) = Is32 a
-NodeFits (Refer n l) = Is32 n × Is32 l
-NodeFits (Call n q l) = Is32 n × Is32 q × Is32 l
+NodeFits n = Are32 (node_numbers n) × HasPlaces n
 
 -- A row that a line may have: its numbers are of 32 bits, a name is a name, a constant is a value, and no scope is another root.
 abbrev pub RowFits : FlatRow → Type 0

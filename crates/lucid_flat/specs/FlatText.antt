@@ -6,6 +6,7 @@ use Rattle.lucid_value.specs.Plain.{PlainValue}
 use Rattle.lucid_value.specs.ValueText.{value_text}
 use Rattle.lucid_ops.specs.declared.op.Op.{Op}
 use Rattle.lucid_ops.specs.declared.op.Op.TheVariants.{Add, Sub, Mul, Div, Mod, Pow, Neg, Abs, Eq, Ne, Lt, Le, Gt, Ge, Cmp, Not, Head, Tail, Cons, Append, Join, Length, Substr, Nth, MakeWord, MakeString, IsInt, IsWord, IsString, IsList, IsTruth, IsNull, IsAtom, IsEod, IsError}
+use Rattle.lucid_equations.specs.Rows.{parts}
 use Rattle.lucid_equations.specs.declared.rows.ScopeKind.{ScopeKind}
 use Rattle.lucid_equations.specs.declared.rows.ScopeKind.TheVariants.{Root, Called as CalledScope, Frozen as FrozenScope}
 use Rattle.lucid_equations.specs.declared.rows.ScopeRow.{ScopeRow}
@@ -82,28 +83,42 @@ op_word IsError = codes "iserror"
 abbrev pub worded : List ℕ → List ℕ → List (List ℕ)
 worded w ns = w ∷ map decimal ns
 
--- The words of a node: its form in lower-case letters, of a data operator the operator too, and the numbers in the order of the fields.
+-- the word of a node's form, in lower-case letters
+abbrev pub form_word : Node → List ℕ
+form_word (Const k) = codes "const"
+form_word (Input k) = codes "input"
+form_word (Apply op args) = codes "apply"
+form_word (If a b c) = codes "if"
+form_word (And a b) = codes "and"
+form_word (Or a b) = codes "or"
+form_word (First a) = codes "first"
+form_word (Next a) = codes "next"
+form_word (Fby a b) = codes "fby"
+form_word (Whenever a b) = codes "whenever"
+form_word (Asa a b) = codes "asa"
+form_word (Upon a b) = codes "upon"
+form_word (Attime a b) = codes "attime"
+form_word (Initial a) = codes "initial"
+form_word (Succ a) = codes "succ"
+form_word (Sby a b) = codes "sby"
+form_word (Atspace a b) = codes "atspace"
+form_word (Freeze a) = codes "freeze"
+form_word (Refer n l) = codes "refer"
+form_word (Call n q l) = codes "call"
+
+-- a node's numbers in the order of its fields: its parts, but of a data operator also those past its arity, and what has no parts has others
+abbrev pub node_numbers : Node → List ℕ
+node_numbers (Const k) = k ∷ []
+node_numbers (Input k) = k ∷ []
+node_numbers (Apply op args) = args
+node_numbers (Refer n l) = n ∷ l ∷ []
+node_numbers (Call n q l) = n ∷ q ∷ l ∷ []
+node_numbers n = parts n
+
+-- The words of a node: its form's, of a data operator the operator's too, and its numbers.
 abbrev pub node_words : Node → List (List ℕ)
-node_words (Const k) = worded (codes "const") (k ∷ [])
-node_words (Input k) = worded (codes "input") (k ∷ [])
 node_words (Apply op args) = codes "apply" ∷ worded (op_word op) args
-node_words (If a b c) = worded (codes "if") (a ∷ b ∷ c ∷ [])
-node_words (And a b) = worded (codes "and") (a ∷ b ∷ [])
-node_words (Or a b) = worded (codes "or") (a ∷ b ∷ [])
-node_words (First a) = worded (codes "first") (a ∷ [])
-node_words (Next a) = worded (codes "next") (a ∷ [])
-node_words (Fby a b) = worded (codes "fby") (a ∷ b ∷ [])
-node_words (Whenever a b) = worded (codes "whenever") (a ∷ b ∷ [])
-node_words (Asa a b) = worded (codes "asa") (a ∷ b ∷ [])
-node_words (Upon a b) = worded (codes "upon") (a ∷ b ∷ [])
-node_words (Attime a b) = worded (codes "attime") (a ∷ b ∷ [])
-node_words (Initial a) = worded (codes "initial") (a ∷ [])
-node_words (Succ a) = worded (codes "succ") (a ∷ [])
-node_words (Sby a b) = worded (codes "sby") (a ∷ b ∷ [])
-node_words (Atspace a b) = worded (codes "atspace") (a ∷ b ∷ [])
-node_words (Freeze a) = worded (codes "freeze") (a ∷ [])
-node_words (Refer n l) = worded (codes "refer") (n ∷ l ∷ [])
-node_words (Call n q l) = worded (codes "call") (n ∷ q ∷ l ∷ [])
+node_words n = worded (form_word n) (node_numbers n)
 
 -- the word of a name's kind
 abbrev pub entry_word : Entry → List ℕ

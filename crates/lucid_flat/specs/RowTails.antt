@@ -12,7 +12,7 @@ use Rattle.lucid_equations.specs.declared.rows.NodeRow.{NodeRow}
 use Rattle.lucid_equations.specs.declared.rows.NameRow.{NameRow}
 use Rattle.lucid_equations.specs.declared.rows.PlaceRow.{PlaceRow}
 use Rattle.lucid_flat.specs.FlatText.{FlatRow, scope_row, input_row, node_row, name_row, place_row, root_row}
-use Rattle.lucid_flat.specs.Words.{◌>>=◌, words_of, take_word, take_number, numbers_of, is_end}
+use Rattle.lucid_flat.specs.Words.{◌>>=◌, words_of, take_word, take_number, numbers_of, is_end, exactly}
 use Rattle.lucid_flat.specs.Forms.{node_of}
 
 -- the kind of a scope that isn't the root
@@ -38,13 +38,6 @@ node_row_of ws = do
   n ← node_of s.1
   Some (record { scope = s.0; node = n })
 
--- two numbers and no more
-unfoldable pub pair_of : List (List ℕ) → Option (ℕ × ℕ)
-pair_of ws = do
-  a ← take_number ws
-  b ← take_number a.1
-  if is_end b.1 then Some (a.0, b.0) else None
-
 -- the entry of a name by its word, with its number
 abbrev pub entry_of : List ℕ → ℕ → Option Entry
 entry_of w n =
@@ -52,12 +45,12 @@ entry_of w n =
     else (if bytes_eq w (codes "parameter") then Some (Parameter n)
     else (if bytes_eq w (codes "current") then Some (Current n) else (if bytes_eq w (codes "called") then Some (Called n) else None)))
 
--- the row of a name, where the first word is one of the four kinds
+-- the row of a name, where the first word is one of the four kinds: its scope and its number
 unfoldable pub name_of : (word : List ℕ) → List (List ℕ) → Option NameRow
 name_of w ws = do
-  p ← pair_of ws
-  e ← entry_of w p.1
-  Some (record { scope = p.0; kind = e })
+  ns ← exactly 2 ws
+  e ← entry_of w ns.second
+  Some (record { scope = ns.first; kind = e })
 
 -- numbers of which there are fewer than 2^32
 abbrev pub few_numbers_of : List (List ℕ) → Option (List ℕ)
@@ -76,8 +69,8 @@ place_of ws = do
 -- the root: one number
 unfoldable pub root_of : List (List ℕ) → Option ℕ
 root_of ws = do
-  n ← take_number ws
-  if is_end n.1 then Some n.0 else None
+  ns ← exactly 1 ws
+  Some ns.first
 
 -- The row of a first word and the bytes behind its blank.
 unfoldable pub tail_row : (word tail : List ℕ) → Option FlatRow

@@ -1,9 +1,10 @@
 -- The words of a line, and how they are taken off it one by one.
-use Rattle.std.specs.Prelude.{◌≡◌, ℕ, ◌^◌, Bool, true, false, ◌&&◌, nat_lt, if◌then◌else◌, List, [], ◌∷◌, Option, Some, None, decimal, ◌==◌}
+use Rattle.std.specs.Prelude.{◌≡◌, ℕ, ◌^◌, Bool, true, false, ◌&&◌, nat_lt, if◌then◌else◌, List, [], ◌∷◌, Option, Some, None, decimal, take, ◌==◌}
 use Rattle.std.specs.List.{All, flat_map, slice_split}
 use Rattle.std.specs.Option.{option_and_then}
 use Rattle.std.specs.Str.{bytes_eq}
 use Rattle.std.specs.Str.Parse.{digits_value}
+use Rattle.lucid_flat.specs.declared.words.Three.{Three}
 
 -- no byte of the list is this one
 abbrev pub HasNone : ℕ → List ℕ → Type 0
@@ -52,3 +53,22 @@ take_number ws = do
 abbrev pub is_end : List (List ℕ) → Bool
 is_end [] = true
 is_end (w ∷ ws) = false
+
+-- One, two or three numbers, and no more.
+unfoldable pub three_of : List (List ℕ) → Option Three
+three_of ws =
+    take_number ws >>= λ a.
+    if is_end a.1 then Some (record { first = a.0; second = 0; third = 0; count = 1 })
+    else (take_number a.1 >>= λ b.
+    if is_end b.1 then Some (record { first = a.0; second = b.0; third = 0; count = 2 })
+    else (take_number b.1 >>= λ c. if is_end c.1 then Some (record { first = a.0; second = b.0; third = c.0; count = 3 }) else None))
+
+-- as many numbers as these, and no more
+unfoldable pub exactly : (count : ℕ) → List (List ℕ) → Option Three
+exactly k ws = do
+  ns ← three_of ws
+  if ns.count == k then Some ns else None
+
+-- the numbers that are there
+abbrev pub listed : Three → List ℕ
+listed ns = take ns.count (ns.first ∷ ns.second ∷ ns.third ∷ [])

@@ -1,177 +1,116 @@
-//! The words of nodes in the flat form.
-ghost use Rattle.std.specs.Prelude.{◌≡◌};
+//! The words of nodes in the flat form: how a node is appended to a text, and read from its words.
+ghost use Rattle.std.specs.Prelude.{◌≡◌, ◌∷◌, ◌++◌, [], OnOk, map, decimal, length};
 ghost use Rattle.std.specs.List.{find};
 ghost use Rattle.std.specs.Option.{option_copied};
-ghost use Rattle.std.specs.Str.{bytes_eq};
-ghost use Rattle.lucid_flat.specs.Words.{words_left};
-ghost use Rattle.lucid_flat.specs.Forms.{form_word, form_of, with_one, with_two, with_three, form_node, apply_node, node_of};
+ghost use Rattle.lucid_flat.specs.FlatText.{form_word, node_numbers, node_words};
+ghost use Rattle.lucid_flat.specs.FlatTables.{NodeFits};
+ghost use Rattle.lucid_flat.specs.Words.{words_left, spaced};
+ghost use Rattle.lucid_flat.specs.Forms.{forms_with, has_form, form_node, apply_node, node_of};
 
-use crate::ops::op_of;
-use crate::words::{at_end, next_number, next_word};
+use crate::ops::{op_of, op_word};
+use crate::put::{put_number, put_numbers, put_word};
+use crate::words::{Three, exactly, next_three, next_word};
 use lucid_equations::Node;
+use std::alloc::AllocError;
 
-/// The form of a node: any but that of a data operator, whose word the operator's follows.
-#[derive(Clone, Copy)]
-pub(crate) enum Form {
-    Const,
-    Input,
-    If,
-    And,
-    Or,
-    First,
-    Next,
-    Fby,
-    Whenever,
-    Asa,
-    Upon,
-    Attime,
-    Initial,
-    Succ,
-    Sby,
-    Atspace,
-    Freeze,
-    Refer,
-    Call,
-}
-
-const FORMS: [Form; 19] = [
-    Form::Const,
-    Form::Input,
-    Form::If,
-    Form::And,
-    Form::Or,
-    Form::First,
-    Form::Next,
-    Form::Fby,
-    Form::Whenever,
-    Form::Asa,
-    Form::Upon,
-    Form::Attime,
-    Form::Initial,
-    Form::Succ,
-    Form::Sby,
-    Form::Atspace,
-    Form::Freeze,
-    Form::Refer,
-    Form::Call,
-];
-
-/// The word of a form.
-pub(crate) fn form_word(form: Form) -> &'static [u8]
-    ensures { result.now ≡ form_word form }
+// The word of a node's form.
+fn form_word(node: Node) -> &'static [u8]
+    ensures { result.now ≡ form_word node }
 {
-    match form {
-        Form::Const => b"const",
-        Form::Input => b"input",
-        Form::If => b"if",
-        Form::And => b"and",
-        Form::Or => b"or",
-        Form::First => b"first",
-        Form::Next => b"next",
-        Form::Fby => b"fby",
-        Form::Whenever => b"whenever",
-        Form::Asa => b"asa",
-        Form::Upon => b"upon",
-        Form::Attime => b"attime",
-        Form::Initial => b"initial",
-        Form::Succ => b"succ",
-        Form::Sby => b"sby",
-        Form::Atspace => b"atspace",
-        Form::Freeze => b"freeze",
-        Form::Refer => b"refer",
-        Form::Call => b"call",
+    match node {
+        Node::Const { .. } => b"const",
+        Node::Input { .. } => b"input",
+        Node::Apply { .. } => b"apply",
+        Node::If { .. } => b"if",
+        Node::And { .. } => b"and",
+        Node::Or { .. } => b"or",
+        Node::First { .. } => b"first",
+        Node::Next { .. } => b"next",
+        Node::Fby { .. } => b"fby",
+        Node::Whenever { .. } => b"whenever",
+        Node::Asa { .. } => b"asa",
+        Node::Upon { .. } => b"upon",
+        Node::Attime { .. } => b"attime",
+        Node::Initial { .. } => b"initial",
+        Node::Succ { .. } => b"succ",
+        Node::Sby { .. } => b"sby",
+        Node::Atspace { .. } => b"atspace",
+        Node::Freeze { .. } => b"freeze",
+        Node::Refer { .. } => b"refer",
+        Node::Call { .. } => b"call",
     }
 }
 
-// The first of some forms that has the word.
-fn form_among(word: &[u8], forms: &[Form]) -> Option<Form>
-    ensures { result ≡ find (λ form. bytes_eq (form_word form) word.now) forms.now }
+// A node of each form but a data operator's, with these numbers.
+fn forms_with(a: u32, b: u32, c: u32) -> [Node; 19]
+    ensures { result ≡ forms_with a b c }
 {
-    forms.iter().copied().find(|form| form_word(*form) == word)
+    [
+        Node::Const { constant: a },
+        Node::Input { stream: a },
+        Node::If {
+            test: a,
+            yes: b,
+            no: c,
+        },
+        Node::And { left: a, right: b },
+        Node::Or { left: a, right: b },
+        Node::First { of: a },
+        Node::Next { of: a },
+        Node::Fby { left: a, right: b },
+        Node::Whenever { left: a, right: b },
+        Node::Asa { left: a, right: b },
+        Node::Upon { left: a, right: b },
+        Node::Attime { left: a, right: b },
+        Node::Initial { of: a },
+        Node::Succ { of: a },
+        Node::Sby { left: a, right: b },
+        Node::Atspace { left: a, right: b },
+        Node::Freeze { subject: a },
+        Node::Refer { name: a, level: b },
+        Node::Call {
+            name: a,
+            place: b,
+            level: c,
+        },
+    ]
 }
 
-// The form of a word, if it is one's.
-fn form_of(word: &[u8]) -> Option<Form>
-    ensures { result ≡ form_of word.now }
+// How many numbers a node has.
+fn count_of_numbers(node: Node) -> usize
+    ensures { result ≡ length (node_numbers node) }
 {
-    form_among(word, &FORMS)
-}
-
-// The node of a form with one number.
-fn with_one(form: Form, first: u32) -> Option<Node>
-    ensures { result ≡ with_one form first }
-{
-    match form {
-        Form::Const => Some(Node::Const { constant: first }),
-        Form::Input => Some(Node::Input { stream: first }),
-        Form::First => Some(Node::First { of: first }),
-        Form::Next => Some(Node::Next { of: first }),
-        Form::Initial => Some(Node::Initial { of: first }),
-        Form::Succ => Some(Node::Succ { of: first }),
-        Form::Freeze => Some(Node::Freeze { subject: first }),
-        _ => None,
+    match node {
+        Node::Const { .. } | Node::Input { .. } => 1,
+        Node::Refer { .. } => 2,
+        Node::Apply { .. } | Node::Call { .. } => 3,
+        _ => node.parts().as_slice().len(),
     }
 }
 
-// The node of a form with two numbers.
-fn with_two(form: Form, left: u32, right: u32) -> Option<Node>
-    ensures { result ≡ with_two form left right }
+fn has_form(word: &[u8], count: usize, node: Node) -> bool
+    ensures { result ≡ has_form word.now count node }
 {
-    match form {
-        Form::And => Some(Node::And { left, right }),
-        Form::Or => Some(Node::Or { left, right }),
-        Form::Fby => Some(Node::Fby { left, right }),
-        Form::Whenever => Some(Node::Whenever { left, right }),
-        Form::Asa => Some(Node::Asa { left, right }),
-        Form::Upon => Some(Node::Upon { left, right }),
-        Form::Attime => Some(Node::Attime { left, right }),
-        Form::Sby => Some(Node::Sby { left, right }),
-        Form::Atspace => Some(Node::Atspace { left, right }),
-        Form::Refer => Some(Node::Refer {
-            name: left,
-            level: right,
-        }),
-        _ => None,
-    }
+    form_word(node) == word && count_of_numbers(node) == count
 }
 
-// The node of a form with three numbers.
-fn with_three(form: Form, first: u32, second: u32, third: u32) -> Option<Node>
-    ensures { result ≡ with_three form first second third }
+// The first of some nodes whose form has this word and so many numbers.
+fn node_among(word: &[u8], count: usize, nodes: &[Node]) -> Option<Node>
+    ensures { result ≡ find (has_form word.now count) nodes.now }
 {
-    match form {
-        Form::If => Some(Node::If {
-            test: first,
-            yes: second,
-            no: third,
-        }),
-        Form::Call => Some(Node::Call {
-            name: first,
-            place: second,
-            level: third,
-        }),
-        _ => None,
-    }
+    nodes
+        .iter()
+        .copied()
+        .find(|node| has_form(word, count, *node))
 }
 
-// The node of a form with the numbers that are left.
+// The node of a form's word and its numbers.
 #[tactic(auto, unfolding(crate::specs::Forms::form_node))]
-fn read_form(form: Form, rest: Option<&[u8]>) -> Option<Node>
-    ensures { result ≡ form_node form (words_left (option_copied rest.entry)) }
+fn form_node(word: &[u8], numbers: Three) -> Option<Node>
+    ensures { result ≡ form_node word.now numbers }
 {
-    let (first, rest) = next_number(rest)?;
-    if at_end(rest) {
-        return with_one(form, first);
-    }
-    let (second, rest) = next_number(rest)?;
-    if at_end(rest) {
-        return with_two(form, first, second);
-    }
-    let (third, rest) = next_number(rest)?;
-    if !at_end(rest) {
-        return None;
-    }
-    with_three(form, first, second, third)
+    let nodes = forms_with(numbers.first, numbers.second, numbers.third);
+    node_among(word, numbers.count, &nodes)
 }
 
 // The node of a data operator with the three numbers that are left behind its word.
@@ -181,15 +120,10 @@ fn read_apply(rest: Option<&[u8]>) -> Option<Node>
 {
     let (word, rest) = next_word(rest)?;
     let op = op_of(word)?;
-    let (first, rest) = next_number(rest)?;
-    let (second, rest) = next_number(rest)?;
-    let (third, rest) = next_number(rest)?;
-    if !at_end(rest) {
-        return None;
-    }
+    let numbers = exactly(3, rest)?;
     Some(Node::Apply {
         op,
-        args: [first, second, third],
+        args: [numbers.first, numbers.second, numbers.third],
     })
 }
 
@@ -202,5 +136,34 @@ pub(crate) fn read_node(rest: Option<&[u8]>) -> Option<Node>
     if word == b"apply".as_slice() {
         return read_apply(rest);
     }
-    read_form(form_of(word)?, rest)
+    let numbers = next_three(rest)?;
+    form_node(word, numbers)
+}
+
+// Appends a node's numbers.
+fn put_node_numbers(to: &mut Vec<u8>, node: Node) -> Result<(), AllocError>
+    ensures words { OnOk result (to.new.items ≡ to.old.items ++ spaced (map decimal (node_numbers node))) }
+    ensures fits { OnOk result (NodeFits node) }
+{
+    match node {
+        Node::Const { constant: number } | Node::Input { stream: number } => {
+            put_numbers(to, &[number])
+        }
+        Node::Apply { args, .. } => put_numbers(to, &args),
+        Node::Refer { name, level } => put_numbers(to, &[name, level]),
+        Node::Call { name, place, level } => put_numbers(to, &[name, place, level]),
+        _ => put_numbers(to, node.parts().as_slice()),
+    }
+}
+
+/// Appends the words of a node.
+pub(crate) fn put_node(to: &mut Vec<u8>, node: Node) -> Result<(), AllocError>
+    ensures words { OnOk result (to.new.items ≡ to.old.items ++ spaced (node_words node)) }
+    ensures fits { OnOk result (NodeFits node) }
+{
+    put_word(to, form_word(node))?;
+    if let Node::Apply { op, .. } = node {
+        put_word(to, op_word(op))?;
+    }
+    put_node_numbers(to, node)
 }

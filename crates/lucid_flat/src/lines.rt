@@ -6,7 +6,8 @@ ghost use Rattle.lucid_flat.specs.FlatText.{FlatRow, scope_row, input_row, const
 ghost use Rattle.lucid_flat.specs.FlatTables.{RowFits};
 ghost use Rattle.lucid_flat.specs.Shown.{IsNoRoot, line_of};
 
-use crate::put::{put_node, put_number, put_numbers, put_word};
+use crate::forms::put_node;
+use crate::put::{put_number, put_numbers, put_word};
 use lucid_equations::{Entry, NameRow, NodeRow, PlaceRow, ScopeKind, ScopeRow};
 use lucid_value::{Name, Value};
 use std::alloc::{AllocError, Global};
@@ -62,7 +63,7 @@ impl Line for NodeRow {
     fn put(&self, _alloc: Global, to: &mut Vec<u8>) -> Result<(), AllocError> {
         to.extend_from_slice(b"node")?;
         put_number(to, self.scope)?;
-        put_node(to, &self.node)?;
+        put_node(to, self.node)?;
         to.extend_from_slice(b"\n")
     }
 }

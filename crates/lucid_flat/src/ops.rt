@@ -1,99 +1,95 @@
 //! The words of the data operators in the flat form.
-ghost use Rattle.std.specs.Prelude.{◌≡◌};
-ghost use Rattle.std.specs.List.{find};
+ghost use Rattle.std.specs.Prelude.{◌≡◌, true, map};
+ghost use Rattle.std.specs.List.{find, list_all};
 ghost use Rattle.std.specs.Str.{bytes_eq};
 ghost use Rattle.lucid_flat.specs.FlatText.{op_word};
-ghost use Rattle.lucid_flat.specs.Forms.{op_of};
+ghost use Rattle.lucid_flat.specs.Forms.{op_in, is_own, op_of};
 
 use lucid_ops::Op;
 
+/// A data operator, and its word.
+#[derive(Clone, Copy)]
+pub(crate) struct OpWord {
+    pub(crate) op: Op,
+    word: &'static [u8],
+}
+
+macro_rules! named {
+    ($op:ident, $word:literal) => {
+        OpWord {
+            op: Op::$op,
+            word: $word,
+        }
+    };
+}
+
 /// All data operators, in their order.
-pub(crate) const OPS: [Op; 35] = [
-    Op::Add,
-    Op::Sub,
-    Op::Mul,
-    Op::Div,
-    Op::Mod,
-    Op::Pow,
-    Op::Neg,
-    Op::Abs,
-    Op::Eq,
-    Op::Ne,
-    Op::Lt,
-    Op::Le,
-    Op::Gt,
-    Op::Ge,
-    Op::Cmp,
-    Op::Not,
-    Op::Head,
-    Op::Tail,
-    Op::Cons,
-    Op::Append,
-    Op::Join,
-    Op::Length,
-    Op::Substr,
-    Op::Nth,
-    Op::MakeWord,
-    Op::MakeString,
-    Op::IsInt,
-    Op::IsWord,
-    Op::IsString,
-    Op::IsList,
-    Op::IsTruth,
-    Op::IsNull,
-    Op::IsAtom,
-    Op::IsEod,
-    Op::IsError,
+pub(crate) const OPS: [OpWord; 35] = [
+    named!(Add, b"add"),
+    named!(Sub, b"sub"),
+    named!(Mul, b"mul"),
+    named!(Div, b"div"),
+    named!(Mod, b"mod"),
+    named!(Pow, b"pow"),
+    named!(Neg, b"neg"),
+    named!(Abs, b"abs"),
+    named!(Eq, b"eq"),
+    named!(Ne, b"ne"),
+    named!(Lt, b"lt"),
+    named!(Le, b"le"),
+    named!(Gt, b"gt"),
+    named!(Ge, b"ge"),
+    named!(Cmp, b"cmp"),
+    named!(Not, b"not"),
+    named!(Head, b"head"),
+    named!(Tail, b"tail"),
+    named!(Cons, b"cons"),
+    named!(Append, b"append"),
+    named!(Join, b"join"),
+    named!(Length, b"length"),
+    named!(Substr, b"substr"),
+    named!(Nth, b"nth"),
+    named!(MakeWord, b"makeword"),
+    named!(MakeString, b"makestring"),
+    named!(IsInt, b"isint"),
+    named!(IsWord, b"isword"),
+    named!(IsString, b"isstring"),
+    named!(IsList, b"islist"),
+    named!(IsTruth, b"istruth"),
+    named!(IsNull, b"isnull"),
+    named!(IsAtom, b"isatom"),
+    named!(IsEod, b"iseod"),
+    named!(IsError, b"iserror"),
 ];
 
 /// The word of an operator.
 pub(crate) fn op_word(op: Op) -> &'static [u8]
     ensures { result.now ≡ op_word op }
 {
-    match op {
-        Op::Add => b"add",
-        Op::Sub => b"sub",
-        Op::Mul => b"mul",
-        Op::Div => b"div",
-        Op::Mod => b"mod",
-        Op::Pow => b"pow",
-        Op::Neg => b"neg",
-        Op::Abs => b"abs",
-        Op::Eq => b"eq",
-        Op::Ne => b"ne",
-        Op::Lt => b"lt",
-        Op::Le => b"le",
-        Op::Gt => b"gt",
-        Op::Ge => b"ge",
-        Op::Cmp => b"cmp",
-        Op::Not => b"not",
-        Op::Head => b"head",
-        Op::Tail => b"tail",
-        Op::Cons => b"cons",
-        Op::Append => b"append",
-        Op::Join => b"join",
-        Op::Length => b"length",
-        Op::Substr => b"substr",
-        Op::Nth => b"nth",
-        Op::MakeWord => b"makeword",
-        Op::MakeString => b"makestring",
-        Op::IsInt => b"isint",
-        Op::IsWord => b"isword",
-        Op::IsString => b"isstring",
-        Op::IsList => b"islist",
-        Op::IsTruth => b"istruth",
-        Op::IsNull => b"isnull",
-        Op::IsAtom => b"isatom",
-        Op::IsEod => b"iseod",
-        Op::IsError => b"iserror",
-    }
+    OPS[op as usize].word
 }
 
-// The first of some operators that has the word.
-fn op_among(word: &[u8], ops: &[Op]) -> Option<Op>
-    ensures { result ≡ find (λ op. bytes_eq (op_word op) word.now) ops.now }
+fn has_word(row: OpWord, word: &[u8]) -> bool
+    ensures { result ≡ bytes_eq row.word.now word.now }
 {
-    ops.iter().copied().find(|op| op_word(*op) == word)
+    row.word == word
+}
+
+// The first of some rows that has the word.
+fn row_among(word: &[u8], rows: &[OpWord]) -> Option<OpWord>
+    ensures { result ≡ find (λ r. bytes_eq r.word.now word.now) rows.now }
+{
+    rows.iter().copied().find(|row| has_word(*row, word))
+}
+
+// The operator of the first such row.
+fn op_among(word: &[u8], rows: &[OpWord]) -> Option<Op>
+    ensures { list_all is_own rows.now ≡ true → result ≡ find (λ op. bytes_eq (op_word op) word.now) (map op_in rows.now) }
+{
+    match row_among(word, rows) {
+        Some(row) => Some(row.op),
+        None => None,
+    }
 }
 
 /// The operator of a word, if it is one's.

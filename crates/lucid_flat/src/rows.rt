@@ -3,11 +3,11 @@ ghost use Rattle.std.specs.Prelude.{◌≡◌, ◌++◌, ◌∷◌, IfOk};
 ghost use Rattle.std.specs.Option.{option_map, option_copied};
 ghost use Rattle.std.specs.Str.{bytes_eq};
 ghost use Rattle.lucid_flat.specs.Words.{words_of, words_left};
-ghost use Rattle.lucid_flat.specs.RowTails.{kind_of, scope_of, node_row_of, pair_of, entry_of, name_of, few_numbers_of, place_of, root_of, input_of, tail_row};
+ghost use Rattle.lucid_flat.specs.RowTails.{kind_of, scope_of, node_row_of, entry_of, name_of, few_numbers_of, place_of, root_of, input_of, tail_row};
 ghost use Rattle.lucid_flat.specs.RowLines.{plain_row, IsConstantOf, IsRowOf};
 
 use crate::forms::read_node;
-use crate::words::{at_end, cut, next_number, next_word};
+use crate::words::{at_end, cut, exactly, next_number, next_word};
 use lucid_equations::{Entry, NameRow, NodeRow, Numbers32, PlaceRow, ScopeKind, ScopeRow};
 use lucid_value::{
     MakeRefusal, Name, ReadRefusal, Value, one_line_reading, read_value, text_is_read,
@@ -92,19 +92,6 @@ fn read_node_row(tail: &[u8]) -> Option<NodeRow>
     Some(NodeRow { scope, node })
 }
 
-// The scope and the number that are left.
-#[tactic(auto, unfolding(crate::specs::RowTails::pair_of))]
-fn read_pair(tail: &[u8]) -> Option<(u32, u32)>
-    ensures { result ≡ pair_of (words_of tail.now) }
-{
-    let (scope, rest) = next_number(Some(tail))?;
-    let (number, rest) = next_number(rest)?;
-    if !at_end(rest) {
-        return None;
-    }
-    Some((scope, number))
-}
-
 // What a name of this kind is, with its number.
 fn entry_of(word: &[u8], number: u32) -> Option<Entry>
     ensures { result ≡ entry_of word.now number }
@@ -129,8 +116,9 @@ fn entry_of(word: &[u8], number: u32) -> Option<Entry>
 fn read_name(word: &[u8], tail: &[u8]) -> Option<NameRow>
     ensures { result ≡ name_of word.now (words_of tail.now) }
 {
-    let (scope, number) = read_pair(tail)?;
-    let kind = entry_of(word, number)?;
+    let numbers = exactly(2, Some(tail))?;
+    let kind = entry_of(word, numbers.second)?;
+    let scope = numbers.first;
     Some(NameRow { scope, kind })
 }
 
@@ -177,11 +165,8 @@ fn read_place(alloc: Global, tail: &[u8]) -> Result<Option<PlaceRow>, AllocError
 fn read_root(tail: &[u8]) -> Option<u32>
     ensures { result ≡ root_of (words_of tail.now) }
 {
-    let (node, rest) = next_number(Some(tail))?;
-    if !at_end(rest) {
-        return None;
-    }
-    Some(node)
+    let numbers = exactly(1, Some(tail))?;
+    Some(numbers.first)
 }
 
 // The row of a first word and the bytes behind its blank, if they are one's. A constant is read apart.

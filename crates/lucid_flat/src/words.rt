@@ -1,7 +1,7 @@
 //! The words of a line, one blank between each two, and the numbers that words are.
 ghost use Rattle.std.specs.Prelude.{◌≡◌, ℕ, ◌∷◌, ◌++◌, [], Some, MatchOption};
 ghost use Rattle.std.specs.Option.{option_copied, option_map};
-ghost use Rattle.lucid_flat.specs.Words.{HasNone, words_left, number_of, take_word, take_number, is_end};
+ghost use Rattle.lucid_flat.specs.Words.{HasNone, words_left, number_of, take_word, take_number, is_end, three_of, exactly};
 
 use itoa::Buffer;
 use memchr::memchr;
@@ -68,4 +68,49 @@ pub(crate) fn at_end(rest: Option<&[u8]>) -> bool
     ensures { result ≡ is_end (words_left (option_copied rest.entry)) }
 {
     rest.is_none()
+}
+
+/// One, two or three numbers, as many as the count says; 0 stands for the others.
+#[derive(Clone, Copy)]
+pub(crate) struct Three {
+    pub(crate) first: u32,
+    pub(crate) second: u32,
+    pub(crate) third: u32,
+    pub(crate) count: usize,
+}
+
+/// The numbers that the words left are, if they are one, two or three.
+#[tactic(auto, unfolding(crate::specs::Words::three_of))]
+pub(crate) fn next_three(rest: Option<&[u8]>) -> Option<Three>
+    ensures { result ≡ three_of (words_left (option_copied rest.entry)) }
+{
+    let (first, rest) = next_number(rest)?;
+    let mut numbers = Three {
+        first,
+        second: 0,
+        third: 0,
+        count: 1,
+    };
+    if at_end(rest) {
+        return Some(numbers);
+    }
+    let (second, rest) = next_number(rest)?;
+    numbers.second = second;
+    numbers.count = 2;
+    if at_end(rest) {
+        return Some(numbers);
+    }
+    let (third, rest) = next_number(rest)?;
+    numbers.third = third;
+    numbers.count = 3;
+    at_end(rest).then_some(numbers)
+}
+
+/// The numbers that the words left are, if they are so many, from one to three.
+#[tactic(auto, unfolding(crate::specs::Words::exactly))]
+pub(crate) fn exactly(count: usize, rest: Option<&[u8]>) -> Option<Three>
+    ensures { result ≡ exactly count (words_left (option_copied rest.entry)) }
+{
+    let numbers = next_three(rest)?;
+    (numbers.count == count).then_some(numbers)
 }

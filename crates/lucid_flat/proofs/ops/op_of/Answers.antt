@@ -1,6 +1,7 @@
+use Rattle.std.proofs.Common.{refl}
 use Rattle.lucid_flat.specs.Forms.{op_of}
 use Rattle.lucid_flat.proofs.ops.op_of.Goals as goal
 
 pub returns : goal.returns
 unfolding op_of
-returns c = c.op_among.ensures
+returns c = c.op_among.ensures refl
