@@ -1,4 +1,6 @@
 pub mod Chosen
+pub mod Bytes
+pub mod LineEnds
 pub mod WordLemmas
 pub mod ConstantLemmas
 pub mod NumberLemmas

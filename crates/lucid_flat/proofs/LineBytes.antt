@@ -1,55 +1,26 @@
--- Which bytes the words and the lines of rows don't have: no word but a constant's text has a blank (32), and no line has a line end (10).
-use Rattle.std.proofs.Common.{◌≡◌, ℕ, ◌<◌, ◌≤◌, ◌^◌, suc, Bool, true, false, ◌&&◌, List, [], ◌∷◌, ◌++◌, map, refl, sym, ap, ◌∙◌, arith, pos, negsuc}
-use Rattle.std.specs.Prelude.{◌==◌, decimal, codes, IsTrue, not}
+-- Which bytes the words of rows don't have: no word but a constant's text has a blank (32), and none has a line end (10).
+use Rattle.std.proofs.Common.{◌≡◌, ℕ, ◌≤◌, ◌^◌, suc, true, false, ◌&&◌, List, [], ◌∷◌, refl, sym, ap, ◌∙◌, arith, pos, negsuc}
+use Rattle.std.specs.Prelude.{decimal, codes, IsTrue, not}
 use Rattle.std.specs.Char.{is_ascii_alphabetic, is_ascii_alphanumeric}
-use Rattle.std.specs.Int.{IsInRange}
-use Rattle.std.specs.List.{AllByRecursion, list_all, join_with_byte}
-use Rattle.std.specs.Str.Parse.{AllDigits}
-use Rattle.std.proofs.lemmas.Bool.{and_parts, ne_eqb, ltb-true, le-leb}
-use Rattle.std.proofs.lemmas.Fmt.{decimal_is_IsNumeral, decimal_is_IsNumeral_wide}
-use Rattle.std.proofs.lemmas.List.Elements.{All-from_recursion}
-use Rattle.std.proofs.lemmas.Str.Parse.{digit_from_value}
+use Rattle.std.specs.List.{AllByRecursion, list_all}
+use Rattle.std.proofs.lemmas.Bool.{and_parts, ne_eqb, ltb-true}
+use Rattle.std.proofs.lemmas.Fmt.{decimal_is_IsNumeral_wide}
 use Rattle.lucid_value.specs.Plain.{PlainValue, int, truth, word, text, list, eod, fault, Items, no_items, item, is_value, well_formed, all_well_formed, in_range, all_in_range, within_limits, may_be_held, is_wordlike, spells_constant, is_text_byte}
 use Rattle.lucid_value.specs.Names.{is_name, is_namelike, is_name_byte, is_reserved}
 use Rattle.lucid_value.specs.ValueText.{value_text, items_text}
 use Rattle.lucid_ops.specs.declared.op.Op.{Op}
 use Rattle.lucid_ops.specs.declared.op.Op.TheVariants.{Add}
-use Rattle.lucid_equations.specs.Ranges.{EachBelow}
 use Rattle.lucid_equations.specs.declared.rows.ScopeKind.{ScopeKind}
 use Rattle.lucid_equations.specs.declared.rows.ScopeKind.TheVariants.{Root, Called as CalledScope, Frozen as FrozenScope}
 use Rattle.lucid_equations.specs.declared.rows.Node.{Node}
 use Rattle.lucid_equations.specs.declared.rows.Node.TheVariants.{Apply}
-use Rattle.lucid_flat.specs.FlatText.{kind_word, op_word, form_word, node_numbers, node_words}
+use Rattle.lucid_equations.specs.declared.rows.Entry.{Entry}
+use Rattle.lucid_equations.specs.declared.rows.Entry.TheVariants.{Plain}
+use Rattle.lucid_flat.specs.FlatText.{kind_word, op_word, form_word, node_numbers, node_words, entry_word}
 use Rattle.lucid_flat.specs.FlatTables.{NodeFits}
-use Rattle.lucid_flat.specs.Words.{HasNone}
+use Rattle.lucid_flat.proofs.Bytes.{Lacks, lacks-append, lacks_by, digits_lack, IsSolid, decimals_solid}
 
--- no byte of the list is this one
-abbrev pub Lacks : ℕ → List ℕ → Type 0
-Lacks c bs = AllByRecursion (λ b. (b == c) ≡ false) bs
-
-pub has_none : (c : ℕ) (bs : List ℕ) → Lacks c bs → HasNone c bs
-has_none c bs h = All-from_recursion _ bs h
-
-pub lacks-append : (c : ℕ) (xs ys : List ℕ) → Lacks c xs → Lacks c ys → Lacks c (xs ++ ys)
-lacks-append c [] ys h k = k
-lacks-append c (x ∷ xs) ys h k = (h.0, lacks-append c xs ys h.1 k)
-
--- a byte that fails a test, where all pass it
-lacks_by : (c : ℕ) (p : ℕ → Bool) → p c ≡ false → (bs : List ℕ) → list_all p bs ≡ true → Lacks c bs
-lacks_by c p f [] h = tt
-lacks_by c p f (b ∷ bs) h =
-    let k = and_parts (p b) (list_all p bs) h in
-    (ne_eqb b c (λ e. let q : true ≡ false = sym k.0 ∙ (ap p e ∙ f) in cc), lacks_by c p f bs k.1)
-
--- digits have neither a blank nor a line end
-digits_lack : (c : ℕ) → c < 48 → (ds : List ℕ) → AllDigits 10 ds → Lacks c ds
-digits_lack c l [] h = tt
-digits_lack c l (d ∷ ds) h = (ne_eqb d c (λ e. omega (arith, digit_from_value d h.0)), digits_lack c l ds h.1)
-
-pub decimal_lacks : (c n : ℕ) → c < 48 → n < 2 ^ 32 → Lacks c (decimal n)
-decimal_lacks c n l h = digits_lack c l (decimal n) (decimal_is_IsNumeral n (omega arith)).0.1
-
--- nor has a name
+-- a name has neither a blank nor a line end
 name_lacks_by : (c : ℕ) → is_ascii_alphabetic c ≡ false → is_name_byte c ≡ false → (n : List ℕ) → is_namelike n ≡ true → Lacks c n
 name_lacks_by c a f [] h = absurd (cc)
 name_lacks_by c a f (b ∷ bs) h =
@@ -94,45 +65,6 @@ value_lacks v h =
     let p = and_parts (well_formed v && in_range v) (within_limits v) h in
     let q = and_parts (well_formed v) (in_range v) p.0 in text_lacks v q.0 q.1
 
--- nor have words that have none, joined by blanks
-pub join_lacks : (ws : List (List ℕ)) → AllByRecursion (Lacks 10) ws → Lacks 10 (join_with_byte 32 ws)
-join_lacks [] h = tt
-join_lacks (w ∷ []) h = h.0
-join_lacks (w ∷ v ∷ ws) h = lacks-append 10 w (32 ∷ join_with_byte 32 (v ∷ ws)) h.0 (refl, join_lacks (v ∷ ws) h.1)
-
--- letters and digits alone
-abbrev pub IsSolid : List ℕ → Type 0
-IsSolid w = list_all is_ascii_alphanumeric w ≡ true
-
-pub solid_lacks : (c : ℕ) → is_ascii_alphanumeric c ≡ false → (w : List ℕ) → IsSolid w → Lacks c w
-solid_lacks c f w h = lacks_by c is_ascii_alphanumeric f w h
-
-pub all_solid_lack : (c : ℕ) → is_ascii_alphanumeric c ≡ false → (ws : List (List ℕ)) → AllByRecursion IsSolid ws → AllByRecursion (Lacks c) ws
-all_solid_lack c f [] h = tt
-all_solid_lack c f (w ∷ ws) h = (solid_lacks c f w h.0, all_solid_lack c f ws h.1)
-
-and_true : (a b : Bool) → a ≡ true → b ≡ true → (a && b) ≡ true
-and_true true true h k = refl
-and_true true false h k = absurd (cc)
-and_true false b h k = absurd (cc)
-
-digit_solid : (d : ℕ) → IsInRange 48 57 d → is_ascii_alphanumeric d ≡ true
-digit_solid d r = rw (le-leb 48 d r.0, le-leb d 57 r.1) refl
-
-digits_solid : (ds : List ℕ) → AllDigits 10 ds → IsSolid ds
-digits_solid [] h = refl
-digits_solid (d ∷ ds) h =
-    let r = digit_from_value d h.0 in
-    and_true (is_ascii_alphanumeric d) (list_all is_ascii_alphanumeric ds) (digit_solid d r) (digits_solid ds h.1)
-
--- the digits of a number are such a word
-pub decimal_solid : (n : ℕ) → n < 2 ^ 32 → IsSolid (decimal n)
-decimal_solid n h = digits_solid (decimal n) (decimal_is_IsNumeral n (omega arith)).0.1
-
-pub decimals_solid : (ns : List ℕ) → EachBelow (2 ^ 32) ns → AllByRecursion IsSolid (map decimal ns)
-decimals_solid [] h = tt
-decimals_solid (n ∷ ns) h = (decimal_solid n h.0, decimals_solid ns h.1)
-
 op_solid : (op : Op) → IsSolid (op_word op)
 op_solid Add = refl
 op_solid op = refl
@@ -150,3 +82,7 @@ pub kind_solid : (k : ScopeKind) → IsSolid (kind_word k)
 kind_solid Root = refl
 kind_solid CalledScope = refl
 kind_solid FrozenScope = refl
+
+pub entry_solid : (e : Entry) → IsSolid (entry_word e)
+entry_solid (Plain a) = refl
+entry_solid e = refl

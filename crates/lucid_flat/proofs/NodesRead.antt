@@ -14,10 +14,10 @@ use Rattle.lucid_equations.specs.Ranges.{EachBelow}
 use Rattle.lucid_equations.specs.declared.rows.Node.{Node}
 use Rattle.lucid_equations.specs.declared.rows.Node.TheVariants.{Apply}
 use Rattle.lucid_flat.specs.declared.words.Three.{Three}
-use Rattle.lucid_flat.specs.FlatText.{op_word, form_word, node_numbers, node_words}
+use Rattle.lucid_flat.specs.FlatText.{op_word, form_word, forms_with, node_numbers, node_words}
 use Rattle.lucid_flat.specs.FlatTables.{HasPlaces, NodeFits}
 use Rattle.lucid_flat.specs.Words.{three_of, exactly, listed}
-use Rattle.lucid_flat.specs.Forms.{op_of, forms_with, has_form, form_node, apply_node, node_of}
+use Rattle.lucid_flat.specs.Forms.{op_of, has_form, form_node, apply_node, node_of}
 use Rattle.lucid_flat.proofs.Chosen.{by_word, found, found_among}
 use Rattle.lucid_flat.proofs.Threes.{AreWordsOf, three_read, exactly_read, as_three, HasUpToThree, three_of-words, exactly-words}
 
@@ -91,8 +91,58 @@ abbrev IsMade : (a b c : ℕ) → Node → Type 0
 IsMade a b c n = IsForm n × (node_numbers n ≡ take (length (node_numbers n)) (a ∷ b ∷ c ∷ []))
 
 all_made : (a b c : ℕ) → AllByRecursion (IsMade a b c) (forms_with a b c)
-all_made a b c =
-    ((tt, refl), ((tt, refl), ((tt, refl), ((tt, refl), ((tt, refl), ((tt, refl), ((tt, refl), ((tt, refl), ((tt, refl), ((tt, refl), ((tt, refl), ((tt, refl), ((tt, refl), ((tt, refl), ((tt, refl), ((tt, refl), ((tt, refl), ((tt, refl), ((tt, refl), tt)))))))))))))))))))
+all_made a b c = (
+  (tt, refl),
+  (
+    (tt, refl),
+    (
+      (tt, refl),
+      (
+        (tt, refl),
+        (
+          (tt, refl),
+          (
+            (tt, refl),
+            (
+              (tt, refl),
+              (
+                (tt, refl),
+                (
+                  (tt, refl),
+                  (
+                    (tt, refl),
+                    (
+                      (tt, refl),
+                      (
+                        (tt, refl),
+                        (
+                          (tt, refl),
+                          (
+                            (tt, refl),
+                            (
+                              (tt, refl),
+                              (
+                                (tt, refl),
+                                (
+                                  (tt, refl),
+                                  ((tt, refl), ((tt, refl), tt)),
+                                ),
+                              ),
+                            ),
+                          ),
+                        ),
+                      ),
+                    ),
+                  ),
+                ),
+              ),
+            ),
+          ),
+        ),
+      ),
+    ),
+  ),
+)
 
 -- a node that was found by its form and its numbers has them
 form_read : (w : List ℕ) (ws : List (List ℕ)) (ns : Three) (n : Node) → AreWordsOf ws ns → form_node w ns ≡ Some n → HasWords n (w ∷ ws)

@@ -1,11 +1,13 @@
 -- Lemmas on the numbers of words.
-use Rattle.std.proofs.Common.{◌≡◌, ℕ, ◌<◌, ◌≤◌, ◌+◌, ◌^◌, Bool, true, false, List, [], ◌∷◌, ◌++◌, Option, Some, None, length, refl, sym, ap, ◌∙◌, arith, append_assoc, cond, length-append}
-use Rattle.std.specs.Prelude.{nat_lt}
+use Rattle.std.proofs.Common.{◌≡◌, ℕ, ◌<◌, ◌≤◌, ◌+◌, ◌^◌, Bool, true, false, List, [], ◌∷◌, ◌++◌, Option, Some, None, map, length, refl, sym, ap, ◌∙◌, subst, arith, append_assoc, cond, length-append}
+use Rattle.std.specs.Prelude.{nat_lt, decimal}
 use Rattle.std.specs.Option.{option_map, option_and_then}
-use Rattle.std.proofs.lemmas.Bool.{lt-ltb, le-ltb}
+use Rattle.std.proofs.lemmas.Bool.{ltb-true, lt-ltb, le-ltb}
 use Rattle.std.proofs.lemmas.List.{append-nil}
-use Rattle.lucid_flat.specs.Words.{number_of, numbers_of, take_number, is_end}
-use Rattle.lucid_flat.specs.RowTails.{few_numbers_of}
+use Rattle.std.proofs.lemmas.Option.{option_and_then_some, cond_some, same_Some}
+use Rattle.lucid_equations.specs.Ranges.{EachBelow}
+use Rattle.lucid_flat.specs.Words.{number_of, numbers_of, few_numbers_of, take_number, is_end}
+use Rattle.lucid_flat.proofs.WordLemmas.{number_of_some, number_of-decimal}
 
 -- numbers in front of those that are read
 abbrev pub with_front : List ℕ → Option (List ℕ) → Option (List ℕ)
@@ -107,3 +109,32 @@ few_past all ws vs ns n e t h = ap few_of (front_more all ws vs ns n e t) ∙ pa
 pub few_none : (all ws : List (List ℕ)) (ns : List ℕ) → numbers_of all ≡ with_front ns (numbers_of ws) → is_end ws ≡ false → take_number ws ≡ None
     → few_numbers_of all ≡ None
 few_none all ws ns e h t = ap few_of (e ∙ ap (with_front ns) (numbers_none ws h t))
+
+-- numbers are read from their words
+numbers_of-words : (ns : List ℕ) → EachBelow (2 ^ 32) ns → numbers_of (map decimal ns) ≡ Some ns
+numbers_of-words [] h = refl
+numbers_of-words (n ∷ ns) h = rw (number_of-decimal n h.0, numbers_of-words ns h.1) refl
+
+pub few_numbers_of-words : (ns : List ℕ) → EachBelow (2 ^ 32) ns → length ns < 2 ^ 32 → few_numbers_of (map decimal ns) ≡ Some ns
+few_numbers_of-words ns h l = rw (numbers_of-words ns h, lt-ltb (length ns) (2 ^ 32) l) refl
+
+-- numbers that were read
+numbers_read : (ws : List (List ℕ)) (ns : List ℕ) → numbers_of ws ≡ Some ns → (ws ≡ map decimal ns) × EachBelow (2 ^ 32) ns
+numbers_read [] ns e =
+    let q : [] ≡ ns = cc in
+    let P : List ℕ → Type 0 = λ ks. ([] ≡ map decimal ks) × EachBelow (2 ^ 32) ks in subst P q (refl, tt)
+numbers_read (w ∷ ws) ns e =
+    option_and_then_some _ (number_of w) ns e (λ n t k.
+    option_and_then_some _ (numbers_of ws) ns k (λ ms u l.
+    let d = number_of_some w n t in
+    let g = numbers_read ws ms u in
+    let P : List ℕ → Type 0 = λ ks. (w ∷ ws ≡ map decimal ks) × EachBelow (2 ^ 32) ks in
+    subst P (same_Some (n ∷ ms) ns l) (ap (λ (x : List ℕ). x ∷ ws) d.0 ∙ ap (λ (us : List (List ℕ)). decimal n ∷ us) g.0, (d.1, g.1))))
+
+pub few_read : (ws : List (List ℕ)) (ns : List ℕ) → few_numbers_of ws ≡ Some ns → (ws ≡ map decimal ns) × EachBelow (2 ^ 32) ns × (length ns < 2 ^ 32)
+few_read ws ns e =
+    option_and_then_some _ (numbers_of ws) ns e (λ ms t k.
+    let q = cond_some (nat_lt (length ms) (2 ^ 32)) ms ns k in
+    let d = numbers_read ws ms t in
+    let P : List ℕ → Type 0 = λ ks. (ws ≡ map decimal ks) × EachBelow (2 ^ 32) ks × (length ks < 2 ^ 32) in
+    subst P q.1 (d.0, d.1, ltb-true (length ms) (2 ^ 32) q.0))

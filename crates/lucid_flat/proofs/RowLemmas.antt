@@ -15,7 +15,7 @@ use Rattle.lucid_flat.specs.Laws.{OneValue}
 use Rattle.lucid_flat.specs.Words.{HasNone}
 use Rattle.lucid_flat.specs.RowTails.{tail_row}
 use Rattle.lucid_flat.specs.RowLines.{IsRowOf}
-use Rattle.lucid_flat.proofs.LineBytes.{Lacks}
+use Rattle.lucid_flat.proofs.Bytes.{Lacks}
 use Rattle.lucid_flat.proofs.RowsGiven.{row_head, row_tail, line_parts, head_lacks, IsNoConstant, tail_row-parts}
 use Rattle.lucid_flat.proofs.TailsRead.{tail_read}
 

@@ -1,11 +1,9 @@
 -- A row's line: its first word and the words behind it, which are read as the row.
-use Rattle.std.proofs.Common.{◌≡◌, ◌≢◌, ℕ, ◌<◌, ◌^◌, List, [], ◌∷◌, ◌++◌, map, length, Some, refl, ap, ◌∙◌, arith}
+use Rattle.std.proofs.Common.{◌≡◌, ◌≢◌, ℕ, ◌<◌, ◌^◌, List, [], ◌∷◌, ◌++◌, map, Some, refl, ap, ◌∙◌, arith}
 use Rattle.std.specs.Prelude.{decimal, codes}
-use Rattle.std.specs.List.{AllByRecursion, join_with_byte}
+use Rattle.std.specs.List.{join_with_byte}
 use Rattle.std.specs.Option.{option_map}
-use Rattle.std.proofs.lemmas.Bool.{lt-ltb}
 use Rattle.lucid_value.specs.ValueText.{value_text}
-use Rattle.lucid_equations.specs.Ranges.{EachBelow}
 use Rattle.lucid_equations.specs.declared.rows.ScopeKind.{ScopeKind}
 use Rattle.lucid_equations.specs.declared.rows.ScopeKind.TheVariants.{Root, Called as CalledScope, Frozen as FrozenScope}
 use Rattle.lucid_equations.specs.declared.rows.ScopeRow.{ScopeRow}
@@ -16,12 +14,14 @@ use Rattle.lucid_equations.specs.declared.rows.NameRow.{NameRow}
 use Rattle.lucid_equations.specs.declared.rows.PlaceRow.{PlaceRow}
 use Rattle.lucid_flat.specs.FlatText.{FlatRow, scope_row, input_row, constant_row, node_row, name_row, place_row, root_row, kind_word, node_words, entry_word, entry_number, row_line}
 use Rattle.lucid_flat.specs.FlatTables.{NodeFits, RowFits}
-use Rattle.lucid_flat.specs.Words.{words_of, numbers_of, exactly}
-use Rattle.lucid_flat.specs.RowTails.{kind_of, scope_of, input_of, node_row_of, entry_of, name_of, few_numbers_of, place_of, root_of, tail_row}
-use Rattle.lucid_flat.proofs.LineBytes.{Lacks, has_none, IsSolid, all_solid_lack, decimal_solid, decimals_solid, node_solid, kind_solid}
+use Rattle.lucid_flat.specs.Words.{words_of, exactly}
+use Rattle.lucid_flat.specs.RowTails.{kind_of, scope_of, input_of, node_row_of, entry_of, name_of, place_of, root_of, tail_row}
+use Rattle.lucid_flat.proofs.Bytes.{Lacks, IsSolid, solid_lacks, decimal_solid, decimals_solid}
+use Rattle.lucid_flat.proofs.LineBytes.{node_solid, kind_solid, entry_solid}
+use Rattle.lucid_flat.proofs.NumberLemmas.{few_numbers_of-words}
 use Rattle.lucid_flat.proofs.NodesRead.{node_of-words}
 use Rattle.lucid_flat.proofs.Threes.{as_three, exactly-words}
-use Rattle.lucid_flat.proofs.WordLemmas.{words_of_one, words_of_more, number_of-decimal, take_number-decimal}
+use Rattle.lucid_flat.proofs.WordLemmas.{spaced_words, take_number-decimal}
 
 -- the first word of a row's line, and the words behind it
 abbrev pub row_head : FlatRow → List ℕ
@@ -55,26 +55,13 @@ line_parts (name_row r) = refl
 line_parts (place_row r) = refl
 line_parts (root_row n) = refl
 
-entry_word_lacks : (e : Entry) → Lacks 32 (entry_word e)
-entry_word_lacks (Plain a) = (refl, (refl, (refl, (refl, (refl, tt)))))
-entry_word_lacks (Parameter i) = (refl, (refl, (refl, (refl, (refl, (refl, (refl, (refl, (refl, tt)))))))))
-entry_word_lacks (Current a) = (refl, (refl, (refl, (refl, (refl, (refl, (refl, tt)))))))
-entry_word_lacks (Called a) = (refl, (refl, (refl, (refl, (refl, (refl, tt))))))
-
 -- the first word has no blank
-pub head_lacks : (r : FlatRow) → Lacks 32 (row_head r)
-head_lacks (scope_row r) = (refl, (refl, (refl, (refl, (refl, tt)))))
-head_lacks (input_row n) = (refl, (refl, (refl, (refl, (refl, tt)))))
-head_lacks (constant_row v) = (refl, (refl, (refl, (refl, (refl, tt)))))
-head_lacks (node_row r) = (refl, (refl, (refl, (refl, tt))))
-head_lacks (name_row r) = entry_word_lacks r.kind
-head_lacks (place_row r) = (refl, (refl, (refl, (refl, (refl, tt)))))
-head_lacks (root_row n) = (refl, (refl, (refl, (refl, tt))))
+head_solid : (r : FlatRow) → IsSolid (row_head r)
+head_solid (name_row r) = entry_solid r.kind
+head_solid r = refl
 
--- the words of words without blanks, joined by blanks, are these words
-pub words_of-join : (w : List ℕ) (ws : List (List ℕ)) → AllByRecursion (Lacks 32) (w ∷ ws) → words_of (join_with_byte 32 (w ∷ ws)) ≡ w ∷ ws
-words_of-join w [] h = words_of_one w (has_none 32 w h.0)
-words_of-join w (v ∷ ws) h = words_of_more w (join_with_byte 32 (v ∷ ws)) _ refl (has_none 32 w h.0) ∙ ap (λ (us : List (List ℕ)). w ∷ us) (words_of-join v ws h.1)
+pub head_lacks : (r : FlatRow) → Lacks 32 (row_head r)
+head_lacks r = solid_lacks 32 refl (row_head r) (head_solid r)
 
 -- the kind of its own word
 kind_of-word : (k : ScopeKind) → k ≢ Root → kind_of (kind_word k) ≡ Some k
@@ -103,13 +90,6 @@ name_of-words r h k =
     let e : exactly 2 (decimal r.scope ∷ decimal (entry_number r.kind) ∷ []) ≡ Some (as_three ns) = exactly-words ns (h, (k, tt)) (omega arith, omega arith) in
     rw (e, entry_of-word r.kind) refl
 
-numbers_of-words : (ns : List ℕ) → EachBelow (2 ^ 32) ns → numbers_of (map decimal ns) ≡ Some ns
-numbers_of-words [] h = refl
-numbers_of-words (n ∷ ns) h = rw (number_of-decimal n h.0, numbers_of-words ns h.1) refl
-
-few_numbers_of-words : (ns : List ℕ) → EachBelow (2 ^ 32) ns → length ns < 2 ^ 32 → few_numbers_of (map decimal ns) ≡ Some ns
-few_numbers_of-words ns h l = rw (numbers_of-words ns h, lt-ltb (length ns) (2 ^ 32) l) refl
-
 place_of-words : (r : PlaceRow) → RowFits (place_row r) → place_of (decimal r.scope ∷ decimal r.name ∷ map decimal r.actuals) ≡ Some r
 unfolding place_of
 place_of-words r h =
@@ -125,16 +105,13 @@ abbrev pub IsNoConstant : FlatRow → Type 0
 IsNoConstant (constant_row v) = ⊥
 IsNoConstant _ = Unit {0}
 
--- what is behind the first word of a row with numbers is words of letters and digits
+-- what is behind the first word of a name's row
 name_tail : (e : Entry) (t : List ℕ) → tail_row (entry_word e) t ≡ option_map name_row (name_of (entry_word e) (words_of t))
 unfolding tail_row
 name_tail (Plain a) t = refl
 name_tail (Parameter i) t = refl
 name_tail (Current a) t = refl
 name_tail (Called a) t = refl
-
-spaced_words : (w : List ℕ) (ws : List (List ℕ)) → AllByRecursion IsSolid (w ∷ ws) → words_of (join_with_byte 32 (w ∷ ws)) ≡ w ∷ ws
-spaced_words w ws h = words_of-join w ws (all_solid_lack 32 refl (w ∷ ws) h)
 
 -- A row that is no constant is read from the first word of its line and what is behind.
 pub tail_row-parts : (r : FlatRow) → RowFits r → IsNoConstant r → tail_row (row_head r) (row_tail r) ≡ Some r

@@ -1,10 +1,9 @@
 -- A row that was read from a line has that line.
-use Rattle.std.proofs.Common.{◌≡◌, ◌≢◌, ℕ, ◌<◌, ◌^◌, cond, List, [], ◌∷◌, ◌++◌, map, length, take, Option, Some, None, ◌⊎◌, inl, inr, refl, sym, ap, ◌∙◌, subst}
-use Rattle.std.specs.Prelude.{decimal, codes, nat_lt, IsTrue}
+use Rattle.std.proofs.Common.{◌≡◌, ◌≢◌, ℕ, ◌<◌, ◌^◌, cond, List, [], ◌∷◌, ◌++◌, map, take, Option, Some, None, ◌⊎◌, inl, inr, refl, sym, ap, ◌∙◌, subst}
+use Rattle.std.specs.Prelude.{decimal, codes, IsTrue}
 use Rattle.std.specs.List.{join_with_byte}
 use Rattle.std.specs.Option.{option_map}
 use Rattle.std.specs.Str.{bytes_eq}
-use Rattle.std.proofs.lemmas.Bool.{ltb-true}
 use Rattle.std.proofs.lemmas.List.Splits.{join_with_byte-slice_split}
 use Rattle.std.proofs.lemmas.Option.{option_and_then_some, cond_some, same_Some}
 use Rattle.lucid_value.specs.Names.{is_name}
@@ -19,13 +18,14 @@ use Rattle.lucid_equations.specs.declared.rows.NameRow.{NameRow}
 use Rattle.lucid_equations.specs.declared.rows.PlaceRow.{PlaceRow}
 use Rattle.lucid_flat.specs.FlatText.{FlatRow, scope_row, input_row, node_row, name_row, place_row, root_row, kind_word, entry_word, entry_number, row_line}
 use Rattle.lucid_flat.specs.FlatTables.{RowFits}
-use Rattle.lucid_flat.specs.Words.{words_of, number_of, numbers_of, take_word, take_number, is_end, exactly, listed}
-use Rattle.lucid_flat.specs.RowTails.{kind_of, scope_of, input_of, node_row_of, entry_of, name_of, few_numbers_of, place_of, root_of, tail_row}
+use Rattle.lucid_flat.specs.Words.{words_of, few_numbers_of, take_word, take_number, is_end, exactly, listed}
+use Rattle.lucid_flat.specs.RowTails.{kind_of, scope_of, input_of, node_row_of, entry_of, name_of, place_of, root_of, tail_row}
 use Rattle.lucid_flat.proofs.Chosen.{by_word, no_word}
 use Rattle.lucid_flat.proofs.NodesRead.{node_read}
+use Rattle.lucid_flat.proofs.NumberLemmas.{few_read}
 use Rattle.lucid_flat.proofs.RowsGiven.{row_head, row_rest, line_parts}
 use Rattle.lucid_flat.proofs.Threes.{exactly_read}
-use Rattle.lucid_flat.proofs.WordLemmas.{number_of_some, taken}
+use Rattle.lucid_flat.proofs.WordLemmas.{taken}
 
 -- a kind that was read has its word, and is no root's
 kind_by : (w : List ℕ) (k : ScopeKind) → ((w ≡ codes "called") × (Some CalledScope ≡ Some k)) ⊎ (cond (bytes_eq w (codes "frozen")) (Some FrozenScope) None ≡ Some k)
@@ -120,27 +120,6 @@ name_read w ws r e =
     let words = (d.0.0 ∙ ap (map decimal) both) ∙ ap (λ (n : ℕ). decimal ns.first ∷ decimal n ∷ []) g.1 in
     let P : NameRow → Type 0 = λ y. (w ≡ entry_word y.kind) × Reads ws (name_row y) in
     subst P (same_Some (record { scope = ns.first; kind = x }) r l) (g.0, (words, (below.0, subst (λ n. n < 2 ^ 32) g.1 below.1.0)))))
-
--- numbers that were read
-numbers_read : (ws : List (List ℕ)) (ns : List ℕ) → numbers_of ws ≡ Some ns → (ws ≡ map decimal ns) × EachBelow (2 ^ 32) ns
-numbers_read [] ns e =
-    let q : [] ≡ ns = cc in
-    let P : List ℕ → Type 0 = λ ks. ([] ≡ map decimal ks) × EachBelow (2 ^ 32) ks in subst P q (refl, tt)
-numbers_read (w ∷ ws) ns e =
-    option_and_then_some _ (number_of w) ns e (λ n t k.
-    option_and_then_some _ (numbers_of ws) ns k (λ ms u l.
-    let d = number_of_some w n t in
-    let g = numbers_read ws ms u in
-    let P : List ℕ → Type 0 = λ ks. (w ∷ ws ≡ map decimal ks) × EachBelow (2 ^ 32) ks in
-    subst P (same_Some (n ∷ ms) ns l) (ap (λ (x : List ℕ). x ∷ ws) d.0 ∙ ap (λ (us : List (List ℕ)). decimal n ∷ us) g.0, (d.1, g.1))))
-
-few_read : (ws : List (List ℕ)) (ns : List ℕ) → few_numbers_of ws ≡ Some ns → (ws ≡ map decimal ns) × EachBelow (2 ^ 32) ns × (length ns < 2 ^ 32)
-few_read ws ns e =
-    option_and_then_some _ (numbers_of ws) ns e (λ ms t k.
-    let q = cond_some (nat_lt (length ms) (2 ^ 32)) ms ns k in
-    let d = numbers_read ws ms t in
-    let P : List ℕ → Type 0 = λ ks. (ws ≡ map decimal ks) × EachBelow (2 ^ 32) ks × (length ks < 2 ^ 32) in
-    subst P q.1 (d.0, d.1, ltb-true (length ms) (2 ^ 32) q.0))
 
 place_read : (ws : List (List ℕ)) (r : PlaceRow) → place_of ws ≡ Some r → Reads ws (place_row r)
 unfolding place_of

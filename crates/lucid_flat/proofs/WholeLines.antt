@@ -1,31 +1,24 @@
 -- The whole lines of bytes that begin as a text, and what goes on with them.
-use Rattle.std.proofs.Common.{◌≡◌, ℕ, ◌≤◌, ◌+◌, suc, zero, Bool, true, false, cond, List, [], ◌∷◌, ◌++◌, map, take, drop, length, None, refl, sym, ap, ◌∙◌, subst, arith, append_assoc, length-append}
+use Rattle.std.proofs.Common.{◌≡◌, ℕ, ◌≤◌, ◌+◌, Bool, true, false, cond, List, [], ◌∷◌, ◌++◌, map, take, drop, length, None, refl, sym, ap, ◌∙◌, subst, arith, append_assoc, length-append}
 use Rattle.std.specs.Prelude.{◌==◌, codes}
-use Rattle.std.specs.List.{AllByRecursion, flat_map, slice_split, onto_first}
+use Rattle.std.specs.List.{AllByRecursion, flat_map}
 use Rattle.std.proofs.lemmas.List.{append-nil, length-map}
 use Rattle.std.proofs.lemmas.List.Elements.{recursion_from_All}
-use Rattle.std.proofs.lemmas.List.Splits.{slice_split_none, slice_split_at}
 use Rattle.lucid_equations.specs.declared.table.Table.{Table}
-use Rattle.lucid_flat.specs.FlatText.{FlatRow, scope_row, input_row, constant_row, node_row, name_row, place_row, root_row, entry_word, entry_number, row_words, row_line, first_line, flat_rows, flat_lines, ended, flat_text}
-use Rattle.lucid_flat.specs.FlatTables.{RowFits, HasText, IsTextOf, all_but_last, whole_lines, GoesOn, IsFirstWrongLine}
+use Rattle.lucid_flat.specs.FlatText.{FlatRow, scope_row, input_row, constant_row, node_row, name_row, place_row, root_row, entry_number, row_words, row_line, first_line, flat_rows, flat_lines, ended, flat_text}
+use Rattle.lucid_flat.specs.FlatTables.{RowFits, HasText, IsTextOf, whole_lines, GoesOn, IsFirstWrongLine}
 use Rattle.lucid_flat.specs.Words.{HasNone}
 use Rattle.lucid_flat.specs.RowLines.{IsRowOf}
 use Rattle.lucid_flat.specs.Laws.{OneValue}
 use Rattle.std.specs.Bool.{MatchBool}
 use Rattle.lucid_flat.specs.LinesRead.{AddsLine, NoLineHere}
 use Rattle.lucid_flat.specs.Gathered.{part_behind, rows_so_far, IsBegun, CannotCome}
-use Rattle.lucid_flat.proofs.LineBytes.{Lacks, has_none, IsSolid, solid_lacks, all_solid_lack, decimal_solid, decimals_solid, node_solid, kind_solid, name_lacks, value_lacks, join_lacks}
+use Rattle.lucid_flat.proofs.Bytes.{Lacks, solid_lacks, all_solid_lack, decimal_solid, decimals_solid, join_lacks}
+use Rattle.lucid_flat.proofs.LineBytes.{node_solid, kind_solid, entry_solid, name_lacks, value_lacks}
+use Rattle.lucid_flat.proofs.LineEnds.{whole_more, whole_none, whole-append, split_at, take_front, take_one_more, none_behind, ended-append}
 use Rattle.lucid_flat.proofs.RowLemmas.{one_row}
 use Rattle.lucid_flat.proofs.TextMade.{all-append}
 use Rattle.lucid_flat.proofs.Gathering.{push_g, behind-push}
-use Rattle.lucid_equations.specs.declared.rows.Entry.{Entry}
-use Rattle.lucid_equations.specs.declared.rows.Entry.TheVariants.{Plain, Parameter, Current, Called}
-
-entry_solid : (e : Entry) → IsSolid (entry_word e)
-entry_solid (Plain a) = refl
-entry_solid (Parameter i) = refl
-entry_solid (Current a) = refl
-entry_solid (Called a) = refl
 
 words_lack : (r : FlatRow) → RowFits r → AllByRecursion (Lacks 10) (row_words r)
 words_lack (scope_row r) h = all_solid_lack 10 refl (row_words (scope_row r)) (refl, (decimal_solid r.parent h.0, (kind_solid r.kind, tt)))
@@ -51,49 +44,10 @@ lines_of_rows rs = first_line ∷ map row_line rs
 pub lines_lack : (rs : List FlatRow) → AllByRecursion RowFits rs → AllByRecursion (Lacks 10) (lines_of_rows rs)
 lines_lack rs h = ((refl, (refl, (refl, (refl, (refl, (refl, (refl, (refl, (refl, (refl, (refl, (refl, tt)))))))))))), rows_lack rs h)
 
--- the parts of bytes at their line ends: there is one at least
-data Parts : List (List ℕ) → Type 0 where
-  parts : (x : List ℕ) (xs : List (List ℕ)) → Parts (x ∷ xs)
-
-onto_parts : (b : ℕ) (xs : List (List ℕ)) → Parts (onto_first b xs)
-onto_parts b [] = parts (b ∷ []) []
-onto_parts b (x ∷ xs) = parts (b ∷ x) xs
-
-cond_parts : (t : Bool) (b : ℕ) (xs : List (List ℕ)) → Parts (cond t ([] ∷ xs) (onto_first b xs))
-cond_parts true b xs = parts [] xs
-cond_parts false b xs = onto_parts b xs
-
-split_parts : (bs : List ℕ) → Parts (slice_split (λ b. b == 10) bs)
-split_parts [] = parts [] []
-split_parts (b ∷ bs) = cond_parts (b == 10) b (slice_split (λ b. b == 10) bs)
-
-but_last : (w : List ℕ) (xs : List (List ℕ)) → Parts xs → all_but_last (w ∷ xs) ≡ w ∷ all_but_last xs
-but_last w _ (parts x xs) = refl
-
--- a line that is ended is whole
-whole_more : (w rest : List ℕ) → Lacks 10 w → whole_lines (w ++ 10 ∷ rest) ≡ w ∷ whole_lines rest
-whole_more w rest h = ap all_but_last (slice_split_at _ w 10 rest (has_none 10 w h) refl) ∙ but_last w _ (split_parts rest)
-
--- bytes without a line end are no whole line
-pub whole_none : (bs : List ℕ) → Lacks 10 bs → whole_lines bs ≡ []
-whole_none bs h = ap all_but_last (slice_split_none _ bs (has_none 10 bs h))
-
--- lines that are ended are the whole lines in front of those behind them
-pub whole-append : (ls : List (List ℕ)) (rest : List ℕ) → AllByRecursion (Lacks 10) ls → whole_lines (flat_map ended ls ++ rest) ≡ ls ++ whole_lines rest
-whole-append [] rest h = refl
-whole-append (l ∷ ls) rest h =
-    ap whole_lines (append_assoc (ended l) (flat_map ended ls) rest ∙ append_assoc l (10 ∷ []) (flat_map ended ls ++ rest))
-    ∙ (whole_more l (flat_map ended ls ++ rest) h.0 ∙ ap (λ (xs : List (List ℕ)). l ∷ xs) (whole-append ls rest h.1))
-
 -- the whole lines of a text are the table's
 pub text_lines : (bytes : List ℕ) (t : Table) → IsTextOf bytes t → whole_lines bytes ≡ flat_lines t
 text_lines bytes t h =
     ap whole_lines (h.text ∙ sym (append-nil (flat_text t))) ∙ (whole-append (flat_lines t) [] (lines_lack (flat_rows t) h.has.rows) ∙ append-nil (flat_lines t))
-
-split_at : {A : Type 0} (n : ℕ) (xs : List A) → xs ≡ take n xs ++ drop n xs
-split_at zero xs = refl
-split_at (suc n) [] = refl
-split_at (suc n) (x ∷ xs) = ap (λ (ys : List _). x ∷ ys) (split_at n xs)
 
 -- a text goes on with each of its lines
 pub text_goes_on : (bytes : List ℕ) (t : Table) → IsTextOf bytes t → (n : ℕ) → n ≤ length (whole_lines bytes) → GoesOn bytes n
@@ -197,10 +151,6 @@ pub record Begins (bytes : List ℕ) (rows : List FlatRow) (rest : List ℕ) : T
 lines_begun : (bytes : List ℕ) (rows : List FlatRow) (rest : List ℕ) → Begins bytes rows rest → whole_lines bytes ≡ lines_of_rows rows ++ whole_lines rest
 lines_begun bytes rows rest b = ap whole_lines b.text ∙ whole-append (lines_of_rows rows) rest (lines_lack rows b.fit)
 
-take_front : {A : Type 0} (xs ys : List A) → take (length xs) (xs ++ ys) ≡ xs
-take_front [] ys = refl
-take_front (x ∷ xs) ys = ap (λ (zs : List _). x ∷ zs) (take_front xs ys)
-
 map-append : (rs ss : List FlatRow) → map row_line (rs ++ ss) ≡ map row_line rs ++ map row_line ss
 map-append [] ss = refl
 map-append (r ∷ rs) ss = ap (λ (ls : List (List ℕ)). row_line r ∷ ls) (map-append rs ss)
@@ -221,11 +171,6 @@ goes_so_far bytes rows rest b c =
           ap lines_of_rows c.begins ∙ (ap (λ (ls : List (List ℕ)). first_line ∷ ls) (map-append rows c.more)
           ∙ ap (λ (ls : List (List ℕ)). ls ++ map row_line c.more) (sym (take_front (lines_of_rows rows) (whole_lines rest)) ∙ (ap (λ (k : ℕ). take k (lines_of_rows rows ++ whole_lines rest)) n ∙ ap (take (length rows + 1)) (sym w))));
     }
-
-take_one_more : {A : Type 0} (xs : List A) (y : A) (ys : List A) → take (length xs + 1) (xs ++ y ∷ ys) ≡ xs ++ y ∷ []
-take_one_more [] y ys = refl
-take_one_more (x ∷ xs) y ys =
-    let e : suc (length xs) + 1 ≡ suc (length xs + 1) = omega arith in rw e (ap (λ (zs : List _). x ∷ zs) (take_one_more xs y ys))
 
 -- the whole lines, where a line is ended behind those of rows
 one_more_line : (bytes : List ℕ) (rows : List FlatRow) (front behind : List ℕ) → Begins bytes rows (front ++ 10 ∷ behind) → Lacks 10 front
@@ -280,10 +225,6 @@ same_rows law (r ∷ rs) (s ∷ ss) f g e =
     let a = one_row law r s f.0 g.0 (cc) in
     let b = same_rows law rs ss f.1 g.1 (cc) in cc (a, b)
 
-none_behind : (xs ys : List ℕ) → xs ++ ys ≡ xs → ys ≡ []
-none_behind [] ys e = e
-none_behind (x ∷ xs) ys e = none_behind xs ys (cc)
-
 -- bytes that end are a text only where the root is the last row and nothing is left
 end_text : OneValue → (bytes : List ℕ) (rows : List FlatRow) (rest : List ℕ) → Begins bytes rows rest → Lacks 10 rest → (t : Table) → IsTextOf bytes t → (rest ≡ []) × (part_behind 0 rows ≡ 7)
 end_text law bytes rows rest b f t d =
@@ -312,10 +253,6 @@ begins_behind bytes rows rest e f = record {
   fit = f;
 }
 
-ended-append : (xs ys : List (List ℕ)) → flat_map ended (xs ++ ys) ≡ flat_map ended xs ++ flat_map ended ys
-ended-append [] ys = refl
-ended-append (x ∷ xs) ys = ap (λ (zs : List ℕ). ended x ++ zs) (ended-append xs ys) ∙ sym (append_assoc (ended x) (flat_map ended xs) (flat_map ended ys))
-
 ended_more : (old : List FlatRow) (r : FlatRow) (behind : List ℕ)
     → flat_map ended (map row_line (old ++ r ∷ [])) ++ behind ≡ flat_map ended (map row_line old) ++ (row_line r ++ 10 ∷ behind)
 ended_more old r behind =
@@ -329,16 +266,3 @@ pub read_more : (bytes : List ℕ) (old new : List FlatRow) (rest front behind :
 read_more bytes old new rest front behind e f (r, n, l) =
     (e ∙ ap (λ (x : List ℕ). flat_map ended (map row_line old) ++ x) (f ∙ ap (λ (x : List ℕ). x ++ 10 ∷ behind) l))
     ∙ (sym (ended_more old r behind) ∙ ap (λ (rs : List FlatRow). flat_map ended (map row_line rs) ++ behind) (sym n))
-
--- no whole line stands in bytes without a line end
-pub no_whole_line : (bytes : List ℕ) (w : List ℕ) (more : List (List ℕ)) → HasNone 10 bytes → whole_lines bytes ≡ w ∷ more → ⊥
-no_whole_line bytes w more h e =
-    let n = whole_none bytes (recursion_from_All _ bytes h) in cc
-
--- and the first whole line is the bytes before the first line end
-pub first_whole_line : (bytes front behind w : List ℕ) (more : List (List ℕ)) → bytes ≡ front ++ 10 ∷ behind → HasNone 10 front → whole_lines bytes ≡ w ∷ more → front ≡ w
-first_whole_line bytes front behind w more e h l =
-    let n = sym (ap whole_lines e ∙ whole_more front behind (recursion_from_All _ front h)) ∙ l in same_first front w (whole_lines behind) more n
-  where
-    same_first : (x y : List ℕ) (xs ys : List (List ℕ)) → x ∷ xs ≡ y ∷ ys → x ≡ y
-    same_first x y xs ys q = cc

@@ -1,7 +1,7 @@
 -- Lemmas on the words of bytes and the numbers that words are.
 use Rattle.std.proofs.Common.{◌≡◌, ℕ, ◌<◌, ◌^◌, Bool, true, false, ◌&&◌, cond, List, [], ◌∷◌, ◌++◌, Option, Some, None, is_none, refl, sym, ap, ◌∙◌, subst, arith}
 use Rattle.std.specs.Prelude.{decimal}
-use Rattle.std.specs.List.{onto_first}
+use Rattle.std.specs.List.{AllByRecursion, onto_first, join_with_byte}
 use Rattle.std.specs.Str.{IsUtf8}
 use Rattle.std.specs.Str.Parse.{digits_value}
 use Rattle.std.proofs.lemmas.Bool.{and_parts, ltb-true, lt-ltb}
@@ -11,6 +11,7 @@ use Rattle.std.proofs.lemmas.Slice.Eq.{bytes_eq-Decides}
 use Rattle.std.proofs.lemmas.Str.{IsUtf8-from_ascii}
 use Rattle.std.specs.Option.{option_and_then}
 use Rattle.lucid_flat.specs.Words.{HasNone, words_of, words_left, number_of, take_number, is_end}
+use Rattle.lucid_flat.proofs.Bytes.{Lacks, has_none, IsSolid, all_solid_lack}
 
 is_end-onto_first : (b : ℕ) (ps : List (List ℕ)) → is_end (onto_first b ps) ≡ false
 is_end-onto_first b [] = refl
@@ -95,3 +96,12 @@ taken (w ∷ ws) p e = taken_by w ws p (number_of w) refl e
 pub take_number-decimal : (n : ℕ) (ws : List (List ℕ)) → n < 2 ^ 32 → take_number (decimal n ∷ ws) ≡ Some (n, ws)
 unfolding take_number
 take_number-decimal n ws h = ap (option_and_then {U = ℕ × List (List ℕ)} (λ k. Some (k, ws))) (number_of-decimal n h)
+
+-- the words of words without blanks, joined by blanks, are these words
+words_of-join : (w : List ℕ) (ws : List (List ℕ)) → AllByRecursion (Lacks 32) (w ∷ ws) → words_of (join_with_byte 32 (w ∷ ws)) ≡ w ∷ ws
+words_of-join w [] h = words_of_one w (has_none 32 w h.0)
+words_of-join w (v ∷ ws) h = words_of_more w (join_with_byte 32 (v ∷ ws)) _ refl (has_none 32 w h.0) ∙ ap (λ (us : List (List ℕ)). w ∷ us) (words_of-join v ws h.1)
+
+-- and so are words of letters and digits
+pub spaced_words : (w : List ℕ) (ws : List (List ℕ)) → AllByRecursion IsSolid (w ∷ ws) → words_of (join_with_byte 32 (w ∷ ws)) ≡ w ∷ ws
+spaced_words w ws h = words_of-join w ws (all_solid_lack 32 refl (w ∷ ws) h)

@@ -106,6 +106,12 @@ form_word (Freeze a) = codes "freeze"
 form_word (Refer n l) = codes "refer"
 form_word (Call n q l) = codes "call"
 
+-- a node of each form but a data operator's, with these numbers
+abbrev pub forms_with : (a b c : ℕ) → List Node
+forms_with a b c =
+    Const a ∷ Input a ∷ If a b c ∷ And a b ∷ Or a b ∷ First a ∷ Next a ∷ Fby a b ∷ Whenever a b ∷ Asa a b ∷ Upon a b ∷ Attime a b ∷ Initial a ∷ Succ a
+    ∷ Sby a b ∷ Atspace a b ∷ Freeze a ∷ Refer a b ∷ Call a b c ∷ []
+
 -- a node's numbers in the order of its fields: its parts, but of a data operator also those past its arity, and what has no parts has others
 abbrev pub node_numbers : Node → List ℕ
 node_numbers (Const k) = k ∷ []

@@ -5,10 +5,10 @@ use Rattle.std.specs.Str.{bytes_eq}
 use Rattle.lucid_ops.specs.Codes.{operators}
 use Rattle.lucid_ops.specs.declared.op.Op.{Op}
 use Rattle.lucid_equations.specs.declared.rows.Node.{Node}
-use Rattle.lucid_equations.specs.declared.rows.Node.TheVariants.{Const, Input, Apply, If, And, Or, First, Next, Fby, Whenever, Asa, Upon, Attime, Initial, Succ, Sby, Atspace, Freeze, Refer, Call}
+use Rattle.lucid_equations.specs.declared.rows.Node.TheVariants.{Apply}
 use Rattle.lucid_flat.specs.declared.ops.OpWord.{OpWord}
 use Rattle.lucid_flat.specs.declared.words.Three.{Three}
-use Rattle.lucid_flat.specs.FlatText.{op_word, form_word, node_numbers}
+use Rattle.lucid_flat.specs.FlatText.{op_word, form_word, forms_with, node_numbers}
 use Rattle.lucid_flat.specs.Words.{◌>>=◌, take_word, three_of, exactly}
 
 -- the operator of a word
@@ -21,12 +21,6 @@ op_in r = r.op
 
 abbrev pub is_own : OpWord → Bool
 is_own r = bytes_eq (op_word r.op) r.word.now
-
--- a node of each form but a data operator's, with these numbers
-abbrev pub forms_with : (a b c : ℕ) → List Node
-forms_with a b c =
-    Const a ∷ Input a ∷ If a b c ∷ And a b ∷ Or a b ∷ First a ∷ Next a ∷ Fby a b ∷ Whenever a b ∷ Asa a b ∷ Upon a b ∷ Attime a b ∷ Initial a ∷ Succ a
-    ∷ Sby a b ∷ Atspace a b ∷ Freeze a ∷ Refer a b ∷ Call a b c ∷ []
 
 -- the node's form has this word and so many numbers
 abbrev pub has_form : (word : List ℕ) → (count : ℕ) → Node → Bool

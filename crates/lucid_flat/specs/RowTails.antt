@@ -1,5 +1,5 @@
 -- How the row of a line is read from its first word and the words behind it. A constant is none of them: it is read as a value.
-use Rattle.std.specs.Prelude.{ℕ, nat_lt, ◌^◌, List, Option, Some, None, codes, if◌then◌else◌, length}
+use Rattle.std.specs.Prelude.{ℕ, List, Option, Some, None, codes, if◌then◌else◌}
 use Rattle.std.specs.Option.{option_map}
 use Rattle.std.specs.Str.{bytes_eq}
 use Rattle.lucid_value.specs.Names.{is_name}
@@ -12,7 +12,7 @@ use Rattle.lucid_equations.specs.declared.rows.NodeRow.{NodeRow}
 use Rattle.lucid_equations.specs.declared.rows.NameRow.{NameRow}
 use Rattle.lucid_equations.specs.declared.rows.PlaceRow.{PlaceRow}
 use Rattle.lucid_flat.specs.FlatText.{FlatRow, scope_row, input_row, node_row, name_row, place_row, root_row}
-use Rattle.lucid_flat.specs.Words.{◌>>=◌, words_of, take_word, take_number, numbers_of, is_end, exactly}
+use Rattle.lucid_flat.specs.Words.{◌>>=◌, words_of, take_word, take_number, few_numbers_of, is_end, exactly}
 use Rattle.lucid_flat.specs.Forms.{node_of}
 
 -- the kind of a scope that isn't the root
@@ -51,12 +51,6 @@ name_of w ws = do
   ns ← exactly 2 ws
   e ← entry_of w ns.second
   Some (record { scope = ns.first; kind = e })
-
--- numbers of which there are fewer than 2^32
-abbrev pub few_numbers_of : List (List ℕ) → Option (List ℕ)
-few_numbers_of ws = do
-  ns ← numbers_of ws
-  if nat_lt (length ns) (2 ^ 32) then Some ns else None
 
 -- the row of a call place: its scope, its name and its actuals
 unfoldable pub place_of : List (List ℕ) → Option PlaceRow

@@ -1,5 +1,5 @@
 -- The words of a line, and how they are taken off it one by one.
-use Rattle.std.specs.Prelude.{◌≡◌, ℕ, ◌^◌, Bool, true, false, ◌&&◌, nat_lt, if◌then◌else◌, List, [], ◌∷◌, Option, Some, None, decimal, take, ◌==◌}
+use Rattle.std.specs.Prelude.{◌≡◌, ℕ, ◌^◌, Bool, true, false, ◌&&◌, nat_lt, if◌then◌else◌, List, [], ◌∷◌, Option, Some, None, decimal, take, length, ◌==◌}
 use Rattle.std.specs.List.{All, flat_map, slice_split}
 use Rattle.std.specs.Option.{option_and_then}
 use Rattle.std.specs.Str.{bytes_eq}
@@ -37,6 +37,12 @@ numbers_of (w ∷ ws) = do
   n ← number_of w
   ns ← numbers_of ws
   Some (n ∷ ns)
+
+-- numbers of which there are fewer than 2^32
+abbrev pub few_numbers_of : List (List ℕ) → Option (List ℕ)
+few_numbers_of ws = do
+  ns ← numbers_of ws
+  if nat_lt (length ns) (2 ^ 32) then Some ns else None
 
 -- the next word, or the number that it is, and the words behind it
 abbrev pub take_word : List (List ℕ) → Option (List ℕ × List (List ℕ))

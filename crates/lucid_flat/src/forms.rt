@@ -2,10 +2,10 @@
 ghost use Rattle.std.specs.Prelude.{◌≡◌, ◌∷◌, ◌++◌, [], OnOk, map, decimal, length};
 ghost use Rattle.std.specs.List.{find};
 ghost use Rattle.std.specs.Option.{option_copied};
-ghost use Rattle.lucid_flat.specs.FlatText.{form_word, node_numbers, node_words};
+ghost use Rattle.lucid_flat.specs.FlatText.{form_word, forms_with, node_numbers, node_words};
 ghost use Rattle.lucid_flat.specs.FlatTables.{NodeFits};
 ghost use Rattle.lucid_flat.specs.Words.{words_left, spaced};
-ghost use Rattle.lucid_flat.specs.Forms.{forms_with, has_form, form_node, apply_node, node_of};
+ghost use Rattle.lucid_flat.specs.Forms.{has_form, form_node, apply_node, node_of};
 
 use crate::ops::{op_of, op_word};
 use crate::put::{put_number, put_numbers, put_word};

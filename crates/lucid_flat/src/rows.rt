@@ -1,14 +1,14 @@
 //! The rows of the flat form, each read from its line.
 ghost use Rattle.std.specs.Prelude.{◌≡◌, ◌++◌, ◌∷◌, IfOk};
-ghost use Rattle.std.specs.Option.{option_map, option_copied};
+ghost use Rattle.std.specs.Option.{option_map};
 ghost use Rattle.std.specs.Str.{bytes_eq};
-ghost use Rattle.lucid_flat.specs.Words.{words_of, words_left};
-ghost use Rattle.lucid_flat.specs.RowTails.{kind_of, scope_of, node_row_of, entry_of, name_of, few_numbers_of, place_of, root_of, input_of, tail_row};
+ghost use Rattle.lucid_flat.specs.Words.{words_of};
+ghost use Rattle.lucid_flat.specs.RowTails.{kind_of, scope_of, node_row_of, entry_of, name_of, place_of, root_of, input_of, tail_row};
 ghost use Rattle.lucid_flat.specs.RowLines.{plain_row, IsConstantOf, IsRowOf};
 
 use crate::forms::read_node;
-use crate::words::{at_end, cut, exactly, next_number, next_word};
-use lucid_equations::{Entry, NameRow, NodeRow, Numbers32, PlaceRow, ScopeKind, ScopeRow};
+use crate::words::{all_numbers, at_end, cut, exactly, next_number, next_word};
+use lucid_equations::{Entry, NameRow, NodeRow, PlaceRow, ScopeKind, ScopeRow};
 use lucid_value::{
     MakeRefusal, Name, ReadRefusal, Value, one_line_reading, read_value, text_is_read,
 };
@@ -122,25 +122,6 @@ fn read_name(word: &[u8], tail: &[u8]) -> Option<NameRow>
     Some(NameRow { scope, kind })
 }
 
-// The numbers that the words left are, fewer than 2^32.
-fn read_numbers(alloc: Global, words: Option<&[u8]>) -> Result<Option<Numbers32>, AllocError>
-    ensures { IfOk result (λ read. read ≡ few_numbers_of (words_left (option_copied words.entry))) }
-{
-    let mut numbers = Vec::new(alloc);
-    let mut rest = words;
-    while !at_end(rest) {
-        let Some((n, behind)) = next_number(rest) else {
-            return Ok(None);
-        };
-        if numbers.len() >= u32::MAX as usize {
-            return Ok(None);
-        }
-        numbers.push(n)?;
-        rest = behind;
-    }
-    Ok(Some(Numbers32::from_vec(numbers)))
-}
-
 #[tactic(auto, unfolding(crate::specs::RowTails::place_of))]
 fn read_place(alloc: Global, tail: &[u8]) -> Result<Option<PlaceRow>, AllocError>
     ensures { IfOk result (λ read. read ≡ place_of (words_of tail.now)) }
@@ -151,7 +132,7 @@ fn read_place(alloc: Global, tail: &[u8]) -> Result<Option<PlaceRow>, AllocError
     let Some((name, rest)) = next_number(rest) else {
         return Ok(None);
     };
-    match read_numbers(alloc, rest)? {
+    match all_numbers(alloc, rest)? {
         Some(actuals) => Ok(Some(PlaceRow {
             scope,
             name,

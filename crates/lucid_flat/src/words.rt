@@ -1,10 +1,12 @@
 //! The words of a line, one blank between each two, and the numbers that words are.
-ghost use Rattle.std.specs.Prelude.{◌≡◌, ℕ, ◌∷◌, ◌++◌, [], Some, MatchOption};
+ghost use Rattle.std.specs.Prelude.{◌≡◌, ℕ, ◌∷◌, ◌++◌, [], Some, IfOk, MatchOption};
 ghost use Rattle.std.specs.Option.{option_copied, option_map};
-ghost use Rattle.lucid_flat.specs.Words.{HasNone, words_left, number_of, take_word, take_number, is_end, three_of, exactly};
+ghost use Rattle.lucid_flat.specs.Words.{HasNone, words_left, number_of, take_word, take_number, is_end, three_of, exactly, few_numbers_of};
 
 use itoa::Buffer;
+use lucid_equations::Numbers32;
 use memchr::memchr;
+use std::alloc::{AllocError, Global};
 
 /// The bytes before the first such byte, and those behind it.
 pub(crate) fn cut(bytes: &[u8], byte: u8) -> Option<(&[u8], &[u8])>
@@ -113,4 +115,26 @@ pub(crate) fn exactly(count: usize, rest: Option<&[u8]>) -> Option<Three>
 {
     let numbers = next_three(rest)?;
     (numbers.count == count).then_some(numbers)
+}
+
+/// The numbers that the words left are, fewer than 2^32.
+pub(crate) fn all_numbers(
+    alloc: Global,
+    words: Option<&[u8]>,
+) -> Result<Option<Numbers32>, AllocError>
+    ensures { IfOk result (λ read. read ≡ few_numbers_of (words_left (option_copied words.entry))) }
+{
+    let mut numbers = Vec::new(alloc);
+    let mut rest = words;
+    while !at_end(rest) {
+        let Some((n, behind)) = next_number(rest) else {
+            return Ok(None);
+        };
+        if numbers.len() >= u32::MAX as usize {
+            return Ok(None);
+        }
+        numbers.push(n)?;
+        rest = behind;
+    }
+    Ok(Some(Numbers32::from_vec(numbers)))
 }

@@ -8,7 +8,7 @@ use Rattle.std.proofs.lemmas.Slice.Eq.{bytes_eq-Decides}
 use Rattle.lucid_flat.specs.FlatText.{first_line, ended}
 use Rattle.lucid_flat.specs.FlatTables.{IsTextOf, IsFirstWrongLine}
 use Rattle.lucid_flat.proofs.OneTable.{refused_first, text_read, one_root}
-use Rattle.lucid_flat.proofs.WholeLines.{no_whole_line, first_whole_line}
+use Rattle.lucid_flat.proofs.LineEnds.{no_whole_line, first_whole_line}
 use Rattle.lucid_flat.proofs.read.read_flat.Goals as goal
 
 clash : (b : Bool) → true ≡ not b → b ≡ true → ⊥

@@ -2,7 +2,7 @@ use Rattle.std.proofs.Common.{◌≡◌, ◌<◌, ◌^◌, length}
 use Rattle.std.specs.Option.{option_copied}
 use Rattle.lucid_flat.specs.Words.{words_left, numbers_of}
 use Rattle.lucid_flat.proofs.NumberLemmas.{with_front}
-use Rattle.lucid_flat.proofs.rows.read_numbers.Given as goal
+use Rattle.lucid_flat.proofs.words.all_numbers.Given as goal
 
 abbrev pub invariant-loop-rest : goal.invariant-loop-rest
 invariant-loop-rest l = record {

@@ -1,6 +1,6 @@
 use Rattle.std.proofs.Common.{[], ◌∷◌, Some, length, sym, ap, ◌∙◌, arith, length-append}
 use Rattle.lucid_flat.proofs.NumberLemmas.{few_none, few_past, fewer_words, front_pushed, few_all}
-use Rattle.lucid_flat.proofs.rows.read_numbers.Goals as goal
+use Rattle.lucid_flat.proofs.words.all_numbers.Goals as goal
 
 pub returns-in_default : goal.returns-in_default
 returns-in_default c = sym (few_none _ _ _ c.loop-rest.invariant.read (sym c.loop-rest-test.ensures) (sym c.in_default.ensures))
