@@ -1,5 +1,5 @@
 -- The definitions of a tree's plain names: their places, the nodes by their parts, and the one with a number.
-use Rattle.std.proofs.Common.{◌≡◌, ℕ, ◌+◌, ◌<◌, ◌≤◌, Bool, true, false, cond, List, [], ◌∷◌, ◌++◌, length, get_or, map, ◌⊎◌, inl, inr, Box, Global, refl, sym, ap, subst, ◌∙◌, arith, append_assoc}
+use Rattle.std.proofs.Common.{◌≡◌, ℕ, ◌+◌, ◌<◌, ◌≤◌, Bool, true, false, cond, List, [], ◌∷◌, ◌++◌, length, get_or, map, ◌⊎◌, inl, inr, refl, sym, ap, subst, ◌∙◌, arith}
 use Rattle.std.specs.Prelude.{nat_eq, nat_lt}
 use Rattle.std.specs.Borrow.{Bor}
 use Rattle.std.specs.List.{count_by, filter, flat_map, join_by}
@@ -10,46 +10,12 @@ use Rattle.std.proofs.lemmas.List.Sums.{sum_by-cons, sum_by-append}
 use Rattle.lucid_tree.specs.Tree.{PlainTree, form, name, call, block, PlainTrees, no_trees, tree, PlainDefs, no_defs, defines, defines_function, defines_current}
 use Rattle.lucid_tree.specs.Members.{In, AllDiffer}
 use Rattle.lucid_tree.specs.WellMade.{places, places_in, places_in_defs}
-use Rattle.lucid_tree.specs.DefsView.{def_of}
-use Rattle.lucid_tree.specs.View.{tree_of}
 use Rattle.lucid_tree.specs.declared.tree.Def.{Def}
-use Rattle.lucid_tree.specs.declared.tree.DefKind.{DefKind}
-use Rattle.lucid_tree.specs.declared.tree.DefKind.TheVariants.{Plain, Function, Current}
-use Rattle.lucid_tree.specs.declared.tree.Kind.{Kind}
-use Rattle.lucid_tree.specs.declared.tree.Kind.TheVariants.{And, Or, Fby, Whenever, Asa, Upon, Attime, Sby, Atspace}
 use Rattle.lucid_cycles.specs.Judged.{plain_names, plain_names_in, plain_names_in_defs}
 use Rattle.lucid_cycles.specs.JudgmentLine.{Definition, definitions, definitions_in, definitions_in_defs, definition_text, name_text}
-use Rattle.lucid_cycles.specs.Found.{definition, found_definitions, definitions_of_def, text_at}
+use Rattle.lucid_cycles.specs.Found.{definition, found_definitions, text_at}
 use Rattle.lucid_cycles.proofs.Ordered.{Once, count-map, no-more, one-at, none-at, lt-or}
 use Rattle.lucid_cycles.proofs.Found.{text-in, text-out}
-use Rattle.lucid_cycles.proofs.Shapes.{pair}
-
--- a definition, and those after it
-pub definitions-def : (at : ℕ) (n : List ℕ) (k : DefKind) (ds : PlainDefs) → definitions_in_defs (def_of at n k ds) ≡ definitions_of_def at n k ++ definitions_in_defs ds
-definitions-def at n (Plain e) ds = refl
-definitions-def at n (Function ps ats e) ds = refl
-definitions-def at n (Current e) ds = refl
-
--- nodes of two parts
-two-parts : (k : Kind) (a b : Box PlainTree Global) → ((k ≡ And a b) ⊎ ((k ≡ Or a b) ⊎ ((k ≡ Fby a b) ⊎ ((k ≡ Whenever a b) ⊎ ((k ≡ Asa a b) ⊎ ((k ≡ Upon a b) ⊎ ((k ≡ Attime a b) ⊎ ((k ≡ Sby a b) ⊎ (k ≡ Atspace a b))))))))) → (at : ℕ) → definitions (tree_of at k) ≡ definitions_in (pair a b)
-two-parts k a b (inl e) at = ap (λ x. definitions (tree_of at x)) e
-two-parts k a b (inr (inl e)) at = ap (λ x. definitions (tree_of at x)) e
-two-parts k a b (inr (inr (inl e))) at = ap (λ x. definitions (tree_of at x)) e
-two-parts k a b (inr (inr (inr (inl e)))) at = ap (λ x. definitions (tree_of at x)) e
-two-parts k a b (inr (inr (inr (inr (inl e))))) at = ap (λ x. definitions (tree_of at x)) e
-two-parts k a b (inr (inr (inr (inr (inr (inl e)))))) at = ap (λ x. definitions (tree_of at x)) e
-two-parts k a b (inr (inr (inr (inr (inr (inr (inl e))))))) at = ap (λ x. definitions (tree_of at x)) e
-two-parts k a b (inr (inr (inr (inr (inr (inr (inr (inl e)))))))) at = ap (λ x. definitions (tree_of at x)) e
-two-parts k a b (inr (inr (inr (inr (inr (inr (inr (inr e)))))))) at = ap (λ x. definitions (tree_of at x)) e
-
--- what is found after such a node, by what is found after each part
-pub two-found : (k : Kind) (at : ℕ) (a b : Box PlainTree Global) (x y : PlainTree) (old mid new : List Definition) → ((k ≡ And a b) ⊎ ((k ≡ Or a b) ⊎ ((k ≡ Fby a b) ⊎ ((k ≡ Whenever a b) ⊎ ((k ≡ Asa a b) ⊎ ((k ≡ Upon a b) ⊎ ((k ≡ Attime a b) ⊎ ((k ≡ Sby a b) ⊎ (k ≡ Atspace a b))))))))) → x ≡ a.value → y ≡ b.value
-    → mid ≡ old ++ definitions x → new ≡ mid ++ definitions y → new ≡ old ++ definitions (tree_of at k)
-two-found k at a b x y old mid new p f g m n =
-    let m' : mid ≡ old ++ definitions a.value = subst (λ z. mid ≡ old ++ definitions z) f m in
-    let n' : new ≡ mid ++ definitions b.value = subst (λ z. new ≡ mid ++ definitions z) g n in
-    n' ∙ ap (λ z. z ++ definitions b.value) m' ∙ append_assoc old (definitions a.value) (definitions b.value)
-    ∙ ap (λ z. old ++ (definitions a.value ++ z)) (sym (append-nil (definitions b.value))) ∙ ap (λ z. old ++ z) (sym (two-parts k a b p at))
 
 -- the places of the definitions are those of the plain names
 both-parts : (xs ys : List Definition) (ns ms : List ℕ) → ns ≡ map (λ (d : Definition). d.at) xs → ms ≡ map (λ (d : Definition). d.at) ys → ns ++ ms ≡ map (λ (d : Definition). d.at) (xs ++ ys)

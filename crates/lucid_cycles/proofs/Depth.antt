@@ -6,7 +6,7 @@ use Rattle.std.proofs.lemmas.Int.{ints}
 use Rattle.std.proofs.lemmas.List.Elements.{All-head}
 use Rattle.lucid_value.specs.Plain.{PlainValue, truth, fault}
 use Rattle.lucid_ops.specs.Algebra.{algebra}
-use Rattle.lucid_tree.specs.Tree.{const, apply, choose, both, either, first, next, fby, whenever, asa, upon, attime, initial, succ, sby, atspace, PlainTree, form, name, call, block, PlainTrees, no_trees, tree, PlainDefs, no_defs, defines, defines_function, defines_current}
+use Rattle.lucid_tree.specs.Tree.{Head, const, apply, choose, both, either, first, next, fby, PlainTree, form, name, call, block, PlainTrees, no_trees, tree, PlainDefs, no_defs, defines, defines_function, defines_current}
 use Rattle.lucid_tree.specs.Size.{count}
 use Rattle.lucid_tree.specs.Rows.{last, gives, gives_part, by_test, only_truth, look, Reader, run}
 use Rattle.lucid_tree.specs.Levels.{Elements, nothing_held, below, element_of}
@@ -19,8 +19,8 @@ use Rattle.lucid_scope.specs.Laws.{Matches, outermost_matches, block_matches, Na
 use Rattle.lucid_scope.specs.declared.scoped.Binding.{Binding}
 use Rattle.lucid_scope.specs.declared.scoped.Binding.TheVariants.{Plain}
 use Rattle.lucid_cycles.specs.declared.edge.Edge.{Edge}
-use Rattle.lucid_cycles.specs.Judged.{outside, outside_in, outside_in_defs, plain_names}
-use Rattle.lucid_cycles.specs.Graph.{Bindings, edge_to, edges, edges_in, edges_in_defs, number, numbered, graph}
+use Rattle.lucid_cycles.specs.Judged.{is_judged, outside, outside_in, outside_in_defs, plain_names}
+use Rattle.lucid_cycles.specs.Graph.{Bindings, edge_to, edges, edges_in, edges_in_defs, first_delay, later_delay, number, numbered, graph}
 use Rattle.lucid_cycles.specs.Potentials.{potential, Falls, Adds}
 use Rattle.lucid_cycles.specs.Laws.{HasParts, HaveParts, DefsHaveParts, EnoughIsEnough}
 use Rattle.lucid_cycles.proofs.Lists.{all-left, all-right, nil-left, nil-right, all-unmap, all-both}
@@ -41,11 +41,11 @@ module _ (inputs : List (List ℕ)) (bind : Bindings) (ds : List ℕ) (a c : ℕ
     bound : All Bound (sites k e)
     asked : All Asked (edges bind from w e)
 
-  record GoodTrees (k : Static) (from : Option ℕ) (w : ℤ) (es : PlainTrees) : Type 0 where
+  record GoodTrees (k : Static) (from : Option ℕ) (w v : ℤ) (es : PlainTrees) : Type 0 where
     inside : outside_in es ≡ []
     parts : HaveParts es
     bound : All Bound (sites_in k es)
-    asked : All Asked (edges_in bind from w es)
+    asked : All Asked (edges_in bind from w v es)
 
   abbrev GoodDefs : Static → PlainDefs → Type 0
   GoodDefs k no_defs = Unit {0}
@@ -88,20 +88,30 @@ module _ (inputs : List (List ℕ)) (bind : Bindings) (ds : List ℕ) (a c : ℕ
   meaning-good n (in_block es k) g = defined-good (definition n es) (in_block es k) k (meaning n k) (found-good n (in_block es k) es g.0) g (meaning-good n k g.1)
   meaning-good n (in_function d ns ats k) g = absurd g
 
-  good-head : (k : Static) (x : Option ℕ) (w : ℤ) (e : PlainTree) (es : PlainTrees) → GoodTrees k x w (tree e es) → GoodTree k x w e
-  good-head k x w e es g = record {
+  good-head : (k : Static) (x : Option ℕ) (w v : ℤ) (e : PlainTree) (es : PlainTrees) → GoodTrees k x w v (tree e es) → GoodTree k x w e
+  good-head k x w v e es g = record {
     inside = nil-left (outside e) (outside_in es) g.inside;
     parts = g.parts.0;
     bound = all-left Bound (sites k e) (sites_in k es) g.bound;
-    asked = all-left Asked (edges bind x w e) (edges_in bind x w es) g.asked;
+    asked = all-left Asked (edges bind x w e) (edges_in bind x v v es) g.asked;
   }
 
-  good-tail : (k : Static) (x : Option ℕ) (w : ℤ) (e : PlainTree) (es : PlainTrees) → GoodTrees k x w (tree e es) → GoodTrees k x w es
-  good-tail k x w e es g = record {
+  good-tail : (k : Static) (x : Option ℕ) (w v : ℤ) (e : PlainTree) (es : PlainTrees) → GoodTrees k x w v (tree e es) → GoodTrees k x v v es
+  good-tail k x w v e es g = record {
     inside = nil-right (outside e) (outside_in es) g.inside;
     parts = g.parts.1;
     bound = all-right Bound (sites k e) (sites_in k es) g.bound;
-    asked = all-right Asked (edges bind x w e) (edges_in bind x w es) g.asked;
+    asked = all-right Asked (edges bind x w e) (edges_in bind x v v es) g.asked;
+  }
+
+  -- the parts of a good form
+  good-parts : (k : Static) (x : Option ℕ) (w : ℤ) (at : ℕ) (l : Head) (es : PlainTrees) → is_judged l ≡ true → GoodTree k x w (form at l es)
+      → GoodTrees k x (first_delay l w) (later_delay l w) es
+  good-parts k x w at l es j g = record {
+    inside = nil-right _ (outside_in es) g.inside;
+    parts = g.parts.1;
+    bound = g.bound;
+    asked = g.asked;
   }
 
   good-defs : (k : Static) (earlier : Earlier) (es : PlainDefs) → outside_in_defs es ≡ [] → DefsHaveParts es → All Bound (inside_sites k earlier es) → All Asked (edges_in_defs bind es) → GoodDefs k es
@@ -193,9 +203,11 @@ module _ (inputs : List (List ℕ)) (bind : Bindings) (ds : List ℕ) (a c : ℕ
       TreeDefined e = (k : Static) (env : Env) (from : Option ℕ) (w : ℤ) (t u s : ℕ) → GoodTree k from w e → GoodScope k → Matches env k → Starts from m t → (pos u +ℤ w) ≤ℤ pos t
           → IsSome (value_at m (below value (nothing_held b) m) e env u s)
 
+      -- where the first part is met at w, and the later ones at v
       abbrev PartsDefined : PlainTrees → Type 0
-      PartsDefined es = (k : Static) (env : Env) (from : Option ℕ) (w : ℤ) (t u s : ℕ) → GoodTrees k from w es → GoodScope k → Matches env k → Starts from m t → (pos u +ℤ w) ≤ℤ pos t
-          → (i : ℕ) → i < count es → IsSome (part_at m (below value (nothing_held b) m) es env i u s)
+      PartsDefined es = (k : Static) (env : Env) (from : Option ℕ) (w v : ℤ) (t u s : ℕ) → GoodTrees k from w v es → GoodScope k → Matches env k
+          → Starts from m t → (i : ℕ) → i < count es
+          → (i ≡ 0 → (pos u +ℤ w) ≤ℤ pos t) → (0 < i → (pos u +ℤ v) ≤ℤ pos t) → IsSome (part_at m (below value (nothing_held b) m) es env i u s)
 
       -- a form by its parts
       abbrev parts_of : PlainTrees → Env → Reader (Option PlainValue)
@@ -211,64 +223,56 @@ module _ (inputs : List (List ℕ)) (bind : Bindings) (ds : List ℕ) (a c : ℕ
         tree-defined (form at (const v) es) k env from w t u s g f h i l = refl
         tree-defined (form at (apply op n) es) k env from w t u s g f h i l =
             run-arguments (parts_of es env) (algebra op) n u s
-            (λ j q. parts-defined es k env from w t u s (record { inside = g.inside; parts = g.parts.1; bound = g.bound; asked = g.asked }) f h i l j (omega (arith, q, g.parts.0)))
+            (λ j q. parts-defined es k env from w w t u s (good-parts k from w at (apply op n) es refl g) f h i j (omega (arith, q, g.parts.0)) (λ z. l)
+            (λ z. l))
         tree-defined (form at choose es) k env from w t u s g f h i l =
-            let part = λ (j : ℕ) (q : j < 3). parts-defined es k env from w t u s (record { inside = g.inside; parts = g.parts.1; bound = g.bound; asked = g.asked }) f h i l j (omega (arith, q, g.parts.0)) in
+            let part = λ (j : ℕ) (q : j < 3). parts-defined es k env from w w t u s (good-parts k from w at choose es refl g) f h i j
+            (omega (arith, q, g.parts.0)) (λ z. l) (λ z. l) in
             run-look (parts_of es env) 0 u s 0 (λ v. by_test v (gives_part 1 u s) (gives_part 2 u s)) (part 0 (omega arith))
             (λ v. run-test (parts_of es env) v (gives_part 1 u s) (gives_part 2 u s)
             (run-look (parts_of es env) 1 u s 0 gives (part 1 (omega arith)) (λ x. refl))
             (run-look (parts_of es env) 2 u s 0 gives (part 2 (omega arith)) (λ x. refl)))
         tree-defined (form at both es) k env from w t u s g f h i l =
-            let part = λ (j : ℕ) (q : j < 2). parts-defined es k env from w t u s (record { inside = g.inside; parts = g.parts.1; bound = g.bound; asked = g.asked }) f h i l j (omega (arith, q, g.parts.0)) in
+            let part = λ (j : ℕ) (q : j < 2). parts-defined es k env from w w t u s (good-parts k from w at both es refl g) f h i j
+            (omega (arith, q, g.parts.0)) (λ z. l) (λ z. l) in
             run-look (parts_of es env) 0 u s 0 (λ v. by_test v (look 1 u s 0 (λ x. gives (only_truth x))) (gives (truth false))) (part 0 (omega arith))
             (λ v. run-test (parts_of es env) v (look 1 u s 0 (λ x. gives (only_truth x))) (gives (truth false))
             (run-look (parts_of es env) 1 u s 0 (λ x. gives (only_truth x)) (part 1 (omega arith)) (λ x. refl)) refl)
         tree-defined (form at either es) k env from w t u s g f h i l =
-            let part = λ (j : ℕ) (q : j < 2). parts-defined es k env from w t u s (record { inside = g.inside; parts = g.parts.1; bound = g.bound; asked = g.asked }) f h i l j (omega (arith, q, g.parts.0)) in
+            let part = λ (j : ℕ) (q : j < 2). parts-defined es k env from w w t u s (good-parts k from w at either es refl g) f h i j
+            (omega (arith, q, g.parts.0)) (λ z. l) (λ z. l) in
             run-look (parts_of es env) 0 u s 0 (λ v. by_test v (gives (truth true)) (look 1 u s 0 (λ x. gives (only_truth x)))) (part 0 (omega arith))
             (λ v. run-test (parts_of es env) v (gives (truth true)) (look 1 u s 0 (λ x. gives (only_truth x))) refl
             (run-look (parts_of es env) 1 u s 0 (λ x. gives (only_truth x)) (part 1 (omega arith)) (λ x. refl)))
         tree-defined (form at first es) k env from w t u s g f h i l =
             run-look (parts_of es env) 0 0 s 0 gives
-            (parts-defined es k env from (pos 0) t 0 s (record { inside = g.inside; parts = g.parts.1; bound = g.bound; asked = g.asked }) f h i (omega (arith, ints)) 0 (omega (arith, g.parts.0)))
+            (parts-defined es k env from (pos 0) (pos 0) t 0 s (good-parts k from w at first es refl g) f h i 0 (omega (arith, g.parts.0))
+            (λ z. omega (arith, ints)) (λ z. absurd (omega (arith, z))))
             (λ x. refl)
         tree-defined (form at next es) k env from w t u s g f h i l =
             elim (nat_lt u last) as (λ q. IsSome (run (cond q (gives_part 0 (suc u) s) (gives fault)) (parts_of es env))) [
               | true ↦ run-look (parts_of es env) 0 (suc u) s 0 gives
-                  (parts-defined es k env from (w -ℤ pos 1) t (suc u) s (record { inside = g.inside; parts = g.parts.1; bound = g.bound; asked = g.asked }) f h i (omega (arith, ints, l)) 0 (omega (arith, g.parts.0)))
+                  (parts-defined es k env from (w -ℤ pos 1) (w -ℤ pos 1) t (suc u) s (good-parts k from w at next es refl g) f h i 0
+                  (omega (arith, g.parts.0)) (λ z. omega (arith, ints, l)) (λ z. absurd (omega (arith, z))))
                   (λ x. refl)
               | false ↦ refl
             ]
-        tree-defined (form at fby no_trees) k env from w t u s g f h i l = absurd (omega (arith, g.parts.0))
-        tree-defined (form at fby (tree x es)) k env from w t zero s g f h i l =
-            run-look (parts_of (tree x es) env) 0 0 s 0 gives
-            (tree-defined x k env from w t 0 s (record {
-              inside = nil-left (outside x) (outside_in es) g.inside;
-              parts = g.parts.1.0;
-              bound = all-left Bound (sites k x) (sites_in k es) g.bound;
-              asked = all-left Asked (edges bind from w x) (edges_in bind from (w +ℤ pos 1) es) g.asked;
-            }) f h i l) (λ y. refl)
-        tree-defined (form at fby (tree x es)) k env from w t (suc u) s g f h i l =
-            run-look (parts_of (tree x es) env) 1 u s 0 gives
-            (parts-defined es k env from (w +ℤ pos 1) t u s (record {
-              inside = nil-right (outside x) (outside_in es) g.inside;
-              parts = g.parts.1.1;
-              bound = all-right Bound (sites k x) (sites_in k es) g.bound;
-              asked = all-right Asked (edges bind from w x) (edges_in bind from (w +ℤ pos 1) es) g.asked;
-            }) f h i (omega (arith, ints, l)) 0 (omega (arith, g.parts.0))) (λ y. refl)
-        tree-defined (form at whenever es) k env from w t u s g f h i l = let no = g.inside in cc
-        tree-defined (form at asa es) k env from w t u s g f h i l = let no = g.inside in cc
-        tree-defined (form at upon es) k env from w t u s g f h i l = let no = g.inside in cc
-        tree-defined (form at attime es) k env from w t u s g f h i l = let no = g.inside in cc
-        tree-defined (form at initial es) k env from w t u s g f h i l = let no = g.inside in cc
-        tree-defined (form at succ es) k env from w t u s g f h i l = let no = g.inside in cc
-        tree-defined (form at sby es) k env from w t u s g f h i l = let no = g.inside in cc
-        tree-defined (form at atspace es) k env from w t u s g f h i l = let no = g.inside in cc
+        tree-defined (form at fby es) k env from w t zero s g f h i l =
+            run-look (parts_of es env) 0 0 s 0 gives
+            (parts-defined es k env from w (w +ℤ pos 1) t 0 s (good-parts k from w at fby es refl g) f h i 0 (omega (arith, g.parts.0)) (λ z. l)
+            (λ z. absurd (omega (arith, z)))) (λ y. refl)
+        tree-defined (form at fby es) k env from w t (suc u) s g f h i l =
+            run-look (parts_of es env) 1 u s 0 gives
+            (parts-defined es k env from w (w +ℤ pos 1) t u s (good-parts k from w at fby es refl g) f h i 1 (omega (arith, g.parts.0))
+            (λ z. absurd (omega (arith, z))) (λ z. omega (arith, ints, l))) (λ y. refl)
+        tree-defined (form at _ es) k env from w t u s g f h i l = let no = g.inside in cc
 
         parts-defined : (es : PlainTrees) → PartsDefined es
-        parts-defined no_trees k env from w t u s g f h i l j q = absurd (omega (arith, q))
-        parts-defined (tree e es) k env from w t u s g f h i l zero q = tree-defined e k env from w t u s (good-head k from w e es g) f h i l
-        parts-defined (tree e es) k env from w t u s g f h i l (suc j) q = parts-defined es k env from w t u s (good-tail k from w e es g) f h i l j (omega (arith, q))
+        parts-defined no_trees k env from w v t u s g f h i j q l n = absurd (omega (arith, q))
+        parts-defined (tree e es) k env from w v t u s g f h i zero q l n = tree-defined e k env from w t u s (good-head k from w v e es g) f h i (l refl)
+        parts-defined (tree e es) k env from w v t u s g f h i (suc j) q l n =
+            let after = n (omega arith) in
+            parts-defined es k env from v v t u s (good-tail k from w v e es g) f h i j (omega (arith, q)) (λ z. after) (λ z. after)
 
     ready-below : (m : ℕ) → ReadyBelow m
     ready-below zero = tt

@@ -5,17 +5,12 @@ pub mod Depth
 pub mod Sums
 pub mod Levels
 pub mod Trails
-pub mod Signs
-pub mod Walking
-pub mod Falls
 pub mod Raising
 pub mod Settling
 pub mod Closing
 pub mod Small
 pub mod Table
 pub mod Descended
-pub mod Shapes
-pub mod Nodes
 pub mod Telling
 pub mod Ordered
 pub mod Totals

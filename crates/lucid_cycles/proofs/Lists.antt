@@ -33,10 +33,6 @@ all-in P x [] i h = absurd i
 all-in P x (y ∷ ys) (inl e) h = subst P (sym e) (All-head P y ys h)
 all-in P x (y ∷ ys) (inr i) h = all-in P x ys i (All-tail P y ys h)
 
-pub all-from-in : {X : Type 0} (P : X → Type 0) (xs : List X) → ((x : X) → In x xs → P x) → All P xs
-all-from-in P [] f = All-nil P
-all-from-in P (x ∷ xs) f = All-cons P x xs (f x (inl refl)) (all-from-in P xs (λ y i. f y (inr i)))
-
 pub same-item : {X : Type 0} (xs : List X) (i : ℕ) (d e : X) → i < length xs → get_or xs i d ≡ get_or xs i e
 same-item [] i d e h = absurd (omega (arith, h))
 same-item (x ∷ xs) zero d e h = refl

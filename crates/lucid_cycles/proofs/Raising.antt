@@ -4,7 +4,7 @@ use Rattle.std.proofs.lemmas.List.{take_more}
 use Rattle.std.specs.Prelude.{ℤ, pos, ◌+ℤ◌, ◌≤ℤ◌}
 use Rattle.std.specs.List.{All}
 use Rattle.std.proofs.lemmas.Int.{ints}
-use Rattle.std.proofs.lemmas.List.Elements.{All-weaker, All-more, All-nil, All-head}
+use Rattle.std.proofs.lemmas.List.Elements.{All-weaker, All-more, All-head}
 use Rattle.lucid_tree.specs.Members.{In}
 use Rattle.lucid_cycles.specs.declared.edge.Edge.{Edge}
 use Rattle.lucid_cycles.specs.Cycles.{edge}
@@ -29,14 +29,6 @@ due-on g a p old new e x i (inl s) (inl t) = inl (t ∙ s)
 due-on g a p old new e x i (inr d) (inl t) = inr (subst (IsDue g a p x) (sym t) d)
 due-on g a p old new e x i o (inr m) = inr (record { to = e.to; delay = e.delay; stands = subst (λ y. In y g) (edge-is e x m.from_name) i; is = m.is })
 
-pub rounding-start : (g : List Edge) (a : ℕ) (p q : List ℕ) → q ≡ p → Rounding g a p q 0
-rounding-start g a p q e = record {
-  same = ap length e;
-  rises = λ x. omega (arith, ap (λ l. potential l x) e);
-  raises = All-nil (Raises a p q);
-  due = λ x. inl (ap (λ l. potential l x) e);
-}
-
 pub rounding-more : (g : List Edge) (a : ℕ) (p old new : List ℕ) (i : ℕ) (e : Edge) → i < length g → e ≡ get_or g i e → Rounding g a p old i → IsRaised a p old new e → Rounding g a p new (i + 1)
 rounding-more g a p old new i e h is r d = record {
   same = d.same ∙ r.same;
@@ -55,9 +47,6 @@ shift y c d t r h = omega (arith, ints)
 adds-on : (a : ℕ) (p : List ℕ) (c d : ℕ) → c ≤ d → (y : ℕ) (w : ℤ) (from : Option ℕ) → AddsFrom a p c from y w → AddsFrom a p d from y w
 adds-on a p c d h y w (Some x) r = tt
 adds-on a p c d h y w None r = shift (potential p y) c d (by a w) r h
-
-pub added-start : (a : ℕ) (p : List ℕ) → AreLeastAdded a p 2 []
-added-start a p = record { enough = record { two = omega arith; adds = All-nil (Adds a p 2) }; least = λ c h. h.two }
 
 pub added-more : (g : List Edge) (a : ℕ) (p : List ℕ) (c d i : ℕ) (e : Edge) → i < length g → e ≡ get_or g i e → AreLeastAdded a p c (take i g)
     → c ≤ d → Adds a p d e → ((m : ℕ) → c ≤ m → Adds a p m e → d ≤ m) → AreLeastAdded a p d (take (i + 1) g)

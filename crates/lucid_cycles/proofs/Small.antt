@@ -1,20 +1,25 @@
 -- The edges of a program have small numbers.
-use Rattle.std.proofs.Common.{◌≡◌, ℕ, suc, ◌+◌, ◌<◌, ◌≤◌, Bool, true, false, cond, List, [], ◌∷◌, ◌++◌, length, Option, Some, None, inl, inr, refl, sym, subst, arith, length-append, nat_lt}
-use Rattle.std.specs.Prelude.{ℤ, pos, ◌+ℤ◌, ◌-ℤ◌, option_map}
+use Rattle.std.proofs.Common.{◌≡◌, ℕ, suc, ◌+◌, ◌<◌, ◌≤◌, Bool, true, false, cond, List, [], ◌∷◌, ◌++◌, length, Option, Some, None, inl, inr, refl, sym, ap, subst, ◌∙◌, arith, length-append, nat_lt}
+use Rattle.std.specs.Prelude.{ℤ, pos, option_map}
 use Rattle.std.specs.List.{All}
 use Rattle.std.proofs.lemmas.Int.{ints}
 use Rattle.std.proofs.lemmas.Bool.Decides.{nat_tests}
 use Rattle.std.proofs.lemmas.List.Elements.{All-nil, All-cons, All-append, All-map, All-weaker}
 use Rattle.std.proofs.lemmas.List.Sums.{count_by-le-length, sum_by-cons}
-use Rattle.lucid_tree.specs.Tree.{const, apply, choose, both, either, first, next, fby, whenever, asa, upon, attime, initial, succ, sby, atspace, PlainTree, form, name, call, block, PlainTrees, no_trees, tree, PlainDefs, no_defs, defines, defines_function, defines_current}
+use Rattle.lucid_tree.specs.Tree.{Head, first, next, fby, PlainTree, form, name, call, block, PlainTrees, no_trees, tree, PlainDefs, no_defs, defines, defines_function, defines_current}
 use Rattle.lucid_tree.specs.Members.{In}
+use Rattle.lucid_tree.specs.DefsView.{def_of, one_def}
+use Rattle.lucid_tree.specs.declared.tree.Def.{Def}
+use Rattle.lucid_tree.specs.declared.tree.DefKind.{DefKind}
+use Rattle.lucid_tree.specs.declared.tree.DefKind.TheVariants.{Plain as DefPlain, Function as DefFunction, Current as DefCurrent}
 use Rattle.lucid_tree.specs.WellMade.{IsWellMade, places, places_in, places_in_defs}
 use Rattle.lucid_scope.specs.declared.scoped.Binding.{Binding}
 use Rattle.lucid_scope.specs.declared.scoped.Binding.TheVariants.{Plain, Parameter, Current, Function, Input}
 use Rattle.lucid_cycles.specs.declared.edge.Edge.{Edge}
 use Rattle.lucid_cycles.specs.Judged.{plain_names, plain_names_in, plain_names_in_defs}
-use Rattle.lucid_cycles.specs.Graph.{Bindings, edge_to, edges, edges_in, edges_in_defs, number, numbered, graph}
+use Rattle.lucid_cycles.specs.Graph.{Bindings, edge_to, edges, edges_in, edges_in_defs, first_delay, later_delay, number, numbered, graph}
 use Rattle.lucid_cycles.specs.Rounds.{Fits, FromBelow, IsSmall}
+use Rattle.lucid_cycles.specs.Walks.{edges_of_def}
 use Rattle.lucid_cycles.proofs.Trails.{in-left, in-right}
 
 pub fits-part : (w : ℤ) (n m : ℕ) → m ≤ n → Fits w n → Fits w m
@@ -23,14 +28,43 @@ fits-part w n m h f = let l = f.low in let u = f.high in record { low = omega (a
 pub fits-zero : (n : ℕ) → n ≤ 4294967296 → Fits (pos 0) n
 fits-zero n h = record { low = omega (arith, ints); high = omega (arith, ints) }
 
-pub fits-next : (w : ℤ) (n m : ℕ) → m + 1 ≤ n → Fits w n → Fits (w -ℤ pos 1) m
-fits-next w n m h f = let l = f.low in let u = f.high in record { low = omega (arith, ints, l); high = omega (arith, ints, u) }
-
-pub fits-fby : (w : ℤ) (n m : ℕ) → m + 1 ≤ n → Fits w n → Fits (w +ℤ pos 1) m
-fits-fby w n m h f = let l = f.low in let u = f.high in record { low = omega (arith, ints, l); high = omega (arith, ints, u) }
-
 pub fits-under : (w : ℤ) (n : ℕ) → Fits w n → n ≤ 4294967296
 fits-under w n f = let l = f.low in let u = f.high in omega (arith, ints, l, u)
+
+-- the delay of parts fits the first of them, and those after it
+pub fits-here : (w : ℤ) (e : PlainTree) (es : PlainTrees) → Fits w (length (places_in (tree e es))) → Fits w (length (places e))
+fits-here w e es f = fits-part w (length (places e ++ places_in es)) (length (places e)) (omega (arith, length-append (places e) (places_in es))) f
+
+pub fits-after : (w : ℤ) (e : PlainTree) (es : PlainTrees) → Fits w (length (places_in (tree e es))) → Fits w (length (places_in es))
+fits-after w e es f = fits-part w (length (places e ++ places_in es)) (length (places_in es)) (omega (arith, length-append (places e) (places_in es))) f
+
+-- the delays of a form's parts fit where its own does
+fits-first : (f : Head) (w : ℤ) (n : ℕ) → Fits w (suc n) → Fits (first_delay f w) n
+fits-first first w n h = fits-zero n (omega (arith, fits-under w (suc n) h))
+fits-first next w n h = let l = h.low in let u = h.high in record { low = omega (arith, ints, l); high = omega (arith, ints, u) }
+fits-first _ w n h = fits-part w (suc n) n (omega arith) h
+
+fits-later : (f : Head) (w : ℤ) (n : ℕ) → Fits w (suc n) → Fits (later_delay f w) n
+fits-later fby w n h = let l = h.low in let u = h.high in record { low = omega (arith, ints, l); high = omega (arith, ints, u) }
+fits-later f w n h = fits-first f w n h
+
+-- the edges of a definition, and of those after it
+edges-one : (b : Bindings) (at : ℕ) (n : List ℕ) (k : DefKind) (ds : PlainDefs) → edges_in_defs b (def_of at n k ds) ≡ edges_of_def b at k ++ edges_in_defs b ds
+edges-one b at n (DefPlain e) ds = refl
+edges-one b at n (DefFunction ps ats e) ds = refl
+edges-one b at n (DefCurrent e) ds = refl
+
+pub edges-def : (b : Bindings) (d : Def) (ds es : PlainDefs) → es ≡ one_def d ds → edges_in_defs b es ≡ edges_of_def b d.at d.kind ++ edges_in_defs b ds
+edges-def b d ds es e = ap (edges_in_defs b) e ∙ edges-one b d.at d.name d.kind ds
+
+-- and those after it have no more places
+places-one : (at : ℕ) (n : List ℕ) (k : DefKind) (ds : PlainDefs) → length (places_in_defs ds) ≤ length (places_in_defs (def_of at n k ds))
+places-one at n (DefPlain e) ds = omega (arith, length-append (places e) (places_in_defs ds))
+places-one at n (DefFunction ps ats e) ds = omega (arith, length-append (ats ++ places e) (places_in_defs ds))
+places-one at n (DefCurrent e) ds = omega (arith, length-append (places e) (places_in_defs ds))
+
+pub rest-places : (d : Def) (ds es : PlainDefs) → es ≡ one_def d ds → length (places_in_defs ds) ≤ length (places_in_defs es)
+rest-places d ds es e = omega (arith, ap (λ z. length (places_in_defs z)) e, places-one d.at d.name d.kind ds)
 
 -- the names from which edges go are among these
 abbrev Known : List ℕ → Option ℕ → Type 0
@@ -56,42 +90,24 @@ module _ (b : Bindings) (ds : List ℕ) where
   mutual
     good-edges : (x : Option ℕ) (w : ℤ) (e : PlainTree) → Known ds x → Has ds (plain_names e) → Fits w (length (places e)) → All (Good ds) (edges b x w e)
     good-edges x w (name at n) k h f = one-edge ds x w (b at) k (fits-part w 1 0 (omega arith) f)
-    good-edges x w (call at n es) k h f = good-edges-in x w es k h (fits-part w (suc (length (places_in es))) (length (places_in es)) (omega arith) f)
+    good-edges x w (call at n es) k h f =
+        let g = fits-part w (suc (length (places_in es))) (length (places_in es)) (omega arith) f in good-edges-in x w w es k h g g
     good-edges x w (block at e es) k h f =
         let all = length-append (places e) (places_in_defs es) in
-        let under = fits-under w _ f in
         All-append (Good ds) (edges b x w e) (edges_in_defs b es)
         (good-edges x w e k (λ d i. h d (in-left d (plain_names e) (plain_names_in_defs es) i)) (fits-part w (suc (length (places e ++ places_in_defs es))) (length (places e)) (omega (arith, all)) f))
-        (good-edges-of es (λ d i. h d (in-right d (plain_names e) (plain_names_in_defs es) i)) (omega (arith, all, under)))
-    good-edges x w (form at first es) k h f = good-edges-in x (pos 0) es k h (fits-zero (length (places_in es)) (omega (arith, fits-under w _ f)))
-    good-edges x w (form at next es) k h f = good-edges-in x (w -ℤ pos 1) es k h (fits-next w (suc (length (places_in es))) (length (places_in es)) (omega arith) f)
-    good-edges x w (form at fby no_trees) k h f = All-nil (Good ds)
-    good-edges x w (form at fby (tree e es)) k h f =
-        let all = length-append (places e) (places_in es) in
-        All-append (Good ds) (edges b x w e) (edges_in b x (w +ℤ pos 1) es)
-        (good-edges x w e k (λ d i. h d (in-left d (plain_names e) (plain_names_in es) i)) (fits-part w (suc (length (places e ++ places_in es))) (length (places e)) (omega (arith, all)) f))
-        (good-edges-in x (w +ℤ pos 1) es k (λ d i. h d (in-right d (plain_names e) (plain_names_in es) i)) (fits-fby w (suc (length (places e ++ places_in es))) (length (places_in es)) (omega (arith, all)) f))
-    good-edges x w (form at (const v) es) k h f = good-edges-in x w es k h (fits-part w (suc (length (places_in es))) (length (places_in es)) (omega arith) f)
-    good-edges x w (form at (apply op n) es) k h f = good-edges-in x w es k h (fits-part w (suc (length (places_in es))) (length (places_in es)) (omega arith) f)
-    good-edges x w (form at choose es) k h f = good-edges-in x w es k h (fits-part w (suc (length (places_in es))) (length (places_in es)) (omega arith) f)
-    good-edges x w (form at both es) k h f = good-edges-in x w es k h (fits-part w (suc (length (places_in es))) (length (places_in es)) (omega arith) f)
-    good-edges x w (form at either es) k h f = good-edges-in x w es k h (fits-part w (suc (length (places_in es))) (length (places_in es)) (omega arith) f)
-    good-edges x w (form at whenever es) k h f = good-edges-in x w es k h (fits-part w (suc (length (places_in es))) (length (places_in es)) (omega arith) f)
-    good-edges x w (form at asa es) k h f = good-edges-in x w es k h (fits-part w (suc (length (places_in es))) (length (places_in es)) (omega arith) f)
-    good-edges x w (form at upon es) k h f = good-edges-in x w es k h (fits-part w (suc (length (places_in es))) (length (places_in es)) (omega arith) f)
-    good-edges x w (form at attime es) k h f = good-edges-in x w es k h (fits-part w (suc (length (places_in es))) (length (places_in es)) (omega arith) f)
-    good-edges x w (form at initial es) k h f = good-edges-in x w es k h (fits-part w (suc (length (places_in es))) (length (places_in es)) (omega arith) f)
-    good-edges x w (form at succ es) k h f = good-edges-in x w es k h (fits-part w (suc (length (places_in es))) (length (places_in es)) (omega arith) f)
-    good-edges x w (form at sby es) k h f = good-edges-in x w es k h (fits-part w (suc (length (places_in es))) (length (places_in es)) (omega arith) f)
-    good-edges x w (form at atspace es) k h f = good-edges-in x w es k h (fits-part w (suc (length (places_in es))) (length (places_in es)) (omega arith) f)
+        (good-edges-of es (λ d i. h d (in-right d (plain_names e) (plain_names_in_defs es) i)) (omega (arith, all, fits-under w _ f)))
+    good-edges x w (form at l es) k h f =
+        good-edges-in x (first_delay l w) (later_delay l w) es k h (fits-first l w (length (places_in es)) f) (fits-later l w (length (places_in es)) f)
 
-    good-edges-in : (x : Option ℕ) (w : ℤ) (es : PlainTrees) → Known ds x → Has ds (plain_names_in es) → Fits w (length (places_in es)) → All (Good ds) (edges_in b x w es)
-    good-edges-in x w no_trees k h f = All-nil (Good ds)
-    good-edges-in x w (tree e es) k h f =
-        let all = length-append (places e) (places_in es) in
-        All-append (Good ds) (edges b x w e) (edges_in b x w es)
-        (good-edges x w e k (λ d i. h d (in-left d (plain_names e) (plain_names_in es) i)) (fits-part w (length (places e ++ places_in es)) (length (places e)) (omega (arith, all)) f))
-        (good-edges-in x w es k (λ d i. h d (in-right d (plain_names e) (plain_names_in es) i)) (fits-part w (length (places e ++ places_in es)) (length (places_in es)) (omega (arith, all)) f))
+    good-edges-in : (x : Option ℕ) (w v : ℤ) (es : PlainTrees) → Known ds x → Has ds (plain_names_in es) → Fits w (length (places_in es)) → Fits v
+        (length (places_in es)) → All (Good ds) (edges_in b x w v es)
+    good-edges-in x w v no_trees k h f g = All-nil (Good ds)
+    good-edges-in x w v (tree e es) k h f g =
+        let rest = fits-after v e es g in
+        All-append (Good ds) (edges b x w e) (edges_in b x v v es)
+        (good-edges x w e k (λ d i. h d (in-left d (plain_names e) (plain_names_in es) i)) (fits-here w e es f))
+        (good-edges-in x v v es k (λ d i. h d (in-right d (plain_names e) (plain_names_in es) i)) rest rest)
 
     good-edges-of : (es : PlainDefs) → Has ds (plain_names_in_defs es) → length (places_in_defs es) ≤ 4294967296 → All (Good ds) (edges_in_defs b es)
     good-edges-of no_defs h f = All-nil (Good ds)

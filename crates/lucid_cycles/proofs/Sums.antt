@@ -14,9 +14,6 @@ use Rattle.lucid_cycles.proofs.Lists.{all-in}
 abbrev pub by : ℕ → ℤ → ℤ
 by a w = pos a *ℤ w
 
-sum-by : (x y v w vw : ℤ) → x ≡ vw +ℤ y → y ≡ v +ℤ w → x ≡ vw +ℤ (v +ℤ w)
-sum-by x y v w vw e f = omega (arith, ints)
-
 pub by-sum : (a : ℕ) (v w : ℤ) → by a (v +ℤ w) ≡ by a v +ℤ by a w
 by-sum zero v w = let e = zero-*ℤ (v +ℤ w) in let f = zero-*ℤ v in let g = zero-*ℤ w in omega (arith, ints, e, f, g)
 by-sum (suc a) v w =

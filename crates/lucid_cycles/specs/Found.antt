@@ -5,7 +5,7 @@ use Rattle.std.specs.List.{slice_get}
 use Rattle.lucid_tree.specs.declared.tree.Def.{Def}
 use Rattle.lucid_tree.specs.declared.tree.DefKind.{DefKind}
 use Rattle.lucid_tree.specs.declared.tree.DefKind.TheVariants.{Plain, Function, Current}
-use Rattle.lucid_cycles.specs.JudgmentLine.{Definition, definitions, definition_text}
+use Rattle.lucid_cycles.specs.JudgmentLine.{Definition, definition_text}
 
 -- a definition by its place and name
 abbrev pub definition : Bor Def → Definition
@@ -14,11 +14,11 @@ definition d = record { at = d.now.at; name = d.now.name }
 abbrev pub found_definitions : List (Bor Def) → List Definition
 found_definitions ds = map definition ds
 
--- the definitions of plain names in a definition: itself, where it is one, and those of its right side
-abbrev pub definitions_of_def : (at : ℕ) → (name : List ℕ) → DefKind → List Definition
-definitions_of_def at x (Plain e) = record { at = at; name = x } ∷ definitions e
-definitions_of_def at x (Function ps ats e) = definitions e
-definitions_of_def at x (Current e) = definitions e
+-- the definition itself, where it is one of a plain name
+abbrev pub own_definition : (at : ℕ) → (name : List ℕ) → DefKind → List Definition
+own_definition at x (Plain e) = record { at = at; name = x } ∷ []
+own_definition at x (Function ps ats e) = []
+own_definition at x (Current e) = []
 
 -- the text of a definition, where there is one
 abbrev pub text_of : Option (Bor Def) → List ℕ

@@ -1,7 +1,7 @@
 -- The references of a judged program as a graph: its nodes are the plain names, and its edges have delays. The test of cycles by sums
 -- of delays is this language's own.
 use Rattle.std.specs.Prelude.{ℕ, max, List, [], ◌∷◌, ◌++◌, map, count_by, nat_lt, Option, Some, None, option_map, ℤ, pos, ◌+ℤ◌, ◌-ℤ◌}
-use Rattle.lucid_tree.specs.Tree.{first, next, fby, PlainTree, form, name, call, block, PlainTrees, no_trees, tree, PlainDefs, no_defs, defines, defines_function, defines_current}
+use Rattle.lucid_tree.specs.Tree.{Head, first, next, fby, PlainTree, form, name, call, block, PlainTrees, no_trees, tree, PlainDefs, no_defs, defines, defines_function, defines_current}
 use Rattle.lucid_scope.specs.declared.scoped.Binding.{Binding}
 use Rattle.lucid_scope.specs.declared.scoped.Binding.TheVariants.{Plain}
 use Rattle.lucid_cycles.specs.declared.edge.Edge.{Edge}
@@ -16,27 +16,32 @@ abbrev pub edge_to : (from : Option ℕ) → (delay : ℤ) → Option Binding �
 edge_to x w (Some (Plain d)) = record { from = x; to = d; delay = w } ∷ []
 edge_to x w _ = []
 
+-- The delay at which the first part of a form is met, where the form is met at w, and that at which its later parts are: it becomes 0 in
+-- `first`, falls by 1 in `next`, and rises by 1 in the right part of `fby`.
+abbrev pub first_delay : Head → ℤ → ℤ
+first_delay first w = pos 0
+first_delay next w = w -ℤ pos 1
+first_delay _ w = w
+
+abbrev pub later_delay : Head → ℤ → ℤ
+later_delay fby w = w +ℤ pos 1
+later_delay f w = first_delay f w
+
 -- The edges of a tree's references, names being told by the places of their definitions. An edge goes from the name in whose right
 -- side the reference stands, or from the program (none) where it stands in no right side; a block's subject belongs to what the block
--- stands in. The delay begins at 0 in a right side and is followed inwards to the reference: it rises by 1 in the right part of `fby`,
--- falls by 1 in `next`, and becomes 0 in `first`. A judged program has no functions and no current names.
+-- stands in. The delay begins at 0 in a right side and is followed inwards to the reference. A judged program has no functions and no
+-- current names.
 abbrev mutual
   pub edges : Bindings → (from : Option ℕ) → (delay : ℤ) → PlainTree → List Edge
-  edges b x w (form at first es) = edges_in b x (pos 0) es
-  edges b x w (form at next es) = edges_in b x (w -ℤ pos 1) es
-  edges b x w (form at fby es) = edges_of_fby b x w es
-  edges b x w (form at f es) = edges_in b x w es
+  edges b x w (form at f es) = edges_in b x (first_delay f w) (later_delay f w) es
   edges b x w (name at n) = edge_to x w (b at)
-  edges b x w (call at n es) = edges_in b x w es
+  edges b x w (call at n es) = edges_in b x w w es
   edges b x w (block at e ds) = edges b x w e ++ edges_in_defs b ds
 
-  pub edges_in : Bindings → (from : Option ℕ) → (delay : ℤ) → PlainTrees → List Edge
-  edges_in b x w no_trees = []
-  edges_in b x w (tree e es) = edges b x w e ++ edges_in b x w es
-
-  pub edges_of_fby : Bindings → (from : Option ℕ) → (delay : ℤ) → PlainTrees → List Edge
-  edges_of_fby b x w no_trees = []
-  edges_of_fby b x w (tree e es) = edges b x w e ++ edges_in b x (w +ℤ pos 1) es
+  -- those of parts, the first of which has one delay, and the later ones another
+  pub edges_in : Bindings → (from : Option ℕ) → (delay later : ℤ) → PlainTrees → List Edge
+  edges_in b x w v no_trees = []
+  edges_in b x w v (tree e es) = edges b x w e ++ edges_in b x v v es
 
   pub edges_in_defs : Bindings → PlainDefs → List Edge
   edges_in_defs b no_defs = []

@@ -1,7 +1,8 @@
 -- A depth that is enough: the approximation at it is defined at every time, over all inputs.
 use Rattle.std.specs.Prelude.{◌≡◌, ℕ, ◌+◌, ◌*◌, List, [], IsSome}
-use Rattle.lucid_tree.specs.Tree.{Head, const, apply, choose, both, either, first, next, fby, PlainTree, form, name, call, block, PlainTrees, no_trees, tree, PlainDefs, no_defs, defines, defines_function, defines_current}
+use Rattle.lucid_tree.specs.Tree.{PlainTree, form, name, call, block, PlainTrees, no_trees, tree, PlainDefs, no_defs, defines, defines_function, defines_current}
 use Rattle.lucid_tree.specs.Size.{count}
+use Rattle.lucid_tree.specs.Shape.{FitsHead}
 use Rattle.lucid_tree.specs.Levels.{Elements}
 use Rattle.lucid_tree.specs.Env.{empty}
 use Rattle.lucid_tree.specs.Meaning.{val}
@@ -12,22 +13,10 @@ use Rattle.lucid_cycles.specs.Judged.{outside}
 use Rattle.lucid_cycles.specs.Graph.{Bindings}
 use Rattle.lucid_cycles.specs.Judgments.{IsEnough}
 
--- the number of parts of a judged form is that of its row
-abbrev pub FitsRow : Head → ℕ → Type 0
-FitsRow (const v) n = n ≡ 0
-FitsRow (apply op k) n = k ≡ n
-FitsRow choose n = n ≡ 3
-FitsRow both n = n ≡ 2
-FitsRow either n = n ≡ 2
-FitsRow first n = n ≡ 1
-FitsRow next n = n ≡ 1
-FitsRow fby n = n ≡ 2
-FitsRow _ n = Unit {0}
-
--- Each judged form of the tree has the parts that its row looks at, as every tree of the program has.
+-- Each form of the tree has the parts that its row looks at, as every tree of the program has.
 abbrev mutual
   pub HasParts : PlainTree → Type 0
-  HasParts (form at f es) = FitsRow f (count es) × HaveParts es
+  HasParts (form at f es) = FitsHead f (count es) × HaveParts es
   HasParts (name at n) = Unit {0}
   HasParts (call at n es) = HaveParts es
   HasParts (block at e ds) = HasParts e × DefsHaveParts ds

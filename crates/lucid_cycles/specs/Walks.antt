@@ -1,19 +1,13 @@
 -- What the descents through a tree keep.
 use Rattle.std.specs.Prelude.{ℕ, ◌+◌, List, [], ◌∷◌, take, set, Option, Some, None, nat_lt, if◌then◌else◌, pos}
-use Rattle.lucid_tree.specs.Tree.{PlainTree}
 use Rattle.lucid_tree.specs.declared.tree.DefKind.{DefKind}
 use Rattle.lucid_tree.specs.declared.tree.DefKind.TheVariants.{Plain, Function, Current}
 use Rattle.lucid_cycles.specs.declared.edge.Edge.{Edge}
+use Rattle.lucid_cycles.specs.declared.holds.Ask.{Ask}
 use Rattle.lucid_cycles.specs.declared.names.Names.{Names}
-use Rattle.lucid_cycles.specs.Judged.{outside, plain_names, most_names}
+use Rattle.lucid_cycles.specs.Judged.{most_names}
 use Rattle.lucid_cycles.specs.Graph.{Bindings, edges, numbered}
 use Rattle.lucid_cycles.specs.Potentials.{Falls, Adds}
-
--- the right side of a definition
-abbrev pub right_of : DefKind → PlainTree
-right_of (Plain e) = e
-right_of (Function ps ats e) = e
-right_of (Current e) = e
 
 -- the edges of a plain definition's right side
 abbrev pub edges_of_def : Bindings → (at : ℕ) → DefKind → List Edge
@@ -26,17 +20,17 @@ abbrev pub lesser : Option ℕ → ℕ → Option ℕ
 lesser None at = Some at
 lesser (Some x) at = if nat_lt at x then Some at else Some x
 
--- the place of a definition that isn't judged
-abbrev pub outside_def : (at : ℕ) → DefKind → List ℕ
-outside_def at (Plain e) = outside e
-outside_def at (Function ps ats e) = at ∷ outside e
-outside_def at (Current e) = at ∷ outside e
+-- the place of a definition, where it isn't judged
+abbrev pub own_outside : (at : ℕ) → DefKind → List ℕ
+own_outside at (Plain e) = []
+own_outside at (Function ps ats e) = at ∷ []
+own_outside at (Current e) = at ∷ []
 
--- the names of a definition: its own, where it is plain, and those of its right side
-abbrev pub names_of_def : (at : ℕ) → DefKind → List ℕ
-names_of_def at (Plain e) = at ∷ plain_names e
-names_of_def at (Function ps ats e) = plain_names e
-names_of_def at (Current e) = plain_names e
+-- the name of a definition, where it is plain
+abbrev pub own_name : (at : ℕ) → DefKind → List ℕ
+own_name at (Plain e) = at ∷ []
+own_name at (Function ps ats e) = []
+own_name at (Current e) = []
 
 -- a table with one name more; past its room the names are only known to be too many
 abbrev pub with_name : Names → ℕ → Names
@@ -56,3 +50,7 @@ pub record Holds (factor : ℕ) (potentials : List ℕ) (add : ℕ) (e : Edge) :
 -- the edge, its names by their numbers, has what it asks
 abbrev pub HasAsked : (names : List ℕ) → (factor : ℕ) → (potentials : List ℕ) → (add : ℕ) → Edge → Type 0
 HasAsked ds a p c e = Holds a p c (numbered ds e)
+
+-- the same, by what is asked
+abbrev pub asked : Ask → Edge → Type 0
+asked a = HasAsked (listed_names a.names.now) a.factor a.potentials.now a.add

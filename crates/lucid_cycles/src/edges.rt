@@ -1,18 +1,42 @@
 //! The descent through a tree that lists its edges.
-ghost use Rattle.std.specs.Prelude.{◌≡◌, ◌<◌, ◌≤◌, ◌++◌, ◌^◌, length, Some, OnOk, IfOk, pos, map};
-ghost use Rattle.lucid_tree.specs.View.{tree_of};
+ghost use Rattle.std.specs.Prelude.{◌≡◌, ◌≤◌, ◌++◌, ◌^◌, length, OnOk, IfOk, map};
 ghost use Rattle.lucid_tree.specs.WellMade.{places, places_in, places_in_defs};
+ghost use Rattle.lucid_tree.specs.Rights.{right_of};
+ghost use Rattle.lucid_tree.specs.Shape.{head_of};
 ghost use Rattle.lucid_scope.specs.Scoped.{scoped_binding};
 ghost use Rattle.lucid_cycles.specs.Judged.{most_names};
-ghost use Rattle.lucid_cycles.specs.Graph.{edge_to, edges, edges_in, edges_in_defs, numbered};
+ghost use Rattle.lucid_cycles.specs.Graph.{edge_to, edges, edges_in, edges_in_defs, first_delay, later_delay, numbered};
 ghost use Rattle.lucid_cycles.specs.Rounds.{Fits};
-ghost use Rattle.lucid_cycles.specs.Walks.{right_of, edges_of_def, listed_names};
+ghost use Rattle.lucid_cycles.specs.Walks.{edges_of_def, listed_names};
 
 use crate::edge::Edge;
 use crate::names::Names;
 use lucid_scope::{Binding, Scoped};
-use lucid_tree::{Def, DefKind, Defs, Kind, Tree, Trees};
+use lucid_tree::{Def, DefKind, Definitions, Head, Parts, Shape, Tree};
 use std::alloc::{AllocError, Global};
+
+/// The delay at which the first part of a form is met.
+pub(crate) fn first_delay(head: Head<'_>, delay: i64) -> i64
+    requires { Fits delay 1 }
+    ensures { result ≡ first_delay (head_of head.entry) delay }
+{
+    match head {
+        Head::First => 0,
+        Head::Next => delay - 1,
+        _ => delay,
+    }
+}
+
+/// The delay at which its later parts are met.
+pub(crate) fn later_delay(head: Head<'_>, delay: i64) -> i64
+    requires { Fits delay 1 }
+    ensures { result ≡ later_delay (head_of head.entry) delay }
+{
+    match head {
+        Head::Fby => delay + 1,
+        _ => first_delay(head, delay),
+    }
+}
 
 fn add_reference(
     found: &mut Vec<Edge>,
@@ -42,81 +66,48 @@ pub(crate) fn add_tree(
     requires { Fits delay (length (places tree.now)) }
     ensures { OnOk result (found.new.items ≡ found.old.items ++ edges (scoped_binding scoped.now) from delay tree.now) }
 {
-    add_kind(found, &*scoped, from, delay, tree.at, &tree.kind)
-}
-
-#[cycle(edges)]
-fn add_kind(
-    found: &mut Vec<Edge>,
-    scoped: &Scoped,
-    from: Option<u32>,
-    delay: i64,
-    at: u32,
-    kind: &Kind,
-) -> Result<(), AllocError>
-    requires { Fits delay (length (places (tree_of at kind.now))) }
-    ensures { OnOk result (found.new.items ≡ found.old.items ++ edges (scoped_binding scoped.now) from delay (tree_of at kind.now)) }
-{
-    match kind {
-        Kind::Const(_) => Ok(()),
-        Kind::Name(_) => add_reference(found, &*scoped, from, delay, at),
-        Kind::Call { args, .. } => add_trees(found, &*scoped, from, delay, args),
-        Kind::Apply { args, .. } => add_trees(found, &*scoped, from, delay, args),
-        Kind::If { test, yes, no } => {
-            add_tree(found, &*scoped, from, delay, test)?;
-            add_tree(found, &*scoped, from, delay, yes)?;
-            add_tree(found, &*scoped, from, delay, no)
+    match tree.shape() {
+        Shape::Name { at, .. } => add_reference(found, &*scoped, from, delay, at),
+        Shape::Form { head, parts, .. } => {
+            let first = first_delay(head, delay);
+            let later = later_delay(head, delay);
+            add_parts(found, &*scoped, from, first, later, parts)
         }
-        Kind::First(a) => add_tree(found, &*scoped, from, 0, a),
-        Kind::Next(a) => add_tree(found, &*scoped, from, delay - 1, a),
-        Kind::Fby(a, b) => {
-            add_tree(found, &*scoped, from, delay, a)?;
-            add_tree(found, &*scoped, from, delay + 1, b)
-        }
-        Kind::Initial(a) | Kind::Succ(a) => add_tree(found, &*scoped, from, delay, a),
-        Kind::And(a, b)
-        | Kind::Or(a, b)
-        | Kind::Whenever(a, b)
-        | Kind::Asa(a, b)
-        | Kind::Upon(a, b)
-        | Kind::Attime(a, b)
-        | Kind::Sby(a, b)
-        | Kind::Atspace(a, b) => {
-            add_tree(found, &*scoped, from, delay, a)?;
-            add_tree(found, &*scoped, from, delay, b)
-        }
-        Kind::Scope(block) => {
-            add_tree(found, &*scoped, from, delay, &block.subject)?;
-            add_defs(found, &*scoped, &block.defs)
+        Shape::Call { args, .. } => add_parts(found, &*scoped, from, delay, delay, args),
+        Shape::Scope { subject, defs, .. } => {
+            add_tree(found, &*scoped, from, delay, subject)?;
+            add_defs(found, &*scoped, defs.definitions())
         }
     }
 }
 
 #[cycle(edges)]
-fn add_trees(
+fn add_parts(
     found: &mut Vec<Edge>,
     scoped: &Scoped,
     from: Option<u32>,
-    delay: i64,
-    trees: &Trees,
+    first: i64,
+    later: i64,
+    parts: Parts<'_>,
 ) -> Result<(), AllocError>
-    requires { Fits delay (length (places_in trees.now)) }
-    ensures { OnOk result (found.new.items ≡ found.old.items ++ edges_in (scoped_binding scoped.now) from delay trees.now) }
+    requires first { Fits first (length (places_in parts)) }
+    requires later { Fits later (length (places_in parts)) }
+    ensures { OnOk result (found.new.items ≡ found.old.items ++ edges_in (scoped_binding scoped.now) from first later parts.entry) }
 {
-    let items = trees.items();
-    for tree in items {
-        add_tree(found, &*scoped, from, delay, tree)?;
+    let mut delay = first;
+    for part in parts {
+        add_tree(found, &*scoped, from, delay, part)?;
+        delay = later;
     }
     Ok(())
 }
 
 #[cycle(edges)]
-fn add_defs(found: &mut Vec<Edge>, scoped: &Scoped, defs: &Defs) -> Result<(), AllocError>
-    requires { length (places_in_defs defs.now) ≤ 2 ^ 32 }
-    ensures { OnOk result (found.new.items ≡ found.old.items ++ edges_in_defs (scoped_binding scoped.now) defs.now) }
+fn add_defs(found: &mut Vec<Edge>, scoped: &Scoped, defs: Definitions<'_>) -> Result<(), AllocError>
+    requires { length (places_in_defs defs) ≤ 2 ^ 32 }
+    ensures { OnOk result (found.new.items ≡ found.old.items ++ edges_in_defs (scoped_binding scoped.now) defs.entry) }
 {
-    let items = defs.items();
-    for def in items {
+    for def in defs {
         add_def(found, &*scoped, def)?;
     }
     Ok(())

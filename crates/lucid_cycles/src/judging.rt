@@ -10,9 +10,9 @@ use crate::edges::{add_tree, number_edges};
 use crate::holds::{Ask, tree_holds};
 use crate::judgment::{JudgeRefusal, Judgment};
 use crate::laws::enough_is_enough;
-use crate::names::{MOST_NAMES, Names, list_tree};
-use crate::outside::note_tree;
+use crate::names::{MOST_NAMES, Names};
 use crate::settle::settle;
+use crate::survey::survey;
 use lucid_scope::Scoped;
 use lucid_value::Numbers;
 use std::alloc::Global;
@@ -27,13 +27,12 @@ pub fn judge(alloc: Global, scoped: &Scoped) -> Result<Judgment, JudgeRefusal>
     ensures refusal { IfErr result (λ refusal. IsJudgeRefusal (scoped_tree scoped.now) refusal) }
 {
     let tree = scoped.tree();
+    let mut names = Names::none();
     let mut least = None;
-    note_tree(&mut least, tree);
+    survey(&mut names, &mut least, tree);
     if let Some(at) = least {
         return Err(JudgeRefusal::Outside { at });
     }
-    let mut names = Names::none();
-    list_tree(&mut names, tree);
     if names.count > MOST_NAMES {
         return Err(JudgeRefusal::TooMany);
     }
@@ -59,7 +58,7 @@ pub fn enough(scoped: &Scoped, factor: u64, add: u64, potentials: &Numbers) -> b
 {
     let tree = scoped.tree();
     let mut names = Names::none();
-    list_tree(&mut names, tree);
+    survey(&mut names, &mut None, tree);
     let names = &names;
     let potentials = potentials.items();
     let ask = Ask {

@@ -17,6 +17,6 @@ mod judgment;
 mod laws;
 mod line;
 mod names;
-mod outside;
 mod rounds;
 mod settle;
+mod survey;

@@ -3,7 +3,8 @@ use Rattle.std.proofs.lemmas.List.Elements.{All-nil, All-cons, All-head}
 use Rattle.std.proofs.lemmas.Int.{to_z-of_z}
 use mir.Syntax.{w64}
 use Rattle.lucid_cycles.specs.Graph.{edge_to}
-use Rattle.lucid_cycles.proofs.Telling.{Tells, asked}
+use Rattle.lucid_cycles.specs.Walks.{asked}
+use Rattle.lucid_cycles.proofs.Telling.{Tells}
 use Rattle.lucid_cycles.proofs.holds.reference_holds.Goals as goal
 
 pub returns-in-Some-Plain : goal.returns-in-Some-Plain
