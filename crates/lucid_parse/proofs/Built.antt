@@ -11,11 +11,12 @@ use Rattle.lucid_tree.specs.declared.tree.DefKind.TheVariants as def_kind
 use Rattle.lucid_parse.specs.declared.state.Item.TheVariants as item
 use Rattle.lucid_parse.specs.declared.state.Defines.TheVariants as kind
 use Rattle.lucid_parse.specs.Grammar
-use Rattle.lucid_parse.specs.Grammar.{PlacedTerminal, trees_and, defs_and, Defined, Plain, Function, Current, Parameter, names_of, places_of, called_arity, called_head, Spells, SpellsArgs, SpellsDefs}
+use Rattle.lucid_forms.specs.declared.operator.Operator.{Operator}
+use Rattle.lucid_parse.specs.Grammar.{PlacedTerminal, trees_and, defs_and, Defined, Plain, Function, Current, Parameter, names_of, places_of, arity_of, head, Spells, SpellsArgs, SpellsDefs}
 use Rattle.lucid_parse.specs.Machine.{PlainItem}
 use Rattle.lucid_parse.specs.Flat.{written, written_parts, written_all, written_defs, with_parameters}
 use Rattle.lucid_parse.specs.Build.{PlainPiles, piles, no_piles, definition, gather, put_on, built}
-use Rattle.lucid_parse.proofs.Levels.{node-infix, node-prefix, node-called}
+use Rattle.lucid_parse.proofs.Levels.{infix_arity, prefix_arity, node-operator}
 use Rattle.lucid_parse.proofs.Complete.{written_parts-and, written_all-and, written_defs-and}
 use Rattle.lucid_parse.proofs.Exact.{spelled_nodes}
 
@@ -84,6 +85,12 @@ taken parts ts =
     ap (λ k. gather k (piled parts ts) no_trees) (let e : count parts ≡ count parts + 0 = omega arith in e)
     ∙ gathered parts ts 0 no_trees ∙ ap (λ all. Some (all, ts)) (in_front-none parts)
 
+-- an operator over as many trees as it has operands
+put_operator : (o : Operator) (at : ℕ) (args : PlainTrees) (now : PlainPiles) → count args ≡ arity_of o → put_on (item.Operator o at) (with_trees args now) ≡ Some (with_tree (form at (head o) args) now)
+put_operator o at args now all =
+    ap (option_and_then (λ g. Some (piles (form at (head o) g.0 ∷ g.1) now.lists now.names now.places now.blocks)))
+    (ap (λ n. gather n (piled args now.trees) no_trees) (sym all) ∙ taken args now.trees)
+
 -- trees and definitions as lists
 abbrev tree_list : PlainTrees → List PlainTree
 tree_list no_trees = []
@@ -138,10 +145,11 @@ mutual
   built-written (Grammar.spells_const {at = at} {v = v}) out from now e = grow out (item.Const at v) from now _ e refl
   built-written (Grammar.spells_name {at = at} {n = n}) out from now e = grow out (item.Name at n) from now _ e refl
   built-written (Grammar.spells_infix {at = at} {x = x} {y = y} terminal operator is low sx sy) out from now e =
-      grow_as (written (written out x) y) _ (item.Infix operator at) from (with_tree y (with_tree x now)) _ (node-infix terminal operator is at)
-      (built-written sy (written out x) from (with_tree x now) (built-written sx out from now e)) refl
+      grow_as (written (written out x) y) _ (item.Operator operator at) from (with_tree y (with_tree x now)) _ (node-operator operator at)
+      (built-written sy (written out x) from (with_tree x now) (built-written sx out from now e)) (put_operator operator at (tree x (tree y no_trees)) now (sym (infix_arity terminal operator is)))
   built-written (Grammar.spells_prefix {at = at} {x = x} terminal operator is low sx) out from now e =
-      grow_as (written out x) _ (item.Prefix operator at) from (with_tree x now) _ (node-prefix terminal operator is at) (built-written sx out from now e) refl
+      grow_as (written out x) _ (item.Operator operator at) from (with_tree x now) _ (node-operator operator at) (built-written sx out from now e)
+      (put_operator operator at (tree x no_trees) now (sym (prefix_arity terminal operator is)))
   built-written (Grammar.spells_inner close_at sx) out from now e = built-written sx out from now e
   built-written (Grammar.spells_if {at = at} then_at else_at fi_at {x = x} {y = y} {z = z} sx sy sz) out from now e =
       grow (written (written (written out x) y) z) (item.If at) from (with_tree z (with_tree y (with_tree x now))) _
@@ -151,11 +159,9 @@ mutual
       grow (written_all (out ++ item.NoTrees ∷ []) args) (item.Call at n) from (with_list (tree_list args) now) _
       (built-args sa (out ++ item.NoTrees ∷ []) from now (grow out item.NoTrees from now _ e refl))
       (ap (λ a. Some (with_tree (call at n a) now)) (trees_of-list args))
-  built-written (Grammar.spells_called {at = at} close_at operator {args = args} all sa) out from now e =
-      grow_as (written_parts out args) _ (item.Called operator at) from (with_trees args now) _ (node-called operator at)
-      (built-parts sa out from now e)
-      (ap (option_and_then (λ g. Some (piles (form at (called_head operator) g.0 ∷ g.1) now.lists now.names now.places now.blocks)))
-      (ap (λ n. gather n (piled args now.trees) no_trees) (sym all) ∙ taken args now.trees))
+  built-written (Grammar.spells_called {at = at} close_at terminal operator {args = args} is all sa) out from now e =
+      grow_as (written_parts out args) _ (item.Operator operator at) from (with_trees args now) _ (node-operator operator at)
+      (built-parts sa out from now e) (put_operator operator at args now all)
   built-written (Grammar.spells_block {at = at} end_at {x = x} {all = all} low sx sd) out from now e =
       grow (written_defs (written out x ++ item.NoDefs ∷ []) all) (item.Block at) from (with_block (def_list all) (with_tree x now)) _
       (built-defs sd (written out x ++ item.NoDefs ∷ []) from (with_tree x now) (grow (written out x) item.NoDefs from (with_tree x now) _ (built-written sx out from now e) refl))

@@ -4,9 +4,7 @@ use Rattle.std.proofs.lemmas.Bool.{le-leb, leb-true, eq-eqb, ne_eqb}
 use Rattle.std.specs.Prelude.{nat_eq, ◌-◌}
 use Rattle.lucid_tree.specs.Tree.{PlainTree, PlainTrees, no_trees, tree, PlainDefs, no_defs, defines, defines_function, defines_current}
 use Rattle.lucid_tree.specs.Size.{count}
-use Rattle.lucid_parse.specs.declared.terminal.Infix.{Infix}
-use Rattle.lucid_parse.specs.declared.terminal.Prefix.{Prefix}
-use Rattle.lucid_parse.specs.declared.terminal.Called.{Called}
+use Rattle.lucid_ops.specs.declared.op.Form.TheVariants.{Before, Between, Called}
 use Rattle.lucid_parse.specs.declared.terminal.Terminal.TheVariants as terminal
 use Rattle.lucid_parse.specs.declared.state.Defines.{Defines}
 use Rattle.lucid_parse.specs.declared.state.Defines.TheVariants as kind
@@ -16,29 +14,30 @@ use Rattle.lucid_parse.specs.declared.state.Focus.TheVariants as focus
 use Rattle.lucid_parse.specs.declared.state.Item.{Item}
 use Rattle.lucid_parse.specs.declared.state.Item.TheVariants as item
 use Rattle.lucid_parse.specs.Grammar
-use Rattle.lucid_parse.specs.Grammar.{PlainTerminal, PlacedTerminal, terminal_at, trees_and, def_before, defs_and, Parameter, parameter, names_of, places_of, Defined, Plain, Function, Current, Spells, SpellsArgs, SpellsDefs, SpellsNames, infix_level, left, right, prefix_level, called_arity, infix_of, prefix_of, infix_head, prefix_head, called_head}
-use Rattle.lucid_parse.specs.Machine.{PlainFrame, PlainItem, PlainState, state, takes, shift, inner_frames, inner_out, settle_at, settle, prefixed, begin, step_named, step, feeds, finished, finish}
+use Rattle.lucid_forms.specs.declared.operator.Operator.{Operator}
+use Rattle.lucid_parse.specs.Grammar.{PlainTerminal, PlacedTerminal, terminal_at, trees_and, def_before, defs_and, Parameter, parameter, names_of, places_of, Defined, Plain, Function, Current, Spells, SpellsArgs, SpellsDefs, SpellsNames, level_of, arity_of, left, right, operator_in, head}
+use Rattle.lucid_parse.specs.Machine.{PlainFrame, PlainItem, PlainState, state, takes, shift, inner_frames, inner_out, settle_at, settle, prefixed, begun, begin, step_named, step, feeds, finished, finish}
 use Rattle.lucid_parse.specs.Flat.{written, written_parts, written_all, written_defs, kind_of, listed, with_parameters, headed}
-use Rattle.lucid_parse.proofs.Levels.{prefix_level_most, left_most, right_most, left_least, right_least, right_positive, prefix_level_positive, called_arity_positive, apart, apart_prefix, node-infix, node-prefix, node-called}
+use Rattle.lucid_parse.proofs.Levels.{prefix_level_most, left_most, right_most, left_least, right_least, right_positive, level_positive, arity_positive, before_not_called, apart, apart_prefix, node-operator}
 
 -- the terminal leaves no operand of this level or a tighter one open, when it comes next
-abbrev pub ClosesAs : ℕ → Option Infix → Type 0
+abbrev pub ClosesAs : ℕ → Option Operator → Type 0
 ClosesAs level (Some operator) = left operator ≤ level
 ClosesAs level None = Unit {0}
 
 abbrev pub Closes : ℕ → PlainTerminal → Type 0
 Closes level terminal.Open = ⊥
-Closes level terminal = ClosesAs level (infix_of terminal)
+Closes level terminal = ClosesAs level (operator_in Between terminal)
 
-ClosesAs-more : (o : Option Infix) (lesser level : ℕ) → lesser ≤ level → ClosesAs lesser o → ClosesAs level o
+ClosesAs-more : (o : Option Operator) (lesser level : ℕ) → lesser ≤ level → ClosesAs lesser o → ClosesAs level o
 ClosesAs-more (Some operator) lesser level h c = omega arith
 ClosesAs-more None lesser level h c = tt
 
 Closes-more : (terminal : PlainTerminal) (lesser level : ℕ) → lesser ≤ level → Closes lesser terminal → Closes level terminal
 Closes-more terminal.Open lesser level h c = c
-Closes-more terminal lesser level h c = ClosesAs-more (infix_of terminal) lesser level h c
+Closes-more terminal lesser level h c = ClosesAs-more (operator_in Between terminal) lesser level h c
 
-Closes-operator : (terminal : PlainTerminal) (operator : Infix) (level : ℕ) → infix_of terminal ≡ Some operator → left operator ≤ level → Closes level terminal
+Closes-operator : (terminal : PlainTerminal) (operator : Operator) (level : ℕ) → operator_in Between terminal ≡ Some operator → left operator ≤ level → Closes level terminal
 Closes-operator terminal.Open operator level e h = cc
 Closes-operator terminal operator level e h = subst (λ o. ClosesAs level o) (sym e) h
 
@@ -52,8 +51,8 @@ pub record Done (from : PlainState) (ts : List PlacedTerminal) (level allowed : 
 and : (a b : Bool) → a ≡ true → b ≡ true → (a && b) ≡ true
 and a b p q = grind (arith, p, q)
 
-takes-true : (operator : Infix) (level allowed : ℕ) → left operator ≤ level → allowed ≤ infix_level operator → takes operator level allowed ≡ true
-takes-true operator level allowed h j = and _ _ (le-leb (left operator) level h) (le-leb allowed (infix_level operator) j)
+takes-true : (operator : Operator) (level allowed : ℕ) → left operator ≤ level → allowed ≤ level_of operator → takes operator level allowed ≡ true
+takes-true operator level allowed h j = and _ _ (le-leb (left operator) level h) (le-leb allowed (level_of operator) j)
 
 false_from : (b : Bool) → (b ≡ true → ⊥) → b ≡ false
 false_from true h = absurd (h refl)
@@ -63,8 +62,8 @@ second : (a b : Bool) → (a && b) ≡ true → b ≡ true
 second true b h = h
 second false b h = cc
 
-not_taken : (operator : Infix) (level allowed : ℕ) → (allowed ≤ infix_level operator → ⊥) → takes operator level allowed ≡ false
-not_taken operator level allowed h = false_from (takes operator level allowed) (λ t. h (leb-true allowed (infix_level operator) (second (leb (left operator) level) (leb allowed (infix_level operator)) t)))
+not_taken : (operator : Operator) (level allowed : ℕ) → (allowed ≤ level_of operator → ⊥) → takes operator level allowed ≡ false
+not_taken operator level allowed h = false_from (takes operator level allowed) (λ t. h (leb-true allowed (level_of operator) (second (leb (left operator) level) (leb allowed (level_of operator)) t)))
 
 onward : {A B : Type 0} (f g : A → Option B) (w : Option B) (h : B) (o : Option A) → ((i : A) → f i ≡ Some h → g i ≡ w)
     → option_and_then f o ≡ Some h → option_and_then g o ≡ w
@@ -79,7 +78,7 @@ feeds-append (x ∷ xs) ys g h e = onward (λ i. feeds i xs) (λ i. feeds i (xs 
 through : (xs ys : List PlacedTerminal) (t : PlacedTerminal) (g a h : PlainState) (end : Option PlainState) → feeds g xs ≡ Some a → step a t.terminal t.at ≡ Some h → feeds h ys ≡ end → feeds g (xs ++ t ∷ ys) ≡ end
 through xs ys t g a h end p q r = feeds-append xs (t ∷ ys) g a p ∙ ap (option_and_then (λ i. feeds i ys)) q ∙ r
 
-settle_between : (terminal : PlainTerminal) (operator : Infix) (at level allowed : ℕ) (frames : List PlainFrame) (out : List PlainItem) → infix_of terminal ≡ Some operator
+settle_between : (terminal : PlainTerminal) (operator : Operator) (at level allowed : ℕ) (frames : List PlainFrame) (out : List PlainItem) → operator_in Between terminal ≡ Some operator
     → settle terminal at level allowed frames out ≡ shift operator at level allowed frames out
 settle_between terminal operator at level allowed frames out e = ap (λ o. settle_at o terminal at level allowed frames out) e
 
@@ -90,61 +89,68 @@ not_chosen : {A : Type 0} (b : Bool) (x y : A) → b ≡ false → cond b x y �
 not_chosen b x y e = ap (λ c. cond c x y) e
 
 -- an operator that may take its left operand does
-pub shift-takes : {N V : Type 0} (operator : Infix) (at level allowed : ℕ) (frames : List (Frame N)) (out : List (Item N V)) → takes operator level allowed ≡ true
-    → shift operator at level allowed frames out ≡ Some (state (focus.Await (right operator)) (frame.Infix operator at allowed ∷ frames) out)
-shift-takes operator at level allowed (frame.Infix waiting place outer ∷ frames) out e = chosen _ _ _ e
-shift-takes operator at level allowed (frame.Prefix waiting place outer ∷ frames) out e = chosen _ _ _ e
+pub shift-takes : {N V : Type 0} (operator : Operator) (at level allowed : ℕ) (frames : List (Frame N)) (out : List (Item N V)) → takes operator level allowed ≡ true
+    → shift operator at level allowed frames out ≡ Some (state (focus.Await (right operator)) (frame.Operator operator at allowed ∷ frames) out)
+shift-takes operator at level allowed (frame.Operator waiting place outer ∷ frames) out e = chosen _ _ _ e
 shift-takes operator at level allowed [] out e = chosen _ _ _ e
 shift-takes operator at level allowed (f ∷ frames) out e = chosen _ _ _ e
 
 -- a terminal that closes an operator's level closes the operator first
-shift_after_left : (operator following : Infix) (at place level allowed : ℕ) (frames : List PlainFrame) (out : List PlainItem) → left following ≤ infix_level operator
-    → shift following at level (right operator) (frame.Infix operator place allowed ∷ frames) out ≡ shift following at (infix_level operator) allowed frames (out ++ item.Infix operator place ∷ [])
+shift_after_left : (operator following : Operator) (at place level allowed : ℕ) (frames : List PlainFrame) (out : List PlainItem) → left following ≤ level_of operator
+    → shift following at level (right operator) (frame.Operator operator place allowed ∷ frames) out ≡ shift following at (level_of operator) allowed frames (out ++ item.Operator operator place ∷ [])
 shift_after_left operator following at place level allowed frames out h = not_chosen _ _ _ (not_taken following level (right operator) (apart operator following h))
 
-shift_after_before : (t : PlainTerminal) (operator : Prefix) (following : Infix) (at place level allowed : ℕ) (frames : List PlainFrame) (out : List PlainItem) → prefix_of t ≡ Some operator → left following ≤ prefix_level operator
-    → shift following at level (prefix_level operator) (frame.Prefix operator place allowed ∷ frames) out ≡ shift following at (prefix_level operator) allowed frames (out ++ item.Prefix operator place ∷ [])
-shift_after_before t operator following at place level allowed frames out is h = not_chosen _ _ _ (not_taken following level (prefix_level operator) (apart_prefix t operator following is h))
+shift_after_before : (t : PlainTerminal) (operator : Operator) (following : Operator) (at place level allowed : ℕ) (frames : List PlainFrame) (out : List PlainItem) → operator_in Before t ≡ Some operator → left following ≤ level_of operator
+    → shift following at level (level_of operator) (frame.Operator operator place allowed ∷ frames) out ≡ shift following at (level_of operator) allowed frames (out ++ item.Operator operator place ∷ [])
+shift_after_before t operator following at place level allowed frames out is h = not_chosen _ _ _ (not_taken following level (level_of operator) (apart_prefix t operator following is h))
 
-settle_as_left : (o : Option Infix) (terminal : PlainTerminal) (operator : Infix) (at place level allowed : ℕ) (frames : List PlainFrame) (out : List PlainItem) → ClosesAs (infix_level operator) o
-    → settle_at o terminal at level (right operator) (frame.Infix operator place allowed ∷ frames) out ≡ settle_at o terminal at (infix_level operator) allowed frames (out ++ item.Infix operator place ∷ [])
+settle_as_left : (o : Option Operator) (terminal : PlainTerminal) (operator : Operator) (at place level allowed : ℕ) (frames : List PlainFrame) (out : List PlainItem) → ClosesAs (level_of operator) o
+    → settle_at o terminal at level (right operator) (frame.Operator operator place allowed ∷ frames) out ≡ settle_at o terminal at (level_of operator) allowed frames (out ++ item.Operator operator place ∷ [])
 settle_as_left (Some following) terminal operator at place level allowed frames out h = shift_after_left operator following at place level allowed frames out h
 settle_as_left None terminal operator at place level allowed frames out h = refl
 
-settle_after_left : (terminal : PlainTerminal) (operator : Infix) (at place level allowed : ℕ) (frames : List PlainFrame) (out : List PlainItem) → Closes (infix_level operator) terminal
-    → settle terminal at level (right operator) (frame.Infix operator place allowed ∷ frames) out ≡ settle terminal at (infix_level operator) allowed frames (out ++ item.Infix operator place ∷ [])
+settle_after_left : (terminal : PlainTerminal) (operator : Operator) (at place level allowed : ℕ) (frames : List PlainFrame) (out : List PlainItem) → Closes (level_of operator) terminal
+    → settle terminal at level (right operator) (frame.Operator operator place allowed ∷ frames) out ≡ settle terminal at (level_of operator) allowed frames (out ++ item.Operator operator place ∷ [])
 settle_after_left terminal.Open operator at place level allowed frames out h = refl
-settle_after_left terminal operator at place level allowed frames out h = settle_as_left (infix_of terminal) terminal operator at place level allowed frames out h
+settle_after_left terminal operator at place level allowed frames out h = settle_as_left (operator_in Between terminal) terminal operator at place level allowed frames out h
 
-settle_as_before : (t : PlainTerminal) (o : Option Infix) (terminal : PlainTerminal) (operator : Prefix) (at place level allowed : ℕ) (frames : List PlainFrame) (out : List PlainItem) → prefix_of t ≡ Some operator
-    → ClosesAs (prefix_level operator) o
-    → settle_at o terminal at level (prefix_level operator) (frame.Prefix operator place allowed ∷ frames) out ≡ settle_at o terminal at (prefix_level operator) allowed frames (out ++ item.Prefix operator place ∷ [])
+settle_as_before : (t : PlainTerminal) (o : Option Operator) (terminal : PlainTerminal) (operator : Operator) (at place level allowed : ℕ) (frames : List PlainFrame) (out : List PlainItem) → operator_in Before t ≡ Some operator
+    → ClosesAs (level_of operator) o
+    → settle_at o terminal at level (level_of operator) (frame.Operator operator place allowed ∷ frames) out ≡ settle_at o terminal at (level_of operator) allowed frames (out ++ item.Operator operator place ∷ [])
 settle_as_before t (Some following) terminal operator at place level allowed frames out is h = shift_after_before t operator following at place level allowed frames out is h
 settle_as_before t None terminal operator at place level allowed frames out is h = refl
 
-settle_after_before : (t terminal : PlainTerminal) (operator : Prefix) (at place level allowed : ℕ) (frames : List PlainFrame) (out : List PlainItem) → prefix_of t ≡ Some operator → Closes (prefix_level operator) terminal
-    → settle terminal at level (prefix_level operator) (frame.Prefix operator place allowed ∷ frames) out ≡ settle terminal at (prefix_level operator) allowed frames (out ++ item.Prefix operator place ∷ [])
+settle_after_before : (t terminal : PlainTerminal) (operator : Operator) (at place level allowed : ℕ) (frames : List PlainFrame) (out : List PlainItem) → operator_in Before t ≡ Some operator → Closes (level_of operator) terminal
+    → settle terminal at level (level_of operator) (frame.Operator operator place allowed ∷ frames) out ≡ settle terminal at (level_of operator) allowed frames (out ++ item.Operator operator place ∷ [])
 settle_after_before t terminal.Open operator at place level allowed frames out is h = refl
-settle_after_before t terminal operator at place level allowed frames out is h = settle_as_before t (infix_of terminal) terminal operator at place level allowed frames out is h
+settle_after_before t terminal operator at place level allowed frames out is h = settle_as_before t (operator_in Between terminal) terminal operator at place level allowed frames out is h
 
 named_next : (terminal : PlainTerminal) (at place : ℕ) (n : List ℕ) (allowed : ℕ) (frames : List PlainFrame) (out : List PlainItem) → Closes 12 terminal
     → step_named terminal at place n allowed frames out ≡ settle terminal at 12 allowed frames (out ++ item.Name place n ∷ [])
 named_next terminal.Open at place n allowed frames out h = absurd h
 named_next _ at place n allowed frames out h = refl
 
-pub begins : (terminal : PlainTerminal) (operator : Prefix) (at allowed : ℕ) (frames : List PlainFrame) (out : List PlainItem) → prefix_of terminal ≡ Some operator
+pub begins : (terminal : PlainTerminal) (operator : Operator) (at allowed : ℕ) (frames : List PlainFrame) (out : List PlainItem) → operator_in Before terminal ≡ Some operator
     → begin terminal at allowed frames out ≡ prefixed (Some operator) at allowed frames out
 begins (terminal.Name n) operator at allowed frames out e = cc
 begins (terminal.Const v) operator at allowed frames out e = cc
-begins (terminal.Called c) operator at allowed frames out e = cc
 begins terminal.If operator at allowed frames out e = cc
 begins terminal.Open operator at allowed frames out e = cc
-begins terminal operator at allowed frames out e = ap (λ o. prefixed o at allowed frames out) e
+begins terminal operator at allowed frames out e =
+    ap (λ c. begun c (operator_in Before terminal) at allowed frames out) (before_not_called terminal operator e) ∙ ap (λ o. prefixed o at allowed frames out) e
+
+pub begins_called : (terminal : PlainTerminal) (operator : Operator) (at allowed : ℕ) (frames : List PlainFrame) (out : List PlainItem) → operator_in Called terminal ≡ Some operator
+    → begin terminal at allowed frames out ≡ Some (state (focus.Opens operator at allowed) frames out)
+begins_called (terminal.Name n) operator at allowed frames out e = cc
+begins_called (terminal.Const v) operator at allowed frames out e = cc
+begins_called terminal.If operator at allowed frames out e = cc
+begins_called terminal.Open operator at allowed frames out e = cc
+begins_called terminal operator at allowed frames out e = ap (λ c. begun c (operator_in Before terminal) at allowed frames out) e
 
 -- an operator before its operand, in a place that allows it
-begins_before : (terminal : PlainTerminal) (operator : Prefix) (at allowed : ℕ) (frames : List PlainFrame) (out : List PlainItem) → prefix_of terminal ≡ Some operator → allowed ≤ prefix_level operator
-    → begin terminal at allowed frames out ≡ Some (state (focus.Await (prefix_level operator)) (frame.Prefix operator at allowed ∷ frames) out)
-begins_before terminal operator at allowed frames out e h = begins terminal operator at allowed frames out e ∙ chosen _ _ _ (le-leb allowed (prefix_level operator) h)
+begins_before : (terminal : PlainTerminal) (operator : Operator) (at allowed : ℕ) (frames : List PlainFrame) (out : List PlainItem) → operator_in Before terminal ≡ Some operator → allowed ≤ level_of operator
+    → begin terminal at allowed frames out ≡ Some (state (focus.Await (level_of operator)) (frame.Operator operator at allowed ∷ frames) out)
+begins_before terminal operator at allowed frames out e h = begins terminal operator at allowed frames out e ∙ chosen _ _ _ (le-leb allowed (level_of operator) h)
 
 pub written_parts-and : (out : List PlainItem) (ts : PlainTrees) (t : PlainTree) → written_parts out (trees_and ts t) ≡ written (written_parts out ts) t
 unfolding written
@@ -187,18 +193,15 @@ count-and (tree s ts) t = ap (λ n. n + 1) (count-and ts t)
 
 -- a place that allows this level may lie inside what is open: an operator's operand is no place for a block
 abbrev pub Fits : ℕ → List PlainFrame → Type 0
-Fits level (frame.Infix operator place allowed ∷ frames) = 1 ≤ level
-Fits level (frame.Prefix operator place allowed ∷ frames) = 1 ≤ level
+Fits level (frame.Operator operator place allowed ∷ frames) = 1 ≤ level
 Fits level _ = Unit {0}
 
 inner_frames_here : (frames : List PlainFrame) → Fits 0 frames → inner_frames frames ≡ frames
-inner_frames_here (frame.Infix operator place allowed ∷ frames) h = absurd (omega arith)
-inner_frames_here (frame.Prefix operator place allowed ∷ frames) h = absurd (omega arith)
+inner_frames_here (frame.Operator operator place allowed ∷ frames) h = absurd (omega arith)
 inner_frames_here _ h = refl
 
 inner_out_here : (frames : List PlainFrame) (out : List PlainItem) → Fits 0 frames → inner_out frames out ≡ out
-inner_out_here (frame.Infix operator place allowed ∷ frames) out h = absurd (omega arith)
-inner_out_here (frame.Prefix operator place allowed ∷ frames) out h = absurd (omega arith)
+inner_out_here (frame.Operator operator place allowed ∷ frames) out h = absurd (omega arith)
 inner_out_here _ out h = refl
 
 -- the terminals lead over an operand of the wanted level or a tighter one
@@ -215,49 +218,49 @@ pub record Arguments (all : PlainTrees) (at : ℕ) (n : List ℕ) (allowed : ℕ
   pub done : Done (state (focus.Await 0) (frame.Arguments at n allowed ∷ frames) out) ts level 0 (frame.Arguments at n allowed ∷ frames) last
 
 -- the terminals lead over the arguments of a called operator
-pub record Parts (all : PlainTrees) (operator : Called) (at allowed : ℕ) (ts : List PlacedTerminal) (frames : List PlainFrame) (out : List PlainItem) : Type 0 where
+pub record Parts (all : PlainTrees) (operator : Operator) (at allowed : ℕ) (ts : List PlacedTerminal) (frames : List PlainFrame) (out : List PlainItem) : Type 0 where
   pub more : ℕ
-  pub counts : more + count all ≡ called_arity operator
+  pub counts : more + count all ≡ arity_of operator
   pub level : ℕ
-  pub done : Done (state (focus.Await 0) (frame.Operands operator at (called_arity operator - 1) allowed ∷ frames) out) ts level 0 (frame.Operands operator at more allowed ∷ frames) (written_parts out all)
+  pub done : Done (state (focus.Await 0) (frame.Operands operator at (arity_of operator - 1) allowed ∷ frames) out) ts level 0 (frame.Operands operator at more allowed ∷ frames) (written_parts out all)
 
 -- the same with an equal list of nodes
 written_as : {wanted allowed : ℕ} {from : PlainState} {ts : List PlacedTerminal} {frames : List PlainFrame} {out into : List PlainItem} → out ≡ into
     → Operand wanted from ts allowed frames out → Operand wanted from ts allowed frames into
 written_as {wanted} {allowed} {from} {ts} {frames} {out} {into} e h = subst (λ o. Operand wanted from ts allowed frames o) e h
 
-joined : (wanted at allowed : ℕ) (terminal : PlainTerminal) (operator : Infix) (xs ys : List PlacedTerminal) (frames : List PlainFrame) (out ox oy : List PlainItem)
-    → infix_of terminal ≡ Some operator → wanted ≤ infix_level operator → allowed ≤ wanted
+joined : (wanted at allowed : ℕ) (terminal : PlainTerminal) (operator : Operator) (xs ys : List PlacedTerminal) (frames : List PlainFrame) (out ox oy : List PlainItem)
+    → operator_in Between terminal ≡ Some operator → wanted ≤ level_of operator → allowed ≤ wanted
     → Operand (left operator) (state (focus.Await allowed) frames out) xs allowed frames ox
-    → Operand (right operator) (state (focus.Await (right operator)) (frame.Infix operator at allowed ∷ frames) ox) ys (right operator) (frame.Infix operator at allowed ∷ frames) oy
-    → Operand wanted (state (focus.Await allowed) frames out) (xs ++ terminal_at terminal at ∷ ys) allowed frames (oy ++ item.Infix operator at ∷ [])
+    → Operand (right operator) (state (focus.Await (right operator)) (frame.Operator operator at allowed ∷ frames) ox) ys (right operator) (frame.Operator operator at allowed ∷ frames) oy
+    → Operand wanted (state (focus.Await allowed) frames out) (xs ++ terminal_at terminal at ∷ ys) allowed frames (oy ++ item.Operator operator at ∷ [])
 joined wanted at allowed terminal operator xs ys frames out ox oy is low h l r = record {
-  level = infix_level operator;
+  level = level_of operator;
   least = low;
   done = record {
     after = r.done.after;
-    reads = through xs ys (terminal_at terminal at) (state (focus.Await allowed) frames out) l.done.after (state (focus.Await (right operator)) (frame.Infix operator at allowed ∷ frames) ox) (Some r.done.after)
+    reads = through xs ys (terminal_at terminal at) (state (focus.Await allowed) frames out) l.done.after (state (focus.Await (right operator)) (frame.Operator operator at allowed ∷ frames) ox) (Some r.done.after)
         l.done.reads
         (l.done.next terminal at (Closes-operator terminal operator l.level is l.least) ∙ settle_between terminal operator at l.level allowed frames ox is
         ∙ shift-takes operator at l.level allowed frames ox (takes-true operator l.level allowed l.least (omega (arith, low, h))))
         r.done.reads;
-    next = λ next place closes. r.done.next next place (Closes-more next (infix_level operator) r.level (omega (arith, right_least operator, r.least)) closes)
+    next = λ next place closes. r.done.next next place (Closes-more next (level_of operator) r.level (omega (arith, right_least operator, r.least)) closes)
         ∙ settle_after_left next operator place at r.level allowed frames oy closes;
     ends = r.done.ends;
   };
 }
 
-applied : (wanted at allowed : ℕ) (terminal : PlainTerminal) (operator : Prefix) (xs : List PlacedTerminal) (frames : List PlainFrame) (out ox : List PlainItem)
-    → prefix_of terminal ≡ Some operator → wanted ≤ prefix_level operator → allowed ≤ wanted
-    → Operand (prefix_level operator) (state (focus.Await (prefix_level operator)) (frame.Prefix operator at allowed ∷ frames) out) xs (prefix_level operator) (frame.Prefix operator at allowed ∷ frames) ox
-    → Operand wanted (state (focus.Await allowed) frames out) (terminal_at terminal at ∷ xs) allowed frames (ox ++ item.Prefix operator at ∷ [])
+applied : (wanted at allowed : ℕ) (terminal : PlainTerminal) (operator : Operator) (xs : List PlacedTerminal) (frames : List PlainFrame) (out ox : List PlainItem)
+    → operator_in Before terminal ≡ Some operator → wanted ≤ level_of operator → allowed ≤ wanted
+    → Operand (level_of operator) (state (focus.Await (level_of operator)) (frame.Operator operator at allowed ∷ frames) out) xs (level_of operator) (frame.Operator operator at allowed ∷ frames) ox
+    → Operand wanted (state (focus.Await allowed) frames out) (terminal_at terminal at ∷ xs) allowed frames (ox ++ item.Operator operator at ∷ [])
 applied wanted at allowed terminal operator xs frames out ox is low h r = record {
-  level = prefix_level operator;
+  level = level_of operator;
   least = low;
   done = record {
     after = r.done.after;
     reads = ap (option_and_then (λ i. feeds i xs)) (begins_before terminal operator at allowed frames out is (omega (arith, low, h))) ∙ r.done.reads;
-    next = λ next place closes. r.done.next next place (Closes-more next (prefix_level operator) r.level r.least closes) ∙ settle_after_before terminal next operator place at r.level allowed frames ox is closes;
+    next = λ next place closes. r.done.next next place (Closes-more next (level_of operator) r.level r.least closes) ∙ settle_after_before terminal next operator place at r.level allowed frames ox is closes;
     ends = r.done.ends;
   };
 }
@@ -359,14 +362,14 @@ is_zero n e = eq-eqb n 0 e
 not_zero : (n : ℕ) → (n ≡ 0 → ⊥) → nat_eq n 0 ≡ false
 not_zero n e = ne_eqb n 0 e
 
-one_part : (operator : Called) (at allowed : ℕ) (xs : List PlacedTerminal) (x : PlainTree) (frames : List PlainFrame) (out : List PlainItem)
-    → Operand 0 (state (focus.Await 0) (frame.Operands operator at (called_arity operator - 1) allowed ∷ frames) out) xs 0 (frame.Operands operator at (called_arity operator - 1) allowed ∷ frames) (written out x)
+one_part : (operator : Operator) (at allowed : ℕ) (xs : List PlacedTerminal) (x : PlainTree) (frames : List PlainFrame) (out : List PlainItem)
+    → Operand 0 (state (focus.Await 0) (frame.Operands operator at (arity_of operator - 1) allowed ∷ frames) out) xs 0 (frame.Operands operator at (arity_of operator - 1) allowed ∷ frames) (written out x)
     → Parts (tree x no_trees) operator at allowed xs frames out
 unfolding written
 one_part operator at allowed xs x frames out l =
-    record { more = called_arity operator - 1; counts = (let some = called_arity_positive operator in omega (arith, some)); level = l.level; done = l.done }
+    record { more = arity_of operator - 1; counts = (let some = arity_positive operator in omega (arith, some)); level = l.level; done = l.done }
 
-more_parts : (comma_at : ℕ) (operator : Called) (at allowed : ℕ) (xs ys : List PlacedTerminal) (all : PlainTrees) (y : PlainTree) (frames : List PlainFrame) (out : List PlainItem) → count (trees_and all y) ≤ called_arity operator
+more_parts : (comma_at : ℕ) (operator : Operator) (at allowed : ℕ) (xs ys : List PlacedTerminal) (all : PlainTrees) (y : PlainTree) (frames : List PlainFrame) (out : List PlainItem) → count (trees_and all y) ≤ arity_of operator
     → (a : Parts all operator at allowed xs frames out)
     → Operand 0 (state (focus.Await 0) (frame.Operands operator at (a.more - 1) allowed ∷ frames) (written_parts out all)) ys 0 (frame.Operands operator at (a.more - 1) allowed ∷ frames) (written (written_parts out all) y)
     → Parts (trees_and all y) operator at allowed (xs ++ terminal_at terminal.Comma comma_at ∷ ys) frames out
@@ -379,7 +382,7 @@ more_parts comma_at operator at allowed xs ys all y frames out fits a l =
       level = r.level;
       done = record {
         after = r.done.after;
-        reads = through xs ys (terminal_at terminal.Comma comma_at) (state (focus.Await 0) (frame.Operands operator at (called_arity operator - 1) allowed ∷ frames) out) a.done.after
+        reads = through xs ys (terminal_at terminal.Comma comma_at) (state (focus.Await 0) (frame.Operands operator at (arity_of operator - 1) allowed ∷ frames) out) a.done.after
             (state (focus.Await 0) (frame.Operands operator at (a.more - 1) allowed ∷ frames) (written_parts out all)) _
             a.done.reads
             (a.done.next terminal.Comma comma_at tt
@@ -390,17 +393,19 @@ more_parts comma_at operator at allowed xs ys all y frames out fits a l =
       };
     }
 
-operated : (wanted allowed at open_at close_at : ℕ) (operator : Called) (xs : List PlacedTerminal) (args : PlainTrees) (frames : List PlainFrame) (out : List PlainItem) → wanted ≤ 12 → count args ≡ called_arity operator
+operated : (wanted allowed at open_at close_at : ℕ) (word : PlainTerminal) (operator : Operator) (xs : List PlacedTerminal) (args : PlainTrees) (frames : List PlainFrame) (out : List PlainItem) → wanted ≤ 12
+    → operator_in Called word ≡ Some operator → count args ≡ arity_of operator
     → Parts args operator at allowed xs frames out
-    → Operand wanted (state (focus.Await allowed) frames out) (terminal_at (terminal.Called operator) at ∷ terminal_at terminal.Open open_at ∷ (xs ++ terminal_at terminal.Close close_at ∷ [])) allowed frames
-    (written_parts out args ++ item.Called operator at ∷ [])
-operated wanted allowed at open_at close_at operator xs args frames out top all a =
+    → Operand wanted (state (focus.Await allowed) frames out) (terminal_at word at ∷ terminal_at terminal.Open open_at ∷ (xs ++ terminal_at terminal.Close close_at ∷ [])) allowed frames
+    (written_parts out args ++ item.Operator operator at ∷ [])
+operated wanted allowed at open_at close_at word operator xs args frames out top is all a =
     whole wanted allowed _ _ frames _ top
-    (through xs [] (terminal_at terminal.Close close_at) (state (focus.Await 0) (frame.Operands operator at (called_arity operator - 1) allowed ∷ frames) out) a.done.after
-    (state (focus.Have 12 allowed) frames (written_parts out args ++ item.Called operator at ∷ [])) _
+    (ap (option_and_then (λ i. feeds i (terminal_at terminal.Open open_at ∷ (xs ++ terminal_at terminal.Close close_at ∷ [])))) (begins_called word operator at allowed frames out is)
+    ∙ through xs [] (terminal_at terminal.Close close_at) (state (focus.Await 0) (frame.Operands operator at (arity_of operator - 1) allowed ∷ frames) out) a.done.after
+    (state (focus.Have 12 allowed) frames (written_parts out args ++ item.Operator operator at ∷ [])) _
     a.done.reads
     (a.done.next terminal.Close close_at tt
-    ∙ chosen (nat_eq a.more 0) (Some (state (focus.Have 12 allowed) frames (written_parts out args ++ item.Called operator at ∷ []))) None (is_zero a.more (omega (arith, a.counts, all))))
+    ∙ chosen (nat_eq a.more 0) (Some (state (focus.Have 12 allowed) frames (written_parts out args ++ item.Operator operator at ∷ []))) None (is_zero a.more (omega (arith, a.counts, all))))
     refl)
 
 -- the right side of a definition
@@ -446,14 +451,14 @@ mutual
     done = record { after = state (focus.Named at n allowed) frames out; reads = refl; next = λ terminal place c. named_next terminal place at n allowed frames out c; ends = refl };
   }
   complete (Grammar.spells_infix {level = wanted} {at = at} {xs = xs} {ys = ys} {x = x} {y = y} terminal operator is low sx sy) top allowed frames out h fits =
-      written_as (ap (λ i. written (written out x) y ++ i ∷ []) (sym (node-infix terminal operator is at)))
+      written_as (ap (λ i. written (written out x) y ++ i ∷ []) (sym (node-operator operator at)))
       (joined wanted at allowed terminal operator xs ys frames out (written out x) (written (written out x) y) is low h
       (complete sx (left_most terminal operator is) allowed frames out (omega (arith, low, h, left_least operator)) fits)
-      (complete sy (right_most terminal operator is) (right operator) (frame.Infix operator at allowed ∷ frames) (written out x) (le_refl _) (right_positive operator)))
+      (complete sy (right_most terminal operator is) (right operator) (frame.Operator operator at allowed ∷ frames) (written out x) (le_refl _) (right_positive operator)))
   complete (Grammar.spells_prefix {level = wanted} {at = at} {xs = xs} {x = x} terminal operator is low sx) top allowed frames out h fits =
-      written_as (ap (λ i. written out x ++ i ∷ []) (sym (node-prefix terminal operator is at)))
+      written_as (ap (λ i. written out x ++ i ∷ []) (sym (node-operator operator at)))
       (applied wanted at allowed terminal operator xs frames out (written out x) is low h
-      (complete sx (omega (arith, prefix_level_most terminal operator is)) (prefix_level operator) (frame.Prefix operator at allowed ∷ frames) out (le_refl _) (prefix_level_positive operator)))
+      (complete sx (omega (arith, prefix_level_most terminal operator is)) (level_of operator) (frame.Operator operator at allowed ∷ frames) out (le_refl _) (level_positive operator)))
   complete (Grammar.spells_inner {level = wanted} {p = p} close_at {xs = xs} {x = x} sx) top allowed frames out h fits =
       inner wanted allowed p close_at xs frames out (written out x) top (complete sx zero-le 0 (frame.Parenthesis allowed ∷ frames) out zero-le tt)
   complete (Grammar.spells_if {level = wanted} {at = at} then_at else_at fi_at {xs = xs} {ys = ys} {zs = zs} {x = x} {y = y} {z = z} sx sy sz) top allowed frames out h fits =
@@ -463,9 +468,9 @@ mutual
       (complete sz zero-le 0 (frame.No at allowed ∷ frames) (written (written out x) y) zero-le tt)
   complete (Grammar.spells_call {level = wanted} {at = at} {p = p} close_at {n = n} {xs = xs} {args = args} sa) top allowed frames out h fits =
       called wanted allowed at n p close_at xs args frames out top (complete_args sa at n allowed frames (out ++ item.NoTrees ∷ []))
-  complete (Grammar.spells_called {level = wanted} {at = at} {p = p} close_at operator {xs = xs} {args = args} all sa) top allowed frames out h fits =
-      written_as (ap (λ i. written_parts out args ++ i ∷ []) (sym (node-called operator at)))
-      (operated wanted allowed at p close_at operator xs args frames out top all (complete_parts sa operator (omega (arith, all)) at allowed frames out))
+  complete (Grammar.spells_called {level = wanted} {at = at} {p = p} close_at word operator {xs = xs} {args = args} is all sa) top allowed frames out h fits =
+      written_as (ap (λ i. written_parts out args ++ i ∷ []) (sym (node-operator operator at)))
+      (operated wanted allowed at p close_at word operator xs args frames out top is all (complete_parts sa operator (omega (arith, all)) at allowed frames out))
   complete (Grammar.spells_block {level = wanted} {at = at} end_at {xs = xs} {ds = ds} {x = x} {all = all} low sx sd) top allowed frames out h fits =
       let zero_wanted : 0 ≡ wanted = omega (arith, low) in
       let zero_allowed : 0 ≡ allowed = omega (arith, low, h) in
@@ -485,9 +490,9 @@ mutual
       let a = complete_args sa at n allowed frames out in
       more_arguments comma_at at n allowed xs ys all y frames out a (complete sy zero-le 0 (frame.Arguments at n allowed ∷ frames) (written_all out all) zero-le tt)
 
-  complete_parts : {xs : List PlacedTerminal} {all : PlainTrees} → SpellsArgs xs all → (operator : Called) → count all ≤ called_arity operator → (at allowed : ℕ) (frames : List PlainFrame) (out : List PlainItem) → Parts all operator at allowed xs frames out
+  complete_parts : {xs : List PlacedTerminal} {all : PlainTrees} → SpellsArgs xs all → (operator : Operator) → count all ≤ arity_of operator → (at allowed : ℕ) (frames : List PlainFrame) (out : List PlainItem) → Parts all operator at allowed xs frames out
   complete_parts (Grammar.spells_one {xs = xs} {x = x} sx) operator fits at allowed frames out =
-      one_part operator at allowed xs x frames out (complete sx zero-le 0 (frame.Operands operator at (called_arity operator - 1) allowed ∷ frames) out zero-le tt)
+      one_part operator at allowed xs x frames out (complete sx zero-le 0 (frame.Operands operator at (arity_of operator - 1) allowed ∷ frames) out zero-le tt)
   complete_parts (Grammar.spells_more comma_at {xs = xs} {ys = ys} {all = all} {y = y} sa sy) operator fits at allowed frames out =
       let a = complete_parts sa operator (omega (arith, fits, count-and all y)) at allowed frames out in
       more_parts comma_at operator at allowed xs ys all y frames out fits a (complete sy zero-le 0 (frame.Operands operator at (a.more - 1) allowed ∷ frames) (written_parts out all) zero-le tt)

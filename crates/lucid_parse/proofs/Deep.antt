@@ -10,12 +10,12 @@ use Rattle.lucid_parse.specs.declared.state.Item.{Item}
 use Rattle.lucid_parse.specs.declared.state.Item.TheVariants as item
 use Rattle.lucid_parse.specs.declared.state.Defines.TheVariants as kind
 use Rattle.lucid_parse.specs.Grammar
-use Rattle.lucid_parse.specs.Grammar.{PlacedTerminal, trees_and, defs_and, Defined, Plain, Function, Current, Parameter, called_arity, Spells, SpellsArgs, SpellsDefs}
+use Rattle.lucid_parse.specs.Grammar.{PlacedTerminal, trees_and, defs_and, Defined, Plain, Function, Current, Parameter, arity_of, Spells, SpellsArgs, SpellsDefs}
 use Rattle.lucid_parse.specs.Machine.{PlainItem}
 use Rattle.lucid_parse.specs.Fill.{fill_item}
 use Rattle.lucid_parse.specs.Flat.{written, written_parts, written_all, written_defs, with_parameters}
 use Rattle.lucid_parse.specs.Depth.{here, at_depth, at_depth_in, at_depth_in_defs, IsLeast, lesser, least_in, found, copies, below, search_from}
-use Rattle.lucid_parse.proofs.Levels.{node-infix, node-prefix, node-called}
+use Rattle.lucid_parse.proofs.Levels.{infix_arity, prefix_arity, node-operator}
 use Rattle.lucid_parse.proofs.Complete.{written_parts-and, written_all-and, written_defs-and, count-and}
 
 least_in-append : (best : Option ℕ) (xs ys : List ℕ) → least_in best (xs ++ ys) ≡ least_in (least_in best ys) xs
@@ -62,12 +62,14 @@ mutual
   searched (Grammar.spells_const {at = at} {v = v}) out d ds best = from_end-push out (item.Const at v) d ds best
   searched (Grammar.spells_name {at = at} {n = n}) out d ds best = from_end-push out (item.Name at n) d ds best
   searched (Grammar.spells_infix {at = at} {x = x} {y = y} terminal operator is low sx sy) out d ds best =
-      from_end-as (written (written out x) y) _ (item.Infix operator at) d ds best (node-infix terminal operator is at)
+      from_end-as (written (written out x) y) _ (item.Operator operator at) d ds best (node-operator operator at)
+      ∙ ap (λ n. from_end (written (written out x) y) (copies n (pred d) ds) (least_in best (here d at))) (infix_arity terminal operator is)
       ∙ searched sy (written out x) (pred d) (pred d ∷ ds) (least_in best (here d at))
       ∙ searched sx out (pred d) ds (least_in (least_in best (here d at)) (at_depth (pred d) y))
       ∙ ap (from_end out ds) (sym (simp least_in-append))
   searched (Grammar.spells_prefix {at = at} {x = x} terminal operator is low sx) out d ds best =
-      from_end-as (written out x) _ (item.Prefix operator at) d ds best (node-prefix terminal operator is at)
+      from_end-as (written out x) _ (item.Operator operator at) d ds best (node-operator operator at)
+      ∙ ap (λ n. from_end (written out x) (copies n (pred d) ds) (least_in best (here d at))) (prefix_arity terminal operator is)
       ∙ searched sx out (pred d) ds (least_in best (here d at))
       ∙ ap (from_end out ds) (sym (simp least_in-append))
   searched (Grammar.spells_inner close_at sx) out d ds best = searched sx out d ds best
@@ -82,8 +84,8 @@ mutual
       ∙ searched_args sa (out ++ item.NoTrees ∷ []) (pred d) ds (least_in best (here d at))
       ∙ from_end-push out item.NoTrees (pred d) ds (least_in (least_in best (here d at)) (at_depth_in (pred d) args))
       ∙ ap (from_end out ds) (sym (least_in-append best (at_depth_in (pred d) args) (here d at)))
-  searched (Grammar.spells_called {at = at} close_at operator {args = args} all sa) out d ds best =
-      from_end-as (written_parts out args) _ (item.Called operator at) d ds best (node-called operator at)
+  searched (Grammar.spells_called {at = at} close_at terminal operator {args = args} is all sa) out d ds best =
+      from_end-as (written_parts out args) _ (item.Operator operator at) d ds best (node-operator operator at)
       ∙ ap (λ n. from_end (written_parts out args) (copies n (pred d) ds) (least_in best (here d at))) (sym all)
       ∙ searched_parts sa out (pred d) ds (least_in best (here d at))
       ∙ ap (from_end out ds) (sym (least_in-append best (at_depth_in (pred d) args) (here d at)))
@@ -280,18 +282,14 @@ module _ {M N V W : Type 0} (f : M → N) (g : V → W) where
   found-filled : (i : Item M V) (d : ℕ) (best : Option ℕ) → found (fill_item f g i) d best ≡ found i d best
   found-filled (item.Const at v) d best = refl
   found-filled (item.Name at n) d best = refl
-  found-filled (item.Infix operator at) d best = refl
-  found-filled (item.Prefix operator at) d best = refl
-  found-filled (item.Called operator at) d best = refl
+  found-filled (item.Operator operator at) d best = refl
   found-filled (item.If at) d best = refl
   found-filled (item.Call at n) d best = refl
   found-filled (item.Block at) d best = refl
   found-filled _ d best = refl
 
   below-filled : (i : Item M V) (d : ℕ) (ds : List ℕ) → below (fill_item f g i) d ds ≡ below i d ds
-  below-filled (item.Infix operator at) d ds = refl
-  below-filled (item.Prefix operator at) d ds = refl
-  below-filled (item.Called operator at) d ds = refl
+  below-filled (item.Operator operator at) d ds = refl
   below-filled (item.If at) d ds = refl
   below-filled (item.Call at n) d ds = refl
   below-filled (item.Block at) d ds = refl

@@ -3,9 +3,8 @@ use Rattle.std.proofs.Common.{◌≡◌, ℕ, List, [], ◌∷◌, ◌++◌, map
 use Rattle.std.specs.Option.{option_map}
 use Rattle.std.specs.Prelude.{nat_le, nat_eq}
 use Rattle.std.proofs.lemmas.List.{map-append}
-use Rattle.lucid_parse.specs.declared.terminal.Infix.{Infix}
-use Rattle.lucid_parse.specs.declared.terminal.Prefix.{Prefix}
-use Rattle.lucid_parse.specs.declared.terminal.Called.{Called}
+use Rattle.lucid_ops.specs.declared.op.Form.{Form}
+use Rattle.lucid_ops.specs.declared.op.Form.TheVariants.{Before, Between, Called}
 use Rattle.lucid_parse.specs.declared.terminal.Terminal.{Terminal}
 use Rattle.lucid_parse.specs.declared.terminal.Terminal.TheVariants as terminal
 use Rattle.lucid_parse.specs.declared.state.Frame.{Frame}
@@ -14,8 +13,9 @@ use Rattle.lucid_parse.specs.declared.state.Focus.{Focus}
 use Rattle.lucid_parse.specs.declared.state.Focus.TheVariants as focus
 use Rattle.lucid_parse.specs.declared.state.Item.{Item}
 use Rattle.lucid_parse.specs.declared.state.Item.TheVariants as item
-use Rattle.lucid_parse.specs.Grammar.{infix_level, prefix_level, infix_of, prefix_of}
-use Rattle.lucid_parse.specs.Machine.{State, state, takes, shift, inner_frames, inner_out, after_frame, close_top, close, settle_at, settle, prefixed, begin, step_named, step_heads, step_headed, step_frozen, step_names, step_listed, step_ready, step_opens, step_at, step, if_empty, finished, finish_at, finish}
+use Rattle.lucid_forms.specs.declared.operator.Operator.{Operator}
+use Rattle.lucid_parse.specs.Grammar.{level_of, operator_in}
+use Rattle.lucid_parse.specs.Machine.{State, state, takes, shift, inner_frames, inner_out, after_frame, close_top, close, settle_at, settle, prefixed, begun, begin, step_named, step_heads, step_headed, step_frozen, step_names, step_listed, step_ready, step_opens, step_at, step, if_empty, finished, finish_at, finish}
 use Rattle.lucid_parse.specs.Fill.{fill_terminal, fill_frame, fill_focus, fill_item, fill_state}
 
 module _ {M N V W : Type 0} (f : M → N) (g : V → W) where
@@ -35,25 +35,20 @@ module _ {M N V W : Type 0} (f : M → N) (g : V → W) where
   filled_cond true x y v w e h = e
   filled_cond false x y v w e h = h
 
-  filled_shift : (frames : List (Frame M)) (operator : Infix) (at level allowed : ℕ) (out : List (Item M V)) → shift operator at level allowed (frames_of frames) (out_of out) ≡ into (shift operator at level allowed frames out)
-  filled_shift (frame.Infix waiting place outer ∷ frames) operator at level allowed out =
+  filled_shift : (frames : List (Frame M)) (operator : Operator) (at level allowed : ℕ) (out : List (Item M V)) → shift operator at level allowed (frames_of frames) (out_of out) ≡ into (shift operator at level allowed frames out)
+  filled_shift (frame.Operator waiting place outer ∷ frames) operator at level allowed out =
       filled_cond (takes operator level allowed) _ _ _ _ refl
-      (ap (shift operator at (infix_level waiting) outer (frames_of frames)) (push out (item.Infix waiting place)) ∙ filled_shift frames operator at (infix_level waiting) outer (out ++ item.Infix waiting place ∷ []))
-  filled_shift (frame.Prefix waiting place outer ∷ frames) operator at level allowed out =
-      filled_cond (takes operator level allowed) _ _ _ _ refl
-      (ap (shift operator at (prefix_level waiting) outer (frames_of frames)) (push out (item.Prefix waiting place)) ∙ filled_shift frames operator at (prefix_level waiting) outer (out ++ item.Prefix waiting place ∷ []))
+      (ap (shift operator at (level_of waiting) outer (frames_of frames)) (push out (item.Operator waiting place)) ∙ filled_shift frames operator at (level_of waiting) outer (out ++ item.Operator waiting place ∷ []))
   filled_shift [] operator at level allowed out = filled_cond (takes operator level allowed) _ _ _ _ refl refl
   filled_shift (x ∷ frames) operator at level allowed out = filled_cond (takes operator level allowed) _ _ _ _ refl refl
 
   filled_inner_frames : (frames : List (Frame M)) → inner_frames (frames_of frames) ≡ frames_of (inner_frames frames)
-  filled_inner_frames (frame.Infix operator place allowed ∷ frames) = filled_inner_frames frames
-  filled_inner_frames (frame.Prefix operator place allowed ∷ frames) = filled_inner_frames frames
+  filled_inner_frames (frame.Operator operator place allowed ∷ frames) = filled_inner_frames frames
   filled_inner_frames [] = refl
   filled_inner_frames (x ∷ frames) = refl
 
   filled_inner_out : (frames : List (Frame M)) (out : List (Item M V)) → inner_out (frames_of frames) (out_of out) ≡ out_of (inner_out frames out)
-  filled_inner_out (frame.Infix operator place allowed ∷ frames) out = ap (inner_out (frames_of frames)) (push out (item.Infix operator place)) ∙ filled_inner_out frames (out ++ item.Infix operator place ∷ [])
-  filled_inner_out (frame.Prefix operator place allowed ∷ frames) out = ap (inner_out (frames_of frames)) (push out (item.Prefix operator place)) ∙ filled_inner_out frames (out ++ item.Prefix operator place ∷ [])
+  filled_inner_out (frame.Operator operator place allowed ∷ frames) out = ap (inner_out (frames_of frames)) (push out (item.Operator operator place)) ∙ filled_inner_out frames (out ++ item.Operator operator place ∷ [])
   filled_inner_out [] out = refl
   filled_inner_out (x ∷ frames) out = refl
 
@@ -70,7 +65,7 @@ module _ {M N V W : Type 0} (f : M → N) (g : V → W) where
   filled_after (frame.Arguments place n allowed) terminal.Close frames out =
       ap (λ o. Some (state (focus.Have 12 allowed) (frames_of frames) (o ++ item.Call place (f n) ∷ []))) (push out item.More) ∙ one_more _ _ (out ++ item.More ∷ []) (item.Call place n)
   filled_after (frame.Operands operator place more allowed) terminal.Comma frames out = filled_cond (nat_eq more 0) _ _ _ _ refl refl
-  filled_after (frame.Operands operator place more allowed) terminal.Close frames out = filled_cond (nat_eq more 0) _ _ _ _ (one_more _ _ out (item.Called operator place)) refl
+  filled_after (frame.Operands operator place more allowed) terminal.Close frames out = filled_cond (nat_eq more 0) _ _ _ _ (one_more _ _ out (item.Operator operator place)) refl
   filled_after (frame.RightSide block d def_at n) terminal.Semicolon frames out = one_more _ _ out (item.Def d def_at n)
   filled_after _ _ frames out = refl
 
@@ -82,7 +77,7 @@ module _ {M N V W : Type 0} (f : M → N) (g : V → W) where
   filled_close terminal.Where at frames out = one_more _ _ out item.NoDefs
   filled_close terminal at frames out = filled_close_top terminal frames out
 
-  filled_settle_at : (o : Option Infix) (terminal : Terminal M V) (at level allowed : ℕ) (frames : List (Frame M)) (out : List (Item M V))
+  filled_settle_at : (o : Option Operator) (terminal : Terminal M V) (at level allowed : ℕ) (frames : List (Frame M)) (out : List (Item M V))
       → settle_at o (fill_terminal f g terminal) at level allowed (frames_of frames) (out_of out) ≡ into (settle_at o terminal at level allowed frames out)
   filled_settle_at (Some operator) terminal at level allowed frames out = filled_shift frames operator at level allowed out
   filled_settle_at None terminal at level allowed frames out =
@@ -90,31 +85,33 @@ module _ {M N V W : Type 0} (f : M → N) (g : V → W) where
       ∙ ap (close (fill_terminal f g terminal) at (frames_of (inner_frames frames))) (filled_inner_out frames out)
       ∙ filled_close terminal at (inner_frames frames) (inner_out frames out)
 
-  filled_between : (terminal : Terminal M V) → infix_of (fill_terminal f g terminal) ≡ infix_of terminal
-  filled_between (terminal.Infix operator) = refl
-  filled_between terminal.Minus = refl
-  filled_between _ = refl
-
-  filled_before : (terminal : Terminal M V) → prefix_of (fill_terminal f g terminal) ≡ prefix_of terminal
-  filled_before (terminal.Prefix operator) = refl
-  filled_before terminal.Minus = refl
-  filled_before _ = refl
+  filled_operator : (wanted : Form) (terminal : Terminal M V) → operator_in wanted (fill_terminal f g terminal) ≡ operator_in wanted terminal
+  filled_operator wanted (terminal.Operator operator) = refl
+  filled_operator Between terminal.Minus = refl
+  filled_operator Before terminal.Minus = refl
+  filled_operator _ _ = refl
 
   filled_settle : (terminal : Terminal M V) (at level allowed : ℕ) (frames : List (Frame M)) (out : List (Item M V)) → settle (fill_terminal f g terminal) at level allowed (frames_of frames) (out_of out) ≡ into (settle terminal at level allowed frames out)
   filled_settle terminal at level allowed frames out =
-      ap (λ o. settle_at o (fill_terminal f g terminal) at level allowed (frames_of frames) (out_of out)) (filled_between terminal) ∙ filled_settle_at (infix_of terminal) terminal at level allowed frames out
+      ap (λ o. settle_at o (fill_terminal f g terminal) at level allowed (frames_of frames) (out_of out)) (filled_operator Between terminal) ∙ filled_settle_at (operator_in Between terminal) terminal at level allowed frames out
 
-  filled_prefixed : (o : Option Prefix) (at allowed : ℕ) (frames : List (Frame M)) (out : List (Item M V)) → prefixed o at allowed (frames_of frames) (out_of out) ≡ into (prefixed o at allowed frames out)
+  filled_prefixed : (o : Option Operator) (at allowed : ℕ) (frames : List (Frame M)) (out : List (Item M V)) → prefixed o at allowed (frames_of frames) (out_of out) ≡ into (prefixed o at allowed frames out)
   filled_prefixed None at allowed frames out = refl
-  filled_prefixed (Some operator) at allowed frames out = filled_cond (nat_le allowed (prefix_level operator)) _ _ _ _ refl refl
+  filled_prefixed (Some operator) at allowed frames out = filled_cond (nat_le allowed (level_of operator)) _ _ _ _ refl refl
+
+  filled_begun : (o p : Option Operator) (at allowed : ℕ) (frames : List (Frame M)) (out : List (Item M V)) → begun o p at allowed (frames_of frames) (out_of out) ≡ into (begun o p at allowed frames out)
+  filled_begun (Some operator) p at allowed frames out = refl
+  filled_begun None p at allowed frames out = filled_prefixed p at allowed frames out
 
   filled_begin : (terminal : Terminal M V) (at allowed : ℕ) (frames : List (Frame M)) (out : List (Item M V)) → begin (fill_terminal f g terminal) at allowed (frames_of frames) (out_of out) ≡ into (begin terminal at allowed frames out)
   filled_begin (terminal.Name n) at allowed frames out = refl
   filled_begin (terminal.Const v) at allowed frames out = one_more _ _ out (item.Const at v)
-  filled_begin (terminal.Called operator) at allowed frames out = refl
   filled_begin terminal.If at allowed frames out = refl
   filled_begin terminal.Open at allowed frames out = refl
-  filled_begin terminal at allowed frames out = filled_prefixed (prefix_of terminal) at allowed frames out
+  filled_begin terminal at allowed frames out =
+      ap (λ o. begun o (operator_in Before (fill_terminal f g terminal)) at allowed (frames_of frames) (out_of out)) (filled_operator Called terminal)
+      ∙ ap (λ o. begun (operator_in Called terminal) o at allowed (frames_of frames) (out_of out)) (filled_operator Before terminal)
+      ∙ filled_begun (operator_in Called terminal) (operator_in Before terminal) at allowed frames out
 
   filled_named : (terminal : Terminal M V) (at place : ℕ) (n : M) (allowed : ℕ) (frames : List (Frame M)) (out : List (Item M V))
       → step_named (fill_terminal f g terminal) at place (f n) allowed (frames_of frames) (out_of out) ≡ into (step_named terminal at place n allowed frames out)
@@ -150,7 +147,7 @@ module _ {M N V W : Type 0} (f : M → N) (g : V → W) where
   filled_ready terminal.Equals block def_at n frames out = refl
   filled_ready _ block def_at n frames out = refl
 
-  filled_opens : (terminal : Terminal M V) (operator : Called) (place allowed : ℕ) (frames : List (Frame M)) (out : List (Item M V)) → step_opens (fill_terminal f g terminal) operator place allowed (frames_of frames) (out_of out) ≡ into (step_opens terminal operator place allowed frames out)
+  filled_opens : (terminal : Terminal M V) (operator : Operator) (place allowed : ℕ) (frames : List (Frame M)) (out : List (Item M V)) → step_opens (fill_terminal f g terminal) operator place allowed (frames_of frames) (out_of out) ≡ into (step_opens terminal operator place allowed frames out)
   filled_opens terminal.Open operator place allowed frames out = refl
   filled_opens _ operator place allowed frames out = refl
 

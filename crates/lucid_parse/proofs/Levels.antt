@@ -1,235 +1,122 @@
 -- Laws of the levels.
-use Rattle.std.proofs.Common.{◌≡◌, ℕ, ◌+◌, ◌≤◌, ◌<◌, true, Some, refl, sym, ◌∙◌, ap, subst, arith, lit≤}
+use Rattle.std.proofs.Common.{◌≡◌, ℕ, ◌+◌, ◌≤◌, ◌<◌, Bool, true, false, cond, Option, Some, None, refl, sym, ◌∙◌, ap, subst, arith}
 use Rattle.std.specs.Prelude.{nat_lt, nat_eq, ◌&&◌}
 use Rattle.std.proofs.lemmas.Bool.{and_parts, ltb-true, eqb-true}
-use Rattle.lucid_ops.specs.declared.op.Op.{Op}
 use Rattle.lucid_ops.specs.declared.op.Op.TheVariants as op
 use Rattle.lucid_ops.specs.declared.op.Form.{Form}
-use Rattle.lucid_ops.specs.declared.op.Form.TheVariants as shape
+use Rattle.lucid_ops.specs.declared.op.Form.TheVariants.{Before, Between, Called}
 use Rattle.lucid_ops.specs.declared.op.Side.{Side}
 use Rattle.lucid_ops.specs.declared.op.Side.TheVariants.{Left, Right, Single}
-use Rattle.lucid_ops.specs.Arity.{arity}
 use Rattle.lucid_ops.specs.Row.{left_level, right_level}
-use Rattle.lucid_ops.specs.Rows.{operator_row, level_side, fits_form}
-use Rattle.lucid_ops.proofs.OperatorRows.{row_stands}
-use Rattle.lucid_parse.specs.declared.terminal.Infix.{Infix}
-use Rattle.lucid_parse.specs.declared.terminal.Infix.TheVariants as infixes
-use Rattle.lucid_parse.specs.declared.terminal.Prefix.{Prefix}
-use Rattle.lucid_parse.specs.declared.terminal.Prefix.TheVariants as prefixes
-use Rattle.lucid_parse.specs.declared.terminal.Called.{Called}
-use Rattle.lucid_parse.specs.declared.terminal.Called.TheVariants as called
+use Rattle.lucid_ops.specs.Rows.{form_number, level_side, fits_form}
+use Rattle.lucid_forms.specs.declared.operator.Operator.TheVariants.{Data}
+use Rattle.lucid_forms.proofs.Rows.{row_stands, known}
 use Rattle.lucid_parse.specs.declared.terminal.Terminal.TheVariants as terminal
 use Rattle.lucid_parse.specs.declared.state.Item.TheVariants as item
-use Rattle.lucid_parse.specs.Flat.{node, operator_node}
-use Rattle.lucid_parse.specs.Grammar.{PlainTerminal, infix_level, infix_side, left, right, prefix_level, called_arity, operator_between, infix_as_written, infix_of, operator_before, prefix_as_written, prefix_of, infix_head, prefix_head, called_head}
+use Rattle.lucid_parse.specs.Flat.{node_of, node}
+use Rattle.lucid_forms.specs.declared.operator.Operator.{Operator}
+use Rattle.lucid_parse.specs.Grammar.{PlainTerminal, row_of, level_of, arity_of, left, right, head, as_form, operator_in}
 
--- A terminal that is a data operator between or before its operands is one whose row has that form.
-between_is : (f : Form) (o found : Op) → operator_between f o ≡ Some (infixes.Operator found) → (f ≡ shape.Between) × (o ≡ found)
-between_is shape.Between o found e = (refl, cc)
-between_is shape.Before o found e = cc
-between_is shape.Called o found e = cc
+same_form : (a b : Form) → nat_eq (form_number a) (form_number b) ≡ true → a ≡ b
+same_form Before Before e = refl
+same_form Between Between e = refl
+same_form Called Called e = refl
+same_form _ _ e = cc
 
-before_is : (f : Form) (o found : Op) → operator_before f o ≡ Some (prefixes.Operator found) → (f ≡ shape.Before) × (o ≡ found)
-before_is shape.Before o found e = (refl, cc)
-before_is shape.Between o found e = cc
-before_is shape.Called o found e = cc
+-- A terminal that is an operator in a form is one whose row has that form.
+of_form : (wanted : Form) (o found : Operator) → as_form wanted o ≡ Some found → ((row_of o).form ≡ wanted) × (o ≡ found)
+of_form wanted o found e = of (nat_eq (form_number (row_of o).form) (form_number wanted)) refl e
+  where
+    of : (b : Bool) → nat_eq (form_number (row_of o).form) (form_number wanted) ≡ b → cond b (Some o) None ≡ Some found → ((row_of o).form ≡ wanted) × (o ≡ found)
+    of true s f = (same_form _ _ s, cc)
+    of false s f = cc
 
-written_between : (operator : Infix) (found : Op) → infix_as_written operator ≡ Some (infixes.Operator found) → (operator_row found).form ≡ shape.Between
-written_between (infixes.Operator o) found e = let is = between_is (operator_row o).form o found e in subst (λ x. (operator_row x).form ≡ shape.Between) is.1 is.0
-written_between infixes.Fby found e = cc
-written_between infixes.Sby found e = cc
-written_between infixes.Whenever found e = cc
-written_between infixes.Asa found e = cc
-written_between infixes.Upon found e = cc
-written_between infixes.Attime found e = cc
-written_between infixes.Atspace found e = cc
-written_between infixes.Or found e = cc
-written_between infixes.And found e = cc
+pub stands : (wanted : Form) (terminal : PlainTerminal) (found : Operator) → operator_in wanted terminal ≡ Some found → (row_of found).form ≡ wanted
+stands wanted (terminal.Operator o) found e = let is = of_form wanted o found e in subst (λ x. (row_of x).form ≡ wanted) is.1 is.0
+stands Between terminal.Minus found e = let same : Data op.Sub ≡ found = cc in subst (λ x. (row_of x).form ≡ Between) same refl
+stands Before terminal.Minus found e = let same : Data op.Neg ≡ found = cc in subst (λ x. (row_of x).form ≡ Before) same refl
+stands _ _ found e = cc
 
-written_before : (operator : Prefix) (found : Op) → prefix_as_written operator ≡ Some (prefixes.Operator found) → (operator_row found).form ≡ shape.Before
-written_before (prefixes.Operator o) found e = let is = before_is (operator_row o).form o found e in subst (λ x. (operator_row x).form ≡ shape.Before) is.1 is.0
-written_before prefixes.First found e = cc
-written_before prefixes.Next found e = cc
-written_before prefixes.Initial found e = cc
-written_before prefixes.Succ found e = cc
+pub before_not_called : (terminal : PlainTerminal) (operator : Operator) → operator_in Before terminal ≡ Some operator → operator_in Called terminal ≡ None
+before_not_called (terminal.Operator o) operator e = ap (λ f. cond (nat_eq (form_number f) (form_number Called)) (Some o) None) (of_form Before o operator e).0
+before_not_called terminal.Minus operator e = refl
+before_not_called _ operator e = cc
 
-pub stands_between : (terminal : PlainTerminal) (found : Op) → infix_of terminal ≡ Some (infixes.Operator found) → (operator_row found).form ≡ shape.Between
-stands_between (terminal.Infix operator) found e = written_between operator found e
-stands_between terminal.Minus found e = let same : op.Sub ≡ found = cc in subst (λ x. (operator_row x).form ≡ shape.Between) same refl
-stands_between _ found e = cc
+-- what the row of an operator in a form says
+fits_as : (o : Operator) (f : Form) → (row_of o).form ≡ f → fits_form f (row_of o).side (level_of o) (arity_of o) ≡ true
+fits_as o f e = subst (λ x. fits_form x (row_of o).side (level_of o) (arity_of o) ≡ true) e (row_stands o).fits
 
-pub stands_before : (terminal : PlainTerminal) (found : Op) → prefix_of terminal ≡ Some (prefixes.Operator found) → (operator_row found).form ≡ shape.Before
-stands_before (terminal.Prefix operator) found e = written_before operator found e
-stands_before terminal.Minus found e = let same : op.Neg ≡ found = cc in subst (λ x. (operator_row x).form ≡ shape.Before) same refl
-stands_before _ found e = cc
+both_fit : (level arity n : ℕ) → (nat_lt level 12 && nat_eq arity n) ≡ true → (level < 12) × (arity ≡ n)
+both_fit level arity n e = let two = and_parts (nat_lt level 12) (nat_eq arity n) e in (ltb-true level 12 two.0, eqb-true arity n two.1)
 
--- what the row of an operator between its operands, and of one before its operand, says
-fits_as : (o : Op) (f : Form) → (operator_row o).form ≡ f → fits_form f (operator_row o).side (operator_row o).level (operator_row o).arity ≡ true
-fits_as o f e = subst (λ x. fits_form x (operator_row o).side (operator_row o).level (operator_row o).arity ≡ true) e (row_stands o).fits
+single_fits : (side : Side) (level n : ℕ) → fits_form Before side level n ≡ true → (side ≡ Single) × ((nat_lt level 12 && nat_eq n 1) ≡ true)
+single_fits Single level n e = (refl, e)
+single_fits _ level n e = cc
 
-between_level : (o : Op) → (operator_row o).form ≡ shape.Between → (operator_row o).level < 12
-between_level o e = ltb-true _ _ (and_parts (nat_lt (operator_row o).level 12) (nat_eq (operator_row o).arity 2) (fits_as o shape.Between e)).0
+infix_fits : (terminal : PlainTerminal) (o : Operator) → operator_in Between terminal ≡ Some o → (level_of o < 12) × (arity_of o ≡ 2)
+infix_fits terminal o e = both_fit (level_of o) (arity_of o) 2 (fits_as o Between (stands Between terminal o e))
 
-pub between_arity : (o : Op) → (operator_row o).form ≡ shape.Between → arity o ≡ 2
-between_arity o e = eqb-true _ _ (and_parts (nat_lt (operator_row o).level 12) (nat_eq (operator_row o).arity 2) (fits_as o shape.Between e)).1
+prefix_fits : (terminal : PlainTerminal) (o : Operator) → operator_in Before terminal ≡ Some o → ((row_of o).side ≡ Single) × ((level_of o < 12) × (arity_of o ≡ 1))
+prefix_fits terminal o e =
+    let single = single_fits (row_of o).side (level_of o) (arity_of o) (fits_as o Before (stands Before terminal o e)) in
+    (single.0, both_fit (level_of o) (arity_of o) 1 single.1)
 
-fits_single : (side : Side) (level n : ℕ) → fits_form shape.Before side level n ≡ true → (side ≡ Single) × ((nat_lt level 12 && nat_eq n 1) ≡ true)
-fits_single Single level n e = (refl, e)
-fits_single Left level n e = cc
-fits_single Right level n e = cc
+pub infix_arity : (terminal : PlainTerminal) (o : Operator) → operator_in Between terminal ≡ Some o → arity_of o ≡ 2
+infix_arity terminal o e = (infix_fits terminal o e).1
 
-before_fits : (o : Op) → (operator_row o).form ≡ shape.Before → ((operator_row o).side ≡ Single) × ((nat_lt (operator_row o).level 12 && nat_eq (operator_row o).arity 1) ≡ true)
-before_fits o e = fits_single (operator_row o).side (operator_row o).level (operator_row o).arity (fits_as o shape.Before e)
+pub prefix_arity : (terminal : PlainTerminal) (o : Operator) → operator_in Before terminal ≡ Some o → arity_of o ≡ 1
+prefix_arity terminal o e = (prefix_fits terminal o e).1.1
 
-before_level : (o : Op) → (operator_row o).form ≡ shape.Before → (operator_row o).level < 12
-before_level o e = ltb-true _ _ (and_parts (nat_lt (operator_row o).level 12) (nat_eq (operator_row o).arity 1) (before_fits o e).1).0
+pub prefix_level_most : (terminal : PlainTerminal) (o : Operator) → operator_in Before terminal ≡ Some o → level_of o ≤ 11
+prefix_level_most terminal o e = let fits = prefix_fits terminal o e in omega (arith, fits.1.0)
 
-pub before_arity : (o : Op) → (operator_row o).form ≡ shape.Before → arity o ≡ 1
-before_arity o e = eqb-true _ _ (and_parts (nat_lt (operator_row o).level 12) (nat_eq (operator_row o).arity 1) (before_fits o e).1).1
+-- the levels of an operator's operands
+bounds : (side : Side) (level : ℕ) → (level ≤ left_level side level) × ((left_level side level ≤ level + 1) × ((level ≤ right_level side level) × (right_level side level ≤ level + 1)))
+bounds Left level = (omega arith, (omega arith, (omega arith, omega arith)))
+bounds _ level = (omega arith, (omega arith, (omega arith, omega arith)))
 
--- no terminal is an operator that binds tighter than level 11
-pub infix_level_most : (terminal : PlainTerminal) (operator : Infix) → infix_of terminal ≡ Some operator → infix_level operator ≤ 11
-infix_level_most terminal (infixes.Operator o) e = omega (arith, between_level o (stands_between terminal o e))
-infix_level_most terminal infixes.Fby e = lit≤ tt
-infix_level_most terminal infixes.Sby e = lit≤ tt
-infix_level_most terminal infixes.Whenever e = lit≤ tt
-infix_level_most terminal infixes.Asa e = lit≤ tt
-infix_level_most terminal infixes.Upon e = lit≤ tt
-infix_level_most terminal infixes.Attime e = lit≤ tt
-infix_level_most terminal infixes.Atspace e = lit≤ tt
-infix_level_most terminal infixes.Or e = lit≤ tt
-infix_level_most terminal infixes.And e = lit≤ tt
+pub left_most : (terminal : PlainTerminal) (o : Operator) → operator_in Between terminal ≡ Some o → left o ≤ 12
+left_most terminal o e = let fits = infix_fits terminal o e in let b = bounds (row_of o).side (level_of o) in omega (arith, fits.0, b.1.0)
 
-pub prefix_level_most : (terminal : PlainTerminal) (operator : Prefix) → prefix_of terminal ≡ Some operator → prefix_level operator ≤ 11
-prefix_level_most terminal (prefixes.Operator o) e = omega (arith, before_level o (stands_before terminal o e))
-prefix_level_most terminal prefixes.First e = lit≤ tt
-prefix_level_most terminal prefixes.Next e = lit≤ tt
-prefix_level_most terminal prefixes.Initial e = lit≤ tt
-prefix_level_most terminal prefixes.Succ e = lit≤ tt
+pub right_most : (terminal : PlainTerminal) (o : Operator) → operator_in Between terminal ≡ Some o → right o ≤ 12
+right_most terminal o e = let fits = infix_fits terminal o e in let b = bounds (row_of o).side (level_of o) in omega (arith, fits.0, b.1.1.1)
 
--- an operator groups as its level does, and one before its operand to no side
-infix_groups : (operator : Infix) → infix_side operator ≡ level_side (infix_level operator)
-infix_groups (infixes.Operator o) = (row_stands o).side
-infix_groups infixes.Fby = refl
-infix_groups infixes.Sby = refl
-infix_groups infixes.Whenever = refl
-infix_groups infixes.Asa = refl
-infix_groups infixes.Upon = refl
-infix_groups infixes.Attime = refl
-infix_groups infixes.Atspace = refl
-infix_groups infixes.Or = refl
-infix_groups infixes.And = refl
+pub left_least : (o : Operator) → level_of o ≤ left o
+left_least o = (bounds (row_of o).side (level_of o)).0
 
-prefix_groups : (terminal : PlainTerminal) (operator : Prefix) → prefix_of terminal ≡ Some operator → level_side (prefix_level operator) ≡ Single
-prefix_groups terminal (prefixes.Operator o) e = sym (row_stands o).side ∙ (before_fits o (stands_before terminal o e)).0
-prefix_groups terminal prefixes.First e = refl
-prefix_groups terminal prefixes.Next e = refl
-prefix_groups terminal prefixes.Initial e = refl
-prefix_groups terminal prefixes.Succ e = refl
-
-left_most_of : (side : Side) (level : ℕ) → left_level side level ≤ level + 1
-left_most_of Left level = omega arith
-left_most_of Right level = omega arith
-left_most_of Single level = omega arith
-
-right_most_of : (side : Side) (level : ℕ) → right_level side level ≤ level + 1
-right_most_of Left level = omega arith
-right_most_of Right level = omega arith
-right_most_of Single level = omega arith
-
-left_least_of : (side : Side) (level : ℕ) → level ≤ left_level side level
-left_least_of Left level = omega arith
-left_least_of Right level = omega arith
-left_least_of Single level = omega arith
-
-right_least_of : (side : Side) (level : ℕ) → level ≤ right_level side level
-right_least_of Left level = omega arith
-right_least_of Right level = omega arith
-right_least_of Single level = omega arith
-
-pub left_most : (terminal : PlainTerminal) (operator : Infix) → infix_of terminal ≡ Some operator → left operator ≤ 12
-left_most terminal operator e = omega (arith, infix_level_most terminal operator e, left_most_of (infix_side operator) (infix_level operator))
-
-pub right_most : (terminal : PlainTerminal) (operator : Infix) → infix_of terminal ≡ Some operator → right operator ≤ 12
-right_most terminal operator e = omega (arith, infix_level_most terminal operator e, right_most_of (infix_side operator) (infix_level operator))
-
-pub left_least : (operator : Infix) → infix_level operator ≤ left operator
-left_least operator = left_least_of (infix_side operator) (infix_level operator)
-
-pub right_least : (operator : Infix) → infix_level operator ≤ right operator
-right_least operator = right_least_of (infix_side operator) (infix_level operator)
+pub right_least : (o : Operator) → level_of o ≤ right o
+right_least o = (bounds (row_of o).side (level_of o)).1.1.0
 
 -- no side has both operands at the operator's own level
 one_side : (side : Side) (level : ℕ) → left_level side level ≤ level → right_level side level ≤ level → ⊥
 one_side Left level h g = omega (arith, g)
-one_side Right level h g = omega (arith, h)
-one_side Single level h g = omega (arith, h)
+one_side _ level h g = omega (arith, h)
 
 -- An operator that closes operands of a level is not taken by an operand on the right of that level: no level groups to both sides.
-pub apart : (operator following : Infix) → left following ≤ infix_level operator → right operator ≤ infix_level following → ⊥
+pub apart : (operator following : Operator) → left following ≤ level_of operator → right operator ≤ level_of following → ⊥
 apart operator following h k =
-    let same : infix_level following ≡ infix_level operator = omega (arith, h, k, left_least following, right_least operator) in
-    let sides : infix_side following ≡ infix_side operator = infix_groups following ∙ ap level_side same ∙ sym (infix_groups operator) in
-    one_side (infix_side operator) (infix_level operator) (subst (λ x. left_level x (infix_level operator) ≤ infix_level operator) sides (subst (λ n. left_level (infix_side following) n ≤ infix_level operator) same h))
-    (subst (λ n. right_level (infix_side operator) (infix_level operator) ≤ n) same k)
+    let same : level_of following ≡ level_of operator = omega (arith, h, k, left_least following, right_least operator) in
+    let sides : (row_of following).side ≡ (row_of operator).side = (row_stands following).side ∙ ap level_side same ∙ sym (row_stands operator).side in
+    one_side (row_of operator).side (level_of operator)
+    (subst (λ x. left_level x (level_of operator) ≤ level_of operator) sides (subst (λ n. left_level (row_of following).side n ≤ level_of operator) same h))
+    (subst (λ n. right_level (row_of operator).side (level_of operator) ≤ n) same k)
 
-single_left : (side : Side) (level : ℕ) → side ≡ Single → left_level side level ≡ level + 1
-single_left Single level e = refl
-single_left Left level e = cc
-single_left Right level e = cc
-
-pub apart_prefix : (terminal : PlainTerminal) (operator : Prefix) (following : Infix) → prefix_of terminal ≡ Some operator → left following ≤ prefix_level operator → prefix_level operator ≤ infix_level following → ⊥
+pub apart_prefix : (terminal : PlainTerminal) (operator following : Operator) → operator_in Before terminal ≡ Some operator → left following ≤ level_of operator → level_of operator ≤ level_of following → ⊥
 apart_prefix terminal operator following e h k =
-    let same : infix_level following ≡ prefix_level operator = omega (arith, h, k, left_least following) in
-    let single : infix_side following ≡ Single = infix_groups following ∙ ap level_side same ∙ prefix_groups terminal operator e in
-    omega (arith, h, same, single_left (infix_side following) (infix_level following) single)
+    let same : level_of following ≡ level_of operator = omega (arith, h, k, left_least following) in
+    let single : (row_of following).side ≡ Single = (row_stands following).side ∙ ap level_side same ∙ sym (row_stands operator).side ∙ (prefix_fits terminal operator e).0 in
+    let alone : left following ≡ level_of following + 1 = ap (λ s. left_level s (level_of following)) single in
+    omega (arith, h, same, alone)
 
-infix_level_positive : (operator : Infix) → 1 ≤ infix_level operator
-infix_level_positive (infixes.Operator o) = (row_stands o).least
-infix_level_positive infixes.Fby = lit≤ tt
-infix_level_positive infixes.Sby = lit≤ tt
-infix_level_positive infixes.Whenever = lit≤ tt
-infix_level_positive infixes.Asa = lit≤ tt
-infix_level_positive infixes.Upon = lit≤ tt
-infix_level_positive infixes.Attime = lit≤ tt
-infix_level_positive infixes.Atspace = lit≤ tt
-infix_level_positive infixes.Or = lit≤ tt
-infix_level_positive infixes.And = lit≤ tt
+pub level_positive : (o : Operator) → 1 ≤ level_of o
+level_positive o = (row_stands o).least
 
-pub right_positive : (operator : Infix) → 1 ≤ right operator
-right_positive operator = omega (arith, infix_level_positive operator, right_least operator)
+pub right_positive : (o : Operator) → 1 ≤ right o
+right_positive o = omega (arith, level_positive o, right_least o)
 
-pub prefix_level_positive : (operator : Prefix) → 1 ≤ prefix_level operator
-prefix_level_positive (prefixes.Operator o) = (row_stands o).least
-prefix_level_positive prefixes.First = lit≤ tt
-prefix_level_positive prefixes.Next = lit≤ tt
-prefix_level_positive prefixes.Initial = lit≤ tt
-prefix_level_positive prefixes.Succ = lit≤ tt
-
-pub called_arity_positive : (operator : Called) → 1 ≤ called_arity operator
-called_arity_positive called.Substr = lit≤ tt
-called_arity_positive called.Nth = lit≤ tt
+pub arity_positive : (o : Operator) → 1 ≤ arity_of o
+arity_positive o = (row_stands o).some
 
 -- each operator has a node of its own
-pub node-infix : (terminal : PlainTerminal) (operator : Infix) → infix_of terminal ≡ Some operator → (at : ℕ) → node (infix_head operator) at ≡ item.Infix operator at
-node-infix terminal (infixes.Operator o) e at = ap (λ f. operator_node f o at) (stands_between terminal o e)
-node-infix terminal infixes.Fby e at = refl
-node-infix terminal infixes.Sby e at = refl
-node-infix terminal infixes.Whenever e at = refl
-node-infix terminal infixes.Asa e at = refl
-node-infix terminal infixes.Upon e at = refl
-node-infix terminal infixes.Attime e at = refl
-node-infix terminal infixes.Atspace e at = refl
-node-infix terminal infixes.Or e at = refl
-node-infix terminal infixes.And e at = refl
-
-pub node-prefix : (terminal : PlainTerminal) (operator : Prefix) → prefix_of terminal ≡ Some operator → (at : ℕ) → node (prefix_head operator) at ≡ item.Prefix operator at
-node-prefix terminal (prefixes.Operator o) e at = ap (λ f. operator_node f o at) (stands_before terminal o e)
-node-prefix terminal prefixes.First e at = refl
-node-prefix terminal prefixes.Next e at = refl
-node-prefix terminal prefixes.Initial e at = refl
-node-prefix terminal prefixes.Succ e at = refl
-
-pub node-called : (operator : Called) (at : ℕ) → node (called_head operator) at ≡ item.Called operator at
-node-called called.Substr at = refl
-node-called called.Nth at = refl
+pub node-operator : (o : Operator) (at : ℕ) → node (head o) at ≡ item.Operator o at
+node-operator o at = ap (λ x. node_of x (head o) at) (known o)

@@ -5,6 +5,7 @@ pub mod Viable
 pub mod Exact
 pub mod Filled
 pub mod Deep
+pub mod Gathering
 pub mod Built
 pub mod Building
 pub mod Reading

@@ -4,9 +4,7 @@ use Rattle.std.proofs.lemmas.Bool.{leb-true, eqb-true, eqb-false}
 use Rattle.std.specs.Prelude.{nat_eq, ◌-◌}
 use Rattle.lucid_tree.specs.Tree.{PlainTree, PlainTrees, PlainDefs}
 use Rattle.lucid_tree.specs.Size.{count}
-use Rattle.lucid_parse.specs.declared.terminal.Infix.{Infix}
-use Rattle.lucid_parse.specs.declared.terminal.Prefix.{Prefix}
-use Rattle.lucid_parse.specs.declared.terminal.Called.{Called}
+use Rattle.lucid_ops.specs.declared.op.Form.TheVariants.{Before, Between, Called}
 use Rattle.lucid_parse.specs.declared.terminal.Terminal.TheVariants as terminal
 use Rattle.lucid_parse.specs.declared.state.Defines.{Defines}
 use Rattle.lucid_parse.specs.declared.state.Defines.TheVariants as kind
@@ -14,21 +12,22 @@ use Rattle.lucid_parse.specs.declared.state.Frame.TheVariants as frame
 use Rattle.lucid_parse.specs.declared.state.Focus.TheVariants as focus
 use Rattle.lucid_parse.specs.declared.state.Item.TheVariants as item
 use Rattle.lucid_parse.specs.Grammar
-use Rattle.lucid_parse.specs.Grammar.{PlainTerminal, PlacedTerminal, terminal_at, trees_and, def_before, defs_and, Parameter, parameter, names_of, places_of, Defined, Plain, Function, Current, Spells, SpellsArgs, SpellsDefs, SpellsNames, infix_level, left, right, prefix_level, called_arity, infix_of, prefix_of, infix_head, prefix_head, called_head}
-use Rattle.lucid_parse.specs.Machine.{PlainFrame, PlainFocus, PlainItem, PlainState, state, takes, taken, shift, inner_frames, inner_out, after_frame, close, settle_at, settle, prefixed, begin, step_named, step_heads, step_headed, step_frozen, step_names, step_listed, step_ready, step_opens, step_at, step, feeds, finished, if_empty, finish_at, finish, start}
+use Rattle.lucid_forms.specs.declared.operator.Operator.{Operator}
+use Rattle.lucid_parse.specs.Grammar.{PlainTerminal, PlacedTerminal, terminal_at, trees_and, def_before, defs_and, Parameter, parameter, names_of, places_of, Defined, Plain, Function, Current, Spells, SpellsArgs, SpellsDefs, SpellsNames, level_of, arity_of, left, right, operator_in, head}
+use Rattle.lucid_parse.specs.Machine.{PlainFrame, PlainFocus, PlainItem, PlainState, state, takes, taken, shift, inner_frames, inner_out, after_frame, close, settle_at, settle, prefixed, begun, begin, step_named, step_heads, step_headed, step_frozen, step_names, step_listed, step_ready, step_opens, step_at, step, feeds, finished, if_empty, finish_at, finish, start}
 use Rattle.lucid_parse.specs.Flat.{written, written_parts, written_all, written_defs, with_parameters, node}
-use Rattle.lucid_parse.proofs.Levels.{prefix_level_most, right_most, called_arity_positive, node-infix, node-prefix, node-called}
+use Rattle.lucid_parse.proofs.Levels.{prefix_level_most, right_most, arity_positive, node-operator}
 use Rattle.lucid_parse.proofs.Complete.{written_parts-and, written_all-and, written_defs-and, with_parameters-and, count-and}
 
 -- what was read up to where an operand of a level is awaited, and what was written
 pub data Context : List PlainFrame → ℕ → List PlacedTerminal → List PlainItem → Type 0 where
   outermost : Context [] 0 [] []
-  in_left : {at allowed : ℕ} {frames : List PlainFrame} {pre xs : List PlacedTerminal} {out : List PlainItem} {x : PlainTree} (terminal : PlainTerminal) (operator : Infix)
-      → infix_of terminal ≡ Some operator → allowed ≤ infix_level operator → Context frames allowed pre out → Spells (left operator) xs x
-      → Context (frame.Infix operator at allowed ∷ frames) (right operator) (pre ++ (xs ++ terminal_at terminal at ∷ [])) (written out x)
-  in_before : {at allowed : ℕ} {frames : List PlainFrame} {pre : List PlacedTerminal} {out : List PlainItem} (terminal : PlainTerminal) (operator : Prefix)
-      → prefix_of terminal ≡ Some operator → allowed ≤ prefix_level operator → Context frames allowed pre out
-      → Context (frame.Prefix operator at allowed ∷ frames) (prefix_level operator) (pre ++ terminal_at terminal at ∷ []) out
+  in_left : {at allowed : ℕ} {frames : List PlainFrame} {pre xs : List PlacedTerminal} {out : List PlainItem} {x : PlainTree} (terminal : PlainTerminal) (operator : Operator)
+      → operator_in Between terminal ≡ Some operator → allowed ≤ level_of operator → Context frames allowed pre out → Spells (left operator) xs x
+      → Context (frame.Operator operator at allowed ∷ frames) (right operator) (pre ++ (xs ++ terminal_at terminal at ∷ [])) (written out x)
+  in_before : {at allowed : ℕ} {frames : List PlainFrame} {pre : List PlacedTerminal} {out : List PlainItem} (terminal : PlainTerminal) (operator : Operator)
+      → operator_in Before terminal ≡ Some operator → allowed ≤ level_of operator → Context frames allowed pre out
+      → Context (frame.Operator operator at allowed ∷ frames) (level_of operator) (pre ++ terminal_at terminal at ∷ []) out
   in_open : {allowed : ℕ} (open_at : ℕ) {frames : List PlainFrame} {pre : List PlacedTerminal} {out : List PlainItem} → Context frames allowed pre out
       → Context (frame.Parenthesis allowed ∷ frames) 0 (pre ++ terminal_at terminal.Open open_at ∷ []) out
   in_test : {at allowed : ℕ} {frames : List PlainFrame} {pre : List PlacedTerminal} {out : List PlainItem} → Context frames allowed pre out
@@ -41,11 +40,13 @@ pub data Context : List PlainFrame → ℕ → List PlacedTerminal → List Plai
       → Context (frame.Arguments at n allowed ∷ frames) 0 (pre ++ terminal_at (terminal.Name n) at ∷ terminal_at terminal.Open open_at ∷ []) (out ++ item.NoTrees ∷ [])
   in_more : {at allowed : ℕ} {n : List ℕ} (open_at comma_at : ℕ) {frames : List PlainFrame} {pre xs : List PlacedTerminal} {out : List PlainItem} {all : PlainTrees} → Context frames allowed pre out → SpellsArgs xs all
       → Context (frame.Arguments at n allowed ∷ frames) 0 (pre ++ (terminal_at (terminal.Name n) at ∷ terminal_at terminal.Open open_at ∷ (xs ++ terminal_at terminal.Comma comma_at ∷ []))) (written_all (out ++ item.NoTrees ∷ []) all)
-  in_part : {at allowed : ℕ} (open_at : ℕ) {operator : Called} {frames : List PlainFrame} {pre : List PlacedTerminal} {out : List PlainItem} → Context frames allowed pre out
-      → Context (frame.Operands operator at (called_arity operator - 1) allowed ∷ frames) 0 (pre ++ terminal_at (terminal.Called operator) at ∷ terminal_at terminal.Open open_at ∷ []) out
-  in_parts : {at allowed more : ℕ} (open_at comma_at : ℕ) {operator : Called} {frames : List PlainFrame} {pre xs : List PlacedTerminal} {out : List PlainItem} {all : PlainTrees} → Context frames allowed pre out → SpellsArgs xs all
-      → more + (count all + 1) ≡ called_arity operator
-      → Context (frame.Operands operator at more allowed ∷ frames) 0 (pre ++ (terminal_at (terminal.Called operator) at ∷ terminal_at terminal.Open open_at ∷ (xs ++ terminal_at terminal.Comma comma_at ∷ []))) (written_parts out all)
+  in_part : {at allowed : ℕ} (open_at : ℕ) (word : PlainTerminal) {operator : Operator} {frames : List PlainFrame} {pre : List PlacedTerminal} {out : List PlainItem}
+      → operator_in Called word ≡ Some operator → Context frames allowed pre out
+      → Context (frame.Operands operator at (arity_of operator - 1) allowed ∷ frames) 0 (pre ++ terminal_at word at ∷ terminal_at terminal.Open open_at ∷ []) out
+  in_parts : {at allowed more : ℕ} (open_at comma_at : ℕ) (word : PlainTerminal) {operator : Operator} {frames : List PlainFrame} {pre xs : List PlacedTerminal} {out : List PlainItem} {all : PlainTrees}
+      → operator_in Called word ≡ Some operator → Context frames allowed pre out → SpellsArgs xs all
+      → more + (count all + 1) ≡ arity_of operator
+      → Context (frame.Operands operator at more allowed ∷ frames) 0 (pre ++ (terminal_at word at ∷ terminal_at terminal.Open open_at ∷ (xs ++ terminal_at terminal.Comma comma_at ∷ []))) (written_parts out all)
   in_right : {block at : ℕ} {n : List ℕ} (equals_at : ℕ) {frames : List PlainFrame} {pre xs ds : List PlacedTerminal} {out : List PlainItem} {x : PlainTree} {all : PlainDefs} → Context frames 0 pre out → Spells 0 xs x → SpellsDefs ds all
       → Context (frame.RightSide block kind.Plain at n ∷ frames) 0
       (pre ++ (xs ++ terminal_at terminal.Where block ∷ (ds ++ terminal_at (terminal.Name n) at ∷ terminal_at terminal.Equals equals_at ∷ []))) (written_defs (written out x ++ item.NoDefs ∷ []) all)
@@ -77,8 +78,9 @@ pub data Means : PlainFocus → List PlainFrame → List PlainItem → List Plac
       → Means (focus.Heads block) frames (written_defs (written out x ++ item.NoDefs ∷ []) all) (pre ++ (xs ++ terminal_at terminal.Where block ∷ ds))
   headed : {block at : ℕ} {n : List ℕ} {frames : List PlainFrame} {pre xs ds : List PlacedTerminal} {out : List PlainItem} {x : PlainTree} {all : PlainDefs} → Context frames 0 pre out → Spells 0 xs x → SpellsDefs ds all
       → Means (focus.Headed block at n) frames (written_defs (written out x ++ item.NoDefs ∷ []) all) (pre ++ (xs ++ terminal_at terminal.Where block ∷ (ds ++ terminal_at (terminal.Name n) at ∷ [])))
-  opens : {at allowed : ℕ} {operator : Called} {frames : List PlainFrame} {ts : List PlacedTerminal} {out : List PlainItem} → Context frames allowed ts out
-      → Means (focus.Opens operator at allowed) frames out (ts ++ terminal_at (terminal.Called operator) at ∷ [])
+  opens : {at allowed : ℕ} (word : PlainTerminal) (operator : Operator) {frames : List PlainFrame} {ts : List PlacedTerminal} {out : List PlainItem} → operator_in Called word ≡ Some operator
+      → Context frames allowed ts out
+      → Means (focus.Opens operator at allowed) frames out (ts ++ terminal_at word at ∷ [])
   frozen : {block at : ℕ} {n : List ℕ} (is_at : ℕ) {frames : List PlainFrame} {pre xs ds : List PlacedTerminal} {out : List PlainItem} {x : PlainTree} {all : PlainDefs} → Context frames 0 pre out → Spells 0 xs x → SpellsDefs ds all
       → Means (focus.Frozen block at n) frames (written_defs (written out x ++ item.NoDefs ∷ []) all) (pre ++ (xs ++ terminal_at terminal.Where block ∷ (ds ++ terminal_at (terminal.Name n) at ∷ terminal_at terminal.Is is_at ∷ [])))
   no_names_yet : {block at : ℕ} {n : List ℕ} (open_at : ℕ) {frames : List PlainFrame} {pre xs ds : List PlacedTerminal} {out : List PlainItem} {x : PlainTree} {all : PlainDefs} → Context frames 0 pre out → Spells 0 xs x → SpellsDefs ds all
@@ -105,7 +107,7 @@ looser (Grammar.spells_prefix terminal operator is low sx) allowed h = Grammar.s
 looser (Grammar.spells_inner close_at sx) allowed h = Grammar.spells_inner close_at sx
 looser (Grammar.spells_if then_at else_at fi_at sx sy sz) allowed h = Grammar.spells_if then_at else_at fi_at sx sy sz
 looser (Grammar.spells_call close_at sa) allowed h = Grammar.spells_call close_at sa
-looser (Grammar.spells_called close_at operator n sa) allowed h = Grammar.spells_called close_at operator n sa
+looser (Grammar.spells_called close_at terminal operator is n sa) allowed h = Grammar.spells_called close_at terminal operator is n sa
 looser (Grammar.spells_block end_at low sx sd) allowed h = Grammar.spells_block end_at (omega (arith, low, h)) sx sd
 
 has_along : {level allowed : ℕ} {frames : List PlainFrame} {out : List PlainItem} {ts us : List PlacedTerminal} → ts ≡ us → Has level allowed frames out ts → Has level allowed frames out us
@@ -115,24 +117,19 @@ has_out : {level allowed : ℕ} {frames : List PlainFrame} {out into : List Plai
 has_out {level} {allowed} {frames} {out} {into} {ts} h e = subst (λ l. Has level allowed frames l ts) e h
 
 -- an operator with its operands read is one operand
-reduce_left : {place allowed : ℕ} {operator : Infix} {level outer : ℕ} {frames : List PlainFrame} {out : List PlainItem} {ts : List PlacedTerminal} → Has level outer (frame.Infix operator place allowed ∷ frames) out ts
-    → Has (infix_level operator) allowed frames (out ++ item.Infix operator place ∷ []) ts
+reduce : {place allowed : ℕ} {operator : Operator} {level outer : ℕ} {frames : List PlainFrame} {out : List PlainItem} {ts : List PlacedTerminal} → Has level outer (frame.Operator operator place allowed ∷ frames) out ts
+    → Has (level_of operator) allowed frames (out ++ item.Operator operator place ∷ []) ts
 unfolding written
-reduce_left (has {xs = ys} {x = y} (in_left {at = place} {pre = pre} {xs = xs} {out = o} {x = x} terminal operator is low ctx sx) h sy) =
+reduce (has {xs = ys} {x = y} (in_left {at = place} {pre = pre} {xs = xs} {out = o} {x = x} terminal operator is low ctx sx) h sy) =
     has_along (simp append_assoc)
-    (has_out (has ctx low (Grammar.spells_infix {at = place} terminal operator is (le_refl _) sx (looser sy (right operator) h))) (ap (λ i. written (written o x) y ++ i ∷ []) (node-infix terminal operator is place)))
-
-reduce_before : {place allowed : ℕ} {operator : Prefix} {level outer : ℕ} {frames : List PlainFrame} {out : List PlainItem} {ts : List PlacedTerminal} → Has level outer (frame.Prefix operator place allowed ∷ frames) out ts
-    → Has (prefix_level operator) allowed frames (out ++ item.Prefix operator place ∷ []) ts
-unfolding written
-reduce_before (has {xs = ys} {x = y} (in_before {at = place} {pre = pre} {out = o} terminal operator is low ctx) h sy) =
+    (has_out (has ctx low (Grammar.spells_infix {at = place} terminal operator is (le_refl _) sx (looser sy (right operator) h))) (ap (λ i. written (written o x) y ++ i ∷ []) (node-operator operator place)))
+reduce (has {xs = ys} {x = y} (in_before {at = place} {pre = pre} {out = o} terminal operator is low ctx) h sy) =
     has_along (simp append_assoc)
-    (has_out (has ctx low (Grammar.spells_prefix {at = place} terminal operator is (le_refl _) (looser sy (prefix_level operator) h))) (ap (λ i. written o y ++ i ∷ []) (node-prefix terminal operator is place)))
+    (has_out (has ctx low (Grammar.spells_prefix {at = place} terminal operator is (le_refl _) (looser sy (level_of operator) h))) (ap (λ i. written o y ++ i ∷ []) (node-operator operator place)))
 
--- with no operator that waits for its right operand, a whole operand
+-- with no operator that waits for its last operand, a whole operand
 inner_has : (frames : List PlainFrame) (level allowed : ℕ) (out : List PlainItem) (ts : List PlacedTerminal) → Has level allowed frames out ts → Inside (inner_frames frames) (inner_out frames out) ts
-inner_has (frame.Infix operator place outer ∷ frames) level allowed out ts h = inner_has frames (infix_level operator) outer (out ++ item.Infix operator place ∷ []) ts (reduce_left h)
-inner_has (frame.Prefix operator place outer ∷ frames) level allowed out ts h = inner_has frames (prefix_level operator) outer (out ++ item.Prefix operator place ∷ []) ts (reduce_before h)
+inner_has (frame.Operator operator place outer ∷ frames) level allowed out ts h = inner_has frames (level_of operator) outer (out ++ item.Operator operator place ∷ []) ts (reduce h)
 inner_has [] level allowed out ts (has outermost h s) = inside outermost (looser s 0 zero-le)
 inner_has (frame.Parenthesis outer ∷ frames) level allowed out ts (has (in_open open_at c) h s) = inside (in_open open_at c) (looser s 0 zero-le)
 inner_has (frame.Test at outer ∷ frames) level allowed out ts (has (in_test c) h s) = inside (in_test c) (looser s 0 zero-le)
@@ -140,8 +137,8 @@ inner_has (frame.Yes at outer ∷ frames) level allowed out ts (has (in_yes then
 inner_has (frame.No at outer ∷ frames) level allowed out ts (has (in_no then_at else_at c x y) h s) = inside (in_no then_at else_at c x y) (looser s 0 zero-le)
 inner_has (frame.Arguments at n outer ∷ frames) level allowed out ts (has (in_first open_at c) h s) = inside (in_first open_at c) (looser s 0 zero-le)
 inner_has (frame.Arguments at n outer ∷ frames) level allowed out ts (has (in_more open_at comma_at c a) h s) = inside (in_more open_at comma_at c a) (looser s 0 zero-le)
-inner_has (frame.Operands operator at more outer ∷ frames) level allowed out ts (has (in_part open_at x) h s) = inside (in_part open_at x) (looser s 0 zero-le)
-inner_has (frame.Operands operator at more outer ∷ frames) level allowed out ts (has (in_parts open_at comma_at x a n) h s) = inside (in_parts open_at comma_at x a n) (looser s 0 zero-le)
+inner_has (frame.Operands operator at more outer ∷ frames) level allowed out ts (has (in_part open_at word is x) h s) = inside (in_part open_at word is x) (looser s 0 zero-le)
+inner_has (frame.Operands operator at more outer ∷ frames) level allowed out ts (has (in_parts open_at comma_at word is x a n) h s) = inside (in_parts open_at comma_at word is x a n) (looser s 0 zero-le)
 inner_has (frame.RightSide at d def_at n ∷ frames) level allowed out ts (has (in_right equals_at c x e) h s) = inside (in_right equals_at c x e) (looser s 0 zero-le)
 inner_has (frame.RightSide at d def_at n ∷ frames) level allowed out ts (has (in_current is_at current_at c x e) h s) = inside (in_current is_at current_at c x e) (looser s 0 zero-le)
 inner_has (frame.RightSide at d def_at n ∷ frames) level allowed out ts (has (in_function open_at close_at equals_at c x e ns) h s) = inside (in_function open_at close_at equals_at c x e ns) (looser s 0 zero-le)
@@ -161,28 +158,26 @@ to : {A : Type 0} {x y : A} (P : A → Type 0) → P x → x ≡ y → P y
 to P h e = subst P e h
 
 -- an operator that took its left operand
-takes_means : (operator : Infix) (terminal : PlainTerminal) (at level allowed : ℕ) (frames : List PlainFrame) (out : List PlainItem) (ts : List PlacedTerminal) → infix_of terminal ≡ Some operator → takes operator level allowed ≡ true
-    → Has level allowed frames out ts → MeansAt (state (focus.Await (right operator)) (frame.Infix operator at allowed ∷ frames) out) (ts ++ terminal_at terminal at ∷ [])
+takes_means : (operator : Operator) (terminal : PlainTerminal) (at level allowed : ℕ) (frames : List PlainFrame) (out : List PlainItem) (ts : List PlacedTerminal) → operator_in Between terminal ≡ Some operator → takes operator level allowed ≡ true
+    → Has level allowed frames out ts → MeansAt (state (focus.Await (right operator)) (frame.Operator operator at allowed ∷ frames) out) (ts ++ terminal_at terminal at ∷ [])
 takes_means operator terminal at level allowed frames out ts is t (has {pre = pre} {xs = xs} ctx h sx) =
     let two = both _ _ t in
     subst (Means _ _ _) (simp append_assoc)
-    (awaits (in_left {at = at} terminal operator is (leb-true allowed (infix_level operator) two.1) ctx (looser sx (left operator) (leb-true (left operator) level two.0))))
+    (awaits (in_left {at = at} terminal operator is (leb-true allowed (level_of operator) two.1) ctx (looser sx (left operator) (leb-true (left operator) level two.0))))
 
-taken_means : (operator : Infix) (terminal : PlainTerminal) (at level allowed : ℕ) (frames : List PlainFrame) (out : List PlainItem) (ts : List PlacedTerminal) (other : Option PlainState) (g : PlainState) → infix_of terminal ≡ Some operator
+taken_means : (operator : Operator) (terminal : PlainTerminal) (at level allowed : ℕ) (frames : List PlainFrame) (out : List PlainItem) (ts : List PlacedTerminal) (other : Option PlainState) (g : PlainState) → operator_in Between terminal ≡ Some operator
     → Has level allowed frames out ts → (other ≡ Some g → MeansAt g (ts ++ terminal_at terminal at ∷ [])) → taken operator at level allowed frames out other ≡ Some g → MeansAt g (ts ++ terminal_at terminal at ∷ [])
 taken_means operator terminal at level allowed frames out ts other g is h otherwise e =
     elim (tests (takes operator level allowed)) [
-      | inl t ↦ subst (λ x. MeansAt x (ts ++ terminal_at terminal at ∷ [])) (Some_inj _ _ (sym (ap (λ c. cond c (Some (state (focus.Await (right operator)) (frame.Infix operator at allowed ∷ frames) out)) other) t) ∙ e))
+      | inl t ↦ subst (λ x. MeansAt x (ts ++ terminal_at terminal at ∷ [])) (Some_inj _ _ (sym (ap (λ c. cond c (Some (state (focus.Await (right operator)) (frame.Operator operator at allowed ∷ frames) out)) other) t) ∙ e))
           (takes_means operator terminal at level allowed frames out ts is t h)
-      | inr f ↦ otherwise (sym (ap (λ c. cond c (Some (state (focus.Await (right operator)) (frame.Infix operator at allowed ∷ frames) out)) other) f) ∙ e)
+      | inr f ↦ otherwise (sym (ap (λ c. cond c (Some (state (focus.Await (right operator)) (frame.Operator operator at allowed ∷ frames) out)) other) f) ∙ e)
     ]
 
-shift_means : (frames : List PlainFrame) (operator : Infix) (terminal : PlainTerminal) (at level allowed : ℕ) (out : List PlainItem) (ts : List PlacedTerminal) (g : PlainState) → infix_of terminal ≡ Some operator
+shift_means : (frames : List PlainFrame) (operator : Operator) (terminal : PlainTerminal) (at level allowed : ℕ) (out : List PlainItem) (ts : List PlacedTerminal) (g : PlainState) → operator_in Between terminal ≡ Some operator
     → Has level allowed frames out ts → shift operator at level allowed frames out ≡ Some g → MeansAt g (ts ++ terminal_at terminal at ∷ [])
-shift_means (frame.Infix waiting place outer ∷ frames) operator terminal at level allowed out ts g is h e =
-    taken_means operator terminal at level allowed (frame.Infix waiting place outer ∷ frames) out ts _ g is h (shift_means frames operator terminal at (infix_level waiting) outer (out ++ item.Infix waiting place ∷ []) ts g is (reduce_left h)) e
-shift_means (frame.Prefix waiting place outer ∷ frames) operator terminal at level allowed out ts g is h e =
-    taken_means operator terminal at level allowed (frame.Prefix waiting place outer ∷ frames) out ts _ g is h (shift_means frames operator terminal at (prefix_level waiting) outer (out ++ item.Prefix waiting place ∷ []) ts g is (reduce_before h)) e
+shift_means (frame.Operator waiting place outer ∷ frames) operator terminal at level allowed out ts g is h e =
+    taken_means operator terminal at level allowed (frame.Operator waiting place outer ∷ frames) out ts _ g is h (shift_means frames operator terminal at (level_of waiting) outer (out ++ item.Operator waiting place ∷ []) ts g is (reduce h)) e
 shift_means [] operator terminal at level allowed out ts g is h e = taken_means operator terminal at level allowed [] out ts None g is h (λ f. cc) e
 shift_means (f ∷ frames) operator terminal at level allowed out ts g is h e = taken_means operator terminal at level allowed (f ∷ frames) out ts None g is h (λ n. cc) e
 
@@ -211,8 +206,8 @@ context_most (in_yes then_at c x) = zero-le
 context_most (in_no then_at else_at c x y) = zero-le
 context_most (in_first open_at c) = zero-le
 context_most (in_more open_at comma_at c a) = zero-le
-context_most (in_part open_at c) = zero-le
-context_most (in_parts open_at comma_at c a n) = zero-le
+context_most (in_part open_at word is c) = zero-le
+context_most (in_parts open_at comma_at word is c a n) = zero-le
 context_most (in_right equals_at c x d) = zero-le
 context_most (in_current is_at current_at c x d) = zero-le
 context_most (in_function open_at close_at equals_at c x d ns) = zero-le
@@ -276,26 +271,26 @@ other_of : {A : Type 0} (b : Bool) (x y : A) → cond b None (Some x) ≡ Some y
 other_of true x y e = cc
 other_of false x y e = (refl, Some_inj x y e)
 
-part_comma : (operator : Called) (place more allowed at : ℕ) (frames : List PlainFrame) (out : List PlainItem) (ts : List PlacedTerminal) → (more ≡ 0 → ⊥) → Inside (frame.Operands operator place more allowed ∷ frames) out ts
+part_comma : (operator : Operator) (place more allowed at : ℕ) (frames : List PlainFrame) (out : List PlainItem) (ts : List PlacedTerminal) → (more ≡ 0 → ⊥) → Inside (frame.Operands operator place more allowed ∷ frames) out ts
     → MeansAt (state (focus.Await 0) (frame.Operands operator place (more - 1) allowed ∷ frames) out) (ts ++ terminal_at terminal.Comma at ∷ [])
 unfolding written
-part_comma operator place _ allowed at frames out ts some (inside (in_part open_at x) s) =
-    awaits (along (simp append_assoc) (in_parts {at = place} open_at at {operator = operator} x (Grammar.spells_one s) (omega (arith, some, called_arity_positive operator))))
-part_comma operator place more allowed at frames out ts some (inside {xs = ys} {x = y} (in_parts open_at comma_at {out = o} {all = all} x a n) s) =
+part_comma operator place _ allowed at frames out ts some (inside (in_part open_at word is x) s) =
+    awaits (along (simp append_assoc) (in_parts {at = place} open_at at word {operator = operator} is x (Grammar.spells_one s) (omega (arith, some, arity_positive operator))))
+part_comma operator place more allowed at frames out ts some (inside {xs = ys} {x = y} (in_parts open_at comma_at word {out = o} {all = all} is x a n) s) =
     awaits (along (simp append_assoc)
-    (with_out (in_parts {at = place} {more = more - 1} open_at at {operator = operator} x (Grammar.spells_more comma_at a s) (omega (arith, some, n, count-and all y))) (written_parts-and o all y)))
+    (with_out (in_parts {at = place} {more = more - 1} open_at at word {operator = operator} is x (Grammar.spells_more comma_at a s) (omega (arith, some, n, count-and all y))) (written_parts-and o all y)))
 
-part_close : (operator : Called) (place more allowed at : ℕ) (frames : List PlainFrame) (out : List PlainItem) (ts : List PlacedTerminal) → more ≡ 0 → Inside (frame.Operands operator place more allowed ∷ frames) out ts
-    → MeansAt (state (focus.Have 12 allowed) frames (out ++ item.Called operator place ∷ [])) (ts ++ terminal_at terminal.Close at ∷ [])
+part_close : (operator : Operator) (place more allowed at : ℕ) (frames : List PlainFrame) (out : List PlainItem) (ts : List PlacedTerminal) → more ≡ 0 → Inside (frame.Operands operator place more allowed ∷ frames) out ts
+    → MeansAt (state (focus.Have 12 allowed) frames (out ++ item.Operator operator place ∷ [])) (ts ++ terminal_at terminal.Close at ∷ [])
 unfolding written
-part_close operator place _ allowed at frames out ts none (inside (in_part open_at x) s) =
+part_close operator place _ allowed at frames out ts none (inside (in_part open_at word is x) s) =
     holds (has_along (simp append_assoc)
-    (has_out (has {level = 12} x (context_most x) (Grammar.spells_called {at = place} {p = open_at} at operator (omega (arith, none, called_arity_positive operator)) (Grammar.spells_one s)))
-    (ap (λ i. out ++ i ∷ []) (node-called operator place))))
-part_close operator place more allowed at frames out ts none (inside {xs = ys} {x = y} (in_parts open_at comma_at {out = o} {all = all} x a n) s) =
+    (has_out (has {level = 12} x (context_most x) (Grammar.spells_called {at = place} {p = open_at} at word operator is (omega (arith, none, arity_positive operator)) (Grammar.spells_one s)))
+    (ap (λ i. out ++ i ∷ []) (node-operator operator place))))
+part_close operator place more allowed at frames out ts none (inside {xs = ys} {x = y} (in_parts open_at comma_at word {out = o} {all = all} is x a n) s) =
     holds (has_along (simp append_assoc)
-    (has_out (has {level = 12} x (context_most x) (Grammar.spells_called {at = place} {p = open_at} at operator (omega (arith, none, n, count-and all y)) (Grammar.spells_more comma_at a s)))
-    (ap (λ l. l ++ node (called_head operator) place ∷ []) (written_parts-and o all y) ∙ ap (λ i. written (written_parts o all) y ++ i ∷ []) (node-called operator place))))
+    (has_out (has {level = 12} x (context_most x) (Grammar.spells_called {at = place} {p = open_at} at word operator is (omega (arith, none, n, count-and all y)) (Grammar.spells_more comma_at a s)))
+    (ap (λ l. l ++ node (head operator) place ∷ []) (written_parts-and o all y) ∙ ap (λ i. written (written_parts o all) y ++ i ∷ []) (node-operator operator place))))
 
 -- what closes a frame
 after_means : (f : PlainFrame) (terminal : PlainTerminal) (at : ℕ) (frames : List PlainFrame) (out : List PlainItem) (ts : List PlacedTerminal) (g : PlainState)
@@ -324,24 +319,29 @@ close_means terminal.Where at frames out ts g (inside c next) e =
 close_means terminal at [] out ts g i e = cc
 close_means terminal at (f ∷ frames) out ts g i e = after_means f terminal at frames out ts g i e
 
-settled : (o : Option Infix) (terminal : PlainTerminal) (at level allowed : ℕ) (frames : List PlainFrame) (out : List PlainItem) (ts : List PlacedTerminal) (g : PlainState) → infix_of terminal ≡ o
+settled : (o : Option Operator) (terminal : PlainTerminal) (at level allowed : ℕ) (frames : List PlainFrame) (out : List PlainItem) (ts : List PlacedTerminal) (g : PlainState) → operator_in Between terminal ≡ o
     → Has level allowed frames out ts → settle_at o terminal at level allowed frames out ≡ Some g → MeansAt g (ts ++ terminal_at terminal at ∷ [])
 settled (Some operator) terminal at level allowed frames out ts g is h e = shift_means frames operator terminal at level allowed out ts g is h e
 settled None terminal at level allowed frames out ts g is h e = close_means terminal at (inner_frames frames) (inner_out frames out) ts g (inner_has frames level allowed out ts h) e
 
 settle_means : (terminal : PlainTerminal) (at level allowed : ℕ) (frames : List PlainFrame) (out : List PlainItem) (ts : List PlacedTerminal) (g : PlainState)
     → Has level allowed frames out ts → settle terminal at level allowed frames out ≡ Some g → MeansAt g (ts ++ terminal_at terminal at ∷ [])
-settle_means terminal at level allowed frames out ts g h e = settled (infix_of terminal) terminal at level allowed frames out ts g refl h e
+settle_means terminal at level allowed frames out ts g h e = settled (operator_in Between terminal) terminal at level allowed frames out ts g refl h e
 
-prefixed_means : (o : Option Prefix) (terminal : PlainTerminal) (at allowed : ℕ) (frames : List PlainFrame) (out : List PlainItem) (ts : List PlacedTerminal) (g : PlainState) → prefix_of terminal ≡ o
+prefixed_means : (o : Option Operator) (terminal : PlainTerminal) (at allowed : ℕ) (frames : List PlainFrame) (out : List PlainItem) (ts : List PlacedTerminal) (g : PlainState) → operator_in Before terminal ≡ o
     → Context frames allowed ts out → prefixed o at allowed frames out ≡ Some g → MeansAt g (ts ++ terminal_at terminal at ∷ [])
 prefixed_means None terminal at allowed frames out ts g is c e = cc
 prefixed_means (Some operator) terminal at allowed frames out ts g is c e =
-    let into = Some (state (focus.Await (prefix_level operator)) (frame.Prefix operator at allowed ∷ frames) out) in
-    elim (tests (leb allowed (prefix_level operator))) [
-      | inl t ↦ to (λ x. MeansAt x (ts ++ terminal_at terminal at ∷ [])) (awaits (in_before {at = at} terminal operator is (leb-true allowed (prefix_level operator) t) c)) (Some_inj _ _ (sym (ap (λ b. cond b into None) t) ∙ e))
+    let into = Some (state (focus.Await (level_of operator)) (frame.Operator operator at allowed ∷ frames) out) in
+    elim (tests (leb allowed (level_of operator))) [
+      | inl t ↦ to (λ x. MeansAt x (ts ++ terminal_at terminal at ∷ [])) (awaits (in_before {at = at} terminal operator is (leb-true allowed (level_of operator) t) c)) (Some_inj _ _ (sym (ap (λ b. cond b into None) t) ∙ e))
       | inr f ↦ let no : None ≡ Some g = sym (ap (λ b. cond b into None) f) ∙ e in cc
     ]
+
+begun_means : (o : Option Operator) (terminal : PlainTerminal) (at allowed : ℕ) (frames : List PlainFrame) (out : List PlainItem) (ts : List PlacedTerminal) (g : PlainState) → operator_in Called terminal ≡ o
+    → Context frames allowed ts out → begun o (operator_in Before terminal) at allowed frames out ≡ Some g → MeansAt g (ts ++ terminal_at terminal at ∷ [])
+begun_means (Some operator) terminal at allowed frames out ts g is c e = to (λ x. MeansAt x (ts ++ terminal_at terminal at ∷ [])) (opens {at = at} terminal operator is c) (Some_inj _ _ e)
+begun_means None terminal at allowed frames out ts g is c e = prefixed_means (operator_in Before terminal) terminal at allowed frames out ts g refl c e
 
 -- a terminal that begins an operand
 begin_means : (terminal : PlainTerminal) (at allowed : ℕ) (frames : List PlainFrame) (out : List PlainItem) (ts : List PlacedTerminal) (g : PlainState)
@@ -350,10 +350,9 @@ unfolding written
 begin_means (terminal.Name n) at allowed frames out ts g c e = to (λ x. MeansAt x (ts ++ terminal_at (terminal.Name n) at ∷ [])) (named c) (Some_inj _ _ e)
 begin_means (terminal.Const v) at allowed frames out ts g c e =
     to (λ x. MeansAt x (ts ++ terminal_at (terminal.Const v) at ∷ [])) (holds (has {level = 12} c (context_most c) (Grammar.spells_const {at = at} {v = v}))) (Some_inj _ _ e)
-begin_means (terminal.Called operator) at allowed frames out ts g c e = to (λ x. MeansAt x (ts ++ terminal_at (terminal.Called operator) at ∷ [])) (opens c) (Some_inj _ _ e)
 begin_means terminal.If at allowed frames out ts g c e = to (λ x. MeansAt x (ts ++ terminal_at terminal.If at ∷ [])) (awaits (in_test {at = at} c)) (Some_inj _ _ e)
 begin_means terminal.Open at allowed frames out ts g c e = to (λ x. MeansAt x (ts ++ terminal_at terminal.Open at ∷ [])) (awaits (in_open at c)) (Some_inj _ _ e)
-begin_means terminal at allowed frames out ts g c e = prefixed_means (prefix_of terminal) terminal at allowed frames out ts g refl c e
+begin_means terminal at allowed frames out ts g c e = begun_means (operator_in Called terminal) terminal at allowed frames out ts g refl c e
 
 named_has : (place : ℕ) (n : List ℕ) {allowed : ℕ} {frames : List PlainFrame} {out : List PlainItem} {ts : List PlacedTerminal} → Context frames allowed ts out
     → Has 12 allowed frames (out ++ item.Name place n ∷ []) (ts ++ terminal_at (terminal.Name n) place ∷ [])
@@ -428,11 +427,11 @@ ready_means terminal.Equals at block def_at n open_at close_at frames out pre xs
     to (λ y. MeansAt y ((pre ++ (xs ++ terminal_at terminal.Where block ∷ (ds ++ terminal_at (terminal.Name n) def_at ∷ terminal_at terminal.Open open_at ∷ (ns ++ terminal_at terminal.Close close_at ∷ [])))) ++ terminal_at terminal.Equals at ∷ [])) (awaits (along (simp append_assoc) (in_function {block = block} {at = def_at} {n = n} open_at close_at at c sx sd sn))) (Some_inj _ _ e)
 ready_means _ at block def_at n open_at close_at frames out pre xs ds ns x all parameters g c sx sd sn e = cc
 
-opens_means : (next : PlainTerminal) (at place allowed : ℕ) (operator : Called) (frames : List PlainFrame) (out : List PlainItem) (ts : List PlacedTerminal) (g : PlainState)
-    → Context frames allowed ts out → step_opens next operator place allowed frames out ≡ Some g → MeansAt g ((ts ++ terminal_at (terminal.Called operator) place ∷ []) ++ terminal_at next at ∷ [])
-opens_means terminal.Open at place allowed operator frames out ts g c e =
-    to (λ x. MeansAt x ((ts ++ terminal_at (terminal.Called operator) place ∷ []) ++ terminal_at terminal.Open at ∷ [])) (awaits (along (simp append_assoc) (in_part {at = place} at {operator = operator} c))) (Some_inj _ _ e)
-opens_means _ at place allowed operator frames out ts g c e = cc
+opens_means : (next : PlainTerminal) (at place allowed : ℕ) (word : PlainTerminal) (operator : Operator) (frames : List PlainFrame) (out : List PlainItem) (ts : List PlacedTerminal) (g : PlainState)
+    → operator_in Called word ≡ Some operator → Context frames allowed ts out → step_opens next operator place allowed frames out ≡ Some g → MeansAt g ((ts ++ terminal_at word place ∷ []) ++ terminal_at next at ∷ [])
+opens_means terminal.Open at place allowed word operator frames out ts g is c e =
+    to (λ x. MeansAt x ((ts ++ terminal_at word place ∷ []) ++ terminal_at terminal.Open at ∷ [])) (awaits (along (simp append_assoc) (in_part {at = place} at word {operator = operator} is c))) (Some_inj _ _ e)
+opens_means _ at place allowed word operator frames out ts g is c e = cc
 
 -- a step keeps the meaning
 pub step_means : (f : PlainFocus) (frames : List PlainFrame) (out : List PlainItem) (ts : List PlacedTerminal) (terminal : PlainTerminal) (at : ℕ) (g : PlainState)
@@ -442,7 +441,7 @@ step_means f frames out ts terminal at g (holds h) e = settle_means terminal at 
 step_means f frames out _ terminal at g (named c) e = named_means terminal at _ _ _ frames out _ g c e
 step_means f frames _ _ terminal at g (heads c sx sd) e = heads_means terminal at _ frames _ _ _ _ _ _ g c sx sd e
 step_means f frames _ _ terminal at g (headed c sx sd) e = headed_means terminal at _ _ _ frames _ _ _ _ _ _ g c sx sd e
-step_means f frames out _ terminal at g (opens c) e = opens_means terminal at _ _ _ frames out _ g c e
+step_means f frames out _ terminal at g (opens called operator is c) e = opens_means terminal at _ _ called operator frames out _ g is c e
 step_means f frames _ _ terminal at g (frozen is_at c sx sd) e = frozen_means terminal at _ _ _ is_at frames _ _ _ _ _ _ g c sx sd e
 step_means f frames _ _ terminal at g (no_names_yet open_at c sx sd) e = first_name_means terminal at _ _ _ open_at frames _ _ _ _ _ _ g c sx sd e
 step_means f frames _ _ terminal at g (more_names open_at comma_at c sx sd sn) e = next_name_means terminal at _ _ _ open_at comma_at frames _ _ _ _ _ _ _ _ g c sx sd sn e
@@ -479,7 +478,7 @@ finish_means f frames o out ts (holds h) e = has_means _ _ frames o out ts h e
 finish_means f frames o out _ (named c) e = has_means _ _ frames _ out _ (named_has _ _ c) e
 finish_means f frames _ out _ (heads c sx sd) e = cc
 finish_means f frames _ out _ (headed c sx sd) e = cc
-finish_means f frames _ out _ (opens c) e = cc
+finish_means f frames _ out _ (opens word operator is c) e = cc
 finish_means f frames _ out _ (frozen is_at c sx sd) e = cc
 finish_means f frames _ out _ (no_names_yet open_at c sx sd) e = cc
 finish_means f frames _ out _ (more_names open_at comma_at c sx sd sn) e = cc

@@ -6,10 +6,10 @@ use Rattle.lucid_tree.specs.Tree.{const, PlainTree, form, PlainTrees, no_trees, 
 use Rattle.lucid_tree.specs.Size.{count}
 use Rattle.lucid_parse.specs.declared.terminal.Terminal.TheVariants as terminal
 use Rattle.lucid_parse.specs.Grammar
-use Rattle.lucid_parse.specs.Grammar.{PlacedTerminal, terminal_at, trees_and, called_arity, Spells, SpellsArgs}
+use Rattle.lucid_parse.specs.Grammar.{PlacedTerminal, terminal_at, trees_and, arity_of, Spells, SpellsArgs}
 use Rattle.lucid_parse.specs.Machine.{PlainFrame, PlainFocus, PlainItem}
 use Rattle.lucid_parse.specs.Verdict.{Begins}
-use Rattle.lucid_parse.proofs.Levels.{called_arity_positive}
+use Rattle.lucid_parse.proofs.Levels.{arity_positive}
 use Rattle.lucid_parse.proofs.Complete.{count-and}
 use Rattle.lucid_parse.proofs.Sound
 use Rattle.lucid_parse.proofs.Sound.{Context, Means, looser}
@@ -76,14 +76,14 @@ closing (Sound.in_more {at = at} {n = n} open_at comma_at c sa) xs x sx =
 closing (Sound.in_right {block = at} {at = def_at} {n = n} equals_at c sw sd) xs x sx =
     short _ _ (terminal_at terminal.Semicolon 0 ∷ terminal_at terminal.End 0 ∷ []) (simp append_assoc)
     (closing c _ _ (Grammar.spells_block {at = at} 0 zero-le sw (Grammar.spells_def def_at n equals_at 0 sd sx)))
-closing (Sound.in_part {at = at} open_at {operator = operator} ctx) xs x sx =
-    let all = padded (called_arity operator - 1) xs (tree x no_trees) (Grammar.spells_one sx) in
-    short _ _ (pad (called_arity operator - 1) ++ terminal_at terminal.Close 0 ∷ []) (simp append_assoc)
-    (closing ctx _ _ (Grammar.spells_called {at = at} {p = open_at} 0 operator (omega (arith, all.counts, called_arity_positive operator)) all.spells))
-closing (Sound.in_parts {at = at} {more = more} open_at comma_at {operator = operator} {all = before} ctx sa n) xs x sx =
+closing (Sound.in_part {at = at} open_at word {operator = operator} is ctx) xs x sx =
+    let all = padded (arity_of operator - 1) xs (tree x no_trees) (Grammar.spells_one sx) in
+    short _ _ (pad (arity_of operator - 1) ++ terminal_at terminal.Close 0 ∷ []) (simp append_assoc)
+    (closing ctx _ _ (Grammar.spells_called {at = at} {p = open_at} 0 word operator is (omega (arith, all.counts, arity_positive operator)) all.spells))
+closing (Sound.in_parts {at = at} {more = more} open_at comma_at word {operator = operator} {all = before} is ctx sa n) xs x sx =
     let all = padded more _ (trees_and before x) (Grammar.spells_more comma_at sa sx) in
     short _ _ (pad more ++ terminal_at terminal.Close 0 ∷ []) (simp append_assoc)
-    (closing ctx _ _ (Grammar.spells_called {at = at} {p = open_at} 0 operator (omega (arith, all.counts, n, count-and before x)) all.spells))
+    (closing ctx _ _ (Grammar.spells_called {at = at} {p = open_at} 0 word operator is (omega (arith, all.counts, n, count-and before x)) all.spells))
 closing (Sound.in_current {block = at} {at = def_at} {n = n} is_at current_at c sw sd) xs x sx =
     short _ _ (terminal_at terminal.Semicolon 0 ∷ terminal_at terminal.End 0 ∷ []) (simp append_assoc)
     (closing c _ _ (Grammar.spells_block {at = at} 0 zero-le sw (Grammar.spells_current def_at n is_at current_at 0 sd sx)))
@@ -100,10 +100,10 @@ viable f frames _ _ (Sound.heads {block = at} c sx sd) =
 viable f frames _ _ (Sound.headed {block = at} {at = def_at} {n = n} c sx sd) =
     short _ _ (terminal_at terminal.Equals 0 ∷ (one ++ terminal_at terminal.Semicolon 0 ∷ terminal_at terminal.End 0 ∷ [])) (simp append_assoc)
     (closing c _ _ (Grammar.spells_block {at = at} 0 zero-le sx (Grammar.spells_def def_at n 0 0 sd spells_one_terminal)))
-viable f frames out _ (Sound.opens {at = place} {operator = operator} ctx) =
-    let all = padded (called_arity operator - 1) one (tree (form 0 (const eod) no_trees) no_trees) (Grammar.spells_one spells_one_terminal) in
-    short _ _ (terminal_at terminal.Open 0 ∷ ((one ++ pad (called_arity operator - 1)) ++ terminal_at terminal.Close 0 ∷ [])) (simp append_assoc)
-    (closing ctx _ _ (Grammar.spells_called {at = place} {p = 0} 0 operator (omega (arith, all.counts, called_arity_positive operator)) all.spells))
+viable f frames out _ (Sound.opens {at = place} word operator is ctx) =
+    let all = padded (arity_of operator - 1) one (tree (form 0 (const eod) no_trees) no_trees) (Grammar.spells_one spells_one_terminal) in
+    short _ _ (terminal_at terminal.Open 0 ∷ ((one ++ pad (arity_of operator - 1)) ++ terminal_at terminal.Close 0 ∷ [])) (simp append_assoc)
+    (closing ctx _ _ (Grammar.spells_called {at = place} {p = 0} 0 word operator is (omega (arith, all.counts, arity_positive operator)) all.spells))
 viable f frames _ _ (Sound.frozen {block = at} {at = def_at} {n = n} is_at c sx sd) =
     short _ _ (terminal_at terminal.Current 0 ∷ (one ++ terminal_at terminal.Semicolon 0 ∷ terminal_at terminal.End 0 ∷ [])) (simp append_assoc)
     (closing c _ _ (Grammar.spells_block {at = at} 0 zero-le sx (Grammar.spells_current def_at n is_at 0 0 sd spells_one_terminal)))

@@ -5,32 +5,20 @@ use Rattle.std.proofs.lemmas.Bool.{eq-eqb, eqb-true, lt-ltb}
 use Rattle.lucid_tree.specs.Tree.{PlainTree, PlainTrees, no_trees, tree, PlainDefs, no_defs, defines, defines_function, defines_current}
 use Rattle.lucid_tree.specs.Size.{count}
 use Rattle.lucid_tree.specs.WellMade.{places, places_in, places_in_defs, fits_arity, is_shaped, are_shaped, defs_are_shaped, In, AllDiffer, IsWellMade}
-use Rattle.lucid_parse.specs.declared.terminal.Infix.{Infix}
-use Rattle.lucid_parse.specs.declared.terminal.Infix.TheVariants as infixes
-use Rattle.lucid_parse.specs.declared.terminal.Prefix.{Prefix}
-use Rattle.lucid_parse.specs.declared.terminal.Prefix.TheVariants as prefixes
-use Rattle.lucid_parse.specs.declared.terminal.Called.{Called}
-use Rattle.lucid_parse.specs.declared.terminal.Called.TheVariants as called
 use Rattle.lucid_ops.specs.Arity.{arity}
-use Rattle.lucid_parse.proofs.Levels.{stands_between, stands_before, between_arity, before_arity}
+use Rattle.lucid_forms.specs.declared.operator.Operator.TheVariants.{Data, Stream}
+use Rattle.lucid_forms.specs.declared.operator.StreamOp.TheVariants.{Fby}
+use Rattle.lucid_parse.proofs.Levels.{infix_arity, prefix_arity}
 use Rattle.lucid_parse.specs.Grammar
-use Rattle.lucid_parse.specs.Grammar.{PlacedTerminal, trees_and, def_before, defs_and, Defined, Plain, Function, Current, Parameter, names_of, places_of, called_arity, PlainTerminal, infix_of, prefix_of, infix_head, prefix_head, called_head, Spells, SpellsArgs, SpellsDefs, SpellsNames}
+use Rattle.lucid_forms.specs.declared.operator.Operator.{Operator}
+use Rattle.lucid_parse.specs.Grammar.{PlacedTerminal, trees_and, def_before, defs_and, Defined, Plain, Function, Current, Parameter, names_of, places_of, arity_of, head, Spells, SpellsArgs, SpellsDefs, SpellsNames}
 
 -- The shape.
 
-fits-infix : (terminal : PlainTerminal) (operator : Infix) → infix_of terminal ≡ Some operator → (x y : PlainTree) → fits_arity (infix_head operator) (tree x (tree y no_trees)) ≡ true
-fits-infix terminal (infixes.Operator o) e x y = eq-eqb 2 (arity o) (sym (between_arity o (stands_between terminal o e)))
-fits-infix terminal infixes.Fby e x y = refl
-fits-infix terminal _ e x y = refl
-
-fits-prefix : (terminal : PlainTerminal) (operator : Prefix) → prefix_of terminal ≡ Some operator → (x : PlainTree) → fits_arity (prefix_head operator) (tree x no_trees) ≡ true
-fits-prefix terminal (prefixes.Operator o) e x = eq-eqb 1 (arity o) (sym (before_arity o (stands_before terminal o e)))
-fits-prefix terminal prefixes.First e x = refl
-fits-prefix terminal _ e x = refl
-
-fits-called : (operator : Called) (args : PlainTrees) → count args ≡ called_arity operator → fits_arity (called_head operator) args ≡ true
-fits-called called.Substr args e = eq-eqb (count args) 3 e
-fits-called called.Nth args e = eq-eqb (count args) 2 e
+fits-operator : (operator : Operator) (args : PlainTrees) → count args ≡ arity_of operator → fits_arity (head operator) args ≡ true
+fits-operator (Data op) args e = eq-eqb (count args) (arity op) e
+fits-operator (Stream Fby) args e = refl
+fits-operator (Stream _) args e = refl
 
 both : (a b : Bool) → a ≡ true → b ≡ true → (a && b) ≡ true
 both true b e h = h
@@ -82,12 +70,12 @@ mutual
   pub shaped : {level : ℕ} {ws : List PlacedTerminal} {t : PlainTree} → Spells level ws t → is_shaped t ≡ true
   shaped Grammar.spells_const = refl
   shaped Grammar.spells_name = refl
-  shaped (Grammar.spells_infix {x = x} {y = y} terminal operator is low sx sy) = both _ _ (fits-infix terminal operator is x y) (both _ _ (shaped sx) (both _ _ (shaped sy) refl))
-  shaped (Grammar.spells_prefix {x = x} terminal operator is low sx) = both _ _ (fits-prefix terminal operator is x) (both _ _ (shaped sx) refl)
+  shaped (Grammar.spells_infix {x = x} {y = y} terminal operator is low sx sy) = both _ _ (fits-operator operator (tree x (tree y no_trees)) (sym (infix_arity terminal operator is))) (both _ _ (shaped sx) (both _ _ (shaped sy) refl))
+  shaped (Grammar.spells_prefix {x = x} terminal operator is low sx) = both _ _ (fits-operator operator (tree x no_trees) (sym (prefix_arity terminal operator is))) (both _ _ (shaped sx) refl)
   shaped (Grammar.spells_inner close_at sx) = shaped sx
   shaped (Grammar.spells_if then_at else_at fi_at sx sy sz) = both _ _ (shaped sx) (both _ _ (shaped sy) (both _ _ (shaped sz) refl))
   shaped (Grammar.spells_call close_at sa) = shaped_args sa
-  shaped (Grammar.spells_called close_at operator {args = args} all sa) = both _ _ (fits-called operator args all) (shaped_args sa)
+  shaped (Grammar.spells_called close_at terminal operator {args = args} is all sa) = both _ _ (fits-operator operator args all) (shaped_args sa)
   shaped (Grammar.spells_block end_at low sx sd) = both _ _ (shaped sx) (shaped_defs sd)
 
   shaped_args : {ws : List PlacedTerminal} {args : PlainTrees} → SpellsArgs ws args → are_shaped args ≡ true
@@ -171,7 +159,7 @@ mutual
   placed (Grammar.spells_inner close_at sx) place = simp (occurs_at-append) (omega (arith, placed sx place))
   placed (Grammar.spells_if then_at else_at fi_at sx sy sz) place = simp (occurs-append, occurs_at-append) (omega (arith, placed sx place, placed sy place, placed sz place))
   placed (Grammar.spells_call close_at sa) place = simp (occurs_at-append) (omega (arith, placed_args sa place))
-  placed (Grammar.spells_called close_at operator all sa) place = simp (occurs_at-append) (omega (arith, placed_args sa place))
+  placed (Grammar.spells_called close_at terminal operator is all sa) place = simp (occurs_at-append) (omega (arith, placed_args sa place))
   placed (Grammar.spells_block end_at low sx sd) place = simp (occurs-append, occurs_at-append) (omega (arith, placed sx place, placed_defs sd place))
 
   placed_args : {ws : List PlacedTerminal} {args : PlainTrees} → SpellsArgs ws args → (place : ℕ) → occurs place (places_in args) ≤ occurs_at place ws
@@ -221,7 +209,7 @@ mutual
   few (Grammar.spells_inner close_at sx) = simp length-append (omega (arith, few sx))
   few (Grammar.spells_if then_at else_at fi_at sx sy sz) = simp length-append (omega (arith, few sx, few sy, few sz))
   few (Grammar.spells_call close_at sa) = simp length-append (omega (arith, few_args sa))
-  few (Grammar.spells_called close_at operator all sa) = simp length-append (omega (arith, few_args sa))
+  few (Grammar.spells_called close_at terminal operator is all sa) = simp length-append (omega (arith, few_args sa))
   few (Grammar.spells_block end_at low sx sd) = simp length-append (omega (arith, few sx, few_defs sd))
 
   few_args : {ws : List PlacedTerminal} {args : PlainTrees} → SpellsArgs ws args → length (places_in args) ≤ length ws

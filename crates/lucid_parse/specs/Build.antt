@@ -1,6 +1,7 @@
 -- A tree from its nodes: each node takes its parts from piles.
-use Rattle.std.specs.Prelude.{◌≡◌, ℕ, zero, suc, List, [], ◌∷◌, ◌++◌, Option, Some, None, option_and_then, map, Result, Ok, Err, Bool, MatchBool}
-use Rattle.lucid_tree.specs.Tree.{Head, const, apply, choose, PlainTree, form, name, call, block, PlainTrees, no_trees, tree}
+use Rattle.std.specs.Prelude.{◌≡◌, ℕ, zero, suc, List, [], ◌∷◌, ◌++◌, Option, Some, None, option_and_then, map, Result, Ok, Err, Bool, MatchBool, MatchOption, length, Vec}
+use Rattle.std.specs.Global.{Global}
+use Rattle.lucid_tree.specs.Tree.{const, choose, PlainTree, form, name, call, block, PlainTrees, no_trees, tree}
 use Rattle.lucid_tree.specs.Lists.{trees_of}
 use Rattle.lucid_tree.specs.DefsView.{defs_of}
 use Rattle.lucid_tree.specs.declared.tree.Def.{Def}
@@ -9,13 +10,8 @@ use Rattle.lucid_tree.specs.declared.tree.DefKind.TheVariants as def_kind
 use Rattle.lucid_parse.specs.declared.state.Item.TheVariants as item
 use Rattle.lucid_parse.specs.declared.state.Defines.TheVariants as kind
 use Rattle.lucid_parse.specs.declared.build.Piles as code
-use Rattle.lucid_parse.specs.Grammar.{infix_head, prefix_head, called_head, called_arity}
+use Rattle.lucid_parse.specs.Grammar.{head, arity_of}
 use Rattle.lucid_parse.specs.Machine.{PlainItem}
-
--- a head that is no data operator's
-abbrev pub IsOverStreams : Head → Type 0
-IsOverStreams (apply operator count) = ⊥
-IsOverStreams _ = Unit {0}
 
 -- the trees, the lists of trees, of parameters and their places, and of definitions that no node has taken yet, the last first
 pub record PlainPiles : Type 0 where
@@ -43,10 +39,8 @@ gather (suc more) (last ∷ rest) parts = gather more rest (tree last parts)
 abbrev pub put : PlainItem → List PlainTree → List (List PlainTree) → List (List (List ℕ)) → List (List ℕ) → List (List Def) → Option PlainPiles
 put (item.Const at value) trees lists names places blocks = Some (piles (form at (const value) no_trees ∷ trees) lists names places blocks)
 put (item.Name at n) trees lists names places blocks = Some (piles (name at n ∷ trees) lists names places blocks)
-put (item.Infix operator at) (y ∷ x ∷ trees) lists names places blocks = Some (piles (form at (infix_head operator) (tree x (tree y no_trees)) ∷ trees) lists names places blocks)
-put (item.Prefix operator at) (x ∷ trees) lists names places blocks = Some (piles (form at (prefix_head operator) (tree x no_trees) ∷ trees) lists names places blocks)
-put (item.Called operator at) trees lists names places blocks =
-    option_and_then (λ taken. Some (piles (form at (called_head operator) taken.0 ∷ taken.1) lists names places blocks)) (gather (called_arity operator) trees no_trees)
+put (item.Operator operator at) trees lists names places blocks =
+    option_and_then (λ taken. Some (piles (form at (head operator) taken.0 ∷ taken.1) lists names places blocks)) (gather (arity_of operator) trees no_trees)
 put (item.If at) (z ∷ y ∷ x ∷ trees) lists names places blocks = Some (piles (form at choose (tree x (tree y (tree z no_trees))) ∷ trees) lists names places blocks)
 put item.NoTrees trees lists names places blocks = Some (piles trees ([] ∷ lists) names places blocks)
 put item.More (last ∷ trees) (list ∷ lists) names places blocks = Some (piles trees ((list ++ last ∷ []) ∷ lists) names places blocks)
@@ -78,3 +72,8 @@ plain_piles held = piles held.trees (map (λ v. v.items) held.lists) (map (λ v.
 abbrev pub Puts : {E : Type 0} → Result Bool E → code.Piles → Option PlainPiles → Type 0
 Puts (Ok there) now wanted = MatchBool there (wanted ≡ Some (plain_piles now)) (wanted ≡ None)
 Puts (Err error) now wanted = Unit {0}
+
+-- so many trees were taken off the pile, where there were as many
+abbrev pub Takes : ℕ → List PlainTree → Option (Vec PlainTree Global) → List PlainTree → Type 0
+Takes count before taken after =
+    MatchOption taken (gather count before no_trees ≡ None) (λ parts. (gather count before no_trees ≡ Some (trees_of parts.items, after)) × (length parts.items ≡ count))

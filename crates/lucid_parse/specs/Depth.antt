@@ -4,7 +4,7 @@ use Rattle.lucid_tree.specs.Tree.{PlainTree, form, name, call, block, PlainTrees
 use Rattle.lucid_parse.specs.declared.state.Item.{Item}
 use Rattle.lucid_parse.specs.declared.state.Item.TheVariants as item
 use Rattle.lucid_parse.specs.declared.state.Defines.TheVariants as kind
-use Rattle.lucid_parse.specs.Grammar.{called_arity}
+use Rattle.lucid_parse.specs.Grammar.{arity_of}
 
 -- the place, where the depth is 1
 abbrev pub here : ℕ → ℕ → List ℕ
@@ -46,9 +46,7 @@ least_in best (one ∷ more) = lesser one (least_in best more)
 abbrev pub found : {N V : Type 0} → Item N V → ℕ → Option ℕ → Option ℕ
 found (item.Const at value) sought best = least_in best (here sought at)
 found (item.Name at n) sought best = least_in best (here sought at)
-found (item.Infix operator at) sought best = least_in best (here sought at)
-found (item.Prefix operator at) sought best = least_in best (here sought at)
-found (item.Called operator at) sought best = least_in best (here sought at)
+found (item.Operator operator at) sought best = least_in best (here sought at)
 found (item.If at) sought best = least_in best (here sought at)
 found (item.Call at n) sought best = least_in best (here sought at)
 found (item.Block at) sought best = least_in best (here sought at)
@@ -61,16 +59,14 @@ copies (suc n) sought rest = sought ∷ copies n sought rest
 
 -- the depths of its parts, the last first
 abbrev pub below : {N V : Type 0} → Item N V → ℕ → List ℕ → List ℕ
-below (item.Infix operator at) sought rest = pred sought ∷ pred sought ∷ rest
-below (item.Prefix operator at) sought rest = pred sought ∷ rest
-below (item.Called operator at) sought rest = copies (called_arity operator) (pred sought) rest
-below (item.If at) sought rest = pred sought ∷ pred sought ∷ pred sought ∷ rest
-below (item.Call at n) sought rest = pred sought ∷ rest
-below (item.Block at) sought rest = pred sought ∷ pred sought ∷ rest
-below item.More sought rest = sought ∷ sought ∷ rest
-below (item.Def kind.Function at n) sought rest = sought ∷ sought ∷ sought ∷ rest
-below (item.Def what at n) sought rest = sought ∷ sought ∷ rest
-below (item.Param at n) sought rest = sought ∷ rest
+below (item.Operator operator at) sought rest = copies (arity_of operator) (pred sought) rest
+below (item.If at) sought rest = copies 3 (pred sought) rest
+below (item.Call at n) sought rest = copies 1 (pred sought) rest
+below (item.Block at) sought rest = copies 2 (pred sought) rest
+below item.More sought rest = copies 2 sought rest
+below (item.Def kind.Function at n) sought rest = copies 3 sought rest
+below (item.Def what at n) sought rest = copies 2 sought rest
+below (item.Param at n) sought rest = copies 1 sought rest
 below _ sought rest = rest
 
 -- from the last node to the first, with the depths that are sought from each

@@ -13,9 +13,7 @@ use Rattle.lucid_parse.specs.Machine.{State, state}
 abbrev pub fill_terminal : {M N V W : Type 0} → (M → N) → (V → W) → Terminal M V → Terminal N W
 fill_terminal on_name on_value (terminal.Name name) = terminal.Name (on_name name)
 fill_terminal on_name on_value (terminal.Const value) = terminal.Const (on_value value)
-fill_terminal on_name on_value (terminal.Infix operator) = terminal.Infix operator
-fill_terminal on_name on_value (terminal.Prefix operator) = terminal.Prefix operator
-fill_terminal on_name on_value (terminal.Called operator) = terminal.Called operator
+fill_terminal on_name on_value (terminal.Operator operator) = terminal.Operator operator
 fill_terminal on_name on_value terminal.Minus = terminal.Minus
 fill_terminal on_name on_value terminal.Is = terminal.Is
 fill_terminal on_name on_value terminal.Current = terminal.Current
@@ -32,8 +30,7 @@ fill_terminal on_name on_value terminal.Semicolon = terminal.Semicolon
 fill_terminal on_name on_value terminal.Equals = terminal.Equals
 
 abbrev pub fill_frame : {M N : Type 0} → (M → N) → Frame M → Frame N
-fill_frame on_name (frame.Infix operator at allowed) = frame.Infix operator at allowed
-fill_frame on_name (frame.Prefix operator at allowed) = frame.Prefix operator at allowed
+fill_frame on_name (frame.Operator operator at allowed) = frame.Operator operator at allowed
 fill_frame on_name (frame.Parenthesis allowed) = frame.Parenthesis allowed
 fill_frame on_name (frame.Test at allowed) = frame.Test at allowed
 fill_frame on_name (frame.Yes at allowed) = frame.Yes at allowed
@@ -57,9 +54,7 @@ fill_focus on_name (focus.Ready block at name) = focus.Ready block at (on_name n
 abbrev pub fill_item : {M N V W : Type 0} → (M → N) → (V → W) → Item M V → Item N W
 fill_item on_name on_value (item.Const at value) = item.Const at (on_value value)
 fill_item on_name on_value (item.Name at name) = item.Name at (on_name name)
-fill_item on_name on_value (item.Infix operator at) = item.Infix operator at
-fill_item on_name on_value (item.Prefix operator at) = item.Prefix operator at
-fill_item on_name on_value (item.Called operator at) = item.Called operator at
+fill_item on_name on_value (item.Operator operator at) = item.Operator operator at
 fill_item on_name on_value (item.If at) = item.If at
 fill_item on_name on_value item.NoTrees = item.NoTrees
 fill_item on_name on_value item.More = item.More

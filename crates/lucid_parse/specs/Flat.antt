@@ -1,49 +1,22 @@
 -- A tree as a list of nodes, each behind its parts.
-use Rattle.std.specs.Prelude.{ℕ, List, [], ◌∷◌, ◌++◌}
-use Rattle.lucid_ops.specs.declared.op.Op.{Op}
-use Rattle.lucid_ops.specs.declared.op.Op.TheVariants as op
-use Rattle.lucid_ops.specs.declared.op.Form.{Form}
-use Rattle.lucid_ops.specs.declared.op.Form.TheVariants as shape
-use Rattle.lucid_ops.specs.Rows.{operator_row}
-use Rattle.lucid_tree.specs.Tree.{Head, const, apply, choose, both, either, first, next, fby, whenever, asa, upon, attime, initial, succ, sby, atspace, PlainTree, form, name, call, block, PlainTrees, no_trees, tree, PlainDefs, no_defs, defines, defines_function, defines_current}
-use Rattle.lucid_parse.specs.declared.terminal.Infix.TheVariants as infixes
-use Rattle.lucid_parse.specs.declared.terminal.Prefix.TheVariants as prefixes
-use Rattle.lucid_parse.specs.declared.terminal.Called.{Called}
-use Rattle.lucid_parse.specs.declared.terminal.Called.TheVariants as called
+use Rattle.std.specs.Prelude.{ℕ, List, [], ◌∷◌, ◌++◌, Option, Some, None}
+use Rattle.lucid_tree.specs.Tree.{Head, const, PlainTree, form, name, call, block, PlainTrees, no_trees, tree, PlainDefs, no_defs, defines, defines_function, defines_current}
+use Rattle.lucid_forms.specs.declared.operator.Operator.{Operator}
+use Rattle.lucid_forms.specs.Operators.{operator_of}
 use Rattle.lucid_parse.specs.declared.state.Item.TheVariants as item
 use Rattle.lucid_parse.specs.declared.state.Defines.{Defines}
 use Rattle.lucid_parse.specs.declared.state.Defines.TheVariants as kind
 use Rattle.lucid_parse.specs.Grammar.{Defined, Plain, Function, Current, Parameter}
 use Rattle.lucid_parse.specs.Machine.{PlainItem}
 
--- the node of a data operator, by the form of its row
-abbrev pub called_of : Op → Called
-called_of op.Substr = called.Substr
-called_of _ = called.Nth
+-- the node of a form with this head, by the operator that makes it: constants and `if` are made by none
+abbrev pub node_of : Option Operator → Head → ℕ → PlainItem
+node_of (Some operator) head at = item.Operator operator at
+node_of None (const value) at = item.Const at value
+node_of None head at = item.If at
 
-abbrev pub operator_node : Form → Op → ℕ → PlainItem
-operator_node shape.Before operator at = item.Prefix (prefixes.Operator operator) at
-operator_node shape.Between operator at = item.Infix (infixes.Operator operator) at
-operator_node shape.Called operator at = item.Called (called_of operator) at
-
--- the node of a form with this head
 abbrev pub node : Head → ℕ → PlainItem
-node (const value) at = item.Const at value
-node (apply operator count) at = operator_node (operator_row operator).form operator at
-node choose at = item.If at
-node both at = item.Infix infixes.And at
-node either at = item.Infix infixes.Or at
-node first at = item.Prefix prefixes.First at
-node next at = item.Prefix prefixes.Next at
-node fby at = item.Infix infixes.Fby at
-node whenever at = item.Infix infixes.Whenever at
-node asa at = item.Infix infixes.Asa at
-node upon at = item.Infix infixes.Upon at
-node attime at = item.Infix infixes.Attime at
-node initial at = item.Prefix prefixes.Initial at
-node succ at = item.Prefix prefixes.Succ at
-node sby at = item.Infix infixes.Sby at
-node atspace at = item.Infix infixes.Atspace at
+node head at = node_of (operator_of head) head at
 
 -- the kind of a definition, and the list with its parameters at its end
 abbrev pub kind_of : Defined → Defines

@@ -1,9 +1,7 @@
 -- The parser as a machine over terminals. It keeps what is open, and writes the nodes behind their parts.
 use Rattle.std.specs.Prelude.{◌≡◌, ℕ, List, [], ◌∷◌, ◌++◌, Option, Some, None, Bool, cond, ◌&&◌, nat_le, nat_eq, ◌-◌, option_and_then, Result, Ok, Err}
 use Rattle.lucid_value.specs.Plain.{PlainValue}
-use Rattle.lucid_parse.specs.declared.terminal.Infix.{Infix}
-use Rattle.lucid_parse.specs.declared.terminal.Prefix.{Prefix}
-use Rattle.lucid_parse.specs.declared.terminal.Called.{Called}
+use Rattle.lucid_ops.specs.declared.op.Form.TheVariants.{Before, Between, Called}
 use Rattle.lucid_parse.specs.declared.terminal.Terminal.{Terminal}
 use Rattle.lucid_parse.specs.declared.terminal.Terminal.TheVariants as terminal
 use Rattle.lucid_parse.specs.declared.state.Defines.TheVariants as kind
@@ -13,7 +11,8 @@ use Rattle.lucid_parse.specs.declared.state.Focus.{Focus}
 use Rattle.lucid_parse.specs.declared.state.Focus.TheVariants as focus
 use Rattle.lucid_parse.specs.declared.state.Item.{Item}
 use Rattle.lucid_parse.specs.declared.state.Item.TheVariants as item
-use Rattle.lucid_parse.specs.Grammar.{PlacedTerminal, infix_level, left, right, prefix_level, infix_of, prefix_of, called_arity}
+use Rattle.lucid_forms.specs.declared.operator.Operator.{Operator}
+use Rattle.lucid_parse.specs.Grammar.{PlacedTerminal, level_of, arity_of, left, right, operator_in}
 
 -- what comes next, what is open (the innermost first), what is written
 pub record State (N V : Type 0) : Type 0 where
@@ -38,27 +37,25 @@ abbrev pub PlainState : Type 0
 PlainState = State (List ℕ) PlainValue
 
 -- whether the operator may take an operand of this level in a place that allows a level
-abbrev pub takes : Infix → (level allowed : ℕ) → Bool
-takes operator level allowed = nat_le (left operator) level && nat_le allowed (infix_level operator)
+abbrev pub takes : Operator → (level allowed : ℕ) → Bool
+takes operator level allowed = nat_le (left operator) level && nat_le allowed (level_of operator)
 
-abbrev pub taken : {N V : Type 0} → Infix → (at level allowed : ℕ) → List (Frame N) → List (Item N V) → Option (State N V) → Option (State N V)
-taken operator at level allowed frames out other = cond (takes operator level allowed) (Some (state (focus.Await (right operator)) (frame.Infix operator at allowed ∷ frames) out)) other
+abbrev pub taken : {N V : Type 0} → Operator → (at level allowed : ℕ) → List (Frame N) → List (Item N V) → Option (State N V) → Option (State N V)
+taken operator at level allowed frames out other = cond (takes operator level allowed) (Some (state (focus.Await (right operator)) (frame.Operator operator at allowed ∷ frames) out)) other
 
 -- an operator after an operand of this level in a place that allows a level
-abbrev pub shift : {N V : Type 0} → Infix → (at level allowed : ℕ) → List (Frame N) → List (Item N V) → Option (State N V)
-shift operator at level allowed (frame.Infix waiting place outer ∷ frames) out = taken operator at level allowed (frame.Infix waiting place outer ∷ frames) out (shift operator at (infix_level waiting) outer frames (out ++ item.Infix waiting place ∷ []))
-shift operator at level allowed (frame.Prefix waiting place outer ∷ frames) out = taken operator at level allowed (frame.Prefix waiting place outer ∷ frames) out (shift operator at (prefix_level waiting) outer frames (out ++ item.Prefix waiting place ∷ []))
+abbrev pub shift : {N V : Type 0} → Operator → (at level allowed : ℕ) → List (Frame N) → List (Item N V) → Option (State N V)
+shift operator at level allowed (frame.Operator waiting place outer ∷ frames) out =
+    taken operator at level allowed (frame.Operator waiting place outer ∷ frames) out (shift operator at (level_of waiting) outer frames (out ++ item.Operator waiting place ∷ []))
 shift operator at level allowed frames out = taken operator at level allowed frames out None
 
--- the frames and the output once no operator waits for its right operand
+-- the frames and the output once no operator waits for its last operand
 abbrev pub inner_frames : {N : Type 0} → List (Frame N) → List (Frame N)
-inner_frames (frame.Infix operator at allowed ∷ frames) = inner_frames frames
-inner_frames (frame.Prefix operator at allowed ∷ frames) = inner_frames frames
+inner_frames (frame.Operator operator at allowed ∷ frames) = inner_frames frames
 inner_frames frames = frames
 
 abbrev pub inner_out : {N V : Type 0} → List (Frame N) → List (Item N V) → List (Item N V)
-inner_out (frame.Infix operator at allowed ∷ frames) out = inner_out frames (out ++ item.Infix operator at ∷ [])
-inner_out (frame.Prefix operator at allowed ∷ frames) out = inner_out frames (out ++ item.Prefix operator at ∷ [])
+inner_out (frame.Operator operator at allowed ∷ frames) out = inner_out frames (out ++ item.Operator operator at ∷ [])
 inner_out frames out = out
 
 abbrev pub after_frame : {N V : Type 0} → Frame N → Terminal N V → List (Frame N) → List (Item N V) → Option (State N V)
@@ -69,7 +66,7 @@ after_frame (frame.No at allowed) terminal.Fi frames out = Some (state (focus.Ha
 after_frame (frame.Arguments at name allowed) terminal.Comma frames out = Some (state (focus.Await 0) (frame.Arguments at name allowed ∷ frames) (out ++ item.More ∷ []))
 after_frame (frame.Arguments at name allowed) terminal.Close frames out = Some (state (focus.Have 12 allowed) frames ((out ++ item.More ∷ []) ++ item.Call at name ∷ []))
 after_frame (frame.Operands called at more allowed) terminal.Comma frames out = cond (nat_eq more 0) None (Some (state (focus.Await 0) (frame.Operands called at (more - 1) allowed ∷ frames) out))
-after_frame (frame.Operands called at more allowed) terminal.Close frames out = cond (nat_eq more 0) (Some (state (focus.Have 12 allowed) frames (out ++ item.Called called at ∷ []))) None
+after_frame (frame.Operands called at more allowed) terminal.Close frames out = cond (nat_eq more 0) (Some (state (focus.Have 12 allowed) frames (out ++ item.Operator called at ∷ []))) None
 after_frame (frame.RightSide block defines at name) terminal.Semicolon frames out = Some (state (focus.Heads block) frames (out ++ item.Def defines at name ∷ []))
 after_frame _ _ _ _ = None
 
@@ -82,26 +79,30 @@ abbrev pub close : {N V : Type 0} → Terminal N V → (at : ℕ) → List (Fram
 close terminal.Where at frames out = Some (state (focus.Heads at) frames (out ++ item.NoDefs ∷ []))
 close terminal at frames out = close_top terminal frames out
 
-abbrev pub settle_at : {N V : Type 0} → Option Infix → Terminal N V → (at level allowed : ℕ) → List (Frame N) → List (Item N V) → Option (State N V)
+abbrev pub settle_at : {N V : Type 0} → Option Operator → Terminal N V → (at level allowed : ℕ) → List (Frame N) → List (Item N V) → Option (State N V)
 settle_at (Some operator) terminal at level allowed frames out = shift operator at level allowed frames out
 settle_at None terminal at level allowed frames out = close terminal at (inner_frames frames) (inner_out frames out)
 
 -- a terminal after an operand of this level in a place that allows a level
 abbrev pub settle : {N V : Type 0} → Terminal N V → (at level allowed : ℕ) → List (Frame N) → List (Item N V) → Option (State N V)
-settle terminal at level allowed frames out = settle_at (infix_of terminal) terminal at level allowed frames out
+settle terminal at level allowed frames out = settle_at (operator_in Between terminal) terminal at level allowed frames out
 
-abbrev pub prefixed : {N V : Type 0} → Option Prefix → (at allowed : ℕ) → List (Frame N) → List (Item N V) → Option (State N V)
+abbrev pub prefixed : {N V : Type 0} → Option Operator → (at allowed : ℕ) → List (Frame N) → List (Item N V) → Option (State N V)
 prefixed None at allowed frames out = None
-prefixed (Some operator) at allowed frames out = cond (nat_le allowed (prefix_level operator)) (Some (state (focus.Await (prefix_level operator)) (frame.Prefix operator at allowed ∷ frames) out)) None
+prefixed (Some operator) at allowed frames out = cond (nat_le allowed (level_of operator)) (Some (state (focus.Await (level_of operator)) (frame.Operator operator at allowed ∷ frames) out)) None
+
+-- an operator that begins an operand: one that is called, or one before its operand
+abbrev pub begun : {N V : Type 0} → Option Operator → Option Operator → (at allowed : ℕ) → List (Frame N) → List (Item N V) → Option (State N V)
+begun (Some called) before at allowed frames out = Some (state (focus.Opens called at allowed) frames out)
+begun None before at allowed frames out = prefixed before at allowed frames out
 
 -- a terminal that begins an operand
 abbrev pub begin : {N V : Type 0} → Terminal N V → (at allowed : ℕ) → List (Frame N) → List (Item N V) → Option (State N V)
 begin (terminal.Name name) at allowed frames out = Some (state (focus.Named at name allowed) frames out)
 begin (terminal.Const value) at allowed frames out = Some (state (focus.Have 12 allowed) frames (out ++ item.Const at value ∷ []))
-begin (terminal.Called called) at allowed frames out = Some (state (focus.Opens called at allowed) frames out)
 begin terminal.If at allowed frames out = Some (state (focus.Await 0) (frame.Test at allowed ∷ frames) out)
 begin terminal.Open at allowed frames out = Some (state (focus.Await 0) (frame.Parenthesis allowed ∷ frames) out)
-begin terminal at allowed frames out = prefixed (prefix_of terminal) at allowed frames out
+begin terminal at allowed frames out = begun (operator_in Called terminal) (operator_in Before terminal) at allowed frames out
 
 abbrev pub step_named : {N V : Type 0} → Terminal N V → (next at : ℕ) → N → (allowed : ℕ) → List (Frame N) → List (Item N V) → Option (State N V)
 step_named terminal.Open next at name allowed frames out = Some (state (focus.Await 0) (frame.Arguments at name allowed ∷ frames) (out ++ item.NoTrees ∷ []))
@@ -135,8 +136,8 @@ abbrev pub step_ready : {N V : Type 0} → Terminal N V → (block at : ℕ) →
 step_ready terminal.Equals block at name frames out = Some (state (focus.Await 0) (frame.RightSide block kind.Function at name ∷ frames) out)
 step_ready _ _ _ _ _ _ = None
 
-abbrev pub step_opens : {N V : Type 0} → Terminal N V → Called → (at allowed : ℕ) → List (Frame N) → List (Item N V) → Option (State N V)
-step_opens terminal.Open called at allowed frames out = Some (state (focus.Await 0) (frame.Operands called at (called_arity called - 1) allowed ∷ frames) out)
+abbrev pub step_opens : {N V : Type 0} → Terminal N V → Operator → (at allowed : ℕ) → List (Frame N) → List (Item N V) → Option (State N V)
+step_opens terminal.Open called at allowed frames out = Some (state (focus.Await 0) (frame.Operands called at (arity_of called - 1) allowed ∷ frames) out)
 step_opens _ _ _ _ _ _ = None
 
 abbrev pub step_at : {N V : Type 0} → Focus N → Terminal N V → (next : ℕ) → List (Frame N) → List (Item N V) → Option (State N V)

@@ -3,45 +3,33 @@ use Rattle.std.specs.Prelude.{◌≡◌, ℕ, List, [], ◌∷◌, ◌++◌, Opt
 use Rattle.lucid_value.specs.Plain.{int, truth, word as word_value, text as string, list, eod, fault, Items, no_items, same_bytes}
 use Rattle.lucid_value.specs.Reading.{number_of, Reads}
 use Rattle.std.specs.Option.{option_or, option_map}
-use Rattle.lucid_ops.specs.declared.op.Form.TheVariants as form
-use Rattle.lucid_ops.specs.Rows.{operator_of}
+use Rattle.lucid_forms.specs.declared.operator.Operator.TheVariants.{Stream}
+use Rattle.lucid_forms.specs.declared.operator.StreamOp.TheVariants.{Whenever}
+use Rattle.lucid_forms.specs.Operators.{spelled}
 use Rattle.lucid_scan.specs.declared.token.TokenKind.{TokenKind}
 use Rattle.lucid_scan.specs.declared.token.TokenKind.TheVariants as kind
 use Rattle.lucid_scan.specs.declared.token.Token.{Token}
-use Rattle.lucid_parse.specs.declared.terminal.Infix.TheVariants as infixes
-use Rattle.lucid_parse.specs.declared.terminal.Prefix.TheVariants as prefixes
-use Rattle.lucid_parse.specs.declared.terminal.Called.TheVariants as called
 use Rattle.lucid_parse.specs.declared.terminal.Terminal.TheVariants as terminal
 use Rattle.lucid_parse.specs.Grammar.{PlainTerminal, PlacedTerminal, terminal_at}
 
--- The marks and the reserved words that stand for no data operator, each with its terminal. `-` stands for two, and two words for operators
--- that are called.
+-- The marks and the reserved words that stand for no operator, each with its terminal; `-`, which stands for two; and `wvr`, which stands for an
+-- operator with a spelling of its own.
 unfoldable pub form_terminals : List (List ℕ × PlainTerminal)
 form_terminals =
     (codes "(", terminal.Open) ∷ (codes ")", terminal.Close) ∷ (codes ",", terminal.Comma) ∷ (codes ";", terminal.Semicolon) ∷ (codes "=", terminal.Equals)
     ∷ (codes "[]", terminal.Const (list no_items)) ∷ (codes "-", terminal.Minus) ∷ (codes "where", terminal.Where) ∷ (codes "end", terminal.End)
     ∷ (codes "is", terminal.Is) ∷ (codes "current", terminal.Current) ∷ (codes "if", terminal.If) ∷ (codes "then", terminal.Then)
-    ∷ (codes "else", terminal.Else) ∷ (codes "fi", terminal.Fi) ∷ (codes "first", terminal.Prefix prefixes.First) ∷ (codes "next", terminal.Prefix prefixes.Next)
-    ∷ (codes "fby", terminal.Infix infixes.Fby) ∷ (codes "whenever", terminal.Infix infixes.Whenever) ∷ (codes "wvr", terminal.Infix infixes.Whenever)
-    ∷ (codes "asa", terminal.Infix infixes.Asa) ∷ (codes "upon", terminal.Infix infixes.Upon) ∷ (codes "attime", terminal.Infix infixes.Attime)
-    ∷ (codes "and", terminal.Infix infixes.And) ∷ (codes "or", terminal.Infix infixes.Or) ∷ (codes "true", terminal.Const (truth true))
-    ∷ (codes "false", terminal.Const (truth false)) ∷ (codes "eod", terminal.Const eod) ∷ (codes "error", terminal.Const fault)
-    ∷ (codes "substr", terminal.Called called.Substr) ∷ (codes "nth", terminal.Called called.Nth) ∷ (codes "initial", terminal.Prefix prefixes.Initial)
-    ∷ (codes "succ", terminal.Prefix prefixes.Succ) ∷ (codes "sby", terminal.Infix infixes.Sby) ∷ (codes "atspace", terminal.Infix infixes.Atspace) ∷ []
+    ∷ (codes "else", terminal.Else) ∷ (codes "fi", terminal.Fi) ∷ (codes "wvr", terminal.Operator (Stream Whenever)) ∷ (codes "true", terminal.Const (truth true))
+    ∷ (codes "false", terminal.Const (truth false)) ∷ (codes "eod", terminal.Const eod) ∷ (codes "error", terminal.Const fault) ∷ []
 
 -- what stands beside the text in the first pair that has it
 abbrev pub terminal_in : {A : Type 0} → List ℕ → List (List ℕ × A) → Option A
 terminal_in text [] = None
 terminal_in text (pair ∷ pairs) = if same_bytes text pair.0 then Some pair.1 else terminal_in text pairs
 
--- The terminal of a data operator that the text spells between its operands, or before its operand.
-abbrev pub operator_terminal : List ℕ → Option PlainTerminal
-operator_terminal text =
-    option_or (option_map (λ operator. terminal.Infix (infixes.Operator operator)) (operator_of form.Between text)) (option_map (λ operator. terminal.Prefix (prefixes.Operator operator)) (operator_of form.Before text))
-
--- The terminal of a mark or of a reserved word.
+-- The terminal of a mark or of a reserved word: one of these, or the operator that the text spells.
 abbrev pub fixed_terminal : List ℕ → Option PlainTerminal
-fixed_terminal text = option_or (terminal_in text form_terminals) (operator_terminal text)
+fixed_terminal text = option_or (terminal_in text form_terminals) (option_map terminal.Operator (spelled text))
 
 -- A token of this kind and this text stands for the terminal.
 abbrev pub StandsFor : TokenKind → List ℕ → PlainTerminal → Type 0

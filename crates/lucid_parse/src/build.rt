@@ -2,17 +2,16 @@
 
 ghost use Rattle.std.specs.Prelude.{◌≡◌, ◌≤◌, List, [], ◌∷◌, IfOk};
 ghost use Rattle.lucid_value.specs.View.{plain};
-ghost use Rattle.lucid_tree.specs.Tree.{apply, form, tree, no_trees, PlainTree};
+ghost use Rattle.lucid_tree.specs.Tree.{PlainTree};
 ghost use Rattle.lucid_tree.specs.WellMade.{depth};
-ghost use Rattle.lucid_parse.specs.Grammar.{infix_head, prefix_head, Spells, PlacedTerminal};
+ghost use Rattle.lucid_parse.specs.Grammar.{Spells, PlacedTerminal};
 ghost use Rattle.lucid_parse.specs.Fill.{fill_item};
 ghost use Rattle.lucid_parse.specs.Flat.{written};
 ghost use Rattle.lucid_parse.specs.Views.{items_of, name_now, value_now};
-ghost use Rattle.lucid_parse.specs.Build.{IsOverStreams, no_piles, plain_piles, put_on, Puts};
+ghost use Rattle.lucid_parse.specs.Build.{Takes, no_piles, plain_piles, put_on, Puts};
 
 use crate::state::{BorrowedItem, Defines, Item};
-use crate::terminal::{Called, Infix, Prefix};
-use lucid_ops::Op;
+use lucid_forms::Operator;
 use lucid_tree::{Block, Def, DefKind, Defs, Kind, Names, Places32, Tree, Trees};
 use lucid_value::{Name, Stack, Value};
 use std::alloc::{AllocError, Global};
@@ -27,80 +26,23 @@ pub struct Piles {
     blocks: Stack<Vec<Def>>,
 }
 
-// An operator over one tree.
-fn apply_one(alloc: Global, at: u32, op: Op, operand: Tree) -> Result<Tree, AllocError>
-    ensures { IfOk result (λ made. made ≡ form at (apply op 1) (tree operand no_trees)) }
-{
-    let args = Trees::from_vec(vec![in alloc; operand]?);
-    let kind = Kind::Apply { op, args };
-    Ok(Tree { at, kind })
-}
-
-// An operator over two trees.
-fn apply_two(alloc: Global, at: u32, op: Op, left: Tree, right: Tree) -> Result<Tree, AllocError>
-    ensures { IfOk result (λ made. made ≡ form at (apply op 2) (tree left (tree right no_trees))) }
-{
-    let args = Trees::from_vec(vec![in alloc; left, right]?);
-    let kind = Kind::Apply { op, args };
-    Ok(Tree { at, kind })
-}
-
-// The tree of an operator between two trees that is no data operator.
-fn stream_tree(
+// Takes so many trees off the pile, and answers them in order, or nothing where there are too few.
+fn pop_parts(
     alloc: Global,
-    at: u32,
-    operator: Infix,
-    left: Tree,
-    right: Tree,
-) -> Result<Tree, AllocError>
-    requires { IsOverStreams (infix_head operator) }
-    ensures { IfOk result (λ made. made ≡ form at (infix_head operator) (tree left (tree right no_trees))) }
+    trees: &mut Stack<Tree>,
+    count: u8,
+) -> Result<Option<Vec<Tree>>, AllocError>
+    ensures { IfOk result (λ parts. Takes count trees.old parts trees.new) }
 {
-    let left = Box::new(alloc, left)?;
-    let right = Box::new(alloc, right)?;
-    let kind = match operator {
-        Infix::Fby => Kind::Fby(left, right),
-        Infix::Sby => Kind::Sby(left, right),
-        Infix::Whenever => Kind::Whenever(left, right),
-        Infix::Asa => Kind::Asa(left, right),
-        Infix::Upon => Kind::Upon(left, right),
-        Infix::Attime => Kind::Attime(left, right),
-        Infix::Atspace => Kind::Atspace(left, right),
-        Infix::Or => Kind::Or(left, right),
-        Infix::And => Kind::And(left, right),
-        Infix::Operator(_) => unreachable!(),
-    };
-    Ok(Tree { at, kind })
-}
-
-// The tree of an operator between two trees.
-fn infix_tree(
-    alloc: Global,
-    at: u32,
-    operator: Infix,
-    left: Tree,
-    right: Tree,
-) -> Result<Tree, AllocError>
-    ensures { IfOk result (λ made. made ≡ form at (infix_head operator) (tree left (tree right no_trees))) }
-{
-    match operator {
-        Infix::Operator(op) => apply_two(alloc, at, op, left, right),
-        _ => stream_tree(alloc, at, operator, left, right),
+    let mut parts = Vec::new(alloc);
+    for i in 0..count {
+        let Some(tree) = trees.pop() else {
+            return Ok(None);
+        };
+        parts.push(tree)?;
     }
-}
-
-// The tree of an operator before a tree.
-fn prefix_tree(alloc: Global, at: u32, operator: Prefix, operand: Tree) -> Result<Tree, AllocError>
-    ensures { IfOk result (λ made. made ≡ form at (prefix_head operator) (tree operand no_trees)) }
-{
-    let kind = match operator {
-        Prefix::Operator(op) => return apply_one(alloc, at, op, operand),
-        Prefix::First => Kind::First(Box::new(alloc, operand)?),
-        Prefix::Next => Kind::Next(Box::new(alloc, operand)?),
-        Prefix::Initial => Kind::Initial(Box::new(alloc, operand)?),
-        Prefix::Succ => Kind::Succ(Box::new(alloc, operand)?),
-    };
-    Ok(Tree { at, kind })
+    parts.reverse();
+    Ok(Some(parts))
 }
 
 impl Piles {
@@ -132,62 +74,13 @@ impl Piles {
         Ok(true)
     }
 
-    fn put_infix(&mut self, alloc: Global, operator: Infix, at: u32) -> Result<bool, AllocError>
-        ensures { Puts result self.new (put_on (Item.Infix operator at) (plain_piles self.old)) }
+    fn put_operator(&mut self, alloc: Global, op: Operator, at: u32) -> Result<bool, AllocError>
+        ensures { Puts result self.new (put_on (Item.Operator op at) (plain_piles self.old)) }
     {
-        let Some(right) = self.trees.pop() else {
+        let Some(parts) = pop_parts(alloc, &mut self.trees, op.row().arity)? else {
             return Ok(false);
         };
-        let Some(left) = self.trees.pop() else {
-            return Ok(false);
-        };
-        self.trees
-            .push(infix_tree(alloc, at, operator, left, right)?)?;
-        Ok(true)
-    }
-
-    fn put_prefix(&mut self, alloc: Global, operator: Prefix, at: u32) -> Result<bool, AllocError>
-        ensures { Puts result self.new (put_on (Item.Prefix operator at) (plain_piles self.old)) }
-    {
-        let Some(operand) = self.trees.pop() else {
-            return Ok(false);
-        };
-        self.trees.push(prefix_tree(alloc, at, operator, operand)?)?;
-        Ok(true)
-    }
-
-    fn put_nth(&mut self, alloc: Global, at: u32) -> Result<bool, AllocError>
-        ensures { Puts result self.new (put_on (Item.Called Called.Nth at) (plain_piles self.old)) }
-    {
-        let Some(right) = self.trees.pop() else {
-            return Ok(false);
-        };
-        let Some(left) = self.trees.pop() else {
-            return Ok(false);
-        };
-        self.trees
-            .push(apply_two(alloc, at, Op::Nth, left, right)?)?;
-        Ok(true)
-    }
-
-    fn put_substr(&mut self, alloc: Global, at: u32) -> Result<bool, AllocError>
-        ensures { Puts result self.new (put_on (Item.Called Called.Substr at) (plain_piles self.old)) }
-    {
-        let Some(third) = self.trees.pop() else {
-            return Ok(false);
-        };
-        let Some(second) = self.trees.pop() else {
-            return Ok(false);
-        };
-        let Some(first) = self.trees.pop() else {
-            return Ok(false);
-        };
-        let args = Trees::from_vec(vec![in alloc; first, second, third]?);
-        let kind = Kind::Apply {
-            op: Op::Substr,
-            args,
-        };
-        self.trees.push(Tree { at, kind })?;
+        self.trees.push(op.form(alloc, at, parts)?)?;
         Ok(true)
     }
 
@@ -258,10 +151,7 @@ impl Piles {
     fn put_param(&mut self, at: u32, name: &Name) -> Result<bool, AllocError>
         ensures { Puts result self.new (put_on (Item.Param at name.now) (plain_piles self.old)) }
     {
-        let Some(mut names) = self.names.pop() else {
-            return Ok(false);
-        };
-        let Some(mut places) = self.places.pop() else {
+        let (Some(mut names), Some(mut places)) = (self.names.pop(), self.places.pop()) else {
             return Ok(false);
         };
         names.push(name.copy()?)?;
@@ -358,16 +248,7 @@ impl Piles {
         match item {
             Item::Const { at, value } => self.put_const(alloc, at, value),
             Item::Name { at, name } => self.put_name(at, name),
-            Item::Infix { operator, at } => self.put_infix(alloc, operator, at),
-            Item::Prefix { operator, at } => self.put_prefix(alloc, operator, at),
-            Item::Called {
-                called: Called::Nth,
-                at,
-            } => self.put_nth(alloc, at),
-            Item::Called {
-                called: Called::Substr,
-                at,
-            } => self.put_substr(alloc, at),
+            Item::Operator { op, at } => self.put_operator(alloc, op, at),
             Item::If { at } => self.put_if(alloc, at),
             Item::NoTrees => self.put_no_trees(alloc),
             Item::More => self.put_more(),

@@ -1,12 +1,21 @@
 //! The least place that is too deep.
 
 ghost use Rattle.std.specs.Prelude.{◌≡◌, List, [], ◌∷◌, None, IfOk, OnOk, reverse};
-ghost use Rattle.lucid_parse.specs.Depth.{below, found, here, least_in, search_from};
+ghost use Rattle.lucid_parse.specs.Depth.{below, copies, found, here, least_in, search_from};
 
 use crate::state::{Defines, Item};
-use crate::terminal::Called;
 use lucid_value::Stack;
 use std::alloc::{AllocError, Global};
+
+// Puts a depth onto the stack so many times.
+fn push_times(depths: &mut Stack<u32>, count: u8, depth: u32) -> Result<(), AllocError>
+    ensures { OnOk result (depths.new ≡ copies count depth depths.old) }
+{
+    for i in 0..count {
+        depths.push(depth)?;
+    }
+    Ok(())
+}
 
 /// Puts the depths that are sought from a node's parts onto the stack, the last part's last.
 fn push_below<N: Copy, V: Copy>(
@@ -18,38 +27,16 @@ fn push_below<N: Copy, V: Copy>(
 {
     let inner = depth.saturating_sub(1);
     match item {
-        Item::Infix { .. }
-        | Item::Block { .. }
-        | Item::Called {
-            called: Called::Nth,
-            ..
-        } => {
-            depths.push(inner)?;
-            depths.push(inner)
-        }
-        Item::Prefix { .. } | Item::Call { .. } => depths.push(inner),
-        Item::Param { .. } => depths.push(depth),
+        Item::Operator { op, .. } => push_times(depths, op.row().arity, inner),
+        Item::If { .. } => push_times(depths, 3, inner),
+        Item::Block { .. } => push_times(depths, 2, inner),
+        Item::Call { .. } => push_times(depths, 1, inner),
         Item::Def {
             defines: Defines::Function,
             ..
-        } => {
-            depths.push(depth)?;
-            depths.push(depth)?;
-            depths.push(depth)
-        }
-        Item::If { .. }
-        | Item::Called {
-            called: Called::Substr,
-            ..
-        } => {
-            depths.push(inner)?;
-            depths.push(inner)?;
-            depths.push(inner)
-        }
-        Item::More | Item::Def { .. } => {
-            depths.push(depth)?;
-            depths.push(depth)
-        }
+        } => push_times(depths, 3, depth),
+        Item::More | Item::Def { .. } => push_times(depths, 2, depth),
+        Item::Param { .. } => push_times(depths, 1, depth),
         Item::Const { .. } | Item::Name { .. } | Item::NoTrees | Item::NoNames | Item::NoDefs => Ok(
             (),
         ),
@@ -76,11 +63,9 @@ fn found_with<N: Copy, V: Copy>(best: Option<u32>, item: Item<N, V>, depth: u32)
     match item {
         Item::Const { at, .. }
         | Item::Name { at, .. }
-        | Item::Infix { at, .. }
-        | Item::Prefix { at, .. }
+        | Item::Operator { at, .. }
         | Item::If { at }
         | Item::Call { at, .. }
-        | Item::Called { at, .. }
         | Item::Block { at } => lesser_of(best, depth, at),
         Item::NoTrees
         | Item::More

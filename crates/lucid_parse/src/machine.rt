@@ -1,72 +1,60 @@
 //! The parser as a machine over terminals.
 
 ghost use Rattle.std.specs.Prelude.{◌≡◌, List, [], ◌∷◌, Option, Some, None, Result, OnOk, IfOk, MatchOption, if◌then◌else◌};
-ghost use Rattle.lucid_parse.specs.Grammar.{prefix_of, infix_of};
-ghost use Rattle.lucid_parse.specs.Machine.{State, state, takes, shift, inner_frames, inner_out, after_frame, close, settle, prefixed, begin, step_named, step_heads, step_headed, step_at, step, finished, finish, Steps, IsAtHead, IsAtParameters, IsOfIf};
+ghost use Rattle.lucid_ops.specs.declared.op.Form.TheVariants.{Before, Called};
+ghost use Rattle.lucid_parse.specs.Grammar.{operator_in};
+ghost use Rattle.lucid_parse.specs.Machine.{State, state, takes, shift, inner_frames, inner_out, after_frame, close, settle, begun, begin, step_named, step_heads, step_headed, step_at, step, finished, finish, Steps, IsAtHead, IsAtParameters, IsOfIf};
 
-use crate::level::{
-    as_infix, as_prefix, called_arity, infix_level, left_level, prefix_level, right_level,
-};
+use crate::level::{level_of, operator_in};
 use crate::state::{Defines, Focus, Frame, Item};
-use crate::terminal::{Called, Infix, Terminal};
+use crate::terminal::Terminal;
+use lucid_forms::Operator;
+use lucid_ops::Form;
 use lucid_value::Stack;
 use std::alloc::AllocError;
 
 /// The level of what stands alone or in parentheses, which binds tightest.
 const TIGHTEST: u8 = 12;
 
-/// Whether the operator may take an operand of this level in a place that allows a level.
-fn may_take(operator: Infix, level: u8, allowed: u8) -> bool
-    ensures { result ≡ takes operator level allowed }
+/// What follows a whole operand of the tightest level.
+fn whole<N>(allowed: u8) -> Focus<N>
+    ensures { result ≡ Focus.Have 12 allowed }
 {
-    left_level(operator) <= level && allowed <= infix_level(operator)
+    let level = TIGHTEST;
+    Focus::Have { level, allowed }
+}
+
+/// Whether the operator may take an operand of this level in a place that allows a level.
+fn may_take(op: Operator, level: u8, allowed: u8) -> bool
+    ensures { result ≡ takes op level allowed }
+{
+    op.left_level() <= level && allowed <= level_of(op)
 }
 
 /// An operator after an operand of this level in a place that allows a level.
 fn shift_to<N: Copy, V: Copy>(
     frames: &mut Stack<Frame<N>>,
     out: &mut Vec<Item<N, V>>,
-    operator: Infix,
+    op: Operator,
     at: u32,
     level: u8,
     allowed: u8,
 ) -> Result<Option<Focus<N>>, AllocError>
-    ensures { Steps result frames.new out.new.items (shift operator at level allowed frames.old out.old.items) }
+    ensures { Steps result frames.new out.new.items (shift op at level allowed frames.old out.old.items) }
 {
     let mut operand = level;
     let mut place = allowed;
     loop {
-        if may_take(operator, operand, place) {
-            frames.push(Frame::Infix {
-                operator,
-                at,
-                allowed: place,
-            })?;
-            return Ok(Some(Focus::Await {
-                allowed: right_level(operator),
-            }));
+        if may_take(op, operand, place) {
+            let allowed = place;
+            frames.push(Frame::Operator { op, at, allowed })?;
+            let allowed = op.right_level();
+            return Ok(Some(Focus::Await { allowed }));
         }
         match frames.pop() {
-            Some(
-                Frame::Infix {
-                    operator,
-                    at,
-                    allowed,
-                },
-            ) => {
-                out.push(Item::Infix { operator, at })?;
-                operand = infix_level(operator);
-                place = allowed;
-            }
-            Some(
-                Frame::Prefix {
-                    operator,
-                    at,
-                    allowed,
-                },
-            ) => {
-                out.push(Item::Prefix { operator, at })?;
-                operand = prefix_level(operator);
+            Some(Frame::Operator { op, at, allowed }) => {
+                out.push(Item::Operator { op, at })?;
+                operand = level_of(op);
                 place = allowed;
             }
             _ => return Ok(None),
@@ -74,7 +62,7 @@ fn shift_to<N: Copy, V: Copy>(
     }
 }
 
-/// Writes the operators that wait for their right operand, and answers what is open then.
+/// Writes the operators that wait for their last operand, and answers what is open then.
 fn close_operators<N: Copy, V: Copy>(
     frames: &mut Stack<Frame<N>>,
     out: &mut Vec<Item<N, V>>,
@@ -84,8 +72,7 @@ fn close_operators<N: Copy, V: Copy>(
 {
     loop {
         match frames.pop() {
-            Some(Frame::Infix { operator, at, .. }) => out.push(Item::Infix { operator, at })?,
-            Some(Frame::Prefix { operator, at, .. }) => out.push(Item::Prefix { operator, at })?,
+            Some(Frame::Operator { op, at, .. }) => out.push(Item::Operator { op, at })?,
             open => return Ok(open),
         }
     }
@@ -95,30 +82,28 @@ fn close_operators<N: Copy, V: Copy>(
 fn close_operand<N: Copy, V: Copy>(
     frames: &mut Stack<Frame<N>>,
     out: &mut Vec<Item<N, V>>,
-    called: Called,
+    op: Operator,
     at: u32,
     more: u8,
     allowed: u8,
     terminal: Terminal<N, V>,
 ) -> Result<Option<Focus<N>>, AllocError>
-    ensures { Steps result frames.new out.new.items (after_frame (Frame.Operands called at more allowed) terminal frames.old out.old.items) }
+    ensures { Steps result frames.new out.new.items (after_frame (Frame.Operands op at more allowed) terminal frames.old out.old.items) }
 {
     match terminal {
         Terminal::Comma if more != 0 => {
+            let more = more - 1;
             frames.push(Frame::Operands {
-                called,
+                op,
                 at,
-                more: more - 1,
+                more,
                 allowed,
             })?;
             Ok(Some(Focus::Await { allowed: 0 }))
         }
         Terminal::Close if more == 0 => {
-            out.push(Item::Called { called, at })?;
-            Ok(Some(Focus::Have {
-                level: TIGHTEST,
-                allowed,
-            }))
+            out.push(Item::Operator { op, at })?;
+            Ok(Some(whole(allowed)))
         }
         _ => Ok(None),
     }
@@ -144,10 +129,7 @@ fn close_argument<N: Copy, V: Copy>(
         Terminal::Close => {
             out.push(Item::More)?;
             out.push(Item::Call { at, name })?;
-            Ok(Some(Focus::Have {
-                level: TIGHTEST,
-                allowed,
-            }))
+            Ok(Some(whole(allowed)))
         }
         _ => Ok(None),
     }
@@ -174,10 +156,7 @@ fn close_branch<N: Copy, V: Copy>(
         }
         (Frame::No { at, allowed }, Terminal::Fi) => {
             out.push(Item::If { at })?;
-            Ok(Some(Focus::Have {
-                level: TIGHTEST,
-                allowed,
-            }))
+            Ok(Some(whole(allowed)))
         }
         _ => Ok(None),
     }
@@ -193,10 +172,7 @@ fn close_frame<N: Copy, V: Copy>(
     ensures { Steps result frames.new out.new.items (after_frame frame terminal frames.old out.old.items) }
 {
     match (frame, terminal) {
-        (Frame::Parenthesis { allowed }, Terminal::Close) => Ok(Some(Focus::Have {
-            level: TIGHTEST,
-            allowed,
-        })),
+        (Frame::Parenthesis { allowed }, Terminal::Close) => Ok(Some(whole(allowed))),
         (Frame::Test { .. } | Frame::Yes { .. } | Frame::No { .. }, _) => close_branch(
             frames, out, frame, terminal,
         ),
@@ -205,13 +181,13 @@ fn close_frame<N: Copy, V: Copy>(
         ),
         (
             Frame::Operands {
-                called,
+                op,
                 at,
                 more,
                 allowed,
             },
             _,
-        ) => close_operand(frames, out, called, at, more, allowed, terminal),
+        ) => close_operand(frames, out, op, at, more, allowed, terminal),
         (
             Frame::RightSide {
                 block,
@@ -262,9 +238,32 @@ fn settle_to<N: Copy, V: Copy>(
 ) -> Result<Option<Focus<N>>, AllocError>
     ensures { Steps result frames.new out.new.items (settle terminal at level allowed frames.old out.old.items) }
 {
-    match as_infix(terminal) {
-        Some(operator) => shift_to(frames, out, operator, at, level, allowed),
+    match operator_in(Form::Between, terminal) {
+        Some(op) => shift_to(frames, out, op, at, level, allowed),
         None => close_at(frames, out, terminal, at),
+    }
+}
+
+/// An operator that begins an operand, in a place that allows a level.
+fn begin_operator<N: Copy, V: Copy>(
+    frames: &mut Stack<Frame<N>>,
+    out: &mut Vec<Item<N, V>>,
+    terminal: Terminal<N, V>,
+    at: u32,
+    allowed: u8,
+) -> Result<Option<Focus<N>>, AllocError>
+    ensures { Steps result frames.new out.new.items (begun (operator_in Called terminal) (operator_in Before terminal) at allowed frames.old out.old.items) }
+{
+    if let Some(op) = operator_in(Form::Called, terminal) {
+        return Ok(Some(Focus::Opens { op, at, allowed }));
+    }
+    match operator_in(Form::Before, terminal) {
+        Some(op) if allowed <= level_of(op) => {
+            frames.push(Frame::Operator { op, at, allowed })?;
+            let allowed = level_of(op);
+            Ok(Some(Focus::Await { allowed }))
+        }
+        _ => Ok(None),
     }
 }
 
@@ -282,16 +281,8 @@ fn begin_at<N: Copy, V: Copy>(
         Terminal::Name(name) => Ok(Some(Focus::Named { at, name, allowed })),
         Terminal::Const(value) => {
             out.push(Item::Const { at, value })?;
-            Ok(Some(Focus::Have {
-                level: TIGHTEST,
-                allowed,
-            }))
+            Ok(Some(whole(allowed)))
         }
-        Terminal::Called(called) => Ok(Some(Focus::Opens {
-            called,
-            at,
-            allowed,
-        })),
         Terminal::If => {
             frames.push(Frame::Test { at, allowed })?;
             Ok(Some(Focus::Await { allowed: 0 }))
@@ -300,19 +291,7 @@ fn begin_at<N: Copy, V: Copy>(
             frames.push(Frame::Parenthesis { allowed })?;
             Ok(Some(Focus::Await { allowed: 0 }))
         }
-        _ => match as_prefix(terminal) {
-            Some(operator) if allowed <= prefix_level(operator) => {
-                frames.push(Frame::Prefix {
-                    operator,
-                    at,
-                    allowed,
-                })?;
-                Ok(Some(Focus::Await {
-                    allowed: prefix_level(operator),
-                }))
-            }
-            _ => Ok(None),
-        },
+        _ => begin_operator(frames, out, terminal, at, allowed),
     }
 }
 
@@ -442,16 +421,13 @@ pub fn step_to<N: Copy, V: Copy>(
             step_name(frames, out, terminal, next, at, name, allowed)
         }
         Focus::Have { level, allowed } => settle_to(frames, out, terminal, next, level, allowed),
-        Focus::Opens {
-            called,
-            at,
-            allowed,
-        } => match terminal {
+        Focus::Opens { op, at, allowed } => match terminal {
             Terminal::Open => {
+                let more = op.row().arity - 1;
                 frames.push(Frame::Operands {
-                    called,
+                    op,
                     at,
-                    more: called_arity(called) - 1,
+                    more,
                     allowed,
                 })?;
                 Ok(Some(Focus::Await { allowed: 0 }))

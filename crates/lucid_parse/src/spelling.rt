@@ -3,11 +3,12 @@ ghost use Rattle.std.specs.Prelude.{◌≡◌, map};
 ghost use Rattle.std.specs.Option.{option_map};
 ghost use Rattle.lucid_value.specs.View.{plain};
 ghost use Rattle.lucid_parse.specs.Views.{plain_terminal};
-ghost use Rattle.lucid_parse.specs.Terminals.{terminal_in, operator_terminal, fixed_terminal};
+ghost use Rattle.lucid_parse.specs.Terminals.{terminal_in, fixed_terminal};
+ghost use Rattle.lucid_forms.specs.Operators.{spelled};
 ghost use Rattle.lucid_parse.specs.Spellings.{fixed_value, fixed_plain, pair_of};
 
-use crate::terminal::{Called, Infix, Prefix, Terminal};
-use lucid_ops::{Form, Op};
+use crate::terminal::Terminal;
+use lucid_forms::{Operator, StreamOp};
 use lucid_value::{List, Name, Value};
 use std::alloc::Global;
 use std::convert::Infallible;
@@ -41,8 +42,8 @@ macro_rules! spelling {
     };
 }
 
-// The marks and the reserved words that stand for no data operator, but `-`, which stands for two, and those of called ones.
-const FORMS: [Spelling; 35] = [
+// The marks and the reserved words that stand for no operator; `-`, which stands for two; and a second spelling of an operator.
+const FORMS: [Spelling; 20] = [
     spelling!(b"(", Terminal::Open),
     spelling!(b")", Terminal::Close),
     spelling!(b",", Terminal::Comma),
@@ -58,26 +59,14 @@ const FORMS: [Spelling; 35] = [
     spelling!(b"then", Terminal::Then),
     spelling!(b"else", Terminal::Else),
     spelling!(b"fi", Terminal::Fi),
-    spelling!(b"first", Terminal::Prefix(Prefix::First)),
-    spelling!(b"next", Terminal::Prefix(Prefix::Next)),
-    spelling!(b"fby", Terminal::Infix(Infix::Fby)),
-    spelling!(b"whenever", Terminal::Infix(Infix::Whenever)),
-    spelling!(b"wvr", Terminal::Infix(Infix::Whenever)),
-    spelling!(b"asa", Terminal::Infix(Infix::Asa)),
-    spelling!(b"upon", Terminal::Infix(Infix::Upon)),
-    spelling!(b"attime", Terminal::Infix(Infix::Attime)),
-    spelling!(b"and", Terminal::Infix(Infix::And)),
-    spelling!(b"or", Terminal::Infix(Infix::Or)),
+    spelling!(
+        b"wvr",
+        Terminal::Operator(Operator::Stream(StreamOp::Whenever))
+    ),
     spelling!(b"true", Terminal::Const(FixedValue::True)),
     spelling!(b"false", Terminal::Const(FixedValue::False)),
     spelling!(b"eod", Terminal::Const(FixedValue::Eod)),
     spelling!(b"error", Terminal::Const(FixedValue::Error)),
-    spelling!(b"substr", Terminal::Called(Called::Substr)),
-    spelling!(b"nth", Terminal::Called(Called::Nth)),
-    spelling!(b"initial", Terminal::Prefix(Prefix::Initial)),
-    spelling!(b"succ", Terminal::Prefix(Prefix::Succ)),
-    spelling!(b"sby", Terminal::Infix(Infix::Sby)),
-    spelling!(b"atspace", Terminal::Infix(Infix::Atspace)),
 ];
 
 impl FixedValue {
@@ -107,15 +96,12 @@ fn terminal_among(bytes: &[u8], spellings: &[Spelling]) -> Option<FixedTerminal>
     None
 }
 
-// The terminal of a data operator that the bytes spell between its operands, or before its operand.
+// The terminal of the operator that the bytes spell.
 fn operator_terminal(bytes: &[u8]) -> Option<FixedTerminal>
-    ensures { option_map fixed_plain result ≡ operator_terminal bytes.now }
+    ensures { option_map fixed_plain result ≡ option_map Terminal.Operator (spelled bytes.now) }
 {
-    if let Some(op) = Op::find(Form::Between, bytes) {
-        return Some(Terminal::Infix(Infix::Operator(op)));
-    }
-    match Op::find(Form::Before, bytes) {
-        Some(op) => Some(Terminal::Prefix(Prefix::Operator(op))),
+    match Operator::find(bytes) {
+        Some(op) => Some(Terminal::Operator(op)),
         None => None,
     }
 }
@@ -136,9 +122,7 @@ pub fn with_value(alloc: Global, terminal: FixedTerminal) -> Terminal<Name, Valu
 {
     match terminal {
         Terminal::Const(value) => Terminal::Const(value.value(alloc)),
-        Terminal::Infix(operator) => Terminal::Infix(operator),
-        Terminal::Prefix(operator) => Terminal::Prefix(operator),
-        Terminal::Called(called) => Terminal::Called(called),
+        Terminal::Operator(op) => Terminal::Operator(op),
         Terminal::Minus => Terminal::Minus,
         Terminal::Is => Terminal::Is,
         Terminal::Current => Terminal::Current,

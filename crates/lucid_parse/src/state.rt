@@ -1,6 +1,6 @@
 //! What the parser keeps while it reads. `N` is what it holds of a name, and `V` of a constant's value.
 
-use crate::terminal::{Called, Infix, Prefix};
+use lucid_forms::Operator;
 use lucid_value::{Name, Value};
 
 /// What a definition defines its name as.
@@ -15,15 +15,9 @@ pub enum Defines {
 /// whole form allows.
 #[derive(Clone, Copy)]
 pub enum Frame<N> {
-    /// An operator whose left operand is written, and whose right one is read.
-    Infix {
-        operator: Infix,
-        at: u32,
-        allowed: u8,
-    },
-    /// An operator whose operand is read.
-    Prefix {
-        operator: Prefix,
+    /// An operator between or before its operands, the last of which is read.
+    Operator {
+        op: Operator,
         at: u32,
         allowed: u8,
     },
@@ -54,7 +48,7 @@ pub enum Frame<N> {
     },
     /// A called operator, with the number of operands behind this one.
     Operands {
-        called: Called,
+        op: Operator,
         at: u32,
         more: u8,
         allowed: u8,
@@ -73,60 +67,25 @@ pub enum Frame<N> {
 #[derive(Clone, Copy)]
 pub enum Focus<N> {
     /// An operand of this level or a tighter one.
-    Await {
-        allowed: u8,
-    },
+    Await { allowed: u8 },
     /// What follows a name.
-    Named {
-        at: u32,
-        name: N,
-        allowed: u8,
-    },
+    Named { at: u32, name: N, allowed: u8 },
     /// The parenthesis of a called operator.
-    Opens {
-        called: Called,
-        at: u32,
-        allowed: u8,
-    },
+    Opens { op: Operator, at: u32, allowed: u8 },
     /// What follows an operand of this level.
-    Have {
-        level: u8,
-        allowed: u8,
-    },
+    Have { level: u8, allowed: u8 },
     /// A definition or the end of the block.
-    Heads {
-        block: u32,
-    },
+    Heads { block: u32 },
     /// What follows the name of a definition.
-    Headed {
-        block: u32,
-        at: u32,
-        name: N,
-    },
+    Headed { block: u32, at: u32, name: N },
     /// The same behind `is`.
-    Frozen {
-        block: u32,
-        at: u32,
-        name: N,
-    },
+    Frozen { block: u32, at: u32, name: N },
     /// The next parameter of the definition.
-    Names {
-        block: u32,
-        at: u32,
-        name: N,
-    },
+    Names { block: u32, at: u32, name: N },
     /// A comma or the end of its parameters.
-    Listed {
-        block: u32,
-        at: u32,
-        name: N,
-    },
+    Listed { block: u32, at: u32, name: N },
     /// The equals sign behind its parameters.
-    Ready {
-        block: u32,
-        at: u32,
-        name: N,
-    },
+    Ready { block: u32, at: u32, name: N },
 }
 
 /// A node of the tree that is read, with its place. Nodes are written behind their parts.
@@ -134,12 +93,8 @@ pub enum Focus<N> {
 pub enum Item<N, V> {
     Const { at: u32, value: V },
     Name { at: u32, name: N },
-    /// An operator of the two trees before it.
-    Infix { operator: Infix, at: u32 },
-    /// An operator of the tree before it.
-    Prefix { operator: Prefix, at: u32 },
-    /// A called operator, of as many trees before it as it has arguments.
-    Called { called: Called, at: u32 },
+    /// An operator of as many trees before it as it has operands.
+    Operator { op: Operator, at: u32 },
     /// An `if` of the three trees before it.
     If { at: u32 },
     /// An empty list of arguments.

@@ -1,39 +1,7 @@
 //! The terminals of the grammar: what tokens stand for.
 
-use lucid_ops::Op;
+use lucid_forms::Operator;
 use lucid_value::{Name, Value};
-
-/// An operator between two operands: a data operator, or one over streams.
-#[derive(Clone, Copy)]
-pub enum Infix {
-    Operator(Op),
-    Fby,
-    Sby,
-    Whenever,
-    Asa,
-    Upon,
-    Attime,
-    Atspace,
-    Or,
-    And,
-}
-
-/// An operator before its operand: a data operator, or one over streams.
-#[derive(Clone, Copy)]
-pub enum Prefix {
-    Operator(Op),
-    First,
-    Next,
-    Initial,
-    Succ,
-}
-
-/// An operator that is called.
-#[derive(Clone, Copy)]
-pub enum Called {
-    Substr,
-    Nth,
-}
 
 /// What a token stands for: a name, a constant, or a mark or reserved word. `N` is what it holds of a name, and `V` of a
 /// constant's value.
@@ -41,9 +9,7 @@ pub enum Called {
 pub enum Terminal<N, V> {
     Name(N),
     Const(V),
-    Infix(Infix),
-    Prefix(Prefix),
-    Called(Called),
+    Operator(Operator),
     /// `-`, which stands between two operands or before one.
     Minus,
     Is,
@@ -83,9 +49,7 @@ impl TerminalAt {
         match &self.terminal {
             Terminal::Name(name) => Terminal::Name(name),
             Terminal::Const(value) => Terminal::Const(value),
-            Terminal::Infix(operator) => Terminal::Infix(*operator),
-            Terminal::Prefix(operator) => Terminal::Prefix(*operator),
-            Terminal::Called(operator) => Terminal::Called(*operator),
+            Terminal::Operator(op) => Terminal::Operator(*op),
             Terminal::Minus => Terminal::Minus,
             Terminal::Is => Terminal::Is,
             Terminal::Current => Terminal::Current,

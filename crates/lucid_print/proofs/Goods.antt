@@ -16,21 +16,16 @@ use Rattle.lucid_scan.specs.declared.token.TokenKind.{TokenKind}
 use Rattle.lucid_scan.specs.declared.token.TokenKind.TheVariants as kind
 use Rattle.lucid_scan.specs.Texts.{is_mark, is_word_value, is_text_value, IsTokenText}
 use Rattle.lucid_scan.specs.Laws.{Stops}
-use Rattle.lucid_parse.specs.declared.terminal.Infix.{Infix}
-use Rattle.lucid_parse.specs.declared.terminal.Infix.TheVariants as infixes
-use Rattle.lucid_parse.specs.declared.terminal.Prefix.{Prefix}
-use Rattle.lucid_parse.specs.declared.terminal.Prefix.TheVariants as prefixes
-use Rattle.lucid_parse.specs.declared.terminal.Called.{Called}
-use Rattle.lucid_parse.specs.declared.terminal.Called.TheVariants as called
 use Rattle.lucid_parse.specs.declared.terminal.Terminal.TheVariants as terminal
-use Rattle.std.specs.Option.{option_or, option_map}
-use Rattle.lucid_ops.specs.declared.op.Op.{Op}
 use Rattle.lucid_ops.specs.declared.op.Op.TheVariants as op
-use Rattle.lucid_ops.specs.declared.op.Form.TheVariants as shape
-use Rattle.lucid_ops.specs.Rows.{operator_of}
-use Rattle.lucid_parse.specs.Grammar.{PlainTerminal, infix_as_written, prefix_as_written}
-use Rattle.lucid_parse.specs.Terminals.{StandsFor, terminal_in, operator_terminal, fixed_terminal, form_terminals}
-use Rattle.lucid_print.proofs.Terminals.{terminal_of, terminal_before, terminal_text, is_open}
+use Rattle.lucid_forms.specs.declared.operator.Operator.{Operator}
+use Rattle.lucid_forms.specs.declared.operator.Operator.TheVariants.{Data, Stream}
+use Rattle.lucid_forms.specs.declared.operator.StreamOp.TheVariants.{Fby}
+use Rattle.lucid_forms.specs.Operators.{spelled}
+use Rattle.lucid_parse.specs.Grammar.{PlainTerminal}
+use Rattle.lucid_parse.specs.Terminals.{StandsFor, terminal_in, fixed_terminal, form_terminals}
+use Rattle.std.specs.Option.{option_or, option_map}
+use Rattle.lucid_print.proofs.Terminals.{terminal_of, terminal_text, is_open, not_open}
 
 -- the bytes that may come behind a terminal's text
 abbrev pub stoppers : List ℕ
@@ -136,10 +131,6 @@ pub equals_good : Good terminal.Equals
 unfolding form_terminals reserved_words
 equals_good = one_good terminal.Equals 61 refl refl refl refl refl
 
-pub minus_good : Good terminal.Minus
-unfolding form_terminals reserved_words
-minus_good = one_good terminal.Minus 45 refl refl refl refl refl
-
 pub is_good : Good terminal.Is
 unfolding form_terminals reserved_words
 is_good = reserved_good terminal.Is refl refl refl
@@ -172,53 +163,49 @@ pub fi_good : Good terminal.Fi
 unfolding form_terminals reserved_words
 fi_good = reserved_good terminal.Fi refl refl refl
 
-pub between_good : (b : Infix) → infix_as_written b ≡ Some b → Good (terminal_of b)
-unfolding form_terminals reserved_words
-between_good (infixes.Operator op.Sub) w = minus_good
-between_good (infixes.Operator op.Add) w = one_good (terminal.Infix (infixes.Operator op.Add)) 43 refl refl refl refl refl
-between_good (infixes.Operator op.Mul) w = one_good (terminal.Infix (infixes.Operator op.Mul)) 42 refl refl refl refl refl
-between_good (infixes.Operator op.Lt) w = one_good (terminal.Infix (infixes.Operator op.Lt)) 60 refl refl refl refl refl
-between_good (infixes.Operator op.Gt) w = one_good (terminal.Infix (infixes.Operator op.Gt)) 62 refl refl refl refl refl
-between_good (infixes.Operator op.Join) w = one_good (terminal.Infix (infixes.Operator op.Join)) 94 refl refl refl refl refl
-between_good (infixes.Operator op.Le) w = two_good (terminal.Infix (infixes.Operator op.Le)) refl refl refl
-between_good (infixes.Operator op.Ge) w = two_good (terminal.Infix (infixes.Operator op.Ge)) refl refl refl
-between_good (infixes.Operator op.Pow) w = two_good (terminal.Infix (infixes.Operator op.Pow)) refl refl refl
-between_good (infixes.Operator op.Cons) w = two_good (terminal.Infix (infixes.Operator op.Cons)) refl refl refl
-between_good (infixes.Operator op.Append) w = two_good (terminal.Infix (infixes.Operator op.Append)) refl refl refl
-between_good (infixes.Operator op.Div) w = reserved_good (terminal.Infix (infixes.Operator op.Div)) refl refl refl
-between_good (infixes.Operator op.Mod) w = reserved_good (terminal.Infix (infixes.Operator op.Mod)) refl refl refl
-between_good (infixes.Operator op.Eq) w = reserved_good (terminal.Infix (infixes.Operator op.Eq)) refl refl refl
-between_good (infixes.Operator op.Ne) w = reserved_good (terminal.Infix (infixes.Operator op.Ne)) refl refl refl
-between_good (infixes.Operator op.Cmp) w = reserved_good (terminal.Infix (infixes.Operator op.Cmp)) refl refl refl
-between_good (infixes.Operator _) w = cc
-between_good b w = reserved_good (terminal.Infix b) refl refl refl
+-- The spelling of each operator is a reserved word, or a mark of one byte or of two, which no byte that may come behind makes longer.
+one_mark : List ℕ → Bool
+one_mark (m ∷ []) = is_mark (m ∷ []) && every (λ b. not (is_mark (m ∷ b ∷ []))) stoppers
+one_mark _ = false
 
-pub before_good : (u : Prefix) → prefix_as_written u ≡ Some u → Good (terminal_before u)
-unfolding form_terminals reserved_words
-before_good (prefixes.Operator op.Neg) w = minus_good
-before_good (prefixes.Operator op.Abs) w = reserved_good (terminal.Prefix (prefixes.Operator op.Abs)) refl refl refl
-before_good (prefixes.Operator op.Head) w = reserved_good (terminal.Prefix (prefixes.Operator op.Head)) refl refl refl
-before_good (prefixes.Operator op.IsAtom) w = reserved_good (terminal.Prefix (prefixes.Operator op.IsAtom)) refl refl refl
-before_good (prefixes.Operator op.IsEod) w = reserved_good (terminal.Prefix (prefixes.Operator op.IsEod)) refl refl refl
-before_good (prefixes.Operator op.IsError) w = reserved_good (terminal.Prefix (prefixes.Operator op.IsError)) refl refl refl
-before_good (prefixes.Operator op.IsInt) w = reserved_good (terminal.Prefix (prefixes.Operator op.IsInt)) refl refl refl
-before_good (prefixes.Operator op.IsList) w = reserved_good (terminal.Prefix (prefixes.Operator op.IsList)) refl refl refl
-before_good (prefixes.Operator op.IsNull) w = reserved_good (terminal.Prefix (prefixes.Operator op.IsNull)) refl refl refl
-before_good (prefixes.Operator op.IsString) w = reserved_good (terminal.Prefix (prefixes.Operator op.IsString)) refl refl refl
-before_good (prefixes.Operator op.IsTruth) w = reserved_good (terminal.Prefix (prefixes.Operator op.IsTruth)) refl refl refl
-before_good (prefixes.Operator op.IsWord) w = reserved_good (terminal.Prefix (prefixes.Operator op.IsWord)) refl refl refl
-before_good (prefixes.Operator op.Length) w = reserved_good (terminal.Prefix (prefixes.Operator op.Length)) refl refl refl
-before_good (prefixes.Operator op.MakeString) w = reserved_good (terminal.Prefix (prefixes.Operator op.MakeString)) refl refl refl
-before_good (prefixes.Operator op.MakeWord) w = reserved_good (terminal.Prefix (prefixes.Operator op.MakeWord)) refl refl refl
-before_good (prefixes.Operator op.Not) w = reserved_good (terminal.Prefix (prefixes.Operator op.Not)) refl refl refl
-before_good (prefixes.Operator op.Tail) w = reserved_good (terminal.Prefix (prefixes.Operator op.Tail)) refl refl refl
-before_good (prefixes.Operator _) w = cc
-before_good u w = reserved_good (terminal.Prefix u) refl refl refl
+two_mark : List ℕ → Bool
+two_mark bytes = eqb (length bytes) 2 && is_mark bytes
 
-pub called_good : (c : Called) → Good (terminal.Called c)
-unfolding form_terminals reserved_words
-called_good called.Substr = reserved_good (terminal.Called called.Substr) refl refl refl
-called_good called.Nth = reserved_good (terminal.Called called.Nth) refl refl refl
+operator_stands : (o : Operator) → fixed_terminal (terminal_text (terminal_of o)) ≡ Some (terminal_of o)
+unfolding form_terminals
+operator_stands (Data op.Sub) = refl
+operator_stands (Data op.Neg) = refl
+operator_stands (Data _) = refl
+operator_stands (Stream Fby) = refl
+operator_stands (Stream _) = refl
+
+operator_token : (o : Operator) → (is_reserved (terminal_text (terminal_of o)) || (one_mark (terminal_text (terminal_of o)) || two_mark (terminal_text (terminal_of o)))) ≡ true
+unfolding reserved_words one_mark two_mark
+operator_token (Data op.Sub) = refl
+operator_token (Data op.Neg) = refl
+operator_token (Data _) = refl
+operator_token (Stream Fby) = refl
+operator_token (Stream _) = refl
+
+one_mark_good : (s : PlainTerminal) (bytes : List ℕ) → terminal_text s ≡ bytes → one_mark bytes ≡ true → fixed_terminal (terminal_text s) ≡ Some s → is_open s ≡ false → Good s
+unfolding one_mark
+one_mark_good s (m ∷ []) t h e o =
+    let two = and_parts (is_mark (m ∷ [])) (every (λ b. not (is_mark (m ∷ b ∷ []))) stoppers) h in
+    one_good s m t e (ap is_mark t ∙ two.0) two.1 o
+one_mark_good s [] t h e o = cc
+one_mark_good s (m ∷ b ∷ bs) t h e o = cc
+
+pub operator_good : (o : Operator) → Good (terminal_of o)
+unfolding two_mark
+operator_good o =
+    let bytes = terminal_text (terminal_of o) in
+    elim (or_cases (is_reserved bytes) (one_mark bytes || two_mark bytes) (operator_token o)) [
+      | inl r ↦ reserved_good (terminal_of o) (operator_stands o) r (not_open o)
+      | inr m ↦ elim (or_cases (one_mark bytes) (two_mark bytes) m) [
+        | inl one ↦ one_mark_good (terminal_of o) bytes refl one (operator_stands o) (not_open o)
+        | inr two ↦ let parts = and_parts (eqb (length bytes) 2) (is_mark bytes) two in two_good (terminal_of o) (eqb-true (length bytes) 2 parts.0) (operator_stands o) parts.1
+      ]
+    ]
 
 truth_good : (b : Bool) → Good (terminal.Const (truth b))
 unfolding form_terminals reserved_words
@@ -348,16 +335,14 @@ fixed_in bytes (p ∷ ps) s h e =
     of true f k l = let same : p.1 ≡ s = cc in sym (ap is_fixed same) ∙ k
     of false f k l = l f
 
-operator_fixed : (a b : Option Op) (s : PlainTerminal)
-    → option_or (option_map (λ o. terminal.Infix (infixes.Operator o)) a) (option_map (λ o. terminal.Prefix (prefixes.Operator o)) b) ≡ Some s → is_fixed s ≡ true
-operator_fixed (Some o) b s e = let same : terminal.Infix (infixes.Operator o) ≡ s = cc in sym (ap is_fixed same)
-operator_fixed None (Some o) s e = let same : terminal.Prefix (prefixes.Operator o) ≡ s = cc in sym (ap is_fixed same)
-operator_fixed None None s e = cc
+operator_fixed : (a : Option Operator) (s : PlainTerminal) → option_map terminal.Operator a ≡ Some s → is_fixed s ≡ true
+operator_fixed (Some o) s e = let same : terminal.Operator o ≡ s = cc in sym (ap is_fixed same)
+operator_fixed None s e = cc
 
-fixed_by : (bytes : List ℕ) (o : Option PlainTerminal) (s : PlainTerminal) → terminal_in bytes form_terminals ≡ o → option_or o (operator_terminal bytes) ≡ Some s → is_fixed s ≡ true
+fixed_by : (bytes : List ℕ) (o : Option PlainTerminal) (s : PlainTerminal) → terminal_in bytes form_terminals ≡ o → option_or o (option_map terminal.Operator (spelled bytes)) ≡ Some s → is_fixed s ≡ true
 unfolding form_terminals
 fixed_by bytes (Some x) s f e = fixed_in bytes form_terminals s refl (f ∙ e)
-fixed_by bytes None s f e = operator_fixed (operator_of shape.Between bytes) (operator_of shape.Before bytes) s e
+fixed_by bytes None s f e = operator_fixed (spelled bytes) s e
 
 fixed_fixed : (bytes : List ℕ) (s : PlainTerminal) → fixed_terminal bytes ≡ Some s → is_fixed s ≡ true
 fixed_fixed bytes s e = fixed_by bytes (terminal_in bytes form_terminals) s refl e

@@ -6,21 +6,17 @@ use Rattle.lucid_value.specs.Plain.{PlainValue}
 use Rattle.lucid_value.specs.Laws.{TextIsRead}
 use Rattle.lucid_tree.specs.Tree.{const, choose, PlainTree, form, name, call, block, PlainTrees, no_trees, tree, PlainDefs, no_defs, defines, defines_function, defines_current}
 use Rattle.lucid_tree.specs.Size.{count}
-use Rattle.lucid_parse.specs.declared.terminal.Infix.{Infix}
-use Rattle.lucid_parse.specs.declared.terminal.Infix.TheVariants as infixes
-use Rattle.lucid_parse.specs.declared.terminal.Prefix.{Prefix}
-use Rattle.lucid_parse.specs.declared.terminal.Prefix.TheVariants as prefixes
-use Rattle.lucid_parse.specs.declared.terminal.Called.{Called}
+use Rattle.lucid_ops.specs.declared.op.Form.TheVariants.{Before, Between, Called}
+use Rattle.lucid_forms.specs.declared.operator.Operator.{Operator}
 use Rattle.lucid_parse.specs.declared.terminal.Terminal.TheVariants as terminal
-use Rattle.lucid_ops.specs.declared.op.Op.TheVariants as op
 use Rattle.lucid_parse.specs.Grammar
-use Rattle.lucid_parse.specs.Grammar.{PlainTerminal, PlacedTerminal, terminal_at, infix_as_written, prefix_as_written, Spells, SpellsArgs, SpellsDefs, SpellsNames, trees_and, def_before, defs_and, Parameter, parameter, names_of, places_of, Defined, Plain, Function, Current, infix_of, prefix_of, infix_head, prefix_head, called_head, called_arity}
+use Rattle.lucid_parse.specs.Grammar.{PlainTerminal, PlacedTerminal, terminal_at, as_form, Spells, SpellsArgs, SpellsDefs, SpellsNames, trees_and, def_before, defs_and, Parameter, parameter, names_of, places_of, Defined, Plain, Function, Current, head, arity_of}
 use Rattle.lucid_print.specs.Styles.{style_level, level}
 use Rattle.lucid_print.specs.Canonical.{placed, parted, parted_more, texts, form_text, source, parts, definitions}
 use Rattle.lucid_print.specs.Again.{unplaced, all_unplaced, defs_unplaced}
 use Rattle.lucid_print.specs.Views.{part_of}
-use Rattle.lucid_print.proofs.Terminals.{terminal_of, terminal_before, stands_infix, stands_prefix, terminal_is, terminal_before_is, terminal_text, is_open, after, style-between, style-before, style-called}
-use Rattle.lucid_print.proofs.Goods.{Good, IsWritten, open_good, close_good, comma_good, semicolon_good, equals_good, is_good, current_good, where_good, end_good, if_good, then_good, else_good, fi_good, minus_good, between_good, before_good, called_good, const_good, written_name_good}
+use Rattle.lucid_print.proofs.Terminals.{terminal_of, stands_as, terminal_is, terminal_text, is_open, after, not_open, not_closer, between_not_callable, before_not_callable, callable, style-between, style-before, style-called}
+use Rattle.lucid_print.proofs.Goods.{Good, IsWritten, open_good, close_good, comma_good, semicolon_good, equals_good, is_good, current_good, where_good, end_good, if_good, then_good, else_good, fi_good, operator_good, const_good, written_name_good}
 use Rattle.lucid_print.proofs.Chunks.{Chunk, chunk_as, IsPlain, single, led, operated, trailed, ended, closed, called, with_comma, Definitions, no_definitions, and_definition, blocked}
 
 abbrev pub terminals_of : List PlacedTerminal → List PlainTerminal
@@ -82,7 +78,7 @@ looser (Grammar.spells_prefix s u is low sx) k h = Grammar.spells_prefix s u is 
 looser (Grammar.spells_inner q sx) k h = Grammar.spells_inner q sx
 looser (Grammar.spells_if p q r sx sy sz) k h = Grammar.spells_if p q r sx sy sz
 looser (Grammar.spells_call q sa) k h = Grammar.spells_call q sa
-looser (Grammar.spells_called q c n sa) k h = Grammar.spells_called q c n sa
+looser (Grammar.spells_called q s c is n sa) k h = Grammar.spells_called q s c is n sa
 looser (Grammar.spells_block p low sx sd) k h = Grammar.spells_block p (omega (arith, low, h)) sx sd
 
 along : {k : ℕ} {ts us : List PlacedTerminal} {t : PlainTree} → us ≡ ts → Spells k ts t → Spells k us t
@@ -130,13 +126,11 @@ at_level k t p = of (nat_lt (level t) k) refl
     of false e = bare e
 
 -- the operators stand with blanks
-between_plain : (b : Infix) → infix_as_written b ≡ Some b → IsPlain (terminal_of b)
-between_plain (infixes.Operator op.Sub) w = record { opens = refl; closes = refl; calls = refl; good = minus_good }
-between_plain b w = record { opens = refl; closes = refl; calls = refl; good = between_good b w }
+between_plain : (b : Operator) → as_form Between b ≡ Some b → IsPlain (terminal_of b)
+between_plain b w = record { opens = not_open b; closes = not_closer b; calls = between_not_callable b w; good = operator_good b }
 
-before_plain : (u : Prefix) → prefix_as_written u ≡ Some u → IsPlain (terminal_before u)
-before_plain (prefixes.Operator op.Neg) w = record { opens = refl; closes = refl; calls = refl; good = minus_good }
-before_plain u w = record { opens = refl; closes = refl; calls = refl; good = before_good u w }
+before_plain : (u : Operator) → as_form Before u ≡ Some u → IsPlain (terminal_of u)
+before_plain u w = record { opens = not_open u; closes = not_closer u; calls = before_not_callable u w; good = operator_good u }
 
 plain_if : IsPlain terminal.If
 plain_if = record { opens = refl; closes = refl; calls = refl; good = if_good }
@@ -186,14 +180,14 @@ print_name at n g = record {
       };
 }
 
-between_text : (b : Infix) → infix_as_written b ≡ Some b → (at : ℕ) (x y : PlainTree)
+between_text : (b : Operator) → as_form Between b ≡ Some b → (at : ℕ) (x y : PlainTree)
     → placed (Grammar.left b) (part_of x) ++ 32 ∷ (terminal_text (terminal_of b) ++ 32 ∷ placed (Grammar.right b) (part_of y))
-    ≡ source (form at (infix_head b) (tree x (tree y no_trees)))
+    ≡ source (form at (head b) (tree x (tree y no_trees)))
 unfolding source
 between_text b w at x y =
     sym (ap (λ s. form_text s (part_of x ∷ part_of y ∷ [])) (style-between b w) ∙ simp append_assoc)
 
-print_between : (b : Infix) → infix_as_written b ≡ Some b → (at : ℕ) (x y : PlainTree) → Printed x → Printed y → Printed (form at (infix_head b) (tree x (tree y no_trees)))
+print_between : (b : Operator) → as_form Between b ≡ Some b → (at : ℕ) (x y : PlainTree) → Printed x → Printed y → Printed (form at (head b) (tree x (tree y no_trees)))
 print_between b w at x y px py =
     let l = at_level (Grammar.left b) x px in
     let r = at_level (Grammar.right b) y py in
@@ -204,28 +198,28 @@ print_between b w at x y px py =
           let i = l.again m.front m.of_front in
           let j = r.again m.back m.of_back in
           record {
-            tree = form m.at (infix_head b) (tree i.tree (tree j.tree no_trees));
-            spells = along m.is (Grammar.spells_infix (terminal_of b) b (terminal_is b w) (omega (arith, ap style_level (style-between b w))) i.spells j.spells);
-            same = ap (λ z. form 0 (infix_head b) (tree z (tree (unplaced j.tree) no_trees))) i.same ∙ ap (λ z. form 0 (infix_head b) (tree (unplaced x) (tree z no_trees))) j.same;
+            tree = form m.at (head b) (tree i.tree (tree j.tree no_trees));
+            spells = along m.is (Grammar.spells_infix (terminal_of b) b (terminal_is Between b w) (omega (arith, ap style_level (style-between b w))) i.spells j.spells);
+            same = ap (λ z. form 0 (head b) (tree z (tree (unplaced j.tree) no_trees))) i.same ∙ ap (λ z. form 0 (head b) (tree (unplaced x) (tree z no_trees))) j.same;
           };
     }
 
-before_text : (u : Prefix) → prefix_as_written u ≡ Some u → (at : ℕ) (x : PlainTree) → terminal_text (terminal_before u) ++ 32 ∷ placed (Grammar.prefix_level u) (part_of x) ≡ source (form at (prefix_head u) (tree x no_trees))
+before_text : (u : Operator) → as_form Before u ≡ Some u → (at : ℕ) (x : PlainTree) → terminal_text (terminal_of u) ++ 32 ∷ placed (Grammar.level_of u) (part_of x) ≡ source (form at (head u) (tree x no_trees))
 unfolding source
 before_text u w at x = sym (ap (λ s. form_text s (part_of x ∷ [])) (style-before u w) ∙ simp append_assoc)
 
-print_before : (u : Prefix) → prefix_as_written u ≡ Some u → (at : ℕ) (x : PlainTree) → Printed x → Printed (form at (prefix_head u) (tree x no_trees))
+print_before : (u : Operator) → as_form Before u ≡ Some u → (at : ℕ) (x : PlainTree) → Printed x → Printed (form at (head u) (tree x no_trees))
 print_before u w at x px =
-    let r = at_level (Grammar.prefix_level u) x px in
+    let r = at_level (Grammar.level_of u) x px in
     record {
-      chunk = chunk_as (before_text u w at x) (led (terminal_before u) (before_plain u w) r.chunk);
+      chunk = chunk_as (before_text u w at x) (led (terminal_of u) (before_plain u w) r.chunk);
       again = λ us h.
-          let f = first us (terminal_before u) (r.chunk.first ∷ r.chunk.rest) h in
+          let f = first us (terminal_of u) (r.chunk.first ∷ r.chunk.rest) h in
           let i = r.again f.rest f.of_rest in
           record {
-            tree = form f.at (prefix_head u) (tree i.tree no_trees);
-            spells = along f.is (Grammar.spells_prefix (terminal_before u) u (terminal_before_is u w) (omega (arith, ap style_level (style-before u w))) i.spells);
-            same = ap (λ z. form 0 (prefix_head u) (tree z no_trees)) i.same;
+            tree = form f.at (head u) (tree i.tree no_trees);
+            spells = along f.is (Grammar.spells_prefix (terminal_of u) u (terminal_is Before u w) (omega (arith, ap style_level (style-before u w))) i.spells);
+            same = ap (λ z. form 0 (head u) (tree z no_trees)) i.same;
           };
     }
 
@@ -292,22 +286,22 @@ print_call at n all g pa = record {
       record { tree = call f.at n a.args; spells = along is (Grammar.spells_call m.at a.spells); same = ap (call 0 n) a.same };
 }
 
-operated_text : (at : ℕ) (c : Called) (all : PlainTrees) → terminal_text (terminal.Called c) ++ 40 ∷ (parted (texts (parts all)) ++ 41 ∷ []) ≡ source (form at (called_head c) all)
+operated_text : (at : ℕ) (c : Operator) → as_form Called c ≡ Some c → (all : PlainTrees) → terminal_text (terminal_of c) ++ 40 ∷ (parted (texts (parts all)) ++ 41 ∷ []) ≡ source (form at (head c) all)
 unfolding source
-operated_text at c all = sym (ap (λ s. form_text s (parts all)) (style-called c) ∙ simp append_assoc)
+operated_text at c w all = sym (ap (λ s. form_text s (parts all)) (style-called c w) ∙ simp append_assoc)
 
-print_operated : (at : ℕ) (c : Called) (all : PlainTrees) → count all ≡ called_arity c → PrintedArgs all → Printed (form at (called_head c) all)
-print_operated at c all n pa = record {
-  chunk = chunk_as (operated_text at c all) (called (terminal.Called c) refl refl (called_good c) open_good close_good pa.chunk);
+print_operated : (at : ℕ) (c : Operator) → as_form Called c ≡ Some c → (all : PlainTrees) → count all ≡ arity_of c → PrintedArgs all → Printed (form at (head c) all)
+print_operated at c w all n pa = record {
+  chunk = chunk_as (operated_text at c w all) (called (terminal_of c) (callable c w) (not_closer c) (operator_good c) open_good close_good pa.chunk);
   again = λ us h.
       let xs = pa.chunk.first ∷ pa.chunk.rest in
-      let f = first us (terminal.Called c) (terminal.Open ∷ (xs ++ terminal.Close ∷ [])) h in
+      let f = first us (terminal_of c) (terminal.Open ∷ (xs ++ terminal.Close ∷ [])) h in
       let o = first f.rest terminal.Open (xs ++ terminal.Close ∷ []) f.of_rest in
       let m = between2 o.rest xs terminal.Close [] o.of_rest in
       let a = pa.again m.front m.of_front in
-      let is = f.is ∙ ap (λ l. terminal_at (terminal.Called c) f.at ∷ l) (o.is ∙ ap (λ l. terminal_at terminal.Open o.at ∷ l) (m.is ∙ ap (λ l. m.front ++ terminal_at terminal.Close m.at ∷ l) (no_words m.back m.of_back))) in
-      let fits : count a.args ≡ called_arity c = sym (count-unplaced a.args) ∙ ap count a.same ∙ count-unplaced all ∙ n in
-      record { tree = form f.at (called_head c) a.args; spells = along is (Grammar.spells_called m.at c fits a.spells); same = ap (form 0 (called_head c)) a.same };
+      let is = f.is ∙ ap (λ l. terminal_at (terminal_of c) f.at ∷ l) (o.is ∙ ap (λ l. terminal_at terminal.Open o.at ∷ l) (m.is ∙ ap (λ l. m.front ++ terminal_at terminal.Close m.at ∷ l) (no_words m.back m.of_back))) in
+      let fits : count a.args ≡ arity_of c = sym (count-unplaced a.args) ∙ ap count a.same ∙ count-unplaced all ∙ n in
+      record { tree = form f.at (head c) a.args; spells = along is (Grammar.spells_called m.at (terminal_of c) c (terminal_is Called c w) fits a.spells); same = ap (form 0 (head c)) a.same };
 }
 
 one_text : (x : PlainTree) → source x ≡ parted (texts (parts (tree x no_trees)))
@@ -657,8 +651,8 @@ module _ (law : TextIsRead) where
     print (Grammar.spells_const {at = at} {v = v}) h = print_const at v (const_good law v h.0)
     print (Grammar.spells_name {at = at} {n = n}) h = print_name at n (written_name_good n h.0)
     print (Grammar.spells_infix {at = at} {xs = xs} {ys = ys} {x = x} {y = y} s b is low sx sy) h =
-        print_between b (stands_infix s b is) at x y (print sx (front xs (terminal_at s at ∷ ys) h)) (print sy (back xs (terminal_at s at ∷ ys) h).1)
-    print (Grammar.spells_prefix {at = at} {x = x} s u is low sx) h = print_before u (stands_prefix s u is) at x (print sx h.1)
+        print_between b (stands_as Between s b is) at x y (print sx (front xs (terminal_at s at ∷ ys) h)) (print sy (back xs (terminal_at s at ∷ ys) h).1)
+    print (Grammar.spells_prefix {at = at} {x = x} s u is low sx) h = print_before u (stands_as Before s u is) at x (print sx h.1)
     print (Grammar.spells_inner {p = p} q {xs = xs} sx) h = print sx (front xs (terminal_at terminal.Close q ∷ []) h.1)
     print (Grammar.spells_if {at = at} p q r {xs = xs} {ys = ys} {zs = zs} {x = x} {y = y} {z = z} sx sy sz) h =
         let zw = zs ++ terminal_at terminal.Fi r ∷ [] in
@@ -668,8 +662,8 @@ module _ (law : TextIsRead) where
         (print sz (front zs (terminal_at terminal.Fi r ∷ []) (back ys (terminal_at terminal.Else q ∷ zw) more).1))
     print (Grammar.spells_call {at = at} {p = p} q {n = n} {xs = xs} {args = all} sa) h =
         print_call at n all (written_name_good n h.0) (print_args sa (front xs (terminal_at terminal.Close q ∷ []) h.1.1))
-    print (Grammar.spells_called {at = at} {p = p} q c {xs = xs} {args = all} n sa) h =
-        print_operated at c all n (print_args sa (front xs (terminal_at terminal.Close q ∷ []) h.1.1))
+    print (Grammar.spells_called {at = at} {p = p} q s c {xs = xs} {args = all} is n sa) h =
+        print_operated at c (stands_as Called s c is) all n (print_args sa (front xs (terminal_at terminal.Close q ∷ []) h.1.1))
     print (Grammar.spells_block {at = at} p {xs = xs} {ds = ds} {x = x} {all = all} low sx sd) h =
         print_block at x all (print sx (front xs (terminal_at terminal.Where at ∷ (ds ++ terminal_at terminal.End p ∷ [])) h))
         (print_defs sd (front ds (terminal_at terminal.End p ∷ []) (back xs (terminal_at terminal.Where at ∷ (ds ++ terminal_at terminal.End p ∷ [])) h).1))

@@ -1,63 +1,48 @@
 -- The text of terminals: each terminal's own, and a blank between two or none.
-use Rattle.std.proofs.Common.{◌≡◌, ℕ, List, [], ◌∷◌, ◌++◌, Some, Bool, true, false, cond, ◌&&◌, ◌||◌, refl, sym, ◌∙◌, ap, append_assoc}
+use Rattle.std.proofs.Common.{◌≡◌, ℕ, List, [], ◌∷◌, ◌++◌, Some, None, Bool, true, false, cond, ◌&&◌, ◌||◌, refl, sym, ◌∙◌, ap, append_assoc}
 use Rattle.std.specs.Prelude.{codes}
 use Rattle.std.proofs.lemmas.Bool.{cond-true, cond-false}
-use Rattle.lucid_parse.specs.declared.terminal.Infix.{Infix}
-use Rattle.lucid_parse.specs.declared.terminal.Infix.TheVariants as infixes
-use Rattle.lucid_parse.specs.declared.terminal.Prefix.{Prefix}
-use Rattle.lucid_parse.specs.declared.terminal.Prefix.TheVariants as prefixes
-use Rattle.lucid_parse.specs.declared.terminal.Called.{Called}
-use Rattle.lucid_parse.specs.declared.terminal.Called.TheVariants as called
+use Rattle.std.specs.Prelude.{nat_eq}
 use Rattle.lucid_parse.specs.declared.terminal.Terminal.TheVariants as terminal
-use Rattle.lucid_ops.specs.declared.op.Op.{Op}
 use Rattle.lucid_ops.specs.declared.op.Op.TheVariants as op
-use Rattle.lucid_ops.specs.Row.{left_level, right_level}
-use Rattle.lucid_ops.specs.Rows.{operator_row}
-use Rattle.lucid_parse.proofs.Levels.{stands_between, stands_before}
-use Rattle.lucid_parse.specs.Grammar as grammar
-use Rattle.lucid_parse.specs.Grammar.{PlainTerminal, operator_between, operator_before, infix_as_written, prefix_as_written, infix_of, prefix_of, infix_head, prefix_head, called_head}
+use Rattle.lucid_ops.specs.declared.op.Form.{Form}
+use Rattle.lucid_ops.specs.declared.op.Form.TheVariants.{Before, Between, Called}
+use Rattle.lucid_ops.specs.Rows.{form_number}
+use Rattle.lucid_forms.specs.declared.operator.Operator.{Operator}
+use Rattle.lucid_forms.specs.declared.operator.Operator.TheVariants.{Data}
+use Rattle.lucid_forms.specs.Operators.{row_of, level_of, left, right, head}
+use Rattle.lucid_forms.proofs.Rows.{known}
+use Rattle.lucid_parse.proofs.Levels.{stands}
+use Rattle.lucid_parse.specs.Grammar.{PlainTerminal, as_form, operator_in}
 use Rattle.lucid_print.specs.Styles as styles
-use Rattle.lucid_print.specs.Styles.{Style, style, row_style}
+use Rattle.lucid_print.specs.Styles.{style, row_style, made_style}
 use Rattle.lucid_print.specs.Canonical.{constant_text}
 
 -- the terminal of an operator
-abbrev pub terminal_of : Infix → PlainTerminal
-terminal_of (infixes.Operator op.Sub) = terminal.Minus
-terminal_of b = terminal.Infix b
+abbrev pub terminal_of : Operator → PlainTerminal
+terminal_of (Data op.Sub) = terminal.Minus
+terminal_of (Data op.Neg) = terminal.Minus
+terminal_of o = terminal.Operator o
 
-abbrev pub terminal_before : Prefix → PlainTerminal
-terminal_before (prefixes.Operator op.Neg) = terminal.Minus
-terminal_before u = terminal.Prefix u
+-- an operator that a terminal is in a form has this form
+pub stands_as : (wanted : Form) (s : PlainTerminal) (o : Operator) → operator_in wanted s ≡ Some o → as_form wanted o ≡ Some o
+stands_as Between s o e = ap (λ f. cond (nat_eq (form_number f) 1) (Some o) None) (stands Between s o e)
+stands_as Before s o e = ap (λ f. cond (nat_eq (form_number f) 0) (Some o) None) (stands Before s o e)
+stands_as Called s o e = ap (λ f. cond (nat_eq (form_number f) 2) (Some o) None) (stands Called s o e)
 
--- an operator that a terminal is stands where it is written
-pub stands_infix : (s : PlainTerminal) (b : Infix) → infix_of s ≡ Some b → infix_as_written b ≡ Some b
-stands_infix s (infixes.Operator o) e = ap (λ f. operator_between f o) (stands_between s o e)
-stands_infix s _ e = refl
-
-pub stands_prefix : (s : PlainTerminal) (u : Prefix) → prefix_of s ≡ Some u → prefix_as_written u ≡ Some u
-stands_prefix s (prefixes.Operator o) e = ap (λ f. operator_before f o) (stands_before s o e)
-stands_prefix s _ e = refl
-
-pub terminal_is : (b : Infix) → infix_as_written b ≡ Some b → infix_of (terminal_of b) ≡ Some b
-terminal_is (infixes.Operator op.Sub) w = refl
-terminal_is _ w = w
-
-pub terminal_before_is : (u : Prefix) → prefix_as_written u ≡ Some u → prefix_of (terminal_before u) ≡ Some u
-terminal_before_is (prefixes.Operator op.Neg) w = refl
-terminal_before_is _ w = w
-
-abbrev pub spelling : Style → List ℕ
-spelling (styles.between s k l r) = s
-spelling (styles.before s k) = s
-spelling (styles.called s) = s
-spelling _ = []
+pub terminal_is : (wanted : Form) (o : Operator) → as_form wanted o ≡ Some o → operator_in wanted (terminal_of o) ≡ Some o
+terminal_is Between (Data op.Sub) w = refl
+terminal_is Before (Data op.Sub) w = cc
+terminal_is Called (Data op.Sub) w = cc
+terminal_is Between (Data op.Neg) w = cc
+terminal_is Before (Data op.Neg) w = refl
+terminal_is Called (Data op.Neg) w = cc
+terminal_is wanted o w = w
 
 abbrev pub terminal_text : PlainTerminal → List ℕ
 terminal_text (terminal.Name n) = n
 terminal_text (terminal.Const v) = constant_text v
-terminal_text (terminal.Infix b) = spelling (style (infix_head b))
-terminal_text (terminal.Prefix u) = spelling (style (prefix_head u))
-terminal_text (terminal.Called c) = spelling (style (called_head c))
+terminal_text (terminal.Operator o) = (row_of o).spelling
 terminal_text terminal.Minus = codes "-"
 terminal_text terminal.Is = codes "is"
 terminal_text terminal.Current = codes "current"
@@ -74,31 +59,22 @@ terminal_text terminal.Semicolon = codes ";"
 terminal_text terminal.Equals = codes "="
 
 -- how the operators are written
-operator_text : (o : Op) → terminal_text (terminal_of (infixes.Operator o)) ≡ (operator_row o).spelling
-operator_text op.Sub = refl
-operator_text _ = refl
+operator_text : (o : Operator) → terminal_text (terminal_of o) ≡ (row_of o).spelling
+operator_text (Data op.Sub) = refl
+operator_text (Data op.Neg) = refl
+operator_text o = refl
 
-operator_text_before : (o : Op) → terminal_text (terminal_before (prefixes.Operator o)) ≡ (operator_row o).spelling
-operator_text_before op.Neg = refl
-operator_text_before _ = refl
+style-row : (wanted : Form) (o : Operator) → as_form wanted o ≡ Some o → style (head o) ≡ row_style wanted (row_of o)
+style-row wanted o w = ap (λ x. made_style x (head o)) (known o) ∙ ap (λ f. row_style f (row_of o)) (stands wanted (terminal.Operator o) o w)
 
-pub style-between : (b : Infix) → infix_as_written b ≡ Some b
-    → style (infix_head b) ≡ styles.between (terminal_text (terminal_of b)) (grammar.infix_level b) (grammar.left b) (grammar.right b)
-style-between (infixes.Operator o) w =
-    ap (λ f. row_style f (operator_row o)) (stands_between (terminal.Infix (infixes.Operator o)) o w)
-    ∙ ap (λ s. styles.between s (operator_row o).level (left_level (operator_row o).side (operator_row o).level) (right_level (operator_row o).side (operator_row o).level)) (sym (operator_text o))
-style-between infixes.Fby w = refl
-style-between _ w = refl
+pub style-between : (o : Operator) → as_form Between o ≡ Some o → style (head o) ≡ styles.between (terminal_text (terminal_of o)) (level_of o) (left o) (right o)
+style-between o w = style-row Between o w ∙ ap (λ s. styles.between s (level_of o) (left o) (right o)) (sym (operator_text o))
 
-pub style-before : (u : Prefix) → prefix_as_written u ≡ Some u → style (prefix_head u) ≡ styles.before (terminal_text (terminal_before u)) (grammar.prefix_level u)
-style-before (prefixes.Operator o) w =
-    ap (λ f. row_style f (operator_row o)) (stands_before (terminal.Prefix (prefixes.Operator o)) o w) ∙ ap (λ s. styles.before s (operator_row o).level) (sym (operator_text_before o))
-style-before prefixes.First w = refl
-style-before _ w = refl
+pub style-before : (o : Operator) → as_form Before o ≡ Some o → style (head o) ≡ styles.before (terminal_text (terminal_of o)) (level_of o)
+style-before o w = style-row Before o w ∙ ap (λ s. styles.before s (level_of o)) (sym (operator_text o))
 
-pub style-called : (c : Called) → style (called_head c) ≡ styles.called (terminal_text (terminal.Called c))
-style-called called.Substr = refl
-style-called _ = refl
+pub style-called : (o : Operator) → as_form Called o ≡ Some o → style (head o) ≡ styles.called (terminal_text (terminal_of o))
+style-called o w = style-row Called o w ∙ ap styles.called (sym (operator_text o))
 
 abbrev pub is_open : PlainTerminal → Bool
 is_open terminal.Open = true
@@ -112,8 +88,35 @@ is_closer _ = false
 
 abbrev pub is_callable : PlainTerminal → Bool
 is_callable (terminal.Name n) = true
-is_callable (terminal.Called c) = true
+is_callable (terminal.Operator o) = nat_eq (form_number (row_of o).form) (form_number Called)
 is_callable _ = false
+
+-- the terminal of an operator is no parenthesis and no closer, and is called where the operator is
+pub not_open : (o : Operator) → is_open (terminal_of o) ≡ false
+not_open (Data op.Sub) = refl
+not_open (Data op.Neg) = refl
+not_open o = refl
+
+pub not_closer : (o : Operator) → is_closer (terminal_of o) ≡ false
+not_closer (Data op.Sub) = refl
+not_closer (Data op.Neg) = refl
+not_closer o = refl
+
+not_callable : (o : Operator) → nat_eq (form_number (row_of o).form) (form_number Called) ≡ false → is_callable (terminal_of o) ≡ false
+not_callable (Data op.Sub) h = refl
+not_callable (Data op.Neg) h = refl
+not_callable o h = h
+
+pub between_not_callable : (o : Operator) → as_form Between o ≡ Some o → is_callable (terminal_of o) ≡ false
+between_not_callable o w = not_callable o (ap (λ f. nat_eq (form_number f) (form_number Called)) (stands Between (terminal.Operator o) o w))
+
+pub before_not_callable : (o : Operator) → as_form Before o ≡ Some o → is_callable (terminal_of o) ≡ false
+before_not_callable o w = not_callable o (ap (λ f. nat_eq (form_number f) (form_number Called)) (stands Before (terminal.Operator o) o w))
+
+pub callable : (o : Operator) → as_form Called o ≡ Some o → is_callable (terminal_of o) ≡ true
+callable (Data op.Sub) w = cc
+callable (Data op.Neg) w = cc
+callable o w = ap (λ f. nat_eq (form_number f) (form_number Called)) (stands Called (terminal.Operator o) o w)
 
 -- no blank stands between the two terminals
 abbrev pub is_tight : PlainTerminal → PlainTerminal → Bool

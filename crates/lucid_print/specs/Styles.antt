@@ -1,15 +1,14 @@
--- How each form is written: its spelling, its level, and the levels that the places of its parts want. The levels are those of this
--- language's own grammar; 0 binds loosest.
-use Rattle.std.specs.Prelude.{ℕ, List, codes}
+-- How each form is written: its spelling, its level, and the levels that the places of its parts want. The levels are those of the
+-- operators' rows; 0 binds loosest.
+use Rattle.std.specs.Prelude.{ℕ, List, Option, Some, None}
 use Rattle.lucid_value.specs.Plain.{PlainValue}
-use Rattle.lucid_ops.specs.declared.op.Op.{Op}
 use Rattle.lucid_ops.specs.declared.op.Form.{Form}
 use Rattle.lucid_ops.specs.declared.op.Form.TheVariants.{Before, Between, Called}
 use Rattle.lucid_ops.specs.declared.op.Side.{Side}
-use Rattle.lucid_ops.specs.declared.op.Side.TheVariants.{Left, Right}
-use Rattle.lucid_ops.specs.Row.{Row, left_level, right_level}
-use Rattle.lucid_ops.specs.Rows.{operator_row}
-use Rattle.lucid_tree.specs.Tree.{Head, const, apply, choose, both, either, first, next, fby, whenever, asa, upon, attime, initial, succ, sby, atspace, PlainTree, form, name, call, block}
+use Rattle.lucid_ops.specs.Row.{left_level, right_level}
+use Rattle.lucid_forms.specs.declared.operator.Operator.{Operator}
+use Rattle.lucid_forms.specs.Operators.{Row, row_of, operator_of}
+use Rattle.lucid_tree.specs.Tree.{Head, const, PlainTree, form, name, call, block}
 
 pub data Style : Type 0 where
   constant : PlainValue → Style
@@ -26,33 +25,23 @@ pub data Style : Type 0 where
 abbrev pub grouped : Side → ℕ → List ℕ → Style
 grouped side k s = between s k (left_level side k) (right_level side k)
 
--- The data operators, by their rows.
+-- An operator, by its row.
 abbrev pub row_style : Form → Row → Style
 row_style Before r = before r.spelling r.level
 row_style Between r = grouped r.side r.level r.spelling
 row_style Called r = called r.spelling
 
-abbrev pub operator : Op → Style
-operator o = row_style (operator_row o).form (operator_row o)
+abbrev pub operator : Operator → Style
+operator o = row_style (row_of o).form (row_of o)
 
--- All forms.
+-- All forms: each by the operator that makes it, but constants and `if`, which are made by none.
+abbrev pub made_style : Option Operator → Head → Style
+made_style (Some o) h = operator o
+made_style None (const v) = constant v
+made_style None h = conditional
+
 abbrev pub style : Head → Style
-style (const v) = constant v
-style (apply o n) = operator o
-style choose = conditional
-style both = grouped Left 4 (codes "and")
-style either = grouped Left 3 (codes "or")
-style first = before (codes "first") 11
-style next = before (codes "next") 11
-style fby = grouped Right 1 (codes "fby")
-style whenever = grouped Left 2 (codes "whenever")
-style asa = grouped Left 2 (codes "asa")
-style upon = grouped Left 2 (codes "upon")
-style attime = grouped Left 2 (codes "attime")
-style initial = before (codes "initial") 11
-style succ = before (codes "succ") 11
-style sby = grouped Right 1 (codes "sby")
-style atspace = grouped Left 2 (codes "atspace")
+style h = made_style (operator_of h) h
 
 -- The level of a form: what is no operator and no block binds tightest.
 abbrev pub style_level : Style → ℕ

@@ -12,6 +12,7 @@ ghost use Rattle.lucid_print.specs.Again.{IsParsed, IsReadAs};
 
 use crate::laws::canonical_is_read_again;
 use crate::style::{Infix, Prefix, Style, infix_of, level_of, prefix_of, style_of};
+use lucid_forms::Operator;
 use lucid_tree::{Block, Def, DefKind, Defs, Kind, Names, Tree, Trees};
 use lucid_value::Value;
 use std::alloc::{AllocError, Global};
@@ -76,7 +77,7 @@ fn put_kind(alloc: Global, kind: &Kind, to: &mut Vec<u8>) -> Result<(), AllocErr
             put_bytes(name.bytes(), to)?;
             put_arguments(alloc, args, to)
         }
-        Kind::Apply { op, args } => put_operation(alloc, style_of(*op), args, to),
+        Kind::Apply { op, args } => put_operation(alloc, style_of(Operator::Data(*op)), args, to),
         Kind::If { test, yes, no } => {
             put_bytes(b"if ", to)?;
             put_tree(alloc, test, to)?;

@@ -1,10 +1,14 @@
 //! How the operators are written, and the levels of all forms. 0 binds loosest.
 ghost use Rattle.std.specs.Prelude.{◌≡◌, ◌<◌, ℕ};
 ghost use Rattle.lucid_tree.specs.View.{tree_of};
-ghost use Rattle.lucid_print.specs.Styles.{grouped, before as before_style, operator, level, style_level};
+ghost use Rattle.lucid_print.specs.Styles.{grouped, row_style, before as before_style, operator, level, style_level};
+ghost use Rattle.lucid_ops.specs.declared.op.Form.TheVariants.{Before, Between};
+ghost use Rattle.lucid_forms.specs.declared.operator.Operator.TheVariants.{Stream};
+ghost use Rattle.lucid_forms.specs.Operators.{row_of};
 ghost use Rattle.lucid_print.specs.Views.{infix_style, prefix_style, seen_style, infix_of, prefix_of};
 
-use lucid_ops::{Form, Op, Side};
+use lucid_forms::{Operator, StreamOp};
+use lucid_ops::{Form, Side};
 use lucid_tree::Kind;
 
 /// The level of a form that binds tightest.
@@ -73,8 +77,8 @@ impl Style {
     }
 }
 
-/// How the data operator is written.
-pub(crate) fn style_of(op: Op) -> Style
+/// How the operator is written.
+pub(crate) fn style_of(op: Operator) -> Style
     ensures { seen_style result ≡ operator op }
 {
     let row = op.row();
@@ -85,20 +89,36 @@ pub(crate) fn style_of(op: Op) -> Style
     }
 }
 
+// How an operator over streams is written between two parts.
+fn between(op: StreamOp) -> Infix
+    ensures { infix_style result ≡ row_style Between (row_of (Stream op)) }
+{
+    let row = Operator::Stream(op).row();
+    Infix::grouped(row.side, row.level, row.spelling)
+}
+
+// The same before one part.
+fn before(op: StreamOp) -> Prefix
+    ensures { prefix_style result ≡ row_style Before (row_of (Stream op)) }
+{
+    let row = Operator::Stream(op).row();
+    Prefix::at(row.level, row.spelling)
+}
+
 /// How the operator of a node with two parts is written, where it is no data operator.
 pub(crate) fn infix_of(kind: &Kind) -> Infix
     ensures { infix_style result ≡ infix_of kind.now }
 {
     match kind {
-        Kind::Fby(_, _) => Infix::grouped(Side::Right, 1, b"fby"),
-        Kind::Sby(_, _) => Infix::grouped(Side::Right, 1, b"sby"),
-        Kind::Whenever(_, _) => Infix::grouped(Side::Left, 2, b"whenever"),
-        Kind::Asa(_, _) => Infix::grouped(Side::Left, 2, b"asa"),
-        Kind::Upon(_, _) => Infix::grouped(Side::Left, 2, b"upon"),
-        Kind::Attime(_, _) => Infix::grouped(Side::Left, 2, b"attime"),
-        Kind::Or(_, _) => Infix::grouped(Side::Left, 3, b"or"),
-        Kind::And(_, _) => Infix::grouped(Side::Left, 4, b"and"),
-        _ => Infix::grouped(Side::Left, 2, b"atspace"),
+        Kind::Fby(_, _) => between(StreamOp::Fby),
+        Kind::Sby(_, _) => between(StreamOp::Sby),
+        Kind::Whenever(_, _) => between(StreamOp::Whenever),
+        Kind::Asa(_, _) => between(StreamOp::Asa),
+        Kind::Upon(_, _) => between(StreamOp::Upon),
+        Kind::Attime(_, _) => between(StreamOp::Attime),
+        Kind::Or(_, _) => between(StreamOp::Or),
+        Kind::And(_, _) => between(StreamOp::And),
+        _ => between(StreamOp::Atspace),
     }
 }
 
@@ -107,10 +127,10 @@ pub(crate) fn prefix_of(kind: &Kind) -> Prefix
     ensures { prefix_style result ≡ prefix_of kind.now }
 {
     match kind {
-        Kind::First(_) => Prefix::at(11, b"first"),
-        Kind::Next(_) => Prefix::at(11, b"next"),
-        Kind::Initial(_) => Prefix::at(11, b"initial"),
-        _ => Prefix::at(11, b"succ"),
+        Kind::First(_) => before(StreamOp::First),
+        Kind::Next(_) => before(StreamOp::Next),
+        Kind::Initial(_) => before(StreamOp::Initial),
+        _ => before(StreamOp::Succ),
     }
 }
 
@@ -120,16 +140,17 @@ pub(crate) fn level_of(kind: &Kind) -> u8
 {
     match kind {
         Kind::Scope(_) => 0,
-        Kind::Fby(_, _) | Kind::Sby(_, _) => 1,
-        Kind::Whenever(_, _)
+        Kind::Fby(_, _)
+        | Kind::Sby(_, _)
+        | Kind::Whenever(_, _)
         | Kind::Asa(_, _)
         | Kind::Upon(_, _)
         | Kind::Attime(_, _)
-        | Kind::Atspace(_, _) => 2,
-        Kind::Or(_, _) => 3,
-        Kind::And(_, _) => 4,
-        Kind::First(_) | Kind::Next(_) | Kind::Initial(_) | Kind::Succ(_) => 11,
-        Kind::Apply { op, .. } => style_of(*op).level(),
+        | Kind::Atspace(_, _)
+        | Kind::Or(_, _)
+        | Kind::And(_, _) => infix_of(kind).level,
+        Kind::First(_) | Kind::Next(_) | Kind::Initial(_) | Kind::Succ(_) => prefix_of(kind).level,
+        Kind::Apply { op, .. } => style_of(Operator::Data(*op)).level(),
         Kind::Const(_) | Kind::Name(_) | Kind::Call { .. } | Kind::If { .. } => TIGHTEST,
     }
 }

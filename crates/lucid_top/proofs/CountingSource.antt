@@ -23,19 +23,20 @@ use Rattle.lucid_least.specs.Rules.{Derives}
 use Rattle.lucid_least.proofs.Rules.{derives-means}
 use Rattle.lucid_scope.specs.Sites.{site_at}
 use Rattle.lucid_scope.specs.Bindings.{HasNoFault, all_sites}
-use Rattle.lucid_parse.specs.declared.terminal.Infix.TheVariants as infixes
+use Rattle.lucid_forms.specs.declared.operator.Operator.TheVariants as operator
+use Rattle.lucid_forms.specs.declared.operator.StreamOp.TheVariants as stream
 use Rattle.lucid_parse.specs.declared.terminal.Terminal.TheVariants as terminal
 use Rattle.lucid_parse.specs.Grammar.{PlainTerminal, PlacedTerminal, terminal_at, Spells, spells_const, spells_name, spells_infix, spells_block, SpellsDefs, spells_none, spells_def}
 use Rattle.lucid_parse.specs.Terminals.{Terminals, terminals_none, terminals_next, StandsFor}
 use Rattle.lucid_print.proofs.Terminals.{terminal_text, is_open}
-use Rattle.lucid_print.proofs.Goods.{Good, among, stoppers, where_good, end_good, equals_good, semicolon_good, name_good, between_good, const_good}
+use Rattle.lucid_print.proofs.Goods.{Good, among, stoppers, where_good, end_good, equals_good, semicolon_good, name_good, operator_good, const_good}
 use Rattle.lucid_top.specs.Judged.{Spelt, HasInputs}
 use Rattle.lucid_top.specs.Witness.{counting_source}
 
 -- its terminals, in order, each with its place; and those from a number on
 abbrev pub counting_words : List PlacedTerminal
 counting_words =
-    terminal_at (terminal.Name (codes "x")) 0 ∷ terminal_at terminal.Where 2 ∷ terminal_at (terminal.Name (codes "x")) 8 ∷ terminal_at terminal.Equals 10 ∷ terminal_at (terminal.Const (int (pos 0))) 12 ∷ terminal_at (terminal.Infix infixes.Fby) 14 ∷ terminal_at (terminal.Name (codes "x")) 18 ∷ terminal_at (terminal.Infix (infixes.Operator op.Add)) 20 ∷ terminal_at (terminal.Const (int (pos 1))) 22 ∷ terminal_at terminal.Semicolon 23 ∷ terminal_at terminal.End 25 ∷ []
+    terminal_at (terminal.Name (codes "x")) 0 ∷ terminal_at terminal.Where 2 ∷ terminal_at (terminal.Name (codes "x")) 8 ∷ terminal_at terminal.Equals 10 ∷ terminal_at (terminal.Const (int (pos 0))) 12 ∷ terminal_at (terminal.Operator (operator.Stream stream.Fby)) 14 ∷ terminal_at (terminal.Name (codes "x")) 18 ∷ terminal_at (terminal.Operator (operator.Data op.Add)) 20 ∷ terminal_at (terminal.Const (int (pos 1))) 22 ∷ terminal_at terminal.Semicolon 23 ∷ terminal_at terminal.End 25 ∷ []
 
 abbrev words_from : ℕ → List PlacedTerminal
 words_from k = drop k counting_words
@@ -93,13 +94,13 @@ module _ (longest : TextsAreLongest) (read : TextIsRead) where
   at_21 = step (codes " 1; end\n") 21 1 (terminal.Const (int (pos 1))) one_good 59 (codes " end\n") (words_from 9) refl refl refl refl at_23
 
   at_19 : Read (codes " + 1; end\n") 19 (words_from 7)
-  at_19 = step (codes " + 1; end\n") 19 1 (terminal.Infix (infixes.Operator op.Add)) (between_good (infixes.Operator op.Add) refl) 32 (codes "1; end\n") (words_from 8) refl refl refl refl at_21
+  at_19 = step (codes " + 1; end\n") 19 1 (terminal.Operator (operator.Data op.Add)) (operator_good (operator.Data op.Add)) 32 (codes "1; end\n") (words_from 8) refl refl refl refl at_21
 
   at_17 : Read (codes " x + 1; end\n") 17 (words_from 6)
   at_17 = step (codes " x + 1; end\n") 17 1 (terminal.Name (codes "x")) name_x 32 (codes "+ 1; end\n") (words_from 7) refl refl refl refl at_19
 
   at_13 : Read (codes " fby x + 1; end\n") 13 (words_from 5)
-  at_13 = step (codes " fby x + 1; end\n") 13 1 (terminal.Infix infixes.Fby) (between_good infixes.Fby refl) 32 (codes "x + 1; end\n") (words_from 6) refl refl refl refl at_17
+  at_13 = step (codes " fby x + 1; end\n") 13 1 (terminal.Operator (operator.Stream stream.Fby)) (operator_good (operator.Stream stream.Fby)) 32 (codes "x + 1; end\n") (words_from 6) refl refl refl refl at_17
 
   at_11 : Read (codes " 0 fby x + 1; end\n") 11 (words_from 4)
   unfolding digits
@@ -118,19 +119,19 @@ module _ (longest : TextsAreLongest) (read : TextIsRead) where
   at_0 = step (codes "x where x = 0 fby x + 1; end\n") 0 0 (terminal.Name (codes "x")) name_x 32 (codes "where x = 0 fby x + 1; end\n") (words_from 1) refl refl refl refl at_1
 
 -- x + 1
-spells_sum : Spells 1 (terminal_at (terminal.Name (codes "x")) 18 ∷ terminal_at (terminal.Infix (infixes.Operator op.Add)) 20 ∷ terminal_at (terminal.Const (int (pos 1))) 22 ∷ []) (between 20 op.Add (name 18 (codes "x")) (integer 22 1))
-spells_sum = spells_infix {at = 20} {xs = terminal_at (terminal.Name (codes "x")) 18 ∷ []} {ys = terminal_at (terminal.Const (int (pos 1))) 22 ∷ []} (terminal.Infix (infixes.Operator op.Add)) (infixes.Operator op.Add) refl (omega arith) spells_name spells_const
+spells_sum : Spells 1 (terminal_at (terminal.Name (codes "x")) 18 ∷ terminal_at (terminal.Operator (operator.Data op.Add)) 20 ∷ terminal_at (terminal.Const (int (pos 1))) 22 ∷ []) (between 20 op.Add (name 18 (codes "x")) (integer 22 1))
+spells_sum = spells_infix {at = 20} {xs = terminal_at (terminal.Name (codes "x")) 18 ∷ []} {ys = terminal_at (terminal.Const (int (pos 1))) 22 ∷ []} (terminal.Operator (operator.Data op.Add)) (operator.Data op.Add) refl (omega arith) spells_name spells_const
 
 -- 0 fby x + 1
-spells_right_side : Spells 0 (terminal_at (terminal.Const (int (pos 0))) 12 ∷ terminal_at (terminal.Infix infixes.Fby) 14 ∷ terminal_at (terminal.Name (codes "x")) 18 ∷ terminal_at (terminal.Infix (infixes.Operator op.Add)) 20 ∷ terminal_at (terminal.Const (int (pos 1))) 22 ∷ []) (fby_of 14 (integer 12 0) (between 20 op.Add (name 18 (codes "x")) (integer 22 1)))
-spells_right_side = spells_infix {at = 14} {xs = terminal_at (terminal.Const (int (pos 0))) 12 ∷ []} {ys = terminal_at (terminal.Name (codes "x")) 18 ∷ terminal_at (terminal.Infix (infixes.Operator op.Add)) 20 ∷ terminal_at (terminal.Const (int (pos 1))) 22 ∷ []} (terminal.Infix infixes.Fby) infixes.Fby refl (omega arith) spells_const spells_sum
+spells_right_side : Spells 0 (terminal_at (terminal.Const (int (pos 0))) 12 ∷ terminal_at (terminal.Operator (operator.Stream stream.Fby)) 14 ∷ terminal_at (terminal.Name (codes "x")) 18 ∷ terminal_at (terminal.Operator (operator.Data op.Add)) 20 ∷ terminal_at (terminal.Const (int (pos 1))) 22 ∷ []) (fby_of 14 (integer 12 0) (between 20 op.Add (name 18 (codes "x")) (integer 22 1)))
+spells_right_side = spells_infix {at = 14} {xs = terminal_at (terminal.Const (int (pos 0))) 12 ∷ []} {ys = terminal_at (terminal.Name (codes "x")) 18 ∷ terminal_at (terminal.Operator (operator.Data op.Add)) 20 ∷ terminal_at (terminal.Const (int (pos 1))) 22 ∷ []} (terminal.Operator (operator.Stream stream.Fby)) (operator.Stream stream.Fby) refl (omega arith) spells_const spells_sum
 
 -- x = 0 fby x + 1;
-spells_definition : SpellsDefs (terminal_at (terminal.Name (codes "x")) 8 ∷ terminal_at terminal.Equals 10 ∷ terminal_at (terminal.Const (int (pos 0))) 12 ∷ terminal_at (terminal.Infix infixes.Fby) 14 ∷ terminal_at (terminal.Name (codes "x")) 18 ∷ terminal_at (terminal.Infix (infixes.Operator op.Add)) 20 ∷ terminal_at (terminal.Const (int (pos 1))) 22 ∷ terminal_at terminal.Semicolon 23 ∷ []) (defines 8 (codes "x") (fby_of 14 (integer 12 0) (between 20 op.Add (name 18 (codes "x")) (integer 22 1))) no_defs)
-spells_definition = spells_def 8 (codes "x") 10 23 {ds = []} {ys = terminal_at (terminal.Const (int (pos 0))) 12 ∷ terminal_at (terminal.Infix infixes.Fby) 14 ∷ terminal_at (terminal.Name (codes "x")) 18 ∷ terminal_at (terminal.Infix (infixes.Operator op.Add)) 20 ∷ terminal_at (terminal.Const (int (pos 1))) 22 ∷ []} spells_none spells_right_side
+spells_definition : SpellsDefs (terminal_at (terminal.Name (codes "x")) 8 ∷ terminal_at terminal.Equals 10 ∷ terminal_at (terminal.Const (int (pos 0))) 12 ∷ terminal_at (terminal.Operator (operator.Stream stream.Fby)) 14 ∷ terminal_at (terminal.Name (codes "x")) 18 ∷ terminal_at (terminal.Operator (operator.Data op.Add)) 20 ∷ terminal_at (terminal.Const (int (pos 1))) 22 ∷ terminal_at terminal.Semicolon 23 ∷ []) (defines 8 (codes "x") (fby_of 14 (integer 12 0) (between 20 op.Add (name 18 (codes "x")) (integer 22 1))) no_defs)
+spells_definition = spells_def 8 (codes "x") 10 23 {ds = []} {ys = terminal_at (terminal.Const (int (pos 0))) 12 ∷ terminal_at (terminal.Operator (operator.Stream stream.Fby)) 14 ∷ terminal_at (terminal.Name (codes "x")) 18 ∷ terminal_at (terminal.Operator (operator.Data op.Add)) 20 ∷ terminal_at (terminal.Const (int (pos 1))) 22 ∷ []} spells_none spells_right_side
 
 spells_counting : Spells 0 counting_words counting
-spells_counting = spells_block {at = 2} 25 {xs = terminal_at (terminal.Name (codes "x")) 0 ∷ []} {ds = terminal_at (terminal.Name (codes "x")) 8 ∷ terminal_at terminal.Equals 10 ∷ terminal_at (terminal.Const (int (pos 0))) 12 ∷ terminal_at (terminal.Infix infixes.Fby) 14 ∷ terminal_at (terminal.Name (codes "x")) 18 ∷ terminal_at (terminal.Infix (infixes.Operator op.Add)) 20 ∷ terminal_at (terminal.Const (int (pos 1))) 22 ∷ terminal_at terminal.Semicolon 23 ∷ []} (omega arith) spells_name spells_definition
+spells_counting = spells_block {at = 2} 25 {xs = terminal_at (terminal.Name (codes "x")) 0 ∷ []} {ds = terminal_at (terminal.Name (codes "x")) 8 ∷ terminal_at terminal.Equals 10 ∷ terminal_at (terminal.Const (int (pos 0))) 12 ∷ terminal_at (terminal.Operator (operator.Stream stream.Fby)) 14 ∷ terminal_at (terminal.Name (codes "x")) 18 ∷ terminal_at (terminal.Operator (operator.Data op.Add)) 20 ∷ terminal_at (terminal.Const (int (pos 1))) 22 ∷ terminal_at terminal.Semicolon 23 ∷ []} (omega arith) spells_name spells_definition
 
 pub counting-spelt : TextsAreLongest → TextIsRead → Spelt counting_source counting
 counting-spelt longest read =

@@ -3,8 +3,8 @@ use Rattle.lucid_parse.specs.Machine.{shift}
 use Rattle.lucid_parse.proofs.machine.shift_to.Given as goal
 
 -- the operator goes on as it began
-abbrev pub invariant-loop-frames : goal.invariant-loop-frames
-invariant-loop-frames g l = shift l.operator l.at l.operand l.place l.frames l.out.items ≡ shift l.operator l.at l.fn.level l.fn.allowed l.fn.frames l.fn.out.items
+abbrev pub invariant-loop-allowed : goal.invariant-loop-allowed
+invariant-loop-allowed g l = shift l.op l.at l.operand l.place l.frames l.out.items ≡ shift l.op l.at l.fn.level l.fn.allowed l.fn.frames l.fn.out.items
 
-abbrev pub decreases-loop-frames : goal.decreases-loop-frames
-decreases-loop-frames g l = length l.frames
+abbrev pub decreases-loop-allowed : goal.decreases-loop-allowed
+decreases-loop-allowed g l = length l.frames
