@@ -140,7 +140,7 @@ module _ (c : Call) (g : RunsProgram c) where
     x.name,
     x.index,
     some_added (λ d. run.IsConsulted (stream_subject (tree_stream g.program)) b view whole d (x.name, x.index)) (λ d. IsConsulted g whole d x.name x.index) (λ d. consulted_too whole d x.name x.index) x.consulted,
-    subst (λ o. IfSome o (λ y. IsOverlong (all_bytes y) x.index most_input_bytes)) (file_is k x.name x.place x.is.0 x.is.1) x.overlong
+    subst (λ o. IfSome o (λ y. IsOverlong (all_bytes y) x.index most_input_bytes)) (file_is k x.name x.place x.is.0 x.is.1) x.overlong,
   )
 
   -- the place of an input that was reached, after the run
