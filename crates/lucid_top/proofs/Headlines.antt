@@ -53,14 +53,14 @@ module _ (c : Call) (g : RunsProgram c) where
   asks = record { words = g.words; read = g.asked; built = ap (λ t. is_built t (form_of g.words)) g.run.0 }
 
   is_source : IsSource g.words.source c.before g.source
-  is_source = subst (λ s. IsSource s c.before g.source) (sym g.run.1.0) (subst (λ o. IfSome o (λ held. g.source ≡ held)) (sym g.held) refl)
+  is_source = subst (λ s. IsSource s c.before g.source) (sym g.run.1) (subst (λ o. IfSome o (λ held. g.source ≡ held)) (sym g.held) refl)
 
   is_told : IsTold g.words.source c.before
-  is_told = subst (λ s. IsTold s c.before) (sym g.run.1.0) (subst (λ o. IsSome o) (sym g.held) refl)
+  is_told = subst (λ s. IsTold s c.before) (sym g.run.1) (subst (λ o. IsSome o) (sym g.held) refl)
 
   no_flat : form_of g.words ≢ form.Flat
   no_flat e =
-      let is : form_of g.words ≡ form.Text = ap (λ s. form_for s g.words.from_flat) g.run.1.0 ∙ ap (λ f. form_for (file g.name) f) g.run.1.1 in
+      let is : form_of g.words ≡ form.Text = ap (λ s. form_for s g.words.from_flat) g.run.1 ∙ ap (λ f. form_for (file g.name) f) g.run.2 in
       absurd (cc (e, is))
 
   no_print : task_of g.words ≢ task.Print
@@ -86,7 +86,7 @@ module _ (c : Call) (g : RunsProgram c) where
 
   -- the place of an input: its file is told before the run
   first_is : first_place g.words.source ≡ 1
-  first_is = ap first_place g.run.1.0
+  first_is = ap first_place g.run.1
 
   place_of : (k : ℕ) (n : List ℕ) → slice_get g.inputs k ≡ Some n → slice_get view.places k ≡ Some (1 + k)
   place_of k n is =
