@@ -24,7 +24,7 @@ pub(crate) fn find_tree<'a>(found: &mut Vec<&'a Def>, tree: &'a Tree) -> Result<
     match tree.shape() {
         Shape::Name { .. } => Ok(()),
         Shape::Form { parts, .. } => find_parts(found, parts),
-        Shape::Call { args, .. } => find_parts(found, args),
+        Shape::Call { args, .. } => find_parts(found, args.parts()),
         Shape::Scope { subject, defs, .. } => {
             find_tree(found, subject)?;
             find_defs(found, defs.definitions())

@@ -73,7 +73,7 @@ pub(crate) fn add_tree(
             let later = later_delay(head, delay);
             add_parts(found, &*scoped, from, first, later, parts)
         }
-        Shape::Call { args, .. } => add_parts(found, &*scoped, from, delay, delay, args),
+        Shape::Call { args, .. } => add_parts(found, &*scoped, from, delay, delay, args.parts()),
         Shape::Scope { subject, defs, .. } => {
             add_tree(found, &*scoped, from, delay, subject)?;
             add_defs(found, &*scoped, defs.definitions())

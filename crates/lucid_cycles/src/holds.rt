@@ -87,7 +87,7 @@ pub(crate) fn tree_holds(
             let later = later_delay(head, delay);
             parts_hold(&*ask, &*scoped, from, first, later, parts)
         }
-        Shape::Call { args, .. } => parts_hold(&*ask, &*scoped, from, delay, delay, args),
+        Shape::Call { args, .. } => parts_hold(&*ask, &*scoped, from, delay, delay, args.parts()),
         Shape::Scope { subject, defs, .. } => {
             tree_holds(&*ask, &*scoped, from, delay, subject)
                 && defs_hold(&*ask, &*scoped, defs.definitions())

@@ -62,7 +62,7 @@ pub(crate) fn survey(names: &mut Names, least: &mut Option<u32>, tree: &Tree)
         }
         Shape::Call { at, args, .. } => {
             note(least, at);
-            survey_parts(names, least, args)
+            survey_parts(names, least, args.parts())
         }
         Shape::Scope { subject, defs, .. } => {
             survey(names, least, subject);

@@ -15,5 +15,3 @@ mod program;
 mod range;
 mod rows;
 mod table;
-#[cfg(test)]
-mod tests;

@@ -12,5 +12,3 @@ pub use fault::InputFault;
 pub use laws::{asked_again, elements_fit, fresh_fits, keeps_within, places_differ};
 pub use on_demand::Inputs;
 
-#[cfg(test)]
-mod tests;

@@ -14,5 +14,3 @@ mod op;
 mod power;
 mod rows;
 mod table;
-#[cfg(test)]
-mod tests;

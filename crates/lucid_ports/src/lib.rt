@@ -37,5 +37,3 @@ pub use run::{Options, RunFault, Summary};
 pub use sink::Sink;
 pub use writing::write_whole;
 
-#[cfg(test)]
-mod tests;

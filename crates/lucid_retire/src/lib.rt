@@ -18,8 +18,6 @@ mod ages;
 mod last;
 mod policy;
 mod scripted;
-#[cfg(test)]
-mod tests;
 
 /// A policy that says what a warehouse drops. A turn drops values and adds none. A run owns its policy and lets it go.
 pub trait Retire: Drop {

@@ -11,6 +11,4 @@ pub mod laws;
 mod marks;
 mod refusal;
 mod scanner;
-#[cfg(test)]
-mod tests;
 mod token;

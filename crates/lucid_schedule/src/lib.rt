@@ -10,8 +10,6 @@ ghost use Rattle.lucid_schedule.specs.Listed.{picked_place, numbers_left};
 use std::marker::Model;
 use std::vec::IntoIter;
 
-#[cfg(test)]
-mod tests;
 
 /// A choice among the tasks that are ready.
 ///

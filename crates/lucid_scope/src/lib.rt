@@ -12,6 +12,4 @@ mod resolution;
 mod scoped;
 mod settle;
 mod table;
-#[cfg(test)]
-mod tests;
 mod walk;

@@ -15,8 +15,6 @@ use std::alloc::{AllocError, Global};
 use std::marker::Model;
 
 mod notes;
-#[cfg(test)]
-mod tests;
 
 // A node in a context, at a space.
 #[derive(Clone, Copy, PartialEq, Eq, Hash, Debug)]

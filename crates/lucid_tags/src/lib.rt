@@ -12,8 +12,6 @@ use std::marker::Model;
 
 pub mod laws;
 mod rows;
-#[cfg(test)]
-mod tests;
 
 // How many values the low half of a space has.
 const HALF: u64 = 1 << 32;

@@ -12,8 +12,6 @@ mod list;
 mod pool;
 mod rows;
 mod tasks;
-#[cfg(test)]
-mod tests;
 
 /// One node at one tag and time, with the approximation that is left as its depth.
 ///

@@ -23,4 +23,4 @@ pub mod References
 mod Counts
 mod Falls
 mod Copies
-mod Depths
+pub mod Depths

@@ -31,7 +31,7 @@ head_of Atspace = atspace
 abbrev pub shape_tree : Shape → PlainTree
 shape_tree (Form at h es) = form at (head_of h) es
 shape_tree (Name at n) = name at n.now
-shape_tree (Call at n es) = call at n.now es
+shape_tree (Call at n es) = call at n.now es.now
 shape_tree (Scope at e ds) = block at e.now ds.now
 
 -- A form of this head has so many parts as its row looks at; a data operator as many as its head tells.

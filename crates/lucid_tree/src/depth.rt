@@ -26,7 +26,7 @@ fn depth_of(tree: &Tree) -> u32
     match tree.shape() {
         Shape::Name { .. } => 1,
         Shape::Form { parts, .. } => depth_of_parts(parts) + 1,
-        Shape::Call { args, .. } => depth_of_parts(args) + 1,
+        Shape::Call { args, .. } => depth_of_parts(args.parts()) + 1,
         Shape::Scope { subject, defs, .. } => {
             depth_of(subject).max(depth_of_defs(defs.definitions())) + 1
         }

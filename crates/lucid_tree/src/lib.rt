@@ -15,6 +15,4 @@ mod lists;
 mod parts;
 pub mod samples;
 mod shape;
-#[cfg(test)]
-mod tests;
 mod tree;

@@ -46,7 +46,7 @@ pub enum Shape<'a> {
     Call {
         at: u32,
         name: &'a Name,
-        args: Parts<'a>,
+        args: &'a Trees,
     },
     Scope {
         at: u32,
@@ -66,7 +66,7 @@ impl Tree {
         match &self.kind {
             Kind::Const(value) => none(at, Head::Const(value)),
             Kind::Name(name) => Shape::Name { at, name },
-            Kind::Call { name, args } => call(at, name, args),
+            Kind::Call { name, args } => Shape::Call { at, name, args },
             Kind::Apply { op, args } => apply(at, *op, args),
             Kind::If { test, yes, no } => three(at, Head::Choose, test, yes, no),
             Kind::And(a, b) => two(at, Head::Both, a, b),
@@ -133,12 +133,4 @@ fn apply(at: u32, op: Op, args: &Trees) -> Shape<'_>
     };
     let parts = args.parts();
     Shape::Form { at, head, parts }
-}
-
-// A call with its arguments.
-fn call<'a>(at: u32, name: &'a Name, args: &'a Trees) -> Shape<'a>
-    ensures { result ≡ Shape.Call at name.entry args.now }
-{
-    let args = args.parts();
-    Shape::Call { at, name, args }
 }

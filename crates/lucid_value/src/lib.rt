@@ -36,8 +36,6 @@ mod read;
 mod same;
 mod show;
 mod stack;
-#[cfg(test)]
-mod tests;
 mod texts;
 
 /// No value weighs more. A word or a string weighs 1 and one for each byte, a list 1 and the weights of its items, all

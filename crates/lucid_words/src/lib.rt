@@ -20,8 +20,6 @@ use lucid_value::{MakeRefusal, Name};
 use std::alloc::{AllocError, Global};
 use thiserror::Error;
 
-#[cfg(test)]
-mod tests;
 
 /// Where the source of the program comes from.
 #[derive(Drop)]

@@ -1,4 +1,4 @@
-use super::*;
+use lucid_search::*;
 use lucid_tags::Tags;
 
 const MANY: u64 = 100_000;

@@ -1,6 +1,6 @@
 //! Worked rows of every operator. What is expected comes from the language's table of operators.
-use crate::tests::Sample::{Bare, Eod, Error, Int, Ints, Quoted, Truth};
-use crate::{Form, Op, OpTable, Side, apply, standard};
+use crate::ops::Sample::{Bare, Eod, Error, Int, Ints, Quoted, Truth};
+use lucid_ops::{Form, Op, OpTable, Side, apply, standard};
 use lucid_value::{List, Text, Value, Word, cons};
 use std::alloc::Global;
 use std::process::Abort;

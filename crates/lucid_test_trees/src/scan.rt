@@ -1,5 +1,5 @@
 //! Sources with their tokens or their refusals, up to the limits.
-use crate::{MAX_SOURCE_BYTES, ScanRefusal, Token, TokenKind, scan};
+use lucid_scan::{MAX_SOURCE_BYTES, ScanRefusal, Token, TokenKind, scan};
 use std::alloc::{AllocError, Global};
 use std::test::Fail;
 

@@ -1,4 +1,5 @@
-use super::*;
+use lucid_words::*;
+use std::alloc::{AllocError, Global};
 use std::test::Fail;
 
 // The words of a line, which stand in it with one blank between two. A word `_` stands for the empty one.

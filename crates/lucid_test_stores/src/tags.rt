@@ -1,8 +1,9 @@
 ghost use Rattle.std.specs.Prelude.{IfOk};
 ghost use Rattle.lucid_tags.specs.Known.{IsKnown};
 
-use super::*;
+use lucid_tags::*;
 use indexmap::IndexMap;
+use std::alloc::{AllocError, Global};
 use std::process::Abort;
 use std::test::Fail;
 

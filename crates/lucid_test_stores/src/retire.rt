@@ -1,5 +1,5 @@
-use super::*;
-use lucid_store::Key;
+use lucid_retire::*;
+use lucid_store::{Key, Warehouse};
 use lucid_tags::Tags;
 use lucid_value::Value;
 use std::alloc::Global;

@@ -1,8 +1,8 @@
 //! Tables of one node that are made by hand: which of them are programs.
-use crate::lists::{NameRows, NodeRows, PlaceRows, ScopeRows, Values};
-use crate::program::Program;
-use crate::rows::{Node, NodeRow};
-use crate::table::Table;
+use lucid_equations::{NameRows, NodeRows, PlaceRows, ScopeRows, Values};
+use lucid_equations::Program;
+use lucid_equations::{Node, NodeRow};
+use lucid_equations::Table;
 use lucid_tree::Names;
 use lucid_value::{Name, Value};
 use std::alloc::Global;

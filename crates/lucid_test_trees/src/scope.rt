@@ -2,7 +2,7 @@
 ghost use Rattle.std.specs.Prelude.{◌≡◌, IfOk};
 ghost use Rattle.lucid_tree.specs.Tree.{name, call, no_trees, tree};
 
-use crate::{Binding, ScopeRefusal, resolve};
+use lucid_scope::{Binding, ScopeRefusal, resolve};
 use lucid_tree::{Kind, Tree, Trees};
 use lucid_value::{MakeRefusal, Name};
 use std::alloc::{AllocError, Global};

@@ -3,7 +3,7 @@ ghost use Rattle.std.specs.Prelude.{◌≡◌, ◌<◌, length, IfOk};
 ghost use Rattle.lucid_ports.specs.MemoryView.{memory_world};
 ghost use Rattle.lucid_inputs.specs.Inputs.{AreAskable, IsAskable, streams};
 
-use super::*;
+use lucid_inputs::*;
 use lucid_ports::{Endless, FailAt, MemoryFile, MemoryPlaces, Narrow, Places, read_at_most};
 use lucid_value::Value;
 use std::alloc::{AllocError, Global};

@@ -3,7 +3,7 @@ ghost use Rattle.std.specs.Prelude.{◌≡◌, ◌++◌, IfOk, OnOk};
 ghost use Rattle.lucid_ports.specs.MemoryView.{memory_world};
 ghost use Rattle.lucid_ports.specs.RealSinkView.{sink_writer};
 
-use super::*;
+use lucid_ports::*;
 use std::alloc::{AllocError, Global};
 use std::io::{self, ErrorKind, Write};
 use std::process::Abort;

@@ -1,4 +1,4 @@
-use super::*;
+use lucid_make::*;
 use std::test::Fail;
 
 #[test]

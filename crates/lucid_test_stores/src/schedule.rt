@@ -1,6 +1,6 @@
 ghost use Rattle.std.specs.Prelude.{◌<◌, length};
 
-use super::*;
+use lucid_schedule::*;
 use std::test::Fail;
 
 // One pick through the trait, as the engine makes it.

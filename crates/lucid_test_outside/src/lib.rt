@@ -1,0 +1,11 @@
+//! Tests alone, of what is read and written, inputs, words and made programs: what no clause says.
+#![tactic(auto)]
+
+#[cfg(test)]
+mod inputs;
+#[cfg(test)]
+mod make;
+#[cfg(test)]
+mod ports;
+#[cfg(test)]
+mod words;
