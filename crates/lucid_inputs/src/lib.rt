@@ -11,4 +11,3 @@ mod stream;
 pub use fault::InputFault;
 pub use laws::{asked_again, elements_fit, fresh_fits, keeps_within, places_differ};
 pub use on_demand::Inputs;
-

@@ -11,7 +11,6 @@ ghost use Rattle.lucid_make.specs.Source.{made_source, ended_line, definition_of
 
 use std::alloc::{AllocError, Global};
 
-
 /// The source of the made program whose last name has the number `n`, as the bytes of its lines. For `n` = 1 it is
 ///
 /// ```text

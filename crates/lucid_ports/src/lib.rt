@@ -36,4 +36,3 @@ pub use real_sink::RealSink;
 pub use run::{Options, RunFault, Summary};
 pub use sink::Sink;
 pub use writing::write_whole;
-

@@ -10,7 +10,6 @@ ghost use Rattle.lucid_schedule.specs.Listed.{picked_place, numbers_left};
 use std::marker::Model;
 use std::vec::IntoIter;
 
-
 /// A choice among the tasks that are ready.
 ///
 /// `ready` names the tasks in order of their making, the oldest first; the answer is a place in that list, counted

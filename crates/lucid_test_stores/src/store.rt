@@ -79,7 +79,6 @@ fn no_memory_is_asked_for_after_a_refusal(rt: HostRuntime) {
     assert_eq!(rt; warehouse.lost(), lost);
 }
 
-
 #[test]
 fn a_million_keys(rt: HostRuntime) {
     let root = Tags::make(rt.alloc()).root();

@@ -1,8 +1,8 @@
 ghost use Rattle.std.specs.Prelude.{IfOk};
 ghost use Rattle.lucid_tags.specs.Known.{IsKnown};
 
-use lucid_tags::*;
 use indexmap::IndexMap;
+use lucid_tags::*;
 use std::alloc::{AllocError, Global};
 use std::process::Abort;
 use std::test::Fail;

@@ -1,8 +1,8 @@
 ghost use Rattle.std.specs.Prelude.{◌≡◌, ℕ, ◌<◌, IfSome, IsTrue, Some};
 ghost use Rattle.lucid_tasks.specs.Rows.{row_at, state_of, is_ready, IsRow, IsIdleRow, HaveThree, Idle};
 
-use lucid_tasks::*;
 use lucid_tags::{Tag, Tags};
+use lucid_tasks::*;
 use lucid_value::Value;
 
 const MANY: u64 = 1_000_000;

@@ -1,8 +1,7 @@
 //! Tables of one node that are made by hand: which of them are programs.
-use lucid_equations::{NameRows, NodeRows, PlaceRows, ScopeRows, Values};
-use lucid_equations::Program;
-use lucid_equations::{Node, NodeRow};
-use lucid_equations::Table;
+use lucid_equations::{
+    NameRows, Node, NodeRow, NodeRows, PlaceRows, Program, ScopeRows, Table, Values,
+};
 use lucid_tree::Names;
 use lucid_value::{Name, Value};
 use std::alloc::Global;

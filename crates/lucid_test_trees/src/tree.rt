@@ -5,8 +5,8 @@ ghost use Rattle.lucid_tree.specs.SamplePrograms.{counting};
 ghost use Rattle.lucid_tree.specs.WellMade.{IsWellMade};
 ghost use Rattle.lucid_value.specs.Plain.{int};
 
-use lucid_tree::{Block, Def, DefKind, Defs, Kind, Names, Places32, Shape, Tree, Trees};
 use lucid_ops::Op;
+use lucid_tree::{Block, Def, DefKind, Defs, Kind, Names, Places32, Shape, Tree, Trees};
 use lucid_value::{MakeRefusal, Name, Value};
 use std::alloc::{AllocError, Global};
 use std::test::Fail;

@@ -20,7 +20,6 @@ use lucid_value::{MakeRefusal, Name};
 use std::alloc::{AllocError, Global};
 use thiserror::Error;
 
-
 /// Where the source of the program comes from.
 #[derive(Drop)]
 pub enum Source {
