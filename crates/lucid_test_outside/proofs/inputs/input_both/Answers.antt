@@ -1,7 +1,7 @@
 use Rattle.std.proofs.Common.{ap, map, length, ◌∙◌, arith}
 use Rattle.lucid_inputs.specs.Streams.{fresh_stream}
 use Rattle.lucid_inputs.proofs.InputsLemmas.{both_askable, fresh_stays}
-use Rattle.lucid_inputs.proofs.tests.input_both.Goals as goal
+use Rattle.lucid_test_outside.proofs.inputs.input_both.Goals as goal
 
 pub returns-clause-askable : goal.returns-clause-askable
 returns-clause-askable g c =

@@ -1,7 +1,7 @@
 use Rattle.std.proofs.Common.{ap, map, ◌∙◌, arith}
 use Rattle.lucid_inputs.specs.Streams.{fresh_stream}
 use Rattle.lucid_inputs.proofs.InputsLemmas.{fresh_askable}
-use Rattle.lucid_inputs.proofs.tests.input_a.Goals as goal
+use Rattle.lucid_test_outside.proofs.inputs.input_a.Goals as goal
 
 pub returns : goal.returns
 returns g c =

@@ -1,7 +1,7 @@
 use Rattle.std.proofs.Common.{◌≡◌, None, rules}
 use Rattle.lucid_tasks.specs.Rows.{got_of}
 use Rattle.lucid_tasks.proofs.RowLemmas.{idle_row}
-use Rattle.lucid_tasks.proofs.tests.newest_untouched.Goals as goal
+use Rattle.lucid_test_stores.proofs.tasks.newest_untouched.Goals as goal
 
 pub returns-in-None-None-None : goal.returns-in-None-None-None
 returns-in-None-None-None c =

@@ -1,5 +1,5 @@
 use Rattle.std.proofs.Common.{◌∙◌}
-use Rattle.lucid_inputs.proofs.tests.ask_side.Goals as goal
+use Rattle.lucid_test_outside.proofs.inputs.ask_side.Goals as goal
 
 pub returns-clause-askable : goal.returns-clause-askable
 returns-clause-askable g c = c.asked_again.ensures _ _ _ _ _ _ c.element.follows.holds-at-none.reads c.requires.askable

@@ -1,5 +1,5 @@
 use Rattle.lucid_tags.specs.Known.{IsKnown}
-use Rattle.lucid_tags.proofs.tests.nest.Given as goal
+use Rattle.lucid_test_stores.proofs.tags.nest.Given as goal
 
 abbrev pub invariant-loop-time : goal.invariant-loop-time
 invariant-loop-time l = IsKnown l.tags l.tag

@@ -1,7 +1,7 @@
 use Rattle.std.proofs.Common.{◌≡◌, length}
 use Rattle.lucid_ports.specs.MemoryView.{memory_world}
 use Rattle.lucid_inputs.specs.Inputs.{AreAskable, streams}
-use Rattle.lucid_inputs.proofs.tests.first_wrong.Given as goal
+use Rattle.lucid_test_outside.proofs.inputs.first_wrong.Given as goal
 
 abbrev pub invariant-loop-number : goal.invariant-loop-number
 invariant-loop-number l = record {
