@@ -6,5 +6,3 @@ pub use crate::print::print_tree;
 pub mod laws;
 mod print;
 mod style;
-#[cfg(test)]
-mod tests;

@@ -9,5 +9,3 @@ mod nest;
 mod nodes;
 mod places;
 mod program;
-#[cfg(test)]
-mod tests;

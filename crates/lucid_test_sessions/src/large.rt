@@ -1,0 +1,87 @@
+//! Long runs: what is held of one that forgets by age, and one whose contexts are cleared.
+use crate::program_run::run_of;
+use lucid_ports::{MemorySink, Options, RunFault, Summary};
+use lucid_retire::{Ages, Keep};
+use lucid_schedule::Newest;
+use lucid_test_trials::Setup;
+use std::alloc::{AllocError, Global};
+use std::test::Fail;
+
+// The numbers below a count, one a line.
+fn numbers_below(alloc: Global, count: u32) -> Result<String, AllocError> {
+    let mut lines = String::new(alloc);
+    for number in 0..count {
+        lines.push_str(&format!(in alloc; "{number}\n")?)?;
+    }
+    Ok(lines)
+}
+
+// A sweep comes each 1,000 turns, and what it leaves was touched after the last sweep but one; a turn touches one value at most.
+#[test]
+fn a_store_that_forgets_by_age(rt: HostRuntime) -> Result<(), Fail> {
+    let alloc = rt.alloc();
+    let setup = Setup::of("x where x = 0 fby x + 1; end", &[]);
+    let options = Options {
+        count: 10_000,
+        depth: 100,
+    };
+    let mut out = MemorySink::make(alloc, 100, Vec::new(alloc));
+    let policy = Ages::make(1_000, 1);
+    let answer = run_of(alloc, &setup, &options, &mut out, policy, Newest)?;
+    let summary = answer?;
+    assert!(rt; out.written() == numbers_below(alloc, 10_000)?.as_bytes());
+    assert_eq!(rt; summary.lines, 10_000);
+    assert!(rt; summary.held <= 2_001, "{summary:?}");
+    Ok(())
+}
+
+// Each line enters two contexts. With the empty one 1,000,001 are known after line 500,000, and all is cleared.
+const CLEARED: &str =
+    "m where m is current n; end where n is current k; end where k = 0 fby k + 1; end";
+
+// After the clearing `k` has to be evaluated from time 0 on, 500,000 references deep.
+#[test]
+fn a_run_that_is_cleared(rt: HostRuntime) -> Result<(), Fail> {
+    let alloc = rt.alloc();
+    let options = Options {
+        count: 500_002,
+        depth: 1_000_000,
+    };
+    let mut out = MemorySink::make(alloc, 100, Vec::new(alloc));
+    let setup = Setup::of(CLEARED, &[]);
+    let answer = run_of(alloc, &setup, &options, &mut out, Keep, Newest)?;
+    assert_eq!(rt;
+        answer,
+        Ok(Summary {
+            lines: 500_002,
+            ended: false,
+            held: 500_006,
+            lost: 0,
+            cleared: 1,
+        })
+    );
+    assert!(rt; out.written() == numbers_below(alloc, 500_002)?.as_bytes());
+    Ok(())
+}
+
+#[test]
+fn too_deep_after_a_clearing(rt: HostRuntime) -> Result<(), Fail> {
+    let alloc = rt.alloc();
+    let options = Options {
+        count: 500_002,
+        depth: 100_000,
+    };
+    let mut out = MemorySink::make(alloc, 100, Vec::new(alloc));
+    let setup = Setup::of(CLEARED, &[]);
+    let answer = run_of(alloc, &setup, &options, &mut out, Keep, Newest)?;
+    assert_eq!(rt;
+        answer,
+        Err(RunFault::TooDeep {
+            time: 500_000,
+            lost: 0,
+            cleared: 1,
+        })
+    );
+    assert!(rt; out.written() == numbers_below(alloc, 500_000)?.as_bytes());
+    Ok(())
+}

@@ -1,0 +1,13 @@
+//! Worked rows of tables: compiled ones, their values beside those of their trees, and texts of the flat form.
+#![tactic(auto)]
+
+#[cfg(test)]
+mod compiled;
+#[cfg(test)]
+mod flat;
+#[cfg(test)]
+mod sound;
+#[cfg(test)]
+mod table_value;
+#[cfg(test)]
+mod tables;
