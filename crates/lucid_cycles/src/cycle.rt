@@ -12,7 +12,7 @@ use crate::delays::Delays;
 use crate::edge::Edge;
 use crate::judgment::Judgment;
 use crate::rounds::{potential, risen};
-use lucid_value::Numbers;
+use lucid_lists::Numbers;
 use std::alloc::{AllocError, Global};
 
 // Whether a start with this potential is as much as an edge asks of it, and no more.

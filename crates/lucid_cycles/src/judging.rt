@@ -13,8 +13,8 @@ use crate::laws::enough_is_enough;
 use crate::names::{MOST_NAMES, Names};
 use crate::settle::settle;
 use crate::survey::survey;
+use lucid_lists::Numbers;
 use lucid_scope::Scoped;
-use lucid_value::Numbers;
 use std::alloc::Global;
 
 /// Judges a program by the delays along its cycles of references: a depth that is enough at each time, by the least potentials, or a

@@ -3,7 +3,7 @@ ghost use Rattle.std.specs.Prelude.{◌≡◌};
 ghost use Rattle.lucid_cycles.specs.declared.judgment.JudgeRefusal.TheVariants.{NoMemory};
 
 use crate::delays::Delays;
-use lucid_value::Numbers;
+use lucid_lists::Numbers;
 use std::alloc::AllocError;
 use thiserror::Error;
 

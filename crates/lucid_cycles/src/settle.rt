@@ -8,7 +8,7 @@ use crate::cycle::cycle;
 use crate::edge::Edge;
 use crate::judgment::Judgment;
 use crate::rounds::{added, risen, round};
-use lucid_value::Numbers;
+use lucid_lists::Numbers;
 use std::alloc::{AllocError, Global};
 
 // No potentials yet: 0 for each name.

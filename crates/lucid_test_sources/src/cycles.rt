@@ -4,10 +4,10 @@ ghost use Rattle.lucid_scope.specs.Scoped.{scoped_tree};
 ghost use Rattle.lucid_cycles.specs.Judged.{IsJudged};
 
 use lucid_cycles::{Judgment, enough, judge};
+use lucid_lists::Numbers;
 use lucid_parse::parse;
 use lucid_scan::scan;
 use lucid_scope::{Scoped, resolve};
-use lucid_value::Numbers;
 use std::alloc::{AllocError, Global};
 use std::process::Abort;
 use std::test::Fail;

@@ -1,0 +1,10 @@
+//! Lists and stacks, each seen as the list of its items.
+#![tactic(auto)]
+
+pub use few::Few;
+pub use items::{Items, Numbers};
+pub use stack::Stack;
+
+mod few;
+mod items;
+mod stack;
