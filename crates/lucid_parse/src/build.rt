@@ -12,8 +12,9 @@ ghost use Rattle.lucid_parse.specs.Build.{Takes, no_piles, plain_piles, put_on, 
 
 use crate::state::{BorrowedItem, Defines, Item};
 use lucid_forms::Operator;
+use lucid_lists::Stack;
 use lucid_tree::{Block, Def, DefKind, Defs, Kind, Names, Places32, Tree, Trees};
-use lucid_value::{Name, Stack, Value};
+use lucid_value::{Name, Value};
 use std::alloc::{AllocError, Global};
 
 /// The trees, the lists of trees, of parameters and their places, and of definitions that no node has taken yet.

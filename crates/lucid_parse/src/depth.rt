@@ -4,7 +4,7 @@ ghost use Rattle.std.specs.Prelude.{◌≡◌, List, [], ◌∷◌, None, IfOk, 
 ghost use Rattle.lucid_parse.specs.Depth.{below, copies, found, here, least_in, search_from};
 
 use crate::state::{Defines, Item};
-use lucid_value::Stack;
+use lucid_lists::Stack;
 use std::alloc::{AllocError, Global};
 
 // Puts a depth onto the stack so many times.

@@ -9,8 +9,8 @@ use crate::level::{level_of, operator_in};
 use crate::state::{Defines, Focus, Frame, Item};
 use crate::terminal::Terminal;
 use lucid_forms::Operator;
+use lucid_lists::Stack;
 use lucid_ops::Form;
-use lucid_value::Stack;
 use std::alloc::AllocError;
 
 /// The level of what stands alone or in parentheses, which binds tightest.

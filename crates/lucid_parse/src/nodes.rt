@@ -9,7 +9,7 @@ use crate::machine::{finish_to, step_to};
 use crate::refusal::ParseRefusal;
 use crate::state::{BorrowedItem, Focus};
 use crate::terminal::TerminalAt;
-use lucid_value::Stack;
+use lucid_lists::Stack;
 use std::alloc::Global;
 
 /// The nodes of the program, each behind its parts; `end` is the source's length.

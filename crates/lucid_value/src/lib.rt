@@ -15,9 +15,7 @@ pub use crate::laws::{
 pub use crate::list_scan::list_front;
 pub use crate::lists::{append, cons, head, pick_item, tail};
 pub use crate::names::{Name, is_name_byte, is_reserved};
-pub use crate::numbers::Numbers;
 pub use crate::read::{ReadRefusal, read_value};
-pub use crate::stack::Stack;
 pub use crate::texts::{cut, join};
 use std::alloc::{AllocError, Global};
 use std::cmp::Ordering;
@@ -31,11 +29,9 @@ mod laws;
 mod list_scan;
 mod lists;
 mod names;
-mod numbers;
 mod read;
 mod same;
 mod show;
-mod stack;
 mod texts;
 
 /// No value weighs more. A word or a string weighs 1 and one for each byte, a list 1 and the weights of its items, all
