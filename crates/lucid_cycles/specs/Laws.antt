@@ -1,6 +1,7 @@
 -- A depth that is enough: the approximation at it is defined at every time, over all inputs.
 use Rattle.std.specs.Prelude.{◌≡◌, ℕ, ◌+◌, ◌*◌, List, [], IsSome}
-use Rattle.lucid_tree.specs.Tree.{PlainTree, form, name, call, block, PlainTrees, no_trees, tree, PlainDefs, no_defs, defines, defines_function, defines_current}
+use Rattle.lucid_tree.specs.Tree.{PlainTree, PlainTrees, PlainDefs}
+use Rattle.lucid_tree.specs.Each.{EachForm, EachFormIn, EachFormInDefs}
 use Rattle.lucid_tree.specs.Size.{count}
 use Rattle.lucid_tree.specs.Shape.{FitsHead}
 use Rattle.lucid_tree.specs.Levels.{Elements}
@@ -14,22 +15,14 @@ use Rattle.lucid_cycles.specs.Graph.{Bindings}
 use Rattle.lucid_cycles.specs.Judgments.{IsEnough}
 
 -- Each form of the tree has the parts that its row looks at, as every tree of the program has.
-abbrev mutual
-  pub HasParts : PlainTree → Type 0
-  HasParts (form at f es) = FitsHead f (count es) × HaveParts es
-  HasParts (name at n) = Unit {0}
-  HasParts (call at n es) = HaveParts es
-  HasParts (block at e ds) = HasParts e × DefsHaveParts ds
+abbrev pub HasParts : PlainTree → Type 0
+HasParts = EachForm (λ f es. FitsHead f (count es))
 
-  pub HaveParts : PlainTrees → Type 0
-  HaveParts no_trees = Unit {0}
-  HaveParts (tree e es) = HasParts e × HaveParts es
+abbrev pub HaveParts : PlainTrees → Type 0
+HaveParts = EachFormIn (λ f es. FitsHead f (count es))
 
-  pub DefsHaveParts : PlainDefs → Type 0
-  DefsHaveParts no_defs = Unit {0}
-  DefsHaveParts (defines at x e ds) = HasParts e × DefsHaveParts ds
-  DefsHaveParts (defines_function at x ns ats e ds) = HasParts e × DefsHaveParts ds
-  DefsHaveParts (defines_current at x e ds) = HasParts e × DefsHaveParts ds
+abbrev pub DefsHaveParts : PlainDefs → Type 0
+DefsHaveParts = EachFormInDefs (λ f es. FitsHead f (count es))
 
 -- The approximation at factor * t + add is defined at every time t, at each space, whatever the elements of the inputs are.
 abbrev pub IsDefinedAtDepth : PlainTree → (factor add : ℕ) → Type 0

@@ -2,7 +2,8 @@
 -- arguments as their arities say.
 use Rattle.std.specs.Prelude.{◌≡◌, ℕ, ◌<◌, ◌^◌, Option, Some, None}
 use Rattle.lucid_ops.specs.Arity.{arity}
-use Rattle.lucid_tree.specs.Tree.{Head, apply, PlainTree, form, name, call, block, PlainTrees, no_trees, tree, PlainDefs, no_defs, defines, defines_function, defines_current}
+use Rattle.lucid_tree.specs.Tree.{Head, apply, PlainTree, PlainTrees, PlainDefs}
+use Rattle.lucid_tree.specs.Each.{EachForm, EachFormIn, EachFormInDefs}
 use Rattle.lucid_tree.specs.Size.{count, nodes_in, nodes_in_defs}
 use Rattle.lucid_tree.specs.Env.{Env, empty, scope, args}
 use Rattle.lucid_plain.specs.declared.eval.Point.{Point}
@@ -13,22 +14,14 @@ FitsArity (apply op n) es = count es ≡ arity op
 FitsArity _ es = Unit {0}
 
 -- each operator in the tree has as many arguments as its arity says
-abbrev mutual
-  pub Applies : PlainTree → Type 0
-  Applies (form at f es) = FitsArity f es × AllApply es
-  Applies (name at n) = Unit {0}
-  Applies (call at n es) = AllApply es
-  Applies (block at e ds) = Applies e × DefsApply ds
+abbrev pub Applies : PlainTree → Type 0
+Applies = EachForm FitsArity
 
-  pub AllApply : PlainTrees → Type 0
-  AllApply no_trees = Unit {0}
-  AllApply (tree e es) = Applies e × AllApply es
+abbrev pub AllApply : PlainTrees → Type 0
+AllApply = EachFormIn FitsArity
 
-  pub DefsApply : PlainDefs → Type 0
-  DefsApply no_defs = Unit {0}
-  DefsApply (defines at x e ds) = Applies e × DefsApply ds
-  DefsApply (defines_function at x ns ats e ds) = Applies e × DefsApply ds
-  DefsApply (defines_current at x e ds) = Applies e × DefsApply ds
+abbrev pub DefsApply : PlainDefs → Type 0
+DefsApply = EachFormInDefs FitsArity
 
 abbrev pub IsTime : Option ℕ → Type 0
 IsTime None = Unit {0}

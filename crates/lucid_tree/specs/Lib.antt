@@ -19,6 +19,7 @@ pub mod Demand
 pub mod WellMade
 pub mod Output
 pub mod Find
+pub mod Each
 pub mod Spaceless
 pub mod Laws
 pub mod PlanLaws

@@ -1,6 +1,7 @@
 -- Expressions without the four forms over space, and environments all of whose trees are without them.
 use Rattle.std.specs.Prelude.{◌≡◌, Bool, true, false}
-use Rattle.lucid_tree.specs.Tree.{Head, initial, succ, sby, atspace, PlainTree, form, name, call, block, PlainTrees, no_trees, tree, PlainDefs, no_defs, defines, defines_function, defines_current}
+use Rattle.lucid_tree.specs.Tree.{Head, initial, succ, sby, atspace, PlainTree, PlainTrees, PlainDefs}
+use Rattle.lucid_tree.specs.Each.{EachForm, EachFormIn, EachFormInDefs}
 use Rattle.lucid_tree.specs.Env.{Env, empty, scope, args}
 
 -- `initial`, `succ`, `sby` and `atspace`
@@ -12,22 +13,14 @@ is_over_space atspace = true
 is_over_space _ = false
 
 -- no form over space stands in the tree
-abbrev mutual
-  pub IsSpaceless : PlainTree → Type 0
-  IsSpaceless (form at f es) = (is_over_space f ≡ false) × AreSpaceless es
-  IsSpaceless (name at n) = Unit {0}
-  IsSpaceless (call at n es) = AreSpaceless es
-  IsSpaceless (block at e ds) = IsSpaceless e × DefsAreSpaceless ds
+abbrev pub IsSpaceless : PlainTree → Type 0
+IsSpaceless = EachForm (λ f es. is_over_space f ≡ false)
 
-  pub AreSpaceless : PlainTrees → Type 0
-  AreSpaceless no_trees = Unit {0}
-  AreSpaceless (tree e es) = IsSpaceless e × AreSpaceless es
+abbrev pub AreSpaceless : PlainTrees → Type 0
+AreSpaceless = EachFormIn (λ f es. is_over_space f ≡ false)
 
-  pub DefsAreSpaceless : PlainDefs → Type 0
-  DefsAreSpaceless no_defs = Unit {0}
-  DefsAreSpaceless (defines at x e ds) = IsSpaceless e × DefsAreSpaceless ds
-  DefsAreSpaceless (defines_function at x ns ats e ds) = IsSpaceless e × DefsAreSpaceless ds
-  DefsAreSpaceless (defines_current at x e ds) = IsSpaceless e × DefsAreSpaceless ds
+abbrev pub DefsAreSpaceless : PlainDefs → Type 0
+DefsAreSpaceless = EachFormInDefs (λ f es. is_over_space f ≡ false)
 
 -- nor in any tree of the environment
 abbrev pub EnvIsSpaceless : Env → Type 0
