@@ -18,6 +18,10 @@ use Rattle.lucid_equations.specs.declared.rows.NameRow.{NameRow}
 use Rattle.lucid_equations.specs.declared.rows.PlaceRow.{PlaceRow}
 use Rattle.lucid_equations.specs.declared.table.Table.{Table}
 
+-- No table has more inputs: a source has no more names than bytes.
+abbrev pub most_inputs : ℕ
+most_inputs = 1048576
+
 -- the scope of a number has this parent and is of this kind
 abbrev pub ScopeIs : List ScopeRow → (scope parent : ℕ) → ScopeKind → Type 0
 ScopeIs xs s p k = slice_get xs s ≡ Some (record { parent = p; kind = k })
@@ -138,11 +142,11 @@ module _ (t : Table) where
   abbrev pub PlacesPass : Type 0
   PlacesPass = (q : ℕ) (r : PlaceRow) → slice_get t.places q ≡ Some r → PlacePasses r
 
-  -- 7. The root stands in scope 0; the inputs' names differ, and there are at most 1,048,576 of them.
+  -- 7. The root stands in scope 0; the inputs' names differ, and there are not too many of them.
   pub record RootStands : Type 0 where
     pub root : StandsIn t.nodes 0 t.root
     pub differ : AllDiffer t.inputs
-    pub few : length t.inputs ≤ 1048576
+    pub few : length t.inputs ≤ most_inputs
 
   -- 8. The scope of each node, of each name and of each call place is there.
   pub record RowsHaveScopes : Type 0 where

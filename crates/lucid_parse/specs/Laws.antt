@@ -4,7 +4,7 @@ use Rattle.lucid_value.specs.Names.{is_reserved}
 use Rattle.lucid_ops.specs.declared.op.Op.{Op}
 use Rattle.lucid_ops.specs.Rows.{operator_row}
 use Rattle.lucid_tree.specs.Tree.{PlainTree}
-use Rattle.lucid_tree.specs.WellMade.{depth, places, IsWellMade}
+use Rattle.lucid_tree.specs.WellMade.{most_tree_depth, depth, places, IsWellMade}
 use Rattle.lucid_scan.specs.declared.token.Token.{Token}
 use Rattle.lucid_scan.specs.Refusals.{most_source_bytes}
 use Rattle.lucid_scan.specs.Texts.{is_mark}
@@ -49,10 +49,10 @@ TokensHaveOneRefusal =
     (source : List ℕ) (tokens : List Token) (why other : ParseRefusal) → IsRefused source tokens why → IsRefused source tokens other → why ≢ refusal.NoMemory → other ≢ refusal.NoMemory
     → why ≡ other
 
--- Tokens that spell a tree of depth 400 or less are refused for want of memory alone.
+-- Tokens that spell a tree that isn't too deep are refused for want of memory alone.
 abbrev pub SpelledTokensAreNotRefused : Type 0
 SpelledTokensAreNotRefused =
-    (source : List ℕ) (tokens : List Token) (tree : PlainTree) (why : ParseRefusal) → SpellsTree source tokens tree → depth tree ≤ 400 → IsRefused source tokens why → why ≡ refusal.NoMemory
+    (source : List ℕ) (tokens : List Token) (tree : PlainTree) (why : ParseRefusal) → SpellsTree source tokens tree → depth tree ≤ most_tree_depth → IsRefused source tokens why → why ≡ refusal.NoMemory
 
 -- The spelling of each data operator is a token: a mark or a reserved word.
 abbrev pub OperatorsAreTokens : Type 0

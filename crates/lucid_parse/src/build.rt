@@ -3,7 +3,7 @@
 ghost use Rattle.std.specs.Prelude.{◌≡◌, ◌≤◌, List, [], ◌∷◌, IfOk};
 ghost use Rattle.lucid_value.specs.View.{plain};
 ghost use Rattle.lucid_tree.specs.Tree.{PlainTree};
-ghost use Rattle.lucid_tree.specs.WellMade.{depth};
+ghost use Rattle.lucid_tree.specs.WellMade.{depth, most_tree_depth};
 ghost use Rattle.lucid_parse.specs.Grammar.{Spells, PlacedTerminal};
 ghost use Rattle.lucid_parse.specs.Fill.{fill_item};
 ghost use Rattle.lucid_parse.specs.Flat.{written};
@@ -279,7 +279,7 @@ impl Piles {
 
 /// The tree that the nodes are those of. A tree of depth over 400 is never built.
 pub fn build(alloc: Global, items: &[BorrowedItem<'_>]) -> Result<Tree, AllocError>
-    requires { (terminals : List PlacedTerminal) × (spelled : PlainTree) × Spells 0 terminals spelled × (items_of items.now ≡ written [] spelled) × (depth spelled ≤ 400) }
+    requires { (terminals : List PlacedTerminal) × (spelled : PlainTree) × Spells 0 terminals spelled × (items_of items.now ≡ written [] spelled) × (depth spelled ≤ most_tree_depth) }
     ensures { IfOk result (λ tree. (terminals : List PlacedTerminal) → (spelled : PlainTree) → Spells 0 terminals spelled → items_of items.now ≡ written [] spelled → tree ≡ spelled) }
 {
     let mut piles = Piles::new(alloc);

@@ -4,9 +4,9 @@ use Rattle.lucid_scan.specs.declared.token.Token.{Token}
 use Rattle.lucid_scan.specs.Tokens.{Tokens}
 use Rattle.lucid_scan.specs.declared.refusal.ScanRefusal.{ScanRefusal}
 use Rattle.lucid_scan.specs.declared.refusal.ScanRefusal.TheVariants as scan_refusal
-use Rattle.lucid_scan.specs.Refusals.{Refuses}
+use Rattle.lucid_scan.specs.Refusals.{Refuses, most_source_bytes}
 use Rattle.lucid_tree.specs.Tree.{PlainTree, form, name, call, block, PlainTrees, no_trees, tree, PlainDefs, no_defs, defines, defines_function, defines_current}
-use Rattle.lucid_tree.specs.WellMade.{depth}
+use Rattle.lucid_tree.specs.WellMade.{depth, most_tree_depth}
 use Rattle.lucid_parse.specs.declared.refusal.ParseRefusal.{ParseRefusal}
 use Rattle.lucid_parse.specs.declared.refusal.ParseRefusal.TheVariants as parse_refusal
 use Rattle.lucid_parse.specs.Spelled.{SpellsTree, IsRefused}
@@ -36,7 +36,7 @@ pub record IsParsed (e : PlainTree) : Type 0 where
   pub tokens : List Token
   pub are_tokens : Tokens source 0 tokens
   pub spells : SpellsTree source tokens e
-  pub shallow : depth e ≤ 400
+  pub shallow : depth e ≤ most_tree_depth
 
 -- Scanning and parsing the source gives a tree that is this one up to places; for want of memory alone are they refused.
 pub record IsReadAs (source : List ℕ) (e : PlainTree) : Type 0 where
@@ -44,11 +44,11 @@ pub record IsReadAs (source : List ℕ) (e : PlainTree) : Type 0 where
   pub are_tokens : Tokens source 0 tokens
   pub tree : PlainTree
   pub spells : SpellsTree source tokens tree
-  pub shallow : depth tree ≤ 400
+  pub shallow : depth tree ≤ most_tree_depth
   pub same : unplaced tree ≡ unplaced e
   pub scanned : (why : ScanRefusal) → Refuses source why → why ≡ scan_refusal.NoMemory
   pub parsed : (why : ParseRefusal) → IsRefused source tokens why → why ≡ parse_refusal.NoMemory
 
 -- The canonical source of a tree that was parsed is read as that tree, up to places, where it isn't too long to be read at all.
 abbrev pub CanonicalIsReadAgain : Type 0
-CanonicalIsReadAgain = (e : PlainTree) → IsParsed e → length (canonical e) ≤ 1048576 → IsReadAs (canonical e) e
+CanonicalIsReadAgain = (e : PlainTree) → IsParsed e → length (canonical e) ≤ most_source_bytes → IsReadAs (canonical e) e

@@ -1,6 +1,7 @@
 //! Writes the canonical source of a tree.
 ghost use Rattle.std.specs.Prelude.{◌≡◌, ◌∷◌, ◌++◌, [], ℕ, ◌≤◌, length, OnOk, OnErr, codes};
 ghost use Rattle.lucid_value.specs.View.{plain};
+ghost use Rattle.lucid_scan.specs.Refusals.{most_source_bytes};
 ghost use Rattle.lucid_tree.specs.Tree.{no_defs};
 ghost use Rattle.lucid_tree.specs.View.{tree_of};
 ghost use Rattle.lucid_tree.specs.DefsView.{one_def};
@@ -251,7 +252,7 @@ pub fn print_tree(alloc: Global, tree: &Tree, to: &mut Vec<u8>) -> Result<(), Al
     requires { IsWellMade tree.now }
     ensures text { OnOk result (to.new.items ≡ to.old.items ++ canonical tree.now) }
     ensures unchanged { OnErr result (to.new.items ≡ to.old.items) }
-    ensures again { IsParsed tree.now → length (canonical tree.now) ≤ 1048576 → IsReadAs (canonical tree.now) tree.now }
+    ensures again { IsParsed tree.now → length (canonical tree.now) ≤ most_source_bytes → IsReadAs (canonical tree.now) tree.now }
 {
     canonical_is_read_again();
     let mut text = Vec::new(alloc);

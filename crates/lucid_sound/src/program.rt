@@ -1,7 +1,7 @@
 //! The program of a table, where the table is sound.
 ghost use Rattle.std.specs.Prelude.{◌≡◌, ◌≤◌, ◌↔◌, length, true, IfOk, IfErr};
 ghost use Rattle.lucid_equations.specs.Programs.{table_of};
-ghost use Rattle.lucid_equations.specs.Sound.{StandsIn, IsSound};
+ghost use Rattle.lucid_equations.specs.Sound.{StandsIn, IsSound, most_inputs};
 ghost use Rattle.lucid_sound.specs.WrongRows.{RowsAreRight, IsRefused};
 ghost use Rattle.lucid_sound.specs.declared.program.BuildRefusal.TheVariants.{NoMemory};
 
@@ -73,7 +73,7 @@ fn check_rows(alloc: Global, table: &Table) -> Result<(), BuildRefusal>
 
 // Whether the root stands in scope 0, and there are not too many inputs.
 fn is_root_right(table: &Table) -> bool
-    ensures { (result ≡ true) ↔ (StandsIn table.now.nodes 0 table.now.root × (length table.now.inputs ≤ 1048576)) }
+    ensures { (result ≡ true) ↔ (StandsIn table.now.nodes 0 table.now.root × (length table.now.inputs ≤ most_inputs)) }
 {
     stands_in(table.nodes.items(), 0, table.root) && table.inputs.items().len() <= MOST_INPUTS
 }

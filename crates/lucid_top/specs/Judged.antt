@@ -2,7 +2,7 @@
 -- none is at fault; and then its judgment may be refused.
 use Rattle.std.specs.Prelude.{◌≡◌, ℕ, ◌≤◌, List, length}
 use Rattle.lucid_tree.specs.Tree.{PlainTree}
-use Rattle.lucid_tree.specs.WellMade.{depth, places}
+use Rattle.lucid_tree.specs.WellMade.{depth, most_tree_depth, places}
 use Rattle.lucid_scan.specs.declared.token.Token.{Token}
 use Rattle.lucid_scan.specs.declared.refusal.ScanRefusal.{ScanRefusal}
 use Rattle.lucid_scan.specs.Tokens.{Tokens}
@@ -23,10 +23,6 @@ use Rattle.lucid_top.specs.Refusals.{scan_stop, parse_stop, scope_stop, judge_st
 pub record HasTokens (source : List ℕ) (tokens : List Token) : Type 0 where
   pub short : length source ≤ most_source_bytes
   pub listed : Tokens source 0 tokens
-
--- how deep a tree may be
-abbrev pub most_tree_depth : ℕ
-most_tree_depth = 400
 
 -- The source spells the tree, which isn't too deep.
 pub record Spelt (source : List ℕ) (p : PlainTree) : Type 0 where

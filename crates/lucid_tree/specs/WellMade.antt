@@ -26,6 +26,10 @@ abbrev mutual
   depths_in_defs (defines_function at x ns ats e ds) = max (depth e) (depths_in_defs ds)
   depths_in_defs (defines_current at x e ds) = max (depth e) (depths_in_defs ds)
 
+-- No program's tree is deeper.
+abbrev pub most_tree_depth : ℕ
+most_tree_depth = 400
+
 -- The places of a tree's nodes, definitions and parameters.
 abbrev mutual
   pub places : PlainTree → List ℕ

@@ -8,6 +8,9 @@ use crate::parts::Parts;
 use crate::shape::Shape;
 use crate::tree::Tree;
 
+/// No program's tree is deeper.
+pub const MAX_TREE_DEPTH: u32 = 400;
+
 impl Tree {
     /// The depth of the tree: its root has depth 1, and a part of a node has one more than the node. It takes no memory.
     pub fn depth(&self) -> u32

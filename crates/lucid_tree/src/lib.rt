@@ -2,6 +2,7 @@
 #![tactic(auto)]
 
 pub use crate::definitions::Definitions;
+pub use crate::depth::MAX_TREE_DEPTH;
 pub use crate::lists::{Names, Places32};
 pub use crate::parts::Parts;
 pub use crate::shape::{Head, Shape};
