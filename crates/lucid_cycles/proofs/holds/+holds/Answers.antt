@@ -43,8 +43,9 @@ tree_holds-returns-in-Call t c =
     let P = asked c.args.ask.now in
     let b = scoped_binding c.args.scoped.now in
     subst (λ e. Tells P c.parts_hold-in-Call.result (edges b c.args.from c.args.delay e)) c.in-Call.ensures.tree
-    (subst (λ w. Tells P c.parts_hold-in-Call.result (edges_in b c.args.from w w c.in-Call.args))
-    (to_z-of_z w64 c.args.delay c.ranges.delay) c.parts_hold-in-Call.ensures)
+    (subst (λ es. Tells P c.parts_hold-in-Call.result (edges_in b c.args.from c.args.delay c.args.delay es)) c.parts.ensures
+    (subst (λ w. Tells P c.parts_hold-in-Call.result (edges_in b c.args.from w w c.parts.result))
+    (to_z-of_z w64 c.args.delay c.ranges.delay) c.parts_hold-in-Call.ensures))
 
 pub tree_holds-returns-then-tree_holds : goal.tree_holds-returns-then-tree_holds
 tree_holds-returns-then-tree_holds t c =
