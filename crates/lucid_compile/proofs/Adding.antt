@@ -1,8 +1,10 @@
 -- What a tree adds, from what its parts add.
 use Rattle.std.proofs.Common.{◌≡◌, ℕ, suc, ◌+◌, ◌<◌, ◌≤◌, Bool, true, false, ◌&&◌, IsTrue, nat_eq, nat_lt, if◌then◌else◌, length, List, [], ◌∷◌, ◌++◌, take, drop, get_or, slice_get, Some, Result, Ok, Err, IfOk, OnOk, refl, sym, ap, ◌∙◌, subst, arith, add-zero, take_all, length-take-le}
 use Rattle.std.proofs.lemmas.List.{take_more}
+use Rattle.lucid_lemmas.proofs.Lists.{slice_get-push_same as some-last}
 use Rattle.lucid_value.specs.Plain.{PlainValue}
 use Rattle.lucid_ops.specs.declared.op.Op.{Op}
+use Rattle.lucid_ops.proofs.OperatorRows.{arity_few as few}
 use Rattle.lucid_tree.specs.WellMade.{fits_arity, is_shaped}
 use Rattle.lucid_ops.specs.Arity.{arity}
 use Rattle.lucid_tree.specs.Tree.{Head, const, apply, choose, PlainTree, form, name, call, block, PlainTrees, no_trees, tree, PlainDefs, no_defs, defines, defines_function, defines_current}
@@ -14,6 +16,7 @@ use Rattle.lucid_tree.specs.declared.tree.DefKind.{DefKind}
 use Rattle.lucid_tree.specs.declared.tree.DefKind.TheVariants.{Plain as PlainKind, Function as FunctionKind, Current as CurrentKind}
 use Rattle.lucid_scope.specs.Scoped.{scoped_inputs, scoped_binding}
 use Rattle.lucid_equations.specs.Nodes.{PlainNode, PlainNodes, row, freeze, invoke, no_nodes, node, plain_entry, current_entry, parameter_entry}
+use Rattle.lucid_equations.proofs.Rising.{at-kept, all_at-kept}
 use Rattle.lucid_compile.specs.Static.{Static, in_block, freezes, frame, level, in_body}
 use Rattle.lucid_compile.specs.Places.{first_place}
 use Rattle.lucid_equations.specs.Ranges.{EachBelow}
@@ -25,7 +28,7 @@ use Rattle.lucid_equations.specs.declared.rows.NodeRow.{NodeRow}
 use Rattle.lucid_equations.specs.declared.rows.PlaceRow.{PlaceRow}
 use Rattle.lucid_compile.specs.declared.building.Body.{Body}
 use Rattle.lucid_compile.specs.declared.building.Here.{Here}
-use Rattle.lucid_compile.proofs.Opening.{some-last, here-tree, here-trees, here-defs, here-parameters, here-scopes}
+use Rattle.lucid_compile.proofs.Opening.{here-tree, here-trees, here-defs, here-parameters, here-scopes}
 use Rattle.lucid_equations.specs.declared.rows.ScopeRow.{ScopeRow}
 use Rattle.lucid_equations.specs.declared.rows.ScopeKind.TheVariants.{Called as CalledScope, Frozen as FrozenScope}
 use Rattle.lucid_compile.specs.Numbered.{name_mark, function_mark, call_number}
@@ -34,8 +37,8 @@ use Rattle.lucid_compile.specs.Bound.{Stand, Numbered, name_node, callee_place, 
 use Rattle.lucid_compile.specs.Forms.{IsForm, AddsForm}
 use Rattle.lucid_compile.specs.Holds.{nodes_in, IsKnown, IsOpen, StandsAt, Grown, GrownTo, AllGrownTo, AddsTree, AddsTrees, AddsDefs}
 use Rattle.lucid_compile.specs.Steps.{AddsParameters}
-use Rattle.lucid_compile.proofs.Growing.{begins-then, scope-kept, stands-kept, each-stands-kept, no-nodes, no-scopes, open-grown, opened-is, parent-below, at-kept, all_at-kept, grown-none, grown-then, push-grown, keep-grown, keep-constant, keep-known, define-grown, close-grown, place-grown, within-kept, each-kept}
-use Rattle.lucid_compile.proofs.Shapes.{left-true, right-true, shaped-front, shaped-defs, few, as_many, freezes-front, freezes-last}
+use Rattle.lucid_compile.proofs.Growing.{begins-then, scope-kept, stands-kept, each-stands-kept, no-nodes, no-scopes, open-grown, opened-is, parent-below, grown-none, grown-then, push-grown, keep-grown, keep-constant, keep-known, define-grown, close-grown, place-grown, within-kept, each-kept}
+use Rattle.lucid_compile.proofs.Shapes.{left-true, right-true, shaped-front, shaped-defs, as_many, freezes-front, freezes-last}
 use Rattle.lucid_compile.proofs.Named.{parts-own, named-stands, named-filled, named-means, named-known, named-parts}
 
 pub if_ok : {T E : Type 0} (r : Result T E) (P Q : T → Type 0) → IfOk r P → ((x : T) → P x → Q x) → IfOk r Q

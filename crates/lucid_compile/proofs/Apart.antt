@@ -6,12 +6,12 @@ use Rattle.std.proofs.lemmas.Option.{none-some}
 use Rattle.lucid_tree.specs.Tree.{PlainTree, form, name, call, block, PlainTrees, no_trees, tree, PlainDefs, no_defs, defines, defines_function, defines_current}
 use Rattle.lucid_tree.specs.Members.{In, AllDiffer}
 use Rattle.lucid_tree.specs.WellMade.{places, places_in, places_in_defs, is_shaped, are_shaped, defs_are_shaped, IsWellMade}
+use Rattle.lucid_tree.proofs.Times.{times, times-append, once-differ, differ-once}
 use Rattle.lucid_equations.specs.Nodes.{plain_entry, current_entry}
 use Rattle.lucid_compile.specs.Static.{Static, outermost, in_block, in_function, freezes, in_body}
 use Rattle.lucid_compile.specs.Bound.{Stand, Numbered, bound_node, block_scopes, FunctionStand, Log, no_log, with_stand, with_function, opened_block, opened_function, with_parameters, added, added_all, added_defs}
 use Rattle.lucid_compile.proofs.Opening.{parameters-scopes}
 use Rattle.lucid_compile.proofs.Shapes.{left-true, right-true}
-use Rattle.lucid_compile.proofs.Logs.{times, times-append, once-differ, differ-once}
 
 -- the place of the first definition
 abbrev first_of : PlainDefs → ℕ

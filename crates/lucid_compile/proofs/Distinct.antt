@@ -1,22 +1,15 @@
 -- Counts of different items, under a function that is one for one on the list.
-use Rattle.std.proofs.Common.{◌≡◌, ℕ, suc, ◌≤◌, length, List, [], ◌∷◌, map, refl, sym, ap, ◌∙◌, subst, inl, inr, arith}
+use Rattle.std.proofs.Common.{◌≡◌, ℕ, ◌≤◌, length, List, [], ◌∷◌, map, refl, sym, ap, ◌∙◌, subst, inl, inr, arith}
+use Rattle.std.proofs.lemmas.List.{length-map}
 use Rattle.lucid_tree.specs.Members.{In, Inside, AllDiffer}
+use Rattle.lucid_tree.proofs.Members.{in_map, fewer}
 use Rattle.lucid_equations.specs.Counts.{HasDistinct}
 
 module _ {A B : Type 0} (f : A → B) where
-  pub in_map : (x : A) (xs : List A) → In x xs → In (f x) (map f xs)
-  in_map x [] h = h
-  in_map x (y ∷ ys) (inl e) = inl (ap f e)
-  in_map x (y ∷ ys) (inr h) = inr (in_map x ys h)
-
   pub from_map : (y : B) (xs : List A) → In y (map f xs) → (x : A) × In x xs × (y ≡ f x)
   from_map y [] h = absurd h
   from_map y (x ∷ xs) (inl e) = (x, inl refl, e)
   from_map y (x ∷ xs) (inr h) = let r : (x : A) × In x xs × (y ≡ f x) = from_map y xs h in (r.0, inr r.1, r.2)
-
-  length_map : (xs : List A) → length (map f xs) ≡ length xs
-  length_map [] = refl
-  length_map (x ∷ xs) = ap suc (length_map xs)
 
   -- f is one for one on the list
   abbrev pub OneOn : List A → Type 0
@@ -29,7 +22,7 @@ module _ {A B : Type 0} (f : A → B) where
 
   once_before : (us : List A) → AllDiffer (map f us) → AllDiffer us
   once_before [] r = tt
-  once_before (u ∷ us) r = ((λ i. r.0 (in_map u us i)), once_before us r.1)
+  once_before (u ∷ us) r = ((λ i. r.0 (in_map f u us i)), once_before us r.1)
 
   -- what stands in the image, item by item
   picked : (xs : List A) (us : List B) → Inside us (map f xs) → (vs : List A) × (us ≡ map f vs) × Inside vs xs
@@ -43,9 +36,9 @@ module _ {A B : Type 0} (f : A → B) where
   map-distinct xs n one h = record {
     items = map f h.items;
     once = map_once xs one h.items h.inside h.once;
-    inside = λ y i. let q : (x : A) × In x h.items × (y ≡ f x) = from_map y h.items i in subst (λ z. In z (map f xs)) (sym q.2) (in_map q.0 xs (h.inside q.0 q.1));
-    outside = λ y i. let q : (x : A) × In x xs × (y ≡ f x) = from_map y xs i in subst (λ z. In z (map f h.items)) (sym q.2) (in_map q.0 h.items (h.outside q.0 q.1));
-    size = length_map h.items ∙ h.size;
+    inside = λ y i. let q : (x : A) × In x h.items × (y ≡ f x) = from_map y h.items i in subst (λ z. In z (map f xs)) (sym q.2) (in_map f q.0 xs (h.inside q.0 q.1));
+    outside = λ y i. let q : (x : A) × In x xs × (y ≡ f x) = from_map y xs i in subst (λ z. In z (map f h.items)) (sym q.2) (in_map f q.0 h.items (h.outside q.0 q.1));
+    size = length-map h.items f ∙ h.size;
   }
 
   pub distinct-before_map : (xs : List A) (n : ℕ) → OneOn xs → HasDistinct (map f xs) n → HasDistinct xs n
@@ -55,35 +48,11 @@ module _ {A B : Type 0} (f : A → B) where
         items = vs.0;
         once = once_before vs.0 (subst AllDiffer vs.1 h.once);
         inside = vs.2;
-        outside = λ x i. let q : (y : A) × In y vs.0 × (f x ≡ f y) = from_map (f x) vs.0 (subst (λ z. In (f x) z) vs.1 (h.outside (f x) (in_map x xs i))) in subst (λ z. In z vs.0) (sym (one x q.0 i (vs.2 q.0 q.1) q.2)) q.1;
-        size = sym (length_map vs.0) ∙ ap length (sym vs.1) ∙ h.size;
+        outside = λ x i. let q : (y : A) × In y vs.0 × (f x ≡ f y) = from_map (f x) vs.0 (subst (λ z. In (f x) z) vs.1 (h.outside (f x) (in_map f x xs i))) in subst (λ z. In z vs.0) (sym (one x q.0 i (vs.2 q.0 q.1) q.2)) q.1;
+        size = sym (length-map vs.0 f) ∙ ap length (sym vs.1) ∙ h.size;
       }
 
 module _ {A : Type 0} where
-  without : (v : A) (us : List A) → In v us → List A
-  without v [] i = []
-  without v (u ∷ us) (inl e) = us
-  without v (u ∷ us) (inr i) = u ∷ without v us i
-
-  length-without : (v : A) (us : List A) (i : In v us) → suc (length (without v us i)) ≡ length us
-  unfolding without
-  length-without v [] i = absurd i
-  length-without v (u ∷ us) (inl e) = refl
-  length-without v (u ∷ us) (inr i) = ap suc (length-without v us i)
-
-  in-without : (v : A) (us : List A) (i : In v us) (x : A) → (x ≡ v → ⊥) → In x us → In x (without v us i)
-  unfolding without
-  in-without v [] i x d j = absurd j
-  in-without v (u ∷ us) (inl e) x d (inl e') = absurd (d (e' ∙ sym e))
-  in-without v (u ∷ us) (inl e) x d (inr j) = j
-  in-without v (u ∷ us) (inr i) x d (inl e) = inl e
-  in-without v (u ∷ us) (inr i) x d (inr j) = inr (in-without v us i x d j)
-
-  pub fewer : (vs us : List A) → AllDiffer vs → Inside vs us → length vs ≤ length us
-  fewer [] us r h = omega arith
-  fewer (v ∷ vs) us r h =
-      omega (arith, length-without v us (h v (inl refl)), fewer vs (without v us (h v (inl refl))) r.1 (λ x i. in-without v us (h v (inl refl)) x (λ e. r.0 (subst (λ z. In z vs) e i)) (h x (inr i))))
-
   -- the number is the only one
   pub distinct-one : (xs : List A) (n k : ℕ) → HasDistinct xs n → HasDistinct xs k → n ≡ k
   distinct-one xs n k h g =
@@ -93,4 +62,4 @@ module _ {A : Type 0} where
 pub image-fewer : {A B : Type 0} (f : A → B) (xs : List A) (n k : ℕ) → HasDistinct xs n → HasDistinct (map f xs) k → k ≤ n
 image-fewer {A} f xs n k h g =
     let vs : (vs : List A) × (g.items ≡ map f vs) × Inside vs xs = picked f xs g.items g.inside in
-    omega (arith, h.size, g.size, ap length vs.1, length_map f vs.0, fewer vs.0 h.items (once_before f vs.0 (subst AllDiffer vs.1 g.once)) (λ x i. h.outside x (vs.2 x i)))
+    omega (arith, h.size, g.size, ap length vs.1, length-map vs.0 f, fewer vs.0 h.items (once_before f vs.0 (subst AllDiffer vs.1 g.once)) (λ x i. h.outside x (vs.2 x i)))

@@ -3,9 +3,10 @@ use Rattle.std.proofs.Common.{◌≡◌, ℕ, suc, ◌+◌, ◌<◌, ◌≤◌, 
 use Rattle.std.proofs.Math.Logic.{∥∥₁_elim}
 use Rattle.std.specs.Option.{option_map}
 use Rattle.std.proofs.lemmas.List.{length-map}
-use Rattle.std.proofs.lemmas.Option.{slice_get-map}
+use Rattle.std.proofs.lemmas.Option.{slice_get-map, slice_get_within as index-below}
 use base.Stored.{coded_ℕ}
 use Rattle.std.specs.Coded.{Coded-set, coded_option, coded_list}
+use Rattle.lucid_lemmas.proofs.Lists.{slice_get-append_left as some-left}
 use Rattle.lucid_tree.specs.Tree.{PlainTree, no_trees}
 use Rattle.lucid_tree.specs.Members.{In, AllDiffer}
 use Rattle.lucid_tree.specs.WellMade.{IsWellMade}
@@ -24,6 +25,7 @@ use Rattle.lucid_equations.specs.declared.rows.ScopeKind.TheVariants.{Root}
 use Rattle.lucid_equations.specs.declared.rows.Entry.{Entry}
 use Rattle.lucid_equations.specs.declared.rows.Entry.TheVariants.{Plain, Parameter, Current, Called}
 use Rattle.lucid_equations.specs.declared.table.Table.{Table}
+use Rattle.lucid_equations.proofs.NumbersRead.{grown-count as grow-count}
 use Rattle.lucid_compile.specs.declared.numbering.Mark.{Mark}
 use Rattle.lucid_compile.specs.Static.{outermost, Origin, Site, Source, nodes_for, in_body}
 use Rattle.lucid_compile.specs.Compiles.{HasRow, Actuals}
@@ -36,10 +38,9 @@ use Rattle.lucid_compile.specs.Building.{Lists, no_lists, with_scope, OneScope}
 use Rattle.lucid_compile.specs.Bound.{Stand, Numbered, numbers_in, bound_node, bound_nodes, callee_place, CallStand, FunctionStand, Log, no_log, added}
 use Rattle.lucid_compile.specs.Holds.{nodes_in, AreKnown, EachRow, NodeFits, NameFits, PlaceFits, ScopesHold, NodesHold, NamesHold, PlacesHold, IsEntry, IsNameRow, IsPlaceRow, Holds, GrownTo, AddsTree}
 use Rattle.lucid_compile.specs.Steps.{row_of_call, call_row, rows_of_calls, with_calls, IsTableOf}
-use Rattle.lucid_compile.proofs.Opening.{index-below, some-left, slice-past}
+use Rattle.lucid_compile.proofs.Opening.{slice-past}
 use Rattle.lucid_compile.proofs.Pairs.{row-at, pairs-count}
 use Rattle.lucid_compile.proofs.Indices.{index-of, marked-at, call-numbers, name-numbers}
-use Rattle.lucid_compile.proofs.Growing.{grow-count}
 use Rattle.lucid_compile.proofs.Spots.{index, spots, spot_keys, spot-at}
 use Rattle.lucid_compile.proofs.Actuals.{nth, nth_of, nth-nodes_for, actuals-read}
 use Rattle.lucid_compile.proofs.Promised.{compiled-keeps}

@@ -3,10 +3,14 @@ use Rattle.std.proofs.Common.{◌≡◌, ℕ, zero, suc, ◌+◌, ◌<◌, ◌�
 use Rattle.std.proofs.lemmas.List.{append-nil, map-append}
 use Rattle.std.proofs.Math.Seq.{get_or-append_seam}
 use Rattle.std.proofs.lemmas.List.{get_or_append_left}
+use Rattle.std.proofs.lemmas.Option.{slice_get_within as index-below}
+use Rattle.lucid_lemmas.proofs.Lists.{slice_get-append_left as some-left, slice_get-push_same as some-last}
 use Rattle.lucid_value.specs.Plain.{PlainValue, fault}
 use Rattle.lucid_tree.specs.Tree.{const}
 use Rattle.lucid_scope.specs.Scoped.{scoped_inputs}
 use Rattle.lucid_equations.specs.Nodes.{PlainNode, PlainEntry, row, no_nodes, node, plain_entry, called_entry, current_entry}
+use Rattle.lucid_equations.proofs.Rising.{at-kept, all_at-kept}
+use Rattle.lucid_equations.proofs.NumbersRead.{grown-count as grow-count}
 use Rattle.lucid_compile.specs.Static.{Static, outermost, in_block, in_function, frame, in_body}
 use Rattle.lucid_compile.specs.Numbered.{name_mark}
 use Rattle.lucid_equations.specs.declared.rows.ScopeRow.{ScopeRow}
@@ -14,7 +18,6 @@ use Rattle.lucid_equations.specs.Sound.{ScopeIs, StandsIn, EachStandsIn, PartsSt
 use Rattle.lucid_equations.specs.declared.rows.ScopeKind.{ScopeKind}
 use Rattle.lucid_equations.specs.declared.rows.ScopeKind.TheVariants.{Called as CalledScope, Frozen as FrozenScope}
 use Rattle.std.specs.Option.{option_map}
-use Rattle.lucid_compile.proofs.Opening.{index-below, some-left, some-last}
 use Rattle.lucid_equations.specs.Ranges.{EachBelow}
 use Rattle.lucid_equations.specs.Rows.{no_node, at, all_at, parts, as_node, grow}
 use Rattle.lucid_equations.specs.declared.rows.Node.{Node}
@@ -32,13 +35,6 @@ use Rattle.lucid_compile.proofs.Pairs.{pairs-one, pairs-count, pairs-kept}
 
 pub begins-then : {A : Type 0} (xs ys zs : List A) → Begins xs ys → Begins ys zs → Begins xs zs
 begins-then xs ys zs h k = (h.0 ++ k.0, k.1 ∙ ap (λ l. l ++ k.0) h.1 ∙ append_assoc xs h.0 k.0)
-
-pub at-kept : (ts us : List PlainNode) (i : ℕ) → Begins ts us → i < length ts → at us i ≡ at ts i
-at-kept ts us i b h = ap (λ l. get_or l i no_node) b.1 ∙ get_or_append_left ts b.0 no_node i h
-
-pub all_at-kept : (ts us : List PlainNode) (is : List ℕ) → Begins ts us → EachBelow (length ts) is → all_at us is ≡ all_at ts is
-all_at-kept ts us [] b h = refl
-all_at-kept ts us (i ∷ is) b h = λ j. node (at-kept ts us i b h.0 j) (all_at-kept ts us is b h.1 j)
 
 pub begins-itself : {A : Type 0} (xs : List A) → Begins xs xs
 begins-itself xs = ([], sym (append-nil xs))
@@ -107,13 +103,6 @@ known-one n (x ∷ rs) r h g = (h.0, known-one n rs r h.1 g)
 grow-one : (vs : List PlainValue) (ns : List (List ℕ)) (ts : List PlainNode) (rs : List NodeRow) (r : NodeRow) → grow vs ns ts (rs ++ r ∷ []) ≡ grow vs ns ts rs ++ as_node vs ns (grow vs ns ts rs) r.node ∷ []
 grow-one vs ns ts [] r = refl
 grow-one vs ns ts (x ∷ rs) r = grow-one vs ns (ts ++ as_node vs ns ts x.node ∷ []) rs r
-
-pub grow-count : (vs : List PlainValue) (ns : List (List ℕ)) (ts : List PlainNode) (rs : List NodeRow) → length (grow vs ns ts rs) ≡ length ts + length rs
-grow-count vs ns ts [] = omega arith
-grow-count vs ns ts (r ∷ rs) =
-    let h = grow-count vs ns (ts ++ as_node vs ns ts r.node ∷ []) rs in
-    let g = length-append ts (as_node vs ns ts r.node ∷ []) in
-    omega (arith, h, g)
 
 -- each row of some and one more, and what follows of each
 

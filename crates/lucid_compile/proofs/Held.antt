@@ -6,6 +6,7 @@ use Rattle.lucid_tree.specs.Members.{In}
 use Rattle.lucid_tree.specs.Levels.{Elements, HoldsExactly}
 use Rattle.lucid_tree.specs.Env.{empty, Referent}
 use Rattle.lucid_tree.specs.Meaning as of_trees
+use Rattle.lucid_tree.proofs.Members.{in_map}
 use Rattle.lucid_tags.specs.Contexts.{root}
 use Rattle.lucid_equations.specs.Nodes.{Equations}
 use Rattle.lucid_equations.specs.Datons.{Daton}
@@ -18,7 +19,7 @@ use Rattle.lucid_compile.proofs.Targets.{Placed}
 use Rattle.lucid_compile.proofs.Same.{HeldAlike, hval-same}
 use Rattle.lucid_compile.proofs.One.{daton-one}
 use Rattle.lucid_compile.proofs.Placed.{Each, each-at}
-use Rattle.lucid_compile.proofs.Distinct.{from_map, in_map}
+use Rattle.lucid_compile.proofs.Distinct.{from_map}
 use Rattle.lucid_compile.proofs.Numbers.{valued_daton, PlacedValue, values-placed, valued_datons-are}
 
 same_values : (o r : Option PlainValue) → ((v : PlainValue) → o ≡ Some v → r ≡ Some v) → ((v : PlainValue) → r ≡ Some v → o ≡ Some v) → o ≡ r

@@ -4,6 +4,7 @@ use Rattle.std.proofs.lemmas.List.{map-append}
 use Rattle.lucid_tree.specs.Tree.{PlainTree}
 use Rattle.lucid_tree.specs.Members.{AllDiffer}
 use Rattle.lucid_tree.specs.WellMade.{places, IsWellMade}
+use Rattle.lucid_tree.proofs.Times.{times, once-differ, differ-once, times-append}
 use Rattle.lucid_scope.specs.Sites.{sites as name_sites}
 use Rattle.lucid_compile.specs.Static.{outermost}
 use Rattle.lucid_compile.specs.Numbered.{key_at}
@@ -11,7 +12,7 @@ use Rattle.lucid_compile.specs.Keys.{stand_key, call_key, place_key, key_of_func
 use Rattle.lucid_compile.specs.Bound.{Numbered, Log, no_log, added}
 use Rattle.lucid_compile.proofs.Indices.{map_map}
 use Rattle.lucid_compile.proofs.Passing.{calls_pass_actuals, NoFaults, passes}
-use Rattle.lucid_compile.proofs.Logs.{names_at, calls_at, sites_at, functions_at, times, once-differ, differ-once, names-times, functions-times, sites-times, times-append, own-first}
+use Rattle.lucid_compile.proofs.Logs.{names_at, calls_at, sites_at, functions_at, names-times, functions-times, sites-times, own-first}
 
 module _ (w : Numbered) (e : PlainTree) (made : IsWellMade e) where
   abbrev z : Log

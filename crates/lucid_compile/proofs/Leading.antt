@@ -3,6 +3,7 @@
 use Rattle.std.proofs.Common.{◌≡◌, ℕ, ◌+◌, ◌<◌, length, List, [], ◌∷◌, ◌++◌, map, Option, Some, None, slice_get, sym, ap, ◌∙◌, subst, arith}
 use Rattle.std.specs.Option.{option_map}
 use Rattle.std.proofs.lemmas.Option.{slice_get-map}
+use Rattle.lucid_lemmas.proofs.Lists.{slice_get-append_left as some-left}
 use Rattle.lucid_tree.specs.Members.{In}
 use Rattle.lucid_scope.specs.Scoped.{scoped_binding, scoped_inputs}
 use Rattle.lucid_scope.specs.declared.scoped.Binding.{Binding}
@@ -27,7 +28,7 @@ use Rattle.lucid_compile.specs.Bound.{Stand, Numbered, bound_node, node_by, call
 use Rattle.lucid_compile.specs.Holds.{EachRow, IsOpen, HasTarget, IsNodeRow, IsEntry, IsNameRow, IsPlaceRow, IsBody, FunctionsHold, NameFits, PlaceFits, BodyFits}
 use Rattle.lucid_compile.specs.Steps.{callee_number, row_of_call, call_row, row_by, rows_of_calls}
 use Rattle.lucid_compile.proofs.HeldRows.{HasRows}
-use Rattle.lucid_compile.proofs.Opening.{some-left, slice-past}
+use Rattle.lucid_compile.proofs.Opening.{slice-past}
 use Rattle.lucid_compile.proofs.Growing.{each-row}
 use Rattle.lucid_compile.proofs.Adding.{count-same}
 use Rattle.lucid_compile.proofs.Pairs.{row-at, thing-at}

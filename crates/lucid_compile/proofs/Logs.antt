@@ -1,10 +1,9 @@
 -- In a log no place has two keys of one kind.
-use Rattle.std.proofs.Common.{◌≡◌, ℕ, suc, ◌+◌, ◌≤◌, Bool, true, false, IsTrue, cond, length, List, [], ◌∷◌, ◌++◌, map, nat_eq, ◌⊎◌, inl, inr, refl, sym, ap, ◌∙◌, subst, arith, append_assoc}
-use Rattle.std.proofs.lemmas.Bool.Decides.{nat_tests}
+use Rattle.std.proofs.Common.{◌≡◌, ℕ, suc, ◌+◌, ◌≤◌, IsTrue, cond, length, List, [], ◌∷◌, ◌++◌, map, nat_eq, refl, sym, ap, ◌∙◌, arith, append_assoc}
 use Rattle.std.proofs.lemmas.List.{append-nil, map-append}
 use Rattle.lucid_tree.specs.Tree.{PlainTree, form, name, call, block, PlainTrees, no_trees, tree, PlainDefs, no_defs, defines, defines_function, defines_current}
-use Rattle.lucid_tree.specs.Members.{In, AllDiffer}
 use Rattle.lucid_tree.specs.WellMade.{places, places_in, places_in_defs}
+use Rattle.lucid_tree.proofs.Times.{times, times-append}
 use Rattle.lucid_equations.specs.Nodes.{plain_entry, current_entry, parameter_entry}
 use Rattle.lucid_compile.specs.Static.{Static, in_block, in_body}
 use Rattle.lucid_compile.specs.Places.{place_of, first_place}
@@ -31,45 +30,6 @@ parameters-at k i [] l = sym (append-nil (names_at l))
 parameters-at k i (at ∷ ats) l =
     let s : Stand = record { at = at; home = k; entry = parameter_entry i } in
     parameters-at k (suc i) ats (with_stand s l) ∙ ap (λ x. x ++ ats) (map-append (λ x. x.at) l.names (s ∷ [])) ∙ append_assoc (names_at l) (at ∷ []) ats
-
--- how often a place stands in a list
-abbrev pub times : ℕ → List ℕ → ℕ
-times x [] = 0
-times x (y ∷ ys) = cond (nat_eq x y) 1 0 + times x ys
-
-pub times-append : (x : ℕ) (xs ys : List ℕ) → times x (xs ++ ys) ≡ times x xs + times x ys
-times-append x [] ys = omega arith
-times-append x (y ∷ xs) ys = omega (arith, times-append x xs ys)
-
-not_there : (x : ℕ) (ys : List ℕ) → times x ys ≡ 0 → In x ys → ⊥
-not_there x [] e h = h
-not_there x (y ∷ ys) e (inl q) = absurd (omega (arith, e, itself x y q))
-  where
-    itself : (x y : ℕ) → x ≡ y → ◌≡◌ {A = ℕ} (cond (nat_eq x y) 1 0) 1
-    itself x y q = grind (arith, nat_tests, q)
-not_there x (y ∷ ys) e (inr h) = not_there x ys (omega (arith, e)) h
-
-pub once-differ : (xs : List ℕ) → ((x : ℕ) → times x xs ≤ 1) → AllDiffer xs
-once-differ [] h = tt
-once-differ (y ∷ ys) h =
-    let self : ◌≡◌ {A = ℕ} (cond (nat_eq y y) 1 0) 1 = grind (arith, nat_tests) in
-    (not_there y ys (omega (arith, h y, self)), once-differ ys (λ x. omega (arith, h x)))
-
-absent-by : (x y : ℕ) (ys : List ℕ) (b : Bool) → nat_eq x y ≡ b → ((x ≡ y) ⊎ In x ys → ⊥) → times x ys ≡ 0 → cond (nat_eq x y) 1 0 + times x ys ≡ 0
-absent-by x y ys true e h z = absurd (h (inl (grind (arith, nat_tests, e))))
-absent-by x y ys false e h z = rw e (omega (arith, z))
-
-absent : (x : ℕ) (ys : List ℕ) → (In x ys → ⊥) → times x ys ≡ 0
-absent x [] h = refl
-absent x (y ∷ ys) h = absent-by x y ys (nat_eq x y) refl h (absent x ys (λ i. h (inr i)))
-
-once-by : (x y : ℕ) (ys : List ℕ) (b : Bool) → nat_eq x y ≡ b → (In y ys → ⊥) → times x ys ≤ 1 → cond (nat_eq x y) 1 0 + times x ys ≤ 1
-once-by x y ys true e h z = rw e (omega (arith, absent x ys (λ i. h (subst (λ v. In v ys) (grind (arith, nat_tests, e)) i))))
-once-by x y ys false e h z = rw e (omega (arith, z))
-
-pub differ-once : (xs : List ℕ) → AllDiffer xs → (x : ℕ) → times x xs ≤ 1
-differ-once [] h x = omega arith
-differ-once (y ∷ ys) h x = once-by x y ys (nat_eq x y) refl h.0 (differ-once ys h.1 x)
 
 stand-times : (x : ℕ) (s : Stand) (l : Log) → times x (names_at (with_stand s l)) ≡ times x (names_at l) + cond (nat_eq x s.at) 1 0
 stand-times x s l = ap (times x) (map-append (λ y. y.at) l.names (s ∷ [])) ∙ times-append x (names_at l) (s.at ∷ []) ∙ omega arith

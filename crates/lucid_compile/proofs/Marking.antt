@@ -1,7 +1,8 @@
 -- Keys and their marks, one after another.
-use Rattle.std.proofs.Common.{◌≡◌, ℕ, zero, suc, ◌+◌, ◌<◌, ◌≤◌, Bool, true, false, cond, length, List, [], ◌∷◌, ◌++◌, map, get_or, Option, Some, nat_eq, nat_lt, ◌⊎◌, inl, inr, refl, sym, ap, ◌∙◌, subst, arith}
+use Rattle.std.proofs.Common.{◌≡◌, ℕ, zero, suc, ◌+◌, ◌<◌, Bool, true, false, cond, length, List, [], ◌∷◌, ◌++◌, map, get_or, Option, Some, nat_eq, inl, inr, refl, sym, ap, ◌∙◌, subst, arith}
 use Rattle.std.proofs.lemmas.Bool.Decides.{nat_tests}
 use Rattle.std.proofs.lemmas.List.{get_or_default, map-append}
+use Rattle.lucid_lemmas.proofs.Numbers.{below_or_last as at-last}
 use Rattle.lucid_tree.specs.Members.{In, AllDiffer}
 use Rattle.lucid_tree.proofs.Members.{in_left, in_right}
 use Rattle.lucid_compile.specs.declared.numbering.Key.{Key}
@@ -19,13 +20,6 @@ apart [] h i j c d l b e = absurd (omega (arith, b))
 apart (k ∷ ks) h i zero c d l b e = absurd (omega (arith, l))
 apart (k ∷ ks) h zero (suc j) c d l b e = h.0 (subst (λ x. In x (map key_at ks)) (sym e) (stands ks j d (omega (arith, b))))
 apart (k ∷ ks) h (suc i) (suc j) c d l b e = apart ks h.1 i j c d (omega (arith, l)) (omega (arith, b)) e
-
-side : (a b : ℕ) (t : Bool) → nat_lt a b ≡ t → (a < b) ⊎ (b ≤ a)
-side a b true is = inl (grind (arith, is))
-side a b false is = inr (grind (arith, is))
-
-at-last : (k i : ℕ) → k < i + 1 → (k < i) ⊎ (k ≡ i)
-at-last k i h = elim (side k i (nat_lt k i) refl) [ inl l ↦ inl l | inr g ↦ inr (omega (arith, h, g)) ]
 
 other-key : (at x : ℕ) (a b : Option Mark) → (at ≡ x → ⊥) → (t : Bool) → nat_eq at x ≡ t → cond t a b ≡ b
 other-key at x a b ne true is = absurd (ne (grind (arith, nat_tests, is)))

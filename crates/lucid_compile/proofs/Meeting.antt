@@ -2,6 +2,7 @@
 use Rattle.std.proofs.Common.{◌≡◌, ℕ, ◌<◌, Bool, true, false, if◌then◌else◌, length, nat_eq, List, [], ◌∷◌, ◌++◌, Option, Some, None, slice_get, refl, sym, ap, ◌∙◌, subst, inl, inr, arith}
 use Rattle.std.proofs.lemmas.Bool.Decides.{nat_tests}
 use Rattle.std.specs.List.{position_or_len}
+use Rattle.std.proofs.lemmas.Option.{slice_get_within as index-below}
 use Rattle.lucid_tree.specs.Tree.{PlainTree, form, name, call, block, PlainTrees, no_trees, tree, PlainDefs, no_defs, defines, defines_function, defines_current}
 use Rattle.lucid_tree.specs.Env.{Found, absent, plain_def, function_def, current_def, definition, param, same_name}
 use Rattle.lucid_tree.specs.Size.{count}
@@ -22,7 +23,6 @@ use Rattle.lucid_compile.specs.Numbered.{function_mark}
 use Rattle.lucid_compile.specs.Bound.{Stand, Numbered, bound_node, node_by, name_node, callee_place, Target, no_target, of_name, of_call, NodeStand, form_stand, name_stand, call_stand, block_stands, CallStand, FunctionStand, Log, with_stand, with_call, with_function, opened_block, opened_function, with_parameters, added, added_all, added_defs}
 use Rattle.lucid_compile.specs.Holds.{EachRow}
 use Rattle.lucid_compile.specs.Steps.{callee_number}
-use Rattle.lucid_compile.proofs.Opening.{index-below}
 use Rattle.lucid_compile.proofs.Growing.{each-one}
 use Rattle.lucid_compile.proofs.Stands.{parameters-calls, parameters-nodes}
 use Rattle.lucid_compile.proofs.Depths.{IsOutside}

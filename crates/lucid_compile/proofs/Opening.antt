@@ -1,34 +1,17 @@
 -- Scopes that are open stay where they are while more is added.
-use Rattle.std.proofs.Common.{◌≡◌, ℕ, zero, suc, ◌+◌, ◌<◌, length, List, [], ◌∷◌, ◌++◌, Some, slice_get, refl, sym, ap, ◌∙◌, subst, arith}
+use Rattle.std.proofs.Common.{◌≡◌, ℕ, suc, ◌+◌, length, List, [], ◌∷◌, ◌++◌, slice_get, refl, sym, ap, ◌∙◌, subst, arith}
+use Rattle.lucid_lemmas.proofs.Lists.{slice_get-append_left as some-left}
 use Rattle.lucid_tree.specs.Tree.{PlainTree, form, name, call, block, PlainTrees, no_trees, tree, PlainDefs, no_defs, defines, defines_function, defines_current}
 use Rattle.lucid_compile.specs.Static.{Static, in_block, freezes, frame, in_body}
 use Rattle.lucid_compile.specs.Bound.{Numbered, Log, block_scopes, with_scopes, with_parameters, added, added_all, added_defs}
 use Rattle.lucid_compile.specs.Holds.{IsOpen, StandsAt}
 use Rattle.lucid_compile.specs.declared.building.Here.{Here}
 
--- an index at which something stands is below the count
-pub index-below : {A : Type 0} (xs : List A) (i : ℕ) (x : A) → slice_get xs i ≡ Some x → i < length xs
-index-below [] i x e =
-    let q : Some x ≡ slice_get [] i = sym e in
-    absurd (cc)
-index-below (y ∷ xs) zero x e = omega arith
-index-below (y ∷ xs) (suc i) x e = omega (arith, index-below xs i x e)
-
--- what stands in a list stands in a longer one
-pub some-left : {A : Type 0} (xs ys : List A) (i : ℕ) (x : A) → slice_get xs i ≡ Some x → slice_get (xs ++ ys) i ≡ Some x
-some-left [] ys i x e = absurd (cc)
-some-left (y ∷ xs) ys zero x e = e
-some-left (y ∷ xs) ys (suc i) x e = some-left xs ys i x e
-
 pub slice-past : {A : Type 0} (xs ys : List A) (i : ℕ) → slice_get (xs ++ ys) (length xs + i) ≡ slice_get ys i
 slice-past [] ys i = ap (slice_get ys) (omega arith)
 slice-past (x ∷ xs) ys i =
     let e : length (x ∷ xs) + i ≡ suc (length xs + i) = omega arith in
     ap (slice_get (x ∷ (xs ++ ys))) e ∙ slice-past xs ys i
-
-pub some-last : {A : Type 0} (xs : List A) (x : A) → slice_get (xs ++ x ∷ []) (length xs) ≡ Some x
-some-last [] x = refl
-some-last (y ∷ xs) x = some-last xs x
 
 pub parameters-scopes : (k : Static) (i : ℕ) (ats : List ℕ) (l : Log) → (with_parameters k i ats l).scopes ≡ l.scopes
 parameters-scopes k i [] l = refl

@@ -1,6 +1,7 @@
 -- In a well made tree whose names have no fault each call passes an actual: a function has a parameter, and a call as many actuals.
-use Rattle.std.proofs.Common.{◌≡◌, ℕ, Bool, true, false, ◌&&◌, IsTrue, if◌then◌else◌, length, List, ◌++◌, Option, Some, None, nat_eq, nat_lt, inl, inr, refl, subst, arith}
+use Rattle.std.proofs.Common.{◌≡◌, ℕ, Bool, true, false, ◌&&◌, IsTrue, if◌then◌else◌, length, List, ◌++◌, Option, Some, None, nat_eq, nat_lt, inl, inr, refl, subst, arith, sym}
 use Rattle.std.proofs.lemmas.Bool.Decides.{nat_tests}
+use Rattle.std.proofs.lemmas.Option.{none-some}
 use Rattle.lucid_tree.specs.Tree.{PlainTree, form, name, call, block, PlainTrees, no_trees, tree, PlainDefs, no_defs, defines, defines_function, defines_current}
 use Rattle.lucid_tree.specs.Size.{count}
 use Rattle.lucid_tree.specs.Members.{In}
@@ -35,9 +36,6 @@ abbrev mutual
   defs_pass_actuals (defines at x e ds) = calls_pass_actuals e && defs_pass_actuals ds
   defs_pass_actuals (defines_function at x ns ats e ds) = calls_pass_actuals e && defs_pass_actuals ds
   defs_pass_actuals (defines_current at x e ds) = calls_pass_actuals e && defs_pass_actuals ds
-
-not_some : {A : Type 0} (x : A) → Some x ≡ None → ⊥
-not_some x e = cc
 
 -- the functions in scope have a parameter
 abbrev pub ScopesAreShaped : Static → Type 0
@@ -86,15 +84,15 @@ meaning-shaped x (in_block ds k) h = defined-shaped (definition x ds) (in_block 
 meaning-shaped x (in_function d ns ats k) h = parameter-shaped (param x ns) d ats (in_function d ns ats k) (meaning x k) (meaning-shaped x k h)
 
 given-some : (at n : ℕ) (m : Meaning) → call_fault at n m ≡ None → MeaningIsShaped m → IsTrue (nat_lt 0 n)
-given-some at n free e h = absurd (not_some _ e)
-given-some at n (plain_name d t k) e h = absurd (not_some _ e)
-given-some at n (parameter d i p k) e h = absurd (not_some _ e)
-given-some at n (current_name d t k o) e h = absurd (not_some _ e)
+given-some at n free e h = absurd (none-some _ (sym e))
+given-some at n (plain_name d t k) e h = absurd (none-some _ (sym e))
+given-some at n (parameter d i p k) e h = absurd (none-some _ (sym e))
+given-some at n (current_name d t k o) e h = absurd (none-some _ (sym e))
 given-some at n (function d ns ats t k) e h = by-count (nat_eq (length ns) n) refl e
   where
     by-count : (b : Bool) → nat_eq (length ns) n ≡ b → (if b then None else Some (Arity at (length ns) n)) ≡ None → IsTrue (nat_lt 0 n)
     by-count true q z = subst (λ v. IsTrue (nat_lt 0 v)) (grind (arith, nat_tests, q)) h
-    by-count false q z = absurd (not_some _ z)
+    by-count false q z = absurd (none-some _ (sym z))
 
 some-given : (es : PlainTrees) → IsTrue (nat_lt 0 (count es)) → IsTrue (has_some es)
 some-given no_trees h = h

@@ -1,5 +1,6 @@
 -- The rows of a resolved tree's table are in range.
 use Rattle.std.proofs.Common.{◌≡◌, ℕ, suc, ◌<◌, ◌≤◌, length, List, [], ◌∷◌, sym, subst, arith}
+use Rattle.std.proofs.lemmas.Option.{slice_get_within as index-below}
 use Rattle.lucid_tree.specs.Members.{In}
 use Rattle.lucid_scope.specs.Scoped.{scoped_inputs}
 use Rattle.lucid_equations.specs.Nodes.{PlainNode, PlainEntry}
@@ -16,7 +17,6 @@ use Rattle.lucid_compile.specs.Places.{first_place}
 use Rattle.lucid_compile.specs.Numbered.{name_mark, call_number}
 use Rattle.lucid_compile.specs.Bound.{Stand, Numbered, name_node, Target, no_target, of_name, of_call, NodeStand, CallStand, Log}
 use Rattle.lucid_compile.specs.Holds.{IsKnown, AreKnown, EachRow, OneForOne, HasTarget, IsNodeRow, IsEntry, IsNameRow, IsPlaceRow}
-use Rattle.lucid_compile.proofs.Opening.{index-below}
 use Rattle.lucid_compile.proofs.Meeting.{NameLeads, TargetMet, NodeMet}
 
 plain-in_range : (w : Numbered) (n : Sizes) (r : Node) → IsKnown n.constants r → HasTarget w r no_target → NodeNames n r

@@ -1,10 +1,7 @@
 -- Trees that are shaped, and definitions that freeze the time, part by part.
-use Rattle.std.proofs.Common.{◌≡◌, ℕ, ◌≤◌, Bool, true, false, ◌&&◌, IsTrue, nat_eq, List, [], ◌∷◌, ◌++◌, refl, arith}
+use Rattle.std.proofs.Common.{◌≡◌, ℕ, Bool, true, false, ◌&&◌, IsTrue, nat_eq, List, [], ◌∷◌, ◌++◌, refl, arith}
 use Rattle.std.proofs.lemmas.Bool.Decides.{nat_tests}
-use Rattle.lucid_ops.specs.declared.op.Op.{Op}
-use Rattle.lucid_ops.specs.declared.op.Op.TheVariants.{Add, Sub, Mul, Div, Mod, Pow, Neg, Abs, Eq, Ne, Lt, Le, Gt, Ge, Cmp, Not, Head as HeadOp, Tail, Cons, Append, Join, Length, Substr, Nth, MakeWord, MakeString, IsInt, IsWord, IsString, IsList, IsTruth, IsNull, IsAtom, IsEod, IsError}
 use Rattle.lucid_tree.specs.WellMade.{is_shaped, are_shaped, defs_are_shaped}
-use Rattle.lucid_ops.specs.Arity.{arity}
 use Rattle.lucid_tree.specs.Tree.{PlainTree, PlainDefs, no_defs}
 use Rattle.lucid_tree.specs.Lists.{trees_of}
 use Rattle.lucid_tree.specs.DefsView.{def_of, one_def, defs_of}
@@ -48,44 +45,6 @@ shaped-defs (x ∷ xs) d h =
     let s = shaped-one x (defs_of (xs ++ d ∷ [])) x.kind h in
     let r = shaped-defs xs d s.1 in
     (shaped-joined x (defs_of xs) x.kind s.0 r.0, r.1)
-
--- no operator has more than three arguments
-pub few : (op : Op) → arity op ≤ 3
-few Add = omega arith
-few Sub = omega arith
-few Mul = omega arith
-few Div = omega arith
-few Mod = omega arith
-few Pow = omega arith
-few Neg = omega arith
-few Abs = omega arith
-few Eq = omega arith
-few Ne = omega arith
-few Lt = omega arith
-few Le = omega arith
-few Gt = omega arith
-few Ge = omega arith
-few Cmp = omega arith
-few Not = omega arith
-few HeadOp = omega arith
-few Tail = omega arith
-few Cons = omega arith
-few Append = omega arith
-few Join = omega arith
-few Length = omega arith
-few Substr = omega arith
-few Nth = omega arith
-few MakeWord = omega arith
-few MakeString = omega arith
-few IsInt = omega arith
-few IsWord = omega arith
-few IsString = omega arith
-few IsList = omega arith
-few IsTruth = omega arith
-few IsNull = omega arith
-few IsAtom = omega arith
-few IsEod = omega arith
-few IsError = omega arith
 
 pub as_many : (n m : ℕ) → IsTrue (nat_eq n m) → n ≡ m
 as_many n m h = grind (arith, nat_tests)

@@ -1,13 +1,14 @@
 -- The places of a tree's nodes, each with what is in scope there: in a well made tree they differ.
-use Rattle.std.proofs.Common.{◌≡◌, ℕ, suc, ◌+◌, ◌≤◌, true, false, List, [], ◌∷◌, ◌++◌, map, Some, slice_get, nat_eq, if◌then◌else◌, inl, inr, sym, ap, ◌∙◌, subst, arith}
+use Rattle.std.proofs.Common.{◌≡◌, ℕ, suc, ◌+◌, ◌≤◌, false, List, [], ◌∷◌, ◌++◌, map, Some, slice_get, nat_eq, if◌then◌else◌, inl, inr, sym, ap, ◌∙◌, subst, arith}
 use Rattle.std.proofs.lemmas.Bool.Decides.{nat_tests}
 use Rattle.std.proofs.lemmas.List.{map-append}
+use Rattle.std.proofs.lemmas.Bool.{eq-eqb as eq-true}
 use Rattle.lucid_tree.specs.Tree.{PlainTree, form, name, call, block, PlainTrees, no_trees, tree, PlainDefs, no_defs, defines, defines_function, defines_current}
 use Rattle.lucid_tree.specs.Members.{In, AllDiffer}
 use Rattle.lucid_tree.specs.WellMade.{places, places_in, places_in_defs, IsWellMade}
+use Rattle.lucid_tree.proofs.Times.{times, times-append, once-differ, differ-once}
+use Rattle.lucid_tree.proofs.Members.{in_map}
 use Rattle.lucid_compile.specs.Static.{Static, outermost, in_block, Origin, in_body}
-use Rattle.lucid_compile.proofs.Distinct.{in_map}
-use Rattle.lucid_compile.proofs.Logs.{times, times-append, once-differ, differ-once}
 
 -- the places of a tree's nodes, each with what is in scope there
 abbrev mutual
@@ -60,9 +61,6 @@ module _ (x : ℕ) where
 abbrev pub index : List ℕ → ℕ → ℕ
 index [] a = 0
 index (k ∷ ks) a = if nat_eq k a then 0 else suc (index ks a)
-
-eq-true : (a b : ℕ) → a ≡ b → nat_eq a b ≡ true
-eq-true a b h = grind (arith, nat_tests)
 
 eq-false : (a b : ℕ) → (a ≡ b → ⊥) → nat_eq a b ≡ false
 eq-false a b h = grind (arith, nat_tests)

@@ -8,6 +8,8 @@ use Rattle.std.proofs.lemmas.List.Elements.{All-nil, All-push, All-head, All-tai
 use Rattle.std.proofs.lemmas.Map.Keys.{IsDistinct-from_apart}
 use Rattle.std.proofs.lemmas.Map.Steps.{length-le_from_distinct_below}
 use Rattle.std.proofs.lemmas.Bool.Decides.{nat_tests}
+use Rattle.std.proofs.lemmas.Bool.{cases_lt}
+use Rattle.lucid_lemmas.proofs.Lists.{some_left}
 use Rattle.lucid_tree.specs.Members.{In, AllDiffer}
 use Rattle.lucid_cycles.specs.declared.edge.Edge.{Edge}
 use Rattle.lucid_cycles.specs.Graph.{factor_of}
@@ -57,11 +59,6 @@ above : (p : List ℕ) (n x y : ℕ) → length p ≡ n → y < potential p x �
 above p n x y e h (inl l) = l
 above p n x y e h (inr l) = absurd (omega (arith, h, get_or_past p x 0 (omega (arith, e, l))))
 
-below-or : (x n : ℕ) → (x < n) ⊎ (n ≤ x)
-below-or x zero = inr (omega arith)
-below-or zero (suc n) = inl (omega arith)
-below-or (suc x) (suc n) = elim (below-or x n) [ inl h ↦ inl (omega (arith, h)) | inr h ↦ inr (omega (arith, h)) ]
-
 pub back-start : (g : List Edge) (a n : ℕ) (hs : List (List ℕ)) (level name : ℕ) → level ≡ n + 1 → potential (at_level hs n) name < potential (at_level hs level) name → Back g a n hs [] [] level name
 back-start g a n hs level name e h = record {
   trail = sym e;
@@ -93,7 +90,7 @@ back-more g a n hs names delays level k name e l m q b new d =
           (subst (λ i. potential (at_level hs i) name < potential (at_level hs level) name) s rose) in
           subst (λ i. potential (at_level hs j) e.to < potential (at_level hs i) e.to) (sym s) r;
       once = differ-join names (name ∷ []) b.once ((λ i. i), tt) (λ x i j. elim j [ inl s ↦ new (subst (λ y. In y names) s i) | inr s ↦ s ]);
-      below = All-push (λ x. x < n) names name b.below (above (at_level hs level) n name (potential (at_level hs k) name) (length-of g a n hs l level (omega (arith, m, q, top))) rose (below-or name n));
+      below = All-push (λ x. x < n) names name b.below (above (at_level hs level) n name (potential (at_level hs k) name) (length-of g a n hs l level (omega (arith, m, q, top))) rose (cases_lt name n));
     }
 
 -- names that all differ and are below n are at most n
@@ -134,18 +131,13 @@ first-drop [] i z d h = absurd (omega (arith, h))
 first-drop (x ∷ xs) zero z d h = refl
 first-drop (x ∷ xs) (suc i) z d h = first-drop xs i z d (omega (arith, h))
 
-some-drop : (xs : List ℕ) (i : ℕ) → i < length xs → drop i xs ≢ []
-some-drop [] i h e = omega (arith, h)
-some-drop (x ∷ xs) zero h e = cc
-some-drop (x ∷ xs) (suc i) h e = some-drop xs i (omega (arith, h)) e
-
 pub closed : (g : List Edge) (a n : ℕ) (hs : List (List ℕ)) (names : List ℕ) (delays : List ℤ) (level name i : ℕ) → a ≡ factor_of n → AreLevels g a n hs → length hs ≡ n + 2
     → Back g a n hs names delays level name → i < length names → get_or names i 0 ≡ name → Closed g (drop i names) (drop i delays)
 closed g a n hs names delays level name i e l m b h is =
     let t = trail-drop g a (at_level hs) i (n + 1) names delays level name (omega (arith, h)) b.trail in
     let xs : List ℕ = drop i names in
     let ws : List ℤ = drop i delays in
-    let some : xs ≢ [] = some-drop names i h in
+    let some : xs ≢ [] = some_left names i h in
     let back : first_or name xs ≡ name = first-drop names i name 0 h ∙ is in
     let start : first_or 0 xs ≡ name = first-drop names i 0 0 h ∙ is in
     let all : length names ≤ n = few-names n names b.once b.below in

@@ -1,20 +1,20 @@
 -- The definitions of a tree's plain names: their places, the nodes by their parts, and the one with a number.
-use Rattle.std.proofs.Common.{◌≡◌, ℕ, ◌+◌, ◌<◌, ◌≤◌, Bool, true, false, cond, List, [], ◌∷◌, ◌++◌, length, get_or, map, ◌⊎◌, inl, inr, refl, sym, ap, subst, ◌∙◌, arith}
+use Rattle.std.proofs.Common.{◌≡◌, ℕ, ◌<◌, ◌≤◌, List, [], ◌∷◌, ◌++◌, length, get_or, map, ◌⊎◌, inl, inr, refl, sym, ap, ◌∙◌, arith}
 use Rattle.std.specs.Prelude.{nat_eq, nat_lt}
 use Rattle.std.specs.Borrow.{Bor}
 use Rattle.std.specs.List.{count_by, filter, flat_map, join_by}
 use Rattle.std.specs.List.Sorted.{IsPermutation, IsNonDecreasingBy}
-use Rattle.std.proofs.lemmas.Bool.Decides.{nat_tests}
 use Rattle.std.proofs.lemmas.List.{append-nil, get_or-map, get_or_default, length-map, map-append}
-use Rattle.std.proofs.lemmas.List.Sums.{sum_by-cons, sum_by-append}
+use Rattle.std.proofs.lemmas.Bool.{cases_lt}
 use Rattle.lucid_tree.specs.Tree.{PlainTree, form, name, call, block, PlainTrees, no_trees, tree, PlainDefs, no_defs, defines, defines_function, defines_current}
-use Rattle.lucid_tree.specs.Members.{In, AllDiffer}
+use Rattle.lucid_tree.specs.Members.{AllDiffer}
 use Rattle.lucid_tree.specs.WellMade.{places, places_in, places_in_defs}
 use Rattle.lucid_tree.specs.declared.tree.Def.{Def}
+use Rattle.lucid_tree.proofs.Times.{times, times-append, times-counted, differ-once}
 use Rattle.lucid_cycles.specs.Judged.{plain_names, plain_names_in, plain_names_in_defs}
 use Rattle.lucid_cycles.specs.JudgmentLine.{Definition, definitions, definitions_in, definitions_in_defs, definition_text, name_text}
 use Rattle.lucid_cycles.specs.Found.{definition, found_definitions, text_at}
-use Rattle.lucid_cycles.proofs.Ordered.{Once, count-map, no-more, one-at, none-at, lt-or}
+use Rattle.lucid_cycles.proofs.Ordered.{Once, count-map, one-at, none-at}
 use Rattle.lucid_cycles.proofs.Found.{text-in, text-out}
 
 -- the places of the definitions are those of the plain names
@@ -38,23 +38,13 @@ mutual
   names-places-defs (defines_function at x ns ats e ds) = both-parts (definitions e) (definitions_in_defs ds) (plain_names e) (plain_names_in_defs ds) (names-places e) (names-places-defs ds)
   names-places-defs (defines_current at x e ds) = both-parts (definitions e) (definitions_in_defs ds) (plain_names e) (plain_names_in_defs ds) (names-places e) (names-places-defs ds)
 
--- how often a place stands in a list
-abbrev times : ℕ → List ℕ → ℕ
-times x xs = count_by (λ y. nat_eq x y) xs
-
-times-cons : (x y : ℕ) (xs : List ℕ) → times x (y ∷ xs) ≡ cond (nat_eq x y) 1 0 + times x xs
-times-cons x y xs = sum_by-cons (λ z. cond (nat_eq x z) 1 0) y xs
-
-times-append : (x : ℕ) (xs ys : List ℕ) → times x (xs ++ ys) ≡ times x xs + times x ys
-times-append x xs ys = sum_by-append (λ z. cond (nat_eq x z) 1 0) xs ys
-
 -- and a plain name's place stands no more often among the names than among all places
 mutual
   few : (x : ℕ) (e : PlainTree) → times x (plain_names e) ≤ times x (places e)
-  few x (form at f es) = omega (arith, few-in x es, times-cons x at (places_in es))
+  few x (form at f es) = omega (arith, few-in x es)
   few x (name at n) = omega arith
-  few x (call at n es) = omega (arith, few-in x es, times-cons x at (places_in es))
-  few x (block at e ds) = omega (arith, few x e, few-defs x ds, times-append x (plain_names e) (plain_names_in_defs ds), times-append x (places e) (places_in_defs ds), times-cons x at (places e ++ places_in_defs ds))
+  few x (call at n es) = omega (arith, few-in x es)
+  few x (block at e ds) = omega (arith, few x e, few-defs x ds, times-append x (plain_names e) (plain_names_in_defs ds), times-append x (places e) (places_in_defs ds))
 
   few-in : (x : ℕ) (es : PlainTrees) → times x (plain_names_in es) ≤ times x (places_in es)
   few-in x no_trees = omega arith
@@ -62,35 +52,15 @@ mutual
 
   few-defs : (x : ℕ) (ds : PlainDefs) → times x (plain_names_in_defs ds) ≤ times x (places_in_defs ds)
   few-defs x no_defs = omega arith
-  few-defs x (defines at n e ds) = omega (arith, few x e, few-defs x ds, times-append x (plain_names e) (plain_names_in_defs ds), times-append x (places e) (places_in_defs ds), times-cons x at (plain_names e ++ plain_names_in_defs ds), times-cons x at (places e ++ places_in_defs ds))
-  few-defs x (defines_function at n ns ats e ds) = omega (arith, few x e, few-defs x ds, times-append x (plain_names e) (plain_names_in_defs ds), times-append x (ats ++ places e) (places_in_defs ds), times-append x ats (places e), times-cons x at ((ats ++ places e) ++ places_in_defs ds))
-  few-defs x (defines_current at n e ds) = omega (arith, few x e, few-defs x ds, times-append x (plain_names e) (plain_names_in_defs ds), times-append x (places e) (places_in_defs ds), times-cons x at (places e ++ places_in_defs ds))
-
-eq-of : (x y : ℕ) → nat_eq x y ≡ true → x ≡ y
-eq-of x y h = grind (arith, nat_tests, h)
-
-absent-on : (x y : ℕ) (xs : List ℕ) (b : Bool) → nat_eq x y ≡ b → (In x (y ∷ xs) → ⊥) → times x xs ≡ 0 → times x (y ∷ xs) ≡ 0
-absent-on x y xs true e h r = absurd (h (inl (eq-of x y e)))
-absent-on x y xs false e h r = no-more (λ z. nat_eq x z) y xs e ∙ r
-
-absent : (x : ℕ) (xs : List ℕ) → (In x xs → ⊥) → times x xs ≡ 0
-absent x [] h = refl
-absent x (y ∷ xs) h = absent-on x y xs (nat_eq x y) refl h (absent x xs (λ i. h (inr i)))
-
-once-on : (x y : ℕ) (xs : List ℕ) (b : Bool) → nat_eq x y ≡ b → (In y xs → ⊥) → times x xs ≤ 1 → times x (y ∷ xs) ≤ 1
-once-on x y xs true e h r =
-    let none : times x xs ≡ 0 = absent x xs (λ i. h (subst (λ z. In z xs) (eq-of x y e) i)) in
-    omega (arith, times-cons x y xs, ap {B = ℕ} (λ b. cond b 1 0) e, none)
-once-on x y xs false e h r = omega (arith, no-more (λ z. nat_eq x z) y xs e, r)
-
-once : (x : ℕ) (xs : List ℕ) → AllDiffer xs → times x xs ≤ 1
-once x [] h = omega arith
-once x (y ∷ xs) h = once-on x y xs (nat_eq x y) refl h.0 (once x xs h.1)
+  few-defs x (defines at n e ds) = omega (arith, few x e, few-defs x ds, times-append x (plain_names e) (plain_names_in_defs ds), times-append x (places e) (places_in_defs ds))
+  few-defs x (defines_function at n ns ats e ds) = omega (arith, few x e, few-defs x ds, times-append x (plain_names e) (plain_names_in_defs ds), times-append x (ats ++ places e) (places_in_defs ds), times-append x ats (places e))
+  few-defs x (defines_current at n e ds) = omega (arith, few x e, few-defs x ds, times-append x (plain_names e) (plain_names_in_defs ds), times-append x (places e) (places_in_defs ds))
 
 pub defined-once : (e : PlainTree) → AllDiffer (places e) → Once (λ (d : Definition). d.at) (definitions e)
 defined-once e h x =
-    let same : times x (map (λ (d : Definition). d.at) (definitions e)) ≡ count_by (λ (d : Definition). nat_eq x d.at) (definitions e) = count-map (λ (d : Definition). d.at) (λ y. nat_eq x y) (definitions e) in
-    omega (arith, same, ap (λ l. times x l) (names-places e), few x e, once x (places e) h)
+    let same : times x (map (λ (d : Definition). d.at) (definitions e)) ≡ count_by (λ (d : Definition). nat_eq x d.at) (definitions e) =
+    times-counted x (map (λ (d : Definition). d.at) (definitions e)) ∙ count-map (λ (d : Definition). d.at) (λ y. nat_eq x y) (definitions e) in
+    omega (arith, same, ap (λ l. times x l) (names-places e), few x e, differ-once (places e) h x)
 
 -- the text of a name is that of the definition at the place of its number
 text-of : (e : PlainTree) (k : ℕ) (l : List Definition) → filter (λ (d : Definition). nat_eq (count_by (λ x. nat_lt x d.at) (map (λ (z : Definition). z.at) (definitions e))) k) (definitions e) ≡ l → name_text e k ≡ flat_map definition_text l
@@ -109,7 +79,7 @@ named-at e x ds h p s k (inr l) =
 
 pub named : (e : PlainTree) (ds : List (Bor Def)) → AllDiffer (places e) → IsPermutation (definitions e) (found_definitions ds) → IsNonDecreasingBy (λ (d : Definition). d.at) (found_definitions ds) → (k : ℕ) → text_at ds k ≡ name_text e k
 named e [] h p s k = sym (text-of e k _ (none-at (λ (d : Definition). d.at) (definitions e) [] p s (defined-once e h) k (omega arith)))
-named e (x ∷ ds) h p s k = named-at e x (x ∷ ds) h p s k (lt-or k (length (x ∷ ds)))
+named e (x ∷ ds) h p s k = named-at e x (x ∷ ds) h p s k (cases_lt k (length (x ∷ ds)))
 
 -- lists of texts that are the same one by one are joined to the same
 flat-same : (f g : ℕ → List ℕ) (sep xs : List ℕ) → ((k : ℕ) → f k ≡ g k) → flat_map (λ y. sep ++ f y) xs ≡ flat_map (λ y. sep ++ g y) xs

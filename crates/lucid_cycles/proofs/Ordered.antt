@@ -7,24 +7,13 @@ use Rattle.std.proofs.lemmas.Bool.Decides.{nat_tests}
 use Rattle.std.proofs.lemmas.List.{get_or_default}
 use Rattle.std.proofs.lemmas.List.Sums.{sum_by-cons}
 use Rattle.std.proofs.lemmas.List.Sorted.{All-permutation, sum_by-IsPermutation, IsPermutation-sym}
-
-eq-true : (x y : ℕ) → x ≡ y → nat_eq x y ≡ true
-eq-true x y h = grind (arith, nat_tests)
+use Rattle.std.proofs.lemmas.Bool.{eq-eqb, lt-ltb, le-ltb, cases_lt, eqb-true}
 
 eq-false : (x y : ℕ) → x < y → nat_eq x y ≡ false
 eq-false x y h = grind (arith, nat_tests)
 
 eq-false' : (x y : ℕ) → y < x → nat_eq x y ≡ false
 eq-false' x y h = grind (arith, nat_tests)
-
-lt-true : (x y : ℕ) → x < y → nat_lt x y ≡ true
-lt-true x y h = grind (arith, nat_tests)
-
-lt-false : (x y : ℕ) → y ≤ x → nat_lt x y ≡ false
-lt-false x y h = grind (arith, nat_tests)
-
-pub lt-or : (x y : ℕ) → (x < y) ⊎ (y ≤ x)
-lt-or x y = elim (nat_lt x y) as (λ b. nat_lt x y ≡ b → (x < y) ⊎ (y ≤ x)) [ true ↦ (λ e. inl (grind (arith, nat_tests, e))) | false ↦ (λ e. inr (grind (arith, nat_tests, e))) ] refl
 
 -- a count, one item further
 one-more : {X : Type 0} (p : X → Bool) (x : X) (xs : List X) → p x ≡ true → count_by p (x ∷ xs) ≡ 1 + count_by p xs
@@ -57,15 +46,15 @@ Rises n (x ∷ xs) = All (λ z. n x < n z) xs × Rises n xs
 above-at : {X : Type 0} (n : X → ℕ) (x z : X) (xs : List X) (k : ℕ) (d : X) → k < length xs → z ≡ get_or xs k d → n x ≤ n z → count_by (λ y. nat_eq (n x) (n y)) (x ∷ xs) ≤ 1 → (n x < n z) ⊎ (n z ≤ n x) → n x < n z
 above-at n x z xs k d l e a h (inl q) = q
 above-at n x z xs k d l e a h (inr q) =
-    let same : nat_eq (n x) (n (get_or xs k d)) ≡ true = eq-true (n x) (n (get_or xs k d)) (omega (arith, a, q, ap n e)) in
+    let same : nat_eq (n x) (n (get_or xs k d)) ≡ true = eq-eqb (n x) (n (get_or xs k d)) (omega (arith, a, q, ap n e)) in
     let twice = counted-at (λ y. nat_eq (n x) (n y)) xs k d l same in
-    let here = one-more (λ y. nat_eq (n x) (n y)) x xs (eq-true (n x) (n x) refl) in
+    let here = one-more (λ y. nat_eq (n x) (n y)) x xs (eq-eqb (n x) (n x) refl) in
     absurd (omega (arith, h, here, twice))
 
 rises : {X : Type 0} (n : X → ℕ) (xs : List X) → IsNonDecreasingBy n xs → Once n xs → Rises n xs
 rises n [] s o = tt
 rises n (x ∷ xs) s o = (
-  λ k d l. above-at n x (get_or xs k d) xs k d l refl (s 0 (suc k) d (omega arith) (omega (arith, l))) (o (n x)) (lt-or (n x) (n (get_or xs k d))),
+  λ k d l. above-at n x (get_or xs k d) xs k d l refl (s 0 (suc k) d (omega arith) (omega (arith, l))) (o (n x)) (cases_lt (n x) (n (get_or xs k d))),
   rises n xs (λ i j d a b. s (suc i) (suc j) d (omega (arith, a)) (omega (arith, b))) (λ y. omega (arith, o y, at-least (λ z. nat_eq y (n z)) x xs)),
 )
 
@@ -73,12 +62,12 @@ rises n (x ∷ xs) s o = (
 lesser-at : {X : Type 0} (n : X → ℕ) (xs : List X) → Rises n xs → (i : ℕ) (d : X) → i < length xs → count_by (λ z. nat_lt (n z) (n (get_or xs i d))) xs ≡ i
 lesser-at n [] r i d h = absurd (omega (arith, h))
 lesser-at n (x ∷ xs) r zero d h =
-    no-more (λ z. nat_lt (n z) (n x)) x xs (lt-false (n x) (n x) (omega arith))
-    ∙ none-counted (λ z. nat_lt (n z) (n x)) xs (λ k e l. lt-false (n (get_or xs k e)) (n x) (omega (arith, r.0 k e l)))
+    no-more (λ z. nat_lt (n z) (n x)) x xs (le-ltb (n x) (n x) (omega arith))
+    ∙ none-counted (λ z. nat_lt (n z) (n x)) xs (λ k e l. le-ltb (n (get_or xs k e)) (n x) (omega (arith, r.0 k e l)))
 lesser-at n (x ∷ xs) r (suc i) d h =
     let l : i < length xs = omega (arith, h) in
     let y : ℕ = n (get_or xs i d) in
-    let here = one-more (λ z. nat_lt (n z) y) x xs (lt-true (n x) y (r.0 i d l)) in
+    let here = one-more (λ z. nat_lt (n z) y) x xs (lt-ltb (n x) y (r.0 i d l)) in
     omega (arith, here, lesser-at n xs r.1 i d l)
 
 -- items that are numbered one by one from b on
@@ -97,13 +86,13 @@ one-first-or : {X : Type 0} (f : X → ℕ) (b k : ℕ) (x : X) (xs : List X) �
 one-first-or f b k x xs h l others (inl q) =
     no-more (λ z. nat_eq (f z) k) x xs (eq-false (f x) k (omega (arith, h 0 x (omega arith), q))) ∙ others q
 one-first-or f b k x xs h l others (inr q) =
-    let here = one-more (λ z. nat_eq (f z) k) x xs (eq-true (f x) k (omega (arith, h 0 x (omega arith), q, l))) in
+    let here = one-more (λ z. nat_eq (f z) k) x xs (eq-eqb (f x) k (omega (arith, h 0 x (omega arith), q, l))) in
     omega (arith, here, counts-none f (b + 1) k xs (further f b x xs h) (inl (omega (arith, q))))
 
 counts-one : {X : Type 0} (f : X → ℕ) (b k : ℕ) (xs : List X) → Numbers f b xs → b ≤ k → k < b + length xs → count_by (λ z. nat_eq (f z) k) xs ≡ 1
 counts-one f b k [] h l m = absurd (omega (arith, l, m))
 counts-one f b k (x ∷ xs) h l m =
-    one-first-or f b k x xs h l (λ q. counts-one f (b + 1) k xs (further f b x xs h) (omega (arith, q)) (omega (arith, m))) (lt-or b k)
+    one-first-or f b k x xs h l (λ q. counts-one f (b + 1) k xs (further f b x xs h) (omega (arith, q)) (omega (arith, m))) (cases_lt b k)
 
 -- what a filter leaves, by its count
 none-on : {X : Type 0} (p : X → Bool) (x : X) (xs : List X) (b : Bool) → p x ≡ b → count_by p (x ∷ xs) ≡ 0 → (count_by p xs ≡ 0 → filter p xs ≡ []) → filter p (x ∷ xs) ≡ []
@@ -132,12 +121,9 @@ count-map n p [] = refl
 count-map n p (x ∷ xs) =
     sum_by-cons (λ z. cond (p z) 1 0) (n x) (map n xs) ∙ ap (λ k. cond (p (n x)) 1 0 + k) (count-map n p xs) ∙ sym (sum_by-cons (λ z. cond (p (n z)) 1 0) x xs)
 
-eq-of : (x y : ℕ) → nat_eq x y ≡ true → x ≡ y
-eq-of x y h = grind (arith, nat_tests, h)
-
 same-place : {X : Type 0} (f : X → ℕ) (ys : List X) (k : ℕ) (d : X) → Numbers f 0 ys → All (λ z. nat_eq (f z) k ≡ true → z ≡ get_or ys k d) ys
 same-place f ys k d h i e l q =
-    let same : i ≡ k = omega (arith, h i e l, eq-of (f (get_or ys i e)) k q) in
+    let same : i ≡ k = omega (arith, h i e l, eqb-true (f (get_or ys i e)) k q) in
     subst (λ j. get_or ys i e ≡ get_or ys j d) same (get_or_default ys i e d l)
 
 -- how many of these items have lesser numbers

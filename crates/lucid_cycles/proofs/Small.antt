@@ -13,6 +13,7 @@ use Rattle.lucid_tree.specs.declared.tree.Def.{Def}
 use Rattle.lucid_tree.specs.declared.tree.DefKind.{DefKind}
 use Rattle.lucid_tree.specs.declared.tree.DefKind.TheVariants.{Plain as DefPlain, Function as DefFunction, Current as DefCurrent}
 use Rattle.lucid_tree.specs.WellMade.{IsWellMade, places, places_in, places_in_defs}
+use Rattle.lucid_tree.proofs.Members.{in_left, in_right}
 use Rattle.lucid_scope.specs.declared.scoped.Binding.{Binding}
 use Rattle.lucid_scope.specs.declared.scoped.Binding.TheVariants.{Plain, Parameter, Current, Function, Input}
 use Rattle.lucid_cycles.specs.declared.edge.Edge.{Edge}
@@ -20,7 +21,6 @@ use Rattle.lucid_cycles.specs.Judged.{plain_names, plain_names_in, plain_names_i
 use Rattle.lucid_cycles.specs.Graph.{Bindings, edge_to, edges, edges_in, edges_in_defs, first_delay, later_delay, number, numbered, graph}
 use Rattle.lucid_cycles.specs.Rounds.{Fits, FromBelow, IsSmall}
 use Rattle.lucid_cycles.specs.Walks.{edges_of_def}
-use Rattle.lucid_cycles.proofs.Trails.{in-left, in-right}
 
 pub fits-part : (w : ℤ) (n m : ℕ) → m ≤ n → Fits w n → Fits w m
 fits-part w n m h f = let l = f.low in let u = f.high in record { low = omega (arith, ints, l); high = omega (arith, ints, u) }
@@ -95,8 +95,8 @@ module _ (b : Bindings) (ds : List ℕ) where
     good-edges x w (block at e es) k h f =
         let all = length-append (places e) (places_in_defs es) in
         All-append (Good ds) (edges b x w e) (edges_in_defs b es)
-        (good-edges x w e k (λ d i. h d (in-left d (plain_names e) (plain_names_in_defs es) i)) (fits-part w (suc (length (places e ++ places_in_defs es))) (length (places e)) (omega (arith, all)) f))
-        (good-edges-of es (λ d i. h d (in-right d (plain_names e) (plain_names_in_defs es) i)) (omega (arith, all, fits-under w _ f)))
+        (good-edges x w e k (λ d i. h d (in_left d (plain_names e) (plain_names_in_defs es) i)) (fits-part w (suc (length (places e ++ places_in_defs es))) (length (places e)) (omega (arith, all)) f))
+        (good-edges-of es (λ d i. h d (in_right d (plain_names e) (plain_names_in_defs es) i)) (omega (arith, all, fits-under w _ f)))
     good-edges x w (form at l es) k h f =
         good-edges-in x (first_delay l w) (later_delay l w) es k h (fits-first l w (length (places_in es)) f) (fits-later l w (length (places_in es)) f)
 
@@ -106,22 +106,22 @@ module _ (b : Bindings) (ds : List ℕ) where
     good-edges-in x w v (tree e es) k h f g =
         let rest = fits-after v e es g in
         All-append (Good ds) (edges b x w e) (edges_in b x v v es)
-        (good-edges x w e k (λ d i. h d (in-left d (plain_names e) (plain_names_in es) i)) (fits-here w e es f))
-        (good-edges-in x v v es k (λ d i. h d (in-right d (plain_names e) (plain_names_in es) i)) rest rest)
+        (good-edges x w e k (λ d i. h d (in_left d (plain_names e) (plain_names_in es) i)) (fits-here w e es f))
+        (good-edges-in x v v es k (λ d i. h d (in_right d (plain_names e) (plain_names_in es) i)) rest rest)
 
     good-edges-of : (es : PlainDefs) → Has ds (plain_names_in_defs es) → length (places_in_defs es) ≤ 4294967296 → All (Good ds) (edges_in_defs b es)
     good-edges-of no_defs h f = All-nil (Good ds)
     good-edges-of (defines at n e es) h f =
         let all = length-append (places e) (places_in_defs es) in
         All-append (Good ds) (edges b (Some at) (pos 0) e) (edges_in_defs b es)
-        (good-edges (Some at) (pos 0) e (h at (inl refl)) (λ d i. h d (inr (in-left d (plain_names e) (plain_names_in_defs es) i))) (fits-zero (length (places e)) (omega (arith, all, f))))
-        (good-edges-of es (λ d i. h d (inr (in-right d (plain_names e) (plain_names_in_defs es) i))) (omega (arith, all, f)))
+        (good-edges (Some at) (pos 0) e (h at (inl refl)) (λ d i. h d (inr (in_left d (plain_names e) (plain_names_in_defs es) i))) (fits-zero (length (places e)) (omega (arith, all, f))))
+        (good-edges-of es (λ d i. h d (inr (in_right d (plain_names e) (plain_names_in_defs es) i))) (omega (arith, all, f)))
     good-edges-of (defines_function at n ns ats e es) h f =
         let all = length-append (ats ++ places e) (places_in_defs es) in
-        good-edges-of es (λ d i. h d (in-right d (plain_names e) (plain_names_in_defs es) i)) (omega (arith, all, f))
+        good-edges-of es (λ d i. h d (in_right d (plain_names e) (plain_names_in_defs es) i)) (omega (arith, all, f))
     good-edges-of (defines_current at n e es) h f =
         let all = length-append (places e) (places_in_defs es) in
-        good-edges-of es (λ d i. h d (in-right d (plain_names e) (plain_names_in_defs es) i)) (omega (arith, all, f))
+        good-edges-of es (λ d i. h d (in_right d (plain_names e) (plain_names_in_defs es) i)) (omega (arith, all, f))
 
 -- a name's number is below how many names there are
 lesser-not : (b : Bool) (n m : ℕ) → b ≡ false → n ≤ m → cond b 1 0 + n < suc m

@@ -5,6 +5,7 @@ use Rattle.std.proofs.Math.ListN.{length-set}
 use Rattle.std.proofs.lemmas.List.{take_more_set, append-nil}
 use Rattle.std.proofs.lemmas.Bool.Decides.{nat_tests}
 use Rattle.std.proofs.lemmas.List.Elements.{All-nil, All-cons, All-head, All-tail}
+use Rattle.std.proofs.lemmas.Bool.{lt-ltb, le-ltb}
 use Rattle.lucid_tree.specs.Tree.{PlainTree}
 use Rattle.lucid_tree.specs.Members.{In}
 use Rattle.lucid_cycles.specs.declared.names.Names.{Names}
@@ -16,17 +17,11 @@ pub record Roomy (n m : Names) (ds : List ℕ) : Type 0 where
   pub count : m.count ≡ n.count + length ds
   pub listed : listed_names m ≡ listed_names n ++ ds
 
-lt-true : (x y : ℕ) → x < y → nat_lt x y ≡ true
-lt-true x y h = grind (arith, nat_tests)
-
-lt-false : (x y : ℕ) → y ≤ x → nat_lt x y ≡ false
-lt-false x y h = grind (arith, nat_tests)
-
 with-room : (n : Names) (d : ℕ) → n.count < 2000 → with_name n d ≡ record { places = set n.places n.count d; count = n.count + 1 }
-with-room n d h = ap (λ b. cond b (record { places = set n.places n.count d; count = n.count + 1 }) (record { places = n.places; count = most_names + 1 })) (lt-true n.count 2000 h)
+with-room n d h = ap (λ b. cond b (record { places = set n.places n.count d; count = n.count + 1 }) (record { places = n.places; count = most_names + 1 })) (lt-ltb n.count 2000 h)
 
 without-room : (n : Names) (d : ℕ) → 2000 ≤ n.count → with_name n d ≡ record { places = n.places; count = 2001 }
-without-room n d h = ap (λ b. cond b (record { places = set n.places n.count d; count = n.count + 1 }) (record { places = n.places; count = most_names + 1 })) (lt-false n.count 2000 h)
+without-room n d h = ap (λ b. cond b (record { places = set n.places n.count d; count = n.count + 1 }) (record { places = n.places; count = most_names + 1 })) (le-ltb n.count 2000 h)
 
 pub roomy : (ds : List ℕ) (n m : Names) → m ≡ fold with_name n ds → length n.places ≡ 2000 → n.count + length ds ≤ 2000 → Roomy n m ds
 roomy [] n m e r h = record { count = omega (arith, ap (λ x. x.count) e); listed = ap listed_names e ∙ sym (append-nil (listed_names n)) }

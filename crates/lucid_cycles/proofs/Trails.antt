@@ -1,9 +1,11 @@
 -- Trails back through the levels, and the cycle that a trail closes.
-use Rattle.std.proofs.Common.{◌≡◌, ◌≢◌, ℕ, zero, suc, ◌+◌, ◌<◌, ◌≤◌, List, [], ◌∷◌, ◌++◌, length, get_or, take, drop, ◌⊎◌, inl, inr, refl, sym, ap, subst, ◌∙◌, arith}
+use Rattle.std.proofs.Common.{◌≡◌, ◌≢◌, ℕ, zero, suc, ◌+◌, ◌<◌, ◌≤◌, List, [], ◌∷◌, ◌++◌, length, get_or, take, drop, inl, inr, refl, sym, ap, subst, ◌∙◌, arith}
 use Rattle.std.specs.Prelude.{ℤ, pos, ◌+ℤ◌, ◌≤ℤ◌, ◌<ℤ◌}
 use Rattle.std.specs.List.{All}
 use Rattle.std.proofs.lemmas.Int.{ints}
+use Rattle.lucid_lemmas.proofs.Lists.{some_left}
 use Rattle.lucid_tree.specs.Members.{In, AllDiffer}
+use Rattle.lucid_tree.proofs.Members.{in_left, in_right, in_either}
 use Rattle.lucid_cycles.specs.declared.edge.Edge.{Edge}
 use Rattle.std.proofs.lemmas.List.{take-append-drop, length-take-le}
 use Rattle.std.proofs.lemmas.List.Elements.{All-from_get_or, All-append, All-drop, All-take}
@@ -125,23 +127,9 @@ total-append (w ∷ ws) vs = let e = total-append ws vs in omega (arith, ints, e
 pub total-turned : (ws vs : List ℤ) → total (vs ++ ws) ≡ total (ws ++ vs)
 total-turned ws vs = let e = total-append ws vs in let f = total-append vs ws in omega (arith, ints, e, f)
 
-in-split : {A : Type 0} (x : A) (xs ys : List A) → In x (xs ++ ys) → In x xs ⊎ In x ys
-in-split x [] ys i = inr i
-in-split x (y ∷ xs) ys (inl e) = inl (inl e)
-in-split x (y ∷ xs) ys (inr i) = elim (in-split x xs ys i) [ inl j ↦ inl (inr j) | inr j ↦ inr j ]
-
-pub in-left : {A : Type 0} (x : A) (xs ys : List A) → In x xs → In x (xs ++ ys)
-in-left x [] ys i = absurd i
-in-left x (y ∷ xs) ys (inl e) = inl e
-in-left x (y ∷ xs) ys (inr i) = inr (in-left x xs ys i)
-
-pub in-right : {A : Type 0} (x : A) (xs ys : List A) → In x ys → In x (xs ++ ys)
-in-right x [] ys i = i
-in-right x (y ∷ xs) ys i = inr (in-right x xs ys i)
-
 differ-left : {A : Type 0} (xs ys : List A) → AllDiffer (xs ++ ys) → AllDiffer xs
 differ-left [] ys d = tt
-differ-left (x ∷ xs) ys d = ((λ i. d.0 (in-left x xs ys i)), differ-left xs ys d.1)
+differ-left (x ∷ xs) ys d = ((λ i. d.0 (in_left x xs ys i)), differ-left xs ys d.1)
 
 pub differ-right : {A : Type 0} (xs ys : List A) → AllDiffer (xs ++ ys) → AllDiffer ys
 differ-right [] ys d = d
@@ -149,13 +137,13 @@ differ-right (x ∷ xs) ys d = differ-right xs ys d.1
 
 apart : {A : Type 0} (xs ys : List A) → AllDiffer (xs ++ ys) → (x : A) → In x xs → In x ys → ⊥
 apart [] ys d x i j = i
-apart (y ∷ xs) ys d x (inl e) j = d.0 (in-right y xs ys (subst (λ z. In z ys) e j))
+apart (y ∷ xs) ys d x (inl e) j = d.0 (in_right y xs ys (subst (λ z. In z ys) e j))
 apart (y ∷ xs) ys d x (inr i) j = apart xs ys d.1 x i j
 
 pub differ-join : {A : Type 0} (xs ys : List A) → AllDiffer xs → AllDiffer ys → ((x : A) → In x xs → In x ys → ⊥) → AllDiffer (xs ++ ys)
 differ-join [] ys d e f = e
 differ-join (x ∷ xs) ys d e f =
-    ((λ i. elim (in-split x xs ys i) [ inl j ↦ d.0 j | inr j ↦ f x (inl refl) j ]), differ-join xs ys d.1 e (λ z i j. f z (inr i) j))
+    ((λ i. elim (in_either x xs ys i) [ inl j ↦ d.0 j | inr j ↦ f x (inl refl) j ]), differ-join xs ys d.1 e (λ z i j. f z (inr i) j))
 
 differ-turned : {A : Type 0} (xs ys : List A) → AllDiffer (xs ++ ys) → AllDiffer (ys ++ xs)
 differ-turned xs ys d = differ-join ys xs (differ-right xs ys d) (differ-left xs ys d) (λ x i j. apart xs ys d x j i)
@@ -197,11 +185,6 @@ pub cycle-some : (g : List Edge) (xs : List ℕ) (ws : List ℤ) → IsCycle g x
 cycle-some g [] ws c = absurd (c.some refl)
 cycle-some g (x ∷ xs) ws c = omega arith
 
-pub drops : (xs : List ℕ) (i : ℕ) → i < length xs → drop i xs ≢ []
-drops [] i h e = omega (arith, h)
-drops (x ∷ xs) zero h e = cc
-drops (x ∷ xs) (suc i) h e = drops xs i (omega (arith, h)) e
-
 pub firsts : (xs : List ℕ) (i z : ℕ) → i < length xs → first_or z (drop i xs) ≡ get_or xs i z
 firsts [] i z h = absurd (omega (arith, h))
 firsts (x ∷ xs) zero z h = refl
@@ -210,7 +193,7 @@ firsts (x ∷ xs) (suc i) z h = firsts xs i z (omega (arith, h))
 least-first : (xs : List ℕ) (i d : ℕ) → i < length xs → first_or d (drop i xs ++ take i xs) ≡ get_or xs i d
 least-first [] i d h = absurd (omega (arith, h))
 least-first (x ∷ xs) zero d h = refl
-least-first (x ∷ xs) (suc i) d h = first-append d (drop i xs) (x ∷ take i xs) ∙ first-some x d (drop i xs) (drops xs i (omega (arith, h))) ∙ firsts xs i d (omega (arith, h))
+least-first (x ∷ xs) (suc i) d h = first-append d (drop i xs) (x ∷ take i xs) ∙ first-some x d (drop i xs) (some_left xs i (omega (arith, h))) ∙ firsts xs i d (omega (arith, h))
 
 -- a cycle without delay, begun at its least name
 pub begun-cycle : (g : List Edge) (xs : List ℕ) (ws : List ℤ) (i : ℕ) (us : List ℕ) (vs : List ℤ) → Closed g xs ws → i < length xs → ((k : ℕ) → k < length xs → get_or xs i 0 ≤ get_or xs k 0)
@@ -220,7 +203,7 @@ begun-cycle g xs ws i us vs c h l eu ev =
     let parts : length (take i xs) ≡ length (take i ws) = length-take-le i xs (omega (arith, h)) ∙ sym (length-take-le i ws (omega (arith, h, same))) in
     let whole : IsCycle g (take i xs ++ drop i xs) (take i ws ++ drop i ws) =
     subst (λ x. IsCycle g x (take i ws ++ drop i ws)) (sym (take-append-drop i xs)) (subst (IsCycle g xs) (sym (take-append-drop i ws)) c.cycle) in
-    let turn : IsCycle g (drop i xs ++ take i xs) (drop i ws ++ take i ws) = turned g (take i xs) (drop i xs) (take i ws) (drop i ws) parts (drops xs i h) whole in
+    let turn : IsCycle g (drop i xs ++ take i xs) (drop i ws ++ take i ws) = turned g (take i xs) (drop i xs) (take i ws) (drop i ws) parts (some_left xs i h) whole in
     let sum : total (drop i ws ++ take i ws) ≡ total ws = total-turned (take i ws) (drop i ws) ∙ ap total (take-append-drop i ws) in
     let least : All (λ x. get_or xs i 0 ≤ x) xs = All-from_get_or (λ x. get_or xs i 0 ≤ x) xs 0 l in
     let here : All (λ x. get_or xs i 0 ≤ x) (drop i xs ++ take i xs) =

@@ -1,5 +1,5 @@
 -- What a name goes on with in a context: by the context's innermost frame, and nowhere where there are too few frames.
-use Rattle.std.proofs.Common.{◌≡◌, ◌≢◌, ℕ, ◌<◌, ◌-◌, ◌⊎◌, inl, inr, List, [], ◌∷◌, Option, Some, None, IfSome, Result, Ok, Err, OnErr, refl, sym, ap, ◌∙◌, subst, arith}
+use Rattle.std.proofs.Common.{◌≡◌, ◌≢◌, ℕ, ◌<◌, ◌-◌, ◌⊎◌, inl, inr, List, [], ◌∷◌, Option, Some, None, IfSome, refl, sym, ap, ◌∙◌, subst, arith}
 use Rattle.lucid_tree.specs.Members.{In}
 use Rattle.lucid_tree.specs.Levels.{nowhere}
 use Rattle.lucid_tree.proofs.Members.{in_either}
@@ -77,11 +77,6 @@ pub daton-of : (T : Table) (known : List Context) (o : Option Aim) (a : NodeAim)
     → IfSome o (λ x. x.key.tag ≡ inner) → c ≡ context_of known inner → IsOfDaton known o c
 daton-of T known None a inner c h s own i = absurd (s (sym h))
 daton-of T known (Some x) a inner c h s own i = i ∙ ap (context_of known) (sym own)
-
--- what is so is so of a refusal
-pub on-err : {A E P : Type 0} (r : Result A E) → P → OnErr r P
-on-err (Ok v) p = tt
-on-err (Err e) p = p
 
 -- a context that becomes known at most
 pub added-in : (old new : List Context) (c d : Context) → AddsAtMost old new c → In d new → In d old ⊎ (d ≡ c)

@@ -1,7 +1,8 @@
 -- What asking for a part does to the rows and to what they can still cost.
-use Rattle.std.proofs.Common.{◌≡◌, ℕ, suc, ◌<◌, ◌⊎◌, List, [], length, Option, Some, None, refl, sym, ◌∙◌, subst, arith}
+use Rattle.std.proofs.Common.{◌≡◌, ℕ, suc, ◌<◌, ◌⊎◌, List, [], length, Option, Some, refl, sym, ◌∙◌, subst, arith}
 use Rattle.std.specs.Prelude.{IsSome, option_map, Result, Ok, Err, OnOk}
 use Rattle.std.specs.Result.{IsErrAnd}
+use Rattle.lucid_lemmas.proofs.Options.{value_there}
 use Rattle.lucid_value.specs.declared.Value.{Value}
 use Rattle.lucid_value.specs.View.{plain}
 use Rattle.lucid_tree.specs.Members.{In}
@@ -154,11 +155,6 @@ pub on_ok : {A E : Type 0} (r : Result A E) (P Q : Type 0) → (P → Q) → OnO
 on_ok (Ok v) P Q f p = f p
 on_ok (Err e) P Q f p = tt
 
--- the row that is there
-pub row_there : (o : Option TaskRow) → IsSome o → (r : TaskRow) × (o ≡ Some r)
-row_there None h = absurd (cc)
-row_there (Some r) h = (r, refl)
-
 -- What passing a task leaves of the known contexts.
 pub record EntersWay (T : Table) (old new : List Context) (x : Task) : Type 0 where
   pub keeps : KeepsKnown old new
@@ -168,7 +164,7 @@ pub record EntersWay (T : Table) (old new : List Context) (x : Task) : Type 0 wh
 -- A part is asked of what is seen so, by a task that was passed.
 module _ (o old : Evaluating) (view : o ≡ old) (part : Part) (x : Task) (can : CanAsk old part x) (known : List Context) (way : EntersWay o.engine.table o.engine.known known x) where
   there : (r : TaskRow) × (row_at o.rows part.slot ≡ Some r)
-  there = row_there (row_at o.rows part.slot) (subst (λ (z : Evaluating). IsSome (row_at z.rows part.slot)) (sym view) can.row)
+  there = value_there (row_at o.rows part.slot) (subst (λ (z : Evaluating). IsSome (row_at z.rows part.slot)) (sym view) can.row)
 
   abbrev after : List (Option TaskRow) → Evaluating
   after rs = record { engine = record o.engine { known = known }; rows = rs }

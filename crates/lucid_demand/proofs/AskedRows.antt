@@ -22,7 +22,7 @@ use Rattle.lucid_facts.specs.Engine.{EngineView}
 use Rattle.lucid_facts.specs.Demands.{Demand, table_of}
 use Rattle.lucid_facts.specs.Decisions.{MayAsk}
 use Rattle.lucid_facts.specs.Going.{Waits}
-use Rattle.lucid_facts.proofs.Seeing.{plain_at}
+use Rattle.lucid_facts.proofs.Seeing.{plain_at, plain_idle_state}
 use Rattle.lucid_facts.proofs.Coming.{arguments_may_be_asked}
 use Rattle.lucid_demand.specs.Evaluating.{Evaluating, Stepped, cost}
 use Rattle.lucid_demand.specs.Acting.{DemandIn, MayAct}
@@ -50,12 +50,6 @@ free_at (Idle ∷ ps) (suc i) h = free_at ps i h
 free_at (Asked s ∷ ps) i h = absurd (cc)
 free_at (Got v ∷ ps) zero h = refl
 free_at (Got v ∷ ps) (suc i) h = free_at ps i h
-
--- a part whose plain state is idle is idle
-plain_idle_state : (s : rows.PartState) → plain_state s ≡ idle → s ≡ Idle
-plain_idle_state Idle e = refl
-plain_idle_state (Asked slot) e = absurd (cc)
-plain_idle_state (Got v) e = absurd (cc)
 
 -- In a demand the rows wait on, and some part was asked or given, or nothing was done and no part before this one is idle.
 pub record AskedIn (d : Demand) (old now : Evaluating) (w : World) (first : TaskRow) (index : ℕ) : Type 0 where

@@ -1,6 +1,7 @@
 -- What a step keeps: where a search began elsewhere, the row decides as before, at no more cost; and what is noted costs nothing.
 use Rattle.std.proofs.Common.{◌≡◌, ℕ, ◌<◌, ◌≤◌, ◌⊎◌, inl, inr, List, Option, Some, refl, sym, ap, ◌∙◌, subst, arith}
-use Rattle.std.specs.Prelude.{IsTrue, length, Result, Ok, Err, None, ◌==◌, if◌then◌else◌, option_map}
+use Rattle.std.specs.Prelude.{IsTrue, length, Result, ◌==◌, if◌then◌else◌, option_map}
+use Rattle.std.proofs.lemmas.Bool.{cases_eq}
 use Rattle.lucid_value.specs.declared.Value.{Value}
 use Rattle.lucid_tags.specs.Contexts.{Context}
 use Rattle.lucid_tasks.specs.declared.Task.{Task}
@@ -12,22 +13,22 @@ use Rattle.lucid_equations.specs.declared.table.Table.{Table}
 use Rattle.lucid_facts.specs.Engine.{EngineView}
 use Rattle.lucid_facts.specs.Demands.{Demand}
 use Rattle.lucid_facts.specs.Going.{Owns}
-use Rattle.lucid_facts.proofs.Slots.{same_or_not, at_it, at_another}
+use Rattle.lucid_facts.proofs.Slots.{at_it, at_another}
 use Rattle.lucid_facts.proofs.Listing.{changed_there}
 use Rattle.lucid_demand.specs.Answers.{MayDecide}
-use Rattle.lucid_demand.specs.Evaluating.{Evaluating, Stepped, OnGoingOn, cost}
+use Rattle.lucid_demand.specs.Evaluating.{Evaluating, Stepped, cost}
 use Rattle.lucid_demand.specs.Acting.{DemandIn, MayAct, IsReadyTask}
 use Rattle.lucid_demand.specs.Searching.{StandsAt, MayAskNow}
 use Rattle.lucid_demand.specs.declared.decide.Decision.TheVariants as decision
 use Rattle.lucid_demand.specs.declared.fault.DemandFault.{DemandFault}
-use Rattle.lucid_demand.proofs.SettledRows.{ready_is_there}
+use Rattle.lucid_demand.proofs.SettledRows.{ready_is_there, on_going}
 
 one_row : (o : Option TaskRow) (q r : TaskRow) → o ≡ Some q → o ≡ Some r → r ≡ q
 one_row o q r e f = let g : Some r ≡ Some q = sym f ∙ e in cc
 
 -- A row that stays where it is stands at a cursor.
 pub stands_still : (rs : List (Option TaskRow)) (slot : ℕ) → IsTrue (is_ready (row_at rs slot)) → StandsAt rs rs slot
-stands_still rs slot ready = record { cursor = (r.0).cursor; rows = λ q. go q (same_or_not q slot) }
+stands_still rs slot ready = record { cursor = (r.0).cursor; rows = λ q. go q (cases_eq q slot) }
   where
     r : (x : TaskRow) × (row_at rs slot ≡ Some x)
     r = ready_is_there rs slot ready
@@ -65,11 +66,6 @@ begun_decides T known old new slot m s = record {
   };
   in_table = m.in_table;
 }
-
-on_going : (r : Result (Option Value) DemandFault) (P Q : Type 0) → (P → Q) → OnGoingOn r P → OnGoingOn r Q
-on_going (Ok None) P Q f p = f p
-on_going (Ok (Some v)) P Q f p = tt
-on_going (Err e) P Q f p = tt
 
 -- A step from what costs no more is a step.
 pub stepped_from_less : (d : Demand) (old mid new : Evaluating) (v w : World) (result : Result (Option Value) DemandFault) → cost d mid ≤ cost d old → Stepped d mid new v w result

@@ -1,6 +1,7 @@
 -- Why the decisions of a ready row are justified, by what is read of its parts.
 use Rattle.std.proofs.Common.{◌≡◌, ℕ, ◌<◌, List, [], ◌∷◌, Option, Some, None, refl, sym, ap, ◌∙◌, subst, inl, inr, arith}
 use Rattle.std.specs.Prelude.{true, false, option_map, option_and_then, slice_get}
+use Rattle.std.proofs.lemmas.Option.{same_Some}
 use Rattle.lucid_value.specs.declared.Value.{Value}
 use Rattle.lucid_value.specs.Plain.{PlainValue, truth, eod, fault}
 use Rattle.lucid_value.specs.View.{plain}
@@ -51,15 +52,12 @@ decides_where forest slot task n P decision p h T known its is there meaning ran
     (h T known its (subst (λ x. IsReadyRow T known forest slot x its) back is) (subst (λ x. row_at T x.node ≡ Some n) back there) (subst (λ x. node_at T x.node ≡ node_by T n) back meaning)
     (subst (λ x. NodeIsInRange (sizes T) x.node n) back range) (subst P back p))
 
-same_inside : {A : Type 0} (x y : A) → Some x ≡ Some y → x ≡ y
-same_inside x y e = cc
-
 -- The row in the slot is the one that may be decided.
 pub its_ready : (T : Table) (known : List Context) (forest : List (Option TaskRow)) (slot : ℕ) → MayDecide T known forest slot → (its : TaskRow) → rows.row_at forest slot ≡ Some its
     → (task : Task) → option_map (λ z. z.task) (rows.row_at forest slot) ≡ Some task → IsReadyRow T known forest slot task its
 its_ready T known forest slot may its there task e =
-    let same : may.row ≡ its = same_inside may.row its (sym may.is.there ∙ there) in
-    let own : its.task ≡ task = same_inside its.task task (ap (option_map (λ z. z.task)) (sym there) ∙ e) in
+    let same : may.row ≡ its = same_Some may.row its (sym may.is.there ∙ there) in
+    let own : its.task ≡ task = same_Some its.task task (ap (option_map (λ z. z.task)) (sym there) ∙ e) in
     subst (λ x. IsReadyRow T known forest slot x its) own (subst (λ z. IsReadyRow T known forest slot z.task z) same may.is)
 
 -- So it is with the row's own cursor, and what is known of the task and the cursor is known of the row's.
@@ -69,7 +67,7 @@ pub decides_at : (forest : List (Option TaskRow)) (slot : ℕ) (task : Task) (n 
     → P its.task its.cursor → Justified T known (plain_row known its) (decision its.task its.cursor)) → DecidesFor forest slot task n (decision task cursor)
 decides_at forest slot task n cursor P decision e p h T known its is there meaning range =
     let back : task ≡ its.task = sym is.is_task in
-    let here : its.cursor ≡ cursor = same_inside its.cursor cursor (ap (option_map (λ z. z.cursor)) (sym is.there) ∙ e) in
+    let here : its.cursor ≡ cursor = same_Some its.cursor cursor (ap (option_map (λ z. z.cursor)) (sym is.there) ∙ e) in
     let q : P its.task its.cursor = subst (λ x. P x its.cursor) back (subst (λ k. P task k) (sym here) p) in
     let own : Justified T known (plain_row known its) (decision its.task its.cursor) = h T known its (subst (λ x. IsReadyRow T known forest slot x its) back is) (subst (λ x. row_at T x.node ≡ Some n) back there) (subst (λ x. node_at T x.node ≡ node_by T n) back meaning) q in
     subst (λ k. Justified T known (plain_row known its) (decision task k)) here (subst (λ x. Justified T known (plain_row known its) (decision x its.cursor)) is.is_task own)

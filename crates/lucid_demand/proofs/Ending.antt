@@ -1,6 +1,7 @@
 -- Why a constant, and `next` and `succ` at the last time and the last space, are justified.
 use Rattle.std.proofs.Common.{◌≡◌, ℕ, suc, List, Option, Some, None, refl, sym, ap, ◌∙◌, subst, ◌⊎◌, inl, inr}
 use Rattle.std.specs.Prelude.{Bool, true, false, nat_lt, if◌then◌else◌, option_map, option_and_then, slice_get}
+use Rattle.std.proofs.lemmas.Option.{none-some}
 use Rattle.lucid_value.specs.Plain.{fault}
 use Rattle.lucid_tags.specs.Contexts.{Context}
 use Rattle.lucid_tree.specs.Tree.{next, succ}
@@ -25,9 +26,6 @@ use Rattle.lucid_demand.proofs.DecidingPlaces.{constant_there}
 pub constant_decides : (forest : List (Option TaskRow)) (slot : ℕ) (task : Task) (k : ℕ) → DecidesFor forest slot task (node.Const k) (Constant k)
 constant_decides forest slot task k = decides_for forest slot task (node.Const k) (λ x. Constant k) (λ T known its is there e range. constant_there T known forest slot its is k e range)
 
-none_some : {A : Type 0} (x : A) → None ≡ Some x → ⊥
-none_some x e = cc
-
 module _ (T : Table) (known : List Context) (forest : List (Option TaskRow)) (slot : ℕ) (its : TaskRow) (is : IsReadyRow T known forest slot its.task its) (a : ℕ) where
   abbrev r : PlainRow
   r = plain_row known its
@@ -36,7 +34,7 @@ module _ (T : Table) (known : List Context) (forest : List (Option TaskRow)) (sl
   next_fails there e = go (nat_lt r.task.time last) refl
     where
       go : (b : Bool) → nat_lt r.task.time last ≡ b → Justified T known r Fault
-      go true low = absurd (none_some (record r.task { node = a; time = suc r.task.time })
+      go true low = absurd (none-some (record r.task { node = a; time = suc r.task.time })
           (sym is.still ∙ ap (moved_by T r.task) e
           ∙ ap (λ b. option_and_then {T = Onward} (λ q. option_map (λ n. record r.task { node = n; time = q.time; space = q.space }) (part_number T r.task.node q.part)) (if b then Some (record { part = 0; time = suc r.task.time; space = r.task.space }) else None)) low
           ∙ ap (option_map (λ n. record r.task { node = n; time = suc r.task.time })) (ap (option_and_then (λ z. slice_get (parts z) 0)) there)))
@@ -46,7 +44,7 @@ module _ (T : Table) (known : List Context) (forest : List (Option TaskRow)) (sl
   succ_fails there e = go (nat_lt r.task.space last) refl
     where
       go : (b : Bool) → nat_lt r.task.space last ≡ b → Justified T known r Fault
-      go true low = absurd (none_some (record r.task { node = a; space = suc r.task.space })
+      go true low = absurd (none-some (record r.task { node = a; space = suc r.task.space })
           (sym is.still ∙ ap (moved_by T r.task) e
           ∙ ap (λ b. option_and_then {T = Onward} (λ q. option_map (λ n. record r.task { node = n; time = q.time; space = q.space }) (part_number T r.task.node q.part)) (if b then Some (record { part = 0; time = r.task.time; space = suc r.task.space }) else None)) low
           ∙ ap (option_map (λ n. record r.task { node = n; space = suc r.task.space })) (ap (option_and_then (λ z. slice_get (parts z) 0)) there)))

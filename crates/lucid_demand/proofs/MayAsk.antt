@@ -1,6 +1,7 @@
 -- What a decision that is justified in a demand lets its function require of the row and of the table.
 use Rattle.std.proofs.Common.{◌≡◌, ℕ, ◌<◌, List, Some, true, length, sym, ap, ◌∙◌, subst, arith}
 use Rattle.std.specs.Prelude.{IsSome}
+use Rattle.lucid_lemmas.proofs.Options.{value_there}
 use Rattle.lucid_ops.specs.declared.op.Op.{Op}
 use Rattle.lucid_tasks.specs.declared.Part.{Part}
 use Rattle.lucid_tasks.specs.declared.Task.{Task}
@@ -23,7 +24,7 @@ use Rattle.lucid_demand.specs.Asking.{CanAsk, CanAskAll, HasTask, CanRefer}
 use Rattle.lucid_demand.specs.Searching.{MayAskNow}
 use Rattle.lucid_demand.specs.declared.decide.Decision.TheVariants as decision
 use Rattle.lucid_demand.proofs.SettledRows.{part_value, some_before, ready_is_there}
-use Rattle.lucid_demand.proofs.AskedParts.{row_facts, row_there, passing}
+use Rattle.lucid_demand.proofs.AskedParts.{row_facts, passing}
 use Rattle.lucid_demand.proofs.IdleRows.{idle_of_plain}
 use Rattle.lucid_demand.proofs.OperatorParts.{argument_is_lower}
 
@@ -47,7 +48,7 @@ can_ask d e w part x there m = record {
 }
   where
     row : (r : TaskRow) × (row_at e.rows part.slot ≡ Some r)
-    row = row_there (row_at e.rows part.slot) there
+    row = value_there (row_at e.rows part.slot) there
 
     why : MayAsk (table_of d) (plain_row e.engine.known row.0) part.index × IsPart (table_of d) (plain_row e.engine.known row.0) part.index (plain_task e.engine.known x) × IsKnown e.engine.known x.tag
     why = m.justified row.0 row.1

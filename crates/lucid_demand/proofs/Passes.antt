@@ -1,5 +1,5 @@
 -- What stays true while what only moves the point is passed, move by move.
-use Rattle.std.proofs.Common.{◌≡◌, ℕ, suc, ◌<◌, ◌⊎◌, inl, inr, List, [], ◌∷◌, Option, Some, None, IfSome, option_map, refl, sym, ap, ◌∙◌, subst, arith}
+use Rattle.std.proofs.Common.{◌≡◌, ℕ, suc, ◌<◌, ◌⊎◌, inl, inr, List, [], ◌∷◌, Option, Some, None, IfSome, option_map, refl, sym, ◌∙◌, subst, arith}
 use Rattle.lucid_tree.specs.Members.{In}
 use Rattle.lucid_tags.specs.Contexts.{Context, frozen_frame}
 use Rattle.lucid_tags.specs.Known.{tag_of, IsKnown, IsUnknown, IsOneForOne, KeepsKnown}
@@ -13,6 +13,9 @@ use Rattle.lucid_facts.proofs.Passing.{passed-once, passed-way, passed-already}
 use Rattle.lucid_facts.proofs.MovedRows.{moved-by_row}
 use Rattle.lucid_equations.specs.Rows.{row_at, node_by}
 use Rattle.lucid_equations.specs.declared.rows.Node.TheVariants.{Freeze}
+use Rattle.lucid_facts.proofs.Owning.{known_itself}
+use Rattle.lucid_facts.proofs.History.{keeps_known_then}
+use Rattle.lucid_facts.proofs.Seeing.{task_as_tags_grow}
 use Rattle.lucid_demand.specs.Aims.{EntersUnknown}
 
 -- the contexts of the frozen times on the way of a task
@@ -29,18 +32,8 @@ pub record Passes (T : Table) (old now : List Context) (first task : Task) : Typ
   pub keeps : KeepsKnown old now
   pub one_for_one : IsOneForOne old → IsOneForOne now
 
-keeps-itself : (known : List Context) → KeepsKnown known known
-keeps-itself known = record { known = λ tag k. k; same = λ tag k. refl }
-
-keeps-then : (a b c : List Context) → KeepsKnown a b → KeepsKnown b c → KeepsKnown a c
-keeps-then a b c p q = record { known = λ tag k. q.known tag (p.known tag k); same = λ tag k. q.same tag (p.known tag k) ∙ p.same tag k }
-
--- known tasks are the same where more contexts are known
-pub task-kept : (old new : List Context) (x : Task) → KeepsKnown old new → IsKnown old x.tag → plain_task new x ≡ plain_task old x
-task-kept old new x p k = ap (λ c. record (plain_task old x) { context = c }) (p.same x.tag k)
-
 pub passes-begin : (T : Table) (known : List Context) (x : Task) → IsTask T (plain_task known x) → IsKnown known x.tag → Passes T known known x x
-passes-begin T known x there k = record { known = k; there = there; same = refl; left = λ c i. i; entered = λ c i. inl i; keeps = keeps-itself known; one_for_one = λ o. o }
+passes-begin T known x there k = record { known = k; there = there; same = refl; left = λ c i. i; entered = λ c i. inl i; keeps = known_itself known; one_for_one = λ o. o }
 
 -- the contexts of one move are those of the first on the way
 once-on : (T : Table) (x : PlainTask) (n : ℕ) (c : Context) (o : Option PlainTask) → In c (on_with o [] (λ y. y.context ∷ [])) → In c (on_with o [] (λ y. y.context ∷ passed_contexts T n y))
@@ -52,9 +45,9 @@ once-on T x n c (Some y) (inr i) = absurd i
 entered-on : (T : Table) (old now : List Context) (first task : Task) → Passes T old now first task → (c : Context) → In c (passed_contexts T 1 (plain_task now task)) → In c (way T old first)
 entered-on T old now first task p c i = p.left c (once-on T (plain_task now task) task.node c (moved T (plain_task now task)) i)
 
-known-on : (T : Table) (old now new : List Context) (first task : Task) → Passes T old now first task
+pub entered-end : (T : Table) (old now new : List Context) (first task : Task) → Passes T old now first task
     → ((c : Context) → In c new → In c now ⊎ In c (passed_contexts T 1 (plain_task now task))) → (c : Context) → In c new → In c old ⊎ In c (way T old first)
-known-on T old now new first task p f c i = elim (f c i) [ inl j ↦ p.entered c j | inr j ↦ inr (entered-on T old now first task p c j) ]
+entered-end T old now new first task p f c i = elim (f c i) [ inl j ↦ p.entered c j | inr j ↦ inr (entered-on T old now first task p c j) ]
 
 -- a move goes on,
 pub passes-on : (T : Table) → IsInRange T → (old now new : List Context) (first task next : Task) → Passes T old now first task
@@ -67,8 +60,8 @@ passes-on T range old now new first task next p is k f q one =
       there = omega (arith, m.lower, p.there);
       same = sym (passed-once T range (plain_task now task) (plain_task new next) (sym is)) ∙ p.same;
       left = λ c i. p.left c (subst (In c) (sym (passed-way T range (plain_task now task) (plain_task new next) (sym is))) (inr i));
-      entered = known-on T old now new first task p f;
-      keeps = keeps-then old now new p.keeps q;
+      entered = entered-end T old now new first task p f;
+      keeps = keeps_known_then old now new p.keeps q;
       one_for_one = λ o. one (p.one_for_one o);
     }
 
@@ -79,14 +72,10 @@ next-lower T range now new task next is = (moved-moves T range (plain_task now t
 -- and where there is none, the last task is reached.
 pub passes-end : (T : Table) → IsInRange T → (old now new : List Context) (first task : Task) → Passes T old now first task → None ≡ moved T (plain_task now task) → KeepsKnown now new
     → plain_task new task ≡ passed T (plain_task old first)
-passes-end T range old now new first task p is q = task-kept now new task q p.known ∙ sym (passed-already T range (plain_task now task) (sym is)) ∙ p.same
-
-pub entered-end : (T : Table) (old now new : List Context) (first task : Task) → Passes T old now first task
-    → ((c : Context) → In c new → In c now ⊎ In c (passed_contexts T 1 (plain_task now task))) → (c : Context) → In c new → In c old ⊎ In c (way T old first)
-entered-end T old now new first task p f = known-on T old now new first task p f
+passes-end T range old now new first task p is q = task_as_tags_grow now new task q p.known ∙ sym (passed-already T range (plain_task now task) (sym is)) ∙ p.same
 
 pub keeps-end : (T : Table) (old now new : List Context) (first task : Task) → Passes T old now first task → KeepsKnown now new → KeepsKnown old new
-keeps-end T old now new first task p q = keeps-then old now new p.keeps q
+keeps-end T old now new first task p q = keeps_known_then old now new p.keeps q
 
 -- what isn't known later wasn't known before
 unknown-before : (old now : List Context) (c : Context) → KeepsKnown old now → IsUnknown now c → IsUnknown old c

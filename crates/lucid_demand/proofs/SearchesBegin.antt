@@ -1,6 +1,7 @@
 -- What is noted of a search is its form's pair, and a search begins where its form may stand.
 use Rattle.std.proofs.Common.{◌≡◌, ℕ, ◌≤◌, List, [], ◌∷◌, true, false, Option, Some, None, refl, sym, ap, ◌∙◌, subst, arith}
 use Rattle.std.specs.Prelude.{IsTrue, is_some, option_map, option_and_then}
+use Rattle.std.proofs.lemmas.Option.{none-some}
 use Rattle.lucid_value.specs.View.{plain}
 use Rattle.lucid_tree.specs.Tree.{Head, whenever, asa, upon}
 use Rattle.lucid_tree.specs.Rests.{CanStandAt}
@@ -46,9 +47,6 @@ pub record SearchesBy (T : Table) (n : Node) (t : ℕ) (s : Search) : Type 0 whe
   pub back : (c : Cursor) → cursor_noted form (noted_of s c).0 (noted_of s c).1 ≡ c
   pub begins : (c : Cursor) → (noted_of s c).0 ≤ greatest_key s → CanStandAt form c.time c.count t
 
-none_some : {A : Type 0} (x : A) → None ≡ Some x → ⊥
-none_some x e = cc
-
 one_search : (s q : Search) → Some s ≡ Some q → s ≡ q
 one_search s q e = cc
 
@@ -62,7 +60,7 @@ searches_by T (Asa a b) t s e =
 searches_by T (Upon a b) t s e =
     subst (λ z. SearchesBy T (Upon a b) t z) (one_search (Count t) s e)
     (record { form = upon; nodes = all_at (nodes_of T) (a ∷ b ∷ []); is = refl; search = refl; pair = λ c. refl; back = λ c. refl; begins = λ c l. l })
-searches_by T _ t s e = absurd (none_some s e)
+searches_by T _ t s e = absurd (none-some s e)
 
 -- A ready row of a node that searches.
 module _ (i : DemandIn) (e : Evaluating) (slot : ℕ) (step : MayStep i.demand e i.world slot) (r : TaskRow) (at : row_at e.rows slot ≡ Some r) (n : Node)
@@ -88,7 +86,7 @@ module _ (i : DemandIn) (e : Evaluating) (slot : ℕ) (step : MayStep i.demand e
   module _ (c : Cursor) (best : IsBest e.engine.noted r.task.node r.task.tag (greatest_key s) (noted_of s c)) (at_start : r.cursor.time ≡ 0)
       (no_subject : got_of e.rows (record { slot = slot; index = 0 }) ≡ None) (no_stream : got_of e.rows (record { slot = slot; index = 1 }) ≡ None) where
     not_emptying : IsTrue i.demand.first.empties → ⊥
-    not_emptying z = none_some ((noted_of s c).1) (sym (step.emptied.unnoted z r.task.node r.task.tag ((noted_of s c).0)) ∙ best.noted)
+    not_emptying z = none-some ((noted_of s c).1) (sym (step.emptied.unnoted z r.task.node r.task.tag ((noted_of s c).0)) ∙ best.noted)
 
     facts_there : (b : Elements) → MayHave e.engine b → RowFacts i.demand b (holding e.engine) e.engine.stored.lost (at_cursor c (plain_row e.engine.known r))
     facts_there b m =

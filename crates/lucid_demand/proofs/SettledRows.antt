@@ -277,7 +277,7 @@ settled_applied i e mid new slot op v result same taken is steps act =
     subst (λ (z : EngineView). Stepped i.demand (record { engine = z; rows = e.rows }) new i.world i.world result) same
     (steps (at_rows i e.rows) (gives_may_settle i e mid slot v (applied_gives i.demand e i.world slot op v act is) same taken))
 
-on_going : (r : Result (Option Value) DemandFault) (P Q : Type 0) → (P → Q) → OnGoingOn r P → OnGoingOn r Q
+pub on_going : (r : Result (Option Value) DemandFault) (P Q : Type 0) → (P → Q) → OnGoingOn r P → OnGoingOn r Q
 on_going (Ok None) P Q f p = f p
 on_going (Ok (Some v)) P Q f p = tt
 on_going (Err e) P Q f p = tt

@@ -1,8 +1,9 @@
 -- A form whose plan gives one part at one point reads and visits what that part does there.
-use Rattle.std.proofs.Common.{◌≡◌, ℕ, zero, suc, ◌+◌, Bool, true, false, List, [], ◌++◌, Option, Some, None, refl, sym, ap, ◌∙◌, subst, arith, if◌then◌else◌, nat_le, nat_lt}
+use Rattle.std.proofs.Common.{◌≡◌, ℕ, zero, suc, ◌+◌, Bool, true, false, List, [], ◌++◌, Option, Some, None, refl, sym, ap, ◌∙◌, subst, if◌then◌else◌, nat_lt}
 use Rattle.std.specs.List.{filter_map}
 use Rattle.std.proofs.lemmas.List.{append-nil}
-use Rattle.std.proofs.lemmas.Bool.Decides.{nat_tests}
+use Rattle.std.proofs.lemmas.Option.{none-some}
+use Rattle.lucid_lemmas.proofs.Numbers.{zero_le}
 use Rattle.lucid_value.specs.Plain.{PlainValue, fault}
 use Rattle.lucid_tree.specs.Members.{In}
 use Rattle.lucid_tree.specs.Tree.{Head, const, apply, choose, both, either, first, next, fby, whenever, asa, upon, attime, initial, succ, sby, atspace}
@@ -15,9 +16,6 @@ use Rattle.lucid_equations.specs.Values.{node_hval, node_value, value_at, part_a
 use Rattle.lucid_equations.specs.Visits.{NodeEvents, node_visits, node_walk, walk_at, walk_part, IsNeeded}
 use Rattle.lucid_equations.specs.Moving.{Onward, onward, OnlyMoves}
 
-zero_taken : (m : ℕ) → nat_le 0 m ≡ true
-zero_taken m = grind (arith, nat_tests)
-
 -- a plan that gives a part gives the part's value, and sees what the part sees
 part_runs : (r : Reader (Option PlainValue)) (i t s : ℕ) → run (gives_part i t s) r ≡ r i t s
 part_runs r i t s = go (r i t s)
@@ -27,23 +25,20 @@ part_runs r i t s = go (r i t s)
     go (Some v) = refl
 
 part_sees : {A : Type 0} (m : ℕ) (decide : Reader (Option PlainValue)) (see : Reader (List A)) (i t s : ℕ) → trace m (gives_part i t s) decide see ≡ see i t s
-part_sees m decide see i t s = ap (λ c. ((if c then see i t s else []) ++ []) ++ with_values (add_value (decide i t s) (Some [])) [] (λ vs. trace m (single gives vs) decide see)) (zero_taken m) ∙ go (decide i t s)
+part_sees m decide see i t s = ap (λ c. ((if c then see i t s else []) ++ []) ++ with_values (add_value (decide i t s) (Some [])) [] (λ vs. trace m (single gives vs) decide see)) (zero_le m) ∙ go (decide i t s)
   where
     go : (o : Option PlainValue) → (see i t s ++ []) ++ with_values (add_value o (Some [])) [] (λ vs. trace m (single gives vs) decide see) ≡ see i t s
     go None = append-nil (see i t s ++ []) ∙ append-nil (see i t s)
     go (Some v) = append-nil (see i t s ++ []) ∙ append-nil (see i t s)
 
-no_part : {A : Type 0} (e : A) → None ≡ Some e → ⊥
-no_part e h = cc
-
 -- a part by its number
 pub part-read : (p : Equations) (m : ℕ) (b : Below Daton NodePosition) (es : PlainNodes) (i : ℕ) (e : PlainNode) → part_of es i ≡ Some e → (c : Context) (t s : ℕ) → part_at p m b es c i t s ≡ value_at p m b e c t s
-part-read p m b no_nodes i e h c t s = absurd (no_part e h)
+part-read p m b no_nodes i e h c t s = absurd (none-some e h)
 part-read p m b (node x es) zero e h c t s = let q : x ≡ e = cc in ap (λ z. value_at p m b z c t s) q
 part-read p m b (node x es) (suc i) e h c t s = part-read p m b es i e h c t s
 
 pub part-walked : (p : Equations) (g : Given Daton) (m d : ℕ) (deep : NodeAim → ℕ → NodeEvents) (es : PlainNodes) (i : ℕ) (e : PlainNode) → part_of es i ≡ Some e → (c : Context) (t s : ℕ) → walk_part p g m d deep es c i t s ≡ walk_at p g m d deep e c t s
-part-walked p g m d deep no_nodes i e h c t s = absurd (no_part e h)
+part-walked p g m d deep no_nodes i e h c t s = absurd (none-some e h)
 part-walked p g m d deep (node x es) zero e h c t s = let q : x ≡ e = cc in ap (λ z. walk_at p g m d deep z c t s) q
 part-walked p g m d deep (node x es) (suc i) e h c t s = part-walked p g m d deep es i e h c t s
 

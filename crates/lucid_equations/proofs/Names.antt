@@ -1,11 +1,12 @@
 -- Names that differ from all before them.
-use Rattle.std.proofs.Common.{◌≡◌, ℕ, zero, suc, ◌<◌, Bool, true, false, not, cond, List, [], ◌∷◌, ◌++◌, length, take, get_or, Bor, Ordering, refl, sym, ap, subst, inl, inr, arith}
+use Rattle.std.proofs.Common.{◌≡◌, ℕ, zero, suc, ◌<◌, Bool, true, false, not, cond, List, [], ◌∷◌, ◌++◌, length, take, get_or, Bor, Ordering, refl, sym, ap, subst, inl, inr, arith, ◌∙◌}
 use Rattle.std.specs.Bool.{Decides}
 use Rattle.std.specs.Cmp.Lexicographic.{slice_cmp, bytes_decides}
 use Rattle.std.specs.Ordering.{nat_cmp, is_eq}
 use Rattle.std.proofs.lemmas.Map.Text.{is_eq-slice_cmp}
+use Rattle.std.proofs.lemmas.Bool.{not-false}
 use Rattle.lucid_tree.specs.Members.{In, AllDiffer}
-use Rattle.lucid_tree.proofs.Members.{in_left, in_right, in_either}
+use Rattle.lucid_tree.proofs.Members.{in_left, in_right, in_either, one_more-differs}
 
 -- the order of borrowed names
 abbrev pub names_cmp : Bor (List ℕ) → Bor (List ℕ) → Ordering
@@ -24,11 +25,6 @@ either-decides false had x y xs d h =
 pub one_more-decides : (has had : Bool) (x y : List ℕ) (xs : List (List ℕ)) → has ≡ cond (is_eq (slice_cmp nat_cmp x y)) true had → Decides had (In y xs) → Decides has (In y (xs ++ x ∷ []))
 one_more-decides has had x y xs is h = subst (λ b. Decides b (In y (xs ++ x ∷ []))) (sym is) (either-decides (is_eq (slice_cmp nat_cmp x y)) had x y xs (equal-decides x y) h)
 
-one_more-differs : (x : List ℕ) (xs : List (List ℕ)) → (In x xs → ⊥) → AllDiffer xs → AllDiffer (xs ++ x ∷ [])
-one_more-differs x [] h d = ((λ q. q), tt)
-one_more-differs x (y ∷ xs) h d =
-    ((λ q. elim (in_either y xs (x ∷ []) q) [ inl r ↦ d.0 r | inr r ↦ elim r [ inl e ↦ h (inl (sym e)) | inr z ↦ z ] ]), one_more-differs x xs (λ q. h (inr q)) d.1)
-
 -- a name that stands before itself
 not_twice : (x : List ℕ) (xs ys : List (List ℕ)) → In x xs → AllDiffer (xs ++ x ∷ ys) → ⊥
 not_twice x [] ys h d = h
@@ -38,17 +34,13 @@ not_twice x (y ∷ xs) ys (inr h) d = not_twice x xs ys h d.1
 denied : (had new : Bool) → new ≡ not had → new ≡ true → had ≡ true → ⊥
 denied had new e h k = grind (arith, e, h, k)
 
-granted : (had new : Bool) → new ≡ not had → new ≡ false → had ≡ true
-granted true new e h = refl
-granted false new e h = absurd (grind (arith, e, h))
-
 -- one name more, which is new
 pub new-differs : (names : List (List ℕ)) (x : List ℕ) (had new : Bool) → Decides had (In x names) → new ≡ not had → new ≡ true → AllDiffer names → AllDiffer (names ++ x ∷ [])
 new-differs names x had new among is granted_so d = one_more-differs x names (λ q. denied had new is granted_so (among.1 q)) d
 
 -- one that is not
 pub old-repeats : (names rest : List (List ℕ)) (x : List ℕ) (had new : Bool) → Decides had (In x names) → new ≡ not had → new ≡ false → AllDiffer (names ++ x ∷ rest) → ⊥
-old-repeats names rest x had new among is denied_so d = not_twice x names rest (among.0 (granted had new is denied_so)) d
+old-repeats names rest x had new among is denied_so d = not_twice x names rest (among.0 (not-false had (sym is ∙ denied_so))) d
 
 -- a list with an item in it
 pub split-at : (xs : List (List ℕ)) (i : ℕ) (x other : List ℕ) → i < length xs → x ≡ get_or xs i other → (rest : List (List ℕ)) × (xs ≡ take i xs ++ x ∷ rest)

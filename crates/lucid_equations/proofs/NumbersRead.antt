@@ -23,7 +23,7 @@ use Rattle.lucid_equations.proofs.Rising.{name-in_range, place-in_range}
 use Rattle.lucid_equations.proofs.PartsRead.{row-node, each-lower}
 
 -- as many nodes as rows
-grown-count : (vs : List PlainValue) (ns : List (List ℕ)) (ts : List PlainNode) (rs : List NodeRow) → length (grow vs ns ts rs) ≡ length ts + length rs
+pub grown-count : (vs : List PlainValue) (ns : List (List ℕ)) (ts : List PlainNode) (rs : List NodeRow) → length (grow vs ns ts rs) ≡ length ts + length rs
 grown-count vs ns ts [] = omega arith
 grown-count vs ns ts (r ∷ rs) =
     let h = grown-count vs ns (ts ++ as_node vs ns ts r.node ∷ []) rs in

@@ -1,7 +1,7 @@
 -- In a table in range the parts of a form are the nodes of their numbers.
-use Rattle.std.proofs.Common.{◌≡◌, ℕ, zero, suc, ◌<◌, length, List, [], ◌∷◌, Some, None, get_or, slice_get, sym, ap, ◌∙◌, subst, inl, inr}
+use Rattle.std.proofs.Common.{◌≡◌, ℕ, zero, suc, ◌<◌, length, List, [], ◌∷◌, Some, get_or, slice_get, sym, ap, ◌∙◌, subst, inl, inr}
 use Rattle.std.specs.Option.{option_map}
-use Rattle.std.proofs.lemmas.Option.{slice_get_cases}
+use Rattle.std.proofs.lemmas.Option.{slice_get_cases, none-some}
 use Rattle.lucid_value.specs.Plain.{PlainValue}
 use Rattle.lucid_tree.specs.Tree.{Head}
 use Rattle.lucid_tree.specs.Levels.{Elements, Given, nothing_held, below, deeper}
@@ -51,16 +51,13 @@ parts-are vs ns ts (Freeze a) f es h = absurd (no_form (at ts a) f es h)
 parts-are vs ns ts (Refer n l) f es h = sym (ap parts_in h)
 parts-are vs ns ts (Call n q l) f es h = sym (ap parts_in h)
 
-none_some : {A : Type 0} (x : A) → None ≡ Some x → ⊥
-none_some x e = cc
-
 part-at : (ts : List PlainNode) (is : List ℕ) (i k : ℕ) → slice_get is i ≡ Some k → part_of (all_at ts is) i ≡ Some (at ts k)
-part-at ts [] i k e = absurd (none_some k e)
+part-at ts [] i k e = absurd (none-some k e)
 part-at ts (j ∷ is) zero k e = let h : j ≡ k = cc in ap (λ z. Some (at ts z)) h
 part-at ts (j ∷ is) (suc i) k e = part-at ts is i k e
 
 pub each-lower : (n : ℕ) (is : List ℕ) (i k : ℕ) → EachBelow n is → slice_get is i ≡ Some k → k < n
-each-lower n [] i k b e = absurd (none_some k e)
+each-lower n [] i k b e = absurd (none-some k e)
 each-lower n (j ∷ is) zero k b e = let h : j ≡ k = cc in subst (λ z. z < n) h b.0
 each-lower n (j ∷ is) (suc i) k b e = each-lower n is i k b.1 e
 
@@ -75,7 +72,7 @@ found-there : (rs : List NodeRow) (id : ℕ) (n : Node) → option_map (λ r. r.
 found-there rs id n e =
     elim ((slice_get_cases rs id).1) [
       | inl h ↦ record { its = h.0; within = h.1; here = h.3; node_is = (let z : Some h.0.node ≡ Some n = sym (ap (option_map (λ r. r.node)) h.2) ∙ e in cc) }
-      | inr h ↦ absurd (none_some n (sym (ap (option_map (λ r. r.node)) h.1) ∙ e))
+      | inr h ↦ absurd (none-some n (sym (ap (option_map (λ r. r.node)) h.1) ∙ e))
     ]
 
 module _ (T : Table) (range : IsInRange T) where

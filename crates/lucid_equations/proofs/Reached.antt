@@ -1,5 +1,5 @@
 -- Where a node has a value, each daton that it goes to has one at a lower limit, and all that this visits the node visits.
-use Rattle.std.proofs.Common.{◌≡◌, ℕ, zero, suc, ◌+◌, ◌≤◌, ◌<◌, List, Some, None, refl, sym, ◌∙◌, subst, add-zero, inl, inr, arith}
+use Rattle.std.proofs.Common.{◌≡◌, ℕ, zero, suc, ◌+◌, ◌≤◌, ◌<◌, List, Some, refl, sym, ◌∙◌, subst, add-zero, inl, inr, arith}
 use Rattle.lucid_value.specs.Plain.{PlainValue}
 use Rattle.lucid_tree.specs.Members.{In, Inside}
 use Rattle.lucid_tree.specs.Rows.{plan}
@@ -13,9 +13,6 @@ use Rattle.lucid_equations.specs.Visits.{NodeEvents, context_of, walk_at, walk_p
 use Rattle.lucid_equations.specs.Laws.{GoesByItsDaton}
 use Rattle.lucid_equations.proofs.NodeAims.{reference-by_daton, call-by_daton}
 use Rattle.lucid_equations.proofs.Looked.{looked-inside, look-found, looked-defined}
-
-nothing_is : {A : Type 0} (x : A) → None ≡ Some x → ⊥
-nothing_is x e = cc
 
 module _ (p : Equations) (b : Elements) (d : Daton) (x : NodePosition) (u r : ℕ) where
   abbrev event : Event Daton NodePosition Context

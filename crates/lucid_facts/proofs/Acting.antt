@@ -17,6 +17,7 @@ use Rattle.lucid_tasks.specs.declared.Cursor.{Cursor}
 use Rattle.lucid_tasks.specs.Rows as rows
 use Rattle.lucid_tasks.specs.Rows.{TaskRow, Got, row_at}
 use Rattle.lucid_equations.specs.MoreElements.{Extends}
+use Rattle.lucid_tasks.proofs.RowLemmas.{row_below}
 use Rattle.lucid_facts.specs.Tasks.{PlainTask, PlainRow, DatonAt, idle, got, is_free, state_at, all_idle, key_list, waits_for_none, plain_task, plain_key, plain_state, plain_row, plain_rows, AreRowsKnown}
 use Rattle.lucid_facts.specs.Parts.{rank}
 use Rattle.lucid_facts.specs.Stands.{StandsFor}
@@ -36,7 +37,7 @@ use Rattle.lucid_facts.proofs.NewRows.{standing-is_right, body-is_right, new_row
 use Rattle.lucid_facts.proofs.Searching.{moved-facts}
 use Rattle.lucid_facts.proofs.Changing.{plain_asks, plain_gives, plain_settles, plain_begins, plain_becomes}
 use Rattle.lucid_facts.proofs.Taking.{plain_moves}
-use Rattle.lucid_facts.proofs.Listing.{plain_of_row, plain_past, row_is_below, none_past}
+use Rattle.lucid_facts.proofs.Listing.{plain_of_row, plain_past, none_past}
 use Rattle.lucid_facts.proofs.Knowing.{known_asks, known_gives, known_settles, known_moves, known_takes, known_becomes, all_rows_as_tags_grow}
 use Rattle.lucid_facts.proofs.Falling.{giving_falls, moving_falls, becoming_falls, beginning_raises_nothing}
 use Rattle.lucid_facts.proofs.Totals.{total_same, total_past, total_asks, total_settles, total_changes, total_begins}
@@ -95,7 +96,7 @@ module _ (d : Demand) (now : EngineView) (w : World) (old new : List (Option Tas
         (known_asks now.known old new part slot x known changes waits.known);
     less = falls (λ n l m. total_asks (table_of d) d.root.limit (plain_rows now.known old) (plain_rows now.known new) part slot n parent task there
         (past_is_none (plain_rows now.known old) slot (plain_past now.known old slot past)) free (subst (λ k. part.index < k) (sym ((facts_now part.slot r at).three)) few) asks.lower
-        ((right (known_elements now) (λ a j v e. e)).limit) plain_changes (omega (arith, l, row_is_below old part.slot r at)) (omega (arith, m, row_is_below new slot (rows.fresh x (Some part)) new_there)));
+        ((right (known_elements now) (λ a j v e. e)).limit) plain_changes (omega (arith, l, row_below old part.slot r at)) (omega (arith, m, row_below new slot (rows.fresh x (Some part)) new_there)));
   }
     where
       parent : PlainRow
@@ -125,7 +126,7 @@ module _ (d : Demand) (now : EngineView) (w : World) (old new : List (Option Tas
         (with_part part.index (got (plain v)) (plain_row now.known r)) there
         (giving_falls (table_of d) d.root.limit (plain_row now.known r) part.index (plain v) free (subst (λ k. part.index < k) (sym ((facts_now part.slot r at).three)) few) some)
         (changes_is_set (plain_rows now.known old) (plain_rows now.known new) part.slot (with_part part.index (got (plain v))) (plain_row now.known r) there given)
-        (omega (arith, l, row_is_below old part.slot r at)));
+        (omega (arith, l, row_below old part.slot r at)));
   }
     where
       there : plain_rows now.known old part.slot ≡ Some (plain_row now.known r)
@@ -143,7 +144,7 @@ module _ (d : Demand) (now : EngineView) (w : World) (old new : List (Option Tas
     waits = onward (work_settles d (known_elements now) (holding now) now.stored.lost (plain_rows now.known old) (plain_rows now.known new) slot (plain_row now.known r) part (plain v)
         waits.going.work there ready up answers kept settled) (known_settles now.known old new slot v changes waits.known);
     less = falls (λ n l m. total_settles (table_of d) d.root.limit (plain_rows now.known old) (plain_rows now.known new) slot n (plain_row now.known r) serves.parent part (plain v) there up
-        (λ e. absurd (omega (arith, e, older))) serves.there serves.asked_it settled (omega (arith, l, row_is_below old slot r at)) (omega (arith, l, older, row_is_below old slot r at)));
+        (λ e. absurd (omega (arith, e, older))) serves.there serves.asked_it settled (omega (arith, l, row_below old slot r at)) (omega (arith, l, older, row_below old slot r at)));
   }
     where
       there : plain_rows now.known old slot ≡ Some (plain_row now.known r)
@@ -176,7 +177,7 @@ module _ (d : Demand) (now : EngineView) (w : World) (old new : List (Option Tas
         (λ b x. subst (λ z. RowFacts d b (holding now) now.stored.lost (at_cursor z row)) (sym is) (moved-facts d b (holding now) now.stored.lost row truth_seen (facts_of slot r at b x) may)) sets)
         (known_moves now.known two new slot c cursor (known_takes now.known one two slot 1 second (known_takes now.known old one slot 0 first waits.known)));
     less = falls (λ n l m. total_changes (table_of d) d.root.limit (plain_rows now.known old) (plain_rows now.known new) slot n row (at_cursor c row) there
-        (moving_falls (table_of d) d.root.limit row c three may.before (subst (λ z. r.cursor.time < z.time) (sym is) (later truth_seen))) sets (omega (arith, l, row_is_below old slot r at)));
+        (moving_falls (table_of d) d.root.limit row c three may.before (subst (λ z. r.cursor.time < z.time) (sym is) (later truth_seen))) sets (omega (arith, l, row_below old slot r at)));
   }
     where
       row : PlainRow
@@ -206,7 +207,7 @@ module _ (d : Demand) (now : EngineView) (w : World) (old new : List (Option Tas
         (ready_is_no_parent d (known_elements now) (holding now) now.stored.lost (plain_rows now.known old) waits.going.work slot row there (ap (λ ps. list_all is_free ps) free)) refl (λ y s. s)
         facts sets) (known_moves now.known old new slot c changes waits.known),
     no_more (total_begins (table_of d) d.root.limit (plain_rows now.known old) (plain_rows now.known new) slot both row
-        (at_cursor c row) there (beginning_raises_nothing (table_of d) d.root.limit row c free later) sets (omega (arith, row_is_below old slot r at))),
+        (at_cursor c row) there (beginning_raises_nothing (table_of d) d.root.limit row c free later) sets (omega (arith, row_below old slot r at))),
   )
     where
       row : PlainRow
@@ -237,7 +238,7 @@ module _ (d : Demand) (now : EngineView) (w : World) (old new : List (Option Tas
         (ready_is_no_parent d (known_elements now) (holding now) now.stored.lost (plain_rows now.known old) waits.going.work slot row there (ap (λ ps. list_all is_free ps) may.idle_parts)) refl stands
         facts sets) (known_becomes now.known old new slot x k task_known key_known changes waits.known);
     less = falls (λ n l m. total_changes (table_of d) d.root.limit (plain_rows now.known old) (plain_rows now.known new) slot n row (as_body daton task row) there
-        (becoming_falls (table_of d) d.root.limit row daton task may.idle_parts may.lower ((right (known_elements now) (λ a j v e. e)).limit)) sets (omega (arith, l, row_is_below old slot r at)));
+        (becoming_falls (table_of d) d.root.limit row daton task may.idle_parts may.lower ((right (known_elements now) (λ a j v e. e)).limit)) sets (omega (arith, l, row_below old slot r at)));
   }
     where
       row : PlainRow

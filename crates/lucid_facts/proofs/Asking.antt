@@ -11,11 +11,10 @@ use Rattle.lucid_tree.specs.Levels.{Elements, nothing_held, goes_to}
 use Rattle.lucid_tree.proofs.Ways.{leads-maps}
 use Rattle.lucid_tree.proofs.RunsMeant.{reader-up}
 use Rattle.lucid_tree.proofs.RestsDefined.{nothing_left, next_defined}
-use Rattle.lucid_equations.specs.Nodes.{row, PlainNodes, Equations}
+use Rattle.lucid_equations.specs.Nodes.{row, PlainNodes}
 use Rattle.lucid_equations.specs.Datons.{NodePosition, NodeAim}
-use Rattle.lucid_equations.specs.Values.{node_hval, NodeMeans}
+use Rattle.lucid_equations.specs.Values.{node_hval}
 use Rattle.lucid_equations.specs.Visits.{node_visits}
-use Rattle.lucid_equations.specs.Laws.{HeldIsMeant}
 use Rattle.lucid_equations.specs.Rows.{equations_of}
 use Rattle.lucid_equations.specs.Parts.{reads_parts, visits_parts}
 use Rattle.lucid_equations.proofs.ByStep.{parts-keep, parts-agree, next-visited, next-visited_on}
@@ -31,6 +30,7 @@ use Rattle.lucid_facts.specs.Going.{IsDemand}
 use Rattle.lucid_facts.proofs.Looking.{LooksAt, looks_at, look_value, look_visits, look_keeps_limit, look_is_there, look_ranks_lower}
 use Rattle.lucid_facts.proofs.Leading.{row_came, part_is_of_its_look}
 use Rattle.lucid_facts.proofs.Giving.{answer_means, answer_is_exact}
+use Rattle.lucid_facts.proofs.MoreRead.{right_is_meant}
 
 abbrev position_in : NodePosition → NodeAim → NodePosition
 position_in z (goes_to k y u) = y
@@ -39,14 +39,6 @@ position_in z _ = z
 abbrev time_in : NodeAim → ℕ
 time_in (goes_to k y u) = u
 time_in _ = 0
-
--- What is held right is meant, whatever position its daton goes on with.
-pub right_is_meant : (p : Equations) (b : Elements) (h : Holding) → HoldsRight p b h → HeldIsMeant p (given b h)
-right_is_meant p b h right d x u s v aim held =
-    let m = right d s v held in
-    let y : m.position ≡ x = ap (position_in x) (sym m.aim ∙ aim) in
-    let w : m.time ≡ u = ap time_in (sym m.aim ∙ aim) in
-    subst (λ t. NodeMeans p b x.node x.context t s v) w (subst (λ z. NodeMeans p b z.node z.context m.time s v) y m.means)
 
 both_ways : {e : Bool} → e ≡ false → e ≡ true → ⊥
 both_ways off on = let z : false ≡ true = sym off ∙ on in absurd (cc)

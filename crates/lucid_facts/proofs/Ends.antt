@@ -2,6 +2,8 @@
 use Rattle.std.proofs.Common.{◌≡◌, ℕ, ◌≤◌, Bool, true, false, length, Option, Some, None, ◌⊎◌, inl, inr, refl, sym, ap, ◌∙◌, subst, true≢false, arith, le_refl}
 use Rattle.std.specs.Prelude.{IsTrue, IsSome, is_some, IfSome}
 use Rattle.std.proofs.lemmas.List.{length-map}
+use Rattle.std.proofs.lemmas.Option.{same_Some, none-some}
+use Rattle.lucid_lemmas.proofs.Options.{value_there}
 use Rattle.lucid_value.specs.Plain.{PlainValue}
 use Rattle.lucid_tree.specs.Members.{AllDiffer}
 use Rattle.lucid_tree.specs.Levels.{Elements, nothing_held}
@@ -21,19 +23,13 @@ use Rattle.lucid_facts.specs.Engine.{EngineView, IsSound, known_elements, holdin
 use Rattle.lucid_facts.specs.Demands.{stays, held_if, demand_of, Answers}
 use Rattle.lucid_facts.specs.Stock.{StockFacts}
 use Rattle.lucid_facts.specs.Going.{IsDemand, Owns}
-use Rattle.lucid_facts.proofs.MoreRead.{right_over, closed_over, noted_over, noted_closed_over, right_is_meant, value_of_some}
+use Rattle.lucid_facts.proofs.MoreRead.{right_over, closed_over, noted_over, noted_closed_over, right_is_meant}
 use Rattle.lucid_facts.proofs.History.{goes_on_itself, reads_only_itself}
-
-some_once : {A : Type 0} {x y : A} → ◌≡◌ {A = Option A} (Some x) (Some y) → x ≡ y
-some_once e = cc
-
-none_some : {A : Type 0} {x : A} → ◌≡◌ {A = Option A} None (Some x) → ⊥
-none_some e = cc
 
 -- what stays held was held
 held_if_held : (keeps : Bool) (h : Holding) (k : Daton) (s : ℕ) (v : PlainValue) → held_if keeps h k s ≡ Some v → h k s ≡ Some v
 held_if_held true h k s v e = e
-held_if_held false h k s v e = absurd (none_some e)
+held_if_held false h k s v e = absurd (none-some _ e)
 
 -- under a policy that keeps all of it stays
 stays_all : (keeps : Bool) (h : Holding) → keeps ≡ true → held_if keeps h ≡ h
@@ -66,7 +62,7 @@ engine_begins e w t s m sound ask = (demand, owns)
     owns = record {
       stock = record {
         stock = facts;
-        drawn = λ b may k n before after named was is. drawn_at_once (w.place after.place).contents _ after.consumed before.consumed (ap (λ x. x.consumed) (some_once (sym is ∙ was)));
+        drawn = λ b may k n before after named was is. drawn_at_once (w.place after.place).contents _ after.consumed before.consumed (ap (λ x. x.consumed) (same_Some _ _ (sym is ∙ was)));
         askable = ask;
       };
       keys = sound.keys;
@@ -127,7 +123,7 @@ holds_what_is_needed old new v w t s m x owns keeps z b may answers k r = (there
     ]
 
     back : IsSome (holding old k r) ⊎ IsNeeded (equations_of old.table) b (equations_of old.table).root root t s (k, r) → IsSome (holding new k r)
-    back (inl i) = let y = value_of_some (holding old k r) i in ap is_some (kept_is_held old new v w t s m owns keeps k r y.0 y.1)
+    back (inl i) = let y = value_there (holding old k r) i in ap is_some (kept_is_held old new v w t s m owns keeps k r y.0 y.1)
     back (inr n) = answers.kept keeps z (k, r) n
 
 -- Where the root's approximation is undefined with what stays held, it is undefined; and, under a policy that keeps, so it is with what
@@ -142,7 +138,7 @@ undefined old w t s m b right none = (plainly, λ keeps. ap (λ h. root_hval old
     nothing (Some v) h = absurd (h v refl)
 
     more : HoldsMore (nothing_held b) (given b (stays (demand_of old w t s m)))
-    more = record { elements = refl; held = λ d r v e. absurd (none_some e) }
+    more = record { elements = refl; held = λ d r v e. absurd (none-some _ e) }
 
     plainly : root_val old b m t s ≡ None
     plainly = nothing (root_val old b m t s) (λ v e. none (

@@ -1,6 +1,7 @@
 -- The facts of a demand's first row.
 use Rattle.std.proofs.Common.{◌≡◌, ◌⊎◌, inl, inr, ℕ, suc, ◌==◌, [], Some, None, refl, sym, ◌∙◌, subst, arith}
 use Rattle.std.specs.Prelude.{if◌then◌else◌}
+use Rattle.std.proofs.lemmas.Bool.{cases_eq}
 use Rattle.lucid_tree.specs.Levels.{Elements}
 use Rattle.lucid_facts.specs.Tasks.{PlainTask, PlainRow, PlainRows, new_row}
 use Rattle.lucid_facts.specs.Parts.{IsTask, moved, passed}
@@ -8,7 +9,7 @@ use Rattle.lucid_facts.specs.Stands.{Holding, StandsFor}
 use Rattle.lucid_facts.specs.Demands.{Demand, table_of, stays, IsSeen}
 use Rattle.lucid_facts.specs.Rows.{RowFacts, PartIsRight, Links, Work}
 use Rattle.lucid_facts.specs.Going.{IsDemand}
-use Rattle.lucid_facts.proofs.Slots.{same_or_not, at_it, at_another}
+use Rattle.lucid_facts.proofs.Slots.{at_it, at_another}
 use Rattle.lucid_facts.proofs.Standing.{standing-is_defined, standing-is_seen}
 use Rattle.lucid_facts.proofs.Passing.{passed-stands}
 use Rattle.lucid_facts.proofs.NewRows.{new_row-facts}
@@ -20,8 +21,8 @@ root_is_seen d b = record { added = 0; none = λ e. refl; holds = λ n l v i. i 
 pub work_begins : (d : Demand) (now : Elements) (h : Holding) (lost : ℕ) (rows : PlainRows) (slot : ℕ) → IsDemand d
     → ((q : ℕ) → rows q ≡ (if q == slot then Some (new_row (passed (table_of d) d.root) None None) else None)) → Work d now h lost rows
 work_begins d now h lost rows slot is sets = record {
-  each = λ q c e b x. each q c e (same_or_not q slot) b;
-  links = λ q c e. links q c e (same_or_not q slot);
+  each = λ q c e b x. each q c e (cases_eq q slot) b;
+  links = λ q c e. links q c e (cases_eq q slot);
   some = (slot, first, sets slot ∙ at_it slot slot (Some first) None refl);
 }
   where

@@ -3,6 +3,7 @@ use Rattle.std.proofs.Common.{◌≡◌, ℕ, Bool, true, false, cond, ◌==◌,
 use Rattle.std.specs.Prelude.{IsSome, is_some, option_map, Decides}
 use Rattle.std.specs.Map.{lookup}
 use Rattle.std.proofs.lemmas.Bool.Decides.{Decides-eqb, Decides-and, Decides-like, same_from_decides}
+use Rattle.lucid_lemmas.proofs.Options.{some_still, same_values}
 use Rattle.lucid_value.specs.Plain.{PlainValue}
 use Rattle.lucid_value.specs.View.{plain}
 use Rattle.lucid_value.specs.declared.Value.{Value}
@@ -38,11 +39,6 @@ keys_alike known one k q h j e =
     let tags = (one.tags k.tag q.tag h j).1 (sym (ap (λ z. z.0.context) e), sym (ap (λ z. z.1) e)) in
     λ i. record { name = ap (λ z. z.0.name) (sym e) i; tag = tags i; time = ap (λ z. z.0.time) (sym e) i }
 
--- what is found of a list is found of a longer one
-further : (t : Bool) (e : Entry) (o : Option Entry) → IsSome o → IsSome (cond t (Some e) o)
-further true e o h = refl
-further false e o h = h
-
 -- each key of a list is found in it
 itself : (q : Key) (e : Entry) (es : List (Key × Entry)) → IsSome (lookup (same_key q) ((q, e) ∷ es))
 itself q e es = ap (λ t. is_some (cond t (Some e) (lookup (same_key q) es))) (same_key_equiv.refl q)
@@ -52,7 +48,7 @@ lookup_alike : (f g : Key → Bool) (es : List (Key × Entry)) → ((q : Key) �
 lookup_alike f g [] same = refl
 lookup_alike f g (e ∷ es) same =
     ap (λ t. cond t (Some e.1) (lookup f es)) (same e.0 (itself e.0 e.1 es))
-    ∙ ap (λ o. cond (g e.0) (Some e.1) o) (lookup_alike f g es (λ q h. same q (further (same_key q e.0) e.1 (lookup (same_key q) es) h)))
+    ∙ ap (λ o. cond (g e.0) (Some e.1) o) (lookup_alike f g es (λ q h. same q (some_still (same_key q e.0) e.1 (lookup (same_key q) es) h)))
 
 -- what a test finds has a key that passes it and is found
 record Found (f : Key → Bool) (es : List (Key × Entry)) : Type 0 where
@@ -65,7 +61,7 @@ found f [] h = absurd (true≢false (sym h))
 found f (e ∷ es) h =
     (elim (f e.0) as (λ t. f e.0 ≡ t → IsSome (cond t (Some e.1) (lookup f es)) → Found f (e ∷ es)) [
       | true ↦ λ passes i. record { key = e.0; passes = passes; there = itself e.0 e.1 es }
-      | false ↦ λ fails i. let r = found f es i in record { key = r.key; passes = r.passes; there = further (same_key r.key e.0) e.1 (lookup (same_key r.key) es) r.there }
+      | false ↦ λ fails i. let r = found f es i in record { key = r.key; passes = r.passes; there = some_still (same_key r.key e.0) e.1 (lookup (same_key r.key) es) r.there }
     ]) refl h
 
 map_twice : (o : Option Entry) → option_map (λ e. plain e.value) o ≡ option_map plain (option_map (λ e. e.value) o)
@@ -125,12 +121,6 @@ held_drops known old new one keys drops = (now, λ k v e. went k v (key_of_held 
 
     went : (k : DatonAt) (v : PlainValue) → HasKey known new k.0 k.1 v → held_in known old k.0 k.1 ≡ Some v
     went k v r = held_of_key known old k.0 k.1 v one keys (record { key = r.key; known_tag = r.known_tag; is = r.is; value = drops r.key v r.value })
-
--- each has a value where the other has it
-pub same_values : {A : Type 0} (o p : Option A) → ((v : A) → o ≡ Some v → p ≡ Some v) → ((v : A) → p ≡ Some v → o ≡ Some v) → o ≡ p
-same_values None None f g = refl
-same_values None (Some y) f g = g y refl
-same_values (Some x) p f g = sym (f x refl)
 
 -- What stays by keys stays by datons.
 pub held_stays :

@@ -1,7 +1,8 @@
 -- Which parts of a row that waits for none are idle.
 use Rattle.std.proofs.Common.{◌≡◌, ℕ, zero, suc, ◌<◌, List, [], ◌∷◌, Some, None, refl, sym, ap, ◌∙◌, subst, arith, length}
-use Rattle.std.specs.Prelude.{Bool, true, false, ◌&&◌}
+use Rattle.std.specs.Prelude.{true}
 use Rattle.std.specs.List.{list_all}
+use Rattle.std.proofs.lemmas.Bool.{and_parts}
 use Rattle.lucid_value.specs.Plain.{PlainValue}
 use Rattle.lucid_tree.specs.Tree.{Head, const, apply, choose, both, either, first, next, fby, whenever, asa, upon, attime, initial, succ, sby, atspace}
 use Rattle.lucid_tree.specs.Levels.{Elements}
@@ -21,15 +22,10 @@ free_is_idle idle f n = refl
 free_is_idle (asked slot) f n = absurd (cc)
 free_is_idle (got v) f n = absurd (n v refl)
 
-both_true : (a b : Bool) → (a && b) ≡ true → (a ≡ true) × (b ≡ true)
-both_true true true e = (refl, refl)
-both_true true false e = absurd (cc)
-both_true false b e = absurd (cc)
-
 parts_are_free : (ps : List PartState) (i : ℕ) → list_all is_free ps ≡ true → is_free (state_at ps i) ≡ true
 parts_are_free [] i e = refl
-parts_are_free (p ∷ ps) zero e = (both_true (is_free p) (list_all is_free ps) e).0
-parts_are_free (p ∷ ps) (suc i) e = parts_are_free ps i (both_true (is_free p) (list_all is_free ps) e).1
+parts_are_free (p ∷ ps) zero e = (and_parts (is_free p) (list_all is_free ps) e).0
+parts_are_free (p ∷ ps) (suc i) e = parts_are_free ps i (and_parts (is_free p) (list_all is_free ps) e).1
 
 -- A part without a value, of a row that waits for none, is idle.
 pub part-is_idle : (r : PlainRow) (i : ℕ) → waits_for_none r ≡ true → ((v : PlainValue) → value_of_part r i ≡ Some v → ⊥) → state_at r.parts i ≡ idle

@@ -5,15 +5,16 @@ use Rattle.lucid_value.specs.Plain.{PlainValue, truth}
 use Rattle.lucid_tree.specs.Tree.{Head, whenever, asa, upon}
 use Rattle.lucid_tree.specs.Rows.{Look, Plan, plan}
 use Rattle.lucid_tree.specs.Rests.{LeadsTo, at_start, rest_at}
-use Rattle.lucid_tree.specs.Levels.{Elements, goes_to, nowhere}
+use Rattle.lucid_tree.specs.Levels.{Elements}
 use Rattle.lucid_tree.proofs.Ways.{leads-maps, leads-join}
 use Rattle.lucid_tree.proofs.SearchesLead.{search_leads, least_of, test_look, counted_truth}
 use Rattle.lucid_equations.specs.Nodes.{row, PlainNodes}
 use Rattle.lucid_equations.specs.Values.{node_val}
-use Rattle.lucid_equations.specs.Datons.{Daton, NodePosition, NodeAim, node_aim}
+use Rattle.lucid_equations.specs.Datons.{node_aim}
 use Rattle.lucid_equations.specs.Rows.{node_at, equations_of}
 use Rattle.lucid_equations.specs.declared.table.Table.{Table}
 use Rattle.lucid_equations.proofs.NodeGrowth.{node-meant_once}
+use Rattle.lucid_equations.proofs.NodeAims.{no_aim}
 use Rattle.lucid_facts.specs.Tasks.{PlainTask, PlainRow, DatonAt}
 use Rattle.lucid_facts.specs.Parts.{node_of, part_number, look_of_row, look_task, GoesTo, IsPart, part_by_look, part_by_body}
 use Rattle.lucid_facts.specs.Stands.{Holding}
@@ -22,19 +23,14 @@ use Rattle.lucid_facts.specs.Demands.{Demand, table_of, LookAnswers, Answers}
 use Rattle.lucid_facts.specs.Rows.{RowFacts, PartAnswers, SearchFacts}
 use Rattle.lucid_facts.specs.Decisions.{RowHas, ComesTo}
 use Rattle.lucid_facts.specs.Going.{IsDemand}
-use Rattle.lucid_facts.proofs.Looking.{has_stream}
 use Rattle.lucid_facts.proofs.Coming.{rest_of}
-
-one_form : (f g : Head) (es gs : PlainNodes) → row f es ≡ row g gs → f ≡ g
-one_form f g es gs e = cc
-
-no_goal : (k : Daton) (x : NodePosition) (u : ℕ) → ◌≡◌ {A = NodeAim} nowhere (goes_to k x u) → ⊥
-no_goal k x u e = cc
+use Rattle.lucid_facts.proofs.Noting.{stream_of_search}
+use Rattle.lucid_facts.proofs.Idling.{one-form}
 
 -- a form goes to no daton
 form_goes_nowhere : (T : Table) (x y : PlainTask) (k : DatonAt) (f : Head) (es : PlainNodes) → node_of T x ≡ row f es → GoesTo T x k y → ⊥
 form_goes_nowhere T x y k f es e g =
-    no_goal k.0 (record { node = node_of T y; context = y.context }) y.time (ap (λ n. node_aim (equations_of T) n x.context x.time) (sym e) ∙ g.aim)
+    no_aim k.0 (record { node = node_of T y; context = y.context }) y.time (ap (λ n. node_aim (equations_of T) n x.context x.time) (sym e) ∙ g.aim)
 
 same_look : (o : Option Look) (l k : Look) → o ≡ Some l → o ≡ Some k → k ≡ l
 same_look o l k e h = cc
@@ -43,7 +39,7 @@ same_look o l k e h = cc
 pub part_is_of_its_look : (T : Table) (r : PlainRow) (f : Head) (es : PlainNodes) → node_of T r.task ≡ row f es → (index : ℕ) (l : Look) (y : PlainTask)
     → IsPart T r index y → look_of_row f r index ≡ Some l → look_task T r.task l ≡ Some y
 part_is_of_its_look T r f es e index l y (part_by_look {f = g} {es = gs} {l = k} i n q t) w =
-    let same : g ≡ f = one_form g f gs es (sym n ∙ e) in
+    let same : g ≡ f = one-form g f gs es (sym n ∙ e) in
     let look : k ≡ l = same_look (look_of_row f r index) l k w (subst (λ u. look_of_row u r index ≡ Some k) same q) in
     subst (λ u. look_task T r.task u ≡ Some y) look t
 part_is_of_its_look T r f es e index l y (part_by_body k g) w = absurd (form_goes_nowhere T r.task y k f es e g)
@@ -94,7 +90,7 @@ module _ (d : Demand) (b : Elements) (h : Holding) (lost : ℕ) (r : PlainRow) w
     where
       go : (found : Bool) → is_search f ≡ found → LeadsTo (LookAnswers d b h lost r.task) (plan r.task.limit f r.task.time r.task.space) (rest_of f r)
       go true searches =
-          let k = has_stream (table_of d) demand.in_range r.task facts.there f es e searches in
+          let k = stream_of_search (table_of d) demand.in_range r.task facts.there f es e searches in
           let s = facts.search f es k.0 e searches k.1 in
           search_leads (LookAnswers d b h lost r.task) (λ u. node_val (equations_of (table_of d)) b s.counted.0 (node_at (table_of d) k.0) r.task.context u r.task.space) f
           r.task.limit r.cursor.time r.cursor.count r.task.time r.task.space (λ u holds low value. looked_answers f k.0 s k.1 (least_of f r.task.time u) u holds low value) s.within s.counted.1

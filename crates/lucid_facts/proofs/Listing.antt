@@ -34,12 +34,6 @@ plain_past known rs slot past q some = past q (go (row_at rs q) some)
     go None e = e
     go (Some r) e = refl
 
--- a row stands below the list's length
-pub row_is_below : (rs : List (Option TaskRow)) (q : ℕ) (r : TaskRow) → row_at rs q ≡ Some r → q < length rs
-row_is_below [] q r e = absurd (cc)
-row_is_below (o ∷ rs) zero r e = omega arith
-row_is_below (o ∷ rs) (suc q) r e = let h = row_is_below rs q r e in omega (arith, h)
-
 -- past the list's end there is no row
 pub none_past : (known : List Context) (rs : List (Option TaskRow)) (q : ℕ) → length rs ≤ q → plain_rows known rs q ≡ None
 none_past known [] q l = refl

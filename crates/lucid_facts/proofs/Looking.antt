@@ -1,8 +1,8 @@
 -- The task of a look: it is that of the part's node at the look's point, one of the table's, with a lower number; and what the form
 -- reads, visits and needs of that part is what the task has, visits and needs.
 use Rattle.std.proofs.Common.{◌≡◌, ℕ, ◌<◌, Option, Some, None, slice_get, refl, sym, ap, ◌∙◌, subst, inl, inr, arith}
-use Rattle.std.specs.Prelude.{Bool, true, false, option_map, option_and_then}
-use Rattle.std.proofs.lemmas.Option.{slice_get_cases}
+use Rattle.std.specs.Prelude.{true, false, option_map, option_and_then}
+use Rattle.std.proofs.lemmas.Option.{slice_get_cases, none-some}
 use Rattle.lucid_tree.specs.Tree.{Head}
 use Rattle.lucid_tree.specs.Rows.{Look}
 use Rattle.lucid_tree.specs.Levels.{Elements, Given}
@@ -10,24 +10,19 @@ use Rattle.lucid_equations.specs.Nodes.{PlainNode, row, PlainNodes, part_of}
 use Rattle.lucid_equations.specs.Datons.{Daton}
 use Rattle.lucid_equations.specs.Values.{node_hval}
 use Rattle.lucid_equations.specs.Visits.{IsNeeded}
-use Rattle.lucid_equations.specs.Rows.{row_at, node_by, parts, equations_of}
+use Rattle.lucid_equations.specs.Rows.{row_at, parts, equations_of}
 use Rattle.lucid_equations.specs.RowParts.{HasPart}
 use Rattle.lucid_equations.specs.Ranges.{IsInRange}
 use Rattle.lucid_equations.specs.Parts.{reads_parts, visits_parts}
 use Rattle.lucid_equations.specs.declared.rows.Node.{Node}
-use Rattle.lucid_equations.specs.declared.rows.Node.TheVariants.{Const, Input, Apply, If, And, Or, First, Next, Fby, Whenever, Asa, Upon, Attime, Initial, Succ, Sby, Atspace, Freeze, Refer, Call}
 use Rattle.lucid_equations.specs.declared.table.Table.{Table}
-use Rattle.lucid_equations.proofs.PartsRead.{row-node, part-lower, part-node, part-value, part-visits}
+use Rattle.lucid_equations.proofs.PartsRead.{part-lower, part-node, part-value, part-visits}
 use Rattle.lucid_facts.specs.Tasks.{PlainTask, DatonAt}
 use Rattle.lucid_facts.specs.Parts.{node_of, part_number, rank, look_task, IsTask}
 use Rattle.lucid_facts.specs.Stands.{visits_of, TaskNeeds}
-use Rattle.lucid_facts.specs.Held.{is_search}
-
-none_some : {A : Type 0} (x : A) → None ≡ Some x → ⊥
-none_some x e = cc
 
 row_there : (o : Option Node) (i k : ℕ) → option_and_then (λ x. slice_get (parts x) i) o ≡ Some k → (n : Node) × (o ≡ Some n) × (slice_get (parts n) i ≡ Some k)
-row_there None i k e = absurd (none_some k e)
+row_there None i k e = absurd (none-some k e)
 row_there (Some n) i k e = (n, refl, e)
 
 -- a part's number is that of a part of the row
@@ -45,7 +40,7 @@ pub record LooksAt (T : Table) (x : PlainTask) (l : Look) (y : PlainTask) : Type
 
 looked_at : (T : Table) (x : PlainTask) (l : Look) (o : Option ℕ) (y : PlainTask) → part_number T x.node l.part ≡ o
     → option_map (λ n. record x { node = n; time = l.time; space = l.space }) o ≡ Some y → LooksAt T x l y
-looked_at T x l None y h e = absurd (none_some y e)
+looked_at T x l None y h e = absurd (none-some y e)
 looked_at T x l (Some n) y h e =
     let same : record x { node = n; time = l.time; space = l.space } ≡ y = cc in
     record { node = n; number = h; part = has_part T x.node l.part n h; is = sym same }
@@ -94,32 +89,6 @@ module _ (T : Table) (range : IsInRange T) (x : PlainTask) (l : Look) (y : Plain
 no : false ≡ true → ⊥
 no e = cc
 
-abbrev searches : PlainNode → Bool
-searches (row f es) = is_search f
-searches _ = false
-
-second : (T : Table) (n : Node) → searches (node_by T n) ≡ true → (k : ℕ) × (slice_get (parts n) 1 ≡ Some k)
-second T (Const k) h = absurd (no h)
-second T (Input k) h = absurd (no h)
-second T (Apply op args) h = absurd (no h)
-second T (If a b c) h = absurd (no h)
-second T (And a b) h = absurd (no h)
-second T (Or a b) h = absurd (no h)
-second T (First a) h = absurd (no h)
-second T (Next a) h = absurd (no h)
-second T (Fby a b) h = absurd (no h)
-second T (Whenever a b) h = (b, refl)
-second T (Asa a b) h = (b, refl)
-second T (Upon a b) h = (b, refl)
-second T (Attime a b) h = absurd (no h)
-second T (Initial a) h = absurd (no h)
-second T (Succ a) h = absurd (no h)
-second T (Sby a b) h = absurd (no h)
-second T (Atspace a b) h = absurd (no h)
-second T (Freeze a) h = absurd (no h)
-second T (Refer n l) h = absurd (no h)
-second T (Call n q l) h = absurd (no h)
-
 -- a node of the table has a row
 pub has_row : (T : Table) (x : PlainTask) → IsTask T x → (n : Node) × (row_at T x.node ≡ Some n)
 has_row T x there =
@@ -127,11 +96,3 @@ has_row T x there =
       | inl h ↦ (h.0.node, ap (option_map (λ r. r.node)) h.2)
       | inr h ↦ absurd (omega (arith, h.0, there))
     ]
-
--- The node of a search has a part 1: the stream that it searches.
-pub has_stream : (T : Table) → IsInRange T → (x : PlainTask) → IsTask T x → (f : Head) (es : PlainNodes) → node_of T x ≡ row f es → is_search f ≡ true
-    → (k : ℕ) × (part_number T x.node 1 ≡ Some k)
-has_stream T range x there f es e s =
-    let n = has_row T x there in
-    let k = second T n.0 (ap searches (sym (row-node T range x.node n.0 n.1) ∙ e) ∙ s) in
-    (k.0, ap (option_and_then (λ z. slice_get (parts z) 1)) n.1 ∙ k.1)

@@ -1,6 +1,7 @@
 -- What is held and noted stays right, and closed, where more elements are read.
-use Rattle.std.proofs.Common.{◌≡◌, ℕ, ◌<◌, List, Option, Some, None, refl, sym, ap, ◌∙◌, subst, true≢false}
-use Rattle.std.specs.Prelude.{IsSome}
+use Rattle.std.proofs.Common.{◌≡◌, ℕ, ◌<◌, List, Some, None, sym, ap, ◌∙◌, subst}
+use Rattle.std.proofs.lemmas.Option.{same_Some}
+use Rattle.lucid_lemmas.proofs.Options.{value_there}
 use Rattle.lucid_value.specs.Plain.{PlainValue, truth}
 use Rattle.lucid_tree.specs.Tree.{Head}
 use Rattle.lucid_tree.specs.Levels.{Elements, goes_to}
@@ -8,7 +9,7 @@ use Rattle.lucid_tree.proofs.SearchesLead.{count-keeps, counted_truth}
 use Rattle.lucid_tags.specs.Contexts.{Context}
 use Rattle.lucid_tags.specs.Known.{context_of, space_of}
 use Rattle.lucid_search.specs.Noted.{Noted}
-use Rattle.lucid_equations.specs.Nodes.{PlainNode, PlainNodes, row, Equations}
+use Rattle.lucid_equations.specs.Nodes.{PlainNode, Equations}
 use Rattle.lucid_equations.specs.Datons.{Daton, NodePosition, NodeAim, daton_aim}
 use Rattle.lucid_equations.specs.Values.{node_val, NodeMeans}
 use Rattle.lucid_equations.specs.Rows.{node_at, equations_of}
@@ -18,6 +19,7 @@ use Rattle.lucid_equations.specs.declared.table.Table.{Table}
 use Rattle.lucid_equations.proofs.MoreElements.{node_hval-extends, meaning-extends, needed-same}
 use Rattle.lucid_facts.specs.Stands.{Holding, given}
 use Rattle.lucid_facts.specs.Held.{HoldsRight, IsClosed, Counted, NotedRight, AllNotedRight, AllNotedClosed, cursor_noted}
+use Rattle.lucid_facts.proofs.Idling.{one-form}
 
 -- What is held is right by more elements too,
 pub right_over : (p : Equations) (b c : Elements) → Extends b c → (h : Holding) → HoldsRight p b h → HoldsRight p c h
@@ -46,14 +48,10 @@ held_means p b h right d x u s v aim e =
 pub right_is_meant : (p : Equations) (b : Elements) (h : Holding) → HoldsRight p b h → HeldIsMeant p (given b h)
 right_is_meant p b h right d x u s v aim e = held_means p b h right d x u s v aim e
 
-pub value_of_some : (o : Option PlainValue) → IsSome o → (v : PlainValue) × (o ≡ Some v)
-value_of_some None h = absurd (true≢false (sym h))
-value_of_some (Some v) h = (v, refl)
-
 -- closed,
 pub closed_over : (p : Equations) (b c : Elements) → Extends b c → (h : Holding) → HoldsRight p b h → IsClosed p b h → IsClosed p c h
 closed_over p b c more h right closed d x u s i aim k n =
-    let v = value_of_some (h d s) i in
+    let v = value_there (h d s) i in
     closed d x u s i aim k ((needed-same p b c more x.node x.context u s v.0 (held_means p b h right d x u s v.0 aim v.1) k).0 n)
 
 -- and what is noted is counted,
@@ -75,12 +73,6 @@ noted_over T b c more known noted right node tag key number e =
       counted = counted_over (equations_of T) b c more (node_at T r.stream) (context_of known tag) (space_of tag) (cursor_noted r.form key number).time (cursor_noted r.form key number).count r.counted;
     }
 
-form_of : (f g : Head) (es fs : PlainNodes) → row f es ≡ row g fs → f ≡ g
-form_of f g es fs e = cc
-
-some_once : {A : Type 0} {x y : A} → ◌≡◌ {A = Option A} (Some x) (Some y) → x ≡ y
-some_once e = cc
-
 -- with all that the looks before it need.
 pub noted_closed_over : (T : Table) (b c : Elements) → Extends b c → (known : List Context) (noted : Noted) (h : Holding) → AllNotedRight T b known noted → AllNotedClosed T b known noted h → AllNotedClosed T c known noted h
 noted_closed_over T b c more known noted h right closed node tag key number e form nodes is stream part u lt k n =
@@ -97,4 +89,4 @@ noted_closed_over T b c more known noted h right closed node tag key number e fo
         (truth t.0, subst (λ z. NodeMeans (equations_of T) b (node_at T z) (context_of known tag) u (space_of tag) (truth t.0)) (sym this) (count.0, t.1))
 
     there : (v : PlainValue) × NodeMeans (equations_of T) b (node_at T stream) (context_of known tag) u (space_of tag) v
-    there = truth_there r.form (form_of form r.form nodes r.nodes (sym is ∙ r.is)) r.stream (some_once (sym part ∙ r.part)) r.counted
+    there = truth_there r.form (one-form form r.form nodes r.nodes (sym is ∙ r.is)) r.stream (same_Some _ _ (sym part ∙ r.part)) r.counted

@@ -9,7 +9,7 @@ use Rattle.lucid_equations.specs.Nodes.{PlainNode, PlainNodes, row, freeze, refe
 use Rattle.lucid_equations.specs.Moving.{Onward, onward, OnlyMoves}
 use Rattle.lucid_equations.specs.Values.{node_hval}
 use Rattle.lucid_equations.specs.Visits.{node_visits, IsNeeded}
-use Rattle.lucid_equations.specs.Rows.{node_at, node_by, row_at, parts, equations_of}
+use Rattle.lucid_equations.specs.Rows.{node_at, node_by, parts, equations_of}
 use Rattle.lucid_equations.specs.Ranges.{IsInRange}
 use Rattle.lucid_equations.specs.RowParts.{HasPart}
 use Rattle.lucid_equations.specs.declared.rows.Node.{Node}
@@ -20,14 +20,7 @@ use Rattle.lucid_equations.proofs.PartsRead.{row-node, part-lower, part-node}
 use Rattle.lucid_facts.specs.Tasks.{PlainTask, DatonAt}
 use Rattle.lucid_facts.specs.Parts.{node_of, part_number, moved, moved_by}
 use Rattle.lucid_facts.specs.Stands.{Holding, StandsFor, given, hval_of, visits_of, TaskNeeds}
-
--- A part's number is that of a part of a row.
-pub number-is_part : (T : Table) (id i k : ℕ) → part_number T id i ≡ Some k → HasPart T id i k
-number-is_part T id i k h = go (row_at T id) refl h
-  where
-    go : (o : Option Node) → row_at T id ≡ o → option_and_then (λ x. slice_get (parts x) i) o ≡ Some k → HasPart T id i k
-    go None e n = absurd (cc)
-    go (Some x) e n = record { row = x; there = e; names = n }
+use Rattle.lucid_facts.proofs.Looking.{has_part}
 
 -- the subject of a frozen node
 abbrev subject : PlainNode → Option PlainNode
@@ -83,7 +76,7 @@ module _ (T : Table) (range : IsInRange T) where
   form-moves : (x : PlainTask) (f : Head) (es : PlainNodes) (q : Onward) (n : ℕ) → node_of T x ≡ row f es → onward f x.time x.space ≡ Some q → part_number T x.node q.part ≡ Some n
       → Moves T (record x { node = n; time = q.time; space = q.space }) x
   form-moves x f es q n is on number =
-      let part : HasPart T x.node q.part n = number-is_part T x.node q.part n number in
+      let part : HasPart T x.node q.part n = has_part T x.node q.part n number in
       let only : OnlyMoves f x.time x.space q = six-move f x.time x.space q on in
       let named : part_of es q.part ≡ Some (node_at T n) = part-node T range x.node q.part n part f es is in
       record {
@@ -101,7 +94,7 @@ module _ (T : Table) (range : IsInRange T) where
   -- a frozen time
   frozen-moves : (x : PlainTask) (e : PlainNode) (n : ℕ) → node_of T x ≡ freeze e → part_number T x.node 0 ≡ Some n → Moves T (record x { node = n; context = frozen_frame x.time x.context }) x
   frozen-moves x e n is number =
-      let part : HasPart T x.node 0 n = number-is_part T x.node 0 n number in
+      let part : HasPart T x.node 0 n = has_part T x.node 0 n number in
       let named : node_of T x ≡ freeze (node_at T n) = is ∙ ap freeze (subject-node T range x.node n e is part) in
       record {
         lower = part-lower T range x.node 0 n part;

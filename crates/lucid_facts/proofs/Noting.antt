@@ -26,6 +26,7 @@ use Rattle.lucid_facts.specs.Demands.{Demand, table_of}
 use Rattle.lucid_facts.specs.Rows.{RowFacts, SearchFacts}
 use Rattle.lucid_facts.specs.Stock.{StockFacts}
 use Rattle.lucid_facts.specs.Going.{IsDemand}
+use Rattle.lucid_facts.proofs.Idling.{one-form}
 
 -- the node is of a search's form
 abbrev searches : PlainNode → Bool
@@ -79,9 +80,6 @@ noted_cases old new node tag key number (Notes only missed) n t k v e =
     once : {x y : ℕ} → ◌≡◌ {A = Option ℕ} (Some x) (Some y) → x ≡ y
     once i = cc
 
-form_of : (f g : Head) (es fs : PlainNodes) → row f es ≡ row g fs → f ≡ g
-form_of f g es fs e = cc
-
 -- A row notes where its search stands: its facts of its search are those of a noted position.
 pub stock_notes :
     (d : Demand) (b : Elements) (known : List Context) (h : Holding) (lost : ℕ) (old new : Noted) (r : PlainRow) (tag : Tag) (f : Head) (es : PlainNodes)
@@ -128,7 +126,7 @@ stock_notes d b known h lost old new r tag f es demand facts ready is search kno
         → (u : ℕ) → u < (cursor_noted form (key_noted f r.cursor).0 (key_noted f r.cursor).1).time
         → NeedsHeld (equations_of (table_of d)) b h (node_at (table_of d) stream) (context_of known tag) u (space_of tag)
     needed keeps lost_none form nodes stream at part u lt =
-        let same : f ≡ form = form_of f form es nodes (sym is ∙ at) in
+        let same : f ≡ form = one-form f form es nodes (sym is ∙ at) in
         let cursor : cursor_noted form (key_noted f r.cursor).0 (key_noted f r.cursor).1 ≡ r.cursor = ap (λ g. cursor_noted g (key_noted f r.cursor).0 (key_noted f r.cursor).1) (sym same) ∙ cursor_back f r.cursor in
         let facts = ready.search form nodes stream at (ap is_search (sym same) ∙ search) part in
         subst (λ c. NeedsHeld (equations_of (table_of d)) b h (node_at (table_of d) stream) c u (space_of tag)) (sym context)

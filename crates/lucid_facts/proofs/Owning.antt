@@ -48,7 +48,7 @@ since_then first now go known stored noted keeps more = record {
   places = go.places;
 }
 
-known_itself : (known : List Context) → KeepsKnown known known
+pub known_itself : (known : List Context) → KeepsKnown known known
 known_itself known = record { known = λ tag h. h; same = λ tag h. refl }
 
 module _ (d : Demand) (now : EngineView) (w : World) (owns : Owns d now w) where

@@ -1,7 +1,8 @@
 -- A row's facts where one of its parts gets a value or is asked.
-use Rattle.std.proofs.Common.{◌≡◌, ◌⊎◌, inl, inr, ℕ, zero, suc, ◌<◌, List, [], ◌∷◌, Some, refl, sym, ap, ◌∙◌, subst, arith}
+use Rattle.std.proofs.Common.{◌≡◌, ◌⊎◌, inl, inr, ℕ, zero, suc, ◌<◌, List, [], ◌∷◌, Some, refl, sym, ap, ◌∙◌, subst}
 use Rattle.std.specs.Prelude.{slice_set}
 use Rattle.std.proofs.lemmas.List.{length-set}
+use Rattle.std.proofs.lemmas.Bool.{cases_eq}
 use Rattle.lucid_value.specs.Plain.{PlainValue}
 use Rattle.lucid_tree.specs.Levels.{Elements}
 use Rattle.lucid_facts.specs.Tasks.{PlainRow, PartState, idle, asked, got, state_at, value_in, value_of_part}
@@ -24,12 +25,6 @@ written_there [] i w v e = absurd (cc)
 written_there (p ∷ ps) zero w v e = cc
 written_there (p ∷ ps) (suc i) w v e = written_there ps i w v e
 
-pub same_or_not : (k i : ℕ) → (k ≡ i) ⊎ (k ≡ i → ⊥)
-same_or_not zero zero = inl refl
-same_or_not zero (suc i) = inr (λ e. absurd (cc))
-same_or_not (suc k) zero = inr (λ e. absurd (cc))
-same_or_not (suc k) (suc i) = elim (same_or_not k i) [ inl e ↦ inl (ap suc e) | inr n ↦ inr (λ e. n (omega (arith, e))) ]
-
 -- A row one of whose parts gets a value that answers the part's task keeps its facts.
 pub part-got : (d : Demand) (b : Elements) (h : Holding) (lost : ℕ) (r : PlainRow) (i : ℕ) (v : PlainValue) → RowFacts d b h lost r → i < 3
     → ((w : PlainValue) → state_at r.parts i ≡ got w → ⊥) → PartAnswers d b h lost r i v → RowFacts d b h lost (with_part i (got v) r)
@@ -41,7 +36,7 @@ part-got d b h lost r i v f lt n a = record {
   needed = f.needed;
   seen = f.seen;
   search = λ g es stream e q s. let x = f.search g es stream e q s in record { counted = x.counted; exact = x.exact; kept = x.kept; within = x.within };
-  got_parts = λ k w e. go k w e (same_or_not k i);
+  got_parts = λ k w e. go k w e (cases_eq k i);
   remembers = λ k e. let x = f.remembers k e in record { absent = x.absent; no_reference = x.no_reference; body = x.body; aim = x.aim; space = x.space; stands = x.stands; visited = x.visited };
 }
   where
@@ -71,7 +66,7 @@ part-asked d b h lost r i slot f free = record {
   needed = f.needed;
   seen = f.seen;
   search = λ g es stream e q s. let x = f.search g es stream e q s in record { counted = x.counted; exact = x.exact; kept = x.kept; within = x.within };
-  got_parts = λ k w e. go k w e (same_or_not k i);
+  got_parts = λ k w e. go k w e (cases_eq k i);
   remembers = λ k e. let x = f.remembers k e in record { absent = x.absent; no_reference = x.no_reference; body = x.body; aim = x.aim; space = x.space; stands = x.stands; visited = x.visited };
 }
   where

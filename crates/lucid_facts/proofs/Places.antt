@@ -1,9 +1,11 @@
 -- Streams by their numbers: their places differ, and what is read of each.
-use Rattle.std.proofs.Common.{◌≡◌, ◌≢◌, ℕ, zero, suc, Bool, true, false, cond, List, [], ◌∷◌, ◌++◌, length, Option, Some, None, inl, inr, refl, sym, ap, ◌∙◌, subst, arith}
+use Rattle.std.proofs.Common.{◌≡◌, ◌≢◌, ℕ, zero, suc, Bool, true, false, cond, List, [], ◌∷◌, length, Option, Some, None, inl, inr, refl, sym, ap, ◌∙◌, subst, arith}
 use Rattle.std.specs.Prelude.{IsTrue, Decides, MatchOption, slice_get}
 use Rattle.std.proofs.lemmas.Bool.Decides.{Decides-eqb}
 use Rattle.std.proofs.lemmas.Bool.{cases_eq}
 use Rattle.std.proofs.lemmas.Slice.Eq.{slice_eq-Decides}
+use Rattle.std.proofs.lemmas.Option.{same_Some, none-some}
+use Rattle.lucid_lemmas.proofs.Lists.{slice_get-append_left}
 use Rattle.lucid_value.specs.Plain.{PlainValue, eod}
 use Rattle.lucid_value.specs.Elements.{element}
 use Rattle.lucid_tree.specs.Members.{In, AllDiffer}
@@ -20,31 +22,25 @@ use Rattle.lucid_facts.specs.Engine.{EngineView, MayHave, AreAskable, places_of}
 pub same_name_decides : (m n : List ℕ) → Decides (same_name m n) (m ≡ n)
 same_name_decides m n = slice_eq-Decides Decides-eqb m n (same_name m n) refl
 
-some_once : {A : Type 0} {x y : A} → ◌≡◌ {A = Option A} (Some x) (Some y) → x ≡ y
-some_once e = cc
-
-none_some : {A : Type 0} {x : A} → ◌≡◌ {A = Option A} None (Some x) → ⊥
-none_some e = cc
-
 -- what stands at a number stands in the list
 stands_in : {A : Type 0} (xs : List A) (k : ℕ) (x : A) → slice_get xs k ≡ Some x → In x xs
-stands_in [] k x e = absurd (none_some e)
-stands_in (y ∷ xs) zero x e = inl (some_once (sym e))
+stands_in [] k x e = absurd (none-some _ e)
+stands_in (y ∷ xs) zero x e = inl (same_Some _ _ (sym e))
 stands_in (y ∷ xs) (suc k) x e = inr (stands_in xs k x e)
 
 pub place_in : (streams : List Stream) (k : ℕ) (s : Stream) → slice_get streams k ≡ Some s → In s.place (places_of streams)
-place_in [] k s e = absurd (none_some e)
-place_in (t ∷ streams) zero s e = inl (ap (λ z. z.place) (sym (some_once e)))
+place_in [] k s e = absurd (none-some _ e)
+place_in (t ∷ streams) zero s e = inl (ap (λ z. z.place) (sym (same_Some _ _ e)))
 place_in (t ∷ streams) (suc k) s e = inr (place_in streams k s e)
 
 -- Streams whose places all differ are of one number where they have one place,
 pub places_apart : (streams : List Stream) → AllDiffer (places_of streams) → (i k : ℕ) (s t : Stream) → slice_get streams i ≡ Some s → slice_get streams k ≡ Some t → s.place ≡ t.place → i ≡ k
-places_apart [] differ i k s t e f same = absurd (none_some e)
+places_apart [] differ i k s t e f same = absurd (none-some _ e)
 places_apart (x ∷ streams) differ zero zero s t e f same = refl
 places_apart (x ∷ streams) differ zero (suc k) s t e f same =
-    absurd (differ.0 (subst (λ p. In p (places_of streams)) (sym same ∙ sym (ap (λ z. z.place) (some_once e))) (place_in streams k t f)))
+    absurd (differ.0 (subst (λ p. In p (places_of streams)) (sym same ∙ sym (ap (λ z. z.place) (same_Some _ _ e))) (place_in streams k t f)))
 places_apart (x ∷ streams) differ (suc i) zero s t e f same =
-    absurd (differ.0 (subst (λ p. In p (places_of streams)) (same ∙ sym (ap (λ z. z.place) (some_once f))) (place_in streams i s e)))
+    absurd (differ.0 (subst (λ p. In p (places_of streams)) (same ∙ sym (ap (λ z. z.place) (same_Some _ _ f))) (place_in streams i s e)))
 places_apart (x ∷ streams) differ (suc i) (suc k) s t e f same = ap suc (places_apart streams differ.1 i k s t e f same)
 
 -- a place in the list is that of a stream
@@ -78,30 +74,24 @@ pub read_extends :
     (names : List (List ℕ)) (old new : List Stream) → length new ≡ length old
     → ((k : ℕ) (s t : Stream) → slice_get old k ≡ Some s → slice_get new k ≡ Some t → (j : ℕ) (v : PlainValue) → read_in s j ≡ Some v → read_in t j ≡ Some v)
     → Extends (elements_read names old) (elements_read names new)
-read_extends [] old new same each n j v e = absurd (none_some e)
-read_extends (m ∷ names) [] new same each n j v e = absurd (none_some e)
+read_extends [] old new same each n j v e = absurd (none-some _ e)
+read_extends (m ∷ names) [] new same each n j v e = absurd (none-some _ e)
 read_extends (m ∷ names) (s ∷ old) [] same each n j v e = absurd (omega (arith, same))
 read_extends (m ∷ names) (s ∷ old) (t ∷ new) same each n j v e =
     chosen (same_name m n) (read_in s j) (elements_read names old n j) (read_in t j) (elements_read names new n j) v (each 0 s t refl refl j v)
     (read_extends names old new (omega (arith, same)) (λ k. each (suc k)) n j v) e
-
--- what stands in a list stands in a longer one
-get_left : {A : Type 0} (xs ys : List A) (i : ℕ) (x : A) → slice_get xs i ≡ Some x → slice_get (xs ++ ys) i ≡ Some x
-get_left [] ys i x e = absurd (none_some e)
-get_left (y ∷ xs) ys zero x e = e
-get_left (y ∷ xs) ys (suc i) x e = get_left xs ys i x e
 
 -- A stream that is read on keeps each element. One whose end was met isn't read on, so its end of data stays.
 pub reads_on_keeps : (index : ℕ) (s t : Stream) (before after : World) → ReadsOn index s t before after → (j : ℕ) (v : PlainValue) → read_in s j ≡ Some v → read_in t j ≡ Some v
 reads_on_keeps index s t before after r j v e = by s.ended refl
   where
     open_end : (o : Option PlainValue) → or_end o s ≡ Some v → s.ended ≡ false → o ≡ Some v
-    open_end None h f = absurd (none_some (ap (λ b. cond {A = Option PlainValue} b (Some eod) None) (sym f) ∙ h))
+    open_end None h f = absurd (none-some _ (ap (λ b. cond {A = Option PlainValue} b (Some eod) None) (sym f) ∙ h))
     open_end (Some x) h f = h
 
     by : (b : Bool) → s.ended ≡ b → read_in t j ≡ Some v
     by true f = ap (λ z. read_in z j) (r.ended f) ∙ e
-    by false f = ap (λ o. or_end o t) (ap (λ es. slice_get es j) r.elements ∙ get_left s.elements r.more j v (open_end (slice_get s.elements j) e f))
+    by false f = ap (λ o. or_end o t) (ap (λ es. slice_get es j) r.elements ∙ slice_get-append_left s.elements r.more j v (open_end (slice_get s.elements j) e f))
 
 -- What was read stays read, where one stream is read on.
 pub reading_extends :
@@ -113,17 +103,17 @@ reading_extends names old new number index before after same reads others = read
     each : (k : ℕ) (s t : Stream) → slice_get old k ≡ Some s → slice_get new k ≡ Some t → (j : ℕ) (v : PlainValue) → read_in s j ≡ Some v → read_in t j ≡ Some v
     each k s t e f j v h = elim (cases_eq k number) [
       | inl z ↦ reads_on_keeps index s t before after (reads s t (ap (slice_get old) (sym z) ∙ e) (ap (slice_get new) (sym z) ∙ f)) j v h
-      | inr z ↦ subst (λ x. read_in x j ≡ Some v) (some_once (sym e ∙ sym (others k z) ∙ f)) h
+      | inr z ↦ subst (λ x. read_in x j ≡ Some v) (same_Some _ _ (sym e ∙ sym (others k z) ∙ f)) h
     ]
 
 -- The elements of a name are those that its stream has read, where no name stands twice.
 pub elements_at :
     (names : List (List ℕ)) (streams : List Stream) (number : ℕ) (n : List ℕ) (s : Stream) → AllDiffer names → slice_get names number ≡ Some n → slice_get streams number ≡ Some s
     → (j : ℕ) → elements_read names streams n j ≡ read_in s j
-elements_at [] streams number n s differ e f j = absurd (none_some e)
-elements_at (m ∷ names) [] number n s differ e f j = absurd (none_some f)
+elements_at [] streams number n s differ e f j = absurd (none-some _ e)
+elements_at (m ∷ names) [] number n s differ e f j = absurd (none-some _ f)
 elements_at (m ∷ names) (t ∷ streams) zero n s differ e f j =
-    ap (λ b. cond b (read_in t j) (elements_read names streams n j)) ((same_name_decides m n).1 (some_once e)) ∙ ap (λ x. read_in x j) (some_once f)
+    ap (λ b. cond b (read_in t j) (elements_read names streams n j)) ((same_name_decides m n).1 (same_Some _ _ e)) ∙ ap (λ x. read_in x j) (same_Some _ _ f)
 elements_at (m ∷ names) (t ∷ streams) (suc number) n s differ e f j =
     (elim (same_name m n) as (λ b. same_name m n ≡ b → cond b (read_in t j) (elements_read names streams n j) ≡ read_in s j) [
       | true ↦ λ h. absurd (differ.0 (subst (λ x. In x names) (sym ((same_name_decides m n).0 h)) (stands_in names number n e)))
@@ -151,7 +141,7 @@ told_extends_one s (Some c) fits j v e = by (slice_get s.elements j) (elements_f
   where
     ended : (b : Bool) → s.ended ≡ b → (IsTrue s.ended → element (all_bytes c) j ≡ eod) → cond {A = Option PlainValue} b (Some eod) None ≡ Some v → ◌≡◌ {A = Option PlainValue} (Some (element (all_bytes c) j)) (Some v)
     ended true f past h = ap Some (past f) ∙ h
-    ended false f past h = absurd (none_some h)
+    ended false f past h = absurd (none-some _ h)
 
     by : (o : Option PlainValue) → MatchOption o (IsTrue s.ended → element (all_bytes c) j ≡ eod) (λ x. x ≡ element (all_bytes c) j) → or_end o s ≡ Some v
         → ◌≡◌ {A = Option PlainValue} (Some (element (all_bytes c) j)) (Some v)
@@ -163,8 +153,8 @@ pub told_extends : (e : EngineView) (w : World) → AreAskable e.streams w → M
 told_extends e w ask = go e.table.inputs e.streams ask
   where
     go : (names : List (List ℕ)) (streams : List Stream) → AreAskable streams w → Extends (elements_read names streams) (elements_told names streams w)
-    go [] streams a n j v h = absurd (none_some h)
-    go (m ∷ names) [] a n j v h = absurd (none_some h)
+    go [] streams a n j v h = absurd (none-some _ h)
+    go (m ∷ names) [] a n j v h = absurd (none-some _ h)
     go (m ∷ names) (s ∷ streams) a n j v h =
         chosen (same_name m n) (read_in s j) (elements_read names streams n j) (told_in s (w.place s.place).contents j) (elements_told names streams w n j) v
         (told_extends_one s (w.place s.place).contents (a 0 s refl).1 j v) (go names streams (λ k. a (suc k)) n j v) h

@@ -2,7 +2,7 @@
 use Rattle.std.proofs.Common.{◌≡◌, ◌≢◌, ℕ, suc, ◌<◌, ◌≤◌, max, List, [], ◌∷◌, length, Option, Some, None, ◌⊎◌, inl, inr, refl, sym, ap, ◌∙◌, subst, arith, le_refl}
 use Rattle.std.specs.Prelude.{IfSome, slice_get, option_map, unwrap_or}
 use Rattle.std.proofs.lemmas.Bool.{cases_eq, cases_lt}
-use Rattle.std.proofs.lemmas.Option.{slice_get-get_or, slice_get_past, slice_get_within, unwrap_or-slice_get}
+use Rattle.std.proofs.lemmas.Option.{slice_get-get_or, slice_get_past, slice_get_within, unwrap_or-slice_get, same_Some}
 use Rattle.lucid_value.specs.Lines.{end_of_line}
 use Rattle.lucid_tree.specs.Members.{In, AllDiffer}
 use Rattle.lucid_tree.specs.Levels.{Elements}
@@ -36,12 +36,6 @@ pub record StreamsRead (old new : List Stream) (number index : ℕ) (before afte
   pub count : length new ≡ length old
   pub bytes : (k : ℕ) → option_map all_bytes (after.place k).contents ≡ option_map all_bytes (before.place k).contents
 
-some_once : {A : Type 0} {x y : A} → ◌≡◌ {A = Option A} (Some x) (Some y) → x ≡ y
-some_once e = cc
-
-none_some : {A : Type 0} {x : A} → ◌≡◌ {A = Option A} None (Some x) → ⊥
-none_some e = cc
-
 some_none : {A : Type 0} {x : A} → ◌≡◌ {A = Option A} (Some x) None → ⊥
 some_none e = cc
 
@@ -72,7 +66,7 @@ drawn_on P (Some o) (Some c) first old new index e was bound there =
     ]
   where
     same : all_bytes c ≡ all_bytes o
-    same = some_once e
+    same = same_Some _ _ e
 
     within : new ≤ old → (old ≤ first) ⊎ ((j : ℕ) × P j × (old ≤ end_of_line (all_bytes o) j)) → (new ≤ first) ⊎ ((j : ℕ) × P j × (new ≤ end_of_line (all_bytes c) j))
     within less (inl low) = inl (omega (arith, less, low))
@@ -87,22 +81,22 @@ module _ (old new : List Stream) (number index : ℕ) (before after : World) (r 
   -- each stream may be read on after that
   pub asked_again : AreAskable old before → AreAskable new after
   asked_again ask k t e = elim (cases_eq k number) [
-    | inl z ↦ subst (λ x. (x.place < after.reached) × FitsPlace x (after.place x.place)) (some_once (sym r.now ∙ ap (slice_get new) (sym z) ∙ e))
+    | inl z ↦ subst (λ x. (x.place < after.reached) × FitsPlace x (after.place x.place)) (same_Some _ _ (sym r.now ∙ ap (slice_get new) (sym z) ∙ e))
         (subst (λ n. r.to.place < n) (sym r.reads.reached) (subst (λ n. n < before.reached) (sym r.reads.place) (ask number r.from r.there).0), subst (λ n. FitsPlace r.to (after.place n)) (sym r.reads.place) r.reads.fits)
     | inr z ↦ let a = ask k t (sym (r.others k z) ∙ e) in (subst (λ n. t.place < n) (sym r.reads.reached) a.0, subst (λ q. FitsPlace t q) (sym (other_place k t z e)) a.1)
   ]
 
   pub read_places : places_of new ≡ places_of old
   read_places = places_same old new r.count (λ k s t e f. elim (cases_eq k number) [
-    | inl z ↦ ap (λ x. x.place) (some_once (sym f ∙ ap (slice_get new) z ∙ r.now)) ∙ r.reads.place ∙ ap (λ x. x.place) (some_once (sym r.there ∙ ap (slice_get old) (sym z) ∙ e))
-    | inr z ↦ ap (λ x. x.place) (some_once (sym f ∙ r.others k z ∙ e))
+    | inl z ↦ ap (λ x. x.place) (same_Some _ _ (sym f ∙ ap (slice_get new) z ∙ r.now)) ∙ r.reads.place ∙ ap (λ x. x.place) (same_Some _ _ (sym r.there ∙ ap (slice_get old) (sym z) ∙ e))
+    | inr z ↦ ap (λ x. x.place) (same_Some _ _ (sym f ∙ r.others k z ∙ e))
   ])
 
   pub read_more : (names : List (List ℕ)) → Extends (elements_read names old) (elements_read names new)
   read_more names = reading_extends names old new number index before after r.count reads r.others
     where
       reads : (s t : Stream) → slice_get old number ≡ Some s → slice_get new number ≡ Some t → ReadsOn index s t before after
-      reads s t e f = subst (λ x. ReadsOn index x t before after) (some_once (sym r.there ∙ e)) (subst (λ x. ReadsOn index r.from x before after) (some_once (sym r.now ∙ f)) r.reads)
+      reads s t e f = subst (λ x. ReadsOn index x t before after) (same_Some _ _ (sym r.there ∙ e)) (subst (λ x. ReadsOn index r.from x before after) (same_Some _ _ (sym r.now ∙ f)) r.reads)
 
 -- What an engine owns after one of its streams is read on: nothing but its streams has changed.
 pub record EngineReads (now later : EngineView) (number index : ℕ) (before after : World) : Type 0 where
@@ -138,12 +132,12 @@ module _ (d : Demand) (of_root : IsOfRoot d) (now later : EngineView) (number in
       → (m : List ℕ) (first last : Stream) → slice_get (table_of d).inputs number ≡ Some m → slice_get d.first.streams number ≡ Some first → slice_get later.streams number ≡ Some last
       → IfSome (after.place last.place).contents (λ c. Drawn d b m first last c)
   this_drawn b consulted was m first last names e f =
-      subst (λ x. IfSome (after.place x.place).contents (λ c. Drawn d b m first x c)) (some_once (sym r.streams.now ∙ f))
+      subst (λ x. IfSome (after.place x.place).contents (λ c. Drawn d b m first x c)) (same_Some _ _ (sym r.streams.now ∙ f))
       (subst (λ p. IfSome (after.place p).contents (λ c. Drawn d b m first r.streams.to c)) (sym r.streams.reads.place)
       (drawn_on (λ j. ForSomeAdded d.first (λ a. In (m, j) (consults_on_nodes (equations_of (table_of d)) b d.root.limit a d.root.time d.root.space)))
       (before.place r.streams.from.place).contents (after.place r.streams.from.place).contents first.consumed r.streams.from.consumed r.streams.to.consumed index (r.streams.bytes r.streams.from.place)
       (was number m first r.streams.from names e r.streams.there) r.streams.reads.bound
-      (subst (λ x. ForSomeAdded d.first (λ a. In (x, index) (consults_on_nodes (equations_of (table_of d)) b d.root.limit a d.root.time d.root.space))) (some_once (sym named ∙ names)) here)))
+      (subst (λ x. ForSomeAdded d.first (λ a. In (x, index) (consults_on_nodes (equations_of (table_of d)) b d.root.limit a d.root.time d.root.space))) (same_Some _ _ (sym named ∙ names)) here)))
     where
       here : IsConsulted (demand_of d.first d.world d.root.time d.root.space d.root.limit) b n index
       here = subst (λ q. IsConsulted q b n index) (sym of_root) consulted

@@ -68,7 +68,7 @@ plain_got known rs slot index = go (row_at rs slot)
     go None = refl
     go (Some r) = sym (ap value_in (plain_at r.parts index) ∙ plain_value (slice_index_or r.parts index Idle))
 
-plain_idle_state : (s : rows.PartState) → plain_state s ≡ idle → s ≡ Idle
+pub plain_idle_state : (s : rows.PartState) → plain_state s ≡ idle → s ≡ Idle
 plain_idle_state Idle e = refl
 plain_idle_state (Asked slot) e = absurd (cc)
 plain_idle_state (Got v) e = absurd (cc)

@@ -1,6 +1,7 @@
 -- The facts of all rows where a part of one row is set: it gets a value, or a task is asked for it.
 use Rattle.std.proofs.Common.{◌≡◌, ◌⊎◌, inl, inr, ℕ, zero, suc, ◌<◌, List, [], ◌∷◌, Option, Some, None, refl, sym, ap, ◌∙◌, subst, arith}
 use Rattle.std.specs.Prelude.{IsSome, length, slice_set}
+use Rattle.std.proofs.lemmas.Bool.{cases_eq}
 use Rattle.lucid_value.specs.Plain.{PlainValue}
 use Rattle.lucid_tree.specs.Levels.{Elements}
 use Rattle.lucid_tasks.specs.declared.Part.{Part}
@@ -12,7 +13,7 @@ use Rattle.lucid_facts.specs.Demands.{Demand, table_of}
 use Rattle.lucid_facts.specs.Rows.{RowFacts, PartAnswers, Serves, Links, Work}
 use Rattle.lucid_facts.specs.Changes.{with_part, SetsRow, ChangesRow, AsksRow}
 use Rattle.lucid_facts.specs.Decisions.{AsksFor}
-use Rattle.lucid_facts.proofs.Slots.{same_or_not, at_it, at_another}
+use Rattle.lucid_facts.proofs.Slots.{at_it, at_another}
 use Rattle.lucid_facts.proofs.Steps.{with_row, changes_is_set, asks_in_two}
 use Rattle.lucid_facts.proofs.Parting.{part-stays}
 use Rattle.lucid_facts.proofs.PartFacts.{part-got, part-asked}
@@ -60,7 +61,7 @@ module _ (d : Demand) (now : Elements) (h : Holding) (lost : ℕ) (old new : Pla
   serves_set q c part was up (inr n) s = serves_there d old new q c part (elsewhere part.slot n) s
 
   links_kept : (q : ℕ) (c : PlainRow) → old q ≡ Some c → Links d new q c
-  links_kept q c was = let l = w.links q c was in record { root = l.root; serves = λ part up. serves_set q c part was up (same_or_not part.slot slot) (l.serves part up) }
+  links_kept q c was = let l = w.links q c was in record { root = l.root; serves = λ part up. serves_set q c part was up (cases_eq part.slot slot) (l.serves part up) }
 
   -- the row whose part is set is linked as it was
   links_changed : Links d new slot p → Links d new slot (with_part i y p)
@@ -79,7 +80,7 @@ module _ (d : Demand) (now : Elements) (h : Holding) (lost : ℕ) (old new : Pla
   links q c e (inr n) = links_kept q c (sym (elsewhere q n) ∙ e)
 
   pub work_part : Work d now h lost new
-  work_part = record { each = λ q c e. each q c e (same_or_not q slot); links = λ q c e. links q c e (same_or_not q slot); some = (slot, with_part i y p, here slot refl) }
+  work_part = record { each = λ q c e. each q c e (cases_eq q slot); links = λ q c e. links q c e (cases_eq q slot); some = (slot, with_part i y p, here slot refl) }
 
 -- A part that is idle is no row's.
 idle_is_alone : (d : Demand) (now : Elements) (h : Holding) (lost : ℕ) (old : PlainRows) (slot i : ℕ) (p : PlainRow) → Work d now h lost old → old slot ≡ Some p → state_at p.parts i ≡ idle

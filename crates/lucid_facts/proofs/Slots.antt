@@ -1,13 +1,8 @@
 -- A choice by whether two slots are the same.
-use Rattle.std.proofs.Common.{◌≡◌, ◌⊎◌, inl, inr, ℕ, zero, suc, ◌==◌, true, false, refl, sym, ap, ◌∙◌, arith}
+use Rattle.std.proofs.Common.{◌≡◌, ◌⊎◌, inl, inr, ℕ, ◌==◌, true, false, sym, ap, ◌∙◌, arith}
 use Rattle.std.specs.Prelude.{if◌then◌else◌}
 use Rattle.std.proofs.lemmas.Bool.Decides.{nat_tests}
-
-pub same_or_not : (k i : ℕ) → (k ≡ i) ⊎ (k ≡ i → ⊥)
-same_or_not zero zero = inl refl
-same_or_not zero (suc i) = inr (λ e. absurd (cc))
-same_or_not (suc k) zero = inr (λ e. absurd (cc))
-same_or_not (suc k) (suc i) = elim (same_or_not k i) [ inl e ↦ inl (ap suc e) | inr n ↦ inr (λ e. n (omega (arith, e))) ]
+use Rattle.std.proofs.lemmas.Bool.{cases_eq}
 
 eq_true : (q s : ℕ) → q ≡ s → (q == s) ≡ true
 eq_true q s e = grind (arith, nat_tests, e)
@@ -24,7 +19,7 @@ at_another q s a b n = ap (λ t. if t then a else b) (eq_false q s n)
 
 -- choices by one slot are the same where what is chosen there is
 pub same_choice : {A : Type 0} (q s : ℕ) (a c b : A) → (q ≡ s → a ≡ c) → (if q == s then a else b) ≡ (if q == s then c else b)
-same_choice q s a c b e = go (same_or_not q s)
+same_choice q s a c b e = go (cases_eq q s)
   where
     go : (q ≡ s) ⊎ (q ≡ s → ⊥) → (if q == s then a else b) ≡ (if q == s then c else b)
     go (inl here) = at_it q s a b here ∙ e here ∙ sym (at_it q s c b here)
@@ -32,7 +27,7 @@ same_choice q s a c b e = go (same_or_not q s)
 
 -- and where what is chosen elsewhere is
 pub choice_later : {A : Type 0} (q s : ℕ) (a b d : A) → ((q ≡ s → ⊥) → b ≡ d) → (if q == s then a else b) ≡ (if q == s then a else d)
-choice_later q s a b d e = go (same_or_not q s)
+choice_later q s a b d e = go (cases_eq q s)
   where
     go : (q ≡ s) ⊎ (q ≡ s → ⊥) → (if q == s then a else b) ≡ (if q == s then a else d)
     go (inl here) = at_it q s a b here ∙ sym (at_it q s a d here)

@@ -1,11 +1,12 @@
 -- A change of two slots is two changes of one slot each.
 use Rattle.std.proofs.Common.{◌≡◌, ◌⊎◌, inl, inr, ℕ, ◌==◌, Option, Some, None, sym, ap, ◌∙◌}
 use Rattle.std.specs.Prelude.{if◌then◌else◌, option_map}
+use Rattle.std.proofs.lemmas.Bool.{cases_eq}
 use Rattle.lucid_value.specs.Plain.{PlainValue}
 use Rattle.lucid_tasks.specs.declared.Part.{Part}
 use Rattle.lucid_facts.specs.Tasks.{PlainTask, PlainRow, PlainRows, asked, got, new_row}
 use Rattle.lucid_facts.specs.Changes.{with_part, given_to, SetsRow, ChangesRow, AsksRow, SettlesRow}
-use Rattle.lucid_facts.proofs.Slots.{same_or_not, at_it, at_another, same_choice}
+use Rattle.lucid_facts.proofs.Slots.{at_it, at_another, same_choice}
 
 -- the rows with this one, or none, in a slot
 abbrev pub with_row : PlainRows → (slot : ℕ) → Option PlainRow → PlainRows
@@ -26,7 +27,7 @@ asks_in_two old new part slot r x at asks q =
 -- a row goes, and then its value is given to the part
 pub settles_in_two : (old new : PlainRows) (slot : ℕ) (r p : PlainRow) (part : Part) (v : PlainValue) → r.parent ≡ Some part → (part.slot ≡ slot → ⊥) → old part.slot ≡ Some p
     → SettlesRow old new slot r v → SetsRow (with_row old slot None) new part.slot (Some (with_part part.index (got v) p))
-settles_in_two old new slot r p part v up apart there settles q = settles q ∙ ap (λ o. if q == slot then None else given_to o v q (old q)) up ∙ go (same_or_not q slot) (same_or_not q part.slot)
+settles_in_two old new slot r p part v up apart there settles q = settles q ∙ ap (λ o. if q == slot then None else given_to o v q (old q)) up ∙ go (cases_eq q slot) (cases_eq q part.slot)
   where
     changed : Option PlainRow
     changed = Some (with_part part.index (got v) p)

@@ -2,19 +2,20 @@
 use Rattle.std.proofs.Common.{◌≡◌, ◌⊎◌, inl, inr, ℕ, ◌==◌, List, [], ◌∷◌, Option, Some, None, Bool, true, false, ◌&&◌, refl, sym, ap, ◌∙◌, arith}
 use Rattle.std.specs.Prelude.{if◌then◌else◌, length, map, option_map, slice_set, slice_index_or}
 use Rattle.std.specs.List.{list_all}
+use Rattle.std.proofs.lemmas.Bool.{cases_eq}
 use Rattle.lucid_tags.specs.Contexts.{Context}
 use Rattle.lucid_tasks.specs.declared.Cursor.{Cursor}
 use Rattle.lucid_tasks.specs.Rows as rows
 use Rattle.lucid_tasks.specs.Rows.{TaskRow, Idle, Asked, Got, row_at, emptied}
 use Rattle.lucid_facts.specs.Tasks.{idle, is_free, state_at, all_idle, waits_for_none, plain_state, plain_row, plain_rows}
 use Rattle.lucid_facts.specs.Changes.{at_cursor, SetsRow}
-use Rattle.lucid_facts.proofs.Slots.{same_or_not, at_it, at_another}
+use Rattle.lucid_facts.proofs.Slots.{at_it, at_another}
 use Rattle.lucid_facts.proofs.Changing.{sets_row}
 
 -- one change of a slot's row after another
 changes_then : (old mid new : List (Option TaskRow)) (slot : ℕ) (f g : TaskRow → TaskRow) → rows.ChangesOnly old mid slot f → rows.ChangesOnly mid new slot g
     → rows.ChangesOnly old new slot (λ r. g (f r))
-changes_then old mid new slot f g first second q = go (same_or_not q slot)
+changes_then old mid new slot f g first second q = go (cases_eq q slot)
   where
     twice : (o : Option TaskRow) → option_map g (option_map f o) ≡ option_map (λ r. g (f r)) o
     twice None = refl

@@ -1,6 +1,7 @@
 -- What all rows below a slot can still cost, at each change of the rows.
 use Rattle.std.proofs.Common.{◌≡◌, ℕ, zero, suc, ◌+◌, ◌<◌, ◌≤◌, ◌⊎◌, inl, inr, Option, Some, None, refl, sym, ap, ◌∙◌, arith}
 use Rattle.std.specs.Prelude.{length, ◌≢◌}
+use Rattle.std.proofs.lemmas.Bool.{cases_eq}
 use Rattle.lucid_value.specs.Plain.{PlainValue}
 use Rattle.lucid_tasks.specs.declared.Part.{Part}
 use Rattle.lucid_equations.specs.declared.table.Table.{Table}
@@ -8,7 +9,7 @@ use Rattle.lucid_facts.specs.Tasks.{PlainTask, PlainRow, PlainRows, idle, asked,
 use Rattle.lucid_facts.specs.Parts.{rank}
 use Rattle.lucid_facts.specs.Changes.{with_part, SetsRow, AsksRow, SettlesRow}
 use Rattle.lucid_facts.specs.Measure.{weight, weight_at, total}
-use Rattle.lucid_facts.proofs.Slots.{same_or_not, at_it, at_another}
+use Rattle.lucid_facts.proofs.Slots.{at_it, at_another}
 use Rattle.lucid_facts.proofs.Steps.{with_row, asks_in_two, settles_in_two}
 use Rattle.lucid_facts.proofs.Falling.{asking_falls, given_weight}
 
@@ -21,7 +22,7 @@ total_same T limit old new (suc n) h =
 -- past the last row nothing more can cost
 pub total_past : (T : Table) (limit : ℕ) (rows : PlainRows) (n m : ℕ) → ((q : ℕ) → n ≤ q → rows q ≡ None) → n ≤ m → total T limit rows m ≡ total T limit rows n
 total_past T limit rows n zero h l = let e : n ≡ 0 = omega (arith, l) in ap (λ k. total T limit rows k) (sym e)
-total_past T limit rows n (suc m) h l = go (λ b. total_past T limit rows n m h b) (same_or_not n (suc m))
+total_past T limit rows n (suc m) h l = go (λ b. total_past T limit rows n m h b) (cases_eq n (suc m))
   where
     go : (n ≤ m → total T limit rows m ≡ total T limit rows n) → (n ≡ suc m) ⊎ (n ≡ suc m → ⊥) → total T limit rows (suc m) ≡ total T limit rows n
     go again (inl e) = ap (λ k. total T limit rows k) (sym e)
@@ -35,7 +36,7 @@ total_past T limit rows n (suc m) h l = go (λ b. total_past T limit rows n m h 
 pub total_set : (T : Table) (limit : ℕ) (old new : PlainRows) (slot n : ℕ) (row : Option PlainRow) → SetsRow old new slot row → slot < n
     → total T limit new n + weight_at T limit (old slot) ≡ total T limit old n + weight_at T limit row
 total_set T limit old new slot zero row sets l = absurd (omega (arith, l))
-total_set T limit old new slot (suc n) row sets l = go (λ b. total_set T limit old new slot n row sets b) (same_or_not n slot)
+total_set T limit old new slot (suc n) row sets l = go (λ b. total_set T limit old new slot n row sets b) (cases_eq n slot)
   where
     go : (slot < n → total T limit new n + weight_at T limit (old slot) ≡ total T limit old n + weight_at T limit row) → (n ≡ slot) ⊎ (n ≡ slot → ⊥) → total T limit new (suc n) + weight_at T limit (old slot) ≡ total T limit old (suc n) + weight_at T limit row
     go again (inl e) =

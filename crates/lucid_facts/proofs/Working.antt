@@ -2,6 +2,7 @@
 use Rattle.std.proofs.Common.{◌≡◌, ◌⊎◌, inl, inr, ℕ, zero, suc, List, [], ◌∷◌, Option, Some, None, true, refl, sym, ap, ◌∙◌, subst, arith}
 use Rattle.std.specs.Prelude.{IsTrue, IsSome}
 use Rattle.std.specs.List.{list_all}
+use Rattle.std.proofs.lemmas.Bool.{cases_eq}
 use Rattle.lucid_value.specs.Plain.{PlainValue}
 use Rattle.lucid_tree.specs.Levels.{Elements}
 use Rattle.lucid_tasks.specs.declared.Part.{Part}
@@ -11,7 +12,7 @@ use Rattle.lucid_facts.specs.Stands.{Holding, StandsFor}
 use Rattle.lucid_facts.specs.Demands.{Demand, table_of, Answers}
 use Rattle.lucid_facts.specs.Rows.{RowFacts, PartAnswers, Serves, Links, Work}
 use Rattle.lucid_facts.specs.Changes.{SetsRow}
-use Rattle.lucid_facts.proofs.Slots.{same_or_not, at_it, at_another}
+use Rattle.lucid_facts.proofs.Slots.{at_it, at_another}
 
 -- ---- the same rows
 
@@ -133,7 +134,7 @@ module _ (d : Demand) (now : Elements) (h : Holding) (lost : ℕ) (old : PlainRo
         }
 
     pub work_sets : Work d now h lost new
-    work_sets = record { each = λ q c at. each_set q c at (same_or_not q slot); links = λ q c at. links_set q c at (same_or_not q slot); some = some }
+    work_sets = record { each = λ q c at. each_set q c at (cases_eq q slot); links = λ q c at. links_set q c at (cases_eq q slot); some = some }
 
 -- A row that waits for nothing changes in place: its search goes on, or it becomes a body. No other row is a part of it.
 pub work_changes : (d : Demand) (now : Elements) (h : Holding) (lost : ℕ) (old new : PlainRows) (slot : ℕ) (r s : PlainRow) → Work d now h lost old → old slot ≡ Some r

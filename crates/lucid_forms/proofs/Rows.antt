@@ -1,8 +1,5 @@
 -- What the row of each operator says.
-use Rattle.std.proofs.Common.{◌≡◌, ◌≤◌, List, [], ◌∷◌, length, Some, refl, arith}
-use Rattle.lucid_tree.specs.Tree.{PlainTree}
-use Rattle.lucid_tree.specs.Size.{count}
-use Rattle.lucid_tree.specs.Lists.{trees_of}
+use Rattle.std.proofs.Common.{◌≡◌, ◌≤◌, Some, refl, arith}
 use Rattle.lucid_ops.proofs.OperatorRows as rows
 use Rattle.lucid_forms.specs.declared.operator.Operator.TheVariants.{Data, Stream}
 use Rattle.lucid_forms.specs.declared.operator.StreamOp.TheVariants.{Fby}
@@ -24,8 +21,3 @@ pub known : (operator : Operator) → operator_of (head operator) ≡ Some opera
 known (Data op) = refl
 known (Stream Fby) = refl
 known (Stream _) = refl
-
--- trees in a list are as many in their plain form
-pub count_listed : (ts : List PlainTree) → count (trees_of ts) ≡ length ts
-count_listed [] = refl
-count_listed (t ∷ ts) = omega (arith, count_listed ts)

@@ -61,7 +61,7 @@ fn stream_kind(alloc: Global, op: StreamOp, mut parts: Vec<Tree>) -> Result<Kind
 }
 
 // A data operator over its arguments.
-#[tactic(auto, using(crate::proofs::Rows::count_listed))]
+#[tactic(auto, using(lucid_tree::proofs::Counts::count_listed))]
 fn data_form(at: u32, op: Op, parts: Vec<Tree>) -> Tree
     requires { length parts.items ≡ arity op }
     ensures { result ≡ form at (head (Data op)) (trees_of parts.items) }

@@ -6,8 +6,8 @@ use Rattle.std.specs.Prelude.{slice_index_or, AllPairs}
 use Rattle.std.proofs.lemmas.List.{length-map, length-set}
 use Rattle.std.proofs.lemmas.Option.{slice_get-map, slice_get_within, same_Some}
 use Rattle.std.proofs.lemmas.Bool.{cases_eq}
+use Rattle.lucid_lemmas.proofs.Lists.{slice_get-set_same, slice_get-set_other}
 use Rattle.lucid_ports.specs.World.{Contents, IsFresh, Place, World, advanced}
-use Rattle.lucid_inputs.proofs.SliceSet.{slice_get-set_same, slice_get-set_other}
 use Rattle.lucid_value.specs.Lines.{IsOverlong}
 use Rattle.lucid_inputs.specs.declared.fault.InputFault.{InputFault}
 use Rattle.lucid_inputs.specs.declared.fault.InputFault.TheVariants.{ReadFault, TooLarge, NoMemory}

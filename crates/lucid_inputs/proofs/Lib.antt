@@ -1,5 +1,3 @@
-pub mod SliceSet
-pub mod Consumed
 pub mod LineLemmas
 pub mod StreamLemmas
 pub mod StepLemmas

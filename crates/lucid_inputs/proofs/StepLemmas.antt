@@ -9,7 +9,8 @@ use Rattle.lucid_value.specs.Plain.{PlainValue}
 use Rattle.lucid_value.specs.Elements.{line_value_of}
 use Rattle.lucid_value.specs.Lines.{lines_of, end_of_line}
 use Rattle.lucid_ports.specs.World.{Contents, World, KeepsOthers, advanced}
-use Rattle.lucid_inputs.proofs.Consumed.{keeps_others-twice, consumed-twice}
+use Rattle.lucid_ports.proofs.WorldLemmas.{KeepsOthers-trans}
+use Rattle.lucid_ports.proofs.ContentsLemmas.{both_consumed}
 use Rattle.lucid_inputs.specs.Streams.{Stream, Fits, FitsPlace, all_bytes, line_ends}
 use Rattle.lucid_inputs.specs.Reading.{ReadsOn, IsWithin}
 use Rattle.lucid_inputs.specs.Steps.{Step, step_end, step_bytes, Takes, takes_part, takes_line, last_element, line_with, with_end, with_line, with_part}
@@ -206,9 +207,9 @@ reads_further index old mid new w0 w1 w2 r going few d reached others =
       ended = λ t. let same = ap (λ s. s.ended) (r.ended t) in cc;
       taken = r.taken + d.taken;
       consumed = omega (arith, d.consumed, r.consumed);
-      contents = consumed-twice r.taken d.taken (r.taken + d.taken) _ _ _ r.contents refl moved;
+      contents = both_consumed r.taken d.taken (r.taken + d.taken) _ _ _ r.contents refl moved;
       reached = reached ∙ r.reached;
-      others = keeps_others-twice old.place w0 w1 w2 r.others (subst (λ p. KeepsOthers p w1 w2) r.place others);
+      others = KeepsOthers-trans old.place w0 w1 w2 r.others (subst (λ p. KeepsOthers p w1 w2) r.place others);
       bound = bound_further index old mid new _ _ r.taken d.taken r.contents few r.bound r.fits told;
       fits = fits_further index mid new _ _ d.taken moved r.fits told;
     }
@@ -228,7 +229,7 @@ reads_refused index old mid new w0 w1 w2 r is same reached others =
       consumed = r.consumed;
       contents = kept ∙ r.contents;
       reached = reached ∙ r.reached;
-      others = keeps_others-twice old.place w0 w1 w2 r.others (subst (λ p. KeepsOthers p w1 w2) r.place others);
+      others = KeepsOthers-trans old.place w0 w1 w2 r.others (subst (λ p. KeepsOthers p w1 w2) r.place others);
       bound = r.bound;
       fits = subst (λ o. IfSome o (λ c. Fits mid c)) (sym kept) r.fits;
     }

@@ -4,7 +4,7 @@ use Rattle.std.specs.Prelude.{◌==◌, slice_get, Result, IfOk}
 use Rattle.std.specs.Io.{StartsWith}
 use Rattle.std.proofs.lemmas.List.{append-nil, length-take-le, take_all, take-take, take_more}
 use Rattle.std.proofs.lemmas.List.Sums.{count_by_more_no}
-use Rattle.std.proofs.lemmas.Bool.{cases_lt, eqb-true}
+use Rattle.std.proofs.lemmas.Bool.{cases_lt, eqb-true, false_from_ne_true}
 use Rattle.std.proofs.lemmas.Option.{same_Some}
 use Rattle.memchr.specs.Find.{Nowhere, Passes, is_byte}
 use Rattle.lucid_value.specs.Plain.{PlainValue}
@@ -40,15 +40,11 @@ kept_front n k [] ys within least = take_least n k ys (omega arith)
 kept_front zero k (x ∷ xs) ys within least = absurd (omega arith)
 kept_front (suc n) k (x ∷ xs) ys within least = ap (λ r. x ∷ r) (kept_front n k xs ys (omega arith) (omega arith))
 
-not_true : (b : Bool) → (b ≡ true → ⊥) → b ≡ false
-not_true true never = absurd (never refl)
-not_true false never = refl
-
 -- no line end stands before the first one
 pub none_before : (bytes : List ℕ) (k : ℕ) → k ≤ length bytes → Nowhere (Passes (is_byte 10) bytes) 0 k → line_ends (take k bytes) ≡ 0
 none_before bytes zero within none = refl
 none_before bytes (suc k) within none =
-    let this = not_true (get_or bytes k 0 == 10) (none k (omega arith) (omega arith)) in
+    let this = false_from_ne_true (get_or bytes k 0 == 10) (none k (omega arith) (omega arith)) in
     let more = count_by_more_no (λ b. b == 10) bytes k 0 (omega arith) this in
     ap (λ n. line_ends (take n bytes)) (sym (add-one k)) ∙ more ∙ none_before bytes k (omega arith) (λ j low high. none j low (omega arith))
 

@@ -115,7 +115,7 @@ found_in (o ∷ ops) form spelling op e = by (has form spelling (operator_row o)
     by false h k e = k e
 
 -- a form is the one of its number
-form_is : (f g : Form) → nat_eq (form_number f) (form_number g) ≡ true → f ≡ g
+pub form_is : (f g : Form) → nat_eq (form_number f) (form_number g) ≡ true → f ≡ g
 form_is Before Before e = refl
 form_is Between Between e = refl
 form_is Called Called e = refl
@@ -126,9 +126,6 @@ form_is Between Called e = absurd (grind (arith, e))
 form_is Called Before e = absurd (grind (arith, e))
 form_is Called Between e = absurd (grind (arith, e))
 
-same_true : (bs cs : List ℕ) → same_bytes bs cs ≡ true → bs ≡ cs
-same_true bs cs h = (slice_eq-Decides Decides-eqb bs cs _ refl).0 h
-
 -- an operator is found by its row
 pub found_by_row : (op : Op) → IsFoundByItsRow op
 found_by_row op form spelling =
@@ -137,7 +134,7 @@ found_by_row op form spelling =
     both : has form spelling (operator_row op) ≡ true → ((operator_row op).form ≡ form) × ((operator_row op).spelling ≡ spelling)
     both h =
         let parts = and_parts (nat_eq (form_number (operator_row op).form) (form_number form)) (same_bytes (operator_row op).spelling spelling) h in
-        (form_is (operator_row op).form form parts.0, same_true (operator_row op).spelling spelling parts.1)
+        (form_is (operator_row op).form form parts.0, (slice_eq-Decides Decides-eqb (operator_row op).spelling spelling _ refl).0 parts.1)
 
     back : (operator_row op).form ≡ form → (operator_row op).spelling ≡ spelling → operator_of form spelling ≡ Some op
     back f s = subst (λ x. operator_of x spelling ≡ Some op) f (subst (λ x. operator_of (operator_row op).form x ≡ Some op) s (row_found op))

@@ -1,6 +1,6 @@
--- Terminals that spell a tree lead the machine over them, and it writes the tree.
-use Rattle.std.proofs.Common.{◌≡◌, ℕ, ◌+◌, ◌≤◌, ◌<◌, List, [], ◌∷◌, ◌++◌, Option, Some, None, Bool, true, false, cond, ◌&&◌, option_and_then, refl, sym, ◌∙◌, ap, subst, arith, leb, zero-le, le_refl}
-use Rattle.std.proofs.lemmas.Bool.{le-leb, leb-true, eq-eqb, ne_eqb}
+-- Terminals that spell a tree lead the machine over them, and_from it writes the tree.
+use Rattle.std.proofs.Common.{◌≡◌, ℕ, ◌+◌, ◌≤◌, ◌<◌, List, [], ◌∷◌, ◌++◌, Option, Some, None, Bool, true, false, cond, option_and_then, refl, sym, ◌∙◌, ap, subst, arith, leb, zero-le, le_refl}
+use Rattle.std.proofs.lemmas.Bool.{le-leb, leb-true, eq-eqb, ne_eqb, and_from, false_from_ne_true, and_parts}
 use Rattle.std.specs.Prelude.{nat_eq, ◌-◌}
 use Rattle.lucid_tree.specs.Tree.{PlainTree, PlainTrees, no_trees, tree, PlainDefs, no_defs, defines, defines_function, defines_current}
 use Rattle.lucid_tree.specs.Size.{count}
@@ -15,7 +15,7 @@ use Rattle.lucid_parse.specs.declared.state.Item.{Item}
 use Rattle.lucid_parse.specs.declared.state.Item.TheVariants as item
 use Rattle.lucid_parse.specs.Grammar
 use Rattle.lucid_forms.specs.declared.operator.Operator.{Operator}
-use Rattle.lucid_parse.specs.Grammar.{PlainTerminal, PlacedTerminal, terminal_at, trees_and, def_before, defs_and, Parameter, parameter, names_of, places_of, Defined, Plain, Function, Current, Spells, SpellsArgs, SpellsDefs, SpellsNames, level_of, arity_of, left, right, operator_in, head}
+use Rattle.lucid_parse.specs.Grammar.{PlainTerminal, PlacedTerminal, terminal_at, trees_and, def_before, defs_and, Parameter, parameter, names_of, places_of, Defined, Plain, Function, Current, Spells, SpellsArgs, SpellsDefs, SpellsNames, level_of, arity_of, left, right, operator_in}
 use Rattle.lucid_parse.specs.Machine.{PlainFrame, PlainItem, PlainState, state, takes, shift, inner_frames, inner_out, settle_at, settle, prefixed, begun, begin, step_named, step, feeds, finished, finish}
 use Rattle.lucid_parse.specs.Flat.{written, written_parts, written_all, written_defs, kind_of, listed, with_parameters, headed}
 use Rattle.lucid_parse.proofs.Levels.{prefix_level_most, left_most, right_most, left_least, right_least, right_positive, level_positive, arity_positive, before_not_called, apart, apart_prefix, node-operator}
@@ -48,22 +48,11 @@ pub record Done (from : PlainState) (ts : List PlacedTerminal) (level allowed : 
   pub next : (next_terminal : PlainTerminal) (at : ℕ) → Closes level next_terminal → step after next_terminal at ≡ settle next_terminal at level allowed frames out
   pub ends : finish after ≡ finished frames out
 
-and : (a b : Bool) → a ≡ true → b ≡ true → (a && b) ≡ true
-and a b p q = grind (arith, p, q)
-
 takes-true : (operator : Operator) (level allowed : ℕ) → left operator ≤ level → allowed ≤ level_of operator → takes operator level allowed ≡ true
-takes-true operator level allowed h j = and _ _ (le-leb (left operator) level h) (le-leb allowed (level_of operator) j)
-
-false_from : (b : Bool) → (b ≡ true → ⊥) → b ≡ false
-false_from true h = absurd (h refl)
-false_from false h = refl
-
-second : (a b : Bool) → (a && b) ≡ true → b ≡ true
-second true b h = h
-second false b h = cc
+takes-true operator level allowed h j = and_from _ _ (le-leb (left operator) level h) (le-leb allowed (level_of operator) j)
 
 not_taken : (operator : Operator) (level allowed : ℕ) → (allowed ≤ level_of operator → ⊥) → takes operator level allowed ≡ false
-not_taken operator level allowed h = false_from (takes operator level allowed) (λ t. h (leb-true allowed (level_of operator) (second (leb (left operator) level) (leb allowed (level_of operator)) t)))
+not_taken operator level allowed h = false_from_ne_true (takes operator level allowed) (λ t. h (leb-true allowed (level_of operator) (and_parts (leb (left operator) level) (leb allowed (level_of operator)) t).1))
 
 onward : {A B : Type 0} (f g : A → Option B) (w : Option B) (h : B) (o : Option A) → ((i : A) → f i ≡ Some h → g i ≡ w)
     → option_and_then f o ≡ Some h → option_and_then g o ≡ w
@@ -210,7 +199,7 @@ pub record Operand (wanted : ℕ) (from : PlainState) (ts : List PlacedTerminal)
   pub least : wanted ≤ level
   pub done : Done from ts level allowed frames out
 
--- the terminals lead over the arguments of a call, and the last one isn't in the list yet
+-- the terminals lead over the arguments of a call, and_from the last one isn't in the list yet
 pub record Arguments (all : PlainTrees) (at : ℕ) (n : List ℕ) (allowed : ℕ) (ts : List PlacedTerminal) (frames : List PlainFrame) (out : List PlainItem) : Type 0 where
   pub last : List PlainItem
   pub is : last ++ item.More ∷ [] ≡ written_all out all

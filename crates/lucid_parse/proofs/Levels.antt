@@ -1,14 +1,15 @@
 -- Laws of the levels.
-use Rattle.std.proofs.Common.{◌≡◌, ℕ, ◌+◌, ◌≤◌, ◌<◌, Bool, true, false, cond, Option, Some, None, refl, sym, ◌∙◌, ap, subst, arith}
+use Rattle.std.proofs.Common.{◌≡◌, ℕ, ◌+◌, ◌≤◌, ◌<◌, Bool, true, false, cond, Some, None, refl, sym, ◌∙◌, ap, subst, arith}
 use Rattle.std.specs.Prelude.{nat_lt, nat_eq, ◌&&◌}
 use Rattle.std.proofs.lemmas.Bool.{and_parts, ltb-true, eqb-true}
 use Rattle.lucid_ops.specs.declared.op.Op.TheVariants as op
 use Rattle.lucid_ops.specs.declared.op.Form.{Form}
 use Rattle.lucid_ops.specs.declared.op.Form.TheVariants.{Before, Between, Called}
 use Rattle.lucid_ops.specs.declared.op.Side.{Side}
-use Rattle.lucid_ops.specs.declared.op.Side.TheVariants.{Left, Right, Single}
+use Rattle.lucid_ops.specs.declared.op.Side.TheVariants.{Left, Single}
 use Rattle.lucid_ops.specs.Row.{left_level, right_level}
 use Rattle.lucid_ops.specs.Rows.{form_number, level_side, fits_form}
+use Rattle.lucid_ops.proofs.OperatorRows.{form_is}
 use Rattle.lucid_forms.specs.declared.operator.Operator.TheVariants.{Data}
 use Rattle.lucid_forms.proofs.Rows.{row_stands, known}
 use Rattle.lucid_parse.specs.declared.terminal.Terminal.TheVariants as terminal
@@ -17,18 +18,12 @@ use Rattle.lucid_parse.specs.Flat.{node_of, node}
 use Rattle.lucid_forms.specs.declared.operator.Operator.{Operator}
 use Rattle.lucid_parse.specs.Grammar.{PlainTerminal, row_of, level_of, arity_of, left, right, head, as_form, operator_in}
 
-same_form : (a b : Form) → nat_eq (form_number a) (form_number b) ≡ true → a ≡ b
-same_form Before Before e = refl
-same_form Between Between e = refl
-same_form Called Called e = refl
-same_form _ _ e = cc
-
 -- A terminal that is an operator in a form is one whose row has that form.
 of_form : (wanted : Form) (o found : Operator) → as_form wanted o ≡ Some found → ((row_of o).form ≡ wanted) × (o ≡ found)
 of_form wanted o found e = of (nat_eq (form_number (row_of o).form) (form_number wanted)) refl e
   where
     of : (b : Bool) → nat_eq (form_number (row_of o).form) (form_number wanted) ≡ b → cond b (Some o) None ≡ Some found → ((row_of o).form ≡ wanted) × (o ≡ found)
-    of true s f = (same_form _ _ s, cc)
+    of true s f = (form_is _ _ s, cc)
     of false s f = cc
 
 pub stands : (wanted : Form) (terminal : PlainTerminal) (found : Operator) → operator_in wanted terminal ≡ Some found → (row_of found).form ≡ wanted

@@ -1,7 +1,8 @@
 -- Each state of the machine means a part of a derivation, so what it accepts is spelled, and what it has read begins a program.
-use Rattle.std.proofs.Common.{◌≡◌, ℕ, ◌+◌, ◌≤◌, List, [], ◌∷◌, ◌++◌, Option, Some, None, Bool, true, false, cond, ◌&&◌, option_and_then, ◌⊎◌, inl, inr, refl, sym, ◌∙◌, ap, subst, arith, leb, zero-le, le_refl, append_assoc, append-nil}
-use Rattle.std.proofs.lemmas.Bool.{leb-true, eqb-true, eqb-false}
+use Rattle.std.proofs.Common.{◌≡◌, ℕ, ◌+◌, ◌≤◌, List, [], ◌∷◌, ◌++◌, Option, Some, None, Bool, true, false, cond, option_and_then, ◌⊎◌, inl, inr, refl, sym, ◌∙◌, ap, subst, arith, leb, zero-le, le_refl, append_assoc, append-nil}
+use Rattle.std.proofs.lemmas.Bool.{leb-true, eqb-true, eqb-false, and_parts}
 use Rattle.std.specs.Prelude.{nat_eq, ◌-◌}
+use Rattle.std.proofs.lemmas.Option.{cond_some, same_Some}
 use Rattle.lucid_tree.specs.Tree.{PlainTree, PlainTrees, PlainDefs}
 use Rattle.lucid_tree.specs.Size.{count}
 use Rattle.lucid_ops.specs.declared.op.Form.TheVariants.{Before, Between, Called}
@@ -13,7 +14,7 @@ use Rattle.lucid_parse.specs.declared.state.Focus.TheVariants as focus
 use Rattle.lucid_parse.specs.declared.state.Item.TheVariants as item
 use Rattle.lucid_parse.specs.Grammar
 use Rattle.lucid_forms.specs.declared.operator.Operator.{Operator}
-use Rattle.lucid_parse.specs.Grammar.{PlainTerminal, PlacedTerminal, terminal_at, trees_and, def_before, defs_and, Parameter, parameter, names_of, places_of, Defined, Plain, Function, Current, Spells, SpellsArgs, SpellsDefs, SpellsNames, level_of, arity_of, left, right, operator_in, head}
+use Rattle.lucid_parse.specs.Grammar.{PlainTerminal, PlacedTerminal, terminal_at, Parameter, Plain, Function, Current, Spells, SpellsArgs, SpellsDefs, SpellsNames, level_of, arity_of, left, right, operator_in, head}
 use Rattle.lucid_parse.specs.Machine.{PlainFrame, PlainFocus, PlainItem, PlainState, state, takes, taken, shift, inner_frames, inner_out, after_frame, close, settle_at, settle, prefixed, begun, begin, step_named, step_heads, step_headed, step_frozen, step_names, step_listed, step_ready, step_opens, step_at, step, feeds, finished, if_empty, finish_at, finish, start}
 use Rattle.lucid_parse.specs.Flat.{written, written_parts, written_all, written_defs, with_parameters, node}
 use Rattle.lucid_parse.proofs.Levels.{prefix_level_most, right_most, arity_positive, node-operator}
@@ -147,13 +148,6 @@ tests : (b : Bool) → (b ≡ true) ⊎ (b ≡ false)
 tests true = inl refl
 tests false = inr refl
 
-both : (a b : Bool) → (a && b) ≡ true → (a ≡ true) × (b ≡ true)
-both true b h = (refl, h)
-both false b h = cc
-
-Some_inj : {A : Type 0} (x y : A) → Some x ≡ Some y → x ≡ y
-Some_inj x y e = cc
-
 to : {A : Type 0} {x y : A} (P : A → Type 0) → P x → x ≡ y → P y
 to P h e = subst P e h
 
@@ -161,7 +155,7 @@ to P h e = subst P e h
 takes_means : (operator : Operator) (terminal : PlainTerminal) (at level allowed : ℕ) (frames : List PlainFrame) (out : List PlainItem) (ts : List PlacedTerminal) → operator_in Between terminal ≡ Some operator → takes operator level allowed ≡ true
     → Has level allowed frames out ts → MeansAt (state (focus.Await (right operator)) (frame.Operator operator at allowed ∷ frames) out) (ts ++ terminal_at terminal at ∷ [])
 takes_means operator terminal at level allowed frames out ts is t (has {pre = pre} {xs = xs} ctx h sx) =
-    let two = both _ _ t in
+    let two = and_parts _ _ t in
     subst (Means _ _ _) (simp append_assoc)
     (awaits (in_left {at = at} terminal operator is (leb-true allowed (level_of operator) two.1) ctx (looser sx (left operator) (leb-true (left operator) level two.0))))
 
@@ -169,7 +163,7 @@ taken_means : (operator : Operator) (terminal : PlainTerminal) (at level allowed
     → Has level allowed frames out ts → (other ≡ Some g → MeansAt g (ts ++ terminal_at terminal at ∷ [])) → taken operator at level allowed frames out other ≡ Some g → MeansAt g (ts ++ terminal_at terminal at ∷ [])
 taken_means operator terminal at level allowed frames out ts other g is h otherwise e =
     elim (tests (takes operator level allowed)) [
-      | inl t ↦ subst (λ x. MeansAt x (ts ++ terminal_at terminal at ∷ [])) (Some_inj _ _ (sym (ap (λ c. cond c (Some (state (focus.Await (right operator)) (frame.Operator operator at allowed ∷ frames) out)) other) t) ∙ e))
+      | inl t ↦ subst (λ x. MeansAt x (ts ++ terminal_at terminal at ∷ [])) (same_Some _ _ (sym (ap (λ c. cond c (Some (state (focus.Await (right operator)) (frame.Operator operator at allowed ∷ frames) out)) other) t) ∙ e))
           (takes_means operator terminal at level allowed frames out ts is t h)
       | inr f ↦ otherwise (sym (ap (λ c. cond c (Some (state (focus.Await (right operator)) (frame.Operator operator at allowed ∷ frames) out)) other) f) ∙ e)
     ]
@@ -263,13 +257,9 @@ closed_right block def_at n at defines frames out ts (inside {xs = ys} {x = y} (
     means_along (simp append_assoc)
     (means_out (heads {block = block} c s (Grammar.spells_function def_at n open_at close_at equals_at at d ns t)) (written_defs-and (written o x ++ item.NoDefs ∷ []) all def_at n (Function parameters) y))
 
-some_of : {A : Type 0} (b : Bool) (x y : A) → cond b (Some x) None ≡ Some y → (b ≡ true) × (x ≡ y)
-some_of true x y e = (refl, Some_inj x y e)
-some_of false x y e = cc
-
 other_of : {A : Type 0} (b : Bool) (x y : A) → cond b None (Some x) ≡ Some y → (b ≡ false) × (x ≡ y)
 other_of true x y e = cc
-other_of false x y e = (refl, Some_inj x y e)
+other_of false x y e = (refl, same_Some x y e)
 
 part_comma : (operator : Operator) (place more allowed at : ℕ) (frames : List PlainFrame) (out : List PlainItem) (ts : List PlacedTerminal) → (more ≡ 0 → ⊥) → Inside (frame.Operands operator place more allowed ∷ frames) out ts
     → MeansAt (state (focus.Await 0) (frame.Operands operator place (more - 1) allowed ∷ frames) out) (ts ++ terminal_at terminal.Comma at ∷ [])
@@ -295,19 +285,19 @@ part_close operator place more allowed at frames out ts none (inside {xs = ys} {
 -- what closes a frame
 after_means : (f : PlainFrame) (terminal : PlainTerminal) (at : ℕ) (frames : List PlainFrame) (out : List PlainItem) (ts : List PlacedTerminal) (g : PlainState)
     → Inside (f ∷ frames) out ts → after_frame f terminal frames out ≡ Some g → MeansAt g (ts ++ terminal_at terminal at ∷ [])
-after_means (frame.Parenthesis allowed) terminal.Close at frames out ts g i e = to (λ x. MeansAt x (ts ++ terminal_at terminal.Close at ∷ [])) (closed_open allowed at frames out ts i) (Some_inj _ _ e)
-after_means (frame.Test place allowed) terminal.Then at frames out ts g i e = to (λ x. MeansAt x (ts ++ terminal_at terminal.Then at ∷ [])) (closed_test place allowed at frames out ts i) (Some_inj _ _ e)
-after_means (frame.Yes place allowed) terminal.Else at frames out ts g i e = to (λ x. MeansAt x (ts ++ terminal_at terminal.Else at ∷ [])) (closed_yes place allowed at frames out ts i) (Some_inj _ _ e)
-after_means (frame.No place allowed) terminal.Fi at frames out ts g i e = to (λ x. MeansAt x (ts ++ terminal_at terminal.Fi at ∷ [])) (closed_no place allowed at frames out ts i) (Some_inj _ _ e)
-after_means (frame.Arguments place n allowed) terminal.Comma at frames out ts g i e = to (λ x. MeansAt x (ts ++ terminal_at terminal.Comma at ∷ [])) (argument_comma place n allowed at frames out ts i) (Some_inj _ _ e)
-after_means (frame.Arguments place n allowed) terminal.Close at frames out ts g i e = to (λ x. MeansAt x (ts ++ terminal_at terminal.Close at ∷ [])) (closed_args place n allowed at frames out ts i) (Some_inj _ _ e)
+after_means (frame.Parenthesis allowed) terminal.Close at frames out ts g i e = to (λ x. MeansAt x (ts ++ terminal_at terminal.Close at ∷ [])) (closed_open allowed at frames out ts i) (same_Some _ _ e)
+after_means (frame.Test place allowed) terminal.Then at frames out ts g i e = to (λ x. MeansAt x (ts ++ terminal_at terminal.Then at ∷ [])) (closed_test place allowed at frames out ts i) (same_Some _ _ e)
+after_means (frame.Yes place allowed) terminal.Else at frames out ts g i e = to (λ x. MeansAt x (ts ++ terminal_at terminal.Else at ∷ [])) (closed_yes place allowed at frames out ts i) (same_Some _ _ e)
+after_means (frame.No place allowed) terminal.Fi at frames out ts g i e = to (λ x. MeansAt x (ts ++ terminal_at terminal.Fi at ∷ [])) (closed_no place allowed at frames out ts i) (same_Some _ _ e)
+after_means (frame.Arguments place n allowed) terminal.Comma at frames out ts g i e = to (λ x. MeansAt x (ts ++ terminal_at terminal.Comma at ∷ [])) (argument_comma place n allowed at frames out ts i) (same_Some _ _ e)
+after_means (frame.Arguments place n allowed) terminal.Close at frames out ts g i e = to (λ x. MeansAt x (ts ++ terminal_at terminal.Close at ∷ [])) (closed_args place n allowed at frames out ts i) (same_Some _ _ e)
 after_means (frame.Operands operator place more allowed) terminal.Comma at frames out ts g i e =
     let o = other_of (nat_eq more 0) _ g e in
     to (λ x. MeansAt x (ts ++ terminal_at terminal.Comma at ∷ [])) (part_comma operator place more allowed at frames out ts (eqb-false more 0 o.0) i) o.1
 after_means (frame.Operands operator place more allowed) terminal.Close at frames out ts g i e =
-    let o = some_of (nat_eq more 0) _ g e in
+    let o = cond_some (nat_eq more 0) _ g e in
     to (λ x. MeansAt x (ts ++ terminal_at terminal.Close at ∷ [])) (part_close operator place more allowed at frames out ts (eqb-true more 0 o.0) i) o.1
-after_means (frame.RightSide block d def_at n) terminal.Semicolon at frames out ts g i e = to (λ x. MeansAt x (ts ++ terminal_at terminal.Semicolon at ∷ [])) (closed_right block def_at n at d frames out ts i) (Some_inj _ _ e)
+after_means (frame.RightSide block d def_at n) terminal.Semicolon at frames out ts g i e = to (λ x. MeansAt x (ts ++ terminal_at terminal.Semicolon at ∷ [])) (closed_right block def_at n at d frames out ts i) (same_Some _ _ e)
 after_means _ _ at frames out ts g i e = cc
 
 -- a terminal that is no operator, after an operand
@@ -315,7 +305,7 @@ close_means : (terminal : PlainTerminal) (at : ℕ) (frames : List PlainFrame) (
     → Inside frames out ts → close terminal at frames out ≡ Some g → MeansAt g (ts ++ terminal_at terminal at ∷ [])
 unfolding written
 close_means terminal.Where at frames out ts g (inside c next) e =
-    to (λ x. MeansAt x (ts ++ terminal_at terminal.Where at ∷ [])) (means_along (simp append_assoc) (heads {block = at} c next Grammar.spells_none)) (Some_inj _ _ e)
+    to (λ x. MeansAt x (ts ++ terminal_at terminal.Where at ∷ [])) (means_along (simp append_assoc) (heads {block = at} c next Grammar.spells_none)) (same_Some _ _ e)
 close_means terminal at [] out ts g i e = cc
 close_means terminal at (f ∷ frames) out ts g i e = after_means f terminal at frames out ts g i e
 
@@ -334,24 +324,24 @@ prefixed_means None terminal at allowed frames out ts g is c e = cc
 prefixed_means (Some operator) terminal at allowed frames out ts g is c e =
     let into = Some (state (focus.Await (level_of operator)) (frame.Operator operator at allowed ∷ frames) out) in
     elim (tests (leb allowed (level_of operator))) [
-      | inl t ↦ to (λ x. MeansAt x (ts ++ terminal_at terminal at ∷ [])) (awaits (in_before {at = at} terminal operator is (leb-true allowed (level_of operator) t) c)) (Some_inj _ _ (sym (ap (λ b. cond b into None) t) ∙ e))
+      | inl t ↦ to (λ x. MeansAt x (ts ++ terminal_at terminal at ∷ [])) (awaits (in_before {at = at} terminal operator is (leb-true allowed (level_of operator) t) c)) (same_Some _ _ (sym (ap (λ b. cond b into None) t) ∙ e))
       | inr f ↦ let no : None ≡ Some g = sym (ap (λ b. cond b into None) f) ∙ e in cc
     ]
 
 begun_means : (o : Option Operator) (terminal : PlainTerminal) (at allowed : ℕ) (frames : List PlainFrame) (out : List PlainItem) (ts : List PlacedTerminal) (g : PlainState) → operator_in Called terminal ≡ o
     → Context frames allowed ts out → begun o (operator_in Before terminal) at allowed frames out ≡ Some g → MeansAt g (ts ++ terminal_at terminal at ∷ [])
-begun_means (Some operator) terminal at allowed frames out ts g is c e = to (λ x. MeansAt x (ts ++ terminal_at terminal at ∷ [])) (opens {at = at} terminal operator is c) (Some_inj _ _ e)
+begun_means (Some operator) terminal at allowed frames out ts g is c e = to (λ x. MeansAt x (ts ++ terminal_at terminal at ∷ [])) (opens {at = at} terminal operator is c) (same_Some _ _ e)
 begun_means None terminal at allowed frames out ts g is c e = prefixed_means (operator_in Before terminal) terminal at allowed frames out ts g refl c e
 
 -- a terminal that begins an operand
 begin_means : (terminal : PlainTerminal) (at allowed : ℕ) (frames : List PlainFrame) (out : List PlainItem) (ts : List PlacedTerminal) (g : PlainState)
     → Context frames allowed ts out → begin terminal at allowed frames out ≡ Some g → MeansAt g (ts ++ terminal_at terminal at ∷ [])
 unfolding written
-begin_means (terminal.Name n) at allowed frames out ts g c e = to (λ x. MeansAt x (ts ++ terminal_at (terminal.Name n) at ∷ [])) (named c) (Some_inj _ _ e)
+begin_means (terminal.Name n) at allowed frames out ts g c e = to (λ x. MeansAt x (ts ++ terminal_at (terminal.Name n) at ∷ [])) (named c) (same_Some _ _ e)
 begin_means (terminal.Const v) at allowed frames out ts g c e =
-    to (λ x. MeansAt x (ts ++ terminal_at (terminal.Const v) at ∷ [])) (holds (has {level = 12} c (context_most c) (Grammar.spells_const {at = at} {v = v}))) (Some_inj _ _ e)
-begin_means terminal.If at allowed frames out ts g c e = to (λ x. MeansAt x (ts ++ terminal_at terminal.If at ∷ [])) (awaits (in_test {at = at} c)) (Some_inj _ _ e)
-begin_means terminal.Open at allowed frames out ts g c e = to (λ x. MeansAt x (ts ++ terminal_at terminal.Open at ∷ [])) (awaits (in_open at c)) (Some_inj _ _ e)
+    to (λ x. MeansAt x (ts ++ terminal_at (terminal.Const v) at ∷ [])) (holds (has {level = 12} c (context_most c) (Grammar.spells_const {at = at} {v = v}))) (same_Some _ _ e)
+begin_means terminal.If at allowed frames out ts g c e = to (λ x. MeansAt x (ts ++ terminal_at terminal.If at ∷ [])) (awaits (in_test {at = at} c)) (same_Some _ _ e)
+begin_means terminal.Open at allowed frames out ts g c e = to (λ x. MeansAt x (ts ++ terminal_at terminal.Open at ∷ [])) (awaits (in_open at c)) (same_Some _ _ e)
 begin_means terminal at allowed frames out ts g c e = begun_means (operator_in Called terminal) terminal at allowed frames out ts g refl c e
 
 named_has : (place : ℕ) (n : List ℕ) {allowed : ℕ} {frames : List PlainFrame} {out : List PlainItem} {ts : List PlacedTerminal} → Context frames allowed ts out
@@ -362,7 +352,7 @@ named_has place n c = has {level = 12} c (context_most c) (Grammar.spells_name {
 named_means : (next : PlainTerminal) (at place : ℕ) (n : List ℕ) (allowed : ℕ) (frames : List PlainFrame) (out : List PlainItem) (ts : List PlacedTerminal) (g : PlainState)
     → Context frames allowed ts out → step_named next at place n allowed frames out ≡ Some g → MeansAt g ((ts ++ terminal_at (terminal.Name n) place ∷ []) ++ terminal_at next at ∷ [])
 named_means terminal.Open at place n allowed frames out ts g c e =
-    to (λ x. MeansAt x ((ts ++ terminal_at (terminal.Name n) place ∷ []) ++ terminal_at terminal.Open at ∷ [])) (awaits (along (simp append_assoc) (in_first {at = place} {n = n} at c))) (Some_inj _ _ e)
+    to (λ x. MeansAt x ((ts ++ terminal_at (terminal.Name n) place ∷ []) ++ terminal_at terminal.Open at ∷ [])) (awaits (along (simp append_assoc) (in_first {at = place} {n = n} at c))) (same_Some _ _ e)
 named_means terminal at place n allowed frames out ts g c e = settle_means terminal at 12 allowed frames (out ++ item.Name place n ∷ []) _ g (named_has _ _ c) e
 
 heads_means : (next : PlainTerminal) (at block : ℕ) (frames : List PlainFrame) (out : List PlainItem) (pre xs ds : List PlacedTerminal) (x : PlainTree) (all : PlainDefs) (g : PlainState)
@@ -370,28 +360,28 @@ heads_means : (next : PlainTerminal) (at block : ℕ) (frames : List PlainFrame)
     → MeansAt g ((pre ++ (xs ++ terminal_at terminal.Where block ∷ ds)) ++ terminal_at next at ∷ [])
 unfolding written
 heads_means (terminal.Name n) at block frames out pre xs ds x all g c sx sd e =
-    to (λ y. MeansAt y ((pre ++ (xs ++ terminal_at terminal.Where block ∷ ds)) ++ terminal_at (terminal.Name n) at ∷ [])) (means_along (simp append_assoc) (headed {block = block} {at = at} {n = n} c sx sd)) (Some_inj _ _ e)
+    to (λ y. MeansAt y ((pre ++ (xs ++ terminal_at terminal.Where block ∷ ds)) ++ terminal_at (terminal.Name n) at ∷ [])) (means_along (simp append_assoc) (headed {block = block} {at = at} {n = n} c sx sd)) (same_Some _ _ e)
 heads_means terminal.End at block frames out pre xs ds x all g c sx sd e =
     to (λ y. MeansAt y ((pre ++ (xs ++ terminal_at terminal.Where block ∷ ds)) ++ terminal_at terminal.End at ∷ []))
-    (holds (has_along (simp append_assoc) (has {level = 0} c zero-le (Grammar.spells_block {at = block} at zero-le sx sd)))) (Some_inj _ _ e)
+    (holds (has_along (simp append_assoc) (has {level = 0} c zero-le (Grammar.spells_block {at = block} at zero-le sx sd)))) (same_Some _ _ e)
 heads_means _ at block frames out pre xs ds x all g c sx sd e = cc
 
 headed_means : (next : PlainTerminal) (at block def_at : ℕ) (n : List ℕ) (frames : List PlainFrame) (out : List PlainItem) (pre xs ds : List PlacedTerminal) (x : PlainTree) (all : PlainDefs) (g : PlainState)
     → Context frames 0 pre out → Spells 0 xs x → SpellsDefs ds all → step_headed next block def_at n frames (written_defs (written out x ++ item.NoDefs ∷ []) all) ≡ Some g
     → MeansAt g ((pre ++ (xs ++ terminal_at terminal.Where block ∷ (ds ++ terminal_at (terminal.Name n) def_at ∷ []))) ++ terminal_at next at ∷ [])
 headed_means terminal.Equals at block def_at n frames out pre xs ds x all g c sx sd e =
-    to (λ y. MeansAt y ((pre ++ (xs ++ terminal_at terminal.Where block ∷ (ds ++ terminal_at (terminal.Name n) def_at ∷ []))) ++ terminal_at terminal.Equals at ∷ [])) (awaits (along (simp append_assoc) (in_right {block = block} {at = def_at} {n = n} at c sx sd))) (Some_inj _ _ e)
+    to (λ y. MeansAt y ((pre ++ (xs ++ terminal_at terminal.Where block ∷ (ds ++ terminal_at (terminal.Name n) def_at ∷ []))) ++ terminal_at terminal.Equals at ∷ [])) (awaits (along (simp append_assoc) (in_right {block = block} {at = def_at} {n = n} at c sx sd))) (same_Some _ _ e)
 headed_means terminal.Is at block def_at n frames out pre xs ds x all g c sx sd e =
-    to (λ y. MeansAt y ((pre ++ (xs ++ terminal_at terminal.Where block ∷ (ds ++ terminal_at (terminal.Name n) def_at ∷ []))) ++ terminal_at terminal.Is at ∷ [])) (means_along (simp append_assoc) (frozen {block = block} {at = def_at} {n = n} at c sx sd)) (Some_inj _ _ e)
+    to (λ y. MeansAt y ((pre ++ (xs ++ terminal_at terminal.Where block ∷ (ds ++ terminal_at (terminal.Name n) def_at ∷ []))) ++ terminal_at terminal.Is at ∷ [])) (means_along (simp append_assoc) (frozen {block = block} {at = def_at} {n = n} at c sx sd)) (same_Some _ _ e)
 headed_means terminal.Open at block def_at n frames out pre xs ds x all g c sx sd e =
-    to (λ y. MeansAt y ((pre ++ (xs ++ terminal_at terminal.Where block ∷ (ds ++ terminal_at (terminal.Name n) def_at ∷ []))) ++ terminal_at terminal.Open at ∷ [])) (means_along (simp append_assoc) (no_names_yet {block = block} {at = def_at} {n = n} at c sx sd)) (Some_inj _ _ e)
+    to (λ y. MeansAt y ((pre ++ (xs ++ terminal_at terminal.Where block ∷ (ds ++ terminal_at (terminal.Name n) def_at ∷ []))) ++ terminal_at terminal.Open at ∷ [])) (means_along (simp append_assoc) (no_names_yet {block = block} {at = def_at} {n = n} at c sx sd)) (same_Some _ _ e)
 headed_means _ at block def_at n frames out pre xs ds x all g c sx sd e = cc
 
 frozen_means : (next : PlainTerminal) (at block def_at : ℕ) (n : List ℕ) (is_at : ℕ) (frames : List PlainFrame) (out : List PlainItem) (pre xs ds : List PlacedTerminal) (x : PlainTree) (all : PlainDefs) (g : PlainState)
     → Context frames 0 pre out → Spells 0 xs x → SpellsDefs ds all → step_frozen next block def_at n frames (written_defs (written out x ++ item.NoDefs ∷ []) all) ≡ Some g
     → MeansAt g ((pre ++ (xs ++ terminal_at terminal.Where block ∷ (ds ++ terminal_at (terminal.Name n) def_at ∷ terminal_at terminal.Is is_at ∷ []))) ++ terminal_at next at ∷ [])
 frozen_means terminal.Current at block def_at n is_at frames out pre xs ds x all g c sx sd e =
-    to (λ y. MeansAt y ((pre ++ (xs ++ terminal_at terminal.Where block ∷ (ds ++ terminal_at (terminal.Name n) def_at ∷ terminal_at terminal.Is is_at ∷ []))) ++ terminal_at terminal.Current at ∷ [])) (awaits (along (simp append_assoc) (in_current {block = block} {at = def_at} {n = n} is_at at c sx sd))) (Some_inj _ _ e)
+    to (λ y. MeansAt y ((pre ++ (xs ++ terminal_at terminal.Where block ∷ (ds ++ terminal_at (terminal.Name n) def_at ∷ terminal_at terminal.Is is_at ∷ []))) ++ terminal_at terminal.Current at ∷ [])) (awaits (along (simp append_assoc) (in_current {block = block} {at = def_at} {n = n} is_at at c sx sd))) (same_Some _ _ e)
 frozen_means _ at block def_at n is_at frames out pre xs ds x all g c sx sd e = cc
 
 first_name_means : (next : PlainTerminal) (at block def_at : ℕ) (n : List ℕ) (open_at : ℕ) (frames : List PlainFrame) (out : List PlainItem) (pre xs ds : List PlacedTerminal) (x : PlainTree) (all : PlainDefs) (g : PlainState)
@@ -399,7 +389,7 @@ first_name_means : (next : PlainTerminal) (at block def_at : ℕ) (n : List ℕ)
     → MeansAt g ((pre ++ (xs ++ terminal_at terminal.Where block ∷ (ds ++ terminal_at (terminal.Name n) def_at ∷ terminal_at terminal.Open open_at ∷ []))) ++ terminal_at next at ∷ [])
 first_name_means (terminal.Name name) at block def_at n open_at frames out pre xs ds x all g c sx sd e =
     to (λ y. MeansAt y ((pre ++ (xs ++ terminal_at terminal.Where block ∷ (ds ++ terminal_at (terminal.Name n) def_at ∷ terminal_at terminal.Open open_at ∷ []))) ++ terminal_at (terminal.Name name) at ∷ []))
-    (means_along (simp append_assoc) (has_names {block = block} {at = def_at} {n = n} open_at c sx sd (Grammar.spells_first_name {at = at} {n = name}))) (Some_inj _ _ e)
+    (means_along (simp append_assoc) (has_names {block = block} {at = def_at} {n = n} open_at c sx sd (Grammar.spells_first_name {at = at} {n = name}))) (same_Some _ _ e)
 first_name_means _ at block def_at n open_at frames out pre xs ds x all g c sx sd e = cc
 
 next_name_means : (next : PlainTerminal) (at block def_at : ℕ) (n : List ℕ) (open_at comma_at : ℕ) (frames : List PlainFrame) (out : List PlainItem) (pre xs ds ns : List PlacedTerminal) (x : PlainTree) (all : PlainDefs) (parameters : List Parameter) (g : PlainState)
@@ -408,29 +398,29 @@ next_name_means : (next : PlainTerminal) (at block def_at : ℕ) (n : List ℕ) 
 next_name_means (terminal.Name name) at block def_at n open_at comma_at frames out pre xs ds ns x all parameters g c sx sd sn e =
     to (λ y. MeansAt y ((pre ++ (xs ++ terminal_at terminal.Where block ∷ (ds ++ terminal_at (terminal.Name n) def_at ∷ terminal_at terminal.Open open_at ∷ (ns ++ terminal_at terminal.Comma comma_at ∷ [])))) ++ terminal_at (terminal.Name name) at ∷ []))
     (means_along (simp append_assoc)
-    (means_out (has_names {block = block} {at = def_at} {n = n} open_at c sx sd (Grammar.spells_more_names comma_at at name sn)) (with_parameters-and (written_defs (written out x ++ item.NoDefs ∷ []) all ++ item.NoNames ∷ []) parameters at name))) (Some_inj _ _ e)
+    (means_out (has_names {block = block} {at = def_at} {n = n} open_at c sx sd (Grammar.spells_more_names comma_at at name sn)) (with_parameters-and (written_defs (written out x ++ item.NoDefs ∷ []) all ++ item.NoNames ∷ []) parameters at name))) (same_Some _ _ e)
 next_name_means _ at block def_at n open_at comma_at frames out pre xs ds ns x all parameters g c sx sd sn e = cc
 
 listed_means : (next : PlainTerminal) (at block def_at : ℕ) (n : List ℕ) (open_at : ℕ) (frames : List PlainFrame) (out : List PlainItem) (pre xs ds ns : List PlacedTerminal) (x : PlainTree) (all : PlainDefs) (parameters : List Parameter) (g : PlainState)
     → Context frames 0 pre out → Spells 0 xs x → SpellsDefs ds all → SpellsNames ns parameters → step_listed next block def_at n frames (with_parameters (written_defs (written out x ++ item.NoDefs ∷ []) all ++ item.NoNames ∷ []) parameters) ≡ Some g
     → MeansAt g ((pre ++ (xs ++ terminal_at terminal.Where block ∷ (ds ++ terminal_at (terminal.Name n) def_at ∷ terminal_at terminal.Open open_at ∷ ns))) ++ terminal_at next at ∷ [])
 listed_means terminal.Comma at block def_at n open_at frames out pre xs ds ns x all parameters g c sx sd sn e =
-    to (λ y. MeansAt y ((pre ++ (xs ++ terminal_at terminal.Where block ∷ (ds ++ terminal_at (terminal.Name n) def_at ∷ terminal_at terminal.Open open_at ∷ ns))) ++ terminal_at terminal.Comma at ∷ [])) (means_along (simp append_assoc) (more_names {block = block} {at = def_at} {n = n} open_at at c sx sd sn)) (Some_inj _ _ e)
+    to (λ y. MeansAt y ((pre ++ (xs ++ terminal_at terminal.Where block ∷ (ds ++ terminal_at (terminal.Name n) def_at ∷ terminal_at terminal.Open open_at ∷ ns))) ++ terminal_at terminal.Comma at ∷ [])) (means_along (simp append_assoc) (more_names {block = block} {at = def_at} {n = n} open_at at c sx sd sn)) (same_Some _ _ e)
 listed_means terminal.Close at block def_at n open_at frames out pre xs ds ns x all parameters g c sx sd sn e =
-    to (λ y. MeansAt y ((pre ++ (xs ++ terminal_at terminal.Where block ∷ (ds ++ terminal_at (terminal.Name n) def_at ∷ terminal_at terminal.Open open_at ∷ ns))) ++ terminal_at terminal.Close at ∷ [])) (means_along (simp append_assoc) (is_ready {block = block} {at = def_at} {n = n} open_at at c sx sd sn)) (Some_inj _ _ e)
+    to (λ y. MeansAt y ((pre ++ (xs ++ terminal_at terminal.Where block ∷ (ds ++ terminal_at (terminal.Name n) def_at ∷ terminal_at terminal.Open open_at ∷ ns))) ++ terminal_at terminal.Close at ∷ [])) (means_along (simp append_assoc) (is_ready {block = block} {at = def_at} {n = n} open_at at c sx sd sn)) (same_Some _ _ e)
 listed_means _ at block def_at n open_at frames out pre xs ds ns x all parameters g c sx sd sn e = cc
 
 ready_means : (next : PlainTerminal) (at block def_at : ℕ) (n : List ℕ) (open_at close_at : ℕ) (frames : List PlainFrame) (out : List PlainItem) (pre xs ds ns : List PlacedTerminal) (x : PlainTree) (all : PlainDefs) (parameters : List Parameter) (g : PlainState)
     → Context frames 0 pre out → Spells 0 xs x → SpellsDefs ds all → SpellsNames ns parameters → step_ready next block def_at n frames (with_parameters (written_defs (written out x ++ item.NoDefs ∷ []) all ++ item.NoNames ∷ []) parameters) ≡ Some g
     → MeansAt g ((pre ++ (xs ++ terminal_at terminal.Where block ∷ (ds ++ terminal_at (terminal.Name n) def_at ∷ terminal_at terminal.Open open_at ∷ (ns ++ terminal_at terminal.Close close_at ∷ [])))) ++ terminal_at next at ∷ [])
 ready_means terminal.Equals at block def_at n open_at close_at frames out pre xs ds ns x all parameters g c sx sd sn e =
-    to (λ y. MeansAt y ((pre ++ (xs ++ terminal_at terminal.Where block ∷ (ds ++ terminal_at (terminal.Name n) def_at ∷ terminal_at terminal.Open open_at ∷ (ns ++ terminal_at terminal.Close close_at ∷ [])))) ++ terminal_at terminal.Equals at ∷ [])) (awaits (along (simp append_assoc) (in_function {block = block} {at = def_at} {n = n} open_at close_at at c sx sd sn))) (Some_inj _ _ e)
+    to (λ y. MeansAt y ((pre ++ (xs ++ terminal_at terminal.Where block ∷ (ds ++ terminal_at (terminal.Name n) def_at ∷ terminal_at terminal.Open open_at ∷ (ns ++ terminal_at terminal.Close close_at ∷ [])))) ++ terminal_at terminal.Equals at ∷ [])) (awaits (along (simp append_assoc) (in_function {block = block} {at = def_at} {n = n} open_at close_at at c sx sd sn))) (same_Some _ _ e)
 ready_means _ at block def_at n open_at close_at frames out pre xs ds ns x all parameters g c sx sd sn e = cc
 
 opens_means : (next : PlainTerminal) (at place allowed : ℕ) (word : PlainTerminal) (operator : Operator) (frames : List PlainFrame) (out : List PlainItem) (ts : List PlacedTerminal) (g : PlainState)
     → operator_in Called word ≡ Some operator → Context frames allowed ts out → step_opens next operator place allowed frames out ≡ Some g → MeansAt g ((ts ++ terminal_at word place ∷ []) ++ terminal_at next at ∷ [])
 opens_means terminal.Open at place allowed word operator frames out ts g is c e =
-    to (λ x. MeansAt x ((ts ++ terminal_at word place ∷ []) ++ terminal_at terminal.Open at ∷ [])) (awaits (along (simp append_assoc) (in_part {at = place} at word {operator = operator} is c))) (Some_inj _ _ e)
+    to (λ x. MeansAt x ((ts ++ terminal_at word place ∷ []) ++ terminal_at terminal.Open at ∷ [])) (awaits (along (simp append_assoc) (in_part {at = place} at word {operator = operator} is c))) (same_Some _ _ e)
 opens_means _ at place allowed word operator frames out ts g is c e = cc
 
 -- a step keeps the meaning
@@ -449,7 +439,7 @@ step_means f frames _ _ terminal at g (has_names open_at c sx sd sn) e = listed_
 step_means f frames _ _ terminal at g (is_ready open_at close_at c sx sd sn) e = ready_means terminal at _ _ _ open_at close_at frames _ _ _ _ _ _ _ _ g c sx sd sn e
 
 pub feeds_mean : (ts : List PlacedTerminal) (g h : PlainState) (pre : List PlacedTerminal) → MeansAt g pre → feeds g ts ≡ Some h → MeansAt h (pre ++ ts)
-feeds_mean [] g h pre m e = to (λ x. MeansAt x (pre ++ [])) (subst (MeansAt g) (sym (append-nil pre)) m) (Some_inj _ _ e)
+feeds_mean [] g h pre m e = to (λ x. MeansAt x (pre ++ [])) (subst (MeansAt g) (sym (append-nil pre)) m) (same_Some _ _ e)
 feeds_mean (t ∷ ts) g h pre m e =
     onto (step g t.terminal t.at) refl e (λ i s f. subst (MeansAt h) (simp append_assoc) (feeds_mean ts i h (pre ++ t ∷ []) (step_means g.focus g.frames g.out pre t.terminal t.at i m s) f))
   where
@@ -466,7 +456,7 @@ abbrev pub Spelled : List PlacedTerminal → List PlainItem → Type 0
 Spelled ts out = (t : PlainTree) × Spells 0 ts t × (out ≡ written [] t)
 
 inside_means : (frames : List PlainFrame) (o out : List PlainItem) (ts : List PlacedTerminal) → Inside frames o ts → if_empty frames o ≡ Some out → Spelled ts out
-inside_means [] o out ts (inside {x = x} outermost s) e = (x, s, sym (Some_inj _ _ e))
+inside_means [] o out ts (inside {x = x} outermost s) e = (x, s, sym (same_Some _ _ e))
 inside_means (f ∷ frames) o out ts i e = cc
 
 has_means : (level allowed : ℕ) (frames : List PlainFrame) (o out : List PlainItem) (ts : List PlacedTerminal) → Has level allowed frames o ts → finished frames o ≡ Some out → Spelled ts out

@@ -3,8 +3,9 @@ use Rattle.std.proofs.Common.{◌≡◌, ℕ, suc, ◌+◌, ◌-◌, ◌<◌, �
 use Rattle.std.specs.Prelude.{slice_range}
 use Rattle.std.proofs.lemmas.Bool.{ltb-true, and_parts}
 use Rattle.std.proofs.lemmas.List.{take_more, map-append}
+use Rattle.lucid_lemmas.proofs.Lists.{same_between}
 use Rattle.lucid_value.specs.Plain.{PlainValue, int, word as word_value, text, list, is_text, is_light}
-use Rattle.lucid_value.specs.Reading.{number_of, Denotes, Reads, ReadsLine, ReadsAsNone}
+use Rattle.lucid_value.specs.Reading.{number_of, Reads, ReadsLine, ReadsAsNone}
 use Rattle.lucid_value.specs.Reading
 use Rattle.lucid_value.specs.Laws.{OneReading, OneLineReading}
 use Rattle.lucid_scan.specs.declared.token.TokenKind.TheVariants as kind
@@ -123,23 +124,12 @@ pub terminals_length : {source : List ℕ} {ts : List Token} {ws : List PlacedTe
 terminals_length Terminals.terminals_none = refl
 terminals_length (Terminals.terminals_next t s k more) = ap suc (terminals_length more)
 
-snoc-one : (xs ys : List ℕ) (b : ℕ) → xs ++ b ∷ [] ≡ ys ++ b ∷ [] → xs ≡ ys
-snoc-one [] [] b e = refl
-snoc-one [] (y ∷ []) b e = cc
-snoc-one [] (y ∷ (z ∷ ys)) b e = cc
-snoc-one (x ∷ []) [] b e = cc
-snoc-one (x ∷ (z ∷ xs)) [] b e = cc
-snoc-one (x ∷ xs) (y ∷ ys) b e = let rest : xs ++ b ∷ [] ≡ ys ++ b ∷ [] = cc in let same : x ≡ y = cc in ap (λ z. z ∷ xs) same ∙ ap (λ l. y ∷ l) (snoc-one xs ys b rest)
-
-inside-one : (xs ys : List ℕ) (a b : ℕ) → a ∷ (xs ++ b ∷ []) ≡ a ∷ (ys ++ b ∷ []) → xs ≡ ys
-inside-one xs ys a b e = let rest : xs ++ b ∷ [] ≡ ys ++ b ∷ [] = cc in snoc-one xs ys b rest
-
 -- a token stands for one terminal
 stands-one : OneReading → (k : TokenKind) (bytes : List ℕ) (one other : PlainTerminal) → StandsFor k bytes one → StandsFor k bytes other → one ≡ other
 stands-one law kind.Name bytes one other g h = g ∙ sym h
 stands-one law kind.Int bytes one other g h = g ∙ sym h
-stands-one law kind.Quoted bytes one other g h = g.2 ∙ ap (λ l. terminal.Const (word_value l)) (inside-one g.0 h.0 34 34 (sym g.1 ∙ h.1)) ∙ sym h.2
-stands-one law kind.Text bytes one other g h = g.2 ∙ ap (λ l. terminal.Const (text l)) (inside-one g.0 h.0 96 39 (sym g.1 ∙ h.1)) ∙ sym h.2
+stands-one law kind.Quoted bytes one other g h = g.2 ∙ ap (λ l. terminal.Const (word_value l)) (same_between g.0 h.0 34 34 (sym g.1 ∙ h.1)) ∙ sym h.2
+stands-one law kind.Text bytes one other g h = g.2 ∙ ap (λ l. terminal.Const (text l)) (same_between g.0 h.0 96 39 (sym g.1 ∙ h.1)) ∙ sym h.2
 stands-one law kind.ListText bytes one other g h = g.2 ∙ ap terminal.Const (law bytes (list g.0) (list h.0) g.1 h.1) ∙ sym h.2
 stands-one law kind.Fixed bytes one other g h = let same : ◌≡◌ {A = Option PlainTerminal} (Some one) (Some other) = sym g ∙ h in cc
 

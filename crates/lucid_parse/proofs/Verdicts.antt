@@ -1,17 +1,13 @@
 -- What tokens spell is well made; they spell a tree or have one refusal, and not both.
 use Rattle.std.proofs.Common.{◌≡◌, ℕ, ◌≤◌, ◌<◌, List, length, refl, ap, subst, arith}
-use Rattle.std.specs.Prelude.{◌≢◌}
 use Rattle.std.proofs.lemmas.List.Elements.{All-contains}
 use Rattle.lucid_tree.specs.Tree.{PlainTree}
 use Rattle.lucid_tree.specs.WellMade.{depth}
-use Rattle.lucid_scan.specs.declared.token.Token.{Token}
 use Rattle.lucid_scan.specs.Laws.{TokensAreInOrder, TokensAreFew}
-use Rattle.lucid_parse.specs.declared.refusal.ParseRefusal.{ParseRefusal}
 use Rattle.lucid_parse.specs.declared.refusal.ParseRefusal.TheVariants as refusal
 use Rattle.lucid_parse.specs.Grammar.{PlacedTerminal, Spells}
 use Rattle.lucid_parse.specs.Depth.{at_depth, IsLeast}
 use Rattle.lucid_parse.specs.Verdict.{IsFault}
-use Rattle.lucid_parse.specs.Spelled.{SpellsTree, IsRefused}
 use Rattle.lucid_parse.specs.Laws.{TerminalsSpellOneTree, FaultIsUnique, TerminalsAreUnique, SpelledTreesAreWellMade, SpelledPlacesAreFew, TokensHaveOneRefusal, SpelledTokensAreNotRefused}
 use Rattle.lucid_parse.proofs.WellMade.{few, well_made}
 use Rattle.lucid_parse.proofs.Texts.{terminals_rise, terminals_length}
@@ -23,7 +19,7 @@ trees_well_made in_order few_tokens source tokens tree short listed spelled =
 pub places_few : TokensAreFew → SpelledPlacesAreFew
 places_few few_tokens source tokens tree listed spelled = omega (arith, few_tokens source tokens listed, terminals_length spelled.1, few spelled.2)
 
-least_once : (places : List ℕ) (at other : ℕ) → IsLeast places at → IsLeast places other → at ≡ other
+pub least_once : (places : List ℕ) (at other : ℕ) → IsLeast places at → IsLeast places other → at ≡ other
 least_once places at other x y =
     let there : at ≤ other = All-contains (λ p. at ≤ p) places other x.least y.among in
     let back : other ≤ at = All-contains (λ p. other ≤ p) places at y.least x.among in omega (arith, there, back)

@@ -1,7 +1,7 @@
 -- Trees that are spelled are well made: their operators and functions are shaped, and their places are places of terminals, each once.
-use Rattle.std.proofs.Common.{◌≡◌, ℕ, suc, ◌+◌, ◌≤◌, ◌<◌, List, [], ◌∷◌, ◌++◌, length, Bool, true, false, Some, cond, ◌&&◌, inl, inr, refl, sym, ◌∙◌, ap, arith, length-append}
+use Rattle.std.proofs.Common.{◌≡◌, ℕ, suc, ◌+◌, ◌≤◌, ◌<◌, List, [], ◌∷◌, ◌++◌, length, Bool, true, false, cond, inl, inr, refl, sym, ◌∙◌, ap, arith, length-append}
 use Rattle.std.specs.Prelude.{nat_eq}
-use Rattle.std.proofs.lemmas.Bool.{eq-eqb, eqb-true, lt-ltb}
+use Rattle.std.proofs.lemmas.Bool.{eq-eqb, eqb-true, lt-ltb, and_from, and_parts}
 use Rattle.lucid_tree.specs.Tree.{PlainTree, PlainTrees, no_trees, tree, PlainDefs, no_defs, defines, defines_function, defines_current}
 use Rattle.lucid_tree.specs.Size.{count}
 use Rattle.lucid_tree.specs.WellMade.{places, places_in, places_in_defs, fits_arity, is_shaped, are_shaped, defs_are_shaped, In, AllDiffer, IsWellMade}
@@ -20,21 +20,9 @@ fits-operator (Data op) args e = eq-eqb (count args) (arity op) e
 fits-operator (Stream Fby) args e = refl
 fits-operator (Stream _) args e = refl
 
-both : (a b : Bool) → a ≡ true → b ≡ true → (a && b) ≡ true
-both true b e h = h
-both false b e h = cc
-
-first : (a b : Bool) → (a && b) ≡ true → a ≡ true
-first true b h = refl
-first false b h = cc
-
-second : (a b : Bool) → (a && b) ≡ true → b ≡ true
-second true b h = h
-second false b h = cc
-
 are_shaped-and : (ts : PlainTrees) (t : PlainTree) → are_shaped ts ≡ true → is_shaped t ≡ true → are_shaped (trees_and ts t) ≡ true
-are_shaped-and no_trees t h s = both _ _ s refl
-are_shaped-and (tree e ts) t h s = both _ _ (first _ _ h) (are_shaped-and ts t (second _ _ h) s)
+are_shaped-and no_trees t h s = and_from _ _ s refl
+are_shaped-and (tree e ts) t h s = and_from _ _ (and_parts _ _ h).0 (are_shaped-and ts t (and_parts _ _ h).1 s)
 
 -- a function has a parameter
 abbrev HasParameter : Defined → Type 0
@@ -47,16 +35,16 @@ length-places_of [] = refl
 length-places_of (p ∷ ps) = ap suc (length-places_of ps)
 
 def_is_shaped : (at : ℕ) (n : List ℕ) (h : Defined) (t : PlainTree) → HasParameter h → is_shaped t ≡ true → defs_are_shaped (def_before at n h t no_defs) ≡ true
-def_is_shaped at n Plain t k s = both _ _ s refl
+def_is_shaped at n Plain t k s = and_from _ _ s refl
 def_is_shaped at n (Function ps) t k s =
-    both _ _ (both _ _ (both _ _ (lt-ltb 0 (length (names_of ps)) k) (eq-eqb (length (places_of ps)) (length (names_of ps)) (length-places_of ps))) s) refl
-def_is_shaped at n Current t k s = both _ _ s refl
+    and_from _ _ (and_from _ _ (and_from _ _ (lt-ltb 0 (length (names_of ps)) k) (eq-eqb (length (places_of ps)) (length (names_of ps)) (length-places_of ps))) s) refl
+def_is_shaped at n Current t k s = and_from _ _ s refl
 
 defs_are_shaped-and : (ds : PlainDefs) (at : ℕ) (n : List ℕ) (h : Defined) (t : PlainTree) → HasParameter h → defs_are_shaped ds ≡ true → is_shaped t ≡ true → defs_are_shaped (defs_and ds at n h t) ≡ true
 defs_are_shaped-and no_defs at n h t k d s = def_is_shaped at n h t k s
-defs_are_shaped-and (defines a m e ds) at n h t k d s = both _ _ (first _ _ d) (defs_are_shaped-and ds at n h t k (second _ _ d) s)
-defs_are_shaped-and (defines_function a m ns ats e ds) at n h t k d s = both _ _ (first _ _ d) (defs_are_shaped-and ds at n h t k (second _ _ d) s)
-defs_are_shaped-and (defines_current a m e ds) at n h t k d s = both _ _ (first _ _ d) (defs_are_shaped-and ds at n h t k (second _ _ d) s)
+defs_are_shaped-and (defines a m e ds) at n h t k d s = and_from _ _ (and_parts _ _ d).0 (defs_are_shaped-and ds at n h t k (and_parts _ _ d).1 s)
+defs_are_shaped-and (defines_function a m ns ats e ds) at n h t k d s = and_from _ _ (and_parts _ _ d).0 (defs_are_shaped-and ds at n h t k (and_parts _ _ d).1 s)
+defs_are_shaped-and (defines_current a m e ds) at n h t k d s = and_from _ _ (and_parts _ _ d).0 (defs_are_shaped-and ds at n h t k (and_parts _ _ d).1 s)
 
 names_of-and : (ps qs : List Parameter) → length (names_of (ps ++ qs)) ≡ length (names_of ps) + length (names_of qs)
 names_of-and [] qs = omega arith
@@ -70,16 +58,16 @@ mutual
   pub shaped : {level : ℕ} {ws : List PlacedTerminal} {t : PlainTree} → Spells level ws t → is_shaped t ≡ true
   shaped Grammar.spells_const = refl
   shaped Grammar.spells_name = refl
-  shaped (Grammar.spells_infix {x = x} {y = y} terminal operator is low sx sy) = both _ _ (fits-operator operator (tree x (tree y no_trees)) (sym (infix_arity terminal operator is))) (both _ _ (shaped sx) (both _ _ (shaped sy) refl))
-  shaped (Grammar.spells_prefix {x = x} terminal operator is low sx) = both _ _ (fits-operator operator (tree x no_trees) (sym (prefix_arity terminal operator is))) (both _ _ (shaped sx) refl)
+  shaped (Grammar.spells_infix {x = x} {y = y} terminal operator is low sx sy) = and_from _ _ (fits-operator operator (tree x (tree y no_trees)) (sym (infix_arity terminal operator is))) (and_from _ _ (shaped sx) (and_from _ _ (shaped sy) refl))
+  shaped (Grammar.spells_prefix {x = x} terminal operator is low sx) = and_from _ _ (fits-operator operator (tree x no_trees) (sym (prefix_arity terminal operator is))) (and_from _ _ (shaped sx) refl)
   shaped (Grammar.spells_inner close_at sx) = shaped sx
-  shaped (Grammar.spells_if then_at else_at fi_at sx sy sz) = both _ _ (shaped sx) (both _ _ (shaped sy) (both _ _ (shaped sz) refl))
+  shaped (Grammar.spells_if then_at else_at fi_at sx sy sz) = and_from _ _ (shaped sx) (and_from _ _ (shaped sy) (and_from _ _ (shaped sz) refl))
   shaped (Grammar.spells_call close_at sa) = shaped_args sa
-  shaped (Grammar.spells_called close_at terminal operator {args = args} is all sa) = both _ _ (fits-operator operator args all) (shaped_args sa)
-  shaped (Grammar.spells_block end_at low sx sd) = both _ _ (shaped sx) (shaped_defs sd)
+  shaped (Grammar.spells_called close_at terminal operator {args = args} is all sa) = and_from _ _ (fits-operator operator args all) (shaped_args sa)
+  shaped (Grammar.spells_block end_at low sx sd) = and_from _ _ (shaped sx) (shaped_defs sd)
 
   shaped_args : {ws : List PlacedTerminal} {args : PlainTrees} → SpellsArgs ws args → are_shaped args ≡ true
-  shaped_args (Grammar.spells_one sx) = both _ _ (shaped sx) refl
+  shaped_args (Grammar.spells_one sx) = and_from _ _ (shaped sx) refl
   shaped_args (Grammar.spells_more comma_at {all = all} {y = y} sa sy) = are_shaped-and all y (shaped_args sa) (shaped sy)
 
   shaped_defs : {ws : List PlacedTerminal} {all : PlainDefs} → SpellsDefs ws all → defs_are_shaped all ≡ true

@@ -1,9 +1,10 @@
 -- A search, one time further.
 use Rattle.std.proofs.Common.{◌≡◌, ◌≢◌, ℕ, zero, suc, ◌-◌, ◌<◌, ◌+◌, List, [], Option, Some, None, true, false, refl, ap, ◌∙◌, arith, sub-one, add-one}
 use Rattle.lucid_value.specs.Plain.{PlainValue, int, truth, word, text, list, eod, fault}
+use Rattle.lucid_tree.proofs.Undone.{alone}
 use Rattle.lucid_plain.specs.declared.streams.Stream.{Stream}
 use Rattle.lucid_tree.specs.Tree.{PlainTree, tree, no_trees}
-use Rattle.lucid_tree.specs.Rows.{Plan, gives, single, by_test, gives_part, Reader, add_value, with_values, run, find_true, count_true}
+use Rattle.lucid_tree.specs.Rows.{Plan, single, by_test, gives_part, Reader, add_value, with_values, run, find_true, count_true}
 use Rattle.lucid_tree.specs.Env.{Env}
 use Rattle.lucid_tree.specs.Levels.{nothing_held, below}
 use Rattle.lucid_tree.specs.Meaning.{value, val, part_at as part_value}
@@ -26,10 +27,6 @@ tested (Some (text w)) a b r = refl
 tested (Some (list w)) a b r = refl
 tested (Some fault) a b r = refl
 
-valued : (o : Option PlainValue) (r : Reader (Option PlainValue)) → with_values (add_value o (Some [])) None (λ vs. run (single gives vs) r) ≡ o
-valued None r = refl
-valued (Some v) r = refl
-
 module _ (vs : List Stream) (m : ℕ) (x p : PlainTree) (env : Env) (s : ℕ) where
   abbrev reader : Reader (Option PlainValue)
   reader i u r = part_value m (below value (nothing_held (elements_of vs)) m) (tree x (tree p no_trees)) env i u r
@@ -40,7 +37,7 @@ module _ (vs : List Stream) (m : ℕ) (x p : PlainTree) (env : Env) (s : ℕ) wh
 
   step : (k j n : ℕ) → found_by vs m x p env (suc k) j n s ≡ by_turning (turn_of (val (elements_of vs) m p env j s)) (look_on k j n) (found_by vs m x p env k (suc j) n s)
   step k j zero =
-      tested (val (elements_of vs) m p env j s) (gives_part 0 j s) (find_true k (suc j) 0 s) reader ∙ ap (λ o. by_turning (turn_of (val (elements_of vs) m p env j s)) o (found_by vs m x p env k (suc j) 0 s)) (valued (val (elements_of vs) m x env j s) reader)
+      tested (val (elements_of vs) m p env j s) (gives_part 0 j s) (find_true k (suc j) 0 s) reader ∙ ap (λ o. by_turning (turn_of (val (elements_of vs) m p env j s)) o (found_by vs m x p env k (suc j) 0 s)) (alone (val (elements_of vs) m x env j s) reader)
   step k j (suc n) = tested (val (elements_of vs) m p env j s) (find_true k (suc j) n s) (find_true k (suc j) (suc n) s) reader
 
   step_at : (j n : ℕ) → j < m → found_by vs m x p env (m - j) j n s ≡ by_turning (turn_of (val (elements_of vs) m p env j s)) (look_on (m - (j + 1)) j n) (found_by vs m x p env (m - (j + 1)) (j + 1) n s)

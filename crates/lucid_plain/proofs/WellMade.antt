@@ -1,31 +1,10 @@
--- A tree that is well made has few nodes, and its operators have their numbers of arguments.
-use Rattle.std.proofs.Common.{◌≡◌, ◌≤◌, ◌++◌, length, true, ◌&&◌, nat_eq, nat_lt, arith}
+-- The operators of a tree that is well made have their numbers of arguments.
+use Rattle.std.proofs.Common.{◌≡◌, length, true, ◌&&◌, nat_eq, nat_lt, arith}
 use Rattle.std.proofs.lemmas.Bool.{and_parts}
 use Rattle.std.proofs.lemmas.Bool.Decides.{nat_tests}
-use Rattle.std.proofs.lemmas.List.{length-append}
 use Rattle.lucid_tree.specs.Tree.{Head, const, apply, choose, both, either, first, next, fby, whenever, asa, upon, attime, initial, succ, sby, atspace, PlainTree, form, name, call, block, PlainTrees, no_trees, tree, PlainDefs, no_defs, defines, defines_function, defines_current}
-use Rattle.lucid_tree.specs.Size.{nodes, nodes_in, nodes_in_defs}
-use Rattle.lucid_tree.specs.WellMade.{places, places_in, places_in_defs, fits_arity, is_shaped, are_shaped, defs_are_shaped}
+use Rattle.lucid_tree.specs.WellMade.{fits_arity, is_shaped, are_shaped, defs_are_shaped}
 use Rattle.lucid_plain.specs.Small.{FitsArity, Applies, AllApply, DefsApply}
-
--- each node has a place
-mutual
-  pub nodes_placed : (e : PlainTree) → nodes e ≤ length (places e)
-  nodes_placed (form at f es) = omega (arith, nodes_in_placed es)
-  nodes_placed (name at n) = omega arith
-  nodes_placed (call at n es) = omega (arith, nodes_in_placed es)
-  nodes_placed (block at e ds) = omega (arith, nodes_placed e, nodes_in_defs_placed ds, length-append (places e) (places_in_defs ds))
-
-  nodes_in_placed : (es : PlainTrees) → nodes_in es ≤ length (places_in es)
-  nodes_in_placed no_trees = omega arith
-  nodes_in_placed (tree e es) = omega (arith, nodes_placed e, nodes_in_placed es, length-append (places e) (places_in es))
-
-  nodes_in_defs_placed : (ds : PlainDefs) → nodes_in_defs ds ≤ length (places_in_defs ds)
-  nodes_in_defs_placed no_defs = omega arith
-  nodes_in_defs_placed (defines at x e ds) = omega (arith, nodes_placed e, nodes_in_defs_placed ds, length-append (places e) (places_in_defs ds))
-  nodes_in_defs_placed (defines_function at x ns ats e ds) =
-      omega (arith, nodes_placed e, nodes_in_defs_placed ds, length-append ats (places e), length-append (ats ++ places e) (places_in_defs ds))
-  nodes_in_defs_placed (defines_current at x e ds) = omega (arith, nodes_placed e, nodes_in_defs_placed ds, length-append (places e) (places_in_defs ds))
 
 fits : (f : Head) (es : PlainTrees) → fits_arity f es ≡ true → FitsArity f es
 fits (apply op n) es h = grind (arith, nat_tests)

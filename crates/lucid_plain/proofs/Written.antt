@@ -1,8 +1,7 @@
 -- What a run has written so far.
-use Rattle.std.proofs.Common.{◌≡◌, ℕ, ◌+◌, suc, ◌<◌, ◌≤◌, List, [], ◌++◌, length, Option, Some, sym, ◌∙◌, ap, subst, add-one, ◌-◌, ◌^◌, inl, inr, true, arith}
+use Rattle.std.proofs.Common.{◌≡◌, ℕ, ◌+◌, suc, ◌<◌, ◌≤◌, List, [], ◌++◌, length, Option, Some, sym, ◌∙◌, ap, subst, add-one, true, arith}
 use Rattle.std.specs.Prelude.{Vec}
 use Rattle.std.specs.Global.{Global}
-use Rattle.std.proofs.lemmas.Bool.{cases_lt}
 use Rattle.std.proofs.lemmas.List.{length-append}
 use Rattle.lucid_value.specs.Plain.{PlainValue, eod}
 use Rattle.lucid_tree.specs.Tree.{PlainTree}
@@ -10,16 +9,17 @@ use Rattle.lucid_tree.specs.Levels.{Elements}
 use Rattle.lucid_tree.specs.Env.{empty}
 use Rattle.lucid_tree.specs.Meaning.{val}
 use Rattle.lucid_tree.specs.Output.{line}
-use Rattle.lucid_ports.specs.Faults.{Rises}
 use Rattle.lucid_ports.specs.Writing.{with_front, with_all}
 use Rattle.lucid_ports.specs.declared.run.RunFault.{RunFault}
 use Rattle.lucid_ports.specs.declared.run.RunFault.TheVariants.{TooDeep, ReadFault, WriteFault, TooLarge, NoMemory}
 use Rattle.lucid_ports.specs.declared.run.Summary.{Summary}
+use Rattle.lucid_ports.proofs.WritingLemmas.{with_nothing, all_all, front_all}
+use Rattle.lucid_ports.proofs.FaultLemmas.{rises_from}
 use Rattle.lucid_plain.specs.declared.running.Line.{Line}
 use Rattle.lucid_plain.specs.declared.running.Line.TheVariants.{Bytes, End}
 use Rattle.lucid_plain.specs.Runs.{no_lines, one_more, Writes, WritesFront, EndsAt, Finishes, Stops}
 use Rattle.lucid_plain.specs.WritingLines.{HasLine, IsLineAt, FrontOf, StopsLine}
-use Rattle.lucid_plain.proofs.Pieces.{with_nothing, all-all, all-front, front-all}
+use Rattle.lucid_plain.proofs.Pieces.{all-front}
 
 -- no line is written yet
 pub writes_none : (b : Elements) (n : ℕ) (p : PlainTree) (old : Option (List ℕ)) → Writes b n p 0 old old
@@ -31,7 +31,7 @@ writes_more b n p k old mid new v before is some after =
     let next : Writes b n p (suc k) old new = record {
       bytes = before.bytes ++ line v;
       lines = one_more before.lines v is some;
-      written = after ∙ ap (with_all (line v)) before.written ∙ all-all before.bytes (line v) old;
+      written = after ∙ ap (with_all (line v)) before.written ∙ all_all before.bytes (line v) old;
     } in
     subst (λ j. Writes b n p j old new) (sym (add-one k)) next
 
@@ -64,18 +64,14 @@ front_of_next b n p k c old mid new v before within is some front = record {
   within = omega arith;
   front = length before.bytes + front.0;
   fits = omega (arith, front.1, length-append before.bytes (line v));
-  written = front.2 ∙ ap (with_front front.0 (line v)) before.written ∙ front-all front.0 before.bytes (line v) old;
+  written = front.2 ∙ ap (with_front front.0 (line v)) before.written ∙ front_all front.0 before.bytes (line v) old;
 }
-
--- a count that rises later rises
-pub rises_later : (f g h : ℕ) → f ≤ g → g ≤ h → Rises g h → Rises f h
-rises_later f g h i j rises low = elim (cases_lt g (2 ^ 64 - 1)) [ inl below ↦ omega (arith, rises below) | inr past ↦ omega arith ]
 
 -- a run that stops while it writes a line
 pub stops_in_line : (b : Elements) (n : ℕ) (p : PlainTree) (k c : ℕ) (old mid new : Option (List ℕ)) (f g h : ℕ) (bytes : List ℕ) (fault : RunFault)
     → Writes b n p k old mid → k < c → f ≤ g → g ≤ h → HasLine b n p k bytes → StopsLine bytes mid new g h fault → Stops b n p c old new f h fault
 stops_in_line b n p k c old mid new f g h bytes WriteFault before within i j has stops =
-    (front_of_next b n p k c old mid new has.v before within has.is has.goes_on (subst (λ piece. FrontOf piece mid new) has.shown stops.0), rises_later f g h i j stops.1)
+    (front_of_next b n p k c old mid new has.v before within has.is has.goes_on (subst (λ piece. FrontOf piece mid new) has.shown stops.0), rises_from f g h i j stops.1)
 stops_in_line b n p k c old mid new f g h bytes NoMemory before within i j has stops =
     front_of_next b n p k c old mid new has.v before within has.is has.goes_on (subst (λ piece. FrontOf piece mid new) has.shown stops)
 stops_in_line b n p k c old mid new f g h bytes (TooDeep t lost cleared) before within i j has stops = absurd stops

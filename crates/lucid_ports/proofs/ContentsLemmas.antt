@@ -1,14 +1,7 @@
 -- Bytes that are consumed one piece after another.
-use Rattle.std.proofs.Common.{◌≡◌, ℕ, ◌+◌, ◌<◌, ◌≤◌, List, [], ◌++◌, take, drop, length, Option, None, Some, IfSome, option_map, refl, sym, ap, subst, ◌∙◌, append_assoc, arith, length-drop, take_all}
-use Rattle.std.proofs.lemmas.List.{take-append-drop, take-take, drop-take, drop-drop}
+use Rattle.std.proofs.Common.{◌≡◌, ℕ, ◌+◌, ◌<◌, ◌≤◌, List, [], ◌++◌, take, drop, length, Option, None, Some, IfSome, option_map, refl, sym, ap, subst, ◌∙◌, append_assoc, arith, length-drop, take_all, take-add}
+use Rattle.std.proofs.lemmas.List.{drop-drop}
 use Rattle.lucid_ports.specs.World.{Contents, advanced}
-
--- the first n items, and then m more
-pub take-add : {X : Type 0} (n m : ℕ) (xs : List X) → take (n + m) xs ≡ take n xs ++ take m (drop n xs)
-take-add n m xs =
-    let front = take-take n (n + m) xs (omega arith) in
-    let back = drop-take n m xs in
-    cc (take-append-drop n (take (n + m) xs), front, back)
 
 pub advanced-advanced : (n m : ℕ) (c : Contents) → advanced m (advanced n c) ≡ advanced (n + m) c
 advanced-advanced n m c =

@@ -1,5 +1,5 @@
 -- Places in memory after a call.
-use Rattle.std.proofs.Common.{◌≡◌, ◌⊎◌, ◌↔◌, ℕ, ◌+◌, ◌-◌, ◌≤◌, List, [], length, take, Option, None, Some, Contains, Ok, IfSome, IsSomeAnd, inl, inr, sym, ap, subst, ◌∙◌, arith, le_refl, length-take-le, take_all}
+use Rattle.std.proofs.Common.{◌≡◌, ◌⊎◌, ◌↔◌, ℕ, ◌+◌, ◌-◌, ◌≤◌, List, [], length, take, Option, None, Some, Contains, Ok, IfSome, IsSomeAnd, inl, inr, sym, ap, subst, ◌∙◌, arith, le_refl, length-take-le, take_all, take-add}
 use Rattle.std.proofs.lemmas.List.{drop-drop, nil_from_length}
 use Rattle.std.specs.Io.{StartsWith}
 use denote.Ref.{Bor}
@@ -10,7 +10,6 @@ use Rattle.lucid_ports.specs.Files.{bytes_at}
 use Rattle.lucid_ports.specs.Memory.{fail_at, ShowsUpToFailure}
 use Rattle.lucid_ports.specs.MemoryView.{memory_place, read_to}
 use Rattle.lucid_ports.specs.World.{Contents, IsShown, IsConsumed, advanced}
-use Rattle.lucid_ports.proofs.ContentsLemmas.{take-add}
 
 advanced-read_to : (position n : ℕ) (bytes : List ℕ) → read_to (position + n) bytes ≡ advanced n (read_to position bytes)
 advanced-read_to position n bytes = cc (take-add position n bytes, drop-drop n position bytes)

@@ -1,7 +1,7 @@
--- A piece that is written in parts.
-use Rattle.std.proofs.Common.{◌≡◌, ℕ, ◌+◌, List, ◌++◌, take, drop, Option, None, Some, refl, sym, ap, ◌∙◌, append_assoc}
-use Rattle.lucid_ports.specs.Writing.{with_front}
-use Rattle.lucid_ports.proofs.ContentsLemmas.{take-add}
+-- A piece that is written in parts, and pieces one behind the other.
+use Rattle.std.proofs.Common.{◌≡◌, ℕ, ◌+◌, List, ◌++◌, take, drop, Option, None, Some, refl, sym, ap, ◌∙◌, append_assoc, take-add, [], length, append-nil}
+use Rattle.std.proofs.Math.Seq.{take-append-add}
+use Rattle.lucid_ports.specs.Writing.{with_front, with_all}
 
 -- the first n bytes, and then m of the rest
 with_front-with_front : (n m : ℕ) (piece : List ℕ) (o : Option (List ℕ)) → with_front m (drop n piece) (with_front n piece o) ≡ with_front (n + m) piece o
@@ -13,3 +13,18 @@ pub both_written : (n m k : ℕ) (piece rest : List ℕ) (o p q : Option (List �
     → q ≡ with_front m rest p → q ≡ with_front k piece o
 both_written n m k piece rest o p q same sum first second =
     second ∙ ap (λ r. with_front m r p) same ∙ ap (with_front m (drop n piece)) first ∙ with_front-with_front n m piece o ∙ ap (λ i. with_front i piece o) (sym sum)
+
+-- the empty piece changes nothing
+pub with_nothing : (o : Option (List ℕ)) → o ≡ with_all [] o
+with_nothing None = refl
+with_nothing (Some bytes) = ap Some (sym (append-nil bytes))
+
+-- two whole pieces are one
+pub all_all : (a b : List ℕ) (o : Option (List ℕ)) → with_all b (with_all a o) ≡ with_all (a ++ b) o
+all_all a b None = refl
+all_all a b (Some bytes) = ap Some (append_assoc bytes a b)
+
+-- a whole piece and a front of the next are a front of both
+pub front_all : (n : ℕ) (a b : List ℕ) (o : Option (List ℕ)) → with_front n b (with_all a o) ≡ with_front (length a + n) (a ++ b) o
+front_all n a b None = refl
+front_all n a b (Some bytes) = ap Some (append_assoc bytes a (take n b) ∙ ap (λ front. bytes ++ front) (sym (take-append-add a b n)))

@@ -2,16 +2,15 @@
 use Rattle.std.proofs.Common.{◌≡◌, ℕ, zero, suc, ◌^◌, ◌<◌, ◌≤◌, List, [], ◌∷◌, ◌++◌, length, take, Some, Bool, true, false, not, cond, ◌&&◌, ◌||◌, eqb, inl, inr, refl, sym, ◌∙◌, ap, subst, arith, rules, Option, None}
 use Rattle.std.specs.Prelude.{pos, neg_ℤ}
 use Rattle.std.specs.Fmt.{decimal}
-use Rattle.std.specs.List.{list_all}
 use Rattle.std.specs.Char.{is_ascii_digit}
 use Rattle.std.proofs.lemmas.Fmt.{decimal_is_IsNumeral_wide}
-use Rattle.std.proofs.lemmas.Str.Parse.{IsDigitsTest, WeighsDigits, IsNumeralModel, numerals_by_weight}
-use Rattle.std.proofs.lemmas.List.{append_cancel_right}
-use Rattle.std.proofs.lemmas.Bool.{or_cases, and_parts, not-true, eqb-true, lt-ltb, le-leb}
+use Rattle.std.proofs.lemmas.Bool.{or_cases, and_parts, not-true, eqb-true, lt-ltb, le-leb, and_from, or_left}
+use Rattle.lucid_lemmas.proofs.Lists.{same_between}
 use Rattle.lucid_value.specs.Plain.{PlainValue, int, truth, word, text, list, eod, fault, Items, no_items, item, weight, nesting, may_be_held, well_formed, all_well_formed, in_range, all_in_range, is_i128, is_value, within_limits, same_bytes}
 use Rattle.lucid_value.specs.Names.{is_name, is_name_byte, is_reserved, reserved_words}
 use Rattle.lucid_value.specs.Reading.{is_number, number_of, Denotes, denotes_number, denotes_minus, denotes_true, denotes_false, denotes_word, denotes_text, denotes_list, denotes_eod, denotes_fault, DenotesItems, denotes_none, denotes_item, Reads}
 use Rattle.lucid_value.specs.Laws.{TextIsRead}
+use Rattle.lucid_value.proofs.AtomValues.{numerals, digits_number}
 use Rattle.lucid_scan.specs.declared.token.TokenKind.{TokenKind}
 use Rattle.lucid_scan.specs.declared.token.TokenKind.TheVariants as kind
 use Rattle.lucid_scan.specs.Texts.{is_mark, is_word_value, is_text_value, IsTokenText}
@@ -73,10 +72,6 @@ false_or false b h k = k
 pub or_right : (a b : Bool) → b ≡ true → (a || b) ≡ true
 or_right true b h = refl
 or_right false b h = h
-
-pub or_left : (a b : Bool) → a ≡ true → (a || b) ≡ true
-or_left true b h = refl
-or_left false b h = cc
 
 -- a reserved word
 reserved_good : (s : PlainTerminal) → fixed_terminal (terminal_text s) ≡ Some s → is_reserved (terminal_text s) ≡ true → is_open s ≡ false → Good s
@@ -228,23 +223,6 @@ empty_good = two_good (terminal.Const (list no_items)) refl refl refl
 pub name_good : (n : List ℕ) → is_name n ≡ true → Good (terminal.Name n)
 name_good n h = record { kind = kind.Name; stands = refl; token = λ b after k. h; stops = λ b after k. stop_name b k }
 
--- decimal digits and their number are what std reads
-abbrev AreDigits : List ℕ → Type 0
-AreDigits ds = list_all is_ascii_digit ds ≡ true
-
-digits_test : IsDigitsTest AreDigits
-digits_test = search rules
-
-weighs : WeighsDigits number_of
-weighs = search rules
-
-numerals : IsNumeralModel AreDigits number_of
-numerals = numerals_by_weight AreDigits digits_test number_of weighs
-
-digits_number : (ds : List ℕ) → AreDigits ds → 0 < length ds → is_number ds ≡ true
-digits_number [] h k = absurd (omega arith)
-digits_number (d ∷ ds) h k = h
-
 digits : (n : ℕ) → n < 2 ^ 127 → is_number (decimal n) ≡ true
 digits n h = let k = decimal_is_IsNumeral_wide n (omega arith) in digits_number (decimal n) (numerals.from (decimal n) k.0.1) k.0.0
 
@@ -272,10 +250,6 @@ minus_range : (m : ℕ) → m ≤ 2 ^ 127 → is_i128 (neg_ℤ (pos m)) ≡ true
 minus_range zero h = refl
 minus_range (suc m) h = lt-ltb m (2 ^ 127) (omega arith)
 
-both : (a b : Bool) → a ≡ true → b ≡ true → (a && b) ≡ true
-both true b h k = k
-both false b h k = cc
-
 mutual
   keeps_rules : {bs : List ℕ} {v : PlainValue} → Denotes bs v → (well_formed v ≡ true) × (in_range v ≡ true)
   keeps_rules (denotes_number ds h lt) = (refl, lt-ltb (number_of ds) (2 ^ 127) lt)
@@ -293,13 +267,13 @@ mutual
   keep_rules (denotes_item g bs rest v vs h may d a more) =
       let here = keeps_rules d in
       let rest = keep_rules more in
-      (both (may_be_held v && well_formed v) (all_well_formed vs) (both (may_be_held v) (well_formed v) may here.0) rest.0, both (in_range v) (all_in_range vs) here.1 rest.1)
+      (and_from (may_be_held v && well_formed v) (all_well_formed vs) (and_from (may_be_held v) (well_formed v) may here.0) rest.0, and_from (in_range v) (all_in_range vs) here.1 rest.1)
 
 what_reads : {bs : List ℕ} {v : PlainValue} → Reads bs v → is_value v ≡ true
 what_reads {bs} {v} r =
     let rules = keeps_rules r.denotes in
-    both (well_formed v && in_range v) (within_limits v) (both (well_formed v) (in_range v) rules.0 rules.1)
-    (both _ _ (le-leb (weight v) 65536 r.light) (le-leb (nesting v) 64 r.flat))
+    and_from (well_formed v && in_range v) (within_limits v) (and_from (well_formed v) (in_range v) rules.0 rules.1)
+    (and_from _ _ (le-leb (weight v) 65536 r.light) (le-leb (nesting v) 64 r.flat))
 
 -- a list
 list_good : TextIsRead → (vs : Items) (bytes : List ℕ) → Reads bytes (list vs) → Good (terminal.Const (list vs))
@@ -364,19 +338,13 @@ IsWritten s = (k : TokenKind) × (bytes : List ℕ) × (after : List ℕ) × IsT
 as_const : {v w : PlainValue} → ◌≡◌ {A = PlainTerminal} (terminal.Const v) (terminal.Const w) → Good (terminal.Const w) → Good (terminal.Const v)
 as_const e g = subst Good (sym e) g
 
-snoc-one : (xs ys : List ℕ) (b : ℕ) → xs ++ b ∷ [] ≡ ys ++ b ∷ [] → xs ≡ ys
-snoc-one xs ys b e = append_cancel_right xs ys (b ∷ []) e
-
-inside-one : (xs ys : List ℕ) (a b : ℕ) → a ∷ (xs ++ b ∷ []) ≡ a ∷ (ys ++ b ∷ []) → xs ≡ ys
-inside-one xs ys a b e = let rest : xs ++ b ∷ [] ≡ ys ++ b ∷ [] = cc in snoc-one xs ys b rest
-
 const_by : TextIsRead → (v : PlainValue) (k : TokenKind) (bytes after : List ℕ) → IsTokenText k bytes after → StandsFor k bytes (terminal.Const v) → Good (terminal.Const v)
 const_by law v kind.Name bytes after t h = absurd (let e : ◌≡◌ {A = PlainTerminal} (terminal.Const v) (terminal.Name bytes) = h in cc)
 const_by law v kind.Int bytes after t h = as_const h (number_good (number_of bytes) t.2)
 const_by law v kind.Quoted bytes after t h =
-    as_const h.2 (word_good h.0 (ap is_word_value (inside-one h.0 t.0 34 34 (sym h.1 ∙ t.1)) ∙ t.2))
+    as_const h.2 (word_good h.0 (ap is_word_value (same_between h.0 t.0 34 34 (sym h.1 ∙ t.1)) ∙ t.2))
 const_by law v kind.Text bytes after t h =
-    as_const h.2 (string_good h.0 (ap is_text_value (inside-one h.0 t.0 96 39 (sym h.1 ∙ t.1)) ∙ t.2))
+    as_const h.2 (string_good h.0 (ap is_text_value (same_between h.0 t.0 96 39 (sym h.1 ∙ t.1)) ∙ t.2))
 const_by law v kind.ListText bytes after t h = as_const h.2 (list_good law h.0 bytes h.1)
 const_by law v kind.Fixed bytes after t h = fixed_good v (fixed_fixed bytes (terminal.Const v) h)
 

@@ -4,5 +4,4 @@ pub mod Chunks
 pub mod Printed
 pub mod Scanned
 pub mod Loops
-pub mod Falls
 pub mod Operations

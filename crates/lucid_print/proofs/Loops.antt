@@ -1,6 +1,7 @@
 -- What the loops of the printer write is the rest of the text, item by item.
 use Rattle.std.proofs.Common.{◌≡◌, ℕ, zero, suc, ◌+◌, ◌<◌, ◌≤◌, List, [], ◌∷◌, ◌++◌, length, drop, get_or, refl, sym, ◌∙◌, ap, arith, add-one, append_assoc, append-nil}
 use Rattle.std.specs.Prelude.{codes}
+use Rattle.std.proofs.lemmas.List.{drop_all}
 use Rattle.lucid_tree.specs.Tree.{PlainTree, PlainDefs, no_defs}
 use Rattle.lucid_tree.specs.Lists.{trees_of}
 use Rattle.lucid_tree.specs.DefsView.{defs_of, one_def, def_of}
@@ -8,12 +9,6 @@ use Rattle.lucid_tree.specs.declared.tree.Def.{Def}
 use Rattle.lucid_tree.specs.declared.tree.DefKind.{DefKind}
 use Rattle.lucid_tree.specs.declared.tree.DefKind.TheVariants as def_kind
 use Rattle.lucid_print.specs.Canonical.{parted, parted_more, texts, source, parts, definitions}
-
-drop_none : {A : Type 0} (xs : List A) (i : ℕ) → length xs ≤ i → drop i xs ≡ []
-drop_none [] zero h = refl
-drop_none [] (suc i) h = refl
-drop_none (x ∷ xs) zero h = absurd (omega arith)
-drop_none (x ∷ xs) (suc i) h = drop_none xs i (omega arith)
 
 drop_suc : {A : Type 0} (xs : List A) (i : ℕ) (x : A) → i < length xs → x ≡ get_or xs i x → drop i xs ≡ x ∷ drop (suc i) xs
 drop_suc [] i x h e = absurd (omega arith)
@@ -48,7 +43,7 @@ no_more i o full ss n e = sym (append-nil o) ∙ ap (λ l. o ++ l) (sym (ap (res
 
 -- the names of parameters
 pub names_end : (i : ℕ) (o full : List ℕ) (xs : List (List ℕ)) → length xs ≤ i → o ++ rest_text i (drop i xs) ≡ full → o ≡ full
-names_end i o full xs h e = no_more i o full (drop i xs) (drop_none xs i h) e
+names_end i o full xs h e = no_more i o full (drop i xs) (drop_all i xs h) e
 
 -- the texts of arguments
 pub texts_here : (xs : List PlainTree) (i : ℕ) (x : PlainTree) → i < length xs → x ≡ get_or xs i x
@@ -58,7 +53,7 @@ texts_here xs i x h e = ap (λ l. texts (parts (trees_of l))) (drop_here xs i x 
 
 pub texts_none : (xs : List PlainTree) (i : ℕ) → length xs ≤ i → texts (parts (trees_of (drop i xs))) ≡ []
 unfolding source
-texts_none xs i h = ap (λ l. texts (parts (trees_of l))) (drop_none xs i h)
+texts_none xs i h = ap (λ l. texts (parts (trees_of l))) (drop_all i xs h)
 
 -- definitions
 defs_then : (d : Def) (ds : PlainDefs) → definitions (def_of d.at d.name d.kind ds) ≡ definitions (one_def d no_defs) ++ definitions ds
@@ -81,7 +76,7 @@ next_definition o p full xs i d h is e f =
 
 pub last_definition : (o full : List ℕ) (xs : List Def) (i : ℕ) → length xs ≤ i → o ++ definitions (defs_of (drop i xs)) ≡ full → o ≡ full
 unfolding definitions
-last_definition o full xs i h e = sym (append-nil o) ∙ ap (λ l. o ++ l) (sym (ap (λ l. definitions (defs_of l)) (drop_none xs i h))) ∙ e
+last_definition o full xs i h e = sym (append-nil o) ∙ ap (λ l. o ++ l) (sym (ap (λ l. definitions (defs_of l)) (drop_all i xs h))) ∙ e
 
 -- one argument more, the first or a later one
 module _ (xs : List PlainTree) (i : ℕ) (x : PlainTree) (o full : List ℕ) (within : i < length xs) (is : x ≡ get_or xs i x)

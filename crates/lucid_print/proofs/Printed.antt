@@ -1,5 +1,5 @@
 -- The terminals of the canonical source of a tree that was parsed spell the tree again, up to places.
-use Rattle.std.proofs.Common.{◌≡◌, ℕ, ◌+◌, ◌≤◌, List, [], ◌∷◌, ◌++◌, Some, Bool, true, false, refl, sym, ◌∙◌, ap, subst, arith, zero-le, append_assoc, append-nil}
+use Rattle.std.proofs.Common.{◌≡◌, ℕ, ◌+◌, List, [], ◌∷◌, ◌++◌, Some, Bool, true, false, refl, sym, ◌∙◌, ap, subst, arith, zero-le, append_assoc, append-nil}
 use Rattle.std.specs.Prelude.{codes, nat_lt}
 use Rattle.std.proofs.lemmas.Bool.{cond-true, cond-false, ltb-false}
 use Rattle.lucid_value.specs.Plain.{PlainValue}
@@ -10,7 +10,8 @@ use Rattle.lucid_ops.specs.declared.op.Form.TheVariants.{Before, Between, Called
 use Rattle.lucid_forms.specs.declared.operator.Operator.{Operator}
 use Rattle.lucid_parse.specs.declared.terminal.Terminal.TheVariants as terminal
 use Rattle.lucid_parse.specs.Grammar
-use Rattle.lucid_parse.specs.Grammar.{PlainTerminal, PlacedTerminal, terminal_at, as_form, Spells, SpellsArgs, SpellsDefs, SpellsNames, trees_and, def_before, defs_and, Parameter, parameter, names_of, places_of, Defined, Plain, Function, Current, head, arity_of}
+use Rattle.lucid_parse.specs.Grammar.{PlainTerminal, PlacedTerminal, terminal_at, as_form, Spells, SpellsArgs, SpellsDefs, SpellsNames, trees_and, def_before, defs_and, Parameter, parameter, names_of, Defined, Plain, Function, Current, head, arity_of}
+use Rattle.lucid_parse.proofs.Sound.{looser}
 use Rattle.lucid_print.specs.Styles.{style_level, level}
 use Rattle.lucid_print.specs.Canonical.{placed, parted, parted_more, texts, form_text, source, parts, definitions}
 use Rattle.lucid_print.specs.Again.{unplaced, all_unplaced, defs_unplaced}
@@ -68,18 +69,6 @@ between2 ws a s b e =
 no_words : (ws : List PlacedTerminal) → terminals_of ws ≡ [] → ws ≡ []
 no_words [] h = refl
 no_words (w ∷ ws) h = cc
-
--- a place that allows less allows this too
-pub looser : {m : ℕ} {xs : List PlacedTerminal} {x : PlainTree} → Spells m xs x → (k : ℕ) → k ≤ m → Spells k xs x
-looser Grammar.spells_const k h = Grammar.spells_const
-looser Grammar.spells_name k h = Grammar.spells_name
-looser (Grammar.spells_infix s b is low sx sy) k h = Grammar.spells_infix s b is (omega (arith, low, h)) sx sy
-looser (Grammar.spells_prefix s u is low sx) k h = Grammar.spells_prefix s u is (omega (arith, low, h)) sx
-looser (Grammar.spells_inner q sx) k h = Grammar.spells_inner q sx
-looser (Grammar.spells_if p q r sx sy sz) k h = Grammar.spells_if p q r sx sy sz
-looser (Grammar.spells_call q sa) k h = Grammar.spells_call q sa
-looser (Grammar.spells_called q s c is n sa) k h = Grammar.spells_called q s c is n sa
-looser (Grammar.spells_block p low sx sd) k h = Grammar.spells_block p (omega (arith, low, h)) sx sd
 
 along : {k : ℕ} {ts us : List PlacedTerminal} {t : PlainTree} → us ≡ ts → Spells k ts t → Spells k us t
 along {k} {ts} {us} {t} e s = subst (λ l. Spells k l t) (sym e) s

@@ -3,7 +3,7 @@ use Rattle.std.proofs.Common.{◌≡◌, ℕ, suc, ◌+◌, ◌-◌, ◌≤◌, 
 use Rattle.std.specs.Prelude.{slice_range, max}
 use Rattle.std.specs.List.{All}
 use Rattle.std.proofs.Math.Seq.{take-append_seam, drop-append_seam}
-use Rattle.std.proofs.lemmas.Bool.{or_cases, and_parts, cond-true, cond-false}
+use Rattle.std.proofs.lemmas.Bool.{or_cases, and_parts, cond-true, cond-false, or_left}
 use Rattle.lucid_value.specs.Laws.{TextIsRead}
 use Rattle.lucid_scan.specs.declared.token.TokenKind.{TokenKind}
 use Rattle.lucid_scan.specs.declared.token.Token.{Token}
@@ -19,11 +19,12 @@ use Rattle.lucid_parse.specs.Grammar.{PlainTerminal, PlacedTerminal, terminal_at
 use Rattle.lucid_parse.specs.Laws.{TerminalsAreUnique, TerminalsSpellOneTree}
 use Rattle.lucid_parse.specs.Spelled.{SpellsTree, IsRefused}
 use Rattle.lucid_parse.specs.Terminals.{Terminals, StandsFor}
+use Rattle.lucid_parse.proofs.Sound.{looser}
 use Rattle.lucid_print.specs.Canonical.{canonical}
 use Rattle.lucid_print.specs.Again.{unplaced, all_unplaced, defs_unplaced, IsReadAs, IsParsed}
 use Rattle.lucid_print.proofs.Terminals.{terminal_text, is_open, is_closer, is_callable, is_tight, gap, after}
-use Rattle.lucid_print.proofs.Goods.{Good, AllGood, stoppers, among, or_left, or_right}
-use Rattle.lucid_print.proofs.Printed.{terminals_of, AllWritten, looser, print}
+use Rattle.lucid_print.proofs.Goods.{Good, AllGood, stoppers, among, or_right}
+use Rattle.lucid_print.proofs.Printed.{terminals_of, AllWritten, print}
 
 -- the byte behind a terminal
 record Next (s : PlainTerminal) (bytes : List ℕ) : Type 0 where

@@ -1,7 +1,7 @@
 -- A whole turn of the policy that keeps what was touched last.
-use Rattle.std.proofs.Common.{◌≡◌, ℕ, ◌≤◌, ◌<◌, Bool, true, false, cond, ◌||◌, ◌⊎◌, inl, inr, List, [], ◌∷◌, length, Option, Some, None, IsSome, IfSome, is_some, refl, ap, sym, ◌∙◌, subst, arith}
+use Rattle.std.proofs.Common.{◌≡◌, ◌≤◌, ◌<◌, Bool, true, false, cond, ◌||◌, ◌⊎◌, inl, inr, List, [], ◌∷◌, length, Option, Some, None, IsSome, IfSome, is_some, refl, ap, sym, ◌∙◌, subst, arith}
 use Rattle.std.specs.Prelude.{nat_lt, MatchBool}
-use Rattle.std.proofs.lemmas.Bool.Decides.{nat_tests}
+use Rattle.std.proofs.lemmas.Bool.{le-ltb}
 use Rattle.lucid_tags.specs.declared.Key.{Key}
 use Rattle.lucid_store.specs.Stored.{Entry, Stored}
 use Rattle.lucid_store.specs.Entries.{entry_at, count_of, cleared, IsOneForEach, TouchedIsHeld}
@@ -11,12 +11,6 @@ use Rattle.lucid_retire.proofs.Brought.{held_after, held_refused, falls_out, len
 or_false : (b : Bool) → (b || false) ≡ b
 or_false true = refl
 or_false false = refl
-
-pub over_false : (a b : ℕ) → b ≤ a → nat_lt a b ≡ false
-over_false a b h = grind (arith, nat_tests)
-
-pub over_true : (a b : ℕ) → a < b → nat_lt a b ≡ true
-over_true a b h = grind (arith, nat_tests)
 
 -- how a turn ends
 cut_at : (t : Bool) (after list : Recency) (new mid : Stored) → t ≡ true → after ≡ record list { keys = [] } → new ≡ cleared mid → MatchBool t ((after ≡ record list { keys = [] }) × (new ≡ cleared mid)) ((after ≡ list) × (new ≡ mid))
@@ -47,7 +41,7 @@ module _ (r : Recency) (few : AreRecent r) (list : Recency) (old mid : Stored) w
   drops_noted one None notes agrees =
       let are : AreHeld r.keys old = λ q. agrees q ∙ or_false (is_listed r.keys q) in
       let within : count_of old ≤ r.room = omega (arith, few.few, count-listed r.keys old are one) in
-      inl (subst (λ t. DropsKey (cond t (last_of r.keys) None) old mid) (sym (over_false r.room (count_of old) within)) notes.1, ap (λ l. l.unlisted) notes.0)
+      inl (subst (λ t. DropsKey (cond t (last_of r.keys) None) old mid) (sym (le-ltb r.room (count_of old) within)) notes.1, ap (λ l. l.unlisted) notes.0)
   drops_noted one (Some k) (inl b) agrees = inl (subst (λ o. DropsKey o old mid) (falls_out r few old k agrees one) b.drops, ap (λ l. l.unlisted) b.front)
   drops_noted one (Some k) (inr f) agrees = inr f
 
@@ -55,7 +49,7 @@ module _ (r : Recency) (few : AreRecent r) (list : Recency) (old mid : Stored) w
       (one : IsOneForEach old) (one_mid : IsOneForEach mid) (some : 0 < count_of old) where
     -- where the list agreed, no more than the room are held
     within_room : Agrees r.keys old → nat_lt r.room (count_of mid) ≡ false
-    within_room agrees = over_false r.room (count_of mid) (omega (arith, few_noted old.touched notes, count-listed list.keys mid (held_noted old.touched notes agrees) one_mid))
+    within_room agrees = le-ltb r.room (count_of mid) (omega (arith, few_noted old.touched notes, count-listed list.keys mid (held_noted old.touched notes agrees) one_mid))
 
     pub kept_turn : nat_lt r.room (count_of mid) ≡ false → IsRecencyTurn r list old mid
     kept_turn fits = record {
@@ -108,6 +102,6 @@ empty_turn r old none held =
       forgotten = free;
       unheld = λ _. (refl, refl);
       noted = λ some. absurd (omega (arith, none, some));
-      agreed = λ agrees. inl (subst (λ t. DropsKey (cond t (last_of (with_touched old.touched r.keys)) None) old old) (sym (over_false r.room (count_of old) (omega (arith, none)))) (λ q. refl), refl);
+      agreed = λ agrees. inl (subst (λ t. DropsKey (cond t (last_of (with_touched old.touched r.keys)) None) old old) (sym (le-ltb r.room (count_of old) (omega (arith, none)))) (λ q. refl), refl);
       agrees = λ _ q. ap (λ es. is_some (entry_at (record old { entries = es }) q)) nothing;
     }

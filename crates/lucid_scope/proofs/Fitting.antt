@@ -1,6 +1,7 @@
 -- In a well-made tree the numbers of parameters and arguments fit their type.
 use Rattle.std.proofs.Common.{◌≡◌, ℕ, ◌<◌, ◌≤◌, ◌^◌, Bool, true, false, cond, List, [], ◌∷◌, ◌++◌, ◌&&◌, length, length-append, map, Option, Some, None, nat_lt, nat_eq, refl, sym, subst, arith, zero, suc}
 use Rattle.std.specs.List.{All, position_or_len}
+use Rattle.std.proofs.lemmas.Bool.{and_parts as both}
 use Rattle.lucid_tree.specs.Tree.{PlainTree, form, name, call, block, PlainTrees, no_trees, tree, PlainDefs, no_defs, defines, defines_function, defines_current}
 use Rattle.lucid_tree.specs.Size.{count}
 use Rattle.lucid_tree.specs.Env.{Found, plain_def, function_def, current_def, definition, param, same_name}
@@ -31,11 +32,6 @@ each-all P (x ∷ xs) e (suc k) d h = each-all P xs e.1 k d (omega arith)
 pub each-map : (P : Mark → Type 0) (ss : List Site) → Each (λ s. P (mark s)) ss → Each P (map mark ss)
 each-map P [] e = tt
 each-map P (s ∷ ss) e = (e.0, each-map P ss e.1)
-
-both : (a b : Bool) → (a && b) ≡ true → (a ≡ true) × (b ≡ true)
-both true true h = (refl, refl)
-both true false h = absurd (grind arith)
-both false b h = absurd (grind arith)
 
 -- what is in scope fits
 abbrev pub ScopeFits : Static → Type 0

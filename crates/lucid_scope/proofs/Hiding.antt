@@ -1,5 +1,5 @@
 -- Owners that are hidden and put back, and the scopes that hide them.
-use Rattle.std.proofs.Common.{◌≡◌, ℕ, suc, ◌+◌, ◌<◌, ◌≤◌, Bool, true, false, cond, List, [], ◌∷◌, ◌++◌, length, drop, get_or, Option, Some, None, refl, sym, ap, ◌∙◌, drop-cons, arith, zero, not, nat_lt}
+use Rattle.std.proofs.Common.{◌≡◌, ℕ, suc, ◌+◌, ◌<◌, Bool, true, false, cond, List, [], ◌∷◌, ◌++◌, length, drop, get_or, Option, Some, None, refl, sym, ap, ◌∙◌, drop-cons, arith, not, nat_lt}
 use Rattle.std.specs.Option.{option_map}
 use Rattle.std.specs.List.{position_or_len}
 use Rattle.lucid_tree.specs.Tree.{PlainDefs, no_defs}
@@ -96,9 +96,3 @@ function-hides xs i def x f g h lt is before sets n =
 pub all_parameters : (def : ℕ) (q : Option ℕ) → later_parameter def 0 q ≡ parameter_owner def q
 all_parameters def None = refl
 all_parameters def (Some j) = ap (λ j. Some (Parameter def j)) (omega arith)
-
-pub nothing-left : {A : Type 0} (xs : List A) (i : ℕ) → length xs ≤ i → drop i xs ≡ []
-nothing-left [] zero h = refl
-nothing-left [] (suc i) h = refl
-nothing-left (x ∷ xs) zero h = absurd (omega (arith, h))
-nothing-left (x ∷ xs) (suc i) h = nothing-left xs i (omega (arith, h))

@@ -1,5 +1,5 @@
 -- The inputs of a program differ, and are no more than its places. A free name is among them, at its number.
-use Rattle.std.proofs.Common.{◌≡◌, ◌≢◌, ℕ, zero, suc, ◌+◌, ◌<◌, ◌≤◌, Bool, true, false, ◌||◌, cond, if◌then◌else◌, List, [], ◌∷◌, ◌++◌, length, length-append, fold, sum_by, ◌⊎◌, inl, inr, refl, sym, ap, subst, ◌∙◌, arith}
+use Rattle.std.proofs.Common.{◌≡◌, ℕ, suc, ◌+◌, ◌≤◌, Bool, true, false, cond, if◌then◌else◌, List, [], ◌∷◌, ◌++◌, length, length-append, fold, sum_by, inl, inr, refl, sym, ap, subst, ◌∙◌, arith}
 use Rattle.std.proofs.Props.{props}
 use Rattle.std.proofs.Math.Logic.{∥∥₁_elim}
 use Rattle.std.specs.List.{list_any, position_or_len}
@@ -8,25 +8,20 @@ use Rattle.lucid_tree.specs.Tree.{PlainTree}
 use Rattle.lucid_tree.specs.Env.{same_name}
 use Rattle.lucid_tree.specs.Members.{In, AllDiffer, AllDiffer-prop}
 use Rattle.lucid_tree.specs.WellMade.{places}
-use Rattle.lucid_tree.proofs.Members.{in_left, in_right, in_either}
+use Rattle.lucid_tree.proofs.Members.{in_left, in_right, one_more-differs, contained, stands_at as stands}
 use Rattle.lucid_scope.specs.Scope.{Static, outermost, Meaning, free, plain_name, parameter, current_name, function, meaning}
 use Rattle.lucid_scope.specs.Sites.{Site, named, called, again}
-use Rattle.lucid_scope.specs.Bindings.{with_input, with_site, free_names, all_sites, AreInputs, IsResolved}
+use Rattle.lucid_scope.specs.Bindings.{with_input, with_site, all_sites, AreInputs, IsResolved}
 use Rattle.lucid_scope.specs.declared.scoped.Binding.{Binding}
 use Rattle.lucid_scope.proofs.Names.{same_itself, same_one}
 use Rattle.lucid_scope.proofs.Weights.{sites-weight}
 use Rattle.lucid_scope.proofs.Resolved.{sum-ones}
-use Rattle.std.specs.Prelude.{Option, Some, Contains, slice_get, get_or, not}
+use Rattle.std.specs.Prelude.{Option, Some, slice_get, not}
 
 not_among : (x : List ℕ) (is : List (List ℕ)) → list_any (same_name x) is ≡ false → In x is → ⊥
 not_among x [] e h = h
 not_among x (i ∷ is) e (inl q) = absurd (grind (arith, e, same_itself x, ap (same_name x) q))
 not_among x (i ∷ is) e (inr q) = not_among x is (grind (arith, e)) q
-
-one_more-differs : (x : List ℕ) (is : List (List ℕ)) → (In x is → ⊥) → AllDiffer is → AllDiffer (is ++ x ∷ [])
-one_more-differs x [] h d = ((λ q. q), tt)
-one_more-differs x (i ∷ is) h d =
-    ((λ q. elim (in_either i is (x ∷ []) q) [ inl r ↦ d.0 r | inr r ↦ elim r [ inl e ↦ h (inl (sym e)) | inr z ↦ z ] ]), one_more-differs x is (λ q. h (inr q)) d.1)
 
 either-differs : (x : List ℕ) (is : List (List ℕ)) (b : Bool) → list_any (same_name x) is ≡ b → AllDiffer is → AllDiffer (if b then is else is ++ x ∷ [])
 either-differs x is true e d = d
@@ -124,16 +119,6 @@ free-among at x k [] is h e = absurd h
 free-among at x k (s ∷ ss) is (inl q) e =
     names-keep x ss (with_site is s) (subst (λ z. In x (with_site is z)) q (has-input x is (meaning x k) e))
 free-among at x k (s ∷ ss) is (inr q) e = free-among at x k ss (with_site is s) q e
-
-contained : (s : Site) (ss : List Site) → In s ss → Contains ss s
-contained s [] h = absurd h
-contained s (t ∷ ss) (inl e) = (0, omega arith, sym e)
-contained s (t ∷ ss) (inr h) = let c = contained s ss h in (suc c.0, omega (arith, c.1), c.2)
-
-stands : (s : Site) (ss : List Site) (i : ℕ) → i < length ss → get_or ss i s ≡ s → In s ss
-stands s [] i h e = absurd (omega (arith, h))
-stands s (t ∷ ss) zero h e = inl (sym e)
-stands s (t ∷ ss) (suc i) h e = inr (stands s ss i (omega (arith, h)) e)
 
 number-leads-by : (x i : List ℕ) (is : List (List ℕ)) (b : Bool) → same_name x i ≡ b → In x (i ∷ is) → (In x is → slice_get is (position_or_len (same_name x) is) ≡ Some x)
     → slice_get (i ∷ is) (cond (not b) (1 + position_or_len (same_name x) is) 0) ≡ Some x

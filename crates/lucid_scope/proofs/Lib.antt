@@ -1,8 +1,7 @@
-mod Names
+pub mod Names
 mod Tables
 mod Hiding
 mod Noting
-mod Falls
 mod Marked
 mod Weights
 mod Fitting
@@ -11,4 +10,4 @@ mod Resolved
 mod Numbering
 mod Unique
 mod Inputs
-mod OneList
+pub mod OneList

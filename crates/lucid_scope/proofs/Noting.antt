@@ -1,11 +1,10 @@
 -- Notes of a descent, one part after another, and through scopes.
-use Rattle.std.proofs.Common.{◌≡◌, ℕ, suc, ◌<◌, List, [], ◌∷◌, ◌++◌, length, drop, get_or, map, append_assoc, Option, Some, None, ◌⊎◌, inl, inr, refl, sym, ap, subst, ◌∙◌, drop-cons, add-one, ◌+◌, ◌≤◌, Box, Global, arith}
-use Rattle.std.proofs.lemmas.List.{append-nil, map-append}
+use Rattle.std.proofs.Common.{◌≡◌, ℕ, suc, ◌<◌, List, [], ◌∷◌, ◌++◌, length, drop, get_or, map, append_assoc, Option, Some, None, ◌⊎◌, inl, inr, refl, sym, ap, subst, ◌∙◌, drop-cons, add-one, ◌+◌, ◌≤◌, Box, Global}
+use Rattle.std.proofs.lemmas.List.{append-nil, map-append, drop_all}
 use Rattle.std.specs.Prelude.{Result, Ok, Err, OnOk}
 use Rattle.lucid_tree.specs.Tree.{PlainTree, PlainTrees, no_trees, tree, PlainDefs}
 use Rattle.lucid_tree.specs.Env.{Found, absent, plain_def, function_def, current_def, definition, param}
 use Rattle.lucid_tree.specs.Lists.{trees_of}
-use Rattle.lucid_tree.specs.Size.{count}
 use Rattle.lucid_tree.specs.DefsView.{def_of, defs_of}
 use Rattle.lucid_tree.specs.View.{tree_of}
 use Rattle.lucid_tree.specs.declared.tree.Def.{Def}
@@ -20,7 +19,7 @@ use Rattle.lucid_scope.specs.Walks.{mark, Noting, Noted, right_sites}
 use Rattle.lucid_scope.specs.declared.table.Owner.{Owner}
 use Rattle.lucid_scope.specs.declared.table.Saved.{Saved}
 use Rattle.lucid_scope.specs.declared.walk.Walk.{Walk}
-use Rattle.lucid_scope.proofs.Hiding.{put_back-alike, nothing-left}
+use Rattle.lucid_scope.proofs.Hiding.{put_back-alike}
 
 abbrev pub Found_sites : Type 0
 Found_sites = Static → List Site
@@ -161,23 +160,19 @@ inside-after xs i d k earlier later h is e =
     ∙ inside-kind k earlier d.at d.name d.kind (defs_of (drop (suc i) xs))
     ∙ ap (λ l. again_if (earlier d.name) d.at ++ (right_sites k d.at d.kind ++ inside_sites k l (defs_of (drop (suc i) xs)))) (sym alike)
 
-pub count-trees : (xs : List PlainTree) → count (trees_of xs) ≡ length xs
-count-trees [] = refl
-count-trees (x ∷ xs) = grind (arith, count-trees xs)
-
 pub trees-next : (xs : List PlainTree) (i : ℕ) (x : PlainTree) (k : Static) → i < length xs → x ≡ get_or xs i x
     → sites_in k (trees_of (drop i xs)) ≡ sites k x ++ sites_in k (trees_of (drop (i + 1) xs))
 trees-next xs i x k h is = rw (add-one i) (trees-after xs i x k h is)
 
 pub trees-end : (xs : List PlainTree) (i : ℕ) (k : Static) → length xs ≤ i → sites_in k (trees_of (drop i xs)) ≡ []
-trees-end xs i k h = ap (λ l. sites_in k (trees_of l)) (nothing-left xs i h)
+trees-end xs i k h = ap (λ l. sites_in k (trees_of l)) (drop_all i xs h)
 
 pub outside-next : (xs : List Def) (i : ℕ) (d : Def) (k : Static) → i < length xs → d ≡ get_or xs i d
     → outside_sites k (defs_of (drop i xs)) ≡ outer_sites k d.kind ++ outside_sites k (defs_of (drop (i + 1) xs))
 outside-next xs i d k h is = rw (add-one i) (outside-after xs i d k h is)
 
 pub outside-end : (xs : List Def) (i : ℕ) (k : Static) → length xs ≤ i → outside_sites k (defs_of (drop i xs)) ≡ []
-outside-end xs i k h = ap (λ l. outside_sites k (defs_of l)) (nothing-left xs i h)
+outside-end xs i k h = ap (λ l. outside_sites k (defs_of l)) (drop_all i xs h)
 
 pub inside-next : (xs : List Def) (i : ℕ) (d : Def) (k : Static) (earlier later : Earlier) → i < length xs → d ≡ get_or xs i d
     → ((n : List ℕ) → later n ≡ also d.name earlier n)
@@ -185,7 +180,7 @@ pub inside-next : (xs : List Def) (i : ℕ) (d : Def) (k : Static) (earlier late
 inside-next xs i d k earlier later h is e = rw (add-one i) (inside-after xs i d k earlier later h is e)
 
 pub inside-end : (xs : List Def) (i : ℕ) (k : Static) (earlier : Earlier) → length xs ≤ i → inside_sites k earlier (defs_of (drop i xs)) ≡ []
-inside-end xs i k earlier h = ap (λ l. inside_sites k earlier (defs_of l)) (nothing-left xs i h)
+inside-end xs i k earlier h = ap (λ l. inside_sites k earlier (defs_of l)) (drop_all i xs h)
 
 repeats-after : (xs : List (List ℕ)) (ats : List ℕ) (i : ℕ) (x : List ℕ) (earlier later : Earlier) → i < length xs → i < length ats → x ≡ get_or xs i x
     → ((n : List ℕ) → later n ≡ also x earlier n)
@@ -207,8 +202,8 @@ no-places [] earlier = refl
 no-places (x ∷ xs) earlier = refl
 
 pub repeats-end : (xs : List (List ℕ)) (ats : List ℕ) (i : ℕ) (earlier : Earlier) → (length xs ≤ i) ⊎ (length ats ≤ i) → repeats earlier (drop i xs) (drop i ats) ≡ []
-repeats-end xs ats i earlier (inl h) = ap (λ l. repeats earlier l (drop i ats)) (nothing-left xs i h)
-repeats-end xs ats i earlier (inr h) = ap (λ l. repeats earlier (drop i xs) l) (nothing-left ats i h) ∙ no-places (drop i xs) earlier
+repeats-end xs ats i earlier (inl h) = ap (λ l. repeats earlier l (drop i ats)) (drop_all i xs h)
+repeats-end xs ats i earlier (inr h) = ap (λ l. repeats earlier (drop i xs) l) (drop_all i ats h) ∙ no-places (drop i xs) earlier
 
 -- what follows on success
 pub on_ok : {T E : Type 0} (r : Result T E) {P Q : Type 0} → (P → Q) → OnOk r P → OnOk r Q

@@ -32,7 +32,3 @@ any-keys x key (k ∷ keys) e = λ i. same_name (sym e i) k.items || any-keys x 
 pub not_there : (b added : Bool) → added ≡ not b → added ≡ true → b ≡ false
 not_there true added e h = absurd (grind (arith, e, h))
 not_there false added e h = refl
-
-pub there : (b added : Bool) → added ≡ not b → added ≡ false → b ≡ true
-there true added e h = refl
-there false added e h = absurd (grind (arith, e, h))

@@ -1,15 +1,15 @@
 -- A well-made tree has one list of inputs: no two of its sites have one place, so one order alone has their places rise.
-use Rattle.std.proofs.Common.{◌≡◌, ℕ, zero, suc, ◌+◌, ◌<◌, ◌≤◌, Bool, true, false, cond, List, [], ◌∷◌, length, get_or, fold, nat_eq, ◌⊎◌, inl, inr, refl, sym, ap, subst, ◌∙◌, arith, sum_by}
+use Rattle.std.proofs.Common.{◌≡◌, ℕ, suc, ◌+◌, ◌<◌, ◌≤◌, Bool, true, false, cond, List, [], ◌∷◌, get_or, fold, nat_eq, ◌⊎◌, inl, inr, refl, sym, ap, subst, ◌∙◌, arith, sum_by}
 use Rattle.std.specs.List.Sorted.{IsPermutation, IsNonDecreasingBy}
-use Rattle.std.specs.List.{Contains}
 use Rattle.std.proofs.lemmas.List.Sums.{sum_by-cons}
 use Rattle.std.proofs.lemmas.List.Sorted.{IsPermutation-sym, Contains-permutation, sum_by-IsPermutation}
 use Rattle.lucid_tree.specs.Tree.{PlainTree}
 use Rattle.lucid_tree.specs.Members.{In, Inside}
 use Rattle.lucid_tree.specs.WellMade.{places, IsWellMade}
+use Rattle.lucid_tree.proofs.Members.{number_in as index_of, contained, stands_at as standing}
 use Rattle.lucid_scope.specs.Scope.{outermost}
 use Rattle.lucid_scope.specs.Sites.{Site, site_at}
-use Rattle.lucid_scope.specs.Bindings.{all_sites, with_site, AreInputs}
+use Rattle.lucid_scope.specs.Bindings.{all_sites, with_site}
 use Rattle.lucid_scope.specs.Laws.{InputsAreUnique}
 use Rattle.lucid_scope.proofs.Weights.{sites-weight}
 use Rattle.lucid_scope.proofs.Resolved.{itself, at-most-one}
@@ -40,11 +40,6 @@ weighs t (s ∷ ss) (inl same) =
     let one : at_number (site_at t) (site_at s) ≡ 1 = subst (λ (x : Site). at_number (site_at t) (site_at x) ≡ 1) same (itself (site_at t)) in
     omega (arith, sum_by-cons (λ s. at_number (site_at t) (site_at s)) s ss, one)
 weighs t (s ∷ ss) (inr later) = omega (arith, sum_by-cons (λ s. at_number (site_at t) (site_at s)) s ss, weighs t ss later)
-
-index_of : (t d : Site) (ss : List Site) → In t ss → (i : ℕ) × (i < length ss) × (get_or ss i d ≡ t)
-index_of t d [] h = absurd h
-index_of t d (s ∷ ss) (inl same) = (0, omega arith, sym same)
-index_of t d (s ∷ ss) (inr later) = let k = index_of t d ss later in (suc k.0, omega (arith, k.1), k.2)
 
 later_places : (s : Site) (ss : List Site) → IsNonDecreasingBy site_at (s ∷ ss) → HaveOwnPlaces (s ∷ ss) → (t : Site) → In t ss → site_at s < site_at t
 later_places s ss rises own t i =
@@ -93,14 +88,6 @@ one_order (s ∷ ss) (t ∷ ts) r q a b =
     let same : s ≡ t = heads s t ss ts r q (a s (inl refl)) (b t (inl refl)) in
     let rest : ss ≡ ts = one_order ss ts r.1 q.1 (tails s t ss ts same r a) (tails t s ts ss (sym same) q b) in
     ap (λ x. x ∷ ss) same ∙ ap (λ l. t ∷ l) rest
-
-contained : (s : Site) (ss : List Site) → In s ss → Contains ss s
-contained s ss i = let k = index_of s s ss i in (k.0, k.1, k.2)
-
-standing : (s : Site) (ss : List Site) (k : ℕ) → k < length ss → get_or ss k s ≡ s → In s ss
-standing s [] k lt is = absurd (omega arith)
-standing s (t ∷ ss) zero lt is = inl (sym is)
-standing s (t ∷ ss) (suc k) lt is = inr (standing s ss k (omega (arith, lt)) is)
 
 same_sites : (xs ys : List Site) → IsPermutation xs ys → Inside xs ys
 same_sites xs ys p s i = let c = Contains-permutation xs ys s p (contained s xs i) in standing s ys c.0 c.1 c.2

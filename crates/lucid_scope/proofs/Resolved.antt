@@ -1,14 +1,17 @@
 -- From the marks in the order of their places to the sites of the tree.
-use Rattle.std.proofs.Common.{◌≡◌, ℕ, ◌+◌, ◌<◌, ◌≤◌, ◌^◌, Bool, true, false, cond, List, [], ◌∷◌, ◌++◌, length, length-append, map, fold, sum_by, get_or, Option, Some, None, IsSome, nat_eq, nat_lt, ◌⊎◌, inl, inr, refl, sym, ap, subst, ◌∙◌, arith, zero, suc}
+use Rattle.std.proofs.Common.{◌≡◌, ℕ, ◌+◌, ◌<◌, ◌≤◌, ◌^◌, Bool, true, false, cond, List, [], ◌∷◌, ◌++◌, length, length-append, map, fold, sum_by, get_or, Option, Some, None, IsSome, nat_eq, ◌⊎◌, inl, inr, refl, sym, ap, subst, ◌∙◌, arith, zero, suc}
 use Rattle.std.specs.List.{All, list_any}
 use Rattle.std.specs.List.Sorted.{IsPermutation, IsNonDecreasingBy}
 use Rattle.std.proofs.lemmas.List.{get_or-map, length-map, get_or_default}
 use Rattle.std.proofs.lemmas.List.Sums.{sum_by-cons}
 use Rattle.std.proofs.lemmas.List.Sorted.{IsPermutation-sym, All-permutation, Contains-permutation, sum_by-IsPermutation, length_permutation}
 use Rattle.std.specs.Cmp.{nat_eq_equiv}
+use Rattle.std.proofs.lemmas.Bool.{cases_lt as either_side}
+use Rattle.lucid_lemmas.proofs.Numbers.{below_or_last as at-last}
 use Rattle.lucid_tree.specs.Tree.{PlainTree}
 use Rattle.lucid_tree.specs.Env.{same_name}
 use Rattle.lucid_tree.specs.WellMade.{places, IsWellMade, In, AllDiffer}
+use Rattle.lucid_tree.proofs.Times.{counts_one as counts}
 use Rattle.lucid_scope.specs.Scope.{outermost}
 use Rattle.lucid_scope.specs.Sites.{Site, named, called, again, site_at, sites}
 use Rattle.lucid_scope.specs.Bindings.{binding_for, fault_of, all_sites, HasNoFault, IsLeastFault, IsResolved}
@@ -46,13 +49,6 @@ itself-true x = nat_eq_equiv.refl x
 -- one where the number is
 pub itself : (x : ℕ) → ◌≡◌ {A = ℕ} (cond (nat_eq x x) 1 0) 1
 itself x = rw (itself-true x) refl
-
-side : (a b : ℕ) (t : Bool) → nat_lt a b ≡ t → (a < b) ⊎ (b ≤ a)
-side a b true is = inl (grind (arith, is))
-side a b false is = inr (grind (arith, is))
-
-pub either_side : (a b : ℕ) → (a < b) ⊎ (b ≤ a)
-either_side a b = side a b (nat_lt a b) refl
 
 counted : (at x : ℕ) (xs : List ℕ) (b : Bool) → nat_eq at x ≡ b → ((at ≡ x) ⊎ In at xs → ⊥) → sum_by (λ x. cond (nat_eq at x) 1 0) xs ≡ 0 → cond b 1 0 + sum_by (λ x. cond (nat_eq at x) 1 0) xs ≡ 0
 counted at x xs true is h zero_left = absurd (h (inl (grind (arith, is))))
@@ -211,9 +207,6 @@ two-there f (m ∷ ms) k zero c d h l = absurd (omega (arith, h))
 two-there f (m ∷ ms) zero (suc i) c d h l = omega (arith, sum_by-cons f m ms, one-there f ms i d (omega (arith, l)))
 two-there f (m ∷ ms) (suc k) (suc i) c d h l = omega (arith, sum_by-cons f m ms, two-there f ms k i c d (omega (arith, h)) (omega (arith, l)))
 
-counts : (at x : ℕ) → at ≡ x → ◌≡◌ {A = ℕ} (cond (nat_eq at x) 1 0) 1
-counts at x e = rw e (itself x)
-
 pub apart : (ms : List Mark) → ArePlacesDifferent ms → (k i : ℕ) (c d : Mark) → k < i → i < length ms → (get_or ms k c).at ≡ (get_or ms i d).at → ⊥
 apart ms differ k i c d h l same =
     let at : ℕ = (get_or ms i d).at in
@@ -234,9 +227,6 @@ other-key at x a b ne false is = refl
 
 same-key : (at : ℕ) (a b : Option Binding) → cond (nat_eq at at) a b ≡ a
 same-key at a b = rw (itself-true at) refl
-
-at-last : (k i : ℕ) → k < i + 1 → (k < i) ⊎ (k ≡ i)
-at-last k i h = elim (either_side k i) [ inl l ↦ inl l | inr g ↦ inr (omega (arith, h, g)) ]
 
 pub bind-more : (ms : List Mark) (inputs : List (List ℕ)) (i : ℕ) (m : Mark) (old new : ℕ → Option Binding) → i < length ms → m ≡ get_or ms i m → ArePlacesDifferent ms
     → ((q : ℕ) → new q ≡ cond (nat_eq m.at q) (mark_binding inputs m) (old q)) → Bound ms inputs i old → Bound ms inputs (i + 1) new

@@ -4,6 +4,7 @@ use Rattle.std.specs.Prelude.{unwrap_or}
 use Rattle.std.specs.List.{All, Contains}
 use Rattle.std.proofs.lemmas.List.{length-map, get_or_default}
 use Rattle.std.proofs.lemmas.List.Sorted.{IsPermutation-refl}
+use Rattle.std.proofs.lemmas.Bool.{cases_lt as either_side}
 use Rattle.lucid_tree.specs.Tree.{PlainTree}
 use Rattle.lucid_tree.specs.WellMade.{IsWellMade}
 use Rattle.lucid_scope.specs.Sites.{Site, site_at}
@@ -12,7 +13,7 @@ use Rattle.lucid_scope.specs.Walks.{mark}
 use Rattle.lucid_scope.specs.declared.marks.Mark.{Mark}
 use Rattle.lucid_scope.specs.declared.refusal.ScopeRefusal.{ScopeRefusal}
 use Rattle.lucid_scope.proofs.Marked.{Ordered}
-use Rattle.lucid_scope.proofs.Resolved.{mark-at, here, different, apart, either_side, none_some}
+use Rattle.lucid_scope.proofs.Resolved.{mark-at, here, different, apart, none_some}
 
 abbrev unsorted : (e : PlainTree) → Ordered (all_sites e) (map mark (all_sites e))
 unsorted e = record { order = all_sites e; marks = refl; permutes = IsPermutation-refl (all_sites e) }

@@ -1,5 +1,5 @@
 -- What a search finds among pairs whose keys rise, and what an edit at that place does.
-use Rattle.std.proofs.Common.{◌≡◌, ℕ, zero, suc, ◌+◌, ◌-◌, ◌<◌, ◌≤◌, ◌≢◌, ◌==◌, true, false, cond, List, [], ◌∷◌, length, get_or, set, Some, None, IsSome, Result, Ok, Err, IfOk, IfErr, refl, sym, ap, subst, ◌∙◌, arith}
+use Rattle.std.proofs.Common.{◌≡◌, ℕ, zero, suc, ◌+◌, ◌-◌, ◌<◌, ◌≤◌, ◌≢◌, ◌==◌, true, false, cond, List, [], ◌∷◌, length, get_or, set, Some, None, IsSome, Result, Ok, Err, IfOk, IfErr, refl, sym, ap, subst, ◌∙◌, arith, true≢false}
 use Rattle.std.specs.List.{insert}
 use Rattle.std.specs.List.Sorted.{IsSearchInRange, IsBinarySearchResult, IsNonDecreasingBy}
 use Rattle.std.specs.Ordering.{nat_cmp, ordering_index}
@@ -8,29 +8,16 @@ use Rattle.std.proofs.lemmas.List.Sorted.{IsNonDecreasingBy-from_default}
 use Rattle.std.proofs.lemmas.List.Edits.{length-insert, get_or-insert_below, get_or-insert_at, get_or-insert_above}
 use Rattle.std.proofs.lemmas.Bool.Decides.{nat_tests}
 use Rattle.std.proofs.lemmas.Grind.{common_steps}
+use Rattle.std.proofs.lemmas.Bool.{eqb-true}
+use Rattle.lucid_lemmas.proofs.Numbers.{number_itself, below_differs, equality_turned}
 use Rattle.lucid_search.specs.Numbered.{number_in, key_at, Rises, IsAt, IsGapFor, SetsOne}
 use Rattle.lucid_search.specs.Noted.{IsBestOf}
-
-same_number : (a b : ℕ) → (a == b) ≡ true → a ≡ b
-same_number a b h = grind (arith, nat_tests)
-
-number_itself : (a : ℕ) → (a == a) ≡ true
-number_itself a = grind (arith, nat_tests)
-
-below_differs : (a b : ℕ) → a < b → (a == b) ≡ false
-below_differs a b h = grind (arith, nat_tests)
-
-turned : (n q : ℕ) → (n == q) ≡ (q == n)
-turned n q = grind (arith, nat_tests)
-
-true_is_false : true ≡ false → ⊥
-true_is_false e = cc
 
 -- no pair has the key
 none_has : (l : List (ℕ × ℕ)) (n : ℕ) → ((d : ℕ × ℕ) (j : ℕ) → j < length l → key_at d l j ≢ n) → number_in l n ≡ None
 none_has [] n none = refl
 none_has (x ∷ l) n none = (elim (x.0 == n) as (λ t. (x.0 == n) ≡ t → cond t (Some x.1) (number_in l n) ≡ None) [
-  | true ↦ λ t. absurd (none x 0 (omega arith) (same_number x.0 n t))
+  | true ↦ λ t. absurd (none x 0 (omega arith) (eqb-true x.0 n t))
   | false ↦ λ t. none_has l n (λ d j h. none d (suc j) (omega (arith, h)))
 ]) refl
 
@@ -39,27 +26,27 @@ first_has : (l : List (ℕ × ℕ)) (n i : ℕ) (d : ℕ × ℕ) → i < length 
 first_has [] n i d h at none = absurd (omega (arith, h))
 first_has (x ∷ l) n zero d h at none = ap (λ t. cond t (Some x.1) (number_in l n)) (ap (λ m. m == n) at ∙ number_itself n)
 first_has (x ∷ l) n (suc i) d h at none = (elim (x.0 == n) as (λ t. (x.0 == n) ≡ t → cond t (Some x.1) (number_in l n) ≡ Some (get_or l i d).1) [
-  | true ↦ λ t. absurd (none 0 (omega arith) (same_number x.0 n t))
+  | true ↦ λ t. absurd (none 0 (omega arith) (eqb-true x.0 n t))
   | false ↦ λ t. first_has l n i d (omega (arith, h)) at (λ j lt. none (suc j) (omega (arith, lt)))
 ]) refl
 
 -- a key that has a number stands at a place
 some_place : (l : List (ℕ × ℕ)) (n : ℕ) → IsSome (number_in l n) → (j : ℕ) × ((j < length l) × ((d : ℕ × ℕ) → key_at d l j ≡ n))
-some_place [] n h = absurd (true_is_false (sym h))
+some_place [] n h = absurd (true≢false (sym h))
 some_place (x ∷ l) n h = (elim (x.0 == n) as (λ t. (x.0 == n) ≡ t → IsSome (cond t (Some x.1) (number_in l n)) → (j : ℕ) × ((j < length (x ∷ l)) × ((d : ℕ × ℕ) → key_at d (x ∷ l) j ≡ n))) [
-  | true ↦ λ t h. (0, (omega arith, λ d. same_number x.0 n t))
+  | true ↦ λ t h. (0, (omega arith, λ d. eqb-true x.0 n t))
   | false ↦ λ t h. let rest = some_place l n h in (suc rest.0, (omega (arith, rest.1.0), rest.1.1))
 ]) refl h
 
 -- a new pair before any pair that has the key
 has_inserted : (l : List (ℕ × ℕ)) (n v i : ℕ) (d : ℕ × ℕ) → ((j : ℕ) → j < i → key_at d l j < n) → i ≤ length l → (q : ℕ) → number_in (insert l i (n, v)) q ≡ cond (q == n) (Some v) (number_in l q)
-has_inserted l n v zero d less h q = ap (λ t. cond t (Some v) (number_in l q)) (turned n q)
+has_inserted l n v zero d less h q = ap (λ t. cond t (Some v) (number_in l q)) (equality_turned n q)
 has_inserted [] n v (suc i) d less h q = absurd (omega (arith, h))
 has_inserted (x ∷ l) n v (suc i) d less h q =
     let first = less 0 (omega arith) in
     ap (cond (x.0 == q) (Some x.1)) (has_inserted l n v i d (λ j lt. less (suc j) (omega (arith, lt))) (omega (arith, h)) q)
     ∙ (elim (x.0 == q) as (λ t. (x.0 == q) ≡ t → cond t (Some x.1) (cond (q == n) (Some v) (number_in l q)) ≡ cond (q == n) (Some v) (cond t (Some x.1) (number_in l q))) [
-      | true ↦ λ t. let same = same_number x.0 q t in ap (λ b. cond b (Some v) (Some x.1)) (sym (below_differs q n (omega (arith, first, same))))
+      | true ↦ λ t. let same = eqb-true x.0 q t in ap (λ b. cond b (Some v) (Some x.1)) (sym (below_differs q n (omega (arith, first, same))))
       | false ↦ λ t. refl
     ]) refl
 
@@ -67,14 +54,14 @@ has_inserted (x ∷ l) n v (suc i) d less h q =
 has_set : (l : List (ℕ × ℕ)) (n v i : ℕ) (d : ℕ × ℕ) → ((j : ℕ) → j < i → key_at d l j < n) → i < length l → key_at d l i ≡ n → (q : ℕ) → number_in (set l i (n, v)) q ≡ cond (q == n) (Some v) (number_in l q)
 has_set [] n v i d less h at q = absurd (omega (arith, h))
 has_set (x ∷ l) n v zero d less h at q = (elim (q == n) as (λ t. (q == n) ≡ t → cond (n == q) (Some v) (number_in l q) ≡ cond t (Some v) (cond (x.0 == q) (Some x.1) (number_in l q))) [
-  | true ↦ λ t. ap (λ b. cond b (Some v) (number_in l q)) (turned n q ∙ t)
-  | false ↦ λ t. ap (λ b. cond b (Some v) (number_in l q)) (turned n q ∙ t) ∙ ap (λ b. cond b (Some x.1) (number_in l q)) (sym (ap (λ m. m == q) at ∙ turned n q ∙ t))
+  | true ↦ λ t. ap (λ b. cond b (Some v) (number_in l q)) (equality_turned n q ∙ t)
+  | false ↦ λ t. ap (λ b. cond b (Some v) (number_in l q)) (equality_turned n q ∙ t) ∙ ap (λ b. cond b (Some x.1) (number_in l q)) (sym (ap (λ m. m == q) at ∙ equality_turned n q ∙ t))
 ]) refl
 has_set (x ∷ l) n v (suc i) d less h at q =
     let first = less 0 (omega arith) in
     ap (cond (x.0 == q) (Some x.1)) (has_set l n v i d (λ j lt. less (suc j) (omega (arith, lt))) (omega (arith, h)) at q)
     ∙ (elim (x.0 == q) as (λ t. (x.0 == q) ≡ t → cond t (Some x.1) (cond (q == n) (Some v) (number_in l q)) ≡ cond (q == n) (Some v) (cond t (Some x.1) (number_in l q))) [
-      | true ↦ λ t. let same = same_number x.0 q t in ap (λ b. cond b (Some v) (Some x.1)) (sym (below_differs q n (omega (arith, first, same))))
+      | true ↦ λ t. let same = eqb-true x.0 q t in ap (λ b. cond b (Some v) (Some x.1)) (sym (below_differs q n (omega (arith, first, same))))
       | false ↦ λ t. refl
     ]) refl
 

@@ -4,6 +4,8 @@ use Rattle.std.specs.Prelude.{Result, Ok, Err, IsTrue, IsSome, IfOk, if◌then�
 use Rattle.std.specs.List.{filter_map, cons_option}
 use Rattle.std.specs.Bool.{Decides}
 use Rattle.std.proofs.lemmas.Bool.Decides.{Decides-eqb, Decides-and, not_from_Decides}
+use Rattle.std.proofs.lemmas.Option.{same_Some}
+use Rattle.lucid_lemmas.proofs.Options.{value_there as some_value}
 use Rattle.lucid_value.specs.Plain.{PlainValue}
 use Rattle.lucid_tree.specs.Members.{In}
 use Rattle.lucid_tree.specs.Levels.{Elements, HoldsExactly, goes_to, Event, looked_up, referred, entered, valued_of}
@@ -27,7 +29,7 @@ use Rattle.lucid_session.specs.Figures.{Counted, table_counted, points_below, Is
 use Rattle.lucid_session.specs.Laws.{StandsFor, FiguresCarry}
 use Rattle.lucid_session.proofs.Counting.{counted}
 use Rattle.lucid_session.proofs.Points.{point_below}
-use Rattle.lucid_session.proofs.Lists.{from_flat, some_value, some_once}
+use Rattle.lucid_session.proofs.Lists.{from_flat}
 
 -- one value at most is listed of each daton at a space
 abbrev IsOnce : List (Daton × ℕ × PlainValue) → Type 0
@@ -124,7 +126,7 @@ values_once T b m points defined k s v w i j =
     let g = some_value (eqval (equations_of T) b m y.item.0 y.item.1) (defined y.item y.among) in
     let aims : ◌≡◌ {A = NodeAim} (goes_to k p.position p.time) (goes_to k q.position q.time) =
     sym (goes_on T b m x.item.0 x.item.1 f.0 f.1 k s v p) ∙ goes_on T b m y.item.0 y.item.1 g.0 g.1 k s w q in
-    some_once (sym p.value ∙ (λ i. values_at (equations_of T) b m (ap (place_in p.position) aims i) (ap time_in aims i) s) ∙ q.value)
+    same_Some _ _ (sym p.value ∙ (λ i. values_at (equations_of T) b m (ap (place_in p.position) aims i) (ap time_in aims i) s) ∙ q.value)
 
 module _ (T : Table) (D : Counted Referent Env) (stands : StandsFor (table_counted T) D) (b : Elements) where
   defined_too : (m w : ℕ) → IsDefinedBelow D b m w → IsDefinedBelow (table_counted T) b m w

@@ -1,38 +1,11 @@
 -- How many different items a list has, and no list of different items is longer than one that has them all.
-use Rattle.std.proofs.Common.{◌≡◌, ℕ, suc, ◌≤◌, length, Bool, true, false, List, [], ◌∷◌, refl, sym, ap, ◌∙◌, subst, inl, inr, ◌⊎◌, arith}
+use Rattle.std.proofs.Common.{◌≡◌, ℕ, suc, Bool, true, false, List, [], ◌∷◌, refl, sym, ap, subst, inl, inr, ◌⊎◌}
 use Rattle.std.specs.Bool.{Decides}
 use Rattle.std.proofs.lemmas.Bool.Decides.{not_from_Decides}
-use Rattle.lucid_tree.specs.Members.{In, Inside, AllDiffer}
+use Rattle.lucid_tree.specs.Members.{In}
 use Rattle.lucid_equations.specs.Counts.{HasDistinct}
 
 module _ {A : Type 0} where
-  -- the list without the item, which it has
-  without : (v : A) (us : List A) → In v us → List A
-  without v [] i = []
-  without v (u ∷ us) (inl e) = us
-  without v (u ∷ us) (inr i) = u ∷ without v us i
-
-  length-without : (v : A) (us : List A) (i : In v us) → suc (length (without v us i)) ≡ length us
-  unfolding without
-  length-without v [] i = absurd i
-  length-without v (u ∷ us) (inl e) = refl
-  length-without v (u ∷ us) (inr i) = ap suc (length-without v us i)
-
-  in-without : (v : A) (us : List A) (i : In v us) (x : A) → (x ≡ v → ⊥) → In x us → In x (without v us i)
-  unfolding without
-  in-without v [] i x d j = absurd j
-  in-without v (u ∷ us) (inl e) x d (inl e') = absurd (d (e' ∙ sym e))
-  in-without v (u ∷ us) (inl e) x d (inr j) = j
-  in-without v (u ∷ us) (inr i) x d (inl e) = inl e
-  in-without v (u ∷ us) (inr i) x d (inr j) = inr (in-without v us i x d j)
-
-  -- A list of different items that all stand in another is no longer.
-  pub fewer : (vs us : List A) → AllDiffer vs → Inside vs us → length vs ≤ length us
-  fewer [] us r h = omega arith
-  fewer (v ∷ vs) us r h =
-      let i : In v us = h v (inl refl) in
-      omega (arith, length-without v us i, fewer vs (without v us i) r.1 (λ x j. in-without v us i x (λ e. r.0 (subst (λ z. In z vs) e j)) (h x (inr j))))
-
   module _ (same : A → A → Bool) (decides : (x y : A) → Decides (same x y) (x ≡ y)) where
     -- an item stands in a list, or doesn't
     pub in_or_not : (x : A) (xs : List A) → In x xs ⊎ (In x xs → ⊥)

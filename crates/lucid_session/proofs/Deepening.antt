@@ -1,7 +1,8 @@
 -- Where exactly what is needed is held, the approximations with that held are those with all that the values before needed, each with its
 -- value.
-use Rattle.std.proofs.Common.{◌≡◌, ℕ, Option, Some, None, refl, sym, ap, ◌∙◌, subst, arith}
+use Rattle.std.proofs.Common.{◌≡◌, ℕ, Option, Some, refl, sym, ap, ◌∙◌, subst, arith}
 use Rattle.std.specs.Prelude.{IsSome, option_map}
+use Rattle.lucid_lemmas.proofs.Options.{value_there as some_value, same_values}
 use Rattle.lucid_value.specs.Plain.{PlainValue}
 use Rattle.lucid_tree.specs.Members.{In}
 use Rattle.lucid_tree.specs.Levels.{Elements, HoldsExactly, referred, nothing_held, reference_of, valued_of}
@@ -20,16 +21,10 @@ use Rattle.lucid_facts.specs.Stands.{Holding}
 use Rattle.lucid_facts.specs.Held.{HoldsRight}
 use Rattle.lucid_facts.proofs.MoreRead.{held_means}
 use Rattle.lucid_session.specs.Figures.{points_below, table_counted, IsDefinedBelow}
-use Rattle.lucid_session.proofs.Lists.{some_is, some_value, from_flat, in_flat}
+use Rattle.lucid_session.proofs.Lists.{some_is, from_flat, in_flat}
 use Rattle.lucid_session.proofs.Points.{point_below, below_point}
 use Rattle.lucid_session.proofs.Carrying.{went-to, goes_on, values_at}
 use Rattle.lucid_session.proofs.Moments.{Start, IsNeededBelow}
-
--- each has a value where the other has it
-same_values : {A : Type 0} (o p : Option A) → ((v : A) → o ≡ Some v → p ≡ Some v) → ((v : A) → p ≡ Some v → o ≡ Some v) → o ≡ p
-same_values None None f g = refl
-same_values None (Some y) f g = g y refl
-same_values (Some x) p f g = sym (f x refl)
 
 some_like : {A : Type 0} (o : Option A) (x y : A) → o ≡ Some x → y ≡ x → o ≡ Some y
 some_like o x y e f = e ∙ ap Some (sym f)

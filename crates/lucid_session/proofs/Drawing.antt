@@ -1,6 +1,7 @@
 -- What a demand draws from the inputs of a run, and what it lets the engine know.
 use Rattle.std.proofs.Common.{◌≡◌, ℕ, suc, ◌<◌, ◌≤◌, List, length, Option, Some, None, refl, sym, ap, ◌∙◌, subst, arith, ◌⊎◌, inl, inr}
 use Rattle.std.specs.Prelude.{slice_get, IfSome}
+use Rattle.std.proofs.lemmas.Option.{same_Some, none-some}
 use Rattle.lucid_value.specs.Lines.{end_of_line}
 use Rattle.lucid_tree.specs.Members.{In}
 use Rattle.lucid_tree.specs.Levels.{Elements}
@@ -8,10 +9,9 @@ use Rattle.lucid_ports.specs.World.{World, Contents}
 use Rattle.lucid_inputs.specs.Streams.{Stream, Fits, all_bytes}
 use Rattle.lucid_equations.specs.Visits.{consults_on_nodes}
 use Rattle.lucid_equations.specs.Rows.{equations_of}
-use Rattle.lucid_facts.specs.Engine.{EngineView, AreAskable, ReadsOnly, DrawsWithin, VisitsNew, places_of}
+use Rattle.lucid_facts.specs.Engine.{EngineView, AreAskable, ReadsOnly, DrawsWithin, places_of}
 use Rattle.lucid_facts.specs.Engine as facts
 use Rattle.lucid_session.specs.Runs.{Told, HasElements, ReadsWithin}
-use Rattle.lucid_session.proofs.Lists.{some_once, none_some}
 use Rattle.lucid_session.proofs.Added.{Added, at_once, so, both, of_numbers}
 use Rattle.lucid_session.proofs.Moments.{Start, seen, of_run, IsConsultedBelow, DrawsBelow}
 use Rattle.lucid_session.proofs.Told.{stream_at, tells_too}
@@ -23,8 +23,8 @@ found (Some x) = inl (x, refl)
 
 -- what fits a place that tells contents counts what they have consumed
 counts : (s : Stream) (o : Option Contents) (c : Contents) → IfSome o (λ c. Fits s c) → o ≡ Some c → s.consumed ≡ length c.consumed
-counts s None c fits e = absurd (none_some e)
-counts s (Some d) c fits e = fits.consumed ∙ ap (λ x. length x.consumed) (some_once e)
+counts s None c fits e = absurd (none-some _ e)
+counts s (Some d) c fits e = fits.consumed ∙ ap (λ x. length x.consumed) (same_Some _ _ e)
 
 -- Where each stream fits its place, of no input more is consumed than its stream may read.
 pub reads_within : (z : Start) (e : EngineView) (w : World) (o : Told) → AreAskable e.streams w → places_of e.streams ≡ z.places → facts.ReadsWithin (of_run z e) → ReadsWithin (seen z w o)
@@ -35,8 +35,8 @@ reads_within z e w o ask places few k n q is old new first last =
     inr (omega (arith, counted, most))
 
 drawn_of : (o : Option Contents) (c : Contents) (P : Contents → Type 0) → IfSome o P → o ≡ Some c → P c
-drawn_of None c P h e = absurd (none_some e)
-drawn_of (Some d) c P h e = subst P (some_once e) h
+drawn_of None c P h e = absurd (none-some _ e)
+drawn_of (Some d) c P h e = subst P (same_Some _ _ e) h
 
 module _ (z : Start) (b : Elements) where
   -- what is consulted below a time is consulted below a later one
@@ -59,7 +59,7 @@ module _ (z : Start) (b : Elements) where
         by mid.0 (all new end.0 old (sym last ∙ end.1) end.2) (draws n q is old mid.0 first mid.1) (from n q is mid.0 new mid.1 last)
       where
         all : (c d e : Contents) → ◌≡◌ {A = Option Contents} (Some c) (Some d) → all_bytes d ≡ all_bytes e → all_bytes c ≡ all_bytes e
-        all c d e same bytes = ap all_bytes (some_once same) ∙ bytes
+        all c d e same bytes = ap all_bytes (same_Some _ _ same) ∙ bytes
 
         by : (mid : Contents) → all_bytes new ≡ all_bytes old
             → (length mid.consumed ≤ length old.consumed) ⊎ ((j : ℕ) × IsConsultedBelow z b a d (n, j) × (length mid.consumed ≤ end_of_line (all_bytes old) j))
@@ -97,17 +97,17 @@ module _ (z : Start) (b : Elements) where
           told : (n : List ℕ) (q : ℕ) → slice_get z.table.inputs k ≡ Some n → slice_get z.places k ≡ Some q
               → ((x : Contents) × ((v.place q).contents ≡ Some x)) ⊎ ((v.place q).contents ≡ None) → ((y : Contents) × ((w.place q).contents ≡ Some y)) ⊎ ((w.place q).contents ≡ None)
               → Added z.policy.empties (DrawnFrom v w t k)
-          told n q e f (inr lacks) g = nothing (λ d m p is x y first last. absurd (none_some (sym (ap (λ i. (v.place i).contents) (some_once (sym is.1 ∙ f)) ∙ lacks) ∙ first)))
-          told n q e f (inl x) (inr lacks) = nothing (λ d m p is c y first last. absurd (none_some (sym (ap (λ i. (w.place i).contents) (some_once (sym is.1 ∙ f)) ∙ lacks) ∙ last)))
+          told n q e f (inr lacks) g = nothing (λ d m p is x y first last. absurd (none-some _ (sym (ap (λ i. (v.place i).contents) (same_Some _ _ (sym is.1 ∙ f)) ∙ lacks) ∙ first)))
+          told n q e f (inl x) (inr lacks) = nothing (λ d m p is c y first last. absurd (none-some _ (sym (ap (λ i. (w.place i).contents) (same_Some _ _ (sym is.1 ∙ f)) ∙ lacks) ∙ last)))
           told n q e f (inl x) (inl y) =
               let s = stream_at old.streams k q (ap (λ ps. slice_get ps k) places ∙ f) in
               let r = stream_at new.streams k q (ap (λ ps. slice_get ps k) places_now ∙ f) in
               so z.policy.empties _ (DrawnFrom v w t k)
               (λ d h m p is c g first last.
-              let same_name : n ≡ m = some_once (sym e ∙ is.0) in
-              let same_place : q ≡ p = some_once (sym f ∙ is.1) in
-              let same_old : x.0 ≡ c = some_once (sym x.1 ∙ ap (λ i. (v.place i).contents) same_place ∙ first) in
-              let same_new : y.0 ≡ g = some_once (sym y.1 ∙ ap (λ i. (w.place i).contents) same_place ∙ last) in
+              let same_name : n ≡ m = same_Some _ _ (sym e ∙ is.0) in
+              let same_place : q ≡ p = same_Some _ _ (sym f ∙ is.1) in
+              let same_old : x.0 ≡ c = same_Some _ _ (sym x.1 ∙ ap (λ i. (v.place i).contents) same_place ∙ first) in
+              let same_new : y.0 ≡ g = same_Some _ _ (sym y.1 ∙ ap (λ i. (w.place i).contents) same_place ∙ last) in
               subst (λ c. (length g.consumed ≤ length c.consumed) ⊎ ((j : ℕ) × In (m, j) (consults_on_nodes (equations_of z.table) b z.depth d t 0) × (length g.consumed ≤ end_of_line (all_bytes g) j))) same_old
               (subst (λ g. (length g.consumed ≤ length x.0.consumed) ⊎ ((j : ℕ) × In (m, j) (consults_on_nodes (equations_of z.table) b z.depth d t 0) × (length g.consumed ≤ end_of_line (all_bytes g) j))) same_new
               (subst (λ m. (length y.0.consumed ≤ length x.0.consumed) ⊎ ((j : ℕ) × In (m, j) (consults_on_nodes (equations_of z.table) b z.depth d t 0) × (length y.0.consumed ≤ end_of_line (all_bytes y.0) j))) same_name h)))
@@ -115,8 +115,8 @@ module _ (z : Start) (b : Elements) where
 
           named : ((n : List ℕ) × (slice_get z.table.inputs k ≡ Some n)) ⊎ (slice_get z.table.inputs k ≡ None) → ((q : ℕ) × (slice_get z.places k ≡ Some q)) ⊎ (slice_get z.places k ≡ None)
               → Added z.policy.empties (DrawnFrom v w t k)
-          named (inr lacks) g = nothing (λ d n q is. absurd (none_some (sym lacks ∙ is.0)))
-          named (inl n) (inr lacks) = nothing (λ d m q is. absurd (none_some (sym lacks ∙ is.1)))
+          named (inr lacks) g = nothing (λ d n q is. absurd (none-some _ (sym lacks ∙ is.0)))
+          named (inl n) (inr lacks) = nothing (λ d m q is. absurd (none-some _ (sym lacks ∙ is.1)))
           named (inl n) (inl q) = told n.0 q.0 n.1 q.1 (found (v.place q.0).contents) (found (w.place q.0).contents)
 
       -- So one added number does for all inputs, and for all times so far.

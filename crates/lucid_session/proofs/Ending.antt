@@ -1,8 +1,8 @@
 -- How a run ends, and what it has promised then.
-use Rattle.std.proofs.Common.{◌≡◌, ◌≢◌, ℕ, suc, ◌<◌, ◌≤◌, Bool, true, false, List, [], length, Option, Some, None, refl, sym, ap, ◌∙◌, subst, arith, ◌⊎◌, inl, inr, append-nil, true≢false}
+use Rattle.std.proofs.Common.{◌≡◌, ℕ, suc, ◌<◌, ◌≤◌, Bool, true, false, List, [], length, Option, Some, None, refl, sym, ap, ◌∙◌, subst, arith, ◌⊎◌, inl, inr, append-nil, true≢false, ◌≢◌}
 use Rattle.std.specs.Prelude.{IsTrue, IsSome, IfSome, Ok, Err, IsErrOf, option_map, slice_get}
 use Rattle.std.proofs.lemmas.Bool.{cases_lt}
-use Rattle.std.proofs.lemmas.Option.{slice_get_within}
+use Rattle.std.proofs.lemmas.Option.{slice_get_within, same_Some, none-some}
 use Rattle.lucid_value.specs.declared.Value.{Value}
 use Rattle.lucid_value.specs.Plain.{eod}
 use Rattle.lucid_value.specs.View.{plain}
@@ -27,12 +27,12 @@ use Rattle.lucid_demand.specs.declared.fault.DemandFault.{DemandFault}
 use Rattle.lucid_demand.specs.declared.fault.DemandFault.TheVariants.{TooDeep, ReadFault, TooLarge, NoMemory}
 use Rattle.lucid_session.specs.Subject.{Subject, stream_subject, table_stream, StreamMeans, Output, no_lines, one_line_more}
 use Rattle.lucid_session.specs.Runs as runs
-use Rattle.lucid_session.specs.Runs.{Told, RunView, HasElements, Written, ForSomeAdded, ConsumesWithin, ReadsWithin, EndsAt, IsDone, IsDeepEnough, Ran, Causes}
+use Rattle.lucid_session.specs.Runs.{Told, Written, ForSomeAdded, ConsumesWithin, ReadsWithin, EndsAt, Ran, Causes}
 use Rattle.lucid_session.specs.Figures.{table_counted, points_below, IsDefinedBelow, times_of, Figures, HasMoreThan}
 use Rattle.lucid_session.specs.Sessions.{Promises}
 use Rattle.lucid_session.specs.Faults.{of_demand}
 use Rattle.lucid_session.proofs.Added.{Added}
-use Rattle.lucid_session.proofs.Lists.{some_once, none_some, some_is, is_none}
+use Rattle.lucid_session.proofs.Lists.{some_is, is_none}
 use Rattle.lucid_facts.proofs.History.{reads_only_itself}
 use Rattle.lucid_session.proofs.Stopped.{ran_nothing, figures_nothing, causes_nothing}
 use Rattle.lucid_session.proofs.Moments.{Start, seen, of_run, HasLines, Visited, HoldsBelow, Going, DrawsBelow, IsConsultedBelow}
@@ -133,8 +133,8 @@ module _ (z : Start) (b : Elements) (w : World) (o : Told) where
 -- what is said of the bytes that a place tells, whether they are consumed or left
 same_bytes : (P : List ℕ → Type 0) (o p : Option Contents) → option_map all_bytes p ≡ option_map all_bytes o → IfSome p (λ c. P (all_bytes c)) → IfSome o (λ c. P (all_bytes c))
 same_bytes P None p e h = tt
-same_bytes P (Some c) None e h = absurd (none_some e)
-same_bytes P (Some c) (Some d) e h = subst P (some_once e) h
+same_bytes P (Some c) None e h = absurd (none-some _ e)
+same_bytes P (Some c) (Some d) e h = subst P (same_Some _ _ e) h
 
 -- An overlong element that a demand consults is one that the run consults.
 overlong : (z : Start) (b : Elements) (e : EngineView) (w : World) (o : Told) (k t whole : ℕ) → places_of e.streams ≡ z.places → ReadsOnly z.places z.before w → t < z.count → t ≤ whole

@@ -2,12 +2,13 @@
 use Rattle.std.proofs.Common.{◌≡◌, ℕ, suc, ◌+◌, ◌<◌, ◌≤◌, ◌-◌, ◌^◌, [], ◌∷◌, length, Option, Some, None, refl, sym, ap, ◌∙◌, subst, arith, ◌⊎◌, inl, inr}
 use Rattle.std.specs.Prelude.{IsTrue, IfSome, Result, Ok, Err, IfOk, IfErr, IsErrOf}
 use Rattle.std.proofs.lemmas.Bool.{cases_lt}
-use Rattle.std.proofs.lemmas.Option.{slice_get_within}
+use Rattle.std.proofs.lemmas.Option.{slice_get_within, same_Some}
 use Rattle.lucid_value.specs.declared.Value.{Value}
 use Rattle.lucid_value.specs.View.{plain}
 use Rattle.lucid_tree.specs.Members.{In}
 use Rattle.lucid_tree.specs.Levels.{Elements, HoldsExactly}
 use Rattle.lucid_tags.specs.Contexts.{Context, root}
+use Rattle.lucid_ports.proofs.WritingLemmas.{with_nothing}
 use Rattle.lucid_store.specs.Entries.{count_of, empty_warehouse}
 use Rattle.lucid_ports.specs.Faults.{Rises, CountsNoFaultUnless}
 use Rattle.lucid_ports.specs.World.{World}
@@ -28,8 +29,6 @@ use Rattle.lucid_session.specs.Subject.{StreamMeans, table_stream, no_lines}
 use Rattle.lucid_session.specs.Runs.{Told, HasElements, ReadsWithin}
 use Rattle.lucid_session.specs.Figures.{points_below, table_counted, IsDefinedBelow, HasMoreThan}
 use Rattle.lucid_session.proofs.Added.{at_once, so}
-use Rattle.lucid_session.proofs.Lists.{some_once}
-use Rattle.lucid_session.proofs.Stopped.{with_nothing}
 use Rattle.lucid_session.proofs.Moments.{Start, seen, of_run, HasLines, Visited, HoldsBelow, SoFar, Going, DrawsBelow, entered_below}
 use Rattle.lucid_session.proofs.Told.{may_have}
 use Rattle.lucid_session.proofs.Drawing.{reads_within, drawn_more}
@@ -43,7 +42,7 @@ few_at None n e = tt
 few_at (Some r) n e = omega (arith, e)
 
 same_contents : {A : Type 0} (o : Option A) (x y : A) → o ≡ Some x → o ≡ Some y → x ≡ y
-same_contents o x y e f = some_once (sym e ∙ f)
+same_contents o x y e f = same_Some _ _ (sym e ∙ f)
 
 -- A run begins with an engine that holds nothing and knows the empty context alone.
 pub begins : (z : Start) (e : EngineView) → e ≡ of_run z e → IsSound e → AreAskable e.streams z.before → places_of e.streams ≡ z.places → e.known ≡ root ∷ [] → e.stored ≡ empty_warehouse

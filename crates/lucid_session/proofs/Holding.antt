@@ -5,10 +5,13 @@ use Rattle.std.specs.List.{IsDistinct, AllByRecursion}
 use Rattle.std.specs.Map.{lookup, keys_of}
 use Rattle.std.proofs.lemmas.Bool.{cases_lt}
 use Rattle.std.proofs.lemmas.Map.Keys.{IsDistinct-head, IsDistinct-tail}
+use Rattle.std.proofs.lemmas.List.{length-map}
+use Rattle.lucid_lemmas.proofs.Options.{value_there as some_value, some_still}
 use Rattle.lucid_value.specs.Plain.{PlainValue}
 use Rattle.lucid_value.specs.View.{plain}
 use Rattle.lucid_tree.specs.Members.{In, AllDiffer}
 use Rattle.lucid_tree.specs.Levels.{Elements}
+use Rattle.lucid_tree.proofs.Members.{in_map}
 use Rattle.lucid_tags.specs.Contexts.{Context, root}
 use Rattle.lucid_tags.specs.Known.{IsKnown, IsOneForOne}
 use Rattle.lucid_tags.specs.Keys.{same_key}
@@ -26,7 +29,7 @@ use Rattle.lucid_facts.specs.Held.{held_in, AreKeysKnown}
 use Rattle.lucid_facts.specs.Engine.{EngineView, IsSound, HoldsNeeded, holding}
 use Rattle.lucid_facts.proofs.HeldByKey.{key_of_held, held_of_key}
 use Rattle.lucid_session.specs.Figures.{points_below, table_counted, IsDefinedBelow}
-use Rattle.lucid_session.proofs.Lists.{some_is, some_value, from_flat, in_flat, in_map, from_map, length_map}
+use Rattle.lucid_session.proofs.Lists.{some_is, from_flat, in_flat, from_map}
 use Rattle.lucid_session.proofs.Points.{point_below, below_point}
 use Rattle.lucid_session.proofs.Moments.{Start, of_run, IsNeededBelow, HoldsBelow}
 
@@ -40,15 +43,10 @@ keys_alike known one k q h j e =
     let tags = (one.tags k.tag q.tag h j).1 (ap (λ z. z.0.context) e, ap (λ z. z.1) e) in
     λ i. record { name = ap (λ z. z.0.name) e i; tag = tags i; time = ap (λ z. z.0.time) e i }
 
--- an entry's key is found
-further : (t : Bool) (e : Entry) (o : Option Entry) → IsSome o → IsSome (cond t (Some e) o)
-further true e o h = refl
-further false e o h = h
-
 is_found : (es : List (Key × Entry)) (x : Key × Entry) → In x es → IsSome (lookup (same_key x.0) es)
 is_found [] x i = absurd i
 is_found (e ∷ es) x (inl h) = ap (λ t. is_some (cond t (Some e.1) (lookup (same_key x.0) es))) (ap (λ k. same_key k e.0) (ap (λ z. z.0) h) ∙ same_key_equiv.refl e.0)
-is_found (e ∷ es) x (inr i) = further (same_key x.0 e.0) e.1 (lookup (same_key x.0) es) (is_found es x i)
+is_found (e ∷ es) x (inr i) = some_still (same_key x.0 e.0) e.1 (lookup (same_key x.0) es) (is_found es x i)
 
 -- a key that is found is an entry's
 found_is : (es : List (Key × Entry)) (k : Key) → IsSome (lookup (same_key k) es) → (x : Key × Entry) × In x es × (k ≡ x.0)
@@ -114,7 +112,7 @@ module _ (z : Start) (b : Elements) where
     once = held_once e.known sound.contexts e.stored sound.keys each;
     inside = λ x i. let v = listed_is_held e.known sound.contexts e.stored sound.keys x i in visited x ((holds keeps none again x.0 x.1).0 (some_is (holding e x.0 x.1) v.0 v.1));
     outside = λ x i. let v = some_value (holding e x.0 x.1) ((holds keeps none again x.0 x.1).1 (needed x i)) in held_is_listed e.known sound.contexts e.stored sound.keys x v.0 v.1;
-    size = length_map (λ (x : Key × Entry). plain_key e.known x.0) e.stored.entries;
+    size = length-map e.stored.entries (λ (x : Key × Entry). plain_key e.known x.0);
   }
     where
       at : ℕ × ℕ → List DatonAt

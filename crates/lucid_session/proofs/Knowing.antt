@@ -4,7 +4,7 @@ use Rattle.std.specs.Prelude.{slice_index_or}
 use Rattle.std.proofs.lemmas.Grind.{flat_map-append}
 use Rattle.lucid_tree.specs.Members.{In, Inside, AllDiffer}
 use Rattle.lucid_tree.specs.Levels.{Elements}
-use Rattle.lucid_tree.proofs.Members.{in_left, in_right}
+use Rattle.lucid_tree.proofs.Members.{in_left, in_right, fewer}
 use Rattle.lucid_tags.specs.Contexts.{Context, root, same_context, context_at}
 use Rattle.lucid_tags.specs.Known.{IsOneForOne}
 use Rattle.lucid_tags.specs.EqualityDecides.{same_context_is_equality}
@@ -13,7 +13,7 @@ use Rattle.lucid_equations.specs.Rows.{equations_of}
 use Rattle.lucid_facts.specs.Engine.{EngineView, VisitsNew}
 use Rattle.lucid_facts.specs.Engine as facts
 use Rattle.lucid_session.specs.Figures.{points_below, HasMoreThan}
-use Rattle.lucid_session.proofs.Counting.{fewer, counted}
+use Rattle.lucid_session.proofs.Counting.{counted}
 use Rattle.lucid_session.proofs.Added.{Added, at_once, so, both, of_items}
 use Rattle.lucid_session.proofs.Moments.{Start, of_run, entered_below}
 

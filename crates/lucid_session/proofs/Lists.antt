@@ -1,5 +1,5 @@
 -- What stands in a list that is made of several; and optional values.
-use Rattle.std.proofs.Common.{◌≡◌, List, [], ◌∷◌, Option, Some, None, refl, sym, ap, subst, suc, length, map, inl, inr, true≢false}
+use Rattle.std.proofs.Common.{◌≡◌, List, [], ◌∷◌, Option, Some, None, refl, sym, subst, map, inl, inr, true≢false}
 use Rattle.std.specs.Prelude.{IsSome}
 use Rattle.std.specs.List.{flat_map}
 use Rattle.lucid_tree.specs.Members.{In}
@@ -25,11 +25,6 @@ module _ {A B : Type 0} (f : A → List B) where
   in_flat y x (z ∷ xs) (inr i) j = in_right y (f z) (flat_map f xs) (in_flat y x xs i j)
 
 module _ {A B : Type 0} (f : A → B) where
-  pub in_map : (x : A) (xs : List A) → In x xs → In (f x) (map f xs)
-  in_map x [] h = h
-  in_map x (y ∷ ys) (inl e) = inl (ap f e)
-  in_map x (y ∷ ys) (inr h) = inr (in_map x ys h)
-
   -- an item of the image is that of an item
   pub record FromMap (y : B) (xs : List A) : Type 0 where
     pub item : A
@@ -40,23 +35,6 @@ module _ {A B : Type 0} (f : A → B) where
   from_map y [] i = absurd i
   from_map y (x ∷ xs) (inl e) = record { item = x; among = inl refl; is = e }
   from_map y (x ∷ xs) (inr i) = let r = from_map y xs i in record { item = r.item; among = inr r.among; is = r.is }
-
-  pub length_map : (xs : List A) → length (map f xs) ≡ length xs
-  length_map [] = refl
-  length_map (x ∷ xs) = ap suc (length_map xs)
-
--- what is there is some value;
-pub some_value : {A : Type 0} (o : Option A) → IsSome o → (v : A) × (o ≡ Some v)
-some_value None h = absurd (true≢false (sym h))
-some_value (Some v) h = (v, refl)
-
--- equal options that are there have equal values;
-pub some_once : {A : Type 0} {x y : A} → ◌≡◌ {A = Option A} (Some x) (Some y) → x ≡ y
-some_once e = cc
-
--- nothing is no value;
-pub none_some : {A : Type 0} {x : A} → ◌≡◌ {A = Option A} None (Some x) → ⊥
-none_some e = cc
 
 -- what is nothing isn't there;
 pub is_none : {A : Type 0} (o : Option A) → o ≡ None → IsSome o → ⊥

@@ -1,7 +1,7 @@
 -- The elements that the places of a run tell are those of its inputs, at each of its moments.
 use Rattle.std.proofs.Common.{◌≡◌, ℕ, zero, suc, Bool, true, false, cond, List, [], ◌∷◌, Option, Some, None, refl, sym, ap, ◌∙◌, subst}
 use Rattle.std.specs.Prelude.{slice_get, option_map}
-use Rattle.std.proofs.lemmas.Option.{slice_get-map}
+use Rattle.std.proofs.lemmas.Option.{slice_get-map, same_Some, none-some}
 use Rattle.lucid_value.specs.Elements.{element}
 use Rattle.lucid_tree.specs.Levels.{Elements}
 use Rattle.lucid_tree.specs.Env.{same_name}
@@ -12,7 +12,6 @@ use Rattle.lucid_facts.specs.Elements.{told_in, elements_told}
 use Rattle.lucid_facts.specs.Engine.{EngineView, MayHave, AreAskable, ReadsOnly, places_of}
 use Rattle.lucid_facts.proofs.Places.{same_name_decides, told_extends}
 use Rattle.lucid_session.specs.Runs.{Told, HasElements}
-use Rattle.lucid_session.proofs.Lists.{some_once, none_some}
 use Rattle.lucid_session.proofs.Moments.{Start, seen}
 
 -- the place of a stream that has a number
@@ -21,14 +20,14 @@ place_at streams k s e = slice_get-map (λ x. x.place) streams k ∙ ap (option_
 
 -- the stream that has a place's number
 pub stream_at : (streams : List Stream) (k q : ℕ) → slice_get (places_of streams) k ≡ Some q → (s : Stream) × (slice_get streams k ≡ Some s) × (s.place ≡ q)
-stream_at [] k q e = absurd (none_some e)
-stream_at (s ∷ streams) zero q e = (s, refl, some_once e)
+stream_at [] k q e = absurd (none-some _ e)
+stream_at (s ∷ streams) zero q e = (s, refl, same_Some _ _ e)
 stream_at (s ∷ streams) (suc k) q e = stream_at streams k q e
 
 -- what a place tells, where it told contents of the same bytes before
 pub tells_too : (o p : Option Contents) (c : Contents) → option_map all_bytes p ≡ option_map all_bytes o → o ≡ Some c → (d : Contents) × (p ≡ Some d) × (all_bytes d ≡ all_bytes c)
-tells_too o None c same e = absurd (none_some (same ∙ ap (option_map all_bytes) e))
-tells_too o (Some d) c same e = (d, refl, some_once (same ∙ ap (option_map all_bytes) e))
+tells_too o None c same e = absurd (none-some _ (same ∙ ap (option_map all_bytes) e))
+tells_too o (Some d) c same e = (d, refl, same_Some _ _ (same ∙ ap (option_map all_bytes) e))
 
 -- The places tell these elements of streams.
 abbrev Tells : World → List (List ℕ) → List Stream → Elements → Type 0
@@ -37,8 +36,8 @@ Tells w names streams b =
     → (c : Contents) × ((w.place s.place).contents ≡ Some c) × ((j : ℕ) → b n j ≡ Some (element (all_bytes c) j))
 
 told_by : (w : World) (names : List (List ℕ)) (streams : List Stream) (b : Elements) → Tells w names streams b → Extends (elements_told names streams w) b
-told_by w [] streams b tells n j v e = absurd (none_some e)
-told_by w (m ∷ names) [] b tells n j v e = absurd (none_some e)
+told_by w [] streams b tells n j v e = absurd (none-some _ e)
+told_by w (m ∷ names) [] b tells n j v e = absurd (none-some _ e)
 told_by w (m ∷ names) (s ∷ streams) b tells n j v e = by (told_by w names streams b (λ k. tells (suc k)) n j v) (same_name m n) refl e
   where
     first : m ≡ n → told_in s (w.place s.place).contents j ≡ Some v → b n j ≡ Some v

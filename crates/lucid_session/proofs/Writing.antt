@@ -1,5 +1,5 @@
 -- A line is written, or its front, and the engine may be cleared.
-use Rattle.std.proofs.Common.{◌≡◌, ◌≢◌, ℕ, suc, ◌<◌, ◌≤◌, List, [], ◌∷◌, ◌++◌, length, take, Option, Some, None, refl, sym, ap, ◌∙◌, subst, arith, ◌⊎◌, inl, inr, append_assoc}
+use Rattle.std.proofs.Common.{◌≡◌, ◌≢◌, ℕ, suc, ◌<◌, ◌≤◌, List, [], ◌∷◌, ◌++◌, length, take, Option, None, refl, sym, ap, ◌∙◌, subst, arith, ◌⊎◌, inl, inr}
 use Rattle.std.proofs.Math.Seq.{take-length}
 use Rattle.std.proofs.lemmas.Bool.{cases_lt}
 use Rattle.std.specs.Prelude.{IsTrue, IsSome, Result, Ok, Err, IsErrOf}
@@ -10,6 +10,7 @@ use Rattle.lucid_tree.specs.Members.{In}
 use Rattle.lucid_tree.specs.Levels.{Elements, HoldsExactly}
 use Rattle.lucid_tree.specs.Output.{line}
 use Rattle.lucid_tags.specs.Contexts.{Context, root}
+use Rattle.lucid_ports.proofs.WritingLemmas.{all_all as all-all}
 use Rattle.lucid_store.specs.Entries.{count_of, cleared}
 use Rattle.lucid_ports.specs.Faults.{Rises}
 use Rattle.lucid_ports.specs.World.{World}
@@ -32,11 +33,6 @@ use Rattle.lucid_session.proofs.Moments.{Start, seen, HasLines, Going, entered_b
 use Rattle.lucid_session.proofs.Knowing.{much_entered}
 use Rattle.lucid_session.proofs.Going.{Found, Asked, few_at}
 use Rattle.lucid_session.proofs.Ending.{subject, written_whole, consumes}
-
--- two pieces are one
-all-all : (a b : List ℕ) (o : Option (List ℕ)) → with_all b (with_all a o) ≡ with_all (a ++ b) o
-all-all a b None = refl
-all-all a b (Some bytes) = ap Some (append_assoc bytes a b)
 
 -- a front that is as long as the piece is the piece
 whole_front : (n : ℕ) (piece : List ℕ) (o : Option (List ℕ)) → n ≡ length piece → with_front n piece o ≡ with_all piece o

@@ -14,6 +14,7 @@ use Rattle.lucid_equations.specs.declared.rows.Entry.TheVariants.{Plain, Paramet
 use Rattle.lucid_equations.specs.declared.rows.NodeRow.{NodeRow}
 use Rattle.lucid_equations.specs.declared.rows.NameRow.{NameRow}
 use Rattle.lucid_equations.specs.declared.table.Table.{Table}
+use Rattle.lucid_equations.proofs.NodeAims.{no_aim}
 use Rattle.lucid_sound.specs.Met.{IsMet, IsReference}
 use Rattle.lucid_sound.specs.Met.IsMet.{the_root, part, subject, gone_on}
 use Rattle.lucid_sound.specs.Fits.{Fits, DatonFits}
@@ -95,9 +96,6 @@ module _ (T : Table) (sound : IsSound T) where
       let frame : Fits T (call_frame q c outer.context) leads.inside =
       called (subst (λ z. ScopeIs T.scopes leads.inside z CalledScope) same stands.1) leads.passed (subst (λ z. NameIs T z leads.inside (Called leads.body)) (sym leads.row_name) leads.named) (subst (Fits T c) (sym leads.row_scope) h.fits) outer.fits in
       subst (λ o. AimIsRight T (name_aim p n (called_from q c o) t)) (sym outer.is) (name-right n leads.inside (Called leads.body) (call_frame q c outer.context) t leads.named frame)
-
-  no_aim : (k : Daton) (x : NodePosition) (u : ℕ) → ◌≡◌ {A = NodeAim} nowhere (goes_to k x u) → ⊥
-  no_aim k x u e = cc
 
   -- what a node goes on with
   pub goes-right : (e : PlainNode) (c : Context) (t : ℕ) (k : Daton) (x : NodePosition) (u : ℕ) → IsPlaced T e c → node_aim p e c t ≡ goes_to k x u → DatonFits T k × IsPlaced T x.node x.context

@@ -12,12 +12,10 @@ use Rattle.lucid_equations.specs.Parts.{reads_parts}
 use Rattle.lucid_equations.proofs.Looked.{look-found}
 use Rattle.lucid_equations.proofs.FormNeeds.{look-visited}
 use Rattle.lucid_equations.proofs.Moving.{part-walked}
+use Rattle.lucid_equations.proofs.NodeAims.{no_aim}
 use Rattle.lucid_sound.specs.Met.{IsMet}
 use Rattle.lucid_sound.specs.Met.IsMet.{the_root, part, subject, gone_on}
 use Rattle.lucid_sound.specs.Laws.{Referrer}
-
-no_aim : (k : Daton) (x : NodePosition) (u : ℕ) → ◌≡◌ {A = NodeAim} nowhere (goes_to k x u) → ⊥
-no_aim k x u e = cc
 
 module _ (p : Equations) (b : Elements) (limit d time space : ℕ) where
   abbrev deep_at : (m : ℕ) → NodeAim → ℕ → NodeEvents

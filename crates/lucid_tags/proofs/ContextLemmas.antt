@@ -1,35 +1,27 @@
 -- Contexts: cutting, and which contexts are further out.
 use Rattle.std.proofs.Common.{◌≡◌, ℕ, suc, ◌<◌, ◌≤◌, ◌⊎◌, inl, inr, Bool, true, false, Option, Some, None, ◌==◌, if◌then◌else◌, refl, ◌∙◌, ap, sym, subst, arith}
 use Rattle.std.proofs.lemmas.Bool.Decides.{nat_tests}
+use Rattle.lucid_lemmas.proofs.Numbers.{number_itself, below_differs, above_differs}
 use Rattle.lucid_tags.specs.Contexts.{Context, root, call_frame, frozen_frame, frames, base_of, cut, IsOuter}
-
-same-number : (n : ℕ) → (n == n) ≡ true
-same-number n = grind (arith, nat_tests)
-
-other-number : (l n : ℕ) → l < n → (l == n) ≡ false
-other-number l n h = grind (arith, nat_tests)
-
-above-number : (l n : ℕ) → n < l → (l == n) ≡ false
-above-number l n h = grind (arith, nat_tests)
 
 -- below the innermost frame a cut is that of the base
 pub cut-call_frame : (level place : ℕ) (caller base : Context) → level ≤ frames base → cut level (call_frame place caller base) ≡ cut level base
-cut-call_frame level place caller base h = let b : level < suc (frames base) = omega arith in rw (other-number level (suc (frames base)) b) refl
+cut-call_frame level place caller base h = let b : level < suc (frames base) = omega arith in rw (below_differs level (suc (frames base)) b) refl
 
 pub cut-frozen_frame : (level time : ℕ) (base : Context) → level ≤ frames base → cut level (frozen_frame time base) ≡ cut level base
-cut-frozen_frame level time base h = let b : level < suc (frames base) = omega arith in rw (other-number level (suc (frames base)) b) refl
+cut-frozen_frame level time base h = let b : level < suc (frames base) = omega arith in rw (below_differs level (suc (frames base)) b) refl
 
 -- at its own level a cut is the whole context
 pub cut-frames : (c : Context) → cut (frames c) c ≡ Some c
 cut-frames root = refl
-cut-frames (call_frame place caller base) = rw (same-number (suc (frames base))) refl
-cut-frames (frozen_frame time base) = rw (same-number (suc (frames base))) refl
+cut-frames (call_frame place caller base) = rw (number_itself (suc (frames base))) refl
+cut-frames (frozen_frame time base) = rw (number_itself (suc (frames base))) refl
 
 -- above its level there is none
 pub cut-above : (c : Context) (level : ℕ) → frames c < level → cut level c ≡ None
-cut-above root level h = rw (above-number level 0 h) refl
-cut-above (call_frame place caller base) level h = rw (above-number level (suc (frames base)) h) (cut-above base level (omega arith))
-cut-above (frozen_frame time base) level h = rw (above-number level (suc (frames base)) h) (cut-above base level (omega arith))
+cut-above root level h = rw (above_differs level 0 h) refl
+cut-above (call_frame place caller base) level h = rw (above_differs level (suc (frames base)) h) (cut-above base level (omega arith))
+cut-above (frozen_frame time base) level h = rw (above_differs level (suc (frames base)) h) (cut-above base level (omega arith))
 
 -- a context is further out than itself, and so is its base
 pub outer-itself : (c : Context) → IsOuter c c

@@ -1,5 +1,5 @@
 -- What a call makes of the list of ready rows.
-use Rattle.std.proofs.Common.{◌≡◌, ◌≢◌, ℕ, Bool, true, false, cond, ◌==◌, List, [], ◌∷◌, ◌++◌, Option, Some, refl, sym, ap, subst, ◌∙◌, arith}
+use Rattle.std.proofs.Common.{◌≡◌, ◌≢◌, ℕ, Bool, true, false, cond, ◌==◌, List, [], ◌∷◌, ◌++◌, Option, Some, refl, sym, ap, subst, ◌∙◌, arith, true≢false}
 use Rattle.lucid_tasks.specs.declared.Part.{Part}
 use Rattle.lucid_tasks.specs.declared.Task.{Task}
 use Rattle.lucid_tasks.specs.Slots.{is_listed, RiseFrom}
@@ -8,11 +8,8 @@ use Rattle.lucid_tasks.proofs.Cases.{chosen, chosen_other}
 use Rattle.lucid_tasks.proofs.SlotLemmas.{listed_push, rise_push}
 use Rattle.lucid_tasks.proofs.ForestLemmas.{ready_is_row}
 
-true_is_false : true ≡ false → ⊥
-true_is_false e = cc
-
 left_true : (b x : Bool) → cond b false x ≡ true → x ≡ true
-left_true true x h = absurd (true_is_false (sym h))
+left_true true x h = absurd (true≢false (sym h))
 left_true false x h = h
 
 -- a task is asked for a part: its parent is taken from the list, and the new row put at its end

@@ -1,33 +1,17 @@
 -- Equal or not: numbers and parts.
-use Rattle.std.proofs.Common.{◌≡◌, ℕ, ◌<◌, true, false, cond, ◌==◌, Some, None, ◌⊎◌, inl, inr, refl, ap, sym, ◌∙◌, arith}
+use Rattle.std.proofs.Common.{◌≡◌, ℕ, true, false, cond, ◌==◌, Some, None, ◌⊎◌, inl, inr, refl, ap, sym, ◌∙◌, arith}
 use Rattle.std.proofs.lemmas.Bool.Decides.{nat_tests}
+use Rattle.std.proofs.lemmas.Bool.{eqb-true, cases_eq}
+use Rattle.lucid_lemmas.proofs.Numbers.{number_itself}
 use Rattle.lucid_tasks.specs.declared.Part.{Part}
-
-pub same_number : (a b : ℕ) → (a == b) ≡ true → a ≡ b
-same_number a b h = grind (arith, nat_tests)
-
-pub number_itself : (a : ℕ) → (a == a) ≡ true
-number_itself a = grind (arith, nat_tests)
 
 pub numbers_differ : (a b : ℕ) → (a == b) ≡ false → a ≡ b → ⊥
 numbers_differ a b h e = grind (arith, nat_tests)
 
-pub below_differs : (a b : ℕ) → a < b → (a == b) ≡ false
-below_differs a b h = grind (arith, nat_tests)
-
-pub above_differs : (a b : ℕ) → b < a → (a == b) ≡ false
-above_differs a b h = grind (arith, nat_tests)
-
-pub number_cases : (a b : ℕ) → (a ≡ b) ⊎ (a ≡ b → ⊥)
-number_cases a b = (elim (a == b) as (λ t. (a == b) ≡ t → (a ≡ b) ⊎ (a ≡ b → ⊥)) [
-  | true ↦ λ t. inl (same_number a b t)
-  | false ↦ λ t. inr (numbers_differ a b t)
-]) refl
-
 -- what is chosen by equality of numbers
 pub chosen : {X : Type 0} (q n : ℕ) (x a b : X) → (q ≡ n → x ≡ a) → ((q ≡ n → ⊥) → x ≡ b) → x ≡ cond (q == n) a b
 chosen q n x a b same other = (elim (q == n) as (λ t. (q == n) ≡ t → x ≡ cond t a b) [
-  | true ↦ λ t. same (same_number q n t)
+  | true ↦ λ t. same (eqb-true q n t)
   | false ↦ λ t. other (numbers_differ q n t)
 ]) refl
 
@@ -36,7 +20,7 @@ chosen_same q n a b e = ap (λ t. cond t a b) (ap (λ m. q == m) (sym e) ∙ num
 
 pub chosen_other : {X : Type 0} (q n : ℕ) (a b : X) → (q ≡ n → ⊥) → cond (q == n) a b ≡ b
 chosen_other q n a b ne = (elim (q == n) as (λ t. (q == n) ≡ t → cond t a b ≡ b) [
-  | true ↦ λ t. absurd (ne (same_number q n t))
+  | true ↦ λ t. absurd (ne (eqb-true q n t))
   | false ↦ λ t. refl
 ]) refl
 
@@ -46,7 +30,7 @@ part_by p r (inl s) (inr i) = inr (λ e. i (ap (λ (part : Part). part.index) e)
 part_by p r (inr s) i = inr (λ e. s (ap (λ (part : Part). part.slot) e))
 
 pub part_cases : (p r : Part) → (p ≡ r) ⊎ (p ≡ r → ⊥)
-part_cases p r = part_by p r (number_cases p.slot r.slot) (number_cases p.index r.index)
+part_cases p r = part_by p r (cases_eq p.slot r.slot) (cases_eq p.index r.index)
 
 -- parts of one row that differ have other indices
 pub other_index : (p r : Part) → (p ≡ r → ⊥) → p.slot ≡ r.slot → p.index ≡ r.index → ⊥
@@ -54,6 +38,3 @@ other_index p r ne s i = ne (λ j. record { slot = s j; index = i j })
 
 pub some_is : {X : Type 0} (d a b : X) → Some a ≡ Some b → a ≡ b
 some_is d a b e = ap (λ o. elim o as (λ _. _) [ None ↦ d | Some x ↦ x ]) e
-
-pub none_is_some : {X : Type 0} (a : X) → None ≡ Some a → ⊥
-none_is_some a e = cc

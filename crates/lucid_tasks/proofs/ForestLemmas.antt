@@ -1,9 +1,11 @@
 -- What stays a forest.
-use Rattle.std.proofs.Common.{◌≡◌, ℕ, zero, suc, ◌<◌, ◌≤◌, ◌+◌, true, false, List, length, Option, Some, None, IsSome, IfSome, ◌⊎◌, inl, inr, refl, ap, sym, subst, ◌∙◌, arith}
+use Rattle.std.proofs.Common.{◌≡◌, ℕ, zero, suc, ◌<◌, ◌≤◌, ◌+◌, true, false, List, length, Option, Some, None, IsSome, IfSome, ◌⊎◌, inl, inr, refl, ap, sym, subst, ◌∙◌, arith, true≢false}
 use Rattle.std.specs.Prelude.{option_and_then, option_map}
+use Rattle.std.proofs.lemmas.Option.{none-some}
+use Rattle.std.proofs.lemmas.Bool.{cases_eq}
 use Rattle.lucid_tasks.specs.declared.Part.{Part}
 use Rattle.lucid_tasks.specs.Rows.{TaskRow, row_at, parent_of, child_of, asked_slot, state_at, is_ready, IsRow, IsReady, IsForest}
-use Rattle.lucid_tasks.proofs.Cases.{number_cases, part_cases, some_is, none_is_some}
+use Rattle.lucid_tasks.proofs.Cases.{part_cases, some_is}
 use Rattle.lucid_tasks.proofs.RowLemmas.{row_below, free_part, some_asked}
 
 pub parent_from_row : (rows : List (Option TaskRow)) (q : ℕ) (o : Option TaskRow) → row_at rows q ≡ o → parent_of rows q ≡ option_and_then (λ (row : TaskRow). row.parent) o
@@ -29,24 +31,24 @@ module _ (old new : List (Option TaskRow)) where
       (empty : parent_of old slot ≡ None) (free : child_of old parent ≡ None) (older : parent.slot < slot) (index : parent.index < 3) where
     pub forest_asked : IsForest old → IsForest new
     forest_asked f = record {
-      parent = λ q p h. parent_case q p h (number_cases q slot) (part_cases p parent);
-      child = λ p q h. child_case p q h (part_cases p parent) (number_cases q slot);
-      older = λ q p h. older_case q p h (number_cases q slot);
-      index = λ q p h. index_case q p h (number_cases q slot);
+      parent = λ q p h. parent_case q p h (cases_eq q slot) (part_cases p parent);
+      child = λ p q h. child_case p q h (part_cases p parent) (cases_eq q slot);
+      older = λ q p h. older_case q p h (cases_eq q slot);
+      index = λ q p h. index_case q p h (cases_eq q slot);
     }
       where
         parent_case : (q : ℕ) (p : Part) → parent_of new q ≡ Some p → (q ≡ slot) ⊎ (q ≡ slot → ⊥) → (p ≡ parent) ⊎ (p ≡ parent → ⊥) → child_of new p ≡ Some q
         parent_case q p h (inl e) _ =
             let is : parent ≡ p = some_is parent parent p (sym parent_new ∙ ap (parent_of new) (sym e) ∙ h) in
             ap (child_of new) (sym is) ∙ child_new ∙ ap Some (sym e)
-        parent_case q p h (inr ne) (inl e) = absurd (none_is_some q (sym free ∙ ap (child_of old) (sym e) ∙ f.parent q p (sym (parents q ne) ∙ h)))
+        parent_case q p h (inr ne) (inl e) = absurd (none-some q (sym free ∙ ap (child_of old) (sym e) ∙ f.parent q p (sym (parents q ne) ∙ h)))
         parent_case q p h (inr ne) (inr other) = children p other ∙ f.parent q p (sym (parents q ne) ∙ h)
 
         child_case : (p : Part) (q : ℕ) → child_of new p ≡ Some q → (p ≡ parent) ⊎ (p ≡ parent → ⊥) → (q ≡ slot) ⊎ (q ≡ slot → ⊥) → parent_of new q ≡ Some p
         child_case p q h (inl e) _ =
             let is : slot ≡ q = some_is slot slot q (sym child_new ∙ ap (child_of new) (sym e) ∙ h) in
             ap (parent_of new) (sym is) ∙ parent_new ∙ ap Some (sym e)
-        child_case p q h (inr ne) (inl e) = absurd (none_is_some p (sym empty ∙ ap (parent_of old) (sym e) ∙ f.child p q (sym (children p ne) ∙ h)))
+        child_case p q h (inr ne) (inl e) = absurd (none-some p (sym empty ∙ ap (parent_of old) (sym e) ∙ f.child p q (sym (children p ne) ∙ h)))
         child_case p q h (inr ne) (inr other) = parents q other ∙ f.child p q (sym (children p ne) ∙ h)
 
         older_case : (q : ℕ) (p : Part) → parent_of new q ≡ Some p → (q ≡ slot) ⊎ (q ≡ slot → ⊥) → p.slot < q
@@ -67,32 +69,29 @@ module _ (old new : List (Option TaskRow)) where
       (child_new : child_of new parent ≡ None) (children : (p : Part) → (p ≡ parent → ⊥) → child_of new p ≡ child_of old p) where
     pub forest_settled : IsForest old → IsForest new
     forest_settled f = record {
-      parent = λ q p h. parent_case q p h (number_cases q slot) (part_cases p parent);
-      child = λ p q h. child_case p q h (part_cases p parent) (number_cases q slot);
-      older = λ q p h. f.older q p (before q p h (number_cases q slot));
-      index = λ q p h. f.index q p (before q p h (number_cases q slot));
+      parent = λ q p h. parent_case q p h (cases_eq q slot) (part_cases p parent);
+      child = λ p q h. child_case p q h (part_cases p parent) (cases_eq q slot);
+      older = λ q p h. f.older q p (before q p h (cases_eq q slot));
+      index = λ q p h. f.index q p (before q p h (cases_eq q slot));
     }
       where
         before : (q : ℕ) (p : Part) → parent_of new q ≡ Some p → (q ≡ slot) ⊎ (q ≡ slot → ⊥) → parent_of old q ≡ Some p
-        before q p h (inl e) = absurd (none_is_some p (sym parent_new ∙ ap (parent_of new) (sym e) ∙ h))
+        before q p h (inl e) = absurd (none-some p (sym parent_new ∙ ap (parent_of new) (sym e) ∙ h))
         before q p h (inr ne) = sym (parents q ne) ∙ h
 
         parent_case : (q : ℕ) (p : Part) → parent_of new q ≡ Some p → (q ≡ slot) ⊎ (q ≡ slot → ⊥) → (p ≡ parent) ⊎ (p ≡ parent → ⊥) → child_of new p ≡ Some q
-        parent_case q p h (inl e) _ = absurd (none_is_some p (sym parent_new ∙ ap (parent_of new) (sym e) ∙ h))
+        parent_case q p h (inl e) _ = absurd (none-some p (sym parent_new ∙ ap (parent_of new) (sym e) ∙ h))
         parent_case q p h (inr ne) (inl e) =
             absurd (ne (some_is q q slot (sym (f.parent q p (sym (parents q ne) ∙ h)) ∙ ap (child_of old) e ∙ f.parent slot parent was)))
         parent_case q p h (inr ne) (inr other) = children p other ∙ f.parent q p (sym (parents q ne) ∙ h)
 
         child_case : (p : Part) (q : ℕ) → child_of new p ≡ Some q → (p ≡ parent) ⊎ (p ≡ parent → ⊥) → (q ≡ slot) ⊎ (q ≡ slot → ⊥) → parent_of new q ≡ Some p
-        child_case p q h (inl e) _ = absurd (none_is_some q (sym child_new ∙ ap (child_of new) (sym e) ∙ h))
+        child_case p q h (inl e) _ = absurd (none-some q (sym child_new ∙ ap (child_of new) (sym e) ∙ h))
         child_case p q h (inr ne) (inl e) =
             absurd (ne (some_is p p parent (sym (f.child p q (sym (children p ne) ∙ h)) ∙ ap (parent_of old) e ∙ was)))
         child_case p q h (inr ne) (inr other) = parents q other ∙ f.child p q (sym (children p ne) ∙ h)
 
 -- ---- ready rows
-
-true_is_false : true ≡ false → ⊥
-true_is_false e = cc
 
 -- a ready row has asked for nothing
 pub ready_is_free : (rows : List (Option TaskRow)) (part : Part) → is_ready (row_at rows part.slot) ≡ true → child_of rows part ≡ None
@@ -108,7 +107,7 @@ free_where_ready rows None h = h
 free_where_ready rows (Some slot) h = λ index. ready_is_free rows (record { slot = slot; index = index }) h
 
 pub ready_is_row : (o : Option TaskRow) → is_ready o ≡ true → IsSome o
-ready_is_row None h = absurd (true_is_false (sym h))
+ready_is_row None h = absurd (true≢false (sym h))
 ready_is_row (Some row) h = refl
 
 -- a row that isn't ready has asked a task
@@ -117,21 +116,21 @@ pub waits_for : (rows : List (Option TaskRow)) (slot : ℕ) → IsRow rows slot 
 waits_for rows slot some h = by_row (row_at rows slot) some h
   where
     by_row : (o : Option TaskRow) → IsSome o → is_ready o ≡ false → (index : ℕ) × ((child : ℕ) × (child_in index o ≡ Some child))
-    by_row None some h = absurd (true_is_false (sym some))
+    by_row None some h = absurd (true≢false (sym some))
     by_row (Some row) some h = some_asked row.parts h
 
 parent_is_row : (rows : List (Option TaskRow)) (q : ℕ) (part : Part) → parent_of rows q ≡ Some part → IsRow rows q
 parent_is_row rows q part h = by_row (row_at rows q) h
   where
     by_row : (o : Option TaskRow) → option_and_then (λ (row : TaskRow). row.parent) o ≡ Some part → IsSome o
-    by_row None h = absurd (none_is_some part h)
+    by_row None h = absurd (none-some part h)
     by_row (Some row) h = refl
 
 -- a row is ready where it is no row's parent
 pub ready_meaning : (rows : List (Option TaskRow)) → IsForest rows → (slot : ℕ) → is_ready (row_at rows slot) ≡ true → IsReady rows slot
 ready_meaning rows f slot h = record {
   row = ready_is_row (row_at rows slot) h;
-  free = λ child part p e. none_is_some child (sym (ready_is_free rows part (subst (λ s. is_ready (row_at rows s) ≡ true) (sym e) h)) ∙ f.parent child part p);
+  free = λ child part p e. none-some child (sym (ready_is_free rows part (subst (λ s. is_ready (row_at rows s) ≡ true) (sym e) h)) ∙ f.parent child part p);
 }
 
 pub ready_from_meaning : (rows : List (Option TaskRow)) → IsForest rows → (slot : ℕ) → IsReady rows slot → is_ready (row_at rows slot) ≡ true
@@ -144,7 +143,7 @@ pub is_below : (rows : List (Option TaskRow)) (q : ℕ) → IsRow rows q → q <
 is_below rows q some = by_row (row_at rows q) refl some
   where
     by_row : (o : Option TaskRow) → row_at rows q ≡ o → IsSome o → q < length rows
-    by_row None e some = absurd (true_is_false (sym some))
+    by_row None e some = absurd (true≢false (sym some))
     by_row (Some row) e some = row_below rows q row e
 
 -- where there is a row, some row is ready

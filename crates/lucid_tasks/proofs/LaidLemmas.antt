@@ -1,8 +1,12 @@
 -- Rows as they lie in memory, after a change of one of them.
-use Rattle.std.proofs.Common.{◌≡◌, ◌≢◌, ℕ, zero, suc, ◌+◌, ◌-◌, ◌*◌, ◌^◌, ◌<◌, ◌≤◌, ◌==◌, ◌&&◌, true, false, cond, List, [], ◌∷◌, ◌++◌, length, get_or, set, Option, Some, None, IsSome, IfSome, ◌⊎◌, inl, inr, refl, sym, ap, subst, ◌∙◌, arith}
+use Rattle.std.proofs.Common.{◌≡◌, ◌≢◌, ℕ, zero, suc, ◌+◌, ◌-◌, ◌*◌, ◌^◌, ◌<◌, ◌≤◌, ◌==◌, ◌&&◌, true, false, cond, List, [], ◌∷◌, ◌++◌, length, get_or, set, Option, Some, None, IsSome, IfSome, ◌⊎◌, inl, inr, refl, sym, ap, subst, ◌∙◌, arith, true≢false}
 use Rattle.std.specs.Prelude.{slice_get, option_map, option_and_then}
 use Rattle.std.specs.List.{list_all}
 use Rattle.std.specs.Option.{option_to_list}
+use Rattle.std.proofs.lemmas.Option.{none-some, slice_get_within}
+use Rattle.std.proofs.lemmas.Bool.{cases_eq}
+use Rattle.lucid_lemmas.proofs.Numbers.{above_differs}
+use Rattle.lucid_lemmas.proofs.Lists.{slice_get-push_same}
 use Rattle.lucid_value.specs.declared.Value.{Value}
 use Rattle.lucid_tasks.specs.declared.Part.{Part}
 use Rattle.lucid_tasks.specs.declared.Task.{Task}
@@ -10,10 +14,7 @@ use Rattle.lucid_tasks.specs.declared.rows.Row.{Row}
 use Rattle.lucid_tasks.specs.Numbered.{value_at, SetsOne}
 use Rattle.lucid_tasks.specs.Rows.{PartState, Idle, Asked, Got, TaskRow, row_at, state_at, got_of, got_value, emptied, taken, fresh, with_part, all_idle, start, is_free, is_ready, IsRow, SetsOnly, ChangesOnly}
 use Rattle.lucid_tasks.specs.Laid.{Values, part_number, named, state, laid_state, three_of, laid_parent, laid_key, laid, laid_row, laid_from, HasIdle, AreLaid, live_at, Shows, Trims}
-use Rattle.lucid_tasks.proofs.Cases.{number_cases, above_differs, chosen, chosen_same, chosen_other, some_is, none_is_some}
-
-true_is_false : true ≡ false → ⊥
-true_is_false e = cc
+use Rattle.lucid_tasks.proofs.Cases.{chosen, chosen_same, chosen_other, some_is}
 
 -- ---- lists of three
 
@@ -60,11 +61,6 @@ words_length (a ∷ asked) (suc i) w = ap suc (words_length asked i w)
 
 -- ---- rows in a list
 
-pub get_below : {X : Type 0} (rows : List X) (q : ℕ) (row : X) → slice_get rows q ≡ Some row → q < length rows
-get_below [] q row e = absurd (none_is_some row e)
-get_below (r ∷ rows) zero row e = omega arith
-get_below (r ∷ rows) (suc q) row e = let rest = get_below rows q row e in omega (arith, rest)
-
 pub get_set : {X : Type 0} (rows : List X) (q : ℕ) (row : X) → q < length rows → slice_get (set rows q row) q ≡ Some row
 get_set [] q row h = absurd (omega (arith, h))
 get_set (r ∷ rows) zero row h = refl
@@ -85,10 +81,6 @@ set_length (r ∷ rows) (suc q) row = ap suc (set_length rows q row)
 get_past : {X : Type 0} (rows : List X) → slice_get rows (length rows) ≡ None
 get_past [] = refl
 get_past (r ∷ rows) = get_past rows
-
-get_push : {X : Type 0} (rows : List X) (row : X) → slice_get (rows ++ row ∷ []) (length rows) ≡ Some row
-get_push [] row = refl
-get_push (r ∷ rows) row = get_push rows row
 
 get_push_other : {X : Type 0} (rows : List X) (row : X) (q : ℕ) → q ≢ length rows → slice_get (rows ++ row ∷ []) q ≡ slice_get rows q
 get_push_other [] row zero ne = absurd (ne refl)
@@ -127,14 +119,14 @@ module _ (values : List (ℕ × Value)) where
   at_live rows q = at rows q ∙ by_live q (slice_get rows q)
 
   living : (q : ℕ) (o : Option Row) → IsSome (option_and_then (laid_row values q) o) → (row : Row) × ((o ≡ Some row) × (row.live ≡ true))
-  living q None h = absurd (true_is_false (sym h))
-  living q (Some row) h = (row, (refl, (elim row.live as (λ b. IsSome (cond b (Some (laid values q row)) None) → b ≡ true) [ true ↦ λ _. refl | false ↦ λ h. absurd (true_is_false (sym h)) ]) h))
+  living q None h = absurd (true≢false (sym h))
+  living q (Some row) h = (row, (refl, (elim row.live as (λ b. IsSome (cond b (Some (laid values q row)) None) → b ≡ true) [ true ↦ λ _. refl | false ↦ λ h. absurd (true≢false (sym h)) ]) h))
 
   pub the_live : (rows : List Row) (q : ℕ) → IsRow (laid_from values 0 rows) q → (row : Row) × ((slice_get rows q ≡ Some row) × (row.live ≡ true))
   the_live rows q h = living q (slice_get rows q) (subst IsSome (at rows q) h)
 
   pub row_in_range : (rows : List Row) (q : ℕ) → IsRow (laid_from values 0 rows) q → q < length rows
-  row_in_range rows q h = let r = the_live rows q h in get_below rows q r.0 r.1.0
+  row_in_range rows q h = let r = the_live rows q h in slice_get_within rows q r.0 r.1.0
 
   pub shown_is : (rows : List Row) (q : ℕ) (row : Row) → slice_get rows q ≡ Some row → row.live ≡ true → row_at (laid_from values 0 rows) q ≡ Some (laid values q row)
   shown_is rows q row e live = at rows q ∙ ap (option_and_then (laid_row values q)) e ∙ ap (λ b. cond b (Some (laid values q row)) None) live
@@ -148,10 +140,10 @@ same_row values after q (Some r) e =
     ap (λ (ps : List PartState). cond r.live (Some (record { task = r.task; parent = laid_parent r; cursor = r.cursor; key = laid_key r; parts = ps })) None) parts
 
 live_back : (o : Option Row) (row : Row) → option_and_then (λ (r : Row). cond r.live (Some r) None) o ≡ Some row → (o ≡ Some row) × (row.live ≡ true)
-live_back None row e = absurd (none_is_some row e)
+live_back None row e = absurd (none-some row e)
 live_back (Some r) row e = (elim r.live as (λ b. r.live ≡ b → cond b (Some r) None ≡ Some row → (Some r ≡ Some row) × (row.live ≡ true)) [
   | true ↦ λ t e. (e, ap (λ (x : Row). x.live) (sym (some_is r r row e)) ∙ t)
-  | false ↦ λ t e. absurd (none_is_some row e)
+  | false ↦ λ t e. absurd (none-some row e)
 ]) refl e
 
 live_from : (o : Option Row) (row : Row) → o ≡ Some row → row.live ≡ true → option_and_then (λ (r : Row). cond r.live (Some r) None) o ≡ Some row
@@ -199,8 +191,8 @@ module _ (rows new : List Row) (values after : Values) (l : AreLaid rows values)
 
   pub stays_laid : length changed.asked ≡ 3 → values.1 ≤ after.1 → ((i : ℕ) → i < 3 → IsSome (value_at after.0 (part_number slot i)) → get_or changed.asked i 0 ≡ 0) → AreLaid new after
   stays_laid three room keep = record {
-    owned = λ s i h some. owned_case s i h some (number_cases s slot);
-    three = λ s r e. three_case s r e (number_cases s slot);
+    owned = λ s i h some. owned_case s i h some (cases_eq s slot);
+    three = λ s r e. three_case s r e (cases_eq s slot);
     room = let had = l.room in omega (arith, had, room, new_length);
     words = subst (λ n. n < 2 ^ 32) (sym new_length) l.words;
   }
@@ -229,7 +221,7 @@ module _ (values after : List (ℕ × Value)) (slot i : ℕ) (h : i < 3) (o : Op
 
 module _ (rows : List Row) (values : Values) (l : AreLaid rows values) (slot i : ℕ) (row : Row) (at_slot : slice_get rows slot ≡ Some row) (live : row.live ≡ true) (h : i < 3) where
   in_range : slot < length rows
-  in_range = get_below rows slot row at_slot
+  in_range = slice_get_within rows slot row at_slot
 
   three : length row.asked ≡ 3
   three = l.three slot row at_slot
@@ -259,8 +251,8 @@ module _ (rows : List Row) (values : Values) (l : AreLaid rows values) (slot i :
         (words_length row.asked i word ∙ three) (omega arith) keep
       where
         keep : (k : ℕ) → k < 3 → IsSome (value_at values.0 (part_number slot k)) → get_or (set row.asked i word) k 0 ≡ 0
-        keep k m some = elim (number_cases k i) [
-          | inl e ↦ absurd (true_is_false (sym (subst IsSome (ap (λ n. value_at values.0 (part_number slot n)) e ∙ empty) some)))
+        keep k m some = elim (cases_eq k i) [
+          | inl e ↦ absurd (true≢false (sym (subst IsSome (ap (λ n. value_at values.0 (part_number slot n)) e ∙ empty) some)))
           | inr ne ↦ word_other row.asked i word k ne ∙ idle_word rows values l slot row at_slot live k m some
         ]
 
@@ -285,7 +277,7 @@ module _ (rows : List Row) (values : Values) (l : AreLaid rows values) (slot i :
         (words_length row.asked i 0 ∙ three) room keep
       where
         keep : (k : ℕ) → k < 3 → IsSome (value_at after.0 (part_number slot k)) → get_or (set row.asked i 0) k 0 ≡ 0
-        keep k m some = elim (number_cases k i) [
+        keep k m some = elim (cases_eq k i) [
           | inl e ↦ ap (λ n. get_or (set row.asked i 0) n 0) e ∙ word_set row.asked i 0 within
           | inr ne ↦ word_other row.asked i 0 k ne ∙ idle_word rows values l slot row at_slot live k m (subst IsSome (set_beside values.0 after.0 slot i h (Some v) sets k ne m) some)
         ]
@@ -312,8 +304,8 @@ module _ (rows : List Row) (values : Values) (l : AreLaid rows values) (slot i :
     taken_laid = stays_laid rows rows values after l slot row row at_slot live at_slot live (λ q ne. refl) refl (set_elsewhere values.0 after.0 slot i h None sets) three room keep
       where
         keep : (k : ℕ) → k < 3 → IsSome (value_at after.0 (part_number slot k)) → get_or row.asked k 0 ≡ 0
-        keep k m some = elim (number_cases k i) [
-          | inl e ↦ absurd (true_is_false (sym (subst IsSome (ap (λ n. value_at after.0 (part_number slot n)) e ∙ set_here values.0 after.0 slot i h None sets) some)))
+        keep k m some = elim (cases_eq k i) [
+          | inl e ↦ absurd (true≢false (sym (subst IsSome (ap (λ n. value_at after.0 (part_number slot n)) e ∙ set_here values.0 after.0 slot i h None sets) some)))
           | inr ne ↦ idle_word rows values l slot row at_slot live k m (subst IsSome (set_beside values.0 after.0 slot i h None sets k ne m) some)
         ]
 
@@ -322,11 +314,11 @@ module _ (rows : List Row) (values : Values) (l : AreLaid rows values) (slot i :
 module _ (rows : List Row) (values : Values) (l : AreLaid rows values) (slot : ℕ) (row changed : Row) (at_slot : slice_get rows slot ≡ Some row) (live : row.live ≡ true)
     (still : changed.live ≡ row.live) (words : changed.asked ≡ row.asked) where
   pub words_changes : (change : TaskRow → TaskRow) → laid values.0 slot changed ≡ change (laid values.0 slot row) → ChangesOnly (laid_from values.0 0 rows) (laid_from values.0 0 (set rows slot changed)) slot change
-  words_changes change is = changes rows (set rows slot changed) values values l slot row changed at_slot live (get_set rows slot changed (get_below rows slot row at_slot)) (still ∙ live)
+  words_changes change is = changes rows (set rows slot changed) values values l slot row changed at_slot live (get_set rows slot changed (slice_get_within rows slot row at_slot)) (still ∙ live)
       (λ q ne. get_set_other rows slot changed q ne) (set_length rows slot changed) (λ q k ne m. refl) change is
 
   pub words_laid : AreLaid (set rows slot changed) values
-  words_laid = stays_laid rows (set rows slot changed) values values l slot row changed at_slot live (get_set rows slot changed (get_below rows slot row at_slot)) (still ∙ live)
+  words_laid = stays_laid rows (set rows slot changed) values values l slot row changed at_slot live (get_set rows slot changed (slice_get_within rows slot row at_slot)) (still ∙ live)
       (λ q ne. get_set_other rows slot changed q ne) (set_length rows slot changed) (λ q k ne m. refl)
       (ap length words ∙ l.three slot row at_slot) (omega arith)
       (λ k m some. ap (λ (asked : List ℕ). get_or asked k 0) words ∙ idle_word rows values l slot row at_slot live k m some)
@@ -336,7 +328,7 @@ module _ (rows : List Row) (values : Values) (l : AreLaid rows values) (slot : �
 module _ (rows : List Row) (values after : Values) (l : AreLaid rows values) (same_values : after.0 ≡ values.0) (row : Row) (live : row.live ≡ true) (asked : row.asked ≡ 0 ∷ 0 ∷ 0 ∷ []) where
   no_value : (k : ℕ) → k < 3 → (o : Option Value) → value_at values.0 (part_number (length rows) k) ≡ o → o ≡ None
   no_value k h None e = refl
-  no_value k h (Some v) e = let has = l.owned (length rows) k h (subst IsSome (sym e) refl) in absurd (none_is_some has.0 (sym (get_past rows) ∙ has.1.0))
+  no_value k h (Some v) e = let has = l.owned (length rows) k h (subst IsSome (sym e) refl) in absurd (none-some has.0 (sym (get_past rows) ∙ has.1.0))
 
   abbrev no_words : List ℕ
   no_words = 0 ∷ 0 ∷ 0 ∷ []
@@ -356,7 +348,7 @@ module _ (rows : List Row) (values after : Values) (l : AreLaid rows values) (sa
       → SetsOnly (laid_from values.0 0 rows) (laid_from after.0 0 (rows ++ row ∷ [])) (length rows) (Some (fresh task parent))
   added task parent task_is parent_is cursor_is keyed q = subst (λ vs. row_at (laid_from vs 0 (rows ++ row ∷ [])) q ≡ cond (q == length rows) (Some (fresh task parent)) (row_at (laid_from values.0 0 rows) q)) (sym same_values)
       (chosen q (length rows) (row_at (laid_from values.0 0 (rows ++ row ∷ [])) q) (Some (fresh task parent)) (row_at (laid_from values.0 0 rows) q)
-      (λ e. ap (row_at (laid_from values.0 0 (rows ++ row ∷ []))) e ∙ shown_is values.0 (rows ++ row ∷ []) (length rows) row (get_push rows row) live ∙ ap Some new_is)
+      (λ e. ap (row_at (laid_from values.0 0 (rows ++ row ∷ []))) e ∙ shown_is values.0 (rows ++ row ∷ []) (length rows) row (slice_get-push_same rows row) live ∙ ap Some new_is)
       (λ ne. at values.0 (rows ++ row ∷ []) q ∙ ap (option_and_then (laid_row values.0 q)) (get_push_other rows row q ne) ∙ sym (at values.0 rows q)))
     where
       key_is : laid_key row ≡ None
@@ -370,20 +362,20 @@ module _ (rows : List Row) (values after : Values) (l : AreLaid rows values) (sa
 
   pub added_laid : 3 * length rows + 3 ≤ after.1 → length rows + 1 < 2 ^ 32 → AreLaid (rows ++ row ∷ []) after
   added_laid room small = record {
-    owned = λ s i h some. owned_case s i h (subst (λ vs. IsSome (value_at vs (part_number s i))) same_values some) (number_cases s (length rows));
-    three = λ s r e. three_case s r e (number_cases s (length rows));
+    owned = λ s i h some. owned_case s i h (subst (λ vs. IsSome (value_at vs (part_number s i))) same_values some) (cases_eq s (length rows));
+    three = λ s r e. three_case s r e (cases_eq s (length rows));
     room = let len = push_length rows row in omega (arith, room, len);
     words = subst (λ n. n < 2 ^ 32) (sym (push_length rows row)) small;
   }
     where
       owned_case : (s i : ℕ) → i < 3 → IsSome (value_at values.0 (part_number s i)) → (s ≡ length rows) ⊎ (s ≡ length rows → ⊥) → HasIdle (rows ++ row ∷ []) s i
       owned_case s i h some (inl e) =
-          absurd (true_is_false (sym (subst IsSome (ap (λ n. value_at values.0 (part_number n i)) e ∙ no_value i h (value_at values.0 (part_number (length rows) i)) refl) some)))
+          absurd (true≢false (sym (subst IsSome (ap (λ n. value_at values.0 (part_number n i)) e ∙ no_value i h (value_at values.0 (part_number (length rows) i)) refl) some)))
       owned_case s i h some (inr ne) = let had = l.owned s i h some in (had.0, (get_push_other rows row s ne ∙ had.1.0, had.1.1))
 
       three_case : (s : ℕ) (r : Row) → slice_get (rows ++ row ∷ []) s ≡ Some r → (s ≡ length rows) ⊎ (s ≡ length rows → ⊥) → length r.asked ≡ 3
       three_case s r e (inl is) =
-          ap (λ (x : Row). length x.asked) (some_is r r row (sym e ∙ ap (slice_get (rows ++ row ∷ [])) is ∙ get_push rows row)) ∙ ap length asked
+          ap (λ (x : Row). length x.asked) (some_is r r row (sym e ∙ ap (slice_get (rows ++ row ∷ [])) is ∙ slice_get-push_same rows row)) ∙ ap length asked
       three_case s r e (inr ne) = l.three s r (sym (get_push_other rows row s ne) ∙ e)
 
 -- ---- a row that ends
@@ -392,7 +384,7 @@ module _ (rows new : List Row) (values : Values) (l : AreLaid rows values) (slot
     (dead : ended.live ≡ false) (words : ended.asked ≡ row.asked)
     (empty : (k : ℕ) → k < 3 → value_at values.0 (part_number slot k) ≡ None) (trims : Trims (set rows slot ended) new) where
   in_rows : slot < length rows
-  in_rows = get_below rows slot row at_slot
+  in_rows = slice_get_within rows slot row at_slot
 
   pub ends : SetsOnly (laid_from values.0 0 rows) (laid_from values.0 0 new) slot None
   ends q = at_live values.0 new q ∙ ap (option_map (laid values.0 q)) (trims.live q)
@@ -404,8 +396,8 @@ module _ (rows new : List Row) (values : Values) (l : AreLaid rows values) (slot
 
   pub ended_laid : AreLaid new values
   ended_laid = record {
-    owned = λ s i h some. owned_case s i h some (number_cases s slot);
-    three = λ s r e. three_case s r (trims.same s r e) (number_cases s slot);
+    owned = λ s i h some. owned_case s i h some (cases_eq s slot);
+    three = λ s r e. three_case s r (trims.same s r e) (cases_eq s slot);
     room = let had = l.room in let less = trims.shorter in let len = set_length rows slot ended in omega (arith, had, less, len);
     words = shorter l.words;
   }
@@ -414,7 +406,7 @@ module _ (rows new : List Row) (values : Values) (l : AreLaid rows values) (slot
       shorter h = let less = trims.shorter in let len = set_length rows slot ended in omega (arith, h, less, len)
 
       owned_case : (s i : ℕ) → i < 3 → IsSome (value_at values.0 (part_number s i)) → (s ≡ slot) ⊎ (s ≡ slot → ⊥) → HasIdle new s i
-      owned_case s i h some (inl e) = absurd (true_is_false (sym (subst IsSome (ap (λ n. value_at values.0 (part_number n i)) e ∙ empty i h) some)))
+      owned_case s i h some (inl e) = absurd (true≢false (sym (subst IsSome (ap (λ n. value_at values.0 (part_number n i)) e ∙ empty i h) some)))
       owned_case s i h some (inr ne) =
           let had = l.owned s i h some in
           let lives = trims.live s ∙ live_from (slice_get (set rows slot ended) s) had.0 (get_set_other rows slot ended s ne ∙ had.1.0) had.1.1.0 in
@@ -502,20 +494,20 @@ append_none (r ∷ rows) = ap (λ xs. r ∷ xs) (append_none rows)
 
 last_of_push : (rows : List Row) (row : Row) → slice_get (rows ++ row ∷ []) (length (rows ++ row ∷ []) - 1) ≡ Some row
 last_of_push rows row = let len = push_length rows row in
-    let last : length (rows ++ row ∷ []) - 1 ≡ length rows = omega (arith, len) in ap (slice_get (rows ++ row ∷ [])) last ∙ get_push rows row
+    let last : length (rows ++ row ∷ []) - 1 ≡ length rows = omega (arith, len) in ap (slice_get (rows ++ row ∷ [])) last ∙ slice_get-push_same rows row
 
 module _ (initial rest : List Row) (row : Row) (dead : row.live ≡ false) (t : Trims initial (rest ++ row ∷ [])) where
   live_left : (slot : ℕ) → live_at rest slot ≡ live_at (rest ++ row ∷ []) slot
-  live_left slot = elim (number_cases slot (length rest)) [
+  live_left slot = elim (cases_eq slot (length rest)) [
     | inl e ↦ ap (λ s. live_at rest s) e ∙ ap (option_and_then (λ (r : Row). cond r.live (Some r) None)) (get_past rest)
-        ∙ sym (ap (λ s. live_at (rest ++ row ∷ []) s) e ∙ ap (option_and_then (λ (r : Row). cond r.live (Some r) None)) (get_push rest row) ∙ ap (λ b. cond b (Some row) None) dead)
+        ∙ sym (ap (λ s. live_at (rest ++ row ∷ []) s) e ∙ ap (option_and_then (λ (r : Row). cond r.live (Some r) None)) (slice_get-push_same rest row) ∙ ap (λ b. cond b (Some row) None) dead)
     | inr ne ↦ ap (option_and_then (λ (r : Row). cond r.live (Some r) None)) (sym (get_push_other rest row slot ne))
   ]
 
   dropped : Trims initial rest
   dropped = record {
     live = λ slot. live_left slot ∙ t.live slot;
-    same = λ slot r e. let below = get_below rest slot r e in t.same slot r (get_push_other rest row slot (λ is. omega (arith, below, is)) ∙ e);
+    same = λ slot r e. let below = slice_get_within rest slot r e in t.same slot r (get_push_other rest row slot (λ is. omega (arith, below, is)) ∙ e);
     shorter = let less = t.shorter in let len = push_length rest row in omega (arith, less, len);
   }
 

@@ -8,18 +8,18 @@ use Rattle.std.proofs.lemmas.List.{get_or_default}
 use Rattle.std.proofs.lemmas.List.Sorted.{IsNonDecreasingBy-from_default}
 use Rattle.std.proofs.lemmas.List.Edits.{length-insert, length-remove, get_or-insert_below, get_or-insert_at, get_or-insert_above, get_or-remove_below, get_or-remove_above}
 use Rattle.std.proofs.lemmas.Bool.Decides.{nat_tests}
+use Rattle.std.proofs.lemmas.Option.{none-some}
+use Rattle.std.proofs.lemmas.Bool.{eqb-true}
+use Rattle.lucid_lemmas.proofs.Numbers.{number_itself, below_differs, equality_turned}
 use Rattle.lucid_tasks.specs.Numbered.{value_at, number_at, Rises, AreBelow, IsAt, IsGapFor, SetsOne}
-use Rattle.lucid_tasks.proofs.Cases.{same_number, number_itself, below_differs, chosen, none_is_some}
-
-turned : (n q : ℕ) → (n == q) ≡ (q == n)
-turned n q = grind (arith, nat_tests)
+use Rattle.lucid_tasks.proofs.Cases.{chosen}
 
 module _ {X : Type 0} where
   -- no pair has the number
   none_has : (l : List (ℕ × X)) (n : ℕ) → ((d : ℕ × X) (j : ℕ) → j < length l → number_at d l j ≢ n) → value_at l n ≡ None
   none_has [] n none = refl
   none_has (x ∷ l) n none = (elim (x.0 == n) as (λ t. (x.0 == n) ≡ t → cond t (Some x.1) (value_at l n) ≡ None) [
-    | true ↦ λ t. absurd (none x 0 (omega arith) (same_number x.0 n t))
+    | true ↦ λ t. absurd (none x 0 (omega arith) (eqb-true x.0 n t))
     | false ↦ λ t. none_has l n (λ d j h. none d (suc j) (omega (arith, h)))
   ]) refl
 
@@ -28,19 +28,19 @@ module _ {X : Type 0} where
   first_has [] n i d h at none = absurd (omega (arith, h))
   first_has (x ∷ l) n zero d h at none = ap (λ t. cond t (Some x.1) (value_at l n)) (ap (λ m. m == n) at ∙ number_itself n)
   first_has (x ∷ l) n (suc i) d h at none = (elim (x.0 == n) as (λ t. (x.0 == n) ≡ t → cond t (Some x.1) (value_at l n) ≡ Some (get_or l i d).1) [
-    | true ↦ λ t. absurd (none 0 (omega arith) (same_number x.0 n t))
+    | true ↦ λ t. absurd (none 0 (omega arith) (eqb-true x.0 n t))
     | false ↦ λ t. first_has l n i d (omega (arith, h)) at (λ j lt. none (suc j) (omega (arith, lt)))
   ]) refl
 
   -- a new pair before any pair that has the number
   has_inserted : (l : List (ℕ × X)) (n : ℕ) (v : X) (i : ℕ) (d : ℕ × X) → ((j : ℕ) → j < i → number_at d l j < n) → i ≤ length l → (q : ℕ) → value_at (insert l i (n, v)) q ≡ cond (q == n) (Some v) (value_at l q)
-  has_inserted l n v zero d none h q = ap (λ t. cond t (Some v) (value_at l q)) (turned n q)
+  has_inserted l n v zero d none h q = ap (λ t. cond t (Some v) (value_at l q)) (equality_turned n q)
   has_inserted [] n v (suc i) d none h q = absurd (omega (arith, h))
   has_inserted (x ∷ l) n v (suc i) d none h q =
       let less = none 0 (omega arith) in
       ap (cond (x.0 == q) (Some x.1)) (has_inserted l n v i d (λ j lt. none (suc j) (omega (arith, lt))) (omega (arith, h)) q)
       ∙ (elim (x.0 == q) as (λ t. (x.0 == q) ≡ t → cond t (Some x.1) (cond (q == n) (Some v) (value_at l q)) ≡ cond (q == n) (Some v) (cond t (Some x.1) (value_at l q))) [
-        | true ↦ λ t. let same = same_number x.0 q t in ap (λ b. cond b (Some v) (Some x.1)) (sym (below_differs q n (omega (arith, less, same))))
+        | true ↦ λ t. let same = eqb-true x.0 q t in ap (λ b. cond b (Some v) (Some x.1)) (sym (below_differs q n (omega (arith, less, same))))
         | false ↦ λ t. refl
       ]) refl
 
@@ -48,14 +48,14 @@ module _ {X : Type 0} where
   has_removed : (l : List (ℕ × X)) (n i : ℕ) (d : ℕ × X) → Rises l → i < length l → number_at d l i ≡ n → (q : ℕ) → value_at (remove l i) q ≡ cond (q == n) None (value_at l q)
   has_removed [] n i d up h at q = absurd (omega (arith, h))
   has_removed (x ∷ l) n zero d up h at q = (elim (q == n) as (λ t. (q == n) ≡ t → value_at l q ≡ cond t None (cond (x.0 == q) (Some x.1) (value_at l q))) [
-    | true ↦ λ t. let same = same_number q n t in none_has l q (λ e j lt is. let above = up e 0 (suc j) (omega arith) (omega (arith, lt)) in omega (arith, above, is, same, at))
-    | false ↦ λ t. ap (λ b. cond b (Some x.1) (value_at l q)) (sym (ap (λ m. m == q) at ∙ turned n q ∙ t))
+    | true ↦ λ t. let same = eqb-true q n t in none_has l q (λ e j lt is. let above = up e 0 (suc j) (omega arith) (omega (arith, lt)) in omega (arith, above, is, same, at))
+    | false ↦ λ t. ap (λ b. cond b (Some x.1) (value_at l q)) (sym (ap (λ m. m == q) at ∙ equality_turned n q ∙ t))
   ]) refl
   has_removed (x ∷ l) n (suc i) d up h at q =
       let less = up d 0 (suc i) (omega arith) h in
       ap (cond (x.0 == q) (Some x.1)) (has_removed l n i d (λ e a b lt in_range. up e (suc a) (suc b) (omega (arith, lt)) (omega (arith, in_range))) (omega (arith, h)) at q)
       ∙ (elim (x.0 == q) as (λ t. (x.0 == q) ≡ t → cond t (Some x.1) (cond (q == n) None (value_at l q)) ≡ cond (q == n) None (cond t (Some x.1) (value_at l q))) [
-        | true ↦ λ t. let same = same_number x.0 q t in ap (λ b. cond b None (Some x.1)) (sym (below_differs q n (omega (arith, less, same, at))))
+        | true ↦ λ t. let same = eqb-true x.0 q t in ap (λ b. cond b None (Some x.1)) (sym (below_differs q n (omega (arith, less, same, at))))
         | false ↦ λ t. refl
       ]) refl
 
@@ -167,7 +167,7 @@ module _ {X : Type 0} (l items : List (ℕ × X)) (e : items ≡ l) (n i : ℕ) 
       subst (λ xs. Rises xs × AreBelow more xs) (sym is) (removed_rises items d up n i there, λ x a b. let under = below x a b in omega (arith, under, same))
 
   pub not_found : (d : ℕ × X) → IsAt l n i → value_at l n ≡ None → ⊥
-  not_found d at none = none_is_some (get_or l i d).1 (sym none ∙ value_there l d (subst Rises e up) n i at)
+  not_found d at none = none-some (get_or l i d).1 (sym none ∙ value_there l d (subst Rises e up) n i at)
 
   pub put_room : (v : X) (room : ℕ) → IsGapFor l n i → AreBelow room items → n < room → length items < room
   put_room v room gap low h = room_for items n i (subst (λ xs. IsGapFor xs n i) (sym e) gap) v room up low h

@@ -1,17 +1,14 @@
 -- Rows in their slots, and how their parts stand.
-use Rattle.std.proofs.Common.{◌≡◌, ◌≢◌, ℕ, zero, suc, ◌<◌, Bool, true, false, ◌&&◌, List, [], ◌∷◌, length, get_or, set, Option, Some, None, refl, ap, sym, subst, ◌∙◌, arith}
+use Rattle.std.proofs.Common.{◌≡◌, ◌≢◌, ℕ, zero, suc, ◌<◌, Bool, true, false, ◌&&◌, List, [], ◌∷◌, length, get_or, set, Option, Some, None, refl, ap, sym, subst, ◌∙◌, arith, true≢false}
 use Rattle.std.specs.List.{list_all}
 use Rattle.std.specs.Prelude.{option_map, option_and_then}
+use Rattle.std.proofs.lemmas.Option.{none-some}
 use Rattle.lucid_tasks.specs.Rows.{PartState, Idle, Asked, Got, TaskRow, row_at, state_at, got_of, got_value, asked_slot, is_free, is_idle, is_ready, all_idle, HaveThree, IsIdleRow}
-use Rattle.lucid_tasks.proofs.Cases.{none_is_some}
 
 pub row_below : (rows : List (Option TaskRow)) (q : ℕ) (row : TaskRow) → row_at rows q ≡ Some row → q < length rows
-row_below [] q row h = absurd (none_is_some row h)
+row_below [] q row h = absurd (none-some row h)
 row_below (r ∷ rows) zero row h = omega arith
 row_below (r ∷ rows) (suc q) row h = let rest = row_below rows q row h in omega (arith, rest)
-
-true_is_false : true ≡ false → ⊥
-true_is_false e = cc
 
 -- ---- parts that are asked
 
@@ -21,11 +18,11 @@ free_part (Idle ∷ parts) zero h = refl
 free_part (Idle ∷ parts) (suc i) h = free_part parts i h
 free_part (Got v ∷ parts) zero h = refl
 free_part (Got v ∷ parts) (suc i) h = free_part parts i h
-free_part (Asked s ∷ parts) i h = absurd (true_is_false (sym h))
+free_part (Asked s ∷ parts) i h = absurd (true≢false (sym h))
 
 -- some part is asked, where not all are free
 pub some_asked : (parts : List PartState) → list_all is_free parts ≡ false → (i : ℕ) × ((child : ℕ) × (asked_slot (get_or parts i Idle) ≡ Some child))
-some_asked [] h = absurd (true_is_false h)
+some_asked [] h = absurd (true≢false h)
 some_asked (Idle ∷ parts) h = let rest = some_asked parts h in (suc rest.0, rest.1)
 some_asked (Got v ∷ parts) h = let rest = some_asked parts h in (suc rest.0, rest.1)
 some_asked (Asked s ∷ parts) h = (0, (s, refl))
@@ -75,9 +72,9 @@ pub free_is_idle : (parts : List PartState) (i : ℕ) → list_all is_free parts
 free_is_idle [] i h e = refl
 free_is_idle (Idle ∷ parts) zero h e = refl
 free_is_idle (Idle ∷ parts) (suc i) h e = free_is_idle parts i h e
-free_is_idle (Got v ∷ parts) zero h e = absurd (none_is_some v (sym e))
+free_is_idle (Got v ∷ parts) zero h e = absurd (none-some v (sym e))
 free_is_idle (Got v ∷ parts) (suc i) h e = free_is_idle parts i h e
-free_is_idle (Asked s ∷ parts) i h e = absurd (true_is_false (sym h))
+free_is_idle (Asked s ∷ parts) i h e = absurd (true≢false (sym h))
 
 all_are_idle : (parts : List PartState) → ((i : ℕ) → i < length parts → get_or parts i Idle ≡ Idle) → list_all is_idle parts ≡ true
 all_are_idle [] h = refl
@@ -95,5 +92,5 @@ idle_row rows slot three h zeroth first second = by_row (row_at rows slot) refl 
 
     by_row : (o : Option TaskRow) → row_at rows slot ≡ o → is_ready o ≡ true → option_and_then got_value (option_map (state_at 0) o) ≡ None → option_and_then got_value (option_map (state_at 1) o) ≡ None
         → option_and_then got_value (option_map (state_at 2) o) ≡ None → option_map (λ (row : TaskRow). list_all is_idle row.parts) o ≡ Some true
-    by_row None at h a b c = absurd (true_is_false (sym h))
+    by_row None at h a b c = absurd (true≢false (sym h))
     by_row (Some row) at h a b c = ap Some (all_are_idle row.parts (λ i l. each row h a b c i (subst (λ n. i < n) (three slot row at) l)))

@@ -1,10 +1,13 @@
 -- Lists of slots that rise.
-use Rattle.std.proofs.Common.{◌≡◌, ℕ, zero, suc, ◌<◌, ◌≤◌, ◌-◌, Bool, true, false, cond, ◌==◌, ◌||◌, List, [], ◌∷◌, ◌++◌, length, get_or, Some, refl, ap, sym, subst, ◌∙◌, arith}
+use Rattle.std.proofs.Common.{◌≡◌, ℕ, zero, suc, ◌<◌, ◌≤◌, ◌-◌, Bool, true, false, cond, ◌==◌, ◌||◌, List, [], ◌∷◌, ◌++◌, length, get_or, Some, refl, ap, sym, subst, ◌∙◌, arith, true≢false}
 use Rattle.std.proofs.lemmas.Bool.Decides.{nat_tests}
 use Rattle.std.specs.Prelude.{slice_get, insert, remove}
+use Rattle.std.proofs.lemmas.Option.{none-some}
+use Rattle.std.proofs.lemmas.Bool.{eqb-true}
+use Rattle.lucid_lemmas.proofs.Numbers.{number_itself, below_differs, above_differs}
 use Rattle.lucid_tasks.specs.Slots.{is_listed, RiseFrom}
 use Rattle.lucid_tasks.proofs.EndLemmas.{end_of}
-use Rattle.lucid_tasks.proofs.Cases.{same_number, number_itself, below_differs, above_differs, chosen, some_is, none_is_some}
+use Rattle.lucid_tasks.proofs.Cases.{chosen, some_is}
 
 -- what is listed is at least the bound
 pub none_below : (low : ℕ) (xs : List ℕ) (q : ℕ) → RiseFrom low xs → q < low → is_listed xs q ≡ false
@@ -51,12 +54,12 @@ rise_remove low (x ∷ xs) zero r = let h : low ≤ suc x = omega (arith, r.0) i
 rise_remove low (x ∷ xs) (suc i) r = (r.0, rise_remove (suc x) xs i r.1)
 
 pub place_above : (low : ℕ) (xs : List ℕ) (i s : ℕ) → RiseFrom low xs → slice_get xs i ≡ Some s → low ≤ s
-place_above low [] i s r e = absurd (none_is_some s e)
+place_above low [] i s r e = absurd (none-some s e)
 place_above low (x ∷ xs) zero s r e = let same : x ≡ s = some_is 0 x s e in omega (arith, r.0, same)
 place_above low (x ∷ xs) (suc i) s r e = let rest = place_above (suc x) xs i s r.1 e in omega (arith, r.0, rest)
 
 pub place_below : (xs : List ℕ) (i s : ℕ) → slice_get xs i ≡ Some s → i < length xs
-place_below [] i s e = absurd (none_is_some s e)
+place_below [] i s e = absurd (none-some s e)
 place_below (x ∷ xs) zero s e = omega arith
 place_below (x ∷ xs) (suc i) s e = let rest = place_below xs i s e in omega (arith, rest)
 
@@ -69,19 +72,19 @@ or_cond b c false h = refl
 
 pub listed_remove : (low : ℕ) (xs : List ℕ) (i s : ℕ) → RiseFrom low xs → slice_get xs i ≡ Some s
     → (q : ℕ) → is_listed (remove xs i) q ≡ cond (q == s) false (is_listed xs q)
-listed_remove low [] i s r e q = absurd (none_is_some s e)
+listed_remove low [] i s r e q = absurd (none-some s e)
 listed_remove low (x ∷ xs) zero s r e q =
     let same : x ≡ s = some_is 0 x s e in
     chosen q s (is_listed xs q) false (is_listed (x ∷ xs) q)
     (λ is. none_below (suc x) xs q r.1 (let h : q < suc x = omega (arith, same, is) in h))
     (λ other. or_false (x == q) (is_listed xs q) ((elim (x == q) as (λ t. (x == q) ≡ t → t ≡ false) [
-      | true ↦ λ t. absurd (other (sym (same_number x q t) ∙ same))
+      | true ↦ λ t. absurd (other (sym (eqb-true x q t) ∙ same))
       | false ↦ λ t. refl
     ]) refl))
 listed_remove low (x ∷ xs) (suc i) s r e q =
     let above = place_above (suc x) xs i s r.1 e in
     ap (λ b. (x == q) || b) (listed_remove (suc x) xs i s r.1 e q)
-    ∙ or_cond (x == q) (is_listed xs q) (q == s) (λ t. let is = same_number q s t in below_differs x q (let h : x < q = omega (arith, above, is) in h))
+    ∙ or_cond (x == q) (is_listed xs q) (q == s) (λ t. let is = eqb-true q s t in below_differs x q (let h : x < q = omega (arith, above, is) in h))
 
 -- ---- a slot that is put in
 
@@ -95,7 +98,7 @@ turned : (s q : ℕ) (c : Bool) → (s == q) || c ≡ cond (q == s) true c
 turned s q c = chosen q s ((s == q) || c) true c
     (λ is. ap (λ b. b || c) (ap (λ n. s == n) is ∙ number_itself s))
     (λ other. (elim (s == q) as (λ t. (s == q) ≡ t → t || c ≡ c) [
-      | true ↦ λ t. absurd (other (sym (same_number s q t)))
+      | true ↦ λ t. absurd (other (sym (eqb-true s q t)))
       | false ↦ λ t. refl
     ]) refl)
 
@@ -147,19 +150,16 @@ rise_push low (x ∷ xs) s r l below =
 
 -- ---- the place of a slot
 
-true_is_false : true ≡ false → ⊥
-true_is_false e = cc
-
 -- the place before which all is below a slot, and from which nothing is, is that of the slot, if it is listed
 pub place_is : (low : ℕ) (xs : List ℕ) (i s : ℕ) → RiseFrom low xs → is_listed xs s ≡ true
     → ((k : ℕ) → k < i → get_or xs k 0 < s) → ((k : ℕ) → i ≤ k → k < length xs → s ≤ get_or xs k 0) → slice_get xs i ≡ Some s
-place_is low [] i s r h below from = absurd (true_is_false (sym h))
+place_is low [] i s r h below from = absurd (true≢false (sym h))
 place_is low (x ∷ xs) zero s r h below from =
     let at_most : s ≤ x = from 0 (omega arith) (omega arith) in
     let next : s < suc x = omega (arith, at_most) in
     (elim (x == s) as (λ t. (x == s) ≡ t → Some x ≡ Some s) [
-      | true ↦ λ t. ap Some (same_number x s t)
-      | false ↦ λ t. absurd (true_is_false (sym h ∙ ap (λ b. b || is_listed xs s) t ∙ none_below (suc x) xs s r.1 next))
+      | true ↦ λ t. ap Some (eqb-true x s t)
+      | false ↦ λ t. absurd (true≢false (sym h ∙ ap (λ b. b || is_listed xs s) t ∙ none_below (suc x) xs s r.1 next))
     ]) refl
 place_is low (x ∷ xs) (suc i) s r h below from =
     let head : x < s = below 0 (omega arith) in
@@ -178,7 +178,7 @@ listed_at (x ∷ xs) zero d h = listed_head (x == x) (is_listed xs x) (number_it
 listed_at (x ∷ xs) (suc k) d h = or_second (x == get_or xs k d) (is_listed xs (get_or xs k d)) (listed_at xs k d (omega (arith, h)))
 
 pub some_listed : (xs : List ℕ) (q : ℕ) → is_listed xs q ≡ true → 0 < length xs
-some_listed [] q h = absurd (true_is_false (sym h))
+some_listed [] q h = absurd (true≢false (sym h))
 some_listed (x ∷ xs) q h = omega arith
 
 -- the same, by a list that is equal
@@ -195,7 +195,7 @@ insert_in xs items i s e r l below from h =
 -- ---- by the last slot
 
 last_is : (xs : List ℕ) (i x : ℕ) → Some x ≡ slice_get xs i → (i < length xs) × (get_or xs i 0 ≡ x)
-last_is [] i x e = absurd (none_is_some x (sym e))
+last_is [] i x e = absurd (none-some x (sym e))
 last_is (y ∷ xs) zero x e = (omega arith, some_is 0 y x (sym e))
 last_is (y ∷ xs) (suc i) x e = let rest = last_is xs i x e in (omega (arith, rest.0), rest.1)
 

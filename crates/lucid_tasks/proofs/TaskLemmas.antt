@@ -2,27 +2,22 @@
 use Rattle.std.proofs.Common.{◌≡◌, ◌≢◌, ℕ, zero, suc, ◌<◌, true, false, cond, ◌==◌, List, [], ◌∷◌, ◌++◌, length, get_or, set, Option, Some, None, IsSome, ◌⊎◌, inl, inr, refl, ap, sym, subst, ◌∙◌, arith}
 use Rattle.std.specs.Prelude.{option_and_then, option_map}
 use Rattle.std.specs.List.{list_all}
+use Rattle.std.proofs.lemmas.Option.{none-some}
+use Rattle.std.proofs.lemmas.Bool.{cases_eq}
+use Rattle.lucid_lemmas.proofs.Options.{value_there}
 use Rattle.lucid_value.specs.declared.Value.{Value}
 use Rattle.lucid_tasks.specs.declared.Part.{Part}
 use Rattle.lucid_tasks.specs.declared.Task.{Task}
 use Rattle.lucid_tasks.specs.Slots.{is_listed, RiseFrom}
 use Rattle.lucid_tasks.specs.Rows.{PartState, Idle, Asked, Got, TaskRow, row_at, parent_of, child_of, state_of, state_at, asked_slot, got_value, got_of, is_free, is_ready, emptied, taken, fresh, with_part, given, AreTasks, is_idle, IsIdleRow, IsRow, IsPast, SetsOnly, ChangesOnly, Asks, Settles}
-use Rattle.lucid_tasks.proofs.Cases.{number_cases, chosen, chosen_same, chosen_other, other_index, some_is, none_is_some}
+use Rattle.lucid_tasks.proofs.Cases.{chosen, chosen_same, chosen_other, other_index, some_is}
 use Rattle.lucid_tasks.proofs.SlotLemmas.{listed_push, rise_push}
 use Rattle.lucid_tasks.proofs.RowLemmas.{fresh_part, part_set, part_other, parts_length, asked_waits, free_set}
 use Rattle.lucid_tasks.proofs.ForestLemmas.{child_in, forest_by_links, forest_asked, forest_settled, ready_is_free, ready_is_row}
 
-true_is_false : true ≡ false → ⊥
-true_is_false e = cc
-
 -- the parent of a row, if there is a row that has one
 abbrev parent_in : Option TaskRow → Option Part
 parent_in o = option_and_then (λ (row : TaskRow). row.parent) o
-
--- the row of a slot that has one
-pub the_row : (o : Option TaskRow) → IsSome o → (row : TaskRow) × (o ≡ Some row)
-the_row None h = absurd (true_is_false (sym h))
-the_row (Some row) h = (row, refl)
 
 no_row : (o : Option TaskRow) → (IsSome o → ⊥) → o ≡ None
 no_row None h = refl
@@ -32,7 +27,7 @@ past_none : (rows : List (Option TaskRow)) (slot : ℕ) → IsPast rows slot →
 past_none rows slot past = no_row (row_at rows slot) (λ some. let below = past slot some in omega (arith, below))
 
 three_of_row : (o : Option TaskRow) (row : TaskRow) → ((r : TaskRow) → o ≡ Some r → length r.parts ≡ 3) → Some (length row.parts) ≡ option_map (λ (r : TaskRow). length r.parts) o → length row.parts ≡ 3
-three_of_row None row three e = absurd (none_is_some (length row.parts) (sym e))
+three_of_row None row three e = absurd (none-some (length row.parts) (sym e))
 three_of_row (Some r) row three e = some_is 0 (length row.parts) (length r.parts) e ∙ three r refl
 
 -- ---- a row that changes in place, with the same parent and the same parts asked
@@ -45,7 +40,7 @@ module _ (old new : List (Option TaskRow)) (slot : ℕ) (change : TaskRow → Ta
   elsewhere q ne = only q ∙ chosen_other q slot (option_map change (row_at old q)) (row_at old q) ne
 
   same_of : {Y : Type 0} (f : Option TaskRow → Y) → f (option_map change (row_at old slot)) ≡ f (row_at old slot) → (q : ℕ) → f (row_at new q) ≡ f (row_at old q)
-  same_of f h q = elim (number_cases q slot) [
+  same_of f h q = elim (cases_eq q slot) [
     | inl e ↦ ap (λ s. f (row_at new s)) e ∙ ap f there ∙ h ∙ ap (λ s. f (row_at old s)) (sym e)
     | inr ne ↦ ap f (elsewhere q ne)
   ]
@@ -85,7 +80,7 @@ taken_none (p ∷ parts) (suc i) = taken_none parts i
 
 module _ (old new : List (Option TaskRow)) (slot i : ℕ) (only : ChangesOnly old new slot (taken i)) where
   pub still_row : IsRow old slot → IsRow new slot
-  still_row some = let at = the_row (row_at old slot) some in subst IsSome (sym (there old new slot (taken i) only ∙ ap (option_map (taken i)) at.1)) refl
+  still_row some = let at = value_there (row_at old slot) some in subst IsSome (sym (there old new slot (taken i) only ∙ ap (option_map (taken i)) at.1)) refl
 
   pub got_none : got_of new (record { slot = slot; index = i }) ≡ None
   got_none = ap (λ o. option_and_then got_value (option_map (state_at i) o)) (there old new slot (taken i) only) ∙ by_row (row_at old slot)
@@ -117,7 +112,7 @@ module _ (v0 v1 v2 v3 : List (Option TaskRow)) (slot : ℕ) (zeroth : ChangesOnl
 pub words_tasks : (old new : List (Option TaskRow)) (slot : ℕ) (change : TaskRow → TaskRow) → ChangesOnly old new slot change → IsRow old slot
     → ((row : TaskRow) → (change row).parent ≡ row.parent) → ((row : TaskRow) → (change row).parts ≡ row.parts) → (ready : List ℕ) → AreTasks old ready → AreTasks new ready
 words_tasks old new slot change only some parents parts ready t =
-    let at = the_row (row_at old slot) some in
+    let at = value_there (row_at old slot) some in
     changed_row old new slot change only at.0 at.1 (parents at.0) (λ i. ap (λ (ps : List PartState). asked_slot (get_or ps i Idle)) (parts at.0))
     (ap (list_all is_free) (parts at.0)) (ap (λ (ps : List PartState). length ps) (parts at.0)) ready t
 
@@ -126,10 +121,10 @@ pub part_tasks : (old new : List (Option TaskRow)) (slot i : ℕ) (state : TaskR
     → ((row : TaskRow) → row_at old slot ≡ Some row → (asked_slot (state row) ≡ asked_slot (state_at i row)) × (is_free (state row) ≡ is_free (state_at i row)))
     → (ready : List ℕ) → AreTasks old ready → AreTasks new ready
 part_tasks old new slot i state only some h same ready t =
-    let at = the_row (row_at old slot) some in
+    let at = value_there (row_at old slot) some in
     let three = t.three slot at.0 at.1 in
     changed_row old new slot (λ row. with_part i (state row) row) only at.0 at.1 refl
-    (λ k. elim (number_cases k i) [
+    (λ k. elim (cases_eq k i) [
       | inl e ↦ ap (λ n. asked_slot (get_or (set at.0.parts i (state at.0)) n Idle)) e ∙ ap asked_slot (part_set at.0.parts i (state at.0) (omega (arith, h, three))) ∙ (same at.0 at.1).0 ∙ ap (λ n. asked_slot (state_at n at.0)) (sym e)
       | inr ne ↦ ap asked_slot (part_other at.0.parts i (state at.0) k ne)
     ])
@@ -159,7 +154,7 @@ module _ (old new : List (Option TaskRow)) (slot : ℕ) (task : Task) (sets : Se
   listed_below q h = past q (ready_is_row (row_at old q) (sym (t.listed q) ∙ h))
 
   begun_same : {Y : Type 0} (f : Option TaskRow → Y) → f (Some (fresh task None)) ≡ f None → (q : ℕ) → f (row_at new q) ≡ f (row_at old q)
-  begun_same f h q = elim (number_cases q slot) [
+  begun_same f h q = elim (cases_eq q slot) [
     | inl e ↦ ap f (sets q ∙ chosen_same q slot (Some (fresh task None)) (row_at old q) e) ∙ h ∙ ap f (sym (ap (row_at old) e ∙ past_none old slot past))
     | inr ne ↦ ap f (sets q ∙ chosen_other q slot (Some (fresh task None)) (row_at old q) ne)
   ]
@@ -171,7 +166,7 @@ module _ (old new : List (Option TaskRow)) (slot : ℕ) (task : Task) (sets : Se
     listed = λ q. listed_push ready slot q ∙ sym (chosen q slot (is_ready (row_at new q)) true (is_listed ready q)
         (λ e. ap is_ready (sets q ∙ chosen_same q slot (Some (fresh task None)) (row_at old q) e))
         (λ ne. ap is_ready (sets q ∙ chosen_other q slot (Some (fresh task None)) (row_at old q) ne) ∙ sym (t.listed q)));
-    three = λ q row e. elim (number_cases q slot) [
+    three = λ q row e. elim (cases_eq q slot) [
       | inl is ↦ ap (λ (r : TaskRow). length r.parts) (some_is row row (fresh task None) (sym e ∙ sets q ∙ chosen_same q slot (Some (fresh task None)) (row_at old q) is))
       | inr ne ↦ t.three q row (sym (sets q ∙ chosen_other q slot (Some (fresh task None)) (row_at old q) ne) ∙ e)
     ];
@@ -211,7 +206,7 @@ module _ (old mid new : List (Option TaskRow)) (parent : Part) (slot : ℕ) (tas
 
   module _ (ready : List ℕ) (t : AreTasks old ready) where
     pub row_there : (row : TaskRow) × (row_at old parent.slot ≡ Some row)
-    row_there = the_row (row_at old parent.slot) some
+    row_there = value_there (row_at old parent.slot) some
 
     abbrev waiting : TaskRow
     waiting = with_part parent.index (Asked slot) row_there.0
@@ -226,7 +221,7 @@ module _ (old mid new : List (Option TaskRow)) (parent : Part) (slot : ℕ) (tas
     free = ap (option_and_then asked_slot) idle
 
     parents : (q : ℕ) → q ≢ slot → parent_of new q ≡ parent_of old q
-    parents q ne = elim (number_cases q parent.slot) [
+    parents q ne = elim (cases_eq q parent.slot) [
       | inl e ↦ ap (λ s. parent_of new s) e ∙ ap parent_in at_waiting ∙ ap parent_in (sym row_there.1) ∙ ap (parent_of old) (sym e)
       | inr other ↦ ap parent_in (others q ne other)
     ]
@@ -245,7 +240,7 @@ module _ (old mid new : List (Option TaskRow)) (parent : Part) (slot : ℕ) (tas
     asked_tasks after rising lists = record {
       forest = forest_asked old new slot parent (ap parent_in at_child) parents
           (ap (child_in parent.index) at_waiting ∙ ap asked_slot (part_set row_there.0.parts parent.index (Asked slot) within))
-          (λ p ne. children p ne (number_cases p.slot parent.slot) (number_cases p.slot slot))
+          (λ p ne. children p ne (cases_eq p.slot parent.slot) (cases_eq p.slot slot))
           (ap parent_in (past_none old slot past)) free older h t.forest;
       rising = rising;
       listed = λ q. lists q ∙ sym (chosen q slot (is_ready (row_at new q)) true (cond (q == parent.slot) false (is_listed ready q))
@@ -253,7 +248,7 @@ module _ (old mid new : List (Option TaskRow)) (parent : Part) (slot : ℕ) (tas
           (λ ne. chosen q parent.slot (is_ready (row_at new q)) false (is_listed ready q)
           (λ e. ap is_ready (ap (row_at new) e ∙ at_waiting) ∙ asked_waits row_there.0.parts parent.index slot within)
           (λ other. ap is_ready (others q ne other) ∙ sym (t.listed q))));
-      three = λ q row e. three_case q row e (number_cases q slot) (number_cases q parent.slot);
+      three = λ q row e. three_case q row e (cases_eq q slot) (cases_eq q parent.slot);
     }
       where
         three_case : (q : ℕ) (row : TaskRow) → row_at new q ≡ Some row → (q ≡ slot) ⊎ (q ≡ slot → ⊥) → (q ≡ parent.slot) ⊎ (q ≡ parent.slot → ⊥) → length row.parts ≡ 3
@@ -283,15 +278,15 @@ module _ (rows : List (Option TaskRow)) (slot : ℕ) (ready left : List ℕ) (t 
       (λ ne. ap is_ready (kept q ne)))
 
   three_left : (q : ℕ) (row : TaskRow) → row_at mid q ≡ Some row → length row.parts ≡ 3
-  three_left q row e = elim (number_cases q slot) [
-    | inl is ↦ absurd (none_is_some row (sym (ap (row_at mid) is ∙ gone) ∙ e))
+  three_left q row e = elim (cases_eq q slot) [
+    | inl is ↦ absurd (none-some row (sym (ap (row_at mid) is ∙ gone) ∙ e))
     | inr ne ↦ t.three q row (sym (kept q ne) ∙ e)
   ]
 
   -- a root
   pub settled_root : parent_of rows slot ≡ None → RiseFrom 0 left → AreTasks mid left
   settled_root root rising = record {
-    forest = forest_by_links rows mid (λ q. parents q (number_cases q slot)) (λ p. children p (number_cases p.slot slot)) t.forest;
+    forest = forest_by_links rows mid (λ q. parents q (cases_eq q slot)) (λ p. children p (cases_eq p.slot slot)) t.forest;
     rising = rising;
     listed = left_listed;
     three = three_left;
@@ -317,7 +312,7 @@ module _ (rows : List (Option TaskRow)) (slot : ℕ) (ready left : List ℕ) (t 
     part_index = t.forest.index slot part was
 
     asked_row : (o : Option TaskRow) → child_in part.index o ≡ Some slot → (row : TaskRow) × ((o ≡ Some row) × (asked_slot (state_at part.index row) ≡ Some slot))
-    asked_row None h = absurd (none_is_some slot h)
+    asked_row None h = absurd (none-some slot h)
     asked_row (Some row) h = (row, (refl, h))
 
     pub waiting_row : (row : TaskRow) × ((row_at rows part.slot ≡ Some row) × (asked_slot (state_at part.index row) ≡ Some slot))
@@ -332,7 +327,7 @@ module _ (rows : List (Option TaskRow)) (slot : ℕ) (ready left : List ℕ) (t 
     not_got : (s : PartState) → asked_slot s ≡ Some slot → got_value s ≡ None
     not_got Idle e = refl
     not_got (Asked c) e = refl
-    not_got (Got v) e = absurd (none_is_some slot e)
+    not_got (Got v) e = absurd (none-some slot e)
 
     pub part_empty : got_of mid part ≡ None
     part_empty = ap (λ o. option_and_then got_value (option_map (state_at part.index) o)) at_mid ∙ not_got (state_at part.index waiting_row.0) waiting_row.1.1
@@ -340,7 +335,7 @@ module _ (rows : List (Option TaskRow)) (slot : ℕ) (ready left : List ℕ) (t 
     -- the row that waited isn't listed
     pub part_waits : is_listed left part.slot ≡ false
     part_waits = left_listed part.slot ∙ ap is_ready (kept part.slot other_slot) ∙ (elim (is_ready (row_at rows part.slot)) as (λ b. is_ready (row_at rows part.slot) ≡ b → b ≡ false) [
-      | true ↦ λ e. absurd (none_is_some slot (sym (ready_is_free rows part e) ∙ t.forest.parent slot part was))
+      | true ↦ λ e. absurd (none-some slot (sym (ready_is_free rows part e) ∙ t.forest.parent slot part was))
       | false ↦ λ e. refl
     ]) refl
 
@@ -372,7 +367,7 @@ module _ (rows : List (Option TaskRow)) (slot : ℕ) (ready left : List ℕ) (t 
       within_parts = let three = t.three part.slot waiting_row.0 waiting_row.1.0 in let low = part_index in omega (arith, low, three)
 
       parents_left : (q : ℕ) → q ≢ slot → parent_of new q ≡ parent_of rows q
-      parents_left q ne = elim (number_cases q part.slot) [
+      parents_left q ne = elim (cases_eq q part.slot) [
         | inl e ↦ ap (λ s. parent_of new s) e ∙ ap parent_in now_row ∙ ap parent_in (sym waiting_row.1.0) ∙ ap (parent_of rows) (sym e)
         | inr other ↦ ap parent_in (others_left q ne other)
       ]
@@ -389,13 +384,13 @@ module _ (rows : List (Option TaskRow)) (slot : ℕ) (ready left : List ℕ) (t 
       settled_part after rising added = record {
         forest = forest_settled rows new slot part was (ap parent_in at_slot) parents_left
             (ap (child_in part.index) now_row ∙ ap asked_slot (part_set waiting_row.0.parts part.index (Got value) within_parts))
-            (λ p ne. children_left p ne (number_cases p.slot part.slot) (number_cases p.slot slot))
+            (λ p ne. children_left p ne (cases_eq p.slot part.slot) (cases_eq p.slot slot))
             t.forest;
         rising = rising;
         listed = λ q. added q ∙ sym (chosen q part.slot (is_ready (row_at new q)) (is_ready (row_at new part.slot)) (is_listed left q)
             (λ e. ap (λ s. is_ready (row_at new s)) e)
             (λ other. ap is_ready (elsewhere mid new part.slot (with_part part.index (Got value)) gave q other) ∙ sym (left_listed q)));
-        three = λ q row e. elim (number_cases q part.slot) [
+        three = λ q row e. elim (cases_eq q part.slot) [
           | inl is ↦ ap (λ (r : TaskRow). length r.parts) (some_is row row done (sym e ∙ ap (row_at new) is ∙ now_row))
               ∙ parts_length waiting_row.0.parts part.index (Got value) ∙ t.three part.slot waiting_row.0 waiting_row.1.0
           | inr other ↦ three_left q row (sym (elsewhere mid new part.slot (with_part part.index (Got value)) gave q other) ∙ e)
@@ -413,5 +408,5 @@ pub idle_is_row : (rows : List (Option TaskRow)) (slot : ℕ) → IsIdleRow rows
 idle_is_row rows slot h = by_row (row_at rows slot) h
   where
     by_row : (o : Option TaskRow) → option_map (λ (row : TaskRow). list_all is_idle row.parts) o ≡ Some true → IsSome o
-    by_row None h = absurd (none_is_some true h)
+    by_row None h = absurd (none-some true h)
     by_row (Some row) h = refl

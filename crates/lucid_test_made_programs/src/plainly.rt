@@ -3,8 +3,8 @@ ghost use Rattle.lucid_tree.specs.WellMade.{IsWellMade};
 
 use lucid_plain::{Stream, approximation};
 use lucid_scope::Scoped;
-use lucid_tree::Tree;
 use lucid_test_trials::{TOO_DEEP, value_text};
+use lucid_tree::Tree;
 use lucid_value::{Name, ReadRefusal, Value, read_value};
 use std::alloc::Global;
 use std::test::Fail;

@@ -1,7 +1,7 @@
 -- Streams of which nothing is read may be asked once their places are reached.
 use Rattle.std.proofs.Common.{◌≡◌, ◌<◌, ℕ, zero, suc, List, [], ◌∷◌, Option, sym, subst}
 use Rattle.std.proofs.lemmas.Option.{none-some, same_Some}
-use Rattle.lucid_ports.specs.World.{World, Place, IsFresh}
+use Rattle.lucid_ports.specs.World.{World, IsFresh}
 use Rattle.lucid_inputs.specs.Streams.{Stream, FitsPlace, fresh_stream}
 use Rattle.lucid_inputs.specs.Laws.{FreshFits}
 use Rattle.lucid_facts.specs.Engine.{AreAskable}
@@ -37,7 +37,3 @@ module _ (fits : FreshFits) (w : World) where
       at zero s e = fresh a x s (same_Some _ _ e) within_a new_a
       at (suc zero) s e = fresh b y s (same_Some _ _ e) within_b new_b
       at (suc (suc k)) s e = absurd (none-some s e)
-
--- what the second of two places leaves as it was
-pub fresh_stays : (bytes : Option (List ℕ)) (p q : Place) → q ≡ p → IsFresh bytes p → IsFresh bytes q
-fresh_stays bytes p q same new = subst (IsFresh bytes) (sym same) new

@@ -1,15 +1,14 @@
 -- A run that never began, and one that ended for want of memory in place of another fault: what is promised of runs holds of them.
-use Rattle.std.proofs.Common.{◌≡◌, ℕ, ◌≤◌, ◌<◌, List, [], length, Option, Some, None, Result, Err, inl, inr, refl, ap, sym, subst, ◌∙◌, arith}
+use Rattle.std.proofs.Common.{◌≡◌, ℕ, ◌≤◌, ◌<◌, List, [], length, Option, Some, Result, Err, inl, inr, refl, ap, sym, subst, ◌∙◌, arith}
 use Rattle.std.specs.Prelude.{IsSomeAnd}
-use Rattle.std.proofs.lemmas.List.{append-nil}
 use Rattle.std.proofs.Math.Nat.{le_refl}
-use Rattle.lucid_ports.specs.Writing.{with_all}
 use Rattle.lucid_ports.specs.World.{Contents}
 use Rattle.lucid_ports.specs.Faults.{Rises}
 use Rattle.lucid_ports.specs.declared.run.Summary.{Summary}
 use Rattle.lucid_ports.specs.declared.run.RunFault.{RunFault}
 use Rattle.lucid_ports.specs.declared.run.RunFault.TheVariants as fault
 use Rattle.lucid_tree.specs.Levels.{Elements}
+use Rattle.lucid_ports.proofs.WritingLemmas.{with_nothing}
 use Rattle.lucid_session.specs.Subject.{Subject, stream_subject, no_lines}
 use Rattle.lucid_session.specs.Runs.{RunView, IsInput, HasElements, Ran}
 use Rattle.lucid_session.specs.Figures.{Figures}
@@ -27,10 +26,6 @@ RanWith p r result = (b : Elements) → HasElements r b → Ran (stream_subject 
 pub ran_with : (p : Program) (r : RunView) (o : Outcome) (result : Result Summary RunFault) → run_result o ≡ Some result → RanWith p r result → RanSo p r o
 ran_with p r o result is h b has =
     subst (λ x. IsSomeAnd x (λ y. Ran (stream_subject (program_stream p)) b r y × Figures (program_counted p) b r y)) (sym is) (h b has)
-
-with_nothing : (o : Option (List ℕ)) → o ≡ with_all [] o
-with_nothing None = refl
-with_nothing (Some bytes) = ap Some (sym (append-nil bytes))
 
 -- nothing is consumed of any input
 abbrev pub ConsumesNothing : RunView → Type 0

@@ -18,6 +18,7 @@ use Rattle.lucid_scope.specs.Scoped.{scoped_tree}
 use Rattle.lucid_cycles.specs.Judgments.{IsJudgeRefusal}
 use Rattle.lucid_cycles.specs.declared.judgment.JudgeRefusal.{JudgeRefusal}
 use Rattle.lucid_cycles.specs.declared.judgment.JudgeRefusal.TheVariants as judge
+use Rattle.lucid_ports.proofs.FaultLemmas.{rises_from}
 use Rattle.lucid_words.specs.Plain.{PlainSource, file, made}
 use Rattle.lucid_words.specs.Asked.{PlainWords}
 use Rattle.lucid_session.specs.Runs.{Told}
@@ -46,7 +47,6 @@ use Rattle.lucid_top.specs.Places.{KeepsNames, ReadsSource, most_read, SpeltBySo
 use Rattle.lucid_top.specs.Writing.{WritesSome, WritesSomeFront, WritesOnly}
 use Rattle.lucid_top.specs.Clauses.{WritesNothing}
 use Rattle.lucid_top.specs.Coming.{reaches_nothing, reaches_source, reaches_inputs, Rests, IsOfMade, RunsTable, Comes}
-use Rattle.lucid_top.proofs.Pieces.{rises_from}
 
 -- the words of a call ask for what is built
 pub record Begins (c : Call) (w : PlainWords) : Type 0 where

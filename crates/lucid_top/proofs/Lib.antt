@@ -10,7 +10,6 @@ pub mod Begun
 pub mod Carrying
 pub mod Views
 pub mod Asking
-pub mod Weights
 pub mod OneList
 pub mod Verdicts
 pub mod NoJudgment

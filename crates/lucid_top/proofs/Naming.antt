@@ -1,25 +1,18 @@
 -- The words NAME=FILE, as the code has them.
 use Rattle.std.proofs.Common.{◌≡◌, ℕ, ◌+◌, ◌<◌, Bool, true, false, List, length, map, take, drop, get_or, Some, None, refl, ap, sym, subst, ◌∙◌, add-one, below_more}
 use Rattle.std.proofs.Math.Seq.{drop-cons}
-use Rattle.std.specs.Cmp.Lexicographic.{bytes_decides, nat_list_eq_equiv}
 use Rattle.std.specs.String.{string_bytes}
 use Rattle.std.specs.Prelude.{cond, slice_get, option_map, option_and_then}
 use Rattle.std.proofs.lemmas.Option.{slice_get-map, slice_get-get_or}
 use Rattle.std.proofs.lemmas.List.{take-map}
 use Rattle.lucid_tree.specs.Env.{same_name}
+use Rattle.lucid_scope.proofs.Names.{same_one, same_itself}
 use Rattle.lucid_words.specs.declared.Given.{Given as Word}
 use Rattle.lucid_words.specs.Plain.{plain_given}
 use Rattle.lucid_top.specs.declared.stop.Stop.{Stop}
 use Rattle.lucid_top.specs.declared.stop.Stop.TheVariants as stop
 use Rattle.lucid_top.specs.Refusals.{IsRefusalOf}
 use Rattle.lucid_top.specs.Files.{Given, file_given, word_refusal, refusal_at, AreRightBelow, RefusedFirst, RefusesGiven, by_word}
-
--- names are the same exactly where their bytes are
-pub same_one : (x y : List ℕ) → same_name x y ≡ true → x ≡ y
-same_one x y h = (bytes_decides x y).0 h
-
-pub same_itself : (x : List ℕ) → same_name x x ≡ true
-same_itself x = nat_list_eq_equiv.refl x
 
 pub same_if : (x y : List ℕ) → x ≡ y → same_name x y ≡ true
 same_if x y e = subst (λ z. same_name x z ≡ true) e (same_itself x)

@@ -1,13 +1,13 @@
 -- Parts of a line written one behind the other.
-use Rattle.std.proofs.Common.{◌≡◌, ℕ, ◌+◌, ◌≤◌, ◌<◌, List, [], ◌∷◌, ◌++◌, length, take, get_or, Option, Some, None, Result, Err, ◌-◌, ◌^◌, inl, inr, refl, ap, sym, subst, ◌∙◌, drop, append_assoc, arith}
+use Rattle.std.proofs.Common.{◌≡◌, ℕ, ◌+◌, ◌≤◌, ◌<◌, List, [], ◌∷◌, ◌++◌, length, take, get_or, Option, Some, None, Result, Err, refl, ap, sym, subst, ◌∙◌, drop, append_assoc, arith}
 use Rattle.std.proofs.lemmas.List.{length-append, take-append-le, take-append-drop, take_more, take_all}
-use Rattle.std.proofs.Math.Seq.{take-append-add}
-use Rattle.std.proofs.lemmas.Bool.{cases_lt}
 use Rattle.std.specs.Prelude.{decimal}
 use Rattle.lucid_ports.specs.declared.fault.PortFault.{PortFault}
 use Rattle.lucid_ports.specs.declared.fault.PortFault.TheVariants.{Failed, NoMemory}
 use Rattle.lucid_ports.specs.Faults.{Rises}
 use Rattle.lucid_ports.specs.Writing.{with_front, with_all}
+use Rattle.lucid_ports.proofs.WritingLemmas.{all_all, front_all}
+use Rattle.lucid_ports.proofs.FaultLemmas.{rises_from}
 use Rattle.lucid_session.specs.Runs.{Told}
 use Rattle.lucid_top.specs.declared.report.Part.{Part}
 use Rattle.lucid_top.specs.declared.report.Part.TheVariants.{Text, Number}
@@ -17,16 +17,6 @@ use Rattle.lucid_top.specs.Telling.{WritesWhole, WritesFront, WritesLine}
 -- a call that stopped so
 abbrev pub stopped : {T : Type 0} → PortFault → Result T PortFault
 stopped fault = Err fault
-
--- two whole pieces are one
-all_all : (a b : List ℕ) (o : Option (List ℕ)) → with_all b (with_all a o) ≡ with_all (a ++ b) o
-all_all a b None = refl
-all_all a b (Some bytes) = ap Some (append_assoc bytes a b)
-
--- a whole piece and a front of the next are a front of both
-front_all : (n : ℕ) (a b : List ℕ) (o : Option (List ℕ)) → with_front n b (with_all a o) ≡ with_front (length a + n) (a ++ b) o
-front_all n a b None = refl
-front_all n a b (Some bytes) = ap Some (append_assoc bytes a (take n b) ∙ ap (λ front. bytes ++ front) (sym (take-append-add a b n)))
 
 -- a front of a piece is one of the piece with another behind it
 front_longer : (n : ℕ) (a b : List ℕ) (o : Option (List ℕ)) → n ≤ length a → with_front n a o ≡ with_front n (a ++ b) o
@@ -60,10 +50,6 @@ pub more_parts : (xs : List Part) (i : ℕ) (d : Part) (old mid new : Told) → 
 more_parts xs i d old mid new h before after =
     after ∙ ap (with_all (line_of (get_or xs i d ∷ []))) before ∙ all_all (line_of (take i xs)) (line_of (get_or xs i d ∷ [])) old.bytes
     ∙ ap (λ line. with_all line old.bytes) (sym (line_of_more xs i d h))
-
--- a count that rises later rises
-pub rises_from : (f g h : ℕ) → f ≤ g → g ≤ h → Rises g h → Rises f h
-rises_from f g h i j rises low = elim (cases_lt g (2 ^ 64 - 1)) [ inl below ↦ omega (arith, rises below) | inr past ↦ omega arith ]
 
 -- a count that rises earlier rises
 pub rises_to : (f g h : ℕ) → f ≤ g → g ≤ h → Rises f g → Rises f h

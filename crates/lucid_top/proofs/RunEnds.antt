@@ -11,6 +11,7 @@ use Rattle.lucid_ports.specs.World.{World, Place, IsFresh, unread}
 use Rattle.lucid_tree.specs.Members.{In}
 use Rattle.lucid_equations.specs.declared.table.Table.{Table}
 use Rattle.lucid_scan.specs.Refusals.{most_source_bytes}
+use Rattle.lucid_ports.proofs.FaultLemmas.{rises_from}
 use Rattle.lucid_words.specs.declared.Given.{Given as Word}
 use Rattle.lucid_words.specs.Plain.{PlainSource, file, made, plain_given}
 use Rattle.lucid_words.specs.Asked.{PlainWords}
@@ -26,7 +27,6 @@ use Rattle.lucid_top.specs.Runs.{Run, first_place, run_of, input_places, unread_
 use Rattle.lucid_top.specs.Running.{RunComesOnly}
 use Rattle.lucid_top.specs.Clauses.{ComesOnly}
 use Rattle.lucid_top.specs.Coming.{RunsTable, Comes}
-use Rattle.lucid_top.proofs.Pieces.{rises_from}
 use Rattle.lucid_top.proofs.Ending.{words_of, first_place_le, run_of_table, places_of_table}
 use Rattle.lucid_top.proofs.Views.{TellAlike, ran_alike}
 

@@ -1,6 +1,5 @@
 -- A source has at most one refusal, and the names of a tree have.
-use Rattle.std.proofs.Common.{◌≡◌, ℕ, ◌≤◌, List, length, ap, subst, arith}
-use Rattle.std.proofs.lemmas.List.Elements.{All-contains}
+use Rattle.std.proofs.Common.{◌≡◌, ℕ, List, length, ap, subst}
 use Rattle.lucid_scan.specs.declared.token.Token.{Token}
 use Rattle.lucid_scan.specs.declared.refusal.ScanRefusal.{ScanRefusal}
 use Rattle.lucid_scan.specs.declared.refusal.ScanRefusal.TheVariants as scan
@@ -14,6 +13,7 @@ use Rattle.lucid_parse.specs.Depth.{at_depth, IsLeast}
 use Rattle.lucid_parse.specs.Verdict.{IsFault}
 use Rattle.lucid_parse.specs.Spelled.{IsRefused}
 use Rattle.lucid_parse.specs.Laws.{FaultIsUnique, TerminalsAreUnique, TerminalsSpellOneTree}
+use Rattle.lucid_parse.proofs.Verdicts.{least_once}
 use Rattle.lucid_scope.specs.Laws.{LeastFaultIsUnique}
 use Rattle.lucid_top.specs.declared.refusal.Refusal.{Refusal}
 use Rattle.lucid_top.specs.declared.refusal.Refusal.TheVariants as refusal
@@ -45,11 +45,6 @@ scan_scan l source e f v w is js r s =
 
 no_scan : Laws → (source : List ℕ) (tokens : List Token) (e : ScanRefusal) (v : Refusal) → HasTokens source tokens → scan_stop e ≡ stop.Refused v → Refuses source e → ⊥
 no_scan l source tokens e v has is r = not_memory e v is (l.accepted source tokens e has.listed has.short r)
-
-least_once : (places : List ℕ) (a b : ℕ) → IsLeast places a → IsLeast places b → a ≡ b
-least_once places a b x y =
-    let there : a ≤ b = All-contains (λ p. a ≤ p) places b x.least y.among in
-    let back : b ≤ a = All-contains (λ p. b ≤ p) places a y.least x.among in omega (arith, there, back)
 
 -- the terminals of the same tokens
 same_terminals : Laws → (source : List ℕ) (ts us : List Token) (ws vs : List PlacedTerminal) → HasTokens source ts → HasTokens source us → Terminals source ts ws → Terminals source us vs

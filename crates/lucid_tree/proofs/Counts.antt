@@ -4,6 +4,6 @@ use Rattle.lucid_tree.specs.Tree.{PlainTree}
 use Rattle.lucid_tree.specs.Size.{count}
 use Rattle.lucid_tree.specs.Lists.{trees_of}
 
-pub count-listed : (xs : List PlainTree) → length xs ≡ count (trees_of xs)
-count-listed [] = refl
-count-listed (x ∷ xs) = omega (arith, count-listed xs)
+pub count_listed : (xs : List PlainTree) → count (trees_of xs) ≡ length xs
+count_listed [] = refl
+count_listed (x ∷ xs) = omega (arith, count_listed xs)

@@ -1,4 +1,5 @@
 pub mod Members
+pub mod Times
 pub mod Plans
 pub mod Traces
 pub mod Settled
@@ -20,7 +21,7 @@ pub mod Undone
 pub mod Shifts
 pub mod SearchEquations
 pub mod References
-mod Counts
-mod Falls
+pub mod Counts
+pub mod Falls
 mod Copies
 pub mod Depths

@@ -1,7 +1,7 @@
--- Lists that stand inside others: appended, chosen by a test, and read by a filter.
-use Rattle.std.proofs.Common.{◌≡◌, Bool, true, false, List, [], ◌∷◌, ◌++◌, Option, Some, None, refl, sym, ap, ◌∙◌, if◌then◌else◌, arith, ◌⊎◌, inl, inr}
+-- What stands in a list, and lists that stand inside others: appended, chosen by a test, and read by a filter; and lists of different items.
+use Rattle.std.proofs.Common.{◌≡◌, Bool, true, false, List, [], ◌∷◌, ◌++◌, Option, Some, None, refl, sym, ap, ◌∙◌, if◌then◌else◌, arith, ◌⊎◌, inl, inr, ℕ, zero, suc, ◌<◌, ◌≤◌, length, get_or, map, Contains, subst}
 use Rattle.std.specs.List.{filter_map, cons_option}
-use Rattle.lucid_tree.specs.Members.{In, Inside}
+use Rattle.lucid_tree.specs.Members.{In, Inside, AllDiffer}
 
 pub in_left : {A : Type 0} (x : A) (xs ys : List A) → In x xs → In x (xs ++ ys)
 in_left x [] ys h = absurd h
@@ -65,3 +65,57 @@ inside-read f (x ∷ xs) ys h y i =
       | inl e ↦ in_read f x y ys e (h x (inl refl))
       | inr j ↦ inside-read f xs ys (λ z k. h z (inr k)) y j
     ]
+
+module _ {A B : Type 0} (f : A → B) where
+  pub in_map : (x : A) (xs : List A) → In x xs → In (f x) (map f xs)
+  in_map x [] h = h
+  in_map x (y ∷ ys) (inl e) = inl (ap f e)
+  in_map x (y ∷ ys) (inr h) = inr (in_map x ys h)
+
+-- what stands in a list stands at some number, and what stands at a number stands in it
+pub number_in : {A : Type 0} (x d : A) (xs : List A) → In x xs → (i : ℕ) × (i < length xs) × (get_or xs i d ≡ x)
+number_in x d [] h = absurd h
+number_in x d (y ∷ xs) (inl same) = (0, omega arith, sym same)
+number_in x d (y ∷ xs) (inr later) = let k = number_in x d xs later in (suc k.0, omega (arith, k.1), k.2)
+
+pub contained : {A : Type 0} (x : A) (xs : List A) → In x xs → Contains xs x
+contained x xs i = let k = number_in x x xs i in (k.0, k.1, k.2)
+
+pub stands_at : {A : Type 0} (x : A) (xs : List A) (i : ℕ) → i < length xs → get_or xs i x ≡ x → In x xs
+stands_at x [] i within is = absurd (omega (arith, within))
+stands_at x (y ∷ xs) zero within is = inl (sym is)
+stands_at x (y ∷ xs) (suc i) within is = inr (stands_at x xs i (omega (arith, within)) is)
+
+-- another item behind different ones
+pub one_more-differs : {A : Type 0} (x : A) (xs : List A) → (In x xs → ⊥) → AllDiffer xs → AllDiffer (xs ++ x ∷ [])
+one_more-differs x [] h d = ((λ q. q), tt)
+one_more-differs x (y ∷ xs) h d =
+    ((λ q. elim (in_either y xs (x ∷ []) q) [ inl r ↦ d.0 r | inr r ↦ elim r [ inl e ↦ h (inl (sym e)) | inr z ↦ z ] ]), one_more-differs x xs (λ q. h (inr q)) d.1)
+
+module _ {A : Type 0} where
+  -- the list without the item, which it has
+  without : (v : A) (us : List A) → In v us → List A
+  without v [] i = []
+  without v (u ∷ us) (inl e) = us
+  without v (u ∷ us) (inr i) = u ∷ without v us i
+
+  length-without : (v : A) (us : List A) (i : In v us) → suc (length (without v us i)) ≡ length us
+  unfolding without
+  length-without v [] i = absurd i
+  length-without v (u ∷ us) (inl e) = refl
+  length-without v (u ∷ us) (inr i) = ap suc (length-without v us i)
+
+  in-without : (v : A) (us : List A) (i : In v us) (x : A) → (x ≡ v → ⊥) → In x us → In x (without v us i)
+  unfolding without
+  in-without v [] i x d j = absurd j
+  in-without v (u ∷ us) (inl e) x d (inl e') = absurd (d (e' ∙ sym e))
+  in-without v (u ∷ us) (inl e) x d (inr j) = j
+  in-without v (u ∷ us) (inr i) x d (inl e) = inl e
+  in-without v (u ∷ us) (inr i) x d (inr j) = inr (in-without v us i x d j)
+
+  -- a list of different items that all stand in another is no longer
+  pub fewer : (vs us : List A) → AllDiffer vs → Inside vs us → length vs ≤ length us
+  fewer [] us r h = omega arith
+  fewer (v ∷ vs) us r h =
+      let i : In v us = h v (inl refl) in
+      omega (arith, length-without v us i, fewer vs (without v us i) r.1 (λ x j. in-without v us i x (λ e. r.0 (subst (λ z. In z vs) e j)) (h x (inr j))))

@@ -2,6 +2,7 @@
 use Rattle.std.proofs.Common.{◌≡◌, ℕ, zero, suc, ◌+◌, ◌≤◌, Bool, true, false, List, [], ◌∷◌, Option, Some, None, refl, nat_le, nat_lt, if◌then◌else◌, arith}
 use Rattle.std.specs.Prelude.{pos, negsuc}
 use Rattle.std.proofs.lemmas.Bool.Decides.{nat_tests}
+use Rattle.lucid_lemmas.proofs.Numbers.{zero_le}
 use Rattle.lucid_value.specs.Plain.{PlainValue, int, truth, word, text, list, eod, fault}
 use Rattle.lucid_tree.specs.Tree.{Head, const, apply, choose, both, either, first, next, fby, whenever, asa, upon, attime, initial, succ, sby, atspace}
 use Rattle.lucid_tree.specs.Rows.{Look, Plan, gives, nothing, looks, look, single, gives_part, by_test, by_place, at_zero, arguments, find_true, count_true, last, plan, Reader, add_value, all_values, with_values, run, gather, trace}
@@ -25,9 +26,6 @@ takes_single m k h (v ∷ vs) = h v
 
 takes_look : (m i t s l : ℕ) (k : PlainValue → Plan) → nat_le l m ≡ true → ((v : PlainValue) → Takes m (k v)) → Takes m (look i t s l k)
 takes_look m i t s l k h g = takes_looks (one_taken h none_taken) (takes_single m k g)
-
-zero_le : (m : ℕ) → nat_le 0 m ≡ true
-zero_le m = grind (arith, nat_tests)
 
 takes_part : (m i t s : ℕ) → Takes m (gives_part i t s)
 takes_part m i t s = takes_look m i t s 0 gives (zero_le m) (λ v. takes_value)

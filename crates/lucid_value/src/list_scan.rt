@@ -9,8 +9,8 @@ ghost use Rattle.lucid_value.specs.Reading.{IsFront};
 
 use crate::atoms::{read_atom, read_text};
 use crate::bytes::is_blank;
-use crate::stack::Stack;
 use crate::{Link, List, MAX_NESTING, MAX_WEIGHT, Value};
+use lucid_lists::Stack;
 use std::alloc::{AllocError, Global};
 
 /// What the scan stands at.

@@ -10,11 +10,6 @@ pub record EachSoFar {X Y : Type 0} (passes : X → Bool) (part : X → Y) (text
   pub all : list_all passes texts ≡ true
   pub are : map part texts ≡ parts
 
--- an answer that is given where a test passes
-pub passes_where_some : {X : Type 0} (passes : Bool) (x y : X) → cond passes (Some x) None ≡ Some y → (passes ≡ true) × (x ≡ y)
-passes_where_some true x y same = (refl, cc)
-passes_where_some false x y same = cc
-
 pub fails_where_none : {X : Type 0} (passes : Bool) (x : X) → cond passes (Some x) None ≡ None → passes ≡ false
 fails_where_none true x same = cc
 fails_where_none false x same = refl

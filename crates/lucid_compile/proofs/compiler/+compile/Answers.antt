@@ -2,6 +2,7 @@ use Rattle.std.proofs.Common.{◌≡◌, true, false, ◌≤◌, length, take, d
 use Rattle.lucid_value.specs.View.{plain}
 use Rattle.lucid_tree.specs.Tree.{no_trees}
 use Rattle.lucid_tree.specs.Size.{nodes_in_defs}
+use Rattle.lucid_tree.proofs.Falls.{tree-falls}
 use Rattle.lucid_equations.specs.Sound.{AreZero}
 use Rattle.lucid_compile.specs.Building.{lists}
 use Rattle.lucid_compile.specs.Holds.{AddsTrees}
@@ -9,7 +10,7 @@ use Rattle.lucid_compile.specs.Static.{freezes}
 use Rattle.lucid_compile.specs.Numbered.{call_number}
 use Rattle.lucid_compile.specs.Steps.{numbered}
 use Rattle.lucid_compile.specs.Forms.{head_of_unary, head_of_binary}
-use Rattle.lucid_compile.proofs.Falls.{tree-falls, def-within}
+use Rattle.lucid_compile.proofs.Falls.{def-within}
 use Rattle.lucid_compile.proofs.Adding.{if_ok, on_then, no_trees-added, trees-more, trees-done, unary-added, binary-added, choice-added, apply-added, const-added, name-added, call-added, frozen-opened, open-added, no_defs-added, defs-more, defs-done, plain-added, current-added, function-opened}
 use Rattle.lucid_compile.proofs.compiler.+compile.Goals as goal
 

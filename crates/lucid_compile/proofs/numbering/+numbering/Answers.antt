@@ -1,7 +1,8 @@
 use Rattle.std.proofs.Common.{ap, arith}
 use Rattle.lucid_tree.specs.Size.{nodes_in_defs}
+use Rattle.lucid_tree.proofs.Falls.{tree-falls}
 use Rattle.lucid_compile.specs.Keys.{key_lists}
-use Rattle.lucid_compile.proofs.Falls.{tree-falls, def-within}
+use Rattle.lucid_compile.proofs.Falls.{def-within}
 use Rattle.lucid_compile.proofs.Adding.{on_then}
 use Rattle.lucid_compile.proofs.Keyed.{call-listed, trees-one, trees-all, defs-one, defs-all, block-listed}
 use Rattle.lucid_compile.proofs.numbering.+numbering.Goals as goal

@@ -1,10 +1,11 @@
 use Rattle.std.proofs.Common.{◌≢◌, inl, inr, Some, sym, subst, ◌∙◌, arith}
+use Rattle.lucid_lemmas.proofs.Options.{on_err}
 use Rattle.lucid_tree.specs.Levels.{nowhere}
 use Rattle.lucid_tags.specs.Contexts.{call_frame}
 use Rattle.lucid_tags.specs.Known.{context_of}
 use Rattle.lucid_equations.specs.Datons as aims
 use Rattle.lucid_equations.specs.Programs.{table_of, program_equations}
-use Rattle.lucid_demand.proofs.Aims.{few-to_call, no-call, call-of_unknown, daton-of, on-err, added-in}
+use Rattle.lucid_demand.proofs.Aims.{few-to_call, no-call, call-of_unknown, daton-of, added-in}
 use Rattle.lucid_demand.proofs.aim.call_aim.Goals as goal
 use Rattle.lucid_demand.proofs.aim.call_aim.Goals.{then-from-level-via-then-from-level, then-from-level-via-else-from-level+then-not-leads}
 
@@ -19,7 +20,7 @@ returns-then-from-level-clause-aim c = elim c.then-from-level.branch [
 
 pub returns-in_err-inner-clause-unknown : goal.returns-in_err-inner-clause-unknown
 returns-in_err-inner-clause-unknown c =
-    on-err c.from_residual.result (call-of_unknown (program_equations c.args.program.now) c.args.tags.now c.args.name c.args.place c.args.level (context_of c.args.tags.now c.args.tag)
+    on_err c.from_residual.result (call-of_unknown (program_equations c.args.program.now) c.args.tags.now c.args.name c.args.place c.args.level (context_of c.args.tags.now c.args.tag)
     (context_of c.args.tags.now c.cut-base.result) c.args.time c.cut-base.ensures.context c.in_err-inner.ensures.unknown
     (c.leads.ensures.somewhere c.if-not-leads.false (context_of c.args.tags.now c.args.tag) (context_of c.args.tags.now c.cut-base.result) c.args.time))
 

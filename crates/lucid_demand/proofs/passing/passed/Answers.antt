@@ -1,8 +1,8 @@
 use Rattle.std.proofs.Common.{IfSome, option_map, sym, ap, subst, ◌∙◌}
+use Rattle.lucid_lemmas.proofs.Options.{on_err}
 use Rattle.lucid_tags.specs.Known.{IsKnown}
 use Rattle.lucid_equations.specs.Programs.{table_of}
 use Rattle.lucid_facts.specs.Tasks.{plain_task}
-use Rattle.lucid_demand.proofs.Aims.{on-err}
 use Rattle.lucid_demand.proofs.Passes.{passes-on, next-lower, entered-end, keeps-end, unknown-on}
 use Rattle.lucid_demand.proofs.passing.passed.Goals as goal
 
@@ -10,7 +10,7 @@ pub returns-in_err-next-clause-entered : goal.returns-in_err-next-clause-entered
 returns-in_err-next-clause-entered c = entered-end (table_of c.args.program.now) c.args.tags.now c.loop-next.tags c.moved.new.tags c.args.task c.loop-next.task c.loop-next.invariant c.moved.ensures.entered
 
 pub returns-in_err-next-clause-unknown : goal.returns-in_err-next-clause-unknown
-returns-in_err-next-clause-unknown c = on-err c.from_residual.result (unknown-on (table_of c.args.program.now) c.args.tags.now c.loop-next.tags c.args.task c.loop-next.task c.loop-next.invariant c.in_err-next.ensures.unknown)
+returns-in_err-next-clause-unknown c = on_err c.from_residual.result (unknown-on (table_of c.args.program.now) c.args.tags.now c.loop-next.tags c.args.task c.loop-next.task c.loop-next.invariant c.in_err-next.ensures.unknown)
 
 pub returns-in_err-next-clause-keeps : goal.returns-in_err-next-clause-keeps
 returns-in_err-next-clause-keeps c = keeps-end (table_of c.args.program.now) c.args.tags.now c.loop-next.tags c.moved.new.tags c.args.task c.loop-next.task c.loop-next.invariant c.moved.ensures.keeps

@@ -1,7 +1,7 @@
 use Rattle.std.proofs.Common.{◌≡◌, ℕ, List, ◌++◌, inl, inr, ap, ◌∙◌, arith}
 use Rattle.lucid_tree.specs.Tree.{PlainTree}
+use Rattle.lucid_tree.proofs.Falls.{tree-falls, def-falls}
 use Rattle.lucid_print.specs.Canonical.{source, parted, texts, parts}
-use Rattle.lucid_print.proofs.Falls.{tree-falls, def-falls}
 use Rattle.lucid_print.proofs.Loops.{first_argument, later_argument, texts_none, no_more, in_parentheses, next_definition, last_definition, current_written}
 use Rattle.lucid_print.proofs.Operations.{on_ok, two_written, two_parts, one_part, between_written, before_written, other_between, other_before}
 use Rattle.lucid_print.proofs.print.+print.Goals as goal

@@ -1,14 +1,15 @@
 use Rattle.std.proofs.Common.{◌≡◌, suc, ◌-◌, length, drop, ap, sym, ◌∙◌, arith}
+use Rattle.std.proofs.lemmas.List.{drop_all}
 use Rattle.lucid_tree.specs.Env.{param}
 use Rattle.lucid_scope.specs.Owners.{look, put_back, or_outer, parameter_owner}
-use Rattle.lucid_scope.proofs.Hiding.{later_parameter, function-hides, all_parameters, nothing-left}
+use Rattle.lucid_scope.proofs.Hiding.{later_parameter, function-hides, all_parameters}
 use Rattle.lucid_scope.proofs.table.enter_function.Goals as goal
 
 pub loop-left-init : goal.loop-left-init
 loop-left-init c = (
   omega arith,
   λ n. ap (λ l. or_outer (later_parameter c.args.def (length c.items-items.result.now) (param n l)) (look c.args.table.now n))
-      (sym (nothing-left c.items-items.result.now (length c.items-items.result.now) (omega arith))),
+      (sym (drop_all (length c.items-items.result.now) c.items-items.result.now (omega arith))),
   λ n. ap (λ l. put_back l (look c.args.table.now) n) c.new-saved.ensures.items,
 )
 

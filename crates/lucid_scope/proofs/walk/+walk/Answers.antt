@@ -5,12 +5,13 @@ use Rattle.lucid_tree.specs.declared.tree.Def.{Def}
 use Rattle.lucid_tree.specs.Size.{count}
 use Rattle.lucid_tree.specs.View.{tree_of}
 use Rattle.lucid_tree.specs.Env.{param}
+use Rattle.lucid_tree.proofs.Falls.{tree-falls, def-falls}
+use Rattle.lucid_tree.proofs.Counts.{count_listed as count-trees}
 use Rattle.lucid_scope.specs.Scope.{Static, in_function}
 use Rattle.lucid_scope.specs.Sites.{Site, called, sites, sites_in, inside_sites, again_if, repeats, no_names}
 use Rattle.lucid_scope.specs.Owners.{parameter_owner}
 use Rattle.lucid_scope.specs.Walks.{is_seen, right_sites}
-use Rattle.lucid_scope.proofs.Falls.{tree-falls, def-falls}
-use Rattle.lucid_scope.proofs.Noting.{noting_more, noting_as, inside-next, noted_as, noted_then, noted_scope, function-opens, count-trees, on_ok}
+use Rattle.lucid_scope.proofs.Noting.{noting_more, noting_as, inside-next, noted_as, noted_then, noted_scope, function-opens, on_ok}
 use Rattle.lucid_scope.proofs.walk.+walk.Goals as goal
 
 pub walk_trees-walk_tree-requires : goal.walk_trees-walk_tree-requires

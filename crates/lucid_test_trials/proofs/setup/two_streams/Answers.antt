@@ -1,7 +1,8 @@
 use Rattle.std.proofs.Common.{ap, map, length, ◌∙◌, arith}
 use Rattle.lucid_ports.specs.MemoryView.{memory_world}
 use Rattle.lucid_inputs.specs.Streams.{fresh_stream}
-use Rattle.lucid_test_trials.proofs.Fresh.{both_askable, fresh_stays}
+use Rattle.lucid_inputs.proofs.InputsLemmas.{fresh_stays}
+use Rattle.lucid_test_trials.proofs.Fresh.{both_askable}
 use Rattle.lucid_test_trials.proofs.setup.two_streams.Goals as goal
 
 pub returns-clause-count : goal.returns-clause-count

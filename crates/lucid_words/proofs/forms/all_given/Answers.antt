@@ -1,9 +1,10 @@
 use Rattle.std.proofs.Common.{◌≡◌, ◌++◌, ◌∷◌, [], map, rules, ap, ◌∙◌}
 use Rattle.std.proofs.lemmas.Result.{err_from_is_err_and}
 use Rattle.std.proofs.lemmas.List.{map_push}
+use Rattle.std.proofs.lemmas.Option.{cond_some}
 use Rattle.lucid_words.specs.Forms.{is_given, parts_of}
 use Rattle.lucid_words.specs.Plain.{plain_given}
-use Rattle.lucid_words.proofs.Each.{one_fails, one_more, fails_where_none, passes_where_some}
+use Rattle.lucid_words.proofs.Each.{one_fails, one_more, fails_where_none}
 use Rattle.lucid_words.proofs.forms.all_given.Goals as goal
 
 pub returns-in_err-given : goal.returns-in_err-given
@@ -13,6 +14,6 @@ returns-in_err-given c =
 
 pub loop-text-preserved : goal.loop-text-preserved
 loop-text-preserved c =
-    let named = passes_where_some _ _ _ c.in_ok-given.ensures in
+    let named = cond_some _ _ _ c.in_ok-given.ensures in
     let pushed : c.push.new.self.items ≡ c.loop-text.all.items ++ c.in_ok-given.given ∷ [] = search rules in
     one_more is_given parts_of c.args.texts.now c.loop-text.text-index _ _ _ _ c.loop-text-test.true c.loop-text.invariant named.0 named.1 (ap (map plain_given) pushed ∙ map_push plain_given _ _)

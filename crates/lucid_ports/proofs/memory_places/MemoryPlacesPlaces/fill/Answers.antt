@@ -1,10 +1,10 @@
 use Rattle.std.proofs.Common.{◌≡◌, ◌<◌, ◌≤◌, ◌⊎◌, ◌+◌, ℕ, length, drop, IfSome, Contains, inr, refl, sym, ap, subst, ◌∙◌, arith, le_refl}
 use Rattle.std.proofs.lemmas.Option.{slice_get_read}
+use Rattle.lucid_lemmas.proofs.Lists.{slice_get-set_same, slice_get-set_other}
 use Rattle.lucid_ports.specs.declared.memory_places.MemoryPlace.{MemoryPlace}
 use Rattle.lucid_ports.specs.Files.{bytes_at}
 use Rattle.lucid_ports.specs.Memory.{fail_at}
 use Rattle.lucid_ports.specs.MemoryView.{memory_place}
-use Rattle.lucid_ports.proofs.SliceGet.{slice_get-set_same, slice_get-set_other}
 use Rattle.lucid_ports.proofs.MemoryLemmas.{place_shown, piece_clauses, shows_piece}
 use Rattle.lucid_ports.proofs.memory_places.MemoryPlacesPlaces.fill.Goals as goal
 
