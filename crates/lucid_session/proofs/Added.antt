@@ -1,14 +1,8 @@
 -- Added numbers: what holds from some number on, of several things at once.
-use Rattle.std.proofs.Common.{◌≡◌, ℕ, zero, suc, ◌+◌, ◌<◌, ◌≤◌, Bool, List, [], ◌∷◌, ◌⊎◌, inl, inr, refl, sym, subst, arith}
-use Rattle.std.specs.Prelude.{IsTrue}
+use Rattle.std.proofs.Common.{◌≡◌, ℕ, zero, suc, ◌+◌, ◌<◌, Bool, List, [], ◌∷◌, ◌⊎◌, inl, inr, refl, sym, subst, arith}
 use Rattle.std.proofs.lemmas.Bool.{cases_lt}
 use Rattle.lucid_tree.specs.Members.{In}
-
--- a number, 0 under a policy that empties, from which on this holds
-pub record Added (empties : Bool) (P : ℕ → Type 0) : Type 0 where
-  pub added : ℕ
-  pub none : IsTrue empties → added ≡ 0
-  pub holds : (d : ℕ) → added ≤ d → P d
+use Rattle.lucid_session.specs.Moments.{Added}
 
 module _ (empties : Bool) where
   pub at_once : (P : ℕ → Type 0) → ((d : ℕ) → P d) → Added empties P

@@ -25,10 +25,9 @@ use Rattle.lucid_ports.specs.declared.run.Summary.{Summary}
 use Rattle.lucid_ports.specs.declared.run.RunFault.{RunFault}
 use Rattle.lucid_ports.specs.declared.run.RunFault.TheVariants.{TooDeep, ReadFault, WriteFault, TooLarge, NoMemory}
 use Rattle.lucid_session.specs.Runs.{RunView, ForSomeAdded}
-use Rattle.lucid_session.specs.Figures.{Counted, table_counted, points_below, IsDefinedBelow, times_of, Figures, HasMoreThan, OnClearings, OnDepth}
+use Rattle.lucid_session.specs.Figures.{Layout, Counted, root_counted, ArePointsBelow, ArePointsBefore, IsDefinedAt, IsUndefinedHeld, times_of, Figures, HasMoreThan, OnClearings, OnDepth}
 use Rattle.lucid_session.specs.Laws.{StandsFor, FiguresCarry}
 use Rattle.lucid_session.proofs.Counting.{counted}
-use Rattle.lucid_session.proofs.Points.{point_below}
 use Rattle.lucid_session.proofs.Lists.{from_flat}
 
 -- one value at most is listed of each daton at a space
@@ -116,57 +115,81 @@ pub goes_on : (T : Table) (b : Elements) (m t s : ℕ) (z : PlainValue) → eqva
 goes_on T b m t s z e k r v w = (reached (equations_of T) b k w.position w.time r m (equations_of T).root root t s z e w.there).goes
 
 -- where the root has values, one value is listed of each daton at a space
-values_once : (T : Table) (b : Elements) (m : ℕ) (points : Points) → ((x : ℕ × ℕ) → In x points → IsSome (eqval (equations_of T) b m x.0 x.1)) → IsOnce (valued_datons (equations_of T) b m points)
+values_once : (T : Table) (b : Elements) (m : ℕ) (points : Points) → ((t s : ℕ) → In (t, s) points → IsSome (eqval (equations_of T) b m t s)) → IsOnce (valued_datons (equations_of T) b m points)
 values_once T b m points defined k s v w i j =
     let x = from_flat (λ x. visited_values (equations_of T) b m x.0 x.1) (k, s, v) points i in
     let y = from_flat (λ x. visited_values (equations_of T) b m x.0 x.1) (k, s, w) points j in
     let p = went-to (equations_of T) b m (visits (equations_of T) b m 0 x.item.0 x.item.1) k s v x.gives in
     let q = went-to (equations_of T) b m (visits (equations_of T) b m 0 y.item.0 y.item.1) k s w y.gives in
-    let f = some_value (eqval (equations_of T) b m x.item.0 x.item.1) (defined x.item x.among) in
-    let g = some_value (eqval (equations_of T) b m y.item.0 y.item.1) (defined y.item y.among) in
+    let f = some_value (eqval (equations_of T) b m x.item.0 x.item.1) (defined x.item.0 x.item.1 x.among) in
+    let g = some_value (eqval (equations_of T) b m y.item.0 y.item.1) (defined y.item.0 y.item.1 y.among) in
     let aims : ◌≡◌ {A = NodeAim} (goes_to k p.position p.time) (goes_to k q.position q.time) =
     sym (goes_on T b m x.item.0 x.item.1 f.0 f.1 k s v p) ∙ goes_on T b m y.item.0 y.item.1 g.0 g.1 k s w q in
     same_Some _ _ (sym p.value ∙ (λ i. values_at (equations_of T) b m (ap (place_in p.position) aims i) (ap time_in aims i) s) ∙ q.value)
 
-module _ (T : Table) (D : Counted Referent Env) (stands : StandsFor (table_counted T) D) (b : Elements) where
-  defined_too : (m w : ℕ) → IsDefinedBelow D b m w → IsDefinedBelow (table_counted T) b m w
-  defined_too m w defined t lt = subst (λ o. IsSome o) (sym (stands.values b m t)) (defined t lt)
+module _ (T : Table) (l : Layout) (D : Counted Referent Env) (stands : StandsFor (root_counted T l) D) (b : Elements) where
+  defined_too : (m : ℕ) (points : Points) → IsDefinedAt D b m points → IsDefinedAt (root_counted T l) b m points
+  defined_too m points defined t s i = subst (λ o. IsSome o) (sym (stands.values b m t s)) (defined t s i)
 
-  -- what the values before a time needed can be held
-  kept : (m w : ℕ) → IsDefinedBelow D b m w → HoldsExactly (valued_datons (equations_of T) b m (points_below w)) (listed (valued_datons (equations_of T) b m (points_below w)))
-  kept m w defined = holds_listed (valued_datons (equations_of T) b m (points_below w)) (values_once T b m (points_below w) (λ x i.
-      let at = point_below w x i in subst (λ s. IsSome (eqval (equations_of T) b m x.0 s)) (sym at.1) (defined_too m w defined x.0 at.0)))
+  -- what the values at points needed can be held
+  kept : (m : ℕ) (points : Points) → IsDefinedAt D b m points → HoldsExactly (valued_datons (equations_of T) b m points) (listed (valued_datons (equations_of T) b m points))
+  kept m points defined = holds_listed (valued_datons (equations_of T) b m points) (values_once T b m points (defined_too m points defined))
 
-  more_too : (few m d : ℕ) (points : Points) → HasMoreThan few ((table_counted T).enters b m d points) → HasMoreThan few (D.enters b m d points)
+  -- values are demanded at the same points
+  below_too : (w : ℕ) (points : Points) → ArePointsBelow D.layout b w points → ArePointsBelow l b w points
+  below_too w points exactly t s = (
+    (λ i. let p = (exactly t s).0 i in (p.0, (stands.demands b t s).1 p.1)),
+    (λ p. (exactly t s).1 (p.0, (stands.demands b t s).0 p.1)),
+  )
+
+  before_too : (t s : ℕ) (points : Points) → ArePointsBefore D.layout b t s points → ArePointsBefore l b t s points
+  before_too t s points exactly u r = (
+    (λ i. let p = (exactly u r).0 i in (p.0, (stands.demands b u r).1 p.1)),
+    (λ p. (exactly u r).1 (p.0, (stands.demands b u r).0 p.1)),
+  )
+
+  more_too : (few m d : ℕ) (points : Points) → HasMoreThan few ((root_counted T l).enters b m d points) → HasMoreThan few (D.enters b m d points)
   more_too few m d points more n h =
-      let k = counted same_context same_context_is_equality ((table_counted T).enters b m d points) in
+      let k = counted same_context same_context_is_equality ((root_counted T l).enters b m d points) in
       omega (arith, more k.0 k.1, stands.no_more b m d points n k.0 h k.1)
 
+  -- too deep with all held that the values before needed
+  undefined_too : (limit time : ℕ) → IsUndefinedHeld (root_counted T l) b limit time → IsUndefinedHeld D b limit time
+  undefined_too limit time u = (
+    u.0,
+    (stands.demands b time u.0).0 u.1,
+    λ points exactly m defined held all.
+        let there = valued_datons (equations_of T) b m points in
+        sym (stands.held b m points held (listed there) all (kept m points defined) limit time u.0)
+        ∙ u.2 points (before_too time u.0 points exactly) m (defined_too m points defined) (listed there) (kept m points defined),
+  )
+
   module _ (r : RunView) where
-    held_too : (result : Result Summary RunFault) → Figures (table_counted T) b r result → IsTrue r.policy.keeps
-        → IfOk result (λ s. s.lost ≡ 0 → s.cleared ≡ 0 → (m : ℕ) → IsDefinedBelow D b m (times_of s) → HasDistinct (D.refers b m 0 (points_below (times_of s))) s.held)
-    held_too (Ok s) f keeps = λ lost cleared m defined. stands.as_many b m 0 (points_below (times_of s)) s.held (f.held keeps lost cleared m (defined_too m (times_of s) defined))
+    held_too : (result : Result Summary RunFault) → Figures (root_counted T l) b r result → IsTrue r.policy.keeps
+        → IfOk result (λ s. s.lost ≡ 0 → s.cleared ≡ 0 → (points : Points) → ArePointsBelow D.layout b (times_of s) points → (m : ℕ) → IsDefinedAt D b m points → HasDistinct (D.refers b m 0 points) s.held)
+    held_too (Ok s) f keeps = λ lost cleared points exactly m defined.
+        stands.as_many b m 0 points s.held (f.held keeps lost cleared points (below_too (times_of s) points exactly) m (defined_too m points defined))
     held_too (Err e) f keeps = tt
 
-    deep_too : (result : Result Summary RunFault) → Figures (table_counted T) b r result → IsTrue r.policy.keeps
-        → OnDepth result (λ time lost cleared. lost ≡ 0 → cleared ≡ 0 → (m : ℕ) → IsDefinedBelow D b m time
-        → (held : Referent → (space : ℕ) → Option PlainValue) → HoldsExactly (D.valued b m (points_below time)) held → D.held_value b held r.depth time ≡ None)
+    deep_too : (result : Result Summary RunFault) → Figures (root_counted T l) b r result → IsTrue r.policy.keeps
+        → OnDepth result (λ time lost cleared. lost ≡ 0 → cleared ≡ 0 → IsUndefinedHeld D b r.depth time)
     deep_too (Ok s) f keeps = tt
-    deep_too (Err (TooDeep time lost cleared)) f keeps = λ none again m defined held exactly.
-        let all = valued_datons (equations_of T) b m (points_below time) in
-        sym (stands.held b m (points_below time) held (listed all) exactly (kept m time defined) r.depth time)
-        ∙ f.deep keeps none again m (defined_too m time defined) (listed all) (kept m time defined)
+    deep_too (Err (TooDeep time lost cleared)) f keeps = λ none again. undefined_too r.depth time (f.deep keeps none again)
     deep_too (Err ReadFault) f keeps = tt
     deep_too (Err WriteFault) f keeps = tt
     deep_too (Err (TooLarge number)) f keeps = tt
     deep_too (Err NoMemory) f keeps = tt
 
-    some_added : (times : ℕ) → ForSomeAdded r (λ d. HasMoreThan 999999 ((table_counted T).enters b r.depth d (points_below times)))
-        → ForSomeAdded r (λ d. HasMoreThan 999999 (D.enters b r.depth d (points_below times)))
-    some_added times s = record { added = s.added; none = s.none; holds = λ d le. more_too 999999 r.depth d (points_below times) (s.holds d le) }
+    some_added : (times : ℕ) → ForSomeAdded r (λ d. (points : Points) → ArePointsBelow l b times points → HasMoreThan 999999 ((root_counted T l).enters b r.depth d points))
+        → ForSomeAdded r (λ d. (points : Points) → ArePointsBelow D.layout b times points → HasMoreThan 999999 (D.enters b r.depth d points))
+    some_added times s = record {
+      added = s.added;
+      none = s.none;
+      holds = λ d le points exactly. more_too 999999 r.depth d points (s.holds d le points (below_too times points exactly));
+    }
 
-    cleared_too : (result : Result Summary RunFault) → Figures (table_counted T) b r result
-        → OnClearings result (λ times cleared. 0 < cleared → ForSomeAdded r (λ d. HasMoreThan 999999 (D.enters b r.depth d (points_below times))))
+    cleared_too : (result : Result Summary RunFault) → Figures (root_counted T l) b r result
+        → OnClearings result (λ times cleared. 0 < cleared → ForSomeAdded r (λ d. (points : Points) → ArePointsBelow D.layout b times points → HasMoreThan 999999 (D.enters b r.depth d points)))
     cleared_too (Ok s) f = λ lt. some_added (times_of s) (f.cleared lt)
     cleared_too (Err (TooDeep time lost cleared)) f = λ lt. some_added (ℕ.suc time) (f.cleared lt)
     cleared_too (Err ReadFault) f = tt
@@ -176,4 +199,4 @@ module _ (T : Table) (D : Counted Referent Env) (stands : StandsFor (table_count
 
 -- So the figures of a table are those of each subject for which it stands.
 pub figures_too : FiguresCarry
-figures_too T D stands b r result f = record { held = held_too T D stands b r result f; deep = deep_too T D stands b r result f; cleared = cleared_too T D stands b r result f }
+figures_too T l D stands b r result f = record { held = held_too T l D stands b r result f; deep = deep_too T l D stands b r result f; cleared = cleared_too T l D stands b r result f }

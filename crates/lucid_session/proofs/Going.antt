@@ -1,38 +1,35 @@
--- How a run goes on: it begins, a value is demanded, its line is written, and the engine may be cleared.
-use Rattle.std.proofs.Common.{◌≡◌, ℕ, suc, ◌+◌, ◌<◌, ◌≤◌, ◌-◌, ◌^◌, [], ◌∷◌, length, Option, Some, None, refl, sym, ap, ◌∙◌, subst, arith, ◌⊎◌, inl, inr}
-use Rattle.std.specs.Prelude.{IsTrue, IfSome, Result, Ok, Err, IfOk, IfErr, IsErrOf}
+-- How a run goes on: it begins, and a value is demanded.
+use Rattle.std.proofs.Common.{◌≡◌, ℕ, ◌+◌, ◌<◌, ◌≤◌, ◌-◌, ◌^◌, [], ◌∷◌, length, Option, Some, None, refl, sym, ap, ◌∙◌, subst, arith, ◌⊎◌, inl, inr}
+use Rattle.std.specs.Prelude.{IsTrue, IfSome, Result, Ok, Err, IfOk, IfErr, ◌↔◌}
 use Rattle.std.proofs.lemmas.Bool.{cases_lt}
 use Rattle.std.proofs.lemmas.Option.{slice_get_within, same_Some}
 use Rattle.lucid_value.specs.declared.Value.{Value}
 use Rattle.lucid_value.specs.View.{plain}
 use Rattle.lucid_tree.specs.Members.{In}
-use Rattle.lucid_tree.specs.Levels.{Elements, HoldsExactly}
+use Rattle.lucid_tree.specs.Levels.{Elements}
 use Rattle.lucid_tags.specs.Contexts.{Context, root}
 use Rattle.lucid_ports.proofs.WritingLemmas.{with_nothing}
 use Rattle.lucid_store.specs.Entries.{count_of, empty_warehouse}
-use Rattle.lucid_ports.specs.Faults.{Rises, CountsNoFaultUnless}
+use Rattle.lucid_ports.specs.Faults.{Rises}
 use Rattle.lucid_ports.specs.World.{World}
-use Rattle.lucid_equations.specs.Values.{eqval, eqhval}
-use Rattle.lucid_equations.specs.Counts.{valued_datons}
+use Rattle.lucid_equations.specs.Values.{eqval}
 use Rattle.lucid_equations.specs.Rows.{equations_of}
-use Rattle.lucid_facts.specs.Stands.{Holding}
 use Rattle.lucid_facts.specs.Held.{HoldsRight}
 use Rattle.lucid_facts.specs.Elements.{elements_told}
-use Rattle.lucid_facts.specs.Engine.{EngineView, IsSound, AreAskable, ReadsOnly, HoldsFew, MayHave, ConsultsOverlong, HoldsNeeded, GoesOn, known_elements, places_of, holding}
+use Rattle.lucid_facts.specs.Engine.{EngineView, IsSound, AreAskable, ReadsOnly, MayHave, ConsultsOverlong, HoldsNeeded, GoesOn, known_elements, places_of, holding}
 use Rattle.lucid_facts.proofs.History.{reads_only_then, reads_only_itself}
 use Rattle.lucid_facts.proofs.MoreRead.{right_over}
 use Rattle.lucid_demand.specs.Demanded.{Demanded, MayDemand}
 use Rattle.lucid_demand.specs.Demanded as demand
 use Rattle.lucid_demand.specs.declared.fault.DemandFault.{DemandFault}
 use Rattle.lucid_demand.specs.declared.fault.DemandFault.TheVariants.{TooDeep, ReadFault, TooLarge, NoMemory}
-use Rattle.lucid_session.specs.Subject.{StreamMeans, table_stream, no_lines}
-use Rattle.lucid_session.specs.Runs.{Told, HasElements, ReadsWithin}
-use Rattle.lucid_session.specs.Figures.{points_below, table_counted, IsDefinedBelow, HasMoreThan}
+use Rattle.lucid_session.specs.Subject.{StreamMeans, table_stream_at}
+use Rattle.lucid_session.specs.Cells.{Found, Asked}
 use Rattle.lucid_session.proofs.Added.{at_once, so}
-use Rattle.lucid_session.proofs.Moments.{Start, seen, of_run, HasLines, Visited, HoldsBelow, SoFar, Going, DrawsBelow, entered_below}
+use Rattle.lucid_session.specs.Moments.{Start, Has, of_run, Draws, IsEntered, MuchEntered, Visited, Holds, SoFar, with_point, Standing}
 use Rattle.lucid_session.proofs.Told.{may_have}
 use Rattle.lucid_session.proofs.Drawing.{reads_within, drawn_more}
-use Rattle.lucid_session.proofs.Knowing.{known_more, more_later}
+use Rattle.lucid_session.proofs.Knowing.{known_more}
 use Rattle.lucid_session.proofs.Holding.{holds_nothing, holds_more}
 use Rattle.lucid_session.proofs.Deepening.{same_held_value}
 
@@ -44,10 +41,10 @@ few_at (Some r) n e = omega (arith, e)
 same_contents : {A : Type 0} (o : Option A) (x y : A) → o ≡ Some x → o ≡ Some y → x ≡ y
 same_contents o x y e f = same_Some _ _ (sym e ∙ f)
 
--- A run begins with an engine that holds nothing and knows the empty context alone.
-pub begins : (z : Start) (e : EngineView) → e ≡ of_run z e → IsSound e → AreAskable e.streams z.before → places_of e.streams ≡ z.places → e.known ≡ root ∷ [] → e.stored ≡ empty_warehouse
-    → Going z e z.before z.out_before 0 0
-begins z e is sound askable places known stored = record {
+-- A run begins with an engine that holds nothing and knows the empty context alone: no point was demanded.
+pub begins : (z : Start) (D : Elements → (time space : ℕ) → Type 0) (e : EngineView) → e ≡ of_run z e → IsSound e → AreAskable e.streams z.before → places_of e.streams ≡ z.places → e.known ≡ root ∷ [] → e.stored ≡ empty_warehouse
+    → ((b : Elements) (t s : ℕ) → D b t s → ⊥) → Standing z D e z.before 0
+begins z D e is sound askable places known stored never = record {
   is = is;
   sound = sound;
   askable = askable;
@@ -55,60 +52,79 @@ begins z e is sound askable places known stored = record {
   reads_only = reads_only_itself z.places z.before;
   within = λ k n q is old new before after. inl (omega (arith, ap (λ c. length c.consumed) (same_contents (z.before.place q).contents new old after before)));
   few_held = few_at z.policy.room (count_of e.stored) (ap count_of stored);
-  few_clearings = omega arith;
   no_read_failed = refl;
-  no_write_failed = refl;
   so_far = λ b has. record {
-    lines = record { bytes = []; output = no_lines; written = with_nothing z.out_before.bytes; exact = λ empties u lt. absurd (omega (arith, lt)) };
     visited = record {
-      drawn = at_once z.policy.empties (λ d. (k : ℕ) → k < length z.table.inputs → DrawsBelow z b z.before 0 k d)
+      drawn = at_once z.policy.empties (λ d. (k : ℕ) → k < length z.table.inputs → Draws z b (D b) z.before k d)
           (λ d k lt n q is old new before after. inl (omega (arith, ap (λ c. length c.consumed) (same_contents (z.before.place q).contents new old after before))));
-      known = at_once z.policy.empties (λ d. (c : Context) → In c e.known → (c ≡ root) ⊎ In c (entered_below z b 0 d))
+      known = at_once z.policy.empties (λ d. (c : Context) → In c e.known → (c ≡ root) ⊎ IsEntered z b (D b) d c)
           (λ d c i. elim (subst (λ cs. In c cs) known i) [ inl same ↦ inl same | inr j ↦ absurd j ]);
       clearings = λ lt. absurd (omega (arith, lt));
     };
-    holds = holds_nothing z b e 0 stored;
+    holds = holds_nothing z b (D b) e 0 stored (never b);
   };
 }
 
 -- A value may be demanded.
-pub may_demand : (z : Start) (e : EngineView) (w : World) (o : Told) (t c : ℕ) → Going z e w o t c → length e.known ≤ 1000000 → (u : ℕ) → u < 2 ^ 63 → 0 < z.depth → MayDemand e w u 0 z.depth
-may_demand z e w o t c going few u early some_depth = record {
+pub may_demand : (z : Start) (D : Elements → (time space : ℕ) → Type 0) (e : EngineView) (w : World) (c : ℕ) → Standing z D e w c → length e.known ≤ 1000000 → (t s : ℕ) → t < 2 ^ 63 → s < 2 ^ 63 → 0 < z.depth → MayDemand e w t s z.depth
+may_demand z D e w c standing few t s early near some_depth = record {
   time_in_range = early;
-  space_in_range = omega arith;
+  space_in_range = near;
   some_limit = some_depth;
-  inputs = going.askable;
+  inputs = standing.askable;
   few_known = few;
 }
 
--- What stands after the demand of a value at a time, by the elements of the inputs.
-pub record Found (z : Start) (b : Elements) (e : EngineView) (w : World) (o : Told) (time cleared : ℕ) (result : Result Value DemandFault) : Type 0 where
-  pub lines : HasLines z b o time
-  pub visited : Visited z b e w (suc time) cleared
-  pub holds : IfOk result (λ v. HoldsBelow z b e (suc time) cleared)
-  pub value : IfOk result (λ v. StreamMeans (table_stream z.table) b time (plain v))
-  pub exact : IsTrue z.policy.empties → IfOk result (λ v. eqval (equations_of z.table) b z.depth time 0 ≡ Some (plain v))
-  pub deep : IsErrOf result TooDeep → eqval (equations_of z.table) b z.depth time 0 ≡ None
-  pub kept : IsTrue z.policy.keeps → IsErrOf result TooDeep → e.stored.lost ≡ 0 → cleared ≡ 0 → (m : ℕ) → IsDefinedBelow (table_counted z.table) b m time
-      → (held : Holding) → HoldsExactly (valued_datons (equations_of z.table) b m (points_below time)) held
-      → eqhval (equations_of z.table) (record { element = b; held = held }) z.depth time 0 ≡ None
-  pub too_large : IfErr result (λ f. demand.OnTooLarge f (λ k. ConsultsOverlong (of_run z e) b w k z.depth time 0))
+-- Where it gave a value, the run stands with one point more.
+pub stands_on : (z : Start) (D : Elements → (time space : ℕ) → Type 0) (e : EngineView) (w : World) (c t s : ℕ) (v : Value) → Asked z D e w c t s (Ok v)
+    → Standing z (λ b. with_point (D b) t s) e w c
+stands_on z D e w c t s v asked = record {
+  is = asked.is;
+  sound = asked.sound;
+  askable = asked.askable;
+  places = asked.places;
+  reads_only = asked.reads_only;
+  within = asked.within;
+  few_held = asked.few_held;
+  no_read_failed = elim asked.counts_no_fault [ inl fault ↦ absurd (cc fault) | inr same ↦ same ];
+  so_far = λ b has. let f = asked.found b has in record { visited = f.visited; holds = f.holds };
+}
 
--- What stands after that demand.
-pub record Asked (z : Start) (e : EngineView) (w : World) (o : Told) (time cleared : ℕ) (result : Result Value DemandFault) : Type 0 where
-  pub is : e ≡ of_run z e
-  pub sound : IsSound e
-  pub askable : AreAskable e.streams w
-  pub places : places_of e.streams ≡ z.places
-  pub reads_only : ReadsOnly z.places z.before w
-  pub within : ReadsWithin (seen z w o)
-  pub few_held : HoldsFew z.policy.room e.stored
-  pub few_clearings : cleared ≤ time
-  pub no_write_failed : o.faults ≡ z.out_before.faults
-  pub failed : IsErrOf result ReadFault → Rises z.before.faults w.faults
-  pub counts_no_fault : CountsNoFaultUnless (IsErrOf result ReadFault) z.before.faults w.faults
-  pub too_large : IfErr result (λ f. demand.OnTooLarge f (λ k. k < length z.table.inputs))
-  pub found : (b : Elements) → HasElements (seen z w o) b → Found z b e w o time cleared result
+module _ (z : Start) (b : Elements) (D E : (time space : ℕ) → Type 0) (forth : (t s : ℕ) → D t s → E t s) where
+  -- what was visited at some points was visited at more
+  visited_too : (e : EngineView) (w : World) (c : ℕ) → Visited z b D e w c → Visited z b E e w c
+  visited_too e w c v = record {
+    drawn = so z.policy.empties (λ d. (k : ℕ) → k < length z.table.inputs → Draws z b D w k d) (λ d. (k : ℕ) → k < length z.table.inputs → Draws z b E w k d)
+        (λ d h k lt n q is old new first last. elim (h k lt n q is old new first last) [ inl le ↦ inl le | inr r ↦ inr (r.0, (r.1.0, r.1.1, forth r.1.0 r.1.1 r.1.2, r.1.3), r.2) ]) v.drawn;
+    known = so z.policy.empties (λ d. (x : Context) → In x e.known → (x ≡ root) ⊎ IsEntered z b D d x) (λ d. (x : Context) → In x e.known → (x ≡ root) ⊎ IsEntered z b E d x)
+        (λ d h x i. elim (h x i) [ inl same ↦ inl same | inr r ↦ inr (r.0, r.1, forth r.0 r.1 r.2, r.3) ]) v.known;
+    clearings = λ lt. so z.policy.empties (MuchEntered z b D) (MuchEntered z b E) (λ d h points has. h points (λ t s i. has t s (forth t s i))) (v.clearings lt);
+  }
+
+  -- and exactly what is needed is held, where they are the same points
+  holds_too : ((t s : ℕ) → E t s → D t s) → (e : EngineView) (c : ℕ) → Holds z b D e c → Holds z b E e c
+  holds_too back e c h keeps none again k s = let r = h keeps none again k s in (
+    (λ i. let n = r.0 i in (n.0, n.1, forth n.0 n.1 n.2, n.3)),
+    (λ n. r.1 (n.0, n.1, back n.0 n.1 n.2, n.3)),
+  )
+
+-- The same points may be said otherwise.
+pub stands_same : (z : Start) (D E : Elements → (time space : ℕ) → Type 0) (e : EngineView) (w : World) (c : ℕ)
+    → ((b : Elements) → Has z b → (t s : ℕ) → D b t s ↔ E b t s) → Standing z D e w c → Standing z E e w c
+stands_same z D E e w c same standing = record {
+  is = standing.is;
+  sound = standing.sound;
+  askable = standing.askable;
+  places = standing.places;
+  reads_only = standing.reads_only;
+  within = standing.within;
+  few_held = standing.few_held;
+  no_read_failed = standing.no_read_failed;
+  so_far = λ b has. let far = standing.so_far b has in record {
+    visited = visited_too z b (D b) (E b) (λ t s. (same b has t s).0) e w c far.visited;
+    holds = holds_too z b (D b) (E b) (λ t s. (same b has t s).0) (λ t s. (same b has t s).1) e c far.holds;
+  };
+}
 
 -- A count that rose in one of several steps rose over all of them.
 pub rises_over : (f g h i : ℕ) → f ≤ g → g ≤ h → h ≤ i → Rises g h → Rises f i
@@ -132,17 +148,17 @@ of_run_on z e f is on = λ i. record {
   room = (on.room ∙ ap (λ x. x.room) is) i;
 }
 
-module _ (z : Start) (e f : EngineView) (w v : World) (o : Told) (t c : ℕ) (result : Result Value DemandFault) (going : Going z e w o t c) where
-  module _ (is_now : f ≡ of_run z f) (d : Demanded (of_run z e) (of_run z f) w v t 0 z.depth result) where
+module _ (z : Start) (D : Elements → (time space : ℕ) → Type 0) (e f : EngineView) (w v : World) (t s c : ℕ) (result : Result Value DemandFault) (standing : Standing z D e w c) where
+  module _ (is_now : f ≡ of_run z f) (d : Demanded (of_run z e) (of_run z f) w v t s z.depth result) where
     places_now : places_of f.streams ≡ z.places
-    places_now = d.goes_on.places ∙ going.places
+    places_now = d.goes_on.places ∙ standing.places
 
     reads_now : ReadsOnly z.places z.before v
-    reads_now = reads_only_then z.places z.before w v going.reads_only (subst (λ ps. ReadsOnly ps w v) going.places d.reads_only)
+    reads_now = reads_only_then z.places z.before w v standing.reads_only (subst (λ ps. ReadsOnly ps w v) standing.places d.reads_only)
 
-    held_then : (r : Result Value DemandFault) → (b : Elements) → (IsTrue z.policy.keeps → f.stored.lost ≡ 0 → IfOk r (λ x. HoldsNeeded (of_run z e) (of_run z f) b t 0)) → HoldsBelow z b e t c
-        → IfOk r (λ x. HoldsBelow z b f (suc t) c)
-    held_then (Ok x) b more was = holds_more z b e f t c d.goes_on.lost more was
+    held_then : (r : Result Value DemandFault) → (b : Elements) → (IsTrue z.policy.keeps → f.stored.lost ≡ 0 → IfOk r (λ x. HoldsNeeded (of_run z e) (of_run z f) b t s)) → Holds z b (D b) e c
+        → IfOk r (λ x. Holds z b (with_point (D b) t s) f c)
+    held_then (Ok x) b more was = holds_more z b (D b) e f t s c d.goes_on.lost more was
     held_then (Err x) b more was = tt
 
     for_one : (r : Result Value DemandFault) (P : Elements → Value → Type 0) (b : Elements) → MayHave (of_run z f) b → IfOk r (λ x. (b : Elements) → MayHave (of_run z f) b → P b x) → IfOk r (P b)
@@ -150,8 +166,8 @@ module _ (z : Start) (e f : EngineView) (w v : World) (o : Told) (t c : ℕ) (re
     for_one (Err x) P b may h = tt
 
     large : (r : Result Value DemandFault) (b : Elements) → MayHave (of_run z f) b
-        → IfErr r (λ q. demand.OnTooLarge q (λ k. (b : Elements) → MayHave (of_run z f) b → ConsultsOverlong (of_run z f) b v k z.depth t 0))
-        → IfErr r (λ q. demand.OnTooLarge q (λ k. ConsultsOverlong (of_run z f) b v k z.depth t 0))
+        → IfErr r (λ q. demand.OnTooLarge q (λ k. (b : Elements) → MayHave (of_run z f) b → ConsultsOverlong (of_run z f) b v k z.depth t s))
+        → IfErr r (λ q. demand.OnTooLarge q (λ k. ConsultsOverlong (of_run z f) b v k z.depth t s))
     large (Ok x) b may h = tt
     large (Err TooDeep) b may h = tt
     large (Err ReadFault) b may h = tt
@@ -159,7 +175,7 @@ module _ (z : Start) (e f : EngineView) (w v : World) (o : Told) (t c : ℕ) (re
     large (Err NoMemory) b may h = tt
 
     -- a stream that is too large by some elements that there may be has a name
-    named : (r : Result Value DemandFault) (b : Elements) → IfErr r (λ q. demand.OnTooLarge q (λ k. ConsultsOverlong (of_run z f) b v k z.depth t 0))
+    named : (r : Result Value DemandFault) (b : Elements) → IfErr r (λ q. demand.OnTooLarge q (λ k. ConsultsOverlong (of_run z f) b v k z.depth t s))
         → IfErr r (λ q. demand.OnTooLarge q (λ k. k < length z.table.inputs))
     named (Ok x) b h = tt
     named (Err TooDeep) b h = tt
@@ -167,45 +183,42 @@ module _ (z : Start) (e f : EngineView) (w v : World) (o : Told) (t c : ℕ) (re
     named (Err (TooLarge k)) b h = slice_get_within z.table.inputs k h.name h.named
     named (Err NoMemory) b h = tt
 
-    found_now : (b : Elements) → HasElements (seen z v o) b → Found z b f v o t c result
+    found_now : (b : Elements) → Has z b → Found z b (D b) f v c t s result
     found_now b has = record {
-      lines = far.lines;
       visited = record {
-        drawn = drawn_more z b o w v has going.reads_only reads_now e f t going.askable d.fits going.places places_now (d.drawn b may) far.visited.drawn;
-        known = known_more z b e f t (d.visited b may) far.visited.known;
-        clearings = λ lt. so z.policy.empties (λ n. HasMoreThan 999999 (entered_below z b t n)) (λ n. HasMoreThan 999999 (entered_below z b (suc t) n)) (more_later z b t) (far.visited.clearings lt);
+        drawn = drawn_more z b (D b) w v standing.reads_only reads_now e f t s standing.askable d.fits standing.places places_now (d.drawn b may) far.visited.drawn;
+        known = known_more z b (D b) e f t s (d.visited b may) far.visited.known;
+        clearings = λ lt. so z.policy.empties (MuchEntered z b (D b)) (MuchEntered z b (with_point (D b) t s)) (λ n h points all. h points (λ u r i. all u r (inl i))) (far.visited.clearings lt);
       };
-      holds = held_then result b (λ keeps none. for_one result (λ c x. HoldsNeeded (of_run z e) (of_run z f) c t 0) b may (d.needed keeps none)) far.holds;
-      value = for_one result (λ c x. StreamMeans (table_stream z.table) c t (plain x)) b may d.value;
-      exact = λ empties. for_one result (λ c x. eqval (equations_of z.table) c z.depth t 0 ≡ Some (plain x)) b may (d.exact empties);
+      holds = held_then result b (λ keeps none. for_one result (λ c x. HoldsNeeded (of_run z e) (of_run z f) c t s) b may (d.needed keeps none)) far.holds;
+      value = for_one result (λ c x. StreamMeans (table_stream_at z.table s) c t (plain x)) b may d.value;
+      exact = λ empties. for_one result (λ c x. eqval (equations_of z.table) c z.depth t s ≡ Some (plain x)) b may (d.exact empties);
       deep = λ x. d.deep x b may;
-      kept = λ keeps x none again m defined held exactly.
-          same_held_value z b (holding e) right t (far.holds keeps (omega (arith, d.goes_on.lost, none)) again) m defined held exactly z.depth t ∙ d.kept keeps x b may;
+      kept = λ keeps x none again points exactly m defined held all.
+          same_held_value z b (D b) (holding e) right (far.holds keeps (omega (arith, d.goes_on.lost, none)) again) points exactly m defined held all z.depth t s ∙ d.kept keeps x b may;
       too_large = large result b may d.too_large;
     }
       where
         may : MayHave (of_run z f) b
-        may = may_have z b (of_run z f) v o refl has places_now reads_now d.fits
+        may = may_have z b (of_run z f) v refl has places_now reads_now d.fits
 
-        far : SoFar z b e w o t c
-        far = going.so_far b has
+        far : SoFar z b (D b) e w c
+        far = standing.so_far b has
 
         right : HoldsRight (equations_of z.table) b (holding e)
-        right = right_over (equations_of z.table) (known_elements (of_run z e)) b (λ n j x h. may n j x (d.goes_on.elements n j x h)) (holding e) (subst IsSound going.is going.sound).right
+        right = right_over (equations_of z.table) (known_elements (of_run z e)) b (λ n j x h. may n j x (d.goes_on.elements n j x h)) (holding e) (subst IsSound standing.is standing.sound).right
 
-    asked_now : Asked z f v o t c result
+    asked_now : Asked z D f v c t s result
     asked_now = record {
       is = is_now;
       sound = subst IsSound (sym is_now) d.sound;
       askable = d.fits;
       places = places_now;
       reads_only = reads_now;
-      within = reads_within z f v o d.fits places_now d.within;
-      few_held = d.few_held going.few_held;
-      few_clearings = going.few_clearings;
-      no_write_failed = going.no_write_failed;
-      failed = λ x. rises_over z.before.faults w.faults v.faults v.faults going.reads_only.faults d.reads_only.faults (omega arith) (d.failed x);
-      counts_no_fault = elim d.counts [ inl fault ↦ inl fault | inr same ↦ inr (same ∙ going.no_read_failed) ];
+      within = reads_within z f v d.fits places_now d.within;
+      few_held = d.few_held standing.few_held;
+      failed = λ x. rises_over z.before.faults w.faults v.faults v.faults standing.reads_only.faults d.reads_only.faults (omega arith) (d.failed x);
+      counts_no_fault = elim d.counts [ inl fault ↦ inl fault | inr same ↦ inr (same ∙ standing.no_read_failed) ];
       too_large = named result elements (large result elements d.told d.too_large);
       found = found_now;
     }
@@ -215,7 +228,7 @@ module _ (z : Start) (e f : EngineView) (w v : World) (o : Told) (t c : ℕ) (re
         elements = elements_told z.table.inputs f.streams v
 
   -- After a demand.
-  pub asked : Demanded e f w v t 0 z.depth result → Asked z f v o t c result
+  pub asked : Demanded e f w v t s z.depth result → Asked z D f v c t s result
   asked d =
-      let is_now = of_run_on z e f going.is d.goes_on in
-      asked_now is_now (subst (λ x. Demanded (of_run z e) x w v t 0 z.depth result) is_now (subst (λ x. Demanded x f w v t 0 z.depth result) going.is d))
+      let is_now = of_run_on z e f standing.is d.goes_on in
+      asked_now is_now (subst (λ x. Demanded (of_run z e) x w v t s z.depth result) is_now (subst (λ x. Demanded x f w v t s z.depth result) standing.is d))

@@ -1,9 +1,8 @@
 -- How many values an engine holds: as many as different datons are needed, where exactly these are held.
-use Rattle.std.proofs.Common.{◌≡◌, ℕ, suc, ◌<◌, ◌≤◌, Bool, true, false, cond, List, [], ◌∷◌, map, Option, Some, None, refl, sym, ap, ◌∙◌, subst, arith, ◌⊎◌, inl, inr, true≢false}
+use Rattle.std.proofs.Common.{◌≡◌, ℕ, ◌≤◌, Bool, true, false, cond, List, [], ◌∷◌, map, Option, Some, None, refl, sym, ap, ◌∙◌, subst, arith, ◌⊎◌, inl, inr, true≢false}
 use Rattle.std.specs.Prelude.{IsTrue, IsSome, is_some, option_map, ◌↔◌}
 use Rattle.std.specs.List.{IsDistinct, AllByRecursion}
 use Rattle.std.specs.Map.{lookup, keys_of}
-use Rattle.std.proofs.lemmas.Bool.{cases_lt}
 use Rattle.std.proofs.lemmas.Map.Keys.{IsDistinct-head, IsDistinct-tail}
 use Rattle.std.proofs.lemmas.List.{length-map}
 use Rattle.lucid_lemmas.proofs.Options.{value_there as some_value, some_still}
@@ -21,17 +20,16 @@ use Rattle.lucid_store.specs.Stored.{Stored, Entry}
 use Rattle.lucid_store.specs.Entries.{held, entry_at, IsHeld, IsOneForEach, count_of, empty_warehouse}
 use Rattle.lucid_equations.specs.Values.{eqval}
 use Rattle.lucid_equations.specs.Visits.{visited_datons, IsNeeded}
-use Rattle.lucid_equations.specs.Counts.{HasDistinct, datons}
+use Rattle.lucid_equations.specs.Counts.{HasDistinct, Points, datons}
 use Rattle.lucid_equations.specs.Rows.{equations_of}
 use Rattle.lucid_equations.proofs.NodeWalks.{needed-visited}
 use Rattle.lucid_facts.specs.Tasks.{DatonAt, plain_key}
 use Rattle.lucid_facts.specs.Held.{held_in, AreKeysKnown}
 use Rattle.lucid_facts.specs.Engine.{EngineView, IsSound, HoldsNeeded, holding}
 use Rattle.lucid_facts.proofs.HeldByKey.{key_of_held, held_of_key}
-use Rattle.lucid_session.specs.Figures.{points_below, table_counted, IsDefinedBelow}
+use Rattle.lucid_session.specs.Figures.{table_counted, IsDefinedAt}
 use Rattle.lucid_session.proofs.Lists.{some_is, from_flat, in_flat, from_map}
-use Rattle.lucid_session.proofs.Points.{point_below, below_point}
-use Rattle.lucid_session.proofs.Moments.{Start, of_run, IsNeededBelow, HoldsBelow}
+use Rattle.lucid_session.specs.Moments.{Start, of_run, IsNeededSoFar, Holds, with_point}
 
 -- the datons of entries, each at its space
 abbrev datons_of : List Context → List (Key × Entry) → List DatonAt
@@ -101,13 +99,14 @@ module _ (known : List Context) (one : IsOneForOne known) where
     pub held_once : IsOneForEach w → AllDiffer (datons_of known w.entries)
     held_once distinct = datons_differ w.entries (λ x i. keys x.0 (is_found w.entries x i)) distinct
 
-module _ (z : Start) (b : Elements) where
-  -- Where exactly what is needed at the times below one is held, as many values are held as datons are visited by any approximation that
-  -- is defined at all of them.
+module _ (z : Start) (b : Elements) (D : (time space : ℕ) → Type 0) where
+  -- Where exactly what is needed at some points is held, as many values are held as datons are visited by any approximation that is defined
+  -- at all of them.
   pub held_count :
-      (e : EngineView) (a c : ℕ) → IsSound e → IsOneForEach e.stored → HoldsBelow z b e a c → IsTrue z.policy.keeps → e.stored.lost ≡ 0 → c ≡ 0
-      → (m : ℕ) → IsDefinedBelow (table_counted z.table) b m a → HasDistinct (datons (equations_of z.table) b m 0 (points_below a)) (count_of e.stored)
-  held_count e a c sound each holds keeps none again m defined = record {
+      (e : EngineView) (c : ℕ) → IsSound e → IsOneForEach e.stored → Holds z b D e c → IsTrue z.policy.keeps → e.stored.lost ≡ 0 → c ≡ 0
+      → (points : Points) → ((t s : ℕ) → In (t, s) points ↔ D t s) → (m : ℕ) → IsDefinedAt (table_counted z.table) b m points
+      → HasDistinct (datons (equations_of z.table) b m 0 points) (count_of e.stored)
+  held_count e c sound each holds keeps none again points exactly m defined = record {
     items = datons_of e.known e.stored.entries;
     once = held_once e.known sound.contexts e.stored sound.keys each;
     inside = λ x i. let v = listed_is_held e.known sound.contexts e.stored sound.keys x i in visited x ((holds keeps none again x.0 x.1).0 (some_is (holding e x.0 x.1) v.0 v.1));
@@ -115,42 +114,40 @@ module _ (z : Start) (b : Elements) where
     size = length-map e.stored.entries (λ (x : Key × Entry). plain_key e.known x.0);
   }
     where
-      at : ℕ × ℕ → List DatonAt
-      at x = visited_datons (equations_of z.table) b m 0 x.0 x.1
-
-      visited : (x : DatonAt) → IsNeededBelow z b a x → In x (datons (equations_of z.table) b m 0 (points_below a))
+      visited : (x : DatonAt) → IsNeededSoFar z b D x → In x (datons (equations_of z.table) b m 0 points)
       visited x n =
-          let v = some_value (eqval (equations_of z.table) b m n.0 0) (defined n.0 n.1) in
-          in_flat (λ (p : ℕ × ℕ). visited_datons (equations_of z.table) b m 0 p.0 p.1) x (n.0, 0) (points_below a) (below_point a n.0 n.1)
-          (needed-visited (equations_of z.table) b m (equations_of z.table).root root n.0 0 v.0 x v.1 n.2)
+          let i : In (n.0, n.1) points = (exactly n.0 n.1).1 n.2 in
+          let v = some_value (eqval (equations_of z.table) b m n.0 n.1) (defined n.0 n.1 i) in
+          in_flat (λ (p : ℕ × ℕ). visited_datons (equations_of z.table) b m 0 p.0 p.1) x (n.0, n.1) points i
+          (needed-visited (equations_of z.table) b m (equations_of z.table).root root n.0 n.1 v.0 x v.1 n.3)
 
-      needed : (x : DatonAt) → In x (datons (equations_of z.table) b m 0 (points_below a)) → IsNeededBelow z b a x
+      needed : (x : DatonAt) → In x (datons (equations_of z.table) b m 0 points) → IsNeededSoFar z b D x
       needed x i =
-          let r = from_flat (λ (p : ℕ × ℕ). visited_datons (equations_of z.table) b m 0 p.0 p.1) x (points_below a) i in
-          let p = point_below a r.item r.among in
-          let v = some_value (eqval (equations_of z.table) b m r.item.0 0) (defined r.item.0 p.0) in
-          (r.item.0, p.0, (m, v.0, v.1, subst (λ s. In x (visited_datons (equations_of z.table) b m 0 r.item.0 s)) p.1 r.gives))
+          let r = from_flat (λ (p : ℕ × ℕ). visited_datons (equations_of z.table) b m 0 p.0 p.1) x points i in
+          let v = some_value (eqval (equations_of z.table) b m r.item.0 r.item.1) (defined r.item.0 r.item.1 r.among) in
+          (r.item.0, r.item.1, (exactly r.item.0 r.item.1).0 r.among, (m, v.0, v.1, r.gives))
 
-  -- nothing is held, and nothing is needed before time 0
-  pub holds_nothing : (e : EngineView) (c : ℕ) → e.stored ≡ empty_warehouse → HoldsBelow z b e 0 c
-  holds_nothing e c empty keeps none again k s = (
+  -- where nothing is held nothing is needed, as long as nothing was demanded
+  pub holds_nothing : (e : EngineView) (c : ℕ) → e.stored ≡ empty_warehouse → ((t s : ℕ) → D t s → ⊥) → Holds z b D e c
+  holds_nothing e c empty never keeps none again k s = (
     λ h. absurd (true≢false (sym h ∙ ap (λ w. is_some (held_in e.known w k s)) empty)),
-    λ n. absurd (omega (arith, n.1)),
+    λ n. absurd (never n.0 n.1 n.2),
   )
 
   -- after a demand with a value, exactly what is needed by then is held
-  pub holds_more : (old new : EngineView) (t c : ℕ) → old.stored.lost ≤ new.stored.lost
-      → (IsTrue z.policy.keeps → new.stored.lost ≡ 0 → HoldsNeeded (of_run z old) (of_run z new) b t 0) → HoldsBelow z b old t c → HoldsBelow z b new (suc t) c
-  holds_more old new t c lost more was keeps none again k s =
+  pub holds_more : (old new : EngineView) (t i c : ℕ) → old.stored.lost ≤ new.stored.lost
+      → (IsTrue z.policy.keeps → new.stored.lost ≡ 0 → HoldsNeeded (of_run z old) (of_run z new) b t i) → Holds z b D old c → Holds z b (with_point D t i) new c
+  holds_more old new t i c lost more was keeps none again k s =
       let now = more keeps none k s in
       let then = was keeps (omega (arith, lost, none)) again k s in (
-        λ h. elim (now.0 h) [ inl i ↦ later (then.0 i) | inr n ↦ (t, omega arith, n) ],
-        λ n. now.1 (either n (cases_lt n.0 t) then),
+        λ h. elim (now.0 h) [ inl j ↦ later (then.0 j) | inr n ↦ (t, i, inr (refl, refl), n) ],
+        λ n. now.1 (either n then n.2),
       )
     where
-      later : IsNeededBelow z b t (k, s) → IsNeededBelow z b (suc t) (k, s)
-      later n = (n.0, omega (arith, n.1), n.2)
+      later : IsNeededSoFar z b D (k, s) → IsNeededSoFar z b (with_point D t i) (k, s)
+      later n = (n.0, n.1, inl n.2, n.3)
 
-      either : (n : IsNeededBelow z b (suc t) (k, s)) → (n.0 < t) ⊎ (t ≤ n.0) → IsSome (holding old k s) ↔ IsNeededBelow z b t (k, s) → IsSome (holding old k s) ⊎ IsNeeded (equations_of z.table) b (equations_of z.table).root root t 0 (k, s)
-      either n (inl lt) then = inl (then.1 (n.0, lt, n.2))
-      either n (inr le) then = let at : n.0 ≡ t = omega (arith, le, n.1) in inr (subst (λ u. IsNeeded (equations_of z.table) b (equations_of z.table).root root u 0 (k, s)) at n.2)
+      either : (n : IsNeededSoFar z b (with_point D t i) (k, s)) → IsSome (holding old k s) ↔ IsNeededSoFar z b D (k, s) → with_point D t i n.0 n.1
+          → IsSome (holding old k s) ⊎ IsNeeded (equations_of z.table) b (equations_of z.table).root root t i (k, s)
+      either n then (inl was) = inl (then.1 (n.0, n.1, was, n.3))
+      either n then (inr at) = inr (subst (λ (p : ℕ × ℕ). IsNeeded (equations_of z.table) b (equations_of z.table).root root p.0 p.1 (k, s)) (λ j. (at.0 j, at.1 j)) n.3)

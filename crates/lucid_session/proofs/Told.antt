@@ -11,8 +11,7 @@ use Rattle.lucid_equations.specs.MoreElements.{Extends}
 use Rattle.lucid_facts.specs.Elements.{told_in, elements_told}
 use Rattle.lucid_facts.specs.Engine.{EngineView, MayHave, AreAskable, ReadsOnly, places_of}
 use Rattle.lucid_facts.proofs.Places.{same_name_decides, told_extends}
-use Rattle.lucid_session.specs.Runs.{Told, HasElements}
-use Rattle.lucid_session.proofs.Moments.{Start, seen}
+use Rattle.lucid_session.specs.Moments.{Start, Has}
 
 -- the place of a stream that has a number
 pub place_at : (streams : List Stream) (k : ℕ) (s : Stream) → slice_get streams k ≡ Some s → slice_get (places_of streams) k ≡ Some s.place
@@ -52,13 +51,13 @@ told_by w (m ∷ names) (s ∷ streams) b tells n j v e = by (told_by w names st
 
 module _ (z : Start) (b : Elements) where
   -- the places of inputs tell their elements at each moment
-  tells_now : (w : World) (o : Told) (streams : List Stream) → HasElements (seen z w o) b → places_of streams ≡ z.places → ReadsOnly z.places z.before w → Tells w z.table.inputs streams b
-  tells_now w o streams has places reads k n s e f =
+  tells_now : (w : World) (streams : List Stream) → Has z b → places_of streams ≡ z.places → ReadsOnly z.places z.before w → Tells w z.table.inputs streams b
+  tells_now w streams has places reads k n s e f =
       let c = has k n s.place (e, sym (ap (λ ps. slice_get ps k) places) ∙ place_at streams k s f) in
       let d = tells_too (z.before.place s.place).contents (w.place s.place).contents c.0 (reads.bytes s.place) c.1 in
       (d.0, d.1, λ j. c.2 j ∙ ap (λ bytes. Some (element bytes j)) (sym d.2))
 
   -- So the elements of the inputs are among those that an engine of the run may have.
-  pub may_have : (e : EngineView) (w : World) (o : Told) → e.table ≡ z.table → HasElements (seen z w o) b → places_of e.streams ≡ z.places → ReadsOnly z.places z.before w → AreAskable e.streams w → MayHave e b
-  may_have e w o same has places reads ask n j v known =
-      told_by w e.table.inputs e.streams b (subst (λ T. Tells w T.inputs e.streams b) (sym same) (tells_now w o e.streams has places reads)) n j v (told_extends e w ask n j v known)
+  pub may_have : (e : EngineView) (w : World) → e.table ≡ z.table → Has z b → places_of e.streams ≡ z.places → ReadsOnly z.places z.before w → AreAskable e.streams w → MayHave e b
+  may_have e w same has places reads ask n j v known =
+      told_by w e.table.inputs e.streams b (subst (λ T. Tells w T.inputs e.streams b) (sym same) (tells_now w e.streams has places reads)) n j v (told_extends e w ask n j v known)

@@ -4,4 +4,6 @@ pub mod Figures
 pub mod Laws
 pub mod Faults
 pub mod Lines
+pub mod Moments
+pub mod Cells
 pub mod Sessions

@@ -1,5 +1,5 @@
 -- A run over an engine that nothing was demanded of.
-use Rattle.std.specs.Prelude.{◌≡◌, [], ◌∷◌, Result}
+use Rattle.std.specs.Prelude.{◌≡◌, ℕ, [], ◌∷◌, Result}
 use Rattle.lucid_tree.specs.Levels.{Elements}
 use Rattle.lucid_tags.specs.Contexts.{root}
 use Rattle.lucid_store.specs.Entries.{empty_warehouse}
@@ -9,9 +9,9 @@ use Rattle.lucid_ports.specs.declared.run.Summary.{Summary}
 use Rattle.lucid_ports.specs.declared.run.RunFault.{RunFault}
 use Rattle.lucid_equations.specs.declared.table.Table.{Table}
 use Rattle.lucid_facts.specs.Engine.{EngineView, IsSound, AreAskable, ReadsOnly, places_of}
-use Rattle.lucid_session.specs.Subject.{stream_subject, table_stream}
+use Rattle.lucid_session.specs.Subject.{columns_subject, table_columns}
 use Rattle.lucid_session.specs.Runs.{Told, RunView, HasElements, Ran, Causes}
-use Rattle.lucid_session.specs.Figures.{table_counted, Figures}
+use Rattle.lucid_session.specs.Figures.{columns_counted, Figures}
 
 -- The engine holds nothing and knows the empty context alone, and its inputs may be asked.
 pub record IsFresh (e : EngineView) (w : World) : Type 0 where
@@ -35,9 +35,9 @@ engine_run options e w v o p = record {
   out_after = p;
 }
 
--- What a run of a table promises, by the elements of its inputs and whatever is told.
-pub record Promises (T : Table) (r : RunView) (result : Result Summary RunFault) : Type 0 where
-  pub headline : (b : Elements) → HasElements r b → Ran (stream_subject (table_stream T)) b r result
-  pub figures : (b : Elements) → HasElements r b → Figures (table_counted T) b r result
+-- What a run of a table's columns promises, by the elements of its inputs and whatever is told.
+pub record Promises (T : Table) (columns : ℕ) (r : RunView) (result : Result Summary RunFault) : Type 0 where
+  pub headline : (b : Elements) → HasElements r b → Ran (columns_subject (table_columns T columns)) b r result
+  pub figures : (b : Elements) → HasElements r b → Figures (columns_counted T columns) b r result
   pub causes : Causes r result
   pub reads_only : ReadsOnly r.places r.before r.after

@@ -1,16 +1,14 @@
 //! The lines of a run, one at a time, and what ends it.
-ghost use Rattle.std.specs.Prelude.{◌≡◌};
+ghost use Rattle.std.specs.Prelude.{◌≡◌, ◌++◌, ◌∷◌, []};
 ghost use Rattle.std.specs.Bool.{MatchBool};
 ghost use Rattle.lucid_value.specs.Plain.{eod};
 ghost use Rattle.lucid_value.specs.View.{plain};
-ghost use Rattle.lucid_tree.specs.Output as output;
 ghost use Rattle.lucid_session.specs.Faults.{of_demand, of_write};
 ghost use Rattle.lucid_session.specs.Lines.{WritesLine};
 
 use lucid_demand::DemandFault;
 use lucid_ports::{PortFault, RunFault, Sink, write_whole};
 use lucid_value::Value;
-use std::alloc::Global;
 
 pub(crate) fn is_end(value: &Value) -> bool
     ensures { MatchBool result (plain value.now ≡ eod) (plain value.now ≡ eod → ⊥) }
@@ -18,18 +16,12 @@ pub(crate) fn is_end(value: &Value) -> bool
     matches!(value, Value::Eod)
 }
 
-/// Writes the line of a value as one piece. `line` is room that is kept between lines.
-pub(crate) fn write_line<K: Sink>(
-    alloc: Global,
-    value: &Value,
-    line: &mut Vec<u8>,
-    out: &mut K,
-) -> Result<(), RunFault>
-    ensures { WritesLine (output.line (plain value.now)) (record { bytes = K.written out.old; faults = K.faults out.old })
+/// Writes a line as one piece, with its end.
+pub(crate) fn write_line<K: Sink>(line: &mut Vec<u8>, out: &mut K) -> Result<(), RunFault>
+    ensures { WritesLine (line.old.items ++ 10 ∷ []) (record { bytes = K.written out.old; faults = K.faults out.old })
         (record { bytes = K.written out.new; faults = K.faults out.new }) result }
 {
-    line.clear();
-    if value.show(alloc, line).is_err() || line.push(b'\n').is_err() {
+    if line.push(b'\n').is_err() {
         return Err(RunFault::NoMemory);
     }
     match write_whole(out, line) {

@@ -1,16 +1,18 @@
 //! A run over the engine.
-ghost use Rattle.std.specs.Prelude.{◌≡◌, length};
+ghost use Rattle.std.specs.Prelude.{◌≡◌, ◌≤◌, ◌<◌, ◌^◌, ◌-◌, ◌⊎◌, ℕ, length, Bool, true, slice_get, Some};
 ghost use Rattle.lucid_tree.specs.Levels.{Elements};
 ghost use Rattle.lucid_inputs.specs.Inputs.{streams};
 ghost use Rattle.lucid_equations.specs.Programs.{table_of};
 ghost use Rattle.lucid_facts.specs.Engine.{AreAskable, ReadsOnly, places_of};
 ghost use Rattle.lucid_store.specs.Entries.{count_of, IsOneForEach};
-ghost use Rattle.lucid_session.specs.Subject.{stream_subject, table_stream};
+ghost use Rattle.lucid_session.specs.Subject.{stream_subject, table_stream, columns_subject, table_columns};
 ghost use Rattle.lucid_session.specs.Runs.{run_view, HasElements, Ran, Causes};
-ghost use Rattle.lucid_session.specs.Figures.{table_counted, Figures};
+ghost use Rattle.lucid_session.specs.Figures.{table_counted, columns_counted, Figures};
+ghost use Rattle.lucid_session.specs.Cells.{ClearsMany};
 ghost use Rattle.lucid_session.specs.Sessions.{IsFresh, engine_run, Promises};
 
-use crate::lines::{is_end, run_fault, write_line};
+use crate::cells::{add_cells, clear_many};
+use crate::lines::write_line;
 use lucid_demand::Engine;
 use lucid_equations::Program;
 use lucid_inputs::Inputs;
@@ -19,8 +21,8 @@ use lucid_retire::Retire;
 use lucid_schedule::Pick;
 use std::alloc::Global;
 
-// How many contexts may be known when a value is demanded, the empty one included.
-const MOST_TAGS: u64 = 1_000_000;
+/// How many columns may stand side by side.
+pub const MOST_COLUMNS: usize = 16;
 
 /// Writes the lines of a program, from time 0 on, to the first end of data or to the count of the options.
 ///
@@ -52,42 +54,157 @@ pub fn run<P: Places, K: Sink, R: Retire, S: Pick>(
         in Causes view result }
     ensures reads_only { ReadsOnly (places_of (streams inputs)) (P.world places.old) (P.world places.new) }
 {
+    let mut is_open = [true];
+    run_side_by_side(
+        alloc,
+        program,
+        &mut is_open,
+        false,
+        places,
+        inputs,
+        out,
+        policy,
+        pick,
+        options,
+    )
+}
+
+/// Writes the lines of several columns of a program side by side: of its values at the spaces from 0 on. A line is the texts of the values of a
+/// time, parted by tabs; a column that has ended has no byte there. The run ends where all columns have, or at the count of the options.
+///
+/// All that is said of `run` is said of it, over these columns.
+pub fn run_columns<P: Places, K: Sink, R: Retire, S: Pick>(
+    alloc: Global,
+    program: Program,
+    columns: u32,
+    places: &mut P,
+    inputs: Inputs,
+    out: &mut K,
+    policy: R,
+    pick: S,
+    options: &Options,
+) -> Result<Summary, RunFault>
+    requires streams { length (streams inputs) ≡ length (table_of program).inputs }
+    requires askable { AreAskable (streams inputs) (P.world places.old) }
+    requires columns { columns ≤ MOST_COLUMNS }
+    // Where the places tell their bytes, the lines are those of the columns, and the figures are by exactly what they need.
+    ensures headline { let view = run_view options.now (record { keeps = R.keeps policy; empties = R.empties policy; room = R.most policy }) (table_of program) inputs (P.world places.old) (P.world places.new)
+        (record { bytes = K.written out.old; faults = K.faults out.old }) (record { bytes = K.written out.new; faults = K.faults out.new })
+        in (b : Elements) → HasElements view b → Ran (columns_subject (table_columns (table_of program) columns)) b view result }
+    ensures figures { let view = run_view options.now (record { keeps = R.keeps policy; empties = R.empties policy; room = R.most policy }) (table_of program) inputs (P.world places.old) (P.world places.new)
+        (record { bytes = K.written out.old; faults = K.faults out.old }) (record { bytes = K.written out.new; faults = K.faults out.new })
+        in (b : Elements) → HasElements view b → Figures (columns_counted (table_of program) columns) b view result }
+
+    // Whatever they tell, faults have their causes, and nothing but the streams' places is read.
+    ensures causes { let view = run_view options.now (record { keeps = R.keeps policy; empties = R.empties policy; room = R.most policy }) (table_of program) inputs (P.world places.old) (P.world places.new)
+        (record { bytes = K.written out.old; faults = K.faults out.old }) (record { bytes = K.written out.new; faults = K.faults out.new })
+        in Causes view result }
+    ensures reads_only { ReadsOnly (places_of (streams inputs)) (P.world places.old) (P.world places.new) }
+{
+    let mut is_open = [true; MOST_COLUMNS];
+    run_side_by_side(
+        alloc,
+        program,
+        &mut is_open[..columns as usize],
+        true,
+        places,
+        inputs,
+        out,
+        policy,
+        pick,
+        options,
+    )
+}
+
+// The run of as many columns as there are marks, all of which are open. Whether many contexts are cleared at the end too is told.
+fn run_side_by_side<P: Places, K: Sink, R: Retire, S: Pick>(
+    alloc: Global,
+    program: Program,
+    is_open: &mut [bool],
+    clears_last: bool,
+    places: &mut P,
+    inputs: Inputs,
+    out: &mut K,
+    policy: R,
+    pick: S,
+    options: &Options,
+) -> Result<Summary, RunFault>
+    requires streams { length (streams inputs) ≡ length (table_of program).inputs }
+    requires askable { AreAskable (streams inputs) (P.world places.old) }
+    requires columns { length is_open.old ≤ 16 }
+    requires opened { (j : ℕ) (mark : Bool) → slice_get is_open.old j ≡ Some mark → mark ≡ true }
+    ensures { Promises (table_of program) (length is_open.old) (run_view options.now (record { keeps = R.keeps policy; empties = R.empties policy; room = R.most policy }) (table_of program) inputs (P.world places.old) (P.world places.new)
+        (record { bytes = K.written out.old; faults = K.faults out.old }) (record { bytes = K.written out.new; faults = K.faults out.new })) result }
+{
     let Ok(mut engine) = Engine::make(alloc, program, inputs, policy, pick) else {
         return Err(RunFault::NoMemory);
     };
-    let mut line = Vec::new(alloc);
-    write_lines(alloc, &mut engine, places, out, &mut line, options)
+    write_lines(
+        alloc,
+        &mut engine,
+        is_open,
+        clears_last,
+        places,
+        out,
+        options,
+    )
 }
 
-// Writes the lines of an engine's program. `line` is room that is kept between lines.
+// Writes the lines of an engine's program.
 fn write_lines<P: Places, K: Sink, R: Retire, S: Pick>(
     alloc: Global,
     engine: &mut Engine<R, S>,
+    is_open: &mut [bool],
+    clears_last: bool,
     places: &mut P,
     out: &mut K,
-    line: &mut Vec<u8>,
     options: &Options,
 ) -> Result<Summary, RunFault>
-    requires { IsFresh engine.old (P.world places.old) }
-    ensures { Promises engine.old.table (engine_run options.now engine.old (P.world places.old) (P.world places.new)
+    requires fresh { IsFresh engine.old (P.world places.old) }
+    requires columns { length is_open.old ≤ 16 }
+    requires opened { (j : ℕ) (mark : Bool) → slice_get is_open.old j ≡ Some mark → mark ≡ true }
+    ensures { Promises engine.old.table (length is_open.old) (engine_run options.now engine.old (P.world places.old) (P.world places.new)
         (record { bytes = K.written out.old; faults = K.faults out.old }) (record { bytes = K.written out.new; faults = K.faults out.new })) result }
 {
+    let mut line = Vec::new(alloc);
     let mut cleared = 0;
     for time in 0..options.count {
-        let value = match engine.demand(places, u64::from(time), options.depth) {
-            Ok(value) => value,
-            Err(fault) => return Err(run_fault(fault, time, engine.lost(), cleared)),
-        };
-        if is_end(&value) {
-            return Ok(summary(engine, time, true, cleared));
+        let goes_on = add_cells(
+            alloc,
+            engine,
+            is_open,
+            places,
+            &mut line,
+            time,
+            options.depth,
+            &mut cleared,
+        )?;
+        if !goes_on {
+            return Ok(ended(engine, time, clears_last, cleared));
         }
-        write_line(alloc, &value, line, out)?;
-        if engine.tags() > MOST_TAGS {
-            engine.clear();
-            cleared += 1;
-        }
+        write_line(&mut line, out)?;
+        clear_many(engine, &mut cleared);
     }
     Ok(summary(engine, options.count, false, cleared))
+}
+
+// What a run has done all of whose columns have ended.
+fn ended<R: Retire, S: Pick>(
+    engine: &mut Engine<R, S>,
+    lines: u32,
+    clears_last: bool,
+    cleared: u64,
+) -> Summary
+    requires { cleared < 2 ^ 64 - 1 }
+    ensures many { ((engine.new ≡ engine.old) × (result.cleared ≡ cleared)) ⊎ ClearsMany engine.old engine.new cleared result.cleared }
+    ensures summary { result ≡ record { lines = lines; ended = true; held = count_of engine.new.stored; lost = engine.new.stored.lost; cleared = result.cleared } }
+    ensures one_for_each { IsOneForEach engine.new.stored }
+{
+    let mut cleared = cleared;
+    if clears_last {
+        clear_many(engine, &mut cleared);
+    }
+    summary(engine, lines, true, cleared)
 }
 
 // What a run has done that wrote these lines.

@@ -3,7 +3,8 @@ use crate::program_run::run_of;
 use lucid_ports::{MemorySink, Options, RunFault, Summary};
 use lucid_retire::{Ages, Keep};
 use lucid_schedule::Newest;
-use lucid_test_trials::Setup;
+use lucid_session::run_columns;
+use lucid_test_trials::{Parts, Setup};
 use std::alloc::{AllocError, Global};
 use std::test::Fail;
 
@@ -83,5 +84,48 @@ fn too_deep_after_a_clearing(rt: HostRuntime) -> Result<(), Fail> {
         })
     );
     assert!(rt; out.written() == numbers_below(alloc, 500_000)?.as_bytes());
+    Ok(())
+}
+
+// By the demand of the first column at time 499,999 so many contexts are known, and all is cleared before the second is asked, which needs nothing.
+#[test]
+fn columns_that_are_cleared(rt: HostRuntime) -> Result<(), Fail> {
+    let alloc = rt.alloc();
+    let options = Options {
+        count: 500_000,
+        depth: 100,
+    };
+    let mut out = MemorySink::make(alloc, 100, Vec::new(alloc));
+    let setup = Setup::of(
+        "(m where m is current n; end where n is current k; end) sby 7 where k = 0 fby k + 1; end",
+        &[],
+    );
+    let Parts {
+        program,
+        inputs,
+        mut places,
+    } = Parts::make(alloc, &setup)?;
+    let answer = run_columns(
+        alloc,
+        program,
+        2,
+        &mut places,
+        inputs,
+        &mut out,
+        Keep,
+        Newest,
+        &options,
+    );
+    assert_eq!(rt;
+        answer,
+        Ok(Summary {
+            lines: 500_000,
+            ended: false,
+            held: 0,
+            lost: 0,
+            cleared: 1,
+        })
+    );
+    assert!(rt; out.written().ends_with(b"499998\t7\n499999\t7\n"));
     Ok(())
 }

@@ -6,7 +6,8 @@ use crate::program_run::run_of;
 use lucid_ports::{MemorySink, Options, PortFault, RunFault, Sink, Summary};
 use lucid_retire::Keep;
 use lucid_schedule::Newest;
-use lucid_test_trials::Setup;
+use lucid_session::run_columns;
+use lucid_test_trials::{Parts, Setup};
 use std::alloc::Global;
 use std::process::Abort;
 use std::test::Fail;
@@ -87,5 +88,58 @@ fn a_refused_write_ends_the_run(rt: HostRuntime) -> Result<(), Fail> {
         are_lines(&rt, &out.pieces, pieces);
         assert_eq!(rt; out.sink.written(), written.as_bytes(), "at {number}");
     }
+    Ok(())
+}
+
+// The run of two columns, of which the second ends early, where these writes fail.
+fn two_columns(
+    alloc: Global,
+    failures: &[u64],
+) -> Result<(Result<Summary, RunFault>, Pieces), Fail> {
+    let mut out = Pieces {
+        alloc,
+        sink: MemorySink::make(alloc, 100, Vec::from_slice(alloc, failures)?),
+        pieces: Vec::new(alloc),
+    };
+    let setup = Setup::of("1 sby 2 fby eod", &[]);
+    let Parts {
+        program,
+        inputs,
+        mut places,
+    } = Parts::make(alloc, &setup)?;
+    let options = Options {
+        count: 3,
+        depth: 100,
+    };
+    let answer = run_columns(
+        alloc,
+        program,
+        2,
+        &mut places,
+        inputs,
+        &mut out,
+        Keep,
+        Newest,
+        &options,
+    );
+    Ok((answer, out))
+}
+
+#[test]
+fn a_line_of_columns_is_one_piece(rt: HostRuntime) -> Result<(), Fail> {
+    let (answer, out) = two_columns(rt.alloc(), &[])?;
+    assert_eq!(rt; answer?.lines, 3);
+    assert_eq!(rt; out.pieces.len(), 3);
+    assert_eq!(rt; out.pieces[0].as_slice(), b"1\t2\n");
+    assert_eq!(rt; out.pieces[1].as_slice(), b"1\t\n");
+    assert_eq!(rt; out.pieces[2].as_slice(), b"1\t\n");
+    Ok(())
+}
+
+#[test]
+fn a_refused_line_of_columns_ends_the_run(rt: HostRuntime) -> Result<(), Fail> {
+    let (answer, out) = two_columns(rt.alloc(), &[1])?;
+    assert_eq!(rt; answer, Err(RunFault::WriteFault));
+    assert_eq!(rt; out.sink.written(), b"1\t2\n");
     Ok(())
 }

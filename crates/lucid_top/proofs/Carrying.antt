@@ -13,7 +13,7 @@ use Rattle.lucid_compile.specs.Promise.{KeepsTree}
 use Rattle.lucid_words.specs.Asked.{PlainWords}
 use Rattle.lucid_session.specs.Subject.{stream_subject, tree_stream, table_stream, AreSameStream}
 use Rattle.lucid_session.specs.Runs.{RunView, PolicyView, Told, Ran}
-use Rattle.lucid_session.specs.Figures.{table_counted, Figures}
+use Rattle.lucid_session.specs.Figures.{one_stream, table_counted, Figures}
 use Rattle.lucid_session.specs.Laws.{StandsFor, SameStreamsRunAlike, FiguresCarry}
 use Rattle.lucid_top.specs.declared.stop.Stop.{Stop}
 use Rattle.lucid_top.specs.declared.stop.Stop.TheVariants as stop
@@ -30,10 +30,11 @@ same_stream T e keeps = record { values = λ b m t. keeps.values b m t 0; pairs 
 -- and the table stands for the tree in all that is counted
 stands_for : (T : Table) (e : PlainTree) → KeepsTree (equations_of T) e → StandsFor (table_counted T) (tree_counted e)
 stands_for T e keeps = record {
-  values = λ b m t. keeps.values b m t 0;
+  demands = λ b t s. ((λ h. h), (λ h. h));
+  values = λ b m t s. keeps.values b m t s;
   as_many = λ b m d points n h. (keeps.as_many b m d points n).1 h;
   no_more = λ b m d points n k x y. keeps.no_more b m d points n k x y;
-  held = λ b m points held kept x y n t. keeps.held b m points held kept x y n t 0;
+  held = λ b m points held kept x y n t s. keeps.held b m points held kept x y n t s;
 }
 
 tree_ran : SameStreamsRunAlike → FiguresCarry → (T : Table) (e : PlainTree) → KeepsTree (equations_of T) e → (b : Elements) (r : RunView) (o : Option (Result Summary RunFault))
@@ -41,7 +42,7 @@ tree_ran : SameStreamsRunAlike → FiguresCarry → (T : Table) (e : PlainTree) 
     → IsSomeAnd o (λ y. Ran (stream_subject (tree_stream e)) b r y × Figures (tree_counted e) b r y)
 tree_ran alike carry T e keeps b r None h = absurd h
 tree_ran alike carry T e keeps b r (Some y) h =
-    (alike (table_stream T) (tree_stream e) (same_stream T e keeps) b r y h.0, carry T (tree_counted e) (stands_for T e keeps) b r y h.1)
+    (alike (table_stream T) (tree_stream e) (same_stream T e keeps) b r y h.0, carry T one_stream (tree_counted e) (stands_for T e keeps) b r y h.1)
 
 pub runs_tree : SameStreamsRunAlike → FiguresCarry → (T : Table) (e : PlainTree) → KeepsTree (equations_of T) e → (r : RunView) (o : Outcome) → RanSo (of_table T) r o → RanSo (of_tree e) r o
 runs_tree alike carry T e keeps r o h b has = tree_ran alike carry T e keeps b r (run_result o) (h b has)

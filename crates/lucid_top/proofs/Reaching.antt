@@ -6,6 +6,7 @@ use Rattle.std.proofs.lemmas.Bool.{cases_lt}
 use Rattle.std.proofs.lemmas.Option.{slice_get-map, slice_get-get_or}
 use denote.Ref.{Bor}
 use Rattle.lucid_ports.specs.World.{World, Contents, IsFresh, KeepsOthers, unread, advanced}
+use Rattle.lucid_session.proofs.Subjects.{range_more as range_suc}
 use Rattle.lucid_top.specs.Places.{KeepsNames, AreFresh}
 
 -- its first bytes are those of its name
@@ -74,12 +75,6 @@ fresh_more files w v u i name at is fresh keeps o more q number new k file is' l
     ]
 
 -- one number more
-range_suc : (a n : ℕ) → range_with_len a (suc n) ≡ range_with_len a n ++ (a + n) ∷ []
-range_suc a zero = ap (λ x. x ∷ []) (sym (add-zero a))
-range_suc a (suc n) =
-    let same : (a + 1) + n ≡ a + suc n = omega arith in
-    ap (λ rest. a ∷ rest) (range_suc (a + 1) n ∙ ap (λ x. range_with_len (a + 1) n ++ x ∷ []) same)
-
 pub range_more : (a n q : ℕ) (numbers numbers' : List ℕ) → numbers ≡ range_with_len a n → q ≡ a + n → numbers' ≡ numbers ++ q ∷ [] → numbers' ≡ range_with_len a (n + 1)
 range_more a n q numbers numbers' are at more =
     let last : range_with_len a (n + 1) ≡ range_with_len a n ++ (a + n) ∷ [] = rw add-one (range_suc a n) in

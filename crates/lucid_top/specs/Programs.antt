@@ -7,7 +7,7 @@ use Rattle.lucid_equations.specs.Datons.{Daton}
 use Rattle.lucid_equations.specs.declared.table.Table.{Table}
 use Rattle.lucid_compile.specs.Counts.{entries, valued_entries, environments}
 use Rattle.lucid_session.specs.Subject.{OneStream, tree_stream, table_stream}
-use Rattle.lucid_session.specs.Figures.{Counted, table_counted}
+use Rattle.lucid_session.specs.Figures.{Counted, one_stream, table_counted}
 
 -- what is counted of a tree at space 0: the entries that it refers to, and the environments that it enters
 abbrev pub tree_counted : PlainTree → Counted Referent Env
@@ -15,8 +15,9 @@ tree_counted e = record {
   refers = λ b m d points. entries b m d e points;
   valued = λ b m points. valued_entries b m e points;
   enters = λ b m d points. environments b m d e points;
-  value = λ b m t. val b m e empty t 0;
-  held_value = λ b held m t. hval (record { element = b; held = held }) m e empty t 0;
+  value = λ b m t s. val b m e empty t s;
+  held_value = λ b held m t s. hval (record { element = b; held = held }) m e empty t s;
+  layout = one_stream;
 }
 
 -- A program that is run.
