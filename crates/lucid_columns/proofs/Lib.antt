@@ -1,0 +1,5 @@
+pub mod Spaces
+pub mod Faultless
+pub mod Placed
+pub mod Searching
+pub mod Defined

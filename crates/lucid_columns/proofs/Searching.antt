@@ -1,0 +1,51 @@
+-- The search for the first name that is no column.
+use Rattle.std.proofs.Common.{◌≡◌, ℕ, ◌+◌, false, Box, Global, List, ◌∷◌, Some, refl, sym, ap, ◌∙◌, subst, arith, inl, inr}
+use Rattle.std.specs.Prelude.{IsTrue, slice_get}
+use Rattle.std.proofs.lemmas.Bool.{cases_lt}
+use Rattle.lucid_tree.specs.Tree.{PlainTree}
+use Rattle.lucid_tree.specs.View.{tree_of}
+use Rattle.lucid_tree.specs.declared.tree.Block.{Block}
+use Rattle.lucid_tree.specs.declared.tree.Kind.{Kind}
+use Rattle.lucid_tree.specs.declared.tree.Kind.TheVariants.{Const, Name, Call, Apply, If, And, Or, First, Next, Fby, Whenever, Asa, Upon, Attime, Initial, Succ, Sby, Atspace, Scope}
+use Rattle.lucid_columns.specs.Columns.{is_column, AreColumnsBelow, IsFirstMissing}
+
+-- one column more
+pub one_more : (e : PlainTree) (ns : List (List ℕ)) (i k : ℕ) (n : List ℕ) → AreColumnsBelow e ns i → slice_get ns i ≡ Some n → IsTrue (is_column e n) → k ≡ i + 1 → AreColumnsBelow e ns k
+one_more e ns i k n below is good next j m lt at = elim (cases_lt j i) [
+  | inl lower ↦ below j m lower at
+  | inr le ↦
+      let same : j ≡ i = omega (arith, le, lt, next) in
+      let name : ◌≡◌ (Some n) (Some m) = sym is ∙ ap (slice_get ns) (sym same) ∙ at in
+      subst (λ x. IsTrue (is_column e x)) (cc name) good
+]
+
+-- a program that is no block has none
+no_block : (at : ℕ) (k : Kind) → ((b : Box Block Global) → k ≡ Scope b → ⊥) → (n : List ℕ) → is_column (tree_of at k) n ≡ false
+no_block at (Const v) h n = refl
+no_block at (Name m) h n = refl
+no_block at (Call m es) h n = refl
+no_block at (Apply op es) h n = refl
+no_block at (If c a b) h n = refl
+no_block at (And a b) h n = refl
+no_block at (Or a b) h n = refl
+no_block at (First a) h n = refl
+no_block at (Next a) h n = refl
+no_block at (Fby a b) h n = refl
+no_block at (Whenever a b) h n = refl
+no_block at (Asa a b) h n = refl
+no_block at (Upon a b) h n = refl
+no_block at (Attime a b) h n = refl
+no_block at (Initial a) h n = refl
+no_block at (Succ a) h n = refl
+no_block at (Sby a b) h n = refl
+no_block at (Atspace a b) h n = refl
+no_block at (Scope b) h n = absurd (h b refl)
+
+pub first_missing : (e : PlainTree) (at : ℕ) (k : Kind) (columns : List (List ℕ)) (n : List ℕ) (ns : List (List ℕ)) → tree_of at k ≡ e → ((b : Box Block Global) → k ≡ Scope b → ⊥)
+    → columns ≡ n ∷ ns → IsFirstMissing e columns 0
+first_missing e at k columns n ns is other named = record {
+  before = λ j m lt there. absurd (omega (arith, lt));
+  name = n;
+  is = ap (λ xs. slice_get xs 0) named;
+  missing = subst (λ p. is_column p n ≡ false) is (no_block at k other n);
+}
