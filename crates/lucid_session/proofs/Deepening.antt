@@ -1,6 +1,6 @@
 -- Where exactly what is needed is held, the approximations with that held are those with all that the values before needed, each with its
 -- value.
-use Rattle.std.proofs.Common.{◌≡◌, ℕ, Option, Some, None, refl, sym, ap, ◌∙◌, arith}
+use Rattle.std.proofs.Common.{◌≡◌, ℕ, Option, Some, refl, sym, ap, ◌∙◌, arith}
 use Rattle.std.specs.Prelude.{IsSome, ◌↔◌, option_map}
 use Rattle.lucid_lemmas.proofs.Options.{value_there as some_value, same_values}
 use Rattle.lucid_value.specs.Plain.{PlainValue}

@@ -8,7 +8,6 @@ use Rattle.lucid_value.specs.View.{plain}
 use Rattle.lucid_tree.specs.Members.{In}
 use Rattle.lucid_tree.specs.Levels.{Elements}
 use Rattle.lucid_tags.specs.Contexts.{Context, root}
-use Rattle.lucid_ports.proofs.WritingLemmas.{with_nothing}
 use Rattle.lucid_store.specs.Entries.{count_of, empty_warehouse}
 use Rattle.lucid_ports.specs.Faults.{Rises}
 use Rattle.lucid_ports.specs.World.{World}
