@@ -1,10 +1,5 @@
 pub mod Chosen
-pub mod Bytes
-pub mod LineEnds
-pub mod WordLemmas
-pub mod ConstantLemmas
 pub mod NumberLemmas
-pub mod Spaced
 pub mod TextMade
 pub mod Rising
 pub mod Gathering
@@ -16,3 +11,4 @@ pub mod TailsRead
 pub mod RowLemmas
 pub mod WholeLines
 pub mod OneTable
+pub mod FirstLine

@@ -1,8 +1,8 @@
 -- The node of some words is the one that has them: what is read has the words that it is read from, and what has words is read from them.
-use Rattle.std.proofs.Common.{◌≡◌, ℕ, ◌<◌, ◌^◌, Bool, true, false, ◌&&◌, cond, List, [], ◌∷◌, map, length, take, Option, Some, None, ◌⊎◌, inl, inr, refl, sym, ap, ◌∙◌, subst, arith}
+use Rattle.std.proofs.Common.{◌≡◌, ℕ, false, List, [], ◌∷◌, map, length, take, Some, ◌⊎◌, inl, inr, refl, sym, ap, ◌∙◌, subst, arith}
 use Rattle.std.specs.Prelude.{decimal, codes, ◌==◌}
-use Rattle.std.specs.List.{AllByRecursion, find}
-use Rattle.std.specs.Option.{option_and_then, option_map}
+use Rattle.std.specs.List.{AllByRecursion}
+use Rattle.std.specs.Option.{option_and_then}
 use Rattle.std.specs.Str.{bytes_eq}
 use Rattle.std.proofs.lemmas.Bool.{and_parts, eqb-true}
 use Rattle.std.proofs.lemmas.Option.{option_and_then_some, same_Some}
@@ -10,12 +10,11 @@ use Rattle.std.proofs.lemmas.Slice.Eq.{bytes_eq-Decides}
 use Rattle.lucid_ops.specs.Codes.{operators}
 use Rattle.lucid_ops.specs.declared.op.Op.{Op}
 use Rattle.lucid_ops.specs.declared.op.Op.TheVariants.{Add}
-use Rattle.lucid_equations.specs.Ranges.{EachBelow}
 use Rattle.lucid_equations.specs.declared.rows.Node.{Node}
 use Rattle.lucid_equations.specs.declared.rows.Node.TheVariants.{Apply}
 use Rattle.lucid_flat.specs.declared.words.Three.{Three}
 use Rattle.lucid_flat.specs.FlatText.{op_word, form_word, forms_with, node_numbers, node_words}
-use Rattle.lucid_flat.specs.FlatTables.{HasPlaces, NodeFits}
+use Rattle.lucid_flat.specs.FlatTables.{Are32, HasPlaces, NodeFits}
 use Rattle.lucid_flat.specs.Words.{three_of, exactly, listed}
 use Rattle.lucid_flat.specs.Forms.{op_of, has_form, form_node, apply_node, node_of}
 use Rattle.lucid_flat.proofs.Chosen.{by_word, found, found_among}
@@ -59,11 +58,11 @@ form_word-apart : (n : Node) → IsForm n → bytes_eq (form_word n) (codes "app
 form_word-apart (Apply op args) h = absurd h
 form_word-apart n h = refl
 
-of_form : (n : Node) → IsForm n → EachBelow (2 ^ 32) (node_numbers n) → node_of (form_word n ∷ map decimal (node_numbers n)) ≡ Some n
+of_form : (n : Node) → IsForm n → Are32 (node_numbers n) → node_of (form_word n ∷ map decimal (node_numbers n)) ≡ Some n
 unfolding node_of
 of_form n f h = rw (form_word-apart n f, three_of-words (node_numbers n) h (form_count n f)) (form_given n f)
 
-args_given : (op : Op) (args : List ℕ) → EachBelow (2 ^ 32) args → length args ≡ 3 → apply_node (op_word op ∷ map decimal args) ≡ Some (Apply op args)
+args_given : (op : Op) (args : List ℕ) → Are32 args → length args ≡ 3 → apply_node (op_word op ∷ map decimal args) ≡ Some (Apply op args)
 unfolding apply_node
 args_given op [] h l = absurd (cc)
 args_given op (a ∷ []) h l = absurd (omega arith)
@@ -73,7 +72,7 @@ args_given op (a ∷ b ∷ c ∷ []) h l =
     rw (op_of-word op, e) refl
 args_given op (a ∷ b ∷ c ∷ d ∷ ds) h l = absurd (omega arith)
 
-of_apply : (op : Op) (args : List ℕ) → EachBelow (2 ^ 32) args → length args ≡ 3 → node_of (codes "apply" ∷ op_word op ∷ map decimal args) ≡ Some (Apply op args)
+of_apply : (op : Op) (args : List ℕ) → Are32 args → length args ≡ 3 → node_of (codes "apply" ∷ op_word op ∷ map decimal args) ≡ Some (Apply op args)
 unfolding node_of
 of_apply op args h l = args_given op args h l
 
@@ -154,7 +153,7 @@ form_read w ws ns n h e =
     let word : form_word n ≡ w = (bytes_eq-Decides (form_word n) w).0 t.0 in
     let count : length (node_numbers n) ≡ ns.count = eqb-true (length (node_numbers n)) ns.count t.1 in
     let numbers : node_numbers n ≡ listed ns = m.1 ∙ ap (λ k. take k (ns.first ∷ ns.second ∷ ns.third ∷ [])) count in
-    let P : List ℕ → Type 0 = EachBelow (2 ^ 32) in
+    let P : List ℕ → Type 0 = Are32 in
     let words = ap (λ (x : List ℕ). x ∷ ws) (sym word) ∙ ap (λ (us : List (List ℕ)). form_word n ∷ us) (h.0 ∙ ap (map decimal) (sym numbers)) in
     (words ∙ sym (form_words n m.0), (subst P (sym numbers) h.1, form_places n m.0))
 
@@ -172,7 +171,7 @@ apply_read (w ∷ ws) n e =
     let args = three_numbers ns d.1 in
     let P : Node → Type 0 = λ x. HasWords x (codes "apply" ∷ w ∷ ws) in
     let words = ap (λ (x : List ℕ). codes "apply" ∷ x ∷ ws) (sym (op_of_some w op o)) ∙ ap (λ (us : List (List ℕ)). codes "apply" ∷ op_word op ∷ us) (d.0.0 ∙ ap (map decimal) args) in
-    subst P (same_Some (Apply op (ns.first ∷ ns.second ∷ ns.third ∷ [])) n l) (words, (subst (EachBelow (2 ^ 32)) args d.0.1, refl))))
+    subst P (same_Some (Apply op (ns.first ∷ ns.second ∷ ns.third ∷ [])) n l) (words, (subst (Are32) args d.0.1, refl))))
 
 node_read_by : (w : List ℕ) (ws : List (List ℕ)) (n : Node) → ((w ≡ codes "apply") × (apply_node ws ≡ Some n)) ⊎ (option_and_then (λ ns. form_node w ns) (three_of ws) ≡ Some n)
     → HasWords n (w ∷ ws)

@@ -1,6 +1,6 @@
 -- A text is one table's: its lines give its rows, and these its lists.
-use Rattle.std.proofs.Common.{◌≡◌, ◌≢◌, ℕ, suc, zero, ◌<◌, ◌≤◌, List, [], ◌∷◌, ◌++◌, map, drop, take, length, Option, Some, None, refl, sym, ap, ◌∙◌, subst, arith}
-use Rattle.std.specs.List.{AllByRecursion, filter_map, flat_map}
+use Rattle.std.proofs.Common.{◌≡◌, ◌≢◌, ℕ, suc, zero, ◌<◌, List, [], ◌∷◌, ◌++◌, map, drop, Option, Some, None, refl, sym, ap, ◌∙◌, subst, arith}
+use Rattle.std.specs.List.{AllByRecursion, filter_map}
 use Rattle.std.proofs.lemmas.List.{append-nil}
 use Rattle.std.proofs.lemmas.List.Elements.{filter_map-append}
 use Rattle.std.proofs.lemmas.Option.{same_Some}
@@ -13,11 +13,13 @@ use Rattle.lucid_equations.specs.declared.rows.NodeRow.{NodeRow}
 use Rattle.lucid_equations.specs.declared.rows.NameRow.{NameRow}
 use Rattle.lucid_equations.specs.declared.rows.PlaceRow.{PlaceRow}
 use Rattle.lucid_equations.specs.declared.table.Table.{Table}
-use Rattle.lucid_flat.specs.FlatText.{FlatRow, scope_row, input_row, constant_row, node_row, name_row, place_row, root_row, row_line, first_line, ended, flat_rows, flat_lines}
-use Rattle.lucid_flat.specs.FlatTables.{HasOneRoot, RowFits, HasText, IsTextOf, whole_lines, GoesOn, IsFirstWrongLine}
-use Rattle.lucid_flat.specs.Gathered.{rows_so_far, IsBegun}
-use Rattle.lucid_flat.specs.Laws.{OneValue, OneTable}
-use Rattle.lucid_flat.proofs.WholeLines.{text_lines, same_rows, behind_first}
+use Rattle.lucid_texts.specs.TextLines.{CanGoOn}
+use Rattle.lucid_texts.specs.Laws.{OneValue}
+use Rattle.lucid_texts.proofs.TextsRead.{text_lines}
+use Rattle.lucid_flat.specs.FlatText.{FlatRow, scope_row, input_row, constant_row, node_row, name_row, place_row, root_row, flat_rows, flat_lines}
+use Rattle.lucid_flat.specs.FlatTables.{HasOneRoot, RowFits, HasText, AreTableLines}
+use Rattle.lucid_flat.specs.Laws.{OneTable}
+use Rattle.lucid_flat.proofs.WholeLines.{table_lines, same_rows}
 
 -- what each kind of row has
 abbrev scopes_in : FlatRow → Option ScopeRow
@@ -122,8 +124,8 @@ table_by t u e0 e1 e2 e3 e4 e5 e6 =
 -- No bytes are the text of two tables.
 pub one_table : OneValue → OneTable
 one_table law bytes t u h k =
-    let l = sym (text_lines bytes t h) ∙ text_lines bytes u k in
-    let r = same_rows law (flat_rows t) (flat_rows u) h.has.rows k.has.rows (behind_first first_line _ _ l) in
+    let l = sym (text_lines AreTableLines table_lines bytes (flat_lines t) (t, h.has, refl) h.text) ∙ text_lines AreTableLines table_lines bytes (flat_lines u) (u, k.has, refl) k.text in
+    let r = same_rows law (flat_rows t) (flat_rows u) h.has.rows k.has.rows l in
     let scopes = sym (scopes_of t) ∙ (ap (filter_map scopes_in) r ∙ scopes_of u) in
     table_by t u (scopes_same t.scopes u.scopes h.has.root k.has.root scopes) (sym (inputs_of t) ∙ (ap (filter_map inputs_in) r ∙ inputs_of u))
     (sym (constants_of t) ∙ (ap (filter_map constants_in) r ∙ constants_of u)) (sym (nodes_of t) ∙ (ap (filter_map nodes_in) r ∙ nodes_of u))
@@ -138,36 +140,13 @@ smallest_has : HasText smallest
 unfolding smallest
 smallest_has = record { root = refl; rows = (omega arith, tt); scopes = omega arith; constants = omega arith; nodes = omega arith; names = omega arith; places = omega arith }
 
-goes_on_none : (bytes : List ℕ) → GoesOn bytes 0
-goes_on_none bytes = record { whole = omega arith; table = smallest; has = smallest_has; rest = flat_lines smallest; begins = refl }
+-- a text goes on with no line
+pub none_goes_on : CanGoOn AreTableLines []
+none_goes_on = (flat_lines smallest, (smallest, smallest_has, refl))
 
--- the first of whole lines that a text goes on with
-first_whole : (ls : List (List ℕ)) (t : Table) (rest : List (List ℕ)) → 1 ≤ length ls → flat_lines t ≡ take 1 ls ++ rest → ls ≡ first_line ∷ drop 1 ls
-first_whole [] t rest l e = absurd (omega arith)
-first_whole (x ∷ ls) t rest l e =
-    let q : first_line ≡ x = cc in ap (λ (y : List ℕ). y ∷ ls) (sym q)
-
--- Bytes without a whole line, or with another first line, are refused at line 1.
-pub refused_first : (bytes : List ℕ) → ((more : List (List ℕ)) → whole_lines bytes ≡ first_line ∷ more → ⊥) → IsFirstWrongLine bytes 1
-refused_first bytes h = record {
-  no_text = λ t d. h (map row_line (flat_rows t)) (text_lines bytes t d);
-  before = 0;
-  is = refl;
-  goes = goes_on_none bytes;
-  ends = λ g. h (drop 1 (whole_lines bytes)) (first_whole (whole_lines bytes) g.table g.rest g.whole g.begins);
-}
-
--- Bytes whose lines are those of rows with a root are the text of the rows' table.
-pub text_read : (bytes front behind : List ℕ) (s : Table) (p : ℕ) → IsBegun s p → p ≡ 7 → behind ≡ flat_map ended (map row_line (rows_so_far s p)) → bytes ≡ front ++ 10 ∷ behind
-    → front ≡ first_line → IsTextOf bytes s
-text_read bytes front behind s p b seven e c f =
-    let q : rows_so_far s p ≡ flat_rows s = ap (rows_so_far s) seven in
-    let P : List FlatRow → Type 0 = AllByRecursion RowFits in record {
-      has = record { root = b.root; rows = subst P q b.fit; scopes = b.scopes; constants = b.constants; nodes = b.nodes; names = b.names; places = b.places };
-      text =
-          c ∙ (ap (λ (x : List ℕ). x ++ 10 ∷ behind) f
-          ∙ ap (λ (x : List ℕ). ended first_line ++ x) (e ∙ ap (λ (rs : List FlatRow). flat_map ended (map row_line rs)) q));
-    }
+-- the empty list of lines is no text's
+pub none_is_no_text : AreTableLines [] → ⊥
+none_is_no_text (t, h, e) = cc
 
 -- A table with a text has one root.
 no_inner_root : (xs : List ScopeRow) (more : List FlatRow) → AllByRecursion RowFits (map scope_row xs ++ more) → (s p : ℕ) (k : ScopeKind) → ScopeIs xs s p k → k ≢ Root

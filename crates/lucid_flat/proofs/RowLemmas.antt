@@ -1,39 +1,23 @@
 -- The row of a line: read from it, and no other; a line is one row's.
-use Rattle.std.proofs.Common.{◌≡◌, ℕ, false, List, [], ◌∷◌, ◌++◌, Option, Some, None, refl, sym, ap, ◌∙◌, subst}
+use Rattle.std.proofs.Common.{◌≡◌, ℕ, false, List, ◌∷◌, ◌++◌, Option, Some, None, refl, sym, ap, ◌∙◌, subst}
 use Rattle.std.specs.Prelude.{codes}
 use Rattle.std.specs.Str.{bytes_eq}
-use Rattle.std.proofs.lemmas.Bool.{eqb-false}
 use Rattle.std.proofs.lemmas.List.Elements.{recursion_from_All}
 use Rattle.std.proofs.lemmas.Option.{none-some, same_Some}
 use Rattle.std.proofs.lemmas.Slice.Eq.{bytes_eq-Decides}
 use Rattle.lucid_value.specs.Plain.{PlainValue}
 use Rattle.lucid_equations.specs.declared.rows.Entry.{Entry}
 use Rattle.lucid_equations.specs.declared.rows.Entry.TheVariants.{Plain, Parameter, Current, Called}
+use Rattle.lucid_texts.specs.Words.{HasNone}
+use Rattle.lucid_texts.specs.TextLines.{Lacks}
+use Rattle.lucid_texts.specs.Laws.{OneValue}
+use Rattle.lucid_texts.proofs.Bytes.{one_cut, lacks_middle}
 use Rattle.lucid_flat.specs.FlatText.{FlatRow, scope_row, input_row, constant_row, node_row, name_row, place_row, root_row, entry_word, row_line}
 use Rattle.lucid_flat.specs.FlatTables.{RowFits}
-use Rattle.lucid_flat.specs.Laws.{OneValue}
-use Rattle.lucid_flat.specs.Words.{HasNone}
 use Rattle.lucid_flat.specs.RowTails.{tail_row}
 use Rattle.lucid_flat.specs.RowLines.{IsRowOf}
-use Rattle.lucid_flat.proofs.Bytes.{Lacks}
 use Rattle.lucid_flat.proofs.RowsGiven.{row_head, row_tail, line_parts, head_lacks, IsNoConstant, tail_row-parts}
 use Rattle.lucid_flat.proofs.TailsRead.{tail_read}
-
--- where bytes are cut at a byte that the front lacks, they are cut in one way
-pub one_cut : (c : ℕ) (v w x y : List ℕ) → Lacks c v → Lacks c w → v ++ c ∷ x ≡ w ++ c ∷ y → (v ≡ w) × (x ≡ y)
-one_cut c [] [] x y h k e = (refl, cc)
-one_cut c [] (b ∷ w) x y h k e =
-    let q : c ≡ b = cc in absurd (eqb-false b c k.0 (sym q))
-one_cut c (a ∷ v) [] x y h k e =
-    let q : a ≡ c = cc in absurd (eqb-false a c h.0 q)
-one_cut c (a ∷ v) (b ∷ w) x y h k e =
-    let q : a ≡ b = cc in
-    let r = one_cut c v w x y h.1 k.1 (cc) in (cc (q, r.0), r.1)
-
--- bytes that lack a byte don't have it
-lacks_middle : (c : ℕ) (v x : List ℕ) → Lacks c (v ++ c ∷ x) → ⊥
-lacks_middle c [] x h = eqb-false c c h.0 refl
-lacks_middle c (a ∷ v) x h = lacks_middle c v x h.1
 
 -- a line has a blank
 pub no_blank : (line : List ℕ) → HasNone 32 line → (r : FlatRow) → RowFits r → line ≡ row_line r → ⊥

@@ -14,14 +14,16 @@ use Rattle.lucid_equations.specs.declared.rows.NameRow.{NameRow}
 use Rattle.lucid_equations.specs.declared.rows.PlaceRow.{PlaceRow}
 use Rattle.lucid_flat.specs.FlatText.{FlatRow, scope_row, input_row, constant_row, node_row, name_row, place_row, root_row, kind_word, node_words, entry_word, entry_number, row_line}
 use Rattle.lucid_flat.specs.FlatTables.{NodeFits, RowFits}
-use Rattle.lucid_flat.specs.Words.{words_of, exactly}
+use Rattle.lucid_texts.specs.Words.{words_of}
+use Rattle.lucid_texts.specs.TextLines.{Lacks}
+use Rattle.lucid_texts.proofs.Bytes.{IsSolid, solid_lacks, decimal_solid, decimals_solid}
+use Rattle.lucid_texts.proofs.WordLemmas.{spaced_words, take_number-decimal}
+use Rattle.lucid_flat.specs.Words.{exactly}
 use Rattle.lucid_flat.specs.RowTails.{kind_of, scope_of, input_of, node_row_of, entry_of, name_of, place_of, root_of, tail_row}
-use Rattle.lucid_flat.proofs.Bytes.{Lacks, IsSolid, solid_lacks, decimal_solid, decimals_solid}
 use Rattle.lucid_flat.proofs.LineBytes.{node_solid, kind_solid, entry_solid}
 use Rattle.lucid_flat.proofs.NumberLemmas.{few_numbers_of-words}
 use Rattle.lucid_flat.proofs.NodesRead.{node_of-words}
 use Rattle.lucid_flat.proofs.Threes.{as_three, exactly-words}
-use Rattle.lucid_flat.proofs.WordLemmas.{spaced_words, take_number-decimal}
 
 -- the first word of a row's line, and the words behind it
 abbrev pub row_head : FlatRow → List ℕ
@@ -71,11 +73,11 @@ kind_of-word FrozenScope h = refl
 
 scope_of-words : (r : ScopeRow) → r.parent < 2 ^ 32 → r.kind ≢ Root → scope_of (decimal r.parent ∷ kind_word r.kind ∷ []) ≡ Some r
 unfolding scope_of
-scope_of-words r h k = rw (take_number-decimal r.parent (kind_word r.kind ∷ []) h, kind_of-word r.kind k) refl
+scope_of-words r h k = rw (take_number-decimal (2 ^ 32) r.parent (kind_word r.kind ∷ []) (omega arith) h, kind_of-word r.kind k) refl
 
 node_row_of-words : (r : NodeRow) → r.scope < 2 ^ 32 → NodeFits r.node → node_row_of (decimal r.scope ∷ node_words r.node) ≡ Some r
 unfolding node_row_of
-node_row_of-words r h k = rw (take_number-decimal r.scope (node_words r.node) h, node_of-words r.node k) refl
+node_row_of-words r h k = rw (take_number-decimal (2 ^ 32) r.scope (node_words r.node) (omega arith) h, node_of-words r.node k) refl
 
 entry_of-word : (e : Entry) → entry_of (entry_word e) (entry_number e) ≡ Some e
 entry_of-word (Plain a) = refl
@@ -93,7 +95,7 @@ name_of-words r h k =
 place_of-words : (r : PlaceRow) → RowFits (place_row r) → place_of (decimal r.scope ∷ decimal r.name ∷ map decimal r.actuals) ≡ Some r
 unfolding place_of
 place_of-words r h =
-    rw (take_number-decimal r.scope (decimal r.name ∷ map decimal r.actuals) h.0, take_number-decimal r.name (map decimal r.actuals) h.1, few_numbers_of-words r.actuals h.2 h.3) refl
+    rw (take_number-decimal (2 ^ 32) r.scope (decimal r.name ∷ map decimal r.actuals) (omega arith) h.0, take_number-decimal (2 ^ 32) r.name (map decimal r.actuals) (omega arith) h.1, few_numbers_of-words r.actuals h.2 h.3) refl
 
 root_of-words : (n : ℕ) → n < 2 ^ 32 → root_of (decimal n ∷ []) ≡ Some n
 unfolding root_of
@@ -117,19 +119,19 @@ name_tail (Called a) t = refl
 pub tail_row-parts : (r : FlatRow) → RowFits r → IsNoConstant r → tail_row (row_head r) (row_tail r) ≡ Some r
 unfolding tail_row input_of
 tail_row-parts (scope_row r) h n =
-    let words = spaced_words (decimal r.parent) (kind_word r.kind ∷ []) (decimal_solid r.parent h.0, (kind_solid r.kind, tt)) in
+    let words = spaced_words (decimal r.parent) (kind_word r.kind ∷ []) (decimal_solid r.parent (omega (arith, h.0)), (kind_solid r.kind, tt)) in
     ap (option_map scope_row) (ap scope_of words ∙ scope_of-words r h.0 h.1)
 tail_row-parts (input_row n) h c = rw h refl
 tail_row-parts (constant_row v) h n = absurd n
 tail_row-parts (node_row r) h n =
-    let words = spaced_words (decimal r.scope) (node_words r.node) (decimal_solid r.scope h.0, node_solid r.node h.1) in
+    let words = spaced_words (decimal r.scope) (node_words r.node) (decimal_solid r.scope (omega (arith, h.0)), node_solid r.node h.1) in
     ap (option_map node_row) (ap node_row_of words ∙ node_row_of-words r h.0 h.1)
 tail_row-parts (name_row r) h n =
-    let words = spaced_words (decimal r.scope) (decimal (entry_number r.kind) ∷ []) (decimal_solid r.scope h.0, (decimal_solid (entry_number r.kind) h.1, tt)) in
+    let words = spaced_words (decimal r.scope) (decimal (entry_number r.kind) ∷ []) (decimal_solid r.scope (omega (arith, h.0)), (decimal_solid (entry_number r.kind) (omega (arith, h.1)), tt)) in
     name_tail r.kind (row_tail (name_row r)) ∙ ap (option_map name_row) (ap (name_of (entry_word r.kind)) words ∙ name_of-words r h.0 h.1)
 tail_row-parts (place_row r) h n =
-    let words = spaced_words (decimal r.scope) (decimal r.name ∷ map decimal r.actuals) (decimal_solid r.scope h.0, (decimal_solid r.name h.1, decimals_solid r.actuals h.2)) in
+    let words = spaced_words (decimal r.scope) (decimal r.name ∷ map decimal r.actuals) (decimal_solid r.scope (omega (arith, h.0)), (decimal_solid r.name (omega (arith, h.1)), decimals_solid (2 ^ 32) (omega arith) r.actuals h.2)) in
     ap (option_map place_row) (ap place_of words ∙ place_of-words r h)
 tail_row-parts (root_row n) h c =
-    let words = spaced_words (decimal n) [] (decimal_solid n h, tt) in
+    let words = spaced_words (decimal n) [] (decimal_solid n (omega (arith, h)), tt) in
     ap (option_map root_row) (ap root_of words ∙ root_of-words n h)

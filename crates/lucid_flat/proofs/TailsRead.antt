@@ -7,7 +7,6 @@ use Rattle.std.specs.Str.{bytes_eq}
 use Rattle.std.proofs.lemmas.List.Splits.{join_with_byte-slice_split}
 use Rattle.std.proofs.lemmas.Option.{option_and_then_some, cond_some, same_Some}
 use Rattle.lucid_value.specs.Names.{is_name}
-use Rattle.lucid_equations.specs.Ranges.{EachBelow}
 use Rattle.lucid_equations.specs.declared.rows.ScopeKind.{ScopeKind}
 use Rattle.lucid_equations.specs.declared.rows.ScopeKind.TheVariants.{Root, Called as CalledScope, Frozen as FrozenScope}
 use Rattle.lucid_equations.specs.declared.rows.ScopeRow.{ScopeRow}
@@ -17,15 +16,16 @@ use Rattle.lucid_equations.specs.declared.rows.NodeRow.{NodeRow}
 use Rattle.lucid_equations.specs.declared.rows.NameRow.{NameRow}
 use Rattle.lucid_equations.specs.declared.rows.PlaceRow.{PlaceRow}
 use Rattle.lucid_flat.specs.FlatText.{FlatRow, scope_row, input_row, node_row, name_row, place_row, root_row, kind_word, entry_word, entry_number, row_line}
-use Rattle.lucid_flat.specs.FlatTables.{RowFits}
-use Rattle.lucid_flat.specs.Words.{words_of, few_numbers_of, take_word, take_number, is_end, exactly, listed}
+use Rattle.lucid_flat.specs.FlatTables.{Are32, RowFits}
+use Rattle.lucid_texts.specs.Words.{words_of, take_word, take_number, is_end}
+use Rattle.lucid_texts.proofs.WordLemmas.{taken}
+use Rattle.lucid_flat.specs.Words.{few_numbers_of, exactly, listed}
 use Rattle.lucid_flat.specs.RowTails.{kind_of, scope_of, input_of, node_row_of, entry_of, name_of, place_of, root_of, tail_row}
 use Rattle.lucid_flat.proofs.Chosen.{by_word, no_word}
 use Rattle.lucid_flat.proofs.NodesRead.{node_read}
 use Rattle.lucid_flat.proofs.NumberLemmas.{few_read}
 use Rattle.lucid_flat.proofs.RowsGiven.{row_head, row_rest, line_parts}
 use Rattle.lucid_flat.proofs.Threes.{exactly_read}
-use Rattle.lucid_flat.proofs.WordLemmas.{taken}
 
 -- a kind that was read has its word, and is no root's
 kind_by : (w : List ℕ) (k : ScopeKind) → ((w ≡ codes "called") × (Some CalledScope ≡ Some k)) ⊎ (cond (bytes_eq w (codes "frozen")) (Some FrozenScope) None ≡ Some k)
@@ -55,11 +55,11 @@ Reads ws r = (ws ≡ row_rest r) × RowFits r
 scope_read : (ws : List (List ℕ)) (r : ScopeRow) → scope_of ws ≡ Some r → Reads ws (scope_row r)
 unfolding scope_of
 scope_read ws r e =
-    option_and_then_some _ (take_number ws) r e (λ p t k.
+    option_and_then_some _ (take_number (2 ^ 32) ws) r e (λ p t k.
     option_and_then_some _ (take_word p.1) r k (λ x u l.
     option_and_then_some _ (kind_of x.0) r l (λ kind v m.
     let q = cond_some (is_end x.1) (record { parent = p.0; kind = kind }) r m in
-    let d = taken ws p t in
+    let d = taken (2 ^ 32) ws p t in
     let g = kind_read x.0 kind v in
     let words = d.0 ∙ ap (λ (us : List (List ℕ)). decimal p.0 ∷ us) (word_taken p.1 x u ∙ (ap (λ (us : List (List ℕ)). x.0 ∷ us) (no_word x.1 q.0) ∙ ap (λ (w : List ℕ). w ∷ []) g.0)) in
     let P : ScopeRow → Type 0 = λ s. Reads ws (scope_row s) in subst P q.1 (words, (d.1, g.1)))))
@@ -67,9 +67,9 @@ scope_read ws r e =
 node_row_read : (ws : List (List ℕ)) (r : NodeRow) → node_row_of ws ≡ Some r → Reads ws (node_row r)
 unfolding node_row_of
 node_row_read ws r e =
-    option_and_then_some _ (take_number ws) r e (λ s t k.
+    option_and_then_some _ (take_number (2 ^ 32) ws) r e (λ s t k.
     option_and_then_some _ _ r k (λ n u l.
-    let d = taken ws s t in
+    let d = taken (2 ^ 32) ws s t in
     let g = node_read s.1 n u in
     let P : NodeRow → Type 0 = λ x. Reads ws (node_row x) in
     subst P (same_Some (record { scope = s.0; node = n }) r l) (d.0 ∙ ap (λ (us : List (List ℕ)). decimal s.0 ∷ us) g.0, (d.1, g.1))))
@@ -116,7 +116,7 @@ name_read w ws r e =
     let d = exactly_read 2 ws ns t in
     let g = entry_read w ns.second x u in
     let both : listed ns ≡ ns.first ∷ ns.second ∷ [] = ap (λ i. take i (ns.first ∷ ns.second ∷ ns.third ∷ [])) d.1 in
-    let below = subst (EachBelow (2 ^ 32)) both d.0.1 in
+    let below = subst (Are32) both d.0.1 in
     let words = (d.0.0 ∙ ap (map decimal) both) ∙ ap (λ (n : ℕ). decimal ns.first ∷ decimal n ∷ []) g.1 in
     let P : NameRow → Type 0 = λ y. (w ≡ entry_word y.kind) × Reads ws (name_row y) in
     subst P (same_Some (record { scope = ns.first; kind = x }) r l) (g.0, (words, (below.0, subst (λ n. n < 2 ^ 32) g.1 below.1.0)))))
@@ -124,11 +124,11 @@ name_read w ws r e =
 place_read : (ws : List (List ℕ)) (r : PlaceRow) → place_of ws ≡ Some r → Reads ws (place_row r)
 unfolding place_of
 place_read ws r e =
-    option_and_then_some _ (take_number ws) r e (λ s t k.
-    option_and_then_some _ (take_number s.1) r k (λ n u l.
+    option_and_then_some _ (take_number (2 ^ 32) ws) r e (λ s t k.
+    option_and_then_some _ (take_number (2 ^ 32) s.1) r k (λ n u l.
     option_and_then_some _ (few_numbers_of n.1) r l (λ ns v m.
-    let d = taken ws s t in
-    let g = taken s.1 n u in
+    let d = taken (2 ^ 32) ws s t in
+    let g = taken (2 ^ 32) s.1 n u in
     let f = few_read n.1 ns v in
     let words = d.0 ∙ ap (λ (us : List (List ℕ)). decimal s.0 ∷ us) (g.0 ∙ ap (λ (us : List (List ℕ)). decimal n.0 ∷ us) f.0) in
     let P : PlaceRow → Type 0 = λ x. Reads ws (place_row x) in
@@ -141,7 +141,7 @@ root_read ws n e =
     let d = exactly_read 1 ws ns t in
     let first : listed ns ≡ ns.first ∷ [] = ap (λ i. take i (ns.first ∷ ns.second ∷ ns.third ∷ [])) d.1 in
     let P : ℕ → Type 0 = λ x. Reads ws (root_row x) in
-    subst P (same_Some ns.first n k) (d.0.0 ∙ ap (map decimal) first, (subst (EachBelow (2 ^ 32)) first d.0.1).0))
+    subst P (same_Some ns.first n k) (d.0.0 ∙ ap (map decimal) first, (subst (Are32) first d.0.1).0))
 
 -- the line of the first word and what is behind it
 abbrev pub HasLine : (w t : List ℕ) → FlatRow → Type 0

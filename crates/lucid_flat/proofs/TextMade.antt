@@ -10,7 +10,8 @@ use Rattle.lucid_equations.specs.declared.rows.ScopeKind.{ScopeKind}
 use Rattle.lucid_equations.specs.declared.rows.ScopeKind.TheVariants.{Root}
 use Rattle.lucid_equations.specs.declared.rows.ScopeRow.{ScopeRow}
 use Rattle.lucid_equations.specs.declared.table.Table.{Table}
-use Rattle.lucid_flat.specs.FlatText.{FlatRow, scope_row, input_row, constant_row, node_row, name_row, place_row, root_row, flat_rows, row_line, first_line, ended, flat_text}
+use Rattle.lucid_texts.specs.TextLines.{ended, text_of}
+use Rattle.lucid_flat.specs.FlatText.{FlatRow, scope_row, input_row, constant_row, node_row, name_row, place_row, root_row, flat_rows, row_line, first_line, flat_text}
 use Rattle.lucid_flat.specs.FlatTables.{RowFits}
 use Rattle.lucid_flat.specs.Shown.{IsNoRoot, line_of}
 
@@ -18,7 +19,7 @@ use Rattle.lucid_flat.specs.Shown.{IsNoRoot, line_of}
 abbrev pub lines : List FlatRow → List ℕ
 lines rs = flat_map line_of rs
 
-pub lines-ended : (rs : List FlatRow) → flat_map ended (map row_line rs) ≡ lines rs
+pub lines-ended : (rs : List FlatRow) → text_of (map row_line rs) ≡ lines rs
 lines-ended [] = refl
 lines-ended (r ∷ rs) = ap (λ (x : List ℕ). line_of r ++ x) (lines-ended rs)
 

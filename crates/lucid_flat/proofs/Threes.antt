@@ -1,18 +1,19 @@
 -- One, two or three numbers: what is read has the words that it is read from, and numbers are read from their words.
-use Rattle.std.proofs.Common.{◌≡◌, ℕ, ◌<◌, ◌≤◌, ◌^◌, Bool, true, false, cond, List, [], ◌∷◌, map, length, get_or, Option, Some, None, ◌⊎◌, inl, inr, refl, sym, ap, ◌∙◌, subst, arith}
+use Rattle.std.proofs.Common.{◌≡◌, ℕ, ◌≤◌, ◌^◌, true, false, cond, List, [], ◌∷◌, map, length, get_or, Option, Some, None, ◌⊎◌, inl, inr, refl, ap, ◌∙◌, subst, arith}
 use Rattle.std.specs.Prelude.{decimal, ◌==◌}
 use Rattle.std.specs.Option.{option_and_then}
 use Rattle.std.proofs.lemmas.Bool.{eqb-true, eq-eqb}
 use Rattle.std.proofs.lemmas.Option.{option_and_then_some, cond_some, same_Some}
-use Rattle.lucid_equations.specs.Ranges.{EachBelow}
+use Rattle.lucid_texts.specs.Words.{take_number, is_end}
+use Rattle.lucid_texts.proofs.WordLemmas.{taken, take_number-decimal}
 use Rattle.lucid_flat.specs.declared.words.Three.{Three}
-use Rattle.lucid_flat.specs.Words.{take_number, is_end, three_of, exactly, listed}
+use Rattle.lucid_flat.specs.FlatTables.{Are32}
+use Rattle.lucid_flat.specs.Words.{three_of, exactly, listed}
 use Rattle.lucid_flat.proofs.Chosen.{by_test, no_word}
-use Rattle.lucid_flat.proofs.WordLemmas.{taken, take_number-decimal}
 
 -- the words are those of the numbers, which are of 32 bits
 abbrev pub AreWordsOf : List (List ℕ) → Three → Type 0
-AreWordsOf ws ns = (ws ≡ map decimal (listed ns)) × EachBelow (2 ^ 32) (listed ns)
+AreWordsOf ws ns = (ws ≡ map decimal (listed ns)) × Are32 (listed ns)
 
 abbrev one : (a : ℕ) → Three
 one a = record { first = a; second = 0; third = 0; count = 1 }
@@ -28,42 +29,42 @@ words_of ws vs ns ms e h k =
     let P : Three → Type 0 = AreWordsOf ws in subst P (same_Some ns ms h) (e ∙ k.0, k.1)
 
 -- a number in front of words is taken, and the last one is
-more_taken : (ws vs : List (List ℕ)) (a : ℕ × List (List ℕ)) → take_number ws ≡ Some a → a.1 ≡ vs → ws ≡ decimal a.0 ∷ vs
-more_taken ws vs a e h = (taken ws a e).0 ∙ ap (λ (us : List (List ℕ)). decimal a.0 ∷ us) h
+more_taken : (ws vs : List (List ℕ)) (a : ℕ × List (List ℕ)) → take_number (2 ^ 32) ws ≡ Some a → a.1 ≡ vs → ws ≡ decimal a.0 ∷ vs
+more_taken ws vs a e h = (taken (2 ^ 32) ws a e).0 ∙ ap (λ (us : List (List ℕ)). decimal a.0 ∷ us) h
 
 -- what is made of a third number, of a second, and of a first
 abbrev third : (a b : ℕ) → ℕ × List (List ℕ) → Option Three
 third a b c = cond (is_end c.1) (Some (three a b c.0)) None
 
 abbrev second : (a : ℕ) → ℕ × List (List ℕ) → Option Three
-second a b = cond (is_end b.1) (Some (two a b.0)) (option_and_then (third a b.0) (take_number b.1))
+second a b = cond (is_end b.1) (Some (two a b.0)) (option_and_then (third a b.0) (take_number (2 ^ 32) b.1))
 
 abbrev first : ℕ × List (List ℕ) → Option Three
-first a = cond (is_end a.1) (Some (one a.0)) (option_and_then (second a.0) (take_number a.1))
+first a = cond (is_end a.1) (Some (one a.0)) (option_and_then (second a.0) (take_number (2 ^ 32) a.1))
 
 module _ (ws : List (List ℕ)) (ns : Three) where
-  by_third : (a b c : ℕ × List (List ℕ)) → take_number ws ≡ Some a → take_number a.1 ≡ Some b → take_number b.1 ≡ Some c
+  by_third : (a b c : ℕ × List (List ℕ)) → take_number (2 ^ 32) ws ≡ Some a → take_number (2 ^ 32) a.1 ≡ Some b → take_number (2 ^ 32) b.1 ≡ Some c
       → third a.0 b.0 c ≡ Some ns → AreWordsOf ws ns
   by_third a b c t u v e =
       let q = cond_some (is_end c.1) (three a.0 b.0 c.0) ns e in
       words_of ws _ (three a.0 b.0 c.0) ns (more_taken ws _ a t (more_taken a.1 _ b u (more_taken b.1 [] c v (no_word c.1 q.0)))) (ap Some q.1)
-      (refl, ((taken ws a t).1, ((taken a.1 b u).1, ((taken b.1 c v).1, tt))))
+      (refl, ((taken (2 ^ 32) ws a t).1, ((taken (2 ^ 32) a.1 b u).1, ((taken (2 ^ 32) b.1 c v).1, tt))))
 
-  by_second : (a b : ℕ × List (List ℕ)) → take_number ws ≡ Some a → take_number a.1 ≡ Some b
-      → ((is_end b.1 ≡ true) × (Some (two a.0 b.0) ≡ Some ns)) ⊎ ((is_end b.1 ≡ false) × (option_and_then (third a.0 b.0) (take_number b.1) ≡ Some ns)) → AreWordsOf ws ns
+  by_second : (a b : ℕ × List (List ℕ)) → take_number (2 ^ 32) ws ≡ Some a → take_number (2 ^ 32) a.1 ≡ Some b
+      → ((is_end b.1 ≡ true) × (Some (two a.0 b.0) ≡ Some ns)) ⊎ ((is_end b.1 ≡ false) × (option_and_then (third a.0 b.0) (take_number (2 ^ 32) b.1) ≡ Some ns)) → AreWordsOf ws ns
   by_second a b t u (inl e) =
-      words_of ws _ (two a.0 b.0) ns (more_taken ws _ a t (more_taken a.1 [] b u (no_word b.1 e.0))) e.1 (refl, ((taken ws a t).1, ((taken a.1 b u).1, tt)))
-  by_second a b t u (inr e) = option_and_then_some (third a.0 b.0) (take_number b.1) ns e.1 (λ c v k. by_third a b c t u v k)
+      words_of ws _ (two a.0 b.0) ns (more_taken ws _ a t (more_taken a.1 [] b u (no_word b.1 e.0))) e.1 (refl, ((taken (2 ^ 32) ws a t).1, ((taken (2 ^ 32) a.1 b u).1, tt)))
+  by_second a b t u (inr e) = option_and_then_some (third a.0 b.0) (take_number (2 ^ 32) b.1) ns e.1 (λ c v k. by_third a b c t u v k)
 
-  by_first : (a : ℕ × List (List ℕ)) → take_number ws ≡ Some a
-      → ((is_end a.1 ≡ true) × (Some (one a.0) ≡ Some ns)) ⊎ ((is_end a.1 ≡ false) × (option_and_then (second a.0) (take_number a.1) ≡ Some ns)) → AreWordsOf ws ns
-  by_first a t (inl e) = words_of ws _ (one a.0) ns (more_taken ws [] a t (no_word a.1 e.0)) e.1 (refl, ((taken ws a t).1, tt))
-  by_first a t (inr e) = option_and_then_some (second a.0) (take_number a.1) ns e.1 (λ b u k. by_second a b t u (by_test (is_end b.1) _ _ (Some ns) k))
+  by_first : (a : ℕ × List (List ℕ)) → take_number (2 ^ 32) ws ≡ Some a
+      → ((is_end a.1 ≡ true) × (Some (one a.0) ≡ Some ns)) ⊎ ((is_end a.1 ≡ false) × (option_and_then (second a.0) (take_number (2 ^ 32) a.1) ≡ Some ns)) → AreWordsOf ws ns
+  by_first a t (inl e) = words_of ws _ (one a.0) ns (more_taken ws [] a t (no_word a.1 e.0)) e.1 (refl, ((taken (2 ^ 32) ws a t).1, tt))
+  by_first a t (inr e) = option_and_then_some (second a.0) (take_number (2 ^ 32) a.1) ns e.1 (λ b u k. by_second a b t u (by_test (is_end b.1) _ _ (Some ns) k))
 
 -- numbers that were read stand there
 pub three_read : (ws : List (List ℕ)) (ns : Three) → three_of ws ≡ Some ns → AreWordsOf ws ns
 unfolding three_of
-three_read ws ns e = option_and_then_some first (take_number ws) ns e (λ a t k. by_first ws ns a t (by_test (is_end a.1) _ _ (Some ns) k))
+three_read ws ns e = option_and_then_some first (take_number (2 ^ 32) ws) ns e (λ a t k. by_first ws ns a t (by_test (is_end a.1) _ _ (Some ns) k))
 
 pub exactly_read : (k : ℕ) (ws : List (List ℕ)) (ns : Three) → exactly k ws ≡ Some ns → AreWordsOf ws ns × (ns.count ≡ k)
 unfolding exactly
@@ -81,16 +82,16 @@ abbrev pub HasUpToThree : List ℕ → Type 0
 HasUpToThree ns = (1 ≤ length ns) × (length ns ≤ 3)
 
 -- numbers are read from their words
-pub three_of-words : (ns : List ℕ) → EachBelow (2 ^ 32) ns → HasUpToThree ns → three_of (map decimal ns) ≡ Some (as_three ns)
+pub three_of-words : (ns : List ℕ) → Are32 ns → HasUpToThree ns → three_of (map decimal ns) ≡ Some (as_three ns)
 unfolding three_of
 three_of-words [] h l = absurd (omega (arith, l.0))
-three_of-words (a ∷ []) h l = rw (take_number-decimal a [] h.0) refl
-three_of-words (a ∷ b ∷ []) h l = rw (take_number-decimal a (decimal b ∷ []) h.0, take_number-decimal b [] h.1.0) refl
+three_of-words (a ∷ []) h l = rw (take_number-decimal (2 ^ 32) a [] (omega arith) h.0) refl
+three_of-words (a ∷ b ∷ []) h l = rw (take_number-decimal (2 ^ 32) a (decimal b ∷ []) (omega arith) h.0, take_number-decimal (2 ^ 32) b [] (omega arith) h.1.0) refl
 three_of-words (a ∷ b ∷ c ∷ []) h l =
-    rw (take_number-decimal a (decimal b ∷ decimal c ∷ []) h.0, take_number-decimal b (decimal c ∷ []) h.1.0, take_number-decimal c [] h.1.1.0) refl
+    rw (take_number-decimal (2 ^ 32) a (decimal b ∷ decimal c ∷ []) (omega arith) h.0, take_number-decimal (2 ^ 32) b (decimal c ∷ []) (omega arith) h.1.0, take_number-decimal (2 ^ 32) c [] (omega arith) h.1.1.0) refl
 three_of-words (a ∷ b ∷ c ∷ d ∷ ds) h l = absurd (omega (arith, l.1))
 
-pub exactly-words : (ns : List ℕ) → EachBelow (2 ^ 32) ns → HasUpToThree ns → exactly (length ns) (map decimal ns) ≡ Some (as_three ns)
+pub exactly-words : (ns : List ℕ) → Are32 ns → HasUpToThree ns → exactly (length ns) (map decimal ns) ≡ Some (as_three ns)
 unfolding exactly
 exactly-words ns h l = rw (three_of-words ns h l, same (length ns)) refl
   where

@@ -1,9 +1,10 @@
--- Which tables have a text, and how far bytes go on as one.
-use Rattle.std.specs.Prelude.{◌≡◌, ◌≢◌, ℕ, ◌+◌, ◌<◌, ◌≤◌, ◌^◌, List, [], ◌∷◌, ◌++◌, length, take, IsTrue, ◌==◌}
-use Rattle.std.specs.List.{AllByRecursion, slice_split}
+-- Which tables have a text, and which bytes are none.
+use Rattle.std.specs.Prelude.{◌≡◌, ◌≢◌, ℕ, ◌<◌, ◌^◌, List, length, IsTrue}
+use Rattle.std.specs.List.{AllByRecursion}
 use Rattle.lucid_value.specs.Plain.{is_value}
 use Rattle.lucid_value.specs.Names.{is_name}
-use Rattle.lucid_equations.specs.Ranges.{EachBelow}
+use Rattle.lucid_texts.specs.Words.{AreBelow}
+use Rattle.lucid_texts.specs.TextLines as lines
 use Rattle.lucid_equations.specs.Sound.{ScopeIs}
 use Rattle.lucid_equations.specs.declared.rows.ScopeKind.{ScopeKind}
 use Rattle.lucid_equations.specs.declared.rows.ScopeKind.TheVariants.{Root}
@@ -22,7 +23,7 @@ abbrev pub Is32 : ℕ → Type 0
 Is32 n = n < 2 ^ 32
 
 abbrev pub Are32 : List ℕ → Type 0
-Are32 ns = EachBelow (2 ^ 32) ns
+Are32 ns = AreBelow (2 ^ 32) ns
 
 -- a list of the code, which has fewer than 2^32 items
 abbrev pub IsShort : {A : Type 0} → List A → Type 0
@@ -62,29 +63,10 @@ pub record IsTextOf (bytes : List ℕ) (t : Table) : Type 0 where
   pub has : HasText t
   pub text : bytes ≡ flat_text t
 
--- all but the last of some parts
-abbrev pub all_but_last : {A : Type 0} → List A → List A
-all_but_last [] = []
-all_but_last (x ∷ []) = []
-all_but_last (x ∷ y ∷ xs) = x ∷ all_but_last (y ∷ xs)
+-- the lines are those of a table's text
+abbrev pub AreTableLines : List (List ℕ) → Type 0
+AreTableLines ls = (t : Table) × HasText t × (ls ≡ flat_lines t)
 
--- the whole lines of the bytes, each without the byte 10 that ends it; what stands behind the last such byte is no whole line
-abbrev pub whole_lines : List ℕ → List (List ℕ)
-whole_lines bytes = all_but_last (slice_split (λ b. b == 10) bytes)
-
--- a table's text goes on with the first lines, which are whole
-pub record GoesOn (bytes : List ℕ) (lines : ℕ) : Type 0 where
-  pub whole : lines ≤ length (whole_lines bytes)
-  pub table : Table
-  pub has : HasText table
-  pub rest : List (List ℕ)
-  pub begins : flat_lines table ≡ take lines (whole_lines bytes) ++ rest
-
--- The bytes are no table's text, and the line, from 1, is the first with which none goes on: one goes on with all lines before it, and none
--- with it. Where the bytes end too early, it is the line after the last whole one.
-pub record IsFirstWrongLine (bytes : List ℕ) (line : ℕ) : Type 0 where
-  pub no_text : (t : Table) → IsTextOf bytes t → ⊥
-  pub before : ℕ
-  pub is : line ≡ before + 1
-  pub goes : GoesOn bytes before
-  pub ends : GoesOn bytes (before + 1) → ⊥
+-- The bytes are no table's text, and the line, from 1, is the first with which none goes on.
+abbrev pub IsFirstWrongLine : (bytes : List ℕ) → (line : ℕ) → Type 0
+IsFirstWrongLine bytes line = lines.IsFirstWrongLine AreTableLines bytes line

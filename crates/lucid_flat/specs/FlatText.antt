@@ -1,9 +1,10 @@
 -- The flat form: the text of an equation table. It has a first line, and then a line for each row, in the order of the lists; scope 0, which
 -- is the same in each table that has a text, has none. The words are this language's own.
 use Rattle.std.specs.Prelude.{ℕ, List, [], ◌∷◌, ◌++◌, map, drop, codes, decimal}
-use Rattle.std.specs.List.{flat_map, join_with_byte}
+use Rattle.std.specs.List.{join_with_byte}
 use Rattle.lucid_value.specs.Plain.{PlainValue}
 use Rattle.lucid_value.specs.ValueText.{value_text}
+use Rattle.lucid_texts.specs.TextLines.{text_of}
 use Rattle.lucid_ops.specs.declared.op.Op.{Op}
 use Rattle.lucid_ops.specs.declared.op.Op.TheVariants.{Add, Sub, Mul, Div, Mod, Pow, Neg, Abs, Eq, Ne, Lt, Le, Gt, Ge, Cmp, Not, Head, Tail, Cons, Append, Join, Length, Substr, Nth, MakeWord, MakeString, IsInt, IsWord, IsString, IsList, IsTruth, IsNull, IsAtom, IsEod, IsError}
 use Rattle.lucid_equations.specs.Rows.{parts}
@@ -162,10 +163,6 @@ first_line = codes "lucid flat 1"
 abbrev pub flat_lines : Table → List (List ℕ)
 flat_lines t = first_line ∷ map row_line (flat_rows t)
 
--- a line with the byte 10 that ends it
-abbrev pub ended : List ℕ → List ℕ
-ended line = line ++ 10 ∷ []
-
 -- The text of a table: its lines, each of them ended.
 abbrev pub flat_text : Table → List ℕ
-flat_text t = flat_map ended (flat_lines t)
+flat_text t = text_of (flat_lines t)

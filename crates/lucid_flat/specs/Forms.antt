@@ -9,7 +9,8 @@ use Rattle.lucid_equations.specs.declared.rows.Node.TheVariants.{Apply}
 use Rattle.lucid_flat.specs.declared.ops.OpWord.{OpWord}
 use Rattle.lucid_flat.specs.declared.words.Three.{Three}
 use Rattle.lucid_flat.specs.FlatText.{op_word, form_word, forms_with, node_numbers}
-use Rattle.lucid_flat.specs.Words.{◌>>=◌, take_word, three_of, exactly}
+use Rattle.lucid_texts.specs.Words.{◌>>=◌, take_word}
+use Rattle.lucid_flat.specs.Words.{three_of, exactly}
 
 -- the operator of a word
 unfoldable pub op_of : List ℕ → Option Op

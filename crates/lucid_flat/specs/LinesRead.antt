@@ -1,23 +1,25 @@
 -- Lines that were read, and what reading a text answers.
-use Rattle.std.specs.Prelude.{◌≡◌, ℕ, List, [], ◌∷◌, ◌++◌, map, Result, Ok, Err}
-use Rattle.std.specs.List.{flat_map}
+use Rattle.std.specs.Prelude.{◌≡◌, ℕ, false, if◌then◌else◌, List, [], ◌∷◌, map, Result, Ok, Err}
 use Rattle.lucid_equations.specs.declared.table.Table.{Table}
+use Rattle.lucid_flat.specs.declared.read.FlatLines.{FlatLines}
 use Rattle.lucid_flat.specs.declared.read.FlatRefusal.{FlatRefusal}
 use Rattle.lucid_flat.specs.declared.read.FlatRefusal.TheVariants.{Form, NoMemory}
-use Rattle.lucid_flat.specs.FlatText.{FlatRow, row_line, first_line, flat_lines, ended}
-use Rattle.lucid_flat.specs.FlatTables.{HasText, IsFirstWrongLine}
+use Rattle.lucid_flat.specs.FlatText.{FlatRow, row_line, first_line}
+use Rattle.lucid_flat.specs.FlatTables.{IsFirstWrongLine}
+use Rattle.lucid_flat.specs.Gathered.{rows_in, AreBegun}
 
--- the line is that of one more row
-abbrev pub AddsLine : (old new : List FlatRow) → (line : List ℕ) → Type 0
-AddsLine old new line = (r : FlatRow) × (new ≡ old ++ r ∷ []) × (line ≡ row_line r)
+-- the first line and those of some rows
+abbrev pub lines_of_rows : List FlatRow → List (List ℕ)
+lines_of_rows rs = first_line ∷ map row_line rs
 
--- no table's text goes on with the line behind those of the rows
-abbrev pub NoLineHere : List FlatRow → (line : List ℕ) → Type 0
-NoLineHere rs line = (t : Table) (more : List (List ℕ)) → HasText t → flat_lines t ≡ (first_line ∷ map row_line rs) ++ line ∷ more → ⊥
+-- the lines so far
+abbrev pub lines_in : FlatLines → List (List ℕ)
+lines_in l = if l.has_first then lines_of_rows (rows_in l.rows) else []
 
--- the bytes are the lines of the rows
-abbrev pub AreAllLines : List FlatRow → (bytes : List ℕ) → Type 0
-AreAllLines rs bytes = bytes ≡ flat_map ended (map row_line rs)
+-- the rows begin a text, and before the first line there is none
+pub record AreKept (l : FlatLines) : Type 0 where
+  pub begun : AreBegun l.rows
+  pub none : l.has_first ≡ false → rows_in l.rows ≡ []
 
 -- why bytes are refused: they are no table's text, from the line on; or for want of memory
 abbrev pub IsRefused : (bytes : List ℕ) → FlatRefusal → Type 0

@@ -1,9 +1,6 @@
 -- The row of a line.
-use Rattle.std.specs.Prelude.{◌≡◌, ℕ, List, Option, Some, None, IsTrue}
-use Rattle.lucid_value.specs.Plain.{PlainValue, is_value}
-use Rattle.lucid_value.specs.ValueText.{value_text}
+use Rattle.std.specs.Prelude.{◌≡◌, ℕ, List, Option, Some, None}
 use Rattle.lucid_value.specs.View.{plain}
-use Rattle.lucid_value.specs.declared.Value.{Value}
 use Rattle.lucid_flat.specs.declared.rows.Row.{Row}
 use Rattle.lucid_flat.specs.declared.rows.Row.TheVariants.{Scope, Input, Constant, Node, Name, Place, Root}
 use Rattle.lucid_flat.specs.FlatText.{FlatRow, scope_row, input_row, constant_row, node_row, name_row, place_row, root_row, row_line}
@@ -23,8 +20,3 @@ plain_row (Root n) = root_row n
 abbrev pub IsRowOf : List ℕ → Option FlatRow → Type 0
 IsRowOf line (Some r) = RowFits r × (line ≡ row_line r)
 IsRowOf line None = (r : FlatRow) → RowFits r → line ≡ row_line r → ⊥
-
--- the bytes are the text of this value; or they are no value's
-abbrev pub IsConstantOf : List ℕ → Option Value → Type 0
-IsConstantOf bytes (Some v) = IsTrue (is_value (plain v)) × (bytes ≡ value_text (plain v))
-IsConstantOf bytes None = (v : PlainValue) → IsTrue (is_value v) → bytes ≡ value_text v → ⊥

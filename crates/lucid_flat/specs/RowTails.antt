@@ -1,5 +1,5 @@
 -- How the row of a line is read from its first word and the words behind it. A constant is none of them: it is read as a value.
-use Rattle.std.specs.Prelude.{ℕ, List, Option, Some, None, codes, if◌then◌else◌}
+use Rattle.std.specs.Prelude.{ℕ, ◌^◌, List, Option, Some, None, codes, if◌then◌else◌}
 use Rattle.std.specs.Option.{option_map}
 use Rattle.std.specs.Str.{bytes_eq}
 use Rattle.lucid_value.specs.Names.{is_name}
@@ -12,7 +12,8 @@ use Rattle.lucid_equations.specs.declared.rows.NodeRow.{NodeRow}
 use Rattle.lucid_equations.specs.declared.rows.NameRow.{NameRow}
 use Rattle.lucid_equations.specs.declared.rows.PlaceRow.{PlaceRow}
 use Rattle.lucid_flat.specs.FlatText.{FlatRow, scope_row, input_row, node_row, name_row, place_row, root_row}
-use Rattle.lucid_flat.specs.Words.{◌>>=◌, words_of, take_word, take_number, few_numbers_of, is_end, exactly}
+use Rattle.lucid_texts.specs.Words.{◌>>=◌, words_of, take_word, take_number, is_end}
+use Rattle.lucid_flat.specs.Words.{few_numbers_of, exactly}
 use Rattle.lucid_flat.specs.Forms.{node_of}
 
 -- the kind of a scope that isn't the root
@@ -22,7 +23,7 @@ kind_of w = if bytes_eq w (codes "called") then Some CalledScope else (if bytes_
 -- the row of a scope: its parent and its kind, and no more
 unfoldable pub scope_of : List (List ℕ) → Option ScopeRow
 scope_of ws = do
-  p ← take_number ws
+  p ← take_number (2 ^ 32) ws
   k ← take_word p.1
   kind ← kind_of k.0
   if is_end k.1 then Some (record { parent = p.0; kind = kind }) else None
@@ -34,7 +35,7 @@ input_of t = if is_name t then Some t else None
 -- the row of a node: its scope, and the words of the node
 unfoldable pub node_row_of : List (List ℕ) → Option NodeRow
 node_row_of ws = do
-  s ← take_number ws
+  s ← take_number (2 ^ 32) ws
   n ← node_of s.1
   Some (record { scope = s.0; node = n })
 
@@ -55,8 +56,8 @@ name_of w ws = do
 -- the row of a call place: its scope, its name and its actuals
 unfoldable pub place_of : List (List ℕ) → Option PlaceRow
 place_of ws = do
-  s ← take_number ws
-  n ← take_number s.1
+  s ← take_number (2 ^ 32) ws
+  n ← take_number (2 ^ 32) s.1
   ns ← few_numbers_of n.1
   Some (record { scope = s.0; name = n.0; actuals = ns })
 

@@ -4,13 +4,14 @@ ghost use Rattle.std.specs.List.{find};
 ghost use Rattle.std.specs.Option.{option_copied};
 ghost use Rattle.lucid_flat.specs.FlatText.{form_word, forms_with, node_numbers, node_words};
 ghost use Rattle.lucid_flat.specs.FlatTables.{NodeFits};
-ghost use Rattle.lucid_flat.specs.Words.{words_left, spaced};
+ghost use Rattle.lucid_texts.specs.Words.{words_left, spaced};
 ghost use Rattle.lucid_flat.specs.Forms.{has_form, form_node, apply_node, node_of};
 
 use crate::ops::{op_of, op_word};
-use crate::put::{put_number, put_numbers, put_word};
-use crate::words::{Three, exactly, next_three, next_word};
+use crate::put::put_numbers;
+use crate::words::{Three, exactly, next_three};
 use lucid_equations::Node;
+use lucid_texts::{next_word, put_word};
 use std::alloc::AllocError;
 
 // The word of a node's form.

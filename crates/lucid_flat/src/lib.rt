@@ -13,6 +13,4 @@ mod put;
 mod read;
 mod rows;
 mod show;
-#[cfg(test)]
-mod tests;
 mod words;

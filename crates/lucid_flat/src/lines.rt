@@ -7,8 +7,9 @@ ghost use Rattle.lucid_flat.specs.FlatTables.{RowFits};
 ghost use Rattle.lucid_flat.specs.Shown.{IsNoRoot, line_of};
 
 use crate::forms::put_node;
-use crate::put::{put_number, put_numbers, put_word};
+use crate::put::{put_number, put_numbers};
 use lucid_equations::{Entry, NameRow, NodeRow, PlaceRow, ScopeKind, ScopeRow};
+use lucid_texts::put_word;
 use lucid_value::{Name, Value};
 use std::alloc::{AllocError, Global};
 

@@ -1,17 +1,17 @@
 //! The table that a text is.
-ghost use Rattle.std.specs.Prelude.{◌≡◌, ◌+◌, ◌<◌, ◌^◌, [], ◌++◌, length, true, IfOk, IfErr, MatchOption};
+ghost use Rattle.std.specs.Prelude.{◌≡◌, ◌∷◌, ◌++◌, [], IfOk, IfErr};
 ghost use Rattle.std.specs.Bool.{MatchBool};
-ghost use Rattle.lucid_flat.specs.FlatText.{first_line, ended};
-ghost use Rattle.lucid_flat.specs.FlatTables.{HasOneRoot, IsTextOf, IsFirstWrongLine};
-ghost use Rattle.lucid_flat.specs.Gathered.{part_in, rows_in, AreBegun};
-ghost use Rattle.lucid_flat.specs.LinesRead.{AddsLine, NoLineHere, AreAllLines, IsRefused, Gives};
+ghost use Rattle.lucid_texts.specs.TextLines.{CannotGoOn};
+ghost use Rattle.lucid_flat.specs.FlatTables.{AreTableLines, HasOneRoot, IsTextOf};
+ghost use Rattle.lucid_flat.specs.Gathered.{rows_in, AreBegun};
+ghost use Rattle.lucid_flat.specs.LinesRead.{lines_of_rows, lines_in, AreKept, IsRefused, Gives};
 ghost use Rattle.lucid_flat.specs.declared.read.FlatRefusal.TheVariants.{NoMemory};
 
 use crate::gather::Rows;
-use crate::laws::{one_table, one_value};
+use crate::laws::one_table;
 use crate::rows::read_row;
-use crate::words::cut;
 use lucid_equations::Table;
+use lucid_texts::{Lines, add_lines, one_value};
 use std::alloc::{AllocError, Global};
 use thiserror::Error;
 
@@ -35,10 +35,17 @@ impl From<AllocError> for FlatRefusal {
     }
 }
 
+// The lines so far: the first one, and then those of rows.
+#[derive(Drop)]
+struct FlatLines {
+    has_first: bool,
+    rows: Rows,
+}
+
 // Adds the row of a line, if it is one's that may come next.
-fn add_line(alloc: Global, rows: &mut Rows, line: &[u8]) -> Result<bool, AllocError>
+fn add_row(alloc: Global, rows: &mut Rows, line: &[u8]) -> Result<bool, AllocError>
     requires { AreBegun rows.old }
-    ensures { IfOk result (λ added. MatchBool added (AreBegun rows.new × AddsLine (rows_in rows.old) (rows_in rows.new) line.now) (NoLineHere (rows_in rows.old) line.now)) }
+    ensures { IfOk result (λ added. MatchBool added (AreBegun rows.new × (lines_of_rows (rows_in rows.new) ≡ lines_of_rows (rows_in rows.old) ++ line.now ∷ [])) (CannotGoOn AreTableLines (lines_of_rows (rows_in rows.old) ++ line.now ∷ []))) }
 {
     one_value();
     match read_row(alloc, line)? {
@@ -47,27 +54,26 @@ fn add_line(alloc: Global, rows: &mut Rows, line: &[u8]) -> Result<bool, AllocEr
     }
 }
 
-// Adds the rows of the lines behind the first, and gives the number of the line that is none, if there is one.
-fn add_lines(alloc: Global, rows: &mut Rows, bytes: &[u8]) -> Result<Option<u64>, AllocError>
-    requires begun { AreBegun rows.old }
-    requires none { rows_in rows.old ≡ [] }
-    requires few { length bytes.now + 13 < 2 ^ 64 }
-    ensures { IfOk result (λ wrong. MatchOption wrong (AreBegun rows.new × (part_in rows.new ≡ 7) × AreAllLines (rows_in rows.new) bytes.now) (λ line. IsFirstWrongLine (ended first_line ++ bytes.now) line)) }
-{
-    one_value();
-    let mut rest = bytes;
-    let mut read: u64 = 1;
-    while let Some((front, behind)) = cut(rest, b'\n') {
-        if !add_line(alloc, rows, front)? {
-            return Ok(Some(read + 1));
+impl Lines for FlatLines {
+    ghost is_text = { AreTableLines };
+
+    ghost lines = { lines_in };
+
+    ghost keeps = { AreKept };
+
+    fn lines_of_texts() {}
+
+    fn add(&mut self, alloc: Global, line: &[u8]) -> Result<bool, AllocError> {
+        if self.has_first {
+            return add_row(alloc, &mut self.rows, line);
         }
-        rest = behind;
-        read += 1;
+        self.has_first = line == b"lucid flat 1".as_slice();
+        Ok(self.has_first)
     }
-    if rest.is_empty() && rows.is_whole() {
-        Ok(None)
-    } else {
-        Ok(Some(read + 1))
+
+    fn is_whole(&self) -> bool {
+        one_value();
+        self.has_first && self.rows.is_whole()
     }
 }
 
@@ -78,16 +84,15 @@ pub fn read_flat(alloc: Global, bytes: &[u8]) -> Result<Table, FlatRefusal>
     ensures refused { IfErr result (λ why. IsRefused bytes.now why) }
     ensures again { (t : Table) → IsTextOf bytes.now t → Gives result t }
 {
+    one_value();
     one_table();
-    let Some((first, rest)) = cut(bytes, b'\n') else {
-        return Err(FlatRefusal::Form { line: 1 });
+    let rows = Rows::make(alloc)?;
+    let mut lines = FlatLines {
+        has_first: false,
+        rows,
     };
-    if first != b"lucid flat 1".as_slice() {
-        return Err(FlatRefusal::Form { line: 1 });
-    }
-    let mut rows = Rows::make(alloc)?;
-    match add_lines(alloc, &mut rows, rest)? {
+    match add_lines(alloc, &mut lines, bytes)? {
         Some(line) => Err(FlatRefusal::Form { line }),
-        None => Ok(rows.into_table()),
+        None => Ok(lines.rows.into_table()),
     }
 }

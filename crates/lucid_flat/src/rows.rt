@@ -2,16 +2,15 @@
 ghost use Rattle.std.specs.Prelude.{◌≡◌, ◌++◌, ◌∷◌, IfOk};
 ghost use Rattle.std.specs.Option.{option_map};
 ghost use Rattle.std.specs.Str.{bytes_eq};
-ghost use Rattle.lucid_flat.specs.Words.{words_of};
+ghost use Rattle.lucid_texts.specs.Words.{words_of};
 ghost use Rattle.lucid_flat.specs.RowTails.{kind_of, scope_of, node_row_of, entry_of, name_of, place_of, root_of, input_of, tail_row};
-ghost use Rattle.lucid_flat.specs.RowLines.{plain_row, IsConstantOf, IsRowOf};
+ghost use Rattle.lucid_flat.specs.RowLines.{plain_row, IsRowOf};
 
 use crate::forms::read_node;
-use crate::words::{all_numbers, at_end, cut, exactly, next_number, next_word};
+use crate::words::{all_numbers, exactly, next_number};
 use lucid_equations::{Entry, NameRow, NodeRow, PlaceRow, ScopeKind, ScopeRow};
-use lucid_value::{
-    MakeRefusal, Name, ReadRefusal, Value, one_line_reading, read_value, text_is_read,
-};
+use lucid_texts::{at_end, cut, next_word, read_text};
+use lucid_value::{MakeRefusal, Name, Value};
 use std::alloc::{AllocError, Global};
 
 /// A row of a table: any but that of scope 0, which no line has.
@@ -60,26 +59,6 @@ fn read_input(alloc: Global, tail: &[u8]) -> Result<Option<Name>, AllocError>
         Ok(name) => Ok(Some(name)),
         Err(MakeRefusal::NotThat) => Ok(None),
         Err(MakeRefusal::NoMemory) => Err(AllocError),
-    }
-}
-
-// Reading takes more than the one text of each value.
-fn read_constant(alloc: Global, tail: &[u8]) -> Result<Option<Value>, AllocError>
-    ensures { IfOk result (λ read. IsConstantOf tail.now read) }
-{
-    text_is_read();
-    one_line_reading();
-    let value = match read_value(alloc, tail) {
-        Ok(value) => value,
-        Err(ReadRefusal::NotValue) => return Ok(None),
-        Err(ReadRefusal::NoMemory) => return Err(AllocError),
-    };
-    let mut text = Vec::new(alloc);
-    value.show(alloc, &mut text)?;
-    if text.as_slice() == tail {
-        Ok(Some(value))
-    } else {
-        Ok(None)
     }
 }
 
@@ -181,7 +160,7 @@ pub(crate) fn read_row(alloc: Global, line: &[u8]) -> Result<Option<Row>, AllocE
         return Ok(None);
     };
     if word == b"const".as_slice() {
-        return Ok(read_constant(alloc, tail)?.map(Row::Constant));
+        return Ok(read_text(alloc, tail)?.map(Row::Constant));
     }
     tail_row(alloc, word, tail)
 }

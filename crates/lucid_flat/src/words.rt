@@ -1,75 +1,22 @@
-//! The words of a line, one blank between each two, and the numbers that words are.
-ghost use Rattle.std.specs.Prelude.{◌≡◌, ℕ, ◌∷◌, ◌++◌, [], Some, IfOk, MatchOption};
+//! The numbers of the flat form, below 2^32, and how they are taken off the words of a line.
+ghost use Rattle.std.specs.Prelude.{◌≡◌, ◌^◌, IfOk};
 ghost use Rattle.std.specs.Option.{option_copied, option_map};
-ghost use Rattle.lucid_flat.specs.Words.{HasNone, words_left, number_of, take_word, take_number, is_end, three_of, exactly, few_numbers_of};
+ghost use Rattle.lucid_texts.specs.Words.{words_left, take_number};
+ghost use Rattle.lucid_flat.specs.Words.{three_of, exactly, few_numbers_of};
 
-use itoa::Buffer;
 use lucid_equations::Numbers32;
-use memchr::memchr;
+use lucid_texts::at_end;
 use std::alloc::{AllocError, Global};
 
-/// The bytes before the first such byte, and those behind it.
-pub(crate) fn cut(bytes: &[u8], byte: u8) -> Option<(&[u8], &[u8])>
-    ensures { MatchOption result (HasNone byte bytes.now) (λ x. (bytes.now ≡ x.0.now ++ byte ∷ x.1.now) × HasNone byte x.0.now) }
-{
-    let end = memchr(byte, bytes)?;
-    Some((&bytes[..end], &bytes[end + 1..]))
-}
-
-/// The next word, and what is left behind it.
-pub(crate) fn next_word(rest: Option<&[u8]>) -> Option<(&[u8], Option<&[u8]>)>
-    ensures { option_map (λ x. (x.0.now, words_left (option_copied x.1))) result ≡ take_word (words_left (option_copied rest.entry)) }
-{
-    let bytes = rest?;
-    match cut(bytes, b' ') {
-        Some((word, behind)) => Some((word, Some(behind))),
-        None => Some((bytes, None)),
-    }
-}
-
-// The number whose digits the text is.
-fn digits_of(text: &str) -> Option<u32>
-    ensures { result ≡ number_of text.now }
-{
-    match text.parse::<u32>() {
-        Ok(n) => {
-            // Parsing takes a sign and leading zeros too.
-            let mut digits = Buffer::new();
-            if digits.format(n) == text {
-                Some(n)
-            } else {
-                None
-            }
-        }
-        Err(_) => None,
-    }
-}
-
-/// The number that a word is: decimal digits without leading zeros, below 2^32.
-pub(crate) fn number(word: &[u8]) -> Option<u32>
-    ensures { result ≡ number_of word.now }
-{
-    match std::str::from_utf8(word) {
-        Ok(text) => digits_of(text),
-        Err(_) => None,
-    }
-}
+// All numbers are below it.
+const BOUND: u64 = 4_294_967_296;
 
 /// The number that the next word is, and what is left behind it.
-#[tactic(auto, unfolding(crate::specs::Words::take_number))]
 pub(crate) fn next_number(rest: Option<&[u8]>) -> Option<(u32, Option<&[u8]>)>
-    ensures { option_map (λ x. (x.0, words_left (option_copied x.1))) result ≡ take_number (words_left (option_copied rest.entry)) }
+    ensures { option_map (λ x. (x.0, words_left (option_copied x.1))) result ≡ take_number (2 ^ 32) (words_left (option_copied rest.entry)) }
 {
-    let (word, rest) = next_word(rest)?;
-    let n = number(word)?;
-    Some((n, rest))
-}
-
-/// Whether no word is left.
-pub(crate) fn at_end(rest: Option<&[u8]>) -> bool
-    ensures { result ≡ is_end (words_left (option_copied rest.entry)) }
-{
-    rest.is_none()
+    let (n, rest) = lucid_texts::next_number(rest, BOUND)?;
+    Some((n as u32, rest))
 }
 
 /// One, two or three numbers, as many as the count says; 0 stands for the others.

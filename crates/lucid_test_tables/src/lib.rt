@@ -6,6 +6,8 @@ mod compiled;
 #[cfg(test)]
 mod flat;
 #[cfg(test)]
+mod flat_texts;
+#[cfg(test)]
 mod sound;
 #[cfg(test)]
 mod table_value;

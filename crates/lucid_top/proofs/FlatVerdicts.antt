@@ -1,10 +1,10 @@
 -- A source in the flat form has one verdict: a sound table, or one refusal.
-use Rattle.std.proofs.Common.{◌≡◌, ℕ, ◌+◌, ◌<◌, ◌≤◌, List, take, drop, ◌++◌, append_assoc, ◌⊎◌, inl, inr, refl, sym, ap, subst, ◌∙◌, arith}
-use Rattle.std.proofs.lemmas.Bool.{cases_order}
-use Rattle.std.proofs.lemmas.List.{take-take, take-append-drop}
+use Rattle.std.proofs.Common.{◌≡◌, ℕ, List, refl, sym, ap, subst, ◌∙◌, arith}
 use Rattle.lucid_equations.specs.Sound.{IsSound}
 use Rattle.lucid_equations.specs.declared.table.Table.{Table}
-use Rattle.lucid_flat.specs.FlatTables.{whole_lines, GoesOn, IsFirstWrongLine}
+use Rattle.lucid_texts.proofs.TextsRead.{line_once}
+use Rattle.lucid_flat.specs.FlatText.{flat_lines}
+use Rattle.lucid_flat.specs.FlatTables.{IsTextOf, AreTableLines, IsFirstWrongLine}
 use Rattle.lucid_flat.specs.Laws.{OneTable}
 use Rattle.lucid_sound.specs.WrongRows.{IsRefused, IsFirstWrongRow}
 use Rattle.lucid_sound.specs.declared.program.BuildRefusal.{BuildRefusal}
@@ -17,28 +17,9 @@ use Rattle.lucid_top.specs.Flat.{by_length, by_line, by_row}
 use Rattle.lucid_top.specs.Laws.{OneFlatTable, TableIsNotRefused, OneFlatRefusal}
 use Rattle.lucid_top.proofs.FirstWrong.{one_wrong}
 
--- what goes on with some lines goes on with fewer
-goes_less : (bytes : List ℕ) (m n : ℕ) → m ≤ n → GoesOn bytes n → GoesOn bytes m
-goes_less bytes m n le g =
-    let lines = whole_lines bytes in
-    let parts : take n lines ≡ take m lines ++ drop m (take n lines) =
-    sym (take-append-drop m (take n lines)) ∙ ap (λ front. front ++ drop m (take n lines)) (take-take m n lines le) in
-    record {
-      whole = let few = g.whole in omega (arith, few, le);
-      table = g.table;
-      has = g.has;
-      rest = drop m (take n lines) ++ g.rest;
-      begins = g.begins ∙ ap (λ front. front ++ g.rest) parts ∙ append_assoc (take m lines) (drop m (take n lines)) g.rest;
-    }
-
--- one line is the first with which nothing goes on
-line_once : (bytes : List ℕ) (a b : ℕ) → IsFirstWrongLine bytes a → IsFirstWrongLine bytes b → a ≡ b
-line_once bytes a b x y = ordered (cases_order x.before y.before)
-  where
-    ordered : (x.before ≡ y.before) ⊎ ((x.before < y.before) ⊎ (y.before < x.before)) → a ≡ b
-    ordered (inl same) = x.is ∙ ap (λ n. n + 1) same ∙ sym y.is
-    ordered (inr (inl below)) = absurd (x.ends (goes_less bytes (x.before + 1) y.before (omega (arith, below)) y.goes))
-    ordered (inr (inr above)) = absurd (y.ends (goes_less bytes (y.before + 1) x.before (omega (arith, above)) x.goes))
+-- bytes with a wrong line are no table's text
+no_text : (bytes : List ℕ) (line : ℕ) (t : Table) → IsFirstWrongLine bytes line → IsTextOf bytes t → ⊥
+no_text bytes line t wrong x = wrong.no_text (flat_lines t) (t, x.has, refl) x.text
 
 -- a row that is told is the first wrong one, and the table isn't sound
 wrong_row : (t : Table) (e : BuildRefusal) (v : Refusal) → build_stop e ≡ stop.Refused v → IsRefused t e → IsFirstWrongRow t e
@@ -66,7 +47,7 @@ one_flat_table one source t u x y = one source t u x.has.text y.has.text
 
 pub table_is_not_refused : OneTable → TableIsNotRefused
 table_is_not_refused one source t why x (by_length long) = let short = x.has.short in absurd (omega (arith, short, long))
-table_is_not_refused one source t why x (by_line short wrong) = wrong.no_text t x.has.text
+table_is_not_refused one source t why x (by_line short wrong) = no_text source _ t wrong x.has.text
 table_is_not_refused one source t why x (by_row u e is has refused) =
     let same : u ≡ t = one source u t has.text x.has.text in
     not_sound t e why is (subst (λ s. IsRefused s e) same refused) x.sound
@@ -76,10 +57,10 @@ one_flat_refusal one source v w (by_length long) (by_length long') = refl
 one_flat_refusal one source v w (by_length long) (by_line short wrong) = absurd (omega (arith, short, long))
 one_flat_refusal one source v w (by_length long) (by_row u e is has refused) = let short = has.short in absurd (omega (arith, short, long))
 one_flat_refusal one source v w (by_line short wrong) (by_length long) = absurd (omega (arith, short, long))
-one_flat_refusal one source v w (by_line short wrong) (by_line short' wrong') = ap refusal.NoFlatLine (line_once source _ _ wrong wrong')
-one_flat_refusal one source v w (by_line short wrong) (by_row u e is has refused) = absurd (wrong.no_text u has.text)
+one_flat_refusal one source v w (by_line short wrong) (by_line short' wrong') = ap refusal.NoFlatLine (line_once AreTableLines source _ _ wrong wrong')
+one_flat_refusal one source v w (by_line short wrong) (by_row u e is has refused) = absurd (no_text source _ u wrong has.text)
 one_flat_refusal one source v w (by_row t e is has refused) (by_length long) = let short = has.short in absurd (omega (arith, short, long))
-one_flat_refusal one source v w (by_row t e is has refused) (by_line short wrong) = absurd (wrong.no_text t has.text)
+one_flat_refusal one source v w (by_row t e is has refused) (by_line short wrong) = absurd (no_text source _ t wrong has.text)
 one_flat_refusal one source v w (by_row t e is has refused) (by_row u f js has' refused') =
     let same : u ≡ t = one source u t has'.text has.text in
     same_row t e f v w is js refused (subst (λ s. IsRefused s f) same refused')

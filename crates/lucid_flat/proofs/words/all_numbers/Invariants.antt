@@ -1,12 +1,12 @@
 use Rattle.std.proofs.Common.{◌≡◌, ◌<◌, ◌^◌, length}
 use Rattle.std.specs.Option.{option_copied}
-use Rattle.lucid_flat.specs.Words.{words_left, numbers_of}
+use Rattle.lucid_texts.specs.Words.{words_left, numbers_of}
 use Rattle.lucid_flat.proofs.NumberLemmas.{with_front}
 use Rattle.lucid_flat.proofs.words.all_numbers.Given as goal
 
 abbrev pub invariant-loop-rest : goal.invariant-loop-rest
 invariant-loop-rest l = record {
-  read : numbers_of (words_left (option_copied l.fn.words)) ≡ with_front l.numbers.items (numbers_of (words_left (option_copied l.rest)));
+  read : numbers_of (2 ^ 32) (words_left (option_copied l.fn.words)) ≡ with_front l.numbers.items (numbers_of (2 ^ 32) (words_left (option_copied l.rest)));
   few : length l.numbers.items < 2 ^ 32;
 }
 

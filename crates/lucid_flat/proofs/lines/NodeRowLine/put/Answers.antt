@@ -1,8 +1,8 @@
 use Rattle.std.proofs.Common.{List, ℕ, [], ◌∷◌, ◌++◌, ap, ◌∙◌}
 use Rattle.std.specs.Prelude.{codes, decimal}
 use Rattle.lucid_flat.specs.FlatText.{node_words}
-use Rattle.lucid_flat.specs.Words.{spaced}
-use Rattle.lucid_flat.proofs.Spaced.{line_two, appended}
+use Rattle.lucid_texts.specs.Words.{spaced}
+use Rattle.lucid_texts.proofs.Spaced.{line_two, appended}
 use Rattle.lucid_flat.proofs.lines.NodeRowLine.put.Goals as goal
 
 pub returns-clause-line : goal.returns-clause-line

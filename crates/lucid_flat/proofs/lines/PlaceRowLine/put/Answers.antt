@@ -1,7 +1,7 @@
 use Rattle.std.proofs.Common.{List, ℕ, [], ◌∷◌, ◌++◌, map, ap, ◌∙◌}
 use Rattle.std.specs.Prelude.{codes, decimal}
-use Rattle.lucid_flat.specs.Words.{spaced}
-use Rattle.lucid_flat.proofs.Spaced.{line_three, appended}
+use Rattle.lucid_texts.specs.Words.{spaced}
+use Rattle.lucid_texts.proofs.Spaced.{line_three, appended}
 use Rattle.lucid_flat.proofs.lines.PlaceRowLine.put.Goals as goal
 
 pub returns-clause-line : goal.returns-clause-line
