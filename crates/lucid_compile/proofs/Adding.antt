@@ -1,29 +1,27 @@
 -- What a tree adds, from what its parts add.
-use Rattle.std.proofs.Common.{◌≡◌, ℕ, suc, ◌+◌, ◌<◌, ◌≤◌, Bool, true, false, ◌&&◌, IsTrue, nat_eq, nat_lt, if◌then◌else◌, length, List, [], ◌∷◌, ◌++◌, take, drop, get_or, slice_get, Some, Result, Ok, Err, IfOk, OnOk, refl, sym, ap, ◌∙◌, subst, arith, add-zero, take_all, length-take-le}
+use Rattle.std.proofs.Common.{◌≡◌, ℕ, suc, ◌+◌, ◌<◌, Bool, true, false, ◌&&◌, IsTrue, nat_eq, nat_lt, if◌then◌else◌, length, List, [], ◌∷◌, ◌++◌, take, get_or, slice_get, Some, Result, Ok, Err, IfOk, OnOk, refl, sym, ap, ◌∙◌, subst, arith, add-zero, length-take-le}
 use Rattle.std.proofs.lemmas.List.{take_more}
 use Rattle.lucid_lemmas.proofs.Lists.{slice_get-push_same as some-last}
 use Rattle.lucid_value.specs.Plain.{PlainValue}
-use Rattle.lucid_ops.specs.declared.op.Op.{Op}
-use Rattle.lucid_ops.proofs.OperatorRows.{arity_few as few}
 use Rattle.lucid_tree.specs.WellMade.{fits_arity, is_shaped}
-use Rattle.lucid_ops.specs.Arity.{arity}
-use Rattle.lucid_tree.specs.Tree.{Head, const, apply, choose, PlainTree, form, name, call, block, PlainTrees, no_trees, tree, PlainDefs, no_defs, defines, defines_function, defines_current}
+use Rattle.lucid_tree.specs.Tree.{Head, const, PlainTree, form, name, PlainTrees, no_trees, tree, PlainDefs, no_defs, defines, defines_function, defines_current}
 use Rattle.lucid_tree.specs.Size.{count}
-use Rattle.lucid_tree.specs.Lists.{trees_of}
-use Rattle.lucid_tree.specs.DefsView.{def_of, one_def, defs_of}
+use Rattle.lucid_tree.specs.Shape.{FitsHead}
+use Rattle.lucid_tree.specs.DefsView.{def_of, one_def}
 use Rattle.lucid_tree.specs.declared.tree.Def.{Def}
 use Rattle.lucid_tree.specs.declared.tree.DefKind.{DefKind}
 use Rattle.lucid_tree.specs.declared.tree.DefKind.TheVariants.{Plain as PlainKind, Function as FunctionKind, Current as CurrentKind}
 use Rattle.lucid_scope.specs.Scoped.{scoped_inputs, scoped_binding}
 use Rattle.lucid_equations.specs.Nodes.{PlainNode, PlainNodes, row, freeze, invoke, no_nodes, node, plain_entry, current_entry, parameter_entry}
-use Rattle.lucid_equations.proofs.Rising.{at-kept, all_at-kept}
+use Rattle.lucid_equations.proofs.Rising.{at-kept}
 use Rattle.lucid_compile.specs.Static.{Static, in_block, freezes, frame, level, in_body}
 use Rattle.lucid_compile.specs.Places.{first_place}
 use Rattle.lucid_equations.specs.Ranges.{EachBelow}
-use Rattle.lucid_equations.specs.Rows.{at as node_at_index, all_at, parts, as_node}
-use Rattle.lucid_equations.specs.declared.rows.Node.TheVariants.{Const, Apply, If, Freeze, Call}
-use Rattle.lucid_equations.specs.Sound.{ScopeIs, StandsIn, EachStandsIn, PartsStand, AreZero, IsFilled}
+use Rattle.lucid_equations.specs.Rows.{all_at, parts, as_node}
+use Rattle.lucid_equations.specs.declared.rows.Node.TheVariants.{Const, Freeze, Call}
+use Rattle.lucid_equations.specs.Sound.{ScopeIs, EachStandsIn, PartsStand, IsFilled}
 use Rattle.lucid_equations.specs.declared.rows.Entry.TheVariants.{Plain, Parameter, Current}
+use Rattle.lucid_equations.specs.declared.rows.Node.{Node}
 use Rattle.lucid_equations.specs.declared.rows.NodeRow.{NodeRow}
 use Rattle.lucid_equations.specs.declared.rows.PlaceRow.{PlaceRow}
 use Rattle.lucid_compile.specs.declared.building.Body.{Body}
@@ -34,11 +32,12 @@ use Rattle.lucid_equations.specs.declared.rows.ScopeKind.TheVariants.{Called as 
 use Rattle.lucid_compile.specs.Numbered.{name_mark, function_mark, call_number}
 use Rattle.lucid_compile.specs.Building.{Lists, with_name, with_place, with_body, OneScope, OneConstant, OneNode}
 use Rattle.lucid_compile.specs.Bound.{Stand, Numbered, name_node, callee_place, bound_node, bound_nodes, form_stand, name_stand, call_stand, block_stands, CallStand, FunctionStand, NodeStand, Log, with_nodes, with_scopes, block_scopes, with_call, with_parameters, added, added_all, added_defs}
-use Rattle.lucid_compile.specs.Forms.{IsForm, AddsForm}
+use Rattle.lucid_compile.specs.Forms.{node_of, HasFirst, IsForm}
+use Rattle.lucid_compile.proofs.Formed.{is-form}
 use Rattle.lucid_compile.specs.Holds.{nodes_in, IsKnown, IsOpen, StandsAt, Grown, GrownTo, AllGrownTo, AddsTree, AddsTrees, AddsDefs}
-use Rattle.lucid_compile.specs.Steps.{AddsParameters}
-use Rattle.lucid_compile.proofs.Growing.{begins-then, scope-kept, stands-kept, each-stands-kept, no-nodes, no-scopes, open-grown, opened-is, parent-below, grown-none, grown-then, push-grown, keep-grown, keep-constant, keep-known, define-grown, close-grown, place-grown, within-kept, each-kept}
-use Rattle.lucid_compile.proofs.Shapes.{left-true, right-true, shaped-front, shaped-defs, as_many, freezes-front, freezes-last}
+use Rattle.lucid_compile.specs.Steps.{AddsName, AddsCall, AddsBlock, AddsParameters}
+use Rattle.lucid_compile.proofs.Growing.{begins-then, scope-kept, stands-kept, no-nodes, no-scopes, open-grown, opened-is, parent-below, grown-none, grown-then, push-grown, keep-grown, keep-constant, keep-known, define-grown, close-grown, place-grown, within-kept}
+use Rattle.lucid_compile.proofs.Shapes.{left-true, right-true, shaped-one, freezes-first, freezes-rest}
 use Rattle.lucid_compile.proofs.Named.{parts-own, named-stands, named-filled, named-means, named-known, named-parts}
 
 pub if_ok : {T E : Type 0} (r : Result T E) (P Q : T → Type 0) → IfOk r P → ((x : T) → P x → Q x) → IfOk r Q
@@ -49,36 +48,14 @@ pub on_then : {T E : Type 0} {P Q : Type 0} (r : Result T E) → (P → Q) → O
 on_then (Ok x) f h = f h
 on_then (Err e) f h = tt
 
--- at the end of some nodes
-abbrev after : PlainNodes → PlainNode → PlainNodes
-after no_nodes x = node x no_nodes
-after (node y ys) x = node y (after ys x)
+one-added : (w : Numbered) (k q : Static) (at : ℕ) (n : List ℕ) (ds : PlainDefs) (x : DefKind) (g : Log) → added_defs w k q (def_of at n x ds) g ≡ added_defs w k q ds (added_defs w k q (def_of at n x no_defs) g)
+one-added w k q at n ds (PlainKind e) g = refl
+one-added w k q at n ds (FunctionKind ps ats e) g = refl
+one-added w k q at n ds (CurrentKind e) g = refl
 
-all_at-after : (ts : List PlainNode) (ids : List ℕ) (id : ℕ) → all_at ts (ids ++ id ∷ []) ≡ after (all_at ts ids) (node_at_index ts id)
-all_at-after ts [] id = refl
-all_at-after ts (i ∷ ids) id = ap (node (node_at_index ts i)) (all_at-after ts ids id)
-
-bound-after : (w : Numbered) (xs : List PlainTree) (x : PlainTree) → bound_nodes w (trees_of (xs ++ x ∷ [])) ≡ after (bound_nodes w (trees_of xs)) (bound_node w x)
-bound-after w [] x = refl
-bound-after w (y ∷ xs) x = ap (node (bound_node w y)) (bound-after w xs x)
-
-pub added-after : (w : Numbered) (k : Static) (xs : List PlainTree) (x : PlainTree) (g : Log) → added_all w k (trees_of (xs ++ x ∷ [])) g ≡ added w k x (added_all w k (trees_of xs) g)
-added-after w k [] x g = refl
-added-after w k (y ∷ xs) x g = added-after w k xs x (added w k y g)
-
-each-after : (n : ℕ) (ids : List ℕ) (id : ℕ) → EachBelow n ids → id < n → EachBelow n (ids ++ id ∷ [])
-each-after n [] id h b = (b, tt)
-each-after n (i ∷ ids) id h b = (h.0, each-after n ids id h.1 b)
-
-one-added : (w : Numbered) (k q : Static) (d : Def) (ds : PlainDefs) (x : DefKind) (g : Log) → added_defs w k q (def_of d.at d.name x ds) g ≡ added_defs w k q ds (added_defs w k q (def_of d.at d.name x no_defs) g)
-one-added w k q d ds (PlainKind e) g = refl
-one-added w k q d ds (FunctionKind ps ats e) g = refl
-one-added w k q d ds (CurrentKind e) g = refl
-
-pub defs-after : (w : Numbered) (k q : Static) (xs : List Def) (d : Def) (g : Log) → added_defs w k q (defs_of (xs ++ d ∷ [])) g ≡ added_defs w k q (one_def d no_defs) (added_defs w k q (defs_of xs) g)
-defs-after w k q [] d g = refl
-defs-after w k q (x ∷ xs) d g =
-    one-added w k q x (defs_of (xs ++ d ∷ [])) x.kind g ∙ defs-after w k q xs d (added_defs w k q (one_def x no_defs) g) ∙ ap (added_defs w k q (one_def d no_defs)) (sym (one-added w k q x (defs_of xs) x.kind g))
+-- what a first definition adds, and then what the others do
+pub first-added : (w : Numbered) (k q : Static) (d : Def) (ds : PlainDefs) (g : Log) → added_defs w k q (one_def d ds) g ≡ added_defs w k q ds (added_defs w k q (one_def d no_defs) g)
+first-added w k q d ds g = one-added w k q d.at d.name ds d.kind g
 
 pub parameters-after : (k : Static) (i : ℕ) (ats : List ℕ) (at : ℕ) (g : Log) → with_parameters k i (ats ++ at ∷ []) g ≡ with_parameters k (i + length ats) (at ∷ []) (with_parameters k i ats g)
 parameters-after k i [] at g = ap (λ j. with_parameters k j (at ∷ []) g) (sym (add-zero i))
@@ -98,17 +75,8 @@ count-bound : (w : Numbered) (es : PlainTrees) → count-nodes (bound_nodes w es
 count-bound w no_trees = refl
 count-bound w (tree e es) = ap (λ n. n + 1) (count-bound w es)
 
--- one item more of a list
-pub next-taken : {A : Type 0} (xs : List A) (i : ℕ) (x : A) → i < length xs → x ≡ get_or xs i x → take (i + 1) xs ≡ take i xs ++ x ∷ []
-next-taken xs i x h is = take_more xs i x h ∙ ap (λ y. take i xs ++ y ∷ []) (sym is)
-
 pub count-same : (w : Numbered) (ts : List PlainNode) (ids : List ℕ) (es : PlainTrees) → all_at ts ids ≡ bound_nodes w es → length ids ≡ count es
 count-same w ts ids es e = sym (count-at ts ids) ∙ ap count-nodes e ∙ count-bound w es
-
--- one number more stands there too
-each-stands-after : (rs : List NodeRow) (s : ℕ) (ids : List ℕ) (id : ℕ) → EachStandsIn rs s ids → StandsIn rs s id → EachStandsIn rs s (ids ++ id ∷ [])
-each-stands-after rs s [] id h b = (b, tt)
-each-stands-after rs s (i ∷ ids) id h b = (h.0, each-stands-after rs s ids id h.1 b)
 
 -- the row of a scope that was opened
 opened-row : (o n : Lists) (r : ScopeRow) (id : ℕ) → OneScope o n r id → slice_get n.scopes id ≡ Some r
@@ -120,25 +88,6 @@ module _ (w : Numbered) where
 
   pub no_trees-added : (o : Lists) (d : Here) → AddsTrees w o o d no_trees []
   no_trees-added o d = λ k g l t h. record { grown = grown-none w o g h; within = tt; are = refl; stand = tt }
-
-  pub trees-one : (o m n : Lists) (d : Here) (xs : List PlainTree) (ids : List ℕ) (x : PlainTree) (id : ℕ) → AddsTrees w o m d (trees_of xs) ids → AddsTree w m n d x id → AddsTrees w o n d (trees_of (xs ++ x ∷ [])) (ids ++ id ∷ [])
-  trees-one o m n d xs ids x id a b = λ k g l t h.
-      let s = shaped-front xs x t in
-      let p : AllGrownTo w o m (added_all w k (trees_of xs) g) (bound_nodes w (trees_of xs)) d.scope ids = a k g l s.0 h in
-      let q : GrownTo w m n (added w k x (added_all w k (trees_of xs) g)) (bound_node w x) d.scope id = b k (added_all w k (trees_of xs) g) (here-trees w k d k (trees_of xs) g l) s.1 p.grown.holds in
-      subst (λ z. AllGrownTo w o n z (bound_nodes w (trees_of (xs ++ x ∷ []))) d.scope (ids ++ id ∷ [])) (sym (added-after w k xs x g)) (record {
-        grown = grown-then w o m n _ _ p.grown q.grown;
-        within = each-after _ ids id (each-kept (nodes_in w m) (nodes_in w n) q.grown.begins ids p.within) q.within;
-        are = all_at-after (nodes_in w n) ids id ∙ (λ j. after ((all_at-kept (nodes_in w m) (nodes_in w n) ids q.grown.begins p.within ∙ p.are) j) (q.is j)) ∙ sym (bound-after w xs x);
-        stand = each-stands-after n.nodes d.scope ids id (each-stands-kept m.nodes n.nodes q.grown.rows d.scope ids p.stand) q.stands;
-      })
-
-  pub trees-more : (o m n : Lists) (d : Here) (xs : List PlainTree) (i : ℕ) (x : PlainTree) (ids more : List ℕ) (id : ℕ) → i < length xs → x ≡ get_or xs i x → more ≡ ids ++ id ∷ [] → AddsTrees w o m d (trees_of (take i xs)) ids → AddsTree w m n d x id → AddsTrees w o n d (trees_of (take (i + 1) xs)) more
-  trees-more o m n d xs i x ids more id h is e a b =
-      subst (λ ys. AddsTrees w o n d (trees_of ys) more) (sym (next-taken xs i x h is)) (subst (AddsTrees w o n d (trees_of (take i xs ++ x ∷ []))) (sym e) (trees-one o m n d (take i xs) ids x id a b))
-
-  pub trees-done : (o n : Lists) (d : Here) (xs : List PlainTree) (es : PlainTrees) (i : ℕ) (ids : List ℕ) → length xs ≤ i → trees_of xs ≡ es → AddsTrees w o n d (trees_of (take i xs)) ids → AddsTrees w o n d es ids
-  trees-done o n d xs es i ids h e a = subst (λ z. AddsTrees w o n d z ids) (ap trees_of (take_all i xs h) ∙ e) a
 
   -- a first part, and then others
   pub tree-then : (o m n : Lists) (d : Here) (e : PlainTree) (es : PlainTrees) (id : ℕ) (ids : List ℕ) → AddsTree w o m d e id → AddsTrees w m n d es ids → AddsTrees w o n d (tree e es) (id ∷ ids)
@@ -152,66 +101,52 @@ module _ (w : Numbered) where
         stand = (stands-kept m.nodes n.nodes q.grown.rows d.scope id p.stands, q.stand);
       }
 
-  pub tree-alone : (o n : Lists) (d : Here) (e : PlainTree) (id : ℕ) → AddsTree w o n d e id → AddsTrees w o n d (tree e no_trees) (id ∷ [])
-  tree-alone o n d e id a = tree-then o n n d e no_trees id [] a (no_trees-added n d)
-
-  pub tree-pair : (o m n : Lists) (d : Here) (a b : PlainTree) (i j : ℕ) → AddsTree w o m d a i → AddsTree w m n d b j → AddsTrees w o n d (tree a (tree b no_trees)) (i ∷ j ∷ [])
-  tree-pair o m n d a b i j x y = tree-then o m n d a (tree b no_trees) i (j ∷ []) x (tree-alone m n d b j y)
-
-  -- a form with these parts
-  form-added : (o m n : Lists) (d : Here) (f : Head) (es : PlainTrees) (ids : List ℕ) (r : NodeRow) (id : ℕ) → AddsTrees w o m d es ids → OneNode m n r id → IsForm f ids r.node → r.scope ≡ d.scope → AddsForm w o n d f es id
-  form-added o m n d f es ids r id a s is here = λ k g l t h.
+  -- a form of parts that were added, with its node
+  row-added : (o m n : Lists) (d : Here) (at : ℕ) (f : Head) (es : PlainTrees) (ids : List ℕ) (x : Node) (id : ℕ) → AddsTrees w o m d es ids → OneNode m n (record { scope = d.scope; node = x }) id → (length ids ≡ count es → IsTrue (fits_arity f es) → IsForm f ids x) → AddsTree w o n d (form at f es) id
+  row-added o m n d at f es ids x id a s made = λ k g l t h.
       let p : AllGrownTo w o m (added_all w k es g) (bound_nodes w es) d.scope ids = a k g l (right-true (fits_arity f es) _ t) h in
+      let is : IsForm f ids x = made (count-same w (nodes_in w m) ids es p.are) (left-true (fits_arity f es) _ t) in
       grown-on o m n _ _ _ _ id p.grown
-      (subst (λ y. GrownTo w m n (with_nodes (form_stand k ∷ []) (added_all w k es g)) (row f (bound_nodes w es)) y id) here (subst (λ z. GrownTo w m n (with_nodes (form_stand k ∷ []) (added_all w k es g)) z r.scope id) (is.means m.constants (scoped_inputs w.scoped) (nodes_in w m) ∙ ap (row f) p.are)
-      (push-grown w m n (added_all w k es g) r (form_stand k) id p.grown.holds s (is.known (length m.constants)) (subst (EachBelow (length (nodes_in w m))) (sym is.parts_are) p.within) is.alone (subst (λ y. IsOpen (added_all w k es g).scopes y k) (sym here) (here-trees w k d k es g l).1)
-      (parts-own m.scopes m.nodes r.scope r.node is.own (subst (λ y. EachStandsIn m.nodes y (parts r.node)) (sym here) (subst (EachStandsIn m.nodes d.scope) (sym is.parts_are) p.stand))) is.filled)))
+      (subst (λ z. GrownTo w m n (with_nodes (form_stand k ∷ []) (added_all w k es g)) z d.scope id) (is.means m.constants (scoped_inputs w.scoped) (nodes_in w m) ∙ ap (row f) p.are)
+      (push-grown w m n (added_all w k es g) (record { scope = d.scope; node = x }) (form_stand k) id p.grown.holds s (is.known (length m.constants)) (subst (EachBelow (length (nodes_in w m))) (sym is.parts_are) p.within) is.alone (here-trees w k d k es g l).1
+      (parts-own m.scopes m.nodes d.scope x is.own (subst (EachStandsIn m.nodes d.scope) (sym is.parts_are) p.stand)) is.filled))
 
-  pub unary-added : (o m n : Lists) (d : Here) (f : Head) (e : PlainTree) (i : ℕ) (r : NodeRow) (id : ℕ) → AddsTree w o m d e i → IsForm f (i ∷ []) r.node → OneNode m n r id → r.scope ≡ d.scope → AddsForm w o n d f (tree e no_trees) id
-  unary-added o m n d f e i r id a is s here = form-added o m n d f (tree e no_trees) (i ∷ []) r id (tree-alone o m d e i a) s is here
+  const-added : (o m l n : Lists) (d : Here) (at : ℕ) (v : PlainValue) (es : PlainTrees) (ids : List ℕ) (c id : ℕ) → count es ≡ 0 → AddsTrees w o m d es ids → OneConstant m l v c → OneNode l n (record { scope = d.scope; node = Const c }) id → AddsTree w o n d (form at (const v) es) id
+  const-added o m l n d at v no_trees ids c id z a b s = λ k g q t h.
+      let p : AllGrownTo w o m g no_nodes d.scope ids = a k g q refl h in
+      let r : Grown w m l g = keep-grown w m l g v c p.grown.holds b in
+      grown-on o l n _ _ _ _ id (grown-then w o m l _ _ p.grown r)
+      (subst (λ z. GrownTo w l n (with_nodes (form_stand k ∷ []) g) z d.scope id) (ap (λ x. row (const x) no_nodes) (keep-constant w m l v c b)) (push-grown w l n g (record { scope = d.scope; node = Const c }) (form_stand k) id r.holds s (keep-known w m l v c b) tt tt q.1 tt tt))
+  const-added o m l n d at v (tree e es) ids c id z a b s = absurd (omega (arith, z))
 
-  pub binary-added : (o m l n : Lists) (d : Here) (f : Head) (a b : PlainTree) (i j : ℕ) (r : NodeRow) (id : ℕ) → AddsTree w o m d a i → AddsTree w m l d b j → IsForm f (i ∷ j ∷ []) r.node → OneNode l n r id → r.scope ≡ d.scope → AddsForm w o n d f (tree a (tree b no_trees)) id
-  binary-added o m l n d f a b i j r id x y is s here = form-added o l n d f (tree a (tree b no_trees)) (i ∷ j ∷ []) r id (tree-pair o m l d a b i j x y) s is here
+  pub form-added : (o m l n : Lists) (d : Here) (at : ℕ) (f : Head) (es : PlainTrees) (ids : List ℕ) (a id : ℕ) → FitsHead f (count es) → AddsTrees w o m d es ids → HasFirst m l f ids a
+      → OneNode l n (record { scope = d.scope; node = node_of f a (get_or ids 1 0) (get_or ids 2 0) }) id → AddsTree w o n d (form at f es) id
+  form-added o m l n d at (const v) es ids a id h x b s = const-added o m l n d at v es ids a id h x b s
+  form-added o m l n d at f es ids a id h x b s =
+      let same : OneNode m n (record { scope = d.scope; node = node_of f (get_or ids 0 0) (get_or ids 1 0) (get_or ids 2 0) }) id = subst (λ y. OneNode m n (record { scope = d.scope; node = node_of f y (get_or ids 1 0) (get_or ids 2 0) }) id) b.1
+      (subst (λ z. OneNode z n (record { scope = d.scope; node = node_of f a (get_or ids 1 0) (get_or ids 2 0) }) id) b.0 s) in
+      row-added o m n d at f es ids _ id x same (λ e t. is-form f es ids tt h e t)
 
-  pub choice-added : (o m l p n : Lists) (d : Here) (a b c : PlainTree) (i j q id : ℕ) → AddsTree w o m d a i → AddsTree w m l d b j → AddsTree w l p d c q → OneNode p n (record { scope = d.scope; node = If i j q }) id → AddsForm w o n d choose (tree a (tree b (tree c no_trees))) id
-  choice-added o m l p n d a b c i j q id x y z s =
-      form-added o p n d choose (tree a (tree b (tree c no_trees))) (i ∷ j ∷ q ∷ []) (record { scope = d.scope; node = If i j q }) id
-      (tree-then o m p d a (tree b (tree c no_trees)) i (j ∷ q ∷ []) x (tree-pair m l p d b c j q y z)) s (record { means = λ vs ns ts. refl; known = λ n. tt; parts_are = refl; alone = tt; own = tt; filled = tt }) refl
-
-  pub apply-added : (o m n : Lists) (d : Here) (op : Op) (es : PlainTrees) (ids args : List ℕ) (id : ℕ) → AddsTrees w o m d es ids → (length ids ≤ 3 → take (length ids) args ≡ ids) → AreZero (drop (length ids) args) → OneNode m n (record { scope = d.scope; node = Apply op args }) id → AddsForm w o n d (apply op (count es)) es id
-  apply-added o m n d op es ids args id a takes zeros s = λ k g l t h.
-      let p : AllGrownTo w o m (added_all w k es g) (bound_nodes w es) d.scope ids = a k g l (right-true (nat_eq (count es) (arity op)) _ t) h in
-      let same : length ids ≡ count es = count-same w (nodes_in w m) ids es p.are in
-      let fits : length ids ≡ arity op = same ∙ as_many (count es) (arity op) (left-true (nat_eq (count es) (arity op)) _ t) in
-      let taken : take (length ids) args ≡ ids = takes (omega (arith, fits, few op)) in
-      form-added o m n d (apply op (count es)) es ids (record { scope = d.scope; node = Apply op args }) id a s
-      (record { means = λ vs ns ts j. row (apply op ((sym fits ∙ same) j)) (all_at ts ((ap (λ z. take z args) (sym fits) ∙ taken) j)); known = λ n. tt; parts_are = ap (λ z. take z args) (sym fits) ∙ taken; alone = tt; own = tt; filled = subst (λ z. AreZero (drop z args)) fits zeros }) refl k g l t h
-
-  pub const-added : (o m n : Lists) (d : Here) (at : ℕ) (v : PlainValue) (c id : ℕ) → OneConstant o m v c → OneNode m n (record { scope = d.scope; node = Const c }) id → AddsTree w o n d (form at (const v) no_trees) id
-  const-added o m n d at v c id a s = λ k g l t h.
-      let p : Grown w o m g = keep-grown w o m g v c h a in
-      grown-on o m n _ _ _ _ id p
-      (subst (λ z. GrownTo w m n (with_nodes (form_stand k ∷ []) g) z d.scope id) (ap (λ x. row (const x) no_nodes) (keep-constant w o m v c a)) (push-grown w m n g (record { scope = d.scope; node = Const c }) (form_stand k) id p.holds s (keep-known w o m v c a) tt tt l.1 tt tt))
-
-  pub name-added : (o n : Lists) (d : Here) (at : ℕ) (x : List ℕ) (r : NodeRow) (id : ℕ) → r.node ≡ name_node w at → r.scope ≡ d.scope → OneNode o n r id → AddsTree w o n d (name at x) id
-  name-added o n d at x r id is here s = λ k g l t h.
+  pub name-added : (o n : Lists) (d : Here) (at : ℕ) (r : NodeRow) (id : ℕ) → r.node ≡ name_node w at → r.scope ≡ d.scope → OneNode o n r id → AddsName w o n d at id
+  name-added o n d at r id is here s = λ x k g l t h.
       let b = scoped_binding w.scoped at in
       subst (λ y. GrownTo w o n (with_nodes (name_stand k at ∷ []) g) (bound_node w (name at x)) y id) here (subst (λ z. GrownTo w o n (with_nodes (name_stand k at ∷ []) g) z r.scope id) (ap (as_node o.constants (scoped_inputs w.scoped) (nodes_in w o)) is ∙ named-means o.constants (scoped_inputs w.scoped) (nodes_in w o) w.numbering b)
       (push-grown w o n g r (name_stand k at) id h s (subst (IsKnown (length o.constants)) (sym is) (named-known (length o.constants) w.numbering b)) (subst (λ x. EachBelow (length (nodes_in w o)) (parts x)) (sym is) (named-parts (length (nodes_in w o)) w.numbering b)) is
       (subst (λ y. IsOpen g.scopes y k) (sym here) l.1) (subst (PartsStand o.scopes o.nodes r.scope) (sym is) (named-stands o.scopes o.nodes r.scope w.numbering b)) (subst IsFilled (sym is) (named-filled w.numbering b))))
 
-  pub call-added : (o m l n : Lists) (d : Here) (at : ℕ) (x : List ℕ) (es : PlainTrees) (ids : List ℕ) (p : PlaceRow) (q number depth id : ℕ) → AddsTrees w o m d es ids → l ≡ with_place p at m → p.actuals ≡ ids → p.scope ≡ d.scope → p.name ≡ (name_mark w.numbering at).number → q ≡ call_number w.numbering (first_place es)
+  pub call-added : (m l n : Lists) (d : Here) (at first : ℕ) (ids : List ℕ) (p : PlaceRow) (q number depth id : ℕ) → l ≡ with_place p at m → p.actuals ≡ ids → p.scope ≡ d.scope → p.name ≡ (name_mark w.numbering at).number → q ≡ call_number w.numbering first
       → number ≡ (name_mark w.numbering at).number → depth ≡ (function_mark w.numbering (callee_place (scoped_binding w.scoped at))).level
-      → OneNode l n (record { scope = d.scope; node = Call number q depth }) id → AddsTree w o n d (call at x es) id
-  call-added o m l n d at x es ids p q number depth id a b actuals here named place is_number is_depth s = λ k g e u h.
+      → OneNode l n (record { scope = d.scope; node = Call number q depth }) id → AddsCall w m n d at first ids id
+  call-added m l n d at first ids p q number depth id b actuals here named place is_number is_depth s = λ o x es f a k g e u h.
       let r : AllGrownTo w o m (added_all w k es g) (bound_nodes w es) d.scope ids = a k g e u h in
       let on : StandsAt (added_all w k es g) k d = here-trees w k d k es g e in
       let c : CallStand = record { at = at; actuals = es; home = k } in
       let v : NodeStand = call_stand k at (first_place es) in
       let z : Log = with_call c (added_all w k es g) in
+      let call_place : q ≡ call_number w.numbering (first_place es) = place ∙ ap (call_number w.numbering) f in
       let y : Grown w m l z = place-grown w m l (added_all w k es g) c p r.grown.holds b (subst (EachBelow (length (nodes_in w m))) (sym actuals) r.within) (ap (all_at (nodes_in w m)) actuals ∙ r.are) (subst (λ y. IsOpen (added_all w k es g).scopes y k) (sym here) on.1) named (subst (λ y. EachStandsIn m.nodes y p.actuals) (sym here) (subst (EachStandsIn m.nodes d.scope) (sym actuals) r.stand)) in
       grown-on o l n _ _ _ _ id (grown-then w o m l _ _ r.grown y)
-      (subst (λ b. GrownTo w l n (with_nodes (v ∷ []) z) b d.scope id) (λ j. invoke (is_number j) (place j) (is_depth j)) (push-grown w l n z (record { scope = d.scope; node = Call number q depth }) v id y.holds s tt tt (λ j. Call (is_number j) (place j) (is_depth j)) on.1 tt tt))
+      (subst (λ b. GrownTo w l n (with_nodes (v ∷ []) z) b d.scope id) (λ j. invoke (is_number j) (call_place j) (is_depth j)) (push-grown w l n z (record { scope = d.scope; node = Call number q depth }) v id y.holds s tt tt (λ j. Call (is_number j) (call_place j) (is_depth j)) on.1 tt tt))
 
   level-frozen : (b : Bool) (n m : ℕ) → b ≡ true → n ≡ m → (if b then suc n else n) ≡ m + 1
   level-frozen b n m e h = rw e (omega (arith, h))
@@ -231,9 +166,9 @@ module _ (w : Numbered) where
   frame-open b k q e = rw e refl
 
   -- in a scope that was opened
-  pub frozen-opened : (o p m l n : Lists) (d inner : Here) (at : ℕ) (e : PlainTree) (ds : PlainDefs) (i id : ℕ) → freezes ds ≡ true → OneScope o p (record { parent = d.scope; kind = FrozenScope }) inner.scope → inner.level ≡ d.level + 1 → AddsTree w p m inner e i → AddsDefs w m l inner d ds
-      → OneNode l n (record { scope = d.scope; node = Freeze i }) id → AddsTree w o n d (block at e ds) id
-  frozen-opened o p m l n d inner at e ds i id f opens depth a b s = λ k g q u h.
+  pub frozen-opened : (o p m l n : Lists) (d inner : Here) (e : PlainTree) (ds : PlainDefs) (i id : ℕ) → freezes ds ≡ true → OneScope o p (record { parent = d.scope; kind = FrozenScope }) inner.scope → inner.level ≡ d.level + 1 → AddsTree w p m inner e i → AddsDefs w m l inner d ds
+      → OneNode l n (record { scope = d.scope; node = Freeze i }) id → AddsBlock w o n d e ds id
+  frozen-opened o p m l n d inner e ds i id f opens depth a b s = λ at k g q u h.
       let y : Static = in_block ds k in
       let x : ScopeRow = record { parent = d.scope; kind = FrozenScope } in
       let own : frame y ≡ y = frame-frozen (freezes ds) y (frame k) f in
@@ -251,8 +186,8 @@ module _ (w : Numbered) where
       (subst (λ c. GrownTo w l n (with_nodes (form_stand k ∷ []) z) c d.scope id) (ap freeze (at-kept (nodes_in w m) (nodes_in w l) i t.begins r.within ∙ r.is))
       (push-grown w l n z (record { scope = d.scope; node = Freeze i }) (form_stand k) id t.holds s tt (within-kept (nodes_in w m) (nodes_in w l) t.begins i r.within, tt) tt last.1 (inner.scope, scope-kept p.scopes l.scopes (begins-then p.scopes m.scopes l.scopes r.grown.outer t.outer) inner.scope d.scope FrozenScope row, stands-kept m.nodes l.nodes t.rows inner.scope i r.stands) tt)))
 
-  pub open-added : (o m l : Lists) (d : Here) (at : ℕ) (e : PlainTree) (ds : PlainDefs) (i : ℕ) → freezes ds ≡ false → AddsTree w o m d e i → AddsDefs w m l d d ds → AddsTree w o l d (block at e ds) i
-  open-added o m l d at e ds i f a b = λ k g q u h.
+  pub open-added : (o m l : Lists) (d : Here) (e : PlainTree) (ds : PlainDefs) (i : ℕ) → freezes ds ≡ false → AddsTree w o m d e i → AddsDefs w m l d d ds → AddsBlock w o l d e ds i
+  open-added o m l d e ds i f a b = λ at k g q u h.
       let y : Static = in_block ds k in
       let same : frame y ≡ frame k = frame-open (freezes ds) y (frame k) f in
       let inside : StandsAt g y d = (level-open (freezes ds) (level k) d.level f q.0, q.1 ∙ ap Some (sym same)) in
@@ -272,18 +207,13 @@ module _ (w : Numbered) where
   pub no_defs-added : (o : Lists) (i d : Here) → AddsDefs w o o i d no_defs
   no_defs-added o i d = λ k q g a b z t h. grown-none w o g h
 
-  pub defs-one : (o m n : Lists) (i d : Here) (xs : List Def) (x : Def) → AddsDefs w o m i d (defs_of xs) → AddsDefs w m n i d (one_def x no_defs) → AddsDefs w o n i d (defs_of (xs ++ x ∷ []))
-  defs-one o m n i d xs x a b = λ k q g e f z t h.
-      let s = shaped-defs xs x t in
-      let front = λ (y : freezes (defs_of xs) ≡ true). z (freezes-front xs x y) in
-      let p : Grown w o m (added_defs w k q (defs_of xs) g) = a k q g e f front s.0 h in
-      subst (Grown w o n) (sym (defs-after w k q xs x g)) (grown-then w o m n _ _ p (b k q (added_defs w k q (defs_of xs) g) (here-defs w k i k q (defs_of xs) g e) (here-defs w q d k q (defs_of xs) g f) (λ y. scope-kept o.scopes m.scopes p.outer i.scope d.scope FrozenScope (z (freezes-last xs x y))) s.1 p.holds))
-
-  pub defs-more : (o m n : Lists) (i d : Here) (xs : List Def) (j : ℕ) (x : Def) → j < length xs → x ≡ get_or xs j x → AddsDefs w o m i d (defs_of (take j xs)) → AddsDefs w m n i d (one_def x no_defs) → AddsDefs w o n i d (defs_of (take (j + 1) xs))
-  defs-more o m n i d xs j x h is a b = subst (λ ys. AddsDefs w o n i d (defs_of ys)) (sym (next-taken xs j x h is)) (defs-one o m n i d (take j xs) x a b)
-
-  pub defs-done : (o n : Lists) (i d : Here) (xs : List Def) (ds : PlainDefs) (j : ℕ) → length xs ≤ j → defs_of xs ≡ ds → AddsDefs w o n i d (defs_of (take j xs)) → AddsDefs w o n i d ds
-  defs-done o n i d xs ds j h e a = subst (AddsDefs w o n i d) (ap defs_of (take_all j xs h) ∙ e) a
+  -- a first definition, and then others
+  pub defs-then : (o m n : Lists) (i d : Here) (x : Def) (ds : PlainDefs) → AddsDefs w o m i d (one_def x no_defs) → AddsDefs w m n i d ds → AddsDefs w o n i d (one_def x ds)
+  defs-then o m n i d x ds a b = λ k q g e f z t h.
+      let s = shaped-one x ds x.kind t in
+      let one : Log = added_defs w k q (one_def x no_defs) g in
+      let p : Grown w o m one = a k q g e f (λ y. z (freezes-first x ds y)) s.0 h in
+      subst (Grown w o n) (sym (first-added w k q x ds g)) (grown-then w o m n _ _ p (b k q one (here-defs w k i k q (one_def x no_defs) g e) (here-defs w q d k q (one_def x no_defs) g f) (λ y. scope-kept o.scopes m.scopes p.outer i.scope d.scope FrozenScope (z (freezes-rest x ds y))) s.1 p.holds))
 
   pub plain-added : (o m n : Lists) (i d : Here) (at : ℕ) (x : List ℕ) (e : PlainTree) (body : ℕ) → AddsTree w o m i e body → n ≡ with_name (record { scope = i.scope; kind = Plain body }) m → AddsDefs w o n i d (defines at x e no_defs)
   plain-added o m n i d at x e body a s = λ k q g u v fz t h.

@@ -21,7 +21,7 @@ use Rattle.std.specs.Option.{option_map}
 use Rattle.lucid_equations.specs.Ranges.{EachBelow}
 use Rattle.lucid_equations.specs.Rows.{no_node, at, all_at, parts, as_node, grow}
 use Rattle.lucid_equations.specs.declared.rows.Node.{Node}
-use Rattle.lucid_equations.specs.declared.rows.Node.TheVariants.{Const, Input, Apply, If, And, Or, First, Next, Fby, Whenever, Asa, Upon, Attime, Initial, Succ, Sby, Atspace, Freeze, Refer, Call}
+use Rattle.lucid_equations.specs.declared.rows.Node.TheVariants.{Const, Freeze}
 use Rattle.lucid_equations.specs.declared.rows.Entry.{Entry}
 use Rattle.lucid_equations.specs.declared.rows.Entry.TheVariants.{Plain, Parameter, Current, Called}
 use Rattle.lucid_equations.specs.declared.rows.NodeRow.{NodeRow}
@@ -43,25 +43,7 @@ begins-itself xs = ([], sym (append-nil xs))
 
 as_node-more : (vs ws : List PlainValue) (ns : List (List ℕ)) (ts : List PlainNode) (n : Node) → IsKnown (length vs) n → as_node (vs ++ ws) ns ts n ≡ as_node vs ns ts n
 as_node-more vs ws ns ts (Const k) h = ap (λ v. row (const v) no_nodes) (get_or_append_left vs ws fault k h)
-as_node-more vs ws ns ts (Input k) h = refl
-as_node-more vs ws ns ts (Apply op args) h = refl
-as_node-more vs ws ns ts (If a b c) h = refl
-as_node-more vs ws ns ts (And a b) h = refl
-as_node-more vs ws ns ts (Or a b) h = refl
-as_node-more vs ws ns ts (First a) h = refl
-as_node-more vs ws ns ts (Next a) h = refl
-as_node-more vs ws ns ts (Fby a b) h = refl
-as_node-more vs ws ns ts (Whenever a b) h = refl
-as_node-more vs ws ns ts (Asa a b) h = refl
-as_node-more vs ws ns ts (Upon a b) h = refl
-as_node-more vs ws ns ts (Attime a b) h = refl
-as_node-more vs ws ns ts (Initial a) h = refl
-as_node-more vs ws ns ts (Succ a) h = refl
-as_node-more vs ws ns ts (Sby a b) h = refl
-as_node-more vs ws ns ts (Atspace a b) h = refl
-as_node-more vs ws ns ts (Freeze a) h = refl
-as_node-more vs ws ns ts (Refer n l) h = refl
-as_node-more vs ws ns ts (Call n q l) h = refl
+as_node-more vs ws ns ts _ h = refl
 
 grow-more : (vs ws : List PlainValue) (ns : List (List ℕ)) (ts : List PlainNode) (rs : List NodeRow) → AreKnown (length vs) rs → grow (vs ++ ws) ns ts rs ≡ grow vs ns ts rs
 grow-more vs ws ns ts [] h = refl
@@ -70,25 +52,7 @@ grow-more vs ws ns ts (r ∷ rs) h =
 
 known-less : (n m : ℕ) (x : Node) → n ≤ m → IsKnown n x → IsKnown m x
 known-less n m (Const k) h g = omega (arith, h, g)
-known-less n m (Input k) h g = tt
-known-less n m (Apply op args) h g = tt
-known-less n m (If a b c) h g = tt
-known-less n m (And a b) h g = tt
-known-less n m (Or a b) h g = tt
-known-less n m (First a) h g = tt
-known-less n m (Next a) h g = tt
-known-less n m (Fby a b) h g = tt
-known-less n m (Whenever a b) h g = tt
-known-less n m (Asa a b) h g = tt
-known-less n m (Upon a b) h g = tt
-known-less n m (Attime a b) h g = tt
-known-less n m (Initial a) h g = tt
-known-less n m (Succ a) h g = tt
-known-less n m (Sby a b) h g = tt
-known-less n m (Atspace a b) h g = tt
-known-less n m (Freeze a) h g = tt
-known-less n m (Refer a l) h g = tt
-known-less n m (Call a q l) h g = tt
+known-less n m _ h g = tt
 
 all_known-less : (n m : ℕ) (rs : List NodeRow) → n ≤ m → AreKnown n rs → AreKnown m rs
 all_known-less n m [] h g = tt
@@ -135,26 +99,8 @@ each-stands-kept rs qs b s (id ∷ ids) h = (stands-kept rs qs b s id h.0, each-
 
 module _ (xs ys : List ScopeRow) (rs qs : List NodeRow) (a : Begins xs ys) (b : Begins rs qs) where
   pub parts-kept : (s : ℕ) (n : Node) → PartsStand xs rs s n → PartsStand ys qs s n
-  parts-kept s (Const k) h = tt
-  parts-kept s (Input k) h = tt
-  parts-kept s (Apply op args) h = each-stands-kept rs qs b s (parts (Apply op args)) h
-  parts-kept s (If x y z) h = each-stands-kept rs qs b s (x ∷ y ∷ z ∷ []) h
-  parts-kept s (And x y) h = each-stands-kept rs qs b s (x ∷ y ∷ []) h
-  parts-kept s (Or x y) h = each-stands-kept rs qs b s (x ∷ y ∷ []) h
-  parts-kept s (First x) h = each-stands-kept rs qs b s (x ∷ []) h
-  parts-kept s (Next x) h = each-stands-kept rs qs b s (x ∷ []) h
-  parts-kept s (Fby x y) h = each-stands-kept rs qs b s (x ∷ y ∷ []) h
-  parts-kept s (Whenever x y) h = each-stands-kept rs qs b s (x ∷ y ∷ []) h
-  parts-kept s (Asa x y) h = each-stands-kept rs qs b s (x ∷ y ∷ []) h
-  parts-kept s (Upon x y) h = each-stands-kept rs qs b s (x ∷ y ∷ []) h
-  parts-kept s (Attime x y) h = each-stands-kept rs qs b s (x ∷ y ∷ []) h
-  parts-kept s (Initial x) h = each-stands-kept rs qs b s (x ∷ []) h
-  parts-kept s (Succ x) h = each-stands-kept rs qs b s (x ∷ []) h
-  parts-kept s (Sby x y) h = each-stands-kept rs qs b s (x ∷ y ∷ []) h
-  parts-kept s (Atspace x y) h = each-stands-kept rs qs b s (x ∷ y ∷ []) h
   parts-kept s (Freeze x) h = (h.0, scope-kept xs ys a h.0 s FrozenScope h.1, stands-kept rs qs b h.0 x h.2)
-  parts-kept s (Refer n l) h = tt
-  parts-kept s (Call n q l) h = tt
+  parts-kept s n h = each-stands-kept rs qs b s (parts n) h
 
   pub entry-stands-kept : (s : ℕ) (e : Entry) → EntryStands xs rs s e → EntryStands ys qs s e
   entry-stands-kept s (Plain x) h = stands-kept rs qs b s x h

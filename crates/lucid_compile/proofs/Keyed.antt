@@ -1,16 +1,15 @@
 -- What the first walk lists, from what it lists for the parts.
-use Rattle.std.proofs.Common.{◌≡◌, ℕ, suc, ◌+◌, ◌<◌, ◌≤◌, if◌then◌else◌, length, List, [], ◌∷◌, map, take, get_or, sym, ap, ◌∙◌, subst, arith, take_all}
-use Rattle.std.proofs.lemmas.List.{map-append, length-map}
-use Rattle.lucid_tree.specs.Tree.{Head, PlainTree, form, call, block, PlainTrees, no_trees, tree, PlainDefs, no_defs, defines, defines_function, defines_current}
-use Rattle.lucid_tree.specs.Lists.{trees_of}
-use Rattle.lucid_tree.specs.DefsView.{one_def, defs_of}
+use Rattle.std.proofs.Common.{◌≡◌, ℕ, suc, ◌+◌, ◌<◌, if◌then◌else◌, length, List, [], ◌∷◌, ◌++◌, map, take, get_or, sym, ap, ◌∙◌, subst, arith}
+use Rattle.std.proofs.lemmas.List.{map-append, length-map, take_more}
+use Rattle.lucid_tree.specs.Tree.{PlainTree, call, block, PlainTrees, tree, PlainDefs, no_defs, defines, defines_function, defines_current}
+use Rattle.lucid_tree.specs.DefsView.{one_def}
 use Rattle.lucid_tree.specs.declared.tree.Def.{Def}
 use Rattle.lucid_equations.specs.Nodes.{plain_entry, current_entry, parameter_entry}
 use Rattle.lucid_compile.specs.Static.{Static, in_block, freezes, level, in_body}
 use Rattle.lucid_compile.specs.Places.{first_place}
 use Rattle.lucid_compile.specs.Bound.{Stand, bound_node, CallStand, FunctionStand, Log, with_stand, with_call, with_function, opened_block, opened_function, with_parameters, added, added_all, added_defs}
 use Rattle.lucid_compile.specs.Keys.{plain_key, function_key, stand_key, call_key, place_key, key_of_function, KeyLists, keys_of, with_name_key, with_function_key, with_call_key, ListsTree, ListsTrees, ListsDefs, ListsParameters}
-use Rattle.lucid_compile.proofs.Adding.{added-after, defs-after, parameters-after, next-taken}
+use Rattle.lucid_compile.proofs.Adding.{first-added, parameters-after}
 
 stand-keys : (s : Stand) (g : Log) → with_name_key (stand_key s) (keys_of g) ≡ keys_of (with_stand s g)
 stand-keys s g = λ j. record { names = sym (map-append stand_key g.names (s ∷ [])) j; calls = map call_key g.calls; places = map place_key g.calls; functions = map key_of_function g.functions }
@@ -21,34 +20,15 @@ call-keys c g = λ j. record { names = map stand_key g.names; calls = sym (map-a
 function-keys : (f : FunctionStand) (g : Log) → with_function_key (key_of_function f) (keys_of g) ≡ keys_of (with_function f g)
 function-keys f g = λ j. record { names = map stand_key g.names; calls = map call_key g.calls; places = map place_key g.calls; functions = sym (map-append key_of_function g.functions (f ∷ [])) j }
 
-pub nothing-listed : (o : KeyLists) (d at : ℕ) (f : Head) → ListsTree o o d (form at f no_trees)
-nothing-listed o d at f = λ w k g l h. h
+pub tree-listed : (o m n : KeyLists) (d : ℕ) (e : PlainTree) (es : PlainTrees) → ListsTree o m d e → ListsTrees m n d es → ListsTrees o n d (tree e es)
+tree-listed o m n d e es a b = λ w k g l h. b w k (added w k e g) l (a w k g l h)
 
-pub pair-listed : (o m n : KeyLists) (d at : ℕ) (f : Head) (a b : PlainTree) → ListsTree o m d a → ListsTree m n d b → ListsTree o n d (form at f (tree a (tree b no_trees)))
-pair-listed o m n d at f a b x y = λ w k g l h. y w k (added w k a g) l (x w k g l h)
-
-pub choice-listed : (o m p n : KeyLists) (d at : ℕ) (f : Head) (a b c : PlainTree) → ListsTree o m d a → ListsTree m p d b → ListsTree p n d c → ListsTree o n d (form at f (tree a (tree b (tree c no_trees))))
-choice-listed o m p n d at f a b c x y z = λ w k g l h. z w k (added w k b (added w k a g)) l (y w k (added w k a g) l (x w k g l h))
-
-pub trees-one : (o m n : KeyLists) (d : ℕ) (xs : List PlainTree) (i : ℕ) (x : PlainTree) → i < length xs → x ≡ get_or xs i x → ListsTrees o m d (trees_of (take i xs)) → ListsTree m n d x → ListsTrees o n d (trees_of (take (i + 1) xs))
-trees-one o m n d xs i x h is a b =
-    subst (λ ys. ListsTrees o n d (trees_of ys)) (sym (next-taken xs i x h is))
-    (λ w k g l e. b w k (added_all w k (trees_of (take i xs)) g) l (a w k g l e) ∙ sym (ap keys_of (added-after w k (take i xs) x g)))
-
-pub trees-all : (o n : KeyLists) (d : ℕ) (xs : List PlainTree) (es : PlainTrees) (i : ℕ) → length xs ≤ i → trees_of xs ≡ es → ListsTrees o n d (trees_of (take i xs)) → ListsTrees o n d es
-trees-all o n d xs es i h e a = subst (ListsTrees o n d) (ap trees_of (take_all i xs h) ∙ e) a
-
-pub defs-one : (o m n : KeyLists) (i d : ℕ) (xs : List Def) (j : ℕ) (x : Def) → j < length xs → x ≡ get_or xs j x → ListsDefs o m i d (defs_of (take j xs)) → ListsDefs m n i d (one_def x no_defs) → ListsDefs o n i d (defs_of (take (j + 1) xs))
-defs-one o m n i d xs j x h is a b =
-    subst (λ ys. ListsDefs o n i d (defs_of ys)) (sym (next-taken xs j x h is))
-    (λ w k q g u v e. b w k q (added_defs w k q (defs_of (take j xs)) g) u v (a w k q g u v e) ∙ sym (ap keys_of (defs-after w k q (take j xs) x g)))
-
-pub defs-all : (o n : KeyLists) (i d : ℕ) (xs : List Def) (ds : PlainDefs) (j : ℕ) → length xs ≤ j → defs_of xs ≡ ds → ListsDefs o n i d (defs_of (take j xs)) → ListsDefs o n i d ds
-defs-all o n i d xs ds j h e a = subst (ListsDefs o n i d) (ap defs_of (take_all j xs h) ∙ e) a
+pub defs-listed : (o m n : KeyLists) (i d : ℕ) (x : Def) (ds : PlainDefs) → ListsDefs o m i d (one_def x no_defs) → ListsDefs m n i d ds → ListsDefs o n i d (one_def x ds)
+defs-listed o m n i d x ds a b = λ w k q g u v h. b w k q (added_defs w k q (one_def x no_defs) g) u v (a w k q g u v h) ∙ sym (ap keys_of (first-added w k q x ds g))
 
 pub parameters-one : (o m n : KeyLists) (d : ℕ) (ats : List ℕ) (i at : ℕ) → i < length ats → at ≡ get_or ats i at → ListsParameters o m d (take i ats) → n ≡ with_name_key (plain_key at d) m → ListsParameters o n d (take (i + 1) ats)
 parameters-one o m n d ats i at h is a e =
-    subst (ListsParameters o n d) (sym (next-taken ats i at h is))
+    subst (ListsParameters o n d) (sym (take_more ats i at h ∙ ap (λ y. take i ats ++ y ∷ []) (sym is)))
     (λ k g l q.
     let s : Stand = record { at = at; home = k; entry = parameter_entry (0 + length (take i ats)) } in
     let before : Log = with_parameters k 0 (take i ats) g in

@@ -13,8 +13,8 @@ pub mod Actuals
 pub mod Opening
 pub mod Pairs
 pub mod Growing
-pub mod Falls
 pub mod Shapes
+pub mod Formed
 pub mod Named
 pub mod Adding
 pub mod Scoping

@@ -2,12 +2,12 @@
 use Rattle.std.proofs.Common.{◌≡◌, ℕ, List, Option, Some, None, refl}
 use Rattle.lucid_value.specs.Plain.{PlainValue}
 use Rattle.lucid_scope.specs.declared.scoped.Binding.{Binding}
-use Rattle.lucid_scope.specs.declared.scoped.Binding.TheVariants.{Plain as PlainName, Current as CurrentName, Parameter as ParameterName, Function as FunctionName, Input as InputName}
+use Rattle.lucid_scope.specs.declared.scoped.Binding.TheVariants.{Plain as PlainName}
 use Rattle.lucid_equations.specs.Nodes.{PlainNode, reference}
 use Rattle.lucid_equations.specs.Ranges.{EachBelow}
 use Rattle.lucid_equations.specs.Rows.{parts, as_node}
 use Rattle.lucid_equations.specs.declared.rows.Node.{Node}
-use Rattle.lucid_equations.specs.declared.rows.Node.TheVariants.{Const, Input, Apply, If, And, Or, First, Next, Fby, Whenever, Asa, Upon, Attime, Initial, Succ, Sby, Atspace, Freeze, Refer, Call}
+use Rattle.lucid_equations.specs.declared.rows.Node.TheVariants.{Freeze}
 use Rattle.lucid_equations.specs.Sound.{EachStandsIn, PartsStand, IsFilled}
 use Rattle.lucid_equations.specs.declared.rows.NodeRow.{NodeRow}
 use Rattle.lucid_equations.specs.declared.rows.ScopeRow.{ScopeRow}
@@ -18,63 +18,30 @@ use Rattle.lucid_compile.specs.Holds.{IsKnown}
 
 -- the parts of a node that freezes nothing
 pub parts-own : (xs : List ScopeRow) (rs : List NodeRow) (s : ℕ) (n : Node) → FreezesNothing n → EachStandsIn rs s (parts n) → PartsStand xs rs s n
-parts-own xs rs s (Const k) f h = h
-parts-own xs rs s (Input k) f h = h
-parts-own xs rs s (Apply op args) f h = h
-parts-own xs rs s (If a b c) f h = h
-parts-own xs rs s (And a b) f h = h
-parts-own xs rs s (Or a b) f h = h
-parts-own xs rs s (First a) f h = h
-parts-own xs rs s (Next a) f h = h
-parts-own xs rs s (Fby a b) f h = h
-parts-own xs rs s (Whenever a b) f h = h
-parts-own xs rs s (Asa a b) f h = h
-parts-own xs rs s (Upon a b) f h = h
-parts-own xs rs s (Attime a b) f h = h
-parts-own xs rs s (Initial a) f h = h
-parts-own xs rs s (Succ a) f h = h
-parts-own xs rs s (Sby a b) f h = h
-parts-own xs rs s (Atspace a b) f h = h
 parts-own xs rs s (Freeze a) f h = absurd f
-parts-own xs rs s (Refer n l) f h = h
-parts-own xs rs s (Call n q l) f h = h
+parts-own xs rs s n f h = h
 
 pub named-stands : (xs : List ScopeRow) (rs : List NodeRow) (s : ℕ) (g : Numbering) (b : Option Binding) → PartsStand xs rs s (node_by g b)
 named-stands xs rs s g None = tt
 named-stands xs rs s g (Some (PlainName d)) = tt
-named-stands xs rs s g (Some (CurrentName d)) = tt
-named-stands xs rs s g (Some (ParameterName d i)) = tt
-named-stands xs rs s g (Some (FunctionName d)) = tt
-named-stands xs rs s g (Some (InputName k)) = tt
+named-stands xs rs s g _ = tt
 
 pub named-filled : (g : Numbering) (b : Option Binding) → IsFilled (node_by g b)
 named-filled g None = tt
 named-filled g (Some (PlainName d)) = tt
-named-filled g (Some (CurrentName d)) = tt
-named-filled g (Some (ParameterName d i)) = tt
-named-filled g (Some (FunctionName d)) = tt
-named-filled g (Some (InputName k)) = tt
+named-filled g _ = tt
 
 pub named-means : (vs : List PlainValue) (inputs : List (List ℕ)) (ts : List PlainNode) (g : Numbering) (b : Option Binding) → as_node vs inputs ts (node_by g b) ≡ reference (reference_by g inputs b)
 named-means vs inputs ts g None = refl
 named-means vs inputs ts g (Some (PlainName d)) = refl
-named-means vs inputs ts g (Some (CurrentName d)) = refl
-named-means vs inputs ts g (Some (ParameterName d i)) = refl
-named-means vs inputs ts g (Some (FunctionName d)) = refl
-named-means vs inputs ts g (Some (InputName s)) = refl
+named-means vs inputs ts g _ = refl
 
 pub named-known : (n : ℕ) (g : Numbering) (b : Option Binding) → IsKnown n (node_by g b)
 named-known n g None = tt
 named-known n g (Some (PlainName d)) = tt
-named-known n g (Some (CurrentName d)) = tt
-named-known n g (Some (ParameterName d i)) = tt
-named-known n g (Some (FunctionName d)) = tt
-named-known n g (Some (InputName s)) = tt
+named-known n g _ = tt
 
 pub named-parts : (n : ℕ) (g : Numbering) (b : Option Binding) → EachBelow n (parts (node_by g b))
 named-parts n g None = tt
 named-parts n g (Some (PlainName d)) = tt
-named-parts n g (Some (CurrentName d)) = tt
-named-parts n g (Some (ParameterName d i)) = tt
-named-parts n g (Some (FunctionName d)) = tt
-named-parts n g (Some (InputName s)) = tt
+named-parts n g _ = tt

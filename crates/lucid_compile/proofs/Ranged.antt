@@ -6,7 +6,7 @@ use Rattle.lucid_scope.specs.Scoped.{scoped_inputs}
 use Rattle.lucid_equations.specs.Nodes.{PlainNode, PlainEntry}
 use Rattle.lucid_equations.specs.Ranges.{Sizes, NodeNames, NodesAreInRange, EntryIsInRange, NamesAreInRange, PlacesAreInRange, EachBelow}
 use Rattle.lucid_equations.specs.declared.rows.Node.{Node}
-use Rattle.lucid_equations.specs.declared.rows.Node.TheVariants.{Const, Input, Apply, If, And, Or, First, Next, Fby, Whenever, Asa, Upon, Attime, Initial, Succ, Sby, Atspace, Freeze, Refer, Call}
+use Rattle.lucid_equations.specs.declared.rows.Node.TheVariants.{Const, Input, Refer, Call}
 use Rattle.lucid_equations.specs.declared.rows.Entry.{Entry}
 use Rattle.lucid_equations.specs.declared.rows.Entry.TheVariants.{Plain, Parameter, Current, Called}
 use Rattle.lucid_equations.specs.declared.rows.NodeRow.{NodeRow}
@@ -22,49 +22,17 @@ use Rattle.lucid_compile.proofs.Meeting.{NameLeads, TargetMet, NodeMet}
 plain-in_range : (w : Numbered) (n : Sizes) (r : Node) → IsKnown n.constants r → HasTarget w r no_target → NodeNames n r
 plain-in_range w n (Const k) h g = h
 plain-in_range w n (Input k) h g = absurd g
-plain-in_range w n (Apply op args) h g = tt
-plain-in_range w n (If a b c) h g = tt
-plain-in_range w n (And a b) h g = tt
-plain-in_range w n (Or a b) h g = tt
-plain-in_range w n (First a) h g = tt
-plain-in_range w n (Next a) h g = tt
-plain-in_range w n (Fby a b) h g = tt
-plain-in_range w n (Whenever a b) h g = tt
-plain-in_range w n (Asa a b) h g = tt
-plain-in_range w n (Upon a b) h g = tt
-plain-in_range w n (Attime a b) h g = tt
-plain-in_range w n (Initial a) h g = tt
-plain-in_range w n (Succ a) h g = tt
-plain-in_range w n (Sby a b) h g = tt
-plain-in_range w n (Atspace a b) h g = tt
-plain-in_range w n (Freeze a) h g = tt
 plain-in_range w n (Refer a l) h g = absurd g
 plain-in_range w n (Call a q l) h g = absurd g
+plain-in_range w n _ h g = tt
 
 -- a name leads to an input or to a name that is there, and a call to a name and a call place
 module _ (w : Numbered) (z : Log) (n : Sizes) (more : length z.names ≤ n.names) (inputs : n.inputs ≡ length (scoped_inputs w.scoped))
     (calls-lead : (c : CallStand) → In c z.calls → ((name_mark w.numbering c.at).number < n.names) × (call_number w.numbering (first_place c.actuals) < n.places)) where
   name-in_range : (k : Static) (r : Node) → NameLeads z (length (scoped_inputs w.scoped)) k r → NodeNames n r
-  name-in_range k (Const c) h = absurd h
   name-in_range k (Input i) h = omega (arith, h, inputs)
-  name-in_range k (Apply op args) h = absurd h
-  name-in_range k (If a b c) h = absurd h
-  name-in_range k (And a b) h = absurd h
-  name-in_range k (Or a b) h = absurd h
-  name-in_range k (First a) h = absurd h
-  name-in_range k (Next a) h = absurd h
-  name-in_range k (Fby a b) h = absurd h
-  name-in_range k (Whenever a b) h = absurd h
-  name-in_range k (Asa a b) h = absurd h
-  name-in_range k (Upon a b) h = absurd h
-  name-in_range k (Attime a b) h = absurd h
-  name-in_range k (Initial a) h = absurd h
-  name-in_range k (Succ a) h = absurd h
-  name-in_range k (Sby a b) h = absurd h
-  name-in_range k (Atspace a b) h = absurd h
-  name-in_range k (Freeze a) h = absurd h
   name-in_range k (Refer x l) h = omega (arith, index-below z.names x h.stand h.there, more)
-  name-in_range k (Call x q l) h = absurd h
+  name-in_range k _ h = absurd h
 
   node-in_range : (t : Target) (k : Static) (r : Node) → IsKnown n.constants r → HasTarget w r t → TargetMet w z t k → NodeNames n r
   node-in_range no_target k r h g m = plain-in_range w n r h g

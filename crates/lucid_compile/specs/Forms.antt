@@ -1,40 +1,38 @@
--- What a node of a form is, and what a form adds.
-use Rattle.std.specs.Prelude.{◌≡◌, ℕ, List, [], ◌∷◌, ◌&&◌, IsTrue}
+-- What the node of a form is.
+use Rattle.std.specs.Prelude.{◌≡◌, ℕ, List, [], ◌∷◌, get_or}
 use Rattle.lucid_value.specs.Plain.{PlainValue}
-use Rattle.lucid_tree.specs.Tree.{Head, both, either, first, next, fby, whenever, asa, upon, attime, initial, succ, sby, atspace, PlainTrees}
-use Rattle.lucid_tree.specs.WellMade.{fits_arity, are_shaped}
+use Rattle.lucid_tree.specs.Tree.{Head, const, apply, choose, both, either, first, next, fby, whenever, asa, upon, attime, initial, succ, sby, atspace}
 use Rattle.lucid_equations.specs.Nodes.{PlainNode, row}
-use Rattle.lucid_compile.specs.declared.building.Here.{Here}
-use Rattle.lucid_compile.specs.Static.{Static}
 use Rattle.lucid_equations.specs.Rows.{all_at, parts, as_node}
-use Rattle.lucid_compile.specs.Building.{Lists}
-use Rattle.lucid_compile.specs.Bound.{Numbered, bound_nodes, form_stand, Log, with_nodes, added_all}
-use Rattle.lucid_compile.specs.Holds.{IsKnown, NamesNothing, StandsAt, Holds, GrownTo}
-use Rattle.lucid_equations.specs.declared.rows.Node.{Node}
-use Rattle.lucid_equations.specs.declared.rows.Node.TheVariants.{Freeze}
 use Rattle.lucid_equations.specs.Sound.{IsFilled}
-use Rattle.lucid_compile.specs.declared.forms.UnaryForm.{UnaryForm}
-use Rattle.lucid_compile.specs.declared.forms.UnaryForm.TheVariants.{First, Next, Initial, Succ}
-use Rattle.lucid_compile.specs.declared.forms.BinaryForm.{BinaryForm}
-use Rattle.lucid_compile.specs.declared.forms.BinaryForm.TheVariants.{And, Or, Fby, Whenever, Asa, Upon, Attime, Sby, Atspace}
+use Rattle.lucid_equations.specs.declared.rows.Node.{Node}
+use Rattle.lucid_equations.specs.declared.rows.Node.TheVariants.{Const, Apply, If, And, Or, First, Next, Fby, Whenever, Asa, Upon, Attime, Initial, Succ, Sby, Atspace, Freeze}
+use Rattle.lucid_compile.specs.Building.{Lists, OneConstant}
+use Rattle.lucid_compile.specs.Holds.{IsKnown, NamesNothing}
 
--- the form, as trees have it
-abbrev pub head_of_unary : UnaryForm → Head
-head_of_unary First = first
-head_of_unary Next = next
-head_of_unary Initial = initial
-head_of_unary Succ = succ
+-- the node of a form with these numbers: those of its parts in order, or of a constant its own first
+abbrev pub node_of : Head → (a b c : ℕ) → Node
+node_of (const v) a b c = Const a
+node_of (apply op n) a b c = Apply op (a ∷ b ∷ c ∷ [])
+node_of choose a b c = If a b c
+node_of both a b c = And a b
+node_of either a b c = Or a b
+node_of first a b c = First a
+node_of next a b c = Next a
+node_of fby a b c = Fby a b
+node_of whenever a b c = Whenever a b
+node_of asa a b c = Asa a b
+node_of upon a b c = Upon a b
+node_of attime a b c = Attime a b
+node_of initial a b c = Initial a
+node_of succ a b c = Succ a
+node_of sby a b c = Sby a b
+node_of atspace a b c = Atspace a b
 
-abbrev pub head_of_binary : BinaryForm → Head
-head_of_binary And = both
-head_of_binary Or = either
-head_of_binary Fby = fby
-head_of_binary Whenever = whenever
-head_of_binary Asa = asa
-head_of_binary Upon = upon
-head_of_binary Attime = attime
-head_of_binary Sby = sby
-head_of_binary Atspace = atspace
+-- the first number in the node of a form: of a constant its own, which is then kept; else that of the first part
+abbrev pub HasFirst : (o n : Lists) → Head → (ids : List ℕ) → (number : ℕ) → Type 0
+HasFirst o n (const v) ids a = OneConstant o n v a
+HasFirst o n _ ids a = (n ≡ o) × (a ≡ get_or ids 0 0)
 
 -- a node that freezes no time
 abbrev pub FreezesNothing : Node → Type 0
@@ -49,7 +47,3 @@ pub record IsForm (f : Head) (ids : List ℕ) (n : Node) : Type 0 where
   pub alone : NamesNothing n
   pub own : FreezesNothing n
   pub filled : IsFilled n
-
--- whatever the lists held before, they hold with a form of these parts
-abbrev pub AddsForm : Numbered → (o n : Lists) → (here : Here) → Head → PlainTrees → (id : ℕ) → Type 0
-AddsForm w o n d f es id = (k : Static) (g : Log) → StandsAt g k d → IsTrue (fits_arity f es && are_shaped es) → Holds w o g → GrownTo w o n (with_nodes (form_stand k ∷ []) (added_all w k es g)) (row f (bound_nodes w es)) d.scope id

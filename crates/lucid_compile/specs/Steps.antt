@@ -1,8 +1,12 @@
 -- What the functions that build a table promise each other.
 use Rattle.std.specs.Prelude.{◌≡◌, ℕ, ◌<◌, ◌^◌, List, ◌++◌, map, length, Option, Some, None, slice_get}
+use Rattle.lucid_tree.specs.Tree.{Head, PlainTree, form, name, call, block, PlainTrees, PlainDefs}
+use Rattle.lucid_tree.specs.Size.{count}
+use Rattle.lucid_tree.specs.Shape.{FitsHead}
 use Rattle.lucid_scope.specs.Scoped.{scoped_binding}
 use Rattle.lucid_equations.specs.Nodes.{called_entry, parameter_entry}
 use Rattle.lucid_compile.specs.Static.{Static, outermost, in_body}
+use Rattle.lucid_compile.specs.Places.{first_place}
 use Rattle.lucid_equations.specs.declared.rows.NameRow.{NameRow}
 use Rattle.lucid_equations.specs.declared.rows.Entry.TheVariants.{Parameter, Called}
 use Rattle.lucid_equations.specs.declared.table.Table.{Table}
@@ -14,10 +18,26 @@ use Rattle.lucid_compile.specs.declared.compiler.Source.{Source}
 use Rattle.lucid_compile.specs.Numbered.{function_mark}
 use Rattle.lucid_compile.specs.Building.{Lists}
 use Rattle.lucid_compile.specs.Bound.{Stand, Numbered, bound_node, callee_place, FunctionStand, Log, with_parameters}
-use Rattle.lucid_compile.specs.Holds.{StandsAt, Holds, Grown}
+use Rattle.lucid_compile.specs.Holds.{StandsAt, Holds, Grown, AddsTree, AddsTrees}
 
 abbrev pub numbered : Source → Numbered
 numbered s = record { numbering = s.numbering.now; scoped = s.scoped.now }
+
+-- to lists to which its parts were added, a form of them is added
+abbrev pub AddsForm : Numbered → (m n : Lists) → (here : Here) → Head → (ids : List ℕ) → (id : ℕ) → Type 0
+AddsForm w m n d f ids id = (o : Lists) (at : ℕ) (es : PlainTrees) → FitsHead f (count es) → AddsTrees w o m d es ids → AddsTree w o n d (form at f es) id
+
+-- a name at a place is added
+abbrev pub AddsName : Numbered → (o n : Lists) → (here : Here) → (at id : ℕ) → Type 0
+AddsName w o n d at id = (x : List ℕ) → AddsTree w o n d (name at x) id
+
+-- to lists to which its actuals were added, the first of them at a place, a call at a place is added
+abbrev pub AddsCall : Numbered → (m n : Lists) → (here : Here) → (at first : ℕ) → (ids : List ℕ) → (id : ℕ) → Type 0
+AddsCall w m n d at first ids id = (o : Lists) (x : List ℕ) (es : PlainTrees) → first ≡ first_place es → AddsTrees w o m d es ids → AddsTree w o n d (call at x es) id
+
+-- a block is added
+abbrev pub AddsBlock : Numbered → (o n : Lists) → (here : Here) → PlainTree → PlainDefs → (id : ℕ) → Type 0
+AddsBlock w o n d e ds id = (at : ℕ) → AddsTree w o n d (block at e ds) id
 
 -- whatever the lists held before, they hold with a function's parameters
 abbrev pub AddsParameters : Numbered → (o n : Lists) → (here : Here) → (places : List ℕ) → Type 0

@@ -1,33 +1,31 @@
 //! From a tree to its table: a second walk over the tree. Each part is made before the node that has it, so a part's number is
 //! lower. The rows of calls come after those of all other names, when the bodies of the functions are made. Each row is made at the
 //! number that the first walk gave it.
-ghost use Rattle.std.specs.Prelude.{◌≡◌, ◌+◌, ◌≤◌, ℕ, List, [], ◌∷◌, length, take, drop, get_or, slice_get, IfOk, OnOk};
-ghost use Rattle.lucid_tree.specs.View.{tree_of};
-ghost use Rattle.lucid_tree.specs.Tree.{apply, choose, no_trees, tree as one_more, no_defs, block as a_block, call as a_call};
-ghost use Rattle.lucid_tree.specs.Size.{count};
+ghost use Rattle.std.specs.Prelude.{◌≡◌, ◌+◌, ◌≤◌, length, get_or, slice_get, IfOk, OnOk};
+ghost use Rattle.lucid_tree.specs.Tree.{no_defs};
 ghost use Rattle.lucid_tree.specs.DefsView.{one_def};
+ghost use Rattle.lucid_tree.specs.Shape.{head_of};
 ghost use Rattle.lucid_scope.specs.Scoped.{scoped_tree, scoped_inputs, scoped_binding};
 ghost use Rattle.lucid_compile.specs.Promise.{KeepsTree};
-ghost use Rattle.lucid_equations.specs.Sound.{AreZero, IsSound};
+ghost use Rattle.lucid_equations.specs.Sound.{IsSound};
 ghost use Rattle.lucid_equations.specs.Programs.{table_of as table_in, program_equations};
 ghost use Rattle.lucid_compile.specs.Numbered.{name_mark, function_mark};
 ghost use Rattle.lucid_compile.specs.Bound.{name_node, callee_place};
 ghost use Rattle.lucid_compile.specs.Building.{lists, OneScope};
-ghost use Rattle.lucid_compile.specs.Forms.{head_of_unary, head_of_binary, AddsForm};
+ghost use Rattle.lucid_compile.specs.Forms.{HasFirst};
 ghost use Rattle.lucid_compile.specs.Holds.{AddsTree, AddsTrees, AddsDefs};
-ghost use Rattle.lucid_compile.specs.Steps.{numbered, AddsParameters, with_calls, callee_number, row_by, IsTableOf};
+ghost use Rattle.lucid_compile.specs.Steps.{numbered, AddsForm, AddsName, AddsCall, AddsBlock, AddsParameters, with_calls, callee_number, row_by, IsTableOf};
 
 use crate::building::{Body, Here, Rows};
-use crate::forms::{BinaryForm, UnaryForm};
+use crate::forms::form_node;
 use crate::numbering::{Mark, Numbering, first_place, has_frame, number};
 use lucid_equations::{
     Entry, NameRow, NameRows, Node, NodeRows, Numbers32, PlaceRow, PlaceRows, Program, ScopeKind,
     ScopeRows, Table, Values,
 };
-use lucid_ops::Op;
 use lucid_scope::laws::free_names_are_inputs;
 use lucid_scope::{Binding, Scoped};
-use lucid_tree::{Block, Def, DefKind, Defs, Kind, Names, Places32, Tree, Trees};
+use lucid_tree::{Def, DefKind, Definitions, Defs, Head, Names, Parts, Places32, Shape, Tree};
 use lucid_value::Name;
 use std::alloc::{AllocError, Global};
 
@@ -44,145 +42,82 @@ struct Source<'a> {
 fn add_tree(source: &Source, rows: &mut Rows, tree: &Tree, here: Here) -> Result<u32, AllocError>
     ensures { IfOk result (λ id. AddsTree (numbered source.now) (lists rows.old) (lists rows.new) here tree.now id) }
 {
-    add_kind(source, rows, tree.at, &tree.kind, here)
-}
-
-// The same of a node at a place.
-#[cycle(compile)]
-fn add_kind(
-    source: &Source,
-    rows: &mut Rows,
-    at: u32,
-    kind: &Kind,
-    here: Here,
-) -> Result<u32, AllocError>
-    ensures { IfOk result (λ id. AddsTree (numbered source.now) (lists rows.old) (lists rows.new) here (tree_of at kind.now) id) }
-{
-    match kind {
-        Kind::Const(value) => {
-            let constant = rows.keep(source.alloc, value)?;
-            rows.push(here, Node::Const { constant })
+    match tree.shape() {
+        Shape::Form { head, parts, .. } => {
+            let ids = add_parts(source, rows, parts, here)?;
+            add_form(source, rows, head, &ids, here)
         }
-        Kind::Name(_) => {
-            let node = named(source, at)?;
-            rows.push(here, node)
+        Shape::Name { at, .. } => add_name(source, rows, at, here),
+        Shape::Call { at, args, .. } => {
+            let ids = add_parts(source, rows, args.parts(), here)?;
+            add_call(source, rows, at, first_place(args), ids, here)
         }
-        Kind::Call { name, args } => add_call(source, rows, at, name, args, here),
-        Kind::Apply { op, args } => add_apply(source, rows, *op, args, here),
-        Kind::If { test, yes, no } => add_choice(source, rows, test, yes, no, here),
-        Kind::And(a, b) => add_binary(source, rows, BinaryForm::And, a, b, here),
-        Kind::Or(a, b) => add_binary(source, rows, BinaryForm::Or, a, b, here),
-        Kind::First(a) => add_unary(source, rows, UnaryForm::First, a, here),
-        Kind::Next(a) => add_unary(source, rows, UnaryForm::Next, a, here),
-        Kind::Fby(a, b) => add_binary(source, rows, BinaryForm::Fby, a, b, here),
-        Kind::Whenever(a, b) => add_binary(source, rows, BinaryForm::Whenever, a, b, here),
-        Kind::Asa(a, b) => add_binary(source, rows, BinaryForm::Asa, a, b, here),
-        Kind::Upon(a, b) => add_binary(source, rows, BinaryForm::Upon, a, b, here),
-        Kind::Attime(a, b) => add_binary(source, rows, BinaryForm::Attime, a, b, here),
-        Kind::Initial(a) => add_unary(source, rows, UnaryForm::Initial, a, here),
-        Kind::Succ(a) => add_unary(source, rows, UnaryForm::Succ, a, here),
-        Kind::Sby(a, b) => add_binary(source, rows, BinaryForm::Sby, a, b, here),
-        Kind::Atspace(a, b) => add_binary(source, rows, BinaryForm::Atspace, a, b, here),
-        Kind::Scope(block) => add_block(source, rows, at, block, here),
+        Shape::Scope { subject, defs, .. } => add_block(source, rows, subject, defs, here),
     }
 }
 
-// The number of the node of an operator on its arguments.
+// The numbers of the parts' nodes, in order.
 #[cycle(compile)]
-fn add_apply(
+fn add_parts(
     source: &Source,
     rows: &mut Rows,
-    op: Op,
-    args: &Trees,
-    here: Here,
-) -> Result<u32, AllocError>
-    ensures { IfOk result (λ id. AddsForm (numbered source.now) (lists rows.old) (lists rows.new) here (apply op (count args.now)) args.now id) }
-{
-    let ids = add_trees(source, rows, args, here)?;
-    let args = three(&ids);
-    rows.push(here, Node::Apply { op, args })
-}
-
-// The number of an `if`'s node.
-#[cycle(compile)]
-fn add_choice(
-    source: &Source,
-    rows: &mut Rows,
-    test: &Tree,
-    yes: &Tree,
-    no: &Tree,
-    here: Here,
-) -> Result<u32, AllocError>
-    ensures { IfOk result (λ id. AddsForm (numbered source.now) (lists rows.old) (lists rows.new) here choose (one_more test.now (one_more yes.now (one_more no.now no_trees))) id) }
-{
-    let test = add_tree(source, rows, test, here)?;
-    let yes = add_tree(source, rows, yes, here)?;
-    let no = add_tree(source, rows, no, here)?;
-    rows.push(here, Node::If { test, yes, no })
-}
-
-// The number of the node of a form of one part.
-#[cycle(compile)]
-fn add_unary(
-    source: &Source,
-    rows: &mut Rows,
-    form: UnaryForm,
-    part: &Tree,
-    here: Here,
-) -> Result<u32, AllocError>
-    ensures { IfOk result (λ id. AddsForm (numbered source.now) (lists rows.old) (lists rows.new) here (head_of_unary form) (one_more part.now no_trees) id) }
-{
-    let of = add_tree(source, rows, part, here)?;
-    rows.push(here, form.node(of))
-}
-
-// The number of the node of a form of two parts.
-#[cycle(compile)]
-fn add_binary(
-    source: &Source,
-    rows: &mut Rows,
-    form: BinaryForm,
-    left: &Tree,
-    right: &Tree,
-    here: Here,
-) -> Result<u32, AllocError>
-    ensures { IfOk result (λ id. AddsForm (numbered source.now) (lists rows.old) (lists rows.new) here (head_of_binary form) (one_more left.now (one_more right.now no_trees)) id) }
-{
-    let left = add_tree(source, rows, left, here)?;
-    let right = add_tree(source, rows, right, here)?;
-    rows.push(here, form.node(left, right))
-}
-
-// The numbers of the trees' nodes, in order.
-#[cycle(compile)]
-fn add_trees(
-    source: &Source,
-    rows: &mut Rows,
-    trees: &Trees,
+    parts: Parts<'_>,
     here: Here,
 ) -> Result<Vec<u32>, AllocError>
-    ensures { IfOk result (λ ids. AddsTrees (numbered source.now) (lists rows.old) (lists rows.new) here trees.now ids.items) }
+    ensures { IfOk result (λ ids. AddsTrees (numbered source.now) (lists rows.old) (lists rows.new) here parts.entry ids.items) }
 {
     let mut ids = Vec::new(source.alloc);
-    let items = trees.items();
-    for tree in items {
-        let id = add_tree(source, rows, tree, here)?;
+    for part in parts {
+        let id = add_tree(source, rows, part, here)?;
         ids.push(id)?;
     }
     Ok(ids)
 }
 
-// The numbers of an operator's arguments, and 0 past them. No operator has more than three.
-fn three(ids: &[u32]) -> [u32; 3]
-    ensures first { length ids.now ≤ 3 → take (length ids.now) result ≡ ids.now }
-    ensures rest { AreZero (drop (length ids.now) result) }
+// The number at an index, and 0 past the last.
+fn number_at(ids: &[u32], index: usize) -> u32
+    ensures { result ≡ get_or ids.now index 0 }
 {
-    match ids {
-        [] => [0, 0, 0],
-        [first] => [*first, 0, 0],
-        [first, second] => [*first, *second, 0],
-        [first, second, third, ..] => [*first, *second, *third],
+    ids.get(index).copied().unwrap_or(0)
+}
+
+// The first number in the node of a form: of a constant its own, which is kept; else that of the first part.
+fn first_number(
+    source: &Source,
+    rows: &mut Rows,
+    head: Head<'_>,
+    ids: &[u32],
+) -> Result<u32, AllocError>
+    ensures { IfOk result (λ first. HasFirst (lists rows.old) (lists rows.new) (head_of head.entry) ids.now first) }
+{
+    match head {
+        Head::Const(value) => rows.keep(source.alloc, value),
+        _ => Ok(number_at(ids, 0)),
     }
+}
+
+// The number of the node of a form, whose parts have these numbers.
+fn add_form(
+    source: &Source,
+    rows: &mut Rows,
+    head: Head<'_>,
+    ids: &[u32],
+    here: Here,
+) -> Result<u32, AllocError>
+    ensures { IfOk result (λ id. AddsForm (numbered source.now) (lists rows.old) (lists rows.new) here (head_of head.entry) ids.now id) }
+{
+    let first = first_number(source, rows, head, ids)?;
+    let second = number_at(ids, 1);
+    let third = number_at(ids, 2);
+    rows.push(here, form_node(head, first, second, third))
+}
+
+// The number of the node of a name without arguments.
+fn add_name(source: &Source, rows: &mut Rows, at: u32, here: Here) -> Result<u32, AllocError>
+    ensures { IfOk result (λ id. AddsName (numbered source.now) (lists rows.old) (lists rows.new) here at id) }
+{
+    let node = named(source, at)?;
+    rows.push(here, node)
 }
 
 // A name without arguments, by its binding. In a tree that was resolved it has one, and it is no function's.
@@ -219,23 +154,21 @@ fn parameter(numbering: &Numbering, def: u32, index: u32) -> Result<Node, AllocE
     Ok(Node::Refer { name, level })
 }
 
-// The number of a call's node. Its actuals are made before it.
-#[cycle(compile)]
+// The number of a call's node, whose actuals have these numbers, the first of them at a place.
 fn add_call(
     source: &Source,
     rows: &mut Rows,
     at: u32,
-    name: &Name,
-    args: &Trees,
+    first: u32,
+    ids: Vec<u32>,
     here: Here,
 ) -> Result<u32, AllocError>
-    ensures { IfOk result (λ id. AddsTree (numbered source.now) (lists rows.old) (lists rows.new) here (a_call at name.now args.now) id) }
+    ensures { IfOk result (λ id. AddsCall (numbered source.now) (lists rows.old) (lists rows.new) here at first ids.items id) }
 {
-    let ids = add_trees(source, rows, args, here)?;
     number(ids.len())?;
     let function = called(source, at);
     let name = source.numbering.name(at).number;
-    let place = source.numbering.place(first_place(args));
+    let place = source.numbering.place(first);
     let row = PlaceRow {
         scope: here.scope,
         name,
@@ -274,20 +207,20 @@ fn called(source: &Source, at: u32) -> Mark
 fn add_block(
     source: &Source,
     rows: &mut Rows,
-    at: u32,
-    block: &Block,
+    subject: &Tree,
+    defs: &Defs,
     here: Here,
 ) -> Result<u32, AllocError>
-    ensures { IfOk result (λ id. AddsTree (numbered source.now) (lists rows.old) (lists rows.new) here (a_block at block.now.subject block.now.defs) id) }
+    ensures { IfOk result (λ id. AddsBlock (numbered source.now) (lists rows.old) (lists rows.new) here subject.now defs.now id) }
 {
-    if has_frame(&block.defs) {
+    if has_frame(defs) {
         let inside = opened(rows, here, ScopeKind::Frozen)?;
-        let subject = add_tree(source, rows, &block.subject, inside)?;
-        add_defs(source, rows, &block.defs, inside, here)?;
+        let subject = add_tree(source, rows, subject, inside)?;
+        add_defs(source, rows, defs.definitions(), inside, here)?;
         rows.push(here, Node::Freeze { subject })
     } else {
-        let subject = add_tree(source, rows, &block.subject, here)?;
-        add_defs(source, rows, &block.defs, here, here)?;
+        let subject = add_tree(source, rows, subject, here)?;
+        add_defs(source, rows, defs.definitions(), here, here)?;
         Ok(subject)
     }
 }
@@ -307,14 +240,13 @@ fn opened(rows: &mut Rows, here: Here, kind: ScopeKind) -> Result<Here, AllocErr
 fn add_defs(
     source: &Source,
     rows: &mut Rows,
-    defs: &Defs,
+    defs: Definitions<'_>,
     inside: Here,
     outside: Here,
 ) -> Result<(), AllocError>
-    ensures { OnOk result (AddsDefs (numbered source.now) (lists rows.old) (lists rows.new) inside outside defs.now) }
+    ensures { OnOk result (AddsDefs (numbered source.now) (lists rows.old) (lists rows.new) inside outside defs.entry) }
 {
-    let items = defs.items();
-    for def in items {
+    for def in defs {
         add_def(source, rows, def, inside, outside)?;
     }
     Ok(())

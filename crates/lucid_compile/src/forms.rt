@@ -1,61 +1,38 @@
-//! The forms of one part, and those of two.
-ghost use Rattle.std.specs.Prelude.{[], ◌∷◌};
-ghost use Rattle.lucid_compile.specs.Forms.{head_of_unary, head_of_binary, IsForm};
+//! The node of a form.
+ghost use Rattle.std.specs.Prelude.{◌≡◌};
+ghost use Rattle.lucid_tree.specs.Shape.{head_of};
+ghost use Rattle.lucid_compile.specs.Forms.{node_of};
 
 use lucid_equations::Node;
+use lucid_tree::Head;
 
-/// A form of one part.
-#[derive(Clone, Copy)]
-pub(crate) enum UnaryForm {
-    First,
-    Next,
-    Initial,
-    Succ,
-}
-
-/// A form of two parts.
-#[derive(Clone, Copy)]
-pub(crate) enum BinaryForm {
-    And,
-    Or,
-    Fby,
-    Whenever,
-    Asa,
-    Upon,
-    Attime,
-    Sby,
-    Atspace,
-}
-
-impl UnaryForm {
-    /// The node of this form with a part.
-    pub(crate) fn node(self, of: u32) -> Node
-        ensures { IsForm (head_of_unary self) (of ∷ []) result }
-    {
-        match self {
-            UnaryForm::First => Node::First { of },
-            UnaryForm::Next => Node::Next { of },
-            UnaryForm::Initial => Node::Initial { of },
-            UnaryForm::Succ => Node::Succ { of },
+/// The node of a form with these numbers: those of its parts in order, with 0 past them, or of a constant its own first.
+pub(crate) fn form_node(head: Head<'_>, a: u32, b: u32, c: u32) -> Node
+    ensures { result ≡ node_of (head_of head.entry) a b c }
+{
+    match head {
+        Head::Const(_) => Node::Const { constant: a },
+        Head::Apply { op, .. } => {
+            let args = [a, b, c];
+            Node::Apply { op, args }
         }
-    }
-}
-
-impl BinaryForm {
-    /// The node of this form with two parts.
-    pub(crate) fn node(self, left: u32, right: u32) -> Node
-        ensures { IsForm (head_of_binary self) (left ∷ right ∷ []) result }
-    {
-        match self {
-            BinaryForm::And => Node::And { left, right },
-            BinaryForm::Or => Node::Or { left, right },
-            BinaryForm::Fby => Node::Fby { left, right },
-            BinaryForm::Whenever => Node::Whenever { left, right },
-            BinaryForm::Asa => Node::Asa { left, right },
-            BinaryForm::Upon => Node::Upon { left, right },
-            BinaryForm::Attime => Node::Attime { left, right },
-            BinaryForm::Sby => Node::Sby { left, right },
-            BinaryForm::Atspace => Node::Atspace { left, right },
-        }
+        Head::Choose => Node::If {
+            test: a,
+            yes: b,
+            no: c,
+        },
+        Head::Both => Node::And { left: a, right: b },
+        Head::Either => Node::Or { left: a, right: b },
+        Head::First => Node::First { of: a },
+        Head::Next => Node::Next { of: a },
+        Head::Fby => Node::Fby { left: a, right: b },
+        Head::Whenever => Node::Whenever { left: a, right: b },
+        Head::Asa => Node::Asa { left: a, right: b },
+        Head::Upon => Node::Upon { left: a, right: b },
+        Head::Attime => Node::Attime { left: a, right: b },
+        Head::Initial => Node::Initial { of: a },
+        Head::Succ => Node::Succ { of: a },
+        Head::Sby => Node::Sby { left: a, right: b },
+        Head::Atspace => Node::Atspace { left: a, right: b },
     }
 }

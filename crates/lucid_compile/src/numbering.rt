@@ -2,7 +2,7 @@
 //! in the order in which the second one makes the rows, and a row's number is its index.
 ghost use Rattle.std.specs.Prelude.{◌≡◌, ◌<◌, ◌^◌, ℕ, suc, ◌++◌, length, map, nat_eq, IfOk, OnOk, if◌then◌else◌};
 ghost use Rattle.std.specs.Map.{lookup};
-ghost use Rattle.lucid_tree.specs.Tree.{block as a_block, no_defs};
+ghost use Rattle.lucid_tree.specs.Tree.{no_defs};
 ghost use Rattle.lucid_tree.specs.DefsView.{one_def};
 ghost use Rattle.lucid_tree.specs.Members.{In, AllDiffer};
 ghost use Rattle.lucid_scope.specs.Scoped.{scoped_tree};
@@ -14,7 +14,7 @@ ghost use Rattle.lucid_compile.specs.Keys.{plain_key, function_key, with_name_ke
 
 use indexmap::IndexMap;
 use lucid_scope::Scoped;
-use lucid_tree::{Block, Def, DefKind, Defs, Kind, Places32, Tree, Trees};
+use lucid_tree::{Def, DefKind, Definitions, Defs, Parts, Places32, Shape, Tree, Trees};
 use std::alloc::{AllocError, Global};
 
 /// By what a row is found: a place, the number of a function's first parameter, and the level of the scope from its entry on.
@@ -66,6 +66,14 @@ pub(crate) fn number(count: usize) -> Result<u32, AllocError>
     } else {
         Err(AllocError)
     }
+}
+
+// The key of what stands at a place and is no function.
+fn plain_key(at: u32, level: u32) -> Key
+    ensures { result ≡ plain_key at level }
+{
+    let first = 0;
+    Key { at, first, level }
 }
 
 // The keys' numbers, counted from a start.
@@ -166,11 +174,7 @@ impl Keys {
     fn name(&mut self, at: u32, level: u32) -> Result<(), AllocError>
         ensures { OnOk result (key_lists self.new ≡ with_name_key (plain_key at level) (key_lists self.old)) }
     {
-        self.names.push(Key {
-            at,
-            first: 0,
-            level,
-        })?;
+        self.names.push(plain_key(at, level))?;
         Ok(())
     }
 
@@ -186,16 +190,8 @@ impl Keys {
     fn call(&mut self, at: u32, first: u32, level: u32) -> Result<(), AllocError>
         ensures { OnOk result (key_lists self.new ≡ with_call_key (plain_key at level) (plain_key first level) (key_lists self.old)) }
     {
-        self.calls.push(Key {
-            at,
-            first: 0,
-            level,
-        })?;
-        self.places.push(Key {
-            at: first,
-            first: 0,
-            level,
-        })?;
+        self.calls.push(plain_key(at, level))?;
+        self.places.push(plain_key(first, level))?;
         Ok(())
     }
 }
@@ -225,55 +221,29 @@ pub(crate) fn has_frame(defs: &Defs) -> bool
 fn list_tree(keys: &mut Keys, tree: &Tree, level: u32) -> Result<(), AllocError>
     ensures { OnOk result (ListsTree (key_lists keys.old) (key_lists keys.new) level tree.now) }
 {
-    match &tree.kind {
-        Kind::Const(_) | Kind::Name(_) => Ok(()),
-        Kind::Call { args, .. } => {
-            list_trees(keys, args, level)?;
-            keys.call(tree.at, first_place(args), level)
+    match tree.shape() {
+        Shape::Name { .. } => Ok(()),
+        Shape::Form { parts, .. } => list_parts(keys, parts, level),
+        Shape::Call { at, args, .. } => {
+            list_parts(keys, args.parts(), level)?;
+            keys.call(at, first_place(args), level)
         }
-        Kind::Apply { args, .. } => list_trees(keys, args, level),
-        Kind::If { test, yes, no } => {
-            list_tree(keys, test, level)?;
-            list_tree(keys, yes, level)?;
-            list_tree(keys, no, level)
+        Shape::Scope { subject, defs, .. } => {
+            let inside = inside_level(defs, level)?;
+            list_tree(keys, subject, inside)?;
+            list_defs(keys, defs.definitions(), inside, level)
         }
-        Kind::First(a) | Kind::Next(a) | Kind::Initial(a) | Kind::Succ(a) => {
-            list_tree(keys, a, level)
-        }
-        Kind::And(a, b)
-        | Kind::Or(a, b)
-        | Kind::Fby(a, b)
-        | Kind::Whenever(a, b)
-        | Kind::Asa(a, b)
-        | Kind::Upon(a, b)
-        | Kind::Attime(a, b)
-        | Kind::Sby(a, b)
-        | Kind::Atspace(a, b) => {
-            list_tree(keys, a, level)?;
-            list_tree(keys, b, level)
-        }
-        Kind::Scope(block) => list_block(keys, tree.at, block, level),
     }
 }
 
 #[cycle(numbering)]
-fn list_trees(keys: &mut Keys, trees: &Trees, level: u32) -> Result<(), AllocError>
-    ensures { OnOk result (ListsTrees (key_lists keys.old) (key_lists keys.new) level trees.now) }
+fn list_parts(keys: &mut Keys, parts: Parts<'_>, level: u32) -> Result<(), AllocError>
+    ensures { OnOk result (ListsTrees (key_lists keys.old) (key_lists keys.new) level parts.entry) }
 {
-    let items = trees.items();
-    for tree in items {
-        list_tree(keys, tree, level)?;
+    for part in parts {
+        list_tree(keys, part, level)?;
     }
     Ok(())
-}
-
-#[cycle(numbering)]
-fn list_block(keys: &mut Keys, at: u32, block: &Block, level: u32) -> Result<(), AllocError>
-    ensures { OnOk result (ListsTree (key_lists keys.old) (key_lists keys.new) level (a_block at block.now.subject block.now.defs)) }
-{
-    let inside = inside_level(&block.defs, level)?;
-    list_tree(keys, &block.subject, inside)?;
-    list_defs(keys, &block.defs, inside, level)
 }
 
 // The level inside a block.
@@ -288,11 +258,15 @@ fn inside_level(defs: &Defs, level: u32) -> Result<u32, AllocError>
 }
 
 #[cycle(numbering)]
-fn list_defs(keys: &mut Keys, defs: &Defs, inside: u32, outside: u32) -> Result<(), AllocError>
-    ensures { OnOk result (ListsDefs (key_lists keys.old) (key_lists keys.new) inside outside defs.now) }
+fn list_defs(
+    keys: &mut Keys,
+    defs: Definitions<'_>,
+    inside: u32,
+    outside: u32,
+) -> Result<(), AllocError>
+    ensures { OnOk result (ListsDefs (key_lists keys.old) (key_lists keys.new) inside outside defs.entry) }
 {
-    let items = defs.items();
-    for def in items {
+    for def in defs {
         list_def(keys, def, inside, outside)?;
     }
     Ok(())
