@@ -7,7 +7,7 @@ ghost use Rattle.lucid_tree.specs.DefsView.{one_def};
 ghost use Rattle.lucid_tree.specs.Shape.{head_of};
 ghost use Rattle.lucid_scope.specs.Scoped.{scoped_tree, scoped_inputs, scoped_binding};
 ghost use Rattle.lucid_compile.specs.Promise.{KeepsTree};
-ghost use Rattle.lucid_equations.specs.Sound.{IsSound};
+ghost use Rattle.lucid_equations.specs.Sound.{IsSound, most_inputs};
 ghost use Rattle.lucid_equations.specs.Programs.{table_of as table_in, program_equations};
 ghost use Rattle.lucid_compile.specs.Numbered.{name_mark, function_mark};
 ghost use Rattle.lucid_compile.specs.Bound.{name_node, callee_place};
@@ -372,7 +372,7 @@ fn copied(alloc: Global, names: &[Name]) -> Result<Vec<Name>, AllocError>
 /// 2^32 - 2 rows.
 pub fn compile(alloc: Global, scoped: &Scoped) -> Result<Program, AllocError>
     ensures keeps { IfOk result (λ program. KeepsTree (program_equations program) (scoped_tree scoped.now)) }
-    ensures sound { IfOk result (λ program. length (scoped_inputs scoped.now) ≤ 1048576 → IsSound (table_in program)) }
+    ensures sound { IfOk result (λ program. length (scoped_inputs scoped.now) ≤ most_inputs → IsSound (table_in program)) }
     ensures inputs { IfOk result (λ program. (table_in program).inputs ≡ scoped_inputs scoped.now) }
 {
     free_names_are_inputs();
