@@ -8,7 +8,7 @@ function __lucid_program
     for word in $words
         if test $is_value = yes
             set is_value no
-        else if contains -- $word --count --depth --policy --age --room --make
+        else if contains -- $word --count --depth --policy --age --room --columns --make
             set is_value yes
         else if not string match -q -- '-*' $word
             echo $word
@@ -31,6 +31,7 @@ complete -c lucid -l policy -x -a 'keep none age last' -d 'what is held of compu
 complete -c lucid -l age -x -d 'with the policy age, for how many sweeps a value stays'
 complete -c lucid -l room -x -d 'with the policy last, how many values stay'
 complete -c lucid -l stats -d 'say how many lines were written and values held'
+complete -c lucid -l columns -x -d 'up to 16 names of the outermost block side by side, parted by commas'
 complete -c lucid -l print -d 'write the program with the least parentheses'
 complete -c lucid -l cycles -d 'judge the cycles of references'
 complete -c lucid -l flat -d 'write the program as a table'

@@ -111,21 +111,7 @@ static WORDS: [Row; 6] = [
     },
 ];
 
-const THREE_COLUMNS: &str = "a where a = 1 fby a + 1; b = a * a; c = 5 fby eod; end";
-
-static NOT_BUILT: [Row; 4] = [
-    Row {
-        words: "--columns a,b,c --count 3 p",
-        source: THREE_COLUMNS,
-        report: "not built yet\n",
-        ..REFUSED
-    },
-    // columns that are no list of names
-    Row {
-        words: "--columns a, p",
-        source: THREE_COLUMNS,
-        ..USAGE
-    },
+static NOT_BUILT: [Row; 2] = [
     Row {
         words: "--why 3 p",
         source: COUNTING,

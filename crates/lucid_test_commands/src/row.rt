@@ -182,6 +182,42 @@ fn passes_flat<R: Abort + AllocGlobal>(rt: &R, row: &Row) -> Result<(), Fail> {
     Ok(())
 }
 
+// The name that is the subject of a source, where it begins with a name and `where`.
+fn subject_of(source: &str) -> Option<&str> {
+    let mut words = source.split_whitespace();
+    let name = words.next()?;
+    if words.next()? == "where" {
+        Some(name)
+    } else {
+        None
+    }
+}
+
+// The program does the same by its subject as the only column.
+fn passes_alone<R: Abort + AllocGlobal>(rt: &R, row: &Row) -> Result<(), Fail> {
+    let alloc = rt.alloc();
+    let Some(name) = subject_of(row.source) else {
+        return Ok(());
+    };
+    let words = format!(in alloc; "--columns {name} {}", row.words)?;
+    let mut places = places_of(alloc, row.source.as_bytes(), row.inputs, row.reads)?;
+    let answer = call(alloc, &words, &mut places, 100, row.writes)?;
+    assert!(rt; is_as_told(&answer, row), "{words}: {}", row.source);
+    if let Some(wanted) = row.taken {
+        let taken = taken(alloc, &mut places)?;
+        assert_eq!(rt; taken.as_slice(), wanted, "{words}: {}", row.source);
+    }
+    Ok(())
+}
+
+/// Each row whose subject is a name passes with that name as the only column.
+pub(crate) fn each_passes_alone<R: Abort + AllocGlobal>(rt: &R, rows: &[Row]) -> Result<(), Fail> {
+    for row in rows {
+        passes_alone(rt, row)?;
+    }
+    Ok(())
+}
+
 /// Each row passes by the flat form of its program.
 pub(crate) fn each_passes_flat<R: Abort + AllocGlobal>(rt: &R, rows: &[Row]) -> Result<(), Fail> {
     for row in rows {

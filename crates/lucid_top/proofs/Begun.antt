@@ -9,23 +9,23 @@ use Rattle.lucid_ports.specs.declared.run.RunFault.{RunFault}
 use Rattle.lucid_ports.specs.declared.run.RunFault.TheVariants as fault
 use Rattle.lucid_tree.specs.Levels.{Elements}
 use Rattle.lucid_ports.proofs.WritingLemmas.{with_nothing}
-use Rattle.lucid_session.specs.Subject.{Subject, stream_subject, no_lines}
+use Rattle.lucid_session.specs.Subject.{Subject, no_lines}
 use Rattle.lucid_session.specs.Runs.{RunView, IsInput, HasElements, Ran}
 use Rattle.lucid_session.specs.Figures.{Figures}
 use Rattle.lucid_top.specs.declared.stop.Stop.{Stop}
 use Rattle.lucid_top.specs.declared.stop.Stop.TheVariants as stop
 use Rattle.lucid_top.specs.Status.{Outcome}
-use Rattle.lucid_top.specs.Programs.{Program, program_stream, program_counted}
+use Rattle.lucid_top.specs.Programs.{Program, program_subject, program_counted}
 use Rattle.lucid_top.specs.Runs.{run_result, RanSo}
 
 -- what is promised of the result of a run
 abbrev pub RanWith : Program → RunView → Result Summary RunFault → Type 0
-RanWith p r result = (b : Elements) → HasElements r b → Ran (stream_subject (program_stream p)) b r result × Figures (program_counted p) b r result
+RanWith p r result = (b : Elements) → HasElements r b → Ran (program_subject p) b r result × Figures (program_counted p) b r result
 
 -- the outcome of that result
 pub ran_with : (p : Program) (r : RunView) (o : Outcome) (result : Result Summary RunFault) → run_result o ≡ Some result → RanWith p r result → RanSo p r o
 ran_with p r o result is h b has =
-    subst (λ x. IsSomeAnd x (λ y. Ran (stream_subject (program_stream p)) b r y × Figures (program_counted p) b r y)) (sym is) (h b has)
+    subst (λ x. IsSomeAnd x (λ y. Ran (program_subject p) b r y × Figures (program_counted p) b r y)) (sym is) (h b has)
 
 -- nothing is consumed of any input
 abbrev pub ConsumesNothing : RunView → Type 0
@@ -67,10 +67,10 @@ unmade S b r silent nothing = record {
 pub never_read : (p : Program) (r : RunView) → r.out_after.bytes ≡ r.out_before.bytes → ConsumesNothing r → Rises r.before.faults r.after.faults
     → RanWith p r (Err fault.ReadFault)
 never_read p r silent nothing rises b has =
-    (unread (stream_subject (program_stream p)) b r silent nothing rises, record { held = λ _. tt; deep = λ _. tt; cleared = tt })
+    (unread (program_subject p) b r silent nothing rises, record { held = λ _. tt; deep = λ _. tt; cleared = tt })
 
 pub never_made : (p : Program) (r : RunView) → r.out_after.bytes ≡ r.out_before.bytes → ConsumesNothing r → RanWith p r (Err fault.NoMemory)
-never_made p r silent nothing b has = (unmade (stream_subject (program_stream p)) b r silent nothing, record { held = λ _. tt; deep = λ _. tt; cleared = tt })
+never_made p r silent nothing b has = (unmade (program_subject p) b r silent nothing, record { held = λ _. tt; deep = λ _. tt; cleared = tt })
 
 -- a fault of which no memory was left to tell
 for_memory : (S : Subject) (b : Elements) (r : RunView) (f : RunFault) → Ran S b r (Err f) → Ran S b r (Err fault.NoMemory)
@@ -89,7 +89,7 @@ for_memory S b r f x = record {
 
 pub want_of_memory : (p : Program) (r : RunView) (f : RunFault) → RanWith p r (Err f) → RanWith p r (Err fault.NoMemory)
 want_of_memory p r f h b has =
-    (for_memory (stream_subject (program_stream p)) b r f (h b has).0, record { held = λ _. tt; deep = λ _. tt; cleared = tt })
+    (for_memory (program_subject p) b r f (h b has).0, record { held = λ _. tt; deep = λ _. tt; cleared = tt })
 
 -- a place that tells the same tells the same number of bytes consumed
 pub same_contents : (x : Option Contents) (old new : Contents) → x ≡ Some old → x ≡ Some new → length new.consumed ≤ length old.consumed

@@ -14,7 +14,7 @@ use Rattle.lucid_tree.specs.WellMade.{places, IsWellMade}
 use Rattle.lucid_scope.specs.Bindings.{HasNoFault, IsResolved}
 use Rattle.lucid_scope.specs.declared.scoped.Binding.{Binding}
 use Rattle.lucid_scope.specs.declared.scoped.Scoped.{Scoped}
-use Rattle.lucid_scope.specs.Scoped.{scoped_tree}
+use Rattle.lucid_scope.specs.Scoped.{scoped_tree, scoped_inputs}
 use Rattle.lucid_cycles.specs.Judgments.{IsJudgeRefusal}
 use Rattle.lucid_cycles.specs.declared.judgment.JudgeRefusal.{JudgeRefusal}
 use Rattle.lucid_cycles.specs.declared.judgment.JudgeRefusal.TheVariants as judge
@@ -38,12 +38,12 @@ use Rattle.lucid_top.specs.Call.{Call}
 use Rattle.lucid_top.specs.Tasks.{task_of, form_of, is_built}
 use Rattle.lucid_top.specs.Telling.{WritesWhole, WritesFront}
 use Rattle.lucid_top.specs.Refusals.{words_stop, judge_stop, IsRefusalOf}
-use Rattle.lucid_top.specs.Judged.{RefusesText, RefusesNames, HasInputs}
+use Rattle.lucid_top.specs.Judged.{RefusesText, RefusesNames, RefusesColumns, RefusesBeside, StandsBeside, HasInputs}
 use Rattle.lucid_top.specs.Flat.{most_flat_bytes, RefusesFlat}
 use Rattle.lucid_top.specs.Files.{RefusesGiven, FitsGiven}
-use Rattle.lucid_top.specs.Stages.{IsSource, Asks, HasTree, HasFlat, HasNames, IsWriting, IsTextFor, asks_for, inputs_in, IsRun, Refuses, by_words, by_task, by_text, by_flat, by_names, by_judging, by_given}
+use Rattle.lucid_top.specs.Stages.{IsSource, Asks, HasTree, HasFlat, HasNames, HasColumns, IsWriting, IsTextFor, asks_for, inputs_in, IsAskedFor, IsRun, Refuses, by_words, by_task, by_text, by_flat, by_names, by_missing, by_judging, by_given}
 use Rattle.lucid_top.specs.Runs.{most_places, first_place, run_places, run_of}
-use Rattle.lucid_top.specs.Places.{KeepsNames, ReadsSource, most_read, SpeltBySource, FlatBySource, IsAccepted, IsSourceStop, IsProgramStop, IsReadStop, AreFresh}
+use Rattle.lucid_top.specs.Places.{KeepsNames, ReadsSource, most_read, SpeltBySource, FlatBySource, IsAccepted, IsAcceptedBeside, IsSourceStop, IsProgramStop, IsColumnsStop, IsReadStop, AreFresh}
 use Rattle.lucid_top.specs.Writing.{WritesSome, WritesSomeFront, WritesOnly}
 use Rattle.lucid_top.specs.Clauses.{WritesNothing}
 use Rattle.lucid_top.specs.Coming.{reaches_nothing, reaches_source, reaches_inputs, Rests, IsOfMade, RunsTable, Comes}
@@ -240,6 +240,66 @@ flat_not_print w is = not_print w task.Flat is (λ e. absurd (cc e))
 pub cycles_not_print : (w : PlainWords) → task_of w ≡ task.Cycles → task_of w ≢ task.Print
 cycles_not_print w is = not_print w task.Cycles is (λ e. absurd (cc e))
 
+pub columns_not_print : (w : PlainWords) → task_of w ≡ task.Columns → task_of w ≢ task.Print
+columns_not_print w is = not_print w task.Columns is (λ e. absurd (cc e))
+
+-- the columns that are run
+abbrev pub columns_of : (c : Call) (w : PlainWords) (q : PlainTree) (free : List (List ℕ)) → Begins c w → IsText w → task_of w ≡ task.Columns
+    → (a : IsAcceptedBeside w.source c.before w.columns q free) → HasInputs q free → HasColumns c
+columns_of c w q free b text is a inputs = record {
+  names = names_of c w a.tree a.beside.free b text (columns_not_print w is) a.accepted a.beside.are_free;
+  are = a.beside.are;
+  free = free;
+  are_free = subst (λ p. HasInputs p free) a.beside.is inputs;
+}
+
+-- the source, the names or the columns stop the call
+missing_stops : (c : Call) (w : PlainWords) (p : PlainTree) (free : List (List ℕ)) (why : Refusal) → Begins c w → IsText w → task_of w ≡ task.Columns → IsAccepted w.source c.before p
+    → HasInputs p free → RefusesColumns p w.columns why → WritesNothing c → c.after.reached ≤ first_place w.source → Comes c (Err (stop.Refused why))
+missing_stops c w p free why b text is a inputs refused silent few =
+    let names = names_of c w p free b text (columns_not_print w is) a inputs in
+    record {
+      only = (by_missing names is refused, silent);
+      how = inl ((by_missing names is refused, tt), rests_of c w b silent few);
+      few_places = few_places c w.source few;
+    }
+
+pub columns_stops : (c : Call) (w : PlainWords) (s : Stop) → Begins c w → IsText w → task_of w ≡ task.Columns → IsColumnsStop w.source w.columns c.before c.after s → WritesNothing c
+    → c.after.reached ≤ first_place w.source → Comes c (Err s)
+columns_stops c w (stop.Refused why) b text is (inl h) silent few = program_stops c w (stop.Refused why) b text (columns_not_print w is) h silent few
+columns_stops c w (stop.Refused why) b text is (inr h) silent few = missing_stops c w h.0 h.2.0 why b text is h.1 h.2.1 h.3 silent few
+columns_stops c w stop.NoMemory b text is h silent few = program_stops c w stop.NoMemory b text (columns_not_print w is) h silent few
+columns_stops c w stop.ReadFault b text is h silent few = program_stops c w stop.ReadFault b text (columns_not_print w is) h silent few
+columns_stops c w stop.WriteFault b text is h silent few = absurd h
+columns_stops c w (stop.TooDeep t l x f) b text is h silent few = absurd h
+columns_stops c w (stop.TooLarge k n) b text is h silent few = absurd h
+
+-- the tree is accepted, and its columns are beside each other
+pub all_accepted_beside : (source : PlainSource) (w : World) (p : PlainTree) (columns : List (List ℕ)) (r : Result Scoped Stop) → SpeltBySource source w p → IsWellMade p → length (places p) ≤ 1048576
+    → IfOk r (λ s. StandsBeside p columns (scoped_tree s) (scoped_inputs s)) → IfOk r (λ s. IsAcceptedBeside source w columns (scoped_tree s) (scoped_inputs s))
+all_accepted_beside source w p columns (Ok s) spelt well few stands =
+    record { tree = p; accepted = record { spelt = spelt; no_fault = stands.no_fault; well_made = well; few = few }; beside = stands }
+all_accepted_beside source w p columns (Err e) spelt well few stands = tt
+
+pub beside_stop : (source : PlainSource) (old new : World) (p : PlainTree) (columns : List (List ℕ)) (s : Stop) → SpeltBySource source old p → IsWellMade p → length (places p) ≤ 1048576
+    → IsRefusalOf (RefusesBeside p columns) s → IsColumnsStop source columns old new s
+beside_stop source old new p columns (stop.Refused why) spelt well few (inl names) = inl (names_stop source old new p (stop.Refused why) spelt well names)
+beside_stop source old new p columns (stop.Refused why) spelt well few (inr h) =
+    inr (p, record { spelt = spelt; no_fault = h.0; well_made = well; few = few }, h.1, h.2)
+beside_stop source old new p columns stop.NoMemory spelt well few refused = tt
+beside_stop source old new p columns stop.ReadFault spelt well few refused = absurd refused
+beside_stop source old new p columns stop.WriteFault spelt well few refused = absurd refused
+beside_stop source old new p columns (stop.TooDeep t l x f) spelt well few refused = absurd refused
+beside_stop source old new p columns (stop.TooLarge k n) spelt well few refused = absurd refused
+
+pub source_columns_stop : (source : PlainSource) (columns : List (List ℕ)) (old new : World) (s : Stop) → IsSourceStop RefusesText source old new s → IsColumnsStop source columns old new s
+source_columns_stop source columns old new (stop.Refused why) h = inl (inl h)
+source_columns_stop source columns old new stop.NoMemory h = h
+source_columns_stop source columns old new stop.ReadFault h = h
+source_columns_stop source columns old new stop.WriteFault h = h
+source_columns_stop source columns old new (stop.TooDeep t l x f) h = h
+source_columns_stop source columns old new (stop.TooLarge k n) h = h
+
 -- the judgment stops the call
 pub judging_stops : (c : Call) (w : PlainWords) (p : PlainTree) (free : List (List ℕ)) (e : JudgeRefusal) → Begins c w → IsText w → task_of w ≡ task.Cycles → IsAccepted w.source c.before p
     → HasInputs p free → IsJudgeRefusal p e → WritesNothing c → c.after.reached ≤ first_place w.source → Comes c (Err (judge_stop e))
@@ -293,7 +353,7 @@ pub given_stops : (c : Call) (w : PlainWords) (t : Table) (v : World) (s : Stop)
     → c.after.reached ≤ first_place w.source → Comes c (Err s)
 given_stops c w t v (stop.Refused why) b refused silent few =
     let same : (asks_for b.program).words ≡ w = words_of c w t v b in
-    let is : task_of (asks_for b.program).words ≡ task.Run = ap task_of same ∙ b.task in
+    let is : IsAskedFor b.program = ap task_of same ∙ b.task in
     let here : RefusesGiven (inputs_in b.program) (asks_for b.program).words.given why =
     subst (λ (u : PlainWords). RefusesGiven (inputs_in b.program) u.given why) (sym same) (subst (λ names. RefusesGiven names w.given why) (sym b.inputs) refused) in
     record { only = (by_given b.program is here, silent); how = inl ((by_given b.program is here, b.made), rests_of c w (begins_of c w t v b) silent few); few_places = few_places c w.source few }
@@ -377,9 +437,8 @@ not_built_stops c w read not_built silent none = record {
 
 -- what is asked for is something that isn't built
 abbrev pub IsOther : Task → Type 0
-IsOther t = (t ≡ task.Columns) ⊎ ((t ≡ task.Why) ⊎ (t ≡ task.Check))
+IsOther t = (t ≡ task.Why) ⊎ (t ≡ task.Check)
 
 pub other_is_not : (t : Task) (f : Form) → IsOther t → is_built t f ≡ false
 other_is_not t f (inl is) = ap (λ x. is_built x f) is
-other_is_not t f (inr (inl is)) = ap (λ x. is_built x f) is
-other_is_not t f (inr (inr is)) = ap (λ x. is_built x f) is
+other_is_not t f (inr is) = ap (λ x. is_built x f) is

@@ -13,6 +13,11 @@ pub mod Asking
 pub mod OneList
 pub mod Verdicts
 pub mod NoJudgment
+pub mod NoColumn
+pub mod Within
+pub mod FewInputs
+pub mod FewColumns
+pub mod Beside
 pub mod FirstWrong
 pub mod FlatVerdicts
 pub mod OneCall

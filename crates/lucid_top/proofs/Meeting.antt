@@ -13,7 +13,7 @@ use Rattle.lucid_top.specs.Status.{Outcome}
 use Rattle.lucid_top.specs.Call.{Call}
 use Rattle.lucid_top.specs.Tasks.{task_of, form_of, is_built}
 use Rattle.lucid_top.specs.Telling.{Tells}
-use Rattle.lucid_top.specs.Stages.{Asks, IsWriting, IsTextFor, asks_for, IsRun, Refuses, by_words, by_task, by_text, by_flat, by_names, by_judging, by_given}
+use Rattle.lucid_top.specs.Stages.{Asks, IsWriting, IsTextFor, asks_for, IsRun, Refuses, by_words, by_task, by_text, by_flat, by_names, by_missing, by_judging, by_given}
 use Rattle.lucid_top.specs.Runs.{first_place, run_places, run_of, unread_place, view_of, RanSo}
 use Rattle.lucid_top.specs.Places.{ReadsSource, most_read}
 use Rattle.lucid_top.specs.Clauses.{WritesNothing, TellsSource, ReadFails, ComesOnly, IsRefusedSo, Writes, TellsFaults, IsEvaluated, MeetsClauses}
@@ -86,13 +86,13 @@ module _ (l : OneVerdict) (c : Call) (told : TellsSource c) where
   first (Err (stop.TooLarge k n)) why refused no_read (inl early) = absurd early.0
   first (Ok done) why refused no_read (inl early) = absurd early.0
   first o why refused no_read (inr (inl run)) =
-      absurd (run_not_refused l c told run.0 why refused (λ q. same_inputs l c told run.0.program q run.1))
+      absurd (run_not_refused l c told run.0 why refused (λ q asked. same_inputs l c told run.0.program q run.0.task asked run.1))
   first o why refused no_read (inr (inr writing)) = absurd (text_not_refused l c told writing.0 why refused)
 
   refused_silent : (o : Outcome) (why : Refusal) → Refuses c why → How c o → WritesNothing c
   refused_silent o why refused (inl early) = early.1.silent
   refused_silent o why refused (inr (inl run)) =
-      absurd (run_not_refused l c told run.0 why refused (λ q. same_inputs l c told run.0.program q run.1))
+      absurd (run_not_refused l c told run.0 why refused (λ q asked. same_inputs l c told run.0.program q run.0.task asked run.1))
   refused_silent o why refused (inr (inr writing)) = absurd (text_not_refused l c told writing.0 why refused)
 
   runs_so : (r : IsRun c) (o : Outcome) → ComesOnly c o → How c o → RanSo (run_of r).program (view_of c (run_of r)) o
@@ -124,9 +124,9 @@ module _ (l : OneVerdict) (c : Call) (told : TellsSource c) where
 
   refused_reaches : (o : Outcome) (a : Asks c) (why : Refusal) → Refuses c why → How c o → c.after.reached ≤ first_place a.words.source
   refused_reaches o a why refused (inl early) =
-      few_reached c a (λ r is_made. run_not_refused l c told r why refused (λ q. same_inputs l c told r.program q is_made)) early.1.reaches
+      few_reached c a (λ r is_made. run_not_refused l c told r why refused (λ q asked. same_inputs l c told r.program q r.task asked is_made)) early.1.reaches
   refused_reaches o a why refused (inr (inl run)) =
-      absurd (run_not_refused l c told run.0 why refused (λ q. same_inputs l c told run.0.program q run.1))
+      absurd (run_not_refused l c told run.0 why refused (λ q asked. same_inputs l c told run.0.program q run.0.task asked run.1))
   refused_reaches o a why refused (inr (inr writing)) = absurd (text_not_refused l c told writing.0 why refused)
 
   text_reaches : (o : Outcome) (a : Asks c) (x : IsWriting c) → How c o → c.after.reached ≤ first_place a.words.source
@@ -168,6 +168,7 @@ only_usage c none v (by_task u read not_built) = absurd (cc (none, read))
 only_usage c none v (by_text s other refused) = absurd (not_asked s.asks none)
 only_usage c none v (by_flat s is refused) = absurd (not_asked s.asks none)
 only_usage c none v (by_names t other refused) = absurd (not_asked t.source.asks none)
+only_usage c none v (by_missing n is refused) = absurd (not_asked n.program.source.asks none)
 only_usage c none v (by_judging n is refused) = absurd (not_asked n.program.source.asks none)
 only_usage c none v (by_given p is refused) = absurd (not_asked (asks_for p) none)
 
@@ -177,6 +178,7 @@ only_unbuilt c w read not_built v (by_task u read' not_built') = refl
 only_unbuilt c w read not_built v (by_text s other refused) = absurd (not_unbuilt s.asks w read not_built)
 only_unbuilt c w read not_built v (by_flat s is refused) = absurd (not_unbuilt s.asks w read not_built)
 only_unbuilt c w read not_built v (by_names t other refused) = absurd (not_unbuilt t.source.asks w read not_built)
+only_unbuilt c w read not_built v (by_missing n is refused) = absurd (not_unbuilt n.program.source.asks w read not_built)
 only_unbuilt c w read not_built v (by_judging n is refused) = absurd (not_unbuilt n.program.source.asks w read not_built)
 only_unbuilt c w read not_built v (by_given p is refused) = absurd (not_unbuilt (asks_for p) w read not_built)
 

@@ -10,6 +10,7 @@ use Rattle.lucid_print.specs.Canonical.{canonical}
 use Rattle.lucid_scope.specs.Bindings.{HasNoFault}
 use Rattle.lucid_words.specs.Plain.{PlainSource, file, made}
 use Rattle.lucid_words.specs.Asked.{PlainWords}
+use Rattle.lucid_columns.specs.Columns.{AreColumns}
 use Rattle.lucid_cycles.specs.Judged.{IsJudged}
 use Rattle.lucid_top.specs.declared.refusal.Refusal.{Refusal}
 use Rattle.lucid_top.specs.declared.task.Task.{Task}
@@ -17,15 +18,16 @@ use Rattle.lucid_top.specs.declared.task.Task.TheVariants as task
 use Rattle.lucid_top.specs.declared.task.Form.TheVariants as form
 use Rattle.lucid_top.specs.Call.{Call}
 use Rattle.lucid_top.specs.Tasks.{task_of, form_of, is_built}
-use Rattle.lucid_top.specs.Judged.{Spelt, RefusesText, RefusesNames, RefusesJudging, HasInputs}
+use Rattle.lucid_top.specs.Judged.{Spelt, RefusesText, RefusesNames, RefusesColumns, RefusesJudging, HasInputs}
 use Rattle.lucid_top.specs.Files.{Given, word_refusal, refusal_at, AreRightBelow, RefusedFirst, RefusesGiven, FitsGiven, by_word, by_two}
-use Rattle.lucid_top.specs.Stages.{IsSource, IsTold, Asks, HasSource, HasTree, HasFlat, HasNames, IsWriting, IsTextFor, prints, judges, flattens, HasProgram, by_tree, by_table, asks_for, program_in, inputs_in, IsRun, Refuses, by_words, by_task, by_text, by_flat, by_names, by_judging, by_given}
+use Rattle.lucid_top.specs.Stages.{IsSource, IsTold, Asks, HasSource, HasTree, HasFlat, HasNames, IsWriting, IsTextFor, prints, judges, flattens, HasColumns, columns_named, HasProgram, by_tree, by_columns, by_table, asks_for, task_for, program_in, inputs_in, IsAskedFor, IsRun, Refuses, by_words, by_task, by_text, by_flat, by_names, by_missing, by_judging, by_given}
 use Rattle.lucid_top.specs.Texts.{IsJudgmentLine, IsFlatForm}
 use Rattle.lucid_top.specs.Flat.{SpellsTable, RefusesFlat}
-use Rattle.lucid_top.specs.Programs.{Program, of_tree, of_table}
+use Rattle.lucid_top.specs.Programs.{Program, of_tree, of_columns, of_table, beside}
 use Rattle.lucid_top.specs.Runs.{Run, run_of}
 use Rattle.lucid_top.specs.Clauses.{TellsSource}
 use Rattle.lucid_top.specs.Coming.{IsMade, IsOfMade}
+use Rattle.lucid_top.proofs.NoColumn.{one_missing, none_missing}
 use Rattle.lucid_top.proofs.NoJudgment.{one_judging_refusal, judged_not_refused}
 use Rattle.lucid_top.specs.Laws.{OneTree, TreeIsNotRefused, OneTextRefusal, NamesAreNotRefused, OneNameRefusal, OneListOfInputs, OneFlatTable, TableIsNotRefused, OneFlatRefusal}
 
@@ -113,11 +115,20 @@ one_task a b x y is js = sym is ∙ ap task_of (same_words a b) ∙ js
 one_form : {c : Call} (a b : Asks c) → form_of a.words ≡ form.Flat → form_of b.words ≢ form.Flat → ⊥
 one_form a b is other = other (ap form_of (same_words b a) ∙ is)
 
+-- a program is for a run or for columns
+pub other_task : {c : Call} (p : HasProgram c) (a : Asks c) (t : Task) → IsAskedFor p → task_of a.words ≡ t → (t ≡ task.Run → ⊥) → (t ≡ task.Columns → ⊥) → ⊥
+other_task {c = c} p a t asked is run columns = by p (one_task a (asks_for p) t (task_for p) is asked)
+  where
+    by : (q : HasProgram c) → t ≡ task_for q → ⊥
+    by (by_tree n) same = run same
+    by (by_columns h) same = columns same
+    by (by_table f) same = run same
+
 -- a run isn't a text
 pub run_or_text : {c : Call} → IsRun c → IsWriting c → ⊥
-run_or_text r (prints t is) = absurd (cc (one_task (asks_for r.program) t.source.asks task.Run task.Print r.task is))
-run_or_text r (judges n is judged) = absurd (cc (one_task (asks_for r.program) n.program.source.asks task.Run task.Cycles r.task is))
-run_or_text r (flattens n is) = absurd (cc (one_task (asks_for r.program) n.program.source.asks task.Run task.Flat r.task is))
+run_or_text r (prints t is) = other_task r.program t.source.asks task.Print r.task is (λ e. absurd (cc e)) (λ e. absurd (cc e))
+run_or_text r (judges n is judged) = other_task r.program n.program.source.asks task.Cycles r.task is (λ e. absurd (cc e)) (λ e. absurd (cc e))
+run_or_text r (flattens n is) = other_task r.program n.program.source.asks task.Flat r.task is (λ e. absurd (cc e)) (λ e. absurd (cc e))
 
 -- a run of these words, of this program, with inputs of these names
 abbrev run_with : PlainWords → Program → List (List ℕ) → Run
@@ -146,23 +157,48 @@ module _ (l : OneVerdict) (c : Call) (told : TellsSource c) where
   same_table : (f g : HasFlat c) → f.table ≡ g.table
   same_table f g = l.one_flat_table f.source.bytes f.table g.table f.spelt (subst (λ b. SpellsTable b g.table) (same_bytes g.source f.source) g.spelt)
 
-  -- the program of a call is one, and so are the names of its inputs
-  pub same_inputs : (p q : HasProgram c) → IsMade p → inputs_in p ≡ inputs_in q
-  same_inputs (by_tree n) (by_tree m) well = same_free n.program well n m
-  same_inputs (by_tree n) (by_table g) well = absurd (one_form g.source.asks n.program.source.asks g.form n.program.form)
-  same_inputs (by_table f) (by_tree m) well = absurd (one_form f.source.asks m.program.source.asks f.form m.program.form)
-  same_inputs (by_table f) (by_table g) well = ap (λ (t : Table). t.inputs) (same_table f g)
+  -- its columns, and the tree with them as the subject
+  same_columns : (n m : HasNames c) → columns_named n ≡ columns_named m
+  same_columns n m = ap (λ (w : PlainWords). w.columns) (same_words n.program.source.asks m.program.source.asks)
 
-  same_program : (p q : HasProgram c) → program_in p ≡ program_in q
-  same_program (by_tree n) (by_tree m) = ap of_tree (same_tree n.program m.program)
-  same_program (by_tree n) (by_table g) = absurd (one_form g.source.asks n.program.source.asks g.form n.program.form)
-  same_program (by_table f) (by_tree m) = absurd (one_form f.source.asks m.program.source.asks f.form m.program.form)
-  same_program (by_table f) (by_table g) = ap of_table (same_table f g)
+  same_beside : (n m : HasNames c) → beside n.program.tree (columns_named n) ≡ beside m.program.tree (columns_named m)
+  same_beside n m = ap (λ p. beside p (columns_named n)) (same_tree n.program m.program) ∙ ap (beside m.program.tree) (same_columns n m)
+
+  same_free_beside : (h k : HasColumns c) → IsWellMade (beside h.names.program.tree (columns_named h.names)) → h.free ≡ k.free
+  same_free_beside h k well =
+      l.one_list (beside h.names.program.tree (columns_named h.names)) h.free k.free well h.are_free (subst (λ p. HasInputs p k.free) (same_beside k.names h.names) k.are_free)
+
+  -- The program that is asked for is one, and so are the names of its inputs.
+  tree_or_columns : (n m : HasNames c) → task_of n.program.source.asks.words ≡ task.Run → task_of m.program.source.asks.words ≡ task.Columns → ⊥
+  tree_or_columns n m is js = absurd (cc (one_task n.program.source.asks m.program.source.asks task.Run task.Columns is js))
+
+  pub same_inputs : (p q : HasProgram c) → IsAskedFor p → IsAskedFor q → IsMade p → inputs_in p ≡ inputs_in q
+  same_inputs (by_tree n) (by_tree m) is js well = same_free n.program well n m
+  same_inputs (by_tree n) (by_columns h) is js well = absurd (tree_or_columns n h.names is js)
+  same_inputs (by_tree n) (by_table g) is js well = absurd (one_form g.source.asks n.program.source.asks g.form n.program.form)
+  same_inputs (by_columns h) (by_tree m) is js well = absurd (tree_or_columns m h.names js is)
+  same_inputs (by_columns h) (by_columns k) is js well = same_free_beside h k well
+  same_inputs (by_columns h) (by_table g) is js well = absurd (one_form g.source.asks h.names.program.source.asks g.form h.names.program.form)
+  same_inputs (by_table f) (by_tree m) is js well = absurd (one_form f.source.asks m.program.source.asks f.form m.program.form)
+  same_inputs (by_table f) (by_columns k) is js well = absurd (one_form f.source.asks k.names.program.source.asks f.form k.names.program.form)
+  same_inputs (by_table f) (by_table g) is js well = ap (λ (t : Table). t.inputs) (same_table f g)
+
+  same_program : (p q : HasProgram c) → IsAskedFor p → IsAskedFor q → program_in p ≡ program_in q
+  same_program (by_tree n) (by_tree m) is js = ap of_tree (same_tree n.program m.program)
+  same_program (by_tree n) (by_columns h) is js = absurd (tree_or_columns n h.names is js)
+  same_program (by_tree n) (by_table g) is js = absurd (one_form g.source.asks n.program.source.asks g.form n.program.form)
+  same_program (by_columns h) (by_tree m) is js = absurd (tree_or_columns m h.names js is)
+  same_program (by_columns h) (by_columns k) is js =
+      ap (λ p. of_columns p (columns_named h.names)) (same_tree h.names.program k.names.program) ∙ ap (of_columns k.names.program.tree) (same_columns h.names k.names)
+  same_program (by_columns h) (by_table g) is js = absurd (one_form g.source.asks h.names.program.source.asks g.form h.names.program.form)
+  same_program (by_table f) (by_tree m) is js = absurd (one_form f.source.asks m.program.source.asks f.form m.program.form)
+  same_program (by_table f) (by_columns k) is js = absurd (one_form f.source.asks k.names.program.source.asks f.form k.names.program.form)
+  same_program (by_table f) (by_table g) is js = ap of_table (same_table f g)
 
   -- the run of a program is one
   pub same_run : (r q : IsRun c) → IsMade q.program → run_of q ≡ run_of r
   same_run r q well =
-      one_run (same_words (asks_for q.program) (asks_for r.program)) (same_program q.program r.program) (same_inputs q.program r.program well)
+      one_run (same_words (asks_for q.program) (asks_for r.program)) (same_program q.program r.program q.task r.task) (same_inputs q.program r.program q.task r.task well)
 
   -- a tree isn't refused, nor is a table, nor are names without a fault
   text_not : (s : HasSource c) (v : Refusal) → RefusesText s.bytes v → HasTree c → ⊥
@@ -177,14 +213,17 @@ module _ (l : OneVerdict) (c : Call) (told : TellsSource c) where
   -- nor is a program refused, at any stage before
   text_program : (s : HasSource c) (v : Refusal) → form_of s.asks.words ≢ form.Flat → RefusesText s.bytes v → HasProgram c → ⊥
   text_program s v other refused (by_tree n) = text_not s v refused n.program
+  text_program s v other refused (by_columns h) = text_not s v refused h.names.program
   text_program s v other refused (by_table f) = one_form f.source.asks s.asks f.form other
 
   flat_program : (s : HasSource c) (v : Refusal) → form_of s.asks.words ≡ form.Flat → RefusesFlat s.bytes v → HasProgram c → ⊥
   flat_program s v is refused (by_tree n) = one_form s.asks n.program.source.asks is n.program.form
+  flat_program s v is refused (by_columns h) = one_form s.asks h.names.program.source.asks is h.names.program.form
   flat_program s v is refused (by_table f) = flat_not s v refused f
 
   names_program : (t : HasTree c) (v : Refusal) → RefusesNames t.tree v → HasProgram c → ⊥
   names_program t v refused (by_tree n) = names_not t v refused n
+  names_program t v refused (by_columns h) = names_not t v refused h.names
   names_program t v refused (by_table f) = one_form f.source.asks t.source.asks f.form t.form
 
   -- the words NAME=FILE, by one list of names
@@ -199,8 +238,22 @@ module _ (l : OneVerdict) (c : Call) (told : TellsSource c) where
   judging_not n v judged m refused = judged_not_refused n.program.tree v judged (subst (λ p. RefusesJudging p v) (same_tree m.program n.program) refused)
 
   -- who judges runs nothing
-  judging_or_run : (n : HasNames c) (p : HasProgram c) → task_of n.program.source.asks.words ≡ task.Cycles → task_of (asks_for p).words ≡ task.Run → ⊥
-  judging_or_run n p is js = absurd (cc (one_task n.program.source.asks (asks_for p) task.Cycles task.Run is js))
+  judging_or_run : (n : HasNames c) (p : HasProgram c) → task_of n.program.source.asks.words ≡ task.Cycles → IsAskedFor p → ⊥
+  judging_or_run n p is js = other_task p n.program.source.asks task.Cycles js is (λ e. absurd (cc e)) (λ e. absurd (cc e))
+
+  -- columns that are there aren't refused, and whoever asks for columns runs nothing else
+  missing_there : (n m : HasNames c) (v : Refusal) → RefusesColumns m.program.tree (columns_named m) v → RefusesColumns n.program.tree (columns_named n) v
+  missing_there n m v refused =
+      subst (λ p. RefusesColumns p (columns_named n) v) (same_tree m.program n.program) (subst (λ ns. RefusesColumns m.program.tree ns v) (same_columns m n) refused)
+
+  missing_program : (n : HasNames c) (v : Refusal) → task_of n.program.source.asks.words ≡ task.Columns → RefusesColumns n.program.tree (columns_named n) v
+      → (p : HasProgram c) → IsAskedFor p → ⊥
+  missing_program n v is refused (by_tree m) js = tree_or_columns m n js is
+  missing_program n v is refused (by_columns h) js = none_missing h.names.program.tree (columns_named h.names) v h.are (missing_there h.names n v refused)
+  missing_program n v is refused (by_table f) js = one_form f.source.asks n.program.source.asks f.form n.program.form
+
+  columns_or : (n : HasNames c) (a : Asks c) (t : Task) → task_of n.program.source.asks.words ≡ task.Columns → task_of a.words ≡ t → task.Columns ≡ t
+  columns_or n a t is js = one_task n.program.source.asks a task.Columns t is js
 
   -- A call has one first refusal.
   pub one_refusal : (v w : Refusal) (a : Refuses c v) → IsOfMade a → Refuses c w → v ≡ w
@@ -209,6 +262,7 @@ module _ (l : OneVerdict) (c : Call) (told : TellsSource c) where
   one_refusal v w (by_words none) is_made (by_text s' other' r') = absurd (not_asked s'.asks none)
   one_refusal v w (by_words none) is_made (by_flat s' is' r') = absurd (not_asked s'.asks none)
   one_refusal v w (by_words none) is_made (by_names t' other' r') = absurd (not_asked t'.source.asks none)
+  one_refusal v w (by_words none) is_made (by_missing n' is' r') = absurd (not_asked n'.program.source.asks none)
   one_refusal v w (by_words none) is_made (by_judging n' is' r') = absurd (not_asked n'.program.source.asks none)
   one_refusal v w (by_words none) is_made (by_given p' is' r') = absurd (not_asked (asks_for p') none)
   one_refusal v w (by_task u read nb) is_made (by_words none') = absurd (cc (none', read))
@@ -216,6 +270,7 @@ module _ (l : OneVerdict) (c : Call) (told : TellsSource c) where
   one_refusal v w (by_task u read nb) is_made (by_text s' other' r') = absurd (not_unbuilt s'.asks u read nb)
   one_refusal v w (by_task u read nb) is_made (by_flat s' is' r') = absurd (not_unbuilt s'.asks u read nb)
   one_refusal v w (by_task u read nb) is_made (by_names t' other' r') = absurd (not_unbuilt t'.source.asks u read nb)
+  one_refusal v w (by_task u read nb) is_made (by_missing n' is' r') = absurd (not_unbuilt n'.program.source.asks u read nb)
   one_refusal v w (by_task u read nb) is_made (by_judging n' is' r') = absurd (not_unbuilt n'.program.source.asks u read nb)
   one_refusal v w (by_task u read nb) is_made (by_given p' is' r') = absurd (not_unbuilt (asks_for p') u read nb)
   one_refusal v w (by_text s other r) is_made (by_words none') = absurd (not_asked s.asks none')
@@ -223,6 +278,7 @@ module _ (l : OneVerdict) (c : Call) (told : TellsSource c) where
   one_refusal v w (by_text s other r) is_made (by_text s' other' r') = l.one_text_refusal s.bytes v w r (subst (λ b. RefusesText b w) (same_bytes s' s) r')
   one_refusal v w (by_text s other r) is_made (by_flat s' is' r') = absurd (one_form s'.asks s.asks is' other)
   one_refusal v w (by_text s other r) is_made (by_names t' other' r') = absurd (text_not s v r t')
+  one_refusal v w (by_text s other r) is_made (by_missing n' is' r') = absurd (text_not s v r n'.program)
   one_refusal v w (by_text s other r) is_made (by_judging n' is' r') = absurd (text_not s v r n'.program)
   one_refusal v w (by_text s other r) is_made (by_given p' is' r') = absurd (text_program s v other r p')
   one_refusal v w (by_flat s is r) is_made (by_words none') = absurd (not_asked s.asks none')
@@ -230,6 +286,7 @@ module _ (l : OneVerdict) (c : Call) (told : TellsSource c) where
   one_refusal v w (by_flat s is r) is_made (by_text s' other' r') = absurd (one_form s.asks s'.asks is other')
   one_refusal v w (by_flat s is r) is_made (by_flat s' is' r') = l.one_flat_refusal s.bytes v w r (subst (λ b. RefusesFlat b w) (same_bytes s' s) r')
   one_refusal v w (by_flat s is r) is_made (by_names t' other' r') = absurd (one_form s.asks t'.source.asks is t'.form)
+  one_refusal v w (by_flat s is r) is_made (by_missing n' is' r') = absurd (one_form s.asks n'.program.source.asks is n'.program.form)
   one_refusal v w (by_flat s is r) is_made (by_judging n' is' r') = absurd (one_form s.asks n'.program.source.asks is n'.program.form)
   one_refusal v w (by_flat s is r) is_made (by_given p' is' r') = absurd (flat_program s v is r p')
   one_refusal v w (by_names t other r) is_made (by_words none') = absurd (not_asked t.source.asks none')
@@ -237,13 +294,23 @@ module _ (l : OneVerdict) (c : Call) (told : TellsSource c) where
   one_refusal v w (by_names t other r) is_made (by_text s' other' r') = absurd (text_not s' w r' t)
   one_refusal v w (by_names t other r) is_made (by_flat s' is' r') = absurd (one_form s'.asks t.source.asks is' t.form)
   one_refusal v w (by_names t other r) is_made (by_names t' other' r') = l.one_name_refusal t.tree v w is_made r (subst (λ p. RefusesNames p w) (same_tree t' t) r')
+  one_refusal v w (by_names t other r) is_made (by_missing n' is' r') = absurd (names_not t v r n')
   one_refusal v w (by_names t other r) is_made (by_judging n' is' r') = absurd (names_not t v r n')
   one_refusal v w (by_names t other r) is_made (by_given p' is' r') = absurd (names_program t v r p')
+  one_refusal v w (by_missing n is r) is_made (by_words none') = absurd (not_asked n.program.source.asks none')
+  one_refusal v w (by_missing n is r) is_made (by_task u' read' nb') = absurd (not_unbuilt n.program.source.asks u' read' nb')
+  one_refusal v w (by_missing n is r) is_made (by_text s' other' r') = absurd (text_not s' w r' n.program)
+  one_refusal v w (by_missing n is r) is_made (by_flat s' is' r') = absurd (one_form s'.asks n.program.source.asks is' n.program.form)
+  one_refusal v w (by_missing n is r) is_made (by_names t' other' r') = absurd (names_not t' w r' n)
+  one_refusal v w (by_missing n is r) is_made (by_missing n' is' r') = one_missing n.program.tree (columns_named n) v w r (missing_there n n' w r')
+  one_refusal v w (by_missing n is r) is_made (by_judging n' is' r') = absurd (cc (columns_or n n'.program.source.asks task.Cycles is is'))
+  one_refusal v w (by_missing n is r) is_made (by_given p' is' r') = absurd (missing_program n v is r p' is')
   one_refusal v w (by_judging n is r) is_made (by_words none') = absurd (not_asked n.program.source.asks none')
   one_refusal v w (by_judging n is r) is_made (by_task u' read' nb') = absurd (not_unbuilt n.program.source.asks u' read' nb')
   one_refusal v w (by_judging n is r) is_made (by_text s' other' r') = absurd (text_not s' w r' n.program)
   one_refusal v w (by_judging n is r) is_made (by_flat s' is' r') = absurd (one_form s'.asks n.program.source.asks is' n.program.form)
   one_refusal v w (by_judging n is r) is_made (by_names t' other' r') = absurd (names_not t' w r' n)
+  one_refusal v w (by_judging n is r) is_made (by_missing n' is' r') = absurd (cc (columns_or n' n.program.source.asks task.Cycles is' is))
   one_refusal v w (by_judging n is r) is_made (by_judging n' is' r') = one_judging_refusal n.program.tree v w r (subst (λ p. RefusesJudging p w) (same_tree n'.program n.program) r')
   one_refusal v w (by_judging n is r) is_made (by_given p' is' r') = absurd (judging_or_run n p' is is')
   one_refusal v w (by_given p is r) is_made (by_words none') = absurd (not_asked (asks_for p) none')
@@ -251,18 +318,20 @@ module _ (l : OneVerdict) (c : Call) (told : TellsSource c) where
   one_refusal v w (by_given p is r) is_made (by_text s' other' r') = absurd (text_program s' w other' r' p)
   one_refusal v w (by_given p is r) is_made (by_flat s' is' r') = absurd (flat_program s' w is' r' p)
   one_refusal v w (by_given p is r) is_made (by_names t' other' r') = absurd (names_program t' w r' p)
+  one_refusal v w (by_given p is r) is_made (by_missing n' is' r') = absurd (missing_program n' w is' r' p is)
   one_refusal v w (by_given p is r) is_made (by_judging n' is' r') = absurd (judging_or_run n' p is' is)
-  one_refusal v w (by_given p is r) is_made (by_given p' is' r') = given_once (inputs_in p) (asks_for p).words.given v w r (given_there p p' w (same_inputs p p' is_made) r')
+  one_refusal v w (by_given p is r) is_made (by_given p' is' r') = given_once (inputs_in p) (asks_for p).words.given v w r (given_there p p' w (same_inputs p p' is is' is_made) r')
 
   -- a program that is run isn't refused, nor is one of which a text is written
-  pub run_not_refused : (x : IsRun c) (v : Refusal) → Refuses c v → ((q : HasProgram c) → inputs_in x.program ≡ inputs_in q) → ⊥
+  pub run_not_refused : (x : IsRun c) (v : Refusal) → Refuses c v → ((q : HasProgram c) → IsAskedFor q → inputs_in x.program ≡ inputs_in q) → ⊥
   run_not_refused x v (by_words none) lists = not_asked (asks_for x.program) none
   run_not_refused x v (by_task u read nb) lists = not_unbuilt (asks_for x.program) u read nb
   run_not_refused x v (by_text s other r) lists = text_program s v other r x.program
   run_not_refused x v (by_flat s is r) lists = flat_program s v is r x.program
   run_not_refused x v (by_names t other r) lists = names_program t v r x.program
+  run_not_refused x v (by_missing n is r) lists = missing_program n v is r x.program x.task
   run_not_refused x v (by_judging n is r) lists = judging_or_run n x.program is x.task
-  run_not_refused x v (by_given p is r) lists = given_fits (inputs_in x.program) (asks_for x.program).words.given v (given_there x.program p v (lists p) r) x.fits
+  run_not_refused x v (by_given p is r) lists = given_fits (inputs_in x.program) (asks_for x.program).words.given v (given_there x.program p v (lists p is) r) x.fits
 
   pub text_not_refused : (x : IsWriting c) (v : Refusal) → Refuses c v → ⊥
   text_not_refused (prints q js) v (by_words none) = absurd (not_asked q.source.asks none)
@@ -270,22 +339,25 @@ module _ (l : OneVerdict) (c : Call) (told : TellsSource c) where
   text_not_refused (prints q js) v (by_text s other r) = absurd (text_not s v r q)
   text_not_refused (prints q js) v (by_flat s is r) = absurd (one_form s.asks q.source.asks is q.form)
   text_not_refused (prints q js) v (by_names t other r) = absurd (other (ap task_of (same_words t.source.asks q.source.asks) ∙ js))
+  text_not_refused (prints q js) v (by_missing n is r) = absurd (cc (columns_or n q.source.asks task.Print is js))
   text_not_refused (prints q js) v (by_judging n is r) = absurd (cc (one_task n.program.source.asks q.source.asks task.Cycles task.Print is js))
-  text_not_refused (prints q js) v (by_given p is r) = absurd (cc (one_task (asks_for p) q.source.asks task.Run task.Print is js))
+  text_not_refused (prints q js) v (by_given p is r) = other_task p q.source.asks task.Print is js (λ e. absurd (cc e)) (λ e. absurd (cc e))
   text_not_refused (judges m js judged) v (by_words none) = absurd (not_asked m.program.source.asks none)
   text_not_refused (judges m js judged) v (by_task u read nb) = absurd (not_unbuilt m.program.source.asks u read nb)
   text_not_refused (judges m js judged) v (by_text s other r) = absurd (text_not s v r m.program)
   text_not_refused (judges m js judged) v (by_flat s is r) = absurd (one_form s.asks m.program.source.asks is m.program.form)
   text_not_refused (judges m js judged) v (by_names t other r) = absurd (names_not t v r m)
+  text_not_refused (judges m js judged) v (by_missing n is r) = absurd (cc (columns_or n m.program.source.asks task.Cycles is js))
   text_not_refused (judges m js judged) v (by_judging n is r) = absurd (judging_not m v judged n r)
-  text_not_refused (judges m js judged) v (by_given p is r) = absurd (cc (one_task (asks_for p) m.program.source.asks task.Run task.Cycles is js))
+  text_not_refused (judges m js judged) v (by_given p is r) = other_task p m.program.source.asks task.Cycles is js (λ e. absurd (cc e)) (λ e. absurd (cc e))
   text_not_refused (flattens m js) v (by_words none) = absurd (not_asked m.program.source.asks none)
   text_not_refused (flattens m js) v (by_task u read nb) = absurd (not_unbuilt m.program.source.asks u read nb)
   text_not_refused (flattens m js) v (by_text s other r) = absurd (text_not s v r m.program)
   text_not_refused (flattens m js) v (by_flat s is r) = absurd (one_form s.asks m.program.source.asks is m.program.form)
   text_not_refused (flattens m js) v (by_names t other r) = absurd (names_not t v r m)
+  text_not_refused (flattens m js) v (by_missing n is r) = absurd (cc (columns_or n m.program.source.asks task.Flat is js))
   text_not_refused (flattens m js) v (by_judging n is r) = absurd (cc (one_task n.program.source.asks m.program.source.asks task.Cycles task.Flat is js))
-  text_not_refused (flattens m js) v (by_given p is r) = absurd (cc (one_task (asks_for p) m.program.source.asks task.Run task.Flat is js))
+  text_not_refused (flattens m js) v (by_given p is r) = other_task p m.program.source.asks task.Flat is js (λ e. absurd (cc e)) (λ e. absurd (cc e))
 
   -- a call writes texts of one kind, of one tree
   pub same_text : (x y : IsWriting c) (text : List ℕ) → IsTextFor x text → IsTextFor y text
@@ -306,5 +378,6 @@ module _ (l : OneVerdict) (c : Call) (told : TellsSource c) where
   run_not_stopped x v (by_text s other r) is_made = text_program s v other r x.program
   run_not_stopped x v (by_flat s is r) is_made = flat_program s v is r x.program
   run_not_stopped x v (by_names t other r) is_made = names_program t v r x.program
+  run_not_stopped x v (by_missing n is r) is_made = missing_program n v is r x.program x.task
   run_not_stopped x v (by_judging n is r) is_made = judging_or_run n x.program is x.task
-  run_not_stopped x v (by_given p is r) is_made = run_not_refused x v (by_given p is r) (λ q. sym (same_inputs p x.program is_made) ∙ same_inputs p q is_made)
+  run_not_stopped x v (by_given p is r) is_made = run_not_refused x v (by_given p is r) (λ q js. sym (same_inputs p x.program is x.task is_made) ∙ same_inputs p q is js is_made)

@@ -19,11 +19,11 @@ use Rattle.lucid_top.specs.declared.stop.Done.TheVariants as done
 use Rattle.lucid_top.specs.declared.stop.Stop.TheVariants as stop
 use Rattle.lucid_top.specs.Status.{Outcome}
 use Rattle.lucid_top.specs.Call.{Call}
-use Rattle.lucid_top.specs.Programs.{Program, of_table}
+use Rattle.lucid_top.specs.Programs.{Program}
 use Rattle.lucid_top.specs.Files.{Given, FitsGiven, file_given, files_for}
 use Rattle.lucid_top.specs.Stages.{asks_for, program_in, IsRun}
 use Rattle.lucid_top.specs.Places.{KeepsNames, ReadsSource, AreFresh, AreUnread}
-use Rattle.lucid_top.specs.Runs.{Run, first_place, run_of, input_places, unread_place, world_before, world_after, viewed, view_of, RanSo}
+use Rattle.lucid_top.specs.Runs.{Run, first_place, run_of, input_places, unread_place, world_before, world_after, viewed, view_of, table_program, RanSo}
 use Rattle.lucid_top.specs.Running.{RunComesOnly}
 use Rattle.lucid_top.specs.Clauses.{ComesOnly}
 use Rattle.lucid_top.specs.Coming.{RunsTable, Comes}
@@ -160,7 +160,7 @@ pub record Ended (c : Call) (w : PlainWords) (t : Table) (v u : World) (numbers 
   pub few : length t.inputs ≤ most_source_bytes
   pub same_reached : c.after.reached ≡ u.reached
   pub faults : u.faults ≤ c.after.faults
-  pub ran : RanSo (of_table t) (viewed w t.inputs numbers u c.after c.out_before c.out_after) o
+  pub ran : RanSo (table_program w t) (viewed w t.inputs numbers u c.after c.out_before c.out_after) o
   pub only : RunComesOnly w t.inputs u.faults c.after.faults c.out_before.faults c.out_after.faults o
 
 -- a run of these words, of this program, with inputs of these names

@@ -10,11 +10,11 @@ use Rattle.lucid_ports.specs.declared.run.RunFault.TheVariants as fault
 use Rattle.lucid_inputs.specs.Streams.{all_bytes}
 use Rattle.lucid_tree.specs.Levels.{Elements}
 use Rattle.lucid_words.specs.Asked.{PlainWords}
-use Rattle.lucid_session.specs.Subject.{Subject, stream_subject}
+use Rattle.lucid_session.specs.Subject.{Subject}
 use Rattle.lucid_session.specs.Runs.{Told, HasElements, Written, ForSomeAdded, ConsultsOverlong, IsDone, IsTooDeep, OnTooDeep, OnTooLarge, IsUndisturbed, Ran}
 use Rattle.lucid_session.specs.Figures.{Counted, Figures, OnClearings}
 use Rattle.lucid_top.specs.Status.{Outcome}
-use Rattle.lucid_top.specs.Programs.{Program, program_stream, program_counted}
+use Rattle.lucid_top.specs.Programs.{Program, program_subject, program_counted}
 use Rattle.lucid_top.specs.Runs.{viewed, most_input_bytes, run_result, RanSo}
 
 -- what is said of the input that is too large, of the time that is too deep and of clearings, weakened
@@ -109,10 +109,10 @@ module _ (w : PlainWords) (free : List (List ℕ)) (qs : List ℕ) (u v u' v' : 
   elements_back b has k n q is = let x = has k n q is in (x.0, sym (a.before k q is.1) ∙ x.1, x.2)
 
   some_ran : (prog : Program) (b : Elements) (x : Option (Result Summary RunFault))
-      → IsSomeAnd x (λ y. Ran (stream_subject (program_stream prog)) b (viewed w free qs u v o p) y × Figures (program_counted prog) b (viewed w free qs u v o p) y)
-      → IsSomeAnd x (λ y. Ran (stream_subject (program_stream prog)) b (viewed w free qs u' v' o p) y × Figures (program_counted prog) b (viewed w free qs u' v' o p) y)
+      → IsSomeAnd x (λ y. Ran (program_subject prog) b (viewed w free qs u v o p) y × Figures (program_counted prog) b (viewed w free qs u v o p) y)
+      → IsSomeAnd x (λ y. Ran (program_subject prog) b (viewed w free qs u' v' o p) y × Figures (program_counted prog) b (viewed w free qs u' v' o p) y)
   some_ran prog b None h = absurd h
-  some_ran prog b (Some y) h = (ran_too (stream_subject (program_stream prog)) b y h.0, figures_too (program_counted prog) b y h.1)
+  some_ran prog b (Some y) h = (ran_too (program_subject prog) b y h.0, figures_too (program_counted prog) b y h.1)
 
   pub ran_alike : (prog : Program) (out : Outcome) → RanSo prog (viewed w free qs u v o p) out → RanSo prog (viewed w free qs u' v' o p) out
   ran_alike prog out h b has = some_ran prog b (run_result out) (h b (elements_back b has))

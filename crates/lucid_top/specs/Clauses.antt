@@ -100,7 +100,7 @@ pub record MeetsClauses (c : Call) (report_before report_after : Told) (s : Stat
   pub refused_where : RefusedWhere c outcome
   -- Nothing is written but by a run, or where a text is asked for.
   pub silent : WritesNothing c ⊎ (IsRun c ⊎ IsWriting c)
-  -- The headline: a program that is accepted is run, be it a tree or a table. What is written are the values of its least fixed point, in order and without gaps.
+  -- The headline: a program that is accepted is run, be it a tree, columns of it or a table. What is written are the values of its least fixed point, in order and without gaps.
   pub headline : (r : IsRun c) → TellsSource c → RanSo (run_of r).program (view_of c (run_of r)) outcome
   -- Where a text is asked for, of the tree that the source spells, that text is written.
   pub written : (x : IsWriting c) → TellsSource c → Writes c outcome (IsTextFor x)

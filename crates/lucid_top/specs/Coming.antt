@@ -7,19 +7,19 @@ use Rattle.lucid_top.specs.declared.refusal.Refusal.{Refusal}
 use Rattle.lucid_top.specs.declared.stop.Stop.TheVariants as stop
 use Rattle.lucid_equations.specs.declared.table.Table.{Table}
 use Rattle.lucid_session.specs.Runs.{RunView}
-use Rattle.lucid_top.specs.declared.task.Task.TheVariants as task
 use Rattle.lucid_top.specs.Status.{Outcome}
 use Rattle.lucid_top.specs.Tasks.{task_of}
-use Rattle.lucid_top.specs.Programs.{of_table}
+use Rattle.lucid_top.specs.Programs.{beside}
 use Rattle.lucid_top.specs.Places.{KeepsNames}
 use Rattle.lucid_top.specs.Call.{Call}
-use Rattle.lucid_top.specs.Stages.{Asks, IsWriting, IsTextFor, HasProgram, by_tree, by_table, program_in, inputs_in, IsRun, Refuses, by_words, by_task, by_text, by_flat, by_names, by_judging, by_given}
-use Rattle.lucid_top.specs.Runs.{most_places, first_place, run_places, run_of, view_of, RanSo}
+use Rattle.lucid_top.specs.Stages.{Asks, IsWriting, IsTextFor, HasProgram, by_tree, by_columns, by_table, columns_named, task_for, program_in, inputs_in, IsRun, Refuses, by_words, by_task, by_text, by_flat, by_names, by_missing, by_judging, by_given}
+use Rattle.lucid_top.specs.Runs.{most_places, first_place, run_places, run_of, view_of, table_program, RanSo}
 use Rattle.lucid_top.specs.Clauses.{WritesNothing, ComesOnly, Writes}
 
 -- The tree of a program that is run is well made.
 abbrev pub IsMade : {c : Call} → HasProgram c → Type 0
 IsMade (by_tree n) = IsWellMade n.program.tree
+IsMade (by_columns h) = IsWellMade (beside h.names.program.tree (columns_named h.names))
 IsMade (by_table f) = Unit {0}
 
 -- No place is reached; or, where the words ask for what is built, at most that of the source; or, in a run, at most those of the source and
@@ -43,6 +43,7 @@ IsOfMade (by_task w asked not_built) = Unit {0}
 IsOfMade (by_text s form refused) = Unit {0}
 IsOfMade (by_flat s form refused) = Unit {0}
 IsOfMade (by_names t task refused) = IsWellMade t.tree
+IsOfMade (by_missing n task refused) = Unit {0}
 IsOfMade (by_judging n task refused) = IsWellMade n.program.tree
 IsOfMade (by_given p task refused) = IsMade p
 
@@ -65,14 +66,14 @@ pub record Comes (c : Call) (o : Outcome) : Type 0 where
   pub how : (StopsEarly c o × Rests c) ⊎ (EndsRun c o ⊎ EndsWriting c o)
   pub few_places : c.after.reached ≤ most_places
 
--- A call is about to run a table, its source being read: its words ask for a run, it has a program with the table's inputs, and runs of the
--- table are runs of the program.
+-- A call is about to run a table, its source being read: it has a program with the table's inputs, its words ask for that, and runs of the
+-- table as they have it are runs of the program.
 pub record RunsTable (c : Call) (w : PlainWords) (t : Table) (v : World) : Type 0 where
   pub read : c.asked ≡ Some w
-  pub task : task_of w ≡ task.Run
   pub program : HasProgram c
+  pub task : task_of w ≡ task_for program
   pub made : IsMade program
   pub inputs : inputs_in program ≡ t.inputs
-  pub runs : (r : RunView) (o : Outcome) → RanSo (of_table t) r o → RanSo (program_in program) r o
+  pub runs : (r : RunView) (o : Outcome) → RanSo (table_program w t) r o → RanSo (program_in program) r o
   pub kept : KeepsNames c.before v
   pub first : v.reached ≡ first_place w.source

@@ -37,6 +37,7 @@ refusal_line (refusal.NotFunction at) = line_at (codes "not a function at ") at
 refusal_line (refusal.IsFunction at) = line_at (codes "function without arguments at ") at
 refusal_line (refusal.Arity at wanted given) =
     codes "wrong number of arguments at " ++ (decimal at ++ (codes ": " ++ (decimal wanted ++ (codes " wanted, " ++ (decimal given ++ codes " given\n")))))
+refusal_line (refusal.NoColumn name) = codes "no column " ++ (name ++ codes "\n")
 refusal_line (refusal.NoFlatLine line) = line_with (codes "line ") line (codes " is no flat line\n")
 refusal_line (refusal.FlatScope at) = line_with (codes "flat scope ") at (codes " is wrong\n")
 refusal_line (refusal.FlatNode at) = line_with (codes "flat node ") at (codes " is wrong\n")

@@ -14,7 +14,7 @@ use Rattle.lucid_equations.specs.declared.table.Table.{Table}
 use Rattle.lucid_top.specs.declared.refusal.Refusal.{Refusal}
 use Rattle.lucid_top.specs.declared.stop.Stop.{Stop}
 use Rattle.lucid_top.specs.declared.stop.Stop.TheVariants as stop
-use Rattle.lucid_top.specs.Judged.{Spelt, RefusesText, RefusesNames}
+use Rattle.lucid_top.specs.Judged.{Spelt, RefusesText, RefusesNames, RefusesColumns, StandsBeside, HasInputs}
 use Rattle.lucid_top.specs.declared.task.Form.{Form}
 use Rattle.lucid_top.specs.declared.task.Form.TheVariants as form
 use Rattle.lucid_top.specs.Flat.{most_flat_bytes, SpellsTable}
@@ -69,11 +69,24 @@ pub record IsAccepted (source : PlainSource) (w : World) (p : PlainTree) : Type 
   pub well_made : IsWellMade p
   pub few : length (places p) ≤ most_source_bytes
 
+-- The tree of the source is accepted, and this is the tree with its columns as the subject, with its free names.
+pub record IsAcceptedBeside (source : PlainSource) (w : World) (columns : List (List ℕ)) (q : PlainTree) (inputs : List (List ℕ)) : Type 0 where
+  pub tree : PlainTree
+  pub accepted : IsAccepted source w tree
+  pub beside : StandsBeside tree columns q inputs
+
 -- The source stops the call, or the names of its tree are refused.
 abbrev pub IsProgramStop : PlainSource → (old new : World) → Stop → Type 0
 IsProgramStop source old new (stop.Refused why) =
     IsSourceStop RefusesText source old new (stop.Refused why) ⊎ ((p : PlainTree) × SpeltBySource source old p × IsWellMade p × RefusesNames p why)
 IsProgramStop source old new s = IsSourceStop RefusesText source old new s
+
+-- Or the names that are asked for are no columns of it.
+abbrev pub IsColumnsStop : PlainSource → (columns : List (List ℕ)) → (old new : World) → Stop → Type 0
+IsColumnsStop source columns old new (stop.Refused why) =
+    IsProgramStop source old new (stop.Refused why)
+    ⊎ ((p : PlainTree) × IsAccepted source old p × ((free : List (List ℕ)) × HasInputs p free) × RefusesColumns p columns why)
+IsColumnsStop source columns old new s = IsProgramStop source old new s
 
 -- how many bytes of a source may be read: one more than it may have, as a text and in the flat form
 abbrev pub most_read : Form → ℕ

@@ -1,5 +1,5 @@
 -- A run of the command, as runs are seen from outside; and what is counted of its program.
-use Rattle.std.specs.Prelude.{ℕ, ◌+◌, ◌-◌, ◌*◌, true, false, List, [], length, Option, Some, None, Result, Ok, Err, option_map, unwrap_or, nat_lt, if◌then◌else◌, slice_get, IsSomeAnd}
+use Rattle.std.specs.Prelude.{ℕ, ◌+◌, ◌-◌, ◌*◌, ◌==◌, true, false, List, [], length, Option, Some, None, Result, Ok, Err, option_map, unwrap_or, nat_lt, if◌then◌else◌, slice_get, IsSomeAnd}
 use Rattle.std.specs.List.{range_with_len}
 use Rattle.lucid_ports.specs.World.{World, Place, unread}
 use Rattle.lucid_ports.specs.declared.run.Summary.{Summary}
@@ -7,7 +7,6 @@ use Rattle.lucid_ports.specs.declared.run.RunFault.{RunFault}
 use Rattle.lucid_ports.specs.declared.run.RunFault.TheVariants as fault
 use Rattle.lucid_tree.specs.Levels.{Elements}
 use Rattle.lucid_scan.specs.Refusals.{most_source_bytes}
-use Rattle.lucid_session.specs.Subject.{stream_subject}
 use Rattle.lucid_session.specs.Runs.{PolicyView, RunView, Told, HasElements, Ran}
 use Rattle.lucid_session.specs.Figures.{Figures}
 use Rattle.lucid_retire.specs.declared.policy.Policy.{Policy}
@@ -20,7 +19,8 @@ use Rattle.lucid_top.specs.declared.stop.Done.TheVariants as done
 use Rattle.lucid_top.specs.declared.stop.Stop.TheVariants as stop
 use Rattle.lucid_top.specs.Status.{Outcome}
 use Rattle.lucid_top.specs.Call.{Call}
-use Rattle.lucid_top.specs.Programs.{Program, program_stream, program_counted}
+use Rattle.lucid_equations.specs.declared.table.Table.{Table}
+use Rattle.lucid_top.specs.Programs.{Program, of_table, of_spaces, program_subject, program_counted}
 use Rattle.lucid_top.specs.Stages.{asks_for, program_in, inputs_in, IsRun}
 use Rattle.lucid_top.specs.Files.{files_for}
 
@@ -110,6 +110,10 @@ viewed w names places before after o p = record {
 abbrev pub view_of : Call → Run → RunView
 view_of c p = viewed p.words p.inputs (input_places p) (world_before c p) (world_after c p) c.out_before c.out_after
 
+-- a table as these words have it run: its root, or where they name columns, its root at as many spaces
+abbrev pub table_program : PlainWords → Table → Program
+table_program w t = if length w.columns == 0 then of_table t else of_spaces t (length w.columns)
+
 -- how a run ended that has this outcome; none for an outcome that a run doesn't have
 abbrev pub run_result : Outcome → Option (Result Summary RunFault)
 run_result (Ok (done.Ran summary stats)) = Some (Ok summary)
@@ -125,4 +129,4 @@ run_result (Err stop.NoMemory) = Some (Err fault.NoMemory)
 -- elements of the inputs.
 abbrev pub RanSo : Program → RunView → Outcome → Type 0
 RanSo p r o = (b : Elements) → HasElements r b
-    → IsSomeAnd (run_result o) (λ result. Ran (stream_subject (program_stream p)) b r result × Figures (program_counted p) b r result)
+    → IsSomeAnd (run_result o) (λ result. Ran (program_subject p) b r result × Figures (program_counted p) b r result)

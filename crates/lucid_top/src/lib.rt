@@ -10,6 +10,7 @@ pub use crate::stop::{Done, Stop};
 pub use crate::top::lucid;
 
 mod arguments;
+mod columns;
 mod files;
 mod flat;
 pub mod headline;

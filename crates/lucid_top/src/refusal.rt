@@ -30,6 +30,8 @@ pub enum Refusal {
     IsFunction { at: u32 },
     /// A call with another number of arguments than the function has parameters.
     Arity { at: u32, wanted: u32, given: u32 },
+    /// A column is asked for that the program's outermost block has no plain definition of.
+    NoColumn { name: Name },
     /// No table's text goes on with the line, from 1.
     NoFlatLine { line: u64 },
     /// The row of a scope is wrong in the flat form, by its number.

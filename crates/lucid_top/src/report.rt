@@ -129,6 +129,7 @@ fn write_refusal<E: Sink>(report: &mut E, refusal: &Refusal) -> Result<(), PortF
             write_at(report, b"function without arguments at ", u64::from(*at))
         }
         Refusal::Arity { at, wanted, given } => write_arity(report, *at, *wanted, *given),
+        Refusal::NoColumn { name } => write_named(report, b"no column ", name, b"\n"),
         Refusal::NoFlatLine { line } => {
             write_numbered(report, b"line ", *line, b" is no flat line\n")
         }

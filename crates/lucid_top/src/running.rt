@@ -6,21 +6,25 @@ ghost use Rattle.lucid_equations.specs.Programs.{table_of};
 ghost use Rattle.lucid_words.specs.Asked.{plain_words};
 ghost use Rattle.lucid_words.specs.Numbers.{IsFromTo};
 ghost use Rattle.lucid_retire.specs.Policies.{keeps_all, empties_all, most_held};
-ghost use Rattle.lucid_session.specs.Runs.{PolicyView, OnTooLarge};
+ghost use Rattle.lucid_tree.specs.Levels.{Elements};
+ghost use Rattle.lucid_inputs.specs.Inputs.{streams};
+ghost use Rattle.lucid_facts.specs.Engine.{AreAskable, ReadsOnly, places_of};
+ghost use Rattle.lucid_session.specs.Runs.{run_view, HasElements, Ran, Causes, OnTooLarge};
+ghost use Rattle.lucid_session.specs.Figures.{Figures};
 ghost use Rattle.lucid_top.specs.Call.{told};
 ghost use Rattle.lucid_top.specs.Tasks.{wants_figures};
 ghost use Rattle.lucid_top.specs.Places.{AreUnread, CountsNoRead, CountsNoWrite};
-ghost use Rattle.lucid_top.specs.Programs.{of_table};
-ghost use Rattle.lucid_top.specs.Runs.{policy_named, policy_asked, viewed, RanSo};
+ghost use Rattle.lucid_top.specs.Programs.{program_subject, program_counted};
+ghost use Rattle.lucid_top.specs.Runs.{policy_named, policy_asked, viewed, table_program, RanSo};
 ghost use Rattle.lucid_top.specs.Running.{RunComesOnly, IsRunStop, IsLargeStop};
 
 use crate::stop::{Done, Stop};
 use lucid_equations::Program;
 use lucid_inputs::{Inputs, fresh_fits};
-use lucid_ports::{Places, RunFault, Sink};
+use lucid_ports::{Places, RunFault, Sink, Summary};
 use lucid_retire::{Ages, Keep, Last, Nothing, Policy};
 use lucid_schedule::Newest;
-use lucid_session::run;
+use lucid_session::{run, run_columns};
 use lucid_value::Name;
 use lucid_words::{PolicyWord, Source, Words};
 use std::alloc::{AllocError, Global};
@@ -89,6 +93,41 @@ fn run_stop(inputs: &[Name], fault: RunFault, stats: bool) -> Stop
     }
 }
 
+// Runs the program's root; or where the words name columns, its root at as many spaces, side by side.
+fn run_streams<P: Places, K: Sink>(
+    alloc: Global,
+    words: &Words,
+    program: Program,
+    inputs: Inputs,
+    policy: Policy,
+    places: &mut P,
+    out: &mut K,
+) -> Result<Summary, RunFault>
+    requires columns { length (plain_words words.now).columns ≤ 16 }
+    requires streams { length (streams inputs) ≡ length (table_of program).inputs }
+    requires askable { AreAskable (streams inputs) (P.world places.old) }
+    ensures headline { let view = run_view words.now.options (record { keeps = keeps_all policy; empties = empties_all policy; room = most_held policy }) (table_of program) inputs (P.world places.old) (P.world places.new)
+        (told K.written K.faults out.old) (told K.written K.faults out.new)
+        in (b : Elements) → HasElements view b → Ran (program_subject (table_program (plain_words words.now) (table_of program))) b view result }
+    ensures figures { let view = run_view words.now.options (record { keeps = keeps_all policy; empties = empties_all policy; room = most_held policy }) (table_of program) inputs (P.world places.old) (P.world places.new)
+        (told K.written K.faults out.old) (told K.written K.faults out.new)
+        in (b : Elements) → HasElements view b → Figures (program_counted (table_program (plain_words words.now) (table_of program))) b view result }
+    ensures causes { let view = run_view words.now.options (record { keeps = keeps_all policy; empties = empties_all policy; room = most_held policy }) (table_of program) inputs (P.world places.old) (P.world places.new)
+        (told K.written K.faults out.old) (told K.written K.faults out.new)
+        in Causes view result }
+    ensures reads_only { ReadsOnly (places_of (streams inputs)) (P.world places.old) (P.world places.new) }
+{
+    let options = &words.options;
+    if words.columns.is_empty() {
+        run(alloc, program, places, inputs, out, policy, Newest, options)
+    } else {
+        let columns = words.columns.len() as u32;
+        run_columns(
+            alloc, program, columns, places, inputs, out, policy, Newest, options,
+        )
+    }
+}
+
 /// Runs the program over the places of its inputs, which have these names.
 pub fn run_program<P: Places, K: Sink>(
     alloc: Global,
@@ -100,11 +139,12 @@ pub fn run_program<P: Places, K: Sink>(
     out: &mut K,
 ) -> Result<Done, Stop>
     requires room { IsFromTo 1 1000000 words.now.room }
+    requires columns { length (plain_words words.now).columns ≤ 16 }
     requires names { names.now ≡ (table_of program).inputs }
     requires count { length numbers.items ≡ length names.now }
     requires differ { AllPairs (λ a b. a ≢ b) numbers.items }
     requires unread { AreUnread numbers.items (P.world places.old) }
-    ensures ran { RanSo (of_table (table_of program))
+    ensures ran { RanSo (table_program (plain_words words.now) (table_of program))
         (viewed (plain_words words.now) names.now numbers.items (P.world places.old) (P.world places.new) (told K.written K.faults out.old) (told K.written K.faults out.new))
         result }
     ensures comes_only { RunComesOnly (plain_words words.now) names.now (P.world places.old).faults (P.world places.new).faults (K.faults out.old) (K.faults out.new) result }
@@ -118,16 +158,7 @@ pub fn run_program<P: Places, K: Sink>(
     let inputs = Inputs::make(alloc, numbers, MOST_INPUT_BYTES)?;
     let policy = policy_of(alloc, words)?;
     let stats = wants_figures(words);
-    match run(
-        alloc,
-        program,
-        places,
-        inputs,
-        out,
-        policy,
-        Newest,
-        &words.options,
-    ) {
+    match run_streams(alloc, words, program, inputs, policy, places, out) {
         Ok(summary) => Ok(Done::Ran { summary, stats }),
         Err(fault) => Err(run_stop(names, fault, stats)),
     }

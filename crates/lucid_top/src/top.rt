@@ -1,5 +1,5 @@
 //! The command.
-ghost use Rattle.std.specs.Prelude.{◌≡◌, ◌≢◌, ℕ, ◌+◌, ◌≤◌, Some, length, map, IfOk, IfErr, OnOk, true};
+ghost use Rattle.std.specs.Prelude.{◌≡◌, ◌≢◌, ℕ, ◌+◌, ◌<◌, ◌≤◌, All, Some, length, map, IfOk, IfErr, OnOk, true};
 ghost use Rattle.std.specs.String.{string_bytes};
 ghost use Rattle.lucid_scan.specs.Refusals.{most_source_bytes};
 ghost use Rattle.lucid_tree.specs.WellMade.{places as all_places, IsWellMade};
@@ -9,18 +9,18 @@ ghost use Rattle.lucid_words.specs.Numbers.{IsFromTo, MadeIsFromTo};
 ghost use Rattle.lucid_top.specs.Call.{call, told};
 ghost use Rattle.lucid_top.specs.Tasks.{task_of, form_of, is_built};
 ghost use Rattle.lucid_top.specs.Runs.{first_place};
-ghost use Rattle.lucid_scope.specs.Scoped.{scoped_tree};
+ghost use Rattle.lucid_scope.specs.Scoped.{scoped_tree, scoped_inputs};
 ghost use Rattle.lucid_ports.specs.World.{World};
 ghost use Rattle.lucid_equations.specs.Programs.{table_of};
 ghost use Rattle.lucid_top.specs.Judged.{RefusesText, AreResolved};
 ghost use Rattle.lucid_top.specs.Flat.{most_flat_bytes, RefusesFlat};
-ghost use Rattle.lucid_top.specs.Places.{KeepsNames, CountsNoRead, CountsNoWrite, ReadsSource, most_read, SpeltBySource, FlatBySource, IsAccepted, IsSourceStop, IsProgramStop};
+ghost use Rattle.lucid_top.specs.Places.{KeepsNames, CountsNoRead, CountsNoWrite, ReadsSource, most_read, SpeltBySource, FlatBySource, IsAccepted, IsAcceptedBeside, IsSourceStop, IsProgramStop, IsColumnsStop};
 ghost use Rattle.lucid_top.specs.Coming.{Comes, RunsTable};
 ghost use Rattle.lucid_top.specs.Clauses.{MeetsClauses};
 
 use crate::files::{copied_names, input_files};
 use crate::flat::read_program;
-use crate::judging::{read_tree, resolve_names};
+use crate::judging::{read_tree, resolve_beside, resolve_names};
 use crate::laws::one_verdict;
 use crate::places::{reach_files, read_source};
 use crate::refusal::Refusal;
@@ -30,6 +30,7 @@ use crate::status::Status;
 use crate::stop::{Done, Stop};
 use crate::task::{Form, Task};
 use crate::writing::{print_program, write_flat, write_judgment};
+use lucid_columns::laws::columns_are_spaces;
 use lucid_compile::compile;
 use lucid_cycles::judge;
 use lucid_equations::Program;
@@ -53,6 +54,7 @@ fn tree_of<P: Places>(alloc: Global, words: &Words, places: &mut P) -> Result<Tr
     ensures spelt { IfOk result (SpeltBySource (plain_source words.now.source) (P.world places.old)) }
     ensures well_made { IfOk result IsWellMade }
     ensures few_nodes { IfOk result (λ tree. length (all_places tree) ≤ most_source_bytes) }
+    ensures placed { IfOk result (λ tree. All (λ at. at < most_source_bytes) (all_places tree)) }
     ensures reached { OnOk result ((P.world places.new).reached ≡ first_place (plain_source words.now.source)) }
     ensures few { (P.world places.new).reached ≤ first_place (plain_source words.now.source) }
     ensures within { ReadsSource (most_source_bytes + 1) (plain_source words.now.source) (P.world places.new) }
@@ -81,6 +83,25 @@ fn program_of<P: Places>(alloc: Global, words: &Words, places: &mut P) -> Result
     resolve_names(alloc, &tree)
 }
 
+// The tree of the source with the columns as its subject that the words name, and what its names belong to. The names of the tree as it is read
+// are looked at first.
+fn columns_of<P: Places>(alloc: Global, words: &Words, places: &mut P) -> Result<Scoped, Stop>
+    requires made { MadeIsFromTo 1 10000 words.now.source }
+    requires columns { length (plain_words words.now).columns ≤ 16 }
+    requires none { (P.world places.old).reached ≡ 0 }
+    ensures accepted { IfOk result (λ scoped. IsAcceptedBeside (plain_source words.now.source) (P.world places.old) (plain_words words.now).columns (scoped_tree scoped) (scoped_inputs scoped)) }
+    ensures resolved { IfOk result AreResolved }
+    ensures reached { OnOk result ((P.world places.new).reached ≡ first_place (plain_source words.now.source)) }
+    ensures few { (P.world places.new).reached ≤ first_place (plain_source words.now.source) }
+    ensures within { ReadsSource (most_source_bytes + 1) (plain_source words.now.source) (P.world places.new) }
+    ensures keeps { KeepsNames (P.world places.old) (P.world places.new) }
+    ensures counts_no_read { CountsNoRead result (P.world places.old) (P.world places.new) }
+    ensures stopped { IfErr result (IsColumnsStop (plain_source words.now.source) (plain_words words.now).columns (P.world places.old) (P.world places.new)) }
+{
+    let tree = tree_of(alloc, words, places)?;
+    resolve_beside(alloc, tree, &words.columns)
+}
+
 // The program of the table of the source, in the flat form, that the words name.
 fn flat_program<P: Places>(alloc: Global, words: &Words, places: &mut P) -> Result<Program, Stop>
     requires made { MadeIsFromTo 1 10000 words.now.source }
@@ -107,6 +128,7 @@ fn run_inputs<P: Places, K: Sink>(
     out: &mut K,
 ) -> Result<Done, Stop>
     requires room { IsFromTo 1 1000000 words.now.room }
+    requires columns { length (plain_words words.now).columns ≤ 16 }
     requires names { names.now ≡ (table_of program).inputs }
     requires few { length names.now ≤ most_source_bytes }
     requires one { (P.world places.old).reached ≤ 1 }
@@ -144,6 +166,31 @@ fn run_tree<P: Places, K: Sink>(
     same_streams_run_alike();
     figures_carry();
     let scoped = program_of(alloc, words, places)?;
+    let program = compile(alloc, &scoped)?;
+    run_inputs(alloc, words, scoped.inputs(), program, places, out)
+}
+
+// Runs the columns of the tree of the source that the words name.
+fn columns_task<P: Places, K: Sink>(
+    alloc: Global,
+    words: &Words,
+    places: &mut P,
+    out: &mut K,
+) -> Result<Done, Stop>
+    requires made { MadeIsFromTo 1 10000 words.now.source }
+    requires room { IsFromTo 1 1000000 words.now.room }
+    requires columns { length (plain_words words.now).columns ≤ 16 }
+    requires task { task_of (plain_words words.now) ≡ Task.Columns }
+    requires built { is_built (task_of (plain_words words.now)) (form_of (plain_words words.now)) ≡ true }
+    requires none { (P.world places.old).reached ≡ 0 }
+    ensures comes { Comes (call (Some (plain_words words.now)) (P.world places.old) (P.world places.new) (told K.written K.faults out.old) (told K.written K.faults out.new)) result }
+    ensures counts_no_read { CountsNoRead result (P.world places.old) (P.world places.new) }
+    ensures counts_no_write { CountsNoWrite result (K.faults out.old) (K.faults out.new) }
+    ensures within { ReadsSource (most_read (form_of (plain_words words.now))) (plain_source words.now.source) (P.world places.new) }
+{
+    figures_carry();
+    columns_are_spaces();
+    let scoped = columns_of(alloc, words, places)?;
     let program = compile(alloc, &scoped)?;
     run_inputs(alloc, words, scoped.inputs(), program, places, out)
 }
@@ -277,8 +324,9 @@ fn do_task<P: Places, K: Sink>(
         Task::Run => run_task(alloc, &words, places, out),
         Task::Print => print_task(alloc, &words, places, out),
         Task::Cycles => cycles_task(alloc, &words, places, out),
+        Task::Columns => columns_task(alloc, &words, places, out),
         Task::Flat => flat_task(alloc, &words, places, out),
-        Task::Columns | Task::Why | Task::Check => unreachable!(),
+        Task::Why | Task::Check => unreachable!(),
     }
 }
 

@@ -1,8 +1,9 @@
 use Rattle.std.proofs.Common.{subst}
 use Rattle.std.proofs.lemmas.Result.{err_from_is_err_and}
-use Rattle.lucid_parse.specs.Spelled.{IsRefused}
+use Rattle.lucid_parse.specs.Spelled.{SpellsTree, IsRefused}
 use Rattle.lucid_top.specs.Judged.{HasTokens}
 use Rattle.lucid_top.proofs.Refusing.{scan_refuses, parse_refuses}
+use Rattle.lucid_top.proofs.Within.{places_within}
 use Rattle.lucid_top.proofs.judging.read_tree.Goals as goal
 
 pub returns-in_err-tokens-clause-refused : goal.returns-in_err-tokens-clause-refused
@@ -18,3 +19,12 @@ returns-in_err-tree-clause-refused c =
     parse_refuses c.args.source.now c.in_ok-tokens.tokens.items c.in_err-tree.field-0.0 scanned
     (subst (λ ts. IsRefused c.args.source.now ts c.in_err-tree.field-0.0) c.deref.ensures.value c.in_err-tree.ensures.refused)
     )
+
+pub returns-clause-placed : goal.returns-clause-placed
+returns-clause-placed c =
+    places_within c.args.source.now c.in_ok-tree.tree (record {
+      tokens = c.in_ok-tokens.tokens.items;
+      scanned = record { short = c.in_ok-tokens.ensures.short; listed = c.in_ok-tokens.ensures.tokens };
+      spelt = subst (λ ts. SpellsTree c.args.source.now ts c.in_ok-tree.tree) c.deref.ensures.value c.in_ok-tree.ensures.spelled;
+      shallow = c.in_ok-tree.ensures.shallow;
+    })

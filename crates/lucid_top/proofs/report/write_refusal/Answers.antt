@@ -15,8 +15,11 @@ returns-in-NotFunction g c = rw (c.in-NotFunction.is, ← c.from-in-NotFunction.
 pub returns-in-IsFunction : goal.returns-in-IsFunction
 returns-in-IsFunction g c = rw (c.in-IsFunction.is, ← c.from-in-IsFunction.ensures) c.write_at-in-IsFunction.ensures
 
+pub returns-in-NoColumn : goal.returns-in-NoColumn
+returns-in-NoColumn g c = rw c.in-NoColumn.is c.write_named.ensures
+
 pub returns-in-NotFree : goal.returns-in-NotFree
-returns-in-NotFree g c = rw c.in-NotFree.is c.write_named.ensures
+returns-in-NotFree g c = rw c.in-NotFree.is c.write_named-in-NotFree.ensures
 
 pub returns-in-GivenTwice : goal.returns-in-GivenTwice
 returns-in-GivenTwice g c = rw c.in-GivenTwice.is c.write_named-in-GivenTwice.ensures

@@ -5,6 +5,7 @@ use Rattle.lucid_words.specs.Asked.{plain_words, words_asked}
 use Rattle.lucid_top.specs.Call.{Call, call, told}
 use Rattle.lucid_top.specs.Tasks.{task_of, form_of, is_built}
 use Rattle.lucid_top.proofs.Ending.{words_stops, not_built_stops, other_is_not}
+use Rattle.lucid_top.proofs.FewColumns.{few_columns}
 use Rattle.lucid_top.proofs.top.do_task.Goals as goal
 
 pub returns-in_err-words-clause-comes : goal.returns-in_err-words-clause-comes
@@ -26,4 +27,7 @@ returns-then-not-is_built-clause-comes g c =
     not_built_stops here words c.in_ok-words.ensures.asked not_built refl c.requires
 
 pub unreachable-requires : goal.unreachable-requires
-unreachable-requires g c = let is = other_is_not c.of-task.result c.of.result c.in-Columns.is in absurd (cc (c.is_built.ensures, c.if-not-is_built.false, is))
+unreachable-requires g c = let is = other_is_not c.of-task.result c.of.result c.in-Why.is in absurd (cc (c.is_built.ensures, c.if-not-is_built.false, is))
+
+pub columns_task-requires-clause-columns : goal.columns_task-requires-clause-columns
+columns_task-requires-clause-columns g c = few_columns (map (string_bytes {Z = Rattle.std.specs.Global.Global}) c.args.words.now) (plain_words c.in_ok-words.words) c.in_ok-words.ensures.asked

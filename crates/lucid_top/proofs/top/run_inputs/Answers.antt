@@ -9,8 +9,7 @@ use Rattle.lucid_top.specs.Call.{Call, call, told}
 use Rattle.lucid_top.specs.Refusals.{IsRefusalOf}
 use Rattle.lucid_top.specs.Files.{RefusesGiven, FitsGiven, files_for}
 use Rattle.lucid_top.specs.Places.{AreFresh}
-use Rattle.lucid_top.specs.Programs.{of_table}
-use Rattle.lucid_top.specs.Runs.{viewed, RanSo}
+use Rattle.lucid_top.specs.Runs.{viewed, table_program, RanSo}
 use Rattle.lucid_top.specs.Running.{RunComesOnly}
 use Rattle.lucid_top.proofs.Ending.{given_stops, reaching_stops}
 use Rattle.lucid_top.proofs.RunEnds.{source_stays, source_run, carried, refs_are, refs_long, files_long, reached_of, range_differs, all_unread, runs}
@@ -105,7 +104,7 @@ returns-clause-comes g c before b =
       few = omega (arith, names_long, c.requires.few);
       same_reached = c.run_program.ensures.reached;
       faults = c.run_program.ensures.faults;
-      ran = subst (λ names. RanSo (of_table t) (viewed w names c.in_ok-numbers.numbers.items reached_world after out out_after) c.run_program.result) c.requires.names c.run_program.ensures.ran;
+      ran = subst (λ names. RanSo (table_program w t) (viewed w names c.in_ok-numbers.numbers.items reached_world after out out_after) c.run_program.result) c.requires.names c.run_program.ensures.ran;
       only = subst (λ names. RunComesOnly w names reached_world.faults after.faults (g.K.Sink.faults c.args.out.now) (g.K.Sink.faults c.run_program.new.out) c.run_program.result) c.requires.names c.run_program.ensures.comes_only;
     })
 

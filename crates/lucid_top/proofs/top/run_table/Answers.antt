@@ -1,12 +1,15 @@
-use Rattle.std.proofs.Common.{◌+◌, Some, refl, ap, ◌∙◌, length, arith, inr}
+use Rattle.std.proofs.Common.{◌+◌, Some, refl, ap, subst, ◌∙◌, length, arith, inr}
 use Rattle.std.proofs.lemmas.Result.{err_from_is_err_and}
 use Rattle.lucid_equations.specs.Programs.{table_of}
 use Rattle.lucid_words.specs.Plain.{plain_source}
 use Rattle.lucid_words.specs.Asked.{plain_words}
 use Rattle.lucid_top.specs.Flat.{most_flat_bytes}
 use Rattle.lucid_top.specs.Call.{Call, call, told}
+use Rattle.lucid_top.specs.Runs.{RanSo}
 use Rattle.lucid_top.specs.Stages.{by_table}
 use Rattle.lucid_top.proofs.Ending.{within_flat, Begins, flat_stops, flat_of, memory_stops, first_place_le}
+use Rattle.lucid_top.proofs.Carrying.{one_table}
+use Rattle.lucid_top.proofs.FewColumns.{none_few}
 use Rattle.lucid_top.specs.declared.stop.Stop.TheVariants as stop
 use Rattle.lucid_top.proofs.Counting.{none_at_ok, handed_on, counts_then}
 use Rattle.lucid_top.proofs.top.run_table.Goals as goal
@@ -24,6 +27,9 @@ returns-in_err-names-clause-comes g c =
     let w = plain_words c.args.words.now in
     let the_call : Call = call (Some w) (g.P.Places.world c.args.places.now) (g.P.Places.world c.flat_program.new.places) (told g.K.Sink.written g.K.Sink.faults c.args.out.now) (told g.K.Sink.written g.K.Sink.faults c.args.out.now) in
     rw (p.1, p.2) (memory_stops the_call w (record { read = refl; built = c.requires.built }) refl c.in_ok-program.ensures.few)
+
+pub run_inputs-requires-clause-columns : goal.run_inputs-requires-clause-columns
+run_inputs-requires-clause-columns g c = none_few (plain_words c.args.words.now) c.requires.task
 
 pub run_inputs-requires-clause-few : goal.run_inputs-requires-clause-few
 run_inputs-requires-clause-few g c =
@@ -48,7 +54,7 @@ returns-clause-comes g c =
       program = by_table (flat_of the_call w (table_of c.in_ok-program.program) begins c.requires.form c.in_ok-program.ensures.spelt);
       made = tt;
       inputs = refl;
-      runs = λ r o h. h;
+      runs = λ r o h. subst (λ p. RanSo p r o) (one_table w (table_of c.in_ok-program.program) c.requires.task) h;
       kept = c.in_ok-program.ensures.keeps;
       first = c.in_ok-program.ensures.reached;
     })

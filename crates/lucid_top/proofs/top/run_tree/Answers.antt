@@ -1,4 +1,4 @@
-use Rattle.std.proofs.Common.{◌+◌, Some, refl, sym, ap, ◌∙◌, length, arith, inr}
+use Rattle.std.proofs.Common.{◌+◌, Some, refl, sym, ap, subst, ◌∙◌, length, arith, inr}
 use Rattle.std.proofs.lemmas.Result.{err_from_is_err_and}
 use Rattle.lucid_equations.specs.Programs.{table_of}
 use Rattle.lucid_scan.specs.Refusals.{most_source_bytes}
@@ -6,9 +6,11 @@ use Rattle.lucid_scope.specs.Scoped.{scoped_tree, scoped_inputs, scoped_binding}
 use Rattle.lucid_words.specs.Plain.{plain_source}
 use Rattle.lucid_words.specs.Asked.{plain_words}
 use Rattle.lucid_top.specs.Call.{Call, call, told}
+use Rattle.lucid_top.specs.Runs.{RanSo}
 use Rattle.lucid_top.specs.Stages.{by_tree}
 use Rattle.lucid_top.proofs.Ending.{within_text, Begins, program_stops, run_not_print, memory_stops, inputs_of, names_of, first_place_le}
-use Rattle.lucid_top.proofs.Carrying.{runs_tree}
+use Rattle.lucid_top.proofs.Carrying.{runs_tree, one_table}
+use Rattle.lucid_top.proofs.FewColumns.{none_few}
 use Rattle.lucid_top.specs.declared.stop.Stop.TheVariants as stop
 use Rattle.lucid_top.proofs.Counting.{none_at_ok, handed_on, counts_then}
 use Rattle.lucid_top.proofs.top.run_tree.Goals as goal
@@ -29,6 +31,9 @@ returns-in_err-program-clause-comes g c =
 
 pub run_inputs-requires-clause-names : goal.run_inputs-requires-clause-names
 run_inputs-requires-clause-names g c = c.inputs.ensures.value ∙ sym c.in_ok-program.ensures.inputs
+
+pub run_inputs-requires-clause-columns : goal.run_inputs-requires-clause-columns
+run_inputs-requires-clause-columns g c = none_few (plain_words c.args.words.now) c.requires.task
 
 pub run_inputs-requires-clause-few : goal.run_inputs-requires-clause-few
 run_inputs-requires-clause-few g c =
@@ -55,7 +60,8 @@ returns-clause-comes g c =
       program = by_tree names;
       made = c.in_ok-scoped.ensures.accepted.well_made;
       inputs = sym c.in_ok-program.ensures.inputs;
-      runs = λ r o h. runs_tree c.same_streams_run_alike.ensures c.figures_carry.ensures (table_of c.in_ok-program.program) tree c.in_ok-program.ensures.keeps r o h;
+      runs = λ r o h. runs_tree c.same_streams_run_alike.ensures c.figures_carry.ensures (table_of c.in_ok-program.program) tree c.in_ok-program.ensures.keeps r o
+          (subst (λ p. RanSo p r o) (one_table w (table_of c.in_ok-program.program) c.requires.task) h);
       kept = c.in_ok-scoped.ensures.keeps;
       first = c.in_ok-scoped.ensures.reached;
     })

@@ -1,0 +1,193 @@
+-- A tree with columns of it as the subject has no more free names than the tree has places: the columns are no free names.
+use Rattle.std.proofs.Common.{◌≡◌, ℕ, zero, suc, ◌+◌, ◌<◌, ◌≤◌, Bool, true, false, cond, List, [], ◌∷◌, ◌++◌, length, length-append, fold, sum_by, Some, refl, sym, ap, ◌∙◌, arith, true≢false}
+use Rattle.std.specs.Prelude.{IsTrue, slice_get}
+use Rattle.std.specs.List.{list_any}
+use Rattle.std.proofs.Math.Logic.{∥∥₁_elim}
+use Rattle.std.specs.Coded.{le_prop}
+use Rattle.std.proofs.lemmas.Option.{slice_get_within}
+use Rattle.std.proofs.lemmas.List.Sums.{sum_by-cons, sum_by-append}
+use Rattle.std.proofs.lemmas.List.Sorted.{sum_by-IsPermutation}
+use Rattle.lucid_tree.specs.Tree.{PlainTree, form, name, call, block, PlainTrees, no_trees, tree, PlainDefs, no_defs, defines, defines_function, defines_current}
+use Rattle.lucid_tree.specs.Env.{Found, absent, plain_def, function_def, current_def, definition, same_name}
+use Rattle.lucid_tree.specs.WellMade.{places, places_in, places_in_defs}
+use Rattle.lucid_scope.specs.Scope.{Static, outermost, in_block, in_function, Meaning, free, plain_name, parameter, current_name, function, meaning, defined_in}
+use Rattle.lucid_scope.specs.Sites.{Site, named, called, again, sites, sites_in, outside_sites, inside_sites, repeats, again_if, also, no_names, Earlier}
+use Rattle.lucid_scope.specs.Bindings.{all_sites, with_input, with_site, AreInputs}
+use Rattle.lucid_columns.specs.Columns.{is_plain, over_space, with_columns, AreColumns}
+use Rattle.lucid_top.specs.Judged.{HasInputs}
+
+-- one for a free name, and nothing for another
+abbrev free_one : Meaning → ℕ
+free_one free = 1
+free_one (plain_name d e k) = 0
+free_one (parameter d i at k) = 0
+free_one (current_name d e k o) = 0
+free_one (function d ns ats e k) = 0
+
+abbrev free_at : Site → ℕ
+free_at (named at x k) = free_one (meaning x k)
+free_at (called at x n k) = free_one (meaning x k)
+free_at (again at) = 0
+
+-- a site adds a name at most where its own is free
+longer : (b : Bool) (is more : List (List ℕ)) → length (cond b is (is ++ more)) ≤ length is + length more
+longer true is more = omega arith
+longer false is more = omega (arith, length-append is more)
+
+input_adds : (is : List (List ℕ)) (x : List ℕ) (m : Meaning) → length (with_input is x m) ≤ length is + free_one m
+input_adds is x free = longer (list_any (same_name x) is) is (x ∷ [])
+input_adds is x (plain_name d e k) = omega arith
+input_adds is x (parameter d i at k) = omega arith
+input_adds is x (current_name d e k o) = omega arith
+input_adds is x (function d ns ats e k) = omega arith
+
+site_adds : (is : List (List ℕ)) (s : Site) → length (with_site is s) ≤ length is + free_at s
+site_adds is (named at x k) = input_adds is x (meaning x k)
+site_adds is (called at x n k) = input_adds is x (meaning x k)
+site_adds is (again at) = omega arith
+
+all_add : (ss : List Site) (is : List (List ℕ)) → length (fold with_site is ss) ≤ length is + sum_by free_at ss
+all_add [] is = omega arith
+all_add (s ∷ ss) is = omega (arith, all_add ss (with_site is s), site_adds is s, sum_by-cons free_at s ss)
+
+few_names : (e : PlainTree) (names : List (List ℕ)) → AreInputs e names → length names ≤ sum_by free_at (all_sites e)
+few_names e names a = omega (arith, ap length a.names, all_add a.order [], sum_by-IsPermutation free_at (all_sites e) a.order a.permutes)
+
+-- at most one for each site
+meaning_ones : (m : Meaning) → free_one m ≤ 1
+meaning_ones free = omega arith
+meaning_ones (plain_name d e k) = omega arith
+meaning_ones (parameter d i at k) = omega arith
+meaning_ones (current_name d e k o) = omega arith
+meaning_ones (function d ns ats e k) = omega arith
+
+site_ones : (s : Site) → free_at s ≤ 1
+site_ones (named at x k) = meaning_ones (meaning x k)
+site_ones (called at x n k) = meaning_ones (meaning x k)
+site_ones (again at) = omega arith
+
+as_many : (ss : List Site) → sum_by free_at ss ≤ length ss
+as_many [] = omega arith
+as_many (s ∷ ss) = omega (arith, site_ones s, as_many ss, sum_by-cons free_at s ss)
+
+-- and no more sites than places
+few_again : (b : Bool) (at : ℕ) → length (again_if b at) ≤ 1
+few_again true at = omega arith
+few_again false at = omega arith
+
+few_repeats : (earlier : Earlier) (ns : List (List ℕ)) (ats : List ℕ) → length (repeats earlier ns ats) ≤ length ats
+few_repeats earlier [] ats = omega arith
+few_repeats earlier (n ∷ ns) [] = omega arith
+few_repeats earlier (n ∷ ns) (at ∷ ats) =
+    omega (arith, length-append (again_if (earlier n) at) (repeats (also n earlier) ns ats), few_again (earlier n) at, few_repeats (also n earlier) ns ats)
+
+mutual
+  few_sites : (k : Static) (e : PlainTree) → length (sites k e) ≤ length (places e)
+  few_sites k (form at h es) = omega (arith, few_in_all k es)
+  few_sites k (name at x) = omega arith
+  few_sites k (call at x es) = omega (arith, few_in_all k es)
+  few_sites k (block at e ds) =
+      let inner : Static = in_block ds k in
+      omega (
+        arith,
+        length-append (outside_sites k ds) (sites inner e ++ inside_sites inner no_names ds),
+        length-append (sites inner e) (inside_sites inner no_names ds),
+        length-append (places e) (places_in_defs ds),
+        few_sites inner e,
+        few_in_defs k inner no_names ds,
+      )
+
+  few_in_all : (k : Static) (es : PlainTrees) → length (sites_in k es) ≤ length (places_in es)
+  few_in_all k no_trees = omega arith
+  few_in_all k (tree e es) =
+      omega (arith, length-append (sites k e) (sites_in k es), length-append (places e) (places_in es), few_sites k e, few_in_all k es)
+
+  few_in_defs : (o k : Static) (earlier : Earlier) (ds : PlainDefs) → length (outside_sites o ds) + length (inside_sites k earlier ds) ≤ length (places_in_defs ds)
+  few_in_defs o k earlier no_defs = omega arith
+  few_in_defs o k earlier (defines at x e ds) =
+      let rest : List Site = inside_sites k (also x earlier) ds in
+      omega (
+        arith,
+        length-append (again_if (earlier x) at) (sites k e ++ rest),
+        length-append (sites k e) rest,
+        length-append (places e) (places_in_defs ds),
+        few_again (earlier x) at,
+        few_sites k e,
+        few_in_defs o k (also x earlier) ds,
+      )
+  few_in_defs o k earlier (defines_function at x ns ats e ds) =
+      let inner : List Site = sites (in_function at ns ats k) e in
+      let rest : List Site = inside_sites k (also x earlier) ds in
+      omega (
+        arith,
+        length-append (again_if (earlier x) at) ((repeats no_names ns ats ++ inner) ++ rest),
+        length-append (repeats no_names ns ats ++ inner) rest,
+        length-append (repeats no_names ns ats) inner,
+        length-append (ats ++ places e) (places_in_defs ds),
+        length-append ats (places e),
+        few_again (earlier x) at,
+        few_repeats no_names ns ats,
+        few_sites (in_function at ns ats k) e,
+        few_in_defs o k (also x earlier) ds,
+      )
+  few_in_defs o k earlier (defines_current at x e ds) =
+      let rest : List Site = inside_sites k (also x earlier) ds in
+      omega (
+        arith,
+        length-append (sites o e) (outside_sites o ds),
+        length-append (again_if (earlier x) at) rest,
+        length-append (places e) (places_in_defs ds),
+        few_again (earlier x) at,
+        few_sites o e,
+        few_in_defs o k (also x earlier) ds,
+      )
+
+-- a plain name isn't free
+not_free : (found : Found) (k o : Static) (m : Meaning) → IsTrue (is_plain found) → free_one (defined_in found k o m) ≡ 0
+not_free absent k o m is = absurd (true≢false (sym is))
+not_free (plain_def at e) k o m is = refl
+not_free (function_def at ns ats e) k o m is = absurd (true≢false (sym is))
+not_free (current_def at e) k o m is = absurd (true≢false (sym is))
+
+columns_not_free : (ds : PlainDefs) (base j : ℕ) (n : List ℕ) (ns : List (List ℕ)) → ((i : ℕ) (m : List ℕ) → slice_get (n ∷ ns) i ≡ Some m → IsTrue (is_plain (definition m ds)))
+    → sum_by free_at (sites (in_block ds outermost) (over_space base j n ns)) ≡ 0
+columns_not_free ds base j n [] plain = omega (arith, sum_by-cons free_at (named (base + j) n (in_block ds outermost)) [], not_free (definition n ds) (in_block ds outermost) outermost free (plain 0 n refl))
+columns_not_free ds base j n (m ∷ ms) plain =
+    let k : Static = in_block ds outermost in
+    let rest : List Site = sites k (over_space base (suc j) m ms) in
+    omega (
+      arith,
+      sum_by-cons free_at (named (base + j) n k) (rest ++ []),
+      sum_by-append free_at rest [],
+      not_free (definition n ds) k outermost free (plain 0 n refl),
+      columns_not_free ds base (suc j) m ms (λ i x is. plain (suc i) x is),
+    )
+
+few_free : (e : PlainTree) → sum_by free_at (all_sites e) ≤ length (places e)
+few_free e = omega (arith, as_many (all_sites e), few_sites outermost e)
+
+few_beside : (e : PlainTree) (base : ℕ) (columns : List (List ℕ)) → AreColumns e columns → sum_by free_at (all_sites (with_columns e base columns)) ≤ length (places e)
+few_beside e base [] are = few_free e
+few_beside (form at f es) base (n ∷ ns) are = few_free (form at f es)
+few_beside (name at x) base (n ∷ ns) are = few_free (name at x)
+few_beside (call at x es) base (n ∷ ns) are = few_free (call at x es)
+few_beside (block at e ds) base (n ∷ ns) are =
+    let k : Static = in_block ds outermost in
+    let outer : List Site = outside_sites outermost ds in
+    let inner : List Site = inside_sites k no_names ds in
+    let subject : List Site = sites k (over_space base 0 n ns) in
+    omega (
+      arith,
+      sum_by-append free_at outer (subject ++ inner),
+      sum_by-append free_at subject inner,
+      columns_not_free ds base 0 n ns (λ i m is. are i m (slice_get_within (n ∷ ns) i m is) is),
+      as_many outer,
+      as_many inner,
+      few_in_defs outermost k no_names ds,
+      length-append (places e) (places_in_defs ds),
+    )
+
+pub few_inputs : (e : PlainTree) (base : ℕ) (columns names : List (List ℕ)) → AreColumns e columns → HasInputs (with_columns e base columns) names → length names ≤ length (places e)
+few_inputs e base columns names are inputs =
+    ∥∥₁_elim inputs le_prop
+    (λ a. let here = few_names (with_columns e base columns) names a in let most = few_beside e base columns are in omega (arith, here, most))

@@ -1,0 +1,40 @@
+use Rattle.std.proofs.Common.{subst, inr}
+use Rattle.std.specs.Prelude.{IfOk}
+use Rattle.std.proofs.lemmas.Result.{IfErr-weaker, err_from_is_err_and}
+use Rattle.lucid_words.specs.Plain.{plain_source}
+use Rattle.lucid_words.specs.Asked.{plain_words}
+use Rattle.lucid_scope.specs.Scoped.{scoped_tree, scoped_inputs}
+use Rattle.lucid_top.specs.Places.{IsAcceptedBeside, IsColumnsStop}
+use Rattle.lucid_top.specs.Judged.{RefusesBeside}
+use Rattle.lucid_top.specs.Refusals.{IsRefusalOf}
+use Rattle.lucid_top.proofs.Ending.{all_accepted_beside, beside_stop, source_columns_stop}
+use Rattle.lucid_top.specs.declared.stop.Stop.TheVariants as stop
+use Rattle.lucid_top.proofs.Counting.{none_at_ok, handed_on}
+use Rattle.lucid_top.proofs.top.columns_of.Goals as goal
+
+pub returns-in_err-tree-clause-stopped : goal.returns-in_err-tree-clause-stopped
+returns-in_err-tree-clause-stopped g c =
+    let p = err_from_is_err_and c.from_residual.result c.from_residual.ensures.1 in
+    rw (p.1, p.2) (source_columns_stop (plain_source c.args.words.now.source) (plain_words c.args.words.now).columns (g.P.Places.world c.args.places.now) (g.P.Places.world c.tree_of.new.places) c.in_err-tree.field-0.0 c.in_err-tree.ensures.stopped)
+
+pub returns-clause-accepted : goal.returns-clause-accepted
+returns-clause-accepted g c =
+    subst (λ ns. IfOk c.resolve_beside.result (λ s. IsAcceptedBeside (plain_source c.args.words.now.source) (g.P.Places.world c.args.places.now) ns (scoped_tree s) (scoped_inputs s))) c.deref.ensures.value
+    (all_accepted_beside (plain_source c.args.words.now.source) (g.P.Places.world c.args.places.now) c.in_ok-tree.tree c.deref.result.now c.resolve_beside.result c.in_ok-tree.ensures.spelt
+    c.in_ok-tree.ensures.well_made c.in_ok-tree.ensures.few_nodes c.resolve_beside.ensures.beside)
+
+pub returns-clause-stopped : goal.returns-clause-stopped
+returns-clause-stopped g c =
+    IfErr-weaker c.resolve_beside.result (IsRefusalOf (RefusesBeside c.in_ok-tree.tree c.deref.result.now))
+    (IsColumnsStop (plain_source c.args.words.now.source) (plain_words c.args.words.now).columns (g.P.Places.world c.args.places.now) (g.P.Places.world c.tree_of.new.places))
+    (λ s refused. beside_stop (plain_source c.args.words.now.source) (g.P.Places.world c.args.places.now) (g.P.Places.world c.tree_of.new.places) c.in_ok-tree.tree (plain_words c.args.words.now).columns s
+    c.in_ok-tree.ensures.spelt c.in_ok-tree.ensures.well_made c.in_ok-tree.ensures.few_nodes (subst (λ ns. IsRefusalOf (RefusesBeside c.in_ok-tree.tree ns) s) c.deref.ensures.value refused))
+    c.resolve_beside.ensures.refused
+
+pub returns-in_err-tree-clause-counts_no_read : goal.returns-in_err-tree-clause-counts_no_read
+returns-in_err-tree-clause-counts_no_read g c =
+    let p = err_from_is_err_and c.from_residual.result c.from_residual.ensures.1 in
+    rw (p.1) (handed_on c.in_err-tree.field-0.0 p.0 stop.ReadFault (g.P.Places.world c.args.places.now).faults (g.P.Places.world c.tree_of.new.places).faults p.2 c.in_err-tree.ensures.counts_no_read)
+
+pub returns-clause-counts_no_read : goal.returns-clause-counts_no_read
+returns-clause-counts_no_read g c = inr (none_at_ok c.in_ok-tree.tree stop.ReadFault (g.P.Places.world c.args.places.now).faults (g.P.Places.world c.tree_of.new.places).faults c.in_ok-tree.ensures.counts_no_read)
