@@ -1,10 +1,10 @@
 -- A tree with columns of it as the subject: what is known once its names were looked at, and why it is refused.
-use Rattle.std.proofs.Common.{◌≡◌, ℕ, ◌≤◌, List, length, None, Result, Ok, Err, inl, inr, sym, ap, subst, ◌∙◌, arith}
+use Rattle.std.proofs.Common.{◌≡◌, ℕ, List, None, Result, Ok, Err, inl, inr, sym, subst, ◌∙◌}
 use Rattle.std.specs.Prelude.{IfOk}
 use Rattle.std.proofs.Math.Logic.{∥∥₁_map}
 use Rattle.std.proofs.lemmas.List.Elements.{All-contains}
 use Rattle.lucid_tree.specs.Tree.{PlainTree}
-use Rattle.lucid_tree.specs.WellMade.{places, IsWellMade}
+use Rattle.lucid_tree.specs.WellMade.{IsWellMade}
 use Rattle.lucid_scan.specs.Refusals.{most_source_bytes}
 use Rattle.lucid_scope.specs.Bindings.{fault_of, all_sites, HasNoFault}
 use Rattle.lucid_scope.specs.Scoped.{scoped_tree, scoped_inputs}

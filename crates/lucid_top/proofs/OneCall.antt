@@ -10,7 +10,6 @@ use Rattle.lucid_print.specs.Canonical.{canonical}
 use Rattle.lucid_scope.specs.Bindings.{HasNoFault}
 use Rattle.lucid_words.specs.Plain.{PlainSource, file, made}
 use Rattle.lucid_words.specs.Asked.{PlainWords}
-use Rattle.lucid_columns.specs.Columns.{AreColumns}
 use Rattle.lucid_cycles.specs.Judged.{IsJudged}
 use Rattle.lucid_top.specs.declared.refusal.Refusal.{Refusal}
 use Rattle.lucid_top.specs.declared.task.Task.{Task}
