@@ -130,9 +130,9 @@ fn a_line_of_columns_is_one_piece(rt: HostRuntime) -> Result<(), Fail> {
     let (answer, out) = two_columns(rt.alloc(), &[])?;
     assert_eq!(rt; answer?.lines, 3);
     assert_eq!(rt; out.pieces.len(), 3);
-    assert_eq!(rt; out.pieces[0].as_slice(), b"1\t2\n");
-    assert_eq!(rt; out.pieces[1].as_slice(), b"1\t\n");
-    assert_eq!(rt; out.pieces[2].as_slice(), b"1\t\n");
+    assert_eq!(rt; out.pieces[0].as_slice(), b"1\t2\n".as_slice());
+    assert_eq!(rt; out.pieces[1].as_slice(), b"1\t\n".as_slice());
+    assert_eq!(rt; out.pieces[2].as_slice(), b"1\t\n".as_slice());
     Ok(())
 }
 
@@ -140,6 +140,6 @@ fn a_line_of_columns_is_one_piece(rt: HostRuntime) -> Result<(), Fail> {
 fn a_refused_line_of_columns_ends_the_run(rt: HostRuntime) -> Result<(), Fail> {
     let (answer, out) = two_columns(rt.alloc(), &[1])?;
     assert_eq!(rt; answer, Err(RunFault::WriteFault));
-    assert_eq!(rt; out.sink.written(), b"1\t2\n");
+    assert_eq!(rt; out.sink.written(), b"1\t2\n".as_slice());
     Ok(())
 }
