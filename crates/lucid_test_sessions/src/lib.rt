@@ -4,8 +4,6 @@
 #[cfg(test)]
 mod choices;
 #[cfg(test)]
-mod columns;
-#[cfg(test)]
 mod large;
 #[cfg(test)]
 mod pieces;
