@@ -1,7 +1,7 @@
 -- One more definition passed by, or met, in the search for a plain definition of a name.
 use Rattle.std.proofs.Common.{◌≡◌, ℕ, ◌+◌, ◌<◌, ◌≤◌, Bool, true, false, List, length, refl, ap, subst, drop, slice_index_or, add-one, drop-cons}
 use Rattle.std.specs.Prelude.{◌↔◌, IsTrue}
-use Rattle.std.specs.Cmp.Lexicographic.{bytes_decides, nat_list_eq_equiv}
+use Rattle.std.specs.Cmp.Lexicographic.{nat_list_eq_equiv}
 use Rattle.std.proofs.Math.ListN.{drop_of_length-le}
 use Rattle.lucid_tree.specs.Tree.{PlainDefs}
 use Rattle.lucid_tree.specs.DefsView.{defs_of, def_of}
@@ -9,23 +9,16 @@ use Rattle.lucid_tree.specs.Env.{definition, same_name}
 use Rattle.lucid_tree.specs.declared.tree.Def.{Def}
 use Rattle.lucid_tree.specs.declared.tree.DefKind.{DefKind}
 use Rattle.lucid_tree.specs.declared.tree.DefKind.TheVariants.{Plain, Function, Current}
+use Rattle.lucid_tree.proofs.Lookups.{definition_passed}
+use Rattle.lucid_scope.proofs.Names.{not_same}
 use Rattle.lucid_columns.specs.Columns.{is_plain, defines_plain}
 
 -- names are the same exactly where their bytes are
 pub same_if : (r : Bool) (x y : List ℕ) → (IsTrue r ↔ (x ≡ y)) → r ≡ true → same_name x y ≡ true
 same_if r x y is h = subst (λ z. same_name x z ≡ true) (is.0 h) (nat_list_eq_equiv.refl x)
 
-different : (x y : List ℕ) (b : Bool) → same_name x y ≡ b → (x ≡ y → ⊥) → b ≡ false
-different x y true is differ = absurd (differ ((bytes_decides x y).0 is))
-different x y false is differ = refl
-
 pub not_same_if : (r : Bool) (x y : List ℕ) → (IsTrue r ↔ (x ≡ y)) → r ≡ false → same_name x y ≡ false
-not_same_if r x y is h = different x y (same_name x y) refl (λ e. let yes : r ≡ true = is.1 e in absurd (cc (yes, h)))
-
-other : (n : List ℕ) (at : ℕ) (x : List ℕ) (k : DefKind) (ds : PlainDefs) → same_name n x ≡ false → definition n (def_of at x k ds) ≡ definition n ds
-other n at x (Plain e) ds h = rw h refl
-other n at x (Function ps ats e) ds h = rw h refl
-other n at x (Current e) ds h = rw h refl
+not_same_if r x y is h = not_same x y (λ e. let yes : r ≡ true = is.1 e in absurd (cc (yes, h)))
 
 here : (n : List ℕ) (at : ℕ) (x : List ℕ) (k : DefKind) (ds : PlainDefs) → same_name n x ≡ true → is_plain (definition n (def_of at x k ds)) ≡ defines_plain k
 here n at x (Plain e) ds h = rw h refl
@@ -34,7 +27,7 @@ here n at x (Current e) ds h = rw h refl
 
 pub passed : (n : List ℕ) (ds : List Def) (i : ℕ) (d : Def) → i < length ds → d ≡ slice_index_or ds i d → same_name n d.name ≡ false
     → is_plain (definition n (defs_of (drop i ds))) ≡ is_plain (definition n (defs_of (drop (i + 1) ds)))
-passed n ds i d h is differ = rw (drop-cons ds i d, ← is, add-one) (ap is_plain (other n d.at d.name d.kind _ differ))
+passed n ds i d h is differ = rw (drop-cons ds i d, ← is, add-one) (ap is_plain (definition_passed n d.at d.name d.kind _ differ))
 
 pub met : (n : List ℕ) (ds : List Def) (i : ℕ) (d : Def) → i < length ds → d ≡ slice_index_or ds i d → same_name n d.name ≡ true
     → is_plain (definition n (defs_of (drop i ds))) ≡ defines_plain d.kind

@@ -2,8 +2,8 @@
 use Rattle.std.proofs.Common.{◌≡◌, ℕ, zero, suc, ◌+◌, ◌<◌, length, List, [], ◌∷◌, ◌++◌, Some, None, refl, sym, arith, true≢false}
 use Rattle.std.specs.Prelude.{All, IsTrue, slice_get}
 use Rattle.std.proofs.lemmas.List.Elements.{All-nil, All-cons, All-append}
-use Rattle.lucid_tree.specs.Tree.{form, name, call, block, PlainDefs}
-use Rattle.lucid_tree.specs.Env.{Found, absent, plain_def, function_def, current_def, definition}
+use Rattle.lucid_tree.specs.Tree.{block, PlainDefs}
+use Rattle.lucid_tree.specs.Env.{Found, plain_def, definition}
 use Rattle.lucid_scope.specs.Scope.{Static, outermost, in_block, meaning, defined_in}
 use Rattle.lucid_scope.specs.Sites.{Site, named, sites, outside_sites, inside_sites, no_names}
 use Rattle.lucid_scope.specs.Bindings.{fault_of, name_fault}
@@ -24,10 +24,8 @@ all_right (x ∷ xs) ys all = all_right xs ys (λ k d lt. all (suc k) d (omega (
 
 -- a name that has a plain definition has no fault
 no_fault : (found : Found) (at : ℕ) (k o : Static) (n : List ℕ) → IsTrue (is_plain found) → name_fault at (defined_in found k o (meaning n o)) ≡ None
-no_fault absent at k o n is = absurd (true≢false (sym is))
 no_fault (plain_def d e) at k o n is = refl
-no_fault (function_def d ns ats e) at k o n is = absurd (true≢false (sym is))
-no_fault (current_def d e) at k o n is = absurd (true≢false (sym is))
+no_fault _ at k o n is = absurd (true≢false (sym is))
 
 module _ (ds : PlainDefs) where
   names_faultless : (base j : ℕ) (n : List ℕ) (ns : List (List ℕ)) → ((i : ℕ) (m : List ℕ) → slice_get (n ∷ ns) i ≡ Some m → IsTrue (is_plain (definition m ds)))
@@ -46,9 +44,6 @@ within (y ∷ ys) (suc i) x e = omega (arith, within ys i x e)
 -- So a program with its columns side by side has none where the program has none.
 pub have_no_fault : ColumnsHaveNoFault
 have_no_fault e base [] columns none = none
-have_no_fault (form at f es) base (n ∷ ns) columns none = none
-have_no_fault (name at x) base (n ∷ ns) columns none = none
-have_no_fault (call at x es) base (n ∷ ns) columns none = none
 have_no_fault (block at x ds) base (n ∷ ns) columns none =
     let k : Static = in_block ds outermost in
     let inner = all_right (outside_sites outermost ds) (sites k x ++ inside_sites k no_names ds) none in
@@ -57,3 +52,4 @@ have_no_fault (block at x ds) base (n ∷ ns) columns none =
     (All-append Faultless (sites k (over_space base 0 n ns)) (inside_sites k no_names ds)
     (names_faultless ds base 0 n ns (λ i m e. columns i m (within (n ∷ ns) i m e) e))
     (all_right (sites k x) (inside_sites k no_names ds) inner))
+have_no_fault _ base (n ∷ ns) columns none = none

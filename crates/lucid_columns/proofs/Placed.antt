@@ -1,7 +1,8 @@
 -- A program with its columns as the subject is well made.
-use Rattle.std.proofs.Common.{ℕ, suc, ◌+◌, ◌*◌, ◌<◌, ◌≤◌, length, Bool, true, false, ◌&&◌, List, [], ◌∷◌, ◌++◌, refl, sym, ap, subst, arith, append-nil, ◌⊎◌, inl, inr, length-append, true≢false}
+use Rattle.std.proofs.Common.{ℕ, suc, ◌+◌, ◌*◌, ◌<◌, ◌≤◌, length, true, List, [], ◌∷◌, ◌++◌, refl, sym, ap, subst, arith, append-nil, ◌⊎◌, inl, inr, length-append}
 use Rattle.std.specs.Prelude.{All, IsTrue}
-use Rattle.lucid_tree.specs.Tree.{PlainTree, form, name, call, block, PlainDefs}
+use Rattle.lucid_lemmas.proofs.Truths.{both_true, second_true}
+use Rattle.lucid_tree.specs.Tree.{PlainTree, block, PlainDefs}
 use Rattle.lucid_tree.specs.Members.{In, AllDiffer}
 use Rattle.lucid_tree.specs.WellMade.{IsWellMade, places, places_in_defs, is_shaped, defs_are_shaped}
 use Rattle.lucid_tree.proofs.Members.{in_right, in_either}
@@ -24,14 +25,6 @@ module _ {A : Type 0} where
   in_all P [] x all i = absurd i
   in_all P (y ∷ ys) x all (inl e) = subst P (sym e) (all 0 y (omega arith))
   in_all P (y ∷ ys) x all (inr i) = in_all P ys x (λ k d lt. all (suc k) d (omega (arith, lt))) i
-
-both_true : (a b : Bool) → IsTrue a → IsTrue b → IsTrue (a && b)
-both_true true b h k = k
-both_true false b h k = absurd (true≢false (sym h))
-
-second_true : (a b : Bool) → IsTrue (a && b) → IsTrue b
-second_true true b h = h
-second_true false b h = absurd (true≢false (sym h))
 
 module _ (base : ℕ) where
   -- the places of names, and those of what stands between them
@@ -100,7 +93,5 @@ module _ (base : ℕ) where
 pub beside_well_made : (e : PlainTree) (base : ℕ) (columns : List (List ℕ)) → length columns ≤ 16 → IsWellMade e → All (λ p. p < base) (places e) → length (places e) ≤ 1048576
     → IsWellMade (with_columns e base columns)
 beside_well_made e base [] few well lower short = well
-beside_well_made (form at f es) base (n ∷ ns) few well lower short = well
-beside_well_made (name at x) base (n ∷ ns) few well lower short = well
-beside_well_made (call at x es) base (n ∷ ns) few well lower short = well
 beside_well_made (block at e ds) base (n ∷ ns) few well lower short = still_well_made base at e ds n ns (omega (arith, few)) well lower short
+beside_well_made _ base (n ∷ ns) few well lower short = well

@@ -6,7 +6,7 @@ use Rattle.lucid_tree.specs.Tree.{PlainTree}
 use Rattle.lucid_tree.specs.View.{tree_of}
 use Rattle.lucid_tree.specs.declared.tree.Block.{Block}
 use Rattle.lucid_tree.specs.declared.tree.Kind.{Kind}
-use Rattle.lucid_tree.specs.declared.tree.Kind.TheVariants.{Const, Name, Call, Apply, If, And, Or, First, Next, Fby, Whenever, Asa, Upon, Attime, Initial, Succ, Sby, Atspace, Scope}
+use Rattle.lucid_tree.specs.declared.tree.Kind.TheVariants.{Scope}
 use Rattle.lucid_columns.specs.Columns.{is_column, AreColumnsBelow, IsFirstMissing}
 
 -- one column more
@@ -21,25 +21,8 @@ one_more e ns i k n below is good next j m lt at = elim (cases_lt j i) [
 
 -- a program that is no block has none
 no_block : (at : ℕ) (k : Kind) → ((b : Box Block Global) → k ≡ Scope b → ⊥) → (n : List ℕ) → is_column (tree_of at k) n ≡ false
-no_block at (Const v) h n = refl
-no_block at (Name m) h n = refl
-no_block at (Call m es) h n = refl
-no_block at (Apply op es) h n = refl
-no_block at (If c a b) h n = refl
-no_block at (And a b) h n = refl
-no_block at (Or a b) h n = refl
-no_block at (First a) h n = refl
-no_block at (Next a) h n = refl
-no_block at (Fby a b) h n = refl
-no_block at (Whenever a b) h n = refl
-no_block at (Asa a b) h n = refl
-no_block at (Upon a b) h n = refl
-no_block at (Attime a b) h n = refl
-no_block at (Initial a) h n = refl
-no_block at (Succ a) h n = refl
-no_block at (Sby a b) h n = refl
-no_block at (Atspace a b) h n = refl
 no_block at (Scope b) h n = absurd (h b refl)
+no_block at _ h n = refl
 
 pub first_missing : (e : PlainTree) (at : ℕ) (k : Kind) (columns : List (List ℕ)) (n : List ℕ) (ns : List (List ℕ)) → tree_of at k ≡ e → ((b : Box Block Global) → k ≡ Scope b → ⊥)
     → columns ≡ n ∷ ns → IsFirstMissing e columns 0

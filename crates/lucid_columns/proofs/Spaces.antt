@@ -4,7 +4,7 @@ use Rattle.std.specs.Prelude.{slice_get, nat_le}
 use Rattle.std.specs.List.{filter_map}
 use Rattle.lucid_lemmas.proofs.Numbers.{zero_le}
 use Rattle.lucid_value.specs.Plain.{PlainValue}
-use Rattle.lucid_tree.specs.Tree.{form, name, call, block}
+use Rattle.lucid_tree.specs.Tree.{name, block}
 use Rattle.lucid_tree.specs.Rows.{Reader, gives, add_value, with_values, single, run, trace}
 use Rattle.lucid_tree.specs.Levels.{Elements, Below, Given, nothing_held, below, deeper, look_up_of}
 use Rattle.lucid_tree.specs.Env.{Env, empty, scope, frozen_at, Referent, Position, Aim, name_target}
@@ -54,9 +54,6 @@ module _ (g : Given Referent) (m d : ℕ) (deep : Aim → ℕ → Events) (env :
 
 -- So each column at its space is what the program with that name as its subject is at space 0.
 pub are_spaces : ColumnsAreSpaces
-are_spaces (form at f es) base names i n e is = absurd (true≢false (sym is))
-are_spaces (name at x) base names i n e is = absurd (true≢false (sym is))
-are_spaces (call at x es) base names i n e is = absurd (true≢false (sym is))
 are_spaces (block at x ds) base [] i n e is = absurd (absent_some e)
 are_spaces (block at x ds) base (k ∷ ks) i n e is = record {
   values = λ b m t. value_beside m (below value (nothing_held b) m) (scope ds (frozen_at ds t) empty) t base 0 k ks i n e;
@@ -68,3 +65,4 @@ are_spaces (block at x ds) base (k ∷ ks) i n e is = record {
     met b m d t =
         ap (λ events. frozen_entry (frozen_at ds t) (scope ds (frozen_at ds t) empty) ++ events)
         (walk_beside (nothing_held b) m d (deeper (walk (nothing_held b)) m d) (scope ds (frozen_at ds t) empty) t base 0 k ks i n e)
+are_spaces e base names i n f is = absurd (true≢false (sym is))

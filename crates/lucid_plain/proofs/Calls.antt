@@ -13,9 +13,7 @@ call_going no_call es env t = at_none
 
 in_block : (d : Found) (at : ℕ) (es : PlainTrees) (env f : Env) (t : ℕ) (a : Aim) (k : Calling) → going a ≡ call_going k es env t → going (called d at es env f t a) ≡ call_going (called_in (kept d) f k) es env t
 in_block absent at es env f t a k h = h
-in_block (plain_def d e) at es env f t a k h = refl
-in_block (function_def d ns ats e) at es env f t a k h = refl
-in_block (current_def d e) at es env f t a k h = refl
+in_block _ at es env f t a k h = refl
 
 in_call : (o : Option ℕ) (es : PlainTrees) (env : Env) (t : ℕ) (a : Aim) (k : Calling) → going a ≡ call_going k es env t → going (unless_param o a) ≡ call_going (unless_named o k) es env t
 in_call None es env t a k h = h

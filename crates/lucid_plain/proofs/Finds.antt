@@ -5,6 +5,7 @@ use Rattle.lucid_tree.specs.Tree.{PlainTree, PlainDefs}
 use Rattle.lucid_tree.specs.DefsView.{defs_of, def_of}
 use Rattle.lucid_tree.specs.Lists.{trees_of}
 use Rattle.lucid_tree.specs.Env.{tree_at, definition, same_name, absent}
+use Rattle.lucid_tree.proofs.Lookups.{definition_passed}
 use Rattle.lucid_plain.specs.View.{found_in}
 use Rattle.lucid_plain.specs.Streams.{element_in}
 use Rattle.lucid_tree.specs.Env.{frozen_at}
@@ -15,18 +16,13 @@ use Rattle.lucid_tree.specs.declared.tree.Def.{Def}
 use Rattle.lucid_tree.specs.declared.tree.DefKind.{DefKind}
 use Rattle.lucid_tree.specs.declared.tree.DefKind.TheVariants.{Plain, Function, Current}
 
-pub definition-other : (n : List ℕ) (at : ℕ) (x : List ℕ) (k : DefKind) (ds : PlainDefs) → same_name n x ≡ false → definition n (def_of at x k ds) ≡ definition n ds
-definition-other n at x (Plain e) ds h = rw h refl
-definition-other n at x (Function ps ats e) ds h = rw h refl
-definition-other n at x (Current e) ds h = rw h refl
-
 pub definition-met : (n : List ℕ) (at : ℕ) (x : List ℕ) (k : DefKind) (ds : PlainDefs) → same_name n x ≡ true → definition n (def_of at x k ds) ≡ found_in at k
 definition-met n at x (Plain e) ds h = rw h refl
 definition-met n at x (Function ps ats e) ds h = rw h refl
 definition-met n at x (Current e) ds h = rw h refl
 
 pub passed : (n : List ℕ) (ds : List Def) (i : ℕ) (d : Def) → i < length ds → d ≡ slice_index_or ds i d → same_name n d.name ≡ false → definition n (defs_of (drop i ds)) ≡ definition n (defs_of (drop (i + 1) ds))
-passed n ds i d h is other = rw (drop-cons ds i d, ← is, add-one) (definition-other n d.at d.name d.kind _ other)
+passed n ds i d h is other = rw (drop-cons ds i d, ← is, add-one) (definition_passed n d.at d.name d.kind _ other)
 
 pub met : (n : List ℕ) (ds : List Def) (i : ℕ) (d : Def) → i < length ds → d ≡ slice_index_or ds i d → same_name n d.name ≡ true → definition n (defs_of (drop i ds)) ≡ found_in d.at d.kind
 met n ds i d h is this = rw (drop-cons ds i d, ← is) (definition-met n d.at d.name d.kind _ this)

@@ -1,6 +1,6 @@
 -- A search, one time further.
-use Rattle.std.proofs.Common.{◌≡◌, ◌≢◌, ℕ, zero, suc, ◌-◌, ◌<◌, ◌+◌, List, [], Option, Some, None, true, false, refl, ap, ◌∙◌, arith, sub-one, add-one}
-use Rattle.lucid_value.specs.Plain.{PlainValue, int, truth, word, text, list, eod, fault}
+use Rattle.std.proofs.Common.{◌≡◌, ◌≢◌, ℕ, zero, suc, ◌-◌, ◌<◌, ◌+◌, List, [], Option, Some, None, true, refl, ap, ◌∙◌, arith, sub-one, add-one}
+use Rattle.lucid_value.specs.Plain.{PlainValue, truth}
 use Rattle.lucid_tree.proofs.Undone.{alone}
 use Rattle.lucid_plain.specs.declared.streams.Stream.{Stream}
 use Rattle.lucid_tree.specs.Tree.{PlainTree, tree, no_trees}
@@ -17,15 +17,8 @@ by_turning turns_off a b = b
 by_turning (ends o) a b = o
 
 tested : (o : Option PlainValue) (a b : Plan) (r : Reader (Option PlainValue)) → with_values (add_value o (Some [])) None (λ vs. run (single (λ v. by_test v a b) vs) r) ≡ by_turning (turn_of o) (run a r) (run b r)
-tested None a b r = refl
 tested (Some (truth true)) a b r = refl
-tested (Some (truth false)) a b r = refl
-tested (Some eod) a b r = refl
-tested (Some (int n)) a b r = refl
-tested (Some (word w)) a b r = refl
-tested (Some (text w)) a b r = refl
-tested (Some (list w)) a b r = refl
-tested (Some fault) a b r = refl
+tested o a b r = refl
 
 module _ (vs : List Stream) (m : ℕ) (x p : PlainTree) (env : Env) (s : ℕ) where
   abbrev reader : Reader (Option PlainValue)

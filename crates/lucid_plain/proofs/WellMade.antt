@@ -2,27 +2,13 @@
 use Rattle.std.proofs.Common.{◌≡◌, length, true, ◌&&◌, nat_eq, nat_lt, arith}
 use Rattle.std.proofs.lemmas.Bool.{and_parts}
 use Rattle.std.proofs.lemmas.Bool.Decides.{nat_tests}
-use Rattle.lucid_tree.specs.Tree.{Head, const, apply, choose, both, either, first, next, fby, whenever, asa, upon, attime, initial, succ, sby, atspace, PlainTree, form, name, call, block, PlainTrees, no_trees, tree, PlainDefs, no_defs, defines, defines_function, defines_current}
+use Rattle.lucid_tree.specs.Tree.{Head, apply, PlainTree, form, name, call, block, PlainTrees, no_trees, tree, PlainDefs, no_defs, defines, defines_function, defines_current}
 use Rattle.lucid_tree.specs.WellMade.{fits_arity, is_shaped, are_shaped, defs_are_shaped}
 use Rattle.lucid_plain.specs.Small.{FitsArity, Applies, AllApply, DefsApply}
 
 fits : (f : Head) (es : PlainTrees) → fits_arity f es ≡ true → FitsArity f es
 fits (apply op n) es h = grind (arith, nat_tests)
-fits (const v) es h = tt
-fits choose es h = tt
-fits both es h = tt
-fits either es h = tt
-fits first es h = tt
-fits next es h = tt
-fits fby es h = tt
-fits whenever es h = tt
-fits asa es h = tt
-fits upon es h = tt
-fits attime es h = tt
-fits initial es h = tt
-fits succ es h = tt
-fits sby es h = tt
-fits atspace es h = tt
+fits _ es h = tt
 
 mutual
   pub shaped_applies : (e : PlainTree) → is_shaped e ≡ true → Applies e

@@ -11,7 +11,7 @@ use Rattle.lucid_tree.specs.Meaning.{val}
 use Rattle.lucid_tree.specs.Output.{line}
 use Rattle.lucid_ports.specs.Writing.{with_front, with_all}
 use Rattle.lucid_ports.specs.declared.run.RunFault.{RunFault}
-use Rattle.lucid_ports.specs.declared.run.RunFault.TheVariants.{TooDeep, ReadFault, WriteFault, TooLarge, NoMemory}
+use Rattle.lucid_ports.specs.declared.run.RunFault.TheVariants.{WriteFault, NoMemory}
 use Rattle.lucid_ports.specs.declared.run.Summary.{Summary}
 use Rattle.lucid_ports.proofs.WritingLemmas.{with_nothing, all_all, front_all}
 use Rattle.lucid_ports.proofs.FaultLemmas.{rises_from}
@@ -74,9 +74,7 @@ stops_in_line b n p k c old mid new f g h bytes WriteFault before within i j has
     (front_of_next b n p k c old mid new has.v before within has.is has.goes_on (subst (λ piece. FrontOf piece mid new) has.shown stops.0), rises_from f g h i j stops.1)
 stops_in_line b n p k c old mid new f g h bytes NoMemory before within i j has stops =
     front_of_next b n p k c old mid new has.v before within has.is has.goes_on (subst (λ piece. FrontOf piece mid new) has.shown stops)
-stops_in_line b n p k c old mid new f g h bytes (TooDeep t lost cleared) before within i j has stops = absurd stops
-stops_in_line b n p k c old mid new f g h bytes ReadFault before within i j has stops = absurd stops
-stops_in_line b n p k c old mid new f g h bytes (TooLarge stream) before within i j has stops = absurd stops
+stops_in_line b n p k c old mid new f g h bytes _ before within i j has stops = absurd stops
 
 -- what stands at the time, where it is a line
 line_standing : (b : Elements) (n : ℕ) (p : PlainTree) (k t : ℕ) (l : Line) (bytes : Vec ℕ Global) → t ≡ k → IsLineAt b n p t l → l ≡ Bytes bytes
