@@ -33,6 +33,6 @@ pub use places::Places;
 pub use reading::read_at_most;
 pub use real_places::RealPlaces;
 pub use real_sink::RealSink;
-pub use run::{Options, RunFault, Summary};
+pub use run::{MAX_ASKED, Options, RunFault, Summary};
 pub use sink::Sink;
 pub use writing::write_whole;

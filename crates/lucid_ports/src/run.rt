@@ -1,18 +1,22 @@
 // The plain types of a run.
 ghost use Rattle.std.specs.Prelude.{◌≤◌};
+ghost use Rattle.lucid_ports.specs.Limits.{most_asked};
 
 use thiserror::Error;
 
+/// The most that an option of a run may ask for: lines, references that are open one inside another, turns, and values that are held.
+pub const MAX_ASKED: u32 = 1_000_000;
+
 /// How much a run may do: how many lines it writes at most, and how many references a value may be deep. Both are from
-/// 1 to 1,000,000.
+/// 1 to `MAX_ASKED`.
 #[derive(Clone, Copy, Debug, PartialEq, Eq)]
 pub struct Options {
     pub count: u32,
     pub depth: u32,
     pub ghost some_lines: { 1 ≤ count },
-    pub ghost count_within: { count ≤ 1000000 },
+    pub ghost count_within: { count ≤ most_asked },
     pub ghost some_depth: { 1 ≤ depth },
-    pub ghost depth_within: { depth ≤ 1000000 },
+    pub ghost depth_within: { depth ≤ most_asked },
 }
 
 /// What a run has done.

@@ -25,6 +25,7 @@ use Rattle.clap.proofs.CallerLemmas.{entry_by_id}
 use Rattle.clap.proofs.CallerReads.{signed_reads}
 use Rattle.clap.proofs.SimpleLemmas.{all_simple, is_false, is_nil, simple_groups}
 use Rattle.clap.proofs.WalkLemmas.{both, one_text-rows}
+use Rattle.lucid_ports.specs.Limits.{most_asked}
 use Rattle.lucid_words.specs.Command.{lucid_command}
 use Rattle.lucid_words.specs.Rows.{number_in, number_given}
 use Rattle.lucid_words.specs.Numbers.{HasNumbersInRange, IsFromTo, IsFromToIfGiven}
@@ -193,10 +194,10 @@ unsigned_option old m p same name least most rules own = rw (← one_text-rows (
 pub numbers_in_range : (old : Command) (m : ArgMatches) → app_of old ≡ lucid_command → IsParsedFrom old m → HasNumbersInRange (rows_of (found_of m))
 unfolding AllAre parsers_of
 numbers_in_range old m same p = record {
-  count = signed_option old m p same (codes "count") 1 1000000 (refl, tt) refl (omega arith);
-  depth = signed_option old m p same (codes "depth") 1 1000000 (refl, tt) refl (omega arith);
-  age = signed_option old m p same (codes "age") 1 1000000 (refl, tt) refl (omega arith);
-  room = signed_option old m p same (codes "room") 1 1000000 (refl, tt) refl (omega arith);
+  count = signed_option old m p same (codes "count") 1 most_asked (refl, tt) refl (omega arith);
+  depth = signed_option old m p same (codes "depth") 1 most_asked (refl, tt) refl (omega arith);
+  age = signed_option old m p same (codes "age") 1 most_asked (refl, tt) refl (omega arith);
+  room = signed_option old m p same (codes "room") 1 most_asked (refl, tt) refl (omega arith);
   make = signed_option old m p same (codes "make") 1 10000 (refl, tt) refl (omega arith);
   why = unsigned_option old m p same (codes "why") 0 (2 ^ 63 - 1) (refl, tt) refl;
 }

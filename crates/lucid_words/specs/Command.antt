@@ -2,6 +2,7 @@
 use Rattle.std.specs.Prelude.{ℕ, ◌-◌, ◌^◌, true, List, [], ◌∷◌, Some, codes, pos, fold}
 use Rattle.clap.specs.Words.{App, Rule, Text, new_app, new_rule, with_rule}
 use Rattle.clap.specs.Simple.{on_top}
+use Rattle.lucid_ports.specs.Limits.{most_asked}
 use Rattle.clap.specs.declared.builder.action.ArgAction.TheVariants.{Append, SetTrue}
 use Rattle.clap.specs.declared.builder.value_parser.ValueParser.{ValueParser}
 use Rattle.clap.specs.declared.builder.value_parser.ValueParser.TheVariants as vp
@@ -29,8 +30,8 @@ flag name = record (text_option name) { action = Some SetTrue }
 -- The options of a run: how many lines, how deep, which policy and its numbers, and what else is written.
 abbrev pub run_rules : List Rule
 run_rules =
-    number_option (codes "count") 1000000 ∷ number_option (codes "depth") 1000000 ∷ text_option (codes "policy")
-    ∷ number_option (codes "age") 1000000 ∷ number_option (codes "room") 1000000 ∷ flag (codes "stats") ∷ []
+    number_option (codes "count") most_asked ∷ number_option (codes "depth") most_asked ∷ text_option (codes "policy")
+    ∷ number_option (codes "age") most_asked ∷ number_option (codes "room") most_asked ∷ flag (codes "stats") ∷ []
 
 -- The options that ask for something else than a run of one stream, or for another source.
 abbrev pub mode_rules : List Rule

@@ -4,6 +4,7 @@ ghost use Rattle.clap.specs.Words.{app_of, rule_of};
 ghost use Rattle.lucid_words.specs.Command.{text_option, number_option, time_option, flag, with_rules, run_rules, mode_rules, positional_rules, bare_command, lucid_command};
 
 use clap::{Arg, ArgAction, Command, value_parser};
+use lucid_ports::MAX_ASKED;
 use std::alloc::{AllocError, Global};
 
 // An option with any text as its value. Its id is its name.
@@ -43,11 +44,11 @@ fn with_run_options<'a>(alloc: Global, command: Command<'a>) -> Result<Command<'
     ensures { IfOk result (λ c. app_of c ≡ with_rules (app_of command.entry) run_rules) }
 {
     command
-        .arg(number_option(alloc, "count", 1_000_000))?
-        .arg(number_option(alloc, "depth", 1_000_000))?
+        .arg(number_option(alloc, "count", MAX_ASKED))?
+        .arg(number_option(alloc, "depth", MAX_ASKED))?
         .arg(text_option(alloc, "policy"))?
-        .arg(number_option(alloc, "age", 1_000_000))?
-        .arg(number_option(alloc, "room", 1_000_000))?
+        .arg(number_option(alloc, "age", MAX_ASKED))?
+        .arg(number_option(alloc, "room", MAX_ASKED))?
         .arg(flag(alloc, "stats"))
 }
 

@@ -6,6 +6,7 @@ ghost use Rattle.std.specs.String.{string_bytes};
 ghost use Rattle.clap.specs.Words.{kind_of};
 ghost use Rattle.lucid_words.specs.Plain.{Answers};
 ghost use Rattle.lucid_words.specs.Asked.{plain_words, words_asked};
+ghost use Rattle.lucid_ports.specs.Limits.{most_asked};
 ghost use Rattle.lucid_words.specs.Numbers.{IsFromTo, IsFromToIfGiven, MadeIsFromTo};
 
 mod command;
@@ -133,10 +134,10 @@ fn refusal_of(error: &clap::Error) -> WordsRefusal
 /// Reads the words that follow the program's own name.
 pub fn read_words(alloc: Global, words: &[String]) -> Result<Words, WordsRefusal>
     ensures asked { Answers plain_words (words_asked (map string_bytes words.now)) result }
-    ensures count { IfOk result (λ words. IsFromTo 1 1000000 words.options.count) }
-    ensures depth { IfOk result (λ words. IsFromTo 1 1000000 words.options.depth) }
-    ensures age { IfOk result (λ words. IsFromTo 1 1000000 words.age) }
-    ensures room { IfOk result (λ words. IsFromTo 1 1000000 words.room) }
+    ensures count { IfOk result (λ words. IsFromTo 1 most_asked words.options.count) }
+    ensures depth { IfOk result (λ words. IsFromTo 1 most_asked words.options.depth) }
+    ensures age { IfOk result (λ words. IsFromTo 1 most_asked words.age) }
+    ensures room { IfOk result (λ words. IsFromTo 1 most_asked words.room) }
     ensures made { IfOk result (λ words. MadeIsFromTo 1 10000 words.source) }
     ensures time { IfOk result (λ words. IsFromToIfGiven 0 (2 ^ 63 - 1) words.why) }
 {

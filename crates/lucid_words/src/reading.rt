@@ -2,6 +2,7 @@
 ghost use Rattle.std.specs.Prelude.{◌≡◌, ◌-◌, ◌^◌, ℕ, IfOk, codes, count_by, is_some, map, unwrap_or};
 ghost use Rattle.clap.specs.Words.{first_of, found_of, rows_of};
 ghost use Rattle.std.specs.String.{string_bytes};
+ghost use Rattle.lucid_ports.specs.Limits.{most_asked};
 ghost use Rattle.lucid_words.specs.Plain.{Answers, plain_given, plain_source};
 ghost use Rattle.lucid_words.specs.Asked.{check_in, columns_in, given_in, plain_words, policy_in, source_in, words_in};
 ghost use Rattle.lucid_words.specs.Rows.{is_set, number_given, modes_given, has_conflict};
@@ -41,11 +42,11 @@ fn number_of(matches: &ArgMatches<'_>, name: &str) -> Option<u32>
     matches.get_one::<u32>(name)
 }
 
-// The number of an option, or its default. Both are from 1 to 1,000,000.
+// The number of an option, or its default. Both are from 1 to `MAX_ASKED`.
 fn number_or(matches: &ArgMatches<'_>, name: &str, default: u32) -> u32
-    requires given { IsFromToIfGiven 1 1000000 (number_given 32 name.now (rows_of (found_of matches.now))) }
-    requires default { IsFromTo 1 1000000 default }
-    ensures range { IsFromTo 1 1000000 result }
+    requires given { IsFromToIfGiven 1 most_asked (number_given 32 name.now (rows_of (found_of matches.now))) }
+    requires default { IsFromTo 1 most_asked default }
+    ensures range { IsFromTo 1 most_asked result }
     ensures value { result ≡ unwrap_or (number_given 32 name.now (rows_of (found_of matches.now))) default }
 {
     number_of(matches, name).unwrap_or(default)
@@ -135,8 +136,8 @@ fn check_in(alloc: Global, matches: &ArgMatches<'_>) -> Result<String, WordsRefu
 pub fn words_of(alloc: Global, matches: &ArgMatches<'_>) -> Result<Words, WordsRefusal>
     requires { HasNumbersInRange (rows_of (found_of matches.now)) }
     ensures asked { Answers plain_words (words_in (rows_of (found_of matches.now))) result }
-    ensures age { IfOk result (λ words. IsFromTo 1 1000000 words.age) }
-    ensures room { IfOk result (λ words. IsFromTo 1 1000000 words.room) }
+    ensures age { IfOk result (λ words. IsFromTo 1 most_asked words.age) }
+    ensures room { IfOk result (λ words. IsFromTo 1 most_asked words.room) }
     ensures made { IfOk result (λ words. MadeIsFromTo 1 10000 words.source) }
     ensures time { IfOk result (λ words. IsFromToIfGiven 0 (2 ^ 63 - 1) words.why) }
 {
