@@ -23,5 +23,6 @@ pub mod SearchEquations
 pub mod References
 pub mod Counts
 pub mod Falls
-mod Copies
+mod Rebuilt
 pub mod Depths
+pub mod Lookups

@@ -1,8 +1,8 @@
 -- The plans of a greater approximation go on where those of a less one end, and give the same values.
 use Rattle.std.proofs.Common.{◌≡◌, ℕ, zero, suc, Bool, true, false, List, [], ◌∷◌, Option, Some, None, refl, nat_le, if◌then◌else◌, arith}
 use Rattle.std.proofs.lemmas.Bool.Decides.{nat_tests}
-use Rattle.lucid_value.specs.Plain.{PlainValue, int, truth, word, text, list, eod, fault}
-use Rattle.lucid_tree.specs.Tree.{Head, const, apply, choose, both, either, first, next, fby, whenever, asa, upon, attime, initial, succ, sby, atspace}
+use Rattle.lucid_value.specs.Plain.{PlainValue, truth}
+use Rattle.lucid_tree.specs.Tree.{Head, const, first, whenever, asa, upon}
 use Rattle.lucid_tree.specs.Rows.{Look, Plan, gives, nothing, looks, single, gives_part, by_test, at_zero, find_true, count_true, plan, Reader, all_values, add_value, with_values, run}
 
 -- the second plan is the first, or goes on where the first has nothing
@@ -43,12 +43,7 @@ run-keeps (same_looks {ls = ls} {k = k} {k' = k'} w) r r' h x e =
 pub by_test-within : (v : PlainValue) {p p' q q' : Plan} → Within p p' → Within q q' → Within (by_test v p q) (by_test v p' q')
 by_test-within (truth true) a b = a
 by_test-within (truth false) a b = b
-by_test-within eod a b = same_value
-by_test-within (int n) a b = same_value
-by_test-within (word w) a b = same_value
-by_test-within (text w) a b = same_value
-by_test-within (list w) a b = same_value
-by_test-within fault a b = same_value
+by_test-within _ a b = same_value
 
 pub at_zero-within : (n : ℕ) (p : Plan) (f f' : ℕ → Plan) → ((k : ℕ) → Within (f k) (f' k)) → Within (at_zero n p f) (at_zero n p f')
 at_zero-within zero p f f' h = within_itself p
@@ -77,15 +72,4 @@ plan-grows m whenever t s = find-grows m 0 t s
 plan-grows m asa t s = find-grows m 0 0 s
 plan-grows m upon t s = if-within (nat_le t m) (nat_le t (suc m)) (count_true t 0 0 s t) (nat_le-suc t m)
 plan-grows m (const v) t s = same_value
-plan-grows m (apply op n) t s = within_itself _
-plan-grows m choose t s = within_itself _
-plan-grows m both t s = within_itself _
-plan-grows m either t s = within_itself _
-plan-grows m first t s = within_itself _
-plan-grows m next t s = within_itself _
-plan-grows m fby t s = within_itself _
-plan-grows m attime t s = within_itself _
-plan-grows m initial t s = within_itself _
-plan-grows m succ t s = within_itself _
-plan-grows m sby t s = within_itself _
-plan-grows m atspace t s = within_itself _
+plan-grows m _ t s = within_itself _

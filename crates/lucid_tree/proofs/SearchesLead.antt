@@ -2,8 +2,8 @@
 use Rattle.std.proofs.Common.{◌≡◌, ℕ, zero, suc, ◌-◌, ◌<◌, ◌≤◌, ◌⊎◌, inl, inr, [], ◌∷◌, Option, Some, None, refl, sym, ap, ◌∙◌, subst, nat_le, if◌then◌else◌, arith}
 use Rattle.std.specs.Prelude.{Bool, true, false}
 use Rattle.std.proofs.lemmas.Bool.{cases_lt}
-use Rattle.lucid_value.specs.Plain.{PlainValue, truth, int, word, text, list, eod, fault}
-use Rattle.lucid_tree.specs.Tree.{Head, const, apply, choose, both, either, first, next, fby, whenever, asa, upon, attime, initial, succ, sby, atspace}
+use Rattle.lucid_value.specs.Plain.{PlainValue, truth}
+use Rattle.lucid_tree.specs.Tree.{Head, whenever, asa, upon}
 use Rattle.lucid_tree.specs.Rows.{Look, Plan, nothing, plan, find_true, count_true}
 use Rattle.lucid_tree.specs.Rests.{LeadsTo, at_start, and_then, count_on, count_below, rest_at, CanStandAt}
 use Rattle.lucid_tree.proofs.Plans.{Keeps}
@@ -18,15 +18,9 @@ pub record CountedOn (o : Option ℕ) (v : Option PlainValue) (n : ℕ) : Type 0
 
 pub counted_on : (o : Option ℕ) (v : Option PlainValue) (n : ℕ) → count_on o v ≡ Some n → CountedOn o v n
 counted_on None v n e = absurd (cc)
-counted_on (Some k) None n e = absurd (cc)
 counted_on (Some k) (Some (truth true)) n e = record { before = k; truth_is = true; had = refl; value = refl; now = inl (refl, let x : suc k ≡ n = cc in sym x) }
 counted_on (Some k) (Some (truth false)) n e = record { before = k; truth_is = false; had = refl; value = refl; now = inr (refl, let x : k ≡ n = cc in sym x) }
-counted_on (Some k) (Some eod) n e = absurd (cc)
-counted_on (Some k) (Some (int i)) n e = absurd (cc)
-counted_on (Some k) (Some (word w)) n e = absurd (cc)
-counted_on (Some k) (Some (text w)) n e = absurd (cc)
-counted_on (Some k) (Some (list vs)) n e = absurd (cc)
-counted_on (Some k) (Some fault) n e = absurd (cc)
+counted_on (Some k) _ n e = absurd (cc)
 
 -- a count stays where the stream has more values
 pub count-keeps : (f g : ℕ → Option PlainValue) → ((u : ℕ) → Keeps (f u) (g u)) → (j : ℕ) → Keeps (count_below f j) (count_below g j)
@@ -139,19 +133,7 @@ pub search_leads : (M : Look → PlainValue → Type 0) (stream : ℕ → Option
 search_leads M stream whenever m j n t s h c e = finding_leads M stream m t s j n h e c
 search_leads M stream asa m j n t s h c e = finding_leads M stream m 0 s j n h e (omega (arith, c))
 search_leads M stream upon m j n t s h c e = either_way M (nat_le t m) (count_true t 0 0 s t) (count_true (t - j) j n s t) (counting_leads M stream t s t j n h e c)
-search_leads M stream (const v) m j n t s h c e = at_start
-search_leads M stream (apply op k) m j n t s h c e = at_start
-search_leads M stream choose m j n t s h c e = at_start
-search_leads M stream both m j n t s h c e = at_start
-search_leads M stream either m j n t s h c e = at_start
-search_leads M stream first m j n t s h c e = at_start
-search_leads M stream next m j n t s h c e = at_start
-search_leads M stream fby m j n t s h c e = at_start
-search_leads M stream attime m j n t s h c e = at_start
-search_leads M stream initial m j n t s h c e = at_start
-search_leads M stream succ m j n t s h c e = at_start
-search_leads M stream sby m j n t s h c e = at_start
-search_leads M stream atspace m j n t s h c e = at_start
+search_leads M stream _ m j n t s h c e = at_start
 
 less_none : (n : ℕ) → n - 0 ≡ n
 less_none n = omega arith
@@ -161,16 +143,4 @@ pub rest_at_start : (f : Head) (m t s : ℕ) → rest_at f m 0 0 t s ≡ plan m 
 rest_at_start whenever m t s = ap (λ a. find_true a 0 (t - 0) s) (less_none m) ∙ ap (λ n. find_true m 0 n s) (less_none t)
 rest_at_start asa m t s = ap (λ a. find_true a 0 (0 - 0) s) (less_none m) ∙ ap (λ n. find_true m 0 n s) (less_none 0)
 rest_at_start upon m t s = ap (λ a. if nat_le t m then count_true a 0 0 s t else nothing) (less_none t)
-rest_at_start (const v) m t s = refl
-rest_at_start (apply op n) m t s = refl
-rest_at_start choose m t s = refl
-rest_at_start both m t s = refl
-rest_at_start either m t s = refl
-rest_at_start first m t s = refl
-rest_at_start next m t s = refl
-rest_at_start fby m t s = refl
-rest_at_start attime m t s = refl
-rest_at_start initial m t s = refl
-rest_at_start succ m t s = refl
-rest_at_start sby m t s = refl
-rest_at_start atspace m t s = refl
+rest_at_start _ m t s = refl

@@ -1,10 +1,10 @@
 -- What a plan with a value sees is what each plan that goes on further sees.
 use Rattle.std.proofs.Common.{◌≡◌, ℕ, zero, suc, ◌+◌, ◌≤◌, Bool, true, false, List, [], ◌∷◌, Option, Some, None, refl, nat_le, nat_lt, if◌then◌else◌, arith}
-use Rattle.std.specs.Prelude.{pos, negsuc}
+use Rattle.std.specs.Prelude.{pos}
 use Rattle.std.proofs.lemmas.Bool.Decides.{nat_tests}
 use Rattle.lucid_lemmas.proofs.Numbers.{zero_le}
-use Rattle.lucid_value.specs.Plain.{PlainValue, int, truth, word, text, list, eod, fault}
-use Rattle.lucid_tree.specs.Tree.{Head, const, apply, choose, both, either, first, next, fby, whenever, asa, upon, attime, initial, succ, sby, atspace}
+use Rattle.lucid_value.specs.Plain.{PlainValue, int, truth, list, fault}
+use Rattle.lucid_tree.specs.Tree.{Head, const, apply, choose, both, either, first, next, fby, whenever, asa, upon, initial, succ, sby}
 use Rattle.lucid_tree.specs.Rows.{Look, Plan, gives, nothing, looks, look, single, gives_part, by_test, by_place, at_zero, arguments, find_true, count_true, last, plan, Reader, add_value, all_values, with_values, run, gather, trace}
 use Rattle.lucid_tree.proofs.Plans.{Within, from_nothing, same_value, same_looks, Keeps, all_values-keeps}
 use Rattle.lucid_tree.proofs.Traces.{TakesMore}
@@ -33,12 +33,7 @@ takes_part m i t s = takes_look m i t s 0 gives (zero_le m) (λ v. takes_value)
 takes_test : (m : ℕ) (v : PlainValue) (p q : Plan) → Takes m p → Takes m q → Takes m (by_test v p q)
 takes_test m (truth true) p q a b = a
 takes_test m (truth false) p q a b = b
-takes_test m eod p q a b = takes_value
-takes_test m (int n) p q a b = takes_value
-takes_test m (word n) p q a b = takes_value
-takes_test m (text n) p q a b = takes_value
-takes_test m (list n) p q a b = takes_value
-takes_test m fault p q a b = takes_value
+takes_test m _ p q a b = takes_value
 
 takes_if : (m : ℕ) (b : Bool) (p q : Plan) → (b ≡ true → Takes m p) → Takes m q → Takes m (if b then p else q)
 takes_if m true p q h k = h refl
@@ -46,13 +41,7 @@ takes_if m false p q h k = k
 
 takes_place : (m : ℕ) (v : PlainValue) (k : ℕ → Plan) → ((n : ℕ) → Takes m (k n)) → Takes m (by_place v k)
 takes_place m (int (pos n)) k h = takes_if m (nat_le n last) (k n) (gives fault) (λ e. h n) takes_value
-takes_place m (int (negsuc n)) k h = takes_value
-takes_place m eod k h = takes_value
-takes_place m (truth b) k h = takes_value
-takes_place m (word n) k h = takes_value
-takes_place m (text n) k h = takes_value
-takes_place m (list n) k h = takes_value
-takes_place m fault k h = takes_value
+takes_place m _ k h = takes_value
 
 takes_zero : (m n : ℕ) (p : Plan) (f : ℕ → Plan) → Takes m p → ((k : ℕ) → Takes m (f k)) → Takes m (at_zero n p f)
 takes_zero m zero p f h k = h
@@ -85,11 +74,11 @@ takes_plan m fby t s = takes_zero m t (gives_part 0 0 s) (λ u. gives_part 1 u s
 takes_plan m whenever t s = takes_find m m 0 t s (omega arith)
 takes_plan m asa t s = takes_find m m 0 0 s (omega arith)
 takes_plan m upon t s = takes_if m (nat_le t m) (count_true t 0 0 s t) nothing (λ e. takes_count m t 0 0 s t e) takes_nothing
-takes_plan m attime t s = takes_look m 1 t s 0 _ (zero_le m) (λ y. takes_place m y _ (λ u. takes_part m 0 u s))
 takes_plan m initial t s = takes_part m 0 t 0
 takes_plan m succ t s = takes_if m (nat_lt s last) (gives_part 0 t (suc s)) (gives fault) (λ e. takes_part m 0 t (suc s)) takes_value
 takes_plan m sby t s = takes_zero m s (gives_part 0 t 0) (λ r. gives_part 1 t r) (takes_part m 0 t 0) (λ r. takes_part m 1 t r)
-takes_plan m atspace t s = takes_look m 1 t s 0 _ (zero_le m) (λ y. takes_place m y _ (λ r. takes_part m 0 t r))
+-- at a time or a space that a part gives
+takes_plan m _ t s = takes_look m 1 t s 0 _ (zero_le m) (λ y. takes_place m y _ (λ n. takes_part m 0 _ _))
 
 -- both are there where the list is
 pub added : (o : Option PlainValue) (r : Option (List PlainValue)) (vs : List PlainValue) → add_value o r ≡ Some vs → (v : PlainValue) × (ws : List PlainValue) × (o ≡ Some v) × (r ≡ Some ws)

@@ -1,6 +1,6 @@
 -- A search over `next X` and `next P` is the search over X and P one time later.
 use Rattle.std.proofs.Common.{◌≡◌, ℕ, zero, suc, ◌+◌, ◌≤◌, ◌<◌, [], Option, Some, None, true, false, refl, sym, subst, ◌∙◌, arith}
-use Rattle.lucid_value.specs.Plain.{PlainValue, int, truth, word, text, list, eod, fault}
+use Rattle.lucid_value.specs.Plain.{PlainValue, truth}
 use Rattle.lucid_tree.specs.Rows.{Plan, gives_part, single, by_test, at_zero, find_true, count_true, last, Reader, add_value, with_values, run}
 use Rattle.lucid_tree.proofs.Plans.{Keeps}
 use Rattle.lucid_tree.proofs.Undone.{alone}
@@ -11,26 +11,15 @@ tested o a b r = with_values (add_value o (Some [])) None (λ vs. run (single (�
 
 -- the same test, with ways on that give the same
 pub tested-same : (o : Option PlainValue) (a b a' b' : Plan) (r r' : Reader (Option PlainValue)) → run a r ≡ run a' r' → run b r ≡ run b' r' → tested o a b r ≡ tested o a' b' r'
-tested-same None a b a' b' r r' h k = refl
 tested-same (Some (truth true)) a b a' b' r r' h k = h
 tested-same (Some (truth false)) a b a' b' r r' h k = k
-tested-same (Some eod) a b a' b' r r' h k = refl
-tested-same (Some (int n)) a b a' b' r r' h k = refl
-tested-same (Some (word n)) a b a' b' r r' h k = refl
-tested-same (Some (text n)) a b a' b' r r' h k = refl
-tested-same (Some (list n)) a b a' b' r r' h k = refl
-tested-same (Some fault) a b a' b' r r' h k = refl
+tested-same _ a b a' b' r r' h k = refl
 
 -- a test that keeps its value, with ways on that keep theirs
 test-keeps : (v : PlainValue) (a b a' b' : Plan) (r r' : Reader (Option PlainValue)) → Keeps (run a r) (run a' r') → Keeps (run b r) (run b' r') → Keeps (run (by_test v a b) r) (run (by_test v a' b') r')
 test-keeps (truth true) a b a' b' r r' h k x e = h x e
 test-keeps (truth false) a b a' b' r r' h k x e = k x e
-test-keeps eod a b a' b' r r' h k x e = e
-test-keeps (int n) a b a' b' r r' h k x e = e
-test-keeps (word n) a b a' b' r r' h k x e = e
-test-keeps (text n) a b a' b' r r' h k x e = e
-test-keeps (list n) a b a' b' r r' h k x e = e
-test-keeps fault a b a' b' r r' h k x e = e
+test-keeps _ a b a' b' r r' h k x e = e
 
 pub tested-keeps : (o o' : Option PlainValue) (a b a' b' : Plan) (r r' : Reader (Option PlainValue)) → Keeps o o' → Keeps (run a r) (run a' r') → Keeps (run b r) (run b' r') → Keeps (tested o a b r) (tested o' a' b' r')
 tested-keeps None o' a b a' b' r r' g h k x e = absurd (grind arith)

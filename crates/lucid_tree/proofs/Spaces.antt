@@ -1,8 +1,8 @@
 -- An expression without forms over space has the same value at any two spaces.
 use Rattle.std.proofs.Common.{◌≡◌, ℕ, zero, suc, Bool, true, false, List, [], ◌∷◌, Option, Some, None, refl, if◌then◌else◌, nat_lt, nat_le, arith}
-use Rattle.std.specs.Prelude.{pos, negsuc}
-use Rattle.lucid_value.specs.Plain.{PlainValue, int, truth, word, text, list, eod, fault}
-use Rattle.lucid_tree.specs.Tree.{Head, const, apply, choose, both, either, first, next, fby, whenever, asa, upon, attime, initial, succ, sby, atspace, PlainTree, form, name, call, block, PlainTrees, no_trees, tree, PlainDefs, no_defs, defines, defines_function, defines_current}
+use Rattle.std.specs.Prelude.{pos}
+use Rattle.lucid_value.specs.Plain.{PlainValue, int, truth, fault}
+use Rattle.lucid_tree.specs.Tree.{Head, const, apply, choose, both, either, first, next, fby, whenever, asa, upon, attime, PlainTree, form, name, call, block, PlainTrees, no_trees, tree, PlainDefs, no_defs, defines, defines_function, defines_current}
 use Rattle.lucid_tree.specs.Rows.{Look, Plan, gives, nothing, looks, look, single, gives_part, by_test, by_place, at_zero, arguments, find_true, count_true, last, plan, Reader, add_value, all_values, with_values, run}
 use Rattle.lucid_tree.specs.Levels.{Elements, nothing_held, element_of, goes_to, nowhere, Below, below}
 use Rattle.lucid_tree.specs.Env.{Env, empty, scope, args, Found, absent, plain_def, function_def, current_def, same_name, definition, frozen_at, Referent, Position, Aim, in_scope, frozen_target, param, tree_at, to_actual, in_args, name_target, called, unless_param, call_target}
@@ -35,12 +35,7 @@ module _ (s s' : ℕ) where
   test-moved : (v : PlainValue) (p p' q q' : Plan) → Moved p p' → Moved q q' → Moved (by_test v p q) (by_test v p' q')
   test-moved (truth true) p p' q q' a b = a
   test-moved (truth false) p p' q q' a b = b
-  test-moved eod p p' q q' a b = both_give
-  test-moved (int n) p p' q q' a b = both_give
-  test-moved (word n) p p' q q' a b = both_give
-  test-moved (text n) p p' q q' a b = both_give
-  test-moved (list n) p p' q q' a b = both_give
-  test-moved fault p p' q q' a b = both_give
+  test-moved _ p p' q q' a b = both_give
 
   if-moved : (b : Bool) (p p' q q' : Plan) → Moved p p' → Moved q q' → Moved (if b then p else q) (if b then p' else q')
   if-moved true p p' q q' a b = a
@@ -48,13 +43,7 @@ module _ (s s' : ℕ) where
 
   place-moved : (v : PlainValue) (k k' : ℕ → Plan) → ((n : ℕ) → Moved (k n) (k' n)) → Moved (by_place v k) (by_place v k')
   place-moved (int (pos n)) k k' h = if-moved (nat_le n last) (k n) (k' n) (gives fault) (gives fault) (h n) both_give
-  place-moved (int (negsuc n)) k k' h = both_give
-  place-moved eod k k' h = both_give
-  place-moved (truth b) k k' h = both_give
-  place-moved (word n) k k' h = both_give
-  place-moved (text n) k k' h = both_give
-  place-moved (list n) k k' h = both_give
-  place-moved fault k k' h = both_give
+  place-moved _ k k' h = both_give
 
   zero-moved : (n : ℕ) (p p' : Plan) (k k' : ℕ → Plan) → Moved p p' → ((j : ℕ) → Moved (k j) (k' j)) → Moved (at_zero n p k) (at_zero n p' k')
   zero-moved zero p p' k k' h g = h
@@ -88,10 +77,7 @@ module _ (s s' : ℕ) where
   plan-moved m asa t h = find-moved m 0 0
   plan-moved m upon t h = if-moved (nat_le t m) _ _ _ _ (count-moved t 0 0 t) both_nothing
   plan-moved m attime t h = look-moved 1 t 0 _ _ (λ y. place-moved y _ _ (λ u. part-moved 0 u))
-  plan-moved m initial t h = absurd (grind arith)
-  plan-moved m succ t h = absurd (grind arith)
-  plan-moved m sby t h = absurd (grind arith)
-  plan-moved m atspace t h = absurd (grind arith)
+  plan-moved m _ t h = absurd (grind arith)
 
   all_values-moved : (r r' : Reader (Option PlainValue)) → ((i t : ℕ) → r i t s ≡ r' i t s') → {ls ls' : List Look} → LooksMoved ls ls' → all_values r ls ≡ all_values r' ls'
   all_values-moved r r' h no_look = refl

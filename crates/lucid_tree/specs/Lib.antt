@@ -8,6 +8,7 @@ pub mod DefsFall
 pub mod View
 pub mod Left
 pub mod Rights
+pub mod Parts
 pub mod Shape
 pub mod Rows
 pub mod Rests

@@ -1,165 +1,89 @@
-//! Copies of trees.
-ghost use Rattle.std.specs.Prelude.{◌≡◌, ℕ, IfOk, map};
-ghost use Rattle.lucid_tree.specs.View.{tree_of};
-ghost use Rattle.lucid_tree.specs.DefsView.{one_def};
+//! Copies of trees. The copies of parts wait in one list, so that a level of the recursion holds none of them.
+ghost use Rattle.std.specs.Prelude.{◌≡◌, ◌≤◌, IfOk, OnOk, [], ◌∷◌, ◌++◌, take, drop, length};
+ghost use Rattle.lucid_tree.specs.Lists.{listed};
+ghost use Rattle.lucid_tree.specs.Rights.{rights};
+ghost use Rattle.lucid_tree.specs.Parts.{parts_of};
 
-use crate::lists::{Names, Places32};
-use crate::tree::{Block, Def, DefKind, Defs, Kind, Tree, Trees};
+use crate::definitions::Definitions;
+use crate::parts::Parts;
+use crate::rebuild::copy_node;
+use crate::shape::Shape;
+use crate::tree::Tree;
 use std::alloc::{AllocError, Global};
 
 impl Tree {
     /// An equal tree, with the same places. It fails for want of memory alone.
-    #[cycle(copy)]
     pub fn copy(&self, alloc: Global) -> Result<Tree, AllocError>
         ensures { IfOk result (λ tree. tree ≡ self.now) }
     {
-        let kind = copy_kind(alloc, &self.kind)?;
-        Ok(Tree { at: self.at, kind })
+        let mut copies = Vec::new(alloc);
+        copy_onto(alloc, &mut copies, self)?;
+        let Some(copy) = copies.pop() else {
+            unreachable!()
+        };
+        Ok(copy)
     }
 }
 
+// The copy of a tree, behind others: its parts' copies stand there first, and the node takes their place.
 #[cycle(copy)]
-fn copy_boxed(alloc: Global, tree: &Tree) -> Result<Box<Tree>, AllocError>
-    ensures { IfOk result (λ copy. copy.value ≡ tree.now) }
+fn copy_onto(alloc: Global, copies: &mut Vec<Tree>, tree: &Tree) -> Result<(), AllocError>
+    ensures { OnOk result (copies.new.items ≡ copies.old.items ++ tree.now ∷ []) }
 {
-    let copied = tree.copy(alloc)?;
-    Ok(Box::new(alloc, copied)?)
+    let before = copies.len();
+    copy_parts(alloc, copies, tree)?;
+    join(alloc, copies, before, tree)
 }
 
+// The copies of the parts of a node, behind others.
 #[cycle(copy)]
-fn copy_kind(alloc: Global, kind: &Kind) -> Result<Kind, AllocError>
-    ensures { IfOk result (λ copy. (at : ℕ) → tree_of at copy ≡ tree_of at kind.now) }
+fn copy_parts(alloc: Global, copies: &mut Vec<Tree>, tree: &Tree) -> Result<(), AllocError>
+    ensures { OnOk result (copies.new.items ≡ copies.old.items ++ parts_of tree.now) }
 {
-    match kind {
-        Kind::Const(value) => Ok(Kind::Const(value.copy(alloc)?)),
-        Kind::Name(name) => Ok(Kind::Name(name.copy()?)),
-        Kind::Call { name, args } => {
-            let name = name.copy()?;
-            Ok(Kind::Call {
-                name,
-                args: copy_trees(alloc, args)?,
-            })
-        }
-        Kind::Apply { op, args } => Ok(Kind::Apply {
-            op: *op,
-            args: copy_trees(alloc, args)?,
-        }),
-        Kind::If { test, yes, no } => {
-            let test = copy_boxed(alloc, test)?;
-            let yes = copy_boxed(alloc, yes)?;
-            Ok(Kind::If {
-                test,
-                yes,
-                no: copy_boxed(alloc, no)?,
-            })
-        }
-        Kind::And(a, b) => Ok(Kind::And(copy_boxed(alloc, a)?, copy_boxed(alloc, b)?)),
-        Kind::Or(a, b) => Ok(Kind::Or(copy_boxed(alloc, a)?, copy_boxed(alloc, b)?)),
-        Kind::First(a) => Ok(Kind::First(copy_boxed(alloc, a)?)),
-        Kind::Next(a) => Ok(Kind::Next(copy_boxed(alloc, a)?)),
-        Kind::Fby(a, b) => Ok(Kind::Fby(copy_boxed(alloc, a)?, copy_boxed(alloc, b)?)),
-        Kind::Whenever(a, b) => Ok(Kind::Whenever(copy_boxed(alloc, a)?, copy_boxed(alloc, b)?)),
-        Kind::Asa(a, b) => Ok(Kind::Asa(copy_boxed(alloc, a)?, copy_boxed(alloc, b)?)),
-        Kind::Upon(a, b) => Ok(Kind::Upon(copy_boxed(alloc, a)?, copy_boxed(alloc, b)?)),
-        Kind::Attime(a, b) => Ok(Kind::Attime(copy_boxed(alloc, a)?, copy_boxed(alloc, b)?)),
-        Kind::Initial(a) => Ok(Kind::Initial(copy_boxed(alloc, a)?)),
-        Kind::Succ(a) => Ok(Kind::Succ(copy_boxed(alloc, a)?)),
-        Kind::Sby(a, b) => Ok(Kind::Sby(copy_boxed(alloc, a)?, copy_boxed(alloc, b)?)),
-        Kind::Atspace(a, b) => Ok(Kind::Atspace(copy_boxed(alloc, a)?, copy_boxed(alloc, b)?)),
-        Kind::Scope(block) => Ok(Kind::Scope(copy_block(alloc, block)?)),
-    }
-}
-
-#[cycle(copy)]
-fn copy_trees(alloc: Global, trees: &Trees) -> Result<Trees, AllocError>
-    ensures { IfOk result (λ copy. copy ≡ trees.now) }
-{
-    let items = trees.items();
-    let mut copies = Vec::with_capacity(alloc, items.len())?;
-    for tree in items {
-        copies.push(tree.copy(alloc)?)?;
-    }
-    Ok(Trees::from_vec(copies))
-}
-
-#[cycle(copy)]
-fn copy_block(alloc: Global, block: &Block) -> Result<Box<Block>, AllocError>
-    ensures subject { IfOk result (λ copy. copy.value.subject ≡ block.now.subject) }
-    ensures defs { IfOk result (λ copy. copy.value.defs ≡ block.now.defs) }
-{
-    let subject = block.subject.copy(alloc)?;
-    let defs = copy_defs(alloc, &block.defs)?;
-    Ok(Box::new(alloc, Block { subject, defs })?)
-}
-
-#[cycle(copy)]
-fn copy_defs(alloc: Global, defs: &Defs) -> Result<Defs, AllocError>
-    ensures { IfOk result (λ copy. copy ≡ defs.now) }
-{
-    let items = defs.items();
-    let mut copies = Vec::with_capacity(alloc, items.len())?;
-    for def in items {
-        copies.push(copy_def(alloc, def)?)?;
-    }
-    Ok(Defs::from_vec(copies))
-}
-
-#[cycle(copy)]
-fn copy_def(alloc: Global, def: &Def) -> Result<Def, AllocError>
-    ensures { IfOk result (λ copy. one_def copy ≡ one_def def.now) }
-{
-    let name = def.name.copy()?;
-    match &def.kind {
-        DefKind::Plain { right } => {
-            let right = right.copy(alloc)?;
-            Ok(Def {
-                at: def.at,
-                name,
-                kind: DefKind::Plain { right },
-            })
-        }
-        DefKind::Function {
-            parameters,
-            places,
-            right,
-        } => {
-            let parameters = copy_names(alloc, parameters)?;
-            let places = copy_places(alloc, places)?;
-            let right = right.copy(alloc)?;
-            Ok(Def {
-                at: def.at,
-                name,
-                kind: DefKind::Function {
-                    parameters,
-                    places,
-                    right,
-                },
-            })
-        }
-        DefKind::Current { right } => {
-            let right = right.copy(alloc)?;
-            Ok(Def {
-                at: def.at,
-                name,
-                kind: DefKind::Current { right },
-            })
+    match tree.shape() {
+        Shape::Name { .. } => Ok(()),
+        Shape::Form { parts, .. } => copy_each(alloc, copies, parts),
+        Shape::Call { args, .. } => copy_each(alloc, copies, args.parts()),
+        Shape::Scope { subject, defs, .. } => {
+            copy_onto(alloc, copies, subject)?;
+            copy_rights(alloc, copies, defs.definitions())
         }
     }
 }
 
-fn copy_names(alloc: Global, names: &Names) -> Result<Names, AllocError>
-    ensures { IfOk result (λ copy. copy ≡ names.now) }
+#[cycle(copy)]
+fn copy_each(alloc: Global, copies: &mut Vec<Tree>, parts: Parts<'_>) -> Result<(), AllocError>
+    ensures { OnOk result (copies.new.items ≡ copies.old.items ++ listed parts.entry) }
 {
-    let items = names.items();
-    let mut copies = Vec::with_capacity(alloc, items.len())?;
-    for name in items {
-        copies.push(name.copy()?)?;
+    for part in parts {
+        copy_onto(alloc, copies, part)?;
     }
-    Ok(Names::from_vec(copies))
+    Ok(())
 }
 
-fn copy_places(alloc: Global, places: &Places32) -> Result<Places32, AllocError>
-    ensures { IfOk result (λ copy. copy ≡ places.now) }
+#[cycle(copy)]
+fn copy_rights(
+    alloc: Global,
+    copies: &mut Vec<Tree>,
+    defs: Definitions<'_>,
+) -> Result<(), AllocError>
+    ensures { OnOk result (copies.new.items ≡ copies.old.items ++ rights defs.entry) }
 {
-    Ok(Places32::from_vec(Vec::from_slice(alloc, places.items())?))
+    for def in defs {
+        copy_onto(alloc, copies, def.right())?;
+    }
+    Ok(())
+}
+
+// The copy of a node in place of its parts' copies, which are those from a place on. It is called once its parts are copied, so what it
+// takes of the machine's stack isn't taken at each level.
+#[inline(never)]
+fn join(alloc: Global, copies: &mut Vec<Tree>, from: usize, tree: &Tree) -> Result<(), AllocError>
+    requires within { from ≤ length copies.old.items }
+    requires parts { drop from copies.old.items ≡ parts_of tree.now }
+    ensures { OnOk result (copies.new.items ≡ take from copies.old.items ++ tree.now ∷ []) }
+{
+    let parts = copies.split_off(from)?;
+    copies.push(copy_node(alloc, tree, parts)?)?;
+    Ok(())
 }

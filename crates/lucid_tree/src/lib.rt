@@ -14,6 +14,7 @@ mod depth;
 pub mod laws;
 mod lists;
 mod parts;
+mod rebuild;
 pub mod samples;
 mod shape;
 mod tree;
