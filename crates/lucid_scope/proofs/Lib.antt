@@ -2,8 +2,9 @@ pub mod Names
 mod Tables
 mod Hiding
 mod Noting
+mod Stepping
 mod Marked
-mod Weights
+pub mod Weights
 mod Fitting
 mod Environments
 mod Resolved

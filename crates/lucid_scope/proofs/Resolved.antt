@@ -13,10 +13,10 @@ use Rattle.lucid_tree.specs.Env.{same_name}
 use Rattle.lucid_tree.specs.WellMade.{places, IsWellMade, In, AllDiffer}
 use Rattle.lucid_tree.proofs.Times.{counts_one as counts}
 use Rattle.lucid_scope.specs.Scope.{outermost}
-use Rattle.lucid_scope.specs.Sites.{Site, named, called, again, site_at, sites}
+use Rattle.lucid_scope.specs.Sites.{Site, named, called, again, site_at}
 use Rattle.lucid_scope.specs.Bindings.{binding_for, fault_of, all_sites, HasNoFault, IsLeastFault, IsResolved}
 use Rattle.lucid_scope.specs.Owners.{look}
-use Rattle.lucid_scope.specs.Walks.{mark, Noted}
+use Rattle.lucid_scope.specs.Walks.{mark, marks}
 use Rattle.lucid_scope.specs.declared.walk.Walk.{Walk}
 use Rattle.lucid_scope.specs.Settled.{Fits, mark_fault, mark_binding, with_owner_input, with_what, with_mark, IsFirstFault, ArePlacesDifferent}
 use Rattle.lucid_scope.specs.declared.scoped.Binding.{Binding}
@@ -28,6 +28,7 @@ use Rattle.lucid_scope.specs.declared.marks.What.TheVariants.{Named, Called, Aga
 use Rattle.lucid_scope.proofs.Marked.{mark-fault, mark-binding, marks-inputs, Ordered, ordered}
 use Rattle.lucid_scope.proofs.Weights.{sites-weight}
 use Rattle.lucid_scope.proofs.Fitting.{sites-fit, each-all}
+use Rattle.lucid_scope.proofs.Noting.{marks-sites}
 
 pub mark-at : (s : Site) → (mark s).at ≡ site_at s
 mark-at (named at x k) = refl
@@ -188,8 +189,9 @@ resolved e ms inputs bindings o rises none names bound others = record {
 }
 
 -- the marks of a descent from the root are those of all sites
-pub all_marked : (start end : Walk) (e : PlainTree) → ((n : List ℕ) → look start.table n ≡ None) → start.marks.items ≡ [] → Noted start end (λ k. sites k e) → end.marks.items ≡ map mark (all_sites e)
-all_marked start end e empty none d = d.marks outermost empty ∙ ap (λ l. l ++ map mark (all_sites e)) none
+pub all_marked : (start end : Walk) (e : PlainTree) → ((n : List ℕ) → look start.table n ≡ None) → start.marks.items ≡ [] → end.marks.items ≡ start.marks.items ++ marks (look start.table) e
+    → end.marks.items ≡ map mark (all_sites e)
+all_marked start end e empty none d = d ∙ ap (λ l. l ++ marks (look start.table) e) none ∙ ap (λ f. marks f e) (λ j n. empty n j) ∙ marks-sites outermost e
 
 -- the sites in the order of the marks, once these are sorted
 pub in_order : (e : PlainTree) (marks sorted ms : List Mark) → marks ≡ map mark (all_sites e) → IsPermutation marks sorted → ms ≡ sorted → Ordered (all_sites e) ms

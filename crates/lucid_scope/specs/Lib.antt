@@ -3,6 +3,7 @@ pub mod Sites
 pub mod Bindings
 pub mod Owners
 pub mod Walks
+pub mod Steps
 pub mod Settled
 pub mod Keys
 pub mod Laws

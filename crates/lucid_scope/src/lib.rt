@@ -11,5 +11,6 @@ mod refusal;
 mod resolution;
 mod scoped;
 mod settle;
+mod steps;
 mod table;
 mod walk;

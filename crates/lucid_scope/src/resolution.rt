@@ -7,7 +7,8 @@ ghost use Rattle.lucid_scope.specs.Scoped.{scoped_tree};
 use crate::refusal::ScopeRefusal;
 use crate::scoped::Scoped;
 use crate::settle::{bindings_of, first_fault, inputs_of};
-use crate::walk::{Walk, walk_tree};
+use crate::steps::walk_tree;
+use crate::walk::Walk;
 use lucid_tree::Tree;
 use std::alloc::Global;
 

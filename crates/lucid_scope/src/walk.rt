@@ -1,15 +1,12 @@
-//! The descent through a tree, which notes what each name belongs to.
-ghost use Rattle.std.specs.Prelude.{◌≡◌, ℕ, List, [], ◌∷◌, ◌++◌, map, OnOk, None, Some};
-ghost use Rattle.lucid_tree.specs.View.{tree_of};
-ghost use Rattle.lucid_tree.specs.Env.{same_name};
-ghost use Rattle.lucid_scope.specs.Scope.{Static, in_block, in_function, meaning};
-ghost use Rattle.lucid_scope.specs.Sites.{named, called, sites, sites_in, outside_sites, inside_sites, repeats, again_if, no_names, also};
+//! The names in scope where a descent is, and the marks that it notes.
+ghost use Rattle.std.specs.Prelude.{◌≡◌, ℕ, List, [], ◌∷◌, map, OnOk, None};
+ghost use Rattle.lucid_scope.specs.Sites.{repeats, again_if, no_names, also};
 ghost use Rattle.lucid_scope.specs.Owners.{look};
-ghost use Rattle.lucid_scope.specs.Walks.{mark, Noted, right_sites, is_seen};
+ghost use Rattle.lucid_scope.specs.Walks.{mark, Notes, is_seen};
 
 use crate::marks::{Mark, What};
-use crate::table::{self, Owner, Table};
-use lucid_tree::{Block, Def, DefKind, Defs, Kind, Names, Places32, Tree, Trees};
+use crate::table::{Owner, Table};
+use lucid_tree::{Names, Places32};
 use lucid_value::Name;
 use std::alloc::{AllocError, Global};
 
@@ -41,8 +38,9 @@ impl Walk {
     }
 }
 
-fn note_name(walk: &mut Walk, at: u32, name: &Name) -> Result<(), AllocError>
-    ensures { OnOk result (Noted walk.old walk.new (λ k. named at name.now k ∷ [])) }
+/// Notes a name.
+pub(crate) fn note_name(walk: &mut Walk, at: u32, name: &Name) -> Result<(), AllocError>
+    ensures { OnOk result (Notes walk.old walk.new (record { at = at; what = What.Named name.now (look walk.old.table name.now) } ∷ [])) }
 {
     let owner = walk.table.owner(name);
     let name = name.copy()?;
@@ -51,8 +49,14 @@ fn note_name(walk: &mut Walk, at: u32, name: &Name) -> Result<(), AllocError>
     Ok(())
 }
 
-fn note_call(walk: &mut Walk, at: u32, name: &Name, given: usize) -> Result<(), AllocError>
-    ensures { OnOk result (Noted walk.old walk.new (λ k. called at name.now given k ∷ [])) }
+/// Notes a call with its number of arguments.
+pub(crate) fn note_call(
+    walk: &mut Walk,
+    at: u32,
+    name: &Name,
+    given: usize,
+) -> Result<(), AllocError>
+    ensures { OnOk result (Notes walk.old walk.new (record { at = at; what = What.Called name.now (look walk.old.table name.now) given } ∷ [])) }
 {
     let owner = walk.table.owner(name);
     let name = name.copy()?;
@@ -61,15 +65,15 @@ fn note_call(walk: &mut Walk, at: u32, name: &Name, given: usize) -> Result<(), 
     Ok(())
 }
 
-// Notes the name where it was seen before, and it is seen from now on.
-fn note_repeat(
+/// Notes the name where it was seen before, and it is seen from now on.
+pub(crate) fn note_repeat(
     alloc: Global,
     walk: &mut Walk,
     seen: &mut Table,
     at: u32,
     name: &Name,
 ) -> Result<(), AllocError>
-    ensures noted { OnOk result (Noted walk.old walk.new (λ k. again_if (is_seen seen.old name.now) at)) }
+    ensures noted { OnOk result (Notes walk.old walk.new (map mark (again_if (is_seen seen.old name.now) at))) }
     ensures seen { OnOk result ((n : List ℕ) → is_seen seen.new n ≡ also name.now (is_seen seen.old) n) }
 {
     let before = seen.set(alloc, name, Some(Owner::Plain { def: at }))?;
@@ -80,14 +84,14 @@ fn note_repeat(
     Ok(())
 }
 
-// Notes the parameters whose names earlier ones have.
-fn note_repeats(
+/// Notes the parameters whose names earlier ones have.
+pub(crate) fn note_repeats(
     alloc: Global,
     walk: &mut Walk,
     names: &Names,
     places: &Places32,
 ) -> Result<(), AllocError>
-    ensures { OnOk result (Noted walk.old walk.new (λ k. repeats no_names names.now places.now)) }
+    ensures { OnOk result (Notes walk.old walk.new (map mark (repeats no_names names.now places.now))) }
 {
     let mut seen = Table::make(alloc);
     let names = names.items();
@@ -98,117 +102,4 @@ fn note_repeats(
         i += 1;
     }
     Ok(())
-}
-
-/// Notes the sites of a tree.
-#[cycle(walk)]
-pub(crate) fn walk_tree(alloc: Global, walk: &mut Walk, tree: &Tree) -> Result<(), AllocError>
-    ensures { OnOk result (Noted walk.old walk.new (λ k. sites k tree.now)) }
-{
-    walk_kind(alloc, walk, tree.at, &tree.kind)
-}
-
-#[cycle(walk)]
-fn walk_kind(alloc: Global, walk: &mut Walk, at: u32, kind: &Kind) -> Result<(), AllocError>
-    ensures { OnOk result (Noted walk.old walk.new (λ k. sites k (tree_of at kind.now))) }
-{
-    match kind {
-        Kind::Const(_) => Ok(()),
-        Kind::Name(name) => note_name(walk, at, name),
-        Kind::Call { name, args } => {
-            note_call(walk, at, name, args.items().len())?;
-            walk_trees(alloc, walk, args)
-        }
-        Kind::Apply { args, .. } => walk_trees(alloc, walk, args),
-        Kind::If { test, yes, no } => {
-            walk_tree(alloc, walk, test)?;
-            walk_tree(alloc, walk, yes)?;
-            walk_tree(alloc, walk, no)
-        }
-        Kind::First(a) | Kind::Next(a) | Kind::Initial(a) | Kind::Succ(a) => {
-            walk_tree(alloc, walk, a)
-        }
-        Kind::And(a, b)
-        | Kind::Or(a, b)
-        | Kind::Fby(a, b)
-        | Kind::Whenever(a, b)
-        | Kind::Asa(a, b)
-        | Kind::Upon(a, b)
-        | Kind::Attime(a, b)
-        | Kind::Sby(a, b)
-        | Kind::Atspace(a, b) => {
-            walk_tree(alloc, walk, a)?;
-            walk_tree(alloc, walk, b)
-        }
-        Kind::Scope(block) => walk_block(alloc, walk, block),
-    }
-}
-
-#[cycle(walk)]
-fn walk_trees(alloc: Global, walk: &mut Walk, trees: &Trees) -> Result<(), AllocError>
-    ensures { OnOk result (Noted walk.old walk.new (λ k. sites_in k trees.now)) }
-{
-    let items = trees.items();
-    for tree in items {
-        walk_tree(alloc, walk, tree)?;
-    }
-    Ok(())
-}
-
-// The right sides of current definitions stand outside the block's scope.
-#[cycle(walk)]
-fn walk_block(alloc: Global, walk: &mut Walk, block: &Block) -> Result<(), AllocError>
-    ensures { OnOk result (Noted walk.old walk.new (λ k. outside_sites k block.now.defs ++ (sites (in_block block.now.defs k) block.now.subject ++ inside_sites (in_block block.now.defs k) no_names block.now.defs))) }
-{
-    walk_outside(alloc, walk, &block.defs)?;
-    let saved = table::enter_block(alloc, &mut walk.table, &block.defs)?;
-    walk_tree(alloc, walk, &block.subject)?;
-    walk_inside(alloc, walk, &block.defs)?;
-    table::leave(alloc, &mut walk.table, saved)
-}
-
-#[cycle(walk)]
-fn walk_outside(alloc: Global, walk: &mut Walk, defs: &Defs) -> Result<(), AllocError>
-    ensures { OnOk result (Noted walk.old walk.new (λ k. outside_sites k defs.now)) }
-{
-    let items = defs.items();
-    for def in items {
-        if let DefKind::Current { right } = &def.kind {
-            walk_tree(alloc, walk, right)?;
-        }
-    }
-    Ok(())
-}
-
-#[cycle(walk)]
-fn walk_inside(alloc: Global, walk: &mut Walk, defs: &Defs) -> Result<(), AllocError>
-    ensures { OnOk result (Noted walk.old walk.new (λ k. inside_sites k no_names defs.now)) }
-{
-    let mut seen = Table::make(alloc);
-    let items = defs.items();
-    for def in items {
-        note_repeat(alloc, walk, &mut seen, def.at, &def.name)?;
-        walk_right(alloc, walk, def)?;
-    }
-    Ok(())
-}
-
-#[cycle(walk)]
-fn walk_right(alloc: Global, walk: &mut Walk, def: &Def) -> Result<(), AllocError>
-    ensures { OnOk result (Noted walk.old walk.new (λ k. right_sites k def.now.at def.now.kind)) }
-{
-    match &def.kind {
-        DefKind::Plain { right } => walk_tree(alloc, walk, right),
-        DefKind::Function {
-            parameters,
-            places,
-            right,
-        } => {
-            note_repeats(alloc, walk, parameters, places)?;
-            let saved = table::enter_function(alloc, &mut walk.table, def.at, parameters)?;
-            walk_tree(alloc, walk, right)?;
-            table::leave(alloc, &mut walk.table, saved)
-        }
-        DefKind::Current { .. } => Ok(()),
-    }
 }

@@ -1,0 +1,16 @@
+use Rattle.std.proofs.Common.{◌∷◌, ap, sym, ◌∙◌}
+use Rattle.lucid_scope.specs.Owners.{look, put_back}
+use Rattle.lucid_scope.specs.Steps.{told}
+use Rattle.lucid_scope.proofs.Noting.{on_ok}
+use Rattle.lucid_scope.proofs.Stepping.{left_again}
+use Rattle.lucid_scope.proofs.steps.take.Goals as goal
+
+pub returns-in-Close-clause-told : goal.returns-in-Close-clause-told
+returns-in-Close-clause-told c =
+    let w = c.args.walk.now in
+    let st = c.args.steps.now in
+    on_ok c.leave.result
+    (λ l.
+    left_again w.marks.items st (look c.leave.new.table) (put_back c.in-Close.saved.items (look w.table)) l
+    ∙ ap (λ s. told w (s ∷ st)) (sym c.in-Close.is))
+    c.leave.ensures
