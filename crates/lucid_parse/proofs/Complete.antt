@@ -16,7 +16,7 @@ use Rattle.lucid_parse.specs.declared.state.Item.TheVariants as item
 use Rattle.lucid_parse.specs.Grammar
 use Rattle.lucid_forms.specs.declared.operator.Operator.{Operator}
 use Rattle.lucid_parse.specs.Grammar.{PlainTerminal, PlacedTerminal, terminal_at, trees_and, def_before, defs_and, Parameter, parameter, names_of, places_of, Defined, Plain, Function, Current, Spells, SpellsArgs, SpellsDefs, SpellsNames, level_of, arity_of, left, right, operator_in}
-use Rattle.lucid_parse.specs.Machine.{PlainFrame, PlainItem, PlainState, state, takes, shift, inner_frames, inner_out, settle_at, settle, prefixed, begun, begin, step_named, step, feeds, finished, finish}
+use Rattle.lucid_parse.specs.Machine.{PlainFrame, PlainItem, PlainState, state, called_at, definition_in, takes, shift, inner_frames, inner_out, settle_at, settle, prefixed, begun, begin, step_named, step, feeds, finished, finish}
 use Rattle.lucid_parse.specs.Flat.{written, written_parts, written_all, written_defs, kind_of, listed, with_parameters, headed}
 use Rattle.lucid_parse.proofs.Levels.{prefix_level_most, left_most, right_most, left_least, right_least, right_positive, level_positive, arity_positive, before_not_called, apart, apart_prefix, node-operator}
 
@@ -129,7 +129,7 @@ begins terminal operator at allowed frames out e =
     ap (λ c. begun c (operator_in Before terminal) at allowed frames out) (before_not_called terminal operator e) ∙ ap (λ o. prefixed o at allowed frames out) e
 
 pub begins_called : (terminal : PlainTerminal) (operator : Operator) (at allowed : ℕ) (frames : List PlainFrame) (out : List PlainItem) → operator_in Called terminal ≡ Some operator
-    → begin terminal at allowed frames out ≡ Some (state (focus.Opens operator at allowed) frames out)
+    → begin terminal at allowed frames out ≡ Some (state (focus.Opens (called_at operator at allowed)) frames out)
 begins_called (terminal.Name n) operator at allowed frames out e = cc
 begins_called (terminal.Const v) operator at allowed frames out e = cc
 begins_called terminal.If operator at allowed frames out e = cc
@@ -211,7 +211,7 @@ pub record Parts (all : PlainTrees) (operator : Operator) (at allowed : ℕ) (ts
   pub more : ℕ
   pub counts : more + count all ≡ arity_of operator
   pub level : ℕ
-  pub done : Done (state (focus.Await 0) (frame.Operands operator at (arity_of operator - 1) allowed ∷ frames) out) ts level 0 (frame.Operands operator at more allowed ∷ frames) (written_parts out all)
+  pub done : Done (state (focus.Await 0) (frame.Operands (called_at operator at allowed) (arity_of operator - 1) ∷ frames) out) ts level 0 (frame.Operands (called_at operator at allowed) more ∷ frames) (written_parts out all)
 
 -- the same with an equal list of nodes
 written_as : {wanted allowed : ℕ} {from : PlainState} {ts : List PlacedTerminal} {frames : List PlainFrame} {out into : List PlainItem} → out ≡ into
@@ -352,7 +352,7 @@ not_zero : (n : ℕ) → (n ≡ 0 → ⊥) → nat_eq n 0 ≡ false
 not_zero n e = ne_eqb n 0 e
 
 one_part : (operator : Operator) (at allowed : ℕ) (xs : List PlacedTerminal) (x : PlainTree) (frames : List PlainFrame) (out : List PlainItem)
-    → Operand 0 (state (focus.Await 0) (frame.Operands operator at (arity_of operator - 1) allowed ∷ frames) out) xs 0 (frame.Operands operator at (arity_of operator - 1) allowed ∷ frames) (written out x)
+    → Operand 0 (state (focus.Await 0) (frame.Operands (called_at operator at allowed) (arity_of operator - 1) ∷ frames) out) xs 0 (frame.Operands (called_at operator at allowed) (arity_of operator - 1) ∷ frames) (written out x)
     → Parts (tree x no_trees) operator at allowed xs frames out
 unfolding written
 one_part operator at allowed xs x frames out l =
@@ -360,7 +360,7 @@ one_part operator at allowed xs x frames out l =
 
 more_parts : (comma_at : ℕ) (operator : Operator) (at allowed : ℕ) (xs ys : List PlacedTerminal) (all : PlainTrees) (y : PlainTree) (frames : List PlainFrame) (out : List PlainItem) → count (trees_and all y) ≤ arity_of operator
     → (a : Parts all operator at allowed xs frames out)
-    → Operand 0 (state (focus.Await 0) (frame.Operands operator at (a.more - 1) allowed ∷ frames) (written_parts out all)) ys 0 (frame.Operands operator at (a.more - 1) allowed ∷ frames) (written (written_parts out all) y)
+    → Operand 0 (state (focus.Await 0) (frame.Operands (called_at operator at allowed) (a.more - 1) ∷ frames) (written_parts out all)) ys 0 (frame.Operands (called_at operator at allowed) (a.more - 1) ∷ frames) (written (written_parts out all) y)
     → Parts (trees_and all y) operator at allowed (xs ++ terminal_at terminal.Comma comma_at ∷ ys) frames out
 more_parts comma_at operator at allowed xs ys all y frames out fits a l =
     let some : a.more ≡ 0 → ⊥ = λ e. omega (arith, e, a.counts, fits, count-and all y) in
@@ -371,11 +371,11 @@ more_parts comma_at operator at allowed xs ys all y frames out fits a l =
       level = r.level;
       done = record {
         after = r.done.after;
-        reads = through xs ys (terminal_at terminal.Comma comma_at) (state (focus.Await 0) (frame.Operands operator at (arity_of operator - 1) allowed ∷ frames) out) a.done.after
-            (state (focus.Await 0) (frame.Operands operator at (a.more - 1) allowed ∷ frames) (written_parts out all)) _
+        reads = through xs ys (terminal_at terminal.Comma comma_at) (state (focus.Await 0) (frame.Operands (called_at operator at allowed) (arity_of operator - 1) ∷ frames) out) a.done.after
+            (state (focus.Await 0) (frame.Operands (called_at operator at allowed) (a.more - 1) ∷ frames) (written_parts out all)) _
             a.done.reads
             (a.done.next terminal.Comma comma_at tt
-            ∙ not_chosen (nat_eq a.more 0) None (Some (state (focus.Await 0) (frame.Operands operator at (a.more - 1) allowed ∷ frames) (written_parts out all))) (not_zero a.more some))
+            ∙ not_chosen (nat_eq a.more 0) None (Some (state (focus.Await 0) (frame.Operands (called_at operator at allowed) (a.more - 1) ∷ frames) (written_parts out all))) (not_zero a.more some))
             r.done.reads;
         next = r.done.next;
         ends = r.done.ends;
@@ -390,7 +390,7 @@ operated : (wanted allowed at open_at close_at : ℕ) (word : PlainTerminal) (op
 operated wanted allowed at open_at close_at word operator xs args frames out top is all a =
     whole wanted allowed _ _ frames _ top
     (ap (option_and_then (λ i. feeds i (terminal_at terminal.Open open_at ∷ (xs ++ terminal_at terminal.Close close_at ∷ [])))) (begins_called word operator at allowed frames out is)
-    ∙ through xs [] (terminal_at terminal.Close close_at) (state (focus.Await 0) (frame.Operands operator at (arity_of operator - 1) allowed ∷ frames) out) a.done.after
+    ∙ through xs [] (terminal_at terminal.Close close_at) (state (focus.Await 0) (frame.Operands (called_at operator at allowed) (arity_of operator - 1) ∷ frames) out) a.done.after
     (state (focus.Have 12 allowed) frames (written_parts out args ++ item.Operator operator at ∷ [])) _
     a.done.reads
     (a.done.next terminal.Close close_at tt
@@ -399,30 +399,30 @@ operated wanted allowed at open_at close_at word operator xs args frames out top
 
 -- the right side of a definition
 right_side : (semicolon_at def_at : ℕ) (n : List ℕ) (at : ℕ) (d : Defines) (ys : List PlacedTerminal) (y : PlainTree) (frames : List PlainFrame) (o : List PlainItem)
-    → Operand 0 (state (focus.Await 0) (frame.RightSide at d def_at n ∷ frames) o) ys 0 (frame.RightSide at d def_at n ∷ frames) (written o y)
-    → feeds (state (focus.Await 0) (frame.RightSide at d def_at n ∷ frames) o) (ys ++ terminal_at terminal.Semicolon semicolon_at ∷ []) ≡ Some (state (focus.Heads at) frames (written o y ++ item.Def d def_at n ∷ []))
+    → Operand 0 (state (focus.Await 0) (frame.RightSide d (definition_in at def_at n) ∷ frames) o) ys 0 (frame.RightSide d (definition_in at def_at n) ∷ frames) (written o y)
+    → feeds (state (focus.Await 0) (frame.RightSide d (definition_in at def_at n) ∷ frames) o) (ys ++ terminal_at terminal.Semicolon semicolon_at ∷ []) ≡ Some (state (focus.Heads at) frames (written o y ++ item.Def d def_at n ∷ []))
 right_side semicolon_at def_at n at d ys y frames o l =
-    through ys [] (terminal_at terminal.Semicolon semicolon_at) (state (focus.Await 0) (frame.RightSide at d def_at n ∷ frames) o) l.done.after
+    through ys [] (terminal_at terminal.Semicolon semicolon_at) (state (focus.Await 0) (frame.RightSide d (definition_in at def_at n) ∷ frames) o) l.done.after
     (state (focus.Heads at) frames (written o y ++ item.Def d def_at n ∷ [])) _ l.done.reads (l.done.next terminal.Semicolon semicolon_at tt) refl
 
 -- a definition more, by what follows its name
 one_def : (at def_at : ℕ) (n : List ℕ) (h : Defined) (ds rest : List PlacedTerminal) (all : PlainDefs) (y : PlainTree) (frames : List PlainFrame) (out : List PlainItem)
     → feeds (state (focus.Heads at) frames out) ds ≡ Some (state (focus.Heads at) frames (written_defs out all))
-    → feeds (state (focus.Headed at def_at n) frames (written_defs out all)) rest ≡ Some (state (focus.Heads at) frames (written (headed (written_defs out all) h) y ++ item.Def (kind_of h) def_at n ∷ []))
+    → feeds (state (focus.Headed (definition_in at def_at n)) frames (written_defs out all)) rest ≡ Some (state (focus.Heads at) frames (written (headed (written_defs out all) h) y ++ item.Def (kind_of h) def_at n ∷ []))
     → feeds (state (focus.Heads at) frames out) (ds ++ terminal_at (terminal.Name n) def_at ∷ rest) ≡ Some (state (focus.Heads at) frames (written_defs out (defs_and all def_at n h y)))
 one_def at def_at n h ds rest all y frames out d e =
     feeds-append ds _ _ _ d ∙ e ∙ ap (λ o. Some (state (focus.Heads at) frames o)) (sym (written_defs-and out all def_at n h y))
 
 complete_names : {xs : List PlacedTerminal} {all : List Parameter} → SpellsNames xs all → (at def_at : ℕ) (n : List ℕ) (frames : List PlainFrame) (out : List PlainItem)
-    → feeds (state (focus.Names at def_at n) frames out) xs ≡ Some (state (focus.Listed at def_at n) frames (with_parameters out all))
+    → feeds (state (focus.Names (definition_in at def_at n)) frames out) xs ≡ Some (state (focus.Listed (definition_in at def_at n)) frames (with_parameters out all))
 complete_names Grammar.spells_first_name at def_at n frames out = refl
 complete_names (Grammar.spells_more_names comma_at a m {xs = xs} {all = all} sn) at def_at n frames out =
-    feeds-append xs _ _ _ (complete_names sn at def_at n frames out) ∙ ap (λ o. Some (state (focus.Listed at def_at n) frames o)) (sym (with_parameters-and out all a m))
+    feeds-append xs _ _ _ (complete_names sn at def_at n frames out) ∙ ap (λ o. Some (state (focus.Listed (definition_in at def_at n)) frames o)) (sym (with_parameters-and out all a m))
 
 function_def : (open_at close_at equals_at semicolon_at a : ℕ) (n : List ℕ) (at : ℕ) (ns ys : List PlacedTerminal) (parameters : List Parameter) (y : PlainTree) (frames : List PlainFrame) (out : List PlainItem) → SpellsNames ns parameters
-    → Operand 0 (state (focus.Await 0) (frame.RightSide at kind.Function a n ∷ frames) (with_parameters (out ++ item.NoNames ∷ []) parameters)) ys 0
-    (frame.RightSide at kind.Function a n ∷ frames) (written (with_parameters (out ++ item.NoNames ∷ []) parameters) y)
-    → feeds (state (focus.Headed at a n) frames out) (terminal_at terminal.Open open_at ∷ (ns ++ terminal_at terminal.Close close_at ∷ terminal_at terminal.Equals equals_at ∷ (ys ++ terminal_at terminal.Semicolon semicolon_at ∷ [])))
+    → Operand 0 (state (focus.Await 0) (frame.RightSide kind.Function (definition_in at a n) ∷ frames) (with_parameters (out ++ item.NoNames ∷ []) parameters)) ys 0
+    (frame.RightSide kind.Function (definition_in at a n) ∷ frames) (written (with_parameters (out ++ item.NoNames ∷ []) parameters) y)
+    → feeds (state (focus.Headed (definition_in at a n)) frames out) (terminal_at terminal.Open open_at ∷ (ns ++ terminal_at terminal.Close close_at ∷ terminal_at terminal.Equals equals_at ∷ (ys ++ terminal_at terminal.Semicolon semicolon_at ∷ [])))
     ≡ Some (state (focus.Heads at) frames (written (with_parameters (out ++ item.NoNames ∷ []) parameters) y ++ item.Def kind.Function a n ∷ []))
 function_def open_at close_at equals_at semicolon_at a n at ns ys parameters y frames out s l =
     feeds-append ns _ _ _ (complete_names s at a n frames (out ++ item.NoNames ∷ []))
@@ -481,22 +481,22 @@ mutual
 
   complete_parts : {xs : List PlacedTerminal} {all : PlainTrees} → SpellsArgs xs all → (operator : Operator) → count all ≤ arity_of operator → (at allowed : ℕ) (frames : List PlainFrame) (out : List PlainItem) → Parts all operator at allowed xs frames out
   complete_parts (Grammar.spells_one {xs = xs} {x = x} sx) operator fits at allowed frames out =
-      one_part operator at allowed xs x frames out (complete sx zero-le 0 (frame.Operands operator at (arity_of operator - 1) allowed ∷ frames) out zero-le tt)
+      one_part operator at allowed xs x frames out (complete sx zero-le 0 (frame.Operands (called_at operator at allowed) (arity_of operator - 1) ∷ frames) out zero-le tt)
   complete_parts (Grammar.spells_more comma_at {xs = xs} {ys = ys} {all = all} {y = y} sa sy) operator fits at allowed frames out =
       let a = complete_parts sa operator (omega (arith, fits, count-and all y)) at allowed frames out in
-      more_parts comma_at operator at allowed xs ys all y frames out fits a (complete sy zero-le 0 (frame.Operands operator at (a.more - 1) allowed ∷ frames) (written_parts out all) zero-le tt)
+      more_parts comma_at operator at allowed xs ys all y frames out fits a (complete sy zero-le 0 (frame.Operands (called_at operator at allowed) (a.more - 1) ∷ frames) (written_parts out all) zero-le tt)
 
   complete_defs : {ds : List PlacedTerminal} {all : PlainDefs} → SpellsDefs ds all → (at : ℕ) (frames : List PlainFrame) (out : List PlainItem)
       → feeds (state (focus.Heads at) frames out) ds ≡ Some (state (focus.Heads at) frames (written_defs out all))
   complete_defs Grammar.spells_none at frames out = refl
   complete_defs (Grammar.spells_def def_at n equals_at semicolon_at {ds = ds} {ys = ys} {all = all} {y = y} sd sy) at frames out =
       one_def at def_at n Plain ds (terminal_at terminal.Equals equals_at ∷ (ys ++ terminal_at terminal.Semicolon semicolon_at ∷ [])) all y frames out (complete_defs sd at frames out)
-      (right_side semicolon_at def_at n at kind.Plain ys y frames (written_defs out all) (complete sy zero-le 0 (frame.RightSide at kind.Plain def_at n ∷ frames) (written_defs out all) zero-le tt))
+      (right_side semicolon_at def_at n at kind.Plain ys y frames (written_defs out all) (complete sy zero-le 0 (frame.RightSide kind.Plain (definition_in at def_at n) ∷ frames) (written_defs out all) zero-le tt))
   complete_defs (Grammar.spells_current def_at n is_at current_at semicolon_at {ds = ds} {ys = ys} {all = all} {y = y} sd sy) at frames out =
       one_def at def_at n Current ds (terminal_at terminal.Is is_at ∷ terminal_at terminal.Current current_at ∷ (ys ++ terminal_at terminal.Semicolon semicolon_at ∷ [])) all y frames out (complete_defs sd at frames out)
-      (right_side semicolon_at def_at n at kind.Current ys y frames (written_defs out all) (complete sy zero-le 0 (frame.RightSide at kind.Current def_at n ∷ frames) (written_defs out all) zero-le tt))
+      (right_side semicolon_at def_at n at kind.Current ys y frames (written_defs out all) (complete sy zero-le 0 (frame.RightSide kind.Current (definition_in at def_at n) ∷ frames) (written_defs out all) zero-le tt))
   complete_defs (Grammar.spells_function def_at n open_at close_at equals_at semicolon_at {ds = ds} {ns = ns} {ys = ys} {all = all} {parameters = parameters} {y = y} sd sn sy) at frames out =
       one_def at def_at n (Function parameters) ds (terminal_at terminal.Open open_at ∷ (ns ++ terminal_at terminal.Close close_at ∷ terminal_at terminal.Equals equals_at ∷ (ys ++ terminal_at terminal.Semicolon semicolon_at ∷ []))) all y frames out
       (complete_defs sd at frames out)
       (function_def open_at close_at equals_at semicolon_at def_at n at ns ys parameters y frames (written_defs out all) sn
-      (complete sy zero-le 0 (frame.RightSide at kind.Function def_at n ∷ frames) (with_parameters (written_defs out all ++ item.NoNames ∷ []) parameters) zero-le tt))
+      (complete sy zero-le 0 (frame.RightSide kind.Function (definition_in at def_at n) ∷ frames) (with_parameters (written_defs out all ++ item.NoNames ∷ []) parameters) zero-le tt))

@@ -7,6 +7,8 @@ use Rattle.lucid_ops.specs.declared.op.Form.{Form}
 use Rattle.lucid_ops.specs.declared.op.Form.TheVariants.{Before, Between, Called}
 use Rattle.lucid_parse.specs.declared.terminal.Terminal.{Terminal}
 use Rattle.lucid_parse.specs.declared.terminal.Terminal.TheVariants as terminal
+use Rattle.lucid_parse.specs.declared.state.CalledOperator.{CalledOperator}
+use Rattle.lucid_parse.specs.declared.state.Definition.{Definition}
 use Rattle.lucid_parse.specs.declared.state.Frame.{Frame}
 use Rattle.lucid_parse.specs.declared.state.Frame.TheVariants as frame
 use Rattle.lucid_parse.specs.declared.state.Focus.{Focus}
@@ -16,7 +18,7 @@ use Rattle.lucid_parse.specs.declared.state.Item.TheVariants as item
 use Rattle.lucid_forms.specs.declared.operator.Operator.{Operator}
 use Rattle.lucid_parse.specs.Grammar.{level_of, operator_in}
 use Rattle.lucid_parse.specs.Machine.{State, state, takes, shift, inner_frames, inner_out, after_frame, close_top, close, settle_at, settle, prefixed, begun, begin, step_named, step_heads, step_headed, step_frozen, step_names, step_listed, step_ready, step_opens, step_at, step, if_empty, finished, finish_at, finish}
-use Rattle.lucid_parse.specs.Fill.{fill_terminal, fill_frame, fill_focus, fill_item, fill_state}
+use Rattle.lucid_parse.specs.Fill.{fill_terminal, fill_definition, fill_frame, fill_focus, fill_item, fill_state}
 
 module _ {M N V W : Type 0} (f : M → N) (g : V → W) where
   abbrev frames_of : List (Frame M) → List (Frame N)
@@ -64,9 +66,9 @@ module _ {M N V W : Type 0} (f : M → N) (g : V → W) where
   filled_after (frame.Arguments place n allowed) terminal.Comma frames out = one_more _ _ out item.More
   filled_after (frame.Arguments place n allowed) terminal.Close frames out =
       ap (λ o. Some (state (focus.Have 12 allowed) (frames_of frames) (o ++ item.Call place (f n) ∷ []))) (push out item.More) ∙ one_more _ _ (out ++ item.More ∷ []) (item.Call place n)
-  filled_after (frame.Operands operator place more allowed) terminal.Comma frames out = filled_cond (nat_eq more 0) _ _ _ _ refl refl
-  filled_after (frame.Operands operator place more allowed) terminal.Close frames out = filled_cond (nat_eq more 0) _ _ _ _ (one_more _ _ out (item.Operator operator place)) refl
-  filled_after (frame.RightSide block d def_at n) terminal.Semicolon frames out = one_more _ _ out (item.Def d def_at n)
+  filled_after (frame.Operands called more) terminal.Comma frames out = filled_cond (nat_eq more 0) _ _ _ _ refl refl
+  filled_after (frame.Operands called more) terminal.Close frames out = filled_cond (nat_eq more 0) _ _ _ _ (one_more _ _ out (item.Operator called.op called.at)) refl
+  filled_after (frame.RightSide d this) terminal.Semicolon frames out = one_more _ _ out (item.Def d this.at this.name)
   filled_after _ _ frames out = refl
 
   filled_close_top : (terminal : Terminal M V) (frames : List (Frame M)) (out : List (Item M V)) → close_top (fill_terminal f g terminal) (frames_of frames) (out_of out) ≡ into (close_top terminal frames out)
@@ -124,44 +126,44 @@ module _ {M N V W : Type 0} (f : M → N) (g : V → W) where
   filled_heads terminal.End at block frames out = one_more _ _ out (item.Block block)
   filled_heads _ at block frames out = refl
 
-  filled_headed : (terminal : Terminal M V) (block def_at : ℕ) (n : M) (frames : List (Frame M)) (out : List (Item M V)) → step_headed (fill_terminal f g terminal) block def_at (f n) (frames_of frames) (out_of out) ≡ into (step_headed terminal block def_at n frames out)
-  filled_headed terminal.Equals block def_at n frames out = refl
-  filled_headed terminal.Is block def_at n frames out = refl
-  filled_headed terminal.Open block def_at n frames out = one_more _ _ out item.NoNames
-  filled_headed _ block def_at n frames out = refl
+  filled_headed : (terminal : Terminal M V) (this : Definition M) (frames : List (Frame M)) (out : List (Item M V)) → step_headed (fill_terminal f g terminal) (fill_definition f this) (frames_of frames) (out_of out) ≡ into (step_headed terminal this frames out)
+  filled_headed terminal.Equals this frames out = refl
+  filled_headed terminal.Is this frames out = refl
+  filled_headed terminal.Open this frames out = one_more _ _ out item.NoNames
+  filled_headed _ this frames out = refl
 
-  filled_frozen : (terminal : Terminal M V) (block def_at : ℕ) (n : M) (frames : List (Frame M)) (out : List (Item M V)) → step_frozen (fill_terminal f g terminal) block def_at (f n) (frames_of frames) (out_of out) ≡ into (step_frozen terminal block def_at n frames out)
-  filled_frozen terminal.Current block def_at n frames out = refl
-  filled_frozen _ block def_at n frames out = refl
+  filled_frozen : (terminal : Terminal M V) (this : Definition M) (frames : List (Frame M)) (out : List (Item M V)) → step_frozen (fill_terminal f g terminal) (fill_definition f this) (frames_of frames) (out_of out) ≡ into (step_frozen terminal this frames out)
+  filled_frozen terminal.Current this frames out = refl
+  filled_frozen _ this frames out = refl
 
-  filled_names : (terminal : Terminal M V) (at block def_at : ℕ) (n : M) (frames : List (Frame M)) (out : List (Item M V)) → step_names (fill_terminal f g terminal) at block def_at (f n) (frames_of frames) (out_of out) ≡ into (step_names terminal at block def_at n frames out)
-  filled_names (terminal.Name name) at block def_at n frames out = one_more _ _ out (item.Param at name)
-  filled_names _ at block def_at n frames out = refl
+  filled_names : (terminal : Terminal M V) (at : ℕ) (this : Definition M) (frames : List (Frame M)) (out : List (Item M V)) → step_names (fill_terminal f g terminal) at (fill_definition f this) (frames_of frames) (out_of out) ≡ into (step_names terminal at this frames out)
+  filled_names (terminal.Name name) at this frames out = one_more _ _ out (item.Param at name)
+  filled_names _ at this frames out = refl
 
-  filled_listed : (terminal : Terminal M V) (block def_at : ℕ) (n : M) (frames : List (Frame M)) (out : List (Item M V)) → step_listed (fill_terminal f g terminal) block def_at (f n) (frames_of frames) (out_of out) ≡ into (step_listed terminal block def_at n frames out)
-  filled_listed terminal.Comma block def_at n frames out = refl
-  filled_listed terminal.Close block def_at n frames out = refl
-  filled_listed _ block def_at n frames out = refl
+  filled_listed : (terminal : Terminal M V) (this : Definition M) (frames : List (Frame M)) (out : List (Item M V)) → step_listed (fill_terminal f g terminal) (fill_definition f this) (frames_of frames) (out_of out) ≡ into (step_listed terminal this frames out)
+  filled_listed terminal.Comma this frames out = refl
+  filled_listed terminal.Close this frames out = refl
+  filled_listed _ this frames out = refl
 
-  filled_ready : (terminal : Terminal M V) (block def_at : ℕ) (n : M) (frames : List (Frame M)) (out : List (Item M V)) → step_ready (fill_terminal f g terminal) block def_at (f n) (frames_of frames) (out_of out) ≡ into (step_ready terminal block def_at n frames out)
-  filled_ready terminal.Equals block def_at n frames out = refl
-  filled_ready _ block def_at n frames out = refl
+  filled_ready : (terminal : Terminal M V) (this : Definition M) (frames : List (Frame M)) (out : List (Item M V)) → step_ready (fill_terminal f g terminal) (fill_definition f this) (frames_of frames) (out_of out) ≡ into (step_ready terminal this frames out)
+  filled_ready terminal.Equals this frames out = refl
+  filled_ready _ this frames out = refl
 
-  filled_opens : (terminal : Terminal M V) (operator : Operator) (place allowed : ℕ) (frames : List (Frame M)) (out : List (Item M V)) → step_opens (fill_terminal f g terminal) operator place allowed (frames_of frames) (out_of out) ≡ into (step_opens terminal operator place allowed frames out)
-  filled_opens terminal.Open operator place allowed frames out = refl
-  filled_opens _ operator place allowed frames out = refl
+  filled_opens : (terminal : Terminal M V) (called : CalledOperator) (frames : List (Frame M)) (out : List (Item M V)) → step_opens (fill_terminal f g terminal) called (frames_of frames) (out_of out) ≡ into (step_opens terminal called frames out)
+  filled_opens terminal.Open called frames out = refl
+  filled_opens _ called frames out = refl
 
   filled_step_at : (x : Focus M) (terminal : Terminal M V) (at : ℕ) (frames : List (Frame M)) (out : List (Item M V)) → step_at (fill_focus f x) (fill_terminal f g terminal) at (frames_of frames) (out_of out) ≡ into (step_at x terminal at frames out)
   filled_step_at (focus.Await allowed) terminal at frames out = filled_begin terminal at allowed frames out
   filled_step_at (focus.Named place n allowed) terminal at frames out = filled_named terminal at place n allowed frames out
   filled_step_at (focus.Have level allowed) terminal at frames out = filled_settle terminal at level allowed frames out
   filled_step_at (focus.Heads block) terminal at frames out = filled_heads terminal at block frames out
-  filled_step_at (focus.Headed block def_at n) terminal at frames out = filled_headed terminal block def_at n frames out
-  filled_step_at (focus.Frozen block def_at n) terminal at frames out = filled_frozen terminal block def_at n frames out
-  filled_step_at (focus.Names block def_at n) terminal at frames out = filled_names terminal at block def_at n frames out
-  filled_step_at (focus.Listed block def_at n) terminal at frames out = filled_listed terminal block def_at n frames out
-  filled_step_at (focus.Ready block def_at n) terminal at frames out = filled_ready terminal block def_at n frames out
-  filled_step_at (focus.Opens operator place allowed) terminal at frames out = filled_opens terminal operator place allowed frames out
+  filled_step_at (focus.Headed this) terminal at frames out = filled_headed terminal this frames out
+  filled_step_at (focus.Frozen this) terminal at frames out = filled_frozen terminal this frames out
+  filled_step_at (focus.Names this) terminal at frames out = filled_names terminal at this frames out
+  filled_step_at (focus.Listed this) terminal at frames out = filled_listed terminal this frames out
+  filled_step_at (focus.Ready this) terminal at frames out = filled_ready terminal this frames out
+  filled_step_at (focus.Opens called) terminal at frames out = filled_opens terminal called frames out
 
   pub filled_step : (h : State M V) (terminal : Terminal M V) (at : ℕ) → step (fill_state f g h) (fill_terminal f g terminal) at ≡ option_map (fill_state f g) (step h terminal at)
   filled_step h terminal at = filled_step_at h.focus terminal at h.frames h.out

@@ -9,13 +9,15 @@ use Rattle.lucid_ops.specs.declared.op.Form.TheVariants.{Before, Between, Called
 use Rattle.lucid_parse.specs.declared.terminal.Terminal.TheVariants as terminal
 use Rattle.lucid_parse.specs.declared.state.Defines.{Defines}
 use Rattle.lucid_parse.specs.declared.state.Defines.TheVariants as kind
+use Rattle.lucid_parse.specs.declared.state.CalledOperator.{CalledOperator}
+use Rattle.lucid_parse.specs.declared.state.Definition.{Definition}
 use Rattle.lucid_parse.specs.declared.state.Frame.TheVariants as frame
 use Rattle.lucid_parse.specs.declared.state.Focus.TheVariants as focus
 use Rattle.lucid_parse.specs.declared.state.Item.TheVariants as item
 use Rattle.lucid_parse.specs.Grammar
 use Rattle.lucid_forms.specs.declared.operator.Operator.{Operator}
 use Rattle.lucid_parse.specs.Grammar.{PlainTerminal, PlacedTerminal, terminal_at, Parameter, Plain, Function, Current, Spells, SpellsArgs, SpellsDefs, SpellsNames, level_of, arity_of, left, right, operator_in, head}
-use Rattle.lucid_parse.specs.Machine.{PlainFrame, PlainFocus, PlainItem, PlainState, state, takes, taken, shift, inner_frames, inner_out, after_frame, close, settle_at, settle, prefixed, begun, begin, step_named, step_heads, step_headed, step_frozen, step_names, step_listed, step_ready, step_opens, step_at, step, feeds, finished, if_empty, finish_at, finish, start}
+use Rattle.lucid_parse.specs.Machine.{PlainFrame, PlainFocus, PlainItem, PlainState, state, called_at, definition_in, takes, taken, shift, inner_frames, inner_out, after_frame, close, settle_at, settle, prefixed, begun, begin, step_named, step_heads, step_headed, step_frozen, step_names, step_listed, step_ready, step_opens, step_at, step, feeds, finished, if_empty, finish_at, finish, start}
 use Rattle.lucid_parse.specs.Flat.{written, written_parts, written_all, written_defs, with_parameters, node}
 use Rattle.lucid_parse.proofs.Levels.{prefix_level_most, right_most, arity_positive, node-operator}
 use Rattle.lucid_parse.proofs.Complete.{written_parts-and, written_all-and, written_defs-and, with_parameters-and, count-and}
@@ -43,19 +45,19 @@ pub data Context : List PlainFrame → ℕ → List PlacedTerminal → List Plai
       → Context (frame.Arguments at n allowed ∷ frames) 0 (pre ++ (terminal_at (terminal.Name n) at ∷ terminal_at terminal.Open open_at ∷ (xs ++ terminal_at terminal.Comma comma_at ∷ []))) (written_all (out ++ item.NoTrees ∷ []) all)
   in_part : {at allowed : ℕ} (open_at : ℕ) (word : PlainTerminal) {operator : Operator} {frames : List PlainFrame} {pre : List PlacedTerminal} {out : List PlainItem}
       → operator_in Called word ≡ Some operator → Context frames allowed pre out
-      → Context (frame.Operands operator at (arity_of operator - 1) allowed ∷ frames) 0 (pre ++ terminal_at word at ∷ terminal_at terminal.Open open_at ∷ []) out
+      → Context (frame.Operands (called_at operator at allowed) (arity_of operator - 1) ∷ frames) 0 (pre ++ terminal_at word at ∷ terminal_at terminal.Open open_at ∷ []) out
   in_parts : {at allowed more : ℕ} (open_at comma_at : ℕ) (word : PlainTerminal) {operator : Operator} {frames : List PlainFrame} {pre xs : List PlacedTerminal} {out : List PlainItem} {all : PlainTrees}
       → operator_in Called word ≡ Some operator → Context frames allowed pre out → SpellsArgs xs all
       → more + (count all + 1) ≡ arity_of operator
-      → Context (frame.Operands operator at more allowed ∷ frames) 0 (pre ++ (terminal_at word at ∷ terminal_at terminal.Open open_at ∷ (xs ++ terminal_at terminal.Comma comma_at ∷ []))) (written_parts out all)
+      → Context (frame.Operands (called_at operator at allowed) more ∷ frames) 0 (pre ++ (terminal_at word at ∷ terminal_at terminal.Open open_at ∷ (xs ++ terminal_at terminal.Comma comma_at ∷ []))) (written_parts out all)
   in_right : {block at : ℕ} {n : List ℕ} (equals_at : ℕ) {frames : List PlainFrame} {pre xs ds : List PlacedTerminal} {out : List PlainItem} {x : PlainTree} {all : PlainDefs} → Context frames 0 pre out → Spells 0 xs x → SpellsDefs ds all
-      → Context (frame.RightSide block kind.Plain at n ∷ frames) 0
+      → Context (frame.RightSide kind.Plain (definition_in block at n) ∷ frames) 0
       (pre ++ (xs ++ terminal_at terminal.Where block ∷ (ds ++ terminal_at (terminal.Name n) at ∷ terminal_at terminal.Equals equals_at ∷ []))) (written_defs (written out x ++ item.NoDefs ∷ []) all)
   in_current : {block at : ℕ} {n : List ℕ} (is_at current_at : ℕ) {frames : List PlainFrame} {pre xs ds : List PlacedTerminal} {out : List PlainItem} {x : PlainTree} {all : PlainDefs} → Context frames 0 pre out → Spells 0 xs x → SpellsDefs ds all
-      → Context (frame.RightSide block kind.Current at n ∷ frames) 0
+      → Context (frame.RightSide kind.Current (definition_in block at n) ∷ frames) 0
       (pre ++ (xs ++ terminal_at terminal.Where block ∷ (ds ++ terminal_at (terminal.Name n) at ∷ terminal_at terminal.Is is_at ∷ terminal_at terminal.Current current_at ∷ []))) (written_defs (written out x ++ item.NoDefs ∷ []) all)
   in_function : {block at : ℕ} {n : List ℕ} (open_at close_at equals_at : ℕ) {frames : List PlainFrame} {pre xs ds ns : List PlacedTerminal} {out : List PlainItem} {x : PlainTree} {all : PlainDefs} {parameters : List Parameter} → Context frames 0 pre out → Spells 0 xs x → SpellsDefs ds all → SpellsNames ns parameters
-      → Context (frame.RightSide block kind.Function at n ∷ frames) 0
+      → Context (frame.RightSide kind.Function (definition_in block at n) ∷ frames) 0
       (pre ++ (xs ++ terminal_at terminal.Where block ∷ (ds ++ terminal_at (terminal.Name n) at ∷ terminal_at terminal.Open open_at ∷ (ns ++ terminal_at terminal.Close close_at ∷ terminal_at terminal.Equals equals_at ∷ []))))
       (with_parameters (written_defs (written out x ++ item.NoDefs ∷ []) all ++ item.NoNames ∷ []) parameters)
 
@@ -78,22 +80,22 @@ pub data Means : PlainFocus → List PlainFrame → List PlainItem → List Plac
   heads : {block : ℕ} {frames : List PlainFrame} {pre xs ds : List PlacedTerminal} {out : List PlainItem} {x : PlainTree} {all : PlainDefs} → Context frames 0 pre out → Spells 0 xs x → SpellsDefs ds all
       → Means (focus.Heads block) frames (written_defs (written out x ++ item.NoDefs ∷ []) all) (pre ++ (xs ++ terminal_at terminal.Where block ∷ ds))
   headed : {block at : ℕ} {n : List ℕ} {frames : List PlainFrame} {pre xs ds : List PlacedTerminal} {out : List PlainItem} {x : PlainTree} {all : PlainDefs} → Context frames 0 pre out → Spells 0 xs x → SpellsDefs ds all
-      → Means (focus.Headed block at n) frames (written_defs (written out x ++ item.NoDefs ∷ []) all) (pre ++ (xs ++ terminal_at terminal.Where block ∷ (ds ++ terminal_at (terminal.Name n) at ∷ [])))
+      → Means (focus.Headed (definition_in block at n)) frames (written_defs (written out x ++ item.NoDefs ∷ []) all) (pre ++ (xs ++ terminal_at terminal.Where block ∷ (ds ++ terminal_at (terminal.Name n) at ∷ [])))
   opens : {at allowed : ℕ} (word : PlainTerminal) (operator : Operator) {frames : List PlainFrame} {ts : List PlacedTerminal} {out : List PlainItem} → operator_in Called word ≡ Some operator
       → Context frames allowed ts out
-      → Means (focus.Opens operator at allowed) frames out (ts ++ terminal_at word at ∷ [])
+      → Means (focus.Opens (called_at operator at allowed)) frames out (ts ++ terminal_at word at ∷ [])
   frozen : {block at : ℕ} {n : List ℕ} (is_at : ℕ) {frames : List PlainFrame} {pre xs ds : List PlacedTerminal} {out : List PlainItem} {x : PlainTree} {all : PlainDefs} → Context frames 0 pre out → Spells 0 xs x → SpellsDefs ds all
-      → Means (focus.Frozen block at n) frames (written_defs (written out x ++ item.NoDefs ∷ []) all) (pre ++ (xs ++ terminal_at terminal.Where block ∷ (ds ++ terminal_at (terminal.Name n) at ∷ terminal_at terminal.Is is_at ∷ [])))
+      → Means (focus.Frozen (definition_in block at n)) frames (written_defs (written out x ++ item.NoDefs ∷ []) all) (pre ++ (xs ++ terminal_at terminal.Where block ∷ (ds ++ terminal_at (terminal.Name n) at ∷ terminal_at terminal.Is is_at ∷ [])))
   no_names_yet : {block at : ℕ} {n : List ℕ} (open_at : ℕ) {frames : List PlainFrame} {pre xs ds : List PlacedTerminal} {out : List PlainItem} {x : PlainTree} {all : PlainDefs} → Context frames 0 pre out → Spells 0 xs x → SpellsDefs ds all
-      → Means (focus.Names block at n) frames (written_defs (written out x ++ item.NoDefs ∷ []) all ++ item.NoNames ∷ []) (pre ++ (xs ++ terminal_at terminal.Where block ∷ (ds ++ terminal_at (terminal.Name n) at ∷ terminal_at terminal.Open open_at ∷ [])))
+      → Means (focus.Names (definition_in block at n)) frames (written_defs (written out x ++ item.NoDefs ∷ []) all ++ item.NoNames ∷ []) (pre ++ (xs ++ terminal_at terminal.Where block ∷ (ds ++ terminal_at (terminal.Name n) at ∷ terminal_at terminal.Open open_at ∷ [])))
   more_names : {block at : ℕ} {n : List ℕ} (open_at comma_at : ℕ) {frames : List PlainFrame} {pre xs ds ns : List PlacedTerminal} {out : List PlainItem} {x : PlainTree} {all : PlainDefs} {parameters : List Parameter} → Context frames 0 pre out → Spells 0 xs x → SpellsDefs ds all → SpellsNames ns parameters
-      → Means (focus.Names block at n) frames (with_parameters (written_defs (written out x ++ item.NoDefs ∷ []) all ++ item.NoNames ∷ []) parameters)
+      → Means (focus.Names (definition_in block at n)) frames (with_parameters (written_defs (written out x ++ item.NoDefs ∷ []) all ++ item.NoNames ∷ []) parameters)
       (pre ++ (xs ++ terminal_at terminal.Where block ∷ (ds ++ terminal_at (terminal.Name n) at ∷ terminal_at terminal.Open open_at ∷ (ns ++ terminal_at terminal.Comma comma_at ∷ []))))
   has_names : {block at : ℕ} {n : List ℕ} (open_at : ℕ) {frames : List PlainFrame} {pre xs ds ns : List PlacedTerminal} {out : List PlainItem} {x : PlainTree} {all : PlainDefs} {parameters : List Parameter} → Context frames 0 pre out → Spells 0 xs x → SpellsDefs ds all → SpellsNames ns parameters
-      → Means (focus.Listed block at n) frames (with_parameters (written_defs (written out x ++ item.NoDefs ∷ []) all ++ item.NoNames ∷ []) parameters)
+      → Means (focus.Listed (definition_in block at n)) frames (with_parameters (written_defs (written out x ++ item.NoDefs ∷ []) all ++ item.NoNames ∷ []) parameters)
       (pre ++ (xs ++ terminal_at terminal.Where block ∷ (ds ++ terminal_at (terminal.Name n) at ∷ terminal_at terminal.Open open_at ∷ ns)))
   is_ready : {block at : ℕ} {n : List ℕ} (open_at close_at : ℕ) {frames : List PlainFrame} {pre xs ds ns : List PlacedTerminal} {out : List PlainItem} {x : PlainTree} {all : PlainDefs} {parameters : List Parameter} → Context frames 0 pre out → Spells 0 xs x → SpellsDefs ds all → SpellsNames ns parameters
-      → Means (focus.Ready block at n) frames (with_parameters (written_defs (written out x ++ item.NoDefs ∷ []) all ++ item.NoNames ∷ []) parameters)
+      → Means (focus.Ready (definition_in block at n)) frames (with_parameters (written_defs (written out x ++ item.NoDefs ∷ []) all ++ item.NoNames ∷ []) parameters)
       (pre ++ (xs ++ terminal_at terminal.Where block ∷ (ds ++ terminal_at (terminal.Name n) at ∷ terminal_at terminal.Open open_at ∷ (ns ++ terminal_at terminal.Close close_at ∷ []))))
 
 abbrev pub MeansAt : PlainState → List PlacedTerminal → Type 0
@@ -138,11 +140,11 @@ inner_has (frame.Yes at outer ∷ frames) level allowed out ts (has (in_yes then
 inner_has (frame.No at outer ∷ frames) level allowed out ts (has (in_no then_at else_at c x y) h s) = inside (in_no then_at else_at c x y) (looser s 0 zero-le)
 inner_has (frame.Arguments at n outer ∷ frames) level allowed out ts (has (in_first open_at c) h s) = inside (in_first open_at c) (looser s 0 zero-le)
 inner_has (frame.Arguments at n outer ∷ frames) level allowed out ts (has (in_more open_at comma_at c a) h s) = inside (in_more open_at comma_at c a) (looser s 0 zero-le)
-inner_has (frame.Operands operator at more outer ∷ frames) level allowed out ts (has (in_part open_at word is x) h s) = inside (in_part open_at word is x) (looser s 0 zero-le)
-inner_has (frame.Operands operator at more outer ∷ frames) level allowed out ts (has (in_parts open_at comma_at word is x a n) h s) = inside (in_parts open_at comma_at word is x a n) (looser s 0 zero-le)
-inner_has (frame.RightSide at d def_at n ∷ frames) level allowed out ts (has (in_right equals_at c x e) h s) = inside (in_right equals_at c x e) (looser s 0 zero-le)
-inner_has (frame.RightSide at d def_at n ∷ frames) level allowed out ts (has (in_current is_at current_at c x e) h s) = inside (in_current is_at current_at c x e) (looser s 0 zero-le)
-inner_has (frame.RightSide at d def_at n ∷ frames) level allowed out ts (has (in_function open_at close_at equals_at c x e ns) h s) = inside (in_function open_at close_at equals_at c x e ns) (looser s 0 zero-le)
+inner_has (frame.Operands called more ∷ frames) level allowed out ts (has (in_part open_at word is x) h s) = inside (in_part open_at word is x) (looser s 0 zero-le)
+inner_has (frame.Operands called more ∷ frames) level allowed out ts (has (in_parts open_at comma_at word is x a n) h s) = inside (in_parts open_at comma_at word is x a n) (looser s 0 zero-le)
+inner_has (frame.RightSide d this ∷ frames) level allowed out ts (has (in_right equals_at c x e) h s) = inside (in_right equals_at c x e) (looser s 0 zero-le)
+inner_has (frame.RightSide d this ∷ frames) level allowed out ts (has (in_current is_at current_at c x e) h s) = inside (in_current is_at current_at c x e) (looser s 0 zero-le)
+inner_has (frame.RightSide d this ∷ frames) level allowed out ts (has (in_function open_at close_at equals_at c x e ns) h s) = inside (in_function open_at close_at equals_at c x e ns) (looser s 0 zero-le)
 
 tests : (b : Bool) → (b ≡ true) ⊎ (b ≡ false)
 tests true = inl refl
@@ -244,16 +246,16 @@ closed_args place n allowed at frames out ts (inside {xs = ys} {x = y} (in_more 
     (has_out (has {level = 12} c (context_most c) (Grammar.spells_call {at = place} {p = open_at} at {n = n} (Grammar.spells_more comma_at a s)))
     (ap (λ l. l ++ item.Call place n ∷ []) (written_all-and (o ++ item.NoTrees ∷ []) all y))))
 
-closed_right : (block def_at : ℕ) (n : List ℕ) (at : ℕ) (defines : Defines) (frames : List PlainFrame) (out : List PlainItem) (ts : List PlacedTerminal) → Inside (frame.RightSide block defines def_at n ∷ frames) out ts
-    → MeansAt (state (focus.Heads block) frames (out ++ item.Def defines def_at n ∷ [])) (ts ++ terminal_at terminal.Semicolon at ∷ [])
+closed_right : (this : Definition (List ℕ)) (at : ℕ) (defines : Defines) (frames : List PlainFrame) (out : List PlainItem) (ts : List PlacedTerminal) → Inside (frame.RightSide defines this ∷ frames) out ts
+    → MeansAt (state (focus.Heads this.block) frames (out ++ item.Def defines this.at this.name ∷ [])) (ts ++ terminal_at terminal.Semicolon at ∷ [])
 unfolding written
-closed_right block def_at n at defines frames out ts (inside {xs = ys} {x = y} (in_right equals_at {out = o} {x = x} {all = all} c s d) t) =
+closed_right _ at defines frames out ts (inside {xs = ys} {x = y} (in_right {block = block} {at = def_at} {n = n} equals_at {out = o} {x = x} {all = all} c s d) t) =
     means_along (simp append_assoc)
     (means_out (heads {block = block} c s (Grammar.spells_def def_at n equals_at at d t)) (written_defs-and (written o x ++ item.NoDefs ∷ []) all def_at n Plain y))
-closed_right block def_at n at defines frames out ts (inside {xs = ys} {x = y} (in_current is_at current_at {out = o} {x = x} {all = all} c s d) t) =
+closed_right _ at defines frames out ts (inside {xs = ys} {x = y} (in_current {block = block} {at = def_at} {n = n} is_at current_at {out = o} {x = x} {all = all} c s d) t) =
     means_along (simp append_assoc)
     (means_out (heads {block = block} c s (Grammar.spells_current def_at n is_at current_at at d t)) (written_defs-and (written o x ++ item.NoDefs ∷ []) all def_at n Current y))
-closed_right block def_at n at defines frames out ts (inside {xs = ys} {x = y} (in_function open_at close_at equals_at {out = o} {x = x} {all = all} {parameters = parameters} c s d ns) t) =
+closed_right _ at defines frames out ts (inside {xs = ys} {x = y} (in_function {block = block} {at = def_at} {n = n} open_at close_at equals_at {out = o} {x = x} {all = all} {parameters = parameters} c s d ns) t) =
     means_along (simp append_assoc)
     (means_out (heads {block = block} c s (Grammar.spells_function def_at n open_at close_at equals_at at d ns t)) (written_defs-and (written o x ++ item.NoDefs ∷ []) all def_at n (Function parameters) y))
 
@@ -261,23 +263,23 @@ other_of : {A : Type 0} (b : Bool) (x y : A) → cond b None (Some x) ≡ Some y
 other_of true x y e = cc
 other_of false x y e = (refl, same_Some x y e)
 
-part_comma : (operator : Operator) (place more allowed at : ℕ) (frames : List PlainFrame) (out : List PlainItem) (ts : List PlacedTerminal) → (more ≡ 0 → ⊥) → Inside (frame.Operands operator place more allowed ∷ frames) out ts
-    → MeansAt (state (focus.Await 0) (frame.Operands operator place (more - 1) allowed ∷ frames) out) (ts ++ terminal_at terminal.Comma at ∷ [])
+part_comma : (called : CalledOperator) (more at : ℕ) (frames : List PlainFrame) (out : List PlainItem) (ts : List PlacedTerminal) → (more ≡ 0 → ⊥) → Inside (frame.Operands called more ∷ frames) out ts
+    → MeansAt (state (focus.Await 0) (frame.Operands called (more - 1) ∷ frames) out) (ts ++ terminal_at terminal.Comma at ∷ [])
 unfolding written
-part_comma operator place _ allowed at frames out ts some (inside (in_part open_at word is x) s) =
+part_comma _ _ at frames out ts some (inside (in_part {at = place} open_at word {operator = operator} is x) s) =
     awaits (along (simp append_assoc) (in_parts {at = place} open_at at word {operator = operator} is x (Grammar.spells_one s) (omega (arith, some, arity_positive operator))))
-part_comma operator place more allowed at frames out ts some (inside {xs = ys} {x = y} (in_parts open_at comma_at word {out = o} {all = all} is x a n) s) =
+part_comma _ more at frames out ts some (inside {xs = ys} {x = y} (in_parts {at = place} open_at comma_at word {operator = operator} {out = o} {all = all} is x a n) s) =
     awaits (along (simp append_assoc)
     (with_out (in_parts {at = place} {more = more - 1} open_at at word {operator = operator} is x (Grammar.spells_more comma_at a s) (omega (arith, some, n, count-and all y))) (written_parts-and o all y)))
 
-part_close : (operator : Operator) (place more allowed at : ℕ) (frames : List PlainFrame) (out : List PlainItem) (ts : List PlacedTerminal) → more ≡ 0 → Inside (frame.Operands operator place more allowed ∷ frames) out ts
-    → MeansAt (state (focus.Have 12 allowed) frames (out ++ item.Operator operator place ∷ [])) (ts ++ terminal_at terminal.Close at ∷ [])
+part_close : (called : CalledOperator) (more at : ℕ) (frames : List PlainFrame) (out : List PlainItem) (ts : List PlacedTerminal) → more ≡ 0 → Inside (frame.Operands called more ∷ frames) out ts
+    → MeansAt (state (focus.Have 12 called.allowed) frames (out ++ item.Operator called.op called.at ∷ [])) (ts ++ terminal_at terminal.Close at ∷ [])
 unfolding written
-part_close operator place _ allowed at frames out ts none (inside (in_part open_at word is x) s) =
+part_close _ _ at frames out ts none (inside (in_part {at = place} open_at word {operator = operator} is x) s) =
     holds (has_along (simp append_assoc)
     (has_out (has {level = 12} x (context_most x) (Grammar.spells_called {at = place} {p = open_at} at word operator is (omega (arith, none, arity_positive operator)) (Grammar.spells_one s)))
     (ap (λ i. out ++ i ∷ []) (node-operator operator place))))
-part_close operator place more allowed at frames out ts none (inside {xs = ys} {x = y} (in_parts open_at comma_at word {out = o} {all = all} is x a n) s) =
+part_close _ more at frames out ts none (inside {xs = ys} {x = y} (in_parts {at = place} open_at comma_at word {operator = operator} {out = o} {all = all} is x a n) s) =
     holds (has_along (simp append_assoc)
     (has_out (has {level = 12} x (context_most x) (Grammar.spells_called {at = place} {p = open_at} at word operator is (omega (arith, none, n, count-and all y)) (Grammar.spells_more comma_at a s)))
     (ap (λ l. l ++ node (head operator) place ∷ []) (written_parts-and o all y) ∙ ap (λ i. written (written_parts o all) y ++ i ∷ []) (node-operator operator place))))
@@ -291,13 +293,13 @@ after_means (frame.Yes place allowed) terminal.Else at frames out ts g i e = to 
 after_means (frame.No place allowed) terminal.Fi at frames out ts g i e = to (λ x. MeansAt x (ts ++ terminal_at terminal.Fi at ∷ [])) (closed_no place allowed at frames out ts i) (same_Some _ _ e)
 after_means (frame.Arguments place n allowed) terminal.Comma at frames out ts g i e = to (λ x. MeansAt x (ts ++ terminal_at terminal.Comma at ∷ [])) (argument_comma place n allowed at frames out ts i) (same_Some _ _ e)
 after_means (frame.Arguments place n allowed) terminal.Close at frames out ts g i e = to (λ x. MeansAt x (ts ++ terminal_at terminal.Close at ∷ [])) (closed_args place n allowed at frames out ts i) (same_Some _ _ e)
-after_means (frame.Operands operator place more allowed) terminal.Comma at frames out ts g i e =
+after_means (frame.Operands called more) terminal.Comma at frames out ts g i e =
     let o = other_of (nat_eq more 0) _ g e in
-    to (λ x. MeansAt x (ts ++ terminal_at terminal.Comma at ∷ [])) (part_comma operator place more allowed at frames out ts (eqb-false more 0 o.0) i) o.1
-after_means (frame.Operands operator place more allowed) terminal.Close at frames out ts g i e =
+    to (λ x. MeansAt x (ts ++ terminal_at terminal.Comma at ∷ [])) (part_comma called more at frames out ts (eqb-false more 0 o.0) i) o.1
+after_means (frame.Operands called more) terminal.Close at frames out ts g i e =
     let o = cond_some (nat_eq more 0) _ g e in
-    to (λ x. MeansAt x (ts ++ terminal_at terminal.Close at ∷ [])) (part_close operator place more allowed at frames out ts (eqb-true more 0 o.0) i) o.1
-after_means (frame.RightSide block d def_at n) terminal.Semicolon at frames out ts g i e = to (λ x. MeansAt x (ts ++ terminal_at terminal.Semicolon at ∷ [])) (closed_right block def_at n at d frames out ts i) (same_Some _ _ e)
+    to (λ x. MeansAt x (ts ++ terminal_at terminal.Close at ∷ [])) (part_close called more at frames out ts (eqb-true more 0 o.0) i) o.1
+after_means (frame.RightSide d this) terminal.Semicolon at frames out ts g i e = to (λ x. MeansAt x (ts ++ terminal_at terminal.Semicolon at ∷ [])) (closed_right this at d frames out ts i) (same_Some _ _ e)
 after_means _ _ at frames out ts g i e = cc
 
 -- a terminal that is no operator, after an operand
@@ -367,7 +369,7 @@ heads_means terminal.End at block frames out pre xs ds x all g c sx sd e =
 heads_means _ at block frames out pre xs ds x all g c sx sd e = cc
 
 headed_means : (next : PlainTerminal) (at block def_at : ℕ) (n : List ℕ) (frames : List PlainFrame) (out : List PlainItem) (pre xs ds : List PlacedTerminal) (x : PlainTree) (all : PlainDefs) (g : PlainState)
-    → Context frames 0 pre out → Spells 0 xs x → SpellsDefs ds all → step_headed next block def_at n frames (written_defs (written out x ++ item.NoDefs ∷ []) all) ≡ Some g
+    → Context frames 0 pre out → Spells 0 xs x → SpellsDefs ds all → step_headed next (definition_in block def_at n) frames (written_defs (written out x ++ item.NoDefs ∷ []) all) ≡ Some g
     → MeansAt g ((pre ++ (xs ++ terminal_at terminal.Where block ∷ (ds ++ terminal_at (terminal.Name n) def_at ∷ []))) ++ terminal_at next at ∷ [])
 headed_means terminal.Equals at block def_at n frames out pre xs ds x all g c sx sd e =
     to (λ y. MeansAt y ((pre ++ (xs ++ terminal_at terminal.Where block ∷ (ds ++ terminal_at (terminal.Name n) def_at ∷ []))) ++ terminal_at terminal.Equals at ∷ [])) (awaits (along (simp append_assoc) (in_right {block = block} {at = def_at} {n = n} at c sx sd))) (same_Some _ _ e)
@@ -378,14 +380,14 @@ headed_means terminal.Open at block def_at n frames out pre xs ds x all g c sx s
 headed_means _ at block def_at n frames out pre xs ds x all g c sx sd e = cc
 
 frozen_means : (next : PlainTerminal) (at block def_at : ℕ) (n : List ℕ) (is_at : ℕ) (frames : List PlainFrame) (out : List PlainItem) (pre xs ds : List PlacedTerminal) (x : PlainTree) (all : PlainDefs) (g : PlainState)
-    → Context frames 0 pre out → Spells 0 xs x → SpellsDefs ds all → step_frozen next block def_at n frames (written_defs (written out x ++ item.NoDefs ∷ []) all) ≡ Some g
+    → Context frames 0 pre out → Spells 0 xs x → SpellsDefs ds all → step_frozen next (definition_in block def_at n) frames (written_defs (written out x ++ item.NoDefs ∷ []) all) ≡ Some g
     → MeansAt g ((pre ++ (xs ++ terminal_at terminal.Where block ∷ (ds ++ terminal_at (terminal.Name n) def_at ∷ terminal_at terminal.Is is_at ∷ []))) ++ terminal_at next at ∷ [])
 frozen_means terminal.Current at block def_at n is_at frames out pre xs ds x all g c sx sd e =
     to (λ y. MeansAt y ((pre ++ (xs ++ terminal_at terminal.Where block ∷ (ds ++ terminal_at (terminal.Name n) def_at ∷ terminal_at terminal.Is is_at ∷ []))) ++ terminal_at terminal.Current at ∷ [])) (awaits (along (simp append_assoc) (in_current {block = block} {at = def_at} {n = n} is_at at c sx sd))) (same_Some _ _ e)
 frozen_means _ at block def_at n is_at frames out pre xs ds x all g c sx sd e = cc
 
 first_name_means : (next : PlainTerminal) (at block def_at : ℕ) (n : List ℕ) (open_at : ℕ) (frames : List PlainFrame) (out : List PlainItem) (pre xs ds : List PlacedTerminal) (x : PlainTree) (all : PlainDefs) (g : PlainState)
-    → Context frames 0 pre out → Spells 0 xs x → SpellsDefs ds all → step_names next at block def_at n frames (written_defs (written out x ++ item.NoDefs ∷ []) all ++ item.NoNames ∷ []) ≡ Some g
+    → Context frames 0 pre out → Spells 0 xs x → SpellsDefs ds all → step_names next at (definition_in block def_at n) frames (written_defs (written out x ++ item.NoDefs ∷ []) all ++ item.NoNames ∷ []) ≡ Some g
     → MeansAt g ((pre ++ (xs ++ terminal_at terminal.Where block ∷ (ds ++ terminal_at (terminal.Name n) def_at ∷ terminal_at terminal.Open open_at ∷ []))) ++ terminal_at next at ∷ [])
 first_name_means (terminal.Name name) at block def_at n open_at frames out pre xs ds x all g c sx sd e =
     to (λ y. MeansAt y ((pre ++ (xs ++ terminal_at terminal.Where block ∷ (ds ++ terminal_at (terminal.Name n) def_at ∷ terminal_at terminal.Open open_at ∷ []))) ++ terminal_at (terminal.Name name) at ∷ []))
@@ -393,7 +395,7 @@ first_name_means (terminal.Name name) at block def_at n open_at frames out pre x
 first_name_means _ at block def_at n open_at frames out pre xs ds x all g c sx sd e = cc
 
 next_name_means : (next : PlainTerminal) (at block def_at : ℕ) (n : List ℕ) (open_at comma_at : ℕ) (frames : List PlainFrame) (out : List PlainItem) (pre xs ds ns : List PlacedTerminal) (x : PlainTree) (all : PlainDefs) (parameters : List Parameter) (g : PlainState)
-    → Context frames 0 pre out → Spells 0 xs x → SpellsDefs ds all → SpellsNames ns parameters → step_names next at block def_at n frames (with_parameters (written_defs (written out x ++ item.NoDefs ∷ []) all ++ item.NoNames ∷ []) parameters) ≡ Some g
+    → Context frames 0 pre out → Spells 0 xs x → SpellsDefs ds all → SpellsNames ns parameters → step_names next at (definition_in block def_at n) frames (with_parameters (written_defs (written out x ++ item.NoDefs ∷ []) all ++ item.NoNames ∷ []) parameters) ≡ Some g
     → MeansAt g ((pre ++ (xs ++ terminal_at terminal.Where block ∷ (ds ++ terminal_at (terminal.Name n) def_at ∷ terminal_at terminal.Open open_at ∷ (ns ++ terminal_at terminal.Comma comma_at ∷ [])))) ++ terminal_at next at ∷ [])
 next_name_means (terminal.Name name) at block def_at n open_at comma_at frames out pre xs ds ns x all parameters g c sx sd sn e =
     to (λ y. MeansAt y ((pre ++ (xs ++ terminal_at terminal.Where block ∷ (ds ++ terminal_at (terminal.Name n) def_at ∷ terminal_at terminal.Open open_at ∷ (ns ++ terminal_at terminal.Comma comma_at ∷ [])))) ++ terminal_at (terminal.Name name) at ∷ []))
@@ -402,7 +404,7 @@ next_name_means (terminal.Name name) at block def_at n open_at comma_at frames o
 next_name_means _ at block def_at n open_at comma_at frames out pre xs ds ns x all parameters g c sx sd sn e = cc
 
 listed_means : (next : PlainTerminal) (at block def_at : ℕ) (n : List ℕ) (open_at : ℕ) (frames : List PlainFrame) (out : List PlainItem) (pre xs ds ns : List PlacedTerminal) (x : PlainTree) (all : PlainDefs) (parameters : List Parameter) (g : PlainState)
-    → Context frames 0 pre out → Spells 0 xs x → SpellsDefs ds all → SpellsNames ns parameters → step_listed next block def_at n frames (with_parameters (written_defs (written out x ++ item.NoDefs ∷ []) all ++ item.NoNames ∷ []) parameters) ≡ Some g
+    → Context frames 0 pre out → Spells 0 xs x → SpellsDefs ds all → SpellsNames ns parameters → step_listed next (definition_in block def_at n) frames (with_parameters (written_defs (written out x ++ item.NoDefs ∷ []) all ++ item.NoNames ∷ []) parameters) ≡ Some g
     → MeansAt g ((pre ++ (xs ++ terminal_at terminal.Where block ∷ (ds ++ terminal_at (terminal.Name n) def_at ∷ terminal_at terminal.Open open_at ∷ ns))) ++ terminal_at next at ∷ [])
 listed_means terminal.Comma at block def_at n open_at frames out pre xs ds ns x all parameters g c sx sd sn e =
     to (λ y. MeansAt y ((pre ++ (xs ++ terminal_at terminal.Where block ∷ (ds ++ terminal_at (terminal.Name n) def_at ∷ terminal_at terminal.Open open_at ∷ ns))) ++ terminal_at terminal.Comma at ∷ [])) (means_along (simp append_assoc) (more_names {block = block} {at = def_at} {n = n} open_at at c sx sd sn)) (same_Some _ _ e)
@@ -411,14 +413,14 @@ listed_means terminal.Close at block def_at n open_at frames out pre xs ds ns x 
 listed_means _ at block def_at n open_at frames out pre xs ds ns x all parameters g c sx sd sn e = cc
 
 ready_means : (next : PlainTerminal) (at block def_at : ℕ) (n : List ℕ) (open_at close_at : ℕ) (frames : List PlainFrame) (out : List PlainItem) (pre xs ds ns : List PlacedTerminal) (x : PlainTree) (all : PlainDefs) (parameters : List Parameter) (g : PlainState)
-    → Context frames 0 pre out → Spells 0 xs x → SpellsDefs ds all → SpellsNames ns parameters → step_ready next block def_at n frames (with_parameters (written_defs (written out x ++ item.NoDefs ∷ []) all ++ item.NoNames ∷ []) parameters) ≡ Some g
+    → Context frames 0 pre out → Spells 0 xs x → SpellsDefs ds all → SpellsNames ns parameters → step_ready next (definition_in block def_at n) frames (with_parameters (written_defs (written out x ++ item.NoDefs ∷ []) all ++ item.NoNames ∷ []) parameters) ≡ Some g
     → MeansAt g ((pre ++ (xs ++ terminal_at terminal.Where block ∷ (ds ++ terminal_at (terminal.Name n) def_at ∷ terminal_at terminal.Open open_at ∷ (ns ++ terminal_at terminal.Close close_at ∷ [])))) ++ terminal_at next at ∷ [])
 ready_means terminal.Equals at block def_at n open_at close_at frames out pre xs ds ns x all parameters g c sx sd sn e =
     to (λ y. MeansAt y ((pre ++ (xs ++ terminal_at terminal.Where block ∷ (ds ++ terminal_at (terminal.Name n) def_at ∷ terminal_at terminal.Open open_at ∷ (ns ++ terminal_at terminal.Close close_at ∷ [])))) ++ terminal_at terminal.Equals at ∷ [])) (awaits (along (simp append_assoc) (in_function {block = block} {at = def_at} {n = n} open_at close_at at c sx sd sn))) (same_Some _ _ e)
 ready_means _ at block def_at n open_at close_at frames out pre xs ds ns x all parameters g c sx sd sn e = cc
 
 opens_means : (next : PlainTerminal) (at place allowed : ℕ) (word : PlainTerminal) (operator : Operator) (frames : List PlainFrame) (out : List PlainItem) (ts : List PlacedTerminal) (g : PlainState)
-    → operator_in Called word ≡ Some operator → Context frames allowed ts out → step_opens next operator place allowed frames out ≡ Some g → MeansAt g ((ts ++ terminal_at word place ∷ []) ++ terminal_at next at ∷ [])
+    → operator_in Called word ≡ Some operator → Context frames allowed ts out → step_opens next (called_at operator place allowed) frames out ≡ Some g → MeansAt g ((ts ++ terminal_at word place ∷ []) ++ terminal_at next at ∷ [])
 opens_means terminal.Open at place allowed word operator frames out ts g is c e =
     to (λ x. MeansAt x ((ts ++ terminal_at word place ∷ []) ++ terminal_at terminal.Open at ∷ [])) (awaits (along (simp append_assoc) (in_part {at = place} at word {operator = operator} is c))) (same_Some _ _ e)
 opens_means _ at place allowed word operator frames out ts g is c e = cc

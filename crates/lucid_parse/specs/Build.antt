@@ -8,6 +8,7 @@ use Rattle.lucid_tree.specs.declared.tree.Def.{Def}
 use Rattle.lucid_tree.specs.declared.tree.DefKind.{DefKind}
 use Rattle.lucid_tree.specs.declared.tree.DefKind.TheVariants as def_kind
 use Rattle.lucid_parse.specs.declared.state.Item.TheVariants as item
+use Rattle.lucid_parse.specs.declared.state.Defines.{Defines}
 use Rattle.lucid_parse.specs.declared.state.Defines.TheVariants as kind
 use Rattle.lucid_parse.specs.declared.build.Piles as code
 use Rattle.lucid_parse.specs.Grammar.{head, arity_of}
@@ -36,6 +37,13 @@ gather zero rest parts = Some (parts, rest)
 gather (suc more) [] parts = None
 gather (suc more) (last ∷ rest) parts = gather more rest (tree last parts)
 
+-- what a definition of this kind, with this right side, says of its name, and what is under a function's parameters on their piles
+abbrev pub describe : Defines → PlainTree → List (List (List ℕ)) → List (List ℕ) → Option (DefKind × List (List (List ℕ)) × List (List ℕ))
+describe kind.Plain right_side names places = Some (def_kind.Plain right_side, names, places)
+describe kind.Current right_side names places = Some (def_kind.Current right_side, names, places)
+describe kind.Function right_side (parameters ∷ names) (theirs ∷ places) = Some (def_kind.Function parameters theirs right_side, names, places)
+describe _ _ _ _ = None
+
 abbrev pub put : PlainItem → List PlainTree → List (List PlainTree) → List (List (List ℕ)) → List (List ℕ) → List (List Def) → Option PlainPiles
 put (item.Const at value) trees lists names places blocks = Some (piles (form at (const value) no_trees ∷ trees) lists names places blocks)
 put (item.Name at n) trees lists names places blocks = Some (piles (name at n ∷ trees) lists names places blocks)
@@ -48,12 +56,8 @@ put (item.Call at n) trees (list ∷ lists) names places blocks = Some (piles (c
 put item.NoNames trees lists names places blocks = Some (piles trees lists ([] ∷ names) ([] ∷ places) blocks)
 put (item.Param at n) trees lists (parameters ∷ names) (theirs ∷ places) blocks = Some (piles trees lists ((parameters ++ n ∷ []) ∷ names) ((theirs ++ at ∷ []) ∷ places) blocks)
 put item.NoDefs trees lists names places blocks = Some (piles trees lists names places ([] ∷ blocks))
-put (item.Def kind.Plain at n) (right_side ∷ trees) lists names places (defs ∷ blocks) =
-    Some (piles trees lists names places ((defs ++ definition at n (def_kind.Plain right_side) ∷ []) ∷ blocks))
-put (item.Def kind.Current at n) (right_side ∷ trees) lists names places (defs ∷ blocks) =
-    Some (piles trees lists names places ((defs ++ definition at n (def_kind.Current right_side) ∷ []) ∷ blocks))
-put (item.Def kind.Function at n) (right_side ∷ trees) lists (parameters ∷ names) (theirs ∷ places) (defs ∷ blocks) =
-    Some (piles trees lists names places ((defs ++ definition at n (def_kind.Function parameters theirs right_side) ∷ []) ∷ blocks))
+put (item.Def defines at n) (right_side ∷ trees) lists names places (defs ∷ blocks) =
+    option_and_then (λ all. Some (piles trees lists all.1 all.2 ((defs ++ definition at n all.0 ∷ []) ∷ blocks))) (describe defines right_side names places)
 put (item.Block at) (subject ∷ trees) lists names places (defs ∷ blocks) = Some (piles (block at subject (defs_of defs) ∷ trees) lists names places blocks)
 put _ _ _ _ _ _ = None
 
@@ -64,14 +68,22 @@ abbrev pub built : List PlainItem → PlainPiles → Option PlainPiles
 built [] held = Some held
 built (node ∷ more) held = option_and_then (built more) (put_on node held)
 
--- the plain form of the code's piles
+-- the plain form of a pile of lists, and of the code's piles
+abbrev pub all_items : {A : Type 0} → List (Vec A Global) → List (List A)
+all_items lists = map (λ list. list.items) lists
+
 abbrev pub plain_piles : code.Piles → PlainPiles
-plain_piles held = piles held.trees (map (λ v. v.items) held.lists) (map (λ v. v.items) held.names) (map (λ v. v.items) held.places) (map (λ v. v.items) held.blocks)
+plain_piles held = piles held.trees (all_items held.lists) (all_items held.names) (all_items held.places) (all_items held.blocks)
 
 -- the node took its parts where the answer is true, and lacks one where it is false
 abbrev pub Puts : {E : Type 0} → Result Bool E → code.Piles → Option PlainPiles → Type 0
 Puts (Ok there) now wanted = MatchBool there (wanted ≡ Some (plain_piles now)) (wanted ≡ None)
 Puts (Err error) now wanted = Unit {0}
+
+-- the description took its parameters off the piles where there is one, and lacks them where there is none
+abbrev pub Describes : Option DefKind → List (Vec (List ℕ) Global) → List (Vec ℕ Global) → Option (DefKind × List (List (List ℕ)) × List (List ℕ)) → Type 0
+Describes (Some described) names places wanted = wanted ≡ Some (described, all_items names, all_items places)
+Describes None names places wanted = wanted ≡ None
 
 -- so many trees were taken off the pile, where there were as many
 abbrev pub Takes : ℕ → List PlainTree → Option (Vec PlainTree Global) → List PlainTree → Type 0

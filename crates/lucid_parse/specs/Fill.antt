@@ -2,13 +2,14 @@
 use Rattle.std.specs.Prelude.{map}
 use Rattle.lucid_parse.specs.declared.terminal.Terminal.{Terminal}
 use Rattle.lucid_parse.specs.declared.terminal.Terminal.TheVariants as terminal
+use Rattle.lucid_parse.specs.declared.state.Definition.{Definition}
 use Rattle.lucid_parse.specs.declared.state.Frame.{Frame}
 use Rattle.lucid_parse.specs.declared.state.Frame.TheVariants as frame
 use Rattle.lucid_parse.specs.declared.state.Focus.{Focus}
 use Rattle.lucid_parse.specs.declared.state.Focus.TheVariants as focus
 use Rattle.lucid_parse.specs.declared.state.Item.{Item}
 use Rattle.lucid_parse.specs.declared.state.Item.TheVariants as item
-use Rattle.lucid_parse.specs.Machine.{State, state}
+use Rattle.lucid_parse.specs.Machine.{State, state, definition_in}
 
 abbrev pub fill_terminal : {M N V W : Type 0} → (M → N) → (V → W) → Terminal M V → Terminal N W
 fill_terminal on_name on_value (terminal.Name name) = terminal.Name (on_name name)
@@ -29,6 +30,9 @@ fill_terminal on_name on_value terminal.Comma = terminal.Comma
 fill_terminal on_name on_value terminal.Semicolon = terminal.Semicolon
 fill_terminal on_name on_value terminal.Equals = terminal.Equals
 
+abbrev pub fill_definition : {M N : Type 0} → (M → N) → Definition M → Definition N
+fill_definition on_name this = definition_in this.block this.at (on_name this.name)
+
 abbrev pub fill_frame : {M N : Type 0} → (M → N) → Frame M → Frame N
 fill_frame on_name (frame.Operator operator at allowed) = frame.Operator operator at allowed
 fill_frame on_name (frame.Parenthesis allowed) = frame.Parenthesis allowed
@@ -36,20 +40,20 @@ fill_frame on_name (frame.Test at allowed) = frame.Test at allowed
 fill_frame on_name (frame.Yes at allowed) = frame.Yes at allowed
 fill_frame on_name (frame.No at allowed) = frame.No at allowed
 fill_frame on_name (frame.Arguments at name allowed) = frame.Arguments at (on_name name) allowed
-fill_frame on_name (frame.Operands operator at more allowed) = frame.Operands operator at more allowed
-fill_frame on_name (frame.RightSide block defines at name) = frame.RightSide block defines at (on_name name)
+fill_frame on_name (frame.Operands called more) = frame.Operands called more
+fill_frame on_name (frame.RightSide defines this) = frame.RightSide defines (fill_definition on_name this)
 
 abbrev pub fill_focus : {M N : Type 0} → (M → N) → Focus M → Focus N
 fill_focus on_name (focus.Await allowed) = focus.Await allowed
 fill_focus on_name (focus.Named at name allowed) = focus.Named at (on_name name) allowed
-fill_focus on_name (focus.Opens operator at allowed) = focus.Opens operator at allowed
+fill_focus on_name (focus.Opens called) = focus.Opens called
 fill_focus on_name (focus.Have level allowed) = focus.Have level allowed
 fill_focus on_name (focus.Heads block) = focus.Heads block
-fill_focus on_name (focus.Headed block at name) = focus.Headed block at (on_name name)
-fill_focus on_name (focus.Frozen block at name) = focus.Frozen block at (on_name name)
-fill_focus on_name (focus.Names block at name) = focus.Names block at (on_name name)
-fill_focus on_name (focus.Listed block at name) = focus.Listed block at (on_name name)
-fill_focus on_name (focus.Ready block at name) = focus.Ready block at (on_name name)
+fill_focus on_name (focus.Headed this) = focus.Headed (fill_definition on_name this)
+fill_focus on_name (focus.Frozen this) = focus.Frozen (fill_definition on_name this)
+fill_focus on_name (focus.Names this) = focus.Names (fill_definition on_name this)
+fill_focus on_name (focus.Listed this) = focus.Listed (fill_definition on_name this)
+fill_focus on_name (focus.Ready this) = focus.Ready (fill_definition on_name this)
 
 abbrev pub fill_item : {M N V W : Type 0} → (M → N) → (V → W) → Item M V → Item N W
 fill_item on_name on_value (item.Const at value) = item.Const at (on_value value)

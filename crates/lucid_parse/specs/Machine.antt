@@ -5,6 +5,8 @@ use Rattle.lucid_ops.specs.declared.op.Form.TheVariants.{Before, Between, Called
 use Rattle.lucid_parse.specs.declared.terminal.Terminal.{Terminal}
 use Rattle.lucid_parse.specs.declared.terminal.Terminal.TheVariants as terminal
 use Rattle.lucid_parse.specs.declared.state.Defines.TheVariants as kind
+use Rattle.lucid_parse.specs.declared.state.CalledOperator.{CalledOperator}
+use Rattle.lucid_parse.specs.declared.state.Definition.{Definition}
 use Rattle.lucid_parse.specs.declared.state.Frame.{Frame}
 use Rattle.lucid_parse.specs.declared.state.Frame.TheVariants as frame
 use Rattle.lucid_parse.specs.declared.state.Focus.{Focus}
@@ -23,7 +25,14 @@ pub record State (N V : Type 0) : Type 0 where
 abbrev pub state : {N V : Type 0} → Focus N → List (Frame N) → List (Item N V) → State N V
 state focus frames out = record { focus = focus; frames = frames; out = out }
 
--- the same over names as bytes and constants as values
+-- a called operator at a place that allows a level, and a definition of the block at a place
+abbrev pub called_at : Operator → (at allowed : ℕ) → CalledOperator
+called_at operator at allowed = record { op = operator; at = at; allowed = allowed }
+
+abbrev pub definition_in : {N : Type 0} → (block at : ℕ) → N → Definition N
+definition_in block at name = record { block = block; at = at; name = name }
+
+-- what the machine keeps, over names as bytes and constants as values
 abbrev pub PlainFrame : Type 0
 PlainFrame = Frame (List ℕ)
 
@@ -65,9 +74,9 @@ after_frame (frame.Yes at allowed) terminal.Else frames out = Some (state (focus
 after_frame (frame.No at allowed) terminal.Fi frames out = Some (state (focus.Have 12 allowed) frames (out ++ item.If at ∷ []))
 after_frame (frame.Arguments at name allowed) terminal.Comma frames out = Some (state (focus.Await 0) (frame.Arguments at name allowed ∷ frames) (out ++ item.More ∷ []))
 after_frame (frame.Arguments at name allowed) terminal.Close frames out = Some (state (focus.Have 12 allowed) frames ((out ++ item.More ∷ []) ++ item.Call at name ∷ []))
-after_frame (frame.Operands called at more allowed) terminal.Comma frames out = cond (nat_eq more 0) None (Some (state (focus.Await 0) (frame.Operands called at (more - 1) allowed ∷ frames) out))
-after_frame (frame.Operands called at more allowed) terminal.Close frames out = cond (nat_eq more 0) (Some (state (focus.Have 12 allowed) frames (out ++ item.Operator called at ∷ []))) None
-after_frame (frame.RightSide block defines at name) terminal.Semicolon frames out = Some (state (focus.Heads block) frames (out ++ item.Def defines at name ∷ []))
+after_frame (frame.Operands called more) terminal.Comma frames out = cond (nat_eq more 0) None (Some (state (focus.Await 0) (frame.Operands called (more - 1) ∷ frames) out))
+after_frame (frame.Operands called more) terminal.Close frames out = cond (nat_eq more 0) (Some (state (focus.Have 12 called.allowed) frames (out ++ item.Operator called.op called.at ∷ []))) None
+after_frame (frame.RightSide defines this) terminal.Semicolon frames out = Some (state (focus.Heads this.block) frames (out ++ item.Def defines this.at this.name ∷ []))
 after_frame _ _ _ _ = None
 
 abbrev pub close_top : {N V : Type 0} → Terminal N V → List (Frame N) → List (Item N V) → Option (State N V)
@@ -93,7 +102,7 @@ prefixed (Some operator) at allowed frames out = cond (nat_le allowed (level_of 
 
 -- an operator that begins an operand: one that is called, or one before its operand
 abbrev pub begun : {N V : Type 0} → Option Operator → Option Operator → (at allowed : ℕ) → List (Frame N) → List (Item N V) → Option (State N V)
-begun (Some called) before at allowed frames out = Some (state (focus.Opens called at allowed) frames out)
+begun (Some called) before at allowed frames out = Some (state (focus.Opens (called_at called at allowed)) frames out)
 begun None before at allowed frames out = prefixed before at allowed frames out
 
 -- a terminal that begins an operand
@@ -109,48 +118,48 @@ step_named terminal.Open next at name allowed frames out = Some (state (focus.Aw
 step_named terminal next at name allowed frames out = settle terminal next 12 allowed frames (out ++ item.Name at name ∷ [])
 
 abbrev pub step_heads : {N V : Type 0} → Terminal N V → (next block : ℕ) → List (Frame N) → List (Item N V) → Option (State N V)
-step_heads (terminal.Name name) next block frames out = Some (state (focus.Headed block next name) frames out)
+step_heads (terminal.Name name) next block frames out = Some (state (focus.Headed (definition_in block next name)) frames out)
 step_heads terminal.End next block frames out = Some (state (focus.Have 0 0) frames (out ++ item.Block block ∷ []))
 step_heads _ _ _ _ _ = None
 
-abbrev pub step_headed : {N V : Type 0} → Terminal N V → (block at : ℕ) → N → List (Frame N) → List (Item N V) → Option (State N V)
-step_headed terminal.Equals block at name frames out = Some (state (focus.Await 0) (frame.RightSide block kind.Plain at name ∷ frames) out)
-step_headed terminal.Is block at name frames out = Some (state (focus.Frozen block at name) frames out)
-step_headed terminal.Open block at name frames out = Some (state (focus.Names block at name) frames (out ++ item.NoNames ∷ []))
-step_headed _ _ _ _ _ _ = None
+abbrev pub step_headed : {N V : Type 0} → Terminal N V → Definition N → List (Frame N) → List (Item N V) → Option (State N V)
+step_headed terminal.Equals this frames out = Some (state (focus.Await 0) (frame.RightSide kind.Plain this ∷ frames) out)
+step_headed terminal.Is this frames out = Some (state (focus.Frozen this) frames out)
+step_headed terminal.Open this frames out = Some (state (focus.Names this) frames (out ++ item.NoNames ∷ []))
+step_headed _ _ _ _ = None
 
-abbrev pub step_frozen : {N V : Type 0} → Terminal N V → (block at : ℕ) → N → List (Frame N) → List (Item N V) → Option (State N V)
-step_frozen terminal.Current block at name frames out = Some (state (focus.Await 0) (frame.RightSide block kind.Current at name ∷ frames) out)
-step_frozen _ _ _ _ _ _ = None
+abbrev pub step_frozen : {N V : Type 0} → Terminal N V → Definition N → List (Frame N) → List (Item N V) → Option (State N V)
+step_frozen terminal.Current this frames out = Some (state (focus.Await 0) (frame.RightSide kind.Current this ∷ frames) out)
+step_frozen _ _ _ _ = None
 
-abbrev pub step_names : {N V : Type 0} → Terminal N V → (next block at : ℕ) → N → List (Frame N) → List (Item N V) → Option (State N V)
-step_names (terminal.Name parameter) next block at name frames out = Some (state (focus.Listed block at name) frames (out ++ item.Param next parameter ∷ []))
-step_names _ _ _ _ _ _ _ = None
+abbrev pub step_names : {N V : Type 0} → Terminal N V → (next : ℕ) → Definition N → List (Frame N) → List (Item N V) → Option (State N V)
+step_names (terminal.Name parameter) next this frames out = Some (state (focus.Listed this) frames (out ++ item.Param next parameter ∷ []))
+step_names _ _ _ _ _ = None
 
-abbrev pub step_listed : {N V : Type 0} → Terminal N V → (block at : ℕ) → N → List (Frame N) → List (Item N V) → Option (State N V)
-step_listed terminal.Comma block at name frames out = Some (state (focus.Names block at name) frames out)
-step_listed terminal.Close block at name frames out = Some (state (focus.Ready block at name) frames out)
-step_listed _ _ _ _ _ _ = None
+abbrev pub step_listed : {N V : Type 0} → Terminal N V → Definition N → List (Frame N) → List (Item N V) → Option (State N V)
+step_listed terminal.Comma this frames out = Some (state (focus.Names this) frames out)
+step_listed terminal.Close this frames out = Some (state (focus.Ready this) frames out)
+step_listed _ _ _ _ = None
 
-abbrev pub step_ready : {N V : Type 0} → Terminal N V → (block at : ℕ) → N → List (Frame N) → List (Item N V) → Option (State N V)
-step_ready terminal.Equals block at name frames out = Some (state (focus.Await 0) (frame.RightSide block kind.Function at name ∷ frames) out)
-step_ready _ _ _ _ _ _ = None
+abbrev pub step_ready : {N V : Type 0} → Terminal N V → Definition N → List (Frame N) → List (Item N V) → Option (State N V)
+step_ready terminal.Equals this frames out = Some (state (focus.Await 0) (frame.RightSide kind.Function this ∷ frames) out)
+step_ready _ _ _ _ = None
 
-abbrev pub step_opens : {N V : Type 0} → Terminal N V → Operator → (at allowed : ℕ) → List (Frame N) → List (Item N V) → Option (State N V)
-step_opens terminal.Open called at allowed frames out = Some (state (focus.Await 0) (frame.Operands called at (arity_of called - 1) allowed ∷ frames) out)
-step_opens _ _ _ _ _ _ = None
+abbrev pub step_opens : {N V : Type 0} → Terminal N V → CalledOperator → List (Frame N) → List (Item N V) → Option (State N V)
+step_opens terminal.Open called frames out = Some (state (focus.Await 0) (frame.Operands called (arity_of called.op - 1) ∷ frames) out)
+step_opens _ _ _ _ = None
 
 abbrev pub step_at : {N V : Type 0} → Focus N → Terminal N V → (next : ℕ) → List (Frame N) → List (Item N V) → Option (State N V)
 step_at (focus.Await allowed) terminal next frames out = begin terminal next allowed frames out
 step_at (focus.Named at name allowed) terminal next frames out = step_named terminal next at name allowed frames out
 step_at (focus.Have level allowed) terminal next frames out = settle terminal next level allowed frames out
 step_at (focus.Heads block) terminal next frames out = step_heads terminal next block frames out
-step_at (focus.Headed block at name) terminal next frames out = step_headed terminal block at name frames out
-step_at (focus.Frozen block at name) terminal next frames out = step_frozen terminal block at name frames out
-step_at (focus.Names block at name) terminal next frames out = step_names terminal next block at name frames out
-step_at (focus.Listed block at name) terminal next frames out = step_listed terminal block at name frames out
-step_at (focus.Ready block at name) terminal next frames out = step_ready terminal block at name frames out
-step_at (focus.Opens called at allowed) terminal next frames out = step_opens terminal called at allowed frames out
+step_at (focus.Headed this) terminal next frames out = step_headed terminal this frames out
+step_at (focus.Frozen this) terminal next frames out = step_frozen terminal this frames out
+step_at (focus.Names this) terminal next frames out = step_names terminal next this frames out
+step_at (focus.Listed this) terminal next frames out = step_listed terminal this frames out
+step_at (focus.Ready this) terminal next frames out = step_ready terminal this frames out
+step_at (focus.Opens called) terminal next frames out = step_opens terminal called frames out
 
 abbrev pub step : {N V : Type 0} → State N V → Terminal N V → (next : ℕ) → Option (State N V)
 step machine terminal next = step_at machine.focus terminal next machine.frames machine.out
@@ -196,20 +205,13 @@ Steps (Err error) frames out target = Unit {0}
 -- a definition's head, or the end of the block
 abbrev pub IsAtHead : {N : Type 0} → Focus N → Type 0
 IsAtHead (focus.Heads block) = Unit {0}
-IsAtHead (focus.Headed block at name) = Unit {0}
-IsAtHead (focus.Frozen block at name) = Unit {0}
+IsAtHead (focus.Headed this) = Unit {0}
+IsAtHead (focus.Frozen this) = Unit {0}
 IsAtHead _ = ⊥
 
 -- a definition's parameters, or what follows them
 abbrev pub IsAtParameters : {N : Type 0} → Focus N → Type 0
-IsAtParameters (focus.Names block at name) = Unit {0}
-IsAtParameters (focus.Listed block at name) = Unit {0}
-IsAtParameters (focus.Ready block at name) = Unit {0}
+IsAtParameters (focus.Names this) = Unit {0}
+IsAtParameters (focus.Listed this) = Unit {0}
+IsAtParameters (focus.Ready this) = Unit {0}
 IsAtParameters _ = ⊥
-
--- a part of an `if`
-abbrev pub IsOfIf : {N : Type 0} → Frame N → Type 0
-IsOfIf (frame.Test at allowed) = Unit {0}
-IsOfIf (frame.Yes at allowed) = Unit {0}
-IsOfIf (frame.No at allowed) = Unit {0}
-IsOfIf _ = ⊥

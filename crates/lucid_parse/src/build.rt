@@ -8,7 +8,7 @@ ghost use Rattle.lucid_parse.specs.Grammar.{Spells, PlacedTerminal};
 ghost use Rattle.lucid_parse.specs.Fill.{fill_item};
 ghost use Rattle.lucid_parse.specs.Flat.{written};
 ghost use Rattle.lucid_parse.specs.Views.{items_of, name_now, value_now};
-ghost use Rattle.lucid_parse.specs.Build.{Takes, no_piles, plain_piles, put_on, Puts};
+ghost use Rattle.lucid_parse.specs.Build.{all_items, describe, Describes, Takes, no_piles, plain_piles, put_on, Puts};
 
 use crate::state::{BorrowedItem, Defines, Item};
 use lucid_forms::Operator;
@@ -44,6 +44,27 @@ fn pop_parts(
     }
     parts.reverse();
     Ok(Some(parts))
+}
+
+// What a definition of this kind says of its name; a function's parameters are taken off the piles, or nothing is answered where
+// there are none.
+fn describe(
+    names: &mut Stack<Vec<Name>>,
+    places: &mut Stack<Vec<u32>>,
+    defines: Defines,
+    right: Tree,
+) -> Option<DefKind>
+    ensures { Describes result names.new places.new (describe defines right (all_items names.old) (all_items places.old)) }
+{
+    match defines {
+        Defines::Plain => Some(DefKind::Plain { right }),
+        Defines::Current => Some(DefKind::Current { right }),
+        Defines::Function => Some(DefKind::Function {
+            parameters: Names::from_vec(names.pop()?),
+            places: Places32::from_vec(places.pop()?),
+            right,
+        }),
+    }
 }
 
 impl Piles {
@@ -116,10 +137,7 @@ impl Piles {
     fn put_more(&mut self) -> Result<bool, AllocError>
         ensures { Puts result self.new (put_on Item.More (plain_piles self.old)) }
     {
-        let Some(tree) = self.trees.pop() else {
-            return Ok(false);
-        };
-        let Some(mut list) = self.lists.pop() else {
+        let (Some(tree), Some(mut list)) = (self.trees.pop(), self.lists.pop()) else {
             return Ok(false);
         };
         list.push(tree)?;
@@ -169,59 +187,16 @@ impl Piles {
         Ok(true)
     }
 
-    fn put_plain(&mut self, at: u32, name: &Name) -> Result<bool, AllocError>
-        ensures { Puts result self.new (put_on (Item.Def Defines.Plain at name.now) (plain_piles self.old)) }
+    fn put_def(&mut self, defines: Defines, at: u32, name: &Name) -> Result<bool, AllocError>
+        ensures { Puts result self.new (put_on (Item.Def defines at name.now) (plain_piles self.old)) }
     {
-        let Some(right) = self.trees.pop() else {
+        let (Some(right), Some(mut defs)) = (self.trees.pop(), self.blocks.pop()) else {
             return Ok(false);
         };
-        let Some(mut defs) = self.blocks.pop() else {
+        let Some(kind) = describe(&mut self.names, &mut self.places, defines, right) else {
             return Ok(false);
         };
         let name = name.copy()?;
-        let kind = DefKind::Plain { right };
-        defs.push(Def { at, name, kind })?;
-        self.blocks.push(defs)?;
-        Ok(true)
-    }
-
-    fn put_current(&mut self, at: u32, name: &Name) -> Result<bool, AllocError>
-        ensures { Puts result self.new (put_on (Item.Def Defines.Current at name.now) (plain_piles self.old)) }
-    {
-        let Some(right) = self.trees.pop() else {
-            return Ok(false);
-        };
-        let Some(mut defs) = self.blocks.pop() else {
-            return Ok(false);
-        };
-        let name = name.copy()?;
-        let kind = DefKind::Current { right };
-        defs.push(Def { at, name, kind })?;
-        self.blocks.push(defs)?;
-        Ok(true)
-    }
-
-    fn put_function(&mut self, at: u32, name: &Name) -> Result<bool, AllocError>
-        ensures { Puts result self.new (put_on (Item.Def Defines.Function at name.now) (plain_piles self.old)) }
-    {
-        let Some(right) = self.trees.pop() else {
-            return Ok(false);
-        };
-        let Some(names) = self.names.pop() else {
-            return Ok(false);
-        };
-        let Some(places) = self.places.pop() else {
-            return Ok(false);
-        };
-        let Some(mut defs) = self.blocks.pop() else {
-            return Ok(false);
-        };
-        let name = name.copy()?;
-        let kind = DefKind::Function {
-            parameters: Names::from_vec(names),
-            places: Places32::from_vec(places),
-            right,
-        };
         defs.push(Def { at, name, kind })?;
         self.blocks.push(defs)?;
         Ok(true)
@@ -230,10 +205,7 @@ impl Piles {
     fn put_block(&mut self, alloc: Global, at: u32) -> Result<bool, AllocError>
         ensures { Puts result self.new (put_on (Item.Block at) (plain_piles self.old)) }
     {
-        let Some(subject) = self.trees.pop() else {
-            return Ok(false);
-        };
-        let Some(items) = self.blocks.pop() else {
+        let (Some(subject), Some(items)) = (self.trees.pop(), self.blocks.pop()) else {
             return Ok(false);
         };
         let defs = Defs::from_vec(items);
@@ -257,21 +229,7 @@ impl Piles {
             Item::NoNames => self.put_no_names(alloc),
             Item::Param { at, name } => self.put_param(at, name),
             Item::NoDefs => self.put_no_defs(alloc),
-            Item::Def {
-                defines: Defines::Plain,
-                at,
-                name,
-            } => self.put_plain(at, name),
-            Item::Def {
-                defines: Defines::Current,
-                at,
-                name,
-            } => self.put_current(at, name),
-            Item::Def {
-                defines: Defines::Function,
-                at,
-                name,
-            } => self.put_function(at, name),
+            Item::Def { defines, at, name } => self.put_def(defines, at, name),
             Item::Block { at } => self.put_block(alloc, at),
         }
     }

@@ -37,9 +37,7 @@ fn push_below<N: Copy, V: Copy>(
         } => push_times(depths, 3, depth),
         Item::More | Item::Def { .. } => push_times(depths, 2, depth),
         Item::Param { .. } => push_times(depths, 1, depth),
-        Item::Const { .. } | Item::Name { .. } | Item::NoTrees | Item::NoNames | Item::NoDefs => Ok(
-            (),
-        ),
+        _ => Ok(()),
     }
 }
 
@@ -67,12 +65,7 @@ fn found_with<N: Copy, V: Copy>(best: Option<u32>, item: Item<N, V>, depth: u32)
         | Item::If { at }
         | Item::Call { at, .. }
         | Item::Block { at } => lesser_of(best, depth, at),
-        Item::NoTrees
-        | Item::More
-        | Item::NoNames
-        | Item::Param { .. }
-        | Item::NoDefs
-        | Item::Def { .. } => best,
+        _ => best,
     }
 }
 

@@ -7,7 +7,6 @@ pub use crate::refusal::ParseRefusal;
 mod build;
 mod depth;
 pub mod laws;
-mod level;
 mod machine;
 mod nodes;
 mod parser;

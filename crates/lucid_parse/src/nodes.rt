@@ -5,7 +5,7 @@ ghost use Rattle.lucid_parse.specs.Machine.{nodes};
 ghost use Rattle.lucid_parse.specs.Views.{items_of, terminals_of};
 ghost use Rattle.lucid_parse.specs.Refused.{AreRefused};
 
-use crate::machine::{finish_to, step_to};
+use crate::machine::Machine;
 use crate::refusal::ParseRefusal;
 use crate::state::{BorrowedItem, Focus};
 use crate::terminal::TerminalAt;
@@ -21,23 +21,18 @@ pub fn read_nodes(
     ensures ok { IfOk result (λ items. nodes (terminals_of terminals.now) ≡ Some (items_of items.items)) }
     ensures refused { IfErr result (λ refusal. AreRefused refusal (terminals_of terminals.now) end) }
 {
-    let mut frames = Stack::new(alloc);
-    let mut out = Vec::new(alloc);
+    let frames = Stack::new(alloc);
+    let out = Vec::new(alloc);
+    let mut machine = Machine { frames, out };
     let mut focus = Focus::Await { allowed: 0 };
     for terminal in terminals {
-        match step_to(
-            &mut frames,
-            &mut out,
-            focus,
-            terminal.borrowed(),
-            terminal.at,
-        )? {
+        match machine.step_to(focus, terminal.borrowed(), terminal.at)? {
             Some(next) => focus = next,
             None => return Err(ParseRefusal::Syntax { at: terminal.at }),
         }
     }
-    if finish_to(&mut frames, &mut out, focus)? {
-        return Ok(out);
+    if machine.finish_to(focus)? {
+        return Ok(machine.out);
     }
     Err(ParseRefusal::Syntax { at: end })
 }

@@ -1,10 +1,11 @@
 //! The terminals of marks and reserved words.
-ghost use Rattle.std.specs.Prelude.{◌≡◌, map};
+ghost use Rattle.std.specs.Prelude.{◌≡◌, ◌||◌, true, Some, map};
 ghost use Rattle.std.specs.Option.{option_map};
+ghost use Rattle.lucid_value.specs.Names.{is_reserved};
 ghost use Rattle.lucid_value.specs.View.{plain};
+ghost use Rattle.lucid_scan.specs.Texts.{is_mark};
 ghost use Rattle.lucid_parse.specs.Views.{plain_terminal};
 ghost use Rattle.lucid_parse.specs.Terminals.{terminal_in, fixed_terminal};
-ghost use Rattle.lucid_forms.specs.Operators.{spelled};
 ghost use Rattle.lucid_parse.specs.Spellings.{fixed_value, fixed_plain, pair_of};
 
 use crate::terminal::Terminal;
@@ -96,23 +97,17 @@ fn terminal_among(bytes: &[u8], spellings: &[Spelling]) -> Option<FixedTerminal>
     None
 }
 
-// The terminal of the operator that the bytes spell.
-fn operator_terminal(bytes: &[u8]) -> Option<FixedTerminal>
-    ensures { option_map fixed_plain result ≡ option_map Terminal.Operator (spelled bytes.now) }
-{
-    match Operator::find(bytes) {
-        Some(op) => Some(Terminal::Operator(op)),
-        None => None,
-    }
-}
-
 /// The terminal of a mark or of a reserved word.
-pub fn fixed_terminal(bytes: &[u8]) -> Option<FixedTerminal>
-    ensures { option_map fixed_plain result ≡ fixed_terminal bytes.now }
+pub fn fixed_terminal(bytes: &[u8]) -> FixedTerminal
+    requires { (is_mark bytes.now || is_reserved bytes.now) ≡ true }
+    ensures { fixed_terminal bytes.now ≡ Some (fixed_plain result) }
 {
     match terminal_among(bytes, &FORMS) {
-        Some(terminal) => Some(terminal),
-        None => operator_terminal(bytes),
+        Some(terminal) => terminal,
+        None => match Operator::find(bytes) {
+            Some(op) => Terminal::Operator(op),
+            None => unreachable!(),
+        },
     }
 }
 

@@ -11,59 +11,46 @@ pub enum Defines {
     Current,
 }
 
+/// A called operator, its place, and the least level that the place of the whole form allows.
+#[derive(Clone, Copy)]
+pub struct CalledOperator {
+    pub op: Operator,
+    pub at: u32,
+    pub allowed: u8,
+}
+
+/// A definition: the place of its block, its own place and its name.
+#[derive(Clone, Copy)]
+pub struct Definition<N> {
+    pub block: u32,
+    pub at: u32,
+    pub name: N,
+}
+
 /// What is open round the operand that is read. `at` is the place of a form, and `allowed` the least level that the place of the
 /// whole form allows.
 #[derive(Clone, Copy)]
 pub enum Frame<N> {
     /// An operator between or before its operands, the last of which is read.
-    Operator {
-        op: Operator,
-        at: u32,
-        allowed: u8,
-    },
+    Operator { op: Operator, at: u32, allowed: u8 },
     /// A parenthesis.
-    Parenthesis {
-        allowed: u8,
-    },
+    Parenthesis { allowed: u8 },
     /// An `if` whose condition is read.
-    Test {
-        at: u32,
-        allowed: u8,
-    },
+    Test { at: u32, allowed: u8 },
     /// An `if` where what stands between its `then` and its `else` is read.
-    Yes {
-        at: u32,
-        allowed: u8,
-    },
+    Yes { at: u32, allowed: u8 },
     /// An `if` where what stands behind its `else` is read.
-    No {
-        at: u32,
-        allowed: u8,
-    },
+    No { at: u32, allowed: u8 },
     /// A call whose arguments before this one are written.
-    Arguments {
-        at: u32,
-        name: N,
-        allowed: u8,
-    },
+    Arguments { at: u32, name: N, allowed: u8 },
     /// A called operator, with the number of operands behind this one.
-    Operands {
-        op: Operator,
-        at: u32,
-        more: u8,
-        allowed: u8,
-    },
-    /// The right side of a definition in the block at `block`: what it defines, its place and its name.
-    RightSide {
-        block: u32,
-        defines: Defines,
-        at: u32,
-        name: N,
-    },
+    Operands { called: CalledOperator, more: u8 },
+    /// The right side of a definition.
+    RightSide(Defines, Definition<N>),
 }
 
-/// What comes next. `at` is the place of a form or a definition, `allowed` the least level that the place of the form allows, and
-/// `block` the place of a block.
+/// What comes next. `at` is the place of a form, `allowed` the least level that the place of the form allows, and `block` the
+/// place of a block.
 #[derive(Clone, Copy)]
 pub enum Focus<N> {
     /// An operand of this level or a tighter one.
@@ -71,21 +58,21 @@ pub enum Focus<N> {
     /// What follows a name.
     Named { at: u32, name: N, allowed: u8 },
     /// The parenthesis of a called operator.
-    Opens { op: Operator, at: u32, allowed: u8 },
+    Opens(CalledOperator),
     /// What follows an operand of this level.
     Have { level: u8, allowed: u8 },
     /// A definition or the end of the block.
     Heads { block: u32 },
     /// What follows the name of a definition.
-    Headed { block: u32, at: u32, name: N },
+    Headed(Definition<N>),
     /// The same behind `is`.
-    Frozen { block: u32, at: u32, name: N },
-    /// The next parameter of the definition.
-    Names { block: u32, at: u32, name: N },
+    Frozen(Definition<N>),
+    /// The next parameter of a definition.
+    Names(Definition<N>),
     /// A comma or the end of its parameters.
-    Listed { block: u32, at: u32, name: N },
+    Listed(Definition<N>),
     /// The equals sign behind its parameters.
-    Ready { block: u32, at: u32, name: N },
+    Ready(Definition<N>),
 }
 
 /// A node of the tree that is read, with its place. Nodes are written behind their parts.

@@ -1,6 +1,7 @@
 //! The terminals of the grammar: what tokens stand for.
 
 use lucid_forms::Operator;
+use lucid_ops::{Form, Op};
 use lucid_value::{Name, Value};
 
 /// What a token stands for: a name, a constant, or a mark or reserved word. `N` is what it holds of a name, and `V` of a
@@ -25,6 +26,23 @@ pub enum Terminal<N, V> {
     Comma,
     Semicolon,
     Equals,
+}
+
+impl<N: Copy, V: Copy> Terminal<N, V> {
+    ghost use Rattle.std.specs.Prelude.{◌≡◌};
+    ghost use Rattle.lucid_parse.specs.Grammar.{operator_in};
+
+    /// The operator that the terminal is in this form.
+    pub fn operator_in(self, wanted: Form) -> Option<Operator>
+        ensures { result ≡ operator_in wanted self }
+    {
+        match (self, wanted) {
+            (Terminal::Operator(op), _) if op.row().form == wanted => Some(op),
+            (Terminal::Minus, Form::Between) => Some(Operator::Data(Op::Sub)),
+            (Terminal::Minus, Form::Before) => Some(Operator::Data(Op::Neg)),
+            _ => None,
+        }
+    }
 }
 
 /// A terminal that borrows its name or its value.

@@ -1,18 +1,17 @@
 //! The terminals of a source's tokens.
-ghost use Rattle.std.specs.Prelude.{◌≡◌, ◌∷◌, ◌++◌, [], ℕ, IfOk, IfErr, IsTrue, true, ◌||◌, Some};
+ghost use Rattle.std.specs.Prelude.{◌≡◌, ◌∷◌, ◌++◌, [], IfOk, IfErr, IsTrue};
 ghost use Rattle.lucid_value.specs.Plain.{PlainValue};
-ghost use Rattle.lucid_value.specs.Names.{is_name, is_reserved};
+ghost use Rattle.lucid_value.specs.Names.{is_name};
 ghost use Rattle.lucid_value.specs.Reading.{Reads};
 ghost use Rattle.lucid_value.specs.View.{plain};
-ghost use Rattle.lucid_scan.specs.Texts.{IsBetween, is_mark, is_word_value};
+ghost use Rattle.lucid_scan.specs.Texts.{IsBetween, is_word_value};
 ghost use Rattle.lucid_scan.specs.Tokens.{Tokens};
 ghost use Rattle.lucid_parse.specs.Views.{plain_terminal, terminals_of};
 ghost use Rattle.lucid_parse.specs.Spelled.{IsReading, IsTokenOf};
-ghost use Rattle.lucid_parse.specs.Spellings.{fixed_plain};
-ghost use Rattle.lucid_parse.specs.Terminals.{fixed_terminal, StandsFor, Terminals};
+ghost use Rattle.lucid_parse.specs.Terminals.{StandsFor, Terminals};
 
 use crate::refusal::ParseRefusal;
-use crate::spelling::{FixedTerminal, fixed_terminal, with_value};
+use crate::spelling::{fixed_terminal, with_value};
 use crate::terminal::{Terminal, TerminalAt};
 use lucid_scan::laws::tokens_stand;
 use lucid_scan::{Token, TokenKind};
@@ -58,17 +57,6 @@ fn make_value(alloc: Global, bytes: &[u8]) -> Result<Value, ParseRefusal>
     }
 }
 
-// The terminal of a mark or of a reserved word.
-fn known_terminal(bytes: &[u8]) -> FixedTerminal
-    requires { (is_mark bytes.now || is_reserved bytes.now) ≡ true }
-    ensures { fixed_terminal bytes.now ≡ Some (fixed_plain result) }
-{
-    match fixed_terminal(bytes) {
-        Some(terminal) => terminal,
-        None => unreachable!(),
-    }
-}
-
 /// The terminal that a token of this kind and these bytes stands for.
 fn read_terminal(
     alloc: Global,
@@ -85,7 +73,7 @@ fn read_terminal(
         TokenKind::Quoted => Ok(Terminal::Const(Value::Word(make_word(alloc, bytes)?))),
         TokenKind::Text => Ok(Terminal::Const(make_value(alloc, bytes)?)),
         TokenKind::ListText => Ok(Terminal::Const(make_value(alloc, bytes)?)),
-        TokenKind::Fixed => Ok(with_value(alloc, known_terminal(bytes))),
+        TokenKind::Fixed => Ok(with_value(alloc, fixed_terminal(bytes))),
     }
 }
 

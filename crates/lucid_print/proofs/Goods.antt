@@ -8,7 +8,7 @@ use Rattle.std.proofs.lemmas.Bool.{or_cases, and_parts, not-true, eqb-true, lt-l
 use Rattle.lucid_lemmas.proofs.Lists.{same_between}
 use Rattle.lucid_value.specs.Plain.{PlainValue, int, truth, word, text, list, eod, fault, Items, no_items, item, weight, nesting, may_be_held, well_formed, all_well_formed, in_range, all_in_range, is_i128, is_value, within_limits, same_bytes}
 use Rattle.lucid_value.specs.Names.{is_name, is_name_byte, is_reserved, reserved_words}
-use Rattle.lucid_value.specs.Reading.{is_number, number_of, Denotes, denotes_number, denotes_minus, denotes_true, denotes_false, denotes_word, denotes_text, denotes_list, denotes_eod, denotes_fault, DenotesItems, denotes_none, denotes_item, Reads}
+use Rattle.lucid_value.specs.Reading.{is_number, number_of, Denotes, denotes_number, denotes_minus, denotes_word, denotes_text, denotes_list, DenotesItems, denotes_none, denotes_item, Reads}
 use Rattle.lucid_value.specs.Laws.{TextIsRead}
 use Rattle.lucid_value.proofs.AtomValues.{numerals, digits_number}
 use Rattle.lucid_scan.specs.declared.token.TokenKind.{TokenKind}
@@ -169,18 +169,14 @@ two_mark bytes = eqb (length bytes) 2 && is_mark bytes
 operator_stands : (o : Operator) → fixed_terminal (terminal_text (terminal_of o)) ≡ Some (terminal_of o)
 unfolding form_terminals
 operator_stands (Data op.Sub) = refl
-operator_stands (Data op.Neg) = refl
-operator_stands (Data _) = refl
 operator_stands (Stream Fby) = refl
-operator_stands (Stream _) = refl
+operator_stands o = refl
 
 operator_token : (o : Operator) → (is_reserved (terminal_text (terminal_of o)) || (one_mark (terminal_text (terminal_of o)) || two_mark (terminal_text (terminal_of o)))) ≡ true
 unfolding reserved_words one_mark two_mark
 operator_token (Data op.Sub) = refl
-operator_token (Data op.Neg) = refl
-operator_token (Data _) = refl
 operator_token (Stream Fby) = refl
-operator_token (Stream _) = refl
+operator_token o = refl
 
 one_mark_good : (s : PlainTerminal) (bytes : List ℕ) → terminal_text s ≡ bytes → one_mark bytes ≡ true → fixed_terminal (terminal_text s) ≡ Some s → is_open s ≡ false → Good s
 unfolding one_mark
@@ -254,13 +250,10 @@ mutual
   keeps_rules : {bs : List ℕ} {v : PlainValue} → Denotes bs v → (well_formed v ≡ true) × (in_range v ≡ true)
   keeps_rules (denotes_number ds h lt) = (refl, lt-ltb (number_of ds) (2 ^ 127) lt)
   keeps_rules (denotes_minus ds h le) = (refl, minus_range (number_of ds) le)
-  keeps_rules denotes_true = (refl, refl)
-  keeps_rules denotes_false = (refl, refl)
   keeps_rules (denotes_word bs h) = (h, refl)
   keeps_rules (denotes_text bs h) = (h, refl)
   keeps_rules (denotes_list bs vs d) = keep_rules d
-  keeps_rules denotes_eod = (refl, refl)
-  keeps_rules denotes_fault = (refl, refl)
+  keeps_rules _ = (refl, refl)
 
   keep_rules : {bs : List ℕ} {vs : Items} → DenotesItems bs vs → (all_well_formed vs ≡ true) × (all_in_range vs ≡ true)
   keep_rules (denotes_none g h) = (refl, refl)
@@ -326,10 +319,7 @@ fixed_good (truth b) h = truth_good b
 fixed_good eod h = eod_good
 fixed_good fault h = fault_good
 fixed_good (list no_items) h = empty_good
-fixed_good (list (item v vs)) h = cc
-fixed_good (int n) h = cc
-fixed_good (word bs) h = cc
-fixed_good (text bs) h = cc
+fixed_good _ h = cc
 
 -- A terminal for which some token stands.
 abbrev pub IsWritten : PlainTerminal → Type 0

@@ -1,59 +1,40 @@
 -- What the loops of the printer write is the rest of the text, item by item.
-use Rattle.std.proofs.Common.{◌≡◌, ℕ, zero, suc, ◌+◌, ◌<◌, ◌≤◌, List, [], ◌∷◌, ◌++◌, length, drop, get_or, refl, sym, ◌∙◌, ap, arith, add-one, append_assoc, append-nil}
+use Rattle.std.proofs.Common.{◌≡◌, ℕ, ◌+◌, List, [], ◌∷◌, ◌++◌, refl, sym, ◌∙◌, ap, append_assoc, append-nil}
 use Rattle.std.specs.Prelude.{codes}
-use Rattle.std.proofs.lemmas.List.{drop_all}
-use Rattle.lucid_tree.specs.Tree.{PlainTree, PlainDefs, no_defs}
-use Rattle.lucid_tree.specs.Lists.{trees_of}
-use Rattle.lucid_tree.specs.DefsView.{defs_of, one_def, def_of}
+use Rattle.lucid_tree.specs.Tree.{PlainTree, PlainTrees, no_trees, tree, PlainDefs, no_defs}
+use Rattle.lucid_tree.specs.Size.{nodes, nodes_in_defs}
+use Rattle.lucid_tree.specs.Rights.{right_of}
+use Rattle.lucid_tree.specs.DefsView.{one_def, def_of}
 use Rattle.lucid_tree.specs.declared.tree.Def.{Def}
 use Rattle.lucid_tree.specs.declared.tree.DefKind.{DefKind}
 use Rattle.lucid_tree.specs.declared.tree.DefKind.TheVariants as def_kind
 use Rattle.lucid_print.specs.Canonical.{parted, parted_more, texts, source, parts, definitions}
 
-drop_suc : {A : Type 0} (xs : List A) (i : ℕ) (x : A) → i < length xs → x ≡ get_or xs i x → drop i xs ≡ x ∷ drop (suc i) xs
-drop_suc [] i x h e = absurd (omega arith)
-drop_suc (y ∷ xs) zero x h e = ap (λ z. z ∷ xs) (sym e)
-drop_suc (y ∷ xs) (suc i) x h e = drop_suc xs i x (omega arith) e
+-- texts parted by commas, where these bytes stand before the first
+abbrev pub led : List ℕ → List (List ℕ) → List ℕ
+led b [] = []
+led b (s ∷ ss) = b ++ (s ++ parted_more ss)
 
--- an item and those behind it
-pub drop_here : {A : Type 0} (xs : List A) (i : ℕ) (x : A) → i < length xs → x ≡ get_or xs i x → drop i xs ≡ x ∷ drop (i + 1) xs
-drop_here xs i x h e = drop_suc xs i x h e ∙ ap (λ k. x ∷ drop k xs) (sym (add-one i))
+led_comma : (ss : List (List ℕ)) → led (codes ", ") ss ≡ parted_more ss
+led_comma [] = refl
+led_comma (s ∷ ss) = refl
 
--- texts parted by commas, where so many were before them
-abbrev pub rest_text : ℕ → List (List ℕ) → List ℕ
-rest_text zero ss = parted ss
-rest_text (suc i) ss = parted_more ss
+-- one text more
+one_text : (o b p q s full : List ℕ) (ss : List (List ℕ)) → o ++ (b ++ (s ++ parted_more ss)) ≡ full → p ≡ o ++ b → q ≡ p ++ s → q ++ led (codes ", ") ss ≡ full
+one_text o b p q s full ss e f g =
+    let ends : q ++ led (codes ", ") ss ≡ ((o ++ b) ++ s) ++ parted_more ss = ap (λ l. l ++ led (codes ", ") ss) (g ∙ ap (λ l. l ++ s) f) ∙ ap (λ l. ((o ++ b) ++ s) ++ l) (led_comma ss) in
+    let whole : ((o ++ b) ++ s) ++ parted_more ss ≡ o ++ (b ++ (s ++ parted_more ss)) = simp append_assoc in
+    ends ∙ whole ∙ e
 
-rest_none : (i : ℕ) → rest_text i [] ≡ []
-rest_none zero = refl
-rest_none (suc i) = refl
-
-pub first_text : (i : ℕ) (o s full : List ℕ) (ss : List (List ℕ)) → i ≡ 0 → o ++ rest_text i (s ∷ ss) ≡ full → (o ++ s) ++ rest_text (i + 1) ss ≡ full
-first_text i o s full ss z e =
-    ap (λ k. (o ++ s) ++ rest_text (k + 1) ss) z ∙ append_assoc o s (parted_more ss) ∙ ap (λ k. o ++ rest_text k (s ∷ ss)) (sym z) ∙ e
-
-pub later_text : (i : ℕ) (o s full : List ℕ) (ss : List (List ℕ)) → 0 < i → o ++ rest_text i (s ∷ ss) ≡ full → ((o ++ codes ", ") ++ s) ++ rest_text (i + 1) ss ≡ full
-later_text zero o s full ss z e = absurd (omega arith)
-later_text (suc i) o s full ss z e =
-    ap (λ k. ((o ++ codes ", ") ++ s) ++ rest_text k ss) (add-one (suc i))
-    ∙ append_assoc (o ++ codes ", ") s (parted_more ss) ∙ append_assoc o (codes ", ") (s ++ parted_more ss) ∙ e
-
-pub no_more : (i : ℕ) (o full : List ℕ) (ss : List (List ℕ)) → ss ≡ [] → o ++ rest_text i ss ≡ full → o ≡ full
-no_more i o full ss n e = sym (append-nil o) ∙ ap (λ l. o ++ l) (sym (ap (rest_text i) n ∙ rest_none i)) ∙ e
-
--- the names of parameters
-pub names_end : (i : ℕ) (o full : List ℕ) (xs : List (List ℕ)) → length xs ≤ i → o ++ rest_text i (drop i xs) ≡ full → o ≡ full
-names_end i o full xs h e = no_more i o full (drop i xs) (drop_all i xs h) e
-
--- the texts of arguments
-pub texts_here : (xs : List PlainTree) (i : ℕ) (x : PlainTree) → i < length xs → x ≡ get_or xs i x
-    → texts (parts (trees_of (drop i xs))) ≡ source x ∷ texts (parts (trees_of (drop (i + 1) xs)))
+-- one argument more, and none
+pub next_argument : (o b p q full : List ℕ) (x : PlainTree) (es fs : PlainTrees) → es ≡ tree x fs → p ≡ o ++ b → q ≡ p ++ source x → o ++ led b (texts (parts es)) ≡ full
+    → q ++ led (codes ", ") (texts (parts fs)) ≡ full
 unfolding source
-texts_here xs i x h e = ap (λ l. texts (parts (trees_of l))) (drop_here xs i x h e)
+next_argument o b p q full x es fs is f g e = one_text o b p q (source x) full (texts (parts fs)) (ap (λ l. o ++ led b (texts (parts l))) (sym is) ∙ e) f g
 
-pub texts_none : (xs : List PlainTree) (i : ℕ) → length xs ≤ i → texts (parts (trees_of (drop i xs))) ≡ []
+pub last_argument : (o b full : List ℕ) (es : PlainTrees) → es ≡ no_trees → o ++ led b (texts (parts es)) ≡ full → o ≡ full
 unfolding source
-texts_none xs i h = ap (λ l. texts (parts (trees_of l))) (drop_all i xs h)
+last_argument o b full es is e = sym (append-nil o) ∙ ap (λ l. o ++ led b (texts (parts l))) (sym is) ∙ e
 
 -- definitions
 defs_then : (d : Def) (ds : PlainDefs) → definitions (def_of d.at d.name d.kind ds) ≡ definitions (one_def d no_defs) ++ definitions ds
@@ -65,34 +46,22 @@ defs_then d ds = of d.kind
     of (def_kind.Function ps ats e) = ap (λ l. l ++ definitions ds) (sym (append-nil (d.name ++ codes "(" ++ parted ps ++ codes ") = " ++ source e ++ codes "; ")))
     of (def_kind.Current e) = ap (λ l. l ++ definitions ds) (sym (append-nil (d.name ++ codes " is current " ++ source e ++ codes "; ")))
 
-pub next_definition : (o p full : List ℕ) (xs : List Def) (i : ℕ) (d : Def) → i < length xs → d ≡ get_or xs i d → p ≡ o ++ definitions (one_def d no_defs)
-    → o ++ definitions (defs_of (drop i xs)) ≡ full → p ++ definitions (defs_of (drop (i + 1) xs)) ≡ full
-next_definition o p full xs i d h is e f =
-    let rest = defs_of (drop (i + 1) xs) in
-    ap (λ l. l ++ definitions rest) e
-    ∙ append_assoc o (definitions (one_def d no_defs)) (definitions rest)
-    ∙ ap (λ l. o ++ l) (sym (ap (λ l. definitions (defs_of l)) (drop_here xs i d h is) ∙ defs_then d rest))
-    ∙ f
+pub next_definition : (o p full : List ℕ) (d : Def) (ds es : PlainDefs) → ds ≡ one_def d es → p ≡ o ++ definitions (one_def d no_defs) → o ++ definitions ds ≡ full
+    → p ++ definitions es ≡ full
+next_definition o p full d ds es is e f =
+    ap (λ l. l ++ definitions es) e ∙ append_assoc o (definitions (one_def d no_defs)) (definitions es)
+    ∙ ap (λ l. o ++ l) (sym (ap definitions is ∙ defs_then d es)) ∙ f
 
-pub last_definition : (o full : List ℕ) (xs : List Def) (i : ℕ) → length xs ≤ i → o ++ definitions (defs_of (drop i xs)) ≡ full → o ≡ full
+pub last_definition : (o full : List ℕ) (ds : PlainDefs) → ds ≡ no_defs → o ++ definitions ds ≡ full → o ≡ full
 unfolding definitions
-last_definition o full xs i h e = sym (append-nil o) ∙ ap (λ l. o ++ l) (sym (ap (λ l. definitions (defs_of l)) (drop_all i xs h))) ∙ e
+last_definition o full ds is e = sym (append-nil o) ∙ ap (λ l. o ++ definitions l) (sym is) ∙ e
 
--- one argument more, the first or a later one
-module _ (xs : List PlainTree) (i : ℕ) (x : PlainTree) (o full : List ℕ) (within : i < length xs) (is : x ≡ get_or xs i x)
-    (left : o ++ rest_text i (texts (parts (trees_of (drop i xs)))) ≡ full) where
-  here : o ++ rest_text i (source x ∷ texts (parts (trees_of (drop (i + 1) xs)))) ≡ full
-  here = ap (λ l. o ++ rest_text i l) (sym (texts_here xs i x within is)) ∙ left
-
-  pub first_argument : (n : List ℕ) → i ≡ 0 → n ≡ o ++ source x → n ++ rest_text (i + 1) (texts (parts (trees_of (drop (i + 1) xs)))) ≡ full
-  first_argument n z e =
-      ap (λ l. l ++ rest_text (i + 1) (texts (parts (trees_of (drop (i + 1) xs))))) e
-      ∙ first_text i o (source x) full (texts (parts (trees_of (drop (i + 1) xs)))) z here
-
-  pub later_argument : (p n : List ℕ) → 0 < i → p ≡ o ++ codes ", " → n ≡ p ++ source x → n ++ rest_text (i + 1) (texts (parts (trees_of (drop (i + 1) xs)))) ≡ full
-  later_argument p n z f e =
-      ap (λ l. l ++ rest_text (i + 1) (texts (parts (trees_of (drop (i + 1) xs))))) (e ∙ ap (λ l. l ++ source x) f)
-      ∙ later_text i o (source x) full (texts (parts (trees_of (drop (i + 1) xs)))) z here
+pub definition_nodes : (d : Def) (ds es : PlainDefs) → ds ≡ one_def d es → nodes_in_defs ds ≡ nodes (right_of d.kind) + nodes_in_defs es
+definition_nodes d ds es is = ap nodes_in_defs is ∙ of d.kind
+  where
+    of : (k : DefKind) → nodes_in_defs (def_of d.at d.name k es) ≡ nodes (right_of k) + nodes_in_defs es
+    of (def_kind.Plain e) = refl
+    of k = refl
 
 -- all arguments, in parentheses
 pub in_parentheses : (b p o n text : List ℕ) → p ≡ b ++ 40 ∷ [] → o ≡ p ++ text → n ≡ o ++ 41 ∷ [] → n ≡ b ++ 40 ∷ (text ++ 41 ∷ [])

@@ -1,20 +1,18 @@
 //! Writes the canonical source of a tree.
-ghost use Rattle.std.specs.Prelude.{◌≡◌, ◌∷◌, ◌++◌, [], ℕ, ◌≤◌, length, OnOk, OnErr, codes};
+ghost use Rattle.std.specs.Prelude.{◌≡◌, ◌∷◌, ◌++◌, [], ℕ, ◌≤◌, length, MatchOption, OnOk, OnErr, codes};
 ghost use Rattle.lucid_value.specs.View.{plain};
 ghost use Rattle.lucid_scan.specs.Refusals.{most_source_bytes};
-ghost use Rattle.lucid_tree.specs.Tree.{no_defs};
-ghost use Rattle.lucid_tree.specs.View.{tree_of};
+ghost use Rattle.lucid_tree.specs.Tree.{PlainTree, no_trees, tree, no_defs};
 ghost use Rattle.lucid_tree.specs.DefsView.{one_def};
 ghost use Rattle.lucid_tree.specs.WellMade.{IsWellMade};
-ghost use Rattle.lucid_print.specs.Canonical.{constant_text, placed, parted, texts, form_text, source, parts, definitions, canonical};
-ghost use Rattle.lucid_print.specs.Styles.{conditional, called};
-ghost use Rattle.lucid_print.specs.Views.{prefix_style, seen_style, part_of, left_text};
+ghost use Rattle.lucid_print.specs.Canonical.{constant_text, placed, parted, texts, form_text, source, parts as as_parts, definitions, canonical};
+ghost use Rattle.lucid_print.specs.Styles.{conditional};
+ghost use Rattle.lucid_print.specs.Views.{infix_style, prefix_style, seen_style, part_of};
 ghost use Rattle.lucid_print.specs.Again.{IsParsed, IsReadAs};
 
 use crate::laws::canonical_is_read_again;
-use crate::style::{Infix, Prefix, Style, infix_of, level_of, prefix_of, style_of};
-use lucid_forms::Operator;
-use lucid_tree::{Block, Def, DefKind, Defs, Kind, Names, Tree, Trees};
+use crate::style::{Infix, Prefix, Style, level_of, style_of};
+use lucid_tree::{Def, DefKind, Definitions, Names, Parts, Shape, Tree};
 use lucid_value::Value;
 use std::alloc::{AllocError, Global};
 
@@ -49,63 +47,115 @@ fn put_constant(alloc: Global, value: &Value, to: &mut Vec<u8>) -> Result<(), Al
 fn put_names(names: &Names, to: &mut Vec<u8>) -> Result<(), AllocError>
     ensures { OnOk result (to.new.items ≡ to.old.items ++ parted names.now) }
 {
-    for (i, name) in names.items().iter().enumerate() {
-        if i > 0 {
-            put_bytes(b", ", to)?;
-        }
+    let mut before: &[u8] = b"";
+    for name in names.items() {
+        put_bytes(before, to)?;
         put_bytes(name.bytes(), to)?;
+        before = b", ";
     }
     Ok(())
 }
 
+// The one part, the two, or the three, where there are so many.
+fn one(parts: Parts<'_>) -> Option<&Tree>
+    ensures { MatchOption result ((x : PlainTree) → parts.entry ≡ tree x no_trees → ⊥) (λ x. parts.entry ≡ tree x.now no_trees) }
+{
+    let mut parts = parts;
+    let first = parts.next()?;
+    match parts.next() {
+        None => Some(first),
+        Some(_) => None,
+    }
+}
+
+fn two(parts: Parts<'_>) -> Option<(&Tree, &Tree)>
+    ensures { MatchOption result ((x y : PlainTree) → parts.entry ≡ tree x (tree y no_trees) → ⊥) (λ p. parts.entry ≡ tree p.0.now (tree p.1.now no_trees)) }
+{
+    let mut parts = parts;
+    let first = parts.next()?;
+    let second = one(parts)?;
+    Some((first, second))
+}
+
+fn three(parts: Parts<'_>) -> Option<(&Tree, &Tree, &Tree)>
+    ensures { MatchOption result ((x y z : PlainTree) → parts.entry ≡ tree x (tree y (tree z no_trees)) → ⊥) (λ p. parts.entry ≡ tree p.0.now (tree p.1.now (tree p.2.now no_trees))) }
+{
+    let mut parts = parts;
+    let first = parts.next()?;
+    let (second, third) = two(parts)?;
+    Some((first, second, third))
+}
+
 /// Writes a tree.
 #[cycle(print)]
+#[tactic(auto, unfolding(crate::specs::Canonical::source))]
 fn put_tree(alloc: Global, tree: &Tree, to: &mut Vec<u8>) -> Result<(), AllocError>
     ensures { OnOk result (to.new.items ≡ to.old.items ++ source tree.now) }
 {
-    put_kind(alloc, &tree.kind, to)
+    match tree.shape() {
+        Shape::Name { name, .. } => put_bytes(name.bytes(), to),
+        Shape::Form { head, parts, .. } => put_form(alloc, style_of(head), parts, to),
+        Shape::Call { name, args, .. } => {
+            put_bytes(name.bytes(), to)?;
+            put_arguments(alloc, args.parts(), to)
+        }
+        Shape::Scope { subject, defs, .. } => {
+            put_tree(alloc, subject, to)?;
+            put_bytes(b" where ", to)?;
+            put_definitions(alloc, defs.definitions(), to)?;
+            put_bytes(b"end", to)
+        }
+    }
+}
+
+// Writes a form of these parts. An operator of another number of parts than its own is in no tree that is well made.
+#[cycle(print)]
+fn put_form(
+    alloc: Global,
+    style: Style<'_>,
+    parts: Parts<'_>,
+    to: &mut Vec<u8>,
+) -> Result<(), AllocError>
+    ensures { OnOk result (to.new.items ≡ to.old.items ++ form_text (seen_style style.entry) (as_parts parts.entry)) }
+{
+    match style {
+        Style::Constant(value) => put_constant(alloc, value, to),
+        Style::Conditional => match three(parts) {
+            Some((test, yes, no)) => put_conditional(alloc, test, yes, no, to),
+            None => Ok(()),
+        },
+        Style::Infix(operator) => match two(parts) {
+            Some((left, right)) => put_between(alloc, operator, left, right, to),
+            None => Ok(()),
+        },
+        Style::Prefix(operator) => match one(parts) {
+            Some(part) => put_before(alloc, operator, part, to),
+            None => Ok(()),
+        },
+        Style::Called(spelling) => {
+            put_bytes(spelling, to)?;
+            put_arguments(alloc, parts, to)
+        }
+    }
 }
 
 #[cycle(print)]
-#[tactic(auto, unfolding(crate::specs::Canonical::source))]
-fn put_kind(alloc: Global, kind: &Kind, to: &mut Vec<u8>) -> Result<(), AllocError>
-    ensures { OnOk result ((at : ℕ) → to.new.items ≡ to.old.items ++ source (tree_of at kind.now)) }
+fn put_conditional(
+    alloc: Global,
+    test: &Tree,
+    yes: &Tree,
+    no: &Tree,
+    to: &mut Vec<u8>,
+) -> Result<(), AllocError>
+    ensures { OnOk result (to.new.items ≡ to.old.items ++ form_text conditional (part_of test.now ∷ part_of yes.now ∷ part_of no.now ∷ [])) }
 {
-    match kind {
-        Kind::Const(value) => put_constant(alloc, value, to),
-        Kind::Name(name) => put_bytes(name.bytes(), to),
-        Kind::Call { name, args } => {
-            put_bytes(name.bytes(), to)?;
-            put_arguments(alloc, args, to)
-        }
-        Kind::Apply { op, args } => put_operation(alloc, style_of(Operator::Data(*op)), args, to),
-        Kind::If { test, yes, no } => {
-            put_bytes(b"if ", to)?;
-            put_tree(alloc, test, to)?;
-            put_bytes(b" then ", to)?;
-            put_tree(alloc, yes, to)?;
-            put_bytes(b" else ", to)?;
-            put_tree(alloc, no, to)?;
-            put_bytes(b" fi", to)
-        }
-        Kind::First(a) | Kind::Next(a) | Kind::Initial(a) | Kind::Succ(a) => {
-            put_before(alloc, prefix_of(kind), a, to)
-        }
-        Kind::And(a, b)
-        | Kind::Or(a, b)
-        | Kind::Fby(a, b)
-        | Kind::Whenever(a, b)
-        | Kind::Asa(a, b)
-        | Kind::Upon(a, b)
-        | Kind::Attime(a, b)
-        | Kind::Sby(a, b)
-        | Kind::Atspace(a, b) => {
-            let operator = infix_of(kind);
-            put_left(alloc, operator, a, to)?;
-            put_placed(alloc, b, operator.right, to)
-        }
-        Kind::Scope(block) => put_block(alloc, block, to),
-    }
+    put_bytes(b"if ", to)?;
+    put_tree(alloc, test, to)?;
+    put_bytes(b" then ", to)?;
+    put_tree(alloc, yes, to)?;
+    put_bytes(b" else ", to)?;
+    put_tree(alloc, no, to)?;
+    put_bytes(b" fi", to)
 }
 
 // Writes a tree in a place that wants this level.
@@ -113,7 +163,7 @@ fn put_kind(alloc: Global, kind: &Kind, to: &mut Vec<u8>) -> Result<(), AllocErr
 fn put_placed(alloc: Global, tree: &Tree, wanted: u8, to: &mut Vec<u8>) -> Result<(), AllocError>
     ensures { OnOk result (to.new.items ≡ to.old.items ++ placed wanted (part_of tree.now)) }
 {
-    if level_of(&tree.kind) >= wanted {
+    if level_of(tree) >= wanted {
         return put_tree(alloc, tree, to);
     }
     put_bytes(b"(", to)?;
@@ -121,15 +171,21 @@ fn put_placed(alloc: Global, tree: &Tree, wanted: u8, to: &mut Vec<u8>) -> Resul
     put_bytes(b")", to)
 }
 
-// Writes the part on the left of an operator, and the operator with its blanks.
 #[cycle(print)]
-fn put_left(alloc: Global, operator: Infix, left: &Tree, to: &mut Vec<u8>) -> Result<(), AllocError>
-    ensures { OnOk result (to.new.items ≡ to.old.items ++ left_text operator left.now) }
+fn put_between(
+    alloc: Global,
+    operator: Infix,
+    left: &Tree,
+    right: &Tree,
+    to: &mut Vec<u8>,
+) -> Result<(), AllocError>
+    ensures { OnOk result (to.new.items ≡ to.old.items ++ form_text (infix_style operator) (part_of left.now ∷ part_of right.now ∷ [])) }
 {
     put_placed(alloc, left, operator.left, to)?;
     put_bytes(b" ", to)?;
     put_bytes(operator.spelling, to)?;
-    put_bytes(b" ", to)
+    put_bytes(b" ", to)?;
+    put_placed(alloc, right, operator.right, to)
 }
 
 #[cycle(print)]
@@ -146,67 +202,26 @@ fn put_before(
     put_placed(alloc, part, prefix.level, to)
 }
 
-// Writes a data operator with its arguments. In a tree that is well made it has its own number of them.
-#[cycle(print)]
-fn put_operation(
-    alloc: Global,
-    style: Style,
-    args: &Trees,
-    to: &mut Vec<u8>,
-) -> Result<(), AllocError>
-    ensures { OnOk result (to.new.items ≡ to.old.items ++ form_text (seen_style style) (parts args.now)) }
-{
-    match style {
-        Style::Infix(operator) => match args.items() {
-            [left, right] => {
-                put_left(alloc, operator, left, to)?;
-                put_placed(alloc, right, operator.right, to)
-            }
-            _ => Ok(()),
-        },
-        Style::Prefix(prefix) => match args.items() {
-            [part] => put_before(alloc, prefix, part, to),
-            _ => Ok(()),
-        },
-        Style::Called(spelling) => {
-            put_bytes(spelling, to)?;
-            put_arguments(alloc, args, to)
-        }
-    }
-}
-
 // Writes arguments in parentheses, parted by commas.
 #[cycle(print)]
-fn put_arguments(alloc: Global, args: &Trees, to: &mut Vec<u8>) -> Result<(), AllocError>
-    ensures { OnOk result (to.new.items ≡ to.old.items ++ (codes "(" ++ parted (texts (parts args.now)) ++ codes ")")) }
+fn put_arguments(alloc: Global, args: Parts<'_>, to: &mut Vec<u8>) -> Result<(), AllocError>
+    ensures { OnOk result (to.new.items ≡ to.old.items ++ (codes "(" ++ parted (texts (as_parts args.entry)) ++ codes ")")) }
 {
-    let items = args.items();
     put_bytes(b"(", to)?;
-    for (i, arg) in items.iter().enumerate() {
-        if i > 0 {
-            put_bytes(b", ", to)?;
-        }
+    let mut before: &[u8] = b"";
+    for arg in args {
+        put_bytes(before, to)?;
         put_tree(alloc, arg, to)?;
+        before = b", ";
     }
     put_bytes(b")", to)
 }
 
 #[cycle(print)]
-fn put_block(alloc: Global, block: &Block, to: &mut Vec<u8>) -> Result<(), AllocError>
-    ensures { OnOk result (to.new.items ≡ to.old.items ++ (source block.now.subject ++ codes " where " ++ definitions block.now.defs ++ codes "end")) }
+fn put_definitions(alloc: Global, defs: Definitions<'_>, to: &mut Vec<u8>) -> Result<(), AllocError>
+    ensures { OnOk result (to.new.items ≡ to.old.items ++ definitions defs.entry) }
 {
-    put_tree(alloc, &block.subject, to)?;
-    put_bytes(b" where ", to)?;
-    put_definitions(alloc, &block.defs, to)?;
-    put_bytes(b"end", to)
-}
-
-#[cycle(print)]
-fn put_definitions(alloc: Global, defs: &Defs, to: &mut Vec<u8>) -> Result<(), AllocError>
-    ensures { OnOk result (to.new.items ≡ to.old.items ++ definitions defs.now) }
-{
-    let items = defs.items();
-    for def in items {
+    for def in defs {
         put_definition(alloc, def, to)?;
     }
     Ok(())

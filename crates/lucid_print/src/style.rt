@@ -1,15 +1,13 @@
-//! How the operators are written, and the levels of all forms. 0 binds loosest.
-ghost use Rattle.std.specs.Prelude.{◌≡◌, ◌<◌, ℕ};
-ghost use Rattle.lucid_tree.specs.View.{tree_of};
-ghost use Rattle.lucid_print.specs.Styles.{grouped, row_style, before as before_style, operator, level, style_level};
-ghost use Rattle.lucid_ops.specs.declared.op.Form.TheVariants.{Before, Between};
-ghost use Rattle.lucid_forms.specs.declared.operator.Operator.TheVariants.{Stream};
-ghost use Rattle.lucid_forms.specs.Operators.{row_of};
-ghost use Rattle.lucid_print.specs.Views.{infix_style, prefix_style, seen_style, infix_of, prefix_of};
+//! How forms are written, and their levels. 0 binds loosest.
+ghost use Rattle.std.specs.Prelude.{◌≡◌, ◌<◌};
+ghost use Rattle.lucid_tree.specs.Shape.{head_of};
+ghost use Rattle.lucid_print.specs.Styles.{grouped, before as before_style, operator, style, level, style_level};
+ghost use Rattle.lucid_print.specs.Views.{infix_style, prefix_style, seen_style};
 
-use lucid_forms::{Operator, StreamOp};
+use lucid_forms::Operator;
 use lucid_ops::{Form, Side};
-use lucid_tree::Kind;
+use lucid_tree::{Head, Shape, Tree};
+use lucid_value::Value;
 
 /// The level of a form that binds tightest.
 const TIGHTEST: u8 = 12;
@@ -55,30 +53,33 @@ impl Prefix {
     }
 }
 
-/// How a data operator is written.
+/// How a form is written.
 #[derive(Clone, Copy)]
-pub(crate) enum Style {
+pub(crate) enum Style<'a> {
+    Constant(&'a Value),
+    /// `if`.
+    Conditional,
     Infix(Infix),
     Prefix(Prefix),
     /// Before its parts in parentheses.
     Called(&'static [u8]),
 }
 
-impl Style {
+impl<'a> Style<'a> {
     /// The level of its form.
     fn level(self) -> u8
-        ensures { result ≡ style_level (seen_style self) }
+        ensures { result ≡ style_level (seen_style self.entry) }
     {
         match self {
             Style::Infix(operator) => operator.level,
             Style::Prefix(operator) => operator.level,
-            Style::Called(_) => TIGHTEST,
+            Style::Constant(_) | Style::Conditional | Style::Called(_) => TIGHTEST,
         }
     }
 }
 
-/// How the operator is written.
-pub(crate) fn style_of(op: Operator) -> Style
+// How the operator is written.
+fn written(op: Operator) -> Style<'static>
     ensures { seen_style result ≡ operator op }
 {
     let row = op.row();
@@ -89,68 +90,26 @@ pub(crate) fn style_of(op: Operator) -> Style
     }
 }
 
-// How an operator over streams is written between two parts.
-fn between(op: StreamOp) -> Infix
-    ensures { infix_style result ≡ row_style Between (row_of (Stream op)) }
+/// How a form with this head is written: by the operator that makes it, if one does.
+pub(crate) fn style_of(head: Head<'_>) -> Style<'_>
+    ensures { seen_style result ≡ style (head_of head.entry) }
 {
-    let row = Operator::Stream(op).row();
-    Infix::grouped(row.side, row.level, row.spelling)
-}
-
-// The same before one part.
-fn before(op: StreamOp) -> Prefix
-    ensures { prefix_style result ≡ row_style Before (row_of (Stream op)) }
-{
-    let row = Operator::Stream(op).row();
-    Prefix::at(row.level, row.spelling)
-}
-
-/// How the operator of a node with two parts is written, where it is no data operator.
-pub(crate) fn infix_of(kind: &Kind) -> Infix
-    ensures { infix_style result ≡ infix_of kind.now }
-{
-    match kind {
-        Kind::Fby(_, _) => between(StreamOp::Fby),
-        Kind::Sby(_, _) => between(StreamOp::Sby),
-        Kind::Whenever(_, _) => between(StreamOp::Whenever),
-        Kind::Asa(_, _) => between(StreamOp::Asa),
-        Kind::Upon(_, _) => between(StreamOp::Upon),
-        Kind::Attime(_, _) => between(StreamOp::Attime),
-        Kind::Or(_, _) => between(StreamOp::Or),
-        Kind::And(_, _) => between(StreamOp::And),
-        _ => between(StreamOp::Atspace),
+    match Operator::of_head(head) {
+        Some(op) => written(op),
+        None => match head {
+            Head::Const(value) => Style::Constant(value),
+            _ => Style::Conditional,
+        },
     }
 }
 
-/// The same of a node with one part.
-pub(crate) fn prefix_of(kind: &Kind) -> Prefix
-    ensures { prefix_style result ≡ prefix_of kind.now }
+/// The level of the tree's form.
+pub(crate) fn level_of(tree: &Tree) -> u8
+    ensures { result ≡ level tree.now }
 {
-    match kind {
-        Kind::First(_) => before(StreamOp::First),
-        Kind::Next(_) => before(StreamOp::Next),
-        Kind::Initial(_) => before(StreamOp::Initial),
-        _ => before(StreamOp::Succ),
-    }
-}
-
-/// The level of the node's form.
-pub(crate) fn level_of(kind: &Kind) -> u8
-    ensures { (at : ℕ) → result ≡ level (tree_of at kind.now) }
-{
-    match kind {
-        Kind::Scope(_) => 0,
-        Kind::Fby(_, _)
-        | Kind::Sby(_, _)
-        | Kind::Whenever(_, _)
-        | Kind::Asa(_, _)
-        | Kind::Upon(_, _)
-        | Kind::Attime(_, _)
-        | Kind::Atspace(_, _)
-        | Kind::Or(_, _)
-        | Kind::And(_, _) => infix_of(kind).level,
-        Kind::First(_) | Kind::Next(_) | Kind::Initial(_) | Kind::Succ(_) => prefix_of(kind).level,
-        Kind::Apply { op, .. } => style_of(Operator::Data(*op)).level(),
-        Kind::Const(_) | Kind::Name(_) | Kind::Call { .. } | Kind::If { .. } => TIGHTEST,
+    match tree.shape() {
+        Shape::Form { head, .. } => style_of(head).level(),
+        Shape::Name { .. } | Shape::Call { .. } => TIGHTEST,
+        Shape::Scope { .. } => 0,
     }
 }

@@ -1,15 +1,24 @@
--- The table of forms is the list of forms.
-use Rattle.std.proofs.Common.{◌∙◌, ap}
+-- The table of forms is the list of forms, and a mark or a reserved word that isn't in it spells an operator.
+use Rattle.std.proofs.Common.{◌≡◌, ℕ, List, Option, None, sym, ◌∙◌, ap}
 use Rattle.std.specs.Option.{option_or, option_map}
+use Rattle.lucid_forms.specs.declared.operator.Operator.{Operator}
 use Rattle.lucid_forms.specs.Operators.{spelled}
-use Rattle.lucid_parse.specs.declared.terminal.Terminal.TheVariants.{Operator}
-use Rattle.lucid_parse.specs.Terminals.{form_terminals}
+use Rattle.lucid_parse.specs.declared.terminal.Terminal.TheVariants as terminal
+use Rattle.lucid_parse.specs.Terminals.{form_terminals, terminal_in, fixed_terminal}
+use Rattle.lucid_parse.proofs.Spellings.{has_terminal}
 use Rattle.lucid_parse.proofs.spelling.fixed_terminal.Goals as goal
+
+spelled_so : (bytes : List ℕ) (found : Option Operator) → found ≡ spelled bytes → None ≡ terminal_in bytes form_terminals → fixed_terminal bytes ≡ option_map terminal.Operator found
+spelled_so bytes found e f = sym (ap (λ o. option_map terminal.Operator o) e ∙ ap (λ o. option_or o (option_map terminal.Operator (spelled bytes))) f)
 
 pub returns-in-Some : goal.returns-in-Some
 unfolding form_terminals
-returns-in-Some c = ap (λ o. option_or o (option_map Operator (spelled c.args.bytes.now))) c.in-Some.ensures
+returns-in-Some c = sym (ap (λ o. option_or o (option_map terminal.Operator (spelled c.args.bytes.now))) c.in-Some.ensures)
 
-pub returns-in-None : goal.returns-in-None
+pub returns-in-Some-find : goal.returns-in-Some-find
 unfolding form_terminals
-returns-in-None c = c.operator_terminal.ensures ∙ ap (λ o. option_or o (option_map Operator (spelled c.args.bytes.now))) c.in-None.ensures
+returns-in-Some-find c = spelled_so c.args.bytes.now _ c.in-Some-find.ensures c.in-None.ensures
+
+pub unreachable-requires : goal.unreachable-requires
+unfolding form_terminals
+unreachable-requires c = has_terminal c.args.bytes.now c.requires (spelled_so c.args.bytes.now _ c.in-None-find.ensures c.in-None.ensures)
