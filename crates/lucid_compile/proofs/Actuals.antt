@@ -9,25 +9,25 @@ use Rattle.lucid_equations.specs.declared.rows.PlaceRow.{PlaceRow}
 use Rattle.lucid_compile.specs.Static.{Static, Numbers, node_for, nodes_for}
 
 -- the node of that index among some nodes
-abbrev pub nth : PlainNodes → ℕ → Option PlainNode
-nth no_nodes i = None
-nth (node e es) zero = Some e
-nth (node e es) (suc i) = nth es i
+abbrev pub at_number : PlainNodes → ℕ → Option PlainNode
+at_number no_nodes i = None
+at_number (node e es) zero = Some e
+at_number (node e es) (suc i) = at_number es i
 
-abbrev pub nth_of : Option PlainNodes → ℕ → Option PlainNode
-nth_of None i = None
-nth_of (Some es) i = nth es i
+abbrev pub at_number_of : Option PlainNodes → ℕ → Option PlainNode
+at_number_of None i = None
+at_number_of (Some es) i = at_number es i
 
-pub nth-all_at : (ts : List PlainNode) (js : List ℕ) (i : ℕ) → option_map (at ts) (slice_get js i) ≡ nth (all_at ts js) i
-nth-all_at ts [] i = refl
-nth-all_at ts (j ∷ js) zero = refl
-nth-all_at ts (j ∷ js) (suc i) = nth-all_at ts js i
+pub at_number-all_at : (ts : List PlainNode) (js : List ℕ) (i : ℕ) → option_map (at ts) (slice_get js i) ≡ at_number (all_at ts js) i
+at_number-all_at ts [] i = refl
+at_number-all_at ts (j ∷ js) zero = refl
+at_number-all_at ts (j ∷ js) (suc i) = at_number-all_at ts js i
 
-pub nth-nodes_for : (nu : Numbers) (k : Static) (es : PlainTrees) (i : ℕ) → option_map (λ e. node_for nu k e) (tree_at es i) ≡ nth (nodes_for nu k es) i
-nth-nodes_for nu k no_trees i = refl
-nth-nodes_for nu k (tree e es) zero = refl
-nth-nodes_for nu k (tree e es) (suc i) = nth-nodes_for nu k es i
+pub at_number-nodes_for : (nu : Numbers) (k : Static) (es : PlainTrees) (i : ℕ) → option_map (λ e. node_for nu k e) (tree_at es i) ≡ at_number (nodes_for nu k es) i
+at_number-nodes_for nu k no_trees i = refl
+at_number-nodes_for nu k (tree e es) zero = refl
+at_number-nodes_for nu k (tree e es) (suc i) = at_number-nodes_for nu k es i
 
-pub actuals-read : (ts : List PlainNode) (o : Option PlaceRow) (i : ℕ) → option_map (at ts) (slice_get (actuals_of o) i) ≡ nth_of (option_map (λ r. all_at ts r.actuals) o) i
+pub actuals-read : (ts : List PlainNode) (o : Option PlaceRow) (i : ℕ) → option_map (at ts) (slice_get (actuals_of o) i) ≡ at_number_of (option_map (λ r. all_at ts r.actuals) o) i
 actuals-read ts None i = refl
-actuals-read ts (Some r) i = nth-all_at ts r.actuals i
+actuals-read ts (Some r) i = at_number-all_at ts r.actuals i

@@ -17,27 +17,28 @@ use Rattle.lucid_equations.proofs.Rising.{at-kept}
 use Rattle.lucid_compile.specs.Static.{Static, in_block, freezes, frame, level, in_body}
 use Rattle.lucid_compile.specs.Places.{first_place}
 use Rattle.lucid_equations.specs.Ranges.{EachBelow}
-use Rattle.lucid_equations.specs.Rows.{all_at, parts, as_node}
-use Rattle.lucid_equations.specs.declared.rows.Node.TheVariants.{Const, Freeze, Call}
-use Rattle.lucid_equations.specs.Sound.{ScopeIs, EachStandsIn, PartsStand, IsFilled}
+use Rattle.lucid_equations.specs.Rows.{all_at}
+use Rattle.lucid_equations.specs.declared.rows.Node.TheVariants.{Const, Freeze}
+use Rattle.lucid_equations.specs.Sound.{ScopeIs, EachStandsIn}
 use Rattle.lucid_equations.specs.declared.rows.Entry.TheVariants.{Plain, Parameter, Current}
 use Rattle.lucid_equations.specs.declared.rows.Node.{Node}
-use Rattle.lucid_equations.specs.declared.rows.NodeRow.{NodeRow}
-use Rattle.lucid_equations.specs.declared.rows.PlaceRow.{PlaceRow}
 use Rattle.lucid_compile.specs.declared.building.Body.{Body}
 use Rattle.lucid_compile.specs.declared.building.Here.{Here}
 use Rattle.lucid_compile.proofs.Opening.{here-tree, here-trees, here-defs, here-parameters, here-scopes}
 use Rattle.lucid_equations.specs.declared.rows.ScopeRow.{ScopeRow}
 use Rattle.lucid_equations.specs.declared.rows.ScopeKind.TheVariants.{Called as CalledScope, Frozen as FrozenScope}
 use Rattle.lucid_compile.specs.Numbered.{name_mark, function_mark, call_number}
+use Rattle.lucid_compile.specs.Keys.{plain_key, function_key}
+use Rattle.lucid_compile.proofs.Pairs.{pairs-count}
 use Rattle.lucid_compile.specs.Building.{Lists, with_name, with_place, with_body, OneScope, OneConstant, OneNode}
-use Rattle.lucid_compile.specs.Bound.{Stand, Numbered, name_node, callee_place, bound_node, bound_nodes, form_stand, name_stand, call_stand, block_stands, CallStand, FunctionStand, NodeStand, Log, with_nodes, with_scopes, block_scopes, with_call, with_parameters, added, added_all, added_defs}
+use Rattle.lucid_compile.specs.Bound.{Stand, Numbered, name_node, callee_place, call_node, bound_node, bound_nodes, form_stand, name_stand, call_stand, block_stands, CallStand, FunctionStand, NodeStand, Log, with_nodes, with_scopes, block_scopes, with_call, with_parameters, added, added_all, added_defs}
 use Rattle.lucid_compile.specs.Forms.{node_of, HasFirst, IsForm}
 use Rattle.lucid_compile.proofs.Formed.{is-form}
-use Rattle.lucid_compile.specs.Holds.{nodes_in, IsKnown, IsOpen, StandsAt, Grown, GrownTo, AllGrownTo, AddsTree, AddsTrees, AddsDefs}
-use Rattle.lucid_compile.specs.Steps.{AddsName, AddsCall, AddsBlock, AddsParameters}
+use Rattle.lucid_compile.specs.Holds.{nodes_in, StandsAt, IsNameRow, Grown, GrownTo, AllGrownTo, AddsTree, AddsTrees, AddsDefs}
+use Rattle.lucid_compile.specs.Steps.{AddsCall, AddsBlock, AddsParameters}
 use Rattle.lucid_compile.proofs.Growing.{begins-then, scope-kept, stands-kept, no-nodes, no-scopes, open-grown, opened-is, parent-below, grown-none, grown-then, push-grown, keep-grown, keep-constant, keep-known, define-grown, close-grown, place-grown, within-kept}
-use Rattle.lucid_compile.proofs.Shapes.{left-true, right-true, shaped-one, freezes-first, freezes-rest}
+use Rattle.lucid_lemmas.proofs.Truths.{first_true, second_true}
+use Rattle.lucid_compile.proofs.Shapes.{shaped-one, freezes-first, freezes-rest}
 use Rattle.lucid_compile.proofs.Named.{parts-own, named-stands, named-filled, named-means, named-known, named-parts}
 
 pub if_ok : {T E : Type 0} (r : Result T E) (P Q : T → Type 0) → IfOk r P → ((x : T) → P x → Q x) → IfOk r Q
@@ -92,8 +93,8 @@ module _ (w : Numbered) where
   -- a first part, and then others
   pub tree-then : (o m n : Lists) (d : Here) (e : PlainTree) (es : PlainTrees) (id : ℕ) (ids : List ℕ) → AddsTree w o m d e id → AddsTrees w m n d es ids → AddsTrees w o n d (tree e es) (id ∷ ids)
   tree-then o m n d e es id ids a b = λ k g l t h.
-      let p : GrownTo w o m (added w k e g) (bound_node w e) d.scope id = a k g l (left-true (is_shaped e) _ t) h in
-      let q : AllGrownTo w m n (added_all w k es (added w k e g)) (bound_nodes w es) d.scope ids = b k (added w k e g) (here-tree w k d k e g l) (right-true (is_shaped e) _ t) p.grown.holds in
+      let p : GrownTo w o m (added w k e g) (bound_node w e) d.scope id = a k g l (first_true (is_shaped e) _ t) h in
+      let q : AllGrownTo w m n (added_all w k es (added w k e g)) (bound_nodes w es) d.scope ids = b k (added w k e g) (here-tree w k d k e g l) (second_true (is_shaped e) _ t) p.grown.holds in
       record {
         grown = grown-then w o m n _ _ p.grown q.grown;
         within = (within-kept (nodes_in w m) (nodes_in w n) q.grown.begins id p.within, q.within);
@@ -104,8 +105,8 @@ module _ (w : Numbered) where
   -- a form of parts that were added, with its node
   row-added : (o m n : Lists) (d : Here) (at : ℕ) (f : Head) (es : PlainTrees) (ids : List ℕ) (x : Node) (id : ℕ) → AddsTrees w o m d es ids → OneNode m n (record { scope = d.scope; node = x }) id → (length ids ≡ count es → IsTrue (fits_arity f es) → IsForm f ids x) → AddsTree w o n d (form at f es) id
   row-added o m n d at f es ids x id a s made = λ k g l t h.
-      let p : AllGrownTo w o m (added_all w k es g) (bound_nodes w es) d.scope ids = a k g l (right-true (fits_arity f es) _ t) h in
-      let is : IsForm f ids x = made (count-same w (nodes_in w m) ids es p.are) (left-true (fits_arity f es) _ t) in
+      let p : AllGrownTo w o m (added_all w k es g) (bound_nodes w es) d.scope ids = a k g l (second_true (fits_arity f es) _ t) h in
+      let is : IsForm f ids x = made (count-same w (nodes_in w m) ids es p.are) (first_true (fits_arity f es) _ t) in
       grown-on o m n _ _ _ _ id p.grown
       (subst (λ z. GrownTo w m n (with_nodes (form_stand k ∷ []) (added_all w k es g)) z d.scope id) (is.means m.constants (scoped_inputs w.scoped) (nodes_in w m) ∙ ap (row f) p.are)
       (push-grown w m n (added_all w k es g) (record { scope = d.scope; node = x }) (form_stand k) id p.grown.holds s (is.known (length m.constants)) (subst (EachBelow (length (nodes_in w m))) (sym is.parts_are) p.within) is.alone (here-trees w k d k es g l).1
@@ -127,26 +128,23 @@ module _ (w : Numbered) where
       (subst (λ z. OneNode z n (record { scope = d.scope; node = node_of f a (get_or ids 1 0) (get_or ids 2 0) }) id) b.0 s) in
       row-added o m n d at f es ids _ id x same (λ e t. is-form f es ids tt h e t)
 
-  pub name-added : (o n : Lists) (d : Here) (at : ℕ) (r : NodeRow) (id : ℕ) → r.node ≡ name_node w at → r.scope ≡ d.scope → OneNode o n r id → AddsName w o n d at id
-  name-added o n d at r id is here s = λ x k g l t h.
+  pub name-added : (o n : Lists) (d : Here) (at id : ℕ) → OneNode o n (record { scope = d.scope; node = name_node w at }) id → (x : List ℕ) → AddsTree w o n d (name at x) id
+  name-added o n d at id s x = λ k g l t h.
       let b = scoped_binding w.scoped at in
-      subst (λ y. GrownTo w o n (with_nodes (name_stand k at ∷ []) g) (bound_node w (name at x)) y id) here (subst (λ z. GrownTo w o n (with_nodes (name_stand k at ∷ []) g) z r.scope id) (ap (as_node o.constants (scoped_inputs w.scoped) (nodes_in w o)) is ∙ named-means o.constants (scoped_inputs w.scoped) (nodes_in w o) w.numbering b)
-      (push-grown w o n g r (name_stand k at) id h s (subst (IsKnown (length o.constants)) (sym is) (named-known (length o.constants) w.numbering b)) (subst (λ x. EachBelow (length (nodes_in w o)) (parts x)) (sym is) (named-parts (length (nodes_in w o)) w.numbering b)) is
-      (subst (λ y. IsOpen g.scopes y k) (sym here) l.1) (subst (PartsStand o.scopes o.nodes r.scope) (sym is) (named-stands o.scopes o.nodes r.scope w.numbering b)) (subst IsFilled (sym is) (named-filled w.numbering b))))
+      subst (λ z. GrownTo w o n (with_nodes (name_stand k at ∷ []) g) z d.scope id) (named-means o.constants (scoped_inputs w.scoped) (nodes_in w o) w.numbering b)
+      (push-grown w o n g (record { scope = d.scope; node = name_node w at }) (name_stand k at) id h s (named-known (length o.constants) w.numbering b) (named-parts (length (nodes_in w o)) w.numbering b) refl l.1 (named-stands o.scopes o.nodes d.scope w.numbering b) (named-filled w.numbering b))
 
-  pub call-added : (m l n : Lists) (d : Here) (at first : ℕ) (ids : List ℕ) (p : PlaceRow) (q number depth id : ℕ) → l ≡ with_place p at m → p.actuals ≡ ids → p.scope ≡ d.scope → p.name ≡ (name_mark w.numbering at).number → q ≡ call_number w.numbering first
-      → number ≡ (name_mark w.numbering at).number → depth ≡ (function_mark w.numbering (callee_place (scoped_binding w.scoped at))).level
-      → OneNode l n (record { scope = d.scope; node = Call number q depth }) id → AddsCall w m n d at first ids id
-  call-added m l n d at first ids p q number depth id b actuals here named place is_number is_depth s = λ o x es f a k g e u h.
+  pub call-added : (m l n : Lists) (d : Here) (at first : ℕ) (ids : List ℕ) (id : ℕ) → l ≡ with_place (plain_key at d.level) (plain_key first d.level) (record { scope = d.scope; name = (name_mark w.numbering at).number; actuals = ids }) m
+      → OneNode l n (record { scope = d.scope; node = call_node w at first }) id → AddsCall w m n d at first ids id
+  call-added m l n d at first ids id b s = λ o x es f a k g e u h.
       let r : AllGrownTo w o m (added_all w k es g) (bound_nodes w es) d.scope ids = a k g e u h in
       let on : StandsAt (added_all w k es g) k d = here-trees w k d k es g e in
       let c : CallStand = record { at = at; actuals = es; home = k } in
       let v : NodeStand = call_stand k at (first_place es) in
       let z : Log = with_call c (added_all w k es g) in
-      let call_place : q ≡ call_number w.numbering (first_place es) = place ∙ ap (call_number w.numbering) f in
-      let y : Grown w m l z = place-grown w m l (added_all w k es g) c p r.grown.holds b (subst (EachBelow (length (nodes_in w m))) (sym actuals) r.within) (ap (all_at (nodes_in w m)) actuals ∙ r.are) (subst (λ y. IsOpen (added_all w k es g).scopes y k) (sym here) on.1) named (subst (λ y. EachStandsIn m.nodes y p.actuals) (sym here) (subst (EachStandsIn m.nodes d.scope) (sym actuals) r.stand)) in
+      let y : Grown w m l z = place-grown w m l (added_all w k es g) c (plain_key at d.level) (plain_key first d.level) (record { scope = d.scope; name = (name_mark w.numbering at).number; actuals = ids }) r.grown.holds b (ap (plain_key at) (sym e.0)) (λ j. plain_key (f j) (sym e.0 j)) r.within r.are on.1 refl r.stand in
       grown-on o l n _ _ _ _ id (grown-then w o m l _ _ r.grown y)
-      (subst (λ b. GrownTo w l n (with_nodes (v ∷ []) z) b d.scope id) (λ j. invoke (is_number j) (call_place j) (is_depth j)) (push-grown w l n z (record { scope = d.scope; node = Call number q depth }) v id y.holds s tt tt (λ j. Call (is_number j) (call_place j) (is_depth j)) on.1 tt tt))
+      (subst (λ b. GrownTo w l n (with_nodes (v ∷ []) z) b d.scope id) (λ j. invoke (name_mark w.numbering at).number (call_number w.numbering (f j)) (function_mark w.numbering (callee_place (scoped_binding w.scoped at))).level) (push-grown w l n z (record { scope = d.scope; node = call_node w at first }) v id y.holds s tt tt (λ j. call_node w at (f j)) on.1 tt tt))
 
   level-frozen : (b : Bool) (n m : ℕ) → b ≡ true → n ≡ m → (if b then suc n else n) ≡ m + 1
   level-frozen b n m e h = rw e (omega (arith, h))
@@ -175,11 +173,11 @@ module _ (w : Numbered) where
       let first : Log = with_scopes (y ∷ []) g in
       let v : Grown w o p first = open-grown w o p g y x inner.scope h opens (refl, parent-below w o p g x inner.scope d.scope k h opens q.1, q.1) in
       let inside : StandsAt first y inner = (level-frozen (freezes ds) (level k) d.level f q.0 ∙ sym depth, opened-is w o p g y x inner.scope h opens own) in
-      let r : GrownTo w p m (added w y e first) (bound_node w e) inner.scope i = a y first inside (left-true (is_shaped e) _ u) v.holds in
+      let r : GrownTo w p m (added w y e first) (bound_node w e) inner.scope i = a y first inside (first_true (is_shaped e) _ u) v.holds in
       let z : Log = added_defs w y k ds (added w y e first) in
       let on : StandsAt (added w y e first) k d = here-tree w k d y e first (here-scopes w k d (y ∷ []) g q) in
       let row : ScopeIs p.scopes inner.scope d.scope FrozenScope = opened-row o p x inner.scope opens in
-      let t : Grown w m l z = b y k (added w y e first) (here-tree w y inner y e first inside) on (λ _. scope-kept p.scopes m.scopes r.grown.outer inner.scope d.scope FrozenScope row) (right-true (is_shaped e) _ u) r.grown.holds in
+      let t : Grown w m l z = b y k (added w y e first) (here-tree w y inner y e first inside) on (λ _. scope-kept p.scopes m.scopes r.grown.outer inner.scope d.scope FrozenScope row) (second_true (is_shaped e) _ u) r.grown.holds in
       let last : StandsAt z k d = here-defs w k d y k ds (added w y e first) on in
       subst (λ c. GrownTo w o n (with_nodes (block_stands c k) (added_defs w y k ds (added w y e (with_scopes (block_scopes c y) g)))) (if c then freeze (bound_node w e) else bound_node w e) d.scope id) (sym f)
       (grown-on o l n _ _ _ _ id (grown-then w o p l _ _ v (grown-then w p m l _ _ r.grown t))
@@ -191,9 +189,9 @@ module _ (w : Numbered) where
       let y : Static = in_block ds k in
       let same : frame y ≡ frame k = frame-open (freezes ds) y (frame k) f in
       let inside : StandsAt g y d = (level-open (freezes ds) (level k) d.level f q.0, q.1 ∙ ap Some (sym same)) in
-      let r : GrownTo w o m (added w y e g) (bound_node w e) d.scope i = a y g inside (left-true (is_shaped e) _ u) h in
+      let r : GrownTo w o m (added w y e g) (bound_node w e) d.scope i = a y g inside (first_true (is_shaped e) _ u) h in
       let z : Log = added_defs w y k ds (added w y e g) in
-      let t : Grown w m l z = b y k (added w y e g) (here-tree w y d y e g inside) (here-tree w k d y e g q) (λ x. absurd (not-both (freezes ds) x f)) (right-true (is_shaped e) _ u) r.grown.holds in
+      let t : Grown w m l z = b y k (added w y e g) (here-tree w y d y e g inside) (here-tree w k d y e g q) (λ x. absurd (not-both (freezes ds) x f)) (second_true (is_shaped e) _ u) r.grown.holds in
       subst (λ c. GrownTo w o l (with_nodes (block_stands c k) (added_defs w y k ds (added w y e (with_scopes (block_scopes c y) g)))) (if c then freeze (bound_node w e) else bound_node w e) d.scope i) (sym f)
       (subst (λ x. GrownTo w o l (with_nodes [] (added_defs w y k ds (added w y e x))) (bound_node w e) d.scope i) (sym (no-scopes g)) (subst (λ x. GrownTo w o l x (bound_node w e) d.scope i) (sym (no-nodes z)) (record {
         grown = grown-then w o m l _ _ r.grown t;
@@ -215,33 +213,32 @@ module _ (w : Numbered) where
       let p : Grown w o m one = a k q g e f (λ y. z (freezes-first x ds y)) s.0 h in
       subst (Grown w o n) (sym (first-added w k q x ds g)) (grown-then w o m n _ _ p (b k q one (here-defs w k i k q (one_def x no_defs) g e) (here-defs w q d k q (one_def x no_defs) g f) (λ y. scope-kept o.scopes m.scopes p.outer i.scope d.scope FrozenScope (z (freezes-rest x ds y))) s.1 p.holds))
 
-  pub plain-added : (o m n : Lists) (i d : Here) (at : ℕ) (x : List ℕ) (e : PlainTree) (body : ℕ) → AddsTree w o m i e body → n ≡ with_name (record { scope = i.scope; kind = Plain body }) m → AddsDefs w o n i d (defines at x e no_defs)
+  pub plain-added : (o m n : Lists) (i d : Here) (at : ℕ) (x : List ℕ) (e : PlainTree) (body : ℕ) → AddsTree w o m i e body → n ≡ with_name (plain_key at i.level) (record { scope = i.scope; kind = Plain body }) m → AddsDefs w o n i d (defines at x e no_defs)
   plain-added o m n i d at x e body a s = λ k q g u v fz t h.
-      let p : GrownTo w o m (added w k e g) (bound_node w e) i.scope body = a k g u (left-true (is_shaped e) _ t) h in
-      grown-then w o m n _ _ p.grown (define-grown w m n (added w k e g) (record { at = at; home = k; entry = plain_entry (bound_node w e) }) (record { scope = i.scope; kind = Plain body }) p.grown.holds s (p.within, ap plain_entry p.is) (here-tree w k i k e g u).1 p.stands)
+      let p : GrownTo w o m (added w k e g) (bound_node w e) i.scope body = a k g u (first_true (is_shaped e) _ t) h in
+      grown-then w o m n _ _ p.grown (define-grown w m n (added w k e g) (record { at = at; home = k; entry = plain_entry (bound_node w e) }) (plain_key at i.level) (record { scope = i.scope; kind = Plain body }) p.grown.holds s (ap (plain_key at) (sym u.0)) (p.within, ap plain_entry p.is) (here-tree w k i k e g u).1 p.stands)
 
-  pub current-added : (o m n : Lists) (i d : Here) (at : ℕ) (x : List ℕ) (e : PlainTree) (body : ℕ) → AddsTree w o m d e body → n ≡ with_name (record { scope = i.scope; kind = Current body }) m → AddsDefs w o n i d (defines_current at x e no_defs)
+  pub current-added : (o m n : Lists) (i d : Here) (at : ℕ) (x : List ℕ) (e : PlainTree) (body : ℕ) → AddsTree w o m d e body → n ≡ with_name (plain_key at i.level) (record { scope = i.scope; kind = Current body }) m → AddsDefs w o n i d (defines_current at x e no_defs)
   current-added o m n i d at x e body a s = λ k q g u v fz t h.
-      let p : GrownTo w o m (added w q e g) (bound_node w e) d.scope body = a q g v (left-true (is_shaped e) _ t) h in
-      grown-then w o m n _ _ p.grown (define-grown w m n (added w q e g) (record { at = at; home = k; entry = current_entry (bound_node w e) }) (record { scope = i.scope; kind = Current body }) p.grown.holds s (p.within, ap current_entry p.is) (here-tree w k i q e g u).1 (d.scope, scope-kept o.scopes m.scopes p.grown.outer i.scope d.scope FrozenScope (fz refl), p.stands))
+      let p : GrownTo w o m (added w q e g) (bound_node w e) d.scope body = a q g v (first_true (is_shaped e) _ t) h in
+      grown-then w o m n _ _ p.grown (define-grown w m n (added w q e g) (record { at = at; home = k; entry = current_entry (bound_node w e) }) (plain_key at i.level) (record { scope = i.scope; kind = Current body }) p.grown.holds s (ap (plain_key at) (sym u.0)) (p.within, ap current_entry p.is) (here-tree w k i q e g u).1 (d.scope, scope-kept o.scopes m.scopes p.grown.outer i.scope d.scope FrozenScope (fz refl), p.stands))
 
   pub no_parameters-added : (o : Lists) (d : Here) → AddsParameters w o o d []
   no_parameters-added o d = λ k g l c h. grown-none w o g h
 
-  pub parameters-more : (o m n : Lists) (d : Here) (ats : List ℕ) (i index : ℕ) → i < length ats → index ≡ i → AddsParameters w o m d (take i ats) → n ≡ with_name (record { scope = d.scope; kind = Parameter index }) m → AddsParameters w o n d (take (i + 1) ats)
-  parameters-more o m n d ats i index h e a s =
-      let at : ℕ = get_or ats i 0 in
+  pub parameters-more : (o m n : Lists) (d : Here) (ats : List ℕ) (i index at : ℕ) → i < length ats → index ≡ i → at ≡ get_or ats i 0 → AddsParameters w o m d (take i ats) → n ≡ with_name (plain_key at d.level) (record { scope = d.scope; kind = Parameter index }) m → AddsParameters w o n d (take (i + 1) ats)
+  parameters-more o m n d ats i index at h e is a s =
       let count : length (take i ats) ≡ i = length-take-le i ats (omega arith) in
-      subst (AddsParameters w o n d) (sym (take_more ats i 0 h)) (λ k g u c held.
+      subst (AddsParameters w o n d) (sym (take_more ats i 0 h ∙ ap (λ y. take i ats ++ y ∷ []) (sym is))) (λ k g u c held.
       let before : Log = with_parameters k 0 (take i ats) g in
       let p : Grown w o m before = a k g u c held in
       let number : index ≡ 0 + length (take i ats) = omega (arith, e, count) in
       let one : Stand = record { at = at; home = k; entry = parameter_entry (0 + length (take i ats)) } in
-      subst (Grown w o n) (sym (parameters-after k 0 (take i ats) at g)) (grown-then w o m n _ _ p (define-grown w m n before one (record { scope = d.scope; kind = Parameter index }) p.holds s (ap parameter_entry number) (here-parameters w k d k 0 (take i ats) g u).1 (c.0, scope-kept o.scopes m.scopes p.outer d.scope c.0 CalledScope c.1))))
+      subst (Grown w o n) (sym (parameters-after k 0 (take i ats) at g)) (grown-then w o m n _ _ p (define-grown w m n before one (plain_key at d.level) (record { scope = d.scope; kind = Parameter index }) p.holds s (ap (plain_key at) (sym u.0)) (ap parameter_entry number) (here-parameters w k d k 0 (take i ats) g u).1 (c.0, scope-kept o.scopes m.scopes p.outer d.scope c.0 CalledScope c.1))))
 
-  pub function-opened : (o p m l n : Lists) (i inner d : Here) (at : ℕ) (x : List ℕ) (ns : List (List ℕ)) (ats : List ℕ) (e : PlainTree) (body : ℕ) → OneScope o p (record { parent = i.scope; kind = CalledScope }) inner.scope → inner.level ≡ i.level + 1 → AddsParameters w p m inner ats → AddsTree w m l inner e body
-      → n ≡ with_body (record { scope = inner.scope; body = body }) l → AddsDefs w o n i d (defines_function at x ns ats e no_defs)
-  function-opened o p m l n i inner d at x ns ats e body opens deeper a c s = λ k q g u v fz t h.
+  pub function-opened : (o p m l n : Lists) (i inner d : Here) (at number : ℕ) (x : List ℕ) (ns : List (List ℕ)) (ats : List ℕ) (e : PlainTree) (body : ℕ) → OneScope o p (record { parent = i.scope; kind = CalledScope }) inner.scope → inner.level ≡ i.level + 1 → AddsParameters w p m inner ats → AddsTree w m l inner e body
+      → number ≡ length o.names → n ≡ with_body (function_key at number i.level) (record { scope = inner.scope; body = body }) l → AddsDefs w o n i d (defines_function at x ns ats e no_defs)
+  function-opened o p m l n i inner d at number x ns ats e body opens deeper a c count s = λ k q g u v fz t h.
       let f : Static = in_body ns ats k in
       let y : ScopeRow = record { parent = i.scope; kind = CalledScope } in
       let first : Log = with_scopes (f ∷ []) g in
@@ -252,8 +249,9 @@ module _ (w : Numbered) where
       let before : Log = with_parameters f 0 ats first in
       let j : Grown w p m before = a f first inside (i.scope, called) z.holds in
       let on : StandsAt before f inner = here-parameters w f inner f 0 ats first inside in
-      let shape : IsTrue (is_shaped e) = right-true (nat_lt 0 (length ns) && nat_eq (length ats) (length ns)) _ (left-true _ true t) in
+      let shape : IsTrue (is_shaped e) = second_true (nat_lt 0 (length ns) && nat_eq (length ats) (length ns)) _ (first_true _ true t) in
       let r : GrownTo w m l (added w f e before) (bound_node w e) inner.scope body = c f before on shape j.holds in
       let stand : FunctionStand = record { at = at; first = length g.names; names = ns; places = ats; right = e; home = k } in
       let row : Body = record { scope = inner.scope; body = body } in
-      grown-then w o l n _ _ (grown-then w o m l _ _ (grown-then w o p m _ _ z j) r.grown) (close-grown w l n (added w f e before) stand row r.grown.holds s r.within r.is (here-tree w f inner f e before on).1 (i.scope, scope-kept p.scopes l.scopes (begins-then p.scopes m.scopes l.scopes j.outer r.grown.outer) inner.scope i.scope CalledScope called, r.stands))
+      let own : number ≡ length g.names = count ∙ pairs-count (λ i r s. IsNameRow g.scopes (nodes_in w o) r s) 0 o.names g.names h.names in
+      grown-then w o l n _ _ (grown-then w o m l _ _ (grown-then w o p m _ _ z j) r.grown) (close-grown w l n (added w f e before) stand (function_key at number i.level) row r.grown.holds s (λ j. function_key at (own j) (sym u.0 j)) r.within r.is (here-tree w f inner f e before on).1 (i.scope, scope-kept p.scopes l.scopes (begins-then p.scopes m.scopes l.scopes j.outer r.grown.outer) inner.scope i.scope CalledScope called, r.stands))

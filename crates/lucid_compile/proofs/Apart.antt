@@ -11,7 +11,7 @@ use Rattle.lucid_equations.specs.Nodes.{plain_entry, current_entry}
 use Rattle.lucid_compile.specs.Static.{Static, outermost, in_block, in_function, freezes, in_body}
 use Rattle.lucid_compile.specs.Bound.{Stand, Numbered, bound_node, block_scopes, FunctionStand, Log, no_log, with_stand, with_function, opened_block, opened_function, with_parameters, added, added_all, added_defs}
 use Rattle.lucid_compile.proofs.Opening.{parameters-scopes}
-use Rattle.lucid_compile.proofs.Shapes.{left-true, right-true}
+use Rattle.lucid_lemmas.proofs.Truths.{first_true, second_true}
 
 -- the place of the first definition
 abbrev first_of : PlainDefs → ℕ
@@ -66,43 +66,43 @@ function-owns x ns ats k l h =
 
 has-first : (n m : ℕ) → IsTrue (nat_lt 0 n && nat_eq m n) → 0 < m
 has-first n m h =
-    let a : IsTrue (nat_lt 0 n) = left-true (nat_lt 0 n) _ h in
-    let b : IsTrue (nat_eq m n) = right-true (nat_lt 0 n) _ h in
+    let a : IsTrue (nat_lt 0 n) = first_true (nat_lt 0 n) _ h in
+    let b : IsTrue (nat_eq m n) = second_true (nat_lt 0 n) _ h in
     grind (arith, nat_tests, a, b)
 
 module _ (w : Numbered) (x : ℕ) where
   mutual
     owns-tree : (k : Static) (e : PlainTree) (l : Log) → IsTrue (is_shaped e) → times x (owns (added w k e l)) ≤ times x (owns l) + taken x (places e)
-    owns-tree k (form at f es) l t = omega (arith, owns-trees k es l (right-true _ (are_shaped es) t))
+    owns-tree k (form at f es) l t = omega (arith, owns-trees k es l (second_true _ (are_shaped es) t))
     owns-tree k (name at n) l t = omega arith
     owns-tree k (call at n es) l t = omega (arith, owns-trees k es l t)
     owns-tree k (block at e ds) l t =
         let u : Log = opened_block ds k l in
         let b : Log = added w (in_block ds k) e u in
-        omega (arith, taken-append x (places e) (places_in_defs ds), block-owns x ds k l (freezes ds) refl, owns-tree (in_block ds k) e u (left-true (is_shaped e) _ t), owns-defs (in_block ds k) k ds b (right-true (is_shaped e) _ t))
+        omega (arith, taken-append x (places e) (places_in_defs ds), block-owns x ds k l (freezes ds) refl, owns-tree (in_block ds k) e u (first_true (is_shaped e) _ t), owns-defs (in_block ds k) k ds b (second_true (is_shaped e) _ t))
 
     owns-trees : (k : Static) (es : PlainTrees) (l : Log) → IsTrue (are_shaped es) → times x (owns (added_all w k es l)) ≤ times x (owns l) + taken x (places_in es)
     owns-trees k no_trees l t = omega arith
     owns-trees k (tree e es) l t =
-        omega (arith, taken-append x (places e) (places_in es), owns-tree k e l (left-true (is_shaped e) _ t), owns-trees k es (added w k e l) (right-true (is_shaped e) _ t))
+        omega (arith, taken-append x (places e) (places_in es), owns-tree k e l (first_true (is_shaped e) _ t), owns-trees k es (added w k e l) (second_true (is_shaped e) _ t))
 
     owns-defs : (k o : Static) (ds : PlainDefs) (l : Log) → IsTrue (defs_are_shaped ds) → times x (owns (added_defs w k o ds l)) + taken x (front_of ds) ≤ times x (owns l) + taken x (places_in_defs ds)
     owns-defs k o no_defs l t = omega arith
     owns-defs k o (defines at n e ds) l t =
         let s : Stand = record { at = at; home = k; entry = plain_entry (bound_node w e) } in
-        omega (arith, taken-append x (places e) (places_in_defs ds), owns-tree k e l (left-true (is_shaped e) _ t), owns-defs k o ds (with_stand s (added w k e l)) (right-true (is_shaped e) _ t))
+        omega (arith, taken-append x (places e) (places_in_defs ds), owns-tree k e l (first_true (is_shaped e) _ t), owns-defs k o ds (with_stand s (added w k e l)) (second_true (is_shaped e) _ t))
     owns-defs k o (defines_function at n ns ats e ds) l t =
         let y : Static = in_body ns ats k in
-        let front : IsTrue ((nat_lt 0 (length ns) && nat_eq (length ats) (length ns)) && is_shaped e) = left-true _ (defs_are_shaped ds) t in
-        let first : 0 < length ats = has-first (length ns) (length ats) (left-true _ (is_shaped e) front) in
-        let shape : IsTrue (is_shaped e) = right-true (nat_lt 0 (length ns) && nat_eq (length ats) (length ns)) _ front in
-        let rest : IsTrue (defs_are_shaped ds) = right-true ((nat_lt 0 (length ns) && nat_eq (length ats) (length ns)) && is_shaped e) _ t in
+        let front : IsTrue ((nat_lt 0 (length ns) && nat_eq (length ats) (length ns)) && is_shaped e) = first_true _ (defs_are_shaped ds) t in
+        let first : 0 < length ats = has-first (length ns) (length ats) (first_true _ (is_shaped e) front) in
+        let shape : IsTrue (is_shaped e) = second_true (nat_lt 0 (length ns) && nat_eq (length ats) (length ns)) _ front in
+        let rest : IsTrue (defs_are_shaped ds) = second_true ((nat_lt 0 (length ns) && nat_eq (length ats) (length ns)) && is_shaped e) _ t in
         let f : FunctionStand = record { at = at; first = length l.names; names = ns; places = ats; right = e; home = k } in
         let b : Log = with_parameters y 0 ats (opened_function ns ats k l) in
         omega (arith, taken-append x (ats ++ places e) (places_in_defs ds), taken-append x ats (places e), function-owns x ns ats k l first, owns-tree y e b shape, owns-defs k o ds (with_function f (added w y e b)) rest)
     owns-defs k o (defines_current at n e ds) l t =
         let s : Stand = record { at = at; home = k; entry = current_entry (bound_node w e) } in
-        omega (arith, taken-append x (places e) (places_in_defs ds), owns-tree o e l (left-true (is_shaped e) _ t), owns-defs k o ds (with_stand s (added w o e l)) (right-true (is_shaped e) _ t))
+        omega (arith, taken-append x (places e) (places_in_defs ds), owns-tree o e l (first_true (is_shaped e) _ t), owns-defs k o ds (with_stand s (added w o e l)) (second_true (is_shaped e) _ t))
 
 -- numbers that differ differ when each is one more
 not-zero : (xs : List ℕ) → In 0 (map suc xs) → ⊥

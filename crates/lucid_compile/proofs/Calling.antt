@@ -5,7 +5,9 @@ use Rattle.lucid_equations.specs.Nodes.{PlainNode, called_entry}
 use Rattle.lucid_equations.specs.declared.rows.NameRow.{NameRow}
 use Rattle.lucid_compile.specs.declared.building.Body.{Body}
 use Rattle.lucid_compile.specs.Static.{Static, outermost}
-use Rattle.lucid_compile.specs.Building.{Lists, with_name}
+use Rattle.lucid_compile.specs.declared.numbering.Key.{Key}
+use Rattle.lucid_compile.specs.Keys.{KeyLists, call_key}
+use Rattle.lucid_compile.specs.Building.{Lists}
 use Rattle.lucid_compile.specs.Bound.{Stand, Numbered, FunctionStand, Log}
 use Rattle.lucid_compile.specs.Holds.{nodes_in, OneForOne, IsOpen, IsNameRow, NamesHold, IsBody, Holds}
 use Rattle.lucid_compile.specs.Steps.{callee_number, row_of_call, call_row, row_by, rows_of_calls, with_names, with_calls}
@@ -23,29 +25,29 @@ call-entry w at ks ts i (x ∷ bs) (f ∷ fs) (suc m) o h = call-entry w at ks t
 pub calls-held : (w : Numbered) (o : Lists) (g : Log) → Holds w o g → NamesHold g.scopes (nodes_in w o) (with_calls w o).names (g.names ++ map (λ c. call_row w g.functions c.at) g.calls)
 calls-held w o g h =
     let P : ℕ → NameRow → Stand → Type 0 = λ i r s. IsNameRow g.scopes (nodes_in w o) r s in
-    let made : ℕ → NameRow = λ at. row_by (slice_get o.bodies (callee_number w at)) in
-    let same : rows_of_calls w o.bodies o.calls ≡ map (λ c. made c.at) g.calls = ap (map made) h.calls ∙ map_map made (λ c. c.at) g.calls in
-    pairs-join P 0 o.names g.names (rows_of_calls w o.bodies o.calls) (map (λ c. call_row w g.functions c.at) g.calls) h.names
+    let made : Key → NameRow = λ k. row_by (slice_get o.bodies (callee_number w k.at)) in
+    let same : rows_of_calls w o.bodies o.keys.calls ≡ map (λ c. made (call_key c)) g.calls = ap (λ (k : KeyLists). map made k.calls) h.keys ∙ map_map made call_key g.calls in
+    pairs-join P 0 o.names g.names (rows_of_calls w o.bodies o.keys.calls) (map (λ c. call_row w g.functions c.at) g.calls) h.names
     (subst (λ rs. OneForOne P (0 + length o.names) rs (map (λ c. call_row w g.functions c.at) g.calls)) (sym same)
-    (pairs-made P (λ c. made c.at) (λ c. call_row w g.functions c.at) (λ i c. call-entry w c.at g.scopes (nodes_in w o) 0 o.bodies g.functions (callee_number w c.at) h.outer h.functions) (0 + length o.names) g.calls))
+    (pairs-made P (λ c. made (call_key c)) (λ c. call_row w g.functions c.at) (λ i c. call-entry w c.at g.scopes (nodes_in w o) 0 o.bodies g.functions (callee_number w c.at) h.outer h.functions) (0 + length o.names) g.calls))
 
 -- the rows of the calls before an index
-pub calls-none : (w : Numbered) (o : Lists) → o ≡ with_names (o.names ++ rows_of_calls w o.bodies (take 0 o.calls)) o
+pub calls-none : (w : Numbered) (o : Lists) → o ≡ with_names (o.names ++ rows_of_calls w o.bodies (take 0 o.keys.calls)) o
 calls-none w o = ap (λ rs. with_names rs o) (sym (append-nil o.names))
 
-pub calls-more : (w : Numbered) (o c n : Lists) (i at : ℕ) (r : NameRow) → c ≡ with_names (o.names ++ rows_of_calls w o.bodies (take i o.calls)) o → i < length c.calls → at ≡ get_or c.calls i 0 → r ≡ row_by (slice_get c.bodies (callee_number w at)) → n ≡ with_name r c
-    → n ≡ with_names (o.names ++ rows_of_calls w o.bodies (take (i + 1) o.calls)) o
-calls-more w o c n i at r same h here is s =
-    let made : ℕ → NameRow = λ at. row_by (slice_get o.bodies (callee_number w at)) in
-    let before : List NameRow = rows_of_calls w o.bodies (take i o.calls) in
-    let calls : c.calls ≡ o.calls = ap (λ (l : Lists). l.calls) same in
-    let within : i < length o.calls = subst (λ l. i < length l) calls h in
-    let next : take (i + 1) o.calls ≡ take i o.calls ++ at ∷ [] = take_more o.calls i 0 within ∙ ap (λ y. take i o.calls ++ y ∷ []) (sym (here ∙ ap (λ l. get_or l i 0) calls)) in
-    let row : r ≡ made at = is ∙ ap (λ (l : Lists). row_by (slice_get l.bodies (callee_number w at))) same in
-    let rows : rows_of_calls w o.bodies (take (i + 1) o.calls) ≡ before ++ r ∷ [] = ap (map made) next ∙ map-append made (take i o.calls) (at ∷ []) ∙ ap (λ y. before ++ y ∷ []) (sym row) in
-    s ∙ ap (with_name r) same ∙ ap (λ rs. with_names rs o) (append_assoc o.names before (r ∷ []) ∙ ap (λ l. o.names ++ l) (sym rows))
+pub calls-more : (w : Numbered) (o c : Lists) (i : ℕ) (k : Key) (r : NameRow) → c ≡ with_names (o.names ++ rows_of_calls w o.bodies (take i o.keys.calls)) o → i < length c.keys.calls → get_or c.keys.calls i k ≡ k → r ≡ row_by (slice_get c.bodies (callee_number w k.at))
+    → with_names (c.names ++ r ∷ []) c ≡ with_names (o.names ++ rows_of_calls w o.bodies (take (i + 1) o.keys.calls)) o
+calls-more w o c i k r same h here is =
+    let made : Key → NameRow = λ k. row_by (slice_get o.bodies (callee_number w k.at)) in
+    let before : List NameRow = rows_of_calls w o.bodies (take i o.keys.calls) in
+    let calls : c.keys.calls ≡ o.keys.calls = ap (λ (l : Lists). l.keys.calls) same in
+    let within : i < length o.keys.calls = subst (λ l. i < length l) calls h in
+    let next : take (i + 1) o.keys.calls ≡ take i o.keys.calls ++ k ∷ [] = take_more o.keys.calls i k within ∙ ap (λ y. take i o.keys.calls ++ y ∷ []) (ap (λ l. get_or l i k) (sym calls) ∙ here) in
+    let row : r ≡ made k = is ∙ ap (λ (l : Lists). row_by (slice_get l.bodies (callee_number w k.at))) same in
+    let rows : rows_of_calls w o.bodies (take (i + 1) o.keys.calls) ≡ before ++ r ∷ [] = ap (map made) next ∙ map-append made (take i o.keys.calls) (k ∷ []) ∙ ap (λ y. before ++ y ∷ []) (sym row) in
+    ap (λ (l : Lists). with_names (l.names ++ r ∷ []) l) same ∙ ap (λ rs. with_names rs o) (append_assoc o.names before (r ∷ []) ∙ ap (λ l. o.names ++ l) (sym rows))
 
-pub calls-all : (w : Numbered) (o c : Lists) (i : ℕ) → c ≡ with_names (o.names ++ rows_of_calls w o.bodies (take i o.calls)) o → length c.calls ≤ i → c ≡ with_calls w o
+pub calls-all : (w : Numbered) (o c : Lists) (i : ℕ) → c ≡ with_names (o.names ++ rows_of_calls w o.bodies (take i o.keys.calls)) o → length c.keys.calls ≤ i → c ≡ with_calls w o
 calls-all w o c i same h =
-    let past : length o.calls ≤ i = subst (λ (l : Lists). length l.calls ≤ i) same h in
-    same ∙ ap (λ cs. with_names (o.names ++ rows_of_calls w o.bodies cs) o) (take_all i o.calls past)
+    let past : length o.keys.calls ≤ i = subst (λ (l : Lists). length l.keys.calls ≤ i) same h in
+    same ∙ ap (λ cs. with_names (o.names ++ rows_of_calls w o.bodies cs) o) (take_all i o.keys.calls past)

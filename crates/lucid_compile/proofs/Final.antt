@@ -33,8 +33,11 @@ use Rattle.lucid_compile.specs.Places.{first_place}
 use Rattle.lucid_compile.specs.Promise.{KeepsTree}
 use Rattle.lucid_compile.proofs.HeldRows.{HasRows, have-scopes}
 use Rattle.lucid_compile.specs.Numbered.{function_of, or_no_mark, name_mark, function_mark, call_number, mark_by}
-use Rattle.lucid_compile.specs.Keys.{key_of_function, keys_of, IsNumberingOf}
+use Rattle.lucid_compile.specs.Keys.{key_of_function, KeyLists, keys_of, IsNumberingOf}
 use Rattle.lucid_compile.specs.Building.{Lists, no_lists, with_scope, OneScope}
+use Rattle.lucid_compile.specs.Linked.{link}
+use Rattle.lucid_compile.proofs.LinkedRows.{scope-linked}
+use Rattle.lucid_compile.proofs.Keying.{DifferingKeys, keys-differ}
 use Rattle.lucid_compile.specs.Bound.{Stand, Numbered, numbers_in, bound_node, bound_nodes, callee_place, CallStand, FunctionStand, Log, no_log, added}
 use Rattle.lucid_compile.specs.Holds.{nodes_in, AreKnown, EachRow, NodeFits, NameFits, PlaceFits, ScopesHold, NodesHold, NamesHold, PlacesHold, IsEntry, IsNameRow, IsPlaceRow, Holds, GrownTo, AddsTree}
 use Rattle.lucid_compile.specs.Steps.{row_of_call, call_row, rows_of_calls, with_calls, IsTableOf}
@@ -42,7 +45,7 @@ use Rattle.lucid_compile.proofs.Opening.{slice-past}
 use Rattle.lucid_compile.proofs.Pairs.{row-at, pairs-count}
 use Rattle.lucid_compile.proofs.Indices.{index-of, marked-at, call-numbers, name-numbers}
 use Rattle.lucid_compile.proofs.Spots.{index, spots, spot_keys, spot-at}
-use Rattle.lucid_compile.proofs.Actuals.{nth, nth_of, nth-nodes_for, actuals-read}
+use Rattle.lucid_compile.proofs.Actuals.{at_number, at_number_of, at_number-nodes_for, actuals-read}
 use Rattle.lucid_compile.proofs.Promised.{compiled-keeps}
 use Rattle.lucid_compile.proofs.Passing.{NoFaults}
 use Rattle.lucid_compile.proofs.Scoping.{IsListed, IsThere}
@@ -211,7 +214,7 @@ module _ (w : Numbered) (e : PlainTree) (o n : Lists) (root : ℕ) (t : Table)
       let m = index-of z.calls c i in
       let number : call_number w.numbering (first_place c.actuals) ≡ m.0 = (call-numbers w z m.0 c numbers m.1).place in
       let f = row-at (λ i r c. IsPlaceRow w z.scopes (nodes_of t) r c) 0 t.places z.calls m.0 c rows.places m.1 in
-      (λ j. ap (λ q. p.actual q j) number ∙ actuals-read (nodes_of t) (slice_get t.places m.0) j ∙ ap (λ x. nth_of (option_map (λ r. all_at (nodes_of t) r.actuals) x) j) f.there ∙ ap (λ x. nth x j) (f.is.1 ∙ same) ∙ sym (nth-nodes_for (numbers_in w) c.home c.actuals j), ap so.site number ∙ ap or_no_site (slice_get-map site_of z.calls m.0 ∙ ap (option_map site_of) m.1))
+      (λ j. ap (λ q. p.actual q j) number ∙ actuals-read (nodes_of t) (slice_get t.places m.0) j ∙ ap (λ x. at_number_of (option_map (λ r. all_at (nodes_of t) r.actuals) x) j) f.there ∙ ap (λ x. at_number x j) (f.is.1 ∙ same) ∙ sym (at_number-nodes_for (numbers_in w) c.home c.actuals j), ap so.site number ∙ ap or_no_site (slice_get-map site_of z.calls m.0 ∙ ap (option_map site_of) m.1))
 
   spot-there : (x : Origin) → In x (spots e) → so.scope_at x.at ≡ x.home
   spot-there x i = ap (λ y. (or_nowhere y).home) (spot-at e made x i)
@@ -255,7 +258,7 @@ module _ (w : Numbered) (e : PlainTree) (o n : Lists) (root : ℕ) (t : Table)
       let apart = scopes-apart w e made in
       let homes = home-tree w outermost e no_log tt in
       let nodes : EachRow (NodeFits t.scopes t.nodes) t.nodes = subst (λ xs. EachRow (NodeFits xs t.nodes) t.nodes) (sym scopes-same) (subst (λ rs. EachRow (NodeFits o.scopes rs) rs) (sym rows-same) held.parts) in
-      let names : EachRow (NameFits o.scopes o.nodes) (with_calls w o).names = subst (λ cs. EachRow (NameFits o.scopes o.nodes) (o.names ++ rows_of_calls w o.bodies cs)) (sym held.calls) (names-fit w z o.scopes o.nodes z.scopes (nodes_in w o) o.bodies o.names held.functions held.rights met.calls held.entries) in
+      let names : EachRow (NameFits o.scopes o.nodes) (with_calls w o).names = subst (λ cs. EachRow (NameFits o.scopes o.nodes) (o.names ++ rows_of_calls w o.bodies cs)) (sym (ap (λ (k : KeyLists). k.calls) held.keys)) (names-fit w z o.scopes o.nodes z.scopes (nodes_in w o) o.bodies o.names held.functions held.rights met.calls held.entries) in
       let bodies : EachRow (NameFits t.scopes t.nodes) t.names = subst (λ ns. EachRow (NameFits t.scopes t.nodes) ns) (sym names-same) (subst (λ xs. EachRow (NameFits xs t.nodes) (with_calls w o).names) (sym scopes-same) (subst (λ rs. EachRow (NameFits o.scopes rs) (with_calls w o).names) (sym rows-same) names)) in
       let actuals : EachRow (PlaceFits t.nodes) t.places = subst (λ ps. EachRow (PlaceFits t.nodes) ps) (sym places-same) (subst (λ rs. EachRow (PlaceFits rs) o.places) (sym rows-same) held.actuals) in
       record {
@@ -274,19 +277,24 @@ module _ (w : Numbered) (e : PlainTree) (o n : Lists) (root : ℕ) (t : Table)
 
 -- nothing was added to a list of the outermost scope
 nothing-held : (w : Numbered) → Holds w begun no_log
-nothing-held w = record { known = tt; outer = refl; scopes = ((refl, refl), tt); names = tt; nodes = tt; places = tt; functions = tt; calls = refl; parts = tt; entries = tt; actuals = tt; rights = tt }
+nothing-held w = record { known = tt; outer = refl; scopes = ((refl, refl), tt); names = tt; nodes = tt; places = tt; functions = tt; keys = refl; parts = tt; entries = tt; actuals = tt; rights = tt }
 
-begin-held : (w : Numbered) (e : PlainTree) (o m : Lists) (scope root : ℕ) → IsWellMade e → OneScope no_lists o (record { parent = 0; kind = Root }) scope → AddsTree w o m (record { scope = scope; level = 0 }) e root → GrownTo w begun m (added w outermost e no_log) (bound_node w e) 0 root
-begin-held w e o m scope root made start adds =
-    let all : AddsTree w begun m (record { scope = 0; level = 0 }) e root = subst (λ l. AddsTree w l m (record { scope = 0; level = 0 }) e root) start.lists (subst (λ s. AddsTree w o m (record { scope = s; level = 0 }) e root) start.number adds) in
-    all outermost no_log (refl, refl) made.shaped (nothing-held w)
+-- the lists to which a tree was added hold it, in the outermost scope
+module _ (w : Numbered) (b o m : Lists) (x : PlainTree) (scope root : ℕ) (made : IsWellMade (scoped_tree w.scoped)) (r : ∥ IsResolved (scoped_tree w.scoped) (scoped_inputs w.scoped) (scoped_binding w.scoped) ∥₁)
+    (empty : b ≡ no_lists) (start : OneScope b o (record { parent = 0; kind = Root }) scope) (whole_tree : x ≡ scoped_tree w.scoped) (adds : (w : Numbered) → AddsTree w (link w o) (link w m) (record { scope = scope; level = 0 }) x root) where
+  begin-held : GrownTo w begun (link w m) (added w outermost (scoped_tree w.scoped) no_log) (bound_node w (scoped_tree w.scoped)) 0 root
+  begin-held =
+      let begins : OneScope no_lists (link w o) (record { parent = 0; kind = Root }) scope = subst (λ l. OneScope (link w l) (link w o) (record { parent = 0; kind = Root }) scope) empty (scope-linked w b o (record { parent = 0; kind = Root }) scope start) in
+      let tree : AddsTree w (link w o) (link w m) (record { scope = scope; level = 0 }) (scoped_tree w.scoped) root = subst (λ y. AddsTree w (link w o) (link w m) (record { scope = scope; level = 0 }) y root) whole_tree (adds w) in
+      let all : AddsTree w begun (link w m) (record { scope = 0; level = 0 }) (scoped_tree w.scoped) root = subst (λ l. AddsTree w l (link w m) (record { scope = 0; level = 0 }) (scoped_tree w.scoped) root) begins.lists
+      (subst (λ s. AddsTree w (link w o) (link w m) (record { scope = s; level = 0 }) (scoped_tree w.scoped) root) begins.number tree) in
+      all outermost no_log (refl, refl) made.shaped (nothing-held w)
 
--- the table of the lists to which a resolved tree was added, and then the rows of its calls
-pub table-made : (w : Numbered) (b o m n : Lists) (x : PlainTree) (inputs : List (List ℕ)) (scope root : ℕ) (t : Table) → IsWellMade (scoped_tree w.scoped) → FreeNamesAreInputs → ∥ IsResolved (scoped_tree w.scoped) (scoped_inputs w.scoped) (scoped_binding w.scoped) ∥₁
-    → IsNumberingOf (keys_of (added w outermost (scoped_tree w.scoped) no_log)) w.numbering → b ≡ no_lists → OneScope b o (record { parent = 0; kind = Root }) scope → x ≡ scoped_tree w.scoped → AddsTree w o m (record { scope = scope; level = 0 }) x root → n ≡ with_calls w m
-    → inputs ≡ scoped_inputs w.scoped → IsTableOf n inputs root t → IsMade w (scoped_tree w.scoped) t
-table-made w b o m n x inputs scope root t made law r numbers empty start whole_tree adds others same is =
-    let e : PlainTree = scoped_tree w.scoped in
-    let begins : OneScope no_lists o (record { parent = 0; kind = Root }) scope = subst (λ l. OneScope l o (record { parent = 0; kind = Root }) scope) empty start in
-    let tree : AddsTree w o m (record { scope = scope; level = 0 }) e root = subst (λ y. AddsTree w o m (record { scope = scope; level = 0 }) y root) whole_tree adds in
-    is-made w e m n root t made law r numbers (begin-held w e o m scope root made begins tree) others (subst (λ y. IsTableOf n y root t) same is)
+  -- their keys differ
+  pub keys-apart : DifferingKeys m.keys
+  keys-apart = keys-differ w (scoped_tree w.scoped) m.keys made (no-faults (scoped_tree w.scoped) (scoped_inputs w.scoped) (scoped_binding w.scoped) r) begin-held.grown.holds.keys
+
+  -- what is known of the table that they are, with numbers by the keys, and then the rows of the calls
+  pub table-made : (n : Lists) (inputs : List (List ℕ)) (t : Table) → FreeNamesAreInputs → IsNumberingOf m.keys w.numbering → n ≡ with_calls w (link w m) → inputs ≡ scoped_inputs w.scoped → IsTableOf n inputs root t → IsMade w (scoped_tree w.scoped) t
+  table-made n inputs t law numbers others same is =
+      is-made w (scoped_tree w.scoped) (link w m) n root t made law r (subst (λ k. IsNumberingOf k w.numbering) begin-held.grown.holds.keys numbers) begin-held others (subst (λ y. IsTableOf n y root t) same is)

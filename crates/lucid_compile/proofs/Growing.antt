@@ -1,6 +1,6 @@
 -- Lists that hold what was added hold it with one thing more.
 use Rattle.std.proofs.Common.{◌≡◌, ℕ, zero, suc, ◌+◌, ◌<◌, ◌≤◌, length, List, [], ◌∷◌, ◌++◌, get_or, Some, None, slice_get, refl, sym, ap, ◌∙◌, subst, arith, length-append, append_assoc}
-use Rattle.std.proofs.lemmas.List.{append-nil, map-append}
+use Rattle.std.proofs.lemmas.List.{append-nil}
 use Rattle.std.proofs.Math.Seq.{get_or-append_seam}
 use Rattle.std.proofs.lemmas.List.{get_or_append_left}
 use Rattle.std.proofs.lemmas.Option.{slice_get_within as index-below}
@@ -8,7 +8,7 @@ use Rattle.lucid_lemmas.proofs.Lists.{slice_get-append_left as some-left, slice_
 use Rattle.lucid_value.specs.Plain.{PlainValue, fault}
 use Rattle.lucid_tree.specs.Tree.{const}
 use Rattle.lucid_scope.specs.Scoped.{scoped_inputs}
-use Rattle.lucid_equations.specs.Nodes.{PlainNode, PlainEntry, row, no_nodes, node, plain_entry, called_entry, current_entry}
+use Rattle.lucid_equations.specs.Nodes.{PlainNode, PlainEntry, row, no_nodes, plain_entry, called_entry, current_entry}
 use Rattle.lucid_equations.proofs.Rising.{at-kept, all_at-kept}
 use Rattle.lucid_equations.proofs.NumbersRead.{grown-count as grow-count}
 use Rattle.lucid_compile.specs.Static.{Static, outermost, in_block, in_function, frame, in_body}
@@ -28,6 +28,9 @@ use Rattle.lucid_equations.specs.declared.rows.NodeRow.{NodeRow}
 use Rattle.lucid_equations.specs.declared.rows.NameRow.{NameRow}
 use Rattle.lucid_equations.specs.declared.rows.PlaceRow.{PlaceRow}
 use Rattle.lucid_compile.specs.declared.building.Body.{Body}
+use Rattle.lucid_compile.specs.declared.numbering.Key.{Key}
+use Rattle.lucid_compile.specs.Keys.{stand_key, call_key, place_key, key_of_function, with_name_key, with_function_key, with_call_key}
+use Rattle.lucid_compile.proofs.Keyed.{stand-keys, call-keys, function-keys}
 use Rattle.lucid_compile.specs.Building.{Lists, with_name, with_body, with_place, OneScope, OneConstant, OneNode}
 use Rattle.lucid_compile.specs.Bound.{Stand, Numbered, bound_node, bound_nodes, CallStand, FunctionStand, NodeStand, Log, with_nodes, with_scopes, with_stand, with_call, with_function}
 use Rattle.lucid_compile.specs.Holds.{nodes_in, IsKnown, AreKnown, EachRow, NodeFits, NameFits, PlaceFits, BodyFits, IsOpen, IsScopeRow, ScopesHold, HasTarget, IsNodeRow, NodesHold, IsEntry, IsNameRow, NamesHold, IsPlaceRow, PlacesHold, IsBody, FunctionsHold, Holds, Begins, Grown, GrownTo}
@@ -174,8 +177,8 @@ module _ (w : Numbered) where
 
   -- what is held, with other nodes
   with-more : (o n : Lists) (g : Log) (more : List NodeStand) → Holds w o g → Begins (nodes_in w o) (nodes_in w n) → AreKnown (length n.constants) n.nodes → NodesHold w g.scopes n.nodes (g.nodes ++ more) → Begins o.nodes n.nodes → EachRow (NodeFits n.scopes n.nodes) n.nodes → n.scopes ≡ o.scopes → n.names ≡ o.names
-      → n.places ≡ o.places → n.bodies ≡ o.bodies → n.calls ≡ o.calls → Grown w o n (with_nodes more g)
-  with-more o n g more h b k nodes later parts scopes names places bodies calls =
+      → n.places ≡ o.places → n.bodies ≡ o.bodies → n.keys ≡ o.keys → Grown w o n (with_nodes more g)
+  with-more o n g more h b k nodes later parts scopes names places bodies keys =
       let outer : Begins o.scopes n.scopes = ([], scopes ∙ sym (append-nil o.scopes)) in
       record {
         begins = b;
@@ -189,7 +192,7 @@ module _ (w : Numbered) where
           names = rw names (names-kept (nodes_in w o) (nodes_in w n) b g.scopes o.names g.names h.names);
           places = rw places (places-kept (nodes_in w o) (nodes_in w n) b w g.scopes o.places g.calls h.places);
           functions = rw bodies (functions-kept (nodes_in w o) (nodes_in w n) b w g.scopes o.bodies g.functions h.functions);
-          calls = calls ∙ h.calls;
+          keys = keys ∙ h.keys;
           parts = parts;
           entries = rw names (each-row (NameFits o.scopes o.nodes) (NameFits n.scopes n.nodes) o.names (λ r x. entry-stands-kept o.scopes n.scopes o.nodes n.nodes outer later r.scope r.kind x) h.entries);
           actuals = rw places (each-row (PlaceFits o.nodes) (PlaceFits n.nodes) o.places (λ r x. each-stands-kept o.nodes n.nodes later r.scope r.actuals x) h.actuals);
@@ -211,7 +214,7 @@ module _ (w : Numbered) where
       let fitting : EachRow (NodeFits o.scopes (o.nodes ++ r ∷ [])) (o.nodes ++ r ∷ []) = each-one (NodeFits o.scopes (o.nodes ++ r ∷ [])) o.nodes r (each-row (NodeFits o.scopes o.nodes) (NodeFits o.scopes (o.nodes ++ r ∷ [])) o.nodes kept h.parts) (kept r (q, z)) in
       record {
         grown = with-more o n g (v ∷ []) h (x ∷ [], more) (rw s.lists (known-one (length o.constants) o.nodes r h.known k)) (rw s.lists (pairs-one (IsNodeRow w g.scopes) 0 o.nodes g.nodes r v h.nodes (subst (λ c. EachBelow c (parts r.node)) zero_more b, a, c))) later
-            (rw s.lists fitting) (ap (λ (l : Lists). l.scopes) s.lists) (ap (λ l. l.names) s.lists) (ap (λ l. l.places) s.lists) (ap (λ l. l.bodies) s.lists) (ap (λ l. l.calls) s.lists);
+            (rw s.lists fitting) (ap (λ (l : Lists). l.scopes) s.lists) (ap (λ l. l.names) s.lists) (ap (λ l. l.places) s.lists) (ap (λ l. l.bodies) s.lists) (ap (λ l. l.keys) s.lists);
         within = omega (arith, s.number, count, ap length more, length-append (nodes_in w o) (x ∷ []));
         is = ap (λ l. at l id) more ∙ ap (λ i. at (nodes_in w o ++ x ∷ []) i) (s.number ∙ sym count) ∙ get_or-append_seam (nodes_in w o) x [] no_node;
         stands = ap (λ (l : Lists). option_map (λ y. y.scope) (slice_get l.nodes id)) s.lists ∙ ap (λ i. option_map (λ y. y.scope) (slice_get (o.nodes ++ r ∷ []) i)) s.number ∙ ap (option_map (λ y. y.scope)) (some-last o.nodes r);
@@ -223,7 +226,7 @@ module _ (w : Numbered) where
       let count : length (o.constants ++ v ∷ []) ≡ length o.constants + 1 = length-append o.constants (v ∷ []) in
       subst (Grown w o n) (no-nodes g)
       (with-more o n g [] h ([], same ∙ sym (append-nil (nodes_in w o))) (rw s.lists (all_known-less (length o.constants) (length (o.constants ++ v ∷ [])) o.nodes (omega (arith, count)) h.known)) (rw s.lists (subst (NodesHold w g.scopes o.nodes) (sym (append-nil g.nodes)) h.nodes))
-      (subst (Begins o.nodes) (sym (ap (λ (l : Lists). l.nodes) s.lists)) (begins-itself o.nodes)) (rw s.lists h.parts) (ap (λ (l : Lists). l.scopes) s.lists) (ap (λ l. l.names) s.lists) (ap (λ l. l.places) s.lists) (ap (λ l. l.bodies) s.lists) (ap (λ l. l.calls) s.lists))
+      (subst (Begins o.nodes) (sym (ap (λ (l : Lists). l.nodes) s.lists)) (begins-itself o.nodes)) (rw s.lists h.parts) (ap (λ (l : Lists). l.scopes) s.lists) (ap (λ l. l.names) s.lists) (ap (λ l. l.places) s.lists) (ap (λ l. l.bodies) s.lists) (ap (λ l. l.keys) s.lists))
 
   pub keep-constant : (o n : Lists) (v : PlainValue) (id : ℕ) → OneConstant o n v id → get_or n.constants id fault ≡ v
   keep-constant o n v id s = ap (λ l. get_or l.constants id fault) s.lists ∙ ap (λ i. get_or (o.constants ++ v ∷ []) i fault) s.number ∙ get_or-append_seam o.constants v [] fault
@@ -248,7 +251,7 @@ module _ (w : Numbered) where
           names = names-open g.scopes more (nodes_in w o) o.names g.names h.names;
           places = places-open g.scopes more w (nodes_in w o) o.places g.calls h.places;
           functions = functions-open g.scopes more w (nodes_in w o) o.bodies g.functions h.functions;
-          calls = h.calls;
+          keys = h.keys;
           parts = each-row (NodeFits o.scopes o.nodes) (NodeFits (o.scopes ++ r ∷ []) o.nodes) o.nodes (λ y u. (parts-kept o.scopes (o.scopes ++ r ∷ []) o.nodes o.nodes (r ∷ [], refl) (begins-itself o.nodes) y.scope y.node u.0, u.1)) h.parts;
           entries = each-row (NameFits o.scopes o.nodes) (NameFits (o.scopes ++ r ∷ []) o.nodes) o.names (λ y u. entry-stands-kept o.scopes (o.scopes ++ r ∷ []) o.nodes o.nodes (r ∷ [], refl) (begins-itself o.nodes) y.scope y.kind u) h.entries;
           actuals = h.actuals;
@@ -266,8 +269,8 @@ module _ (w : Numbered) where
   pub parent-below : (o n : Lists) (g : Log) (r : ScopeRow) (id parent : ℕ) (k : Static) → Holds w o g → OneScope o n r id → IsOpen g.scopes parent k → parent < id
   parent-below o n g r id parent k h s c = omega (arith, index-below g.scopes parent (frame k) c, s.number, pairs-count (IsScopeRow g.scopes) 0 o.scopes g.scopes h.scopes)
 
-  pub define-grown : (o n : Lists) (g : Log) (s : Stand) (r : NameRow) → Holds w o g → n ≡ with_name r o → IsEntry (nodes_in w o) r.kind s.entry → IsOpen g.scopes r.scope s.home → EntryStands o.scopes o.nodes r.scope r.kind → Grown w o n (with_stand s g)
-  define-grown o n g s r h x e c q =
+  pub define-grown : (o n : Lists) (g : Log) (s : Stand) (k : Key) (r : NameRow) → Holds w o g → n ≡ with_name k r o → k ≡ stand_key s → IsEntry (nodes_in w o) r.kind s.entry → IsOpen g.scopes r.scope s.home → EntryStands o.scopes o.nodes r.scope r.kind → Grown w o n (with_stand s g)
+  define-grown o n g s k r h x own e c q =
       subst (λ z. Grown w o z (with_stand s g)) (sym x) (record {
         begins = begins-itself (nodes_in w o);
         rows = begins-itself o.nodes;
@@ -280,7 +283,7 @@ module _ (w : Numbered) where
           names = pairs-one (λ i r s. IsNameRow g.scopes (nodes_in w o) r s) 0 o.names g.names r s h.names (e, c);
           places = h.places;
           functions = h.functions;
-          calls = h.calls;
+          keys = (λ j. with_name_key (own j) (h.keys j)) ∙ stand-keys s g;
           parts = h.parts;
           entries = each-one (NameFits o.scopes o.nodes) o.names r h.entries q;
           actuals = h.actuals;
@@ -288,8 +291,8 @@ module _ (w : Numbered) where
         };
       })
 
-  pub close-grown : (o n : Lists) (g : Log) (f : FunctionStand) (b : Body) → Holds w o g → n ≡ with_body b o → b.body < length (nodes_in w o) → at (nodes_in w o) b.body ≡ bound_node w f.right → IsOpen g.scopes b.scope (in_body f.names f.places f.home) → EntryStands o.scopes o.nodes b.scope (Called b.body) → Grown w o n (with_function f g)
-  close-grown o n g f b h x l e c q =
+  pub close-grown : (o n : Lists) (g : Log) (f : FunctionStand) (k : Key) (b : Body) → Holds w o g → n ≡ with_body k b o → k ≡ key_of_function f → b.body < length (nodes_in w o) → at (nodes_in w o) b.body ≡ bound_node w f.right → IsOpen g.scopes b.scope (in_body f.names f.places f.home) → EntryStands o.scopes o.nodes b.scope (Called b.body) → Grown w o n (with_function f g)
+  close-grown o n g f k b h x own l e c q =
       subst (λ z. Grown w o z (with_function f g)) (sym x) (record {
         begins = begins-itself (nodes_in w o);
         rows = begins-itself o.nodes;
@@ -302,7 +305,7 @@ module _ (w : Numbered) where
           names = h.names;
           places = h.places;
           functions = pairs-one (λ i x f. IsBody w g.scopes (nodes_in w o) x f) 0 o.bodies g.functions b f h.functions (l, e, c);
-          calls = h.calls;
+          keys = (λ j. with_function_key (own j) (h.keys j)) ∙ function-keys f g;
           parts = h.parts;
           entries = h.entries;
           actuals = h.actuals;
@@ -310,8 +313,8 @@ module _ (w : Numbered) where
         };
       })
 
-  pub place-grown : (o n : Lists) (g : Log) (c : CallStand) (r : PlaceRow) → Holds w o g → n ≡ with_place r c.at o → EachBelow (length (nodes_in w o)) r.actuals → all_at (nodes_in w o) r.actuals ≡ bound_nodes w c.actuals → IsOpen g.scopes r.scope c.home → r.name ≡ (name_mark w.numbering c.at).number → EachStandsIn o.nodes r.scope r.actuals → Grown w o n (with_call c g)
-  place-grown o n g c r h x l e i is_name q =
+  pub place-grown : (o n : Lists) (g : Log) (c : CallStand) (k p : Key) (r : PlaceRow) → Holds w o g → n ≡ with_place k p r o → k ≡ call_key c → p ≡ place_key c → EachBelow (length (nodes_in w o)) r.actuals → all_at (nodes_in w o) r.actuals ≡ bound_nodes w c.actuals → IsOpen g.scopes r.scope c.home → r.name ≡ (name_mark w.numbering c.at).number → EachStandsIn o.nodes r.scope r.actuals → Grown w o n (with_call c g)
+  place-grown o n g c k p r h x own first l e i is_name q =
       subst (λ z. Grown w o z (with_call c g)) (sym x) (record {
         begins = begins-itself (nodes_in w o);
         rows = begins-itself o.nodes;
@@ -324,7 +327,7 @@ module _ (w : Numbered) where
           names = h.names;
           places = pairs-one (λ i r c. IsPlaceRow w g.scopes (nodes_in w o) r c) 0 o.places g.calls r c h.places (l, e, i, is_name);
           functions = h.functions;
-          calls = ap (λ l. l ++ c.at ∷ []) h.calls ∙ sym (map-append (λ z. z.at) g.calls (c ∷ []));
+          keys = (λ j. with_call_key (own j) (first j) (h.keys j)) ∙ call-keys c g;
           parts = h.parts;
           entries = h.entries;
           actuals = each-one (PlaceFits o.nodes) o.places r h.actuals q;

@@ -23,7 +23,8 @@ use Rattle.lucid_compile.specs.Places.{first_place}
 use Rattle.lucid_compile.specs.declared.numbering.Numbering.{Numbering}
 use Rattle.lucid_compile.specs.declared.building.Body.{Body}
 use Rattle.lucid_compile.specs.Numbered.{name_mark, function_mark, call_number}
-use Rattle.lucid_compile.specs.Keys.{keys_of, IsNumberingOf}
+use Rattle.lucid_compile.specs.declared.numbering.Key.{Key}
+use Rattle.lucid_compile.specs.Keys.{call_key, keys_of, IsNumberingOf}
 use Rattle.lucid_compile.specs.Bound.{Stand, Numbered, bound_node, node_by, callee_place, Target, no_target, of_name, of_call, CallStand, Log}
 use Rattle.lucid_compile.specs.Holds.{EachRow, IsOpen, HasTarget, IsNodeRow, IsEntry, IsNameRow, IsPlaceRow, IsBody, FunctionsHold, NameFits, PlaceFits, BodyFits}
 use Rattle.lucid_compile.specs.Steps.{callee_number, row_of_call, call_row, row_by, rows_of_calls}
@@ -56,11 +57,11 @@ row-fits w z xs rs ks ts bs h fit c m =
     subst (λ o. NameFits xs rs (row_by o)) (sym b.there) (each-at (BodyFits xs rs) bs (callee_number w c.at) b.row fit b.there)
 
 pub names-fit : (w : Numbered) (z : Log) (xs : List ScopeRow) (rs : List NodeRow) (ks : List Static) (ts : List PlainNode) (bs : List Body) (names : List NameRow) → FunctionsHold w ks ts bs z.functions → EachRow (BodyFits xs rs) bs → EachRow (HasCallee w z) z.calls → EachRow (NameFits xs rs) names
-    → EachRow (NameFits xs rs) (names ++ rows_of_calls w bs (map (λ c. c.at) z.calls))
+    → EachRow (NameFits xs rs) (names ++ rows_of_calls w bs (map call_key z.calls))
 names-fit w z xs rs ks ts bs names h fit met entries =
     each-joined (NameFits xs rs) names _ entries
-    (each-image (λ at. NameFits xs rs (row_by (slice_get bs (callee_number w at)))) (NameFits xs rs) (λ at. row_by (slice_get bs (callee_number w at))) (λ at p. p) (map (λ c. c.at) z.calls)
-    (each-image (HasCallee w z) (λ at. NameFits xs rs (row_by (slice_get bs (callee_number w at)))) (λ c. c.at) (row-fits w z xs rs ks ts bs h fit) z.calls met))
+    (each-image (λ (k : Key). NameFits xs rs (row_by (slice_get bs (callee_number w k.at)))) (NameFits xs rs) (λ k. row_by (slice_get bs (callee_number w k.at))) (λ k p. p) (map call_key z.calls)
+    (each-image (HasCallee w z) (λ (k : Key). NameFits xs rs (row_by (slice_get bs (callee_number w k.at)))) call_key (row-fits w z xs rs ks ts bs h fit) z.calls met))
 
 pub bodies-stand : (t : Table) → EachRow (NameFits t.scopes t.nodes) t.names → BodiesStand t
 bodies-stand t fit n s e h = each-at (NameFits t.scopes t.nodes) t.names n (record { scope = s; kind = e }) fit h

@@ -35,3 +35,4 @@ pub mod HeldRows
 pub mod Leading
 pub mod Passing
 pub mod Keying
+pub mod LinkedRows

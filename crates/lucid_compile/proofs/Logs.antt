@@ -8,7 +8,7 @@ use Rattle.lucid_equations.specs.Nodes.{plain_entry, current_entry, parameter_en
 use Rattle.lucid_compile.specs.Static.{Static, in_block, in_body}
 use Rattle.lucid_compile.specs.Places.{place_of, first_place}
 use Rattle.lucid_compile.specs.Bound.{Stand, Numbered, bound_node, CallStand, FunctionStand, Log, with_stand, with_call, with_function, opened_block, opened_function, with_parameters, added, added_all, added_defs}
-use Rattle.lucid_compile.proofs.Shapes.{left-true, right-true}
+use Rattle.lucid_lemmas.proofs.Truths.{first_true, second_true}
 use Rattle.lucid_compile.proofs.Stands.{parameters-calls, parameters-functions}
 use Rattle.lucid_compile.proofs.Passing.{calls_pass_actuals, all_pass_actuals, defs_pass_actuals}
 
@@ -120,26 +120,26 @@ module _ (w : Numbered) (x : ℕ) where
     sites-times k (call at n no_trees) l h = absurd (cc)
     sites-times k (call at n (tree e es)) l h =
         let c : CallStand = record { at = at; actuals = tree e es; home = k } in
-        omega (arith, ap (times x) (own-first e), times-append x (places e) (places_in es), sites-times k e l (left-true (calls_pass_actuals e) _ h), all_sites-times k es (added w k e l) (right-true (calls_pass_actuals e) _ h), site-times x c (added_all w k (tree e es) l))
+        omega (arith, ap (times x) (own-first e), times-append x (places e) (places_in es), sites-times k e l (first_true (calls_pass_actuals e) _ h), all_sites-times k es (added w k e l) (second_true (calls_pass_actuals e) _ h), site-times x c (added_all w k (tree e es) l))
     sites-times k (block at e ds) l h =
-        omega (arith, ap (times x) (own-first e), times-append x (places e) (places_in_defs ds), sites-times (in_block ds k) e (opened_block ds k l) (left-true (calls_pass_actuals e) _ h), def_sites-times (in_block ds k) k ds (added w (in_block ds k) e (opened_block ds k l)) (right-true (calls_pass_actuals e) _ h))
+        omega (arith, ap (times x) (own-first e), times-append x (places e) (places_in_defs ds), sites-times (in_block ds k) e (opened_block ds k l) (first_true (calls_pass_actuals e) _ h), def_sites-times (in_block ds k) k ds (added w (in_block ds k) e (opened_block ds k l)) (second_true (calls_pass_actuals e) _ h))
 
     all_sites-times : (k : Static) (es : PlainTrees) (l : Log) → IsTrue (all_pass_actuals es) → times x (sites_at (added_all w k es l)) ≤ times x (sites_at l) + times x (places_in es)
     all_sites-times k no_trees l h = omega arith
     all_sites-times k (tree e es) l h =
-        omega (arith, ap (times x) (own-first e), times-append x (places e) (places_in es), sites-times k e l (left-true (calls_pass_actuals e) _ h), all_sites-times k es (added w k e l) (right-true (calls_pass_actuals e) _ h))
+        omega (arith, ap (times x) (own-first e), times-append x (places e) (places_in es), sites-times k e l (first_true (calls_pass_actuals e) _ h), all_sites-times k es (added w k e l) (second_true (calls_pass_actuals e) _ h))
 
     def_sites-times : (k o : Static) (ds : PlainDefs) (l : Log) → IsTrue (defs_pass_actuals ds) → times x (sites_at (added_defs w k o ds l)) ≤ times x (sites_at l) + times x (places_in_defs ds)
     def_sites-times k o no_defs l h = omega arith
     def_sites-times k o (defines at n e ds) l h =
         let s : Stand = record { at = at; home = k; entry = plain_entry (bound_node w e) } in
-        omega (arith, ap (times x) (own-first e), times-append x (places e) (places_in_defs ds), sites-times k e l (left-true (calls_pass_actuals e) _ h), def_sites-times k o ds (with_stand s (added w k e l)) (right-true (calls_pass_actuals e) _ h))
+        omega (arith, ap (times x) (own-first e), times-append x (places e) (places_in_defs ds), sites-times k e l (first_true (calls_pass_actuals e) _ h), def_sites-times k o ds (with_stand s (added w k e l)) (second_true (calls_pass_actuals e) _ h))
     def_sites-times k o (defines_function at n ns ats e ds) l h =
         let y : Static = in_body ns ats k in
         let f : FunctionStand = record { at = at; first = length l.names; names = ns; places = ats; right = e; home = k } in
         let b : Log = with_parameters y 0 ats (opened_function ns ats k l) in
         let c : Log = added w y e b in
-        omega (arith, ap (times x) (own-first e), times-append x (ats ++ places e) (places_in_defs ds), times-append x ats (places e), ap (λ z. times x (map (λ v. first_place v.actuals) z)) (parameters-calls y 0 ats (opened_function ns ats k l)), sites-times y e b (left-true (calls_pass_actuals e) _ h), def_sites-times k o ds (with_function f c) (right-true (calls_pass_actuals e) _ h))
+        omega (arith, ap (times x) (own-first e), times-append x (ats ++ places e) (places_in_defs ds), times-append x ats (places e), ap (λ z. times x (map (λ v. first_place v.actuals) z)) (parameters-calls y 0 ats (opened_function ns ats k l)), sites-times y e b (first_true (calls_pass_actuals e) _ h), def_sites-times k o ds (with_function f c) (second_true (calls_pass_actuals e) _ h))
     def_sites-times k o (defines_current at n e ds) l h =
         let s : Stand = record { at = at; home = k; entry = current_entry (bound_node w e) } in
-        omega (arith, ap (times x) (own-first e), times-append x (places e) (places_in_defs ds), sites-times o e l (left-true (calls_pass_actuals e) _ h), def_sites-times k o ds (with_stand s (added w o e l)) (right-true (calls_pass_actuals e) _ h))
+        omega (arith, ap (times x) (own-first e), times-append x (places e) (places_in_defs ds), sites-times o e l (first_true (calls_pass_actuals e) _ h), def_sites-times k o ds (with_stand s (added w o e l)) (second_true (calls_pass_actuals e) _ h))

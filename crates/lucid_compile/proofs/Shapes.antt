@@ -1,6 +1,7 @@
 -- Trees that are shaped, and definitions that freeze the time, part by part.
-use Rattle.std.proofs.Common.{◌≡◌, ℕ, Bool, true, false, ◌&&◌, IsTrue, nat_eq, List, refl, arith}
+use Rattle.std.proofs.Common.{◌≡◌, ℕ, true, false, IsTrue, nat_eq, List, refl, arith}
 use Rattle.std.proofs.lemmas.Bool.Decides.{nat_tests}
+use Rattle.lucid_lemmas.proofs.Truths.{both_true, first_true, second_true}
 use Rattle.lucid_tree.specs.WellMade.{is_shaped, defs_are_shaped}
 use Rattle.lucid_tree.specs.Tree.{PlainDefs, no_defs}
 use Rattle.lucid_tree.specs.DefsView.{def_of, one_def}
@@ -9,23 +10,10 @@ use Rattle.lucid_tree.specs.declared.tree.DefKind.{DefKind}
 use Rattle.lucid_tree.specs.declared.tree.DefKind.TheVariants.{Plain as PlainKind, Function as FunctionKind, Current as CurrentKind}
 use Rattle.lucid_compile.specs.Static.{freezes}
 
--- both tests hold
-pub left-true : (a b : Bool) → IsTrue (a && b) → IsTrue a
-left-true true b h = refl
-left-true false b h = h
-
-pub right-true : (a b : Bool) → IsTrue (a && b) → IsTrue b
-right-true true b h = h
-right-true false b h = absurd (cc)
-
-pub both-true : (a b : Bool) → IsTrue a → IsTrue b → IsTrue (a && b)
-both-true true b h g = g
-both-true false b h g = h
-
 pub shaped-one : (d : Def) (ds : PlainDefs) (x : DefKind) → IsTrue (defs_are_shaped (def_of d.at d.name x ds)) → IsTrue (defs_are_shaped (def_of d.at d.name x no_defs)) × IsTrue (defs_are_shaped ds)
-shaped-one d ds (PlainKind e) h = (both-true (is_shaped e) true (left-true (is_shaped e) _ h) refl, right-true (is_shaped e) _ h)
-shaped-one d ds (FunctionKind ps ats e) h = (both-true _ true (left-true _ (defs_are_shaped ds) h) refl, right-true _ (defs_are_shaped ds) h)
-shaped-one d ds (CurrentKind e) h = (both-true (is_shaped e) true (left-true (is_shaped e) _ h) refl, right-true (is_shaped e) _ h)
+shaped-one d ds (PlainKind e) h = (both_true (is_shaped e) true (first_true (is_shaped e) _ h) refl, second_true (is_shaped e) _ h)
+shaped-one d ds (FunctionKind ps ats e) h = (both_true _ true (first_true _ (defs_are_shaped ds) h) refl, second_true _ (defs_are_shaped ds) h)
+shaped-one d ds (CurrentKind e) h = (both_true (is_shaped e) true (first_true (is_shaped e) _ h) refl, second_true (is_shaped e) _ h)
 
 pub as_many : (n m : ℕ) → IsTrue (nat_eq n m) → n ≡ m
 as_many n m h = grind (arith, nat_tests)

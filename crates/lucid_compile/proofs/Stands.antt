@@ -12,7 +12,8 @@ use Rattle.lucid_compile.specs.Bound.{Stand, Numbered, bound_node, FunctionStand
 use Rattle.lucid_compile.specs.Holds.{EachRow, Begins}
 use Rattle.lucid_compile.proofs.Opening.{slice-past}
 use Rattle.lucid_compile.proofs.Growing.{begins-itself, begins-then, each-one}
-use Rattle.lucid_compile.proofs.Shapes.{left-true, right-true, as_many}
+use Rattle.lucid_lemmas.proofs.Truths.{first_true, second_true}
+use Rattle.lucid_compile.proofs.Shapes.{as_many}
 
 -- a function's parameter, and its parameters from number i on
 abbrev pub parameter_stand : Static → (index at : ℕ) → Stand
@@ -110,28 +111,28 @@ own-fits ss f first counts =
 module _ (w : Numbered) where
   mutual
     pub fits-tree : (k : Static) (e : PlainTree) (l : Log) → IsTrue (is_shaped e) → LogFits l → LogFits (added w k e l)
-    fits-tree k (form at f es) l t h = fits-trees k es l (right-true _ (are_shaped es) t) h
+    fits-tree k (form at f es) l t h = fits-trees k es l (second_true _ (are_shaped es) t) h
     fits-tree k (name at x) l t h = h
     fits-tree k (call at x es) l t h = fits-trees k es l t h
     fits-tree k (block at e ds) l t h =
-        fits-defs (in_block ds k) k ds (added w (in_block ds k) e (opened_block ds k l)) (right-true (is_shaped e) _ t) (fits-tree (in_block ds k) e (opened_block ds k l) (left-true (is_shaped e) _ t) h)
+        fits-defs (in_block ds k) k ds (added w (in_block ds k) e (opened_block ds k l)) (second_true (is_shaped e) _ t) (fits-tree (in_block ds k) e (opened_block ds k l) (first_true (is_shaped e) _ t) h)
 
     fits-trees : (k : Static) (es : PlainTrees) (l : Log) → IsTrue (are_shaped es) → LogFits l → LogFits (added_all w k es l)
     fits-trees k no_trees l t h = h
-    fits-trees k (tree e es) l t h = fits-trees k es (added w k e l) (right-true (is_shaped e) _ t) (fits-tree k e l (left-true (is_shaped e) _ t) h)
+    fits-trees k (tree e es) l t h = fits-trees k es (added w k e l) (second_true (is_shaped e) _ t) (fits-tree k e l (first_true (is_shaped e) _ t) h)
 
     fits-defs : (k o : Static) (ds : PlainDefs) (l : Log) → IsTrue (defs_are_shaped ds) → LogFits l → LogFits (added_defs w k o ds l)
     fits-defs k o no_defs l t h = h
     fits-defs k o (defines at x e ds) l t h =
         let s : Stand = record { at = at; home = k; entry = plain_entry (bound_node w e) } in
         let c : Log = added w k e l in
-        fits-defs k o ds (with_stand s c) (right-true (is_shaped e) _ t) (fits-on c (with_stand s c) refl (s ∷ [], refl) (fits-tree k e l (left-true (is_shaped e) _ t) h))
+        fits-defs k o ds (with_stand s c) (second_true (is_shaped e) _ t) (fits-on c (with_stand s c) refl (s ∷ [], refl) (fits-tree k e l (first_true (is_shaped e) _ t) h))
     fits-defs k o (defines_function at x ns ats e ds) l t h =
         let y : Static = in_body ns ats k in
-        let front : IsTrue ((nat_lt 0 (length ns) && nat_eq (length ats) (length ns)) && is_shaped e) = left-true _ (defs_are_shaped ds) t in
-        let shape : IsTrue (is_shaped e) = right-true (nat_lt 0 (length ns) && nat_eq (length ats) (length ns)) _ front in
-        let count : length ats ≡ length ns = as_many (length ats) (length ns) (right-true (nat_lt 0 (length ns)) _ (left-true _ (is_shaped e) front)) in
-        let rest : IsTrue (defs_are_shaped ds) = right-true ((nat_lt 0 (length ns) && nat_eq (length ats) (length ns)) && is_shaped e) _ t in
+        let front : IsTrue ((nat_lt 0 (length ns) && nat_eq (length ats) (length ns)) && is_shaped e) = first_true _ (defs_are_shaped ds) t in
+        let shape : IsTrue (is_shaped e) = second_true (nat_lt 0 (length ns) && nat_eq (length ats) (length ns)) _ front in
+        let count : length ats ≡ length ns = as_many (length ats) (length ns) (second_true (nat_lt 0 (length ns)) _ (first_true _ (is_shaped e) front)) in
+        let rest : IsTrue (defs_are_shaped ds) = second_true ((nat_lt 0 (length ns) && nat_eq (length ats) (length ns)) && is_shaped e) _ t in
         let f : FunctionStand = record { at = at; first = length l.names; names = ns; places = ats; right = e; home = k } in
         let u : Log = opened_function ns ats k l in
         let b : Log = with_parameters y 0 ats u in
@@ -146,7 +147,7 @@ module _ (w : Numbered) where
     fits-defs k o (defines_current at x e ds) l t h =
         let s : Stand = record { at = at; home = k; entry = current_entry (bound_node w e) } in
         let c : Log = added w o e l in
-        fits-defs k o ds (with_stand s c) (right-true (is_shaped e) _ t) (fits-on c (with_stand s c) refl (s ∷ [], refl) (fits-tree o e l (left-true (is_shaped e) _ t) h))
+        fits-defs k o ds (with_stand s c) (second_true (is_shaped e) _ t) (fits-on c (with_stand s c) refl (s ∷ [], refl) (fits-tree o e l (first_true (is_shaped e) _ t) h))
 
 -- a row's entry goes with what is in scope from it on: a parameter is one of its function's; a call stands elsewhere
 abbrev pub IsParameter : (index : ℕ) → Static → Type 0

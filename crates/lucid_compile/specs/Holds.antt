@@ -1,5 +1,5 @@
 -- What the lists of a table hold while it is built: for each thing that was added its row, in order.
-use Rattle.std.specs.Prelude.{◌≡◌, ℕ, suc, true, ◌<◌, Some, slice_get, List, [], ◌∷◌, ◌++◌, map, length, IsTrue}
+use Rattle.std.specs.Prelude.{◌≡◌, ℕ, suc, true, ◌<◌, Some, slice_get, List, [], ◌∷◌, ◌++◌, length, IsTrue}
 use Rattle.lucid_tree.specs.Tree.{PlainTree, PlainTrees, PlainDefs}
 use Rattle.lucid_tree.specs.WellMade.{is_shaped, are_shaped, defs_are_shaped}
 use Rattle.lucid_scope.specs.Scoped.{scoped_inputs}
@@ -20,6 +20,7 @@ use Rattle.lucid_equations.specs.declared.rows.PlaceRow.{PlaceRow}
 use Rattle.lucid_compile.specs.declared.building.Here.{Here}
 use Rattle.lucid_compile.specs.declared.building.Body.{Body}
 use Rattle.lucid_compile.specs.Numbered.{name_mark}
+use Rattle.lucid_compile.specs.Keys.{keys_of}
 use Rattle.lucid_compile.specs.Building.{Lists}
 use Rattle.lucid_compile.specs.Bound.{Stand, Numbered, bound_node, bound_nodes, name_node, call_node, Target, no_target, of_name, of_call, CallStand, FunctionStand, NodeStand, Log, added, added_all, added_defs}
 
@@ -122,7 +123,7 @@ PlaceFits rs r = EachStandsIn rs r.scope r.actuals
 abbrev pub BodyFits : List ScopeRow → List NodeRow → Body → Type 0
 BodyFits xs rs b = EntryStands xs rs b.scope (Called b.body)
 
--- The lists hold all that was added.
+-- The lists hold all that was added, with its keys.
 pub record Holds (w : Numbered) (l : Lists) (g : Log) : Type 0 where
   pub known : AreKnown (length l.constants) l.nodes
   pub outer : IsOpen g.scopes 0 outermost
@@ -131,7 +132,7 @@ pub record Holds (w : Numbered) (l : Lists) (g : Log) : Type 0 where
   pub names : NamesHold g.scopes (nodes_in w l) l.names g.names
   pub places : PlacesHold w g.scopes (nodes_in w l) l.places g.calls
   pub functions : FunctionsHold w g.scopes (nodes_in w l) l.bodies g.functions
-  pub calls : l.calls ≡ map (λ c. c.at) g.calls
+  pub keys : l.keys ≡ keys_of g
   pub parts : EachRow (NodeFits l.scopes l.nodes) l.nodes
   pub entries : EachRow (NameFits l.scopes l.nodes) l.names
   pub actuals : EachRow (PlaceFits l.nodes) l.places

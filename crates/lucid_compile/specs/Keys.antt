@@ -1,13 +1,12 @@
--- The keys of a table's rows, in the order of the rows: what the first walk lists for what the second one adds.
-use Rattle.std.specs.Prelude.{◌≡◌, ℕ, List, [], ◌∷◌, ◌++◌, map, length}
-use Rattle.lucid_tree.specs.Tree.{PlainTree, PlainTrees, PlainDefs}
-use Rattle.lucid_compile.specs.Static.{Static, level}
+-- The keys of a table's rows, in the order of the rows.
+use Rattle.std.specs.Prelude.{ℕ, List, [], ◌∷◌, ◌++◌, map, length}
+use Rattle.lucid_compile.specs.Static.{level}
 use Rattle.lucid_compile.specs.Places.{first_place}
 use Rattle.lucid_compile.specs.declared.numbering.Key.{Key}
 use Rattle.lucid_compile.specs.declared.numbering.Keys.{Keys}
 use Rattle.lucid_compile.specs.declared.numbering.Numbering.{Numbering}
 use Rattle.lucid_compile.specs.Numbered.{mark_of, function_of, call_of, AreMarked}
-use Rattle.lucid_compile.specs.Bound.{Stand, Numbered, CallStand, FunctionStand, Log, with_parameters, added, added_all, added_defs}
+use Rattle.lucid_compile.specs.Bound.{Stand, CallStand, FunctionStand, Log}
 
 -- the key of what stands at a place, and that of a function
 abbrev pub plain_key : (at level : ℕ) → Key
@@ -39,6 +38,9 @@ pub record KeyLists : Type 0 where
 abbrev pub key_lists : Keys → KeyLists
 key_lists k = record { names = k.names.items; calls = k.calls.items; places = k.places.items; functions = k.functions.items }
 
+abbrev pub no_keys : KeyLists
+no_keys = record { names = []; calls = []; places = []; functions = [] }
+
 abbrev pub keys_of : Log → KeyLists
 keys_of g = record { names = map stand_key g.names; calls = map call_key g.calls; places = map place_key g.calls; functions = map key_of_function g.functions }
 
@@ -57,16 +59,3 @@ pub record IsNumberingOf (l : KeyLists) (g : Numbering) : Type 0 where
   pub calls : AreMarked (mark_of g) (length l.names) l.calls
   pub places : AreMarked (call_of g) 0 l.places
   pub functions : AreMarked (function_of g) 0 l.functions
-
--- whatever was listed before, it is listed with what was added at this level
-abbrev pub ListsTree : (o n : KeyLists) → (depth : ℕ) → PlainTree → Type 0
-ListsTree o n d e = (w : Numbered) (k : Static) (g : Log) → level k ≡ d → o ≡ keys_of g → n ≡ keys_of (added w k e g)
-
-abbrev pub ListsTrees : (o n : KeyLists) → (depth : ℕ) → PlainTrees → Type 0
-ListsTrees o n d es = (w : Numbered) (k : Static) (g : Log) → level k ≡ d → o ≡ keys_of g → n ≡ keys_of (added_all w k es g)
-
-abbrev pub ListsDefs : (o n : KeyLists) → (inside outside : ℕ) → PlainDefs → Type 0
-ListsDefs o n i d ds = (w : Numbered) (k q : Static) (g : Log) → level k ≡ i → level q ≡ d → o ≡ keys_of g → n ≡ keys_of (added_defs w k q ds g)
-
-abbrev pub ListsParameters : (o n : KeyLists) → (depth : ℕ) → (places : List ℕ) → Type 0
-ListsParameters o n d ats = (k : Static) (g : Log) → level k ≡ d → o ≡ keys_of g → n ≡ keys_of (with_parameters k 0 ats g)

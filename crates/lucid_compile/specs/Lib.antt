@@ -10,3 +10,4 @@ pub mod Holds
 pub mod Forms
 pub mod Steps
 pub mod Keys
+pub mod Linked

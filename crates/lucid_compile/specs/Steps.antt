@@ -1,6 +1,6 @@
 -- What the functions that build a table promise each other.
 use Rattle.std.specs.Prelude.{◌≡◌, ℕ, ◌<◌, ◌^◌, List, ◌++◌, map, length, Option, Some, None, slice_get}
-use Rattle.lucid_tree.specs.Tree.{Head, PlainTree, form, name, call, block, PlainTrees, PlainDefs}
+use Rattle.lucid_tree.specs.Tree.{Head, PlainTree, form, call, block, PlainTrees, PlainDefs}
 use Rattle.lucid_tree.specs.Size.{count}
 use Rattle.lucid_tree.specs.Shape.{FitsHead}
 use Rattle.lucid_scope.specs.Scoped.{scoped_binding}
@@ -14,7 +14,8 @@ use Rattle.lucid_equations.specs.Sound.{ScopeIs}
 use Rattle.lucid_equations.specs.declared.rows.ScopeKind.TheVariants.{Called as CalledScope}
 use Rattle.lucid_compile.specs.declared.building.Here.{Here}
 use Rattle.lucid_compile.specs.declared.building.Body.{Body}
-use Rattle.lucid_compile.specs.declared.compiler.Source.{Source}
+use Rattle.lucid_compile.specs.declared.linking.Source.{Source}
+use Rattle.lucid_compile.specs.declared.numbering.Key.{Key}
 use Rattle.lucid_compile.specs.Numbered.{function_mark}
 use Rattle.lucid_compile.specs.Building.{Lists}
 use Rattle.lucid_compile.specs.Bound.{Stand, Numbered, bound_node, callee_place, FunctionStand, Log, with_parameters}
@@ -26,10 +27,6 @@ numbered s = record { numbering = s.numbering.now; scoped = s.scoped.now }
 -- to lists to which its parts were added, a form of them is added
 abbrev pub AddsForm : Numbered → (m n : Lists) → (here : Here) → Head → (ids : List ℕ) → (id : ℕ) → Type 0
 AddsForm w m n d f ids id = (o : Lists) (at : ℕ) (es : PlainTrees) → FitsHead f (count es) → AddsTrees w o m d es ids → AddsTree w o n d (form at f es) id
-
--- a name at a place is added
-abbrev pub AddsName : Numbered → (o n : Lists) → (here : Here) → (at id : ℕ) → Type 0
-AddsName w o n d at id = (x : List ℕ) → AddsTree w o n d (name at x) id
 
 -- to lists to which its actuals were added, the first of them at a place, a call at a place is added
 abbrev pub AddsCall : Numbered → (m n : Lists) → (here : Here) → (at first : ℕ) → (ids : List ℕ) → (id : ℕ) → Type 0
@@ -57,20 +54,20 @@ call_row w fs at = row_of_call w at (slice_get fs (callee_number w at))
 
 -- with other names
 abbrev pub with_names : List NameRow → Lists → Lists
-with_names rs l = record { scopes = l.scopes; constants = l.constants; nodes = l.nodes; names = rs; places = l.places; bodies = l.bodies; calls = l.calls }
+with_names rs l = record { scopes = l.scopes; constants = l.constants; nodes = l.nodes; names = rs; places = l.places; bodies = l.bodies; keys = l.keys }
 
 -- the row of a call of a function with this right side
 abbrev pub row_by : Option Body → NameRow
 row_by None = record { scope = 0; kind = Parameter 0 }
 row_by (Some b) = record { scope = b.scope; kind = Called b.body }
 
--- the rows of calls at some places
-abbrev pub rows_of_calls : Numbered → List Body → (calls : List ℕ) → List NameRow
-rows_of_calls w bs cs = map (λ at. row_by (slice_get bs (callee_number w at))) cs
+-- the rows of calls with some keys
+abbrev pub rows_of_calls : Numbered → List Body → (calls : List Key) → List NameRow
+rows_of_calls w bs ks = map (λ k. row_by (slice_get bs (callee_number w k.at))) ks
 
 -- the names' rows, and after them those of the calls
 abbrev pub with_calls : Numbered → Lists → Lists
-with_calls w l = with_names (l.names ++ rows_of_calls w l.bodies l.calls) l
+with_calls w l = with_names (l.names ++ rows_of_calls w l.bodies l.keys.calls) l
 
 -- the table of some lists
 pub record IsTableOf (l : Lists) (inputs : List (List ℕ)) (root : ℕ) (t : Table) : Type 0 where

@@ -1,10 +1,11 @@
 //! The lists of a table while it is built: each only grows.
 ghost use Rattle.std.specs.Prelude.{◌≡◌, IfOk, OnOk};
 ghost use Rattle.lucid_value.specs.View.{plain};
+ghost use Rattle.lucid_compile.specs.Keys.{plain_key};
 ghost use Rattle.lucid_compile.specs.Building.{lists, no_lists, with_name, with_body, with_place, OneScope, OneConstant, OneNode};
 
-use crate::numbering::number;
-use lucid_equations::{Entry, NameRow, Node, NodeRow, PlaceRow, ScopeKind, ScopeRow};
+use crate::numbering::{Key, Keys, number, plain_key};
+use lucid_equations::{Entry, NameRow, Node, NodeRow, Numbers32, PlaceRow, ScopeKind, ScopeRow};
 use lucid_value::Value;
 use std::alloc::{AllocError, Global};
 
@@ -22,7 +23,9 @@ pub(crate) struct Body {
     pub(crate) body: u32,
 }
 
-/// The lists. The rows of calls are made last, so of each call its place is noted.
+/// The lists, and the keys of names, calls, call places and functions. Until they are linked, nodes and call places have for the number
+/// of a name the place of the name or of its call, for that of a call place the place of its first actual, and no levels. The rows of
+/// calls are made then.
 #[derive(Drop)]
 pub(crate) struct Rows {
     pub(crate) scopes: Vec<ScopeRow>,
@@ -31,7 +34,7 @@ pub(crate) struct Rows {
     pub(crate) names: Vec<NameRow>,
     pub(crate) places: Vec<PlaceRow>,
     pub(crate) bodies: Vec<Body>,
-    pub(crate) calls: Vec<u32>,
+    pub(crate) keys: Keys,
 }
 
 impl Rows {
@@ -46,7 +49,7 @@ impl Rows {
             names: Vec::new(alloc),
             places: Vec::new(alloc),
             bodies: Vec::new(alloc),
-            calls: Vec::new(alloc),
+            keys: Keys::make(alloc),
         }
     }
 
@@ -79,36 +82,45 @@ impl Rows {
         Ok(id)
     }
 
-    /// One name more.
-    pub(crate) fn add_name(&mut self, row: NameRow) -> Result<(), AllocError>
-        ensures { OnOk result (lists self.new ≡ with_name row (lists self.old)) }
-    {
-        self.names.push(row)?;
-        Ok(())
-    }
-
-    /// The row of a name that is defined here.
-    pub(crate) fn define(&mut self, here: Here, kind: Entry) -> Result<(), AllocError>
-        ensures { OnOk result (lists self.new ≡ with_name (record { scope = here.scope; kind = kind }) (lists self.old)) }
+    /// The row of a name that is defined here, at a place.
+    pub(crate) fn define(&mut self, here: Here, at: u32, kind: Entry) -> Result<(), AllocError>
+        ensures { OnOk result (lists self.new ≡ with_name (plain_key at here.level) (record { scope = here.scope; kind = kind }) (lists self.old)) }
     {
         let scope = here.scope;
-        self.add_name(NameRow { scope, kind })
+        self.names.push(NameRow { scope, kind })?;
+        self.keys.names.push(plain_key(at, here.level))?;
+        Ok(())
     }
 
     /// The right side of a function.
-    pub(crate) fn close(&mut self, body: Body) -> Result<(), AllocError>
-        ensures { OnOk result (lists self.new ≡ with_body body (lists self.old)) }
+    pub(crate) fn close(&mut self, key: Key, body: Body) -> Result<(), AllocError>
+        ensures { OnOk result (lists self.new ≡ with_body key body (lists self.old)) }
     {
         self.bodies.push(body)?;
+        self.keys.functions.push(key)?;
         Ok(())
     }
 
-    /// One call place more. The place of the call is noted.
-    pub(crate) fn add_place(&mut self, at: u32, row: PlaceRow) -> Result<(), AllocError>
-        ensures { OnOk result (lists self.new ≡ with_place row at (lists self.old)) }
+    /// One call place more, of a call at a place, whose first actual is at a place.
+    pub(crate) fn add_place(
+        &mut self,
+        here: Here,
+        at: u32,
+        first: u32,
+        actuals: Numbers32,
+    ) -> Result<(), AllocError>
+        ensures { OnOk result (lists self.new ≡ with_place (plain_key at here.level) (plain_key first here.level) (record { scope = here.scope; name = at; actuals = actuals }) (lists self.old)) }
     {
+        let scope = here.scope;
+        let name = at;
+        let row = PlaceRow {
+            scope,
+            name,
+            actuals,
+        };
         self.places.push(row)?;
-        self.calls.push(at)?;
+        self.keys.calls.push(plain_key(at, here.level))?;
+        self.keys.places.push(plain_key(first, here.level))?;
         Ok(())
     }
 }

@@ -7,4 +7,5 @@ mod building;
 mod compiler;
 mod forms;
 pub mod laws;
+mod linking;
 mod numbering;

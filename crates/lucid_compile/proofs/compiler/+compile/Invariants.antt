@@ -1,9 +1,10 @@
 use Rattle.std.proofs.Common.{ℕ, List, ◌++◌, ◌+◌, ◌*◌, ◌≤◌}
 use Rattle.lucid_tree.specs.Size.{nodes, nodes_in, nodes_in_defs}
 use Rattle.lucid_tree.specs.Rights.{right_of}
-use Rattle.lucid_compile.specs.Building.{Lists, lists}
+use Rattle.lucid_compile.specs.Bound.{Numbered}
+use Rattle.lucid_compile.specs.Building.{Lists}
+use Rattle.lucid_compile.specs.Linked.{linked}
 use Rattle.lucid_compile.specs.Holds.{AddsTrees, AddsDefs}
-use Rattle.lucid_compile.specs.Steps.{numbered}
 use Rattle.lucid_compile.proofs.compiler.+compile.Given as goal
 
 abbrev pub decreases-add_tree : goal.decreases-add_tree
@@ -26,8 +27,7 @@ abbrev pub invariant-add_parts-loop-part : goal.invariant-add_parts-loop-part
 invariant-add_parts-loop-part l =
     (goal.iterator-add_parts-loop-part).can_next l.part-iterator
     × (goal.iterator-add_parts-loop-part).is_finite l.part-iterator
-    × ((n : Lists) (more : List ℕ) → AddsTrees (numbered l.source) (lists l.rows) n l.here l.part-iterator more
-    → AddsTrees (numbered l.source) (lists l.initial.rows) n l.here l.fn.parts (l.ids.items ++ more))
+    × ((w : Numbered) (n : Lists) (more : List ℕ) → AddsTrees w (linked w l.rows) n l.here l.part-iterator more → AddsTrees w (linked w l.initial.rows) n l.here l.fn.parts (l.ids.items ++ more))
     × (nodes_in l.part-iterator ≤ nodes_in l.fn.parts)
 
 -- the same of definitions
@@ -35,5 +35,5 @@ abbrev pub invariant-add_defs-loop-def : goal.invariant-add_defs-loop-def
 invariant-add_defs-loop-def l =
     (goal.iterator-add_defs-loop-def).can_next l.def-iterator
     × (goal.iterator-add_defs-loop-def).is_finite l.def-iterator
-    × ((n : Lists) → AddsDefs (numbered l.source) (lists l.rows) n l.inside l.outside l.def-iterator → AddsDefs (numbered l.source) (lists l.initial.rows) n l.inside l.outside l.fn.defs)
+    × ((w : Numbered) (n : Lists) → AddsDefs w (linked w l.rows) n l.inside l.outside l.def-iterator → AddsDefs w (linked w l.initial.rows) n l.inside l.outside l.fn.defs)
     × (nodes_in_defs l.def-iterator ≤ nodes_in_defs l.fn.defs)

@@ -1,11 +1,16 @@
-use Rattle.std.proofs.Common.{refl, ap}
-use Rattle.lucid_compile.specs.Building.{lists}
-use Rattle.lucid_compile.specs.Steps.{numbered}
+use Rattle.std.proofs.Common.{◌≡◌, ap, ◌∙◌}
+use Rattle.lucid_equations.specs.declared.rows.Node.TheVariants.{Call}
+use Rattle.lucid_compile.specs.Keys.{plain_key}
+use Rattle.lucid_compile.specs.Building.{lists, with_place}
+use Rattle.lucid_compile.specs.Linked.{linked}
 use Rattle.lucid_compile.proofs.Adding.{if_ok, call-added}
+use Rattle.lucid_compile.proofs.LinkedRows.{node-linked, place-linked}
 use Rattle.lucid_compile.proofs.compiler.add_call.Goals as goal
 
 pub returns : goal.returns
 returns c =
-    if_ok c.push.result _ _ c.push.ensures (λ id s.
-    call-added (numbered c.args.source.now) (lists c.args.rows.now) (lists c.add_place.new.self) (lists c.push.new.self) c.args.here c.args.at c.args.first c.args.ids.items (record { scope = c.args.here.scope; name = c.name-name.result.number; actuals = c.from_vec.result }) c.place-place.result
-    c.name-name.result.number c.called-function.result.level id c.in_ok-add_place.ensures c.from_vec.ensures refl (ap (λ m. m.number) c.name-name.ensures) c.place-place.ensures (ap (λ m. m.number) c.name-name.ensures) (ap (λ m. m.level) c.called-function.ensures) s)
+    let place : lists c.add_place.new.self ≡ with_place (plain_key c.args.at c.args.here.level) (plain_key c.args.first c.args.here.level) (record { scope = c.args.here.scope; name = c.args.at; actuals = c.args.ids.items }) (lists c.args.rows.now) =
+    c.in_ok-add_place.ensures ∙ ap (λ ids. with_place (plain_key c.args.at c.args.here.level) (plain_key c.args.first c.args.here.level) (record { scope = c.args.here.scope; name = c.args.at; actuals = ids }) (lists c.args.rows.now)) c.from_vec.ensures in
+    if_ok c.push.result _ _ c.push.ensures (λ id s w.
+    call-added w (linked w c.args.rows.now) (linked w c.add_place.new.self) (linked w c.push.new.self) c.args.here c.args.at c.args.first c.args.ids.items id (place-linked w (lists c.args.rows.now) (lists c.add_place.new.self) _ _ _ place)
+    (node-linked w (lists c.add_place.new.self) (lists c.push.new.self) (record { scope = c.args.here.scope; node = Call c.args.at c.args.first 0 }) id s))

@@ -1,7 +1,7 @@
 use Rattle.std.proofs.Common.{◌≡◌, drop}
 use Rattle.lucid_tree.specs.DefsView.{defs_of}
 use Rattle.lucid_compile.specs.Static.{freezes}
-use Rattle.lucid_compile.proofs.numbering.has_frame.Given as goal
+use Rattle.lucid_compile.proofs.compiler.has_frame.Given as goal
 
 -- whether the block has a frame rests on the definitions that are left
 abbrev pub invariant-loop-def : goal.invariant-loop-def
