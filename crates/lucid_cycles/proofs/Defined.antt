@@ -1,19 +1,18 @@
 -- The definitions of a tree's plain names: their places, the nodes by their parts, and the one with a number.
 use Rattle.std.proofs.Common.{◌≡◌, ℕ, ◌<◌, ◌≤◌, List, [], ◌∷◌, ◌++◌, length, get_or, map, ◌⊎◌, inl, inr, refl, sym, ap, ◌∙◌, arith}
 use Rattle.std.specs.Prelude.{nat_eq, nat_lt}
-use Rattle.std.specs.Borrow.{Bor}
 use Rattle.std.specs.List.{count_by, filter, flat_map, join_by}
 use Rattle.std.specs.List.Sorted.{IsPermutation, IsNonDecreasingBy}
-use Rattle.std.proofs.lemmas.List.{append-nil, get_or-map, get_or_default, length-map, map-append}
+use Rattle.std.proofs.lemmas.List.{append-nil, get_or_default, map-append}
 use Rattle.std.proofs.lemmas.Bool.{cases_lt}
 use Rattle.lucid_tree.specs.Tree.{PlainTree, form, name, call, block, PlainTrees, no_trees, tree, PlainDefs, no_defs, defines, defines_function, defines_current}
 use Rattle.lucid_tree.specs.Members.{AllDiffer}
 use Rattle.lucid_tree.specs.WellMade.{places, places_in, places_in_defs}
-use Rattle.lucid_tree.specs.declared.tree.Def.{Def}
 use Rattle.lucid_tree.proofs.Times.{times, times-append, times-counted, differ-once}
 use Rattle.lucid_cycles.specs.Judged.{plain_names, plain_names_in, plain_names_in_defs}
-use Rattle.lucid_cycles.specs.JudgmentLine.{Definition, definitions, definitions_in, definitions_in_defs, definition_text, name_text}
-use Rattle.lucid_cycles.specs.Found.{definition, found_definitions, text_at}
+use Rattle.lucid_cycles.specs.JudgmentLine.{definitions, definitions_in, definitions_in_defs, definition_text, name_text}
+use Rattle.lucid_cycles.specs.declared.line.Definition.{Definition}
+use Rattle.lucid_cycles.specs.Found.{text_at}
 use Rattle.lucid_cycles.proofs.Ordered.{Once, count-map, one-at, none-at}
 use Rattle.lucid_cycles.proofs.Found.{text-in, text-out}
 
@@ -67,17 +66,14 @@ text-of : (e : PlainTree) (k : ℕ) (l : List Definition) → filter (λ (d : De
 text-of e k l h =
     ap (λ ns. flat_map definition_text (filter (λ (d : Definition). nat_eq (count_by (λ x. nat_lt x d.at) ns) k) (definitions e))) (names-places e) ∙ ap (λ l. flat_map definition_text l) h
 
-named-at : (e : PlainTree) (x : Bor Def) (ds : List (Bor Def)) → AllDiffer (places e) → IsPermutation (definitions e) (found_definitions ds) → IsNonDecreasingBy (λ (d : Definition). d.at) (found_definitions ds) → (k : ℕ)
+named-at : (e : PlainTree) (x : Definition) (ds : List Definition) → AllDiffer (places e) → IsPermutation (definitions e) ds → IsNonDecreasingBy (λ (d : Definition). d.at) ds → (k : ℕ)
     → (k < length ds) ⊎ (length ds ≤ k) → text_at ds k ≡ name_text e k
 named-at e x ds h p s k (inl l) =
-    let there : k < length (found_definitions ds) = omega (arith, l, length-map ds definition) in
-    let one = one-at (λ (d : Definition). d.at) (definitions e) (found_definitions ds) p s (defined-once e h) k (definition x) there in
-    text-in ds k (get_or ds k x) l (get_or_default ds k x (get_or ds k x) l) ∙ ap definition_text (sym (get_or-map definition ds k x (definition x) l)) ∙ sym (append-nil (definition_text (get_or (found_definitions ds) k (definition x)))) ∙ sym (text-of e k _ one)
-named-at e x ds h p s k (inr l) =
-    let there : length (found_definitions ds) ≤ k = omega (arith, l, length-map ds definition) in
-    text-out ds k l ∙ sym (text-of e k _ (none-at (λ (d : Definition). d.at) (definitions e) (found_definitions ds) p s (defined-once e h) k there))
+    let one = one-at (λ (d : Definition). d.at) (definitions e) ds p s (defined-once e h) k x l in
+    text-in ds k (get_or ds k x) l (get_or_default ds k x (get_or ds k x) l) ∙ sym (append-nil (definition_text (get_or ds k x))) ∙ sym (text-of e k _ one)
+named-at e x ds h p s k (inr l) = text-out ds k l ∙ sym (text-of e k _ (none-at (λ (d : Definition). d.at) (definitions e) ds p s (defined-once e h) k l))
 
-pub named : (e : PlainTree) (ds : List (Bor Def)) → AllDiffer (places e) → IsPermutation (definitions e) (found_definitions ds) → IsNonDecreasingBy (λ (d : Definition). d.at) (found_definitions ds) → (k : ℕ) → text_at ds k ≡ name_text e k
+pub named : (e : PlainTree) (ds : List Definition) → AllDiffer (places e) → IsPermutation (definitions e) ds → IsNonDecreasingBy (λ (d : Definition). d.at) ds → (k : ℕ) → text_at ds k ≡ name_text e k
 named e [] h p s k = sym (text-of e k _ (none-at (λ (d : Definition). d.at) (definitions e) [] p s (defined-once e h) k (omega arith)))
 named e (x ∷ ds) h p s k = named-at e x (x ∷ ds) h p s k (cases_lt k (length (x ∷ ds)))
 

@@ -1,6 +1,7 @@
 -- From the descents through a tree to what is said of its graph.
-use Rattle.std.proofs.Common.{◌≡◌, ℕ, zero, suc, ◌<◌, ◌≤◌, List, [], ◌++◌, length, map, take, fold, None, ◌⊎◌, inl, inr, sym, ap, subst, ◌∙◌, arith}
-use Rattle.std.specs.Prelude.{pos}
+use Rattle.std.proofs.Common.{◌≡◌, ℕ, zero, suc, ◌<◌, ◌≤◌, List, [], ◌++◌, length, map, take, fold, Option, Some, None, ◌⊎◌, inl, inr, sym, ap, subst, ◌∙◌, arith}
+use Rattle.std.specs.Prelude.{pos, MatchOption, Result, Ok, Err, IsOk, OnOk}
+use Rattle.std.specs.declared.convert.Infallible.{Infallible}
 use Rattle.std.specs.List.{All}
 use Rattle.std.proofs.lemmas.List.Elements.{All-map, All-weaker}
 use Rattle.std.proofs.Math.Logic.{∥∥₁_elim}
@@ -11,53 +12,56 @@ use Rattle.lucid_cycles.specs.declared.edge.Edge.{Edge}
 use Rattle.lucid_cycles.specs.declared.names.Names.{Names}
 use Rattle.lucid_cycles.specs.declared.judgment.Judgment.{Judgment}
 use Rattle.lucid_cycles.specs.declared.judgment.Judgment.TheVariants.{Enough, Cycle}
-use Rattle.lucid_cycles.specs.Judged.{outside, plain_names, IsJudged}
+use Rattle.lucid_cycles.specs.declared.names.Survey.{Survey}
+use Rattle.lucid_cycles.specs.Judged.{outside, plain_names, IsFirstOutside}
 use Rattle.lucid_cycles.specs.Graph.{Bindings, edges, numbered, graph, factor_of}
 use Rattle.lucid_cycles.specs.Potentials.{Falls, Adds}
 use Rattle.lucid_cycles.specs.Judgments.{names_of, IsEnough, IsGraphJudgment, IsJudgment}
 use Rattle.lucid_cycles.specs.Laws.{HasParts, EnoughIsEnough, IsDefinedAtDepth, IsDefinedAsJudged}
-use Rattle.lucid_cycles.specs.Walks.{with_name, listed_names, HasAsked}
+use Rattle.lucid_cycles.specs.Walks.{with_name, lesser, listed_names, HasAsked, marks}
+use Rattle.lucid_cycles.specs.Readers.{HasNames, Surveys, IsSurvey}
 use Rattle.lucid_cycles.proofs.Lists.{all-both, all-unmap}
-use Rattle.lucid_cycles.proofs.Table.{roomy, crowded}
+use Rattle.lucid_cycles.proofs.Table.{roomy, crowded, none-outside, first-outside}
+use Rattle.lucid_cycles.proofs.Defined.{names-places}
 
 le-or : (x n : ℕ) → (x ≤ n) ⊎ (n < x)
 le-or zero n = inl (omega arith)
 le-or (suc x) zero = inr (omega arith)
 le-or (suc x) (suc n) = elim (le-or x n) [ inl h ↦ inl (omega (arith, h)) | inr h ↦ inr (omega (arith, h)) ]
 
-pub record HasNames (e : PlainTree) (m : Names) : Type 0 where
-  pub few : length (plain_names e) ≤ 2000
-  pub count : m.count ≡ names_of e
-  pub listed : listed_names m ≡ plain_names e
+-- what is outside, by the least place of it
+outside-by : (e : PlainTree) (o : Option ℕ) → o ≡ fold lesser None (outside e) → MatchOption o (outside e ≡ []) (λ at. IsFirstOutside e at)
+outside-by e None q = none-outside (outside e) q
+outside-by e (Some at) q = first-outside e at q
 
-names-by : (e : PlainTree) (n m : Names) → n.count ≡ 0 → listed_names n ≡ [] → length n.places ≡ 2000 → m ≡ fold with_name n (plain_names e) → m.count ≤ 2000 → (length (plain_names e) ≤ 2000) ⊎ (2000 < length (plain_names e)) → HasNames e m
-names-by e n m z l r f h (inl few) =
-    let q = roomy (plain_names e) n m f r (omega (arith, z, few)) in
-    record { few = few; count = omega (arith, q.count, z); listed = q.listed ∙ ap (λ x. x ++ plain_names e) l }
-names-by e n m z l r f h (inr many) =
-    let q = crowded (plain_names e) n m f (omega (arith, z)) (omega (arith, z, many)) in absurd (omega (arith, q, h))
+-- a walk from nothing gives the survey
+pub is-survey : (e : PlainTree) (b : Bindings) (s t : Survey) (r : Result (Unit {0}) Infallible) → s.names.count ≡ 0 → length s.names.places ≡ 2000 → s.outside ≡ None → Surveys s (marks b None (pos 0) e) r t → IsSurvey e t
+is-survey e b s t a z r o h =
+    let f : t.names ≡ fold with_name s.names (plain_names e) = h.names ∙ ap (fold with_name s.names) (sym (names-places e)) in record {
+      names = λ few. let q = roomy (plain_names e) s.names t.names f r (omega (arith, z, few)) in
+          record { count = omega (arith, q.count, z); listed = q.listed ∙ ap (λ k. take k s.names.places ++ plain_names e) z };
+      many = λ l. omega (arith, crowded (plain_names e) s.names t.names f (omega (arith, z)) (omega (arith, z, l)));
+      outside = outside-by e t.outside (h.outside ∙ ap (λ x. fold lesser x (outside e)) o);
+    }
 
-none-listed : (n : Names) → n.count ≡ 0 → listed_names n ≡ []
-none-listed n z = ap (λ k. take k n.places) z
+-- names that are few by their count are
+few-by : (e : PlainTree) (s : Survey) → IsSurvey e s → s.names.count ≤ 2000 → (names_of e ≤ 2000) ⊎ (2000 < names_of e) → names_of e ≤ 2000
+few-by e s i h (inl l) = l
+few-by e s i h (inr l) = let m = i.many l in absurd (omega (arith, m, h))
 
-pub has-names : (e : PlainTree) (n m : Names) → n.count ≡ 0 → length n.places ≡ 2000 → m ≡ fold with_name n (plain_names e) → m.count ≤ 2000 → HasNames e m
-has-names e n m z r f h = names-by e n m z (none-listed n z) r f h (le-or (length (plain_names e)) 2000)
+pub few-names : (e : PlainTree) (s : Survey) → IsSurvey e s → s.names.count ≤ 2000 → names_of e ≤ 2000
+few-names e s i h = few-by e s i h (le-or (names_of e) 2000)
 
-many-by : (e : PlainTree) (n m : Names) → n.count ≡ 0 → length n.places ≡ 2000 → m ≡ fold with_name n (plain_names e) → 2000 < m.count → (length (plain_names e) ≤ 2000) ⊎ (2000 < length (plain_names e)) → 2000 < names_of e
-many-by e n m z r f h (inl few) = let q = roomy (plain_names e) n m f r (omega (arith, z, few)) in absurd (omega (arith, q.count, z, h, few))
-many-by e n m z r f h (inr many) = many
+-- and many by it are many
+many-by : (e : PlainTree) (s : Survey) → IsSurvey e s → 2000 < s.names.count → (names_of e ≤ 2000) ⊎ (2000 < names_of e) → 2000 < names_of e
+many-by e s i h (inl l) = let n = i.names l in absurd (omega (arith, n.count, h, l))
+many-by e s i h (inr l) = l
 
-pub too-many : (e : PlainTree) (n m : Names) → n.count ≡ 0 → length n.places ≡ 2000 → m ≡ fold with_name n (plain_names e) → 2000 < m.count → 2000 < names_of e
-too-many e n m z r f h = many-by e n m z r f h (le-or (length (plain_names e)) 2000)
+pub many-names : (e : PlainTree) (s : Survey) → IsSurvey e s → 2000 < s.names.count → 2000 < names_of e
+many-names e s i h = many-by e s i h (le-or (names_of e) 2000)
 
--- names of a judged program have room
-pub judged-names : (e : PlainTree) (n m : Names) → IsJudged e → n.count ≡ 0 → length n.places ≡ 2000 → m ≡ fold with_name n (plain_names e) → HasNames e m
-judged-names e n m j z r f =
-    let q = roomy (plain_names e) n m f r (omega (arith, z, j.few)) in
-    record { few = j.few; count = omega (arith, q.count, z); listed = q.listed ∙ ap (λ x. x ++ plain_names e) (none-listed n z) }
-
-pub graph-is : (e : PlainTree) (b : Bindings) (m : Names) (found es : List Edge) → HasNames e m → found ≡ edges b None (pos 0) e → es ≡ map (numbered (listed_names m)) found → es ≡ graph e b
-graph-is e b m found es h f q = q ∙ ap (λ ds. map (numbered ds) found) h.listed ∙ ap (map (numbered (plain_names e))) f
+pub graph-is : (e : PlainTree) (b : Bindings) (m : Names) (es : List Edge) → HasNames e m → es ≡ map (numbered (listed_names m)) (edges b None (pos 0) e) → es ≡ graph e b
+graph-is e b m es h q = q ∙ ap (λ ds. map (numbered ds) (edges b None (pos 0) e)) h.listed
 
 pub judgment-is : (e : PlainTree) (b : Bindings) (es : List Edge) (n : ℕ) (j : Judgment) → es ≡ graph e b → n ≡ names_of e → IsGraphJudgment es n j → IsJudgment e b j
 judgment-is e b es n j q r h = subst (λ k. IsGraphJudgment (graph e b) k j) r (subst (λ g. IsGraphJudgment g n j) q h)
@@ -96,6 +100,11 @@ enough-counts e b m factor add p h q = (q.potentials.each ∙ sym h.count, q.fac
 pub defined : EnoughIsEnough → (e : PlainTree) (inputs : List (List ℕ)) (b : Bindings) (factor add : ℕ) (p : List ℕ) → HasParts e → ∥ IsResolved e inputs b ∥₁ → outside e ≡ [] → IsEnough e b factor add p → IsDefinedAtDepth e factor add
 defined law e inputs b factor add p parts resolved inside q elements there t s =
     ∥∥₁_elim resolved (hlevel props) (λ r. law e inputs b factor add p parts r inside q elements there t s)
+
+-- what holds on success holds where there is some
+pub ok-on : {E : Type 0} (P : Type 0) (r : Result (Unit {0}) E) → IsOk r → OnOk r P → P
+ok-on P (Ok x) o p = p
+ok-on P (Err e) o p = absurd (let k = o in cc)
 
 -- and so is the depth of a judgment
 pub judged-defined : EnoughIsEnough → (e : PlainTree) (inputs : List (List ℕ)) (b : Bindings) (j : Judgment) → HasParts e → ∥ IsResolved e inputs b ∥₁ → outside e ≡ [] → IsJudgment e b j → IsDefinedAsJudged e j

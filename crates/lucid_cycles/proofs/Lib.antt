@@ -11,7 +11,6 @@ pub mod Closing
 pub mod Small
 pub mod Table
 pub mod Descended
-pub mod Telling
 pub mod Ordered
 pub mod Totals
 pub mod Found

@@ -8,6 +8,7 @@ use Rattle.std.proofs.lemmas.List.Elements.{All-nil, All-cons, All-append, All-m
 use Rattle.std.proofs.lemmas.List.Sums.{count_by-le-length, sum_by-cons}
 use Rattle.lucid_tree.specs.Tree.{Head, first, next, fby, PlainTree, form, name, call, block, PlainTrees, no_trees, tree, PlainDefs, no_defs, defines, defines_function, defines_current}
 use Rattle.lucid_tree.specs.Members.{In}
+use Rattle.lucid_tree.specs.Rights.{right_of}
 use Rattle.lucid_tree.specs.DefsView.{def_of, one_def}
 use Rattle.lucid_tree.specs.declared.tree.Def.{Def}
 use Rattle.lucid_tree.specs.declared.tree.DefKind.{DefKind}
@@ -17,10 +18,11 @@ use Rattle.lucid_tree.proofs.Members.{in_left, in_right}
 use Rattle.lucid_scope.specs.declared.scoped.Binding.{Binding}
 use Rattle.lucid_scope.specs.declared.scoped.Binding.TheVariants.{Plain, Parameter, Current, Function, Input}
 use Rattle.lucid_cycles.specs.declared.edge.Edge.{Edge}
-use Rattle.lucid_cycles.specs.Judged.{plain_names, plain_names_in, plain_names_in_defs}
+use Rattle.lucid_cycles.specs.Judged.{outside, outside_in, outside_in_defs, plain_names, plain_names_in, plain_names_in_defs}
 use Rattle.lucid_cycles.specs.Graph.{Bindings, edge_to, edges, edges_in, edges_in_defs, first_delay, later_delay, number, numbered, graph}
 use Rattle.lucid_cycles.specs.Rounds.{Fits, FromBelow, IsSmall}
-use Rattle.lucid_cycles.specs.Walks.{edges_of_def}
+use Rattle.lucid_cycles.proofs.Lists.{nil-left, nil-right}
+use Rattle.lucid_cycles.specs.Walks.{own_marks, both, marks, marks_in_defs}
 
 pub fits-part : (w : ℤ) (n m : ℕ) → m ≤ n → Fits w n → Fits w m
 fits-part w n m h f = let l = f.low in let u = f.high in record { low = omega (arith, ints, l); high = omega (arith, ints, u) }
@@ -39,23 +41,23 @@ pub fits-after : (w : ℤ) (e : PlainTree) (es : PlainTrees) → Fits w (length 
 fits-after w e es f = fits-part w (length (places e ++ places_in es)) (length (places_in es)) (omega (arith, length-append (places e) (places_in es))) f
 
 -- the delays of a form's parts fit where its own does
-fits-first : (f : Head) (w : ℤ) (n : ℕ) → Fits w (suc n) → Fits (first_delay f w) n
+pub fits-first : (f : Head) (w : ℤ) (n : ℕ) → Fits w (suc n) → Fits (first_delay f w) n
 fits-first first w n h = fits-zero n (omega (arith, fits-under w (suc n) h))
 fits-first next w n h = let l = h.low in let u = h.high in record { low = omega (arith, ints, l); high = omega (arith, ints, u) }
 fits-first _ w n h = fits-part w (suc n) n (omega arith) h
 
-fits-later : (f : Head) (w : ℤ) (n : ℕ) → Fits w (suc n) → Fits (later_delay f w) n
+pub fits-later : (f : Head) (w : ℤ) (n : ℕ) → Fits w (suc n) → Fits (later_delay f w) n
 fits-later fby w n h = let l = h.low in let u = h.high in record { low = omega (arith, ints, l); high = omega (arith, ints, u) }
 fits-later f w n h = fits-first f w n h
 
--- the edges of a definition, and of those after it
-edges-one : (b : Bindings) (at : ℕ) (n : List ℕ) (k : DefKind) (ds : PlainDefs) → edges_in_defs b (def_of at n k ds) ≡ edges_of_def b at k ++ edges_in_defs b ds
-edges-one b at n (DefPlain e) ds = refl
-edges-one b at n (DefFunction ps ats e) ds = refl
-edges-one b at n (DefCurrent e) ds = refl
+-- what is met in definitions is what is met in the first, and in those after it
+marks-one : (b : Bindings) (at : ℕ) (n : List ℕ) (k : DefKind) (ds : PlainDefs) → marks_in_defs b (def_of at n k ds) ≡ both (own_marks at n k) (both (marks b (Some at) (pos 0) (right_of k)) (marks_in_defs b ds))
+marks-one b at n (DefPlain e) ds = refl
+marks-one b at n (DefFunction ps ats e) ds = refl
+marks-one b at n (DefCurrent e) ds = refl
 
-pub edges-def : (b : Bindings) (d : Def) (ds es : PlainDefs) → es ≡ one_def d ds → edges_in_defs b es ≡ edges_of_def b d.at d.kind ++ edges_in_defs b ds
-edges-def b d ds es e = ap (edges_in_defs b) e ∙ edges-one b d.at d.name d.kind ds
+pub marks-def : (b : Bindings) (d : Def) (ds es : PlainDefs) → es ≡ one_def d ds → marks_in_defs b es ≡ both (own_marks d.at d.name d.kind) (both (marks b (Some d.at) (pos 0) (right_of d.kind)) (marks_in_defs b ds))
+marks-def b d ds es e = ap (marks_in_defs b) e ∙ marks-one b d.at d.name d.kind ds
 
 -- and those after it have no more places
 places-one : (at : ℕ) (n : List ℕ) (k : DefKind) (ds : PlainDefs) → length (places_in_defs ds) ≤ length (places_in_defs (def_of at n k ds))
@@ -88,40 +90,35 @@ Has ds xs = (d : ℕ) → In d xs → In d ds
 
 module _ (b : Bindings) (ds : List ℕ) where
   mutual
-    good-edges : (x : Option ℕ) (w : ℤ) (e : PlainTree) → Known ds x → Has ds (plain_names e) → Fits w (length (places e)) → All (Good ds) (edges b x w e)
-    good-edges x w (name at n) k h f = one-edge ds x w (b at) k (fits-part w 1 0 (omega arith) f)
-    good-edges x w (call at n es) k h f =
-        let g = fits-part w (suc (length (places_in es))) (length (places_in es)) (omega arith) f in good-edges-in x w w es k h g g
-    good-edges x w (block at e es) k h f =
+    good-edges : (x : Option ℕ) (w : ℤ) (e : PlainTree) → outside e ≡ [] → Known ds x → Has ds (plain_names e) → Fits w (length (places e)) → All (Good ds) (edges b x w e)
+    good-edges x w (name at n) o k h f = one-edge ds x w (b at) k (fits-part w 1 0 (omega arith) f)
+    good-edges x w (call at n es) o k h f = cc
+    good-edges x w (block at e es) o k h f =
         let all = length-append (places e) (places_in_defs es) in
         All-append (Good ds) (edges b x w e) (edges_in_defs b es)
-        (good-edges x w e k (λ d i. h d (in_left d (plain_names e) (plain_names_in_defs es) i)) (fits-part w (suc (length (places e ++ places_in_defs es))) (length (places e)) (omega (arith, all)) f))
-        (good-edges-of es (λ d i. h d (in_right d (plain_names e) (plain_names_in_defs es) i)) (omega (arith, all, fits-under w _ f)))
-    good-edges x w (form at l es) k h f =
-        good-edges-in x (first_delay l w) (later_delay l w) es k h (fits-first l w (length (places_in es)) f) (fits-later l w (length (places_in es)) f)
+        (good-edges x w e (nil-left (outside e) (outside_in_defs es) o) k (λ d i. h d (in_left d (plain_names e) (plain_names_in_defs es) i)) (fits-part w (suc (length (places e ++ places_in_defs es))) (length (places e)) (omega (arith, all)) f))
+        (good-edges-of es (nil-right (outside e) (outside_in_defs es) o) (λ d i. h d (in_right d (plain_names e) (plain_names_in_defs es) i)) (omega (arith, all, fits-under w _ f)))
+    good-edges x w (form at l es) o k h f =
+        good-edges-in x (first_delay l w) (later_delay l w) es (nil-right _ (outside_in es) o) k h (fits-first l w (length (places_in es)) f) (fits-later l w (length (places_in es)) f)
 
-    good-edges-in : (x : Option ℕ) (w v : ℤ) (es : PlainTrees) → Known ds x → Has ds (plain_names_in es) → Fits w (length (places_in es)) → Fits v
+    good-edges-in : (x : Option ℕ) (w v : ℤ) (es : PlainTrees) → outside_in es ≡ [] → Known ds x → Has ds (plain_names_in es) → Fits w (length (places_in es)) → Fits v
         (length (places_in es)) → All (Good ds) (edges_in b x w v es)
-    good-edges-in x w v no_trees k h f g = All-nil (Good ds)
-    good-edges-in x w v (tree e es) k h f g =
+    good-edges-in x w v no_trees o k h f g = All-nil (Good ds)
+    good-edges-in x w v (tree e es) o k h f g =
         let rest = fits-after v e es g in
         All-append (Good ds) (edges b x w e) (edges_in b x v v es)
-        (good-edges x w e k (λ d i. h d (in_left d (plain_names e) (plain_names_in es) i)) (fits-here w e es f))
-        (good-edges-in x v v es k (λ d i. h d (in_right d (plain_names e) (plain_names_in es) i)) rest rest)
+        (good-edges x w e (nil-left (outside e) (outside_in es) o) k (λ d i. h d (in_left d (plain_names e) (plain_names_in es) i)) (fits-here w e es f))
+        (good-edges-in x v v es (nil-right (outside e) (outside_in es) o) k (λ d i. h d (in_right d (plain_names e) (plain_names_in es) i)) rest rest)
 
-    good-edges-of : (es : PlainDefs) → Has ds (plain_names_in_defs es) → length (places_in_defs es) ≤ 4294967296 → All (Good ds) (edges_in_defs b es)
-    good-edges-of no_defs h f = All-nil (Good ds)
-    good-edges-of (defines at n e es) h f =
+    good-edges-of : (es : PlainDefs) → outside_in_defs es ≡ [] → Has ds (plain_names_in_defs es) → length (places_in_defs es) ≤ 4294967296 → All (Good ds) (edges_in_defs b es)
+    good-edges-of no_defs o h f = All-nil (Good ds)
+    good-edges-of (defines at n e es) o h f =
         let all = length-append (places e) (places_in_defs es) in
         All-append (Good ds) (edges b (Some at) (pos 0) e) (edges_in_defs b es)
-        (good-edges (Some at) (pos 0) e (h at (inl refl)) (λ d i. h d (inr (in_left d (plain_names e) (plain_names_in_defs es) i))) (fits-zero (length (places e)) (omega (arith, all, f))))
-        (good-edges-of es (λ d i. h d (inr (in_right d (plain_names e) (plain_names_in_defs es) i))) (omega (arith, all, f)))
-    good-edges-of (defines_function at n ns ats e es) h f =
-        let all = length-append (ats ++ places e) (places_in_defs es) in
-        good-edges-of es (λ d i. h d (in_right d (plain_names e) (plain_names_in_defs es) i)) (omega (arith, all, f))
-    good-edges-of (defines_current at n e es) h f =
-        let all = length-append (places e) (places_in_defs es) in
-        good-edges-of es (λ d i. h d (in_right d (plain_names e) (plain_names_in_defs es) i)) (omega (arith, all, f))
+        (good-edges (Some at) (pos 0) e (nil-left (outside e) (outside_in_defs es) o) (h at (inl refl)) (λ d i. h d (inr (in_left d (plain_names e) (plain_names_in_defs es) i))) (fits-zero (length (places e)) (omega (arith, all, f))))
+        (good-edges-of es (nil-right (outside e) (outside_in_defs es) o) (λ d i. h d (inr (in_right d (plain_names e) (plain_names_in_defs es) i))) (omega (arith, all, f)))
+    good-edges-of (defines_function at n ns ats e es) o h f = cc
+    good-edges-of (defines_current at n e es) o h f = cc
 
 -- a name's number is below how many names there are
 lesser-not : (b : Bool) (n m : ℕ) → b ≡ false → n ≤ m → cond b 1 0 + n < suc m
@@ -154,10 +151,10 @@ small ds e g =
     let u = g.fits.high in
     record { from_below = below-from ds e.from g.known; low = omega (arith, ints, l); high = omega (arith, ints, u) }
 
-pub graph-small : (e : PlainTree) (b : Bindings) → IsWellMade e → All (IsSmall (length (plain_names e))) (graph e b)
-graph-small e b w =
+pub graph-small : (e : PlainTree) (b : Bindings) → IsWellMade e → outside e ≡ [] → All (IsSmall (length (plain_names e))) (graph e b)
+graph-small e b w o =
     let ds : List ℕ = plain_names e in
     let few = w.few in
     All-map (IsSmall (length ds)) (numbered ds) (edges b None (pos 0) e)
     (All-weaker (Good ds) (λ x. IsSmall (length ds) (numbered ds x)) (λ x g. small ds x g) (edges b None (pos 0) e)
-    (good-edges b ds None (pos 0) e tt (λ d i. i) (fits-zero (length (places e)) (omega (arith, few)))))
+    (good-edges b ds None (pos 0) e o tt (λ d i. i) (fits-zero (length (places e)) (omega (arith, few)))))

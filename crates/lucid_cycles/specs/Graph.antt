@@ -30,7 +30,7 @@ later_delay f w = first_delay f w
 -- The edges of a tree's references, names being told by the places of their definitions. An edge goes from the name in whose right
 -- side the reference stands, or from the program (none) where it stands in no right side; a block's subject belongs to what the block
 -- stands in. The delay begins at 0 in a right side and is followed inwards to the reference. A judged program has no functions and no
--- current names.
+-- current names; elsewhere their right sides count as those of names do.
 abbrev mutual
   pub edges : Bindings → (from : Option ℕ) → (delay : ℤ) → PlainTree → List Edge
   edges b x w (form at f es) = edges_in b x (first_delay f w) (later_delay f w) es
@@ -46,8 +46,8 @@ abbrev mutual
   pub edges_in_defs : Bindings → PlainDefs → List Edge
   edges_in_defs b no_defs = []
   edges_in_defs b (defines at n e ds) = edges b (Some at) (pos 0) e ++ edges_in_defs b ds
-  edges_in_defs b (defines_function at n ns ats e ds) = edges_in_defs b ds
-  edges_in_defs b (defines_current at n e ds) = edges_in_defs b ds
+  edges_in_defs b (defines_function at n ns ats e ds) = edges b (Some at) (pos 0) e ++ edges_in_defs b ds
+  edges_in_defs b (defines_current at n e ds) = edges b (Some at) (pos 0) e ++ edges_in_defs b ds
 
 -- The number of a name: how many plain names are defined at lesser places.
 abbrev pub number : (names : List ℕ) → (def : ℕ) → ℕ

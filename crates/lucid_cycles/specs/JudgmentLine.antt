@@ -6,13 +6,9 @@ use Rattle.lucid_tree.specs.Tree.{PlainTree, form, name, call, block, PlainTrees
 use Rattle.lucid_cycles.specs.Judged.{plain_names}
 use Rattle.lucid_cycles.specs.Graph.{number}
 use Rattle.lucid_cycles.specs.Cycles.{total}
+use Rattle.lucid_cycles.specs.declared.line.Definition.{Definition}
 use Rattle.lucid_cycles.specs.declared.judgment.Judgment.{Judgment}
 use Rattle.lucid_cycles.specs.declared.judgment.Judgment.TheVariants.{Enough, Cycle}
-
--- The definition of a plain name: its place, and the name.
-pub record Definition : Type 0 where
-  pub at : ℕ
-  pub name : List ℕ
 
 -- The definitions of a tree's plain names.
 abbrev mutual

@@ -9,3 +9,4 @@ pub mod Rounds
 pub mod Closes
 pub mod JudgmentLine
 pub mod Found
+pub mod Readers

@@ -1,36 +1,63 @@
--- What the descents through a tree keep.
-use Rattle.std.specs.Prelude.{ℕ, ◌+◌, List, [], ◌∷◌, take, set, Option, Some, None, nat_lt, if◌then◌else◌, pos}
+-- What the walk through a program meets, and what its readers keep.
+use Rattle.std.specs.Prelude.{ℕ, ◌+◌, List, [], ◌∷◌, ◌++◌, take, set, Option, Some, None, Result, Ok, Err, IsErr, nat_lt, if◌then◌else◌, ℤ}
+use Rattle.lucid_tree.specs.Tree.{PlainTree, PlainTrees, PlainDefs}
 use Rattle.lucid_tree.specs.declared.tree.DefKind.{DefKind}
 use Rattle.lucid_tree.specs.declared.tree.DefKind.TheVariants.{Plain, Function, Current}
 use Rattle.lucid_cycles.specs.declared.edge.Edge.{Edge}
-use Rattle.lucid_cycles.specs.declared.holds.Ask.{Ask}
+use Rattle.lucid_cycles.specs.declared.line.Definition.{Definition}
+use Rattle.lucid_cycles.specs.declared.edge.Ask.{Ask}
 use Rattle.lucid_cycles.specs.declared.names.Names.{Names}
-use Rattle.lucid_cycles.specs.Judged.{most_names}
-use Rattle.lucid_cycles.specs.Graph.{Bindings, edges, numbered}
+use Rattle.lucid_cycles.specs.declared.walk.Mark.{Mark}
+use Rattle.lucid_cycles.specs.declared.walk.Mark.TheVariants.{Part, Name, Edge as Reference}
+use Rattle.lucid_cycles.specs.Judged.{most_names, outside, outside_in, outside_in_defs}
+use Rattle.lucid_cycles.specs.JudgmentLine.{definitions, definitions_in, definitions_in_defs}
+use Rattle.lucid_cycles.specs.Graph.{Bindings, edges, edges_in, edges_in_defs, numbered}
 use Rattle.lucid_cycles.specs.Potentials.{Falls, Adds}
 
--- the edges of a plain definition's right side
-abbrev pub edges_of_def : Bindings → (at : ℕ) → DefKind → List Edge
-edges_of_def b at (Plain e) = edges b (Some at) (pos 0) e
-edges_of_def b at (Function ps ats e) = []
-edges_of_def b at (Current e) = []
+-- what is met: the places of what isn't judged, the definitions of plain names, and the edges
+pub record Marks : Type 0 where
+  pub outside : List ℕ
+  pub definitions : List Definition
+  pub edges : List Edge
+
+abbrev pub no_marks : Marks
+no_marks = record { outside = []; definitions = []; edges = [] }
+
+abbrev pub both : Marks → Marks → Marks
+both m n = record { outside = m.outside ++ n.outside; definitions = m.definitions ++ n.definitions; edges = m.edges ++ n.edges }
+
+-- What is read goes on from some marks to more, until it stops.
+pub record Goes {S E : Type 0} (reads : S → Marks → Result (Unit {0}) E → S → Type 0) : Type 0 where
+  pub none : (s : S) → reads s no_marks (Ok tt) s
+  pub more : (s t u : S) (m n : Marks) (r : Result (Unit {0}) E) → reads s m (Ok tt) t → reads t n r u → reads s (both m n) r u
+  pub stops : (s t : S) (m n : Marks) (e : E) (r : Result (Unit {0}) E) → IsErr r → reads s m (Err e) t → reads s (both m n) r t
+
+-- in a tree, in parts, in definitions
+abbrev pub marks : Bindings → (from : Option ℕ) → (delay : ℤ) → PlainTree → Marks
+marks b x w e = record { outside = outside e; definitions = definitions e; edges = edges b x w e }
+
+abbrev pub marks_in : Bindings → (from : Option ℕ) → (delay later : ℤ) → PlainTrees → Marks
+marks_in b x w v es = record { outside = outside_in es; definitions = definitions_in es; edges = edges_in b x w v es }
+
+abbrev pub marks_in_defs : Bindings → PlainDefs → Marks
+marks_in_defs b ds = record { outside = outside_in_defs ds; definitions = definitions_in_defs ds; edges = edges_in_defs b ds }
+
+-- by one mark
+abbrev pub marked : Mark → Marks
+marked (Part at judged) = record { outside = if judged then [] else (at ∷ []); definitions = []; edges = [] }
+marked (Name at n) = record { outside = []; definitions = record { at = at; name = n.now } ∷ []; edges = [] }
+marked (Reference e) = record { outside = []; definitions = []; edges = e ∷ [] }
+
+-- by a definition itself, without its right side
+abbrev pub own_marks : (at : ℕ) → (name : List ℕ) → DefKind → Marks
+own_marks at x (Plain e) = record { outside = []; definitions = record { at = at; name = x } ∷ []; edges = [] }
+own_marks at x (Function ps ats e) = record { outside = at ∷ []; definitions = []; edges = [] }
+own_marks at x (Current e) = record { outside = at ∷ []; definitions = []; edges = [] }
 
 -- the lesser of a place and what may be one
 abbrev pub lesser : Option ℕ → ℕ → Option ℕ
 lesser None at = Some at
 lesser (Some x) at = if nat_lt at x then Some at else Some x
-
--- the place of a definition, where it isn't judged
-abbrev pub own_outside : (at : ℕ) → DefKind → List ℕ
-own_outside at (Plain e) = []
-own_outside at (Function ps ats e) = at ∷ []
-own_outside at (Current e) = at ∷ []
-
--- the name of a definition, where it is plain
-abbrev pub own_name : (at : ℕ) → DefKind → List ℕ
-own_name at (Plain e) = at ∷ []
-own_name at (Function ps ats e) = []
-own_name at (Current e) = []
 
 -- a table with one name more; past its room the names are only known to be too many
 abbrev pub with_name : Names → ℕ → Names

@@ -1,6 +1,5 @@
-//! The cycle that is read back from rounds that don't end: from a name that the last round raised, along the edges that raised it, to a name
-//! that comes again.
-ghost use Rattle.std.specs.Prelude.{◌≡◌, ◌<◌, ◌≤◌, ◌↔◌, ◌+◌, ◌++◌, ℕ, [], length, take, drop, IfOk, IsTrue, MatchOption, pos, ◌+ℤ◌, ◌*ℤ◌, slice_index, slice_index_or};
+//! The cycle, read back from rounds that don't end: from a name that rose last, along the edges that raised it, to a name that comes again.
+ghost use Rattle.std.specs.Prelude.{◌≡◌, ◌<◌, ◌≤◌, ◌↔◌, ◌+◌, ℕ, [], length, IfOk, IsTrue, MatchOption, slice_index, slice_index_or};
 ghost use Rattle.lucid_tree.specs.Members.{In};
 ghost use Rattle.lucid_cycles.specs.Graph.{factor_of};
 ghost use Rattle.lucid_cycles.specs.Judged.{most_names};
@@ -8,37 +7,18 @@ ghost use Rattle.lucid_cycles.specs.Potentials.{potential};
 ghost use Rattle.lucid_cycles.specs.Rounds.{IsDue, IsDueEdge, Makes, AreLevels, levels_of};
 ghost use Rattle.lucid_cycles.specs.Closes.{Closed, IsJudgedCycle};
 
-use crate::delays::Delays;
 use crate::edge::Edge;
-use crate::judgment::Judgment;
-use crate::rounds::{potential, risen};
+use crate::judgment::{Delays, Judgment};
+use crate::rounds::{along, potential, risen};
 use lucid_lists::Numbers;
 use std::alloc::{AllocError, Global};
-
-// Whether a start with this potential is as much as an edge asks of it, and no more.
-fn balances(factor: u64, delay: i64, end: u64, value: u64) -> bool
-    ensures { IsTrue result ↔ (pos (end + 1) ≡ pos value +ℤ (pos factor *ℤ delay)) }
-{
-    let size = u128::from(factor) * u128::from(delay.unsigned_abs());
-    let want = u128::from(end) + 1;
-    let value = u128::from(value);
-    if delay < 0 {
-        want + size == value
-    } else {
-        want == value + size
-    }
-}
 
 // Whether the edge makes the name's potential this, by the potentials before.
 fn makes(edge: &Edge, factor: u64, before: &[u64], name: u32, value: u64) -> bool
     ensures { IsTrue result ↔ Makes factor before.now name value edge.now }
 {
-    match edge.from {
-        Some(from) => {
-            from == name && balances(factor, edge.delay, potential(before, edge.to), value)
-        }
-        None => false,
-    }
+    let end = i128::from(potential(before, edge.to));
+    edge.from == Some(name) && end + 1 == along(value, factor, edge.delay)
 }
 
 // The first edge from the name that makes its potential this.
@@ -88,56 +68,17 @@ fn level_at(levels: &[Vec<u64>], level: usize) -> &[u64]
     levels[level].as_slice()
 }
 
-// The numbers from a place on, and then those before it.
-fn turned_names(alloc: Global, names: &[u64], at: usize) -> Result<Vec<u64>, AllocError>
-    requires { at ≤ length names.now }
-    ensures { IfOk result (λ v. v.items ≡ drop at names.now ++ take at names.now) }
-{
-    let mut turned = Vec::from_slice(alloc, &names[at..])?;
-    turned.extend_from_slice(&names[..at])?;
-    Ok(turned)
-}
-
-// The delays from a place on, and then those before it.
-fn turned_delays(alloc: Global, delays: &[i64], at: usize) -> Result<Vec<i64>, AllocError>
-    requires { at ≤ length delays.now }
-    ensures { IfOk result (λ v. v.items ≡ drop at delays.now ++ take at delays.now) }
-{
-    let mut turned = Vec::from_slice(alloc, &delays[at..])?;
-    turned.extend_from_slice(&delays[..at])?;
-    Ok(turned)
-}
-
 // The cycle, begun at its least name.
-fn begun(
-    alloc: Global,
-    edges: &[Edge],
-    names: &[u64],
-    delays: &[i64],
-) -> Result<Judgment, AllocError>
-    requires { Closed edges.now names.now delays.now }
-    ensures { IfOk result (λ judgment. IsJudgedCycle edges.now judgment) }
+fn begun(edges: &[Edge], mut names: Vec<u64>, mut delays: Vec<i64>) -> Judgment
+    requires { Closed edges.now names.items delays.items }
+    ensures { IsJudgedCycle edges.now result }
 {
-    let at = least_at(names);
-    let names = Numbers::from_vec(turned_names(alloc, names, at)?);
-    let delays = Delays::from_vec(turned_delays(alloc, delays, at)?);
-    Ok(Judgment::Cycle { names, delays })
-}
-
-// The cycle of the names and delays from a place on.
-fn closed(
-    alloc: Global,
-    edges: &[Edge],
-    names: &[u64],
-    delays: &[i64],
-    start: usize,
-) -> Result<Judgment, AllocError>
-    requires names { start ≤ length names.now }
-    requires delays { start ≤ length delays.now }
-    requires closed { Closed edges.now (drop start names.now) (drop start delays.now) }
-    ensures { IfOk result (λ judgment. IsJudgedCycle edges.now judgment) }
-{
-    begun(alloc, edges, &names[start..], &delays[start..])
+    let least = least_at(&names);
+    names.rotate_left(least);
+    delays.rotate_left(least);
+    let names = Numbers::from_vec(names);
+    let delays = Delays::from_vec(delays);
+    Judgment::Cycle { names, delays }
 }
 
 /// The cycle that the levels of potentials show.
@@ -164,7 +105,9 @@ pub(crate) fn cycle(
     while level > 0 {
         let number = u64::from(name);
         if let Some(start) = place_of(&names, number) {
-            return closed(alloc, edges, &names, &delays, start);
+            let names = names.split_off(start)?;
+            let delays = delays.split_off(start)?;
+            return Ok(begun(edges, names, delays));
         }
         let value = potential(level_at(levels, level), name);
         level -= 1;

@@ -6,13 +6,12 @@ ghost use Rattle.lucid_cycles.specs.Graph.{factor_of};
 ghost use Rattle.lucid_cycles.specs.Judgments.{IsEnough, IsJudgment, IsJudgeRefusal};
 ghost use Rattle.lucid_cycles.specs.Laws.{IsDefinedAtDepth, IsDefinedAsJudged};
 
-use crate::edges::{add_tree, number_edges};
-use crate::holds::{Ask, tree_holds};
+use crate::edge::{Ask, Edges};
 use crate::judgment::{JudgeRefusal, Judgment};
 use crate::laws::enough_is_enough;
-use crate::names::{MOST_NAMES, Names};
+use crate::names::{MOST_NAMES, Survey};
 use crate::settle::settle;
-use crate::survey::survey;
+use crate::walk::walk;
 use lucid_lists::Numbers;
 use lucid_scope::Scoped;
 use std::alloc::Global;
@@ -26,21 +25,19 @@ pub fn judge(alloc: Global, scoped: &Scoped) -> Result<Judgment, JudgeRefusal>
     ensures depth { IfOk result (λ judgment. IsDefinedAsJudged (scoped_tree scoped.now) judgment) }
     ensures refusal { IfErr result (λ refusal. IsJudgeRefusal (scoped_tree scoped.now) refusal) }
 {
-    let tree = scoped.tree();
-    let mut names = Names::none();
-    let mut least = None;
-    survey(&mut names, &mut least, tree);
-    if let Some(at) = least {
+    let survey = Survey::of(scoped);
+    if let Some(at) = survey.outside {
         return Err(JudgeRefusal::Outside { at });
     }
+    let names = &survey.names;
     if names.count > MOST_NAMES {
         return Err(JudgeRefusal::TooMany);
     }
-    let mut found = Vec::new(alloc);
-    add_tree(&mut found, scoped, None, 0, tree)?;
-    let edges = number_edges(alloc, &names, &found)?;
+    let found = Vec::new(alloc);
+    let mut edges = Edges { names, found };
+    walk(&mut edges, scoped)?;
     enough_is_enough();
-    Ok(settle(alloc, &edges, names.count)?)
+    Ok(settle(alloc, &edges.found, names.count)?)
 }
 
 // Whether there is one potential for each name, the factor is that of so many names, and the number added isn't less than 2.
@@ -56,17 +53,15 @@ pub fn enough(scoped: &Scoped, factor: u64, add: u64, potentials: &Numbers) -> b
     ensures value { IsTrue result ↔ IsEnough (scoped_tree scoped.now) (scoped_binding scoped.now) factor add potentials.now }
     ensures depth { IsTrue result → IsDefinedAtDepth (scoped_tree scoped.now) factor add }
 {
-    let tree = scoped.tree();
-    let mut names = Names::none();
-    survey(&mut names, &mut None, tree);
-    let names = &names;
+    let survey = Survey::of(scoped);
+    let names = &survey.names;
     let potentials = potentials.items();
-    let ask = Ask {
+    let mut ask = Ask {
         names,
         potentials,
         factor,
         add,
     };
     enough_is_enough();
-    counts_hold(names.count, potentials, factor, add) && tree_holds(&ask, scoped, None, 0, tree)
+    counts_hold(names.count, potentials, factor, add) && walk(&mut ask, scoped).is_ok()
 }

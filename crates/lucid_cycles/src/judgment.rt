@@ -2,10 +2,12 @@
 ghost use Rattle.std.specs.Prelude.{◌≡◌};
 ghost use Rattle.lucid_cycles.specs.declared.judgment.JudgeRefusal.TheVariants.{NoMemory};
 
-use crate::delays::Delays;
-use lucid_lists::Numbers;
+use lucid_lists::{Items, Numbers};
 use std::alloc::AllocError;
 use thiserror::Error;
+
+/// Delays of a cycle.
+pub type Delays = Items<i64>;
 
 /// What the delays along the cycles of references say of a program.
 #[derive(Drop)]

@@ -1,17 +1,12 @@
 //! The test of cycles by sums of delays: a depth that is enough for a program at each time, or a cycle of references without delay.
 #![tactic(auto)]
 
-pub use crate::delays::Delays;
 pub use crate::edge::Edge;
 pub use crate::judging::{enough, judge};
-pub use crate::judgment::{JudgeRefusal, Judgment};
+pub use crate::judgment::{Delays, JudgeRefusal, Judgment};
 
 mod cycle;
-mod definitions;
-mod delays;
 mod edge;
-mod edges;
-mod holds;
 mod judging;
 mod judgment;
 mod laws;
@@ -19,4 +14,4 @@ mod line;
 mod names;
 mod rounds;
 mod settle;
-mod survey;
+mod walk;

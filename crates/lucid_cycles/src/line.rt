@@ -1,28 +1,50 @@
 //! The line that a judgment is written as.
-ghost use Rattle.std.specs.Prelude.{◌≡◌, ◌++◌, codes, decimal, OnOk, IfOk, MatchResult};
+ghost use Rattle.std.specs.Prelude.{◌≡◌, ◌++◌, ℕ, codes, OnOk, IfOk, MatchResult};
 ghost use Rattle.std.specs.Fmt.{signed_decimal};
 ghost use Rattle.std.specs.List.{join_by};
-ghost use Rattle.std.specs.List.Sorted.{IsPermutation, IsNonDecreasingBy};
-ghost use Rattle.lucid_tree.specs.WellMade.{IsWellMade};
 ghost use Rattle.lucid_scope.specs.Scoped.{scoped_tree};
 ghost use Rattle.lucid_cycles.specs.Cycles.{total};
-ghost use Rattle.lucid_cycles.specs.JudgmentLine.{definitions, definition_text, name_text, judgment_line};
-ghost use Rattle.lucid_cycles.specs.Found.{definition, found_definitions, text_at};
+ghost use Rattle.lucid_cycles.specs.JudgmentLine.{definition_text, name_text, judgment_line};
+ghost use Rattle.lucid_cycles.specs.Found.{text_at};
+ghost use Rattle.lucid_cycles.specs.Readers.{Finds, finds-goes};
 
-use crate::definitions::find_tree;
 use crate::judgment::Judgment;
+use crate::walk::{Mark, Reader, walk};
 use itoa::Buffer;
 use lucid_scope::Scoped;
-use lucid_tree::{Def, Tree};
+use lucid_value::Name;
 use std::alloc::{AllocError, Global};
 
-// The definitions of the tree's plain names, in the order of their places: that of the name with number k is at k.
-fn definitions_in_order(alloc: Global, tree: &Tree) -> Result<Vec<&Def>, AllocError>
-    ensures found { IfOk result (λ v. IsPermutation (definitions tree.now) (found_definitions v.items)) }
-    ensures order { IfOk result (λ v. IsNonDecreasingBy (λ d. d.at) (found_definitions v.items)) }
+/// The definition of a plain name: its place, and the name.
+#[derive(Drop)]
+pub(crate) struct Definition {
+    at: u32,
+    name: Name,
+}
+
+// The definitions of plain names that are met.
+impl Reader for Vec<Definition> {
+    type Stop = AllocError;
+
+    ghost reads = { Finds };
+
+    ghost goes = { finds-goes };
+
+    fn read(&mut self, mark: Mark<'_>) -> Result<(), AllocError> {
+        if let Mark::Name { at, name } = mark {
+            let name = name.copy()?;
+            self.push(Definition { at, name })?;
+        }
+        Ok(())
+    }
+}
+
+// The definitions of a program's plain names, in the order of their places: that of the name with number k is at k.
+fn definitions_in_order(alloc: Global, scoped: &Scoped) -> Result<Vec<Definition>, AllocError>
+    ensures { IfOk result (λ v. (k : ℕ) → text_at v.items k ≡ name_text (scoped_tree scoped.now) k) }
 {
     let mut found = Vec::new(alloc);
-    find_tree(&mut found, tree)?;
+    walk(&mut found, scoped)?;
     found.sort_by_key(|def| def.at)?;
     Ok(found)
 }
@@ -39,8 +61,8 @@ fn sum_of(delays: &[i64]) -> i128
 }
 
 // Appends a name and the place of its definition.
-fn put_definition(line: &mut Vec<u8>, def: &Def) -> Result<(), AllocError>
-    ensures { OnOk result (line.new.items ≡ line.old.items ++ definition_text (definition def.entry)) }
+fn put_definition(line: &mut Vec<u8>, def: &Definition) -> Result<(), AllocError>
+    ensures { OnOk result (line.new.items ≡ line.old.items ++ definition_text def.now) }
 {
     line.extend_from_slice(def.name.bytes())?;
     line.extend_from_slice(b" at ")?;
@@ -48,7 +70,7 @@ fn put_definition(line: &mut Vec<u8>, def: &Def) -> Result<(), AllocError>
 }
 
 // Appends the name with this number and the place of its definition, or nothing where there is no such name.
-fn put_name(line: &mut Vec<u8>, found: &[&Def], number: u64) -> Result<(), AllocError>
+fn put_name(line: &mut Vec<u8>, found: &[Definition], number: u64) -> Result<(), AllocError>
     ensures { OnOk result (line.new.items ≡ line.old.items ++ text_at found.now number) }
 {
     match found.get(number as usize) {
@@ -58,7 +80,7 @@ fn put_name(line: &mut Vec<u8>, found: &[&Def], number: u64) -> Result<(), Alloc
 }
 
 // Appends the names with these numbers, parted by a comma and a blank.
-fn put_names(line: &mut Vec<u8>, found: &[&Def], numbers: &[u64]) -> Result<(), AllocError>
+fn put_names(line: &mut Vec<u8>, found: &[Definition], numbers: &[u64]) -> Result<(), AllocError>
     ensures { OnOk result (line.new.items ≡ line.old.items ++ join_by (text_at found.now) (codes ", ") numbers.now) }
 {
     if let Some((first, others)) = numbers.split_first() {
@@ -71,39 +93,19 @@ fn put_names(line: &mut Vec<u8>, found: &[&Def], numbers: &[u64]) -> Result<(), 
     Ok(())
 }
 
-// Appends the sum of the delays, and a line feed.
-fn put_sum(line: &mut Vec<u8>, delays: &[i64]) -> Result<(), AllocError>
-    ensures { OnOk result (line.new.items ≡ line.old.items ++ (codes ": sum " ++ (signed_decimal (total delays.now) ++ codes "\n"))) }
-{
-    line.extend_from_slice(b": sum ")?;
-    line.extend_from_slice(Buffer::new().format(sum_of(delays)).as_bytes())?;
-    line.extend_from_slice(b"\n")
-}
-
-fn depth_line(alloc: Global, factor: u64, add: u64) -> Result<Vec<u8>, AllocError>
-    ensures { IfOk result (λ line. line.items ≡ codes "depth " ++ (decimal factor ++ (codes " * t + " ++ (decimal add ++ codes "\n")))) }
-{
-    let mut line = Vec::from_slice(alloc, b"depth ")?;
-    line.extend_from_slice(Buffer::new().format(factor).as_bytes())?;
-    line.extend_from_slice(b" * t + ")?;
-    line.extend_from_slice(Buffer::new().format(add).as_bytes())?;
-    line.extend_from_slice(b"\n")?;
-    Ok(line)
-}
-
 fn cycle_line(
     alloc: Global,
-    tree: &Tree,
+    scoped: &Scoped,
     names: &[u64],
     delays: &[i64],
 ) -> Result<Vec<u8>, AllocError>
-    requires { IsWellMade tree.now }
-    ensures { IfOk result (λ line. line.items ≡ codes "cycle " ++ (join_by (name_text tree.now) (codes ", ") names.now ++ (codes ": sum " ++ (signed_decimal (total delays.now) ++ codes "\n")))) }
+    ensures { IfOk result (λ line. line.items ≡ codes "cycle " ++ (join_by (name_text (scoped_tree scoped.now)) (codes ", ") names.now ++ (codes ": sum " ++ (signed_decimal (total delays.now) ++ codes "\n")))) }
 {
-    let found = definitions_in_order(alloc, tree)?;
+    let found = definitions_in_order(alloc, scoped)?;
+    let sum = sum_of(delays);
     let mut line = Vec::from_slice(alloc, b"cycle ")?;
     put_names(&mut line, &found, names)?;
-    put_sum(&mut line, delays)?;
+    line.extend_from_slice(format!(in alloc; ": sum {sum}\n")?.as_bytes())?;
     Ok(line)
 }
 
@@ -112,9 +114,11 @@ impl Judgment {
         ensures { IfOk result (λ line. line.items ≡ judgment_line (scoped_tree scoped.now) self.now) }
     {
         match self {
-            Judgment::Enough { factor, add, .. } => depth_line(alloc, *factor, *add),
+            Judgment::Enough { factor, add, .. } => {
+                Ok(format!(in alloc; "depth {factor} * t + {add}\n")?.into_bytes())
+            }
             Judgment::Cycle { names, delays } => {
-                cycle_line(alloc, scoped.tree(), names.items(), delays.items())
+                cycle_line(alloc, scoped, names.items(), delays.items())
             }
         }
     }

@@ -11,12 +11,14 @@ use std::alloc::{AllocError, Global};
 pub(crate) fn potential(potentials: &[u64], name: u32) -> u64
     ensures { result ≡ potential potentials.now name }
 {
-    let index = name as usize;
-    if index < potentials.len() {
-        potentials[index]
-    } else {
-        0
-    }
+    potentials.get(name as usize).copied().unwrap_or(0)
+}
+
+/// A start and the factor times a delay: what an edge asks of it is at most this.
+pub(crate) fn along(start: u64, factor: u64, delay: i64) -> i128
+    ensures { result ≡ pos start +ℤ (pos factor *ℤ delay) }
+{
+    i128::from(start) + i128::from(factor) * i128::from(delay)
 }
 
 // What a start must at least be, by an edge from it to an end with this potential: some more, less the factor times the delay, but at

@@ -1,5 +1,5 @@
 //! From the edges of a graph to its judgment.
-ghost use Rattle.std.specs.Prelude.{◌≡◌, ◌≤◌, All, IfOk, replicate};
+ghost use Rattle.std.specs.Prelude.{◌≡◌, ◌≤◌, All, IfOk};
 ghost use Rattle.lucid_cycles.specs.Judged.{most_names};
 ghost use Rattle.lucid_cycles.specs.Rounds.{IsSmall};
 ghost use Rattle.lucid_cycles.specs.Judgments.{IsGraphJudgment};
@@ -11,15 +11,6 @@ use crate::rounds::{added, risen, round};
 use lucid_lists::Numbers;
 use std::alloc::{AllocError, Global};
 
-// No potentials yet: 0 for each name.
-fn zeros(alloc: Global, names: usize) -> Result<Vec<u64>, AllocError>
-    ensures { IfOk result (λ v. v.items ≡ replicate names 0) }
-{
-    let mut zeros = Vec::new(alloc);
-    zeros.resize(names, 0)?;
-    Ok(zeros)
-}
-
 /// The judgment of a graph with so many names.
 pub(crate) fn settle(alloc: Global, edges: &[Edge], names: usize) -> Result<Judgment, AllocError>
     requires small { All (IsSmall names) edges.now }
@@ -28,21 +19,18 @@ pub(crate) fn settle(alloc: Global, edges: &[Edge], names: usize) -> Result<Judg
 {
     let factor = names.max(1) as u64;
     let mut levels = Vec::new(alloc);
-    let mut last = zeros(alloc, names)?;
+    let mut last = vec![in alloc; 0; names]?;
     while levels.len() <= names {
         let next = round(alloc, edges, factor, &last)?;
-        match risen(&last, &next) {
-            Some(_) => {}
-            None => {
-                let add = added(edges, factor, &last);
-                let potentials = Numbers::from_vec(last);
-                return Ok(Judgment::Enough {
-                    factor,
-                    add,
-                    potentials,
-                });
-            }
-        }
+        let Some(_) = risen(&last, &next) else {
+            let add = added(edges, factor, &last);
+            let potentials = Numbers::from_vec(last);
+            return Ok(Judgment::Enough {
+                factor,
+                add,
+                potentials,
+            });
+        };
         levels.push(last)?;
         last = next;
     }

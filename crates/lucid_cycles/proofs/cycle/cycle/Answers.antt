@@ -1,8 +1,9 @@
-use Rattle.std.proofs.Common.{◌+◌, [], ◌∷◌, ◌++◌, length, get_or, sym, subst, ◌∙◌, ap, arith, rules}
+use Rattle.std.proofs.Common.{◌≡◌, ◌+◌, [], ◌∷◌, ◌++◌, length, get_or, drop, refl, sym, subst, ◌∙◌, ap, arith, rules}
 use Rattle.std.proofs.lemmas.Int.{to_z-of_z}
 use mir.Syntax.{w64}
 use mir.Val.{SFits}
 use Rattle.lucid_tree.specs.Members.{In}
+use Rattle.lucid_cycles.specs.Closes.{Closed}
 use Rattle.lucid_cycles.specs.Potentials.{potential}
 use Rattle.lucid_cycles.proofs.Closing.{length-level, some-rises, back-begins, back-goes, back-low, back-ends, is-due, delays-many, closes}
 use Rattle.lucid_cycles.proofs.cycle.cycle.Goals as goal
@@ -26,22 +27,21 @@ loop-level-init c =
     back-begins c.args.edges.now c.args.factor c.args.count c.args.levels.now c.requires.levels c.requires.many c.level_at.result.now c.level_at-2.result.now c.new-names.result.items c.new-delays.result.items c.in-Some.name
     c.level_at.ensures c.level_at-2.ensures c.in-Some.ensures c.new-names.ensures.items c.new-delays.ensures.items
 
-pub closed-requires-clause-delays : goal.closed-requires-clause-delays
-closed-requires-clause-delays c =
+pub split_off-requires-in-Some-place_of : goal.split_off-requires-in-Some-place_of
+split_off-requires-in-Some-place_of c =
     let many = delays-many c.args.edges.now c.args.factor c.args.count c.args.levels.now c.requires.levels c.requires.many c.loop-level.names.items c.loop-level.delays.items c.loop-level.level c.loop-level.name c.loop-level.invariant in
     let names = ap length c.deref.ensures.value in
-    let names' = ap length c.deref-in-Some-place_of.ensures.value in
-    let delays = ap length c.deref-in-Some-place_of-2.ensures.value in
-    omega (arith, many, names, names', delays, c.in-Some-place_of.ensures.0)
+    omega (arith, many, names, c.in-Some-place_of.ensures.0, c.loop-level.names.ok, c.loop-level.delays.ok)
 
-pub closed-requires-clause-closed : goal.closed-requires-clause-closed
-closed-requires-clause-closed c =
-    let names = ap length c.deref.ensures.value in
-    let names' = ap length c.deref-in-Some-place_of.ensures.value in
-    closes c.args.edges.now c.args.factor c.args.count c.args.levels.now c.requires.levels c.requires.many c.loop-level.names.items c.deref-in-Some-place_of.result.now c.loop-level.delays.items
-    c.deref-in-Some-place_of-2.result.now c.loop-level.level c.loop-level.name c.from-number.result c.in-Some-place_of.start c.requires.factor c.loop-level.invariant c.deref-in-Some-place_of.ensures.value c.deref-in-Some-place_of-2.ensures.value
-    c.from-number.ensures (omega (arith, names, names', c.in-Some-place_of.ensures.0))
-    (ap (λ x. get_or x c.in-Some-place_of.start 0) (c.deref-in-Some-place_of.ensures.value ∙ sym c.deref.ensures.value) ∙ c.in-Some-place_of.ensures.1)
+pub begun-requires : goal.begun-requires
+begun-requires c =
+    let whole : c.deref.result.now ≡ c.loop-level.names.items = c.deref.ensures.value in
+    let closed = closes c.args.edges.now c.args.factor c.args.count c.args.levels.now c.requires.levels c.requires.many c.loop-level.names.items c.loop-level.names.items c.loop-level.delays.items
+    c.loop-level.delays.items c.loop-level.level c.loop-level.name c.from-number.result c.in-Some-place_of.start c.requires.factor c.loop-level.invariant refl refl
+    c.from-number.ensures (omega (arith, ap length whole, c.in-Some-place_of.ensures.0))
+    (ap (λ x. get_or x c.in-Some-place_of.start 0) (sym whole) ∙ c.in-Some-place_of.ensures.1) in
+    subst (λ ns. Closed c.args.edges.now ns c.in_ok-delays.delays.items) (sym c.in_ok-names.ensures.tail)
+    (subst (Closed c.args.edges.now (drop c.in-Some-place_of.start c.loop-level.names.items)) (sym c.in_ok-delays.ensures.tail) closed)
 
 pub level_at-requires-in-loop-level : goal.level_at-requires-in-loop-level
 level_at-requires-in-loop-level c =

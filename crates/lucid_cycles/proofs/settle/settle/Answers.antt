@@ -1,4 +1,4 @@
-use Rattle.std.proofs.Common.{◌≡◌, ℕ, ◌<◌, ◌≤◌, [], ◌∷◌, length, length-append, refl, sym, ap, subst, ◌∙◌, arith}
+use Rattle.std.proofs.Common.{◌≡◌, ℕ, ◌<◌, ◌≤◌, [], ◌∷◌, length, length-append, refl, sym, ap, subst, ◌∙◌, arith, rules}
 use Rattle.lucid_cycles.specs.Judgments.{IsLeastEnough}
 use Rattle.lucid_cycles.specs.Potentials.{potential}
 use Rattle.lucid_cycles.specs.Rounds.{IsRound, AreLeastAdded}
@@ -7,7 +7,7 @@ use Rattle.lucid_cycles.proofs.settle.settle.Goals as goal
 
 pub loop-last-init : goal.loop-last-init
 loop-last-init c =
-    settling-begins c.args.edges.now c.max-factor.result c.args.names c.new-levels.result.items c.in_ok-last.last.items c.new-levels.ensures.items c.in_ok-last.ensures
+    settling-begins c.args.edges.now c.max-factor.result c.args.names c.new-levels.result.items c.in_ok-last.last.items c.new-levels.ensures.items (search rules)
 
 pub loop-last-preserved : goal.loop-last-preserved
 loop-last-preserved c =
@@ -33,9 +33,9 @@ risen-requires c =
 
 pub added-add-requires : goal.added-add-requires
 added-add-requires c = record {
-  small = small-for c.args.edges.now c.max-factor.result c.args.names c.loop-last.levels.items c.loop-last.last.items c.deref-in-None.result.now c.loop-last.invariant c.deref-in-None.ensures.value c.requires.small;
+  small = small-for c.args.edges.now c.max-factor.result c.args.names c.loop-last.levels.items c.loop-last.last.items c.deref-in_default.result.now c.loop-last.invariant c.deref-in_default.ensures.value c.requires.small;
   factor = omega (arith, c.max-factor.ensures, c.requires.names);
-  low = low-for c.args.edges.now c.max-factor.result c.args.names c.loop-last.levels.items c.loop-last.last.items c.deref-in-None.result.now c.loop-last.invariant c.deref-in-None.ensures.value c.requires.names;
+  low = low-for c.args.edges.now c.max-factor.result c.args.names c.loop-last.levels.items c.loop-last.last.items c.deref-in_default.result.now c.loop-last.invariant c.deref-in_default.ensures.value c.requires.names;
 }
 
 pub cycle-requires : goal.cycle-requires
@@ -47,13 +47,13 @@ cycle-requires c =
       levels = made-levels c.args.edges.now c.max-factor.result c.args.names c.loop-last.levels.items c.deref-2.result.now c.loop-last.last.items c.loop-last.last c.loop-last.invariant refl (whole ∙ c.in_ok-push-2.ensures.items);
     }
 
-pub returns-in-None : goal.returns-in-None
-returns-in-None c =
+pub returns-in_default : goal.returns-in_default
+returns-in_default c =
     let round : IsRound c.args.edges.now c.max-factor.result c.loop-last.last.items c.in_ok-next.next.items =
     subst (λ p. IsRound c.args.edges.now c.max-factor.result p c.in_ok-next.next.items) c.deref.ensures.value c.in_ok-next.ensures in
     let still : (k : ℕ) → potential c.in_ok-next.next.items k ≤ potential c.loop-last.last.items k =
-    λ k. omega (arith, c.in-None.ensures k, ap (λ p. potential p k) c.deref-in-loop-last.ensures.value, ap (λ p. potential p k) c.deref-in-loop-last-2.ensures.value) in
+    λ k. omega (arith, c.in_default.ensures k, ap (λ p. potential p k) c.deref-in-loop-last.ensures.value, ap (λ p. potential p k) c.deref-in-loop-last-2.ensures.value) in
     let added : AreLeastAdded c.max-factor.result c.loop-last.last.items c.added-add.result c.args.edges.now =
-    subst (λ p. AreLeastAdded c.max-factor.result p c.added-add.result c.args.edges.now) c.deref-in-None.ensures.value c.added-add.ensures in
+    subst (λ p. AreLeastAdded c.max-factor.result p c.added-add.result c.args.edges.now) c.deref-in_default.ensures.value c.added-add.ensures in
     subst (λ p. IsLeastEnough c.args.edges.now c.args.names c.max-factor.result c.added-add.result p) (sym c.from_vec-potentials.ensures)
     (settled-enough c.args.edges.now c.max-factor.result c.args.names c.added-add.result c.loop-last.levels.items c.loop-last.last.items c.in_ok-next.next.items (omega (arith, c.max-factor.ensures)) c.loop-last.invariant round still added)
