@@ -57,15 +57,11 @@ of-actual p known None n c f t u s = absurd (s refl)
 of-actual p known (Some e) n c f t u s = u
 
 of-entry : (p : Equations) (known : List Context) (o : Option PlainEntry) (n : ℕ) (c : Context) (t : ℕ) → IsUnknown known c → by_entry p o n c t ≢ nowhere → IsOfUnknown known (by_entry p o n c t)
-of-entry p known None n c t u s = absurd (s refl)
 of-entry p known (Some (plain_entry e)) n c t u s = u
 of-entry p known (Some (called_entry e)) n c t u s = u
-of-entry p known (Some (parameter_entry i)) n root t u s = absurd (s refl)
 of-entry p known (Some (parameter_entry i)) n (call_frame at f c) t u s = of-actual p known (p.actual at i) n (call_frame at f c) f t u s
-of-entry p known (Some (parameter_entry i)) n (frozen_frame w c) t u s = absurd (s refl)
-of-entry p known (Some (current_entry e)) n root t u s = absurd (s refl)
-of-entry p known (Some (current_entry e)) n (call_frame at f c) t u s = absurd (s refl)
 of-entry p known (Some (current_entry e)) n (frozen_frame w c) t u s = u
+of-entry p known o n c t u s = absurd (s refl)
 
 pub call-of_unknown : (p : Equations) (known : List Context) (n at level : ℕ) (c base : Context) (t : ℕ) → cut level c ≡ Some base → IsUnknown known (call_frame at c base)
     → name_aim p n (Some (call_frame at c base)) t ≢ nowhere → IsOfUnknown known (call_aim p n at level c t)

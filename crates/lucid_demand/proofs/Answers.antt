@@ -1,9 +1,9 @@
 -- What a decision reads of a part tells the part's value.
 use Rattle.std.proofs.Common.{◌≡◌, ℕ, zero, suc, List, [], ◌∷◌, Option, Some, None, refl, sym, ap, ◌∙◌, subst}
-use Rattle.std.specs.Prelude.{Bool, true, false, pos, negsuc, nat_le, if◌then◌else◌, option_map, slice_index_or, map, ◌⊎◌}
+use Rattle.std.specs.Prelude.{Bool, true, false, pos, nat_le, if◌then◌else◌, option_map, slice_index_or, map, ◌⊎◌}
 use Rattle.std.proofs.Common.{inl, inr}
 use Rattle.std.specs.List.{list_all}
-use Rattle.lucid_value.specs.Plain.{PlainValue, int, truth, word, text, list, eod, fault}
+use Rattle.lucid_value.specs.Plain.{PlainValue, int, truth, eod, fault}
 use Rattle.lucid_value.specs.View.{plain}
 use Rattle.lucid_tags.specs.Contexts.{Context}
 use Rattle.lucid_tree.specs.Rows.{Plan, gives, by_test, by_place, only_truth, last}
@@ -16,11 +16,9 @@ use Rattle.lucid_demand.specs.Answers.{answer_of}
 
 -- the value of a part, seen plain
 value_there : (ps : List rows.PartState) (i : ℕ) → value_in (state_at (map plain_state ps) i) ≡ option_map plain (got_value (slice_index_or ps i Idle))
-value_there [] i = refl
 value_there (Idle ∷ ps) zero = refl
-value_there (Asked s ∷ ps) zero = refl
-value_there (Got v ∷ ps) zero = refl
 value_there (x ∷ ps) (suc i) = value_there ps i
+value_there ps i = refl
 
 pub value_is_got : (known : List Context) (forest : List (Option TaskRow)) (slot : ℕ) (row : TaskRow) (i : ℕ) → rows.row_at forest slot ≡ Some row
     → value_of_part (plain_row known row) i ≡ option_map plain (got_of forest (record { slot = slot; index = i }))
@@ -50,48 +48,30 @@ IsNoPlace v = (k : ℕ → Plan) → by_place v k ≡ gives fault
 -- The value that was read, by what is told of it.
 pub absent_is_none : (o : Option PlainValue) → answer_of o ≡ Absent → o ≡ None
 absent_is_none None e = refl
-absent_is_none (Some (truth b)) e = absurd (cc)
 absent_is_none (Some (int (pos n))) e = absurd (no_absent (nat_le n last) n e)
   where
     no_absent : (b : Bool) (n : ℕ) → (if b then At n else Other) ≡ Absent → ⊥
     no_absent true n e = cc
     no_absent false n e = cc
-absent_is_none (Some (int (negsuc n))) e = absurd (cc)
-absent_is_none (Some eod) e = absurd (cc)
-absent_is_none (Some (word w)) e = absurd (cc)
-absent_is_none (Some (text w)) e = absurd (cc)
-absent_is_none (Some (list w)) e = absurd (cc)
-absent_is_none (Some fault) e = absurd (cc)
+absent_is_none _ e = absurd (cc)
 
 pub truth_is_read : (o : Option PlainValue) (holds : Bool) → answer_of o ≡ Holds holds → o ≡ Some (truth holds)
-truth_is_read None holds e = absurd (cc)
 truth_is_read (Some (truth b)) holds e = let same : b ≡ holds = cc in ap (λ z. Some (truth z)) same
 truth_is_read (Some (int (pos n))) holds e = absurd (no_truth (nat_le n last) n e)
   where
     no_truth : (b : Bool) (n : ℕ) → (if b then At n else Other) ≡ Holds holds → ⊥
     no_truth true n e = cc
     no_truth false n e = cc
-truth_is_read (Some (int (negsuc n))) holds e = absurd (cc)
-truth_is_read (Some eod) holds e = absurd (cc)
-truth_is_read (Some (word w)) holds e = absurd (cc)
-truth_is_read (Some (text w)) holds e = absurd (cc)
-truth_is_read (Some (list w)) holds e = absurd (cc)
-truth_is_read (Some fault) holds e = absurd (cc)
+truth_is_read _ holds e = absurd (cc)
 
 pub end_is_read : (o : Option PlainValue) → answer_of o ≡ Ended → o ≡ Some eod
-end_is_read None e = absurd (cc)
-end_is_read (Some (truth b)) e = absurd (cc)
 end_is_read (Some (int (pos n))) e = absurd (no_end (nat_le n last) n e)
   where
     no_end : (b : Bool) (n : ℕ) → (if b then At n else Other) ≡ Ended → ⊥
     no_end true n e = cc
     no_end false n e = cc
-end_is_read (Some (int (negsuc n))) e = absurd (cc)
 end_is_read (Some eod) e = refl
-end_is_read (Some (word w)) e = absurd (cc)
-end_is_read (Some (text w)) e = absurd (cc)
-end_is_read (Some (list w)) e = absurd (cc)
-end_is_read (Some fault) e = absurd (cc)
+end_is_read _ e = absurd (cc)
 
 -- a place that was read
 pub record IsPlace (o : Option PlainValue) (n : ℕ) : Type 0 where
@@ -99,19 +79,12 @@ pub record IsPlace (o : Option PlainValue) (n : ℕ) : Type 0 where
   pub low : nat_le n last ≡ true
 
 pub place_is_read : (o : Option PlainValue) (n : ℕ) → answer_of o ≡ At n → IsPlace o n
-place_is_read None n e = absurd (cc)
-place_is_read (Some (truth b)) n e = absurd (cc)
 place_is_read (Some (int (pos k))) n e = go (nat_le k last) refl e
   where
     go : (b : Bool) → nat_le k last ≡ b → (if b then At k else Other) ≡ At n → IsPlace (Some (int (pos k))) n
     go true low e = let same : k ≡ n = cc in record { has = ap (λ z. Some (int (pos z))) same; low = subst (λ z. nat_le z last ≡ true) same low }
     go false low e = absurd (cc)
-place_is_read (Some (int (negsuc k))) n e = absurd (cc)
-place_is_read (Some eod) n e = absurd (cc)
-place_is_read (Some (word w)) n e = absurd (cc)
-place_is_read (Some (text w)) n e = absurd (cc)
-place_is_read (Some (list w)) n e = absurd (cc)
-place_is_read (Some fault) n e = absurd (cc)
+place_is_read _ n e = absurd (cc)
 
 abbrev pub IsPlaceOrOther : Answer → Type 0
 IsPlaceOrOther a = ((n : ℕ) × (a ≡ At n)) ⊎ (a ≡ Other)
@@ -155,23 +128,14 @@ pub no_truth_is_read : (o : Option PlainValue) → IsPlaceOrOther (answer_of o) 
 no_truth_is_read None h = absurd (no (place_or_other Absent h))
 no_truth_is_read (Some (truth b)) h = absurd (no (place_or_other (Holds b) h))
 no_truth_is_read (Some eod) h = absurd (no (place_or_other Ended h))
-no_truth_is_read (Some (int n)) h = record { value = int n; has = refl; no_truth = record { test = λ p q. refl; only = refl } }
-no_truth_is_read (Some (word w)) h = record { value = word w; has = refl; no_truth = record { test = λ p q. refl; only = refl } }
-no_truth_is_read (Some (text w)) h = record { value = text w; has = refl; no_truth = record { test = λ p q. refl; only = refl } }
-no_truth_is_read (Some (list w)) h = record { value = list w; has = refl; no_truth = record { test = λ p q. refl; only = refl } }
-no_truth_is_read (Some fault) h = record { value = fault; has = refl; no_truth = record { test = λ p q. refl; only = refl } }
+no_truth_is_read (Some v) h = record { value = v; has = refl; no_truth = record { test = λ p q. refl; only = refl } }
 
 pub no_place_is_read : (o : Option PlainValue) → IsTruthOrOther (answer_of o) → HasNoPlace o
 no_place_is_read None h = absurd (no (truth_or_other Absent h))
-no_place_is_read (Some (truth b)) h = record { value = truth b; has = refl; no_place = λ k. refl }
 no_place_is_read (Some eod) h = absurd (no (truth_or_other Ended h))
 no_place_is_read (Some (int (pos n))) h = record { value = int (pos n); has = refl; no_place = λ k. far k (nat_le n last) refl (truth_or_other (answer_of (Some (int (pos n)))) h) }
   where
     far : (k : ℕ → Plan) (b : Bool) → nat_le n last ≡ b → is_truth_or_other (if nat_le n last then At n else Other) ≡ true → by_place (int (pos n)) k ≡ gives fault
     far k true e w = absurd (no (sym (ap (λ z. is_truth_or_other (if z then At n else Other)) e) ∙ w))
     far k false e w = ap (λ z. if z then k n else gives fault) e
-no_place_is_read (Some (int (negsuc n))) h = record { value = int (negsuc n); has = refl; no_place = λ k. refl }
-no_place_is_read (Some (word w)) h = record { value = word w; has = refl; no_place = λ k. refl }
-no_place_is_read (Some (text w)) h = record { value = text w; has = refl; no_place = λ k. refl }
-no_place_is_read (Some (list w)) h = record { value = list w; has = refl; no_place = λ k. refl }
-no_place_is_read (Some fault) h = record { value = fault; has = refl; no_place = λ k. refl }
+no_place_is_read (Some v) h = record { value = v; has = refl; no_place = λ k. refl }

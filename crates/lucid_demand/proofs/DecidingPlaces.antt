@@ -10,7 +10,7 @@ use Rattle.lucid_tags.specs.declared.Tag.{Tag}
 use Rattle.lucid_tags.specs.Known.{number_of, space_of}
 use Rattle.lucid_tree.specs.Tree.{const, attime, atspace}
 use Rattle.lucid_tree.specs.Rests.{at_start}
-use Rattle.lucid_tree.specs.Rows.{gives, gives_part}
+use Rattle.lucid_tree.specs.Rows.{gives, gives_part, by_place}
 use Rattle.lucid_tree.specs.Levels.{element_of}
 use Rattle.lucid_tasks.specs.declared.Task.{Task}
 use Rattle.lucid_tasks.specs.Rows.{TaskRow, got_of}
@@ -21,7 +21,7 @@ use Rattle.lucid_equations.specs.declared.rows.Node.TheVariants as node
 use Rattle.lucid_equations.specs.declared.table.Table.{Table}
 use Rattle.lucid_facts.specs.Tasks.{PlainRow, value_of_part, plain_task, plain_row}
 use Rattle.lucid_facts.specs.Parts.{node_of, aim_of_task, at_place, IsReference}
-use Rattle.lucid_facts.proofs.FormWays.{Way, attime_on, atspace_on, by_a_place}
+use Rattle.lucid_facts.proofs.FormWays.{Way, on_by, by_a_place}
 use Rattle.lucid_demand.specs.declared.decide.Answer.TheVariants.{Absent, At, Ended}
 use Rattle.lucid_demand.specs.declared.decide.Decision.TheVariants.{Ask, End, Fault, Constant, Body, Refer, Read, Refuse}
 use Rattle.lucid_demand.specs.Justified.{Justified}
@@ -41,6 +41,9 @@ module _ (T : Table) (known : List Context) (forest : List (Option TaskRow)) (sl
 
   -- `attime`
   module _ (left right : ℕ) (there : row_at T its.task.node ≡ Some (node.Attime left right)) (e : node_at T its.task.node ≡ node_by T (node.Attime left right)) where
+    attime_on : (v : PlainValue) → value_of_part r 1 ≡ Some v → Way attime r (by_place v (λ u. gives_part 0 u r.task.space))
+    attime_on v has = on_by attime r 1 its.task.time r.task.space 0 (λ y. by_place y (λ u. gives_part 0 u r.task.space)) v refl has at_start
+
     pub attime_asks : answer_of (value_of_part r 1) ≡ Absent → Justified T known r (Ask 1 (record its.task { node = right }))
     attime_asks a =
         asks T known forest slot its is attime _ e 1 its.task.time r.task.space 0 _ (omega arith) at_start refl (absent_is_none (value_of_part r 1) a) (record its.task { node = right })
@@ -50,20 +53,23 @@ module _ (T : Table) (known : List Context) (forest : List (Option TaskRow)) (sl
         → Justified T known r (part_or_ask (got_of forest (record { slot = slot; index = 0 })) 0 (record its.task { node = left; time = n }))
     attime_there n a =
         let v = place_is_read (value_of_part r 1) n a in
-        part_or_asks T known forest slot its is attime _ e 0 n r.task.space (omega arith) (subst (Way attime r) (by_a_place r n (λ u. gives_part 0 u r.task.space) v.low) (attime_on r (int (pos n)) v.has))
+        part_or_asks T known forest slot its is attime _ e 0 n r.task.space (omega arith) (subst (Way attime r) (by_a_place r n (λ u. gives_part 0 u r.task.space) v.low) (attime_on (int (pos n)) v.has))
         (ap (λ o. at_place o (λ u. record { part = 0; time = u; space = r.task.space; least = 0 })) v.has) (record its.task { node = left; time = n })
         (its_look T known forest slot its is (node.Attime left right) there 0 left n r.task.space 0 refl (plain_task known (record its.task { node = left; time = n })) refl) is.known_tag
 
     pub attime_ends : answer_of (value_of_part r 1) ≡ Ended → Justified T known r End
-    attime_ends a = comes T known forest slot its is attime _ e (gives eod) (attime_on r eod (end_is_read (value_of_part r 1) a))
+    attime_ends a = comes T known forest slot its is attime _ e (gives eod) (attime_on eod (end_is_read (value_of_part r 1) a))
 
     pub attime_fails : IsTruthOrOther (answer_of (value_of_part r 1)) → Justified T known r Fault
     attime_fails a =
         let v = no_place_is_read (value_of_part r 1) a in
-        comes T known forest slot its is attime _ e (gives fault) (subst (Way attime r) (v.no_place _) (attime_on r v.value v.has))
+        comes T known forest slot its is attime _ e (gives fault) (subst (Way attime r) (v.no_place _) (attime_on v.value v.has))
 
   -- `atspace`
   module _ (left right : ℕ) (there : row_at T its.task.node ≡ Some (node.Atspace left right)) (e : node_at T its.task.node ≡ node_by T (node.Atspace left right)) where
+    atspace_on : (v : PlainValue) → value_of_part r 1 ≡ Some v → Way atspace r (by_place v (λ s. gives_part 0 its.task.time s))
+    atspace_on v has = on_by atspace r 1 its.task.time r.task.space 0 (λ y. by_place y (λ s. gives_part 0 its.task.time s)) v refl has at_start
+
     pub atspace_asks : answer_of (value_of_part r 1) ≡ Absent → Justified T known r (Ask 1 (record its.task { node = right }))
     atspace_asks a =
         asks T known forest slot its is atspace _ e 1 its.task.time r.task.space 0 _ (omega arith) at_start refl (absent_is_none (value_of_part r 1) a) (record its.task { node = right })
@@ -73,18 +79,18 @@ module _ (T : Table) (known : List Context) (forest : List (Option TaskRow)) (sl
         → Justified T known r (part_or_ask (got_of forest (record { slot = slot; index = 0 })) 0 (record its.task { node = left; tag = tag }))
     atspace_there n tag number space a =
         let v = place_is_read (value_of_part r 1) n a in
-        part_or_asks T known forest slot its is atspace _ e 0 its.task.time n (omega arith) (subst (Way atspace r) (by_a_place r n (λ s. gives_part 0 its.task.time s) v.low) (atspace_on r (int (pos n)) v.has))
+        part_or_asks T known forest slot its is atspace _ e 0 its.task.time n (omega arith) (subst (Way atspace r) (by_a_place r n (λ s. gives_part 0 its.task.time s) v.low) (atspace_on (int (pos n)) v.has))
         (ap (λ o. at_place o (λ s. record { part = 0; time = its.task.time; space = s; least = 0 })) v.has) (record its.task { node = left; tag = tag })
         (its_look T known forest slot its is (node.Atspace left right) there 0 left its.task.time n 0 refl (plain_task known (record its.task { node = left; tag = tag })) (at_space_is tag left n number space))
         (subst (λ z. z < length known) (sym number) is.known_tag)
 
     pub atspace_ends : answer_of (value_of_part r 1) ≡ Ended → Justified T known r End
-    atspace_ends a = comes T known forest slot its is atspace _ e (gives eod) (atspace_on r eod (end_is_read (value_of_part r 1) a))
+    atspace_ends a = comes T known forest slot its is atspace _ e (gives eod) (atspace_on eod (end_is_read (value_of_part r 1) a))
 
     pub atspace_fails : IsTruthOrOther (answer_of (value_of_part r 1)) → Justified T known r Fault
     atspace_fails a =
         let v = no_place_is_read (value_of_part r 1) a in
-        comes T known forest slot its is atspace _ e (gives fault) (subst (Way atspace r) (v.no_place _) (atspace_on r v.value v.has))
+        comes T known forest slot its is atspace _ e (gives fault) (subst (Way atspace r) (v.no_place _) (atspace_on v.value v.has))
 
   -- a constant, by its number
   pub constant_there : (k : ℕ) → node_at T its.task.node ≡ node_by T (node.Const k) → NodeIsInRange (sizes T) its.task.node (node.Const k) → Justified T known r (Constant k)

@@ -227,21 +227,4 @@ module _ (o old : Evaluating) (view : o ≡ old) (slot : ℕ) (aim : Aim) (depth
 pub other_by : (T : Table) (n : Node) → ((name level : ℕ) → n ≡ node.Refer name level → ⊥) → ((name place level : ℕ) → n ≡ node.Call name place level → ⊥) → IsReference (node_by T n) → ⊥
 other_by T (node.Refer a l) refer call h = refer a l refl
 other_by T (node.Call a q l) refer call h = call a q l refl
-other_by T (node.Const k) refer call h = h
-other_by T (node.Input k) refer call h = h
-other_by T (node.Apply op args) refer call h = h
-other_by T (node.If a b c) refer call h = h
-other_by T (node.And a b) refer call h = h
-other_by T (node.Or a b) refer call h = h
-other_by T (node.First a) refer call h = h
-other_by T (node.Next a) refer call h = h
-other_by T (node.Fby a b) refer call h = h
-other_by T (node.Whenever a b) refer call h = h
-other_by T (node.Asa a b) refer call h = h
-other_by T (node.Upon a b) refer call h = h
-other_by T (node.Attime a b) refer call h = h
-other_by T (node.Initial a) refer call h = h
-other_by T (node.Succ a) refer call h = h
-other_by T (node.Sby a b) refer call h = h
-other_by T (node.Atspace a b) refer call h = h
-other_by T (node.Freeze a) refer call h = h
+other_by T _ refer call h = h

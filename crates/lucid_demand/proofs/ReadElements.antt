@@ -35,7 +35,7 @@ use Rattle.lucid_demand.specs.Acting.{MayAct, IsTaken, Settling, MaySettle}
 use Rattle.lucid_demand.specs.Reading.{ReadsElement}
 use Rattle.lucid_demand.specs.declared.decide.Decision.TheVariants as decision
 use Rattle.lucid_demand.specs.declared.fault.DemandFault.{DemandFault}
-use Rattle.lucid_demand.specs.declared.fault.DemandFault.TheVariants.{TooDeep, ReadFault, TooLarge, NoMemory}
+use Rattle.lucid_demand.specs.declared.fault.DemandFault.TheVariants.{TooDeep, ReadFault, TooLarge}
 use Rattle.lucid_demand.proofs.SettledRows.{nothing_taken, stepped_from}
 
 overlong_again : (o p : Option Contents) (index most : ℕ) → option_map all_bytes p ≡ option_map all_bytes o → IfSome o (λ c. IsOverlong (all_bytes c) index most)
@@ -183,13 +183,11 @@ module _ (d : Demand) (e new : Evaluating) (slot number : ℕ) (before after : W
       too_large : (g : DemandFault) → OnTooLarge g (λ k. (k ≡ number) × (r.to.consumed ≡ e.engine.most)
           × IfSome (before.place r.from.place).contents (λ c. IsOverlong (all_bytes c) row.task.time e.engine.most))
           → OnTooLarge g (λ k. (b : Elements) → MayHave new.engine b → ConsultsOverlong new.engine b after k d.root.limit d.root.time d.root.space)
-      too_large TooDeep h = tt
-      too_large ReadFault h = tt
-      too_large NoMemory h = tt
       too_large (TooLarge k) h =
           subst (λ i. (b : Elements) → MayHave new.engine b → ConsultsOverlong new.engine b after i d.root.limit d.root.time d.root.space) (sym h.0)
           (subst (λ z. (b : Elements) → MayHave z b → ConsultsOverlong z b after number d.root.limit d.root.time d.root.space) (sym r.only)
           (overlong d e slot number before after act row at new.engine.streams read_on r.to r.now h.1 (past h.2)))
+      too_large _ h = tt
 
 -- the row that is asked for its task
 task_row : (rs inner : List (Option TaskRow)) (slot : ℕ) (x : Task) → inner ≡ rs → option_map (λ r. r.task) (row_at inner slot) ≡ Some x → (r : TaskRow) × (row_at rs slot ≡ Some r) × (r.task ≡ x)

@@ -16,13 +16,17 @@ abbrev pub OnTooLarge : DemandFault → (ℕ → Type 0) → Type 0
 OnTooLarge (TooLarge stream) P = P stream
 OnTooLarge _ P = Unit {0}
 
+-- The most contexts that may be known when a demand is made, the empty one included.
+abbrev pub most_known : ℕ
+most_known = 1000000
+
 -- A demand may be made: its point and its limit are in range, each stream may be read on, and few contexts are known.
 pub record MayDemand (e : EngineView) (w : World) (time space limit : ℕ) : Type 0 where
   pub time_in_range : time < 2 ^ 63
   pub space_in_range : space < 2 ^ 63
   pub some_limit : 0 < limit
   pub inputs : AreAskable e.streams w
-  pub few_known : length e.known ≤ 1000000
+  pub few_known : length e.known ≤ most_known
 
 -- What a demand promises, whatever was held, whatever is dropped at each turn and whatever is picked, by all elements that there may be.
 pub record Demanded (old new : EngineView) (before after : World) (time space limit : ℕ) (result : Result Value DemandFault) : Type 0 where

@@ -6,7 +6,7 @@ use Rattle.std.proofs.lemmas.Option.{none-some}
 use Rattle.lucid_lemmas.proofs.Numbers.{zero_le}
 use Rattle.lucid_value.specs.Plain.{PlainValue, fault}
 use Rattle.lucid_tree.specs.Members.{In}
-use Rattle.lucid_tree.specs.Tree.{Head, const, apply, choose, both, either, first, next, fby, whenever, asa, upon, attime, initial, succ, sby, atspace}
+use Rattle.lucid_tree.specs.Tree.{Head, first, next, fby, initial, succ, sby}
 use Rattle.lucid_tree.specs.Rows.{Plan, Reader, gives, gives_part, run, trace, add_value, with_values, single, last}
 use Rattle.lucid_tree.specs.Levels.{Elements, Given, nothing_held, Below, below, deeper, reference_of}
 use Rattle.lucid_tags.specs.Contexts.{Context, frozen_frame}
@@ -76,21 +76,12 @@ where_below true x q off e = same_move x q e
 where_below false x q off e = absurd (no_move q e)
 
 pub six-move : (f : Head) (t s : ℕ) (q : Onward) → onward f t s ≡ Some q → OnlyMoves f t s q
-six-move (const v) t s q e m = absurd (no_move q e)
-six-move (apply op n) t s q e m = absurd (no_move q e)
-six-move choose t s q e m = absurd (no_move q e)
-six-move both t s q e m = absurd (no_move q e)
-six-move either t s q e m = absurd (no_move q e)
 six-move first t s q e m = same_move (record { part = 0; time = 0; space = s }) q e
 six-move next t s q e m = where_below (nat_lt t last) (record { part = 0; time = suc t; space = s }) q (gives fault) e
 six-move fby zero s q e m = same_move (record { part = 0; time = 0; space = s }) q e
 six-move fby (suc u) s q e m = same_move (record { part = 1; time = u; space = s }) q e
-six-move whenever t s q e m = absurd (no_move q e)
-six-move asa t s q e m = absurd (no_move q e)
-six-move upon t s q e m = absurd (no_move q e)
-six-move attime t s q e m = absurd (no_move q e)
 six-move initial t s q e m = same_move (record { part = 0; time = t; space = 0 }) q e
 six-move succ t s q e m = where_below (nat_lt s last) (record { part = 0; time = t; space = suc s }) q (gives fault) e
 six-move sby t zero q e m = same_move (record { part = 0; time = t; space = 0 }) q e
 six-move sby t (suc r) q e m = same_move (record { part = 1; time = t; space = r }) q e
-six-move atspace t s q e m = absurd (no_move q e)
+six-move _ t s q e m = absurd (no_move q e)

@@ -1,7 +1,7 @@
 -- What a reference goes on with is what its daton goes on with.
 use Rattle.std.proofs.Common.{◌≡◌, ℕ, Option, Some, None, refl, sym, ap, ◌∙◌}
 use Rattle.lucid_tree.specs.Levels.{goes_to, nowhere, element_of}
-use Rattle.lucid_tags.specs.Contexts.{Context, root, call_frame, frozen_frame, cut}
+use Rattle.lucid_tags.specs.Contexts.{Context, call_frame, frozen_frame, cut}
 use Rattle.lucid_equations.specs.Nodes.{PlainNode, row, freeze, reference, invoke, PlainEntry, plain_entry, called_entry, current_entry, parameter_entry, Reference, input, refer, Equations}
 use Rattle.lucid_equations.specs.Datons.{Daton, NodePosition, NodeAim, to_node, to_actual, by_entry, name_aim, reference_aim, called_from, call_aim, node_aim}
 use Rattle.lucid_equations.specs.Laws.{GoesByItsDaton}
@@ -31,19 +31,15 @@ module _ (p : Equations) where
       by-own (to_node n c t y f t) (record { name = n; context = c; time = t }) (sym i ∙ ap (λ z. by_entry p z n c t) (sym h)) d x u e (ap (daton_in d) (sym e))
 
   entry-same : (o : Option PlainEntry) (n : ℕ) (c : Context) (t : ℕ) → p.entry n ≡ o → Same (by_entry p o n c t)
-  entry-same None n c t h d x u e = absurd (no_aim d x u e)
   entry-same (Some (plain_entry y)) n c t h d x u e =
       by-own (to_node n c t y c t) (record { name = n; context = c; time = t }) (ap (λ z. by_entry p z n c t) (sym h)) d x u e (ap (daton_in d) (sym e))
   entry-same (Some (called_entry y)) n c t h d x u e =
       by-own (to_node n c t y c t) (record { name = n; context = c; time = t }) (ap (λ z. by_entry p z n c t) (sym h)) d x u e (ap (daton_in d) (sym e))
-  entry-same (Some (parameter_entry i)) n root t h d x u e = absurd (no_aim d x u e)
   entry-same (Some (parameter_entry i)) n (call_frame at f c) t h d x u e =
       actual-same (Some (parameter_entry i)) (p.actual at i) n (call_frame at f c) f t h refl d x u e
-  entry-same (Some (parameter_entry i)) n (frozen_frame v c) t h d x u e = absurd (no_aim d x u e)
-  entry-same (Some (current_entry y)) n root t h d x u e = absurd (no_aim d x u e)
-  entry-same (Some (current_entry y)) n (call_frame at f c) t h d x u e = absurd (no_aim d x u e)
   entry-same (Some (current_entry y)) n (frozen_frame v c) t h d x u e =
       by-own (to_node n (frozen_frame v c) 0 y c v) (record { name = n; context = frozen_frame v c; time = 0 }) (ap (λ z. by_entry p z n (frozen_frame v c) 0) (sym h)) d x u e (ap (daton_in d) (sym e))
+  entry-same o n c t h d x u e = absurd (no_aim d x u e)
 
   name-same : (n : ℕ) (o : Option Context) (t : ℕ) → Same (name_aim p n o t)
   name-same n None t d x u e = absurd (no_aim d x u e)

@@ -5,14 +5,14 @@ use Rattle.std.proofs.lemmas.List.{get_or_past}
 use Rattle.std.proofs.lemmas.Option.{slice_get_cases, none-some, same_Some}
 use Rattle.lucid_value.specs.Plain.{PlainValue}
 use Rattle.lucid_tree.specs.Levels.{goes_to, nowhere, element_of}
-use Rattle.lucid_tags.specs.Contexts.{Context, root, call_frame, frozen_frame, cut}
+use Rattle.lucid_tags.specs.Contexts.{Context, call_frame, frozen_frame, cut}
 use Rattle.lucid_equations.specs.Nodes.{PlainNode}
 use Rattle.lucid_equations.specs.Datons.{to_actual, by_entry, name_aim, called_from, node_aim}
 use Rattle.lucid_equations.specs.Rows.{no_node, as_node, grow, constants_of, node_at, node_by, entry_by, row_at, name_at, actual_at, actuals_of, equations_of}
 use Rattle.lucid_equations.specs.Ranges.{EachBelow, sizes, EntryIsInRange, IsInRange}
 use Rattle.lucid_equations.specs.NumberAims.{NumberAim, to_actual_number, by_name_row, name_number_aim, row_aim, plain_aim, NodesGoByNumbers, DatonsGoByNumbers, AimsLeadToNodes}
 use Rattle.lucid_equations.specs.declared.rows.Node.{Node}
-use Rattle.lucid_equations.specs.declared.rows.Node.TheVariants.{Const, Input, Apply, If, And, Or, First, Next, Fby, Whenever, Asa, Upon, Attime, Initial, Succ, Sby, Atspace, Freeze, Refer, Call}
+use Rattle.lucid_equations.specs.declared.rows.Node.TheVariants.{Refer, Call}
 use Rattle.lucid_equations.specs.declared.rows.NodeRow.{NodeRow}
 use Rattle.lucid_equations.specs.declared.rows.NameRow.{NameRow}
 use Rattle.lucid_equations.specs.declared.rows.PlaceRow.{PlaceRow}
@@ -43,41 +43,18 @@ module _ (T : Table) where
   actual-plain (Some id) n c f t = refl
 
   entry-plain : (o : Option Entry) (n : ℕ) (c : Context) (t : ℕ) → by_entry (equations_of T) (option_map (entry_by T) o) n c t ≡ plain_aim T (by_name_row T o n c t)
-  entry-plain None n c t = refl
-  entry-plain (Some (Plain id)) n c t = refl
-  entry-plain (Some (Called id)) n c t = refl
-  entry-plain (Some (Parameter i)) n root t = refl
   entry-plain (Some (Parameter i)) n (call_frame at f c) t = actual-plain (actual_at T at i) n (call_frame at f c) f t
-  entry-plain (Some (Parameter i)) n (frozen_frame u c) t = refl
-  entry-plain (Some (Current id)) n root t = refl
-  entry-plain (Some (Current id)) n (call_frame at f c) t = refl
   entry-plain (Some (Current id)) n (frozen_frame u c) t = refl
+  entry-plain o n c t = refl
 
   name-plain : (n : ℕ) (o : Option Context) (t : ℕ) → name_aim (equations_of T) n o t ≡ plain_aim T (name_number_aim T n o t)
   name-plain n None t = refl
   name-plain n (Some c) t = entry-plain (name_at T n) n c t
 
   row-plain : (r : Node) (c : Context) (t : ℕ) → node_aim (equations_of T) (node_by T r) c t ≡ plain_aim T (row_aim T (Some r) c t)
-  row-plain (Const k) c t = refl
-  row-plain (Input k) c t = refl
-  row-plain (Apply op args) c t = refl
-  row-plain (If x y z) c t = refl
-  row-plain (And x y) c t = refl
-  row-plain (Or x y) c t = refl
-  row-plain (First x) c t = refl
-  row-plain (Next x) c t = refl
-  row-plain (Fby x y) c t = refl
-  row-plain (Whenever x y) c t = refl
-  row-plain (Asa x y) c t = refl
-  row-plain (Upon x y) c t = refl
-  row-plain (Attime x y) c t = refl
-  row-plain (Initial x) c t = refl
-  row-plain (Succ x) c t = refl
-  row-plain (Sby x y) c t = refl
-  row-plain (Atspace x y) c t = refl
-  row-plain (Freeze x) c t = refl
   row-plain (Refer n l) c t = name-plain n (cut l c) t
   row-plain (Call n q l) c t = name-plain n (called_from q c (cut l c)) t
+  row-plain _ c t = refl
 
   -- past the last row there is no node
   past-none : (id : ℕ) → length T.nodes ≤ id → node_at T id ≡ no_node
@@ -114,42 +91,20 @@ module _ (T : Table) where
     actual-leads (Some id) n c f t h = h id refl
 
     entry-leads : (o : Option Entry) (n : ℕ) (c : Context) (t : ℕ) → ((e : Entry) → o ≡ Some e → EntryIsInRange (sizes T) e) → LeadsToNode (by_name_row T o n c t)
-    entry-leads None n c t h = tt
     entry-leads (Some (Plain id)) n c t h = h (Plain id) refl
     entry-leads (Some (Called id)) n c t h = h (Called id) refl
-    entry-leads (Some (Parameter i)) n root t h = tt
     entry-leads (Some (Parameter i)) n (call_frame at f c) t h = actual-leads (actual_at T at i) n (call_frame at f c) f t (actual-there at i)
-    entry-leads (Some (Parameter i)) n (frozen_frame u c) t h = tt
-    entry-leads (Some (Current id)) n root t h = tt
-    entry-leads (Some (Current id)) n (call_frame at f c) t h = tt
     entry-leads (Some (Current id)) n (frozen_frame u c) t h = h (Current id) refl
+    entry-leads o n c t h = tt
 
     name-leads : (n : ℕ) (o : Option Context) (t : ℕ) → LeadsToNode (name_number_aim T n o t)
     name-leads n None t = tt
     name-leads n (Some c) t = entry-leads (name_at T n) n c t (entry-there n)
 
     row-leads : (o : Option Node) (c : Context) (t : ℕ) → LeadsToNode (row_aim T o c t)
-    row-leads None c t = tt
-    row-leads (Some (Const k)) c t = tt
-    row-leads (Some (Input k)) c t = tt
-    row-leads (Some (Apply op args)) c t = tt
-    row-leads (Some (If x y z)) c t = tt
-    row-leads (Some (And x y)) c t = tt
-    row-leads (Some (Or x y)) c t = tt
-    row-leads (Some (First x)) c t = tt
-    row-leads (Some (Next x)) c t = tt
-    row-leads (Some (Fby x y)) c t = tt
-    row-leads (Some (Whenever x y)) c t = tt
-    row-leads (Some (Asa x y)) c t = tt
-    row-leads (Some (Upon x y)) c t = tt
-    row-leads (Some (Attime x y)) c t = tt
-    row-leads (Some (Initial x)) c t = tt
-    row-leads (Some (Succ x)) c t = tt
-    row-leads (Some (Sby x y)) c t = tt
-    row-leads (Some (Atspace x y)) c t = tt
-    row-leads (Some (Freeze x)) c t = tt
     row-leads (Some (Refer n l)) c t = name-leads n (cut l c) t
     row-leads (Some (Call n q l)) c t = name-leads n (called_from q c (cut l c)) t
+    row-leads _ c t = tt
 
 pub nodes-by-numbers : NodesGoByNumbers
 nodes-by-numbers T range id c t =

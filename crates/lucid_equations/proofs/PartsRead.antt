@@ -6,14 +6,14 @@ use Rattle.lucid_value.specs.Plain.{PlainValue}
 use Rattle.lucid_tree.specs.Tree.{Head}
 use Rattle.lucid_tree.specs.Levels.{Elements, Given, nothing_held, below, deeper}
 use Rattle.lucid_tags.specs.Contexts.{Context}
-use Rattle.lucid_equations.specs.Nodes.{PlainNode, row, freeze, PlainNodes, no_nodes, part_of}
+use Rattle.lucid_equations.specs.Nodes.{PlainNode, row, PlainNodes, part_of}
 use Rattle.lucid_equations.specs.Datons.{Daton}
 use Rattle.lucid_equations.specs.Values.{node_value, node_hval}
 use Rattle.lucid_equations.specs.Visits.{node_walk, node_visits}
 use Rattle.lucid_equations.specs.Rows.{at, all_at, parts, as_node, constants_of, nodes_of, node_at, node_by, row_at, equations_of}
 use Rattle.lucid_equations.specs.Ranges.{EachBelow, NodeIsInRange, IsInRange, sizes}
 use Rattle.lucid_equations.specs.declared.rows.Node.{Node}
-use Rattle.lucid_equations.specs.declared.rows.Node.TheVariants.{Const, Input, Apply, If, And, Or, First, Next, Fby, Whenever, Asa, Upon, Attime, Initial, Succ, Sby, Atspace, Freeze, Refer, Call}
+use Rattle.lucid_equations.specs.declared.rows.Node.TheVariants.{Const}
 use Rattle.lucid_equations.specs.declared.rows.NodeRow.{NodeRow}
 use Rattle.lucid_equations.specs.declared.table.Table.{Table}
 use Rattle.lucid_equations.specs.Parts.{reads_parts, visits_parts}
@@ -21,35 +21,9 @@ use Rattle.lucid_equations.specs.RowParts.{HasPart}
 use Rattle.lucid_equations.proofs.Rising.{read-row, node-in_range}
 use Rattle.lucid_equations.proofs.Moving.{part-read, part-walked}
 
--- the parts of a form, and none of another node
-abbrev parts_in : PlainNode → PlainNodes
-parts_in (row f es) = es
-parts_in _ = no_nodes
-
-no_form : (x : PlainNode) (f : Head) (es : PlainNodes) → freeze x ≡ row f es → ⊥
-no_form x f es h = cc
-
 parts-are : (vs : List PlainValue) (ns : List (List ℕ)) (ts : List PlainNode) (n : Node) (f : Head) (es : PlainNodes) → as_node vs ns ts n ≡ row f es → es ≡ all_at ts (parts n)
-parts-are vs ns ts (Const k) f es h = sym (ap parts_in h)
-parts-are vs ns ts (Input k) f es h = sym (ap parts_in h)
-parts-are vs ns ts (Apply op args) f es h = sym (ap parts_in h)
-parts-are vs ns ts (If a b c) f es h = sym (ap parts_in h)
-parts-are vs ns ts (And a b) f es h = sym (ap parts_in h)
-parts-are vs ns ts (Or a b) f es h = sym (ap parts_in h)
-parts-are vs ns ts (First a) f es h = sym (ap parts_in h)
-parts-are vs ns ts (Next a) f es h = sym (ap parts_in h)
-parts-are vs ns ts (Fby a b) f es h = sym (ap parts_in h)
-parts-are vs ns ts (Whenever a b) f es h = sym (ap parts_in h)
-parts-are vs ns ts (Asa a b) f es h = sym (ap parts_in h)
-parts-are vs ns ts (Upon a b) f es h = sym (ap parts_in h)
-parts-are vs ns ts (Attime a b) f es h = sym (ap parts_in h)
-parts-are vs ns ts (Initial a) f es h = sym (ap parts_in h)
-parts-are vs ns ts (Succ a) f es h = sym (ap parts_in h)
-parts-are vs ns ts (Sby a b) f es h = sym (ap parts_in h)
-parts-are vs ns ts (Atspace a b) f es h = sym (ap parts_in h)
-parts-are vs ns ts (Freeze a) f es h = absurd (no_form (at ts a) f es h)
-parts-are vs ns ts (Refer n l) f es h = sym (ap parts_in h)
-parts-are vs ns ts (Call n q l) f es h = sym (ap parts_in h)
+parts-are vs ns ts (Const k) f es h = cc
+parts-are vs ns ts n f es h = cc
 
 part-at : (ts : List PlainNode) (is : List ℕ) (i k : ℕ) → slice_get is i ≡ Some k → part_of (all_at ts is) i ≡ Some (at ts k)
 part-at ts [] i k e = absurd (none-some k e)

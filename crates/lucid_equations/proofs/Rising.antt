@@ -3,11 +3,9 @@ use Rattle.std.proofs.Common.{◌≡◌, ℕ, zero, suc, ◌+◌, ◌<◌, lengt
 use Rattle.std.proofs.lemmas.List.{append-nil, get_or_append_left}
 use Rattle.std.proofs.Math.Seq.{get_or-append_seam}
 use Rattle.lucid_value.specs.Plain.{PlainValue}
-use Rattle.lucid_ops.specs.Arity.{arity}
-use Rattle.lucid_tree.specs.Tree.{apply, choose, both, either, first, next, fby, whenever, asa, upon, attime, initial, succ, sby, atspace}
-use Rattle.lucid_equations.specs.Nodes.{PlainNode, row, freeze, node}
+use Rattle.lucid_equations.specs.Nodes.{PlainNode, node}
 use Rattle.lucid_equations.specs.declared.rows.Node.{Node}
-use Rattle.lucid_equations.specs.declared.rows.Node.TheVariants.{Const, Input, Apply, If, And, Or, First, Next, Fby, Whenever, Asa, Upon, Attime, Initial, Succ, Sby, Atspace, Freeze, Refer, Call}
+use Rattle.lucid_equations.specs.declared.rows.Node.TheVariants.{Const}
 use Rattle.lucid_equations.specs.declared.rows.NodeRow.{NodeRow}
 use Rattle.lucid_equations.specs.declared.rows.NameRow.{NameRow}
 use Rattle.lucid_equations.specs.declared.rows.PlaceRow.{PlaceRow}
@@ -31,25 +29,7 @@ all_at-kept ts us (i ∷ is) b h = λ j. node (at-kept ts us i b h.0 j) (all_at-
 module _ (vs : List PlainValue) (ns : List (List ℕ)) where
   pub row-kept : (ts us : List PlainNode) (r : Node) → Begins ts us → EachBelow (length ts) (parts r) → as_node vs ns us r ≡ as_node vs ns ts r
   row-kept ts us (Const k) b h = refl
-  row-kept ts us (Input k) b h = refl
-  row-kept ts us (Apply op args) b h = ap (row (apply op (arity op))) (all_at-kept ts us _ b h)
-  row-kept ts us (If x y z) b h = ap (row choose) (all_at-kept ts us (x ∷ y ∷ z ∷ []) b h)
-  row-kept ts us (And x y) b h = ap (row both) (all_at-kept ts us (x ∷ y ∷ []) b h)
-  row-kept ts us (Or x y) b h = ap (row either) (all_at-kept ts us (x ∷ y ∷ []) b h)
-  row-kept ts us (First x) b h = ap (row first) (all_at-kept ts us (x ∷ []) b h)
-  row-kept ts us (Next x) b h = ap (row next) (all_at-kept ts us (x ∷ []) b h)
-  row-kept ts us (Fby x y) b h = ap (row fby) (all_at-kept ts us (x ∷ y ∷ []) b h)
-  row-kept ts us (Whenever x y) b h = ap (row whenever) (all_at-kept ts us (x ∷ y ∷ []) b h)
-  row-kept ts us (Asa x y) b h = ap (row asa) (all_at-kept ts us (x ∷ y ∷ []) b h)
-  row-kept ts us (Upon x y) b h = ap (row upon) (all_at-kept ts us (x ∷ y ∷ []) b h)
-  row-kept ts us (Attime x y) b h = ap (row attime) (all_at-kept ts us (x ∷ y ∷ []) b h)
-  row-kept ts us (Initial x) b h = ap (row initial) (all_at-kept ts us (x ∷ []) b h)
-  row-kept ts us (Succ x) b h = ap (row succ) (all_at-kept ts us (x ∷ []) b h)
-  row-kept ts us (Sby x y) b h = ap (row sby) (all_at-kept ts us (x ∷ y ∷ []) b h)
-  row-kept ts us (Atspace x y) b h = ap (row atspace) (all_at-kept ts us (x ∷ y ∷ []) b h)
-  row-kept ts us (Freeze x) b h = ap freeze (at-kept ts us x b h.0)
-  row-kept ts us (Refer n l) b h = refl
-  row-kept ts us (Call n q l) b h = refl
+  row-kept ts us r b h = let same : all_at us (parts r) ≡ all_at ts (parts r) = all_at-kept ts us (parts r) b h in cc
 
   pub begins-grow : (ts : List PlainNode) (rs : List NodeRow) → Begins ts (grow vs ns ts rs)
   begins-grow ts [] = ([], sym (append-nil ts))

@@ -2,7 +2,7 @@
 use Rattle.std.specs.Prelude.{ℕ, suc, ◌<◌, ◌^◌, List, [], ◌∷◌, length}
 use Rattle.std.proofs.Props.{props}
 use Rattle.lucid_equations.specs.declared.rows.Node.{Node}
-use Rattle.lucid_equations.specs.declared.rows.Node.TheVariants.{Const, Input, Apply, If, And, Or, First, Next, Fby, Whenever, Asa, Upon, Attime, Initial, Succ, Sby, Atspace, Freeze, Refer, Call}
+use Rattle.lucid_equations.specs.declared.rows.Node.TheVariants.{Const, Input, Refer, Call}
 use Rattle.lucid_equations.specs.declared.rows.Entry.{Entry}
 use Rattle.lucid_equations.specs.declared.rows.Entry.TheVariants.{Plain, Parameter, Current, Called}
 use Rattle.lucid_equations.specs.declared.rows.NodeRow.{NodeRow}
@@ -71,25 +71,7 @@ EachBelow-prop n (i ∷ is) = hlevel (props, EachBelow-prop n is)
 
 NodeNames-prop : (z : Sizes) (n : Node) → IsProp (NodeNames z n)
 NodeNames-prop z (Const k) = hlevel props
-NodeNames-prop z (Input k) = hlevel props
-NodeNames-prop z (Apply op args) = hlevel props
-NodeNames-prop z (If a b c) = hlevel props
-NodeNames-prop z (And a b) = hlevel props
-NodeNames-prop z (Or a b) = hlevel props
-NodeNames-prop z (First a) = hlevel props
-NodeNames-prop z (Next a) = hlevel props
-NodeNames-prop z (Fby a b) = hlevel props
-NodeNames-prop z (Whenever a b) = hlevel props
-NodeNames-prop z (Asa a b) = hlevel props
-NodeNames-prop z (Upon a b) = hlevel props
-NodeNames-prop z (Attime a b) = hlevel props
-NodeNames-prop z (Initial a) = hlevel props
-NodeNames-prop z (Succ a) = hlevel props
-NodeNames-prop z (Sby a b) = hlevel props
-NodeNames-prop z (Atspace a b) = hlevel props
-NodeNames-prop z (Freeze a) = hlevel props
-NodeNames-prop z (Refer n l) = hlevel props
-NodeNames-prop z (Call n q l) = hlevel props
+NodeNames-prop z n = hlevel props
 
 NodesAreInRange-prop : (z : Sizes) (i : ℕ) (rs : List NodeRow) → IsProp (NodesAreInRange z i rs)
 NodesAreInRange-prop z i [] = hlevel props
@@ -97,9 +79,7 @@ NodesAreInRange-prop z i (r ∷ rs) = hlevel (props, EachBelow-prop i (parts r.n
 
 EntryIsInRange-prop : (z : Sizes) (e : Entry) → IsProp (EntryIsInRange z e)
 EntryIsInRange-prop z (Plain a) = hlevel props
-EntryIsInRange-prop z (Parameter i) = hlevel props
-EntryIsInRange-prop z (Current a) = hlevel props
-EntryIsInRange-prop z (Called a) = hlevel props
+EntryIsInRange-prop z e = hlevel props
 
 NamesAreInRange-prop : (z : Sizes) (rs : List NameRow) → IsProp (NamesAreInRange z rs)
 NamesAreInRange-prop z [] = hlevel props

@@ -7,7 +7,7 @@ use Rattle.lucid_tree.specs.Tree.{const}
 use Rattle.lucid_tree.specs.Members.{In}
 use Rattle.lucid_tree.specs.Levels.{Elements, Given, nothing_held, deeper, goes_to, element_of, nowhere, reference_of}
 use Rattle.lucid_tags.specs.Contexts.{Context}
-use Rattle.lucid_equations.specs.Nodes.{PlainNode, row, freeze, reference, invoke, no_nodes, input, refer, Equations}
+use Rattle.lucid_equations.specs.Nodes.{PlainNode, row, freeze, reference, invoke, no_nodes, refer, Equations}
 use Rattle.lucid_equations.specs.Datons.{Daton, NodePosition, NodeAim, node_aim, daton_aim}
 use Rattle.lucid_equations.specs.Values.{node_hval, node_val, NodeMeans}
 use Rattle.lucid_equations.specs.Visits.{NodeEvents, node_walk, node_visits, context_of, IsNeeded}
@@ -114,11 +114,9 @@ constant-answers d b h lost x v e = record {
     no_need k m i = i
 
 nowhere_is_undefined : (p : Equations) (g : Given Daton) (m : ℕ) (e : PlainNode) (c : Context) (t s : ℕ) → IsReference e → node_aim p e c t ≡ nowhere → node_hval p g m e c t s ≡ None
-nowhere_is_undefined p g m (row f es) c t s i h = absurd i
-nowhere_is_undefined p g m (freeze e) c t s i h = absurd i
-nowhere_is_undefined p g m (reference (input n)) c t s i h = absurd i
 nowhere_is_undefined p g m (reference (refer n l)) c t s i h = (law.nowhere-value p g m c t s).0 (refer n l) h
 nowhere_is_undefined p g m (invoke n at l) c t s i h = (law.nowhere-value p g m c t s).1 n at l h
+nowhere_is_undefined p g m _ c t s i h = absurd i
 
 -- A row that looks too deep is refused rightly, where its daton doesn't stay held: the root's approximation is undefined.
 pub too_deep-is_right : (d : Demand) (b : Elements) (h : Holding) (lost : ℕ) (r : PlainRow) → RowFacts d b h lost r → LooksTooDeep (table_of d) r.task

@@ -3,7 +3,7 @@ use Rattle.std.proofs.Common.{◌≡◌, ℕ, suc, ◌-◌, ◌<◌, ◌≤◌, 
 use Rattle.std.specs.Prelude.{true, false, pos, nat_le, if◌then◌else◌}
 use Rattle.std.proofs.lemmas.Bool.Decides.{nat_tests}
 use Rattle.lucid_value.specs.Plain.{PlainValue, truth, int}
-use Rattle.lucid_tree.specs.Tree.{Head, choose, both, either, whenever, asa, upon, attime, atspace}
+use Rattle.lucid_tree.specs.Tree.{Head, choose, both, either, whenever, asa, upon}
 use Rattle.lucid_tree.specs.Rows.{Plan, gives, nothing, look, gives_part, by_test, by_place, at_zero, only_truth, find_true, count_true}
 use Rattle.lucid_tree.specs.Rests.{LeadsTo, at_start, and_then}
 use Rattle.lucid_facts.specs.Tasks.{PlainRow, value_of_part}
@@ -33,12 +33,6 @@ module _ (r : PlainRow) where
 
   pub either_on : (v : PlainValue) → value_of_part r 0 ≡ Some v → Way either r (by_test v (gives (truth true)) (look 1 r.task.time r.task.space 0 (λ b. gives (only_truth b))))
   either_on v has = on_by either r 0 r.task.time r.task.space 0 (λ a. by_test a (gives (truth true)) (look 1 r.task.time r.task.space 0 (λ b. gives (only_truth b)))) v refl has at_start
-
-  pub attime_on : (v : PlainValue) → value_of_part r 1 ≡ Some v → Way attime r (by_place v (λ u. gives_part 0 u r.task.space))
-  attime_on v has = on_by attime r 1 r.task.time r.task.space 0 (λ y. by_place y (λ u. gives_part 0 u r.task.space)) v refl has at_start
-
-  pub atspace_on : (v : PlainValue) → value_of_part r 1 ≡ Some v → Way atspace r (by_place v (λ s. gives_part 0 r.task.time s))
-  atspace_on v has = on_by atspace r 1 r.task.time r.task.space 0 (λ y. by_place y (λ s. gives_part 0 r.task.time s)) v refl has at_start
 
   -- a place that is one
   pub by_a_place : (n : ℕ) (k : ℕ → Plan) → nat_le n 9223372036854775807 ≡ true → by_place (int (pos n)) k ≡ k n

@@ -4,7 +4,7 @@ use Rattle.std.specs.Prelude.{true}
 use Rattle.std.specs.List.{list_all}
 use Rattle.std.proofs.lemmas.Bool.{and_parts}
 use Rattle.lucid_value.specs.Plain.{PlainValue}
-use Rattle.lucid_tree.specs.Tree.{Head, const, apply, choose, both, either, first, next, fby, whenever, asa, upon, attime, initial, succ, sby, atspace}
+use Rattle.lucid_tree.specs.Tree.{Head, const}
 use Rattle.lucid_tree.specs.Levels.{Elements}
 use Rattle.lucid_tree.specs.Rows.{Look}
 use Rattle.lucid_equations.specs.Nodes.{row, PlainNodes}
@@ -38,21 +38,7 @@ one-form f g es gs e = cc
 -- a search has no look but at its parts 0 and 1
 no_third : (f : Head) (r : PlainRow) (l : Look) → is_search f ≡ true → look_of_row f r 2 ≡ Some l → ⊥
 no_third (const v) r l s e = absurd (cc)
-no_third (apply op n) r l s e = absurd (cc)
-no_third choose r l s e = absurd (cc)
-no_third both r l s e = absurd (cc)
-no_third either r l s e = absurd (cc)
-no_third first r l s e = absurd (cc)
-no_third next r l s e = absurd (cc)
-no_third fby r l s e = absurd (cc)
-no_third whenever r l s e = absurd (cc)
-no_third asa r l s e = absurd (cc)
-no_third upon r l s e = absurd (cc)
-no_third attime r l s e = absurd (cc)
-no_third initial r l s e = absurd (cc)
-no_third succ r l s e = absurd (cc)
-no_third sby r l s e = absurd (cc)
-no_third atspace r l s e = absurd (cc)
+no_third _ r l s e = absurd (cc)
 
 no_third_part : (T : Table) (r : PlainRow) (f : Head) (es : PlainNodes) (j : ℕ) (x : PlainTask) → node_of T r.task ≡ row f es → is_search f ≡ true → j ≡ 2 → IsPart T r j x → ⊥
 no_third_part T r f es j x e s two (part_by_look {f = g} {es = gs} {l = l} i n q t) =
@@ -66,12 +52,9 @@ search-is_idle d b h lost r f es facts e s free =
     part-is_idle r 2 free (λ v q. let a = facts.got_parts 2 v q in no_third_part (table_of d) r f es 2 a.task e s refl a.is)
 
 all_idle_list : (ps : List PartState) → length ps ≡ 3 → ((i : ℕ) → i < 3 → state_at ps i ≡ idle) → ps ≡ all_idle
-all_idle_list [] n h = absurd (cc)
-all_idle_list (p ∷ []) n h = absurd (cc)
-all_idle_list (p ∷ (q ∷ [])) n h = absurd (cc)
 all_idle_list (p ∷ (q ∷ (r ∷ []))) n h =
     ap (λ x. x ∷ (q ∷ (r ∷ []))) (h 0 (omega arith)) ∙ ap (λ x. idle ∷ (x ∷ (r ∷ []))) (h 1 (omega arith)) ∙ ap (λ x. idle ∷ (idle ∷ (x ∷ []))) (h 2 (omega arith))
-all_idle_list (p ∷ (q ∷ (r ∷ (s ∷ ps)))) n h = absurd (omega (arith, n))
+all_idle_list ps n h = absurd (omega (arith, n))
 
 -- Three parts of which each is idle are all idle.
 pub all-are_idle : (r : PlainRow) → length r.parts ≡ 3 → ((i : ℕ) → i < 3 → state_at r.parts i ≡ idle) → r.parts ≡ all_idle

@@ -2,7 +2,7 @@
 use Rattle.std.proofs.Common.{◌≡◌, ℕ, ◌<◌, Option, Some, refl, sym, ap, ◌∙◌, subst}
 use Rattle.std.specs.Prelude.{Bool, true, false, option_map}
 use Rattle.lucid_value.specs.Plain.{PlainValue, truth}
-use Rattle.lucid_tree.specs.Tree.{Head, whenever, asa, upon}
+use Rattle.lucid_tree.specs.Tree.{Head, whenever}
 use Rattle.lucid_tree.specs.Rows.{Look, Plan, plan}
 use Rattle.lucid_tree.specs.Rests.{LeadsTo, at_start, rest_at}
 use Rattle.lucid_tree.specs.Levels.{Elements}
@@ -46,10 +46,8 @@ part_is_of_its_look T r f es e index l y (part_by_body k g) w = absurd (form_goe
 
 -- a form that doesn't search stands at its plan
 rest_is_plan : (f : Head) → is_search f ≡ false → (m j n t s : ℕ) → rest_at f m j n t s ≡ plan m f t s
-rest_is_plan whenever e m j n t s = absurd (cc)
-rest_is_plan asa e m j n t s = absurd (cc)
-rest_is_plan upon e m j n t s = absurd (cc)
-rest_is_plan f e m j n t s = refl
+rest_is_plan whenever e m j n t s = cc
+rest_is_plan f e m j n t s = cc
 
 module _ (d : Demand) (b : Elements) (h : Holding) (lost : ℕ) (r : PlainRow) where
   -- what the row's parts have as answers to looks answers the looks' tasks

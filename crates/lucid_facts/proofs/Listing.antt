@@ -105,15 +105,13 @@ idle_of_plain (Got v) e = absurd (cc)
 
 idle_parts : (ps : List rows.PartState) → map plain_state ps ≡ all_idle → list_all rows.is_idle ps ≡ true
 idle_parts [] e = refl
-idle_parts (a ∷ []) e = absurd (cc)
-idle_parts (a ∷ b ∷ []) e = absurd (cc)
 idle_parts (a ∷ b ∷ c ∷ []) e =
     let first : plain_state a ≡ idle = cc in
     let second : plain_state b ≡ idle = cc in
     let third : plain_state c ≡ idle = cc in
     ap (λ t. t && (rows.is_idle b && (rows.is_idle c && true))) (idle_of_plain a first) ∙ ap (λ t. t && (rows.is_idle c && true)) (idle_of_plain b second)
     ∙ ap (λ t. t && true) (idle_of_plain c third)
-idle_parts (a ∷ b ∷ c ∷ d ∷ ps) e = absurd (cc)
+idle_parts _ e = absurd (cc)
 
 pub idle_row : (known : List Context) (rs : List (Option TaskRow)) (slot : ℕ) (r : TaskRow) → row_at rs slot ≡ Some r → (plain_row known r).parts ≡ all_idle → rows.IsIdleRow rs slot
 idle_row known rs slot r at free = ap (λ o. option_map (λ row. list_all rows.is_idle row.parts) o) at ∙ ap Some (idle_parts r.parts free)

@@ -7,7 +7,7 @@ use Rattle.lucid_equations.specs.Nodes.{PlainNode, row, freeze, reference, invok
 use Rattle.lucid_equations.specs.Moving.{Onward, onward}
 use Rattle.lucid_equations.specs.Rows.{row_at, node_by, parts}
 use Rattle.lucid_equations.specs.declared.rows.Node.{Node}
-use Rattle.lucid_equations.specs.declared.rows.Node.TheVariants.{Const, Input, Apply, If, And, Or, First, Next, Fby, Whenever, Asa, Upon, Attime, Initial, Succ, Sby, Atspace, Freeze, Refer, Call}
+use Rattle.lucid_equations.specs.declared.rows.Node.TheVariants.{First, Next, Fby, Initial, Succ, Sby, Freeze}
 use Rattle.lucid_equations.specs.declared.table.Table.{Table}
 use Rattle.lucid_facts.specs.Tasks.{PlainTask}
 use Rattle.lucid_facts.specs.Parts.{node_of, moved, moved_by}
@@ -45,9 +45,7 @@ moved_with x o (invoke n at l) = None
 
 same-with : (T : Table) (x : PlainTask) (e : PlainNode) → moved_by T x e ≡ moved_with x (row_at T x.node) e
 same-with T x (row f es) = refl
-same-with T x (freeze e) = refl
-same-with T x (reference r) = refl
-same-with T x (invoke n at l) = refl
+same-with T x _ = refl
 
 below-last : (to : Onward → Option PlainTask) (b : Bool) (q : Onward) → option_and_then to (if b then Some q else None) ≡ (if b then to q else None)
 below-last to true q = refl
@@ -62,26 +60,11 @@ moved-sby T x a b zero = refl
 moved-sby T x a b (suc s) = refl
 
 by-row : (T : Table) (x : PlainTask) (n : Node) → moved_with x (Some n) (node_by T n) ≡ moved_row x n
-by-row T x (First a) = refl
 by-row T x (Next a) = below-last (λ q. option_map (λ n. record x { node = n; time = q.time; space = q.space }) (part_in (Some (Next a)) q.part)) (nat_lt x.time last) (record { part = 0; time = suc x.time; space = x.space })
 by-row T x (Fby a b) = moved-fby T x a b x.time
-by-row T x (Initial a) = refl
 by-row T x (Succ a) = below-last (λ q. option_map (λ n. record x { node = n; time = q.time; space = q.space }) (part_in (Some (Succ a)) q.part)) (nat_lt x.space last) (record { part = 0; time = x.time; space = suc x.space })
 by-row T x (Sby a b) = moved-sby T x a b x.space
-by-row T x (Freeze a) = refl
-by-row T x (Const k) = refl
-by-row T x (Input k) = refl
-by-row T x (Apply op args) = refl
-by-row T x (If a b c) = refl
-by-row T x (And a b) = refl
-by-row T x (Or a b) = refl
-by-row T x (Whenever a b) = refl
-by-row T x (Asa a b) = refl
-by-row T x (Upon a b) = refl
-by-row T x (Attime a b) = refl
-by-row T x (Atspace a b) = refl
-by-row T x (Refer n l) = refl
-by-row T x (Call n q l) = refl
+by-row T x _ = refl
 
 -- A task goes on with what its row goes on with.
 pub moved-by_row : (T : Table) (x : PlainTask) (n : Node) → row_at T x.node ≡ Some n → node_of T x ≡ node_by T n → moved_row x n ≡ moved T x

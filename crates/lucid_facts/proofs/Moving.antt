@@ -13,7 +13,7 @@ use Rattle.lucid_equations.specs.Rows.{node_at, node_by, parts, equations_of}
 use Rattle.lucid_equations.specs.Ranges.{IsInRange}
 use Rattle.lucid_equations.specs.RowParts.{HasPart}
 use Rattle.lucid_equations.specs.declared.rows.Node.{Node}
-use Rattle.lucid_equations.specs.declared.rows.Node.TheVariants.{Const, Input, Apply, If, And, Or, First, Next, Fby, Whenever, Asa, Upon, Attime, Initial, Succ, Sby, Atspace, Freeze, Refer, Call}
+use Rattle.lucid_equations.specs.declared.rows.Node.TheVariants.{Freeze}
 use Rattle.lucid_equations.specs.declared.table.Table.{Table}
 use Rattle.lucid_equations.proofs.Moving.{moved-value, moved-visits, moved-needs, six-move}
 use Rattle.lucid_equations.proofs.PartsRead.{row-node, part-lower, part-node}
@@ -38,25 +38,7 @@ same-node a e h = cc
 
 subject-named : (T : Table) (n : Node) (e : PlainNode) (k : ℕ) → subject (node_by T n) ≡ Some e → slice_get (parts n) 0 ≡ Some k → e ≡ node_at T k
 subject-named T (Freeze a) e k h p = same-node (node_at T a) e h ∙ ap (node_at T) (same-number a k p)
-subject-named T (Const a) e k h p = not-frozen e h
-subject-named T (Input a) e k h p = not-frozen e h
-subject-named T (Apply op args) e k h p = not-frozen e h
-subject-named T (If a b c) e k h p = not-frozen e h
-subject-named T (And a b) e k h p = not-frozen e h
-subject-named T (Or a b) e k h p = not-frozen e h
-subject-named T (First a) e k h p = not-frozen e h
-subject-named T (Next a) e k h p = not-frozen e h
-subject-named T (Fby a b) e k h p = not-frozen e h
-subject-named T (Whenever a b) e k h p = not-frozen e h
-subject-named T (Asa a b) e k h p = not-frozen e h
-subject-named T (Upon a b) e k h p = not-frozen e h
-subject-named T (Attime a b) e k h p = not-frozen e h
-subject-named T (Initial a) e k h p = not-frozen e h
-subject-named T (Succ a) e k h p = not-frozen e h
-subject-named T (Sby a b) e k h p = not-frozen e h
-subject-named T (Atspace a b) e k h p = not-frozen e h
-subject-named T (Refer n l) e k h p = not-frozen e h
-subject-named T (Call n q l) e k h p = not-frozen e h
+subject-named T _ e k h p = not-frozen e h
 
 -- The subject of a frozen node is the node of its part.
 pub subject-node : (T : Table) → IsInRange T → (id k : ℕ) (e : PlainNode) → node_at T id ≡ freeze e → HasPart T id 0 k → e ≡ node_at T k

@@ -1,6 +1,6 @@
 -- The tasks that may be asked for, and the rows that are made of them.
 use Rattle.std.proofs.Common.{◌≡◌, ℕ, zero, suc, ◌≤◌, inl, inr, List, [], ◌∷◌, Option, Some, None, refl, sym, ◌∙◌, subst, arith, length}
-use Rattle.lucid_tree.specs.Tree.{Head, const, apply, choose, both, either, first, next, fby, whenever, asa, upon, attime, initial, succ, sby, atspace}
+use Rattle.lucid_tree.specs.Tree.{Head, whenever, asa, upon}
 use Rattle.lucid_tree.specs.Levels.{Elements, reference_of}
 use Rattle.lucid_tree.specs.Rests.{CanStandAt}
 use Rattle.lucid_tree.proofs.Members.{inside-read}
@@ -61,19 +61,7 @@ can_start : (f : Head) (t : ℕ) → CanStandAt f 0 0 t
 can_start whenever t = omega arith
 can_start asa t = refl
 can_start upon t = omega arith
-can_start (const v) t = tt
-can_start (apply op n) t = tt
-can_start choose t = tt
-can_start both t = tt
-can_start either t = tt
-can_start first t = tt
-can_start next t = tt
-can_start fby t = tt
-can_start attime t = tt
-can_start initial t = tt
-can_start succ t = tt
-can_start sby t = tt
-can_start atspace t = tt
+can_start _ t = tt
 
 -- A new row of a task that may be asked for has its facts.
 pub new_row-facts : (d : Demand) (b : Elements) (h : Holding) (lost : ℕ) (r : PlainRow) (x : PlainTask) (parent : Option Part) (key : Option DatonAt) → PartIsRight d b r x

@@ -1,12 +1,13 @@
 -- A task of a row's part stays that of the part, whatever other part gets a value or is asked.
-use Rattle.std.proofs.Common.{◌≡◌, ℕ, zero, suc, List, [], ◌∷◌, Option, Some, None, refl, ap, ◌∙◌}
+use Rattle.std.proofs.Common.{◌≡◌, ℕ, zero, suc, List, [], ◌∷◌, Option, Some, None, refl, sym, ap, ◌∙◌, subst}
 use Rattle.std.specs.Prelude.{slice_set}
 use Rattle.lucid_value.specs.Plain.{PlainValue}
-use Rattle.lucid_tree.specs.Tree.{Head, const, apply, choose, both, either, first, next, fby, whenever, asa, upon, attime, initial, succ, sby, atspace}
+use Rattle.lucid_tree.specs.Tree.{Head, const}
 use Rattle.lucid_tree.specs.Rows.{Look}
+use Rattle.lucid_tasks.specs.declared.Cursor.{Cursor}
 use Rattle.lucid_equations.specs.declared.table.Table.{Table}
 use Rattle.lucid_facts.specs.Tasks.{PlainTask, PlainRow, PartState, idle, asked, got, state_at, value_in, value_of_part}
-use Rattle.lucid_facts.specs.Parts.{at_place, look_of_row, IsPart, part_by_look, part_by_body}
+use Rattle.lucid_facts.specs.Parts.{look_of, look_of_row, IsPart, part_by_look, part_by_body}
 use Rattle.lucid_facts.specs.Changes.{with_part}
 
 -- a write at a part that has no value leaves each value where it was
@@ -22,39 +23,23 @@ kept_at (p ∷ ps) zero (suc k) y v n e = refl
 kept_at (p ∷ ps) (suc i) zero y v n e = refl
 kept_at (p ∷ ps) (suc i) (suc k) y v n e = kept_at ps i k y v n e
 
-there : (o : Option PlainValue) (k : ℕ → Look) (l : Look) → at_place o k ≡ Some l → (v : PlainValue) × (o ≡ Some v)
-there None k l e = absurd (cc)
-there (Some v) k l e = (v, refl)
+-- a look that is there without a value of part 1 is there with any
+any_place : (i : ℕ) (f : Head) (c : Cursor) (p : Option PlainValue) (t s : ℕ) (l : Look) → look_of f c None t s i ≡ Some l → look_of f c p t s i ≡ Some l
+any_place zero (const v) c p t s l e = e
+any_place zero f c p t s l e = cc
+any_place (suc i) (const v) c p t s l e = e
+any_place (suc i) f c p t s l e = e
 
-place_stays : (r : PlainRow) (i : ℕ) (y : PartState) (k : ℕ → Look) (l : Look) → ((w : PlainValue) → state_at r.parts i ≡ got w → ⊥)
-    → at_place (value_of_part r 1) k ≡ Some l → at_place (value_of_part (with_part i y r) 1) k ≡ Some l
-place_stays r i y k l n e =
-    let v = there (value_of_part r 1) k l e in
-    ap (λ x. at_place (value_in x) k) (kept_at r.parts i 1 y v.0 n v.1) ∙ e
+-- so it stays where a value of part 1 stays
+look_kept : (f : Head) (c : Cursor) (o p : Option PlainValue) (t s i : ℕ) (l : Look) → ((v : PlainValue) → o ≡ Some v → p ≡ Some v)
+    → look_of f c o t s i ≡ Some l → look_of f c p t s i ≡ Some l
+look_kept f c None p t s i l keeps e = any_place i f c p t s l e
+look_kept f c (Some v) p t s i l keeps e = subst (λ q. look_of f c q t s i ≡ Some l) (sym (keeps v refl)) e
 
 look_stays : (f : Head) (r : PlainRow) (i j : ℕ) (y : PartState) (l : Look) → ((w : PlainValue) → state_at r.parts i ≡ got w → ⊥)
     → look_of_row f r j ≡ Some l → look_of_row f (with_part i y r) j ≡ Some l
-look_stays (const v) r i j y l n e = e
-look_stays (apply op k) r i j y l n e = e
-look_stays choose r i j y l n e = e
-look_stays both r i j y l n e = e
-look_stays either r i j y l n e = e
-look_stays first r i j y l n e = e
-look_stays next r i j y l n e = e
-look_stays fby r i j y l n e = e
-look_stays whenever r i zero y l n e = e
-look_stays whenever r i (suc j) y l n e = e
-look_stays asa r i zero y l n e = e
-look_stays asa r i (suc j) y l n e = e
-look_stays upon r i zero y l n e = e
-look_stays upon r i (suc j) y l n e = e
-look_stays attime r i zero y l n e = place_stays r i y (λ u. record { part = 0; time = u; space = r.task.space; least = 0 }) l n e
-look_stays attime r i (suc j) y l n e = e
-look_stays initial r i j y l n e = e
-look_stays succ r i j y l n e = e
-look_stays sby r i j y l n e = e
-look_stays atspace r i zero y l n e = place_stays r i y (λ u. record { part = 0; time = r.task.time; space = u; least = 0 }) l n e
-look_stays atspace r i (suc j) y l n e = e
+look_stays f r i j y l n e =
+    look_kept f r.cursor (value_of_part r 1) (value_of_part (with_part i y r) 1) r.task.time r.task.space j l (λ v h. ap value_in (kept_at r.parts i 1 y v n h) ∙ h) e
 
 -- What is the task of a part stays so where a part that has no value gets one or is asked.
 pub part-stays : (T : Table) (r : PlainRow) (i j : ℕ) (y : PartState) (x : PlainTask) → IsPart T r j x → ((w : PlainValue) → state_at r.parts i ≡ got w → ⊥)

@@ -3,7 +3,7 @@ use Rattle.std.proofs.Common.{◌≡◌, ℕ, zero, suc, ◌<◌, ◌≤◌, max
 use Rattle.std.specs.Prelude.{Bool, true, false, IsTrue, option_map}
 use Rattle.std.proofs.lemmas.Bool.{cases_lt}
 use Rattle.lucid_value.specs.Plain.{PlainValue, truth}
-use Rattle.lucid_tree.specs.Tree.{Head, const, apply, choose, both, either, first, next, fby, whenever, asa, upon, attime, initial, succ, sby, atspace}
+use Rattle.lucid_tree.specs.Tree.{Head, whenever}
 use Rattle.lucid_tree.specs.Levels.{Elements, nothing_held}
 use Rattle.lucid_tree.specs.Rests.{CanStandAt, count_on, count_below}
 use Rattle.lucid_tree.specs.Rows.{Look}
@@ -39,10 +39,8 @@ count-is_few f (suc t) n e =
 
 -- no part of three idle ones has a value
 pub nothing_got : (i : ℕ) (v : PlainValue) → value_in (state_at all_idle i) ≡ Some v → ⊥
-nothing_got zero v e = absurd (cc)
-nothing_got (suc zero) v e = absurd (cc)
-nothing_got (suc (suc zero)) v e = absurd (cc)
-nothing_got (suc (suc (suc i))) v e = absurd (cc)
+nothing_got (suc (suc (suc i))) v e = cc
+nothing_got i v e = cc
 
 -- A row at another cursor, with nothing got, has its facts where its search has those of the cursor.
 pub at_cursor-facts : (d : Demand) (b : Elements) (h : Holding) (lost : ℕ) (r : PlainRow) (c : Cursor) → RowFacts d b h lost r
@@ -68,25 +66,8 @@ record LooksAtCursor (r : PlainRow) (l : Look) : Type 0 where
   space : l.space ≡ r.task.space
 
 stream_look : (f : Head) (r : PlainRow) (l : Look) → is_search f ≡ true → look_of_row f r 1 ≡ Some l → LooksAtCursor r l
-stream_look (const v) r l s e = absurd (cc)
-stream_look (apply op n) r l s e = absurd (cc)
-stream_look choose r l s e = absurd (cc)
-stream_look both r l s e = absurd (cc)
-stream_look either r l s e = absurd (cc)
-stream_look first r l s e = absurd (cc)
-stream_look next r l s e = absurd (cc)
-stream_look fby r l s e = absurd (cc)
-stream_look whenever r l s e = let q : record { part = 1; time = r.cursor.time; space = r.task.space; least = suc r.cursor.time } ≡ l = cc in
-    record { part = ap (λ k. k.part) (sym q); time = ap (λ k. k.time) (sym q); space = ap (λ k. k.space) (sym q) }
-stream_look asa r l s e = let q : record { part = 1; time = r.cursor.time; space = r.task.space; least = suc r.cursor.time } ≡ l = cc in
-    record { part = ap (λ k. k.part) (sym q); time = ap (λ k. k.time) (sym q); space = ap (λ k. k.space) (sym q) }
-stream_look upon r l s e = let q : record { part = 1; time = r.cursor.time; space = r.task.space; least = r.task.time } ≡ l = cc in
-    record { part = ap (λ k. k.part) (sym q); time = ap (λ k. k.time) (sym q); space = ap (λ k. k.space) (sym q) }
-stream_look attime r l s e = absurd (cc)
-stream_look initial r l s e = absurd (cc)
-stream_look succ r l s e = absurd (cc)
-stream_look sby r l s e = absurd (cc)
-stream_look atspace r l s e = absurd (cc)
+stream_look whenever r l s e = record { part = cc; time = cc; space = cc }
+stream_look f r l s e = record { part = cc; time = cc; space = cc }
 
 -- the task of a part at a point
 abbrev part_task : PlainRow → (node time space : ℕ) → PlainTask

@@ -48,15 +48,12 @@ taken_parts ps = let once = slice_set ps 0 (emptied (slice_index_or ps 0 Idle)) 
 -- all are idle then
 all_taken : (ps : List rows.PartState) → length ps ≡ 3 → list_all is_free (map plain_state ps) ≡ true → state_at (map plain_state ps) 2 ≡ idle → map plain_state (taken_parts ps) ≡ all_idle
 unfolding taken_parts
-all_taken [] l f e = absurd (cc)
-all_taken (a ∷ []) l f e = absurd (cc)
-all_taken (a ∷ b ∷ []) l f e = absurd (cc)
 all_taken (a ∷ b ∷ c ∷ []) l f e =
     let first = both_true (is_free (plain_state a)) (is_free (plain_state b) && (is_free (plain_state c) && true)) f in
     let second = both_true (is_free (plain_state b)) (is_free (plain_state c) && true) first.1 in
     ap (λ x. x ∷ plain_state (emptied b) ∷ plain_state c ∷ []) (taken_is_idle a first.0) ∙ ap (λ x. idle ∷ x ∷ plain_state c ∷ []) (taken_is_idle b second.0)
     ∙ ap (λ x. idle ∷ idle ∷ x ∷ []) e
-all_taken (a ∷ b ∷ c ∷ d ∷ ps) l f e = absurd (omega (arith, l))
+all_taken ps l f e = absurd (omega (arith, l))
 
 -- a search goes on at a cursor
 pub plain_moves : (known : List Context) (old one two new : List (Option TaskRow)) (slot : ℕ) (r : TaskRow) (c : Cursor) → row_at old slot ≡ Some r → length r.parts ≡ 3

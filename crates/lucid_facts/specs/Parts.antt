@@ -64,28 +64,28 @@ abbrev pub at_place : Option PlainValue → (ℕ → Look) → Option Look
 at_place (Some (int (pos n))) k = Some (k n)
 at_place _ k = None
 
--- The look that a part's value answers, in a form at a point whose search stands at the cursor and whose parts have these values.
+-- The look that a part's value answers, in a form at a point whose search stands at the cursor and whose part 1 has this value, if any.
 -- It is the look of the form's plan; a part that isn't looked at has none.
-abbrev pub look_of : Head → Cursor → (values : ℕ → Option PlainValue) → (time space : ℕ) → (index : ℕ) → Option Look
-look_of (apply op n) c vs t s i = if nat_lt i n then Some (record { part = i; time = t; space = s; least = 0 }) else None
-look_of choose c vs t s i = Some (record { part = i; time = t; space = s; least = 0 })
-look_of both c vs t s i = Some (record { part = i; time = t; space = s; least = 0 })
-look_of either c vs t s i = Some (record { part = i; time = t; space = s; least = 0 })
-look_of whenever c vs t s zero = Some (record { part = 0; time = c.time; space = s; least = 0 })
-look_of whenever c vs t s (suc zero) = Some (record { part = 1; time = c.time; space = s; least = suc c.time })
-look_of asa c vs t s zero = Some (record { part = 0; time = c.time; space = s; least = 0 })
-look_of asa c vs t s (suc zero) = Some (record { part = 1; time = c.time; space = s; least = suc c.time })
-look_of upon c vs t s zero = Some (record { part = 0; time = c.count; space = s; least = 0 })
-look_of upon c vs t s (suc zero) = Some (record { part = 1; time = c.time; space = s; least = t })
-look_of attime c vs t s zero = at_place (vs 1) (λ u. record { part = 0; time = u; space = s; least = 0 })
-look_of attime c vs t s (suc zero) = Some (record { part = 1; time = t; space = s; least = 0 })
-look_of atspace c vs t s zero = at_place (vs 1) (λ r. record { part = 0; time = t; space = r; least = 0 })
-look_of atspace c vs t s (suc zero) = Some (record { part = 1; time = t; space = s; least = 0 })
-look_of _ c vs t s i = None
+abbrev pub look_of : Head → Cursor → (place : Option PlainValue) → (time space : ℕ) → (index : ℕ) → Option Look
+look_of (apply op n) c p t s i = if nat_lt i n then Some (record { part = i; time = t; space = s; least = 0 }) else None
+look_of choose c p t s i = Some (record { part = i; time = t; space = s; least = 0 })
+look_of both c p t s i = Some (record { part = i; time = t; space = s; least = 0 })
+look_of either c p t s i = Some (record { part = i; time = t; space = s; least = 0 })
+look_of whenever c p t s zero = Some (record { part = 0; time = c.time; space = s; least = 0 })
+look_of whenever c p t s (suc zero) = Some (record { part = 1; time = c.time; space = s; least = suc c.time })
+look_of asa c p t s zero = Some (record { part = 0; time = c.time; space = s; least = 0 })
+look_of asa c p t s (suc zero) = Some (record { part = 1; time = c.time; space = s; least = suc c.time })
+look_of upon c p t s zero = Some (record { part = 0; time = c.count; space = s; least = 0 })
+look_of upon c p t s (suc zero) = Some (record { part = 1; time = c.time; space = s; least = t })
+look_of attime c p t s zero = at_place p (λ u. record { part = 0; time = u; space = s; least = 0 })
+look_of attime c p t s (suc zero) = Some (record { part = 1; time = t; space = s; least = 0 })
+look_of atspace c p t s zero = at_place p (λ r. record { part = 0; time = t; space = r; least = 0 })
+look_of atspace c p t s (suc zero) = Some (record { part = 1; time = t; space = s; least = 0 })
+look_of _ c p t s i = None
 
 -- the look of a row's part
 abbrev pub look_of_row : Head → PlainRow → (index : ℕ) → Option Look
-look_of_row f r i = look_of f r.cursor (λ k. value_of_part r k) r.task.time r.task.space i
+look_of_row f r i = look_of f r.cursor (value_of_part r 1) r.task.time r.task.space i
 
 -- the task of a look: the part at the look's point, in the same context and at the same limit
 abbrev pub look_task : Table → PlainTask → Look → Option PlainTask

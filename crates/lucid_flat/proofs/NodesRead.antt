@@ -65,12 +65,10 @@ of_form n f h = rw (form_word-apart n f, three_of-words (node_numbers n) h (form
 args_given : (op : Op) (args : List ℕ) → Are32 args → length args ≡ 3 → apply_node (op_word op ∷ map decimal args) ≡ Some (Apply op args)
 unfolding apply_node
 args_given op [] h l = absurd (cc)
-args_given op (a ∷ []) h l = absurd (omega arith)
-args_given op (a ∷ b ∷ []) h l = absurd (omega arith)
 args_given op (a ∷ b ∷ c ∷ []) h l =
     let e : exactly 3 (decimal a ∷ decimal b ∷ decimal c ∷ []) ≡ Some (as_three (a ∷ b ∷ c ∷ [])) = exactly-words (a ∷ b ∷ c ∷ []) h (omega arith, omega arith) in
     rw (op_of-word op, e) refl
-args_given op (a ∷ b ∷ c ∷ d ∷ ds) h l = absurd (omega arith)
+args_given op _ h l = absurd (omega arith)
 
 of_apply : (op : Op) (args : List ℕ) → Are32 args → length args ≡ 3 → node_of (codes "apply" ∷ op_word op ∷ map decimal args) ≡ Some (Apply op args)
 unfolding node_of

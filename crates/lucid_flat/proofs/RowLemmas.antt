@@ -7,12 +7,12 @@ use Rattle.std.proofs.lemmas.Option.{none-some, same_Some}
 use Rattle.std.proofs.lemmas.Slice.Eq.{bytes_eq-Decides}
 use Rattle.lucid_value.specs.Plain.{PlainValue}
 use Rattle.lucid_equations.specs.declared.rows.Entry.{Entry}
-use Rattle.lucid_equations.specs.declared.rows.Entry.TheVariants.{Plain, Parameter, Current, Called}
+use Rattle.lucid_equations.specs.declared.rows.Entry.TheVariants.{Plain}
 use Rattle.lucid_texts.specs.Words.{HasNone}
 use Rattle.lucid_texts.specs.TextLines.{Lacks}
 use Rattle.lucid_texts.specs.Laws.{OneValue}
 use Rattle.lucid_texts.proofs.Bytes.{one_cut, lacks_middle}
-use Rattle.lucid_flat.specs.FlatText.{FlatRow, scope_row, input_row, constant_row, node_row, name_row, place_row, root_row, entry_word, row_line}
+use Rattle.lucid_flat.specs.FlatText.{FlatRow, constant_row, name_row, entry_word, row_line}
 use Rattle.lucid_flat.specs.FlatTables.{RowFits}
 use Rattle.lucid_flat.specs.RowTails.{tail_row}
 use Rattle.lucid_flat.specs.RowLines.{IsRowOf}
@@ -31,13 +31,8 @@ data Kind : FlatRow → Type 0 where
   of_words : {r : FlatRow} → IsNoConstant r → Kind r
 
 kind : (r : FlatRow) → Kind r
-kind (scope_row r) = of_words tt
-kind (input_row n) = of_words tt
 kind (constant_row v) = of_value v
-kind (node_row r) = of_words tt
-kind (name_row r) = of_words tt
-kind (place_row r) = of_words tt
-kind (root_row n) = of_words tt
+kind _ = of_words tt
 
 apart : (w c : List ℕ) → bytes_eq w c ≡ false → w ≡ c → ⊥
 apart w c f e =
@@ -45,19 +40,13 @@ apart w c f e =
 
 no_const_entry : (e : Entry) → entry_word e ≡ codes "const" → ⊥
 no_const_entry (Plain a) h = apart _ _ refl h
-no_const_entry (Parameter i) h = apart _ _ refl h
-no_const_entry (Current a) h = apart _ _ refl h
-no_const_entry (Called a) h = apart _ _ refl h
+no_const_entry _ h = apart _ _ refl h
 
 -- the first word of another row isn't a constant's
 no_const : (r : FlatRow) → IsNoConstant r → row_head r ≡ codes "const" → ⊥
-no_const (scope_row r) n h = apart _ _ refl h
-no_const (input_row k) n h = apart _ _ refl h
 no_const (constant_row v) n h = n
-no_const (node_row r) n h = apart _ _ refl h
 no_const (name_row r) n h = no_const_entry r.kind h
-no_const (place_row r) n h = apart _ _ refl h
-no_const (root_row k) n h = apart _ _ refl h
+no_const _ n h = apart _ _ refl h
 
 same_heads : (r s : FlatRow) → row_line r ≡ row_line s → (row_head r ≡ row_head s) × (row_tail r ≡ row_tail s)
 same_heads r s e = one_cut 32 (row_head r) (row_head s) (row_tail r) (row_tail s) (head_lacks r) (head_lacks s) (sym (line_parts r) ∙ (e ∙ line_parts s))

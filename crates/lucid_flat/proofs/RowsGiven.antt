@@ -8,7 +8,7 @@ use Rattle.lucid_equations.specs.declared.rows.ScopeKind.{ScopeKind}
 use Rattle.lucid_equations.specs.declared.rows.ScopeKind.TheVariants.{Root, Called as CalledScope, Frozen as FrozenScope}
 use Rattle.lucid_equations.specs.declared.rows.ScopeRow.{ScopeRow}
 use Rattle.lucid_equations.specs.declared.rows.Entry.{Entry}
-use Rattle.lucid_equations.specs.declared.rows.Entry.TheVariants.{Plain, Parameter, Current, Called}
+use Rattle.lucid_equations.specs.declared.rows.Entry.TheVariants.{Plain}
 use Rattle.lucid_equations.specs.declared.rows.NodeRow.{NodeRow}
 use Rattle.lucid_equations.specs.declared.rows.NameRow.{NameRow}
 use Rattle.lucid_equations.specs.declared.rows.PlaceRow.{PlaceRow}
@@ -50,12 +50,7 @@ row_tail r = join_with_byte 32 (row_rest r)
 -- a line is the first word, a blank and what is behind it
 pub line_parts : (r : FlatRow) → row_line r ≡ row_head r ++ 32 ∷ row_tail r
 line_parts (scope_row r) = refl
-line_parts (input_row n) = refl
-line_parts (constant_row v) = refl
-line_parts (node_row r) = refl
-line_parts (name_row r) = refl
-line_parts (place_row r) = refl
-line_parts (root_row n) = refl
+line_parts _ = refl
 
 -- the first word has no blank
 head_solid : (r : FlatRow) → IsSolid (row_head r)
@@ -81,9 +76,7 @@ node_row_of-words r h k = rw (take_number-decimal (2 ^ 32) r.scope (node_words r
 
 entry_of-word : (e : Entry) → entry_of (entry_word e) (entry_number e) ≡ Some e
 entry_of-word (Plain a) = refl
-entry_of-word (Parameter i) = refl
-entry_of-word (Current a) = refl
-entry_of-word (Called a) = refl
+entry_of-word _ = refl
 
 name_of-words : (r : NameRow) → r.scope < 2 ^ 32 → entry_number r.kind < 2 ^ 32 → name_of (entry_word r.kind) (decimal r.scope ∷ decimal (entry_number r.kind) ∷ []) ≡ Some r
 unfolding name_of
@@ -111,9 +104,7 @@ IsNoConstant _ = Unit {0}
 name_tail : (e : Entry) (t : List ℕ) → tail_row (entry_word e) t ≡ option_map name_row (name_of (entry_word e) (words_of t))
 unfolding tail_row
 name_tail (Plain a) t = refl
-name_tail (Parameter i) t = refl
-name_tail (Current a) t = refl
-name_tail (Called a) t = refl
+name_tail _ t = refl
 
 -- A row that is no constant is read from the first word of its line and what is behind.
 pub tail_row-parts : (r : FlatRow) → RowFits r → IsNoConstant r → tail_row (row_head r) (row_tail r) ≡ Some r

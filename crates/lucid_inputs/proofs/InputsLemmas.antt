@@ -10,7 +10,7 @@ use Rattle.lucid_lemmas.proofs.Lists.{slice_get-set_same, slice_get-set_other}
 use Rattle.lucid_ports.specs.World.{Contents, IsFresh, Place, World, advanced}
 use Rattle.lucid_value.specs.Lines.{IsOverlong}
 use Rattle.lucid_inputs.specs.declared.fault.InputFault.{InputFault}
-use Rattle.lucid_inputs.specs.declared.fault.InputFault.TheVariants.{ReadFault, TooLarge, NoMemory}
+use Rattle.lucid_inputs.specs.declared.fault.InputFault.TheVariants.{TooLarge}
 use Rattle.lucid_inputs.specs.declared.lines.Element.{Element}
 use Rattle.lucid_inputs.specs.declared.stream.InputStream.{InputStream}
 use Rattle.lucid_inputs.specs.declared.on_demand.Inputs.{Inputs}
@@ -138,11 +138,9 @@ pub told_too_large : {T : Type 0} (r : Result T InputFault) (number index most :
     → IfErr r (λ e. OnTooLarge e (λ s. (s ≡ number) × (len ≤ index) × (ended ≡ false)))
     → (len ≤ index → ended ≡ false → (new.consumed ≡ most) × IfSome o (λ c. IsOverlong (all_bytes c) index most))
     → IfErr r (λ e. OnTooLarge e (λ s. IsTooLarge number index most new s o))
-told_too_large (Ok x) number index most old new len ended o cause then = tt
-told_too_large (Err ReadFault) number index most old new len ended o cause then = tt
 told_too_large (Err (TooLarge s)) number index most old new len ended o cause then =
     let facts = then cause.1 cause.2 in record { stream = cause.0; consumed = facts.0; overlong = facts.1 }
-told_too_large (Err NoMemory) number index most old new len ended o cause then = tt
+told_too_large _ number index most old new len ended o cause then = tt
 
 pub ok_then : {T : Type 0} (r : Result T InputFault) (P Q : Type 0) → OnOk r P → (P → Q) → OnOk r Q
 ok_then (Ok x) P Q p then = then p

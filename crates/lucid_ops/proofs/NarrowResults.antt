@@ -51,11 +51,9 @@ of_two Pow (int a) (int (pos n)) h = placed (int_pow a n) h
 of_two _ v w h = refl
 
 of_row : (op : Op) (vs : List PlainValue) → Kept (row_of narrow_integer op vs) (row_of integer op vs)
-of_row op [] h = refl
 of_row op (u ∷ []) h = of_one op u h
 of_row op (u ∷ v ∷ []) h = of_two op u v h
-of_row op (u ∷ v ∷ w ∷ []) h = refl
-of_row op (u ∷ v ∷ w ∷ x ∷ xs) h = refl
+of_row op _ h = refl
 
 ruled : (vs : List PlainValue) (u v : PlainValue) → Kept u v → Kept (by_rule vs u) (by_rule vs v)
 ruled vs u v k = by (list_any is_eod vs) (list_any is_error vs)

@@ -3,7 +3,7 @@ use Rattle.std.proofs.Common.{◌≡◌, ◌<◌, false, List, [], ◌∷◌, re
 use Rattle.lucid_value.specs.Plain.{PlainValue}
 use Rattle.lucid_value.specs.View.{plain}
 use Rattle.lucid_value.specs.declared.Value.{Value}
-use Rattle.lucid_value.specs.declared.Value.TheVariants.{Int, Truth, Word, Text, List as ListV, Eod, Fault}
+use Rattle.lucid_value.specs.declared.Value.TheVariants.{Eod, Fault}
 use Rattle.lucid_ops.specs.declared.op.Op.{Op}
 use Rattle.lucid_ops.specs.declared.op.Op.TheVariants.{IsEod, IsError}
 use Rattle.lucid_ops.specs.Arity.{arity}
@@ -22,11 +22,7 @@ many_keep_rule _ vs h = refl
 neither : (v : Value) → (v ≡ Eod → ⊥) → (v ≡ Fault → ⊥) → (is_eod (plain v) ≡ false) × (is_error (plain v) ≡ false)
 neither Eod p q = absurd (p refl)
 neither Fault p q = absurd (q refl)
-neither (Int n) p q = (refl, refl)
-neither (Truth b) p q = (refl, refl)
-neither (Word w) p q = (refl, refl)
-neither (Text t) p q = (refl, refl)
-neither (ListV l) p q = (refl, refl)
+neither _ p q = (refl, refl)
 
 -- where no argument is end of data or an error the row decides
 pub row_decides_two : (op : Op) (v w : Value) → 1 < arity op → (v ≡ Eod → ⊥) → (v ≡ Fault → ⊥) → (w ≡ Eod → ⊥) → (w ≡ Fault → ⊥) → algebra op (plain v ∷ plain w ∷ []) ≡ row_of_two integer op (plain v) (plain w)

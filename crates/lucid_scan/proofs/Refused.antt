@@ -16,18 +16,14 @@ not_long false false at e = cc
 
 pub refused : (why : ScanRefusal) (source rest : List ℕ) (at : ℕ) → length source ≤ 1048576 → Stuck source 0 at rest → why ≡ refusal_of rest at → Refuses source why
 refused refusal.TooLong source rest at small s e = absurd (not_long (first_passes is_ascii_digit rest) (opens_text rest) at e)
-refused (refusal.BadByte p) source rest at small s e = (small, (at, rest, s, e))
-refused (refusal.OpenText p) source rest at small s e = (small, (at, rest, s, e))
-refused (refusal.BigNumber p) source rest at small s e = (small, (at, rest, s, e))
 refused refusal.NoMemory source rest at small s e = tt
+refused _ source rest at small s e = (small, (at, rest, s, e))
 
 -- the three causes
 causes : (source : List ℕ) (why : ScanRefusal) → Refuses source why → (why ≡ refusal.NoMemory) ⊎ (((why ≡ refusal.TooLong) × (1048576 < length source)) ⊎ IsStuckBy source why)
 causes source refusal.TooLong h = inr (inl (refl, h))
-causes source (refusal.BadByte p) h = inr (inr h)
-causes source (refusal.OpenText p) h = inr (inr h)
-causes source (refusal.BigNumber p) h = inr (inr h)
 causes source refusal.NoMemory h = inl refl
+causes source _ h = inr (inr h)
 
 pub not_refused : (source : List ℕ) (ts : List Token) (why : ScanRefusal) → Tokens source 0 ts → length source ≤ 1048576 → Refuses source why → why ≡ refusal.NoMemory
 not_refused source ts why scanned small h = elim (causes source why h) [

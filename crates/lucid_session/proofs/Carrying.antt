@@ -23,7 +23,7 @@ use Rattle.lucid_equations.proofs.SameDatons.{same-daton}
 use Rattle.lucid_equations.proofs.Reached.{reached}
 use Rattle.lucid_ports.specs.declared.run.Summary.{Summary}
 use Rattle.lucid_ports.specs.declared.run.RunFault.{RunFault}
-use Rattle.lucid_ports.specs.declared.run.RunFault.TheVariants.{TooDeep, ReadFault, WriteFault, TooLarge, NoMemory}
+use Rattle.lucid_ports.specs.declared.run.RunFault.TheVariants.{TooDeep}
 use Rattle.lucid_session.specs.Runs.{RunView, ForSomeAdded}
 use Rattle.lucid_session.specs.Figures.{Layout, Counted, root_counted, ArePointsBelow, ArePointsBefore, IsDefinedAt, IsUndefinedHeld, times_of, Figures, HasMoreThan, OnClearings, OnDepth}
 use Rattle.lucid_session.specs.Laws.{StandsFor, FiguresCarry}
@@ -173,12 +173,8 @@ module _ (T : Table) (l : Layout) (D : Counted Referent Env) (stands : StandsFor
 
     deep_too : (result : Result Summary RunFault) → Figures (root_counted T l) b r result → IsTrue r.policy.keeps
         → OnDepth result (λ time lost cleared. lost ≡ 0 → cleared ≡ 0 → IsUndefinedHeld D b r.depth time)
-    deep_too (Ok s) f keeps = tt
     deep_too (Err (TooDeep time lost cleared)) f keeps = λ none again. undefined_too r.depth time (f.deep keeps none again)
-    deep_too (Err ReadFault) f keeps = tt
-    deep_too (Err WriteFault) f keeps = tt
-    deep_too (Err (TooLarge number)) f keeps = tt
-    deep_too (Err NoMemory) f keeps = tt
+    deep_too _ f keeps = tt
 
     some_added : (times : ℕ) → ForSomeAdded r (λ d. (points : Points) → ArePointsBelow l b times points → HasMoreThan 999999 ((root_counted T l).enters b r.depth d points))
         → ForSomeAdded r (λ d. (points : Points) → ArePointsBelow D.layout b times points → HasMoreThan 999999 (D.enters b r.depth d points))
@@ -192,10 +188,7 @@ module _ (T : Table) (l : Layout) (D : Counted Referent Env) (stands : StandsFor
         → OnClearings result (λ times cleared. 0 < cleared → ForSomeAdded r (λ d. (points : Points) → ArePointsBelow D.layout b times points → HasMoreThan 999999 (D.enters b r.depth d points)))
     cleared_too (Ok s) f = λ lt. some_added (times_of s) (f.cleared lt)
     cleared_too (Err (TooDeep time lost cleared)) f = λ lt. some_added (ℕ.suc time) (f.cleared lt)
-    cleared_too (Err ReadFault) f = tt
-    cleared_too (Err WriteFault) f = tt
-    cleared_too (Err (TooLarge number)) f = tt
-    cleared_too (Err NoMemory) f = tt
+    cleared_too _ f = tt
 
 -- So the figures of a table are those of each subject for which it stands.
 pub figures_too : FiguresCarry

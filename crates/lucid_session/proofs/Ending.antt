@@ -241,10 +241,8 @@ module _ (z : Start) (e : EngineView) (w : World) (o : Told) (t s c : ℕ) (no_w
   }
     where
       read : (f : DemandFault) → (IsErrOf {T = Value} (Err f) ReadFault → Rises z.before.faults w.faults) → IsErrOf {T = Summary} (Err (of_demand t e.stored.lost c f)) run.ReadFault → Rises z.before.faults w.faults
-      read TooDeep failed h = absurd (cc)
       read ReadFault failed h = failed refl
-      read (TooLarge k) failed h = absurd (cc)
-      read NoMemory failed h = absurd (cc)
+      read _ failed h = absurd (cc)
 
       other : (f : DemandFault) → CountsNoFaultUnless (IsErrOf {T = Value} (Err f) ReadFault) z.before.faults w.faults
           → CountsNoFaultUnless (IsErrOf {T = Summary} (Err (of_demand t e.stored.lost c f)) run.ReadFault) z.before.faults w.faults
@@ -258,15 +256,11 @@ module _ (z : Start) (e : EngineView) (w : World) (o : Told) (t s c : ℕ) (no_w
 
       write : (f : DemandFault) → IsErrOf {T = Summary} (Err (of_demand t e.stored.lost c f)) run.WriteFault → Rises z.out_before.faults o.faults
       write TooDeep h = absurd (cc)
-      write ReadFault h = absurd (cc)
-      write (TooLarge k) h = absurd (cc)
-      write NoMemory h = absurd (cc)
+      write _ h = absurd (cc)
 
       large : (f : DemandFault) → demand.OnTooLarge f (λ k. k < length z.table.inputs) → runs.OnTooLarge (of_demand t e.stored.lost c f) (λ k. k < length z.table.inputs)
-      large TooDeep h = tt
-      large ReadFault h = tt
       large (TooLarge k) h = h
-      large NoMemory h = tt
+      large _ h = tt
 
   -- A refused demand ends a run.
   pub promise_refused : (f : DemandFault) → Asked z (before z t s) e w c t s (Err f) → ((b : Elements) → Has z b → Demands (layout z) b t s) → ((b : Elements) → Has z b → HasLines z b o t) → t < z.count

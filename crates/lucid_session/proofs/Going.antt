@@ -18,10 +18,10 @@ use Rattle.lucid_facts.specs.Elements.{elements_told}
 use Rattle.lucid_facts.specs.Engine.{EngineView, IsSound, AreAskable, ReadsOnly, MayHave, ConsultsOverlong, HoldsNeeded, GoesOn, known_elements, places_of, holding}
 use Rattle.lucid_facts.proofs.History.{reads_only_then, reads_only_itself}
 use Rattle.lucid_facts.proofs.MoreRead.{right_over}
-use Rattle.lucid_demand.specs.Demanded.{Demanded, MayDemand}
+use Rattle.lucid_demand.specs.Demanded.{Demanded, MayDemand, most_known}
 use Rattle.lucid_demand.specs.Demanded as demand
 use Rattle.lucid_demand.specs.declared.fault.DemandFault.{DemandFault}
-use Rattle.lucid_demand.specs.declared.fault.DemandFault.TheVariants.{TooDeep, ReadFault, TooLarge, NoMemory}
+use Rattle.lucid_demand.specs.declared.fault.DemandFault.TheVariants.{TooLarge}
 use Rattle.lucid_session.specs.Subject.{StreamMeans, table_stream_at}
 use Rattle.lucid_session.specs.Cells.{Found, Asked}
 use Rattle.lucid_session.proofs.Added.{at_once, so}
@@ -65,7 +65,7 @@ begins z D e is sound askable places known stored never = record {
 }
 
 -- A value may be demanded.
-pub may_demand : (z : Start) (D : Elements → (time space : ℕ) → Type 0) (e : EngineView) (w : World) (c : ℕ) → Standing z D e w c → length e.known ≤ 1000000 → (t s : ℕ) → t < 2 ^ 63 → s < 2 ^ 63 → 0 < z.depth → MayDemand e w t s z.depth
+pub may_demand : (z : Start) (D : Elements → (time space : ℕ) → Type 0) (e : EngineView) (w : World) (c : ℕ) → Standing z D e w c → length e.known ≤ most_known → (t s : ℕ) → t < 2 ^ 63 → s < 2 ^ 63 → 0 < z.depth → MayDemand e w t s z.depth
 may_demand z D e w c standing few t s early near some_depth = record {
   time_in_range = early;
   space_in_range = near;
@@ -167,20 +167,14 @@ module _ (z : Start) (D : Elements → (time space : ℕ) → Type 0) (e f : Eng
     large : (r : Result Value DemandFault) (b : Elements) → MayHave (of_run z f) b
         → IfErr r (λ q. demand.OnTooLarge q (λ k. (b : Elements) → MayHave (of_run z f) b → ConsultsOverlong (of_run z f) b v k z.depth t s))
         → IfErr r (λ q. demand.OnTooLarge q (λ k. ConsultsOverlong (of_run z f) b v k z.depth t s))
-    large (Ok x) b may h = tt
-    large (Err TooDeep) b may h = tt
-    large (Err ReadFault) b may h = tt
     large (Err (TooLarge k)) b may h = h b may
-    large (Err NoMemory) b may h = tt
+    large _ b may h = tt
 
     -- a stream that is too large by some elements that there may be has a name
     named : (r : Result Value DemandFault) (b : Elements) → IfErr r (λ q. demand.OnTooLarge q (λ k. ConsultsOverlong (of_run z f) b v k z.depth t s))
         → IfErr r (λ q. demand.OnTooLarge q (λ k. k < length z.table.inputs))
-    named (Ok x) b h = tt
-    named (Err TooDeep) b h = tt
-    named (Err ReadFault) b h = tt
     named (Err (TooLarge k)) b h = slice_get_within z.table.inputs k h.name h.named
-    named (Err NoMemory) b h = tt
+    named _ b h = tt
 
     found_now : (b : Elements) → Has z b → Found z b (D b) f v c t s result
     found_now b has = record {

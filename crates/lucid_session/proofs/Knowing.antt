@@ -10,6 +10,7 @@ use Rattle.lucid_equations.specs.Visits.{visited_contexts}
 use Rattle.lucid_equations.specs.Rows.{equations_of}
 use Rattle.lucid_facts.specs.Engine.{EngineView, VisitsNew}
 use Rattle.lucid_facts.specs.Engine as facts
+use Rattle.lucid_demand.specs.Demanded.{most_known}
 use Rattle.lucid_session.proofs.Lists.{in_flat}
 use Rattle.lucid_session.proofs.Added.{at_once, so, both, of_items}
 use Rattle.lucid_session.specs.Moments.{Added, Start, of_run, IsEntered, MuchEntered, with_point}
@@ -53,7 +54,7 @@ module _ (z : Start) (b : Elements) (D : (time space : ℕ) → Type 0) where
       (of_items z.policy.empties (IsFrom old.known t s) new.known (λ c i. from old t s c (visits.known c i))))
 
   -- Where more than a million contexts are known, more than 999,999 were entered.
-  pub much_entered : (known : List Context) → IsOneForOne known → 1000000 < length known → Added z.policy.empties (AllEntered D known) → Added z.policy.empties (MuchEntered z b D)
+  pub much_entered : (known : List Context) → IsOneForOne known → most_known < length known → Added z.policy.empties (AllEntered D known) → Added z.policy.empties (MuchEntered z b D)
   much_entered known one much = so z.policy.empties (AllEntered D known) (MuchEntered z b D) (λ d all points has n h.
       omega (
         arith,

@@ -8,7 +8,7 @@ use Rattle.lucid_tree.specs.Levels.{Elements}
 use Rattle.lucid_tree.specs.Members.{In}
 use Rattle.lucid_ports.specs.declared.run.Summary.{Summary}
 use Rattle.lucid_ports.specs.declared.run.RunFault.{RunFault}
-use Rattle.lucid_ports.specs.declared.run.RunFault.TheVariants.{TooDeep, ReadFault, WriteFault, TooLarge, NoMemory}
+use Rattle.lucid_ports.specs.declared.run.RunFault.TheVariants.{TooDeep, ReadFault, TooLarge}
 use Rattle.lucid_equations.specs.Counts.{Points}
 use Rattle.lucid_equations.specs.declared.table.Table.{Table}
 use Rattle.lucid_session.specs.Subject.{OneStream, StreamMeans, stream_subject, columns_subject, table_stream, IsCell, AreCells, HasEnded, IsOpen, OfSome, OfEach, Output, no_lines, one_line_more, parted}
@@ -135,20 +135,12 @@ module _ (x : OneStream) (b : Elements) where
     if_ok (Err e) P Q f h = tt
 
     if_deep : (result : Result Summary RunFault) (P Q : ℕ → Type 0) → ((t : ℕ) → P t → Q t) → IfErr result (λ e. OnTooDeep e P) → IfErr result (λ e. OnTooDeep e Q)
-    if_deep (Ok s) P Q f h = tt
     if_deep (Err (TooDeep time lost cleared)) P Q f h = f time h
-    if_deep (Err ReadFault) P Q f h = tt
-    if_deep (Err WriteFault) P Q f h = tt
-    if_deep (Err (TooLarge number)) P Q f h = tt
-    if_deep (Err NoMemory) P Q f h = tt
+    if_deep _ P Q f h = tt
 
     if_large : (result : Result Summary RunFault) (P Q : ℕ → Type 0) → ((k : ℕ) → P k → Q k) → IfErr result (λ e. OnTooLarge e P) → IfErr result (λ e. OnTooLarge e Q)
-    if_large (Ok s) P Q f h = tt
-    if_large (Err (TooDeep time lost cleared)) P Q f h = tt
-    if_large (Err ReadFault) P Q f h = tt
-    if_large (Err WriteFault) P Q f h = tt
     if_large (Err (TooLarge number)) P Q f h = f number h
-    if_large (Err NoMemory) P Q f h = tt
+    if_large _ P Q f h = tt
 
     -- So a run of the column is one of its stream.
     pub ran_one : (result : Result Summary RunFault) → Ran (columns_subject (x ∷ [])) b r result → Ran (stream_subject x) b r result
@@ -224,6 +216,4 @@ module _ (T : Table) (b : Elements) (r : RunView) where
       opened : IsOpen (table_stream T) b ran.out.whole
       opened = open_through (table_stream T) b ran.out.whole ran.out.bytes ran.out.output
   figures_one (Err ReadFault) ran f = record { held = λ keeps. tt; deep = λ keeps. tt; cleared = tt }
-  figures_one (Err WriteFault) ran f = record { held = λ keeps. tt; deep = λ keeps. tt; cleared = tt }
-  figures_one (Err (TooLarge number)) ran f = record { held = λ keeps. tt; deep = λ keeps. tt; cleared = tt }
-  figures_one (Err NoMemory) ran f = record { held = λ keeps. tt; deep = λ keeps. tt; cleared = tt }
+  figures_one _ ran f = record { held = λ keeps. tt; deep = λ keeps. tt; cleared = tt }

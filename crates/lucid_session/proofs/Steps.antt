@@ -18,7 +18,7 @@ use Rattle.lucid_equations.specs.Values.{eqval}
 use Rattle.lucid_equations.specs.Rows.{equations_of}
 use Rattle.lucid_equations.specs.declared.table.Table.{Table}
 use Rattle.lucid_facts.specs.Engine.{EngineView, IsSound, AreAskable, places_of}
-use Rattle.lucid_demand.specs.Demanded.{Demanded}
+use Rattle.lucid_demand.specs.Demanded.{Demanded, most_known}
 use Rattle.lucid_demand.specs.declared.fault.DemandFault.{DemandFault}
 use Rattle.lucid_session.specs.Subject.{table_stream_at, table_columns, HasEnded, IsOpen, OfSome, no_lines}
 use Rattle.lucid_session.specs.Runs.{Told, RunView, EndsAt}
@@ -37,7 +37,7 @@ use Rattle.lucid_session.proofs.Writing.{Going, Came, going_on, promise_unwritte
 
 -- An engine that may have been cleared.
 module _ (e f : EngineView) (c d : ℕ) (many : ClearsMany e f c d) where
-  pub few_after : length f.known ≤ 1000000
+  pub few_after : length f.known ≤ most_known
   few_after = elim many [ inl h ↦ omega (arith, ap (λ x. length x.known) h.0, h.2) | inr h ↦ omega (arith, ap (λ x. length x.known) h.1) ]
 
   pub counts_after : d ≤ c + 1

@@ -21,6 +21,7 @@ use Rattle.lucid_session.specs.Runs.{Told, RunView, Written, ForSomeAdded, Consu
 use Rattle.lucid_session.specs.Figures.{IsUndefinedHeld, ArePointsBelow, HasMoreThan, OnDepth, OnClearings}
 use Rattle.lucid_session.specs.Sessions.{Promises}
 use Rattle.lucid_session.specs.Lines.{WritesLine}
+use Rattle.lucid_demand.specs.Demanded.{most_known}
 use Rattle.lucid_session.proofs.Added.{at_once}
 use Rattle.lucid_session.specs.Moments.{Start, subject, layout, before, Has, seen, IsEntered, Standing}
 use Rattle.lucid_session.proofs.Knowing.{much_entered}
@@ -173,7 +174,7 @@ module _ (z : Start) (e : EngineView) (w : World) (o p : Told) (t c : ℕ) (next
             0 < again → ForSomeAdded (seen z w p) (λ d. (points : Points) → ArePointsBelow (layout z) b times points → HasMoreThan 999999 ((counted z).enters b z.depth d points))
 
 -- The engine is cleared where more than a million contexts are known, and that is counted.
-module _ (z : Start) (D : Elements → (time space : ℕ) → Type 0) (e f : EngineView) (w : World) (c : ℕ) (standing : Standing z D e w c) (much : 1000000 < length e.known) where
+module _ (z : Start) (D : Elements → (time space : ℕ) → Type 0) (e f : EngineView) (w : World) (c : ℕ) (standing : Standing z D e w c) (much : most_known < length e.known) where
   pub cleared_standing : f ≡ record e { known = root ∷ []; stored = cleared e.stored; noted = record e.noted { sites = [] } } → IsSound f → Standing z D f w (suc c)
   cleared_standing is sound = record {
     is = is ∙ (λ i. record {

@@ -96,8 +96,8 @@ pub record HasCells (z : Start) (b : Elements) (time space : ℕ) (line : List �
   pub some : MatchBool goes_on ((j : ℕ) × (j < space) × (HasEnded (table_stream_at z.table j) b time → ⊥)) ((j : ℕ) → j < space → HasEnded (table_stream_at z.table j) b time)
   pub exact : IsTrue z.policy.empties → (j : ℕ) → j < space → IsOpen (table_stream_at z.table j) b time → IsSome (eqval (equations_of z.table) b z.depth time j)
 
--- The engine is cleared where more than a million contexts are known, and that is counted.
+-- The engine is cleared where more contexts are known than may be for a demand, and that is counted.
 abbrev pub ClearsMany : (old new : EngineView) → (cleared cleared_now : ℕ) → Type 0
 ClearsMany e f c d =
-    ((f ≡ e) × (d ≡ c) × (length e.known ≤ 1000000))
-    ⊎ ((1000000 < length e.known) × (f ≡ record e { known = root ∷ []; stored = cleared e.stored; noted = record e.noted { sites = [] } }) × IsSound f × (d ≡ c + 1))
+    ((f ≡ e) × (d ≡ c) × (length e.known ≤ demand.most_known))
+    ⊎ ((demand.most_known < length e.known) × (f ≡ record e { known = root ∷ []; stored = cleared e.stored; noted = record e.noted { sites = [] } }) × IsSound f × (d ≡ c + 1))

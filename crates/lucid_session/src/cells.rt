@@ -13,15 +13,15 @@ use lucid_retire::Retire;
 use lucid_schedule::Pick;
 use std::alloc::Global;
 
-// How many contexts may be known when a value is demanded, the empty one included.
-const MOST_TAGS: u64 = 1_000_000;
+// The most contexts that may be known when a value is demanded, the empty one included.
+const MOST_KNOWN: u64 = 1_000_000;
 
 /// Clears the engine where it knows too many contexts for a further demand, and counts that.
 pub(crate) fn clear_many<R: Retire, S: Pick>(engine: &mut Engine<R, S>, cleared: &mut u64)
     requires { cleared.old < 2 ^ 64 - 1 }
     ensures { ClearsMany engine.old engine.new cleared.old cleared.new }
 {
-    if engine.tags() > MOST_TAGS {
+    if engine.tags() > MOST_KNOWN {
         engine.clear();
         *cleared += 1;
     }

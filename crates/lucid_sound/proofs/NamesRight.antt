@@ -62,10 +62,8 @@ module _ (t : Table) where
 
   -- a name that is no call's may be referred to
   referable : (e : Entry) → ((b : ℕ) → e ≡ Called b → ⊥) → IsReferable e
-  referable (Plain a) other = tt
-  referable (Parameter i) other = tt
-  referable (Current a) other = tt
   referable (Called a) other = other a refl
+  referable _ other = tt
 
   pub leads-by : (s n l : ℕ) (x : NameRow) → slice_get t.names n ≡ Some x → ((b : ℕ) → x.kind ≡ Called b → ⊥) → IsRound t.scopes x.scope s × HasDepth t.scopes x.scope l → ReferenceLeads t s n l
   leads-by s n l x at other w = record { home = x.scope; entry = x.kind; named = at; referable = referable x.kind other; round = w.0; depth = w.1 }

@@ -19,10 +19,8 @@ use Rattle.lucid_tasks.proofs.Cases.{chosen, chosen_same, chosen_other, some_is}
 -- ---- lists of three
 
 pub three_at : (f : ℕ → PartState) (k : ℕ) → k < 3 → get_or (three_of f) k Idle ≡ f k
-three_at f zero h = refl
-three_at f (suc zero) h = refl
-three_at f (suc (suc zero)) h = refl
 three_at f (suc (suc (suc k))) h = absurd (omega (arith, h))
+three_at f _ h = refl
 
 three_same : (f g : ℕ → PartState) → ((k : ℕ) → k < 3 → g k ≡ f k) → three_of g ≡ three_of f
 three_same f g e =
@@ -334,10 +332,8 @@ module _ (rows : List Row) (values after : Values) (l : AreLaid rows values) (sa
   no_words = 0 ∷ 0 ∷ 0 ∷ []
 
   idle_at : (k : ℕ) → k < 3 → get_or no_words k 0 ≡ 0
-  idle_at zero h = refl
-  idle_at (suc zero) h = refl
-  idle_at (suc (suc zero)) h = refl
   idle_at (suc (suc (suc k))) h = absurd (omega (arith, h))
+  idle_at _ h = refl
 
   idle_state : (k : ℕ) → k < 3 → laid_state values.0 (length rows) row k ≡ Idle
   idle_state k h =
@@ -425,14 +421,11 @@ free_word zero (Some v) = refl
 free_word (suc a) o = sym (above_differs (suc a) 0 (omega arith))
 
 ready_words : (asked : List ℕ) (f : ℕ → Option Value) → length asked ≡ 3 → list_all is_free (three_of (λ k. state (named (get_or asked k 0)) (f k))) ≡ list_all (λ word. word == 0) asked
-ready_words [] f h = absurd (omega (arith, h))
-ready_words (a ∷ []) f h = absurd (omega (arith, h))
-ready_words (a ∷ b ∷ []) f h = absurd (omega (arith, h))
 ready_words (a ∷ b ∷ c ∷ []) f h =
     let zeroth = free_word a (f 0) in
     let first = free_word b (f 1) in
     let second = free_word c (f 2) in λ i. zeroth i && (first i && (second i && true))
-ready_words (a ∷ b ∷ c ∷ d ∷ rest) f h = absurd (omega (arith, h))
+ready_words _ f h = absurd (omega (arith, h))
 
 at_of : (rows : List Row) (slot : ℕ) (x : Row) → slot < length rows → x ≡ get_or rows slot x → slice_get rows slot ≡ Some x
 at_of [] slot x h is = absurd (omega (arith, h))

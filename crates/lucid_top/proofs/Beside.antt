@@ -45,18 +45,12 @@ module _ (p : PlainTree) (columns : List (List ℕ)) where
   pub names_refused : (s : Stop) → IsRefusalOf (RefusesNames p) s → IsRefusalOf (RefusesBeside p columns) s
   names_refused (stop.Refused why) h = inl h
   names_refused stop.NoMemory h = tt
-  names_refused stop.ReadFault h = absurd h
-  names_refused stop.WriteFault h = absurd h
-  names_refused (stop.TooDeep t l x f) h = absurd h
-  names_refused (stop.TooLarge k n) h = absurd h
+  names_refused _ h = absurd h
 
   pub columns_refused : (free : List (List ℕ)) (s : Stop) → HasNoFault p → HasInputs p free → IsRefusalOf (RefusesColumns p columns) s → IsRefusalOf (RefusesBeside p columns) s
   columns_refused free (stop.Refused why) none inputs h = inr (none, (free, inputs), h)
   columns_refused free stop.NoMemory none inputs h = tt
-  columns_refused free stop.ReadFault none inputs h = absurd h
-  columns_refused free stop.WriteFault none inputs h = absurd h
-  columns_refused free (stop.TooDeep t l x f) none inputs h = absurd h
-  columns_refused free (stop.TooLarge k n) none inputs h = absurd h
+  columns_refused free _ none inputs h = absurd h
 
   no_fault_told : (q : PlainTree) (why : Refusal) → HasNoFault q → RefusesNames q why → ⊥
   no_fault_told q why none r =
@@ -67,7 +61,4 @@ module _ (p : PlainTree) (columns : List (List ℕ)) where
   pub memory_alone : (q : PlainTree) (s : Stop) → HasNoFault q → IsRefusalOf (RefusesNames q) s → IsRefusalOf (RefusesBeside p columns) s
   memory_alone q (stop.Refused why) none h = absurd (no_fault_told q why none h)
   memory_alone q stop.NoMemory none h = tt
-  memory_alone q stop.ReadFault none h = absurd h
-  memory_alone q stop.WriteFault none h = absurd h
-  memory_alone q (stop.TooDeep t l x f) none h = absurd h
-  memory_alone q (stop.TooLarge k n) none h = absurd h
+  memory_alone q _ none h = absurd h

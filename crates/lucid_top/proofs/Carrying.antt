@@ -171,7 +171,4 @@ stopped_run prog r free stats fault.NoMemory s is h = ran_with prog r (Err s) (E
 stopped_run prog r free stats (fault.TooLarge k) (stop.TooLarge stream name) is h =
     ran_with prog r (Err (stop.TooLarge stream name)) (Err (fault.TooLarge k)) (ap (λ x. Some (Err (fault.TooLarge x))) is.0) h
 stopped_run prog r free stats (fault.TooLarge k) stop.NoMemory is h = ran_with prog r (Err stop.NoMemory) (Err fault.NoMemory) refl (want_of_memory prog r (fault.TooLarge k) h)
-stopped_run prog r free stats (fault.TooLarge k) (stop.Refused why) is h = absurd is
-stopped_run prog r free stats (fault.TooLarge k) stop.ReadFault is h = absurd is
-stopped_run prog r free stats (fault.TooLarge k) stop.WriteFault is h = absurd is
-stopped_run prog r free stats (fault.TooLarge k) (stop.TooDeep t l x f) is h = absurd is
+stopped_run prog r free stats (fault.TooLarge k) _ is h = absurd is

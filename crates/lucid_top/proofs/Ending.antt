@@ -116,9 +116,7 @@ stops_by Refused c w stop.ReadFault b refuses why_stops silent few =
     record { only = why_stops; how = inl (asks_of c w b, rests_of c w b silent few); few_places = few_places c w.source few }
 stops_by Refused c w stop.NoMemory b refuses why_stops silent few =
     record { only = tt; how = inl (tt, rests_of c w b silent few); few_places = few_places c w.source few }
-stops_by Refused c w stop.WriteFault b refuses why_stops silent few = absurd why_stops
-stops_by Refused c w (stop.TooDeep t l x f) b refuses why_stops silent few = absurd why_stops
-stops_by Refused c w (stop.TooLarge k n) b refuses why_stops silent few = absurd why_stops
+stops_by Refused c w _ b refuses why_stops silent few = absurd why_stops
 
 pub source_stops : (c : Call) (w : PlainWords) (s : Stop) → Begins c w → IsText w → IsSourceStop RefusesText w.source c.before c.after s → WritesNothing c
     → c.after.reached ≤ first_place w.source → Comes c (Err s)
@@ -142,11 +140,7 @@ pub as_text : (P Q : List ℕ → Type 0) (before after : Told) (o : Outcome) �
 as_text P Q before after (Ok done.Written) f h = (h.0, f h.0 h.1, h.2)
 as_text P Q before after (Err stop.WriteFault) f h = ((h.0.0, f h.0.0 h.0.1, h.0.2), h.1)
 as_text P Q before after (Err stop.NoMemory) f h = elim h [ inl silent ↦ inl silent | inr some ↦ inr (some.0, f some.0 some.1, some.2) ]
-as_text P Q before after (Ok (done.Ran summary stats)) f h = absurd h
-as_text P Q before after (Err (stop.Refused why)) f h = absurd h
-as_text P Q before after (Err stop.ReadFault) f h = absurd h
-as_text P Q before after (Err (stop.TooDeep t l x y)) f h = absurd h
-as_text P Q before after (Err (stop.TooLarge k n)) f h = absurd h
+as_text P Q before after _ f h = absurd h
 
 front_of_some : (P : List ℕ → Type 0) (before after : Told) → WritesSome P before after → WritesSomeFront P before after
 front_of_some P before after h = (h.0, h.1, whole_front h.0 before after h.2)
@@ -169,10 +163,7 @@ writes c w x (Err stop.NoMemory) b few h = record {
   few_places = few_places c w.source few;
 }
 writes c w x (Ok (done.Ran summary stats)) b few h = absurd h
-writes c w x (Err (stop.Refused why)) b few h = absurd h
-writes c w x (Err stop.ReadFault) b few h = absurd h
-writes c w x (Err (stop.TooDeep t l y f)) b few h = absurd h
-writes c w x (Err (stop.TooLarge k n)) b few h = absurd h
+writes c w x _ b few h = absurd h
 
 -- where something else than the canonical source is asked for, the names are looked at
 pub not_print : (w : PlainWords) (t : Task) → task_of w ≡ t → (t ≡ task.Print → ⊥) → task_of w ≢ task.Print
@@ -192,18 +183,11 @@ all_accepted source w p (Err e) spelt well few same none = tt
 pub names_stop : (source : PlainSource) (old new : World) (p : PlainTree) (s : Stop) → SpeltBySource source old p → IsWellMade p → IsRefusalOf (RefusesNames p) s → IsProgramStop source old new s
 names_stop source old new p (stop.Refused why) spelt well refused = inr (p, spelt, well, refused)
 names_stop source old new p stop.NoMemory spelt well refused = tt
-names_stop source old new p stop.ReadFault spelt well refused = absurd refused
-names_stop source old new p stop.WriteFault spelt well refused = absurd refused
-names_stop source old new p (stop.TooDeep t l x f) spelt well refused = absurd refused
-names_stop source old new p (stop.TooLarge k n) spelt well refused = absurd refused
+names_stop source old new p _ spelt well refused = absurd refused
 
 pub source_stop : (source : PlainSource) (old new : World) (s : Stop) → IsSourceStop RefusesText source old new s → IsProgramStop source old new s
 source_stop source old new (stop.Refused why) h = inl h
-source_stop source old new stop.NoMemory h = h
-source_stop source old new stop.ReadFault h = h
-source_stop source old new stop.WriteFault h = h
-source_stop source old new (stop.TooDeep t l x f) h = h
-source_stop source old new (stop.TooLarge k n) h = h
+source_stop source old new _ h = h
 
 names_refuse : (c : Call) (w : PlainWords) (p : PlainTree) (why : Refusal) → Begins c w → IsText w → task_of w ≢ task.Print → SpeltBySource w.source c.before p → IsWellMade p → RefusesNames p why
     → WritesNothing c → c.after.reached ≤ first_place w.source → Comes c (Err (stop.Refused why))
@@ -220,9 +204,7 @@ program_stops c w (stop.Refused why) b text other (inl h) silent few = source_st
 program_stops c w (stop.Refused why) b text other (inr names) silent few = names_refuse c w names.0 why b text other names.1 names.2 names.3 silent few
 program_stops c w stop.NoMemory b text other h silent few = source_stops c w stop.NoMemory b text h silent few
 program_stops c w stop.ReadFault b text other h silent few = source_stops c w stop.ReadFault b text h silent few
-program_stops c w stop.WriteFault b text other h silent few = absurd h
-program_stops c w (stop.TooDeep t l x f) b text other h silent few = absurd h
-program_stops c w (stop.TooLarge k n) b text other h silent few = absurd h
+program_stops c w _ b text other h silent few = absurd h
 
 -- the names of the program that is run or judged
 abbrev pub names_of : (c : Call) (w : PlainWords) (p : PlainTree) (free : List (List ℕ)) → Begins c w → IsText w → task_of w ≢ task.Print → IsAccepted w.source c.before p → HasInputs p free
@@ -270,9 +252,7 @@ columns_stops c w (stop.Refused why) b text is (inl h) silent few = program_stop
 columns_stops c w (stop.Refused why) b text is (inr h) silent few = missing_stops c w h.0 h.2.0 why b text is h.1 h.2.1 h.3 silent few
 columns_stops c w stop.NoMemory b text is h silent few = program_stops c w stop.NoMemory b text (columns_not_print w is) h silent few
 columns_stops c w stop.ReadFault b text is h silent few = program_stops c w stop.ReadFault b text (columns_not_print w is) h silent few
-columns_stops c w stop.WriteFault b text is h silent few = absurd h
-columns_stops c w (stop.TooDeep t l x f) b text is h silent few = absurd h
-columns_stops c w (stop.TooLarge k n) b text is h silent few = absurd h
+columns_stops c w _ b text is h silent few = absurd h
 
 -- the tree is accepted, and its columns are beside each other
 pub all_accepted_beside : (source : PlainSource) (w : World) (p : PlainTree) (columns : List (List ℕ)) (r : Result Scoped Stop) → SpeltBySource source w p → IsWellMade p → length (places p) ≤ 1048576
@@ -287,18 +267,11 @@ beside_stop source old new p columns (stop.Refused why) spelt well few (inl name
 beside_stop source old new p columns (stop.Refused why) spelt well few (inr h) =
     inr (p, record { spelt = spelt; no_fault = h.0; well_made = well; few = few }, h.1, h.2)
 beside_stop source old new p columns stop.NoMemory spelt well few refused = tt
-beside_stop source old new p columns stop.ReadFault spelt well few refused = absurd refused
-beside_stop source old new p columns stop.WriteFault spelt well few refused = absurd refused
-beside_stop source old new p columns (stop.TooDeep t l x f) spelt well few refused = absurd refused
-beside_stop source old new p columns (stop.TooLarge k n) spelt well few refused = absurd refused
+beside_stop source old new p columns _ spelt well few refused = absurd refused
 
 pub source_columns_stop : (source : PlainSource) (columns : List (List ℕ)) (old new : World) (s : Stop) → IsSourceStop RefusesText source old new s → IsColumnsStop source columns old new s
 source_columns_stop source columns old new (stop.Refused why) h = inl (inl h)
-source_columns_stop source columns old new stop.NoMemory h = h
-source_columns_stop source columns old new stop.ReadFault h = h
-source_columns_stop source columns old new stop.WriteFault h = h
-source_columns_stop source columns old new (stop.TooDeep t l x f) h = h
-source_columns_stop source columns old new (stop.TooLarge k n) h = h
+source_columns_stop source columns old new _ h = h
 
 -- the judgment stops the call
 pub judging_stops : (c : Call) (w : PlainWords) (p : PlainTree) (free : List (List ℕ)) (e : JudgeRefusal) → Begins c w → IsText w → task_of w ≡ task.Cycles → IsAccepted w.source c.before p
@@ -358,10 +331,7 @@ given_stops c w t v (stop.Refused why) b refused silent few =
     subst (λ (u : PlainWords). RefusesGiven (inputs_in b.program) u.given why) (sym same) (subst (λ names. RefusesGiven names w.given why) (sym b.inputs) refused) in
     record { only = (by_given b.program is here, silent); how = inl ((by_given b.program is here, b.made), rests_of c w (begins_of c w t v b) silent few); few_places = few_places c w.source few }
 given_stops c w t v stop.NoMemory b refused silent few = memory_stops c w (begins_of c w t v b) silent few
-given_stops c w t v stop.ReadFault b refused silent few = absurd refused
-given_stops c w t v stop.WriteFault b refused silent few = absurd refused
-given_stops c w t v (stop.TooDeep d l x f) b refused silent few = absurd refused
-given_stops c w t v (stop.TooLarge k n) b refused silent few = absurd refused
+given_stops c w t v _ b refused silent few = absurd refused
 
 -- the free names of a tree that was resolved
 pub inputs_of : (q : PlainTree) (names : List (List ℕ)) (bindings : ℕ → Option Binding) → ∥ IsResolved q names bindings ∥₁ → HasInputs q names

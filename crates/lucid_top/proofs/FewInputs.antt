@@ -8,9 +8,9 @@ use Rattle.std.proofs.lemmas.Option.{slice_get_within}
 use Rattle.std.proofs.lemmas.List.Sums.{sum_by-cons, sum_by-append}
 use Rattle.std.proofs.lemmas.List.Sorted.{sum_by-IsPermutation}
 use Rattle.lucid_tree.specs.Tree.{PlainTree, form, name, call, block, PlainTrees, no_trees, tree, PlainDefs, no_defs, defines, defines_function, defines_current}
-use Rattle.lucid_tree.specs.Env.{Found, absent, plain_def, function_def, current_def, definition, same_name}
+use Rattle.lucid_tree.specs.Env.{Found, plain_def, definition, same_name}
 use Rattle.lucid_tree.specs.WellMade.{places, places_in, places_in_defs}
-use Rattle.lucid_scope.specs.Scope.{Static, outermost, in_block, in_function, Meaning, free, plain_name, parameter, current_name, function, meaning, defined_in}
+use Rattle.lucid_scope.specs.Scope.{Static, outermost, in_block, in_function, Meaning, free, meaning, defined_in}
 use Rattle.lucid_scope.specs.Sites.{Site, named, called, again, sites, sites_in, outside_sites, inside_sites, repeats, again_if, also, no_names, Earlier}
 use Rattle.lucid_scope.specs.Bindings.{all_sites, with_input, with_site, AreInputs}
 use Rattle.lucid_columns.specs.Columns.{is_plain, over_space, with_columns, AreColumns}
@@ -19,10 +19,7 @@ use Rattle.lucid_top.specs.Judged.{HasInputs}
 -- one for a free name, and nothing for another
 abbrev free_one : Meaning → ℕ
 free_one free = 1
-free_one (plain_name d e k) = 0
-free_one (parameter d i at k) = 0
-free_one (current_name d e k o) = 0
-free_one (function d ns ats e k) = 0
+free_one _ = 0
 
 abbrev free_at : Site → ℕ
 free_at (named at x k) = free_one (meaning x k)
@@ -36,10 +33,7 @@ longer false is more = omega (arith, length-append is more)
 
 input_adds : (is : List (List ℕ)) (x : List ℕ) (m : Meaning) → length (with_input is x m) ≤ length is + free_one m
 input_adds is x free = longer (list_any (same_name x) is) is (x ∷ [])
-input_adds is x (plain_name d e k) = omega arith
-input_adds is x (parameter d i at k) = omega arith
-input_adds is x (current_name d e k o) = omega arith
-input_adds is x (function d ns ats e k) = omega arith
+input_adds is x _ = omega arith
 
 site_adds : (is : List (List ℕ)) (s : Site) → length (with_site is s) ≤ length is + free_at s
 site_adds is (named at x k) = input_adds is x (meaning x k)
@@ -56,10 +50,7 @@ few_names e names a = omega (arith, ap length a.names, all_add a.order [], sum_b
 -- at most one for each site
 meaning_ones : (m : Meaning) → free_one m ≤ 1
 meaning_ones free = omega arith
-meaning_ones (plain_name d e k) = omega arith
-meaning_ones (parameter d i at k) = omega arith
-meaning_ones (current_name d e k o) = omega arith
-meaning_ones (function d ns ats e k) = omega arith
+meaning_ones _ = omega arith
 
 site_ones : (s : Site) → free_at s ≤ 1
 site_ones (named at x k) = meaning_ones (meaning x k)
@@ -144,10 +135,8 @@ mutual
 
 -- a plain name isn't free
 not_free : (found : Found) (k o : Static) (m : Meaning) → IsTrue (is_plain found) → free_one (defined_in found k o m) ≡ 0
-not_free absent k o m is = absurd (true≢false (sym is))
 not_free (plain_def at e) k o m is = refl
-not_free (function_def at ns ats e) k o m is = absurd (true≢false (sym is))
-not_free (current_def at e) k o m is = absurd (true≢false (sym is))
+not_free _ k o m is = absurd (true≢false (sym is))
 
 columns_not_free : (ds : PlainDefs) (base j : ℕ) (n : List ℕ) (ns : List (List ℕ)) → ((i : ℕ) (m : List ℕ) → slice_get (n ∷ ns) i ≡ Some m → IsTrue (is_plain (definition m ds)))
     → sum_by free_at (sites (in_block ds outermost) (over_space base j n ns)) ≡ 0

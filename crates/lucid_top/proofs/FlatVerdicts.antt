@@ -23,20 +23,12 @@ no_text bytes line t wrong x = wrong.no_text (flat_lines t) (t, x.has, refl) x.t
 
 -- a row that is told is the first wrong one, and the table isn't sound
 wrong_row : (t : Table) (e : BuildRefusal) (v : Refusal) → build_stop e ≡ stop.Refused v → IsRefused t e → IsFirstWrongRow t e
-wrong_row t (build.Scope at) v is r = r.0
-wrong_row t (build.Node at) v is r = r.0
-wrong_row t (build.Name at) v is r = r.0
-wrong_row t (build.Place at) v is r = r.0
-wrong_row t build.Root v is r = r.0
 wrong_row t build.NoMemory v is r = absurd (cc is)
+wrong_row t _ v is r = r.0
 
 not_sound : (t : Table) (e : BuildRefusal) (v : Refusal) → build_stop e ≡ stop.Refused v → IsRefused t e → IsSound t → ⊥
-not_sound t (build.Scope at) v is r = r.1
-not_sound t (build.Node at) v is r = r.1
-not_sound t (build.Name at) v is r = r.1
-not_sound t (build.Place at) v is r = r.1
-not_sound t build.Root v is r = r.1
 not_sound t build.NoMemory v is r = absurd (cc is)
+not_sound t _ v is r = r.1
 
 same_row : (t : Table) (e f : BuildRefusal) (v w : Refusal) → build_stop e ≡ stop.Refused v → build_stop f ≡ stop.Refused w → IsRefused t e → IsRefused t f → v ≡ w
 same_row t e f v w is js r s =

@@ -1,5 +1,5 @@
 -- From how a call comes to its outcome to the clauses of the command.
-use Rattle.std.proofs.Common.{◌≡◌, ℕ, ◌≤◌, Bool, true, false, cond, nat_lt, List, [], length, Some, None, Ok, Err, ◌⊎◌, inl, inr, refl, ap, subst, arith}
+use Rattle.std.proofs.Common.{◌≡◌, ℕ, ◌≤◌, Bool, true, false, cond, nat_lt, List, [], length, Some, None, Err, ◌⊎◌, inl, inr, refl, ap, subst, arith}
 use Rattle.std.proofs.lemmas.Bool.{ltb-true}
 use Rattle.lucid_ports.specs.World.{Contents}
 use Rattle.lucid_ports.specs.declared.run.RunFault.TheVariants as fault
@@ -31,12 +31,9 @@ stopped_by_words : (c : Call) (o : Outcome) (why : Refusal) → (Asks c → ⊥)
 stopped_by_words c (Err (stop.Refused v)) why asks one (inl early) = inl (ap (λ x. Err (stop.Refused x)) (one v early.0.0))
 stopped_by_words c (Err stop.ReadFault) why asks one (inl early) = absurd (asks early.0)
 stopped_by_words c (Err stop.NoMemory) why asks one (inl early) = inr refl
-stopped_by_words c (Err stop.WriteFault) why asks one (inl early) = absurd early.0
-stopped_by_words c (Err (stop.TooDeep t l x f)) why asks one (inl early) = absurd early.0
-stopped_by_words c (Err (stop.TooLarge k n)) why asks one (inl early) = absurd early.0
-stopped_by_words c (Ok done) why asks one (inl early) = absurd early.0
 stopped_by_words c o why asks one (inr (inl run)) = absurd (asks (asks_for run.0.program))
 stopped_by_words c o why asks one (inr (inr writing)) = absurd (asks writing.2.0)
+stopped_by_words c _ why asks one (inl early) = absurd early.0
 
 -- where nothing of an input was consumed, nothing is
 rested : (c : Call) (r : IsRun c) → Rests c → (q : ℕ) → first_place (run_of r).words.source ≤ q → (b : Bool) → nat_lt q c.after.reached ≡ b → (old new : Contents)
@@ -81,13 +78,10 @@ module _ (l : OneVerdict) (c : Call) (told : TellsSource c) where
   first (Err (stop.Refused v)) why refused no_read (inl early) = inl (ap (λ x. Err (stop.Refused x)) (one_refusal l c told v why early.0.0 early.0.1 refused))
   first (Err stop.ReadFault) why refused no_read (inl early) = absurd (no_read refl)
   first (Err stop.NoMemory) why refused no_read (inl early) = inr refl
-  first (Err stop.WriteFault) why refused no_read (inl early) = absurd early.0
-  first (Err (stop.TooDeep t d x f)) why refused no_read (inl early) = absurd early.0
-  first (Err (stop.TooLarge k n)) why refused no_read (inl early) = absurd early.0
-  first (Ok done) why refused no_read (inl early) = absurd early.0
   first o why refused no_read (inr (inl run)) =
       absurd (run_not_refused l c told run.0 why refused (λ q asked. same_inputs l c told run.0.program q run.0.task asked run.1))
   first o why refused no_read (inr (inr writing)) = absurd (text_not_refused l c told writing.0 why refused)
+  first _ why refused no_read (inl early) = absurd early.0
 
   refused_silent : (o : Outcome) (why : Refusal) → Refuses c why → How c o → WritesNothing c
   refused_silent o why refused (inl early) = early.1.silent
@@ -103,24 +97,18 @@ module _ (l : OneVerdict) (c : Call) (told : TellsSource c) where
   runs_so r (Err stop.NoMemory) only (inl early) =
       let view = view_of c (run_of r) in
       ran_with (run_of r).program view (Err stop.NoMemory) (Err fault.NoMemory) refl (never_made (run_of r).program view early.1.silent (consumes_nothing c r early.1))
-  runs_so r (Err stop.WriteFault) only (inl early) = absurd early.0
-  runs_so r (Err (stop.TooDeep t d x f)) only (inl early) = absurd early.0
-  runs_so r (Err (stop.TooLarge k n)) only (inl early) = absurd early.0
-  runs_so r (Ok done) only (inl early) = absurd early.0
   runs_so r o only (inr (inl run)) = subst (λ p. RanSo p.program (view_of c p) o) (same_run l c told r run.0 run.1) run.2
   runs_so r o only (inr (inr writing)) = absurd (run_or_text r writing.0)
+  runs_so r _ only (inl early) = absurd early.0
 
   writes_so : (x : IsWriting c) (o : Outcome) → ComesOnly c o → How c o → Writes c o (IsTextFor x)
   writes_so x (Err (stop.Refused v)) only (inl early) = absurd (text_not_refused l c told x v early.0.0)
   writes_so x (Err stop.ReadFault) only (inl early) =
       record { front = inl early.1.silent; whole = λ e. absurd (cc e); complete = λ reads writes. absurd (reads only) }
   writes_so x (Err stop.NoMemory) only (inl early) = record { front = inl early.1.silent; whole = λ e. absurd (cc e); complete = λ reads writes. inr refl }
-  writes_so x (Err stop.WriteFault) only (inl early) = absurd early.0
-  writes_so x (Err (stop.TooDeep t d y f)) only (inl early) = absurd early.0
-  writes_so x (Err (stop.TooLarge k n)) only (inl early) = absurd early.0
-  writes_so x (Ok done) only (inl early) = absurd early.0
   writes_so x o only (inr (inl run)) = absurd (run_or_text run.0 x)
   writes_so x o only (inr (inr writing)) = as_text c o (IsTextFor writing.0) (IsTextFor x) (same_text l c told writing.0 x) writing.1
+  writes_so x _ only (inl early) = absurd early.0
 
   refused_reaches : (o : Outcome) (a : Asks c) (why : Refusal) → Refuses c why → How c o → c.after.reached ≤ first_place a.words.source
   refused_reaches o a why refused (inl early) =
@@ -150,12 +138,9 @@ module _ (l : OneVerdict) (c : Call) (told : TellsSource c) where
   evaluated_reaches r (Err (stop.Refused v)) is (inl early) = absurd is
   evaluated_reaches r (Err stop.ReadFault) is (inl early) = absurd is
   evaluated_reaches r (Err stop.NoMemory) is (inl early) = absurd is
-  evaluated_reaches r (Err stop.WriteFault) is (inl early) = absurd early.0
-  evaluated_reaches r (Err (stop.TooDeep t d x f)) is (inl early) = absurd early.0
-  evaluated_reaches r (Err (stop.TooLarge k n)) is (inl early) = absurd early.0
-  evaluated_reaches r (Ok done) is (inl early) = absurd early.0
   evaluated_reaches r o is (inr (inl run)) = subst (λ p. c.after.reached ≡ run_places p) (same_run l c told r run.0 run.1) run.3
   evaluated_reaches r o is (inr (inr writing)) = absurd (run_or_text r writing.0)
+  evaluated_reaches r _ is (inl early) = absurd early.0
 
 -- a read fault is counted
 counted : (c : Call) (o : Outcome) → ComesOnly c o → (ReadFails c → ⊥) → o ≡ Err stop.ReadFault → ⊥

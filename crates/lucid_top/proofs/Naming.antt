@@ -1,12 +1,12 @@
 -- The words NAME=FILE, as the code has them.
-use Rattle.std.proofs.Common.{◌≡◌, ℕ, ◌+◌, ◌<◌, Bool, true, false, List, length, map, take, drop, get_or, Some, None, refl, ap, sym, subst, ◌∙◌, add-one, below_more}
+use Rattle.std.proofs.Common.{◌≡◌, ℕ, ◌+◌, ◌<◌, true, false, List, length, map, take, drop, get_or, Some, None, refl, ap, sym, subst, ◌∙◌, add-one, below_more}
 use Rattle.std.proofs.Math.Seq.{drop-cons}
 use Rattle.std.specs.String.{string_bytes}
 use Rattle.std.specs.Prelude.{cond, slice_get, option_map, option_and_then}
 use Rattle.std.proofs.lemmas.Option.{slice_get-map, slice_get-get_or}
 use Rattle.std.proofs.lemmas.List.{take-map}
 use Rattle.lucid_tree.specs.Env.{same_name}
-use Rattle.lucid_scope.proofs.Names.{same_one, same_itself}
+use Rattle.lucid_scope.proofs.Names.{not_same, same_itself}
 use Rattle.lucid_words.specs.declared.Given.{Given as Word}
 use Rattle.lucid_words.specs.Plain.{plain_given}
 use Rattle.lucid_top.specs.declared.stop.Stop.{Stop}
@@ -16,13 +16,6 @@ use Rattle.lucid_top.specs.Files.{Given, file_given, word_refusal, refusal_at, A
 
 pub same_if : (x y : List ℕ) → x ≡ y → same_name x y ≡ true
 same_if x y e = subst (λ z. same_name x z ≡ true) e (same_itself x)
-
-not_same : (x y : List ℕ) (b : Bool) → same_name x y ≡ b → (x ≡ y → ⊥) → b ≡ false
-not_same x y true is differ = absurd (differ (same_one x y is))
-not_same x y false is differ = refl
-
-pub not_same_if : (x y : List ℕ) → (x ≡ y → ⊥) → same_name x y ≡ false
-not_same_if x y differ = not_same x y (same_name x y) refl differ
 
 -- the file given by the words from one on, by the word there
 given_from : (ws : List Word) (i : ℕ) (d : Word) (n : List ℕ) → i < length ws
@@ -40,7 +33,7 @@ given_here ws i d n h same so_far =
 pub given_later : (ws : List Word) (i : ℕ) (d : Word) (n : List ℕ) → i < length ws → (n ≡ (get_or ws i d).name → ⊥)
     → file_given (map plain_given (drop i ws)) n ≡ file_given (map plain_given ws) n → file_given (map plain_given (drop (i + 1) ws)) n ≡ file_given (map plain_given ws) n
 given_later ws i d n h differ so_far =
-    let no : same_name n (get_or ws i d).name ≡ false = not_same_if n (get_or ws i d).name differ in
+    let no : same_name n (get_or ws i d).name ≡ false = not_same n (get_or ws i d).name differ in
     let step = given_from ws i d n h in
     sym (ap (λ b. cond b (Some (string_bytes (get_or ws i d).file)) (file_given (map plain_given (drop (i + 1) ws)) n)) no) ∙ sym step ∙ so_far
 
@@ -58,10 +51,7 @@ pub refused_here : (free : List (List ℕ)) (ws ys : List Word) (k : ℕ) (word 
     → IsRefusalOf (RefusedFirst free (map plain_given ws)) s
 refused_here free ws ys k word (stop.Refused why) lt is front right refused = record { number = k; right = right; is = refusal_here free ws ys k word lt is front ∙ refused }
 refused_here free ws ys k word stop.NoMemory lt is front right refused = tt
-refused_here free ws ys k word stop.ReadFault lt is front right refused = absurd refused
-refused_here free ws ys k word stop.WriteFault lt is front right refused = absurd refused
-refused_here free ws ys k word (stop.TooDeep t l x f) lt is front right refused = absurd refused
-refused_here free ws ys k word (stop.TooLarge j n) lt is front right refused = absurd refused
+refused_here free ws ys k word _ lt is front right refused = absurd refused
 
 -- one word more is right
 pub right_more : (free : List (List ℕ)) (ws ys : List Word) (k : ℕ) (word : Word) → k < length ws → word ≡ get_or ws k word → ys ≡ take k ws
@@ -73,7 +63,4 @@ right_more free ws ys k word lt is front right here =
 pub given_refused : (free : List (List ℕ)) (given : Given) (s : Stop) → IsRefusalOf (RefusedFirst free given) s → IsRefusalOf (RefusesGiven free given) s
 given_refused free given (stop.Refused why) refused = by_word refused
 given_refused free given stop.NoMemory refused = tt
-given_refused free given stop.ReadFault refused = absurd refused
-given_refused free given stop.WriteFault refused = absurd refused
-given_refused free given (stop.TooDeep t l x f) refused = absurd refused
-given_refused free given (stop.TooLarge j n) refused = absurd refused
+given_refused free given _ refused = absurd refused

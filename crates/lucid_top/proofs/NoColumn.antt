@@ -45,7 +45,4 @@ module _ (p : PlainTree) (columns : List (List ℕ)) where
   pub missing_stops : (k : ℕ) (s : Stop) → IsFirstMissing p columns k → IsRefusalOf (IsMissing columns k) s → IsRefusalOf (RefusesColumns p columns) s
   missing_stops k (stop.Refused why) first told = told_missing k why first told
   missing_stops k stop.NoMemory first told = tt
-  missing_stops k stop.ReadFault first told = absurd told
-  missing_stops k stop.WriteFault first told = absurd told
-  missing_stops k (stop.TooDeep t l x f) first told = absurd told
-  missing_stops k (stop.TooLarge i n) first told = absurd told
+  missing_stops k _ first told = absurd told

@@ -80,10 +80,7 @@ refused_stop : (Refused : List ℕ → Refusal → Type 0) (most : ℕ) → ((so
     → (source : PlainSource) (old new : World) (bytes : List ℕ) (s : Stop) → IsSourceFront most source old bytes → IsRefusalOf (Refused bytes) s → IsSourceStop Refused source old new s
 refused_stop Refused most carry source old new bytes (stop.Refused why) read refused = with_source most source old bytes (λ b. Refused b why) (λ held h. carry held why h) read refused
 refused_stop Refused most carry source old new bytes stop.NoMemory read refused = tt
-refused_stop Refused most carry source old new bytes stop.ReadFault read refused = absurd refused
-refused_stop Refused most carry source old new bytes stop.WriteFault read refused = absurd refused
-refused_stop Refused most carry source old new bytes (stop.TooDeep t l c f) read refused = absurd refused
-refused_stop Refused most carry source old new bytes (stop.TooLarge k n) read refused = absurd refused
+refused_stop Refused most carry source old new bytes _ read refused = absurd refused
 
 pub text_stop : (source : PlainSource) (old new : World) (bytes : List ℕ) (s : Stop) → IsSourceFront (most_source_bytes + 1) source old bytes → IsRefusalOf (RefusesText bytes) s
     → IsSourceStop RefusesText source old new s
@@ -95,9 +92,6 @@ flat_stop source old new bytes s read refused = refused_stop RefusesFlat (most_f
 
 -- a place can't be read
 pub read_stops : (Refused : List ℕ → Refusal → Type 0) (source : PlainSource) (old new : World) (s : Stop) → IsReadStop old new s → IsSourceStop Refused source old new s
-read_stops Refused source old new (stop.Refused why) h = absurd h
 read_stops Refused source old new stop.NoMemory h = h
 read_stops Refused source old new stop.ReadFault h = h
-read_stops Refused source old new stop.WriteFault h = absurd h
-read_stops Refused source old new (stop.TooDeep t l c f) h = absurd h
-read_stops Refused source old new (stop.TooLarge k n) h = absurd h
+read_stops Refused source old new _ h = absurd h

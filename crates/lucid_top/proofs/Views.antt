@@ -19,28 +19,17 @@ use Rattle.lucid_top.specs.Runs.{viewed, most_input_bytes, run_result, RanSo}
 
 -- what is said of the input that is too large, of the time that is too deep and of clearings, weakened
 large_weaker : (result : Result Summary RunFault) (P Q : ℕ → Type 0) → ((k : ℕ) → P k → Q k) → IfErr result (λ e. OnTooLarge e P) → IfErr result (λ e. OnTooLarge e Q)
-large_weaker (Ok s) P Q h x = tt
-large_weaker (Err (fault.TooDeep t l c)) P Q h x = tt
-large_weaker (Err fault.ReadFault) P Q h x = tt
-large_weaker (Err fault.WriteFault) P Q h x = tt
 large_weaker (Err (fault.TooLarge k)) P Q h x = h k x
-large_weaker (Err fault.NoMemory) P Q h x = tt
+large_weaker _ P Q h x = tt
 
 deep_weaker : (result : Result Summary RunFault) (P Q : ℕ → Type 0) → ((k : ℕ) → P k → Q k) → IfErr result (λ e. OnTooDeep e P) → IfErr result (λ e. OnTooDeep e Q)
-deep_weaker (Ok s) P Q h x = tt
 deep_weaker (Err (fault.TooDeep t l c)) P Q h x = h t x
-deep_weaker (Err fault.ReadFault) P Q h x = tt
-deep_weaker (Err fault.WriteFault) P Q h x = tt
-deep_weaker (Err (fault.TooLarge k)) P Q h x = tt
-deep_weaker (Err fault.NoMemory) P Q h x = tt
+deep_weaker _ P Q h x = tt
 
 clearings_weaker : (result : Result Summary RunFault) (P Q : ℕ → ℕ → Type 0) → ((t c : ℕ) → P t c → Q t c) → OnClearings result P → OnClearings result Q
 clearings_weaker (Ok s) P Q h x = h _ _ x
 clearings_weaker (Err (fault.TooDeep t l c)) P Q h x = h _ _ x
-clearings_weaker (Err fault.ReadFault) P Q h x = tt
-clearings_weaker (Err fault.WriteFault) P Q h x = tt
-clearings_weaker (Err (fault.TooLarge k)) P Q h x = tt
-clearings_weaker (Err fault.NoMemory) P Q h x = tt
+clearings_weaker _ P Q h x = tt
 
 ok_weaker : (result : Result Summary RunFault) (P Q : Summary → Type 0) → ((s : Summary) → P s → Q s) → IfOk result P → IfOk result Q
 ok_weaker (Ok s) P Q h x = h s x

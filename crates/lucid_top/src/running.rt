@@ -1,6 +1,7 @@
 //! Running a program.
 ghost use Rattle.std.specs.Prelude.{◌≡◌, ◌≢◌, ◌≤◌, ◌<◌, ◌⊎◌, ℕ, AllPairs, length, IfOk};
 ghost use Rattle.lucid_tree.specs.Members.{In};
+ghost use Rattle.lucid_ports.specs.Limits.{most_asked};
 ghost use Rattle.lucid_ports.specs.World.{World};
 ghost use Rattle.lucid_equations.specs.Programs.{table_of};
 ghost use Rattle.lucid_words.specs.Asked.{plain_words};
@@ -37,7 +38,7 @@ const TURNS_BETWEEN_SWEEPS: u32 = 1000;
 
 // The policy that the words ask for.
 fn policy_of(alloc: Global, words: &Words) -> Result<Policy, AllocError>
-    requires { IsFromTo 1 1000000 words.now.room }
+    requires { IsFromTo 1 most_asked words.now.room }
     ensures asked { IfOk result (λ policy. policy ≡ policy_asked words.now.policy words.now.age words.now.room) }
     ensures named { IfOk result (λ policy. record { keeps = keeps_all policy; empties = empties_all policy; room = most_held policy } ≡ policy_named words.now.policy words.now.age words.now.room) }
 {
@@ -138,7 +139,7 @@ pub fn run_program<P: Places, K: Sink>(
     places: &mut P,
     out: &mut K,
 ) -> Result<Done, Stop>
-    requires room { IsFromTo 1 1000000 words.now.room }
+    requires room { IsFromTo 1 most_asked words.now.room }
     requires columns { length (plain_words words.now).columns ≤ 16 }
     requires names { names.now ≡ (table_of program).inputs }
     requires count { length numbers.items ≡ length names.now }

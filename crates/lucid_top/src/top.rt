@@ -10,6 +10,7 @@ ghost use Rattle.lucid_top.specs.Call.{call, told};
 ghost use Rattle.lucid_top.specs.Tasks.{task_of, form_of, is_built};
 ghost use Rattle.lucid_top.specs.Runs.{first_place};
 ghost use Rattle.lucid_scope.specs.Scoped.{scoped_tree, scoped_inputs};
+ghost use Rattle.lucid_ports.specs.Limits.{most_asked};
 ghost use Rattle.lucid_ports.specs.World.{World};
 ghost use Rattle.lucid_equations.specs.Programs.{table_of};
 ghost use Rattle.lucid_top.specs.Judged.{RefusesText, AreResolved};
@@ -127,7 +128,7 @@ fn run_inputs<P: Places, K: Sink>(
     places: &mut P,
     out: &mut K,
 ) -> Result<Done, Stop>
-    requires room { IsFromTo 1 1000000 words.now.room }
+    requires room { IsFromTo 1 most_asked words.now.room }
     requires columns { length (plain_words words.now).columns ≤ 16 }
     requires names { names.now ≡ (table_of program).inputs }
     requires few { length names.now ≤ most_source_bytes }
@@ -153,7 +154,7 @@ fn run_tree<P: Places, K: Sink>(
     out: &mut K,
 ) -> Result<Done, Stop>
     requires made { MadeIsFromTo 1 10000 words.now.source }
-    requires room { IsFromTo 1 1000000 words.now.room }
+    requires room { IsFromTo 1 most_asked words.now.room }
     requires task { task_of (plain_words words.now) ≡ Task.Run }
     requires form { form_of (plain_words words.now) ≢ Form.Flat }
     requires built { is_built (task_of (plain_words words.now)) (form_of (plain_words words.now)) ≡ true }
@@ -178,7 +179,7 @@ fn columns_task<P: Places, K: Sink>(
     out: &mut K,
 ) -> Result<Done, Stop>
     requires made { MadeIsFromTo 1 10000 words.now.source }
-    requires room { IsFromTo 1 1000000 words.now.room }
+    requires room { IsFromTo 1 most_asked words.now.room }
     requires columns { length (plain_words words.now).columns ≤ 16 }
     requires task { task_of (plain_words words.now) ≡ Task.Columns }
     requires built { is_built (task_of (plain_words words.now)) (form_of (plain_words words.now)) ≡ true }
@@ -203,7 +204,7 @@ fn run_table<P: Places, K: Sink>(
     out: &mut K,
 ) -> Result<Done, Stop>
     requires made { MadeIsFromTo 1 10000 words.now.source }
-    requires room { IsFromTo 1 1000000 words.now.room }
+    requires room { IsFromTo 1 most_asked words.now.room }
     requires task { task_of (plain_words words.now) ≡ Task.Run }
     requires form { form_of (plain_words words.now) ≡ Form.Flat }
     requires built { is_built (task_of (plain_words words.now)) (form_of (plain_words words.now)) ≡ true }
@@ -226,7 +227,7 @@ fn run_task<P: Places, K: Sink>(
     out: &mut K,
 ) -> Result<Done, Stop>
     requires made { MadeIsFromTo 1 10000 words.now.source }
-    requires room { IsFromTo 1 1000000 words.now.room }
+    requires room { IsFromTo 1 most_asked words.now.room }
     requires task { task_of (plain_words words.now) ≡ Task.Run }
     requires built { is_built (task_of (plain_words words.now)) (form_of (plain_words words.now)) ≡ true }
     requires none { (P.world places.old).reached ≡ 0 }

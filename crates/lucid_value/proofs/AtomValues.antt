@@ -194,13 +194,10 @@ unfolding atom_value
 atom_read bs v (denotes_number [] h lt) a w = cc
 atom_read bs v (denotes_number (d ∷ ds) h lt) a w = number_read d ds h lt
 atom_read bs v (denotes_minus ds h le) a w = minus_read ds h le
-atom_read bs v denotes_true a w = refl
-atom_read bs v denotes_false a w = refl
 atom_read bs v (denotes_word bs' h) a w = word_read bs' h (lt-ltb _ _ (omega arith))
 atom_read bs v (denotes_text bs' h) a w = cc
 atom_read bs v (denotes_list bs' vs d) a w = cc
-atom_read bs v denotes_eod a w = refl
-atom_read bs v denotes_fault a w = refl
+atom_read bs v _ a w = refl
 
 -- all its bytes are those of atoms
 or_left : (a b : Bool) → a ≡ true → (a || b) ≡ true
@@ -229,10 +226,7 @@ word_atoms (b ∷ bs) h =
 pub atom_bytes : (bs : List ℕ) (v : PlainValue) → Denotes bs v → is_atomic v ≡ true → list_all is_atom_byte bs ≡ true
 atom_bytes bs v (denotes_number ds h lt) a = all_atoms is_ascii_digit digit_atom ds (number_digits ds h)
 atom_bytes bs v (denotes_minus ds h le) a = all_atoms is_ascii_digit digit_atom ds (number_digits ds h)
-atom_bytes bs v denotes_true a = refl
-atom_bytes bs v denotes_false a = refl
 atom_bytes bs v (denotes_word bs' h) a = word_atoms bs' (and_parts (is_wordlike bs') (not (spells_constant bs')) h).0
 atom_bytes bs v (denotes_text bs' h) a = cc
 atom_bytes bs v (denotes_list bs' vs d) a = cc
-atom_bytes bs v denotes_eod a = refl
-atom_bytes bs v denotes_fault a = refl
+atom_bytes bs v _ a = refl

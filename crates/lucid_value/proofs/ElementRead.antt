@@ -13,7 +13,7 @@ use Rattle.lucid_value.specs.Laws.{ElementIs, OneElement}
 use Rattle.lucid_value.specs.Elements.{last_quote_off, quotes_off, whole_list, value_by_kind, if_within_limits, value_read, trimmed, line_value_of, element_of_line, element}
 use Rattle.lucid_value.specs.ListScan.{State, state, start, runs, opened, is_atom_byte}
 use Rattle.lucid_value.specs.Trimming.{after_blanks}
-use Rattle.lucid_value.specs.declared.list_scan.Focus.TheVariants.{Ready, Full, Atom, Quoted, Opening, Closing, Done}
+use Rattle.lucid_value.specs.declared.list_scan.Focus.TheVariants.{Done}
 use Rattle.lucid_value.proofs.AtomValues.{atom_read, atom_bytes, atom_denotes}
 use Rattle.lucid_value.proofs.ScanSound.{scan_sound, text_denotes}
 use Rattle.lucid_value.proofs.ScanComplete.{scan_complete, text_reads, not_equal}
@@ -49,13 +49,7 @@ list_denotes bytes tail (Some (state Done bs vs outer)) v e r h =
     let p = scan_sound tail bs vs outer r in
     let k : list vs ≡ v = cc in
     subst (λ x. Denotes bytes x) k (subst (λ x. Denotes x (list vs)) (sym (e ∙ ap (λ x. 91 ∷ 37 ∷ x) p.ends)) (denotes_list p.inner vs p.denotes))
-list_denotes bytes tail (Some (state Ready bs vs outer)) v e r h = cc
-list_denotes bytes tail (Some (state Full bs vs outer)) v e r h = cc
-list_denotes bytes tail (Some (state Atom bs vs outer)) v e r h = cc
-list_denotes bytes tail (Some (state Quoted bs vs outer)) v e r h = cc
-list_denotes bytes tail (Some (state Opening bs vs outer)) v e r h = cc
-list_denotes bytes tail (Some (state Closing bs vs outer)) v e r h = cc
-list_denotes bytes tail None v e r h = cc
+list_denotes bytes tail _ v e r h = cc
 
 kind_denotes : (bytes : List ℕ) (q o : Option (List ℕ)) (v : PlainValue) → quotes_off bytes ≡ q → opened bytes ≡ o → value_by_kind q o bytes ≡ Some v → Denotes bytes v
 kind_denotes bytes (Some inner) o v e f h = subst (λ x. Denotes x v) (sym (quotes_are bytes inner e)) (text_denotes inner v h)

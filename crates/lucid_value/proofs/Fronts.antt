@@ -8,7 +8,7 @@ use Rattle.lucid_value.specs.Plain.{list, Items, weights, nestings}
 use Rattle.lucid_value.specs.Reading.{Denotes, denotes_list, DenotesItems, IsListFront, IsFront}
 use Rattle.lucid_value.specs.ListScan.{State, state, start, step, step_from, runs, is_done, opened, Went, IsScanned}
 use Rattle.lucid_value.specs.declared.list_scan.Focus.{Focus}
-use Rattle.lucid_value.specs.declared.list_scan.Focus.TheVariants.{Ready, Full, Atom, Quoted, Opening, Closing, Done}
+use Rattle.lucid_value.specs.declared.list_scan.Focus.TheVariants.{Done}
 use Rattle.lucid_value.specs.declared.list_scan.Front.{Front}
 use Rattle.lucid_value.proofs.ScanSound.{scan_sound, runs_none}
 use Rattle.lucid_value.proofs.ScanComplete.{runs_append, scan_complete}
@@ -38,13 +38,8 @@ never_back b bs s t h k f (suc n) p vs outer le e = f n p vs outer (omega arith)
 
 -- what goes on is not whole
 goes_undone : (b : ℕ) (s t : State) → step b s ≡ Some t → is_done s ≡ false
-goes_undone b (state Ready bs vs outer) t h = refl
-goes_undone b (state Full bs vs outer) t h = refl
-goes_undone b (state Atom bs vs outer) t h = refl
-goes_undone b (state Quoted bs vs outer) t h = refl
-goes_undone b (state Opening bs vs outer) t h = refl
-goes_undone b (state Closing bs vs outer) t h = refl
 goes_undone b (state Done bs vs outer) t h = cc
+goes_undone b _ t h = refl
 
 never_from : (xs ys : List ℕ) (s t : State) → runs (Some s) xs ≡ Some t → Never t ys → Never s (xs ++ ys)
 never_from [] ys s t h f = let k : s ≡ t = cc in subst (λ x. Never x ys) (sym k) f
@@ -152,13 +147,8 @@ pub scan_more : (tail : List ℕ) (i : ℕ) (s t : State) (m : Bool) → runs (S
 scan_more tail i s t m h lt w e = runs_more tail i 0 lt ∙ ap (step_from (get_or tail i 0)) h ∙ went m t _ w e
 
 done_focus : (f : Focus) (bs : List ℕ) (vs : Items) (outer : List Items) → is_done (state f bs vs outer) ≡ true → f ≡ Done
-done_focus Ready bs vs outer h = cc
-done_focus Full bs vs outer h = cc
-done_focus Atom bs vs outer h = cc
-done_focus Quoted bs vs outer h = cc
-done_focus Opening bs vs outer h = cc
-done_focus Closing bs vs outer h = cc
 done_focus Done bs vs outer h = refl
+done_focus _ bs vs outer h = cc
 
 pub scan_whole : (tail : List ℕ) (i : ℕ) (s : State) (f : Focus) (bs : List ℕ) (vs : Items) (outer : List Items) (m : Bool) → runs (Some start) (take i tail) ≡ Some s → i < length tail
     → Went m (state f bs vs outer) (step (get_or tail i 0) s) → m ≡ true → is_done (state f bs vs outer) ≡ true

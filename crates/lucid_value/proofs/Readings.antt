@@ -7,7 +7,7 @@ use Rattle.std.proofs.Math.Seq.{take-length}
 use Rattle.std.proofs.lemmas.List.{take-append-drop}
 use Rattle.lucid_value.specs.Plain.{PlainValue, text, list, Items, weight, weights, nesting, nestings, is_text}
 use Rattle.lucid_value.specs.View.{plain}
-use Rattle.lucid_value.specs.Reading.{Denotes, denotes_number, denotes_minus, denotes_true, denotes_false, denotes_word, denotes_text, denotes_list, denotes_eod, denotes_fault, Reads}
+use Rattle.lucid_value.specs.Reading.{Denotes, denotes_text, denotes_list, Reads}
 use Rattle.lucid_value.specs.ListScan.{State, state, start, runs, opened, IsScanned, is_atom_byte, atom_value, text_value}
 use Rattle.lucid_value.specs.Trimming.{IsRead, IsUnquoted}
 use Rattle.lucid_value.specs.declared.Value.{Value}
@@ -31,15 +31,9 @@ pub data Kind (bytes : List ℕ) : PlainValue → Type 0 where
   listed : (inner : List ℕ) (vs : Items) → bytes ≡ 91 ∷ 37 ∷ (inner ++ 37 ∷ 93 ∷ []) → Kind bytes (list vs)
 
 pub kind : (bytes : List ℕ) (v : PlainValue) → Denotes bytes v → Kind bytes v
-kind bytes v (denotes_number ds h lt) = atomic _ refl
-kind bytes v (denotes_minus ds h le) = atomic _ refl
-kind bytes v denotes_true = atomic _ refl
-kind bytes v denotes_false = atomic _ refl
-kind bytes v (denotes_word bs h) = atomic _ refl
 kind bytes v (denotes_text bs h) = quoted bs refl h
 kind bytes v (denotes_list bs vs d) = listed bs vs refl
-kind bytes v denotes_eod = atomic _ refl
-kind bytes v denotes_fault = atomic _ refl
+kind bytes v _ = atomic _ refl
 
 -- the first byte of what is written without quotes and marks
 pub no_atom_first : (c : ℕ) (bytes rest : List ℕ) (v : PlainValue) → is_atom_byte c ≡ false → Denotes bytes v → is_atomic v ≡ true → bytes ≡ c ∷ rest → ⊥

@@ -96,16 +96,8 @@ atom_runs (b ∷ bs) p us outer h some =
 
 pub denotes_some : (bs : List ℕ) (v : PlainValue) → Denotes bs v → 0 < length bs
 denotes_some bs v (denotes_number [] h lt) = cc
-denotes_some bs v (denotes_number (d ∷ ds) h lt) = omega arith
-denotes_some bs v (denotes_minus ds h le) = omega arith
-denotes_some bs v denotes_true = omega arith
-denotes_some bs v denotes_false = omega arith
 denotes_some bs v (denotes_word [] h) = cc
-denotes_some bs v (denotes_word (b ∷ bs') h) = omega arith
-denotes_some bs v (denotes_text bs' h) = omega arith
-denotes_some bs v (denotes_list bs' vs d) = omega arith
-denotes_some bs v denotes_eod = omega arith
-denotes_some bs v denotes_fault = omega arith
+denotes_some bs v _ = omega arith
 
 atom_item : (bs : List ℕ) (v : PlainValue) → Denotes bs v → is_atomic v ≡ true → may_be_held v ≡ true → (p : List ℕ) (us : Items) (outer : List Items)
     → weight v + weights us + 1 ≤ 65536 → nesting v + 1 ≤ 64 → nestings us + 1 ≤ 64 → Read (state Ready p us outer) bs (item v us) outer

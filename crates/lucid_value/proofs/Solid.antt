@@ -6,7 +6,7 @@ use Rattle.std.specs.Cmp.Derive.{both_true}
 use Rattle.std.proofs.lemmas.Bool.{and_parts}
 use Rattle.std.proofs.lemmas.List.{reverse-append, length-reverse}
 use Rattle.lucid_value.specs.Plain.{PlainValue}
-use Rattle.lucid_value.specs.Reading.{is_blank, Denotes, denotes_number, denotes_minus, denotes_true, denotes_false, denotes_word, denotes_text, denotes_list, denotes_eod, denotes_fault}
+use Rattle.lucid_value.specs.Reading.{is_blank, Denotes, denotes_number, denotes_minus, denotes_word, denotes_text, denotes_list}
 use Rattle.lucid_value.specs.ListScan.{is_atom_byte}
 use Rattle.lucid_value.proofs.AtomValues.{is_atomic, atom_bytes}
 use Rattle.lucid_value.proofs.ScanComplete.{denotes_some, blank_no_atom}
@@ -42,14 +42,8 @@ solid_reverse xs h k = atom_solid (reverse xs) (all_reverse xs h) (omega (arith,
 
 pub solid_front : (bs : List ℕ) (v : PlainValue) → Denotes bs v → is_solid bs ≡ true
 solid_front bs v (denotes_number ds h lt) = atom_solid ds (atom_bytes ds v (denotes_number ds h lt) refl) (denotes_some ds v (denotes_number ds h lt))
-solid_front bs v (denotes_minus ds h le) = refl
-solid_front bs v denotes_true = refl
-solid_front bs v denotes_false = refl
 solid_front bs v (denotes_word cs h) = atom_solid cs (atom_bytes cs v (denotes_word cs h) refl) (denotes_some cs v (denotes_word cs h))
-solid_front bs v (denotes_text cs h) = refl
-solid_front bs v (denotes_list cs vs d) = refl
-solid_front bs v denotes_eod = refl
-solid_front bs v denotes_fault = refl
+solid_front bs v _ = refl
 
 solid_atom_back : (bs : List ℕ) (v : PlainValue) → Denotes bs v → is_atomic v ≡ true → is_solid (reverse bs) ≡ true
 solid_atom_back bs v d a = solid_reverse bs (atom_bytes bs v d a) (denotes_some bs v d)
@@ -57,11 +51,8 @@ solid_atom_back bs v d a = solid_reverse bs (atom_bytes bs v d a) (denotes_some 
 pub solid_back : (bs : List ℕ) (v : PlainValue) → Denotes bs v → is_solid (reverse bs) ≡ true
 solid_back bs v (denotes_number ds h lt) = solid_atom_back ds v (denotes_number ds h lt) refl
 solid_back bs v (denotes_minus ds h le) = solid_atom_back (45 ∷ ds) v (denotes_minus ds h le) refl
-solid_back bs v denotes_true = refl
-solid_back bs v denotes_false = refl
 solid_back bs v (denotes_word cs h) = solid_atom_back cs v (denotes_word cs h) refl
 solid_back bs v (denotes_text cs h) = snoc_solid (96 ∷ cs) 39 refl
 solid_back bs v (denotes_list cs vs d) =
     ap (λ x. is_solid (reverse (91 ∷ 37 ∷ x))) (sym (append_assoc cs (37 ∷ []) (93 ∷ []))) ∙ snoc_solid (91 ∷ 37 ∷ (cs ++ 37 ∷ [])) 93 refl
-solid_back bs v denotes_eod = refl
-solid_back bs v denotes_fault = refl
+solid_back bs v _ = refl
