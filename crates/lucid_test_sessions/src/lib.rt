@@ -4,6 +4,8 @@
 #[cfg(test)]
 mod choices;
 #[cfg(test)]
+mod columns;
+#[cfg(test)]
 mod large;
 #[cfg(test)]
 mod pieces;
