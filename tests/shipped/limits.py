@@ -48,10 +48,10 @@ def same_with_little_stack(run, name, source, kib):
 
 
 @long_case
-def all_forms_at_the_greatest_depth_with_a_stack_of_1_mib(run):
+def all_forms_at_the_greatest_depth_with_a_stack_of_256_kib(run):
     run.needs_a_plain_command()
     for name, source in deep_forms():
-        same_with_little_stack(run, name, source, 1024)
+        same_with_little_stack(run, name, source, 256)
 
 
 @case
