@@ -1,5 +1,6 @@
 //! What a node is: a form with its parts, a name, a call, or a block.
 ghost use Rattle.std.specs.Prelude.{◌≡◌};
+ghost use Rattle.lucid_tree.specs.Parts.{operands};
 ghost use Rattle.lucid_tree.specs.Shape.{shape_tree, FitsShape};
 ghost use Rattle.lucid_tree.specs.Size.{count};
 ghost use Rattle.lucid_tree.specs.Tree.{no_trees, tree};
@@ -87,6 +88,18 @@ impl Tree {
                 subject: &block.subject,
                 defs: &block.defs,
             },
+        }
+    }
+
+    /// The parts of a form, or the arguments of a call. Names and blocks have none here.
+    #[inline(never)]
+    pub fn operands(&self) -> Parts<'_>
+        ensures { result ≡ operands self.now }
+    {
+        match self.shape() {
+            Shape::Form { parts, .. } => parts,
+            Shape::Call { args, .. } => args.parts(),
+            Shape::Name { .. } | Shape::Scope { .. } => Parts::slice(&[]),
         }
     }
 }
