@@ -25,7 +25,7 @@ use Rattle.lucid_session.specs.Subject.{Output}
 use Rattle.lucid_session.specs.Runs as runs
 use Rattle.lucid_session.specs.Runs.{Told, Written, ForSomeAdded, ConsumesWithin, ReadsWithin, EndsAt, Ran, Causes}
 use Rattle.lucid_session.specs.Figures.{Counted, root_counted, Demands, ArePointsBelow, times_of, Figures, HasMoreThan}
-use Rattle.lucid_session.specs.Sessions.{Promises}
+use Rattle.lucid_session.specs.Sessions.{PromisesColumns}
 use Rattle.lucid_session.specs.Faults.{of_demand}
 use Rattle.lucid_facts.proofs.History.{reads_only_itself}
 use Rattle.lucid_session.proofs.Stopped.{ran_nothing, figures_nothing, causes_nothing}
@@ -264,7 +264,7 @@ module _ (z : Start) (e : EngineView) (w : World) (o : Told) (t s c : ℕ) (no_w
 
   -- A refused demand ends a run.
   pub promise_refused : (f : DemandFault) → Asked z (before z t s) e w c t s (Err f) → ((b : Elements) → Has z b → Demands (layout z) b t s) → ((b : Elements) → Has z b → HasLines z b o t) → t < z.count
-      → Promises z.table z.columns (seen z w o) (Err (of_demand t e.stored.lost c f))
+      → PromisesColumns z.table z.columns (seen z w o) (Err (of_demand t e.stored.lost c f))
   promise_refused f asked there lines early = record {
     headline = λ b has. ran_refused z b e w o t s c (there b has) f asked (asked.found b has) (lines b has) early;
     figures = λ b has. figures_refused z b e w o t s c (there b has) f (asked.found b has);
@@ -290,7 +290,7 @@ module _ (z : Start) (e : EngineView) (w : World) (o : Told) (t s c : ℕ) (no_w
     too_large = tt;
   }
 
-  pub promise_short : Promises z.table z.columns (seen z w o) (Err run.NoMemory)
+  pub promise_short : PromisesColumns z.table z.columns (seen z w o) (Err run.NoMemory)
   promise_short = record {
     headline = ran_short;
     figures = λ b has. figures_nothing (counted z) b (seen z w o);
@@ -311,7 +311,7 @@ module _ (z : Start) (e : EngineView) (w : World) (o : Told) (t s c : ℕ) (no_w
 module _ (z : Start) (e : EngineView) (w : World) (o : Told) (t a c : ℕ) (standing : Standing z (before z a 0) e w c) (each : IsOneForEach e.stored)
     (no_write_failed : o.faults ≡ z.out_before.faults) (lines : (b : Elements) → Has z b → HasLines z b o t) (s : Summary) (is : s ≡ record { lines = t; ended = s.ended; held = count_of e.stored; lost = e.stored.lost; cleared = c }) where
   pub promise_done : t ≤ z.count → a ≤ z.count → a ≤ suc t → times_of s ≡ a → ((b : Elements) → Has z b → EndsAt (subject z) b (seen z w o) s.ended t)
-      → ((b : Elements) → Has z b → IsTrue z.policy.empties → s.ended ≡ true → (subject z).defined b z.depth t) → Promises z.table z.columns (seen z w o) (Ok s)
+      → ((b : Elements) → Has z b → IsTrue z.policy.empties → s.ended ≡ true → (subject z).defined b z.depth t) → PromisesColumns z.table z.columns (seen z w o) (Ok s)
   promise_done most few near times ends exact = record {
     headline = λ b has. ran_done z b w o e s t a c (lines b has) (standing.so_far b has) (ap (λ x. x.lines) is) (ends b has) (exact b has) most few near standing.within;
     figures = λ b has. figures_done z b w o e s t a c (lines b has) (standing.so_far b has) standing.sound each (ap (λ x. x.held) is) (ap (λ x. x.lost) is) (ap (λ x. x.cleared) is) times;
@@ -329,7 +329,7 @@ module _ (z : Start) (e : EngineView) (w : World) (o : Told) (t a c : ℕ) (stan
   }
 
 -- Where there is no memory for an engine, nothing is done.
-pub promise_nothing : (z : Start) → Promises z.table z.columns (seen z z.before z.out_before) (Err run.NoMemory)
+pub promise_nothing : (z : Start) → PromisesColumns z.table z.columns (seen z z.before z.out_before) (Err run.NoMemory)
 promise_nothing z = record {
   headline = λ b has. ran_nothing (subject z) b (seen z z.before z.out_before) (record { after = refl; out_after = refl });
   figures = λ b has. figures_nothing (counted z) b (seen z z.before z.out_before);

@@ -27,7 +27,7 @@ use Rattle.lucid_session.specs.Faults.{of_demand}
 use Rattle.lucid_session.specs.Lines.{WritesLine}
 use Rattle.lucid_session.specs.Moments.{Start, subject, layout, before, Has, seen, of_run, Standing}
 use Rattle.lucid_session.specs.Cells.{Asked, StopsAt, GivesCell, IsMarked, AreMarked, HasCells, ClearsMany}
-use Rattle.lucid_session.specs.Sessions.{IsFresh, engine_run, Promises}
+use Rattle.lucid_session.specs.Sessions.{IsFresh, engine_run, PromisesColumns}
 use Rattle.lucid_session.proofs.Lists.{some_is}
 use Rattle.lucid_session.proofs.Going.{asked, begins, stands_on}
 use Rattle.lucid_session.proofs.Subjects.{is_column, among_columns}
@@ -112,17 +112,17 @@ defined_there z b t line goes_on cells empties x i opened =
 -- The demands of a time were made, or stopped.
 module _ (z : Start) (e f : EngineView) (w v : World) (o : Told) (t c d : ℕ) (going : Going z e w o t c) (early : t < z.count) where
   -- the run ends there
-  pub stopped_there : (q : RunFault) → StopsAt z f v t d q → Promises z.table z.columns (seen z v o) (Err q)
+  pub stopped_there : (q : RunFault) → StopsAt z f v t d q → PromisesColumns z.table z.columns (seen z v o) (Err q)
   stopped_there q (inl r) =
-      subst (λ x. Promises z.table z.columns (seen z v o) (Err x)) (sym r.is) (promise_refused z f v o t r.space d going.no_write_failed r.fault r.asked r.demanded going.lines early)
+      subst (λ x. PromisesColumns z.table z.columns (seen z v o) (Err x)) (sym r.is) (promise_refused z f v o t r.space d going.no_write_failed r.fault r.asked r.demanded going.lines early)
   stopped_there q (inr r) =
-      subst (λ x. Promises z.table z.columns (seen z v o) (Err x)) (sym r.is) (promise_short z f v o t r.space d going.no_write_failed r.standing going.lines early)
+      subst (λ x. PromisesColumns z.table z.columns (seen z v o) (Err x)) (sym r.is) (promise_short z f v o t r.space d going.no_write_failed r.standing going.lines early)
 
   module _ (standing : Standing z (before z (t + 1) 0) f v d) (line : List ℕ) where
     -- all columns have ended
     module _ (cells : (b : Elements) → Has z b → HasCells z b t z.columns line false) where
       pub ended_there : (g : EngineView) (n : ℕ) → ((g ≡ f) × (n ≡ d)) ⊎ ClearsMany f g d n → IsOneForEach g.stored → (s : Summary)
-          → s ≡ record { lines = t; ended = true; held = count_of g.stored; lost = g.stored.lost; cleared = n } → Promises z.table z.columns (seen z v o) (Ok s)
+          → s ≡ record { lines = t; ended = true; held = count_of g.stored; lost = g.stored.lost; cleared = n } → PromisesColumns z.table z.columns (seen z v o) (Ok s)
       ended_there g n many each s is =
           let ended : s.ended ≡ true = ap (λ y. y.ended) is in
           let times : times_of s ≡ suc t = ap times_of is in
@@ -157,7 +157,7 @@ module _ (z : Start) (e f : EngineView) (w v : World) (o : Told) (t c d : ℕ) (
           some_goes going = (table_stream_at z.table going.0, among_columns z.table z.columns going.0 going.1, going.2)
 
       -- that isn't written whole,
-      pub unwritten_there : (p : Told) (q : RunFault) → WritesLine (line ++ 10 ∷ []) o p (Err q) → Promises z.table z.columns (seen z v p) (Err q)
+      pub unwritten_there : (p : Told) (q : RunFault) → WritesLine (line ++ 10 ∷ []) o p (Err q) → PromisesColumns z.table z.columns (seen z v p) (Err q)
       unwritten_there p q writes = promise_unwritten z f v o p t d (line ++ 10 ∷ []) came q writes early
 
       -- or it is, and the engine may be cleared
@@ -172,7 +172,7 @@ module _ (z : Start) (e f : EngineView) (w v : World) (o : Told) (t c d : ℕ) (
 
 -- the count is reached
 pub counted_there : (z : Start) (e : EngineView) (w : World) (o : Told) (t c : ℕ) → Going z e w o t c → t ≡ z.count → IsOneForEach e.stored → (s : Summary)
-    → s ≡ record { lines = z.count; ended = false; held = count_of e.stored; lost = e.stored.lost; cleared = c } → Promises z.table z.columns (seen z w o) (Ok s)
+    → s ≡ record { lines = z.count; ended = false; held = count_of e.stored; lost = e.stored.lost; cleared = c } → PromisesColumns z.table z.columns (seen z w o) (Ok s)
 counted_there z e w o t c going all each s is =
     let ended : s.ended ≡ false = ap (λ y. y.ended) is in
     let times : times_of s ≡ z.count = ap times_of is in
@@ -193,9 +193,9 @@ fresh_there e x w sound is askable known stored = record {
 
 -- So what its run promises is promised of it as it is made.
 pub run_there : (options : Options) (e x : EngineView) (w v : World) (o p : Told) (result : Result Summary RunFault) → e ≡ x
-    → (n : ℕ) → Promises e.table n (engine_run options e w v o p) result → Promises x.table n (engine_run options x w v o p) result
-run_there options e x w v o p result is n = subst (λ (y : EngineView). Promises y.table n (engine_run options y w v o p) result) is
+    → (n : ℕ) → PromisesColumns e.table n (engine_run options e w v o p) result → PromisesColumns x.table n (engine_run options x w v o p) result
+run_there options e x w v o p result is n = subst (λ (y : EngineView). PromisesColumns y.table n (engine_run options y w v o p) result) is
 
 -- What is promised of so many columns is promised of as many.
-pub columns_there : (T : Table) (n k : ℕ) (r : RunView) (result : Result Summary RunFault) → n ≡ k → Promises T n r result → Promises T k r result
-columns_there T n k r result same = subst (λ m. Promises T m r result) same
+pub columns_there : (T : Table) (n k : ℕ) (r : RunView) (result : Result Summary RunFault) → n ≡ k → PromisesColumns T n r result → PromisesColumns T k r result
+columns_there T n k r result same = subst (λ m. PromisesColumns T m r result) same

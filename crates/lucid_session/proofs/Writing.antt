@@ -19,7 +19,7 @@ use Rattle.lucid_facts.specs.Engine.{EngineView, IsSound, AreAskable, places_of}
 use Rattle.lucid_session.specs.Subject.{Subject, one_line_more}
 use Rattle.lucid_session.specs.Runs.{Told, RunView, Written, ForSomeAdded, ConsumesWithin, ReadsWithin, ConsultsOverlong, IsTooDeep, OnTooDeep, OnTooLarge, IsShown, Ran}
 use Rattle.lucid_session.specs.Figures.{IsUndefinedHeld, ArePointsBelow, HasMoreThan, OnDepth, OnClearings}
-use Rattle.lucid_session.specs.Sessions.{Promises}
+use Rattle.lucid_session.specs.Sessions.{PromisesColumns}
 use Rattle.lucid_session.specs.Lines.{WritesLine}
 use Rattle.lucid_demand.specs.Demanded.{most_known}
 use Rattle.lucid_session.proofs.Added.{at_once}
@@ -145,7 +145,7 @@ module _ (z : Start) (e : EngineView) (w : World) (o p : Told) (t c : ℕ) (next
             (λ empties some. absurd (some refl))
             (consumed (suc t) (omega arith)) came.standing.within q writes.refused rises
 
-    pub promise_unwritten : Promises z.table z.columns (seen z w p) (Err q)
+    pub promise_unwritten : PromisesColumns z.table z.columns (seen z w p) (Err q)
     promise_unwritten = record {
       headline = ran_unwritten;
       figures = λ b has. record {

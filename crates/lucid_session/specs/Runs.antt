@@ -23,11 +23,19 @@ pub record Told : Type 0 where
   pub bytes : Option (List ℕ)
   pub faults : ℕ
 
+-- what a sink of any kind tells
+abbrev pub told : {K : Type 0} → (written : K → Option (List ℕ)) → (faults : K → ℕ) → K → Told
+told written faults sink = record { bytes = written sink; faults = faults sink }
+
 -- what a policy is said to do: to drop nothing, to drop all, and how many it leaves at most
 pub record PolicyView : Type 0 where
   pub keeps : Bool
   pub empties : Bool
   pub room : Option ℕ
+
+-- the same of a policy of any kind
+abbrev pub policy_view : {R : Type 0} → (keeps empties : R → Bool) → (most : R → Option ℕ) → R → PolicyView
+policy_view keeps empties most policy = record { keeps = keeps policy; empties = empties policy; room = most policy }
 
 -- A run from outside: how many lines it may write and how deep its values may be, its policy, the names of its inputs and their places,
 -- how many bytes of each may be read, and what the places and the output tell before and after.

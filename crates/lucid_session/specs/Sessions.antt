@@ -9,9 +9,9 @@ use Rattle.lucid_ports.specs.declared.run.Summary.{Summary}
 use Rattle.lucid_ports.specs.declared.run.RunFault.{RunFault}
 use Rattle.lucid_equations.specs.declared.table.Table.{Table}
 use Rattle.lucid_facts.specs.Engine.{EngineView, IsSound, AreAskable, ReadsOnly, places_of}
-use Rattle.lucid_session.specs.Subject.{columns_subject, table_columns}
+use Rattle.lucid_session.specs.Subject.{Subject, columns_subject, table_columns}
 use Rattle.lucid_session.specs.Runs.{Told, RunView, HasElements, Ran, Causes}
-use Rattle.lucid_session.specs.Figures.{columns_counted, Figures}
+use Rattle.lucid_session.specs.Figures.{Counted, columns_counted, Figures}
 
 -- The engine holds nothing and knows the empty context alone, and its inputs may be asked.
 pub record IsFresh (e : EngineView) (w : World) : Type 0 where
@@ -35,9 +35,15 @@ engine_run options e w v o p = record {
   out_after = p;
 }
 
--- What a run of a table's columns promises, by the elements of its inputs and whatever is told.
-pub record Promises (T : Table) (columns : ℕ) (r : RunView) (result : Result Summary RunFault) : Type 0 where
-  pub headline : (b : Elements) → HasElements r b → Ran (columns_subject (table_columns T columns)) b r result
-  pub figures : (b : Elements) → HasElements r b → Figures (columns_counted T columns) b r result
+-- What a run over a subject promises.
+pub record Promises {K E : Type 0} (S : Subject) (C : Counted K E) (r : RunView) (result : Result Summary RunFault) : Type 0 where
+  -- Where the places tell their bytes, the lines are the subject's, and the figures are by exactly what they need.
+  pub headline : (b : Elements) → HasElements r b → Ran S b r result
+  pub figures : (b : Elements) → HasElements r b → Figures C b r result
+  -- Whatever they tell, faults have their causes, and nothing but the streams' places is read.
   pub causes : Causes r result
   pub reads_only : ReadsOnly r.places r.before r.after
+
+-- the same of a table's columns
+abbrev pub PromisesColumns : Table → (columns : ℕ) → RunView → Result Summary RunFault → Type 0
+PromisesColumns T n = Promises (columns_subject (table_columns T n)) (columns_counted T n)

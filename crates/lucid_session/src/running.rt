@@ -1,15 +1,14 @@
 //! A run over the engine.
 ghost use Rattle.std.specs.Prelude.{◌≡◌, ◌≤◌, ◌<◌, ◌^◌, ◌-◌, ◌⊎◌, ℕ, length, Bool, true, slice_get, Some};
-ghost use Rattle.lucid_tree.specs.Levels.{Elements};
 ghost use Rattle.lucid_inputs.specs.Inputs.{streams};
 ghost use Rattle.lucid_equations.specs.Programs.{table_of};
-ghost use Rattle.lucid_facts.specs.Engine.{AreAskable, ReadsOnly, places_of};
+ghost use Rattle.lucid_facts.specs.Engine.{AreAskable};
 ghost use Rattle.lucid_store.specs.Entries.{count_of, IsOneForEach};
 ghost use Rattle.lucid_session.specs.Subject.{stream_subject, table_stream, columns_subject, table_columns};
-ghost use Rattle.lucid_session.specs.Runs.{run_view, HasElements, Ran, Causes};
-ghost use Rattle.lucid_session.specs.Figures.{table_counted, columns_counted, Figures};
+ghost use Rattle.lucid_session.specs.Runs.{told, policy_view, run_view};
+ghost use Rattle.lucid_session.specs.Figures.{table_counted, columns_counted};
 ghost use Rattle.lucid_session.specs.Cells.{ClearsMany};
-ghost use Rattle.lucid_session.specs.Sessions.{IsFresh, engine_run, Promises};
+ghost use Rattle.lucid_session.specs.Sessions.{IsFresh, engine_run, Promises, PromisesColumns};
 
 use crate::cells::{add_cells, clear_many};
 use crate::lines::write_line;
@@ -40,19 +39,8 @@ pub fn run<P: Places, K: Sink, R: Retire, S: Pick>(
 ) -> Result<Summary, RunFault>
     requires streams { length (streams inputs) ≡ length (table_of program).inputs }
     requires askable { AreAskable (streams inputs) (P.world places.old) }
-    // Where the places tell their bytes, the lines are the program's, and the figures are by exactly what they need.
-    ensures headline { let view = run_view options.now (record { keeps = R.keeps policy; empties = R.empties policy; room = R.most policy }) (table_of program) inputs (P.world places.old) (P.world places.new)
-        (record { bytes = K.written out.old; faults = K.faults out.old }) (record { bytes = K.written out.new; faults = K.faults out.new })
-        in (b : Elements) → HasElements view b → Ran (stream_subject (table_stream (table_of program))) b view result }
-    ensures figures { let view = run_view options.now (record { keeps = R.keeps policy; empties = R.empties policy; room = R.most policy }) (table_of program) inputs (P.world places.old) (P.world places.new)
-        (record { bytes = K.written out.old; faults = K.faults out.old }) (record { bytes = K.written out.new; faults = K.faults out.new })
-        in (b : Elements) → HasElements view b → Figures (table_counted (table_of program)) b view result }
-
-    // Whatever they tell, faults have their causes, and nothing but the streams' places is read.
-    ensures causes { let view = run_view options.now (record { keeps = R.keeps policy; empties = R.empties policy; room = R.most policy }) (table_of program) inputs (P.world places.old) (P.world places.new)
-        (record { bytes = K.written out.old; faults = K.faults out.old }) (record { bytes = K.written out.new; faults = K.faults out.new })
-        in Causes view result }
-    ensures reads_only { ReadsOnly (places_of (streams inputs)) (P.world places.old) (P.world places.new) }
+    ensures { Promises (stream_subject (table_stream (table_of program))) (table_counted (table_of program))
+        (run_view options.now (policy_view R.keeps R.empties R.most policy) (table_of program) inputs (P.world places.old) (P.world places.new) (told K.written K.faults out.old) (told K.written K.faults out.new)) result }
 {
     let mut is_open = [true];
     run_side_by_side(
@@ -87,19 +75,8 @@ pub fn run_columns<P: Places, K: Sink, R: Retire, S: Pick>(
     requires streams { length (streams inputs) ≡ length (table_of program).inputs }
     requires askable { AreAskable (streams inputs) (P.world places.old) }
     requires columns { columns ≤ MOST_COLUMNS }
-    // Where the places tell their bytes, the lines are those of the columns, and the figures are by exactly what they need.
-    ensures headline { let view = run_view options.now (record { keeps = R.keeps policy; empties = R.empties policy; room = R.most policy }) (table_of program) inputs (P.world places.old) (P.world places.new)
-        (record { bytes = K.written out.old; faults = K.faults out.old }) (record { bytes = K.written out.new; faults = K.faults out.new })
-        in (b : Elements) → HasElements view b → Ran (columns_subject (table_columns (table_of program) columns)) b view result }
-    ensures figures { let view = run_view options.now (record { keeps = R.keeps policy; empties = R.empties policy; room = R.most policy }) (table_of program) inputs (P.world places.old) (P.world places.new)
-        (record { bytes = K.written out.old; faults = K.faults out.old }) (record { bytes = K.written out.new; faults = K.faults out.new })
-        in (b : Elements) → HasElements view b → Figures (columns_counted (table_of program) columns) b view result }
-
-    // Whatever they tell, faults have their causes, and nothing but the streams' places is read.
-    ensures causes { let view = run_view options.now (record { keeps = R.keeps policy; empties = R.empties policy; room = R.most policy }) (table_of program) inputs (P.world places.old) (P.world places.new)
-        (record { bytes = K.written out.old; faults = K.faults out.old }) (record { bytes = K.written out.new; faults = K.faults out.new })
-        in Causes view result }
-    ensures reads_only { ReadsOnly (places_of (streams inputs)) (P.world places.old) (P.world places.new) }
+    ensures { Promises (columns_subject (table_columns (table_of program) columns)) (columns_counted (table_of program) columns)
+        (run_view options.now (policy_view R.keeps R.empties R.most policy) (table_of program) inputs (P.world places.old) (P.world places.new) (told K.written K.faults out.old) (told K.written K.faults out.new)) result }
 {
     let mut is_open = [true; MOST_COLUMNS];
     run_side_by_side(
@@ -133,8 +110,8 @@ fn run_side_by_side<P: Places, K: Sink, R: Retire, S: Pick>(
     requires askable { AreAskable (streams inputs) (P.world places.old) }
     requires columns { length is_open.old ≤ 16 }
     requires opened { (j : ℕ) (mark : Bool) → slice_get is_open.old j ≡ Some mark → mark ≡ true }
-    ensures { Promises (table_of program) (length is_open.old) (run_view options.now (record { keeps = R.keeps policy; empties = R.empties policy; room = R.most policy }) (table_of program) inputs (P.world places.old) (P.world places.new)
-        (record { bytes = K.written out.old; faults = K.faults out.old }) (record { bytes = K.written out.new; faults = K.faults out.new })) result }
+    ensures { PromisesColumns (table_of program) (length is_open.old)
+        (run_view options.now (policy_view R.keeps R.empties R.most policy) (table_of program) inputs (P.world places.old) (P.world places.new) (told K.written K.faults out.old) (told K.written K.faults out.new)) result }
 {
     let Ok(mut engine) = Engine::make(alloc, program, inputs, policy, pick) else {
         return Err(RunFault::NoMemory);
@@ -163,8 +140,8 @@ fn write_lines<P: Places, K: Sink, R: Retire, S: Pick>(
     requires fresh { IsFresh engine.old (P.world places.old) }
     requires columns { length is_open.old ≤ 16 }
     requires opened { (j : ℕ) (mark : Bool) → slice_get is_open.old j ≡ Some mark → mark ≡ true }
-    ensures { Promises engine.old.table (length is_open.old) (engine_run options.now engine.old (P.world places.old) (P.world places.new)
-        (record { bytes = K.written out.old; faults = K.faults out.old }) (record { bytes = K.written out.new; faults = K.faults out.new })) result }
+    ensures { PromisesColumns engine.old.table (length is_open.old)
+        (engine_run options.now engine.old (P.world places.old) (P.world places.new) (told K.written K.faults out.old) (told K.written K.faults out.new)) result }
 {
     let mut line = Vec::new(alloc);
     let mut cleared = 0;

@@ -1,5 +1,5 @@
 -- A call of the command: what its words ask for, and what its places and its output tell before and after it.
-use Rattle.std.specs.Prelude.{ℕ, List, Option}
+use Rattle.std.specs.Prelude.{Option}
 use Rattle.lucid_ports.specs.World.{World}
 use Rattle.lucid_words.specs.Asked.{PlainWords}
 use Rattle.lucid_session.specs.Runs.{Told}
@@ -11,10 +11,6 @@ pub record Call : Type 0 where
   pub after : World
   pub out_before : Told
   pub out_after : Told
-
--- what a sink of any kind tells
-abbrev pub told : {K : Type 0} → (written : K → Option (List ℕ)) → (faults : K → ℕ) → K → Told
-told written faults sink = record { bytes = written sink; faults = faults sink }
 
 -- the call with these words, from the old places and output to the new
 abbrev pub call : Option PlainWords → (before after : World) → (out_before out_after : Told) → Call

@@ -1,16 +1,20 @@
 -- How a call comes to its outcome, as its parts say it.
-use Rattle.std.specs.Prelude.{◌≡◌, ℕ, ◌<◌, ◌≤◌, ◌⊎◌, [], Some, Err}
+use Rattle.std.specs.Prelude.{◌≡◌, ℕ, ◌<◌, ◌≤◌, ◌⊎◌, true, [], length, Some, Err}
 use Rattle.lucid_ports.specs.World.{World, Contents}
 use Rattle.lucid_tree.specs.WellMade.{IsWellMade}
-use Rattle.lucid_words.specs.Asked.{PlainWords}
+use Rattle.lucid_ports.specs.Limits.{most_asked}
+use Rattle.lucid_words.specs.declared.Words.{Words}
+use Rattle.lucid_words.specs.Asked.{PlainWords, plain_words}
+use Rattle.lucid_words.specs.Numbers.{IsFromTo, MadeIsFromTo}
+use Rattle.lucid_top.specs.declared.task.Task.{Task}
 use Rattle.lucid_top.specs.declared.refusal.Refusal.{Refusal}
 use Rattle.lucid_top.specs.declared.stop.Stop.TheVariants as stop
 use Rattle.lucid_equations.specs.declared.table.Table.{Table}
 use Rattle.lucid_session.specs.Runs.{RunView}
 use Rattle.lucid_top.specs.Status.{Outcome}
-use Rattle.lucid_top.specs.Tasks.{task_of}
+use Rattle.lucid_top.specs.Tasks.{task_of, form_of, is_built}
 use Rattle.lucid_top.specs.Programs.{beside}
-use Rattle.lucid_top.specs.Places.{KeepsNames}
+use Rattle.lucid_top.specs.Places.{KeepsNames, CountsNoRead, CountsNoWrite, ReadsSource, most_read}
 use Rattle.lucid_top.specs.Call.{Call}
 use Rattle.lucid_top.specs.Stages.{Asks, IsWriting, IsTextFor, HasProgram, by_tree, by_columns, by_table, columns_named, task_for, program_in, inputs_in, IsRun, Refuses, by_words, by_task, by_text, by_flat, by_names, by_missing, by_judging, by_given}
 use Rattle.lucid_top.specs.Runs.{most_places, first_place, run_places, run_of, view_of, table_program, RanSo}
@@ -65,6 +69,22 @@ pub record Comes (c : Call) (o : Outcome) : Type 0 where
   pub only : ComesOnly c o
   pub how : (StopsEarly c o × Rests c) ⊎ (EndsRun c o ⊎ EndsWriting c o)
   pub few_places : c.after.reached ≤ most_places
+
+-- What the words ask for may begin: they were read, they ask for this, which is built, and no place is reached yet.
+pub record MayBegin (words : Words) (t : Task) (v : World) : Type 0 where
+  pub made : MadeIsFromTo 1 10000 words.source
+  pub room : IsFromTo 1 most_asked words.room
+  pub columns : length (plain_words words).columns ≤ 16
+  pub task : task_of (plain_words words) ≡ t
+  pub built : is_built (task_of (plain_words words)) (form_of (plain_words words)) ≡ true
+  pub none : v.reached ≡ 0
+
+-- What a call does: it comes to its outcome, counts no fault but that of its outcome, and of its source reads no more than may be read.
+pub record Does (c : Call) (o : Outcome) : Type 0 where
+  pub comes : Comes c o
+  pub counts_no_read : CountsNoRead o c.before c.after
+  pub counts_no_write : CountsNoWrite o c.out_before.faults c.out_after.faults
+  pub within : (w : PlainWords) → c.asked ≡ Some w → ReadsSource (most_read (form_of w)) w.source c.after
 
 -- A call is about to run a table, its source being read: it has a program with the table's inputs, its words ask for that, and runs of the
 -- table as they have it are runs of the program.

@@ -1,5 +1,5 @@
 -- What the places tell while the source is read and the inputs are reached.
-use Rattle.std.specs.Prelude.{◌≡◌, ℕ, ◌+◌, ◌<◌, ◌≤◌, ◌⊎◌, List, length, Option, Some, take, IfSome, Result, IsErrOf, slice_get}
+use Rattle.std.specs.Prelude.{◌≡◌, ℕ, ◌+◌, ◌<◌, ◌≤◌, ◌⊎◌, List, length, Option, Some, take, IfSome, Result, OnOk, IsErrOf, slice_get}
 use Rattle.lucid_ports.specs.World.{World, IsFresh}
 use Rattle.lucid_ports.specs.Faults.{Rises, CountsNoFaultUnless}
 use Rattle.lucid_ports.specs.declared.fault.PortFault.{PortFault}
@@ -19,6 +19,7 @@ use Rattle.lucid_top.specs.declared.task.Form.{Form}
 use Rattle.lucid_top.specs.declared.task.Form.TheVariants as form
 use Rattle.lucid_top.specs.Flat.{most_flat_bytes, SpellsTable}
 use Rattle.lucid_top.specs.Stages.{IsSource}
+use Rattle.lucid_top.specs.Runs.{first_place}
 
 -- no name holds anything else, and faults are only counted
 pub record KeepsNames (old new : World) : Type 0 where
@@ -97,6 +98,15 @@ most_read _ = most_source_bytes + 1
 abbrev pub ReadsSource : (most : ℕ) → PlainSource → World → Type 0
 ReadsSource most (file name) w = 0 < w.reached → IfSome (w.place 0).contents (λ s. length s.consumed ≤ most)
 ReadsSource most (made n) w = Unit {0}
+
+-- How the source is read, whatever comes of it: at most its place is reached, at most so many bytes of it are read, no name holds anything
+-- else, and a fault is counted only where it is told.
+pub record HasRead {T : Type 0} (most : ℕ) (source : PlainSource) (old new : World) (result : Result T Stop) : Type 0 where
+  pub reached : OnOk result (new.reached ≡ first_place source)
+  pub few : new.reached ≤ first_place source
+  pub within : ReadsSource most source new
+  pub keeps : KeepsNames old new
+  pub counts_no_read : CountsNoRead result old new
 
 -- Each of the places that are newly reached, in the order of the files, is a fresh place of its file.
 abbrev pub AreFresh : (files : List (List ℕ)) → (old new : World) → Type 0

@@ -2,7 +2,8 @@
 ghost use Rattle.std.specs.Prelude.{◌≡◌, drop, map};
 ghost use Rattle.std.specs.String.{string_bytes};
 ghost use Rattle.lucid_words.specs.Asked.{words_asked};
-ghost use Rattle.lucid_top.specs.Call.{call, told};
+ghost use Rattle.lucid_top.specs.Call.{call};
+ghost use Rattle.lucid_session.specs.Runs.{told};
 ghost use Rattle.lucid_top.specs.Clauses.{MeetsClauses};
 
 use crate::status::Status;

@@ -7,12 +7,10 @@ ghost use Rattle.lucid_equations.specs.Programs.{table_of};
 ghost use Rattle.lucid_words.specs.Asked.{plain_words};
 ghost use Rattle.lucid_words.specs.Numbers.{IsFromTo};
 ghost use Rattle.lucid_retire.specs.Policies.{keeps_all, empties_all, most_held};
-ghost use Rattle.lucid_tree.specs.Levels.{Elements};
 ghost use Rattle.lucid_inputs.specs.Inputs.{streams};
-ghost use Rattle.lucid_facts.specs.Engine.{AreAskable, ReadsOnly, places_of};
-ghost use Rattle.lucid_session.specs.Runs.{run_view, HasElements, Ran, Causes, OnTooLarge};
-ghost use Rattle.lucid_session.specs.Figures.{Figures};
-ghost use Rattle.lucid_top.specs.Call.{told};
+ghost use Rattle.lucid_facts.specs.Engine.{AreAskable};
+ghost use Rattle.lucid_session.specs.Runs.{told, policy_view, run_view, OnTooLarge};
+ghost use Rattle.lucid_session.specs.Sessions.{Promises};
 ghost use Rattle.lucid_top.specs.Tasks.{wants_figures};
 ghost use Rattle.lucid_top.specs.Places.{AreUnread, CountsNoRead, CountsNoWrite};
 ghost use Rattle.lucid_top.specs.Programs.{program_subject, program_counted};
@@ -40,7 +38,7 @@ const TURNS_BETWEEN_SWEEPS: u32 = 1000;
 fn policy_of(alloc: Global, words: &Words) -> Result<Policy, AllocError>
     requires { IsFromTo 1 most_asked words.now.room }
     ensures asked { IfOk result (λ policy. policy ≡ policy_asked words.now.policy words.now.age words.now.room) }
-    ensures named { IfOk result (λ policy. record { keeps = keeps_all policy; empties = empties_all policy; room = most_held policy } ≡ policy_named words.now.policy words.now.age words.now.room) }
+    ensures named { IfOk result (λ policy. policy_view keeps_all empties_all most_held policy ≡ policy_named words.now.policy words.now.age words.now.room) }
 {
     match words.policy {
         PolicyWord::Keep => Ok(Policy::Keep(Keep)),
@@ -107,16 +105,8 @@ fn run_streams<P: Places, K: Sink>(
     requires columns { length (plain_words words.now).columns ≤ 16 }
     requires streams { length (streams inputs) ≡ length (table_of program).inputs }
     requires askable { AreAskable (streams inputs) (P.world places.old) }
-    ensures headline { let view = run_view words.now.options (record { keeps = keeps_all policy; empties = empties_all policy; room = most_held policy }) (table_of program) inputs (P.world places.old) (P.world places.new)
-        (told K.written K.faults out.old) (told K.written K.faults out.new)
-        in (b : Elements) → HasElements view b → Ran (program_subject (table_program (plain_words words.now) (table_of program))) b view result }
-    ensures figures { let view = run_view words.now.options (record { keeps = keeps_all policy; empties = empties_all policy; room = most_held policy }) (table_of program) inputs (P.world places.old) (P.world places.new)
-        (told K.written K.faults out.old) (told K.written K.faults out.new)
-        in (b : Elements) → HasElements view b → Figures (program_counted (table_program (plain_words words.now) (table_of program))) b view result }
-    ensures causes { let view = run_view words.now.options (record { keeps = keeps_all policy; empties = empties_all policy; room = most_held policy }) (table_of program) inputs (P.world places.old) (P.world places.new)
-        (told K.written K.faults out.old) (told K.written K.faults out.new)
-        in Causes view result }
-    ensures reads_only { ReadsOnly (places_of (streams inputs)) (P.world places.old) (P.world places.new) }
+    ensures { Promises (program_subject (table_program (plain_words words.now) (table_of program))) (program_counted (table_program (plain_words words.now) (table_of program)))
+        (run_view words.now.options (policy_view keeps_all empties_all most_held policy) (table_of program) inputs (P.world places.old) (P.world places.new) (told K.written K.faults out.old) (told K.written K.faults out.new)) result }
 {
     let options = &words.options;
     if words.columns.is_empty() {

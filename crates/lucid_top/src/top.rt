@@ -6,7 +6,8 @@ ghost use Rattle.lucid_tree.specs.WellMade.{places as all_places, IsWellMade};
 ghost use Rattle.lucid_words.specs.Asked.{PlainWords, plain_words, words_asked};
 ghost use Rattle.lucid_words.specs.Plain.{plain_source};
 ghost use Rattle.lucid_words.specs.Numbers.{IsFromTo, MadeIsFromTo};
-ghost use Rattle.lucid_top.specs.Call.{call, told};
+ghost use Rattle.lucid_top.specs.Call.{call};
+ghost use Rattle.lucid_session.specs.Runs.{told};
 ghost use Rattle.lucid_top.specs.Tasks.{task_of, form_of, is_built};
 ghost use Rattle.lucid_top.specs.Runs.{first_place};
 ghost use Rattle.lucid_scope.specs.Scoped.{scoped_tree, scoped_inputs};
@@ -15,8 +16,8 @@ ghost use Rattle.lucid_ports.specs.World.{World};
 ghost use Rattle.lucid_equations.specs.Programs.{table_of};
 ghost use Rattle.lucid_top.specs.Judged.{RefusesText, AreResolved};
 ghost use Rattle.lucid_top.specs.Flat.{most_flat_bytes, RefusesFlat};
-ghost use Rattle.lucid_top.specs.Places.{KeepsNames, CountsNoRead, CountsNoWrite, ReadsSource, most_read, SpeltBySource, FlatBySource, IsAccepted, IsAcceptedBeside, IsSourceStop, IsProgramStop, IsColumnsStop};
-ghost use Rattle.lucid_top.specs.Coming.{Comes, RunsTable};
+ghost use Rattle.lucid_top.specs.Places.{CountsNoRead, CountsNoWrite, ReadsSource, HasRead, SpeltBySource, FlatBySource, IsAccepted, IsAcceptedBeside, IsSourceStop, IsProgramStop, IsColumnsStop};
+ghost use Rattle.lucid_top.specs.Coming.{Comes, Does, MayBegin, RunsTable};
 ghost use Rattle.lucid_top.specs.Clauses.{MeetsClauses};
 
 use crate::files::{copied_names, input_files};
@@ -56,11 +57,7 @@ fn tree_of<P: Places>(alloc: Global, words: &Words, places: &mut P) -> Result<Tr
     ensures well_made { IfOk result IsWellMade }
     ensures few_nodes { IfOk result (λ tree. length (all_places tree) ≤ most_source_bytes) }
     ensures placed { IfOk result (λ tree. All (λ at. at < most_source_bytes) (all_places tree)) }
-    ensures reached { OnOk result ((P.world places.new).reached ≡ first_place (plain_source words.now.source)) }
-    ensures few { (P.world places.new).reached ≤ first_place (plain_source words.now.source) }
-    ensures within { ReadsSource (most_source_bytes + 1) (plain_source words.now.source) (P.world places.new) }
-    ensures keeps { KeepsNames (P.world places.old) (P.world places.new) }
-    ensures counts_no_read { CountsNoRead result (P.world places.old) (P.world places.new) }
+    ensures reading { HasRead (most_source_bytes + 1) (plain_source words.now.source) (P.world places.old) (P.world places.new) result }
     ensures stopped { IfErr result (IsSourceStop RefusesText (plain_source words.now.source) (P.world places.old) (P.world places.new)) }
 {
     let source = read_source(alloc, &words.source, PAST_SOURCE, places)?;
@@ -73,11 +70,7 @@ fn program_of<P: Places>(alloc: Global, words: &Words, places: &mut P) -> Result
     requires none { (P.world places.old).reached ≡ 0 }
     ensures accepted { IfOk result (λ scoped. IsAccepted (plain_source words.now.source) (P.world places.old) (scoped_tree scoped)) }
     ensures resolved { IfOk result AreResolved }
-    ensures reached { OnOk result ((P.world places.new).reached ≡ first_place (plain_source words.now.source)) }
-    ensures few { (P.world places.new).reached ≤ first_place (plain_source words.now.source) }
-    ensures within { ReadsSource (most_source_bytes + 1) (plain_source words.now.source) (P.world places.new) }
-    ensures keeps { KeepsNames (P.world places.old) (P.world places.new) }
-    ensures counts_no_read { CountsNoRead result (P.world places.old) (P.world places.new) }
+    ensures reading { HasRead (most_source_bytes + 1) (plain_source words.now.source) (P.world places.old) (P.world places.new) result }
     ensures stopped { IfErr result (IsProgramStop (plain_source words.now.source) (P.world places.old) (P.world places.new)) }
 {
     let tree = tree_of(alloc, words, places)?;
@@ -92,11 +85,7 @@ fn columns_of<P: Places>(alloc: Global, words: &Words, places: &mut P) -> Result
     requires none { (P.world places.old).reached ≡ 0 }
     ensures accepted { IfOk result (λ scoped. IsAcceptedBeside (plain_source words.now.source) (P.world places.old) (plain_words words.now).columns (scoped_tree scoped) (scoped_inputs scoped)) }
     ensures resolved { IfOk result AreResolved }
-    ensures reached { OnOk result ((P.world places.new).reached ≡ first_place (plain_source words.now.source)) }
-    ensures few { (P.world places.new).reached ≤ first_place (plain_source words.now.source) }
-    ensures within { ReadsSource (most_source_bytes + 1) (plain_source words.now.source) (P.world places.new) }
-    ensures keeps { KeepsNames (P.world places.old) (P.world places.new) }
-    ensures counts_no_read { CountsNoRead result (P.world places.old) (P.world places.new) }
+    ensures reading { HasRead (most_source_bytes + 1) (plain_source words.now.source) (P.world places.old) (P.world places.new) result }
     ensures stopped { IfErr result (IsColumnsStop (plain_source words.now.source) (plain_words words.now).columns (P.world places.old) (P.world places.new)) }
 {
     let tree = tree_of(alloc, words, places)?;
@@ -108,11 +97,7 @@ fn flat_program<P: Places>(alloc: Global, words: &Words, places: &mut P) -> Resu
     requires made { MadeIsFromTo 1 10000 words.now.source }
     requires none { (P.world places.old).reached ≡ 0 }
     ensures spelt { IfOk result (λ program. FlatBySource (plain_source words.now.source) (P.world places.old) (table_of program)) }
-    ensures reached { OnOk result ((P.world places.new).reached ≡ first_place (plain_source words.now.source)) }
-    ensures few { (P.world places.new).reached ≤ first_place (plain_source words.now.source) }
-    ensures within { ReadsSource (most_flat_bytes + 1) (plain_source words.now.source) (P.world places.new) }
-    ensures keeps { KeepsNames (P.world places.old) (P.world places.new) }
-    ensures counts_no_read { CountsNoRead result (P.world places.old) (P.world places.new) }
+    ensures reading { HasRead (most_flat_bytes + 1) (plain_source words.now.source) (P.world places.old) (P.world places.new) result }
     ensures stopped { IfErr result (IsSourceStop RefusesFlat (plain_source words.now.source) (P.world places.old) (P.world places.new)) }
 {
     let source = read_source(alloc, &words.source, PAST_FLAT, places)?;
@@ -153,16 +138,9 @@ fn run_tree<P: Places, K: Sink>(
     places: &mut P,
     out: &mut K,
 ) -> Result<Done, Stop>
-    requires made { MadeIsFromTo 1 10000 words.now.source }
-    requires room { IsFromTo 1 most_asked words.now.room }
-    requires task { task_of (plain_words words.now) ≡ Task.Run }
+    requires may { MayBegin words.now Task.Run (P.world places.old) }
     requires form { form_of (plain_words words.now) ≢ Form.Flat }
-    requires built { is_built (task_of (plain_words words.now)) (form_of (plain_words words.now)) ≡ true }
-    requires none { (P.world places.old).reached ≡ 0 }
-    ensures comes { Comes (call (Some (plain_words words.now)) (P.world places.old) (P.world places.new) (told K.written K.faults out.old) (told K.written K.faults out.new)) result }
-    ensures counts_no_read { CountsNoRead result (P.world places.old) (P.world places.new) }
-    ensures counts_no_write { CountsNoWrite result (K.faults out.old) (K.faults out.new) }
-    ensures within { ReadsSource (most_read (form_of (plain_words words.now))) (plain_source words.now.source) (P.world places.new) }
+    ensures { Does (call (Some (plain_words words.now)) (P.world places.old) (P.world places.new) (told K.written K.faults out.old) (told K.written K.faults out.new)) result }
 {
     same_streams_run_alike();
     figures_carry();
@@ -178,16 +156,8 @@ fn columns_task<P: Places, K: Sink>(
     places: &mut P,
     out: &mut K,
 ) -> Result<Done, Stop>
-    requires made { MadeIsFromTo 1 10000 words.now.source }
-    requires room { IsFromTo 1 most_asked words.now.room }
-    requires columns { length (plain_words words.now).columns ≤ 16 }
-    requires task { task_of (plain_words words.now) ≡ Task.Columns }
-    requires built { is_built (task_of (plain_words words.now)) (form_of (plain_words words.now)) ≡ true }
-    requires none { (P.world places.old).reached ≡ 0 }
-    ensures comes { Comes (call (Some (plain_words words.now)) (P.world places.old) (P.world places.new) (told K.written K.faults out.old) (told K.written K.faults out.new)) result }
-    ensures counts_no_read { CountsNoRead result (P.world places.old) (P.world places.new) }
-    ensures counts_no_write { CountsNoWrite result (K.faults out.old) (K.faults out.new) }
-    ensures within { ReadsSource (most_read (form_of (plain_words words.now))) (plain_source words.now.source) (P.world places.new) }
+    requires { MayBegin words.now Task.Columns (P.world places.old) }
+    ensures { Does (call (Some (plain_words words.now)) (P.world places.old) (P.world places.new) (told K.written K.faults out.old) (told K.written K.faults out.new)) result }
 {
     figures_carry();
     columns_are_spaces();
@@ -203,16 +173,9 @@ fn run_table<P: Places, K: Sink>(
     places: &mut P,
     out: &mut K,
 ) -> Result<Done, Stop>
-    requires made { MadeIsFromTo 1 10000 words.now.source }
-    requires room { IsFromTo 1 most_asked words.now.room }
-    requires task { task_of (plain_words words.now) ≡ Task.Run }
+    requires may { MayBegin words.now Task.Run (P.world places.old) }
     requires form { form_of (plain_words words.now) ≡ Form.Flat }
-    requires built { is_built (task_of (plain_words words.now)) (form_of (plain_words words.now)) ≡ true }
-    requires none { (P.world places.old).reached ≡ 0 }
-    ensures comes { Comes (call (Some (plain_words words.now)) (P.world places.old) (P.world places.new) (told K.written K.faults out.old) (told K.written K.faults out.new)) result }
-    ensures counts_no_read { CountsNoRead result (P.world places.old) (P.world places.new) }
-    ensures counts_no_write { CountsNoWrite result (K.faults out.old) (K.faults out.new) }
-    ensures within { ReadsSource (most_read (form_of (plain_words words.now))) (plain_source words.now.source) (P.world places.new) }
+    ensures { Does (call (Some (plain_words words.now)) (P.world places.old) (P.world places.new) (told K.written K.faults out.old) (told K.written K.faults out.new)) result }
 {
     let program = flat_program(alloc, words, places)?;
     let names = copied_names(alloc, program.table().inputs.items())?;
@@ -226,15 +189,8 @@ fn run_task<P: Places, K: Sink>(
     places: &mut P,
     out: &mut K,
 ) -> Result<Done, Stop>
-    requires made { MadeIsFromTo 1 10000 words.now.source }
-    requires room { IsFromTo 1 most_asked words.now.room }
-    requires task { task_of (plain_words words.now) ≡ Task.Run }
-    requires built { is_built (task_of (plain_words words.now)) (form_of (plain_words words.now)) ≡ true }
-    requires none { (P.world places.old).reached ≡ 0 }
-    ensures comes { Comes (call (Some (plain_words words.now)) (P.world places.old) (P.world places.new) (told K.written K.faults out.old) (told K.written K.faults out.new)) result }
-    ensures counts_no_read { CountsNoRead result (P.world places.old) (P.world places.new) }
-    ensures counts_no_write { CountsNoWrite result (K.faults out.old) (K.faults out.new) }
-    ensures within { ReadsSource (most_read (form_of (plain_words words.now))) (plain_source words.now.source) (P.world places.new) }
+    requires { MayBegin words.now Task.Run (P.world places.old) }
+    ensures { Does (call (Some (plain_words words.now)) (P.world places.old) (P.world places.new) (told K.written K.faults out.old) (told K.written K.faults out.new)) result }
 {
     match Form::of(words) {
         Form::Flat => run_table(alloc, words, places, out),
@@ -249,14 +205,8 @@ fn print_task<P: Places, K: Sink>(
     places: &mut P,
     out: &mut K,
 ) -> Result<Done, Stop>
-    requires made { MadeIsFromTo 1 10000 words.now.source }
-    requires task { task_of (plain_words words.now) ≡ Task.Print }
-    requires built { is_built (task_of (plain_words words.now)) (form_of (plain_words words.now)) ≡ true }
-    requires none { (P.world places.old).reached ≡ 0 }
-    ensures comes { Comes (call (Some (plain_words words.now)) (P.world places.old) (P.world places.new) (told K.written K.faults out.old) (told K.written K.faults out.new)) result }
-    ensures counts_no_read { CountsNoRead result (P.world places.old) (P.world places.new) }
-    ensures counts_no_write { CountsNoWrite result (K.faults out.old) (K.faults out.new) }
-    ensures within { ReadsSource (most_read (form_of (plain_words words.now))) (plain_source words.now.source) (P.world places.new) }
+    requires { MayBegin words.now Task.Print (P.world places.old) }
+    ensures { Does (call (Some (plain_words words.now)) (P.world places.old) (P.world places.new) (told K.written K.faults out.old) (told K.written K.faults out.new)) result }
 {
     let tree = tree_of(alloc, words, places)?;
     print_program(alloc, &tree, out)
@@ -269,14 +219,8 @@ fn cycles_task<P: Places, K: Sink>(
     places: &mut P,
     out: &mut K,
 ) -> Result<Done, Stop>
-    requires made { MadeIsFromTo 1 10000 words.now.source }
-    requires task { task_of (plain_words words.now) ≡ Task.Cycles }
-    requires built { is_built (task_of (plain_words words.now)) (form_of (plain_words words.now)) ≡ true }
-    requires none { (P.world places.old).reached ≡ 0 }
-    ensures comes { Comes (call (Some (plain_words words.now)) (P.world places.old) (P.world places.new) (told K.written K.faults out.old) (told K.written K.faults out.new)) result }
-    ensures counts_no_read { CountsNoRead result (P.world places.old) (P.world places.new) }
-    ensures counts_no_write { CountsNoWrite result (K.faults out.old) (K.faults out.new) }
-    ensures within { ReadsSource (most_read (form_of (plain_words words.now))) (plain_source words.now.source) (P.world places.new) }
+    requires { MayBegin words.now Task.Cycles (P.world places.old) }
+    ensures { Does (call (Some (plain_words words.now)) (P.world places.old) (P.world places.new) (told K.written K.faults out.old) (told K.written K.faults out.new)) result }
 {
     let scoped = program_of(alloc, words, places)?;
     let judgment = judge(alloc, &scoped)?;
@@ -290,14 +234,8 @@ fn flat_task<P: Places, K: Sink>(
     places: &mut P,
     out: &mut K,
 ) -> Result<Done, Stop>
-    requires made { MadeIsFromTo 1 10000 words.now.source }
-    requires task { task_of (plain_words words.now) ≡ Task.Flat }
-    requires built { is_built (task_of (plain_words words.now)) (form_of (plain_words words.now)) ≡ true }
-    requires none { (P.world places.old).reached ≡ 0 }
-    ensures comes { Comes (call (Some (plain_words words.now)) (P.world places.old) (P.world places.new) (told K.written K.faults out.old) (told K.written K.faults out.new)) result }
-    ensures counts_no_read { CountsNoRead result (P.world places.old) (P.world places.new) }
-    ensures counts_no_write { CountsNoWrite result (K.faults out.old) (K.faults out.new) }
-    ensures within { ReadsSource (most_read (form_of (plain_words words.now))) (plain_source words.now.source) (P.world places.new) }
+    requires { MayBegin words.now Task.Flat (P.world places.old) }
+    ensures { Does (call (Some (plain_words words.now)) (P.world places.old) (P.world places.new) (told K.written K.faults out.old) (told K.written K.faults out.new)) result }
 {
     let scoped = program_of(alloc, words, places)?;
     write_flat(alloc, &scoped, out)
@@ -311,10 +249,7 @@ fn do_task<P: Places, K: Sink>(
     out: &mut K,
 ) -> Result<Done, Stop>
     requires { (P.world places.old).reached ≡ 0 }
-    ensures comes { Comes (call (words_asked (map string_bytes words.now)) (P.world places.old) (P.world places.new) (told K.written K.faults out.old) (told K.written K.faults out.new)) result }
-    ensures counts_no_read { CountsNoRead result (P.world places.old) (P.world places.new) }
-    ensures counts_no_write { CountsNoWrite result (K.faults out.old) (K.faults out.new) }
-    ensures within { (w : PlainWords) → words_asked (map string_bytes words.now) ≡ Some w → ReadsSource (most_read (form_of w)) w.source (P.world places.new) }
+    ensures { Does (call (words_asked (map string_bytes words.now)) (P.world places.old) (P.world places.new) (told K.written K.faults out.old) (told K.written K.faults out.new)) result }
 {
     let words = read_words(alloc, words)?;
     let task = Task::of(&words);

@@ -6,8 +6,7 @@ use Rattle.lucid_facts.specs.Engine.{places_of}
 use Rattle.lucid_equations.specs.Programs.{table_of}
 use Rattle.lucid_words.specs.Asked.{plain_words}
 use Rattle.lucid_retire.specs.Policies.{keeps_all, empties_all, most_held}
-use Rattle.lucid_session.specs.Runs.{OnTooLarge}
-use Rattle.lucid_top.specs.Call.{told}
+use Rattle.lucid_session.specs.Runs.{told, OnTooLarge}
 use Rattle.lucid_top.specs.Runs.{viewed, table_program}
 use Rattle.lucid_top.proofs.Asking.{askable, places_are}
 use Rattle.lucid_top.proofs.Begun.{no_memory, same_contents}

@@ -2,7 +2,8 @@ use Rattle.std.proofs.Common.{◌≡◌, map, false, refl, sym, ap, ◌∙◌}
 use Rattle.std.proofs.lemmas.Result.{err_from_is_err_and}
 use Rattle.std.specs.String.{string_bytes}
 use Rattle.lucid_words.specs.Asked.{plain_words, words_asked}
-use Rattle.lucid_top.specs.Call.{Call, call, told}
+use Rattle.lucid_top.specs.Call.{Call, call}
+use Rattle.lucid_session.specs.Runs.{told}
 use Rattle.lucid_top.specs.Tasks.{task_of, form_of, is_built}
 use Rattle.lucid_top.proofs.Ending.{words_stops, not_built_stops, other_is_not}
 use Rattle.lucid_top.proofs.FewColumns.{few_columns}

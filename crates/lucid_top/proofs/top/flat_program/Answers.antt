@@ -1,4 +1,4 @@
-use Rattle.std.proofs.Common.{List, ℕ, subst, inr}
+use Rattle.std.proofs.Common.{◌+◌, List, ℕ, subst}
 use Rattle.std.proofs.lemmas.Result.{IfOk-weaker, IfErr-weaker, err_from_is_err_and}
 use Rattle.lucid_equations.specs.Programs.{table_of}
 use Rattle.lucid_words.specs.Plain.{plain_source}
@@ -6,8 +6,8 @@ use Rattle.lucid_top.specs.Refusals.{IsRefusalOf}
 use Rattle.lucid_top.specs.Flat.{SpellsTable, RefusesFlat}
 use Rattle.lucid_top.specs.Places.{FlatBySource, IsSourceStop}
 use Rattle.lucid_top.proofs.Sources.{flat_by, flat_stop, read_stops}
-use Rattle.lucid_top.specs.declared.stop.Stop.TheVariants as stop
-use Rattle.lucid_top.proofs.Counting.{none_at_ok, handed_on}
+use Rattle.lucid_top.specs.Flat.{most_flat_bytes}
+use Rattle.lucid_top.proofs.Doing.{has_read, has_stopped}
 use Rattle.lucid_top.proofs.top.flat_program.Goals as goal
 
 pub returns-in_err-source-clause-stopped : goal.returns-in_err-source-clause-stopped
@@ -30,10 +30,10 @@ returns-clause-stopped g c =
     c.in_ok-source.ensures.source (subst (λ (bytes : List ℕ). IsRefusalOf (RefusesFlat bytes) s) c.deref.ensures.value refused))
     c.read_program.ensures.refused
 
-pub returns-in_err-source-clause-counts_no_read : goal.returns-in_err-source-clause-counts_no_read
-returns-in_err-source-clause-counts_no_read g c =
+pub returns-in_err-source-clause-reading : goal.returns-in_err-source-clause-reading
+returns-in_err-source-clause-reading g c =
     let p = err_from_is_err_and c.from_residual.result c.from_residual.ensures.1 in
-    rw (p.1) (handed_on c.in_err-source.field-0.0 p.0 stop.ReadFault (g.P.Places.world c.args.places.now).faults (g.P.Places.world c.read_source.new.places).faults p.2 c.in_err-source.ensures.counts_no_read)
+    rw (p.1, p.2) (has_stopped c.in_err-source.field-0.0 (most_flat_bytes + 1) (plain_source c.args.words.now.source) (g.P.Places.world c.args.places.now) (g.P.Places.world c.read_source.new.places) (record { reached = tt; few = c.in_err-source.ensures.few; within = c.in_err-source.ensures.within; keeps = c.in_err-source.ensures.keeps; counts_no_read = c.in_err-source.ensures.counts_no_read }))
 
-pub returns-clause-counts_no_read : goal.returns-clause-counts_no_read
-returns-clause-counts_no_read g c = inr (none_at_ok c.in_ok-source.source stop.ReadFault (g.P.Places.world c.args.places.now).faults (g.P.Places.world c.read_source.new.places).faults c.in_ok-source.ensures.counts_no_read)
+pub returns-clause-reading : goal.returns-clause-reading
+returns-clause-reading g c = has_read c.in_ok-source.source (most_flat_bytes + 1) (plain_source c.args.words.now.source) (g.P.Places.world c.args.places.now) (g.P.Places.world c.read_source.new.places) c.read_program.result (record { reached = c.in_ok-source.ensures.reached; few = c.in_ok-source.ensures.few; within = c.in_ok-source.ensures.within; keeps = c.in_ok-source.ensures.keeps; counts_no_read = c.in_ok-source.ensures.counts_no_read })

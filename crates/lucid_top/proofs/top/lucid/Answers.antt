@@ -1,7 +1,8 @@
 use Rattle.std.proofs.Common.{map}
 use Rattle.std.specs.String.{string_bytes}
 use Rattle.lucid_words.specs.Asked.{words_asked}
-use Rattle.lucid_top.specs.Call.{call, told}
+use Rattle.lucid_top.specs.Call.{call}
+use Rattle.lucid_session.specs.Runs.{told}
 use Rattle.lucid_top.proofs.OneCall.{OneVerdict}
 use Rattle.lucid_top.proofs.Meeting.{meets}
 use Rattle.lucid_top.proofs.top.lucid.Goals as goal

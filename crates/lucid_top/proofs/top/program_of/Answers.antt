@@ -4,9 +4,9 @@ use Rattle.lucid_top.specs.Places.{IsProgramStop}
 use Rattle.lucid_top.specs.Judged.{RefusesNames}
 use Rattle.lucid_top.specs.Refusals.{IsRefusalOf}
 use Rattle.lucid_top.proofs.Ending.{all_accepted, names_stop, source_stop}
-use Rattle.std.proofs.Common.{inr}
-use Rattle.lucid_top.specs.declared.stop.Stop.TheVariants as stop
-use Rattle.lucid_top.proofs.Counting.{none_at_ok, handed_on}
+use Rattle.std.proofs.Common.{◌+◌}
+use Rattle.lucid_scan.specs.Refusals.{most_source_bytes}
+use Rattle.lucid_top.proofs.Doing.{has_read, has_stopped}
 use Rattle.lucid_top.proofs.top.program_of.Goals as goal
 
 pub returns-in_err-tree-clause-stopped : goal.returns-in_err-tree-clause-stopped
@@ -27,10 +27,10 @@ returns-clause-stopped g c =
     c.in_ok-tree.ensures.spelt c.in_ok-tree.ensures.well_made refused)
     c.resolve_names.ensures.refused
 
-pub returns-in_err-tree-clause-counts_no_read : goal.returns-in_err-tree-clause-counts_no_read
-returns-in_err-tree-clause-counts_no_read g c =
+pub returns-in_err-tree-clause-reading : goal.returns-in_err-tree-clause-reading
+returns-in_err-tree-clause-reading g c =
     let p = err_from_is_err_and c.from_residual.result c.from_residual.ensures.1 in
-    rw (p.1) (handed_on c.in_err-tree.field-0.0 p.0 stop.ReadFault (g.P.Places.world c.args.places.now).faults (g.P.Places.world c.tree_of.new.places).faults p.2 c.in_err-tree.ensures.counts_no_read)
+    rw (p.1, p.2) (has_stopped c.in_err-tree.field-0.0 (most_source_bytes + 1) (plain_source c.args.words.now.source) (g.P.Places.world c.args.places.now) (g.P.Places.world c.tree_of.new.places) c.in_err-tree.ensures.reading)
 
-pub returns-clause-counts_no_read : goal.returns-clause-counts_no_read
-returns-clause-counts_no_read g c = inr (none_at_ok c.in_ok-tree.tree stop.ReadFault (g.P.Places.world c.args.places.now).faults (g.P.Places.world c.tree_of.new.places).faults c.in_ok-tree.ensures.counts_no_read)
+pub returns-clause-reading : goal.returns-clause-reading
+returns-clause-reading g c = has_read c.in_ok-tree.tree (most_source_bytes + 1) (plain_source c.args.words.now.source) (g.P.Places.world c.args.places.now) (g.P.Places.world c.tree_of.new.places) c.resolve_names.result c.in_ok-tree.ensures.reading

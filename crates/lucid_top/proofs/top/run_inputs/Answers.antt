@@ -5,7 +5,8 @@ use Rattle.std.proofs.lemmas.Result.{err_from_is_err_and}
 use Rattle.lucid_equations.specs.Programs.{table_of}
 use Rattle.lucid_words.specs.Plain.{plain_source}
 use Rattle.lucid_words.specs.Asked.{plain_words}
-use Rattle.lucid_top.specs.Call.{Call, call, told}
+use Rattle.lucid_top.specs.Call.{Call, call}
+use Rattle.lucid_session.specs.Runs.{told}
 use Rattle.lucid_top.specs.Refusals.{IsRefusalOf}
 use Rattle.lucid_top.specs.Files.{RefusesGiven, FitsGiven, files_for}
 use Rattle.lucid_top.specs.Places.{AreFresh}

@@ -5,7 +5,7 @@ use Rattle.lucid_equations.specs.Sound.{IsSound}
 use Rattle.lucid_equations.specs.declared.table.Table.{Table}
 use Rattle.lucid_flat.specs.FlatText.{flat_text}
 use Rattle.lucid_flat.specs.FlatTables.{HasText, IsTextOf}
-use Rattle.lucid_top.specs.Call.{told}
+use Rattle.lucid_session.specs.Runs.{told}
 use Rattle.lucid_top.specs.Judged.{HasInputs}
 use Rattle.lucid_top.specs.Texts.{IsFlatForm}
 use Rattle.lucid_top.proofs.Ending.{as_text, inputs_of}

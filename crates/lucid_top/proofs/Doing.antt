@@ -1,0 +1,85 @@
+-- What a call does: it stops early, or it writes or runs behind a source that was read.
+use Rattle.std.proofs.Common.{◌≡◌, ◌≢◌, ℕ, ◌+◌, ◌≤◌, Option, Some, Result, Ok, Err, inr, refl, ap, subst}
+use Rattle.std.specs.Prelude.{IsErrOf}
+use Rattle.clap.proofs.BuiltLemmas.{on_ok_always}
+use Rattle.lucid_ports.specs.Faults.{CountsNoFaultUnless}
+use Rattle.lucid_ports.specs.World.{World}
+use Rattle.lucid_scan.specs.Refusals.{most_source_bytes}
+use Rattle.lucid_words.specs.Plain.{PlainSource}
+use Rattle.lucid_words.specs.Asked.{PlainWords}
+use Rattle.lucid_session.specs.Runs.{Told}
+use Rattle.lucid_top.specs.declared.stop.Stop.{Stop}
+use Rattle.lucid_top.specs.declared.stop.Stop.TheVariants as stop
+use Rattle.lucid_top.specs.declared.task.Task.TheVariants as task
+use Rattle.lucid_top.specs.Status.{Outcome}
+use Rattle.lucid_top.specs.Call.{Call}
+use Rattle.lucid_top.specs.Tasks.{task_of, form_of}
+use Rattle.lucid_top.specs.Stages.{IsWriting, IsTextFor}
+use Rattle.lucid_top.specs.Runs.{first_place}
+use Rattle.lucid_top.specs.Places.{HasRead, ReadsSource, most_read, CountsNoRead, CountsNoWrite, IsProgramStop}
+use Rattle.lucid_top.specs.Writing.{WritesOnly}
+use Rattle.lucid_top.specs.Coming.{Comes, Does}
+use Rattle.lucid_top.proofs.Counting.{none_at_ok, handed_on, counts_then}
+use Rattle.lucid_top.proofs.Ending.{Begins, IsText, within_text, program_stops, memory_stops, writes}
+
+-- the source is read so, and then something else comes of it; or what stopped its reading is handed on
+pub has_read : {T U : Type 0} (x : T) (most : ℕ) (s : PlainSource) (v w : World) (r : Result U Stop) → HasRead {T = T} most s v w (Ok x) → HasRead most s v w r
+has_read x most s v w r h =
+    record { reached = on_ok_always r h.reached; few = h.few; within = h.within; keeps = h.keeps; counts_no_read = inr (none_at_ok x stop.ReadFault v.faults w.faults h.counts_no_read) }
+
+pub has_stopped : {T U : Type 0} (e : Stop) (most : ℕ) (s : PlainSource) (v w : World) → HasRead {T = T} most s v w (Err e) → HasRead {T = U} most s v w (Err e)
+has_stopped e most s v w h =
+    record { reached = tt; few = h.few; within = h.within; keeps = h.keeps; counts_no_read = handed_on e e stop.ReadFault v.faults w.faults refl h.counts_no_read }
+
+-- no more of the source is read, whatever the words of the call are called
+pub reads_for : (c : Call) (w : PlainWords) → c.asked ≡ Some w → ReadsSource (most_read (form_of w)) w.source c.after → (v : PlainWords) → c.asked ≡ Some v
+    → ReadsSource (most_read (form_of v)) v.source c.after
+reads_for c w read within v asked = let same : w ≡ v = cc (read, asked) in subst (λ (u : PlainWords). ReadsSource (most_read (form_of u)) u.source c.after) same within
+
+-- a stop before anything is written
+pub stops : {T : Type 0} (c : Call) (w : PlainWords) (s : Stop) → c.asked ≡ Some w → c.out_after ≡ c.out_before → Comes c (Err s)
+    → CountsNoFaultUnless (IsErrOf {T = T} (Err s) stop.ReadFault) c.before.faults c.after.faults → ReadsSource (most_read (form_of w)) w.source c.after → Does c (Err s)
+stops c w s read silent comes counts within = record {
+  comes = comes;
+  counts_no_read = handed_on s s stop.ReadFault c.before.faults c.after.faults refl counts;
+  counts_no_write = inr (ap (λ (t : Told). t.faults) silent);
+  within = reads_for c w read within;
+}
+
+-- the source or the names stop the call
+pub program_does : {T : Type 0} (c : Call) (w : PlainWords) (s : Stop) → Begins c w → IsText w → task_of w ≢ task.Print → c.out_after ≡ c.out_before
+    → IsProgramStop w.source c.before c.after s → HasRead {T = T} (most_source_bytes + 1) w.source c.before c.after (Err s) → Does c (Err s)
+program_does c w s b text other silent why h =
+    stops c w s b.read silent (program_stops c w s b text other why (ap (λ (t : Told). t.bytes) silent) h.few) h.counts_no_read (within_text w w.source c.after text h.within)
+
+-- want of memory behind a source that was read
+pub memory_does : {T : Type 0} (x : T) (most : ℕ) (c : Call) (w : PlainWords) → Begins c w → c.out_after ≡ c.out_before → HasRead {T = T} most w.source c.before c.after (Ok x)
+    → ReadsSource (most_read (form_of w)) w.source c.after → Does c (Err stop.NoMemory)
+memory_does x most c w b silent h within = record {
+  comes = memory_stops c w b (ap (λ (t : Told). t.bytes) silent) h.few;
+  counts_no_read = inr (none_at_ok x stop.ReadFault c.before.faults c.after.faults h.counts_no_read);
+  counts_no_write = inr (ap (λ (t : Told). t.faults) silent);
+  within = reads_for c w b.read within;
+}
+
+-- the text that is asked for is written
+pub writing_does : {T : Type 0} (x : T) (c : Call) (w : PlainWords) (y : IsWriting c) (o : Outcome) → Begins c w → IsText w
+    → HasRead {T = T} (most_source_bytes + 1) w.source c.before c.after (Ok x)
+    → WritesOnly (IsTextFor y) c.out_before c.out_after o → CountsNoWrite o c.out_before.faults c.out_after.faults → Does c o
+writing_does x c w y o b text h written counted = record {
+  comes = writes c w y o b h.few written;
+  counts_no_read = inr (none_at_ok x stop.ReadFault c.before.faults c.after.faults h.counts_no_read);
+  counts_no_write = counted;
+  within = reads_for c w b.read (within_text w w.source c.after text h.within);
+}
+
+-- a run behind a source that was read
+pub run_does : {T : Type 0} (x : T) (c : Call) (w : PlainWords) (v : World) (o : Outcome) → c.asked ≡ Some w → Comes c o
+    → CountsNoFaultUnless (IsErrOf {T = T} (Ok x) stop.ReadFault) c.before.faults v.faults → CountsNoRead o v c.after → CountsNoWrite o c.out_before.faults c.out_after.faults
+    → ReadsSource (most_read (form_of w)) w.source c.after → Does c o
+run_does x c w v o read comes counts behind counted within = record {
+  comes = comes;
+  counts_no_read = counts_then c.before.faults v.faults c.after.faults (none_at_ok x stop.ReadFault c.before.faults v.faults counts) behind;
+  counts_no_write = counted;
+  within = reads_for c w read within;
+}
