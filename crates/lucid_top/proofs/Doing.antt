@@ -1,24 +1,29 @@
 -- What a call does: it stops early, or it writes or runs behind a source that was read.
-use Rattle.std.proofs.Common.{◌≡◌, ◌≢◌, ℕ, ◌+◌, ◌≤◌, Option, Some, Result, Ok, Err, inr, refl, ap, subst}
+use Rattle.std.proofs.Common.{◌≡◌, ◌≢◌, ℕ, ◌+◌, true, List, Some, Result, Ok, Err, inr, refl, sym, ap, subst, arith}
 use Rattle.std.specs.Prelude.{IsErrOf}
 use Rattle.clap.proofs.BuiltLemmas.{on_ok_always}
 use Rattle.lucid_ports.specs.Faults.{CountsNoFaultUnless}
 use Rattle.lucid_ports.specs.World.{World}
 use Rattle.lucid_scan.specs.Refusals.{most_source_bytes}
-use Rattle.lucid_words.specs.Plain.{PlainSource}
-use Rattle.lucid_words.specs.Asked.{PlainWords}
+use Rattle.lucid_words.specs.Plain.{PlainSource, file, made}
+use Rattle.lucid_words.specs.declared.Words.{Words}
+use Rattle.lucid_words.specs.Numbers.{IsFromTo, MadeIsFromTo}
+use Rattle.lucid_words.specs.Asked.{PlainWords, plain_words, words_asked}
+use Rattle.lucid_ports.specs.Limits.{most_asked}
 use Rattle.lucid_session.specs.Runs.{Told}
 use Rattle.lucid_top.specs.declared.stop.Stop.{Stop}
 use Rattle.lucid_top.specs.declared.stop.Stop.TheVariants as stop
+use Rattle.lucid_top.specs.declared.task.Form.{Form}
+use Rattle.lucid_top.specs.declared.task.Task.{Task}
 use Rattle.lucid_top.specs.declared.task.Task.TheVariants as task
 use Rattle.lucid_top.specs.Status.{Outcome}
 use Rattle.lucid_top.specs.Call.{Call}
-use Rattle.lucid_top.specs.Tasks.{task_of, form_of}
+use Rattle.lucid_top.specs.Tasks.{task_of, form_of, is_built}
 use Rattle.lucid_top.specs.Stages.{IsWriting, IsTextFor}
-use Rattle.lucid_top.specs.Runs.{first_place}
 use Rattle.lucid_top.specs.Places.{HasRead, ReadsSource, most_read, CountsNoRead, CountsNoWrite, IsProgramStop}
 use Rattle.lucid_top.specs.Writing.{WritesOnly}
-use Rattle.lucid_top.specs.Coming.{Comes, Does}
+use Rattle.lucid_top.specs.Coming.{Comes, Does, MayBegin}
+use Rattle.lucid_top.proofs.FewColumns.{few_columns}
 use Rattle.lucid_top.proofs.Counting.{none_at_ok, handed_on, counts_then}
 use Rattle.lucid_top.proofs.Ending.{Begins, IsText, within_text, program_stops, memory_stops, writes}
 
@@ -30,6 +35,23 @@ has_read x most s v w r h =
 pub has_stopped : {T U : Type 0} (e : Stop) (most : ℕ) (s : PlainSource) (v w : World) → HasRead {T = T} most s v w (Err e) → HasRead {T = U} most s v w (Err e)
 has_stopped e most s v w h =
     record { reached = tt; few = h.few; within = h.within; keeps = h.keeps; counts_no_read = handed_on e e stop.ReadFault v.faults w.faults refl h.counts_no_read }
+
+-- what the words ask for may begin, where it is built
+pub may_begin : (texts : List (List ℕ)) (words : Words) (t : Task) (f : Form) (v : World) → words_asked texts ≡ Some (plain_words words) → MadeIsFromTo 1 10000 words.source → IsFromTo 1 most_asked words.room
+    → t ≡ task_of (plain_words words) → f ≡ form_of (plain_words words) → is_built t f ≡ true → v.reached ≡ 0 → MayBegin words t v
+may_begin texts words t f v asked given room is form built none = record {
+  made = given;
+  room = room;
+  columns = few_columns texts (plain_words words) asked;
+  task = sym is;
+  built = subst (λ x. is_built x (form_of (plain_words words)) ≡ true) is (subst (λ x. is_built t x ≡ true) form built);
+  none = none;
+}
+
+-- where no place is reached, nothing is read
+pub none_read : (most : ℕ) (s : PlainSource) (w : World) → w.reached ≡ 0 → ReadsSource most s w
+none_read most (file name) w none = λ lt. absurd (omega (arith, none, lt))
+none_read most (made n) w none = tt
 
 -- no more of the source is read, whatever the words of the call are called
 pub reads_for : (c : Call) (w : PlainWords) → c.asked ≡ Some w → ReadsSource (most_read (form_of w)) w.source c.after → (v : PlainWords) → c.asked ≡ Some v

@@ -5,6 +5,7 @@ pub mod Reaching
 pub mod Refusing
 pub mod Sources
 pub mod Ending
+pub mod Doing
 pub mod RunEnds
 pub mod Begun
 pub mod Carrying

@@ -62,7 +62,7 @@ returns g c =
     let table = table_of c.in_ok-program.program in
     let tree = scoped_tree c.in_ok-scoped.scoped in
     let inputs = inputs_of tree (scoped_inputs c.in_ok-scoped.scoped) (scoped_binding c.in_ok-scoped.scoped) c.inputs.ensures.resolved in
-    let keeps : KeepsTree (equations_of table) (beside a.tree w.columns) = subst (KeepsTree (equations_of table)) a.beside.is c.in_ok-program.ensures.reading.keeps in
+    let keeps : KeepsTree (equations_of table) (beside a.tree w.columns) = subst (KeepsTree (equations_of table)) a.beside.is c.in_ok-program.ensures.keeps in
     run_does c.in_ok-scoped.scoped here w (g.P.Places.world c.columns_of.new.places) c.run_inputs.result refl
     (c.run_inputs.ensures.comes here.before (record {
       read = refl;

@@ -60,7 +60,7 @@ returns g c =
       program = by_tree (names_of here w tree (scoped_inputs c.in_ok-scoped.scoped) begins c.requires.form (run_not_print w c.requires.may.task) read.accepted inputs);
       made = read.accepted.well_made;
       inputs = sym c.in_ok-program.ensures.inputs;
-      runs = λ r o h. runs_tree c.same_streams_run_alike.ensures c.figures_carry.ensures table tree c.in_ok-program.ensures.reading.keeps r o (subst (λ p. RanSo p r o) (one_table w table c.requires.may.task) h);
+      runs = λ r o h. runs_tree c.same_streams_run_alike.ensures c.figures_carry.ensures table tree c.in_ok-program.ensures.keeps r o (subst (λ p. RanSo p r o) (one_table w table c.requires.may.task) h);
       kept = read.reading.keeps;
       first = read.reading.reached;
     }))
