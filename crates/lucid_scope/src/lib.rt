@@ -2,7 +2,7 @@
 #![tactic(auto)]
 
 pub use crate::refusal::ScopeRefusal;
-pub use crate::resolution::resolve;
+pub use crate::resolution::{resolve, resolve_owned};
 pub use crate::scoped::{Binding, Scoped};
 
 pub mod laws;

@@ -12,7 +12,7 @@ use crate::stop::Stop;
 use lucid_columns::laws::columns_have_no_fault;
 use lucid_parse::parse;
 use lucid_scan::scan;
-use lucid_scope::{Scoped, resolve};
+use lucid_scope::{Scoped, resolve, resolve_owned};
 use lucid_tree::Tree;
 use lucid_value::Name;
 use std::alloc::Global;
@@ -38,7 +38,20 @@ fn are_resolved(scoped: &Scoped)
 }
 
 /// The tree with what its names belong to.
-pub fn resolve_names(alloc: Global, tree: &Tree) -> Result<Scoped, Stop>
+pub fn resolve_names(alloc: Global, tree: Tree) -> Result<Scoped, Stop>
+    requires { IsWellMade tree }
+    ensures tree { IfOk result (λ scoped. scoped_tree scoped ≡ tree) }
+    ensures no_fault { OnOk result (HasNoFault tree) }
+    ensures resolved { IfOk result AreResolved }
+    ensures refused { IfErr result (IsRefusalOf (RefusesNames tree)) }
+{
+    let scoped = resolve_owned(alloc, tree)?;
+    are_resolved(&scoped);
+    Ok(scoped)
+}
+
+// The same of a copy.
+fn resolve_copy(alloc: Global, tree: &Tree) -> Result<Scoped, Stop>
     requires { IsWellMade tree.now }
     ensures tree { IfOk result (λ scoped. scoped_tree scoped ≡ tree.now) }
     ensures no_fault { OnOk result (HasNoFault tree.now) }
@@ -62,7 +75,7 @@ pub fn resolve_beside(alloc: Global, tree: Tree, columns: &[Name]) -> Result<Sco
     ensures refused { IfErr result (IsRefusalOf (RefusesBeside tree columns.now)) }
 {
     columns_have_no_fault();
-    let scoped = resolve_names(alloc, &tree)?;
+    let scoped = resolve_copy(alloc, &tree)?;
     let new = columns_beside(alloc, tree, columns)?;
-    resolve_names(alloc, &new)
+    resolve_names(alloc, new)
 }

@@ -74,7 +74,7 @@ fn program_of<P: Places>(alloc: Global, words: &Words, places: &mut P) -> Result
     ensures stopped { IfErr result (IsProgramStop (plain_source words.now.source) (P.world places.old) (P.world places.new)) }
 {
     let tree = tree_of(alloc, words, places)?;
-    resolve_names(alloc, &tree)
+    resolve_names(alloc, tree)
 }
 
 // The tree of the source with the columns as its subject that the words name, and what its names belong to. The names of the tree as it is read
