@@ -1,0 +1,7 @@
+pub mod WordsInFront
+pub mod RowsGiven
+pub mod RowsTaken
+pub mod RowLemmas
+pub mod OneText
+pub mod Added
+pub mod TextMade

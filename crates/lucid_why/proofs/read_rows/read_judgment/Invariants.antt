@@ -1,0 +1,15 @@
+use Rattle.std.proofs.Common.{◌≡◌, ◌-◌, ◌≤◌, length}
+use Rattle.std.specs.Option.{option_copied}
+use Rattle.lucid_texts.specs.Words.{words_left}
+use Rattle.lucid_why.specs.WordsRead.{take_uses}
+use Rattle.lucid_why.proofs.RowsTaken.{with_front}
+use Rattle.lucid_why.proofs.read_rows.read_judgment.Given as goal
+
+abbrev pub invariant-loop-rest : goal.invariant-loop-rest
+invariant-loop-rest l = record {
+  read : take_uses l.front.count (words_left (option_copied l.initial.rest)) ≡ with_front l.uses.items (take_uses (l.front.count - length l.uses.items) (words_left (option_copied l.rest)));
+  few : length l.uses.items ≤ l.front.count;
+}
+
+abbrev pub decreases-loop-rest : goal.decreases-loop-rest
+decreases-loop-rest l = l.front.count - length l.uses.items
