@@ -1,0 +1,154 @@
+-- Plans that are fed alike.
+use Rattle.std.proofs.Common.{◌≡◌, ℕ, zero, suc, ◌+◌, ◌-◌, ◌<◌, ◌≤◌, Bool, true, false, cond, List, [], ◌∷◌, ◌++◌, Option, Some, None, refl, sym, ap, ◌∙◌, subst, arith, append_assoc, pos, negsuc}
+use Rattle.std.specs.Prelude.{nat_le}
+use Rattle.std.specs.Option.{option_and_then}
+use Rattle.std.proofs.lemmas.List.{append-nil}
+use Rattle.lucid_value.specs.Plain.{PlainValue, int, truth, word, text, list, eod, fault}
+use Rattle.lucid_ops.specs.Algebra.{algebra}
+use Rattle.lucid_ops.specs.Arity.{arity}
+use Rattle.lucid_ops.specs.declared.op.Op.{Op}
+use Rattle.lucid_tree.specs.Rows.{last, Look, Plan, gives, looks, single, look, gives_part, by_test, by_place, only_truth, at_zero, arguments, find_true, count_true}
+use Rattle.lucid_follow.specs.Fed.{Uses, take_values, fed}
+use Rattle.lucid_follow.specs.RestPlans.{look_plan, AreFedAlike}
+use Rattle.lucid_follow.specs.Told.{answer_of, by_answer, truth_by, place_by}
+use Rattle.lucid_follow.specs.declared.rest.Answer.TheVariants.{At, Other}
+use Rattle.lucid_follow.specs.declared.rest.Then.TheVariants as then
+
+-- one plan
+pub alike : (most : ℕ) (p q : Plan) → p ≡ q → AreFedAlike most p q
+alike most p q e value us l = ap (λ (x : Plan). fed value x us) e
+
+pub alike_then : (most : ℕ) (p q r : Plan) → p ≡ q → AreFedAlike most q r → AreFedAlike most p r
+alike_then most p q r e h value us l = ap (λ (x : Plan). fed value x us) e ∙ h value us l
+
+-- what a value tells decides as it does
+other_test : (b : Bool) (n : ℕ) (on off : Plan) → gives fault ≡ by_answer (cond b (At n) Other) on off
+other_test true n on off = refl
+other_test false n on off = refl
+
+pub told_test : (v : PlainValue) (on off : Plan) → by_test v on off ≡ by_answer (answer_of v) on off
+told_test (int (pos n)) on off = other_test (nat_le n last) n on off
+told_test (int (negsuc n)) on off = refl
+told_test (truth true) on off = refl
+told_test (truth false) on off = refl
+told_test (word bs) on off = refl
+told_test (text bs) on off = refl
+told_test (list vs) on off = refl
+told_test eod on off = refl
+told_test fault on off = refl
+
+place_test : (b : Bool) (n : ℕ) (k : ℕ → Plan) → cond b (k n) (gives fault) ≡ place_by (cond b (At n) Other) k
+place_test true n k = refl
+place_test false n k = refl
+
+pub told_place : (v : PlainValue) (k : ℕ → Plan) → by_place v k ≡ place_by (answer_of v) k
+told_place (int (pos n)) k = place_test (nat_le n last) n k
+told_place (int (negsuc n)) k = refl
+told_place (truth true) k = refl
+told_place (truth false) k = refl
+told_place (word bs) k = refl
+told_place (text bs) k = refl
+told_place (list vs) k = refl
+told_place eod k = refl
+told_place fault k = refl
+
+other_truth : (b : Bool) (n : ℕ) → fault ≡ truth_by (cond b (At n) Other)
+other_truth true n = refl
+other_truth false n = refl
+
+pub told_truth : (v : PlainValue) → only_truth v ≡ truth_by (answer_of v)
+told_truth (int (pos n)) = other_truth (nat_le n last) n
+told_truth (int (negsuc n)) = refl
+told_truth (truth b) = refl
+told_truth (word bs) = refl
+told_truth (text bs) = refl
+told_truth (list vs) = refl
+told_truth eod = refl
+told_truth fault = refl
+
+-- the true value that is wanted, or one fewer
+pub at_none : (n : ℕ) (a : Plan) (b : ℕ → Plan) → n ≡ 0 → at_zero n a b ≡ a
+at_none zero a b e = refl
+at_none (suc n) a b e = absurd (omega (arith, e))
+
+pub at_more : (n k : ℕ) (a : Plan) (b : ℕ → Plan) → n ≡ suc k → at_zero n a b ≡ b k
+at_more zero k a b e = absurd (omega (arith, e))
+at_more (suc n) k a b e = let q : n ≡ k = omega (arith, e) in ap b q
+
+-- a search that has looks is one look, and what is done with it
+none_found : (value : Uses) (x t w s : ℕ) → fed value (find_true x t w s) [] ≡ None
+none_found value zero t w s = refl
+none_found value (suc x) t w s = refl
+
+pub find_alike : (m most : ℕ) (vs : List PlainValue) (t w s : ℕ) → t + most ≤ m
+    → AreFedAlike most (find_true (m - t) t w s) (look_plan m vs (record { part = 1; time = t; space = s; then = then.Find w }))
+find_alike m most vs t w s h value [] l = none_found value (m - t) t w s
+find_alike m most vs t w s h value (u ∷ us) l =
+    let e : m - t ≡ suc (m - suc t) = omega (arith, h, l) in ap (λ (x : ℕ). fed value (find_true x t w s) (u ∷ us)) e
+
+pub find_next : (m most : ℕ) (vs : List PlainValue) (t w s : ℕ) → t + 1 + most ≤ m
+    → AreFedAlike most (find_true (m - suc t) (suc t) w s) (look_plan m vs (record { part = 1; time = t + 1; space = s; then = then.Find w }))
+find_next m most vs t w s h =
+    let e : t + 1 ≡ suc t = omega arith in
+    let P : ℕ → Type 0 = λ x. AreFedAlike most (find_true (m - x) x w s) (look_plan m vs (record { part = 1; time = t + 1; space = s; then = then.Find w })) in
+    subst P e (find_alike m most vs (t + 1) w s h)
+
+-- a count below its time is one look, and what is done with it
+pub count_look : (m : ℕ) (vs : List PlainValue) (t n s until : ℕ) → t < until
+    → look_plan m vs (record { part = 1; time = t; space = s; then = then.Count n until }) ≡ count_true (until - t) t n s until
+count_look m vs t n s until h =
+    let e : suc (until - suc t) ≡ until - t = omega (arith, h) in ap (λ (x : ℕ). count_true x t n s until) e
+
+pub count_none : (t n s until : ℕ) → until ≤ t → gives_part 0 n s ≡ count_true (until - t) t n s until
+count_none t n s until h =
+    let e : 0 ≡ until - t = omega (arith, h) in ap (λ (x : ℕ). count_true x t n s until) e
+
+-- looks are one look and the others
+pairs : (value : Uses) (k : List PlainValue → Plan) (v : PlainValue) (o : Option (List PlainValue × List ℕ))
+    → option_and_then (λ (r : List PlainValue × List ℕ). fed value (k r.0) r.1) (option_and_then (λ (r : List PlainValue × List ℕ). Some (v ∷ r.0, r.1)) o)
+    ≡ option_and_then (λ (r : List PlainValue × List ℕ). fed value (k (v ∷ r.0)) r.1) o
+pairs value k v None = refl
+pairs value k v (Some r) = refl
+
+first_value : (value : Uses) (ls : List Look) (k : List PlainValue → Plan) (us : List ℕ) (o : Option PlainValue)
+    → option_and_then (λ (r : List PlainValue × List ℕ). fed value (k r.0) r.1) (option_and_then (λ v. option_and_then (λ (r : List PlainValue × List ℕ). Some (v ∷ r.0, r.1)) (take_values value ls us)) o)
+    ≡ option_and_then (λ (r : List PlainValue × List ℕ). fed value (single (λ v. looks ls (λ ws. k (v ∷ ws))) r.0) r.1) (option_and_then (λ v. Some (v ∷ [], us)) o)
+first_value value ls k us None = refl
+first_value value ls k us (Some v) = pairs value k v (take_values value ls us)
+
+pub one_by_one : (most : ℕ) (l : Look) (ls : List Look) (k : List PlainValue → Plan) → AreFedAlike most (looks (l ∷ ls) k) (looks (l ∷ []) (single (λ v. looks ls (λ ws. k (v ∷ ws)))))
+one_by_one most l ls k value [] h = refl
+one_by_one most l ls k value (u ∷ us) h = first_value value ls k us (value l u)
+
+-- no looks
+pub no_looks : (most : ℕ) (k : List PlainValue → Plan) → AreFedAlike most (looks [] k) (k [])
+no_looks most k value us h = refl
+
+-- The arguments of an operator from one on, behind some values: the first, and then the others,
+module _ (op : Op) (t s : ℕ) where
+  abbrev pub from_argument : (values : List PlainValue) → (left part : ℕ) → Plan
+  from_argument vs n i = looks (arguments n i t s) (λ ws. gives (algebra op (vs ++ ws)))
+
+  regrouped : (vs : List PlainValue) (n i : ℕ)
+      → look i t s 0 (λ v. looks (arguments n (suc i) t s) (λ ws. gives (algebra op (vs ++ v ∷ ws)))) ≡ look i t s 0 (λ v. from_argument (vs ++ v ∷ []) n (suc i))
+  regrouped vs n i = λ j. look i t s 0 (λ v. looks (arguments n (suc i) t s) (λ ws. gives (algebra op (sym (append_assoc vs (v ∷ []) ws) j))))
+
+  pub next_argument : (most m : ℕ) (vs : List PlainValue) (left i : ℕ) → left ≡ arity op - i → i < arity op
+      → AreFedAlike most (from_argument vs left i) (look_plan m vs (record { part = i; time = t; space = s; then = then.Argument op }))
+  next_argument most m vs left i e h value us l =
+      let n : left ≡ suc (arity op - suc i) = omega (arith, e, h) in
+      ap (λ (x : ℕ). fed value (from_argument vs x i) us) n
+      ∙ (one_by_one most (record { part = i; time = t; space = s; least = 0 }) (arguments (arity op - suc i) (suc i) t s) (λ ws. gives (algebra op (vs ++ ws))) value us l
+      ∙ ap (λ (x : Plan). fed value x us) (regrouped vs (arity op - suc i) i))
+
+  pub argument_next : (most m : ℕ) (vs : List PlainValue) (i : ℕ) → i + 1 < arity op
+      → AreFedAlike most (from_argument vs (arity op - suc i) (suc i)) (look_plan m vs (record { part = i + 1; time = t; space = s; then = then.Argument op }))
+  argument_next most m vs i h =
+      let e : i + 1 ≡ suc i = omega arith in
+      let P : ℕ → Type 0 = λ x. AreFedAlike most (from_argument vs (arity op - suc i) x) (look_plan m vs (record { part = i + 1; time = t; space = s; then = then.Argument op })) in
+      subst P e (next_argument most m vs (arity op - suc i) (i + 1) (omega arith) h)
+
+  -- and with none left its value.
+  pub last_argument : (most : ℕ) (vs : List PlainValue) (left i : ℕ) → left ≡ 0 → AreFedAlike most (from_argument vs left i) (gives (algebra op vs))
+  last_argument most vs left i e value us l =
+      ap (λ (x : ℕ). fed value (from_argument vs x i) us) e ∙ ap (λ (x : List PlainValue). fed value (gives (algebra op x)) us) (append-nil vs)

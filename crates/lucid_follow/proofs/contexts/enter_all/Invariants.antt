@@ -1,0 +1,12 @@
+use Rattle.std.proofs.Common.{◌≡◌, ◌∷◌, [], Some, drop}
+use Rattle.lucid_tags.specs.Contexts.{root}
+use Rattle.lucid_tags.specs.Known.{IsOneForOne}
+use Rattle.lucid_follow.specs.Follows.{contexts_behind}
+use Rattle.lucid_follow.specs.Checking.{AreOfContexts, contexts_of}
+use Rattle.lucid_follow.proofs.contexts.enter_all.Given as goal
+
+-- The contexts so far, with those of the rows that are left, are those of all rows.
+abbrev pub invariant-loop-row : goal.invariant-loop-row
+invariant-loop-row l =
+    (contexts_behind (contexts_of l.tags l.contexts.items) (drop l.row-index l.rows) ≡ contexts_behind (Some root ∷ []) l.rows)
+    × (AreOfContexts l.tags l.contexts.items × IsOneForOne l.tags)

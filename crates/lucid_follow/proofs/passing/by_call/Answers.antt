@@ -1,0 +1,8 @@
+use Rattle.std.proofs.Common.{arith}
+use Rattle.lucid_tags.specs.Known.{context_of}
+use Rattle.lucid_equations.specs.Programs.{table_of}
+use Rattle.lucid_follow.proofs.Going.{few_to_call}
+use Rattle.lucid_follow.proofs.passing.by_call.Goals as goal
+
+pub returns-then-from-level-clause-at : goal.returns-then-from-level-clause-at
+returns-then-from-level-clause-at c = few_to_call (table_of c.args.program.now) c.args.call.name c.args.call.place c.args.call.level (context_of c.args.tags.now c.args.context) c.args.time (omega (arith, c.level.ensures.level, c.from.ensures, c.if-from-level.true))

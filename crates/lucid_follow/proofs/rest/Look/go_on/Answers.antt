@@ -1,0 +1,43 @@
+use Rattle.std.proofs.Common.{◌≡◌, ◌+◌, [], ◌∷◌, ◌++◌, subst, arith}
+use Rattle.lucid_value.specs.View.{plain}
+use Rattle.lucid_follow.specs.RestPlans.{rest_plan, IsAfter}
+use Rattle.lucid_follow.specs.declared.rest.Then.{Then}
+use Rattle.lucid_follow.proofs.GoesOn.{goes_time, goes_space, goes_find}
+use Rattle.lucid_follow.proofs.rest.Look.go_on.Goals as goal
+
+pub returns-in-Choose-clause-stands : goal.returns-in-Choose-clause-stands
+returns-in-Choose-clause-stands c k h = c.choose.ensures.stands (k + 1)
+
+pub returns-in-Both-clause-stands : goal.returns-in-Both-clause-stands
+returns-in-Both-clause-stands c k h = c.both.ensures.stands (k + 1)
+
+pub returns-in-Either-clause-stands : goal.returns-in-Either-clause-stands
+returns-in-Either-clause-stands c k h = c.either.ensures.stands (k + 1)
+
+pub returns-in-Judge-clause-stands : goal.returns-in-Judge-clause-stands
+returns-in-Judge-clause-stands c k h = c.judge.ensures.stands (k + 1)
+
+pub returns-in-Time-clause-stands : goal.returns-in-Time-clause-stands
+returns-in-Time-clause-stands c k h = c.at_time.ensures.stands (k + 1)
+
+pub returns-in-Space-clause-stands : goal.returns-in-Space-clause-stands
+returns-in-Space-clause-stands c k h = c.at_space.ensures.stands (k + 1)
+
+pub returns-in-Count-clause-stands : goal.returns-in-Count-clause-stands
+returns-in-Count-clause-stands c k h = c.count.ensures.stands (k + 1)
+
+pub returns-in-Time-clause-plan : goal.returns-in-Time-clause-plan
+returns-in-Time-clause-plan c m k most vs h l =
+    goes_time most m vs c.args.self.part c.args.self.time c.args.self.space (plain c.args.value.now) c.tell-answer.result c.tell-answer.ensures c.args.self.then (rest_plan m (vs ++ plain c.args.value.now ∷ []) c.at_time.result)
+    c.in-Time.is (c.at_time.ensures.plan m (vs ++ plain c.args.value.now ∷ []))
+
+pub returns-in-Space-clause-plan : goal.returns-in-Space-clause-plan
+returns-in-Space-clause-plan c m k most vs h l =
+    goes_space most m vs c.args.self.part c.args.self.time c.args.self.space (plain c.args.value.now) c.tell-answer.result c.tell-answer.ensures c.args.self.then (rest_plan m (vs ++ plain c.args.value.now ∷ []) c.at_space.result)
+    c.in-Space.is (c.at_space.ensures.plan m (vs ++ plain c.args.value.now ∷ []))
+
+pub returns-in-Find-clause-plan : goal.returns-in-Find-clause-plan
+returns-in-Find-clause-plan c m k most vs h l =
+    let at : c.args.self.time ≡ k = subst (λ (x : Then). IsAfter k x c.args.self.part c.args.self.time) c.in-Find.is h in
+    goes_find most m vs c.args.self.part c.args.self.time c.args.self.space (plain c.args.value.now) c.tell-answer.result c.tell-answer.ensures c.args.self.then (rest_plan m (vs ++ plain c.args.value.now ∷ []) c.find.result)
+    c.in-Find.wanted c.in-Find.is (c.find.ensures.plan m most (vs ++ plain c.args.value.now ∷ []) (omega (arith, at, l)))
