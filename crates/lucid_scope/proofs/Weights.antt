@@ -46,7 +46,7 @@ module _ (f : ℕ → ℕ) where
     all-weight k (tree e es) =
         omega (arith, weight-append (sites k e) (sites_in k es), sum_by-append f (places e) (places_in es), sites-weight k e, all-weight k es)
 
-    defs-weight : (o k : Static) (earlier : Earlier) (ds : PlainDefs) → weight (outside_sites o ds) + weight (inside_sites k earlier ds) ≤ sum_by f (places_in_defs ds)
+    pub defs-weight : (o k : Static) (earlier : Earlier) (ds : PlainDefs) → weight (outside_sites o ds) + weight (inside_sites k earlier ds) ≤ sum_by f (places_in_defs ds)
     defs-weight o k earlier no_defs = omega arith
     defs-weight o k earlier (defines at x e ds) =
         omega (

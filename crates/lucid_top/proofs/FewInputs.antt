@@ -13,6 +13,7 @@ use Rattle.lucid_tree.specs.WellMade.{places, places_in, places_in_defs}
 use Rattle.lucid_scope.specs.Scope.{Static, outermost, in_block, in_function, Meaning, free, meaning, defined_in}
 use Rattle.lucid_scope.specs.Sites.{Site, named, called, again, sites, sites_in, outside_sites, inside_sites, repeats, again_if, also, no_names, Earlier}
 use Rattle.lucid_scope.specs.Bindings.{all_sites, with_input, with_site, AreInputs}
+use Rattle.lucid_scope.proofs.Weights.{sites-weight, defs-weight}
 use Rattle.lucid_columns.specs.Columns.{is_plain, over_space, with_columns, AreColumns}
 use Rattle.lucid_top.specs.Judged.{HasInputs}
 
@@ -62,76 +63,15 @@ as_many [] = omega arith
 as_many (s ∷ ss) = omega (arith, site_ones s, as_many ss, sum_by-cons free_at s ss)
 
 -- and no more sites than places
-few_again : (b : Bool) (at : ℕ) → length (again_if b at) ≤ 1
-few_again true at = omega arith
-few_again false at = omega arith
+ones : {A : Type 0} (xs : List A) → sum_by (λ x. 1) xs ≡ length xs
+ones [] = refl
+ones (x ∷ xs) = omega (arith, sum_by-cons (λ y. 1) x xs, ones xs)
 
-few_repeats : (earlier : Earlier) (ns : List (List ℕ)) (ats : List ℕ) → length (repeats earlier ns ats) ≤ length ats
-few_repeats earlier [] ats = omega arith
-few_repeats earlier (n ∷ ns) [] = omega arith
-few_repeats earlier (n ∷ ns) (at ∷ ats) =
-    omega (arith, length-append (again_if (earlier n) at) (repeats (also n earlier) ns ats), few_again (earlier n) at, few_repeats (also n earlier) ns ats)
+few_sites : (k : Static) (e : PlainTree) → length (sites k e) ≤ length (places e)
+few_sites k e = omega (arith, ones (sites k e), ones (places e), sites-weight (λ at. 1) k e)
 
-mutual
-  few_sites : (k : Static) (e : PlainTree) → length (sites k e) ≤ length (places e)
-  few_sites k (form at h es) = omega (arith, few_in_all k es)
-  few_sites k (name at x) = omega arith
-  few_sites k (call at x es) = omega (arith, few_in_all k es)
-  few_sites k (block at e ds) =
-      let inner : Static = in_block ds k in
-      omega (
-        arith,
-        length-append (outside_sites k ds) (sites inner e ++ inside_sites inner no_names ds),
-        length-append (sites inner e) (inside_sites inner no_names ds),
-        length-append (places e) (places_in_defs ds),
-        few_sites inner e,
-        few_in_defs k inner no_names ds,
-      )
-
-  few_in_all : (k : Static) (es : PlainTrees) → length (sites_in k es) ≤ length (places_in es)
-  few_in_all k no_trees = omega arith
-  few_in_all k (tree e es) =
-      omega (arith, length-append (sites k e) (sites_in k es), length-append (places e) (places_in es), few_sites k e, few_in_all k es)
-
-  few_in_defs : (o k : Static) (earlier : Earlier) (ds : PlainDefs) → length (outside_sites o ds) + length (inside_sites k earlier ds) ≤ length (places_in_defs ds)
-  few_in_defs o k earlier no_defs = omega arith
-  few_in_defs o k earlier (defines at x e ds) =
-      let rest : List Site = inside_sites k (also x earlier) ds in
-      omega (
-        arith,
-        length-append (again_if (earlier x) at) (sites k e ++ rest),
-        length-append (sites k e) rest,
-        length-append (places e) (places_in_defs ds),
-        few_again (earlier x) at,
-        few_sites k e,
-        few_in_defs o k (also x earlier) ds,
-      )
-  few_in_defs o k earlier (defines_function at x ns ats e ds) =
-      let inner : List Site = sites (in_function at ns ats k) e in
-      let rest : List Site = inside_sites k (also x earlier) ds in
-      omega (
-        arith,
-        length-append (again_if (earlier x) at) ((repeats no_names ns ats ++ inner) ++ rest),
-        length-append (repeats no_names ns ats ++ inner) rest,
-        length-append (repeats no_names ns ats) inner,
-        length-append (ats ++ places e) (places_in_defs ds),
-        length-append ats (places e),
-        few_again (earlier x) at,
-        few_repeats no_names ns ats,
-        few_sites (in_function at ns ats k) e,
-        few_in_defs o k (also x earlier) ds,
-      )
-  few_in_defs o k earlier (defines_current at x e ds) =
-      let rest : List Site = inside_sites k (also x earlier) ds in
-      omega (
-        arith,
-        length-append (sites o e) (outside_sites o ds),
-        length-append (again_if (earlier x) at) rest,
-        length-append (places e) (places_in_defs ds),
-        few_again (earlier x) at,
-        few_sites o e,
-        few_in_defs o k (also x earlier) ds,
-      )
+few_in_defs : (o k : Static) (earlier : Earlier) (ds : PlainDefs) → length (outside_sites o ds) + length (inside_sites k earlier ds) ≤ length (places_in_defs ds)
+few_in_defs o k earlier ds = omega (arith, ones (outside_sites o ds), ones (inside_sites k earlier ds), ones (places_in_defs ds), defs-weight (λ at. 1) o k earlier ds)
 
 -- a plain name isn't free
 not_free : (found : Found) (k o : Static) (m : Meaning) → IsTrue (is_plain found) → free_one (defined_in found k o m) ≡ 0
