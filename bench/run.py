@@ -1,18 +1,23 @@
 #!/usr/bin/env python3
 """Times `lucid` on the programs beside this file, and prints seconds, lines a second and peak memory for each.
 
-  bench/run.py [LUCID] [--beside NAME=BINARY].. [--times N] [--only PROGRAM,..] [--growth]
+  bench/run.py [LUCID] [--beside NAME=BINARY].. [--beside-hand] [--times N] [--only NAME,..] [--growth]
 
-LUCID     the built command; without it crates/lucid/out/lucid, which `rt run -- data/p` in crates/lucid leaves there
---beside  another interpreter that takes the same words: both run in turns, and ratios of processor time are printed
---times   how many runs of each; the median is printed (5)
---only    these programs alone
---growth  each kind of growth at half and at full size in place of the programs: what twice the work costs
+LUCID          the built command; without it crates/lucid/out/lucid, which `rt run -- data/p` in crates/lucid leaves there
+--beside       another interpreter that takes the same words: both run in turns, and ratios of processor time are printed
+--beside-hand  the same with the programs as one would write them without lucid, which lie in bench/beside: as Python generators and
+               as Rust iterators, each with a line written at once, as lucid does, and with lines gathered (`blocks`). It needs rustc
+--times        how many runs of each; the median is printed (5)
+--only         these programs alone, or these kinds of growth
+--growth       each kind of growth at half and at full size in place of the programs: what twice the work costs
+
+What stands beside must write the bytes that lucid writes, on a few lines, before it is timed.
 
 Output goes to the null device. Times are of the whole process, from its start to its end.
 """
 import argparse
 import os
+import shutil
 import statistics
 import subprocess
 import sys
@@ -25,6 +30,15 @@ BUILT = os.path.join(HERE, "..", "crates", "lucid", "out", "lucid")
 # How many times more lines an input has than the program writes. Each is a number below 1,000.
 NUMBERS = {"running_sum": 1, "input_whenever": 2, "input_upon": 2, "input_asa": 1, "input_nested": 3}
 
+# Programs that ask backwards from the time that stands in the one line of their input: that of the last line they write.
+FALLING = {"falling_whenever", "falling_upon", "falling_asa"}
+
+# The most lines that are compared before what stands beside is timed.
+COMPARED = 100
+
+# A depth that is enough for each program here.
+DEEP = ["--depth", "1000000"]
+
 # Each program: its file (none for a made one), its lines, and further words.
 PROGRAMS = {
     "count_up": ("count_up", 1_000_000, []),
@@ -33,29 +47,43 @@ PROGRAMS = {
     "made_long": (None, 1_000, ["--make", "1000"]),
     "advance": ("advance", 100_000, []),
     "running_sum": ("running_sum", 1_000_000, []),
-    "nested_time": ("nested_time", 500_002, ["--depth", "1000000"]),
+    "nested_time": ("nested_time", 500_002, DEEP),
     "inner_loop": ("inner_loop", 1_000, []),
     "factorial": ("factorial", 300, []),
-    "filter": ("filter", 100_000, ["--depth", "1000000"]),
+    "filter": ("filter", 100_000, DEEP),
     "list_build": ("list_build", 3_000, []),
-    "input_whenever": ("input_whenever", 100_000, ["--depth", "1000000"]),
-    "input_upon": ("input_upon", 100_000, ["--depth", "1000000"]),
-    "input_asa": ("input_asa", 100_000, ["--depth", "1000000"]),
-    "input_nested": ("input_nested", 100_000, ["--depth", "1000000"]),
-    "deep": ("deep", 1, ["--depth", "1000000"]),
+    "input_whenever": ("input_whenever", 100_000, DEEP),
+    "input_upon": ("input_upon", 100_000, DEEP),
+    "input_asa": ("input_asa", 100_000, DEEP),
+    "input_nested": ("input_nested", 100_000, DEEP),
+    "deep": ("deep", 1, DEEP),
 }
+
+
+def twice(program, lines, more=(), width=0):
+    """A kind of growth where lines are twice as many: the program, and its sizes."""
+    return program, [(lines, more, width), (2 * lines, more, width)]
+
 
 # Each kind of growth: its program, and lines, words and the bytes of an input's line at half and at full size.
 GROWTH = {
-    "lines": ("count_up", [(500_000, [], 0), (1_000_000, [], 0)]),
-    "whenever": ("input_whenever", [(50_000, ["--depth", "1000000"], 0), (100_000, ["--depth", "1000000"], 0)]),
-    "upon": ("input_upon", [(50_000, ["--depth", "1000000"], 0), (100_000, ["--depth", "1000000"], 0)]),
-    "asa": ("input_asa", [(50_000, ["--depth", "1000000"], 0), (100_000, ["--depth", "1000000"], 0)]),
-    "one search in another": ("input_nested", [(50_000, ["--depth", "1000000"], 0), (100_000, ["--depth", "1000000"], 0)]),
-    "contexts": ("nested_time", [(250_000, ["--depth", "1000000"], 0), (499_999, ["--depth", "1000000"], 0)]),
-    "items of a list": ("list_build", [(30_000, [], 0), (60_000, [], 0)]),
+    "lines": twice("count_up", 500_000),
+    "under last": twice("count_up", 500_000, ["--policy", "last"]),
+    "under age": twice("count_up", 500_000, ["--policy", "age"]),
+    "under a great age": twice("count_up", 100_000, ["--policy", "age", "--age", "1000000"]),
+    "whenever": twice("input_whenever", 50_000, DEEP),
+    "whenever under last": twice("input_whenever", 50_000, [*DEEP, "--policy", "last"]),
+    "whenever under age": twice("input_whenever", 50_000, [*DEEP, "--policy", "age"]),
+    "upon": twice("input_upon", 50_000, DEEP),
+    "asa": twice("input_asa", 50_000, DEEP),
+    "one search in another": twice("input_nested", 50_000, DEEP),
+    "falling whenever": twice("falling_whenever", 500, DEEP),
+    "falling upon": twice("falling_upon", 500, DEEP),
+    "falling asa": twice("falling_asa", 50_000, DEEP),
+    "contexts": ("nested_time", [(250_000, DEEP, 0), (499_999, DEEP, 0)]),
+    "items of a list": twice("list_build", 30_000),
     "made names": (None, [(2, ["--make", "5000"], 0), (2, ["--make", "10000"], 0)]),
-    "bytes of an input": ("length_of_lines", [(500_000, [], 200), (1_000_000, [], 200)]),
+    "bytes of an input": twice("length_of_lines", 500_000, [], 200),
 }
 
 
@@ -83,12 +111,55 @@ def words_of(binary, program, lines, more):
     return [binary, *more, "--count", str(lines), *source]
 
 
+def script_of(name):
+    """The file of a program by hand in Python; one that can't be said so has none."""
+    return f"{HERE}/beside/{name}.py"
+
+
+def hands(room):
+    """Builds the programs by hand in Rust, and returns how each way to write a program by hand is called, of a name and lines."""
+    if shutil.which("rustc") is None:
+        sys.exit("--beside-hand needs rustc")
+    binary = f"{room}/by_hand"
+    subprocess.run(["rustc", "-O", "--edition=2021", "-o", binary, f"{HERE}/beside/by_hand.rs"], check=True)
+    # without the variables of the surroundings, of which one turns off that lines are gathered
+    python = [sys.executable, "-E", "-B"]
+    return {
+        "python": lambda name, lines: [*python, script_of(name), str(lines)],
+        "python blocks": lambda name, lines: [*python, script_of(name), str(lines), "blocks"],
+        "rust": lambda name, lines: [binary, name, str(lines)],
+        "rust blocks": lambda name, lines: [binary, name, str(lines), "blocks"],
+    }
+
+
+def calls_of(binaries, by_hand, name, lines):
+    """The calls of a program: of each interpreter, and by hand where it can be said so."""
+    program, _, more = PROGRAMS[name]
+    calls = {who: words_of(binary, program, lines, more) for who, binary in binaries.items()}
+    if os.path.exists(script_of(name)):
+        calls.update({who: call(name, lines) for who, call in by_hand.items()})
+    return calls
+
+
+def compare(calls, given):
+    """Ends the bench where one of some calls doesn't write what lucid writes."""
+    written = {}
+    for who, call in calls.items():
+        with open(given, "rb") as source:
+            written[who] = subprocess.run(call, stdin=source, stdout=subprocess.PIPE, stderr=subprocess.DEVNULL, check=False).stdout
+    others = [who for who, its in written.items() if its != written["lucid"]]
+    if others:
+        sys.exit(f"other lines than lucid's: {' '.join(calls[others[0]])}")
+
+
 def input_of(room, program, lines, width):
     """Writes the input that the program reads, and returns its path."""
     path = f"{room}/input"
     with open(path, "w", encoding="ascii") as out:
         if program in NUMBERS:
             out.writelines(f"{i * 7919 % 1000}\n" for i in range(lines * NUMBERS[program]))
+        elif program in FALLING:
+            out.write(f"{lines - 1}\n")
         elif width:
             text = "`" + "a" * (width - 3) + "'\n"
             out.writelines(text for _ in range(lines))
@@ -104,27 +175,29 @@ def medians(calls, given, times):
     return {name: tuple(statistics.median(it[i] for it in runs) for i in range(2)) for name, runs in found.items()}
 
 
-def programs(binaries, only, times, room):
-    print(f"{'program':14} {'lines':>9} {'who':8} {'seconds':>8} {'cpu':>8} {'ratio':>6} {'lines/s':>10} {'MiB':>7}")
-    ratios = {name: [] for name in binaries}
-    for name in only or PROGRAMS:
-        program, lines, more = PROGRAMS[name]
+def programs(binaries, by_hand, only, times, room):
+    print(f"{'program':14} {'lines':>9} {'who':13} {'seconds':>8} {'cpu':>8} {'ratio':>6} {'lines/s':>10} {'MiB':>7}")
+    ratios = {}
+    for name in only or [it for it in PROGRAMS if not by_hand or os.path.exists(script_of(it))]:
+        program, lines, _ = PROGRAMS[name]
         given = input_of(room, program, lines, 0)
-        calls = {who: words_of(binary, program, lines, more) for who, binary in binaries.items()}
+        compare(calls_of(binaries, by_hand, name, min(lines, COMPARED)), given)
+        calls = calls_of(binaries, by_hand, name, lines)
         most = {who: peak(call, given, room) for who, call in calls.items()}
         found = medians(calls, given, times)
         for who, (took, work) in found.items():
             ratio = found["lucid"][1] / work
-            ratios[who].append(ratio)
-            print(f"{name:14} {lines:9} {who:8} {took:8.3f} {work:8.3f} {ratio:6.2f} {lines / took:10.0f} {most[who]:7.1f}", flush=True)
+            ratios.setdefault(who, []).append(ratio)
+            print(f"{name:14} {lines:9} {who:13} {took:8.3f} {work:8.3f} {ratio:6.2f} {lines / took:10.0f} {most[who]:7.1f}", flush=True)
     for who, its in ratios.items():
         if who != "lucid":
             print(f"processor time of lucid to {who}, geometric mean over {len(its)} programs: {statistics.geometric_mean(its):.2f}")
 
 
-def growth(binary, times, room):
+def growth(binary, only, times, room):
     print(f"{'what grows':21} {'half':>8} {'full':>8} {'full/half':>9}")
-    for name, (program, sizes) in GROWTH.items():
+    for name in only or GROWTH:
+        program, sizes = GROWTH[name]
         took = []
         for lines, more, width in sizes:
             given = input_of(room, program, lines, width)
@@ -136,16 +209,18 @@ def main():
     words = argparse.ArgumentParser(description=__doc__, formatter_class=argparse.RawDescriptionHelpFormatter)
     words.add_argument("lucid", nargs="?", default=BUILT)
     words.add_argument("--beside", action="append", default=[])
+    words.add_argument("--beside-hand", action="store_true")
     words.add_argument("--times", type=int, default=5)
     words.add_argument("--only", default="")
     words.add_argument("--growth", action="store_true")
     words = words.parse_args()
     binaries = {"lucid": words.lucid, **dict(it.split("=", 1) for it in words.beside)}
+    only = [it for it in words.only.split(",") if it]
     with tempfile.TemporaryDirectory() as room:
         if words.growth:
-            growth(words.lucid, words.times, room)
+            growth(words.lucid, only, words.times, room)
         else:
-            programs(binaries, [it for it in words.only.split(",") if it], words.times, room)
+            programs(binaries, hands(room) if words.beside_hand else {}, only, words.times, room)
 
 
 if __name__ == "__main__":
