@@ -1,0 +1,67 @@
+-- What is said of inputs that have no file: the name of each, where it stands first, and a definition in scope there whose name differs by little.
+use Rattle.std.specs.Prelude.{◌≡◌, ◌≢◌, ℕ, ◌≤◌, ◌<◌, List, [], ◌∷◌, ◌++◌, length, min, nat_lt, if◌then◌else◌, Option, None, Some, IfSome, All, Contains, codes, nat_eq}
+use Rattle.std.specs.Borrow.{Bor}
+use Rattle.std.specs.List.{slice_get, flat_map}
+use Rattle.strsim.specs.Edits.{levenshtein_row}
+use Rattle.lucid_tree.specs.declared.tree.Def.{Def}
+use Rattle.lucid_scope.specs.declared.scoped.Scoped.{Scoped}
+use Rattle.lucid_scope.specs.declared.scoped.Binding.TheVariants.{Input}
+use Rattle.lucid_scope.specs.Scoped.{scoped_tree, scoped_inputs, scoped_binding}
+use Rattle.lucid_causes.specs.declared.inputs.Lacking.{Lacking}
+use Rattle.lucid_explanations.specs.Accepted.{IsSpelt}
+use Rattle.lucid_explanations.specs.Positions.{where_text}
+use Rattle.lucid_explanations.specs.Definitions.{definition_text}
+use Rattle.lucid_explanations.specs.Scopes.{in_scope}
+
+-- The name at a place belongs to the input of this number.
+abbrev pub StandsAt : Scoped → (stream : ℕ) → (at : ℕ) → Type 0
+StandsAt scoped stream at = scoped_binding scoped at ≡ Some (Input stream)
+
+-- It does so at no lesser place.
+pub record StandsFirst (scoped : Scoped) (stream at : ℕ) : Type 0 where
+  pub stands : StandsAt scoped stream at
+  pub first : (before : ℕ) → before < at → StandsAt scoped stream before → ⊥
+
+-- One name comes of the other by at most two letters that are put in, left out or changed.
+abbrev pub IsNear : (name other : List ℕ) → Type 0
+IsNear name other = levenshtein_row nat_eq name other (length other) ≤ 2
+
+-- An input without a file among those given: its name, its first place, and maybe a definition in scope there whose name is near.
+pub record IsLacking (scoped : Scoped) (given : List (List ℕ)) (l : Lacking) : Type 0 where
+  pub stream : ℕ
+  pub named : slice_get (scoped_inputs scoped) stream ≡ Some l.name.now
+  pub free : Contains given l.name.now → ⊥
+  pub first : StandsFirst scoped stream l.at
+  pub near : IfSome l.near (λ d. Contains (in_scope l.at (scoped_tree scoped)) d.now × IsNear l.name.now d.now.name)
+
+-- one more of them, where there is one and they are fewer than six
+abbrev pub with_one : List Lacking → Option Lacking → List Lacking
+with_one those None = those
+with_one those (Some l) = if nat_lt (length those) 6 then those ++ l ∷ [] else those
+
+abbrev pub near_text : (source : List ℕ) → Option (Bor Def) → List ℕ
+near_text source None = []
+near_text source (Some d) = codes "It may be misspelt: " ++ definition_text source d.now
+
+-- where a name stands first, in words
+abbrev pub first_text : (source : List ℕ) → (at : ℕ) → List ℕ
+first_text source at = where_text (codes " stands first in line ") source at
+
+abbrev pub lacking_text : (source : List ℕ) → Lacking → List ℕ
+lacking_text source l = l.name.now ++ (first_text source (min (length source) l.at) ++ near_text source l.near)
+
+-- a word that gives a file
+abbrev pub word_text : Lacking → List ℕ
+word_text l = codes " " ++ (l.name.now ++ codes "=FILE")
+
+abbrev pub lacking_advice : List ℕ
+lacking_advice = codes "A name that nothing defines is an input. One of them may be read from the standard input; give each other a file:"
+
+abbrev pub inputs_text : (source : List ℕ) → List Lacking → List ℕ
+inputs_text source those = lacking_advice ++ (flat_map word_text those ++ (codes "\n" ++ flat_map (lacking_text source) those))
+
+-- The text tells inputs of the source that have no file among those given, at most six; or nothing, where the source isn't accepted.
+pub data TellsInputs (source : List ℕ) (given : List (List ℕ)) (text : List ℕ) : Type 0 where
+  nothing : text ≡ [] → TellsInputs source given text
+  lacking : (scoped : Scoped) (those : List Lacking) → IsSpelt source (scoped_tree scoped)
+      → All (IsLacking scoped given) those → length those ≤ 6 → text ≡ inputs_text source those → TellsInputs source given text

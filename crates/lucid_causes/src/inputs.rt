@@ -1,0 +1,283 @@
+//! What is said of inputs that have no file.
+ghost use Rattle.std.specs.Prelude.{◌≡◌, ◌≤◌, ◌++◌, ◌↔◌, length, min, All, Contains, Some, IfOk, IfSome, IsTrue, OnOk};
+ghost use Rattle.std.specs.List.{slice_get, flat_map};
+ghost use Rattle.lucid_scope.specs.Scoped.{scoped_tree, scoped_inputs};
+ghost use Rattle.lucid_explanations.specs.Accepted.{IsSpelt};
+ghost use Rattle.lucid_causes.specs.Inputs.{StandsAt, StandsFirst, IsNear, IsLacking, with_one, near_text, first_text, lacking_text, word_text, inputs_text, TellsInputs};
+ghost use Rattle.lucid_explanations.specs.Scopes.{lent};
+
+use lucid_explanations::{find_in_scope, put_definition, put_where, scoped_of};
+use lucid_scope::{Binding, Scoped};
+use lucid_tree::Def;
+use lucid_value::Name;
+use std::alloc::{AllocError, Global};
+use strsim::generic_levenshtein;
+
+// The most inputs that are told.
+const MOST_TOLD: usize = 6;
+
+// Names that are longer aren't compared.
+const MOST_COMPARED: usize = 40;
+
+/// An input that has no file.
+#[derive(Clone, Copy)]
+pub struct Lacking<'a> {
+    pub name: &'a Name,
+    /// Where the name stands first.
+    pub at: u32,
+    /// A definition in scope there whose name differs by little.
+    pub near: Option<&'a Def>,
+}
+
+// Whether the name at the place belongs to the input of this number.
+fn stands_at(scoped: &Scoped, stream: u32, at: u32) -> bool
+    ensures yes { IsTrue result → StandsAt scoped.now stream at }
+    ensures no { StandsAt scoped.now stream at → IsTrue result }
+{
+    match scoped.binding(at) {
+        Some(Binding::Input { stream: other }) => other == stream,
+        _ => false,
+    }
+}
+
+// The first place before the end at which a name belongs to the input of this number.
+fn first_place(scoped: &Scoped, stream: u32, end: u32) -> Option<u32>
+    ensures { IfSome result (λ at. StandsFirst scoped.now stream at) }
+{
+    for at in 0..end {
+        if stands_at(scoped, stream, at) {
+            return Some(at);
+        }
+    }
+    None
+}
+
+// Whether the two names differ by so many letters at most, and both have others besides.
+fn is_near(alloc: Global, name: &[u8], other: &[u8], most: usize) -> Result<bool, AllocError>
+    requires { most ≤ 2 }
+    ensures { IfOk result (λ b. IsTrue b → IsNear name.now other.now) }
+{
+    if name.len().max(other.len()) > MOST_COMPARED {
+        return Ok(false);
+    }
+    let edits = generic_levenshtein(alloc, name, other)?;
+    Ok(edits <= most && 2 * edits < name.len().min(other.len()))
+}
+
+// The first definition whose name differs by so many letters at most.
+fn find_near<'a>(
+    alloc: Global,
+    defs: &[&'a Def],
+    name: &[u8],
+    most: usize,
+) -> Result<Option<&'a Def>, AllocError>
+    requires { most ≤ 2 }
+    ensures { IfOk result (λ found. IfSome found (λ d. Contains (lent defs.now) d.now × IsNear name.now d.now.name)) }
+{
+    for def in defs {
+        if is_near(alloc, name, def.name.bytes(), most)? {
+            return Ok(Some(*def));
+        }
+    }
+    Ok(None)
+}
+
+// A definition whose name differs by a letter, or else by two.
+fn find_nearest<'a>(
+    alloc: Global,
+    defs: &[&'a Def],
+    name: &[u8],
+) -> Result<Option<&'a Def>, AllocError>
+    ensures { IfOk result (λ found. IfSome found (λ d. Contains (lent defs.now) d.now × IsNear name.now d.now.name)) }
+{
+    match find_near(alloc, defs, name, 1)? {
+        Some(def) => Ok(Some(def)),
+        None => find_near(alloc, defs, name, 2),
+    }
+}
+
+// The input of this number, which has this name, as one without a file; none where it stands nowhere.
+fn lacking_of<'a>(
+    alloc: Global,
+    scoped: &'a Scoped,
+    name: &'a Name,
+    stream: u32,
+    end: u32,
+    given: &[Name],
+) -> Result<Option<Lacking<'a>>, AllocError>
+    requires named { slice_get (scoped_inputs scoped.now) stream ≡ Some name.now }
+    requires free { Contains given.now name.now → ⊥ }
+    ensures { IfOk result (λ found. IfSome found (IsLacking scoped.entry.now given.now)) }
+{
+    let Some(at) = first_place(scoped, stream, end) else {
+        return Ok(None);
+    };
+    let mut defs = Vec::new(alloc);
+    find_in_scope(&mut defs, scoped.tree(), at)?;
+    let near = find_nearest(alloc, &defs, name.bytes())?;
+    Ok(Some(Lacking { name, at, near }))
+}
+
+/// Whether a file is given for the name.
+pub(crate) fn is_given(given: &[Name], name: &Name) -> bool
+    ensures { IsTrue result ↔ Contains given.now name.now }
+{
+    given.iter().any(|other| other.same(name))
+}
+
+// The same where no file is given for it and there is room.
+fn lacking_if<'a>(
+    alloc: Global,
+    scoped: &'a Scoped,
+    name: &'a Name,
+    stream: u32,
+    given: &[Name],
+    end: u32,
+    has_room: bool,
+) -> Result<Option<Lacking<'a>>, AllocError>
+    requires { slice_get (scoped_inputs scoped.now) stream ≡ Some name.now }
+    ensures { IfOk result (λ found. IfSome found (IsLacking scoped.entry.now given.now)) }
+{
+    if !has_room || is_given(given, name) {
+        return Ok(None);
+    }
+    lacking_of(alloc, scoped, name, stream, end, given)
+}
+
+// Adds an input, where there is one and room for it.
+fn add_lacking<'a>(
+    those: &mut Vec<Lacking<'a>>,
+    lacking: Option<Lacking<'a>>,
+) -> Result<(), AllocError>
+    ensures { OnOk result (those.new.items ≡ with_one those.old.items lacking.entry) }
+{
+    match lacking {
+        Some(lacking) => {
+            if those.len() < MOST_TOLD {
+                those.push(lacking)?;
+            }
+            Ok(())
+        }
+        None => Ok(()),
+    }
+}
+
+// The inputs without a file among those given, at most six.
+fn all_lacking<'a>(
+    alloc: Global,
+    scoped: &'a Scoped,
+    end: u32,
+    given: &[Name],
+) -> Result<Vec<Lacking<'a>>, AllocError>
+    requires { length (scoped_inputs scoped.now) ≤ 1048576 }
+    ensures lacking { IfOk result (λ those. All (IsLacking scoped.entry.now given.now) those.items) }
+    ensures few { IfOk result (λ those. length those.items ≤ 6) }
+{
+    let mut those = Vec::new(alloc);
+    let mut stream = 0;
+    for name in scoped.inputs() {
+        let has_room = those.len() < MOST_TOLD;
+        let lacking = lacking_if(alloc, scoped, name, stream, given, end, has_room)?;
+        add_lacking(&mut those, lacking)?;
+        stream += 1;
+    }
+    Ok(those)
+}
+
+// Appends a definition that may be meant.
+fn put_near(text: &mut Vec<u8>, source: &[u8], near: Option<&Def>) -> Result<(), AllocError>
+    requires { length source.now ≤ 1048576 }
+    ensures { OnOk result (text.new.items ≡ text.old.items ++ near_text source.now near.entry) }
+{
+    match near {
+        Some(def) => {
+            text.extend_from_slice(b"It may be misspelt: ")?;
+            put_definition(text, source, def)
+        }
+        None => Ok(()),
+    }
+}
+
+// Appends the name of an input, and where it stands first.
+fn put_stands(text: &mut Vec<u8>, source: &[u8], name: &Name, at: u32) -> Result<(), AllocError>
+    requires { length source.now ≤ 1048576 }
+    ensures { OnOk result (text.new.items ≡ text.old.items ++ (name.now ++ first_text source.now (min (length source.now) at))) }
+{
+    text.extend_from_slice(name.bytes())?;
+    let at = source.len().min(at as usize);
+    put_where(text, b" stands first in line ", source, at)
+}
+
+// Appends what is said of an input.
+fn put_lacking(text: &mut Vec<u8>, source: &[u8], lacking: &Lacking<'_>) -> Result<(), AllocError>
+    requires { length source.now ≤ 1048576 }
+    ensures { OnOk result (text.new.items ≡ text.old.items ++ lacking_text source.now lacking.now) }
+{
+    put_stands(text, source, lacking.name, lacking.at)?;
+    put_near(text, source, lacking.near)
+}
+
+// Appends the words that give files.
+fn put_words(text: &mut Vec<u8>, those: &[Lacking<'_>]) -> Result<(), AllocError>
+    ensures { OnOk result (text.new.items ≡ text.old.items ++ flat_map word_text those.now) }
+{
+    for lacking in those {
+        text.extend_from_slice(b" ")?;
+        text.extend_from_slice(lacking.name.bytes())?;
+        text.extend_from_slice(b"=FILE")?;
+    }
+    Ok(())
+}
+
+// Appends what is said of each.
+fn put_all(text: &mut Vec<u8>, source: &[u8], those: &[Lacking<'_>]) -> Result<(), AllocError>
+    requires { length source.now ≤ 1048576 }
+    ensures { OnOk result (text.new.items ≡ text.old.items ++ flat_map (lacking_text source.now) those.now) }
+{
+    for lacking in those {
+        put_lacking(text, source, lacking)?;
+    }
+    Ok(())
+}
+
+// Appends what is said of inputs without a file.
+fn put_inputs(text: &mut Vec<u8>, source: &[u8], those: &[Lacking<'_>]) -> Result<(), AllocError>
+    requires { length source.now ≤ 1048576 }
+    ensures { OnOk result (text.new.items ≡ text.old.items ++ inputs_text source.now those.now) }
+{
+    text.extend_from_slice(
+        b"A name that nothing defines is an input. One of them may be read from the standard input; give each other a file:",
+    )?;
+    put_words(text, those)?;
+    text.extend_from_slice(b"\n")?;
+    put_all(text, source, those)
+}
+
+// What is said of the inputs of a source by what its names belong to.
+fn text_of(
+    alloc: Global,
+    source: &[u8],
+    scoped: &Scoped,
+    given: &[Name],
+) -> Result<Vec<u8>, AllocError>
+    requires short { length source.now ≤ 1048576 }
+    requires spelt { IsSpelt source.now (scoped_tree scoped.now) }
+    requires few { length (scoped_inputs scoped.now) ≤ 1048576 }
+    ensures { IfOk result (λ text. TellsInputs source.now given.now text.items) }
+{
+    let those = all_lacking(alloc, scoped, source.len() as u32, given)?;
+    let mut text = Vec::new(alloc);
+    put_inputs(&mut text, source, &those)?;
+    Ok(text)
+}
+
+/// What is said of the inputs of a source for which no file is given: their names, where they stand first, and the words that give files.
+/// Nothing of a source that is refused.
+pub fn explain_inputs(alloc: Global, source: &[u8], given: &[Name]) -> Result<Vec<u8>, AllocError>
+    ensures { IfOk result (λ text. TellsInputs source.now given.now text.items) }
+{
+    match scoped_of(alloc, source) {
+        Some(scoped) => text_of(alloc, source, &scoped, given),
+        None => Ok(Vec::new(alloc)),
+    }
+}

@@ -1,0 +1,67 @@
+//! What is said before a run reads an input from a terminal.
+ghost use Rattle.std.specs.Prelude.{◌≡◌, ◌≤◌, ◌++◌, length, IfOk, IfSome, OnOk};
+ghost use Rattle.lucid_scope.specs.Scoped.{scoped_tree, scoped_inputs};
+ghost use Rattle.lucid_explanations.specs.Accepted.{IsSpelt};
+ghost use Rattle.lucid_causes.specs.Prompts.{IsOnly, prompt_text, TellsPrompt};
+
+use crate::inputs::is_given;
+use lucid_explanations::scoped_of;
+use lucid_scope::Scoped;
+use lucid_value::Name;
+use std::alloc::{AllocError, Global};
+
+// The only one of these inputs without a file among those given; none where there are several, or there is none.
+fn only_lacking<'a>(inputs: &'a [Name], given: &[Name]) -> Option<&'a Name>
+    ensures { IfSome result (λ name. IsOnly inputs.entry.now given.now name.now) }
+{
+    let mut only = None;
+    for name in inputs {
+        if !is_given(given, name) {
+            if only.is_some() {
+                return None;
+            }
+            only = Some(name);
+        }
+    }
+    only
+}
+
+// Appends that the input is read.
+fn put_prompt(text: &mut Vec<u8>, name: &Name) -> Result<(), AllocError>
+    ensures { OnOk result (text.new.items ≡ text.old.items ++ prompt_text name.now) }
+{
+    text.extend_from_slice(b"The input ")?;
+    text.extend_from_slice(name.bytes())?;
+    text.extend_from_slice(b" is read from here, a value on each line.\n")
+}
+
+// What is said of the input of this name, which is the only one without a file.
+fn text_of_prompt(
+    alloc: Global,
+    source: &[u8],
+    scoped: &Scoped,
+    given: &[Name],
+    name: &Name,
+) -> Result<Vec<u8>, AllocError>
+    requires spelt { IsSpelt source.now (scoped_tree scoped.now) }
+    requires only { IsOnly (scoped_inputs scoped.now) given.now name.now }
+    ensures { IfOk result (λ text. TellsPrompt source.now given.now text.items) }
+{
+    let mut text = Vec::new(alloc);
+    put_prompt(&mut text, name)?;
+    Ok(text)
+}
+
+/// What is said before the standard input is read, which is a terminal: the name of the only input of a source for which no file is given.
+/// Nothing where there is no such input, or of a source that is refused.
+pub fn explain_prompt(alloc: Global, source: &[u8], given: &[Name]) -> Result<Vec<u8>, AllocError>
+    ensures { IfOk result (λ text. TellsPrompt source.now given.now text.items) }
+{
+    let Some(scoped) = scoped_of(alloc, source) else {
+        return Ok(Vec::new(alloc));
+    };
+    match only_lacking(scoped.inputs(), given) {
+        Some(name) => text_of_prompt(alloc, source, &scoped, given, name),
+        None => Ok(Vec::new(alloc)),
+    }
+}

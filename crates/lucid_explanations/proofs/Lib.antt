@@ -1,0 +1,4 @@
+pub mod Grows
+pub mod Begun
+pub mod Stuck
+pub mod Lent

@@ -1,0 +1,8 @@
+use Rattle.std.proofs.Common.{ℕ, List, ◌++◌, ap, ◌∙◌}
+use Rattle.lucid_explanations.specs.Columns.{columns_text, columns}
+use Rattle.lucid_explanations.proofs.columns.text_of_columns.Goals as goal
+
+pub returns : goal.returns
+returns c =
+    columns c.args.tree.now c.requires.spelt
+    (c.in_ok-put_columns.ensures ∙ ap (λ (z : List ℕ). z ++ columns_text c.args.source.now c.args.tree.now) c.new-text.ensures.items)

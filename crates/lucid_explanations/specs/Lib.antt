@@ -1,0 +1,11 @@
+pub mod Positions
+pub mod Shown
+pub mod Standing
+pub mod Advice
+pub mod Syntax
+pub mod Sources
+pub mod Scopes
+pub mod Definitions
+pub mod Names
+pub mod Accepted
+pub mod Columns

@@ -1,0 +1,34 @@
+-- What is said of a source that is refused.
+use Rattle.std.specs.Prelude.{◌≡◌, ℕ, List, ◌++◌, length, min, codes}
+use Rattle.lucid_scan.specs.declared.token.Token.{Token}
+use Rattle.lucid_scan.specs.declared.refusal.ScanRefusal.{ScanRefusal}
+use Rattle.lucid_scan.specs.Tokens.{Tokens}
+use Rattle.lucid_scan.specs.Refusals.{Refuses}
+use Rattle.lucid_parse.specs.declared.refusal.ParseRefusal.TheVariants as refusal
+use Rattle.lucid_parse.specs.Spelled.{SpellsTree, IsRefused}
+use Rattle.lucid_tree.specs.Tree.{PlainTree}
+use Rattle.lucid_scope.specs.declared.refusal.ScopeRefusal.{ScopeRefusal}
+use Rattle.lucid_scope.specs.Bindings.{IsLeastFault}
+use Rattle.lucid_explanations.specs.declared.candidates.Candidate.{Candidate}
+use Rattle.lucid_explanations.specs.Shown.{place_text}
+use Rattle.lucid_explanations.specs.Standing.{AreStanding}
+use Rattle.lucid_explanations.specs.Advice.{scan_text}
+use Rattle.lucid_explanations.specs.Syntax.{read_at, syntax_text}
+use Rattle.lucid_explanations.specs.Names.{names_text}
+
+abbrev pub nested_advice : List ℕ
+nested_advice = codes "This stands more than 400 levels deep: give an inner part a name of its own behind `where`.\n"
+
+-- what is said of a place at which a tree is too deep
+abbrev pub depth_text : (file source : List ℕ) → (at : ℕ) → List ℕ
+depth_text file source at = place_text file source (min (length source) at) ++ nested_advice
+
+-- The text says why a source is refused, and where: the scanner refuses it, or the parser its tokens, or the names of its tree are at fault.
+pub data Explains (file source text : List ℕ) : Type 0 where
+  by_scan : (why : ScanRefusal) → Refuses source why → text ≡ scan_text file source why → Explains file source text
+  by_syntax : (tokens : List Token) (at : ℕ) (those : List Candidate) → Tokens source 0 tokens → IsRefused source tokens (refusal.Syntax at) → AreStanding source at those
+      → text ≡ syntax_text file source at (read_at source tokens at) those → Explains file source text
+  by_depth : (tokens : List Token) (at : ℕ) → Tokens source 0 tokens → IsRefused source tokens (refusal.TooNested at)
+      → text ≡ depth_text file source at → Explains file source text
+  by_names : (tokens : List Token) (tree : PlainTree) (why : ScopeRefusal) → Tokens source 0 tokens → SpellsTree source tokens tree → IsLeastFault tree why
+      → text ≡ names_text file source tree why → Explains file source text
