@@ -19,7 +19,11 @@ fn depth_at(factor: u64, time: u64, add: u64) -> Option<u64>
     ensures { SomeIff result (factor * time + add ≤ 1000000) (factor * time + add) }
 {
     let depth = factor.checked_mul(time)?.checked_add(add)?;
-    if depth <= MOST_DEPTH { Some(depth) } else { None }
+    if depth <= MOST_DEPTH {
+        Some(depth)
+    } else {
+        None
+    }
 }
 
 // Appends that the depth is enough for the time.

@@ -6,7 +6,7 @@ use Rattle.lucid_value.specs.Names.{is_name_byte}
 use Rattle.lucid_tree.specs.Tree.{PlainTree}
 use Rattle.lucid_tree.specs.declared.tree.Def.{Def}
 use Rattle.lucid_tree.specs.declared.tree.DefKind.{DefKind}
-use Rattle.lucid_tree.specs.declared.tree.DefKind.TheVariants.{Plain, Function, Current}
+use Rattle.lucid_tree.specs.declared.tree.DefKind.TheVariants.{Plain, Function}
 use Rattle.lucid_scope.specs.declared.refusal.ScopeRefusal.{ScopeRefusal}
 use Rattle.lucid_scope.specs.declared.refusal.ScopeRefusal.TheVariants as refusal
 use Rattle.lucid_explanations.specs.declared.names.Wanted.{Wanted}

@@ -8,7 +8,7 @@ pub use crate::columns::explain_columns;
 pub use crate::definitions::put_definition;
 pub use crate::position::{Position, position_of};
 pub use crate::scopes::find_in_scope;
-pub use crate::shown::put_place;
+pub use crate::shown::{put_place, put_shown};
 pub use crate::sources::{Explanation, explain_source};
 pub use crate::syntax::put_syntax;
 pub use crate::texts::{put_number, put_where};

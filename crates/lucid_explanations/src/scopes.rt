@@ -7,7 +7,10 @@ use lucid_tree::{Def, DefKind, Definitions, Defs, Parts, Shape, Tree};
 use std::alloc::AllocError;
 
 /// Finds the definitions of a block.
-pub(crate) fn find_all<'a>(found: &mut Vec<&'a Def>, defs: Definitions<'a>) -> Result<(), AllocError>
+pub(crate) fn find_all<'a>(
+    found: &mut Vec<&'a Def>,
+    defs: Definitions<'a>,
+) -> Result<(), AllocError>
     ensures { OnOk result (lent found.new.items ≡ lent found.old.items ++ listed defs.entry) }
 {
     for def in defs {

@@ -7,11 +7,7 @@ use itoa::Buffer;
 use std::alloc::AllocError;
 
 /// Appends a text and a number.
-pub fn put_number(
-    text: &mut Vec<u8>,
-    before: &[u8],
-    number: u64,
-) -> Result<(), AllocError>
+pub fn put_number(text: &mut Vec<u8>, before: &[u8], number: u64) -> Result<(), AllocError>
     ensures { OnOk result (text.new.items ≡ text.old.items ++ (before.now ++ decimal number)) }
 {
     text.extend_from_slice(before)?;

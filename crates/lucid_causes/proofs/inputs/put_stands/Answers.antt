@@ -7,8 +7,8 @@ use Rattle.lucid_causes.proofs.inputs.put_stands.Goals as goal
 pub returns : goal.returns
 returns c = on_ok_weaker c.put_where.result
     (λ e.
-      e
-      ∙ ap (λ (z : List ℕ). z ++ where_text (codes " stands first in line ") c.args.source.now c.min-at.result) (c.in_ok-extend_from_slice.ensures.items ∙ ap (λ (z : List ℕ). c.args.text.now.items ++ z) c.bytes.ensures.value)
-      ∙ append_assoc c.args.text.now.items c.args.name.now (where_text (codes " stands first in line ") c.args.source.now c.min-at.result)
-      ∙ ap (λ (n : ℕ). c.args.text.now.items ++ (c.args.name.now ++ where_text (codes " stands first in line ") c.args.source.now n)) c.min-at.ensures)
+    e
+    ∙ ap (λ (z : List ℕ). z ++ where_text (codes " stands first in line ") c.args.source.now c.min-at.result) (c.in_ok-extend_from_slice.ensures.items ∙ ap (λ (z : List ℕ). c.args.text.now.items ++ z) c.bytes.ensures.value)
+    ∙ append_assoc c.args.text.now.items c.args.name.now (where_text (codes " stands first in line ") c.args.source.now c.min-at.result)
+    ∙ ap (λ (n : ℕ). c.args.text.now.items ++ (c.args.name.now ++ where_text (codes " stands first in line ") c.args.source.now n)) c.min-at.ensures)
     c.put_where.ensures
