@@ -27,8 +27,7 @@ use Rattle.lucid_session.specs.Runs.{Told, Written, ForSomeAdded, ConsumesWithin
 use Rattle.lucid_session.specs.Figures.{Counted, root_counted, Demands, ArePointsBelow, times_of, Figures, HasMoreThan}
 use Rattle.lucid_session.specs.Sessions.{PromisesColumns}
 use Rattle.lucid_session.specs.Faults.{of_demand}
-use Rattle.lucid_facts.proofs.History.{reads_only_itself}
-use Rattle.lucid_session.proofs.Stopped.{ran_nothing, figures_nothing, causes_nothing}
+use Rattle.lucid_session.proofs.Stopped.{figures_nothing}
 use Rattle.lucid_session.specs.Moments.{Added, Start, subject, layout, before, Has, seen, of_run, Visited, SoFar, Standing, Draws, IsConsultedSoFar, with_point}
 use Rattle.lucid_session.proofs.Subjects.{no_end, undefined_there, not_defined, consults_there}
 use Rattle.lucid_session.proofs.Told.{place_at}
@@ -327,12 +326,3 @@ module _ (z : Start) (e : EngineView) (w : World) (o : Told) (t a c : ℕ) (stan
     };
     reads_only = standing.reads_only;
   }
-
--- Where there is no memory for an engine, nothing is done.
-pub promise_nothing : (z : Start) → PromisesColumns z.table z.columns (seen z z.before z.out_before) (Err run.NoMemory)
-promise_nothing z = record {
-  headline = λ b has. ran_nothing (subject z) b (seen z z.before z.out_before) (record { after = refl; out_after = refl });
-  figures = λ b has. figures_nothing (counted z) b (seen z z.before z.out_before);
-  causes = causes_nothing (seen z z.before z.out_before) (record { after = refl; out_after = refl });
-  reads_only = reads_only_itself z.places z.before;
-}

@@ -64,16 +64,6 @@ begins z D e is sound askable places known stored never = record {
   };
 }
 
--- A value may be demanded.
-pub may_demand : (z : Start) (D : Elements → (time space : ℕ) → Type 0) (e : EngineView) (w : World) (c : ℕ) → Standing z D e w c → length e.known ≤ most_known → (t s : ℕ) → t < 2 ^ 63 → s < 2 ^ 63 → 0 < z.depth → MayDemand e w t s z.depth
-may_demand z D e w c standing few t s early near some_depth = record {
-  time_in_range = early;
-  space_in_range = near;
-  some_limit = some_depth;
-  inputs = standing.askable;
-  few_known = few;
-}
-
 -- Where it gave a value, the run stands with one point more.
 pub stands_on : (z : Start) (D : Elements → (time space : ℕ) → Type 0) (e : EngineView) (w : World) (c t s : ℕ) (v : Value) → Asked z D e w c t s (Ok v)
     → Standing z (λ b. with_point (D b) t s) e w c
@@ -128,10 +118,6 @@ stands_same z D E e w c same standing = record {
 -- A count that rose in one of several steps rose over all of them.
 pub rises_over : (f g h i : ℕ) → f ≤ g → g ≤ h → h ≤ i → Rises g h → Rises f i
 rises_over f g h i x y u rises few = elim (cases_lt g (2 ^ 64 - 1)) [ inl below ↦ omega (arith, x, u, rises below) | inr past ↦ omega (arith, few, past, y, u) ]
-
--- a policy's bound on what is held, as a view has it
-few_too : (room : Option ℕ) (n : ℕ) (other : Option ℕ) → other ≡ room → (IfSome other (λ r. n ≤ r + 1)) → IfSome room (λ r. n ≤ r + 1)
-few_too room n other e h = subst (λ q. IfSome q (λ r. n ≤ r + 1)) e h
 
 -- an engine that goes on from one of the run is one of the run
 of_run_on : (z : Start) (e f : EngineView) → e ≡ of_run z e → GoesOn e f → f ≡ of_run z f

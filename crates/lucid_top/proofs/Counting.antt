@@ -2,15 +2,12 @@
 use Rattle.std.proofs.Common.{◌≡◌, ℕ, Bool, List, Ok, Err, inl, inr, ap, subst, ◌∙◌}
 use Rattle.std.specs.Prelude.{Result, IsErrOf}
 use Rattle.lucid_ports.specs.Faults.{CountsNoFaultUnless}
-use Rattle.lucid_ports.specs.declared.fault.PortFault.{PortFault}
-use Rattle.lucid_ports.specs.declared.fault.PortFault.TheVariants.{Failed}
 use Rattle.lucid_ports.specs.declared.run.Summary.{Summary}
 use Rattle.lucid_ports.specs.declared.run.RunFault.{RunFault}
 use Rattle.lucid_ports.specs.declared.run.RunFault.TheVariants as fault
 use Rattle.lucid_top.specs.declared.stop.Done.{Done}
 use Rattle.lucid_top.specs.declared.stop.Stop.{Stop}
 use Rattle.lucid_top.specs.declared.stop.Stop.TheVariants as stop
-use Rattle.lucid_top.specs.Places.{read_stop}
 use Rattle.lucid_top.specs.Running.{IsRunStop}
 
 err_once : {T E : Type 0} {x y : E} → ◌≡◌ {A = Result T E} (Err x) (Err y) → x ≡ y
@@ -30,12 +27,6 @@ handed_on s q e f g same (inr is) = inr is
 pub counts_then : {P : Type 0} (f g h : ℕ) → g ≡ f → CountsNoFaultUnless P g h → CountsNoFaultUnless P f h
 counts_then f g h same (inl failed) = inl failed
 counts_then f g h same (inr is) = inr (is ∙ same)
-
--- a refusal of the places, as what stops a call
-pub read_stopped : {T U : Type 0} (e : PortFault) (s : Stop) (f g : ℕ) → s ≡ read_stop e → CountsNoFaultUnless (IsErrOf {T = T} (Err e) Failed) f g
-    → CountsNoFaultUnless (IsErrOf {T = U} (Err s) stop.ReadFault) f g
-read_stopped e s f g is (inl failed) = inl (ap Err (is ∙ ap read_stop (err_once failed)))
-read_stopped e s f g is (inr same) = inr same
 
 -- what stopped a run, as what stops the call
 pub run_read : (free : List (List ℕ)) (stats : Bool) (r : RunFault) (s : Stop) (f g : ℕ) → IsRunStop free stats r s → CountsNoFaultUnless (IsErrOf {T = Summary} (Err r) fault.ReadFault) f g

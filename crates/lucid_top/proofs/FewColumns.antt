@@ -3,7 +3,6 @@ use Rattle.std.proofs.Common.{◌≡◌, ℕ, ◌≤◌, Bool, true, false, nat_
 use Rattle.std.specs.Prelude.{option_and_then, option_map, nat_eq, is_some, not, codes}
 use Rattle.std.specs.List.{list_all, slice_split}
 use Rattle.std.proofs.lemmas.Bool.{lt-ltb, cases_lt}
-use Rattle.std.proofs.lemmas.Bool.Decides.{nat_tests}
 use Rattle.clap.specs.Words.{Kinds, Row, Text, fault_of, first_of, matches_of}
 use Rattle.lucid_value.specs.Names.{is_name}
 use Rattle.lucid_words.specs.Command.{lucid_command}
@@ -72,12 +71,6 @@ none_by false false cycles why check flat is = absurd (cc is)
 
 pub no_columns : (w : PlainWords) → task_of w ≡ task.Run → nat_eq (length w.columns) 0 ≡ true
 no_columns w is = none_by w.print (nat_eq (length w.columns) 0) w.cycles (is_some w.why) (not (nat_eq (length w.check) 0)) w.flat is
-
-zero_is_few : (n : ℕ) → nat_eq n 0 ≡ true → n ≤ 16
-zero_is_few n h = grind (arith, nat_tests)
-
-pub none_few : (w : PlainWords) → task_of w ≡ task.Run → length w.columns ≤ 16
-none_few w is = zero_is_few (length w.columns) (no_columns w is)
 
 some_by : (print empty cycles why check flat : Bool)
     → cond print task.Print (cond (not empty) task.Columns (cond cycles task.Cycles (cond why task.Why (cond check task.Check (cond flat task.Flat task.Run))))) ≡ task.Columns → empty ≡ false

@@ -7,11 +7,11 @@ use Rattle.std.specs.Coded.{le_prop}
 use Rattle.std.proofs.lemmas.Option.{slice_get_within}
 use Rattle.std.proofs.lemmas.List.Sums.{sum_by-cons, sum_by-append}
 use Rattle.std.proofs.lemmas.List.Sorted.{sum_by-IsPermutation}
-use Rattle.lucid_tree.specs.Tree.{PlainTree, form, name, call, block, PlainTrees, no_trees, tree, PlainDefs, no_defs, defines, defines_function, defines_current}
+use Rattle.lucid_tree.specs.Tree.{PlainTree, form, name, call, block, PlainDefs}
 use Rattle.lucid_tree.specs.Env.{Found, plain_def, definition, same_name}
-use Rattle.lucid_tree.specs.WellMade.{places, places_in, places_in_defs}
-use Rattle.lucid_scope.specs.Scope.{Static, outermost, in_block, in_function, Meaning, free, meaning, defined_in}
-use Rattle.lucid_scope.specs.Sites.{Site, named, called, again, sites, sites_in, outside_sites, inside_sites, repeats, again_if, also, no_names, Earlier}
+use Rattle.lucid_tree.specs.WellMade.{places, places_in_defs}
+use Rattle.lucid_scope.specs.Scope.{Static, outermost, in_block, Meaning, free, meaning, defined_in}
+use Rattle.lucid_scope.specs.Sites.{Site, named, called, again, sites, outside_sites, inside_sites, no_names, Earlier}
 use Rattle.lucid_scope.specs.Bindings.{all_sites, with_input, with_site, AreInputs}
 use Rattle.lucid_scope.proofs.Weights.{sites-weight, defs-weight}
 use Rattle.lucid_columns.specs.Columns.{is_plain, over_space, with_columns, AreColumns}

@@ -1,10 +1,9 @@
 -- Parts of a line written one behind the other.
 use Rattle.std.proofs.Common.{◌≡◌, ℕ, ◌+◌, ◌≤◌, ◌<◌, List, [], ◌∷◌, ◌++◌, length, take, get_or, Option, Some, None, Result, Err, refl, ap, sym, subst, ◌∙◌, drop, append_assoc, arith}
-use Rattle.std.proofs.lemmas.List.{length-append, take-append-le, take-append-drop, take_more, take_all}
+use Rattle.std.proofs.lemmas.List.{length-append, take-append-le, take-append-drop, take_more}
 use Rattle.std.specs.Prelude.{decimal}
 use Rattle.lucid_ports.specs.declared.fault.PortFault.{PortFault}
 use Rattle.lucid_ports.specs.declared.fault.PortFault.TheVariants.{Failed, NoMemory}
-use Rattle.lucid_ports.specs.Faults.{Rises}
 use Rattle.lucid_ports.specs.Writing.{with_front, with_all}
 use Rattle.lucid_ports.proofs.WritingLemmas.{all_all, front_all}
 use Rattle.lucid_ports.proofs.FaultLemmas.{rises_from}
@@ -40,20 +39,12 @@ line_of-append (Number n ∷ xs) ys = ap (λ rest. decimal n ++ rest) (line_of-a
 line_of_more : (xs : List Part) (i : ℕ) (d : Part) → i < length xs → line_of (take (i + 1) xs) ≡ line_of (take i xs) ++ line_of (get_or xs i d ∷ [])
 line_of_more xs i d h = ap line_of (take_more xs i d h) ∙ line_of-append (take i xs) (get_or xs i d ∷ [])
 
--- so many parts or more are all of them
-pub line_of_all : (xs : List Part) (i : ℕ) → length xs ≤ i → line_of (take i xs) ≡ line_of xs
-line_of_all xs i h = ap line_of (take_all i xs h)
-
 -- one part more is written
 pub more_parts : (xs : List Part) (i : ℕ) (d : Part) (old mid new : Told) → i < length xs → WritesWhole (line_of (take i xs)) old mid
     → WritesWhole (line_of (get_or xs i d ∷ [])) mid new → WritesWhole (line_of (take (i + 1) xs)) old new
 more_parts xs i d old mid new h before after =
     after ∙ ap (with_all (line_of (get_or xs i d ∷ []))) before ∙ all_all (line_of (take i xs)) (line_of (get_or xs i d ∷ [])) old.bytes
     ∙ ap (λ line. with_all line old.bytes) (sym (line_of_more xs i d h))
-
--- a count that rises earlier rises
-pub rises_to : (f g h : ℕ) → f ≤ g → g ≤ h → Rises f g → Rises f h
-rises_to f g h i j rises low = omega (arith, rises low, j)
 
 -- a line of which a part is written in front
 front_in_part : (xs : List Part) (i : ℕ) (d : Part) (old mid new : Told) → i < length xs → WritesWhole (line_of (take i xs)) old mid
