@@ -35,7 +35,9 @@ use Rattle.lucid_compile.specs.Bound.{Stand, Numbered, name_node, callee_place, 
 use Rattle.lucid_compile.specs.Forms.{node_of, HasFirst, IsForm}
 use Rattle.lucid_compile.proofs.Formed.{is-form}
 use Rattle.lucid_compile.specs.Holds.{nodes_in, StandsAt, IsNameRow, Grown, GrownTo, AllGrownTo, AddsTree, AddsTrees, AddsDefs}
-use Rattle.lucid_compile.specs.Steps.{AddsCall, AddsBlock, AddsParameters}
+use Rattle.lucid_tree.specs.Rights.{right_of}
+use Rattle.lucid_compile.specs.Linked.{link}
+use Rattle.lucid_compile.specs.Steps.{AddsCall, AddsNode, AddsBlock, AddsParameters, OpensRight, ClosesRight}
 use Rattle.lucid_compile.proofs.Growing.{begins-then, scope-kept, stands-kept, no-nodes, no-scopes, open-grown, opened-is, parent-below, grown-none, grown-then, push-grown, keep-grown, keep-constant, keep-known, define-grown, close-grown, place-grown, within-kept}
 use Rattle.lucid_lemmas.proofs.Truths.{first_true, second_true}
 use Rattle.lucid_compile.proofs.Shapes.{shaped-one, freezes-first, freezes-rest}
@@ -48,6 +50,11 @@ if_ok (Err e) P Q h f = tt
 pub on_then : {T E : Type 0} {P Q : Type 0} (r : Result T E) → (P → Q) → OnOk r P → OnOk r Q
 on_then (Ok x) f h = f h
 on_then (Err e) f h = tt
+
+pub not-both : (b : Bool) → b ≡ true → b ≡ false → ⊥
+not-both b x y =
+    let q : true ≡ false = sym x ∙ y in
+    cc
 
 one-added : (w : Numbered) (k q : Static) (at : ℕ) (n : List ℕ) (ds : PlainDefs) (x : DefKind) (g : Log) → added_defs w k q (def_of at n x ds) g ≡ added_defs w k q ds (added_defs w k q (def_of at n x no_defs) g)
 one-added w k q at n ds (PlainKind e) g = refl
@@ -128,11 +135,13 @@ module _ (w : Numbered) where
       (subst (λ z. OneNode z n (record { scope = d.scope; node = node_of f a (get_or ids 1 0) (get_or ids 2 0) }) id) b.0 s) in
       row-added o m n d at f es ids _ id x same (λ e t. is-form f es ids tt h e t)
 
-  pub name-added : (o n : Lists) (d : Here) (at id : ℕ) → OneNode o n (record { scope = d.scope; node = name_node w at }) id → (x : List ℕ) → AddsTree w o n d (name at x) id
-  name-added o n d at id s x = λ k g l t h.
+  pub name-added : (m n : Lists) (d : Here) (at id : ℕ) → OneNode m n (record { scope = d.scope; node = name_node w at }) id → (x ids : List ℕ) → AddsNode w m n d (name at x) ids id
+  name-added m n d at id s x ids = λ o a k g l t h.
       let b = scoped_binding w.scoped at in
-      subst (λ z. GrownTo w o n (with_nodes (name_stand k at ∷ []) g) z d.scope id) (named-means o.constants (scoped_inputs w.scoped) (nodes_in w o) w.numbering b)
-      (push-grown w o n g (record { scope = d.scope; node = name_node w at }) (name_stand k at) id h s (named-known (length o.constants) w.numbering b) (named-parts (length (nodes_in w o)) w.numbering b) refl l.1 (named-stands o.scopes o.nodes d.scope w.numbering b) (named-filled w.numbering b))
+      let p : AllGrownTo w o m g no_nodes d.scope ids = a k g l t h in
+      grown-on o m n _ _ _ _ id p.grown
+      (subst (λ z. GrownTo w m n (with_nodes (name_stand k at ∷ []) g) z d.scope id) (named-means m.constants (scoped_inputs w.scoped) (nodes_in w m) w.numbering b)
+      (push-grown w m n g (record { scope = d.scope; node = name_node w at }) (name_stand k at) id p.grown.holds s (named-known (length m.constants) w.numbering b) (named-parts (length (nodes_in w m)) w.numbering b) refl l.1 (named-stands m.scopes m.nodes d.scope w.numbering b) (named-filled w.numbering b)))
 
   pub call-added : (m l n : Lists) (d : Here) (at first : ℕ) (ids : List ℕ) (id : ℕ) → l ≡ with_place (plain_key at d.level) (plain_key first d.level) (record { scope = d.scope; name = (name_mark w.numbering at).number; actuals = ids }) m
       → OneNode l n (record { scope = d.scope; node = call_node w at first }) id → AddsCall w m n d at first ids id
@@ -151,11 +160,6 @@ module _ (w : Numbered) where
 
   level-open : (b : Bool) (n m : ℕ) → b ≡ false → n ≡ m → (if b then suc n else n) ≡ m
   level-open b n m e h = rw e h
-
-  not-both : (b : Bool) → b ≡ true → b ≡ false → ⊥
-  not-both b x y =
-      let q : true ≡ false = sym x ∙ y in
-      cc
 
   frame-frozen : (b : Bool) (k q : Static) → b ≡ true → (if b then k else q) ≡ k
   frame-frozen b k q e = rw e refl
@@ -255,3 +259,12 @@ module _ (w : Numbered) where
       let row : Body = record { scope = inner.scope; body = body } in
       let own : number ≡ length g.names = count ∙ pairs-count (λ i r s. IsNameRow g.scopes (nodes_in w o) r s) 0 o.names g.names h.names in
       grown-then w o l n _ _ (grown-then w o m l _ _ (grown-then w o p m _ _ z j) r.grown) (close-grown w l n (added w f e before) stand (function_key at number i.level) row r.grown.holds s (λ j. function_key at (own j) (sym u.0 j)) r.within r.is (here-tree w f inner f e before on).1 (i.scope, scope-kept p.scopes l.scopes (begins-then p.scopes m.scopes l.scopes j.outer r.grown.outer) inner.scope i.scope CalledScope called, r.stands))
+
+  -- a definition, from its right side
+  kind-added : (o m n l : Lists) (i d h : Here) (at : ℕ) (x : List ℕ) (y : DefKind) (first body : ℕ) → OpensRight w o m i d y h → AddsTree w m (link w n) h (right_of y) body → first ≡ length o.names → ClosesRight n l i at y first (record { scope = h.scope; body = body }) → AddsDefs w o (link w l) i d (def_of at x y no_defs)
+  kind-added o m n l i d h at x (PlainKind e) first body opens a count s = plain-added o (link w n) (link w l) i d at x e body (subst (λ z. AddsTree w z (link w n) i e body) opens.0 (subst (λ z. AddsTree w m (link w n) z e body) opens.1 a)) (ap (link w) s)
+  kind-added o m n l i d h at x (FunctionKind ps ats e) first body opens a count s = function-opened o opens.0 m (link w n) (link w l) i h d at first x ps ats e body opens.1 opens.2 opens.3 a count (ap (link w) s)
+  kind-added o m n l i d h at x (CurrentKind e) first body opens a count s = current-added o (link w n) (link w l) i d at x e body (subst (λ z. AddsTree w z (link w n) d e body) opens.0 (subst (λ z. AddsTree w m (link w n) z e body) opens.1 a)) (ap (link w) s)
+
+  pub right-added : (o m n l : Lists) (i d h : Here) (x : Def) (first body : ℕ) → OpensRight w o m i d x.kind h → AddsTree w m (link w n) h (right_of x.kind) body → first ≡ length o.names → ClosesRight n l i x.at x.kind first (record { scope = h.scope; body = body }) → AddsDefs w o (link w l) i d (one_def x no_defs)
+  right-added o m n l i d h x first body opens a count s = kind-added o m n l i d h x.at x.name x.kind first body opens a count s

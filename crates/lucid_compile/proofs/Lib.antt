@@ -36,3 +36,4 @@ pub mod Leading
 pub mod Passing
 pub mod Keying
 pub mod LinkedRows
+pub mod Waiting

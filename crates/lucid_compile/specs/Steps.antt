@@ -1,6 +1,9 @@
 -- What the functions that build a table promise each other.
-use Rattle.std.specs.Prelude.{◌≡◌, ℕ, ◌<◌, ◌^◌, List, ◌++◌, map, length, Option, Some, None, slice_get}
+use Rattle.std.specs.Prelude.{◌≡◌, ℕ, ◌+◌, ◌<◌, ◌^◌, List, ◌++◌, map, length, Option, Some, None, slice_get}
 use Rattle.lucid_tree.specs.Tree.{Head, PlainTree, form, call, block, PlainTrees, PlainDefs}
+use Rattle.lucid_tree.specs.Parts.{operands}
+use Rattle.lucid_tree.specs.declared.tree.DefKind.{DefKind}
+use Rattle.lucid_tree.specs.declared.tree.DefKind.TheVariants.{Plain as PlainKind, Function as FunctionKind, Current as CurrentKind}
 use Rattle.lucid_tree.specs.Size.{count}
 use Rattle.lucid_tree.specs.Shape.{FitsHead}
 use Rattle.lucid_scope.specs.Scoped.{scoped_binding}
@@ -8,7 +11,7 @@ use Rattle.lucid_equations.specs.Nodes.{called_entry, parameter_entry}
 use Rattle.lucid_compile.specs.Static.{Static, outermost, in_body}
 use Rattle.lucid_compile.specs.Places.{first_place}
 use Rattle.lucid_equations.specs.declared.rows.NameRow.{NameRow}
-use Rattle.lucid_equations.specs.declared.rows.Entry.TheVariants.{Parameter, Called}
+use Rattle.lucid_equations.specs.declared.rows.Entry.TheVariants.{Plain, Parameter, Current, Called}
 use Rattle.lucid_equations.specs.declared.table.Table.{Table}
 use Rattle.lucid_equations.specs.Sound.{ScopeIs}
 use Rattle.lucid_equations.specs.declared.rows.ScopeKind.TheVariants.{Called as CalledScope}
@@ -17,7 +20,8 @@ use Rattle.lucid_compile.specs.declared.building.Body.{Body}
 use Rattle.lucid_compile.specs.declared.linking.Source.{Source}
 use Rattle.lucid_compile.specs.declared.numbering.Key.{Key}
 use Rattle.lucid_compile.specs.Numbered.{function_mark}
-use Rattle.lucid_compile.specs.Building.{Lists}
+use Rattle.lucid_compile.specs.Keys.{plain_key, function_key}
+use Rattle.lucid_compile.specs.Building.{Lists, with_name, with_body, OneScope}
 use Rattle.lucid_compile.specs.Bound.{Stand, Numbered, bound_node, callee_place, FunctionStand, Log, with_parameters}
 use Rattle.lucid_compile.specs.Holds.{StandsAt, Holds, Grown, AddsTree, AddsTrees}
 
@@ -32,6 +36,15 @@ AddsForm w m n d f ids id = (o : Lists) (at : ℕ) (es : PlainTrees) → FitsHea
 abbrev pub AddsCall : Numbered → (m n : Lists) → (here : Here) → (at first : ℕ) → (ids : List ℕ) → (id : ℕ) → Type 0
 AddsCall w m n d at first ids id = (o : Lists) (x : List ℕ) (es : PlainTrees) → first ≡ first_place es → AddsTrees w o m d es ids → AddsTree w o n d (call at x es) id
 
+-- a tree that is no block
+abbrev pub IsNode : PlainTree → Type 0
+IsNode (block at e ds) = ⊥
+IsNode _ = Unit {0}
+
+-- to lists to which its operands were added, a tree is added that is no block
+abbrev pub AddsNode : Numbered → (m n : Lists) → (here : Here) → PlainTree → (ids : List ℕ) → (id : ℕ) → Type 0
+AddsNode w m n d e ids id = (o : Lists) → AddsTrees w o m d (operands e) ids → AddsTree w o n d e id
+
 -- a block is added
 abbrev pub AddsBlock : Numbered → (o n : Lists) → (here : Here) → PlainTree → PlainDefs → (id : ℕ) → Type 0
 AddsBlock w o n d e ds id = (at : ℕ) → AddsTree w o n d (block at e ds) id
@@ -39,6 +52,18 @@ AddsBlock w o n d e ds id = (at : ℕ) → AddsTree w o n d (block at e ds) id
 -- whatever the lists held before, they hold with a function's parameters
 abbrev pub AddsParameters : Numbered → (o n : Lists) → (here : Here) → (places : List ℕ) → Type 0
 AddsParameters w o n d ats = (k : Static) (g : Log) → StandsAt g k d → ((p : ℕ) × ScopeIs o.scopes d.scope p CalledScope) → Holds w o g → Grown w o n (with_parameters k 0 ats g)
+
+-- what is in scope at a right side, by what is inside and outside of the block: a function's has a scope of its own, with its parameters
+abbrev pub OpensRight : Numbered → (o n : Lists) → (inside outside : Here) → DefKind → (here : Here) → Type 0
+OpensRight w o n i d (PlainKind e) h = (n ≡ o) × (h ≡ i)
+OpensRight w o n i d (FunctionKind ps ats e) h = (m : Lists) × OneScope o m (record { parent = i.scope; kind = CalledScope }) h.scope × (h.level ≡ i.level + 1) × AddsParameters w m n h ats
+OpensRight w o n i d (CurrentKind e) h = (n ≡ o) × (h ≡ d)
+
+-- a definition at a place has its row, with this right side; the number of its first parameter's row is that of a function's key
+abbrev pub ClosesRight : (o n : Lists) → (inside : Here) → (at : ℕ) → DefKind → (first : ℕ) → Body → Type 0
+ClosesRight o n i at (PlainKind e) first b = n ≡ with_name (plain_key at i.level) (record { scope = i.scope; kind = Plain b.body }) o
+ClosesRight o n i at (FunctionKind ps ats e) first b = n ≡ with_body (function_key at first i.level) b o
+ClosesRight o n i at (CurrentKind e) first b = n ≡ with_name (plain_key at i.level) (record { scope = i.scope; kind = Current b.body }) o
 
 -- the number of the function that the call at a place calls
 abbrev pub callee_number : Numbered → (at : ℕ) → ℕ

@@ -1,8 +1,6 @@
 //! From a tree to its table: a walk over the tree makes the rows, and then they are linked. Each part is made before the node that has it,
 //! so a part's number is lower.
-ghost use Rattle.std.specs.Prelude.{◌≡◌, ◌+◌, ◌≤◌, length, get_or, IfOk, OnOk};
-ghost use Rattle.lucid_tree.specs.Tree.{no_defs};
-ghost use Rattle.lucid_tree.specs.DefsView.{one_def};
+ghost use Rattle.std.specs.Prelude.{◌≡◌, ◌+◌, ◌≤◌, length, take, drop, get_or, IfOk, OnOk};
 ghost use Rattle.lucid_tree.specs.Shape.{head_of};
 ghost use Rattle.lucid_scope.specs.Scoped.{scoped_tree, scoped_inputs};
 ghost use Rattle.lucid_compile.specs.Promise.{KeepsTree};
@@ -14,8 +12,8 @@ ghost use Rattle.lucid_compile.specs.Bound.{Numbered};
 ghost use Rattle.lucid_compile.specs.Building.{lists, OneScope};
 ghost use Rattle.lucid_compile.specs.Linked.{linked};
 ghost use Rattle.lucid_compile.specs.Forms.{HasFirst};
-ghost use Rattle.lucid_compile.specs.Holds.{AddsTree, AddsTrees, AddsDefs};
-ghost use Rattle.lucid_compile.specs.Steps.{AddsForm, AddsCall, AddsBlock, AddsParameters, IsTableOf};
+ghost use Rattle.lucid_compile.specs.Holds.{AddsTree};
+ghost use Rattle.lucid_compile.specs.Steps.{IsNode, AddsForm, AddsCall, AddsNode, AddsBlock, AddsParameters, OpensRight, ClosesRight, IsTableOf};
 
 use crate::building::{Body, Here, Rows};
 use crate::forms::form_node;
@@ -27,28 +25,55 @@ use lucid_equations::{
 };
 use lucid_scope::Scoped;
 use lucid_scope::laws::free_names_are_inputs;
-use lucid_tree::{
-    Def, DefKind, Definitions, Defs, Head, Names, Parts, Places32, Shape, Tree, Trees,
-};
+use lucid_tree::{Block, Def, DefKind, Defs, Head, Kind, Names, Places32, Shape, Tree, Trees};
 use lucid_value::Name;
 use std::alloc::{AllocError, Global};
 
-// The number of the tree's node, which the table then has.
+// The number of the tree's node, which the table then has. The numbers of a node's operands wait behind others until it is made, so that
+// a level of the recursion holds no list.
 #[cycle(compile)]
-fn add_tree(alloc: Global, rows: &mut Rows, tree: &Tree, here: Here) -> Result<u32, AllocError>
-    ensures { IfOk result (λ id. (w : Numbered) → AddsTree w (linked w rows.old) (linked w rows.new) here tree.now id) }
+fn add_tree(
+    alloc: Global,
+    rows: &mut Rows,
+    ids: &mut Vec<u32>,
+    tree: &Tree,
+    here: Here,
+) -> Result<u32, AllocError>
+    ensures waiting { OnOk result (ids.new.items ≡ ids.old.items) }
+    ensures adds { IfOk result (λ id. (w : Numbered) → AddsTree w (linked w rows.old) (linked w rows.new) here tree.now id) }
 {
+    if let Kind::Scope(block) = &tree.kind {
+        return add_block(alloc, rows, ids, block, here);
+    }
+    let before = ids.len();
+    for part in tree.operands() {
+        let id = add_tree(alloc, rows, ids, part, here)?;
+        ids.push(id)?;
+    }
+    add_node(alloc, rows, ids, before, tree, here)
+}
+
+// The number of the node of a tree that is no block, whose operands have the numbers from a place on, which are taken off.
+#[inline(never)]
+fn add_node(
+    alloc: Global,
+    rows: &mut Rows,
+    ids: &mut Vec<u32>,
+    before: usize,
+    tree: &Tree,
+    here: Here,
+) -> Result<u32, AllocError>
+    requires within { before ≤ length ids.old.items }
+    requires node { IsNode tree.now }
+    ensures waiting { OnOk result (ids.new.items ≡ take before ids.old.items) }
+    ensures adds { IfOk result (λ id. (w : Numbered) → AddsNode w (linked w rows.old) (linked w rows.new) here tree.now (drop before ids.old.items) id) }
+{
+    let ids = ids.split_off(before)?;
     match tree.shape() {
-        Shape::Form { head, parts, .. } => {
-            let ids = add_parts(alloc, rows, parts, here)?;
-            add_form(alloc, rows, head, &ids, here)
-        }
+        Shape::Form { head, .. } => add_form(alloc, rows, head, &ids, here),
         Shape::Name { at, .. } => rows.push(here, Node::Refer { name: at, level: 0 }),
-        Shape::Call { at, args, .. } => {
-            let ids = add_parts(alloc, rows, args.parts(), here)?;
-            add_call(rows, at, first_place(args), ids, here)
-        }
-        Shape::Scope { subject, defs, .. } => add_block(alloc, rows, subject, defs, here),
+        Shape::Call { at, args, .. } => add_call(rows, at, first_place(args), ids, here),
+        Shape::Scope { .. } => unreachable!(),
     }
 }
 
@@ -57,24 +82,6 @@ fn first_place(args: &Trees) -> u32
     ensures { result ≡ place_of_first args.now }
 {
     args.items().first().map_or(0, |tree| tree.at)
-}
-
-// The numbers of the parts' nodes, in order.
-#[cycle(compile)]
-fn add_parts(
-    alloc: Global,
-    rows: &mut Rows,
-    parts: Parts<'_>,
-    here: Here,
-) -> Result<Vec<u32>, AllocError>
-    ensures { IfOk result (λ ids. (w : Numbered) → AddsTrees w (linked w rows.old) (linked w rows.new) here parts.entry ids.items) }
-{
-    let mut ids = Vec::new(alloc);
-    for part in parts {
-        let id = add_tree(alloc, rows, part, here)?;
-        ids.push(id)?;
-    }
-    Ok(ids)
 }
 
 // The number at an index, and 0 past the last.
@@ -158,20 +165,30 @@ fn has_frame(defs: &Defs) -> bool
 fn add_block(
     alloc: Global,
     rows: &mut Rows,
-    subject: &Tree,
-    defs: &Defs,
+    ids: &mut Vec<u32>,
+    block: &Block,
     here: Here,
 ) -> Result<u32, AllocError>
-    ensures { IfOk result (λ id. (w : Numbered) → AddsBlock w (linked w rows.old) (linked w rows.new) here subject.now defs.now id) }
+    ensures waiting { OnOk result (ids.new.items ≡ ids.old.items) }
+    ensures adds { IfOk result (λ id. (w : Numbered) → AddsBlock w (linked w rows.old) (linked w rows.new) here block.now.subject block.now.defs id) }
 {
-    if has_frame(defs) {
-        let inside = opened(rows, here, ScopeKind::Frozen)?;
-        let subject = add_tree(alloc, rows, subject, inside)?;
-        add_defs(alloc, rows, defs.definitions(), inside, here)?;
+    let frozen = has_frame(&block.defs);
+    let inside = if frozen {
+        opened(rows, here, ScopeKind::Frozen)?
+    } else {
+        here
+    };
+    let subject = add_tree(alloc, rows, ids, &block.subject, inside)?;
+    for def in block.defs.definitions() {
+        let first = number(rows.names.len())?;
+        let right = open_right(rows, def, inside, here)?;
+        let body = add_tree(alloc, rows, ids, def.right(), right)?;
+        let scope = right.scope;
+        close_right(rows, def, inside, first, Body { scope, body })?;
+    }
+    if frozen {
         rows.push(here, Node::Freeze { subject })
     } else {
-        let subject = add_tree(alloc, rows, subject, here)?;
-        add_defs(alloc, rows, defs.definitions(), here, here)?;
         Ok(subject)
     }
 }
@@ -186,56 +203,40 @@ fn opened(rows: &mut Rows, here: Here, kind: ScopeKind) -> Result<Here, AllocErr
     Ok(Here { scope, level })
 }
 
-// The rows of a block's definitions, in order.
-#[cycle(compile)]
-fn add_defs(
-    alloc: Global,
-    rows: &mut Rows,
-    defs: Definitions<'_>,
-    inside: Here,
-    outside: Here,
-) -> Result<(), AllocError>
-    ensures { OnOk result ((w : Numbered) → AddsDefs w (linked w rows.old) (linked w rows.new) inside outside defs.entry) }
+// What is in scope at the right side of a definition. A current name's stands outside the block.
+#[inline(never)]
+fn open_right(rows: &mut Rows, def: &Def, inside: Here, outside: Here) -> Result<Here, AllocError>
+    ensures { IfOk result (λ here. (w : Numbered) → OpensRight w (linked w rows.old) (linked w rows.new) inside outside def.now.kind here) }
 {
-    for def in defs {
-        add_def(alloc, rows, def, inside, outside)?;
+    match &def.kind {
+        DefKind::Plain { .. } => Ok(inside),
+        DefKind::Function { places, .. } => {
+            let called = opened(rows, inside, ScopeKind::Called)?;
+            add_parameters(rows, places, called)?;
+            Ok(called)
+        }
+        DefKind::Current { .. } => Ok(outside),
     }
-    Ok(())
 }
 
-// The row of a definition. A current name's right side stands outside the block.
-#[cycle(compile)]
-fn add_def(
-    alloc: Global,
+// The row of a definition with this right side. The first parameter's row has a number.
+#[inline(never)]
+fn close_right(
     rows: &mut Rows,
     def: &Def,
     inside: Here,
-    outside: Here,
+    first: u32,
+    right: Body,
 ) -> Result<(), AllocError>
-    ensures { OnOk result ((w : Numbered) → AddsDefs w (linked w rows.old) (linked w rows.new) inside outside (one_def def.now no_defs)) }
+    ensures { OnOk result (ClosesRight (lists rows.old) (lists rows.new) inside def.now.at def.now.kind first right) }
 {
+    let at = def.at;
+    let level = inside.level;
+    let body = right.body;
     match &def.kind {
-        DefKind::Plain { right } => {
-            let body = add_tree(alloc, rows, right, inside)?;
-            rows.define(inside, def.at, Entry::Plain { body })
-        }
-        DefKind::Function { places, right, .. } => {
-            let first = number(rows.names.len())?;
-            let key = Key {
-                at: def.at,
-                first,
-                level: inside.level,
-            };
-            let called = opened(rows, inside, ScopeKind::Called)?;
-            add_parameters(rows, places, called)?;
-            let body = add_tree(alloc, rows, right, called)?;
-            let scope = called.scope;
-            rows.close(key, Body { scope, body })
-        }
-        DefKind::Current { right } => {
-            let body = add_tree(alloc, rows, right, outside)?;
-            rows.define(inside, def.at, Entry::Current { body })
-        }
+        DefKind::Plain { .. } => rows.define(inside, at, Entry::Plain { body }),
+        DefKind::Function { .. } => rows.close(Key { at, first, level }, right),
+        DefKind::Current { .. } => rows.define(inside, at, Entry::Current { body }),
     }
 }
 
@@ -299,7 +300,8 @@ pub fn compile(alloc: Global, scoped: &Scoped) -> Result<Program, AllocError>
     let tree = scoped.tree();
     let mut rows = Rows::make(alloc);
     let scope = rows.open(0, ScopeKind::Root)?;
-    let root = add_tree(alloc, &mut rows, tree, Here { scope, level: 0 })?;
+    let mut ids = Vec::new(alloc);
+    let root = add_tree(alloc, &mut rows, &mut ids, tree, Here { scope, level: 0 })?;
     let mut numbering = Numbering::make(alloc);
     numbering.number_all(&rows.keys)?;
     let source = Source {

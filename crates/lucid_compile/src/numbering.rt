@@ -77,15 +77,14 @@ fn mark_all(marks: &mut IndexMap<u32, Mark>, start: usize, keys: &[Key]) -> Resu
 {
     let mut next = start;
     for key in keys {
+        let Key { at, first, level } = *key;
         let number = number(next)?;
-        let first = key.first;
-        let level = key.level;
         let mark = Mark {
             number,
             first,
             level,
         };
-        marks.insert(key.at, mark)?;
+        marks.insert(at, mark)?;
         next += 1;
     }
     Ok(())
