@@ -1,5 +1,5 @@
 -- What is said of inputs that have no file: the name of each, where it stands first, and a definition in scope there whose name differs by little.
-use Rattle.std.specs.Prelude.{◌≡◌, ◌≢◌, ℕ, ◌≤◌, ◌<◌, List, [], ◌∷◌, ◌++◌, length, min, nat_lt, if◌then◌else◌, Option, None, Some, IfSome, All, Contains, codes, nat_eq}
+use Rattle.std.specs.Prelude.{◌≡◌, ℕ, ◌≤◌, ◌<◌, List, [], ◌∷◌, ◌++◌, length, min, nat_lt, if◌then◌else◌, Option, None, Some, IfSome, All, Contains, codes, nat_eq}
 use Rattle.std.specs.Borrow.{Bor}
 use Rattle.std.specs.List.{slice_get, flat_map}
 use Rattle.strsim.specs.Edits.{levenshtein_row}

@@ -1,5 +1,5 @@
 -- What is said before a run reads an input from a terminal.
-use Rattle.std.specs.Prelude.{◌≡◌, ◌≢◌, ℕ, List, [], ◌∷◌, ◌++◌, codes, Contains, ◌⊎◌}
+use Rattle.std.specs.Prelude.{◌≡◌, ℕ, List, [], ◌++◌, codes, Contains, ◌⊎◌}
 use Rattle.lucid_scope.specs.declared.scoped.Scoped.{Scoped}
 use Rattle.lucid_scope.specs.Scoped.{scoped_tree, scoped_inputs}
 use Rattle.lucid_explanations.specs.Accepted.{IsSpelt}

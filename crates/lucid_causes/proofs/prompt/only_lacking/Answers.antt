@@ -1,4 +1,4 @@
-use Rattle.std.proofs.Common.{◌≡◌, ℕ, ◌+◌, List, Option, rules, sym, subst, arith}
+use Rattle.std.proofs.Common.{ℕ, ◌+◌, List, Option, rules, sym, subst, arith}
 use Rattle.std.specs.Borrow.{Bor}
 use Rattle.std.specs.Option.{option_copied}
 use Rattle.lucid_causes.proofs.Only.{Passed, passed_given, passed_lacking, passed_ended, unfound}
