@@ -1,5 +1,5 @@
 -- Terminals whose text is read as they are, before every byte that may come behind it.
-use Rattle.std.proofs.Common.{◌≡◌, ℕ, zero, suc, ◌^◌, ◌<◌, ◌≤◌, List, [], ◌∷◌, ◌++◌, length, take, Some, Bool, true, false, not, cond, ◌&&◌, ◌||◌, eqb, inl, inr, refl, sym, ◌∙◌, ap, subst, arith, rules, Option, None}
+use Rattle.std.proofs.Common.{◌≡◌, ℕ, zero, suc, ◌^◌, ◌<◌, ◌≤◌, List, [], ◌∷◌, ◌++◌, length, take, Some, Bool, true, false, not, cond, ◌&&◌, ◌||◌, eqb, inl, inr, refl, sym, ◌∙◌, ap, subst, arith, Option, None}
 use Rattle.std.specs.Prelude.{pos, neg_ℤ}
 use Rattle.std.specs.Fmt.{decimal}
 use Rattle.std.specs.Char.{is_ascii_digit}

@@ -5,3 +5,4 @@ pub mod Printed
 pub mod Scanned
 pub mod Loops
 pub mod Operations
+pub mod Unfolding

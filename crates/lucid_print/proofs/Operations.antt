@@ -1,5 +1,5 @@
 -- A form of these parts is written by its style.
-use Rattle.std.proofs.Common.{◌≡◌, ℕ, List, [], ◌++◌, Some, None, Result, Ok, Err, sym, ◌∙◌, ap, refl, append-nil}
+use Rattle.std.proofs.Common.{◌≡◌, [], Some, None, Result, Ok, Err, sym, ◌∙◌, ap, refl}
 use Rattle.std.specs.Result.{OnOk}
 use Rattle.lucid_tree.specs.Tree.{Head, PlainTree, PlainTrees, no_trees, tree}
 use Rattle.lucid_tree.specs.Shape.{head_of}
@@ -43,10 +43,6 @@ unfolding source
 not_three (tree x (tree y (tree z no_trees))) other = absurd (other x y z refl)
 not_three es other = refl
 
--- what is written of a style and parts is written of what they are
-pub as_written : (b n : List ℕ) (s z : code.Style) (es fs : PlainTrees) → s ≡ z → es ≡ fs → n ≡ b ++ form_text (seen_style z) (parts fs) → n ≡ b ++ form_text (seen_style s) (parts es)
-as_written b n s z es fs is all e = e ∙ ap (λ l. b ++ l) (sym (ap (λ x. form_text (seen_style x) (parts es)) is ∙ ap (λ l. form_text (seen_style z) (parts l)) all))
-
--- where it is nothing, nothing is written
-pub unwritten : (b : List ℕ) (s z : code.Style) (es : PlainTrees) → s ≡ z → form_text (seen_style z) (parts es) ≡ [] → b ≡ b ++ form_text (seen_style s) (parts es)
-unwritten b s z es is none = as_written b b s z es es is refl (sym (append-nil b) ∙ ap (λ l. b ++ l) (sym none))
+-- the text of a style and parts is that of what they are
+pub as_written : (s z : code.Style) (es fs : PlainTrees) → s ≡ z → es ≡ fs → form_text (seen_style z) (parts fs) ≡ form_text (seen_style s) (parts es)
+as_written s z es fs is all = sym (ap (λ x. form_text (seen_style x) (parts es)) is ∙ ap (λ l. form_text (seen_style z) (parts l)) all)

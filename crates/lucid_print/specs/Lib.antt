@@ -2,3 +2,4 @@ pub mod Styles
 pub mod Canonical
 pub mod Again
 pub mod Views
+pub mod Pieces

@@ -1,0 +1,7 @@
+use Rattle.std.proofs.Common.{arith, append_assoc}
+use Rattle.lucid_print.proofs.Operations.{on_ok}
+use Rattle.lucid_print.proofs.Unfolding.{put, before, are}
+use Rattle.lucid_print.proofs.print.open_before.Goals as goal
+
+pub returns : goal.returns
+returns c = on_ok c.push-3.result (λ p. are (before (before (put c.in_ok-push.ensures) (put c.in_ok-push-2.ensures)) (put p)) (simp append_assoc) (omega arith)) c.push-3.ensures

@@ -1,0 +1,11 @@
+use Rattle.std.proofs.Common.{◌≡◌, ◌++◌}
+use Rattle.lucid_print.specs.Canonical.{source}
+use Rattle.lucid_print.specs.Pieces.{left, steps_left}
+use Rattle.lucid_print.proofs.print.put_tree.Given as goal
+
+-- what is written and what is left are the tree's text
+abbrev pub invariant-loop-piece : goal.invariant-loop-piece
+invariant-loop-piece l = l.to.items ++ left l.pieces ≡ l.fn.to.items ++ source l.tree
+
+abbrev pub decreases-loop-piece : goal.decreases-loop-piece
+decreases-loop-piece l = steps_left l.pieces
