@@ -1,38 +1,43 @@
 -- An operator's row asks for its arguments one after another.
 use Rattle.std.proofs.lemmas.Bool.{cases_lt}
-use Rattle.std.proofs.Common.{◌≡◌, ℕ, zero, suc, ◌+◌, ◌<◌, ◌≤◌, ◌⊎◌, inl, inr, List, [], ◌∷◌, length, Option, Some, None, true, false, refl, sym, ap, ◌∙◌, subst, arith, le_refl}
+use Rattle.std.proofs.Common.{◌≡◌, ℕ, zero, suc, ◌+◌, ◌<◌, ◌≤◌, ◌⊎◌, inl, inr, List, [], ◌∷◌, length, Option, Some, None, true, false, refl, sym, ap, ◌∙◌, subst, arith, rules, le_refl}
 use Rattle.std.specs.Borrow.{Bor}
 use Rattle.std.specs.Prelude.{is_some, option_copied, IsSome, IsTrue, Result, Ok, Err, OnOk, slice_get, slice_index_or, option_map, option_and_then}
 use Rattle.std.specs.List.{list_all}
+use Rattle.std.proofs.lemmas.Option.{same_Some, slice_get-get_or}
 use Rattle.lucid_value.specs.declared.Value.{Value}
+use Rattle.lucid_value.specs.Plain.{PlainValue}
+use Rattle.lucid_value.specs.View.{plain}
 use Rattle.lucid_ops.specs.declared.op.Op.{Op}
 use Rattle.lucid_ops.specs.Arity.{arity}
 use Rattle.lucid_tags.specs.Known.{IsKnown, KeepsKnown}
-use Rattle.lucid_tasks.specs.declared.Part.{Part}
 use Rattle.lucid_tasks.specs.declared.Task.{Task}
 use Rattle.lucid_tasks.specs.Rows as rows
 use Rattle.lucid_tasks.specs.Rows.{TaskRow, Idle, Asked, Got, row_at, state_of, got_of, is_ready, IsRow}
 use Rattle.lucid_ports.specs.World.{World}
 use Rattle.lucid_equations.specs.Rows.{parts}
 use Rattle.lucid_equations.specs.Rows as table
+use Rattle.lucid_equations.specs.declared.rows.Node.{Node}
 use Rattle.lucid_equations.specs.declared.rows.Node.TheVariants as node
+use Rattle.lucid_equations.specs.declared.table.Table.{Table}
 use Rattle.lucid_facts.specs.Tasks.{idle, state_at, plain_task, plain_state, plain_row}
 use Rattle.lucid_facts.specs.Parts.{IsPart}
 use Rattle.lucid_facts.specs.Engine.{EngineView}
 use Rattle.lucid_facts.specs.Demands.{Demand, table_of}
 use Rattle.lucid_facts.specs.Decisions.{MayAsk}
 use Rattle.lucid_facts.specs.Going.{Waits}
-use Rattle.lucid_facts.proofs.Seeing.{plain_at, plain_idle_state}
+use Rattle.lucid_facts.proofs.Seeing.{plain_at}
 use Rattle.lucid_facts.proofs.Coming.{arguments_may_be_asked}
 use Rattle.lucid_demand.specs.Evaluating.{Evaluating, Stepped, cost}
-use Rattle.lucid_demand.specs.Acting.{DemandIn, MayAct}
+use Rattle.lucid_demand.specs.Acting.{DemandIn, MayAct, value_of}
+use Rattle.lucid_demand.specs.Justified.{argument_by}
 use Rattle.lucid_demand.specs.Asking.{CanAsk, CanAskAll, SetsPart, HoldsNothing, AsksIn}
 use Rattle.lucid_demand.specs.Searching.{MayAskNow}
 use Rattle.lucid_demand.specs.declared.decide.Decision.TheVariants as decision
 use Rattle.lucid_demand.specs.declared.fault.DemandFault.{DemandFault}
 use Rattle.lucid_demand.specs.declared.fault.DemandFault.TheVariants.{NoMemory}
 use Rattle.lucid_demand.proofs.OperatorParts.{operator_node, operator_part}
-use Rattle.lucid_demand.proofs.SettledRows.{refused, ready_is_there}
+use Rattle.lucid_demand.proofs.SettledRows.{refused, ready_is_there, argument_value}
 use Rattle.lucid_demand.proofs.TakenParts.{other_part}
 use Rattle.lucid_demand.proofs.GoneRows.{goes_on_step}
 
@@ -51,11 +56,24 @@ free_at (Asked s ∷ ps) i h = absurd (cc)
 free_at (Got v ∷ ps) zero h = refl
 free_at (Got v ∷ ps) (suc i) h = free_at ps i h
 
--- In a demand the rows wait on, and some part was asked or given, or nothing was done and no part before this one is idle.
-pub record AskedIn (d : Demand) (old now : Evaluating) (w : World) (first : TaskRow) (index : ℕ) : Type 0 where
+absent : (o : Option PlainValue) → o ≡ None → IsSome o → ⊥
+absent None e h = absurd (cc)
+absent (Some v) e h = absurd (cc)
+
+-- any of three items is there
+pub one_of_three : (a b c i : ℕ) → i < 3 → slice_get (a ∷ b ∷ c ∷ []) i ≡ Some (slice_index_or (a ∷ b ∷ c ∷ []) i 0)
+one_of_three a b c i low = slice_get-get_or (a ∷ b ∷ c ∷ []) i 0 (let l : length (a ∷ b ∷ c ∷ []) ≡ 3 = search rules in omega (arith, low, l))
+
+-- where an argument has no value, its part has none
+no_value : (T : Table) (o : Option Node) (p : Option Value) → argument_by T o (option_map plain p) ≡ None → p ≡ None
+no_value T o None h = refl
+no_value T o (Some v) h = absurd (cc)
+
+-- In a demand the rows wait on, and some part was asked or given, or nothing was done and each argument before this one has a value.
+pub record AskedIn (d : Demand) (old now : Evaluating) (w : World) (slot : ℕ) (args : List ℕ) (index : ℕ) : Type 0 where
   pub waits : Waits d now.engine w now.rows
   pub nothing : HoldsNothing d now.engine
-  pub some : (cost d now < cost d old) ⊎ ((now ≡ old) × ((i : ℕ) → i < index → rows.state_at i first ≡ Idle → ⊥))
+  pub some : (cost d now < cost d old) ⊎ ((now ≡ old) × ((i n : ℕ) → i < index → slice_get args i ≡ Some n → IsSome (value_of old slot i n)))
 
 -- The parts before this one were asked, given or had; from it on they are as they were.
 pub record AskedBelow (old now : Evaluating) (slot : ℕ) (op : Op) (args : List ℕ) (task : Task) (index : ℕ) : Type 0 where
@@ -68,7 +86,7 @@ pub record AskedBelow (old now : Evaluating) (slot : ℕ) (op : Op) (args : List
   pub rest : (i : ℕ) → index ≤ i → rows.state_at i row ≡ rows.state_at i first
   pub only : now.engine ≡ record old.engine { known = now.engine.known; stored = now.engine.stored }
   pub keeps : KeepsKnown old.engine.known now.engine.known
-  pub in_demand : (i : DemandIn) → MayAct i.demand old i.world slot (decision.AskAll op args) → AskedIn i.demand old now i.world first index
+  pub in_demand : (i : DemandIn) → MayAct i.demand old i.world slot (decision.AskAll op args) → AskedIn i.demand old now i.world slot args index
 
 -- before the first part
 pub asks_begin : (old : Evaluating) (slot : ℕ) (op : Op) (args : List ℕ) (task : Task) → IsTrue (is_ready (row_at old.rows slot)) → option_map (λ row. row.task) (row_at old.rows slot) ≡ Some task
@@ -83,7 +101,7 @@ asks_begin old slot op args task ready told = record {
   rest = λ i l. refl;
   only = refl;
   keeps = record { known = λ tag k. k; same = λ tag k. refl };
-  in_demand = λ i act. record { waits = act.step.waits; nothing = act.step.emptied.nothing; some = inr (refl, λ k l e. absurd (omega (arith, l))) };
+  in_demand = λ i act. record { waits = act.step.waits; nothing = act.step.emptied.nothing; some = inr (refl, λ k n l e. absurd (omega (arith, l))) };
 }
   where
     its : (r : TaskRow) × (row_at old.rows slot ≡ Some r)
@@ -97,9 +115,13 @@ module _ (old now : Evaluating) (slot : ℕ) (op : Op) (args : List ℕ) (task :
   first_free : list_all rows.is_free b.first.parts ≡ true
   first_free = subst (λ o. IsTrue (is_ready o)) b.first_there ready
 
-  -- a part that has a value wasn't idle
-  pub part_is_got : IsSome (got_of now.rows (record { slot = slot; index = index })) → AskedBelow old now slot op args task (index + 1)
-  part_is_got got = record {
+  -- the argument is one of the table's nodes
+  pub argument_node : (n : ℕ) → CanAskAll old slot op args → index < arity op → slice_get args index ≡ Some n → n < length now.engine.table.nodes
+  argument_node n can low arg = subst (λ (e : EngineView). n < length e.table.nodes) (sym b.only) (can.there index n low arg)
+
+  -- an argument that has a value
+  pub argument_is_there : (n : ℕ) → slice_get args index ≡ Some n → IsSome (value_of now slot index n) → AskedBelow old now slot op args task (index + 1)
+  argument_is_there n arg there = record {
     row = b.row;
     there = b.there;
     first = b.first;
@@ -112,42 +134,40 @@ module _ (old now : Evaluating) (slot : ℕ) (op : Op) (args : List ℕ) (task :
     in_demand = λ i act. on i act (b.in_demand i act);
   }
     where
-      not_idle : rows.state_at index b.first ≡ Idle → ⊥
-      not_idle e = absurd (no_value (rows.state_at index b.row) (b.rest index (le_refl index) ∙ e) (subst (λ o. IsSome (option_and_then rows.got_value (option_map (rows.state_at index) o))) b.there got))
+      below : now ≡ old → ((i m : ℕ) → i < index → slice_get args i ≡ Some m → IsSome (value_of old slot i m)) → (i m : ℕ) → i < index + 1 → slice_get args i ≡ Some m → IsSome (value_of old slot i m)
+      below same f i m l e = by (cases_lt i index)
         where
-          no_value : (s : rows.PartState) → s ≡ Idle → IsSome (rows.got_value s) → ⊥
-          no_value s e h = let f : IsSome (rows.got_value Idle) = subst (λ z. IsSome (rows.got_value z)) e h in absurd (cc)
+          by : (i < index) ⊎ (index ≤ i) → IsSome (value_of old slot i m)
+          by (inl lt) = f i m lt e
+          by (inr le) =
+              let it : index ≡ i = omega (arith, l, le) in
+              let its : n ≡ m = same_Some n m (sym arg ∙ ap (slice_get args) it ∙ e) in
+              subst (λ k. IsSome (value_of old slot i k)) its (subst (λ k. IsSome (value_of old slot k n)) it (subst (λ z. IsSome (value_of z slot index n)) same there))
 
-      below : ((i : ℕ) → i < index → rows.state_at i b.first ≡ Idle → ⊥) → (i : ℕ) → i < index + 1 → rows.state_at i b.first ≡ Idle → ⊥
-      below f i l e = by (cases_lt i index)
-        where
-          by : (i < index) ⊎ (index ≤ i) → ⊥
-          by (inl lt) = f i lt e
-          by (inr le) = let same : i ≡ index = omega (arith, l, le) in not_idle (subst (λ k. rows.state_at k b.first ≡ Idle) same e)
+      on : (i : DemandIn) → MayAct i.demand old i.world slot (decision.AskAll op args) → AskedIn i.demand old now i.world slot args index → AskedIn i.demand old now i.world slot args (index + 1)
+      on i act a = record { waits = a.waits; nothing = a.nothing; some = elim a.some [ inl less ↦ inl less | inr same ↦ inr (same.0, below same.0 same.1) ] }
 
-      on : (i : DemandIn) → MayAct i.demand old i.world slot (decision.AskAll op args) → AskedIn i.demand old now i.world b.first index → AskedIn i.demand old now i.world b.first (index + 1)
-      on i act a = record { waits = a.waits; nothing = a.nothing; some = elim a.some [ inl less ↦ inl less | inr same ↦ inr (same.0, below same.1) ] }
-
-  -- A part that has no value is idle, and may be asked.
-  module _ (none : got_of now.rows (record { slot = slot; index = index }) ≡ None) where
+  -- The part of an argument that has no value is idle, and may be asked.
+  module _ (n : ℕ) (none : value_of now slot index n ≡ None) where
     part_is_free : rows.state_at index b.row ≡ Idle
     part_is_free = free_idle (rows.state_at index b.row) (subst (λ s. rows.is_free s ≡ true) (sym (b.rest index (le_refl index))) (free_at b.first.parts index first_free))
-        (sym (ap (λ o. option_and_then rows.got_value (option_map (rows.state_at index) o)) b.there) ∙ none)
+        (sym (ap (λ o. option_and_then rows.got_value (option_map (rows.state_at index) o)) b.there)
+        ∙ no_value now.engine.table (table.row_at now.engine.table n) (got_of now.rows (record { slot = slot; index = index })) none)
 
     pub part_is_idle : state_of now.rows (record { slot = slot; index = index }) ≡ Some Idle
     part_is_idle = ap (option_map (rows.state_at index)) b.there ∙ ap Some part_is_free
 
-    pub can_ask_argument : (n : ℕ) → CanAskAll old slot op args → index < arity op → arity op ≤ 3 → slice_get args index ≡ Some n
+    pub can_ask_argument : CanAskAll old slot op args → index < arity op → arity op ≤ 3 → slice_get args index ≡ Some n
         → CanAsk now (record { slot = slot; index = index }) (record task { node = n })
-    can_ask_argument n can low few arg = record {
+    can_ask_argument can low few arg = record {
       row = asking_row;
       index = omega (arith, low, few);
       idle = part_is_idle;
-      there = subst (λ (e : EngineView). n < length e.table.nodes) (sym b.only) (can.there index n low arg);
+      there = argument_node n can low arg;
       known = b.keeps.known task.tag (subst (λ (x : Task). IsKnown old.engine.known x.tag) b.is_task (can.known b.first b.first_there));
     }
 
-    module _ (n : ℕ) (low : index < arity op) (few : arity op ≤ 3) (arg : slice_get args index ≡ Some n) (i : DemandIn) (act : MayAct i.demand old i.world slot (decision.AskAll op args)) where
+    module _ (low : index < arity op) (few : arity op ≤ 3) (arg : slice_get args index ≡ Some n) (i : DemandIn) (act : MayAct i.demand old i.world slot (decision.AskAll op args)) where
       its_row : (r : TaskRow) → row_at now.rows slot ≡ Some r → b.row ≡ r
       its_row r at = let both : Some b.row ≡ Some r = sym b.there ∙ at in cc
 
@@ -174,11 +194,11 @@ module _ (old now : Evaluating) (slot : ℕ) (op : Op) (args : List ℕ) (task :
       }
 
     -- The part was asked or given: the next may be.
-    pub part_is_next : (new : Evaluating) (n : ℕ) → SetsPart now new (record { slot = slot; index = index }) → index < arity op → arity op ≤ 3 → slice_get args index ≡ Some n
+    pub part_is_next : (new : Evaluating) → SetsPart now new (record { slot = slot; index = index }) → index < arity op → arity op ≤ 3 → slice_get args index ≡ Some n
         → {A E : Type 0} (result : Result A E) (a : A) → result ≡ Ok a
         → ((i : DemandIn) → MayAskNow i.demand now i.world (record { slot = slot; index = index }) (record task { node = n }) → AsksIn i.demand now new i.world result)
         → AskedBelow old new slot op args task (index + 1)
-    part_is_next new n sets low few arg {A = A} {E = E} result a ok goes = record {
+    part_is_next new sets low few arg {A = A} {E = E} result a ok goes = record {
       row = rows.with_part index sets.state b.row;
       there = sets.row ∙ ap (option_map (rows.with_part index sets.state)) b.there;
       first = b.first;
@@ -188,46 +208,47 @@ module _ (old now : Evaluating) (slot : ℕ) (op : Op) (args : List ℕ) (task :
       rest = λ i l. other_part b.row.parts index i sets.state (λ e. absurd (omega (arith, e, l))) ∙ b.rest i (omega (arith, l));
       only = sets.only ∙ ap (λ (e : EngineView). record e { known = new.engine.known; stored = new.engine.stored }) b.only;
       keeps = record { known = λ tag k. sets.keeps.known tag (b.keeps.known tag k); same = λ tag k. sets.keeps.same tag (b.keeps.known tag k) ∙ b.keeps.same tag k };
-      in_demand = λ i act. on i act (goes i (may_ask_argument n low few arg i act)) (b.in_demand i act);
+      in_demand = λ i act. on i act (goes i (may_ask_argument low few arg i act)) (b.in_demand i act);
     }
       where
         on : (i : DemandIn) → MayAct i.demand old i.world slot (decision.AskAll op args) → AsksIn i.demand now new i.world result
-            → AskedIn i.demand old now i.world b.first index → AskedIn i.demand old new i.world b.first (index + 1)
+            → AskedIn i.demand old now i.world slot args index → AskedIn i.demand old new i.world slot args (index + 1)
         on i act g its = record { waits = went.0; nothing = subst (λ z. OnOk z (HoldsNothing i.demand now.engine → HoldsNothing i.demand new.engine)) ok g.nothing its.nothing; some = inl (less its.some) }
           where
             went : Waits i.demand new.engine i.world new.rows × (cost i.demand new < cost i.demand now)
             went = subst (λ z. OnOk z (Waits i.demand new.engine i.world new.rows × (cost i.demand new < cost i.demand now))) ok g.goes_on
 
-            less : (cost i.demand now < cost i.demand old) ⊎ ((now ≡ old) × ((k : ℕ) → k < index → rows.state_at k b.first ≡ Idle → ⊥)) → cost i.demand new < cost i.demand old
+            less : (cost i.demand now < cost i.demand old) ⊎ ((now ≡ old) × ((k m : ℕ) → k < index → slice_get args k ≡ Some m → IsSome (value_of old slot k m))) → cost i.demand new < cost i.demand old
             less (inl l) = omega (arith, l, went.1)
             less (inr same) = subst (λ e. cost i.demand new < cost i.demand e) same.0 went.1
 
     -- It is refused for want of memory.
-    pub asks_refused : (new : Evaluating) (n : ℕ) {A E : Type 0} (result : Result A E) → index < arity op → arity op ≤ 3 → slice_get args index ≡ Some n
+    pub asks_refused : (new : Evaluating) {A E : Type 0} (result : Result A E) → index < arity op → arity op ≤ 3 → slice_get args index ≡ Some n
         → ((i : DemandIn) → MayAskNow i.demand now i.world (record { slot = slot; index = index }) (record task { node = n }) → AsksIn i.demand now new i.world result)
         → (res : Result (Option Value) DemandFault) → res ≡ Err NoMemory → (i : DemandIn) → MayAct i.demand old i.world slot (decision.AskAll op args) → Stepped i.demand old new i.world i.world res
-    asks_refused new n result low few arg asks res is i act =
-        subst (λ z. Stepped i.demand old new i.world i.world z) (sym is) (refused i.demand old new i.world i.world ((asks i (may_ask_argument n low few arg i act)).owns))
+    asks_refused new result low few arg asks res is i act =
+        subst (λ z. Stepped i.demand old new i.world i.world z) (sym is) (refused i.demand old new i.world i.world ((asks i (may_ask_argument low few arg i act)).owns))
 
-  -- After the last part some was asked or given, since one was idle.
+  -- After the last part some was asked or given, since one argument had no value.
   pub asks_end : arity op ≤ index → (i : DemandIn) → MayAct i.demand old i.world slot (decision.AskAll op args) → Stepped i.demand old now i.world i.world (Ok None)
-  asks_end all i act = goes_on_step i.demand old now i.world a.waits (elim a.some [ inl less ↦ less | inr same ↦ absurd (one_was_idle same.1) ])
+  asks_end all i act = goes_on_step i.demand old now i.world a.waits (elim a.some [ inl less ↦ less | inr same ↦ absurd (one_had_none same.1) ])
     where
-      a : AskedIn i.demand old now i.world b.first index
+      a : AskedIn i.demand old now i.world slot args index
       a = b.in_demand i act
 
-      one_was_idle : ((k : ℕ) → k < index → rows.state_at k b.first ≡ Idle → ⊥) → ⊥
-      one_was_idle f =
+      one_had_none : ((k n : ℕ) → k < index → slice_get args k ≡ Some n → IsSome (value_of old slot k n)) → ⊥
+      one_had_none f =
           let j = (act.justified b.first b.first_there).1 in
           let low : j.0 < arity op = j.1 in
-          f j.0 (omega (arith, low, all)) (plain_idle_state (rows.state_at j.0 b.first) (sym (plain_at b.first.parts j.0) ∙ j.2))
+          let none : value_of old slot j.0 j.2.0 ≡ None = sym (argument_value i.demand old i.world slot act.step b.first b.first_there j.0 j.2.0) ∙ j.2.2 in
+          absent (value_of old slot j.0 j.2.0) none (f j.0 j.2.0 (omega (arith, low, all)) j.2.1)
 
--- What is told of a part's value: there is none,
-pub told_none : (inner now : Evaluating) (part : Part) (r : Option (Bor Value)) → inner ≡ now → option_copied r ≡ got_of inner.rows part → is_some r ≡ false → got_of now.rows part ≡ None
-told_none inner now part None view e h = sym (ap (λ (z : Evaluating). got_of z.rows part) view) ∙ sym e
-told_none inner now part (Some v) view e h = absurd (cc)
+-- What is told of an argument's value: there is none,
+pub told_none : (now : Evaluating) (slot index n : ℕ) (r : Option (Bor Value)) → option_map plain (option_copied r) ≡ value_of now slot index n → is_some r ≡ false → value_of now slot index n ≡ None
+told_none now slot index n None e h = sym e
+told_none now slot index n (Some v) e h = absurd (cc)
 
 -- or there is one.
-pub told_some : (inner now : Evaluating) (part : Part) (r : Option (Bor Value)) → inner ≡ now → option_copied r ≡ got_of inner.rows part → is_some r ≡ true → IsSome (got_of now.rows part)
-told_some inner now part None view e h = absurd (cc)
-told_some inner now part (Some v) view e h = subst (λ o. IsSome o) (e ∙ ap (λ (z : Evaluating). got_of z.rows part) view) refl
+pub told_some : (now : Evaluating) (slot index n : ℕ) (r : Option (Bor Value)) → option_map plain (option_copied r) ≡ value_of now slot index n → is_some r ≡ true → IsSome (value_of now slot index n)
+told_some now slot index n None e h = absurd (cc)
+told_some now slot index n (Some v) e h = subst (λ o. IsSome o) e refl

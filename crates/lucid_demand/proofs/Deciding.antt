@@ -8,7 +8,8 @@ use Rattle.lucid_value.specs.View.{plain}
 use Rattle.lucid_tags.specs.Contexts.{Context}
 use Rattle.lucid_tags.specs.Known.{IsKnown}
 use Rattle.lucid_tree.specs.Tree.{Head, choose, both, either}
-use Rattle.lucid_tree.specs.Rests.{at_start}
+use Rattle.lucid_tree.specs.Rests.{LeadsTo, at_start}
+use Rattle.lucid_tree.proofs.Ways.{leads-maps}
 use Rattle.lucid_tree.specs.Rows.{Plan, gives, look, gives_part, single, only_truth}
 use Rattle.lucid_tasks.specs.declared.Cursor.{Cursor}
 use Rattle.lucid_tasks.specs.declared.Task.{Task}
@@ -22,25 +23,31 @@ use Rattle.lucid_equations.specs.declared.rows.Node.TheVariants as node
 use Rattle.lucid_equations.specs.declared.table.Table.{Table}
 use Rattle.lucid_facts.specs.Tasks.{PlainTask, PlainRow, value_of_part, plain_task, plain_row}
 use Rattle.lucid_facts.specs.Parts.{node_of, look_of_row, look_task, part_by_look}
-use Rattle.lucid_facts.specs.Decisions.{ComesTo}
+use Rattle.lucid_facts.specs.Decisions.{RowHas, LookHas, ComesTo}
+use Rattle.lucid_facts.proofs.Coming.{rest_of}
 use Rattle.lucid_facts.proofs.FormWays.{Way, on_by, choose_on, both_on, either_on}
 use Rattle.lucid_demand.specs.declared.decide.Answer.{Answer}
 use Rattle.lucid_demand.specs.declared.decide.Answer.TheVariants.{Absent, Holds, At, Ended, Other}
 use Rattle.lucid_demand.specs.declared.decide.Decision.{Decision}
 use Rattle.lucid_demand.specs.declared.decide.Decision.TheVariants.{Ask, Truth, End, Fault}
 use Rattle.lucid_demand.specs.Justified.{Justified}
-use Rattle.lucid_demand.specs.Answers.{answer_of, part_or_ask, truth_or_ask, IsReadyRow, MayDecide, DecidesFor}
+use Rattle.lucid_demand.specs.Answers.{answer_of, part_or_ask, truth_or_ask, IsReadyRow, MayDecide, DecidesIn, DecidesFor}
 use Rattle.lucid_demand.proofs.Answers.{value_is_got, none_is_idle, absent_is_none, truth_is_read, end_is_read, IsPlaceOrOther, no_truth_is_read}
 
 -- It is enough to justify a decision with the row's own task.
+pub decides_in : (T : Table) (forest : List (Option TaskRow)) (slot : ℕ) (task : Task) (n : Node) (decision : Task → Decision)
+    → ((known : List Context) (its : TaskRow) → IsReadyRow T known forest slot its.task its → row_at T its.task.node ≡ Some n → node_at T its.task.node ≡ node_by T n
+    → NodeIsInRange (sizes T) its.task.node n → Justified T known (plain_row known its) (decision its.task)) → DecidesIn T forest slot task n (decision task)
+decides_in T forest slot task n decision h known its is there meaning range =
+    let back : task ≡ its.task = sym is.is_task in
+    subst (λ x. Justified T known (plain_row known its) (decision x)) is.is_task
+    (h known its (subst (λ x. IsReadyRow T known forest slot x its) back is) (subst (λ x. row_at T x.node ≡ Some n) back there) (subst (λ x. node_at T x.node ≡ node_by T n) back meaning)
+    (subst (λ x. NodeIsInRange (sizes T) x.node n) back range))
+
 pub decides_for : (forest : List (Option TaskRow)) (slot : ℕ) (task : Task) (n : Node) (decision : Task → Decision)
     → ((T : Table) (known : List Context) (its : TaskRow) → IsReadyRow T known forest slot its.task its → row_at T its.task.node ≡ Some n → node_at T its.task.node ≡ node_by T n
     → NodeIsInRange (sizes T) its.task.node n → Justified T known (plain_row known its) (decision its.task)) → DecidesFor forest slot task n (decision task)
-decides_for forest slot task n decision h T known its is there meaning range =
-    let back : task ≡ its.task = sym is.is_task in
-    subst (λ x. Justified T known (plain_row known its) (decision x)) is.is_task
-    (h T known its (subst (λ x. IsReadyRow T known forest slot x its) back is) (subst (λ x. row_at T x.node ≡ Some n) back there) (subst (λ x. node_at T x.node ≡ node_by T n) back meaning)
-    (subst (λ x. NodeIsInRange (sizes T) x.node n) back range))
+decides_for forest slot task n decision h T = decides_in T forest slot task n decision (h T)
 
 -- And what is known of the task is known of the row's own.
 pub decides_where : (forest : List (Option TaskRow)) (slot : ℕ) (task : Task) (n : Node) (P : Task → Type 0) (decision : Task → Decision) → P task
@@ -81,8 +88,11 @@ module _ (T : Table) (known : List Context) (forest : List (Option TaskRow)) (sl
   read i a h = ap answer_of (value_is_got known forest slot its i is.there) ∙ sym h
 
   module _ (f : Head) (es : PlainNodes) (e : node_of T (plain_task known its.task) ≡ row f es) where
+    by_parts : (q : Plan) → Way f r q → LeadsTo (LookHas T f r) (rest_of f r) q
+    by_parts q way = leads-maps (RowHas f r) (LookHas T f r) (λ l v has. inl has) (rest_of f r) q way
+
     pub comes : (q : Plan) → Way f r q → ComesTo T r q
-    comes q way = record { form = f; nodes = es; is = e; along = way }
+    comes q way = record { form = f; nodes = es; is = e; along = by_parts q way }
 
     -- a look that stands next may be asked for
     pub asks : (i t s least : ℕ) (k : PlainValue → Plan) → i < 3 → Way f r (look i t s least k) → look_of_row f r i ≡ Some (record { part = i; time = t; space = s; least = least })
@@ -91,7 +101,7 @@ module _ (T : Table) (known : List Context) (forest : List (Option TaskRow)) (sl
       record {
         stands_next = record { part = i; time = t; space = s; least = least } ∷ [];
         go_on = single k;
-        at = record { form = f; nodes = es; is = e; along = way };
+        at = record { form = f; nodes = es; is = e; along = by_parts (look i t s least k) way };
         look = record { part = i; time = t; space = s; least = least };
         is = l;
         next = inl refl;

@@ -1,5 +1,5 @@
 -- What a decision that is justified in a demand lets its function require of the row and of the table.
-use Rattle.std.proofs.Common.{◌≡◌, ℕ, ◌<◌, List, Some, true, length, sym, ap, ◌∙◌, subst, arith}
+use Rattle.std.proofs.Common.{◌≡◌, ℕ, ◌<◌, List, Some, true, length, sym, ap, ◌∙◌, subst}
 use Rattle.std.specs.Prelude.{IsSome}
 use Rattle.lucid_lemmas.proofs.Options.{value_there}
 use Rattle.lucid_ops.specs.declared.op.Op.{Op}
@@ -26,7 +26,7 @@ use Rattle.lucid_demand.specs.declared.decide.Decision.TheVariants as decision
 use Rattle.lucid_demand.proofs.SettledRows.{part_value, some_before, ready_is_there}
 use Rattle.lucid_demand.proofs.AskedParts.{row_facts, passing}
 use Rattle.lucid_demand.proofs.IdleRows.{idle_of_plain}
-use Rattle.lucid_demand.proofs.OperatorParts.{argument_is_lower}
+use Rattle.lucid_demand.proofs.Stepping.{argument_in_table}
 
 -- a row's facts by the elements read
 facts_now : (d : Demand) (e : Evaluating) (w : World) (slot : ℕ) (r : TaskRow) → Waits d e.engine w e.rows → row_at e.rows slot ≡ Some r
@@ -65,10 +65,7 @@ pub can_ask_all : (d : Demand) (e : Evaluating) (w : World) (slot : ℕ) (op : O
 can_ask_all d e w slot op args act = record {
   ready = act.step.ready;
   known = λ r at. (act.step.waits.known slot r at).task;
-  there = λ i n low arg.
-      let below : n < row.0.task.node = argument_is_lower (table_of d) row.0.task.node op args act.step.demand.in_range ((act.justified row.0 row.1).0) i n low arg in
-      let there : row.0.task.node < length (table_of d).nodes = (facts_now d e w slot row.0 act.step.waits row.1).there in
-      there_here d e w n act.step.waits (omega (arith, below, there));
+  there = argument_in_table d e w slot act.step row.0 row.1 op args ((act.justified row.0 row.1).0);
 }
   where
     row : (r : TaskRow) × (row_at e.rows slot ≡ Some r)

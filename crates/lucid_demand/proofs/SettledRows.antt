@@ -1,13 +1,11 @@
 -- A ready row that settles takes a step: what it remembers is put, and its value is its parent's or answers the root.
 use Rattle.std.proofs.lemmas.Bool.{cases_lt}
-use Rattle.std.proofs.Common.{◌≡◌, ◌⊎◌, inl, inr, ℕ, suc, ◌<◌, ◌≤◌, ◌-◌, ◌^◌, arith, List, [], ◌∷◌, length, Option, Some, None, refl, sym, ap, ◌∙◌, subst}
+use Rattle.std.proofs.Common.{◌≡◌, ◌⊎◌, inl, inr, ℕ, ◌<◌, ◌≤◌, ◌-◌, ◌^◌, arith, List, Option, Some, None, refl, sym, ap, ◌∙◌, subst}
 use Rattle.std.specs.Prelude.{IsTrue, IsSome, IfSome, Result, Ok, Err, option_map, option_and_then}
 use Rattle.lucid_value.specs.declared.Value.{Value}
 use Rattle.lucid_value.specs.Plain.{PlainValue}
 use Rattle.lucid_value.specs.View.{plain}
 use Rattle.lucid_ops.specs.declared.op.Op.{Op}
-use Rattle.lucid_ops.specs.Arity.{arity}
-use Rattle.lucid_ops.specs.Algebra.{algebra}
 use Rattle.lucid_tree.specs.Levels.{Elements}
 use Rattle.lucid_tags.specs.Contexts.{Context}
 use Rattle.lucid_tags.specs.Known.{IsKnown}
@@ -17,6 +15,7 @@ use Rattle.lucid_tasks.specs.Rows.{TaskRow, row_at, parent_of, key_of, got_of, i
 use Rattle.lucid_store.specs.Stored.{Stored}
 use Rattle.lucid_ports.specs.World.{World}
 use Rattle.lucid_ports.specs.Faults.{Rises}
+use Rattle.lucid_equations.specs.Rows as table
 use Rattle.lucid_facts.specs.Tasks.{DatonAt, plain_task, plain_key, plain_row, plain_rows, value_of_part}
 use Rattle.lucid_facts.specs.Engine.{EngineView, known_elements, holding, MayHave}
 use Rattle.lucid_facts.specs.Demands.{Demand, table_of, Answers}
@@ -34,10 +33,11 @@ use Rattle.lucid_facts.proofs.Giving.{plan_answers}
 use Rattle.lucid_facts.proofs.Storing.{AfterPut, after_put}
 use Rattle.lucid_facts.proofs.Acting.{cost_of}
 use Rattle.lucid_demand.specs.Evaluating.{Evaluating, MayStep, Stepped, OnGoingOn, cost}
-use Rattle.lucid_demand.specs.Acting.{DemandIn, MayAct, MayGive, HaveGot, IsTaken, Settling, MaySettle, at_rows, IsKept}
-use Rattle.lucid_demand.specs.Justified.{HasFrom}
+use Rattle.lucid_demand.specs.Acting.{DemandIn, MayAct, MayGive, Applies, value_of, IsTaken, Settling, MaySettle, at_rows, IsKept}
+use Rattle.lucid_demand.specs.Justified.{argument_by, argument_at}
 use Rattle.lucid_demand.specs.declared.decide.Decision.TheVariants as decision
 use Rattle.lucid_demand.proofs.GoneRows.{row_goes}
+use Rattle.lucid_demand.proofs.TakenParts.{values_alike}
 use Rattle.lucid_demand.specs.declared.fault.DemandFault.{DemandFault}
 use Rattle.lucid_demand.specs.declared.fault.DemandFault.TheVariants.{NoMemory}
 
@@ -205,20 +205,22 @@ part_is_there d e w slot index act =
     let j = act.justified r.0 r.1 in
     (j.0, some_before (got_of e.rows (record { slot = slot; index = index })) j.1.0 (part_value e.engine.known e.rows slot index r.0 r.1 ∙ j.1.1))
 
--- the values of the parts that an operator is applied to
-have_got : (known : List Context) (rs : List (Option TaskRow)) (slot : ℕ) (r : TaskRow) → row_at rs slot ≡ Some r → (index : ℕ) (vs : List PlainValue) → HasFrom (plain_row known r) index vs
-    → HaveGot rs slot index vs
-have_got known rs slot r at i [] h = tt
-have_got known rs slot r at i (v ∷ vs) h = (part_value known rs slot i r at ∙ h.0, have_got known rs slot r at (suc i) vs h.1)
+-- the value of an argument, of the row and of its plain row
+pub argument_value : (d : Demand) (e : Evaluating) (w : World) (slot : ℕ) → MayStep d e w slot → (r : TaskRow) → row_at e.rows slot ≡ Some r → (i n : ℕ)
+    → argument_at (table_of d) (plain_row e.engine.known r) i n ≡ value_of e slot i n
+argument_value d e w slot step r at i n =
+    ap (λ T. argument_at T (plain_row e.engine.known r) i n) (sym step.waits.going.owns.since.goes_on.table)
+    ∙ ap (argument_by e.engine.table (table.row_at e.engine.table n)) (sym (part_value e.engine.known e.rows slot i r at))
 
 -- What an applied operator gives is given.
-pub applied_gives : (d : Demand) (e : Evaluating) (w : World) (slot : ℕ) (op : Op) (v : Value) → MayAct d e w slot (decision.Apply op)
-    → ((vs : List PlainValue) → length vs ≡ arity op → HaveGot e.rows slot 0 vs → plain v ≡ algebra op vs) → MayGive d e w slot (plain v)
-applied_gives d e w slot op v act is = record {
+pub applied_gives : (d : Demand) (e : Evaluating) (w : World) (slot : ℕ) (op : Op) (args : List ℕ) (v : Value) → MayAct d e w slot (decision.Apply op args) → Applies e slot op args v
+    → MayGive d e w slot (plain v)
+applied_gives d e w slot op args v act is = record {
   step = act.step;
   gives = λ r at.
-      let j = act.justified r at in
-      subst (λ u. GivesByPlan (table_of d) (plain_row e.engine.known r) u) (sym (is j.0 j.1 (have_got e.engine.known e.rows slot r at 0 j.0 j.2))) j.3;
+      let j = (act.justified r at).1 in
+      let has = values_alike (argument_at (table_of d) (plain_row e.engine.known r)) (value_of e slot) (argument_value d e w slot act.step r at) args 0 j.0 j.2 in
+      subst (λ u. GivesByPlan (table_of d) (plain_row e.engine.known r) u) (sym (is j.0 j.1 has)) j.3;
 }
 
 -- A row may settle with what its form gives after its search was noted.
@@ -269,13 +271,13 @@ settled_part i e mid new slot index v result same changes is steps act =
     (steps (at_rows i e.rows) (gives_may_settle i e mid slot v (part_gives i.demand e i.world slot index v act is) same
     (one_more_taken e.rows e.rows mid.rows slot index (nothing_taken e.rows slot act.step.ready) changes)))
 
-pub settled_applied : (i : DemandIn) (e mid new : Evaluating) (slot : ℕ) (op : Op) (v : Value) (result : Result (Option Value) DemandFault) → mid.engine ≡ e.engine → IsTaken e.rows mid.rows slot
-    → ((vs : List PlainValue) → length vs ≡ arity op → HaveGot e.rows slot 0 vs → plain v ≡ algebra op vs)
+pub settled_applied : (i : DemandIn) (e mid new : Evaluating) (slot : ℕ) (op : Op) (args : List ℕ) (v : Value) (result : Result (Option Value) DemandFault) → mid.engine ≡ e.engine
+    → IsTaken e.rows mid.rows slot → Applies e slot op args v
     → ((s : Settling) → MaySettle s mid slot v → Stepped s.demand (record { engine = mid.engine; rows = s.before }) new s.world s.world result)
-    → MayAct i.demand e i.world slot (decision.Apply op) → Stepped i.demand e new i.world i.world result
-settled_applied i e mid new slot op v result same taken is steps act =
+    → MayAct i.demand e i.world slot (decision.Apply op args) → Stepped i.demand e new i.world i.world result
+settled_applied i e mid new slot op args v result same taken is steps act =
     subst (λ (z : EngineView). Stepped i.demand (record { engine = z; rows = e.rows }) new i.world i.world result) same
-    (steps (at_rows i e.rows) (gives_may_settle i e mid slot v (applied_gives i.demand e i.world slot op v act is) same taken))
+    (steps (at_rows i e.rows) (gives_may_settle i e mid slot v (applied_gives i.demand e i.world slot op args v act is) same taken))
 
 pub on_going : (r : Result (Option Value) DemandFault) (P Q : Type 0) → (P → Q) → OnGoingOn r P → OnGoingOn r Q
 on_going (Ok None) P Q f p = f p

@@ -1,16 +1,18 @@
 -- A ready row decides, and what its decision asks for is there.
-use Rattle.std.proofs.Common.{◌≡◌, inl, inr, ℕ, zero, suc, ◌+◌, ◌<◌, List, [], ◌∷◌, length, Some, refl, sym, ap, ◌∙◌, subst, arith}
-use Rattle.std.specs.Prelude.{Bool, IsSome, Err}
+use Rattle.std.proofs.Common.{◌≡◌, inl, inr, ℕ, ◌+◌, ◌<◌, List, length, Some, refl, sym, ap, ◌∙◌, subst, arith}
+use Rattle.std.specs.Prelude.{Bool, IsSome, Err, slice_get}
 use Rattle.std.proofs.lemmas.List.{length-map}
 use Rattle.std.proofs.lemmas.Option.{slice_get_within}
-use Rattle.lucid_value.specs.Plain.{PlainValue, truth, eod, fault}
+use Rattle.lucid_value.specs.Plain.{truth, eod, fault}
 use Rattle.lucid_ops.specs.declared.op.Op.{Op}
 use Rattle.lucid_ops.specs.Arity.{arity}
 use Rattle.lucid_tree.specs.Levels.{Elements, element_of, goes_to}
-use Rattle.lucid_tasks.specs.Rows.{TaskRow, row_at, got_of, is_ready}
+use Rattle.lucid_tasks.specs.Rows.{TaskRow, row_at, is_ready}
 use Rattle.lucid_ports.specs.World.{World}
 use Rattle.lucid_equations.specs.Datons.{NodeAim, NodePosition, Daton}
 use Rattle.lucid_equations.specs.Rows.{equations_of, constant_at}
+use Rattle.lucid_equations.specs.Rows as table
+use Rattle.lucid_equations.specs.declared.rows.Node.TheVariants as node
 use Rattle.lucid_equations.specs.declared.table.Table.{Table}
 use Rattle.lucid_facts.specs.Tasks.{plain_row}
 use Rattle.lucid_facts.specs.Stands.{IsDefined}
@@ -24,12 +26,14 @@ use Rattle.lucid_facts.proofs.Asking.{nothing_is_right}
 use Rattle.lucid_facts.proofs.Answering.{too_deep-is_right}
 use Rattle.lucid_demand.specs.Answers.{MayDecide}
 use Rattle.lucid_demand.specs.Evaluating.{Evaluating, MayStep, Stepped}
-use Rattle.lucid_demand.specs.Acting.{MayAct, MayGive, IsReadyTask}
-use Rattle.lucid_demand.specs.Justified.{Justified, HasFrom}
+use Rattle.lucid_demand.specs.Acting.{MayAct, MayGive, IsReadyTask, AreThere}
+use Rattle.lucid_demand.specs.Justified.{Justified, argument_at}
 use Rattle.lucid_demand.specs.declared.decide.Decision.{Decision}
 use Rattle.lucid_demand.specs.declared.decide.Decision.TheVariants as decision
 use Rattle.lucid_demand.specs.declared.fault.DemandFault.TheVariants.{TooDeep}
-use Rattle.lucid_demand.proofs.SettledRows.{ready_is_there, part_value, some_before}
+use Rattle.lucid_demand.proofs.OperatorParts.{argument_is_lower}
+use Rattle.lucid_demand.proofs.TakenParts.{value_there}
+use Rattle.lucid_demand.proofs.SettledRows.{ready_is_there, argument_value}
 
 module _ (d : Demand) (e : Evaluating) (w : World) (slot : ℕ) (step : MayStep d e w slot) where
   -- the table is the engine's
@@ -58,6 +62,14 @@ module _ (d : Demand) (e : Evaluating) (w : World) (slot : ℕ) (step : MayStep 
   pub may_act : (decided : Decision) → ((r : TaskRow) → row_at e.rows slot ≡ Some r → Justified e.engine.table e.engine.known (plain_row e.engine.known r) decided) → MayAct d e w slot decided
   may_act decided justified = record { step = step; justified = λ r at. subst (λ T. Justified T e.engine.known (plain_row e.engine.known r) decided) same_table (justified r at) }
 
+  -- An operator's argument is one of the table's nodes.
+  pub argument_in_table : (r : TaskRow) → row_at e.rows slot ≡ Some r → (op : Op) (args : List ℕ) → table.row_at (table_of d) r.task.node ≡ Some (node.Apply op args) → (i n : ℕ) → i < arity op
+      → slice_get args i ≡ Some n → n < length e.engine.table.nodes
+  argument_in_table r at op args is i n low arg =
+      let below : n < r.task.node = argument_is_lower (table_of d) r.task.node op args step.demand.in_range is i n low arg in
+      let there : r.task.node < length (table_of d).nodes = (facts_now r at).there in
+      subst (λ (T : Table). n < length T.nodes) (sym same_table) (omega (arith, below, there))
+
   right_now : (b : Elements) → MayHave e.engine b → HoldsRight (equations_of (table_of d)) b (stays d)
   right_now b may k s v has = let f = step.waits.going.owns.stock.stock b may in f.right k s v (f.stays k s v has)
 
@@ -77,21 +89,18 @@ module _ (d : Demand) (e : Evaluating) (w : World) (slot : ℕ) where
   pub decided_so : {a b : Decision} → a ≡ b → MayAct d e w slot a → MayAct d e w slot b
   decided_so same act = subst (λ x. MayAct d e w slot x) same act
 
-  got_from : (r : TaskRow) → row_at e.rows slot ≡ Some r → (first : ℕ) (vs : List PlainValue) → HasFrom (plain_row e.engine.known r) first vs → (i : ℕ) → i < length vs
-      → IsSome (got_of e.rows (record { slot = slot; index = first + i }))
-  got_from r at first [] has i lt = absurd (omega (arith, lt))
-  got_from r at first (v ∷ vs) has zero lt =
-      subst (λ n. IsSome (got_of e.rows (record { slot = slot; index = n }))) (omega arith)
-      (some_before (got_of e.rows (record { slot = slot; index = first })) v (part_value e.engine.known e.rows slot first r at ∙ has.0))
-  got_from r at first (v ∷ vs) has (suc i) lt =
-      subst (λ n. IsSome (got_of e.rows (record { slot = slot; index = n }))) (omega arith) (got_from r at (suc first) vs has.1 i (omega (arith, lt)))
-
   -- The values of an operator's arguments are there.
-  pub arguments_are_there : (op : Op) → MayAct d e w slot (decision.Apply op) → (index : ℕ) → index < arity op → IsSome (got_of e.rows (record { slot = slot; index = index }))
-  arguments_are_there op act i lt =
-      let j = justified_there (decision.Apply op) act in
+  pub arguments_are_there : (op : Op) (args : List ℕ) → MayAct d e w slot (decision.Apply op args) → AreThere e slot (arity op) args
+  arguments_are_there op args act i n low arg =
+      let j = justified_there (decision.Apply op args) act in
+      let vs = j.2.1 in
       let own : 0 + i ≡ i = omega arith in
-      subst (λ n. IsSome (got_of e.rows (record { slot = slot; index = n }))) own (got_from j.0 j.1 0 j.2.0 j.2.2 i (let n = j.2.1 in omega (arith, n, lt)))
+      let many : i < length vs.0 = (let l = vs.1 in omega (arith, l, low)) in
+      record {
+        in_table = argument_in_table d e w slot act.step j.0 j.1 op args j.2.0 i n low arg;
+        there = subst (λ o. IsSome o) (argument_value d e w slot act.step j.0 j.1 i n)
+            (subst (λ q. IsSome (argument_at (table_of d) (plain_row e.engine.known j.0) q n)) own (value_there (argument_at (table_of d) (plain_row e.engine.known j.0)) args 0 vs.0 vs.2 i n many arg));
+      }
 
   -- A constant is there, and is given.
   pub constant_is_there : (k : ℕ) → MayAct d e w slot (decision.Constant k) → k < length e.engine.table.constants

@@ -1,7 +1,8 @@
--- The values of a row's parts, to which an operator is applied.
-use Rattle.std.proofs.Common.{◌≡◌, ℕ, zero, suc, List, [], ◌∷◌, length, Option, Some, refl, sym, ap, ◌∙◌, arith}
+-- The values of an operator's arguments, to which it is applied.
+use Rattle.std.proofs.Common.{◌≡◌, ℕ, zero, suc, ◌+◌, ◌<◌, List, [], ◌∷◌, length, Option, Some, refl, sym, ap, ◌∙◌, subst, arith}
+use Rattle.std.proofs.lemmas.Option.{same_Some}
 use Rattle.std.specs.Result.{IsErrAnd}
-use Rattle.std.specs.Prelude.{Result, Ok, Err, ⊤, IfOk, map, option_map, slice_set, slice_index_or}
+use Rattle.std.specs.Prelude.{Result, Ok, Err, ⊤, IfOk, IsSome, slice_get, slice_set, slice_index_or}
 use Rattle.lucid_value.specs.declared.Value.{Value}
 use Rattle.lucid_value.specs.Plain.{PlainValue}
 use Rattle.lucid_value.specs.View.{plain}
@@ -9,9 +10,10 @@ use Rattle.lucid_ops.specs.declared.op.Op.{Op}
 use Rattle.lucid_ops.specs.Arity.{arity}
 use Rattle.lucid_ops.specs.Algebra.{algebra}
 use Rattle.lucid_tasks.specs.Rows as rows
-use Rattle.lucid_tasks.specs.Rows.{TaskRow, Idle, row_at, got_of, is_ready}
-use Rattle.lucid_demand.specs.Evaluating.{gave}
-use Rattle.lucid_demand.specs.Acting.{HaveGot}
+use Rattle.lucid_tasks.specs.Rows.{Idle}
+use Rattle.lucid_demand.specs.Evaluating.{Evaluating, gave}
+use Rattle.lucid_demand.specs.Acting.{Applies, value_of}
+use Rattle.lucid_demand.specs.Justified.{HaveValues}
 use Rattle.lucid_demand.specs.declared.fault.DemandFault.{DemandFault}
 
 -- another part than the one that is set stands as it did
@@ -22,27 +24,39 @@ other_part (p ∷ ps) zero (suc k) y n = refl
 other_part (p ∷ ps) (suc i) zero y n = refl
 other_part (p ∷ ps) (suc i) (suc k) y n = other_part ps i k y (λ e. n (ap suc e))
 
--- the parts from one on have these values
-abbrev pub AreGot : List (Option TaskRow) → (slot index : ℕ) → List Value → Type 0
-AreGot rs slot i [] = Unit {0}
-AreGot rs slot i (a ∷ args) = (got_of rs (record { slot = slot; index = i }) ≡ Some a) × AreGot rs slot (suc i) args
+-- What the arguments have, they have by each function that gives the same values.
+pub values_alike : (f g : ℕ → ℕ → Option PlainValue) → ((i n : ℕ) → f i n ≡ g i n) → (args : List ℕ) (i : ℕ) (vs : List PlainValue) → HaveValues f args i vs → HaveValues g args i vs
+values_alike f g same args i [] h = tt
+values_alike f g same [] i (v ∷ vs) h = absurd h
+values_alike f g same (n ∷ args) i (v ∷ vs) h = (sym (same i n) ∙ h.0, values_alike f g same args (suc i) vs h.1)
 
--- they are the values that the parts have
-pub same_args : (rs : List (Option TaskRow)) (slot i : ℕ) (vs : List PlainValue) (args : List Value) → length vs ≡ length args → HaveGot rs slot i vs → AreGot rs slot i args → vs ≡ map plain args
-same_args rs slot i [] [] l h g = refl
-same_args rs slot i [] (a ∷ args) l h g = absurd (omega (arith, l))
-same_args rs slot i (v ∷ vs) [] l h g = absurd (omega (arith, l))
-same_args rs slot i (v ∷ vs) (a ∷ args) l h g =
-    let both : Some (plain a) ≡ Some v = sym (ap (option_map plain) g.0) ∙ h.0 in
-    let one : v ≡ plain a = cc in
-    let rest = same_args rs slot (suc i) vs args (omega (arith, l)) h.1 g.1 in
-    ap (λ x. x ∷ vs) one ∙ ap (λ xs. plain a ∷ xs) rest
+-- Each of them is there,
+pub value_there : (f : ℕ → ℕ → Option PlainValue) (args : List ℕ) (i : ℕ) (vs : List PlainValue) → HaveValues f args i vs → (j n : ℕ) → j < length vs → slice_get args j ≡ Some n
+    → IsSome (f (i + j) n)
+value_there f args i [] h j n low arg = absurd (omega (arith, low))
+value_there f [] i (v ∷ vs) h j n low arg = absurd h
+value_there f (k ∷ args) i (v ∷ vs) h zero n low arg =
+    let here : i ≡ i + 0 = omega arith in
+    subst (λ q. IsSome (f q n)) here (subst (λ m. IsSome (f i m)) (same_Some k n arg) (subst (λ o. IsSome o) (sym h.0) refl))
+value_there f (k ∷ args) i (v ∷ vs) h (suc j) n low arg =
+    let on : suc i + j ≡ i + suc j = omega arith in
+    subst (λ q. IsSome (f q n)) on (value_there f args (suc i) vs h.1 j n (omega (arith, low)) arg)
 
--- What an operator gives for these values, it gives for those that the parts have.
-pub applied_value : {E : Type 0} (op : Op) (rs : List (Option TaskRow)) (slot : ℕ) (args : List Value) (result : Result Value E) → IfOk result (λ v. plain v ≡ algebra op (map plain args))
-    → length args ≡ arity op → AreGot rs slot 0 args → IfOk result (λ v. (vs : List PlainValue) → length vs ≡ arity op → HaveGot rs slot 0 vs → plain v ≡ algebra op vs)
-applied_value op rs slot args (Ok v) is count got = λ vs l h. is ∙ ap (algebra op) (sym (same_args rs slot 0 vs args (l ∙ sym count) h got))
-applied_value op rs slot args (Err e) is count got = tt
+-- and they are the same.
+same_values : (f : ℕ → ℕ → Option PlainValue) (args : List ℕ) (i : ℕ) (vs ws : List PlainValue) → length vs ≡ length ws → HaveValues f args i vs → HaveValues f args i ws → vs ≡ ws
+same_values f args i [] [] l h g = refl
+same_values f args i [] (w ∷ ws) l h g = absurd (omega (arith, l))
+same_values f args i (v ∷ vs) [] l h g = absurd (omega (arith, l))
+same_values f [] i (v ∷ vs) (w ∷ ws) l h g = absurd h
+same_values f (n ∷ args) i (v ∷ vs) (w ∷ ws) l h g =
+    let one : v ≡ w = same_Some v w (sym h.0 ∙ g.0) in
+    ap (λ x. x ∷ vs) one ∙ ap (λ xs. w ∷ xs) (same_values f args (suc i) vs ws (omega (arith, l)) h.1 g.1)
+
+-- What an operator gives for these values, it gives for those that its arguments have.
+pub applied_value : {E : Type 0} (op : Op) (e : Evaluating) (slot : ℕ) (args : List ℕ → List ℕ) (ws : List PlainValue) (result : Result Value E) → IfOk result (λ v. plain v ≡ algebra op ws)
+    → length ws ≡ arity op → ((rest : List ℕ) → HaveValues (value_of e slot) (args rest) 0 ws) → IfOk result (λ v. (rest : List ℕ) → Applies e slot op (args rest) v)
+applied_value op e slot args ws (Ok v) is count got = λ rest vs l h. is ∙ ap (algebra op) (sym (same_values (value_of e slot) (args rest) 0 vs ws (l ∙ sym count) h (got rest)))
+applied_value op e slot args ws (Err f) is count got = tt
 
 -- a refusal that is this one
 pub err_is : {A E : Type 0} (r : Result A E) (x : E) → IsErrAnd r (λ e. e ≡ x) → r ≡ Err x

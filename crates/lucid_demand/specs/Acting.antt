@@ -1,11 +1,14 @@
 -- When the functions that act on a decision may act, and what they do besides a step.
-use Rattle.std.specs.Prelude.{◌≡◌, ◌≢◌, ℕ, suc, ◌<◌, List, [], ◌∷◌, Option, Some, None, IsTrue, length, option_map}
+use Rattle.std.specs.Prelude.{◌≡◌, ◌≢◌, ℕ, ◌<◌, List, Option, Some, None, IsSome, IsTrue, length, slice_get}
 use Rattle.lucid_value.specs.declared.Value.{Value}
 use Rattle.lucid_value.specs.Plain.{PlainValue}
 use Rattle.lucid_value.specs.View.{plain}
+use Rattle.lucid_ops.specs.declared.op.Op.{Op}
+use Rattle.lucid_ops.specs.Arity.{arity}
+use Rattle.lucid_ops.specs.Algebra.{algebra}
 use Rattle.lucid_tree.specs.Levels.{Elements}
 use Rattle.lucid_tags.specs.declared.Key.{Key}
-use Rattle.lucid_tasks.specs.Rows.{TaskRow, row_at, parent_of, key_of, got_of, is_ready}
+use Rattle.lucid_tasks.specs.Rows.{TaskRow, row_at, parent_of, key_of, is_ready}
 use Rattle.lucid_ports.specs.World.{World}
 use Rattle.lucid_facts.specs.Tasks.{plain_task, plain_row}
 use Rattle.lucid_facts.specs.Engine.{EngineView, MayHave, holding}
@@ -14,7 +17,8 @@ use Rattle.lucid_facts.specs.Decisions.{GivesByPlan}
 use Rattle.lucid_facts.specs.Going.{Waits, WithinRoom}
 use Rattle.lucid_facts.specs.Changes.{PutsOrLoses}
 use Rattle.lucid_demand.specs.Evaluating.{Evaluating, MayStep}
-use Rattle.lucid_demand.specs.Justified.{Justified}
+use Rattle.lucid_demand.specs.Justified.{Justified, HaveValues}
+use Rattle.lucid_demand.specs.Answers.{argument_of}
 use Rattle.lucid_demand.specs.declared.decide.Decision.{Decision}
 
 -- a demand, and the world in which its next step is taken
@@ -37,10 +41,22 @@ pub record IsReadyTask (e : Evaluating) (slot : ℕ) : Type 0 where
   pub ready : IsTrue (is_ready (row_at e.rows slot))
   pub there : (r : TaskRow) → row_at e.rows slot ≡ Some r → r.task.node < length e.engine.table.nodes
 
--- the parts of the row in the slot from one on have these values
-abbrev pub HaveGot : List (Option TaskRow) → (slot index : ℕ) → List PlainValue → Type 0
-HaveGot rows slot i [] = Unit {0}
-HaveGot rows slot i (v ∷ vs) = (option_map plain (got_of rows (record { slot = slot; index = i })) ≡ Some v) × HaveGot rows slot (suc i) vs
+-- the value of an argument of the row in the slot
+abbrev pub value_of : Evaluating → (slot index node : ℕ) → Option PlainValue
+value_of e slot i n = argument_of e.engine.table e.rows slot i n
+
+-- An argument of the row in the slot is one of the table's nodes, and has a value.
+pub record IsThere (e : Evaluating) (slot index node : ℕ) : Type 0 where
+  pub in_table : node < length e.engine.table.nodes
+  pub there : IsSome (value_of e slot index node)
+
+-- the operator's arguments are there
+abbrev pub AreThere : Evaluating → (slot count : ℕ) → (args : List ℕ) → Type 0
+AreThere e slot count args = (i n : ℕ) → i < count → slice_get args i ≡ Some n → IsThere e slot i n
+
+-- The operator gives the value for those that its arguments have.
+abbrev pub Applies : Evaluating → (slot : ℕ) → Op → (args : List ℕ) → Value → Type 0
+Applies e slot op args v = (vs : List PlainValue) → length vs ≡ arity op → HaveValues (value_of e slot) args 0 vs → plain v ≡ algebra op vs
 
 -- The rows are those before, but for values of parts of the one in the slot, which may have been taken.
 pub record IsTaken (before now : List (Option TaskRow)) (slot : ℕ) : Type 0 where

@@ -1,7 +1,8 @@
 -- What a decision reads of a row's parts.
-use Rattle.std.specs.Prelude.{◌≡◌, ℕ, ◌<◌, length, true, pos, List, Option, Some, None, nat_le, if◌then◌else◌}
+use Rattle.std.specs.Prelude.{◌≡◌, ℕ, ◌<◌, length, true, pos, List, Option, Some, None, nat_le, if◌then◌else◌, option_map}
 use Rattle.lucid_value.specs.declared.Value.{Value}
 use Rattle.lucid_value.specs.Plain.{PlainValue, int, truth, eod}
+use Rattle.lucid_value.specs.View.{plain}
 use Rattle.lucid_tags.specs.Contexts.{Context}
 use Rattle.lucid_tags.specs.Known.{IsKnown}
 use Rattle.lucid_tree.specs.Rows.{last}
@@ -18,7 +19,7 @@ use Rattle.lucid_demand.specs.declared.decide.Answer.{Answer}
 use Rattle.lucid_demand.specs.declared.decide.Answer.TheVariants.{Absent, Holds, At, Ended, Other}
 use Rattle.lucid_demand.specs.declared.decide.Decision.{Decision}
 use Rattle.lucid_demand.specs.declared.decide.Decision.TheVariants.{Part, Ask, Truth, End, Fault}
-use Rattle.lucid_demand.specs.Justified.{Justified}
+use Rattle.lucid_demand.specs.Justified.{Justified, argument_by}
 
 -- what a form tells of a part's value: a truth, a time or a space, the end of data, or any other value
 abbrev pub answer_of : Option PlainValue → Answer
@@ -48,11 +49,19 @@ pub record IsReadyRow (T : Table) (known : List Context) (forest : List (Option 
   pub known_tag : IsKnown known task.tag
   pub still : moved T (plain_task known task) ≡ None
 
--- The decision is justified, whatever the table is whose row of the task is this node.
-abbrev pub DecidesFor : List (Option TaskRow) → (slot : ℕ) → Task → Node → Decision → Type 0
-DecidesFor forest slot task n decision =
-    (T : Table) (known : List Context) (row : TaskRow) → IsReadyRow T known forest slot task row → row_at T task.node ≡ Some n → node_at T task.node ≡ node_by T n
+-- The decision is justified in a table whose row of the task is this node,
+abbrev pub DecidesIn : Table → List (Option TaskRow) → (slot : ℕ) → Task → Node → Decision → Type 0
+DecidesIn T forest slot task n decision =
+    (known : List Context) (row : TaskRow) → IsReadyRow T known forest slot task row → row_at T task.node ≡ Some n → node_at T task.node ≡ node_by T n
     → NodeIsInRange (sizes T) task.node n → Justified T known (plain_row known row) decision
+
+-- or in each such table.
+abbrev pub DecidesFor : List (Option TaskRow) → (slot : ℕ) → Task → Node → Decision → Type 0
+DecidesFor forest slot task n decision = (T : Table) → DecidesIn T forest slot task n decision
+
+-- the value of an operator's argument in a slot's row: the part's, or a constant's
+abbrev pub argument_of : Table → List (Option TaskRow) → (slot index node : ℕ) → Option PlainValue
+argument_of T forest slot i n = argument_by T (row_at T n) (option_map plain (got_of forest (record { slot = slot; index = i })))
 
 -- A decision may be taken: the slot has a ready row, whose task is in the table.
 pub record MayDecide (T : Table) (known : List Context) (forest : List (Option TaskRow)) (slot : ℕ) : Type 0 where

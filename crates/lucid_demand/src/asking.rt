@@ -125,8 +125,8 @@ impl<R: Retire, S: Pick> Evaluation<R, S> {
         let task = self.tasks.task(slot);
         let mut looks = true;
         for index in 0..op.arity() as u32 {
-            if self.tasks.got(slot, index).is_none() {
-                let node = args[index as usize];
+            let node = args[index as usize];
+            if self.argument(slot, index, node).is_none() {
                 looks = self.ask_part(Part { slot, index }, Task { node, ..task }, looks)?;
             }
         }

@@ -1,12 +1,13 @@
 //! What a ready row does next. It is decided by the row alone, and takes no memory.
-ghost use Rattle.std.specs.Prelude.{◌≡◌, ℕ, ◌<◌, List, Option, Some, option_map, is_none};
+ghost use Rattle.std.specs.Prelude.{◌≡◌, ℕ, ◌<◌, length, List, Option, Some, option_map, option_copied, is_none, slice_get};
+ghost use Rattle.lucid_ops.specs.Arity.{arity};
 ghost use Rattle.lucid_value.specs.View.{plain};
 ghost use Rattle.lucid_tags.specs.Contexts.{Context};
 ghost use Rattle.lucid_tasks.specs.Rows.{TaskRow, IsRow, row_at, got_of};
 ghost use Rattle.lucid_equations.specs.Programs.{table_of};
 ghost use Rattle.lucid_facts.specs.Tasks.{plain_row};
 ghost use Rattle.lucid_demand.specs.Justified.{Justified};
-ghost use Rattle.lucid_demand.specs.Answers.{MayDecide};
+ghost use Rattle.lucid_demand.specs.Answers.{MayDecide, argument_of};
 ghost use Rattle.lucid_equations.specs.declared.rows.Node.TheVariants as node;
 
 use crate::passing::LAST;
@@ -20,8 +21,8 @@ use lucid_value::Value;
 pub(crate) enum Decision {
     /// It settles with the value of a part.
     Part { index: u32 },
-    /// It settles with an operator applied to the values of its first parts.
-    Apply { op: Op },
+    /// It settles with an operator applied to its arguments' values.
+    Apply { op: Op, args: [u32; 3] },
     /// It settles with a constant.
     Constant { constant: u32 },
     /// It settles with a truth, end of data or an error, which its form gives by itself.
@@ -54,6 +55,29 @@ enum Answer {
     Other,
 }
 
+/// The value of an operator's argument, if it is there: the part's, or a constant's, where it stands in the table.
+#[inline(always)]
+pub(crate) fn argument<'a>(
+    program: &'a Program,
+    tasks: &'a Tasks,
+    slot: usize,
+    index: u32,
+    node: u32,
+) -> Option<&'a Value>
+    requires row { IsRow tasks.now slot }
+    requires index { index < 3 }
+    requires node { node < length (table_of program.now).nodes }
+    ensures { option_map plain (option_copied result) ≡ argument_of (table_of program.now) tasks.now slot index node }
+{
+    match tasks.got(slot, index) {
+        Some(value) => Some(value),
+        None => match program.node(node) {
+            Node::Const { constant } => Some(program.constant(constant)),
+            _ => None,
+        },
+    }
+}
+
 // A ready row: its slot and its task.
 #[derive(Clone, Copy)]
 struct Ready {
@@ -62,7 +86,7 @@ struct Ready {
 }
 
 impl Ready {
-    ghost use Rattle.lucid_demand.specs.Answers.{answer_of, part_or_ask, truth_or_ask, DecidesFor};
+    ghost use Rattle.lucid_demand.specs.Answers.{answer_of, part_or_ask, truth_or_ask, DecidesFor, DecidesIn};
 
     #[inline(always)]
     fn answer(self, tasks: &Tasks, index: u32) -> Answer
@@ -361,27 +385,39 @@ impl Ready {
     }
 
     #[inline(always)]
-    fn apply(self, tasks: &Tasks, op: Op, args: [u32; 3]) -> Decision
-        requires { IsRow tasks.now self.slot }
-        ensures { DecidesFor tasks.now self.slot self.task (node.Apply op args) result }
+    fn lacks_argument(self, program: &Program, tasks: &Tasks, index: u32, node: u32) -> bool
+        requires row { IsRow tasks.now self.slot }
+        requires index { index < 3 }
+        requires node { node < length (table_of program.now).nodes }
+        ensures { result ≡ is_none (argument_of (table_of program.now) tasks.now self.slot index node) }
+    {
+        argument(program, tasks, self.slot, index, node).is_none()
+    }
+
+    #[inline(always)]
+    fn apply(self, program: &Program, tasks: &Tasks, op: Op, args: [u32; 3]) -> Decision
+        requires row { IsRow tasks.now self.slot }
+        requires there { (i n : ℕ) → i < arity op → slice_get args i ≡ Some n → n < length (table_of program.now).nodes }
+        ensures { DecidesIn (table_of program.now) tasks.now self.slot self.task (node.Apply op args) result }
     {
         let arity = op.arity();
-        if self.lacks(tasks, 0) {
+        let [first, second, third] = args;
+        if self.lacks_argument(program, tasks, 0, first) {
             return Decision::AskAll { op, args };
         }
         if arity == 1 {
-            return Decision::Apply { op };
+            return Decision::Apply { op, args };
         }
-        if self.lacks(tasks, 1) {
+        if self.lacks_argument(program, tasks, 1, second) {
             return Decision::AskAll { op, args };
         }
         if arity == 2 {
-            return Decision::Apply { op };
+            return Decision::Apply { op, args };
         }
-        if self.lacks(tasks, 2) {
+        if self.lacks_argument(program, tasks, 2, third) {
             return Decision::AskAll { op, args };
         }
-        Decision::Apply { op }
+        Decision::Apply { op, args }
     }
 
     #[inline(always)]
@@ -421,7 +457,7 @@ pub(crate) fn decide(program: &Program, tasks: &Tasks, slot: usize) -> Decision
     match program.node(task.node) {
         Node::Const { constant } => Decision::Constant { constant },
         Node::Input { stream } => ready.read(stream),
-        Node::Apply { op, args } => ready.apply(tasks, op, args),
+        Node::Apply { op, args } => ready.apply(program, tasks, op, args),
         Node::If { test, yes, no } => ready.choose(tasks, test, yes, no),
         Node::And { left, right } => ready.both(tasks, left, right),
         Node::Or { left, right } => ready.either(tasks, left, right),

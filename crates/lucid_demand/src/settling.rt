@@ -1,20 +1,20 @@
 //! A row settles: its value stands in its parent's part, or is the demand's.
-ghost use Rattle.std.specs.Prelude.{◌≡◌, ℕ, ◌<◌, ◌≤◌, List, length, Some, OnOk, OnErr, IfOk, IsSome, IsTrue};
-ghost use Rattle.lucid_value.specs.Plain.{PlainValue, eod, fault};
+ghost use Rattle.std.specs.Prelude.{◌≡◌, ℕ, ◌<◌, ◌≤◌, List, ◌∷◌, length, option_map, option_copied, Some, OnOk, OnErr, IfOk, IsSome, IsTrue};
+ghost use Rattle.lucid_value.specs.Plain.{eod, fault};
 ghost use Rattle.lucid_value.specs.View.{plain};
 ghost use Rattle.lucid_ops.specs.Arity.{arity};
-ghost use Rattle.lucid_ops.specs.Algebra.{algebra};
 ghost use Rattle.lucid_tasks.specs.Rows.{row_at, key_of, got_of, taken, is_ready, ChangesOnly, IsRow};
 ghost use Rattle.lucid_facts.specs.Demands.{Demand};
 ghost use Rattle.lucid_facts.specs.Engine.{AreAskable};
 ghost use Rattle.lucid_demand.specs.Faults.{CountsReadFaults};
 ghost use Rattle.lucid_demand.specs.Evaluating.{gave, Stepped as Steps};
-ghost use Rattle.lucid_demand.specs.Acting.{DemandIn, Settling, MayAct, MayGive, MaySettle, IsTaken, IsKept, IsReadyTask, HaveGot};
+ghost use Rattle.lucid_demand.specs.Acting.{DemandIn, Settling, MayAct, MayGive, MaySettle, IsTaken, IsKept, IsReadyTask, IsThere, AreThere, Applies, value_of};
 ghost use Rattle.lucid_demand.specs.Asking.{HasTask};
 ghost use Rattle.lucid_demand.specs.Reading.{ReadsElement};
 ghost use Rattle.lucid_demand.specs.declared.decide.Decision.TheVariants as decision;
 
 use crate::DemandFault;
+use crate::decide::argument;
 use crate::evaluation::{Evaluation, Stepped};
 use lucid_ops::{Op, apply_to_one, apply_to_three, apply_to_two};
 use lucid_ports::Places;
@@ -67,15 +67,26 @@ impl<R: Retire, S: Pick> Evaluation<R, S> {
         }
     }
 
-    // An operator applied to the value of the row's first part, where it lies.
+    // The value of an argument, if it is there.
+    #[inline(always)]
+    pub(crate) fn argument(&self, slot: usize, index: u32, node: u32) -> Option<&Value>
+        requires row { IsRow self.now.rows slot }
+        requires index { index < 3 }
+        requires node { node < length self.now.engine.table.nodes }
+        ensures { option_map plain (option_copied result) ≡ value_of self.now slot index node }
+    {
+        argument(&self.program, &self.tasks, slot, index, node)
+    }
+
+    // An operator applied to the value of its argument, where it lies.
     #[inline(never)]
-    fn applied_to_one(&self, slot: usize, op: Op) -> Result<Value, AllocError>
+    fn applied_to_one(&self, slot: usize, op: Op, first: u32) -> Result<Value, AllocError>
         requires row { IsRow self.now.rows slot }
         requires count { arity op ≡ 1 }
-        requires got { (index : ℕ) → index < 1 → IsSome (got_of self.now.rows (record { slot = slot; index = index })) }
-        ensures { IfOk result (λ v. (vs : List PlainValue) → length vs ≡ arity op → HaveGot self.now.rows slot 0 vs → plain v ≡ algebra op vs) }
+        requires first { IsThere self.now slot 0 first }
+        ensures { IfOk result (λ v. (rest : List ℕ) → Applies self.now slot op (first ∷ rest) v) }
     {
-        match self.tasks.got(slot, 0) {
+        match self.argument(slot, 0, first) {
             Some(first) => apply_to_one(self.alloc, op, first),
             None => unreachable!(),
         }
@@ -83,13 +94,23 @@ impl<R: Retire, S: Pick> Evaluation<R, S> {
 
     // The same with two values.
     #[inline(always)]
-    fn applied_to_two(&self, slot: usize, op: Op) -> Result<Value, AllocError>
+    fn applied_to_two(
+        &self,
+        slot: usize,
+        op: Op,
+        first: u32,
+        second: u32,
+    ) -> Result<Value, AllocError>
         requires row { IsRow self.now.rows slot }
         requires count { arity op ≡ 2 }
-        requires got { (index : ℕ) → index < 2 → IsSome (got_of self.now.rows (record { slot = slot; index = index })) }
-        ensures { IfOk result (λ v. (vs : List PlainValue) → length vs ≡ arity op → HaveGot self.now.rows slot 0 vs → plain v ≡ algebra op vs) }
+        requires first { IsThere self.now slot 0 first }
+        requires second { IsThere self.now slot 1 second }
+        ensures { IfOk result (λ v. (rest : List ℕ) → Applies self.now slot op (first ∷ second ∷ rest) v) }
     {
-        match (self.tasks.got(slot, 0), self.tasks.got(slot, 1)) {
+        match (
+            self.argument(slot, 0, first),
+            self.argument(slot, 1, second),
+        ) {
             (Some(first), Some(second)) => apply_to_two(self.alloc, op, first, second),
             _ => unreachable!(),
         }
@@ -97,16 +118,25 @@ impl<R: Retire, S: Pick> Evaluation<R, S> {
 
     // The same with three values.
     #[inline(never)]
-    fn applied_to_three(&self, slot: usize, op: Op) -> Result<Value, AllocError>
+    fn applied_to_three(
+        &self,
+        slot: usize,
+        op: Op,
+        first: u32,
+        second: u32,
+        third: u32,
+    ) -> Result<Value, AllocError>
         requires row { IsRow self.now.rows slot }
         requires count { arity op ≡ 3 }
-        requires got { (index : ℕ) → index < 3 → IsSome (got_of self.now.rows (record { slot = slot; index = index })) }
-        ensures { IfOk result (λ v. (vs : List PlainValue) → length vs ≡ arity op → HaveGot self.now.rows slot 0 vs → plain v ≡ algebra op vs) }
+        requires first { IsThere self.now slot 0 first }
+        requires second { IsThere self.now slot 1 second }
+        requires third { IsThere self.now slot 2 third }
+        ensures { IfOk result (λ v. (rest : List ℕ) → Applies self.now slot op (first ∷ second ∷ third ∷ rest) v) }
     {
         match (
-            self.tasks.got(slot, 0),
-            self.tasks.got(slot, 1),
-            self.tasks.got(slot, 2),
+            self.argument(slot, 0, first),
+            self.argument(slot, 1, second),
+            self.argument(slot, 2, third),
         ) {
             (Some(first), Some(second), Some(third)) => {
                 apply_to_three(self.alloc, op, first, second, third)
@@ -115,17 +145,18 @@ impl<R: Retire, S: Pick> Evaluation<R, S> {
         }
     }
 
-    // An operator applied to the values of the row's parts.
+    // An operator applied to the values of its arguments.
     #[inline(always)]
-    fn applied(&self, slot: usize, op: Op) -> Result<Value, AllocError>
+    fn applied(&self, slot: usize, op: Op, args: [u32; 3]) -> Result<Value, AllocError>
         requires row { IsRow self.now.rows slot }
-        requires got { (index : ℕ) → index < arity op → IsSome (got_of self.now.rows (record { slot = slot; index = index })) }
-        ensures { IfOk result (λ v. (vs : List PlainValue) → length vs ≡ arity op → HaveGot self.now.rows slot 0 vs → plain v ≡ algebra op vs) }
+        requires there { AreThere self.now slot (arity op) args }
+        ensures { IfOk result (Applies self.now slot op args) }
     {
+        let [first, second, third] = args;
         match op.arity() {
-            1 => self.applied_to_one(slot, op),
-            2 => self.applied_to_two(slot, op),
-            _ => self.applied_to_three(slot, op),
+            1 => self.applied_to_one(slot, op, first),
+            2 => self.applied_to_two(slot, op, first, second),
+            _ => self.applied_to_three(slot, op, first, second, third),
         }
     }
 
@@ -182,13 +213,14 @@ impl<R: Retire, S: Pick> Evaluation<R, S> {
         &mut self,
         slot: usize,
         op: Op,
+        args: [u32; 3],
         answer: &mut Option<Value>,
     ) -> Stepped
         requires ready { IsTrue (is_ready (row_at self.old.rows slot)) }
-        requires got { (index : ℕ) → index < arity op → IsSome (got_of self.old.rows (record { slot = slot; index = index })) }
-        ensures { (i : DemandIn) → MayAct i.demand self.old i.world slot (decision.Apply op) → Steps i.demand self.old self.new i.world i.world (gave result answer.new) }
+        requires there { AreThere self.old slot (arity op) args }
+        ensures { (i : DemandIn) → MayAct i.demand self.old i.world slot (decision.Apply op args) → Steps i.demand self.old self.new i.world i.world (gave result answer.new) }
     {
-        let value = self.applied(slot, op)?;
+        let value = self.applied(slot, op, args)?;
         self.settle(slot, value, answer)
     }
 

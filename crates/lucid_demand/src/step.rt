@@ -79,7 +79,7 @@ impl<R: Retire, S: Pick> Evaluation<R, S> {
     {
         match decision {
             Decision::Part { index } => self.settle_part(slot, index, answer),
-            Decision::Apply { op } => self.settle_applied(slot, op, answer),
+            Decision::Apply { op, args } => self.settle_applied(slot, op, args, answer),
             Decision::Constant { constant } => self.settle_constant(slot, constant, answer),
             Decision::Truth(holds) => self.give_truth(slot, holds, answer),
             Decision::End => self.end_of_data(slot, answer),

@@ -1,36 +1,22 @@
--- Where the values of a row's parts lead it, as a decision says it: it stands at the rest of its form's plan, and comes on by a value.
-use Rattle.std.proofs.Common.{◌≡◌, ℕ, zero, suc, ◌+◌, ◌<◌, ◌≤◌, [], ◌∷◌, Some, refl, ap, inl, inr, arith}
+-- The rest of a form's plan where a row's search stands; and which arguments of an operator a row may ask for.
+use Rattle.std.proofs.Common.{◌≡◌, ℕ, zero, suc, ◌+◌, ◌<◌, ◌≤◌, Some, refl, ap, inl, inr, arith}
 use Rattle.std.specs.Prelude.{true, nat_lt}
 use Rattle.std.proofs.lemmas.Bool.{cases_lt}
 use Rattle.std.proofs.lemmas.Bool.Decides.{nat_tests}
-use Rattle.lucid_value.specs.Plain.{PlainValue}
 use Rattle.lucid_ops.specs.declared.op.Op.{Op}
 use Rattle.lucid_tree.specs.Tree.{Head, apply}
 use Rattle.lucid_tree.specs.Members.{In}
-use Rattle.lucid_tree.specs.Rows.{Plan, look, arguments}
-use Rattle.lucid_tree.specs.Rests.{at_start, and_then, rest_at}
+use Rattle.lucid_tree.specs.Rows.{Plan, arguments}
+use Rattle.lucid_tree.specs.Rests.{at_start, rest_at}
 use Rattle.lucid_equations.specs.Nodes.{row, PlainNodes}
 use Rattle.lucid_equations.specs.declared.table.Table.{Table}
-use Rattle.lucid_facts.specs.Tasks.{PlainRow, idle, state_at, value_of_part}
+use Rattle.lucid_facts.specs.Tasks.{PlainRow, idle, state_at}
 use Rattle.lucid_facts.specs.Parts.{node_of, look_of_row}
-use Rattle.lucid_facts.specs.Decisions.{ComesTo, MayAsk}
+use Rattle.lucid_facts.specs.Decisions.{MayAsk}
 
 -- the rest of the form's plan where the row's search stands
 abbrev pub rest_of : Head → PlainRow → Plan
 rest_of f r = rest_at f r.task.limit r.cursor.time r.cursor.count r.task.time r.task.space
-
--- A row stands at the rest of its form's plan.
-pub stands_at_its_rest : (T : Table) (r : PlainRow) (f : Head) (es : PlainNodes) → node_of T r.task ≡ row f es → (s : ComesTo T r (rest_of f r)) × (s.form ≡ f)
-stands_at_its_rest T r f es e = (record { form = f; nodes = es; is = e; along = at_start }, refl)
-
--- Where one look stands next, and a part of the row answers it, the row comes on by the part's value.
-pub comes_on : (T : Table) (r : PlainRow) (index t s least : ℕ) (k : PlainValue → Plan) (v : PlainValue) (at : ComesTo T r (look index t s least k))
-    → look_of_row at.form r index ≡ Some (record { part = index; time = t; space = s; least = least }) → value_of_part r index ≡ Some v
-    → (s : ComesTo T r (k v)) × (s.form ≡ at.form)
-comes_on T r index t s least k v at l has = (
-  record { form = at.form; nodes = at.nodes; is = at.is; along = and_then (v ∷ []) at.along (record { index = index; look = l; value = has }, tt) },
-  refl,
-)
 
 -- The look at an argument is among those at all arguments.
 among_arguments : (count first i t s : ℕ) → first ≤ i → i < first + count → In (record { part = i; time = t; space = s; least = 0 }) (arguments count first t s)

@@ -1,18 +1,20 @@
 -- A row's parts answer the looks of its form's plan, and lead it from the plan's start to where its search stands, and on.
-use Rattle.std.proofs.Common.{◌≡◌, ℕ, ◌<◌, Option, Some, refl, sym, ap, ◌∙◌, subst}
+use Rattle.std.proofs.Common.{◌≡◌, ℕ, ◌<◌, Option, Some, inl, inr, refl, sym, ap, ◌∙◌, subst}
 use Rattle.std.specs.Prelude.{Bool, true, false, option_map}
 use Rattle.lucid_value.specs.Plain.{PlainValue, truth}
-use Rattle.lucid_tree.specs.Tree.{Head, whenever}
+use Rattle.lucid_tree.specs.Tree.{Head, whenever, const}
 use Rattle.lucid_tree.specs.Rows.{Look, Plan, plan}
 use Rattle.lucid_tree.specs.Rests.{LeadsTo, at_start, rest_at}
 use Rattle.lucid_tree.specs.Levels.{Elements}
 use Rattle.lucid_tree.proofs.Ways.{leads-maps, leads-join}
 use Rattle.lucid_tree.proofs.SearchesLead.{search_leads, least_of, test_look, counted_truth}
-use Rattle.lucid_equations.specs.Nodes.{row, PlainNodes}
+use Rattle.lucid_equations.specs.Nodes.{row, PlainNodes, no_nodes}
 use Rattle.lucid_equations.specs.Values.{node_val}
 use Rattle.lucid_equations.specs.Datons.{node_aim}
 use Rattle.lucid_equations.specs.Rows.{node_at, equations_of}
 use Rattle.lucid_equations.specs.declared.table.Table.{Table}
+use Rattle.lucid_equations.specs.declared.rows.Node.TheVariants.{Const}
+use Rattle.lucid_equations.proofs.PartsRead.{row-node}
 use Rattle.lucid_equations.proofs.NodeGrowth.{node-meant_once}
 use Rattle.lucid_equations.proofs.NodeAims.{no_aim}
 use Rattle.lucid_facts.specs.Tasks.{PlainTask, PlainRow, DatonAt}
@@ -21,8 +23,9 @@ use Rattle.lucid_facts.specs.Stands.{Holding}
 use Rattle.lucid_facts.specs.Held.{is_search}
 use Rattle.lucid_facts.specs.Demands.{Demand, table_of, LookAnswers, Answers}
 use Rattle.lucid_facts.specs.Rows.{RowFacts, PartAnswers, SearchFacts}
-use Rattle.lucid_facts.specs.Decisions.{RowHas, ComesTo}
+use Rattle.lucid_facts.specs.Decisions.{LookHas, LooksAtConstant, ComesTo}
 use Rattle.lucid_facts.specs.Going.{IsDemand}
+use Rattle.lucid_facts.proofs.Answering.{constant-answers}
 use Rattle.lucid_facts.proofs.Coming.{rest_of}
 use Rattle.lucid_facts.proofs.Noting.{stream_of_search}
 use Rattle.lucid_facts.proofs.Idling.{one-form}
@@ -50,10 +53,20 @@ rest_is_plan whenever e m j n t s = cc
 rest_is_plan f e m j n t s = cc
 
 module _ (d : Demand) (b : Elements) (h : Holding) (lost : ℕ) (r : PlainRow) where
+  -- a constant answers the look at it
+  constant_is_answered : IsDemand d → (l : Look) (v : PlainValue) → LooksAtConstant (table_of d) r.task l v → LookAnswers d b h lost r.task l v
+  constant_is_answered demand l v at = record {
+    task = record r.task { node = at.part; time = l.time; space = l.space };
+    is = ap (option_map (λ n. record r.task { node = n; time = l.time; space = l.space })) at.number;
+    answers = constant-answers d b h lost (record r.task { node = at.part; time = l.time; space = l.space }) v
+        (row-node (table_of d) demand.in_range at.part (Const at.constant) at.is ∙ ap (λ w. row (const w) no_nodes) at.value);
+  }
+
   -- what the row's parts have as answers to looks answers the looks' tasks
-  pub looks_are_answered : RowFacts d b h lost r → (f : Head) (es : PlainNodes) → node_of (table_of d) r.task ≡ row f es → (l : Look) (v : PlainValue) → RowHas f r l v
-      → LookAnswers d b h lost r.task l v
-  looks_are_answered facts f es e l v has = go (facts.got_parts has.index v has.value)
+  pub looks_are_answered : IsDemand d → RowFacts d b h lost r → (f : Head) (es : PlainNodes) → node_of (table_of d) r.task ≡ row f es → (l : Look) (v : PlainValue)
+      → LookHas (table_of d) f r l v → LookAnswers d b h lost r.task l v
+  looks_are_answered demand facts f es e l v (inr constant) = constant_is_answered demand l v constant
+  looks_are_answered demand facts f es e l v (inl has) = go (facts.got_parts has.index v has.value)
     where
       go : PartAnswers d b h lost r has.index v → LookAnswers d b h lost r.task l v
       go a = record { task = a.task; is = part_is_of_its_look (table_of d) r f es e has.index l a.task a.is has.look; answers = a.answers }
@@ -101,4 +114,4 @@ module _ (d : Demand) (b : Elements) (h : Holding) (lost : ℕ) (r : PlainRow) w
       → LeadsTo (LookAnswers d b h lost r.task) (plan r.task.limit s.form r.task.time r.task.space) q
   row_came demand facts q s =
       leads-join (LookAnswers d b h lost r.task) (plan r.task.limit s.form r.task.time r.task.space) (rest_of s.form r) q (row_leads demand facts s.form s.nodes s.is)
-      (leads-maps (RowHas s.form r) (LookAnswers d b h lost r.task) (looks_are_answered facts s.form s.nodes s.is) (rest_of s.form r) q s.along)
+      (leads-maps (LookHas (table_of d) s.form r) (LookAnswers d b h lost r.task) (looks_are_answered demand facts s.form s.nodes s.is) (rest_of s.form r) q s.along)

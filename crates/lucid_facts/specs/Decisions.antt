@@ -1,6 +1,6 @@
 -- Why a ready row does what it does next. A decision is justified by the row alone: by where it has come to in its form's plan. No fact
 -- of the store, of the demand or of the elements is in it; what a reference goes on with, and whether it is held, is seen by those who act.
-use Rattle.std.specs.Prelude.{◌≡◌, Bool, true, false, ℕ, suc, ◌<◌, List, [], Some, None}
+use Rattle.std.specs.Prelude.{◌≡◌, Bool, true, false, ℕ, suc, ◌<◌, List, [], Some, None, ◌⊎◌}
 use Rattle.lucid_value.specs.Plain.{PlainValue, truth}
 use Rattle.lucid_tasks.specs.declared.Cursor.{Cursor}
 use Rattle.lucid_tree.specs.Members.{In}
@@ -9,9 +9,11 @@ use Rattle.lucid_tree.specs.Rows.{Look, Plan, gives, looks}
 use Rattle.lucid_tree.specs.Rests.{LeadsTo, rest_at, CanStandAt}
 use Rattle.lucid_tree.specs.Levels.{element_of, nowhere}
 use Rattle.lucid_equations.specs.Nodes.{row, PlainNodes, no_nodes}
+use Rattle.lucid_equations.specs.Rows.{row_at, constant_at}
+use Rattle.lucid_equations.specs.declared.rows.Node.TheVariants as node
 use Rattle.lucid_equations.specs.declared.table.Table.{Table}
 use Rattle.lucid_facts.specs.Tasks.{PlainTask, PlainRow, DatonAt, idle, state_at, value_of_part, all_idle}
-use Rattle.lucid_facts.specs.Parts.{node_of, rank, moved, aim_of_task, look_of_row, IsTask, RefersTo, GoesTo, IsReference, IsPart}
+use Rattle.lucid_facts.specs.Parts.{node_of, part_number, rank, moved, aim_of_task, look_of_row, IsTask, RefersTo, GoesTo, IsReference, IsPart}
 use Rattle.lucid_facts.specs.Stands.{StandsFor}
 use Rattle.lucid_facts.specs.Held.{is_search}
 
@@ -21,12 +23,23 @@ pub record RowHas (f : Head) (r : PlainRow) (l : Look) (v : PlainValue) : Type 0
   pub look : look_of_row f r index ≡ Some l
   pub value : value_of_part r index ≡ Some v
 
--- The values of the row's parts lead from where its search stands to this rest of its form's plan.
+-- the value of a constant, as the answer to a look at it, whatever the row's parts have
+pub record LooksAtConstant (T : Table) (x : PlainTask) (l : Look) (v : PlainValue) : Type 0 where
+  pub part : ℕ
+  pub number : part_number T x.node l.part ≡ Some part
+  pub constant : ℕ
+  pub is : row_at T part ≡ Some (node.Const constant)
+  pub value : constant_at T constant ≡ v
+
+abbrev pub LookHas : Table → Head → PlainRow → Look → PlainValue → Type 0
+LookHas T f r l v = RowHas f r l v ⊎ LooksAtConstant T r.task l v
+
+-- The values of the row's parts, and of constants, lead from where its search stands to this rest of its form's plan.
 pub record ComesTo (T : Table) (r : PlainRow) (q : Plan) : Type 0 where
   pub form : Head
   pub nodes : PlainNodes
   pub is : node_of T r.task ≡ row form nodes
-  pub along : LeadsTo (RowHas form r) (rest_at form r.task.limit r.cursor.time r.cursor.count r.task.time r.task.space) q
+  pub along : LeadsTo (LookHas T form r) (rest_at form r.task.limit r.cursor.time r.cursor.count r.task.time r.task.space) q
 
 -- the row's value: a part's, an applied operator's, a constant or what a form gives by itself
 abbrev pub GivesByPlan : Table → PlainRow → PlainValue → Type 0

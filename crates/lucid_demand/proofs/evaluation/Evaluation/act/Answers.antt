@@ -12,11 +12,11 @@ settle_part-requires-clause-got g c =
     let w = g.P.Places.world c.args.places.now in
     (part_is_there d c.args.self.now w c.args.slot c.in-Part.index (decided_so d c.args.self.now w c.args.slot c.in-Part.is c.requires.may.1)).1
 
-pub settle_applied-requires-clause-got : goal.settle_applied-requires-clause-got
-settle_applied-requires-clause-got g c =
+pub settle_applied-requires-clause-there : goal.settle_applied-requires-clause-there
+settle_applied-requires-clause-there g c =
     let d = c.requires.may.0 in
     let w = g.P.Places.world c.args.places.now in
-    arguments_are_there d c.args.self.now w c.args.slot c.in-Apply.op (decided_so d c.args.self.now w c.args.slot c.in-Apply.is c.requires.may.1)
+    arguments_are_there d c.args.self.now w c.args.slot c.in-Apply.op c.in-Apply.args (decided_so d c.args.self.now w c.args.slot c.in-Apply.is c.requires.may.1)
 
 pub end_of_data-requires : goal.end_of_data-requires
 end_of_data-requires g c = ready_task c.requires.may.0 c.args.self.now (g.P.Places.world c.args.places.now) c.args.slot c.requires.may.1.step
