@@ -204,7 +204,7 @@ impl<R: Retire, S: Pick> Evaluation<R, S> {
             return Err(DemandFault::TooDeep);
         };
         if let Some(value) = self.held(aim.key)? {
-            *answer = self.tasks.settle(slot, value);
+            self.leave(slot, value, answer);
             return Ok(());
         }
         if task.depth == 0 {

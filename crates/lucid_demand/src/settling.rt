@@ -1,9 +1,9 @@
 //! A row settles: its value stands in its parent's part, or is the demand's.
-ghost use Rattle.std.specs.Prelude.{◌≡◌, ℕ, ◌<◌, ◌≤◌, List, ◌∷◌, length, option_map, option_copied, Some, OnOk, OnErr, IfOk, IsSome, IsTrue};
+ghost use Rattle.std.specs.Prelude.{◌≡◌, ℕ, ◌<◌, ◌≤◌, List, ◌∷◌, length, option_map, option_copied, Some, None, OnOk, OnErr, IfOk, IsSome, IsTrue};
 ghost use Rattle.lucid_value.specs.Plain.{eod, fault};
 ghost use Rattle.lucid_value.specs.View.{plain};
 ghost use Rattle.lucid_ops.specs.Arity.{arity};
-ghost use Rattle.lucid_tasks.specs.Rows.{row_at, key_of, got_of, taken, is_ready, ChangesOnly, IsRow};
+ghost use Rattle.lucid_tasks.specs.Rows.{row_at, parent_of, key_of, got_of, taken, returned, is_ready, ChangesOnly, IsRow, Settles};
 ghost use Rattle.lucid_facts.specs.Demands.{Demand};
 ghost use Rattle.lucid_facts.specs.Engine.{AreAskable};
 ghost use Rattle.lucid_demand.specs.Faults.{CountsReadFaults};
@@ -175,6 +175,20 @@ impl<R: Retire, S: Pick> Evaluation<R, S> {
         Ok(self.inputs.element(places, stream, time)?.copy(self.alloc)?)
     }
 
+    // The row goes, and its value is that of the part that it was asked for, or the answer. An answer is written only where there is one.
+    #[inline(always)]
+    pub(crate) fn leave(&mut self, slot: usize, value: Value, answer: &mut Option<Value>)
+        requires ready { IsTrue (is_ready (row_at self.old.rows slot)) }
+        requires open { answer.old ≡ None }
+        ensures rows { Settles self.old.rows self.new.rows slot value }
+        ensures answer { answer.new ≡ returned (parent_of self.old.rows slot) value }
+        ensures only { self.new ≡ record self.old { rows = self.new.rows } }
+    {
+        if let Some(value) = self.tasks.settle(slot, value) {
+            *answer = Some(value);
+        }
+    }
+
     // The row's value: its daton's, where it remembers one.
     #[inline(always)]
     pub(crate) fn settle(
@@ -183,12 +197,13 @@ impl<R: Retire, S: Pick> Evaluation<R, S> {
         value: Value,
         answer: &mut Option<Value>,
     ) -> Stepped
-        requires { IsTrue (is_ready (row_at self.old.rows slot)) }
+        requires ready { IsTrue (is_ready (row_at self.old.rows slot)) }
+        requires open { answer.old ≡ None }
         ensures { (s : Settling) → MaySettle s self.old slot value
             → Steps s.demand (record { engine = self.old.engine; rows = s.before }) self.new s.world s.world (gave result answer.new) }
     {
         self.keep(slot, &value)?;
-        *answer = self.tasks.settle(slot, value);
+        self.leave(slot, value, answer);
         Ok(())
     }
 
@@ -202,6 +217,7 @@ impl<R: Retire, S: Pick> Evaluation<R, S> {
         requires ready { IsTrue (is_ready (row_at self.old.rows slot)) }
         requires index { index < 3 }
         requires got { IsSome (got_of self.old.rows (record { slot = slot; index = index })) }
+        requires open { answer.old ≡ None }
         ensures { (i : DemandIn) → MayAct i.demand self.old i.world slot (decision.Part index) → Steps i.demand self.old self.new i.world i.world (gave result answer.new) }
     {
         let value = self.take_part(slot, index);
@@ -218,6 +234,7 @@ impl<R: Retire, S: Pick> Evaluation<R, S> {
     ) -> Stepped
         requires ready { IsTrue (is_ready (row_at self.old.rows slot)) }
         requires there { AreThere self.old slot (arity op) args }
+        requires open { answer.old ≡ None }
         ensures { (i : DemandIn) → MayAct i.demand self.old i.world slot (decision.Apply op args) → Steps i.demand self.old self.new i.world i.world (gave result answer.new) }
     {
         let value = self.applied(slot, op, args)?;
@@ -230,6 +247,7 @@ impl<R: Retire, S: Pick> Evaluation<R, S> {
         requires ready { IsTrue (is_ready (row_at self.old.rows slot)) }
         requires got { IsSome (got_of self.old.rows (record { slot = slot; index = 0 })) }
         requires task { HasTask self.old slot }
+        requires open { answer.old ≡ None }
         ensures { (i : DemandIn) → MayAct i.demand self.old i.world slot decision.Body → Steps i.demand self.old self.new i.world i.world (gave result answer.new) }
     {
         let task = self.tasks.task(slot);
@@ -237,7 +255,7 @@ impl<R: Retire, S: Pick> Evaluation<R, S> {
         if let Some(aim) = self.aim(task)? {
             self.put(aim.key, &value)?;
         }
-        *answer = self.tasks.settle(slot, value);
+        self.leave(slot, value, answer);
         Ok(())
     }
 
@@ -245,7 +263,8 @@ impl<R: Retire, S: Pick> Evaluation<R, S> {
     // for one.
     #[inline(never)]
     pub(crate) fn end_of_data(&mut self, slot: usize, answer: &mut Option<Value>) -> Stepped
-        requires { IsReadyTask self.old slot }
+        requires ready { IsReadyTask self.old slot }
+        requires open { answer.old ≡ None }
         ensures { (i : DemandIn) → MayGive i.demand self.old i.world slot eod → Steps i.demand self.old self.new i.world i.world (gave result answer.new) }
     {
         self.end(slot, Value::Eod, answer)
@@ -254,7 +273,8 @@ impl<R: Retire, S: Pick> Evaluation<R, S> {
     // The same with an error.
     #[inline(never)]
     pub(crate) fn end_in_error(&mut self, slot: usize, answer: &mut Option<Value>) -> Stepped
-        requires { IsReadyTask self.old slot }
+        requires ready { IsReadyTask self.old slot }
+        requires open { answer.old ≡ None }
         ensures { (i : DemandIn) → MayGive i.demand self.old i.world slot fault → Steps i.demand self.old self.new i.world i.world (gave result answer.new) }
     {
         self.end(slot, Value::Fault, answer)
@@ -263,7 +283,8 @@ impl<R: Retire, S: Pick> Evaluation<R, S> {
     // The same with either.
     #[inline(never)]
     fn end(&mut self, slot: usize, value: Value, answer: &mut Option<Value>) -> Stepped
-        requires { IsReadyTask self.old slot }
+        requires ready { IsReadyTask self.old slot }
+        requires open { answer.old ≡ None }
         ensures { (i : DemandIn) → MayGive i.demand self.old i.world slot (plain value) → Steps i.demand self.old self.new i.world i.world (gave result answer.new) }
     {
         self.note_here(slot);
@@ -281,6 +302,7 @@ impl<R: Retire, S: Pick> Evaluation<R, S> {
         requires ready { IsTrue (is_ready (row_at self.old.rows slot)) }
         requires stream { stream < length self.old.engine.streams }
         requires askable { AreAskable self.old.engine.streams (P.world places.old) }
+        requires open { answer.old ≡ None }
         ensures steps { (d : Demand) → MayAct d self.old (P.world places.old) slot (decision.Read stream) → Steps d self.old self.new (P.world places.old) (P.world places.new) (gave result answer.new) }
         ensures faults { (P.world places.old).faults ≤ (P.world places.new).faults }
         ensures counts { CountsReadFaults result (P.world places.old) (P.world places.new) }

@@ -26,7 +26,8 @@ impl<R: Retire, S: Pick> Evaluation<R, S> {
     // Settles with a value that the form gives whatever its parts are.
     #[inline(never)]
     fn give(&mut self, slot: usize, value: Value, answer: &mut Option<Value>) -> Stepped
-        requires { IsTrue (is_ready (row_at self.old.rows slot)) }
+        requires ready { IsTrue (is_ready (row_at self.old.rows slot)) }
+        requires open { answer.old ≡ None }
         ensures { (i : DemandIn) → MayGive i.demand self.old i.world slot (plain value) → Steps i.demand self.old self.new i.world i.world (gave result answer.new) }
     {
         self.settle(slot, value, answer)
@@ -35,7 +36,8 @@ impl<R: Retire, S: Pick> Evaluation<R, S> {
     // The same with a truth, which is passed as such: no room for a value is cleared in a turn.
     #[inline(never)]
     fn give_truth(&mut self, slot: usize, holds: bool, answer: &mut Option<Value>) -> Stepped
-        requires { IsTrue (is_ready (row_at self.old.rows slot)) }
+        requires ready { IsTrue (is_ready (row_at self.old.rows slot)) }
+        requires open { answer.old ≡ None }
         ensures { (i : DemandIn) → MayGive i.demand self.old i.world slot (truth holds) → Steps i.demand self.old self.new i.world i.world (gave result answer.new) }
     {
         self.give(slot, Value::Truth(holds), answer)
@@ -46,6 +48,7 @@ impl<R: Retire, S: Pick> Evaluation<R, S> {
     fn settle_constant(&mut self, slot: usize, constant: u32, answer: &mut Option<Value>) -> Stepped
         requires ready { IsTrue (is_ready (row_at self.old.rows slot)) }
         requires there { constant < length self.old.engine.table.constants }
+        requires open { answer.old ≡ None }
         ensures { (i : DemandIn) → MayAct i.demand self.old i.world slot (decision.Constant constant) → Steps i.demand self.old self.new i.world i.world (gave result answer.new) }
     {
         let value = self.program.constant(constant).copy(self.alloc)?;

@@ -18,11 +18,11 @@ settle_applied-requires-clause-there g c =
     let w = g.P.Places.world c.args.places.now in
     arguments_are_there d c.args.self.now w c.args.slot c.in-Apply.op c.in-Apply.args (decided_so d c.args.self.now w c.args.slot c.in-Apply.is c.requires.may.1)
 
-pub end_of_data-requires : goal.end_of_data-requires
-end_of_data-requires g c = ready_task c.requires.may.0 c.args.self.now (g.P.Places.world c.args.places.now) c.args.slot c.requires.may.1.step
+pub end_of_data-requires-clause-ready : goal.end_of_data-requires-clause-ready
+end_of_data-requires-clause-ready g c = ready_task c.requires.may.0 c.args.self.now (g.P.Places.world c.args.places.now) c.args.slot c.requires.may.1.step
 
-pub end_in_error-requires : goal.end_in_error-requires
-end_in_error-requires g c = ready_task c.requires.may.0 c.args.self.now (g.P.Places.world c.args.places.now) c.args.slot c.requires.may.1.step
+pub end_in_error-requires-clause-ready : goal.end_in_error-requires-clause-ready
+end_in_error-requires-clause-ready g c = ready_task c.requires.may.0 c.args.self.now (g.P.Places.world c.args.places.now) c.args.slot c.requires.may.1.step
 
 pub settle_body-requires-clause-task : goal.settle_body-requires-clause-task
 settle_body-requires-clause-task g c = has_task c.requires.may.0 c.args.self.now (g.P.Places.world c.args.places.now) c.args.slot c.requires.may.1.step

@@ -6,4 +6,4 @@ use Rattle.lucid_demand.proofs.evaluation.Evaluation.give.Goals as goal
 pub returns : goal.returns
 returns g c = λ i may.
     c.settle.ensures (at_rows i c.args.self.now.rows)
-    (gives_may_settle i c.args.self.now c.args.self.now c.args.slot c.args.value may refl (nothing_taken c.args.self.now.rows c.args.slot c.requires))
+    (gives_may_settle i c.args.self.now c.args.self.now c.args.slot c.args.value may refl (nothing_taken c.args.self.now.rows c.args.slot c.requires.ready))

@@ -2,7 +2,7 @@ use Rattle.std.proofs.Common.{◌≡◌, ◌-◌, refl, ap, sym, ◌∙◌, subs
 use Rattle.std.specs.Prelude.{Ok, Some, IsTrue, option_map}
 use Rattle.lucid_tasks.specs.Rows.{TaskRow, row_at, is_ready}
 use Rattle.lucid_store.specs.Entries.{value_at}
-use Rattle.lucid_demand.specs.Evaluating.{Evaluating, gave}
+use Rattle.lucid_demand.specs.Evaluating.{Evaluating, Stepped, gave}
 use Rattle.lucid_demand.specs.declared.fault.DemandFault.TheVariants.{NoMemory}
 use Rattle.lucid_demand.proofs.TakenParts.{gave_err}
 use Rattle.lucid_demand.proofs.IdleRows.{idle_is_ready}
@@ -28,18 +28,19 @@ returns-in_err-value g c = λ i act.
     c.in-Some.aim (c.in_ok-aim.was ∙ ap Ok c.in-Some.is) c.held.new.self (value_at c.aim.new.self.engine.stored c.in-Some.aim.key) refl c.held.ensures.touched c.held.ensures.only
     (gave c.from_residual-in_err-value.result c.args.answer.now) (gave_err c.from_residual-in_err-value.result c.args.answer.now NoMemory c.from_residual-in_err-value.ensures.1)
 
-pub settle-requires : goal.settle-requires
-settle-requires g c =
+pub leave-requires-clause-ready : goal.leave-requires-clause-ready
+leave-requires-clause-ready g c =
     subst (λ rs. IsTrue (is_ready (row_at rs c.args.slot)))
-    (sym (ap (λ (e : Evaluating). e.rows) c.self-2.view_is ∙ ap (λ (e : Evaluating). e.rows) c.held.ensures.only ∙ ap (λ (e : Evaluating). e.rows) c.aim.ensures.only))
+    (sym (ap (λ (e : Evaluating). e.rows) c.held.ensures.only ∙ ap (λ (e : Evaluating). e.rows) c.aim.ensures.only))
     (idle_is_ready c.args.self.now.rows c.args.slot c.requires.can.idle)
 
 pub returns-in-Some-2 : goal.returns-in-Some-2
 returns-in-Some-2 g c = λ i act.
-    refer_settles c.args.self.now c.aim.new.self c.args.slot c.task-task.result c.aim.result
+    subst (λ z. Stepped i.demand c.args.self.now z i.world i.world (Ok c.leave.new.answer)) (sym c.leave.ensures.only)
+    (refer_settles c.args.self.now c.aim.new.self c.args.slot c.task-task.result c.aim.result
     (subst (λ (e : Evaluating). option_map (λ (row : TaskRow). row.task) (row_at e.rows c.args.slot) ≡ Some c.task-task.result) c.self.view_is c.task-task.ensures) c.aim.ensures i act
     c.in-Some.aim (c.in_ok-aim.was ∙ ap Ok c.in-Some.is) c.held.new.self c.in_ok-value.field-0 c.in_ok-value.ensures.value c.held.ensures.touched c.held.ensures.only
-    _ c.self-2.view_is c.in-Some-2.value c.in-Some-2.is c.settle.new.self c.settle.ensures.rows c.settle.result c.settle.ensures.returned
+    c.held.new.self refl c.in-Some-2.value c.in-Some-2.is c.leave.new.self.rows c.leave.ensures.rows c.leave.new.answer c.leave.ensures.answer)
 
 pub returns-then-task-eq0 : goal.returns-then-task-eq0
 returns-then-task-eq0 g c = λ i act.
