@@ -1,8 +1,8 @@
 //! What a reference goes on with.
-ghost use Rattle.std.specs.Prelude.{◌≡◌, ◌≢◌, ◌<◌, ◌⊎◌, ℕ, true, false, None, Some, length, IfSome, IfOk, OnOk, OnErr};
+ghost use Rattle.std.specs.Prelude.{◌≡◌, ◌≢◌, ◌<◌, ◌≤◌, ◌⊎◌, ℕ, true, false, None, Some, length, IfSome, IfOk, OnOk, OnErr};
 ghost use Rattle.lucid_tree.specs.Members.{In};
 ghost use Rattle.lucid_tree.specs.Levels.{nowhere};
-ghost use Rattle.lucid_tags.specs.Contexts.{Context, call_frame};
+ghost use Rattle.lucid_tags.specs.Contexts.{Context, call_frame, frames, cut};
 ghost use Rattle.lucid_tags.specs.Known.{IsKnown, IsOneForOne, KeepsKnown, context_of, space_of};
 ghost use Rattle.lucid_equations.specs.Nodes.{refer};
 ghost use Rattle.lucid_equations.specs.Datons as aims;
@@ -50,14 +50,17 @@ fn by_frame(program: &Program, tags: &Tags, name: u32, tag: Tag, time: u64) -> O
     ensures there { IfSome result (IsAim (table_of program.now) tags.now (space_of tag)) }
     ensures own { IfSome result (λ a. a.key.tag ≡ tag) }
 {
-    match (program.entry(name), tags.frame(tag)) {
-        (Entry::Plain { body } | Entry::Called { body }, _) => Some(Aim {
+    match program.entry(name) {
+        Entry::Plain { body } | Entry::Called { body } => Some(Aim {
             key: Key { name, tag, time },
             body,
             tag,
             time,
         }),
-        (Entry::Parameter { index }, Some(Frame::Call { place, caller })) => {
+        Entry::Parameter { index } => {
+            let Some(Frame::Call { place, caller }) = tags.frame(tag) else {
+                return None;
+            };
             let body = actual(program, place, index)?;
             Some(Aim {
                 key: Key { name, tag, time },
@@ -66,7 +69,10 @@ fn by_frame(program: &Program, tags: &Tags, name: u32, tag: Tag, time: u64) -> O
                 time,
             })
         }
-        (Entry::Current { body }, Some(Frame::Frozen { time: frozen })) => {
+        Entry::Current { body } => {
+            let Some(Frame::Frozen { time: frozen }) = tags.frame(tag) else {
+                return None;
+            };
             let outer = tags.cut(tag, (tags.level(tag) - 1) as u32);
             Some(Aim {
                 key: Key { name, tag, time: 0 },
@@ -75,7 +81,6 @@ fn by_frame(program: &Program, tags: &Tags, name: u32, tag: Tag, time: u64) -> O
                 time: frozen,
             })
         }
-        _ => None,
     }
 }
 
@@ -89,6 +94,22 @@ fn actual(program: &Program, place: u32, index: u32) -> Option<u32>
         Some(program.actual(place, index))
     } else {
         None
+    }
+}
+
+// The context of the outermost frames, at the same space. Most names stand in the context in which they are looked for.
+#[inline(always)]
+fn outer(tags: &Tags, tag: Tag, level: u32) -> Tag
+    requires known { IsKnown tags.now tag }
+    requires level { level ≤ frames (context_of tags.now tag) }
+    ensures known { IsKnown tags.now result }
+    ensures context { cut level (context_of tags.now tag) ≡ Some (context_of tags.now result) }
+    ensures space { space_of result ≡ space_of tag }
+{
+    if u64::from(level) == tags.level(tag) {
+        tag
+    } else {
+        tags.cut(tag, level)
     }
 }
 
@@ -110,7 +131,7 @@ pub(crate) fn name_aim(
     if u64::from(level) > tags.level(tag) {
         return None;
     }
-    by_frame(program, tags, name, tags.cut(tag, level), time)
+    by_frame(program, tags, name, outer(tags, tag, level), time)
 }
 
 // Whether a call of the name at the place leads somewhere, whoever calls it and when.
