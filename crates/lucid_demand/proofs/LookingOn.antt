@@ -1,26 +1,30 @@
 -- A search looks on: it takes a step, which its cursor's time and count have room for.
-use Rattle.std.proofs.Common.{◌≡◌, ℕ, suc, ◌+◌, ◌≤◌, Bool, true, false, List, Option, Some, None, sym, ap, ◌∙◌, subst, arith}
-use Rattle.std.specs.Prelude.{Ok, option_map}
+use Rattle.std.proofs.Common.{◌≡◌, ℕ, suc, ◌+◌, ◌<◌, ◌≤◌, Bool, true, false, List, length, Option, Some, None, sym, ap, ◌∙◌, subst, arith}
+use Rattle.std.specs.Prelude.{IsTrue, Ok, option_map}
+use Rattle.std.proofs.lemmas.Option.{same_Some}
 use Rattle.std.specs.Int.{from_bool}
 use Rattle.lucid_tasks.specs.declared.Cursor.{Cursor}
 use Rattle.lucid_tasks.specs.Rows as rows
 use Rattle.lucid_tasks.specs.Rows.{TaskRow, row_at, is_ready}
 use Rattle.lucid_facts.specs.Tasks.{waits_for_none, plain_row}
-use Rattle.lucid_facts.specs.Engine.{known_elements, holding}
+use Rattle.lucid_facts.specs.Engine.{EngineView, known_elements, holding}
 use Rattle.lucid_facts.specs.Demands.{Demand, table_of}
 use Rattle.lucid_facts.specs.Rows.{RowFacts}
 use Rattle.lucid_facts.specs.Decisions.{MayMove, looked_on}
+use Rattle.lucid_facts.specs.Going.{Owns, Waits}
 use Rattle.lucid_facts.proofs.Seeing.{plain_ready}
-use Rattle.lucid_facts.proofs.Listing.{plain_of_row}
+use Rattle.lucid_facts.proofs.Listing.{plain_of_row, changed_there}
 use Rattle.lucid_facts.proofs.Noting.{stream_of_search}
 use Rattle.lucid_facts.proofs.Searching.{count-is_few}
 use Rattle.lucid_facts.proofs.Acting.{GoesDown, moves_goes_down}
 use Rattle.lucid_ports.specs.World.{World}
-use Rattle.lucid_demand.specs.Evaluating.{Evaluating, Stepped}
-use Rattle.lucid_demand.specs.Acting.{DemandIn, MayAct}
+use Rattle.lucid_demand.specs.Evaluating.{Evaluating, MayStep, Stepped, cost}
+use Rattle.lucid_demand.specs.Acting.{DemandIn, MayAct, IsReadyTask}
 use Rattle.lucid_demand.specs.Searching.{CanLookOn}
 use Rattle.lucid_demand.specs.declared.decide.Decision.TheVariants as decision
-use Rattle.lucid_demand.proofs.SettledRows.{ready_is_there}
+use Rattle.lucid_demand.proofs.GoneRows.{goes_on_step}
+use Rattle.lucid_demand.proofs.Beginning.{noted_costs}
+use Rattle.lucid_demand.proofs.SettledRows.{ready_is_there, ready_taken}
 
 -- A search that goes on stands before its limit, and counted no more than it looked at.
 pub can_look_on : (d : Demand) (e : Evaluating) (w : World) (slot : ℕ) (seen : Bool) → MayAct d e w slot (decision.Move seen) → CanLookOn e.rows slot
@@ -48,20 +52,40 @@ next_cursor c false n p =
     let count : c.count + n ≡ c.count = omega (arith, p) in
     ap (λ x. record { time = x; count = c.count + n }) time ∙ ap (λ x. record { time = suc c.time; count = x }) count
 
--- It looks on, which is a step.
+-- The row is ready at its next cursor, with its task.
+pub looked_ready : (now inside new : Evaluating) (one two : List (Option TaskRow)) (slot : ℕ) (c : Cursor) → inside ≡ now → new.engine ≡ inside.engine
+    → rows.ChangesOnly inside.rows one slot (rows.taken 0) → rows.ChangesOnly one two slot (rows.taken 1) → rows.ChangesOnly two new.rows slot (rows.with_cursor c)
+    → IsReadyTask now slot → IsReadyTask new slot
+looked_ready now inside new one two slot c same engine first second moved task = record {
+  ready = ap is_ready at ∙ sym (ap is_ready was) ∙ ready_taken one two slot 1 second (ready_taken inside.rows one slot 0 first (subst (λ z. IsTrue (is_ready (row_at z.rows slot))) (sym same) task.ready));
+  there = λ r is.
+      let own : rows.with_cursor c taken ≡ r = same_Some (rows.with_cursor c taken) r (sym at ∙ is) in
+      subst (λ (z : EngineView). r.task.node < length z.table.nodes) (sym engine)
+      (subst (λ (x : TaskRow). x.task.node < length inside.engine.table.nodes) own (subst (λ (z : Evaluating). (row.0).task.node < length z.engine.table.nodes) (sym same) (task.there row.0 (subst (λ (z : Evaluating). row_at z.rows slot ≡ Some row.0) same row.1))));
+}
+  where
+    row : (r : TaskRow) × (row_at inside.rows slot ≡ Some r)
+    row = ready_is_there inside.rows slot (subst (λ z. IsTrue (is_ready (row_at z.rows slot))) (sym same) task.ready)
+
+    taken : TaskRow
+    taken = rows.taken 1 (rows.taken 0 row.0)
+
+    was : row_at two slot ≡ Some taken
+    was = changed_there one two slot (rows.taken 1) (rows.taken 0 row.0) second (changed_there inside.rows one slot (rows.taken 0) row.0 first row.1)
+
+    at : row_at new.rows slot ≡ Some (rows.with_cursor c taken)
+    at = changed_there two new.rows slot (rows.with_cursor c) taken moved was
+
+-- It looks on at less cost, and may step again.
 pub looked : (i : DemandIn) (now inside : Evaluating) (new one two : List (Option TaskRow)) (slot : ℕ) (seen : Bool) (cursor c : Cursor) → inside ≡ now
     → option_map (λ row. row.cursor) (row_at inside.rows slot) ≡ Some cursor → c ≡ looked_on cursor seen → rows.ChangesOnly inside.rows one slot (rows.taken 0)
     → rows.ChangesOnly one two slot (rows.taken 1) → rows.ChangesOnly two new slot (rows.with_cursor c) → MayAct i.demand now i.world slot (decision.Move seen)
-    → Stepped i.demand now (record { engine = inside.engine; rows = new }) i.world i.world (Ok None)
-looked i now inside new one two slot seen cursor c same stood next first second moved may =
-    subst (λ z. Stepped i.demand z (record { engine = inside.engine; rows = new }) i.world i.world (Ok None)) same (record {
-      owns = act.step.waits.going.owns;
-      goes_on = (down.waits, down.less);
-      answers = tt;
-      deep = λ z. absurd (cc);
-      too_large = tt;
-      failed = λ z. absurd (cc);
-    })
+    → IsReadyTask (record { engine = inside.engine; rows = new }) slot
+    → MayStep i.demand (record { engine = inside.engine; rows = new }) i.world slot × (cost i.demand (record { engine = inside.engine; rows = new }) < cost i.demand now)
+looked i now inside new one two slot seen cursor c same stood next first second moved may task = (
+  record { demand = act.step.demand; waits = down.waits; emptied = act.step.emptied; within = act.step.within; ready = task.ready },
+  subst (λ z. cost i.demand (record { engine = inside.engine; rows = new }) < cost i.demand z) same down.less,
+)
   where
     act : MayAct i.demand inside i.world slot (decision.Move seen)
     act = subst (λ z. MayAct i.demand z i.world slot (decision.Move seen)) (sym same) may
@@ -78,3 +102,14 @@ looked i now inside new one two slot seen cursor c same stood next first second 
     down : GoesDown i.demand inside.engine i.world inside.rows new
     down = moves_goes_down i.demand inside.engine i.world inside.rows new act.step.waits one two slot there.0 c seen there.1 ready (act.justified there.0 there.1)
         (next ∙ ap (λ z. looked_on z seen) its) first second moved
+
+-- What is noted then costs nothing.
+pub noted_on : (i : DemandIn) (old mid new : Evaluating) (slot : ℕ) → MayStep i.demand mid i.world slot → cost i.demand mid < cost i.demand old → Owns i.demand new.engine i.world
+    → new.engine ≡ record mid.engine { noted = new.engine.noted } → new.rows ≡ mid.rows → Stepped i.demand old new i.world i.world (Ok None)
+noted_on i old mid new slot step less owns only same =
+    goes_on_step i.demand old new i.world
+    (subst (λ (rs : List (Option TaskRow)). Waits i.demand new.engine i.world rs) (sym same) (subst (λ (z : EngineView). Waits i.demand z i.world mid.rows) (sym only) (record {
+      going = record { work = step.waits.going.work; owns = subst (λ z. Owns i.demand z i.world) only owns };
+      known = step.waits.known;
+    })))
+    (let free = noted_costs i.demand mid new new.engine.noted only same in omega (arith, free, less))

@@ -1,7 +1,6 @@
 //! Searches begin at the best noted position, and note where they end.
-ghost use Rattle.std.specs.Prelude.{◌≡◌, ℕ, ◌≤◌, None, IfSome, IfNone, IsTrue, is_some};
+ghost use Rattle.std.specs.Prelude.{◌≡◌, ℕ, ◌<◌, ◌≤◌, None, IfSome, IfNone, is_some};
 ghost use Rattle.lucid_search.specs.Noted.{number_at, IsBest, NotesOrMisses};
-ghost use Rattle.lucid_tasks.specs.Rows.{row_at, is_ready};
 ghost use Rattle.lucid_facts.specs.Going.{Owns};
 ghost use Rattle.lucid_demand.specs.Evaluating.{MayStep, gave, Stepped as Steps, cost};
 ghost use Rattle.lucid_demand.specs.Acting.{DemandIn, MayAct, IsReadyTask};
@@ -145,9 +144,43 @@ impl<R: Retire, S: Pick> Evaluation<R, S> {
     // The next time of a search, after a truth at this one.
     #[inline(never)]
     pub(crate) fn look_on(&mut self, slot: usize, seen: bool) -> Stepped
-        requires ready { IsTrue (is_ready (row_at self.old.rows slot)) }
+        requires ready { IsReadyTask self.old slot }
         requires on { CanLookOn self.old.rows slot }
         ensures { (i : DemandIn) → MayAct i.demand self.old i.world slot (decision.Move seen) → Steps i.demand self.old self.new i.world i.world (gave result None) }
+    {
+        self.move_cursor(slot, seen);
+        self.note_on_the_way(slot, seen);
+        Ok(())
+    }
+
+    // Notes where a search stands that has a power of two left to pass. So of searches that are asked for at falling times each begins near
+    // its end, and few positions are noted.
+    #[inline(always)]
+    fn note_on_the_way(&mut self, slot: usize, seen: bool)
+        requires { IsReadyTask self.old slot }
+        ensures owns { (i : DemandIn) → MayStep i.demand self.old i.world slot → Owns i.demand self.new.engine i.world }
+        ensures only { self.new.engine ≡ record self.old.engine { noted = self.new.engine.noted } }
+        ensures rows { self.new.rows ≡ self.old.rows }
+    {
+        let task = self.tasks.task(slot);
+        let cursor = self.tasks.cursor(slot);
+        let left = match self.program.node(task.node) {
+            Node::Whenever { .. } if seen => task.time.saturating_sub(cursor.count),
+            Node::Upon { .. } => task.time.saturating_sub(cursor.time),
+            _ => 0,
+        };
+        if left.is_power_of_two() {
+            self.note_here(slot);
+        }
+    }
+
+    // The cursor goes on by one time, and the parts that were looked at are emptied.
+    #[inline(always)]
+    fn move_cursor(&mut self, slot: usize, seen: bool)
+        requires ready { IsReadyTask self.old slot }
+        requires on { CanLookOn self.old.rows slot }
+        ensures task { IsReadyTask self.new slot }
+        ensures steps { (i : DemandIn) → MayAct i.demand self.old i.world slot (decision.Move seen) → MayStep i.demand self.new i.world slot × (cost i.demand self.new < cost i.demand self.old) }
     {
         // The cursor's time is below the task's limit, and so below 2^32.
         let _ = self.tasks.task(slot);
@@ -162,6 +195,5 @@ impl<R: Retire, S: Pick> Evaluation<R, S> {
                 count,
             },
         );
-        Ok(())
     }
 }

@@ -36,7 +36,7 @@ fn each_alike<A: Abort + AllocGlobal>(rt: &A, rows: &[Row]) -> Result<(), Fail> 
     Ok(())
 }
 
-static OVER_TIME: [Row; 19] = [
+static OVER_TIME: [Row; 21] = [
     ("1", &["1", "1", "1"], 0),
     (
         "x where x = 0 fby x + 1; end",
@@ -65,6 +65,18 @@ static OVER_TIME: [Row; 19] = [
         "x attime 3 - x where x = 0 fby x + 1; end",
         &["3", "2", "1", "0", "error", "error"],
         6,
+    ),
+    // searches at falling times: x at 0 to 18
+    (
+        "(x whenever x mod 3 eq 0) attime 6 - x where x = 0 fby x + 1; end",
+        &["18", "15", "12", "9", "6", "3", "0"],
+        19,
+    ),
+    // x at 0 to 6, and p at 0 to 5
+    (
+        "(x upon p) attime 6 - x where x = 0 fby x + 1; p = true fby false fby p; end",
+        &["3", "3", "2", "2", "1", "1", "0"],
+        13,
     ),
     // k at 0 to 4, and at each outer time t one n, and i and f at 0 to t
     (

@@ -119,3 +119,6 @@ pub returns-in-Refuse-clause-steps : goal.returns-in-Refuse-clause-steps
 returns-in-Refuse-clause-steps g c = λ d act.
     let w = g.P.Places.world c.args.places.now in
     refuses d c.args.self.now w c.args.slot (decided_so d c.args.self.now w c.args.slot c.in-Refuse.is act)
+
+pub look_on-requires-clause-ready : goal.look_on-requires-clause-ready
+look_on-requires-clause-ready g c = ready_task c.requires.may.0 c.args.self.now (g.P.Places.world c.args.places.now) c.args.slot c.requires.may.1.step

@@ -1,7 +1,7 @@
-use Rattle.lucid_demand.proofs.LookingOn.{looked, next_cursor}
+use Rattle.lucid_demand.proofs.LookingOn.{noted_on}
 use Rattle.lucid_demand.proofs.evaluation.Evaluation.look_on.Goals as goal
 
 pub returns : goal.returns
 returns g c = λ i act.
-    looked i c.args.self.now _ c.set_cursor.new.self c.take.new.self c.take-2.new.self c.args.slot c.args.seen c.cursor-cursor.result _ c.self.view_is c.cursor-cursor.ensures
-    (next_cursor c.cursor-cursor.result c.args.seen c.from.result c.from.ensures) c.take.ensures.rows c.take-2.ensures.rows c.set_cursor.ensures act
+    let on = c.move_cursor.ensures.steps i act in
+    noted_on i c.args.self.now c.move_cursor.new.self c.note_on_the_way.new.self c.args.slot on.0 on.1 (c.note_on_the_way.ensures.owns i on.0) c.note_on_the_way.ensures.only c.note_on_the_way.ensures.rows
