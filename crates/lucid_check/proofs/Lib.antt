@@ -1,0 +1,6 @@
+pub mod Using
+pub mod Feeding
+pub mod Drawing
+pub mod Judging
+pub mod Following
+pub mod Going

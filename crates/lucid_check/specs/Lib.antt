@@ -1,0 +1,5 @@
+pub mod Uses
+pub mod Checks
+pub mod Faults
+pub mod Reads
+pub mod Checked
