@@ -1,202 +1,238 @@
--- What asking for a part by a reference does, by what each call leaves.
-use Rattle.std.proofs.Common.{◌≡◌, ℕ, suc, ◌<◌, ◌⊎◌, List, Option, Some, None, sym, ap, ◌∙◌, subst, arith}
-use Rattle.std.specs.Prelude.{IsSome, Result, Ok, OnOk, IfSome, ⊤, length, option_map}
-use Rattle.std.specs.Result.{IsErrAnd}
+-- Asking for a reference: what it gives, by what each call leaves.
+use Rattle.std.proofs.Common.{◌≡◌, ℕ, suc, ◌<◌, ◌⊎◌, inl, inr, List, [], ◌∷◌, Option, Some, None, sym, ap, ◌∙◌, subst}
+use Rattle.std.specs.Prelude.{IsTrue, IfOk, IfSome, Result, Ok, Err, length, option_map}
 use Rattle.lucid_value.specs.declared.Value.{Value}
 use Rattle.lucid_value.specs.View.{plain}
 use Rattle.lucid_tree.specs.Members.{In}
+use Rattle.lucid_tree.specs.Levels.{Elements, nowhere}
 use Rattle.lucid_tags.specs.Contexts.{Context}
-use Rattle.lucid_tags.specs.Known.{KeepsKnown, space_of}
+use Rattle.lucid_tags.specs.declared.Key.{Key}
+use Rattle.lucid_tags.specs.Known.{IsKnown, KeepsKnown, space_of}
 use Rattle.lucid_tasks.specs.declared.Part.{Part}
 use Rattle.lucid_tasks.specs.declared.Task.{Task}
 use Rattle.lucid_tasks.specs.Rows as rows
-use Rattle.lucid_tasks.specs.Rows.{TaskRow, Asked, Got, row_at}
+use Rattle.lucid_tasks.specs.Rows.{TaskRow}
 use Rattle.lucid_store.specs.Entries.{value_at, IsTouched}
-use Rattle.lucid_facts.specs.Tasks.{DatonAt, plain_task, plain_key}
-use Rattle.lucid_facts.specs.Parts.{node_of, aim_of_task, IsReference}
-use Rattle.lucid_facts.specs.Engine.{EngineView, holding}
-use Rattle.lucid_facts.specs.Demands.{table_of}
-use Rattle.lucid_facts.specs.Going.{Owns, Waits}
-use Rattle.lucid_facts.proofs.Seeing.{task_as_tags_grow}
-use Rattle.lucid_facts.proofs.Acting.{cost_of, cost_as_tags_grow}
+use Rattle.lucid_equations.specs.declared.table.Table.{Table}
+use Rattle.lucid_facts.specs.Tasks.{PlainTask, DatonAt, plain_task, plain_key}
+use Rattle.lucid_facts.specs.Parts.{node_of, rank, moved, aim_of_task, IsReference, RefersTo, GoesTo, passed, passed_contexts}
+use Rattle.lucid_facts.specs.Stands.{StandsFor}
+use Rattle.lucid_facts.specs.Engine.{EngineView, holding, MayHave}
+use Rattle.lucid_facts.specs.Demands.{table_of, stays, IsEntered, Answers}
+use Rattle.lucid_facts.specs.Rows.{IsWanted, Remembers}
+use Rattle.lucid_facts.specs.Decisions.{leads_nowhere, too_deep_for}
+use Rattle.lucid_facts.proofs.Seeing.{task_as_tags_grow, key_as_tags_grow}
+use Rattle.lucid_facts.proofs.Standing.{standing-is_seen}
+use Rattle.lucid_facts.proofs.References.{references-stand}
+use Rattle.lucid_facts.proofs.Answering.{held-answers}
+use Rattle.lucid_facts.proofs.NewRows.{StandsBelow, body-stands, body-is_wanted, body-remembers}
 use Rattle.lucid_demand.specs.Evaluating.{Evaluating, cost}
 use Rattle.lucid_demand.specs.Acting.{DemandIn}
 use Rattle.lucid_demand.specs.Aims.{plain_aim, IsAim}
-use Rattle.lucid_demand.specs.Asking.{Enters, SetsPart, HoldsNothing, AsksIn, MayAskAs, FindsAim, GoesOnWith, MayFollow}
+use Rattle.lucid_demand.specs.Asking.{Enters, SetsPart, MayAskFor, MayRefer, AsksIn, FindsAim}
+use Rattle.lucid_demand.specs.Turning.{IsTurned}
 use Rattle.lucid_demand.specs.declared.aim.Aim.{Aim}
-use Rattle.lucid_demand.proofs.AskedParts.{no_ok, sets_asked}
-use Rattle.lucid_demand.proofs.ReferredRows.{at_ok}
-use Rattle.lucid_demand.proofs.SettledRows.{changed_row}
-use Rattle.lucid_demand.proofs.TouchedKeys.{found_is_held_then}
-use Rattle.lucid_demand.proofs.ReferencedParts.{may_ask_grown, may_ask_touched, row_is_asked, part_is_held, row_may_follow}
+use Rattle.lucid_demand.specs.declared.fault.DemandFault.{DemandFault}
+use Rattle.lucid_demand.specs.declared.fault.DemandFault.TheVariants.{TooDeep, NoMemory}
+use Rattle.lucid_demand.proofs.FoundAims.{body_task, aim_refers, aim_goes, refers_to_one, refers_nowhere}
+use Rattle.lucid_demand.proofs.TouchedKeys.{found_is_held, absent_is_no_stay}
+use Rattle.lucid_demand.proofs.GrownTags.{way_is_entered}
+use Rattle.lucid_demand.proofs.AskedParts.{EntersWay, may_ask_grown, may_ask_entered, may_ask_touched, costs_grown, asked_given, asked_row, asked_refused, asked_too_deep, asked_turned, only_set, given_sets, asked_sets}
 
--- What asking does, from what costs as much, where the part may be asked for.
-module _ (i : DemandIn) (old now : Evaluating) (part : Part) (x : Task) (may : MayAskAs i.demand now i.world part x) (same : cost i.demand now ≡ cost i.demand old) where
-  -- It is refused.
-  pub refused_there : {A E : Type 0} (new : Evaluating) → new.engine ≡ now.engine → (result : Result A E) (Q : E → Type 0) → IsErrAnd result Q → AsksIn i.demand old new i.world result
-  refused_there new engine result Q err = record {
-    owns = subst (λ z. Owns i.demand z i.world) (sym engine) may.waits.going.owns;
-    goes_on = no_ok result Q _ err;
-    nothing = no_ok result Q _ err;
-  }
+-- what is so of what a call gives, where it gave that
+at_ok : {A E : Type 0} (r : Result A E) (P : A → Type 0) (a : A) → r ≡ Ok a → IfOk r P → P a
+at_ok r P a is h = subst (λ z. IfOk z P) is h
 
-  -- The rows wait on at less cost.
-  pub goes_on_there : {A E : Type 0} (new : Evaluating) (a : A) → new.engine ≡ now.engine
-      → Waits i.demand now.engine i.world new.rows × (cost_of i.demand now.engine.known new.rows < cost i.demand now) → AsksIn {A = A} {E = E} i.demand old new i.world (Ok a)
-  goes_on_there new a engine went = record {
-    owns = subst (λ z. Owns i.demand z i.world) (sym engine) went.0.going.owns;
-    goes_on = (
-      subst (λ z. Waits i.demand z i.world new.rows) (sym engine) went.0,
-      subst (λ n. cost i.demand new < n) same (subst (λ (z : EngineView). cost_of i.demand z.known new.rows < cost i.demand now) (sym engine) went.1),
-    );
-    nothing = λ h. subst (λ z. HoldsNothing i.demand z) (sym engine) may.nothing;
-  }
+-- What a look-up leaves, and what was found.
+pub record LooksUp (mid looked : Evaluating) (key : Key) (found : Option Value) : Type 0 where
+  pub value : found ≡ value_at mid.engine.stored key
+  pub touched : IsTouched mid.engine.stored looked.engine.stored key
+  pub only : looked ≡ record mid { engine = record mid.engine { stored = looked.engine.stored } }
 
--- A reference whose aim was looked for.
-module _ {F : Type 0} (old mid : Evaluating) (part : Part) (x : Task) (result : Result (Option Aim) F) (finds : FindsAim old mid x result)
-    (i : DemandIn) (may : MayAskAs i.demand old i.world part x) where
-  same_table : old.engine.table ≡ table_of i.demand
-  same_table = may.waits.going.owns.since.goes_on.table
+-- the same, seen so
+pub seen_so : (mid o looked : Evaluating) (key : Key) (found : Option Value) → o ≡ looked → LooksUp mid looked key found → LooksUp mid o key found
+seen_so mid o looked key found view l = subst (λ z. LooksUp mid z key found) (sym view) l
 
-  may_mid : MayAskAs i.demand mid i.world part x
-  may_mid = subst (λ z. MayAskAs i.demand z i.world part x) (sym finds.only)
-      (may_ask_grown i.demand old i.world part x may mid.engine.known finds.keeps (finds.one_for_one may.waits.going.owns.contexts)
-      (subst (λ T. (c : Context) → In c mid.engine.known → In c old.engine.known ⊎ Enters T (plain_task old.engine.known x) c) same_table finds.entered))
+module _ {F : Type 0} (old mid : Evaluating) (part : Option Part) (x : Task) (result : Result (Option Aim) F) (finds : FindsAim old mid x result)
+    (reference : IsReference (node_of old.engine.table (plain_task old.engine.known x))) (i : DemandIn) (may : MayRefer i.demand old i.world part x) where
+  abbrev T : Table
+  T = table_of i.demand
+
+  abbrev n : ℕ
+  n = rank T (plain_task old.engine.known x)
+
+  same_table : old.engine.table ≡ T
+  same_table = may.owns.since.goes_on.table
+
+  may_mid : MayAskFor i.demand mid i.world part x n
+  may_mid = subst (λ z. MayAskFor i.demand z i.world part x n) (sym finds.only)
+      (may_ask_entered i.demand old i.world part x n may mid.engine.known finds.keeps (finds.one_for_one may.owns.contexts)
+      (subst (λ z. (c : Context) → In c mid.engine.known → In c old.engine.known ⊎ Enters z (plain_task old.engine.known x) c) same_table finds.entered))
 
   same_cost : cost i.demand mid ≡ cost i.demand old
-  same_cost = ap (cost i.demand) finds.only ∙ cost_as_tags_grow i.demand old.engine.known mid.engine.known old.rows finds.keeps may.waits.known
+  same_cost = ap (cost i.demand) finds.only ∙ costs_grown i.demand old i.world part x n may mid.engine.known finds.keeps
 
-  same_task : plain_task mid.engine.known x ≡ plain_task old.engine.known x
-  same_task = task_as_tags_grow old.engine.known mid.engine.known x finds.keeps may.tag
+  is_reference : IsReference (node_of T (plain_task old.engine.known x))
+  is_reference = subst (λ z. IsReference (node_of z (plain_task old.engine.known x))) same_table reference
 
-  -- No memory for its context, or, where it leads nowhere, for its row;
-  pub aim_refused : {A E : Type 0} (new : Evaluating) → new.engine ≡ mid.engine → (res : Result A E) (Q : E → Type 0) → IsErrAnd res Q → AsksIn i.demand old new i.world res
-  aim_refused = refused_there i old mid part x may_mid same_cost
+  aim_of : (o : Option Aim) → result ≡ Ok o → plain_aim T mid.engine.known o ≡ aim_of_task T (plain_task mid.engine.known x)
+  aim_of o is = subst (λ z. plain_aim z mid.engine.known o ≡ aim_of_task z (plain_task mid.engine.known x)) same_table
+      (at_ok result (λ a. plain_aim old.engine.table mid.engine.known a ≡ aim_of_task old.engine.table (plain_task old.engine.known x)) o is (finds.aim reference)
+      ∙ ap (aim_of_task old.engine.table) (sym (task_as_tags_grow old.engine.known mid.engine.known x finds.keeps may.tag)))
 
-  -- where it leads nowhere, a row is asked for it, to be refused in its turn.
-  pub aim_asked : {A E : Type 0} (new : Evaluating) (b : A) → new.engine ≡ mid.engine → (slot : ℕ) → rows.IsPast mid.rows slot → rows.Asks mid.rows new.rows part slot x
-      → AsksIn {A = A} {E = E} i.demand old new i.world (Ok b)
-  aim_asked new b engine slot past changes = goes_on_there i old mid part x may_mid same_cost new b engine (row_is_asked i.demand mid i.world part x may_mid new.rows slot past changes)
+  -- There was no memory for its context.
+  pub aim_refused : (res : Result (Option Value) DemandFault) → res ≡ Err NoMemory → AsksIn i.demand old mid i.world part res
+  aim_refused res is = subst (λ r. AsksIn i.demand old mid i.world part r) (sym is) (asked_refused i.demand old mid i.world part x n may_mid same_cost mid.rows)
+
+  -- It leads nowhere.
+  pub nowhere_refused : result ≡ Ok None → AsksIn i.demand old mid i.world part (Err TooDeep)
+  nowhere_refused is =
+      let none : aim_of_task T (plain_task mid.engine.known x) ≡ nowhere = sym (aim_of None is) in
+      asked_too_deep i.demand old mid i.world part x n may_mid same_cost (leads_nowhere is_reference none) (λ k r. absurd (refers_nowhere T (plain_task mid.engine.known x) k none r))
 
   -- It leads to a daton, whose key was looked up.
-  module _ (a : Aim) (is : result ≡ Ok (Some a)) (looked : Evaluating) (found : Option Value) (value : found ≡ value_at mid.engine.stored a.key)
-      (touched : IsTouched mid.engine.stored looked.engine.stored a.key) (only : looked ≡ record mid { engine = record mid.engine { stored = looked.engine.stored } })
-      (reference : IsReference (node_of old.engine.table (plain_task old.engine.known x))) where
-    may_looked : MayAskAs i.demand looked i.world part x
-    may_looked = subst (λ z. MayAskAs i.demand z i.world part x) (sym only) (may_ask_touched i.demand mid i.world part x may_mid looked.engine.stored a.key touched)
+  module _ (a : Aim) (is : result ≡ Ok (Some a)) (looked : Evaluating) (found : Option Value) (looks : LooksUp mid looked a.key found) where
+    may_looked : MayAskFor i.demand looked i.world part x n
+    may_looked = subst (λ z. MayAskFor i.demand z i.world part x n) (sym looks.only) (may_ask_touched i.demand mid i.world part x n may_mid looked.engine.stored a.key looks.touched)
 
     same_cost_looked : cost i.demand looked ≡ cost i.demand old
-    same_cost_looked = ap (cost i.demand) only ∙ same_cost
+    same_cost_looked = ap (cost i.demand) looks.only ∙ same_cost
 
     same_known : looked.engine.known ≡ mid.engine.known
-    same_known = ap (λ (e : Evaluating). e.engine.known) only
+    same_known = ap (λ (e : Evaluating). e.engine.known) looks.only
 
-    aim_is : plain_aim (table_of i.demand) looked.engine.known (Some a) ≡ aim_of_task (table_of i.demand) (plain_task looked.engine.known x)
-    aim_is = subst (λ k. plain_aim (table_of i.demand) k (Some a) ≡ aim_of_task (table_of i.demand) (plain_task k x)) (sym same_known)
-        (subst (λ T. plain_aim T mid.engine.known (Some a) ≡ aim_of_task T (plain_task mid.engine.known x)) same_table
-        (at_ok result (λ o. plain_aim old.engine.table mid.engine.known o ≡ aim_of_task old.engine.table (plain_task old.engine.known x)) (Some a) is (finds.aim reference)
-        ∙ ap (aim_of_task old.engine.table) (sym same_task)))
-
-    aim_there : IsAim (table_of i.demand) looked.engine.known (space_of x.tag) a
-    aim_there = subst (λ k. IsAim (table_of i.demand) k (space_of x.tag) a) (sym same_known)
-        (subst (λ T. IsAim T mid.engine.known (space_of x.tag) a) same_table (at_ok result (λ o. IfSome o (IsAim old.engine.table mid.engine.known (space_of x.tag))) (Some a) is finds.there))
-
-    is_reference : IsReference (node_of (table_of i.demand) (plain_task looked.engine.known x))
-    is_reference = subst (λ T. IsReference (node_of T (plain_task looked.engine.known x))) same_table reference
+    abbrev its : PlainTask
+    its = plain_task looked.engine.known x
 
     abbrev daton : DatonAt
     daton = plain_key looked.engine.known a.key
 
+    aim_is : plain_aim T looked.engine.known (Some a) ≡ aim_of_task T its
+    aim_is = subst (λ k. plain_aim T k (Some a) ≡ aim_of_task T (plain_task k x)) (sym same_known) (aim_of (Some a) is)
+
+    aim_there : IsAim T looked.engine.known (space_of x.tag) a
+    aim_there = subst (λ k. IsAim T k (space_of x.tag) a) (sym same_known)
+        (subst (λ z. IsAim z mid.engine.known (space_of x.tag) a) same_table (at_ok result (λ o. IfSome o (IsAim old.engine.table mid.engine.known (space_of x.tag))) (Some a) is finds.there))
+
+    refers : RefersTo T its daton
+    refers = aim_refers T looked.engine.known its a aim_is aim_there
+
     -- what was found is held
     held_is : holding looked.engine daton.0 daton.1 ≡ option_map plain found
-    held_is = subst (λ (z : Evaluating). holding z.engine (plain_key z.engine.known a.key).0 (plain_key z.engine.known a.key).1 ≡ option_map plain found) (sym only)
-        (found_is_held_then i.demand mid.engine i.world mid.rows looked.engine.stored a.key may_mid.waits touched found
-        (subst (λ (k : List Context). a.key.tag.number < length k) same_known aim_there.key_known) value)
+    held_is = subst (λ (z : Evaluating). holding z.engine (plain_key z.engine.known a.key).0 (plain_key z.engine.known a.key).1 ≡ option_map plain found) (sym looks.only)
+        (found_is_held i.demand mid.engine i.world looked.engine.stored a.key may_mid.owns looks.touched found
+        (subst (λ (k : List Context). a.key.tag.number < length k) same_known aim_there.key_known) looks.value)
 
-    -- No memory for a copy of what is held, or for a row;
-    pub look_refused : {A E : Type 0} (new : Evaluating) → new.engine ≡ looked.engine → (res : Result A E) (Q : E → Type 0) → IsErrAnd res Q → AsksIn i.demand old new i.world res
-    look_refused = refused_there i old looked part x may_looked same_cost_looked
+    -- There was no memory for a copy of what is held.
+    pub look_refused : (res : Result (Option Value) DemandFault) → res ≡ Err NoMemory → AsksIn i.demand old looked i.world part res
+    look_refused res is_so = subst (λ r. AsksIn i.demand old looked i.world part r) (sym is_so) (asked_refused i.demand old looked i.world part x n may_looked same_cost_looked looked.rows)
 
-    -- the part has what is held;
-    pub look_given : {A E : Type 0} (new : Evaluating) (b : A) → new.engine ≡ looked.engine → (v : Value) → found ≡ Some v
-        → rows.ChangesOnly looked.rows new.rows part.slot (rows.with_part part.index (Got v)) → AsksIn {A = A} {E = E} i.demand old new i.world (Ok b)
-    look_given new b engine v has changes =
-        goes_on_there i old looked part x may_looked same_cost_looked new b engine
-        (part_is_held i.demand looked i.world part x may_looked a aim_is aim_there v (held_is ∙ ap (option_map plain) has) new.rows changes)
+    -- What is held is given, and the policy has its turn.
+    pub look_given : (v : Value) → found ≡ Some v → (rs : List (Option TaskRow)) → rows.Gives looked.rows rs part v → (new : Evaluating) → IsTurned looked.engine new.engine → new.rows ≡ rs
+        → (o : Option Value) → o ≡ rows.returned part v → AsksIn i.demand old new i.world part (Ok o)
+    look_given v has rs gives new turned same o told = subst (λ r. AsksIn i.demand old new i.world part (Ok r)) (sym told)
+        (asked_turned i.demand old (record { engine = looked.engine; rows = rs }) new i.world part (rows.returned part v)
+        (asked_given i.demand old looked i.world part x n may_looked same_cost_looked rs v answers gives) turned same)
+      where
+        held : holding looked.engine daton.0 daton.1 ≡ Some (plain v)
+        held = held_is ∙ ap (option_map plain) has
 
-    -- or a row is asked for the reference,
-    module _ (asked : Evaluating) (engine : asked.engine ≡ looked.engine) (slot : ℕ) (past : rows.IsPast looked.rows slot) (changes : rows.Asks looked.rows asked.rows part slot x) where
-      pub look_asked : {A E : Type 0} (b : A) → AsksIn {A = A} {E = E} i.demand old asked i.world (Ok b)
-      look_asked b = goes_on_there i old looked part x may_looked same_cost_looked asked b engine (row_is_asked i.demand looked i.world part x may_looked asked.rows slot past changes)
+        -- nothing is held under a policy that empties
+        not_emptied : IsTrue i.demand.first.empties → ⊥
+        not_emptied empties = let both : None ≡ Some (plain v) = sym (may_looked.nothing empties daton.0 daton.1) ∙ held in absurd (cc)
 
-      -- which goes on with its body.
-      module _ (none : found ≡ None) (depth : ℕ) (limit : x.depth ≡ suc depth) {G : Type 0} (new : Evaluating) (followed : Result ⊤ G)
-          (follows : (j : DemandIn) → MayFollow j.demand asked j.world slot a depth → AsksIn j.demand asked new j.world followed) where
-        its : AsksIn i.demand asked new i.world followed
-        its = follows i (subst (λ z. MayFollow i.demand (record { engine = z; rows = asked.rows }) i.world slot a depth) (sym engine)
-            (row_may_follow i.demand looked i.world part x may_looked a aim_is aim_there is_reference (held_is ∙ ap (option_map plain) none) asked.rows slot past changes depth limit))
+        answers : (b : Elements) → MayHave looked.engine b → Answers i.demand b (holding looked.engine) looked.engine.stored.lost its (plain v)
+        answers b z =
+            let stock = may_looked.owns.stock.stock b z in
+            held-answers i.demand b (holding looked.engine) looked.engine.stored.lost its daton (plain v) refers held not_emptied stock.right stock.closed
 
-        pub follow_lost : {A E : Type 0} (res : Result A E) (Q : E → Type 0) → IsErrAnd res Q → AsksIn i.demand old new i.world res
-        follow_lost res Q err = record { owns = its.owns; goes_on = no_ok res Q _ err; nothing = no_ok res Q _ err }
+    -- Nothing was found.
+    module _ (none : found ≡ None) where
+      no_stay : stays i.demand daton.0 daton.1 ≡ None
+      no_stay = absent_is_no_stay i.demand looked.engine i.world daton may_looked.owns (held_is ∙ ap (option_map plain) none)
 
-        pub follow_went : {A E : Type 0} (b : A) (u : ⊤) → followed ≡ Ok u → AsksIn {A = A} {E = E} i.demand old new i.world (Ok b)
-        follow_went {A = A} {E = E} b u ok =
-            let first : AsksIn {A = A} {E = E} i.demand old asked i.world (Ok b) = look_asked b in
-            let went : Waits i.demand new.engine i.world new.rows × (cost i.demand new < cost i.demand asked) =
-            subst (λ z. OnOk z (Waits i.demand new.engine i.world new.rows × (cost i.demand new < cost i.demand asked))) ok its.goes_on in
-            record {
-              owns = its.owns;
-              goes_on = (went.0, let l = went.1 in let r = first.goes_on.1 in omega (arith, l, r));
-              nothing = λ h. subst (λ z. OnOk z (HoldsNothing i.demand asked.engine → HoldsNothing i.demand new.engine)) ok its.nothing (first.nothing h);
-            }
+      -- It would look one reference too deep.
+      pub look_too_deep : x.depth ≡ 0 → AsksIn i.demand old looked i.world part (Err TooDeep)
+      look_too_deep zero = asked_too_deep i.demand old looked i.world part x n may_looked same_cost_looked (too_deep_for refers zero)
+          (λ k r. subst (λ z. stays i.demand z.0 z.1 ≡ None) (refers_to_one T its daton k refers r) no_stay)
 
--- What it does to the row, whoever asks, once its aim was looked for and the aim's key.
-module _ {F : Type 0} (old mid looked : Evaluating) (part : Part) (there : IsSome (row_at old.rows part.slot)) (x : Task) (result : Result (Option Aim) F) (finds : FindsAim old mid x result)
-    (only : looked ≡ record mid { engine = record mid.engine { stored = looked.engine.stored } }) where
+      -- Its body moves on.
+      module _ (depth : ℕ) (limit : x.depth ≡ suc depth) (body : Task) (is_body : body ≡ body_task a depth) (known : List Context) (way : EntersWay looked.engine.table looked.engine.known known body) where
+        goes : GoesTo T its daton (plain_task looked.engine.known body)
+        goes = subst (λ z. GoesTo T its daton (plain_task looked.engine.known z)) (sym is_body) (aim_goes T looked.engine.known its a aim_is aim_there depth limit)
+
+        body_tag : IsKnown looked.engine.known body.tag
+        body_tag = subst (λ (z : Task). IsKnown looked.engine.known z.tag) (sym is_body) aim_there.known_tag
+
+        abbrev later : Evaluating
+        later = record { engine = record looked.engine { known = known }; rows = looked.rows }
+
+        entered : (b : Elements) → MayHave looked.engine b → (c : Context) → In c known → In c looked.engine.known ⊎ IsEntered i.demand b c
+        entered b z c k = elim (way.entered c k) [
+          | inl o ↦ inl o
+          | inr j ↦ way_is_entered i.demand b looked.engine.known body c may_looked.demand.in_range body_tag
+              (standing-is_seen i.demand b (daton ∷ []) (plain_task looked.engine.known body) its (references-stand T its (plain_task looked.engine.known body) daton goes) ((may_looked.wanted b z).seen))
+              (suc body.node) (subst (λ t. In c (passed_contexts t (suc body.node) (plain_task looked.engine.known body))) may_looked.owns.since.goes_on.table j)
+        ]
+
+        may_later : MayAskFor i.demand later i.world part x n
+        may_later = may_ask_grown i.demand looked i.world part x n may_looked known way.keeps (way.contexts may_looked.owns.contexts) entered
+
+        same_cost_later : cost i.demand later ≡ cost i.demand old
+        same_cost_later = costs_grown i.demand looked i.world part x n may_looked known way.keeps ∙ same_cost_looked
+
+        -- There was no memory for a context on its way, or for a row.
+        pub body_refused : (rs : List (Option TaskRow)) (res : Result (Option Value) DemandFault) → res ≡ Err NoMemory
+            → AsksIn i.demand old (record { engine = record looked.engine { known = known }; rows = rs }) i.world part res
+        body_refused rs res is_so = subst (λ r. AsksIn i.demand old (record { engine = record looked.engine { known = known }; rows = rs }) i.world part r) (sym is_so)
+            (asked_refused i.demand old later i.world part x n may_later same_cost_later rs)
+
+        -- It has a row, which remembers the daton.
+        pub body_asked : (rs : List (Option TaskRow)) (slot : ℕ) (y : Task) → plain_task known y ≡ passed looked.engine.table (plain_task looked.engine.known body) → IsKnown known y.tag
+            → rows.IsPast looked.rows slot → rows.Asks looked.rows rs part slot y (Some a.key) → (o : Option Value) → o ≡ None
+            → AsksIn i.demand old (record { engine = record looked.engine { known = known }; rows = rs }) i.world part (Ok o)
+        body_asked rs slot y ends tag past asks o stays = subst (λ r. AsksIn i.demand old (record { engine = record looked.engine { known = known }; rows = rs }) i.world part (Ok r)) (sym stays)
+            (asked_row i.demand old later i.world part x n may_later same_cost_later rs slot y (Some a.key)
+            (by_plain (λ k z t. StandsFor T (k ∷ []) t z) below.stands) (ap (moved T) last ∙ below.still) (by_plain (λ k z t. rank T t < n) below.lower) tag (way.keeps.known a.key.tag aim_there.key_known)
+            (λ b z. by_plain (λ k q t. IsWanted i.demand b t) (body-is_wanted i.demand b its (passed T (plain_task looked.engine.known body)) daton below no_stay (may_looked.wanted b z)))
+            (λ b z k e. subst (λ q. Remembers i.demand b (plain_task known y) q) (let same : plain_key known a.key ≡ k = cc in same)
+            (by_plain (λ q u t. Remembers i.demand b t q) (body-remembers i.demand may_looked.demand.in_range b its (plain_task looked.engine.known body) daton ((may_looked.wanted b z).seen) goes no_stay))) past asks)
+          where
+            last : plain_task known y ≡ passed T (plain_task looked.engine.known body)
+            last = subst (λ t. plain_task known y ≡ passed t (plain_task looked.engine.known body)) may_looked.owns.since.goes_on.table ends
+
+            below : StandsBelow T its (passed T (plain_task looked.engine.known body)) daton
+            below = body-stands T may_looked.demand.in_range its (plain_task looked.engine.known body) daton goes
+
+            -- the key, the reference and the last task are seen as before
+            by_plain : (P : DatonAt → PlainTask → PlainTask → Type 0) → P daton its (passed T (plain_task looked.engine.known body)) → P (plain_key known a.key) (plain_task known x) (plain_task known y)
+            by_plain P p =
+                subst (λ t. P (plain_key known a.key) (plain_task known x) t) (sym last)
+                (subst (λ z. P (plain_key known a.key) z (passed T (plain_task looked.engine.known body))) (sym (task_as_tags_grow looked.engine.known known x way.keeps may_looked.tag))
+                (subst (λ k. P k its (passed T (plain_task looked.engine.known body))) (sym (key_as_tags_grow looked.engine.known known a.key way.keeps aim_there.key_known)) p))
+
+-- What it does to the row of a part, whoever asks.
+module _ {F : Type 0} (old mid looked : Evaluating) (x : Task) (result : Result (Option Aim) F) (finds : FindsAim old mid x result) (key : Key) (found : Option Value) (looks : LooksUp mid looked key found) where
+  engine_is : looked.engine ≡ record old.engine { known = mid.engine.known; stored = looked.engine.stored }
+  engine_is = ap (λ (e : Evaluating). e.engine) looks.only ∙ ap (λ (e : Evaluating). record e.engine { stored = looked.engine.stored }) finds.only
+
   same_rows : looked.rows ≡ old.rows
-  same_rows = ap (λ (e : Evaluating). e.rows) only ∙ ap (λ (e : Evaluating). e.rows) finds.only
+  same_rows = ap (λ (e : Evaluating). e.rows) looks.only ∙ ap (λ (e : Evaluating). e.rows) finds.only
 
-  keeps_looked : KeepsKnown old.engine.known looked.engine.known
-  keeps_looked = subst (λ (z : Evaluating). KeepsKnown old.engine.known z.engine.known) (sym only) finds.keeps
+  keeps_known : KeepsKnown old.engine.known looked.engine.known
+  keeps_known = subst (λ (e : EngineView). KeepsKnown old.engine.known e.known) (sym engine_is) finds.keeps
 
-  only_looked : looked.engine ≡ record old.engine { known = looked.engine.known; stored = looked.engine.stored }
-  only_looked = ap (λ (e : Evaluating). e.engine) only ∙ ap (λ (e : Evaluating). record e.engine { stored = looked.engine.stored }) finds.only
-      ∙ ap (λ k. record old.engine { known = k; stored = looked.engine.stored }) (sym (ap (λ (e : Evaluating). e.engine.known) only))
+  -- It has what is held, and the policy had its turn;
+  pub held_sets : (part : Option Part) (v : Value) (rs : List (Option TaskRow)) → rows.Gives looked.rows rs part v → (new : Evaluating) → IsTurned looked.engine new.engine → new.rows ≡ rs → IfSome part (SetsPart old new)
+  held_sets part v rs gives new t same =
+      given_sets old new looked.rows same_rows
+      (only_set new.engine old.engine mid.engine.known new.engine.stored new.engine.noted (t.only ∙ ap (λ (e : EngineView). record e { stored = new.engine.stored; noted = new.engine.noted }) engine_is))
+      (subst (λ (e : EngineView). KeepsKnown old.engine.known e.known) (sym t.only) keeps_known) part v (subst (λ r. rows.Gives looked.rows r part v) (sym same) gives)
 
-  only_then : (new : Evaluating) → new.engine ≡ looked.engine → new.engine ≡ record old.engine { known = new.engine.known; stored = new.engine.stored }
-  only_then new engine = engine ∙ subst (λ (z : EngineView). looked.engine ≡ record old.engine { known = z.known; stored = z.stored }) (sym engine) only_looked
-
-  keeps_then : (new : Evaluating) → new.engine ≡ looked.engine → KeepsKnown old.engine.known new.engine.known
-  keeps_then new engine = subst (λ (z : EngineView). KeepsKnown old.engine.known z.known) (sym engine) keeps_looked
-
-  -- It was given,
-  pub given_sets : (new : Evaluating) → new.engine ≡ looked.engine → (v : Value) → rows.ChangesOnly looked.rows new.rows part.slot (rows.with_part part.index (Got v)) → SetsPart old new part
-  given_sets new engine v changes = record {
-    state = Got v;
-    row = changed_row old.rows new.rows part.slot (rows.with_part part.index (Got v)) (subst (λ rs. rows.ChangesOnly rs new.rows part.slot (rows.with_part part.index (Got v))) same_rows changes);
-    only = only_then new engine;
-    keeps = keeps_then new engine;
-  }
-
-  -- or a row was asked for it,
-  module _ (asked : Evaluating) (engine : asked.engine ≡ looked.engine) (slot : ℕ) (past : rows.IsPast looked.rows slot) (changes : rows.Asks looked.rows asked.rows part slot x) where
-    pub asked_sets : SetsPart old asked part
-    asked_sets = record {
-      state = Asked slot;
-      row = sets_asked old.rows asked.rows part slot x there (subst (λ rs. rows.IsPast rs slot) same_rows past) (subst (λ rs. rows.Asks rs asked.rows part slot x) same_rows changes);
-      only = only_then asked engine;
-      keeps = keeps_then asked engine;
-    }
-
-    -- which goes on with its body.
-    pub followed_sets : (new : Evaluating) → GoesOnWith asked new slot → SetsPart old new part
-    followed_sets new goes = record {
-      state = asked_sets.state;
-      row = goes.older part.slot (past part.slot (subst (λ rs. IsSome (row_at rs part.slot)) (sym same_rows) there)) ∙ asked_sets.row;
-      only = goes.only ∙ ap (λ (z : EngineView). record z { known = new.engine.known }) asked_sets.only
-          ∙ ap (λ s. record old.engine { known = new.engine.known; stored = s }) (sym (ap (λ (z : EngineView). z.stored) goes.only));
-      keeps = record {
-        known = λ tag k. goes.keeps.known tag (asked_sets.keeps.known tag k);
-        same = λ tag k. goes.keeps.same tag (asked_sets.keeps.known tag k) ∙ asked_sets.keeps.same tag k;
-      };
-    }
+  -- or it was asked for.
+  pub made_sets : (part : Option Part) (known : List Context) → KeepsKnown looked.engine.known known → IfSome part (rows.IsIdlePart old.rows) → (rs : List (Option TaskRow)) (slot : ℕ) (y : Task) (k : Option Key)
+      → rows.IsPast looked.rows slot → rows.Asks looked.rows rs part slot y k → IfSome part (SetsPart old (record { engine = record looked.engine { known = known }; rows = rs }))
+  made_sets part known more idle rs slot y k =
+      asked_sets old (record { engine = record looked.engine { known = known }; rows = rs }) looked.rows same_rows
+      (only_set (record looked.engine { known = known }) old.engine known looked.engine.stored old.engine.noted (ap (λ (e : EngineView). record e { known = known }) engine_is))
+      (record { known = λ tag h. more.known tag (keeps_known.known tag h); same = λ tag h. more.same tag (keeps_known.known tag h) ∙ keeps_known.same tag h }) part slot y k idle

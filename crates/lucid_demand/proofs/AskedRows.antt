@@ -1,10 +1,10 @@
 -- An operator's row asks for its arguments one after another.
 use Rattle.std.proofs.lemmas.Bool.{cases_lt}
-use Rattle.std.proofs.Common.{◌≡◌, ℕ, zero, suc, ◌+◌, ◌<◌, ◌≤◌, ◌⊎◌, inl, inr, List, [], ◌∷◌, length, Option, Some, None, true, false, refl, sym, ap, ◌∙◌, subst, arith, rules, le_refl}
+use Rattle.std.proofs.Common.{◌≡◌, ℕ, zero, suc, ◌+◌, ◌<◌, ◌≤◌, ◌⊎◌, inl, inr, List, [], ◌∷◌, length, Option, Some, None, true, false, refl, sym, ap, ◌∙◌, subst, arith, le_refl}
 use Rattle.std.specs.Borrow.{Bor}
-use Rattle.std.specs.Prelude.{is_some, option_copied, IsSome, IsTrue, Result, Ok, Err, OnOk, slice_get, slice_index_or, option_map, option_and_then}
+use Rattle.std.specs.Prelude.{is_some, option_copied, IsSome, IsTrue, Result, Ok, Err, slice_get, slice_index_or, option_map, option_and_then}
 use Rattle.std.specs.List.{list_all}
-use Rattle.std.proofs.lemmas.Option.{same_Some, slice_get-get_or}
+use Rattle.std.proofs.lemmas.Option.{same_Some}
 use Rattle.lucid_value.specs.declared.Value.{Value}
 use Rattle.lucid_value.specs.Plain.{PlainValue}
 use Rattle.lucid_value.specs.View.{plain}
@@ -24,20 +24,20 @@ use Rattle.lucid_facts.specs.Tasks.{idle, state_at, plain_task, plain_state, pla
 use Rattle.lucid_facts.specs.Parts.{IsPart}
 use Rattle.lucid_facts.specs.Engine.{EngineView}
 use Rattle.lucid_facts.specs.Demands.{Demand, table_of}
-use Rattle.lucid_facts.specs.Decisions.{MayAsk}
 use Rattle.lucid_facts.specs.Going.{Waits}
 use Rattle.lucid_facts.proofs.Seeing.{plain_at}
 use Rattle.lucid_facts.proofs.Coming.{arguments_may_be_asked}
 use Rattle.lucid_demand.specs.Evaluating.{Evaluating, Stepped, cost}
 use Rattle.lucid_demand.specs.Acting.{DemandIn, MayAct, value_of}
 use Rattle.lucid_demand.specs.Justified.{argument_by}
-use Rattle.lucid_demand.specs.Asking.{CanAsk, CanAskAll, SetsPart, HoldsNothing, AsksIn}
-use Rattle.lucid_demand.specs.Searching.{MayAskNow}
+use Rattle.lucid_demand.specs.Asking.{CanAsk, CanAskAll, SetsPart, HoldsNothing, MayAskNow, AsksIn}
 use Rattle.lucid_demand.specs.declared.decide.Decision.TheVariants as decision
 use Rattle.lucid_demand.specs.declared.fault.DemandFault.{DemandFault}
-use Rattle.lucid_demand.specs.declared.fault.DemandFault.TheVariants.{NoMemory}
 use Rattle.lucid_demand.proofs.OperatorParts.{operator_node, operator_part}
-use Rattle.lucid_demand.proofs.SettledRows.{refused, ready_is_there, argument_value}
+use Rattle.lucid_demand.proofs.SettledRows.{ready_is_there, argument_value}
+use Rattle.lucid_demand.proofs.Beginning.{stepped_from_less}
+use Rattle.lucid_demand.proofs.AskedParts.{asked_steps}
+use Rattle.lucid_demand.proofs.MayAsk.{part_may_be_asked}
 use Rattle.lucid_demand.proofs.TakenParts.{other_part}
 use Rattle.lucid_demand.proofs.GoneRows.{goes_on_step}
 
@@ -60,10 +60,6 @@ absent : (o : Option PlainValue) → o ≡ None → IsSome o → ⊥
 absent None e h = absurd (cc)
 absent (Some v) e h = absurd (cc)
 
--- any of three items is there
-pub one_of_three : (a b c i : ℕ) → i < 3 → slice_get (a ∷ b ∷ c ∷ []) i ≡ Some (slice_index_or (a ∷ b ∷ c ∷ []) i 0)
-one_of_three a b c i low = slice_get-get_or (a ∷ b ∷ c ∷ []) i 0 (let l : length (a ∷ b ∷ c ∷ []) ≡ 3 = search rules in omega (arith, low, l))
-
 -- where an argument has no value, its part has none
 no_value : (T : Table) (o : Option Node) (p : Option Value) → argument_by T o (option_map plain p) ≡ None → p ≡ None
 no_value T o None h = refl
@@ -84,7 +80,7 @@ pub record AskedBelow (old now : Evaluating) (slot : ℕ) (op : Op) (args : List
   pub is_task : first.task ≡ task
   pub same_task : row.task ≡ first.task
   pub rest : (i : ℕ) → index ≤ i → rows.state_at i row ≡ rows.state_at i first
-  pub only : now.engine ≡ record old.engine { known = now.engine.known; stored = now.engine.stored }
+  pub only : now.engine ≡ record old.engine { known = now.engine.known; stored = now.engine.stored; noted = now.engine.noted }
   pub keeps : KeepsKnown old.engine.known now.engine.known
   pub in_demand : (i : DemandIn) → MayAct i.demand old i.world slot (decision.AskAll op args) → AskedIn i.demand old now i.world slot args index
 
@@ -158,19 +154,14 @@ module _ (old now : Evaluating) (slot : ℕ) (op : Op) (args : List ℕ) (task :
     part_is_idle = ap (option_map (rows.state_at index)) b.there ∙ ap Some part_is_free
 
     pub can_ask_argument : CanAskAll old slot op args → index < arity op → arity op ≤ 3 → slice_get args index ≡ Some n
-        → CanAsk now (record { slot = slot; index = index }) (record task { node = n })
+        → CanAsk now (Some (record { slot = slot; index = index })) (record task { node = n })
     can_ask_argument can low few arg = record {
-      row = asking_row;
-      index = omega (arith, low, few);
-      idle = part_is_idle;
+      part_idle = record { row = asking_row; index = omega (arith, low, few); idle = part_is_idle };
       there = argument_node n can low arg;
       known = b.keeps.known task.tag (subst (λ (x : Task). IsKnown old.engine.known x.tag) b.is_task (can.known b.first b.first_there));
     }
 
     module _ (low : index < arity op) (few : arity op ≤ 3) (arg : slice_get args index ≡ Some n) (i : DemandIn) (act : MayAct i.demand old i.world slot (decision.AskAll op args)) where
-      its_row : (r : TaskRow) → row_at now.rows slot ≡ Some r → b.row ≡ r
-      its_row r at = let both : Some b.row ≡ Some r = sym b.there ∙ at in cc
-
       plain_free : state_at (plain_row now.engine.known b.row).parts index ≡ idle
       plain_free = plain_at b.row.parts index ∙ ap plain_state part_is_free
 
@@ -178,27 +169,23 @@ module _ (old now : Evaluating) (slot : ℕ) (op : Op) (args : List ℕ) (task :
       operator = subst (λ (x : Task). table.row_at (table_of i.demand) x.node ≡ Some (node.Apply op args)) (sym b.same_task) ((act.justified b.first b.first_there).0)
 
       -- The argument may be asked for.
-      pub may_ask_argument : MayAskNow i.demand now i.world (record { slot = slot; index = index }) (record task { node = n })
-      may_ask_argument = record {
-        demand = act.step.demand;
-        waits = (b.in_demand i act).waits;
-        nothing = (b.in_demand i act).nothing;
-        justified = λ r at. subst (λ (q : TaskRow). MayAsk (table_of i.demand) (plain_row now.engine.known q) index
-            × IsPart (table_of i.demand) (plain_row now.engine.known q) index (plain_task now.engine.known (record task { node = n })) × IsKnown now.engine.known task.tag) (its_row r at) (
-              arguments_may_be_asked (table_of i.demand) (plain_row now.engine.known b.row) op (arity op) (operator_node (table_of i.demand) b.row.task.node op args act.step.demand.in_range operator).0 index
-                  (operator_node (table_of i.demand) b.row.task.node op args act.step.demand.in_range operator).1 low few plain_free,
-              subst (λ (x : Task). IsPart (table_of i.demand) (plain_row now.engine.known b.row) index (plain_task now.engine.known (record x { node = n }))) (b.same_task ∙ b.is_task)
-                  (operator_part (table_of i.demand) (plain_row now.engine.known b.row) op args index n act.step.demand.in_range operator low arg),
-              subst (λ (x : Task). IsKnown now.engine.known x.tag) (b.same_task ∙ b.is_task) (((b.in_demand i act).waits.known slot b.row b.there).task),
-            );
-      }
+      pub may_ask_argument : MayAskNow i.demand now i.world (Some (record { slot = slot; index = index })) (record task { node = n })
+      may_ask_argument =
+          part_may_be_asked i.demand now i.world act.step.demand (b.in_demand i act).waits (b.in_demand i act).nothing (record { slot = slot; index = index }) b.row b.there (record task { node = n }) (
+            arguments_may_be_asked (table_of i.demand) (plain_row now.engine.known b.row) op (arity op) (operator_node (table_of i.demand) b.row.task.node op args act.step.demand.in_range operator).0 index
+                (operator_node (table_of i.demand) b.row.task.node op args act.step.demand.in_range operator).1 low few plain_free,
+            subst (λ (x : Task). IsPart (table_of i.demand) (plain_row now.engine.known b.row) index (plain_task now.engine.known (record x { node = n }))) (b.same_task ∙ b.is_task)
+                (operator_part (table_of i.demand) (plain_row now.engine.known b.row) op args index n act.step.demand.in_range operator low arg),
+            subst (λ (x : Task). IsKnown now.engine.known x.tag) (b.same_task ∙ b.is_task) (((b.in_demand i act).waits.known slot b.row b.there).task),
+          )
 
     -- The part was asked or given: the next may be.
     pub part_is_next : (new : Evaluating) → SetsPart now new (record { slot = slot; index = index }) → index < arity op → arity op ≤ 3 → slice_get args index ≡ Some n
-        → {A E : Type 0} (result : Result A E) (a : A) → result ≡ Ok a
-        → ((i : DemandIn) → MayAskNow i.demand now i.world (record { slot = slot; index = index }) (record task { node = n }) → AsksIn i.demand now new i.world result)
+        → (result : Result (Option Value) DemandFault) → result ≡ Ok None
+        → ((i : DemandIn) → MayAskNow i.demand now i.world (Some (record { slot = slot; index = index })) (record task { node = n })
+        → AsksIn i.demand now new i.world (Some (record { slot = slot; index = index })) result)
         → AskedBelow old new slot op args task (index + 1)
-    part_is_next new sets low few arg {A = A} {E = E} result a ok goes = record {
+    part_is_next new sets low few arg result ok goes = record {
       row = rows.with_part index sets.state b.row;
       there = sets.row ∙ ap (option_map (rows.with_part index sets.state)) b.there;
       first = b.first;
@@ -206,28 +193,31 @@ module _ (old now : Evaluating) (slot : ℕ) (op : Op) (args : List ℕ) (task :
       is_task = b.is_task;
       same_task = b.same_task;
       rest = λ i l. other_part b.row.parts index i sets.state (λ e. absurd (omega (arith, e, l))) ∙ b.rest i (omega (arith, l));
-      only = sets.only ∙ ap (λ (e : EngineView). record e { known = new.engine.known; stored = new.engine.stored }) b.only;
+      only = sets.only ∙ ap (λ (e : EngineView). record e { known = new.engine.known; stored = new.engine.stored; noted = new.engine.noted }) b.only;
       keeps = record { known = λ tag k. sets.keeps.known tag (b.keeps.known tag k); same = λ tag k. sets.keeps.same tag (b.keeps.known tag k) ∙ b.keeps.same tag k };
-      in_demand = λ i act. on i act (goes i (may_ask_argument low few arg i act)) (b.in_demand i act);
+      in_demand = λ i act. on i (subst (λ z. AsksIn i.demand now new i.world (Some (record { slot = slot; index = index })) z) ok (goes i (may_ask_argument low few arg i act))) (b.in_demand i act);
     }
       where
-        on : (i : DemandIn) → MayAct i.demand old i.world slot (decision.AskAll op args) → AsksIn i.demand now new i.world result
+        on : (i : DemandIn) → AsksIn i.demand now new i.world (Some (record { slot = slot; index = index })) (Ok None)
             → AskedIn i.demand old now i.world slot args index → AskedIn i.demand old new i.world slot args (index + 1)
-        on i act g its = record { waits = went.0; nothing = subst (λ z. OnOk z (HoldsNothing i.demand now.engine → HoldsNothing i.demand new.engine)) ok g.nothing its.nothing; some = inl (less its.some) }
+        on i asked its = record { waits = asked.goes_on.0; nothing = asked.nothing; some = inl (less its.some) }
           where
-            went : Waits i.demand new.engine i.world new.rows × (cost i.demand new < cost i.demand now)
-            went = subst (λ z. OnOk z (Waits i.demand new.engine i.world new.rows × (cost i.demand new < cost i.demand now))) ok g.goes_on
-
             less : (cost i.demand now < cost i.demand old) ⊎ ((now ≡ old) × ((k m : ℕ) → k < index → slice_get args k ≡ Some m → IsSome (value_of old slot k m))) → cost i.demand new < cost i.demand old
-            less (inl l) = omega (arith, l, went.1)
-            less (inr same) = subst (λ e. cost i.demand new < cost i.demand e) same.0 went.1
+            less (inl l) = omega (arith, l, asked.goes_on.1)
+            less (inr same) = subst (λ e. cost i.demand new < cost i.demand e) same.0 asked.goes_on.1
 
-    -- It is refused for want of memory.
-    pub asks_refused : (new : Evaluating) {A E : Type 0} (result : Result A E) → index < arity op → arity op ≤ 3 → slice_get args index ≡ Some n
-        → ((i : DemandIn) → MayAskNow i.demand now i.world (record { slot = slot; index = index }) (record task { node = n }) → AsksIn i.demand now new i.world result)
-        → (res : Result (Option Value) DemandFault) → res ≡ Err NoMemory → (i : DemandIn) → MayAct i.demand old i.world slot (decision.AskAll op args) → Stepped i.demand old new i.world i.world res
-    asks_refused new result low few arg asks res is i act =
-        subst (λ z. Stepped i.demand old new i.world i.world z) (sym is) (refused i.demand old new i.world i.world ((asks i (may_ask_argument low few arg i act)).owns))
+    -- It is refused.
+    pub asks_refused : (new : Evaluating) → index < arity op → arity op ≤ 3 → slice_get args index ≡ Some n → (f : DemandFault)
+        → ((i : DemandIn) → MayAskNow i.demand now i.world (Some (record { slot = slot; index = index })) (record task { node = n })
+        → AsksIn i.demand now new i.world (Some (record { slot = slot; index = index })) (Err f))
+        → (i : DemandIn) → MayAct i.demand old i.world slot (decision.AskAll op args) → Stepped i.demand old new i.world i.world (Err f)
+    asks_refused new low few arg f asks i act =
+        stepped_from_less i.demand old now new i.world i.world (Err f) (no_more (b.in_demand i act).some)
+        (asked_steps i.demand now new i.world (record { slot = slot; index = index }) (Err f) (asks i (may_ask_argument low few arg i act)))
+      where
+        no_more : (cost i.demand now < cost i.demand old) ⊎ ((now ≡ old) × ((k m : ℕ) → k < index → slice_get args k ≡ Some m → IsSome (value_of old slot k m))) → cost i.demand now ≤ cost i.demand old
+        no_more (inl l) = omega (arith, l)
+        no_more (inr same) = subst (λ e. cost i.demand now ≤ cost i.demand e) same.0 (le_refl (cost i.demand now))
 
   -- After the last part some was asked or given, since one argument had no value.
   pub asks_end : arity op ≤ index → (i : DemandIn) → MayAct i.demand old i.world slot (decision.AskAll op args) → Stepped i.demand old now i.world i.world (Ok None)

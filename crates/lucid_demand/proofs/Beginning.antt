@@ -18,10 +18,12 @@ use Rattle.lucid_facts.proofs.Listing.{changed_there}
 use Rattle.lucid_demand.specs.Answers.{MayDecide}
 use Rattle.lucid_demand.specs.Evaluating.{Evaluating, Stepped, cost}
 use Rattle.lucid_demand.specs.Acting.{DemandIn, MayAct, IsReadyTask}
-use Rattle.lucid_demand.specs.Searching.{StandsAt, MayAskNow}
+use Rattle.lucid_demand.specs.Searching.{StandsAt}
+use Rattle.lucid_demand.specs.Asking.{MayAskNow}
 use Rattle.lucid_demand.specs.declared.decide.Decision.TheVariants as decision
 use Rattle.lucid_demand.specs.declared.fault.DemandFault.{DemandFault}
 use Rattle.lucid_demand.proofs.SettledRows.{ready_is_there, on_going}
+use Rattle.lucid_demand.proofs.MayAsk.{part_may_be_asked}
 
 one_row : (o : Option TaskRow) (q r : TaskRow) → o ≡ Some q → o ≡ Some r → r ≡ q
 one_row o q r e f = let g : Some r ≡ Some q = sym f ∙ e in cc
@@ -87,13 +89,13 @@ noted_costs d e new noted only same =
 
 -- A row that may ask for a part may ask for it once its search was noted.
 pub noted_asks : (i : DemandIn) (e new : Evaluating) (slot index : ℕ) (task : Task) → Owns i.demand new.engine i.world → new.engine ≡ record e.engine { noted = new.engine.noted } → new.rows ≡ e.rows
-    → MayAct i.demand e i.world slot (decision.Ask index task) → MayAskNow i.demand new i.world (record { slot = slot; index = index }) task
+    → MayAct i.demand e i.world slot (decision.Ask index task) → MayAskNow i.demand new i.world (Some (record { slot = slot; index = index })) task
 noted_asks i e new slot index task owns only same act =
-    subst (λ (z : EngineView). MayAskNow i.demand (record { engine = z; rows = new.rows }) i.world (record { slot = slot; index = index }) task) (sym only)
-    (subst (λ (rs : List (Option TaskRow)). MayAskNow i.demand (record { engine = record e.engine { noted = new.engine.noted }; rows = rs }) i.world (record { slot = slot; index = index }) task)
-    (sym same) (record {
-      demand = act.step.demand;
-      waits = record { going = record { work = act.step.waits.going.work; owns = subst (λ z. Owns i.demand z i.world) only owns }; known = act.step.waits.known };
-      nothing = act.step.emptied.nothing;
-      justified = act.justified;
-    }))
+    subst (λ (z : EngineView). MayAskNow i.demand (record { engine = z; rows = new.rows }) i.world (Some (record { slot = slot; index = index })) task) (sym only)
+    (subst (λ (rs : List (Option TaskRow)). MayAskNow i.demand (record { engine = record e.engine { noted = new.engine.noted }; rows = rs }) i.world (Some (record { slot = slot; index = index })) task)
+    (sym same) (
+    let r = ready_is_there e.rows slot act.step.ready in
+    part_may_be_asked i.demand (record { engine = record e.engine { noted = new.engine.noted }; rows = e.rows }) i.world act.step.demand
+    (record { going = record { work = act.step.waits.going.work; owns = subst (λ z. Owns i.demand z i.world) only owns }; known = act.step.waits.known })
+    act.step.emptied.nothing (record { slot = slot; index = index }) r.0 r.1 task (act.justified r.0 r.1)
+    ))

@@ -120,7 +120,7 @@ module _ (T : Table) (known : List Context) (forest : List (Option TaskRow)) (sl
       where
         go : (o : Option Value) → value_of_part r i ≡ option_map plain o → Justified T known r (part_or_ask o i x)
         go None none = asks i t s 0 gives few way l none x is_look known_tag
-        go (Some v) has = (few, (plain v, has, comes (gives (plain v)) (on_by f r i t s 0 gives (plain v) l has way)))
+        go (Some v) has = (few, (plain v, has, inl (comes (gives (plain v)) (on_by f r i t s 0 gives (plain v) l has way))))
 
     -- the second part of `and` and `or`, which stands next
     pub right_decides : Way f r (look 1 its.task.time r.task.space 0 (λ b. gives (only_truth b))) → look_of_row f r 1 ≡ Some (record { part = 1; time = its.task.time; space = r.task.space; least = 0 })

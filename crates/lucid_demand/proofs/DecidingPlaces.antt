@@ -23,7 +23,7 @@ use Rattle.lucid_facts.specs.Tasks.{PlainRow, value_of_part, plain_task, plain_r
 use Rattle.lucid_facts.specs.Parts.{node_of, aim_of_task, at_place, IsReference}
 use Rattle.lucid_facts.proofs.FormWays.{Way, on_by, by_a_place}
 use Rattle.lucid_demand.specs.declared.decide.Answer.TheVariants.{Absent, At, Ended}
-use Rattle.lucid_demand.specs.declared.decide.Decision.TheVariants.{Ask, End, Fault, Constant, Body, Refer, Read, Refuse}
+use Rattle.lucid_demand.specs.declared.decide.Decision.TheVariants.{Part, Ask, End, Fault, Constant, Refer, Read, Refuse}
 use Rattle.lucid_demand.specs.Justified.{Justified}
 use Rattle.lucid_demand.specs.Answers.{answer_of, part_or_ask, IsReadyRow, DecidesFor}
 use Rattle.lucid_demand.proofs.Answers.{value_is_got, none_is_idle, absent_is_none, end_is_read, place_is_read, IsTruthOrOther, no_place_is_read}
@@ -96,19 +96,16 @@ module _ (T : Table) (known : List Context) (forest : List (Option TaskRow)) (sl
   pub constant_there : (k : ℕ) → node_at T its.task.node ≡ node_by T (node.Const k) → NodeIsInRange (sizes T) its.task.node (node.Const k) → Justified T known r (Constant k)
   constant_there k e range = (range.1, comes T known forest slot its is (const (constant_at T k)) _ e (gives (constant_at T k)) at_start)
 
-  -- a reference: it has its body's value, or looks for its daton
-  pub reference_body : IsReference (node_of T r.task) → (v : PlainValue) → value_of_part r 0 ≡ Some v → Justified T known r Body
-  reference_body i v h = (i, (v, h))
+  -- a reference: it asks for what it goes on with, or has that value
+  pub reference_refers : IsReference (node_of T r.task) → value_of_part r 0 ≡ None → Justified T known r (Refer its.task)
+  reference_refers i h = (i, refl, is.known_tag, none_is_idle known its 0 is.ready h)
 
-  pub reference_refers : IsReference (node_of T r.task) → value_of_part r 0 ≡ None → Justified T known r Refer
-  reference_refers i h = (i, none_is_idle known its 0 is.ready h)
-
-  pub reference_has : IsReference (node_of T r.task) → is_none (got_of forest (record { slot = slot; index = 0 })) ≡ false → Justified T known r Body
+  pub reference_has : IsReference (node_of T r.task) → is_none (got_of forest (record { slot = slot; index = 0 })) ≡ false → Justified T known r (Part 0)
   reference_has i h = go (got_of forest (record { slot = slot; index = 0 })) (value_is_got known forest slot its 0 is.there) h
     where
-      go : (o : Option Value) → value_of_part r 0 ≡ option_map plain o → is_none o ≡ false → Justified T known r Body
+      go : (o : Option Value) → value_of_part r 0 ≡ option_map plain o → is_none o ≡ false → Justified T known r (Part 0)
       go None has n = absurd (cc)
-      go (Some v) has n = reference_body i (plain v) has
+      go (Some v) has n = (omega arith, (plain v, has, inr (i, refl)))
 
   pub name_is : (n l : ℕ) → node_at T its.task.node ≡ node_by T (node.Refer n l) → IsReference (node_of T r.task)
   name_is n l e = subst IsReference (sym e) tt

@@ -17,7 +17,7 @@ use Rattle.lucid_facts.specs.Held.{is_search}
 use Rattle.lucid_facts.specs.Decisions.{looked_on}
 use Rattle.lucid_facts.proofs.FormWays.{Way, whenever_below, whenever_past, whenever_on, whenever_found, asa_below, asa_past, asa_on, asa_found, upon_past, upon_found, upon_below, upon_on}
 use Rattle.lucid_demand.specs.declared.decide.Answer.TheVariants.{Absent, Holds, Ended}
-use Rattle.lucid_demand.specs.declared.decide.Decision.TheVariants.{Ask, End, Fault, Move, Refuse}
+use Rattle.lucid_demand.specs.declared.decide.Decision.TheVariants.{Ask, End, Fault, LookOn, Refuse}
 use Rattle.lucid_demand.specs.Justified.{Justified}
 use Rattle.lucid_demand.specs.Answers.{answer_of, part_or_ask, IsReadyRow}
 use Rattle.lucid_demand.proofs.Answers.{absent_is_none, truth_is_read, end_is_read, IsPlaceOrOther, no_truth_is_read}
@@ -29,7 +29,7 @@ module _ (T : Table) (known : List Context) (forest : List (Option TaskRow)) (sl
 
   -- a search goes on after a truth
   moves : (f : Head) (holds : Bool) → (e : (es : _) × (node_of T r.task ≡ row f es)) → is_search f ≡ true → answer_of (value_of_part r 1) ≡ Holds holds → its.cursor.time < its.task.depth
-      → (CanStandAt f its.cursor.time its.cursor.count its.task.time → CanStandAt f (looked_on its.cursor holds).time (looked_on its.cursor holds).count its.task.time) → Justified T known r (Move holds)
+      → (CanStandAt f its.cursor.time its.cursor.count its.task.time → CanStandAt f (looked_on its.cursor holds).time (looked_on its.cursor holds).count its.task.time) → Justified T known r (LookOn holds)
   moves f holds e s a low on = record { form = f; nodes = e.0; is = e.1; search = s; value = truth_is_read (value_of_part r 1) holds a; before = low; within = on }
 
   -- `whenever`
@@ -50,7 +50,7 @@ module _ (T : Table) (known : List Context) (forest : List (Option TaskRow)) (sl
         (record its.task { node = left; time = its.cursor.time })
         (its_look T known forest slot its is (node.Whenever left right) there 0 left its.cursor.time r.task.space 0 refl (plain_task known (record its.task { node = left; time = its.cursor.time })) refl) is.known_tag
 
-    pub whenever_moves : (holds : Bool) → its.cursor.time < its.task.depth → (holds ≡ true → its.cursor.count < its.task.time) → answer_of (value_of_part r 1) ≡ Holds holds → Justified T known r (Move holds)
+    pub whenever_moves : (holds : Bool) → its.cursor.time < its.task.depth → (holds ≡ true → its.cursor.count < its.task.time) → answer_of (value_of_part r 1) ≡ Holds holds → Justified T known r (LookOn holds)
     whenever_moves true low more a = moves whenever true (_, e) refl a low (λ h. let m = more refl in omega (arith, m))
     whenever_moves false low more a = moves whenever false (_, e) refl a low (λ h. h)
 
@@ -80,7 +80,7 @@ module _ (T : Table) (known : List Context) (forest : List (Option TaskRow)) (sl
         (record its.task { node = left; time = its.cursor.time })
         (its_look T known forest slot its is (node.Asa left right) there 0 left its.cursor.time r.task.space 0 refl (plain_task known (record its.task { node = left; time = its.cursor.time })) refl) is.known_tag
 
-    pub asa_moves : its.cursor.time < its.task.depth → answer_of (value_of_part r 1) ≡ Holds false → Justified T known r (Move false)
+    pub asa_moves : its.cursor.time < its.task.depth → answer_of (value_of_part r 1) ≡ Holds false → Justified T known r (LookOn false)
     asa_moves low a = moves asa false (_, e) refl a low (λ h. h)
 
     pub asa_ends : its.cursor.time < its.task.depth → answer_of (value_of_part r 1) ≡ Ended → Justified T known r End
@@ -109,7 +109,7 @@ module _ (T : Table) (known : List Context) (forest : List (Option TaskRow)) (sl
         (record its.task { node = right; time = its.cursor.time })
         (its_look T known forest slot its is (node.Upon left right) there 1 right its.cursor.time r.task.space its.task.time refl (plain_task known (record its.task { node = right; time = its.cursor.time })) refl) is.known_tag
 
-    pub upon_moves : (holds : Bool) → its.task.time ≤ its.task.depth → its.cursor.time < its.task.time → answer_of (value_of_part r 1) ≡ Holds holds → Justified T known r (Move holds)
+    pub upon_moves : (holds : Bool) → its.task.time ≤ its.task.depth → its.cursor.time < its.task.time → answer_of (value_of_part r 1) ≡ Holds holds → Justified T known r (LookOn holds)
     upon_moves true low more a = moves upon true (_, e) refl a (omega (arith, low, more)) (λ h. omega (arith, more))
     upon_moves false low more a = moves upon false (_, e) refl a (omega (arith, low, more)) (λ h. omega (arith, more))
 

@@ -1,24 +1,20 @@
--- What a reference goes on with, once that is found: its daton and its body; and the rows wait on.
-use Rattle.std.proofs.Common.{◌≡◌, ℕ, suc, ◌⊎◌, inl, inr, List, Option, Some, sym, ap, ◌∙◌}
-use Rattle.lucid_tree.specs.Members.{In}
-use Rattle.lucid_tree.specs.Levels.{Elements, goes_to, nowhere}
+-- What a reference goes on with, once that is found: its daton and its body.
+use Rattle.std.proofs.Common.{◌≡◌, ℕ, suc, List, Some, sym, ap, ◌∙◌}
+use Rattle.lucid_tree.specs.Levels.{goes_to, nowhere}
 use Rattle.lucid_tags.specs.Contexts.{Context}
-use Rattle.lucid_tags.specs.Known.{IsOneForOne, KeepsKnown, context_of}
-use Rattle.lucid_tasks.specs.Rows.{TaskRow, row_at}
-use Rattle.lucid_ports.specs.World.{World}
+use Rattle.lucid_tags.specs.Known.{context_of}
+use Rattle.lucid_tasks.specs.declared.Task.{Task}
 use Rattle.lucid_equations.specs.Datons.{Daton, NodeAim}
 use Rattle.lucid_equations.specs.Rows.{node_at}
 use Rattle.lucid_equations.specs.declared.table.Table.{Table}
 use Rattle.lucid_facts.specs.Tasks.{PlainTask, DatonAt, plain_task, plain_key}
 use Rattle.lucid_facts.specs.Parts.{aim_of_task, RefersTo, GoesTo}
-use Rattle.lucid_facts.specs.Engine.{EngineView, MayHave}
-use Rattle.lucid_facts.specs.Demands.{Demand, table_of, IsEntered}
-use Rattle.lucid_facts.specs.Going.{Waits}
 use Rattle.lucid_demand.specs.Aims.{plain_aim, IsAim}
-use Rattle.lucid_demand.specs.Asking.{Enters, body_task}
 use Rattle.lucid_demand.specs.declared.aim.Aim.{Aim}
-use Rattle.lucid_demand.proofs.GrownTags.{entered_by_root, waits_grow}
-use Rattle.lucid_demand.proofs.AskedParts.{row_facts}
+
+-- the task of an aim's body
+abbrev pub body_task : Aim → (depth : ℕ) → Task
+body_task a depth = record { node = a.body; tag = a.tag; time = a.time; depth = depth }
 
 module _ (T : Table) (known : List Context) (x : PlainTask) (a : Aim) (is : plain_aim T known (Some a) ≡ aim_of_task T x) (there : IsAim T known x.space a) where
   -- the reference is of the aim's daton,
@@ -43,13 +39,3 @@ refers_to_one T x j k q r =
 -- and of none where it leads nowhere
 pub refers_nowhere : (T : Table) (x : PlainTask) (k : DatonAt) → aim_of_task T x ≡ nowhere → RefersTo T x k → ⊥
 refers_nowhere T x k e r = let both : nowhere ≡ goes_to k.0 r.position r.time = sym e ∙ r.aim in cc
-
--- The rows wait on where the contexts that a row's task enters become known.
-pub waits_aimed : (d : Demand) (now : EngineView) (w : World) (rs : List (Option TaskRow)) (slot : ℕ) (r : TaskRow) (known : List Context) → Waits d now w rs → row_at rs slot ≡ Some r
-    → KeepsKnown now.known known → (IsOneForOne now.known → IsOneForOne known)
-    → ((c : Context) → In c known → In c now.known ⊎ Enters (table_of d) (plain_task now.known r.task) c) → Waits d (record now { known = known }) w rs
-waits_aimed d now w rs slot r known waits at keeps contexts entered = waits_grow d now w rs known keeps (contexts waits.going.owns.contexts) (λ b m c i. onward b m c (entered c i)) waits
-  where
-    onward : (b : Elements) → MayHave now b → (c : Context) → In c now.known ⊎ Enters (table_of d) (plain_task now.known r.task) c → In c now.known ⊎ IsEntered d b c
-    onward b m c (inl i) = inl i
-    onward b m c (inr f) = inr (entered_by_root d b (plain_task now.known r.task) c ((row_facts d now w rs slot r waits at b m).seen) (λ e. f b r.task.depth e))

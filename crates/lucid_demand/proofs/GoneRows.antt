@@ -1,6 +1,6 @@
 -- A row that settles with a value which answers its task takes a step.
 use Rattle.std.proofs.Common.{◌≡◌, ℕ, ◌<◌, List, Option, Some, None, true, refl, sym, ◌∙◌, subst}
-use Rattle.std.specs.Prelude.{IsTrue, IsSome, Ok, Err}
+use Rattle.std.specs.Prelude.{IsTrue, IsSome, Ok}
 use Rattle.lucid_value.specs.declared.Value.{Value}
 use Rattle.lucid_value.specs.View.{plain}
 use Rattle.lucid_tree.specs.Levels.{Elements}
@@ -9,14 +9,12 @@ use Rattle.lucid_tasks.specs.Rows as rows
 use Rattle.lucid_tasks.specs.Rows.{TaskRow, row_at, is_ready, returned}
 use Rattle.lucid_ports.specs.World.{World}
 use Rattle.lucid_facts.specs.Tasks.{DatonAt, plain_task, plain_row, waits_for_none}
-use Rattle.lucid_facts.specs.Stands.{IsDefined}
 use Rattle.lucid_facts.specs.Engine.{EngineView, holding, MayHave}
-use Rattle.lucid_facts.specs.Demands.{Demand, table_of, stays, Answers}
-use Rattle.lucid_facts.specs.Going.{Owns, Waits}
+use Rattle.lucid_facts.specs.Demands.{Demand, Answers}
+use Rattle.lucid_facts.specs.Going.{Waits}
 use Rattle.lucid_facts.proofs.Seeing.{plain_ready}
 use Rattle.lucid_facts.proofs.Acting.{cost_of, GoesDown, settles_goes_down, root_is_answered}
 use Rattle.lucid_demand.specs.Evaluating.{Evaluating, Stepped, cost}
-use Rattle.lucid_demand.specs.declared.fault.DemandFault.TheVariants.{TooDeep}
 
 -- The rows wait on, a value answers a ready row's task, and what the row remembers is held, or was lost.
 pub record Answered (d : Demand) (now : EngineView) (w : World) (before : List (Option TaskRow)) (r : TaskRow) (v : Value) : Type 0 where
@@ -57,8 +55,3 @@ row_goes d old new w before slot r v at a settles same = go r.parent refl
 -- A step that goes on.
 pub goes_on_step : (d : Demand) (old new : Evaluating) (w : World) → Waits d new.engine w new.rows → cost d new < cost d old → Stepped d old new w w (Ok None)
 goes_on_step d old new w waits less = record { owns = waits.going.owns; goes_on = (waits, less); answers = tt; deep = λ e. absurd (cc); too_large = tt; failed = λ e. absurd (cc) }
-
--- A step that is refused as too deep, rightly.
-pub too_deep_step : (d : Demand) (old new : Evaluating) (w : World) → Owns d new.engine w
-    → ((b : Elements) → MayHave new.engine b → IsDefined (table_of d) b (stays d) d.root → ⊥) → Stepped d old new w w (Err TooDeep)
-too_deep_step d old new w owns undefined = record { owns = owns; goes_on = tt; answers = tt; deep = λ e. undefined; too_large = tt; failed = λ e. absurd (cc) }

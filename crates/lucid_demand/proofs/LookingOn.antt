@@ -13,7 +13,7 @@ use Rattle.lucid_facts.specs.Rows.{RowFacts}
 use Rattle.lucid_facts.specs.Decisions.{MayMove, looked_on}
 use Rattle.lucid_facts.specs.Going.{Owns, Waits}
 use Rattle.lucid_facts.proofs.Seeing.{plain_ready}
-use Rattle.lucid_facts.proofs.Listing.{plain_of_row, changed_there}
+use Rattle.lucid_facts.proofs.Listing.{plain_of_row, changed_there, ready_after_take}
 use Rattle.lucid_facts.proofs.Noting.{stream_of_search}
 use Rattle.lucid_facts.proofs.Searching.{count-is_few}
 use Rattle.lucid_facts.proofs.Acting.{GoesDown, moves_goes_down}
@@ -24,10 +24,10 @@ use Rattle.lucid_demand.specs.Searching.{CanLookOn}
 use Rattle.lucid_demand.specs.declared.decide.Decision.TheVariants as decision
 use Rattle.lucid_demand.proofs.GoneRows.{goes_on_step}
 use Rattle.lucid_demand.proofs.Beginning.{noted_costs}
-use Rattle.lucid_demand.proofs.SettledRows.{ready_is_there, ready_taken}
+use Rattle.lucid_demand.proofs.SettledRows.{ready_is_there}
 
 -- A search that goes on stands before its limit, and counted no more than it looked at.
-pub can_look_on : (d : Demand) (e : Evaluating) (w : World) (slot : ℕ) (seen : Bool) → MayAct d e w slot (decision.Move seen) → CanLookOn e.rows slot
+pub can_look_on : (d : Demand) (e : Evaluating) (w : World) (slot : ℕ) (seen : Bool) → MayAct d e w slot (decision.LookOn seen) → CanLookOn e.rows slot
 can_look_on d e w slot seen act = record {
   before = λ r at. (act.justified r at).before;
   few = λ r at. few r at (act.justified r at);
@@ -57,7 +57,7 @@ pub looked_ready : (now inside new : Evaluating) (one two : List (Option TaskRow
     → rows.ChangesOnly inside.rows one slot (rows.taken 0) → rows.ChangesOnly one two slot (rows.taken 1) → rows.ChangesOnly two new.rows slot (rows.with_cursor c)
     → IsReadyTask now slot → IsReadyTask new slot
 looked_ready now inside new one two slot c same engine first second moved task = record {
-  ready = ap is_ready at ∙ sym (ap is_ready was) ∙ ready_taken one two slot 1 second (ready_taken inside.rows one slot 0 first (subst (λ z. IsTrue (is_ready (row_at z.rows slot))) (sym same) task.ready));
+  ready = ap is_ready at ∙ sym (ap is_ready was) ∙ ready_after_take one two slot 1 second ∙ ready_after_take inside.rows one slot 0 first ∙ subst (λ z. IsTrue (is_ready (row_at z.rows slot))) (sym same) task.ready;
   there = λ r is.
       let own : rows.with_cursor c taken ≡ r = same_Some (rows.with_cursor c taken) r (sym at ∙ is) in
       subst (λ (z : EngineView). r.task.node < length z.table.nodes) (sym engine)
@@ -79,7 +79,7 @@ looked_ready now inside new one two slot c same engine first second moved task =
 -- It looks on at less cost, and may step again.
 pub looked : (i : DemandIn) (now inside : Evaluating) (new one two : List (Option TaskRow)) (slot : ℕ) (seen : Bool) (cursor c : Cursor) → inside ≡ now
     → option_map (λ row. row.cursor) (row_at inside.rows slot) ≡ Some cursor → c ≡ looked_on cursor seen → rows.ChangesOnly inside.rows one slot (rows.taken 0)
-    → rows.ChangesOnly one two slot (rows.taken 1) → rows.ChangesOnly two new slot (rows.with_cursor c) → MayAct i.demand now i.world slot (decision.Move seen)
+    → rows.ChangesOnly one two slot (rows.taken 1) → rows.ChangesOnly two new slot (rows.with_cursor c) → MayAct i.demand now i.world slot (decision.LookOn seen)
     → IsReadyTask (record { engine = inside.engine; rows = new }) slot
     → MayStep i.demand (record { engine = inside.engine; rows = new }) i.world slot × (cost i.demand (record { engine = inside.engine; rows = new }) < cost i.demand now)
 looked i now inside new one two slot seen cursor c same stood next first second moved may task = (
@@ -87,8 +87,8 @@ looked i now inside new one two slot seen cursor c same stood next first second 
   subst (λ z. cost i.demand (record { engine = inside.engine; rows = new }) < cost i.demand z) same down.less,
 )
   where
-    act : MayAct i.demand inside i.world slot (decision.Move seen)
-    act = subst (λ z. MayAct i.demand z i.world slot (decision.Move seen)) (sym same) may
+    act : MayAct i.demand inside i.world slot (decision.LookOn seen)
+    act = subst (λ z. MayAct i.demand z i.world slot (decision.LookOn seen)) (sym same) may
 
     there : (r : TaskRow) × (row_at inside.rows slot ≡ Some r)
     there = ready_is_there inside.rows slot act.step.ready

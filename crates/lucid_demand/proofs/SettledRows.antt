@@ -16,7 +16,8 @@ use Rattle.lucid_store.specs.Stored.{Stored}
 use Rattle.lucid_ports.specs.World.{World}
 use Rattle.lucid_ports.specs.Faults.{Rises}
 use Rattle.lucid_equations.specs.Rows as table
-use Rattle.lucid_facts.specs.Tasks.{DatonAt, plain_task, plain_key, plain_row, plain_rows, value_of_part}
+use Rattle.lucid_facts.specs.Tasks.{PlainRow, DatonAt, plain_task, plain_key, plain_row, plain_rows, value_of_part}
+use Rattle.lucid_facts.specs.Parts.{node_of, IsReference}
 use Rattle.lucid_facts.specs.Engine.{EngineView, known_elements, holding, MayHave}
 use Rattle.lucid_facts.specs.Demands.{Demand, table_of, Answers}
 use Rattle.lucid_facts.specs.Decisions.{GivesByPlan}
@@ -29,7 +30,7 @@ use Rattle.lucid_facts.proofs.Listing.{plain_of_row, same_elsewhere, ready_after
 use Rattle.lucid_facts.proofs.Changing.{settles_after_taking}
 use Rattle.lucid_facts.proofs.Putting.{remembered-is_put}
 use Rattle.lucid_facts.proofs.Working.{answers_over, work_over}
-use Rattle.lucid_facts.proofs.Giving.{plan_answers}
+use Rattle.lucid_facts.proofs.Giving.{plan_answers, reference_answers}
 use Rattle.lucid_facts.proofs.Storing.{AfterPut, after_put}
 use Rattle.lucid_facts.proofs.Acting.{cost_of}
 use Rattle.lucid_demand.specs.Evaluating.{Evaluating, MayStep, Stepped, OnGoingOn, cost}
@@ -120,7 +121,7 @@ module _ (s : Settling) (now : Evaluating) (slot : ℕ) (v : Value) (m : MaySett
       put : AfterPut s.demand now.engine later s.world (plain_key now.engine.known k)
       put =
           after_put s.demand now.engine stored s.world k v m.waits.going.owns m.within known_tag
-          (λ b e. remembered-is_put s.demand b (holding now.engine) now.engine.stored.lost (plain_row now.engine.known r) (plain_key now.engine.known k) (plain v)
+          (λ b e. remembered-is_put s.demand b (holding now.engine) now.engine.stored.lost (plain_task now.engine.known r.task) (plain_key now.engine.known k) (plain v)
           ((facts b e).remembers (plain_key now.engine.known k) key_is) (m.answers r at b e)) change
 
   kept : (new : EngineView) (o : Option Key) → r.key ≡ o → IsKept o now.engine new v → Kept s now.engine new r v
@@ -162,37 +163,55 @@ settled s now new slot v m is settles =
     parent_is : parent_of now.rows slot ≡ row.parent
     parent_is = m.taken.parent ∙ ap (λ o. option_and_then (λ r. r.parent) o) at
 
--- A row may settle with the value that its form's plan gives, whatever was taken of its parts.
+-- A row may settle with what answers its task, whatever was taken of its parts,
+may_settle : (i : DemandIn) (e new : Evaluating) (slot : ℕ) (v : Value) → MayStep i.demand e i.world slot
+    → ((r : TaskRow) → row_at e.rows slot ≡ Some r → (b : Elements) → MayHave e.engine b
+    → RowFacts i.demand b (holding e.engine) e.engine.stored.lost (plain_row e.engine.known r) → Answers i.demand b (holding e.engine) e.engine.stored.lost (plain_task e.engine.known r.task) (plain v))
+    → new.engine ≡ e.engine → IsTaken e.rows new.rows slot → MaySettle (at_rows i e.rows) new slot v
+may_settle i e new slot v step answers same taken =
+    subst (λ (z : EngineView). MaySettle (at_rows i e.rows) (record { engine = z; rows = new.rows }) slot v) (sym same) (record {
+      waits = step.waits;
+      within = step.within;
+      ready = step.ready;
+      taken = taken;
+      answers = λ r at b m. answers r at b m (step.waits.going.work.each slot (plain_row e.engine.known r) (plain_of_row e.engine.known e.rows slot r at) b m);
+    })
+
+-- as with the value that its form's plan gives.
 pub gives_may_settle : (i : DemandIn) (e new : Evaluating) (slot : ℕ) (v : Value) → MayGive i.demand e i.world slot (plain v) → new.engine ≡ e.engine → IsTaken e.rows new.rows slot
     → MaySettle (at_rows i e.rows) new slot v
-gives_may_settle i e new slot v may same taken =
-    subst (λ (z : EngineView). MaySettle (at_rows i e.rows) (record { engine = z; rows = new.rows }) slot v) (sym same) (record {
-      waits = may.step.waits;
-      within = may.step.within;
-      ready = may.step.ready;
-      taken = taken;
-      answers = λ r at b m.
-          plan_answers i.demand b (holding e.engine) e.engine.stored.lost (plain_row e.engine.known r) may.step.demand
-          (may.step.waits.going.work.each slot (plain_row e.engine.known r) (plain_of_row e.engine.known e.rows slot r at) b m) (plain v) (may.gives r at);
-    })
+gives_may_settle i e new slot v may =
+    may_settle i e new slot v may.step
+    (λ r at b m facts. plan_answers i.demand b (holding e.engine) e.engine.stored.lost (plain_row e.engine.known r) may.step.demand facts (plain v) (may.gives r at))
 
 -- the value of a part, of the row and of its plain row
 pub part_value : (known : List Context) (rs : List (Option TaskRow)) (slot index : ℕ) (r : TaskRow) → row_at rs slot ≡ Some r
     → option_map plain (got_of rs (record { slot = slot; index = index })) ≡ value_of_part (plain_row known r) index
 part_value known rs slot index r at = plain_got known rs slot index ∙ ap (λ o. option_and_then (λ p. value_of_part p index) o) (plain_of_row known rs slot r at)
 
--- The value of the part that a decision names is given.
-pub part_gives : (d : Demand) (e : Evaluating) (w : World) (slot index : ℕ) (v : Value) → MayAct d e w slot (decision.Part index) → got_of e.rows (record { slot = slot; index = index }) ≡ Some v
-    → MayGive d e w slot (plain v)
-part_gives d e w slot index v act is = record {
-  step = act.step;
-  gives = λ r at. let j = (act.justified r at).1 in subst (λ u. GivesByPlan (table_of d) (plain_row e.engine.known r) u) (value r at j.0 j.1) j.2;
-}
+-- The value of the part that a decision names is that of the row.
+pub part_may_settle : (i : DemandIn) (e new : Evaluating) (slot index : ℕ) (v : Value) → MayAct i.demand e i.world slot (decision.Part index) → got_of e.rows (record { slot = slot; index = index }) ≡ Some v
+    → new.engine ≡ e.engine → IsTaken e.rows new.rows slot → MaySettle (at_rows i e.rows) new slot v
+part_may_settle i e new slot index v act is = may_settle i e new slot v act.step answers
   where
-    value : (r : TaskRow) → row_at e.rows slot ≡ Some r → (u : PlainValue) → value_of_part (plain_row e.engine.known r) index ≡ Some u → u ≡ plain v
-    value r at u has =
-        let both : Some (plain v) ≡ Some u = sym (ap (option_map plain) is) ∙ part_value e.engine.known e.rows slot index r at ∙ has in
-        cc
+    has : (r : TaskRow) → row_at e.rows slot ≡ Some r → value_of_part (plain_row e.engine.known r) index ≡ Some (plain v)
+    has r at = sym (part_value e.engine.known e.rows slot index r at) ∙ ap (option_map plain) is
+
+    same : (o : Option PlainValue) (u w : PlainValue) → o ≡ Some u → o ≡ Some w → u ≡ w
+    same o u w e f = let both : Some u ≡ Some w = sym e ∙ f in cc
+
+    answers : (r : TaskRow) → row_at e.rows slot ≡ Some r → (b : Elements) → MayHave e.engine b → RowFacts i.demand b (holding e.engine) e.engine.stored.lost (plain_row e.engine.known r)
+        → Answers i.demand b (holding e.engine) e.engine.stored.lost (plain_task e.engine.known r.task) (plain v)
+    answers r at b m facts = elim j.2 [
+      | inl gives ↦ plan_answers i.demand b (holding e.engine) e.engine.stored.lost row act.step.demand facts (plain v) (subst (λ u. GivesByPlan (table_of i.demand) row u) (same (value_of_part row index) j.0 (plain v) j.1 (has r at)) gives)
+      | inr of ↦ reference_answers i.demand b (holding e.engine) e.engine.stored.lost row facts of.0 (plain v) (subst (λ k. value_of_part row k ≡ Some (plain v)) of.1 (has r at))
+    ]
+      where
+        row : PlainRow
+        row = plain_row e.engine.known r
+
+        j : (u : PlainValue) × (value_of_part row index ≡ Some u) × (GivesByPlan (table_of i.demand) row u ⊎ (IsReference (node_of (table_of i.demand) row.task) × (index ≡ 0)))
+        j = (act.justified r at).1
 
 pub some_before : (o : Option Value) (u : PlainValue) → option_map plain o ≡ Some u → IsSome o
 some_before None u h = absurd (cc)
@@ -257,10 +276,6 @@ refused_same d old new before w f is same owns =
 pub ready_in : (rs ts : List (Option TaskRow)) (slot : ℕ) → ts ≡ rs → IsTrue (is_ready (row_at rs slot)) → IsTrue (is_ready (row_at ts slot))
 ready_in rs ts slot same ready = subst (λ z. IsTrue (is_ready (row_at z slot))) (sym same) ready
 
--- After a value of a part was taken the row is ready as before.
-pub ready_taken : (old new : List (Option TaskRow)) (slot i : ℕ) → rows.ChangesOnly old new slot (rows.taken i) → IsTrue (is_ready (row_at old slot)) → IsTrue (is_ready (row_at new slot))
-ready_taken old new slot i changes ready = ready_after_take old new slot i changes ∙ ready
-
 -- A step that settles, by what was taken and what the settling does.
 pub settled_part : (i : DemandIn) (e mid new : Evaluating) (slot index : ℕ) (v : Value) (result : Result (Option Value) DemandFault) → mid.engine ≡ e.engine
     → rows.ChangesOnly e.rows mid.rows slot (rows.taken index) → got_of e.rows (record { slot = slot; index = index }) ≡ Some v
@@ -268,7 +283,7 @@ pub settled_part : (i : DemandIn) (e mid new : Evaluating) (slot index : ℕ) (v
     → MayAct i.demand e i.world slot (decision.Part index) → Stepped i.demand e new i.world i.world result
 settled_part i e mid new slot index v result same changes is steps act =
     subst (λ (z : EngineView). Stepped i.demand (record { engine = z; rows = e.rows }) new i.world i.world result) same
-    (steps (at_rows i e.rows) (gives_may_settle i e mid slot v (part_gives i.demand e i.world slot index v act is) same
+    (steps (at_rows i e.rows) (part_may_settle i e mid slot index v act is same
     (one_more_taken e.rows e.rows mid.rows slot index (nothing_taken e.rows slot act.step.ready) changes)))
 
 pub settled_applied : (i : DemandIn) (e mid new : Evaluating) (slot : ℕ) (op : Op) (args : List ℕ) (v : Value) (result : Result (Option Value) DemandFault) → mid.engine ≡ e.engine

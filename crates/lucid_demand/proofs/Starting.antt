@@ -1,88 +1,73 @@
--- A demand starts: its root's row stands, and what becomes known on the row's way is entered by the root.
-use Rattle.std.proofs.Common.{◌≡◌, ◌⊎◌, inl, inr, ℕ, suc, ◌<◌, ◌==◌, List, [], length, Option, Some, None, refl, sym, ap, ◌∙◌, subst}
-use Rattle.std.specs.Prelude.{if◌then◌else◌}
-use Rattle.lucid_tree.specs.Members.{In}
-use Rattle.lucid_tree.specs.Levels.{Elements}
-use Rattle.lucid_tags.specs.Contexts.{Context, root, context_at}
-use Rattle.lucid_tags.specs.Known.{IsKnown, IsOneForOne, KeepsKnown, context_of, space_of, number_of}
+-- A demand begins: the policy has its turn, and the root may be asked for.
+use Rattle.std.proofs.Common.{◌≡◌, ℕ, ◌<◌, [], length, Option, None, sym, ap, ◌∙◌, subst}
+use Rattle.std.specs.Prelude.{Result, Ok, Err, Some}
+use Rattle.lucid_value.specs.declared.Value.{Value}
+use Rattle.lucid_tags.specs.Contexts.{root, context_at}
+use Rattle.lucid_tags.specs.Known.{IsKnown, context_of, space_of, number_of}
 use Rattle.lucid_tags.specs.declared.Tag.{Tag}
 use Rattle.lucid_tasks.specs.declared.Task.{Task}
-use Rattle.lucid_tasks.specs.Rows as rows
-use Rattle.lucid_tasks.specs.Rows.{TaskRow}
 use Rattle.lucid_ports.specs.World.{World}
-use Rattle.lucid_facts.specs.Tasks.{plain_task, plain_rows, new_row}
-use Rattle.lucid_facts.specs.Parts.{passed, passed_contexts}
-use Rattle.lucid_facts.specs.Engine.{EngineView, IsSound, AreAskable, known_elements, holding}
-use Rattle.lucid_facts.specs.Demands.{Demand, demand_of, IsSeen}
+use Rattle.lucid_facts.specs.Tasks.{plain_task}
+use Rattle.lucid_facts.specs.Engine.{EngineView, IsSound, AreAskable}
+use Rattle.lucid_facts.specs.Demands.{Demand, table_of, demand_of}
+use Rattle.lucid_facts.specs.Stands.{StandsFor}
+use Rattle.lucid_facts.specs.Rows.{IsWanted}
 use Rattle.lucid_facts.specs.Going.{IsDemand, Owns}
+use Rattle.lucid_facts.proofs.Standing.{stands-itself}
+use Rattle.lucid_facts.proofs.NewRows.{root-is_wanted}
 use Rattle.lucid_facts.proofs.Ends.{engine_begins}
-use Rattle.lucid_facts.proofs.Owning.{owns_enters}
-use Rattle.lucid_facts.proofs.FirstRow.{work_begins}
-use Rattle.lucid_facts.proofs.Listing.{plain_first}
-use Rattle.lucid_facts.proofs.Knowing.{known_begins}
 use Rattle.lucid_demand.specs.Evaluating.{Evaluating}
-use Rattle.lucid_demand.specs.Turning.{MayTurn}
-use Rattle.lucid_demand.proofs.GrownTags.{way_is_entered}
+use Rattle.lucid_demand.specs.Asking.{CanAsk, MayAskNow, AsksIn}
+use Rattle.lucid_demand.specs.Turning.{IsTurned, Begins}
+use Rattle.lucid_demand.specs.declared.fault.DemandFault.{DemandFault}
+use Rattle.lucid_demand.proofs.Turning.{owns_turned, emptied_turn}
 
-module _ (e : EngineView) (w : World) (t s m : ℕ) (sound : IsSound e) (ask : AreAskable e.streams w) (x : Task) (tag : IsKnown e.known x.tag)
-    (is : plain_task e.known x ≡ (demand_of e w t s m).root) where
+-- What asking for the root gave is how the demand begins.
+pub asked_begins : (d : Demand) (old new : Evaluating) (w : World) (result : Result (Option Value) DemandFault) → IsDemand d → AsksIn d old new w None result → Begins d new w result
+asked_begins d old new w (Ok None) is a = record { owns = a.owns; stands = record { demand = is; waits = a.goes_on.0 }; answers = tt; deep = λ e. absurd (cc); refused = tt }
+asked_begins d old new w (Ok (Some v)) is a = record { owns = a.owns; stands = tt; answers = a.answers; deep = λ e. absurd (cc); refused = tt }
+asked_begins d old new w (Err f) is a = record { owns = a.owns; stands = tt; answers = tt; deep = a.deep; refused = a.refused }
+
+-- The root's task is made of the empty context's tag, at a space.
+module _ (old turned : Evaluating) (t : IsTurned old.engine turned.engine) (none : turned.rows ≡ []) (node : ℕ) (empty tag : Tag) (time space limit : ℕ) (is_root : node ≡ turned.engine.table.root)
+    (empty_known : IsKnown turned.engine.known empty) (is_empty : context_of turned.engine.known empty ≡ root) (number : number_of tag ≡ number_of empty) (at_space : space_of tag ≡ space)
+    (w : World) (sound : IsSound old.engine) (ask : AreAskable old.engine.streams w) where
   abbrev d : Demand
-  d = demand_of e w t s m
+  d = demand_of old.engine w time space limit
 
-  begins : IsDemand d × Owns d e w
-  begins = engine_begins e w t s m sound ask
-
-  root_is_seen : (b : Elements) → IsSeen d b (plain_task e.known x)
-  root_is_seen b = subst (λ y. IsSeen d b y) (sym is) (record { added = 0; none = λ z. refl; holds = λ k l v i. i })
-
-  -- What is known on the way of the root's task is owned.
-  pub starts_owning : (known : List Context) → KeepsKnown e.known known → IsOneForOne known
-      → ((c : Context) → In c known → In c e.known ⊎ In c (passed_contexts e.table (suc x.node) (plain_task e.known x))) → Owns d (record e { known = known }) w
-  starts_owning known keeps one entered =
-      owns_enters d e w begins.1 known keeps one
-      (λ b may c i. elim (entered c i) [ inl o ↦ inl o | inr j ↦ way_is_entered d b e.known x c begins.0.in_range tag (root_is_seen b) (suc x.node) j ])
-
-  -- The first row stands.
-  pub starts : (new : Evaluating) (known : List Context) (task : Task) (slot : ℕ) → Owns d (record e { known = known }) w → new.engine ≡ record e { known = known }
-      → plain_task known task ≡ passed e.table (plain_task e.known x) → IsKnown known task.tag → rows.SetsOnly [] new.rows slot (Some (rows.fresh task None)) → MayTurn d new w
-  starts new known task slot owns same stands there sets =
-      subst (λ (y : EngineView). MayTurn d (record { engine = y; rows = new.rows }) w) (sym same) (record {
-        demand = begins.0;
-        waits = record {
-          going = record {
-            work = work_begins d (known_elements e) (holding (record e { known = known })) e.stored.lost (plain_rows known new.rows) slot begins.0
-                (λ q. plain_first known new.rows slot task sets q ∙ ap (λ y. if q == slot then Some (new_row y None None) else None) (stands ∙ ap (passed e.table) is));
-            owns = owns;
-          };
-          known = known_begins known new.rows slot task there sets;
-        };
-      })
-
--- The same over what an evaluation has inside: the root's task is made of the empty context's tag, at a space.
-module _ (old : Evaluating) (e : EngineView) (inner : List (Option TaskRow)) (is_view : record { engine = e; rows = inner } ≡ old) (node : ℕ) (empty tag : Tag) (t s m : ℕ) (is_root : node ≡ e.table.root)
-    (empty_known : IsKnown e.known empty) (is_empty : context_of e.known empty ≡ root) (number : number_of tag ≡ number_of empty) (space : space_of tag ≡ s) (known : List Context)
-    (keeps : KeepsKnown e.known known) (one : IsOneForOne known)
-    (entered : (c : Context) → In c known → In c e.known ⊎ In c (passed_contexts e.table (suc node) (plain_task e.known (record { node = node; tag = tag; time = t; depth = m })))) where
   abbrev first : Task
-  first = record { node = node; tag = tag; time = t; depth = m }
+  first = record { node = node; tag = tag; time = time; depth = limit }
 
-  tag_known : IsKnown e.known tag
-  tag_known = subst (λ n. n < length e.known) (sym number) empty_known
+  begins : IsDemand d × Owns d old.engine w
+  begins = engine_begins old.engine w time space limit sound ask
 
-  is_first : (w : World) → plain_task e.known first ≡ (demand_of e w t s m).root
-  is_first w = λ i. record { node = is_root i; context = (ap (context_at e.known) number ∙ is_empty) i; time = t; space = space i; limit = m }
+  is_first : plain_task turned.engine.known first ≡ d.root
+  is_first = λ i. record {
+    node = (is_root ∙ ap (λ (e : EngineView). e.table.root) t.only) i;
+    context = (ap (context_at turned.engine.known) number ∙ is_empty) i;
+    time = time;
+    space = at_space i;
+    limit = limit;
+  }
 
-  same_engine : e ≡ old.engine
-  same_engine = ap (λ (x : Evaluating). x.engine) is_view
+  pub root_may_be_asked : MayAskNow d turned w None first
+  root_may_be_asked = record {
+    demand = begins.0;
+    owns = owns_turned d old.engine turned.engine w begins.1 t;
+    nothing = (emptied_turn d old.engine turned.engine w begins.1 t).nothing;
+    wanted = λ b m. subst (λ x. IsWanted d b x) (sym is_first) (root-is_wanted d b begins.0);
+    tag = subst (λ n. n < length turned.engine.known) (sym number) empty_known;
+    is_for = (none, subst (λ x. StandsFor (table_of d) [] x d.root) (sym is_first) (stands-itself (table_of d) d.root));
+  }
 
-  pub started_owning : (w : World) → IsSound old.engine → AreAskable old.engine.streams w → Owns (demand_of old.engine w t s m) (record e { known = known }) w
-  started_owning w = subst (λ (x : EngineView). IsSound x → AreAskable x.streams w → Owns (demand_of x w t s m) (record e { known = known }) w) same_engine
-      (λ sound ask. starts_owning e w t s m sound ask first tag_known (is_first w) known keeps one entered)
+  -- What asking for it gave is how the demand begins.
+  pub root_begins : (view : Evaluating) → view ≡ turned → (new : Evaluating) (result : Result (Option Value) DemandFault) → (MayAskNow d view w None first → AsksIn d view new w None result) → Begins d new w result
+  root_begins view same new result asks =
+      asked_begins d view new w result begins.0 (asks (subst (λ e. MayAskNow d e w None first) (sym same) root_may_be_asked))
 
-  pub started : (rows_before rows_now : List (Option TaskRow)) (task : Task) (slot : ℕ) → rows_before ≡ [] → plain_task known task ≡ passed e.table (plain_task e.known first) → IsKnown known task.tag
-      → rows.SetsOnly rows_before rows_now slot (Some (rows.fresh task None)) → (w : World) → IsSound old.engine → AreAskable old.engine.streams w
-      → MayTurn (demand_of old.engine w t s m) (record { engine = record e { known = known }; rows = rows_now }) w
-  started rows_before rows_now task slot none stands there sets w =
-      subst (λ (x : EngineView). IsSound x → AreAskable x.streams w → MayTurn (demand_of x w t s m) (record { engine = record e { known = known }; rows = rows_now }) w) same_engine
-      (λ sound ask. starts e w t s m sound ask first tag_known (is_first w) (record { engine = record e { known = known }; rows = rows_now }) known task slot
-      (starts_owning e w t s m sound ask first tag_known (is_first w) known keeps one entered) refl stands there (subst (λ rs. rows.SetsOnly rs rows_now slot (Some (rows.fresh task None))) none sets))
+-- The root can be asked for.
+pub root_can_be_asked : (o turned : Evaluating) (view : o ≡ turned) (node : ℕ) (empty tag : Tag) (time limit : ℕ) → node < length o.engine.table.nodes → IsKnown o.engine.known empty → number_of tag ≡ number_of empty
+    → CanAsk turned None (record { node = node; tag = tag; time = time; depth = limit })
+root_can_be_asked o turned view node empty tag time limit there known number =
+    subst (λ e. CanAsk e None (record { node = node; tag = tag; time = time; depth = limit })) view
+    (record { part_idle = tt; there = there; known = subst (λ n. n < length o.engine.known) (sym number) known })

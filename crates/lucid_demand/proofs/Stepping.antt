@@ -14,7 +14,7 @@ use Rattle.lucid_equations.specs.Rows.{equations_of, constant_at}
 use Rattle.lucid_equations.specs.Rows as table
 use Rattle.lucid_equations.specs.declared.rows.Node.TheVariants as node
 use Rattle.lucid_equations.specs.declared.table.Table.{Table}
-use Rattle.lucid_facts.specs.Tasks.{plain_row}
+use Rattle.lucid_facts.specs.Tasks.{plain_task, plain_row}
 use Rattle.lucid_facts.specs.Stands.{IsDefined}
 use Rattle.lucid_facts.specs.Held.{HoldsRight}
 use Rattle.lucid_facts.specs.Engine.{known_elements, holding, MayHave}
@@ -22,6 +22,7 @@ use Rattle.lucid_facts.specs.Demands.{Demand, table_of, stays}
 use Rattle.lucid_facts.specs.Decisions.{element_too_deep}
 use Rattle.lucid_facts.specs.Rows.{RowFacts}
 use Rattle.lucid_facts.proofs.Listing.{plain_of_row}
+use Rattle.lucid_facts.proofs.NewRows.{row-is_wanted}
 use Rattle.lucid_facts.proofs.Asking.{nothing_is_right}
 use Rattle.lucid_facts.proofs.Answering.{too_deep-is_right}
 use Rattle.lucid_demand.specs.Answers.{MayDecide}
@@ -144,6 +145,6 @@ module _ (d : Demand) (e : Evaluating) (w : World) (slot : ℕ) where
       deep b may = elim j.2 [
         | inl comes ↦ nothing_is_right d b (holding e.engine) e.engine.stored.lost (plain_row e.engine.known j.0) act.step.demand (right_now d e w slot act.step b may)
             (facts_of_row d e w slot act.step j.0 j.1 b may) comes
-        | inr none ↦ too_deep-is_right d b (holding e.engine) e.engine.stored.lost (plain_row e.engine.known j.0) (facts_of_row d e w slot act.step j.0 j.1 b may)
+        | inr none ↦ too_deep-is_right d b (plain_task e.engine.known j.0.task) (row-is_wanted d b (holding e.engine) e.engine.stored.lost (plain_row e.engine.known j.0) (facts_of_row d e w slot act.step j.0 j.1 b may))
             (element_too_deep none.2 none.3) (λ k to. absurd (no_daton none.0 none.1 k.0 to.position to.time (sym none.2 ∙ to.aim)))
       ]

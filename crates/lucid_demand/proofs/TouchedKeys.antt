@@ -20,31 +20,32 @@ use Rattle.lucid_facts.proofs.HeldByKey.{held_by_key, held_stays}
 use Rattle.lucid_facts.proofs.Owning.{owns_drops, few_where_fewer}
 use Rattle.lucid_facts.proofs.Working.{work_over}
 
-module _ (d : Demand) (now : EngineView) (w : World) (rs : List (Option TaskRow)) (stored : Stored) (key : Key) (waits : Waits d now w rs) (touched : IsTouched now.stored stored key) where
+module _ (d : Demand) (now : EngineView) (w : World) (stored : Stored) (key : Key) (owns : Owns d now w) (touched : IsTouched now.stored stored key) where
   -- each daton is held as it was
   pub held_as_before : (k : DatonAt) → held_in now.known stored k.0 k.1 ≡ holding now k.0 k.1
-  held_as_before k = (held_stays now.known now.stored stored waits.going.owns.contexts waits.going.owns.keys (held-touched now.stored stored key touched)).1 k
+  held_as_before k = (held_stays now.known now.stored stored owns.contexts owns.keys (held-touched now.stored stored key touched)).1 k
 
-  -- The rows wait on after a look-up.
-  pub waits_touched : Waits d (record now { stored = stored }) w rs
-  waits_touched = record {
+  -- What is owned stays right after a look-up,
+  pub owns_touched : Owns d (record now { stored = stored }) w
+  owns_touched =
+      owns_drops d now w owns stored now.noted (λ k v h. sym (held-touched now.stored stored key touched k) ∙ h) (λ keeps k. held-touched now.stored stored key touched k)
+      (omega (arith, touched.lost)) (λ node tag k number h. h) (λ h. few_where_fewer d.first.room now.stored stored (omega (arith, touched.count)) (owns.since.few h))
+
+  -- and the rows wait on.
+  pub waits_touched : (rs : List (Option TaskRow)) → Waits d now w rs → Waits d (record now { stored = stored }) w rs
+  waits_touched rs waits = record {
     going = record {
       work = work_over d (known_elements now) (holding now) (held_in now.known stored) now.stored.lost stored.lost (plain_rows now.known rs)
           (λ keeps z. (sym touched.lost ∙ z, λ q i. subst (λ o. IsSome o) (sym (held_as_before q)) i)) waits.going.work;
-      owns = owns_drops d now w waits.going.owns stored now.noted (λ k v h. sym (held-touched now.stored stored key touched k) ∙ h) (λ keeps k. held-touched now.stored stored key touched k)
-          (omega (arith, touched.lost)) (λ node tag k number h. h)
-          (λ h. few_where_fewer d.first.room now.stored stored (omega (arith, touched.count)) (waits.going.owns.since.few h));
+      owns = owns_touched;
     };
     known = waits.known;
   }
 
   -- What is found under a known key is what is held of its daton, before and after.
-  pub found_is_held : (found : Option Value) → IsKnown now.known key.tag → found ≡ value_at now.stored key → holding now (plain_key now.known key).0 (plain_key now.known key).1 ≡ option_map plain found
-  found_is_held found tag is = held_by_key now.known now.stored key waits.going.owns.contexts waits.going.owns.keys tag ∙ ap (option_map plain) (sym is)
-
-  pub found_is_held_then : (found : Option Value) → IsKnown now.known key.tag → found ≡ value_at now.stored key
+  pub found_is_held : (found : Option Value) → IsKnown now.known key.tag → found ≡ value_at now.stored key
       → held_in now.known stored (plain_key now.known key).0 (plain_key now.known key).1 ≡ option_map plain found
-  found_is_held_then found tag is = held_as_before (plain_key now.known key) ∙ found_is_held found tag is
+  found_is_held found tag is = held_as_before (plain_key now.known key) ∙ held_by_key now.known now.stored key owns.contexts owns.keys tag ∙ ap (option_map plain) (sym is)
 
 -- What isn't held doesn't stay held.
 pub absent_is_no_stay : (d : Demand) (now : EngineView) (w : World) (k : DatonAt) → Owns d now w → holding now k.0 k.1 ≡ None → stays d k.0 k.1 ≡ None

@@ -1,24 +1,24 @@
 -- A policy's turn keeps what is true of a demand's loop, and leaves what a step asks for.
 use Rattle.std.proofs.Common.{◌≡◌, ℕ, List, [], ◌∷◌, Option, Some, None, refl, sym, ap, ◌∙◌, subst, arith, length}
-use Rattle.std.specs.Prelude.{IsTrue, is_some, option_map, Result}
+use Rattle.std.specs.Prelude.{IsTrue, IsSome, is_some, option_map, Result}
 use Rattle.std.specs.Map.{lookup}
 use Rattle.lucid_value.specs.declared.Value.{Value}
+use Rattle.lucid_value.specs.Plain.{PlainValue}
 use Rattle.lucid_value.specs.View.{plain}
-use Rattle.lucid_tags.specs.declared.Tag.{Tag}
+use Rattle.lucid_tree.specs.Levels.{Elements}
 use Rattle.lucid_tasks.specs.Rows.{TaskRow, row_at, is_ready}
 use Rattle.lucid_store.specs.Stored.{Stored}
 use Rattle.lucid_store.specs.Entries.{count_of}
-use Rattle.lucid_search.specs.Noted.{Noted, number_at}
-use Rattle.lucid_retire.specs.Turns.{IsTurn, HoldsAtMost}
+use Rattle.lucid_retire.specs.Turns.{HoldsAtMost}
 use Rattle.lucid_ports.specs.World.{World}
-use Rattle.lucid_facts.specs.Tasks.{DatonAt, plain_rows}
+use Rattle.lucid_facts.specs.Tasks.{PlainTask, DatonAt, plain_rows}
 use Rattle.lucid_facts.specs.Held.{is_key_of}
 use Rattle.lucid_facts.specs.Engine.{EngineView, known_elements, holding, HoldsFew}
-use Rattle.lucid_facts.specs.Demands.{Demand}
+use Rattle.lucid_facts.specs.Demands.{Demand, Answers}
 use Rattle.lucid_facts.specs.Stock.{IsEmptied}
 use Rattle.lucid_facts.specs.Going.{Owns, Waits, WithinRoom}
 use Rattle.lucid_facts.proofs.HeldByKey.{held_stays}
-use Rattle.lucid_facts.proofs.Working.{work_over}
+use Rattle.lucid_facts.proofs.Working.{answers_over, work_over}
 use Rattle.lucid_facts.proofs.Owning.{owns_drops}
 use Rattle.lucid_demand.specs.Evaluating.{Evaluating, MayStep, Stepped, cost}
 use Rattle.lucid_demand.specs.Turning.{MayTurn, IsTurned}
@@ -38,65 +38,69 @@ few_within : (r : Option ℕ) (w : Stored) → WithinRoom r w → HoldsFew r w
 few_within None w h = tt
 few_within (Some n) w h = omega (arith, h)
 
-module _ (d : Demand) (now : EngineView) (w : World) (rs : List (Option TaskRow)) (waits : Waits d now w rs) (stored : Stored) (noted : Noted)
-    (turn : IsTurn now.keeps now.empties now.room now.stored stored)
-    (notes : (node : ℕ) (tag : Tag) (key number : ℕ) → number_at noted node tag key ≡ Some number → number_at now.noted node tag key ≡ Some number)
-    (unnoted : IsTrue now.empties → (node : ℕ) (tag : Tag) (key : ℕ) → number_at noted node tag key ≡ None) where
-  abbrev later : EngineView
-  later = record now { stored = stored; noted = noted }
+module _ (d : Demand) (now later : EngineView) (w : World) (owns : Owns d now w) (t : IsTurned now later) where
+  abbrev turned : EngineView
+  turned = record now { stored = later.stored; noted = later.noted }
 
   keeps_now : IsTrue d.first.keeps → IsTrue now.keeps
-  keeps_now k = waits.going.owns.since.goes_on.keeps ∙ k
-
-  -- as many as the policy leaves are held,
-  pub within_turn : WithinRoom d.first.room stored
-  within_turn = subst (λ r. WithinRoom r stored) waits.going.owns.since.goes_on.room (within_room now.room stored turn.limited)
-
-  same : IsTrue d.first.keeps → (k : DatonAt) → holding later k.0 k.1 ≡ holding now k.0 k.1
-  same k = (held_stays now.known now.stored stored waits.going.owns.contexts waits.going.owns.keys (turn.kept (keeps_now k))).1
-
-  owned : Owns d later w
-  owned =
-      owns_drops d now w waits.going.owns stored noted turn.drops (λ k. turn.kept (keeps_now k)) (let e = turn.lost in omega (arith, e)) notes
-      (λ few. few_within d.first.room stored within_turn)
-
-  -- the invariant holds still,
-  pub waits_turn : Waits d later w rs
-  waits_turn = record {
-    going = record {
-      work = work_over d (known_elements now) (holding now) (holding later) now.stored.lost stored.lost (plain_rows now.known rs)
-          (λ k z. (let e = turn.lost in omega (arith, e, z), λ q i. ap is_some (same k q) ∙ i)) waits.going.work;
-      owns = owned;
-    };
-    known = waits.known;
-  }
+  keeps_now k = owns.since.goes_on.keeps ∙ k
 
   empties_now : IsTrue d.first.empties → IsTrue now.empties
-  empties_now e = waits.going.owns.since.goes_on.empties ∙ e
+  empties_now e = owns.since.goes_on.empties ∙ e
 
-  none_left : IsTrue d.first.empties → count_of stored ≡ 0
-  none_left e = turn.emptied (empties_now e)
+  -- as many as the policy leaves are held,
+  pub within_turn : WithinRoom d.first.room later.stored
+  within_turn = subst (λ r. WithinRoom r later.stored) owns.since.goes_on.room (within_room now.room later.stored t.turn.limited)
+
+  same : IsTrue d.first.keeps → (k : DatonAt) → holding turned k.0 k.1 ≡ holding now k.0 k.1
+  same k = (held_stays now.known now.stored later.stored owns.contexts owns.keys (t.turn.kept (keeps_now k))).1
+
+  -- what was needed and held is held, under a policy that keeps,
+  over : IsTrue d.first.keeps → later.stored.lost ≡ 0 → (now.stored.lost ≡ 0) × ((k : DatonAt) → IsSome (holding now k.0 k.1) → IsSome (holding turned k.0 k.1))
+  over k z = (let e = t.turn.lost in omega (arith, e, z), λ q i. ap is_some (same k q) ∙ i)
+
+  owned : Owns d turned w
+  owned =
+      owns_drops d now w owns later.stored later.noted t.turn.drops (λ k. t.turn.kept (keeps_now k)) (let e = t.turn.lost in omega (arith, e)) t.noted
+      (λ few. few_within d.first.room later.stored within_turn)
+
+  pub owns_turned : Owns d later w
+  owns_turned = subst (λ e. Owns d e w) (sym t.only) owned
+
+  -- the rows wait on,
+  pub waits_turned : (rs : List (Option TaskRow)) → Waits d now w rs → Waits d later w rs
+  waits_turned rs waits = subst (λ e. Waits d e w rs) (sym t.only) (record {
+    going = record { work = work_over d (known_elements now) (holding now) (holding turned) now.stored.lost later.stored.lost (plain_rows now.known rs) over waits.going.work; owns = owned };
+    known = waits.known;
+  })
+
+  -- what answers a task answers it,
+  pub answers_turned : (b : Elements) (x : PlainTask) (v : PlainValue) → Answers d b (holding now) now.stored.lost x v → Answers d b (holding later) later.stored.lost x v
+  answers_turned b x v a =
+      subst (λ (e : EngineView). Answers d b (holding e) e.stored.lost x v) (sym t.only) (answers_over d (holding now) (holding turned) now.stored.lost later.stored.lost over b x v a)
+
+  none_left : IsTrue d.first.empties → count_of later.stored ≡ 0
+  none_left e = t.turn.emptied (empties_now e)
 
   -- and under a policy that empties nothing is held or noted.
-  pub emptied_turn : IsEmptied d (holding later) noted
-  emptied_turn = record {
-    nothing = λ e k s. ap (λ es. option_map (λ x. plain x.value) (lookup (is_key_of now.known k s) es)) (no_entries stored.entries (none_left e));
-    unnoted = λ e. unnoted (empties_now e);
-  }
+  pub emptied_turn : IsEmptied d (holding later) later.noted
+  emptied_turn = subst (λ (e : EngineView). IsEmptied d (holding e) later.noted) (sym t.only) (record {
+    nothing = λ e k s. ap (λ es. option_map (λ x. plain x.value) (lookup (is_key_of now.known k s) es)) (no_entries later.stored.entries (none_left e));
+    unnoted = λ e. t.unnoted (empties_now e);
+  })
 
 -- After the policy's turn a ready row may take its step.
 pub turned_may_step : (d : Demand) (old mid : Evaluating) (w : World) (slot : ℕ) → MayTurn d old w → IsTurned old.engine mid.engine → mid.rows ≡ old.rows → IsTrue (is_ready (row_at mid.rows slot))
     → MayStep d mid w slot
-turned_may_step d old mid w slot may t same ready =
-    subst (λ (e : Evaluating). MayStep d e w slot) (λ i. record { engine = sym t.only i; rows = sym same i }) (record {
-      demand = may.demand;
-      waits = waits_turn d old.engine w old.rows may.waits mid.engine.stored mid.engine.noted t.turn t.noted t.unnoted;
-      emptied = emptied_turn d old.engine w old.rows may.waits mid.engine.stored mid.engine.noted t.turn t.noted t.unnoted;
-      within = within_turn d old.engine w old.rows may.waits mid.engine.stored mid.engine.noted t.turn t.noted t.unnoted;
-      ready = subst (λ rs. IsTrue (is_ready (row_at rs slot))) same ready;
-    })
+turned_may_step d old mid w slot may t same ready = record {
+  demand = may.demand;
+  waits = subst (λ rs. Waits d mid.engine w rs) (sym same) (waits_turned d old.engine mid.engine w may.waits.going.owns t old.rows may.waits);
+  emptied = emptied_turn d old.engine mid.engine w may.waits.going.owns t;
+  within = within_turn d old.engine mid.engine w may.waits.going.owns t;
+  ready = ready;
+}
 
-turned_cost : (d : Demand) (old mid : Evaluating) → IsTurned old.engine mid.engine → mid.rows ≡ old.rows → cost d mid ≡ cost d old
+pub turned_cost : (d : Demand) (old mid : Evaluating) → IsTurned old.engine mid.engine → mid.rows ≡ old.rows → cost d mid ≡ cost d old
 turned_cost d old mid t same = ap (λ (e : Evaluating). cost d e) (λ i. record { engine = t.only i; rows = same i })
 
 -- What the row's step does is what the turn does.

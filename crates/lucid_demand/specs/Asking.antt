@@ -1,5 +1,5 @@
--- When a row may ask for its parts or go on with its reference, and what asking for a part does.
-use Rattle.std.specs.Prelude.{◌≡◌, ℕ, ◌<◌, List, Option, Some, None, IsTrue, Result, IfOk, IfSome, OnOk, ◌⊎◌, length, slice_get, option_map}
+-- When a task may be asked for, for a part of a row or as the root, and what asking does.
+use Rattle.std.specs.Prelude.{◌≡◌, ℕ, suc, ◌<◌, ◌≤◌, List, [], Option, Some, None, IsTrue, Result, Err, IfOk, IfErr, IfSome, ◌⊎◌, length, slice_get, option_map}
 use Rattle.std.specs.List.{filter_map}
 use Rattle.lucid_tree.specs.Members.{In}
 use Rattle.lucid_tree.specs.Levels.{Elements, entered_of}
@@ -9,27 +9,28 @@ use Rattle.lucid_tags.specs.Contexts.{Context}
 use Rattle.lucid_tags.specs.Known.{IsKnown, IsOneForOne, KeepsKnown, space_of}
 use Rattle.lucid_tasks.specs.declared.Part.{Part}
 use Rattle.lucid_tasks.specs.declared.Task.{Task}
-use Rattle.lucid_tasks.specs.Rows.{TaskRow, PartState, Idle, row_at, state_of, with_part, is_ready, IsRow, IsIdleRow}
+use Rattle.lucid_value.specs.declared.Value.{Value}
+use Rattle.lucid_value.specs.View.{plain}
+use Rattle.lucid_tasks.specs.Rows.{TaskRow, PartState, row_at, with_part, is_ready, IsIdlePart}
 use Rattle.lucid_ports.specs.World.{World}
 use Rattle.lucid_equations.specs.declared.table.Table.{Table}
 use Rattle.lucid_equations.specs.Datons.{Daton}
-use Rattle.lucid_facts.specs.Tasks.{PlainTask, idle, state_at, plain_task, plain_key, plain_row}
-use Rattle.lucid_facts.specs.Parts.{node_of, rank, aim_of_task, IsReference, GoesTo}
-use Rattle.lucid_facts.specs.Stands.{visits_of}
+use Rattle.lucid_facts.specs.Tasks.{PlainTask, PlainRow, idle, state_at, plain_task, plain_rows}
+use Rattle.lucid_facts.specs.Parts.{node_of, rank, aim_of_task, IsReference, IsPart}
+use Rattle.lucid_facts.specs.Stands.{visits_of, IsDefined, StandsFor}
 use Rattle.lucid_facts.specs.Engine.{EngineView, holding, MayHave}
-use Rattle.lucid_facts.specs.Demands.{Demand, table_of, stays}
-use Rattle.lucid_facts.specs.Rows.{PartIsRight}
-use Rattle.lucid_facts.specs.Decisions.{AsksFor}
+use Rattle.lucid_facts.specs.Demands.{Demand, table_of, stays, Answers}
+use Rattle.lucid_facts.specs.Rows.{IsWanted}
 use Rattle.lucid_facts.specs.Going.{IsDemand, Owns, Waits}
-use Rattle.lucid_demand.specs.Evaluating.{Evaluating, cost}
+use Rattle.lucid_demand.specs.Evaluating.{Evaluating, cost, OnAnswer, OnGoingOn}
 use Rattle.lucid_demand.specs.Aims.{plain_aim, IsAim}
 use Rattle.lucid_demand.specs.declared.aim.Aim.{Aim}
+use Rattle.lucid_demand.specs.declared.fault.DemandFault.{DemandFault}
+use Rattle.lucid_demand.specs.declared.fault.DemandFault.TheVariants.{TooDeep, NoMemory}
 
--- The part of a row is idle, and the task is one of the table's, in a known context.
-pub record CanAsk (e : Evaluating) (part : Part) (x : Task) : Type 0 where
-  pub row : IsRow e.rows part.slot
-  pub index : part.index < 3
-  pub idle : state_of e.rows part ≡ Some Idle
+-- The part, if it is for one, is idle, and the task is one of the table's, in a known context.
+pub record CanAsk (e : Evaluating) (part : Option Part) (x : Task) : Type 0 where
+  pub part_idle : IfSome part (IsIdlePart e.rows)
   pub there : x.node < length e.engine.table.nodes
   pub known : IsKnown e.engine.known x.tag
 
@@ -39,47 +40,61 @@ pub record CanAskAll (e : Evaluating) (slot : ℕ) (op : Op) (args : List ℕ) :
   pub known : (r : TaskRow) → row_at e.rows slot ≡ Some r → IsKnown e.engine.known r.task.tag
   pub there : (i n : ℕ) → i < arity op → slice_get args i ≡ Some n → n < length e.engine.table.nodes
 
--- The task of the row in the slot is one of the table's, in a known context.
-pub record HasTask (e : Evaluating) (slot : ℕ) : Type 0 where
-  pub there : (r : TaskRow) → row_at e.rows slot ≡ Some r → r.task.node < length e.engine.table.nodes
-  pub known : (r : TaskRow) → row_at e.rows slot ≡ Some r → IsKnown e.engine.known r.task.tag
-
--- The same, and no part of the row was asked or got.
-pub record CanRefer (e : Evaluating) (slot : ℕ) : Type 0 where
-  pub idle : IsIdleRow e.rows slot
-  pub task : HasTask e slot
-
--- What asking for a part does to the row, whoever asks: that part alone is set. No known context is forgotten, and of what is held a value
--- may have been looked up.
+-- What asking for a part does to the row, whoever asks: that part alone is set. No known context is forgotten; of what is held a value may
+-- have been looked up, and then the policy had its turn.
 pub record SetsPart (old new : Evaluating) (part : Part) : Type 0 where
   pub state : PartState
   pub row : row_at new.rows part.slot ≡ option_map (with_part part.index state) (row_at old.rows part.slot)
-  pub only : new.engine ≡ record old.engine { known = new.engine.known; stored = new.engine.stored }
+  pub only : new.engine ≡ record old.engine { known = new.engine.known; stored = new.engine.stored; noted = new.engine.noted }
   pub keeps : KeepsKnown old.engine.known new.engine.known
 
 -- nothing is held, under a policy that empties
 abbrev pub HoldsNothing : Demand → EngineView → Type 0
 HoldsNothing d now = IsTrue d.first.empties → (k : Daton) (s : ℕ) → holding now k s ≡ None
 
--- What it does in a demand: what the engine owns stays right, and where it isn't refused, the rows wait on at less cost.
-pub record AsksIn {A E : Type 0} (d : Demand) (old new : Evaluating) (w : World) (result : Result A E) : Type 0 where
+-- What asking does in a demand. What the engine owns stays right. The rows wait on, at less cost where the asking was for a part; or the
+-- root, which was asked for, has its value; or it is refused, too deep only where the root's approximation with what stays held is undefined.
+pub record AsksIn (d : Demand) (old new : Evaluating) (w : World) (part : Option Part) (result : Result (Option Value) DemandFault) : Type 0 where
   pub owns : Owns d new.engine w
-  pub goes_on : OnOk result (Waits d new.engine w new.rows × (cost d new < cost d old))
-  pub nothing : OnOk result (HoldsNothing d old.engine → HoldsNothing d new.engine)
+  pub goes_on : OnGoingOn result (Waits d new.engine w new.rows × IfSome part (λ p. cost d new < cost d old))
+  pub answers : OnAnswer result (λ v. (b : Elements) → MayHave new.engine b → Answers d b (holding new.engine) new.engine.stored.lost d.root (plain v))
+  pub nothing : OnGoingOn result (HoldsNothing d new.engine)
+  pub deep : result ≡ Err TooDeep → (b : Elements) → MayHave new.engine b → IsDefined (table_of d) b (stays d) d.root → ⊥
+  pub refused : IfErr result (λ f. (f ≡ TooDeep) ⊎ (f ≡ NoMemory))
 
--- A part of a row may be asked for by a task that stands for it, of which nothing more can be passed.
-pub record MayAskAs (d : Demand) (e : Evaluating) (w : World) (part : Part) (x : Task) : Type 0 where
-  pub demand : IsDemand d
+-- A task is asked for an idle part, for which it stands, of a row that waits and ranks no lower than so.
+pub record IsForPart (d : Demand) (e : Evaluating) (w : World) (part : Part) (x : PlainTask) (least : ℕ) : Type 0 where
   pub waits : Waits d e.engine w e.rows
-  pub nothing : HoldsNothing d e.engine
-  pub row : TaskRow
-  pub there : row_at e.rows part.slot ≡ Some row
-  pub free : state_at (plain_row e.engine.known row).parts part.index ≡ idle
+  pub parent : PlainRow
+  pub there : plain_rows e.engine.known e.rows part.slot ≡ Some parent
+  pub free : state_at parent.parts part.index ≡ idle
   pub few : part.index < 3
-  pub ranks : 0 < rank (table_of d) (plain_task e.engine.known row.task)
-  pub asks : AsksFor (table_of d) (plain_row e.engine.known row) part.index (plain_task e.engine.known x)
-  pub right : (b : Elements) → MayHave e.engine b → PartIsRight d b (plain_row e.engine.known row) (plain_task e.engine.known x)
+  pub task : PlainTask
+  pub is_part : IsPart (table_of d) parent part.index task
+  pub stands : StandsFor (table_of d) [] x task
+  pub least_rank : least ≤ rank (table_of d) parent.task
+
+-- Or, where no row waits, it stands for the demand's root.
+abbrev pub IsFor : Demand → Evaluating → World → Option Part → PlainTask → ℕ → Type 0
+IsFor d e w None x least = (e.rows ≡ []) × StandsFor (table_of d) [] x d.root
+IsFor d e w (Some part) x least = IsForPart d e w part x least
+
+-- A task may be asked for in a demand.
+pub record MayAskFor (d : Demand) (e : Evaluating) (w : World) (part : Option Part) (x : Task) (least : ℕ) : Type 0 where
+  pub demand : IsDemand d
+  pub owns : Owns d e.engine w
+  pub nothing : HoldsNothing d e.engine
+  pub wanted : (b : Elements) → MayHave e.engine b → IsWanted d b (plain_task e.engine.known x)
   pub tag : IsKnown e.engine.known x.tag
+  pub is_for : IsFor d e w part (plain_task e.engine.known x) least
+
+-- Any task: what it stands for costs more.
+abbrev pub MayAskNow : Demand → Evaluating → World → Option Part → Task → Type 0
+MayAskNow d e w part x = MayAskFor d e w part x (suc (rank (table_of d) (plain_task e.engine.known x)))
+
+-- A reference: its body costs less than itself, so its own row may ask for it.
+abbrev pub MayRefer : Demand → Evaluating → World → Option Part → Task → Type 0
+MayRefer d e w part x = MayAskFor d e w part x (rank (table_of d) (plain_task e.engine.known x))
 
 -- the task enters the context, at each limit
 abbrev pub Enters : Table → PlainTask → Context → Type 0
@@ -95,31 +110,3 @@ pub record FindsAim {E : Type 0} (old new : Evaluating) (x : Task) (result : Res
   pub entered : (c : Context) → In c new.engine.known → In c old.engine.known ⊎ Enters old.engine.table (plain_task old.engine.known x) c
   pub keeps : KeepsKnown old.engine.known new.engine.known
   pub one_for_one : IsOneForOne old.engine.known → IsOneForOne new.engine.known
-
--- A row of which no part was asked or got may go on with this body, under this key, which are the table's and known.
-pub record CanFollow (e : Evaluating) (slot : ℕ) (aim : Aim) : Type 0 where
-  pub idle : IsIdleRow e.rows slot
-  pub body : aim.body < length e.engine.table.nodes
-  pub known : IsKnown e.engine.known aim.tag
-  pub key_known : IsKnown e.engine.known aim.key.tag
-
--- the task of an aim's body
-abbrev pub body_task : Aim → (depth : ℕ) → Task
-body_task aim depth = record { node = aim.body; tag = aim.tag; time = aim.time; depth = depth }
-
--- A row goes on with the body of its reference: no older row changes, and of what the engine owns only the known contexts do, of which
--- none is forgotten.
-pub record GoesOnWith (old new : Evaluating) (slot : ℕ) : Type 0 where
-  pub older : (q : ℕ) → q < slot → row_at new.rows q ≡ row_at old.rows q
-  pub only : new.engine ≡ record old.engine { known = new.engine.known }
-  pub keeps : KeepsKnown old.engine.known new.engine.known
-
--- A row of a demand may go on with the body of its reference, whose daton doesn't stay held.
-pub record MayFollow (d : Demand) (e : Evaluating) (w : World) (slot : ℕ) (aim : Aim) (depth : ℕ) : Type 0 where
-  pub demand : IsDemand d
-  pub waits : Waits d e.engine w e.rows
-  pub row : TaskRow
-  pub there : row_at e.rows slot ≡ Some row
-  pub reference : IsReference (node_of (table_of d) (plain_task e.engine.known row.task))
-  pub goes : GoesTo (table_of d) (plain_task e.engine.known row.task) (plain_key e.engine.known aim.key) (plain_task e.engine.known (body_task aim depth))
-  pub absent : stays d (plain_key e.engine.known aim.key).0 (plain_key e.engine.known aim.key).1 ≡ None

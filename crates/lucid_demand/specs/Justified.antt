@@ -16,7 +16,7 @@ use Rattle.lucid_facts.specs.Tasks.{PlainRow, plain_task, idle, state_at, value_
 use Rattle.lucid_facts.specs.Parts.{node_of, aim_of_task, IsReference, IsPart}
 use Rattle.lucid_facts.specs.Decisions.{ComesTo, GivesByPlan, MayAsk, MayMove, MayRead}
 use Rattle.lucid_demand.specs.declared.decide.Decision.{Decision}
-use Rattle.lucid_demand.specs.declared.decide.Decision.TheVariants.{Part, Apply, Constant, Truth, End, Fault, Body, Ask, AskAll, Move, Refer, Read, Refuse}
+use Rattle.lucid_demand.specs.declared.decide.Decision.TheVariants.{Part, Apply, Constant, Truth, End, Fault, Ask, AskAll, LookOn, Refer, Read, Refuse}
 
 -- The value of an operator's argument, by the row of its node and the value of the operator's part: that of the part, or of a constant.
 abbrev pub argument_by : Table → Option Node → Option PlainValue → Option PlainValue
@@ -35,19 +35,18 @@ abbrev pub argument_at : Table → PlainRow → (index node : ℕ) → Option Pl
 argument_at T r i n = argument_by T (row_at T n) (value_of_part r i)
 
 -- Why a row of a table decides so, by the row alone, where these contexts are known: by where the values of its parts lead in its form's
--- plan, or since it is a reference or an input.
+-- plan, or since it is an input or a reference, whose value is that of its body.
 abbrev pub Justified : Table → List Context → PlainRow → Decision → Type 0
-Justified T known r (Part i) = (i < 3) × ((v : PlainValue) × (value_of_part r i ≡ Some v) × GivesByPlan T r v)
+Justified T known r (Part i) = (i < 3) × ((v : PlainValue) × (value_of_part r i ≡ Some v) × (GivesByPlan T r v ⊎ (IsReference (node_of T r.task) × (i ≡ 0))))
 Justified T known r (Apply op args) = (row_at T r.task.node ≡ Some (node.Apply op args))
     × ((vs : List PlainValue) × (length vs ≡ arity op) × HaveValues (argument_at T r) args 0 vs × GivesByPlan T r (algebra op vs))
 Justified T known r (Constant k) = (k < length T.constants) × GivesByPlan T r (constant_at T k)
 Justified T known r (Truth holds) = GivesByPlan T r (truth holds)
 Justified T known r End = GivesByPlan T r eod
 Justified T known r Fault = GivesByPlan T r fault
-Justified T known r Body = IsReference (node_of T r.task) × ((v : PlainValue) × (value_of_part r 0 ≡ Some v))
 Justified T known r (Ask i x) = MayAsk T r i × IsPart T r i (plain_task known x) × IsKnown known x.tag
 Justified T known r (AskAll op args) = (row_at T r.task.node ≡ Some (node.Apply op args)) × ((i : ℕ) × (i < arity op) × ((n : ℕ) × (slice_get args i ≡ Some n) × (argument_at T r i n ≡ None)))
-Justified T known r (Move holds) = MayMove T r holds
-Justified T known r Refer = IsReference (node_of T r.task) × (state_at r.parts 0 ≡ idle)
+Justified T known r (LookOn holds) = MayMove T r holds
+Justified T known r (Refer x) = IsReference (node_of T r.task) × (plain_task known x ≡ r.task) × IsKnown known x.tag × (state_at r.parts 0 ≡ idle)
 Justified T known r (Read k) = (n : List ℕ) × (slice_get T.inputs k ≡ Some n) × MayRead T r.task n r.task.time
 Justified T known r Refuse = ComesTo T r nothing ⊎ ((n : List ℕ) × (j : ℕ) × (aim_of_task T r.task ≡ element_of n j) × (r.task.limit ≡ 0))

@@ -1,19 +1,9 @@
--- What a search notes and where it begins; and what a step may still do once a search was noted.
+-- What a search notes, and where it begins and looks on.
 use Rattle.std.specs.Prelude.{◌≡◌, ℕ, ◌<◌, ◌≤◌, List, Option, Some, None}
 use Rattle.lucid_tasks.specs.declared.Cursor.{Cursor}
-use Rattle.lucid_tasks.specs.declared.Part.{Part}
-use Rattle.lucid_tasks.specs.declared.Task.{Task}
 use Rattle.lucid_tasks.specs.Rows.{TaskRow, row_at, ChangesOnly, with_cursor}
-use Rattle.lucid_ports.specs.World.{World}
 use Rattle.lucid_equations.specs.declared.rows.Node.{Node}
 use Rattle.lucid_equations.specs.declared.rows.Node.TheVariants.{Whenever, Asa, Upon}
-use Rattle.lucid_facts.specs.Tasks.{plain_row}
-use Rattle.lucid_facts.specs.Demands.{Demand, table_of}
-use Rattle.lucid_facts.specs.Going.{IsDemand, Waits}
-use Rattle.lucid_demand.specs.Evaluating.{Evaluating}
-use Rattle.lucid_demand.specs.Asking.{HoldsNothing}
-use Rattle.lucid_demand.specs.Justified.{Justified}
-use Rattle.lucid_demand.specs.declared.decide.Decision.TheVariants as decision
 use Rattle.lucid_demand.specs.declared.searches.Search.{Search}
 use Rattle.lucid_demand.specs.declared.searches.Search.TheVariants.{Find, Count}
 
@@ -44,10 +34,3 @@ pub record StandsAt (old new : List (Option TaskRow)) (slot : ℕ) : Type 0 wher
 pub record CanLookOn (rows : List (Option TaskRow)) (slot : ℕ) : Type 0 where
   pub before : (r : TaskRow) → row_at rows slot ≡ Some r → r.cursor.time < r.task.depth
   pub few : (r : TaskRow) → row_at rows slot ≡ Some r → r.cursor.count ≤ r.cursor.time
-
--- A row may ask for a part now, which is justified. Its search may have been noted, and other parts of it asked.
-pub record MayAskNow (d : Demand) (e : Evaluating) (w : World) (part : Part) (task : Task) : Type 0 where
-  pub demand : IsDemand d
-  pub waits : Waits d e.engine w e.rows
-  pub nothing : HoldsNothing d e.engine
-  pub justified : (r : TaskRow) → row_at e.rows part.slot ≡ Some r → Justified (table_of d) e.engine.known (plain_row e.engine.known r) (decision.Ask part.index task)

@@ -10,7 +10,7 @@ ghost use Rattle.lucid_demand.specs.Justified.{Justified};
 ghost use Rattle.lucid_demand.specs.Answers.{MayDecide, argument_of};
 ghost use Rattle.lucid_equations.specs.declared.rows.Node.TheVariants as node;
 
-use crate::passing::LAST;
+use crate::moving::LAST;
 use lucid_equations::{Node, Program};
 use lucid_ops::Op;
 use lucid_tasks::{Task, Tasks};
@@ -29,16 +29,14 @@ pub(crate) enum Decision {
     Truth(bool),
     End,
     Fault,
-    /// It settles with the value of its reference's body.
-    Body,
     /// It asks for a part.
     Ask { index: u32, task: Task },
     /// It asks for its arguments.
     AskAll { op: Op, args: [u32; 3] },
     /// Its search goes on to the next time, after a truth.
-    Move { seen: bool },
-    /// It looks for its daton.
-    Refer,
+    LookOn { seen: bool },
+    /// It asks for what its reference goes on with.
+    Refer { task: Task },
     /// It reads the element of its time.
     Read { stream: u32 },
     /// Its approximation has no value.
@@ -298,9 +296,9 @@ impl Ready {
                         },
                     );
                 }
-                Decision::Move { seen: true }
+                Decision::LookOn { seen: true }
             }
-            Answer::Holds(false) => Decision::Move { seen: false },
+            Answer::Holds(false) => Decision::LookOn { seen: false },
             Answer::Ended => Decision::End,
             Answer::At(_) | Answer::Other => Decision::Fault,
         }
@@ -333,7 +331,7 @@ impl Ready {
                     ..self.task
                 },
             ),
-            Answer::Holds(false) => Decision::Move { seen: false },
+            Answer::Holds(false) => Decision::LookOn { seen: false },
             Answer::Ended => Decision::End,
             Answer::At(_) | Answer::Other => Decision::Fault,
         }
@@ -368,7 +366,7 @@ impl Ready {
                     ..self.task
                 },
             },
-            Answer::Holds(holds) => Decision::Move { seen: holds },
+            Answer::Holds(holds) => Decision::LookOn { seen: holds },
             Answer::Ended => Decision::End,
             Answer::At(_) | Answer::Other => Decision::Fault,
         }
@@ -427,9 +425,9 @@ impl Ready {
         ensures calls { (name place level : ℕ) → DecidesFor tasks.now self.slot self.task (node.Call name place level) result }
     {
         if self.lacks(tasks, 0) {
-            Decision::Refer
+            Decision::Refer { task: self.task }
         } else {
-            Decision::Body
+            Decision::Part { index: 0 }
         }
     }
 

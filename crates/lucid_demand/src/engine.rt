@@ -8,7 +8,7 @@ ghost use Rattle.lucid_equations.specs.Programs.{table_of};
 ghost use Rattle.lucid_facts.specs.Engine.{IsSound};
 
 use crate::DemandFault;
-use crate::evaluation::Evaluation;
+use crate::turn::Evaluation;
 use lucid_equations::Program;
 use lucid_inputs::Inputs;
 use lucid_ports::Places;

@@ -2,18 +2,31 @@
 //!
 //! Each demand waits in a row of its own until the demands that it makes are answered, so the machine's stack isn't used. Values that
 //! were computed are held in a store that may lose any of them at any turn.
+//!
+//! So `x where x = 0 fby x + 1; end` is demanded at time 2, where nothing is held. `x@2` stands for the daton of `x` at time 2:
+//!
+//! | turn | the row | what it does | rows afterwards | held |
+//! |---|---|---|---|---|
+//! | begin | | the root is `x@2`, which isn't held; its body at 2 moves on to `x + 1` at 1, which waits | 0: `x + 1` at 1, for `x@2` | |
+//! | 1 | 0 | asks for its arguments: `x@1` isn't held, its body moves on to `x + 1` at 0; `1` is a constant | and 1: `x + 1` at 0, for `x@1` | |
+//! | 2 | 1 | asks for its arguments: `x@0` isn't held, its body moves on to `0` | and 2: `0`, for `x@0` | |
+//! | 3 | 2 | settles with the constant, which row 1 has as its first argument | 0, 1 | `x@0` = 0 |
+//! | 4 | 1 | settles with 0 + 1 | 0 | `x@1` = 1 too |
+//! | 5 | 0 | settles with 1 + 1, the answer | none | `x@2` = 2 too |
+//!
+//! Had `x@1` been held, turn 1 would have given it to the row, and turn 2 settled with the answer.
 #![tactic(auto)]
 
 pub use crate::engine::Engine;
 pub use crate::fault::DemandFault;
 
 mod aim;
-mod asking;
+mod arguments;
 mod decide;
 mod engine;
-mod evaluation;
 mod fault;
-mod passing;
+mod moving;
+mod references;
 mod searches;
 mod settling;
-mod step;
+mod turn;

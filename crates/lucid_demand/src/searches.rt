@@ -1,13 +1,15 @@
 //! Searches begin at the best noted position, and note where they end.
-ghost use Rattle.std.specs.Prelude.{◌≡◌, ℕ, ◌<◌, ◌≤◌, None, IfSome, IfNone, is_some};
+ghost use Rattle.std.specs.Prelude.{◌≡◌, ℕ, ◌<◌, ◌≤◌, None, Some, IfSome, IfNone, is_some};
 ghost use Rattle.lucid_search.specs.Noted.{number_at, IsBest, NotesOrMisses};
 ghost use Rattle.lucid_facts.specs.Going.{Owns};
-ghost use Rattle.lucid_demand.specs.Evaluating.{MayStep, gave, Stepped as Steps, cost};
+ghost use Rattle.lucid_demand.specs.Evaluating.{MayStep, gave, Stepped, cost};
 ghost use Rattle.lucid_demand.specs.Acting.{DemandIn, MayAct, IsReadyTask};
-ghost use Rattle.lucid_demand.specs.Searching.{search_for, noted_of, greatest_key, StandsAt, CanLookOn, MayAskNow};
+ghost use Rattle.lucid_demand.specs.Searching.{search_for, noted_of, greatest_key, StandsAt, CanLookOn};
+ghost use Rattle.lucid_demand.specs.Asking.{MayAskNow};
 ghost use Rattle.lucid_demand.specs.declared.decide.Decision.TheVariants as decision;
 
-use crate::evaluation::{Evaluation, Stepped};
+use crate::DemandFault;
+use crate::turn::Evaluation;
 use lucid_equations::Node;
 use lucid_retire::Retire;
 use lucid_schedule::Pick;
@@ -132,7 +134,7 @@ impl<R: Retire, S: Pick> Evaluation<R, S> {
     #[inline(always)]
     pub(crate) fn note_end(&mut self, slot: usize, index: u32)
         requires { IsReadyTask self.old slot }
-        ensures asks { (i : DemandIn) (task : Task) → MayAct i.demand self.old i.world slot (decision.Ask index task) → MayAskNow i.demand self.new i.world (record { slot = slot; index = index }) task }
+        ensures asks { (i : DemandIn) (task : Task) → MayAct i.demand self.old i.world slot (decision.Ask index task) → MayAskNow i.demand self.new i.world (Some (record { slot = slot; index = index })) task }
         ensures only { self.new.engine ≡ record self.old.engine { noted = self.new.engine.noted } }
         ensures rows { self.new.rows ≡ self.old.rows }
     {
@@ -143,10 +145,10 @@ impl<R: Retire, S: Pick> Evaluation<R, S> {
 
     // The next time of a search, after a truth at this one.
     #[inline(never)]
-    pub(crate) fn look_on(&mut self, slot: usize, seen: bool) -> Stepped
+    pub(crate) fn look_on(&mut self, slot: usize, seen: bool) -> Result<(), DemandFault>
         requires ready { IsReadyTask self.old slot }
         requires on { CanLookOn self.old.rows slot }
-        ensures { (i : DemandIn) → MayAct i.demand self.old i.world slot (decision.Move seen) → Steps i.demand self.old self.new i.world i.world (gave result None) }
+        ensures { (i : DemandIn) → MayAct i.demand self.old i.world slot (decision.LookOn seen) → Stepped i.demand self.old self.new i.world i.world (gave result None) }
     {
         self.move_cursor(slot, seen);
         self.note_on_the_way(slot, seen);
@@ -180,7 +182,7 @@ impl<R: Retire, S: Pick> Evaluation<R, S> {
         requires ready { IsReadyTask self.old slot }
         requires on { CanLookOn self.old.rows slot }
         ensures task { IsReadyTask self.new slot }
-        ensures steps { (i : DemandIn) → MayAct i.demand self.old i.world slot (decision.Move seen) → MayStep i.demand self.new i.world slot × (cost i.demand self.new < cost i.demand self.old) }
+        ensures steps { (i : DemandIn) → MayAct i.demand self.old i.world slot (decision.LookOn seen) → MayStep i.demand self.new i.world slot × (cost i.demand self.new < cost i.demand self.old) }
     {
         // The cursor's time is below the task's limit, and so below 2^32.
         let _ = self.tasks.task(slot);

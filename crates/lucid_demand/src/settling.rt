@@ -1,21 +1,20 @@
 //! A row settles: its value stands in its parent's part, or is the demand's.
 ghost use Rattle.std.specs.Prelude.{◌≡◌, ℕ, ◌<◌, ◌≤◌, List, ◌∷◌, length, option_map, option_copied, Some, None, OnOk, OnErr, IfOk, IsSome, IsTrue};
-ghost use Rattle.lucid_value.specs.Plain.{eod, fault};
+ghost use Rattle.lucid_value.specs.Plain.{truth, eod, fault};
 ghost use Rattle.lucid_value.specs.View.{plain};
 ghost use Rattle.lucid_ops.specs.Arity.{arity};
 ghost use Rattle.lucid_tasks.specs.Rows.{row_at, parent_of, key_of, got_of, taken, returned, is_ready, ChangesOnly, IsRow, Settles};
 ghost use Rattle.lucid_facts.specs.Demands.{Demand};
 ghost use Rattle.lucid_facts.specs.Engine.{AreAskable};
 ghost use Rattle.lucid_demand.specs.Faults.{CountsReadFaults};
-ghost use Rattle.lucid_demand.specs.Evaluating.{gave, Stepped as Steps};
-ghost use Rattle.lucid_demand.specs.Acting.{DemandIn, Settling, MayAct, MayGive, MaySettle, IsTaken, IsKept, IsReadyTask, IsThere, AreThere, Applies, value_of};
-ghost use Rattle.lucid_demand.specs.Asking.{HasTask};
+ghost use Rattle.lucid_demand.specs.Evaluating.{gave, Stepped};
+ghost use Rattle.lucid_demand.specs.Acting.{DemandIn, Settling, MayAct, MayGive, MaySettle, IsKept, IsReadyTask, IsThere, AreThere, Applies, value_of};
 ghost use Rattle.lucid_demand.specs.Reading.{ReadsElement};
 ghost use Rattle.lucid_demand.specs.declared.decide.Decision.TheVariants as decision;
 
 use crate::DemandFault;
 use crate::decide::argument;
-use crate::evaluation::{Evaluation, Stepped};
+use crate::turn::Evaluation;
 use lucid_ops::{Op, apply_to_one, apply_to_three, apply_to_two};
 use lucid_ports::Places;
 use lucid_retire::Retire;
@@ -39,7 +38,7 @@ impl<R: Retire, S: Pick> Evaluation<R, S> {
 
     // The same under the key that a row remembers, if it remembers one.
     #[inline(always)]
-    fn keep(&mut self, slot: usize, value: &Value) -> Result<(), AllocError>
+    fn put_remembered(&mut self, slot: usize, value: &Value) -> Result<(), AllocError>
         requires { IsRow self.old.rows slot }
         ensures kept { OnOk result (IsKept (key_of self.old.rows slot) self.old.engine self.new.engine value.now) }
         ensures rows { self.new.rows ≡ self.old.rows }
@@ -177,7 +176,7 @@ impl<R: Retire, S: Pick> Evaluation<R, S> {
 
     // The row goes, and its value is that of the part that it was asked for, or the answer. An answer is written only where there is one.
     #[inline(always)]
-    pub(crate) fn leave(&mut self, slot: usize, value: Value, answer: &mut Option<Value>)
+    fn leave(&mut self, slot: usize, value: Value, answer: &mut Option<Value>)
         requires ready { IsTrue (is_ready (row_at self.old.rows slot)) }
         requires open { answer.old ≡ None }
         ensures rows { Settles self.old.rows self.new.rows slot value }
@@ -196,13 +195,13 @@ impl<R: Retire, S: Pick> Evaluation<R, S> {
         slot: usize,
         value: Value,
         answer: &mut Option<Value>,
-    ) -> Stepped
+    ) -> Result<(), DemandFault>
         requires ready { IsTrue (is_ready (row_at self.old.rows slot)) }
         requires open { answer.old ≡ None }
         ensures { (s : Settling) → MaySettle s self.old slot value
-            → Steps s.demand (record { engine = self.old.engine; rows = s.before }) self.new s.world s.world (gave result answer.new) }
+            → Stepped s.demand (record { engine = self.old.engine; rows = s.before }) self.new s.world s.world (gave result answer.new) }
     {
-        self.keep(slot, &value)?;
+        self.put_remembered(slot, &value)?;
         self.leave(slot, value, answer);
         Ok(())
     }
@@ -213,12 +212,12 @@ impl<R: Retire, S: Pick> Evaluation<R, S> {
         slot: usize,
         index: u32,
         answer: &mut Option<Value>,
-    ) -> Stepped
+    ) -> Result<(), DemandFault>
         requires ready { IsTrue (is_ready (row_at self.old.rows slot)) }
         requires index { index < 3 }
         requires got { IsSome (got_of self.old.rows (record { slot = slot; index = index })) }
         requires open { answer.old ≡ None }
-        ensures { (i : DemandIn) → MayAct i.demand self.old i.world slot (decision.Part index) → Steps i.demand self.old self.new i.world i.world (gave result answer.new) }
+        ensures { (i : DemandIn) → MayAct i.demand self.old i.world slot (decision.Part index) → Stepped i.demand self.old self.new i.world i.world (gave result answer.new) }
     {
         let value = self.take_part(slot, index);
         self.settle(slot, value, answer)
@@ -231,61 +230,86 @@ impl<R: Retire, S: Pick> Evaluation<R, S> {
         op: Op,
         args: [u32; 3],
         answer: &mut Option<Value>,
-    ) -> Stepped
+    ) -> Result<(), DemandFault>
         requires ready { IsTrue (is_ready (row_at self.old.rows slot)) }
         requires there { AreThere self.old slot (arity op) args }
         requires open { answer.old ≡ None }
-        ensures { (i : DemandIn) → MayAct i.demand self.old i.world slot (decision.Apply op args) → Steps i.demand self.old self.new i.world i.world (gave result answer.new) }
+        ensures { (i : DemandIn) → MayAct i.demand self.old i.world slot (decision.Apply op args) → Stepped i.demand self.old self.new i.world i.world (gave result answer.new) }
     {
         let value = self.applied(slot, op, args)?;
         self.settle(slot, value, answer)
     }
 
-    // The value of a reference's body is its own.
     #[inline(never)]
-    pub(crate) fn settle_body(&mut self, slot: usize, answer: &mut Option<Value>) -> Stepped
+    pub(crate) fn settle_constant(
+        &mut self,
+        slot: usize,
+        constant: u32,
+        answer: &mut Option<Value>,
+    ) -> Result<(), DemandFault>
         requires ready { IsTrue (is_ready (row_at self.old.rows slot)) }
-        requires got { IsSome (got_of self.old.rows (record { slot = slot; index = 0 })) }
-        requires task { HasTask self.old slot }
+        requires there { constant < length self.old.engine.table.constants }
         requires open { answer.old ≡ None }
-        ensures { (i : DemandIn) → MayAct i.demand self.old i.world slot decision.Body → Steps i.demand self.old self.new i.world i.world (gave result answer.new) }
+        ensures { (i : DemandIn) → MayAct i.demand self.old i.world slot (decision.Constant constant) → Stepped i.demand self.old self.new i.world i.world (gave result answer.new) }
     {
-        let task = self.tasks.task(slot);
-        let value = self.take_part(slot, 0);
-        if let Some(aim) = self.aim(task)? {
-            self.put(aim.key, &value)?;
-        }
-        self.leave(slot, value, answer);
-        Ok(())
+        let value = self.program.constant(constant).copy(self.alloc)?;
+        self.settle(slot, value, answer)
     }
 
-    // Settles with the end of data, once its search was noted. No value is passed to it, as none is to the next, so that a turn clears no room
-    // for one.
+    // A truth is passed as such, as no value is to those below: so a turn clears no room for one.
     #[inline(never)]
-    pub(crate) fn end_of_data(&mut self, slot: usize, answer: &mut Option<Value>) -> Stepped
+    pub(crate) fn settle_truth(
+        &mut self,
+        slot: usize,
+        holds: bool,
+        answer: &mut Option<Value>,
+    ) -> Result<(), DemandFault>
+        requires ready { IsTrue (is_ready (row_at self.old.rows slot)) }
+        requires open { answer.old ≡ None }
+        ensures { (i : DemandIn) → MayGive i.demand self.old i.world slot (truth holds) → Stepped i.demand self.old self.new i.world i.world (gave result answer.new) }
+    {
+        self.settle(slot, Value::Truth(holds), answer)
+    }
+
+    // Settles with the end of data, once its search was noted.
+    #[inline(never)]
+    pub(crate) fn end_of_data(
+        &mut self,
+        slot: usize,
+        answer: &mut Option<Value>,
+    ) -> Result<(), DemandFault>
         requires ready { IsReadyTask self.old slot }
         requires open { answer.old ≡ None }
-        ensures { (i : DemandIn) → MayGive i.demand self.old i.world slot eod → Steps i.demand self.old self.new i.world i.world (gave result answer.new) }
+        ensures { (i : DemandIn) → MayGive i.demand self.old i.world slot eod → Stepped i.demand self.old self.new i.world i.world (gave result answer.new) }
     {
         self.end(slot, Value::Eod, answer)
     }
 
     // The same with an error.
     #[inline(never)]
-    pub(crate) fn end_in_error(&mut self, slot: usize, answer: &mut Option<Value>) -> Stepped
+    pub(crate) fn end_in_error(
+        &mut self,
+        slot: usize,
+        answer: &mut Option<Value>,
+    ) -> Result<(), DemandFault>
         requires ready { IsReadyTask self.old slot }
         requires open { answer.old ≡ None }
-        ensures { (i : DemandIn) → MayGive i.demand self.old i.world slot fault → Steps i.demand self.old self.new i.world i.world (gave result answer.new) }
+        ensures { (i : DemandIn) → MayGive i.demand self.old i.world slot fault → Stepped i.demand self.old self.new i.world i.world (gave result answer.new) }
     {
         self.end(slot, Value::Fault, answer)
     }
 
     // The same with either.
     #[inline(never)]
-    fn end(&mut self, slot: usize, value: Value, answer: &mut Option<Value>) -> Stepped
+    fn end(
+        &mut self,
+        slot: usize,
+        value: Value,
+        answer: &mut Option<Value>,
+    ) -> Result<(), DemandFault>
         requires ready { IsReadyTask self.old slot }
         requires open { answer.old ≡ None }
-        ensures { (i : DemandIn) → MayGive i.demand self.old i.world slot (plain value) → Steps i.demand self.old self.new i.world i.world (gave result answer.new) }
+        ensures { (i : DemandIn) → MayGive i.demand self.old i.world slot (plain value) → Stepped i.demand self.old self.new i.world i.world (gave result answer.new) }
     {
         self.note_here(slot);
         self.settle(slot, value, answer)
@@ -298,12 +322,12 @@ impl<R: Retire, S: Pick> Evaluation<R, S> {
         slot: usize,
         stream: u32,
         answer: &mut Option<Value>,
-    ) -> Stepped
+    ) -> Result<(), DemandFault>
         requires ready { IsTrue (is_ready (row_at self.old.rows slot)) }
         requires stream { stream < length self.old.engine.streams }
         requires askable { AreAskable self.old.engine.streams (P.world places.old) }
         requires open { answer.old ≡ None }
-        ensures steps { (d : Demand) → MayAct d self.old (P.world places.old) slot (decision.Read stream) → Steps d self.old self.new (P.world places.old) (P.world places.new) (gave result answer.new) }
+        ensures steps { (d : Demand) → MayAct d self.old (P.world places.old) slot (decision.Read stream) → Stepped d self.old self.new (P.world places.old) (P.world places.new) (gave result answer.new) }
         ensures faults { (P.world places.old).faults ≤ (P.world places.new).faults }
         ensures counts { CountsReadFaults result (P.world places.old) (P.world places.new) }
     {

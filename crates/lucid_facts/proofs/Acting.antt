@@ -1,6 +1,6 @@
 -- Each change of the rows that have tags keeps what is true of a demand's loop, and leaves less that can be paid for.
-use Rattle.std.proofs.Common.{◌≡◌, ℕ, ◌+◌, ◌<◌, ◌≤◌, List, [], ◌∷◌, Option, Some, None, Bool, true, false, refl, sym, ap, ◌∙◌, subst, arith}
-use Rattle.std.specs.Prelude.{IsTrue, IsSome, length}
+use Rattle.std.proofs.Common.{◌≡◌, ℕ, ◌+◌, ◌<◌, ◌≤◌, List, [], Option, Some, None, Bool, true, false, refl, sym, ap, ◌∙◌, subst, arith}
+use Rattle.std.specs.Prelude.{IsTrue, IsSome, IfSome, length, option_map}
 use Rattle.std.specs.List.{list_all}
 use Rattle.std.proofs.lemmas.List.{length-map}
 use Rattle.lucid_value.specs.Plain.{PlainValue}
@@ -15,33 +15,32 @@ use Rattle.lucid_tasks.specs.declared.Part.{Part}
 use Rattle.lucid_tasks.specs.declared.Task.{Task}
 use Rattle.lucid_tasks.specs.declared.Cursor.{Cursor}
 use Rattle.lucid_tasks.specs.Rows as rows
-use Rattle.lucid_tasks.specs.Rows.{TaskRow, Got, row_at}
+use Rattle.lucid_tasks.specs.Rows.{TaskRow, row_at}
 use Rattle.lucid_equations.specs.MoreElements.{Extends}
 use Rattle.lucid_tasks.proofs.RowLemmas.{row_below}
 use Rattle.lucid_facts.specs.Tasks.{PlainTask, PlainRow, DatonAt, idle, got, is_free, state_at, all_idle, key_list, waits_for_none, plain_task, plain_key, plain_state, plain_row, plain_rows, AreRowsKnown}
-use Rattle.lucid_facts.specs.Parts.{rank}
+use Rattle.lucid_facts.specs.Parts.{moved}
 use Rattle.lucid_facts.specs.Stands.{StandsFor}
 use Rattle.lucid_facts.specs.Engine.{EngineView, known_elements, holding}
-use Rattle.lucid_facts.specs.Demands.{Demand, table_of, stays, Answers}
-use Rattle.lucid_facts.specs.Rows.{RowFacts, PartAnswers, PartIsRight, Remembers, Serves, Work}
-use Rattle.lucid_facts.specs.Changes.{with_part, at_cursor, as_body, SetsRow, ChangesRow, AsksRow, SettlesRow}
-use Rattle.lucid_facts.specs.Decisions.{AsksFor, MayMove, MayBecome, looked_on}
+use Rattle.lucid_facts.specs.Demands.{Demand, table_of, Answers}
+use Rattle.lucid_facts.specs.Rows.{RowFacts, PartAnswers, IsWanted, Remembers, Serves, Work}
+use Rattle.lucid_facts.specs.Changes.{with_part, at_cursor, SetsRow, ChangesRow, AsksRow, SettlesRow}
+use Rattle.lucid_facts.specs.Decisions.{AsksFor, MayMove, looked_on}
 use Rattle.lucid_facts.specs.Measure.{total}
-use Rattle.lucid_facts.specs.Going.{Waits}
+use Rattle.lucid_facts.specs.Going.{Owns, Waits}
 use Rattle.lucid_facts.proofs.Slots.{at_it}
 use Rattle.lucid_facts.proofs.Steps.{changes_is_set}
-use Rattle.lucid_facts.proofs.Standing.{stands-then}
-use Rattle.lucid_facts.proofs.References.{references-stand}
 use Rattle.lucid_facts.proofs.Idling.{search-is_idle}
-use Rattle.lucid_facts.proofs.NewRows.{standing-is_right, body-is_right, new_row-facts, becoming-remembers}
+use Rattle.lucid_facts.proofs.NewRows.{new_row-facts}
+use Rattle.lucid_facts.proofs.FirstRow.{work_begins}
 use Rattle.lucid_facts.proofs.Searching.{moved-facts}
-use Rattle.lucid_facts.proofs.Changing.{plain_asks, plain_gives, plain_settles, plain_begins, plain_becomes}
+use Rattle.lucid_facts.proofs.Changing.{plain_asks, plain_gives, plain_settles, plain_begins}
 use Rattle.lucid_facts.proofs.Taking.{plain_moves}
-use Rattle.lucid_facts.proofs.Listing.{plain_of_row, plain_past, none_past}
-use Rattle.lucid_facts.proofs.Knowing.{known_asks, known_gives, known_settles, known_moves, known_takes, known_becomes, all_rows_as_tags_grow}
-use Rattle.lucid_facts.proofs.Falling.{giving_falls, moving_falls, becoming_falls, beginning_raises_nothing}
+use Rattle.lucid_facts.proofs.Listing.{row_of_plain, plain_of_row, plain_past, none_past}
+use Rattle.lucid_facts.proofs.Knowing.{known_asks, known_gives, known_settles, known_moves, known_takes, all_rows_as_tags_grow}
+use Rattle.lucid_facts.proofs.Falling.{giving_falls, moving_falls, beginning_raises_nothing}
 use Rattle.lucid_facts.proofs.Totals.{total_same, total_past, total_asks, total_settles, total_changes, total_begins}
-use Rattle.lucid_facts.proofs.Working.{work_changes, ready_is_no_parent}
+use Rattle.lucid_facts.proofs.Working.{work_moves, ready_is_no_parent}
 use Rattle.lucid_facts.proofs.Setting.{past_is_none, work_gives, work_asks}
 use Rattle.lucid_facts.proofs.Settling.{work_settles, root_settles}
 
@@ -85,53 +84,54 @@ module _ (d : Demand) (now : EngineView) (w : World) (old new : List (Option Tas
       let fall = less n (omega arith) (omega arith) in
       omega (arith, was, is, fall)
 
+  -- a slot that has a row is one of the list's, and the row has three parts
+  slot_below : (slot : ℕ) (p : PlainRow) → plain_rows now.known old slot ≡ Some p → slot < length old
+  slot_below slot p at = let r = row_of_plain now.known old slot p at in row_below old slot r.0 r.1
+
+  three_parts : (slot : ℕ) (p : PlainRow) → plain_rows now.known old slot ≡ Some p → length p.parts ≡ 3
+  three_parts slot p at = (waits.going.work.each slot p at (known_elements now) (λ n j v e. e)).three
+
   -- a part is asked, by a task that stands for it
-  pub asks_goes_down : (part : Part) (slot : ℕ) (r : TaskRow) (x : Task) → row_at old part.slot ≡ Some r → state_at (plain_row now.known r).parts part.index ≡ idle → part.index < 3
-      → AsksFor (table_of d) (plain_row now.known r) part.index (plain_task now.known x) → IsKnown now.known x.tag
-      → ((b : Elements) → Extends (known_elements now) b → PartIsRight d b (plain_row now.known r) (plain_task now.known x)) → rows.IsPast old slot → rows.Asks old new part slot x
-      → GoesDown d now w old new
-  asks_goes_down part slot r x at free few asks known right past changes = record {
-    waits = onward (work_asks d (known_elements now) (holding now) now.stored.lost (plain_rows now.known old) (plain_rows now.known new) part slot parent task waits.going.work there free few asks
-        (λ b z. new_row-facts d b (holding now) now.stored.lost parent task (Some part) None (right b z) asks.still (λ k e. absurd (cc))) (plain_past now.known old slot past) plain_changes)
-        (known_asks now.known old new part slot x known changes waits.known);
-    less = falls (λ n l m. total_asks (table_of d) d.root.limit (plain_rows now.known old) (plain_rows now.known new) part slot n parent task there
-        (past_is_none (plain_rows now.known old) slot (plain_past now.known old slot past)) free (subst (λ k. part.index < k) (sym ((facts_now part.slot r at).three)) few) asks.lower
-        ((right (known_elements now) (λ a j v e. e)).limit) plain_changes (omega (arith, l, row_below old part.slot r at)) (omega (arith, m, row_below new slot (rows.fresh x (Some part)) new_there)));
+  pub asks_goes_down : (part : Part) (slot : ℕ) (parent : PlainRow) (x : Task) (key : Option Key) → plain_rows now.known old part.slot ≡ Some parent → state_at parent.parts part.index ≡ idle
+      → part.index < 3 → AsksFor (table_of d) parent part.index (plain_task now.known x) (option_map (plain_key now.known) key)
+      → IsKnown now.known x.tag → IfSome key (λ k. IsKnown now.known k.tag)
+      → ((b : Elements) → Extends (known_elements now) b → IsWanted d b (plain_task now.known x))
+      → ((b : Elements) → Extends (known_elements now) b → (k : DatonAt) → option_map (plain_key now.known) key ≡ Some k → Remembers d b (plain_task now.known x) k)
+      → rows.IsPast old slot → rows.Asks old new (Some part) slot x key → GoesDown d now w old new
+  asks_goes_down part slot parent x key there free few asks known key_known wanted remembers past changes = record {
+    waits = onward (work_asks d (known_elements now) (holding now) now.stored.lost (plain_rows now.known old) (plain_rows now.known new) part slot parent task daton waits.going.work there free few asks
+        (λ b z. new_row-facts d b (holding now) now.stored.lost task (Some part) daton (wanted b z) asks.still (remembers b z)) (plain_past now.known old slot past) plain_changes)
+        (known_asks now.known old new (Some part) slot x key known key_known changes waits.known);
+    less = falls (λ n l m. total_asks (table_of d) d.root.limit (plain_rows now.known old) (plain_rows now.known new) part slot n parent task daton there
+        (past_is_none (plain_rows now.known old) slot (plain_past now.known old slot past)) free (subst (λ k. part.index < k) (sym (three_parts part.slot parent there)) few) asks.lower
+        ((wanted (known_elements now) (λ a j v e. e)).limit) plain_changes (omega (arith, l, slot_below part.slot parent there)) (omega (arith, m, row_below new slot (rows.fresh x (Some part) key) new_there)));
   }
     where
-      parent : PlainRow
-      parent = plain_row now.known r
-
       task : PlainTask
       task = plain_task now.known x
 
-      there : plain_rows now.known old part.slot ≡ Some parent
-      there = plain_of_row now.known old part.slot r at
+      daton : Option DatonAt
+      daton = option_map (plain_key now.known) key
 
-      plain_changes : AsksRow (plain_rows now.known old) (plain_rows now.known new) part slot task
-      plain_changes = plain_asks now.known old new part slot x changes
+      plain_changes : AsksRow (plain_rows now.known old) (plain_rows now.known new) (Some part) slot task daton
+      plain_changes = plain_asks now.known old new (Some part) slot x key changes
 
-      new_there : row_at new slot ≡ Some (rows.fresh x (Some part))
-      new_there = changes slot ∙ at_it slot slot (Some (rows.fresh x (Some part))) _ refl
+      new_there : row_at new slot ≡ Some (rows.fresh x (Some part) key)
+      new_there = changes slot ∙ at_it slot slot (Some (rows.fresh x (Some part) key)) _ refl
 
   -- a part gets a value without a row
-  pub gives_goes_down : (part : Part) (r : TaskRow) (v : Value) → row_at old part.slot ≡ Some r → state_at (plain_row now.known r).parts part.index ≡ idle → part.index < 3
-      → 0 < rank (table_of d) (plain_task now.known r.task)
-      → ((b : Elements) → Extends (known_elements now) b → PartAnswers d b (holding now) now.stored.lost (plain_row now.known r) part.index (plain v))
-      → rows.ChangesOnly old new part.slot (rows.with_part part.index (Got v)) → GoesDown d now w old new
-  gives_goes_down part r v at free few some answers changes = record {
-    waits = onward (work_gives d (known_elements now) (holding now) now.stored.lost (plain_rows now.known old) (plain_rows now.known new) part.slot part.index (plain_row now.known r) (plain v)
+  pub gives_goes_down : (part : Part) (parent : PlainRow) (v : Value) → plain_rows now.known old part.slot ≡ Some parent → state_at parent.parts part.index ≡ idle → part.index < 3
+      → ((b : Elements) → Extends (known_elements now) b → PartAnswers d b (holding now) now.stored.lost parent part.index (plain v))
+      → rows.Gives old new (Some part) v → GoesDown d now w old new
+  gives_goes_down part parent v there free few answers changes = record {
+    waits = onward (work_gives d (known_elements now) (holding now) now.stored.lost (plain_rows now.known old) (plain_rows now.known new) part.slot part.index parent (plain v)
         waits.going.work there free few answers given) (known_gives now.known old new part.slot part.index v changes waits.known);
-    less = falls (λ n l m. total_changes (table_of d) d.root.limit (plain_rows now.known old) (plain_rows now.known new) part.slot n (plain_row now.known r)
-        (with_part part.index (got (plain v)) (plain_row now.known r)) there
-        (giving_falls (table_of d) d.root.limit (plain_row now.known r) part.index (plain v) free (subst (λ k. part.index < k) (sym ((facts_now part.slot r at).three)) few) some)
-        (changes_is_set (plain_rows now.known old) (plain_rows now.known new) part.slot (with_part part.index (got (plain v))) (plain_row now.known r) there given)
-        (omega (arith, l, row_below old part.slot r at)));
+    less = falls (λ n l m. total_changes (table_of d) d.root.limit (plain_rows now.known old) (plain_rows now.known new) part.slot n parent (with_part part.index (got (plain v)) parent) there
+        (giving_falls (table_of d) d.root.limit parent part.index (plain v) free (subst (λ k. part.index < k) (sym (three_parts part.slot parent there)) few))
+        (changes_is_set (plain_rows now.known old) (plain_rows now.known new) part.slot (with_part part.index (got (plain v))) parent there given)
+        (omega (arith, l, slot_below part.slot parent there)));
   }
     where
-      there : plain_rows now.known old part.slot ≡ Some (plain_row now.known r)
-      there = plain_of_row now.known old part.slot r at
-
       given : ChangesRow (plain_rows now.known old) (plain_rows now.known new) part.slot (with_part part.index (got (plain v)))
       given = plain_gives now.known old new part v changes
 
@@ -172,8 +172,8 @@ module _ (d : Demand) (now : EngineView) (w : World) (old new : List (Option Tas
       → MayMove (table_of d) (plain_row now.known r) truth_seen → c ≡ looked_on r.cursor truth_seen → rows.ChangesOnly old one slot (rows.taken 0) → rows.ChangesOnly one two slot (rows.taken 1)
       → rows.ChangesOnly two new slot (rows.with_cursor c) → GoesDown d now w old new
   moves_goes_down one two slot r c truth_seen at ready may is first second cursor = record {
-    waits = onward (work_changes d (known_elements now) (holding now) now.stored.lost (plain_rows now.known old) (plain_rows now.known new) slot row (at_cursor c row) waits.going.work there
-        (ready_is_no_parent d (known_elements now) (holding now) now.stored.lost (plain_rows now.known old) waits.going.work slot row there ready) refl (λ y s. s)
+    waits = onward (work_moves d (known_elements now) (holding now) now.stored.lost (plain_rows now.known old) (plain_rows now.known new) slot row c waits.going.work there
+        (ready_is_no_parent d (known_elements now) (holding now) now.stored.lost (plain_rows now.known old) waits.going.work slot row there ready)
         (λ b x. subst (λ z. RowFacts d b (holding now) now.stored.lost (at_cursor z row)) (sym is) (moved-facts d b (holding now) now.stored.lost row truth_seen (facts_of slot r at b x) may)) sets)
         (known_moves now.known two new slot c cursor (known_takes now.known one two slot 1 second (known_takes now.known old one slot 0 first waits.known)));
     less = falls (λ n l m. total_changes (table_of d) d.root.limit (plain_rows now.known old) (plain_rows now.known new) slot n row (at_cursor c row) there
@@ -203,8 +203,8 @@ module _ (d : Demand) (now : EngineView) (w : World) (old new : List (Option Tas
       → ((b : Elements) → Extends (known_elements now) b → RowFacts d b (holding now) now.stored.lost (at_cursor c (plain_row now.known r))) → rows.ChangesOnly old new slot (rows.with_cursor c)
       → Waits d now w new × (cost_of d now.known new ≤ cost_of d now.known old)
   begins_goes_on slot r c at free later facts changes = (
-    onward (work_changes d (known_elements now) (holding now) now.stored.lost (plain_rows now.known old) (plain_rows now.known new) slot row (at_cursor c row) waits.going.work there
-        (ready_is_no_parent d (known_elements now) (holding now) now.stored.lost (plain_rows now.known old) waits.going.work slot row there (ap (λ ps. list_all is_free ps) free)) refl (λ y s. s)
+    onward (work_moves d (known_elements now) (holding now) now.stored.lost (plain_rows now.known old) (plain_rows now.known new) slot row c waits.going.work there
+        (ready_is_no_parent d (known_elements now) (holding now) now.stored.lost (plain_rows now.known old) waits.going.work slot row there (ap (λ ps. list_all is_free ps) free))
         facts sets) (known_moves now.known old new slot c changes waits.known),
     no_more (total_begins (table_of d) d.root.limit (plain_rows now.known old) (plain_rows now.known new) slot both row
         (at_cursor c row) there (beginning_raises_nothing (table_of d) d.root.limit row c free later) sets (omega (arith, row_below old slot r at))),
@@ -229,48 +229,19 @@ module _ (d : Demand) (now : EngineView) (w : World) (old new : List (Option Tas
           let is = cost_past d now.known new both (omega arith) in
           omega (arith, was, is, l)
 
-  -- a reference that isn't held becomes its body
-  pub becomes_goes_down : (slot : ℕ) (r : TaskRow) (x : Task) (k : Key) → row_at old slot ≡ Some r → MayBecome (table_of d) (plain_row now.known r) (plain_key now.known k) (plain_task now.known x)
-      → stays d (plain_key now.known k).0 (plain_key now.known k).1 ≡ None → IsKnown now.known x.tag → IsKnown now.known k.tag → rows.ChangesOnly old new slot (rows.becoming x k)
-      → GoesDown d now w old new
-  becomes_goes_down slot r x k at may absent task_known key_known changes = record {
-    waits = onward (work_changes d (known_elements now) (holding now) now.stored.lost (plain_rows now.known old) (plain_rows now.known new) slot row (as_body daton task row) waits.going.work there
-        (ready_is_no_parent d (known_elements now) (holding now) now.stored.lost (plain_rows now.known old) waits.going.work slot row there (ap (λ ps. list_all is_free ps) may.idle_parts)) refl stands
-        facts sets) (known_becomes now.known old new slot x k task_known key_known changes waits.known);
-    less = falls (λ n l m. total_changes (table_of d) d.root.limit (plain_rows now.known old) (plain_rows now.known new) slot n row (as_body daton task row) there
-        (becoming_falls (table_of d) d.root.limit row daton task may.idle_parts may.lower ((right (known_elements now) (λ a j v e. e)).limit)) sets (omega (arith, l, row_below old slot r at)));
-  }
-    where
-      row : PlainRow
-      row = plain_row now.known r
-
-      task : PlainTask
-      task = plain_task now.known x
-
-      daton : DatonAt
-      daton = plain_key now.known k
-
-      there : plain_rows now.known old slot ≡ Some row
-      there = plain_of_row now.known old slot r at
-
-      sets : SetsRow (plain_rows now.known old) (plain_rows now.known new) slot (Some (as_body daton task row))
-      sets = plain_becomes now.known old new slot r x k at may.idle_parts changes
-
-      -- the body stands for what the row's reference stood for
-      stands : (y : PlainTask) → StandsFor (table_of d) (key_list row.key) row.task y → StandsFor (table_of d) (daton ∷ []) task y
-      stands y s =
-          let own = subst (λ o. StandsFor (table_of d) (key_list o) row.task y) may.no_key s in
-          let body = stands-then (table_of d) [] (daton ∷ []) task may.body row.task may.stands (references-stand (table_of d) row.task may.body daton may.goes) in
-          stands-then (table_of d) (daton ∷ []) [] task row.task y body own
-
-      right : (b : Elements) → Extends (known_elements now) b → PartIsRight d b row task
-      right b e =
-          standing-is_right d b row [] task may.body (λ q i. absurd i) may.stands may.there
-          (body-is_right d b (holding now) now.stored.lost row (facts_of slot r at b e) daton absent may.body may.goes)
-
-      remembers : (b : Elements) → Extends (known_elements now) b → (q : DatonAt) → Some daton ≡ Some q → Remembers d b (as_body daton task row) q
-      remembers b e q same =
-          subst (λ z. Remembers d b (as_body daton task row) z) (cc) (becoming-remembers d b row daton task ((facts_of slot r at b e).seen) may absent)
-
-      facts : (b : Elements) → Extends (known_elements now) b → RowFacts d b (holding now) now.stored.lost (as_body daton task row)
-      facts b e = new_row-facts d b (holding now) now.stored.lost row task row.parent (Some daton) (right b e) may.still (remembers b e)
+-- The demand's first row stands.
+pub begins_waiting : (d : Demand) (now : EngineView) (w : World) (new : List (Option TaskRow)) (slot : ℕ) (x : Task) (key : Option Key) → Owns d now w
+    → StandsFor (table_of d) (key_list (option_map (plain_key now.known) key)) (plain_task now.known x) d.root → moved (table_of d) (plain_task now.known x) ≡ None
+    → IsKnown now.known x.tag → IfSome key (λ k. IsKnown now.known k.tag)
+    → ((b : Elements) → Extends (known_elements now) b → IsWanted d b (plain_task now.known x))
+    → ((b : Elements) → Extends (known_elements now) b → (k : DatonAt) → option_map (plain_key now.known) key ≡ Some k → Remembers d b (plain_task now.known x) k)
+    → rows.Asks [] new None slot x key → Waits d now w new
+begins_waiting d now w new slot x key owns stands still known key_known wanted remembers changes = record {
+  going = record {
+    work = work_begins d (known_elements now) (holding now) now.stored.lost (plain_rows now.known new) slot (plain_task now.known x) (option_map (plain_key now.known) key) stands
+        (λ b z. new_row-facts d b (holding now) now.stored.lost (plain_task now.known x) None (option_map (plain_key now.known) key) (wanted b z) still (remembers b z))
+        (plain_asks now.known [] new None slot x key changes);
+    owns = owns;
+  };
+  known = known_asks now.known [] new None slot x key known key_known changes (λ q r at. absurd (cc));
+}

@@ -14,12 +14,12 @@ use Rattle.lucid_equations.specs.Visits.{NodeEvents, node_walk, node_visits, con
 use Rattle.lucid_equations.specs.Rows.{equations_of}
 use Rattle.lucid_equations.proofs.NodeAims.{node-by_daton}
 use Rattle.lucid_equations.proofs.Needs as law
-use Rattle.lucid_facts.specs.Tasks.{PlainTask, PlainRow, DatonAt}
+use Rattle.lucid_facts.specs.Tasks.{PlainTask, DatonAt}
 use Rattle.lucid_facts.specs.Parts.{node_of, IsReference, RefersTo}
 use Rattle.lucid_facts.specs.Stands.{Holding, given, hval_of, val_of, IsDefined}
 use Rattle.lucid_facts.specs.Held.{DatonMeans, HoldsRight, IsClosed}
 use Rattle.lucid_facts.specs.Demands.{Demand, table_of, stays, Answers}
-use Rattle.lucid_facts.specs.Rows.{RowFacts}
+use Rattle.lucid_facts.specs.Rows.{IsWanted}
 use Rattle.lucid_facts.specs.Decisions.{LooksTooDeep, leads_nowhere, too_deep_for, element_too_deep, MayRead, IsConstant}
 
 -- the position, and the time, with which an aim goes on
@@ -118,21 +118,21 @@ nowhere_is_undefined p g m (reference (refer n l)) c t s i h = (law.nowhere-valu
 nowhere_is_undefined p g m (invoke n at l) c t s i h = (law.nowhere-value p g m c t s).1 n at l h
 nowhere_is_undefined p g m _ c t s i h = absurd i
 
--- A row that looks too deep is refused rightly, where its daton doesn't stay held: the root's approximation is undefined.
-pub too_deep-is_right : (d : Demand) (b : Elements) (h : Holding) (lost : ℕ) (r : PlainRow) → RowFacts d b h lost r → LooksTooDeep (table_of d) r.task
-    → ((k : DatonAt) → RefersTo (table_of d) r.task k → stays d k.0 k.1 ≡ None) → IsDefined (table_of d) b (stays d) d.root → ⊥
-too_deep-is_right d b h lost r facts why lacks root = go why (facts.needed root)
+-- A task that looks too deep is refused rightly, where its daton doesn't stay held: the root's approximation is undefined.
+pub too_deep-is_right : (d : Demand) (b : Elements) (x : PlainTask) → IsWanted d b x → LooksTooDeep (table_of d) x
+    → ((k : DatonAt) → RefersTo (table_of d) x k → stays d k.0 k.1 ≡ None) → IsDefined (table_of d) b (stays d) d.root → ⊥
+too_deep-is_right d b x wanted why lacks root = go why (wanted.needed root)
   where
-    undefined : (v : PlainValue) → hval_of (table_of d) b (stays d) r.task.limit r.task ≡ Some v → hval_of (table_of d) b (stays d) r.task.limit r.task ≡ None → ⊥
+    undefined : (v : PlainValue) → hval_of (table_of d) b (stays d) x.limit x ≡ Some v → hval_of (table_of d) b (stays d) x.limit x ≡ None → ⊥
     undefined v e n = absurd (cc)
 
-    go : LooksTooDeep (table_of d) r.task → IsDefined (table_of d) b (stays d) r.task → ⊥
+    go : LooksTooDeep (table_of d) x → IsDefined (table_of d) b (stays d) x → ⊥
     go (leads_nowhere i a) g =
-        undefined g.0 g.1 (nowhere_is_undefined (equations_of (table_of d)) (given b (stays d)) r.task.limit (node_of (table_of d) r.task) r.task.context r.task.time r.task.space i a)
+        undefined g.0 g.1 (nowhere_is_undefined (equations_of (table_of d)) (given b (stays d)) x.limit (node_of (table_of d) x) x.context x.time x.space i a)
     go (too_deep_for {k = k} q z) g =
-        undefined g.0 g.1 (ap (λ m. hval_of (table_of d) b (stays d) m r.task) z
-        ∙ (law.reference-value (equations_of (table_of d)) (given b (stays d)) 0 (node_of (table_of d) r.task) r.task.context r.task.time r.task.space k.0 q.position q.time q.aim).1
+        undefined g.0 g.1 (ap (λ m. hval_of (table_of d) b (stays d) m x) z
+        ∙ (law.reference-value (equations_of (table_of d)) (given b (stays d)) 0 (node_of (table_of d) x) x.context x.time x.space k.0 q.position q.time q.aim).1
         ∙ ap (λ s. stays d k.0 s) (sym q.space) ∙ lacks k q)
     go (element_too_deep {n = n} {j = j} a z) g =
-        undefined g.0 g.1 (ap (λ m. hval_of (table_of d) b (stays d) m r.task) z
-        ∙ (law.element-value (equations_of (table_of d)) (given b (stays d)) 0 (node_of (table_of d) r.task) r.task.context r.task.time r.task.space n j a).1)
+        undefined g.0 g.1 (ap (λ m. hval_of (table_of d) b (stays d) m x) z
+        ∙ (law.element-value (equations_of (table_of d)) (given b (stays d)) 0 (node_of (table_of d) x) x.context x.time x.space n j a).1)

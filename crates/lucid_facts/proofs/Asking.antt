@@ -1,5 +1,5 @@
 -- What a row asks for may be asked, and a row that stands at nothing is refused rightly.
-use Rattle.std.proofs.Common.{◌≡◌, ℕ, ◌+◌, ◌≤◌, max, Some, refl, sym, ap, ◌∙◌, subst, arith}
+use Rattle.std.proofs.Common.{◌≡◌, ℕ, ◌+◌, ◌<◌, ◌≤◌, max, Some, refl, sym, ap, ◌∙◌, subst, arith}
 use Rattle.std.specs.Prelude.{Bool, true, false, IsTrue}
 use Rattle.lucid_value.specs.Plain.{PlainValue}
 use Rattle.lucid_tree.specs.Tree.{Head}
@@ -19,12 +19,12 @@ use Rattle.lucid_equations.specs.Rows.{equations_of}
 use Rattle.lucid_equations.specs.Parts.{reads_parts, visits_parts}
 use Rattle.lucid_equations.proofs.ByStep.{parts-keep, parts-agree, next-visited, next-visited_on}
 use Rattle.lucid_facts.specs.Tasks.{PlainTask, PlainRow}
-use Rattle.lucid_facts.specs.Parts.{node_of, IsPart}
+use Rattle.lucid_facts.specs.Parts.{node_of, rank, IsPart}
 use Rattle.lucid_facts.specs.Stands.{Holding, given, hval_of, visits_of, task_visits, IsDefined}
 use Rattle.lucid_facts.specs.Held.{HoldsRight}
 use Rattle.lucid_facts.specs.Engine.{ForSomeAdded}
 use Rattle.lucid_facts.specs.Demands.{Demand, table_of, stays, IsSeen, LookAnswers}
-use Rattle.lucid_facts.specs.Rows.{RowFacts, PartIsRight}
+use Rattle.lucid_facts.specs.Rows.{RowFacts, IsWanted}
 use Rattle.lucid_facts.specs.Decisions.{ComesTo, MayAsk}
 use Rattle.lucid_facts.specs.Going.{IsDemand}
 use Rattle.lucid_facts.proofs.Looking.{LooksAt, looks_at, look_value, look_visits, look_keeps_limit, look_is_there, look_ranks_lower}
@@ -117,13 +117,15 @@ module _ (d : Demand) (b : Elements) (h : Holding) (lost : ℕ) (r : PlainRow) (
             let on = next-visited_on (equations_of (table_of d)) b r.task.limit may.at.form may.at.nodes r.task.context r.task.time r.task.space may.stands_next may.go_on (meant_way (looks may.stands_next may.go_on) may.at) in
             record { added = on.0; none = λ t. absurd (both_ways off t); holds = λ e le. inside_row e (on.1 e le may.look may.next) }
 
-    -- What a row may ask for is right to ask for.
-    pub asked_is_right : PartIsRight d b r x
-    asked_is_right =
+    -- What a row may ask for may be asked for, and costs less than the row.
+    pub asked_is_lower : rank (table_of d) x < rank (table_of d) r.task
+    asked_is_lower = look_ranks_lower (table_of d) demand.in_range r.task may.look x at
+
+    pub asked_is_wanted : IsWanted d b x
+    asked_is_wanted =
         record {
           there = look_is_there (table_of d) demand.in_range r.task may.look x at facts.there;
           limit = subst (λ m. m ≤ d.root.limit) (sym (look_keeps_limit (table_of d) demand.in_range r.task may.look x at)) facts.limit;
           needed = asked_is_needed;
           seen = seen_through d b x r.task asked_is_seen_by_row facts.seen;
-          lower = look_ranks_lower (table_of d) demand.in_range r.task may.look x at;
         }

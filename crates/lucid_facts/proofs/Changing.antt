@@ -12,7 +12,7 @@ use Rattle.lucid_tasks.specs.declared.Cursor.{Cursor}
 use Rattle.lucid_tasks.specs.Rows as rows
 use Rattle.lucid_tasks.specs.Rows.{TaskRow, Idle, Asked, Got, row_at}
 use Rattle.lucid_facts.specs.Tasks.{PlainRow, got, all_idle, new_row, plain_task, plain_key, plain_state, plain_row, plain_rows}
-use Rattle.lucid_facts.specs.Changes.{with_part, at_cursor, as_body, given_to, SetsRow, ChangesRow, AsksRow, SettlesRow}
+use Rattle.lucid_facts.specs.Changes.{with_part, at_cursor, waits_for, given_to, SetsRow, ChangesRow, AsksRow, SettlesRow}
 use Rattle.lucid_facts.proofs.Slots.{same_choice, choice_later}
 
 -- a choice of rows is seen by its cases
@@ -27,16 +27,18 @@ with_part_seen : (known : List Context) (i : ℕ) (s : rows.PartState) (o : Opti
 with_part_seen known i s None = refl
 with_part_seen known i s (Some r) = ap (λ ps. Some (record (plain_row known r) { parts = ps })) (map-set plain_state r.parts i s)
 
--- a part is asked
-pub plain_asks : (known : List Context) (old new : List (Option TaskRow)) (part : Part) (slot : ℕ) (x : Task) → rows.Asks old new part slot x
-    → AsksRow (plain_rows known old) (plain_rows known new) part slot (plain_task known x)
-plain_asks known old new part slot x asks q =
-    let waits = option_map (rows.with_part part.index (Asked slot)) (row_at old q) in
-    let others = if q == part.slot then waits else row_at old q in
-    ap (λ o. option_map (plain_row known) o) (asks q) ∙ seen_by_cases known (q == slot) (Some (rows.fresh x (Some part))) others
-    ∙ ap (λ o. if q == slot then Some (new_row (plain_task known x) (Some part) None) else o)
-    (seen_by_cases known (q == part.slot) waits (row_at old q)
-    ∙ ap (λ o. if q == part.slot then o else plain_rows known old q) (with_part_seen known part.index (Asked slot) (row_at old q)))
+-- a task is asked for a part, or as the root
+pub plain_asks : (known : List Context) (old new : List (Option TaskRow)) (part : Option Part) (slot : ℕ) (x : Task) (key : Option Key) → rows.Asks old new part slot x key
+    → AsksRow (plain_rows known old) (plain_rows known new) part slot (plain_task known x) (option_map (plain_key known) key)
+plain_asks known old new part slot x key asks q =
+    ap (λ o. option_map (plain_row known) o) (asks q) ∙ seen_by_cases known (q == slot) (Some (rows.fresh x part key)) (rows.waiting part slot q (row_at old q))
+    ∙ ap (λ o. if q == slot then Some (new_row (plain_task known x) part (option_map (plain_key known) key)) else o) (waiting_seen part (row_at old q))
+  where
+    waiting_seen : (p : Option Part) (o : Option TaskRow) → option_map (plain_row known) (rows.waiting p slot q o) ≡ waits_for p slot q (option_map (plain_row known) o)
+    waiting_seen None o = refl
+    waiting_seen (Some p) o =
+        seen_by_cases known (q == p.slot) (option_map (rows.with_part p.index (Asked slot)) o) o
+        ∙ ap (λ z. if q == p.slot then z else option_map (plain_row known) o) (with_part_seen known p.index (Asked slot) o)
 
 -- a part gets a value
 pub plain_gives : (known : List Context) (old new : List (Option TaskRow)) (part : Part) (v : Value) → rows.ChangesOnly old new part.slot (rows.with_part part.index (Got v))
@@ -81,10 +83,3 @@ pub plain_begins : (known : List Context) (old new : List (Option TaskRow)) (slo
     → rows.ChangesOnly old new slot (rows.with_cursor c) → SetsRow (plain_rows known old) (plain_rows known new) slot (Some (at_cursor c (plain_row known r)))
 plain_begins known old new slot r c at free changes =
     sets_row known old new slot r (rows.with_cursor c) (at_cursor c (plain_row known r)) at (ap (λ ps. record (plain_row known r) { cursor = c; parts = ps }) free) changes
-
--- a reference becomes its body
-pub plain_becomes : (known : List Context) (old new : List (Option TaskRow)) (slot : ℕ) (r : TaskRow) (x : Task) (k : Key) → row_at old slot ≡ Some r → (plain_row known r).parts ≡ all_idle
-    → rows.ChangesOnly old new slot (rows.becoming x k) → SetsRow (plain_rows known old) (plain_rows known new) slot (Some (as_body (plain_key known k) (plain_task known x) (plain_row known r)))
-plain_becomes known old new slot r x k at free changes =
-    sets_row known old new slot r (rows.becoming x k) (as_body (plain_key known k) (plain_task known x) (plain_row known r)) at
-    (ap (λ ps. record (as_body (plain_key known k) (plain_task known x) (plain_row known r)) { parts = ps }) free) changes

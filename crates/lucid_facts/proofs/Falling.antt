@@ -1,5 +1,5 @@
 -- What a row can still cost falls, or doesn't rise, at each change of the row.
-use Rattle.std.proofs.Common.{◌≡◌, ◌∙◌, ℕ, zero, suc, ◌+◌, ◌-◌, ◌*◌, ◌<◌, ◌≤◌, List, [], ◌∷◌, Option, Some, refl, sym, ap, subst, arith}
+use Rattle.std.proofs.Common.{◌≡◌, ◌∙◌, ℕ, zero, suc, ◌+◌, ◌-◌, ◌*◌, ◌<◌, ◌≤◌, List, [], ◌∷◌, Option, refl, sym, ap, subst, arith}
 use Rattle.std.specs.Prelude.{sum_by, length, slice_set}
 use Rattle.std.proofs.Math.Nat.{mul-le-mul_right}
 use Rattle.std.proofs.lemmas.List.Sums.{sum_by-cons}
@@ -9,30 +9,30 @@ use Rattle.lucid_tasks.specs.declared.Cursor.{Cursor}
 use Rattle.lucid_equations.specs.declared.table.Table.{Table}
 use Rattle.lucid_facts.specs.Tasks.{PlainTask, PlainRow, DatonAt, PartState, idle, asked, got, state_at, all_idle, new_row}
 use Rattle.lucid_facts.specs.Parts.{rank}
-use Rattle.lucid_facts.specs.Changes.{with_part, at_cursor, as_body}
+use Rattle.lucid_facts.specs.Changes.{with_part, at_cursor}
 use Rattle.lucid_facts.specs.Measure.{cost_below, idle_one, weight}
 
 cost_is : (limit r : ℕ) → cost_below limit (suc r) ≡ 2 + 3 * cost_below limit r + limit * (3 * cost_below limit r + 1)
 unfolding cost_below
 cost_is limit r = refl
 
-cost_zero : (limit : ℕ) → cost_below limit 0 ≡ 0
+cost_zero : (limit : ℕ) → cost_below limit 0 ≡ 1
 unfolding cost_below
 cost_zero limit = refl
+
+-- a part costs something
+cost_some : (limit r : ℕ) → 0 < cost_below limit r
+cost_some limit zero = rw (cost_zero limit) (omega arith)
+cost_some limit (suc r) = rw (cost_is limit r) (omega arith)
 
 -- the cost rises with the rank
 cost_rises : (limit r s : ℕ) → r ≤ s → cost_below limit r ≤ cost_below limit s
 cost_rises limit r zero h = let e : r ≡ 0 = omega (arith, h) in subst (λ n. cost_below limit n ≤ cost_below limit 0) (sym e) (omega arith)
-cost_rises limit zero (suc s) h = subst (λ n. n ≤ cost_below limit (suc s)) (sym (cost_zero limit)) (omega arith)
+cost_rises limit zero (suc s) h = subst (λ n. n ≤ cost_below limit (suc s)) (sym (cost_zero limit)) (cost_some limit (suc s))
 cost_rises limit (suc r) (suc s) h = rw (cost_is limit r, cost_is limit s) (go (cost_below limit r) (cost_below limit s) (cost_rises limit r s (omega (arith, h))))
   where
     go : (a b : ℕ) → a ≤ b → 2 + 3 * a + limit * (3 * a + 1) ≤ 2 + 3 * b + limit * (3 * b + 1)
     go a b g = grind (arith, g)
-
--- a part of a row that has a rank costs something
-cost_some : (limit r : ℕ) → 0 < r → 0 < cost_below limit r
-cost_some limit zero h = absurd (omega (arith, h))
-cost_some limit (suc r) h = rw (cost_is limit r) (omega arith)
 
 -- a new row costs less than a part of a row that ranks higher
 new_costs : (limit own part r : ℕ) → own ≤ limit → part ≡ cost_below limit r → 1 + 3 * part + own * (3 * part + 1) < cost_below limit (suc r)
@@ -86,12 +86,12 @@ asking_falls T limit r i slot x parent key free few lower le =
     go part own n m w e l = subst (λ k. 1 + n * part + own + w < 1 + k * part + own) e (grind (arith, l))
 
 -- an idle part gets a value
-pub giving_falls : (T : Table) (limit : ℕ) (r : PlainRow) (i : ℕ) (v : PlainValue) → state_at r.parts i ≡ idle → i < length r.parts → 0 < rank T r.task
+pub giving_falls : (T : Table) (limit : ℕ) (r : PlainRow) (i : ℕ) (v : PlainValue) → state_at r.parts i ≡ idle → i < length r.parts
     → weight T limit (with_part i (got v) r) < weight T limit r
-giving_falls T limit r i v free few some =
+giving_falls T limit r i v free few =
     let less = one_less r.parts i (got v) free few refl in
     go (cost_below limit (rank T r.task)) ((r.task.limit - r.cursor.time) * (3 * cost_below limit (rank T r.task) + 1)) (sum_by idle_one (slice_set r.parts i (got v)))
-    (sum_by idle_one r.parts) less (cost_some limit (rank T r.task) some)
+    (sum_by idle_one r.parts) less (cost_some limit (rank T r.task))
   where
     go : (part own n m : ℕ) → suc n ≡ m → 0 < part → 1 + n * part + own < 1 + m * part + own
     go part own n m e l = subst (λ k. 1 + n * part + own < 1 + k * part + own) e (grind (arith, l))
@@ -122,13 +122,3 @@ beginning_raises_nothing T limit r c free later =
     go part n a b e l =
         let m = mul-le-mul_right {m = a} {n = b} (3 * part + 1) l in
         subst (λ k. 1 + 3 * part + a * (3 * part + 1) ≤ 1 + k * part + b * (3 * part + 1)) (sym e) (omega (arith, m))
-
--- a reference becomes its body, which costs less than one of its idle parts did
-pub becoming_falls : (T : Table) (limit : ℕ) (r : PlainRow) (k : DatonAt) (x : PlainTask) → r.parts ≡ all_idle → rank T x < rank T r.task → x.limit ≤ limit
-    → weight T limit (as_body k x r) < weight T limit r
-becoming_falls T limit r k x free lower le =
-    let new = new_below T limit r x r.parent (Some k) lower le in
-    let three : sum_by idle_one r.parts ≡ 3 = ap (λ ps. sum_by idle_one ps) free in
-    let old : weight T limit r ≡ 1 + 3 * cost_below limit (rank T r.task) + (r.task.limit - r.cursor.time) * (3 * cost_below limit (rank T r.task) + 1)
-    = ap (λ n. 1 + n * cost_below limit (rank T r.task) + (r.task.limit - r.cursor.time) * (3 * cost_below limit (rank T r.task) + 1)) three in
-    omega (arith, new, old)

@@ -12,8 +12,8 @@ use Rattle.lucid_equations.specs.Values.{node_val, NodeMeans}
 use Rattle.lucid_equations.specs.Visits.{IsNeeded}
 use Rattle.lucid_equations.specs.Rows.{equations_of}
 use Rattle.lucid_equations.specs.Parts.{reads_parts}
-use Rattle.lucid_facts.specs.Tasks.{PlainTask, PlainRow}
-use Rattle.lucid_facts.specs.Parts.{node_of}
+use Rattle.lucid_facts.specs.Tasks.{PlainTask, PlainRow, value_of_part}
+use Rattle.lucid_facts.specs.Parts.{node_of, IsReference, IsPart, part_by_look, part_by_reference}
 use Rattle.lucid_facts.specs.Stands.{Holding, task_val, TaskMeans}
 use Rattle.lucid_facts.specs.Held.{NeedsHeld}
 use Rattle.lucid_facts.specs.Demands.{Demand, table_of, LookAnswers, Answers}
@@ -72,3 +72,12 @@ module _ (d : Demand) (b : Elements) (h : Holding) (lost : ℕ) (r : PlainRow) w
           (leads-maps (LookAnswers d b h lost r.task) (λ l w. ReadsAtSome (λ n. reads_parts (equations_of (table_of d)) (nothing_held b) n s.nodes r.task.context) l w × NeedsPass (equations_of (table_of d)) b s.nodes r.task.context (λ q. is_some (h q.0 q.1)) l)
           (λ l w a. (answer_means d b h lost demand r.task s.form s.nodes s.is l w a, answer_holds d b h lost demand r.task s.form s.nodes s.is keeps none l w a)) (plan r.task.limit s.form r.task.time r.task.space) (gives v) way)
           k (subst (λ n. IsNeeded (equations_of (table_of d)) b n r.task.context r.task.time r.task.space k) s.is needed)
+
+  -- The task of a reference's part is the reference.
+  its_own : (i : ℕ) (x : PlainTask) → IsPart (table_of d) r i x → IsReference (node_of (table_of d) r.task) → x ≡ r.task
+  its_own i x (part_by_look {f = f} {es = es} {l = l} k e q t) reference = absurd (subst (λ z. IsReference z) e reference)
+  its_own i x (part_by_reference k o) reference = o
+
+  -- So its value answers the reference.
+  pub reference_answers : RowFacts d b h lost r → IsReference (node_of (table_of d) r.task) → (v : PlainValue) → value_of_part r 0 ≡ Some v → Answers d b h lost r.task v
+  reference_answers facts reference v has = let a = facts.got_parts 0 v has in subst (λ x. Answers d b h lost x v) (its_own 0 a.task a.is reference) a.answers

@@ -10,7 +10,7 @@ use Rattle.lucid_tree.specs.Rows.{Look}
 use Rattle.lucid_equations.specs.Nodes.{row, PlainNodes}
 use Rattle.lucid_equations.specs.declared.table.Table.{Table}
 use Rattle.lucid_facts.specs.Tasks.{PlainTask, PlainRow, PartState, idle, asked, got, is_free, waits_for_none, all_idle, state_at, value_in, value_of_part}
-use Rattle.lucid_facts.specs.Parts.{node_of, look_of_row, IsReference, IsPart, part_by_look, part_by_body}
+use Rattle.lucid_facts.specs.Parts.{node_of, look_of_row, IsPart, part_by_look, part_by_reference}
 use Rattle.lucid_facts.specs.Stands.{Holding}
 use Rattle.lucid_facts.specs.Held.{is_search}
 use Rattle.lucid_facts.specs.Demands.{Demand, table_of}
@@ -43,7 +43,7 @@ no_third _ r l s e = absurd (cc)
 no_third_part : (T : Table) (r : PlainRow) (f : Head) (es : PlainNodes) (j : ℕ) (x : PlainTask) → node_of T r.task ≡ row f es → is_search f ≡ true → j ≡ 2 → IsPart T r j x → ⊥
 no_third_part T r f es j x e s two (part_by_look {f = g} {es = gs} {l = l} i n q t) =
     no_third g r l (subst (λ h. is_search h ≡ true) (one-form f g es gs (sym e ∙ n)) s) (subst (λ k. look_of_row g r k ≡ Some l) two q)
-no_third_part T r f es j x e s two (part_by_body k g) = absurd (cc)
+no_third_part T r f es j x e s two (part_by_reference k o) = absurd (cc)
 
 -- The third part of a search that waits for none is idle: a search has no look there.
 pub search-is_idle : (d : Demand) (b : Elements) (h : Holding) (lost : ℕ) (r : PlainRow) (f : Head) (es : PlainNodes) → RowFacts d b h lost r
@@ -73,17 +73,3 @@ search-is_all_idle d b h lost r f es facts e s free no_subject no_stream = all-a
     each (suc zero) lt = part-is_idle r 1 free (valueless 1 no_stream)
     each (suc (suc zero)) lt = search-is_idle d b h lost r f es facts e s free
     each (suc (suc (suc i))) lt = absurd (omega (arith, lt))
-
--- a reference has no part but its body
-no_more_parts : (T : Table) (r : PlainRow) (i j : ℕ) (x : PlainTask) → IsReference (node_of T r.task) → j ≡ suc i → IsPart T r j x → ⊥
-no_more_parts T r i j x ref e (part_by_look {f = g} {es = gs} {l = l} k n q t) = subst (λ z. IsReference z) n ref
-no_more_parts T r i j x ref e (part_by_body k g) = absurd (cc)
-
--- All parts of a reference that waits for none, and of which no body was asked for, are idle.
-pub reference-is_idle : (d : Demand) (b : Elements) (h : Holding) (lost : ℕ) (r : PlainRow) → RowFacts d b h lost r → IsReference (node_of (table_of d) r.task)
-    → waits_for_none r ≡ true → state_at r.parts 0 ≡ idle → r.parts ≡ all_idle
-reference-is_idle d b h lost r facts ref free z = all-are_idle r facts.three each
-  where
-    each : (i : ℕ) → i < 3 → state_at r.parts i ≡ idle
-    each zero lt = z
-    each (suc i) lt = part-is_idle r (suc i) free (λ v q. let a = facts.got_parts (suc i) v q in no_more_parts (table_of d) r i (suc i) a.task ref refl a.is)

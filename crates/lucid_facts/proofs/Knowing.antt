@@ -1,5 +1,5 @@
 -- The tags of all rows stay known, at each change of the rows that have tags.
-use Rattle.std.proofs.Common.{◌≡◌, ℕ, ◌==◌, List, [], Option, Some, None, Bool, true, false, refl, sym, ap, subst}
+use Rattle.std.proofs.Common.{◌≡◌, ℕ, ◌==◌, List, Option, Some, None, Bool, true, false, refl, sym, ap, subst}
 use Rattle.std.specs.Prelude.{IfSome, if◌then◌else◌, option_map}
 use Rattle.lucid_value.specs.declared.Value.{Value}
 use Rattle.lucid_tags.specs.Contexts.{Context}
@@ -78,28 +78,18 @@ pub known_moves : (known : List Context) (old new : List (Option TaskRow)) (slot
     → AreRowsKnown known new
 known_moves known old new slot c = known_changes known old new slot (rows.with_cursor c) (λ r. same_tags known r (rows.with_cursor c r) refl refl)
 
--- a row becomes a known task, which remembers a known key
-pub known_becomes : (known : List Context) (old new : List (Option TaskRow)) (slot : ℕ) (x : Task) (k : Key) → IsKnown known x.tag → IsKnown known k.tag
-    → rows.ChangesOnly old new slot (rows.becoming x k) → AreRowsKnown known old → AreRowsKnown known new
-known_becomes known old new slot x k task key = known_changes known old new slot (rows.becoming x k) (λ r was. record { task = task; key_tag = key })
-
-known_fresh : (known : List Context) (x : Task) (parent : Option Part) → IsKnown known x.tag → AreTagsKnown known (rows.fresh x parent)
-known_fresh known x parent task = record { task = task; key_tag = tt }
-
--- a known task is asked for a part
-pub known_asks : (known : List Context) (old new : List (Option TaskRow)) (part : Part) (slot : ℕ) (x : Task) → IsKnown known x.tag → rows.Asks old new part slot x → AreRowsKnown known old
-    → AreRowsKnown known new
-known_asks known old new part slot x task asks all = all_known known new (λ q.
-    let k = each_known known old all q in
-    let waits = option_map (rows.with_part part.index (Asked slot)) (row_at old q) in
-    let keeps = known_map known (rows.with_part part.index (Asked slot)) (λ r. same_tags known r (rows.with_part part.index (Asked slot) r) refl refl) (row_at old q) k in
-    subst (λ o. IfKnown known o) (sym (asks q)) (known_choice known (q == slot) (Some (rows.fresh x (Some part))) (if q == part.slot then waits else row_at old q)
-    (known_fresh known x (Some part) task) (known_choice known (q == part.slot) waits (row_at old q) keeps k)))
-
--- a known task is a demand's first
-pub known_begins : (known : List Context) (new : List (Option TaskRow)) (slot : ℕ) (x : Task) → IsKnown known x.tag → rows.SetsOnly [] new slot (Some (rows.fresh x None)) → AreRowsKnown known new
-known_begins known new slot x task sets =
-    all_known known new (λ q. subst (λ o. IfKnown known o) (sym (sets q)) (known_choice known (q == slot) (Some (rows.fresh x None)) None (known_fresh known x None task) tt))
+-- a known task is asked for a part, or as the root; its row may remember a known key
+pub known_asks : (known : List Context) (old new : List (Option TaskRow)) (part : Option Part) (slot : ℕ) (x : Task) (key : Option Key) → IsKnown known x.tag
+    → IfSome key (λ k. IsKnown known k.tag) → rows.Asks old new part slot x key → AreRowsKnown known old → AreRowsKnown known new
+known_asks known old new part slot x key task key_tag asks all = all_known known new (λ q.
+    subst (λ o. IfKnown known o) (sym (asks q)) (known_choice known (q == slot) (Some (rows.fresh x part key)) (rows.waiting part slot q (row_at old q))
+    (record { task = task; key_tag = key_tag }) (waiting_known q part (row_at old q) (each_known known old all q))))
+  where
+    waiting_known : (q : ℕ) (p : Option Part) (o : Option TaskRow) → IfKnown known o → IfKnown known (rows.waiting p slot q o)
+    waiting_known q None o k = k
+    waiting_known q (Some p) o k =
+        known_choice known (q == p.slot) (option_map (rows.with_part p.index (Asked slot)) o) o
+        (known_map known (rows.with_part p.index (Asked slot)) (λ r. same_tags known r (rows.with_part p.index (Asked slot) r) refl refl) o k) k
 
 -- a row settles
 pub known_settles : (known : List Context) (old new : List (Option TaskRow)) (slot : ℕ) (v : Value) → rows.Settles old new slot v → AreRowsKnown known old → AreRowsKnown known new

@@ -10,15 +10,13 @@ use Rattle.lucid_tree.proofs.Ways.{leads-maps, leads-join}
 use Rattle.lucid_tree.proofs.SearchesLead.{search_leads, least_of, test_look, counted_truth}
 use Rattle.lucid_equations.specs.Nodes.{row, PlainNodes, no_nodes}
 use Rattle.lucid_equations.specs.Values.{node_val}
-use Rattle.lucid_equations.specs.Datons.{node_aim}
 use Rattle.lucid_equations.specs.Rows.{node_at, equations_of}
 use Rattle.lucid_equations.specs.declared.table.Table.{Table}
 use Rattle.lucid_equations.specs.declared.rows.Node.TheVariants.{Const}
 use Rattle.lucid_equations.proofs.PartsRead.{row-node}
 use Rattle.lucid_equations.proofs.NodeGrowth.{node-meant_once}
-use Rattle.lucid_equations.proofs.NodeAims.{no_aim}
-use Rattle.lucid_facts.specs.Tasks.{PlainTask, PlainRow, DatonAt}
-use Rattle.lucid_facts.specs.Parts.{node_of, part_number, look_of_row, look_task, GoesTo, IsPart, part_by_look, part_by_body}
+use Rattle.lucid_facts.specs.Tasks.{PlainTask, PlainRow}
+use Rattle.lucid_facts.specs.Parts.{node_of, part_number, look_of_row, look_task, IsReference, IsPart, part_by_look, part_by_reference}
 use Rattle.lucid_facts.specs.Stands.{Holding}
 use Rattle.lucid_facts.specs.Held.{is_search}
 use Rattle.lucid_facts.specs.Demands.{Demand, table_of, LookAnswers, Answers}
@@ -30,11 +28,6 @@ use Rattle.lucid_facts.proofs.Coming.{rest_of}
 use Rattle.lucid_facts.proofs.Noting.{stream_of_search}
 use Rattle.lucid_facts.proofs.Idling.{one-form}
 
--- a form goes to no daton
-form_goes_nowhere : (T : Table) (x y : PlainTask) (k : DatonAt) (f : Head) (es : PlainNodes) → node_of T x ≡ row f es → GoesTo T x k y → ⊥
-form_goes_nowhere T x y k f es e g =
-    no_aim k.0 (record { node = node_of T y; context = y.context }) y.time (ap (λ n. node_aim (equations_of T) n x.context x.time) (sym e) ∙ g.aim)
-
 same_look : (o : Option Look) (l k : Look) → o ≡ Some l → o ≡ Some k → k ≡ l
 same_look o l k e h = cc
 
@@ -45,7 +38,7 @@ part_is_of_its_look T r f es e index l y (part_by_look {f = g} {es = gs} {l = k}
     let same : g ≡ f = one-form g f gs es (sym n ∙ e) in
     let look : k ≡ l = same_look (look_of_row f r index) l k w (subst (λ u. look_of_row u r index ≡ Some k) same q) in
     subst (λ u. look_task T r.task u ≡ Some y) look t
-part_is_of_its_look T r f es e index l y (part_by_body k g) w = absurd (form_goes_nowhere T r.task y k f es e g)
+part_is_of_its_look T r f es e index l y (part_by_reference i o) w = absurd (subst (λ n. IsReference n) e i)
 
 -- a form that doesn't search stands at its plan
 rest_is_plan : (f : Head) → is_search f ≡ false → (m j n t s : ℕ) → rest_at f m j n t s ≡ plan m f t s

@@ -1,13 +1,12 @@
 -- Rows in a list: which slots have one, which are ready, and what a change of one leaves.
-use Rattle.std.proofs.Common.{◌≡◌, ◌≢◌, ℕ, zero, suc, ◌<◌, ◌≤◌, ◌==◌, List, [], ◌∷◌, Option, Some, None, Bool, true, false, ◌&&◌, refl, sym, ap, ◌∙◌, arith}
-use Rattle.std.specs.Prelude.{IsSome, if◌then◌else◌, length, map, option_map, option_and_then, slice_set, slice_index_or}
+use Rattle.std.proofs.Common.{◌≡◌, ◌≢◌, ℕ, zero, suc, ◌<◌, ◌≤◌, List, [], ◌∷◌, Option, Some, None, true, ◌&&◌, refl, sym, ap, ◌∙◌, arith}
+use Rattle.std.specs.Prelude.{IsSome, length, option_map, option_and_then, slice_set, slice_index_or}
 use Rattle.std.specs.List.{list_all}
 use Rattle.lucid_value.specs.declared.Value.{Value}
 use Rattle.lucid_tags.specs.Contexts.{Context}
-use Rattle.lucid_tasks.specs.declared.Task.{Task}
 use Rattle.lucid_tasks.specs.Rows as rows
 use Rattle.lucid_tasks.specs.Rows.{TaskRow, Idle, Asked, Got, row_at}
-use Rattle.lucid_facts.specs.Tasks.{PlainRow, idle, all_idle, new_row, waits_for_none, plain_task, plain_state, plain_row, plain_rows}
+use Rattle.lucid_facts.specs.Tasks.{PlainRow, waits_for_none, plain_row, plain_rows}
 use Rattle.lucid_facts.proofs.Slots.{at_it, at_another}
 use Rattle.lucid_facts.proofs.Seeing.{plain_ready}
 use Rattle.lucid_facts.proofs.Changing.{settles_after_taking}
@@ -51,15 +50,6 @@ ready_row known rs slot = go (row_at rs slot)
 
 -- ---- what a change leaves
 
--- a demand's first row
-pub plain_first : (known : List Context) (new : List (Option TaskRow)) (slot : ℕ) (x : Task) → rows.SetsOnly [] new slot (Some (rows.fresh x None))
-    → (q : ℕ) → plain_rows known new q ≡ (if q == slot then Some (new_row (plain_task known x) None None) else None)
-plain_first known new slot x sets q = ap (λ o. option_map (plain_row known) o) (sets q) ∙ go (q == slot)
-  where
-    go : (t : Bool) → option_map (plain_row known) (if t then Some (rows.fresh x None) else None) ≡ (if t then Some (new_row (plain_task known x) None None) else None)
-    go true = refl
-    go false = refl
-
 -- the row that was changed, and the others
 pub changed_there : (old new : List (Option TaskRow)) (slot : ℕ) (f : TaskRow → TaskRow) (r : TaskRow) → rows.ChangesOnly old new slot f → row_at old slot ≡ Some r → row_at new slot ≡ Some (f r)
 changed_there old new slot f r changes at = changes slot ∙ at_it slot slot (option_map f (row_at old slot)) (row_at old slot) refl ∙ ap (λ o. option_map f o) at
@@ -96,22 +86,3 @@ ready_after_take old taken slot i takes =
     go : (o : Option TaskRow) → rows.is_ready (option_map (rows.taken i) o) ≡ rows.is_ready o
     go None = refl
     go (Some r) = free_taken r.parts i
-
--- a row all of whose plain parts are idle is idle
-idle_of_plain : (s : rows.PartState) → plain_state s ≡ idle → rows.is_idle s ≡ true
-idle_of_plain Idle e = refl
-idle_of_plain (Asked slot) e = absurd (cc)
-idle_of_plain (Got v) e = absurd (cc)
-
-idle_parts : (ps : List rows.PartState) → map plain_state ps ≡ all_idle → list_all rows.is_idle ps ≡ true
-idle_parts [] e = refl
-idle_parts (a ∷ b ∷ c ∷ []) e =
-    let first : plain_state a ≡ idle = cc in
-    let second : plain_state b ≡ idle = cc in
-    let third : plain_state c ≡ idle = cc in
-    ap (λ t. t && (rows.is_idle b && (rows.is_idle c && true))) (idle_of_plain a first) ∙ ap (λ t. t && (rows.is_idle c && true)) (idle_of_plain b second)
-    ∙ ap (λ t. t && true) (idle_of_plain c third)
-idle_parts _ e = absurd (cc)
-
-pub idle_row : (known : List Context) (rs : List (Option TaskRow)) (slot : ℕ) (r : TaskRow) → row_at rs slot ≡ Some r → (plain_row known r).parts ≡ all_idle → rows.IsIdleRow rs slot
-idle_row known rs slot r at free = ap (λ o. option_map (λ row. list_all rows.is_idle row.parts) o) at ∙ ap Some (idle_parts r.parts free)

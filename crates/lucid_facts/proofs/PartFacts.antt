@@ -37,7 +37,7 @@ part-got d b h lost r i v f lt n a = record {
   seen = f.seen;
   search = λ g es stream e q s. let x = f.search g es stream e q s in record { counted = x.counted; exact = x.exact; kept = x.kept; within = x.within };
   got_parts = λ k w e. go k w e (cases_eq k i);
-  remembers = λ k e. let x = f.remembers k e in record { absent = x.absent; no_reference = x.no_reference; body = x.body; aim = x.aim; space = x.space; stands = x.stands; visited = x.visited };
+  remembers = f.remembers;
 }
   where
     carry : (k : ℕ) (w : PlainValue) → PartAnswers d b h lost r k w → PartAnswers d b h lost (with_part i (got v) r) k w
@@ -67,7 +67,7 @@ part-asked d b h lost r i slot f free = record {
   seen = f.seen;
   search = λ g es stream e q s. let x = f.search g es stream e q s in record { counted = x.counted; exact = x.exact; kept = x.kept; within = x.within };
   got_parts = λ k w e. go k w e (cases_eq k i);
-  remembers = λ k e. let x = f.remembers k e in record { absent = x.absent; no_reference = x.no_reference; body = x.body; aim = x.aim; space = x.space; stands = x.stands; visited = x.visited };
+  remembers = f.remembers;
 }
   where
     none : (w : PlainValue) → state_at r.parts i ≡ got w → ⊥

@@ -7,7 +7,7 @@ use Rattle.lucid_tree.specs.Rows.{Look}
 use Rattle.lucid_tasks.specs.declared.Cursor.{Cursor}
 use Rattle.lucid_equations.specs.declared.table.Table.{Table}
 use Rattle.lucid_facts.specs.Tasks.{PlainTask, PlainRow, PartState, idle, asked, got, state_at, value_in, value_of_part}
-use Rattle.lucid_facts.specs.Parts.{look_of, look_of_row, IsPart, part_by_look, part_by_body}
+use Rattle.lucid_facts.specs.Parts.{look_of, look_of_row, IsPart, part_by_look, part_by_reference}
 use Rattle.lucid_facts.specs.Changes.{with_part}
 
 -- a write at a part that has no value leaves each value where it was
@@ -48,4 +48,4 @@ part-stays T r i j y x p n = go j p
   where
     go : (j : ℕ) → IsPart T r j x → IsPart T (with_part i y r) j x
     go j (part_by_look {f = f} {es = es} {l = l} k e q t) = part_by_look j e (look_stays f r i j y l n q) t
-    go j (part_by_body k g) = part_by_body k g
+    go j (part_by_reference i e) = part_by_reference i e

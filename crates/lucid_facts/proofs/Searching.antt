@@ -19,7 +19,7 @@ use Rattle.lucid_equations.specs.Rows.{equations_of, node_at}
 use Rattle.lucid_equations.specs.declared.table.Table.{Table}
 use Rattle.lucid_equations.proofs.NodeGrowth.{node_hval-up}
 use Rattle.lucid_facts.specs.Tasks.{PlainTask, PlainRow, all_idle, state_at, value_in}
-use Rattle.lucid_facts.specs.Parts.{node_of, part_number, look_of_row, look_task, IsPart, part_by_look, part_by_body}
+use Rattle.lucid_facts.specs.Parts.{node_of, part_number, look_of_row, look_task, IsPart, part_by_look, part_by_reference}
 use Rattle.lucid_facts.specs.Stands.{Holding}
 use Rattle.lucid_facts.specs.Held.{is_search, cursor_noted, Counted, NeedsHeld, NotedRight}
 use Rattle.lucid_facts.specs.Demands.{Demand, table_of, Answers}
@@ -56,7 +56,7 @@ at_cursor-facts d b h lost r c f search = record {
   seen = f.seen;
   search = search;
   got_parts = λ i v e. absurd (nothing_got i v e);
-  remembers = λ k e. let x = f.remembers k e in record { absent = x.absent; no_reference = x.no_reference; body = x.body; aim = x.aim; space = x.space; stands = x.stands; visited = x.visited };
+  remembers = f.remembers;
 }
 
 -- the look at a search's stream
@@ -90,7 +90,7 @@ stream_part : (T : Table) (r : PlainRow) (f : Head) (es : PlainNodes) (stream j 
 stream_part T r f es stream j x e s p one (part_by_look {f = g} {es = gs} {l = l} i n q t) =
     task_of_look T r l stream x
     (stream_look g r l (subst (λ z. is_search z ≡ true) (one-form f g es gs (sym e ∙ n)) s) (subst (λ k. look_of_row g r k ≡ Some l) one q)) p t
-stream_part T r f es stream j x e s p one (part_by_body k g) = absurd (cc)
+stream_part T r f es stream j x e s p one (part_by_reference k o) = absurd (cc)
 
 -- a count that goes on by a truth
 on_by_truth : (o : Option ℕ) (v : Option PlainValue) (c : Cursor) (seen : Bool) → o ≡ Some c.count → v ≡ Some (truth seen) → count_on o v ≡ Some (looked_on c seen).count

@@ -6,7 +6,7 @@ use Rattle.lucid_value.specs.Plain.{PlainValue}
 use Rattle.lucid_tree.specs.Levels.{Elements}
 use Rattle.lucid_tasks.specs.declared.Part.{Part}
 use Rattle.lucid_equations.specs.MoreElements.{Extends}
-use Rattle.lucid_facts.specs.Tasks.{PlainTask, PlainRow, PlainRows, PartState, idle, asked, got, state_at, new_row}
+use Rattle.lucid_facts.specs.Tasks.{PlainTask, PlainRow, PlainRows, DatonAt, PartState, idle, asked, got, state_at, new_row}
 use Rattle.lucid_facts.specs.Parts.{IsPart}
 use Rattle.lucid_facts.specs.Stands.{Holding}
 use Rattle.lucid_facts.specs.Demands.{Demand, table_of}
@@ -111,22 +111,22 @@ past_is_none rows slot past = go (rows slot) refl
     go (Some c) e = let l = past slot (subst (λ o. IsSome o) (sym e) refl) in absurd (omega (arith, l))
 
 -- A part is asked, by a task that stands for it.
-pub work_asks : (d : Demand) (now : Elements) (h : Holding) (lost : ℕ) (old new : PlainRows) (part : Part) (slot : ℕ) (r : PlainRow) (x : PlainTask) → Work d now h lost old → old part.slot ≡ Some r
-    → state_at r.parts part.index ≡ idle → part.index < 3 → AsksFor (table_of d) r part.index x → ((b : Elements) → Extends now b → RowFacts d b h lost (new_row x (Some part) None))
-    → ((q : ℕ) → IsSome (old q) → q < slot) → AsksRow old new part slot x → Work d now h lost new
-work_asks d now h lost old new part slot r x w at free few asks facts past changes =
+pub work_asks : (d : Demand) (now : Elements) (h : Holding) (lost : ℕ) (old new : PlainRows) (part : Part) (slot : ℕ) (r : PlainRow) (x : PlainTask) (key : Option DatonAt) → Work d now h lost old → old part.slot ≡ Some r
+    → state_at r.parts part.index ≡ idle → part.index < 3 → AsksFor (table_of d) r part.index x key → ((b : Elements) → Extends now b → RowFacts d b h lost (new_row x (Some part) key))
+    → ((q : ℕ) → IsSome (old q) → q < slot) → AsksRow old new (Some part) slot x key → Work d now h lost new
+work_asks d now h lost old new part slot r x key w at free few asks facts past changes =
     work_sets d now h lost mid waiting new slot (Some child) (none_is_no_parent d now h lost mid waiting slot unused)
     (λ c e. subst (λ z. (b : Elements) → Extends now b → RowFacts d b h lost z) (same c e) facts) (λ c e. subst (λ z. Links d new slot z) (same c e) linked)
     (part.slot, with_part part.index (asked slot) r, parent_there) sets
   where
     child : PlainRow
-    child = new_row x (Some part) None
+    child = new_row x (Some part) key
 
     mid : PlainRows
     mid = with_row old part.slot (Some (with_part part.index (asked slot) r))
 
     sets : SetsRow mid new slot (Some child)
-    sets = asks_in_two old new part slot r x at changes
+    sets = asks_in_two old new part slot r x key at changes
 
     waiting : Work d now h lost mid
     waiting =

@@ -4,7 +4,7 @@ use Rattle.std.specs.Prelude.{if◌then◌else◌, option_map}
 use Rattle.std.proofs.lemmas.Bool.{cases_eq}
 use Rattle.lucid_value.specs.Plain.{PlainValue}
 use Rattle.lucid_tasks.specs.declared.Part.{Part}
-use Rattle.lucid_facts.specs.Tasks.{PlainTask, PlainRow, PlainRows, asked, got, new_row}
+use Rattle.lucid_facts.specs.Tasks.{PlainTask, PlainRow, PlainRows, DatonAt, asked, got, new_row}
 use Rattle.lucid_facts.specs.Changes.{with_part, given_to, SetsRow, ChangesRow, AsksRow, SettlesRow}
 use Rattle.lucid_facts.proofs.Slots.{at_it, at_another, same_choice}
 
@@ -17,10 +17,10 @@ pub changes_is_set : (old new : PlainRows) (slot : ℕ) (f : PlainRow → PlainR
 changes_is_set old new slot f r at changes q = changes q ∙ same_choice q slot (option_map f (old q)) (Some (f r)) (old q) (λ e. ap (λ o. option_map f o) (ap old e ∙ at))
 
 -- a part is asked, and then its row is new
-pub asks_in_two : (old new : PlainRows) (part : Part) (slot : ℕ) (r : PlainRow) (x : PlainTask) → old part.slot ≡ Some r → AsksRow old new part slot x
-    → SetsRow (with_row old part.slot (Some (with_part part.index (asked slot) r))) new slot (Some (new_row x (Some part) None))
-asks_in_two old new part slot r x at asks q =
-    asks q ∙ ap (λ o. if q == slot then Some (new_row x (Some part) None) else o)
+pub asks_in_two : (old new : PlainRows) (part : Part) (slot : ℕ) (r : PlainRow) (x : PlainTask) (key : Option DatonAt) → old part.slot ≡ Some r → AsksRow old new (Some part) slot x key
+    → SetsRow (with_row old part.slot (Some (with_part part.index (asked slot) r))) new slot (Some (new_row x (Some part) key))
+asks_in_two old new part slot r x key at asks q =
+    asks q ∙ ap (λ o. if q == slot then Some (new_row x (Some part) key) else o)
     (same_choice q part.slot (option_map (with_part part.index (asked slot)) (old q)) (Some (with_part part.index (asked slot) r)) (old q)
     (λ e. ap (λ o. option_map (with_part part.index (asked slot)) o) (ap old e ∙ at)))
 

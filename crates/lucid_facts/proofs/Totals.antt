@@ -5,7 +5,7 @@ use Rattle.std.proofs.lemmas.Bool.{cases_eq}
 use Rattle.lucid_value.specs.Plain.{PlainValue}
 use Rattle.lucid_tasks.specs.declared.Part.{Part}
 use Rattle.lucid_equations.specs.declared.table.Table.{Table}
-use Rattle.lucid_facts.specs.Tasks.{PlainTask, PlainRow, PlainRows, idle, asked, got, state_at, new_row}
+use Rattle.lucid_facts.specs.Tasks.{PlainTask, PlainRow, PlainRows, DatonAt, idle, asked, got, state_at, new_row}
 use Rattle.lucid_facts.specs.Parts.{rank}
 use Rattle.lucid_facts.specs.Changes.{with_part, SetsRow, AsksRow, SettlesRow}
 use Rattle.lucid_facts.specs.Measure.{weight, weight_at, total}
@@ -66,15 +66,15 @@ total_begins T limit old new slot n r s at no_more sets below =
     omega (arith, set, was, no_more)
 
 -- a part is asked, whose row is new: all can cost less than before
-pub total_asks : (T : Table) (limit : ℕ) (old new : PlainRows) (part : Part) (slot n : ℕ) (r : PlainRow) (x : PlainTask) → old part.slot ≡ Some r → old slot ≡ None
-    → state_at r.parts part.index ≡ idle → part.index < length r.parts → rank T x < rank T r.task → x.limit ≤ limit → AsksRow old new part slot x → part.slot < n → slot < n
+pub total_asks : (T : Table) (limit : ℕ) (old new : PlainRows) (part : Part) (slot n : ℕ) (r : PlainRow) (x : PlainTask) (key : Option DatonAt) → old part.slot ≡ Some r → old slot ≡ None
+    → state_at r.parts part.index ≡ idle → part.index < length r.parts → rank T x < rank T r.task → x.limit ≤ limit → AsksRow old new (Some part) slot x key → part.slot < n → slot < n
     → total T limit new n < total T limit old n
-total_asks T limit old new part slot n r x at none free few lower le asks part_below below =
+total_asks T limit old new part slot n r x key at none free few lower le asks part_below below =
     let changed = with_part part.index (asked slot) r in
     let mid = with_row old part.slot (Some changed) in
     let first = total_set T limit old mid part.slot n (Some changed) (λ q. refl) part_below in
-    let second = total_set T limit mid new slot n (Some (new_row x (Some part) None)) (asks_in_two old new part slot r x at asks) below in
-    let fall = asking_falls T limit r part.index slot x (Some part) None free few lower le in
+    let second = total_set T limit mid new slot n (Some (new_row x (Some part) key)) (asks_in_two old new part slot r x key at asks) below in
+    let fall = asking_falls T limit r part.index slot x (Some part) key free few lower le in
     let was : weight_at T limit (old part.slot) ≡ weight T limit r = ap (λ o. weight_at T limit o) at in
     let empty : weight_at T limit (mid slot) ≡ 0 = ap (λ o. weight_at T limit o) (at_another slot part.slot (Some changed) (old slot) apart ∙ none) in
     omega (arith, first, second, fall, was, empty)

@@ -6,12 +6,13 @@ use Rattle.std.proofs.lemmas.Bool.{cases_eq}
 use Rattle.lucid_value.specs.Plain.{PlainValue}
 use Rattle.lucid_tree.specs.Levels.{Elements}
 use Rattle.lucid_tasks.specs.declared.Part.{Part}
+use Rattle.lucid_tasks.specs.declared.Cursor.{Cursor}
 use Rattle.lucid_equations.specs.MoreElements.{Extends}
-use Rattle.lucid_facts.specs.Tasks.{PlainTask, PlainRow, PlainRows, PartState, DatonAt, idle, asked, got, is_free, state_at, waits_for_none, key_list}
-use Rattle.lucid_facts.specs.Stands.{Holding, StandsFor}
-use Rattle.lucid_facts.specs.Demands.{Demand, table_of, Answers}
+use Rattle.lucid_facts.specs.Tasks.{PlainTask, PlainRow, PlainRows, PartState, DatonAt, idle, asked, got, is_free, state_at, waits_for_none}
+use Rattle.lucid_facts.specs.Stands.{Holding}
+use Rattle.lucid_facts.specs.Demands.{Demand, Answers}
 use Rattle.lucid_facts.specs.Rows.{RowFacts, PartAnswers, Serves, Links, Work}
-use Rattle.lucid_facts.specs.Changes.{SetsRow}
+use Rattle.lucid_facts.specs.Changes.{at_cursor, SetsRow}
 use Rattle.lucid_facts.proofs.Slots.{at_it, at_another}
 
 -- ---- the same rows
@@ -136,20 +137,19 @@ module _ (d : Demand) (now : Elements) (h : Holding) (lost : ℕ) (old : PlainRo
     pub work_sets : Work d now h lost new
     work_sets = record { each = λ q c at. each_set q c at (cases_eq q slot); links = λ q c at. links_set q c at (cases_eq q slot); some = some }
 
--- A row that waits for nothing changes in place: its search goes on, or it becomes a body. No other row is a part of it.
-pub work_changes : (d : Demand) (now : Elements) (h : Holding) (lost : ℕ) (old new : PlainRows) (slot : ℕ) (r s : PlainRow) → Work d now h lost old → old slot ≡ Some r
-    → ((q : ℕ) (c : PlainRow) (i : ℕ) → old q ≡ Some c → c.parent ≡ Some (record { slot = slot; index = i }) → ⊥) → s.parent ≡ r.parent
-    → ((y : PlainTask) → StandsFor (table_of d) (key_list r.key) r.task y → StandsFor (table_of d) (key_list s.key) s.task y)
-    → ((b : Elements) → Extends now b → RowFacts d b h lost s) → SetsRow old new slot (Some s) → Work d now h lost new
-work_changes d now h lost old new slot r s w at alone parent stands facts sets =
-    work_sets d now h lost old w new slot (Some s) alone (λ c e. subst (λ z. (b : Elements) → Extends now b → RowFacts d b h lost z) (same c e) facts)
-    (λ c e. subst (λ z. Links d new slot z) (same c e) links) (slot, s, sets slot ∙ at_it slot slot (Some s) (old slot) refl) sets
+-- A row that waits for nothing has its cursor elsewhere. No other row is a part of it.
+pub work_moves : (d : Demand) (now : Elements) (h : Holding) (lost : ℕ) (old new : PlainRows) (slot : ℕ) (r : PlainRow) (c : Cursor) → Work d now h lost old → old slot ≡ Some r
+    → ((q : ℕ) (p : PlainRow) (i : ℕ) → old q ≡ Some p → p.parent ≡ Some (record { slot = slot; index = i }) → ⊥)
+    → ((b : Elements) → Extends now b → RowFacts d b h lost (at_cursor c r)) → SetsRow old new slot (Some (at_cursor c r)) → Work d now h lost new
+work_moves d now h lost old new slot r c w at alone facts sets =
+    work_sets d now h lost old w new slot (Some s) alone (λ p e. subst (λ z. (b : Elements) → Extends now b → RowFacts d b h lost z) (same p e) facts)
+    (λ p e. subst (λ z. Links d new slot z) (same p e) links) (slot, s, sets slot ∙ at_it slot slot (Some s) (old slot) refl) sets
   where
-    same : (c : PlainRow) → Some s ≡ Some c → s ≡ c
-    same c e = cc
+    s : PlainRow
+    s = at_cursor c r
 
-    was : Links d old slot r
-    was = w.links slot r at
+    same : (p : PlainRow) → Some s ≡ Some p → s ≡ p
+    same p e = cc
 
     serves : (part : Part) → Serves d old slot r part → Serves d new slot s part
     serves part k = record {
@@ -159,8 +159,8 @@ work_changes d now h lost old new slot r s w at alone parent stands facts sets =
       older = k.older;
       task = k.task;
       is_part = k.is_part;
-      stands = stands k.task k.stands;
+      stands = k.stands;
     }
 
     links : Links d new slot s
-    links = record { root = λ e. stands d.root (was.root (sym parent ∙ e)); serves = λ part e. serves part (was.serves part (sym parent ∙ e)) }
+    links = let was = w.links slot r at in record { root = was.root; serves = λ part e. serves part (was.serves part e) }

@@ -18,10 +18,6 @@ with_part i x r = record r { parts = slice_set r.parts i x }
 abbrev pub at_cursor : Cursor → PlainRow → PlainRow
 at_cursor c r = record r { cursor = c; parts = all_idle }
 
--- the row that is now that of the body of its reference
-abbrev pub as_body : DatonAt → PlainTask → PlainRow → PlainRow
-as_body k x r = new_row x r.parent (Some k)
-
 -- the slot has this row, or none, and every other slot the row that it had
 abbrev pub SetsRow : PlainRows → PlainRows → (slot : ℕ) → Option PlainRow → Type 0
 SetsRow old new slot row = (q : ℕ) → new q ≡ (if q == slot then row else old q)
@@ -30,10 +26,14 @@ SetsRow old new slot row = (q : ℕ) → new q ≡ (if q == slot then row else o
 abbrev pub ChangesRow : PlainRows → PlainRows → (slot : ℕ) → (PlainRow → PlainRow) → Type 0
 ChangesRow old new slot f = (q : ℕ) → new q ≡ (if q == slot then option_map f (old q) else old q)
 
--- a new row in a slot, asked for a part
-abbrev pub AsksRow : PlainRows → PlainRows → Part → (slot : ℕ) → PlainTask → Type 0
-AsksRow old new part slot x = (q : ℕ) → new q ≡ (if q == slot then Some (new_row x (Some part) None)
-    else if q == part.slot then option_map (with_part part.index (asked slot)) (old q) else old q)
+-- a part that waits for a child, if any does
+abbrev pub waits_for : Option Part → (child slot : ℕ) → Option PlainRow → Option PlainRow
+waits_for None child q row = row
+waits_for (Some part) child q row = if q == part.slot then option_map (with_part part.index (asked child)) row else row
+
+-- a new row in a slot, asked for a part or as the root, which remembers a daton or none
+abbrev pub AsksRow : PlainRows → PlainRows → Option Part → (slot : ℕ) → PlainTask → Option DatonAt → Type 0
+AsksRow old new part slot x key = (q : ℕ) → new q ≡ (if q == slot then Some (new_row x part key) else waits_for part slot q (old q))
 
 -- a value for the part that a row was asked for
 abbrev pub given_to : Option Part → PlainValue → (slot : ℕ) → Option PlainRow → Option PlainRow

@@ -1,6 +1,6 @@
 -- Why a ready row does what it does next. A decision is justified by the row alone: by where it has come to in its form's plan. No fact
 -- of the store, of the demand or of the elements is in it; what a reference goes on with, and whether it is held, is seen by those who act.
-use Rattle.std.specs.Prelude.{◌≡◌, Bool, true, false, ℕ, suc, ◌<◌, List, [], Some, None, ◌⊎◌}
+use Rattle.std.specs.Prelude.{◌≡◌, Bool, true, false, ℕ, suc, ◌<◌, List, Option, Some, None, ◌⊎◌}
 use Rattle.lucid_value.specs.Plain.{PlainValue, truth}
 use Rattle.lucid_tasks.specs.declared.Cursor.{Cursor}
 use Rattle.lucid_tree.specs.Members.{In}
@@ -12,8 +12,8 @@ use Rattle.lucid_equations.specs.Nodes.{row, PlainNodes, no_nodes}
 use Rattle.lucid_equations.specs.Rows.{row_at, constant_at}
 use Rattle.lucid_equations.specs.declared.rows.Node.TheVariants as node
 use Rattle.lucid_equations.specs.declared.table.Table.{Table}
-use Rattle.lucid_facts.specs.Tasks.{PlainTask, PlainRow, DatonAt, idle, state_at, value_of_part, all_idle}
-use Rattle.lucid_facts.specs.Parts.{node_of, part_number, rank, moved, aim_of_task, look_of_row, IsTask, RefersTo, GoesTo, IsReference, IsPart}
+use Rattle.lucid_facts.specs.Tasks.{PlainTask, PlainRow, DatonAt, idle, state_at, value_of_part, key_list}
+use Rattle.lucid_facts.specs.Parts.{node_of, part_number, rank, moved, aim_of_task, look_of_row, RefersTo, IsReference, IsPart}
 use Rattle.lucid_facts.specs.Stands.{StandsFor}
 use Rattle.lucid_facts.specs.Held.{is_search}
 
@@ -84,27 +84,15 @@ pub data LooksTooDeep (T : Table) (x : PlainTask) : Type 0 where
   too_deep_for : {k : DatonAt} → RefersTo T x k → x.limit ≡ 0 → LooksTooDeep T x
   element_too_deep : {n : List ℕ} {j : ℕ} → aim_of_task T x ≡ element_of n j → x.limit ≡ 0 → LooksTooDeep T x
 
--- A task that is asked for a part stands for it, costs less than the row, and does not only move the point.
-pub record AsksFor (T : Table) (r : PlainRow) (index : ℕ) (x : PlainTask) : Type 0 where
+-- A task whose row is asked for a part, and remembers this daton, or none: it stands for the part by the daton, costs less than the row, and
+-- does not only move the point.
+pub record AsksFor (T : Table) (r : PlainRow) (index : ℕ) (x : PlainTask) (key : Option DatonAt) : Type 0 where
   pub part : PlainTask
   pub is_part : IsPart T r index part
-  pub stands : StandsFor T [] x part
-  pub there : IsTask T x
+  pub stands : StandsFor T (key_list key) x part
   pub lower : rank T x < rank T r.task
   pub still : moved T x ≡ None
 
 -- the task gives this constant
 abbrev pub IsConstant : Table → PlainTask → PlainValue → Type 0
 IsConstant T x v = node_of T x ≡ row (const v) no_nodes
-
--- A reference that isn't held becomes the row of its body: the body is no reference itself.
-pub record MayBecome (T : Table) (r : PlainRow) (k : DatonAt) (x : PlainTask) : Type 0 where
-  pub body : PlainTask
-  pub goes : GoesTo T r.task k body
-  pub stands : StandsFor T [] x body
-  pub there : IsTask T x
-  pub lower : rank T x < rank T r.task
-  pub still : moved T x ≡ None
-  pub no_reference : IsReference (node_of T x) → ⊥
-  pub no_key : r.key ≡ None
-  pub idle_parts : r.parts ≡ all_idle

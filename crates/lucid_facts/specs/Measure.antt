@@ -6,7 +6,7 @@ use Rattle.lucid_facts.specs.Parts.{rank}
 
 -- more than a task of a rank below r can still cost, where the demand's limit is this
 unfoldable pub cost_below : (limit rank : ℕ) → ℕ
-cost_below limit zero = 0
+cost_below limit zero = 1
 cost_below limit (suc r) = 2 + 3 * cost_below limit r + limit * (3 * cost_below limit r + 1)
 
 abbrev pub idle_one : PartState → ℕ
@@ -14,8 +14,8 @@ idle_one idle = 1
 idle_one (asked slot) = 0
 idle_one (got v) = 0
 
--- What a row can still cost, without the parts that it waits for. A row that becomes a body keeps its slot and has a lower rank; as a
--- new row it has all parts idle, and so costs less than one idle part of it did.
+-- What a row can still cost, without the parts that it waits for. A new row has all parts idle, and costs less than the idle part for which it
+-- is asked.
 abbrev pub weight : Table → (limit : ℕ) → PlainRow → ℕ
 weight T limit r =
     let part = cost_below limit (rank T r.task) in

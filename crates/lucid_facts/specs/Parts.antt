@@ -118,8 +118,8 @@ pub record GoesTo (T : Table) (x : PlainTask) (k : DatonAt) (body : PlainTask) :
   pub limit : x.limit ≡ suc body.limit
   pub there : IsTask T body
 
--- The task of a part of a row: that of the look that the part's value answers, or, of a reference, its body.
+-- The task of a part of a row: that of the look that the part's value answers, or, of a reference, its own.
 pub data IsPart (T : Table) (r : PlainRow) : (index : ℕ) → PlainTask → Type 0 where
   part_by_look : {f : Head} {es : PlainNodes} {l : Look} {x : PlainTask} (index : ℕ) → node_of T r.task ≡ row f es → look_of_row f r index ≡ Some l
       → look_task T r.task l ≡ Some x → IsPart T r index x
-  part_by_body : {x : PlainTask} (k : DatonAt) → GoesTo T r.task k x → IsPart T r 0 x
+  part_by_reference : {x : PlainTask} → IsReference (node_of T r.task) → x ≡ r.task → IsPart T r 0 x

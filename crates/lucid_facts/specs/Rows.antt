@@ -12,20 +12,18 @@ use Rattle.lucid_equations.specs.Values.{node_val}
 use Rattle.lucid_equations.specs.Rows.{equations_of, node_at}
 use Rattle.lucid_facts.specs.Tasks.{PlainTask, PlainRow, PlainRows, DatonAt, asked, state_at, value_of_part, key_list}
 use Rattle.lucid_equations.specs.MoreElements.{Extends}
-use Rattle.lucid_facts.specs.Parts.{node_of, part_number, moved, rank, IsTask, IsReference, IsPart}
+use Rattle.lucid_facts.specs.Parts.{node_of, part_number, moved, IsTask, IsPart}
 use Rattle.lucid_facts.specs.Held.{Counted, DatonMeans, NeedsHeld, is_search}
 use Rattle.lucid_facts.specs.Stands.{Holding, IsDefined, StandsFor}
 use Rattle.lucid_facts.specs.Demands.{Demand, table_of, stays, IsSeen, IsVisited, Answers}
 
--- The row's own value is to become that of this daton: its task stands for the daton's body, and is no reference of a name or a call,
--- or a step would look up one daton and put another.
-pub record Remembers (d : Demand) (b : Elements) (r : PlainRow) (k : DatonAt) : Type 0 where
+-- The value of a row's task is to become that of this daton: the task stands for the daton's body.
+pub record Remembers (d : Demand) (b : Elements) (x : PlainTask) (k : DatonAt) : Type 0 where
   pub absent : stays d k.0 k.1 ≡ None
-  pub no_reference : IsReference (node_of (table_of d) r.task) → ⊥
   pub body : PlainTask
   pub aim : daton_aim (equations_of (table_of d)) k.0 ≡ goes_to k.0 (record { node = node_of (table_of d) body; context = body.context }) body.time
   pub space : body.space ≡ k.1
-  pub stands : StandsFor (table_of d) [] r.task body
+  pub stands : StandsFor (table_of d) [] x body
   pub visited : IsVisited d b k
 
 -- a part's value answers the part's task
@@ -58,16 +56,14 @@ pub record RowFacts (d : Demand) (b : Elements) (h : Holding) (lost : ℕ) (r : 
   pub search : (f : Head) (es : PlainNodes) (stream : ℕ) → node_of (table_of d) r.task ≡ row f es → is_search f ≡ true → part_number (table_of d) r.task.node 1 ≡ Some stream
       → SearchFacts d b h lost r f stream
   pub got_parts : (index : ℕ) (v : PlainValue) → value_of_part r index ≡ Some v → PartAnswers d b h lost r index v
-  pub remembers : (k : DatonAt) → r.key ≡ Some k → Remembers d b r k
+  pub remembers : (k : DatonAt) → r.key ≡ Some k → Remembers d b r.task k
 
--- A task that may be asked for: it is one of the table's, no deeper than the root, needed where the root is, visited with it, and costs
--- less than the row.
-pub record PartIsRight (d : Demand) (b : Elements) (r : PlainRow) (x : PlainTask) : Type 0 where
+-- A task that may be asked for: it is one of the table's, no deeper than the root, needed where the root is, and visited with it.
+pub record IsWanted (d : Demand) (b : Elements) (x : PlainTask) : Type 0 where
   pub there : IsTask (table_of d) x
   pub limit : x.limit ≤ d.root.limit
   pub needed : IsDefined (table_of d) b (stays d) d.root → IsDefined (table_of d) b (stays d) x
   pub seen : IsSeen d b x
-  pub lower : rank (table_of d) x < rank (table_of d) r.task
 
 -- The daton may be put with the value: it means it, it is visited, and what it needs is held.
 pub record MayPut (d : Demand) (b : Elements) (h : Holding) (lost : ℕ) (k : DatonAt) (v : PlainValue) : Type 0 where

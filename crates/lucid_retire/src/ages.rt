@@ -96,6 +96,7 @@ impl Retire for Ages {
         false
     }
 
+    #[inline(never)]
     fn turn(&mut self, warehouse: &mut Warehouse)
         ensures turn { IsTurn false false (Some (most_of self.old)) warehouse.old warehouse.new }
         ensures counted { self.new ≡ after_turn self.old }

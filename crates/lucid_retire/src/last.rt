@@ -135,6 +135,7 @@ impl Retire for Last {
         false
     }
 
+    #[inline(never)]
     fn turn(&mut self, warehouse: &mut Warehouse)
         ensures turn { IsTurn false false (Some self.old.room) warehouse.old warehouse.new }
         ensures room { self.new.room ≡ self.old.room }

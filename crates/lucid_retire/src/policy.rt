@@ -23,6 +23,7 @@ impl Retire for Policy {
 
     ghost most = { most_held };
 
+    #[inline(always)]
     fn is_emptying(&self) -> bool
         ensures { result ≡ empties_all self.now }
     {
@@ -34,6 +35,8 @@ impl Retire for Policy {
         }
     }
 
+    // A policy that keeps has many turns, in which it does nothing: so it is asked apart from the others.
+    #[inline(always)]
     fn turn(&mut self, warehouse: &mut Warehouse)
         ensures turn { IsTurn (keeps_all self.old) (empties_all self.old) (most_held self.old) warehouse.old warehouse.new }
         ensures dropped { IsPolicyTurn self.old self.new warehouse.old warehouse.new }

@@ -2,6 +2,7 @@
 use Rattle.std.proofs.Common.{◌≡◌, ◌≢◌, ℕ, Bool, true, false, cond, ◌==◌, List, [], ◌∷◌, ◌++◌, Option, Some, refl, sym, ap, subst, ◌∙◌, arith, true≢false}
 use Rattle.lucid_tasks.specs.declared.Part.{Part}
 use Rattle.lucid_tasks.specs.declared.Task.{Task}
+use Rattle.lucid_tags.specs.declared.Key.{Key}
 use Rattle.lucid_tasks.specs.Slots.{is_listed, RiseFrom}
 use Rattle.lucid_tasks.specs.Rows.{TaskRow, row_at, is_ready, fresh, AreTasks, IsRow, IsPast, SetsOnly}
 use Rattle.lucid_tasks.proofs.Cases.{chosen, chosen_other}
@@ -13,7 +14,7 @@ left_true true x h = absurd (true≢false (sym h))
 left_true false x h = h
 
 -- a task is asked for a part: its parent is taken from the list, and the new row put at its end
-module _ (old mid : List (Option TaskRow)) (parent : Part) (slot : ℕ) (task : Task) (sets : SetsOnly old mid slot (Some (fresh task (Some parent)))) (past : IsPast old slot)
+module _ (old mid : List (Option TaskRow)) (parent : Part) (slot : ℕ) (task : Task) (key : Option Key) (sets : SetsOnly old mid slot (Some (fresh task (Some parent) key))) (past : IsPast old slot)
     (some : IsRow old parent.slot) (ready : List ℕ) (t : AreTasks old ready) where
   apart : parent.slot ≢ slot
   apart e = let below = past parent.slot some in omega (arith, below, e)
@@ -22,7 +23,7 @@ module _ (old mid : List (Option TaskRow)) (parent : Part) (slot : ℕ) (task : 
   pub stays_listed : is_ready (row_at mid parent.slot) ≡ false → (q : ℕ) → is_listed ready q ≡ cond (q == parent.slot) false (is_listed ready q)
   stays_listed waits q = chosen q parent.slot (is_listed ready q) false (is_listed ready q)
       (λ e. ap (is_listed ready) e ∙ t.listed parent.slot
-      ∙ ap is_ready (sym (sets parent.slot ∙ chosen_other parent.slot slot (Some (fresh task (Some parent))) (row_at old parent.slot) apart)) ∙ waits)
+      ∙ ap is_ready (sym (sets parent.slot ∙ chosen_other parent.slot slot (Some (fresh task (Some parent) key)) (row_at old parent.slot) apart)) ∙ waits)
       (λ _. refl)
 
   pub pushed_after : (left after : List ℕ) → RiseFrom 0 left → ((q : ℕ) → is_listed left q ≡ cond (q == parent.slot) false (is_listed ready q)) → after ≡ left ++ slot ∷ []

@@ -10,6 +10,7 @@ use Rattle.lucid_lemmas.proofs.Lists.{slice_get-push_same}
 use Rattle.lucid_value.specs.declared.Value.{Value}
 use Rattle.lucid_tasks.specs.declared.Part.{Part}
 use Rattle.lucid_tasks.specs.declared.Task.{Task}
+use Rattle.lucid_tags.specs.declared.Key.{Key}
 use Rattle.lucid_tasks.specs.declared.rows.Row.{Row}
 use Rattle.lucid_tasks.specs.Numbered.{value_at, SetsOne}
 use Rattle.lucid_tasks.specs.Rows.{PartState, Idle, Asked, Got, TaskRow, row_at, state_at, got_of, got_value, emptied, taken, fresh, with_part, all_idle, start, is_free, is_ready, IsRow, SetsOnly, ChangesOnly}
@@ -340,20 +341,17 @@ module _ (rows : List Row) (values after : Values) (l : AreLaid rows values) (sa
       ap (λ w. state (named w) (value_at values.0 (part_number (length rows) k))) (ap (λ (words : List ℕ). get_or words k 0) asked ∙ idle_at k h)
       ∙ ap (state None) (no_value k h (value_at values.0 (part_number (length rows) k)) refl)
 
-  pub added : (task : Task) (parent : Option Part) → row.task ≡ task → laid_parent row ≡ parent → row.cursor ≡ start → row.keyed ≡ false
-      → SetsOnly (laid_from values.0 0 rows) (laid_from after.0 0 (rows ++ row ∷ [])) (length rows) (Some (fresh task parent))
-  added task parent task_is parent_is cursor_is keyed q = subst (λ vs. row_at (laid_from vs 0 (rows ++ row ∷ [])) q ≡ cond (q == length rows) (Some (fresh task parent)) (row_at (laid_from values.0 0 rows) q)) (sym same_values)
-      (chosen q (length rows) (row_at (laid_from values.0 0 (rows ++ row ∷ [])) q) (Some (fresh task parent)) (row_at (laid_from values.0 0 rows) q)
+  pub added : (task : Task) (parent : Option Part) (key : Option Key) → row.task ≡ task → laid_parent row ≡ parent → row.cursor ≡ start → laid_key row ≡ key
+      → SetsOnly (laid_from values.0 0 rows) (laid_from after.0 0 (rows ++ row ∷ [])) (length rows) (Some (fresh task parent key))
+  added task parent key task_is parent_is cursor_is key_is q = subst (λ vs. row_at (laid_from vs 0 (rows ++ row ∷ [])) q ≡ cond (q == length rows) (Some (fresh task parent key)) (row_at (laid_from values.0 0 rows) q)) (sym same_values)
+      (chosen q (length rows) (row_at (laid_from values.0 0 (rows ++ row ∷ [])) q) (Some (fresh task parent key)) (row_at (laid_from values.0 0 rows) q)
       (λ e. ap (row_at (laid_from values.0 0 (rows ++ row ∷ []))) e ∙ shown_is values.0 (rows ++ row ∷ []) (length rows) row (slice_get-push_same rows row) live ∙ ap Some new_is)
       (λ ne. at values.0 (rows ++ row ∷ []) q ∙ ap (option_and_then (laid_row values.0 q)) (get_push_other rows row q ne) ∙ sym (at values.0 rows q)))
     where
-      key_is : laid_key row ≡ None
-      key_is = ap (λ b. cond b (Some row.key) None) keyed
-
       parts_are : three_of (laid_state values.0 (length rows) row) ≡ all_idle
       parts_are = three_same (λ _. Idle) (laid_state values.0 (length rows) row) idle_state
 
-      new_is : laid values.0 (length rows) row ≡ fresh task parent
+      new_is : laid values.0 (length rows) row ≡ fresh task parent key
       new_is = λ i. record { task = task_is i; parent = parent_is i; cursor = cursor_is i; key = key_is i; parts = parts_are i }
 
   pub added_laid : 3 * length rows + 3 ≤ after.1 → length rows + 1 < 2 ^ 32 → AreLaid (rows ++ row ∷ []) after

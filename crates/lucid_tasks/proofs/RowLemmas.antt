@@ -1,9 +1,8 @@
 -- Rows in their slots, and how their parts stand.
-use Rattle.std.proofs.Common.{◌≡◌, ◌≢◌, ℕ, zero, suc, ◌<◌, Bool, true, false, ◌&&◌, List, [], ◌∷◌, length, get_or, set, Option, Some, None, refl, ap, sym, subst, ◌∙◌, arith, true≢false}
+use Rattle.std.proofs.Common.{◌≡◌, ◌≢◌, ℕ, zero, suc, ◌<◌, Bool, true, false, ◌&&◌, List, [], ◌∷◌, length, get_or, set, Option, Some, None, refl, ap, sym, ◌∙◌, arith, true≢false}
 use Rattle.std.specs.List.{list_all}
-use Rattle.std.specs.Prelude.{option_map, option_and_then}
 use Rattle.std.proofs.lemmas.Option.{none-some}
-use Rattle.lucid_tasks.specs.Rows.{PartState, Idle, Asked, Got, TaskRow, row_at, state_at, got_of, got_value, asked_slot, is_free, is_idle, is_ready, all_idle, HaveThree, IsIdleRow}
+use Rattle.lucid_tasks.specs.Rows.{PartState, Idle, Asked, Got, TaskRow, row_at, asked_slot, is_free, all_idle}
 
 pub row_below : (rows : List (Option TaskRow)) (q : ℕ) (row : TaskRow) → row_at rows q ≡ Some row → q < length rows
 row_below [] q row h = absurd (none-some row h)
@@ -64,33 +63,3 @@ pub free_set : (parts : List PartState) (i : ℕ) (s : PartState) → is_free s 
 free_set [] i s e = refl
 free_set (p ∷ parts) zero s e = ap (λ b. b && list_all is_free parts) e
 free_set (p ∷ parts) (suc i) s e = ap (λ b. is_free p && b) (free_set parts i s e)
-
--- ---- parts that are idle
-
--- a part that is free and has no value is idle
-pub free_is_idle : (parts : List PartState) (i : ℕ) → list_all is_free parts ≡ true → got_value (get_or parts i Idle) ≡ None → get_or parts i Idle ≡ Idle
-free_is_idle [] i h e = refl
-free_is_idle (Idle ∷ parts) zero h e = refl
-free_is_idle (Idle ∷ parts) (suc i) h e = free_is_idle parts i h e
-free_is_idle (Got v ∷ parts) zero h e = absurd (none-some v (sym e))
-free_is_idle (Got v ∷ parts) (suc i) h e = free_is_idle parts i h e
-free_is_idle (Asked s ∷ parts) i h e = absurd (true≢false (sym h))
-
-all_are_idle : (parts : List PartState) → ((i : ℕ) → i < length parts → get_or parts i Idle ≡ Idle) → list_all is_idle parts ≡ true
-all_are_idle [] h = refl
-all_are_idle (p ∷ parts) h = ap (λ s. is_idle s && list_all is_idle parts) (h 0 (omega arith)) ∙ all_are_idle parts (λ i l. h (suc i) (omega (arith, l)))
-
-pub idle_row : (rows : List (Option TaskRow)) (slot : ℕ) → HaveThree rows → is_ready (row_at rows slot) ≡ true
-    → got_of rows (record { slot = slot; index = 0 }) ≡ None → got_of rows (record { slot = slot; index = 1 }) ≡ None → got_of rows (record { slot = slot; index = 2 }) ≡ None → IsIdleRow rows slot
-idle_row rows slot three h zeroth first second = by_row (row_at rows slot) refl h zeroth first second
-  where
-    each : (row : TaskRow) → list_all is_free row.parts ≡ true → got_value (state_at 0 row) ≡ None → got_value (state_at 1 row) ≡ None → got_value (state_at 2 row) ≡ None → (i : ℕ) → i < 3 → get_or row.parts i Idle ≡ Idle
-    each row h a b c zero l = free_is_idle row.parts 0 h a
-    each row h a b c (suc zero) l = free_is_idle row.parts 1 h b
-    each row h a b c (suc (suc zero)) l = free_is_idle row.parts 2 h c
-    each row h a b c (suc (suc (suc i))) l = absurd (omega (arith, l))
-
-    by_row : (o : Option TaskRow) → row_at rows slot ≡ o → is_ready o ≡ true → option_and_then got_value (option_map (state_at 0) o) ≡ None → option_and_then got_value (option_map (state_at 1) o) ≡ None
-        → option_and_then got_value (option_map (state_at 2) o) ≡ None → option_map (λ (row : TaskRow). list_all is_idle row.parts) o ≡ Some true
-    by_row None at h a b c = absurd (true≢false (sym h))
-    by_row (Some row) at h a b c = ap Some (all_are_idle row.parts (λ i l. each row h a b c i (subst (λ n. i < n) (three slot row at) l)))

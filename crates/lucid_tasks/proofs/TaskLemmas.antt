@@ -8,8 +8,9 @@ use Rattle.lucid_lemmas.proofs.Options.{value_there}
 use Rattle.lucid_value.specs.declared.Value.{Value}
 use Rattle.lucid_tasks.specs.declared.Part.{Part}
 use Rattle.lucid_tasks.specs.declared.Task.{Task}
+use Rattle.lucid_tags.specs.declared.Key.{Key}
 use Rattle.lucid_tasks.specs.Slots.{is_listed, RiseFrom}
-use Rattle.lucid_tasks.specs.Rows.{PartState, Idle, Asked, Got, TaskRow, row_at, parent_of, child_of, state_of, state_at, asked_slot, got_value, got_of, is_free, is_ready, emptied, taken, fresh, with_part, given, AreTasks, is_idle, IsIdleRow, IsRow, IsPast, SetsOnly, ChangesOnly, Asks, Settles}
+use Rattle.lucid_tasks.specs.Rows.{PartState, Idle, Asked, Got, TaskRow, row_at, parent_of, child_of, state_of, state_at, asked_slot, got_value, got_of, is_free, is_ready, emptied, taken, fresh, with_part, given, AreTasks, IsRow, IsPast, SetsOnly, ChangesOnly, Asks, Settles}
 use Rattle.lucid_tasks.proofs.Cases.{chosen, chosen_same, chosen_other, other_index, some_is}
 use Rattle.lucid_tasks.proofs.SlotLemmas.{listed_push, rise_push}
 use Rattle.lucid_tasks.proofs.RowLemmas.{fresh_part, part_set, part_other, parts_length, asked_waits, free_set}
@@ -149,14 +150,14 @@ taken_tasks old new part only some h = part_tasks old new part.slot part.index (
 
 -- ---- a new root
 
-module _ (old new : List (Option TaskRow)) (slot : ℕ) (task : Task) (sets : SetsOnly old new slot (Some (fresh task None))) (past : IsPast old slot) (ready : List ℕ) (t : AreTasks old ready) where
+module _ (old new : List (Option TaskRow)) (slot : ℕ) (task : Task) (key : Option Key) (sets : SetsOnly old new slot (Some (fresh task None key))) (past : IsPast old slot) (ready : List ℕ) (t : AreTasks old ready) where
   listed_below : (q : ℕ) → is_listed ready q ≡ true → q < slot
   listed_below q h = past q (ready_is_row (row_at old q) (sym (t.listed q) ∙ h))
 
-  begun_same : {Y : Type 0} (f : Option TaskRow → Y) → f (Some (fresh task None)) ≡ f None → (q : ℕ) → f (row_at new q) ≡ f (row_at old q)
+  begun_same : {Y : Type 0} (f : Option TaskRow → Y) → f (Some (fresh task None key)) ≡ f None → (q : ℕ) → f (row_at new q) ≡ f (row_at old q)
   begun_same f h q = elim (cases_eq q slot) [
-    | inl e ↦ ap f (sets q ∙ chosen_same q slot (Some (fresh task None)) (row_at old q) e) ∙ h ∙ ap f (sym (ap (row_at old) e ∙ past_none old slot past))
-    | inr ne ↦ ap f (sets q ∙ chosen_other q slot (Some (fresh task None)) (row_at old q) ne)
+    | inl e ↦ ap f (sets q ∙ chosen_same q slot (Some (fresh task None key)) (row_at old q) e) ∙ h ∙ ap f (sym (ap (row_at old) e ∙ past_none old slot past))
+    | inr ne ↦ ap f (sets q ∙ chosen_other q slot (Some (fresh task None key)) (row_at old q) ne)
   ]
 
   pub begun_tasks : AreTasks new (ready ++ slot ∷ [])
@@ -164,17 +165,17 @@ module _ (old new : List (Option TaskRow)) (slot : ℕ) (task : Task) (sets : Se
     forest = forest_by_links old new (begun_same parent_in refl) (λ p. begun_same (child_in p.index) (fresh_part p.index) p.slot) t.forest;
     rising = rise_push 0 ready slot t.rising (omega arith) listed_below;
     listed = λ q. listed_push ready slot q ∙ sym (chosen q slot (is_ready (row_at new q)) true (is_listed ready q)
-        (λ e. ap is_ready (sets q ∙ chosen_same q slot (Some (fresh task None)) (row_at old q) e))
-        (λ ne. ap is_ready (sets q ∙ chosen_other q slot (Some (fresh task None)) (row_at old q) ne) ∙ sym (t.listed q)));
+        (λ e. ap is_ready (sets q ∙ chosen_same q slot (Some (fresh task None key)) (row_at old q) e))
+        (λ ne. ap is_ready (sets q ∙ chosen_other q slot (Some (fresh task None key)) (row_at old q) ne) ∙ sym (t.listed q)));
     three = λ q row e. elim (cases_eq q slot) [
-      | inl is ↦ ap (λ (r : TaskRow). length r.parts) (some_is row row (fresh task None) (sym e ∙ sets q ∙ chosen_same q slot (Some (fresh task None)) (row_at old q) is))
-      | inr ne ↦ t.three q row (sym (sets q ∙ chosen_other q slot (Some (fresh task None)) (row_at old q) ne) ∙ e)
+      | inl is ↦ ap (λ (r : TaskRow). length r.parts) (some_is row row (fresh task None key) (sym e ∙ sets q ∙ chosen_same q slot (Some (fresh task None key)) (row_at old q) is))
+      | inr ne ↦ t.three q row (sym (sets q ∙ chosen_other q slot (Some (fresh task None key)) (row_at old q) ne) ∙ e)
     ];
   }
 
 -- ---- a task that is asked for a part
 
-module _ (old mid new : List (Option TaskRow)) (parent : Part) (slot : ℕ) (task : Task) (sets : SetsOnly old mid slot (Some (fresh task (Some parent)))) (past : IsPast old slot)
+module _ (old mid new : List (Option TaskRow)) (parent : Part) (slot : ℕ) (task : Task) (key : Option Key) (sets : SetsOnly old mid slot (Some (fresh task (Some parent) key))) (past : IsPast old slot)
     (only : ChangesOnly mid new parent.slot (with_part parent.index (Asked slot))) (some : IsRow old parent.slot) (h : parent.index < 3) (idle : state_of old parent ≡ Some Idle) where
   older : parent.slot < slot
   older = past parent.slot some
@@ -183,7 +184,7 @@ module _ (old mid new : List (Option TaskRow)) (parent : Part) (slot : ℕ) (tas
   apart e = let below = older in omega (arith, below, e)
 
   abbrev child : TaskRow
-  child = fresh task (Some parent)
+  child = fresh task (Some parent) key
 
   mid_other : (q : ℕ) → q ≢ slot → row_at mid q ≡ row_at old q
   mid_other q ne = sets q ∙ chosen_other q slot (Some child) (row_at old q) ne
@@ -197,7 +198,7 @@ module _ (old mid new : List (Option TaskRow)) (parent : Part) (slot : ℕ) (tas
   others : (q : ℕ) → q ≢ slot → q ≢ parent.slot → row_at new q ≡ row_at old q
   others q ne other = elsewhere mid new parent.slot (with_part parent.index (Asked slot)) only q other ∙ mid_other q ne
 
-  pub asks : Asks old new parent slot task
+  pub asks : Asks old new (Some parent) slot task key
   asks q = chosen q slot (row_at new q) (Some child) (cond (q == parent.slot) (option_map (with_part parent.index (Asked slot)) (row_at old q)) (row_at old q))
       (λ e. ap (row_at new) e ∙ at_child)
       (λ ne. chosen q parent.slot (row_at new q) (option_map (with_part parent.index (Asked slot)) (row_at old q)) (row_at old q)
@@ -402,11 +403,3 @@ module _ (rows : List (Option TaskRow)) (slot : ℕ) (ready left : List ℕ) (t 
       not_added waits q = chosen q part.slot (is_listed left q) (is_ready (row_at new part.slot)) (is_listed left q)
           (λ e. ap (is_listed left) e ∙ part_waits ∙ sym waits)
           (λ _. refl)
-
--- a row that is idle is a row
-pub idle_is_row : (rows : List (Option TaskRow)) (slot : ℕ) → IsIdleRow rows slot → IsRow rows slot
-idle_is_row rows slot h = by_row (row_at rows slot) h
-  where
-    by_row : (o : Option TaskRow) → option_map (λ (row : TaskRow). list_all is_idle row.parts) o ≡ Some true → IsSome o
-    by_row None h = absurd (none-some true h)
-    by_row (Some row) h = refl

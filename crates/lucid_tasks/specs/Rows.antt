@@ -109,9 +109,9 @@ all_idle = Idle ∷ Idle ∷ Idle ∷ []
 abbrev pub start : Cursor
 start = record { time = 0; count = 0 }
 
--- a new row: each part is idle, the cursor is at 0, 0, and there is no key
-abbrev pub fresh : Task → Option Part → TaskRow
-fresh task parent = record { task = task; parent = parent; cursor = start; key = None; parts = all_idle }
+-- a new row: each part is idle, and the cursor is at 0, 0
+abbrev pub fresh : Task → Option Part → Option Key → TaskRow
+fresh task parent key = record { task = task; parent = parent; cursor = start; key = key; parts = all_idle }
 
 -- the row with a part that stands so
 abbrev pub with_part : ℕ → PartState → TaskRow → TaskRow
@@ -130,18 +130,11 @@ taken index row = with_part index (emptied (state_at index row)) row
 abbrev pub with_cursor : Cursor → TaskRow → TaskRow
 with_cursor cursor row = record row { cursor = cursor }
 
--- the row of another task in the same place, which remembers a key
-abbrev pub becoming : Task → Key → TaskRow → TaskRow
-becoming task key row = record row { task = task; cursor = start; key = Some key }
-
--- a row of which no part is asked or got
-abbrev pub is_idle : PartState → Bool
-is_idle Idle = true
-is_idle (Asked slot) = false
-is_idle (Got value) = false
-
-abbrev pub IsIdleRow : List (Option TaskRow) → ℕ → Type 0
-IsIdleRow rows slot = option_map (λ row. list_all is_idle row.parts) (row_at rows slot) ≡ Some true
+-- the part of a row that neither is asked nor has a value
+pub record IsIdlePart (rows : List (Option TaskRow)) (part : Part) : Type 0 where
+  pub row : IsRow rows part.slot
+  pub index : part.index < 3
+  pub idle : state_of rows part ≡ Some Idle
 
 -- the slot has this row, or none, and every other slot the row that it had
 abbrev pub SetsOnly : List (Option TaskRow) → List (Option TaskRow) → ℕ → Option TaskRow → Type 0
@@ -151,15 +144,23 @@ SetsOnly old new slot row = (q : ℕ) → row_at new q ≡ (if q == slot then ro
 abbrev pub ChangesOnly : List (Option TaskRow) → List (Option TaskRow) → ℕ → (TaskRow → TaskRow) → Type 0
 ChangesOnly old new slot change = (q : ℕ) → row_at new q ≡ (if q == slot then option_map change (row_at old q) else row_at old q)
 
--- a new row stands in the slot, its parent waits for it, and every other slot has the row that it had
-abbrev pub Asks : List (Option TaskRow) → List (Option TaskRow) → Part → ℕ → Task → Type 0
-Asks old new parent slot task = (q : ℕ) → row_at new q ≡ (if q == slot then Some (fresh task (Some parent))
-    else if q == parent.slot then option_map (with_part parent.index (Asked slot)) (row_at old q) else row_at old q)
+-- a row once a part, if any, waits for a child: only the part's row changes
+abbrev pub waiting : Option Part → (child slot : ℕ) → Option TaskRow → Option TaskRow
+waiting None child slot row = row
+waiting (Some part) child slot row = if slot == part.slot then option_map (with_part part.index (Asked child)) row else row
+
+-- a new row stands in the slot, its parent, if it has one, waits for it, and every other slot has the row that it had
+abbrev pub Asks : List (Option TaskRow) → List (Option TaskRow) → Option Part → ℕ → Task → Option Key → Type 0
+Asks old new part slot task key = (q : ℕ) → row_at new q ≡ (if q == slot then Some (fresh task part key) else waiting part slot q (row_at old q))
 
 -- a row once a value was given to a part, if to any: only the part's row changes
 abbrev pub given : Option Part → Value → ℕ → Option TaskRow → Option TaskRow
 given None value slot row = row
 given (Some part) value slot row = if slot == part.slot then option_map (with_part part.index (Got value)) row else row
+
+-- the part, if there is one, has the value, and every slot else the row that it had
+abbrev pub Gives : List (Option TaskRow) → List (Option TaskRow) → Option Part → Value → Type 0
+Gives old new part value = (q : ℕ) → row_at new q ≡ given part value q (row_at old q)
 
 -- the row in the slot is gone, its parent, if it has one, has the value, and every other slot has the row that it had
 abbrev pub Settles : List (Option TaskRow) → List (Option TaskRow) → ℕ → Value → Type 0

@@ -4,8 +4,8 @@
 
 ghost use Rattle.std.specs.Prelude.{◌≡◌, ℕ, ◌<◌, ◌≤◌, ◌+◌, ◌^◌, ◌∷◌, [], Some, None, IfOk, IfSome, OnOk, OnErr, IsSome, length, option_copied, option_map, slice_get, true, false};
 ghost use Rattle.lucid_tasks.specs.declared.rows.Row.{Row};
-ghost use Rattle.lucid_tasks.specs.Rows.{row_at, parent_of, key_of, got_of, is_ready, fresh, start, taken, with_part, with_cursor, becoming, IsRow, IsPast, HaveThree, SetsOnly, ChangesOnly, Asked, Got};
-ghost use Rattle.lucid_tasks.specs.Laid.{part_number, named, laid_parent, Shows, Trims};
+ghost use Rattle.lucid_tasks.specs.Rows.{row_at, parent_of, key_of, got_of, is_ready, fresh, start, taken, with_part, with_cursor, IsRow, IsPast, HaveThree, SetsOnly, ChangesOnly, Asked, Got};
+ghost use Rattle.lucid_tasks.specs.Laid.{part_number, named, laid_parent, laid_key, Shows, Trims};
 
 use crate::pool::Pool;
 use crate::{Cursor, Key, Part, Task};
@@ -62,12 +62,12 @@ fn number(slot: usize, index: u32) -> usize
 
 // A new row, which has asked for nothing.
 #[inline(always)]
-fn new_row(task: Task, parent: Option<Part>) -> Row
+fn new_row(task: Task, parent: Option<Part>, key: Option<Key>) -> Row
     requires { IfSome parent (λ part. (part.slot + 1 < 2 ^ 32) × (part.index < 3)) }
     ensures task { result.task ≡ task }
     ensures parent { laid_parent result ≡ parent }
     ensures cursor { result.cursor ≡ start }
-    ensures key { result.keyed ≡ false }
+    ensures key { laid_key result ≡ key }
     ensures asked { result.asked ≡ 0 ∷ 0 ∷ 0 ∷ [] }
     ensures live { result.live ≡ true }
 {
@@ -75,18 +75,25 @@ fn new_row(task: Task, parent: Option<Part>) -> Row
         Some(part) => (part.slot as u32 + 1, part.index as u8),
         None => (0, 0),
     };
+    let (key, keyed) = match key {
+        Some(key) => (key, true),
+        None => (
+            Key {
+                name: 0,
+                tag: task.tag,
+                time: 0,
+            },
+            false,
+        ),
+    };
     Row {
         task,
         cursor: START,
         asked: [0; 3],
         parent,
-        key: Key {
-            name: 0,
-            tag: task.tag,
-            time: 0,
-        },
+        key,
         parent_index,
-        keyed: false,
+        keyed,
         live: true,
     }
 }
@@ -195,9 +202,14 @@ impl Rows {
 
     // Adds a row in a new slot, past all others.
     #[inline(always)]
-    pub(crate) fn add(&mut self, task: Task, parent: Option<Part>) -> Result<usize, AllocError>
+    pub(crate) fn add(
+        &mut self,
+        task: Task,
+        parent: Option<Part>,
+        key: Option<Key>,
+    ) -> Result<usize, AllocError>
         requires { IfSome parent (λ part. IsRow self.old part.slot × (part.index < 3)) }
-        ensures row { IfOk result (λ slot. SetsOnly self.old self.new slot (Some (fresh task parent))) }
+        ensures row { IfOk result (λ slot. SetsOnly self.old self.new slot (Some (fresh task parent key))) }
         ensures newest { IfOk result (IsPast self.old) }
         ensures err { OnErr result (self.new ≡ self.old) }
     {
@@ -207,7 +219,7 @@ impl Rows {
         }
         self.pool.reserve(3 * slot + 3)?;
         self.rows.reserve(1)?;
-        self.rows.push_reserved(new_row(task, parent));
+        self.rows.push_reserved(new_row(task, parent, key));
         Ok(slot)
     }
 
@@ -316,19 +328,6 @@ impl Rows {
         ensures { ChangesOnly self.old self.new slot (with_cursor cursor) }
     {
         self.rows[slot].cursor = cursor;
-    }
-
-    // Changes a row's task, and remembers a key.
-    #[inline(always)]
-    pub(crate) fn become_body(&mut self, slot: usize, task: Task, key: Key)
-        requires { IsRow self.old slot }
-        ensures { ChangesOnly self.old self.new slot (becoming task key) }
-    {
-        let row = &mut self.rows[slot];
-        row.task = task;
-        row.cursor = START;
-        row.key = key;
-        row.keyed = true;
     }
 
     // Ends all rows.

@@ -3,8 +3,8 @@
 //! A new row stands in the slot past all others, so the slots rise in the order in which the rows were made. Rows stay where
 //! they are; an empty slot is used again once it is past all rows.
 
-ghost use Rattle.std.specs.Prelude.{◌≡◌, ℕ, ◌<◌, [], Some, None, IfOk, OnErr, IsTrue, ◌↔◌, length, true, All, option_copied, option_map};
-ghost use Rattle.lucid_tasks.specs.Rows.{row_at, state_of, got_of, parent_of, key_of, is_ready, fresh, taken, with_part, with_cursor, becoming, returned, IsRow, IsReady, IsPast, IsIdleRow, IsForest, HaveThree, SetsOnly, ChangesOnly, Asks, Settles, Idle, Got};
+ghost use Rattle.std.specs.Prelude.{◌≡◌, ℕ, ◌<◌, [], Some, IfOk, IfSome, OnErr, IsTrue, ◌↔◌, length, true, All, option_copied, option_map};
+ghost use Rattle.lucid_tasks.specs.Rows.{row_at, got_of, parent_of, key_of, is_ready, taken, with_cursor, returned, IsRow, IsReady, IsPast, IsIdlePart, IsForest, HaveThree, ChangesOnly, Asks, Gives, Settles};
 ghost use Rattle.lucid_tasks.specs.Slots.{is_listed, RiseFrom};
 
 use crate::list::{insert_slot, remove_slot};
@@ -48,36 +48,30 @@ impl Tasks {
         }
     }
 
-    /// Adds a task that no other waits for, and gives its slot, which is past those of all rows. It is refused for want of memory
-    /// alone, and at 2^32 - 1 slots.
-    pub fn begin(&mut self, task: Task) -> Result<usize, AllocError>
-        ensures row { IfOk result (λ slot. SetsOnly self.old self.new slot (Some (fresh task None))) }
-        ensures newest { IfOk result (IsPast self.old) }
-        ensures err { OnErr result (self.new ≡ self.old) }
-    {
-        self.ready.reserve(1)?;
-        let slot = self.rows.add(task, None)?;
-        self.ready.push_reserved(slot);
-        Ok(slot)
-    }
-
-    /// Asks a new task for an idle part, and gives its slot, which is past those of all rows. It is refused as `begin` is.
+    /// Adds a row for a task whose value goes to an idle part of a row, or comes back where there is none; and for a key to remember, if
+    /// there is one: that of the daton whose value the task's is to become. The slot that it gives is past those of all rows. It is refused for
+    /// want of memory alone, and at 2^32 - 1 slots.
     #[inline(always)]
-    pub fn ask(&mut self, parent: Part, task: Task) -> Result<usize, AllocError>
-        requires row { IsRow self.old parent.slot }
-        requires index { parent.index < 3 }
-        requires idle { state_of self.old parent ≡ Some Idle }
-        ensures rows { IfOk result (λ slot. Asks self.old self.new parent slot task) }
+    pub fn ask(
+        &mut self,
+        part: Option<Part>,
+        task: Task,
+        key: Option<Key>,
+    ) -> Result<usize, AllocError>
+        requires { IfSome part (IsIdlePart self.old) }
+        ensures rows { IfOk result (λ slot. Asks self.old self.new part slot task key) }
         ensures newest { IfOk result (IsPast self.old) }
         ensures err { OnErr result (self.new ≡ self.old) }
     {
         self.ready.reserve(1)?;
-        let slot = self.rows.add(task, Some(parent))?;
-        if self.rows.is_ready(parent.slot) {
-            remove_slot(&mut self.ready, parent.slot);
+        let slot = self.rows.add(task, part, key)?;
+        if let Some(part) = part {
+            if self.rows.is_ready(part.slot) {
+                remove_slot(&mut self.ready, part.slot);
+            }
+            self.rows.mark_asked(part, slot);
         }
         self.ready.push_reserved(slot);
-        self.rows.mark_asked(parent, slot);
         Ok(slot)
     }
 
@@ -156,15 +150,20 @@ impl Tasks {
         self.rows.set_cursor(slot, cursor);
     }
 
-    /// Gives an idle part its value without a task. It takes no memory.
+    /// Gives an idle part its value without a row. The value comes back where there is no part. It takes no memory.
     #[inline(always)]
-    pub fn give(&mut self, part: Part, value: Value)
-        requires row { IsRow self.old part.slot }
-        requires index { part.index < 3 }
-        requires idle { state_of self.old part ≡ Some Idle }
-        ensures { ChangesOnly self.old self.new part.slot (with_part part.index (Got value)) }
+    pub fn give(&mut self, part: Option<Part>, value: Value) -> Option<Value>
+        requires { IfSome part (IsIdlePart self.old) }
+        ensures rows { Gives self.old self.new part value }
+        ensures returned { result ≡ returned part value }
     {
-        self.rows.give(part, value);
+        match part {
+            Some(part) => {
+                self.rows.give(part, value);
+                None
+            }
+            None => Some(value),
+        }
     }
 
     /// Moves the value of a part out, if it has one. The part is then idle.
@@ -178,14 +177,13 @@ impl Tasks {
         self.rows.take(part)
     }
 
-    /// Puts another task in the place of one of which no part is asked or got. The cursor is at 0, 0 then, and the key is
-    /// remembered: it is that of the daton whose value the new task's is to become.
+    /// Whether a row waits for none of its parts.
     #[inline(always)]
-    pub fn become_body(&mut self, slot: usize, task: Task, key: Key)
-        requires { IsIdleRow self.old slot }
-        ensures { ChangesOnly self.old self.new slot (becoming task key) }
+    pub fn is_ready(&self, slot: usize) -> bool
+        requires { IsRow self.now slot }
+        ensures { result ≡ is_ready (row_at self.now slot) }
     {
-        self.rows.become_body(slot, task, key);
+        self.rows.is_ready(slot)
     }
 
     /// The slots of the ready rows, in the order of their making.

@@ -62,14 +62,14 @@ fn newest_untouched(tasks: &Tasks) -> Option<usize>
 fn settling_a_part(rt: HostRuntime) {
     let tag = Tags::make(rt.alloc()).root();
     let mut tasks = Tasks::make(rt.alloc());
-    let begun = tasks.begin(task_at(tag, 0)).ok();
+    let begun = tasks.ask(None, task_at(tag, 0), None).ok();
     let root = newest_idle(&tasks, 1).expect(&rt, "a root");
     assert_eq!(rt; begun, Some(root));
     let part = Part {
         slot: root,
         index: 1,
     };
-    let asked = tasks.ask(part, task_at(tag, 1)).ok();
+    let asked = tasks.ask(Some(part), task_at(tag, 1), None).ok();
     let child = newest(&tasks).expect(&rt, "a child");
     assert_eq!(rt; asked, Some(child));
     assert_eq!(rt; tasks.parent(child), Some(part));
@@ -86,12 +86,20 @@ fn settling_a_part(rt: HostRuntime) {
 fn a_part_given_without_a_row(rt: HostRuntime) {
     let tag = Tags::make(rt.alloc()).root();
     let mut tasks = Tasks::make(rt.alloc());
-    assert!(rt; tasks.begin(task_at(tag, 0)).is_ok());
+    assert!(rt; tasks.ask(None, task_at(tag, 0), None).is_ok());
     let slot = newest_idle(&tasks, 0).expect(&rt, "a root");
-    tasks.give(Part { slot, index: 0 }, Value::Int(7));
+    assert!(rt;
+        tasks
+            .give(Some(Part { slot, index: 0 }), Value::Int(7))
+            .is_none()
+    );
     assert_eq!(rt; tasks.ready().len(), 1);
     let slot = newest_idle(&tasks, 2).expect(&rt, "a root");
-    tasks.give(Part { slot, index: 2 }, Value::Int(8));
+    assert!(rt;
+        tasks
+            .give(Some(Part { slot, index: 2 }), Value::Int(8))
+            .is_none()
+    );
     assert_eq!(rt; newest_idle(&tasks, 0), None);
     let slot = newest(&tasks).expect(&rt, "a root");
     assert_eq!(rt; number(tasks.got(slot, 0)), Some(7));
@@ -103,10 +111,14 @@ fn a_part_given_without_a_row(rt: HostRuntime) {
 fn values_moved_out(rt: HostRuntime) {
     let tag = Tags::make(rt.alloc()).root();
     let mut tasks = Tasks::make(rt.alloc());
-    assert!(rt; tasks.begin(task_at(tag, 0)).is_ok());
+    assert!(rt; tasks.ask(None, task_at(tag, 0), None).is_ok());
     for index in 0..3u32 {
         let slot = newest_idle(&tasks, index).expect(&rt, "a root");
-        tasks.give(Part { slot, index }, Value::Int(index as i128));
+        assert!(rt;
+            tasks
+                .give(Some(Part { slot, index }), Value::Int(index as i128))
+                .is_none()
+        );
     }
     for index in [1u32, 0, 2] {
         let slot = newest(&tasks).expect(&rt, "a root");
@@ -118,20 +130,16 @@ fn values_moved_out(rt: HostRuntime) {
 }
 
 #[test]
-fn a_row_changed_in_place(rt: HostRuntime) {
+fn a_row_with_a_key(rt: HostRuntime) {
     let tag = Tags::make(rt.alloc()).root();
     let mut tasks = Tasks::make(rt.alloc());
-    assert!(rt; tasks.begin(task_at(tag, 0)).is_ok());
-    let slot = newest(&tasks).expect(&rt, "a root");
-    tasks.set_cursor(slot, Cursor { time: 3, count: 2 });
-    let slot = newest_untouched(&tasks).expect(&rt, "a root");
     let key = Key {
         name: 4,
         tag,
         time: 6,
     };
-    tasks.become_body(slot, task_at(tag, 6), key);
-    let slot = newest(&tasks).expect(&rt, "a root");
+    assert!(rt; tasks.ask(None, task_at(tag, 6), Some(key)).is_ok());
+    let slot = newest_untouched(&tasks).expect(&rt, "a root");
     assert_eq!(rt; tasks.task(slot), task_at(tag, 6));
     assert_eq!(rt; tasks.cursor(slot), Cursor { time: 0, count: 0 });
     assert_eq!(rt; tasks.key(slot), Some(key));
@@ -142,7 +150,7 @@ fn a_row_changed_in_place(rt: HostRuntime) {
 fn calls_with_ample_memory(rt: HostRuntime) {
     let tag = Tags::make(rt.alloc()).root();
     let mut tasks = Tasks::make(rt.alloc());
-    assert!(rt; tasks.begin(task_at(tag, 0)).is_ok());
+    assert!(rt; tasks.ask(None, task_at(tag, 0), None).is_ok());
     let root = newest(&tasks).expect(&rt, "a root");
     let cursor = Cursor { time: 3, count: 2 };
     tasks.set_cursor(root, cursor);
@@ -151,7 +159,7 @@ fn calls_with_ample_memory(rt: HostRuntime) {
     let value = tasks.settle(root, Value::Int(4));
     assert_eq!(rt; number(value.as_ref()), Some(4));
     assert_eq!(rt; newest(&tasks), None);
-    assert!(rt; tasks.begin(task_at(tag, 1)).is_ok());
+    assert!(rt; tasks.ask(None, task_at(tag, 1), None).is_ok());
     tasks.clear();
     assert!(rt; tasks.ready().is_empty());
 }
@@ -160,12 +168,12 @@ fn calls_with_ample_memory(rt: HostRuntime) {
 fn a_million_tasks_one_below_the_other(rt: HostRuntime) {
     let tag = Tags::make(rt.alloc()).root();
     let mut tasks = Tasks::make(rt.alloc());
-    assert!(rt; tasks.begin(task_at(tag, 0)).is_ok());
+    assert!(rt; tasks.ask(None, task_at(tag, 0), None).is_ok());
     for time in 1..MANY {
         let slot = newest_idle(&tasks, 0).expect(&rt, "the newest task");
         assert!(rt;
             tasks
-                .ask(Part { slot, index: 0 }, task_at(tag, time))
+                .ask(Some(Part { slot, index: 0 }), task_at(tag, time), None)
                 .is_ok()
         );
     }

@@ -2,7 +2,7 @@ use Rattle.std.specs.Prelude.{◌<◌, ◌≤◌}
 use Rattle.std.proofs.Common.{sym, ◌∙◌, subst, arith}
 use Rattle.lucid_tasks.specs.Rows.{got_of}
 use Rattle.lucid_equations.specs.declared.rows.Node.TheVariants as node
-use Rattle.lucid_demand.specs.declared.decide.Decision.TheVariants.{Ask, End, Fault, Move, Refuse}
+use Rattle.lucid_demand.specs.declared.decide.Decision.TheVariants.{Ask, End, Fault, LookOn, Refuse}
 use Rattle.lucid_demand.specs.Answers.{part_or_ask, DecidesFor}
 use Rattle.lucid_demand.proofs.Answers.{IsPlaceOrOther}
 use Rattle.lucid_demand.proofs.Deciding.{decides_at, read}
@@ -23,7 +23,7 @@ returns-in-Absent c =
 
 pub returns-in-Holds : goal.returns-in-Holds
 returns-in-Holds c =
-    decides_at c.args.tasks.now c.args.self.slot c.args.self.task (node.Upon c.args.left c.args.right) c.cursor-cursor.result (λ x k. (x.time ≤ x.depth) × (k.time < x.time)) (λ x k. Move c.in-Holds.holds) c.cursor-cursor.ensures (omega (arith, c.from.ensures, c.if-self-from.false), omega (arith, c.if-cursor-self.false)) (λ T known its is there e low. upon_moves T known c.args.tasks.now c.args.self.slot its is c.args.left c.args.right there e c.in-Holds.holds low.0 low.1 (read T known c.args.tasks.now c.args.self.slot its is 1 c.answer.result c.answer.ensures ∙ c.in-Holds.is))
+    decides_at c.args.tasks.now c.args.self.slot c.args.self.task (node.Upon c.args.left c.args.right) c.cursor-cursor.result (λ x k. (x.time ≤ x.depth) × (k.time < x.time)) (λ x k. LookOn c.in-Holds.holds) c.cursor-cursor.ensures (omega (arith, c.from.ensures, c.if-self-from.false), omega (arith, c.if-cursor-self.false)) (λ T known its is there e low. upon_moves T known c.args.tasks.now c.args.self.slot its is c.args.left c.args.right there e c.in-Holds.holds low.0 low.1 (read T known c.args.tasks.now c.args.self.slot its is 1 c.answer.result c.answer.ensures ∙ c.in-Holds.is))
 
 pub returns-in-Ended : goal.returns-in-Ended
 returns-in-Ended c =

@@ -3,7 +3,7 @@ use Rattle.std.proofs.Common.{sym, ap, ◌∙◌, subst, arith}
 use Rattle.lucid_tasks.specs.Rows.{got_of}
 use Rattle.lucid_equations.specs.declared.rows.Node.TheVariants as node
 use Rattle.lucid_demand.specs.declared.decide.Answer.TheVariants.{Holds}
-use Rattle.lucid_demand.specs.declared.decide.Decision.TheVariants.{Ask, End, Fault, Move, Refuse}
+use Rattle.lucid_demand.specs.declared.decide.Decision.TheVariants.{Ask, End, Fault, LookOn, Refuse}
 use Rattle.lucid_demand.specs.Answers.{part_or_ask, DecidesFor}
 use Rattle.lucid_demand.proofs.Answers.{IsPlaceOrOther}
 use Rattle.lucid_demand.proofs.Deciding.{decides_at, read}
@@ -20,7 +20,7 @@ returns-in-Absent c =
 
 pub returns-in-Holds-false : goal.returns-in-Holds-false
 returns-in-Holds-false c =
-    decides_at c.args.tasks.now c.args.self.slot c.args.self.task (node.Whenever c.args.left c.args.right) c.cursor-cursor.result (λ x k. k.time < x.depth) (λ x k. Move false) c.cursor-cursor.ensures (omega (arith, c.from.ensures, c.if-cursor-from.false)) (λ T known its is there e low. whenever_moves T known c.args.tasks.now c.args.self.slot its is c.args.left c.args.right there e false low (λ h. absurd (cc)) (read T known c.args.tasks.now c.args.self.slot its is 1 c.answer.result c.answer.ensures ∙ c.in-Holds-false.is ∙ ap Holds c.in-Holds-false.field-0-test))
+    decides_at c.args.tasks.now c.args.self.slot c.args.self.task (node.Whenever c.args.left c.args.right) c.cursor-cursor.result (λ x k. k.time < x.depth) (λ x k. LookOn false) c.cursor-cursor.ensures (omega (arith, c.from.ensures, c.if-cursor-from.false)) (λ T known its is there e low. whenever_moves T known c.args.tasks.now c.args.self.slot its is c.args.left c.args.right there e false low (λ h. absurd (cc)) (read T known c.args.tasks.now c.args.self.slot its is 1 c.answer.result c.answer.ensures ∙ c.in-Holds-false.is ∙ ap Holds c.in-Holds-false.field-0-test))
 
 pub returns-in-Ended : goal.returns-in-Ended
 returns-in-Ended c =
@@ -36,4 +36,4 @@ returns-then-cursor-self c =
 
 pub returns-else-cursor-self : goal.returns-else-cursor-self
 returns-else-cursor-self c =
-    decides_at c.args.tasks.now c.args.self.slot c.args.self.task (node.Whenever c.args.left c.args.right) c.cursor-cursor.result (λ x k. (k.time < x.depth) × (k.count < x.time)) (λ x k. Move true) c.cursor-cursor.ensures (omega (arith, c.from.ensures, c.if-cursor-from.false), omega (arith, c.if-cursor-self.false)) (λ T known its is there e low. whenever_moves T known c.args.tasks.now c.args.self.slot its is c.args.left c.args.right there e true low.0 (λ h. low.1) (read T known c.args.tasks.now c.args.self.slot its is 1 c.answer.result c.answer.ensures ∙ c.in-Holds-true.is ∙ ap Holds c.in-Holds-true.field-0-test))
+    decides_at c.args.tasks.now c.args.self.slot c.args.self.task (node.Whenever c.args.left c.args.right) c.cursor-cursor.result (λ x k. (k.time < x.depth) × (k.count < x.time)) (λ x k. LookOn true) c.cursor-cursor.ensures (omega (arith, c.from.ensures, c.if-cursor-from.false), omega (arith, c.if-cursor-self.false)) (λ T known its is there e low. whenever_moves T known c.args.tasks.now c.args.self.slot its is c.args.left c.args.right there e true low.0 (λ h. low.1) (read T known c.args.tasks.now c.args.self.slot its is 1 c.answer.result c.answer.ensures ∙ c.in-Holds-true.is ∙ ap Holds c.in-Holds-true.field-0-test))

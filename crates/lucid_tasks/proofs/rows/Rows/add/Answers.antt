@@ -23,10 +23,10 @@ invariant_of-self-2 c =
 pub returns-clause-row : goal.returns-clause-row
 returns-clause-row c =
     let len : c.len-slot.result ≡ length c.self.inside.rows.items = search rules in
-    subst (λ (xs : List Row). SetsOnly c.args.self.now (laid_from c.reserve.new.self.0 0 xs) c.len-slot.result (Some (fresh c.args.task c.args.parent))) (sym (c.push_reserved.ensures.items ∙ ap (λ (xs : List Row). xs ++ c.new_row.result ∷ []) c.reserve-2.ensures.items))
-    (subst (λ (n : ℕ). SetsOnly c.args.self.now (laid_from c.reserve.new.self.0 0 (c.self.inside.rows.items ++ c.new_row.result ∷ [])) n (Some (fresh c.args.task c.args.parent))) (sym len)
-    (subst (λ v. SetsOnly v (laid_from c.reserve.new.self.0 0 (c.self.inside.rows.items ++ c.new_row.result ∷ [])) (length c.self.inside.rows.items) (Some (fresh c.args.task c.args.parent))) c.self.view_is
-    (added c.self.inside.rows.items c.self.inside.pool c.reserve.new.self c.self.invariant c.reserve.ensures.values c.new_row.result c.new_row.ensures.live c.new_row.ensures.asked c.args.task c.args.parent
+    subst (λ (xs : List Row). SetsOnly c.args.self.now (laid_from c.reserve.new.self.0 0 xs) c.len-slot.result (Some (fresh c.args.task c.args.parent c.args.key))) (sym (c.push_reserved.ensures.items ∙ ap (λ (xs : List Row). xs ++ c.new_row.result ∷ []) c.reserve-2.ensures.items))
+    (subst (λ (n : ℕ). SetsOnly c.args.self.now (laid_from c.reserve.new.self.0 0 (c.self.inside.rows.items ++ c.new_row.result ∷ [])) n (Some (fresh c.args.task c.args.parent c.args.key))) (sym len)
+    (subst (λ v. SetsOnly v (laid_from c.reserve.new.self.0 0 (c.self.inside.rows.items ++ c.new_row.result ∷ [])) (length c.self.inside.rows.items) (Some (fresh c.args.task c.args.parent c.args.key))) c.self.view_is
+    (added c.self.inside.rows.items c.self.inside.pool c.reserve.new.self c.self.invariant c.reserve.ensures.values c.new_row.result c.new_row.ensures.live c.new_row.ensures.asked c.args.task c.args.parent c.args.key
     c.new_row.ensures.task c.new_row.ensures.parent c.new_row.ensures.cursor c.new_row.ensures.key)))
 
 pub returns-clause-newest : goal.returns-clause-newest

@@ -1,7 +1,9 @@
-use Rattle.std.proofs.Common.{sym, subst, ◌≡◌, Some}
-use Rattle.lucid_tasks.specs.Rows.{IsRow, state_of, Idle}
+use Rattle.std.proofs.Common.{sym, subst, IfSome}
+use Rattle.lucid_tasks.specs.Rows.{IsIdlePart}
 use Rattle.lucid_tasks.proofs.TaskLemmas.{given_tasks}
 use Rattle.lucid_tasks.proofs.tasks.Tasks.give.Goals as goal
 
 pub invariant_of-self : goal.invariant_of-self
-invariant_of-self c = (given_tasks c.self.inside.rows c.give.new.self c.args.part c.args.value c.give.ensures (subst (λ v. IsRow v c.args.part.slot) (sym c.self.view_is) c.requires.row) c.requires.index (subst (λ v. state_of v c.args.part ≡ Some Idle) (sym c.self.view_is) c.requires.idle) c.self.inside.ready.items c.self.invariant.0, c.self.invariant.1)
+invariant_of-self c =
+    let own : IsIdlePart c.self.inside.rows c.in-Some.part = subst (λ v. IsIdlePart v c.in-Some.part) (sym c.self.view_is) (subst (λ o. IfSome o (IsIdlePart c.args.self.now)) c.in-Some.is c.requires) in
+    (given_tasks c.self.inside.rows c.give.new.self c.in-Some.part c.args.value c.give.ensures own.row own.index own.idle c.self.inside.ready.items c.self.invariant.0, c.self.invariant.1)

@@ -1,9 +1,0 @@
-use Rattle.std.proofs.Common.{refl}
-use Rattle.lucid_demand.specs.Acting.{at_rows}
-use Rattle.lucid_demand.proofs.SettledRows.{gives_may_settle, nothing_taken}
-use Rattle.lucid_demand.proofs.evaluation.Evaluation.give.Goals as goal
-
-pub returns : goal.returns
-returns g c = λ i may.
-    c.settle.ensures (at_rows i c.args.self.now.rows)
-    (gives_may_settle i c.args.self.now c.args.self.now c.args.slot c.args.value may refl (nothing_taken c.args.self.now.rows c.args.slot c.requires.ready))

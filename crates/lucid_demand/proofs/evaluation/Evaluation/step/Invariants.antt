@@ -1,4 +1,0 @@
-use Rattle.lucid_demand.proofs.evaluation.Evaluation.step.Given as goal
-
-abbrev pub ghost-decided : goal.ghost-decided
-ghost-decided g a = a.self.now.engine.known
