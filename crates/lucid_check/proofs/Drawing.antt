@@ -1,6 +1,6 @@
 -- What the judgments through one read of the inputs.
 use Rattle.std.proofs.Common.{◌≡◌, ◌≢◌, ℕ, ◌+◌, ◌<◌, ◌≤◌, max, List, length, Option, Some, None, ◌⊎◌, inl, inr, refl, sym, ap, ◌∙◌, subst, arith}
-use Rattle.std.specs.Prelude.{Bool, IfSome, Result, slice_get, option_map, unwrap_or}
+use Rattle.std.specs.Prelude.{Bool, IfSome, Result, slice_get, option_map}
 use Rattle.std.proofs.lemmas.Bool.{cases_eq, cases_lt}
 use Rattle.std.proofs.lemmas.Option.{same_Some, slice_get-get_or, unwrap_or-slice_get}
 use Rattle.lucid_value.specs.Lines.{end_of_line, IsOverlong}
@@ -25,8 +25,8 @@ use Rattle.lucid_check.specs.declared.fault.CheckFault.{CheckFault}
 use Rattle.lucid_check.specs.Reads.{LiesPast, LiesWithin, TellsElement, DrawsFor, ReadsFor, nothing_read, element_read}
 
 -- the stream of a number that is there
-pub stream_there : (ss : List Stream) (k : ℕ) (d : Stream) → k < length ss → slice_get ss k ≡ Some (unwrap_or (slice_get ss k) d)
-stream_there ss k d h = slice_get-get_or ss k d h ∙ ap Some (sym (unwrap_or-slice_get ss k d))
+pub stream_there : (inputs : Inputs) (k : ℕ) → k < length (streams inputs) → slice_get (streams inputs) k ≡ Some (stream_at inputs k)
+stream_there inputs k h = slice_get-get_or (streams inputs) k (fresh_stream 0) h ∙ ap Some (sym (unwrap_or-slice_get (streams inputs) k (fresh_stream 0)))
 
 -- what is said of the bytes of a place is said of the same bytes
 of_bytes : (P : List ℕ → Type 0) (o p : Option Contents) → option_map all_bytes p ≡ option_map all_bytes o → IfSome o (λ c. P (all_bytes c)) → IfSome p (λ c. P (all_bytes c))
@@ -163,7 +163,7 @@ module _ (T : Table) (cs : List (Option Context)) (js : List PlainJudgment) wher
           names = r.asked.others.names;
           reached = r.asked.reached;
           others = λ k. elim (cases_eq k (stream_at now q).place) [
-            | inl e ↦ inl (subst (λ p. In p (places_of (streams now))) (sym e) (place_in (streams now) q (stream_at now q) (stream_there (streams now) q (fresh_stream 0) there)))
+            | inl e ↦ inl (subst (λ p. In p (places_of (streams now))) (sym e) (place_in (streams now) q (stream_at now q) (stream_there now q there)))
             | inr e ↦ inr (r.asked.others.others k e)
           ];
           bytes = r.bytes;

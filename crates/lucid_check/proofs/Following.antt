@@ -15,7 +15,6 @@ use Rattle.lucid_ports.specs.World.{World}
 use Rattle.lucid_inputs.specs.declared.on_demand.Inputs.{Inputs}
 use Rattle.lucid_inputs.specs.Inputs.{streams, stream_at}
 use Rattle.lucid_inputs.specs.Reading.{GivesElement}
-use Rattle.lucid_inputs.specs.Streams.{fresh_stream}
 use Rattle.lucid_equations.specs.Programs.{table_of}
 use Rattle.lucid_equations.specs.Rows.{node_at, node_by, row_at}
 use Rattle.lucid_equations.specs.declared.rows.Node.{Node}
@@ -110,7 +109,7 @@ module _ (T : Table) (cs : List (Option Context)) (js : List PlainJudgment) (i :
       where
         element : b (get_or T.inputs k []) j.time ≡ Some v
         element = may (get_or T.inputs k []) j.time v (reads_its_element T.inputs (streams new) k j.time (get_or T.inputs k []) (stream_at new k) v differ
-            (slice_get-get_or T.inputs k [] below) (stream_there (streams new) k (fresh_stream 0) (omega (arith, below, count))) gives)
+            (slice_get-get_or T.inputs k [] below) (stream_there new k (omega (arith, below, count))) gives)
 
     pub input_follows : j.uses ≡ [] → AllDiffer T.inputs → k < length T.inputs → (new : Inputs) → length (streams new) ≡ length T.inputs → (result : Result Bool CheckFault) → TellsSame new k j.time j.value result
         → IfOk result (λ it. (b : Elements) → MayBe T new b → (it ≡ true) ↔ FollowsIn T b cs js i)

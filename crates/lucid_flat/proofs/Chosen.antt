@@ -4,7 +4,6 @@ use Rattle.std.specs.List.{AllByRecursion, find}
 use Rattle.std.specs.Str.{bytes_eq}
 use Rattle.std.proofs.lemmas.Option.{same_Some}
 use Rattle.std.proofs.lemmas.Slice.Eq.{bytes_eq-Decides}
-use Rattle.lucid_texts.specs.Words.{is_end}
 
 -- what a test chose
 pub by_test : {A : Type 0} (b : Bool) (x y z : A) → cond b x y ≡ z → ((b ≡ true) × (x ≡ z)) ⊎ ((b ≡ false) × (y ≡ z))
@@ -38,7 +37,3 @@ pub found_among : {A : Type 0} (P : A → Type 0) (p : A → Bool) (xs : List A)
 found_among P p [] y h e = absurd (cc)
 found_among P p (x ∷ xs) y h e = among_by P x y (find p xs) (p x) e h.0 (found_among P p xs y h.1)
 
--- no word is left
-pub no_word : (ws : List (List ℕ)) → is_end ws ≡ true → ws ≡ []
-no_word [] h = refl
-no_word (w ∷ ws) h = absurd (cc)

@@ -19,7 +19,7 @@ use Rattle.lucid_flat.specs.FlatText.{FlatRow, scope_row, input_row, constant_ro
 use Rattle.lucid_flat.specs.FlatTables.{RowFits, IsShort}
 use Rattle.lucid_flat.specs.Gathered.{row_part, next_part, part_behind, rows_so_far, AreEmptyBehind, IsBegun, CannotCome}
 use Rattle.lucid_flat.proofs.Rising.{full_scopes, full_constants, full_nodes, full_names, full_places}
-use Rattle.lucid_flat.proofs.TextMade.{all-append}
+use Rattle.lucid_texts.proofs.WordLemmas.{all-append}
 
 map-push : {A : Type 0} (f : A → FlatRow) (xs : List A) (x : A) → map f (xs ++ x ∷ []) ≡ map f xs ++ f x ∷ []
 map-push f [] x = refl

@@ -18,6 +18,7 @@ use Rattle.lucid_flat.specs.RowTails.{tail_row}
 use Rattle.lucid_flat.specs.RowLines.{IsRowOf}
 use Rattle.lucid_flat.proofs.RowsGiven.{row_head, row_tail, line_parts, head_lacks, IsNoConstant, tail_row-parts}
 use Rattle.lucid_flat.proofs.TailsRead.{tail_read}
+use Rattle.lucid_texts.proofs.WordLemmas.{apart}
 
 -- a line has a blank
 pub no_blank : (line : List ℕ) → HasNone 32 line → (r : FlatRow) → RowFits r → line ≡ row_line r → ⊥
@@ -33,10 +34,6 @@ data Kind : FlatRow → Type 0 where
 kind : (r : FlatRow) → Kind r
 kind (constant_row v) = of_value v
 kind _ = of_words tt
-
-apart : (w c : List ℕ) → bytes_eq w c ≡ false → w ≡ c → ⊥
-apart w c f e =
-    let q = (bytes_eq-Decides w c).1 e in cc
 
 no_const_entry : (e : Entry) → entry_word e ≡ codes "const" → ⊥
 no_const_entry (Plain a) h = apart _ _ refl h

@@ -18,10 +18,10 @@ use Rattle.lucid_equations.specs.declared.rows.PlaceRow.{PlaceRow}
 use Rattle.lucid_flat.specs.FlatText.{FlatRow, scope_row, input_row, node_row, name_row, place_row, root_row, kind_word, entry_word, entry_number, row_line}
 use Rattle.lucid_flat.specs.FlatTables.{Are32, RowFits}
 use Rattle.lucid_texts.specs.Words.{words_of, take_word, take_number, is_end}
-use Rattle.lucid_texts.proofs.WordLemmas.{taken}
+use Rattle.lucid_texts.proofs.WordLemmas.{taken, no_word}
 use Rattle.lucid_flat.specs.Words.{few_numbers_of, exactly, listed}
 use Rattle.lucid_flat.specs.RowTails.{kind_of, scope_of, input_of, node_row_of, entry_of, name_of, place_of, root_of, tail_row}
-use Rattle.lucid_flat.proofs.Chosen.{by_word, no_word}
+use Rattle.lucid_flat.proofs.Chosen.{by_word}
 use Rattle.lucid_flat.proofs.NodesRead.{node_read}
 use Rattle.lucid_flat.proofs.NumberLemmas.{few_read}
 use Rattle.lucid_flat.proofs.RowsGiven.{row_head, row_rest, line_parts}

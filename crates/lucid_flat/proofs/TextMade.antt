@@ -14,6 +14,7 @@ use Rattle.lucid_texts.specs.TextLines.{ended, text_of}
 use Rattle.lucid_flat.specs.FlatText.{FlatRow, scope_row, input_row, constant_row, node_row, name_row, place_row, root_row, flat_rows, row_line, first_line, flat_text}
 use Rattle.lucid_flat.specs.FlatTables.{RowFits}
 use Rattle.lucid_flat.specs.Shown.{IsNoRoot, line_of}
+use Rattle.lucid_texts.proofs.WordLemmas.{all-append}
 
 -- the lines of rows, each ended
 abbrev pub lines : List FlatRow → List ℕ
@@ -56,11 +57,6 @@ text_made t =
 pub constants_rows : (vs : List Value) → map (λ v. constant_row (plain v)) vs ≡ map constant_row (map plain vs)
 constants_rows [] = refl
 constants_rows (v ∷ vs) = ap (λ (x : List FlatRow). constant_row (plain v) ∷ x) (constants_rows vs)
-
--- what holds of all items of two lists
-pub all-append : {A : Type 0} (P : A → Type 0) (xs ys : List A) → AllByRecursion P xs → AllByRecursion P ys → AllByRecursion P (xs ++ ys)
-all-append P [] ys h k = k
-all-append P (x ∷ xs) ys h k = (h.0, all-append P xs ys h.1 k)
 
 -- rows that fit unless they are a root's
 abbrev pub MayFit : FlatRow → Type 0

@@ -5,11 +5,11 @@ use Rattle.std.specs.Option.{option_and_then}
 use Rattle.std.proofs.lemmas.Bool.{eqb-true, eq-eqb}
 use Rattle.std.proofs.lemmas.Option.{option_and_then_some, cond_some, same_Some}
 use Rattle.lucid_texts.specs.Words.{take_number, is_end}
-use Rattle.lucid_texts.proofs.WordLemmas.{taken, take_number-decimal}
+use Rattle.lucid_texts.proofs.WordLemmas.{taken, take_number-decimal, no_word}
 use Rattle.lucid_flat.specs.declared.words.Three.{Three}
 use Rattle.lucid_flat.specs.FlatTables.{Are32}
 use Rattle.lucid_flat.specs.Words.{three_of, exactly, listed}
-use Rattle.lucid_flat.proofs.Chosen.{by_test, no_word}
+use Rattle.lucid_flat.proofs.Chosen.{by_test}
 
 -- the words are those of the numbers, which are of 32 bits
 abbrev pub AreWordsOf : List (List ℕ) → Three → Type 0

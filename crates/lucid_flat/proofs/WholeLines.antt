@@ -17,8 +17,8 @@ use Rattle.lucid_flat.specs.Gathered.{part_behind, rows_so_far, IsBegun, CannotC
 use Rattle.lucid_flat.proofs.LineBytes.{node_solid, kind_solid, entry_solid}
 use Rattle.lucid_flat.proofs.RowsGiven.{row_head, row_tail, line_parts}
 use Rattle.lucid_flat.proofs.RowLemmas.{one_row}
-use Rattle.lucid_flat.proofs.TextMade.{all-append}
 use Rattle.lucid_flat.proofs.Gathering.{push_g, behind-push}
+use Rattle.lucid_texts.proofs.WordLemmas.{all-append}
 
 words_lack : (r : FlatRow) → RowFits r → AllByRecursion (Lacks 10) (row_words r)
 words_lack (scope_row r) h = all_solid_lack 10 refl (row_words (scope_row r)) (refl, (decimal_solid r.parent (omega (arith, h.0)), (kind_solid r.kind, tt)))

@@ -10,12 +10,7 @@ use Rattle.lucid_equations.specs.declared.rows.Entry.{Entry}
 use Rattle.lucid_equations.specs.declared.rows.Entry.TheVariants.{Current}
 use Rattle.lucid_equations.specs.declared.table.Table.{Table}
 use Rattle.lucid_follow.specs.Follows.{Onward, onward}
-
-same_outer : (x y : Context) → Some x ≡ Some y → x ≡ y
-same_outer x y h = cc
-
-same_frozen : (u f : ℕ) (c d : Context) → frozen_frame u c ≡ frozen_frame f d → u ≡ f
-same_frozen u f c d h = cc
+use Rattle.std.proofs.lemmas.Option.{same_Some}
 
 -- a current name goes on with its body in the context without its frozen time, at that time
 pub current_goes : (T : Table) (n id : ℕ) (c outer : Context) (f t top : ℕ) → name_at T n ≡ Some (Current id) → c ≡ frozen_frame f (base_of c) → top ≡ frames c → cut (top - 1) c ≡ Some outer
@@ -23,9 +18,9 @@ pub current_goes : (T : Table) (n id : ℕ) (c outer : Context) (f t top : ℕ) 
 current_goes T n id root outer f t top h is l o = absurd (cc)
 current_goes T n id (call_frame at c d) outer f t top h is l o = absurd (cc)
 current_goes T n id (frozen_frame u c) outer f t top h is l o =
-    let same : u ≡ f = same_frozen u f c c is in
+    let same : u ≡ f = let h : frozen_frame u c ≡ frozen_frame f c = is in cc in
     let low : top - 1 ≡ frames c = omega (arith, l) in
-    let base : c ≡ outer = same_outer c outer (sym (cut-base_of (frozen_frame u c) (frames c) refl) ∙ ap (λ z. cut z (frozen_frame u c)) (sym low) ∙ o) in
+    let base : c ≡ outer = same_Some c outer (sym (cut-base_of (frozen_frame u c) (frames c) refl) ∙ ap (λ z. cut z (frozen_frame u c)) (sym low) ∙ o) in
     sym (ap (λ (z : Option Entry). onward (by_name_row T z n (frozen_frame u c) t)) h
     ∙ ap (λ (z : Context). onward (to_number n (frozen_frame u c) 0 id z u)) base ∙ ap (λ (z : ℕ). onward (to_number n (frozen_frame u c) 0 id outer z)) same)
 

@@ -47,15 +47,15 @@ frozen_part T e (Freeze a) h k p =
     let r : node_at T a ≡ e = cc in sym r ∙ ap (node_at T) q
 frozen_part T e n h k p = absurd (cc)
 
--- a part by its number
-has_part : (T : Table) (id i k : ℕ) → part_number T id i ≡ Some k → HasPart T id i k
-has_part T id i k e = option_and_then_some _ (row_at T id) k e (λ n t m. record { row = n; there = t; names = m })
-
 same_there : (o : Option Context) (c : Context) → is_context o c ≡ true → o ≡ Some c
 same_there (Some d) c e = ap Some ((same_context_is_equality d c).0 e)
 same_there None c e = absurd (cc)
 
 module _ (T : Table) (in_range : IsInRange T) (laws : Laws) (b : Elements) (w : Why) (most : ℕ) where
+  -- a part by its number
+  has_part : (id i k : ℕ) → part_number T id i ≡ Some k → HasPart T id i k
+  has_part id i k e = option_and_then_some _ (row_at T id) k e (λ n t m. record { row = n; there = t; names = m })
+
   -- a judgment's value is its node's at a limit
   abbrev Has : (limit node : ℕ) → Context → (time space : ℕ) → PlainValue → Type 0
   Has m n c t s v = node_val (equations_of T) b m (node_at T n) c t s ≡ Some v
@@ -101,7 +101,7 @@ module _ (T : Table) (in_range : IsInRange T) (laws : Laws) (b : Elements) (w : 
         → reads_parts (equations_of T) (nothing_held b) (i + 1 + most) es c l.part l.time l.space ≡ Some v
     part_means id f es c is l u v e =
         option_and_then_some _ (part_number T id l.part) v e (λ k t m.
-        laws.parts T in_range id l.part k (has_part T id l.part k t) f es is (nothing_held b) (i + 1 + most) c l.time l.space
+        laws.parts T in_range id l.part k (has_part id l.part k t) f es is (nothing_held b) (i + 1 + most) c l.time l.space
         ∙ up (i + most) (i + 1 + most) k (omega arith) c l.time l.space v (used_means k c l.time l.space u v m))
 
     by_row : (id : ℕ) (f : Head) (es : PlainNodes) (c : Context) (t s : ℕ) (us : List ℕ) (v : PlainValue) → t + length us ≤ most → node_at T id ≡ row f es
@@ -129,7 +129,7 @@ module _ (T : Table) (in_range : IsInRange T) (laws : Laws) (b : Elements) (w : 
     by_freeze id e c t s us v is h =
         let one = only_one _ us v h in
         option_and_then_some _ (part_number T id 0) v one.1 (λ k p m.
-        let d = has_part T id 0 k p in
+        let d = has_part id 0 k p in
         let subject = frozen_part T e d.row (sym (laws.rows T in_range id d.row d.there) ∙ is) k d.names in
         let value = up (i + most) (i + 1 + most) k (omega arith) (frozen_frame t c) t s v (used_means k (frozen_frame t c) t s one.0 v m) in
         let P : PlainNode → Type 0 = λ x. node_val (equations_of T) b (i + 1 + most) x c t s ≡ Some v in

@@ -22,7 +22,7 @@ line_one to h ws =
     append_assoc (to ++ h) (spaced ws) (10 ∷ []) ∙ (append_assoc to h (spaced ws ++ 10 ∷ [])
     ∙ ap (λ (x : List ℕ). to ++ x) (sym (append_assoc h (spaced ws) (10 ∷ [])) ∙ ap ended (sym (join-spaced h ws))))
 
-more : (a : List ℕ) (ws vs : List (List ℕ)) → (a ++ spaced ws) ++ spaced vs ≡ a ++ spaced (ws ++ vs)
+pub more : (a : List ℕ) (ws vs : List (List ℕ)) → (a ++ spaced ws) ++ spaced vs ≡ a ++ spaced (ws ++ vs)
 more a ws vs = append_assoc a (spaced ws) (spaced vs) ∙ ap (λ (x : List ℕ). a ++ x) (sym (spaced-append ws vs))
 
 pub line_two : (to h : List ℕ) (ws vs : List (List ℕ)) → (((to ++ h) ++ spaced ws) ++ spaced vs) ++ 10 ∷ [] ≡ to ++ ended (join_with_byte 32 (h ∷ (ws ++ vs)))

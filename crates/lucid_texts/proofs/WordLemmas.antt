@@ -2,7 +2,7 @@
 use Rattle.std.proofs.Common.{◌≡◌, ℕ, ◌<◌, ◌≤◌, ◌^◌, Bool, true, false, ◌&&◌, cond, List, [], ◌∷◌, ◌++◌, Option, Some, None, is_none, refl, sym, ap, ◌∙◌, subst, arith}
 use Rattle.std.specs.Prelude.{decimal}
 use Rattle.std.specs.List.{AllByRecursion, onto_first, join_with_byte}
-use Rattle.std.specs.Str.{IsUtf8}
+use Rattle.std.specs.Str.{IsUtf8, bytes_eq}
 use Rattle.std.specs.Str.Parse.{digits_value}
 use Rattle.std.proofs.lemmas.Bool.{and_parts, ltb-true, lt-ltb}
 use Rattle.std.proofs.lemmas.Fmt.{decimal_is_IsNumeral, IsAscii-decimal}
@@ -106,3 +106,18 @@ words_of-join w (v ∷ ws) h = words_of_more w (join_with_byte 32 (v ∷ ws)) _ 
 -- and so are words of letters and digits
 pub spaced_words : (w : List ℕ) (ws : List (List ℕ)) → AllByRecursion IsSolid (w ∷ ws) → words_of (join_with_byte 32 (w ∷ ws)) ≡ w ∷ ws
 spaced_words w ws h = words_of-join w ws (all_solid_lack 32 refl (w ∷ ws) h)
+
+-- where no word is left, there is none
+pub no_word : (ws : List (List ℕ)) → is_end ws ≡ true → ws ≡ []
+no_word [] h = refl
+no_word (w ∷ ws) h = absurd (cc)
+
+-- words that a test tells apart
+pub apart : (w c : List ℕ) → bytes_eq w c ≡ false → w ≡ c → ⊥
+apart w c f e =
+    let q = (bytes_eq-Decides w c).1 e in cc
+
+-- what holds of all items of two lists
+pub all-append : {A : Type 0} (P : A → Type 0) (xs ys : List A) → AllByRecursion P xs → AllByRecursion P ys → AllByRecursion P (xs ++ ys)
+all-append P [] ys h k = k
+all-append P (x ∷ xs) ys h k = (h.0, all-append P xs ys h.1 k)

@@ -14,7 +14,8 @@ use Rattle.lucid_why.specs.declared.rows.ContextRow.{ContextRow}
 use Rattle.lucid_why.specs.declared.rows.JudgmentRow.{JudgmentRow}
 use Rattle.lucid_why.specs.declared.rows.Why.{Why}
 use Rattle.lucid_why.specs.declared.read.WhyLines.{WhyLines}
-use Rattle.lucid_why.proofs.OneText.{all-append, map-append, rows-push, begun_goes_on, no_context_here, is_whole}
+use Rattle.lucid_why.proofs.OneText.{map-append, rows-push, begun_goes_on, no_context_here, is_whole}
+use Rattle.lucid_texts.proofs.WordLemmas.{all-append}
 
 -- the lines of the second are those of the first and this one, and a text goes on with them
 abbrev pub Adds : (v w : Why) → (line : List ℕ) → Type 0

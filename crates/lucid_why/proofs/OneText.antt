@@ -19,10 +19,7 @@ use Rattle.lucid_why.specs.declared.rows.ContextRow.TheVariants.{Call, Frozen}
 use Rattle.lucid_why.specs.declared.rows.Why.{Why}
 use Rattle.lucid_why.proofs.RowsGiven.{row_tail, line_parts, numbers_solid}
 use Rattle.lucid_why.proofs.RowLemmas.{one_row}
-
-pub all-append : {A : Type 0} (P : A → Type 0) (xs ys : List A) → AllByRecursion P xs → AllByRecursion P ys → AllByRecursion P (xs ++ ys)
-all-append P [] ys h k = k
-all-append P (x ∷ xs) ys h k = (h.0, all-append P xs ys h.1 k)
+use Rattle.lucid_texts.proofs.WordLemmas.{all-append}
 
 pub map-append : {A B : Type 0} (f : A → B) (xs ys : List A) → map f (xs ++ ys) ≡ map f xs ++ map f ys
 map-append f [] ys = refl

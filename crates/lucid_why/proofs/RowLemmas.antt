@@ -17,7 +17,7 @@ use Rattle.lucid_texts.specs.TextLines.{Lacks}
 use Rattle.lucid_texts.specs.ValueLines.{IsValueOf}
 use Rattle.lucid_texts.specs.Laws.{OneValue}
 use Rattle.lucid_texts.proofs.Bytes.{one_cut, lacks_middle}
-use Rattle.lucid_texts.proofs.WordLemmas.{is_end-words_of}
+use Rattle.lucid_texts.proofs.WordLemmas.{is_end-words_of, apart}
 use Rattle.lucid_why.specs.Certificates.{PlainJudgment}
 use Rattle.lucid_why.specs.WhyText.{WhyRow, context_row, judgment_row, row_head, row_line}
 use Rattle.lucid_why.specs.WhyTexts.{JudgmentFits, RowFits}
@@ -35,10 +35,6 @@ pub no_blank : (line : List ℕ) → HasNone 32 line → (r : WhyRow) → RowFit
 no_blank line h r f e =
     let P : List ℕ → Type 0 = Lacks 32 in
     lacks_middle 32 (row_head r) (row_tail r) (subst P (e ∙ line_parts r) (recursion_from_All _ line h))
-
-apart : (w c : List ℕ) → bytes_eq w c ≡ false → w ≡ c → ⊥
-apart w c f e =
-    let q = (bytes_eq-Decides w c).1 e in cc
 
 -- the first word of a context's line isn't a judgment's
 pub no_judgment : (c : ContextRow) → row_head (context_row c) ≡ codes "j" → ⊥

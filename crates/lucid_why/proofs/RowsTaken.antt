@@ -9,7 +9,7 @@ use Rattle.std.proofs.lemmas.List.Splits.{join_with_byte-slice_split}
 use Rattle.std.proofs.lemmas.Option.{option_and_then_some, cond_some, same_Some}
 use Rattle.std.proofs.lemmas.Slice.Eq.{bytes_eq-Decides}
 use Rattle.lucid_texts.specs.Words.{words_of, is_end, AreBelow}
-use Rattle.lucid_texts.proofs.WordLemmas.{taken}
+use Rattle.lucid_texts.proofs.WordLemmas.{taken, no_word}
 use Rattle.lucid_why.specs.WhyText.{context_row, row_head, row_rest, row_line}
 use Rattle.lucid_why.specs.WhyTexts.{Is32, Is63, ContextFits, RowFits}
 use Rattle.lucid_why.specs.WordsRead.{take_32, take_63, call_of, frozen_of, context_of, front_of, take_uses}
@@ -17,10 +17,6 @@ use Rattle.lucid_why.specs.declared.rows.ContextRow.{ContextRow}
 use Rattle.lucid_why.specs.declared.rows.ContextRow.TheVariants.{Call, Frozen}
 use Rattle.lucid_why.specs.declared.read_rows.Front.{Front}
 use Rattle.lucid_why.proofs.RowsGiven.{line_parts}
-
-no_word : (ws : List (List ℕ)) → is_end ws ≡ true → ws ≡ []
-no_word [] h = refl
-no_word (w ∷ ws) h = absurd (cc)
 
 -- a context's row has this first word, and these words behind it
 abbrev Has : (w : List ℕ) → List (List ℕ) → ContextRow → Type 0

@@ -6,7 +6,7 @@ use Rattle.std.proofs.lemmas.List.{append-nil}
 use Rattle.lucid_value.specs.ValueText.{value_text}
 use Rattle.lucid_texts.specs.Words.{spaced}
 use Rattle.lucid_texts.specs.TextLines.{ended, text_of}
-use Rattle.lucid_texts.proofs.Spaced.{spaced-append, line_three}
+use Rattle.lucid_texts.proofs.Spaced.{line_three, more}
 use Rattle.lucid_why.specs.Certificates.{PlainJudgment, plain_judgment}
 use Rattle.lucid_why.specs.WhyText.{WhyRow, context_row, judgment_row, why_rows, row_line, why_text}
 use Rattle.lucid_why.specs.WhyTexts.{MayShow, MayBeShown, RowFits}
@@ -28,14 +28,11 @@ lines-append (r ∷ rs) ss = ap (λ (x : List ℕ). line_of r ++ x) (lines-appen
 last_word : (x v : List ℕ) → (x ++ 32 ∷ []) ++ v ≡ x ++ spaced (v ∷ [])
 last_word x v = append_assoc x (32 ∷ []) v ∙ ap (λ (y : List ℕ). x ++ 32 ∷ y) (sym (append-nil v))
 
-behind : (x : List ℕ) (u v : List (List ℕ)) → (x ++ spaced u) ++ spaced v ≡ x ++ spaced (u ++ v)
-behind x u v = append_assoc x (spaced u) (spaced v) ∙ ap (λ (y : List ℕ). x ++ y) (sym (spaced-append u v))
-
 -- A judgment's line, as it is put together.
 pub judgment_line : (to h : List ℕ) (a b u : List (List ℕ)) (v : List ℕ)
     → ((((((to ++ h) ++ spaced a) ++ spaced b) ++ spaced u) ++ 32 ∷ []) ++ v) ++ 10 ∷ [] ≡ to ++ ended (join_with_byte 32 (h ∷ ((a ++ b) ++ (u ++ v ∷ []))))
 judgment_line to h a b u v =
-    ap (λ (y : List ℕ). y ++ 10 ∷ []) (last_word ((((to ++ h) ++ spaced a) ++ spaced b) ++ spaced u) v ∙ behind (((to ++ h) ++ spaced a) ++ spaced b) u (v ∷ []))
+    ap (λ (y : List ℕ). y ++ 10 ∷ []) (last_word ((((to ++ h) ++ spaced a) ++ spaced b) ++ spaced u) v ∙ more (((to ++ h) ++ spaced a) ++ spaced b) u (v ∷ []))
     ∙ line_three to h a b (u ++ v ∷ [])
 
 -- all rows fit that may be shown
