@@ -45,4 +45,4 @@ _lucid() {
     return 0
 }
 
-complete -F _lucid lucid
+complete -F _lucid lucid lucid_explain

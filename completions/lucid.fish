@@ -38,3 +38,4 @@ complete -c lucid -l flat -d 'write the program as a table'
 complete -c lucid -l from-flat -d 'run such a table'
 complete -c lucid -l make -x -d 'run a made program of N + 1 names'
 complete -c lucid -n __lucid_program -a '(__lucid_inputs)' -d input
+complete -c lucid_explain -w lucid

@@ -126,6 +126,13 @@ class Run:
         child = self.start(words, limits, **how)
         return self.ended(child, words, given if how["stdin"] == subprocess.PIPE else None, seconds)
 
+    def explaining(self):
+        """The same folder with the command that explains its reports, which stands beside the other."""
+        command = os.path.join(os.path.dirname(self.command), "lucid_explain")
+        if not os.path.isfile(command):
+            raise Skipped("built command lucid_explain")
+        return Run(command, self.top, self.room)
+
     def ended(self, child, words=(), given=None, seconds=None):
         """Waits for the end of a call."""
         seconds = seconds or SECONDS

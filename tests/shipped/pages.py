@@ -6,6 +6,7 @@ A fence is what its first line says:
   ```input NAME         a file of that name for the programs up to the next heading; `-` is the standard input
   ```output STATUS      what the program above it writes, and the status where it isn't 0; each program has one
   ```report             what it writes on the standard error
+  ```explained          what `lucid_explain` writes there with the same words
   ```antt FILE          the file of definitions, whole but for its first comment and the lines that import names
 
 All other fences are text. Tables whose columns have these names are run too, a row a program: `source`, `words`, `output` and
@@ -52,7 +53,7 @@ class Shown:
 
     def __init__(self, fence, inputs):
         self.source, self.words, self.at = fence.text, shlex.split(fence.words), fence.at
-        self.inputs, self.out, self.status, self.report = dict(inputs), None, 0, None
+        self.inputs, self.out, self.status, self.report, self.explained = dict(inputs), None, 0, None, None
 
 
 def programs(page):
@@ -65,14 +66,13 @@ def programs(page):
             found.append(Shown(it, inputs))
         elif it.kind == "input":
             inputs[it.words.strip()] = it.text
-        elif it.kind in ("output", "report"):
+        elif it.kind in ("output", "report", "explained"):
             check(found, f"line {it.at}: no program stands before it")
-            is_first = getattr(found[-1], "out" if it.kind == "output" else "report") is None
-            check(is_first, f"line {it.at}: the program before it has one")
+            kind = "out" if it.kind == "output" else it.kind
+            check(getattr(found[-1], kind) is None, f"line {it.at}: the program before it has one")
+            setattr(found[-1], kind, it.text)
             if it.kind == "output":
-                found[-1].out, found[-1].status = it.text, int(it.words or 0)
-            else:
-                found[-1].report = it.text
+                found[-1].status = int(it.words or 0)
     return found
 
 
@@ -85,6 +85,8 @@ def one(name, shown_program):
                 run.write(file, text)
         run.source(it.source, "program.lucid")
         run.lucid("program.lucid", *it.words, given=it.inputs.get("-", "")).must(it.out, it.status, it.report)
+        if it.explained is not None:
+            run.explaining().lucid("program.lucid", *it.words, given=it.inputs.get("-", "")).must(it.out, it.status, it.explained)
     return Case(f"{name} line {shown_program.at}", work)
 
 

@@ -1,0 +1,10 @@
+use Rattle.std.proofs.Common.{◌≡◌}
+use Rattle.std.proofs.lemmas.Result.{IfOk-weaker}
+use Rattle.lucid_words.specs.Asked.{plain_words}
+use Rattle.lucid_explained.specs.Said.{unknown_text, Says, of_no_file}
+use Rattle.lucid_explained.proofs.faults.text_of_faults.Goals as goal
+
+pub returns-then-is_empty : goal.returns-then-is_empty
+returns-then-is_empty g c =
+    IfOk-weaker c.from_slice.result (λ v. v.items ≡ unknown_text) (λ v. Says (g.F.Outlook.files c.args.outlook.now) (plain_words c.args.asked.now) c.args.line.now v.items)
+    (λ v e. of_no_file e) c.from_slice.ensures.items

@@ -1,0 +1,7 @@
+use Rattle.std.proofs.Common.{◌≡◌, map, take}
+use Rattle.lucid_words.specs.Plain.{plain_given}
+use Rattle.lucid_explained.specs.Said.{names_given}
+use Rattle.lucid_explained.proofs.sources.given_names.Given as goal
+
+abbrev pub invariant-loop-word : goal.invariant-loop-word
+invariant-loop-word l = l.names.items ≡ names_given (map plain_given (take l.word-index l.given))

@@ -1,0 +1,5 @@
+pub mod Files
+pub mod Lines
+pub mod Said
+pub mod Prompted
+pub mod Explained

@@ -1,0 +1,105 @@
+//! What explains the line that the command reported.
+ghost use Rattle.std.specs.Prelude.{◌≡◌, map, IfOk};
+ghost use Rattle.std.specs.String.{string_bytes};
+ghost use Rattle.lucid_words.specs.Asked.{plain_words};
+ghost use Rattle.lucid_words.specs.Plain.{file, plain_source};
+ghost use Rattle.lucid_explained.specs.Lines.{line_text};
+ghost use Rattle.lucid_explained.specs.Said.{Says, IsExplanation};
+
+use crate::faults::text_of_faults;
+use crate::lines::{begins, is_of_source, line_text};
+use crate::outlook::{Again, Outlook};
+use crate::sources::text_of_source;
+use crate::usage::text_of_words;
+use lucid_words::{Source, Words, WordsRefusal, read_words};
+use std::alloc::{AllocError, Global};
+
+/// One byte more than a source may have: so much of it is read again.
+pub(crate) const PAST_SOURCE: usize = 1_048_577;
+
+// What is said of a line by itself, or else that its source doesn't come again.
+fn text_of_gone<F: Outlook>(
+    alloc: Global,
+    asked: &Words,
+    line: &[u8],
+    outlook: &F,
+) -> Result<Vec<u8>, AllocError>
+    ensures { IfOk result (λ text. Says (F.files outlook.now) (plain_words asked.now) line.now text.items) }
+{
+    let said = line_text(line);
+    if said.is_empty() {
+        return Vec::from_slice(
+            alloc,
+            b"The source is no regular file, so it can't be read again: its place isn't shown.\n",
+        );
+    }
+    Vec::from_slice(alloc, said)
+}
+
+// What is said of a line of which the source in the file of this name says more.
+fn text_of_file<F: Outlook>(
+    alloc: Global,
+    asked: &Words,
+    name: &str,
+    line: &[u8],
+    outlook: &F,
+) -> Result<Vec<u8>, AllocError>
+    requires { (plain_words asked.now).source ≡ file name.now }
+    ensures { IfOk result (λ text. Says (F.files outlook.now) (plain_words asked.now) line.now text.items) }
+{
+    match outlook.reread(alloc, name, PAST_SOURCE) {
+        Again::Bytes(source) => text_of_source(alloc, asked, name.as_bytes(), &source, line),
+        Again::Gone => text_of_gone(alloc, asked, line, outlook),
+        Again::Unread => Vec::from_slice(alloc, line_text(line)),
+    }
+}
+
+// What is said of a line that is explained by itself or by the source.
+fn text_of_line<F: Outlook>(
+    alloc: Global,
+    asked: &Words,
+    line: &[u8],
+    outlook: &F,
+) -> Result<Vec<u8>, AllocError>
+    ensures { IfOk result (λ text. Says (F.files outlook.now) (plain_words asked.now) line.now text.items) }
+{
+    if asked.from_flat || !is_of_source(line) {
+        return Vec::from_slice(alloc, line_text(line));
+    }
+    match &asked.source {
+        Source::File(name) => text_of_file(alloc, asked, name, line, outlook),
+        Source::Made(_) => Vec::from_slice(alloc, line_text(line)),
+    }
+}
+
+// What is said of a call with words that were read.
+fn text_of_call<F: Outlook>(
+    alloc: Global,
+    asked: &Words,
+    line: &[u8],
+    outlook: &F,
+) -> Result<Vec<u8>, AllocError>
+    ensures { IfOk result (λ text. Says (F.files outlook.now) (plain_words asked.now) line.now text.items) }
+{
+    if begins(line, b"read fault") {
+        text_of_faults(alloc, asked, line, outlook)
+    } else {
+        text_of_line(alloc, asked, line, outlook)
+    }
+}
+
+/// What explains the line that the command reported with these words. Files are read again.
+pub(crate) fn explain<F: Outlook>(
+    alloc: Global,
+    words: &[String],
+    line: &[u8],
+    outlook: &F,
+) -> Result<Vec<u8>, AllocError>
+    ensures { IfOk result (λ text. IsExplanation (F.files outlook.now) (map string_bytes words.now) line.now text.items) }
+{
+    match read_words(alloc, words) {
+        Ok(asked) => text_of_call(alloc, &asked, line, outlook),
+        Err(WordsRefusal::Usage) => text_of_words(alloc, words),
+        Err(WordsRefusal::NoMemory) => Err(AllocError),
+    }
+}

@@ -1,0 +1,469 @@
+//! Reports with what explains them, over files in memory: a row for each line that is reported.
+use crate::call::{OneFile, call, plain_call};
+use lucid_top::Status;
+use std::process::Abort;
+use std::test::Fail;
+
+// What the command is asked, over the file `p` with the source, its status, and all that it reports.
+#[derive(Clone, Copy)]
+struct Row {
+    words: &'static str,
+    source: &'static str,
+    status: Status,
+    report: &'static str,
+}
+
+// Bytes that are no tokens.
+static BYTES: [Row; 10] = [
+    Row {
+        words: "p",
+        source: "1 / 2",
+        status: Status::Refused,
+        report: "bad byte at 2\np:1:3:\n1 / 2\n  ^\nDivision is `div`, and what it leaves over is `mod`. A comment begins with `//`.\n",
+    },
+    Row {
+        words: "p",
+        source: "1.5",
+        status: Status::Refused,
+        report: "bad byte at 1\np:1:2:\n1.5\n ^\nThere are no real numbers: write integers.\n",
+    },
+    Row {
+        words: "p",
+        source: "x where\r\n\tx = \"true\"; end",
+        status: Status::Refused,
+        report: "bad byte at 14\np:2:6:\n x = \"true\"; end\n     ^\nBetween two \" stands one word: a letter, then letters and digits. The truths `true` and `false` stand without \", and other texts between a backquote and '.\n",
+    },
+    Row {
+        words: "p",
+        source: "[% 1, 2 %]",
+        status: Status::Refused,
+        report: "open text at 0\np:1:1:\n[% 1, 2 %]\n^\nA list of constants is written `[% 1 2 3 %]`, with blanks between its items and no commas.\n",
+    },
+    Row {
+        words: "p",
+        source: "1 + `two",
+        status: Status::Refused,
+        report: "open text at 4\np:1:5:\n1 + `two\n    ^\nA string begins with a backquote and ends with ' in one line, as `two words'. It has printable ASCII alone, without these two.\n",
+    },
+    Row {
+        words: "p",
+        source: "170141183460469231731687303715884105728",
+        status: Status::Refused,
+        report: "number too big at 0\np:1:1:\n170141183460469231731687303715884105728\n^\nThe largest integer is 170141183460469231731687303715884105727, that is 2^127 - 1.\n",
+    },
+    Row {
+        words: "p",
+        source: "[1, 2]",
+        status: Status::Refused,
+        report: "bad byte at 0\np:1:1:\n[1, 2]\n^\nA list of constants is written `[% 1 2 3 %]`, with blanks between its items and no commas.\n",
+    },
+    Row {
+        words: "p",
+        source: "a != b",
+        status: Status::Refused,
+        report: "bad byte at 2\np:1:3:\na != b\n  ^\nWrite `ne` for what differs, and `not` before a truth.\n",
+    },
+    Row {
+        words: "p",
+        source: "x where x = 1; } end",
+        status: Status::Refused,
+        report: "bad byte at 15\np:1:16:\nx where x = 1; } end\n               ^\nParentheses group, and definitions stand between `where` and `end`.\n",
+    },
+    Row {
+        words: "p",
+        source: "1 # one\n",
+        status: Status::Refused,
+        report: "bad byte at 2\np:1:3:\n1 # one\n  ^\nA comment begins with `//`.\n",
+    },
+];
+
+// Tokens that spell no program.
+static TOKENS: [Row; 7] = [
+    Row {
+        words: "p",
+        source: "x where\n  x = 1 end\n",
+        status: Status::Refused,
+        report: "syntax at 16\np:2:9:\n  x = 1 end\n        ^\nHere stands `end`.\nWhat may stand here: `;`, `where`, an operator.\nEach definition ends with `;`, the last one before `end` too.\n",
+    },
+    Row {
+        words: "p",
+        source: "if x = 1 then 2 else 3 fi",
+        status: Status::Refused,
+        report: "syntax at 5\np:1:6:\nif x = 1 then 2 else 3 fi\n     ^\nHere stands `=`.\nWhat may stand here: `then`, `where`, an operator, `(`.\n`=` stands in definitions alone: to compare, write `eq`.\n",
+    },
+    Row {
+        words: "p",
+        source: "if 1 < 2 then 3 else 4\n;",
+        status: Status::Refused,
+        report: "syntax at 23\np:2:1:\n;\n^\nHere stands `;`.\nWhat may stand here: `fi`, `where`, an operator.\nAn `if` ends with `fi`.\n",
+    },
+    Row {
+        words: "p",
+        source: "if 1 < 2 then 3",
+        status: Status::Refused,
+        report: "syntax at 15\np:1:16:\nif 1 < 2 then 3\n               ^\nHere the source ends.\nWhat may stand here: `else`, `where`, an operator.\nAn `if` has an `else`, and ends with `fi`.\n",
+    },
+    Row {
+        words: "p",
+        source: "y where first = 1; end",
+        status: Status::Refused,
+        report: "syntax at 8\np:1:9:\ny where first = 1; end\n        ^\nHere stands `first`.\nWhat may stand here: `end`, a name.\nThis word is reserved: no name is spelled so.\n",
+    },
+    Row {
+        words: "p",
+        source: "x where x = 1;",
+        status: Status::Refused,
+        report: "syntax at 14\np:1:15:\nx where x = 1;\n              ^\nHere the source ends.\nWhat may stand here: `end`, a name.\nBehind `where` come the definitions, and then `end`.\n",
+    },
+    Row {
+        words: "p",
+        source: "",
+        status: Status::Refused,
+        report: "syntax at 0\np:1:1:\n\n^\nHere the source ends.\nWhat may stand here: a name, a number, `(`, `if`.\n",
+    },
+];
+
+// Names that are at fault.
+static NAMES: [Row; 8] = [
+    Row {
+        words: "p",
+        source: "x where x = 1; x = 2; end",
+        status: Status::Refused,
+        report: "defined twice at 15\np:1:16:\nx where x = 1; x = 2; end\n               ^\nA block defines a name once. Before this place stands another definition of it:\nx is defined in line 1, column 9.\n",
+    },
+    Row {
+        words: "p",
+        source: "f(1, 2) where f(x, x) = x; end",
+        status: Status::Refused,
+        report: "defined twice at 19\np:1:20:\nf(1, 2) where f(x, x) = x; end\n                   ^\nA list of parameters has each name once.\nf(x, x) is defined in line 1, column 15.\n",
+    },
+    Row {
+        words: "p",
+        source: "g(4) where f(x) = x; y = 1; end",
+        status: Status::Refused,
+        report: "no such function at 0\np:1:1:\ng(4) where f(x) = x; y = 1; end\n^\nNo function of this name is in scope here: define it, or mend its spelling.\nf(x) is defined in line 1, column 12.\n",
+    },
+    Row {
+        words: "p",
+        source: "g(1) + (y where f(x) = x; y = 2; end)",
+        status: Status::Refused,
+        report: "no such function at 0\np:1:1:\ng(1) + (y where f(x) = x; y = 2; end)\n^\nNo function of this name is in scope here: define it, or mend its spelling.\n",
+    },
+    Row {
+        words: "p",
+        source: "x where x is current g(1); g(a) = a; end",
+        status: Status::Refused,
+        report: "no such function at 21\np:1:22:\nx where x is current g(1); g(a) = a; end\n                     ^\nNo function of this name is in scope here: define it, or mend its spelling.\n",
+    },
+    Row {
+        words: "p",
+        source: "x(4) where x = 2; end",
+        status: Status::Refused,
+        report: "not a function at 0\np:1:1:\nx(4) where x = 2; end\n^\nWhat this name stands for here has no parameters: write it without arguments.\nx is defined in line 1, column 12.\n",
+    },
+    Row {
+        words: "p",
+        source: "f where f(x) = x; end",
+        status: Status::Refused,
+        report: "function without arguments at 0\np:1:1:\nf where f(x) = x; end\n^\nThis is a function: its arguments stand behind it in parentheses.\nf(x) is defined in line 1, column 9.\n",
+    },
+    Row {
+        words: "p",
+        source: "f(1, 2) where\n  f(x) = x; end",
+        status: Status::Refused,
+        report: "wrong number of arguments at 0: 1 wanted, 2 given\np:1:1:\nf(1, 2) where\n^\nA call has as many arguments as the function has parameters.\nf(x) is defined in line 2, column 3.\n",
+    },
+];
+
+// Inputs and columns.
+static INPUTS: [Row; 6] = [
+    Row {
+        words: "p",
+        source: "a + b",
+        status: Status::Refused,
+        report: "no input for two names\nA name that nothing defines is an input. One of them may be read from the standard input; give each other a file: a=FILE b=FILE\na stands first in line 1, column 1.\nb stands first in line 1, column 5.\n",
+    },
+    Row {
+        words: "p",
+        source: "summ + b where sum = 1; end",
+        status: Status::Refused,
+        report: "no input for two names\nA name that nothing defines is an input. One of them may be read from the standard input; give each other a file: summ=FILE b=FILE\nsumm stands first in line 1, column 1.\nIt may be misspelt: sum is defined in line 1, column 16.\nb stands first in line 1, column 8.\n",
+    },
+    Row {
+        words: "p b=p",
+        source: "a",
+        status: Status::Usage,
+        report: "no input is named b\nA word gives a file for this name, but in the program it isn't free: leave the word out, or mend the name.\n",
+    },
+    Row {
+        words: "p a=p a=p",
+        source: "a",
+        status: Status::Usage,
+        report: "a is given twice\nTwo words give a file for this name: leave one of them out.\n",
+    },
+    Row {
+        words: "--columns x,f p",
+        source: "x where x = 1; f(y) = y; z = 2; end",
+        status: Status::Refused,
+        report: "no column f\nA column is a name that the program's outermost block defines without parameters.\nx is defined in line 1, column 9.\nz is defined in line 1, column 26.\n",
+    },
+    Row {
+        words: "--columns x p",
+        source: "1",
+        status: Status::Refused,
+        report: "no column x\nA column is a name that the program's outermost block defines without parameters.\n",
+    },
+];
+
+// Words that are refused.
+static WORDS: [Row; 4] = [
+    Row {
+        words: "p --print --cycles",
+        source: "1",
+        status: Status::Usage,
+        report: "usage: lucid [--count N] [--depth N] [--policy keep|none|age|last] [--age K] [--room N] [--stats] [--print] [--columns LIST] [--cycles] [--why T] [--check FILE] [--flat] [--from-flat] PROGRAM [NAME=FILE]... | lucid --make N\nThis word doesn't go with those before it: --cycles\nThe line above has the options, each of which is given once at most; of --print, --columns, --cycles, --why, --check, --flat and --from-flat one alone is given.\n",
+    },
+    Row {
+        words: "--count 0 p",
+        source: "1",
+        status: Status::Usage,
+        report: "usage: lucid [--count N] [--depth N] [--policy keep|none|age|last] [--age K] [--room N] [--stats] [--print] [--columns LIST] [--cycles] [--why T] [--check FILE] [--flat] [--from-flat] PROGRAM [NAME=FILE]... | lucid --make N\nThis word doesn't go with those before it: 0\nWhat an option wants stands behind it, in the range that the manual gives. Then comes the program's file, and then NAME=FILE for each input that has a file.\n",
+    },
+    Row {
+        words: "p p a=f",
+        source: "1",
+        status: Status::Usage,
+        report: "usage: lucid [--count N] [--depth N] [--policy keep|none|age|last] [--age K] [--room N] [--stats] [--print] [--columns LIST] [--cycles] [--why T] [--check FILE] [--flat] [--from-flat] PROGRAM [NAME=FILE]... | lucid --make N\nThis word doesn't go with those before it: p\nWhat an option wants stands behind it, in the range that the manual gives. Then comes the program's file, and then NAME=FILE for each input that has a file.\n",
+    },
+    Row {
+        words: "p a=f --depth",
+        source: "1",
+        status: Status::Usage,
+        report: "usage: lucid [--count N] [--depth N] [--policy keep|none|age|last] [--age K] [--room N] [--stats] [--print] [--columns LIST] [--cycles] [--why T] [--check FILE] [--flat] [--from-flat] PROGRAM [NAME=FILE]... | lucid --make N\nBehind these words something lacks: the program's file, or what an option wants.\n",
+    },
+];
+
+// Runs that don't end well.
+static RUNS: [Row; 5] = [
+    Row {
+        words: "p a=none",
+        source: "a",
+        status: Status::ReadFault,
+        report: "read fault\nThis file can't be opened or read: none\n",
+    },
+    Row {
+        words: "--depth 9 p",
+        source: "x where x = x; end",
+        status: Status::TooDeep,
+        report: "too deep at time 0\n`--cycles` says: cycle x at 8: sum 0\nThese names refer to each other without delay: no depth may be enough. An `fby` on the way gives one.\nWith --stats the report tells whether the store was cleared.\n",
+    },
+    Row {
+        words: "--depth 9 --stats p",
+        source: "x where x = x; end",
+        status: Status::TooDeep,
+        report: "too deep at time 0 lost 0 cleared 0\n`--cycles` says: cycle x at 8: sum 0\nThese names refer to each other without delay: no depth may be enough. An `fby` on the way gives one.\nThe store wasn't cleared.\n",
+    },
+    Row {
+        words: "--depth 1 p",
+        source: "x where x = y + 1; y = 0 fby x; end",
+        status: Status::TooDeep,
+        report: "too deep at time 0\n`--cycles` says: depth 2 * t + 3\nSo --depth 3 is enough for time 0.\nWith --stats the report tells whether the store was cleared.\n",
+    },
+    Row {
+        words: "--depth 3 p",
+        source: "x attime 9 where x = 0 fby x + 1; end",
+        status: Status::TooDeep,
+        report: "too deep at time 0\n`--cycles` says: not judged at 2\nSo no depth is told for this program. A greater --depth may be enough, up to 1000000.\nWith --stats the report tells whether the store was cleared.\n",
+    },
+];
+
+// What else is reported, or isn't.
+static OTHERS: [Row; 10] = [
+    Row {
+        words: "--cycles p",
+        source: "1 asa false",
+        status: Status::Refused,
+        report: "not judged at 2\np:1:3:\n1 asa false\n  ^\n`--cycles` judges constants, data operators, `if`, `and`, `or`, `first`, `next`, `fby`, inputs, plain names and blocks of plain definitions: at the place stands something else.\n",
+    },
+    Row {
+        words: "--from-flat p",
+        source: "x where x = 1; end",
+        status: Status::Refused,
+        report: "line 1 is no flat line\nNo table's text goes on with this line. What `lucid --flat` writes of a program has the right form.\n",
+    },
+    Row {
+        words: "--from-flat p",
+        source: "lucid flat 1\nscope 1 called\nconst 1\nnode 0 const 0\nroot 0\n",
+        status: Status::Refused,
+        report: "flat scope 1 is wrong\nThe row of this number, from 0 among those of its kind, doesn't fit the table. What `lucid --flat` writes of a program fits.\n",
+    },
+    Row {
+        words: "--from-flat p",
+        source: "lucid flat 1\nconst 1\nnode 0 refer 0 0\nroot 0\n",
+        status: Status::Refused,
+        report: "flat node 0 is wrong\nThe row of this number, from 0 among those of its kind, doesn't fit the table. What `lucid --flat` writes of a program fits.\n",
+    },
+    Row {
+        words: "--from-flat p",
+        source: "lucid flat 1\nconst 1\nnode 0 const 0\nplain 0 1\nroot 0\n",
+        status: Status::Refused,
+        report: "flat name 0 is wrong\nThe row of this number, from 0 among those of its kind, doesn't fit the table. What `lucid --flat` writes of a program fits.\n",
+    },
+    Row {
+        words: "--from-flat p",
+        source: "lucid flat 1\nconst 1\nnode 0 const 0\nplain 0 0\nplace 0 0\nroot 0\n",
+        status: Status::Refused,
+        report: "flat place 0 is wrong\nThe row of this number, from 0 among those of its kind, doesn't fit the table. What `lucid --flat` writes of a program fits.\n",
+    },
+    Row {
+        words: "--from-flat p",
+        source: "lucid flat 1\nconst 1\nnode 0 const 0\nroot 1\n",
+        status: Status::Refused,
+        report: "flat root is wrong\nThe root, or a row of an input, doesn't fit the table. What `lucid --flat` writes of a program fits.\n",
+    },
+    Row {
+        words: "--why 0 p",
+        source: "1",
+        status: Status::Refused,
+        report: "not built yet\nThis option isn't built yet.\n",
+    },
+    Row {
+        words: "p",
+        source: "eod",
+        status: Status::Done,
+        report: "",
+    },
+    Row {
+        words: "--stats p",
+        source: "eod",
+        status: Status::Done,
+        report: "lines 0 held 0 lost 0 cleared 0\n",
+    },
+];
+
+// The rows are right.
+fn each_passes<R: Abort + AllocGlobal>(rt: &R, rows: &[Row]) -> Result<(), Fail> {
+    for row in rows {
+        let answer = plain_call(rt.alloc(), row.words, row.source.as_bytes())?;
+        assert_eq!(rt;
+            answer.status,
+            row.status,
+            "{0}: {1}",
+            row.words, row.source
+        );
+        assert_eq!(rt;
+            answer.report.as_str(),
+            row.report,
+            "{0}: {1}",
+            row.words,
+            row.source
+        );
+    }
+    Ok(())
+}
+
+#[test]
+fn bytes_are_explained(rt: HostRuntime) -> Result<(), Fail> {
+    each_passes(&rt, &BYTES)
+}
+
+#[test]
+fn tokens_are_explained(rt: HostRuntime) -> Result<(), Fail> {
+    each_passes(&rt, &TOKENS)
+}
+
+#[test]
+fn names_are_explained(rt: HostRuntime) -> Result<(), Fail> {
+    each_passes(&rt, &NAMES)
+}
+
+#[test]
+fn inputs_are_explained(rt: HostRuntime) -> Result<(), Fail> {
+    each_passes(&rt, &INPUTS)
+}
+
+#[test]
+fn words_are_explained(rt: HostRuntime) -> Result<(), Fail> {
+    each_passes(&rt, &WORDS)
+}
+
+#[test]
+fn runs_are_explained(rt: HostRuntime) -> Result<(), Fail> {
+    each_passes(&rt, &RUNS)
+}
+
+#[test]
+fn others_are_explained(rt: HostRuntime) -> Result<(), Fail> {
+    each_passes(&rt, &OTHERS)
+}
+
+#[test]
+fn what_does_not_come_again_is_said(rt: HostRuntime) -> Result<(), Fail> {
+    let outlook = OneFile {
+        source: None,
+        terminal: false,
+    };
+    let answer = call(rt.alloc(), "p", b"1 / 2", &[], &outlook)?;
+    assert_eq!(rt;
+        answer.report.as_str(),
+        "bad byte at 2\nThe source is no regular file, so it can't be read again: its place isn't shown.\n"
+    );
+    Ok(())
+}
+
+#[test]
+fn what_reads_otherwise_now_is_not_explained(rt: HostRuntime) -> Result<(), Fail> {
+    let outlook = OneFile {
+        source: Some(b"1 +"),
+        terminal: false,
+    };
+    let answer = call(rt.alloc(), "p", b"1 / 2", &[], &outlook)?;
+    assert_eq!(rt; answer.report.as_str(), "bad byte at 2\n");
+    Ok(())
+}
+
+#[test]
+fn a_write_fault_is_explained(rt: HostRuntime) -> Result<(), Fail> {
+    let outlook = OneFile {
+        source: Some(b"1"),
+        terminal: false,
+    };
+    let answer = call(rt.alloc(), "p", b"1", &[0], &outlook)?;
+    assert_eq!(rt; answer.status, Status::WriteFault);
+    assert_eq!(rt;
+        answer.report.as_str(),
+        "write fault\nThe standard output can't be written: the disk may be full, or the pipe closed.\n"
+    );
+    Ok(())
+}
+
+#[test]
+fn a_terminal_is_told_of(rt: HostRuntime) -> Result<(), Fail> {
+    let table = [
+        (
+            "p",
+            "a",
+            "The input a is read from here, a value on each line.\nread fault\n",
+        ),
+        (
+            "p a=p",
+            "a + b",
+            "The input b is read from here, a value on each line.\nread fault\n",
+        ),
+        ("p", "eod", ""),
+        ("--print p", "a", ""),
+    ];
+    for (words, source, report) in table {
+        let outlook = OneFile {
+            source: Some(source.as_bytes()),
+            terminal: true,
+        };
+        let answer = call(rt.alloc(), words, source.as_bytes(), &[], &outlook)?;
+        assert!(rt; answer.report.starts_with(report), "{words}: {source}");
+        assert!(rt;
+            !report.is_empty() || answer.report.is_empty(),
+            "{words}: {source}"
+        );
+    }
+    Ok(())
+}

@@ -1,0 +1,84 @@
+"""The command that explains its reports, over real files and pipes."""
+import os
+import pty
+
+from harness import case, check, lines, shown
+
+UP = "x where x = 0 fby x + 1; end"
+STANDING = "What may stand here: `;`, `where`, an operator.\nEach definition ends with `;`, the last one before `end` too.\n"
+
+
+@case
+def output_and_status_are_those_of_the_command(run):
+    run.source(UP)
+    run.explaining().lucid("p", "--count=3").must(lines(0, 1, 2))
+    run.source("x where x = x; end", "deep")
+    run.lucid("deep").must("", 5, "too deep at time 0\n")
+    ended = run.explaining().lucid("deep").must("", 5)
+    check(ended.report.startswith(b"too deep at time 0\n`--cycles` says: cycle x at 8: sum 0\n"), shown(ended.report))
+
+
+@case
+def a_source_is_explained(run):
+    run.source("x where\n  x = 1 end\n")
+    text = "syntax at 16\np:2:9:\n  x = 1 end\n        ^\nHere stands `end`.\n" + STANDING
+    run.explaining().lucid("p").must("", 1, text)
+
+
+@case
+def a_pipe_is_read_once(run):
+    os.mkfifo(run.path("pipe"))
+    ended = run.explaining().shell("printf '1 / 2' > pipe & exec \"$LUCID\" pipe")
+    said = "The source is no regular file, so it can't be read again: its place isn't shown.\n"
+    ended.must("", 1, "bad byte at 2\n" + said)
+
+
+@case
+def a_column_that_is_missing(run):
+    run.source("x where x = 1; end")
+    said = "A column is a name that the program's outermost block defines without parameters.\nx is defined in line 1, column 9.\n"
+    run.explaining().lucid("p", "--columns=y").must("", 1, "no column y\n" + said)
+
+
+@case
+def a_terminal_is_told_of(run):
+    run.source("a + 1")
+    keyboard, terminal = pty.openpty()
+    explaining = run.explaining()
+    child = explaining.start(["p"], stdin=terminal)
+    os.close(terminal)
+    said = child.stderr.readline()
+    os.write(keyboard, b"7\n\x04")
+    ended = explaining.ended(child).must("8\n", 0, "")
+    os.close(keyboard)
+    check(said == b"The input a is read from here, a value on each line.\n", shown(said) + ended.words)
+
+
+@case
+def files_that_cannot_be_read_are_named(run):
+    run.explaining().lucid("none").must("", 3, "read fault\nThis file can't be opened or read: none\n")
+    run.source("a")
+    run.explaining().lucid("p", "a=none").must("", 3, "read fault\nThis file can't be opened or read: none\n")
+
+
+@case
+def a_line_of_a_mebibyte(run):
+    run.source(" " * 1048575 + "/")
+    text = "bad byte at 1048575\np:1:1048576:\n" + " " * 80 + "/\n" + " " * 80 + "^\n"
+    ended = run.explaining().lucid("p").must("", 1)
+    check(ended.report.startswith(text.encode()), shown(ended.report))
+    check(len(ended.report) < 1000, f"{len(ended.report)} bytes are reported")
+
+
+@case
+def bytes_that_are_no_text(run):
+    run.source(b"\xff\x00\x1b[31m")
+    text = "bad byte at 0\np:1:1:\n???[31m\n^\nOnly in comments may other bytes stand than printable ASCII, tabs and line ends.\n"
+    run.explaining().lucid("p").must("", 1, text)
+
+
+@case
+def a_place_at_the_very_end(run):
+    run.source("1 +\n")
+    text = "syntax at 4\np:2:1:\n\n^\nHere the source ends.\nWhat may stand here: a name, a number, `(`, `if`.\n"
+    run.explaining().lucid("p").must("", 1, text)
