@@ -36,4 +36,3 @@ among_by P x y o false e h k = k e
 pub found_among : {A : Type 0} (P : A → Type 0) (p : A → Bool) (xs : List A) (y : A) → AllByRecursion P xs → find p xs ≡ Some y → P y
 found_among P p [] y h e = absurd (cc)
 found_among P p (x ∷ xs) y h e = among_by P x y (find p xs) (p x) e h.0 (found_among P p xs y h.1)
-

@@ -1,5 +1,5 @@
 ghost use Rattle.std.specs.Prelude.{◌≡◌, ℕ, ◌<◌, IfSome, IsTrue, Some};
-ghost use Rattle.lucid_tasks.specs.Rows.{row_at, state_of, is_ready, IsRow, IsIdleRow, HaveThree, Idle};
+ghost use Rattle.lucid_tasks.specs.Rows.{row_at, state_of, is_ready, IsRow, HaveThree, Idle};
 
 use lucid_tags::{Tag, Tags};
 use lucid_tasks::*;
@@ -44,17 +44,6 @@ fn newest_idle(tasks: &Tasks, index: u32) -> Option<usize>
     match tasks.got(slot, index) {
         Some(_) => None,
         None => Some(slot),
-    }
-}
-
-// The same, where each part of the row is idle.
-fn newest_untouched(tasks: &Tasks) -> Option<usize>
-    ensures { IfSome result (IsIdleRow tasks.now) }
-{
-    let slot = newest(tasks)?;
-    match (tasks.got(slot, 0), tasks.got(slot, 1), tasks.got(slot, 2)) {
-        (None, None, None) => Some(slot),
-        _ => None,
     }
 }
 
