@@ -2,7 +2,7 @@
 import os
 import pty
 
-from harness import case, check, lines, shown
+from harness import Skipped, case, check, lines, shown
 
 UP = "x where x = 0 fby x + 1; end"
 STANDING = "What may stand here: `;`, `where`, an operator.\nEach definition ends with `;`, the last one before `end` too.\n"
@@ -82,3 +82,32 @@ def a_place_at_the_very_end(run):
     run.source("1 +\n")
     text = "syntax at 4\np:2:1:\n\n^\nHere the source ends.\nWhat may stand here: a name, a number, `(`, `if`.\n"
     run.explaining().lucid("p").must("", 1, text)
+
+
+@case
+def words_that_are_no_text(run):
+    ended = run.explaining().lucid(b"\xff").must("", 2)
+    check(ended.report.startswith(b"usage: lucid ") and ended.report.count(b"\n") == 1, shown(ended.report))
+
+
+@case
+def a_word_that_is_wrong_is_told(run):
+    ended = run.explaining().lucid("--policy", "kept", "p").must("", 2)
+    check(b"\nThis word doesn't go with those before it: kept\nWhat an option wants stands behind it" in ended.report, shown(ended.report))
+
+
+@case
+def a_full_disk_is_told_of(run):
+    run.source("1")
+    if not os.path.exists("/dev/full"):
+        raise Skipped("/dev/full")
+    with open("/dev/full", "wb") as full:
+        ended = run.explaining().lucid("p", stdout=full)
+    said = "write fault\nThe standard output can't be written: the disk may be full, or the pipe closed.\n"
+    check((ended.status, ended.report) == (4, said.encode()), f"{ended.status}, {shown(ended.report)}")
+
+
+@case
+def a_directory_is_no_program(run):
+    os.mkdir(run.path("d"))
+    run.explaining().lucid("d").must("", 3)
