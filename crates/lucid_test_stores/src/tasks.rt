@@ -128,7 +128,7 @@ fn a_row_with_a_key(rt: HostRuntime) {
         time: 6,
     };
     assert!(rt; tasks.ask(None, task_at(tag, 6), Some(key)).is_ok());
-    let slot = newest_untouched(&tasks).expect(&rt, "a root");
+    let slot = newest(&tasks).expect(&rt, "a root");
     assert_eq!(rt; tasks.task(slot), task_at(tag, 6));
     assert_eq!(rt; tasks.cursor(slot), Cursor { time: 0, count: 0 });
     assert_eq!(rt; tasks.key(slot), Some(key));
