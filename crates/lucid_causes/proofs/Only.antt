@@ -1,5 +1,5 @@
 -- The inputs gone by so far: which of them is without a file.
-use Rattle.std.proofs.Common.{◌≡◌, ℕ, ◌+◌, ◌≤◌, ◌<◌, ◌⊎◌, inl, inr, false, List, [], ◌∷◌, ◌++◌, length, take, get_or, sym, subst, arith}
+use Rattle.std.proofs.Common.{◌≡◌, ℕ, ◌+◌, ◌≤◌, ◌<◌, ◌⊎◌, inl, inr, false, List, [], ◌∷◌, ◌++◌, length, take, get_or, sym, subst}
 use Rattle.std.specs.Prelude.{Option, Some, None, IfSome, Contains}
 use Rattle.std.specs.Borrow.{Bor}
 use Rattle.std.specs.Option.{option_copied, is_some}
@@ -11,9 +11,6 @@ use Rattle.lucid_causes.specs.Prompts.{IsOnly}
 pub record Passed (inputs given : List (List ℕ)) (i : ℕ) (only : Option (List ℕ)) : Type 0 where
   pub found : IfSome only (λ o. Contains inputs o × (Contains given o → ⊥))
   pub rest : (n : List ℕ) → Contains (take i inputs) n → Contains given n ⊎ (only ≡ Some n)
-
-pub passed_none : (inputs given : List (List ℕ)) → Passed inputs given 0 None
-passed_none inputs given = record { found = tt; rest = λ n h. absurd (omega (arith, h.1)) }
 
 -- one more of them
 more : (inputs : List (List ℕ)) (i : ℕ) (x n : List ℕ) → i < length inputs → x ≡ get_or inputs i x → Contains (take (i + 1) inputs) n → Contains (take i inputs) n ⊎ (x ≡ n)

@@ -1,28 +1,16 @@
 -- What the judgments through one read of the inputs.
-use Rattle.std.proofs.Common.{◌≡◌, ◌≢◌, ℕ, ◌+◌, ◌<◌, ◌≤◌, max, List, length, Option, Some, None, ◌⊎◌, inl, inr, refl, sym, ap, ◌∙◌, subst, arith}
-use Rattle.std.specs.Prelude.{Bool, IfSome, Result, slice_get, option_map}
-use Rattle.std.proofs.lemmas.Bool.{cases_eq, cases_lt}
-use Rattle.std.proofs.lemmas.Option.{same_Some, slice_get-get_or, unwrap_or-slice_get}
+use Rattle.lucid_check.proofs.Common.{◌≡◌, ℕ, ◌+◌, ◌<◌, ◌≤◌, List, length, Option, Some, None, ◌⊎◌, inl, inr, refl, sym, ap, ◌∙◌, subst, arith, IfSome, Result, slice_get, option_map, cases_eq, same_Some, slice_get-get_or, AllDiffer, World, Inputs, streams, stream_at, Extends, Node, Input, Table, row_at, elements_read, AreAskable, places_of, extends_then, streams_read, read_more, Context, PlainJudgment, CheckFault, LiesWithin, TellsElement, DrawsFor, ReadsFor, nothing_read, element_read, ◌≢◌, max, cases_lt, unwrap_or-slice_get}
+use Rattle.std.specs.Prelude.{Bool}
 use Rattle.lucid_value.specs.Lines.{end_of_line, IsOverlong}
-use Rattle.lucid_tree.specs.Members.{AllDiffer, In}
-use Rattle.lucid_ports.specs.World.{World, Contents}
-use Rattle.lucid_inputs.specs.declared.on_demand.Inputs.{Inputs}
-use Rattle.lucid_inputs.specs.Inputs.{ReadsStream, streams, stream_at, most_bytes}
+use Rattle.lucid_tree.specs.Members.{In}
+use Rattle.lucid_ports.specs.World.{Contents}
+use Rattle.lucid_inputs.specs.Inputs.{ReadsStream, most_bytes}
 use Rattle.lucid_inputs.specs.Streams.{Stream, all_bytes, fresh_stream}
-use Rattle.lucid_equations.specs.MoreElements.{Extends}
-use Rattle.lucid_equations.specs.declared.rows.Node.{Node}
-use Rattle.lucid_equations.specs.declared.rows.Node.TheVariants.{Input}
-use Rattle.lucid_equations.specs.declared.table.Table.{Table}
-use Rattle.lucid_equations.specs.Rows.{row_at}
-use Rattle.lucid_facts.specs.Elements.{elements_read}
-use Rattle.lucid_facts.specs.Engine.{AreAskable, ReadsOnly, places_of}
-use Rattle.lucid_facts.proofs.History.{extends_then, reads_only_then}
+use Rattle.lucid_facts.specs.Engine.{ReadsOnly}
+use Rattle.lucid_facts.proofs.History.{reads_only_then}
 use Rattle.lucid_facts.proofs.Places.{place_in}
-use Rattle.lucid_facts.proofs.Reading.{StreamsRead, streams_read, asked_again, read_places, read_more}
-use Rattle.lucid_tags.specs.Contexts.{Context}
-use Rattle.lucid_why.specs.Certificates.{PlainJudgment}
-use Rattle.lucid_check.specs.declared.fault.CheckFault.{CheckFault}
-use Rattle.lucid_check.specs.Reads.{LiesPast, LiesWithin, TellsElement, DrawsFor, ReadsFor, nothing_read, element_read}
+use Rattle.lucid_facts.proofs.Reading.{StreamsRead, asked_again, read_places}
+use Rattle.lucid_check.specs.Reads.{LiesPast}
 
 -- the stream of a number that is there
 pub stream_there : (inputs : Inputs) (k : ℕ) → k < length (streams inputs) → slice_get (streams inputs) k ≡ Some (stream_at inputs k)

@@ -1,24 +1,10 @@
 -- A plan that is fed use by use.
-use Rattle.std.proofs.Common.{◌≡◌, ℕ, ◌+◌, ◌^◌, ◌<◌, ◌≤◌, List, [], ◌∷◌, ◌++◌, map, take, drop, length, Option, Some, None, get_or, refl, sym, ap, ◌∙◌, subst, arith, add-one, length-drop}
-use Rattle.std.specs.List.{AllByRecursion}
-use Rattle.std.proofs.Math.Seq.{take-suc, drop-cons, take-length, drop-length}
-use Rattle.std.proofs.lemmas.List.{map-append}
-use Rattle.lucid_value.specs.Plain.{PlainValue}
-use Rattle.lucid_tree.specs.Tree.{Head}
-use Rattle.lucid_tree.specs.Rows.{plan}
-use Rattle.lucid_tags.specs.Contexts.{Context}
-use Rattle.lucid_equations.specs.Rows.{row_at}
-use Rattle.lucid_equations.specs.declared.rows.Node.{Node}
-use Rattle.lucid_equations.specs.declared.table.Table.{Table}
-use Rattle.lucid_why.specs.Certificates.{PlainJudgment}
-use Rattle.lucid_follow.specs.Fed.{Uses, fed}
-use Rattle.lucid_follow.specs.Follows.{used, of_part}
-use Rattle.lucid_follow.specs.RestPlans.{HasHead, by_then, look_plan, least_of, rest_plan, IsAfter, IsSmall, CanGoOn, MayGoOn, Stands, AreFedAlike}
-use Rattle.lucid_check.specs.Uses.{told, gives_only, plain_look, FedTo, FeedsTo}
+use Rattle.lucid_check.proofs.Common.{◌≡◌, ℕ, ◌+◌, ◌<◌, ◌≤◌, List, [], ◌∷◌, map, length, Option, Some, None, get_or, refl, sym, ap, ◌∙◌, subst, arith, PlainValue, Head, plan, Context, row_at, Node, Table, PlainJudgment, Uses, fed, used, of_part, HasHead, told, Rest, ◌^◌, ◌++◌, take, drop, add-one, length-drop, AllByRecursion, take-suc, drop-cons, take-length, drop-length, map-append}
+use Rattle.lucid_follow.specs.RestPlans.{by_then, look_plan, least_of, rest_plan, IsAfter, IsSmall, CanGoOn, MayGoOn, Stands, AreFedAlike}
+use Rattle.lucid_check.specs.Uses.{gives_only, plain_look, FedTo, FeedsTo}
 use Rattle.lucid_follow.specs.declared.rest.Look.{Look}
 use Rattle.lucid_follow.specs.declared.rest.Then.{Then}
 use Rattle.lucid_follow.specs.declared.rest.Then.TheVariants as then
-use Rattle.lucid_follow.specs.declared.rest.Rest.{Rest}
 use Rattle.lucid_follow.specs.declared.rest.Rest.TheVariants as rest
 use Rattle.lucid_check.proofs.Using.{fed_on, fed_nowhere}
 

@@ -1,39 +1,17 @@
 -- Whether a judgment follows, by what was looked at.
-use Rattle.std.proofs.Common.{◌≡◌, ◌↔◌, ℕ, ◌+◌, ◌<◌, Bool, true, false, List, [], ◌∷◌, length, Option, Some, get_or, refl, sym, ap, ◌∙◌, ◌⊎◌, inl, inr, subst, arith, eq-eqb}
-use Rattle.std.specs.Prelude.{◌==◌, Result, Ok, Err, IfOk, IfErr, IsErrAnd, slice_get}
-use Rattle.std.proofs.lemmas.Bool.{eqb-true}
-use Rattle.std.proofs.lemmas.Option.{same_Some, slice_get-get_or}
-use Rattle.lucid_value.specs.Plain.{PlainValue}
-use Rattle.lucid_tree.specs.Tree.{Head}
-use Rattle.lucid_tree.specs.Rows.{plan}
-use Rattle.lucid_tree.specs.Levels.{Elements, element_of}
-use Rattle.lucid_tree.specs.Members.{AllDiffer}
-use Rattle.lucid_tags.specs.Contexts.{Context}
-use Rattle.lucid_tags.specs.Known.{context_of}
-use Rattle.lucid_tags.specs.declared.Tag.{Tag}
-use Rattle.lucid_ports.specs.World.{World}
-use Rattle.lucid_inputs.specs.declared.on_demand.Inputs.{Inputs}
-use Rattle.lucid_inputs.specs.Inputs.{streams, stream_at}
+use Rattle.lucid_check.proofs.Common.{◌≡◌, ◌↔◌, ℕ, ◌+◌, ◌<◌, true, false, List, [], ◌∷◌, length, Option, Some, get_or, refl, sym, ap, ◌∙◌, ◌⊎◌, inl, inr, subst, arith, ◌==◌, Result, Ok, Err, IfOk, IsErrAnd, slice_get, same_Some, slice_get-get_or, PlainValue, Head, plan, Elements, AllDiffer, Context, context_of, Tag, World, Inputs, streams, stream_at, table_of, row_at, Node, Input, Table, PlainJudgment, plain_judgment, JudgmentRow, fed, used, of_part, by_onward, FollowsIn, HasHead, row_onward, MayBe, judgments_of, contexts_in, IsSameCheck, TellsElement, ReadsFor, nothing_read, element_read, Check, CheckFault, NoMemory, eq-eqb, IfErr, eqb-true}
+use Rattle.std.proofs.Common.{Bool}
+use Rattle.lucid_tree.specs.Levels.{element_of}
 use Rattle.lucid_inputs.specs.Reading.{GivesElement}
-use Rattle.lucid_equations.specs.Programs.{table_of}
-use Rattle.lucid_equations.specs.Rows.{node_at, node_by, row_at}
-use Rattle.lucid_equations.specs.declared.rows.Node.{Node}
-use Rattle.lucid_equations.specs.declared.rows.Node.TheVariants.{Input, Freeze, Refer, Call}
-use Rattle.lucid_equations.specs.declared.table.Table.{Table}
+use Rattle.lucid_equations.specs.Rows.{node_at, node_by}
+use Rattle.lucid_equations.specs.declared.rows.Node.TheVariants.{Freeze, Refer, Call}
 use Rattle.lucid_facts.proofs.Places.{reads_its_element}
-use Rattle.lucid_why.specs.Certificates.{PlainJudgment, plain_judgment}
-use Rattle.lucid_why.specs.declared.rows.JudgmentRow.{JudgmentRow}
-use Rattle.lucid_follow.specs.Fed.{fed}
-use Rattle.lucid_follow.specs.Follows.{used, of_part, by_onward, given, HasForm, FollowsIn}
-use Rattle.lucid_follow.specs.RestPlans.{IsForm, HasHead}
-use Rattle.lucid_follow.specs.Checking.{PassesOn, row_onward}
+use Rattle.lucid_follow.specs.Follows.{given, HasForm}
+use Rattle.lucid_follow.specs.RestPlans.{IsForm}
+use Rattle.lucid_follow.specs.Checking.{PassesOn}
 use Rattle.lucid_follow.proofs.GivenBy.{form_gives, input_gives, passes_gives, follows_where, follows_not}
-use Rattle.lucid_check.specs.Checked.{MayBe}
-use Rattle.lucid_check.specs.Checks.{judgments_of, contexts_in, HasRow, IsSameCheck}
-use Rattle.lucid_check.specs.Reads.{TellsElement, TellsSame, ReadsElement, ReadsFor, nothing_read, element_read}
-use Rattle.lucid_check.specs.declared.check.Check.{Check}
-use Rattle.lucid_check.specs.declared.fault.CheckFault.{CheckFault}
-use Rattle.lucid_check.specs.declared.fault.CheckFault.TheVariants.{NoMemory}
+use Rattle.lucid_check.specs.Checks.{HasRow}
+use Rattle.lucid_check.specs.Reads.{TellsSame, ReadsElement}
 use Rattle.lucid_check.proofs.Drawing.{stream_there}
 use Rattle.lucid_check.proofs.Using.{item_at}
 

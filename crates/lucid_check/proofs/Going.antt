@@ -1,26 +1,10 @@
 -- The loop over judgments.
-use Rattle.std.proofs.Common.{◌≡◌, ◌↔◌, ℕ, ◌+◌, ◌<◌, Bool, true, false, List, [], ◌∷◌, length, Option, Some, refl, sym, ap, ◌∙◌, subst}
-use Rattle.std.specs.Prelude.{Result, Ok, Err, IfOk, IsErrAnd}
-use Rattle.lucid_tree.specs.Levels.{Elements}
-use Rattle.lucid_tags.specs.Contexts.{Context, root}
-use Rattle.lucid_ports.specs.World.{World}
-use Rattle.lucid_inputs.specs.declared.on_demand.Inputs.{Inputs}
-use Rattle.lucid_inputs.specs.Inputs.{streams}
+use Rattle.lucid_check.proofs.Common.{◌≡◌, ◌↔◌, ℕ, ◌+◌, ◌<◌, true, false, List, [], ◌∷◌, length, Option, Some, refl, sym, ap, ◌∙◌, subst, Result, Ok, Err, IfOk, IsErrAnd, Elements, Context, root, World, Inputs, streams, table_of, Table, AreAskable, PlainJudgment, Why, contexts, FollowsIn, IsOfRoot, MayBe, Checked, judgments_of, contexts_in, IsSound, IsSameCheck, ReadsFor, Check, CheckFault, Wrong}
+use Rattle.std.proofs.Common.{Bool}
 use Rattle.lucid_inputs.specs.Laws.{PlacesDiffer}
-use Rattle.lucid_equations.specs.Programs.{table_of}
-use Rattle.lucid_equations.specs.declared.table.Table.{Table}
-use Rattle.lucid_facts.specs.Engine.{AreAskable}
 use Rattle.lucid_facts.proofs.Reading.{inputs_apart}
-use Rattle.lucid_why.specs.Certificates.{PlainJudgment}
 use Rattle.lucid_why.specs.declared.rows.ContextRow.{ContextRow}
-use Rattle.lucid_why.specs.declared.rows.Why.{Why}
-use Rattle.lucid_follow.specs.Follows.{contexts, contexts_behind, FollowsIn, IsOfRoot}
-use Rattle.lucid_check.specs.Checked.{MayBe, Checked}
-use Rattle.lucid_check.specs.Checks.{judgments_of, contexts_in, IsSound, IsSameCheck}
-use Rattle.lucid_check.specs.Reads.{ReadsFor}
-use Rattle.lucid_check.specs.declared.check.Check.{Check}
-use Rattle.lucid_check.specs.declared.fault.CheckFault.{CheckFault}
-use Rattle.lucid_check.specs.declared.fault.CheckFault.TheVariants.{Wrong}
+use Rattle.lucid_follow.specs.Follows.{contexts_behind}
 use Rattle.lucid_check.proofs.Drawing.{nothing_yet}
 use Rattle.lucid_check.proofs.Judging.{FollowSoFar, LooksAt, none_so_far, one_follows, one_is_wrong, one_refused, all_right, not_the_root}
 

@@ -1,25 +1,10 @@
 -- A check judgment by judgment, and how it ends.
-use Rattle.std.proofs.Common.{◌≡◌, ℕ, ◌+◌, ◌<◌, ◌≤◌, Bool, true, false, length, inl, inr, refl, sym, ap, ◌∙◌, subst, arith}
-use Rattle.std.specs.Prelude.{Result, Ok, Err}
-use Rattle.std.proofs.lemmas.Bool.{cases_eq}
-use Rattle.lucid_tree.specs.Levels.{Elements}
-use Rattle.lucid_tree.specs.Members.{AllDiffer}
-use Rattle.lucid_ports.specs.World.{World}
+use Rattle.lucid_check.proofs.Common.{◌≡◌, ℕ, ◌+◌, ◌<◌, ◌≤◌, true, false, length, inl, inr, refl, sym, ap, ◌∙◌, subst, arith, Result, Ok, Err, cases_eq, Elements, AllDiffer, World, Inputs, streams, Extends, Table, elements_read, places_of, extends_then, streams_read, read_more, Why, contexts, IsOfRoot, MayBe, Checked, LiesWithin, TellsElement, DrawsFor, ReadsFor, nothing_read, element_read, CheckFault, Wrong, NoMemory}
+use Rattle.std.proofs.Common.{Bool}
 use Rattle.lucid_ports.specs.Faults.{Rises, CountsNoFaultUnless}
-use Rattle.lucid_inputs.specs.declared.on_demand.Inputs.{Inputs}
-use Rattle.lucid_inputs.specs.Inputs.{streams}
-use Rattle.lucid_equations.specs.MoreElements.{Extends}
-use Rattle.lucid_equations.specs.declared.table.Table.{Table}
-use Rattle.lucid_facts.specs.Elements.{elements_read}
-use Rattle.lucid_facts.specs.Engine.{places_of}
-use Rattle.lucid_facts.proofs.History.{extends_then}
-use Rattle.lucid_facts.proofs.Reading.{streams_read, read_more}
-use Rattle.lucid_why.specs.declared.rows.Why.{Why}
-use Rattle.lucid_follow.specs.Follows.{contexts, Follows, AllFollow, IsOfRoot}
-use Rattle.lucid_check.specs.Checked.{MayBe, not_following, not_of_root, TellsPast, NoneTellsPast, HasLooked, Checked}
-use Rattle.lucid_check.specs.Reads.{LiesWithin, TellsElement, DrawsFor, ReadsFor, nothing_read, element_read}
-use Rattle.lucid_check.specs.declared.fault.CheckFault.{CheckFault}
-use Rattle.lucid_check.specs.declared.fault.CheckFault.TheVariants.{Wrong, ReadFault, TooLarge, NoMemory}
+use Rattle.lucid_follow.specs.Follows.{Follows, AllFollow}
+use Rattle.lucid_check.specs.Checked.{not_following, not_of_root, TellsPast, NoneTellsPast, HasLooked}
+use Rattle.lucid_check.specs.declared.fault.CheckFault.TheVariants.{ReadFault, TooLarge}
 use Rattle.lucid_check.proofs.Drawing.{tells_one, HaveRead, read_more_of, lay_past, lay_within, read_on}
 
 module _ (T : Table) (w : Why) (old : Inputs) (before : World) where

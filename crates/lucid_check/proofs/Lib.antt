@@ -1,3 +1,4 @@
+pub mod Common
 pub mod Using
 pub mod Feeding
 pub mod Drawing

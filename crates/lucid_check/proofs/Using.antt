@@ -1,30 +1,13 @@
 -- The values of uses, and plans that are fed by them one by one.
-use Rattle.std.proofs.Common.{◌≡◌, ◌↔◌, ℕ, zero, suc, ◌<◌, ◌≤◌, Bool, true, false, ◌&&◌, cond, List, [], ◌∷◌, map, length, Option, Some, None, get_or, refl, sym, ap, ◌∙◌, subst, arith}
-use Rattle.std.specs.Prelude.{◌==◌, nat_lt, slice_get, option_map, IfSome}
-use Rattle.std.specs.Borrow.{Bor}
-use Rattle.std.specs.Bool.{Decides}
-use Rattle.std.proofs.lemmas.Bool.{ltb-true, lt-ltb, le-ltb}
-use Rattle.std.proofs.lemmas.Bool.Decides.{Decides-eqb, Decides-and}
-use Rattle.std.proofs.lemmas.Option.{option_and_then_some, cond_some, same_Some, none-some}
-use Rattle.lucid_value.specs.Plain.{PlainValue}
-use Rattle.lucid_value.specs.View.{plain}
-use Rattle.lucid_value.specs.declared.Value.{Value}
-use Rattle.lucid_tree.specs.Levels.{Elements}
+use Rattle.lucid_check.proofs.Common.{◌≡◌, ◌↔◌, ℕ, ◌<◌, ◌≤◌, true, false, List, [], ◌∷◌, map, length, Option, Some, None, get_or, refl, sym, ap, ◌∙◌, subst, arith, ◌==◌, slice_get, option_map, IfSome, Bor, same_Some, PlainValue, plain, Value, Elements, Context, root, context_of, same_tag_is_equality, Tag, Table, PlainJudgment, plain_judgment, JudgmentRow, Uses, fed, IsOfRoot, used, by_onward, contexts_of, IsSound, IsSameCheck, told, Check, context_there, zero, suc, ◌&&◌, cond, nat_lt, Decides, ltb-true, lt-ltb, le-ltb, Decides-eqb, Decides-and, option_and_then_some, cond_some, none-some}
+use Rattle.std.proofs.Common.{Bool}
 use Rattle.lucid_tree.specs.Rows.{Plan, look}
-use Rattle.lucid_tags.specs.Contexts.{Context, root, same_context}
-use Rattle.lucid_tags.specs.Known.{IsKnown, IsOneForOne, KeepsKnown, context_of, space_of, same_tag, root_tag}
-use Rattle.lucid_tags.specs.EqualityDecides.{same_context_is_equality, same_tag_is_equality}
-use Rattle.lucid_tags.specs.declared.Tag.{Tag}
-use Rattle.lucid_equations.specs.declared.table.Table.{Table}
-use Rattle.lucid_why.specs.Certificates.{PlainJudgment, plain_judgment}
-use Rattle.lucid_why.specs.declared.rows.JudgmentRow.{JudgmentRow}
-use Rattle.lucid_follow.specs.Fed.{Uses, fed}
-use Rattle.lucid_follow.specs.Follows.{IsOfRoot, context_in, is_context, is_of, value_if, used, Onward, by_onward}
-use Rattle.lucid_follow.specs.Checking.{IsOfContext, contexts_of}
-use Rattle.lucid_check.specs.Checks.{IsSound, IsSameCheck}
-use Rattle.lucid_check.specs.Uses.{told}
-use Rattle.lucid_check.specs.declared.check.Check.{Check}
-use Rattle.lucid_follow.proofs.ContextTags.{context_there, context_lacks, keeps_tags, keeps_contexts}
+use Rattle.lucid_tags.specs.Contexts.{same_context}
+use Rattle.lucid_tags.specs.Known.{IsKnown, IsOneForOne, KeepsKnown, space_of, same_tag, root_tag}
+use Rattle.lucid_tags.specs.EqualityDecides.{same_context_is_equality}
+use Rattle.lucid_follow.specs.Follows.{context_in, is_context, is_of, value_if, Onward}
+use Rattle.lucid_follow.specs.Checking.{IsOfContext}
+use Rattle.lucid_follow.proofs.ContextTags.{context_lacks, keeps_tags, keeps_contexts}
 
 -- tests that decide the same are the same
 same_tests : {P Q : Type 0} (a b : Bool) → Decides a P → Decides b Q → (P → Q) → (Q → P) → a ≡ b

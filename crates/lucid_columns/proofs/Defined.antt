@@ -1,17 +1,12 @@
 -- One more definition passed by, or met, in the search for a plain definition of a name.
-use Rattle.std.proofs.Common.{◌≡◌, ℕ, ◌+◌, ◌<◌, ◌≤◌, Bool, true, false, List, length, refl, ap, subst, drop, slice_index_or, add-one, drop-cons}
-use Rattle.std.specs.Prelude.{◌↔◌, IsTrue}
-use Rattle.std.specs.Cmp.Lexicographic.{nat_list_eq_equiv}
-use Rattle.std.proofs.Math.ListN.{drop_of_length-le}
-use Rattle.lucid_tree.specs.Tree.{PlainDefs}
-use Rattle.lucid_tree.specs.DefsView.{defs_of, def_of}
-use Rattle.lucid_tree.specs.Env.{definition, same_name}
+use Rattle.lucid_columns.proofs.Common.{◌≡◌, ℕ, ◌+◌, ◌<◌, ◌≤◌, true, false, List, length, refl, ap, subst, drop, IsTrue, PlainDefs, defs_of, definition, is_plain, defines_plain, Bool, slice_index_or, add-one, drop-cons, ◌↔◌, nat_list_eq_equiv, drop_of_length-le}
+use Rattle.lucid_tree.specs.DefsView.{def_of}
+use Rattle.lucid_tree.specs.Env.{same_name}
 use Rattle.lucid_tree.specs.declared.tree.Def.{Def}
 use Rattle.lucid_tree.specs.declared.tree.DefKind.{DefKind}
 use Rattle.lucid_tree.specs.declared.tree.DefKind.TheVariants.{Plain, Function, Current}
 use Rattle.lucid_tree.proofs.Lookups.{definition_passed}
 use Rattle.lucid_scope.proofs.Names.{not_same}
-use Rattle.lucid_columns.specs.Columns.{is_plain, defines_plain}
 
 -- names are the same exactly where their bytes are
 pub same_if : (r : Bool) (x y : List ℕ) → (IsTrue r ↔ (x ≡ y)) → r ≡ true → same_name x y ≡ true

@@ -1,13 +1,9 @@
 -- The names of columns have no fault.
-use Rattle.std.proofs.Common.{◌≡◌, ℕ, zero, suc, ◌+◌, ◌<◌, length, List, [], ◌∷◌, ◌++◌, Some, None, refl, sym, arith, true≢false}
-use Rattle.std.specs.Prelude.{All, IsTrue, slice_get}
-use Rattle.std.proofs.lemmas.List.Elements.{All-nil, All-cons, All-append}
-use Rattle.lucid_tree.specs.Tree.{block, PlainDefs}
-use Rattle.lucid_tree.specs.Env.{Found, plain_def, definition}
+use Rattle.lucid_columns.proofs.Common.{◌≡◌, ℕ, zero, suc, ◌+◌, ◌<◌, length, List, [], ◌∷◌, ◌++◌, Some, None, refl, sym, arith, true≢false, All, IsTrue, slice_get, block, PlainDefs, definition, is_plain, over_space, All-nil, All-cons, All-append}
+use Rattle.lucid_tree.specs.Env.{Found, plain_def}
 use Rattle.lucid_scope.specs.Scope.{Static, outermost, in_block, meaning, defined_in}
 use Rattle.lucid_scope.specs.Sites.{Site, named, sites, outside_sites, inside_sites, no_names}
 use Rattle.lucid_scope.specs.Bindings.{fault_of, name_fault}
-use Rattle.lucid_columns.specs.Columns.{is_plain, over_space}
 use Rattle.lucid_columns.specs.Laws.{ColumnsHaveNoFault}
 
 abbrev Faultless : Site → Type 0

@@ -1,3 +1,4 @@
+pub mod Common
 pub mod Spaces
 pub mod Faultless
 pub mod Placed

@@ -1,12 +1,9 @@
 -- A program with its columns as the subject is well made.
-use Rattle.std.proofs.Common.{ℕ, suc, ◌+◌, ◌*◌, ◌<◌, ◌≤◌, length, true, List, [], ◌∷◌, ◌++◌, refl, sym, ap, subst, arith, append-nil, ◌⊎◌, inl, inr, length-append}
-use Rattle.std.specs.Prelude.{All, IsTrue}
+use Rattle.lucid_columns.proofs.Common.{ℕ, suc, ◌+◌, ◌<◌, ◌≤◌, length, true, List, [], ◌∷◌, ◌++◌, refl, sym, ap, subst, arith, append-nil, inl, inr, All, IsTrue, PlainTree, block, PlainDefs, IsWellMade, over_space, with_columns, ◌*◌, ◌⊎◌, length-append}
 use Rattle.lucid_lemmas.proofs.Truths.{both_true, second_true}
-use Rattle.lucid_tree.specs.Tree.{PlainTree, block, PlainDefs}
 use Rattle.lucid_tree.specs.Members.{In, AllDiffer}
-use Rattle.lucid_tree.specs.WellMade.{IsWellMade, places, places_in_defs, is_shaped, defs_are_shaped}
+use Rattle.lucid_tree.specs.WellMade.{places, places_in_defs, is_shaped, defs_are_shaped}
 use Rattle.lucid_tree.proofs.Members.{in_right, in_either}
-use Rattle.lucid_columns.specs.Columns.{over_space, with_columns}
 
 module _ {A : Type 0} where
   differ_right : (xs ys : List A) → AllDiffer (xs ++ ys) → AllDiffer ys

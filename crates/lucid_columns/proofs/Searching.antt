@@ -1,13 +1,8 @@
 -- The search for the first name that is no column.
-use Rattle.std.proofs.Common.{◌≡◌, ℕ, ◌+◌, false, Box, Global, List, ◌∷◌, Some, refl, sym, ap, ◌∙◌, subst, arith, inl, inr}
-use Rattle.std.specs.Prelude.{IsTrue, slice_get}
-use Rattle.std.proofs.lemmas.Bool.{cases_lt}
-use Rattle.lucid_tree.specs.Tree.{PlainTree}
-use Rattle.lucid_tree.specs.View.{tree_of}
-use Rattle.lucid_tree.specs.declared.tree.Block.{Block}
+use Rattle.lucid_columns.proofs.Common.{◌≡◌, ℕ, ◌+◌, false, List, ◌∷◌, Some, refl, sym, ap, ◌∙◌, subst, arith, inl, inr, IsTrue, slice_get, PlainTree, tree_of, Block, AreColumnsBelow, Box, Global, cases_lt}
 use Rattle.lucid_tree.specs.declared.tree.Kind.{Kind}
 use Rattle.lucid_tree.specs.declared.tree.Kind.TheVariants.{Scope}
-use Rattle.lucid_columns.specs.Columns.{is_column, AreColumnsBelow, IsFirstMissing}
+use Rattle.lucid_columns.specs.Columns.{is_column, IsFirstMissing}
 
 -- one column more
 pub one_more : (e : PlainTree) (ns : List (List ℕ)) (i k : ℕ) (n : List ℕ) → AreColumnsBelow e ns i → slice_get ns i ≡ Some n → IsTrue (is_column e n) → k ≡ i + 1 → AreColumnsBelow e ns k

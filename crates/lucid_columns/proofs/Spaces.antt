@@ -1,16 +1,14 @@
 -- A column at its space is the name at space 0.
-use Rattle.std.proofs.Common.{◌≡◌, ℕ, zero, suc, ◌+◌, List, [], ◌∷◌, ◌++◌, Option, Some, None, refl, sym, ap, ◌∙◌, append-nil, if◌then◌else◌, true≢false}
-use Rattle.std.specs.Prelude.{slice_get, nat_le}
-use Rattle.std.specs.List.{filter_map}
+use Rattle.lucid_columns.proofs.Common.{◌≡◌, ℕ, zero, suc, ◌+◌, List, [], ◌∷◌, ◌++◌, Some, None, refl, sym, ap, ◌∙◌, append-nil, true≢false, slice_get, block, over_space, with_columns, Option, if◌then◌else◌, nat_le, filter_map}
 use Rattle.lucid_lemmas.proofs.Numbers.{zero_le}
 use Rattle.lucid_value.specs.Plain.{PlainValue}
-use Rattle.lucid_tree.specs.Tree.{name, block}
+use Rattle.lucid_tree.specs.Tree.{name}
 use Rattle.lucid_tree.specs.Rows.{Reader, gives, add_value, with_values, single, run, trace}
 use Rattle.lucid_tree.specs.Levels.{Elements, Below, Given, nothing_held, below, deeper, look_up_of}
 use Rattle.lucid_tree.specs.Env.{Env, empty, scope, frozen_at, Referent, Position, Aim, name_target}
 use Rattle.lucid_tree.specs.Meaning.{value, value_at}
 use Rattle.lucid_tree.specs.Demand.{Events, walk, walk_at, frozen_entry, seen}
-use Rattle.lucid_columns.specs.Columns.{column, over_space, with_columns}
+use Rattle.lucid_columns.specs.Columns.{column}
 use Rattle.lucid_columns.specs.Laws.{ColumnsAreSpaces}
 
 some_same : {A : Type 0} {x y : A} → ◌≡◌ {A = Option A} (Some x) (Some y) → x ≡ y

@@ -1,12 +1,7 @@
 -- The actuals of a call place, one by one.
-use Rattle.std.proofs.Common.{◌≡◌, ℕ, zero, suc, List, [], ◌∷◌, Option, Some, None, slice_get, refl}
-use Rattle.std.specs.Option.{option_map}
-use Rattle.lucid_tree.specs.Tree.{PlainTrees, no_trees, tree}
-use Rattle.lucid_tree.specs.Env.{tree_at}
-use Rattle.lucid_equations.specs.Nodes.{PlainNode, PlainNodes, no_nodes, node}
-use Rattle.lucid_equations.specs.Rows.{at, all_at, actuals_of}
-use Rattle.lucid_equations.specs.declared.rows.PlaceRow.{PlaceRow}
-use Rattle.lucid_compile.specs.Static.{Static, Numbers, node_for, nodes_for}
+use Rattle.lucid_compile.proofs.Common.{◌≡◌, ℕ, zero, suc, List, [], ◌∷◌, Option, Some, None, slice_get, refl, option_map, PlainTrees, no_trees, tree, tree_at, PlainNode, PlainNodes, no_nodes, node, at, all_at, PlaceRow, Numbers, node_for, nodes_for}
+use Rattle.lucid_equations.specs.Rows.{actuals_of}
+use Rattle.lucid_compile.specs.Static.{Static}
 
 -- the node of that index among some nodes
 abbrev pub at_number : PlainNodes → ℕ → Option PlainNode

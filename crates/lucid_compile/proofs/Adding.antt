@@ -1,45 +1,18 @@
 -- What a tree adds, from what its parts add.
-use Rattle.std.proofs.Common.{◌≡◌, ℕ, suc, ◌+◌, ◌<◌, Bool, true, false, ◌&&◌, IsTrue, nat_eq, nat_lt, if◌then◌else◌, length, List, [], ◌∷◌, ◌++◌, take, get_or, slice_get, Some, Result, Ok, Err, IfOk, OnOk, refl, sym, ap, ◌∙◌, subst, arith, add-zero, length-take-le}
-use Rattle.std.proofs.lemmas.List.{take_more}
+use Rattle.lucid_compile.proofs.Common.{◌≡◌, ℕ, suc, ◌+◌, ◌<◌, Bool, true, false, ◌&&◌, IsTrue, nat_eq, nat_lt, if◌then◌else◌, length, List, [], ◌∷◌, ◌++◌, take, get_or, slice_get, Some, refl, sym, ap, ◌∙◌, subst, arith, take_more, PlainValue, fits_arity, is_shaped, Head, const, PlainTree, form, name, PlainTrees, no_trees, tree, PlainDefs, no_defs, defines, defines_function, defines_current, count, FitsHead, def_of, one_def, Def, DefKind, scoped_inputs, scoped_binding, PlainNode, PlainNodes, row, freeze, invoke, no_nodes, node, plain_entry, current_entry, parameter_entry, at-kept, freezes, frame, level, in_body, first_place, EachBelow, all_at, Const, Freeze, ScopeIs, EachStandsIn, Plain, Parameter, Current, Node, Body, Here, ScopeRow, name_mark, function_mark, call_number, plain_key, Lists, with_name, with_place, with_body, OneScope, OneConstant, OneNode, Stand, Numbered, name_node, callee_place, bound_node, bound_nodes, form_stand, name_stand, call_stand, block_stands, CallStand, FunctionStand, NodeStand, Log, with_nodes, with_scopes, block_scopes, with_call, with_parameters, added, added_all, added_defs, node_of, HasFirst, IsForm, StandsAt, IsNameRow, Grown, GrownTo, AddsTree, AddsTrees, AddsDefs, link, AddsNode, AddsParameters, first_true, second_true, Result, Ok, Err, IfOk, OnOk, add-zero, length-take-le}
 use Rattle.lucid_lemmas.proofs.Lists.{slice_get-push_same as some-last}
-use Rattle.lucid_value.specs.Plain.{PlainValue}
-use Rattle.lucid_tree.specs.WellMade.{fits_arity, is_shaped}
-use Rattle.lucid_tree.specs.Tree.{Head, const, PlainTree, form, name, PlainTrees, no_trees, tree, PlainDefs, no_defs, defines, defines_function, defines_current}
-use Rattle.lucid_tree.specs.Size.{count}
-use Rattle.lucid_tree.specs.Shape.{FitsHead}
-use Rattle.lucid_tree.specs.DefsView.{def_of, one_def}
-use Rattle.lucid_tree.specs.declared.tree.Def.{Def}
-use Rattle.lucid_tree.specs.declared.tree.DefKind.{DefKind}
 use Rattle.lucid_tree.specs.declared.tree.DefKind.TheVariants.{Plain as PlainKind, Function as FunctionKind, Current as CurrentKind}
-use Rattle.lucid_scope.specs.Scoped.{scoped_inputs, scoped_binding}
-use Rattle.lucid_equations.specs.Nodes.{PlainNode, PlainNodes, row, freeze, invoke, no_nodes, node, plain_entry, current_entry, parameter_entry}
-use Rattle.lucid_equations.proofs.Rising.{at-kept}
-use Rattle.lucid_compile.specs.Static.{Static, in_block, freezes, frame, level, in_body}
-use Rattle.lucid_compile.specs.Places.{first_place}
-use Rattle.lucid_equations.specs.Ranges.{EachBelow}
-use Rattle.lucid_equations.specs.Rows.{all_at}
-use Rattle.lucid_equations.specs.declared.rows.Node.TheVariants.{Const, Freeze}
-use Rattle.lucid_equations.specs.Sound.{ScopeIs, EachStandsIn}
-use Rattle.lucid_equations.specs.declared.rows.Entry.TheVariants.{Plain, Parameter, Current}
-use Rattle.lucid_equations.specs.declared.rows.Node.{Node}
-use Rattle.lucid_compile.specs.declared.building.Body.{Body}
-use Rattle.lucid_compile.specs.declared.building.Here.{Here}
+use Rattle.lucid_compile.specs.Static.{Static, in_block}
 use Rattle.lucid_compile.proofs.Opening.{here-tree, here-trees, here-defs, here-parameters, here-scopes}
-use Rattle.lucid_equations.specs.declared.rows.ScopeRow.{ScopeRow}
 use Rattle.lucid_equations.specs.declared.rows.ScopeKind.TheVariants.{Called as CalledScope, Frozen as FrozenScope}
-use Rattle.lucid_compile.specs.Numbered.{name_mark, function_mark, call_number}
-use Rattle.lucid_compile.specs.Keys.{plain_key, function_key}
+use Rattle.lucid_compile.specs.Keys.{function_key}
 use Rattle.lucid_compile.proofs.Pairs.{pairs-count}
-use Rattle.lucid_compile.specs.Building.{Lists, with_name, with_place, with_body, OneScope, OneConstant, OneNode}
-use Rattle.lucid_compile.specs.Bound.{Stand, Numbered, name_node, callee_place, call_node, bound_node, bound_nodes, form_stand, name_stand, call_stand, block_stands, CallStand, FunctionStand, NodeStand, Log, with_nodes, with_scopes, block_scopes, with_call, with_parameters, added, added_all, added_defs}
-use Rattle.lucid_compile.specs.Forms.{node_of, HasFirst, IsForm}
+use Rattle.lucid_compile.specs.Bound.{call_node}
 use Rattle.lucid_compile.proofs.Formed.{is-form}
-use Rattle.lucid_compile.specs.Holds.{nodes_in, StandsAt, IsNameRow, Grown, GrownTo, AllGrownTo, AddsTree, AddsTrees, AddsDefs}
+use Rattle.lucid_compile.specs.Holds.{nodes_in, AllGrownTo}
 use Rattle.lucid_tree.specs.Rights.{right_of}
-use Rattle.lucid_compile.specs.Linked.{link}
-use Rattle.lucid_compile.specs.Steps.{AddsCall, AddsNode, AddsBlock, AddsParameters, OpensRight, ClosesRight}
+use Rattle.lucid_compile.specs.Steps.{AddsCall, AddsBlock, OpensRight, ClosesRight}
 use Rattle.lucid_compile.proofs.Growing.{begins-then, scope-kept, stands-kept, no-nodes, no-scopes, open-grown, opened-is, parent-below, grown-none, grown-then, push-grown, keep-grown, keep-constant, keep-known, define-grown, close-grown, place-grown, within-kept}
-use Rattle.lucid_lemmas.proofs.Truths.{first_true, second_true}
 use Rattle.lucid_compile.proofs.Shapes.{shaped-one, freezes-first, freezes-rest}
 use Rattle.lucid_compile.proofs.Named.{parts-own, named-stands, named-filled, named-means, named-known, named-parts}
 

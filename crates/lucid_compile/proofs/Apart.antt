@@ -1,17 +1,9 @@
 -- The scopes of a resolved tree differ: a block has the place of its first definition, and a function that of its first parameter.
-use Rattle.std.proofs.Common.{◌≡◌, ℕ, zero, suc, ◌+◌, ◌<◌, ◌≤◌, Bool, true, false, ◌&&◌, IsTrue, length, List, [], ◌∷◌, ◌++◌, map, get_or, slice_get, nat_eq, nat_lt, Some, inl, inr, refl, ap, ◌∙◌, subst, arith}
-use Rattle.std.proofs.lemmas.Bool.Decides.{nat_tests}
-use Rattle.std.proofs.lemmas.List.{append-nil, map-append}
-use Rattle.std.proofs.lemmas.Option.{none-some}
-use Rattle.lucid_tree.specs.Tree.{PlainTree, form, name, call, block, PlainTrees, no_trees, tree, PlainDefs, no_defs, defines, defines_function, defines_current}
-use Rattle.lucid_tree.specs.Members.{In, AllDiffer}
-use Rattle.lucid_tree.specs.WellMade.{places, places_in, places_in_defs, is_shaped, are_shaped, defs_are_shaped, IsWellMade}
-use Rattle.lucid_tree.proofs.Times.{times, times-append, once-differ, differ-once}
-use Rattle.lucid_equations.specs.Nodes.{plain_entry, current_entry}
-use Rattle.lucid_compile.specs.Static.{Static, outermost, in_block, in_function, freezes, in_body}
-use Rattle.lucid_compile.specs.Bound.{Stand, Numbered, bound_node, block_scopes, FunctionStand, Log, no_log, with_stand, with_function, opened_block, opened_function, with_parameters, added, added_all, added_defs}
+use Rattle.lucid_compile.proofs.Common.{◌≡◌, ℕ, zero, suc, ◌+◌, ◌<◌, ◌≤◌, Bool, true, false, ◌&&◌, IsTrue, length, List, [], ◌∷◌, ◌++◌, map, get_or, slice_get, nat_eq, nat_lt, Some, inl, inr, refl, ap, ◌∙◌, subst, arith, nat_tests, map-append, none-some, PlainTree, form, name, call, block, PlainTrees, no_trees, tree, PlainDefs, no_defs, defines, defines_function, defines_current, In, AllDiffer, places, places_in_defs, is_shaped, are_shaped, defs_are_shaped, IsWellMade, times, times-append, once-differ, differ-once, plain_entry, current_entry, freezes, in_body, Stand, Numbered, bound_node, block_scopes, FunctionStand, Log, no_log, with_stand, with_function, opened_block, opened_function, with_parameters, added, added_all, added_defs, first_true, second_true}
+use Rattle.std.proofs.lemmas.List.{append-nil}
+use Rattle.lucid_tree.specs.WellMade.{places_in}
+use Rattle.lucid_compile.specs.Static.{Static, outermost, in_block, in_function}
 use Rattle.lucid_compile.proofs.Opening.{parameters-scopes}
-use Rattle.lucid_lemmas.proofs.Truths.{first_true, second_true}
 
 -- the place of the first definition
 abbrev first_of : PlainDefs → ℕ

@@ -1,16 +1,8 @@
 -- The rows of calls, one after another.
-use Rattle.std.proofs.Common.{◌≡◌, ℕ, zero, suc, ◌+◌, ◌<◌, ◌≤◌, length, List, [], ◌∷◌, ◌++◌, map, take, get_or, slice_get, refl, sym, ap, ◌∙◌, subst, append_assoc, take_all}
-use Rattle.std.proofs.lemmas.List.{append-nil, map-append, take_more}
-use Rattle.lucid_equations.specs.Nodes.{PlainNode, called_entry}
-use Rattle.lucid_equations.specs.declared.rows.NameRow.{NameRow}
-use Rattle.lucid_compile.specs.declared.building.Body.{Body}
+use Rattle.lucid_compile.proofs.Common.{◌≡◌, ℕ, zero, suc, ◌+◌, ◌<◌, ◌≤◌, length, List, [], ◌∷◌, ◌++◌, map, take, get_or, slice_get, refl, sym, ap, ◌∙◌, subst, append_assoc, take_all, map-append, take_more, PlainNode, called_entry, NameRow, Body, Key, KeyLists, call_key, Lists, Stand, Numbered, FunctionStand, Log, OneForOne, IsOpen, IsNameRow, NamesHold, IsBody, Holds, callee_number, row_of_call, call_row, row_by, rows_of_calls, with_names, with_calls}
+use Rattle.std.proofs.lemmas.List.{append-nil}
 use Rattle.lucid_compile.specs.Static.{Static, outermost}
-use Rattle.lucid_compile.specs.declared.numbering.Key.{Key}
-use Rattle.lucid_compile.specs.Keys.{KeyLists, call_key}
-use Rattle.lucid_compile.specs.Building.{Lists}
-use Rattle.lucid_compile.specs.Bound.{Stand, Numbered, FunctionStand, Log}
-use Rattle.lucid_compile.specs.Holds.{nodes_in, OneForOne, IsOpen, IsNameRow, NamesHold, IsBody, Holds}
-use Rattle.lucid_compile.specs.Steps.{callee_number, row_of_call, call_row, row_by, rows_of_calls, with_names, with_calls}
+use Rattle.lucid_compile.specs.Holds.{nodes_in}
 use Rattle.lucid_compile.proofs.Pairs.{pairs-join, pairs-made}
 use Rattle.lucid_compile.proofs.Indices.{map_map}
 

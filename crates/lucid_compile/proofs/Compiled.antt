@@ -1,22 +1,8 @@
 -- Lists that hold what a resolved tree adds, and the rows of its calls, are a table that is the tree compiled.
-use Rattle.std.proofs.Common.{◌≡◌, ℕ, zero, suc, ◌+◌, ◌<◌, if◌then◌else◌, length, List, [], ◌∷◌, ◌++◌, Some, None, get_or, slice_get, refl, sym, ap, ◌∙◌, subst, inl, inr, arith}
-use Rattle.lucid_tree.specs.Tree.{PlainTree, form, name, call, block, PlainTrees, no_trees, tree, PlainDefs, no_defs, defines, defines_function, defines_current}
-use Rattle.std.specs.List.{position_or_len}
-use Rattle.lucid_tree.specs.Env.{same_name}
-use Rattle.lucid_tree.specs.Size.{count}
-use Rattle.lucid_tree.specs.Members.{In}
-use Rattle.lucid_tree.proofs.Members.{in_left, in_right}
-use Rattle.lucid_scope.specs.Scope.{free, meaning}
-use Rattle.lucid_scope.specs.Sites.{Site as NameSite, named, called, again, site_at, sites, sites_in, outside_sites, inside_sites, Earlier, also, no_names, again_if, repeats}
-use Rattle.lucid_scope.specs.Bindings.{binding_for, fault_of}
-use Rattle.lucid_scope.specs.Scoped.{scoped_binding, scoped_inputs}
-use Rattle.lucid_equations.specs.Nodes.{row, freeze, reference, invoke, node, Equations, plain_entry, called_entry, current_entry, parameter_entry}
-use Rattle.lucid_compile.specs.Static.{Static, in_block, in_function, freezes, level, Origin, Source, call_level, reference_of, node_for, nodes_for, in_body, outermost}
-use Rattle.lucid_compile.specs.Compiles.{HasRow, Parameters, Actuals, Callable, Kept, AllKept, DefsKept}
-use Rattle.lucid_compile.specs.Places.{first_place}
+use Rattle.lucid_compile.proofs.Common.{◌≡◌, ℕ, zero, suc, ◌+◌, ◌<◌, if◌then◌else◌, length, List, [], ◌∷◌, ◌++◌, Some, None, get_or, slice_get, refl, sym, ap, ◌∙◌, subst, inl, inr, arith, PlainTree, form, name, call, block, PlainTrees, no_trees, tree, PlainDefs, no_defs, defines, defines_function, defines_current, position_or_len, same_name, count, In, in_left, in_right, free, meaning, named, again, site_at, sites, sites_in, outside_sites, inside_sites, Earlier, also, no_names, again_if, repeats, binding_for, fault_of, scoped_binding, scoped_inputs, row, freeze, reference, invoke, node, Equations, plain_entry, called_entry, current_entry, parameter_entry, freezes, level, Origin, Source, call_level, node_for, nodes_for, in_body, HasRow, Parameters, Actuals, Callable, Kept, AllKept, DefsKept, first_place, name_mark, function_mark, call_number, Stand, Numbered, numbers_in, bound_node, bound_nodes, callee_place, CallStand, FunctionStand, NodeStand, Log, with_nodes, with_scopes, opened_block, opened_function, with_stand, with_call, with_function, with_parameters, added, added_all, added_defs}
+use Rattle.lucid_scope.specs.Sites.{Site as NameSite, called}
+use Rattle.lucid_compile.specs.Static.{Static, in_block, in_function, reference_of, outermost}
 use Rattle.lucid_compile.proofs.Spots.{spots_for, all_spots, def_spots}
-use Rattle.lucid_compile.specs.Numbered.{name_mark, function_mark, call_number}
-use Rattle.lucid_compile.specs.Bound.{Stand, Numbered, numbers_in, bound_node, bound_nodes, callee_place, CallStand, FunctionStand, NodeStand, Log, with_nodes, with_scopes, opened_block, opened_function, with_stand, with_call, with_function, with_parameters, added, added_all, added_defs}
 use Rattle.lucid_compile.proofs.Scoping.{not_some, forget, meaning-bare, IsListed, IsThere, DefsKnown, Known, meaning-known, name-is, Calls, call-is}
 
 -- what stands in a log stands in another

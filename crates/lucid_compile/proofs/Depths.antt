@@ -1,10 +1,7 @@
 -- Scopes in a table: the level of what is in scope is the depth of its scope, and what is round it has a scope round its own.
-use Rattle.std.proofs.Common.{◌≡◌, ℕ, suc, ◌+◌, Bool, true, false, if◌then◌else◌, List, ◌⊎◌, inl, inr, Some, slice_get, refl, sym, ap, ◌∙◌, subst, arith}
-use Rattle.lucid_equations.specs.declared.rows.ScopeRow.{ScopeRow}
-use Rattle.lucid_equations.specs.Sound.{ScopeIs, IsRound, itself, further, HasDepth, deeper, outermost as no_depth}
-use Rattle.lucid_tree.specs.Tree.{PlainDefs}
-use Rattle.lucid_compile.specs.Static.{Static, outermost, in_block, in_function, freezes, frame, level}
-use Rattle.lucid_compile.specs.Holds.{IsOpen, IsScopeRow, ScopesHold}
+use Rattle.lucid_compile.proofs.Common.{◌≡◌, ℕ, suc, ◌+◌, Bool, true, false, if◌then◌else◌, List, ◌⊎◌, inl, inr, Some, slice_get, refl, sym, ap, ◌∙◌, subst, arith, ScopeRow, ScopeIs, HasDepth, PlainDefs, freezes, frame, level, IsOpen, IsScopeRow, ScopesHold}
+use Rattle.lucid_equations.specs.Sound.{IsRound, itself, further, deeper, outermost as no_depth}
+use Rattle.lucid_compile.specs.Static.{Static, outermost, in_block, in_function}
 use Rattle.lucid_compile.proofs.Pairs.{row-at}
 use Rattle.lucid_compile.proofs.Apart.{AreApart}
 
@@ -13,11 +10,6 @@ abbrev pub IsOutside : (outer inner : Static) → Type 0
 IsOutside h outermost = h ≡ outermost
 IsOutside h (in_block ds k) = (h ≡ in_block ds k) ⊎ IsOutside h k
 IsOutside h (in_function d ns ats k) = (h ≡ in_function d ns ats k) ⊎ IsOutside h k
-
-pub outside-itself : (k : Static) → IsOutside k k
-outside-itself outermost = refl
-outside-itself (in_block ds k) = inl refl
-outside-itself (in_function d ns ats k) = inl refl
 
 -- the row of a scope, with its parent
 pub record ScopeRowOf (xs : List ScopeRow) (ks : List Static) (scope : ℕ) (k : Static) : Type 0 where

@@ -1,11 +1,6 @@
 -- What is evaluated has its rows, and the environment of a place is told by its context.
-use Rattle.std.proofs.Common.{◌≡◌, ℕ, sym, ap, ◌∙◌, subst, inl, inr}
-use Rattle.lucid_tree.specs.Tree.{PlainTree, form, name, call, block, PlainTrees, PlainDefs}
-use Rattle.lucid_tree.specs.Env.{Env, scope, frozen_at}
-use Rattle.lucid_equations.specs.Nodes.{Equations}
-use Rattle.lucid_compile.specs.Static.{Static, Numbers, Source, static_of, context_for}
-use Rattle.lucid_compile.specs.Compiles.{Kept, AllKept, Good, Compiles}
-use Rattle.lucid_compile.specs.Places.{place_of}
+use Rattle.lucid_compile.proofs.Common.{◌≡◌, ℕ, sym, ap, ◌∙◌, subst, inl, inr, PlainTree, form, name, call, block, PlainTrees, PlainDefs, Env, scope, frozen_at, Equations, Numbers, Source, static_of, context_for, Kept, AllKept, Good, Compiles, place_of}
+use Rattle.lucid_compile.specs.Static.{Static}
 use Rattle.lucid_compile.specs.Promise.{IsAmong, first_among, later_among, IsEvaluated, the_program, a_part, a_subject, by_name, by_call}
 use Rattle.lucid_compile.proofs.Targets.{Fits, name-fits, call-fits}
 use Rattle.lucid_compile.proofs.Same.{opened}

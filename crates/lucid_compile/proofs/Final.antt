@@ -1,46 +1,23 @@
 -- The table of the lists keeps the tree, and is sound.
-use Rattle.std.proofs.Common.{◌≡◌, ℕ, suc, ◌+◌, ◌<◌, ◌≤◌, length, Option, List, [], ◌∷◌, ◌++◌, map, Some, None, All, get_or, slice_get, refl, sym, ap, ◌∙◌, subst, inl, inr, arith, length-append}
-use Rattle.std.proofs.Math.Logic.{∥∥₁_elim}
-use Rattle.std.specs.Option.{option_map}
-use Rattle.std.proofs.lemmas.List.{length-map}
-use Rattle.std.proofs.lemmas.Option.{slice_get-map, slice_get_within as index-below}
+use Rattle.lucid_compile.proofs.Common.{◌≡◌, ℕ, suc, ◌+◌, ◌<◌, ◌≤◌, length, Option, List, [], ◌∷◌, ◌++◌, map, Some, None, get_or, slice_get, refl, sym, ap, ◌∙◌, subst, inl, inr, arith, length-append, option_map, length-map, slice_get-map, PlainTree, no_trees, In, AllDiffer, IsWellMade, named, again, site_at, binding_for, fault_of, scoped_tree, scoped_binding, scoped_inputs, Binding, PlainEntry, Equations, called_entry, sizes, IsInRange, at, all_at, grow, nodes_of, equations_of, StandsIn, IsSound, Root, Entry, Plain, Parameter, Current, Called, Table, Mark, Origin, Source, nodes_for, in_body, HasRow, Actuals, first_place, KeepsTree, or_no_mark, name_mark, function_mark, call_number, mark_by, key_of_function, KeyLists, keys_of, IsNumberingOf, Lists, OneScope, link, Stand, Numbered, numbers_in, bound_node, bound_nodes, callee_place, CallStand, FunctionStand, Log, no_log, added, AreKnown, EachRow, NodeFits, NameFits, PlaceFits, ScopesHold, NodesHold, NamesHold, PlacesHold, IsEntry, IsNameRow, IsPlaceRow, Holds, GrownTo, AddsTree, row_of_call, call_row, rows_of_calls, with_calls, All, ∥∥₁_elim, Coded-set, coded_option, coded_list}
+use Rattle.std.proofs.lemmas.Option.{slice_get_within as index-below}
 use base.Stored.{coded_ℕ}
-use Rattle.std.specs.Coded.{Coded-set, coded_option, coded_list}
 use Rattle.lucid_lemmas.proofs.Lists.{slice_get-append_left as some-left}
-use Rattle.lucid_tree.specs.Tree.{PlainTree, no_trees}
-use Rattle.lucid_tree.specs.Members.{In, AllDiffer}
-use Rattle.lucid_tree.specs.WellMade.{IsWellMade}
-use Rattle.lucid_scope.specs.Sites.{Site as NameSite, named, called, again, site_at, sites as name_sites}
-use Rattle.lucid_scope.specs.Bindings.{binding_for, fault_of, IsResolved}
-use Rattle.lucid_scope.specs.Scoped.{scoped_tree, scoped_binding, scoped_inputs}
+use Rattle.lucid_scope.specs.Sites.{Site as NameSite, called, sites as name_sites}
+use Rattle.lucid_scope.specs.Bindings.{IsResolved}
 use Rattle.lucid_scope.specs.Laws.{FreeNamesAreInputs}
-use Rattle.lucid_scope.specs.declared.scoped.Binding.{Binding}
 use Rattle.lucid_scope.specs.contracts.scoped.Binding as binding
 use Rattle.lucid_scope.specs.contracts.refusal.ScopeRefusal as refusal
-use Rattle.lucid_equations.specs.Nodes.{PlainEntry, Equations, called_entry}
-use Rattle.lucid_equations.specs.Ranges.{sizes, IsInRange}
-use Rattle.lucid_equations.specs.Rows.{at, all_at, grow, nodes_of, entry_by, equations_of}
-use Rattle.lucid_equations.specs.Sound.{StandsIn, IsSound}
-use Rattle.lucid_equations.specs.declared.rows.ScopeKind.TheVariants.{Root}
-use Rattle.lucid_equations.specs.declared.rows.Entry.{Entry}
-use Rattle.lucid_equations.specs.declared.rows.Entry.TheVariants.{Plain, Parameter, Current, Called}
-use Rattle.lucid_equations.specs.declared.table.Table.{Table}
+use Rattle.lucid_equations.specs.Rows.{entry_by}
 use Rattle.lucid_equations.proofs.NumbersRead.{grown-count as grow-count}
-use Rattle.lucid_compile.specs.declared.numbering.Mark.{Mark}
-use Rattle.lucid_compile.specs.Static.{outermost, Origin, Site, Source, nodes_for, in_body}
-use Rattle.lucid_compile.specs.Compiles.{HasRow, Actuals}
-use Rattle.lucid_compile.specs.Places.{first_place}
-use Rattle.lucid_compile.specs.Promise.{KeepsTree}
+use Rattle.lucid_compile.specs.Static.{outermost, Site}
 use Rattle.lucid_compile.proofs.HeldRows.{HasRows, have-scopes}
-use Rattle.lucid_compile.specs.Numbered.{function_of, or_no_mark, name_mark, function_mark, call_number, mark_by}
-use Rattle.lucid_compile.specs.Keys.{key_of_function, KeyLists, keys_of, IsNumberingOf}
-use Rattle.lucid_compile.specs.Building.{Lists, no_lists, with_scope, OneScope}
-use Rattle.lucid_compile.specs.Linked.{link}
+use Rattle.lucid_compile.specs.Numbered.{function_of}
+use Rattle.lucid_compile.specs.Building.{no_lists, with_scope}
 use Rattle.lucid_compile.proofs.LinkedRows.{scope-linked}
 use Rattle.lucid_compile.proofs.Keying.{DifferingKeys, keys-differ}
-use Rattle.lucid_compile.specs.Bound.{Stand, Numbered, numbers_in, bound_node, bound_nodes, callee_place, CallStand, FunctionStand, Log, no_log, added}
-use Rattle.lucid_compile.specs.Holds.{nodes_in, AreKnown, EachRow, NodeFits, NameFits, PlaceFits, ScopesHold, NodesHold, NamesHold, PlacesHold, IsEntry, IsNameRow, IsPlaceRow, Holds, GrownTo, AddsTree}
-use Rattle.lucid_compile.specs.Steps.{row_of_call, call_row, rows_of_calls, with_calls, IsTableOf}
+use Rattle.lucid_compile.specs.Holds.{nodes_in}
+use Rattle.lucid_compile.specs.Steps.{IsTableOf}
 use Rattle.lucid_compile.proofs.Opening.{slice-past}
 use Rattle.lucid_compile.proofs.Pairs.{row-at, pairs-count}
 use Rattle.lucid_compile.proofs.Indices.{index-of, marked-at, call-numbers, name-numbers}

@@ -1,39 +1,17 @@
 -- Lists that hold what was added hold it with one thing more.
-use Rattle.std.proofs.Common.{◌≡◌, ℕ, zero, suc, ◌+◌, ◌<◌, ◌≤◌, length, List, [], ◌∷◌, ◌++◌, get_or, Some, None, slice_get, refl, sym, ap, ◌∙◌, subst, arith, length-append, append_assoc}
+use Rattle.lucid_compile.proofs.Common.{◌≡◌, ℕ, zero, suc, ◌+◌, ◌<◌, ◌≤◌, length, List, [], ◌∷◌, ◌++◌, get_or, Some, None, slice_get, refl, sym, ap, ◌∙◌, subst, arith, length-append, append_assoc, PlainValue, const, scoped_inputs, PlainNode, PlainEntry, row, no_nodes, plain_entry, called_entry, current_entry, at-kept, frame, in_body, name_mark, ScopeRow, ScopeIs, StandsIn, EachStandsIn, PartsStand, IsFilled, ScopeKind, option_map, EachBelow, at, all_at, parts, as_node, grow, Node, Const, Freeze, Entry, Plain, Parameter, Current, Called, NodeRow, NameRow, PlaceRow, Body, Key, stand_key, call_key, place_key, key_of_function, with_name_key, with_function_key, with_call_key, Lists, with_name, with_body, with_place, OneScope, OneConstant, OneNode, Stand, Numbered, bound_node, bound_nodes, CallStand, FunctionStand, NodeStand, Log, with_nodes, with_scopes, with_stand, with_call, with_function, IsKnown, AreKnown, EachRow, NodeFits, NameFits, PlaceFits, BodyFits, IsOpen, IsScopeRow, ScopesHold, HasTarget, IsNodeRow, NodesHold, IsEntry, IsNameRow, NamesHold, IsPlaceRow, PlacesHold, IsBody, FunctionsHold, Holds, Begins, Grown, GrownTo, get_or-append_seam, get_or_append_left}
 use Rattle.std.proofs.lemmas.List.{append-nil}
-use Rattle.std.proofs.Math.Seq.{get_or-append_seam}
-use Rattle.std.proofs.lemmas.List.{get_or_append_left}
 use Rattle.std.proofs.lemmas.Option.{slice_get_within as index-below}
 use Rattle.lucid_lemmas.proofs.Lists.{slice_get-append_left as some-left, slice_get-push_same as some-last}
-use Rattle.lucid_value.specs.Plain.{PlainValue, fault}
-use Rattle.lucid_tree.specs.Tree.{const}
-use Rattle.lucid_scope.specs.Scoped.{scoped_inputs}
-use Rattle.lucid_equations.specs.Nodes.{PlainNode, PlainEntry, row, no_nodes, plain_entry, called_entry, current_entry}
-use Rattle.lucid_equations.proofs.Rising.{at-kept, all_at-kept}
+use Rattle.lucid_value.specs.Plain.{fault}
+use Rattle.lucid_equations.proofs.Rising.{all_at-kept}
 use Rattle.lucid_equations.proofs.NumbersRead.{grown-count as grow-count}
-use Rattle.lucid_compile.specs.Static.{Static, outermost, in_block, in_function, frame, in_body}
-use Rattle.lucid_compile.specs.Numbered.{name_mark}
-use Rattle.lucid_equations.specs.declared.rows.ScopeRow.{ScopeRow}
-use Rattle.lucid_equations.specs.Sound.{ScopeIs, StandsIn, EachStandsIn, PartsStand, EntryStands, IsFilled}
-use Rattle.lucid_equations.specs.declared.rows.ScopeKind.{ScopeKind}
+use Rattle.lucid_compile.specs.Static.{Static, outermost, in_block, in_function}
+use Rattle.lucid_equations.specs.Sound.{EntryStands}
 use Rattle.lucid_equations.specs.declared.rows.ScopeKind.TheVariants.{Called as CalledScope, Frozen as FrozenScope}
-use Rattle.std.specs.Option.{option_map}
-use Rattle.lucid_equations.specs.Ranges.{EachBelow}
-use Rattle.lucid_equations.specs.Rows.{no_node, at, all_at, parts, as_node, grow}
-use Rattle.lucid_equations.specs.declared.rows.Node.{Node}
-use Rattle.lucid_equations.specs.declared.rows.Node.TheVariants.{Const, Freeze}
-use Rattle.lucid_equations.specs.declared.rows.Entry.{Entry}
-use Rattle.lucid_equations.specs.declared.rows.Entry.TheVariants.{Plain, Parameter, Current, Called}
-use Rattle.lucid_equations.specs.declared.rows.NodeRow.{NodeRow}
-use Rattle.lucid_equations.specs.declared.rows.NameRow.{NameRow}
-use Rattle.lucid_equations.specs.declared.rows.PlaceRow.{PlaceRow}
-use Rattle.lucid_compile.specs.declared.building.Body.{Body}
-use Rattle.lucid_compile.specs.declared.numbering.Key.{Key}
-use Rattle.lucid_compile.specs.Keys.{stand_key, call_key, place_key, key_of_function, with_name_key, with_function_key, with_call_key}
+use Rattle.lucid_equations.specs.Rows.{no_node}
 use Rattle.lucid_compile.proofs.Keyed.{stand-keys, call-keys, function-keys}
-use Rattle.lucid_compile.specs.Building.{Lists, with_name, with_body, with_place, OneScope, OneConstant, OneNode}
-use Rattle.lucid_compile.specs.Bound.{Stand, Numbered, bound_node, bound_nodes, CallStand, FunctionStand, NodeStand, Log, with_nodes, with_scopes, with_stand, with_call, with_function}
-use Rattle.lucid_compile.specs.Holds.{nodes_in, IsKnown, AreKnown, EachRow, NodeFits, NameFits, PlaceFits, BodyFits, IsOpen, IsScopeRow, ScopesHold, HasTarget, IsNodeRow, NodesHold, IsEntry, IsNameRow, NamesHold, IsPlaceRow, PlacesHold, IsBody, FunctionsHold, Holds, Begins, Grown, GrownTo}
+use Rattle.lucid_compile.specs.Holds.{nodes_in}
 use Rattle.lucid_compile.proofs.Pairs.{pairs-one, pairs-count, pairs-kept}
 
 pub begins-then : {A : Type 0} (xs ys zs : List A) → Begins xs ys → Begins ys zs → Begins xs zs

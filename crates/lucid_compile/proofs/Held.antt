@@ -1,20 +1,8 @@
 -- Held values: entries with values, and their datons with the same values.
-use Rattle.std.proofs.Common.{◌≡◌, ℕ, List, map, Option, Some, None, refl, sym, ap, ◌∙◌, subst}
-use Rattle.lucid_value.specs.Plain.{PlainValue}
-use Rattle.lucid_tree.specs.Tree.{PlainTree}
-use Rattle.lucid_tree.specs.Members.{In}
-use Rattle.lucid_tree.specs.Levels.{Elements, HoldsExactly}
-use Rattle.lucid_tree.specs.Env.{empty, Referent}
+use Rattle.lucid_compile.proofs.Common.{◌≡◌, ℕ, List, map, Option, Some, None, refl, sym, ap, ◌∙◌, subst, PlainValue, PlainTree, In, Elements, empty, Referent, in_map, root, Equations, Daton, Points, valued_datons, valued_entries, Numbers, Source, daton_of, Compiles}
+use Rattle.lucid_tree.specs.Levels.{HoldsExactly}
 use Rattle.lucid_tree.specs.Meaning as of_trees
-use Rattle.lucid_tree.proofs.Members.{in_map}
-use Rattle.lucid_tags.specs.Contexts.{root}
-use Rattle.lucid_equations.specs.Nodes.{Equations}
-use Rattle.lucid_equations.specs.Datons.{Daton}
 use Rattle.lucid_equations.specs.Values.{node_hval, eqhval}
-use Rattle.lucid_equations.specs.Counts.{Points, valued_datons}
-use Rattle.lucid_compile.specs.Counts.{valued_entries}
-use Rattle.lucid_compile.specs.Static.{Numbers, Source, daton_of}
-use Rattle.lucid_compile.specs.Compiles.{Compiles}
 use Rattle.lucid_compile.proofs.Targets.{Placed}
 use Rattle.lucid_compile.proofs.Same.{HeldAlike, hval-same}
 use Rattle.lucid_compile.proofs.One.{daton-one}

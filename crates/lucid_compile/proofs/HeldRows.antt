@@ -1,14 +1,8 @@
 -- The scopes of a table's rows: which scope each node, name and call place of a tree that was resolved stands in, and the name of each
 -- call place.
-use Rattle.std.proofs.Common.{ℕ, ◌<◌, ◌++◌, length, map, sym, subst}
-use Rattle.std.proofs.lemmas.Option.{slice_get_within}
-use Rattle.lucid_equations.specs.Rows.{nodes_of}
+use Rattle.lucid_compile.proofs.Common.{ℕ, ◌<◌, ◌++◌, length, map, sym, subst, nodes_of, Table, Numbered, Log, IsOpen, IsScopeRow, IsNodeRow, IsNameRow, IsPlaceRow, ScopesHold, NodesHold, NamesHold, PlacesHold, call_row, slice_get_within}
 use Rattle.lucid_equations.specs.Sound.{RowsHaveScopes}
-use Rattle.lucid_equations.specs.declared.table.Table.{Table}
 use Rattle.lucid_compile.specs.Static.{Static}
-use Rattle.lucid_compile.specs.Bound.{Numbered, Log}
-use Rattle.lucid_compile.specs.Holds.{IsOpen, IsScopeRow, IsNodeRow, IsNameRow, IsPlaceRow, ScopesHold, NodesHold, NamesHold, PlacesHold}
-use Rattle.lucid_compile.specs.Steps.{call_row}
 use Rattle.lucid_compile.proofs.Pairs.{pairs-count, thing-at}
 
 -- The rows are those that were added, in order: each scope stands in the scope of what is round it; each node, name and call place in the

@@ -1,15 +1,7 @@
 -- Where things stand in a list, and with which marks.
-use Rattle.std.proofs.Common.{◌≡◌, ℕ, zero, suc, ◌+◌, ◌<◌, length, List, [], ◌∷◌, map, Some, Option, get_or, slice_get, refl, sym, ap, ◌∙◌, subst, inl, inr, arith}
-use Rattle.std.proofs.lemmas.List.{length-map}
-use Rattle.std.proofs.lemmas.Option.{none-some, slice_get_within as index-below}
-use Rattle.lucid_tree.specs.Members.{In}
-use Rattle.lucid_compile.specs.declared.numbering.Mark.{Mark}
-use Rattle.lucid_compile.specs.declared.numbering.Key.{Key}
-use Rattle.lucid_compile.specs.Numbered.{or_no_mark, name_mark, call_number, mark_of, call_of, mark_by, AreMarked}
-use Rattle.lucid_compile.specs.Keys.{stand_key, call_key, place_key, keys_of, IsNumberingOf}
-use Rattle.lucid_compile.specs.Static.{level}
-use Rattle.lucid_compile.specs.Places.{first_place}
-use Rattle.lucid_compile.specs.Bound.{Stand, Numbered, CallStand, Log}
+use Rattle.lucid_compile.proofs.Common.{◌≡◌, ℕ, zero, suc, ◌+◌, ◌<◌, length, List, [], ◌∷◌, map, Some, Option, get_or, slice_get, refl, sym, ap, ◌∙◌, subst, inl, inr, arith, length-map, none-some, In, Mark, Key, or_no_mark, name_mark, call_number, mark_by, AreMarked, stand_key, call_key, place_key, keys_of, IsNumberingOf, level, first_place, Stand, Numbered, CallStand, Log}
+use Rattle.std.proofs.lemmas.Option.{slice_get_within as index-below}
+use Rattle.lucid_compile.specs.Numbered.{mark_of, call_of}
 
 pub map_map : {A B C : Type 0} (g : B → C) (f : A → B) (xs : List A) → map g (map f xs) ≡ map (λ x. g (f x)) xs
 map_map g f [] = refl

@@ -1,8 +1,5 @@
 -- The keys of what was added, where one thing more is.
-use Rattle.std.proofs.Common.{◌≡◌, [], ◌∷◌, map, sym}
-use Rattle.std.proofs.lemmas.List.{map-append}
-use Rattle.lucid_compile.specs.Bound.{Stand, CallStand, FunctionStand, Log, with_stand, with_call, with_function}
-use Rattle.lucid_compile.specs.Keys.{stand_key, call_key, place_key, key_of_function, keys_of, with_name_key, with_function_key, with_call_key}
+use Rattle.lucid_compile.proofs.Common.{◌≡◌, [], ◌∷◌, map, sym, map-append, Stand, CallStand, FunctionStand, Log, with_stand, with_call, with_function, stand_key, call_key, place_key, key_of_function, keys_of, with_name_key, with_function_key, with_call_key}
 
 pub stand-keys : (s : Stand) (g : Log) → with_name_key (stand_key s) (keys_of g) ≡ keys_of (with_stand s g)
 stand-keys s g = λ j. record { names = sym (map-append stand_key g.names (s ∷ [])) j; calls = map call_key g.calls; places = map place_key g.calls; functions = map key_of_function g.functions }

@@ -1,15 +1,7 @@
 -- The keys of a resolved tree differ, those of each kind.
-use Rattle.std.proofs.Common.{◌≡◌, ◌++◌, map, IsTrue, sym, ap, ◌∙◌, subst, arith}
-use Rattle.std.proofs.lemmas.List.{map-append}
-use Rattle.lucid_tree.specs.Tree.{PlainTree}
-use Rattle.lucid_tree.specs.Members.{AllDiffer}
-use Rattle.lucid_tree.specs.WellMade.{places, IsWellMade}
-use Rattle.lucid_tree.proofs.Times.{times, once-differ, differ-once, times-append}
+use Rattle.lucid_compile.proofs.Common.{◌≡◌, ◌++◌, map, IsTrue, sym, ap, ◌∙◌, subst, arith, map-append, PlainTree, AllDiffer, places, IsWellMade, times, once-differ, differ-once, times-append, key_at, stand_key, call_key, place_key, key_of_function, KeyLists, keys_of, Numbered, Log, no_log, added}
 use Rattle.lucid_scope.specs.Sites.{sites as name_sites}
 use Rattle.lucid_compile.specs.Static.{outermost}
-use Rattle.lucid_compile.specs.Numbered.{key_at}
-use Rattle.lucid_compile.specs.Keys.{stand_key, call_key, place_key, key_of_function, KeyLists, keys_of}
-use Rattle.lucid_compile.specs.Bound.{Numbered, Log, no_log, added}
 use Rattle.lucid_compile.proofs.Indices.{map_map}
 use Rattle.lucid_compile.proofs.Passing.{calls_pass_actuals, NoFaults, passes}
 use Rattle.lucid_compile.proofs.Logs.{names_at, calls_at, sites_at, functions_at, names-times, functions-times, sites-times, own-first}

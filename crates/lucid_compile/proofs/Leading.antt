@@ -1,33 +1,10 @@
 -- In a table that has the rows of a resolved tree, references and calls lead to names in scope at their depth, bodies stand where they have
 -- to, and call places pass all parameters.
-use Rattle.std.proofs.Common.{◌≡◌, ℕ, ◌+◌, ◌<◌, length, List, [], ◌∷◌, ◌++◌, map, Option, Some, None, slice_get, sym, ap, ◌∙◌, subst, arith}
-use Rattle.std.specs.Option.{option_map}
-use Rattle.std.proofs.lemmas.Option.{slice_get-map}
+use Rattle.lucid_compile.proofs.Common.{◌≡◌, ℕ, ◌+◌, ◌<◌, length, List, [], ◌∷◌, ◌++◌, map, Option, Some, None, slice_get, sym, ap, ◌∙◌, subst, arith, option_map, slice_get-map, In, scoped_binding, scoped_inputs, Binding, PlainNode, PlainEntry, plain_entry, called_entry, current_entry, parameter_entry, nodes_of, HasDepth, Refer, Call, Entry, Plain, Parameter, Current, Called, ScopeRow, NodeRow, NameRow, Table, frame, in_body, first_place, Numbering, Body, name_mark, function_mark, call_number, Key, call_key, keys_of, IsNumberingOf, Stand, Numbered, bound_node, node_by, callee_place, Target, no_target, of_name, of_call, CallStand, Log, EachRow, IsOpen, HasTarget, IsNodeRow, IsEntry, IsNameRow, IsPlaceRow, IsBody, FunctionsHold, NameFits, PlaceFits, BodyFits, callee_number, row_of_call, call_row, row_by, rows_of_calls}
 use Rattle.lucid_lemmas.proofs.Lists.{slice_get-append_left as some-left}
-use Rattle.lucid_tree.specs.Members.{In}
-use Rattle.lucid_scope.specs.Scoped.{scoped_binding, scoped_inputs}
-use Rattle.lucid_scope.specs.declared.scoped.Binding.{Binding}
 use Rattle.lucid_scope.specs.declared.scoped.Binding.TheVariants.{Plain as PlainName, Current as CurrentName, Parameter as ParameterName, Function as FunctionName, Input as InputName}
-use Rattle.lucid_equations.specs.Nodes.{PlainNode, PlainEntry, plain_entry, called_entry, current_entry, parameter_entry}
-use Rattle.lucid_equations.specs.Rows.{nodes_of}
-use Rattle.lucid_equations.specs.Sound.{HasDepth, IsReferable, NameIs, ReferenceLeads, ReferencesLead, CallLeads, CallsLead, BodiesStand, PlacesPass}
-use Rattle.lucid_equations.specs.declared.rows.Node.TheVariants.{Refer, Call}
-use Rattle.lucid_equations.specs.declared.rows.Entry.{Entry}
-use Rattle.lucid_equations.specs.declared.rows.Entry.TheVariants.{Plain, Parameter, Current, Called}
-use Rattle.lucid_equations.specs.declared.rows.ScopeRow.{ScopeRow}
-use Rattle.lucid_equations.specs.declared.rows.NodeRow.{NodeRow}
-use Rattle.lucid_equations.specs.declared.rows.NameRow.{NameRow}
-use Rattle.lucid_equations.specs.declared.table.Table.{Table}
-use Rattle.lucid_compile.specs.Static.{Static, outermost, in_block, in_function, frame, in_body}
-use Rattle.lucid_compile.specs.Places.{first_place}
-use Rattle.lucid_compile.specs.declared.numbering.Numbering.{Numbering}
-use Rattle.lucid_compile.specs.declared.building.Body.{Body}
-use Rattle.lucid_compile.specs.Numbered.{name_mark, function_mark, call_number}
-use Rattle.lucid_compile.specs.declared.numbering.Key.{Key}
-use Rattle.lucid_compile.specs.Keys.{call_key, keys_of, IsNumberingOf}
-use Rattle.lucid_compile.specs.Bound.{Stand, Numbered, bound_node, node_by, callee_place, Target, no_target, of_name, of_call, CallStand, Log}
-use Rattle.lucid_compile.specs.Holds.{EachRow, IsOpen, HasTarget, IsNodeRow, IsEntry, IsNameRow, IsPlaceRow, IsBody, FunctionsHold, NameFits, PlaceFits, BodyFits}
-use Rattle.lucid_compile.specs.Steps.{callee_number, row_of_call, call_row, row_by, rows_of_calls}
+use Rattle.lucid_equations.specs.Sound.{IsReferable, NameIs, ReferenceLeads, ReferencesLead, CallLeads, CallsLead, BodiesStand, PlacesPass}
+use Rattle.lucid_compile.specs.Static.{Static, outermost, in_block, in_function}
 use Rattle.lucid_compile.proofs.HeldRows.{HasRows}
 use Rattle.lucid_compile.proofs.Opening.{slice-past}
 use Rattle.lucid_compile.proofs.Growing.{each-row}

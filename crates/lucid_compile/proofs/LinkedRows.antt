@@ -1,16 +1,5 @@
 -- Rows with numbers for places, one by one and in lists.
-use Rattle.std.proofs.Common.{◌≡◌, ℕ, zero, suc, ◌+◌, ◌<◌, length, List, [], ◌∷◌, ◌++◌, map, take, drop, get_or, slice_set, refl, sym, ap, ◌∙◌, arith}
-use Rattle.std.proofs.lemmas.List.{map-append, length-map}
-use Rattle.lucid_tree.specs.Tree.{Head, const}
-use Rattle.lucid_equations.specs.declared.rows.ScopeRow.{ScopeRow}
-use Rattle.lucid_equations.specs.declared.rows.NodeRow.{NodeRow}
-use Rattle.lucid_equations.specs.declared.rows.PlaceRow.{PlaceRow}
-use Rattle.lucid_compile.specs.declared.numbering.Key.{Key}
-use Rattle.lucid_compile.specs.Bound.{Numbered}
-use Rattle.lucid_compile.specs.Keys.{with_call_key}
-use Rattle.lucid_compile.specs.Building.{Lists, with_place, OneScope, OneNode}
-use Rattle.lucid_compile.specs.Forms.{node_of, HasFirst}
-use Rattle.lucid_compile.specs.Linked.{linked_node, linked_row, linked_place, link}
+use Rattle.lucid_compile.proofs.Common.{◌≡◌, ℕ, zero, suc, ◌+◌, ◌<◌, length, List, [], ◌∷◌, ◌++◌, map, take, drop, get_or, refl, sym, ap, ◌∙◌, arith, map-append, length-map, Head, const, ScopeRow, NodeRow, PlaceRow, Key, Numbered, with_call_key, Lists, with_place, OneScope, OneNode, node_of, HasFirst, linked_node, linked_row, linked_place, link, slice_set}
 
 -- the item at an index, where those before it were overwritten
 get-over : {A : Type 0} (f : A → A) (xs : List A) (i : ℕ) (d : A) → i < length xs → get_or (map f (take i xs) ++ drop i xs) i d ≡ get_or xs i d

@@ -1,14 +1,8 @@
 -- In a log no place has two keys of one kind.
-use Rattle.std.proofs.Common.{◌≡◌, ℕ, suc, ◌+◌, ◌≤◌, IsTrue, cond, length, List, [], ◌∷◌, ◌++◌, map, nat_eq, refl, sym, ap, ◌∙◌, arith, append_assoc}
-use Rattle.std.proofs.lemmas.List.{append-nil, map-append}
-use Rattle.lucid_tree.specs.Tree.{PlainTree, form, name, call, block, PlainTrees, no_trees, tree, PlainDefs, no_defs, defines, defines_function, defines_current}
-use Rattle.lucid_tree.specs.WellMade.{places, places_in, places_in_defs}
-use Rattle.lucid_tree.proofs.Times.{times, times-append}
-use Rattle.lucid_equations.specs.Nodes.{plain_entry, current_entry, parameter_entry}
-use Rattle.lucid_compile.specs.Static.{Static, in_block, in_body}
-use Rattle.lucid_compile.specs.Places.{place_of, first_place}
-use Rattle.lucid_compile.specs.Bound.{Stand, Numbered, bound_node, CallStand, FunctionStand, Log, with_stand, with_call, with_function, opened_block, opened_function, with_parameters, added, added_all, added_defs}
-use Rattle.lucid_lemmas.proofs.Truths.{first_true, second_true}
+use Rattle.lucid_compile.proofs.Common.{◌≡◌, ℕ, suc, ◌+◌, ◌≤◌, IsTrue, cond, length, List, [], ◌∷◌, ◌++◌, map, nat_eq, refl, sym, ap, ◌∙◌, arith, append_assoc, map-append, PlainTree, form, name, call, block, PlainTrees, no_trees, tree, PlainDefs, no_defs, defines, defines_function, defines_current, places, places_in_defs, times, times-append, plain_entry, current_entry, parameter_entry, in_body, place_of, first_place, Stand, Numbered, bound_node, CallStand, FunctionStand, Log, with_stand, with_call, with_function, opened_block, opened_function, with_parameters, added, added_all, added_defs, first_true, second_true}
+use Rattle.std.proofs.lemmas.List.{append-nil}
+use Rattle.lucid_tree.specs.WellMade.{places_in}
+use Rattle.lucid_compile.specs.Static.{Static, in_block}
 use Rattle.lucid_compile.proofs.Stands.{parameters-calls, parameters-functions}
 use Rattle.lucid_compile.proofs.Passing.{calls_pass_actuals, all_pass_actuals, defs_pass_actuals}
 

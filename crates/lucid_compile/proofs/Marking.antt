@@ -1,13 +1,6 @@
 -- Keys and their marks, one after another.
-use Rattle.std.proofs.Common.{◌≡◌, ℕ, zero, suc, ◌+◌, ◌<◌, Bool, true, false, cond, length, List, [], ◌∷◌, ◌++◌, map, get_or, Option, Some, nat_eq, inl, inr, refl, sym, ap, ◌∙◌, subst, arith}
-use Rattle.std.proofs.lemmas.Bool.Decides.{nat_tests}
-use Rattle.std.proofs.lemmas.List.{get_or_default, map-append}
+use Rattle.lucid_compile.proofs.Common.{◌≡◌, ℕ, zero, suc, ◌+◌, ◌<◌, Bool, true, false, cond, length, List, [], ◌∷◌, ◌++◌, map, get_or, Option, Some, nat_eq, inl, inr, refl, sym, ap, ◌∙◌, subst, arith, nat_tests, get_or_default, map-append, In, AllDiffer, in_left, in_right, Key, Mark, key_at, mark_by, AreMarked}
 use Rattle.lucid_lemmas.proofs.Numbers.{below_or_last as at-last}
-use Rattle.lucid_tree.specs.Members.{In, AllDiffer}
-use Rattle.lucid_tree.proofs.Members.{in_left, in_right}
-use Rattle.lucid_compile.specs.declared.numbering.Key.{Key}
-use Rattle.lucid_compile.specs.declared.numbering.Mark.{Mark}
-use Rattle.lucid_compile.specs.Numbered.{key_at, mark_by, AreMarked}
 
 -- an item of a list stands in it
 pub stands : (ks : List Key) (i : ℕ) (d : Key) → i < length ks → In (get_or ks i d).at (map key_at ks)

@@ -1,28 +1,8 @@
 -- What the names and the calls of a resolved tree lead to: rows of what is in scope there, at its level.
-use Rattle.std.proofs.Common.{◌≡◌, ℕ, ◌<◌, Bool, true, false, if◌then◌else◌, length, nat_eq, List, [], ◌∷◌, ◌++◌, Option, Some, None, slice_get, refl, sym, ap, ◌∙◌, subst, inl, inr, arith}
-use Rattle.std.proofs.lemmas.Bool.Decides.{nat_tests}
-use Rattle.std.specs.List.{position_or_len}
+use Rattle.lucid_compile.proofs.Common.{◌≡◌, ℕ, ◌<◌, Bool, true, false, if◌then◌else◌, length, nat_eq, List, [], ◌∷◌, ◌++◌, Option, Some, None, slice_get, refl, sym, ap, ◌∙◌, subst, inl, inr, arith, nat_tests, position_or_len, PlainTree, form, name, call, block, PlainTrees, no_trees, tree, PlainDefs, no_defs, defines, defines_function, defines_current, Found, absent, plain_def, function_def, current_def, definition, param, same_name, count, In, in_right, Meaning, free, plain_name, parameter, current_name, function, meaning, defined_in, parameter_in, named, Earlier, also, no_names, again_if, repeats, sites, sites_in, outside_sites, inside_sites, binding_of, name_fault, call_fault, scoped_binding, scoped_inputs, Binding, Arity, plain_entry, current_entry, Node, Input, Refer, freezes, level, in_body, first_place, function_mark, Stand, Numbered, bound_node, node_by, name_node, callee_place, Target, no_target, of_name, of_call, NodeStand, form_stand, name_stand, call_stand, block_stands, CallStand, FunctionStand, Log, with_stand, with_call, with_function, opened_block, opened_function, with_parameters, added, added_all, added_defs, EachRow, callee_number}
 use Rattle.std.proofs.lemmas.Option.{slice_get_within as index-below}
-use Rattle.lucid_tree.specs.Tree.{PlainTree, form, name, call, block, PlainTrees, no_trees, tree, PlainDefs, no_defs, defines, defines_function, defines_current}
-use Rattle.lucid_tree.specs.Env.{Found, absent, plain_def, function_def, current_def, definition, param, same_name}
-use Rattle.lucid_tree.specs.Size.{count}
-use Rattle.lucid_tree.specs.Members.{In}
-use Rattle.lucid_tree.proofs.Members.{in_right}
-use Rattle.lucid_scope.specs.Scope.{Meaning, free, plain_name, parameter, current_name, function, meaning, defined_in, parameter_in}
-use Rattle.lucid_scope.specs.Sites.{named, called, Earlier, also, no_names, again_if, repeats, sites, sites_in, outside_sites, inside_sites}
-use Rattle.lucid_scope.specs.Bindings.{binding_of, name_fault, call_fault}
-use Rattle.lucid_scope.specs.Scoped.{scoped_binding, scoped_inputs}
-use Rattle.lucid_scope.specs.declared.scoped.Binding.{Binding}
-use Rattle.lucid_scope.specs.declared.refusal.ScopeRefusal.TheVariants.{Arity}
-use Rattle.lucid_equations.specs.Nodes.{plain_entry, current_entry}
-use Rattle.lucid_equations.specs.declared.rows.Node.{Node}
-use Rattle.lucid_equations.specs.declared.rows.Node.TheVariants.{Input, Refer}
-use Rattle.lucid_compile.specs.Static.{Static, outermost, in_block, in_function, freezes, level, in_body}
-use Rattle.lucid_compile.specs.Places.{first_place}
-use Rattle.lucid_compile.specs.Numbered.{function_mark}
-use Rattle.lucid_compile.specs.Bound.{Stand, Numbered, bound_node, node_by, name_node, callee_place, Target, no_target, of_name, of_call, NodeStand, form_stand, name_stand, call_stand, block_stands, CallStand, FunctionStand, Log, with_stand, with_call, with_function, opened_block, opened_function, with_parameters, added, added_all, added_defs}
-use Rattle.lucid_compile.specs.Holds.{EachRow}
-use Rattle.lucid_compile.specs.Steps.{callee_number}
+use Rattle.lucid_scope.specs.Sites.{called}
+use Rattle.lucid_compile.specs.Static.{Static, outermost, in_block, in_function}
 use Rattle.lucid_compile.proofs.Growing.{each-one}
 use Rattle.lucid_compile.proofs.Stands.{parameters-calls, parameters-nodes}
 use Rattle.lucid_compile.proofs.Depths.{IsOutside}

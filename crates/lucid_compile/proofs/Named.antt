@@ -1,20 +1,7 @@
 -- The row of a node that is a name, and the parts of a node that freezes nothing.
-use Rattle.std.proofs.Common.{◌≡◌, ℕ, List, Option, Some, None, refl}
-use Rattle.lucid_value.specs.Plain.{PlainValue}
-use Rattle.lucid_scope.specs.declared.scoped.Binding.{Binding}
+use Rattle.lucid_compile.proofs.Common.{◌≡◌, ℕ, List, Option, Some, None, refl, PlainValue, Binding, PlainNode, reference, EachBelow, parts, as_node, Node, Freeze, EachStandsIn, PartsStand, IsFilled, NodeRow, ScopeRow, Numbering, reference_by, node_by, IsKnown}
 use Rattle.lucid_scope.specs.declared.scoped.Binding.TheVariants.{Plain as PlainName}
-use Rattle.lucid_equations.specs.Nodes.{PlainNode, reference}
-use Rattle.lucid_equations.specs.Ranges.{EachBelow}
-use Rattle.lucid_equations.specs.Rows.{parts, as_node}
-use Rattle.lucid_equations.specs.declared.rows.Node.{Node}
-use Rattle.lucid_equations.specs.declared.rows.Node.TheVariants.{Freeze}
-use Rattle.lucid_equations.specs.Sound.{EachStandsIn, PartsStand, IsFilled}
-use Rattle.lucid_equations.specs.declared.rows.NodeRow.{NodeRow}
-use Rattle.lucid_equations.specs.declared.rows.ScopeRow.{ScopeRow}
-use Rattle.lucid_compile.specs.declared.numbering.Numbering.{Numbering}
-use Rattle.lucid_compile.specs.Bound.{reference_by, node_by}
 use Rattle.lucid_compile.specs.Forms.{FreezesNothing}
-use Rattle.lucid_compile.specs.Holds.{IsKnown}
 
 -- the parts of a node that freezes nothing
 pub parts-own : (xs : List ScopeRow) (rs : List NodeRow) (s : ℕ) (n : Node) → FreezesNothing n → EachStandsIn rs s (parts n) → PartsStand xs rs s n

@@ -1,11 +1,6 @@
 -- One context for one environment with the same names in scope, and one daton for one entry.
-use Rattle.std.proofs.Common.{◌≡◌, ℕ, Bool, true, false, List, [], Some, None, refl, sym, ap, ◌∙◌}
-use Rattle.lucid_tree.specs.Tree.{PlainDefs, no_defs}
-use Rattle.lucid_tree.specs.Env.{Env, empty, scope, args, Referent}
-use Rattle.lucid_equations.specs.Nodes.{Equations}
-use Rattle.lucid_tags.specs.Contexts.{Context, root, call_frame, frozen_frame}
-use Rattle.lucid_compile.specs.Static.{Static, outermost, in_block, in_function, freezes, Numbers, Source, static_of, context_for, daton_of}
-use Rattle.lucid_compile.specs.Compiles.{Shape, Good}
+use Rattle.lucid_compile.proofs.Common.{◌≡◌, ℕ, Bool, true, false, List, [], Some, None, refl, sym, ap, ◌∙◌, PlainDefs, no_defs, Env, empty, scope, args, Referent, Equations, Context, root, call_frame, frozen_frame, freezes, Numbers, Source, static_of, context_for, daton_of, Shape, Good}
+use Rattle.lucid_compile.specs.Static.{Static, outermost, in_block, in_function}
 use Rattle.lucid_compile.proofs.Targets.{Placed}
 
 abbrev defs_in : Static → PlainDefs

@@ -1,7 +1,5 @@
 -- Rows that stand for things, one for one.
-use Rattle.std.proofs.Common.{◌≡◌, ℕ, zero, suc, ◌+◌, length, List, [], ◌∷◌, ◌++◌, map, Some, slice_get, refl, ap, subst, arith}
-use Rattle.std.proofs.lemmas.Option.{none-some}
-use Rattle.lucid_compile.specs.Holds.{OneForOne}
+use Rattle.lucid_compile.proofs.Common.{◌≡◌, ℕ, zero, suc, ◌+◌, length, List, [], ◌∷◌, ◌++◌, map, Some, slice_get, refl, ap, subst, arith, none-some, OneForOne}
 
 -- the row of a thing, and the thing of a row
 pub record RowAt {A B : Type 0} (P : ℕ → A → B → Type 0) (rs : List A) (i j : ℕ) (s : B) : Type 0 where

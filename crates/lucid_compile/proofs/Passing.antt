@@ -1,18 +1,7 @@
 -- In a well made tree whose names have no fault each call passes an actual: a function has a parameter, and a call as many actuals.
-use Rattle.std.proofs.Common.{◌≡◌, ℕ, Bool, true, false, ◌&&◌, IsTrue, if◌then◌else◌, length, List, ◌++◌, Option, Some, None, nat_eq, nat_lt, inl, inr, refl, subst, arith, sym}
-use Rattle.std.proofs.lemmas.Bool.Decides.{nat_tests}
-use Rattle.std.proofs.lemmas.Option.{none-some}
-use Rattle.lucid_tree.specs.Tree.{PlainTree, form, name, call, block, PlainTrees, no_trees, tree, PlainDefs, no_defs, defines, defines_function, defines_current}
-use Rattle.lucid_tree.specs.Size.{count}
-use Rattle.lucid_tree.specs.Members.{In}
-use Rattle.lucid_tree.specs.WellMade.{is_shaped, are_shaped, defs_are_shaped}
-use Rattle.lucid_tree.specs.Env.{Found, absent, plain_def, function_def, current_def, definition, param, same_name}
-use Rattle.lucid_tree.proofs.Members.{in_left, in_right}
-use Rattle.lucid_scope.specs.Scope.{Static, outermost, in_block, in_function, Meaning, free, plain_name, parameter, current_name, function, meaning, defined_in, parameter_in}
-use Rattle.lucid_scope.specs.Sites.{Site as NameSite, called, sites, sites_in, outside_sites, inside_sites, Earlier, also, no_names, again_if, repeats}
-use Rattle.lucid_scope.specs.Bindings.{fault_of, call_fault}
-use Rattle.lucid_scope.specs.declared.refusal.ScopeRefusal.TheVariants.{Arity}
-use Rattle.lucid_lemmas.proofs.Truths.{first_true, second_true, both_true}
+use Rattle.lucid_compile.proofs.Common.{◌≡◌, ℕ, Bool, true, false, ◌&&◌, IsTrue, if◌then◌else◌, length, List, ◌++◌, Option, Some, None, nat_eq, nat_lt, inl, inr, refl, subst, arith, sym, nat_tests, none-some, PlainTree, form, name, call, block, PlainTrees, no_trees, tree, PlainDefs, no_defs, defines, defines_function, defines_current, count, In, is_shaped, are_shaped, defs_are_shaped, Found, absent, plain_def, function_def, current_def, definition, param, same_name, in_left, in_right, Meaning, free, plain_name, parameter, current_name, function, meaning, defined_in, parameter_in, sites, sites_in, outside_sites, inside_sites, Earlier, also, no_names, again_if, repeats, fault_of, call_fault, Arity, first_true, second_true, both_true}
+use Rattle.lucid_scope.specs.Scope.{Static, outermost, in_block, in_function}
+use Rattle.lucid_scope.specs.Sites.{Site as NameSite, called}
 
 -- a call passes at least one actual
 abbrev pub has_some : PlainTrees → Bool

@@ -1,10 +1,5 @@
 -- A table that has what each part of the tree needs keeps the tree.
-use Rattle.std.proofs.Common.{ap}
-use Rattle.lucid_tree.specs.Tree.{PlainTree}
-use Rattle.lucid_equations.specs.Nodes.{Equations}
-use Rattle.lucid_compile.specs.Static.{Numbers, Source, context_for}
-use Rattle.lucid_compile.specs.Compiles.{Compiles}
-use Rattle.lucid_compile.specs.Promise.{KeepsTree}
+use Rattle.lucid_compile.proofs.Common.{ap, PlainTree, Equations, Numbers, Source, context_for, Compiles, KeepsTree}
 use Rattle.lucid_compile.proofs.Same.{eqval-same, visits-same}
 use Rattle.lucid_compile.proofs.Evaluated.{environment-one}
 use Rattle.lucid_compile.proofs.Numbers.{consults-are, as_many, no_more, no_more_contexts}

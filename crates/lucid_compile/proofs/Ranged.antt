@@ -1,22 +1,8 @@
 -- The rows of a resolved tree's table are in range.
-use Rattle.std.proofs.Common.{◌≡◌, ℕ, suc, ◌<◌, ◌≤◌, length, List, [], ◌∷◌, sym, subst, arith}
+use Rattle.lucid_compile.proofs.Common.{◌≡◌, ℕ, suc, ◌<◌, ◌≤◌, length, List, [], ◌∷◌, sym, subst, arith, In, scoped_inputs, PlainNode, PlainEntry, Sizes, NodeNames, NodesAreInRange, EachBelow, Node, Const, Input, Refer, Call, Entry, Plain, Parameter, Current, Called, NodeRow, NameRow, PlaceRow, first_place, name_mark, call_number, Stand, Numbered, name_node, Target, no_target, of_name, of_call, NodeStand, CallStand, Log, IsKnown, AreKnown, EachRow, OneForOne, HasTarget, IsNodeRow, IsEntry, IsNameRow, IsPlaceRow}
 use Rattle.std.proofs.lemmas.Option.{slice_get_within as index-below}
-use Rattle.lucid_tree.specs.Members.{In}
-use Rattle.lucid_scope.specs.Scoped.{scoped_inputs}
-use Rattle.lucid_equations.specs.Nodes.{PlainNode, PlainEntry}
-use Rattle.lucid_equations.specs.Ranges.{Sizes, NodeNames, NodesAreInRange, EntryIsInRange, NamesAreInRange, PlacesAreInRange, EachBelow}
-use Rattle.lucid_equations.specs.declared.rows.Node.{Node}
-use Rattle.lucid_equations.specs.declared.rows.Node.TheVariants.{Const, Input, Refer, Call}
-use Rattle.lucid_equations.specs.declared.rows.Entry.{Entry}
-use Rattle.lucid_equations.specs.declared.rows.Entry.TheVariants.{Plain, Parameter, Current, Called}
-use Rattle.lucid_equations.specs.declared.rows.NodeRow.{NodeRow}
-use Rattle.lucid_equations.specs.declared.rows.NameRow.{NameRow}
-use Rattle.lucid_equations.specs.declared.rows.PlaceRow.{PlaceRow}
+use Rattle.lucid_equations.specs.Ranges.{EntryIsInRange, NamesAreInRange, PlacesAreInRange}
 use Rattle.lucid_compile.specs.Static.{Static}
-use Rattle.lucid_compile.specs.Places.{first_place}
-use Rattle.lucid_compile.specs.Numbered.{name_mark, call_number}
-use Rattle.lucid_compile.specs.Bound.{Stand, Numbered, name_node, Target, no_target, of_name, of_call, NodeStand, CallStand, Log}
-use Rattle.lucid_compile.specs.Holds.{IsKnown, AreKnown, EachRow, OneForOne, HasTarget, IsNodeRow, IsEntry, IsNameRow, IsPlaceRow}
 use Rattle.lucid_compile.proofs.Meeting.{NameLeads, TargetMet, NodeMet}
 
 plain-in_range : (w : Numbered) (n : Sizes) (r : Node) → IsKnown n.constants r → HasTarget w r no_target → NodeNames n r

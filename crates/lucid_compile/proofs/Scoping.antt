@@ -1,17 +1,7 @@
 -- Names in scope: what a name is bound to is what the tree's environments find, at the numbers and levels that the numbering has.
-use Rattle.std.proofs.Common.{◌≡◌, ℕ, suc, ◌+◌, ◌<◌, Bool, true, false, if◌then◌else◌, length, List, [], Option, Some, None, get_or, slice_get, refl, sym, ap, ◌∙◌}
-use Rattle.std.proofs.lemmas.List.Quantifiers.{position-Some}
-use Rattle.std.specs.List.{position_or_len}
-use Rattle.lucid_tree.specs.Tree.{PlainTree, PlainDefs, no_defs, defines, defines_function, defines_current}
-use Rattle.lucid_tree.specs.Env.{Found, absent, plain_def, function_def, current_def, definition, param, same_name}
-use Rattle.lucid_scope.specs.Scope.{Meaning, free, plain_name, parameter, current_name, function, meaning, defined_in, parameter_in}
-use Rattle.lucid_scope.specs.Bindings.{binding_of, name_fault, call_fault}
-use Rattle.lucid_scope.specs.declared.scoped.Binding.{Binding}
-use Rattle.lucid_equations.specs.Nodes.{input, refer, PlainEntry}
-use Rattle.lucid_compile.specs.Static.{Static, outermost, in_block, in_function, in_body, level, reference_of}
-use Rattle.lucid_compile.specs.declared.numbering.Numbering.{Numbering}
-use Rattle.lucid_compile.specs.Numbered.{name_mark, function_mark}
-use Rattle.lucid_compile.specs.Bound.{Stand, Numbered, numbers_in, reference_by, callee_place, FunctionStand}
+use Rattle.lucid_compile.proofs.Common.{◌≡◌, ℕ, suc, ◌+◌, ◌<◌, Bool, true, false, if◌then◌else◌, length, List, [], Option, Some, None, get_or, slice_get, refl, sym, ap, ◌∙◌, position-Some, position_or_len, PlainTree, PlainDefs, no_defs, defines, defines_function, defines_current, Found, absent, plain_def, function_def, current_def, definition, param, same_name, Meaning, free, plain_name, parameter, current_name, function, meaning, defined_in, parameter_in, binding_of, name_fault, call_fault, Binding, PlainEntry, in_body, level, Numbering, name_mark, function_mark, Stand, Numbered, numbers_in, reference_by, callee_place, FunctionStand}
+use Rattle.lucid_equations.specs.Nodes.{input, refer}
+use Rattle.lucid_compile.specs.Static.{Static, outermost, in_block, in_function, reference_of}
 
 pub not_some : {A : Type 0} (x : A) → Some x ≡ None → ⊥
 not_some x e = cc

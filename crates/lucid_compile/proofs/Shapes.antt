@@ -1,14 +1,6 @@
 -- Trees that are shaped, and definitions that freeze the time, part by part.
-use Rattle.std.proofs.Common.{◌≡◌, ℕ, true, false, IsTrue, nat_eq, List, refl, arith}
-use Rattle.std.proofs.lemmas.Bool.Decides.{nat_tests}
-use Rattle.lucid_lemmas.proofs.Truths.{both_true, first_true, second_true}
-use Rattle.lucid_tree.specs.WellMade.{is_shaped, defs_are_shaped}
-use Rattle.lucid_tree.specs.Tree.{PlainDefs, no_defs}
-use Rattle.lucid_tree.specs.DefsView.{def_of, one_def}
-use Rattle.lucid_tree.specs.declared.tree.Def.{Def}
-use Rattle.lucid_tree.specs.declared.tree.DefKind.{DefKind}
+use Rattle.lucid_compile.proofs.Common.{◌≡◌, ℕ, true, false, IsTrue, nat_eq, List, refl, arith, nat_tests, both_true, first_true, second_true, is_shaped, defs_are_shaped, PlainDefs, no_defs, def_of, one_def, Def, DefKind, freezes}
 use Rattle.lucid_tree.specs.declared.tree.DefKind.TheVariants.{Plain as PlainKind, Function as FunctionKind, Current as CurrentKind}
-use Rattle.lucid_compile.specs.Static.{freezes}
 
 pub shaped-one : (d : Def) (ds : PlainDefs) (x : DefKind) → IsTrue (defs_are_shaped (def_of d.at d.name x ds)) → IsTrue (defs_are_shaped (def_of d.at d.name x no_defs)) × IsTrue (defs_are_shaped ds)
 shaped-one d ds (PlainKind e) h = (both_true (is_shaped e) true (first_true (is_shaped e) _ h) refl, second_true (is_shaped e) _ h)

@@ -1,14 +1,8 @@
 -- The places of a tree's nodes, each with what is in scope there: in a well made tree they differ.
-use Rattle.std.proofs.Common.{◌≡◌, ℕ, suc, ◌+◌, ◌≤◌, false, List, [], ◌∷◌, ◌++◌, map, Some, slice_get, nat_eq, if◌then◌else◌, inl, inr, sym, ap, ◌∙◌, subst, arith}
-use Rattle.std.proofs.lemmas.Bool.Decides.{nat_tests}
-use Rattle.std.proofs.lemmas.List.{map-append}
+use Rattle.lucid_compile.proofs.Common.{◌≡◌, ℕ, suc, ◌+◌, ◌≤◌, false, List, [], ◌∷◌, ◌++◌, map, Some, slice_get, nat_eq, if◌then◌else◌, inl, inr, sym, ap, ◌∙◌, subst, arith, nat_tests, map-append, PlainTree, form, name, call, block, PlainTrees, no_trees, tree, PlainDefs, no_defs, defines, defines_function, defines_current, In, AllDiffer, places, places_in_defs, IsWellMade, times, times-append, once-differ, differ-once, in_map, Origin, in_body}
 use Rattle.std.proofs.lemmas.Bool.{eq-eqb as eq-true}
-use Rattle.lucid_tree.specs.Tree.{PlainTree, form, name, call, block, PlainTrees, no_trees, tree, PlainDefs, no_defs, defines, defines_function, defines_current}
-use Rattle.lucid_tree.specs.Members.{In, AllDiffer}
-use Rattle.lucid_tree.specs.WellMade.{places, places_in, places_in_defs, IsWellMade}
-use Rattle.lucid_tree.proofs.Times.{times, times-append, once-differ, differ-once}
-use Rattle.lucid_tree.proofs.Members.{in_map}
-use Rattle.lucid_compile.specs.Static.{Static, outermost, in_block, Origin, in_body}
+use Rattle.lucid_tree.specs.WellMade.{places_in}
+use Rattle.lucid_compile.specs.Static.{Static, outermost, in_block}
 
 -- the places of a tree's nodes, each with what is in scope there
 abbrev mutual

@@ -1,7 +1,6 @@
 -- Numbers that wait behind others.
-use Rattle.std.proofs.Common.{◌≡◌, ℕ, ◌≤◌, List, [], ◌∷◌, ◌++◌, length, take, drop, sym, ap, ◌∙◌, arith, append_assoc, append-nil, length-append}
-use Rattle.std.proofs.lemmas.List.{drop-append-le, take-append-le}
-use Rattle.std.proofs.Math.Seq.{drop-append_seam, take-append_seam}
+use Rattle.lucid_compile.proofs.Common.{◌≡◌, ℕ, ◌≤◌, List, [], ◌∷◌, ◌++◌, length, take, drop, sym, ap, ◌∙◌, arith, append_assoc, length-append, drop-append-le, take-append-le, drop-append_seam, take-append_seam}
+use Rattle.std.proofs.Common.{append-nil}
 
 -- at first there are those before alone
 pub none-waits : (xs : List ℕ) (n : ℕ) → n ≡ length xs → drop n xs ≡ []

@@ -1,22 +1,7 @@
 -- The way back through the levels, to a name that comes again.
-use Rattle.std.proofs.Common.{◌≡◌, ◌≢◌, ℕ, zero, suc, ◌+◌, ◌-◌, ◌<◌, ◌≤◌, Bool, true, false, eqb, List, [], ◌∷◌, ◌++◌, length, get_or, take, drop, ◌⊎◌, inl, inr, Vec, refl, sym, ap, subst, ◌∙◌, arith, add-one, ◌||◌, length-append}
-use Rattle.std.specs.Prelude.{ℤ, pos, ◌+ℤ◌}
-use Rattle.std.specs.Global.{Global}
-use Rattle.std.specs.List.{All, list_any}
-use Rattle.std.proofs.lemmas.List.{get_or-map, get_or_past, take-append-drop, length-replicate, length-map}
-use Rattle.std.proofs.lemmas.List.Elements.{All-nil, All-push, All-head, All-tail}
-use Rattle.std.proofs.lemmas.Map.Keys.{IsDistinct-from_apart}
-use Rattle.std.proofs.lemmas.Map.Steps.{length-le_from_distinct_below}
-use Rattle.std.proofs.lemmas.Bool.Decides.{nat_tests}
-use Rattle.std.proofs.lemmas.Bool.{cases_lt}
-use Rattle.lucid_lemmas.proofs.Lists.{some_left}
-use Rattle.lucid_tree.specs.Members.{In, AllDiffer}
-use Rattle.lucid_cycles.specs.declared.edge.Edge.{Edge}
-use Rattle.lucid_cycles.specs.Graph.{factor_of}
-use Rattle.lucid_cycles.specs.Cycles.{edge, first_or, Leads, total}
-use Rattle.lucid_cycles.specs.Closes.{Closed}
-use Rattle.lucid_cycles.specs.Potentials.{potential}
-use Rattle.lucid_cycles.specs.Rounds.{IsDue, IsDueEdge, AreLevels, levels_of}
+use Rattle.lucid_cycles.proofs.Common.{◌≡◌, ◌≢◌, ℕ, zero, suc, ◌+◌, ◌-◌, ◌<◌, ◌≤◌, Bool, true, false, List, [], ◌∷◌, ◌++◌, length, get_or, take, drop, ◌⊎◌, inl, inr, Vec, refl, sym, ap, subst, ◌∙◌, arith, add-one, length-append, ℤ, pos, ◌+ℤ◌, Global, All, get_or_past, take-append-drop, length-replicate, All-nil, All-head, All-tail, nat_tests, cases_lt, some_left, In, AllDiffer, Edge, factor_of, edge, first_or, total, Closed, potential, IsDue, AreLevels, levels_of, eqb, ◌||◌, list_any, get_or-map, length-map, All-push, IsDistinct-from_apart, length-le_from_distinct_below}
+use Rattle.lucid_cycles.specs.Cycles.{Leads}
+use Rattle.lucid_cycles.specs.Rounds.{IsDueEdge}
 use Rattle.lucid_cycles.proofs.Sums.{by, not-positive}
 use Rattle.lucid_cycles.proofs.Levels.{next-rises}
 use Rattle.lucid_cycles.proofs.Lists.{in-at, same-item}

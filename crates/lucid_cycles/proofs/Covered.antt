@@ -1,8 +1,5 @@
 -- What an edge asks of potentials covers the reference that it stands for.
-use Rattle.std.proofs.Common.{ℕ, suc, ◌+◌, ◌*◌, ◌≤◌, arith}
-use Rattle.std.specs.Prelude.{ℤ, pos, negsuc, ◌+ℤ◌, ◌*ℤ◌, ◌≤ℤ◌}
-use Rattle.std.proofs.lemmas.Int.{ints}
-use Rattle.std.proofs.Math.Nat.{mul-le-mul_left}
+use Rattle.lucid_cycles.proofs.Common.{ℕ, suc, ◌+◌, ◌*◌, ◌≤◌, arith, ℤ, pos, negsuc, ◌+ℤ◌, ◌*ℤ◌, ◌≤ℤ◌, ints, mul-le-mul_left}
 
 -- what an edge asks, over numbers: s is what it starts from, y what its end has, and one or two more
 reach-up : (a s y r t u v : ℕ) → y + r ≤ s + a * v → u + v ≤ t → a * u + y + r ≤ a * t + s

@@ -1,18 +1,8 @@
 -- The definitions of a tree's plain names: their places, the nodes by their parts, and the one with a number.
-use Rattle.std.proofs.Common.{◌≡◌, ℕ, ◌<◌, ◌≤◌, List, [], ◌∷◌, ◌++◌, length, get_or, map, ◌⊎◌, inl, inr, refl, sym, ap, ◌∙◌, arith}
-use Rattle.std.specs.Prelude.{nat_eq, nat_lt}
-use Rattle.std.specs.List.{count_by, filter, flat_map, join_by}
-use Rattle.std.specs.List.Sorted.{IsPermutation, IsNonDecreasingBy}
-use Rattle.std.proofs.lemmas.List.{append-nil, get_or_default, map-append}
-use Rattle.std.proofs.lemmas.Bool.{cases_lt}
-use Rattle.lucid_tree.specs.Tree.{PlainTree, form, name, call, block, PlainTrees, no_trees, tree, PlainDefs, no_defs, defines, defines_function, defines_current}
-use Rattle.lucid_tree.specs.Members.{AllDiffer}
-use Rattle.lucid_tree.specs.WellMade.{places, places_in, places_in_defs}
+use Rattle.lucid_cycles.proofs.Common.{◌≡◌, ℕ, ◌<◌, ◌≤◌, List, [], ◌∷◌, ◌++◌, length, get_or, map, ◌⊎◌, inl, inr, refl, sym, ap, ◌∙◌, arith, nat_eq, count_by, filter, flat_map, join_by, IsPermutation, IsNonDecreasingBy, append-nil, get_or_default, map-append, cases_lt, PlainTree, form, name, call, block, PlainTrees, no_trees, tree, PlainDefs, no_defs, defines, defines_function, defines_current, AllDiffer, places, places_in, places_in_defs, plain_names, plain_names_in, plain_names_in_defs, definitions, definition_text, name_text, Definition, text_at}
+use Rattle.std.specs.Prelude.{nat_lt}
 use Rattle.lucid_tree.proofs.Times.{times, times-append, times-counted, differ-once}
-use Rattle.lucid_cycles.specs.Judged.{plain_names, plain_names_in, plain_names_in_defs}
-use Rattle.lucid_cycles.specs.JudgmentLine.{definitions, definitions_in, definitions_in_defs, definition_text, name_text}
-use Rattle.lucid_cycles.specs.declared.line.Definition.{Definition}
-use Rattle.lucid_cycles.specs.Found.{text_at}
+use Rattle.lucid_cycles.specs.JudgmentLine.{definitions_in, definitions_in_defs}
 use Rattle.lucid_cycles.proofs.Ordered.{Once, count-map, one-at, none-at}
 use Rattle.lucid_cycles.proofs.Found.{text-in, text-out}
 

@@ -1,14 +1,10 @@
 -- A depth that is enough by potentials is enough.
-use Rattle.std.proofs.Common.{◌≡◌, ℕ, zero, suc, ◌+◌, ◌*◌, ◌<◌, ◌≤◌, true, false, cond, List, [], ◌++◌, Option, Some, None, refl, sym, subst, arith, nat_lt}
-use Rattle.std.specs.Prelude.{IsSome, ℤ, pos, ◌+ℤ◌, ◌-ℤ◌, ◌≤ℤ◌}
-use Rattle.std.specs.List.{All}
-use Rattle.std.proofs.lemmas.Int.{ints}
-use Rattle.std.proofs.lemmas.List.Elements.{All-head}
-use Rattle.lucid_value.specs.Plain.{PlainValue, truth, fault}
+use Rattle.lucid_cycles.proofs.Common.{◌≡◌, ℕ, zero, suc, ◌+◌, ◌*◌, ◌<◌, ◌≤◌, true, false, cond, List, [], ◌++◌, Option, Some, refl, sym, subst, arith, IsSome, ℤ, pos, ◌+ℤ◌, ◌≤ℤ◌, All, ints, All-head, PlainValue, truth, fault, Head, first, next, fby, PlainTree, form, name, call, block, PlainTrees, no_trees, tree, PlainDefs, no_defs, defines, defines_function, defines_current, gives, by_test, look, Reader, run, Binding, Plain, Edge, is_judged, outside, outside_in, outside_in_defs, plain_names, Bindings, edge_to, edges, edges_in, edges_in_defs, first_delay, later_delay, number, graph, potential, Falls, Adds, HasParts, HaveParts, DefsHaveParts, EnoughIsEnough, ◌-ℤ◌}
+use Rattle.std.proofs.Common.{None, nat_lt}
 use Rattle.lucid_ops.specs.Algebra.{algebra}
-use Rattle.lucid_tree.specs.Tree.{Head, const, apply, choose, both, either, first, next, fby, PlainTree, form, name, call, block, PlainTrees, no_trees, tree, PlainDefs, no_defs, defines, defines_function, defines_current}
+use Rattle.lucid_tree.specs.Tree.{const, apply, choose, both, either}
 use Rattle.lucid_tree.specs.Size.{count}
-use Rattle.lucid_tree.specs.Rows.{last, gives, gives_part, by_test, only_truth, look, Reader, run}
+use Rattle.lucid_tree.specs.Rows.{last, gives_part, only_truth}
 use Rattle.lucid_tree.specs.Levels.{Elements, nothing_held, below, element_of}
 use Rattle.lucid_tree.specs.Env.{Env, empty, scope, frozen_at, Found, absent, plain_def, function_def, current_def, definition, same_name, Aim, to_tree, name_target}
 use Rattle.lucid_tree.specs.Meaning.{value_at, part_at, value, val}
@@ -16,13 +12,7 @@ use Rattle.lucid_scope.specs.Scope.{Static, outermost, in_block, in_function, Me
 use Rattle.lucid_scope.specs.Sites.{Site, named, site_at, sites, sites_in, outside_sites, inside_sites, again_if, also, no_names, Earlier}
 use Rattle.lucid_scope.specs.Bindings.{binding_of, binding_for}
 use Rattle.lucid_scope.specs.Laws.{Matches, outermost_matches, block_matches, NameAim, NamesGoWhereTheyBelong}
-use Rattle.lucid_scope.specs.declared.scoped.Binding.{Binding}
-use Rattle.lucid_scope.specs.declared.scoped.Binding.TheVariants.{Plain}
-use Rattle.lucid_cycles.specs.declared.edge.Edge.{Edge}
-use Rattle.lucid_cycles.specs.Judged.{is_judged, outside, outside_in, outside_in_defs, plain_names}
-use Rattle.lucid_cycles.specs.Graph.{Bindings, edge_to, edges, edges_in, edges_in_defs, first_delay, later_delay, number, numbered, graph}
-use Rattle.lucid_cycles.specs.Potentials.{potential, Falls, Adds}
-use Rattle.lucid_cycles.specs.Laws.{HasParts, HaveParts, DefsHaveParts, EnoughIsEnough}
+use Rattle.lucid_cycles.specs.Graph.{numbered}
 use Rattle.lucid_cycles.proofs.Lists.{all-left, all-right, nil-left, nil-right, all-unmap, all-both}
 use Rattle.lucid_cycles.proofs.Plans.{run-look, run-test, run-arguments}
 use Rattle.lucid_cycles.proofs.Covered.{reach}

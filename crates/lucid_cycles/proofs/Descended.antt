@@ -1,25 +1,15 @@
 -- From the descents through a tree to what is said of its graph.
-use Rattle.std.proofs.Common.{◌≡◌, ℕ, zero, suc, ◌<◌, ◌≤◌, List, [], ◌++◌, length, map, take, fold, Option, Some, None, ◌⊎◌, inl, inr, sym, ap, subst, ◌∙◌, arith}
-use Rattle.std.specs.Prelude.{pos, MatchOption, Result, Ok, Err, IsOk, OnOk}
-use Rattle.std.specs.declared.convert.Infallible.{Infallible}
-use Rattle.std.specs.List.{All}
-use Rattle.std.proofs.lemmas.List.Elements.{All-map, All-weaker}
-use Rattle.std.proofs.Math.Logic.{∥∥₁_elim}
-use Rattle.std.proofs.Props.{props}
-use Rattle.lucid_tree.specs.Tree.{PlainTree}
+use Rattle.lucid_cycles.proofs.Common.{◌≡◌, ℕ, zero, suc, ◌<◌, ◌≤◌, List, [], ◌++◌, length, map, take, fold, Option, Some, ◌⊎◌, inl, inr, sym, ap, subst, ◌∙◌, arith, pos, MatchOption, All, All-map, All-weaker, PlainTree, Edge, Names, Survey, outside, plain_names, IsFirstOutside, Bindings, edges, graph, factor_of, Falls, Adds, HasParts, EnoughIsEnough, with_name, listed_names, HasAsked, marks, HasNames, Result, IsOk, OnOk, Infallible, ∥∥₁_elim, props}
+use Rattle.std.proofs.Common.{None}
+use Rattle.std.specs.Prelude.{Ok, Err}
 use Rattle.lucid_scope.specs.Bindings.{IsResolved}
-use Rattle.lucid_cycles.specs.declared.edge.Edge.{Edge}
-use Rattle.lucid_cycles.specs.declared.names.Names.{Names}
 use Rattle.lucid_cycles.specs.declared.judgment.Judgment.{Judgment}
 use Rattle.lucid_cycles.specs.declared.judgment.Judgment.TheVariants.{Enough, Cycle}
-use Rattle.lucid_cycles.specs.declared.names.Survey.{Survey}
-use Rattle.lucid_cycles.specs.Judged.{outside, plain_names, IsFirstOutside}
-use Rattle.lucid_cycles.specs.Graph.{Bindings, edges, numbered, graph, factor_of}
-use Rattle.lucid_cycles.specs.Potentials.{Falls, Adds}
+use Rattle.lucid_cycles.specs.Graph.{numbered}
 use Rattle.lucid_cycles.specs.Judgments.{names_of, IsEnough, IsGraphJudgment, IsJudgment}
-use Rattle.lucid_cycles.specs.Laws.{HasParts, EnoughIsEnough, IsDefinedAtDepth, IsDefinedAsJudged}
-use Rattle.lucid_cycles.specs.Walks.{with_name, lesser, listed_names, HasAsked, marks}
-use Rattle.lucid_cycles.specs.Readers.{HasNames, Surveys, IsSurvey}
+use Rattle.lucid_cycles.specs.Laws.{IsDefinedAtDepth, IsDefinedAsJudged}
+use Rattle.lucid_cycles.specs.Walks.{lesser}
+use Rattle.lucid_cycles.specs.Readers.{Surveys, IsSurvey}
 use Rattle.lucid_cycles.proofs.Lists.{all-both, all-unmap}
 use Rattle.lucid_cycles.proofs.Table.{roomy, crowded, none-outside, first-outside}
 use Rattle.lucid_cycles.proofs.Defined.{names-places}
@@ -51,14 +41,6 @@ few-by e s i h (inr l) = let m = i.many l in absurd (omega (arith, m, h))
 
 pub few-names : (e : PlainTree) (s : Survey) → IsSurvey e s → s.names.count ≤ 2000 → names_of e ≤ 2000
 few-names e s i h = few-by e s i h (le-or (names_of e) 2000)
-
--- and many by it are many
-many-by : (e : PlainTree) (s : Survey) → IsSurvey e s → 2000 < s.names.count → (names_of e ≤ 2000) ⊎ (2000 < names_of e) → 2000 < names_of e
-many-by e s i h (inl l) = let n = i.names l in absurd (omega (arith, n.count, h, l))
-many-by e s i h (inr l) = l
-
-pub many-names : (e : PlainTree) (s : Survey) → IsSurvey e s → 2000 < s.names.count → 2000 < names_of e
-many-names e s i h = many-by e s i h (le-or (names_of e) 2000)
 
 pub graph-is : (e : PlainTree) (b : Bindings) (m : Names) (es : List Edge) → HasNames e m → es ≡ map (numbered (listed_names m)) (edges b None (pos 0) e) → es ≡ graph e b
 graph-is e b m es h q = q ∙ ap (λ ds. map (numbered ds) (edges b None (pos 0) e)) h.listed
@@ -92,9 +74,6 @@ enough-asks e b m factor add p h q =
     all-unmap (Adds factor p add) (numbered ds) (edges b None (pos 0) e) (subst (λ k. All (Adds k p add) (graph e b)) (sym q.factor_is) q.added.adds) in
     subst (λ xs. All (HasAsked xs factor p add) (edges b None (pos 0) e)) (sym h.listed)
     (all-both (λ (x : Edge). Falls factor p (numbered ds x)) (λ (x : Edge). Adds factor p add (numbered ds x)) (HasAsked ds factor p add) (λ x f g. record { falls = f; adds = g }) (edges b None (pos 0) e) falls adds)
-
-pub enough-counts : (e : PlainTree) (b : Bindings) (m : Names) (factor add : ℕ) (p : List ℕ) → HasNames e m → IsEnough e b factor add p → (length p ≡ m.count) × (factor ≡ factor_of m.count) × (2 ≤ add)
-enough-counts e b m factor add p h q = (q.potentials.each ∙ sym h.count, q.factor_is ∙ ap factor_of (sym h.count), q.added.two)
 
 -- a depth that is enough is enough for a program that was resolved
 pub defined : EnoughIsEnough → (e : PlainTree) (inputs : List (List ℕ)) (b : Bindings) (factor add : ℕ) (p : List ℕ) → HasParts e → ∥ IsResolved e inputs b ∥₁ → outside e ≡ [] → IsEnough e b factor add p → IsDefinedAtDepth e factor add

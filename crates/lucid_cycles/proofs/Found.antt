@@ -1,8 +1,5 @@
 -- Definitions that were found, in order.
-use Rattle.std.proofs.Common.{◌≡◌, ℕ, zero, suc, ◌<◌, ◌≤◌, List, [], ◌∷◌, length, get_or, refl, sym, ap, arith}
-use Rattle.lucid_cycles.specs.declared.line.Definition.{Definition}
-use Rattle.lucid_cycles.specs.JudgmentLine.{definition_text}
-use Rattle.lucid_cycles.specs.Found.{text_at}
+use Rattle.lucid_cycles.proofs.Common.{◌≡◌, ℕ, zero, suc, ◌<◌, ◌≤◌, List, [], ◌∷◌, length, get_or, refl, sym, ap, arith, Definition, definition_text, text_at}
 
 pub text-in : (ds : List Definition) (k : ℕ) (d : Definition) → k < length ds → d ≡ get_or ds k d → text_at ds k ≡ definition_text d
 text-in [] k d h e = absurd (omega (arith, h))

@@ -1,14 +1,7 @@
 -- Rounds: they stay below all potentials, and where nothing rises there are potentials.
-use Rattle.std.proofs.Common.{◌≡◌, ℕ, ◌+◌, ◌<◌, ◌≤◌, List, ◌⊎◌, inl, inr, Option, Some, None, arith}
-use Rattle.std.specs.Prelude.{ℤ, pos, ◌+ℤ◌, ◌≤ℤ◌}
-use Rattle.std.specs.List.{All}
-use Rattle.std.proofs.lemmas.Int.{ints}
-use Rattle.std.proofs.lemmas.List.Elements.{All-weaker}
-use Rattle.lucid_tree.specs.Members.{In}
-use Rattle.lucid_cycles.specs.declared.edge.Edge.{Edge}
-use Rattle.lucid_cycles.specs.Cycles.{edge}
-use Rattle.lucid_cycles.specs.Potentials.{potential, FallsFrom, Falls}
-use Rattle.lucid_cycles.specs.Rounds.{Raises, RaisesFrom, IsDue, IsRound}
+use Rattle.lucid_cycles.proofs.Common.{◌≡◌, ℕ, ◌+◌, ◌<◌, ◌≤◌, List, ◌⊎◌, inl, inr, Option, Some, arith, ℤ, pos, ◌+ℤ◌, ◌≤ℤ◌, All, ints, All-weaker, In, Edge, edge, potential, Falls, Raises, RaisesFrom, IsDue, IsRound}
+use Rattle.std.proofs.Common.{None}
+use Rattle.lucid_cycles.specs.Potentials.{FallsFrom}
 use Rattle.lucid_cycles.proofs.Sums.{by}
 use Rattle.lucid_cycles.proofs.Lists.{all-in}
 

@@ -1,9 +1,6 @@
 -- Parts of lists.
-use Rattle.std.proofs.Common.{◌≡◌, ◌<◌, ℕ, zero, suc, List, [], ◌∷◌, ◌++◌, length, get_or, map, refl, sym, subst, inl, inr, arith}
-use Rattle.std.specs.List.{All}
-use Rattle.lucid_tree.specs.Members.{In}
+use Rattle.lucid_cycles.proofs.Common.{◌≡◌, ◌<◌, ℕ, zero, suc, List, [], ◌∷◌, ◌++◌, length, get_or, map, refl, sym, subst, inl, inr, arith, All, In, All-nil, All-cons, All-head, All-tail}
 pub use Rattle.lucid_cycles.specs.Readers.{all-left, all-right}
-use Rattle.std.proofs.lemmas.List.Elements.{All-nil, All-cons, All-head, All-tail}
 
 pub nil-left : {X : Type 0} (xs ys : List X) → xs ++ ys ≡ [] → xs ≡ []
 nil-left [] ys e = refl

@@ -1,13 +1,6 @@
 -- Items in the order of their numbers, each of which stands once: an item's place is how many have lesser numbers.
-use Rattle.std.proofs.Common.{◌≡◌, ℕ, zero, suc, ◌+◌, ◌<◌, ◌≤◌, Bool, true, false, cond, List, [], ◌∷◌, length, get_or, map, ◌⊎◌, inl, inr, refl, sym, ap, subst, ◌∙◌, arith, nat_lt}
-use Rattle.std.specs.Prelude.{nat_eq}
-use Rattle.std.specs.List.{All, count_by, filter}
-use Rattle.std.specs.List.Sorted.{IsPermutation, IsNonDecreasingBy}
-use Rattle.std.proofs.lemmas.Bool.Decides.{nat_tests}
-use Rattle.std.proofs.lemmas.List.{get_or_default}
-use Rattle.std.proofs.lemmas.List.Sums.{sum_by-cons}
-use Rattle.std.proofs.lemmas.List.Sorted.{All-permutation, sum_by-IsPermutation, IsPermutation-sym}
-use Rattle.std.proofs.lemmas.Bool.{eq-eqb, lt-ltb, le-ltb, cases_lt, eqb-true}
+use Rattle.lucid_cycles.proofs.Common.{◌≡◌, ℕ, zero, suc, ◌+◌, ◌<◌, ◌≤◌, Bool, true, false, cond, List, [], ◌∷◌, length, get_or, map, ◌⊎◌, inl, inr, refl, sym, ap, subst, ◌∙◌, arith, nat_eq, All, count_by, filter, IsPermutation, IsNonDecreasingBy, nat_tests, get_or_default, sum_by-cons, lt-ltb, le-ltb, cases_lt, All-permutation, sum_by-IsPermutation, IsPermutation-sym, eq-eqb, eqb-true}
+use Rattle.std.proofs.Common.{nat_lt}
 
 eq-false : (x y : ℕ) → x < y → nat_eq x y ≡ false
 eq-false x y h = grind (arith, nat_tests)

@@ -1,8 +1,8 @@
 -- Plans of judged forms give a value where the parts that they look at have one.
-use Rattle.std.proofs.Common.{ℕ, zero, suc, ◌+◌, ◌<◌, true, false, List, [], Option, Some, None, refl, arith}
-use Rattle.std.specs.Prelude.{IsSome}
-use Rattle.lucid_value.specs.Plain.{PlainValue, truth, eod, int, word, text, list, fault}
-use Rattle.lucid_tree.specs.Rows.{Plan, gives, looks, look, Reader, run, single, by_test, all_values, add_value, with_values, arguments}
+use Rattle.lucid_cycles.proofs.Common.{ℕ, zero, suc, ◌+◌, ◌<◌, true, false, List, [], Option, Some, refl, arith, IsSome, PlainValue, truth, fault, gives, look, Reader, run, by_test}
+use Rattle.std.proofs.Common.{None}
+use Rattle.lucid_value.specs.Plain.{eod, int, word, text, list}
+use Rattle.lucid_tree.specs.Rows.{Plan, looks, single, all_values, add_value, with_values, arguments}
 
 looked : (r : Reader (Option PlainValue)) (k : PlainValue → Plan) (o : Option PlainValue) → IsSome o → ((v : PlainValue) → IsSome (run (k v) r))
     → IsSome (with_values (add_value o (Some [])) None (λ vs. run (single k vs) r))

@@ -1,15 +1,8 @@
 -- Steps of a round, and of the number that is added.
-use Rattle.std.proofs.Common.{◌≡◌, ℕ, ◌+◌, ◌<◌, ◌≤◌, List, [], ◌∷◌, length, get_or, take, ◌⊎◌, inl, inr, Option, Some, None, sym, ap, subst, ◌∙◌, arith, ◌++◌}
-use Rattle.std.proofs.lemmas.List.{take_more}
-use Rattle.std.specs.Prelude.{ℤ, pos, ◌+ℤ◌, ◌≤ℤ◌}
-use Rattle.std.specs.List.{All}
-use Rattle.std.proofs.lemmas.Int.{ints}
-use Rattle.std.proofs.lemmas.List.Elements.{All-weaker, All-more, All-head}
-use Rattle.lucid_tree.specs.Members.{In}
-use Rattle.lucid_cycles.specs.declared.edge.Edge.{Edge}
-use Rattle.lucid_cycles.specs.Cycles.{edge}
-use Rattle.lucid_cycles.specs.Potentials.{potential, Adds, AddsFrom}
-use Rattle.lucid_cycles.specs.Rounds.{Raises, RaisesFrom, IsDue, IsRound, Makes, IsRaised, Rounding, AreLeastAdded}
+use Rattle.lucid_cycles.proofs.Common.{◌≡◌, ℕ, ◌+◌, ◌<◌, ◌≤◌, List, [], ◌∷◌, length, get_or, take, ◌⊎◌, inl, inr, Option, Some, sym, ap, subst, ◌∙◌, arith, ◌++◌, ℤ, pos, ◌+ℤ◌, ◌≤ℤ◌, All, ints, All-weaker, All-more, All-head, In, Edge, edge, potential, Adds, Raises, RaisesFrom, IsDue, IsRound, Makes, Rounding, AreLeastAdded, take_more}
+use Rattle.std.proofs.Common.{None}
+use Rattle.lucid_cycles.specs.Potentials.{AddsFrom}
+use Rattle.lucid_cycles.specs.Rounds.{IsRaised}
 use Rattle.lucid_cycles.proofs.Sums.{by}
 use Rattle.lucid_cycles.proofs.Lists.{all-left, all-right, in-at}
 

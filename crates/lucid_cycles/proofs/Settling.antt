@@ -1,16 +1,6 @@
 -- Levels of potentials as they are made, and how high they are.
-use Rattle.std.proofs.Common.{◌≡◌, ℕ, zero, suc, ◌+◌, ◌*◌, ◌<◌, ◌≤◌, List, [], ◌∷◌, ◌++◌, length, get_or, replicate, ◌⊎◌, inl, inr, Vec, refl, sym, ap, subst, ◌∙◌, arith, length-append, append_assoc, add-one}
-use Rattle.std.specs.Prelude.{ℤ, pos, negsuc, ◌+ℤ◌, ◌*ℤ◌, ◌≤ℤ◌}
-use Rattle.std.specs.Global.{Global}
-use Rattle.std.specs.List.{All}
-use Rattle.std.proofs.lemmas.Int.{ints}
-use Rattle.std.proofs.lemmas.List.{get_or_past, map-append, length-replicate}
-use Rattle.std.proofs.Math.Nat.{mul-le-mul_left}
-use Rattle.lucid_cycles.specs.declared.edge.Edge.{Edge}
-use Rattle.lucid_cycles.specs.Graph.{factor_of}
-use Rattle.lucid_cycles.specs.Judgments.{IsLeastEnough}
-use Rattle.lucid_cycles.specs.Potentials.{potential, Falls, ArePotentials}
-use Rattle.lucid_cycles.specs.Rounds.{IsSmall, IsDue, IsRound, IsStep, AreLevels, AreLeastAdded, levels_of}
+use Rattle.lucid_cycles.proofs.Common.{◌≡◌, ℕ, zero, suc, ◌+◌, ◌*◌, ◌<◌, ◌≤◌, List, [], ◌∷◌, ◌++◌, length, get_or, ◌⊎◌, inl, inr, Vec, refl, sym, ap, subst, ◌∙◌, arith, length-append, append_assoc, add-one, ℤ, pos, negsuc, ◌+ℤ◌, ◌*ℤ◌, ◌≤ℤ◌, Global, All, ints, get_or_past, map-append, length-replicate, mul-le-mul_left, Edge, factor_of, IsLeastEnough, potential, Falls, ArePotentials, IsSmall, IsDue, IsRound, AreLevels, AreLeastAdded, levels_of, replicate}
+use Rattle.lucid_cycles.specs.Rounds.{IsStep}
 use Rattle.lucid_cycles.proofs.Sums.{potentials-delay}
 use Rattle.lucid_cycles.proofs.Levels.{Below, round-below, settled}
 use Rattle.lucid_cycles.proofs.Lists.{all-in}

@@ -1,28 +1,16 @@
 -- The edges of a program have small numbers.
-use Rattle.std.proofs.Common.{◌≡◌, ℕ, suc, ◌+◌, ◌<◌, ◌≤◌, Bool, true, false, cond, List, [], ◌∷◌, ◌++◌, length, Option, Some, None, inl, inr, refl, sym, ap, subst, ◌∙◌, arith, length-append, nat_lt}
-use Rattle.std.specs.Prelude.{ℤ, pos, option_map}
-use Rattle.std.specs.List.{All}
-use Rattle.std.proofs.lemmas.Int.{ints}
-use Rattle.std.proofs.lemmas.Bool.Decides.{nat_tests}
-use Rattle.std.proofs.lemmas.List.Elements.{All-nil, All-cons, All-append, All-map, All-weaker}
-use Rattle.std.proofs.lemmas.List.Sums.{count_by-le-length, sum_by-cons}
-use Rattle.lucid_tree.specs.Tree.{Head, first, next, fby, PlainTree, form, name, call, block, PlainTrees, no_trees, tree, PlainDefs, no_defs, defines, defines_function, defines_current}
-use Rattle.lucid_tree.specs.Members.{In}
-use Rattle.lucid_tree.specs.Rights.{right_of}
+use Rattle.lucid_cycles.proofs.Common.{◌≡◌, ℕ, suc, ◌+◌, ◌<◌, ◌≤◌, Bool, true, false, cond, List, [], ◌∷◌, ◌++◌, length, Option, Some, inl, inr, refl, sym, ap, subst, ◌∙◌, arith, length-append, ℤ, pos, All, ints, nat_tests, All-nil, All-cons, All-append, All-map, All-weaker, sum_by-cons, Head, first, next, fby, PlainTree, form, name, call, block, PlainTrees, no_trees, tree, PlainDefs, no_defs, defines, defines_function, defines_current, In, right_of, places, places_in, places_in_defs, in_left, in_right, Binding, Plain, Edge, outside, outside_in, outside_in_defs, plain_names, plain_names_in, plain_names_in_defs, Bindings, edge_to, edges, edges_in, edges_in_defs, first_delay, later_delay, number, graph, Fits, IsSmall, own_marks, marks, marks_in_defs, option_map, count_by-le-length}
+use Rattle.std.proofs.Common.{None, nat_lt}
 use Rattle.lucid_tree.specs.DefsView.{def_of, one_def}
 use Rattle.lucid_tree.specs.declared.tree.Def.{Def}
 use Rattle.lucid_tree.specs.declared.tree.DefKind.{DefKind}
 use Rattle.lucid_tree.specs.declared.tree.DefKind.TheVariants.{Plain as DefPlain, Function as DefFunction, Current as DefCurrent}
-use Rattle.lucid_tree.specs.WellMade.{IsWellMade, places, places_in, places_in_defs}
-use Rattle.lucid_tree.proofs.Members.{in_left, in_right}
-use Rattle.lucid_scope.specs.declared.scoped.Binding.{Binding}
-use Rattle.lucid_scope.specs.declared.scoped.Binding.TheVariants.{Plain, Parameter, Current, Function, Input}
-use Rattle.lucid_cycles.specs.declared.edge.Edge.{Edge}
-use Rattle.lucid_cycles.specs.Judged.{outside, outside_in, outside_in_defs, plain_names, plain_names_in, plain_names_in_defs}
-use Rattle.lucid_cycles.specs.Graph.{Bindings, edge_to, edges, edges_in, edges_in_defs, first_delay, later_delay, number, numbered, graph}
-use Rattle.lucid_cycles.specs.Rounds.{Fits, FromBelow, IsSmall}
+use Rattle.lucid_tree.specs.WellMade.{IsWellMade}
+use Rattle.lucid_scope.specs.declared.scoped.Binding.TheVariants.{Parameter, Current, Function, Input}
+use Rattle.lucid_cycles.specs.Graph.{numbered}
+use Rattle.lucid_cycles.specs.Rounds.{FromBelow}
 use Rattle.lucid_cycles.proofs.Lists.{nil-left, nil-right}
-use Rattle.lucid_cycles.specs.Walks.{own_marks, both, marks, marks_in_defs}
+use Rattle.lucid_cycles.specs.Walks.{both}
 
 pub fits-part : (w : ℤ) (n m : ℕ) → m ≤ n → Fits w n → Fits w m
 fits-part w n m h f = let l = f.low in let u = f.high in record { low = omega (arith, ints, l); high = omega (arith, ints, u) }

@@ -1,13 +1,7 @@
 -- Sums of delays along edges, and potentials.
-use Rattle.std.proofs.Common.{◌≡◌, ◌≢◌, ℕ, zero, suc, ◌+◌, ◌<◌, ◌≤◌, List, [], ◌∷◌, length, refl, ap, arith}
-use Rattle.std.specs.Prelude.{ℤ, pos, negsuc, ◌+ℤ◌, ◌*ℤ◌, ◌≤ℤ◌, ◌<ℤ◌}
-use Rattle.std.specs.List.{All}
-use Rattle.std.proofs.lemmas.Int.{ints}
+use Rattle.lucid_cycles.proofs.Common.{◌≡◌, ◌≢◌, ℕ, zero, suc, ◌+◌, ◌<◌, ◌≤◌, List, [], ◌∷◌, length, refl, ap, arith, ℤ, pos, negsuc, ◌+ℤ◌, ◌*ℤ◌, ◌≤ℤ◌, ◌<ℤ◌, All, ints, Edge, factor_of, edge, first_or, total, potential, Falls, ArePotentials}
 use lib.IntN.{zero-*ℤ, suc_ℤ-*ℤ}
-use Rattle.lucid_cycles.specs.declared.edge.Edge.{Edge}
-use Rattle.lucid_cycles.specs.Graph.{factor_of}
-use Rattle.lucid_cycles.specs.Cycles.{edge, first_or, Leads, total, EveryCycleDelays}
-use Rattle.lucid_cycles.specs.Potentials.{potential, Falls, ArePotentials}
+use Rattle.lucid_cycles.specs.Cycles.{Leads, EveryCycleDelays}
 use Rattle.lucid_cycles.proofs.Lists.{all-in}
 
 -- a times the delay

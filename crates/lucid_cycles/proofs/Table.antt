@@ -1,16 +1,8 @@
 -- The table of names and the least place, from folds over the tree's lists.
-use Rattle.std.proofs.Common.{◌≡◌, ℕ, ◌+◌, ◌<◌, ◌≤◌, Bool, true, false, cond, List, [], ◌∷◌, ◌++◌, length, set, fold, Option, Some, None, ◌⊎◌, inl, inr, refl, sym, ap, subst, ◌∙◌, arith, nat_lt, append_assoc}
-use Rattle.std.specs.List.{All}
-use Rattle.std.proofs.Math.ListN.{length-set}
-use Rattle.std.proofs.lemmas.List.{take_more_set, append-nil}
-use Rattle.std.proofs.lemmas.Bool.Decides.{nat_tests}
-use Rattle.std.proofs.lemmas.List.Elements.{All-nil, All-cons, All-head, All-tail}
-use Rattle.std.proofs.lemmas.Bool.{lt-ltb, le-ltb}
-use Rattle.lucid_tree.specs.Tree.{PlainTree}
-use Rattle.lucid_tree.specs.Members.{In}
-use Rattle.lucid_cycles.specs.declared.names.Names.{Names}
-use Rattle.lucid_cycles.specs.Judged.{outside, most_names, IsFirstOutside}
-use Rattle.lucid_cycles.specs.Walks.{with_name, listed_names, lesser}
+use Rattle.lucid_cycles.proofs.Common.{◌≡◌, ℕ, ◌+◌, ◌<◌, ◌≤◌, Bool, true, false, cond, List, [], ◌∷◌, ◌++◌, length, fold, Option, Some, ◌⊎◌, inl, inr, refl, sym, ap, subst, ◌∙◌, arith, append_assoc, All, append-nil, nat_tests, All-nil, All-cons, All-head, All-tail, lt-ltb, le-ltb, PlainTree, In, Names, outside, IsFirstOutside, with_name, listed_names, set, length-set, take_more_set}
+use Rattle.std.proofs.Common.{None, nat_lt}
+use Rattle.lucid_cycles.specs.Judged.{most_names}
+use Rattle.lucid_cycles.specs.Walks.{lesser}
 
 -- a table in which all names have room
 pub record Roomy (n m : Names) (ds : List ℕ) : Type 0 where

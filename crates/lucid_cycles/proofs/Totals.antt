@@ -1,10 +1,7 @@
 -- The sum of delays, one delay further.
-use Rattle.std.proofs.Common.{◌≡◌, ℕ, zero, suc, ◌+◌, ◌*◌, ◌<◌, List, [], ◌∷◌, length, get_or, drop, refl, sym, ap, ◌∙◌, arith, add-one}
-use Rattle.std.specs.Prelude.{ℤ, pos, ◌+ℤ◌, ◌≤ℤ◌}
-use Rattle.std.proofs.lemmas.Int.{ints, to_z-of_z}
+use Rattle.lucid_cycles.proofs.Common.{◌≡◌, ℕ, zero, suc, ◌+◌, ◌*◌, ◌<◌, List, [], ◌∷◌, length, get_or, drop, refl, sym, ap, ◌∙◌, arith, add-one, ℤ, pos, ◌+ℤ◌, ◌≤ℤ◌, ints, to_z-of_z, total}
 use mir.Syntax.{w64, w128}
 use mir.Val.{SFits, to_z, of_z}
-use Rattle.lucid_cycles.specs.Cycles.{total}
 
 total-drop : (xs : List ℤ) (i : ℕ) → i < length xs → total (drop i xs) ≡ get_or xs i (pos 0) +ℤ total (drop (suc i) xs)
 total-drop [] i h = absurd (omega (arith, h))

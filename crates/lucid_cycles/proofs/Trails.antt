@@ -1,17 +1,7 @@
 -- Trails back through the levels, and the cycle that a trail closes.
-use Rattle.std.proofs.Common.{◌≡◌, ◌≢◌, ℕ, zero, suc, ◌+◌, ◌<◌, ◌≤◌, List, [], ◌∷◌, ◌++◌, length, get_or, take, drop, inl, inr, refl, sym, ap, subst, ◌∙◌, arith}
-use Rattle.std.specs.Prelude.{ℤ, pos, ◌+ℤ◌, ◌≤ℤ◌, ◌<ℤ◌}
-use Rattle.std.specs.List.{All}
-use Rattle.std.proofs.lemmas.Int.{ints}
-use Rattle.lucid_lemmas.proofs.Lists.{some_left}
-use Rattle.lucid_tree.specs.Members.{In, AllDiffer}
-use Rattle.lucid_tree.proofs.Members.{in_left, in_right, in_either}
-use Rattle.lucid_cycles.specs.declared.edge.Edge.{Edge}
-use Rattle.std.proofs.lemmas.List.{take-append-drop, length-take-le}
-use Rattle.std.proofs.lemmas.List.Elements.{All-from_get_or, All-append, All-drop, All-take}
-use Rattle.lucid_cycles.specs.Cycles.{edge, first_or, Leads, IsCycle, total, IsCycleWithoutDelay}
-use Rattle.lucid_cycles.specs.Closes.{Closed}
-use Rattle.lucid_cycles.specs.Potentials.{potential}
+use Rattle.lucid_cycles.proofs.Common.{◌≡◌, ◌≢◌, ℕ, zero, suc, ◌+◌, ◌<◌, ◌≤◌, List, [], ◌∷◌, ◌++◌, length, get_or, take, drop, inl, inr, refl, sym, ap, subst, ◌∙◌, arith, ℤ, pos, ◌+ℤ◌, ◌≤ℤ◌, ◌<ℤ◌, All, ints, some_left, In, AllDiffer, in_left, in_right, Edge, take-append-drop, All-append, edge, first_or, total, Closed, potential, length-take-le, All-from_get_or, All-drop, All-take}
+use Rattle.lucid_tree.proofs.Members.{in_either}
+use Rattle.lucid_cycles.specs.Cycles.{Leads, IsCycle, IsCycleWithoutDelay}
 use Rattle.lucid_cycles.proofs.Sums.{by, by-sum, by-none}
 
 module _ (g : List Edge) (a : ℕ) (h : ℕ → List ℕ) where

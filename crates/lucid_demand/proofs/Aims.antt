@@ -1,17 +1,13 @@
 -- What a name goes on with in a context: by the context's innermost frame, and nowhere where there are too few frames.
-use Rattle.std.proofs.Common.{◌≡◌, ◌≢◌, ℕ, ◌<◌, ◌-◌, ◌⊎◌, inl, inr, List, [], ◌∷◌, Option, Some, None, IfSome, refl, sym, ap, ◌∙◌, subst, arith}
-use Rattle.lucid_tree.specs.Members.{In}
-use Rattle.lucid_tree.specs.Levels.{nowhere}
+use Rattle.lucid_demand.proofs.Common.{◌≢◌, ℕ, ◌-◌, inl, inr, List, [], ◌∷◌, Option, None, refl, sym, ap, ◌∙◌, subst, arith, In, nowhere, Context, root, call_frame, frozen_frame, frames, cut, IsUnknown, context_of, Tag, NodeAim, call_aim, Table, Aim, plain_aim, IsOfDaton}
+use Rattle.std.proofs.Common.{◌≡◌, ◌<◌, ◌⊎◌, Some, IfSome}
 use Rattle.lucid_tree.proofs.Members.{in_either}
-use Rattle.lucid_tags.specs.Contexts.{Context, root, call_frame, frozen_frame, base_of, frames, cut}
-use Rattle.lucid_tags.specs.Known.{IsUnknown, AddsAtMost, context_of}
-use Rattle.lucid_tags.specs.declared.Tag.{Tag}
+use Rattle.lucid_tags.specs.Contexts.{base_of}
+use Rattle.lucid_tags.specs.Known.{AddsAtMost}
 use Rattle.lucid_equations.specs.Nodes.{PlainNode, PlainEntry, plain_entry, called_entry, current_entry, parameter_entry, Equations}
-use Rattle.lucid_equations.specs.Datons.{NodeAim, to_node, to_actual, by_entry, name_aim, called_from, call_aim}
-use Rattle.lucid_equations.specs.declared.table.Table.{Table}
+use Rattle.lucid_equations.specs.Datons.{to_node, to_actual, by_entry, name_aim, called_from}
 use Rattle.lucid_facts.proofs.Passing.{cut-is_base, cut-is_none}
-use Rattle.lucid_demand.specs.declared.aim.Aim.{Aim}
-use Rattle.lucid_demand.specs.Aims.{plain_aim, IsOfDaton, IsOfUnknown}
+use Rattle.lucid_demand.specs.Aims.{IsOfUnknown}
 
 same-context : (x y : Context) → Some x ≡ Some y → x ≡ y
 same-context x y h = cc

@@ -1,18 +1,11 @@
 -- What a decision reads of a part tells the part's value.
-use Rattle.std.proofs.Common.{◌≡◌, ℕ, zero, suc, List, [], ◌∷◌, Option, Some, None, refl, sym, ap, ◌∙◌, subst}
-use Rattle.std.specs.Prelude.{Bool, true, false, pos, nat_le, if◌then◌else◌, option_map, slice_index_or, map, ◌⊎◌}
-use Rattle.std.proofs.Common.{inl, inr}
-use Rattle.std.specs.List.{list_all}
-use Rattle.lucid_value.specs.Plain.{PlainValue, int, truth, eod, fault}
-use Rattle.lucid_value.specs.View.{plain}
-use Rattle.lucid_tags.specs.Contexts.{Context}
-use Rattle.lucid_tree.specs.Rows.{Plan, gives, by_test, by_place, only_truth, last}
+use Rattle.lucid_demand.proofs.Common.{ℕ, zero, suc, List, [], ◌∷◌, Option, None, refl, sym, ap, ◌∙◌, subst, pos, if◌then◌else◌, slice_index_or, inl, inr, list_all, PlainValue, int, truth, eod, fault, plain, Context, Plan, gives, by_place, only_truth, last, TaskRow, Idle, Asked, Got, got_of, idle, state_at, value_of_part, plain_state, plain_row, Answer, Absent, Holds, At, Ended, Other, answer_of, nat_le, map}
+use Rattle.std.proofs.Common.{◌≡◌, Some}
+use Rattle.std.specs.Prelude.{Bool, true, false, option_map, ◌⊎◌}
+use Rattle.lucid_tree.specs.Rows.{by_test}
 use Rattle.lucid_tasks.specs.Rows as rows
-use Rattle.lucid_tasks.specs.Rows.{TaskRow, Idle, Asked, Got, got_of, got_value}
-use Rattle.lucid_facts.specs.Tasks.{idle, state_at, value_in, value_of_part, plain_state, plain_row}
-use Rattle.lucid_demand.specs.declared.decide.Answer.{Answer}
-use Rattle.lucid_demand.specs.declared.decide.Answer.TheVariants.{Absent, Holds, At, Ended, Other}
-use Rattle.lucid_demand.specs.Answers.{answer_of}
+use Rattle.lucid_tasks.specs.Rows.{got_value}
+use Rattle.lucid_facts.specs.Tasks.{value_in}
 
 -- the value of a part, seen plain
 value_there : (ps : List rows.PartState) (i : ℕ) → value_in (state_at (map plain_state ps) i) ≡ option_map plain (got_value (slice_index_or ps i Idle))

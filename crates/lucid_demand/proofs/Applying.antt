@@ -1,27 +1,13 @@
 -- Why an operator's decisions are justified.
-use Rattle.std.proofs.Common.{◌≡◌, ℕ, zero, suc, ◌+◌, ◌<◌, ◌≤◌, inl, inr, List, [], ◌∷◌, Option, Some, None, refl, sym, ap, ◌∙◌, subst, arith}
-use Rattle.std.specs.Prelude.{true, false, length, is_none, nat_lt, slice_get, slice_index_or}
-use Rattle.std.proofs.lemmas.Bool.Decides.{nat_tests}
-use Rattle.std.proofs.lemmas.Option.{same_Some}
-use Rattle.lucid_value.specs.Plain.{PlainValue}
-use Rattle.lucid_ops.specs.Arity.{arity}
-use Rattle.lucid_ops.specs.declared.op.Op.{Op}
-use Rattle.lucid_tags.specs.Contexts.{Context}
-use Rattle.lucid_tree.specs.Tree.{apply}
-use Rattle.lucid_tree.specs.Rests.{AllHave, at_start, and_then}
+use Rattle.lucid_demand.proofs.Common.{ℕ, zero, suc, ◌+◌, inl, inr, List, [], ◌∷◌, Option, None, refl, sym, ap, ◌∙◌, subst, arith, is_none, nat_lt, slice_get, slice_index_or, nat_tests, same_Some, PlainValue, arity, Op, Context, apply, at_start, TaskRow, node_at, node_by, constant_at, Node, Table, PlainRow, value_of_part, plain_row, part_number, LookHas, Apply, AskAll, argument_by, argument_at, HaveValues, Justified, IsReadyRow}
+use Rattle.std.proofs.Common.{◌≡◌, ◌<◌, ◌≤◌, Some}
+use Rattle.std.specs.Prelude.{true, false, length}
+use Rattle.lucid_tree.specs.Rests.{AllHave, and_then}
 use Rattle.lucid_tree.specs.Rows.{arguments}
-use Rattle.lucid_tasks.specs.Rows.{TaskRow}
-use Rattle.lucid_equations.specs.Rows.{row_at, node_at, node_by, constant_at}
-use Rattle.lucid_equations.specs.declared.rows.Node.{Node}
+use Rattle.lucid_equations.specs.Rows.{row_at}
 use Rattle.lucid_equations.specs.declared.rows.Node.TheVariants as node
 use Rattle.lucid_equations.specs.declared.rows.Node.TheVariants.{Const}
-use Rattle.lucid_equations.specs.declared.table.Table.{Table}
-use Rattle.lucid_facts.specs.Tasks.{PlainRow, value_of_part, plain_row}
-use Rattle.lucid_facts.specs.Parts.{part_number}
-use Rattle.lucid_facts.specs.Decisions.{LookHas}
-use Rattle.lucid_demand.specs.declared.decide.Decision.TheVariants.{Apply, AskAll}
-use Rattle.lucid_demand.specs.Justified.{argument_by, argument_at, HaveValues, Justified}
-use Rattle.lucid_demand.specs.Answers.{IsReadyRow, argument_of}
+use Rattle.lucid_demand.specs.Answers.{argument_of}
 use Rattle.lucid_demand.proofs.Answers.{value_is_got}
 use Rattle.lucid_demand.proofs.OperatorParts.{argument_is_part}
 

@@ -1,48 +1,18 @@
 -- A task that may be asked for, for a part or as the root: it may be where more contexts are known, where a key was looked up and where the
 -- point moved on; and it has its value at once, or a row, or is refused.
-use Rattle.std.proofs.Common.{◌≡◌, ℕ, suc, ◌<◌, ◌≤◌, ◌⊎◌, inl, inr, List, [], Option, Some, None, refl, sym, ap, ◌∙◌, subst, arith}
-use Rattle.std.specs.Prelude.{IfSome, OnOk, Result, Ok, Err, length, option_map}
-use Rattle.std.specs.Result.{IsErrAnd}
-use Rattle.lucid_value.specs.declared.Value.{Value}
-use Rattle.lucid_value.specs.View.{plain}
-use Rattle.lucid_tree.specs.Members.{In}
-use Rattle.lucid_tree.specs.Levels.{Elements}
-use Rattle.lucid_tags.specs.Contexts.{Context}
-use Rattle.lucid_tags.specs.Known.{IsKnown, IsOneForOne, KeepsKnown}
-use Rattle.lucid_tags.specs.declared.Key.{Key}
+use Rattle.lucid_demand.proofs.Common.{ℕ, suc, inl, inr, List, [], Option, None, refl, sym, ap, ◌∙◌, subst, arith, IsErrAnd, Value, plain, In, Elements, Context, IsKnown, IsOneForOne, KeepsKnown, Key, Task, TaskRow, Got, Stored, IsTouched, Noted, World, Table, PlainTask, DatonAt, plain_task, plain_key, rank, moved, IsTask, RefersTo, passed, passed_contexts, StandsFor, EngineView, known_elements, holding, MayHave, Demand, stays, IsEntered, IsWanted, Remembers, Waits, at_it, at_another, task_as_tags_grow, all_rows_as_tags_grow, stands-itself, passed-stands, too_deep-is_right, owns_enters, cost_of, GoesDown, Evaluating, Stepped, cost, CanAsk, Enters, SetsPart, IsFor, MayAskFor, MayAskNow, MayRefer, AsksIn, DemandIn, OnTooLarge, IsTurned, DemandFault, TooDeep, ReadFault, NoMemory, OnOk}
+use Rattle.std.proofs.Common.{◌≡◌, ◌<◌, ◌≤◌, ◌⊎◌, Some}
+use Rattle.std.specs.Prelude.{IfSome, Result, Ok, Err, length, option_map}
 use Rattle.lucid_tasks.specs.declared.Part.{Part}
-use Rattle.lucid_tasks.specs.declared.Task.{Task}
 use Rattle.lucid_tasks.specs.Rows as rows
-use Rattle.lucid_tasks.specs.Rows.{TaskRow, Got, row_at}
-use Rattle.lucid_store.specs.Stored.{Stored}
-use Rattle.lucid_store.specs.Entries.{IsTouched}
-use Rattle.lucid_search.specs.Noted.{Noted}
-use Rattle.lucid_ports.specs.World.{World}
-use Rattle.lucid_equations.specs.declared.table.Table.{Table}
-use Rattle.lucid_facts.specs.Tasks.{PlainTask, DatonAt, plain_task, plain_key, key_list, AreRowsKnown}
-use Rattle.lucid_facts.specs.Parts.{rank, moved, IsTask, RefersTo, passed, passed_contexts}
-use Rattle.lucid_facts.specs.Stands.{StandsFor}
-use Rattle.lucid_facts.specs.Engine.{EngineView, known_elements, holding, MayHave}
-use Rattle.lucid_facts.specs.Demands.{Demand, table_of, stays, IsEntered, Answers}
-use Rattle.lucid_facts.specs.Rows.{IsWanted, Remembers}
+use Rattle.lucid_tasks.specs.Rows.{row_at}
+use Rattle.lucid_facts.specs.Tasks.{key_list, AreRowsKnown}
+use Rattle.lucid_facts.specs.Demands.{table_of, Answers}
 use Rattle.lucid_facts.specs.Decisions.{LooksTooDeep, IsConstant}
-use Rattle.lucid_facts.specs.Going.{Waits}
-use Rattle.lucid_facts.proofs.Slots.{at_it, at_another}
-use Rattle.lucid_facts.proofs.Seeing.{task_as_tags_grow}
-use Rattle.lucid_facts.proofs.Knowing.{all_rows_as_tags_grow}
-use Rattle.lucid_facts.proofs.Standing.{stands-itself, stands-then, standing-answers}
-use Rattle.lucid_facts.proofs.Passing.{passed-stands}
+use Rattle.lucid_facts.proofs.Standing.{stands-then, standing-answers}
 use Rattle.lucid_facts.proofs.NewRows.{standing-is_wanted}
-use Rattle.lucid_facts.proofs.Answering.{constant-answers, too_deep-is_right}
-use Rattle.lucid_facts.proofs.Owning.{owns_enters}
-use Rattle.lucid_facts.proofs.Acting.{cost_of, cost_as_tags_grow, GoesDown, asks_goes_down, gives_goes_down, begins_waiting}
-use Rattle.lucid_demand.specs.Evaluating.{Evaluating, Stepped, cost}
-use Rattle.lucid_demand.specs.Asking.{CanAsk, Enters, SetsPart, IsFor, MayAskFor, MayAskNow, MayRefer, AsksIn}
-use Rattle.lucid_demand.specs.Acting.{DemandIn}
-use Rattle.lucid_demand.specs.Demanded.{OnTooLarge}
-use Rattle.lucid_demand.specs.Turning.{IsTurned}
-use Rattle.lucid_demand.specs.declared.fault.DemandFault.{DemandFault}
-use Rattle.lucid_demand.specs.declared.fault.DemandFault.TheVariants.{TooDeep, ReadFault, NoMemory}
+use Rattle.lucid_facts.proofs.Answering.{constant-answers}
+use Rattle.lucid_facts.proofs.Acting.{cost_as_tags_grow, asks_goes_down, gives_goes_down, begins_waiting}
 use Rattle.lucid_demand.proofs.GrownTags.{entered_by_root, way_is_entered, waits_grow, nothing_grown}
 use Rattle.lucid_demand.proofs.SettledRows.{changed_row, on_going}
 use Rattle.lucid_demand.proofs.TouchedKeys.{held_as_before, owns_touched, waits_touched}

@@ -1,39 +1,16 @@
 -- Asking for a reference: what it gives, by what each call leaves.
-use Rattle.std.proofs.Common.{◌≡◌, ℕ, suc, ◌<◌, ◌⊎◌, inl, inr, List, [], ◌∷◌, Option, Some, None, sym, ap, ◌∙◌, subst}
-use Rattle.std.specs.Prelude.{IsTrue, IfOk, IfSome, Result, Ok, Err, length, option_map}
-use Rattle.lucid_value.specs.declared.Value.{Value}
-use Rattle.lucid_value.specs.View.{plain}
-use Rattle.lucid_tree.specs.Members.{In}
-use Rattle.lucid_tree.specs.Levels.{Elements, nowhere}
-use Rattle.lucid_tags.specs.Contexts.{Context}
-use Rattle.lucid_tags.specs.declared.Key.{Key}
-use Rattle.lucid_tags.specs.Known.{IsKnown, KeepsKnown, space_of}
+use Rattle.lucid_demand.proofs.Common.{ℕ, suc, inl, inr, List, [], ◌∷◌, Option, None, sym, ap, ◌∙◌, subst, IsTrue, Value, plain, In, Elements, nowhere, Context, Key, IsKnown, KeepsKnown, space_of, Task, TaskRow, value_at, IsTouched, Table, PlainTask, DatonAt, plain_task, plain_key, node_of, rank, moved, aim_of_task, IsReference, RefersTo, GoesTo, passed, passed_contexts, StandsFor, EngineView, holding, MayHave, stays, IsEntered, IsWanted, Remembers, task_as_tags_grow, Evaluating, cost, DemandIn, plain_aim, IsAim, Enters, SetsPart, MayAskFor, MayRefer, AsksIn, FindsAim, IsTurned, Aim, DemandFault, TooDeep, NoMemory}
+use Rattle.std.proofs.Common.{◌≡◌, ◌<◌, ◌⊎◌, Some}
+use Rattle.std.specs.Prelude.{IfOk, IfSome, Result, Ok, Err, length, option_map}
 use Rattle.lucid_tasks.specs.declared.Part.{Part}
-use Rattle.lucid_tasks.specs.declared.Task.{Task}
 use Rattle.lucid_tasks.specs.Rows as rows
-use Rattle.lucid_tasks.specs.Rows.{TaskRow}
-use Rattle.lucid_store.specs.Entries.{value_at, IsTouched}
-use Rattle.lucid_equations.specs.declared.table.Table.{Table}
-use Rattle.lucid_facts.specs.Tasks.{PlainTask, DatonAt, plain_task, plain_key}
-use Rattle.lucid_facts.specs.Parts.{node_of, rank, moved, aim_of_task, IsReference, RefersTo, GoesTo, passed, passed_contexts}
-use Rattle.lucid_facts.specs.Stands.{StandsFor}
-use Rattle.lucid_facts.specs.Engine.{EngineView, holding, MayHave}
-use Rattle.lucid_facts.specs.Demands.{table_of, stays, IsEntered, Answers}
-use Rattle.lucid_facts.specs.Rows.{IsWanted, Remembers}
+use Rattle.lucid_facts.specs.Demands.{table_of, Answers}
 use Rattle.lucid_facts.specs.Decisions.{leads_nowhere, too_deep_for}
-use Rattle.lucid_facts.proofs.Seeing.{task_as_tags_grow, key_as_tags_grow}
+use Rattle.lucid_facts.proofs.Seeing.{key_as_tags_grow}
 use Rattle.lucid_facts.proofs.Standing.{standing-is_seen}
 use Rattle.lucid_facts.proofs.References.{references-stand}
 use Rattle.lucid_facts.proofs.Answering.{held-answers}
 use Rattle.lucid_facts.proofs.NewRows.{StandsBelow, body-stands, body-is_wanted, body-remembers}
-use Rattle.lucid_demand.specs.Evaluating.{Evaluating, cost}
-use Rattle.lucid_demand.specs.Acting.{DemandIn}
-use Rattle.lucid_demand.specs.Aims.{plain_aim, IsAim}
-use Rattle.lucid_demand.specs.Asking.{Enters, SetsPart, MayAskFor, MayRefer, AsksIn, FindsAim}
-use Rattle.lucid_demand.specs.Turning.{IsTurned}
-use Rattle.lucid_demand.specs.declared.aim.Aim.{Aim}
-use Rattle.lucid_demand.specs.declared.fault.DemandFault.{DemandFault}
-use Rattle.lucid_demand.specs.declared.fault.DemandFault.TheVariants.{TooDeep, NoMemory}
 use Rattle.lucid_demand.proofs.FoundAims.{body_task, aim_refers, aim_goes, refers_to_one, refers_nowhere}
 use Rattle.lucid_demand.proofs.TouchedKeys.{found_is_held, absent_is_no_stay}
 use Rattle.lucid_demand.proofs.GrownTags.{way_is_entered}

@@ -1,38 +1,15 @@
 -- An operator's row asks for its arguments one after another.
-use Rattle.std.proofs.lemmas.Bool.{cases_lt}
-use Rattle.std.proofs.Common.{◌≡◌, ℕ, zero, suc, ◌+◌, ◌<◌, ◌≤◌, ◌⊎◌, inl, inr, List, [], ◌∷◌, length, Option, Some, None, true, false, refl, sym, ap, ◌∙◌, subst, arith, le_refl}
-use Rattle.std.specs.Borrow.{Bor}
-use Rattle.std.specs.Prelude.{is_some, option_copied, IsSome, IsTrue, Result, Ok, Err, slice_get, slice_index_or, option_map, option_and_then}
-use Rattle.std.specs.List.{list_all}
-use Rattle.std.proofs.lemmas.Option.{same_Some}
-use Rattle.lucid_value.specs.declared.Value.{Value}
-use Rattle.lucid_value.specs.Plain.{PlainValue}
-use Rattle.lucid_value.specs.View.{plain}
-use Rattle.lucid_ops.specs.declared.op.Op.{Op}
-use Rattle.lucid_ops.specs.Arity.{arity}
-use Rattle.lucid_tags.specs.Known.{IsKnown, KeepsKnown}
-use Rattle.lucid_tasks.specs.declared.Task.{Task}
+use Rattle.lucid_demand.proofs.Common.{cases_lt, ℕ, zero, suc, ◌+◌, inl, inr, List, [], ◌∷◌, Option, None, refl, sym, ap, ◌∙◌, subst, arith, Bor, is_some, option_copied, IsSome, IsTrue, slice_get, slice_index_or, option_and_then, list_all, same_Some, Value, PlainValue, plain, Op, arity, IsKnown, KeepsKnown, Task, TaskRow, Idle, Asked, Got, got_of, is_ready, World, parts, Node, Table, idle, state_at, plain_task, plain_state, plain_row, IsPart, EngineView, Demand, Waits, Evaluating, Stepped, cost, DemandIn, MayAct, value_of, argument_by, CanAsk, CanAskAll, SetsPart, HoldsNothing, MayAskNow, AsksIn, DemandFault, le_refl}
+use Rattle.std.proofs.Common.{◌≡◌, ◌<◌, ◌≤◌, ◌⊎◌, length, Some, true, false}
+use Rattle.std.specs.Prelude.{Result, Ok, Err, option_map}
 use Rattle.lucid_tasks.specs.Rows as rows
-use Rattle.lucid_tasks.specs.Rows.{TaskRow, Idle, Asked, Got, row_at, state_of, got_of, is_ready, IsRow}
-use Rattle.lucid_ports.specs.World.{World}
-use Rattle.lucid_equations.specs.Rows.{parts}
+use Rattle.lucid_tasks.specs.Rows.{row_at, state_of, IsRow}
 use Rattle.lucid_equations.specs.Rows as table
-use Rattle.lucid_equations.specs.declared.rows.Node.{Node}
 use Rattle.lucid_equations.specs.declared.rows.Node.TheVariants as node
-use Rattle.lucid_equations.specs.declared.table.Table.{Table}
-use Rattle.lucid_facts.specs.Tasks.{idle, state_at, plain_task, plain_state, plain_row}
-use Rattle.lucid_facts.specs.Parts.{IsPart}
-use Rattle.lucid_facts.specs.Engine.{EngineView}
-use Rattle.lucid_facts.specs.Demands.{Demand, table_of}
-use Rattle.lucid_facts.specs.Going.{Waits}
+use Rattle.lucid_facts.specs.Demands.{table_of}
 use Rattle.lucid_facts.proofs.Seeing.{plain_at}
 use Rattle.lucid_facts.proofs.Coming.{arguments_may_be_asked}
-use Rattle.lucid_demand.specs.Evaluating.{Evaluating, Stepped, cost}
-use Rattle.lucid_demand.specs.Acting.{DemandIn, MayAct, value_of}
-use Rattle.lucid_demand.specs.Justified.{argument_by}
-use Rattle.lucid_demand.specs.Asking.{CanAsk, CanAskAll, SetsPart, HoldsNothing, MayAskNow, AsksIn}
 use Rattle.lucid_demand.specs.declared.decide.Decision.TheVariants as decision
-use Rattle.lucid_demand.specs.declared.fault.DemandFault.{DemandFault}
 use Rattle.lucid_demand.proofs.OperatorParts.{operator_node, operator_part}
 use Rattle.lucid_demand.proofs.SettledRows.{ready_is_there, argument_value}
 use Rattle.lucid_demand.proofs.Beginning.{stepped_from_less}

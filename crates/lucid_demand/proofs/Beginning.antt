@@ -1,27 +1,11 @@
 -- What a step keeps: where a search began elsewhere, the row decides as before, at no more cost; and what is noted costs nothing.
-use Rattle.std.proofs.Common.{◌≡◌, ℕ, ◌<◌, ◌≤◌, ◌⊎◌, inl, inr, List, Option, Some, refl, sym, ap, ◌∙◌, subst, arith}
-use Rattle.std.specs.Prelude.{IsTrue, length, Result, ◌==◌, if◌then◌else◌, option_map}
-use Rattle.std.proofs.lemmas.Bool.{cases_eq}
-use Rattle.lucid_value.specs.declared.Value.{Value}
-use Rattle.lucid_tags.specs.Contexts.{Context}
-use Rattle.lucid_tasks.specs.declared.Task.{Task}
+use Rattle.lucid_demand.proofs.Common.{ℕ, inl, inr, List, Option, sym, ap, ◌∙◌, subst, arith, IsTrue, if◌then◌else◌, Value, Task, TaskRow, is_ready, Noted, World, EngineView, Demand, Owns, at_it, at_another, changed_there, Evaluating, Stepped, cost, DemandIn, MayAct, MayAskNow, DemandFault, ◌==◌, cases_eq}
+use Rattle.std.proofs.Common.{◌≡◌, ◌<◌, ◌≤◌, ◌⊎◌, Some}
+use Rattle.std.specs.Prelude.{Result, option_map}
 use Rattle.lucid_tasks.specs.Rows as rows
-use Rattle.lucid_tasks.specs.Rows.{TaskRow, row_at, is_ready}
-use Rattle.lucid_search.specs.Noted.{Noted}
-use Rattle.lucid_ports.specs.World.{World}
-use Rattle.lucid_equations.specs.declared.table.Table.{Table}
-use Rattle.lucid_facts.specs.Engine.{EngineView}
-use Rattle.lucid_facts.specs.Demands.{Demand}
-use Rattle.lucid_facts.specs.Going.{Owns}
-use Rattle.lucid_facts.proofs.Slots.{at_it, at_another}
-use Rattle.lucid_facts.proofs.Listing.{changed_there}
-use Rattle.lucid_demand.specs.Answers.{MayDecide}
-use Rattle.lucid_demand.specs.Evaluating.{Evaluating, Stepped, cost}
-use Rattle.lucid_demand.specs.Acting.{DemandIn, MayAct, IsReadyTask}
+use Rattle.lucid_tasks.specs.Rows.{row_at}
 use Rattle.lucid_demand.specs.Searching.{StandsAt}
-use Rattle.lucid_demand.specs.Asking.{MayAskNow}
 use Rattle.lucid_demand.specs.declared.decide.Decision.TheVariants as decision
-use Rattle.lucid_demand.specs.declared.fault.DemandFault.{DemandFault}
 use Rattle.lucid_demand.proofs.SettledRows.{ready_is_there, on_going}
 use Rattle.lucid_demand.proofs.MayAsk.{part_may_be_asked}
 
@@ -40,34 +24,6 @@ stands_still rs slot ready = record { cursor = (r.0).cursor; rows = λ q. go q (
         ap (row_at rs) e ∙ r.1 ∙ sym (ap (option_map (rows.with_cursor (r.0).cursor)) (ap (row_at rs) e ∙ r.1))
         ∙ sym (at_it q slot (option_map (rows.with_cursor (r.0).cursor) (row_at rs q)) (row_at rs q) e)
     go q (inr n) = sym (at_another q slot (option_map (rows.with_cursor (r.0).cursor) (row_at rs q)) (row_at rs q) n)
-
--- A row at another cursor is ready, with its task.
-pub begun_ready : (e new : Evaluating) (slot : ℕ) → IsReadyTask e slot → StandsAt e.rows new.rows slot → new.engine ≡ e.engine → IsReadyTask new slot
-begun_ready e new slot t s same = record {
-  ready = ap is_ready now ∙ ap is_ready (sym r.1) ∙ t.ready;
-  there = λ q is. subst (λ (z : EngineView). q.task.node < length z.table.nodes) (sym same)
-      (subst (λ (x : TaskRow). x.task.node < length e.engine.table.nodes) (one_row (row_at new.rows slot) q (rows.with_cursor s.cursor r.0) is now) (t.there r.0 r.1));
-}
-  where
-    r : (x : TaskRow) × (row_at e.rows slot ≡ Some x)
-    r = ready_is_there e.rows slot t.ready
-
-    now : row_at new.rows slot ≡ Some (rows.with_cursor s.cursor r.0)
-    now = changed_there e.rows new.rows slot (rows.with_cursor s.cursor) r.0 s.rows r.1
-
--- It may decide.
-pub begun_decides : (T : Table) (known : List Context) (old new : List (Option TaskRow)) (slot : ℕ) → MayDecide T known old slot → StandsAt old new slot → MayDecide T known new slot
-begun_decides T known old new slot m s = record {
-  row = rows.with_cursor s.cursor m.row;
-  is = record {
-    there = changed_there old new slot (rows.with_cursor s.cursor) m.row s.rows m.is.there;
-    ready = m.is.ready;
-    is_task = refl;
-    known_tag = m.is.known_tag;
-    still = m.is.still;
-  };
-  in_table = m.in_table;
-}
 
 -- A step from what costs no more is a step.
 pub stepped_from_less : (d : Demand) (old mid new : Evaluating) (v w : World) (result : Result (Option Value) DemandFault) → cost d mid ≤ cost d old → Stepped d mid new v w result

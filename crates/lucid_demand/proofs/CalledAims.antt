@@ -1,23 +1,9 @@
 -- What a call goes on with is found, and no context becomes known but that which it enters.
-use Rattle.std.proofs.Common.{◌≡◌, ℕ, ◌⊎◌, inl, inr, List, Option, Some, None, IfSome, Result, Ok, Err, IfOk, OnErr, refl, sym, ap, ◌∙◌, subst}
-use Rattle.std.specs.List.{filter_map}
-use Rattle.lucid_tree.specs.Members.{In}
-use Rattle.lucid_tree.specs.Levels.{entered_of}
-use Rattle.lucid_tags.specs.Contexts.{Context}
-use Rattle.lucid_tags.specs.Known.{IsOneForOne, KeepsKnown, context_of, space_of}
-use Rattle.lucid_tasks.specs.declared.Task.{Task}
+use Rattle.lucid_demand.proofs.Common.{ℕ, inl, inr, List, Option, None, refl, sym, ap, ◌∙◌, subst, filter_map, In, entered_of, Context, IsOneForOne, KeepsKnown, context_of, space_of, Task, node_aim, call_aim, equations_of, Table, plain_task, plain_key, node_of, aim_of_task, Evaluating, plain_aim, IsAim, IsOfDaton, Enters, FindsAim, Aim, OnErr}
+use Rattle.std.proofs.Common.{◌≡◌, ◌⊎◌, Some, IfSome, Result, Ok, Err, IfOk}
 use Rattle.lucid_equations.specs.Nodes.{invoke}
-use Rattle.lucid_equations.specs.Datons.{node_aim, call_aim}
-use Rattle.lucid_equations.specs.Rows.{equations_of}
-use Rattle.lucid_equations.specs.declared.table.Table.{Table}
-use Rattle.lucid_facts.specs.Tasks.{plain_task, plain_key}
-use Rattle.lucid_facts.specs.Parts.{node_of, aim_of_task}
 use Rattle.lucid_facts.specs.Stands.{visits_of}
 use Rattle.lucid_facts.proofs.References.{call-enters}
-use Rattle.lucid_demand.specs.Evaluating.{Evaluating}
-use Rattle.lucid_demand.specs.Aims.{plain_aim, IsAim, IsOfDaton}
-use Rattle.lucid_demand.specs.Asking.{Enters, FindsAim}
-use Rattle.lucid_demand.specs.declared.aim.Aim.{Aim}
 use Rattle.lucid_demand.proofs.FoundAims.{aim_refers}
 
 module _ (T : Table) (old known : List Context) (x : Task) (n at l : ℕ) (is : node_of T (plain_task old x) ≡ invoke n at l) where

@@ -1,37 +1,20 @@
 -- Why the decisions of a ready row are justified, by what is read of its parts.
-use Rattle.std.proofs.Common.{◌≡◌, ℕ, ◌<◌, List, [], ◌∷◌, Option, Some, None, refl, sym, ap, ◌∙◌, subst, inl, inr, arith}
-use Rattle.std.specs.Prelude.{true, false, option_map, option_and_then, slice_get}
-use Rattle.std.proofs.lemmas.Option.{same_Some}
-use Rattle.lucid_value.specs.declared.Value.{Value}
-use Rattle.lucid_value.specs.Plain.{PlainValue, truth, eod, fault}
-use Rattle.lucid_value.specs.View.{plain}
-use Rattle.lucid_tags.specs.Contexts.{Context}
-use Rattle.lucid_tags.specs.Known.{IsKnown}
-use Rattle.lucid_tree.specs.Tree.{Head, choose, both, either}
-use Rattle.lucid_tree.specs.Rests.{LeadsTo, at_start}
+use Rattle.lucid_demand.proofs.Common.{ℕ, List, [], ◌∷◌, Option, None, refl, sym, ap, ◌∙◌, subst, inl, inr, arith, option_and_then, slice_get, same_Some, Value, PlainValue, truth, eod, fault, plain, Context, IsKnown, Head, at_start, Plan, gives, gives_part, only_truth, Cursor, Task, TaskRow, got_of, row, PlainNodes, node_at, node_by, parts, NodeIsInRange, sizes, Node, Table, PlainTask, PlainRow, value_of_part, plain_task, plain_row, node_of, look_of_row, part_by_look, LookHas, Way, on_by, Answer, Absent, Holds, At, Ended, Other, Decision, Ask, End, Fault, Justified, answer_of, part_or_ask, truth_or_ask, IsReadyRow, MayDecide, DecidesFor}
+use Rattle.std.proofs.Common.{◌≡◌, ◌<◌, Some}
+use Rattle.std.specs.Prelude.{true, false, option_map}
+use Rattle.lucid_tree.specs.Tree.{choose, both, either}
+use Rattle.lucid_tree.specs.Rests.{LeadsTo}
 use Rattle.lucid_tree.proofs.Ways.{leads-maps}
-use Rattle.lucid_tree.specs.Rows.{Plan, gives, look, gives_part, single, only_truth}
-use Rattle.lucid_tasks.specs.declared.Cursor.{Cursor}
-use Rattle.lucid_tasks.specs.declared.Task.{Task}
+use Rattle.lucid_tree.specs.Rows.{look, single}
 use Rattle.lucid_tasks.specs.Rows as rows
-use Rattle.lucid_tasks.specs.Rows.{TaskRow, got_of}
-use Rattle.lucid_equations.specs.Nodes.{row, PlainNodes}
-use Rattle.lucid_equations.specs.Rows.{row_at, node_at, node_by, parts}
-use Rattle.lucid_equations.specs.Ranges.{NodeIsInRange, sizes}
-use Rattle.lucid_equations.specs.declared.rows.Node.{Node}
+use Rattle.lucid_equations.specs.Rows.{row_at}
 use Rattle.lucid_equations.specs.declared.rows.Node.TheVariants as node
-use Rattle.lucid_equations.specs.declared.table.Table.{Table}
-use Rattle.lucid_facts.specs.Tasks.{PlainTask, PlainRow, value_of_part, plain_task, plain_row}
-use Rattle.lucid_facts.specs.Parts.{node_of, look_of_row, look_task, part_by_look}
-use Rattle.lucid_facts.specs.Decisions.{RowHas, LookHas, ComesTo}
+use Rattle.lucid_facts.specs.Parts.{look_task}
+use Rattle.lucid_facts.specs.Decisions.{RowHas, ComesTo}
 use Rattle.lucid_facts.proofs.Coming.{rest_of}
-use Rattle.lucid_facts.proofs.FormWays.{Way, on_by, choose_on, both_on, either_on}
-use Rattle.lucid_demand.specs.declared.decide.Answer.{Answer}
-use Rattle.lucid_demand.specs.declared.decide.Answer.TheVariants.{Absent, Holds, At, Ended, Other}
-use Rattle.lucid_demand.specs.declared.decide.Decision.{Decision}
-use Rattle.lucid_demand.specs.declared.decide.Decision.TheVariants.{Ask, Truth, End, Fault}
-use Rattle.lucid_demand.specs.Justified.{Justified}
-use Rattle.lucid_demand.specs.Answers.{answer_of, part_or_ask, truth_or_ask, IsReadyRow, MayDecide, DecidesIn, DecidesFor}
+use Rattle.lucid_facts.proofs.FormWays.{choose_on, both_on, either_on}
+use Rattle.lucid_demand.specs.declared.decide.Decision.TheVariants.{Truth}
+use Rattle.lucid_demand.specs.Answers.{DecidesIn}
 use Rattle.lucid_demand.proofs.Answers.{value_is_got, none_is_idle, absent_is_none, truth_is_read, end_is_read, IsPlaceOrOther, no_truth_is_read}
 
 -- It is enough to justify a decision with the row's own task.

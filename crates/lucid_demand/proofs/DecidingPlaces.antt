@@ -1,31 +1,13 @@
 -- Why the decisions of `attime`, `atspace` and the nodes without parts are justified.
-use Rattle.std.proofs.Common.{◌≡◌, ℕ, ◌<◌, List, [], Option, Some, None, refl, sym, ap, ◌∙◌, subst, inr, arith}
-use Rattle.std.specs.Prelude.{is_none, false, pos, length, option_map, get_or}
-use Rattle.std.proofs.lemmas.Option.{slice_get-get_or}
-use Rattle.lucid_value.specs.Plain.{PlainValue, int, eod, fault}
-use Rattle.lucid_value.specs.View.{plain}
-use Rattle.lucid_value.specs.declared.Value.{Value}
-use Rattle.lucid_tags.specs.Contexts.{Context, context_at}
-use Rattle.lucid_tags.specs.declared.Tag.{Tag}
-use Rattle.lucid_tags.specs.Known.{number_of, space_of}
-use Rattle.lucid_tree.specs.Tree.{const, attime, atspace}
-use Rattle.lucid_tree.specs.Rests.{at_start}
-use Rattle.lucid_tree.specs.Rows.{gives, gives_part, by_place}
-use Rattle.lucid_tree.specs.Levels.{element_of}
-use Rattle.lucid_tasks.specs.declared.Task.{Task}
-use Rattle.lucid_tasks.specs.Rows.{TaskRow, got_of}
-use Rattle.lucid_equations.specs.Datons.{node_aim}
-use Rattle.lucid_equations.specs.Rows.{row_at, node_at, node_by, constant_at, equations_of}
-use Rattle.lucid_equations.specs.Ranges.{NodeIsInRange, sizes}
+use Rattle.lucid_demand.proofs.Common.{ℕ, List, [], Option, None, refl, sym, ap, ◌∙◌, subst, inr, arith, is_none, pos, slice_get-get_or, PlainValue, int, eod, fault, plain, Value, Context, context_at, Tag, number_of, space_of, const, at_start, gives, gives_part, by_place, element_of, Task, TaskRow, got_of, node_aim, node_at, node_by, constant_at, equations_of, NodeIsInRange, sizes, Table, PlainRow, value_of_part, plain_task, plain_row, node_of, aim_of_task, IsReference, Way, on_by, Absent, At, Ended, Ask, End, Fault, Constant, Read, Refuse, Justified, answer_of, part_or_ask, IsReadyRow, DecidesFor, get_or}
+use Rattle.std.proofs.Common.{◌≡◌, ◌<◌, Some}
+use Rattle.std.specs.Prelude.{false, length, option_map}
+use Rattle.lucid_tree.specs.Tree.{attime, atspace}
+use Rattle.lucid_equations.specs.Rows.{row_at}
 use Rattle.lucid_equations.specs.declared.rows.Node.TheVariants as node
-use Rattle.lucid_equations.specs.declared.table.Table.{Table}
-use Rattle.lucid_facts.specs.Tasks.{PlainRow, value_of_part, plain_task, plain_row}
-use Rattle.lucid_facts.specs.Parts.{node_of, aim_of_task, at_place, IsReference}
-use Rattle.lucid_facts.proofs.FormWays.{Way, on_by, by_a_place}
-use Rattle.lucid_demand.specs.declared.decide.Answer.TheVariants.{Absent, At, Ended}
-use Rattle.lucid_demand.specs.declared.decide.Decision.TheVariants.{Part, Ask, End, Fault, Constant, Refer, Read, Refuse}
-use Rattle.lucid_demand.specs.Justified.{Justified}
-use Rattle.lucid_demand.specs.Answers.{answer_of, part_or_ask, IsReadyRow, DecidesFor}
+use Rattle.lucid_facts.specs.Parts.{at_place}
+use Rattle.lucid_facts.proofs.FormWays.{by_a_place}
+use Rattle.lucid_demand.specs.declared.decide.Decision.TheVariants.{Part, Refer}
 use Rattle.lucid_demand.proofs.Answers.{value_is_got, none_is_idle, absent_is_none, end_is_read, place_is_read, IsTruthOrOther, no_place_is_read}
 use Rattle.lucid_demand.proofs.Deciding.{comes, asks, part_or_asks, its_look}
 

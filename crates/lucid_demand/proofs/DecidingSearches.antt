@@ -1,25 +1,11 @@
 -- Why the decisions of a ready search are justified, by where it stands and by what is read of its parts.
-use Rattle.std.proofs.Common.{◌≡◌, ℕ, suc, ◌<◌, ◌≤◌, List, Option, Some, refl, subst, inl, arith}
+use Rattle.lucid_demand.proofs.Common.{ℕ, suc, List, Option, refl, subst, inl, arith, eod, fault, Context, Head, whenever, asa, upon, CanStandAt, gives, TaskRow, got_of, row, node_at, node_by, Table, PlainRow, value_of_part, plain_task, plain_row, node_of, is_search, looked_on, Way, Absent, Holds, Ended, Ask, End, Fault, LookOn, Refuse, Justified, answer_of, part_or_ask, IsReadyRow}
+use Rattle.std.proofs.Common.{◌≡◌, ◌<◌, ◌≤◌, Some}
 use Rattle.std.specs.Prelude.{Bool, true, false}
-use Rattle.lucid_value.specs.Plain.{eod, fault}
-use Rattle.lucid_tags.specs.Contexts.{Context}
-use Rattle.lucid_tree.specs.Tree.{Head, whenever, asa, upon}
-use Rattle.lucid_tree.specs.Rests.{CanStandAt}
-use Rattle.lucid_tree.specs.Rows.{gives, nothing}
-use Rattle.lucid_tasks.specs.Rows.{TaskRow, got_of}
-use Rattle.lucid_equations.specs.Nodes.{row}
-use Rattle.lucid_equations.specs.Rows.{row_at, node_at, node_by}
+use Rattle.lucid_tree.specs.Rows.{nothing}
+use Rattle.lucid_equations.specs.Rows.{row_at}
 use Rattle.lucid_equations.specs.declared.rows.Node.TheVariants as node
-use Rattle.lucid_equations.specs.declared.table.Table.{Table}
-use Rattle.lucid_facts.specs.Tasks.{PlainRow, value_of_part, plain_task, plain_row}
-use Rattle.lucid_facts.specs.Parts.{node_of}
-use Rattle.lucid_facts.specs.Held.{is_search}
-use Rattle.lucid_facts.specs.Decisions.{looked_on}
-use Rattle.lucid_facts.proofs.FormWays.{Way, whenever_below, whenever_past, whenever_on, whenever_found, asa_below, asa_past, asa_on, asa_found, upon_past, upon_found, upon_below, upon_on}
-use Rattle.lucid_demand.specs.declared.decide.Answer.TheVariants.{Absent, Holds, Ended}
-use Rattle.lucid_demand.specs.declared.decide.Decision.TheVariants.{Ask, End, Fault, LookOn, Refuse}
-use Rattle.lucid_demand.specs.Justified.{Justified}
-use Rattle.lucid_demand.specs.Answers.{answer_of, part_or_ask, IsReadyRow}
+use Rattle.lucid_facts.proofs.FormWays.{whenever_below, whenever_past, whenever_on, whenever_found, asa_below, asa_past, asa_on, asa_found, upon_past, upon_found, upon_below, upon_on}
 use Rattle.lucid_demand.proofs.Answers.{absent_is_none, truth_is_read, end_is_read, IsPlaceOrOther, no_truth_is_read}
 use Rattle.lucid_demand.proofs.Deciding.{comes, asks, part_or_asks, its_look}
 

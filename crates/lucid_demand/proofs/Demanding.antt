@@ -1,28 +1,12 @@
 -- What a demand promises, by what is true when its loop ends.
-use Rattle.std.proofs.Common.{◌≡◌, ℕ, [], ◌∷◌, Some, Result, Ok, Err, sym, ap, ◌∙◌, subst, length}
+use Rattle.lucid_demand.proofs.Common.{ℕ, [], ◌∷◌, ap, ◌∙◌, Value, plain, Elements, World, equations_of, Table, HoldsRight, EngineView, IsSound, MayHave, holding, AreAskable, ReadsWithin, demand_of, stays, engine_begins, DemandFault, Demanded, LoopEnds}
+use Rattle.std.proofs.Common.{◌≡◌, Some, Result, Ok, Err}
 use Rattle.std.specs.Prelude.{IfOk}
-use Rattle.lucid_value.specs.declared.Value.{Value}
-use Rattle.lucid_value.specs.View.{plain}
-use Rattle.lucid_tree.specs.Levels.{Elements}
-use Rattle.lucid_ports.specs.World.{World}
 use Rattle.lucid_equations.specs.Values.{eqval, eqhval}
-use Rattle.lucid_equations.specs.Rows.{equations_of}
-use Rattle.lucid_equations.specs.declared.table.Table.{Table}
 use Rattle.lucid_facts.specs.Stands.{given}
-use Rattle.lucid_facts.specs.Held.{HoldsRight}
-use Rattle.lucid_facts.specs.Engine.{EngineView, places_of, IsSound, MayHave, holding, AreAskable, RootMeans, root_val, ReadsWithin, HoldsNeeded}
-use Rattle.lucid_facts.specs.Demands.{demand_of, stays}
-use Rattle.lucid_tree.specs.Members.{AllDiffer}
-use Rattle.lucid_tags.specs.Contexts.{root}
-use Rattle.lucid_tags.specs.Known.{IsOneForOne}
-use Rattle.lucid_store.specs.Entries.{cleared}
-use Rattle.lucid_equations.specs.Ranges.{IsInRange}
-use Rattle.lucid_facts.proofs.Nothing.{nothing_is_sound}
+use Rattle.lucid_facts.specs.Engine.{RootMeans, root_val, HoldsNeeded}
 use Rattle.lucid_facts.proofs.Places.{told_extends}
-use Rattle.lucid_facts.proofs.Ends.{engine_begins, engine_ends, engine_visits, kept_is_held, holds_what_is_needed, undefined}
-use Rattle.lucid_demand.specs.declared.fault.DemandFault.{DemandFault}
-use Rattle.lucid_demand.specs.Demanded.{Demanded}
-use Rattle.lucid_demand.specs.LoopEnds.{LoopEnds}
+use Rattle.lucid_facts.proofs.Ends.{engine_ends, engine_visits, kept_is_held, holds_what_is_needed, undefined}
 
 if_ok : (r : Result Value DemandFault) (P Q : Value → Type 0) → IfOk r P → ((v : Value) → P v → Q v) → IfOk r Q
 if_ok (Ok v) P Q h f = f v h
@@ -57,11 +41,3 @@ demanded old new before after t s m result sound ask within l = record {
 
     right : (b : Elements) → MayHave new b → HoldsRight (equations_of old.table) b (stays (demand_of old before t s m))
     right b may k r v e = let f = l.owns.stock.stock b may in f.right k r v (f.stays k r v e)
-
--- A sound engine whose contexts, held values and noted positions are dropped is sound.
-pub cleared_is_sound : (e new : EngineView) → IsSound e → new ≡ record e { known = root ∷ []; stored = cleared e.stored; noted = record e.noted { sites = [] } } → IsOneForOne new.known → IsSound new
-cleared_is_sound e new was same contexts =
-    nothing_is_sound new (ap (λ (x : EngineView). x.stored.entries) same) (ap (λ (x : EngineView). x.noted.sites) same) contexts
-    (subst (λ (x : EngineView). length x.streams ≡ length x.table.inputs) (sym same) was.streams)
-    (subst (λ (x : EngineView). AllDiffer (places_of x.streams)) (sym same) was.places) (subst (λ (x : EngineView). IsInRange x.table) (sym same) was.in_range)
-    (subst (λ (x : EngineView). AllDiffer x.table.inputs) (sym same) was.names)

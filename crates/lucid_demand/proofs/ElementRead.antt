@@ -1,27 +1,15 @@
 -- What a call for an element does to what an evaluation owns, by what the inputs say of it.
-use Rattle.std.proofs.Common.{◌≡◌, ℕ, zero, suc, ◌<◌, List, [], ◌∷◌, length, arith, Some, inl, inr, refl, sym, ap, ◌∙◌, subst}
-use Rattle.std.specs.Prelude.{IfSome, Result, Ok, Err, IfOk, IfErr, IsErrOf, slice_get, unwrap_or}
-use Rattle.std.specs.Borrow.{Bor}
-use Rattle.lucid_value.specs.declared.Value.{Value}
-use Rattle.lucid_value.specs.View.{plain}
-use Rattle.lucid_value.specs.Lines.{IsOverlong}
-use Rattle.lucid_ports.specs.World.{World}
-use Rattle.lucid_ports.specs.Faults.{Rises, CountsNoFaultUnless}
+use Rattle.lucid_demand.proofs.Common.{ℕ, zero, suc, List, [], ◌∷◌, arith, inl, inr, refl, sym, ap, ◌∙◌, subst, IfErr, slice_get, Bor, Value, plain, IsOverlong, World, Rises, GivesElement, Stream, all_bytes, EngineView, AreAskable, StreamsRead, fault_of, CountsReadFaults, OnTooLarge, Evaluating, ReadsElement, DemandFault, TooDeep, ReadFault, NoMemory, IsErrOf, unwrap_or}
+use Rattle.std.proofs.Common.{◌≡◌, ◌<◌, length, Some}
+use Rattle.std.specs.Prelude.{IfSome, Result, Ok, Err, IfOk}
+use Rattle.lucid_ports.specs.Faults.{CountsNoFaultUnless}
 use Rattle.lucid_inputs.specs.declared.fault.InputFault.{InputFault}
 use Rattle.lucid_inputs.specs.declared.fault.InputFault.TheVariants as input
 use Rattle.lucid_inputs.specs.declared.on_demand.Inputs.{Inputs}
 use Rattle.lucid_inputs.specs.Inputs.{streams, stream_at, most_bytes, Answers}
 use Rattle.lucid_inputs.specs.Faults as inputs
-use Rattle.lucid_inputs.specs.Reading.{GivesElement}
-use Rattle.lucid_inputs.specs.Streams.{Stream, FitsPlace, all_bytes, fresh_stream}
-use Rattle.lucid_facts.specs.Engine.{EngineView, AreAskable}
-use Rattle.lucid_facts.proofs.Reading.{StreamsRead, streams_read}
-use Rattle.lucid_demand.specs.Faults.{fault_of, CountsReadFaults}
-use Rattle.lucid_demand.specs.Demanded.{OnTooLarge}
-use Rattle.lucid_demand.specs.Evaluating.{Evaluating}
-use Rattle.lucid_demand.specs.Reading.{ReadsElement}
-use Rattle.lucid_demand.specs.declared.fault.DemandFault.{DemandFault}
-use Rattle.lucid_demand.specs.declared.fault.DemandFault.TheVariants.{TooDeep, ReadFault, NoMemory}
+use Rattle.lucid_inputs.specs.Streams.{FitsPlace, fresh_stream}
+use Rattle.lucid_facts.proofs.Reading.{streams_read}
 
 there_at : (ss : List Stream) (k : ℕ) (other : Stream) → k < length ss → slice_get ss k ≡ Some (unwrap_or (slice_get ss k) other)
 there_at [] k other l = absurd (omega (arith, l))

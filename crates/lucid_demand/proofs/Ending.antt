@@ -1,25 +1,12 @@
 -- Why a constant, and `next` and `succ` at the last time and the last space, are justified.
-use Rattle.std.proofs.Common.{◌≡◌, ℕ, suc, List, Option, Some, None, refl, sym, ap, ◌∙◌, subst, ◌⊎◌, inl, inr}
-use Rattle.std.specs.Prelude.{Bool, true, false, nat_lt, if◌then◌else◌, option_map, option_and_then, slice_get}
-use Rattle.std.proofs.lemmas.Option.{none-some}
-use Rattle.lucid_value.specs.Plain.{fault}
-use Rattle.lucid_tags.specs.Contexts.{Context}
+use Rattle.lucid_demand.proofs.Common.{ℕ, suc, List, Option, None, refl, sym, ap, ◌∙◌, subst, inl, inr, nat_lt, if◌then◌else◌, option_and_then, slice_get, none-some, fault, Context, at_start, gives, gives_part, last, Task, TaskRow, node_at, node_by, parts, Node, Table, PlainRow, plain_row, part_number, Way, Constant, Fault, Justified, IsReadyRow, DecidesFor}
+use Rattle.std.proofs.Common.{◌≡◌, Some, ◌⊎◌}
+use Rattle.std.specs.Prelude.{Bool, true, false, option_map}
 use Rattle.lucid_tree.specs.Tree.{next, succ}
-use Rattle.lucid_tree.specs.Rests.{at_start}
-use Rattle.lucid_tree.specs.Rows.{gives, gives_part, last}
-use Rattle.lucid_tasks.specs.declared.Task.{Task}
-use Rattle.lucid_tasks.specs.Rows.{TaskRow}
-use Rattle.lucid_equations.specs.Rows.{row_at, node_at, node_by, parts}
+use Rattle.lucid_equations.specs.Rows.{row_at}
 use Rattle.lucid_equations.specs.Moving.{Onward}
-use Rattle.lucid_equations.specs.declared.rows.Node.{Node}
 use Rattle.lucid_equations.specs.declared.rows.Node.TheVariants as node
-use Rattle.lucid_equations.specs.declared.table.Table.{Table}
-use Rattle.lucid_facts.specs.Tasks.{PlainRow, plain_row}
-use Rattle.lucid_facts.specs.Parts.{part_number, moved_by}
-use Rattle.lucid_facts.proofs.FormWays.{Way}
-use Rattle.lucid_demand.specs.declared.decide.Decision.TheVariants.{Constant, Fault}
-use Rattle.lucid_demand.specs.Justified.{Justified}
-use Rattle.lucid_demand.specs.Answers.{IsReadyRow, DecidesFor}
+use Rattle.lucid_facts.specs.Parts.{moved_by}
 use Rattle.lucid_demand.proofs.Deciding.{decides_for, comes}
 use Rattle.lucid_demand.proofs.DecidingPlaces.{constant_there}
 

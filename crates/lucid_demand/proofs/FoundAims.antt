@@ -1,16 +1,6 @@
 -- What a reference goes on with, once that is found: its daton and its body.
-use Rattle.std.proofs.Common.{◌≡◌, ℕ, suc, List, Some, sym, ap, ◌∙◌}
-use Rattle.lucid_tree.specs.Levels.{goes_to, nowhere}
-use Rattle.lucid_tags.specs.Contexts.{Context}
-use Rattle.lucid_tags.specs.Known.{context_of}
-use Rattle.lucid_tasks.specs.declared.Task.{Task}
-use Rattle.lucid_equations.specs.Datons.{Daton, NodeAim}
-use Rattle.lucid_equations.specs.Rows.{node_at}
-use Rattle.lucid_equations.specs.declared.table.Table.{Table}
-use Rattle.lucid_facts.specs.Tasks.{PlainTask, DatonAt, plain_task, plain_key}
-use Rattle.lucid_facts.specs.Parts.{aim_of_task, RefersTo, GoesTo}
-use Rattle.lucid_demand.specs.Aims.{plain_aim, IsAim}
-use Rattle.lucid_demand.specs.declared.aim.Aim.{Aim}
+use Rattle.lucid_demand.proofs.Common.{ℕ, suc, List, sym, ap, ◌∙◌, goes_to, nowhere, Context, context_of, Task, Daton, NodeAim, node_at, Table, PlainTask, DatonAt, plain_task, plain_key, aim_of_task, RefersTo, GoesTo, plain_aim, IsAim, Aim}
+use Rattle.std.proofs.Common.{◌≡◌, Some}
 
 -- the task of an aim's body
 abbrev pub body_task : Aim → (depth : ℕ) → Task

@@ -1,20 +1,12 @@
 -- A row that settles with a value which answers its task takes a step.
-use Rattle.std.proofs.Common.{◌≡◌, ℕ, ◌<◌, List, Option, Some, None, true, refl, sym, ◌∙◌, subst}
-use Rattle.std.specs.Prelude.{IsTrue, IsSome, Ok}
-use Rattle.lucid_value.specs.declared.Value.{Value}
-use Rattle.lucid_value.specs.View.{plain}
-use Rattle.lucid_tree.specs.Levels.{Elements}
+use Rattle.lucid_demand.proofs.Common.{ℕ, List, Option, None, refl, sym, ◌∙◌, subst, IsTrue, IsSome, Value, plain, Elements, TaskRow, is_ready, returned, World, DatonAt, plain_task, plain_row, waits_for_none, EngineView, holding, MayHave, Demand, Waits, plain_ready, cost_of, GoesDown, Evaluating, Stepped, cost}
+use Rattle.std.proofs.Common.{◌≡◌, ◌<◌, Some, true}
+use Rattle.std.specs.Prelude.{Ok}
 use Rattle.lucid_tasks.specs.declared.Part.{Part}
 use Rattle.lucid_tasks.specs.Rows as rows
-use Rattle.lucid_tasks.specs.Rows.{TaskRow, row_at, is_ready, returned}
-use Rattle.lucid_ports.specs.World.{World}
-use Rattle.lucid_facts.specs.Tasks.{DatonAt, plain_task, plain_row, waits_for_none}
-use Rattle.lucid_facts.specs.Engine.{EngineView, holding, MayHave}
-use Rattle.lucid_facts.specs.Demands.{Demand, Answers}
-use Rattle.lucid_facts.specs.Going.{Waits}
-use Rattle.lucid_facts.proofs.Seeing.{plain_ready}
-use Rattle.lucid_facts.proofs.Acting.{cost_of, GoesDown, settles_goes_down, root_is_answered}
-use Rattle.lucid_demand.specs.Evaluating.{Evaluating, Stepped, cost}
+use Rattle.lucid_tasks.specs.Rows.{row_at}
+use Rattle.lucid_facts.specs.Demands.{Answers}
+use Rattle.lucid_facts.proofs.Acting.{settles_goes_down, root_is_answered}
 
 -- The rows wait on, a value answers a ready row's task, and what the row remembers is held, or was lost.
 pub record Answered (d : Demand) (now : EngineView) (w : World) (before : List (Option TaskRow)) (r : TaskRow) (v : Value) : Type 0 where

@@ -1,30 +1,14 @@
 -- What is true of a demand's loop stays true where contexts become known that the root enters.
-use Rattle.std.proofs.Common.{◌≡◌, ℕ, zero, suc, ◌<◌, ◌⊎◌, inl, inr, Bool, true, false, List, [], ◌∷◌, length, Option, refl, sym, ◌∙◌, subst, arith}
-use Rattle.std.specs.Prelude.{IsSome, slice_index_or}
-use Rattle.std.specs.List.{filter_map}
-use Rattle.lucid_tree.specs.Members.{In}
-use Rattle.lucid_tree.specs.Levels.{Elements, entered_of}
-use Rattle.lucid_tree.proofs.Members.{inside-read}
-use Rattle.lucid_tags.specs.Contexts.{Context, root, same_context}
-use Rattle.lucid_tags.specs.Known.{IsKnown, IsOneForOne, KeepsKnown, context_of}
+use Rattle.lucid_demand.proofs.Common.{ℕ, zero, suc, inl, inr, List, [], ◌∷◌, Option, refl, sym, ◌∙◌, subst, arith, IsSome, slice_index_or, filter_map, In, Elements, entered_of, inside-read, Context, root, IsKnown, IsOneForOne, KeepsKnown, context_of, TaskRow, Task, World, IsInRange, PlainTask, plain_task, plain_rows, passed_contexts, task_visits, held_in, EngineView, known_elements, holding, MayHave, Demand, IsEntered, Waits, HoldsNothing, owns_enters, all_rows_as_tags_grow, work_over}
+use Rattle.std.proofs.Common.{◌≡◌, ◌<◌, ◌⊎◌, Bool, true, false, length}
+use Rattle.lucid_tags.specs.Contexts.{same_context}
 use Rattle.lucid_tags.specs.EqualityDecides.{same_context_is_equality}
-use Rattle.lucid_tasks.specs.Rows.{TaskRow}
-use Rattle.lucid_tasks.specs.declared.Task.{Task}
-use Rattle.lucid_ports.specs.World.{World}
-use Rattle.lucid_equations.specs.Ranges.{IsInRange}
-use Rattle.lucid_facts.specs.Tasks.{PlainTask, plain_task, plain_rows}
-use Rattle.lucid_facts.specs.Parts.{passed_contexts}
-use Rattle.lucid_facts.specs.Stands.{task_visits}
-use Rattle.lucid_facts.specs.Held.{held_in, AreKeysKnown}
-use Rattle.lucid_facts.specs.Engine.{EngineView, known_elements, holding, MayHave}
-use Rattle.lucid_facts.specs.Demands.{Demand, table_of, IsSeen, IsEntered}
-use Rattle.lucid_facts.specs.Going.{Waits}
-use Rattle.lucid_demand.specs.Asking.{HoldsNothing}
+use Rattle.lucid_facts.specs.Held.{AreKeysKnown}
+use Rattle.lucid_facts.specs.Demands.{table_of, IsSeen}
 use Rattle.lucid_facts.proofs.HeldByKey.{held_as_tags_grow}
 use Rattle.lucid_facts.proofs.Passing.{passing-enters}
-use Rattle.lucid_facts.proofs.Owning.{owns_enters}
-use Rattle.lucid_facts.proofs.Knowing.{rows_stay_known, all_rows_as_tags_grow}
-use Rattle.lucid_facts.proofs.Working.{work_over, work_same}
+use Rattle.lucid_facts.proofs.Knowing.{rows_stay_known}
+use Rattle.lucid_facts.proofs.Working.{work_same}
 
 -- What a task enters that the root sees, the root enters.
 pub entered_by_root : (d : Demand) (b : Elements) (x : PlainTask) (c : Context) → IsSeen d b x → ((e : ℕ) → In c (filter_map entered_of (task_visits (table_of d) b e x))) → IsEntered d b c

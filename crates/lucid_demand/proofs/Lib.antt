@@ -1,3 +1,4 @@
+pub mod Common
 pub mod Aims
 pub mod Answers
 pub mod Applying

@@ -1,25 +1,14 @@
 -- A search looks on: it takes a step, which its cursor's time and count have room for.
-use Rattle.std.proofs.Common.{◌≡◌, ℕ, suc, ◌+◌, ◌<◌, ◌≤◌, Bool, true, false, List, length, Option, Some, None, sym, ap, ◌∙◌, subst, arith}
-use Rattle.std.specs.Prelude.{IsTrue, Ok, option_map}
-use Rattle.std.proofs.lemmas.Option.{same_Some}
-use Rattle.std.specs.Int.{from_bool}
-use Rattle.lucid_tasks.specs.declared.Cursor.{Cursor}
+use Rattle.lucid_demand.proofs.Common.{ℕ, suc, ◌+◌, List, Option, None, sym, ap, ◌∙◌, subst, arith, IsTrue, same_Some, Cursor, TaskRow, is_ready, waits_for_none, plain_row, EngineView, known_elements, holding, Demand, RowFacts, looked_on, Owns, Waits, plain_ready, plain_of_row, changed_there, ready_after_take, GoesDown, World, Evaluating, MayStep, Stepped, cost, DemandIn, MayAct, IsReadyTask, from_bool}
+use Rattle.std.proofs.Common.{◌≡◌, ◌<◌, ◌≤◌, Bool, true, false, length, Some}
+use Rattle.std.specs.Prelude.{Ok, option_map}
 use Rattle.lucid_tasks.specs.Rows as rows
-use Rattle.lucid_tasks.specs.Rows.{TaskRow, row_at, is_ready}
-use Rattle.lucid_facts.specs.Tasks.{waits_for_none, plain_row}
-use Rattle.lucid_facts.specs.Engine.{EngineView, known_elements, holding}
-use Rattle.lucid_facts.specs.Demands.{Demand, table_of}
-use Rattle.lucid_facts.specs.Rows.{RowFacts}
-use Rattle.lucid_facts.specs.Decisions.{MayMove, looked_on}
-use Rattle.lucid_facts.specs.Going.{Owns, Waits}
-use Rattle.lucid_facts.proofs.Seeing.{plain_ready}
-use Rattle.lucid_facts.proofs.Listing.{plain_of_row, changed_there, ready_after_take}
+use Rattle.lucid_tasks.specs.Rows.{row_at}
+use Rattle.lucid_facts.specs.Demands.{table_of}
+use Rattle.lucid_facts.specs.Decisions.{MayMove}
 use Rattle.lucid_facts.proofs.Noting.{stream_of_search}
 use Rattle.lucid_facts.proofs.Searching.{count-is_few}
-use Rattle.lucid_facts.proofs.Acting.{GoesDown, moves_goes_down}
-use Rattle.lucid_ports.specs.World.{World}
-use Rattle.lucid_demand.specs.Evaluating.{Evaluating, MayStep, Stepped, cost}
-use Rattle.lucid_demand.specs.Acting.{DemandIn, MayAct, IsReadyTask}
+use Rattle.lucid_facts.proofs.Acting.{moves_goes_down}
 use Rattle.lucid_demand.specs.Searching.{CanLookOn}
 use Rattle.lucid_demand.specs.declared.decide.Decision.TheVariants as decision
 use Rattle.lucid_demand.proofs.GoneRows.{goes_on_step}

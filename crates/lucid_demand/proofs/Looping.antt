@@ -1,17 +1,7 @@
 -- What a demand's loop leaves, by its last turn.
-use Rattle.std.proofs.Common.{◌≡◌, ℕ, suc, ◌<◌, ◌≤◌, Option, Some, None, Result, Ok, Err, inl, inr, refl, sym, subst, ◌∙◌, arith}
-use Rattle.std.specs.Prelude.{⊤}
-use Rattle.lucid_value.specs.declared.Value.{Value}
-use Rattle.lucid_ports.specs.World.{World}
-use Rattle.lucid_facts.specs.Engine.{EngineView}
-use Rattle.lucid_facts.specs.Demands.{Demand, demand_of}
+use Rattle.lucid_demand.proofs.Common.{ℕ, suc, Option, None, inl, inr, refl, sym, subst, ◌∙◌, arith, ⊤, Value, World, EngineView, Demand, demand_of, Evaluating, Stepped, cost, CountsReadFaults, LoopEnds, MayTurn, Begins, DemandFault, TooDeep, ReadFault}
+use Rattle.std.proofs.Common.{◌≡◌, ◌<◌, ◌≤◌, Some, Result, Ok, Err}
 use Rattle.lucid_facts.proofs.History.{rises_later}
-use Rattle.lucid_demand.specs.Evaluating.{Evaluating, Stepped, cost}
-use Rattle.lucid_demand.specs.Faults.{CountsReadFaults}
-use Rattle.lucid_demand.specs.LoopEnds.{LoopEnds}
-use Rattle.lucid_demand.specs.Turning.{MayTurn, Begins}
-use Rattle.lucid_demand.specs.declared.fault.DemandFault.{DemandFault}
-use Rattle.lucid_demand.specs.declared.fault.DemandFault.TheVariants.{TooDeep, ReadFault}
 use Rattle.lucid_demand.proofs.AskedParts.{not_too_large, not_failed}
 
 -- the same fault in another refusal

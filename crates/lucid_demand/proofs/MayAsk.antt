@@ -1,29 +1,14 @@
 -- What a decision that is justified in a demand lets its function ask for, and require of the row and of the table.
-use Rattle.std.proofs.Common.{◌≡◌, ℕ, ◌<◌, List, Option, Some, None, refl, sym, ap, subst, arith, length}
-use Rattle.std.specs.Prelude.{IsSome, IfSome}
-use Rattle.lucid_tree.specs.Levels.{Elements}
-use Rattle.lucid_ops.specs.declared.op.Op.{Op}
+use Rattle.lucid_demand.proofs.Common.{ℕ, List, Option, None, refl, sym, ap, subst, arith, IsSome, Elements, Op, Task, TaskRow, World, equations_of, PlainRow, idle, state_at, plain_task, plain_row, node_of, rank, IsReference, IsPart, HoldsRight, EngineView, known_elements, holding, MayHave, Demand, stays, RowFacts, IsWanted, IsDemand, Owns, Waits, plain_of_row, stands-itself, row-is_wanted, Evaluating, MayAct, Justified, CanAsk, CanAskAll, HoldsNothing, IsFor, MayAskFor, MayAskNow, MayRefer}
+use Rattle.std.proofs.Common.{◌≡◌, ◌<◌, Some, length}
+use Rattle.std.specs.Prelude.{IfSome}
 use Rattle.lucid_tasks.specs.declared.Part.{Part}
-use Rattle.lucid_tasks.specs.declared.Task.{Task}
-use Rattle.lucid_tasks.specs.Rows.{TaskRow, row_at, IsIdlePart}
-use Rattle.lucid_ports.specs.World.{World}
-use Rattle.lucid_equations.specs.Rows.{equations_of}
-use Rattle.lucid_facts.specs.Tasks.{PlainRow, idle, state_at, plain_task, plain_row}
-use Rattle.lucid_facts.specs.Parts.{node_of, rank, IsReference, IsPart, part_by_reference}
-use Rattle.lucid_facts.specs.Held.{HoldsRight}
-use Rattle.lucid_facts.specs.Engine.{EngineView, known_elements, holding, MayHave}
-use Rattle.lucid_facts.specs.Demands.{Demand, table_of, stays}
-use Rattle.lucid_facts.specs.Rows.{RowFacts, IsWanted}
-use Rattle.lucid_facts.specs.Going.{IsDemand, Owns, Waits}
-use Rattle.lucid_facts.proofs.Listing.{row_of_plain, plain_of_row}
+use Rattle.lucid_tasks.specs.Rows.{row_at, IsIdlePart}
+use Rattle.lucid_facts.specs.Parts.{part_by_reference}
+use Rattle.lucid_facts.specs.Demands.{table_of}
+use Rattle.lucid_facts.proofs.Listing.{row_of_plain}
 use Rattle.lucid_facts.proofs.Seeing.{plain_idle}
-use Rattle.lucid_facts.proofs.Standing.{stands-itself}
-use Rattle.lucid_facts.proofs.NewRows.{row-is_wanted}
 use Rattle.lucid_facts.proofs.Asking.{asked_is_lower, asked_is_wanted}
-use Rattle.lucid_demand.specs.Evaluating.{Evaluating}
-use Rattle.lucid_demand.specs.Acting.{MayAct}
-use Rattle.lucid_demand.specs.Justified.{Justified}
-use Rattle.lucid_demand.specs.Asking.{CanAsk, CanAskAll, HoldsNothing, IsFor, MayAskFor, MayAskNow, MayRefer}
 use Rattle.lucid_demand.specs.declared.decide.Decision.TheVariants as decision
 use Rattle.lucid_demand.proofs.SettledRows.{ready_is_there}
 use Rattle.lucid_demand.proofs.Stepping.{argument_in_table}

@@ -1,18 +1,10 @@
 -- The arguments of an operator's node: each is a part of its row, with a lower number.
-use Rattle.std.proofs.Common.{◌≡◌, ℕ, zero, suc, ◌<◌, List, [], ◌∷◌, Some, true, refl, ap, ◌∙◌, arith}
-use Rattle.std.specs.Prelude.{take, slice_get, option_map, option_and_then, nat_lt}
-use Rattle.std.proofs.lemmas.Bool.Decides.{nat_tests}
-use Rattle.lucid_ops.specs.declared.op.Op.{Op}
-use Rattle.lucid_ops.specs.Arity.{arity}
-use Rattle.lucid_tree.specs.Tree.{apply}
-use Rattle.lucid_equations.specs.Nodes.{row, PlainNodes}
-use Rattle.lucid_equations.specs.Ranges.{IsInRange}
-use Rattle.lucid_equations.specs.Rows.{node_at, row_at, parts}
+use Rattle.lucid_demand.proofs.Common.{ℕ, zero, suc, List, [], ◌∷◌, refl, ap, ◌∙◌, arith, slice_get, option_and_then, nat_lt, nat_tests, Op, arity, apply, row, PlainNodes, IsInRange, node_at, parts, Table, PlainRow, part_number, look_of_row, IsPart, part_by_look, take}
+use Rattle.std.proofs.Common.{◌≡◌, ◌<◌, Some, true}
+use Rattle.std.specs.Prelude.{option_map}
+use Rattle.lucid_equations.specs.Rows.{row_at}
 use Rattle.lucid_equations.specs.declared.rows.Node.TheVariants as node
-use Rattle.lucid_equations.specs.declared.table.Table.{Table}
 use Rattle.lucid_equations.proofs.PartsRead.{row-node, part-lower}
-use Rattle.lucid_facts.specs.Tasks.{PlainRow}
-use Rattle.lucid_facts.specs.Parts.{part_number, look_of_row, IsPart, part_by_look}
 use Rattle.lucid_facts.proofs.Looking.{has_part}
 
 -- what is taken of a list is there

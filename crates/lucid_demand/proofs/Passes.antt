@@ -1,21 +1,14 @@
 -- What stays true while what only moves the point is passed, move by move.
-use Rattle.std.proofs.Common.{◌≡◌, ℕ, suc, ◌<◌, ◌⊎◌, inl, inr, List, [], ◌∷◌, Option, Some, None, IfSome, option_map, refl, sym, ◌∙◌, subst, arith}
-use Rattle.lucid_tree.specs.Members.{In}
-use Rattle.lucid_tags.specs.Contexts.{Context, frozen_frame}
-use Rattle.lucid_tags.specs.Known.{tag_of, IsKnown, IsUnknown, IsOneForOne, KeepsKnown}
-use Rattle.lucid_tasks.specs.declared.Task.{Task}
-use Rattle.lucid_equations.specs.Ranges.{IsInRange}
-use Rattle.lucid_equations.specs.declared.table.Table.{Table}
-use Rattle.lucid_facts.specs.Tasks.{PlainTask, plain_task}
-use Rattle.lucid_facts.specs.Parts.{node_of, IsTask, moved, on_with, passed, passed_contexts}
+use Rattle.lucid_demand.proofs.Common.{ℕ, suc, inl, inr, List, [], ◌∷◌, Option, None, refl, sym, ◌∙◌, subst, arith, In, Context, frozen_frame, IsKnown, IsUnknown, IsOneForOne, KeepsKnown, Task, IsInRange, Table, PlainTask, plain_task, node_of, IsTask, moved, passed, passed_contexts, node_by}
+use Rattle.std.proofs.Common.{◌≡◌, ◌<◌, ◌⊎◌, Some, IfSome, option_map}
+use Rattle.lucid_tags.specs.Known.{tag_of}
+use Rattle.lucid_facts.specs.Parts.{on_with}
 use Rattle.lucid_facts.proofs.Moving.{moved-moves}
-use Rattle.lucid_facts.proofs.Passing.{passed-once, passed-way, passed-already}
+use Rattle.lucid_facts.proofs.Passing.{passed-once, passed-way}
 use Rattle.lucid_facts.proofs.MovedRows.{moved-by_row}
-use Rattle.lucid_equations.specs.Rows.{row_at, node_by}
+use Rattle.lucid_equations.specs.Rows.{row_at}
 use Rattle.lucid_equations.specs.declared.rows.Node.TheVariants.{Freeze}
-use Rattle.lucid_facts.proofs.Owning.{known_itself}
 use Rattle.lucid_facts.proofs.History.{keeps_known_then}
-use Rattle.lucid_facts.proofs.Seeing.{task_as_tags_grow}
 use Rattle.lucid_demand.specs.Aims.{EntersUnknown}
 
 -- the contexts of the frozen times on the way of a task
@@ -31,9 +24,6 @@ pub record Passes (T : Table) (old now : List Context) (first task : Task) : Typ
   pub entered : (c : Context) → In c now → In c old ⊎ In c (way T old first)
   pub keeps : KeepsKnown old now
   pub one_for_one : IsOneForOne old → IsOneForOne now
-
-pub passes-begin : (T : Table) (known : List Context) (x : Task) → IsTask T (plain_task known x) → IsKnown known x.tag → Passes T known known x x
-passes-begin T known x there k = record { known = k; there = there; same = refl; left = λ c i. i; entered = λ c i. inl i; keeps = known_itself known; one_for_one = λ o. o }
 
 -- the contexts of one move are those of the first on the way
 once-on : (T : Table) (x : PlainTask) (n : ℕ) (c : Context) (o : Option PlainTask) → In c (on_with o [] (λ y. y.context ∷ [])) → In c (on_with o [] (λ y. y.context ∷ passed_contexts T n y))
@@ -68,11 +58,6 @@ passes-on T range old now new first task next p is k f q one =
 -- each to a lower node,
 pub next-lower : (T : Table) → IsInRange T → (now new : List Context) (task next : Task) → option_map (plain_task new) (Some next) ≡ moved T (plain_task now task) → next.node < task.node
 next-lower T range now new task next is = (moved-moves T range (plain_task now task) (plain_task new next) (sym is)).lower
-
--- and where there is none, the last task is reached.
-pub passes-end : (T : Table) → IsInRange T → (old now new : List Context) (first task : Task) → Passes T old now first task → None ≡ moved T (plain_task now task) → KeepsKnown now new
-    → plain_task new task ≡ passed T (plain_task old first)
-passes-end T range old now new first task p is q = task_as_tags_grow now new task q p.known ∙ sym (passed-already T range (plain_task now task) (sym is)) ∙ p.same
 
 pub keeps-end : (T : Table) (old now new : List Context) (first task : Task) → Passes T old now first task → KeepsKnown now new → KeepsKnown old new
 keeps-end T old now new first task p q = keeps_known_then old now new p.keeps q

@@ -1,41 +1,22 @@
 -- A row that reads an element: what is owned stays right, and the row may settle with the element, or the reading is refused.
-use Rattle.std.proofs.Common.{◌≡◌, ℕ, List, Option, Some, None, refl, sym, ap, ◌∙◌, subst}
-use Rattle.std.specs.Prelude.{IsTrue, IfSome, Result, Ok, Err, IfOk, IfErr, slice_get, option_map}
-use Rattle.lucid_value.specs.declared.Value.{Value}
-use Rattle.lucid_value.specs.View.{plain}
-use Rattle.lucid_value.specs.Lines.{IsOverlong}
-use Rattle.lucid_tree.specs.Levels.{Elements, look_up_of}
-use Rattle.lucid_tree.proofs.Members.{inside-read}
-use Rattle.lucid_tasks.specs.declared.Task.{Task}
-use Rattle.lucid_tasks.specs.Rows.{TaskRow, row_at}
-use Rattle.lucid_ports.specs.World.{World, Contents}
-use Rattle.lucid_inputs.specs.Streams.{Stream, all_bytes}
-use Rattle.lucid_inputs.specs.Reading.{GivesElement}
-use Rattle.lucid_equations.specs.Rows.{equations_of}
+use Rattle.lucid_demand.proofs.Common.{ℕ, List, Option, None, refl, sym, ap, ◌∙◌, subst, IsTrue, IfErr, slice_get, Value, plain, IsOverlong, Elements, inside-read, Task, TaskRow, World, Stream, all_bytes, GivesElement, equations_of, Table, AllDiffer, In, plain_task, plain_row, plain_rows, task_visits, EngineView, known_elements, holding, MayHave, places_of, Demand, demand_of, RowFacts, Owns, Waits, plain_of_row, StreamsRead, OnTooLarge, Evaluating, Stepped, cost, MayAct, IsTaken, Settling, MaySettle, ReadsElement, DemandFault, TooDeep, ReadFault}
+use Rattle.std.proofs.Common.{◌≡◌, Some}
+use Rattle.std.specs.Prelude.{IfSome, Result, Ok, Err, IfOk, option_map}
+use Rattle.lucid_tree.specs.Levels.{look_up_of}
+use Rattle.lucid_tasks.specs.Rows.{row_at}
+use Rattle.lucid_ports.specs.World.{Contents}
 use Rattle.lucid_equations.specs.MoreElements.{Extends}
-use Rattle.lucid_equations.specs.declared.table.Table.{Table}
-use Rattle.lucid_tree.specs.Members.{AllDiffer, In}
 use Rattle.lucid_equations.specs.Visits.{consults_on_nodes}
-use Rattle.lucid_facts.specs.Tasks.{plain_task, plain_row, plain_rows}
-use Rattle.lucid_facts.specs.Stands.{task_visits}
-use Rattle.lucid_facts.specs.Engine.{EngineView, known_elements, holding, MayHave, ConsultsOverlong, places_of}
-use Rattle.lucid_facts.specs.Demands.{Demand, table_of, Answers, IsConsulted, demand_of}
+use Rattle.lucid_facts.specs.Engine.{ConsultsOverlong}
+use Rattle.lucid_facts.specs.Demands.{table_of, Answers, IsConsulted}
 use Rattle.lucid_facts.specs.Decisions.{MayRead}
-use Rattle.lucid_facts.specs.Rows.{RowFacts}
-use Rattle.lucid_facts.specs.Going.{Owns, Waits}
-use Rattle.lucid_facts.proofs.Listing.{plain_of_row}
 use Rattle.lucid_facts.proofs.References.{input-consults}
 use Rattle.lucid_facts.proofs.Answering.{element-answers}
 use Rattle.lucid_facts.proofs.Working.{work_later}
 use Rattle.lucid_facts.proofs.Places.{reads_its_element}
-use Rattle.lucid_facts.proofs.Reading.{StreamsRead, EngineReads, later_elements, owns_reads}
-use Rattle.lucid_demand.specs.Demanded.{OnTooLarge}
-use Rattle.lucid_demand.specs.Evaluating.{Evaluating, Stepped, cost}
-use Rattle.lucid_demand.specs.Acting.{MayAct, IsTaken, Settling, MaySettle}
-use Rattle.lucid_demand.specs.Reading.{ReadsElement}
+use Rattle.lucid_facts.proofs.Reading.{EngineReads, later_elements, owns_reads}
 use Rattle.lucid_demand.specs.declared.decide.Decision.TheVariants as decision
-use Rattle.lucid_demand.specs.declared.fault.DemandFault.{DemandFault}
-use Rattle.lucid_demand.specs.declared.fault.DemandFault.TheVariants.{TooDeep, ReadFault, TooLarge}
+use Rattle.lucid_demand.specs.declared.fault.DemandFault.TheVariants.{TooLarge}
 use Rattle.lucid_demand.proofs.SettledRows.{nothing_taken, stepped_from}
 
 overlong_again : (o p : Option Contents) (index most : ℕ) → option_map all_bytes p ≡ option_map all_bytes o → IfSome o (λ c. IsOverlong (all_bytes c) index most)

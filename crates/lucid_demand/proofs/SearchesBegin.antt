@@ -1,36 +1,20 @@
 -- What is noted of a search is its form's pair, and a search begins where its form may stand.
-use Rattle.std.proofs.Common.{◌≡◌, ℕ, ◌≤◌, List, [], ◌∷◌, true, false, Option, Some, None, refl, sym, ap, ◌∙◌, subst, arith}
-use Rattle.std.specs.Prelude.{IsTrue, is_some, option_map, option_and_then}
-use Rattle.std.proofs.lemmas.Option.{none-some}
-use Rattle.lucid_value.specs.View.{plain}
-use Rattle.lucid_tree.specs.Tree.{Head, whenever, asa, upon}
-use Rattle.lucid_tree.specs.Rests.{CanStandAt}
-use Rattle.lucid_tree.specs.Levels.{Elements}
-use Rattle.lucid_search.specs.Noted.{Noted, IsBest, NotesOrMisses}
-use Rattle.lucid_tasks.specs.declared.Cursor.{Cursor}
-use Rattle.lucid_tasks.specs.declared.Task.{Task}
+use Rattle.lucid_demand.proofs.Common.{ℕ, List, [], ◌∷◌, Option, None, refl, sym, ap, ◌∙◌, subst, arith, IsTrue, is_some, option_and_then, none-some, plain, Head, whenever, asa, upon, CanStandAt, Elements, Noted, Cursor, Task, TaskRow, got_of, is_ready, PlainNodes, row, node_at, node_by, Node, Table, waits_for_none, value_of_part, plain_row, is_search, known_elements, holding, MayHave, RowFacts, Owns, Waits, plain_ready, plain_got, plain_of_row, changed_there, cost_of, Evaluating, MayStep, cost, DemandIn}
+use Rattle.std.proofs.Common.{◌≡◌, ◌≤◌, true, false, Some}
+use Rattle.std.specs.Prelude.{option_map}
+use Rattle.lucid_search.specs.Noted.{IsBest, NotesOrMisses}
 use Rattle.lucid_tasks.specs.Rows as rows
-use Rattle.lucid_tasks.specs.Rows.{TaskRow, row_at, got_of, is_ready}
-use Rattle.lucid_equations.specs.Nodes.{PlainNodes, row}
-use Rattle.lucid_equations.specs.Rows.{node_at, node_by, nodes_of, all_at}
-use Rattle.lucid_equations.specs.declared.rows.Node.{Node}
+use Rattle.lucid_tasks.specs.Rows.{row_at}
+use Rattle.lucid_equations.specs.Rows.{nodes_of, all_at}
 use Rattle.lucid_equations.specs.declared.rows.Node.TheVariants.{Whenever, Asa, Upon}
-use Rattle.lucid_equations.specs.declared.table.Table.{Table}
-use Rattle.lucid_facts.specs.Tasks.{all_idle, waits_for_none, value_of_part, plain_row}
-use Rattle.lucid_facts.specs.Held.{is_search, cursor_noted, key_noted}
-use Rattle.lucid_facts.specs.Engine.{known_elements, holding, MayHave}
+use Rattle.lucid_facts.specs.Tasks.{all_idle}
+use Rattle.lucid_facts.specs.Held.{cursor_noted, key_noted}
 use Rattle.lucid_facts.specs.Demands.{table_of}
-use Rattle.lucid_facts.specs.Rows.{RowFacts}
 use Rattle.lucid_facts.specs.Changes.{at_cursor}
-use Rattle.lucid_facts.specs.Going.{Owns, Waits}
-use Rattle.lucid_facts.proofs.Seeing.{plain_ready, plain_got}
-use Rattle.lucid_facts.proofs.Listing.{plain_of_row, changed_there}
 use Rattle.lucid_facts.proofs.Idling.{search-is_all_idle}
 use Rattle.lucid_facts.proofs.Searching.{begun-facts}
 use Rattle.lucid_facts.proofs.Owning.{owns_notes}
-use Rattle.lucid_facts.proofs.Acting.{cost_of, begins_goes_on}
-use Rattle.lucid_demand.specs.Evaluating.{Evaluating, MayStep, cost}
-use Rattle.lucid_demand.specs.Acting.{DemandIn}
+use Rattle.lucid_facts.proofs.Acting.{begins_goes_on}
 use Rattle.lucid_demand.specs.Searching.{search_for, noted_of, greatest_key}
 use Rattle.lucid_demand.specs.declared.searches.Search.{Search}
 use Rattle.lucid_demand.specs.declared.searches.Search.TheVariants.{Find, Count}

@@ -1,46 +1,23 @@
 -- A ready row that settles takes a step: what it remembers is put, and its value is its parent's or answers the root.
-use Rattle.std.proofs.lemmas.Bool.{cases_lt}
-use Rattle.std.proofs.Common.{◌≡◌, ◌⊎◌, inl, inr, ℕ, ◌<◌, ◌≤◌, ◌-◌, ◌^◌, arith, List, Option, Some, None, refl, sym, ap, ◌∙◌, subst}
-use Rattle.std.specs.Prelude.{IsTrue, IsSome, IfSome, Result, Ok, Err, option_map, option_and_then}
-use Rattle.lucid_value.specs.declared.Value.{Value}
-use Rattle.lucid_value.specs.Plain.{PlainValue}
-use Rattle.lucid_value.specs.View.{plain}
-use Rattle.lucid_ops.specs.declared.op.Op.{Op}
-use Rattle.lucid_tree.specs.Levels.{Elements}
-use Rattle.lucid_tags.specs.Contexts.{Context}
-use Rattle.lucid_tags.specs.Known.{IsKnown}
-use Rattle.lucid_tags.specs.declared.Key.{Key}
+use Rattle.lucid_demand.proofs.Common.{cases_lt, inl, inr, ℕ, ◌-◌, arith, List, Option, None, refl, sym, ap, ◌∙◌, subst, IsTrue, IsSome, option_and_then, Value, PlainValue, plain, Op, Elements, Context, IsKnown, Key, TaskRow, got_of, is_ready, returned, Stored, World, Rises, PlainRow, DatonAt, plain_task, plain_key, plain_row, plain_rows, value_of_part, node_of, IsReference, EngineView, known_elements, holding, MayHave, Demand, RowFacts, Owns, Waits, at_it, plain_got, plain_of_row, ready_after_take, answers_over, work_over, cost_of, Evaluating, MayStep, Stepped, cost, DemandIn, MayAct, MayGive, Applies, value_of, IsTaken, Settling, MaySettle, at_rows, argument_by, argument_at, DemandFault, NoMemory, ◌^◌}
+use Rattle.std.proofs.Common.{◌≡◌, ◌⊎◌, ◌<◌, ◌≤◌, Some}
+use Rattle.std.specs.Prelude.{IfSome, Result, Ok, Err, option_map}
 use Rattle.lucid_tasks.specs.Rows as rows
-use Rattle.lucid_tasks.specs.Rows.{TaskRow, row_at, parent_of, key_of, got_of, is_ready, returned}
-use Rattle.lucid_store.specs.Stored.{Stored}
-use Rattle.lucid_ports.specs.World.{World}
-use Rattle.lucid_ports.specs.Faults.{Rises}
+use Rattle.lucid_tasks.specs.Rows.{row_at, parent_of, key_of}
 use Rattle.lucid_equations.specs.Rows as table
-use Rattle.lucid_facts.specs.Tasks.{PlainRow, DatonAt, plain_task, plain_key, plain_row, plain_rows, value_of_part}
-use Rattle.lucid_facts.specs.Parts.{node_of, IsReference}
-use Rattle.lucid_facts.specs.Engine.{EngineView, known_elements, holding, MayHave}
-use Rattle.lucid_facts.specs.Demands.{Demand, table_of, Answers}
+use Rattle.lucid_facts.specs.Demands.{table_of, Answers}
 use Rattle.lucid_facts.specs.Decisions.{GivesByPlan}
-use Rattle.lucid_facts.specs.Rows.{RowFacts}
-use Rattle.lucid_facts.specs.Going.{Owns, Waits}
 use Rattle.lucid_facts.specs.Changes.{PutsOrLoses}
-use Rattle.lucid_facts.proofs.Slots.{at_it}
-use Rattle.lucid_facts.proofs.Seeing.{plain_got}
-use Rattle.lucid_facts.proofs.Listing.{plain_of_row, same_elsewhere, ready_after_take}
+use Rattle.lucid_facts.proofs.Listing.{same_elsewhere}
 use Rattle.lucid_facts.proofs.Changing.{settles_after_taking}
 use Rattle.lucid_facts.proofs.Putting.{remembered-is_put}
-use Rattle.lucid_facts.proofs.Working.{answers_over, work_over}
 use Rattle.lucid_facts.proofs.Giving.{plan_answers, reference_answers}
 use Rattle.lucid_facts.proofs.Storing.{AfterPut, after_put}
-use Rattle.lucid_facts.proofs.Acting.{cost_of}
-use Rattle.lucid_demand.specs.Evaluating.{Evaluating, MayStep, Stepped, OnGoingOn, cost}
-use Rattle.lucid_demand.specs.Acting.{DemandIn, MayAct, MayGive, Applies, value_of, IsTaken, Settling, MaySettle, at_rows, IsKept}
-use Rattle.lucid_demand.specs.Justified.{argument_by, argument_at}
+use Rattle.lucid_demand.specs.Evaluating.{OnGoingOn}
+use Rattle.lucid_demand.specs.Acting.{IsKept}
 use Rattle.lucid_demand.specs.declared.decide.Decision.TheVariants as decision
 use Rattle.lucid_demand.proofs.GoneRows.{row_goes}
 use Rattle.lucid_demand.proofs.TakenParts.{values_alike}
-use Rattle.lucid_demand.specs.declared.fault.DemandFault.{DemandFault}
-use Rattle.lucid_demand.specs.declared.fault.DemandFault.TheVariants.{NoMemory}
 
 -- A step that is refused for want of memory keeps what is owned.
 pub refused : (d : Demand) (old new : Evaluating) (v w : World) → Owns d new.engine w → Stepped d old new v w (Err NoMemory)
@@ -266,15 +243,6 @@ settled_in s old mid new inner slot v result m kept same engine rows_are settles
   where
     inner_is : inner ≡ old.rows
     inner_is = rows_are ∙ same
-
--- A refusal for want of memory that leaves the engine as it was.
-pub refused_same : (d : Demand) (old new before : Evaluating) (w : World) (f : DemandFault) → f ≡ NoMemory → new.engine ≡ old.engine → Owns d old.engine w → Stepped d before new w w (Err f)
-refused_same d old new before w f is same owns =
-    subst (λ z. Stepped d before new w w (Err z)) (sym is) (refused d before new w w (subst (λ z. Owns d z w) (sym same) owns))
-
--- The row is ready in rows that are the same.
-pub ready_in : (rs ts : List (Option TaskRow)) (slot : ℕ) → ts ≡ rs → IsTrue (is_ready (row_at rs slot)) → IsTrue (is_ready (row_at ts slot))
-ready_in rs ts slot same ready = subst (λ z. IsTrue (is_ready (row_at z slot))) (sym same) ready
 
 -- A step that settles, by what was taken and what the settling does.
 pub settled_part : (i : DemandIn) (e mid new : Evaluating) (slot index : ℕ) (v : Value) (result : Result (Option Value) DemandFault) → mid.engine ≡ e.engine

@@ -1,25 +1,9 @@
 -- A demand begins: the policy has its turn, and the root may be asked for.
-use Rattle.std.proofs.Common.{◌≡◌, ℕ, ◌<◌, [], length, Option, None, sym, ap, ◌∙◌, subst}
+use Rattle.lucid_demand.proofs.Common.{ℕ, [], Option, None, sym, ap, ◌∙◌, subst, Value, root, context_at, IsKnown, context_of, space_of, number_of, Tag, Task, World, plain_task, EngineView, IsSound, AreAskable, Demand, demand_of, StandsFor, IsWanted, IsDemand, Owns, stands-itself, engine_begins, Evaluating, CanAsk, MayAskNow, AsksIn, IsTurned, Begins, DemandFault}
+use Rattle.std.proofs.Common.{◌≡◌, ◌<◌, length}
 use Rattle.std.specs.Prelude.{Result, Ok, Err, Some}
-use Rattle.lucid_value.specs.declared.Value.{Value}
-use Rattle.lucid_tags.specs.Contexts.{root, context_at}
-use Rattle.lucid_tags.specs.Known.{IsKnown, context_of, space_of, number_of}
-use Rattle.lucid_tags.specs.declared.Tag.{Tag}
-use Rattle.lucid_tasks.specs.declared.Task.{Task}
-use Rattle.lucid_ports.specs.World.{World}
-use Rattle.lucid_facts.specs.Tasks.{plain_task}
-use Rattle.lucid_facts.specs.Engine.{EngineView, IsSound, AreAskable}
-use Rattle.lucid_facts.specs.Demands.{Demand, table_of, demand_of}
-use Rattle.lucid_facts.specs.Stands.{StandsFor}
-use Rattle.lucid_facts.specs.Rows.{IsWanted}
-use Rattle.lucid_facts.specs.Going.{IsDemand, Owns}
-use Rattle.lucid_facts.proofs.Standing.{stands-itself}
+use Rattle.lucid_facts.specs.Demands.{table_of}
 use Rattle.lucid_facts.proofs.NewRows.{root-is_wanted}
-use Rattle.lucid_facts.proofs.Ends.{engine_begins}
-use Rattle.lucid_demand.specs.Evaluating.{Evaluating}
-use Rattle.lucid_demand.specs.Asking.{CanAsk, MayAskNow, AsksIn}
-use Rattle.lucid_demand.specs.Turning.{IsTurned, Begins}
-use Rattle.lucid_demand.specs.declared.fault.DemandFault.{DemandFault}
 use Rattle.lucid_demand.proofs.Turning.{owns_turned, emptied_turn}
 
 -- What asking for the root gave is how the demand begins.

@@ -1,37 +1,17 @@
 -- A ready row decides, and what its decision asks for is there.
-use Rattle.std.proofs.Common.{◌≡◌, inl, inr, ℕ, ◌+◌, ◌<◌, List, length, Some, refl, sym, ap, ◌∙◌, subst, arith}
-use Rattle.std.specs.Prelude.{Bool, IsSome, Err, slice_get}
-use Rattle.std.proofs.lemmas.List.{length-map}
-use Rattle.std.proofs.lemmas.Option.{slice_get_within}
-use Rattle.lucid_value.specs.Plain.{truth, eod, fault}
-use Rattle.lucid_ops.specs.declared.op.Op.{Op}
-use Rattle.lucid_ops.specs.Arity.{arity}
-use Rattle.lucid_tree.specs.Levels.{Elements, element_of, goes_to}
-use Rattle.lucid_tasks.specs.Rows.{TaskRow, row_at, is_ready}
-use Rattle.lucid_ports.specs.World.{World}
-use Rattle.lucid_equations.specs.Datons.{NodeAim, NodePosition, Daton}
-use Rattle.lucid_equations.specs.Rows.{equations_of, constant_at}
+use Rattle.lucid_demand.proofs.Common.{inl, inr, ℕ, ◌+◌, List, refl, sym, ap, ◌∙◌, subst, arith, IsSome, slice_get, truth, eod, fault, Op, arity, Elements, element_of, goes_to, TaskRow, is_ready, World, NodeAim, Daton, equations_of, constant_at, Table, plain_task, plain_row, HoldsRight, known_elements, holding, MayHave, Demand, stays, RowFacts, plain_of_row, row-is_wanted, too_deep-is_right, MayDecide, Evaluating, MayStep, Stepped, MayAct, MayGive, IsReadyTask, Justified, argument_at, Decision, TooDeep, length-map, slice_get_within}
+use Rattle.std.proofs.Common.{◌≡◌, ◌<◌, length, Some}
+use Rattle.std.specs.Prelude.{Bool, Err}
+use Rattle.lucid_tasks.specs.Rows.{row_at}
+use Rattle.lucid_equations.specs.Datons.{NodePosition}
 use Rattle.lucid_equations.specs.Rows as table
 use Rattle.lucid_equations.specs.declared.rows.Node.TheVariants as node
-use Rattle.lucid_equations.specs.declared.table.Table.{Table}
-use Rattle.lucid_facts.specs.Tasks.{plain_task, plain_row}
 use Rattle.lucid_facts.specs.Stands.{IsDefined}
-use Rattle.lucid_facts.specs.Held.{HoldsRight}
-use Rattle.lucid_facts.specs.Engine.{known_elements, holding, MayHave}
-use Rattle.lucid_facts.specs.Demands.{Demand, table_of, stays}
+use Rattle.lucid_facts.specs.Demands.{table_of}
 use Rattle.lucid_facts.specs.Decisions.{element_too_deep}
-use Rattle.lucid_facts.specs.Rows.{RowFacts}
-use Rattle.lucid_facts.proofs.Listing.{plain_of_row}
-use Rattle.lucid_facts.proofs.NewRows.{row-is_wanted}
 use Rattle.lucid_facts.proofs.Asking.{nothing_is_right}
-use Rattle.lucid_facts.proofs.Answering.{too_deep-is_right}
-use Rattle.lucid_demand.specs.Answers.{MayDecide}
-use Rattle.lucid_demand.specs.Evaluating.{Evaluating, MayStep, Stepped}
-use Rattle.lucid_demand.specs.Acting.{MayAct, MayGive, IsReadyTask, AreThere}
-use Rattle.lucid_demand.specs.Justified.{Justified, argument_at}
-use Rattle.lucid_demand.specs.declared.decide.Decision.{Decision}
+use Rattle.lucid_demand.specs.Acting.{AreThere}
 use Rattle.lucid_demand.specs.declared.decide.Decision.TheVariants as decision
-use Rattle.lucid_demand.specs.declared.fault.DemandFault.TheVariants.{TooDeep}
 use Rattle.lucid_demand.proofs.OperatorParts.{argument_is_lower}
 use Rattle.lucid_demand.proofs.TakenParts.{value_there}
 use Rattle.lucid_demand.proofs.SettledRows.{ready_is_there, argument_value}

@@ -1,20 +1,9 @@
 -- The values of an operator's arguments, to which it is applied.
-use Rattle.std.proofs.Common.{◌≡◌, ℕ, zero, suc, ◌+◌, ◌<◌, List, [], ◌∷◌, length, Option, Some, refl, sym, ap, ◌∙◌, subst, arith}
-use Rattle.std.proofs.lemmas.Option.{same_Some}
-use Rattle.std.specs.Result.{IsErrAnd}
-use Rattle.std.specs.Prelude.{Result, Ok, Err, ⊤, IfOk, IsSome, slice_get, slice_set, slice_index_or}
-use Rattle.lucid_value.specs.declared.Value.{Value}
-use Rattle.lucid_value.specs.Plain.{PlainValue}
-use Rattle.lucid_value.specs.View.{plain}
-use Rattle.lucid_ops.specs.declared.op.Op.{Op}
-use Rattle.lucid_ops.specs.Arity.{arity}
+use Rattle.lucid_demand.proofs.Common.{ℕ, zero, suc, ◌+◌, List, [], ◌∷◌, Option, refl, sym, ap, ◌∙◌, subst, arith, same_Some, IsErrAnd, ⊤, IsSome, slice_get, slice_index_or, Value, PlainValue, plain, Op, arity, Idle, Evaluating, gave, Applies, value_of, HaveValues, DemandFault, slice_set}
+use Rattle.std.proofs.Common.{◌≡◌, ◌<◌, length, Some}
+use Rattle.std.specs.Prelude.{Result, Ok, Err, IfOk}
 use Rattle.lucid_ops.specs.Algebra.{algebra}
 use Rattle.lucid_tasks.specs.Rows as rows
-use Rattle.lucid_tasks.specs.Rows.{Idle}
-use Rattle.lucid_demand.specs.Evaluating.{Evaluating, gave}
-use Rattle.lucid_demand.specs.Acting.{Applies, value_of}
-use Rattle.lucid_demand.specs.Justified.{HaveValues}
-use Rattle.lucid_demand.specs.declared.fault.DemandFault.{DemandFault}
 
 -- another part than the one that is set stands as it did
 pub other_part : (ps : List rows.PartState) (i k : ℕ) (y : rows.PartState) → (k ≡ i → ⊥) → slice_index_or (slice_set ps i y) k Idle ≡ slice_index_or ps k Idle

@@ -1,24 +1,10 @@
 -- What a look-up leaves: a hit renews an age, and no value changes.
-use Rattle.std.proofs.Common.{◌≡◌, List, Option, Some, None, refl, sym, ap, ◌∙◌, subst, arith}
-use Rattle.std.specs.Prelude.{IsSome, option_map}
-use Rattle.lucid_value.specs.declared.Value.{Value}
-use Rattle.lucid_value.specs.Plain.{PlainValue}
-use Rattle.lucid_value.specs.View.{plain}
-use Rattle.lucid_tags.specs.Known.{IsKnown}
-use Rattle.lucid_tags.specs.declared.Key.{Key}
-use Rattle.lucid_tasks.specs.Rows.{TaskRow}
-use Rattle.lucid_ports.specs.World.{World}
-use Rattle.lucid_store.specs.Stored.{Stored}
-use Rattle.lucid_store.specs.Entries.{value_at, IsTouched}
+use Rattle.lucid_demand.proofs.Common.{List, Option, None, refl, sym, ap, ◌∙◌, subst, arith, IsSome, Value, PlainValue, plain, IsKnown, Key, TaskRow, World, Stored, value_at, IsTouched, DatonAt, plain_key, plain_rows, held_in, EngineView, known_elements, holding, Demand, stays, Owns, Waits, held_stays, owns_drops, work_over}
+use Rattle.std.proofs.Common.{◌≡◌, Some}
+use Rattle.std.specs.Prelude.{option_map}
 use Rattle.lucid_store.proofs.CallerLemmas.{held-touched}
-use Rattle.lucid_facts.specs.Tasks.{DatonAt, plain_key, plain_rows}
-use Rattle.lucid_facts.specs.Held.{held_in}
-use Rattle.lucid_facts.specs.Engine.{EngineView, known_elements, holding}
-use Rattle.lucid_facts.specs.Demands.{Demand, stays}
-use Rattle.lucid_facts.specs.Going.{Owns, Waits}
-use Rattle.lucid_facts.proofs.HeldByKey.{held_by_key, held_stays}
-use Rattle.lucid_facts.proofs.Owning.{owns_drops, few_where_fewer}
-use Rattle.lucid_facts.proofs.Working.{work_over}
+use Rattle.lucid_facts.proofs.HeldByKey.{held_by_key}
+use Rattle.lucid_facts.proofs.Owning.{few_where_fewer}
 
 module _ (d : Demand) (now : EngineView) (w : World) (stored : Stored) (key : Key) (owns : Owns d now w) (touched : IsTouched now.stored stored key) where
   -- each daton is held as it was

@@ -1,29 +1,16 @@
 -- A policy's turn keeps what is true of a demand's loop, and leaves what a step asks for.
-use Rattle.std.proofs.Common.{◌≡◌, ℕ, List, [], ◌∷◌, Option, Some, None, refl, sym, ap, ◌∙◌, subst, arith, length}
-use Rattle.std.specs.Prelude.{IsTrue, IsSome, is_some, option_map, Result}
-use Rattle.std.specs.Map.{lookup}
-use Rattle.lucid_value.specs.declared.Value.{Value}
-use Rattle.lucid_value.specs.Plain.{PlainValue}
-use Rattle.lucid_value.specs.View.{plain}
-use Rattle.lucid_tree.specs.Levels.{Elements}
-use Rattle.lucid_tasks.specs.Rows.{TaskRow, row_at, is_ready}
-use Rattle.lucid_store.specs.Stored.{Stored}
+use Rattle.lucid_demand.proofs.Common.{ℕ, List, [], ◌∷◌, Option, None, refl, sym, ap, ◌∙◌, subst, arith, IsTrue, IsSome, is_some, Value, PlainValue, plain, Elements, TaskRow, is_ready, Stored, World, PlainTask, DatonAt, plain_rows, EngineView, known_elements, holding, Demand, Owns, Waits, held_stays, answers_over, work_over, owns_drops, Evaluating, MayStep, Stepped, cost, MayTurn, IsTurned, DemandFault, lookup}
+use Rattle.std.proofs.Common.{◌≡◌, Some, length}
+use Rattle.std.specs.Prelude.{option_map, Result}
+use Rattle.lucid_tasks.specs.Rows.{row_at}
 use Rattle.lucid_store.specs.Entries.{count_of}
 use Rattle.lucid_retire.specs.Turns.{HoldsAtMost}
-use Rattle.lucid_ports.specs.World.{World}
-use Rattle.lucid_facts.specs.Tasks.{PlainTask, DatonAt, plain_rows}
 use Rattle.lucid_facts.specs.Held.{is_key_of}
-use Rattle.lucid_facts.specs.Engine.{EngineView, known_elements, holding, HoldsFew}
-use Rattle.lucid_facts.specs.Demands.{Demand, Answers}
+use Rattle.lucid_facts.specs.Engine.{HoldsFew}
+use Rattle.lucid_facts.specs.Demands.{Answers}
 use Rattle.lucid_facts.specs.Stock.{IsEmptied}
-use Rattle.lucid_facts.specs.Going.{Owns, Waits, WithinRoom}
-use Rattle.lucid_facts.proofs.HeldByKey.{held_stays}
-use Rattle.lucid_facts.proofs.Working.{answers_over, work_over}
-use Rattle.lucid_facts.proofs.Owning.{owns_drops}
-use Rattle.lucid_demand.specs.Evaluating.{Evaluating, MayStep, Stepped, cost}
-use Rattle.lucid_demand.specs.Turning.{MayTurn, IsTurned}
+use Rattle.lucid_facts.specs.Going.{WithinRoom}
 use Rattle.lucid_demand.proofs.Beginning.{stepped_from_less}
-use Rattle.lucid_demand.specs.declared.fault.DemandFault.{DemandFault}
 
 no_entries : {A : Type 0} (es : List A) → length es ≡ 0 → es ≡ []
 no_entries [] e = refl

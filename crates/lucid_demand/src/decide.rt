@@ -10,10 +10,10 @@ ghost use Rattle.lucid_demand.specs.Justified.{Justified};
 ghost use Rattle.lucid_demand.specs.Answers.{MayDecide, argument_of};
 ghost use Rattle.lucid_equations.specs.declared.rows.Node.TheVariants as node;
 
-use crate::moving::LAST;
 use lucid_equations::{Node, Program};
 use lucid_ops::Op;
 use lucid_tasks::{Task, Tasks};
+use lucid_tree::LAST;
 use lucid_value::Value;
 
 /// What a ready row does next.

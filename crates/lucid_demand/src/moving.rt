@@ -11,10 +11,8 @@ ghost use Rattle.lucid_demand.specs.Aims.{EntersUnknown};
 use lucid_equations::{Node, Program};
 use lucid_tags::Tags;
 use lucid_tasks::Task;
+use lucid_tree::LAST;
 use std::alloc::AllocError;
-
-/// The last time, and the last space.
-pub(crate) const LAST: u64 = (1 << 63) - 1;
 
 // The task of a part, at another time.
 #[inline(always)]

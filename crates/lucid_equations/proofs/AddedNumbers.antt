@@ -1,17 +1,5 @@
 -- An added number is no more than a limit: both decide by the same numbers, and the paths get longer.
-use Rattle.std.proofs.Common.{◌≡◌, ℕ, zero, suc, ◌+◌, [], subst, arith, add-zero}
-use Rattle.std.proofs.lemmas.Bool.Decides.{nat_tests}
-use Rattle.lucid_tree.specs.Members.{In, Inside}
-use Rattle.lucid_tree.specs.Rows.{plan}
-use Rattle.lucid_tree.specs.Levels.{Given, nothing_held, below, deeper, goes_to, element_of, nowhere, entered, referred}
-use Rattle.lucid_tree.proofs.Plans.{within_itself}
-use Rattle.lucid_tree.proofs.Traces.{TakesMore, trace-inside}
-use Rattle.lucid_tree.proofs.Members.{inside_itself, inside-after, inside-cons}
-use Rattle.lucid_tags.specs.Contexts.{Context, frozen_frame}
-use Rattle.lucid_equations.specs.Nodes.{PlainNode, PlainNodes, row, freeze, reference, invoke, no_nodes, node, Equations}
-use Rattle.lucid_equations.specs.Datons.{Daton, NodeAim, reference_aim, call_aim}
-use Rattle.lucid_equations.specs.Values.{part_at, node_value}
-use Rattle.lucid_equations.specs.Visits.{NodeEvents, context_of, walk_at, walk_part, node_walk}
+use Rattle.lucid_equations.proofs.Common.{◌≡◌, ℕ, zero, suc, ◌+◌, [], subst, arith, add-zero, In, Inside, plan, Given, nothing_held, below, deeper, goes_to, element_of, nowhere, entered, referred, within_itself, TakesMore, trace-inside, inside_itself, inside-after, inside-cons, Context, frozen_frame, PlainNode, PlainNodes, row, freeze, reference, invoke, no_nodes, node, Equations, Daton, NodeAim, reference_aim, call_aim, part_at, node_value, NodeEvents, context_of, walk_at, walk_part, node_walk, nat_tests}
 use Rattle.lucid_equations.specs.Laws.{AddedIsLimit}
 
 takes_added : (m d : ℕ) → TakesMore m (m + d)

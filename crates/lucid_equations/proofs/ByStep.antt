@@ -1,22 +1,9 @@
 -- What a form reads, visits and needs, step by step along its plan.
-use Rattle.std.proofs.Common.{◌≡◌, ℕ, suc, ◌+◌, ◌≤◌, List, [], ◌∷◌, Some, refl, sym, ◌∙◌, subst, add-zero, inl, arith}
-use Rattle.lucid_value.specs.Plain.{PlainValue}
-use Rattle.lucid_tree.specs.Tree.{Head}
-use Rattle.lucid_tree.specs.Members.{In, Inside}
-use Rattle.lucid_tree.specs.Rows.{Look, Plan, gives, looks, plan, trace}
+use Rattle.lucid_equations.proofs.Common.{◌≡◌, ℕ, suc, ◌+◌, ◌≤◌, List, [], ◌∷◌, Some, refl, sym, ◌∙◌, subst, add-zero, inl, arith, PlainValue, Head, In, Inside, Look, Plan, gives, looks, plan, trace, Elements, Given, nothing_held, below, referred, below-grows, Context, row, PlainNodes, Equations, Daton, node_value, node_val, node_hval, node_visits, IsNeeded, HeldIsMeant, reads_parts, visits_parts}
 use Rattle.lucid_tree.specs.Rests.{Reads, ReadsAtSome, LeadsTo}
 use Rattle.lucid_tree.specs.PlanLaws.{NeverLose, NeverDiffers}
-use Rattle.lucid_tree.specs.Levels.{Elements, Given, nothing_held, below, referred}
-use Rattle.lucid_tree.proofs.LevelGrowth.{below-grows}
 use Rattle.lucid_tree.proofs.Ways.{leads-maps, leads-runs}
 use Rattle.lucid_tree.proofs.RestsTraced.{next_seen, next_seen_on, seen_on_the_way}
-use Rattle.lucid_tags.specs.Contexts.{Context}
-use Rattle.lucid_equations.specs.Nodes.{row, PlainNodes, Equations}
-use Rattle.lucid_equations.specs.Datons.{Daton}
-use Rattle.lucid_equations.specs.Values.{node_value, node_val, node_hval}
-use Rattle.lucid_equations.specs.Visits.{node_visits, IsNeeded}
-use Rattle.lucid_equations.specs.Laws.{HeldIsMeant}
-use Rattle.lucid_equations.specs.Parts.{reads_parts, visits_parts}
 use Rattle.lucid_equations.specs.Looks.{NeedsWithin}
 use Rattle.lucid_equations.proofs.NodeGrowth.{part_at-grows, node_value-grows, node-meant_once}
 use Rattle.lucid_equations.proofs.NodeMeant.{node_hval-meant}

@@ -1,9 +1,6 @@
 -- A call enters the context of its daton.
-use Rattle.std.proofs.Common.{◌++◌, inl, refl, sym, subst}
-use Rattle.std.specs.List.{filter_map}
-use Rattle.lucid_tree.specs.Members.{In}
-use Rattle.lucid_tree.specs.Levels.{nothing_held, deeper, entered_of}
-use Rattle.lucid_equations.specs.Visits.{context_of, node_walk}
+use Rattle.lucid_equations.proofs.Common.{◌++◌, inl, refl, sym, subst, filter_map, In, nothing_held, deeper, context_of, node_walk}
+use Rattle.lucid_tree.specs.Levels.{entered_of}
 use Rattle.lucid_equations.specs.Laws.{CallsEnterTheirContexts}
 
 pub calls-enter : CallsEnterTheirContexts

@@ -1,18 +1,6 @@
 -- What a form visits and needs, by its looks.
-use Rattle.std.proofs.Common.{◌≡◌, ℕ, zero, suc, ◌+◌, Some, refl, sym, ◌∙◌, subst, add-zero}
-use Rattle.std.specs.List.{filter_map}
-use Rattle.lucid_value.specs.Plain.{PlainValue}
-use Rattle.lucid_tree.specs.Tree.{Head}
-use Rattle.lucid_tree.specs.Members.{In, Inside}
-use Rattle.lucid_tree.specs.Rows.{plan}
-use Rattle.lucid_tree.specs.Levels.{Elements, nothing_held, Below, below, deeper, referred, reference_of}
-use Rattle.lucid_tree.proofs.Members.{in_read, inside-read}
-use Rattle.lucid_tags.specs.Contexts.{Context}
-use Rattle.lucid_equations.specs.Nodes.{PlainNode, row, PlainNodes, no_nodes, node, part_of, Equations}
-use Rattle.lucid_equations.specs.Datons.{Daton, NodePosition}
-use Rattle.lucid_equations.specs.Values.{part_at, node_value, node_val}
-use Rattle.lucid_equations.specs.Visits.{node_walk, node_visits, IsNeeded}
-use Rattle.lucid_equations.specs.Parts.{reads_parts, visits_parts, looked_at, LookNeeds}
+use Rattle.lucid_equations.proofs.Common.{◌≡◌, ℕ, zero, suc, ◌+◌, Some, refl, sym, ◌∙◌, subst, add-zero, filter_map, PlainValue, Head, In, Inside, plan, Elements, nothing_held, Below, below, deeper, referred, reference_of, in_read, inside-read, Context, PlainNode, row, PlainNodes, no_nodes, node, part_of, Equations, Daton, NodePosition, part_at, node_value, node_val, node_walk, node_visits, IsNeeded, reads_parts, visits_parts}
+use Rattle.lucid_equations.specs.Parts.{looked_at, LookNeeds}
 use Rattle.lucid_equations.proofs.Looked.{looked-inside, look-found, looked-defined}
 use Rattle.lucid_equations.proofs.Moving.{part-read, part-walked}
 use Rattle.lucid_equations.proofs.NodeWalks.{needed-visited}

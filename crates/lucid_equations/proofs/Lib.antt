@@ -1,3 +1,4 @@
+pub mod Common
 pub mod NodeAims
 pub mod NodeGrowth
 pub mod NodeMeant

@@ -1,9 +1,6 @@
 -- Where a plan looks: whatever it sees some look sees, what a look sees the plan sees, and where it has a value its looks have.
-use Rattle.std.proofs.Common.{◌≡◌, ℕ, Bool, true, false, List, [], ◌∷◌, Option, Some, None, refl, sym, subst, nat_le, if◌then◌else◌, inl, inr}
-use Rattle.lucid_value.specs.Plain.{PlainValue}
-use Rattle.lucid_tree.specs.Members.{In, Inside}
-use Rattle.lucid_tree.specs.Rows.{Look, Plan, gives, nothing, looks, Reader, all_values, with_values, run, gather, trace}
-use Rattle.lucid_tree.proofs.Members.{in_left, in_right, in_either}
+use Rattle.lucid_equations.proofs.Common.{◌≡◌, ℕ, Bool, true, false, List, [], ◌∷◌, Option, Some, None, refl, sym, subst, if◌then◌else◌, inl, inr, PlainValue, In, Inside, Look, Plan, gives, looks, Reader, with_values, run, trace, in_left, in_right, in_either, nat_le}
+use Rattle.lucid_tree.specs.Rows.{nothing, all_values, gather}
 use Rattle.lucid_tree.proofs.Settled.{added, defined}
 
 abbrev Point : Type 0

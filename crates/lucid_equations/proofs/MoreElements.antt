@@ -1,21 +1,7 @@
 -- With more elements a node keeps its values, and visits at least what it visited; where it has a value, the very same.
-use Rattle.std.proofs.Common.{◌≡◌, ℕ, zero, suc, ◌+◌, [], ◌∷◌, ◌++◌, Option, Some, None, refl, sym, ap, subst, add-zero}
-use Rattle.std.specs.List.{filter_map}
-use Rattle.lucid_value.specs.Plain.{PlainValue}
-use Rattle.lucid_tree.specs.Members.{In, Inside}
-use Rattle.lucid_tree.specs.Rows.{plan}
-use Rattle.lucid_tree.specs.Levels.{element_of, goes_to, nowhere, Elements, Given, nothing_held, below, deeper, entered, referred, look_up_of, reference_of}
-use Rattle.lucid_tree.proofs.Plans.{Keeps, within_itself}
-use Rattle.lucid_tree.proofs.Members.{inside_itself, inside-after, inside-cons, inside-read}
-use Rattle.lucid_tree.proofs.Traces.{trace-inside}
-use Rattle.lucid_tree.proofs.Settled.{takes_plan, trace-same}
+use Rattle.lucid_equations.proofs.Common.{◌≡◌, ℕ, zero, suc, ◌+◌, [], ◌∷◌, ◌++◌, Option, Some, None, refl, sym, ap, subst, add-zero, filter_map, PlainValue, In, Inside, plan, element_of, goes_to, nowhere, Elements, Given, nothing_held, below, deeper, entered, referred, reference_of, Keeps, within_itself, inside_itself, inside-after, inside-cons, inside-read, trace-inside, takes_plan, trace-same, Context, frozen_frame, PlainNode, row, freeze, reference, invoke, PlainNodes, no_nodes, node, Equations, Daton, NodeAim, reference_aim, call_aim, value_at, part_at, node_value, node_hval, node_val, NodeMeans, NodeEvents, context_of, walk_at, walk_part, node_walk, node_visits, IsNeeded, HeldIsMeant}
+use Rattle.lucid_tree.specs.Levels.{look_up_of}
 use Rattle.lucid_tree.proofs.LevelGrowth.{or_else-keeps}
-use Rattle.lucid_tags.specs.Contexts.{Context, frozen_frame}
-use Rattle.lucid_equations.specs.Nodes.{PlainNode, row, freeze, reference, invoke, PlainNodes, no_nodes, node, Equations}
-use Rattle.lucid_equations.specs.Datons.{Daton, NodeAim, reference_aim, call_aim}
-use Rattle.lucid_equations.specs.Values.{value_at, part_at, node_value, node_hval, node_val, NodeMeans}
-use Rattle.lucid_equations.specs.Visits.{NodeEvents, context_of, walk_at, walk_part, node_walk, node_visits, IsNeeded}
-use Rattle.lucid_equations.specs.Laws.{HeldIsMeant}
 use Rattle.lucid_equations.specs.MoreElements.{Extends}
 use Rattle.lucid_equations.proofs.NodeGrowth.{node_value-keeps, part_at-keeps}
 use Rattle.lucid_equations.proofs.NodeWalks.{needed-visited}

@@ -1,19 +1,9 @@
 -- A form whose plan gives one part at one point reads and visits what that part does there.
-use Rattle.std.proofs.Common.{◌≡◌, ℕ, zero, suc, ◌+◌, Bool, true, false, List, [], ◌++◌, Option, Some, None, refl, sym, ap, ◌∙◌, subst, if◌then◌else◌, nat_lt}
-use Rattle.std.specs.List.{filter_map}
-use Rattle.std.proofs.lemmas.List.{append-nil}
-use Rattle.std.proofs.lemmas.Option.{none-some}
+use Rattle.lucid_equations.proofs.Common.{◌≡◌, ℕ, zero, suc, ◌+◌, Bool, true, false, List, [], ◌++◌, Option, Some, None, refl, sym, ap, ◌∙◌, subst, if◌then◌else◌, filter_map, append-nil, none-some, PlainValue, In, Head, Plan, Reader, gives, run, trace, with_values, Elements, Given, nothing_held, Below, below, deeper, reference_of, Context, frozen_frame, PlainNode, PlainNodes, no_nodes, node, row, freeze, part_of, Equations, Daton, NodePosition, NodeAim, node_hval, node_value, value_at, part_at, NodeEvents, node_visits, node_walk, walk_at, walk_part, IsNeeded, nat_lt}
 use Rattle.lucid_lemmas.proofs.Numbers.{zero_le}
-use Rattle.lucid_value.specs.Plain.{PlainValue, fault}
-use Rattle.lucid_tree.specs.Members.{In}
-use Rattle.lucid_tree.specs.Tree.{Head, first, next, fby, initial, succ, sby}
-use Rattle.lucid_tree.specs.Rows.{Plan, Reader, gives, gives_part, run, trace, add_value, with_values, single, last}
-use Rattle.lucid_tree.specs.Levels.{Elements, Given, nothing_held, Below, below, deeper, reference_of}
-use Rattle.lucid_tags.specs.Contexts.{Context, frozen_frame}
-use Rattle.lucid_equations.specs.Nodes.{PlainNode, PlainNodes, no_nodes, node, row, freeze, part_of, Equations}
-use Rattle.lucid_equations.specs.Datons.{Daton, NodePosition, NodeAim}
-use Rattle.lucid_equations.specs.Values.{node_hval, node_value, value_at, part_at}
-use Rattle.lucid_equations.specs.Visits.{NodeEvents, node_visits, node_walk, walk_at, walk_part, IsNeeded}
+use Rattle.lucid_value.specs.Plain.{fault}
+use Rattle.lucid_tree.specs.Tree.{first, next, fby, initial, succ, sby}
+use Rattle.lucid_tree.specs.Rows.{gives_part, add_value, single, last}
 use Rattle.lucid_equations.specs.Moving.{Onward, onward, OnlyMoves}
 
 -- a plan that gives a part gives the part's value, and sees what the part sees

@@ -1,12 +1,6 @@
 -- Names that differ from all before them.
-use Rattle.std.proofs.Common.{◌≡◌, ℕ, zero, suc, ◌<◌, Bool, true, false, not, cond, List, [], ◌∷◌, ◌++◌, length, take, get_or, Bor, Ordering, refl, sym, ap, subst, inl, inr, arith, ◌∙◌}
-use Rattle.std.specs.Bool.{Decides}
-use Rattle.std.specs.Cmp.Lexicographic.{slice_cmp, bytes_decides}
-use Rattle.std.specs.Ordering.{nat_cmp, is_eq}
-use Rattle.std.proofs.lemmas.Map.Text.{is_eq-slice_cmp}
-use Rattle.std.proofs.lemmas.Bool.{not-false}
-use Rattle.lucid_tree.specs.Members.{In, AllDiffer}
-use Rattle.lucid_tree.proofs.Members.{in_left, in_right, in_either, one_more-differs}
+use Rattle.lucid_equations.proofs.Common.{◌≡◌, ℕ, zero, suc, ◌<◌, Bool, true, false, List, [], ◌∷◌, ◌++◌, length, take, get_or, Bor, refl, sym, ap, subst, inl, inr, arith, ◌∙◌, Decides, In, AllDiffer, in_left, in_right, in_either, not, cond, Ordering, slice_cmp, bytes_decides, nat_cmp, is_eq, is_eq-slice_cmp, not-false}
+use Rattle.lucid_tree.proofs.Members.{one_more-differs}
 
 -- the order of borrowed names
 abbrev pub names_cmp : Bor (List ℕ) → Bor (List ℕ) → Ordering

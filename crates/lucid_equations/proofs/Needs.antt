@@ -1,15 +1,5 @@
 -- Values and needs of visited datons, and of references.
-use Rattle.std.proofs.Common.{◌≡◌, ℕ, zero, suc, List, [], ◌∷◌, ◌++◌, Some, None, refl, sym, ap, ◌∙◌, subst, inl, inr, arith, ◌⊎◌}
-use Rattle.std.specs.List.{filter_map}
-use Rattle.lucid_value.specs.Plain.{PlainValue}
-use Rattle.lucid_tree.specs.Members.{In, Inside}
-use Rattle.lucid_tree.specs.Levels.{element_of, goes_to, nowhere, Elements, Given, nothing_held, or_else, below, deeper, looked_up, referred, entered, reference_of}
-use Rattle.lucid_tree.proofs.Members.{in_read, in_right, inside-read}
-use Rattle.lucid_tags.specs.Contexts.{Context}
-use Rattle.lucid_equations.specs.Nodes.{PlainNode, row, freeze, reference, invoke, Reference, Equations}
-use Rattle.lucid_equations.specs.Datons.{Daton, NodePosition, NodeAim, reference_aim, call_aim, node_aim, daton_aim}
-use Rattle.lucid_equations.specs.Values.{node_hval, node_val, node_value, NodeMeans}
-use Rattle.lucid_equations.specs.Visits.{NodeEvents, context_of, node_walk, node_visits, IsNeeded}
+use Rattle.lucid_equations.proofs.Common.{◌≡◌, ℕ, zero, suc, List, [], ◌∷◌, ◌++◌, Some, None, refl, sym, ap, ◌∙◌, subst, inl, inr, arith, ◌⊎◌, filter_map, PlainValue, In, Inside, element_of, goes_to, nowhere, Elements, Given, nothing_held, or_else, below, deeper, looked_up, referred, entered, reference_of, in_read, in_right, inside-read, Context, PlainNode, row, freeze, reference, invoke, Reference, Equations, Daton, NodePosition, NodeAim, reference_aim, call_aim, node_aim, daton_aim, node_hval, node_val, node_value, NodeMeans, NodeEvents, context_of, node_walk, node_visits, IsNeeded}
 use Rattle.lucid_equations.specs.Needs.{HasValue}
 use Rattle.lucid_equations.proofs.NodeGrowth.{node_hval-up}
 use Rattle.lucid_equations.proofs.NodeWalks.{needed-visited}
@@ -69,9 +59,6 @@ module _ (p : Equations) (b : Elements) where
 -- what a reference has and visits
 no_aim : {a : NodeAim} (d : Daton) (x : NodePosition) (u : ℕ) → a ≡ nowhere → a ≡ goes_to d x u → ⊥
 no_aim d x u n h = let z : nowhere ≡ goes_to d x u = sym n ∙ h in absurd (cc)
-
-no_element : {a : NodeAim} (n : List ℕ) (j : ℕ) → a ≡ nowhere → a ≡ element_of n j → ⊥
-no_element n j w h = let z : ◌≡◌ {A = NodeAim} nowhere (element_of n j) = sym w ∙ h in absurd (cc)
 
 module _ (p : Equations) where
   -- the events of a reference are those of what it goes on with, behind the context that a call enters

@@ -1,10 +1,7 @@
 -- What a reference goes on with is what its daton goes on with.
-use Rattle.std.proofs.Common.{◌≡◌, ℕ, Option, Some, None, refl, sym, ap, ◌∙◌}
-use Rattle.lucid_tree.specs.Levels.{goes_to, nowhere, element_of}
-use Rattle.lucid_tags.specs.Contexts.{Context, call_frame, frozen_frame, cut}
-use Rattle.lucid_equations.specs.Nodes.{PlainNode, row, freeze, reference, invoke, PlainEntry, plain_entry, called_entry, current_entry, parameter_entry, Reference, input, refer, Equations}
-use Rattle.lucid_equations.specs.Datons.{Daton, NodePosition, NodeAim, to_node, to_actual, by_entry, name_aim, reference_aim, called_from, call_aim, node_aim}
-use Rattle.lucid_equations.specs.Laws.{GoesByItsDaton}
+use Rattle.lucid_equations.proofs.Common.{◌≡◌, ℕ, Option, Some, None, refl, sym, ap, ◌∙◌, goes_to, nowhere, element_of, Context, call_frame, frozen_frame, cut, PlainNode, row, freeze, reference, invoke, Reference, Equations, Daton, NodePosition, NodeAim, to_actual, by_entry, name_aim, reference_aim, called_from, call_aim, node_aim, GoesByItsDaton}
+use Rattle.lucid_equations.specs.Nodes.{PlainEntry, plain_entry, called_entry, current_entry, parameter_entry, input, refer}
+use Rattle.lucid_equations.specs.Datons.{to_node}
 
 -- the daton that an aim names, or else this one
 abbrev daton_in : Daton → NodeAim → Daton

@@ -1,15 +1,6 @@
 -- A defined approximation of a node is the same at each greater limit.
-use Rattle.std.proofs.Common.{◌≡◌, ℕ, zero, suc, ◌≤◌, max, Some, arith}
-use Rattle.lucid_value.specs.Plain.{PlainValue}
-use Rattle.lucid_tree.specs.Rows.{plan}
-use Rattle.lucid_tree.specs.Levels.{Elements, Given, nothing_held, Below}
-use Rattle.lucid_tree.proofs.Plans.{Keeps, run-keeps, within_itself, plan-grows}
+use Rattle.lucid_equations.proofs.Common.{◌≡◌, ℕ, zero, suc, ◌≤◌, max, Some, arith, PlainValue, plan, Elements, Given, nothing_held, Below, Keeps, run-keeps, within_itself, plan-grows, Context, frozen_frame, PlainNode, row, freeze, reference, invoke, PlainNodes, no_nodes, node, Equations, Daton, NodePosition, NodeAim, reference_aim, call_aim, value_at, part_at, node_value, node_hval, node_val, NodeMeans, GoesByItsDaton}
 use Rattle.lucid_tree.proofs.LevelGrowth.{Grows, approximation-up}
-use Rattle.lucid_tags.specs.Contexts.{Context, frozen_frame}
-use Rattle.lucid_equations.specs.Nodes.{PlainNode, row, freeze, reference, invoke, PlainNodes, no_nodes, node, Equations}
-use Rattle.lucid_equations.specs.Datons.{Daton, NodePosition, NodeAim, reference_aim, call_aim}
-use Rattle.lucid_equations.specs.Values.{value_at, part_at, node_value, node_hval, node_val, NodeMeans}
-use Rattle.lucid_equations.specs.Laws.{GoesByItsDaton}
 use Rattle.lucid_equations.proofs.NodeAims.{reference-by_daton, call-by_daton}
 
 module _ (p : Equations) where

@@ -1,17 +1,9 @@
 -- Held values that are meant give only values that nodes mean, and more of them take no value away.
-use Rattle.std.proofs.Common.{◌≡◌, ℕ, zero, suc, max, Option, Some, None, refl, ap, ◌∙◌, ◌⊎◌, inl, inr, arith}
-use Rattle.lucid_value.specs.Plain.{PlainValue}
-use Rattle.lucid_tree.specs.Rows.{plan}
-use Rattle.lucid_tree.specs.Levels.{element_of, goes_to, nowhere, Given, or_else, Below, below}
-use Rattle.lucid_tree.proofs.Plans.{Keeps, run-keeps}
+use Rattle.lucid_equations.proofs.Common.{◌≡◌, ℕ, zero, suc, max, Option, Some, None, refl, ap, ◌∙◌, ◌⊎◌, inl, inr, arith, PlainValue, plan, element_of, goes_to, nowhere, Given, or_else, Below, below, Keeps, run-keeps, Context, frozen_frame, PlainNode, row, freeze, reference, invoke, PlainNodes, no_nodes, node, Equations, Daton, NodePosition, NodeAim, reference_aim, call_aim, value_at, part_at, node_value, node_hval, NodeMeans, GoesByItsDaton, HeldIsMeant}
 use Rattle.lucid_tree.proofs.LevelGrowth.{or_else-held}
 use Rattle.lucid_tree.proofs.RunsMeant.{plan-up, reader-up, run-meant}
 use Rattle.lucid_tree.proofs.LevelMeant.{Gathers, approximation-meant}
-use Rattle.lucid_tags.specs.Contexts.{Context, frozen_frame}
-use Rattle.lucid_equations.specs.Nodes.{PlainNode, row, freeze, reference, invoke, PlainNodes, no_nodes, node, Equations}
-use Rattle.lucid_equations.specs.Datons.{Daton, NodePosition, NodeAim, reference_aim, call_aim}
-use Rattle.lucid_equations.specs.Values.{value_at, part_at, node_value, node_hval, NodeMeans}
-use Rattle.lucid_equations.specs.Laws.{GoesByItsDaton, HeldIsMeant, HoldsMore}
+use Rattle.lucid_equations.specs.Laws.{HoldsMore}
 use Rattle.lucid_equations.proofs.NodeAims.{reference-by_daton, call-by_daton}
 use Rattle.lucid_equations.proofs.NodeGrowth.{part_at-grows, node_value-grows, node-meant_once, node_value-keeps}
 

@@ -1,20 +1,7 @@
 -- What a node's approximation visits grows with the limit and with the added number; where it is defined it stays.
-use Rattle.std.proofs.Common.{◌≡◌, ℕ, zero, suc, ◌+◌, ◌≤◌, max, [], ◌∷◌, ◌++◌, Some, refl, sym, ap, ◌∙◌, subst, add-zero, inl, inr, arith}
-use Rattle.std.specs.List.{filter_map}
-use Rattle.lucid_value.specs.Plain.{PlainValue}
-use Rattle.lucid_tree.specs.Members.{In, Inside}
-use Rattle.lucid_tree.specs.Levels.{Elements, Given, nothing_held, below, entered, reference_of}
-use Rattle.lucid_tree.proofs.Plans.{plan-grows, nat_le-suc}
-use Rattle.lucid_tree.proofs.Members.{inside_itself, inside-after, inside-cons}
-use Rattle.lucid_tree.proofs.Traces.{TakesMore, trace-inside}
-use Rattle.lucid_tree.proofs.Settled.{takes_plan, trace-same}
-use Rattle.lucid_tree.proofs.LevelGrowth.{below-grows, last_or_less}
+use Rattle.lucid_equations.proofs.Common.{◌≡◌, ℕ, zero, suc, ◌+◌, ◌≤◌, max, [], ◌∷◌, ◌++◌, Some, refl, sym, ap, ◌∙◌, subst, add-zero, inl, inr, arith, filter_map, PlainValue, In, Inside, Elements, Given, nothing_held, below, entered, reference_of, plan-grows, inside_itself, inside-after, inside-cons, TakesMore, trace-inside, takes_plan, trace-same, below-grows, last_or_less, Context, frozen_frame, PlainNode, row, freeze, reference, invoke, PlainNodes, no_nodes, node, Equations, Daton, NodeAim, reference_aim, call_aim, value_at, part_at, node_value, node_val, NodeEvents, context_of, walk_at, walk_part, node_walk, node_visits, IsNeeded}
+use Rattle.lucid_tree.proofs.Plans.{nat_le-suc}
 use Rattle.lucid_tree.proofs.LevelWalks.{Widens, walk-wider, walk-up, Settles, walk-same}
-use Rattle.lucid_tags.specs.Contexts.{Context, frozen_frame}
-use Rattle.lucid_equations.specs.Nodes.{PlainNode, row, freeze, reference, invoke, PlainNodes, no_nodes, node, Equations}
-use Rattle.lucid_equations.specs.Datons.{Daton, NodeAim, reference_aim, call_aim}
-use Rattle.lucid_equations.specs.Values.{value_at, part_at, node_value, node_val}
-use Rattle.lucid_equations.specs.Visits.{NodeEvents, context_of, walk_at, walk_part, node_walk, node_visits, IsNeeded}
 use Rattle.lucid_equations.proofs.NodeGrowth.{part_at-grows, node_value-grows, node_hval-up}
 
 module _ (p : Equations) where

@@ -1,24 +1,10 @@
 -- Aims by numbers: their plain aims are those of the nodes, and their numbers are those of nodes.
-use Rattle.std.proofs.Common.{◌≡◌, ℕ, ◌+◌, ◌<◌, ◌≤◌, length, List, [], ◌∷◌, ◌++◌, Option, Some, None, slice_get, refl, sym, ap, ◌∙◌, subst, inl, inr, arith, length-append}
-use Rattle.std.specs.Option.{option_map}
-use Rattle.std.proofs.lemmas.List.{get_or_past}
-use Rattle.std.proofs.lemmas.Option.{slice_get_cases, none-some, same_Some}
-use Rattle.lucid_value.specs.Plain.{PlainValue}
-use Rattle.lucid_tree.specs.Levels.{goes_to, nowhere, element_of}
-use Rattle.lucid_tags.specs.Contexts.{Context, call_frame, frozen_frame, cut}
-use Rattle.lucid_equations.specs.Nodes.{PlainNode}
-use Rattle.lucid_equations.specs.Datons.{to_actual, by_entry, name_aim, called_from, node_aim}
-use Rattle.lucid_equations.specs.Rows.{no_node, as_node, grow, constants_of, node_at, node_by, entry_by, row_at, name_at, actual_at, actuals_of, equations_of}
-use Rattle.lucid_equations.specs.Ranges.{EachBelow, sizes, EntryIsInRange, IsInRange}
+use Rattle.lucid_equations.proofs.Common.{◌≡◌, ℕ, ◌+◌, ◌<◌, ◌≤◌, length, List, [], ◌∷◌, ◌++◌, Option, Some, None, slice_get, refl, sym, ap, ◌∙◌, subst, inl, inr, arith, length-append, option_map, slice_get_cases, none-some, PlainValue, goes_to, nowhere, element_of, Context, call_frame, frozen_frame, cut, PlainNode, to_actual, by_entry, name_aim, called_from, node_aim, no_node, as_node, grow, constants_of, node_at, node_by, row_at, actuals_of, equations_of, EachBelow, sizes, EntryIsInRange, IsInRange, Node, NodeRow, NameRow, PlaceRow, Table, get_or_past, same_Some}
+use Rattle.lucid_equations.specs.Rows.{entry_by, name_at, actual_at}
 use Rattle.lucid_equations.specs.NumberAims.{NumberAim, to_actual_number, by_name_row, name_number_aim, row_aim, plain_aim, NodesGoByNumbers, DatonsGoByNumbers, AimsLeadToNodes}
-use Rattle.lucid_equations.specs.declared.rows.Node.{Node}
 use Rattle.lucid_equations.specs.declared.rows.Node.TheVariants.{Refer, Call}
-use Rattle.lucid_equations.specs.declared.rows.NodeRow.{NodeRow}
-use Rattle.lucid_equations.specs.declared.rows.NameRow.{NameRow}
-use Rattle.lucid_equations.specs.declared.rows.PlaceRow.{PlaceRow}
 use Rattle.lucid_equations.specs.declared.rows.Entry.{Entry}
 use Rattle.lucid_equations.specs.declared.rows.Entry.TheVariants.{Plain, Parameter, Current, Called}
-use Rattle.lucid_equations.specs.declared.table.Table.{Table}
 use Rattle.lucid_equations.proofs.Rising.{name-in_range, place-in_range}
 use Rattle.lucid_equations.proofs.PartsRead.{row-node, each-lower}
 

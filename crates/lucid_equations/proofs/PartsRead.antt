@@ -1,22 +1,6 @@
 -- In a table in range the parts of a form are the nodes of their numbers.
-use Rattle.std.proofs.Common.{◌≡◌, ℕ, zero, suc, ◌<◌, length, List, [], ◌∷◌, Some, get_or, slice_get, sym, ap, ◌∙◌, subst, inl, inr}
-use Rattle.std.specs.Option.{option_map}
-use Rattle.std.proofs.lemmas.Option.{slice_get_cases, none-some}
-use Rattle.lucid_value.specs.Plain.{PlainValue}
-use Rattle.lucid_tree.specs.Tree.{Head}
-use Rattle.lucid_tree.specs.Levels.{Elements, Given, nothing_held, below, deeper}
-use Rattle.lucid_tags.specs.Contexts.{Context}
-use Rattle.lucid_equations.specs.Nodes.{PlainNode, row, PlainNodes, part_of}
-use Rattle.lucid_equations.specs.Datons.{Daton}
-use Rattle.lucid_equations.specs.Values.{node_value, node_hval}
-use Rattle.lucid_equations.specs.Visits.{node_walk, node_visits}
-use Rattle.lucid_equations.specs.Rows.{at, all_at, parts, as_node, constants_of, nodes_of, node_at, node_by, row_at, equations_of}
-use Rattle.lucid_equations.specs.Ranges.{EachBelow, NodeIsInRange, IsInRange, sizes}
-use Rattle.lucid_equations.specs.declared.rows.Node.{Node}
-use Rattle.lucid_equations.specs.declared.rows.Node.TheVariants.{Const}
-use Rattle.lucid_equations.specs.declared.rows.NodeRow.{NodeRow}
-use Rattle.lucid_equations.specs.declared.table.Table.{Table}
-use Rattle.lucid_equations.specs.Parts.{reads_parts, visits_parts}
+use Rattle.lucid_equations.proofs.Common.{◌≡◌, ℕ, zero, suc, ◌<◌, length, List, [], ◌∷◌, Some, get_or, slice_get, sym, ap, ◌∙◌, subst, inl, inr, option_map, slice_get_cases, none-some, PlainValue, Head, Elements, Given, nothing_held, below, deeper, Context, PlainNode, row, PlainNodes, part_of, Daton, node_value, node_hval, node_walk, node_visits, at, all_at, parts, as_node, constants_of, node_at, node_by, row_at, equations_of, EachBelow, NodeIsInRange, IsInRange, sizes, Node, Const, NodeRow, Table, reads_parts, visits_parts}
+use Rattle.lucid_equations.specs.Rows.{nodes_of}
 use Rattle.lucid_equations.specs.RowParts.{HasPart}
 use Rattle.lucid_equations.proofs.Rising.{read-row, node-in_range}
 use Rattle.lucid_equations.proofs.Moving.{part-read, part-walked}

@@ -1,16 +1,6 @@
 -- Where a node has a value, each daton that it goes to has one at a lower limit, and all that this visits the node visits.
-use Rattle.std.proofs.Common.{◌≡◌, ℕ, zero, suc, ◌+◌, ◌≤◌, ◌<◌, List, Some, refl, sym, ◌∙◌, subst, add-zero, inl, inr, arith}
-use Rattle.lucid_value.specs.Plain.{PlainValue}
-use Rattle.lucid_tree.specs.Members.{In, Inside}
-use Rattle.lucid_tree.specs.Rows.{plan}
-use Rattle.lucid_tree.specs.Levels.{element_of, goes_to, nowhere, Elements, nothing_held, below, deeper, Event, looked_up, referred, entered}
-use Rattle.lucid_tree.proofs.Members.{in_right, in_either}
-use Rattle.lucid_tags.specs.Contexts.{Context, frozen_frame}
-use Rattle.lucid_equations.specs.Nodes.{PlainNode, row, freeze, reference, invoke, PlainNodes, no_nodes, node, Equations}
-use Rattle.lucid_equations.specs.Datons.{Daton, NodePosition, NodeAim, reference_aim, call_aim, daton_aim}
-use Rattle.lucid_equations.specs.Values.{value_at, part_at, node_value, node_val}
-use Rattle.lucid_equations.specs.Visits.{NodeEvents, context_of, walk_at, walk_part, node_walk, node_visits}
-use Rattle.lucid_equations.specs.Laws.{GoesByItsDaton}
+use Rattle.lucid_equations.proofs.Common.{◌≡◌, ℕ, zero, suc, ◌+◌, ◌≤◌, ◌<◌, List, Some, refl, sym, ◌∙◌, subst, add-zero, inl, inr, arith, PlainValue, In, Inside, plan, element_of, goes_to, nowhere, Elements, nothing_held, below, deeper, looked_up, referred, entered, in_right, in_either, Context, frozen_frame, PlainNode, row, freeze, reference, invoke, PlainNodes, no_nodes, node, Equations, Daton, NodePosition, NodeAim, reference_aim, call_aim, daton_aim, value_at, part_at, node_value, node_val, NodeEvents, context_of, walk_at, walk_part, node_walk, node_visits, GoesByItsDaton}
+use Rattle.lucid_tree.specs.Levels.{Event}
 use Rattle.lucid_equations.proofs.NodeAims.{reference-by_daton, call-by_daton}
 use Rattle.lucid_equations.proofs.Looked.{looked-inside, look-found, looked-defined}
 

@@ -1,16 +1,6 @@
 -- A row's node is what the row says by all nodes of the table, where its parts are lower.
-use Rattle.std.proofs.Common.{◌≡◌, ℕ, zero, suc, ◌+◌, ◌<◌, length, List, [], ◌∷◌, ◌++◌, get_or, slice_get, Some, refl, sym, ap, ◌∙◌, arith, length-append, append_assoc, subst}
-use Rattle.std.proofs.lemmas.List.{append-nil, get_or_append_left}
-use Rattle.std.proofs.Math.Seq.{get_or-append_seam}
-use Rattle.lucid_value.specs.Plain.{PlainValue}
-use Rattle.lucid_equations.specs.Nodes.{PlainNode, node}
-use Rattle.lucid_equations.specs.declared.rows.Node.{Node}
-use Rattle.lucid_equations.specs.declared.rows.Node.TheVariants.{Const}
-use Rattle.lucid_equations.specs.declared.rows.NodeRow.{NodeRow}
-use Rattle.lucid_equations.specs.declared.rows.NameRow.{NameRow}
-use Rattle.lucid_equations.specs.declared.rows.PlaceRow.{PlaceRow}
-use Rattle.lucid_equations.specs.Rows.{no_node, at, all_at, parts, as_node, grow, actuals_of}
-use Rattle.lucid_equations.specs.Ranges.{EachBelow, Sizes, NodeIsInRange, NodesAreInRange, EntryIsInRange, NamesAreInRange, PlacesAreInRange}
+use Rattle.lucid_equations.proofs.Common.{◌≡◌, ℕ, zero, suc, ◌+◌, ◌<◌, length, List, [], ◌∷◌, ◌++◌, get_or, slice_get, Some, refl, sym, ap, ◌∙◌, arith, length-append, subst, append-nil, PlainValue, PlainNode, node, Node, Const, NodeRow, NameRow, PlaceRow, no_node, at, all_at, parts, as_node, grow, actuals_of, EachBelow, NodeIsInRange, NodesAreInRange, EntryIsInRange, NamesAreInRange, PlacesAreInRange, append_assoc, get_or_append_left, get_or-append_seam}
+use Rattle.lucid_equations.specs.Ranges.{Sizes}
 
 -- the second list begins with the first
 abbrev pub Begins : List PlainNode → List PlainNode → Type 0

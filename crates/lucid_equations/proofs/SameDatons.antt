@@ -1,9 +1,8 @@
 -- The test of the same daton decides equality.
-use Rattle.std.proofs.Common.{◌≡◌, ◌==◌, ◌&&◌, ap}
-use Rattle.std.proofs.lemmas.Bool.Decides.{Decides-eqb, Decides-and, Decides-like}
+use Rattle.lucid_equations.proofs.Common.{◌≡◌, ap, Daton, ◌==◌, ◌&&◌, Decides-eqb, Decides-and, Decides-like}
 use Rattle.lucid_tags.specs.Contexts.{same_context}
 use Rattle.lucid_tags.specs.EqualityDecides.{same_context_is_equality}
-use Rattle.lucid_equations.specs.Datons.{Daton, same_daton}
+use Rattle.lucid_equations.specs.Datons.{same_daton}
 use Rattle.lucid_equations.specs.Laws.{SameDatonIsEquality}
 
 alike : (d k : Daton) → (d.name ≡ k.name) × ((d.context ≡ k.context) × (d.time ≡ k.time)) → d ≡ k

@@ -1,16 +1,5 @@
 -- What is visited with a less limit and a less added number is visited with greater ones; with a meaning it is needed.
-use Rattle.std.proofs.Common.{◌≡◌, ℕ, zero, suc, ◌+◌, ◌≤◌, max, subst, inl, inr, arith}
-use Rattle.std.specs.List.{filter_map}
-use Rattle.lucid_value.specs.Plain.{PlainValue}
-use Rattle.lucid_tree.specs.Members.{In, Inside}
-use Rattle.lucid_tree.specs.Levels.{Elements, nothing_held, reference_of}
-use Rattle.lucid_tree.proofs.LevelGrowth.{last_or_less}
-use Rattle.lucid_tree.proofs.Members.{inside-read}
-use Rattle.lucid_tags.specs.Contexts.{Context}
-use Rattle.lucid_equations.specs.Nodes.{PlainNode, Equations}
-use Rattle.lucid_equations.specs.Datons.{Daton}
-use Rattle.lucid_equations.specs.Values.{NodeMeans}
-use Rattle.lucid_equations.specs.Visits.{node_visits, IsNeeded}
+use Rattle.lucid_equations.proofs.Common.{◌≡◌, ℕ, zero, suc, ◌+◌, ◌≤◌, max, subst, inl, inr, arith, filter_map, PlainValue, In, Inside, Elements, nothing_held, reference_of, last_or_less, inside-read, Context, PlainNode, Equations, Daton, NodeMeans, node_visits, IsNeeded}
 use Rattle.lucid_equations.proofs.NodeGrowth.{node_hval-up}
 use Rattle.lucid_equations.proofs.NodeWalks.{node_visits-up, node_visits-wider}
 use Rattle.lucid_equations.proofs.AddedNumbers.{added_is_limit}

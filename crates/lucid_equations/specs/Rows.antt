@@ -1,6 +1,6 @@
 -- What a table's rows are: nodes as trees of nodes, in order, each by those before it; and the equations of a table.
 use Rattle.std.specs.Prelude.{ℕ, List, [], ◌∷◌, ◌++◌, take, Option, Some, None, get_or, slice_get}
-use Rattle.std.specs.Option.{option_map}
+use Rattle.std.specs.Option.{option_map, option_and_then}
 use Rattle.lucid_value.specs.Plain.{PlainValue, fault}
 use Rattle.lucid_ops.specs.Arity.{arity}
 use Rattle.lucid_tree.specs.Tree.{const, apply, choose, both, either, first, next, fby, whenever, asa, upon, attime, initial, succ, sby, atspace}
@@ -105,6 +105,10 @@ entry_by t (Called a) = called_entry (node_at t a)
 -- the rows of a number
 abbrev pub row_at : Table → ℕ → Option Node
 row_at t id = option_map (λ r. r.node) (slice_get t.nodes id)
+
+-- the number of a row's part
+abbrev pub part_number : Table → (id index : ℕ) → Option ℕ
+part_number t id i = option_and_then (λ n. slice_get (parts n) i) (row_at t id)
 
 abbrev pub name_at : Table → ℕ → Option Entry
 name_at t n = option_map (λ r. r.kind) (slice_get t.names n)

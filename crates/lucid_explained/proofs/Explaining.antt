@@ -1,10 +1,9 @@
 -- A call with a report in memory, and a report with its line.
-use Rattle.std.proofs.Common.{◌≡◌, ℕ, List, [], subst}
+use Rattle.lucid_explained.proofs.Common.{◌≡◌, ℕ, List, [], subst, Text}
 use Rattle.lucid_session.specs.Runs.{Told}
 use Rattle.lucid_top.specs.declared.status.Status.{Status}
 use Rattle.lucid_top.specs.Call.{Call}
 use Rattle.lucid_top.specs.Clauses.{MeetsClauses}
-use Rattle.clap.specs.Words.{Text}
 use Rattle.lucid_explained.specs.Files.{Files}
 use Rattle.lucid_explained.specs.Explained.{in_memory, Reports}
 

@@ -1,11 +1,7 @@
 -- What a source tells under other names of the same, and the first word that doesn't go with those before it.
-use Rattle.std.proofs.Common.{◌≡◌, ℕ, ◌+◌, ◌<◌, false, List, [], ◌∷◌, ◌++◌, length, map, take, drop, get_or, append_assoc, ap, sym, subst, ◌∙◌}
-use Rattle.std.specs.String.{string_bytes}
-use Rattle.std.proofs.Common.{String, Global}
-use Rattle.std.proofs.lemmas.List.{map-append, take-append-drop, take_more}
-use Rattle.clap.specs.Words.{Text}
+use Rattle.lucid_explained.proofs.Common.{◌≡◌, ℕ, ◌+◌, ◌<◌, false, List, [], ◌∷◌, ◌++◌, length, map, take, get_or, append_assoc, ap, sym, subst, ◌∙◌, string_bytes, Text, goes_on, wrong_text, Tells, SaysWords, drop, String, Global, map-append, take-append-drop, take_more}
 use Rattle.lucid_words.specs.Asked.{PlainWords}
-use Rattle.lucid_explained.specs.Said.{goes_on, wrong_text, Tells, SaysWords, wrong}
+use Rattle.lucid_explained.specs.Said.{wrong}
 
 pub same_source : (asked : PlainWords) (n m s r line text : List ℕ) → n ≡ m → s ≡ r → Tells asked n s line text → Tells asked m r line text
 same_source asked n m s r line text e f t =

@@ -1,15 +1,6 @@
 -- Files that are told, one behind another.
-use Rattle.std.proofs.Common.{◌≡◌, ℕ, zero, suc, ◌<◌, List, [], ◌∷◌, ◌++◌, length, map, get_or, append_assoc, ap, sym, subst, ◌∙◌, refl, arith}
-use Rattle.std.specs.Prelude.{Contains, Result, Ok, Err, OnOk, is_ok, if◌then◌else◌}
-use Rattle.std.specs.String.{string_bytes}
-use Rattle.std.specs.List.{flat_map}
-use Rattle.std.proofs.lemmas.List.{append-nil, get_or-map, length-map}
-use Rattle.std.proofs.lemmas.List.Elements.{All-append, All-nil, All-push}
-use Rattle.std.proofs.lemmas.Grind.{flat_map-append}
-use Rattle.clap.specs.Words.{Text}
-use Rattle.lucid_words.specs.declared.Given.{Given}
-use Rattle.lucid_words.specs.Plain.{plain_given}
-use Rattle.lucid_explained.specs.Said.{fault_text, given_file, TellsFiles}
+use Rattle.lucid_explained.proofs.Common.{◌≡◌, ℕ, ◌<◌, List, [], ◌∷◌, ◌++◌, length, map, get_or, append_assoc, ap, sym, subst, ◌∙◌, Contains, Result, string_bytes, Text, Given, plain_given, given_file, TellsFiles, zero, suc, refl, arith, Ok, Err, OnOk, is_ok, if◌then◌else◌, flat_map, append-nil, get_or-map, length-map, All-append, All-nil, All-push, flat_map-append}
+use Rattle.lucid_explained.specs.Said.{fault_text}
 
 pub told_none : (files : List Text) (a : List ℕ) → TellsFiles files a a
 told_none files a = record { names = []; among = All-nil (λ name. Contains files name); told = sym (append-nil a) }

@@ -1,9 +1,5 @@
 -- What the parser's answer for bytes says of the programs that begin with them.
-use Rattle.std.proofs.Common.{◌≡◌, ℕ, zero, suc, ◌≤◌, ◌<◌, inl, inr, List, [], ◌∷◌, length, map, take, get_or, Result, Ok, Err, sym, subst, arith}
-use Rattle.std.proofs.lemmas.Bool.{cases_lt}
-use Rattle.std.proofs.lemmas.List.{append-nil, get_or_past, length-map, take_all}
-use Rattle.std.specs.Prelude.{Option, MatchOption, IfOk, IfErr}
-use Rattle.std.specs.Result.{result_err}
+use Rattle.lucid_explanations.proofs.Common.{◌≡◌, ℕ, zero, suc, ◌≤◌, ◌<◌, inl, inr, List, ◌∷◌, length, map, take, get_or, sym, subst, arith, cases_lt, [], Result, Ok, Err, append-nil, get_or_past, length-map, take_all, Option, MatchOption, IfOk, IfErr, result_err}
 use Rattle.lucid_scan.specs.declared.token.Token.{Token}
 use Rattle.lucid_parse.specs.declared.refusal.ParseRefusal.{ParseRefusal}
 use Rattle.lucid_scan.specs.Tokens.{Tokens}

@@ -1,8 +1,5 @@
 -- From a place on to a later one in the same line the bytes since the last line end grow by one for each byte.
-use Rattle.std.proofs.Common.{◌≡◌, ℕ, zero, suc, ◌+◌, ◌-◌, ◌≤◌, ◌<◌, List, Bool, true, false, length, take, get_or, refl, subst, arith}
-use Rattle.std.specs.List.{suffix_len}
-use Rattle.std.proofs.lemmas.List.Sums.{count_by_more_no, count_by_more_yes, suffix_len-take_yes}
-use Rattle.std.proofs.lemmas.Grind.{common_steps}
+use Rattle.lucid_explanations.proofs.Common.{◌≡◌, ℕ, zero, suc, ◌+◌, ◌≤◌, ◌<◌, List, Bool, true, false, length, take, get_or, refl, subst, arith, ◌-◌, suffix_len, count_by_more_no, count_by_more_yes, suffix_len-take_yes, common_steps}
 use Rattle.lucid_explanations.specs.Positions.{ends_line, stands_in_line, line_of, column_of}
 
 -- what one byte more does to the line and the column

@@ -1,10 +1,5 @@
 -- Lent definitions, one more of them.
-use Rattle.std.proofs.Common.{◌≡◌, ℕ, ◌+◌, ◌<◌, List, ◌∷◌, Bool, length, drop, get_or}
-use Rattle.std.proofs.lemmas.List.{at_drop_more}
-use Rattle.std.specs.Borrow.{Bor}
-use Rattle.lucid_tree.specs.declared.tree.Def.{Def}
-use Rattle.lucid_explanations.specs.Scopes.{lent}
-use Rattle.lucid_explanations.specs.Names.{defines_at, told_text}
+use Rattle.lucid_explanations.proofs.Common.{◌≡◌, ℕ, ◌+◌, ◌<◌, List, ◌∷◌, Bool, length, drop, get_or, Bor, Def, lent, defines_at, told_text, at_drop_more}
 
 pub defines_more : (at : ℕ) (defs : List (Bor Def)) (i : ℕ) (d : Bor Def) → i < length defs
     → defines_at at (lent (drop i defs)) ≡ defines_at at ((get_or defs i d).now ∷ lent (drop (i + 1) defs))

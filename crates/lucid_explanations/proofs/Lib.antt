@@ -1,3 +1,4 @@
+pub mod Common
 pub mod Grows
 pub mod Begun
 pub mod Stuck

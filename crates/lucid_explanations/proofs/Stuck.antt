@@ -1,7 +1,5 @@
 -- Where a source is refused by the scanner, the place lies within it.
-use Rattle.std.proofs.Common.{◌≡◌, ℕ, ◌+◌, ◌≤◌, ◌<◌, List, Bool, true, false, length, refl, ap, ◌∙◌, arith, length-drop}
-use Rattle.std.specs.Prelude.{if◌then◌else◌}
-use Rattle.std.specs.Char.{is_ascii_digit}
+use Rattle.lucid_explanations.proofs.Common.{◌≡◌, ℕ, ◌+◌, ◌≤◌, ◌<◌, List, Bool, true, false, length, refl, ap, ◌∙◌, arith, length-drop, if◌then◌else◌, is_ascii_digit}
 use Rattle.lucid_scan.specs.Texts.{first_passes}
 use Rattle.lucid_scan.specs.declared.refusal.ScanRefusal.{ScanRefusal}
 use Rattle.lucid_scan.specs.declared.refusal.ScanRefusal.TheVariants as refusal

@@ -1,33 +1,11 @@
 -- Each change of the rows that have tags keeps what is true of a demand's loop, and leaves less that can be paid for.
-use Rattle.std.proofs.Common.{◌≡◌, ℕ, ◌+◌, ◌<◌, ◌≤◌, List, [], Option, Some, None, Bool, true, false, refl, sym, ap, ◌∙◌, subst, arith}
-use Rattle.std.specs.Prelude.{IsTrue, IsSome, IfSome, length, option_map}
-use Rattle.std.specs.List.{list_all}
-use Rattle.std.proofs.lemmas.List.{length-map}
-use Rattle.lucid_value.specs.Plain.{PlainValue}
-use Rattle.lucid_value.specs.declared.Value.{Value}
-use Rattle.lucid_value.specs.View.{plain}
-use Rattle.lucid_tree.specs.Levels.{Elements}
-use Rattle.lucid_tags.specs.Contexts.{Context}
-use Rattle.lucid_tags.specs.Known.{IsKnown, KeepsKnown}
-use Rattle.lucid_tags.specs.declared.Key.{Key}
-use Rattle.lucid_ports.specs.World.{World}
-use Rattle.lucid_tasks.specs.declared.Part.{Part}
-use Rattle.lucid_tasks.specs.declared.Task.{Task}
-use Rattle.lucid_tasks.specs.declared.Cursor.{Cursor}
+use Rattle.lucid_facts.proofs.Common.{◌≡◌, ℕ, ◌+◌, ◌<◌, ◌≤◌, List, [], Option, Some, None, refl, sym, ap, ◌∙◌, subst, arith, IsTrue, IsSome, IfSome, list_all, length-map, PlainValue, Value, plain, Elements, Context, IsKnown, KeepsKnown, Key, World, Part, Task, Cursor, TaskRow, Extends, PlainTask, PlainRow, DatonAt, idle, got, is_free, state_at, all_idle, key_list, waits_for_none, plain_task, plain_key, plain_state, plain_row, plain_rows, AreRowsKnown, moved, StandsFor, EngineView, known_elements, holding, Demand, table_of, Answers, RowFacts, PartAnswers, IsWanted, Remembers, Serves, Work, with_part, at_cursor, SetsRow, ChangesRow, AsksRow, SettlesRow, AsksFor, MayMove, looked_on, total, Owns}
+use Rattle.std.proofs.Common.{Bool, true, false}
+use Rattle.std.specs.Prelude.{length, option_map}
 use Rattle.lucid_tasks.specs.Rows as rows
-use Rattle.lucid_tasks.specs.Rows.{TaskRow, row_at}
-use Rattle.lucid_equations.specs.MoreElements.{Extends}
+use Rattle.lucid_tasks.specs.Rows.{row_at}
 use Rattle.lucid_tasks.proofs.RowLemmas.{row_below}
-use Rattle.lucid_facts.specs.Tasks.{PlainTask, PlainRow, DatonAt, idle, got, is_free, state_at, all_idle, key_list, waits_for_none, plain_task, plain_key, plain_state, plain_row, plain_rows, AreRowsKnown}
-use Rattle.lucid_facts.specs.Parts.{moved}
-use Rattle.lucid_facts.specs.Stands.{StandsFor}
-use Rattle.lucid_facts.specs.Engine.{EngineView, known_elements, holding}
-use Rattle.lucid_facts.specs.Demands.{Demand, table_of, Answers}
-use Rattle.lucid_facts.specs.Rows.{RowFacts, PartAnswers, IsWanted, Remembers, Serves, Work}
-use Rattle.lucid_facts.specs.Changes.{with_part, at_cursor, SetsRow, ChangesRow, AsksRow, SettlesRow}
-use Rattle.lucid_facts.specs.Decisions.{AsksFor, MayMove, looked_on}
-use Rattle.lucid_facts.specs.Measure.{total}
-use Rattle.lucid_facts.specs.Going.{Owns, Waits}
+use Rattle.lucid_facts.specs.Going.{Waits}
 use Rattle.lucid_facts.proofs.Slots.{at_it}
 use Rattle.lucid_facts.proofs.Steps.{changes_is_set}
 use Rattle.lucid_facts.proofs.Idling.{search-is_idle}

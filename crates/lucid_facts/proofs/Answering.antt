@@ -1,26 +1,10 @@
 -- What answers a task without looking at parts: what is held of its daton, an element, a constant. And where it has no value at all.
-use Rattle.std.proofs.Common.{◌≡◌, ℕ, zero, suc, ◌<◌, ◌++◌, inl, inr, List, Some, None, refl, sym, ap, ◌∙◌, subst, arith}
-use Rattle.std.specs.Prelude.{IsTrue, IsSome}
-use Rattle.std.specs.List.{filter_map}
-use Rattle.lucid_value.specs.Plain.{PlainValue}
-use Rattle.lucid_tree.specs.Tree.{const}
-use Rattle.lucid_tree.specs.Members.{In}
-use Rattle.lucid_tree.specs.Levels.{Elements, Given, nothing_held, deeper, goes_to, element_of, nowhere, reference_of}
-use Rattle.lucid_tags.specs.Contexts.{Context}
-use Rattle.lucid_equations.specs.Nodes.{PlainNode, row, freeze, reference, invoke, no_nodes, refer, Equations}
-use Rattle.lucid_equations.specs.Datons.{Daton, NodePosition, NodeAim, node_aim, daton_aim}
-use Rattle.lucid_equations.specs.Values.{node_hval, node_val, NodeMeans}
-use Rattle.lucid_equations.specs.Visits.{NodeEvents, node_walk, node_visits, context_of, IsNeeded}
-use Rattle.lucid_equations.specs.Rows.{equations_of}
-use Rattle.lucid_equations.proofs.NodeAims.{node-by_daton}
+use Rattle.lucid_facts.proofs.Common.{◌≡◌, ℕ, zero, suc, ◌<◌, ◌++◌, inl, inr, List, Some, None, refl, sym, ap, ◌∙◌, subst, arith, IsTrue, IsSome, filter_map, PlainValue, const, In, Elements, Given, nothing_held, goes_to, reference_of, Context, PlainNode, row, freeze, reference, invoke, no_nodes, Equations, Daton, NodePosition, NodeAim, node_aim, daton_aim, node_hval, node_val, NodeMeans, node_visits, IsNeeded, equations_of, node-by_daton, PlainTask, DatonAt, node_of, IsReference, RefersTo, Holding, given, hval_of, val_of, IsDefined, DatonMeans, HoldsRight, IsClosed, Demand, table_of, stays, Answers, IsWanted, MayRead}
+use Rattle.lucid_tree.specs.Levels.{deeper, element_of, nowhere}
+use Rattle.lucid_equations.specs.Nodes.{refer}
+use Rattle.lucid_equations.specs.Visits.{NodeEvents, node_walk, context_of}
 use Rattle.lucid_equations.proofs.Needs as law
-use Rattle.lucid_facts.specs.Tasks.{PlainTask, DatonAt}
-use Rattle.lucid_facts.specs.Parts.{node_of, IsReference, RefersTo}
-use Rattle.lucid_facts.specs.Stands.{Holding, given, hval_of, val_of, IsDefined}
-use Rattle.lucid_facts.specs.Held.{DatonMeans, HoldsRight, IsClosed}
-use Rattle.lucid_facts.specs.Demands.{Demand, table_of, stays, Answers}
-use Rattle.lucid_facts.specs.Rows.{IsWanted}
-use Rattle.lucid_facts.specs.Decisions.{LooksTooDeep, leads_nowhere, too_deep_for, element_too_deep, MayRead, IsConstant}
+use Rattle.lucid_facts.specs.Decisions.{LooksTooDeep, leads_nowhere, too_deep_for, element_too_deep, IsConstant}
 
 -- the position, and the time, with which an aim goes on
 abbrev pub position_of : NodePosition → NodeAim → NodePosition

@@ -1,32 +1,10 @@
 -- What a row asks for may be asked, and a row that stands at nothing is refused rightly.
-use Rattle.std.proofs.Common.{◌≡◌, ℕ, ◌+◌, ◌<◌, ◌≤◌, max, Some, refl, sym, ap, ◌∙◌, subst, arith}
-use Rattle.std.specs.Prelude.{Bool, true, false, IsTrue}
-use Rattle.lucid_value.specs.Plain.{PlainValue}
-use Rattle.lucid_tree.specs.Tree.{Head}
-use Rattle.lucid_tree.specs.Members.{In, Inside}
-use Rattle.lucid_tree.specs.Rows.{Look, Plan, nothing, looks, plan, run}
-use Rattle.lucid_tree.specs.Rests.{Reads, ReadsAtSome, LeadsTo}
+use Rattle.lucid_facts.proofs.Common.{◌≡◌, ℕ, ◌+◌, ◌<◌, ◌≤◌, max, Some, refl, sym, ap, ◌∙◌, subst, arith, IsTrue, PlainValue, Head, In, Inside, Look, Plan, nothing, plan, Reads, ReadsAtSome, LeadsTo, Elements, nothing_held, goes_to, leads-maps, reader-up, row, PlainNodes, NodePosition, NodeAim, node_hval, node_visits, equations_of, reads_parts, visits_parts, parts-keep, PlainTask, PlainRow, node_of, rank, IsPart, Holding, given, hval_of, visits_of, task_visits, IsDefined, HoldsRight, ForSomeAdded, Demand, table_of, stays, IsSeen, LookAnswers, RowFacts, IsWanted, ComesTo, MayAsk, IsDemand}
+use Rattle.std.specs.Prelude.{Bool, true, false}
+use Rattle.lucid_tree.specs.Rows.{looks, run}
 use Rattle.lucid_tree.specs.PlanLaws.{NeverDiffers}
-use Rattle.lucid_tree.specs.Levels.{Elements, nothing_held, goes_to}
-use Rattle.lucid_tree.proofs.Ways.{leads-maps}
-use Rattle.lucid_tree.proofs.RunsMeant.{reader-up}
 use Rattle.lucid_tree.proofs.RestsDefined.{nothing_left, next_defined}
-use Rattle.lucid_equations.specs.Nodes.{row, PlainNodes}
-use Rattle.lucid_equations.specs.Datons.{NodePosition, NodeAim}
-use Rattle.lucid_equations.specs.Values.{node_hval}
-use Rattle.lucid_equations.specs.Visits.{node_visits}
-use Rattle.lucid_equations.specs.Rows.{equations_of}
-use Rattle.lucid_equations.specs.Parts.{reads_parts, visits_parts}
-use Rattle.lucid_equations.proofs.ByStep.{parts-keep, parts-agree, next-visited, next-visited_on}
-use Rattle.lucid_facts.specs.Tasks.{PlainTask, PlainRow}
-use Rattle.lucid_facts.specs.Parts.{node_of, rank, IsPart}
-use Rattle.lucid_facts.specs.Stands.{Holding, given, hval_of, visits_of, task_visits, IsDefined}
-use Rattle.lucid_facts.specs.Held.{HoldsRight}
-use Rattle.lucid_facts.specs.Engine.{ForSomeAdded}
-use Rattle.lucid_facts.specs.Demands.{Demand, table_of, stays, IsSeen, LookAnswers}
-use Rattle.lucid_facts.specs.Rows.{RowFacts, IsWanted}
-use Rattle.lucid_facts.specs.Decisions.{ComesTo, MayAsk}
-use Rattle.lucid_facts.specs.Going.{IsDemand}
+use Rattle.lucid_equations.proofs.ByStep.{parts-agree, next-visited, next-visited_on}
 use Rattle.lucid_facts.proofs.Looking.{LooksAt, looks_at, look_value, look_visits, look_keeps_limit, look_is_there, look_ranks_lower}
 use Rattle.lucid_facts.proofs.Leading.{row_came, part_is_of_its_look}
 use Rattle.lucid_facts.proofs.Giving.{answer_means, answer_is_exact}

@@ -1,18 +1,10 @@
 -- What a call makes of the rows that have tags, it makes of the plain rows.
-use Rattle.std.proofs.Common.{◌≡◌, ℕ, ◌==◌, List, Option, Some, None, Bool, true, false, refl, ap, ◌∙◌}
+use Rattle.lucid_facts.proofs.Common.{◌≡◌, ℕ, List, Option, Some, None, refl, ap, ◌∙◌, Value, plain, Context, Key, Part, Task, Cursor, TaskRow, Idle, Asked, Got, PlainRow, got, all_idle, new_row, plain_task, plain_key, plain_state, plain_row, plain_rows, with_part, at_cursor, given_to, SetsRow, ChangesRow, AsksRow, SettlesRow, map-set}
+use Rattle.std.proofs.Common.{◌==◌, Bool, true, false}
 use Rattle.std.specs.Prelude.{◌≢◌, if◌then◌else◌, option_map, option_and_then}
-use Rattle.std.proofs.lemmas.List.{map-set}
-use Rattle.lucid_value.specs.declared.Value.{Value}
-use Rattle.lucid_value.specs.View.{plain}
-use Rattle.lucid_tags.specs.Contexts.{Context}
-use Rattle.lucid_tags.specs.declared.Key.{Key}
-use Rattle.lucid_tasks.specs.declared.Part.{Part}
-use Rattle.lucid_tasks.specs.declared.Task.{Task}
-use Rattle.lucid_tasks.specs.declared.Cursor.{Cursor}
 use Rattle.lucid_tasks.specs.Rows as rows
-use Rattle.lucid_tasks.specs.Rows.{TaskRow, Idle, Asked, Got, row_at}
-use Rattle.lucid_facts.specs.Tasks.{PlainRow, got, all_idle, new_row, plain_task, plain_key, plain_state, plain_row, plain_rows}
-use Rattle.lucid_facts.specs.Changes.{with_part, at_cursor, waits_for, given_to, SetsRow, ChangesRow, AsksRow, SettlesRow}
+use Rattle.lucid_tasks.specs.Rows.{row_at}
+use Rattle.lucid_facts.specs.Changes.{waits_for}
 use Rattle.lucid_facts.proofs.Slots.{same_choice, choice_later}
 
 -- a choice of rows is seen by its cases

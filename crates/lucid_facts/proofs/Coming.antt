@@ -1,18 +1,9 @@
 -- The rest of a form's plan where a row's search stands; and which arguments of an operator a row may ask for.
-use Rattle.std.proofs.Common.{◌≡◌, ℕ, zero, suc, ◌+◌, ◌<◌, ◌≤◌, Some, refl, ap, inl, inr, arith}
+use Rattle.lucid_facts.proofs.Common.{◌≡◌, ℕ, zero, suc, ◌+◌, ◌<◌, ◌≤◌, Some, refl, ap, inl, inr, arith, cases_lt, nat_tests, Head, In, Plan, at_start, rest_at, row, PlainNodes, Table, PlainRow, idle, state_at, node_of, look_of_row, MayAsk}
 use Rattle.std.specs.Prelude.{true, nat_lt}
-use Rattle.std.proofs.lemmas.Bool.{cases_lt}
-use Rattle.std.proofs.lemmas.Bool.Decides.{nat_tests}
 use Rattle.lucid_ops.specs.declared.op.Op.{Op}
-use Rattle.lucid_tree.specs.Tree.{Head, apply}
-use Rattle.lucid_tree.specs.Members.{In}
-use Rattle.lucid_tree.specs.Rows.{Plan, arguments}
-use Rattle.lucid_tree.specs.Rests.{at_start, rest_at}
-use Rattle.lucid_equations.specs.Nodes.{row, PlainNodes}
-use Rattle.lucid_equations.specs.declared.table.Table.{Table}
-use Rattle.lucid_facts.specs.Tasks.{PlainRow, idle, state_at}
-use Rattle.lucid_facts.specs.Parts.{node_of, look_of_row}
-use Rattle.lucid_facts.specs.Decisions.{MayAsk}
+use Rattle.lucid_tree.specs.Tree.{apply}
+use Rattle.lucid_tree.specs.Rows.{arguments}
 
 -- the rest of the form's plan where the row's search stands
 abbrev pub rest_of : Head → PlainRow → Plan

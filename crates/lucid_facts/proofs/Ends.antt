@@ -1,28 +1,11 @@
 -- From an engine to a demand, and from a demand to what it promises.
-use Rattle.std.proofs.Common.{◌≡◌, ℕ, ◌≤◌, Bool, true, false, length, Option, Some, None, ◌⊎◌, inl, inr, refl, sym, ap, ◌∙◌, subst, true≢false, arith, le_refl}
-use Rattle.std.specs.Prelude.{IsTrue, IsSome, is_some, IfSome}
-use Rattle.std.proofs.lemmas.List.{length-map}
-use Rattle.std.proofs.lemmas.Option.{same_Some, none-some}
-use Rattle.lucid_lemmas.proofs.Options.{value_there}
-use Rattle.lucid_value.specs.Plain.{PlainValue}
-use Rattle.lucid_tree.specs.Members.{AllDiffer}
-use Rattle.lucid_tree.specs.Levels.{Elements, nothing_held}
+use Rattle.lucid_facts.proofs.Common.{◌≡◌, ℕ, ◌≤◌, Option, Some, None, ◌⊎◌, inl, inr, refl, sym, ap, ◌∙◌, subst, true≢false, arith, le_refl, IsTrue, IsSome, is_some, IfSome, length-map, same_Some, none-some, value_there, PlainValue, AllDiffer, Elements, nothing_held, World, Contents, Daton, IsNeeded, equations_of, IsInRange, Table, Holding, given, IsDefined, HoldsRight, IsClosed, AllNotedRight, AllNotedClosed, EngineView, IsSound, known_elements, holding, MayHave, DrawsWithin, AreAskable, places_of, GoesOn, stays, held_if, demand_of, Answers, StockFacts, IsDemand, Owns}
+use Rattle.std.proofs.Common.{Bool, true, false, length}
 use Rattle.lucid_tags.specs.Contexts.{root}
-use Rattle.lucid_ports.specs.World.{World, Contents}
-use Rattle.lucid_equations.specs.Datons.{Daton}
-use Rattle.lucid_equations.specs.Visits.{IsNeeded}
-use Rattle.lucid_equations.specs.Rows.{equations_of}
-use Rattle.lucid_equations.specs.Ranges.{IsInRange}
 use Rattle.lucid_equations.specs.Laws.{HoldsMore}
-use Rattle.lucid_equations.specs.declared.table.Table.{Table}
 use Rattle.lucid_equations.proofs.VisitsGrow.{visited-needed}
 use Rattle.lucid_equations.proofs.NodeMeant.{node_hval-more}
-use Rattle.lucid_facts.specs.Stands.{Holding, given, IsDefined}
-use Rattle.lucid_facts.specs.Held.{HoldsRight, IsClosed, AllNotedRight, AllNotedClosed}
-use Rattle.lucid_facts.specs.Engine.{EngineView, IsSound, known_elements, holding, MayHave, DrawsWithin, VisitsNew, StillHolds, HoldsNeeded, AreAskable, places_of, root_val, root_hval, GoesOn}
-use Rattle.lucid_facts.specs.Demands.{stays, held_if, demand_of, Answers}
-use Rattle.lucid_facts.specs.Stock.{StockFacts}
-use Rattle.lucid_facts.specs.Going.{IsDemand, Owns}
+use Rattle.lucid_facts.specs.Engine.{VisitsNew, StillHolds, HoldsNeeded, root_val, root_hval}
 use Rattle.lucid_facts.proofs.MoreRead.{right_over, closed_over, noted_over, noted_closed_over, right_is_meant}
 use Rattle.lucid_facts.proofs.History.{goes_on_itself, reads_only_itself}
 

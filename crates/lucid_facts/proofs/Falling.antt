@@ -1,16 +1,7 @@
 -- What a row can still cost falls, or doesn't rise, at each change of the row.
-use Rattle.std.proofs.Common.{◌≡◌, ◌∙◌, ℕ, zero, suc, ◌+◌, ◌-◌, ◌*◌, ◌<◌, ◌≤◌, List, [], ◌∷◌, Option, refl, sym, ap, subst, arith}
-use Rattle.std.specs.Prelude.{sum_by, length, slice_set}
-use Rattle.std.proofs.Math.Nat.{mul-le-mul_right}
-use Rattle.std.proofs.lemmas.List.Sums.{sum_by-cons}
-use Rattle.lucid_value.specs.Plain.{PlainValue}
-use Rattle.lucid_tasks.specs.declared.Part.{Part}
-use Rattle.lucid_tasks.specs.declared.Cursor.{Cursor}
-use Rattle.lucid_equations.specs.declared.table.Table.{Table}
-use Rattle.lucid_facts.specs.Tasks.{PlainTask, PlainRow, DatonAt, PartState, idle, asked, got, state_at, all_idle, new_row}
-use Rattle.lucid_facts.specs.Parts.{rank}
-use Rattle.lucid_facts.specs.Changes.{with_part, at_cursor}
-use Rattle.lucid_facts.specs.Measure.{cost_below, idle_one, weight}
+use Rattle.lucid_facts.proofs.Common.{◌≡◌, ◌∙◌, ℕ, zero, suc, ◌+◌, ◌-◌, ◌*◌, ◌<◌, ◌≤◌, List, [], ◌∷◌, Option, refl, sym, ap, subst, arith, slice_set, PlainValue, Part, Cursor, Table, PlainTask, PlainRow, DatonAt, PartState, idle, asked, got, state_at, all_idle, new_row, rank, with_part, at_cursor, weight, sum_by, mul-le-mul_right, sum_by-cons}
+use Rattle.std.specs.Prelude.{length}
+use Rattle.lucid_facts.specs.Measure.{cost_below, idle_one}
 
 cost_is : (limit r : ℕ) → cost_below limit (suc r) ≡ 2 + 3 * cost_below limit r + limit * (3 * cost_below limit r + 1)
 unfolding cost_below

@@ -1,13 +1,7 @@
 -- The facts of a demand's first row.
-use Rattle.std.proofs.Common.{◌≡◌, ◌⊎◌, inl, inr, ℕ, ◌==◌, Option, Some, None, sym, ◌∙◌, subst, refl}
+use Rattle.lucid_facts.proofs.Common.{◌≡◌, ◌⊎◌, inl, inr, ℕ, Option, Some, None, sym, ◌∙◌, subst, refl, cases_eq, Elements, Extends, PlainTask, PlainRow, PlainRows, DatonAt, key_list, new_row, Holding, StandsFor, Demand, table_of, RowFacts, Links, Work}
+use Rattle.std.proofs.Common.{◌==◌}
 use Rattle.std.specs.Prelude.{if◌then◌else◌}
-use Rattle.std.proofs.lemmas.Bool.{cases_eq}
-use Rattle.lucid_tree.specs.Levels.{Elements}
-use Rattle.lucid_equations.specs.MoreElements.{Extends}
-use Rattle.lucid_facts.specs.Tasks.{PlainTask, PlainRow, PlainRows, DatonAt, key_list, new_row}
-use Rattle.lucid_facts.specs.Stands.{Holding, StandsFor}
-use Rattle.lucid_facts.specs.Demands.{Demand, table_of}
-use Rattle.lucid_facts.specs.Rows.{RowFacts, Links, Work}
 use Rattle.lucid_facts.proofs.Slots.{at_it, at_another}
 
 -- A demand's first row, which stands for its root.

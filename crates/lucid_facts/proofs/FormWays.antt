@@ -1,13 +1,10 @@
 -- Ways along the plans of forms by the values of a row's parts: a line for each place to which one value leads.
-use Rattle.std.proofs.Common.{◌≡◌, ℕ, suc, ◌-◌, ◌<◌, ◌≤◌, [], ◌∷◌, Some, refl, subst, arith}
-use Rattle.std.specs.Prelude.{true, false, pos, nat_le, if◌then◌else◌}
-use Rattle.std.proofs.lemmas.Bool.Decides.{nat_tests}
-use Rattle.lucid_value.specs.Plain.{PlainValue, truth, int}
-use Rattle.lucid_tree.specs.Tree.{Head, choose, both, either, whenever, asa, upon}
-use Rattle.lucid_tree.specs.Rows.{Plan, gives, nothing, look, gives_part, by_test, by_place, at_zero, only_truth, find_true, count_true}
-use Rattle.lucid_tree.specs.Rests.{LeadsTo, at_start, and_then}
-use Rattle.lucid_facts.specs.Tasks.{PlainRow, value_of_part}
-use Rattle.lucid_facts.specs.Parts.{look_of_row}
+use Rattle.lucid_facts.proofs.Common.{◌≡◌, ℕ, suc, ◌-◌, ◌<◌, ◌≤◌, [], ◌∷◌, Some, refl, subst, arith, nat_tests, PlainValue, truth, Head, whenever, asa, upon, Plan, gives, nothing, LeadsTo, at_start, PlainRow, value_of_part, look_of_row, pos, nat_le}
+use Rattle.std.specs.Prelude.{true, false, if◌then◌else◌}
+use Rattle.lucid_value.specs.Plain.{int}
+use Rattle.lucid_tree.specs.Tree.{choose, both, either}
+use Rattle.lucid_tree.specs.Rows.{look, gives_part, by_test, by_place, at_zero, only_truth, find_true, count_true}
+use Rattle.lucid_tree.specs.Rests.{and_then}
 use Rattle.lucid_facts.specs.Decisions.{RowHas}
 use Rattle.lucid_facts.proofs.Coming.{rest_of}
 

@@ -1,25 +1,7 @@
 -- What a row's plan gives answers its task.
-use Rattle.std.proofs.Common.{◌≡◌, ℕ, Some, sym, ap, ◌∙◌, subst}
-use Rattle.std.specs.Prelude.{IsTrue, is_some}
-use Rattle.lucid_value.specs.Plain.{PlainValue}
-use Rattle.lucid_tree.specs.Tree.{Head}
-use Rattle.lucid_tree.specs.Rows.{Look, gives, plan}
-use Rattle.lucid_tree.specs.Rests.{Reads, ReadsAtSome, LeadsTo}
-use Rattle.lucid_tree.specs.Levels.{Elements, nothing_held}
-use Rattle.lucid_tree.proofs.Ways.{leads-maps, leads-runs}
-use Rattle.lucid_equations.specs.Nodes.{row, PlainNodes}
-use Rattle.lucid_equations.specs.Values.{node_val, NodeMeans}
-use Rattle.lucid_equations.specs.Visits.{IsNeeded}
-use Rattle.lucid_equations.specs.Rows.{equations_of}
-use Rattle.lucid_equations.specs.Parts.{reads_parts}
-use Rattle.lucid_facts.specs.Tasks.{PlainTask, PlainRow, value_of_part}
-use Rattle.lucid_facts.specs.Parts.{node_of, IsReference, IsPart, part_by_look, part_by_reference}
-use Rattle.lucid_facts.specs.Stands.{Holding, task_val, TaskMeans}
-use Rattle.lucid_facts.specs.Held.{NeedsHeld}
-use Rattle.lucid_facts.specs.Demands.{Demand, table_of, LookAnswers, Answers}
-use Rattle.lucid_facts.specs.Rows.{RowFacts}
+use Rattle.lucid_facts.proofs.Common.{◌≡◌, ℕ, Some, sym, ap, ◌∙◌, subst, IsTrue, is_some, PlainValue, Head, Look, gives, plan, Reads, ReadsAtSome, LeadsTo, Elements, nothing_held, leads-maps, leads-runs, row, PlainNodes, node_val, NodeMeans, IsNeeded, equations_of, reads_parts, PlainTask, PlainRow, value_of_part, node_of, IsReference, IsPart, part_by_look, part_by_reference, Holding, TaskMeans, NeedsHeld, Demand, table_of, LookAnswers, Answers, RowFacts, IsDemand}
+use Rattle.lucid_facts.specs.Stands.{task_val}
 use Rattle.lucid_facts.specs.Decisions.{GivesByPlan}
-use Rattle.lucid_facts.specs.Going.{IsDemand}
 use Rattle.lucid_facts.proofs.Ways.{NeedsPass, ways_give_meanings, needs_are_of_the_way}
 use Rattle.lucid_facts.proofs.Looking.{looks_at, look_value, look_needs, look_keeps_limit}
 use Rattle.lucid_facts.proofs.Leading.{row_came}

@@ -1,24 +1,13 @@
 -- A store, seen by keys that have known tags, is what it holds by datons.
-use Rattle.std.proofs.Common.{◌≡◌, ℕ, Bool, true, false, cond, ◌==◌, ◌&&◌, List, [], ◌∷◌, Option, Some, None, refl, sym, ap, ◌∙◌, subst, true≢false}
-use Rattle.std.specs.Prelude.{IsSome, is_some, option_map, Decides}
-use Rattle.std.specs.Map.{lookup}
-use Rattle.std.proofs.lemmas.Bool.Decides.{Decides-eqb, Decides-and, Decides-like, same_from_decides}
+use Rattle.lucid_facts.proofs.Common.{◌≡◌, ℕ, cond, List, [], ◌∷◌, Option, Some, None, refl, sym, ap, ◌∙◌, subst, true≢false, IsSome, is_some, Decides, lookup, Decides-eqb, Decides-and, Decides-like, PlainValue, plain, Value, Context, IsKnown, IsOneForOne, KeepsKnown, space_of, same_key, Key, Stored, held, entry_at, SetsOnly, fresh, Daton, same_daton, same-daton, DatonAt, plain_key, is_key_of, held_in, AreKeysKnown, is_daton, PutsDaton, same_from_decides}
+use Rattle.std.proofs.Common.{Bool, true, false, ◌==◌, ◌&&◌}
+use Rattle.std.specs.Prelude.{option_map}
 use Rattle.lucid_lemmas.proofs.Options.{some_still, same_values}
-use Rattle.lucid_value.specs.Plain.{PlainValue}
-use Rattle.lucid_value.specs.View.{plain}
-use Rattle.lucid_value.specs.declared.Value.{Value}
-use Rattle.lucid_tags.specs.Contexts.{Context, same_context}
-use Rattle.lucid_tags.specs.Known.{IsKnown, IsOneForOne, KeepsKnown, context_of, space_of}
-use Rattle.lucid_tags.specs.Keys.{same_key}
+use Rattle.lucid_tags.specs.Contexts.{same_context}
+use Rattle.lucid_tags.specs.Known.{context_of}
 use Rattle.lucid_tags.specs.EqualityDecides.{same_context_is_equality, same_key_is_equality, same_key_equiv}
-use Rattle.lucid_tags.specs.declared.Key.{Key}
-use Rattle.lucid_store.specs.Stored.{Stored, Entry}
-use Rattle.lucid_store.specs.Entries.{held, entry_at, IsHeld, SetsOnly, fresh}
-use Rattle.lucid_equations.specs.Datons.{Daton, same_daton}
-use Rattle.lucid_equations.proofs.SameDatons.{same-daton}
-use Rattle.lucid_facts.specs.Tasks.{DatonAt, plain_key}
-use Rattle.lucid_facts.specs.Held.{is_key_of, held_in, AreKeysKnown}
-use Rattle.lucid_facts.specs.Changes.{is_daton, PutsDaton}
+use Rattle.lucid_store.specs.Stored.{Entry}
+use Rattle.lucid_store.specs.Entries.{IsHeld}
 
 -- the test of a daton's key decides whether the key is the daton's
 pub key_of_decides : (known : List Context) (d : Daton) (s : ℕ) (k : Key) → Decides (is_key_of known d s k) (plain_key known k ≡ (d, s))

@@ -1,14 +1,6 @@
 -- What stays and only grows, over several steps.
-use Rattle.std.proofs.lemmas.Bool.{cases_lt}
-use Rattle.std.proofs.Common.{◌≡◌, ℕ, ◌<◌, ◌≤◌, ◌-◌, ◌^◌, List, ◌⊎◌, inl, inr, refl, ◌∙◌, arith}
-use Rattle.lucid_tree.specs.Members.{In}
-use Rattle.lucid_tree.specs.Levels.{Elements}
-use Rattle.lucid_tags.specs.Contexts.{Context}
-use Rattle.lucid_tags.specs.Known.{KeepsKnown}
+use Rattle.lucid_facts.proofs.Common.{cases_lt, ◌≡◌, ℕ, ◌<◌, ◌≤◌, ◌-◌, ◌^◌, List, ◌⊎◌, inl, inr, refl, ◌∙◌, arith, In, Elements, Context, KeepsKnown, World, Extends, EngineView, GoesOn, ReadsOnly}
 use Rattle.lucid_ports.specs.Faults.{Rises}
-use Rattle.lucid_ports.specs.World.{World}
-use Rattle.lucid_equations.specs.MoreElements.{Extends}
-use Rattle.lucid_facts.specs.Engine.{EngineView, GoesOn, ReadsOnly}
 
 pub extends_then : (a b c : Elements) → Extends a b → Extends b c → Extends a c
 extends_then a b c f g n j v e = g n j v (f n j v e)

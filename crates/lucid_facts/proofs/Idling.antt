@@ -1,20 +1,7 @@
 -- Which parts of a row that waits for none are idle.
-use Rattle.std.proofs.Common.{◌≡◌, ℕ, zero, suc, ◌<◌, List, [], ◌∷◌, Some, None, refl, sym, ap, ◌∙◌, subst, arith, length}
+use Rattle.lucid_facts.proofs.Common.{◌≡◌, ℕ, zero, suc, ◌<◌, List, [], ◌∷◌, Some, None, refl, sym, ap, ◌∙◌, subst, arith, list_all, PlainValue, Head, const, Elements, Look, row, PlainNodes, Table, PlainTask, PlainRow, PartState, idle, asked, got, is_free, waits_for_none, all_idle, state_at, value_in, value_of_part, node_of, look_of_row, IsPart, part_by_look, part_by_reference, Holding, is_search, Demand, table_of, RowFacts, and_parts}
+use Rattle.std.proofs.Common.{length}
 use Rattle.std.specs.Prelude.{true}
-use Rattle.std.specs.List.{list_all}
-use Rattle.std.proofs.lemmas.Bool.{and_parts}
-use Rattle.lucid_value.specs.Plain.{PlainValue}
-use Rattle.lucid_tree.specs.Tree.{Head, const}
-use Rattle.lucid_tree.specs.Levels.{Elements}
-use Rattle.lucid_tree.specs.Rows.{Look}
-use Rattle.lucid_equations.specs.Nodes.{row, PlainNodes}
-use Rattle.lucid_equations.specs.declared.table.Table.{Table}
-use Rattle.lucid_facts.specs.Tasks.{PlainTask, PlainRow, PartState, idle, asked, got, is_free, waits_for_none, all_idle, state_at, value_in, value_of_part}
-use Rattle.lucid_facts.specs.Parts.{node_of, look_of_row, IsPart, part_by_look, part_by_reference}
-use Rattle.lucid_facts.specs.Stands.{Holding}
-use Rattle.lucid_facts.specs.Held.{is_search}
-use Rattle.lucid_facts.specs.Demands.{Demand, table_of}
-use Rattle.lucid_facts.specs.Rows.{RowFacts}
 
 -- a part that no task was asked for and that has no value is idle
 free_is_idle : (s : PartState) → is_free s ≡ true → ((v : PlainValue) → value_in s ≡ Some v → ⊥) → s ≡ idle

@@ -1,16 +1,9 @@
 -- The tags of all rows stay known, at each change of the rows that have tags.
-use Rattle.std.proofs.Common.{◌≡◌, ℕ, ◌==◌, List, Option, Some, None, Bool, true, false, refl, sym, ap, subst}
-use Rattle.std.specs.Prelude.{IfSome, if◌then◌else◌, option_map}
-use Rattle.lucid_value.specs.declared.Value.{Value}
-use Rattle.lucid_tags.specs.Contexts.{Context}
-use Rattle.lucid_tags.specs.Known.{IsKnown, KeepsKnown}
-use Rattle.lucid_tags.specs.declared.Key.{Key}
-use Rattle.lucid_tasks.specs.declared.Part.{Part}
-use Rattle.lucid_tasks.specs.declared.Task.{Task}
-use Rattle.lucid_tasks.specs.declared.Cursor.{Cursor}
+use Rattle.lucid_facts.proofs.Common.{◌≡◌, ℕ, List, Option, Some, None, refl, sym, ap, subst, IfSome, Value, Context, IsKnown, KeepsKnown, Key, Part, Task, Cursor, TaskRow, Asked, Got, AreTagsKnown, AreRowsKnown, plain_row, plain_rows}
+use Rattle.std.proofs.Common.{◌==◌, Bool, true, false}
+use Rattle.std.specs.Prelude.{if◌then◌else◌, option_map}
 use Rattle.lucid_tasks.specs.Rows as rows
-use Rattle.lucid_tasks.specs.Rows.{TaskRow, Asked, Got, row_at}
-use Rattle.lucid_facts.specs.Tasks.{AreTagsKnown, AreRowsKnown, plain_row, plain_rows}
+use Rattle.lucid_tasks.specs.Rows.{row_at}
 use Rattle.lucid_facts.proofs.Seeing.{rows_as_tags_grow}
 
 key_grows : (old new : List Context) (o : Option Key) → KeepsKnown old new → IfSome o (λ k. IsKnown old k.tag) → IfSome o (λ k. IsKnown new k.tag)

@@ -1,28 +1,10 @@
 -- A row's parts answer the looks of its form's plan, and lead it from the plan's start to where its search stands, and on.
-use Rattle.std.proofs.Common.{◌≡◌, ℕ, ◌<◌, Option, Some, inl, inr, refl, sym, ap, ◌∙◌, subst}
+use Rattle.lucid_facts.proofs.Common.{◌≡◌, ℕ, ◌<◌, Option, Some, inl, inr, refl, sym, ap, ◌∙◌, subst, PlainValue, truth, Head, whenever, const, Look, Plan, plan, LeadsTo, at_start, rest_at, Elements, leads-maps, counted_truth, row, PlainNodes, no_nodes, node_val, node_at, equations_of, Table, row-node, node-meant_once, PlainTask, PlainRow, node_of, part_number, look_of_row, look_task, IsReference, IsPart, part_by_look, part_by_reference, Holding, is_search, Demand, table_of, LookAnswers, Answers, RowFacts, PartAnswers, SearchFacts, ComesTo, IsDemand}
 use Rattle.std.specs.Prelude.{Bool, true, false, option_map}
-use Rattle.lucid_value.specs.Plain.{PlainValue, truth}
-use Rattle.lucid_tree.specs.Tree.{Head, whenever, const}
-use Rattle.lucid_tree.specs.Rows.{Look, Plan, plan}
-use Rattle.lucid_tree.specs.Rests.{LeadsTo, at_start, rest_at}
-use Rattle.lucid_tree.specs.Levels.{Elements}
-use Rattle.lucid_tree.proofs.Ways.{leads-maps, leads-join}
-use Rattle.lucid_tree.proofs.SearchesLead.{search_leads, least_of, test_look, counted_truth}
-use Rattle.lucid_equations.specs.Nodes.{row, PlainNodes, no_nodes}
-use Rattle.lucid_equations.specs.Values.{node_val}
-use Rattle.lucid_equations.specs.Rows.{node_at, equations_of}
-use Rattle.lucid_equations.specs.declared.table.Table.{Table}
+use Rattle.lucid_tree.proofs.Ways.{leads-join}
+use Rattle.lucid_tree.proofs.SearchesLead.{search_leads, least_of, test_look}
 use Rattle.lucid_equations.specs.declared.rows.Node.TheVariants.{Const}
-use Rattle.lucid_equations.proofs.PartsRead.{row-node}
-use Rattle.lucid_equations.proofs.NodeGrowth.{node-meant_once}
-use Rattle.lucid_facts.specs.Tasks.{PlainTask, PlainRow}
-use Rattle.lucid_facts.specs.Parts.{node_of, part_number, look_of_row, look_task, IsReference, IsPart, part_by_look, part_by_reference}
-use Rattle.lucid_facts.specs.Stands.{Holding}
-use Rattle.lucid_facts.specs.Held.{is_search}
-use Rattle.lucid_facts.specs.Demands.{Demand, table_of, LookAnswers, Answers}
-use Rattle.lucid_facts.specs.Rows.{RowFacts, PartAnswers, SearchFacts}
-use Rattle.lucid_facts.specs.Decisions.{LookHas, LooksAtConstant, ComesTo}
-use Rattle.lucid_facts.specs.Going.{IsDemand}
+use Rattle.lucid_facts.specs.Decisions.{LookHas, LooksAtConstant}
 use Rattle.lucid_facts.proofs.Answering.{constant-answers}
 use Rattle.lucid_facts.proofs.Coming.{rest_of}
 use Rattle.lucid_facts.proofs.Noting.{stream_of_search}

@@ -1,3 +1,4 @@
+pub mod Common
 pub mod Falling
 pub mod Slots
 pub mod Totals

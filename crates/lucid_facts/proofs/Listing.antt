@@ -1,15 +1,10 @@
 -- Rows in a list: which slots have one, which are ready, and what a change of one leaves.
-use Rattle.std.proofs.Common.{◌≡◌, ◌≢◌, ℕ, zero, suc, ◌<◌, ◌≤◌, List, [], ◌∷◌, Option, Some, None, true, ◌&&◌, refl, sym, ap, ◌∙◌, arith}
-use Rattle.std.specs.Prelude.{IsSome, length, option_map, option_and_then, slice_set, slice_index_or}
-use Rattle.std.specs.List.{list_all}
-use Rattle.lucid_value.specs.declared.Value.{Value}
-use Rattle.lucid_tags.specs.Contexts.{Context}
+use Rattle.lucid_facts.proofs.Common.{◌≡◌, ℕ, zero, suc, ◌<◌, ◌≤◌, List, [], ◌∷◌, Option, Some, None, refl, ap, ◌∙◌, arith, IsSome, slice_set, slice_index_or, list_all, Context, TaskRow, Idle, Asked, Got, PlainRow, plain_row, plain_rows}
+use Rattle.std.proofs.Common.{◌≢◌, ◌&&◌}
+use Rattle.std.specs.Prelude.{length, option_map}
 use Rattle.lucid_tasks.specs.Rows as rows
-use Rattle.lucid_tasks.specs.Rows.{TaskRow, Idle, Asked, Got, row_at}
-use Rattle.lucid_facts.specs.Tasks.{PlainRow, waits_for_none, plain_row, plain_rows}
+use Rattle.lucid_tasks.specs.Rows.{row_at}
 use Rattle.lucid_facts.proofs.Slots.{at_it, at_another}
-use Rattle.lucid_facts.proofs.Seeing.{plain_ready}
-use Rattle.lucid_facts.proofs.Changing.{settles_after_taking}
 
 -- ---- which slots have a row
 
@@ -39,15 +34,6 @@ none_past known [] q l = refl
 none_past known (o ∷ rs) zero l = absurd (omega (arith, l))
 none_past known (o ∷ rs) (suc q) l = none_past known rs q (omega (arith, l))
 
--- a ready slot has a row, which waits for none of its parts
-pub ready_row : (known : List Context) (rs : List (Option TaskRow)) (slot : ℕ) → rows.is_ready (row_at rs slot) ≡ true
-    → (r : TaskRow) × (row_at rs slot ≡ Some r) × (waits_for_none (plain_row known r) ≡ true)
-ready_row known rs slot = go (row_at rs slot)
-  where
-    go : (o : Option TaskRow) → rows.is_ready o ≡ true → (r : TaskRow) × (o ≡ Some r) × (waits_for_none (plain_row known r) ≡ true)
-    go None e = absurd (cc)
-    go (Some r) e = (r, refl, sym (plain_ready known r) ∙ e)
-
 -- ---- what a change leaves
 
 -- the row that was changed, and the others
@@ -56,17 +42,6 @@ changed_there old new slot f r changes at = changes slot ∙ at_it slot slot (op
 
 pub same_elsewhere : (old new : List (Option TaskRow)) (slot : ℕ) (f : TaskRow → TaskRow) → rows.ChangesOnly old new slot f → (q : ℕ) → q ≢ slot → row_at new q ≡ row_at old q
 same_elsewhere old new slot f changes q n = changes q ∙ at_another q slot (option_map f (row_at old q)) (row_at old q) n
-
-same_parent : (i : ℕ) (o : Option TaskRow) → option_and_then (λ row. row.parent) (option_map (rows.taken i) o) ≡ option_and_then (λ row. row.parent) o
-same_parent i None = refl
-same_parent i (Some r) = refl
-
--- a row that settles once a value of its own was taken settles from where it stood before
-pub settles_after_take : (old taken new : List (Option TaskRow)) (slot i : ℕ) (v : Value) → rows.ChangesOnly old taken slot (rows.taken i) → rows.Settles taken new slot v
-    → rows.Settles old new slot v
-settles_after_take old taken new slot i v takes =
-    settles_after_taking old taken new slot v (same_elsewhere old taken slot (rows.taken i) takes)
-    (ap (λ o. option_and_then (λ row. row.parent) o) (takes slot ∙ at_it slot slot (option_map (rows.taken i) (row_at old slot)) (row_at old slot) refl) ∙ same_parent i (row_at old slot))
 
 emptied_free : (s : rows.PartState) → rows.is_free (rows.emptied s) ≡ rows.is_free s
 emptied_free Idle = refl

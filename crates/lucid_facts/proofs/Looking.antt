@@ -1,25 +1,10 @@
 -- The task of a look: it is that of the part's node at the look's point, one of the table's, with a lower number; and what the form
 -- reads, visits and needs of that part is what the task has, visits and needs.
-use Rattle.std.proofs.Common.{◌≡◌, ℕ, ◌<◌, Option, Some, None, slice_get, refl, sym, ap, ◌∙◌, subst, inl, inr, arith}
+use Rattle.lucid_facts.proofs.Common.{◌≡◌, ℕ, ◌<◌, Option, Some, None, refl, sym, ap, ◌∙◌, subst, arith, none-some, Head, Look, Elements, Given, PlainNode, row, PlainNodes, part_of, Daton, node_hval, IsNeeded, parts, equations_of, HasPart, IsInRange, reads_parts, visits_parts, Node, Table, part-lower, part-node, PlainTask, DatonAt, node_of, part_number, rank, look_task, IsTask, visits_of, TaskNeeds}
+use Rattle.std.proofs.Common.{slice_get}
 use Rattle.std.specs.Prelude.{true, false, option_map, option_and_then}
-use Rattle.std.proofs.lemmas.Option.{slice_get_cases, none-some}
-use Rattle.lucid_tree.specs.Tree.{Head}
-use Rattle.lucid_tree.specs.Rows.{Look}
-use Rattle.lucid_tree.specs.Levels.{Elements, Given}
-use Rattle.lucid_equations.specs.Nodes.{PlainNode, row, PlainNodes, part_of}
-use Rattle.lucid_equations.specs.Datons.{Daton}
-use Rattle.lucid_equations.specs.Values.{node_hval}
-use Rattle.lucid_equations.specs.Visits.{IsNeeded}
-use Rattle.lucid_equations.specs.Rows.{row_at, parts, equations_of}
-use Rattle.lucid_equations.specs.RowParts.{HasPart}
-use Rattle.lucid_equations.specs.Ranges.{IsInRange}
-use Rattle.lucid_equations.specs.Parts.{reads_parts, visits_parts}
-use Rattle.lucid_equations.specs.declared.rows.Node.{Node}
-use Rattle.lucid_equations.specs.declared.table.Table.{Table}
-use Rattle.lucid_equations.proofs.PartsRead.{part-lower, part-node, part-value, part-visits}
-use Rattle.lucid_facts.specs.Tasks.{PlainTask, DatonAt}
-use Rattle.lucid_facts.specs.Parts.{node_of, part_number, rank, look_task, IsTask}
-use Rattle.lucid_facts.specs.Stands.{visits_of, TaskNeeds}
+use Rattle.lucid_equations.specs.Rows.{row_at}
+use Rattle.lucid_equations.proofs.PartsRead.{part-value, part-visits}
 
 row_there : (o : Option Node) (i k : ℕ) → option_and_then (λ x. slice_get (parts x) i) o ≡ Some k → (n : Node) × (o ≡ Some n) × (slice_get (parts n) i ≡ Some k)
 row_there None i k e = absurd (none-some k e)
@@ -88,11 +73,3 @@ module _ (T : Table) (range : IsInRange T) (x : PlainTask) (l : Look) (y : Plain
 
 no : false ≡ true → ⊥
 no e = cc
-
--- a node of the table has a row
-pub has_row : (T : Table) (x : PlainTask) → IsTask T x → (n : Node) × (row_at T x.node ≡ Some n)
-has_row T x there =
-    elim ((slice_get_cases T.nodes x.node).1) [
-      | inl h ↦ (h.0.node, ap (option_map (λ r. r.node)) h.2)
-      | inr h ↦ absurd (omega (arith, h.0, there))
-    ]

@@ -1,24 +1,8 @@
 -- What is held and noted stays right, and closed, where more elements are read.
-use Rattle.std.proofs.Common.{◌≡◌, ℕ, ◌<◌, List, Some, None, sym, ap, ◌∙◌, subst}
-use Rattle.std.proofs.lemmas.Option.{same_Some}
-use Rattle.lucid_lemmas.proofs.Options.{value_there}
-use Rattle.lucid_value.specs.Plain.{PlainValue, truth}
-use Rattle.lucid_tree.specs.Tree.{Head}
-use Rattle.lucid_tree.specs.Levels.{Elements, goes_to}
-use Rattle.lucid_tree.proofs.SearchesLead.{count-keeps, counted_truth}
-use Rattle.lucid_tags.specs.Contexts.{Context}
-use Rattle.lucid_tags.specs.Known.{context_of, space_of}
-use Rattle.lucid_search.specs.Noted.{Noted}
-use Rattle.lucid_equations.specs.Nodes.{PlainNode, Equations}
-use Rattle.lucid_equations.specs.Datons.{Daton, NodePosition, NodeAim, daton_aim}
-use Rattle.lucid_equations.specs.Values.{node_val, NodeMeans}
-use Rattle.lucid_equations.specs.Rows.{node_at, equations_of}
-use Rattle.lucid_equations.specs.MoreElements.{Extends}
+use Rattle.lucid_facts.proofs.Common.{◌≡◌, ℕ, ◌<◌, List, Some, None, sym, ap, ◌∙◌, subst, same_Some, value_there, PlainValue, truth, Head, Elements, goes_to, count-keeps, counted_truth, Context, space_of, Noted, PlainNode, Equations, Daton, NodePosition, NodeAim, daton_aim, node_val, NodeMeans, node_at, equations_of, Extends, Table, Holding, given, HoldsRight, IsClosed, Counted, NotedRight, AllNotedRight, AllNotedClosed, cursor_noted}
+use Rattle.lucid_tags.specs.Known.{context_of}
 use Rattle.lucid_equations.specs.Laws.{HeldIsMeant}
-use Rattle.lucid_equations.specs.declared.table.Table.{Table}
 use Rattle.lucid_equations.proofs.MoreElements.{node_hval-extends, meaning-extends, needed-same}
-use Rattle.lucid_facts.specs.Stands.{Holding, given}
-use Rattle.lucid_facts.specs.Held.{HoldsRight, IsClosed, Counted, NotedRight, AllNotedRight, AllNotedClosed, cursor_noted}
 use Rattle.lucid_facts.proofs.Idling.{one-form}
 
 -- What is held is right by more elements too,

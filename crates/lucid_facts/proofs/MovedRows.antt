@@ -1,16 +1,9 @@
 -- What only moves the point, by the row that a table has for the node.
-use Rattle.std.proofs.Common.{◌≡◌, ℕ, zero, suc, ◌<◌, ◌≤◌, ◌-◌, Bool, true, false, Option, Some, None, if◌then◌else◌, nat_lt, option_map, option_and_then, slice_get, refl, sym, ap, ◌∙◌, arith}
-use Rattle.std.proofs.lemmas.Bool.Decides.{nat_tests}
+use Rattle.lucid_facts.proofs.Common.{◌≡◌, ℕ, zero, suc, ◌<◌, ◌≤◌, ◌-◌, Option, Some, None, refl, sym, ap, ◌∙◌, arith, nat_tests, frozen_frame, PlainNode, row, freeze, reference, invoke, Onward, onward, node_by, parts, Node, Freeze, Table, PlainTask, node_of, moved, moved_by}
+use Rattle.std.proofs.Common.{Bool, true, false, if◌then◌else◌, nat_lt, option_map, option_and_then, slice_get}
 use Rattle.lucid_tree.specs.Rows.{last}
-use Rattle.lucid_tags.specs.Contexts.{frozen_frame}
-use Rattle.lucid_equations.specs.Nodes.{PlainNode, row, freeze, reference, invoke}
-use Rattle.lucid_equations.specs.Moving.{Onward, onward}
-use Rattle.lucid_equations.specs.Rows.{row_at, node_by, parts}
-use Rattle.lucid_equations.specs.declared.rows.Node.{Node}
-use Rattle.lucid_equations.specs.declared.rows.Node.TheVariants.{First, Next, Fby, Initial, Succ, Sby, Freeze}
-use Rattle.lucid_equations.specs.declared.table.Table.{Table}
-use Rattle.lucid_facts.specs.Tasks.{PlainTask}
-use Rattle.lucid_facts.specs.Parts.{node_of, moved, moved_by}
+use Rattle.lucid_equations.specs.Rows.{row_at}
+use Rattle.lucid_equations.specs.declared.rows.Node.TheVariants.{First, Next, Fby, Initial, Succ, Sby}
 
 -- the left part now, and then the right part one before
 abbrev pub fby_row : PlainTask → (left right time : ℕ) → Option PlainTask
@@ -77,20 +70,3 @@ before-last t y low = let h : nat_lt t last ≡ true = grind (arith, nat_tests) 
 
 pub at-last : {A : Type 0} (t : ℕ) (y : A) → last ≤ t → None ≡ (if nat_lt t last then Some y else None)
 at-last t y low = let h : nat_lt t last ≡ false = grind (arith, nat_tests) in sym (ap (λ b. if b then Some y else None) h)
-
--- at the first time or space, and at a later one
-pub fby-first : (x : PlainTask) (a b t : ℕ) → t ≡ 0 → Some (record x { node = a; time = t }) ≡ fby_row x a b t
-fby-first x a b zero h = refl
-fby-first x a b (suc t) h = absurd (omega (arith, h))
-
-pub fby-later : (x : PlainTask) (a b t : ℕ) → 0 < t → Some (record x { node = b; time = t - 1 }) ≡ fby_row x a b t
-fby-later x a b zero h = absurd (omega (arith, h))
-fby-later x a b (suc t) h = let same : suc t - 1 ≡ t = omega arith in ap (λ u. Some (record x { node = b; time = u })) same
-
-pub sby-first : (x : PlainTask) (a b s : ℕ) → s ≡ 0 → Some (record x { node = a; space = s }) ≡ sby_row x a b s
-sby-first x a b zero h = refl
-sby-first x a b (suc s) h = absurd (omega (arith, h))
-
-pub sby-later : (x : PlainTask) (a b s : ℕ) → 0 < s → Some (record x { node = b; space = s - 1 }) ≡ sby_row x a b s
-sby-later x a b zero h = absurd (omega (arith, h))
-sby-later x a b (suc s) h = let same : suc s - 1 ≡ s = omega arith in ap (λ r. Some (record x { node = b; space = r })) same

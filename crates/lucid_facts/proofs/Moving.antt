@@ -1,25 +1,8 @@
 -- What only moves the point stands for what it goes on with.
-use Rattle.std.proofs.Common.{◌≡◌, ℕ, ◌*◌, ◌<◌, ◌⊎◌, inl, inr, [], Option, Some, None, refl, sym, ap, ◌∙◌, subst, arith, length, slice_get, option_map, option_and_then}
-use Rattle.std.specs.List.{filter_map}
-use Rattle.lucid_tree.specs.Tree.{Head}
-use Rattle.lucid_tree.specs.Members.{In, Inside}
-use Rattle.lucid_tree.specs.Levels.{Elements, entered_of}
-use Rattle.lucid_tags.specs.Contexts.{frozen_frame}
-use Rattle.lucid_equations.specs.Nodes.{PlainNode, PlainNodes, row, freeze, reference, invoke, part_of}
-use Rattle.lucid_equations.specs.Moving.{Onward, onward, OnlyMoves}
-use Rattle.lucid_equations.specs.Values.{node_hval}
-use Rattle.lucid_equations.specs.Visits.{node_visits, IsNeeded}
-use Rattle.lucid_equations.specs.Rows.{node_at, node_by, parts, equations_of}
-use Rattle.lucid_equations.specs.Ranges.{IsInRange}
-use Rattle.lucid_equations.specs.RowParts.{HasPart}
-use Rattle.lucid_equations.specs.declared.rows.Node.{Node}
-use Rattle.lucid_equations.specs.declared.rows.Node.TheVariants.{Freeze}
-use Rattle.lucid_equations.specs.declared.table.Table.{Table}
+use Rattle.lucid_facts.proofs.Common.{◌≡◌, ℕ, ◌*◌, ◌<◌, ◌⊎◌, inl, inr, [], Option, Some, None, refl, sym, ap, ◌∙◌, subst, arith, filter_map, Head, In, Inside, Elements, entered_of, frozen_frame, PlainNode, PlainNodes, row, freeze, reference, invoke, part_of, Onward, onward, node_hval, node_visits, IsNeeded, node_at, node_by, parts, equations_of, IsInRange, HasPart, Node, Freeze, Table, row-node, part-lower, part-node, PlainTask, DatonAt, node_of, part_number, moved, moved_by, Holding, StandsFor, given, hval_of, visits_of, TaskNeeds}
+use Rattle.std.proofs.Common.{length, slice_get, option_map, option_and_then}
+use Rattle.lucid_equations.specs.Moving.{OnlyMoves}
 use Rattle.lucid_equations.proofs.Moving.{moved-value, moved-visits, moved-needs, six-move}
-use Rattle.lucid_equations.proofs.PartsRead.{row-node, part-lower, part-node}
-use Rattle.lucid_facts.specs.Tasks.{PlainTask, DatonAt}
-use Rattle.lucid_facts.specs.Parts.{node_of, part_number, moved, moved_by}
-use Rattle.lucid_facts.specs.Stands.{Holding, StandsFor, given, hval_of, visits_of, TaskNeeds}
 use Rattle.lucid_facts.proofs.Looking.{has_part}
 
 -- the subject of a frozen node
@@ -118,6 +101,3 @@ moves-stand T x y p = record {
   visits = λ b m e. p.visits b m e;
   needs = λ b k n. inr (p.needs b k n);
 }
-
-pub moved-stands : (T : Table) → IsInRange T → (x y : PlainTask) → moved T x ≡ Some y → StandsFor T [] y x × (y.node < x.node) × (y.limit ≡ x.limit)
-moved-stands T range x y h = let p = moved-moves T range x y h in (moves-stand T x y p, p.lower, p.limit)

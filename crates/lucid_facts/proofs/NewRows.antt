@@ -1,21 +1,6 @@
 -- The tasks that may be asked for, and the rows that are made of them.
-use Rattle.std.proofs.Common.{◌≡◌, ℕ, zero, suc, ◌<◌, ◌≤◌, inl, inr, List, [], ◌∷◌, Option, Some, None, refl, sym, ◌∙◌, subst, arith, length}
-use Rattle.lucid_tree.specs.Tree.{Head, whenever, asa, upon}
-use Rattle.lucid_tree.specs.Levels.{Elements, reference_of}
-use Rattle.lucid_tree.specs.Rests.{CanStandAt}
-use Rattle.lucid_tree.proofs.Members.{inside-read}
-use Rattle.lucid_tasks.specs.declared.Part.{Part}
-use Rattle.lucid_equations.specs.Datons.{NodePosition}
-use Rattle.lucid_equations.specs.Ranges.{IsInRange}
-use Rattle.lucid_equations.specs.Rows.{equations_of}
-use Rattle.lucid_equations.specs.declared.table.Table.{Table}
-use Rattle.lucid_equations.proofs.NodeAims.{node-by_daton}
-use Rattle.lucid_facts.specs.Tasks.{PlainTask, PlainRow, DatonAt, new_row}
-use Rattle.lucid_facts.specs.Parts.{node_of, rank, moved, passed, IsTask, GoesTo}
-use Rattle.lucid_facts.specs.Stands.{Lacks, Holding, higher, StandsFor, task_visits}
-use Rattle.lucid_facts.specs.Demands.{Demand, table_of, stays, IsSeen, IsVisited}
-use Rattle.lucid_facts.specs.Rows.{RowFacts, IsWanted, Remembers}
-use Rattle.lucid_facts.specs.Going.{IsDemand}
+use Rattle.lucid_facts.proofs.Common.{◌≡◌, ℕ, zero, suc, ◌<◌, ◌≤◌, inl, inr, List, [], ◌∷◌, Option, Some, None, refl, sym, ◌∙◌, subst, arith, Head, whenever, asa, upon, Elements, reference_of, CanStandAt, inside-read, Part, NodePosition, IsInRange, equations_of, Table, node-by_daton, PlainTask, PlainRow, DatonAt, new_row, node_of, rank, moved, passed, IsTask, GoesTo, Lacks, Holding, higher, StandsFor, task_visits, Demand, table_of, stays, IsSeen, IsVisited, RowFacts, IsWanted, Remembers, IsDemand}
+use Rattle.std.proofs.Common.{length}
 use Rattle.lucid_facts.proofs.Standing.{stands-then, standing-is_defined, standing-is_seen}
 use Rattle.lucid_facts.proofs.Passing.{passed-stands}
 use Rattle.lucid_facts.proofs.References.{references-stand, reference-visits, lower-limit}

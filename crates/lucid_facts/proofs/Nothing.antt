@@ -1,18 +1,8 @@
 -- An engine that holds nothing and has noted nothing.
-use Rattle.std.proofs.Common.{◌≡◌, ℕ, [], length, Option, Some, None, sym, ap, ◌∙◌, true≢false}
-use Rattle.std.specs.Prelude.{IsSome, is_some, option_map}
-use Rattle.std.specs.Map.{lookup}
-use Rattle.lucid_value.specs.View.{plain}
-use Rattle.lucid_tree.specs.Members.{AllDiffer}
-use Rattle.lucid_tags.specs.Known.{IsOneForOne}
-use Rattle.lucid_tags.specs.declared.Tag.{Tag}
-use Rattle.lucid_store.specs.Entries.{entry_at}
-use Rattle.lucid_tags.specs.Keys.{same_key}
-use Rattle.lucid_facts.specs.Held.{is_key_of}
-use Rattle.lucid_search.specs.Noted.{Noted, number_at, number_of_site}
-use Rattle.lucid_equations.specs.Ranges.{IsInRange}
-use Rattle.lucid_equations.specs.Datons.{Daton}
-use Rattle.lucid_facts.specs.Engine.{EngineView, IsSound, holding, places_of}
+use Rattle.lucid_facts.proofs.Common.{◌≡◌, ℕ, [], Option, Some, None, sym, ap, ◌∙◌, true≢false, IsSome, is_some, lookup, plain, AllDiffer, IsOneForOne, Tag, entry_at, same_key, is_key_of, Noted, number_at, IsInRange, Daton, EngineView, IsSound, holding, places_of}
+use Rattle.std.proofs.Common.{length}
+use Rattle.std.specs.Prelude.{option_map}
+use Rattle.lucid_search.specs.Noted.{number_of_site}
 
 -- it holds no daton,
 holds_none : (e : EngineView) → e.stored.entries ≡ [] → (d : Daton) (s : ℕ) → holding e d s ≡ None

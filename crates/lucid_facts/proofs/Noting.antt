@@ -1,31 +1,12 @@
 -- A row notes where its search stands.
-use Rattle.std.proofs.Common.{◌≡◌, ℕ, zero, suc, ◌<◌, Bool, true, false, cond, List, [], ◌∷◌, length, Option, Some, ◌⊎◌, inl, inr, refl, sym, ap, ◌∙◌, subst, true≢false, arith}
-use Rattle.std.specs.Prelude.{IsTrue, Decides, ◌==◌, ◌&&◌, slice_get, option_map, option_and_then}
-use Rattle.std.proofs.lemmas.Bool.Decides.{Decides-eqb, Decides-and}
-use Rattle.lucid_tree.specs.Tree.{Head, upon}
-use Rattle.lucid_tree.specs.Levels.{Elements}
-use Rattle.lucid_tags.specs.Contexts.{Context}
-use Rattle.lucid_tags.specs.Known.{IsKnown, context_of, space_of, same_tag}
+use Rattle.lucid_facts.proofs.Common.{◌≡◌, ℕ, zero, suc, ◌<◌, cond, List, [], ◌∷◌, Option, Some, ◌⊎◌, inl, inr, refl, sym, ap, ◌∙◌, subst, true≢false, arith, IsTrue, Decides, Decides-eqb, Decides-and, Head, upon, Elements, Context, IsKnown, space_of, Tag, Cursor, Noted, number_at, NotesOrMisses, PlainNode, PlainNodes, row, node_at, node_by, parts, equations_of, IsInRange, Node, Table, row-node, PlainTask, PlainRow, node_of, part_number, IsTask, Holding, NeedsHeld, NotedRight, Counted, is_search, cursor_noted, key_noted, Demand, table_of, RowFacts, SearchFacts, StockFacts, IsDemand}
+use Rattle.std.proofs.Common.{Bool, true, false, length}
+use Rattle.std.specs.Prelude.{◌==◌, ◌&&◌, slice_get, option_map, option_and_then}
+use Rattle.lucid_tags.specs.Known.{context_of, same_tag}
 use Rattle.lucid_tags.specs.EqualityDecides.{same_tag_is_equality}
-use Rattle.lucid_tags.specs.declared.Tag.{Tag}
-use Rattle.lucid_tasks.specs.declared.Cursor.{Cursor}
-use Rattle.lucid_search.specs.Noted.{Noted, number_at, same_site, NotesOrMisses, Notes, Misses}
-use Rattle.lucid_equations.specs.Nodes.{PlainNode, PlainNodes, row}
-use Rattle.lucid_equations.specs.Rows.{node_at, node_by, parts, equations_of}
-use Rattle.lucid_equations.specs.Ranges.{IsInRange}
-use Rattle.lucid_equations.specs.declared.rows.Node.{Node}
+use Rattle.lucid_search.specs.Noted.{same_site, Notes, Misses}
 use Rattle.lucid_equations.specs.declared.rows.Node.TheVariants.{Whenever, Asa, Upon}
 use Rattle.lucid_equations.specs.declared.rows.NodeRow.{NodeRow}
-use Rattle.lucid_equations.specs.declared.table.Table.{Table}
-use Rattle.lucid_equations.proofs.PartsRead.{row-node}
-use Rattle.lucid_facts.specs.Tasks.{PlainTask, PlainRow}
-use Rattle.lucid_facts.specs.Parts.{node_of, part_number, IsTask}
-use Rattle.lucid_facts.specs.Stands.{Holding}
-use Rattle.lucid_facts.specs.Held.{NeedsHeld, NotedRight, Counted, is_search, cursor_noted, key_noted}
-use Rattle.lucid_facts.specs.Demands.{Demand, table_of}
-use Rattle.lucid_facts.specs.Rows.{RowFacts, SearchFacts}
-use Rattle.lucid_facts.specs.Stock.{StockFacts}
-use Rattle.lucid_facts.specs.Going.{IsDemand}
 use Rattle.lucid_facts.proofs.Idling.{one-form}
 
 -- the node is of a search's form

@@ -1,32 +1,8 @@
 -- What is true of all that is owned stays true at each change that a step makes: a value is put, values are dropped, a search's position
 -- is noted, contexts become known.
-use Rattle.std.proofs.Common.{◌≡◌, ℕ, ◌+◌, ◌≤◌, List, [], ◌∷◌, ◌++◌, Option, Some, None, ◌⊎◌, inl, inr, refl, sym, subst, arith, le_refl, true}
-use Rattle.std.specs.Prelude.{IsTrue}
-use Rattle.lucid_value.specs.Plain.{PlainValue}
-use Rattle.lucid_value.specs.View.{plain}
-use Rattle.lucid_value.specs.declared.Value.{Value}
-use Rattle.lucid_tree.specs.Members.{In}
-use Rattle.lucid_tree.specs.Tree.{Head}
-use Rattle.lucid_tree.specs.Levels.{Elements}
-use Rattle.lucid_tags.specs.Contexts.{Context}
-use Rattle.lucid_tags.specs.Known.{IsKnown, IsOneForOne, KeepsKnown, AddsAtMost, context_of, space_of}
-use Rattle.lucid_tags.specs.declared.Tag.{Tag}
-use Rattle.lucid_tags.specs.declared.Key.{Key}
-use Rattle.lucid_store.specs.Stored.{Stored}
-use Rattle.lucid_store.specs.Entries.{held, count_of, SetsOnly, fresh}
-use Rattle.lucid_search.specs.Noted.{Noted, number_at, NotesOrMisses}
-use Rattle.lucid_ports.specs.World.{World}
-use Rattle.lucid_equations.specs.Nodes.{PlainNodes, row}
-use Rattle.lucid_facts.specs.Tasks.{DatonAt, PlainRow, plain_key}
-use Rattle.lucid_facts.specs.Parts.{node_of}
-use Rattle.lucid_facts.specs.Held.{held_in, AreKeysKnown, is_search, key_noted}
-use Rattle.lucid_facts.specs.Engine.{EngineView, holding, MayHave, GoesOn, HoldsFew}
-use Rattle.lucid_facts.specs.Demands.{Demand, table_of, IsEntered}
-use Rattle.lucid_facts.specs.Rows.{MayPut, RowFacts}
-use Rattle.lucid_facts.specs.Stock.{StockFacts}
-use Rattle.lucid_equations.specs.Datons.{Daton}
-use Rattle.lucid_facts.specs.Changes.{PutsDaton}
-use Rattle.lucid_facts.specs.Going.{IsDemand, Owns, WithinRoom}
+use Rattle.lucid_facts.proofs.Common.{◌≡◌, ℕ, ◌+◌, ◌≤◌, List, [], ◌∷◌, ◌++◌, Option, Some, None, ◌⊎◌, refl, sym, subst, arith, le_refl, IsTrue, PlainValue, plain, Value, In, Head, Elements, Context, IsKnown, IsOneForOne, KeepsKnown, space_of, Tag, Key, Stored, held, count_of, SetsOnly, fresh, Noted, number_at, NotesOrMisses, World, PlainNodes, row, DatonAt, PlainRow, plain_key, node_of, held_in, AreKeysKnown, is_search, key_noted, EngineView, holding, MayHave, GoesOn, HoldsFew, Demand, table_of, IsEntered, MayPut, RowFacts, StockFacts, Daton, PutsDaton, IsDemand, Owns, WithinRoom}
+use Rattle.std.proofs.Common.{true}
+use Rattle.lucid_tags.specs.Known.{context_of}
 use Rattle.lucid_facts.proofs.HeldByKey.{held_drops, held_stays, held_as_tags_grow, put_by_key}
 use Rattle.lucid_facts.proofs.Stocking.{stock_puts, stock_drops, stock_enters}
 use Rattle.lucid_facts.proofs.Noting.{stock_notes}
@@ -141,17 +117,6 @@ module _ (d : Demand) (now : EngineView) (w : World) (owns : Owns d now w) where
 
       same : held_in known now.stored ≡ holding now
       same = λ i c s. grown.1 c s i
-
--- where a context was known, or is known now after all others, whatever is known was known or is this one
-pub added_cases : (old new : List Context) (c : Context) → AddsAtMost old new c → (x : Context) → In x new → In x old ⊎ (x ≡ c)
-added_cases old new c (inl e) x i = inl (subst (λ k. In x k) e i)
-added_cases old new c (inr e) x i = last old (subst (λ k. In x k) e i)
-  where
-    last : (k : List Context) → In x (k ++ c ∷ []) → In x k ⊎ (x ≡ c)
-    last [] (inl e) = inr e
-    last [] (inr j) = absurd j
-    last (y ∷ k) (inl e) = inl (inl e)
-    last (y ∷ k) (inr j) = elim (last k j) [ inl l ↦ inl (inr l) | inr e ↦ inr e ]
 
 -- where at most as many are held as the policy leaves, a put leaves few
 pub few_after : (room : Option ℕ) (old new : Stored) → WithinRoom room old → count_of new ≤ count_of old + 1 → HoldsFew room new

@@ -1,15 +1,5 @@
 -- A row's facts where one of its parts gets a value or is asked.
-use Rattle.std.proofs.Common.{◌≡◌, ◌⊎◌, inl, inr, ℕ, zero, suc, ◌<◌, List, [], ◌∷◌, Some, refl, sym, ap, ◌∙◌, subst}
-use Rattle.std.specs.Prelude.{slice_set}
-use Rattle.std.proofs.lemmas.List.{length-set}
-use Rattle.std.proofs.lemmas.Bool.{cases_eq}
-use Rattle.lucid_value.specs.Plain.{PlainValue}
-use Rattle.lucid_tree.specs.Levels.{Elements}
-use Rattle.lucid_facts.specs.Tasks.{PlainRow, PartState, idle, asked, got, state_at, value_in, value_of_part}
-use Rattle.lucid_facts.specs.Stands.{Holding}
-use Rattle.lucid_facts.specs.Demands.{Demand, table_of}
-use Rattle.lucid_facts.specs.Rows.{RowFacts, PartAnswers}
-use Rattle.lucid_facts.specs.Changes.{with_part}
+use Rattle.lucid_facts.proofs.Common.{◌≡◌, ◌⊎◌, inl, inr, ℕ, zero, suc, ◌<◌, List, [], ◌∷◌, Some, refl, sym, ap, ◌∙◌, subst, slice_set, cases_eq, PlainValue, Elements, PlainRow, PartState, idle, asked, got, state_at, value_in, value_of_part, Holding, Demand, table_of, RowFacts, PartAnswers, with_part, length-set}
 use Rattle.lucid_facts.proofs.Parting.{part-stays}
 
 -- what stands at each place after a write: the new state there, and the old one elsewhere

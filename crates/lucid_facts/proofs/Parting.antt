@@ -1,14 +1,6 @@
 -- A task of a row's part stays that of the part, whatever other part gets a value or is asked.
-use Rattle.std.proofs.Common.{◌≡◌, ℕ, zero, suc, List, [], ◌∷◌, Option, Some, None, refl, sym, ap, ◌∙◌, subst}
-use Rattle.std.specs.Prelude.{slice_set}
-use Rattle.lucid_value.specs.Plain.{PlainValue}
-use Rattle.lucid_tree.specs.Tree.{Head, const}
-use Rattle.lucid_tree.specs.Rows.{Look}
-use Rattle.lucid_tasks.specs.declared.Cursor.{Cursor}
-use Rattle.lucid_equations.specs.declared.table.Table.{Table}
-use Rattle.lucid_facts.specs.Tasks.{PlainTask, PlainRow, PartState, idle, asked, got, state_at, value_in, value_of_part}
-use Rattle.lucid_facts.specs.Parts.{look_of, look_of_row, IsPart, part_by_look, part_by_reference}
-use Rattle.lucid_facts.specs.Changes.{with_part}
+use Rattle.lucid_facts.proofs.Common.{◌≡◌, ℕ, zero, suc, List, [], ◌∷◌, Option, Some, None, refl, sym, ap, ◌∙◌, subst, slice_set, PlainValue, Head, const, Look, Cursor, Table, PlainTask, PlainRow, PartState, idle, asked, got, state_at, value_in, value_of_part, look_of_row, IsPart, part_by_look, part_by_reference, with_part}
+use Rattle.lucid_facts.specs.Parts.{look_of}
 
 -- a write at a part that has no value leaves each value where it was
 kept_at : (ps : List PartState) (i k : ℕ) (y : PartState) (v : PlainValue) → ((w : PlainValue) → state_at ps i ≡ got w → ⊥) → value_in (state_at ps k) ≡ Some v → state_at (slice_set ps i y) k ≡ state_at ps k

@@ -1,16 +1,8 @@
 -- The task after everything that only moves the point: it stands for the one before, and enters only what that one enters.
-use Rattle.std.proofs.Common.{◌≡◌, ℕ, zero, suc, ◌<◌, ◌⊎◌, inl, inr, [], ◌∷◌, Option, Some, None, refl, sym, ap, subst, ◌∙◌, arith}
-use Rattle.std.specs.List.{filter_map}
-use Rattle.lucid_tree.specs.Members.{In}
-use Rattle.lucid_tree.specs.Levels.{Elements, entered_of}
-use Rattle.lucid_tree.proofs.Members.{inside-read}
-use Rattle.lucid_tags.specs.Contexts.{Context, frames, frozen_frame, cut}
+use Rattle.lucid_facts.proofs.Common.{◌≡◌, ℕ, zero, suc, ◌<◌, ◌⊎◌, inl, inr, [], ◌∷◌, Option, Some, None, refl, sym, ap, subst, ◌∙◌, arith, filter_map, In, Elements, entered_of, inside-read, Context, frozen_frame, IsInRange, Table, PlainTask, IsTask, moved, passed, StandsFor, visits_of}
+use Rattle.lucid_tags.specs.Contexts.{frames, cut}
 use Rattle.lucid_tags.proofs.ContextLemmas.{cut-base_of, cut-above}
-use Rattle.lucid_equations.specs.Ranges.{IsInRange}
-use Rattle.lucid_equations.specs.declared.table.Table.{Table}
-use Rattle.lucid_facts.specs.Tasks.{PlainTask}
-use Rattle.lucid_facts.specs.Parts.{IsTask, moved, on_with, passed_in, passed, passed_contexts}
-use Rattle.lucid_facts.specs.Stands.{StandsFor, visits_of}
+use Rattle.lucid_facts.specs.Parts.{on_with, passed_in, passed_contexts}
 use Rattle.lucid_facts.proofs.Standing.{stands-itself, stands-then}
 use Rattle.lucid_facts.proofs.Moving.{Moves, moved-moves, moves-stand}
 

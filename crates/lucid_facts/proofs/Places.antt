@@ -1,22 +1,15 @@
 -- Streams by their numbers: their places differ, and what is read of each.
-use Rattle.std.proofs.Common.{◌≡◌, ◌≢◌, ℕ, zero, suc, Bool, true, false, cond, List, [], ◌∷◌, length, Option, Some, None, inl, inr, refl, sym, ap, ◌∙◌, subst, arith}
-use Rattle.std.specs.Prelude.{IsTrue, Decides, MatchOption, slice_get}
-use Rattle.std.proofs.lemmas.Bool.Decides.{Decides-eqb}
-use Rattle.std.proofs.lemmas.Bool.{cases_eq}
-use Rattle.std.proofs.lemmas.Slice.Eq.{slice_eq-Decides}
-use Rattle.std.proofs.lemmas.Option.{same_Some, none-some}
+use Rattle.lucid_facts.proofs.Common.{◌≡◌, ℕ, zero, suc, cond, List, [], ◌∷◌, Option, Some, None, inl, inr, refl, sym, ap, ◌∙◌, subst, arith, IsTrue, Decides, Decides-eqb, cases_eq, same_Some, none-some, PlainValue, In, AllDiffer, World, Contents, Stream, all_bytes, ReadsOn, Extends, elements_read, EngineView, MayHave, AreAskable, places_of, MatchOption, slice_eq-Decides}
+use Rattle.std.proofs.Common.{◌≢◌, Bool, true, false, length}
+use Rattle.std.specs.Prelude.{slice_get}
 use Rattle.lucid_lemmas.proofs.Lists.{slice_get-append_left}
-use Rattle.lucid_value.specs.Plain.{PlainValue, eod}
+use Rattle.lucid_value.specs.Plain.{eod}
 use Rattle.lucid_value.specs.Elements.{element}
-use Rattle.lucid_tree.specs.Members.{In, AllDiffer}
 use Rattle.lucid_tree.specs.Env.{same_name}
-use Rattle.lucid_ports.specs.World.{World, Contents}
-use Rattle.lucid_inputs.specs.Streams.{Stream, Fits, all_bytes}
-use Rattle.lucid_inputs.specs.Reading.{GivesElement, ReadsOn}
+use Rattle.lucid_inputs.specs.Streams.{Fits}
+use Rattle.lucid_inputs.specs.Reading.{GivesElement}
 use Rattle.lucid_inputs.proofs.StreamLemmas.{elements_fit}
-use Rattle.lucid_equations.specs.MoreElements.{Extends}
-use Rattle.lucid_facts.specs.Elements.{or_end, read_in, elements_read, told_in, elements_told}
-use Rattle.lucid_facts.specs.Engine.{EngineView, MayHave, AreAskable, places_of}
+use Rattle.lucid_facts.specs.Elements.{or_end, read_in, told_in, elements_told}
 
 -- the test of names decides
 pub same_name_decides : (m n : List ℕ) → Decides (same_name m n) (m ≡ n)

@@ -1,17 +1,5 @@
 -- What may be put: the value of a task that stands for the body of a daton.
-use Rattle.std.proofs.Common.{◌≡◌, ℕ, [], sym, ap, ◌∙◌, subst}
-use Rattle.lucid_value.specs.Plain.{PlainValue}
-use Rattle.lucid_tree.specs.Levels.{Elements, goes_to}
-use Rattle.lucid_equations.specs.Datons.{NodePosition, daton_aim}
-use Rattle.lucid_equations.specs.Values.{NodeMeans}
-use Rattle.lucid_equations.specs.Rows.{equations_of}
-use Rattle.lucid_equations.specs.declared.table.Table.{Table}
-use Rattle.lucid_facts.specs.Tasks.{PlainTask, DatonAt}
-use Rattle.lucid_facts.specs.Parts.{node_of}
-use Rattle.lucid_facts.specs.Stands.{Holding}
-use Rattle.lucid_facts.specs.Held.{NeedsHeld}
-use Rattle.lucid_facts.specs.Demands.{Demand, table_of, IsVisited, Answers}
-use Rattle.lucid_facts.specs.Rows.{Remembers, MayPut}
+use Rattle.lucid_facts.proofs.Common.{◌≡◌, ℕ, [], sym, ap, ◌∙◌, subst, PlainValue, Elements, goes_to, NodePosition, daton_aim, NodeMeans, equations_of, Table, PlainTask, DatonAt, node_of, Holding, NeedsHeld, Demand, table_of, IsVisited, Answers, Remembers, MayPut}
 use Rattle.lucid_facts.proofs.Standing.{standing-answers}
 use Rattle.lucid_facts.proofs.Answering.{position_of, time_of}
 

@@ -1,27 +1,15 @@
 -- A stream is read on, for an element that the root looks up.
-use Rattle.std.proofs.Common.{◌≡◌, ◌≢◌, ℕ, suc, ◌<◌, ◌≤◌, max, List, [], ◌∷◌, length, Option, Some, None, ◌⊎◌, inl, inr, refl, sym, ap, ◌∙◌, subst, arith, le_refl}
-use Rattle.std.specs.Prelude.{IfSome, slice_get, option_map, unwrap_or}
-use Rattle.std.proofs.lemmas.Bool.{cases_eq, cases_lt}
-use Rattle.std.proofs.lemmas.Option.{slice_get-get_or, slice_get_past, slice_get_within, unwrap_or-slice_get, same_Some}
+use Rattle.lucid_facts.proofs.Common.{◌≡◌, ℕ, suc, ◌<◌, ◌≤◌, max, List, [], ◌∷◌, Option, Some, None, ◌⊎◌, inl, inr, refl, sym, ap, ◌∙◌, subst, arith, le_refl, IfSome, cases_eq, cases_lt, same_Some, In, AllDiffer, Elements, World, Contents, Stream, all_bytes, IsOneForOne, KeepsKnown, ReadsOn, equations_of, Extends, elements_read, EngineView, known_elements, holding, MayHave, ForSomeAdded, DrawsWithin, AreAskable, places_of, GoesOn, ReadsOnly, HoldsFew, Demand, table_of, demand_of, StockFacts, Owns, held_in, AreKeysKnown, unwrap_or, slice_get-get_or, slice_get_past, slice_get_within, unwrap_or-slice_get}
+use Rattle.std.proofs.Common.{◌≢◌, length}
+use Rattle.std.specs.Prelude.{slice_get, option_map}
 use Rattle.lucid_value.specs.Lines.{end_of_line}
-use Rattle.lucid_tree.specs.Members.{In, AllDiffer}
-use Rattle.lucid_tree.specs.Levels.{Elements}
-use Rattle.lucid_ports.specs.World.{World, Contents}
 use Rattle.lucid_inputs.specs.declared.on_demand.Inputs.{Inputs}
-use Rattle.lucid_inputs.specs.Streams.{Stream, FitsPlace, all_bytes, fresh_stream}
-use Rattle.lucid_tags.specs.Known.{IsOneForOne, KeepsKnown}
+use Rattle.lucid_inputs.specs.Streams.{FitsPlace, fresh_stream}
 use Rattle.lucid_inputs.specs.Laws.{KeepsWithin, PlacesDiffer}
-use Rattle.lucid_inputs.specs.Reading.{ReadsOn}
 use Rattle.lucid_inputs.specs.Inputs.{ReadsStream, streams, stream_at, most_bytes}
-use Rattle.lucid_equations.specs.Rows.{equations_of}
 use Rattle.lucid_equations.specs.Visits.{consults_on_nodes}
-use Rattle.lucid_equations.specs.MoreElements.{Extends}
-use Rattle.lucid_facts.specs.Elements.{elements_read}
-use Rattle.lucid_facts.specs.Engine.{EngineView, known_elements, holding, MayHave, ForSomeAdded, DrawsWithin, AreAskable, places_of, GoesOn, ReadsOnly, HoldsFew}
-use Rattle.lucid_facts.specs.Demands.{Demand, table_of, demand_of, IsConsulted}
-use Rattle.lucid_facts.specs.Stock.{Stock, StockFacts}
-use Rattle.lucid_facts.specs.Going.{Owns}
-use Rattle.lucid_facts.specs.Held.{held_in, AreKeysKnown}
+use Rattle.lucid_facts.specs.Demands.{IsConsulted}
+use Rattle.lucid_facts.specs.Stock.{Stock}
 use Rattle.lucid_facts.proofs.Places.{place_in, places_all_differ, places_apart, reading_extends}
 use Rattle.lucid_facts.proofs.History.{goes_on_then, reads_only_then}
 

@@ -1,22 +1,10 @@
 -- What a reference goes on with stands for it where its daton isn't held; what a reference, a call and an input visit.
-use Rattle.std.proofs.Common.{◌≡◌, ℕ, zero, suc, ◌+◌, ◌*◌, ◌<◌, ◌⊎◌, inl, inr, List, [], ◌∷◌, Option, Some, None, refl, sym, ap, ◌∙◌, subst, arith, length}
-use Rattle.std.specs.List.{filter_map}
-use Rattle.lucid_value.specs.Plain.{PlainValue}
-use Rattle.lucid_tree.specs.Members.{In, Inside}
-use Rattle.lucid_tree.specs.Levels.{Elements, goes_to, or_else, looked_up, referred, look_up_of, reference_of, entered_of}
+use Rattle.lucid_facts.proofs.Common.{◌≡◌, ℕ, zero, suc, ◌+◌, ◌*◌, ◌<◌, ◌⊎◌, inl, inr, List, [], ◌∷◌, Option, Some, None, refl, sym, ap, ◌∙◌, subst, arith, filter_map, PlainValue, In, Inside, Elements, goes_to, referred, reference_of, entered_of, invoke, NodePosition, node_aim, node_hval, node_visits, IsNeeded, equations_of, Table, PlainTask, DatonAt, node_of, RefersTo, GoesTo, MayRead, Holding, StandsFor, Lacks, given, hval_of, visits_of, task_visits, TaskNeeds}
+use Rattle.std.proofs.Common.{length}
+use Rattle.lucid_tree.specs.Levels.{or_else, looked_up, look_up_of}
 use Rattle.lucid_tree.proofs.Members.{in_read}
-use Rattle.lucid_equations.specs.Nodes.{invoke}
-use Rattle.lucid_equations.specs.Datons.{NodePosition, node_aim}
-use Rattle.lucid_equations.specs.Values.{node_hval}
-use Rattle.lucid_equations.specs.Visits.{node_visits, IsNeeded}
-use Rattle.lucid_equations.specs.Rows.{equations_of}
-use Rattle.lucid_equations.specs.declared.table.Table.{Table}
 use Rattle.lucid_equations.proofs.Needs as law
 use Rattle.lucid_equations.proofs.CallsEnter.{calls-enter}
-use Rattle.lucid_facts.specs.Tasks.{PlainTask, DatonAt}
-use Rattle.lucid_facts.specs.Parts.{node_of, RefersTo, GoesTo}
-use Rattle.lucid_facts.specs.Decisions.{MayRead}
-use Rattle.lucid_facts.specs.Stands.{Holding, StandsFor, Lacks, given, hval_of, visits_of, task_visits, TaskNeeds}
 
 held-not : (o r : Option PlainValue) → o ≡ None → or_else o r ≡ r
 held-not None r e = refl

@@ -1,32 +1,10 @@
 -- A search's facts where it goes on, and where it begins at a noted position.
-use Rattle.std.proofs.Common.{◌≡◌, ℕ, zero, suc, ◌<◌, ◌≤◌, max, ◌⊎◌, inl, inr, List, Option, Some, refl, sym, ap, ◌∙◌, subst, arith}
-use Rattle.std.specs.Prelude.{Bool, true, false, IsTrue, option_map}
-use Rattle.std.proofs.lemmas.Bool.{cases_lt}
-use Rattle.lucid_value.specs.Plain.{PlainValue, truth}
-use Rattle.lucid_tree.specs.Tree.{Head, whenever}
-use Rattle.lucid_tree.specs.Levels.{Elements, nothing_held}
-use Rattle.lucid_tree.specs.Rests.{CanStandAt, count_on, count_below}
-use Rattle.lucid_tree.specs.Rows.{Look}
-use Rattle.lucid_tree.proofs.SearchesLead.{counted_on, count-keeps}
-use Rattle.lucid_tags.specs.Contexts.{Context}
-use Rattle.lucid_tags.specs.Known.{context_of, space_of}
-use Rattle.lucid_tags.specs.declared.Tag.{Tag}
-use Rattle.lucid_search.specs.Noted.{Noted, number_at}
-use Rattle.lucid_tasks.specs.declared.Cursor.{Cursor}
-use Rattle.lucid_equations.specs.Nodes.{PlainNode, row, PlainNodes, Equations}
-use Rattle.lucid_equations.specs.Values.{node_val}
-use Rattle.lucid_equations.specs.Rows.{equations_of, node_at}
-use Rattle.lucid_equations.specs.declared.table.Table.{Table}
+use Rattle.lucid_facts.proofs.Common.{◌≡◌, ℕ, zero, suc, ◌<◌, ◌≤◌, max, ◌⊎◌, inl, inr, List, Option, Some, refl, sym, ap, ◌∙◌, subst, arith, IsTrue, cases_lt, PlainValue, truth, Head, whenever, Elements, nothing_held, CanStandAt, Look, count-keeps, Context, space_of, Tag, Noted, number_at, Cursor, PlainNode, row, PlainNodes, Equations, node_val, equations_of, node_at, Table, PlainTask, PlainRow, all_idle, state_at, value_in, node_of, part_number, look_of_row, look_task, IsPart, part_by_look, part_by_reference, Holding, is_search, cursor_noted, Counted, NeedsHeld, NotedRight, Demand, table_of, Answers, RowFacts, PartAnswers, SearchFacts, StockFacts, MayMove, looked_on, at_cursor}
+use Rattle.std.specs.Prelude.{Bool, true, false, option_map}
+use Rattle.lucid_tree.specs.Rests.{count_on, count_below}
+use Rattle.lucid_tree.proofs.SearchesLead.{counted_on}
+use Rattle.lucid_tags.specs.Known.{context_of}
 use Rattle.lucid_equations.proofs.NodeGrowth.{node_hval-up}
-use Rattle.lucid_facts.specs.Tasks.{PlainTask, PlainRow, all_idle, state_at, value_in}
-use Rattle.lucid_facts.specs.Parts.{node_of, part_number, look_of_row, look_task, IsPart, part_by_look, part_by_reference}
-use Rattle.lucid_facts.specs.Stands.{Holding}
-use Rattle.lucid_facts.specs.Held.{is_search, cursor_noted, Counted, NeedsHeld, NotedRight}
-use Rattle.lucid_facts.specs.Demands.{Demand, table_of, Answers}
-use Rattle.lucid_facts.specs.Rows.{RowFacts, PartAnswers, SearchFacts}
-use Rattle.lucid_facts.specs.Stock.{StockFacts}
-use Rattle.lucid_facts.specs.Decisions.{MayMove, looked_on}
-use Rattle.lucid_facts.specs.Changes.{at_cursor}
 use Rattle.lucid_facts.proofs.Idling.{one-form}
 
 -- True values counted below a time are no more than the time.

@@ -1,16 +1,9 @@
 -- What is said of rows that have tags, said of the plain rows.
-use Rattle.std.proofs.Common.{◌≡◌, ℕ, zero, suc, List, [], ◌∷◌, Option, Some, None, ◌&&◌, refl, sym, ap, ◌∙◌}
-use Rattle.std.specs.Prelude.{IfSome, map, option_map, option_and_then, slice_index_or}
-use Rattle.std.specs.List.{list_all}
-use Rattle.lucid_value.specs.View.{plain}
-use Rattle.lucid_tags.specs.Contexts.{Context}
-use Rattle.lucid_tags.specs.Known.{IsKnown, KeepsKnown}
-use Rattle.lucid_tags.specs.declared.Key.{Key}
-use Rattle.lucid_tasks.specs.declared.Part.{Part}
-use Rattle.lucid_tasks.specs.declared.Task.{Task}
+use Rattle.lucid_facts.proofs.Common.{◌≡◌, ℕ, zero, suc, List, [], ◌∷◌, Option, Some, None, refl, sym, ap, ◌∙◌, IfSome, map, slice_index_or, list_all, plain, Context, IsKnown, KeepsKnown, Key, Part, Task, TaskRow, Idle, Asked, Got, PlainRow, idle, is_free, state_at, value_in, value_of_part, waits_for_none, plain_task, plain_key, plain_state, plain_row, plain_rows, AreTagsKnown}
+use Rattle.std.proofs.Common.{◌&&◌}
+use Rattle.std.specs.Prelude.{option_map, option_and_then}
 use Rattle.lucid_tasks.specs.Rows as rows
-use Rattle.lucid_tasks.specs.Rows.{TaskRow, Idle, Asked, Got, row_at}
-use Rattle.lucid_facts.specs.Tasks.{PlainRow, idle, is_free, state_at, value_in, value_of_part, waits_for_none, plain_task, plain_key, plain_state, plain_row, plain_rows, AreTagsKnown}
+use Rattle.lucid_tasks.specs.Rows.{row_at}
 
 -- ---- as more contexts become known
 

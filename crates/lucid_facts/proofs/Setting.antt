@@ -1,18 +1,6 @@
 -- The facts of all rows where a part of one row is set: it gets a value, or a task is asked for it.
-use Rattle.std.proofs.Common.{◌≡◌, ◌⊎◌, inl, inr, ℕ, zero, suc, ◌<◌, List, [], ◌∷◌, Option, Some, None, refl, sym, ap, ◌∙◌, subst, arith}
-use Rattle.std.specs.Prelude.{IsSome, length, slice_set}
-use Rattle.std.proofs.lemmas.Bool.{cases_eq}
-use Rattle.lucid_value.specs.Plain.{PlainValue}
-use Rattle.lucid_tree.specs.Levels.{Elements}
-use Rattle.lucid_tasks.specs.declared.Part.{Part}
-use Rattle.lucid_equations.specs.MoreElements.{Extends}
-use Rattle.lucid_facts.specs.Tasks.{PlainTask, PlainRow, PlainRows, DatonAt, PartState, idle, asked, got, state_at, new_row}
-use Rattle.lucid_facts.specs.Parts.{IsPart}
-use Rattle.lucid_facts.specs.Stands.{Holding}
-use Rattle.lucid_facts.specs.Demands.{Demand, table_of}
-use Rattle.lucid_facts.specs.Rows.{RowFacts, PartAnswers, Serves, Links, Work}
-use Rattle.lucid_facts.specs.Changes.{with_part, SetsRow, ChangesRow, AsksRow}
-use Rattle.lucid_facts.specs.Decisions.{AsksFor}
+use Rattle.lucid_facts.proofs.Common.{◌≡◌, ◌⊎◌, inl, inr, ℕ, zero, suc, ◌<◌, List, [], ◌∷◌, Option, Some, None, refl, sym, ap, ◌∙◌, subst, arith, IsSome, slice_set, cases_eq, PlainValue, Elements, Part, Extends, PlainTask, PlainRow, PlainRows, DatonAt, PartState, idle, asked, got, state_at, new_row, IsPart, Holding, Demand, table_of, RowFacts, PartAnswers, Serves, Links, Work, with_part, SetsRow, ChangesRow, AsksRow, AsksFor}
+use Rattle.std.specs.Prelude.{length}
 use Rattle.lucid_facts.proofs.Slots.{at_it, at_another}
 use Rattle.lucid_facts.proofs.Steps.{with_row, changes_is_set, asks_in_two}
 use Rattle.lucid_facts.proofs.Parting.{part-stays}

@@ -1,16 +1,7 @@
 -- A ready row settles: its value is that of a part of another row, or answers the root.
-use Rattle.std.proofs.Common.{◌≡◌, inl, inr, ℕ, zero, suc, ◌<◌, List, [], ◌∷◌, length, Option, Some, None, refl, sym, ap, ◌∙◌, arith}
-use Rattle.std.specs.Prelude.{IsTrue, IsSome, true}
-use Rattle.lucid_value.specs.Plain.{PlainValue}
-use Rattle.lucid_tree.specs.Levels.{Elements}
-use Rattle.lucid_tree.specs.Members.{In}
-use Rattle.lucid_tasks.specs.declared.Part.{Part}
-use Rattle.lucid_equations.specs.MoreElements.{Extends}
-use Rattle.lucid_facts.specs.Tasks.{PlainRow, PlainRows, DatonAt, PartState, asked, got, state_at, key_list, waits_for_none}
-use Rattle.lucid_facts.specs.Stands.{Holding}
-use Rattle.lucid_facts.specs.Demands.{Demand, Answers}
-use Rattle.lucid_facts.specs.Rows.{RowFacts, Serves, Work}
-use Rattle.lucid_facts.specs.Changes.{with_part, SettlesRow}
+use Rattle.lucid_facts.proofs.Common.{◌≡◌, inl, inr, ℕ, zero, suc, ◌<◌, List, [], ◌∷◌, Option, Some, None, refl, sym, ap, ◌∙◌, arith, IsTrue, IsSome, PlainValue, Elements, In, Part, Extends, PlainRow, PlainRows, DatonAt, PartState, asked, got, state_at, key_list, waits_for_none, Holding, Demand, Answers, RowFacts, Serves, Work, with_part, SettlesRow}
+use Rattle.std.proofs.Common.{length}
+use Rattle.std.specs.Prelude.{true}
 use Rattle.lucid_facts.proofs.Slots.{at_it, at_another}
 use Rattle.lucid_facts.proofs.Steps.{with_row, settles_in_two}
 use Rattle.lucid_facts.proofs.Standing.{standing-answers}

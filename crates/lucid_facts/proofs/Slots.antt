@@ -1,8 +1,7 @@
 -- A choice by whether two slots are the same.
-use Rattle.std.proofs.Common.{◌≡◌, ◌⊎◌, inl, inr, ℕ, ◌==◌, true, false, sym, ap, ◌∙◌, arith}
+use Rattle.lucid_facts.proofs.Common.{◌≡◌, ◌⊎◌, inl, inr, ℕ, sym, ap, ◌∙◌, arith, nat_tests, cases_eq}
+use Rattle.std.proofs.Common.{◌==◌, true, false}
 use Rattle.std.specs.Prelude.{if◌then◌else◌}
-use Rattle.std.proofs.lemmas.Bool.Decides.{nat_tests}
-use Rattle.std.proofs.lemmas.Bool.{cases_eq}
 
 eq_true : (q s : ℕ) → q ≡ s → (q == s) ≡ true
 eq_true q s e = grind (arith, nat_tests, e)

@@ -1,14 +1,6 @@
 -- Tasks that stand for others, and what they carry over.
-use Rattle.std.proofs.Common.{◌≡◌, ℕ, zero, suc, ◌⊎◌, inl, inr, List, [], ◌++◌, None, refl, sym, ap, ◌∙◌, subst, arith}
-use Rattle.std.specs.Prelude.{IsTrue, IsSome}
-use Rattle.lucid_value.specs.Plain.{PlainValue}
-use Rattle.lucid_tree.specs.Members.{In}
-use Rattle.lucid_tree.specs.Levels.{Elements}
+use Rattle.lucid_facts.proofs.Common.{◌≡◌, ℕ, zero, suc, ◌⊎◌, inl, inr, List, [], ◌++◌, None, refl, sym, ap, ◌∙◌, subst, arith, IsTrue, IsSome, PlainValue, In, Elements, Table, PlainTask, DatonAt, Holding, higher, Lacks, StandsFor, val_of, hval_of, visits_of, TaskMeans, IsDefined, TaskNeeds, Demand, table_of, IsSeen, Answers}
 use Rattle.lucid_tree.proofs.Members.{in_left, in_right}
-use Rattle.lucid_equations.specs.declared.table.Table.{Table}
-use Rattle.lucid_facts.specs.Tasks.{PlainTask, DatonAt}
-use Rattle.lucid_facts.specs.Stands.{Holding, higher, Lacks, StandsFor, val_of, hval_of, visits_of, TaskMeans, IsDefined, TaskNeeds}
-use Rattle.lucid_facts.specs.Demands.{Demand, table_of, IsSeen, Answers}
 
 -- A task stands for itself, by no reference.
 pub stands-itself : (T : Table) (x : PlainTask) → StandsFor T [] x x

@@ -1,11 +1,7 @@
 -- A change of two slots is two changes of one slot each.
-use Rattle.std.proofs.Common.{◌≡◌, ◌⊎◌, inl, inr, ℕ, ◌==◌, Option, Some, None, sym, ap, ◌∙◌}
+use Rattle.lucid_facts.proofs.Common.{◌≡◌, ◌⊎◌, inl, inr, ℕ, Option, Some, None, sym, ap, ◌∙◌, cases_eq, PlainValue, Part, PlainTask, PlainRow, PlainRows, DatonAt, asked, got, new_row, with_part, given_to, SetsRow, ChangesRow, AsksRow, SettlesRow}
+use Rattle.std.proofs.Common.{◌==◌}
 use Rattle.std.specs.Prelude.{if◌then◌else◌, option_map}
-use Rattle.std.proofs.lemmas.Bool.{cases_eq}
-use Rattle.lucid_value.specs.Plain.{PlainValue}
-use Rattle.lucid_tasks.specs.declared.Part.{Part}
-use Rattle.lucid_facts.specs.Tasks.{PlainTask, PlainRow, PlainRows, DatonAt, asked, got, new_row}
-use Rattle.lucid_facts.specs.Changes.{with_part, given_to, SetsRow, ChangesRow, AsksRow, SettlesRow}
 use Rattle.lucid_facts.proofs.Slots.{at_it, at_another, same_choice}
 
 -- the rows with this one, or none, in a slot

@@ -1,28 +1,8 @@
 -- What is held and noted, where a value is put or dropped, and where a context becomes known.
-use Rattle.std.proofs.Common.{◌≡◌, ℕ, true, false, cond, List, Option, Some, None, ◌⊎◌, inl, inr, refl, sym, ap, ◌∙◌, subst, true≢false}
-use Rattle.std.specs.Prelude.{IsTrue, IsSome, is_some, Decides, ◌==◌}
-use Rattle.std.proofs.lemmas.Bool.Decides.{Decides-eqb, Decides-and, Decides-like}
-use Rattle.lucid_value.specs.Plain.{PlainValue}
-use Rattle.lucid_tree.specs.Members.{In}
-use Rattle.lucid_tree.specs.Levels.{Elements, goes_to}
-use Rattle.lucid_tags.specs.Contexts.{Context}
-use Rattle.lucid_tags.specs.Known.{KeepsKnown, context_of, space_of}
-use Rattle.lucid_tags.specs.declared.Tag.{Tag}
-use Rattle.lucid_search.specs.Noted.{Noted, number_at}
-use Rattle.lucid_equations.specs.Nodes.{Equations}
-use Rattle.lucid_equations.specs.Datons.{Daton, NodePosition, NodeAim, daton_aim, same_daton}
-use Rattle.lucid_equations.specs.Values.{NodeMeans}
-use Rattle.lucid_equations.specs.Rows.{node_at, equations_of}
-use Rattle.lucid_equations.proofs.NodeGrowth.{node-meant_once}
-use Rattle.lucid_equations.proofs.SameDatons.{same-daton}
-use Rattle.lucid_facts.specs.Tasks.{DatonAt}
-use Rattle.lucid_facts.specs.Stands.{Holding}
-use Rattle.lucid_facts.specs.Held.{DatonMeans, NeedsHeld, IsClosed, NotedRight, Counted, cursor_noted}
-use Rattle.lucid_facts.specs.Engine.{holding}
-use Rattle.lucid_facts.specs.Demands.{Demand, table_of, stays, held_if, IsVisited, IsEntered}
-use Rattle.lucid_facts.specs.Rows.{MayPut}
-use Rattle.lucid_facts.specs.Stock.{StockFacts}
-use Rattle.lucid_facts.specs.Changes.{is_daton, PutsDaton}
+use Rattle.lucid_facts.proofs.Common.{◌≡◌, ℕ, cond, List, Option, Some, None, ◌⊎◌, inl, inr, refl, sym, ap, ◌∙◌, subst, true≢false, IsTrue, IsSome, is_some, Decides, Decides-eqb, Decides-and, Decides-like, PlainValue, In, Elements, goes_to, Context, KeepsKnown, space_of, Tag, Noted, number_at, Equations, Daton, NodePosition, NodeAim, daton_aim, same_daton, NodeMeans, node_at, equations_of, node-meant_once, same-daton, DatonAt, Holding, DatonMeans, NeedsHeld, IsClosed, NotedRight, Counted, cursor_noted, holding, Demand, table_of, stays, held_if, IsVisited, IsEntered, MayPut, StockFacts, is_daton, PutsDaton}
+use Rattle.std.proofs.Common.{true, false}
+use Rattle.std.specs.Prelude.{◌==◌}
+use Rattle.lucid_tags.specs.Known.{context_of}
 
 -- the test of the same daton at the same space decides
 pub is_daton_decides : (k q : DatonAt) → Decides (is_daton k q) (k ≡ q)

@@ -1,24 +1,7 @@
 -- What an engine owns once a value is put under a key, or is lost for want of memory.
-use Rattle.std.proofs.lemmas.Bool.{cases_lt}
-use Rattle.std.proofs.Common.{◌≡◌, ℕ, ◌+◌, ◌-◌, ◌^◌, ◌<◌, ◌≤◌, Option, Some, None, ◌⊎◌, inl, inr, refl, sym, ◌∙◌, subst, arith}
-use Rattle.std.specs.Prelude.{IsTrue, IsSome, IfSome, min}
-use Rattle.std.proofs.Math.Nat.{min-eq_left, min-eq_right}
-use Rattle.lucid_value.specs.declared.Value.{Value}
-use Rattle.lucid_value.specs.View.{plain}
-use Rattle.lucid_tree.specs.Levels.{Elements}
-use Rattle.lucid_tags.specs.Known.{IsKnown}
-use Rattle.lucid_tags.specs.declared.Key.{Key}
-use Rattle.lucid_store.specs.Stored.{Stored}
-use Rattle.lucid_store.specs.Entries.{SetsOnly, count_of, fresh, one_more_lost}
-use Rattle.lucid_ports.specs.World.{World}
-use Rattle.lucid_facts.specs.Tasks.{DatonAt, plain_key}
-use Rattle.lucid_facts.specs.Engine.{EngineView, known_elements, holding, MayHave, GoesOn}
-use Rattle.lucid_facts.specs.Held.{AreKeysKnown}
-use Rattle.lucid_facts.specs.Demands.{Demand}
-use Rattle.lucid_facts.specs.Rows.{MayPut}
-use Rattle.lucid_facts.specs.Stock.{StockFacts}
-use Rattle.lucid_facts.specs.Going.{Owns, WithinRoom}
-use Rattle.lucid_facts.specs.Changes.{PutsDaton, PutsOrLoses, puts, loses}
+use Rattle.lucid_facts.proofs.Common.{cases_lt, ◌≡◌, ℕ, ◌+◌, ◌-◌, ◌^◌, ◌<◌, ◌≤◌, Option, Some, None, ◌⊎◌, inl, inr, refl, sym, ◌∙◌, subst, arith, IsTrue, IsSome, IfSome, Value, plain, Elements, IsKnown, Key, Stored, SetsOnly, count_of, fresh, World, DatonAt, plain_key, EngineView, known_elements, holding, MayHave, GoesOn, AreKeysKnown, Demand, MayPut, StockFacts, Owns, WithinRoom, PutsDaton, min, min-eq_left, min-eq_right}
+use Rattle.lucid_store.specs.Entries.{one_more_lost}
+use Rattle.lucid_facts.specs.Changes.{PutsOrLoses, puts, loses}
 use Rattle.lucid_facts.proofs.HeldByKey.{put_by_key}
 use Rattle.lucid_facts.proofs.Stocking.{stock_puts, stock_drops}
 

@@ -1,14 +1,9 @@
 -- A search goes on: the values of its parts are taken, and its cursor is set.
-use Rattle.std.proofs.Common.{◌≡◌, ◌⊎◌, inl, inr, ℕ, ◌==◌, List, [], ◌∷◌, Option, Some, None, Bool, true, false, ◌&&◌, refl, sym, ap, ◌∙◌, arith}
-use Rattle.std.specs.Prelude.{if◌then◌else◌, length, map, option_map, slice_set, slice_index_or}
-use Rattle.std.specs.List.{list_all}
-use Rattle.std.proofs.lemmas.Bool.{cases_eq}
-use Rattle.lucid_tags.specs.Contexts.{Context}
-use Rattle.lucid_tasks.specs.declared.Cursor.{Cursor}
+use Rattle.lucid_facts.proofs.Common.{◌≡◌, ◌⊎◌, inl, inr, ℕ, List, [], ◌∷◌, Option, Some, None, refl, sym, ap, ◌∙◌, arith, map, slice_set, slice_index_or, list_all, cases_eq, Context, Cursor, TaskRow, Idle, Asked, Got, idle, is_free, state_at, all_idle, waits_for_none, plain_state, plain_row, plain_rows, at_cursor, SetsRow}
+use Rattle.std.proofs.Common.{◌==◌, Bool, true, false, ◌&&◌}
+use Rattle.std.specs.Prelude.{if◌then◌else◌, length, option_map}
 use Rattle.lucid_tasks.specs.Rows as rows
-use Rattle.lucid_tasks.specs.Rows.{TaskRow, Idle, Asked, Got, row_at, emptied}
-use Rattle.lucid_facts.specs.Tasks.{idle, is_free, state_at, all_idle, waits_for_none, plain_state, plain_row, plain_rows}
-use Rattle.lucid_facts.specs.Changes.{at_cursor, SetsRow}
+use Rattle.lucid_tasks.specs.Rows.{row_at, emptied}
 use Rattle.lucid_facts.proofs.Slots.{at_it, at_another}
 use Rattle.lucid_facts.proofs.Changing.{sets_row}
 

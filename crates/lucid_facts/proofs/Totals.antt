@@ -1,14 +1,7 @@
 -- What all rows below a slot can still cost, at each change of the rows.
-use Rattle.std.proofs.Common.{◌≡◌, ℕ, zero, suc, ◌+◌, ◌<◌, ◌≤◌, ◌⊎◌, inl, inr, Option, Some, None, refl, sym, ap, ◌∙◌, arith}
+use Rattle.lucid_facts.proofs.Common.{◌≡◌, ℕ, zero, suc, ◌+◌, ◌<◌, ◌≤◌, ◌⊎◌, inl, inr, Option, Some, None, refl, sym, ap, ◌∙◌, arith, cases_eq, PlainValue, Part, Table, PlainTask, PlainRow, PlainRows, DatonAt, idle, asked, got, state_at, new_row, rank, with_part, SetsRow, AsksRow, SettlesRow, weight, total}
 use Rattle.std.specs.Prelude.{length, ◌≢◌}
-use Rattle.std.proofs.lemmas.Bool.{cases_eq}
-use Rattle.lucid_value.specs.Plain.{PlainValue}
-use Rattle.lucid_tasks.specs.declared.Part.{Part}
-use Rattle.lucid_equations.specs.declared.table.Table.{Table}
-use Rattle.lucid_facts.specs.Tasks.{PlainTask, PlainRow, PlainRows, DatonAt, idle, asked, got, state_at, new_row}
-use Rattle.lucid_facts.specs.Parts.{rank}
-use Rattle.lucid_facts.specs.Changes.{with_part, SetsRow, AsksRow, SettlesRow}
-use Rattle.lucid_facts.specs.Measure.{weight, weight_at, total}
+use Rattle.lucid_facts.specs.Measure.{weight_at}
 use Rattle.lucid_facts.proofs.Slots.{at_it, at_another}
 use Rattle.lucid_facts.proofs.Steps.{with_row, asks_in_two, settles_in_two}
 use Rattle.lucid_facts.proofs.Falling.{asking_falls, given_weight}

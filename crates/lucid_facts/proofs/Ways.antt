@@ -1,24 +1,14 @@
 -- What a form means and needs, by a way along its plan whose values are those that the parts mean. The limit of the plan may be
 -- below those at which the parts have their values.
-use Rattle.std.proofs.Common.{◌≡◌, ℕ, ◌≤◌, max, Option, Some, refl, subst, add-zero, arith}
-use Rattle.std.specs.Prelude.{Bool, IsTrue}
-use Rattle.lucid_value.specs.Plain.{PlainValue}
-use Rattle.lucid_tree.specs.Tree.{Head}
-use Rattle.lucid_tree.specs.Members.{In}
-use Rattle.lucid_tree.specs.Rows.{Look, Plan, gives, plan, Reader, trace}
-use Rattle.lucid_tree.specs.Rests.{Reads, ReadsAtSome, LeadsTo}
-use Rattle.lucid_tree.specs.Levels.{Elements, nothing_held, below, referred}
+use Rattle.lucid_facts.proofs.Common.{◌≡◌, ℕ, ◌≤◌, max, Option, Some, refl, subst, arith, IsTrue, PlainValue, Head, In, Look, Plan, gives, plan, Reads, ReadsAtSome, LeadsTo, Elements, nothing_held, referred, reader-up, leads-maps, leads-runs, Context, PlainNode, row, PlainNodes, part_of, Equations, Daton, node_val, NodeMeans, node_visits, IsNeeded, reads_parts, visits_parts, parts-keep, add-zero}
+use Rattle.std.specs.Prelude.{Bool}
+use Rattle.lucid_tree.specs.Rows.{Reader, trace}
+use Rattle.lucid_tree.specs.Levels.{below}
 use Rattle.lucid_tree.proofs.Plans.{Within, same_value}
-use Rattle.lucid_tree.proofs.RunsMeant.{plan-up, reader-up}
-use Rattle.lucid_tree.proofs.Ways.{leads-maps, leads-runs, leads-within, GoesFurther, one_for_all}
+use Rattle.lucid_tree.proofs.RunsMeant.{plan-up}
+use Rattle.lucid_tree.proofs.Ways.{leads-within, GoesFurther, one_for_all}
 use Rattle.lucid_tree.proofs.RestsTraced.{seen_on_the_way}
-use Rattle.lucid_tags.specs.Contexts.{Context}
-use Rattle.lucid_equations.specs.Nodes.{PlainNode, row, PlainNodes, part_of, Equations}
-use Rattle.lucid_equations.specs.Datons.{Daton}
-use Rattle.lucid_equations.specs.Values.{node_value, node_val, NodeMeans}
-use Rattle.lucid_equations.specs.Visits.{node_visits, IsNeeded}
-use Rattle.lucid_equations.specs.Parts.{reads_parts, visits_parts}
-use Rattle.lucid_equations.proofs.ByStep.{parts-keep}
+use Rattle.lucid_equations.specs.Values.{node_value}
 use Rattle.lucid_equations.proofs.NodeWalks.{needed-visited}
 use Rattle.lucid_equations.proofs.Needs.{GoneTo, gone-to}
 use Rattle.lucid_equations.proofs.FormNeeds.{part-there, seen-needed}

@@ -1,18 +1,6 @@
 -- The facts of all rows where other elements, holdings or rows are seen, and where one slot's row is set.
-use Rattle.std.proofs.Common.{◌≡◌, ◌⊎◌, inl, inr, ℕ, zero, suc, List, [], ◌∷◌, Option, Some, None, true, refl, sym, ap, ◌∙◌, subst, arith}
-use Rattle.std.specs.Prelude.{IsTrue, IsSome}
-use Rattle.std.specs.List.{list_all}
-use Rattle.std.proofs.lemmas.Bool.{cases_eq}
-use Rattle.lucid_value.specs.Plain.{PlainValue}
-use Rattle.lucid_tree.specs.Levels.{Elements}
-use Rattle.lucid_tasks.specs.declared.Part.{Part}
-use Rattle.lucid_tasks.specs.declared.Cursor.{Cursor}
-use Rattle.lucid_equations.specs.MoreElements.{Extends}
-use Rattle.lucid_facts.specs.Tasks.{PlainTask, PlainRow, PlainRows, PartState, DatonAt, idle, asked, got, is_free, state_at, waits_for_none}
-use Rattle.lucid_facts.specs.Stands.{Holding}
-use Rattle.lucid_facts.specs.Demands.{Demand, Answers}
-use Rattle.lucid_facts.specs.Rows.{RowFacts, PartAnswers, Serves, Links, Work}
-use Rattle.lucid_facts.specs.Changes.{at_cursor, SetsRow}
+use Rattle.lucid_facts.proofs.Common.{◌≡◌, ◌⊎◌, inl, inr, ℕ, zero, suc, List, [], ◌∷◌, Option, Some, None, refl, sym, ap, ◌∙◌, subst, arith, IsTrue, IsSome, list_all, cases_eq, PlainValue, Elements, Part, Cursor, Extends, PlainTask, PlainRow, PlainRows, PartState, DatonAt, idle, asked, got, is_free, state_at, waits_for_none, Holding, Demand, Answers, RowFacts, PartAnswers, Serves, Links, Work, at_cursor, SetsRow}
+use Rattle.std.proofs.Common.{true}
 use Rattle.lucid_facts.proofs.Slots.{at_it, at_another}
 
 -- ---- the same rows

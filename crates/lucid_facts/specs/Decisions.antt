@@ -9,11 +9,11 @@ use Rattle.lucid_tree.specs.Rows.{Look, Plan, gives, looks}
 use Rattle.lucid_tree.specs.Rests.{LeadsTo, rest_at, CanStandAt}
 use Rattle.lucid_tree.specs.Levels.{element_of, nowhere}
 use Rattle.lucid_equations.specs.Nodes.{row, PlainNodes, no_nodes}
-use Rattle.lucid_equations.specs.Rows.{row_at, constant_at}
+use Rattle.lucid_equations.specs.Rows.{row_at, constant_at, part_number}
 use Rattle.lucid_equations.specs.declared.rows.Node.TheVariants as node
 use Rattle.lucid_equations.specs.declared.table.Table.{Table}
 use Rattle.lucid_facts.specs.Tasks.{PlainTask, PlainRow, DatonAt, idle, state_at, value_of_part, key_list}
-use Rattle.lucid_facts.specs.Parts.{node_of, part_number, rank, moved, aim_of_task, look_of_row, RefersTo, IsReference, IsPart}
+use Rattle.lucid_facts.specs.Parts.{node_of, rank, moved, aim_of_task, look_of_row, RefersTo, IsReference, IsPart}
 use Rattle.lucid_facts.specs.Stands.{StandsFor}
 use Rattle.lucid_facts.specs.Held.{is_search}
 

@@ -17,11 +17,10 @@ use Rattle.lucid_equations.specs.Nodes.{PlainNode, row, PlainNodes, Equations}
 use Rattle.lucid_equations.specs.Datons.{Daton, NodePosition, daton_aim}
 use Rattle.lucid_equations.specs.Values.{node_val, NodeMeans}
 use Rattle.lucid_equations.specs.Visits.{IsNeeded}
-use Rattle.lucid_equations.specs.Rows.{node_at, equations_of}
+use Rattle.lucid_equations.specs.Rows.{node_at, equations_of, part_number}
 use Rattle.lucid_equations.specs.declared.table.Table.{Table}
 use Rattle.lucid_tasks.specs.declared.Cursor.{Cursor}
 use Rattle.lucid_facts.specs.Tasks.{DatonAt}
-use Rattle.lucid_facts.specs.Parts.{part_number}
 use Rattle.lucid_facts.specs.Stands.{Holding}
 
 -- the key is that of a daton at a space

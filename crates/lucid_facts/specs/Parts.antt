@@ -1,5 +1,5 @@
 -- The parts of a task: what it looks at, what a reference goes on with, and what only moves the point.
-use Rattle.std.specs.Prelude.{◌≡◌, ℕ, zero, suc, ◌+◌, ◌*◌, ◌<◌, pos, List, [], ◌∷◌, Option, Some, None, if◌then◌else◌, nat_lt, option_map, option_and_then, slice_get, length}
+use Rattle.std.specs.Prelude.{◌≡◌, ℕ, zero, suc, ◌+◌, ◌*◌, ◌<◌, pos, List, [], ◌∷◌, Option, Some, None, if◌then◌else◌, nat_lt, option_map, option_and_then, length}
 use Rattle.lucid_value.specs.Plain.{PlainValue, int}
 use Rattle.lucid_tree.specs.Tree.{Head, apply, choose, both, either, whenever, asa, upon, attime, atspace}
 use Rattle.lucid_tree.specs.Rows.{Look}
@@ -9,7 +9,7 @@ use Rattle.lucid_tasks.specs.declared.Cursor.{Cursor}
 use Rattle.lucid_equations.specs.Nodes.{PlainNode, row, freeze, reference, invoke, PlainNodes, input, refer}
 use Rattle.lucid_equations.specs.Datons.{NodePosition, NodeAim, node_aim}
 use Rattle.lucid_equations.specs.Moving.{onward}
-use Rattle.lucid_equations.specs.Rows.{node_at, row_at, parts, equations_of}
+use Rattle.lucid_equations.specs.Rows.{node_at, part_number, equations_of}
 use Rattle.lucid_equations.specs.declared.table.Table.{Table}
 use Rattle.lucid_facts.specs.Tasks.{PlainTask, PlainRow, DatonAt, value_of_part}
 
@@ -24,10 +24,6 @@ IsTask T x = x.node < length T.nodes
 -- It falls from a task to its parts, and to the body of a reference.
 abbrev pub rank : Table → PlainTask → ℕ
 rank T x = x.limit * length T.nodes + x.node
-
--- the number of a node's part
-abbrev pub part_number : Table → (node index : ℕ) → Option ℕ
-part_number T n i = option_and_then (λ x. slice_get (parts x) i) (row_at T n)
 
 -- What only moves the point goes on with one part at one point, at the same limit: a form, or a frozen time in the context that it
 -- enters. The part's node has a lower number.

@@ -9,10 +9,10 @@ use Rattle.lucid_tasks.specs.declared.Part.{Part}
 use Rattle.lucid_equations.specs.Nodes.{row, PlainNodes}
 use Rattle.lucid_equations.specs.Datons.{NodePosition, daton_aim}
 use Rattle.lucid_equations.specs.Values.{node_val}
-use Rattle.lucid_equations.specs.Rows.{equations_of, node_at}
+use Rattle.lucid_equations.specs.Rows.{equations_of, node_at, part_number}
 use Rattle.lucid_facts.specs.Tasks.{PlainTask, PlainRow, PlainRows, DatonAt, asked, state_at, value_of_part, key_list}
 use Rattle.lucid_equations.specs.MoreElements.{Extends}
-use Rattle.lucid_facts.specs.Parts.{node_of, part_number, moved, IsTask, IsPart}
+use Rattle.lucid_facts.specs.Parts.{node_of, moved, IsTask, IsPart}
 use Rattle.lucid_facts.specs.Held.{Counted, DatonMeans, NeedsHeld, is_search}
 use Rattle.lucid_facts.specs.Stands.{Holding, IsDefined, StandsFor}
 use Rattle.lucid_facts.specs.Demands.{Demand, table_of, stays, IsSeen, IsVisited, Answers}

@@ -1,16 +1,5 @@
 -- The lines of a text so far: none before the first line, and then it and those of the rows.
-use Rattle.std.proofs.Common.{◌≡◌, ◌↔◌, ℕ, Bool, true, false, cond, List, [], ◌∷◌, ◌++◌, map, refl, sym, ap, ◌∙◌, subst}
-use Rattle.std.specs.Bool.{MatchBool}
-use Rattle.std.specs.Str.{bytes_eq}
-use Rattle.std.proofs.lemmas.Bool.{false≢true}
-use Rattle.std.proofs.lemmas.Slice.Eq.{bytes_eq-Decides}
-use Rattle.lucid_texts.specs.TextLines.{text_of, CanGoOn, CannotGoOn}
-use Rattle.lucid_texts.specs.Laws.{OneValue}
-use Rattle.lucid_flat.specs.declared.read.FlatLines.{FlatLines}
-use Rattle.lucid_flat.specs.FlatText.{first_line, flat_rows, row_line}
-use Rattle.lucid_flat.specs.FlatTables.{IsTextOf, AreTableLines}
-use Rattle.lucid_flat.specs.Gathered.{table_of, part_in, rows_in, AreBegun}
-use Rattle.lucid_flat.specs.LinesRead.{lines_of_rows, lines_in, AreKept}
+use Rattle.lucid_flat.proofs.Common.{◌≡◌, ℕ, Bool, true, false, cond, List, [], ◌∷◌, ◌++◌, map, refl, sym, ap, ◌∙◌, subst, MatchBool, bytes_eq, bytes_eq-Decides, text_of, CanGoOn, CannotGoOn, OneValue, FlatLines, first_line, flat_rows, row_line, IsTextOf, AreTableLines, table_of, part_in, rows_in, AreBegun, lines_of_rows, lines_in, AreKept, ◌↔◌, false≢true}
 use Rattle.lucid_flat.proofs.OneTable.{none_is_no_text}
 use Rattle.lucid_flat.proofs.WholeLines.{begun_goes_on, whole_lines_are, lines_are_whole}
 

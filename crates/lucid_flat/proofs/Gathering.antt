@@ -1,25 +1,9 @@
 -- A row added to the list of its part stands behind all rows so far.
-use Rattle.std.proofs.Common.{◌≡◌, ℕ, ◌<◌, ◌≤◌, ◌+◌, ◌^◌, Bool, true, false, cond, List, [], ◌∷◌, ◌++◌, map, drop, length, refl, sym, ap, ◌∙◌, subst, arith, append_assoc, length-append}
-use Rattle.std.specs.Prelude.{◌==◌}
-use Rattle.std.specs.Bool.{MatchBool}
-use Rattle.std.specs.List.{AllByRecursion}
-use Rattle.std.proofs.lemmas.Bool.{ne_eqb}
-use Rattle.std.proofs.lemmas.List.{append-nil, length-map}
-use Rattle.lucid_value.specs.Plain.{PlainValue}
-use Rattle.lucid_value.specs.View.{plain}
-use Rattle.lucid_value.specs.declared.Value.{Value}
-use Rattle.lucid_equations.specs.Sound.{ScopeIs}
+use Rattle.lucid_flat.proofs.Common.{◌≡◌, ℕ, ◌<◌, ◌≤◌, ◌+◌, ◌^◌, Bool, true, false, cond, List, [], ◌∷◌, ◌++◌, map, drop, length, refl, sym, ap, ◌∙◌, subst, arith, append_assoc, length-append, ◌==◌, MatchBool, AllByRecursion, append-nil, length-map, PlainValue, plain, Value, ScopeIs, ScopeRow, NodeRow, NameRow, PlaceRow, Table, FlatRow, scope_row, input_row, constant_row, node_row, name_row, place_row, root_row, RowFits, row_part, next_part, part_behind, rows_so_far, IsBegun, CannotCome, all-append, ne_eqb}
 use Rattle.lucid_equations.specs.declared.rows.ScopeKind.TheVariants.{Root as RootScope}
-use Rattle.lucid_equations.specs.declared.rows.ScopeRow.{ScopeRow}
-use Rattle.lucid_equations.specs.declared.rows.NodeRow.{NodeRow}
-use Rattle.lucid_equations.specs.declared.rows.NameRow.{NameRow}
-use Rattle.lucid_equations.specs.declared.rows.PlaceRow.{PlaceRow}
-use Rattle.lucid_equations.specs.declared.table.Table.{Table}
-use Rattle.lucid_flat.specs.FlatText.{FlatRow, scope_row, input_row, constant_row, node_row, name_row, place_row, root_row}
-use Rattle.lucid_flat.specs.FlatTables.{RowFits, IsShort}
-use Rattle.lucid_flat.specs.Gathered.{row_part, next_part, part_behind, rows_so_far, AreEmptyBehind, IsBegun, CannotCome}
+use Rattle.lucid_flat.specs.FlatTables.{IsShort}
+use Rattle.lucid_flat.specs.Gathered.{AreEmptyBehind}
 use Rattle.lucid_flat.proofs.Rising.{full_scopes, full_constants, full_nodes, full_names, full_places}
-use Rattle.lucid_texts.proofs.WordLemmas.{all-append}
 
 map-push : {A : Type 0} (f : A → FlatRow) (xs : List A) (x : A) → map f (xs ++ x ∷ []) ≡ map f xs ++ f x ∷ []
 map-push f [] x = refl

@@ -1,3 +1,4 @@
+pub mod Common
 pub mod Chosen
 pub mod NumberLemmas
 pub mod TextMade

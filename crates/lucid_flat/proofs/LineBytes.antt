@@ -1,17 +1,6 @@
 -- The words of rows that aren't a name's or a value's: letters and digits alone.
-use Rattle.std.proofs.Common.{◌^◌, refl, arith}
-use Rattle.std.specs.List.{AllByRecursion}
-use Rattle.lucid_texts.proofs.Bytes.{IsSolid, decimals_solid}
-use Rattle.lucid_ops.specs.declared.op.Op.{Op}
-use Rattle.lucid_ops.specs.declared.op.Op.TheVariants.{Add}
-use Rattle.lucid_equations.specs.declared.rows.ScopeKind.{ScopeKind}
-use Rattle.lucid_equations.specs.declared.rows.ScopeKind.TheVariants.{Root, Called as CalledScope, Frozen as FrozenScope}
-use Rattle.lucid_equations.specs.declared.rows.Node.{Node}
-use Rattle.lucid_equations.specs.declared.rows.Node.TheVariants.{Apply}
-use Rattle.lucid_equations.specs.declared.rows.Entry.{Entry}
-use Rattle.lucid_equations.specs.declared.rows.Entry.TheVariants.{Plain}
-use Rattle.lucid_flat.specs.FlatText.{kind_word, op_word, form_word, node_numbers, node_words, entry_word}
-use Rattle.lucid_flat.specs.FlatTables.{NodeFits}
+use Rattle.lucid_flat.proofs.Common.{◌^◌, refl, arith, AllByRecursion, IsSolid, decimals_solid, Op, Add, ScopeKind, Root, Node, Apply, Entry, Plain, kind_word, op_word, form_word, node_numbers, node_words, entry_word, NodeFits}
+use Rattle.lucid_equations.specs.declared.rows.ScopeKind.TheVariants.{Called as CalledScope, Frozen as FrozenScope}
 
 op_solid : (op : Op) → IsSolid (op_word op)
 op_solid Add = refl

@@ -1,22 +1,9 @@
 -- The node of some words is the one that has them: what is read has the words that it is read from, and what has words is read from them.
-use Rattle.std.proofs.Common.{◌≡◌, ℕ, false, List, [], ◌∷◌, map, length, take, Some, ◌⊎◌, inl, inr, refl, sym, ap, ◌∙◌, subst, arith}
-use Rattle.std.specs.Prelude.{decimal, codes, ◌==◌}
-use Rattle.std.specs.List.{AllByRecursion}
-use Rattle.std.specs.Option.{option_and_then}
-use Rattle.std.specs.Str.{bytes_eq}
-use Rattle.std.proofs.lemmas.Bool.{and_parts, eqb-true}
-use Rattle.std.proofs.lemmas.Option.{option_and_then_some, same_Some}
-use Rattle.std.proofs.lemmas.Slice.Eq.{bytes_eq-Decides}
+use Rattle.lucid_flat.proofs.Common.{◌≡◌, ℕ, false, List, [], ◌∷◌, map, length, take, Some, ◌⊎◌, inl, inr, refl, sym, ap, ◌∙◌, subst, arith, decimal, codes, ◌==◌, AllByRecursion, option_and_then, bytes_eq, and_parts, eqb-true, option_and_then_some, same_Some, bytes_eq-Decides, Op, Add, Node, Apply, Three, op_word, form_word, node_numbers, node_words, Are32, NodeFits, three_of, exactly, listed, op_of, has_form, form_node}
 use Rattle.lucid_ops.specs.Codes.{operators}
-use Rattle.lucid_ops.specs.declared.op.Op.{Op}
-use Rattle.lucid_ops.specs.declared.op.Op.TheVariants.{Add}
-use Rattle.lucid_equations.specs.declared.rows.Node.{Node}
-use Rattle.lucid_equations.specs.declared.rows.Node.TheVariants.{Apply}
-use Rattle.lucid_flat.specs.declared.words.Three.{Three}
-use Rattle.lucid_flat.specs.FlatText.{op_word, form_word, forms_with, node_numbers, node_words}
-use Rattle.lucid_flat.specs.FlatTables.{Are32, HasPlaces, NodeFits}
-use Rattle.lucid_flat.specs.Words.{three_of, exactly, listed}
-use Rattle.lucid_flat.specs.Forms.{op_of, has_form, form_node, apply_node, node_of}
+use Rattle.lucid_flat.specs.FlatText.{forms_with}
+use Rattle.lucid_flat.specs.FlatTables.{HasPlaces}
+use Rattle.lucid_flat.specs.Forms.{apply_node, node_of}
 use Rattle.lucid_flat.proofs.Chosen.{by_word, found, found_among}
 use Rattle.lucid_flat.proofs.Threes.{AreWordsOf, three_read, exactly_read, as_three, HasUpToThree, three_of-words, exactly-words}
 

@@ -1,14 +1,7 @@
 -- Lemmas on the numbers of words.
-use Rattle.std.proofs.Common.{◌≡◌, ℕ, suc, get_or, ◌<◌, ◌≤◌, ◌+◌, ◌^◌, Bool, true, false, List, [], ◌∷◌, ◌++◌, Option, Some, None, map, length, refl, sym, ap, ◌∙◌, subst, arith, append_assoc, cond, length-append}
-use Rattle.std.specs.Prelude.{nat_lt, decimal}
-use Rattle.std.specs.Option.{option_map, option_and_then}
-use Rattle.std.proofs.lemmas.Bool.{ltb-true, lt-ltb, le-ltb}
-use Rattle.std.proofs.lemmas.List.{append-nil}
-use Rattle.std.proofs.lemmas.Option.{option_and_then_some, cond_some, same_Some}
-use Rattle.lucid_texts.specs.Words.{number_of, numbers_of, take_number, is_end}
+use Rattle.lucid_flat.proofs.Common.{◌≡◌, ℕ, suc, get_or, ◌<◌, ◌≤◌, ◌+◌, ◌^◌, Bool, true, false, List, [], ◌∷◌, ◌++◌, Option, Some, None, map, length, refl, sym, ap, ◌∙◌, subst, arith, append_assoc, cond, length-append, decimal, option_map, option_and_then, append-nil, option_and_then_some, cond_some, same_Some, numbers_of, take_number, is_end, Are32, few_numbers_of, nat_lt, ltb-true, lt-ltb, le-ltb}
+use Rattle.lucid_texts.specs.Words.{number_of}
 use Rattle.lucid_texts.proofs.WordLemmas.{number_of_some, number_of-decimal}
-use Rattle.lucid_flat.specs.FlatTables.{Are32}
-use Rattle.lucid_flat.specs.Words.{few_numbers_of}
 
 -- numbers in front of those that are read
 abbrev pub with_front : List ℕ → Option (List ℕ) → Option (List ℕ)

@@ -1,23 +1,7 @@
 -- A text is one table's: its lines give its rows, and these its lists.
-use Rattle.std.proofs.Common.{◌≡◌, ◌≢◌, ℕ, suc, zero, ◌<◌, List, [], ◌∷◌, ◌++◌, map, drop, Option, Some, None, refl, sym, ap, ◌∙◌, subst, arith}
-use Rattle.std.specs.List.{AllByRecursion, filter_map}
-use Rattle.std.proofs.lemmas.List.{append-nil}
-use Rattle.std.proofs.lemmas.List.Elements.{filter_map-append}
-use Rattle.std.proofs.lemmas.Option.{same_Some}
-use Rattle.lucid_value.specs.Plain.{PlainValue}
-use Rattle.lucid_equations.specs.Sound.{ScopeIs}
-use Rattle.lucid_equations.specs.declared.rows.ScopeKind.{ScopeKind}
-use Rattle.lucid_equations.specs.declared.rows.ScopeKind.TheVariants.{Root}
-use Rattle.lucid_equations.specs.declared.rows.ScopeRow.{ScopeRow}
-use Rattle.lucid_equations.specs.declared.rows.NodeRow.{NodeRow}
-use Rattle.lucid_equations.specs.declared.rows.NameRow.{NameRow}
-use Rattle.lucid_equations.specs.declared.rows.PlaceRow.{PlaceRow}
-use Rattle.lucid_equations.specs.declared.table.Table.{Table}
-use Rattle.lucid_texts.specs.TextLines.{CanGoOn}
-use Rattle.lucid_texts.specs.Laws.{OneValue}
+use Rattle.lucid_flat.proofs.Common.{◌≡◌, ◌≢◌, ℕ, suc, ◌<◌, List, [], ◌∷◌, ◌++◌, map, drop, Option, Some, None, refl, sym, ap, ◌∙◌, subst, arith, AllByRecursion, append-nil, same_Some, PlainValue, ScopeIs, ScopeKind, Root, ScopeRow, NodeRow, NameRow, PlaceRow, Table, CanGoOn, OneValue, FlatRow, scope_row, input_row, constant_row, node_row, name_row, place_row, root_row, flat_rows, flat_lines, RowFits, HasText, AreTableLines, zero, filter_map, filter_map-append}
 use Rattle.lucid_texts.proofs.TextsRead.{text_lines}
-use Rattle.lucid_flat.specs.FlatText.{FlatRow, scope_row, input_row, constant_row, node_row, name_row, place_row, root_row, flat_rows, flat_lines}
-use Rattle.lucid_flat.specs.FlatTables.{HasOneRoot, RowFits, HasText, AreTableLines}
+use Rattle.lucid_flat.specs.FlatTables.{HasOneRoot}
 use Rattle.lucid_flat.specs.Laws.{OneTable}
 use Rattle.lucid_flat.proofs.WholeLines.{table_lines, same_rows}
 

@@ -1,14 +1,5 @@
 -- The rows of a table rise by their parts, and are as many of each part as the table's list has.
-use Rattle.std.proofs.Common.{◌≡◌, ℕ, ◌<◌, ◌≤◌, ◌+◌, ◌-◌, ◌^◌, suc, Bool, true, false, cond, List, [], ◌∷◌, ◌++◌, map, drop, length, refl, sym, ap, ◌∙◌, subst, arith}
-use Rattle.std.specs.Prelude.{◌==◌}
-use Rattle.lucid_value.specs.Plain.{PlainValue}
-use Rattle.lucid_equations.specs.declared.rows.ScopeRow.{ScopeRow}
-use Rattle.lucid_equations.specs.declared.rows.NodeRow.{NodeRow}
-use Rattle.lucid_equations.specs.declared.rows.NameRow.{NameRow}
-use Rattle.lucid_equations.specs.declared.rows.PlaceRow.{PlaceRow}
-use Rattle.lucid_equations.specs.declared.table.Table.{Table}
-use Rattle.lucid_flat.specs.FlatText.{FlatRow, scope_row, input_row, constant_row, node_row, name_row, place_row, root_row, flat_rows}
-use Rattle.lucid_flat.specs.Gathered.{row_part, next_part, part_behind, rows_so_far, CannotCome}
+use Rattle.lucid_flat.proofs.Common.{◌≡◌, ℕ, ◌<◌, ◌≤◌, ◌+◌, ◌-◌, ◌^◌, suc, Bool, true, false, cond, List, [], ◌∷◌, ◌++◌, map, drop, length, refl, sym, ap, ◌∙◌, subst, arith, ◌==◌, PlainValue, ScopeRow, NodeRow, NameRow, PlaceRow, Table, FlatRow, scope_row, input_row, constant_row, node_row, name_row, place_row, root_row, flat_rows, row_part, next_part, part_behind, rows_so_far, CannotCome}
 
 -- each row comes from the part behind the one before it, or a later one
 abbrev pub Rises : ℕ → List FlatRow → Type 0

@@ -1,21 +1,7 @@
 -- The row of a line: read from it, and no other; a line is one row's.
-use Rattle.std.proofs.Common.{◌≡◌, ℕ, false, List, ◌∷◌, ◌++◌, Option, Some, None, refl, sym, ap, ◌∙◌, subst}
-use Rattle.std.specs.Prelude.{codes}
-use Rattle.std.specs.Str.{bytes_eq}
-use Rattle.std.proofs.lemmas.List.Elements.{recursion_from_All}
-use Rattle.std.proofs.lemmas.Option.{none-some, same_Some}
-use Rattle.std.proofs.lemmas.Slice.Eq.{bytes_eq-Decides}
-use Rattle.lucid_value.specs.Plain.{PlainValue}
-use Rattle.lucid_equations.specs.declared.rows.Entry.{Entry}
-use Rattle.lucid_equations.specs.declared.rows.Entry.TheVariants.{Plain}
+use Rattle.lucid_flat.proofs.Common.{◌≡◌, ℕ, false, List, ◌∷◌, ◌++◌, Option, Some, None, refl, sym, ap, ◌∙◌, subst, codes, bytes_eq, same_Some, bytes_eq-Decides, PlainValue, Entry, Plain, Lacks, OneValue, FlatRow, constant_row, name_row, entry_word, row_line, RowFits, tail_row, IsRowOf, recursion_from_All, none-some}
 use Rattle.lucid_texts.specs.Words.{HasNone}
-use Rattle.lucid_texts.specs.TextLines.{Lacks}
-use Rattle.lucid_texts.specs.Laws.{OneValue}
 use Rattle.lucid_texts.proofs.Bytes.{one_cut, lacks_middle}
-use Rattle.lucid_flat.specs.FlatText.{FlatRow, constant_row, name_row, entry_word, row_line}
-use Rattle.lucid_flat.specs.FlatTables.{RowFits}
-use Rattle.lucid_flat.specs.RowTails.{tail_row}
-use Rattle.lucid_flat.specs.RowLines.{IsRowOf}
 use Rattle.lucid_flat.proofs.RowsGiven.{row_head, row_tail, line_parts, head_lacks, IsNoConstant, tail_row-parts}
 use Rattle.lucid_flat.proofs.TailsRead.{tail_read}
 use Rattle.lucid_texts.proofs.WordLemmas.{apart}

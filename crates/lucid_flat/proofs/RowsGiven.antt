@@ -1,25 +1,10 @@
 -- A row's line: its first word and the words behind it, which are read as the row.
-use Rattle.std.proofs.Common.{◌≡◌, ◌≢◌, ℕ, ◌<◌, ◌^◌, List, [], ◌∷◌, ◌++◌, map, Some, refl, ap, ◌∙◌, arith}
-use Rattle.std.specs.Prelude.{decimal, codes}
-use Rattle.std.specs.List.{join_with_byte}
-use Rattle.std.specs.Option.{option_map}
+use Rattle.lucid_flat.proofs.Common.{◌≡◌, ◌≢◌, ℕ, ◌<◌, ◌^◌, List, [], ◌∷◌, ◌++◌, map, Some, refl, ap, ◌∙◌, arith, decimal, codes, join_with_byte, option_map, ScopeKind, Root, ScopeRow, Entry, Plain, NodeRow, NameRow, PlaceRow, FlatRow, scope_row, input_row, constant_row, node_row, name_row, place_row, root_row, kind_word, node_words, entry_word, entry_number, row_line, NodeFits, RowFits, Lacks, IsSolid, solid_lacks, decimal_solid, decimals_solid, take_number-decimal, exactly, kind_of, scope_of, input_of, node_row_of, entry_of, name_of, place_of, tail_row}
 use Rattle.lucid_value.specs.ValueText.{value_text}
-use Rattle.lucid_equations.specs.declared.rows.ScopeKind.{ScopeKind}
-use Rattle.lucid_equations.specs.declared.rows.ScopeKind.TheVariants.{Root, Called as CalledScope, Frozen as FrozenScope}
-use Rattle.lucid_equations.specs.declared.rows.ScopeRow.{ScopeRow}
-use Rattle.lucid_equations.specs.declared.rows.Entry.{Entry}
-use Rattle.lucid_equations.specs.declared.rows.Entry.TheVariants.{Plain}
-use Rattle.lucid_equations.specs.declared.rows.NodeRow.{NodeRow}
-use Rattle.lucid_equations.specs.declared.rows.NameRow.{NameRow}
-use Rattle.lucid_equations.specs.declared.rows.PlaceRow.{PlaceRow}
-use Rattle.lucid_flat.specs.FlatText.{FlatRow, scope_row, input_row, constant_row, node_row, name_row, place_row, root_row, kind_word, node_words, entry_word, entry_number, row_line}
-use Rattle.lucid_flat.specs.FlatTables.{NodeFits, RowFits}
+use Rattle.lucid_equations.specs.declared.rows.ScopeKind.TheVariants.{Called as CalledScope, Frozen as FrozenScope}
 use Rattle.lucid_texts.specs.Words.{words_of}
-use Rattle.lucid_texts.specs.TextLines.{Lacks}
-use Rattle.lucid_texts.proofs.Bytes.{IsSolid, solid_lacks, decimal_solid, decimals_solid}
-use Rattle.lucid_texts.proofs.WordLemmas.{spaced_words, take_number-decimal}
-use Rattle.lucid_flat.specs.Words.{exactly}
-use Rattle.lucid_flat.specs.RowTails.{kind_of, scope_of, input_of, node_row_of, entry_of, name_of, place_of, root_of, tail_row}
+use Rattle.lucid_texts.proofs.WordLemmas.{spaced_words}
+use Rattle.lucid_flat.specs.RowTails.{root_of}
 use Rattle.lucid_flat.proofs.LineBytes.{node_solid, kind_solid, entry_solid}
 use Rattle.lucid_flat.proofs.NumberLemmas.{few_numbers_of-words}
 use Rattle.lucid_flat.proofs.NodesRead.{node_of-words}

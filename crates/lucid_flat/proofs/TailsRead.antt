@@ -1,26 +1,10 @@
 -- A row that was read from a line has that line.
-use Rattle.std.proofs.Common.{◌≡◌, ◌≢◌, ℕ, ◌<◌, ◌^◌, cond, List, [], ◌∷◌, ◌++◌, map, take, Option, Some, None, ◌⊎◌, inl, inr, refl, sym, ap, ◌∙◌, subst}
-use Rattle.std.specs.Prelude.{decimal, codes, IsTrue}
-use Rattle.std.specs.List.{join_with_byte}
-use Rattle.std.specs.Option.{option_map}
-use Rattle.std.specs.Str.{bytes_eq}
-use Rattle.std.proofs.lemmas.List.Splits.{join_with_byte-slice_split}
-use Rattle.std.proofs.lemmas.Option.{option_and_then_some, cond_some, same_Some}
+use Rattle.lucid_flat.proofs.Common.{◌≡◌, ◌≢◌, ℕ, ◌<◌, ◌^◌, cond, List, [], ◌∷◌, ◌++◌, map, take, Option, Some, None, ◌⊎◌, inl, inr, refl, sym, ap, ◌∙◌, subst, decimal, codes, join_with_byte, option_map, bytes_eq, option_and_then_some, cond_some, same_Some, ScopeKind, Root, ScopeRow, Entry, Plain, NodeRow, NameRow, PlaceRow, FlatRow, scope_row, input_row, node_row, name_row, place_row, root_row, kind_word, entry_word, entry_number, row_line, Are32, RowFits, take_number, is_end, taken, no_word, few_numbers_of, exactly, listed, kind_of, scope_of, input_of, node_row_of, entry_of, name_of, place_of, tail_row, IsTrue, join_with_byte-slice_split}
 use Rattle.lucid_value.specs.Names.{is_name}
-use Rattle.lucid_equations.specs.declared.rows.ScopeKind.{ScopeKind}
-use Rattle.lucid_equations.specs.declared.rows.ScopeKind.TheVariants.{Root, Called as CalledScope, Frozen as FrozenScope}
-use Rattle.lucid_equations.specs.declared.rows.ScopeRow.{ScopeRow}
-use Rattle.lucid_equations.specs.declared.rows.Entry.{Entry}
-use Rattle.lucid_equations.specs.declared.rows.Entry.TheVariants.{Plain, Parameter, Current, Called}
-use Rattle.lucid_equations.specs.declared.rows.NodeRow.{NodeRow}
-use Rattle.lucid_equations.specs.declared.rows.NameRow.{NameRow}
-use Rattle.lucid_equations.specs.declared.rows.PlaceRow.{PlaceRow}
-use Rattle.lucid_flat.specs.FlatText.{FlatRow, scope_row, input_row, node_row, name_row, place_row, root_row, kind_word, entry_word, entry_number, row_line}
-use Rattle.lucid_flat.specs.FlatTables.{Are32, RowFits}
-use Rattle.lucid_texts.specs.Words.{words_of, take_word, take_number, is_end}
-use Rattle.lucid_texts.proofs.WordLemmas.{taken, no_word}
-use Rattle.lucid_flat.specs.Words.{few_numbers_of, exactly, listed}
-use Rattle.lucid_flat.specs.RowTails.{kind_of, scope_of, input_of, node_row_of, entry_of, name_of, place_of, root_of, tail_row}
+use Rattle.lucid_equations.specs.declared.rows.ScopeKind.TheVariants.{Called as CalledScope, Frozen as FrozenScope}
+use Rattle.lucid_equations.specs.declared.rows.Entry.TheVariants.{Parameter, Current, Called}
+use Rattle.lucid_texts.specs.Words.{words_of, take_word}
+use Rattle.lucid_flat.specs.RowTails.{root_of}
 use Rattle.lucid_flat.proofs.Chosen.{by_word}
 use Rattle.lucid_flat.proofs.NodesRead.{node_read}
 use Rattle.lucid_flat.proofs.NumberLemmas.{few_read}

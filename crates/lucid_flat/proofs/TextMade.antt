@@ -1,20 +1,7 @@
 -- The text of a table is its parts, one after the other; and a table of the code with one root has a text.
-use Rattle.std.proofs.Common.{◌≡◌, ◌≢◌, ℕ, ◌<◌, ◌-◌, suc, List, [], ◌∷◌, ◌++◌, map, take, drop, length, refl, sym, ap, ◌∙◌, subst, arith, append_assoc}
-use Rattle.std.specs.List.{AllByRecursion, flat_map}
-use Rattle.std.proofs.lemmas.List.{append-nil}
-use Rattle.lucid_value.specs.Plain.{PlainValue}
-use Rattle.lucid_value.specs.View.{plain}
-use Rattle.lucid_value.specs.declared.Value.{Value}
-use Rattle.lucid_equations.specs.Sound.{ScopeIs}
-use Rattle.lucid_equations.specs.declared.rows.ScopeKind.{ScopeKind}
-use Rattle.lucid_equations.specs.declared.rows.ScopeKind.TheVariants.{Root}
-use Rattle.lucid_equations.specs.declared.rows.ScopeRow.{ScopeRow}
-use Rattle.lucid_equations.specs.declared.table.Table.{Table}
-use Rattle.lucid_texts.specs.TextLines.{ended, text_of}
-use Rattle.lucid_flat.specs.FlatText.{FlatRow, scope_row, input_row, constant_row, node_row, name_row, place_row, root_row, flat_rows, row_line, first_line, flat_text}
-use Rattle.lucid_flat.specs.FlatTables.{RowFits}
-use Rattle.lucid_flat.specs.Shown.{IsNoRoot, line_of}
-use Rattle.lucid_texts.proofs.WordLemmas.{all-append}
+use Rattle.lucid_flat.proofs.Common.{◌≡◌, ◌≢◌, ℕ, ◌<◌, ◌-◌, suc, List, [], ◌∷◌, ◌++◌, map, take, drop, length, refl, sym, ap, ◌∙◌, subst, arith, append_assoc, AllByRecursion, flat_map, append-nil, PlainValue, plain, Value, ScopeIs, ScopeKind, Root, ScopeRow, Table, text_of, FlatRow, scope_row, input_row, constant_row, node_row, name_row, place_row, root_row, flat_rows, row_line, first_line, RowFits, IsNoRoot, line_of, all-append}
+use Rattle.lucid_texts.specs.TextLines.{ended}
+use Rattle.lucid_flat.specs.FlatText.{flat_text}
 
 -- the lines of rows, each ended
 abbrev pub lines : List FlatRow → List ℕ

@@ -1,14 +1,5 @@
 -- One, two or three numbers: what is read has the words that it is read from, and numbers are read from their words.
-use Rattle.std.proofs.Common.{◌≡◌, ℕ, ◌≤◌, ◌^◌, true, false, cond, List, [], ◌∷◌, map, length, get_or, Option, Some, None, ◌⊎◌, inl, inr, refl, ap, ◌∙◌, subst, arith}
-use Rattle.std.specs.Prelude.{decimal, ◌==◌}
-use Rattle.std.specs.Option.{option_and_then}
-use Rattle.std.proofs.lemmas.Bool.{eqb-true, eq-eqb}
-use Rattle.std.proofs.lemmas.Option.{option_and_then_some, cond_some, same_Some}
-use Rattle.lucid_texts.specs.Words.{take_number, is_end}
-use Rattle.lucid_texts.proofs.WordLemmas.{taken, take_number-decimal, no_word}
-use Rattle.lucid_flat.specs.declared.words.Three.{Three}
-use Rattle.lucid_flat.specs.FlatTables.{Are32}
-use Rattle.lucid_flat.specs.Words.{three_of, exactly, listed}
+use Rattle.lucid_flat.proofs.Common.{◌≡◌, ℕ, ◌≤◌, ◌^◌, true, false, cond, List, [], ◌∷◌, map, length, get_or, Option, Some, None, ◌⊎◌, inl, inr, refl, ap, ◌∙◌, subst, arith, decimal, ◌==◌, option_and_then, eqb-true, option_and_then_some, cond_some, same_Some, take_number, is_end, taken, take_number-decimal, no_word, Three, Are32, three_of, exactly, listed, eq-eqb}
 use Rattle.lucid_flat.proofs.Chosen.{by_test}
 
 -- the words are those of the numbers, which are of 32 bits

@@ -1,24 +1,13 @@
 -- The lines of rows that begin a text, and what goes on with them.
-use Rattle.std.proofs.Common.{◌≡◌, ℕ, ◌<◌, ◌^◌, Bool, true, false, cond, List, [], ◌∷◌, ◌++◌, map, drop, length, None, refl, sym, ap, ◌∙◌, subst, arith, append_assoc, length-append}
-use Rattle.std.specs.Prelude.{◌==◌, codes}
-use Rattle.std.specs.Bool.{MatchBool}
-use Rattle.std.specs.List.{AllByRecursion}
-use Rattle.std.proofs.lemmas.List.{append-nil}
-use Rattle.lucid_equations.specs.declared.table.Table.{Table}
-use Rattle.lucid_texts.specs.TextLines.{Lacks, IsLine, CanGoOn, CannotGoOn}
-use Rattle.lucid_texts.specs.Laws.{OneValue}
-use Rattle.lucid_texts.proofs.Bytes.{solid_lacks, all_solid_lack, decimal_solid, decimals_solid, join_lacks}
+use Rattle.lucid_flat.proofs.Common.{◌≡◌, ℕ, ◌<◌, ◌^◌, Bool, true, false, cond, List, [], ◌∷◌, ◌++◌, map, drop, length, None, refl, sym, ap, ◌∙◌, subst, arith, append_assoc, length-append, ◌==◌, codes, MatchBool, AllByRecursion, append-nil, Table, Lacks, CanGoOn, CannotGoOn, OneValue, solid_lacks, decimal_solid, decimals_solid, FlatRow, scope_row, input_row, constant_row, node_row, name_row, place_row, root_row, entry_number, row_line, first_line, flat_rows, RowFits, HasText, AreTableLines, IsRowOf, lines_of_rows, part_behind, rows_so_far, IsBegun, CannotCome, all-append}
+use Rattle.lucid_texts.specs.TextLines.{IsLine}
+use Rattle.lucid_texts.proofs.Bytes.{all_solid_lack, join_lacks}
 use Rattle.lucid_texts.proofs.ValueBytes.{name_lacks, value_lacks}
-use Rattle.lucid_flat.specs.FlatText.{FlatRow, scope_row, input_row, constant_row, node_row, name_row, place_row, root_row, entry_number, row_words, row_line, first_line, flat_rows}
-use Rattle.lucid_flat.specs.FlatTables.{RowFits, HasText, AreTableLines}
-use Rattle.lucid_flat.specs.RowLines.{IsRowOf}
-use Rattle.lucid_flat.specs.LinesRead.{lines_of_rows}
-use Rattle.lucid_flat.specs.Gathered.{part_behind, rows_so_far, IsBegun, CannotCome}
+use Rattle.lucid_flat.specs.FlatText.{row_words}
 use Rattle.lucid_flat.proofs.LineBytes.{node_solid, kind_solid, entry_solid}
 use Rattle.lucid_flat.proofs.RowsGiven.{row_head, row_tail, line_parts}
 use Rattle.lucid_flat.proofs.RowLemmas.{one_row}
 use Rattle.lucid_flat.proofs.Gathering.{push_g, behind-push}
-use Rattle.lucid_texts.proofs.WordLemmas.{all-append}
 
 words_lack : (r : FlatRow) → RowFits r → AllByRecursion (Lacks 10) (row_words r)
 words_lack (scope_row r) h = all_solid_lack 10 refl (row_words (scope_row r)) (refl, (decimal_solid r.parent (omega (arith, h.0)), (kind_solid r.kind, tt)))
@@ -32,10 +21,6 @@ words_lack (root_row n) h = all_solid_lack 10 refl (row_words (root_row n)) (ref
 -- a row's line has no line end
 pub row_lacks : (r : FlatRow) → RowFits r → Lacks 10 (row_line r)
 row_lacks r h = join_lacks (row_words r) (words_lack r h)
-
-pub rows_lack : (rs : List FlatRow) → AllByRecursion RowFits rs → AllByRecursion (Lacks 10) (map row_line rs)
-rows_lack [] h = tt
-rows_lack (r ∷ rs) h = (row_lacks r h.0, rows_lack rs h.1)
 
 -- and has a blank at least
 row_has : (r : FlatRow) → 0 < length (row_line r)

@@ -1,16 +1,8 @@
 -- Plans that are fed alike.
-use Rattle.std.proofs.Common.{◌≡◌, ℕ, zero, suc, ◌+◌, ◌-◌, ◌<◌, ◌≤◌, Bool, true, false, cond, List, [], ◌∷◌, ◌++◌, Option, Some, None, refl, sym, ap, ◌∙◌, subst, arith, append_assoc, pos, negsuc}
-use Rattle.std.specs.Prelude.{nat_le}
-use Rattle.std.specs.Option.{option_and_then}
-use Rattle.std.proofs.lemmas.List.{append-nil}
-use Rattle.lucid_value.specs.Plain.{PlainValue, int, truth, word, text, list, eod, fault}
+use Rattle.lucid_follow.proofs.Common.{◌≡◌, ℕ, zero, suc, ◌+◌, ◌-◌, ◌<◌, ◌≤◌, Bool, true, false, cond, List, [], ◌∷◌, ◌++◌, Option, Some, None, refl, sym, ap, ◌∙◌, subst, arith, nat_le, option_and_then, PlainValue, truth, fault, arity, Op, last, Look, Plan, gives, looks, gives_part, by_test, at_zero, find_true, count_true, Uses, take_values, fed, look_plan, AreFedAlike, answer_of, by_answer, truth_by, place_by, append_assoc, pos, negsuc, append-nil}
+use Rattle.lucid_value.specs.Plain.{int, word, text, list, eod}
 use Rattle.lucid_ops.specs.Algebra.{algebra}
-use Rattle.lucid_ops.specs.Arity.{arity}
-use Rattle.lucid_ops.specs.declared.op.Op.{Op}
-use Rattle.lucid_tree.specs.Rows.{last, Look, Plan, gives, looks, single, look, gives_part, by_test, by_place, only_truth, at_zero, arguments, find_true, count_true}
-use Rattle.lucid_follow.specs.Fed.{Uses, take_values, fed}
-use Rattle.lucid_follow.specs.RestPlans.{look_plan, AreFedAlike}
-use Rattle.lucid_follow.specs.Told.{answer_of, by_answer, truth_by, place_by}
+use Rattle.lucid_tree.specs.Rows.{single, look, by_place, only_truth, arguments}
 use Rattle.lucid_follow.specs.declared.rest.Answer.TheVariants.{At, Other}
 use Rattle.lucid_follow.specs.declared.rest.Then.TheVariants as then
 

@@ -1,15 +1,6 @@
 -- The plan with which a form begins.
-use Rattle.std.proofs.Common.{◌≡◌, ℕ, zero, suc, ◌+◌, ◌-◌, ◌<◌, ◌≤◌, [], refl, sym, ap, ◌∙◌, subst, arith}
-use Rattle.std.proofs.lemmas.Bool.{le-leb, lt-ltb, le-ltb}
-use Rattle.lucid_value.specs.Plain.{fault}
-use Rattle.lucid_ops.specs.Arity.{arity}
-use Rattle.lucid_ops.specs.declared.op.Op.{Op}
+use Rattle.lucid_follow.proofs.Common.{◌≡◌, ℕ, zero, suc, ◌+◌, ◌-◌, ◌<◌, ◌≤◌, [], refl, sym, ap, ◌∙◌, subst, arith, le-leb, fault, arity, Op, Head, apply, upon, next, fby, succ, sby, last, Plan, gives, gives_part, find_true, count_true, plan, Node, Table, HasHead, look_plan, AreFedAlike, lt-ltb, le-ltb}
 use Rattle.lucid_ops.proofs.OperatorRows.{arity_some}
-use Rattle.lucid_tree.specs.Tree.{Head, apply, upon, next, fby, succ, sby}
-use Rattle.lucid_tree.specs.Rows.{last, Plan, gives, gives_part, find_true, count_true, plan}
-use Rattle.lucid_equations.specs.declared.rows.Node.{Node}
-use Rattle.lucid_equations.specs.declared.table.Table.{Table}
-use Rattle.lucid_follow.specs.RestPlans.{HasHead, look_plan, AreFedAlike}
 use Rattle.lucid_follow.specs.declared.rest.Then.TheVariants as then
 use Rattle.lucid_follow.proofs.Alike.{find_alike, next_argument}
 

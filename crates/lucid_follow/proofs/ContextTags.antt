@@ -1,18 +1,11 @@
 -- Contexts by tags.
-use Rattle.std.proofs.Common.{◌≡◌, ℕ, zero, suc, ◌<◌, ◌≤◌, false, cond, List, [], ◌∷◌, ◌++◌, drop, length, Option, Some, None, get_or, ◌⊎◌, inl, inr, ◌+◌, refl, sym, ap, ◌∙◌, subst, add-one}
-use Rattle.std.specs.Prelude.{nat_le, slice_get, option_map, IfSome}
-use Rattle.std.proofs.Math.Seq.{drop-cons}
-use Rattle.std.proofs.lemmas.Bool.{le-leb}
-use Rattle.std.proofs.lemmas.List.{map-append}
-use Rattle.std.proofs.lemmas.Option.{same_Some}
-use Rattle.lucid_tree.specs.Rows.{last}
-use Rattle.lucid_tags.specs.Contexts.{Context, root, call_frame, frozen_frame}
-use Rattle.lucid_tags.specs.Known.{IsKnown, KeepsKnown, context_of}
+use Rattle.lucid_follow.proofs.Common.{◌≡◌, ℕ, zero, suc, ◌<◌, ◌≤◌, false, cond, List, [], ◌∷◌, ◌++◌, drop, length, Option, Some, None, get_or, ◌⊎◌, inl, inr, ◌+◌, refl, sym, ap, ◌∙◌, subst, nat_le, slice_get, le-leb, same_Some, last, Context, root, call_frame, frozen_frame, context_of, context_in, contexts_behind, AreOfContexts, contexts_of, add-one, option_map, IfSome, drop-cons, map-append}
+use Rattle.lucid_tags.specs.Known.{IsKnown, KeepsKnown}
 use Rattle.lucid_tags.specs.declared.Tag.{Tag}
 use Rattle.lucid_why.specs.declared.rows.ContextRow.{ContextRow}
 use Rattle.lucid_why.specs.declared.rows.ContextRow.TheVariants.{Call, Frozen}
-use Rattle.lucid_follow.specs.Follows.{context_in, with_call, with_frozen, row_context, contexts_behind}
-use Rattle.lucid_follow.specs.Checking.{IsOfContext, AreOfContexts, contexts_of}
+use Rattle.lucid_follow.specs.Follows.{with_call, with_frozen, row_context}
+use Rattle.lucid_follow.specs.Checking.{IsOfContext}
 
 -- an item that is there by its number
 there_by : (tags : List (Option Tag)) (n : ℕ) (tag : Tag) → get_or tags n None ≡ Some tag → slice_get tags n ≡ Some (Some tag)

@@ -1,11 +1,7 @@
 -- A plan that is fed by uses has the same value where the parts have those of the uses, and at each greater limit.
-use Rattle.std.proofs.Common.{◌≡◌, ℕ, zero, suc, ◌+◌, ◌≤◌, ◌-◌, List, [], ◌∷◌, Option, Some, refl, ap, subst, arith}
-use Rattle.std.proofs.lemmas.Option.{option_and_then_some, same_Some}
-use Rattle.lucid_value.specs.Plain.{PlainValue}
-use Rattle.lucid_tree.specs.Tree.{Head}
-use Rattle.lucid_tree.specs.Rows.{Look, Plan, gives, nothing, looks, plan, Reader, all_values, run}
+use Rattle.lucid_follow.proofs.Common.{◌≡◌, ℕ, zero, suc, ◌+◌, ◌≤◌, ◌-◌, List, [], ◌∷◌, Option, Some, refl, ap, subst, arith, option_and_then_some, same_Some, PlainValue, Head, Look, Plan, gives, looks, plan, Uses, take_values, fed}
+use Rattle.lucid_tree.specs.Rows.{nothing, Reader, all_values, run}
 use Rattle.lucid_tree.proofs.Plans.{run-keeps, plan-grows}
-use Rattle.lucid_follow.specs.Fed.{Uses, take_values, fed}
 
 -- the reader has what the uses have
 abbrev pub Reads : Uses → Reader (Option PlainValue) → Type 0

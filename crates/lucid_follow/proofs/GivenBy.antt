@@ -1,23 +1,12 @@
 -- What a node gives, by its row.
-use Rattle.std.proofs.Common.{◌≡◌, ◌↔◌, ℕ, ◌+◌, Bool, true, List, [], ◌∷◌, length, Option, Some, get_or, refl, sym, ap, ◌∙◌, subst}
-use Rattle.std.specs.Prelude.{slice_get}
-use Rattle.std.specs.Option.{option_and_then}
-use Rattle.std.proofs.lemmas.Option.{same_Some}
-use Rattle.lucid_ops.specs.Arity.{arity}
-use Rattle.lucid_tree.specs.Tree.{Head, const, apply, choose, both, either, first, next, fby, whenever, asa, upon, attime, initial, succ, sby, atspace}
-use Rattle.lucid_tree.specs.Rows.{plan}
-use Rattle.lucid_tree.specs.Levels.{Elements, element_of}
-use Rattle.lucid_tags.specs.Contexts.{Context, frozen_frame}
-use Rattle.lucid_equations.specs.Nodes.{PlainNode, row, freeze, reference, invoke, PlainNodes, no_nodes, input, refer}
-use Rattle.lucid_equations.specs.NumberAims.{number_aim, row_aim}
-use Rattle.lucid_equations.specs.Rows.{node_at, node_by, nodes_of, at, all_at, row_at, parts, constant_at}
-use Rattle.lucid_equations.specs.declared.rows.Node.{Node}
+use Rattle.lucid_follow.proofs.Common.{◌≡◌, ℕ, ◌+◌, Bool, true, List, [], ◌∷◌, length, Option, Some, get_or, refl, sym, ap, ◌∙◌, subst, slice_get, option_and_then, same_Some, arity, Head, apply, next, fby, upon, succ, sby, plan, Elements, element_of, Context, frozen_frame, PlainNode, row, freeze, reference, invoke, PlainNodes, number_aim, node_at, node_by, row_at, parts, Node, Table, PlainJudgment, fed, only, part_number, onward, of_part, by_onward, by_node, given, used, context_in, FollowsIn, HasHead, ◌↔◌}
+use Rattle.lucid_tree.specs.Tree.{const, choose, both, either, first, whenever, asa, attime, initial, atspace}
+use Rattle.lucid_equations.specs.Nodes.{no_nodes, input, refer}
+use Rattle.lucid_equations.specs.NumberAims.{row_aim}
+use Rattle.lucid_equations.specs.Rows.{nodes_of, at, all_at, constant_at}
 use Rattle.lucid_equations.specs.declared.rows.Node.TheVariants as rows
-use Rattle.lucid_equations.specs.declared.table.Table.{Table}
-use Rattle.lucid_why.specs.Certificates.{PlainJudgment}
-use Rattle.lucid_follow.specs.Fed.{fed}
-use Rattle.lucid_follow.specs.Follows.{Judged, only, part_number, onward, of_part, by_onward, by_node, given, used, context_in, HasForm, FollowsIn}
-use Rattle.lucid_follow.specs.RestPlans.{IsForm, HasHead}
+use Rattle.lucid_follow.specs.Follows.{Judged, HasForm}
+use Rattle.lucid_follow.specs.RestPlans.{IsForm}
 use Rattle.lucid_follow.specs.Checking.{PassesOn, row_onward}
 
 -- a form has a head, and its node is that with parts

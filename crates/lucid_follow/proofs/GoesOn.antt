@@ -1,12 +1,8 @@
 -- What is left of a plan once a look has a value, by what is done with the value.
-use Rattle.std.proofs.Common.{◌≡◌, ℕ, suc, ◌-◌, false, true, List, sym, ap, ◌∙◌, subst}
-use Rattle.lucid_value.specs.Plain.{PlainValue, truth}
-use Rattle.lucid_ops.specs.declared.op.Op.{Op}
-use Rattle.lucid_tree.specs.Rows.{Plan, gives, gives_part, by_test, at_zero, find_true, count_true}
-use Rattle.lucid_follow.specs.RestPlans.{second_side, by_then, AreFedAlike}
-use Rattle.lucid_follow.specs.Told.{answer_of, by_answer, truth_by, place_by, found_by, counted_by}
+use Rattle.lucid_follow.proofs.Common.{◌≡◌, ℕ, suc, ◌-◌, false, true, List, sym, ap, ◌∙◌, subst, PlainValue, truth, Op, Plan, gives, gives_part, by_test, at_zero, find_true, count_true, AreFedAlike, answer_of, by_answer, truth_by, place_by, Then}
+use Rattle.lucid_follow.specs.RestPlans.{second_side, by_then}
+use Rattle.lucid_follow.specs.Told.{found_by, counted_by}
 use Rattle.lucid_follow.specs.declared.rest.Answer.{Answer}
-use Rattle.lucid_follow.specs.declared.rest.Then.{Then}
 use Rattle.lucid_follow.specs.declared.rest.Then.TheVariants.{Give, Choose, Both, Either, Judge, Time, Space, Find, Count, Argument}
 use Rattle.lucid_follow.proofs.Alike.{alike, alike_then, told_test, told_place, told_truth}
 

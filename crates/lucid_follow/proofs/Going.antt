@@ -1,16 +1,13 @@
 -- What a name goes on with in a context: by the context's innermost frame, and nowhere where there are too few frames.
-use Rattle.std.proofs.Common.{◌≡◌, ℕ, ◌<◌, ◌-◌, Option, Some, refl, sym, ap, ◌∙◌, arith}
-use Rattle.lucid_tree.specs.Levels.{goes_to, nowhere}
-use Rattle.lucid_tags.specs.Contexts.{Context, root, call_frame, frozen_frame, base_of, frames, cut}
+use Rattle.lucid_follow.proofs.Common.{◌≡◌, ℕ, ◌<◌, ◌-◌, Option, Some, refl, sym, ap, ◌∙◌, arith, goes_to, nowhere, Context, root, call_frame, frozen_frame, Table, onward, same_Some}
+use Rattle.lucid_tags.specs.Contexts.{base_of, frames, cut}
 use Rattle.lucid_tags.proofs.ContextLemmas.{cut-above, cut-base_of}
 use Rattle.lucid_equations.specs.Datons.{called_from}
 use Rattle.lucid_equations.specs.NumberAims.{to_number, by_name_row, name_number_aim}
 use Rattle.lucid_equations.specs.Rows.{name_at}
 use Rattle.lucid_equations.specs.declared.rows.Entry.{Entry}
 use Rattle.lucid_equations.specs.declared.rows.Entry.TheVariants.{Current}
-use Rattle.lucid_equations.specs.declared.table.Table.{Table}
-use Rattle.lucid_follow.specs.Follows.{Onward, onward}
-use Rattle.std.proofs.lemmas.Option.{same_Some}
+use Rattle.lucid_follow.specs.Follows.{Onward}
 
 -- a current name goes on with its body in the context without its frozen time, at that time
 pub current_goes : (T : Table) (n id : ℕ) (c outer : Context) (f t top : ℕ) → name_at T n ≡ Some (Current id) → c ≡ frozen_frame f (base_of c) → top ≡ frames c → cut (top - 1) c ≡ Some outer

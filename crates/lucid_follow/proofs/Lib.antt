@@ -1,3 +1,4 @@
+pub mod Common
 pub mod FedRuns
 pub mod Alike
 pub mod Begins

@@ -1,32 +1,19 @@
 -- What follows is meant: by induction on the number of the judgment.
-use Rattle.std.proofs.Common.{◌≡◌, ℕ, zero, suc, ◌+◌, ◌<◌, ◌≤◌, Bool, true, false, cond, List, [], ◌∷◌, length, Option, Some, None, ◌⊎◌, inl, inr, refl, sym, ap, ◌∙◌, subst, arith}
-use Rattle.std.specs.Prelude.{◌==◌, nat_lt, slice_get}
-use Rattle.std.specs.Option.{option_and_then}
-use Rattle.std.proofs.lemmas.Bool.{and_parts, ltb-true, eqb-true, cases_order}
-use Rattle.std.proofs.lemmas.Option.{option_and_then_some, same_Some, cond_some}
-use Rattle.lucid_value.specs.Plain.{PlainValue}
-use Rattle.lucid_tree.specs.Tree.{Head}
-use Rattle.lucid_tree.specs.Rows.{Look, plan}
-use Rattle.lucid_tree.specs.Levels.{element_of, goes_to, nowhere, Elements, nothing_held}
-use Rattle.lucid_tags.specs.Contexts.{Context, frozen_frame}
+use Rattle.lucid_follow.proofs.Common.{◌≡◌, ℕ, zero, suc, ◌+◌, ◌<◌, ◌≤◌, Bool, true, false, cond, List, [], ◌∷◌, length, Option, Some, None, ◌⊎◌, inl, inr, refl, sym, ap, ◌∙◌, subst, arith, slice_get, option_and_then, option_and_then_some, same_Some, PlainValue, Head, Look, plan, element_of, goes_to, nowhere, Elements, Context, frozen_frame, PlainNode, row, freeze, reference, invoke, PlainNodes, number_aim, node_at, node_by, row_at, parts, Node, Table, PlainJudgment, fed, context_in, used, only, part_number, onward, of_part, by_onward, by_node, given, FollowsIn, ◌==◌, nat_lt, and_parts, ltb-true, eqb-true, cases_order, cond_some}
+use Rattle.lucid_tree.specs.Levels.{nothing_held}
 use Rattle.lucid_tags.specs.EqualityDecides.{same_context_is_equality}
-use Rattle.lucid_equations.specs.Nodes.{PlainNode, row, freeze, reference, invoke, PlainNodes}
-use Rattle.lucid_equations.specs.NumberAims.{NumberAim, number_aim, plain_aim, plain_position, NodesGoByNumbers}
+use Rattle.lucid_equations.specs.NumberAims.{NumberAim, plain_aim, plain_position, NodesGoByNumbers}
 use Rattle.lucid_equations.specs.Values.{node_val}
-use Rattle.lucid_equations.specs.Rows.{node_at, node_by, row_at, parts, equations_of}
+use Rattle.lucid_equations.specs.Rows.{equations_of}
 use Rattle.lucid_equations.specs.RowParts.{HasPart, RowsAreTheirNodes, PartsReadTheirNodes}
 use Rattle.lucid_equations.specs.Laws.{NodeApproximationsStay}
 use Rattle.lucid_equations.specs.Moving.{FreezingKeepsValues}
 use Rattle.lucid_equations.specs.Needs.{ReferencesHaveValues, ElementsHaveValues}
 use Rattle.lucid_equations.specs.Parts.{reads_parts}
 use Rattle.lucid_equations.specs.Ranges.{IsInRange}
-use Rattle.lucid_equations.specs.declared.rows.Node.{Node}
 use Rattle.lucid_equations.specs.declared.rows.Node.TheVariants.{Freeze}
-use Rattle.lucid_equations.specs.declared.table.Table.{Table}
-use Rattle.lucid_why.specs.Certificates.{PlainJudgment}
 use Rattle.lucid_why.specs.declared.rows.Why.{Why}
-use Rattle.lucid_follow.specs.Fed.{fed}
-use Rattle.lucid_follow.specs.Follows.{context_in, contexts, is_context, is_of, used, only, part_number, onward, of_part, by_onward, by_node, given, FollowsIn, AllFollow}
+use Rattle.lucid_follow.specs.Follows.{contexts, is_context, is_of, AllFollow}
 use Rattle.lucid_follow.specs.Meant.{AreWithin, WhatFollowsIsMeant}
 use Rattle.lucid_follow.proofs.FedRuns.{fed_runs, runs_up}
 

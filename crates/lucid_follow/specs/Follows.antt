@@ -8,7 +8,7 @@ use Rattle.lucid_tree.specs.Levels.{Target, element_of, goes_to, nowhere, Elemen
 use Rattle.lucid_tags.specs.Contexts.{Context, root, call_frame, frozen_frame, same_context}
 use Rattle.lucid_equations.specs.Nodes.{PlainNode, row, freeze, reference, invoke}
 use Rattle.lucid_equations.specs.NumberAims.{NumberPosition, NumberAim, number_aim}
-use Rattle.lucid_equations.specs.Rows.{node_at, row_at, parts}
+use Rattle.lucid_equations.specs.Rows.{node_at, part_number}
 use Rattle.lucid_equations.specs.declared.table.Table.{Table}
 use Rattle.lucid_why.specs.Certificates.{PlainJudgment}
 use Rattle.lucid_why.specs.declared.rows.ContextRow.{ContextRow}
@@ -62,10 +62,6 @@ used cs js i n c t s u = if nat_lt u i then option_and_then (λ j. value_if (is_
 abbrev pub only : (ℕ → Option PlainValue) → (uses : List ℕ) → Option PlainValue
 only value (u ∷ []) = value u
 only value _ = None
-
--- the number of a row's part
-abbrev pub part_number : Table → (id index : ℕ) → Option ℕ
-part_number T id i = option_and_then (λ n. slice_get (parts n) i) (row_at T id)
 
 -- what a reference goes on with, whatever its daton is
 abbrev pub Onward : Type 0

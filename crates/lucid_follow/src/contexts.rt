@@ -5,8 +5,8 @@ ghost use Rattle.lucid_tags.specs.Known.{IsOneForOne, KeepsKnown, context_of};
 ghost use Rattle.lucid_follow.specs.Follows.{row_context, contexts_behind};
 ghost use Rattle.lucid_follow.specs.Checking.{IsOfContext, AreOfContexts, contexts_of};
 
-use crate::rest::LAST;
 use lucid_tags::{Tag, Tags};
+use lucid_tree::LAST;
 use lucid_why::ContextRow;
 use std::alloc::{AllocError, Global};
 

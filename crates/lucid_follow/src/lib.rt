@@ -4,7 +4,7 @@
 
 pub use crate::contexts::{context_at, enter_all};
 pub use crate::passing::{Position, onward};
-pub use crate::rest::{LAST, Look, Rest, Then, begin};
+pub use crate::rest::{Look, Rest, Then, begin};
 
 mod contexts;
 pub mod laws;

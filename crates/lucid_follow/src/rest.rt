@@ -15,10 +15,8 @@ ghost use Rattle.lucid_follow.specs.declared.rest.Rest.TheVariants as rest;
 
 use lucid_equations::{Node, Program};
 use lucid_ops::Op;
+use lucid_tree::LAST;
 use lucid_value::Value;
-
-/// The last time, and the last space.
-pub const LAST: u64 = (1 << 63) - 1;
 
 /// What is done with the value of a look.
 #[derive(Clone, Copy)]

@@ -1,25 +1,19 @@
 -- Inputs after one of their streams is read on.
-use Rattle.std.proofs.Common.{◌≡◌, ◌≢◌, ℕ, zero, suc, ◌<◌, ◌≤◌, ◌⊎◌, Bool, false, List, [], ◌∷◌, length, map, Option, None, Some, Ok, Err, MatchOption, IfSome, option_map, slice_set, inl, inr, refl, sym, ap, subst, ◌∙◌, arith}
-use Rattle.std.specs.Prelude.{IsTrue, Result, IfErr, IsSomeAnd, OnOk, unwrap_or}
+use Rattle.lucid_inputs.proofs.Common.{◌≡◌, ℕ, zero, suc, ◌<◌, ◌≤◌, false, List, [], ◌∷◌, length, map, Option, None, Some, Ok, MatchOption, IfSome, option_map, slice_set, inl, inr, refl, sym, ap, subst, ◌∙◌, arith, IsTrue, Result, AllPairs, length-map, same_Some, slice_get-set_same, Contents, Place, World, advanced, IsOverlong, stream_at, IsWithin, ReadsOn, FitsPlace, Stream, all_bytes, fresh_stream, IsRead, stream_of, ◌⊎◌, Err, IfErr, IsSomeAnd, OnOk, unwrap_or, slice_index_or, length-set, slice_get-map, slice_get_within, cases_eq}
+use Rattle.std.proofs.Common.{◌≢◌, Bool}
 use Rattle.std.specs.List.{slice_get}
-use Rattle.std.specs.Prelude.{slice_index_or, AllPairs}
-use Rattle.std.proofs.lemmas.List.{length-map, length-set}
-use Rattle.std.proofs.lemmas.Option.{slice_get-map, slice_get_within, same_Some}
-use Rattle.std.proofs.lemmas.Bool.{cases_eq}
-use Rattle.lucid_lemmas.proofs.Lists.{slice_get-set_same, slice_get-set_other}
-use Rattle.lucid_ports.specs.World.{Contents, IsFresh, Place, World, advanced}
-use Rattle.lucid_value.specs.Lines.{IsOverlong}
+use Rattle.lucid_lemmas.proofs.Lists.{slice_get-set_other}
+use Rattle.lucid_ports.specs.World.{IsFresh}
 use Rattle.lucid_inputs.specs.declared.fault.InputFault.{InputFault}
 use Rattle.lucid_inputs.specs.declared.fault.InputFault.TheVariants.{TooLarge}
 use Rattle.lucid_inputs.specs.declared.lines.Element.{Element}
 use Rattle.lucid_inputs.specs.declared.stream.InputStream.{InputStream}
 use Rattle.lucid_inputs.specs.declared.on_demand.Inputs.{Inputs}
 use Rattle.lucid_inputs.specs.Faults.{OnTooLarge}
-use Rattle.lucid_inputs.specs.Inputs.{AreAskable, FitsAt, IsAskable, ReadsStream, stream_at, streams}
+use Rattle.lucid_inputs.specs.Inputs.{AreAskable, FitsAt, IsAskable, ReadsStream, streams}
 use Rattle.lucid_inputs.specs.Laws.{AskedAgain, KeepsWithin, PlacesDiffer}
-use Rattle.lucid_inputs.specs.Reading.{IsTooLarge, IsWithin, ReadsOn}
-use Rattle.lucid_inputs.specs.Streams.{FitsPlace, Stream, all_bytes, fresh_stream}
-use Rattle.lucid_inputs.specs.View.{IsRead, IsReady, place_of, stream_of}
+use Rattle.lucid_inputs.specs.Reading.{IsTooLarge}
+use Rattle.lucid_inputs.specs.View.{IsReady, place_of}
 use Rattle.lucid_inputs.proofs.StepLemmas.{all_bytes-advanced}
 use Rattle.lucid_inputs.proofs.StreamLemmas.{fresh_fits}
 use Rattle.lucid_inputs.proofs.TakeLemmas.{map-set_same}

@@ -1,11 +1,7 @@
 -- The lines of bytes, one byte or one line after another.
-use Rattle.std.proofs.Common.{◌≡◌, ℕ, zero, suc, ◌+◌, ◌<◌, ◌≤◌, Bool, true, false, List, [], ◌∷◌, ◌++◌, length, take, drop, cond, refl, sym, ap, ◌∙◌, arith}
-use Rattle.std.specs.Prelude.{◌==◌}
-use Rattle.std.specs.List.{concat}
-use Rattle.std.proofs.lemmas.List.{append-nil, take_at, drop_at}
-use Rattle.std.proofs.lemmas.List.Sums.{sum_by-cons}
-use Rattle.lucid_value.specs.Lines.{lines_of, without_end}
-use Rattle.lucid_inputs.specs.Streams.{line_ends}
+use Rattle.lucid_inputs.proofs.Common.{◌≡◌, ℕ, zero, suc, ◌+◌, ◌<◌, ◌≤◌, true, false, List, [], ◌∷◌, ◌++◌, length, take, drop, cond, refl, sym, ap, ◌∙◌, arith, ◌==◌, concat, append-nil, take_at, lines_of, line_ends, drop_at, sum_by-cons}
+use Rattle.std.proofs.Common.{Bool}
+use Rattle.lucid_value.specs.Lines.{without_end}
 
 plain_head_at : (m : Bool) (n : ℕ) → cond m 1 0 + n ≡ 0 → (m ≡ false) × (n ≡ 0)
 plain_head_at true n e = absurd (omega arith)

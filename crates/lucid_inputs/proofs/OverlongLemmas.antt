@@ -1,15 +1,8 @@
 -- Inputs with more bytes than may be read.
-use Rattle.std.proofs.Common.{◌≡◌, ℕ, ◌<◌, ◌≤◌, Bool, true, false, length, take, cond, Option, None, Some, IfSome, MatchOption, option_map, refl, sym, ap, subst, ◌∙◌, arith}
-use Rattle.std.specs.Prelude.{◌==◌}
-use Rattle.std.proofs.lemmas.List.{length-append, take_at, take-take}
-use Rattle.std.proofs.lemmas.List.Sums.{sum_by-take-le}
+use Rattle.lucid_inputs.proofs.Common.{◌≡◌, ℕ, ◌<◌, ◌≤◌, true, false, length, take, cond, Option, None, Some, IfSome, MatchOption, option_map, refl, sym, ap, subst, ◌∙◌, arith, ◌==◌, length-append, take_at, take-take, PlainValue, eod, element, IsOverlong, Contents, World, advanced, IsWithin, ReadsOn, Stream, Fits, all_bytes, line_ends, sum_by-take-le}
+use Rattle.std.proofs.Common.{Bool}
 use Rattle.std.specs.List.{slice_get}
-use Rattle.lucid_value.specs.Plain.{PlainValue, eod}
-use Rattle.lucid_value.specs.Elements.{element}
-use Rattle.lucid_value.specs.Lines.{IsOverlong}
-use Rattle.lucid_ports.specs.World.{Contents, World, advanced}
-use Rattle.lucid_inputs.specs.Reading.{GivesElement, IsWithin, ReadsOn}
-use Rattle.lucid_inputs.specs.Streams.{Stream, Fits, all_bytes, line_ends}
+use Rattle.lucid_inputs.specs.Reading.{GivesElement}
 use Rattle.lucid_inputs.proofs.StreamLemmas.{elements_are, elements_fit}
 use Rattle.lucid_inputs.proofs.StepLemmas.{all_bytes-advanced}
 

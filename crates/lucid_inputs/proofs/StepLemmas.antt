@@ -1,19 +1,11 @@
 -- What one piece after another does to a stream that is read on.
-use Rattle.std.proofs.Common.{cond, ◌≡◌, ℕ, ◌+◌, ◌-◌, ◌<◌, ◌≤◌, true, false, max, List, [], ◌∷◌, ◌++◌, length, take, drop, Option, None, Some, IfSome, option_map, refl, sym, ap, subst, ◌∙◌, arith, append_assoc, add-one, le_refl}
-use Rattle.std.specs.Prelude.{IsTrue, ◌==◌, Bool, not}
-use Rattle.std.specs.Io.{StartsWith}
-use Rattle.std.specs.List.{concat}
-use Rattle.std.proofs.lemmas.List.{append-nil, take-append-drop, length-append}
-use Rattle.std.proofs.lemmas.List.Sums.{sum_by-append}
-use Rattle.lucid_value.specs.Plain.{PlainValue}
-use Rattle.lucid_value.specs.Elements.{line_value_of}
-use Rattle.lucid_value.specs.Lines.{lines_of, end_of_line}
-use Rattle.lucid_ports.specs.World.{Contents, World, KeepsOthers, advanced}
+use Rattle.lucid_inputs.proofs.Common.{cond, ◌≡◌, ℕ, ◌+◌, ◌-◌, ◌<◌, ◌≤◌, true, false, List, [], ◌∷◌, ◌++◌, length, take, drop, Option, None, Some, IfSome, option_map, refl, sym, ap, subst, ◌∙◌, arith, append_assoc, add-one, le_refl, IsTrue, ◌==◌, StartsWith, concat, append-nil, length-append, sum_by-append, PlainValue, line_value_of, lines_of, Contents, World, advanced, Stream, Fits, FitsPlace, all_bytes, line_ends, ReadsOn, IsWithin, Step, step_bytes, Takes, takes_part, takes_line, last_element, line_with, with_end, with_line, with_part, max, not, take-append-drop}
+use Rattle.std.specs.Prelude.{Bool}
+use Rattle.lucid_value.specs.Lines.{end_of_line}
+use Rattle.lucid_ports.specs.World.{KeepsOthers}
 use Rattle.lucid_ports.proofs.WorldLemmas.{KeepsOthers-trans}
 use Rattle.lucid_ports.proofs.ContentsLemmas.{both_consumed}
-use Rattle.lucid_inputs.specs.Streams.{Stream, Fits, FitsPlace, all_bytes, line_ends}
-use Rattle.lucid_inputs.specs.Reading.{ReadsOn, IsWithin}
-use Rattle.lucid_inputs.specs.Steps.{Step, step_end, step_bytes, Takes, takes_part, takes_line, last_element, line_with, with_end, with_line, with_part}
+use Rattle.lucid_inputs.specs.Steps.{step_end}
 use Rattle.lucid_inputs.proofs.LineLemmas.{end_past}
 use Rattle.lucid_inputs.proofs.StreamLemmas.{fits_part, fits_line, fits_end, elements_are}
 
@@ -213,27 +205,6 @@ reads_further index old mid new w0 w1 w2 r going few d reached others =
       bound = bound_further index old mid new _ _ r.taken d.taken r.contents few r.bound r.fits told;
       fits = fits_further index mid new _ _ d.taken moved r.fits told;
     }
-
--- a call that was refused
-pub reads_refused : (index : ℕ) (old mid new : Stream) (w0 w1 w2 : World) → ReadsOn index old mid w0 w1 → new ≡ mid
-    → (w2.place mid.place).contents ≡ (w1.place mid.place).contents → w2.reached ≡ w1.reached → KeepsOthers mid.place w1 w2 → ReadsOn index old new w0 w2
-reads_refused index old mid new w0 w1 w2 r is same reached others =
-    let kept = subst (λ p. (w2.place p).contents ≡ (w1.place p).contents) r.place same in
-    subst (λ s. ReadsOn index old s w0 w2) (sym is) (
-    record {
-      place = r.place;
-      more = r.more;
-      elements = r.elements;
-      ended = r.ended;
-      taken = r.taken;
-      consumed = r.consumed;
-      contents = kept ∙ r.contents;
-      reached = reached ∙ r.reached;
-      others = KeepsOthers-trans old.place w0 w1 w2 r.others (subst (λ p. KeepsOthers p w1 w2) r.place others);
-      bound = r.bound;
-      fits = subst (λ o. IfSome o (λ c. Fits mid c)) (sym kept) r.fits;
-    }
-    )
 
 -- no more than `most` bytes after a step
 pub step_within : (old new : Stream) (before after : Option Contents) (most : ℕ) → StepDone old new before after → old.consumed < most

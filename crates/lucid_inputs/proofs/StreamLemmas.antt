@@ -1,20 +1,14 @@
 -- Streams after a step.
-use Rattle.std.proofs.Common.{◌≡◌, ℕ, zero, suc, ◌<◌, Bool, true, false, List, [], ◌∷◌, ◌++◌, length, take, drop, map, cond, MatchOption, Option, None, Some, IfSome, option_map, subst, inl, inr, refl, sym, ap, ◌∙◌, arith, append_assoc, le_refl}
-use Rattle.std.specs.Prelude.{IsTrue, ◌==◌}
-use Rattle.std.specs.Io.{StartsWith}
-use Rattle.std.specs.List.{concat, slice_get}
-use Rattle.std.proofs.lemmas.List.{append-nil, map-append, take_all, drop_all, length-append, length-map, length-take-le}
-use Rattle.std.proofs.lemmas.List.Sums.{sum_by-append}
-use Rattle.std.proofs.lemmas.Bool.{cases_lt, lt-leb}
-use Rattle.lucid_value.specs.Plain.{PlainValue, eod, fault}
-use Rattle.lucid_value.specs.Lines.{lines_of}
-use Rattle.lucid_value.specs.Elements.{element, element_of_line, line_value_of, value_read, trimmed}
+use Rattle.lucid_inputs.proofs.Common.{◌≡◌, ℕ, zero, suc, ◌<◌, true, false, List, [], ◌∷◌, ◌++◌, length, take, drop, map, cond, MatchOption, Option, None, Some, IfSome, option_map, subst, inl, inr, refl, sym, ap, ◌∙◌, arith, append_assoc, le_refl, IsTrue, ◌==◌, StartsWith, concat, append-nil, take_all, length-append, length-map, length-take-le, sum_by-append, cases_lt, PlainValue, eod, lines_of, element, element_of_line, line_value_of, Contents, advanced, Stream, Fits, all_bytes, fresh_stream, line_ends, last_element, line_with, with_end, with_line, with_part, map-append, drop_all, lt-leb}
+use Rattle.std.proofs.Common.{Bool}
+use Rattle.std.specs.List.{slice_get}
+use Rattle.lucid_value.specs.Plain.{fault}
+use Rattle.lucid_value.specs.Elements.{value_read, trimmed}
 use Rattle.lucid_value.specs.Texts.{value_or_fault}
-use Rattle.lucid_ports.specs.World.{Contents, advanced, unread}
-use Rattle.lucid_inputs.specs.Streams.{Stream, Fits, all_bytes, fresh_stream, line_element, line_ends, whole_lines}
+use Rattle.lucid_ports.specs.World.{unread}
+use Rattle.lucid_inputs.specs.Streams.{line_element, whole_lines}
 use Rattle.lucid_inputs.specs.Laws.{ElementsFit, FreshFits}
 use Rattle.lucid_inputs.proofs.LineLemmas.{Cut, cut, cut_lines, cut_parts, lines_of-line, lines_of-part, without_end-line, without_end-part}
-use Rattle.lucid_inputs.specs.Steps.{last_element, line_with, with_end, with_line, with_part}
 
 -- the elements of whole lines, of bytes that go on
 given : (whole more : List (List ℕ)) (j : ℕ) (E : Type 0) → (E → more ≡ [])

@@ -1,21 +1,14 @@
 -- What a stream takes of a piece, and the values of its lines.
-use Rattle.std.proofs.Common.{◌≡◌, ℕ, zero, suc, ◌+◌, ◌-◌, ◌<◌, ◌≤◌, min, Bool, true, false, List, [], ◌∷◌, ◌++◌, length, take, map, slice_set, get_or, Option, None, Some, IfSome, option_map, Ok, inl, inr, refl, sym, ap, subst, ◌∙◌, arith, add-one, le_refl}
-use Rattle.std.specs.Prelude.{◌==◌, slice_get, Result, IfOk}
-use Rattle.std.specs.Io.{StartsWith}
-use Rattle.std.proofs.lemmas.List.{append-nil, length-take-le, take_all, take-take, take_more}
-use Rattle.std.proofs.lemmas.List.Sums.{count_by_more_no}
-use Rattle.std.proofs.lemmas.Bool.{cases_lt, eqb-true, false_from_ne_true}
-use Rattle.std.proofs.lemmas.Option.{same_Some}
+use Rattle.lucid_inputs.proofs.Common.{◌≡◌, ℕ, zero, suc, ◌+◌, ◌-◌, ◌<◌, ◌≤◌, true, false, List, [], ◌∷◌, ◌++◌, length, take, map, slice_set, Option, None, Some, IfSome, option_map, Ok, inl, inr, refl, sym, ap, subst, ◌∙◌, arith, add-one, le_refl, ◌==◌, Result, StartsWith, length-take-le, take_all, take-take, cases_lt, eqb-true, same_Some, PlainValue, element, element_of_line, line_value_of, Contents, Place, advanced, Stream, line_ends, Step, step_bytes, Takes, takes_part, takes_line, line_with, with_end, min, get_or, IfOk, take_more, count_by_more_no, false_from_ne_true}
+use Rattle.std.proofs.Common.{Bool}
+use Rattle.std.specs.Prelude.{slice_get}
 use Rattle.memchr.specs.Find.{Nowhere, Passes, is_byte}
-use Rattle.lucid_value.specs.Plain.{PlainValue}
 use Rattle.lucid_value.specs.Laws.{OneElement}
 use Rattle.lucid_value.specs.Lines.{IsElement, IsElementOf, IsLineValue}
-use Rattle.lucid_value.specs.Elements.{element, element_of_line, line_value_of}
-use Rattle.lucid_ports.specs.World.{Contents, Place, IsShown, advanced}
+use Rattle.lucid_ports.specs.World.{IsShown}
 use denote.Ref.{Bor}
 use Rattle.lucid_ports.specs.declared.fault.PortFault.{PortFault}
-use Rattle.lucid_inputs.specs.Streams.{Stream, line_ends}
-use Rattle.lucid_inputs.specs.Steps.{Step, step_bytes, Takes, takes_part, takes_line, line_with, with_element, with_end}
+use Rattle.lucid_inputs.specs.Steps.{with_element}
 use Rattle.lucid_inputs.proofs.LineLemmas.{lines_of-line, without_end-line}
 
 -- the value that a line with no line end in it reads as
@@ -74,13 +67,6 @@ taken_line s t bytes end within found plain is =
     let long : s.consumed + (end + 1) ≡ s.consumed + length (take end bytes) + 1 = omega (arith, length-take-le end bytes (omega arith)) in
     takes_line (take end bytes) line plain
     (ap (λ (r : Stream). with_consumed (r.consumed + (end + 1)) r) is ∙ ap (λ n. with_consumed n (with_element (take end bytes) s)) long)
-
--- the end is met with no line partly read
-pub end_none : (place consumed : ℕ) (elements : List PlainValue) (ended : Bool) (partial : List ℕ) → partial ≡ []
-    → ◌≡◌ {A = Stream} (record { place = place; elements = elements; ended = true; partial = partial; consumed = consumed })
-    (with_end (record { place = place; elements = elements; ended = ended; partial = partial; consumed = consumed }))
-end_none place consumed elements ended partial none =
-    rw none (ap (λ es. record { place = place; elements = es; ended = true; partial = []; consumed = consumed }) (sym (append-nil elements)))
 
 -- the end is met behind a line without line end
 pub end_some : (place consumed : ℕ) (elements : List PlainValue) (ended : Bool) (partial : List ℕ) (t : Stream) → 0 < length partial

@@ -1,3 +1,4 @@
+pub mod Common
 pub mod NarrowResults
 pub mod OperatorRows
 pub mod Places

@@ -1,13 +1,9 @@
 -- Narrow integers keep their results.
-use Rattle.std.proofs.Common.{◌≡◌, ◌≢◌, ℕ, zero, suc, ◌^◌, Bool, true, false, List, [], ◌∷◌, refl, arith, nat_lt, nat_eq, ◌+ℤ◌, ◌-ℤ◌, ◌*ℤ◌}
-use Rattle.std.specs.Prelude.{ℤ, pos, negsuc, neg_ℤ, unsigned_abs, int_div, int_rem, length, if◌then◌else◌}
-use Rattle.std.specs.Int.{int_pow}
-use Rattle.std.specs.List.{list_any}
-use Rattle.std.proofs.lemmas.Bool.Decides.{nat_tests}
-use Rattle.lucid_value.specs.Plain.{PlainValue, int, text, list, eod, fault, listed}
-use Rattle.lucid_ops.specs.declared.op.Op.{Op}
-use Rattle.lucid_ops.specs.declared.op.Op.TheVariants.{Add, Sub, Mul, Div, Mod, Pow, Neg, Abs, Length, IsEod, IsError}
-use Rattle.lucid_ops.specs.Algebra.{by_rule, row_of, row_of_one, row_of_two, integer, unless_zero, is_eod, is_error}
+use Rattle.lucid_ops.proofs.Common.{◌≡◌, ℕ, zero, suc, ◌^◌, Bool, true, false, List, [], ◌∷◌, refl, arith, nat_lt, nat_eq, ℤ, pos, negsuc, neg_ℤ, unsigned_abs, int_div, int_rem, int_pow, nat_tests, PlainValue, int, fault, Op, Add, Pow, IsEod, IsError, by_rule, row_of, row_of_two, integer, unless_zero, is_eod, is_error, ◌≢◌, ◌+ℤ◌, ◌-ℤ◌, ◌*ℤ◌, list_any}
+use Rattle.std.specs.Prelude.{length, if◌then◌else◌}
+use Rattle.lucid_value.specs.Plain.{text, list, eod, listed}
+use Rattle.lucid_ops.specs.declared.op.Op.TheVariants.{Sub, Mul, Div, Mod, Neg, Abs, Length}
+use Rattle.lucid_ops.specs.Algebra.{row_of_one}
 use Rattle.lucid_ops.specs.Narrow.{narrow_integer, NarrowIntegersKeepTheirResults}
 
 -- the statement at two values of one row, of which the first is over narrow integers

@@ -1,15 +1,8 @@
 -- What the row of each operator says.
-use Rattle.std.proofs.Common.{◌≡◌, ◌≤◌, ℕ, Bool, true, false, cond, Some, List, [], ◌∷◌, map, refl, arith, subst, nat_eq}
-use Rattle.std.proofs.lemmas.Bool.{and_parts}
-use Rattle.std.proofs.lemmas.Bool.Decides.{Decides-eqb}
-use Rattle.std.proofs.lemmas.Slice.Eq.{slice_eq-Decides}
+use Rattle.lucid_ops.proofs.Common.{◌≡◌, ◌≤◌, ℕ, Bool, true, false, cond, List, [], ◌∷◌, map, refl, arith, nat_eq, and_parts, find, option_map, Op, Add, arity, has, subst, Decides-eqb, slice_eq-Decides}
+use Rattle.std.proofs.Common.{Some}
 use Rattle.lucid_value.specs.Plain.{same_bytes}
-use Rattle.std.specs.List.{find}
-use Rattle.std.specs.Option.{option_map}
-use Rattle.lucid_ops.specs.declared.op.Op.{Op}
-use Rattle.lucid_ops.specs.declared.op.Op.TheVariants.{Add}
-use Rattle.lucid_ops.specs.Arity.{arity}
-use Rattle.lucid_ops.specs.Rows.{form_number, has, by_spelling, operator_of, operator_row, IsRowOf, IsFoundByItsRow}
+use Rattle.lucid_ops.specs.Rows.{form_number, by_spelling, operator_of, operator_row, IsRowOf, IsFoundByItsRow}
 use Rattle.lucid_ops.specs.declared.op.Form.{Form}
 use Rattle.lucid_ops.specs.declared.op.Form.TheVariants.{Before, Between, Called}
 

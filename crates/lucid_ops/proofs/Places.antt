@@ -1,13 +1,7 @@
 -- Numbers that have a place among those of 128 bits.
-use Rattle.std.proofs.Common.{◌≡◌, ℕ, zero, suc, ◌^◌, ◌<◌, ◌≤ℤ◌, true, false, refl, arith, nat_lt, nat_eq, if◌then◌else◌}
-use Rattle.std.specs.Prelude.{ℤ, pos, negsuc, neg_ℤ, unsigned_abs, int_div, int_rem, FitsSigned, Option, Some, None}
-use Rattle.std.specs.Option.{SomeIff, option_map_or}
-use Rattle.std.specs.Int.{w128, CanDivide, int_pow}
-use Rattle.std.proofs.lemmas.Bool.Decides.{nat_tests}
-use Rattle.lucid_value.specs.Plain.{PlainValue, int, fault}
-use Rattle.lucid_ops.specs.Algebra.{integer, unless_zero, row_of_two}
-use Rattle.lucid_ops.specs.declared.op.Op.TheVariants.{Pow}
-use Rattle.std.proofs.lemmas.Int.{ints}
+use Rattle.lucid_ops.proofs.Common.{◌≡◌, ℕ, zero, suc, ◌^◌, ◌<◌, true, false, refl, arith, nat_lt, nat_eq, ℤ, pos, negsuc, neg_ℤ, unsigned_abs, int_div, int_rem, FitsSigned, w128, int_pow, nat_tests, PlainValue, int, fault, integer, unless_zero, row_of_two, Pow, ints, ◌≤ℤ◌, Option, None, SomeIff, option_map_or, CanDivide}
+use Rattle.std.proofs.Common.{if◌then◌else◌}
+use Rattle.std.specs.Prelude.{Some}
 use lib.Signed.{mag_rem}
 
 within : (n : ℕ) (v : PlainValue) → n < 2 ^ 127 → (if nat_lt n (2 ^ 127) then v else fault) ≡ v

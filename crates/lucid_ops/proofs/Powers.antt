@@ -1,9 +1,5 @@
 -- Powers at exponents of 128 and more.
-use Rattle.std.proofs.Common.{◌≡◌, ℕ, zero, suc, ◌^◌, ◌%◌, ◌≤◌, ◌<◌, ◌==◌, Bool, true, false, cond, refl, ◌∙◌, arith}
-use Rattle.std.specs.Prelude.{ℤ, pos, negsuc, neg_ℤ, FitsSigned}
-use Rattle.std.specs.Int.{w128, int_pow}
-use Rattle.std.proofs.lemmas.Bool.Decides.{nat_tests}
-use Rattle.std.proofs.Math.Nat.{pow-suc, pow-le-pow_left, pow-le-pow_right}
+use Rattle.lucid_ops.proofs.Common.{◌≡◌, ℕ, zero, suc, ◌^◌, ◌%◌, ◌≤◌, ◌<◌, Bool, true, false, cond, refl, ◌∙◌, arith, ℤ, pos, negsuc, neg_ℤ, FitsSigned, w128, int_pow, nat_tests, ◌==◌, pow-suc, pow-le-pow_left, pow-le-pow_right}
 
 one_power : (n : ℕ) → 1 ^ n ≡ 1
 one_power zero = refl

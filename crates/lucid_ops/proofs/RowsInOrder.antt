@@ -1,9 +1,7 @@
 -- Rows in order, and the row that is found in them.
-use Rattle.std.proofs.Common.{◌≡◌, ◌<◌, Bool, true, false, cond, Some, List, [], ◌∷◌, length, map, refl, arith}
-use Rattle.std.specs.List.{find}
-use Rattle.std.specs.Option.{option_map}
+use Rattle.lucid_ops.proofs.Common.{◌≡◌, ◌<◌, Bool, true, false, cond, List, [], ◌∷◌, map, refl, arith, find, option_map, rises}
+use Rattle.std.proofs.Common.{Some, length}
 use Rattle.lucid_ops.specs.Row.{Row}
-use Rattle.lucid_ops.specs.Rows.{rises}
 
 -- no row, and one row alone, stand in order
 pub rises_short : {A : Type 0} (f : A → Row) (xs : List A) → length xs < 2 → rises (map f xs) ≡ true

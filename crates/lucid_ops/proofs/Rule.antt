@@ -1,13 +1,9 @@
 -- All operators but two keep the rule of end of data and errors.
-use Rattle.std.proofs.Common.{◌≡◌, ◌<◌, false, List, [], ◌∷◌, refl, ◌∙◌, arith}
-use Rattle.lucid_value.specs.Plain.{PlainValue}
+use Rattle.lucid_ops.proofs.Common.{◌≡◌, ◌<◌, false, List, [], ◌∷◌, refl, ◌∙◌, arith, PlainValue, Op, IsEod, IsError, arity, by_rule, row_of, row_of_two, integer, is_eod, is_error}
 use Rattle.lucid_value.specs.View.{plain}
 use Rattle.lucid_value.specs.declared.Value.{Value}
 use Rattle.lucid_value.specs.declared.Value.TheVariants.{Eod, Fault}
-use Rattle.lucid_ops.specs.declared.op.Op.{Op}
-use Rattle.lucid_ops.specs.declared.op.Op.TheVariants.{IsEod, IsError}
-use Rattle.lucid_ops.specs.Arity.{arity}
-use Rattle.lucid_ops.specs.Algebra.{algebra, by_rule, row_of, row_of_two, row_of_three, integer, is_eod, is_error}
+use Rattle.lucid_ops.specs.Algebra.{algebra, row_of_three}
 
 pub keeps_rule : (op : Op) (vs : List PlainValue) → (op ≡ IsEod → ⊥) → (op ≡ IsError → ⊥) → algebra op vs ≡ by_rule vs (row_of integer op vs)
 keeps_rule IsEod vs p q = absurd (p refl)

@@ -1,15 +1,6 @@
 -- The bytes of words and of decimal numbers may stand in a string.
-use Rattle.std.proofs.Common.{◌≡◌, ℕ, suc, ◌+◌, ◌%◌, ◌^◌, ◌<◌, ◌∙◌, not, true, List, [], ◌∷◌, ◌++◌, length, IsTrue, refl, arith}
-use Rattle.std.specs.Prelude.{ℤ, pos, negsuc, FitsSigned}
-use Rattle.std.specs.Int.{w128}
-use Rattle.std.specs.List.{list_all}
-use Rattle.std.specs.Char.{is_ascii_alphabetic, is_ascii_alphanumeric}
-use Rattle.std.specs.Fmt.{decimal, signed_decimal}
-use Rattle.std.specs.Cmp.Derive.{both_true}
-use Rattle.std.proofs.lemmas.Bool.{and_parts}
-use Rattle.std.proofs.lemmas.Bool.Decides.{nat_tests}
-use Rattle.std.proofs.lemmas.List.Folds.{list_all-append}
-use Rattle.std.proofs.lemmas.Fmt.{decimal_by_steps_wide, length-decimal-le_wide}
+use Rattle.lucid_ops.proofs.Common.{◌≡◌, ℕ, suc, ◌%◌, ◌^◌, ◌<◌, ◌∙◌, true, List, [], ◌∷◌, refl, arith, ℤ, pos, negsuc, FitsSigned, w128, and_parts, nat_tests, ◌+◌, not, ◌++◌, IsTrue, list_all, is_ascii_alphabetic, is_ascii_alphanumeric, decimal, signed_decimal, both_true, list_all-append, decimal_by_steps_wide, length-decimal-le_wide}
+use Rattle.std.proofs.Common.{length}
 use Rattle.lucid_value.specs.Plain.{is_text, is_text_byte, is_word, is_wordlike, spells_constant}
 
 letter : (b : ℕ) → is_ascii_alphabetic b ≡ true → is_text_byte b ≡ true

@@ -1,15 +1,10 @@
 -- What is answered for the terminals is answered for the tokens whose terminals they are.
-use Rattle.std.proofs.Common.{◌≡◌, ℕ, List, length, sym, subst, Result, Ok, Err}
-use Rattle.std.specs.Prelude.{IfOk, IfErr}
-use Rattle.lucid_tree.specs.Tree.{PlainTree}
-use Rattle.lucid_scan.specs.declared.token.Token.{Token}
+use Rattle.lucid_parse.proofs.Common.{◌≡◌, ℕ, List, length, sym, subst, Err, PlainTree, Token, PlacedTerminal, Spells, Terminals, SpellsTree, TerminalsAreUnique, Result, Ok, IfOk, IfErr}
 use Rattle.lucid_parse.specs.declared.refusal.ParseRefusal.{ParseRefusal}
 use Rattle.lucid_parse.specs.declared.refusal.ParseRefusal.TheVariants as refusal
-use Rattle.lucid_parse.specs.Grammar.{PlacedTerminal, Spells}
-use Rattle.lucid_parse.specs.Terminals.{Terminals}
 use Rattle.lucid_parse.specs.Refused.{AreRefused}
-use Rattle.lucid_parse.specs.Spelled.{SpellsTree, IsRefused}
-use Rattle.lucid_parse.specs.Laws.{TerminalsAreUnique, TokensSpellOneTree}
+use Rattle.lucid_parse.specs.Spelled.{IsRefused}
+use Rattle.lucid_parse.specs.Laws.{TokensSpellOneTree}
 use Rattle.lucid_parse.proofs.Built.{one_tree}
 
 -- for want of memory any tokens may be refused

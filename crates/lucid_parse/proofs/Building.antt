@@ -1,12 +1,5 @@
 -- The code's nodes build what the nodes that they stand for do.
-use Rattle.std.proofs.Common.{◌≡◌, ℕ, ◌+◌, ◌<◌, ◌≤◌, List, length, take, get_or, Option, Some, sym, ◌∙◌, ap, arith}
-use Rattle.std.proofs.lemmas.List.{get_or-map, length-map}
-use Rattle.std.specs.Borrow.{Bor}
-use Rattle.lucid_value.specs.declared.Value.{Value}
-use Rattle.lucid_parse.specs.declared.state.Item.{Item}
-use Rattle.lucid_parse.specs.Fill.{fill_item}
-use Rattle.lucid_parse.specs.Views.{name_now, value_now, items_of}
-use Rattle.lucid_parse.specs.Build.{PlainPiles, no_piles, put_on, built}
+use Rattle.lucid_parse.proofs.Common.{◌≡◌, ℕ, ◌+◌, ◌<◌, ◌≤◌, List, length, take, get_or, Option, Some, sym, ◌∙◌, ap, arith, get_or-map, length-map, Bor, Value, Item, fill_item, name_now, value_now, items_of, PlainPiles, no_piles, put_on, built}
 use Rattle.lucid_parse.proofs.Built.{built-more}
 
 abbrev CodeItem : Type 0

@@ -1,9 +1,5 @@
 -- The nodes of a tree that is spelled build it.
-use Rattle.std.proofs.Common.{◌≡◌, ℕ, suc, ◌+◌, ◌<◌, ◌≤◌, length, take, drop, get_or, List, [], ◌∷◌, ◌++◌, Option, Some, None, option_and_then, refl, sym, ◌∙◌, ap, arith, append_assoc, append-nil}
-use Rattle.std.proofs.lemmas.List.{take_more, take_all, take-append-drop}
-use Rattle.lucid_tree.specs.Tree.{PlainTree, form, call, block, PlainTrees, no_trees, tree, PlainDefs, no_defs, defines, defines_function, defines_current}
-use Rattle.lucid_tree.specs.Size.{count}
-use Rattle.lucid_tree.specs.Lists.{trees_of}
+use Rattle.lucid_parse.proofs.Common.{◌≡◌, ℕ, suc, ◌+◌, ◌<◌, ◌≤◌, length, take, drop, get_or, List, [], ◌∷◌, ◌++◌, Option, Some, None, option_and_then, refl, sym, ◌∙◌, ap, arith, append_assoc, append-nil, take_more, take_all, take-append-drop, PlainTree, form, call, block, PlainTrees, no_trees, tree, PlainDefs, no_defs, defines, defines_function, defines_current, count, trees_of, Operator, PlacedTerminal, trees_and, defs_and, Defined, Plain, Function, Current, Parameter, names_of, places_of, arity_of, head, Spells, SpellsArgs, SpellsDefs, PlainItem, written, written_parts, written_all, written_defs, with_parameters, PlainPiles, no_piles, gather, put_on, built}
 use Rattle.lucid_tree.specs.DefsView.{defs_of}
 use Rattle.lucid_tree.specs.declared.tree.Def.{Def}
 use Rattle.lucid_tree.specs.declared.tree.DefKind.{DefKind}
@@ -11,11 +7,7 @@ use Rattle.lucid_tree.specs.declared.tree.DefKind.TheVariants as def_kind
 use Rattle.lucid_parse.specs.declared.state.Item.TheVariants as item
 use Rattle.lucid_parse.specs.declared.state.Defines.TheVariants as kind
 use Rattle.lucid_parse.specs.Grammar
-use Rattle.lucid_forms.specs.declared.operator.Operator.{Operator}
-use Rattle.lucid_parse.specs.Grammar.{PlacedTerminal, trees_and, defs_and, Defined, Plain, Function, Current, Parameter, names_of, places_of, arity_of, head, Spells, SpellsArgs, SpellsDefs}
-use Rattle.lucid_parse.specs.Machine.{PlainItem}
-use Rattle.lucid_parse.specs.Flat.{written, written_parts, written_all, written_defs, with_parameters}
-use Rattle.lucid_parse.specs.Build.{PlainPiles, piles, no_piles, definition, gather, put_on, built}
+use Rattle.lucid_parse.specs.Build.{piles, definition}
 use Rattle.lucid_parse.proofs.Levels.{infix_arity, prefix_arity, node-operator}
 use Rattle.lucid_parse.proofs.Complete.{written_parts-and, written_all-and, written_defs-and}
 use Rattle.lucid_parse.proofs.Exact.{spelled_nodes}

@@ -1,23 +1,14 @@
 -- Terminals that spell a tree lead the machine over them, and_from it writes the tree.
-use Rattle.std.proofs.Common.{◌≡◌, ℕ, ◌+◌, ◌≤◌, ◌<◌, List, [], ◌∷◌, ◌++◌, Option, Some, None, Bool, true, false, cond, option_and_then, refl, sym, ◌∙◌, ap, subst, arith, leb, zero-le, le_refl}
-use Rattle.std.proofs.lemmas.Bool.{le-leb, leb-true, eq-eqb, ne_eqb, and_from, false_from_ne_true, and_parts}
-use Rattle.std.specs.Prelude.{nat_eq, ◌-◌}
-use Rattle.lucid_tree.specs.Tree.{PlainTree, PlainTrees, no_trees, tree, PlainDefs, no_defs, defines, defines_function, defines_current}
-use Rattle.lucid_tree.specs.Size.{count}
-use Rattle.lucid_ops.specs.declared.op.Form.TheVariants.{Before, Between, Called}
+use Rattle.lucid_parse.proofs.Common.{◌≡◌, ℕ, ◌+◌, ◌≤◌, ◌<◌, List, [], ◌∷◌, ◌++◌, Option, Some, None, Bool, true, false, cond, option_and_then, refl, sym, ◌∙◌, ap, subst, arith, leb, zero-le, le_refl, leb-true, eq-eqb, ne_eqb, and_from, and_parts, nat_eq, PlainTree, PlainTrees, no_trees, tree, PlainDefs, no_defs, defines, defines_function, defines_current, count, Before, Between, Called, Defines, Frame, Item, Operator, PlainTerminal, PlacedTerminal, terminal_at, trees_and, def_before, defs_and, Parameter, names_of, places_of, Defined, Plain, Function, Current, Spells, SpellsArgs, SpellsDefs, SpellsNames, level_of, arity_of, left, right, operator_in, PlainFrame, PlainItem, PlainState, state, called_at, definition_in, takes, shift, inner_frames, inner_out, settle_at, settle, prefixed, begun, begin, step_named, step, feeds, finished, finish, written, written_parts, written_all, written_defs, with_parameters, le-leb, false_from_ne_true}
+use Rattle.std.specs.Prelude.{◌-◌}
 use Rattle.lucid_parse.specs.declared.terminal.Terminal.TheVariants as terminal
-use Rattle.lucid_parse.specs.declared.state.Defines.{Defines}
 use Rattle.lucid_parse.specs.declared.state.Defines.TheVariants as kind
-use Rattle.lucid_parse.specs.declared.state.Frame.{Frame}
 use Rattle.lucid_parse.specs.declared.state.Frame.TheVariants as frame
 use Rattle.lucid_parse.specs.declared.state.Focus.TheVariants as focus
-use Rattle.lucid_parse.specs.declared.state.Item.{Item}
 use Rattle.lucid_parse.specs.declared.state.Item.TheVariants as item
 use Rattle.lucid_parse.specs.Grammar
-use Rattle.lucid_forms.specs.declared.operator.Operator.{Operator}
-use Rattle.lucid_parse.specs.Grammar.{PlainTerminal, PlacedTerminal, terminal_at, trees_and, def_before, defs_and, Parameter, parameter, names_of, places_of, Defined, Plain, Function, Current, Spells, SpellsArgs, SpellsDefs, SpellsNames, level_of, arity_of, left, right, operator_in}
-use Rattle.lucid_parse.specs.Machine.{PlainFrame, PlainItem, PlainState, state, called_at, definition_in, takes, shift, inner_frames, inner_out, settle_at, settle, prefixed, begun, begin, step_named, step, feeds, finished, finish}
-use Rattle.lucid_parse.specs.Flat.{written, written_parts, written_all, written_defs, kind_of, listed, with_parameters, headed}
+use Rattle.lucid_parse.specs.Grammar.{parameter}
+use Rattle.lucid_parse.specs.Flat.{kind_of, listed, headed}
 use Rattle.lucid_parse.proofs.Levels.{prefix_level_most, left_most, right_most, left_least, right_least, right_positive, level_positive, arity_positive, before_not_called, apart, apart_prefix, node-operator}
 
 -- the terminal leaves no operand of this level or a tighter one open, when it comes next

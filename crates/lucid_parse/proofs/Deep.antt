@@ -1,20 +1,11 @@
 -- The search over the nodes finds the least place at a depth.
-use Rattle.std.proofs.Common.{◌≡◌, ℕ, suc, pred, ◌+◌, ◌≤◌, ◌<◌, min, List, [], ◌∷◌, ◌++◌, map, reverse, Option, Some, None, Bool, true, false, cond, ◌⊎◌, inl, inr, refl, sym, ◌∙◌, ap, subst, arith, add-one, append_assoc, append-nil, Contains, eqb, length, take, get_or}
-use Rattle.std.proofs.lemmas.Bool.{cases_lt, ne_eqb, eqb-false}
-use Rattle.std.proofs.lemmas.List.{reverse-append, take_more}
-use Rattle.std.proofs.lemmas.List.Elements.{All-nil, All-cons, All-weaker}
-use Rattle.lucid_tree.specs.Tree.{PlainTree, form, name, call, block, PlainTrees, no_trees, tree, PlainDefs, no_defs, defines, defines_function, defines_current}
-use Rattle.lucid_tree.specs.Size.{count}
-use Rattle.lucid_tree.specs.WellMade.{depth, depths, depths_in_defs}
-use Rattle.lucid_parse.specs.declared.state.Item.{Item}
+use Rattle.lucid_parse.proofs.Common.{◌≡◌, ℕ, suc, ◌+◌, ◌≤◌, ◌<◌, List, [], ◌∷◌, ◌++◌, map, reverse, Option, Some, None, Bool, true, false, cond, ◌⊎◌, inl, inr, refl, sym, ◌∙◌, ap, subst, arith, add-one, append_assoc, append-nil, length, cases_lt, ne_eqb, eqb-false, reverse-append, PlainTree, form, call, block, PlainTrees, no_trees, tree, PlainDefs, no_defs, defines, defines_function, defines_current, count, depth, Item, PlacedTerminal, trees_and, defs_and, Defined, Plain, Function, Current, Parameter, arity_of, Spells, SpellsArgs, SpellsDefs, PlainItem, fill_item, written, written_parts, written_all, written_defs, with_parameters, at_depth, IsLeast, least_in, copies, search_from, pred, min, Contains, eqb, All-nil, All-cons, All-weaker}
+use Rattle.lucid_tree.specs.Tree.{name}
+use Rattle.lucid_tree.specs.WellMade.{depths, depths_in_defs}
 use Rattle.lucid_parse.specs.declared.state.Item.TheVariants as item
 use Rattle.lucid_parse.specs.declared.state.Defines.TheVariants as kind
 use Rattle.lucid_parse.specs.Grammar
-use Rattle.lucid_parse.specs.Grammar.{PlacedTerminal, trees_and, defs_and, Defined, Plain, Function, Current, Parameter, arity_of, Spells, SpellsArgs, SpellsDefs}
-use Rattle.lucid_parse.specs.Machine.{PlainItem}
-use Rattle.lucid_parse.specs.Fill.{fill_item}
-use Rattle.lucid_parse.specs.Flat.{written, written_parts, written_all, written_defs, with_parameters}
-use Rattle.lucid_parse.specs.Depth.{here, at_depth, at_depth_in, at_depth_in_defs, IsLeast, lesser, least_in, found, copies, below, search_from}
+use Rattle.lucid_parse.specs.Depth.{here, at_depth_in, at_depth_in_defs, lesser, found, below}
 use Rattle.lucid_parse.proofs.Levels.{infix_arity, prefix_arity, node-operator}
 use Rattle.lucid_parse.proofs.Complete.{written_parts-and, written_all-and, written_defs-and, count-and}
 
@@ -269,13 +260,6 @@ deep t d at h = elim (cases_lt (depth t) d) [
 pub search_from-over : {N V : Type 0} (is : List (Item N V)) (best : Option ℕ) → search_from is [] best ≡ best
 search_from-over [] best = refl
 search_from-over (i ∷ is) best = refl
-
--- one node from the end
-pub search_from-more : {N V : Type 0} (items : List (Item N V)) (i : ℕ) (x : Item N V) (d : ℕ) (ds : List ℕ) (best : Option ℕ) → i < length items
-    → search_from (reverse (take (i + 1) items)) (d ∷ ds) best ≡ search_from (reverse (take i items)) (below (get_or items i x) d ds) (found (get_or items i x) d best)
-search_from-more items i x d ds best h =
-    ap (λ l. search_from (reverse l) (d ∷ ds) best) (take_more items i x h)
-    ∙ ap (λ l. search_from l (d ∷ ds) best) (reverse-append (take i items) (get_or items i x ∷ []))
 
 -- The search looks at no name and no value.
 module _ {M N V W : Type 0} (f : M → N) (g : V → W) where

@@ -1,12 +1,6 @@
 -- The machine stops exactly where no program goes on.
-use Rattle.std.proofs.Common.{◌≡◌, ℕ, ◌+◌, ◌≤◌, ◌<◌, List, [], ◌∷◌, ◌++◌, length, take, drop, get_or, Option, Some, None, option_and_then, refl, sym, ◌∙◌, ap, subst, arith, zero-le, le_refl, inl, inr}
-use Rattle.std.proofs.lemmas.List.{take_more, take_all, take-append-drop, take-take, get_or-map}
-use Rattle.std.proofs.lemmas.Bool.{cases_lt}
-use Rattle.lucid_tree.specs.Tree.{PlainTree}
-use Rattle.lucid_parse.specs.Grammar.{PlacedTerminal, Spells}
-use Rattle.lucid_parse.specs.Machine.{PlainState, start, step, feeds, finish, nodes}
-use Rattle.lucid_parse.specs.Flat.{written}
-use Rattle.lucid_parse.specs.Verdict.{Begins, SpellsNone, place_of, IsFault}
+use Rattle.lucid_parse.proofs.Common.{◌≡◌, ℕ, ◌+◌, ◌≤◌, ◌<◌, List, [], ◌∷◌, ◌++◌, length, take, drop, get_or, Option, Some, None, option_and_then, refl, sym, ◌∙◌, ap, subst, arith, zero-le, le_refl, inl, inr, take_more, take_all, take-append-drop, get_or-map, cases_lt, PlainTree, PlacedTerminal, Spells, PlainState, start, step, feeds, finish, nodes, written, Begins, SpellsNone, IsFault, take-take}
+use Rattle.lucid_parse.specs.Verdict.{place_of}
 use Rattle.lucid_parse.proofs.Complete.{complete, feeds-append}
 use Rattle.lucid_parse.proofs.Sound.{feeds_mean, start_means}
 use Rattle.lucid_parse.proofs.Viable.{viable, begins_front}

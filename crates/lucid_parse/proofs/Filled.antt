@@ -1,24 +1,12 @@
 -- The machine looks at no name and no value: its steps over names and values that are read through two functions are its steps read so.
-use Rattle.std.proofs.Common.{◌≡◌, ℕ, List, [], ◌∷◌, ◌++◌, map, Option, Some, None, Bool, true, false, cond, refl, sym, ◌∙◌, ap}
-use Rattle.std.specs.Option.{option_map}
-use Rattle.std.specs.Prelude.{nat_le, nat_eq}
-use Rattle.std.proofs.lemmas.List.{map-append}
-use Rattle.lucid_ops.specs.declared.op.Form.{Form}
-use Rattle.lucid_ops.specs.declared.op.Form.TheVariants.{Before, Between, Called}
-use Rattle.lucid_parse.specs.declared.terminal.Terminal.{Terminal}
+use Rattle.lucid_parse.proofs.Common.{◌≡◌, ℕ, List, [], ◌∷◌, ◌++◌, map, Option, Some, None, Bool, true, false, cond, refl, sym, ◌∙◌, ap, option_map, nat_eq, map-append, Form, Before, Between, Called, Terminal, CalledOperator, Definition, Frame, Item, Operator, level_of, operator_in, State, state, takes, shift, inner_frames, inner_out, after_frame, close, settle_at, settle, prefixed, begun, begin, step_named, step_heads, step_headed, step_frozen, step_names, step_listed, step_ready, step_opens, step_at, step, if_empty, finished, finish_at, finish, fill_terminal, fill_item, fill_state, nat_le}
 use Rattle.lucid_parse.specs.declared.terminal.Terminal.TheVariants as terminal
-use Rattle.lucid_parse.specs.declared.state.CalledOperator.{CalledOperator}
-use Rattle.lucid_parse.specs.declared.state.Definition.{Definition}
-use Rattle.lucid_parse.specs.declared.state.Frame.{Frame}
 use Rattle.lucid_parse.specs.declared.state.Frame.TheVariants as frame
 use Rattle.lucid_parse.specs.declared.state.Focus.{Focus}
 use Rattle.lucid_parse.specs.declared.state.Focus.TheVariants as focus
-use Rattle.lucid_parse.specs.declared.state.Item.{Item}
 use Rattle.lucid_parse.specs.declared.state.Item.TheVariants as item
-use Rattle.lucid_forms.specs.declared.operator.Operator.{Operator}
-use Rattle.lucid_parse.specs.Grammar.{level_of, operator_in}
-use Rattle.lucid_parse.specs.Machine.{State, state, takes, shift, inner_frames, inner_out, after_frame, close_top, close, settle_at, settle, prefixed, begun, begin, step_named, step_heads, step_headed, step_frozen, step_names, step_listed, step_ready, step_opens, step_at, step, if_empty, finished, finish_at, finish}
-use Rattle.lucid_parse.specs.Fill.{fill_terminal, fill_definition, fill_frame, fill_focus, fill_item, fill_state}
+use Rattle.lucid_parse.specs.Machine.{close_top}
+use Rattle.lucid_parse.specs.Fill.{fill_definition, fill_frame, fill_focus}
 
 module _ {M N V W : Type 0} (f : M → N) (g : V → W) where
   abbrev frames_of : List (Frame M) → List (Frame N)

@@ -1,22 +1,16 @@
 -- Laws of the levels.
-use Rattle.std.proofs.Common.{◌≡◌, ℕ, ◌+◌, ◌≤◌, ◌<◌, Bool, true, false, cond, Some, None, refl, sym, ◌∙◌, ap, subst, arith}
-use Rattle.std.specs.Prelude.{nat_lt, nat_eq, ◌&&◌}
-use Rattle.std.proofs.lemmas.Bool.{and_parts, ltb-true, eqb-true}
+use Rattle.lucid_parse.proofs.Common.{◌≡◌, ℕ, ◌+◌, ◌≤◌, ◌<◌, Bool, true, false, cond, Some, None, refl, sym, ◌∙◌, ap, subst, arith, nat_eq, and_parts, ltb-true, eqb-true, Form, Before, Between, Called, Data, node, Operator, PlainTerminal, level_of, arity_of, left, right, head, operator_in, nat_lt, ◌&&◌}
 use Rattle.lucid_ops.specs.declared.op.Op.TheVariants as op
-use Rattle.lucid_ops.specs.declared.op.Form.{Form}
-use Rattle.lucid_ops.specs.declared.op.Form.TheVariants.{Before, Between, Called}
 use Rattle.lucid_ops.specs.declared.op.Side.{Side}
 use Rattle.lucid_ops.specs.declared.op.Side.TheVariants.{Left, Single}
 use Rattle.lucid_ops.specs.Row.{left_level, right_level}
 use Rattle.lucid_ops.specs.Rows.{form_number, level_side, fits_form}
 use Rattle.lucid_ops.proofs.OperatorRows.{form_is}
-use Rattle.lucid_forms.specs.declared.operator.Operator.TheVariants.{Data}
 use Rattle.lucid_forms.proofs.Rows.{row_stands, known}
 use Rattle.lucid_parse.specs.declared.terminal.Terminal.TheVariants as terminal
 use Rattle.lucid_parse.specs.declared.state.Item.TheVariants as item
-use Rattle.lucid_parse.specs.Flat.{node_of, node}
-use Rattle.lucid_forms.specs.declared.operator.Operator.{Operator}
-use Rattle.lucid_parse.specs.Grammar.{PlainTerminal, row_of, level_of, arity_of, left, right, head, as_form, operator_in}
+use Rattle.lucid_parse.specs.Flat.{node_of}
+use Rattle.lucid_parse.specs.Grammar.{row_of, as_form}
 
 -- A terminal that is an operator in a form is one whose row has that form.
 of_form : (wanted : Form) (o found : Operator) → as_form wanted o ≡ Some found → ((row_of o).form ≡ wanted) × (o ≡ found)

@@ -1,3 +1,4 @@
+pub mod Common
 pub mod Levels
 pub mod Complete
 pub mod Sound

@@ -1,17 +1,5 @@
 -- What the nodes say of the terminals.
-use Rattle.std.proofs.Common.{◌≡◌, ℕ, ◌<◌, ◌≤◌, List, [], ◌∷◌, ◌++◌, map, reverse, Option, Some, None, option_and_then, refl, sym, ◌∙◌, ap, subst, arith, lit≤}
-use Rattle.std.proofs.lemmas.List.{map-append, reverse-append}
-use Rattle.std.specs.Borrow.{Bor}
-use Rattle.lucid_value.specs.declared.Value.{Value}
-use Rattle.lucid_tree.specs.Tree.{PlainTree}
-use Rattle.lucid_tree.specs.WellMade.{depth}
-use Rattle.lucid_parse.specs.declared.state.Item.{Item}
-use Rattle.lucid_parse.specs.Grammar.{PlacedTerminal, Spells}
-use Rattle.lucid_parse.specs.Machine.{PlainState, PlainItem, start, feeds, finish, nodes}
-use Rattle.lucid_parse.specs.Fill.{fill_item}
-use Rattle.lucid_parse.specs.Views.{items_of, name_now, value_now}
-use Rattle.lucid_parse.specs.Flat.{written}
-use Rattle.lucid_parse.specs.Depth.{at_depth, IsLeast, least_in, search_from}
+use Rattle.lucid_parse.proofs.Common.{◌≡◌, ℕ, ◌<◌, ◌≤◌, List, [], ◌∷◌, ◌++◌, map, reverse, Option, Some, None, option_and_then, refl, sym, ◌∙◌, ap, subst, arith, map-append, reverse-append, Bor, Value, PlainTree, depth, Item, PlacedTerminal, Spells, PlainState, PlainItem, start, feeds, finish, nodes, fill_item, items_of, name_now, value_now, written, at_depth, IsLeast, least_in, search_from, lit≤}
 use Rattle.lucid_parse.proofs.Sound.{sound}
 use Rattle.lucid_parse.proofs.Deep.{search_finds, least_in-none, least_in-some, filled, deep, search_from-filled}
 

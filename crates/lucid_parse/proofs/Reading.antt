@@ -1,18 +1,5 @@
 -- The machine over borrowed names and values reads the terminals that they stand for.
-use Rattle.std.proofs.Common.{◌≡◌, ℕ, ◌+◌, ◌<◌, ◌≤◌, List, length, map, take, get_or, Option, Some, None, option_and_then, sym, ◌∙◌, ap, subst, arith}
-use Rattle.std.specs.Option.{option_map}
-use Rattle.std.proofs.lemmas.List.{take_all, get_or-map, length-map}
-use Rattle.std.specs.Borrow.{Bor}
-use Rattle.lucid_value.specs.declared.Value.{Value}
-use Rattle.lucid_parse.specs.declared.terminal.Terminal.{Terminal}
-use Rattle.lucid_parse.specs.declared.terminal.TerminalAt.{TerminalAt}
-use Rattle.lucid_parse.specs.declared.state.Item.{Item}
-use Rattle.lucid_parse.specs.Grammar.{PlacedTerminal}
-use Rattle.lucid_parse.specs.Machine.{State, start, step, feeds, finish, nodes}
-use Rattle.lucid_value.specs.Plain.{PlainValue}
-use Rattle.lucid_parse.specs.Fill.{fill_terminal, fill_item, fill_state}
-use Rattle.lucid_parse.specs.Views.{name_now, value_now, placed_of, terminals_of, items_of}
-use Rattle.lucid_parse.specs.Verdict.{SpellsNone, IsFault}
+use Rattle.lucid_parse.proofs.Common.{◌≡◌, ℕ, ◌+◌, ◌<◌, ◌≤◌, List, length, map, take, get_or, Option, Some, None, option_and_then, sym, ◌∙◌, ap, subst, arith, option_map, take_all, get_or-map, length-map, Bor, Value, Terminal, TerminalAt, Item, PlacedTerminal, State, start, step, feeds, finish, nodes, PlainValue, fill_terminal, fill_item, fill_state, name_now, value_now, placed_of, terminals_of, items_of, SpellsNone, IsFault}
 use Rattle.lucid_parse.proofs.Filled.{filled_step, filled_finish}
 use Rattle.lucid_parse.proofs.Exact.{feeds-more, fault_at_step, none_at_step, fault_at_end, none_at_end}
 

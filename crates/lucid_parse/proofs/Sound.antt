@@ -1,24 +1,13 @@
 -- Each state of the machine means a part of a derivation, so what it accepts is spelled, and what it has read begins a program.
-use Rattle.std.proofs.Common.{◌≡◌, ℕ, ◌+◌, ◌≤◌, List, [], ◌∷◌, ◌++◌, Option, Some, None, Bool, true, false, cond, option_and_then, ◌⊎◌, inl, inr, refl, sym, ◌∙◌, ap, subst, arith, leb, zero-le, le_refl, append_assoc, append-nil}
-use Rattle.std.proofs.lemmas.Bool.{leb-true, eqb-true, eqb-false, and_parts}
-use Rattle.std.specs.Prelude.{nat_eq, ◌-◌}
-use Rattle.std.proofs.lemmas.Option.{cond_some, same_Some}
-use Rattle.lucid_tree.specs.Tree.{PlainTree, PlainTrees, PlainDefs}
-use Rattle.lucid_tree.specs.Size.{count}
-use Rattle.lucid_ops.specs.declared.op.Form.TheVariants.{Before, Between, Called}
+use Rattle.lucid_parse.proofs.Common.{◌≡◌, ℕ, ◌+◌, ◌≤◌, List, [], ◌∷◌, ◌++◌, Option, Some, None, Bool, true, false, cond, option_and_then, ◌⊎◌, inl, inr, refl, sym, ◌∙◌, ap, subst, arith, leb, zero-le, le_refl, append_assoc, append-nil, leb-true, eqb-true, eqb-false, and_parts, nat_eq, PlainTree, PlainTrees, PlainDefs, count, Before, Between, Called, Defines, CalledOperator, Definition, Operator, PlainTerminal, PlacedTerminal, terminal_at, Parameter, Plain, Function, Current, Spells, SpellsArgs, SpellsDefs, SpellsNames, level_of, arity_of, left, right, operator_in, head, PlainFrame, PlainFocus, PlainItem, PlainState, state, called_at, definition_in, takes, shift, inner_frames, inner_out, after_frame, close, settle_at, settle, prefixed, begun, begin, step_named, step_heads, step_headed, step_frozen, step_names, step_listed, step_ready, step_opens, step_at, step, feeds, finished, if_empty, finish_at, finish, start, written, written_parts, written_all, written_defs, with_parameters, node, cond_some, same_Some}
+use Rattle.std.specs.Prelude.{◌-◌}
 use Rattle.lucid_parse.specs.declared.terminal.Terminal.TheVariants as terminal
-use Rattle.lucid_parse.specs.declared.state.Defines.{Defines}
 use Rattle.lucid_parse.specs.declared.state.Defines.TheVariants as kind
-use Rattle.lucid_parse.specs.declared.state.CalledOperator.{CalledOperator}
-use Rattle.lucid_parse.specs.declared.state.Definition.{Definition}
 use Rattle.lucid_parse.specs.declared.state.Frame.TheVariants as frame
 use Rattle.lucid_parse.specs.declared.state.Focus.TheVariants as focus
 use Rattle.lucid_parse.specs.declared.state.Item.TheVariants as item
 use Rattle.lucid_parse.specs.Grammar
-use Rattle.lucid_forms.specs.declared.operator.Operator.{Operator}
-use Rattle.lucid_parse.specs.Grammar.{PlainTerminal, PlacedTerminal, terminal_at, Parameter, Plain, Function, Current, Spells, SpellsArgs, SpellsDefs, SpellsNames, level_of, arity_of, left, right, operator_in, head}
-use Rattle.lucid_parse.specs.Machine.{PlainFrame, PlainFocus, PlainItem, PlainState, state, called_at, definition_in, takes, taken, shift, inner_frames, inner_out, after_frame, close, settle_at, settle, prefixed, begun, begin, step_named, step_heads, step_headed, step_frozen, step_names, step_listed, step_ready, step_opens, step_at, step, feeds, finished, if_empty, finish_at, finish, start}
-use Rattle.lucid_parse.specs.Flat.{written, written_parts, written_all, written_defs, with_parameters, node}
+use Rattle.lucid_parse.specs.Machine.{taken}
 use Rattle.lucid_parse.proofs.Levels.{prefix_level_most, right_most, arity_positive, node-operator}
 use Rattle.lucid_parse.proofs.Complete.{written_parts-and, written_all-and, written_defs-and, with_parameters-and, count-and}
 
@@ -188,9 +177,6 @@ means_along {f} {frames} {out} {ts} {us} e h = subst (λ l. Means f frames out l
 
 means_out : {f : PlainFocus} {frames : List PlainFrame} {out into : List PlainItem} {ts : List PlacedTerminal} → Means f frames out ts → out ≡ into → Means f frames into ts
 means_out {f} {frames} {out} {into} {ts} h e = subst (λ l. Means f frames l ts) e h
-
-means_focus : {f g : PlainFocus} {frames : List PlainFrame} {out : List PlainItem} {ts : List PlacedTerminal} → Means f frames out ts → f ≡ g → Means g frames out ts
-means_focus {f} {g} {frames} {out} {ts} h e = subst (λ l. Means l frames out ts) e h
 
 context_most : {frames : List PlainFrame} {allowed : ℕ} {ts : List PlacedTerminal} {out : List PlainItem} → Context frames allowed ts out → allowed ≤ 12
 context_most outermost = zero-le

@@ -1,10 +1,5 @@
 -- Looking a terminal up among spellings.
-use Rattle.std.proofs.Common.{◌≡◌, ℕ, zero, suc, ◌+◌, ◌<◌, List, [], ◌∷◌, length, map, take, get_or, Some, None, Bool, true, false, cond, ◌||◌, refl, sym, ◌∙◌, ap, subst, arith, add-one}
-use Rattle.std.specs.List.{list_any, list_all}
-use Rattle.std.specs.Option.{is_some}
-use Rattle.std.proofs.lemmas.Bool.{and_parts}
-use Rattle.std.proofs.lemmas.Bool.Decides.{Decides-eqb}
-use Rattle.std.proofs.lemmas.Slice.Eq.{slice_eq-Decides}
+use Rattle.lucid_parse.proofs.Common.{◌≡◌, ℕ, zero, suc, ◌+◌, ◌<◌, List, [], ◌∷◌, length, map, take, get_or, Some, None, Bool, true, false, cond, refl, sym, ◌∙◌, ap, subst, arith, add-one, and_parts, pair_of, terminal_in, fixed_terminal, form_terminals, ◌||◌, list_any, list_all, is_some, Decides-eqb, slice_eq-Decides}
 use Rattle.lucid_value.specs.Plain.{same_bytes}
 use Rattle.lucid_value.specs.Names.{is_reserved, reserved_words}
 use Rattle.lucid_ops.specs.declared.op.Op.{Op}
@@ -12,8 +7,7 @@ use Rattle.lucid_ops.specs.declared.op.Op.TheVariants as op
 use Rattle.lucid_ops.specs.Rows.{operator_row}
 use Rattle.lucid_scan.specs.Texts.{is_mark, marks}
 use Rattle.lucid_parse.specs.declared.spelling.Spelling.{Spelling}
-use Rattle.lucid_parse.specs.Spellings.{fixed_plain, pair_of}
-use Rattle.lucid_parse.specs.Terminals.{terminal_in, fixed_terminal, form_terminals}
+use Rattle.lucid_parse.specs.Spellings.{fixed_plain}
 
 -- the first spelling with these bytes has been found
 pub found_here : (bytes : List ℕ) (spellings : List Spelling) (i : ℕ) (d : Spelling) → i < length spellings → terminal_in bytes (map pair_of (take i spellings)) ≡ None

@@ -1,24 +1,19 @@
 -- What the bytes of tokens read as, and the terminals of tokens.
-use Rattle.std.proofs.Common.{◌≡◌, ℕ, suc, ◌+◌, ◌-◌, ◌<◌, ◌≤◌, List, [], ◌∷◌, ◌++◌, length, take, get_or, Option, Some, true, refl, sym, ◌∙◌, ap, subst, arith, length-append, length-drop, pos}
-use Rattle.std.specs.Prelude.{slice_range}
-use Rattle.std.proofs.lemmas.Bool.{ltb-true, and_parts}
-use Rattle.std.proofs.lemmas.List.{take_more, map-append}
+use Rattle.lucid_parse.proofs.Common.{◌≡◌, ℕ, suc, ◌+◌, ◌<◌, ◌≤◌, List, [], ◌∷◌, ◌++◌, length, take, get_or, Option, Some, true, refl, sym, ◌∙◌, ap, subst, arith, ltb-true, and_parts, take_more, map-append, PlainValue, Token, TerminalAt, placed_of, terminals_of, PlainTerminal, PlacedTerminal, terminal_at, Terminals, length-drop, pos}
+use Rattle.std.proofs.Common.{◌-◌}
 use Rattle.lucid_lemmas.proofs.Lists.{same_between}
-use Rattle.lucid_value.specs.Plain.{PlainValue, int, word as word_value, text, list, is_text, is_light}
+use Rattle.lucid_value.specs.Plain.{int, word as word_value, text, list, is_text, is_light}
 use Rattle.lucid_value.specs.Reading.{number_of, Reads, ReadsLine, ReadsAsNone}
 use Rattle.lucid_value.specs.Reading
 use Rattle.lucid_value.specs.Laws.{OneReading, OneLineReading}
 use Rattle.lucid_scan.specs.declared.token.TokenKind.TheVariants as kind
 use Rattle.lucid_scan.specs.declared.token.TokenKind.{TokenKind}
-use Rattle.lucid_scan.specs.declared.token.Token.{Token}
-use Rattle.lucid_scan.specs.Texts.{IsTokenText, IsBetween, is_word_value, is_text_value}
+use Rattle.lucid_scan.specs.Texts.{IsTokenText, is_text_value}
 use Rattle.lucid_scan.specs.Laws.{IsInOrder, StandsIn, TokensStand}
 use Rattle.lucid_scan.specs.Tokens.{Tokens}
-use Rattle.lucid_parse.specs.declared.terminal.TerminalAt.{TerminalAt}
-use Rattle.lucid_parse.specs.Views.{plain_terminal, placed_of, terminals_of}
+use Rattle.lucid_parse.specs.Views.{plain_terminal}
 use Rattle.lucid_parse.specs.declared.terminal.Terminal.TheVariants as terminal
-use Rattle.lucid_parse.specs.Grammar.{PlainTerminal, PlacedTerminal, terminal_at}
-use Rattle.lucid_parse.specs.Terminals.{StandsFor, Terminals, bytes_of}
+use Rattle.lucid_parse.specs.Terminals.{StandsFor, bytes_of}
 use Rattle.lucid_parse.specs.Spelled.{IsReading, IsTokenOf}
 use Rattle.lucid_parse.proofs.WellMade.{Rises, rises_none, rises_next, lower}
 
@@ -39,9 +34,6 @@ int_has bytes h = (int (pos (number_of bytes)), int_reads bytes h.0 h.1)
 
 pub text_has : (bytes : List ℕ) → IsTokenOf kind.Text bytes → (v : PlainValue) × Reads bytes v
 text_has bytes h = (text h.1.0, subst (λ b. Reads b (text h.1.0)) (sym h.1.1) (text_reads h.1.0 h.1.2))
-
-pub list_has : (bytes : List ℕ) → IsTokenOf kind.ListText bytes → (v : PlainValue) × Reads bytes v
-list_has bytes h = (list h.1.0, h.1.1)
 
 -- and it stands for that value
 pub int_stands : (bytes : List ℕ) (v : PlainValue) → IsTokenOf kind.Int bytes → IsReading bytes v → StandsFor kind.Int bytes (terminal.Const v)
@@ -66,20 +58,6 @@ reading_of bytes v law r w s = law bytes v w r (as_line bytes w s)
 
 pub never_none : (bytes : List ℕ) → ((v : PlainValue) × Reads bytes v) → ReadsAsNone bytes → ⊥
 never_none bytes h none = none h.0 (as_line bytes h.0 h.1)
-
--- what stands between the first byte and the last one
-between_is : (inside : List ℕ) (a b : ℕ) → slice_range (a ∷ (inside ++ b ∷ [])) 1 (length (a ∷ (inside ++ b ∷ [])) - 1) ≡ inside
-between_is inside a b = ap (λ n. take n (inside ++ b ∷ [])) (let e : length (a ∷ (inside ++ b ∷ [])) - 1 - 1 ≡ length inside = omega (arith, length-append inside (b ∷ [])) in e) ∙ front inside
-  where
-    front : (xs : List ℕ) → take (length xs) (xs ++ b ∷ []) ≡ xs
-    front [] = refl
-    front (x ∷ xs) = ap (λ l. x ∷ l) (front xs)
-
-pub inside_of : (bytes : List ℕ) (h : IsBetween 34 34 is_word_value bytes) → slice_range bytes 1 (length bytes - 1) ≡ h.0
-inside_of bytes h = ap (λ l. slice_range l 1 (length l - 1)) h.1 ∙ between_is h.0 34 34
-
-pub quoted_length : (bytes : List ℕ) → IsBetween 34 34 is_word_value bytes → 2 ≤ length bytes
-quoted_length bytes h = let e = ap length h.1 in omega (arith, e, length-append h.0 (34 ∷ []))
 
 -- terminals of one token more
 pub terminals-push : {source : List ℕ} {ts : List Token} {ws : List PlacedTerminal} → Terminals source ts ws → (t : Token) (terminal : PlainTerminal) → StandsFor t.kind (bytes_of source t) terminal

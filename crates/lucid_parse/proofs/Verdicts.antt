@@ -1,14 +1,8 @@
 -- What tokens spell is well made; they spell a tree or have one refusal, and not both.
-use Rattle.std.proofs.Common.{◌≡◌, ℕ, ◌≤◌, ◌<◌, List, length, refl, ap, subst, arith}
-use Rattle.std.proofs.lemmas.List.Elements.{All-contains}
-use Rattle.lucid_tree.specs.Tree.{PlainTree}
-use Rattle.lucid_tree.specs.WellMade.{depth}
+use Rattle.lucid_parse.proofs.Common.{◌≡◌, ℕ, ◌≤◌, ◌<◌, List, length, refl, ap, subst, arith, PlainTree, depth, PlacedTerminal, Spells, at_depth, IsLeast, IsFault, TerminalsAreUnique, All-contains}
 use Rattle.lucid_scan.specs.Laws.{TokensAreInOrder, TokensAreFew}
 use Rattle.lucid_parse.specs.declared.refusal.ParseRefusal.TheVariants as refusal
-use Rattle.lucid_parse.specs.Grammar.{PlacedTerminal, Spells}
-use Rattle.lucid_parse.specs.Depth.{at_depth, IsLeast}
-use Rattle.lucid_parse.specs.Verdict.{IsFault}
-use Rattle.lucid_parse.specs.Laws.{TerminalsSpellOneTree, FaultIsUnique, TerminalsAreUnique, SpelledTreesAreWellMade, SpelledPlacesAreFew, TokensHaveOneRefusal, SpelledTokensAreNotRefused}
+use Rattle.lucid_parse.specs.Laws.{TerminalsSpellOneTree, FaultIsUnique, SpelledTreesAreWellMade, SpelledPlacesAreFew, TokensHaveOneRefusal, SpelledTokensAreNotRefused}
 use Rattle.lucid_parse.proofs.WellMade.{few, well_made}
 use Rattle.lucid_parse.proofs.Texts.{terminals_rise, terminals_length}
 

@@ -1,14 +1,10 @@
 -- What the machine has read begins a program: what is open can be closed.
+use Rattle.lucid_parse.proofs.Common.{◌≡◌, ℕ, zero, suc, ◌+◌, List, [], ◌∷◌, ◌++◌, refl, sym, subst, arith, zero-le, append_assoc, append-nil, PlainTree, form, PlainTrees, no_trees, tree, count, PlacedTerminal, terminal_at, trees_and, arity_of, Spells, SpellsArgs, PlainFrame, PlainFocus, PlainItem, Begins}
 use Rattle.std.specs.Prelude.{◌-◌}
-use Rattle.std.proofs.Common.{◌≡◌, ℕ, zero, suc, ◌+◌, List, [], ◌∷◌, ◌++◌, refl, sym, subst, arith, zero-le, append_assoc, append-nil}
 use Rattle.lucid_value.specs.Plain.{eod}
-use Rattle.lucid_tree.specs.Tree.{const, PlainTree, form, PlainTrees, no_trees, tree}
-use Rattle.lucid_tree.specs.Size.{count}
+use Rattle.lucid_tree.specs.Tree.{const}
 use Rattle.lucid_parse.specs.declared.terminal.Terminal.TheVariants as terminal
 use Rattle.lucid_parse.specs.Grammar
-use Rattle.lucid_parse.specs.Grammar.{PlacedTerminal, terminal_at, trees_and, arity_of, Spells, SpellsArgs}
-use Rattle.lucid_parse.specs.Machine.{PlainFrame, PlainFocus, PlainItem}
-use Rattle.lucid_parse.specs.Verdict.{Begins}
 use Rattle.lucid_parse.proofs.Levels.{arity_positive}
 use Rattle.lucid_parse.proofs.Complete.{count-and}
 use Rattle.lucid_parse.proofs.Sound

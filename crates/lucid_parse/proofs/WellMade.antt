@@ -1,17 +1,11 @@
 -- Trees that are spelled are well made: their operators and functions are shaped, and their places are places of terminals, each once.
-use Rattle.std.proofs.Common.{◌≡◌, ℕ, suc, ◌+◌, ◌≤◌, ◌<◌, List, [], ◌∷◌, ◌++◌, length, Bool, true, false, cond, inl, inr, refl, sym, ◌∙◌, ap, arith, length-append}
-use Rattle.std.specs.Prelude.{nat_eq}
-use Rattle.std.proofs.lemmas.Bool.{eq-eqb, eqb-true, lt-ltb, and_from, and_parts}
-use Rattle.lucid_tree.specs.Tree.{PlainTree, PlainTrees, no_trees, tree, PlainDefs, no_defs, defines, defines_function, defines_current}
-use Rattle.lucid_tree.specs.Size.{count}
-use Rattle.lucid_tree.specs.WellMade.{places, places_in, places_in_defs, fits_arity, is_shaped, are_shaped, defs_are_shaped, In, AllDiffer, IsWellMade}
+use Rattle.lucid_parse.proofs.Common.{◌≡◌, ℕ, suc, ◌+◌, ◌≤◌, ◌<◌, List, [], ◌∷◌, ◌++◌, length, Bool, true, false, cond, inl, inr, refl, sym, ◌∙◌, ap, arith, length-append, nat_eq, eq-eqb, eqb-true, and_from, and_parts, PlainTree, PlainTrees, no_trees, tree, PlainDefs, no_defs, defines, defines_function, defines_current, count, places, IsWellMade, Data, Operator, PlacedTerminal, trees_and, def_before, defs_and, Defined, Plain, Function, Current, Parameter, names_of, places_of, arity_of, head, Spells, SpellsArgs, SpellsDefs, SpellsNames, lt-ltb}
+use Rattle.lucid_tree.specs.WellMade.{places_in, places_in_defs, fits_arity, is_shaped, are_shaped, defs_are_shaped, In, AllDiffer}
 use Rattle.lucid_ops.specs.Arity.{arity}
-use Rattle.lucid_forms.specs.declared.operator.Operator.TheVariants.{Data, Stream}
+use Rattle.lucid_forms.specs.declared.operator.Operator.TheVariants.{Stream}
 use Rattle.lucid_forms.specs.declared.operator.StreamOp.TheVariants.{Fby}
 use Rattle.lucid_parse.proofs.Levels.{infix_arity, prefix_arity}
 use Rattle.lucid_parse.specs.Grammar
-use Rattle.lucid_forms.specs.declared.operator.Operator.{Operator}
-use Rattle.lucid_parse.specs.Grammar.{PlacedTerminal, trees_and, def_before, defs_and, Defined, Plain, Function, Current, Parameter, names_of, places_of, arity_of, head, Spells, SpellsArgs, SpellsDefs, SpellsNames}
 
 -- The shape.
 

@@ -1,11 +1,8 @@
 -- What a call goes_to on with.
-use Rattle.std.proofs.Common.{◌≡◌, ℕ, List, Option, Some, None, refl, ◌<◌, ◌^◌, arith}
-use Rattle.lucid_tree.specs.Size.{nodes}
-use Rattle.lucid_plain.specs.Small.{Applies, IsUsable}
+use Rattle.lucid_plain.proofs.Common.{◌≡◌, ℕ, List, Option, Some, None, refl, ◌<◌, ◌^◌, arith, nodes, Applies, IsUsable, PlainTrees, Env, empty, scope, args, Found, absent, plain_def, function_def, current_def, definition, param, call_target, Aim, Going, at_tree, at_none, going, calls}
 use Rattle.lucid_plain.proofs.Goings.{found_nodes, found_small, FoundApplies, found_applies}
-use Rattle.lucid_tree.specs.Tree.{PlainTrees}
-use Rattle.lucid_tree.specs.Env.{Env, empty, scope, args, Found, absent, plain_def, function_def, current_def, definition, param, called, call_target, Aim, unless_param}
-use Rattle.lucid_plain.specs.View.{Going, at_tree, at_none, going, Calling, calls, no_call, calling, called_in, kept, unless_named}
+use Rattle.lucid_tree.specs.Env.{called, unless_param}
+use Rattle.lucid_plain.specs.View.{Calling, no_call, calling, called_in, kept, unless_named}
 
 abbrev pub call_going : Calling → PlainTrees → Env → ℕ → Going
 call_going (calls ns ats e f) es env t = at_tree e (args ns ats es env f) t

@@ -1,16 +1,8 @@
 -- One more definition passed by, or met.
-use Rattle.std.proofs.Common.{◌≡◌, ℕ, zero, suc, arith, get_or, Some, None, ◌+◌, ◌<◌, ◌≤◌, true, false, List, [], ◌∷◌, refl, drop, length, slice_index_or, add-one, drop-cons}
-use Rattle.std.proofs.Math.ListN.{drop_of_length-le}
-use Rattle.lucid_tree.specs.Tree.{PlainTree, PlainDefs}
-use Rattle.lucid_tree.specs.DefsView.{defs_of, def_of}
-use Rattle.lucid_tree.specs.Lists.{trees_of}
-use Rattle.lucid_tree.specs.Env.{tree_at, definition, same_name, absent}
+use Rattle.lucid_plain.proofs.Common.{◌≡◌, ℕ, zero, suc, arith, get_or, Some, None, ◌+◌, ◌<◌, ◌≤◌, true, false, List, [], ◌∷◌, refl, drop, length, add-one, drop-cons, drop_of_length-le, PlainTree, PlainDefs, defs_of, trees_of, tree_at, definition, same_name, absent, found_in, frozen_at, eod, plain, slice_index_or}
+use Rattle.lucid_tree.specs.DefsView.{def_of}
 use Rattle.lucid_tree.proofs.Lookups.{definition_passed}
-use Rattle.lucid_plain.specs.View.{found_in}
 use Rattle.lucid_plain.specs.Streams.{element_in}
-use Rattle.lucid_tree.specs.Env.{frozen_at}
-use Rattle.lucid_value.specs.Plain.{eod}
-use Rattle.lucid_value.specs.View.{plain}
 use Rattle.lucid_value.specs.declared.Value.{Value}
 use Rattle.lucid_tree.specs.declared.tree.Def.{Def}
 use Rattle.lucid_tree.specs.declared.tree.DefKind.{DefKind}

@@ -1,15 +1,8 @@
 -- What a name goes_to on with in an environment of small trees, and its value.
-use Rattle.std.proofs.Common.{◌≡◌, ◌≢◌, ℕ, zero, suc, ◌-◌, ◌<◌, ◌≤◌, ◌^◌, List, Option, Some, None, Bool, true, false, refl, arith, sub-one, if◌then◌else◌, get_or}
-use Rattle.lucid_value.specs.Plain.{PlainValue}
-use Rattle.lucid_plain.specs.declared.streams.Stream.{Stream}
-use Rattle.lucid_tree.specs.Tree.{PlainTrees, no_trees, tree, PlainDefs, no_defs, defines, defines_function, defines_current}
-use Rattle.lucid_tree.specs.Size.{nodes, nodes_in, nodes_in_defs}
-use Rattle.lucid_tree.specs.Env.{Env, empty, scope, args, same_name, Found, absent, plain_def, function_def, current_def, definition, in_scope, in_args, param, tree_at, to_actual, Aim, name_target}
-use Rattle.lucid_tree.specs.Levels.{element_of, goes_to, nowhere, nothing_held, below}
-use Rattle.lucid_tree.specs.Meaning.{value, val}
-use Rattle.lucid_plain.specs.View.{Going, at_element, at_tree, at_none, going}
-use Rattle.lucid_plain.specs.Streams.{elements_of}
-use Rattle.lucid_plain.specs.Small.{Applies, AllApply, DefsApply, IsUsable}
+use Rattle.lucid_plain.proofs.Common.{◌≡◌, ◌≢◌, ℕ, zero, suc, ◌-◌, ◌<◌, ◌≤◌, ◌^◌, List, Option, Some, None, true, false, refl, arith, sub-one, get_or, PlainValue, Stream, PlainTrees, no_trees, tree, PlainDefs, no_defs, defines, defines_function, defines_current, nodes, nodes_in, nodes_in_defs, Env, empty, scope, args, same_name, Found, absent, plain_def, function_def, current_def, definition, param, tree_at, Aim, name_target, nothing_held, below, value, val, Going, at_tree, at_none, going, elements_of, Applies, AllApply, DefsApply, IsUsable, Bool, if◌then◌else◌}
+use Rattle.lucid_tree.specs.Env.{in_scope, in_args, to_actual}
+use Rattle.lucid_tree.specs.Levels.{element_of, goes_to, nowhere}
+use Rattle.lucid_plain.specs.View.{at_element}
 
 -- what goes_to on with an going, at one less
 abbrev pub by_going : List Stream → ℕ → Going → ℕ → Option PlainValue

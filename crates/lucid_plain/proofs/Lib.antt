@@ -1,3 +1,4 @@
+pub mod Common
 pub mod Finds
 pub mod Goings
 pub mod Searches

@@ -1,21 +1,8 @@
 -- All arguments of an operator.
-use Rattle.std.proofs.Common.{◌≡◌, ℕ, zero, suc, ◌+◌, ◌<◌, ◌≤◌, List, [], ◌∷◌, ◌++◌, length, get_or, drop, Option, Some, None, refl, ap, sym, ◌∙◌, arith, append_assoc, add-one, drop-cons}
-use Rattle.std.proofs.Math.ListN.{drop_of_length-le}
-use Rattle.std.proofs.lemmas.List.{append-nil}
-use Rattle.lucid_value.specs.Plain.{PlainValue}
+use Rattle.lucid_plain.proofs.Common.{◌≡◌, ℕ, zero, suc, ◌+◌, ◌<◌, ◌≤◌, List, [], ◌∷◌, ◌++◌, length, get_or, drop, Option, Some, None, refl, ap, sym, ◌∙◌, arith, add-one, drop-cons, drop_of_length-le, PlainValue, algebra, apply, form, PlainTree, tree, no_trees, PlainTrees, trees_of, nodes, nodes_in, count, add_value, Env, nothing_held, below, value, val, Stream, elements_of, Applies, AllApply, each_value, append_assoc, append-nil}
 use Rattle.lucid_ops.specs.declared.op.Op.{Op}
-use Rattle.lucid_ops.specs.Algebra.{algebra}
-use Rattle.lucid_tree.specs.Tree.{apply, form, PlainTree, tree, no_trees, PlainTrees}
-use Rattle.lucid_tree.specs.Lists.{trees_of}
-use Rattle.lucid_tree.specs.Size.{nodes, nodes_in, count}
-use Rattle.lucid_tree.specs.Rows.{arguments, all_values, add_value}
-use Rattle.lucid_tree.specs.Env.{Env}
-use Rattle.lucid_tree.specs.Levels.{nothing_held, below}
-use Rattle.lucid_tree.specs.Meaning.{value, val, part_at}
-use Rattle.lucid_plain.specs.declared.streams.Stream.{Stream}
-use Rattle.lucid_plain.specs.Streams.{elements_of}
-use Rattle.lucid_plain.specs.Small.{Applies, AllApply}
-use Rattle.lucid_plain.specs.Turns.{each_value}
+use Rattle.lucid_tree.specs.Rows.{arguments, all_values}
+use Rattle.lucid_tree.specs.Meaning.{part_at}
 
 -- an argument has no more nodes than all
 pub nodes_at : (es : List PlainTree) (i : ℕ) (d : PlainTree) → i < length es → nodes (get_or es i d) ≤ nodes_in (trees_of es)

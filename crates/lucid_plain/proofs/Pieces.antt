@@ -1,7 +1,5 @@
 -- Pieces written one behind the other.
-use Rattle.std.proofs.Common.{◌≡◌, ℕ, List, ◌++◌, length, Option, Some, None, refl, ap, sym}
-use Rattle.std.proofs.Math.Seq.{take-length}
-use Rattle.lucid_ports.specs.Writing.{with_front, with_all}
+use Rattle.lucid_plain.proofs.Common.{◌≡◌, ℕ, List, ◌++◌, length, Option, Some, None, refl, ap, sym, with_front, with_all, take-length}
 
 -- a whole piece is its longest front
 pub all-front : (a : List ℕ) (o : Option (List ℕ)) → with_all a o ≡ with_front (length a) a o

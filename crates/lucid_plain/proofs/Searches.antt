@@ -1,15 +1,10 @@
 -- A search, one time further.
-use Rattle.std.proofs.Common.{◌≡◌, ◌≢◌, ℕ, zero, suc, ◌-◌, ◌<◌, ◌+◌, List, [], Option, Some, None, true, refl, ap, ◌∙◌, arith, sub-one, add-one}
-use Rattle.lucid_value.specs.Plain.{PlainValue, truth}
+use Rattle.lucid_plain.proofs.Common.{◌≡◌, ◌≢◌, ℕ, zero, suc, ◌-◌, ◌<◌, ◌+◌, List, [], Option, Some, None, true, refl, ap, ◌∙◌, arith, sub-one, add-one, PlainValue, Stream, PlainTree, tree, no_trees, add_value, Env, nothing_held, below, value, val, elements_of, turn_of, found_by, counted_by}
+use Rattle.lucid_value.specs.Plain.{truth}
 use Rattle.lucid_tree.proofs.Undone.{alone}
-use Rattle.lucid_plain.specs.declared.streams.Stream.{Stream}
-use Rattle.lucid_tree.specs.Tree.{PlainTree, tree, no_trees}
-use Rattle.lucid_tree.specs.Rows.{Plan, single, by_test, gives_part, Reader, add_value, with_values, run, find_true, count_true}
-use Rattle.lucid_tree.specs.Env.{Env}
-use Rattle.lucid_tree.specs.Levels.{nothing_held, below}
-use Rattle.lucid_tree.specs.Meaning.{value, val, part_at as part_value}
-use Rattle.lucid_plain.specs.Streams.{elements_of}
-use Rattle.lucid_plain.specs.Turns.{Turning, turns_on, turns_off, ends, turn_of, found_by, counted_by}
+use Rattle.lucid_tree.specs.Rows.{Plan, single, by_test, gives_part, Reader, with_values, run, find_true, count_true}
+use Rattle.lucid_tree.specs.Meaning.{part_at as part_value}
+use Rattle.lucid_plain.specs.Turns.{Turning, turns_on, turns_off, ends}
 
 abbrev by_turning : Turning → Option PlainValue → Option PlainValue → Option PlainValue
 by_turning turns_on a b = a

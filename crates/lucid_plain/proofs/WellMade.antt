@@ -1,10 +1,8 @@
 -- The operators of a tree that is well made have their numbers of arguments.
-use Rattle.std.proofs.Common.{◌≡◌, length, true, ◌&&◌, nat_eq, nat_lt, arith}
-use Rattle.std.proofs.lemmas.Bool.{and_parts}
-use Rattle.std.proofs.lemmas.Bool.Decides.{nat_tests}
-use Rattle.lucid_tree.specs.Tree.{Head, apply, PlainTree, form, name, call, block, PlainTrees, no_trees, tree, PlainDefs, no_defs, defines, defines_function, defines_current}
+use Rattle.lucid_plain.proofs.Common.{◌≡◌, length, true, arith, nat_tests, apply, PlainTree, form, PlainTrees, no_trees, tree, PlainDefs, no_defs, defines, defines_function, defines_current, Applies, AllApply, DefsApply, ◌&&◌, nat_eq, nat_lt, and_parts}
+use Rattle.lucid_tree.specs.Tree.{Head, name, call, block}
 use Rattle.lucid_tree.specs.WellMade.{fits_arity, is_shaped, are_shaped, defs_are_shaped}
-use Rattle.lucid_plain.specs.Small.{FitsArity, Applies, AllApply, DefsApply}
+use Rattle.lucid_plain.specs.Small.{FitsArity}
 
 fits : (f : Head) (es : PlainTrees) → fits_arity f es ≡ true → FitsArity f es
 fits (apply op n) es h = grind (arith, nat_tests)

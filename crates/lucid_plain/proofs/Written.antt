@@ -1,15 +1,7 @@
 -- What a run has written so far.
-use Rattle.std.proofs.Common.{◌≡◌, ℕ, ◌+◌, suc, ◌<◌, ◌≤◌, List, [], ◌++◌, length, Option, Some, sym, ◌∙◌, ap, subst, add-one, true, arith}
-use Rattle.std.specs.Prelude.{Vec}
-use Rattle.std.specs.Global.{Global}
-use Rattle.std.proofs.lemmas.List.{length-append}
-use Rattle.lucid_value.specs.Plain.{PlainValue, eod}
-use Rattle.lucid_tree.specs.Tree.{PlainTree}
+use Rattle.lucid_plain.proofs.Common.{◌≡◌, ℕ, ◌+◌, suc, ◌<◌, ◌≤◌, List, [], ◌++◌, length, Option, Some, sym, ◌∙◌, ap, subst, add-one, true, arith, PlainValue, eod, PlainTree, empty, val, with_front, with_all, Writes, Vec, Global, length-append}
 use Rattle.lucid_tree.specs.Levels.{Elements}
-use Rattle.lucid_tree.specs.Env.{empty}
-use Rattle.lucid_tree.specs.Meaning.{val}
 use Rattle.lucid_tree.specs.Output.{line}
-use Rattle.lucid_ports.specs.Writing.{with_front, with_all}
 use Rattle.lucid_ports.specs.declared.run.RunFault.{RunFault}
 use Rattle.lucid_ports.specs.declared.run.RunFault.TheVariants.{WriteFault, NoMemory}
 use Rattle.lucid_ports.specs.declared.run.Summary.{Summary}
@@ -17,7 +9,7 @@ use Rattle.lucid_ports.proofs.WritingLemmas.{with_nothing, all_all, front_all}
 use Rattle.lucid_ports.proofs.FaultLemmas.{rises_from}
 use Rattle.lucid_plain.specs.declared.running.Line.{Line}
 use Rattle.lucid_plain.specs.declared.running.Line.TheVariants.{Bytes, End}
-use Rattle.lucid_plain.specs.Runs.{no_lines, one_more, Writes, WritesFront, EndsAt, Finishes, Stops}
+use Rattle.lucid_plain.specs.Runs.{no_lines, one_more, WritesFront, EndsAt, Finishes, Stops}
 use Rattle.lucid_plain.specs.WritingLines.{HasLine, IsLineAt, FrontOf, StopsLine}
 use Rattle.lucid_plain.proofs.Pieces.{all-front}
 

@@ -18,12 +18,9 @@ ghost use Rattle.lucid_plain.specs.Small.{Applies, AllApply, DefsApply, IsPoint,
 use crate::env::{Callee, Env, Target, callee_of, goal_of};
 use crate::streams::{Stream, element};
 use lucid_ops::{Op, apply};
-use lucid_tree::{Block, DefKind, Defs, Kind, Tree, Trees};
+use lucid_tree::{Block, DefKind, Defs, Kind, LAST, Tree, Trees};
 use lucid_value::{Name, Value};
 use std::alloc::{AllocError, Global};
-
-/// The last time, and the last space.
-pub const LAST: u64 = 9_223_372_036_854_775_807;
 
 /// Where a tree is evaluated: in an environment, at a time and a space, by the approximation of a limit.
 #[derive(Clone, Copy)]

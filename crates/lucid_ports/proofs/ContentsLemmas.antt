@@ -1,7 +1,6 @@
 -- Bytes that are consumed one piece after another.
-use Rattle.std.proofs.Common.{◌≡◌, ℕ, ◌+◌, ◌<◌, ◌≤◌, List, [], ◌++◌, take, drop, length, Option, None, Some, IfSome, option_map, refl, sym, ap, subst, ◌∙◌, append_assoc, arith, length-drop, take_all, take-add}
-use Rattle.std.proofs.lemmas.List.{drop-drop}
-use Rattle.lucid_ports.specs.World.{Contents, advanced}
+use Rattle.lucid_ports.proofs.Common.{◌≡◌, ℕ, ◌+◌, ◌<◌, ◌≤◌, List, [], ◌++◌, take, drop, length, Option, None, Some, IfSome, option_map, refl, sym, ap, subst, ◌∙◌, append_assoc, arith, take_all, take-add, drop-drop, Contents, advanced}
+use Rattle.std.proofs.Common.{length-drop}
 
 pub advanced-advanced : (n m : ℕ) (c : Contents) → advanced m (advanced n c) ≡ advanced (n + m) c
 advanced-advanced n m c =

@@ -1,12 +1,5 @@
 -- Places without end after a call.
-use Rattle.std.proofs.Common.{◌≡◌, ℕ, ◌+◌, ◌%◌, List, length, Option, None, Some, IfSome, option_map, refl, sym, ap, ◌∙◌, add_comm}
-use Rattle.std.proofs.Math.Nat.{mod-mod, add-mod-mod}
-use Rattle.lucid_ports.specs.declared.files.MemoryFile.{MemoryFile}
-use Rattle.lucid_ports.specs.declared.endless.EndlessPlace.{EndlessPlace}
-use Rattle.lucid_ports.specs.Endless.{position_in, moved}
-use Rattle.lucid_ports.specs.EndlessView.{spot_of, endless_place}
-use Rattle.lucid_ports.specs.Files.{bytes_at}
-use Rattle.lucid_ports.specs.World.{Contents, IsShown}
+use Rattle.lucid_ports.proofs.Common.{◌≡◌, ℕ, ◌+◌, List, length, Option, None, Some, IfSome, option_map, refl, sym, ap, ◌∙◌, MemoryFile, EndlessPlace, position_in, moved, spot_of, endless_place, bytes_at, Contents, IsShown, ◌%◌, add_comm, mod-mod, add-mod-mod}
 
 position_in-add : (turn position n : ℕ) (file : Option ℕ) (f : ℕ → List ℕ)
     → position_in turn file (position + n) ≡ position_in turn (option_map f file) (position_in turn file position + n)

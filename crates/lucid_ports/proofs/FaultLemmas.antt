@@ -1,6 +1,5 @@
 -- Counts of faults that rise.
-use Rattle.std.proofs.Common.{ℕ, ◌≤◌, ◌-◌, ◌^◌, inl, inr, arith}
-use Rattle.std.proofs.lemmas.Bool.{cases_lt}
+use Rattle.lucid_ports.proofs.Common.{ℕ, ◌≤◌, ◌-◌, inl, inr, arith, ◌^◌, cases_lt}
 use Rattle.lucid_ports.specs.Faults.{Rises}
 
 -- a count that rises later rises

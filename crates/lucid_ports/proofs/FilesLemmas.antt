@@ -1,9 +1,6 @@
 -- Finding a file by its name.
-use Rattle.std.proofs.Common.{◌≡◌, ℕ, suc, ◌<◌, true, List, ◌∷◌, length, drop, get_or, Some, cond, refl, sym, ap, ◌∙◌, bytes_eq, drop-cons}
-use Rattle.std.proofs.lemmas.Option.{slice_get_read}
-use Rattle.std.specs.String.{string_bytes}
-use Rattle.lucid_ports.specs.declared.files.MemoryFile.{MemoryFile}
-use Rattle.lucid_ports.specs.Files.{bytes_named, bytes_of, bytes_at}
+use Rattle.lucid_ports.proofs.Common.{◌≡◌, ℕ, ◌<◌, true, List, length, drop, get_or, Some, refl, sym, ap, ◌∙◌, bytes_eq, slice_get_read, string_bytes, MemoryFile, bytes_named, bytes_at, suc, ◌∷◌, cond, drop-cons}
+use Rattle.lucid_ports.specs.Files.{bytes_of}
 
 -- no file before k has the name, and file k has it
 pub bytes_named-found : (files : List MemoryFile) (name : List ℕ) (k : ℕ) (file : MemoryFile) → k < length files → file ≡ get_or files k file

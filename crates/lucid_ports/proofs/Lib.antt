@@ -1,3 +1,4 @@
+pub mod Common
 pub mod ContentsLemmas
 pub mod FilesLemmas
 pub mod MemoryLemmas

@@ -1,15 +1,9 @@
 -- Places in memory after a call.
-use Rattle.std.proofs.Common.{◌≡◌, ◌⊎◌, ◌↔◌, ℕ, ◌+◌, ◌-◌, ◌≤◌, List, [], length, take, Option, None, Some, Contains, Ok, IfSome, IsSomeAnd, inl, inr, sym, ap, subst, ◌∙◌, arith, le_refl, length-take-le, take_all, take-add}
-use Rattle.std.proofs.lemmas.List.{drop-drop, nil_from_length}
-use Rattle.std.specs.Io.{StartsWith}
+use Rattle.lucid_ports.proofs.Common.{◌≡◌, ◌⊎◌, ℕ, ◌+◌, ◌-◌, ◌≤◌, List, [], length, take, Option, None, Some, Contains, Ok, IfSome, inl, inr, sym, ap, subst, ◌∙◌, arith, le_refl, take_all, take-add, drop-drop, MemoryFile, FailAt, MemoryPlace, bytes_at, fail_at, memory_place, Contents, IsShown, advanced, ◌↔◌, IsSomeAnd, length-take-le, nil_from_length, StartsWith}
 use denote.Ref.{Bor}
-use Rattle.lucid_ports.specs.declared.files.MemoryFile.{MemoryFile}
-use Rattle.lucid_ports.specs.declared.memory_places.FailAt.{FailAt}
-use Rattle.lucid_ports.specs.declared.memory_places.MemoryPlace.{MemoryPlace}
-use Rattle.lucid_ports.specs.Files.{bytes_at}
-use Rattle.lucid_ports.specs.Memory.{fail_at, ShowsUpToFailure}
-use Rattle.lucid_ports.specs.MemoryView.{memory_place, read_to}
-use Rattle.lucid_ports.specs.World.{Contents, IsShown, IsConsumed, advanced}
+use Rattle.lucid_ports.specs.Memory.{ShowsUpToFailure}
+use Rattle.lucid_ports.specs.MemoryView.{read_to}
+use Rattle.lucid_ports.specs.World.{IsConsumed}
 
 advanced-read_to : (position n : ℕ) (bytes : List ℕ) → read_to (position + n) bytes ≡ advanced n (read_to position bytes)
 advanced-read_to position n bytes = cc (take-add position n bytes, drop-drop n position bytes)

@@ -1,8 +1,5 @@
 -- What a writer holds after a write and a flush.
-use Rattle.std.proofs.Common.{◌≡◌, ℕ, List, take, Option, None, Some, Result, Ok, Err, IsSome, IfSome, IfNone, refl, ap}
-use Rattle.std.specs.Result.{result_ok}
-use Rattle.std.specs.Io.KnownBytes.{Appends, Keeps, WriteAppends}
-use Rattle.lucid_ports.specs.Writing.{with_front}
+use Rattle.lucid_ports.proofs.Common.{◌≡◌, ℕ, List, take, Option, None, Some, Ok, IfSome, refl, ap, with_front, Result, Err, IsSome, IfNone, result_ok, Appends, Keeps, WriteAppends}
 
 -- a writer that is settled holds the same, told or not
 pub keeps_settled : (old new : Option (List ℕ)) → (IsSome new → IsSome old) → Keeps old new → new ≡ old

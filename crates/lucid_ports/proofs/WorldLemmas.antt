@@ -1,6 +1,6 @@
 -- What stays over several calls.
-use Rattle.std.proofs.Common.{ℕ, ◌∙◌, arith}
-use Rattle.lucid_ports.specs.World.{World, KeepsOthers}
+use Rattle.lucid_ports.proofs.Common.{ℕ, ◌∙◌, arith, KeepsOthers}
+use Rattle.lucid_ports.specs.World.{World}
 
 -- two calls in a row on one place
 pub KeepsOthers-trans : (number : ℕ) (a b c : World) → KeepsOthers number a b → KeepsOthers number b c → KeepsOthers number a c

@@ -1,7 +1,6 @@
 -- A piece that is written in parts, and pieces one behind the other.
-use Rattle.std.proofs.Common.{◌≡◌, ℕ, ◌+◌, List, ◌++◌, take, drop, Option, None, Some, refl, sym, ap, ◌∙◌, append_assoc, take-add, [], length, append-nil}
-use Rattle.std.proofs.Math.Seq.{take-append-add}
-use Rattle.lucid_ports.specs.Writing.{with_front, with_all}
+use Rattle.lucid_ports.proofs.Common.{◌≡◌, ℕ, ◌+◌, List, ◌++◌, take, drop, Option, None, Some, refl, sym, ap, ◌∙◌, append_assoc, take-add, [], length, with_front, append-nil, take-append-add}
+use Rattle.lucid_ports.specs.Writing.{with_all}
 
 -- the first n bytes, and then m of the rest
 with_front-with_front : (n m : ℕ) (piece : List ℕ) (o : Option (List ℕ)) → with_front m (drop n piece) (with_front n piece o) ≡ with_front (n + m) piece o

@@ -1,7 +1,6 @@
 -- Texts made of terminals, and how they join.
-use Rattle.std.proofs.Common.{◌≡◌, ℕ, List, [], ◌∷◌, ◌++◌, Bool, true, false, cond, ◌&&◌, ◌||◌, refl, sym, ◌∙◌, ap, append_assoc, append-nil}
+use Rattle.lucid_print.proofs.Common.{◌≡◌, ℕ, List, [], ◌∷◌, ◌++◌, Bool, true, false, cond, ◌&&◌, ◌||◌, refl, sym, ◌∙◌, ap, append_assoc, append-nil, PlainTerminal}
 use Rattle.lucid_parse.specs.declared.terminal.Terminal.TheVariants as terminal
-use Rattle.lucid_parse.specs.Grammar.{PlainTerminal}
 use Rattle.lucid_print.proofs.Terminals.{terminal_text, is_open, is_closer, is_callable, gap, after, last, after-append, last-append, blank, none, blank_behind}
 use Rattle.lucid_print.proofs.Goods.{Good, AllGood, good_append}
 

@@ -1,3 +1,4 @@
+pub mod Common
 pub mod Terminals
 pub mod Goods
 pub mod Chunks

@@ -1,6 +1,5 @@
 -- What the loop of the printer writes is the rest of the names, one by one.
-use Rattle.std.proofs.Common.{ℕ, List, [], ◌∷◌, ◌++◌}
-use Rattle.lucid_print.specs.Canonical.{parted_more}
+use Rattle.lucid_print.proofs.Common.{ℕ, List, [], ◌∷◌, ◌++◌, parted_more}
 
 -- texts parted by commas, where these bytes stand before the first
 abbrev pub led : List ℕ → List (List ℕ) → List ℕ

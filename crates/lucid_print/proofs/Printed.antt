@@ -1,21 +1,12 @@
 -- The terminals of the canonical source of a tree that was parsed spell the tree again, up to places.
-use Rattle.std.proofs.Common.{◌≡◌, ℕ, ◌+◌, List, [], ◌∷◌, ◌++◌, Some, Bool, true, false, refl, sym, ◌∙◌, ap, subst, arith, zero-le, append_assoc, append-nil}
-use Rattle.std.specs.Prelude.{codes, nat_lt}
-use Rattle.std.proofs.lemmas.Bool.{cond-true, cond-false, ltb-false}
-use Rattle.lucid_value.specs.Plain.{PlainValue}
-use Rattle.lucid_value.specs.Laws.{TextIsRead}
-use Rattle.lucid_tree.specs.Tree.{const, choose, PlainTree, form, name, call, block, PlainTrees, no_trees, tree, PlainDefs, no_defs, defines, defines_function, defines_current}
+use Rattle.lucid_print.proofs.Common.{◌≡◌, ℕ, ◌+◌, List, [], ◌∷◌, ◌++◌, Some, Bool, true, false, refl, sym, ◌∙◌, ap, subst, arith, zero-le, append_assoc, append-nil, codes, cond-true, cond-false, PlainValue, TextIsRead, PlainTree, form, name, call, block, PlainTrees, no_trees, tree, PlainDefs, no_defs, defines, defines_function, defines_current, Before, Between, Called, Operator, PlainTerminal, PlacedTerminal, terminal_at, as_form, Spells, looser, placed, parted, parted_more, texts, form_text, source, parts, definitions, unplaced, all_unplaced, defs_unplaced, part_of, ltb-false}
+use Rattle.std.specs.Prelude.{nat_lt}
+use Rattle.lucid_tree.specs.Tree.{const, choose}
 use Rattle.lucid_tree.specs.Size.{count}
-use Rattle.lucid_ops.specs.declared.op.Form.TheVariants.{Before, Between, Called}
-use Rattle.lucid_forms.specs.declared.operator.Operator.{Operator}
 use Rattle.lucid_parse.specs.declared.terminal.Terminal.TheVariants as terminal
 use Rattle.lucid_parse.specs.Grammar
-use Rattle.lucid_parse.specs.Grammar.{PlainTerminal, PlacedTerminal, terminal_at, as_form, Spells, SpellsArgs, SpellsDefs, SpellsNames, trees_and, def_before, defs_and, Parameter, parameter, names_of, Defined, Plain, Function, Current, head, arity_of}
-use Rattle.lucid_parse.proofs.Sound.{looser}
+use Rattle.lucid_parse.specs.Grammar.{SpellsArgs, SpellsDefs, SpellsNames, trees_and, def_before, defs_and, Parameter, parameter, names_of, Defined, Plain, Function, Current, head, arity_of}
 use Rattle.lucid_print.specs.Styles.{style_level, level}
-use Rattle.lucid_print.specs.Canonical.{placed, parted, parted_more, texts, form_text, source, parts, definitions}
-use Rattle.lucid_print.specs.Again.{unplaced, all_unplaced, defs_unplaced}
-use Rattle.lucid_print.specs.Views.{part_of}
 use Rattle.lucid_print.proofs.Terminals.{terminal_of, stands_as, terminal_is, terminal_text, is_open, after, not_open, not_closer, between_not_callable, before_not_callable, callable, style-between, style-before, style-called}
 use Rattle.lucid_print.proofs.Goods.{Good, IsWritten, open_good, close_good, comma_good, semicolon_good, equals_good, is_good, current_good, where_good, end_good, if_good, then_good, else_good, fi_good, operator_good, const_good, written_name_good}
 use Rattle.lucid_print.proofs.Chunks.{Chunk, chunk_as, IsPlain, single, led, operated, trailed, ended, closed, called, with_comma, Definitions, no_definitions, and_definition, blocked}

@@ -1,27 +1,18 @@
 -- A text of good terminals is scanned as words of these terminals.
-use Rattle.std.proofs.Common.{◌≡◌, ℕ, suc, ◌+◌, ◌-◌, ◌≤◌, List, [], ◌∷◌, ◌++◌, length, take, drop, Bool, true, false, cond, ◌&&◌, ◌||◌, inl, inr, refl, sym, ◌∙◌, ap, subst, arith, le_refl, zero-le, append_assoc, length-append}
-use Rattle.std.specs.Prelude.{slice_range, max}
-use Rattle.std.specs.List.{All}
-use Rattle.std.proofs.Math.Seq.{take-append_seam, drop-append_seam}
-use Rattle.std.proofs.lemmas.Bool.{or_cases, and_parts, cond-true, cond-false, or_left}
-use Rattle.lucid_value.specs.Laws.{TextIsRead}
-use Rattle.lucid_scan.specs.declared.token.TokenKind.{TokenKind}
+use Rattle.lucid_print.proofs.Common.{◌≡◌, ℕ, suc, ◌+◌, ◌≤◌, List, [], ◌∷◌, ◌++◌, length, take, drop, Bool, true, false, cond, ◌&&◌, ◌||◌, inl, inr, refl, sym, ◌∙◌, ap, subst, arith, zero-le, append_assoc, or_cases, and_parts, cond-true, cond-false, or_left, TextIsRead, TokenKind, PlainTree, form, name, call, block, PlainTrees, no_trees, tree, PlainDefs, no_defs, defines, defines_function, defines_current, PlainTerminal, PlacedTerminal, terminal_at, Spells, StandsFor, looser, unplaced, all_unplaced, defs_unplaced, ◌-◌, le_refl, length-append, slice_range, max, All, take-append_seam, drop-append_seam}
 use Rattle.lucid_scan.specs.declared.token.Token.{Token}
 use Rattle.lucid_scan.specs.Tokens.{IsLongest, past_gap, token, Tokens, tokens_end, tokens_next}
 use Rattle.lucid_scan.specs.Tokens.{gap as gap_length}
 use Rattle.lucid_scan.specs.Laws.{TextsAreLongest, TextsBeginNoGap, TokensStand, TokensAreNotRefused, StandsIn}
-use Rattle.lucid_tree.specs.Tree.{PlainTree, form, name, call, block, PlainTrees, no_trees, tree, PlainDefs, no_defs, defines, defines_function, defines_current}
 use Rattle.lucid_tree.specs.WellMade.{depth, depths, depths_in_defs}
 use Rattle.lucid_parse.specs.declared.terminal.Terminal.TheVariants as terminal
 use Rattle.lucid_parse.specs.declared.refusal.ParseRefusal.{ParseRefusal}
 use Rattle.lucid_parse.specs.declared.refusal.ParseRefusal.TheVariants as parse_refusal
-use Rattle.lucid_parse.specs.Grammar.{PlainTerminal, PlacedTerminal, terminal_at, Spells}
 use Rattle.lucid_parse.specs.Laws.{TerminalsAreUnique, TerminalsSpellOneTree}
 use Rattle.lucid_parse.specs.Spelled.{SpellsTree, IsRefused}
-use Rattle.lucid_parse.specs.Terminals.{Terminals, StandsFor}
-use Rattle.lucid_parse.proofs.Sound.{looser}
+use Rattle.lucid_parse.specs.Terminals.{Terminals}
 use Rattle.lucid_print.specs.Canonical.{canonical}
-use Rattle.lucid_print.specs.Again.{unplaced, all_unplaced, defs_unplaced, IsReadAs, IsParsed}
+use Rattle.lucid_print.specs.Again.{IsReadAs, IsParsed}
 use Rattle.lucid_print.proofs.Terminals.{terminal_text, is_open, is_closer, is_callable, is_tight, gap, after}
 use Rattle.lucid_print.proofs.Goods.{Good, AllGood, stoppers, among, or_right}
 use Rattle.lucid_print.proofs.Printed.{terminals_of, AllWritten, print}

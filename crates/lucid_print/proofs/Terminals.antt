@@ -1,21 +1,15 @@
 -- The text of terminals: each terminal's own, and a blank between two or none.
-use Rattle.std.proofs.Common.{◌≡◌, ℕ, List, [], ◌∷◌, ◌++◌, Some, None, Bool, true, false, cond, ◌&&◌, ◌||◌, refl, sym, ◌∙◌, ap, append_assoc}
-use Rattle.std.specs.Prelude.{codes}
-use Rattle.std.proofs.lemmas.Bool.{cond-true, cond-false}
-use Rattle.std.specs.Prelude.{nat_eq}
+use Rattle.lucid_print.proofs.Common.{◌≡◌, ℕ, List, [], ◌∷◌, ◌++◌, Some, None, Bool, true, false, cond, ◌&&◌, ◌||◌, refl, sym, ◌∙◌, ap, append_assoc, codes, cond-true, cond-false, Before, Between, Called, Operator, Data, PlainTerminal, as_form, style, made_style, nat_eq}
 use Rattle.lucid_parse.specs.declared.terminal.Terminal.TheVariants as terminal
 use Rattle.lucid_ops.specs.declared.op.Op.TheVariants as op
 use Rattle.lucid_ops.specs.declared.op.Form.{Form}
-use Rattle.lucid_ops.specs.declared.op.Form.TheVariants.{Before, Between, Called}
 use Rattle.lucid_ops.specs.Rows.{form_number}
-use Rattle.lucid_forms.specs.declared.operator.Operator.{Operator}
-use Rattle.lucid_forms.specs.declared.operator.Operator.TheVariants.{Data}
 use Rattle.lucid_forms.specs.Operators.{row_of, level_of, left, right, head}
 use Rattle.lucid_forms.proofs.Rows.{known}
 use Rattle.lucid_parse.proofs.Levels.{stands}
-use Rattle.lucid_parse.specs.Grammar.{PlainTerminal, as_form, operator_in}
+use Rattle.lucid_parse.specs.Grammar.{operator_in}
 use Rattle.lucid_print.specs.Styles as styles
-use Rattle.lucid_print.specs.Styles.{style, row_style, made_style}
+use Rattle.lucid_print.specs.Styles.{row_style}
 use Rattle.lucid_print.specs.Canonical.{constant_text}
 
 -- the terminal of an operator

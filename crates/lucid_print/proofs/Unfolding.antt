@@ -1,19 +1,15 @@
 -- Pieces that were put before others.
-use Rattle.std.proofs.Common.{◌≡◌, ℕ, ◌+◌, ◌≤◌, List, [], ◌∷◌, ◌++◌, nat_lt, false, refl, sym, ap, ◌∙◌, arith, append_assoc}
-use Rattle.std.proofs.lemmas.Bool.Decides.{nat_tests}
-use Rattle.std.specs.Prelude.{codes}
-use Rattle.lucid_tree.specs.Tree.{PlainTree, PlainTrees, tree, PlainDefs}
+use Rattle.lucid_print.proofs.Common.{◌≡◌, ℕ, ◌+◌, ◌≤◌, List, [], ◌∷◌, ◌++◌, false, refl, sym, ap, ◌∙◌, arith, append_assoc, codes, PlainTree, PlainTrees, tree, PlainDefs, placed, parted, parted_more, texts, source, parts, definitions, part_of, steps_left, sign, work, nat_tests, Bor}
+use Rattle.std.proofs.Common.{nat_lt}
 use Rattle.lucid_tree.specs.Rights.{right_of}
 use Rattle.lucid_tree.specs.DefsView.{one_def, def_of}
 use Rattle.lucid_tree.specs.declared.tree.Def.{Def}
 use Rattle.lucid_tree.specs.declared.tree.DefKind.{DefKind}
 use Rattle.lucid_tree.specs.declared.tree.DefKind.TheVariants as def_kind
-use Rattle.std.specs.Borrow.{Bor}
 use Rattle.lucid_print.specs.declared.print.Piece.{Piece}
 use Rattle.lucid_print.specs.declared.print.Piece.TheVariants.{Placed}
-use Rattle.lucid_print.specs.Canonical.{placed, parted, parted_more, texts, source, parts, definitions, Part}
-use Rattle.lucid_print.specs.Views.{part_of}
-use Rattle.lucid_print.specs.Pieces.{text_of, left, steps_of, steps_left, sign, work, work_of_defs, Unfolds}
+use Rattle.lucid_print.specs.Canonical.{Part}
+use Rattle.lucid_print.specs.Pieces.{text_of, left, steps_of, work_of_defs, Unfolds}
 
 -- one piece
 pub put : {o n : List Piece} {p : Piece} → n ≡ p ∷ o → Unfolds o n (text_of p) (steps_of p)

@@ -1,19 +1,5 @@
 -- What is held and what is listed, once a key is brought to the front of the list.
-use Rattle.std.proofs.Common.{◌≡◌, ℕ, zero, suc, ◌+◌, ◌-◌, ◌≤◌, Bool, true, false, cond, not, ◌||◌, ◌&&◌, List, [], ◌∷◌, length, take, Option, Some, None, is_some, refl, ap, sym, ◌∙◌, subst, arith}
-use Rattle.std.specs.Prelude.{slice_get, nat_lt}
-use Rattle.std.specs.List.{IsDistinct}
-use Rattle.std.specs.Map.{keys_of}
-use Rattle.std.proofs.lemmas.Bool.Decides.{nat_tests}
-use Rattle.std.proofs.lemmas.Map.Entries.{length-keys_of}
-use Rattle.std.proofs.lemmas.Option.{slice_get_past}
-use Rattle.std.proofs.lemmas.Map.Keys.{IsDistinct-head, IsDistinct-tail}
-use Rattle.std.proofs.lemmas.Map.Made.{is_some-lookup, length-le_from_is_member, length-from_same_keys}
-use Rattle.lucid_tags.specs.declared.Key.{Key}
-use Rattle.lucid_store.specs.Stored.{Entry, Stored}
-use Rattle.lucid_tags.specs.Keys.{same_key}
-use Rattle.lucid_store.specs.Entries.{entry_at, count_of, IsOneForEach}
-use Rattle.lucid_tags.specs.EqualityDecides.{same_key_is_equality, same_key_equiv}
-use Rattle.lucid_retire.specs.Recency.{Recency, is_listed, is_the, to_front, brought, pushed_out, last_of, AreHeld, AreRecent, DropsKey}
+use Rattle.lucid_retire.proofs.Common.{◌≡◌, ℕ, zero, suc, ◌+◌, ◌-◌, ◌≤◌, Bool, true, false, cond, ◌||◌, List, [], ◌∷◌, length, take, Option, Some, None, is_some, refl, ap, sym, ◌∙◌, subst, arith, slice_get, nat_lt, IsDistinct, keys_of, nat_tests, length-keys_of, slice_get_past, IsDistinct-head, IsDistinct-tail, is_some-lookup, length-le_from_is_member, Key, Entry, Stored, same_key, entry_at, count_of, IsOneForEach, same_key_is_equality, same_key_equiv, Recency, is_listed, is_the, to_front, brought, pushed_out, last_of, AreHeld, AreRecent, DropsKey, not, ◌&&◌, length-from_same_keys}
 use Rattle.lucid_retire.proofs.Lists.{apart_item, listed-front, length-remove-le, IsDistinct-front}
 
 -- ---- lists

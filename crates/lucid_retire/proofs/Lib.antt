@@ -1,4 +1,4 @@
-pub mod Drops
+pub mod Common
 pub mod Lists
 pub mod Pushes
 pub mod Brought

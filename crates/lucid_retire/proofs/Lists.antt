@@ -1,10 +1,5 @@
 -- Lists of different keys, one of which is brought to the front.
-use Rattle.std.proofs.Common.{◌≡◌, ℕ, zero, suc, ◌≤◌, Bool, true, false, cond, ◌||◌, List, [], ◌∷◌, length, Some, refl, ap, sym, ◌∙◌, arith}
-use Rattle.std.specs.Prelude.{slice_get}
-use Rattle.std.specs.Cmp.{IsEquivalence}
-use Rattle.std.specs.List.{IsDistinct, AllByRecursion, list_any}
-use Rattle.std.specs.Set.{remove_key}
-use Rattle.std.proofs.lemmas.Map.Keys.{IsDistinct-head, IsDistinct-tail, IsDistinct-cons}
+use Rattle.lucid_retire.proofs.Common.{◌≡◌, ℕ, zero, suc, ◌≤◌, Bool, true, false, cond, ◌||◌, List, [], ◌∷◌, length, Some, refl, ap, sym, ◌∙◌, arith, slice_get, IsDistinct, remove_key, IsDistinct-head, IsDistinct-tail, IsEquivalence, AllByRecursion, list_any, IsDistinct-cons}
 
 module _ {K : Type 0} {eq : K → K → Bool} (laws : IsEquivalence eq) where
   -- no key is the same as k

@@ -1,18 +1,7 @@
 -- A warehouse in which at most one key is touched between two turns of the policy that drops by age.
-use Rattle.std.proofs.Common.{◌≡◌, ℕ, zero, suc, ◌+◌, ◌-◌, ◌*◌, ◌^◌, ◌≤◌, ◌<◌, Bool, true, false, cond, ◌||◌, ◌⊎◌, inl, inr, List, [], ◌∷◌, ◌++◌, length, Option, Some, None, is_some, refl, ap, sym, ◌∙◌, subst, length-append, arith}
-use Rattle.std.specs.Prelude.{◌==◌, nat_le, MatchBool, option_map, option_and_then}
-use Rattle.std.specs.Map.{lookup, keys_of}
-use Rattle.std.specs.Set.{is_member}
-use Rattle.std.proofs.lemmas.Bool.Decides.{nat_tests}
-use Rattle.std.proofs.lemmas.List.Folds.{list_any-append}
-use Rattle.std.proofs.lemmas.Map.Entries.{length-keys_of}
-use Rattle.std.proofs.lemmas.Map.Made.{is_some-lookup, length-le_from_is_member}
-use Rattle.lucid_tags.specs.declared.Key.{Key}
-use Rattle.lucid_store.specs.Stored.{Entry, Stored}
-use Rattle.lucid_tags.specs.Keys.{same_key}
-use Rattle.lucid_store.specs.Entries.{entry_at, age_at, count_of, older, aged, swept, IsSwept, IsOneForEach}
-use Rattle.lucid_tags.specs.EqualityDecides.{same_key_is_equality, same_key_equiv}
-use Rattle.lucid_retire.specs.Aging.{Aging, most_of, is_sweeping, after_turn, IsAccounted, IsPaced, TouchesOne, IsSparingTurn}
+use Rattle.lucid_retire.proofs.Common.{◌≡◌, ℕ, zero, suc, ◌+◌, ◌-◌, ◌≤◌, ◌<◌, Bool, true, false, cond, ◌||◌, ◌⊎◌, inl, inr, List, [], ◌∷◌, length, Option, Some, None, is_some, refl, ap, sym, ◌∙◌, subst, arith, nat_le, MatchBool, option_map, option_and_then, lookup, keys_of, nat_tests, length-keys_of, is_some-lookup, length-le_from_is_member, Key, Entry, Stored, same_key, entry_at, count_of, older, aged, swept, IsSwept, IsOneForEach, same_key_is_equality, same_key_equiv, Aging, most_of, IsPaced, ◌*◌, ◌^◌, ◌++◌, length-append, ◌==◌, is_member, list_any-append}
+use Rattle.lucid_store.specs.Entries.{age_at}
+use Rattle.lucid_retire.specs.Aging.{is_sweeping, after_turn, IsAccounted, TouchesOne, IsSparingTurn}
 
 or_true : (b : Bool) → (b || true) ≡ true
 or_true true = refl

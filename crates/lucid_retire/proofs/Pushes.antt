@@ -1,19 +1,7 @@
 -- What a push leaves in the cache of the listed keys, and what falls out of it.
-use Rattle.std.proofs.Common.{◌≡◌, ℕ, zero, suc, ◌-◌, ◌≤◌, ◌<◌, Bool, true, false, cond, List, [], ◌∷◌, length, take, Option, Some, None, IsSome, is_some, refl, ap, sym, ◌∙◌, arith}
-use Rattle.std.specs.Prelude.{slice_get, option_map}
-use Rattle.std.specs.Option.{option_map_or}
-use Rattle.std.specs.Map.{lookup, lookup_entry, remove_entry, keys_of}
-use Rattle.std.specs.Set.{remove_key}
-use Rattle.std.proofs.lemmas.List.{take_all, take-map}
-use Rattle.std.proofs.lemmas.Option.{slice_get-map, slice_get_past}
-use Rattle.std.proofs.lemmas.Map.Entries.{length-keys_of}
-use Rattle.std.proofs.lemmas.Map.Made.{is_some-lookup, length-remove_key}
-use Rattle.lru.specs.LruCache.{lru_cache, put_entries, displaced}
+use Rattle.lucid_retire.proofs.Common.{◌≡◌, ℕ, zero, suc, ◌-◌, ◌≤◌, ◌<◌, Bool, true, false, cond, List, [], ◌∷◌, length, take, Option, Some, None, IsSome, is_some, refl, ap, sym, ◌∙◌, arith, slice_get, option_map, lookup, keys_of, remove_key, slice_get_past, length-keys_of, is_some-lookup, displaced, Key, same_key, same_key_is_equality, same_key_equiv, is_listed, to_front, brought, pushed_out, fallen_of, option_map_or, lookup_entry, remove_entry, take_all, take-map, slice_get-map, length-remove_key}
+use Rattle.lru.specs.LruCache.{lru_cache, put_entries}
 use Rattle.lru.proofs.CallerLemmas.{Contains-lookup_entry}
-use Rattle.lucid_tags.specs.declared.Key.{Key}
-use Rattle.lucid_tags.specs.Keys.{same_key}
-use Rattle.lucid_tags.specs.EqualityDecides.{same_key_is_equality, same_key_equiv}
-use Rattle.lucid_retire.specs.Recency.{is_listed, to_front, brought, pushed_out, fallen_of}
 use Rattle.lucid_retire.proofs.Lists.{remove-unlisted, apart_from_unlisted, apart_item}
 
 value_of_entry : {K X : Type 0} (test : K → Bool) (es : List (K × X)) → lookup test es ≡ option_map (λ e. e.1) (lookup_entry test es)

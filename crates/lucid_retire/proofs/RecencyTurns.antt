@@ -1,11 +1,6 @@
 -- A whole turn of the policy that keeps what was touched last.
-use Rattle.std.proofs.Common.{◌≡◌, ◌≤◌, ◌<◌, Bool, true, false, cond, ◌||◌, ◌⊎◌, inl, inr, List, [], ◌∷◌, length, Option, Some, None, IsSome, IfSome, is_some, refl, ap, sym, ◌∙◌, subst, arith}
-use Rattle.std.specs.Prelude.{nat_lt, MatchBool}
-use Rattle.std.proofs.lemmas.Bool.{le-ltb}
-use Rattle.lucid_tags.specs.declared.Key.{Key}
-use Rattle.lucid_store.specs.Stored.{Entry, Stored}
-use Rattle.lucid_store.specs.Entries.{entry_at, count_of, cleared, IsOneForEach, TouchedIsHeld}
-use Rattle.lucid_retire.specs.Recency.{Recency, is_listed, is_the, with_touched, last_of, Agrees, AreHeld, AreRecent, DropsKey, IsNoted, IsRefusedAt, IsRecencyTurn}
+use Rattle.lucid_retire.proofs.Common.{◌≡◌, ◌≤◌, ◌<◌, Bool, true, false, cond, ◌||◌, ◌⊎◌, inl, inr, [], ◌∷◌, length, Option, Some, None, IsSome, is_some, refl, ap, sym, ◌∙◌, subst, arith, nat_lt, MatchBool, le-ltb, Key, Stored, entry_at, count_of, cleared, IsOneForEach, Recency, is_listed, is_the, last_of, AreHeld, AreRecent, DropsKey, IfSome}
+use Rattle.lucid_retire.specs.Recency.{with_touched, Agrees, IsNoted, IsRefusedAt, IsRecencyTurn}
 use Rattle.lucid_retire.proofs.Brought.{held_after, held_refused, falls_out, length-take-le, count-listed}
 
 or_false : (b : Bool) → (b || false) ≡ b
@@ -85,23 +80,6 @@ module _ (r : Recency) (few : AreRecent r) (list : Recency) (old mid : Stored) w
       agrees = elim [ inl agrees ↦ (let fits = within_room agrees in cc) | inr none ↦ absurd (omega (arith, none, some)) ];
     }
 
--- at an empty warehouse
-nothing_at : (es : List (Key × Entry)) → length es ≡ 0 → es ≡ []
-nothing_at [] h = refl
-nothing_at (e ∷ es) h = absurd (omega (arith, h))
-
 untouched : (w : Stored) → w.entries ≡ [] → (touched : Option Key) → IfSome touched (λ k. IsSome (entry_at w k)) → touched ≡ None
 untouched w none None h = refl
 untouched w none (Some k) h = let e : entry_at w k ≡ None = ap (λ es. entry_at (record w { entries = es }) k) none in cc
-
-pub empty_turn : (r : Recency) (old : Stored) → count_of old ≡ 0 → TouchedIsHeld old → IsRecencyTurn r (record r { keys = [] }) old old
-empty_turn r old none held =
-    let nothing = nothing_at old.entries none in
-    let free = untouched old nothing old.touched held in
-    record {
-      forgotten = free;
-      unheld = λ _. (refl, refl);
-      noted = λ some. absurd (omega (arith, none, some));
-      agreed = λ agrees. inl (subst (λ t. DropsKey (cond t (last_of (with_touched old.touched r.keys)) None) old old) (sym (le-ltb r.room (count_of old) (omega (arith, none)))) (λ q. refl), refl);
-      agrees = λ _ q. ap (λ es. is_some (entry_at (record old { entries = es }) q)) nothing;
-    }

@@ -1,11 +1,5 @@
 -- Bytes between an opening and a closing byte.
-use Rattle.std.proofs.Common.{◌≡◌, ℕ, suc, ◌+◌, ◌≤◌, List, [], ◌∷◌, ◌++◌, length, take, drop, get_or, Bool, true, false, eqb, refl, sym, ◌∙◌, ap, subst, arith, append_assoc, length-append}
-use Rattle.std.specs.List.{list_all, prefix_len}
-use Rattle.std.proofs.lemmas.Bool.{eqb-true}
-use Rattle.std.proofs.lemmas.List.{take-append-drop, length-take-le, take_more}
-use Rattle.std.proofs.Math.Seq.{take-append_seam}
-use Rattle.lucid_scan.specs.Texts.{first_passes, IsBetween}
-use Rattle.lucid_scan.specs.Fronts.{Closed}
+use Rattle.lucid_scan.proofs.Common.{◌≡◌, ℕ, suc, ◌+◌, ◌≤◌, List, [], ◌∷◌, ◌++◌, length, take, drop, get_or, Bool, true, false, eqb, refl, sym, ◌∙◌, ap, subst, arith, append_assoc, length-append, list_all, prefix_len, eqb-true, take-append-drop, take_more, take-append_seam, first_passes, IsBetween, Closed, length-take-le}
 use Rattle.lucid_scan.proofs.Runs.{run_is}
 
 get_or-seam : (xs ys : List ℕ) (y : ℕ) → get_or (xs ++ y ∷ ys) (length xs) 0 ≡ y

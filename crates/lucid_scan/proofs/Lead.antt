@@ -1,18 +1,6 @@
 -- What the first byte of a token says of its kind.
-use Rattle.std.proofs.Common.{◌≡◌, ℕ, zero, suc, ◌≤◌, ◌<◌, List, [], ◌∷◌, take, drop, Bool, true, false, cond, not, ◌||◌, eqb, leb, ◌⊎◌, inl, inr, refl, sym, ◌∙◌, ap, subst, arith}
-use Rattle.std.specs.List.{list_all, list_any}
-use Rattle.std.specs.Char.{is_ascii_alphabetic, is_ascii_digit}
-use Rattle.std.specs.Int.{is_in_range}
-use Rattle.std.specs.Cmp.Lexicographic.{same_text}
-use Rattle.std.proofs.lemmas.Bool.{and_parts, or_cases, or_parts, not-true, leb-true, eqb-true, cond-true, cond-false, false_from_ne_true}
-use Rattle.lucid_value.specs.Plain.{same_bytes}
-use Rattle.lucid_value.specs.Names.{is_namelike, is_reserved, reserved_words}
-use Rattle.lucid_value.specs.Reading.{is_number}
-use Rattle.lucid_scan.specs.declared.token.TokenKind.{TokenKind}
+use Rattle.lucid_scan.proofs.Common.{◌≡◌, ℕ, zero, suc, ◌≤◌, ◌<◌, List, [], ◌∷◌, take, drop, Bool, true, false, cond, not, ◌||◌, eqb, leb, ◌⊎◌, inl, inr, refl, sym, ◌∙◌, ap, subst, arith, list_all, is_ascii_alphabetic, is_ascii_digit, is_in_range, same_text, and_parts, or_cases, or_parts, not-true, leb-true, eqb-true, cond-false, false_from_ne_true, same_bytes, is_namelike, is_reserved, reserved_words, is_number, TokenKind, marks, is_mark, first_passes, IsTokenText, Stands, is_other, list_any, cond-true}
 use Rattle.lucid_scan.specs.declared.token.TokenKind.TheVariants as kind
-use Rattle.lucid_scan.specs.Texts.{marks, is_mark, first_passes, IsTokenText}
-use Rattle.lucid_scan.specs.Tokens.{Stands}
-use Rattle.lucid_scan.specs.Fronts.{is_other}
 use Rattle.lucid_scan.proofs.ListTexts.{list_shape}
 
 -- 0 for a letter, 1 for a digit, 2 for `"`, 3 for a backquote, 4 for `[` and 5 for any other byte

@@ -1,6 +1,5 @@
 -- The texts of lists.
-use Rattle.std.proofs.Common.{◌≡◌, ℕ, List, [], ◌∷◌, ◌++◌, refl}
-use Rattle.lucid_value.specs.Plain.{Items, list}
+use Rattle.lucid_scan.proofs.Common.{◌≡◌, ℕ, List, [], ◌∷◌, ◌++◌, refl, Items, list}
 use Rattle.lucid_value.specs.Reading.{Denotes, denotes_list}
 
 pub list_shape : {t : List ℕ} {vs : Items} → Denotes t (list vs) → (bs : List ℕ) × (t ≡ 91 ∷ (37 ∷ (bs ++ 37 ∷ (93 ∷ []))))

@@ -1,19 +1,8 @@
 -- Which token stands at the front of bytes, by the first byte.
-use Rattle.std.proofs.Common.{◌≡◌, ℕ, zero, suc, ◌+◌, ◌≤◌, ◌<◌, ◌^◌, List, [], ◌∷◌, ◌++◌, length, take, drop, get_or, true, false, not, ◌||◌, eqb, leb, ◌⊎◌, inl, inr, refl, sym, ◌∙◌, ap, subst, arith, length-take}
-use Rattle.std.specs.List.{list_all, prefix_len}
-use Rattle.std.specs.Char.{is_ascii_alphabetic, is_ascii_digit, is_ascii_alphanumeric}
-use Rattle.std.specs.Int.{is_in_range}
-use Rattle.std.proofs.lemmas.Bool.{and_parts, and_from, or_cases, or_left, or_right, not_from_false, leb-true, eqb-true, cases_lt, both_ways}
-use Rattle.std.proofs.lemmas.List.Sums.{prefix_len-le-length}
-use Rattle.std.specs.Cmp.Lexicographic.{same_text}
-use Rattle.lucid_value.specs.Plain.{same_bytes, is_word, is_wordlike, is_text, is_light, is_text_byte, spells_constant}
-use Rattle.lucid_value.specs.Names.{is_namelike, is_name_byte, is_reserved, reserved_words}
-use Rattle.lucid_value.specs.Reading.{is_number, number_of, IsListFront}
-use Rattle.lucid_scan.specs.declared.token.TokenKind.{TokenKind}
+use Rattle.lucid_scan.proofs.Common.{◌≡◌, ℕ, zero, suc, ◌+◌, ◌≤◌, ◌<◌, ◌^◌, List, [], ◌∷◌, ◌++◌, length, take, drop, get_or, true, false, not, ◌||◌, eqb, leb, ◌⊎◌, inl, inr, refl, sym, ◌∙◌, ap, subst, arith, list_all, prefix_len, is_ascii_alphabetic, is_ascii_digit, is_ascii_alphanumeric, is_in_range, and_parts, and_from, or_cases, leb-true, eqb-true, cases_lt, both_ways, same_text, same_bytes, is_text_byte, is_namelike, is_name_byte, is_reserved, reserved_words, is_number, number_of, IsListFront, TokenKind, marks, is_mark, first_passes, IsBetween, is_word_value, is_text_value, IsTokenText, Stands, IsLongest, NoneStands, Closed, IsLongestMark, is_other, length-take, or_left, or_right, not_from_false, prefix_len-le-length}
+use Rattle.lucid_value.specs.Plain.{is_word, is_wordlike, is_text, is_light, spells_constant}
 use Rattle.lucid_scan.specs.declared.token.TokenKind.TheVariants as kind
-use Rattle.lucid_scan.specs.Texts.{marks, is_mark, first_passes, IsBetween, is_word_value, is_text_value, IsTokenText}
-use Rattle.lucid_scan.specs.Tokens.{Stands, IsLongest, NoneStands}
-use Rattle.lucid_scan.specs.Fronts.{Closed, IsMarkFront, IsLongestMark, NoMarkStands, is_other}
+use Rattle.lucid_scan.specs.Fronts.{IsMarkFront, NoMarkStands}
 use Rattle.lucid_scan.proofs.Runs.{run_most, run_passes, run_stops, run_some, run_inside, first-take, first_more}
 use Rattle.lucid_scan.proofs.Lead.{lead, letter_lead, digit_lead, byte_lead, other_lead, among_all, mark_lead, reserved_lead, stands_lead, lead-take}
 use Rattle.lucid_scan.proofs.ListTexts.{list_shape}

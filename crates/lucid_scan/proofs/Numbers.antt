@@ -1,9 +1,5 @@
 -- The value of digits grows with each digit.
-use Rattle.std.proofs.Common.{◌≡◌, ℕ, ◌+◌, ◌-◌, ◌*◌, ◌^◌, ◌≤◌, ◌<◌, List, [], ◌∷◌, ◌++◌, length, take, drop, get_or, sym, ◌∙◌, ap, arith, length-append}
-use Rattle.std.proofs.Math.Nat.{one-le-pow, mul-le-mul_left}
-use Rattle.std.proofs.lemmas.Nat.{pow-add}
-use Rattle.std.proofs.lemmas.List.{take_more, take-append-drop}
-use Rattle.lucid_value.specs.Reading.{number_of}
+use Rattle.lucid_scan.proofs.Common.{◌≡◌, ℕ, ◌+◌, ◌-◌, ◌^◌, ◌≤◌, ◌<◌, List, [], ◌∷◌, ◌++◌, length, take, drop, get_or, sym, ◌∙◌, ap, arith, length-append, take_more, take-append-drop, number_of, ◌*◌, one-le-pow, mul-le-mul_left, pow-add}
 
 expand : (c a b n m p : ℕ) → p ≡ a * b → c * p + (n * b + m) ≡ (c * a + n) * b + m
 expand c a b n m p e = ap (λ q. c * q + (n * b + m)) e ∙ omega arith

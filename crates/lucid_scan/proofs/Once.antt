@@ -1,16 +1,7 @@
 -- A source has at most one list of tokens and one place at which it is stuck, and not both.
-use Rattle.std.proofs.Common.{◌≡◌, ℕ, ◌+◌, ◌≤◌, List, [], ◌∷◌, length, drop, take, Bool, true, false, cond, not, eqb, inl, inr, refl, sym, ◌∙◌, ap, subst, arith, length-drop, le_refl}
-use Rattle.std.proofs.lemmas.Bool.{and_parts, or_cases, not-true, eqb-true, false_from_ne_true}
-use Rattle.std.proofs.Math.Seq.{take-length}
-use Rattle.std.specs.Cmp.Lexicographic.{same_text}
-use Rattle.lucid_value.specs.Plain.{same_bytes, Items, list}
-use Rattle.lucid_value.specs.Names.{is_namelike, is_reserved}
+use Rattle.lucid_scan.proofs.Common.{◌≡◌, ℕ, ◌+◌, ◌≤◌, List, [], ◌∷◌, length, drop, take, Bool, true, false, cond, not, eqb, inl, inr, refl, sym, ◌∙◌, ap, subst, arith, length-drop, and_parts, or_cases, not-true, eqb-true, false_from_ne_true, same_text, same_bytes, Items, list, is_namelike, is_reserved, Token, TokenKind, is_mark, IsTokenText, gap, past_gap, token, IsLongest, Tokens, tokens_end, tokens_next, Stuck, stuck_here, stuck_next, le_refl, take-length}
 use Rattle.lucid_value.specs.Reading.{Reads}
-use Rattle.lucid_scan.specs.declared.token.Token.{Token}
-use Rattle.lucid_scan.specs.declared.token.TokenKind.{TokenKind}
 use Rattle.lucid_scan.specs.declared.token.TokenKind.TheVariants as kind
-use Rattle.lucid_scan.specs.Texts.{is_mark, IsTokenText}
-use Rattle.lucid_scan.specs.Tokens.{gap, past_gap, token, IsLongest, Tokens, tokens_end, tokens_next, Stuck, stuck_here, stuck_next}
 use Rattle.lucid_scan.proofs.Lead.{lead, leads, reserved_lead}
 use Rattle.lucid_scan.proofs.Longest.{mark_kind, mark_or_none}
 

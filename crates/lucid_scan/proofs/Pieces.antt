@@ -1,17 +1,8 @@
 -- The texts of tokens, in front of other bytes.
-use Rattle.std.proofs.Common.{◌≡◌, ℕ, ◌+◌, ◌^◌, ◌<◌, List, [], ◌∷◌, ◌++◌, length, take, drop, Bool, true, false, cond, not, ◌&&◌, ◌||◌, eqb, inl, inr, refl, sym, ◌∙◌, ap, subst, arith, length-append}
-use Rattle.std.specs.List.{list_all}
-use Rattle.std.specs.Char.{is_ascii_alphabetic, is_ascii_digit, is_ascii_alphanumeric}
-use Rattle.std.proofs.lemmas.Bool.{and_parts, or_cases, or_parts, not-true, eqb-true, cases_lt, cond-false, and_left, both_ways, false_from_ne_true}
-use Rattle.std.proofs.Math.Seq.{take-append_seam, drop-append_seam}
-use Rattle.lucid_value.specs.Plain.{is_text_byte}
-use Rattle.lucid_value.specs.Names.{is_namelike, is_name_byte, is_reserved}
-use Rattle.lucid_value.specs.Reading.{is_blank, is_number, number_of, IsListFront}
-use Rattle.lucid_scan.specs.declared.token.TokenKind.{TokenKind}
+use Rattle.lucid_scan.proofs.Common.{◌≡◌, ℕ, ◌+◌, ◌^◌, ◌<◌, List, [], ◌∷◌, ◌++◌, length, take, drop, Bool, true, false, cond, not, ◌||◌, eqb, inl, inr, refl, sym, ◌∙◌, ap, subst, arith, length-append, list_all, is_ascii_alphabetic, is_ascii_digit, is_ascii_alphanumeric, and_parts, or_cases, or_parts, not-true, eqb-true, cases_lt, cond-false, both_ways, false_from_ne_true, take-append_seam, is_text_byte, is_namelike, is_name_byte, is_reserved, is_number, number_of, IsListFront, TokenKind, marks, is_mark, first_passes, is_word_value, is_text_value, IsTokenText, Stands, IsLongest, gap, comment, IsLongestMark, ◌&&◌, and_left, drop-append_seam}
+use Rattle.lucid_value.specs.Reading.{is_blank}
 use Rattle.lucid_scan.specs.declared.token.TokenKind.TheVariants as kind
-use Rattle.lucid_scan.specs.Texts.{marks, is_mark, first_passes, is_word_value, is_text_value, IsTokenText}
-use Rattle.lucid_scan.specs.Tokens.{Stands, IsLongest, is_slash, gap, comment}
-use Rattle.lucid_scan.specs.Fronts.{IsLongestMark}
+use Rattle.lucid_scan.specs.Tokens.{is_slash}
 use Rattle.lucid_scan.specs.Laws.{Stops}
 use Rattle.lucid_scan.proofs.Runs.{run_is}
 use Rattle.lucid_scan.proofs.Lead.{class_of, lead, leads, among_all, mark_lead, reserved_first, reserved_lead}

@@ -1,12 +1,8 @@
 -- What a refusal says.
-use Rattle.std.proofs.Common.{◌≡◌, ◌≢◌, ℕ, ◌≤◌, ◌<◌, List, length, Bool, true, false, cond, ◌⊎◌, inl, inr, refl, sym, ◌∙◌, ap, arith}
-use Rattle.std.specs.Char.{is_ascii_digit}
-use Rattle.lucid_scan.specs.declared.token.Token.{Token}
+use Rattle.lucid_scan.proofs.Common.{◌≡◌, ℕ, ◌≤◌, ◌<◌, List, length, Bool, true, false, cond, ◌⊎◌, inl, inr, refl, sym, ◌∙◌, ap, arith, is_ascii_digit, Token, first_passes, Tokens, Stuck, refusal_of, ◌≢◌}
 use Rattle.lucid_scan.specs.declared.refusal.ScanRefusal.{ScanRefusal}
 use Rattle.lucid_scan.specs.declared.refusal.ScanRefusal.TheVariants as refusal
-use Rattle.lucid_scan.specs.Texts.{first_passes}
-use Rattle.lucid_scan.specs.Tokens.{Tokens, Stuck}
-use Rattle.lucid_scan.specs.Refusals.{opens_text, refusal_of, IsStuckBy, Refuses}
+use Rattle.lucid_scan.specs.Refusals.{opens_text, IsStuckBy, Refuses}
 use Rattle.lucid_scan.proofs.Once.{no_scan, one_stuck}
 
 not_long : (digit opens : Bool) (at : ℕ) → refusal.TooLong ≡ cond digit (refusal.BigNumber at) (cond opens (refusal.OpenText at) (refusal.BadByte at)) → ⊥

@@ -1,9 +1,5 @@
 -- Bytes in front that pass a test, and the first byte.
-use Rattle.std.proofs.Common.{◌≡◌, ℕ, zero, suc, ◌+◌, ◌≤◌, ◌<◌, List, [], ◌∷◌, ◌++◌, length, take, drop, Bool, true, false, cond, inl, inr, refl, sym, ◌∙◌, ap, subst, arith, zero-le}
-use Rattle.std.proofs.Math.Numerals.{one-add}
-use Rattle.std.specs.List.{list_all, prefix_len}
-use Rattle.std.proofs.lemmas.Bool.{cases_Bool, and_parts, and_from}
-use Rattle.lucid_scan.specs.Texts.{first_passes}
+use Rattle.lucid_scan.proofs.Common.{◌≡◌, ℕ, zero, suc, ◌+◌, ◌≤◌, ◌<◌, List, [], ◌∷◌, ◌++◌, length, take, drop, Bool, true, false, cond, inl, inr, refl, sym, ◌∙◌, ap, subst, arith, list_all, prefix_len, and_parts, and_from, first_passes, zero-le, one-add, cases_Bool}
 
 module _ (p : ℕ → Bool) where
   pub run_grows : (x : ℕ) (xs : List ℕ) → p x ≡ true → prefix_len p (x ∷ xs) ≡ suc (prefix_len p xs)

@@ -1,9 +1,5 @@
 -- One token more.
-use Rattle.std.proofs.Common.{◌≡◌, ℕ, ◌+◌, ◌≤◌, ◌<◌, List, [], ◌∷◌, ◌++◌, length, drop, sym, ◌∙◌, ap, subst, arith, append_assoc, append-nil, length-drop}
-use Rattle.std.proofs.lemmas.List.{drop-drop}
-use Rattle.lucid_scan.specs.declared.token.Token.{Token}
-use Rattle.lucid_scan.specs.declared.token.TokenKind.{TokenKind}
-use Rattle.lucid_scan.specs.Tokens.{gap, token, IsLongest, NoneStands, Tokens, tokens_end, tokens_next, Stuck, stuck_here, stuck_next}
+use Rattle.lucid_scan.proofs.Common.{◌≡◌, ℕ, ◌+◌, ◌≤◌, ◌<◌, List, [], ◌∷◌, ◌++◌, length, drop, sym, ◌∙◌, ap, subst, arith, append_assoc, length-drop, drop-drop, Token, TokenKind, gap, token, IsLongest, NoneStands, Tokens, tokens_end, tokens_next, Stuck, stuck_here, stuck_next, append-nil}
 
 abbrev pub GoesOn : List ℕ → ℕ → List Token → Type 0
 GoesOn source at before = (ts : List Token) → Tokens (drop at source) at ts → Tokens source 0 (before ++ ts)

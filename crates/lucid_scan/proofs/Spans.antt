@@ -1,11 +1,5 @@
 -- The spans of tokens.
-use Rattle.std.proofs.Common.{◌≡◌, ℕ, ◌+◌, ◌-◌, ◌≤◌, List, length, drop, sym, ◌∙◌, ap, subst, arith, length-drop}
-use Rattle.std.specs.List.{All}
-use Rattle.std.proofs.lemmas.List.{drop-drop}
-use Rattle.std.proofs.lemmas.List.Elements.{All-nil, All-cons}
-use Rattle.lucid_scan.specs.declared.token.Token.{Token}
-use Rattle.lucid_scan.specs.declared.token.TokenKind.{TokenKind}
-use Rattle.lucid_scan.specs.Tokens.{gap, past_gap, token, Stands, Tokens, tokens_end, tokens_next}
+use Rattle.lucid_scan.proofs.Common.{◌≡◌, ℕ, ◌+◌, ◌-◌, ◌≤◌, List, length, drop, sym, ◌∙◌, ap, subst, arith, length-drop, drop-drop, Token, TokenKind, gap, past_gap, token, Stands, Tokens, tokens_end, tokens_next, All, All-nil, All-cons}
 use Rattle.lucid_scan.specs.Laws.{IsInOrder, StandsIn}
 
 pub in_order : {bytes : List ℕ} {p : ℕ} {ts : List Token} → Tokens bytes p ts → (limit : ℕ) → p + length bytes ≤ limit → IsInOrder p ts limit

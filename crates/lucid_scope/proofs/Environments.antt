@@ -1,8 +1,7 @@
 -- What an environment finds for a name is what the name belongs to.
-use Rattle.std.proofs.Common.{ℕ, List, Option, Some, None, refl}
-use Rattle.lucid_tree.specs.Tree.{PlainTrees, PlainDefs}
-use Rattle.lucid_tree.specs.Env.{Env, scope, args, Aim, Found, absent, plain_def, function_def, current_def, definition, param, in_scope, in_args, called, unless_param, name_target, call_target}
-use Rattle.lucid_scope.specs.Scope.{Static, in_block, in_function, Meaning, meaning, defined_in, parameter_in}
+use Rattle.lucid_scope.proofs.Common.{ℕ, List, None, refl, PlainTrees, PlainDefs, Found, plain_def, function_def, current_def, definition, param, Static, in_block, in_function, Meaning, meaning, defined_in, parameter_in}
+use Rattle.std.proofs.Common.{Option, Some}
+use Rattle.lucid_tree.specs.Env.{Env, scope, args, Aim, absent, in_scope, in_args, called, unless_param, name_target, call_target}
 use Rattle.lucid_scope.specs.Laws.{Matches, outermost_matches, block_matches, call_matches, NameAim, CalledAim}
 
 in_a_block : (x : List ℕ) (ds : PlainDefs) (z : Option ℕ) (env : Env) (k : Static) (t : ℕ) → Matches env k → (found : Found) (m : Meaning) (a : Aim) → NameAim x m t a

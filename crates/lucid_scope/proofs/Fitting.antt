@@ -1,18 +1,9 @@
 -- In a well-made tree the numbers of parameters and arguments fit their type.
-use Rattle.std.proofs.Common.{◌≡◌, ℕ, ◌<◌, ◌≤◌, ◌^◌, Bool, true, false, cond, List, [], ◌∷◌, ◌++◌, ◌&&◌, length, length-append, map, Option, Some, None, nat_lt, nat_eq, refl, sym, subst, arith, zero, suc}
-use Rattle.std.specs.List.{All, position_or_len}
+use Rattle.lucid_scope.proofs.Common.{◌≡◌, ℕ, ◌<◌, ◌≤◌, ◌^◌, Bool, true, false, cond, List, [], ◌∷◌, ◌++◌, length, length-append, None, nat_lt, nat_eq, refl, sym, subst, arith, zero, suc, All, position_or_len, PlainTree, form, name, call, block, PlainTrees, no_trees, tree, PlainDefs, no_defs, defines, defines_function, defines_current, count, Found, plain_def, function_def, current_def, definition, param, same_name, places, places_in, places_in_defs, Static, in_block, in_function, meaning, Site, sites, sites_in, outside_sites, inside_sites, repeats, again_if, also, no_names, Earlier, owner_of, definition_owner, parameter_owner, or_outer, mark, Fits, Owner, ◌&&◌}
+use Rattle.std.proofs.Common.{Option, Some}
 use Rattle.std.proofs.lemmas.Bool.{and_parts as both}
-use Rattle.lucid_tree.specs.Tree.{PlainTree, form, name, call, block, PlainTrees, no_trees, tree, PlainDefs, no_defs, defines, defines_function, defines_current}
-use Rattle.lucid_tree.specs.Size.{count}
-use Rattle.lucid_tree.specs.Env.{Found, plain_def, function_def, current_def, definition, param, same_name}
-use Rattle.lucid_tree.specs.WellMade.{places, places_in, places_in_defs, is_shaped, are_shaped, defs_are_shaped, fits_arity}
-use Rattle.lucid_scope.specs.Scope.{Static, in_block, in_function, meaning}
-use Rattle.lucid_scope.specs.Sites.{Site, sites, sites_in, outside_sites, inside_sites, repeats, again_if, also, no_names, Earlier}
-use Rattle.lucid_scope.specs.Owners.{owner_of, definition_owner, parameter_owner, or_outer}
-use Rattle.lucid_scope.specs.Walks.{mark}
-use Rattle.lucid_scope.specs.Settled.{OwnerFits, Fits}
-use Rattle.lucid_scope.specs.declared.table.Owner.{Owner}
-use Rattle.lucid_scope.specs.declared.marks.Mark.{Mark}
+use Rattle.lucid_tree.specs.WellMade.{is_shaped, are_shaped, defs_are_shaped, fits_arity}
+use Rattle.lucid_scope.specs.Settled.{OwnerFits}
 use Rattle.lucid_scope.proofs.Noting.{Opens, block-opens, function-opens}
 
 -- each item has the property
@@ -28,10 +19,6 @@ pub each-all : {X : Type 0} (P : X → Type 0) (xs : List X) → Each P xs → A
 each-all P [] e k d h = absurd (omega arith)
 each-all P (x ∷ xs) e zero d h = e.0
 each-all P (x ∷ xs) e (suc k) d h = each-all P xs e.1 k d (omega arith)
-
-pub each-map : (P : Mark → Type 0) (ss : List Site) → Each (λ s. P (mark s)) ss → Each P (map mark ss)
-each-map P [] e = tt
-each-map P (s ∷ ss) e = (e.0, each-map P ss e.1)
 
 -- what is in scope fits
 abbrev pub ScopeFits : Static → Type 0

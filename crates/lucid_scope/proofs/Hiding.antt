@@ -1,18 +1,8 @@
 -- Owners that are hidden and put back, and the scopes that hide them.
-use Rattle.std.proofs.Common.{◌≡◌, ℕ, suc, ◌+◌, ◌<◌, Bool, true, false, cond, List, [], ◌∷◌, ◌++◌, length, drop, get_or, Option, Some, None, refl, sym, ap, ◌∙◌, drop-cons, arith, not, nat_lt}
-use Rattle.std.specs.Option.{option_map}
-use Rattle.std.specs.List.{position_or_len}
-use Rattle.lucid_tree.specs.Tree.{PlainDefs, no_defs}
-use Rattle.lucid_tree.specs.DefsView.{one_def, def_of, defs_of}
-use Rattle.lucid_tree.specs.Env.{Found, same_name, definition, param}
-use Rattle.lucid_tree.specs.declared.tree.Def.{Def}
-use Rattle.lucid_tree.specs.declared.tree.DefKind.{DefKind}
-use Rattle.lucid_tree.specs.declared.tree.DefKind.TheVariants.{Plain, Function, Current}
-use Rattle.lucid_scope.specs.Owners.{or_outer, definition_owner, parameter_owner, with_owner, put_back}
-use Rattle.lucid_scope.specs.declared.table.Owner.{Owner}
+use Rattle.lucid_scope.proofs.Common.{◌≡◌, ℕ, suc, ◌+◌, ◌<◌, Bool, true, false, cond, List, [], ◌∷◌, ◌++◌, length, drop, get_or, None, refl, sym, ap, ◌∙◌, drop-cons, arith, nat_lt, position_or_len, Found, same_name, param, or_outer, definition_owner, parameter_owner, with_owner, put_back, Owner, Saved, option_map}
+use Rattle.std.proofs.Common.{Option, Some, not}
 use Rattle.lucid_scope.specs.declared.table.Owner.TheVariants.{Parameter}
-use Rattle.lucid_scope.specs.declared.table.Saved.{Saved}
-use Rattle.lucid_scope.proofs.Names.{same_one, same_itself}
+use Rattle.lucid_scope.proofs.Names.{same_one}
 
 abbrev pub Owners : Type 0
 Owners = List ℕ → Option Owner
@@ -35,33 +25,10 @@ pub saved_back : (ss : List Saved) (s : Saved) (o : Option Owner) (f g : Owners)
 saved_back ss s o f g e h n =
     put_back-snoc ss s g n ∙ put_back-alike ss (with_owner s.name s.owner g) f (λ m. hidden (same_name m s.name) m s.name o s.owner f g refl e (h m)) n
 
-definition-kind : (n : List ℕ) (at : ℕ) (x : List ℕ) (k : DefKind) (ds : PlainDefs) → definition n (def_of at x k ds) ≡ cond (same_name n x) (definition x (def_of at x k no_defs)) (definition n ds)
-definition-kind n at x (Plain e) ds = rw (same_itself x) refl
-definition-kind n at x (Function ps ats e) ds = rw (same_itself x) refl
-definition-kind n at x (Current e) ds = rw (same_itself x) refl
-
--- the first of several definitions
-pub definition-first : (n : List ℕ) (d : Def) (ds : PlainDefs) → definition n (one_def d ds) ≡ cond (same_name n d.name) (definition d.name (one_def d no_defs)) (definition n ds)
-definition-first n d ds = definition-kind n d.at d.name d.kind ds
-
 pick : (b : Bool) (found rest : Found) (o : Owner) (outer : Option Owner) → Some o ≡ definition_owner found
     → cond b (Some o) (or_outer (definition_owner rest) outer) ≡ or_outer (definition_owner (cond b found rest)) outer
 pick true found rest o outer e = ap (λ x. or_outer x outer) e
 pick false found rest o outer e = refl
-
--- one definition more, in front
-pub block-hides : (xs : List Def) (i : ℕ) (d : Def) (o : Owner) (f g h : Owners) → i < length xs → d ≡ get_or xs i d
-    → Some o ≡ definition_owner (definition d.name (one_def d no_defs))
-    → ((n : List ℕ) → f n ≡ or_outer (definition_owner (definition n (defs_of (drop (suc i) xs)))) (h n))
-    → ((n : List ℕ) → g n ≡ with_owner d.name (Some o) f n)
-    → (n : List ℕ) → g n ≡ or_outer (definition_owner (definition n (defs_of (drop i xs)))) (h n)
-block-hides xs i d o f g h lt is e before sets n =
-    let split : drop i xs ≡ d ∷ drop (suc i) xs = drop-cons xs i d lt ∙ ap (λ y. y ∷ drop (suc i) xs) (sym is) in
-    let more : definition n (defs_of (drop i xs)) ≡ cond (same_name n d.name) (definition d.name (one_def d no_defs)) (definition n (defs_of (drop (suc i) xs))) =
-    ap (λ l. definition n (defs_of l)) split ∙ definition-first n d (defs_of (drop (suc i) xs)) in
-    sets n ∙ ap (λ y. cond (same_name n d.name) (Some o) y) (before n)
-    ∙ pick (same_name n d.name) (definition d.name (one_def d no_defs)) (definition n (defs_of (drop (suc i) xs))) o (h n) e
-    ∙ ap (λ y. or_outer (definition_owner y) (h n)) (sym more)
 
 -- a parameter's owner, by its number among those from the i-th on
 abbrev pub later_parameter : (def i : ℕ) → Option ℕ → Option Owner

@@ -1,22 +1,13 @@
 -- The inputs of a program differ, and are no more than its places. A free name is among them, at its number.
-use Rattle.std.proofs.Common.{◌≡◌, ℕ, suc, ◌+◌, ◌≤◌, Bool, true, false, cond, if◌then◌else◌, List, [], ◌∷◌, ◌++◌, length, length-append, fold, sum_by, inl, inr, refl, sym, ap, subst, ◌∙◌, arith}
-use Rattle.std.proofs.Props.{props}
-use Rattle.std.proofs.Math.Logic.{∥∥₁_elim}
-use Rattle.std.specs.List.{list_any, position_or_len}
-use Rattle.std.proofs.lemmas.List.Sorted.{length_permutation, Contains-permutation}
-use Rattle.lucid_tree.specs.Tree.{PlainTree}
-use Rattle.lucid_tree.specs.Env.{same_name}
+use Rattle.lucid_scope.proofs.Common.{◌≡◌, ℕ, suc, ◌+◌, ◌≤◌, Bool, true, false, cond, List, [], ◌∷◌, ◌++◌, length, length-append, fold, sum_by, inl, inr, refl, sym, ap, subst, ◌∙◌, arith, list_any, position_or_len, length_permutation, Contains-permutation, PlainTree, same_name, places, contained, Static, outermost, Meaning, free, plain_name, parameter, current_name, function, meaning, Site, named, again, with_input, with_site, all_sites, IsResolved, Binding, if◌then◌else◌, props, ∥∥₁_elim, slice_get}
 use Rattle.lucid_tree.specs.Members.{In, AllDiffer, AllDiffer-prop}
-use Rattle.lucid_tree.specs.WellMade.{places}
-use Rattle.lucid_tree.proofs.Members.{in_left, in_right, one_more-differs, contained, stands_at as stands}
-use Rattle.lucid_scope.specs.Scope.{Static, outermost, Meaning, free, plain_name, parameter, current_name, function, meaning}
-use Rattle.lucid_scope.specs.Sites.{Site, named, called, again}
-use Rattle.lucid_scope.specs.Bindings.{with_input, with_site, all_sites, AreInputs, IsResolved}
-use Rattle.lucid_scope.specs.declared.scoped.Binding.{Binding}
+use Rattle.lucid_tree.proofs.Members.{in_left, in_right, one_more-differs, stands_at as stands}
+use Rattle.lucid_scope.specs.Sites.{called}
+use Rattle.lucid_scope.specs.Bindings.{AreInputs}
 use Rattle.lucid_scope.proofs.Names.{same_itself, same_one}
 use Rattle.lucid_scope.proofs.Weights.{sites-weight}
 use Rattle.lucid_scope.proofs.Resolved.{sum-ones}
-use Rattle.std.specs.Prelude.{Option, Some, slice_get, not}
+use Rattle.std.specs.Prelude.{Option, Some, not}
 
 not_among : (x : List ℕ) (is : List (List ℕ)) → list_any (same_name x) is ≡ false → In x is → ⊥
 not_among x [] e h = h

@@ -1,3 +1,4 @@
+pub mod Common
 pub mod Names
 mod Tables
 mod Hiding

@@ -1,17 +1,10 @@
 -- A mark says what its site says; and marks that are put in order are those of the sites in some order.
-use Rattle.std.proofs.Common.{◌≡◌, ℕ, ◌<◌, List, [], ◌∷◌, length, map, fold, get_or, set, Some, refl, sym, ap, ◌∙◌, arith}
-use Rattle.std.specs.List.{swap}
-use Rattle.std.specs.List.Sorted.{IsPermutation}
-use Rattle.std.proofs.lemmas.List.{get_or-map, length-map}
+use Rattle.lucid_scope.proofs.Common.{◌≡◌, ℕ, ◌<◌, List, [], ◌∷◌, length, map, fold, get_or, refl, sym, ap, ◌∙◌, arith, IsPermutation, get_or-map, length-map, IsPermutation-refl, Meaning, free, plain_name, parameter, current_name, function, meaning, Site, named, again, binding_for, fault_of, with_input, with_site, owner_of, mark, mark_fault, owner_binding, mark_binding, with_owner_input, with_mark, Mark, set, swap, IsPermutation-trans, IsPermutation-swap, IsPermutation-keeps}
+use Rattle.std.proofs.Common.{Some}
 use lib.Seq.{map-set}
-use Rattle.std.proofs.lemmas.List.Sorted.{IsPermutation-refl, IsPermutation-trans, IsPermutation-swap, IsPermutation-keeps}
-use Rattle.lucid_scope.specs.Scope.{Meaning, free, plain_name, parameter, current_name, function, meaning}
-use Rattle.lucid_scope.specs.Sites.{Site, named, called, again}
-use Rattle.lucid_scope.specs.Bindings.{binding_of, binding_for, name_fault, call_fault, fault_of, with_input, with_site}
-use Rattle.lucid_scope.specs.Owners.{owner_of}
-use Rattle.lucid_scope.specs.Walks.{mark}
-use Rattle.lucid_scope.specs.Settled.{owner_fault, owner_call_fault, mark_fault, owner_binding, mark_binding, with_owner_input, with_mark}
-use Rattle.lucid_scope.specs.declared.marks.Mark.{Mark}
+use Rattle.lucid_scope.specs.Sites.{called}
+use Rattle.lucid_scope.specs.Bindings.{binding_of, name_fault, call_fault}
+use Rattle.lucid_scope.specs.Settled.{owner_fault, owner_call_fault}
 
 same_fault : (at : ℕ) (m : Meaning) → owner_fault at (owner_of m) ≡ name_fault at m
 same_fault at free = refl

@@ -1,17 +1,9 @@
 -- Notes of a descent: what it notes are the marks of the sites.
-use Rattle.std.proofs.Common.{◌≡◌, ℕ, suc, ◌<◌, List, [], ◌∷◌, ◌++◌, length, drop, get_or, map, append_assoc, Option, Some, None, ◌⊎◌, inl, inr, refl, sym, ap, ◌∙◌, drop-cons, add-one, ◌+◌, ◌≤◌}
-use Rattle.std.proofs.lemmas.List.{append-nil, map-append, drop_all}
-use Rattle.std.specs.Prelude.{Result, Ok, Err, OnOk}
-use Rattle.lucid_tree.specs.Tree.{PlainTree, form, name, call, block, PlainTrees, no_trees, tree, PlainDefs, no_defs, defines, defines_function, defines_current}
-use Rattle.lucid_tree.specs.Env.{Found, absent, plain_def, function_def, current_def, definition, param}
-use Rattle.lucid_tree.specs.Size.{count}
-use Rattle.lucid_scope.specs.Scope.{Static, in_block, in_function, Meaning, meaning, defined_in, parameter_in}
-use Rattle.lucid_scope.specs.Sites.{Site, called, sites, sites_in, inside_sites, outside_sites, again_if, also, no_names, repeats, Earlier}
-use Rattle.lucid_scope.specs.Owners.{owner_of, definition_owner, parameter_owner, or_outer, look}
-use Rattle.lucid_scope.specs.Walks.{mark, Owned, in_block_owned, in_function_owned, marks, marks_in, outside_marks, inside_marks, Notes}
-use Rattle.lucid_scope.specs.declared.table.Owner.{Owner}
-use Rattle.lucid_scope.specs.declared.marks.Mark.{Mark}
-use Rattle.lucid_scope.specs.declared.walk.Walk.{Walk}
+use Rattle.lucid_scope.proofs.Common.{◌≡◌, ℕ, suc, ◌<◌, List, [], ◌∷◌, ◌++◌, length, drop, get_or, map, append_assoc, None, ◌⊎◌, inl, inr, refl, sym, ap, ◌∙◌, drop-cons, ◌+◌, ◌≤◌, append-nil, drop_all, PlainTree, form, name, call, block, PlainTrees, no_trees, tree, PlainDefs, no_defs, defines, defines_function, defines_current, Found, plain_def, function_def, current_def, definition, param, count, Static, in_block, in_function, Meaning, meaning, defined_in, parameter_in, Site, sites, sites_in, inside_sites, outside_sites, again_if, also, no_names, repeats, Earlier, owner_of, definition_owner, parameter_owner, or_outer, look, mark, Owned, in_block_owned, in_function_owned, marks, marks_in, outside_marks, inside_marks, Owner, Mark, Walk, add-one, map-append, Result, Ok, Err, OnOk}
+use Rattle.std.proofs.Common.{Option, Some}
+use Rattle.lucid_tree.specs.Env.{absent}
+use Rattle.lucid_scope.specs.Sites.{called}
+use Rattle.lucid_scope.specs.Walks.{Notes}
 
 -- marks are noted, and others after them
 pub noted-then : (v w : Walk) (found : List Mark) (rest : Owned → List Mark) → Notes v w found

@@ -1,9 +1,6 @@
 -- The number of an input among the keys is that among the names.
-use Rattle.std.proofs.Common.{◌≡◌, ℕ, ◌+◌, ◌≤◌, Bool, true, false, cond, not, ◌||◌, List, [], ◌∷◌, length, map, Some, None, nat_lt, Vec, Global, refl, sym, ap, arith}
-use Rattle.std.specs.Prelude.{unwrap_or}
-use Rattle.std.specs.List.{position_or_len, list_any}
-use Rattle.lucid_tree.specs.Env.{same_name}
-use Rattle.lucid_scope.specs.Keys.{key_bytes}
+use Rattle.lucid_scope.proofs.Common.{◌≡◌, ℕ, ◌+◌, ◌≤◌, Bool, true, false, cond, List, [], ◌∷◌, length, map, None, nat_lt, Vec, Global, refl, sym, ap, arith, unwrap_or, position_or_len, list_any, same_name, key_bytes, ◌||◌}
+use Rattle.std.proofs.Common.{not, Some}
 
 shorter : (b : Bool) (p n : ℕ) → p ≤ n → cond (not b) (1 + p) 0 ≤ n + 1
 shorter true p n h = omega arith

@@ -1,15 +1,7 @@
 -- A well-made tree has one list of inputs: no two of its sites have one place, so one order alone has their places rise.
-use Rattle.std.proofs.Common.{◌≡◌, ℕ, suc, ◌+◌, ◌<◌, ◌≤◌, Bool, true, false, cond, List, [], ◌∷◌, get_or, fold, nat_eq, ◌⊎◌, inl, inr, refl, sym, ap, subst, ◌∙◌, arith, sum_by}
-use Rattle.std.specs.List.Sorted.{IsPermutation, IsNonDecreasingBy}
-use Rattle.std.proofs.lemmas.List.Sums.{sum_by-cons}
-use Rattle.std.proofs.lemmas.List.Sorted.{IsPermutation-sym, Contains-permutation, sum_by-IsPermutation}
-use Rattle.lucid_tree.specs.Tree.{PlainTree}
+use Rattle.lucid_scope.proofs.Common.{◌≡◌, ℕ, suc, ◌+◌, ◌<◌, ◌≤◌, Bool, true, false, cond, List, [], ◌∷◌, get_or, fold, nat_eq, ◌⊎◌, inl, inr, refl, sym, ap, subst, ◌∙◌, arith, sum_by, IsPermutation, IsNonDecreasingBy, sum_by-cons, IsPermutation-sym, Contains-permutation, sum_by-IsPermutation, PlainTree, places, IsWellMade, contained, outermost, Site, site_at, all_sites, with_site}
 use Rattle.lucid_tree.specs.Members.{In, Inside}
-use Rattle.lucid_tree.specs.WellMade.{places, IsWellMade}
-use Rattle.lucid_tree.proofs.Members.{number_in as index_of, contained, stands_at as standing}
-use Rattle.lucid_scope.specs.Scope.{outermost}
-use Rattle.lucid_scope.specs.Sites.{Site, site_at}
-use Rattle.lucid_scope.specs.Bindings.{all_sites, with_site}
+use Rattle.lucid_tree.proofs.Members.{number_in as index_of, stands_at as standing}
 use Rattle.lucid_scope.specs.Laws.{InputsAreUnique}
 use Rattle.lucid_scope.proofs.Weights.{sites-weight}
 use Rattle.lucid_scope.proofs.Resolved.{itself, at-most-one}

@@ -1,30 +1,14 @@
 -- From the marks in the order of their places to the sites of the tree.
-use Rattle.std.proofs.Common.{◌≡◌, ℕ, ◌+◌, ◌<◌, ◌≤◌, ◌^◌, Bool, true, false, cond, List, [], ◌∷◌, ◌++◌, length, length-append, map, fold, sum_by, get_or, Option, Some, None, IsSome, nat_eq, ◌⊎◌, inl, inr, refl, sym, ap, subst, ◌∙◌, arith, zero, suc}
-use Rattle.std.specs.List.{All, list_any}
-use Rattle.std.specs.List.Sorted.{IsPermutation, IsNonDecreasingBy}
-use Rattle.std.proofs.lemmas.List.{get_or-map, length-map, get_or_default}
-use Rattle.std.proofs.lemmas.List.Sums.{sum_by-cons}
-use Rattle.std.proofs.lemmas.List.Sorted.{IsPermutation-sym, All-permutation, Contains-permutation, sum_by-IsPermutation, length_permutation}
-use Rattle.std.specs.Cmp.{nat_eq_equiv}
+use Rattle.lucid_scope.proofs.Common.{◌≡◌, ℕ, ◌+◌, ◌<◌, ◌≤◌, ◌^◌, Bool, true, false, cond, List, [], ◌∷◌, ◌++◌, length, length-append, map, fold, sum_by, get_or, None, IsSome, nat_eq, ◌⊎◌, inl, inr, refl, sym, ap, subst, ◌∙◌, arith, zero, suc, All, list_any, IsPermutation, IsNonDecreasingBy, get_or-map, length-map, get_or_default, sum_by-cons, IsPermutation-sym, Contains-permutation, sum_by-IsPermutation, length_permutation, PlainTree, same_name, places, IsWellMade, outermost, Site, named, again, site_at, binding_for, fault_of, all_sites, HasNoFault, IsLeastFault, IsResolved, look, mark, marks, Walk, Fits, mark_fault, mark_binding, with_owner_input, with_mark, Binding, ScopeRefusal, Owner, Mark, Called, All-permutation, nat_eq_equiv}
+use Rattle.std.proofs.Common.{Option, Some}
 use Rattle.std.proofs.lemmas.Bool.{cases_lt as either_side}
 use Rattle.lucid_lemmas.proofs.Numbers.{below_or_last as at-last}
-use Rattle.lucid_tree.specs.Tree.{PlainTree}
-use Rattle.lucid_tree.specs.Env.{same_name}
-use Rattle.lucid_tree.specs.WellMade.{places, IsWellMade, In, AllDiffer}
+use Rattle.lucid_tree.specs.WellMade.{In, AllDiffer}
 use Rattle.lucid_tree.proofs.Times.{counts_one as counts}
-use Rattle.lucid_scope.specs.Scope.{outermost}
-use Rattle.lucid_scope.specs.Sites.{Site, named, called, again, site_at}
-use Rattle.lucid_scope.specs.Bindings.{binding_for, fault_of, all_sites, HasNoFault, IsLeastFault, IsResolved}
-use Rattle.lucid_scope.specs.Owners.{look}
-use Rattle.lucid_scope.specs.Walks.{mark, marks}
-use Rattle.lucid_scope.specs.declared.walk.Walk.{Walk}
-use Rattle.lucid_scope.specs.Settled.{Fits, mark_fault, mark_binding, with_owner_input, with_what, with_mark, IsFirstFault, ArePlacesDifferent}
-use Rattle.lucid_scope.specs.declared.scoped.Binding.{Binding}
-use Rattle.lucid_scope.specs.declared.refusal.ScopeRefusal.{ScopeRefusal}
-use Rattle.lucid_scope.specs.declared.table.Owner.{Owner}
-use Rattle.lucid_scope.specs.declared.marks.Mark.{Mark}
+use Rattle.lucid_scope.specs.Sites.{called}
+use Rattle.lucid_scope.specs.Settled.{with_what, IsFirstFault, ArePlacesDifferent}
 use Rattle.lucid_scope.specs.declared.marks.What.{What}
-use Rattle.lucid_scope.specs.declared.marks.What.TheVariants.{Named, Called, Again}
+use Rattle.lucid_scope.specs.declared.marks.What.TheVariants.{Named, Again}
 use Rattle.lucid_scope.proofs.Marked.{mark-fault, mark-binding, marks-inputs, Ordered, ordered}
 use Rattle.lucid_scope.proofs.Weights.{sites-weight}
 use Rattle.lucid_scope.proofs.Fitting.{sites-fit, each-all}

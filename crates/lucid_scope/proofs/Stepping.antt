@@ -1,17 +1,7 @@
 -- One step of a descent: what it notes and what it leaves to be noted are what was to be noted before.
-use Rattle.std.proofs.Common.{◌≡◌, ℕ, ◌+◌, List, ◌++◌, map, append_assoc, refl, sym, ap, ◌∙◌, arith}
-use Rattle.lucid_tree.specs.Tree.{PlainTree, PlainDefs}
-use Rattle.lucid_tree.specs.DefsView.{def_of, one_def}
-use Rattle.lucid_tree.specs.declared.tree.Def.{Def}
-use Rattle.lucid_tree.specs.declared.tree.DefKind.{DefKind}
-use Rattle.lucid_tree.specs.declared.tree.DefKind.TheVariants.{Plain, Function, Current as CurrentKind}
-use Rattle.lucid_scope.specs.Sites.{again_if, also, no_names, Earlier}
-use Rattle.lucid_scope.specs.Owners.{put_back}
-use Rattle.lucid_scope.specs.Walks.{mark, Owned, in_block_owned, marks, outside_marks, inside_marks, outer_marks, inner_marks}
-use Rattle.lucid_scope.specs.Steps.{pending, work_outside, work_inside, outer_work, inner_work}
-use Rattle.lucid_scope.specs.declared.marks.Mark.{Mark}
+use Rattle.lucid_scope.proofs.Common.{◌≡◌, ℕ, ◌+◌, List, ◌++◌, map, append_assoc, refl, sym, ap, ◌∙◌, arith, PlainTree, PlainDefs, def_of, one_def, Def, DefKind, Plain, Function, again_if, also, no_names, Earlier, put_back, mark, Owned, in_block_owned, marks, outside_marks, inside_marks, outer_marks, inner_marks, pending, work_outside, work_inside, outer_work, inner_work, Mark, Saved}
+use Rattle.lucid_tree.specs.declared.tree.DefKind.TheVariants.{Current as CurrentKind}
 use Rattle.lucid_scope.specs.declared.steps.Step.{Step}
-use Rattle.lucid_scope.specs.declared.table.Saved.{Saved}
 
 -- of a list in two parts the first is noted by itself
 pub in-two : (m a b rest whole : List Mark) → whole ≡ a ++ b → m ++ (a ++ (b ++ rest)) ≡ m ++ (whole ++ rest)

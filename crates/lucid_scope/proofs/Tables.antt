@@ -1,10 +1,7 @@
 -- What a table of names has after one name is set.
-use Rattle.std.proofs.Common.{◌≡◌, ℕ, Bool, true, false, cond, List, [], ◌∷◌, Option, Some, refl, sym, ap, ◌∙◌, arith}
-use Rattle.std.specs.Map.{lookup}
+use Rattle.lucid_scope.proofs.Common.{◌≡◌, ℕ, Bool, true, false, cond, List, [], ◌∷◌, refl, sym, ap, ◌∙◌, arith, lookup, same_name, flattened, Owner}
+use Rattle.std.proofs.Common.{Option, Some}
 use Rattle.indexmap.specs.IndexMap.{insert_entry}
-use Rattle.lucid_tree.specs.Env.{same_name}
-use Rattle.lucid_scope.specs.Owners.{flattened}
-use Rattle.lucid_scope.specs.declared.table.Owner.{Owner}
 use Rattle.lucid_scope.proofs.Names.{same_one, same_itself}
 
 cond-swap : {A : Type 0} (a b : Bool) (x y z : A) → (a ≡ true → b ≡ true → ⊥) → cond a x (cond b y z) ≡ cond b y (cond a x z)

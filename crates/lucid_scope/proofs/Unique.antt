@@ -1,17 +1,7 @@
 -- In a well-made tree no place has two sites, so one fault alone stands at the least place.
-use Rattle.std.proofs.Common.{◌≡◌, ℕ, ◌<◌, ◌≤◌, length, map, get_or, Option, Some, None, IsSome, inl, inr, refl, sym, ap, subst, ◌∙◌, arith}
-use Rattle.std.specs.Prelude.{unwrap_or}
-use Rattle.std.specs.List.{All, Contains}
-use Rattle.std.proofs.lemmas.List.{length-map, get_or_default}
-use Rattle.std.proofs.lemmas.List.Sorted.{IsPermutation-refl}
+use Rattle.lucid_scope.proofs.Common.{◌≡◌, ℕ, ◌<◌, ◌≤◌, length, map, get_or, None, IsSome, inl, inr, refl, sym, ap, subst, ◌∙◌, arith, unwrap_or, All, length-map, get_or_default, IsPermutation-refl, PlainTree, IsWellMade, Site, site_at, fault_of, all_sites, HasNoFault, IsLeastFault, mark, Mark, ScopeRefusal, Contains}
+use Rattle.std.proofs.Common.{Option, Some}
 use Rattle.std.proofs.lemmas.Bool.{cases_lt as either_side}
-use Rattle.lucid_tree.specs.Tree.{PlainTree}
-use Rattle.lucid_tree.specs.WellMade.{IsWellMade}
-use Rattle.lucid_scope.specs.Sites.{Site, site_at}
-use Rattle.lucid_scope.specs.Bindings.{fault_of, all_sites, HasNoFault, IsLeastFault}
-use Rattle.lucid_scope.specs.Walks.{mark}
-use Rattle.lucid_scope.specs.declared.marks.Mark.{Mark}
-use Rattle.lucid_scope.specs.declared.refusal.ScopeRefusal.{ScopeRefusal}
 use Rattle.lucid_scope.proofs.Marked.{Ordered}
 use Rattle.lucid_scope.proofs.Resolved.{mark-at, here, different, apart, none_some}
 

@@ -1,11 +1,6 @@
 -- No place has more sites than the tree has places: whatever places weigh, the sites weigh no more than the places of the tree.
-use Rattle.std.proofs.Common.{◌≡◌, ℕ, ◌+◌, ◌≤◌, Bool, true, false, List, [], ◌∷◌, ◌++◌, sum_by, arith}
-use Rattle.std.proofs.lemmas.List.Sums.{sum_by-append, sum_by-cons}
-use Rattle.lucid_tree.specs.Tree.{PlainTree, form, name, call, block, PlainTrees, no_trees, tree, PlainDefs, no_defs, defines, defines_function, defines_current}
-use Rattle.lucid_tree.specs.Size.{count}
-use Rattle.lucid_tree.specs.WellMade.{places, places_in, places_in_defs}
-use Rattle.lucid_scope.specs.Scope.{Static, in_block, in_function}
-use Rattle.lucid_scope.specs.Sites.{Site, called, site_at, sites, sites_in, outside_sites, inside_sites, repeats, again_if, also, no_names, Earlier}
+use Rattle.lucid_scope.proofs.Common.{◌≡◌, ℕ, ◌+◌, ◌≤◌, Bool, true, false, List, [], ◌∷◌, ◌++◌, sum_by, arith, sum_by-cons, PlainTree, form, name, call, block, PlainTrees, no_trees, tree, PlainDefs, no_defs, defines, defines_function, defines_current, count, places, places_in, places_in_defs, Static, in_block, in_function, Site, site_at, sites, sites_in, outside_sites, inside_sites, repeats, again_if, also, no_names, Earlier, sum_by-append}
+use Rattle.lucid_scope.specs.Sites.{called}
 
 module _ (f : ℕ → ℕ) where
   abbrev pub weight : List Site → ℕ

@@ -1,10 +1,6 @@
 -- What is noted after the numbers of one site were written.
-use Rattle.std.proofs.Common.{◌≡◌, ℕ, ◌≤◌, true, false, cond, ◌==◌, ◌&&◌, List, Option, Some, None, Result, Ok, Err, OnErr, IfSome, IfNone, IsSome, ap, sym, refl, subst, ◌∙◌}
-use Rattle.std.specs.Prelude.{option_and_then}
-use Rattle.std.specs.Map.{lookup}
-use Rattle.lucid_search.specs.declared.Site.{Site}
-use Rattle.lucid_search.specs.Numbered.{number_in}
-use Rattle.lucid_search.specs.Noted.{same_site, number_of_site, NotesSite, SameSites, IsGreatest}
+use Rattle.lucid_search.proofs.Common.{◌≡◌, ℕ, ◌≤◌, true, false, cond, ◌==◌, List, Option, Some, None, Result, Ok, Err, IsSome, ap, sym, refl, subst, ◌∙◌, option_and_then, lookup, Site, number_in, same_site, number_of_site, ◌&&◌, OnErr, IfSome, IfNone}
+use Rattle.lucid_search.specs.Noted.{NotesSite, SameSites, IsGreatest}
 use Rattle.lucid_search.proofs.SiteLemmas.{site_from_same}
 
 -- the numbers of a site, found or not

@@ -1,16 +1,7 @@
 -- What a search finds among pairs whose keys rise, and what an edit at that place does.
-use Rattle.std.proofs.Common.{◌≡◌, ℕ, zero, suc, ◌+◌, ◌-◌, ◌<◌, ◌≤◌, ◌≢◌, ◌==◌, true, false, cond, List, [], ◌∷◌, length, get_or, set, Some, None, IsSome, Result, Ok, Err, IfOk, IfErr, refl, sym, ap, subst, ◌∙◌, arith, true≢false}
-use Rattle.std.specs.List.{insert}
-use Rattle.std.specs.List.Sorted.{IsSearchInRange, IsBinarySearchResult, IsNonDecreasingBy}
-use Rattle.std.specs.Ordering.{nat_cmp, ordering_index}
-use Rattle.std.proofs.lemmas.Cmp.{ranked}
-use Rattle.std.proofs.lemmas.List.Sorted.{IsNonDecreasingBy-from_default}
-use Rattle.std.proofs.lemmas.List.Edits.{length-insert, get_or-insert_below, get_or-insert_at, get_or-insert_above}
-use Rattle.std.proofs.lemmas.Bool.Decides.{nat_tests}
-use Rattle.std.proofs.lemmas.Grind.{common_steps}
-use Rattle.std.proofs.lemmas.Bool.{eqb-true}
+use Rattle.lucid_search.proofs.Common.{◌≡◌, ℕ, ◌<◌, ◌≤◌, ◌==◌, true, false, cond, List, set, Some, None, IsSome, Result, Ok, Err, refl, sym, ap, subst, ◌∙◌, number_in, Rises, IsAt, IsGapFor, zero, suc, ◌+◌, ◌-◌, ◌≢◌, [], ◌∷◌, length, get_or, IfOk, IfErr, arith, true≢false, insert, IsSearchInRange, IsBinarySearchResult, IsNonDecreasingBy, nat_cmp, ordering_index, ranked, IsNonDecreasingBy-from_default, length-insert, get_or-insert_below, get_or-insert_at, get_or-insert_above, nat_tests, common_steps, eqb-true}
 use Rattle.lucid_lemmas.proofs.Numbers.{number_itself, below_differs, equality_turned}
-use Rattle.lucid_search.specs.Numbered.{number_in, key_at, Rises, IsAt, IsGapFor, SetsOne}
+use Rattle.lucid_search.specs.Numbered.{key_at, SetsOne}
 use Rattle.lucid_search.specs.Noted.{IsBestOf}
 
 -- no pair has the key

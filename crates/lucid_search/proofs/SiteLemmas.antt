@@ -1,10 +1,7 @@
 -- Sites that are the same are equal.
-use Rattle.std.proofs.Common.{◌≡◌, true, ◌==◌}
-use Rattle.std.proofs.lemmas.Bool.Decides.{Decides-eqb, Decides-and}
+use Rattle.lucid_search.proofs.Common.{◌≡◌, true, ◌==◌, Site, same_site, Decides-eqb, Decides-and}
 use Rattle.lucid_tags.specs.Known.{same_tag}
 use Rattle.lucid_tags.specs.EqualityDecides.{same_tag_is_equality}
-use Rattle.lucid_search.specs.declared.Site.{Site}
-use Rattle.lucid_search.specs.Noted.{same_site}
 
 pub site_from_same : (a b : Site) → same_site a b ≡ true → a ≡ b
 site_from_same a b h =

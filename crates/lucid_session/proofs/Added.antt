@@ -1,8 +1,6 @@
 -- Added numbers: what holds from some number on, of several things at once.
-use Rattle.std.proofs.Common.{◌≡◌, ℕ, zero, suc, ◌+◌, ◌<◌, Bool, List, [], ◌∷◌, ◌⊎◌, inl, inr, refl, sym, subst, arith}
-use Rattle.std.proofs.lemmas.Bool.{cases_lt}
-use Rattle.lucid_tree.specs.Members.{In}
-use Rattle.lucid_session.specs.Moments.{Added}
+use Rattle.lucid_session.proofs.Common.{◌≡◌, ℕ, zero, suc, ◌+◌, ◌<◌, Bool, List, ◌⊎◌, inl, inr, refl, sym, subst, arith, cases_lt, In, Added}
+use Rattle.std.proofs.Common.{[], ◌∷◌}
 
 module _ (empties : Bool) where
   pub at_once : (P : ℕ → Type 0) → ((d : ℕ) → P d) → Added empties P

@@ -1,11 +1,9 @@
 -- What holds by one subject holds by another that agrees with it.
-use Rattle.std.proofs.Common.{◌≡◌, ℕ, suc, List, ◌++◌, sym, subst, refl}
+use Rattle.lucid_session.proofs.Common.{◌≡◌, ℕ, suc, List, ◌++◌, sym, subst, refl, Elements, OneStream, stream_subject, Output, no_lines, one_line_more, Ran}
 use Rattle.lucid_tree.specs.Tree.{PlainTree}
-use Rattle.lucid_tree.specs.Levels.{Elements}
 use Rattle.lucid_tree.specs.Output as tree
-use Rattle.lucid_session.specs.Subject.{OneStream, stream_subject, tree_stream, AreSameStream, Output, no_lines, one_line_more}
+use Rattle.lucid_session.specs.Subject.{tree_stream, AreSameStream}
 use Rattle.lucid_session.specs.Laws.{TreesWriteTheirOutput, SameStreamsRunAlike}
-use Rattle.lucid_session.specs.Runs.{Ran}
 
 -- the tree's output, by its stream's
 of_stream : (e : PlainTree) (b : Elements) (k : ℕ) (bytes : List ℕ) → Output (stream_subject (tree_stream e)) b k bytes → tree.Output b e k bytes

@@ -1,8 +1,6 @@
 -- Marks that are all true at the start of a run.
-use Rattle.std.proofs.Common.{◌≡◌, ℕ, zero, suc, ◌≤◌, Bool, true, [], ◌∷◌, length, Some, sym, take, replicate, arith}
-use Rattle.std.proofs.lemmas.List.{length-take-le, length-replicate}
-use Rattle.std.specs.Prelude.{slice_get}
-use Rattle.std.proofs.lemmas.Option.{same_Some, none-some}
+use Rattle.lucid_session.proofs.Common.{◌≡◌, ℕ, zero, suc, ◌≤◌, Bool, true, length, sym, take, arith, slice_get, same_Some, none-some, replicate, length-take-le, length-replicate}
+use Rattle.std.proofs.Common.{[], ◌∷◌, Some}
 
 -- in a front of them,
 pub all_true : (n k j : ℕ) (mark : Bool) → slice_get (take n (replicate k true)) j ≡ Some mark → mark ≡ true

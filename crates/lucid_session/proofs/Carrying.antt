@@ -1,31 +1,17 @@
 -- The figures of a table's run are those of what the table stands for.
-use Rattle.std.proofs.Common.{◌≡◌, ℕ, ◌<◌, Bool, true, false, cond, ◌==◌, ◌&&◌, List, [], ◌∷◌, Option, Some, None, refl, sym, ap, ◌∙◌, subst, inl, inr, arith}
-use Rattle.std.specs.Prelude.{Result, Ok, Err, IsTrue, IsSome, IfOk, if◌then◌else◌, option_map}
-use Rattle.std.specs.List.{filter_map, cons_option}
-use Rattle.std.specs.Bool.{Decides}
-use Rattle.std.proofs.lemmas.Bool.Decides.{Decides-eqb, Decides-and, not_from_Decides}
-use Rattle.std.proofs.lemmas.Option.{same_Some}
+use Rattle.lucid_session.proofs.Common.{◌≡◌, ℕ, ◌<◌, Bool, true, false, cond, List, Option, None, refl, sym, ap, ◌∙◌, subst, inl, inr, arith, Result, Ok, Err, IsTrue, IsSome, IfOk, if◌then◌else◌, option_map, Decides, not_from_Decides, same_Some, PlainValue, In, Elements, HoldsExactly, referred, valued_of, Context, root, Daton, node_val, eqval, visits, visited_values, HasDistinct, Points, valued_datons, equations_of, Table, reached, Summary, RunFault, RunView, ForSomeAdded, Counted, root_counted, ArePointsBelow, ArePointsBefore, IsDefinedAt, IsUndefinedHeld, times_of, Figures, HasMoreThan, OnClearings, OnDepth, ◌==◌, ◌&&◌, filter_map, cons_option, Decides-eqb, Decides-and}
+use Rattle.std.proofs.Common.{[], ◌∷◌, Some}
 use Rattle.lucid_lemmas.proofs.Options.{value_there as some_value}
-use Rattle.lucid_value.specs.Plain.{PlainValue}
-use Rattle.lucid_tree.specs.Members.{In}
-use Rattle.lucid_tree.specs.Levels.{Elements, HoldsExactly, goes_to, Event, looked_up, referred, entered, valued_of}
+use Rattle.lucid_tree.specs.Levels.{goes_to, Event, looked_up, entered}
 use Rattle.lucid_tree.specs.Env.{Referent, Env}
-use Rattle.lucid_tags.specs.Contexts.{Context, root, same_context}
+use Rattle.lucid_tags.specs.Contexts.{same_context}
 use Rattle.lucid_tags.specs.EqualityDecides.{same_context_is_equality}
 use Rattle.lucid_equations.specs.Nodes.{Equations}
-use Rattle.lucid_equations.specs.Datons.{Daton, same_daton, NodePosition, NodeAim, daton_aim}
-use Rattle.lucid_equations.specs.Values.{node_val, eqval}
-use Rattle.lucid_equations.specs.Visits.{NodeEvents, visits, visited_values}
-use Rattle.lucid_equations.specs.Counts.{HasDistinct, Points, valued_datons}
-use Rattle.lucid_equations.specs.Rows.{equations_of}
-use Rattle.lucid_equations.specs.declared.table.Table.{Table}
+use Rattle.lucid_equations.specs.Datons.{same_daton, NodePosition, NodeAim, daton_aim}
+use Rattle.lucid_equations.specs.Visits.{NodeEvents}
 use Rattle.lucid_equations.proofs.SameDatons.{same-daton}
-use Rattle.lucid_equations.proofs.Reached.{reached}
-use Rattle.lucid_ports.specs.declared.run.Summary.{Summary}
-use Rattle.lucid_ports.specs.declared.run.RunFault.{RunFault}
 use Rattle.lucid_ports.specs.declared.run.RunFault.TheVariants.{TooDeep}
-use Rattle.lucid_session.specs.Runs.{RunView, ForSomeAdded}
-use Rattle.lucid_session.specs.Figures.{Layout, Counted, root_counted, ArePointsBelow, ArePointsBefore, IsDefinedAt, IsUndefinedHeld, times_of, Figures, HasMoreThan, OnClearings, OnDepth}
+use Rattle.lucid_session.specs.Figures.{Layout}
 use Rattle.lucid_session.specs.Laws.{StandsFor, FiguresCarry}
 use Rattle.lucid_session.proofs.Counting.{counted}
 use Rattle.lucid_session.proofs.Lists.{from_flat}

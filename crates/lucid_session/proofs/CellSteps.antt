@@ -1,14 +1,7 @@
 -- The steps of the cells of a time, as the code takes them.
-use Rattle.std.proofs.Common.{◌≡◌, ℕ, zero, suc, ◌+◌, ◌<◌, Bool, true, false, List, [], ◌∷◌, ◌++◌, length, Some, sym, ap, subst, arith, inr}
-use Rattle.std.specs.Prelude.{slice_get, slice_set, slice_index_or, nat_lt, if◌then◌else◌}
-use Rattle.lucid_tree.specs.Levels.{Elements}
-use Rattle.lucid_ports.specs.World.{World}
-use Rattle.lucid_ports.specs.declared.run.RunFault.{RunFault}
+use Rattle.lucid_session.proofs.Common.{◌≡◌, ℕ, zero, suc, ◌+◌, ◌<◌, Bool, true, false, List, ◌++◌, length, sym, ap, subst, arith, inr, slice_get, slice_set, slice_index_or, nat_lt, if◌then◌else◌, Elements, World, RunFault, EngineView, Demands, Start, Has, Standing, layout, before, StopsAt, GivesCell, AreMarked, HasCells}
+use Rattle.std.proofs.Common.{[], ◌∷◌, Some}
 use Rattle.lucid_ports.specs.declared.run.RunFault.TheVariants as run
-use Rattle.lucid_facts.specs.Engine.{EngineView}
-use Rattle.lucid_session.specs.Figures.{Demands}
-use Rattle.lucid_session.specs.Moments.{Start, Has, Standing, layout, before}
-use Rattle.lucid_session.specs.Cells.{StopsAt, GivesCell, AreMarked, HasCells}
 use Rattle.lucid_session.proofs.Marking.{SomeNow, next_time, skipped_space, never_demanded, marked_over, cells_over, is_demanded, marked_now, cells_now, no_cells, marked_then}
 
 -- the item of an index that is within

@@ -1,9 +1,6 @@
 -- How many different items a list has, and no list of different items is longer than one that has them all.
-use Rattle.std.proofs.Common.{◌≡◌, ℕ, suc, Bool, true, false, List, [], ◌∷◌, refl, sym, ap, subst, inl, inr, ◌⊎◌}
-use Rattle.std.specs.Bool.{Decides}
-use Rattle.std.proofs.lemmas.Bool.Decides.{not_from_Decides}
-use Rattle.lucid_tree.specs.Members.{In}
-use Rattle.lucid_equations.specs.Counts.{HasDistinct}
+use Rattle.lucid_session.proofs.Common.{◌≡◌, ℕ, suc, Bool, true, false, List, refl, sym, ap, subst, inl, inr, ◌⊎◌, Decides, not_from_Decides, In, HasDistinct}
+use Rattle.std.proofs.Common.{[], ◌∷◌}
 
 module _ {A : Type 0} where
   module _ (same : A → A → Bool) (decides : (x y : A) → Decides (same x y) (x ≡ y)) where

@@ -1,29 +1,17 @@
 -- Where exactly what is needed is held, the approximations with that held are those with all that the values before needed, each with its
 -- value.
-use Rattle.std.proofs.Common.{◌≡◌, ℕ, Option, Some, refl, sym, ap, ◌∙◌, arith}
-use Rattle.std.specs.Prelude.{IsSome, ◌↔◌, option_map}
+use Rattle.lucid_session.proofs.Common.{◌≡◌, ℕ, Option, refl, sym, ap, ◌∙◌, arith, IsSome, ◌↔◌, option_map, PlainValue, In, Elements, HoldsExactly, referred, valued_of, root, Daton, node_val, eqval, visits, visited_values, visited_datons, Points, valued_datons, equations_of, node-meant_once, needed-visited, reached, HoldsRight, table_counted, IsDefinedAt, Start, IsNeededSoFar}
+use Rattle.std.proofs.Common.{Some}
 use Rattle.lucid_lemmas.proofs.Options.{value_there as some_value, same_values}
-use Rattle.lucid_value.specs.Plain.{PlainValue}
-use Rattle.lucid_tree.specs.Members.{In}
-use Rattle.lucid_tree.specs.Levels.{Elements, HoldsExactly, referred, nothing_held, reference_of, valued_of}
+use Rattle.lucid_tree.specs.Levels.{nothing_held, reference_of}
 use Rattle.lucid_tree.proofs.Members.{in_read}
-use Rattle.lucid_tags.specs.Contexts.{root}
-use Rattle.lucid_equations.specs.Datons.{Daton}
-use Rattle.lucid_equations.specs.Values.{node_val, eqval, eqhval}
-use Rattle.lucid_equations.specs.Visits.{visits, visited_values, visited_datons}
-use Rattle.lucid_equations.specs.Counts.{Points, valued_datons}
-use Rattle.lucid_equations.specs.Rows.{equations_of}
-use Rattle.lucid_equations.proofs.NodeGrowth.{node_hval-up, node-meant_once}
-use Rattle.lucid_equations.proofs.NodeWalks.{needed-visited}
+use Rattle.lucid_equations.specs.Values.{eqhval}
+use Rattle.lucid_equations.proofs.NodeGrowth.{node_hval-up}
 use Rattle.lucid_equations.proofs.Needs.{gone-to}
-use Rattle.lucid_equations.proofs.Reached.{reached}
 use Rattle.lucid_facts.specs.Stands.{Holding}
-use Rattle.lucid_facts.specs.Held.{HoldsRight}
 use Rattle.lucid_facts.proofs.MoreRead.{held_means}
-use Rattle.lucid_session.specs.Figures.{table_counted, IsDefinedAt}
 use Rattle.lucid_session.proofs.Lists.{some_is, from_flat, in_flat}
 use Rattle.lucid_session.proofs.Carrying.{went-to, goes_on, values_at}
-use Rattle.lucid_session.specs.Moments.{Start, IsNeededSoFar}
 
 some_like : {A : Type 0} (o : Option A) (x y : A) → o ≡ Some x → y ≡ x → o ≡ Some y
 some_like o x y e f = e ∙ ap Some (sym f)

@@ -1,19 +1,10 @@
 -- What a demand draws from the inputs of a run, and what it lets the engine know.
-use Rattle.std.proofs.Common.{◌≡◌, ℕ, ◌<◌, ◌≤◌, List, length, Option, Some, None, refl, sym, ap, ◌∙◌, subst, arith, ◌⊎◌, inl, inr}
-use Rattle.std.specs.Prelude.{slice_get, IfSome}
-use Rattle.std.proofs.lemmas.Option.{same_Some, none-some}
-use Rattle.lucid_value.specs.Lines.{end_of_line}
-use Rattle.lucid_tree.specs.Members.{In}
-use Rattle.lucid_tree.specs.Levels.{Elements}
-use Rattle.lucid_ports.specs.World.{World, Contents}
-use Rattle.lucid_inputs.specs.Streams.{Stream, Fits, all_bytes}
-use Rattle.lucid_equations.specs.Visits.{consults_on_nodes}
-use Rattle.lucid_equations.specs.Rows.{equations_of}
-use Rattle.lucid_facts.specs.Engine.{EngineView, AreAskable, ReadsOnly, DrawsWithin, places_of}
+use Rattle.lucid_session.proofs.Common.{◌≡◌, ℕ, ◌<◌, ◌≤◌, List, length, Option, None, refl, sym, ap, ◌∙◌, subst, arith, ◌⊎◌, inl, inr, slice_get, IfSome, same_Some, none-some, end_of_line, In, Elements, World, Contents, Stream, all_bytes, consults_on_nodes, equations_of, EngineView, AreAskable, ReadsOnly, places_of, ReadsWithin, Added, Start, seen, of_run, IsConsultedSoFar, Draws, with_point}
+use Rattle.std.proofs.Common.{Some}
+use Rattle.lucid_inputs.specs.Streams.{Fits}
+use Rattle.lucid_facts.specs.Engine.{DrawsWithin}
 use Rattle.lucid_facts.specs.Engine as facts
-use Rattle.lucid_session.specs.Runs.{ReadsWithin}
 use Rattle.lucid_session.proofs.Added.{at_once, so, both, of_numbers}
-use Rattle.lucid_session.specs.Moments.{Added, Start, seen, of_run, IsConsultedSoFar, Draws, with_point}
 use Rattle.lucid_session.proofs.Told.{stream_at, tells_too}
 
 -- what stands, or nothing

@@ -1,37 +1,16 @@
 -- How a run ends, and what it has promised then.
-use Rattle.std.proofs.Common.{◌≡◌, ◌≢◌, ℕ, suc, ◌+◌, ◌<◌, ◌≤◌, Bool, true, false, List, [], length, Option, Some, None, refl, sym, ap, ◌∙◌, subst, arith, ◌⊎◌, inl, inr, append-nil}
-use Rattle.std.specs.Prelude.{◌↔◌, IsTrue, IfSome, Ok, Err, IsErrOf, option_map, slice_get}
-use Rattle.std.proofs.lemmas.Option.{slice_get_within, same_Some, none-some}
-use Rattle.lucid_value.specs.declared.Value.{Value}
-use Rattle.lucid_value.specs.Lines.{IsOverlong, end_of_line}
-use Rattle.lucid_tree.specs.Levels.{Elements}
-use Rattle.lucid_store.specs.Entries.{count_of, IsOneForEach}
-use Rattle.lucid_ports.specs.Faults.{Rises, CountsNoFaultUnless}
-use Rattle.lucid_ports.specs.World.{World, Contents}
-use Rattle.lucid_ports.specs.Writing.{with_all}
-use Rattle.lucid_ports.specs.declared.run.Summary.{Summary}
+use Rattle.lucid_session.proofs.Common.{◌≡◌, ◌≢◌, ℕ, suc, ◌+◌, ◌<◌, ◌≤◌, Bool, true, false, List, length, Option, None, refl, sym, ap, ◌∙◌, subst, arith, ◌⊎◌, inl, inr, append-nil, ◌↔◌, IsTrue, IfSome, Ok, Err, IsErrOf, option_map, slice_get, slice_get_within, same_Some, none-some, Value, end_of_line, Elements, count_of, IsOneForEach, Rises, World, Contents, with_all, Summary, all_bytes, HasDistinct, Points, Daton, Context, In, EngineView, IsSound, ReadsOnly, places_of, DemandFault, Output, Told, Written, ForSomeAdded, ConsumesWithin, ReadsWithin, EndsAt, Ran, Causes, Counted, root_counted, Demands, ArePointsBelow, times_of, Figures, HasMoreThan, PromisesColumns, of_demand, Added, Start, subject, layout, before, Has, seen, of_run, Visited, SoFar, Standing, Draws, IsConsultedSoFar, with_point, Found, Asked}
+use Rattle.std.proofs.Common.{[], Some}
+use Rattle.lucid_value.specs.Lines.{IsOverlong}
+use Rattle.lucid_ports.specs.Faults.{CountsNoFaultUnless}
 use Rattle.lucid_ports.specs.declared.run.RunFault.TheVariants as run
-use Rattle.lucid_inputs.specs.Streams.{all_bytes}
-use Rattle.lucid_equations.specs.Counts.{HasDistinct, Points}
-use Rattle.lucid_equations.specs.Datons.{Daton}
-use Rattle.lucid_tags.specs.Contexts.{Context}
-use Rattle.lucid_tree.specs.Members.{In}
-use Rattle.lucid_facts.specs.Engine.{EngineView, IsSound, ReadsOnly, places_of}
 use Rattle.lucid_facts.specs.Engine as facts
 use Rattle.lucid_demand.specs.Demanded as demand
-use Rattle.lucid_demand.specs.declared.fault.DemandFault.{DemandFault}
 use Rattle.lucid_demand.specs.declared.fault.DemandFault.TheVariants.{TooDeep, ReadFault, TooLarge, NoMemory}
-use Rattle.lucid_session.specs.Subject.{Output}
 use Rattle.lucid_session.specs.Runs as runs
-use Rattle.lucid_session.specs.Runs.{Told, Written, ForSomeAdded, ConsumesWithin, ReadsWithin, EndsAt, Ran, Causes}
-use Rattle.lucid_session.specs.Figures.{Counted, root_counted, Demands, ArePointsBelow, times_of, Figures, HasMoreThan}
-use Rattle.lucid_session.specs.Sessions.{PromisesColumns}
-use Rattle.lucid_session.specs.Faults.{of_demand}
 use Rattle.lucid_session.proofs.Stopped.{figures_nothing}
-use Rattle.lucid_session.specs.Moments.{Added, Start, subject, layout, before, Has, seen, of_run, Visited, SoFar, Standing, Draws, IsConsultedSoFar, with_point}
 use Rattle.lucid_session.proofs.Subjects.{no_end, undefined_there, not_defined, consults_there}
 use Rattle.lucid_session.proofs.Told.{place_at}
-use Rattle.lucid_session.specs.Cells.{Found, Asked}
 use Rattle.lucid_session.proofs.Holding.{held_count}
 
 -- The lines of the times below one are written.

@@ -1,31 +1,13 @@
 -- How a run goes on: it begins, and a value is demanded.
-use Rattle.std.proofs.Common.{◌≡◌, ℕ, ◌+◌, ◌<◌, ◌≤◌, ◌-◌, ◌^◌, [], ◌∷◌, length, Option, Some, None, refl, sym, ap, ◌∙◌, subst, arith, ◌⊎◌, inl, inr}
-use Rattle.std.specs.Prelude.{IsTrue, IfSome, Result, Ok, Err, IfOk, IfErr, ◌↔◌}
-use Rattle.std.proofs.lemmas.Bool.{cases_lt}
-use Rattle.std.proofs.lemmas.Option.{slice_get_within, same_Some}
-use Rattle.lucid_value.specs.declared.Value.{Value}
-use Rattle.lucid_value.specs.View.{plain}
-use Rattle.lucid_tree.specs.Members.{In}
-use Rattle.lucid_tree.specs.Levels.{Elements}
-use Rattle.lucid_tags.specs.Contexts.{Context, root}
-use Rattle.lucid_store.specs.Entries.{count_of, empty_warehouse}
-use Rattle.lucid_ports.specs.Faults.{Rises}
-use Rattle.lucid_ports.specs.World.{World}
-use Rattle.lucid_equations.specs.Values.{eqval}
-use Rattle.lucid_equations.specs.Rows.{equations_of}
-use Rattle.lucid_facts.specs.Held.{HoldsRight}
-use Rattle.lucid_facts.specs.Elements.{elements_told}
-use Rattle.lucid_facts.specs.Engine.{EngineView, IsSound, AreAskable, ReadsOnly, MayHave, ConsultsOverlong, HoldsNeeded, GoesOn, known_elements, places_of, holding}
-use Rattle.lucid_facts.proofs.History.{reads_only_then, reads_only_itself}
+use Rattle.lucid_session.proofs.Common.{◌≡◌, ℕ, ◌+◌, ◌<◌, ◌≤◌, length, Option, None, refl, sym, ap, ◌∙◌, subst, arith, ◌⊎◌, inl, inr, IsTrue, IfSome, Result, Ok, Err, IfOk, IfErr, ◌↔◌, cases_lt, slice_get_within, same_Some, Value, plain, In, Elements, Context, root, count_of, empty_warehouse, Rises, World, eqval, equations_of, HoldsRight, elements_told, EngineView, IsSound, AreAskable, ReadsOnly, MayHave, HoldsNeeded, places_of, holding, reads_only_itself, Demanded, most_known, DemandFault, StreamMeans, table_stream_at, Found, Asked, Start, Has, of_run, Draws, IsEntered, MuchEntered, Visited, Holds, SoFar, with_point, Standing, ◌-◌, ◌^◌}
+use Rattle.std.proofs.Common.{[], ◌∷◌, Some}
+use Rattle.lucid_facts.specs.Engine.{ConsultsOverlong, GoesOn, known_elements}
+use Rattle.lucid_facts.proofs.History.{reads_only_then}
 use Rattle.lucid_facts.proofs.MoreRead.{right_over}
-use Rattle.lucid_demand.specs.Demanded.{Demanded, MayDemand, most_known}
+use Rattle.lucid_demand.specs.Demanded.{MayDemand}
 use Rattle.lucid_demand.specs.Demanded as demand
-use Rattle.lucid_demand.specs.declared.fault.DemandFault.{DemandFault}
 use Rattle.lucid_demand.specs.declared.fault.DemandFault.TheVariants.{TooLarge}
-use Rattle.lucid_session.specs.Subject.{StreamMeans, table_stream_at}
-use Rattle.lucid_session.specs.Cells.{Found, Asked}
 use Rattle.lucid_session.proofs.Added.{at_once, so}
-use Rattle.lucid_session.specs.Moments.{Start, Has, of_run, Draws, IsEntered, MuchEntered, Visited, Holds, SoFar, with_point, Standing}
 use Rattle.lucid_session.proofs.Told.{may_have}
 use Rattle.lucid_session.proofs.Drawing.{reads_within, drawn_more}
 use Rattle.lucid_session.proofs.Knowing.{known_more}

@@ -1,35 +1,19 @@
 -- How many values an engine holds: as many as different datons are needed, where exactly these are held.
-use Rattle.std.proofs.Common.{◌≡◌, ℕ, ◌≤◌, Bool, true, false, cond, List, [], ◌∷◌, map, Option, Some, None, refl, sym, ap, ◌∙◌, subst, arith, ◌⊎◌, inl, inr, true≢false}
-use Rattle.std.specs.Prelude.{IsTrue, IsSome, is_some, option_map, ◌↔◌}
-use Rattle.std.specs.List.{IsDistinct, AllByRecursion}
-use Rattle.std.specs.Map.{lookup, keys_of}
-use Rattle.std.proofs.lemmas.Map.Keys.{IsDistinct-head, IsDistinct-tail}
-use Rattle.std.proofs.lemmas.List.{length-map}
+use Rattle.lucid_session.proofs.Common.{◌≡◌, ℕ, ◌≤◌, Bool, true, false, cond, List, map, Option, None, refl, sym, ap, ◌∙◌, subst, arith, ◌⊎◌, inl, inr, true≢false, IsTrue, IsSome, option_map, ◌↔◌, length-map, PlainValue, plain, In, AllDiffer, Elements, in_map, Context, root, IsOneForOne, IsOneForEach, count_of, empty_warehouse, eqval, visited_datons, HasDistinct, Points, equations_of, needed-visited, EngineView, IsSound, HoldsNeeded, holding, table_counted, IsDefinedAt, Start, of_run, IsNeededSoFar, Holds, with_point, is_some, IsDistinct, AllByRecursion, lookup, keys_of, IsDistinct-head, IsDistinct-tail}
+use Rattle.std.proofs.Common.{[], ◌∷◌, Some}
 use Rattle.lucid_lemmas.proofs.Options.{value_there as some_value, some_still}
-use Rattle.lucid_value.specs.Plain.{PlainValue}
-use Rattle.lucid_value.specs.View.{plain}
-use Rattle.lucid_tree.specs.Members.{In, AllDiffer}
-use Rattle.lucid_tree.specs.Levels.{Elements}
-use Rattle.lucid_tree.proofs.Members.{in_map}
-use Rattle.lucid_tags.specs.Contexts.{Context, root}
-use Rattle.lucid_tags.specs.Known.{IsKnown, IsOneForOne}
+use Rattle.lucid_tags.specs.Known.{IsKnown}
 use Rattle.lucid_tags.specs.Keys.{same_key}
 use Rattle.lucid_tags.specs.EqualityDecides.{same_key_is_equality, same_key_equiv}
 use Rattle.lucid_tags.specs.declared.Key.{Key}
 use Rattle.lucid_store.specs.Stored.{Stored, Entry}
-use Rattle.lucid_store.specs.Entries.{held, entry_at, IsHeld, IsOneForEach, count_of, empty_warehouse}
-use Rattle.lucid_equations.specs.Values.{eqval}
-use Rattle.lucid_equations.specs.Visits.{visited_datons, IsNeeded}
-use Rattle.lucid_equations.specs.Counts.{HasDistinct, Points, datons}
-use Rattle.lucid_equations.specs.Rows.{equations_of}
-use Rattle.lucid_equations.proofs.NodeWalks.{needed-visited}
+use Rattle.lucid_store.specs.Entries.{held, entry_at, IsHeld}
+use Rattle.lucid_equations.specs.Visits.{IsNeeded}
+use Rattle.lucid_equations.specs.Counts.{datons}
 use Rattle.lucid_facts.specs.Tasks.{DatonAt, plain_key}
 use Rattle.lucid_facts.specs.Held.{held_in, AreKeysKnown}
-use Rattle.lucid_facts.specs.Engine.{EngineView, IsSound, HoldsNeeded, holding}
 use Rattle.lucid_facts.proofs.HeldByKey.{key_of_held, held_of_key}
-use Rattle.lucid_session.specs.Figures.{table_counted, IsDefinedAt}
 use Rattle.lucid_session.proofs.Lists.{some_is, from_flat, in_flat, from_map}
-use Rattle.lucid_session.specs.Moments.{Start, of_run, IsNeededSoFar, Holds, with_point}
 
 -- the datons of entries, each at its space
 abbrev datons_of : List Context → List (Key × Entry) → List DatonAt

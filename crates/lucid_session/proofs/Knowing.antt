@@ -1,19 +1,13 @@
 -- What the engine of a run knows was entered, and when so much is known that it is cleared, so much was entered.
-use Rattle.std.proofs.Common.{◌≡◌, ℕ, suc, ◌<◌, List, [], ◌∷◌, length, refl, sym, arith, ◌⊎◌, inl, inr}
-use Rattle.std.specs.Prelude.{slice_index_or}
+use Rattle.lucid_session.proofs.Common.{◌≡◌, ℕ, suc, ◌<◌, List, length, refl, sym, arith, ◌⊎◌, inl, inr, slice_index_or, In, AllDiffer, Elements, Context, root, IsOneForOne, equations_of, EngineView, most_known, Added, Start, of_run, IsEntered, MuchEntered, with_point}
+use Rattle.std.proofs.Common.{[], ◌∷◌}
 use Rattle.lucid_tree.proofs.Members.{fewer}
-use Rattle.lucid_tree.specs.Members.{In, AllDiffer}
-use Rattle.lucid_tree.specs.Levels.{Elements}
-use Rattle.lucid_tags.specs.Contexts.{Context, root, context_at}
-use Rattle.lucid_tags.specs.Known.{IsOneForOne}
+use Rattle.lucid_tags.specs.Contexts.{context_at}
 use Rattle.lucid_equations.specs.Visits.{visited_contexts}
-use Rattle.lucid_equations.specs.Rows.{equations_of}
-use Rattle.lucid_facts.specs.Engine.{EngineView, VisitsNew}
+use Rattle.lucid_facts.specs.Engine.{VisitsNew}
 use Rattle.lucid_facts.specs.Engine as facts
-use Rattle.lucid_demand.specs.Demanded.{most_known}
 use Rattle.lucid_session.proofs.Lists.{in_flat}
 use Rattle.lucid_session.proofs.Added.{at_once, so, both, of_items}
-use Rattle.lucid_session.specs.Moments.{Added, Start, of_run, IsEntered, MuchEntered, with_point}
 
 -- A list whose places are one for one has no item twice.
 stands_at : (x : Context) (xs : List Context) → In x xs → (j : ℕ) × (j < length xs) × (slice_index_or xs j root ≡ x)

@@ -1,9 +1,6 @@
 -- What stands in a list that is made of several; and optional values.
-use Rattle.std.proofs.Common.{◌≡◌, List, [], ◌∷◌, Option, Some, None, refl, sym, subst, map, inl, inr, true≢false}
-use Rattle.std.specs.Prelude.{IsSome}
-use Rattle.std.specs.List.{flat_map}
-use Rattle.lucid_tree.specs.Members.{In}
-use Rattle.lucid_tree.proofs.Members.{in_left, in_right, in_either}
+use Rattle.lucid_session.proofs.Common.{◌≡◌, List, Option, None, refl, sym, subst, map, inl, inr, true≢false, IsSome, flat_map, In, in_left, in_right, in_either}
+use Rattle.std.proofs.Common.{[], ◌∷◌, Some}
 
 module _ {A B : Type 0} (f : A → List B) where
   -- an item that stands in what one of them gives

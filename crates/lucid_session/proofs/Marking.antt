@@ -1,28 +1,7 @@
 -- The demands of a time, column by column: which points are demanded, which columns stay open, and the cells.
-use Rattle.std.proofs.Common.{◌≡◌, ℕ, zero, suc, ◌+◌, ◌<◌, ◌≤◌, Bool, true, false, List, [], ◌∷◌, ◌++◌, ◌||◌, length, Some, refl, sym, ap, ◌∙◌, subst, arith, ◌⊎◌, inl, inr, append_assoc, append-nil, add-one, true≢false}
-use Rattle.std.specs.Prelude.{◌↔◌, IsSome, slice_get, slice_set, nat_lt, if◌then◌else◌}
-use Rattle.std.specs.Bool.{MatchBool}
-use Rattle.std.specs.List.{flat_map, range_with_len}
-use Rattle.std.proofs.lemmas.Bool.{cases_lt}
-use Rattle.std.proofs.lemmas.Option.{slice_get_within, same_Some}
-use Rattle.std.proofs.lemmas.Grind.{flat_map-append}
-use Rattle.std.proofs.lemmas.List.FromFn.{length-range_with_len}
-use Rattle.std.proofs.lemmas.List.{length-map}
+use Rattle.lucid_session.proofs.Common.{◌≡◌, ℕ, zero, suc, ◌+◌, ◌<◌, ◌≤◌, Bool, true, false, List, ◌++◌, length, refl, sym, ap, ◌∙◌, subst, arith, ◌⊎◌, inl, inr, append-nil, add-one, true≢false, ◌↔◌, IsSome, slice_get, slice_set, nat_lt, if◌then◌else◌, flat_map, range_with_len, cases_lt, slice_get_within, same_Some, length-map, PlainValue, eod, value_text, Elements, root, World, eqval, equations_of, Table, node-meant_once, EngineView, OneStream, StreamMeans, table_stream_at, table_columns, HasEnded, IsOpen, IsCell, AreCells, parted, Demands, Start, Has, Standing, layout, before, with_point, GivesCell, IsMarked, AreMarked, HasCells, ◌||◌, append_assoc, MatchBool, flat_map-append, length-range_with_len}
+use Rattle.std.proofs.Common.{[], ◌∷◌, Some}
 use Rattle.lucid_lemmas.proofs.Numbers.{below_or_last}
-use Rattle.lucid_value.specs.Plain.{PlainValue, eod}
-use Rattle.lucid_value.specs.ValueText.{value_text}
-use Rattle.lucid_tree.specs.Levels.{Elements}
-use Rattle.lucid_tags.specs.Contexts.{root}
-use Rattle.lucid_ports.specs.World.{World}
-use Rattle.lucid_equations.specs.Values.{eqval}
-use Rattle.lucid_equations.specs.Rows.{equations_of}
-use Rattle.lucid_equations.specs.declared.table.Table.{Table}
-use Rattle.lucid_equations.proofs.NodeGrowth.{node-meant_once}
-use Rattle.lucid_facts.specs.Engine.{EngineView}
-use Rattle.lucid_session.specs.Subject.{OneStream, StreamMeans, table_stream_at, table_columns, HasEnded, IsOpen, IsCell, AreCells, parted}
-use Rattle.lucid_session.specs.Figures.{Demands}
-use Rattle.lucid_session.specs.Moments.{Start, Has, Standing, layout, before, with_point}
-use Rattle.lucid_session.specs.Cells.{GivesCell, IsMarked, AreMarked, HasCells}
 use Rattle.lucid_session.proofs.Going.{stands_same}
 use Rattle.lucid_session.proofs.Subjects.{demands_open, open_demands, columns_more}
 

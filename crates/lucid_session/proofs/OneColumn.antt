@@ -1,19 +1,10 @@
 -- One column runs as its stream does: a run of the one is a run of the other.
-use Rattle.std.proofs.Common.{◌≡◌, ℕ, suc, ◌<◌, ◌≤◌, Bool, true, false, List, [], ◌∷◌, ◌++◌, None, refl, sym, ap, ◌∙◌, subst, arith, inl, inr, append-nil}
-use Rattle.std.specs.Prelude.{IsSome, Result, Ok, Err, IfOk, IfErr, if◌then◌else◌}
-use Rattle.std.proofs.lemmas.Bool.{cases_lt}
-use Rattle.std.proofs.lemmas.Option.{slice_get_within}
-use Rattle.lucid_value.specs.Plain.{eod}
-use Rattle.lucid_tree.specs.Levels.{Elements}
-use Rattle.lucid_tree.specs.Members.{In}
-use Rattle.lucid_ports.specs.declared.run.Summary.{Summary}
-use Rattle.lucid_ports.specs.declared.run.RunFault.{RunFault}
+use Rattle.lucid_session.proofs.Common.{◌≡◌, ℕ, suc, ◌<◌, ◌≤◌, Bool, true, false, List, ◌++◌, None, refl, sym, ap, ◌∙◌, subst, arith, inl, inr, append-nil, IsSome, Result, Ok, Err, IfOk, IfErr, if◌then◌else◌, cases_lt, slice_get_within, eod, Elements, In, Summary, RunFault, Points, Table, OneStream, StreamMeans, stream_subject, columns_subject, IsCell, AreCells, HasEnded, IsOpen, OfSome, Output, no_lines, one_line_more, parted, RunView, Written, ConsumesWithin, EndsAt, IsTooDeep, OnTooDeep, OnTooLarge, IsShown, Ran, Demands, ArePointsBelow, ArePointsBefore, table_counted, columns_counted, times_of, Figures}
+use Rattle.std.proofs.Common.{[], ◌∷◌}
 use Rattle.lucid_ports.specs.declared.run.RunFault.TheVariants.{TooDeep, ReadFault, TooLarge}
-use Rattle.lucid_equations.specs.Counts.{Points}
-use Rattle.lucid_equations.specs.declared.table.Table.{Table}
-use Rattle.lucid_session.specs.Subject.{OneStream, StreamMeans, stream_subject, columns_subject, table_stream, IsCell, AreCells, HasEnded, IsOpen, OfSome, OfEach, Output, no_lines, one_line_more, parted}
-use Rattle.lucid_session.specs.Runs.{RunView, Written, IsBegun, IsConsulted, ConsumesWithin, ConsultsOverlong, EndsAt, IsDone, IsTooDeep, OnTooDeep, OnTooLarge, IsShown, IsUndisturbed, IsDeepEnough, Ran}
-use Rattle.lucid_session.specs.Figures.{one_stream, side_by_side, Demands, ArePointsBelow, ArePointsBefore, table_counted, columns_counted, times_of, Figures}
+use Rattle.lucid_session.specs.Subject.{table_stream, OfEach}
+use Rattle.lucid_session.specs.Runs.{IsBegun, IsConsulted, ConsultsOverlong, IsDone, IsUndisturbed, IsDeepEnough}
+use Rattle.lucid_session.specs.Figures.{one_stream, side_by_side}
 
 module _ (x : OneStream) (b : Elements) where
   -- the one of one

@@ -1,8 +1,6 @@
 -- The points at which the values of one stream are demanded.
-use Rattle.std.proofs.Common.{◌≡◌, ℕ, zero, suc, ◌<◌, [], ◌∷◌, ◌⊎◌, inl, inr, sym, ap, subst, arith}
-use Rattle.std.proofs.lemmas.Bool.{cases_lt}
-use Rattle.lucid_tree.specs.Members.{In}
-use Rattle.lucid_tree.proofs.Members.{in_left, in_right, in_either}
+use Rattle.lucid_session.proofs.Common.{◌≡◌, ℕ, zero, suc, ◌<◌, ◌⊎◌, inl, inr, sym, ap, subst, arith, cases_lt, In, in_left, in_right, in_either}
+use Rattle.std.proofs.Common.{[], ◌∷◌}
 use Rattle.lucid_session.specs.Laws.{points_below, OneStreamsPoints}
 
 -- Each of them stands at space 0, at a time below,

@@ -1,33 +1,10 @@
 -- The steps of a run, as its code takes them.
-use Rattle.std.proofs.Common.{◌≡◌, ℕ, suc, ◌+◌, ◌<◌, ◌≤◌, Bool, List, length, true, false, refl, sym, ap, ◌∙◌, subst, add-one, arith, ◌⊎◌, inl, inr, ◌++◌, true≢false}
-use Rattle.std.specs.Prelude.{Result, Ok, Err, ◌∷◌, [], IsTrue, IsSome, slice_get, Some}
-use Rattle.lucid_ports.proofs.WritingLemmas.{with_nothing}
-use Rattle.lucid_value.specs.declared.Value.{Value}
-use Rattle.lucid_value.specs.Plain.{eod}
-use Rattle.lucid_value.specs.ValueText.{value_text}
-use Rattle.lucid_value.specs.View.{plain}
-use Rattle.lucid_tree.specs.Levels.{Elements}
-use Rattle.lucid_tags.specs.Contexts.{root}
-use Rattle.lucid_store.specs.Entries.{count_of, empty_warehouse, IsOneForEach}
-use Rattle.lucid_ports.specs.World.{World}
+use Rattle.lucid_session.proofs.Common.{◌≡◌, ℕ, suc, ◌+◌, ◌<◌, ◌≤◌, Bool, List, length, true, false, refl, sym, ap, ◌∙◌, subst, add-one, arith, ◌⊎◌, inl, inr, ◌++◌, true≢false, Result, Ok, Err, IsTrue, IsSome, slice_get, with_nothing, Value, eod, value_text, plain, Elements, root, count_of, empty_warehouse, IsOneForEach, World, Summary, RunFault, eqval, equations_of, Table, EngineView, IsSound, AreAskable, places_of, Demanded, most_known, DemandFault, table_stream_at, table_columns, HasEnded, IsOpen, OfSome, no_lines, Told, RunView, EndsAt, Demands, times_of, of_demand, WritesLine, Start, subject, layout, before, Has, seen, of_run, Standing, Asked, StopsAt, GivesCell, IsMarked, AreMarked, HasCells, PromisesColumns}
+use Rattle.std.specs.Prelude.{◌∷◌, [], Some}
 use Rattle.lucid_ports.specs.declared.run.Options.{Options}
-use Rattle.lucid_ports.specs.declared.run.Summary.{Summary}
-use Rattle.lucid_ports.specs.declared.run.RunFault.{RunFault}
 use Rattle.lucid_ports.specs.declared.run.RunFault.TheVariants as run
-use Rattle.lucid_equations.specs.Values.{eqval}
-use Rattle.lucid_equations.specs.Rows.{equations_of}
-use Rattle.lucid_equations.specs.declared.table.Table.{Table}
-use Rattle.lucid_facts.specs.Engine.{EngineView, IsSound, AreAskable, places_of}
-use Rattle.lucid_demand.specs.Demanded.{Demanded, most_known}
-use Rattle.lucid_demand.specs.declared.fault.DemandFault.{DemandFault}
-use Rattle.lucid_session.specs.Subject.{table_stream_at, table_columns, HasEnded, IsOpen, OfSome, no_lines}
-use Rattle.lucid_session.specs.Runs.{Told, RunView, EndsAt}
-use Rattle.lucid_session.specs.Figures.{Demands, times_of}
-use Rattle.lucid_session.specs.Faults.{of_demand}
-use Rattle.lucid_session.specs.Lines.{WritesLine}
-use Rattle.lucid_session.specs.Moments.{Start, subject, layout, before, Has, seen, of_run, Standing}
-use Rattle.lucid_session.specs.Cells.{Asked, StopsAt, GivesCell, IsMarked, AreMarked, HasCells, ClearsMany}
-use Rattle.lucid_session.specs.Sessions.{IsFresh, engine_run, PromisesColumns}
+use Rattle.lucid_session.specs.Cells.{ClearsMany}
+use Rattle.lucid_session.specs.Sessions.{IsFresh, engine_run}
 use Rattle.lucid_session.proofs.Lists.{some_is}
 use Rattle.lucid_session.proofs.Going.{asked, begins, stands_on}
 use Rattle.lucid_session.proofs.Subjects.{is_column, among_columns}

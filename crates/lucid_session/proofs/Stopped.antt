@@ -1,12 +1,7 @@
 -- A run for which there was no memory before it did anything.
-use Rattle.std.proofs.Common.{◌≡◌, [], length, Option, Some, refl, ap, ◌∙◌, inl, inr, arith}
-use Rattle.std.specs.Prelude.{Err}
-use Rattle.lucid_tree.specs.Levels.{Elements}
+use Rattle.lucid_session.proofs.Common.{◌≡◌, length, Option, refl, ap, ◌∙◌, inl, inr, arith, Err, Elements, with_nothing, Subject, no_lines, RunView, Ran, Causes, Counted, Figures}
+use Rattle.std.proofs.Common.{[], Some}
 use Rattle.lucid_ports.specs.declared.run.RunFault.TheVariants.{NoMemory}
-use Rattle.lucid_ports.proofs.WritingLemmas.{with_nothing}
-use Rattle.lucid_session.specs.Subject.{Subject, no_lines}
-use Rattle.lucid_session.specs.Runs.{RunView, Ran, Causes}
-use Rattle.lucid_session.specs.Figures.{Counted, Figures}
 
 -- two contents of one place are the same
 pub same_some : {A : Type 0} (o p : Option A) (x y : A) → p ≡ o → o ≡ Some x → p ≡ Some y → x ≡ y

@@ -1,19 +1,6 @@
 -- The subject of a run, streams side by side, and the points at which it demands values.
-use Rattle.std.proofs.Common.{◌≡◌, ℕ, zero, suc, ◌+◌, ◌<◌, ◌≤◌, List, [], ◌∷◌, ◌++◌, map, None, Some, refl, sym, ap, ◌∙◌, subst, arith, ◌⊎◌, inl, inr}
-use Rattle.std.specs.Prelude.{slice_get}
-use Rattle.std.specs.List.{range_with_len}
-use Rattle.std.proofs.lemmas.Bool.{cases_lt}
-use Rattle.std.proofs.lemmas.Option.{same_Some, none-some}
-use Rattle.lucid_tree.proofs.Members.{in_map}
-use Rattle.lucid_tree.specs.Levels.{Elements}
-use Rattle.lucid_tree.specs.Members.{In}
-use Rattle.lucid_equations.specs.Values.{eqval}
-use Rattle.lucid_equations.specs.Visits.{consults_on_nodes}
-use Rattle.lucid_equations.specs.Rows.{equations_of}
-use Rattle.lucid_equations.specs.declared.table.Table.{Table}
-use Rattle.lucid_session.specs.Subject.{OneStream, table_stream_at, table_columns, IsOpen, Output, no_lines, one_line_more}
-use Rattle.lucid_session.specs.Figures.{Demands}
-use Rattle.lucid_session.specs.Moments.{Start, subject, layout}
+use Rattle.lucid_session.proofs.Common.{◌≡◌, ℕ, zero, suc, ◌+◌, ◌<◌, ◌≤◌, List, ◌++◌, map, None, refl, sym, ap, ◌∙◌, subst, arith, ◌⊎◌, inl, inr, slice_get, range_with_len, cases_lt, same_Some, none-some, in_map, Elements, In, eqval, consults_on_nodes, equations_of, Table, OneStream, table_stream_at, table_columns, IsOpen, Output, no_lines, one_line_more, Demands, Start, subject, layout}
+use Rattle.std.proofs.Common.{[], ◌∷◌, Some}
 use Rattle.lucid_session.proofs.Lists.{is_none, from_map}
 
 -- each number of a range from another has its place,

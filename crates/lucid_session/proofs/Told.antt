@@ -1,17 +1,11 @@
 -- The elements that the places of a run tell are those of its inputs, at each of its moments.
-use Rattle.std.proofs.Common.{◌≡◌, ℕ, zero, suc, Bool, true, false, cond, List, [], ◌∷◌, Option, Some, None, refl, sym, ap, ◌∙◌, subst}
-use Rattle.std.specs.Prelude.{slice_get, option_map}
-use Rattle.std.proofs.lemmas.Option.{slice_get-map, same_Some, none-some}
+use Rattle.lucid_session.proofs.Common.{◌≡◌, ℕ, zero, suc, Bool, true, false, cond, List, Option, None, refl, sym, ap, ◌∙◌, subst, slice_get, option_map, same_Some, none-some, Elements, World, Contents, Stream, all_bytes, elements_told, EngineView, MayHave, AreAskable, ReadsOnly, places_of, Start, Has, slice_get-map}
+use Rattle.std.proofs.Common.{[], ◌∷◌, Some}
 use Rattle.lucid_value.specs.Elements.{element}
-use Rattle.lucid_tree.specs.Levels.{Elements}
 use Rattle.lucid_tree.specs.Env.{same_name}
-use Rattle.lucid_ports.specs.World.{World, Contents}
-use Rattle.lucid_inputs.specs.Streams.{Stream, all_bytes}
 use Rattle.lucid_equations.specs.MoreElements.{Extends}
-use Rattle.lucid_facts.specs.Elements.{told_in, elements_told}
-use Rattle.lucid_facts.specs.Engine.{EngineView, MayHave, AreAskable, ReadsOnly, places_of}
+use Rattle.lucid_facts.specs.Elements.{told_in}
 use Rattle.lucid_facts.proofs.Places.{same_name_decides, told_extends}
-use Rattle.lucid_session.specs.Moments.{Start, Has}
 
 -- the place of a stream that has a number
 pub place_at : (streams : List Stream) (k : ℕ) (s : Stream) → slice_get streams k ≡ Some s → slice_get (places_of streams) k ≡ Some s.place

@@ -1,13 +1,6 @@
 -- A run of columns for which there was no memory at all.
-use Rattle.std.proofs.Common.{ℕ}
-use Rattle.std.specs.Prelude.{Err}
+use Rattle.lucid_session.proofs.Common.{ℕ, Err, Table, ReadsOnly, columns_subject, table_columns, RunView, columns_counted, PromisesColumns}
 use Rattle.lucid_ports.specs.declared.run.RunFault.TheVariants.{NoMemory}
-use Rattle.lucid_equations.specs.declared.table.Table.{Table}
-use Rattle.lucid_facts.specs.Engine.{ReadsOnly}
-use Rattle.lucid_session.specs.Subject.{columns_subject, table_columns}
-use Rattle.lucid_session.specs.Runs.{RunView}
-use Rattle.lucid_session.specs.Figures.{columns_counted}
-use Rattle.lucid_session.specs.Sessions.{PromisesColumns}
 use Rattle.lucid_session.proofs.Stopped.{DidNothing, ran_nothing, figures_nothing, causes_nothing}
 
 pub nothing_there : (T : Table) (n : ℕ) (r : RunView) → DidNothing r → ReadsOnly r.places r.before r.after → PromisesColumns T n r (Err NoMemory)

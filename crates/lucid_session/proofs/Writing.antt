@@ -1,29 +1,12 @@
 -- A line is written, or its front, and the engine may be cleared.
-use Rattle.std.proofs.Common.{◌≡◌, ◌≢◌, ℕ, suc, ◌<◌, ◌≤◌, List, [], ◌∷◌, ◌++◌, length, take, Option, refl, sym, ap, ◌∙◌, subst, arith, ◌⊎◌, inl, inr}
-use Rattle.std.proofs.Math.Seq.{take-length}
-use Rattle.std.proofs.lemmas.Bool.{cases_lt}
-use Rattle.std.specs.Prelude.{IsTrue, Result, Ok, Err, IsErrOf}
-use Rattle.lucid_tree.specs.Members.{In}
-use Rattle.lucid_tree.specs.Levels.{Elements}
-use Rattle.lucid_tags.specs.Contexts.{Context, root}
+use Rattle.lucid_session.proofs.Common.{◌≡◌, ◌≢◌, ℕ, suc, ◌<◌, ◌≤◌, List, ◌++◌, length, take, Option, refl, sym, ap, ◌∙◌, subst, arith, ◌⊎◌, inl, inr, cases_lt, IsTrue, Result, Ok, Err, IsErrOf, In, Elements, Context, root, count_of, Rises, World, with_all, Summary, RunFault, Points, EngineView, IsSound, AreAskable, places_of, Subject, one_line_more, Told, RunView, Written, ForSomeAdded, ConsumesWithin, ReadsWithin, IsTooDeep, OnTooDeep, OnTooLarge, IsShown, Ran, IsUndefinedHeld, ArePointsBelow, HasMoreThan, OnDepth, OnClearings, PromisesColumns, WritesLine, most_known, Start, subject, layout, before, Has, seen, IsEntered, Standing, take-length}
+use Rattle.std.proofs.Common.{[], ◌∷◌}
 use Rattle.lucid_ports.proofs.WritingLemmas.{all_all as all-all}
-use Rattle.lucid_store.specs.Entries.{count_of, cleared}
-use Rattle.lucid_ports.specs.Faults.{Rises}
-use Rattle.lucid_ports.specs.World.{World}
-use Rattle.lucid_ports.specs.Writing.{with_all, with_front}
-use Rattle.lucid_ports.specs.declared.run.Summary.{Summary}
-use Rattle.lucid_ports.specs.declared.run.RunFault.{RunFault}
+use Rattle.lucid_store.specs.Entries.{cleared}
+use Rattle.lucid_ports.specs.Writing.{with_front}
 use Rattle.lucid_ports.specs.declared.run.RunFault.TheVariants as run
-use Rattle.lucid_equations.specs.Counts.{Points}
-use Rattle.lucid_facts.specs.Engine.{EngineView, IsSound, AreAskable, places_of}
-use Rattle.lucid_session.specs.Subject.{Subject, one_line_more}
-use Rattle.lucid_session.specs.Runs.{Told, RunView, Written, ForSomeAdded, ConsumesWithin, ReadsWithin, ConsultsOverlong, IsTooDeep, OnTooDeep, OnTooLarge, IsShown, Ran}
-use Rattle.lucid_session.specs.Figures.{IsUndefinedHeld, ArePointsBelow, HasMoreThan, OnDepth, OnClearings}
-use Rattle.lucid_session.specs.Sessions.{PromisesColumns}
-use Rattle.lucid_session.specs.Lines.{WritesLine}
-use Rattle.lucid_demand.specs.Demanded.{most_known}
+use Rattle.lucid_session.specs.Runs.{ConsultsOverlong}
 use Rattle.lucid_session.proofs.Added.{at_once}
-use Rattle.lucid_session.specs.Moments.{Start, subject, layout, before, Has, seen, IsEntered, Standing}
 use Rattle.lucid_session.proofs.Knowing.{much_entered}
 use Rattle.lucid_session.proofs.Going.{few_at}
 use Rattle.lucid_session.proofs.Ending.{HasLines, counted, written_whole, consumes}

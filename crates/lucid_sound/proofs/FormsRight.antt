@@ -1,15 +1,7 @@
 -- A node is right where its scope is there and it is right by its form.
-use Rattle.std.proofs.Common.{◌≡◌, ℕ, ◌<◌, List, [], ◌∷◌, length, refl, subst}
-use Rattle.std.proofs.lemmas.Option.{slice_get_within}
-use Rattle.lucid_equations.specs.Rows.{parts}
-use Rattle.lucid_equations.specs.Ranges.{EachBelow}
-use Rattle.lucid_equations.specs.Sound.{EachStandsIn, ReferenceLeads, CallLeads}
+use Rattle.lucid_sound.proofs.Common.{◌≡◌, ℕ, ◌<◌, List, [], ◌∷◌, length, refl, subst, slice_get_within, parts, EachBelow, EachStandsIn, ReferenceLeads, CallLeads, Const, Input, Freeze, Refer, Call, NodeRow, Table, NodeIsRight, ArePartsRight}
 use Rattle.lucid_equations.specs.declared.rows.Node.{Node}
-use Rattle.lucid_equations.specs.declared.rows.Node.TheVariants.{Const, Input, Freeze, Refer, Call}
-use Rattle.lucid_equations.specs.declared.rows.NodeRow.{NodeRow}
-use Rattle.lucid_equations.specs.declared.table.Table.{Table}
-use Rattle.lucid_sound.specs.WrongRows.{NodeIsRight}
-use Rattle.lucid_sound.specs.Forms.{ArePartsRight, CalleeLeads, PlaceLeads, FormIsRight}
+use Rattle.lucid_sound.specs.Forms.{CalleeLeads, PlaceLeads, FormIsRight}
 
 -- parts are right where they have lower numbers and stand in the scope
 parts-below : (rs : List NodeRow) (s id : ℕ) (is : List ℕ) → ArePartsRight rs s id is → EachBelow id is

@@ -1,16 +1,6 @@
 -- The numbers of a table whose rows and root are right are in range.
-use Rattle.std.proofs.Common.{◌≡◌, ℕ, suc, ◌+◌, ◌<◌, ◌≤◌, Option, None, Some, List, [], ◌∷◌, length, slice_get, refl, subst, arith}
-use Rattle.std.specs.Option.{option_map}
-use Rattle.std.proofs.lemmas.Option.{none-some, same_Some, slice_get_within}
-use Rattle.lucid_equations.specs.Ranges.{EachBelow, Sizes, sizes, NodeIsInRange, NodesAreInRange, EntryIsInRange, NamesAreInRange, PlacesAreInRange, IsInRange}
-use Rattle.lucid_equations.specs.Sound.{StandsIn, EachStandsIn, EntryStands, IsSound}
-use Rattle.lucid_equations.specs.declared.rows.Entry.{Entry}
-use Rattle.lucid_equations.specs.declared.rows.Entry.TheVariants.{Plain, Parameter, Current, Called}
-use Rattle.lucid_equations.specs.declared.rows.NodeRow.{NodeRow}
-use Rattle.lucid_equations.specs.declared.rows.NameRow.{NameRow}
-use Rattle.lucid_equations.specs.declared.rows.PlaceRow.{PlaceRow}
-use Rattle.lucid_equations.specs.declared.table.Table.{Table}
-use Rattle.lucid_sound.specs.WrongRows.{RowsAreRight}
+use Rattle.lucid_sound.proofs.Common.{◌≡◌, ℕ, suc, ◌+◌, ◌<◌, ◌≤◌, None, Some, List, [], ◌∷◌, length, slice_get, refl, subst, arith, option_map, none-some, same_Some, slice_get_within, EachBelow, IsInRange, StandsIn, EachStandsIn, EntryStands, IsSound, Entry, Plain, Parameter, Current, Called, NodeRow, NameRow, PlaceRow, Table, RowsAreRight, Option}
+use Rattle.lucid_equations.specs.Ranges.{Sizes, sizes, NodeIsInRange, NodesAreInRange, EntryIsInRange, NamesAreInRange, PlacesAreInRange}
 use Rattle.lucid_sound.proofs.Rights.{sound-rights}
 
 -- the row of a node that stands in a scope

@@ -1,9 +1,5 @@
 -- In the small tables that aren't sound a reference leads nowhere: at once, at a part, or one reference later.
-use Rattle.std.proofs.Common.{None, refl, inl}
-use Rattle.lucid_tree.specs.Levels.{Elements}
-use Rattle.lucid_tags.specs.Contexts.{root, call_frame}
-use Rattle.lucid_equations.specs.Nodes.{reference, refer}
-use Rattle.lucid_sound.specs.Met.IsMet.{the_root, part, gone_on}
+use Rattle.lucid_sound.proofs.Common.{None, refl, inl, Elements, root, call_frame, reference, refer, the_root, part, gone_on}
 use Rattle.lucid_sound.specs.Astray.{GoesAstray, FramesAreMissed, called_outermost, part_elsewhere, reference_inwards, place_of_another, body_elsewhere, actual_missing, root_elsewhere}
 
 abbrev no_elements : Elements

@@ -1,19 +1,10 @@
 -- Contexts that fit a scope: their innermost frame, and that each, cut at the depth of a scope round it, fits that scope.
-use Rattle.std.proofs.Common.{◌≡◌, ◌≢◌, ℕ, suc, ◌≤◌, Some, slice_get, refl, sym, ◌∙◌, ap, subst, arith}
-use Rattle.std.proofs.lemmas.Option.{same_Some}
-use Rattle.lucid_tags.specs.Contexts.{Context, root, call_frame, frozen_frame, frames, cut}
+use Rattle.lucid_sound.proofs.Common.{◌≡◌, ◌≢◌, ℕ, suc, ◌≤◌, Some, slice_get, refl, sym, ◌∙◌, ap, subst, arith, same_Some, Context, root, call_frame, frozen_frame, ScopeIs, IsRound, HasDepth, NameIs, itself, further, outermost, ScopeKind, ScopeRow, Called, PlaceRow, Table, Fits, empty, called, frozen}
+use Rattle.lucid_tags.specs.Contexts.{frames, cut}
 use Rattle.lucid_tags.proofs.ContextLemmas.{cut-call_frame, cut-frozen_frame, cut-frames}
-use Rattle.lucid_equations.specs.Sound.{ScopeIs, IsRound, HasDepth, NameIs, ScopesNest}
-use Rattle.lucid_equations.specs.Sound.IsRound.{itself, further}
-use Rattle.lucid_equations.specs.Sound.HasDepth.{outermost, deeper}
-use Rattle.lucid_equations.specs.declared.rows.ScopeKind.{ScopeKind}
+use Rattle.lucid_equations.specs.Sound.{ScopesNest}
+use Rattle.lucid_equations.specs.Sound.HasDepth.{deeper}
 use Rattle.lucid_equations.specs.declared.rows.ScopeKind.TheVariants.{Root, Called as CalledScope, Frozen as FrozenScope}
-use Rattle.lucid_equations.specs.declared.rows.ScopeRow.{ScopeRow}
-use Rattle.lucid_equations.specs.declared.rows.Entry.TheVariants.{Called}
-use Rattle.lucid_equations.specs.declared.rows.PlaceRow.{PlaceRow}
-use Rattle.lucid_equations.specs.declared.table.Table.{Table}
-use Rattle.lucid_sound.specs.Fits.{Fits}
-use Rattle.lucid_sound.specs.Fits.Fits.{empty, called, frozen}
 
 called-not_root : CalledScope ≢ Root
 called-not_root e = cc

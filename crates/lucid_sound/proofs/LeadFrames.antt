@@ -1,19 +1,9 @@
 -- The datons that a sound table visits.
-use Rattle.std.proofs.Common.{ℕ, suc, Some, sym, ap, subst}
-use Rattle.std.specs.Option.{option_map}
-use Rattle.lucid_tree.specs.Members.{In}
-use Rattle.lucid_tree.specs.Levels.{Elements}
-use Rattle.lucid_tags.specs.Contexts.{Context}
-use Rattle.lucid_equations.specs.Datons.{Daton}
-use Rattle.lucid_equations.specs.Visits.{visits, visited_datons}
-use Rattle.lucid_equations.specs.Rows.{name_at, equations_of}
-use Rattle.lucid_equations.specs.Sound.{NameIs, IsSound}
-use Rattle.lucid_equations.specs.declared.rows.Entry.{Entry}
-use Rattle.lucid_equations.specs.declared.rows.Entry.TheVariants.{Plain, Parameter, Current, Called}
-use Rattle.lucid_equations.specs.declared.rows.NameRow.{NameRow}
-use Rattle.lucid_equations.specs.declared.table.Table.{Table}
+use Rattle.lucid_sound.proofs.Common.{ℕ, suc, Some, sym, ap, subst, option_map, In, Elements, Context, Daton, visits, equations_of, NameIs, IsSound, Entry, Plain, Parameter, Current, Called, NameRow, Table, Fits, DatonFits}
+use Rattle.lucid_equations.specs.Visits.{visited_datons}
+use Rattle.lucid_equations.specs.Rows.{name_at}
 use Rattle.lucid_equations.proofs.Needs.{gone-to}
-use Rattle.lucid_sound.specs.Fits.{Fits, DatonFits, HasFrameFor}
+use Rattle.lucid_sound.specs.Fits.{HasFrameFor}
 use Rattle.lucid_sound.proofs.LeadCuts.{called-frame, frozen-frame}
 use Rattle.lucid_sound.proofs.LeadSteps.{met-placed, goes-right}
 use Rattle.lucid_sound.proofs.LeadWalks.{visited-met}

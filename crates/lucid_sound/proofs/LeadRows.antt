@@ -1,15 +1,9 @@
 -- What stands right of a node of a sound table, by its form.
-use Rattle.std.proofs.Common.{◌≡◌, ℕ, zero, suc, List, [], ◌∷◌, Some, slice_get, refl, sym, ◌∙◌, ap, subst}
-use Rattle.std.specs.Option.{option_map}
-use Rattle.std.proofs.lemmas.Option.{none-some, same_Some}
-use Rattle.lucid_equations.specs.Nodes.{PlainNode, row, freeze, reference, invoke, part_of, input, refer}
-use Rattle.lucid_equations.specs.Rows.{all_at, parts, nodes_of, node_at, node_by}
-use Rattle.lucid_equations.specs.Ranges.{IsInRange}
-use Rattle.lucid_equations.specs.Sound.{ScopeIs, StandsIn, EachStandsIn, NodeNests, ReferenceLeads, CallLeads, IsSound}
+use Rattle.lucid_sound.proofs.Common.{◌≡◌, ℕ, zero, suc, List, [], ◌∷◌, Some, slice_get, refl, sym, ◌∙◌, ap, subst, option_map, none-some, same_Some, PlainNode, row, freeze, reference, invoke, part_of, input, refer, parts, node_at, IsInRange, ScopeIs, StandsIn, EachStandsIn, ReferenceLeads, CallLeads, IsSound, Const, Input, Freeze, Refer, Call, Table}
+use Rattle.lucid_equations.specs.Rows.{all_at, nodes_of, node_by}
+use Rattle.lucid_equations.specs.Sound.{NodeNests}
 use Rattle.lucid_equations.specs.declared.rows.ScopeKind.TheVariants.{Frozen as FrozenScope}
 use Rattle.lucid_equations.specs.declared.rows.Node.{Node}
-use Rattle.lucid_equations.specs.declared.rows.Node.TheVariants.{Const, Input, Freeze, Refer, Call}
-use Rattle.lucid_equations.specs.declared.table.Table.{Table}
 use Rattle.lucid_equations.proofs.PartsRead.{row-node}
 use Rattle.lucid_sound.proofs.InRange.{row-there}
 

@@ -1,24 +1,10 @@
 -- What is met in a sound table stands in a scope that its context fits, and goes on with what does.
-use Rattle.std.proofs.Common.{◌≡◌, ◌≢◌, ℕ, zero, suc, ◌<◌, List, [], ◌∷◌, length, Some, slice_get, refl, sym, ◌∙◌, ap, subst, arith}
-use Rattle.std.specs.Option.{option_map}
-use Rattle.std.proofs.lemmas.Option.{same_Some}
-use Rattle.lucid_tree.specs.Levels.{Elements, element_of, goes_to, nowhere}
-use Rattle.lucid_tags.specs.Contexts.{Context, call_frame, frozen_frame}
-use Rattle.lucid_equations.specs.Nodes.{PlainNode, row, freeze, reference, invoke, input, refer, parameter_entry, current_entry, Equations}
-use Rattle.lucid_equations.specs.Datons.{Daton, NodePosition, NodeAim, to_actual, by_entry, name_aim, called_from, node_aim}
-use Rattle.lucid_equations.specs.Rows.{node_at, entry_by, actuals_of, equations_of}
-use Rattle.lucid_equations.specs.Sound.{ScopeIs, EachStandsIn, StandsIn, NameIs, IsSound}
+use Rattle.lucid_sound.proofs.Common.{◌≡◌, ◌≢◌, ℕ, zero, suc, ◌<◌, List, [], ◌∷◌, length, Some, slice_get, refl, sym, ◌∙◌, ap, subst, arith, option_map, same_Some, Elements, element_of, goes_to, nowhere, Context, call_frame, frozen_frame, PlainNode, row, freeze, reference, invoke, input, refer, Equations, Daton, NodePosition, NodeAim, node_aim, node_at, equations_of, ScopeIs, EachStandsIn, StandsIn, NameIs, IsSound, Entry, Plain, Parameter, Current, Called, NodeRow, NameRow, Table, no_aim, IsMet, the_root, part, subject, gone_on, Fits, DatonFits, empty, called, frozen}
+use Rattle.lucid_equations.specs.Nodes.{parameter_entry, current_entry}
+use Rattle.lucid_equations.specs.Datons.{to_actual, by_entry, name_aim, called_from}
+use Rattle.lucid_equations.specs.Rows.{entry_by, actuals_of}
 use Rattle.lucid_equations.specs.declared.rows.ScopeKind.TheVariants.{Called as CalledScope}
-use Rattle.lucid_equations.specs.declared.rows.Entry.{Entry}
-use Rattle.lucid_equations.specs.declared.rows.Entry.TheVariants.{Plain, Parameter, Current, Called}
-use Rattle.lucid_equations.specs.declared.rows.NodeRow.{NodeRow}
-use Rattle.lucid_equations.specs.declared.rows.NameRow.{NameRow}
-use Rattle.lucid_equations.specs.declared.table.Table.{Table}
-use Rattle.lucid_equations.proofs.NodeAims.{no_aim}
-use Rattle.lucid_sound.specs.Met.{IsMet, IsReference}
-use Rattle.lucid_sound.specs.Met.IsMet.{the_root, part, subject, gone_on}
-use Rattle.lucid_sound.specs.Fits.{Fits, DatonFits}
-use Rattle.lucid_sound.specs.Fits.Fits.{empty, called, frozen}
+use Rattle.lucid_sound.specs.Met.{IsReference}
 use Rattle.lucid_sound.proofs.InRange.{sound-in_range}
 use Rattle.lucid_sound.proofs.LeadRows.{Stands, stands-right}
 use Rattle.lucid_sound.proofs.LeadCuts.{same-parent, CalledFrame, called-frame, frozen-frame, fits-cut}

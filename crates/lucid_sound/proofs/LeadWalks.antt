@@ -1,20 +1,16 @@
 -- What is met is what is visited.
-use Rattle.std.proofs.Common.{◌≡◌, ℕ, zero, suc, ◌+◌, List, Some, refl, sym, ◌∙◌, subst, inl, inr}
-use Rattle.lucid_tree.specs.Members.{In, Inside}
+use Rattle.lucid_sound.proofs.Common.{◌≡◌, ℕ, zero, suc, ◌+◌, List, Some, refl, sym, ◌∙◌, subst, inl, inr, In, Elements, element_of, goes_to, nowhere, Context, root, frozen_frame, PlainNode, row, freeze, reference, invoke, part_of, Equations, Daton, NodePosition, NodeAim, node_aim, visits, no_aim, IsMet, the_root, part, subject, gone_on}
+use Rattle.lucid_tree.specs.Members.{Inside}
 use Rattle.lucid_tree.specs.Rows.{plan}
-use Rattle.lucid_tree.specs.Levels.{Elements, element_of, goes_to, nowhere, nothing_held, deeper, Event, looked_up, referred, entered}
+use Rattle.lucid_tree.specs.Levels.{nothing_held, deeper, Event, looked_up, referred, entered}
 use Rattle.lucid_tree.proofs.Members.{in_right, in_either}
-use Rattle.lucid_tags.specs.Contexts.{Context, root, frozen_frame}
-use Rattle.lucid_equations.specs.Nodes.{PlainNode, row, freeze, reference, invoke, PlainNodes, no_nodes, node, part_of, Equations}
-use Rattle.lucid_equations.specs.Datons.{Daton, NodePosition, NodeAim, reference_aim, call_aim, node_aim}
-use Rattle.lucid_equations.specs.Visits.{NodeEvents, context_of, walk_at, walk_part, node_walk, node_visits, visits}
+use Rattle.lucid_equations.specs.Nodes.{PlainNodes, no_nodes, node}
+use Rattle.lucid_equations.specs.Datons.{reference_aim, call_aim}
+use Rattle.lucid_equations.specs.Visits.{NodeEvents, context_of, walk_at, walk_part, node_walk, node_visits}
 use Rattle.lucid_equations.specs.Parts.{reads_parts}
 use Rattle.lucid_equations.proofs.Looked.{look-found}
 use Rattle.lucid_equations.proofs.FormNeeds.{look-visited}
 use Rattle.lucid_equations.proofs.Moving.{part-walked}
-use Rattle.lucid_equations.proofs.NodeAims.{no_aim}
-use Rattle.lucid_sound.specs.Met.{IsMet}
-use Rattle.lucid_sound.specs.Met.IsMet.{the_root, part, subject, gone_on}
 use Rattle.lucid_sound.specs.Laws.{Referrer}
 
 module _ (p : Equations) (b : Elements) (limit d time space : ℕ) where

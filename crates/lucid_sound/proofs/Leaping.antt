@@ -1,11 +1,5 @@
 -- Walks outwards by the depths and leaps of a nest, where the scopes' rows are right.
-use Rattle.std.proofs.Common.{◌≡◌, ℕ, zero, suc, ◌<◌, ◌↔◌, List, length, get_or, slice_index, refl, subst, arith}
-use Rattle.std.proofs.lemmas.Option.{slice_get-get_or}
-use Rattle.lucid_equations.specs.Sound.{IsRound, HasDepth}
-use Rattle.lucid_equations.specs.Sound.IsRound.{itself, further}
-use Rattle.lucid_equations.specs.declared.rows.ScopeRow.{ScopeRow}
-use Rattle.lucid_sound.specs.WrongRows.{ScopeIsRight, AllRight}
-use Rattle.lucid_sound.specs.Nests.{IsNestOf}
+use Rattle.lucid_sound.proofs.Common.{◌≡◌, ℕ, zero, suc, ◌<◌, ◌↔◌, List, length, get_or, slice_index, refl, subst, arith, slice_get-get_or, IsRound, HasDepth, itself, further, ScopeRow, ScopeIsRight, AllRight, IsNestOf}
 use Rattle.lucid_sound.proofs.Nesting.{zero-depth, one-deeper, one-round, round-shallow}
 use Rattle.lucid_sound.proofs.NestMade.{no_row, next-low}
 

@@ -1,3 +1,4 @@
+pub mod Common
 pub mod RightRows
 pub mod Nesting
 pub mod NestMade

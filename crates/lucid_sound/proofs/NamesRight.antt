@@ -1,18 +1,7 @@
 -- What follows from the row of a name: of a name itself, of a reference to it, and of a call place of it.
-use Rattle.std.proofs.Common.{◌≡◌, ℕ, ◌<◌, ◌≤◌, List, length, get_or, Some, slice_get, refl, sym, ◌∙◌, ap, subst}
-use Rattle.std.proofs.lemmas.Option.{same_Some, slice_get_read, slice_get_within}
-use Rattle.lucid_equations.specs.Sound.{StandsIn, EachStandsIn, EntryStands, IsReferable, IsRound, HasDepth, ReferenceLeads}
-use Rattle.lucid_equations.specs.declared.rows.ScopeKind.{ScopeKind}
+use Rattle.lucid_sound.proofs.Common.{◌≡◌, ℕ, ◌<◌, ◌≤◌, List, length, get_or, Some, slice_get, refl, sym, ◌∙◌, ap, subst, same_Some, slice_get_within, StandsIn, EachStandsIn, EntryStands, IsRound, HasDepth, ReferenceLeads, ScopeKind, ScopeRow, Entry, Plain, Parameter, Current, Called, NameRow, PlaceRow, Table, EntryFits, wanted, NameIsRight, PlaceIsRight, slice_get_read}
+use Rattle.lucid_equations.specs.Sound.{IsReferable}
 use Rattle.lucid_equations.specs.declared.rows.ScopeKind.TheVariants.{Called as CalledScope, Frozen as FrozenScope}
-use Rattle.lucid_equations.specs.declared.rows.ScopeRow.{ScopeRow}
-use Rattle.lucid_equations.specs.declared.rows.Entry.{Entry}
-use Rattle.lucid_equations.specs.declared.rows.Entry.TheVariants.{Plain, Parameter, Current, Called}
-use Rattle.lucid_equations.specs.declared.rows.NameRow.{NameRow}
-use Rattle.lucid_equations.specs.declared.rows.PlaceRow.{PlaceRow}
-use Rattle.lucid_equations.specs.declared.table.Table.{Table}
-use Rattle.lucid_sound.specs.Forms.{EntryFits}
-use Rattle.lucid_sound.specs.Wants.{wanted}
-use Rattle.lucid_sound.specs.WrongRows.{NameIsRight, PlaceIsRight}
 use Rattle.lucid_sound.proofs.Wanting.{wanted-enough, enough-wanted}
 
 -- the row that was looked up

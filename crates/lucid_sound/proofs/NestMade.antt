@@ -1,15 +1,8 @@
 -- A nest is made scope by scope.
-use Rattle.std.proofs.Common.{ℕ, zero, suc, ◌+◌, ◌<◌, ◌≤◌, List, [], ◌∷◌, ◌++◌, length, get_or, slice_index, sym, subst, arith, length-append, inl, inr}
-use Rattle.std.proofs.lemmas.Bool.{cases_eq}
-use Rattle.std.proofs.lemmas.List.{get_or_append_left, get_or_push}
-use Rattle.std.proofs.lemmas.Option.{slice_get-get_or}
-use Rattle.lucid_equations.specs.Sound.{IsRound, HasDepth}
-use Rattle.lucid_equations.specs.Sound.IsRound.{further}
+use Rattle.lucid_sound.proofs.Common.{ℕ, zero, suc, ◌+◌, ◌<◌, ◌≤◌, List, [], ◌∷◌, length, get_or, slice_index, sym, subst, arith, inl, inr, cases_eq, slice_get-get_or, IsRound, HasDepth, further, ScopeRow, ScopeIsRight, AllRight, IsNestOf, ◌++◌, length-append, get_or_append_left, get_or_push}
 use Rattle.lucid_equations.specs.Sound.HasDepth.{deeper}
 use Rattle.lucid_equations.specs.declared.rows.ScopeKind.TheVariants.{Root}
-use Rattle.lucid_equations.specs.declared.rows.ScopeRow.{ScopeRow}
-use Rattle.lucid_sound.specs.WrongRows.{ScopeIsRight, AllRight}
-use Rattle.lucid_sound.specs.Nests.{AreRound, AreLow, AreLower, IsNestOf}
+use Rattle.lucid_sound.specs.Nests.{AreRound, AreLow, AreLower}
 
 -- what holds of each number of a list holds after one more
 pub each-more : (P : ℕ → ℕ → Type 0) (xs : List ℕ) (x : ℕ) → ((s : ℕ) → s < length xs → P s (slice_index xs s)) → P (length xs) x → (s : ℕ) → s < length (xs ++ x ∷ []) → P s (slice_index (xs ++ x ∷ []) s)

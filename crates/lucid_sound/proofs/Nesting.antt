@@ -1,12 +1,6 @@
 -- Scopes round others, and depths, where the scopes' rows are right.
-use Rattle.std.proofs.Common.{◌≡◌, ℕ, zero, suc, ◌<◌, ◌≤◌, List, refl, sym, ◌∙◌, ap, subst, arith}
-use Rattle.std.proofs.lemmas.Option.{same_Some}
-use Rattle.lucid_equations.specs.Sound.{ScopeIs, IsRound, HasDepth}
-use Rattle.lucid_equations.specs.Sound.IsRound.{itself, further}
-use Rattle.lucid_equations.specs.Sound.HasDepth.{outermost, deeper}
-use Rattle.lucid_equations.specs.declared.rows.ScopeKind.{ScopeKind}
-use Rattle.lucid_equations.specs.declared.rows.ScopeRow.{ScopeRow}
-use Rattle.lucid_sound.specs.WrongRows.{ScopeIsRight, AllRight}
+use Rattle.lucid_sound.proofs.Common.{◌≡◌, ℕ, zero, suc, ◌<◌, ◌≤◌, List, refl, sym, ◌∙◌, ap, subst, arith, same_Some, ScopeIs, IsRound, HasDepth, itself, further, outermost, ScopeKind, ScopeRow, ScopeIsRight, AllRight}
+use Rattle.lucid_equations.specs.Sound.HasDepth.{deeper}
 
 abbrev parent_in : ScopeRow → ℕ
 parent_in r = r.parent

@@ -1,8 +1,5 @@
 -- The first wrong row of a list, by going through its rows.
-use Rattle.std.proofs.Common.{◌≡◌, ℕ, ◌+◌, ◌<◌, ◌≤◌, List, length, get_or, Some, slice_get, sym, ◌∙◌, ap, subst, arith, inl, inr}
-use Rattle.std.proofs.lemmas.Bool.{cases_eq}
-use Rattle.std.proofs.lemmas.Option.{same_Some, slice_get_within, slice_get-get_or}
-use Rattle.lucid_sound.specs.WrongRows.{AllRight, IsFirstWrong}
+use Rattle.lucid_sound.proofs.Common.{◌≡◌, ℕ, ◌+◌, ◌<◌, ◌≤◌, List, length, get_or, Some, slice_get, sym, ◌∙◌, ap, subst, arith, inl, inr, cases_eq, same_Some, slice_get_within, slice_get-get_or, AllRight, IsFirstWrong}
 
 -- the rows before a number are right
 abbrev pub RightBefore : {A : Type 0} → (ℕ → A → Type 0) → List A → ℕ → Type 0

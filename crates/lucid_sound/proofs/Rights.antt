@@ -1,15 +1,10 @@
 -- A table is sound exactly where all rows and the root are right.
-use Rattle.std.proofs.Common.{◌≡◌, ◌≢◌, ℕ, List, [], ◌∷◌, Some, slice_get, refl, sym, ◌∙◌, ap}
-use Rattle.std.proofs.lemmas.Option.{same_Some, none-some}
-use Rattle.lucid_equations.specs.Sound.{ScopeIs, RootStands, IsSound}
+use Rattle.lucid_sound.proofs.Common.{◌≡◌, ◌≢◌, ℕ, List, [], ◌∷◌, Some, slice_get, refl, sym, ◌∙◌, ap, same_Some, none-some, ScopeIs, IsSound, ScopeRow, NodeRow, Table, no_scopes, wrong_scope, wrong_node, wrong_name, wrong_place, wrong_root, ScopeIsRight, AllRight, RowsAreRight}
+use Rattle.lucid_equations.specs.Sound.{RootStands}
 use Rattle.lucid_equations.specs.declared.rows.ScopeKind.TheVariants.{Root as RootScope}
-use Rattle.lucid_equations.specs.declared.rows.ScopeRow.{ScopeRow}
 use Rattle.lucid_equations.specs.declared.rows.Node.{Node}
-use Rattle.lucid_equations.specs.declared.rows.NodeRow.{NodeRow}
-use Rattle.lucid_equations.specs.declared.table.Table.{Table}
 use Rattle.lucid_sound.specs.declared.program.BuildRefusal.{BuildRefusal}
-use Rattle.lucid_sound.specs.WrongRows.IsFirstWrongRow.{no_scopes, wrong_scope, wrong_node, wrong_name, wrong_place, wrong_root}
-use Rattle.lucid_sound.specs.WrongRows.{ScopeIsRight, AllRight, RowsAreRight, IsFirstWrongRow}
+use Rattle.lucid_sound.specs.WrongRows.{IsFirstWrongRow}
 
 -- scope 0
 first-scope : (xs : List ScopeRow) → xs ≢ [] → AllRight ScopeIsRight xs → ScopeIs xs 0 0 RootScope

@@ -1,12 +1,6 @@
 -- How many actuals a call into a scope wants, by its parameters.
-use Rattle.std.proofs.Common.{◌≡◌, ℕ, zero, suc, ◌+◌, ◌<◌, ◌≤◌, Bool, true, ◌==◌, max, Some, List, [], ◌∷◌, length, get_or, slice_get, drop, refl, ◌∙◌, ap, arith}
-use Rattle.std.proofs.lemmas.Option.{none-some, same_Some}
-use Rattle.std.proofs.lemmas.Bool.{eq-eqb, eqb-true}
-use Rattle.std.proofs.lemmas.List.{at_drop_more}
-use Rattle.lucid_equations.specs.declared.rows.Entry.{Entry}
-use Rattle.lucid_equations.specs.declared.rows.Entry.TheVariants.{Parameter}
-use Rattle.lucid_equations.specs.declared.rows.NameRow.{NameRow}
-use Rattle.lucid_sound.specs.Wants.{asked_here, asked, wanted}
+use Rattle.lucid_sound.proofs.Common.{◌≡◌, ℕ, zero, suc, ◌+◌, ◌<◌, ◌≤◌, Some, List, [], ◌∷◌, slice_get, refl, ◌∙◌, ap, arith, none-some, same_Some, eq-eqb, eqb-true, Entry, Parameter, NameRow, wanted, Bool, true, ◌==◌}
+use Rattle.lucid_sound.specs.Wants.{asked_here, asked}
 
 abbrev parameter_of : (scope index : ℕ) → NameRow
 parameter_of s i = record { scope = s; kind = Parameter i }
@@ -33,9 +27,3 @@ enough-wanted (r ∷ rs) s k h =
     let here = asked-low s r.scope k (r.scope == s) r.kind refl (λ i e. h 0 i (ap Some e)) in
     let rest = enough-wanted rs s k (λ n i at. h (suc n) i at) in
     omega (arith, here, rest)
-
--- one more name is noted
-pub wanted-more : (names : List NameRow) (s i w v all : ℕ) (d : NameRow) → i < length names → v ≡ max w (asked s (get_or names i d)) → max w (wanted (drop i names) s) ≡ all → max v (wanted (drop (i + 1) names) s) ≡ all
-wanted-more names s i w v all d within more h =
-    let e : wanted (drop i names) s ≡ max (asked s (get_or names i d)) (wanted (drop (i + 1) names) s) = at_drop_more (λ xs. wanted xs s) names i d within in
-    omega (arith, more, h, e)

@@ -1,10 +1,7 @@
 -- Ages, of which the last ones are 0 and lie nowhere.
-use Rattle.std.proofs.Common.{◌≡◌, ℕ, zero, suc, ◌+◌, ◌-◌, ◌≤◌, ◌<◌, List, [], ◌∷◌, ◌++◌, length, map, take, Some, slice_get, slice_index_or, refl, sym, ap, subst, ◌∙◌, arith}
-use Rattle.std.specs.Prelude.{◌≢◌, slice_set}
-use Rattle.std.specs.List.{swap_remove}
-use Rattle.std.proofs.lemmas.List.{append-nil, length-append, length-map, length-set, length-take-le, get_or-take, get_or-set_other, get_or-set_same, get_or_default}
-use Rattle.lucid_store.specs.Ages.{zeros}
-use Rattle.lucid_store.specs.Entries.{older}
+use Rattle.lucid_store.proofs.Common.{◌≡◌, ℕ, zero, suc, ◌+◌, ◌-◌, ◌≤◌, ◌<◌, List, [], ◌∷◌, ◌++◌, length, map, take, Some, slice_get, refl, sym, ap, subst, ◌∙◌, arith, slice_set, swap_remove, length-append, length-set, length-take-le, get_or_default, zeros, older, append-nil, length-map, get_or-take, get_or-set_other, get_or-set_same}
+use Rattle.std.proofs.Common.{slice_index_or}
+use Rattle.std.specs.Prelude.{◌≢◌}
 
 pub length-zeros : (n : ℕ) → length (zeros n) ≡ n
 length-zeros zero = refl
@@ -22,12 +19,6 @@ zero_past [] (suc n) (suc i) low high = zero_past [] n i (omega arith) (omega (a
 zero_past (w ∷ ws) n zero low high = absurd (omega (arith, low))
 zero_past (w ∷ ws) n (suc i) low high = zero_past ws n i (omega (arith, low)) (omega (arith, high))
 
--- what is written stands there
-pub written_at : (ws : List ℕ) (n i : ℕ) → i < length ws → slice_get (ws ++ zeros n) i ≡ slice_get ws i
-written_at [] n i h = absurd (omega (arith, h))
-written_at (w ∷ ws) n zero h = refl
-written_at (w ∷ ws) n (suc i) h = written_at ws n i (omega (arith, h))
-
 -- a 0 that is set where 0 stands changes nothing
 pub set-zero : (xs : List ℕ) (i : ℕ) → slice_get xs i ≡ Some 0 → slice_set xs i 0 ≡ xs
 set-zero [] i h = refl
@@ -43,10 +34,6 @@ pub one-more : (ws : List ℕ) (n : ℕ) → ws ++ zeros (suc n) ≡ (ws ++ zero
 one-more [] zero = refl
 one-more [] (suc n) = ap (λ ys. 0 ∷ ys) (one-more [] n)
 one-more (w ∷ ws) n = ap (λ ys. w ∷ ys) (one-more ws n)
-
-pub write-one : (ws : List ℕ) (n : ℕ) → (ws ++ 0 ∷ []) ++ zeros n ≡ ws ++ zeros (suc n)
-write-one [] n = refl
-write-one (w ∷ ws) n = ap (λ ys. w ∷ ys) (write-one ws n)
 
 pub last-goes : (ws : List ℕ) (n m : ℕ) → m ≡ length ws + n → take m (ws ++ zeros (suc n)) ≡ ws ++ zeros n
 last-goes [] zero zero e = refl

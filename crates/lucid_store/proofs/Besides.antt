@@ -1,23 +1,14 @@
 -- Values in one list and their ages in another, seen as one list of entries.
-use Rattle.std.proofs.Common.{◌≡◌, ◌≢◌, ℕ, zero, suc, ◌+◌, ◌-◌, ◌≤◌, ◌<◌, Bool, true, false, cond, List, [], ◌∷◌, ◌++◌, length, map, Option, Some, None, is_some, position, slice_get, slice_index_or, refl, ap, sym, subst, ◌∙◌, arith}
-use Rattle.std.specs.Prelude.{◌==◌, nat_le, slice_set, option_map, option_and_then}
-use Rattle.std.proofs.lemmas.Bool.Decides.{nat_tests}
-use Rattle.std.proofs.lemmas.Option.{slice_get-map, slice_get_within, get_or_from_slice_get}
-use Rattle.std.specs.List.{IsDistinct, AllWithin, swap_remove, position_or_len}
-use Rattle.std.specs.Option.{option_to_list, IsSome}
-use Rattle.std.specs.Map.{lookup, lookup_key, keys_of, values_of}
+use Rattle.lucid_store.proofs.Common.{◌≡◌, ℕ, zero, suc, ◌+◌, ◌-◌, ◌≤◌, ◌<◌, Bool, true, false, cond, List, [], ◌∷◌, ◌++◌, length, map, Option, Some, None, is_some, position, slice_get, refl, ap, sym, subst, ◌∙◌, arith, slice_set, option_map, option_and_then, slice_get-map, AllWithin, swap_remove, lookup, Value, Key, Entry, same_key, beside, ages_of, value_in, Sets, renewed, older, within, swept, same_key_is_equality, same_key_equiv, ◌==◌, nat_le, nat_tests, slice_get_within, get_or_from_slice_get, IsDistinct, position_or_len, option_to_list, lookup_key, keys_of, values_of}
+use Rattle.std.proofs.Common.{◌≢◌, slice_index_or}
+use Rattle.std.specs.Option.{IsSome}
 use Rattle.indexmap.specs.IndexMap.{insert_entry}
 use Rattle.indexmap.proofs.SetLemmas.{map-swap_remove}
 use Rattle.indexmap.specs.IndexMap.{set_value_at}
 use Rattle.indexmap.proofs.MapLemmas.{index-first, swap_remove-default, insert_entry-first, insert_entry-absent, absent_from_lookup, Found-position, some_index, or_len-first}
 use Rattle.indexmap.proofs.RemoveLemmas.{own_first, popped_last, swap_out}
-use Rattle.lucid_value.specs.declared.Value.{Value}
-use Rattle.lucid_tags.specs.declared.Key.{Key}
-use Rattle.lucid_store.specs.Stored.{Entry}
-use Rattle.lucid_tags.specs.Keys.{same_key}
-use Rattle.lucid_store.specs.Beside.{beside, ages_of, value_in, place_of, Sets}
-use Rattle.lucid_store.specs.Entries.{fresh, renewed, older, aged, within, swept}
-use Rattle.lucid_tags.specs.EqualityDecides.{same_key_is_equality, same_key_equiv}
+use Rattle.lucid_store.specs.Beside.{place_of}
+use Rattle.lucid_store.specs.Entries.{fresh, aged}
 
 pub keys-beside : (es : List (Key × Value)) (ages : List ℕ) → keys_of (beside es ages) ≡ keys_of es
 keys-beside [] ages = refl
@@ -341,10 +332,3 @@ more_within ages i n most a at le all j d low high = by (j == i) refl
     by false t = let above : i + 1 ≤ j = grind (arith, nat_tests) in all j d above high
 
 -- ---- touches
-
-pub renewed_some : (o : Option Entry) → is_some (option_map renewed o) ≡ is_some o
-renewed_some None = refl
-renewed_some (Some e) = refl
-
-pub set_held : (old new : List (Key × Entry)) (k : Key) (o : Option Entry) → Sets old new k o → is_some o ≡ true → is_some (lookup (same_key k) new) ≡ true
-set_held old new k o sets some = ap is_some (sets k ∙ ap (λ t. cond t o (lookup (same_key k) old)) (same_key_equiv.refl k)) ∙ some

@@ -1,12 +1,9 @@
 -- What a caller's proof cites of the words in `specs/Entries.antt`.
-use Rattle.std.proofs.Common.{◌≡◌, ◌≢◌, ◌⊎◌, inl, inr, Bool, true, false, cond, Option, Some, None, refl, ap, sym, ◌∙◌}
-use Rattle.std.specs.Prelude.{option_map}
+use Rattle.lucid_store.proofs.Common.{◌≡◌, Bool, true, false, cond, Option, Some, None, refl, ap, sym, ◌∙◌, option_map, Key, Entry, same_key, renewed, same_key_is_equality, same_key_equiv, ◌⊎◌}
+use Rattle.std.proofs.Common.{◌≢◌}
 use Rattle.lucid_value.specs.View.{plain}
-use Rattle.lucid_tags.specs.declared.Key.{Key}
-use Rattle.lucid_store.specs.Stored.{Entry, Stored}
-use Rattle.lucid_tags.specs.Keys.{same_key}
-use Rattle.lucid_store.specs.Entries.{entry_at, value_at, held, renewed, SetsOnly, IsTouched}
-use Rattle.lucid_tags.specs.EqualityDecides.{same_key_is_equality, same_key_equiv}
+use Rattle.lucid_store.specs.Stored.{Stored}
+use Rattle.lucid_store.specs.Entries.{entry_at, value_at, held, SetsOnly, IsTouched}
 
 pub other_key : (a b : Key) → b ≢ a → same_key a b ≡ false
 other_key a b apart = by (same_key a b) refl
@@ -15,20 +12,9 @@ other_key a b apart = by (same_key a b) refl
     by true h = absurd (apart (sym ((same_key_is_equality a b).0 h)))
     by false h = refl
 
--- two keys are equal, or they are not
-pub key_cases : (a b : Key) → (a ≡ b) ⊎ (a ≢ b)
-key_cases a b = by (same_key a b) refl
-  where
-    by : (t : Bool) → same_key a b ≡ t → (a ≡ b) ⊎ (a ≢ b)
-    by true h = inl ((same_key_is_equality a b).0 h)
-    by false h = inr (λ e. let same = (same_key_is_equality a b).1 e in cc)
-
 -- what a key has that was set, and any other key
 pub set_here : (old new : Stored) (key : Key) (entry : Option Entry) → SetsOnly old new key entry → entry_at new key ≡ entry
 set_here old new key entry sets = sets key ∙ ap (λ t. cond t entry (entry_at old key)) (same_key_equiv.refl key)
-
-pub set_apart : (old new : Stored) (key : Key) (entry : Option Entry) → SetsOnly old new key entry → (q : Key) → q ≢ key → entry_at new q ≡ entry_at old q
-set_apart old new key entry sets q apart = sets q ∙ ap (λ t. cond t entry (entry_at old q)) (other_key key q apart)
 
 -- a look-up leaves each value as it was
 pub value_at-touched : (old new : Stored) (key : Key) → IsTouched old new key → (q : Key) → value_at new q ≡ value_at old q

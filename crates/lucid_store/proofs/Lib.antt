@@ -1,3 +1,4 @@
+pub mod Common
 pub mod AgeLemmas
 pub mod Besides
 pub mod TouchedLemmas

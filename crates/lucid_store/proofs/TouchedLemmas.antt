@@ -1,9 +1,6 @@
 -- The key last touched is held after a change too.
-use Rattle.std.proofs.Common.{◌≡◌, Bool, true, false, cond, not, List, Option, Some, None, IsSome, IfSome, is_some, ◌∙◌, ap, refl}
-use Rattle.std.specs.Map.{lookup}
-use Rattle.lucid_tags.specs.declared.Key.{Key}
-use Rattle.lucid_store.specs.Stored.{Entry}
-use Rattle.lucid_tags.specs.Keys.{same_key}
+use Rattle.lucid_store.proofs.Common.{◌≡◌, Bool, true, false, cond, List, Option, Some, None, IfSome, is_some, ◌∙◌, ap, refl, lookup, Key, Entry, same_key, not}
+use Rattle.std.proofs.Common.{IsSome}
 use Rattle.lucid_store.specs.Entries.{touched_if}
 
 -- where the keys that pass the test stay held

@@ -1,8 +1,8 @@
 -- Contexts: cutting, and which contexts are further out.
-use Rattle.std.proofs.Common.{◌≡◌, ℕ, suc, ◌<◌, ◌≤◌, ◌⊎◌, inl, inr, Bool, true, false, Option, Some, None, ◌==◌, if◌then◌else◌, refl, ◌∙◌, ap, sym, subst, arith}
-use Rattle.std.proofs.lemmas.Bool.Decides.{nat_tests}
+use Rattle.lucid_tags.proofs.Common.{◌≡◌, ℕ, suc, ◌<◌, ◌≤◌, ◌⊎◌, inl, inr, Bool, true, false, Option, None, ◌==◌, if◌then◌else◌, refl, ◌∙◌, ap, sym, subst, arith, nat_tests, Context, root, frozen_frame, frames, base_of, cut, IsOuter}
+use Rattle.std.proofs.Common.{Some}
 use Rattle.lucid_lemmas.proofs.Numbers.{number_itself, below_differs, above_differs}
-use Rattle.lucid_tags.specs.Contexts.{Context, root, call_frame, frozen_frame, frames, base_of, cut, IsOuter}
+use Rattle.lucid_tags.specs.Contexts.{call_frame}
 
 -- below the innermost frame a cut is that of the base
 pub cut-call_frame : (level place : ℕ) (caller base : Context) → level ≤ frames base → cut level (call_frame place caller base) ≡ cut level base
@@ -41,10 +41,6 @@ outer-outer a b c p q = record {
 -- cutting at the level of a context further out gives it
 pub cut-outer : (outer inner : Context) → IsOuter outer inner → cut (frames outer) inner ≡ Some outer
 cut-outer outer inner h = h.same (frames outer) (omega arith) ∙ cut-frames outer
-
--- the base has a frame less
-pub frames-base_of : (c : Context) → frames (base_of c) ≤ frames c
-frames-base_of c = (outer-base_of c).lower
 
 -- a cut that leaves out the innermost frame gives the base
 pub cut-base_of : (c : Context) (level : ℕ) → suc level ≡ frames c → cut level c ≡ Some (base_of c)

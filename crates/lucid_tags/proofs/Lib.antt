@@ -1,3 +1,4 @@
+pub mod Common
 pub mod ContextLemmas
 pub mod ListLemmas
 pub mod RowLemmas

@@ -1,11 +1,5 @@
 -- Rows are equal exactly where their comparison says so.
-use Rattle.std.proofs.Common.{◌≡◌, ◌≢◌, ℕ, Bool, true, false, ◌==◌, ◌&&◌, ap, sym, ◌∙◌, subst, arith}
-use Rattle.std.proofs.lemmas.Bool.Decides.{nat_tests}
-use Rattle.std.specs.Bool.{Decides}
-use Rattle.lucid_tags.specs.declared.rows.Row.{Row}
-use Rattle.lucid_tags.specs.declared.rows.RowFrame.{RowFrame}
-use Rattle.lucid_tags.specs.declared.rows.RowFrame.TheVariants.{Call, Frozen}
-use Rattle.lucid_tags.specs.contracts.rows.RowPartialEq.TheImpl.{eq-value}
+use Rattle.lucid_tags.proofs.Common.{◌≡◌, ◌≢◌, ℕ, Bool, true, false, ◌==◌, ap, sym, ◌∙◌, subst, arith, nat_tests, Row, RowFrame, Call, Frozen, eq-value, ◌&&◌, Decides}
 
 two_equal : (m n p q : ℕ) → (m == n) && (p == q) ≡ true → (m ≡ n) × (p ≡ q)
 two_equal m n p q h = grind (arith, nat_tests)

@@ -1,17 +1,7 @@
 -- The known contexts of a table of rows, and what adding a row does.
-use Rattle.std.proofs.Common.{◌≡◌, ◌≢◌, ℕ, zero, suc, ◌+◌, ◌-◌, ◌<◌, ◌≤◌, ◌^◌, ◌⊎◌, inl, inr, List, [], ◌∷◌, ◌++◌, length, Some, Option, None, IfNone, IfSome, true, false, not, refl, ap, sym, ◌∙◌, subst, arith, get_or, length-append}
-use Rattle.std.specs.Prelude.{slice_get}
-use Rattle.std.proofs.lemmas.List.{get_or_append_left}
-use Rattle.std.proofs.lemmas.Option.{slice_get_within, slice_get-get_or}
-use Rattle.std.specs.List.{find, list_any}
-use Rattle.std.proofs.lemmas.Map.Made.{IfSome-find_same}
-use Rattle.lucid_tags.specs.declared.rows.Row.{Row}
-use Rattle.lucid_tags.specs.declared.rows.RowFrame.{RowFrame}
-use Rattle.lucid_tags.specs.declared.rows.RowFrame.TheVariants.{Call, Frozen}
-use Rattle.lucid_tags.specs.declared.rows.Depth.{Depth}
-use Rattle.lucid_tags.specs.contracts.rows.RowPartialEq.TheImpl.{eq-value}
-use Rattle.lucid_tags.specs.Contexts.{Context, root, frozen_frame, frames, base_of, IsOuter, context_at}
-use Rattle.lucid_tags.specs.Rows.{with_frame, row_context, CallerBelow, contexts_after, contexts, IsDepth, IsRow, AreDepths, AreDistinct, AreRows}
+use Rattle.lucid_tags.proofs.Common.{◌≡◌, ◌≢◌, ℕ, zero, suc, ◌-◌, ◌<◌, ◌≤◌, ◌^◌, ◌⊎◌, inl, inr, List, length, Option, None, true, false, not, refl, ap, sym, ◌∙◌, subst, arith, slice_get, slice_get_within, list_any, Row, RowFrame, Call, Frozen, Depth, eq-value, Context, root, frozen_frame, frames, base_of, IsOuter, context_at, row_context, contexts, IsDepth, AreDistinct, AreRows, ◌+◌, IfNone, IfSome, get_or, length-append, get_or_append_left, slice_get-get_or, find, IfSome-find_same}
+use Rattle.std.proofs.Common.{[], ◌∷◌, ◌++◌, Some}
+use Rattle.lucid_tags.specs.Rows.{with_frame, CallerBelow, contexts_after, IsRow, AreDepths}
 use Rattle.lucid_tags.specs.Known.{IsUnknown}
 use Rattle.lucid_tags.proofs.ContextLemmas.{outer-itself, outer-base_of, outer-outer}
 use Rattle.lucid_tags.proofs.ListLemmas.{slice_get-push, fails-list_any, none_passes}

@@ -1,11 +1,8 @@
 -- What tags stand for: one tag for one context and space, and known tags that stay known.
-use Rattle.std.proofs.Common.{◌≡◌, suc, inl, inr, List, [], length, refl, ap, sym, subst, arith}
-use Rattle.lucid_tags.specs.Contexts.{Context, root, context_at}
+use Rattle.lucid_tags.proofs.Common.{◌≡◌, suc, inl, inr, List, length, refl, ap, sym, subst, arith, Context, root, context_at, Row, Depth, contexts, AreDistinct, AreRows}
+use Rattle.std.proofs.Common.{[]}
 use Rattle.lucid_tags.specs.Known.{number_of, space_of, context_of, IsOneForOne, KeepsKnown, AddsAtMost}
 use Rattle.lucid_tags.specs.EqualityDecides.{tag_from_parts}
-use Rattle.lucid_tags.specs.declared.rows.Row.{Row}
-use Rattle.lucid_tags.specs.declared.rows.Depth.{Depth}
-use Rattle.lucid_tags.specs.Rows.{contexts, AreDistinct, AreRows}
 use Rattle.lucid_tags.proofs.RowLemmas.{context_at-left, context_at-first, length-push, length-contexts, length-depths, AreRows-nil}
 
 pub one_for_one : (known : List Context) → AreDistinct known → IsOneForOne known

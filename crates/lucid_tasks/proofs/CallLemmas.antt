@@ -1,10 +1,5 @@
 -- What a call makes of the list of ready rows.
-use Rattle.std.proofs.Common.{◌≡◌, ◌≢◌, ℕ, Bool, true, false, cond, ◌==◌, List, [], ◌∷◌, ◌++◌, Option, Some, refl, sym, ap, subst, ◌∙◌, arith, true≢false}
-use Rattle.lucid_tasks.specs.declared.Part.{Part}
-use Rattle.lucid_tasks.specs.declared.Task.{Task}
-use Rattle.lucid_tags.specs.declared.Key.{Key}
-use Rattle.lucid_tasks.specs.Slots.{is_listed, RiseFrom}
-use Rattle.lucid_tasks.specs.Rows.{TaskRow, row_at, is_ready, fresh, AreTasks, IsRow, IsPast, SetsOnly}
+use Rattle.lucid_tasks.proofs.Common.{◌≡◌, ◌≢◌, ℕ, Bool, true, false, cond, ◌==◌, List, [], ◌∷◌, ◌++◌, Option, Some, refl, sym, ap, subst, ◌∙◌, arith, true≢false, Part, Task, Key, is_listed, RiseFrom, TaskRow, row_at, is_ready, fresh, AreTasks, IsRow, IsPast, SetsOnly}
 use Rattle.lucid_tasks.proofs.Cases.{chosen, chosen_other}
 use Rattle.lucid_tasks.proofs.SlotLemmas.{listed_push, rise_push}
 use Rattle.lucid_tasks.proofs.ForestLemmas.{ready_is_row}

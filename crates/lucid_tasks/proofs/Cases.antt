@@ -1,9 +1,5 @@
 -- Equal or not: numbers and parts.
-use Rattle.std.proofs.Common.{◌≡◌, ℕ, true, false, cond, ◌==◌, Some, None, ◌⊎◌, inl, inr, refl, ap, sym, ◌∙◌, arith}
-use Rattle.std.proofs.lemmas.Bool.Decides.{nat_tests}
-use Rattle.std.proofs.lemmas.Bool.{eqb-true, cases_eq}
-use Rattle.lucid_lemmas.proofs.Numbers.{number_itself}
-use Rattle.lucid_tasks.specs.declared.Part.{Part}
+use Rattle.lucid_tasks.proofs.Common.{◌≡◌, ℕ, true, false, cond, ◌==◌, Some, None, ◌⊎◌, inl, inr, refl, ap, sym, ◌∙◌, arith, nat_tests, eqb-true, cases_eq, number_itself, Part}
 
 pub numbers_differ : (a b : ℕ) → (a == b) ≡ false → a ≡ b → ⊥
 numbers_differ a b h e = grind (arith, nat_tests)

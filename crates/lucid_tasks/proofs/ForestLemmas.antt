@@ -1,15 +1,8 @@
 -- What stays a forest.
-use Rattle.std.proofs.Common.{◌≡◌, ℕ, zero, suc, ◌<◌, ◌≤◌, ◌+◌, true, false, List, length, Option, Some, None, IsSome, IfSome, ◌⊎◌, inl, inr, refl, ap, sym, subst, ◌∙◌, arith, true≢false}
-use Rattle.std.specs.Prelude.{option_and_then, option_map}
-use Rattle.std.proofs.lemmas.Option.{none-some}
-use Rattle.std.proofs.lemmas.Bool.{cases_eq}
-use Rattle.lucid_tasks.specs.declared.Part.{Part}
-use Rattle.lucid_tasks.specs.Rows.{TaskRow, row_at, parent_of, child_of, asked_slot, state_at, is_ready, IsRow, IsReady, IsForest}
+use Rattle.lucid_tasks.proofs.Common.{◌≡◌, ℕ, zero, suc, ◌<◌, ◌≤◌, ◌+◌, true, false, List, length, Option, Some, None, IsSome, ◌⊎◌, inl, inr, refl, ap, sym, subst, ◌∙◌, arith, true≢false, option_and_then, option_map, none-some, cases_eq, Part, TaskRow, row_at, parent_of, child_of, asked_slot, state_at, is_ready, IsRow}
+use Rattle.lucid_tasks.specs.Rows.{IsReady, IsForest}
 use Rattle.lucid_tasks.proofs.Cases.{part_cases, some_is}
 use Rattle.lucid_tasks.proofs.RowLemmas.{row_below, free_part, some_asked}
-
-pub parent_from_row : (rows : List (Option TaskRow)) (q : ℕ) (o : Option TaskRow) → row_at rows q ≡ o → parent_of rows q ≡ option_and_then (λ (row : TaskRow). row.parent) o
-parent_from_row rows q o e = ap (option_and_then (λ (row : TaskRow). row.parent)) e
 
 -- the slot of the task that was asked for a part of a row, if there is a row
 abbrev pub child_in : ℕ → Option TaskRow → Option ℕ
@@ -100,11 +93,6 @@ ready_is_free rows part h = by_row (row_at rows part.slot) h
     by_row : (o : Option TaskRow) → is_ready o ≡ true → child_in part.index o ≡ None
     by_row None h = refl
     by_row (Some row) h = free_part row.parts part.index h
-
-pub free_where_ready : (rows : List (Option TaskRow)) (o : Option ℕ) → IfSome o (λ slot. is_ready (row_at rows slot) ≡ true)
-    → IfSome o (λ slot. (index : ℕ) → child_of rows (record { slot = slot; index = index }) ≡ None)
-free_where_ready rows None h = h
-free_where_ready rows (Some slot) h = λ index. ready_is_free rows (record { slot = slot; index = index }) h
 
 pub ready_is_row : (o : Option TaskRow) → is_ready o ≡ true → IsSome o
 ready_is_row None h = absurd (true≢false (sym h))

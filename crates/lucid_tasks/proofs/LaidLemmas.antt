@@ -1,20 +1,9 @@
 -- Rows as they lie in memory, after a change of one of them.
-use Rattle.std.proofs.Common.{◌≡◌, ◌≢◌, ℕ, zero, suc, ◌+◌, ◌-◌, ◌*◌, ◌^◌, ◌<◌, ◌≤◌, ◌==◌, ◌&&◌, true, false, cond, List, [], ◌∷◌, ◌++◌, length, get_or, set, Option, Some, None, IsSome, IfSome, ◌⊎◌, inl, inr, refl, sym, ap, subst, ◌∙◌, arith, true≢false}
-use Rattle.std.specs.Prelude.{slice_get, option_map, option_and_then}
-use Rattle.std.specs.List.{list_all}
-use Rattle.std.specs.Option.{option_to_list}
-use Rattle.std.proofs.lemmas.Option.{none-some, slice_get_within}
-use Rattle.std.proofs.lemmas.Bool.{cases_eq}
-use Rattle.lucid_lemmas.proofs.Numbers.{above_differs}
+use Rattle.lucid_tasks.proofs.Common.{◌≡◌, ◌≢◌, ℕ, zero, suc, ◌+◌, ◌-◌, ◌*◌, ◌^◌, ◌<◌, ◌≤◌, ◌==◌, ◌&&◌, true, false, cond, List, [], ◌∷◌, ◌++◌, length, get_or, set, Option, Some, None, IsSome, IfSome, ◌⊎◌, inl, inr, refl, sym, ap, subst, ◌∙◌, arith, true≢false, option_map, option_and_then, list_all, none-some, cases_eq, above_differs, Value, Part, Task, Key, Row, value_at, SetsOne, PartState, Idle, Asked, Got, TaskRow, row_at, state_at, got_of, got_value, emptied, taken, fresh, with_part, all_idle, is_free, is_ready, IsRow, SetsOnly, ChangesOnly, Values, part_number, laid_from, Trims, slice_get_within}
+use Rattle.std.specs.Prelude.{slice_get}
 use Rattle.lucid_lemmas.proofs.Lists.{slice_get-push_same}
-use Rattle.lucid_value.specs.declared.Value.{Value}
-use Rattle.lucid_tasks.specs.declared.Part.{Part}
-use Rattle.lucid_tasks.specs.declared.Task.{Task}
-use Rattle.lucid_tags.specs.declared.Key.{Key}
-use Rattle.lucid_tasks.specs.declared.rows.Row.{Row}
-use Rattle.lucid_tasks.specs.Numbered.{value_at, SetsOne}
-use Rattle.lucid_tasks.specs.Rows.{PartState, Idle, Asked, Got, TaskRow, row_at, state_at, got_of, got_value, emptied, taken, fresh, with_part, all_idle, start, is_free, is_ready, IsRow, SetsOnly, ChangesOnly}
-use Rattle.lucid_tasks.specs.Laid.{Values, part_number, named, state, laid_state, three_of, laid_parent, laid_key, laid, laid_row, laid_from, HasIdle, AreLaid, live_at, Shows, Trims}
+use Rattle.lucid_tasks.specs.Rows.{start}
+use Rattle.lucid_tasks.specs.Laid.{named, state, laid_state, three_of, laid_parent, laid_key, laid, laid_row, HasIdle, AreLaid, live_at, Shows}
 use Rattle.lucid_tasks.proofs.Cases.{chosen, chosen_same, chosen_other, some_is}
 
 -- ---- lists of three
@@ -479,14 +468,6 @@ roomier rows values after l same more = record {
 
 -- ---- ended rows that are dropped
 
-append_none : (rows : List Row) → rows ++ [] ≡ rows
-append_none [] = refl
-append_none (r ∷ rows) = ap (λ xs. r ∷ xs) (append_none rows)
-
-last_of_push : (rows : List Row) (row : Row) → slice_get (rows ++ row ∷ []) (length (rows ++ row ∷ []) - 1) ≡ Some row
-last_of_push rows row = let len = push_length rows row in
-    let last : length (rows ++ row ∷ []) - 1 ≡ length rows = omega (arith, len) in ap (slice_get (rows ++ row ∷ [])) last ∙ slice_get-push_same rows row
-
 module _ (initial rest : List Row) (row : Row) (dead : row.live ≡ false) (t : Trims initial (rest ++ row ∷ [])) where
   live_left : (slot : ℕ) → live_at rest slot ≡ live_at (rest ++ row ∷ []) slot
   live_left slot = elim (cases_eq slot (length rest)) [
@@ -501,15 +482,6 @@ module _ (initial rest : List Row) (row : Row) (dead : row.live ≡ false) (t : 
     same = λ slot r e. let below = slice_get_within rest slot r e in t.same slot r (get_push_other rest row slot (λ is. omega (arith, below, is)) ∙ e);
     shorter = let less = t.shorter in let len = push_length rest row in omega (arith, less, len);
   }
-
-pub popped : (initial rows rest : List Row) (o : Option Row) (row : Row) → Trims initial rows → rows ≡ rest ++ option_to_list o → Some row ≡ slice_get rows (length rows - 1) → row.live ≡ false → Trims initial rest
-popped initial rows rest None row t is last dead = subst (Trims initial) (is ∙ append_none rest) t
-popped initial rows rest (Some r) row t is last dead =
-    let same : row ≡ r = some_is r row r (last ∙ ap (λ (xs : List Row). slice_get xs (length xs - 1)) is ∙ last_of_push rest r) in
-    dropped initial rest r (ap (λ (x : Row). x.live) (sym same) ∙ dead) (subst (Trims initial) is t)
-
-pub untrimmed : (rows : List Row) → Trims rows rows
-untrimmed rows = record { live = λ slot. refl; same = λ slot row e. e; shorter = omega arith }
 
 pub named_next : (word slot : ℕ) → word ≡ slot + 1 → named word ≡ Some slot
 named_next word slot e = let is : word ≡ suc slot = omega (arith, e) in ap named is

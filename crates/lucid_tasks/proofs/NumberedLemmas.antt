@@ -1,17 +1,9 @@
 -- What a search finds among pairs whose numbers rise, and what an edit at that place does.
-use Rattle.std.proofs.Common.{◌≡◌, ℕ, zero, suc, ◌+◌, ◌-◌, ◌<◌, ◌≤◌, ◌≢◌, ◌==◌, true, false, cond, List, [], ◌∷◌, length, get_or, slice_get, Some, None, Result, Ok, Err, IfOk, IfErr, refl, sym, ap, subst, ◌∙◌, arith}
+use Rattle.lucid_tasks.proofs.Common.{◌≡◌, ℕ, zero, suc, ◌+◌, ◌-◌, ◌<◌, ◌≤◌, ◌≢◌, ◌==◌, true, false, cond, List, [], ◌∷◌, length, get_or, Some, None, Ok, Err, refl, sym, ap, subst, ◌∙◌, arith, nat_tests, none-some, eqb-true, number_itself, below_differs, value_at, SetsOne, Result, IfOk, IfErr, IsSearchInRange, IsBinarySearchResult, IsNonDecreasingBy, nat_cmp, ordering_index, ranked, get_or_default, IsNonDecreasingBy-from_default, length-insert, length-remove, get_or-insert_below, get_or-insert_at, get_or-insert_above, get_or-remove_below, get_or-remove_above}
+use Rattle.std.proofs.Common.{slice_get}
 use Rattle.std.specs.List.{insert, remove}
-use Rattle.std.specs.List.Sorted.{IsSearchInRange, IsBinarySearchResult, IsNonDecreasingBy}
-use Rattle.std.specs.Ordering.{nat_cmp, ordering_index}
-use Rattle.std.proofs.lemmas.Cmp.{ranked}
-use Rattle.std.proofs.lemmas.List.{get_or_default}
-use Rattle.std.proofs.lemmas.List.Sorted.{IsNonDecreasingBy-from_default}
-use Rattle.std.proofs.lemmas.List.Edits.{length-insert, length-remove, get_or-insert_below, get_or-insert_at, get_or-insert_above, get_or-remove_below, get_or-remove_above}
-use Rattle.std.proofs.lemmas.Bool.Decides.{nat_tests}
-use Rattle.std.proofs.lemmas.Option.{none-some}
-use Rattle.std.proofs.lemmas.Bool.{eqb-true}
-use Rattle.lucid_lemmas.proofs.Numbers.{number_itself, below_differs, equality_turned}
-use Rattle.lucid_tasks.specs.Numbered.{value_at, number_at, Rises, AreBelow, IsAt, IsGapFor, SetsOne}
+use Rattle.lucid_lemmas.proofs.Numbers.{equality_turned}
+use Rattle.lucid_tasks.specs.Numbered.{number_at, Rises, AreBelow, IsAt, IsGapFor}
 use Rattle.lucid_tasks.proofs.Cases.{chosen}
 
 module _ {X : Type 0} where

@@ -1,8 +1,5 @@
 -- Rows in their slots, and how their parts stand.
-use Rattle.std.proofs.Common.{◌≡◌, ◌≢◌, ℕ, zero, suc, ◌<◌, Bool, true, false, ◌&&◌, List, [], ◌∷◌, length, get_or, set, Option, Some, None, refl, ap, sym, ◌∙◌, arith, true≢false}
-use Rattle.std.specs.List.{list_all}
-use Rattle.std.proofs.lemmas.Option.{none-some}
-use Rattle.lucid_tasks.specs.Rows.{PartState, Idle, Asked, Got, TaskRow, row_at, asked_slot, is_free, all_idle}
+use Rattle.lucid_tasks.proofs.Common.{◌≡◌, ◌≢◌, ℕ, zero, suc, ◌<◌, Bool, true, false, ◌&&◌, List, [], ◌∷◌, length, get_or, set, Option, Some, None, refl, ap, sym, ◌∙◌, arith, true≢false, list_all, none-some, PartState, Idle, Asked, Got, TaskRow, row_at, asked_slot, is_free, all_idle}
 
 pub row_below : (rows : List (Option TaskRow)) (q : ℕ) (row : TaskRow) → row_at rows q ≡ Some row → q < length rows
 row_below [] q row h = absurd (none-some row h)

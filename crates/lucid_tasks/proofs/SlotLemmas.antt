@@ -1,11 +1,6 @@
 -- Lists of slots that rise.
-use Rattle.std.proofs.Common.{◌≡◌, ℕ, zero, suc, ◌<◌, ◌≤◌, ◌-◌, Bool, true, false, cond, ◌==◌, ◌||◌, List, [], ◌∷◌, ◌++◌, length, get_or, Some, refl, ap, sym, subst, ◌∙◌, arith, true≢false}
-use Rattle.std.proofs.lemmas.Bool.Decides.{nat_tests}
+use Rattle.lucid_tasks.proofs.Common.{◌≡◌, ℕ, zero, suc, ◌<◌, ◌≤◌, ◌-◌, Bool, true, false, cond, ◌==◌, List, [], ◌∷◌, ◌++◌, length, get_or, Some, refl, ap, sym, subst, ◌∙◌, arith, true≢false, nat_tests, none-some, eqb-true, number_itself, below_differs, above_differs, is_listed, RiseFrom, ◌||◌}
 use Rattle.std.specs.Prelude.{slice_get, insert, remove}
-use Rattle.std.proofs.lemmas.Option.{none-some}
-use Rattle.std.proofs.lemmas.Bool.{eqb-true}
-use Rattle.lucid_lemmas.proofs.Numbers.{number_itself, below_differs, above_differs}
-use Rattle.lucid_tasks.specs.Slots.{is_listed, RiseFrom}
 use Rattle.lucid_tasks.proofs.EndLemmas.{end_of}
 use Rattle.lucid_tasks.proofs.Cases.{chosen, some_is}
 
@@ -168,14 +163,6 @@ place_is low (x ∷ xs) (suc i) s r h below from =
     (λ k m n. from (suc k) (omega (arith, m)) (omega (arith, n)))
 
 -- ---- what is listed
-
-listed_head : (b c : Bool) → b ≡ true → b || c ≡ true
-listed_head b c h = ap (λ t. t || c) h
-
-pub listed_at : (xs : List ℕ) (k d : ℕ) → k < length xs → is_listed xs (get_or xs k d) ≡ true
-listed_at [] k d h = absurd (omega (arith, h))
-listed_at (x ∷ xs) zero d h = listed_head (x == x) (is_listed xs x) (number_itself x)
-listed_at (x ∷ xs) (suc k) d h = or_second (x == get_or xs k d) (is_listed xs (get_or xs k d)) (listed_at xs k d (omega (arith, h)))
 
 pub some_listed : (xs : List ℕ) (q : ℕ) → is_listed xs q ≡ true → 0 < length xs
 some_listed [] q h = absurd (true≢false (sym h))

@@ -1,17 +1,7 @@
 -- Which bytes words and lines don't have: no word of letters and digits has a blank (32), and no line of words without line ends (10) has one.
 -- Where bytes are cut at a byte.
-use Rattle.std.proofs.Common.{◌≡◌, ℕ, ◌<◌, ◌≤◌, ◌^◌, Bool, true, false, ◌&&◌, List, [], ◌∷◌, ◌++◌, map, refl, sym, ap, ◌∙◌, arith}
-use Rattle.std.specs.Prelude.{decimal}
-use Rattle.std.specs.Char.{is_ascii_alphanumeric}
-use Rattle.std.specs.Int.{IsInRange}
-use Rattle.std.specs.List.{AllByRecursion, list_all, join_with_byte}
-use Rattle.std.specs.Str.Parse.{AllDigits}
-use Rattle.std.proofs.lemmas.Bool.{and_parts, ne_eqb, eqb-false, le-leb}
-use Rattle.std.proofs.lemmas.Fmt.{decimal_is_IsNumeral}
-use Rattle.std.proofs.lemmas.List.Elements.{All-from_recursion}
-use Rattle.std.proofs.lemmas.Str.Parse.{digit_from_value}
-use Rattle.lucid_texts.specs.Words.{HasNone, AreBelow}
-use Rattle.lucid_texts.specs.TextLines.{Lacks}
+use Rattle.lucid_texts.proofs.Common.{◌≡◌, ℕ, ◌<◌, ◌≤◌, ◌^◌, Bool, true, false, ◌&&◌, List, [], ◌∷◌, ◌++◌, refl, sym, ap, ◌∙◌, arith, decimal, is_ascii_alphanumeric, AllByRecursion, list_all, join_with_byte, and_parts, ne_eqb, decimal_is_IsNumeral, HasNone, Lacks, map, IsInRange, AllDigits, eqb-false, le-leb, All-from_recursion, digit_from_value}
+use Rattle.lucid_texts.specs.Words.{AreBelow}
 
 pub has_none : (c : ℕ) (bs : List ℕ) → Lacks c bs → HasNone c bs
 has_none c bs h = All-from_recursion _ bs h

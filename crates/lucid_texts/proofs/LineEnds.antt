@@ -1,9 +1,6 @@
 -- The whole lines of bytes.
-use Rattle.std.proofs.Common.{◌≡◌, ℕ, ◌+◌, suc, zero, Bool, true, false, cond, List, [], ◌∷◌, ◌++◌, take, drop, length, refl, sym, ap, ◌∙◌, arith, append_assoc}
-use Rattle.std.specs.Prelude.{◌==◌}
-use Rattle.std.specs.List.{AllByRecursion, slice_split, onto_first}
-use Rattle.std.proofs.lemmas.List.Splits.{slice_split_none, slice_split_at}
-use Rattle.lucid_texts.specs.TextLines.{Lacks, ended, text_of, all_but_last, whole_lines}
+use Rattle.lucid_texts.proofs.Common.{◌≡◌, ℕ, ◌+◌, suc, Bool, true, false, cond, List, [], ◌∷◌, ◌++◌, take, drop, length, refl, sym, ap, ◌∙◌, arith, append_assoc, ◌==◌, AllByRecursion, onto_first, slice_split_none, slice_split_at, Lacks, ended, text_of, whole_lines, zero, slice_split}
+use Rattle.lucid_texts.specs.TextLines.{all_but_last}
 use Rattle.lucid_texts.proofs.Bytes.{has_none}
 
 -- the parts of bytes at their line ends: there is one at least

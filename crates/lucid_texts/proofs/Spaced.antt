@@ -1,10 +1,5 @@
 -- Lemmas on a line as it is put together.
-use Rattle.std.proofs.Common.{◌≡◌, ℕ, List, [], ◌∷◌, ◌++◌, Result, Ok, Err, refl, sym, ap, ◌∙◌, append_assoc, cond}
-use Rattle.std.proofs.lemmas.List.{append-nil}
-use Rattle.std.specs.Prelude.{OnOk, is_ok}
-use Rattle.std.specs.List.{join_with_byte}
-use Rattle.std.specs.declared.alloc.AllocError.{AllocError}
-use Rattle.lucid_texts.specs.TextLines.{ended}
+use Rattle.lucid_texts.proofs.Common.{◌≡◌, ℕ, List, [], ◌∷◌, ◌++◌, Err, refl, sym, ap, ◌∙◌, append_assoc, cond, append-nil, join_with_byte, ended, Result, Ok, OnOk, is_ok, AllocError}
 use Rattle.lucid_texts.specs.Words.{spaced}
 
 -- words joined by blanks are the first one and the others, each behind a blank

@@ -1,11 +1,6 @@
 -- Bytes that begin with lines of a text, and what goes on with them.
-use Rattle.std.proofs.Common.{◌≡◌, ℕ, ◌<◌, ◌≤◌, ◌+◌, List, [], ◌∷◌, ◌++◌, take, drop, length, ◌⊎◌, inl, inr, refl, sym, ap, ◌∙◌, subst, arith, append_assoc, length-append}
-use Rattle.std.specs.List.{AllByRecursion}
-use Rattle.std.proofs.lemmas.Bool.{cases_order}
-use Rattle.std.proofs.lemmas.List.{append-nil, take-take, take-append-drop}
-use Rattle.std.proofs.lemmas.List.Elements.{recursion_from_All}
-use Rattle.lucid_texts.specs.Words.{HasNone}
-use Rattle.lucid_texts.specs.TextLines.{Lacks, IsLine, text_of, whole_lines, CanGoOn, CannotGoOn, GoesOn, IsFirstWrongLine}
+use Rattle.lucid_texts.proofs.Common.{◌≡◌, ℕ, ◌<◌, ◌≤◌, ◌+◌, List, [], ◌∷◌, ◌++◌, take, drop, length, refl, sym, ap, ◌∙◌, subst, arith, append_assoc, length-append, AllByRecursion, append-nil, HasNone, Lacks, text_of, whole_lines, CanGoOn, CannotGoOn, IsFirstWrongLine, ◌⊎◌, inl, inr, cases_order, take-take, take-append-drop, recursion_from_All}
+use Rattle.lucid_texts.specs.TextLines.{IsLine, GoesOn}
 use Rattle.lucid_texts.proofs.LineEnds.{whole_more, whole_none, whole-append, split_at, take_front, take_one_more, none_behind, ended-append}
 
 -- lines without line ends

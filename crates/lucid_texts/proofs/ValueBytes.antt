@@ -1,14 +1,9 @@
 -- No name has a blank (32) or a line end (10), and no value's text a line end.
-use Rattle.std.proofs.Common.{◌≡◌, ℕ, ◌≤◌, ◌^◌, suc, true, false, ◌&&◌, List, [], ◌∷◌, refl, sym, ap, ◌∙◌, arith, pos, negsuc}
-use Rattle.std.specs.Prelude.{decimal, codes, IsTrue, not}
-use Rattle.std.specs.Char.{is_ascii_alphabetic, is_ascii_alphanumeric}
-use Rattle.std.specs.List.{list_all}
-use Rattle.std.proofs.lemmas.Bool.{and_parts, ne_eqb, ltb-true}
-use Rattle.std.proofs.lemmas.Fmt.{decimal_is_IsNumeral_wide}
-use Rattle.lucid_value.specs.Plain.{PlainValue, int, truth, word, text, list, eod, fault, Items, no_items, item, is_value, well_formed, all_well_formed, in_range, all_in_range, within_limits, may_be_held, is_wordlike, spells_constant, is_text_byte}
+use Rattle.lucid_texts.proofs.Common.{◌≡◌, ℕ, ◌≤◌, ◌^◌, suc, true, false, ◌&&◌, List, [], ◌∷◌, refl, sym, ap, ◌∙◌, arith, decimal, IsTrue, is_ascii_alphanumeric, list_all, and_parts, ne_eqb, ltb-true, PlainValue, is_value, value_text, Lacks, pos, negsuc, codes, is_ascii_alphabetic, decimal_is_IsNumeral_wide}
+use Rattle.std.specs.Prelude.{not}
+use Rattle.lucid_value.specs.Plain.{int, truth, word, text, list, eod, fault, Items, no_items, item, well_formed, all_well_formed, in_range, all_in_range, within_limits, may_be_held, is_wordlike, spells_constant, is_text_byte}
 use Rattle.lucid_value.specs.Names.{is_name, is_namelike, is_name_byte, is_reserved}
-use Rattle.lucid_value.specs.ValueText.{value_text, items_text}
-use Rattle.lucid_texts.specs.TextLines.{Lacks}
+use Rattle.lucid_value.specs.ValueText.{items_text}
 use Rattle.lucid_texts.proofs.Bytes.{lacks-append, lacks_by, digits_lack}
 
 -- a name has neither a blank nor a line end

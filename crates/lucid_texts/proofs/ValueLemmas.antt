@@ -1,10 +1,6 @@
 -- Lemmas on the text of a value.
-use Rattle.std.proofs.Common.{◌≡◌, ℕ, List, [], refl, sym, ap, ◌∙◌}
-use Rattle.std.specs.Prelude.{IsTrue}
-use Rattle.std.proofs.lemmas.List.{append-nil}
-use Rattle.lucid_value.specs.Plain.{PlainValue, is_value}
+use Rattle.lucid_texts.proofs.Common.{◌≡◌, ℕ, List, [], refl, sym, ap, ◌∙◌, IsTrue, append-nil, PlainValue, is_value, value_text}
 use Rattle.lucid_value.specs.Reading.{ReadsLine, ReadsAsNone}
-use Rattle.lucid_value.specs.ValueText.{value_text}
 use Rattle.lucid_value.specs.Laws.{TextIsRead, OneLineReading}
 use Rattle.lucid_texts.specs.Laws.{OneValue}
 

@@ -1,17 +1,6 @@
 -- Lemmas on the words of bytes and the numbers that words are.
-use Rattle.std.proofs.Common.{◌≡◌, ℕ, ◌<◌, ◌≤◌, ◌^◌, Bool, true, false, ◌&&◌, cond, List, [], ◌∷◌, ◌++◌, Option, Some, None, is_none, refl, sym, ap, ◌∙◌, subst, arith}
-use Rattle.std.specs.Prelude.{decimal}
-use Rattle.std.specs.List.{AllByRecursion, onto_first, join_with_byte}
-use Rattle.std.specs.Str.{IsUtf8, bytes_eq}
-use Rattle.std.specs.Str.Parse.{digits_value}
-use Rattle.std.proofs.lemmas.Bool.{and_parts, ltb-true, lt-ltb}
-use Rattle.std.proofs.lemmas.Fmt.{decimal_is_IsNumeral, IsAscii-decimal}
-use Rattle.std.proofs.lemmas.List.Splits.{slice_split_none, slice_split_at}
-use Rattle.std.proofs.lemmas.Slice.Eq.{bytes_eq-Decides}
-use Rattle.std.proofs.lemmas.Str.{IsUtf8-from_ascii}
-use Rattle.std.specs.Option.{option_and_then}
-use Rattle.lucid_texts.specs.Words.{HasNone, words_of, words_left, number_of, take_number, is_end}
-use Rattle.lucid_texts.specs.TextLines.{Lacks}
+use Rattle.lucid_texts.proofs.Common.{◌≡◌, ℕ, ◌<◌, ◌≤◌, ◌^◌, Bool, true, false, ◌&&◌, cond, List, [], ◌∷◌, ◌++◌, Option, Some, None, refl, sym, ap, ◌∙◌, subst, arith, decimal, AllByRecursion, onto_first, join_with_byte, and_parts, ltb-true, decimal_is_IsNumeral, slice_split_none, slice_split_at, bytes_eq-Decides, HasNone, number_of, is_end, Lacks, IsUtf8, bytes_eq, digits_value, lt-ltb, IsAscii-decimal, IsUtf8-from_ascii, option_and_then}
+use Rattle.lucid_texts.specs.Words.{words_of, take_number}
 use Rattle.lucid_texts.proofs.Bytes.{has_none, IsSolid, all_solid_lack}
 
 is_end-onto_first : (b : ℕ) (ps : List (List ℕ)) → is_end (onto_first b ps) ≡ false
@@ -26,11 +15,6 @@ is_end-cond false b ps = is_end-onto_first b ps
 pub is_end-words_of : (bs : List ℕ) → is_end (words_of bs) ≡ false
 is_end-words_of [] = refl
 is_end-words_of (b ∷ bs) = is_end-cond _ b (words_of bs)
-
--- no word is left exactly where no bytes are
-pub is_end-words_left : (r : Option (List ℕ)) → is_end (words_left r) ≡ is_none r
-is_end-words_left None = refl
-is_end-words_left (Some bs) = is_end-words_of bs
 
 -- bytes without a blank are one word
 pub words_of_one : (bs : List ℕ) → HasNone 32 bs → words_of bs ≡ bs ∷ []

@@ -1,12 +1,8 @@
 -- Streams of which nothing is read, over places of which nothing is read.
-use Rattle.std.proofs.Common.{◌≡◌, ℕ, ◌<◌, List, [], ◌∷◌, map, Option, Some, None, refl, sym, ap, subst, ◌∙◌}
-use Rattle.std.specs.Prelude.{slice_get, option_map}
-use Rattle.std.proofs.lemmas.Option.{slice_get-map}
-use Rattle.lucid_ports.specs.World.{World}
+use Rattle.lucid_top.proofs.Common.{◌≡◌, ℕ, ◌<◌, List, [], ◌∷◌, map, Option, Some, None, refl, sym, ap, subst, ◌∙◌, slice_get, option_map, slice_get-map, World, AreUnread}
 use Rattle.lucid_inputs.specs.Streams.{Stream, FitsPlace, fresh_stream}
 use Rattle.lucid_inputs.specs.Laws.{FreshFits}
 use Rattle.lucid_facts.specs.Engine.{AreAskable, places_of}
-use Rattle.lucid_top.specs.Places.{AreUnread}
 
 -- the numbers of the places of fresh streams
 places_fresh : (numbers : List ℕ) → places_of (map fresh_stream numbers) ≡ numbers

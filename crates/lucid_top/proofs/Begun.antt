@@ -1,22 +1,11 @@
 -- A run that never began, and one that ended for want of memory in place of another fault: what is promised of runs holds of them.
-use Rattle.std.proofs.Common.{◌≡◌, ℕ, ◌≤◌, ◌<◌, List, [], length, Option, Some, Result, Err, inl, inr, refl, ap, sym, subst, ◌∙◌, arith}
-use Rattle.std.specs.Prelude.{IsSomeAnd}
-use Rattle.std.proofs.Math.Nat.{le_refl}
-use Rattle.lucid_ports.specs.World.{Contents}
-use Rattle.lucid_ports.specs.Faults.{Rises}
-use Rattle.lucid_ports.specs.declared.run.Summary.{Summary}
-use Rattle.lucid_ports.specs.declared.run.RunFault.{RunFault}
+use Rattle.lucid_top.proofs.Common.{◌≡◌, ℕ, ◌≤◌, ◌<◌, List, [], length, Option, Some, Err, inl, inr, refl, ap, sym, subst, ◌∙◌, arith, IsSomeAnd, le_refl, Contents, Rises, Summary, RunFault, Elements, Subject, RunView, HasElements, Ran, Figures, Stop, Outcome, Program, program_subject, program_counted, run_result, RanSo}
+use Rattle.std.proofs.Common.{Result}
 use Rattle.lucid_ports.specs.declared.run.RunFault.TheVariants as fault
-use Rattle.lucid_tree.specs.Levels.{Elements}
 use Rattle.lucid_ports.proofs.WritingLemmas.{with_nothing}
-use Rattle.lucid_session.specs.Subject.{Subject, no_lines}
-use Rattle.lucid_session.specs.Runs.{RunView, IsInput, HasElements, Ran}
-use Rattle.lucid_session.specs.Figures.{Figures}
-use Rattle.lucid_top.specs.declared.stop.Stop.{Stop}
+use Rattle.lucid_session.specs.Subject.{no_lines}
+use Rattle.lucid_session.specs.Runs.{IsInput}
 use Rattle.lucid_top.specs.declared.stop.Stop.TheVariants as stop
-use Rattle.lucid_top.specs.Status.{Outcome}
-use Rattle.lucid_top.specs.Programs.{Program, program_subject, program_counted}
-use Rattle.lucid_top.specs.Runs.{run_result, RanSo}
 
 -- what is promised of the result of a run
 abbrev pub RanWith : Program → RunView → Result Summary RunFault → Type 0

@@ -1,21 +1,9 @@
 -- A tree with columns of it as the subject: what is known once its names were looked at, and why it is refused.
-use Rattle.std.proofs.Common.{◌≡◌, ℕ, List, None, Result, Ok, Err, inl, inr, sym, subst, ◌∙◌}
-use Rattle.std.specs.Prelude.{IfOk}
-use Rattle.std.proofs.Math.Logic.{∥∥₁_map}
-use Rattle.std.proofs.lemmas.List.Elements.{All-contains}
-use Rattle.lucid_tree.specs.Tree.{PlainTree}
-use Rattle.lucid_tree.specs.WellMade.{IsWellMade}
-use Rattle.lucid_scan.specs.Refusals.{most_source_bytes}
-use Rattle.lucid_scope.specs.Bindings.{fault_of, all_sites, HasNoFault}
-use Rattle.lucid_scope.specs.Scoped.{scoped_tree, scoped_inputs}
-use Rattle.lucid_scope.specs.declared.scoped.Scoped.{Scoped}
-use Rattle.lucid_columns.specs.Columns.{AreColumns}
-use Rattle.lucid_top.specs.declared.refusal.Refusal.{Refusal}
-use Rattle.lucid_top.specs.declared.stop.Stop.{Stop}
+use Rattle.lucid_top.proofs.Common.{◌≡◌, ℕ, List, None, Ok, Err, inl, inr, sym, subst, ◌∙◌, IfOk, ∥∥₁_map, All-contains, PlainTree, IsWellMade, most_source_bytes, all_sites, HasNoFault, scoped_tree, scoped_inputs, Scoped, AreColumns, Refusal, Stop, IsRefusalOf, beside, RefusesNames, RefusesBeside, StandsBeside, HasInputs}
+use Rattle.std.proofs.Common.{Result}
+use Rattle.lucid_scope.specs.Bindings.{fault_of}
 use Rattle.lucid_top.specs.declared.stop.Stop.TheVariants as stop
-use Rattle.lucid_top.specs.Refusals.{IsRefusalOf}
-use Rattle.lucid_top.specs.Programs.{beside}
-use Rattle.lucid_top.specs.Judged.{RefusesNames, RefusesColumns, RefusesBeside, StandsBeside, AreResolved, HasInputs}
+use Rattle.lucid_top.specs.Judged.{RefusesColumns, AreResolved}
 use Rattle.lucid_top.proofs.FewInputs.{few_inputs}
 
 -- the free names of a tree that was resolved

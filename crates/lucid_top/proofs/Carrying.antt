@@ -1,33 +1,17 @@
 -- A run of a table that keeps a tree is a run of the tree; and a run is as good that is seen with the same parts.
-use Rattle.std.proofs.Common.{◌≡◌, ℕ, suc, ◌+◌, Bool, true, false, cond, nat_eq, List, [], ◌∷◌, map, length, arith, ◌∙◌, Option, Some, None, Result, Err, refl, sym, ap, subst}
-use Rattle.std.specs.Prelude.{IsSomeAnd, slice_get}
-use Rattle.std.specs.List.{range_with_len}
-use Rattle.std.proofs.lemmas.Option.{slice_get_within}
-use Rattle.lucid_ports.specs.World.{World}
-use Rattle.lucid_ports.specs.declared.run.Summary.{Summary}
-use Rattle.lucid_ports.specs.declared.run.RunFault.{RunFault}
+use Rattle.lucid_top.proofs.Common.{◌≡◌, ℕ, suc, ◌+◌, Bool, true, false, List, [], ◌∷◌, map, length, arith, ◌∙◌, Option, Some, None, Err, refl, sym, ap, subst, IsSomeAnd, slice_get, range_with_len, slice_get_within, World, Summary, RunFault, PlainTree, Elements, equations_of, Table, KeepsTree, most_source_bytes, AreColumns, PlainWords, stream_subject, tree_stream, RunView, Told, HasElements, Ran, Figures, Stop, Outcome, task_of, Program, of_tree, of_columns, of_table, beside, program_subject, program_counted, viewed, most_input_bytes, table_program, run_result, RanSo, IsRunStop}
+use Rattle.std.proofs.Common.{cond, nat_eq, Result}
 use Rattle.lucid_ports.specs.declared.run.RunFault.TheVariants as fault
-use Rattle.lucid_tree.specs.Tree.{PlainTree}
-use Rattle.lucid_tree.specs.Levels.{Elements}
-use Rattle.lucid_equations.specs.Rows.{equations_of}
-use Rattle.lucid_equations.specs.declared.table.Table.{Table}
-use Rattle.lucid_compile.specs.Promise.{KeepsTree}
-use Rattle.lucid_scan.specs.Refusals.{most_source_bytes}
-use Rattle.lucid_columns.specs.Columns.{column, AreColumns}
+use Rattle.lucid_columns.specs.Columns.{column}
 use Rattle.lucid_columns.specs.Laws.{IsSpace, ColumnsAreSpaces}
-use Rattle.lucid_words.specs.Asked.{PlainWords}
-use Rattle.lucid_session.specs.Subject.{OneStream, stream_subject, tree_stream, table_stream, table_stream_at, columns_subject, table_columns, AreSameStream}
-use Rattle.lucid_session.specs.Runs.{RunView, PolicyView, Told, HasElements, Ran}
-use Rattle.lucid_session.specs.Figures.{Layout, one_stream, side_by_side, root_counted, table_counted, columns_counted, Figures}
+use Rattle.lucid_session.specs.Subject.{OneStream, table_stream, table_stream_at, columns_subject, table_columns, AreSameStream}
+use Rattle.lucid_session.specs.Runs.{PolicyView}
+use Rattle.lucid_session.specs.Figures.{Layout, one_stream, side_by_side, root_counted, table_counted, columns_counted}
 use Rattle.lucid_session.specs.Laws.{StandsFor, SameStreamsRunAlike, FiguresCarry}
-use Rattle.lucid_top.specs.declared.stop.Stop.{Stop}
 use Rattle.lucid_top.specs.declared.stop.Stop.TheVariants as stop
 use Rattle.lucid_top.specs.declared.task.Task.TheVariants as task
-use Rattle.lucid_top.specs.Status.{Outcome}
-use Rattle.lucid_top.specs.Tasks.{task_of}
-use Rattle.lucid_top.specs.Programs.{Program, of_tree, of_columns, of_table, of_spaces, beside, column_streams, tree_counted, program_subject, program_counted}
-use Rattle.lucid_top.specs.Runs.{viewed, most_input_bytes, policy_named, table_program, run_result, RanSo}
-use Rattle.lucid_top.specs.Running.{IsRunStop}
+use Rattle.lucid_top.specs.Programs.{of_spaces, column_streams, tree_counted}
+use Rattle.lucid_top.specs.Runs.{policy_named}
 use Rattle.lucid_top.proofs.FewColumns.{no_columns, some_columns}
 use Rattle.lucid_top.proofs.Begun.{RanWith, ran_with, want_of_memory}
 

@@ -1,14 +1,9 @@
 -- Counts of faults: an answer is handed on, or another comes after it.
-use Rattle.std.proofs.Common.{◌≡◌, ℕ, Bool, List, Ok, Err, inl, inr, ap, subst, ◌∙◌}
-use Rattle.std.specs.Prelude.{Result, IsErrOf}
-use Rattle.lucid_ports.specs.Faults.{CountsNoFaultUnless}
-use Rattle.lucid_ports.specs.declared.run.Summary.{Summary}
-use Rattle.lucid_ports.specs.declared.run.RunFault.{RunFault}
+use Rattle.lucid_top.proofs.Common.{◌≡◌, ℕ, Bool, List, Ok, Err, inl, inr, ap, subst, ◌∙◌, IsErrOf, CountsNoFaultUnless, Summary, RunFault, Stop, IsRunStop}
+use Rattle.std.specs.Prelude.{Result}
 use Rattle.lucid_ports.specs.declared.run.RunFault.TheVariants as fault
 use Rattle.lucid_top.specs.declared.stop.Done.{Done}
-use Rattle.lucid_top.specs.declared.stop.Stop.{Stop}
 use Rattle.lucid_top.specs.declared.stop.Stop.TheVariants as stop
-use Rattle.lucid_top.specs.Running.{IsRunStop}
 
 err_once : {T E : Type 0} {x y : E} → ◌≡◌ {A = Result T E} (Err x) (Err y) → x ≡ y
 err_once e = cc

@@ -1,37 +1,24 @@
 -- The counting program: its source spells its tree, whose names are not at fault; and what it has at the first times.
-use Rattle.std.proofs.Common.{◌≡◌, ℕ, zero, suc, ◌+◌, ◌<◌, List, [], ◌∷◌, ◌++◌, length, drop, true, ◌||◌, refl, sym, ◌∙◌, ap, subst, arith}
-use Rattle.std.specs.Prelude.{slice_range, codes, pos}
-use Rattle.std.specs.Fmt.{digits}
-use Rattle.std.specs.List.Sorted.{IsNonDecreasingBy}
-use Rattle.std.proofs.Math.Seq.{drop-append_seam}
-use Rattle.lucid_value.specs.Plain.{PlainValue, int}
+use Rattle.lucid_top.proofs.Common.{◌≡◌, ℕ, zero, suc, ◌+◌, ◌<◌, List, [], ◌∷◌, ◌++◌, length, drop, true, refl, sym, ◌∙◌, ap, subst, arith, codes, digits, PlainValue, TextIsRead, Token, TextsAreLongest, name, no_defs, defines, number, counting, Elements, empty, Derives, HasNoFault, all_sites, PlacedTerminal, Spells, SpellsDefs, Terminals, Spelt, HasInputs, counting_source, ◌||◌, slice_range, pos, IsNonDecreasingBy, drop-append_seam}
+use Rattle.lucid_value.specs.Plain.{int}
 use Rattle.lucid_value.specs.Names.{reserved_words}
 use Rattle.lucid_ops.specs.declared.op.Op.TheVariants as op
-use Rattle.lucid_value.specs.Laws.{TextIsRead}
 use Rattle.lucid_scan.specs.declared.token.TokenKind.{TokenKind}
 use Rattle.lucid_scan.specs.declared.token.TokenKind.TheVariants as kind
-use Rattle.lucid_scan.specs.declared.token.Token.{Token}
 use Rattle.lucid_scan.specs.Tokens.{IsLongest, gap, past_gap, token, Tokens, tokens_end, tokens_next}
-use Rattle.lucid_scan.specs.Laws.{TextsAreLongest}
 use Rattle.lucid_tree.specs.WellMade.{depth}
-use Rattle.lucid_tree.specs.Tree.{name, no_defs, defines, fby_of}
-use Rattle.lucid_tree.specs.SamplePrograms.{number, integer, between, counting}
-use Rattle.lucid_tree.specs.Levels.{Elements}
-use Rattle.lucid_tree.specs.Env.{empty}
+use Rattle.lucid_tree.specs.Tree.{fby_of}
+use Rattle.lucid_tree.specs.SamplePrograms.{integer, between}
 use Rattle.lucid_tree.proofs.Growth.{meant-once}
-use Rattle.lucid_least.specs.Rules.{Derives}
 use Rattle.lucid_least.proofs.Rules.{derives-means}
 use Rattle.lucid_scope.specs.Sites.{site_at}
-use Rattle.lucid_scope.specs.Bindings.{HasNoFault, all_sites}
 use Rattle.lucid_forms.specs.declared.operator.Operator.TheVariants as operator
 use Rattle.lucid_forms.specs.declared.operator.StreamOp.TheVariants as stream
 use Rattle.lucid_parse.specs.declared.terminal.Terminal.TheVariants as terminal
-use Rattle.lucid_parse.specs.Grammar.{PlainTerminal, PlacedTerminal, terminal_at, Spells, spells_const, spells_name, spells_infix, spells_block, SpellsDefs, spells_none, spells_def}
-use Rattle.lucid_parse.specs.Terminals.{Terminals, terminals_none, terminals_next, StandsFor}
+use Rattle.lucid_parse.specs.Grammar.{PlainTerminal, terminal_at, spells_const, spells_name, spells_infix, spells_block, spells_none, spells_def}
+use Rattle.lucid_parse.specs.Terminals.{terminals_none, terminals_next, StandsFor}
 use Rattle.lucid_print.proofs.Terminals.{terminal_text, is_open}
 use Rattle.lucid_print.proofs.Goods.{Good, among, stoppers, where_good, end_good, equals_good, semicolon_good, name_good, operator_good, const_good}
-use Rattle.lucid_top.specs.Judged.{Spelt, HasInputs}
-use Rattle.lucid_top.specs.Witness.{counting_source}
 
 -- its terminals, in order, each with its place; and those from a number on
 abbrev pub counting_words : List PlacedTerminal

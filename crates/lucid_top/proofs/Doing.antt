@@ -1,28 +1,14 @@
 -- What a call does: it stops early, or it writes or runs behind a source that was read.
-use Rattle.std.proofs.Common.{◌≡◌, ◌≢◌, ℕ, ◌+◌, true, List, Some, Result, Ok, Err, inr, refl, sym, ap, subst, arith}
-use Rattle.std.specs.Prelude.{IsErrOf}
+use Rattle.lucid_top.proofs.Common.{◌≡◌, ◌≢◌, ℕ, ◌+◌, true, List, Some, Ok, Err, inr, refl, sym, ap, subst, arith, IsErrOf, CountsNoFaultUnless, World, most_source_bytes, PlainSource, file, made, PlainWords, plain_words, words_asked, Told, Stop, Form, Task, Outcome, Call, task_of, form_of, is_built, IsWriting, IsTextFor, ReadsSource, most_read, IsProgramStop, WritesOnly, Comes, MayBegin}
+use Rattle.std.proofs.Common.{Result}
 use Rattle.clap.proofs.BuiltLemmas.{on_ok_always}
-use Rattle.lucid_ports.specs.Faults.{CountsNoFaultUnless}
-use Rattle.lucid_ports.specs.World.{World}
-use Rattle.lucid_scan.specs.Refusals.{most_source_bytes}
-use Rattle.lucid_words.specs.Plain.{PlainSource, file, made}
 use Rattle.lucid_words.specs.declared.Words.{Words}
 use Rattle.lucid_words.specs.Numbers.{IsFromTo, MadeIsFromTo}
-use Rattle.lucid_words.specs.Asked.{PlainWords, plain_words, words_asked}
 use Rattle.lucid_ports.specs.Limits.{most_asked}
-use Rattle.lucid_session.specs.Runs.{Told}
-use Rattle.lucid_top.specs.declared.stop.Stop.{Stop}
 use Rattle.lucid_top.specs.declared.stop.Stop.TheVariants as stop
-use Rattle.lucid_top.specs.declared.task.Form.{Form}
-use Rattle.lucid_top.specs.declared.task.Task.{Task}
 use Rattle.lucid_top.specs.declared.task.Task.TheVariants as task
-use Rattle.lucid_top.specs.Status.{Outcome}
-use Rattle.lucid_top.specs.Call.{Call}
-use Rattle.lucid_top.specs.Tasks.{task_of, form_of, is_built}
-use Rattle.lucid_top.specs.Stages.{IsWriting, IsTextFor}
-use Rattle.lucid_top.specs.Places.{HasRead, ReadsSource, most_read, CountsNoRead, CountsNoWrite, IsProgramStop}
-use Rattle.lucid_top.specs.Writing.{WritesOnly}
-use Rattle.lucid_top.specs.Coming.{Comes, Does, MayBegin}
+use Rattle.lucid_top.specs.Places.{HasRead, CountsNoRead, CountsNoWrite}
+use Rattle.lucid_top.specs.Coming.{Does}
 use Rattle.lucid_top.proofs.FewColumns.{few_columns}
 use Rattle.lucid_top.proofs.Counting.{none_at_ok, handed_on, counts_then}
 use Rattle.lucid_top.proofs.Ending.{Begins, IsText, within_text, program_stops, memory_stops, writes}

@@ -1,52 +1,23 @@
 -- How a call comes to its outcome: it stops early, or it writes a text.
-use Rattle.std.proofs.Common.{◌≡◌, ◌≢◌, ℕ, ◌+◌, ◌-◌, ◌<◌, ◌≤◌, true, false, List, [], length, get_or, Option, Some, None, Result, Ok, Err, ◌⊎◌, inl, inr, refl, sym, ap, subst, ◌∙◌, arith}
-use Rattle.std.specs.Prelude.{slice_get, option_map, IfOk, OnOk}
-use Rattle.std.proofs.lemmas.Option.{slice_get-get_or}
-use Rattle.std.proofs.Math.Logic.{∥∥₁_map}
-use Rattle.std.proofs.Math.Nat.{le_refl}
-use Rattle.std.proofs.lemmas.List.{take_all}
-use Rattle.lucid_ports.specs.World.{World, Contents, unread}
-use Rattle.lucid_ports.specs.Writing.{with_all}
-use Rattle.lucid_tree.specs.Tree.{PlainTree}
-use Rattle.lucid_equations.specs.declared.table.Table.{Table}
-use Rattle.lucid_scan.specs.Refusals.{most_source_bytes}
-use Rattle.lucid_tree.specs.WellMade.{places, IsWellMade}
-use Rattle.lucid_scope.specs.Bindings.{HasNoFault, IsResolved}
+use Rattle.lucid_top.proofs.Common.{◌≡◌, ◌≢◌, ℕ, ◌+◌, ◌-◌, ◌<◌, ◌≤◌, true, false, List, [], length, get_or, Option, Some, None, Ok, Err, ◌⊎◌, inl, inr, refl, sym, ap, subst, ◌∙◌, arith, slice_get, option_map, IfOk, slice_get-get_or, ∥∥₁_map, le_refl, take_all, World, Contents, with_all, PlainTree, Table, most_source_bytes, places, IsWellMade, HasNoFault, Scoped, scoped_tree, scoped_inputs, IsJudgeRefusal, JudgeRefusal, rises_from, PlainSource, file, made, PlainWords, Told, Refusal, Stop, Form, Task, Outcome, Call, task_of, form_of, is_built, WritesWhole, WritesFront, judge_stop, IsRefusalOf, RefusesText, RefusesNames, RefusesBeside, StandsBeside, HasInputs, most_flat_bytes, RefusesFlat, RefusesGiven, FitsGiven, IsSource, Asks, HasTree, HasFlat, HasNames, HasColumns, IsWriting, IsTextFor, asks_for, inputs_in, IsAskedFor, IsRun, by_words, by_task, by_text, by_flat, by_names, by_missing, by_judging, by_given, first_place, run_places, run_of, KeepsNames, ReadsSource, most_read, SpeltBySource, FlatBySource, IsAcceptedBeside, IsSourceStop, IsProgramStop, IsColumnsStop, IsReadStop, AreFresh, WritesOnly, WritesNothing, reaches_nothing, reaches_source, reaches_inputs, Rests, IsOfMade, RunsTable, Comes, OnOk}
+use Rattle.std.proofs.Common.{Result}
+use Rattle.lucid_ports.specs.World.{unread}
+use Rattle.lucid_scope.specs.Bindings.{IsResolved}
 use Rattle.lucid_scope.specs.declared.scoped.Binding.{Binding}
-use Rattle.lucid_scope.specs.declared.scoped.Scoped.{Scoped}
-use Rattle.lucid_scope.specs.Scoped.{scoped_tree, scoped_inputs}
-use Rattle.lucid_cycles.specs.Judgments.{IsJudgeRefusal}
-use Rattle.lucid_cycles.specs.declared.judgment.JudgeRefusal.{JudgeRefusal}
 use Rattle.lucid_cycles.specs.declared.judgment.JudgeRefusal.TheVariants as judge
-use Rattle.lucid_ports.proofs.FaultLemmas.{rises_from}
-use Rattle.lucid_words.specs.Plain.{PlainSource, file, made}
-use Rattle.lucid_words.specs.Asked.{PlainWords}
-use Rattle.lucid_session.specs.Runs.{Told}
 use Rattle.lucid_words.specs.declared.WordsRefusal.{WordsRefusal}
 use Rattle.lucid_words.specs.declared.WordsRefusal.TheVariants as words
-use Rattle.lucid_top.specs.declared.refusal.Refusal.{Refusal}
 use Rattle.lucid_top.specs.declared.refusal.Refusal.TheVariants as refusal
 use Rattle.lucid_top.specs.declared.stop.Done.TheVariants as done
-use Rattle.lucid_top.specs.declared.stop.Stop.{Stop}
 use Rattle.lucid_top.specs.declared.stop.Stop.TheVariants as stop
-use Rattle.lucid_top.specs.declared.task.Form.{Form}
 use Rattle.lucid_top.specs.declared.task.Form.TheVariants as form
-use Rattle.lucid_top.specs.declared.task.Task.{Task}
 use Rattle.lucid_top.specs.declared.task.Task.TheVariants as task
-use Rattle.lucid_top.specs.Status.{Outcome}
-use Rattle.lucid_top.specs.Call.{Call}
-use Rattle.lucid_top.specs.Tasks.{task_of, form_of, is_built}
-use Rattle.lucid_top.specs.Telling.{WritesWhole, WritesFront}
-use Rattle.lucid_top.specs.Refusals.{words_stop, judge_stop, IsRefusalOf}
-use Rattle.lucid_top.specs.Judged.{RefusesText, RefusesNames, RefusesColumns, RefusesBeside, StandsBeside, HasInputs}
-use Rattle.lucid_top.specs.Flat.{most_flat_bytes, RefusesFlat}
-use Rattle.lucid_top.specs.Files.{RefusesGiven, FitsGiven}
-use Rattle.lucid_top.specs.Stages.{IsSource, Asks, HasTree, HasFlat, HasNames, HasColumns, IsWriting, IsTextFor, asks_for, inputs_in, IsAskedFor, IsRun, Refuses, by_words, by_task, by_text, by_flat, by_names, by_missing, by_judging, by_given}
-use Rattle.lucid_top.specs.Runs.{most_places, first_place, run_places, run_of}
-use Rattle.lucid_top.specs.Places.{KeepsNames, ReadsSource, most_read, SpeltBySource, FlatBySource, IsAccepted, IsAcceptedBeside, IsSourceStop, IsProgramStop, IsColumnsStop, IsReadStop, AreFresh}
-use Rattle.lucid_top.specs.Writing.{WritesSome, WritesSomeFront, WritesOnly}
-use Rattle.lucid_top.specs.Clauses.{WritesNothing}
-use Rattle.lucid_top.specs.Coming.{reaches_nothing, reaches_source, reaches_inputs, Rests, IsOfMade, RunsTable, Comes}
+use Rattle.lucid_top.specs.Refusals.{words_stop}
+use Rattle.lucid_top.specs.Judged.{RefusesColumns}
+use Rattle.lucid_top.specs.Stages.{Refuses}
+use Rattle.lucid_top.specs.Runs.{most_places}
+use Rattle.lucid_top.specs.Places.{IsAccepted}
+use Rattle.lucid_top.specs.Writing.{WritesSome, WritesSomeFront}
 
 -- the words of a call ask for what is built
 pub record Begins (c : Call) (w : PlainWords) : Type 0 where

@@ -1,16 +1,14 @@
 -- Words ask for at most sixteen columns; those that ask for a run, for none.
-use Rattle.std.proofs.Common.{◌≡◌, ℕ, ◌≤◌, Bool, true, false, nat_lt, cond, List, [], ◌∷◌, length, Option, Some, None, inl, inr, refl, ap, subst, ◌∙◌, arith}
-use Rattle.std.specs.Prelude.{option_and_then, option_map, nat_eq, is_some, not, codes}
-use Rattle.std.specs.List.{list_all, slice_split}
-use Rattle.std.proofs.lemmas.Bool.{lt-ltb, cases_lt}
+use Rattle.lucid_top.proofs.Common.{◌≡◌, ℕ, ◌≤◌, Bool, true, false, nat_lt, List, [], ◌∷◌, length, Option, Some, None, inl, inr, refl, ap, subst, ◌∙◌, arith, option_and_then, option_map, codes, lt-ltb, cases_lt, PlainWords, words_asked, task_of, is_some, not, list_all, slice_split}
+use Rattle.std.proofs.Common.{cond}
+use Rattle.std.specs.Prelude.{nat_eq}
 use Rattle.clap.specs.Words.{Kinds, Row, Text, fault_of, first_of, matches_of}
 use Rattle.lucid_value.specs.Names.{is_name}
 use Rattle.lucid_words.specs.Command.{lucid_command}
 use Rattle.lucid_words.specs.Forms.{is_comma, names_for, columns_for}
 use Rattle.lucid_words.specs.Rows.{has_conflict}
-use Rattle.lucid_words.specs.Asked.{PlainWords, source_in, policy_in, given_in, columns_in, check_in, words_in, where_taken, words_asked}
+use Rattle.lucid_words.specs.Asked.{source_in, policy_in, given_in, columns_in, check_in, words_in, where_taken}
 use Rattle.lucid_top.specs.declared.task.Task.TheVariants as task
-use Rattle.lucid_top.specs.Tasks.{task_of}
 
 module _ {A B : Type 0} where
   -- what comes of a part that is there

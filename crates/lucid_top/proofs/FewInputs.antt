@@ -1,21 +1,13 @@
 -- A tree with columns of it as the subject has no more free names than the tree has places: the columns are no free names.
-use Rattle.std.proofs.Common.{◌≡◌, ℕ, suc, ◌+◌, ◌≤◌, Bool, true, false, cond, List, [], ◌∷◌, ◌++◌, length, length-append, fold, sum_by, Some, refl, sym, ap, arith, true≢false}
-use Rattle.std.specs.Prelude.{IsTrue, slice_get}
-use Rattle.std.specs.List.{list_any}
-use Rattle.std.proofs.Math.Logic.{∥∥₁_elim}
-use Rattle.std.specs.Coded.{le_prop}
-use Rattle.std.proofs.lemmas.Option.{slice_get_within}
-use Rattle.std.proofs.lemmas.List.Sums.{sum_by-cons, sum_by-append}
-use Rattle.std.proofs.lemmas.List.Sorted.{sum_by-IsPermutation}
-use Rattle.lucid_tree.specs.Tree.{PlainTree, form, name, call, block, PlainDefs}
-use Rattle.lucid_tree.specs.Env.{Found, plain_def, definition, same_name}
-use Rattle.lucid_tree.specs.WellMade.{places, places_in_defs}
+use Rattle.lucid_top.proofs.Common.{◌≡◌, ℕ, suc, ◌+◌, ◌≤◌, Bool, true, false, List, [], ◌∷◌, ◌++◌, length, Some, refl, sym, ap, arith, IsTrue, slice_get, ∥∥₁_elim, slice_get_within, PlainTree, name, PlainDefs, same_name, places, places_in_defs, all_sites, AreColumns, HasInputs, fold, sum_by, true≢false, list_any, le_prop, sum_by-cons, sum_by-append, sum_by-IsPermutation}
+use Rattle.std.proofs.Common.{cond, length-append}
+use Rattle.lucid_tree.specs.Tree.{form, call, block}
+use Rattle.lucid_tree.specs.Env.{Found, plain_def, definition}
 use Rattle.lucid_scope.specs.Scope.{Static, outermost, in_block, Meaning, free, meaning, defined_in}
 use Rattle.lucid_scope.specs.Sites.{Site, named, called, again, sites, outside_sites, inside_sites, no_names, Earlier}
-use Rattle.lucid_scope.specs.Bindings.{all_sites, with_input, with_site, AreInputs}
+use Rattle.lucid_scope.specs.Bindings.{with_input, with_site, AreInputs}
 use Rattle.lucid_scope.proofs.Weights.{sites-weight, defs-weight}
-use Rattle.lucid_columns.specs.Columns.{is_plain, over_space, with_columns, AreColumns}
-use Rattle.lucid_top.specs.Judged.{HasInputs}
+use Rattle.lucid_columns.specs.Columns.{is_plain, over_space, with_columns}
 
 -- one for a free name, and nothing for another
 abbrev free_one : Meaning → ℕ

@@ -1,20 +1,13 @@
 -- A source in the flat form has one verdict: a sound table, or one refusal.
-use Rattle.std.proofs.Common.{◌≡◌, ℕ, List, refl, ap, subst, arith}
-use Rattle.lucid_equations.specs.Sound.{IsSound}
-use Rattle.lucid_equations.specs.declared.table.Table.{Table}
+use Rattle.lucid_top.proofs.Common.{◌≡◌, ℕ, List, refl, ap, subst, arith, IsSound, Table, IsTextOf, IsFirstWrongLine, IsFirstWrongRow, BuildRefusal, Refusal, build_stop, by_length, by_line, by_row, OneFlatTable, TableIsNotRefused, OneFlatRefusal}
 use Rattle.lucid_texts.proofs.TextsRead.{line_once}
 use Rattle.lucid_flat.specs.FlatText.{flat_lines}
-use Rattle.lucid_flat.specs.FlatTables.{IsTextOf, AreTableLines, IsFirstWrongLine}
+use Rattle.lucid_flat.specs.FlatTables.{AreTableLines}
 use Rattle.lucid_flat.specs.Laws.{OneTable}
-use Rattle.lucid_sound.specs.WrongRows.{IsRefused, IsFirstWrongRow}
-use Rattle.lucid_sound.specs.declared.program.BuildRefusal.{BuildRefusal}
+use Rattle.lucid_sound.specs.WrongRows.{IsRefused}
 use Rattle.lucid_sound.specs.declared.program.BuildRefusal.TheVariants as build
-use Rattle.lucid_top.specs.declared.refusal.Refusal.{Refusal}
 use Rattle.lucid_top.specs.declared.refusal.Refusal.TheVariants as refusal
 use Rattle.lucid_top.specs.declared.stop.Stop.TheVariants as stop
-use Rattle.lucid_top.specs.Refusals.{build_stop}
-use Rattle.lucid_top.specs.Flat.{by_length, by_line, by_row}
-use Rattle.lucid_top.specs.Laws.{OneFlatTable, TableIsNotRefused, OneFlatRefusal}
 use Rattle.lucid_top.proofs.FirstWrong.{one_wrong}
 
 -- bytes with a wrong line are no table's text

@@ -1,46 +1,23 @@
 -- The headline, from the clauses of a call.
-use Rattle.std.proofs.Common.{◌≡◌, ◌≢◌, ℕ, suc, ◌+◌, ◌-◌, ◌<◌, ◌≤◌, ◌⊎◌, List, [], ◌∷◌, ◌++◌, length, take, Option, Some, None, Result, Ok, Err, Bool, true, false, cond, inl, inr, refl, sym, ◌∙◌, ap, subst, arith}
-use Rattle.std.specs.Prelude.{IfSome, IsSome, IsSomeAnd, slice_get, unwrap_or, option_map, codes}
-use Rattle.std.specs.List.{range_with_len}
-use Rattle.std.proofs.lemmas.Bool.{lt-ltb}
-use Rattle.std.proofs.lemmas.List.FromFn.{length-range_with_len, get_or-range_with_len}
-use Rattle.std.proofs.lemmas.Option.{slice_get-map, slice_get-get_or, slice_get_within}
-use Rattle.lucid_value.specs.Plain.{PlainValue, eod}
-use Rattle.lucid_value.specs.Lines.{IsOverlong}
-use Rattle.lucid_tree.specs.Levels.{Elements}
-use Rattle.lucid_tree.specs.Env.{empty}
+use Rattle.lucid_top.proofs.Common.{◌≡◌, ◌≢◌, ℕ, suc, ◌+◌, ◌-◌, ◌<◌, ◌≤◌, ◌⊎◌, List, [], ◌∷◌, ◌++◌, length, Option, Some, None, Ok, Err, Bool, true, false, inl, inr, refl, sym, ◌∙◌, ap, subst, arith, IfSome, IsSome, IsSomeAnd, slice_get, unwrap_or, option_map, codes, range_with_len, lt-ltb, length-range_with_len, get_or-range_with_len, slice_get-map, slice_get-get_or, slice_get_within, PlainValue, eod, IsOverlong, Elements, empty, line, Derives, Contents, with_all, Summary, RunFault, all_bytes, file, PlainWords, stream_subject, tree_stream, Told, RunView, HasElements, Ran, IsDone, IsTooDeep, Figures, Status, Outcome, Call, of_tree, program_counted, task_of, form_of, is_built, file_given, files_for, IsSource, IsTold, Asks, HasNames, by_tree, IsRun, run_of, view_of, run_result, most_input_bytes, first_place, ReadFails, TellsSource, ComesOnly, MeetsClauses, RunsProgram, elements, Lines, one_line_more, Headline}
+use Rattle.std.proofs.Common.{take, Result, cond}
 use Rattle.lucid_tree.specs.Meaning.{val}
-use Rattle.lucid_tree.specs.Output.{line}
-use Rattle.lucid_least.specs.Rules.{Derives}
 use Rattle.lucid_least.proofs.Rules.{means-derives}
-use Rattle.lucid_ports.specs.World.{Contents, unread}
-use Rattle.lucid_ports.specs.Writing.{with_all}
-use Rattle.lucid_ports.specs.declared.run.Summary.{Summary}
-use Rattle.lucid_ports.specs.declared.run.RunFault.{RunFault}
+use Rattle.lucid_ports.specs.World.{unread}
 use Rattle.lucid_ports.specs.declared.run.RunFault.TheVariants as fault
-use Rattle.lucid_inputs.specs.Streams.{all_bytes}
-use Rattle.lucid_words.specs.Plain.{file}
-use Rattle.lucid_words.specs.Asked.{PlainWords}
-use Rattle.lucid_session.specs.Subject.{stream_subject, tree_stream, Output}
+use Rattle.lucid_session.specs.Subject.{Output}
 use Rattle.lucid_session.specs.Subject as stream
 use Rattle.lucid_session.specs.Runs as run
-use Rattle.lucid_session.specs.Runs.{Told, RunView, HasElements, EndsAt, Ran, IsDone, IsTooDeep, IsWriteFaultOrNoMemory, IsEndedOrNoMemory}
-use Rattle.lucid_session.specs.Figures.{Figures}
-use Rattle.lucid_top.specs.declared.status.Status.{Status}
+use Rattle.lucid_session.specs.Runs.{EndsAt, IsWriteFaultOrNoMemory, IsEndedOrNoMemory}
 use Rattle.lucid_top.specs.declared.status.Status.TheVariants as status
 use Rattle.lucid_top.specs.declared.stop.Done.TheVariants as done
 use Rattle.lucid_top.specs.declared.stop.Stop.TheVariants as stop
 use Rattle.lucid_top.specs.declared.task.Task.TheVariants as task
 use Rattle.lucid_top.specs.declared.task.Form.TheVariants as form
-use Rattle.lucid_top.specs.Status.{Outcome, status_of}
-use Rattle.lucid_top.specs.Call.{Call}
-use Rattle.lucid_top.specs.Programs.{of_tree, program_counted}
-use Rattle.lucid_top.specs.Tasks.{task_of, form_of, form_for, is_built}
-use Rattle.lucid_top.specs.Files.{file_given, files_for}
-use Rattle.lucid_top.specs.Stages.{IsSource, IsTold, Asks, HasNames, by_tree, IsRun}
-use Rattle.lucid_top.specs.Runs.{run_of, view_of, run_result, most_input_bytes, first_place}
-use Rattle.lucid_top.specs.Clauses.{ReadFails, WriteFails, TellsSource, ComesOnly, MeetsClauses}
-use Rattle.lucid_top.specs.Headline.{RunsProgram, elements, Has, Lines, no_lines, one_line_more, IsConsulted, ForSomeAdded, ConsultsOverlong, ConsumesWithin, Headline, HeadlineFollows}
+use Rattle.lucid_top.specs.Status.{status_of}
+use Rattle.lucid_top.specs.Tasks.{form_for}
+use Rattle.lucid_top.specs.Clauses.{WriteFails}
+use Rattle.lucid_top.specs.Headline.{Has, no_lines, IsConsulted, ForSomeAdded, ConsultsOverlong, ConsumesWithin, HeadlineFollows}
 use Rattle.lucid_top.proofs.OneCall.{same_words}
 use Rattle.lucid_top.proofs.RunEnds.{in_range}
 

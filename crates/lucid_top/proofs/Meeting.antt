@@ -1,23 +1,13 @@
 -- From how a call comes to its outcome to the clauses of the command.
-use Rattle.std.proofs.Common.{◌≡◌, ℕ, ◌≤◌, Bool, true, false, cond, nat_lt, List, [], length, Some, None, Err, ◌⊎◌, inl, inr, refl, ap, subst, arith}
-use Rattle.std.proofs.lemmas.Bool.{ltb-true}
-use Rattle.lucid_ports.specs.World.{Contents}
+use Rattle.lucid_top.proofs.Common.{◌≡◌, ℕ, ◌≤◌, Bool, true, false, nat_lt, List, [], length, Some, None, Err, ◌⊎◌, inl, inr, refl, ap, subst, arith, Contents, PlainWords, Told, Refusal, Status, Outcome, Call, task_of, form_of, is_built, Asks, IsWriting, IsTextFor, asks_for, IsRun, by_words, by_task, by_text, by_flat, by_names, by_missing, by_judging, by_given, first_place, run_places, run_of, unread_place, view_of, RanSo, ReadsSource, most_read, WritesNothing, TellsSource, ReadFails, ComesOnly, MeetsClauses, IsMade, reaches_nothing, reaches_source, reaches_inputs, Rests, Comes, ltb-true}
+use Rattle.std.proofs.Common.{cond}
 use Rattle.lucid_ports.specs.declared.run.RunFault.TheVariants as fault
-use Rattle.lucid_words.specs.Asked.{PlainWords}
-use Rattle.lucid_session.specs.Runs.{Told}
-use Rattle.lucid_top.specs.declared.refusal.Refusal.{Refusal}
 use Rattle.lucid_top.specs.declared.refusal.Refusal.TheVariants as refusal
 use Rattle.lucid_top.specs.declared.stop.Stop.TheVariants as stop
-use Rattle.lucid_top.specs.declared.status.Status.{Status}
-use Rattle.lucid_top.specs.Status.{Outcome}
-use Rattle.lucid_top.specs.Call.{Call}
-use Rattle.lucid_top.specs.Tasks.{task_of, form_of, is_built}
 use Rattle.lucid_top.specs.Telling.{Tells}
-use Rattle.lucid_top.specs.Stages.{Asks, IsWriting, IsTextFor, asks_for, IsRun, Refuses, by_words, by_task, by_text, by_flat, by_names, by_missing, by_judging, by_given}
-use Rattle.lucid_top.specs.Runs.{first_place, run_places, run_of, unread_place, view_of, RanSo}
-use Rattle.lucid_top.specs.Places.{ReadsSource, most_read}
-use Rattle.lucid_top.specs.Clauses.{WritesNothing, TellsSource, ReadFails, ComesOnly, IsRefusedSo, Writes, TellsFaults, IsEvaluated, MeetsClauses}
-use Rattle.lucid_top.specs.Coming.{IsMade, Reaches, reaches_nothing, reaches_source, reaches_inputs, Rests, StopsEarly, EndsRun, EndsWriting, Comes}
+use Rattle.lucid_top.specs.Stages.{Refuses}
+use Rattle.lucid_top.specs.Clauses.{IsRefusedSo, Writes, TellsFaults, IsEvaluated}
+use Rattle.lucid_top.specs.Coming.{Reaches, StopsEarly, EndsRun, EndsWriting}
 use Rattle.lucid_top.proofs.RunEnds.{in_range}
 use Rattle.lucid_top.proofs.Begun.{ConsumesNothing, ran_with, never_read, never_made, same_contents}
 use Rattle.lucid_top.proofs.OneCall.{OneVerdict, same_words, not_asked, not_unbuilt, run_or_text, same_inputs, same_run, same_text, one_refusal, run_not_refused, run_not_stopped, text_not_refused}

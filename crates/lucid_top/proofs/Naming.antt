@@ -1,18 +1,10 @@
 -- The words NAME=FILE, as the code has them.
-use Rattle.std.proofs.Common.{◌≡◌, ℕ, ◌+◌, ◌<◌, true, false, List, length, map, take, drop, get_or, Some, None, refl, ap, sym, subst, ◌∙◌, add-one, below_more}
-use Rattle.std.proofs.Math.Seq.{drop-cons}
-use Rattle.std.specs.String.{string_bytes}
-use Rattle.std.specs.Prelude.{cond, slice_get, option_map, option_and_then}
-use Rattle.std.proofs.lemmas.Option.{slice_get-map, slice_get-get_or}
-use Rattle.std.proofs.lemmas.List.{take-map}
-use Rattle.lucid_tree.specs.Env.{same_name}
+use Rattle.lucid_top.proofs.Common.{◌≡◌, ℕ, ◌+◌, ◌<◌, true, false, List, length, map, drop, get_or, Some, None, refl, ap, sym, subst, ◌∙◌, add-one, string_bytes, slice_get, option_map, option_and_then, slice_get-map, slice_get-get_or, same_name, plain_given, Stop, IsRefusalOf, Given, file_given, word_refusal, refusal_at, AreRightBelow, RefusedFirst, RefusesGiven, by_word, below_more, drop-cons, take-map}
+use Rattle.std.proofs.Common.{take}
+use Rattle.std.specs.Prelude.{cond}
 use Rattle.lucid_scope.proofs.Names.{not_same, same_itself}
 use Rattle.lucid_words.specs.declared.Given.{Given as Word}
-use Rattle.lucid_words.specs.Plain.{plain_given}
-use Rattle.lucid_top.specs.declared.stop.Stop.{Stop}
 use Rattle.lucid_top.specs.declared.stop.Stop.TheVariants as stop
-use Rattle.lucid_top.specs.Refusals.{IsRefusalOf}
-use Rattle.lucid_top.specs.Files.{Given, file_given, word_refusal, refusal_at, AreRightBelow, RefusedFirst, RefusesGiven, by_word}
 
 pub same_if : (x y : List ℕ) → x ≡ y → same_name x y ≡ true
 same_if x y e = subst (λ z. same_name x z ≡ true) e (same_itself x)

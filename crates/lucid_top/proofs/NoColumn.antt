@@ -1,15 +1,8 @@
 -- The columns of a tree have at most one refusal, and none where they are there.
-use Rattle.std.proofs.Common.{◌≡◌, ℕ, ◌<◌, List, Some, false, ◌⊎◌, inl, inr, sym, ap, subst, ◌∙◌}
-use Rattle.std.specs.Prelude.{IsTrue, slice_get}
-use Rattle.std.proofs.lemmas.Bool.{cases_order}
-use Rattle.std.proofs.lemmas.Option.{slice_get_within}
-use Rattle.lucid_tree.specs.Tree.{PlainTree}
-use Rattle.lucid_columns.specs.Columns.{is_column, AreColumns, IsFirstMissing}
-use Rattle.lucid_top.specs.declared.refusal.Refusal.{Refusal}
+use Rattle.lucid_top.proofs.Common.{◌≡◌, ℕ, ◌<◌, List, Some, false, ◌⊎◌, inl, inr, sym, ap, subst, ◌∙◌, IsTrue, slice_get, cases_order, slice_get_within, PlainTree, AreColumns, IsFirstMissing, Refusal, Stop, IsRefusalOf}
+use Rattle.lucid_columns.specs.Columns.{is_column}
 use Rattle.lucid_top.specs.declared.refusal.Refusal.TheVariants as refusal
-use Rattle.lucid_top.specs.declared.stop.Stop.{Stop}
 use Rattle.lucid_top.specs.declared.stop.Stop.TheVariants as stop
-use Rattle.lucid_top.specs.Refusals.{IsRefusalOf}
 use Rattle.lucid_top.specs.Judged.{IsMissing, RefusesColumns}
 
 module _ (p : PlainTree) (columns : List (List ℕ)) where

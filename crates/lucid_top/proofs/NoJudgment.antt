@@ -1,17 +1,8 @@
 -- The judgment of a tree has at most one refusal, and none where the tree is judged.
-use Rattle.std.proofs.Common.{◌≡◌, ℕ, suc, ◌<◌, ◌≤◌, List, [], ◌∷◌, length, get_or, inl, inr, sym, subst, arith}
-use Rattle.std.specs.List.{Contains}
-use Rattle.std.proofs.lemmas.List.Elements.{All-contains}
-use Rattle.lucid_tree.specs.Tree.{PlainTree}
-use Rattle.lucid_tree.specs.Members.{In}
-use Rattle.lucid_cycles.specs.Judged.{outside, IsJudged, IsFirstOutside}
-use Rattle.lucid_cycles.specs.Judgments.{IsJudgeRefusal}
-use Rattle.lucid_cycles.specs.declared.judgment.JudgeRefusal.{JudgeRefusal}
+use Rattle.lucid_top.proofs.Common.{◌≡◌, ℕ, suc, ◌<◌, ◌≤◌, List, [], ◌∷◌, length, get_or, inl, inr, sym, subst, arith, All-contains, PlainTree, In, IsJudged, IsJudgeRefusal, JudgeRefusal, Refusal, judge_stop, RefusesJudging, Contains}
+use Rattle.lucid_cycles.specs.Judged.{outside, IsFirstOutside}
 use Rattle.lucid_cycles.specs.declared.judgment.JudgeRefusal.TheVariants as judge
-use Rattle.lucid_top.specs.declared.refusal.Refusal.{Refusal}
 use Rattle.lucid_top.specs.declared.stop.Stop.TheVariants as stop
-use Rattle.lucid_top.specs.Refusals.{judge_stop}
-use Rattle.lucid_top.specs.Judged.{RefusesJudging}
 
 index_of : (x d : ℕ) (xs : List ℕ) → In x xs → (i : ℕ) × (i < length xs) × (get_or xs i d ≡ x)
 index_of x d [] h = absurd h

@@ -1,34 +1,14 @@
 -- A call has one of each thing: words, source, tree, free names, first refusal; and where it has a run or a text, no refusal.
-use Rattle.std.proofs.Common.{◌≡◌, ◌≢◌, ℕ, ◌<◌, false, List, length, Option, Some, None, ◌⊎◌, inl, inr, refl, sym, ◌∙◌, ap, subst, arith}
-use Rattle.std.specs.Prelude.{IsSome, IfSome, slice_get, option_and_then, take}
-use Rattle.std.proofs.lemmas.Option.{slice_get_within}
-use Rattle.std.proofs.lemmas.Bool.{cases_order}
-use Rattle.lucid_ports.specs.World.{World}
-use Rattle.lucid_tree.specs.WellMade.{IsWellMade}
-use Rattle.lucid_equations.specs.declared.table.Table.{Table}
-use Rattle.lucid_print.specs.Canonical.{canonical}
-use Rattle.lucid_scope.specs.Bindings.{HasNoFault}
-use Rattle.lucid_words.specs.Plain.{PlainSource, file, made}
-use Rattle.lucid_words.specs.Asked.{PlainWords}
-use Rattle.lucid_cycles.specs.Judged.{IsJudged}
-use Rattle.lucid_top.specs.declared.refusal.Refusal.{Refusal}
-use Rattle.lucid_top.specs.declared.task.Task.{Task}
+use Rattle.lucid_top.proofs.Common.{◌≡◌, ◌≢◌, ℕ, ◌<◌, false, List, length, Option, Some, None, ◌⊎◌, inl, inr, refl, sym, ◌∙◌, ap, subst, arith, IsSome, IfSome, slice_get, option_and_then, slice_get_within, cases_order, World, IsWellMade, Table, canonical, HasNoFault, PlainSource, file, made, PlainWords, IsJudged, Refusal, Task, Call, task_of, form_of, is_built, Spelt, RefusesText, RefusesNames, RefusesJudging, HasInputs, Given, word_refusal, refusal_at, AreRightBelow, RefusedFirst, RefusesGiven, FitsGiven, by_word, by_two, IsSource, IsTold, Asks, HasTree, HasFlat, HasNames, IsWriting, IsTextFor, prints, judges, flattens, HasColumns, by_tree, by_columns, by_table, asks_for, program_in, inputs_in, IsAskedFor, IsRun, by_words, by_task, by_text, by_flat, by_names, by_missing, by_judging, by_given, IsFlatForm, SpellsTable, RefusesFlat, Program, of_tree, of_columns, of_table, beside, Run, run_of, TellsSource, IsMade, IsOfMade, OneTextRefusal, OneNameRefusal, OneListOfInputs, OneFlatTable, TableIsNotRefused, OneFlatRefusal}
+use Rattle.std.specs.Prelude.{take}
 use Rattle.lucid_top.specs.declared.task.Task.TheVariants as task
 use Rattle.lucid_top.specs.declared.task.Form.TheVariants as form
-use Rattle.lucid_top.specs.Call.{Call}
-use Rattle.lucid_top.specs.Tasks.{task_of, form_of, is_built}
-use Rattle.lucid_top.specs.Judged.{Spelt, RefusesText, RefusesNames, RefusesColumns, RefusesJudging, HasInputs}
-use Rattle.lucid_top.specs.Files.{Given, word_refusal, refusal_at, AreRightBelow, RefusedFirst, RefusesGiven, FitsGiven, by_word, by_two}
-use Rattle.lucid_top.specs.Stages.{IsSource, IsTold, Asks, HasSource, HasTree, HasFlat, HasNames, IsWriting, IsTextFor, prints, judges, flattens, HasColumns, columns_named, HasProgram, by_tree, by_columns, by_table, asks_for, task_for, program_in, inputs_in, IsAskedFor, IsRun, Refuses, by_words, by_task, by_text, by_flat, by_names, by_missing, by_judging, by_given}
-use Rattle.lucid_top.specs.Texts.{IsJudgmentLine, IsFlatForm}
-use Rattle.lucid_top.specs.Flat.{SpellsTable, RefusesFlat}
-use Rattle.lucid_top.specs.Programs.{Program, of_tree, of_columns, of_table, beside}
-use Rattle.lucid_top.specs.Runs.{Run, run_of}
-use Rattle.lucid_top.specs.Clauses.{TellsSource}
-use Rattle.lucid_top.specs.Coming.{IsMade, IsOfMade}
+use Rattle.lucid_top.specs.Judged.{RefusesColumns}
+use Rattle.lucid_top.specs.Stages.{HasSource, columns_named, HasProgram, task_for, Refuses}
+use Rattle.lucid_top.specs.Texts.{IsJudgmentLine}
 use Rattle.lucid_top.proofs.NoColumn.{one_missing, none_missing}
 use Rattle.lucid_top.proofs.NoJudgment.{one_judging_refusal, judged_not_refused}
-use Rattle.lucid_top.specs.Laws.{OneTree, TreeIsNotRefused, OneTextRefusal, NamesAreNotRefused, OneNameRefusal, OneListOfInputs, OneFlatTable, TableIsNotRefused, OneFlatRefusal}
+use Rattle.lucid_top.specs.Laws.{OneTree, TreeIsNotRefused, NamesAreNotRefused}
 
 -- what holds of every source
 pub record OneVerdict : Type 0 where

@@ -1,9 +1,7 @@
 -- A well-made tree has one list of inputs, also where only some list is known to be.
-use Rattle.std.proofs.Math.Logic.{∥∥₁_elim}
-use Rattle.std.proofs.Math.Nat.{ℕ_set}
+use Rattle.lucid_top.proofs.Common.{∥∥₁_elim, OneListOfInputs, ℕ_set}
 use mathlib.Core.List.{is_set}
 use Rattle.lucid_scope.proofs.OneList.{one_list}
-use Rattle.lucid_top.specs.Laws.{OneListOfInputs}
 
 pub one_list_of_inputs : OneListOfInputs
 one_list_of_inputs e a b w x y =

@@ -1,17 +1,14 @@
 -- Parts of a line written one behind the other.
-use Rattle.std.proofs.Common.{◌≡◌, ℕ, ◌+◌, ◌≤◌, ◌<◌, List, [], ◌∷◌, ◌++◌, length, take, get_or, Option, Some, None, Result, Err, refl, ap, sym, subst, ◌∙◌, drop, append_assoc, arith}
-use Rattle.std.proofs.lemmas.List.{length-append, take-append-le, take-append-drop, take_more}
-use Rattle.std.specs.Prelude.{decimal}
+use Rattle.lucid_top.proofs.Common.{◌≡◌, ℕ, ◌+◌, ◌≤◌, ◌<◌, List, [], ◌∷◌, ◌++◌, length, get_or, Option, Some, None, Err, refl, ap, sym, subst, ◌∙◌, drop, arith, Failed, with_all, rises_from, Told, line_of, WritesWhole, WritesFront, append_assoc, take-append-le, take-append-drop, take_more, decimal}
+use Rattle.std.proofs.Common.{take, Result}
+use Rattle.std.proofs.lemmas.List.{length-append}
 use Rattle.lucid_ports.specs.declared.fault.PortFault.{PortFault}
-use Rattle.lucid_ports.specs.declared.fault.PortFault.TheVariants.{Failed, NoMemory}
-use Rattle.lucid_ports.specs.Writing.{with_front, with_all}
+use Rattle.lucid_ports.specs.declared.fault.PortFault.TheVariants.{NoMemory}
+use Rattle.lucid_ports.specs.Writing.{with_front}
 use Rattle.lucid_ports.proofs.WritingLemmas.{all_all, front_all}
-use Rattle.lucid_ports.proofs.FaultLemmas.{rises_from}
-use Rattle.lucid_session.specs.Runs.{Told}
 use Rattle.lucid_top.specs.declared.report.Part.{Part}
 use Rattle.lucid_top.specs.declared.report.Part.TheVariants.{Text, Number}
-use Rattle.lucid_top.specs.Lines.{line_of}
-use Rattle.lucid_top.specs.Telling.{WritesWhole, WritesFront, WritesLine}
+use Rattle.lucid_top.specs.Telling.{WritesLine}
 
 -- a call that stopped so
 abbrev pub stopped : {T : Type 0} → PortFault → Result T PortFault

@@ -1,13 +1,9 @@
 -- Places that are reached one behind the other.
-use Rattle.std.proofs.Common.{◌≡◌, ℕ, zero, suc, ◌+◌, ◌<◌, ◌≤◌, ◌≢◌, List, [], ◌∷◌, ◌++◌, length, map, get_or, Option, Some, None, Result, Ok, Err, take, ap, sym, subst, ◌∙◌, inl, inr, arith, add-one}
-use Rattle.std.specs.Prelude.{IfSome, IfOk, IsErrAnd, OnErr, MatchResult, slice_get, option_map}
-use Rattle.std.specs.List.{range_with_len}
-use Rattle.std.proofs.lemmas.Bool.{cases_lt}
-use Rattle.std.proofs.lemmas.Option.{slice_get-map, slice_get-get_or}
+use Rattle.lucid_top.proofs.Common.{◌≡◌, ℕ, zero, suc, ◌+◌, ◌<◌, ◌≤◌, ◌≢◌, List, [], ◌∷◌, ◌++◌, length, map, get_or, Option, Some, None, Ok, Err, ap, sym, subst, ◌∙◌, inl, inr, arith, add-one, IfSome, IfOk, slice_get, option_map, range_with_len, cases_lt, slice_get-map, slice_get-get_or, World, Contents, IsFresh, KeepsNames, AreFresh, IsErrAnd, OnErr, MatchResult}
+use Rattle.std.proofs.Common.{Result, take}
 use denote.Ref.{Bor}
-use Rattle.lucid_ports.specs.World.{World, Contents, IsFresh, KeepsOthers, unread, advanced}
+use Rattle.lucid_ports.specs.World.{KeepsOthers, unread, advanced}
 use Rattle.lucid_session.proofs.Subjects.{range_more as range_suc}
-use Rattle.lucid_top.specs.Places.{KeepsNames, AreFresh}
 
 -- its first bytes are those of its name
 read_fresh : (most : ℕ) (bytes : List ℕ) (held : Option (List ℕ)) (contents : Option Contents) → contents ≡ option_map unread held

@@ -1,22 +1,15 @@
 -- What the scanner, the parser and the flat form refuse, as refusals of a call.
-use Rattle.std.proofs.Common.{ℕ, ◌≤◌, List, length, refl}
-use Rattle.lucid_scan.specs.declared.token.Token.{Token}
-use Rattle.lucid_scan.specs.declared.refusal.ScanRefusal.{ScanRefusal}
+use Rattle.lucid_top.proofs.Common.{ℕ, ◌≤◌, List, length, refl, Token, ScanRefusal, ParseRefusal, Table, BuildRefusal, most_flat_bytes, HasTable, RefusesFlat, by_line, by_row, scan_stop, parse_stop, build_stop, IsRefusalOf, HasTokens, RefusesText, by_scan, by_parse}
 use Rattle.lucid_scan.specs.declared.refusal.ScanRefusal.TheVariants as scan
 use Rattle.lucid_scan.specs.Refusals.{Refuses}
-use Rattle.lucid_parse.specs.declared.refusal.ParseRefusal.{ParseRefusal}
 use Rattle.lucid_parse.specs.declared.refusal.ParseRefusal.TheVariants as parse
 use Rattle.lucid_parse.specs.Spelled.{IsRefused}
-use Rattle.lucid_equations.specs.declared.table.Table.{Table}
 use Rattle.lucid_flat.specs.declared.read.FlatRefusal.{FlatRefusal}
 use Rattle.lucid_flat.specs.declared.read.FlatRefusal.TheVariants as flat
 use Rattle.lucid_flat.specs.LinesRead.{IsRefused as IsLineRefused}
-use Rattle.lucid_sound.specs.declared.program.BuildRefusal.{BuildRefusal}
 use Rattle.lucid_sound.specs.declared.program.BuildRefusal.TheVariants as build
 use Rattle.lucid_sound.specs.WrongRows.{IsRefused as IsTableRefused}
-use Rattle.lucid_top.specs.Flat.{most_flat_bytes, HasTable, RefusesFlat, by_line, by_row}
-use Rattle.lucid_top.specs.Refusals.{scan_stop, parse_stop, flat_stop, build_stop, IsRefusalOf}
-use Rattle.lucid_top.specs.Judged.{HasTokens, RefusesText, by_scan, by_parse}
+use Rattle.lucid_top.specs.Refusals.{flat_stop}
 
 pub scan_refuses : (source : List ℕ) (e : ScanRefusal) → Refuses source e → IsRefusalOf (RefusesText source) (scan_stop e)
 scan_refuses source scan.TooLong r = by_scan scan.TooLong refl r

@@ -1,32 +1,12 @@
 -- How a call comes to its outcome that runs its program.
-use Rattle.std.proofs.Common.{◌≡◌, ◌≢◌, ℕ, zero, suc, ◌⊎◌, ◌+◌, ◌-◌, ◌<◌, ◌≤◌, Bool, true, cond, List, [], length, map, get_or, nat_lt, Some, Ok, Err, inl, inr, sym, ap, subst, ◌∙◌, arith}
-use Rattle.std.specs.Prelude.{IfSome, slice_get, unwrap_or, option_map, AllPairs, codes}
+use Rattle.lucid_top.proofs.Common.{◌≡◌, ◌≢◌, ℕ, zero, suc, ◌⊎◌, ◌+◌, ◌-◌, ◌<◌, ◌≤◌, Bool, true, List, [], length, map, get_or, nat_lt, Some, Ok, Err, inl, inr, sym, ap, subst, ◌∙◌, arith, IfSome, slice_get, unwrap_or, option_map, AllPairs, codes, lt-ltb, range_with_len, length-map, length-range_with_len, get_or-range_with_len, slice_get-get_or, slice_get_within, World, IsFresh, In, Table, most_source_bytes, rises_from, PlainSource, file, made, plain_given, PlainWords, Outcome, Call, Program, Given, FitsGiven, file_given, files_for, asks_for, program_in, IsRun, KeepsNames, ReadsSource, AreFresh, AreUnread, Run, first_place, run_of, unread_place, viewed, view_of, table_program, RanSo, RunComesOnly, ComesOnly, RunsTable, Comes, get_or_from_slice_get, unwrap_or-slice_get}
+use Rattle.std.proofs.Common.{cond}
 use denote.Ref.{Bor}
-use Rattle.std.proofs.lemmas.Bool.{lt-ltb}
-use Rattle.std.specs.List.{range_with_len}
-use Rattle.std.proofs.lemmas.List.{length-map}
-use Rattle.std.proofs.lemmas.List.FromFn.{length-range_with_len, get_or-range_with_len}
-use Rattle.std.proofs.lemmas.Option.{slice_get-get_or, slice_get_within, get_or_from_slice_get, unwrap_or-slice_get}
-use Rattle.lucid_ports.specs.World.{World, Place, IsFresh, unread}
-use Rattle.lucid_tree.specs.Members.{In}
-use Rattle.lucid_equations.specs.declared.table.Table.{Table}
-use Rattle.lucid_scan.specs.Refusals.{most_source_bytes}
-use Rattle.lucid_ports.proofs.FaultLemmas.{rises_from}
+use Rattle.lucid_ports.specs.World.{Place, unread}
 use Rattle.lucid_words.specs.declared.Given.{Given as Word}
-use Rattle.lucid_words.specs.Plain.{PlainSource, file, made, plain_given}
-use Rattle.lucid_words.specs.Asked.{PlainWords}
 use Rattle.lucid_top.specs.declared.stop.Done.TheVariants as done
 use Rattle.lucid_top.specs.declared.stop.Stop.TheVariants as stop
-use Rattle.lucid_top.specs.Status.{Outcome}
-use Rattle.lucid_top.specs.Call.{Call}
-use Rattle.lucid_top.specs.Programs.{Program}
-use Rattle.lucid_top.specs.Files.{Given, FitsGiven, file_given, files_for}
-use Rattle.lucid_top.specs.Stages.{asks_for, program_in, IsRun}
-use Rattle.lucid_top.specs.Places.{KeepsNames, ReadsSource, AreFresh, AreUnread}
-use Rattle.lucid_top.specs.Runs.{Run, first_place, run_of, input_places, unread_place, world_before, world_after, viewed, view_of, table_program, RanSo}
-use Rattle.lucid_top.specs.Running.{RunComesOnly}
-use Rattle.lucid_top.specs.Clauses.{ComesOnly}
-use Rattle.lucid_top.specs.Coming.{RunsTable, Comes}
+use Rattle.lucid_top.specs.Runs.{input_places, world_before, world_after}
 use Rattle.lucid_top.proofs.Ending.{words_of, first_place_le, run_of_table, places_of_table}
 use Rattle.lucid_top.proofs.Views.{TellAlike, ran_alike}
 

@@ -1,24 +1,11 @@
 -- Judging the first bytes of a source, one more than it may have, is judging the source.
-use Rattle.std.proofs.Common.{◌≡◌, ℕ, ◌+◌, ◌≤◌, ◌<◌, List, length, take, Option, Some, None, subst, refl, inl, inr, arith}
-use Rattle.std.specs.Prelude.{IfSome}
-use Rattle.std.proofs.lemmas.Bool.{cases_lt}
-use Rattle.std.proofs.lemmas.List.{take_all, length-take-le}
-use Rattle.lucid_ports.specs.World.{World}
-use Rattle.lucid_tree.specs.Tree.{PlainTree}
+use Rattle.lucid_top.proofs.Common.{◌≡◌, ℕ, ◌+◌, ◌≤◌, ◌<◌, List, length, Option, Some, None, subst, refl, inl, inr, arith, IfSome, cases_lt, take_all, World, PlainTree, Table, IsFirstWrongLine, most_source_bytes, PlainSource, file, made, Refusal, Stop, IsRefusalOf, HasTokens, Spelt, RefusesText, by_scan, by_parse, most_flat_bytes, HasTable, SpellsTable, RefusesFlat, by_length, by_line, by_row, IsSource, SpeltBySource, FlatBySource, IsSourceStop, IsReadStop, length-take-le}
+use Rattle.std.proofs.Common.{take}
 use Rattle.lucid_scan.specs.declared.refusal.ScanRefusal.TheVariants as scan
-use Rattle.lucid_equations.specs.declared.table.Table.{Table}
-use Rattle.lucid_flat.specs.FlatTables.{IsFirstWrongLine}
-use Rattle.lucid_scan.specs.Refusals.{Refuses, most_source_bytes}
+use Rattle.lucid_scan.specs.Refusals.{Refuses}
 use Rattle.lucid_parse.specs.Spelled.{IsRefused}
-use Rattle.lucid_words.specs.Plain.{PlainSource, file, made}
-use Rattle.lucid_top.specs.declared.refusal.Refusal.{Refusal}
-use Rattle.lucid_top.specs.declared.stop.Stop.{Stop}
 use Rattle.lucid_top.specs.declared.stop.Stop.TheVariants as stop
-use Rattle.lucid_top.specs.Refusals.{IsRefusalOf}
-use Rattle.lucid_top.specs.Judged.{HasTokens, Spelt, RefusesText, by_scan, by_parse}
-use Rattle.lucid_top.specs.Flat.{most_flat_bytes, HasTable, SpellsTable, RefusesFlat, by_length, by_line, by_row}
-use Rattle.lucid_top.specs.Stages.{IsSource}
-use Rattle.lucid_top.specs.Places.{IsSourceFront, SpeltBySource, FlatBySource, IsSourceStop, IsReadStop}
+use Rattle.lucid_top.specs.Places.{IsSourceFront}
 
 short_whole : (most : ℕ) (source : List ℕ) → length (take (most + 1) source) ≤ most → take (most + 1) source ≡ source
 short_whole most source h =

@@ -1,27 +1,18 @@
 -- A source has at most one refusal, and the names of a tree have.
-use Rattle.std.proofs.Common.{◌≡◌, ℕ, List, length, ap, subst}
-use Rattle.lucid_scan.specs.declared.token.Token.{Token}
-use Rattle.lucid_scan.specs.declared.refusal.ScanRefusal.{ScanRefusal}
+use Rattle.lucid_top.proofs.Common.{◌≡◌, ℕ, List, length, ap, subst, Token, ScanRefusal, ParseRefusal, PlacedTerminal, Spells, Terminals, Refusal, Stop, scan_stop, parse_stop, HasTokens, by_scan, by_parse, OneTextRefusal, OneNameRefusal}
 use Rattle.lucid_scan.specs.declared.refusal.ScanRefusal.TheVariants as scan
 use Rattle.lucid_scan.specs.Laws.{TokensAreUnique, TokensAreNotRefused, RefusalIsUnique}
 use Rattle.lucid_scan.specs.Refusals.{Refuses}
-use Rattle.lucid_parse.specs.declared.refusal.ParseRefusal.{ParseRefusal}
 use Rattle.lucid_parse.specs.declared.refusal.ParseRefusal.TheVariants as parse
-use Rattle.lucid_parse.specs.Grammar.{PlacedTerminal, Spells}
-use Rattle.lucid_parse.specs.Terminals.{Terminals}
 use Rattle.lucid_parse.specs.Depth.{at_depth, IsLeast}
 use Rattle.lucid_parse.specs.Verdict.{IsFault}
 use Rattle.lucid_parse.specs.Spelled.{IsRefused}
 use Rattle.lucid_parse.specs.Laws.{FaultIsUnique, TerminalsAreUnique, TerminalsSpellOneTree}
 use Rattle.lucid_parse.proofs.Verdicts.{least_once}
 use Rattle.lucid_scope.specs.Laws.{LeastFaultIsUnique}
-use Rattle.lucid_top.specs.declared.refusal.Refusal.{Refusal}
 use Rattle.lucid_top.specs.declared.refusal.Refusal.TheVariants as refusal
-use Rattle.lucid_top.specs.declared.stop.Stop.{Stop}
 use Rattle.lucid_top.specs.declared.stop.Stop.TheVariants as stop
-use Rattle.lucid_top.specs.Refusals.{scan_stop, parse_stop, scope_stop}
-use Rattle.lucid_top.specs.Judged.{HasTokens, by_scan, by_parse}
-use Rattle.lucid_top.specs.Laws.{OneTextRefusal, OneNameRefusal}
+use Rattle.lucid_top.specs.Refusals.{scope_stop}
 
 -- the laws of tokens, terminals and trees
 pub record Laws : Type 0 where

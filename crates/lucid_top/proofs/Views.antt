@@ -1,21 +1,9 @@
 -- A run is as good over places that tell the same of its inputs.
-use Rattle.std.proofs.Common.{◌≡◌, ℕ, List, Option, Some, None, Result, Ok, Err, sym, subst, ◌∙◌}
-use Rattle.std.specs.Prelude.{IsSomeAnd, IfOk, IfErr, IfSome, slice_get}
-use Rattle.lucid_value.specs.Lines.{IsOverlong}
-use Rattle.lucid_ports.specs.World.{World}
-use Rattle.lucid_ports.specs.Faults.{Rises}
-use Rattle.lucid_ports.specs.declared.run.Summary.{Summary}
-use Rattle.lucid_ports.specs.declared.run.RunFault.{RunFault}
+use Rattle.lucid_top.proofs.Common.{◌≡◌, ℕ, List, Option, Some, None, Ok, Err, sym, subst, ◌∙◌, IsSomeAnd, IfOk, IfSome, slice_get, IsOverlong, World, Rises, Summary, RunFault, all_bytes, Elements, PlainWords, Subject, Told, HasElements, IsDone, IsTooDeep, OnTooLarge, Ran, Figures, Outcome, Program, program_subject, program_counted, viewed, most_input_bytes, run_result, RanSo, IfErr}
+use Rattle.std.proofs.Common.{Result}
 use Rattle.lucid_ports.specs.declared.run.RunFault.TheVariants as fault
-use Rattle.lucid_inputs.specs.Streams.{all_bytes}
-use Rattle.lucid_tree.specs.Levels.{Elements}
-use Rattle.lucid_words.specs.Asked.{PlainWords}
-use Rattle.lucid_session.specs.Subject.{Subject}
-use Rattle.lucid_session.specs.Runs.{Told, HasElements, Written, ForSomeAdded, ConsultsOverlong, IsDone, IsTooDeep, OnTooDeep, OnTooLarge, IsUndisturbed, Ran}
-use Rattle.lucid_session.specs.Figures.{Counted, Figures, OnClearings}
-use Rattle.lucid_top.specs.Status.{Outcome}
-use Rattle.lucid_top.specs.Programs.{Program, program_subject, program_counted}
-use Rattle.lucid_top.specs.Runs.{viewed, most_input_bytes, run_result, RanSo}
+use Rattle.lucid_session.specs.Runs.{Written, ForSomeAdded, ConsultsOverlong, OnTooDeep, IsUndisturbed}
+use Rattle.lucid_session.specs.Figures.{Counted, OnClearings}
 
 -- what is said of the input that is too large, of the time that is too deep and of clearings, weakened
 large_weaker : (result : Result Summary RunFault) (P Q : ℕ → Type 0) → ((k : ℕ) → P k → Q k) → IfErr result (λ e. OnTooLarge e P) → IfErr result (λ e. OnTooLarge e Q)

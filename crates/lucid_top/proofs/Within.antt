@@ -1,18 +1,11 @@
 -- The places of a tree that a source spells lie within the source.
-use Rattle.std.proofs.Common.{ℕ, ◌+◌, ◌<◌, ◌≤◌, List, [], ◌∷◌, ◌++◌, length, arith}
-use Rattle.std.specs.Prelude.{All}
-use Rattle.std.proofs.lemmas.List.{length-drop}
-use Rattle.std.proofs.lemmas.List.Elements.{All-nil, All-cons}
-use Rattle.lucid_tree.specs.Tree.{PlainTree, PlainTrees, no_trees, tree, PlainDefs, no_defs, defines, defines_function, defines_current}
-use Rattle.lucid_tree.specs.WellMade.{places, places_in, places_in_defs}
-use Rattle.lucid_scan.specs.declared.token.Token.{Token}
-use Rattle.lucid_scan.specs.Refusals.{most_source_bytes}
+use Rattle.lucid_top.proofs.Common.{ℕ, ◌+◌, ◌<◌, ◌≤◌, List, [], ◌∷◌, ◌++◌, length, arith, PlainTree, PlainDefs, no_defs, defines, places, places_in_defs, Token, most_source_bytes, PlacedTerminal, Spells, SpellsDefs, Terminals, Spelt, All, length-drop, All-nil, All-cons}
+use Rattle.lucid_tree.specs.Tree.{PlainTrees, no_trees, tree, defines_function, defines_current}
+use Rattle.lucid_tree.specs.WellMade.{places_in}
 use Rattle.lucid_scan.specs.Tokens as scan
 use Rattle.lucid_parse.specs.Grammar as grammar
-use Rattle.lucid_parse.specs.Grammar.{PlacedTerminal, trees_and, def_before, defs_and, Defined, Plain, Function, Current, Parameter, parameter, places_of, Spells, SpellsArgs, SpellsDefs, SpellsNames}
+use Rattle.lucid_parse.specs.Grammar.{trees_and, def_before, defs_and, Defined, Plain, Function, Current, Parameter, parameter, places_of, SpellsArgs, SpellsNames}
 use Rattle.lucid_parse.specs.Terminals as terminals
-use Rattle.lucid_parse.specs.Terminals.{Terminals}
-use Rattle.lucid_top.specs.Judged.{Spelt}
 
 module _ (n : ℕ) where
   -- each of the numbers is lower; and each place of the terminals

@@ -1,21 +1,10 @@
 -- The counting program is a witness of the headline.
-use Rattle.std.proofs.Common.{◌≡◌, ℕ, zero, suc, ◌≤◌, List, [], ◌++◌, Option, Some, None, false, inl, inr, refl, ◌∙◌, ap, arith}
-use Rattle.std.specs.Prelude.{codes}
-use Rattle.std.specs.Fmt.{digits}
-use Rattle.lucid_value.specs.Plain.{eod}
-use Rattle.lucid_value.specs.Laws.{TextIsRead}
-use Rattle.lucid_tree.specs.SamplePrograms.{number, counting}
-use Rattle.lucid_tree.specs.Output.{line}
-use Rattle.lucid_scan.specs.Laws.{TextsAreLongest}
+use Rattle.lucid_top.proofs.Common.{◌≡◌, ℕ, zero, suc, ◌≤◌, List, [], ◌++◌, Option, Some, None, false, inl, inr, refl, ◌∙◌, ap, arith, codes, digits, eod, TextIsRead, number, counting, line, TextsAreLongest, file, PlainWords, words_asked, Status, Call, RunsProgram, elements, Lines, one_line_more, Headline, counting_source}
 use Rattle.clap.proofs.OnLiterals.{clap_on_literals}
 use Rattle.lucid_words.specs.declared.PolicyWord.TheVariants as policy
-use Rattle.lucid_words.specs.Plain.{file}
-use Rattle.lucid_words.specs.Asked.{PlainWords, words_asked}
-use Rattle.lucid_top.specs.declared.status.Status.{Status}
 use Rattle.lucid_top.specs.declared.status.Status.TheVariants as status
-use Rattle.lucid_top.specs.Call.{Call}
-use Rattle.lucid_top.specs.Headline.{RunsProgram, elements, Lines, no_lines, one_line_more, Headline}
-use Rattle.lucid_top.specs.Witness.{three_lines, counting_source, three_numbers, CountsToThree, CountingIsAWitness}
+use Rattle.lucid_top.specs.Headline.{no_lines}
+use Rattle.lucid_top.specs.Witness.{three_lines, three_numbers, CountsToThree, CountingIsAWitness}
 use Rattle.lucid_top.proofs.CountingSource.{counting-spelt, counting-no-fault, counting-inputs, counting-value}
 
 -- what the words ask for

@@ -1,8 +1,6 @@
 -- A tree is no deeper than it has nodes, and has no more nodes than places.
-use Rattle.std.proofs.Common.{◌≤◌, ◌++◌, length, arith, length-append}
-use Rattle.lucid_tree.specs.Tree.{PlainTree, form, name, call, block, PlainTrees, no_trees, tree, PlainDefs, no_defs, defines, defines_function, defines_current}
-use Rattle.lucid_tree.specs.Size.{nodes, nodes_in, nodes_in_defs}
-use Rattle.lucid_tree.specs.WellMade.{depth, depths, depths_in_defs, places, places_in, places_in_defs}
+use Rattle.lucid_tree.proofs.Common.{◌≤◌, ◌++◌, length, arith, PlainTree, form, name, call, block, PlainTrees, no_trees, tree, PlainDefs, no_defs, defines, defines_function, defines_current, nodes, nodes_in, nodes_in_defs, depths, depths_in_defs, length-append}
+use Rattle.lucid_tree.specs.WellMade.{depth, places, places_in, places_in_defs}
 
 mutual
   pub depth_le-nodes : (e : PlainTree) → depth e ≤ nodes e

@@ -1,11 +1,5 @@
 -- Where an approximation of a tree is defined, each greater one looks up, refers to and enters the very same, in the same order.
-use Rattle.std.proofs.Common.{◌≡◌, ℕ, zero, suc, ◌++◌, Some, refl, ap, add-zero}
-use Rattle.lucid_value.specs.Plain.{PlainValue}
-use Rattle.lucid_tree.specs.Tree.{PlainTree, form, name, call, block, PlainTrees, no_trees, tree}
-use Rattle.lucid_tree.specs.Levels.{Elements, nothing_held, below}
-use Rattle.lucid_tree.specs.Env.{Env, scope, frozen_at, Aim, name_target, call_target}
-use Rattle.lucid_tree.specs.Meaning.{value_at, part_at, value, val}
-use Rattle.lucid_tree.specs.Demand.{Events, entry_of, frozen_entry, walk_at, walk_part, walk, seen}
+use Rattle.lucid_tree.proofs.Common.{◌≡◌, ℕ, zero, suc, ◌++◌, Some, refl, ap, PlainValue, PlainTree, form, name, call, block, PlainTrees, no_trees, tree, Elements, nothing_held, below, Env, scope, frozen_at, Aim, name_target, call_target, value_at, part_at, value, val, Events, entry_of, frozen_entry, walk_at, walk_part, walk, seen, add-zero}
 use Rattle.lucid_tree.proofs.Plans.{plan-grows, nat_le-suc}
 use Rattle.lucid_tree.proofs.Settled.{takes_plan, trace-same}
 use Rattle.lucid_tree.proofs.LevelGrowth.{below-grows}

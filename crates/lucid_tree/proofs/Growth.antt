@@ -1,12 +1,7 @@
 -- A defined approximation of a tree is the same at each greater limit.
-use Rattle.std.proofs.Common.{◌≡◌, ℕ, zero, suc, ◌≤◌, max, Some, arith}
-use Rattle.lucid_value.specs.Plain.{PlainValue}
-use Rattle.lucid_tree.specs.Tree.{PlainTree, form, name, call, block, PlainTrees, no_trees, tree}
-use Rattle.lucid_tree.specs.Levels.{Elements, Given, nothing_held, Below}
-use Rattle.lucid_tree.specs.Env.{Env, scope, frozen_at, Referent, Position, Aim, name_target, call_target}
-use Rattle.lucid_tree.specs.Meaning.{value_at, part_at, value, hval, val, Means}
+use Rattle.lucid_tree.proofs.Common.{◌≡◌, ℕ, zero, suc, ◌≤◌, max, Some, arith, PlainValue, PlainTree, form, name, call, block, PlainTrees, no_trees, tree, Elements, Given, nothing_held, Below, Env, scope, frozen_at, Referent, Position, Aim, name_target, call_target, value_at, part_at, value, hval, val, Means}
 use Rattle.lucid_tree.proofs.Plans.{Keeps, run-keeps, plan-grows}
-use Rattle.lucid_tree.proofs.LevelGrowth.{Grows, approximation-grows, approximation-up}
+use Rattle.lucid_tree.proofs.LevelGrowth.{Grows, approximation-up}
 
 mutual
   pub value_at-grows : (m : ℕ) (b b' : Below Referent Position) → ((a : Aim) (s : ℕ) → Keeps (b a s) (b' a s)) → (e : PlainTree) (env : Env) (t s : ℕ) → Keeps (value_at m b e env t s) (value_at (suc m) b' e env t s)
@@ -23,9 +18,6 @@ mutual
 
 pub value-grows : Grows value
 value-grows m b b' h x t s = value_at-grows m b b' h x.tree x.env t s
-
-pub hval-grows : (g : Given Referent) (m : ℕ) (e : PlainTree) (env : Env) (t s : ℕ) → Keeps (hval g m e env t s) (hval g (suc m) e env t s)
-hval-grows g m e env t s = approximation-grows value value-grows g m (record { tree = e; env = env }) t s
 
 pub hval-up : (g : Given Referent) (m n : ℕ) → m ≤ n → (e : PlainTree) (env : Env) (t s : ℕ) → Keeps (hval g m e env t s) (hval g n e env t s)
 hval-up g m n h e env t s = approximation-up value value-grows g m n h (record { tree = e; env = env }) t s

@@ -1,7 +1,5 @@
 -- A defined approximation is the same at each greater limit, for any positions: once for trees and for nodes.
-use Rattle.std.proofs.Common.{◌≡◌, ℕ, zero, suc, ◌≤◌, Option, Some, None, subst, ◌⊎◌, inl, inr, arith}
-use Rattle.lucid_value.specs.Plain.{PlainValue}
-use Rattle.lucid_tree.specs.Levels.{Target, element_of, goes_to, nowhere, Given, or_else, Below, below, approximation}
+use Rattle.lucid_tree.proofs.Common.{◌≡◌, ℕ, zero, suc, ◌≤◌, Option, Some, None, subst, ◌⊎◌, inl, inr, arith, PlainValue, Target, element_of, goes_to, nowhere, Given, or_else, Below, below, approximation}
 use Rattle.lucid_tree.proofs.Plans.{Keeps}
 
 pub or_else-keeps : (o r r' : Option PlainValue) → Keeps r r' → Keeps (or_else o r) (or_else o r')

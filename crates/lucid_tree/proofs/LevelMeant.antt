@@ -1,7 +1,5 @@
 -- Held values that are meant give only values that are meant, for any positions: once for trees and for nodes.
-use Rattle.std.proofs.Common.{◌≡◌, ℕ, zero, suc, Option, Some, None, ◌⊎◌, inl, inr, arith}
-use Rattle.lucid_value.specs.Plain.{PlainValue}
-use Rattle.lucid_tree.specs.Levels.{Target, element_of, goes_to, nowhere, Elements, Given, nothing_held, or_else, Below, below, approximation}
+use Rattle.lucid_tree.proofs.Common.{◌≡◌, ℕ, zero, suc, Option, Some, None, ◌⊎◌, inl, inr, arith, PlainValue, Target, element_of, goes_to, nowhere, Elements, Given, nothing_held, or_else, Below, below, approximation}
 use Rattle.lucid_tree.proofs.Plans.{Keeps}
 use Rattle.lucid_tree.proofs.LevelGrowth.{Grows, below-grows}
 

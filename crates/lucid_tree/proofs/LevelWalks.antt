@@ -1,8 +1,6 @@
 -- What references meet, level by level, for any positions: once for trees and for nodes.
-use Rattle.std.proofs.Common.{◌≡◌, ℕ, zero, suc, ◌+◌, List, ◌∷◌, Option, Some, ap, refl, arith}
-use Rattle.lucid_value.specs.Plain.{PlainValue}
-use Rattle.lucid_tree.specs.Members.{Inside}
-use Rattle.lucid_tree.specs.Levels.{Target, element_of, goes_to, nowhere, Elements, nothing_held, Below, below, Event, referred, deeper}
+use Rattle.lucid_tree.proofs.Common.{◌≡◌, ℕ, zero, suc, ◌+◌, List, ◌∷◌, Option, Some, ap, refl, arith, PlainValue, Inside, Target, element_of, goes_to, nowhere, Elements, nothing_held, Below, below}
+use Rattle.lucid_tree.specs.Levels.{Event, referred, deeper}
 use Rattle.lucid_tree.proofs.Plans.{nat_le-suc}
 use Rattle.lucid_tree.proofs.Members.{inside-cons}
 use Rattle.lucid_tree.proofs.Traces.{TakesMore}

@@ -1,11 +1,5 @@
 -- Held values that are meant give only values that trees mean.
-use Rattle.std.proofs.Common.{◌≡◌, ℕ, zero, suc, max, List, Some, arith}
-use Rattle.lucid_value.specs.Plain.{PlainValue}
-use Rattle.lucid_tree.specs.Tree.{Head, PlainTree, form, name, call, block, PlainTrees, no_trees, tree, PlainDefs}
-use Rattle.lucid_tree.specs.Rows.{plan}
-use Rattle.lucid_tree.specs.Levels.{goes_to, Given, Below}
-use Rattle.lucid_tree.specs.Env.{Env, scope, frozen_at, Referent, Position, Aim, name_target, call_target}
-use Rattle.lucid_tree.specs.Meaning.{value_at, part_at, value, hval, Means}
+use Rattle.lucid_tree.proofs.Common.{◌≡◌, ℕ, zero, suc, max, List, Some, arith, PlainValue, Head, PlainTree, form, name, call, block, PlainTrees, no_trees, tree, PlainDefs, plan, goes_to, Given, Below, Env, scope, frozen_at, Referent, Position, Aim, name_target, call_target, value_at, part_at, value, hval, Means}
 use Rattle.lucid_tree.proofs.Plans.{Keeps, run-keeps}
 use Rattle.lucid_tree.proofs.RunsMeant.{plan-up, reader-up, run-meant}
 use Rattle.lucid_tree.proofs.Growth.{part_at-grows, value-grows}

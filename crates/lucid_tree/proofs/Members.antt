@@ -1,7 +1,6 @@
 -- What stands in a list, and lists that stand inside others: appended, chosen by a test, and read by a filter; and lists of different items.
-use Rattle.std.proofs.Common.{◌≡◌, Bool, true, false, List, [], ◌∷◌, ◌++◌, Option, Some, None, refl, sym, ap, ◌∙◌, if◌then◌else◌, arith, ◌⊎◌, inl, inr, ℕ, zero, suc, ◌<◌, ◌≤◌, length, get_or, map, Contains, subst}
-use Rattle.std.specs.List.{filter_map, cons_option}
-use Rattle.lucid_tree.specs.Members.{In, Inside, AllDiffer}
+use Rattle.lucid_tree.proofs.Common.{◌≡◌, List, [], ◌∷◌, ◌++◌, Option, Some, None, refl, sym, ap, ◌∙◌, if◌then◌else◌, arith, ◌⊎◌, inl, inr, ℕ, zero, suc, ◌<◌, ◌≤◌, length, get_or, subst, In, Inside, AllDiffer, map, Contains, filter_map, cons_option}
+use Rattle.std.proofs.Common.{Bool, true, false}
 
 pub in_left : {A : Type 0} (x : A) (xs ys : List A) → In x xs → In x (xs ++ ys)
 in_left x [] ys h = absurd h

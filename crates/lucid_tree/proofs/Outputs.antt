@@ -1,8 +1,5 @@
 -- A program has at most one output for a number of times.
-use Rattle.std.proofs.Common.{◌≡◌, ℕ, List, ◌++◌, refl}
-use Rattle.lucid_tree.specs.Tree.{PlainTree}
-use Rattle.lucid_tree.specs.Levels.{Elements}
-use Rattle.lucid_tree.specs.Env.{empty}
+use Rattle.lucid_tree.proofs.Common.{◌≡◌, ℕ, List, ◌++◌, refl, PlainTree, Elements, empty}
 use Rattle.lucid_tree.specs.Output.{line, Output, no_lines, one_line_more}
 use Rattle.lucid_tree.proofs.Growth.{meant-once}
 

@@ -1,9 +1,6 @@
 -- The plans of a greater approximation go on where those of a less one end, and give the same values.
-use Rattle.std.proofs.Common.{◌≡◌, ℕ, zero, suc, Bool, true, false, List, [], ◌∷◌, Option, Some, None, refl, nat_le, if◌then◌else◌, arith}
-use Rattle.std.proofs.lemmas.Bool.Decides.{nat_tests}
-use Rattle.lucid_value.specs.Plain.{PlainValue, truth}
-use Rattle.lucid_tree.specs.Tree.{Head, const, first, whenever, asa, upon}
-use Rattle.lucid_tree.specs.Rows.{Look, Plan, gives, nothing, looks, single, gives_part, by_test, at_zero, find_true, count_true, plan, Reader, all_values, add_value, with_values, run}
+use Rattle.lucid_tree.proofs.Common.{◌≡◌, ℕ, zero, suc, List, [], ◌∷◌, Option, Some, None, refl, nat_le, if◌then◌else◌, arith, nat_tests, PlainValue, truth, Head, const, first, whenever, asa, upon, Look, Plan, gives, nothing, looks, single, gives_part, by_test, at_zero, find_true, count_true, plan, Reader, all_values, add_value, with_values, run}
+use Rattle.std.proofs.Common.{Bool, true, false}
 
 -- the second plan is the first, or goes on where the first has nothing
 pub data Within : Plan → Plan → Type 0 where

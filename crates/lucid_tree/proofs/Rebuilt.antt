@@ -1,15 +1,11 @@
 -- Lists of trees and of definitions, from their items on.
-use Rattle.std.proofs.Common.{◌≡◌, ℕ, List, [], ◌∷◌, ◌++◌, refl, ap}
-use Rattle.lucid_tree.specs.Tree.{PlainTree, PlainTrees, no_trees, tree, PlainDefs, no_defs}
-use Rattle.lucid_tree.specs.Lists.{trees_of, listed}
-use Rattle.lucid_tree.specs.DefsView.{one_def, defs_of}
-use Rattle.lucid_tree.specs.Rights.{right_of, rights}
+use Rattle.lucid_tree.proofs.Common.{◌≡◌, ℕ, List, [], ◌∷◌, ◌++◌, refl, ap, PlainTree, PlainTrees, no_trees, tree, PlainDefs, no_defs, trees_of, listed, defs_of, rights, Def, Plain, Function, Current}
+use Rattle.lucid_tree.specs.DefsView.{one_def}
+use Rattle.lucid_tree.specs.Rights.{right_of}
 use Rattle.lucid_tree.specs.View.{tree_of}
 use Rattle.lucid_tree.specs.Parts.{parts_of}
 use Rattle.lucid_tree.specs.declared.tree.Kind.{Kind}
 use Rattle.lucid_tree.specs.declared.tree.Kind.TheVariants.{Const, Name, Call, Apply, If, And, Or, First, Next, Fby, Whenever, Asa, Upon, Attime, Initial, Succ, Sby, Atspace, Scope}
-use Rattle.lucid_tree.specs.declared.tree.Def.{Def}
-use Rattle.lucid_tree.specs.declared.tree.DefKind.TheVariants.{Plain, Function, Current}
 
 pub trees_of_listed : (es : PlainTrees) → trees_of (listed es) ≡ es
 trees_of_listed no_trees = refl

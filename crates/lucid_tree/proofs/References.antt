@@ -1,11 +1,7 @@
 -- A reference at one more is what it goes on with, and means what that means.
-use Rattle.std.proofs.Common.{◌≡◌, ℕ, zero, suc, ◌+◌, List, Option, Some, None, refl, sym, ◌∙◌, arith, add-one, get_or}
-use Rattle.lucid_value.specs.Plain.{PlainValue}
-use Rattle.lucid_tree.specs.Tree.{PlainTree, name, call, PlainTrees, PlainDefs}
-use Rattle.lucid_tree.specs.Levels.{Elements, nothing_held, below}
-use Rattle.lucid_tree.specs.Env.{Env, empty, scope, args, plain_def, function_def, current_def, definition, param, tree_at, Referent, to_tree, name_target, call_target}
+use Rattle.lucid_tree.proofs.Common.{◌≡◌, ℕ, zero, suc, ◌+◌, List, Option, Some, None, refl, sym, ◌∙◌, arith, add-one, get_or, PlainValue, PlainTree, name, call, PlainTrees, PlainDefs, Elements, nothing_held, below, Env, empty, scope, args, plain_def, function_def, current_def, definition, param, tree_at, Referent, name_target, call_target, value, val, Means}
+use Rattle.lucid_tree.specs.Env.{to_tree}
 use Rattle.lucid_tree.specs.Find.{Outwards, stays, past_block, past_call}
-use Rattle.lucid_tree.specs.Meaning.{value, val, Means}
 use Rattle.lucid_tree.specs.Laws.{IsOneReference}
 
 -- what a search outwards comes to decides

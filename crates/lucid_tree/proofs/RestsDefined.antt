@@ -1,9 +1,5 @@
 -- Where a plan is defined by a reader that never differs from what is meant, so is its rest, and each look that stands next.
-use Rattle.std.proofs.Common.{◌≡◌, List, [], ◌∷◌, Option, Some, None, refl, sym, ap, ◌∙◌, subst, inl, inr}
-use Rattle.lucid_value.specs.Plain.{PlainValue}
-use Rattle.lucid_tree.specs.Members.{In}
-use Rattle.lucid_tree.specs.Rows.{Look, Plan, nothing, looks, Reader, all_values, add_value, run}
-use Rattle.lucid_tree.specs.Rests.{Reads, AllHave, LeadsTo, at_start, and_then}
+use Rattle.lucid_tree.proofs.Common.{◌≡◌, List, [], ◌∷◌, Option, Some, None, refl, sym, ap, ◌∙◌, subst, inl, inr, PlainValue, In, Look, Plan, nothing, looks, Reader, all_values, add_value, run, Reads, AllHave, LeadsTo, at_start, and_then}
 use Rattle.lucid_tree.proofs.Settled.{added, defined}
 
 module _ (M : Look → PlainValue → Type 0) (r : Reader (Option PlainValue)) (agree : (l : Look) (v w : PlainValue) → M l v → Reads r l w → v ≡ w) where

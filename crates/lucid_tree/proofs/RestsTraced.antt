@@ -1,11 +1,6 @@
 -- What a plan traces at its rest: the looks that stand next, and, where it comes to a value, nothing but the looks on the way.
-use Rattle.std.proofs.Common.{◌≡◌, ℕ, suc, ◌+◌, ◌≤◌, Bool, true, false, List, [], ◌∷◌, Option, Some, sym, subst, nat_le, if◌then◌else◌, ◌⊎◌, inl, inr, arith}
-use Rattle.std.proofs.lemmas.Bool.Decides.{nat_tests}
-use Rattle.lucid_value.specs.Plain.{PlainValue}
-use Rattle.lucid_tree.specs.Tree.{Head}
-use Rattle.lucid_tree.specs.Members.{In, Inside}
-use Rattle.lucid_tree.specs.Rows.{Look, Plan, gives, looks, plan, Reader, all_values, with_values, gather, trace}
-use Rattle.lucid_tree.specs.Rests.{Reads, ReadsAtSome, AllHave, LeadsTo, at_start, and_then}
+use Rattle.lucid_tree.proofs.Common.{◌≡◌, ℕ, suc, ◌+◌, ◌≤◌, List, [], ◌∷◌, Option, Some, sym, subst, nat_le, if◌then◌else◌, ◌⊎◌, inl, inr, arith, nat_tests, PlainValue, Head, In, Inside, Look, Plan, gives, looks, plan, Reader, all_values, with_values, gather, trace, Reads, ReadsAtSome, AllHave, LeadsTo, at_start, and_then}
+use Rattle.std.proofs.Common.{Bool, true, false}
 use Rattle.lucid_tree.proofs.Members.{in_left, in_right, in_either}
 use Rattle.lucid_tree.proofs.Plans.{Within, same_looks, Keeps}
 use Rattle.lucid_tree.proofs.Settled.{AllTaken, one_taken, Takes, takes_looks, takes_plan}

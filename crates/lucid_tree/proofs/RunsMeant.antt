@@ -1,9 +1,6 @@
 -- A value of a plan, read from parts whose values are each given by some reader of a growing family, is given by one reader of
 -- that family.
-use Rattle.std.proofs.Common.{◌≡◌, ℕ, zero, suc, ◌≤◌, max, List, [], ◌∷◌, Option, Some, refl, sym, ◌∙◌, subst, inl, inr, arith}
-use Rattle.lucid_value.specs.Plain.{PlainValue}
-use Rattle.lucid_tree.specs.Tree.{Head}
-use Rattle.lucid_tree.specs.Rows.{Look, Plan, gives, nothing, looks, plan, Reader, add_value, all_values, run}
+use Rattle.lucid_tree.proofs.Common.{◌≡◌, ℕ, zero, suc, ◌≤◌, max, List, [], ◌∷◌, Option, Some, refl, sym, ◌∙◌, subst, inl, inr, arith, PlainValue, Head, Look, Plan, gives, nothing, looks, plan, Reader, add_value, all_values, run}
 use Rattle.lucid_tree.proofs.Plans.{Within, from_nothing, same_value, same_looks, within_itself, Keeps, all_values-keeps, run-keeps, plan-grows}
 use Rattle.lucid_tree.proofs.Settled.{added, defined}
 use Rattle.lucid_tree.proofs.LevelGrowth.{last_or_less}

@@ -1,12 +1,7 @@
 -- The equations of `whenever` and `upon`, unfolded by one time.
-use Rattle.std.proofs.Common.{◌≡◌, ℕ, zero, suc, ◌+◌, ◌≤◌, ◌<◌, Option, None, true, false, refl, sym, ap, ◌∙◌, nat_le, if◌then◌else◌, arith}
-use Rattle.std.proofs.lemmas.Bool.Decides.{nat_tests}
-use Rattle.lucid_value.specs.Plain.{PlainValue}
-use Rattle.lucid_tree.specs.Tree.{PlainTree, no_trees, tree, first_of, next_of, fby_of, whenever_of, upon_of, if_of}
-use Rattle.lucid_tree.specs.Rows.{Plan, nothing, gives_part, at_zero, find_true, count_true, last, Reader, run}
-use Rattle.lucid_tree.specs.Levels.{Elements, nothing_held, below}
-use Rattle.lucid_tree.specs.Env.{Env}
-use Rattle.lucid_tree.specs.Meaning.{value, part_at, val}
+use Rattle.lucid_tree.proofs.Common.{◌≡◌, ℕ, zero, suc, ◌+◌, ◌≤◌, ◌<◌, Option, None, refl, sym, ap, ◌∙◌, nat_le, if◌then◌else◌, arith, nat_tests, PlainValue, PlainTree, no_trees, tree, first_of, next_of, fby_of, whenever_of, Plan, nothing, gives_part, at_zero, find_true, count_true, last, Reader, run, Elements, nothing_held, below, Env, value, part_at, val}
+use Rattle.std.proofs.Common.{true, false}
+use Rattle.lucid_tree.specs.Tree.{upon_of, if_of}
 use Rattle.lucid_tree.specs.Laws.{whenever_unfolded, upon_unfolded, WheneverEquation, UponEquation}
 use Rattle.lucid_tree.proofs.Plans.{Keeps, run-keeps, find-grows, within_itself}
 use Rattle.lucid_tree.proofs.LevelGrowth.{below-grows}

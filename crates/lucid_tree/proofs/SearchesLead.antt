@@ -1,11 +1,7 @@
 -- True values counted below a time lead a search there along its plan, also where the time lies past the plan's last look.
-use Rattle.std.proofs.Common.{◌≡◌, ℕ, zero, suc, ◌-◌, ◌<◌, ◌≤◌, ◌⊎◌, inl, inr, [], ◌∷◌, Option, Some, None, refl, sym, ap, ◌∙◌, subst, nat_le, if◌then◌else◌, arith}
+use Rattle.lucid_tree.proofs.Common.{◌≡◌, ℕ, zero, suc, ◌<◌, ◌≤◌, ◌⊎◌, inl, inr, [], ◌∷◌, Option, Some, None, refl, sym, ap, ◌∙◌, subst, nat_le, if◌then◌else◌, arith, PlainValue, truth, Head, whenever, asa, upon, Look, Plan, nothing, plan, find_true, count_true, LeadsTo, at_start, and_then, ◌-◌, cases_lt}
 use Rattle.std.specs.Prelude.{Bool, true, false}
-use Rattle.std.proofs.lemmas.Bool.{cases_lt}
-use Rattle.lucid_value.specs.Plain.{PlainValue, truth}
-use Rattle.lucid_tree.specs.Tree.{Head, whenever, asa, upon}
-use Rattle.lucid_tree.specs.Rows.{Look, Plan, nothing, plan, find_true, count_true}
-use Rattle.lucid_tree.specs.Rests.{LeadsTo, at_start, and_then, count_on, count_below, rest_at, CanStandAt}
+use Rattle.lucid_tree.specs.Rests.{count_on, count_below, rest_at, CanStandAt}
 use Rattle.lucid_tree.proofs.Plans.{Keeps}
 
 -- how a count that goes on went on: the value was a truth

@@ -1,11 +1,9 @@
 -- What a plan with a value sees is what each plan that goes on further sees.
-use Rattle.std.proofs.Common.{◌≡◌, ℕ, zero, suc, ◌+◌, ◌≤◌, Bool, true, false, List, [], ◌∷◌, Option, Some, None, refl, nat_le, nat_lt, if◌then◌else◌, arith}
-use Rattle.std.specs.Prelude.{pos}
-use Rattle.std.proofs.lemmas.Bool.Decides.{nat_tests}
+use Rattle.lucid_tree.proofs.Common.{◌≡◌, ℕ, zero, suc, ◌+◌, ◌≤◌, List, [], ◌∷◌, Option, Some, None, refl, nat_le, nat_lt, if◌then◌else◌, arith, pos, nat_tests, PlainValue, int, truth, fault, Head, const, apply, choose, both, either, first, next, fby, whenever, asa, upon, Look, Plan, gives, nothing, looks, look, single, gives_part, by_test, by_place, at_zero, arguments, find_true, count_true, last, plan, Reader, add_value, all_values, with_values, run, gather, trace}
+use Rattle.std.proofs.Common.{Bool, true, false}
 use Rattle.lucid_lemmas.proofs.Numbers.{zero_le}
-use Rattle.lucid_value.specs.Plain.{PlainValue, int, truth, list, fault}
-use Rattle.lucid_tree.specs.Tree.{Head, const, apply, choose, both, either, first, next, fby, whenever, asa, upon, initial, succ, sby}
-use Rattle.lucid_tree.specs.Rows.{Look, Plan, gives, nothing, looks, look, single, gives_part, by_test, by_place, at_zero, arguments, find_true, count_true, last, plan, Reader, add_value, all_values, with_values, run, gather, trace}
+use Rattle.lucid_value.specs.Plain.{list}
+use Rattle.lucid_tree.specs.Tree.{initial, succ, sby}
 use Rattle.lucid_tree.proofs.Plans.{Within, from_nothing, same_value, same_looks, Keeps, all_values-keeps}
 use Rattle.lucid_tree.proofs.Traces.{TakesMore}
 

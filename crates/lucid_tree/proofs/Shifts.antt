@@ -1,7 +1,6 @@
 -- A search over `next X` and `next P` is the search over X and P one time later.
-use Rattle.std.proofs.Common.{◌≡◌, ℕ, zero, suc, ◌+◌, ◌≤◌, ◌<◌, [], Option, Some, None, true, false, refl, sym, subst, ◌∙◌, arith}
-use Rattle.lucid_value.specs.Plain.{PlainValue, truth}
-use Rattle.lucid_tree.specs.Rows.{Plan, gives_part, single, by_test, at_zero, find_true, count_true, last, Reader, add_value, with_values, run}
+use Rattle.lucid_tree.proofs.Common.{◌≡◌, ℕ, zero, suc, ◌+◌, ◌≤◌, ◌<◌, [], Option, Some, None, refl, sym, subst, ◌∙◌, arith, PlainValue, truth, Plan, gives_part, single, by_test, at_zero, find_true, count_true, last, Reader, add_value, with_values, run}
+use Rattle.std.proofs.Common.{true, false}
 use Rattle.lucid_tree.proofs.Plans.{Keeps}
 use Rattle.lucid_tree.proofs.Undone.{alone}
 

@@ -1,12 +1,8 @@
 -- An expression without forms over space has the same value at any two spaces.
-use Rattle.std.proofs.Common.{◌≡◌, ℕ, zero, suc, Bool, true, false, List, [], ◌∷◌, Option, Some, None, refl, if◌then◌else◌, nat_lt, nat_le, arith}
-use Rattle.std.specs.Prelude.{pos}
-use Rattle.lucid_value.specs.Plain.{PlainValue, int, truth, fault}
-use Rattle.lucid_tree.specs.Tree.{Head, const, apply, choose, both, either, first, next, fby, whenever, asa, upon, attime, PlainTree, form, name, call, block, PlainTrees, no_trees, tree, PlainDefs, no_defs, defines, defines_function, defines_current}
-use Rattle.lucid_tree.specs.Rows.{Look, Plan, gives, nothing, looks, look, single, gives_part, by_test, by_place, at_zero, arguments, find_true, count_true, last, plan, Reader, add_value, all_values, with_values, run}
-use Rattle.lucid_tree.specs.Levels.{Elements, nothing_held, element_of, goes_to, nowhere, Below, below}
-use Rattle.lucid_tree.specs.Env.{Env, empty, scope, args, Found, absent, plain_def, function_def, current_def, same_name, definition, frozen_at, Referent, Position, Aim, in_scope, frozen_target, param, tree_at, to_actual, in_args, name_target, called, unless_param, call_target}
-use Rattle.lucid_tree.specs.Meaning.{value_at, value, val}
+use Rattle.lucid_tree.proofs.Common.{◌≡◌, ℕ, zero, suc, List, [], ◌∷◌, Option, Some, None, refl, if◌then◌else◌, nat_lt, nat_le, arith, pos, PlainValue, int, truth, fault, Head, const, apply, choose, both, either, first, next, fby, whenever, asa, upon, PlainTree, form, name, call, block, PlainTrees, no_trees, tree, PlainDefs, no_defs, defines, defines_function, defines_current, Look, Plan, gives, nothing, looks, look, single, gives_part, by_test, by_place, at_zero, arguments, find_true, count_true, last, plan, Reader, add_value, all_values, with_values, run, Elements, nothing_held, element_of, goes_to, nowhere, Below, below, Env, empty, scope, args, plain_def, function_def, current_def, same_name, definition, frozen_at, Referent, Position, Aim, param, tree_at, name_target, call_target, value_at, value, val}
+use Rattle.std.proofs.Common.{Bool, true, false}
+use Rattle.lucid_tree.specs.Tree.{attime}
+use Rattle.lucid_tree.specs.Env.{Found, absent, in_scope, frozen_target, to_actual, in_args, called, unless_param}
 use Rattle.lucid_tree.specs.Meaning as meaning
 use Rattle.lucid_tree.specs.Spaceless.{is_over_space, IsSpaceless, AreSpaceless, DefsAreSpaceless, EnvIsSpaceless}
 

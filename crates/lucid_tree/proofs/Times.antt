@@ -1,8 +1,6 @@
 -- How often a number stands in a list: at most once exactly where the items differ.
-use Rattle.std.proofs.Common.{◌≡◌, ℕ, ◌+◌, ◌≤◌, Bool, true, false, cond, List, [], ◌∷◌, ◌++◌, nat_eq, count_by, ◌⊎◌, inl, inr, refl, ap, ◌∙◌, sym, subst, arith}
-use Rattle.std.proofs.lemmas.Bool.{eqb-true, eq-eqb}
-use Rattle.std.proofs.lemmas.List.Sums.{sum_by-cons}
-use Rattle.lucid_tree.specs.Members.{In, AllDiffer}
+use Rattle.lucid_tree.proofs.Common.{◌≡◌, ℕ, ◌+◌, ◌≤◌, List, [], ◌∷◌, ◌++◌, ◌⊎◌, inl, inr, refl, ap, ◌∙◌, sym, subst, arith, In, AllDiffer, cond, nat_eq, count_by, eqb-true, eq-eqb, sum_by-cons}
+use Rattle.std.proofs.Common.{Bool, true, false}
 
 abbrev pub times : ℕ → List ℕ → ℕ
 times x [] = 0

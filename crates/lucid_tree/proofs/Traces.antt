@@ -1,8 +1,6 @@
 -- What a plan sees grows with what is decided, with what its looks see, and with the approximation.
-use Rattle.std.proofs.Common.{◌≡◌, ℕ, true, List, [], ◌∷◌, Option, Some, None, refl, nat_le}
-use Rattle.lucid_value.specs.Plain.{PlainValue}
-use Rattle.lucid_tree.specs.Members.{Inside}
-use Rattle.lucid_tree.specs.Rows.{Look, Plan, Reader, all_values, with_values, gather, trace}
+use Rattle.lucid_tree.proofs.Common.{◌≡◌, ℕ, List, [], ◌∷◌, Option, Some, None, refl, nat_le, PlainValue, Inside, Look, Plan, Reader, all_values, with_values, gather, trace}
+use Rattle.std.proofs.Common.{true}
 use Rattle.lucid_tree.proofs.Members.{inside-append, inside-if}
 use Rattle.lucid_tree.proofs.Plans.{Within, from_nothing, same_value, same_looks, Keeps, all_values-keeps}
 

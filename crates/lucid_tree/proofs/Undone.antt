@@ -1,12 +1,7 @@
 -- What undoes what: `first` and `next` undo `fby`, `initial` and `succ` undo `sby`, and `asa` is `first` of `whenever`.
-use Rattle.std.proofs.Common.{◌≡◌, ℕ, suc, ◌<◌, [], Option, Some, None, true, refl, ◌∙◌, arith, nat_lt}
-use Rattle.std.proofs.lemmas.Bool.Decides.{nat_tests}
-use Rattle.lucid_value.specs.Plain.{PlainValue}
-use Rattle.lucid_tree.specs.Tree.{PlainTree, first_of, next_of, fby_of, whenever_of, asa_of, initial_of, succ_of, sby_of}
-use Rattle.lucid_tree.specs.Rows.{gives, run, Reader, single, add_value, with_values, last}
-use Rattle.lucid_tree.specs.Levels.{Elements}
-use Rattle.lucid_tree.specs.Env.{Env}
-use Rattle.lucid_tree.specs.Meaning.{val}
+use Rattle.lucid_tree.proofs.Common.{◌≡◌, ℕ, suc, ◌<◌, [], Option, Some, None, refl, ◌∙◌, arith, nat_lt, nat_tests, PlainValue, PlainTree, first_of, next_of, fby_of, whenever_of, gives, run, Reader, single, add_value, with_values, last, Elements, Env, val}
+use Rattle.std.proofs.Common.{true}
+use Rattle.lucid_tree.specs.Tree.{asa_of, initial_of, succ_of, sby_of}
 
 -- the value of one look alone
 pub alone : (o : Option PlainValue) (r : Reader (Option PlainValue)) → with_values (add_value o (Some [])) None (λ vs. run (single gives vs) r) ≡ o

@@ -1,11 +1,7 @@
 -- What a tree's approximation meets grows with the limit and with the added number.
-use Rattle.std.proofs.Common.{◌≡◌, ℕ, zero, suc, ◌+◌, []}
-use Rattle.lucid_tree.specs.Tree.{PlainTree, form, name, call, block, PlainTrees, no_trees, tree}
-use Rattle.lucid_tree.specs.Members.{Inside}
-use Rattle.lucid_tree.specs.Levels.{Elements, Given, nothing_held, below, look_up_of}
-use Rattle.lucid_tree.specs.Env.{Env, scope, frozen_at, Referent, Aim, name_target, call_target}
-use Rattle.lucid_tree.specs.Meaning.{part_at, value}
-use Rattle.lucid_tree.specs.Demand.{Events, entry_of, frozen_entry, walk_at, walk_part, walk, seen, consults}
+use Rattle.lucid_tree.proofs.Common.{◌≡◌, ℕ, zero, suc, ◌+◌, [], PlainTree, form, name, call, block, PlainTrees, no_trees, tree, Inside, Elements, Given, nothing_held, below, Env, scope, frozen_at, Referent, Aim, name_target, call_target, part_at, value, Events, entry_of, frozen_entry, walk_at, walk_part, walk, seen}
+use Rattle.lucid_tree.specs.Levels.{look_up_of}
+use Rattle.lucid_tree.specs.Demand.{consults}
 use Rattle.lucid_tree.proofs.Plans.{plan-grows}
 use Rattle.lucid_tree.proofs.Members.{inside_itself, inside-after, inside-read}
 use Rattle.lucid_tree.proofs.Traces.{TakesMore, trace-inside}

@@ -1,9 +1,6 @@
 -- Ways from a plan to its rest: they go over by any map of facts, they join, and where a reader has the values on the way, the
 -- plan and its rest have one value.
-use Rattle.std.proofs.Common.{◌≡◌, ℕ, suc, ◌≤◌, max, List, [], ◌∷◌, Option, Some, None, refl, ap, ◌∙◌, arith}
-use Rattle.lucid_value.specs.Plain.{PlainValue}
-use Rattle.lucid_tree.specs.Rows.{Look, Plan, looks, Reader, all_values, with_values, run}
-use Rattle.lucid_tree.specs.Rests.{Reads, ReadsAtSome, AllHave, LeadsTo, at_start, and_then}
+use Rattle.lucid_tree.proofs.Common.{◌≡◌, ℕ, suc, ◌≤◌, max, List, [], ◌∷◌, Option, Some, None, refl, ap, ◌∙◌, arith, PlainValue, Look, Plan, looks, Reader, all_values, with_values, run, Reads, ReadsAtSome, AllHave, LeadsTo, at_start, and_then}
 use Rattle.lucid_tree.proofs.Plans.{Within, same_looks, Keeps}
 use Rattle.lucid_tree.proofs.RunsMeant.{reader-up}
 

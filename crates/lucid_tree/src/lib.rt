@@ -8,6 +8,9 @@ pub use crate::parts::Parts;
 pub use crate::shape::{Head, Shape};
 pub use crate::tree::{Block, Def, DefKind, Defs, Kind, Tree, Trees};
 
+/// The last time, and the last space.
+pub const LAST: u64 = (1 << 63) - 1;
+
 mod copy;
 mod definitions;
 mod depth;

@@ -1,23 +1,9 @@
 -- Constants, words and integers: what the reader gives of their bytes is what the bytes denote.
-use Rattle.std.proofs.Common.{◌≡◌, ℕ, zero, suc, ◌<◌, ◌≤◌, ◌^◌, List, [], ◌∷◌, Bool, true, false, Option, Some, None, refl, sym, ap, subst, arith, length, ◌&&◌, ◌||◌, rules}
-use Rattle.std.specs.Prelude.{Result, Ok, Err, ℤ, pos, neg_ℤ, nat_lt, nat_le, nat_eq, not, codes, if◌then◌else◌}
-use Rattle.std.specs.Option.{option_map}
-use Rattle.std.specs.Result.{result_ok, OkIff}
-use Rattle.std.specs.List.{list_all}
-use Rattle.std.specs.Char.{is_ascii_digit, is_ascii_alphabetic, is_ascii_alphanumeric}
-use Rattle.std.specs.Cmp.Derive.{both_true}
-use Rattle.std.specs.Str.{IsUtf8, IsAscii}
-use Rattle.std.specs.Str.Parse.{ParsesSigned}
-use Rattle.std.proofs.lemmas.Fmt.{IsAscii-from_digits}
-use Rattle.std.proofs.lemmas.Str.{IsUtf8-from_ascii}
-use Rattle.std.proofs.lemmas.Str.Parse.{IsDigitsTest, WeighsDigits, IsNumeralModel, numerals_by_weight, parse_signed_minus, parse_signed_plain}
-use Rattle.std.proofs.lemmas.Bool.{and_parts, leb-true, le-leb, ltb-true, lt-ltb, eqb-true}
-use Rattle.std.proofs.lemmas.Bool.Decides.{nat_tests, Decides-eqb}
-use Rattle.std.proofs.lemmas.Slice.Eq.{slice_eq-Decides}
+use Rattle.lucid_value.proofs.Common.{◌≡◌, ℕ, zero, suc, ◌≤◌, ◌^◌, List, [], ◌∷◌, Bool, true, false, Option, Some, None, refl, sym, ap, subst, arith, ◌&&◌, ◌||◌, pos, neg_ℤ, nat_lt, nat_le, nat_eq, if◌then◌else◌, list_all, both_true, and_parts, leb-true, le-leb, ltb-true, lt-ltb, eqb-true, nat_tests, PlainValue, int, truth, word, text, list, eod, fault, is_light, weight, is_number, number_of, Denotes, denotes_number, denotes_minus, denotes_true, denotes_false, denotes_word, denotes_text, denotes_list, denotes_eod, denotes_fault, atom_value, is_atom_byte, rules, Result, Ok, Err, ℤ, not, codes, option_map, result_ok, OkIff, is_ascii_digit, is_ascii_alphabetic, is_ascii_alphanumeric, IsUtf8, IsAscii, ParsesSigned, IsAscii-from_digits, IsUtf8-from_ascii, IsDigitsTest, WeighsDigits, IsNumeralModel, numerals_by_weight, parse_signed_minus, parse_signed_plain, Decides-eqb, slice_eq-Decides}
+use Rattle.std.proofs.Common.{◌<◌, length}
 use mir.Syntax.{w128}
-use Rattle.lucid_value.specs.Plain.{PlainValue, int, truth, word, text, list, eod, fault, same_bytes, is_wordlike, is_word, is_light, spells_constant, weight}
-use Rattle.lucid_value.specs.Reading.{is_number, number_of, Denotes, denotes_number, denotes_minus, denotes_true, denotes_false, denotes_word, denotes_text, denotes_list, denotes_eod, denotes_fault}
-use Rattle.lucid_value.specs.ListScan.{is_integerlike, integer_value, word_value, atom_value, is_atom_byte}
+use Rattle.lucid_value.specs.Plain.{same_bytes, is_wordlike, is_word, spells_constant}
+use Rattle.lucid_value.specs.ListScan.{is_integerlike, integer_value, word_value}
 
 -- decimal digits and their number are what std's `parse` reads
 abbrev AreDigits : List ℕ → Type 0

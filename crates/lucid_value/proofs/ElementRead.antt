@@ -1,19 +1,11 @@
 -- The function of elements gives each element.
-use Rattle.std.proofs.Common.{◌≡◌, ℕ, List, [], ◌∷◌, ◌++◌, Bool, true, false, Option, Some, None, refl, sym, ap, ◌∙◌, subst, arith, length, reverse}
-use Rattle.std.specs.Prelude.{nat_eq, nat_le, if◌then◌else◌, slice_get}
-use Rattle.std.specs.List.{list_all}
-use Rattle.std.specs.Cmp.Derive.{both_true}
-use Rattle.std.proofs.lemmas.Bool.{and_parts, leb-true, leb-false, le-leb, eqb-true}
-use Rattle.std.proofs.lemmas.List.{reverse-append, reverse-reverse}
-use Rattle.lucid_value.specs.Plain.{PlainValue, list, fault, weight, nesting, within_limits}
+use Rattle.lucid_value.proofs.Common.{◌≡◌, ℕ, List, [], ◌∷◌, ◌++◌, Bool, true, false, Option, Some, None, refl, sym, ap, ◌∙◌, subst, arith, reverse, nat_eq, nat_le, if◌then◌else◌, list_all, both_true, and_parts, leb-true, le-leb, eqb-true, reverse-append, reverse-reverse, PlainValue, list, fault, weight, nesting, within_limits, Denotes, denotes_list, Reads, ReadsLine, State, state, start, runs, opened, is_atom_byte, after_blanks, Done, leb-false}
+use Rattle.std.proofs.Common.{length}
+use Rattle.std.specs.Prelude.{slice_get}
 use Rattle.lucid_value.specs.Texts.{value_or_fault}
-use Rattle.lucid_value.specs.Reading.{Denotes, denotes_list, Reads, ReadsLine}
 use Rattle.lucid_value.specs.Lines.{lines_of, without_end, IsLineValue, line_value, line_unread, line_long, IsElementOf}
 use Rattle.lucid_value.specs.Laws.{ElementIs, OneElement}
 use Rattle.lucid_value.specs.Elements.{last_quote_off, quotes_off, whole_list, value_by_kind, if_within_limits, value_read, trimmed, line_value_of, element_of_line, element}
-use Rattle.lucid_value.specs.ListScan.{State, state, start, runs, opened, is_atom_byte}
-use Rattle.lucid_value.specs.Trimming.{after_blanks}
-use Rattle.lucid_value.specs.declared.list_scan.Focus.TheVariants.{Done}
 use Rattle.lucid_value.proofs.AtomValues.{atom_read, atom_bytes, atom_denotes}
 use Rattle.lucid_value.proofs.ScanSound.{scan_sound, text_denotes}
 use Rattle.lucid_value.proofs.ScanComplete.{scan_complete, text_reads, not_equal}

@@ -1,15 +1,8 @@
 -- Lists in front of bytes: none where the scan finds none, and at most one.
-use Rattle.std.proofs.Common.{◌≡◌, ℕ, zero, suc, ◌+◌, ◌≤◌, ◌<◌, List, [], ◌∷◌, ◌++◌, Bool, true, false, Option, Some, None, refl, sym, ap, ◌∙◌, subst, arith, ◌&&◌, length, take, drop, get_or}
-use Rattle.std.specs.Prelude.{nat_eq, if◌then◌else◌}
-use Rattle.std.proofs.lemmas.List.{take_more, take-append-drop}
-use Rattle.std.proofs.Math.Seq.{drop-cons}
-use Rattle.std.proofs.lemmas.Bool.{eqb-true}
-use Rattle.lucid_value.specs.Plain.{list, Items, weights, nestings}
-use Rattle.lucid_value.specs.Reading.{Denotes, denotes_list, DenotesItems, IsListFront, IsFront}
-use Rattle.lucid_value.specs.ListScan.{State, state, start, step, step_from, runs, is_done, opened, Went, IsScanned}
-use Rattle.lucid_value.specs.declared.list_scan.Focus.{Focus}
-use Rattle.lucid_value.specs.declared.list_scan.Focus.TheVariants.{Done}
-use Rattle.lucid_value.specs.declared.list_scan.Front.{Front}
+use Rattle.lucid_value.proofs.Common.{◌≡◌, ℕ, zero, suc, ◌≤◌, List, [], ◌∷◌, ◌++◌, Bool, true, false, Option, Some, None, refl, sym, ap, ◌∙◌, subst, arith, ◌&&◌, take, drop, nat_eq, if◌then◌else◌, take-append-drop, eqb-true, list, Items, weights, nestings, Denotes, denotes_list, DenotesItems, IsListFront, State, state, start, step, step_from, runs, is_done, opened, IsScanned, Focus, Done, Front, get_or, take_more, drop-cons}
+use Rattle.std.proofs.Common.{◌+◌, ◌<◌, length}
+use Rattle.lucid_value.specs.Reading.{IsFront}
+use Rattle.lucid_value.specs.ListScan.{Went}
 use Rattle.lucid_value.proofs.ScanSound.{scan_sound, runs_none}
 use Rattle.lucid_value.proofs.ScanComplete.{runs_append, scan_complete}
 

@@ -1,12 +1,7 @@
 -- Lists that are joined, and values in front of lists.
-use Rattle.std.proofs.Common.{◌≡◌, ◌+◌, ◌≤◌, max, ◌<◌, refl, ap, ◌∙◌, map, arith, List, [], ◌∷◌, ◌++◌, IsTrue, ◌&&◌, Bool, true, false}
-use Rattle.std.specs.Prelude.{◌↔◌, nat_le, if◌then◌else◌}
-use Rattle.std.proofs.lemmas.Bool.Decides.{nat_tests}
-use Rattle.std.proofs.lemmas.Bool.{and_parts, leb-true, le-leb}
-use Rattle.std.specs.Cmp.Derive.{both_true}
-use Rattle.std.proofs.lemmas.List.{map-append}
-use Rattle.lucid_value.specs.Plain.{PlainValue, list, fault, Items, no_items, item, weights, nestings, may_be_held, well_formed, all_well_formed}
-use Rattle.lucid_value.specs.Lists.{joined, onto, limited_list, IsOverLimit, first_of, rest_of}
+use Rattle.lucid_value.proofs.Common.{◌≡◌, ◌≤◌, refl, ap, ◌∙◌, map, arith, List, [], ◌∷◌, ◌++◌, IsTrue, ◌&&◌, Bool, true, false, ◌↔◌, nat_le, if◌then◌else◌, nat_tests, and_parts, leb-true, le-leb, both_true, PlainValue, list, fault, Items, no_items, item, weights, nestings, may_be_held, well_formed, all_well_formed, joined, onto, max, map-append}
+use Rattle.std.proofs.Common.{◌+◌, ◌<◌}
+use Rattle.lucid_value.specs.Lists.{limited_list, IsOverLimit, first_of, rest_of}
 
 pub weights_joined : (us vs : Items) → weights (joined us vs) ≡ weights us + weights vs
 weights_joined no_items vs = omega arith

@@ -1,14 +1,7 @@
 -- Bytes are read as at most one value, and at most one list stands in front of bytes.
-use Rattle.std.proofs.Common.{◌≡◌, ℕ, zero, suc, ◌≤◌, ◌<◌, List, [], ◌∷◌, ◌++◌, Bool, true, false, Some, refl, sym, ap, ◌∙◌, subst, arith, length, take, reverse}
-use Rattle.std.specs.Prelude.{nat_lt}
-use Rattle.std.proofs.lemmas.Bool.{ltb-true, ltb-false}
-use Rattle.std.proofs.lemmas.List.{reverse-reverse}
-use Rattle.lucid_value.specs.Plain.{PlainValue, text, list, Items, weight, nesting}
-use Rattle.lucid_value.specs.Reading.{DenotesItems, Reads, IsListFront}
+use Rattle.lucid_value.proofs.Common.{◌≡◌, ℕ, zero, suc, ◌≤◌, List, [], ◌∷◌, ◌++◌, Bool, true, false, Some, refl, sym, ap, ◌∙◌, subst, arith, take, reverse, nat_lt, ltb-true, ltb-false, reverse-reverse, PlainValue, text, list, Items, weight, nesting, DenotesItems, Reads, IsListFront, state, start, runs, after_blanks, Done}
+use Rattle.std.proofs.Common.{◌<◌, length}
 use Rattle.lucid_value.specs.Laws.{OneReading, OneLineReading, OneListFront}
-use Rattle.lucid_value.specs.ListScan.{state, start, runs}
-use Rattle.lucid_value.specs.Trimming.{after_blanks}
-use Rattle.lucid_value.specs.declared.list_scan.Focus.TheVariants.{Done}
 use Rattle.lucid_value.proofs.AtomValues.{atom_read}
 use Rattle.lucid_value.proofs.ScanComplete.{runs_append, scan_complete}
 use Rattle.lucid_value.proofs.Fronts.{list_marks}

@@ -1,7 +1,5 @@
 -- Bytes that don't stand between two quotes.
-use Rattle.std.proofs.Common.{◌≡◌, ◌≢◌, ℕ, List, [], ◌∷◌, ◌++◌, sym, ap, ◌∙◌, reverse}
-use Rattle.std.proofs.lemmas.List.{reverse-append, reverse-reverse}
-use Rattle.lucid_value.specs.Trimming.{IsUnquoted}
+use Rattle.lucid_value.proofs.Common.{◌≡◌, ◌≢◌, ℕ, List, [], ◌∷◌, ◌++◌, sym, ap, ◌∙◌, reverse, reverse-append, reverse-reverse, IsUnquoted}
 
 no_snoc : (xs : List ℕ) (x : ℕ) → [] ≡ xs ++ x ∷ [] → ⊥
 no_snoc [] x e = cc

@@ -1,19 +1,7 @@
 -- The kinds of value, told apart by their bytes.
-use Rattle.std.proofs.Common.{◌≡◌, ◌≢◌, ℕ, zero, suc, ◌+◌, ◌≤◌, ◌<◌, List, [], ◌∷◌, ◌++◌, true, false, Some, None, refl, sym, ap, ◌∙◌, subst, arith, length, take, drop}
-use Rattle.std.specs.Prelude.{nat_eq}
-use Rattle.std.specs.List.{list_all}
-use Rattle.std.proofs.lemmas.Bool.{and_parts, eqb-false}
-use Rattle.std.proofs.Math.Seq.{take-length}
-use Rattle.std.proofs.lemmas.List.{take-append-drop}
-use Rattle.lucid_value.specs.Plain.{PlainValue, text, list, Items, weight, weights, nesting, nestings, is_text}
-use Rattle.lucid_value.specs.View.{plain}
-use Rattle.lucid_value.specs.Reading.{Denotes, denotes_text, denotes_list, Reads}
-use Rattle.lucid_value.specs.ListScan.{State, state, start, runs, opened, IsScanned, is_atom_byte, atom_value, text_value}
-use Rattle.lucid_value.specs.Trimming.{IsRead, IsUnquoted}
-use Rattle.lucid_value.specs.declared.Value.{Value}
+use Rattle.lucid_value.proofs.Common.{◌≡◌, ◌≢◌, ℕ, zero, suc, ◌≤◌, List, [], ◌∷◌, ◌++◌, true, false, Some, None, refl, sym, ap, ◌∙◌, subst, arith, take, drop, nat_eq, list_all, and_parts, take-append-drop, PlainValue, text, list, Items, weight, weights, nesting, nestings, is_text, plain, Denotes, denotes_text, denotes_list, Reads, State, state, start, runs, opened, IsScanned, is_atom_byte, atom_value, text_value, IsRead, IsUnquoted, Value, Done, Front, eqb-false, take-length}
+use Rattle.std.proofs.Common.{◌+◌, ◌<◌, length}
 use Rattle.lucid_value.specs.declared.Value.TheVariants.{List as ListV}
-use Rattle.lucid_value.specs.declared.list_scan.Focus.TheVariants.{Done}
-use Rattle.lucid_value.specs.declared.list_scan.Front.{Front}
 use Rattle.lucid_value.proofs.Quotes.{front_is}
 use Rattle.lucid_value.proofs.AtomValues.{is_atomic, atom_read, atom_bytes, atom_denotes}
 use Rattle.lucid_value.proofs.ScanSound.{scan_sound, runs_none, text_denotes}

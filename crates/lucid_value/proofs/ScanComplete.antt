@@ -1,14 +1,7 @@
 -- What bytes denote as a list, the scan reads.
-use Rattle.std.proofs.Common.{◌≡◌, ℕ, ◌+◌, ◌≤◌, ◌<◌, List, [], ◌∷◌, ◌++◌, Bool, true, false, Option, Some, refl, sym, ap, ◌∙◌, subst, append_assoc, arith, ◌||◌, length}
-use Rattle.std.specs.Prelude.{nat_eq}
-use Rattle.std.specs.List.{list_all}
-use Rattle.std.specs.Cmp.Derive.{both_true}
-use Rattle.std.proofs.lemmas.Bool.{and_parts, eqb-true, le-leb, lt-ltb}
-use Rattle.lucid_value.specs.Plain.{PlainValue, text, list, Items, no_items, item, may_be_held, is_text, is_text_byte, is_light, weight, weights, nesting, nestings}
-use Rattle.lucid_value.specs.Lists.{fits, joined}
-use Rattle.lucid_value.specs.Reading.{is_blank, all_blank, stands_apart, Denotes, denotes_number, denotes_minus, denotes_true, denotes_false, denotes_word, denotes_text, denotes_list, denotes_eod, denotes_fault, DenotesItems, denotes_none, denotes_item}
-use Rattle.lucid_value.specs.ListScan.{State, state, start, step, step_from, runs, turned, put, put_some, begin, go_on, open_list, is_atom_byte, text_value}
-use Rattle.lucid_value.specs.declared.list_scan.Focus.TheVariants.{Ready, Full, Atom, Quoted, Closing, Done}
+use Rattle.lucid_value.proofs.Common.{◌≡◌, ℕ, ◌≤◌, List, [], ◌∷◌, ◌++◌, Bool, true, false, Option, Some, refl, sym, ap, ◌∙◌, subst, append_assoc, arith, ◌||◌, nat_eq, list_all, both_true, and_parts, eqb-true, le-leb, lt-ltb, PlainValue, text, list, Items, no_items, item, may_be_held, is_text, is_text_byte, is_light, weight, weights, nesting, nestings, fits, joined, is_blank, all_blank, stands_apart, Denotes, denotes_number, denotes_minus, denotes_true, denotes_false, denotes_word, denotes_text, denotes_list, denotes_eod, denotes_fault, DenotesItems, denotes_none, denotes_item, State, state, start, step, step_from, runs, turned, put, put_some, go_on, is_atom_byte, text_value, Ready, Full, Atom, Quoted, Closing, Done}
+use Rattle.std.proofs.Common.{◌+◌, ◌<◌, length}
+use Rattle.lucid_value.specs.ListScan.{begin, open_list}
 use Rattle.lucid_value.proofs.AtomValues.{is_atomic, atom_read, atom_bytes}
 
 pub runs_append : (o : Option State) (xs ys : List ℕ) → runs o (xs ++ ys) ≡ runs (runs o xs) ys

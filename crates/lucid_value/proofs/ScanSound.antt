@@ -1,14 +1,7 @@
 -- What the scan of a list reads, the bytes denote.
-use Rattle.std.proofs.Common.{◌≡◌, ℕ, List, [], ◌∷◌, ◌++◌, Bool, true, false, Option, Some, None, refl, sym, ap, ◌∙◌, subst, append_assoc, IsTrue, ◌&&◌}
-use Rattle.std.specs.Prelude.{nat_eq, if◌then◌else◌}
-use Rattle.std.specs.Cmp.Derive.{both_true}
-use Rattle.std.proofs.lemmas.Bool.{and_parts, eqb-true}
-use Rattle.lucid_value.specs.Plain.{PlainValue, text, list, Items, no_items, item, may_be_held, is_text, is_light}
-use Rattle.lucid_value.specs.Lists.{fits}
-use Rattle.lucid_value.specs.Reading.{is_blank, stands_apart, Denotes, denotes_text, denotes_list, DenotesItems, denotes_none, denotes_item}
-use Rattle.lucid_value.specs.ListScan.{State, state, start, step, runs, turned, put, put_some, go_on, go_on_from, close_list, is_atom_byte, atom_value, text_value}
-use Rattle.lucid_value.specs.declared.list_scan.Focus.{Focus}
-use Rattle.lucid_value.specs.declared.list_scan.Focus.TheVariants.{Ready, Full, Atom, Quoted, Opening, Closing, Done}
+use Rattle.lucid_value.proofs.Common.{◌≡◌, ℕ, List, [], ◌∷◌, ◌++◌, Bool, true, false, Option, Some, None, refl, sym, ap, ◌∙◌, subst, append_assoc, IsTrue, ◌&&◌, nat_eq, if◌then◌else◌, both_true, and_parts, eqb-true, PlainValue, text, list, Items, no_items, item, may_be_held, is_text, is_light, fits, is_blank, stands_apart, Denotes, denotes_text, denotes_list, DenotesItems, denotes_none, denotes_item, State, state, start, step, runs, turned, put, put_some, go_on, is_atom_byte, atom_value, text_value, Focus, Ready, Full, Atom, Quoted, Closing, Done}
+use Rattle.lucid_value.specs.ListScan.{go_on_from, close_list}
+use Rattle.lucid_value.specs.declared.list_scan.Focus.TheVariants.{Opening}
 use Rattle.lucid_value.proofs.AtomValues.{atom_denotes}
 
 -- what was read of the innermost open list, whatever items follow; and what was read where the next byte must stand apart

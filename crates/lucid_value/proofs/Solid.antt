@@ -1,13 +1,6 @@
 -- What bytes denote a value, neither begin nor end with a blank.
-use Rattle.std.proofs.Common.{◌≡◌, ℕ, ◌<◌, List, [], ◌∷◌, ◌++◌, Bool, true, false, refl, sym, ap, ◌∙◌, arith, append_assoc, reverse, length}
-use Rattle.std.specs.List.{list_all}
-use Rattle.std.specs.Prelude.{if◌then◌else◌}
-use Rattle.std.specs.Cmp.Derive.{both_true}
-use Rattle.std.proofs.lemmas.Bool.{and_parts}
-use Rattle.std.proofs.lemmas.List.{reverse-append, length-reverse}
-use Rattle.lucid_value.specs.Plain.{PlainValue}
-use Rattle.lucid_value.specs.Reading.{is_blank, Denotes, denotes_number, denotes_minus, denotes_word, denotes_text, denotes_list}
-use Rattle.lucid_value.specs.ListScan.{is_atom_byte}
+use Rattle.lucid_value.proofs.Common.{◌≡◌, ℕ, List, [], ◌∷◌, ◌++◌, Bool, true, false, refl, sym, ap, ◌∙◌, arith, append_assoc, reverse, list_all, if◌then◌else◌, both_true, and_parts, reverse-append, PlainValue, is_blank, Denotes, denotes_number, denotes_minus, denotes_word, denotes_text, denotes_list, is_atom_byte, length-reverse}
+use Rattle.std.proofs.Common.{◌<◌, length}
 use Rattle.lucid_value.proofs.AtomValues.{is_atomic, atom_bytes}
 use Rattle.lucid_value.proofs.ScanComplete.{denotes_some, blank_no_atom}
 

@@ -1,12 +1,7 @@
 -- The text of a value denotes it.
-use Rattle.std.proofs.Common.{◌≡◌, ℕ, suc, ◌≤◌, ◌^◌, [], ◌∷◌, ◌++◌, true, false, refl, sym, ◌∙◌, subst, arith, append_assoc, ◌&&◌}
-use Rattle.std.specs.Prelude.{pos, negsuc, neg_ℤ, nat_le}
-use Rattle.std.specs.Fmt.{decimal}
-use Rattle.std.proofs.lemmas.Fmt.{decimal_is_IsNumeral_wide}
-use Rattle.std.proofs.lemmas.Bool.{and_parts, leb-true, ltb-true}
-use Rattle.lucid_value.specs.Plain.{PlainValue, int, truth, word, text, list, eod, fault, Items, no_items, item, weight, nesting, may_be_held, well_formed, all_well_formed, in_range, all_in_range, within_limits}
-use Rattle.lucid_value.specs.Reading.{is_number, number_of, stands_apart, Denotes, denotes_number, denotes_minus, denotes_true, denotes_false, denotes_word, denotes_text, denotes_list, denotes_eod, denotes_fault, DenotesItems, denotes_none, denotes_item}
-use Rattle.lucid_value.specs.ValueText.{value_text, items_text}
+use Rattle.lucid_value.proofs.Common.{◌≡◌, ℕ, suc, ◌≤◌, ◌^◌, [], ◌∷◌, ◌++◌, true, false, refl, sym, ◌∙◌, subst, arith, append_assoc, ◌&&◌, pos, neg_ℤ, nat_le, and_parts, leb-true, ltb-true, PlainValue, int, truth, word, text, list, eod, fault, Items, no_items, item, weight, nesting, may_be_held, well_formed, all_well_formed, within_limits, is_number, number_of, stands_apart, Denotes, denotes_number, denotes_minus, denotes_true, denotes_false, denotes_word, denotes_text, denotes_list, denotes_eod, denotes_fault, DenotesItems, denotes_none, denotes_item, items_text, negsuc, decimal, decimal_is_IsNumeral_wide}
+use Rattle.lucid_value.specs.Plain.{in_range, all_in_range}
+use Rattle.lucid_value.specs.ValueText.{value_text}
 use Rattle.lucid_value.specs.Laws.{TextIsRead}
 use Rattle.lucid_value.proofs.AtomValues.{numerals, digits_number}
 

@@ -1,11 +1,6 @@
 -- Parts of a string and two strings in a row are strings.
-use Rattle.std.proofs.Common.{◌≡◌, ℕ, zero, suc, List, [], ◌∷◌, ◌++◌, Bool, true, IsTrue, take, drop, refl, slice_range}
-use Rattle.std.proofs.lemmas.Bool.{and_parts}
-use Rattle.std.specs.Cmp.Derive.{both_true}
-use Rattle.std.specs.Prelude.{◌↔◌, ◌+◌, ◌<◌, nat_lt, length, if◌then◌else◌}
-use Rattle.std.proofs.Common.{arith, length-append, false}
-use Rattle.std.proofs.lemmas.Bool.{ltb-true, ltb-false}
-use Rattle.lucid_value.specs.Plain.{text, fault, is_text, is_text_byte}
+use Rattle.lucid_value.proofs.Common.{◌≡◌, ℕ, zero, suc, List, [], ◌∷◌, ◌++◌, Bool, true, IsTrue, take, drop, refl, and_parts, both_true, ◌↔◌, nat_lt, if◌then◌else◌, arith, false, ltb-true, ltb-false, text, fault, is_text, is_text_byte, slice_range, length-append}
+use Rattle.std.specs.Prelude.{◌+◌, ◌<◌, length}
 use Rattle.lucid_value.specs.Texts.{limited_text}
 
 all_taken : (n : ℕ) (bs : List ℕ) → is_text bs ≡ true → is_text (take n bs) ≡ true
@@ -17,9 +12,6 @@ all_dropped : (n : ℕ) (bs : List ℕ) → is_text bs ≡ true → is_text (dro
 all_dropped zero bs h = h
 all_dropped (suc n) [] h = refl
 all_dropped (suc n) (b ∷ bs) h = let p = and_parts (is_text_byte b) (is_text bs) h in all_dropped n bs p.1
-
-is_true : (b : Bool) → IsTrue b → b ≡ true
-is_true b h = h
 
 pub text_cut : (bs : List ℕ) (i j : ℕ) → IsTrue (is_text bs) → IsTrue (is_text (slice_range bs i j))
 text_cut bs i j h = all_taken _ (drop i bs) (all_dropped i bs h)

@@ -1,14 +1,6 @@
 -- A line without its blanks at both ends.
-use Rattle.std.proofs.Common.{◌≡◌, ℕ, List, [], ◌∷◌, ◌++◌, Bool, true, false, refl, sym, ap, ◌∙◌, subst, reverse, Some, None}
-use Rattle.std.specs.Prelude.{if◌then◌else◌}
-use Rattle.std.specs.Cmp.Derive.{both_true}
-use Rattle.std.proofs.lemmas.Bool.{and_parts}
-use Rattle.std.proofs.lemmas.List.{reverse-append, reverse-reverse}
-use Rattle.lucid_value.specs.Plain.{PlainValue}
-use Rattle.lucid_value.specs.View.{plain}
-use Rattle.lucid_value.specs.declared.Value.{Value}
-use Rattle.lucid_value.specs.Reading.{is_blank, all_blank, Reads, ReadsLine, ReadsAsNone}
-use Rattle.lucid_value.specs.Trimming.{after_blanks, IsRead}
+use Rattle.lucid_value.proofs.Common.{◌≡◌, ℕ, List, [], ◌∷◌, ◌++◌, Bool, true, false, refl, sym, ap, ◌∙◌, subst, reverse, Some, None, if◌then◌else◌, both_true, and_parts, reverse-append, reverse-reverse, PlainValue, plain, Value, is_blank, all_blank, Reads, ReadsLine, after_blanks, IsRead}
+use Rattle.lucid_value.specs.Reading.{ReadsAsNone}
 use Rattle.lucid_value.proofs.Solid.{is_solid, solid_front, solid_back}
 
 -- the blanks in front

@@ -1,21 +1,7 @@
 -- What is said of a line that is added to those of a text, or can't come.
-use Rattle.std.proofs.Common.{◌≡◌, ◌↔◌, ℕ, zero, suc, ◌<◌, Bool, true, false, not, List, [], ◌∷◌, ◌++◌, map, length, refl, sym, ap, ◌∙◌, subst, arith}
-use Rattle.std.specs.Prelude.{◌==◌}
-use Rattle.std.specs.List.{AllByRecursion}
-use Rattle.std.proofs.lemmas.Bool.{eqb-true, eqb-false}
-use Rattle.std.proofs.lemmas.List.{append-nil, length-map}
-use Rattle.lucid_texts.specs.TextLines.{CanGoOn, CannotGoOn}
-use Rattle.lucid_texts.specs.Laws.{OneValue}
-use Rattle.lucid_why.specs.Certificates.{PlainJudgment, plain_judgment}
-use Rattle.lucid_why.specs.WhyText.{WhyRow, context_row, judgment_row, why_rows, row_line, why_lines}
-use Rattle.lucid_why.specs.WhyTexts.{RowFits, HasText, AreWhyLines}
-use Rattle.lucid_why.specs.LinesRead.{why_of, lines_in, AllFit}
-use Rattle.lucid_why.specs.declared.rows.ContextRow.{ContextRow}
-use Rattle.lucid_why.specs.declared.rows.JudgmentRow.{JudgmentRow}
-use Rattle.lucid_why.specs.declared.rows.Why.{Why}
+use Rattle.lucid_why.proofs.Common.{◌≡◌, ℕ, zero, suc, ◌<◌, Bool, true, false, List, [], ◌∷◌, ◌++◌, map, length, refl, sym, ap, ◌∙◌, subst, arith, AllByRecursion, append-nil, CanGoOn, CannotGoOn, OneValue, PlainJudgment, plain_judgment, WhyRow, context_row, judgment_row, why_rows, row_line, why_lines, RowFits, HasText, AreWhyLines, why_of, lines_in, AllFit, ContextRow, JudgmentRow, Why, all-append, ◌↔◌, not, ◌==◌, eqb-true, eqb-false, length-map}
 use Rattle.lucid_why.specs.declared.read.WhyLines.{WhyLines}
 use Rattle.lucid_why.proofs.OneText.{map-append, rows-push, begun_goes_on, no_context_here, is_whole}
-use Rattle.lucid_texts.proofs.WordLemmas.{all-append}
 
 -- the lines of the second are those of the first and this one, and a text goes on with them
 abbrev pub Adds : (v w : Why) → (line : List ℕ) → Type 0

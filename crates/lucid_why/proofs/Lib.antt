@@ -1,3 +1,4 @@
+pub mod Common
 pub mod WordsInFront
 pub mod RowsGiven
 pub mod RowsTaken

@@ -1,25 +1,13 @@
 -- Lines that begin a text, and what goes on with them; a text is one certificate's.
-use Rattle.std.proofs.Common.{◌≡◌, ℕ, ◌<◌, List, [], ◌∷◌, ◌++◌, map, length, None, pos, refl, sym, ap, ◌∙◌, subst, arith, append_assoc, length-append}
-use Rattle.std.specs.Prelude.{codes, decimal}
-use Rattle.std.specs.List.{AllByRecursion}
+use Rattle.lucid_why.proofs.Common.{◌≡◌, ℕ, ◌<◌, List, [], ◌∷◌, ◌++◌, map, length, None, refl, sym, ap, ◌∙◌, subst, arith, append_assoc, length-append, codes, decimal, AllByRecursion, value_text, Lacks, text_of, CanGoOn, CannotGoOn, OneValue, solid_lacks, decimal_solid, PlainJudgment, WhyRow, context_row, judgment_row, judgment_numbers, why_rows, row_head, row_rest, row_line, why_lines, RowFits, HasText, AreWhyLines, IsTextOf, IsRowOf, ContextRow, Call, Frozen, Why, all-append, pos}
 use Rattle.lucid_value.specs.Plain.{int}
-use Rattle.lucid_value.specs.ValueText.{value_text}
-use Rattle.lucid_texts.specs.TextLines.{Lacks, IsLine, text_of, CanGoOn, CannotGoOn}
-use Rattle.lucid_texts.specs.Laws.{OneValue}
-use Rattle.lucid_texts.proofs.Bytes.{solid_lacks, all_solid_lack, decimal_solid, join_lacks}
+use Rattle.lucid_texts.specs.TextLines.{IsLine}
+use Rattle.lucid_texts.proofs.Bytes.{all_solid_lack, join_lacks}
 use Rattle.lucid_texts.proofs.ValueBytes.{value_lacks}
 use Rattle.lucid_texts.proofs.TextsRead.{text_lines}
-use Rattle.lucid_why.specs.Certificates.{PlainJudgment}
-use Rattle.lucid_why.specs.WhyText.{WhyRow, context_row, judgment_row, judgment_numbers, why_rows, row_head, row_rest, row_line, why_lines}
-use Rattle.lucid_why.specs.WhyTexts.{RowFits, HasText, AreWhyLines, IsTextOf}
-use Rattle.lucid_why.specs.RowLines.{IsRowOf}
 use Rattle.lucid_why.specs.Laws.{OneWhy}
-use Rattle.lucid_why.specs.declared.rows.ContextRow.{ContextRow}
-use Rattle.lucid_why.specs.declared.rows.ContextRow.TheVariants.{Call, Frozen}
-use Rattle.lucid_why.specs.declared.rows.Why.{Why}
 use Rattle.lucid_why.proofs.RowsGiven.{row_tail, line_parts, numbers_solid}
 use Rattle.lucid_why.proofs.RowLemmas.{one_row}
-use Rattle.lucid_texts.proofs.WordLemmas.{all-append}
 
 pub map-append : {A B : Type 0} (f : A → B) (xs ys : List A) → map f (xs ++ ys) ≡ map f xs ++ map f ys
 map-append f [] ys = refl

@@ -1,31 +1,9 @@
 -- The row of a line: read from it, and no other; a line is one row's.
-use Rattle.std.proofs.Common.{◌≡◌, ℕ, ◌<◌, ◌^◌, false, List, [], ◌∷◌, ◌++◌, map, length, Option, Some, None, refl, sym, ap, ◌∙◌, subst}
-use Rattle.std.specs.Prelude.{codes, decimal}
-use Rattle.std.specs.List.{join_with_byte}
-use Rattle.std.specs.Option.{option_map}
-use Rattle.std.specs.Str.{bytes_eq}
-use Rattle.std.proofs.lemmas.List.Elements.{recursion_from_All}
-use Rattle.std.proofs.lemmas.List.Splits.{join_with_byte-slice_split}
-use Rattle.std.proofs.lemmas.Option.{none-some, same_Some}
-use Rattle.std.proofs.lemmas.Slice.Eq.{bytes_eq-Decides}
+use Rattle.lucid_why.proofs.Common.{◌≡◌, ℕ, ◌<◌, ◌^◌, false, List, [], ◌∷◌, ◌++◌, map, length, Option, Some, None, refl, sym, ap, ◌∙◌, subst, codes, decimal, join_with_byte, option_map, bytes_eq, join_with_byte-slice_split, same_Some, bytes_eq-Decides, plain, value_text, Value, words_of, is_end, Lacks, IsValueOf, OneValue, is_end-words_of, PlainJudgment, WhyRow, context_row, judgment_row, row_head, row_line, JudgmentFits, RowFits, context_of, front_of, take_uses, IsRowOf, judgment_tail, IsTailOf, ContextRow, Call, Frozen, Front, recursion_from_All, none-some}
 use Rattle.lucid_value.specs.Plain.{PlainValue}
-use Rattle.lucid_value.specs.View.{plain}
-use Rattle.lucid_value.specs.ValueText.{value_text}
-use Rattle.lucid_value.specs.declared.Value.{Value}
-use Rattle.lucid_texts.specs.Words.{HasNone, words_of, is_end}
-use Rattle.lucid_texts.specs.TextLines.{Lacks}
-use Rattle.lucid_texts.specs.ValueLines.{IsValueOf}
-use Rattle.lucid_texts.specs.Laws.{OneValue}
+use Rattle.lucid_texts.specs.Words.{HasNone}
 use Rattle.lucid_texts.proofs.Bytes.{one_cut, lacks_middle}
-use Rattle.lucid_texts.proofs.WordLemmas.{is_end-words_of, apart}
-use Rattle.lucid_why.specs.Certificates.{PlainJudgment}
-use Rattle.lucid_why.specs.WhyText.{WhyRow, context_row, judgment_row, row_head, row_line}
-use Rattle.lucid_why.specs.WhyTexts.{JudgmentFits, RowFits}
-use Rattle.lucid_why.specs.WordsRead.{context_of, front_of, take_uses}
-use Rattle.lucid_why.specs.RowLines.{IsRowOf, judgment_tail, IsTailOf}
-use Rattle.lucid_why.specs.declared.rows.ContextRow.{ContextRow}
-use Rattle.lucid_why.specs.declared.rows.ContextRow.TheVariants.{Call, Frozen}
-use Rattle.lucid_why.specs.declared.read_rows.Front.{Front}
+use Rattle.lucid_texts.proofs.WordLemmas.{apart}
 use Rattle.lucid_why.proofs.WordsInFront.{join_behind, same_bytes}
 use Rattle.lucid_why.proofs.RowsGiven.{row_tail, line_parts, head_lacks, context_of-parts, front_in, front_of-tail, behind_front, uses_of_tail}
 use Rattle.lucid_why.proofs.RowsTaken.{context_read, front_read, front_numbers, uses_read}

@@ -1,21 +1,7 @@
 -- The words of a row that fits are read as it.
-use Rattle.std.proofs.Common.{◌≡◌, ℕ, ◌^◌, List, [], ◌∷◌, ◌++◌, map, length, Some, refl, sym, ap, ◌∙◌, subst, arith}
-use Rattle.std.specs.Prelude.{decimal}
-use Rattle.std.specs.List.{AllByRecursion, join_with_byte}
-use Rattle.std.proofs.lemmas.Option.{same_Some}
-use Rattle.lucid_value.specs.ValueText.{value_text}
-use Rattle.lucid_texts.specs.Words.{words_of, AreBelow}
-use Rattle.lucid_texts.specs.TextLines.{Lacks}
-use Rattle.lucid_texts.proofs.Bytes.{IsSolid, solid_lacks, decimal_solid, decimals_solid}
+use Rattle.lucid_why.proofs.Common.{◌≡◌, ℕ, ◌^◌, List, [], ◌∷◌, ◌++◌, map, length, Some, refl, sym, ap, ◌∙◌, subst, arith, decimal, AllByRecursion, join_with_byte, same_Some, value_text, words_of, AreBelow, Lacks, IsSolid, solid_lacks, decimal_solid, PlainJudgment, WhyRow, context_row, judgment_row, judgment_numbers, row_head, row_rest, row_line, ContextFits, JudgmentFits, call_of, frozen_of, context_of, front_of, take_uses, judgment_tail, ContextRow, Call, Frozen, Front}
+use Rattle.lucid_texts.proofs.Bytes.{decimals_solid}
 use Rattle.lucid_texts.proofs.WordLemmas.{spaced_words, take_number-decimal}
-use Rattle.lucid_why.specs.Certificates.{PlainJudgment}
-use Rattle.lucid_why.specs.WhyText.{WhyRow, context_row, judgment_row, judgment_numbers, row_head, row_rest, row_line}
-use Rattle.lucid_why.specs.WhyTexts.{ContextFits, JudgmentFits}
-use Rattle.lucid_why.specs.WordsRead.{call_of, frozen_of, context_of, front_of, take_uses}
-use Rattle.lucid_why.specs.RowLines.{judgment_tail}
-use Rattle.lucid_why.specs.declared.rows.ContextRow.{ContextRow}
-use Rattle.lucid_why.specs.declared.rows.ContextRow.TheVariants.{Call, Frozen}
-use Rattle.lucid_why.specs.declared.read_rows.Front.{Front}
 use Rattle.lucid_why.proofs.WordsInFront.{words_in_front}
 
 -- what stands behind the first word of a row's line, and its blank

@@ -1,21 +1,8 @@
 -- What was read from words has these words.
-use Rattle.std.proofs.Common.{◌≡◌, ℕ, zero, suc, ◌-◌, ◌<◌, ◌≤◌, ◌^◌, Bool, true, false, cond, List, [], ◌∷◌, ◌++◌, map, length, Option, Some, None, ◌⊎◌, inl, inr, refl, sym, ap, ◌∙◌, subst, arith, append_assoc, length-append}
-use Rattle.std.specs.Prelude.{decimal, codes}
-use Rattle.std.specs.List.{join_with_byte}
-use Rattle.std.specs.Option.{option_and_then}
-use Rattle.std.specs.Str.{bytes_eq}
-use Rattle.std.proofs.lemmas.List.{append-nil}
-use Rattle.std.proofs.lemmas.List.Splits.{join_with_byte-slice_split}
-use Rattle.std.proofs.lemmas.Option.{option_and_then_some, cond_some, same_Some}
-use Rattle.std.proofs.lemmas.Slice.Eq.{bytes_eq-Decides}
-use Rattle.lucid_texts.specs.Words.{words_of, is_end, AreBelow}
+use Rattle.lucid_why.proofs.Common.{◌≡◌, ℕ, zero, suc, ◌-◌, ◌<◌, ◌≤◌, ◌^◌, Bool, true, false, List, [], ◌∷◌, ◌++◌, map, length, Option, Some, None, refl, sym, ap, ◌∙◌, subst, arith, append_assoc, length-append, decimal, codes, join_with_byte, bytes_eq, append-nil, join_with_byte-slice_split, same_Some, bytes_eq-Decides, words_of, is_end, AreBelow, context_row, row_head, row_rest, row_line, ContextFits, RowFits, call_of, frozen_of, context_of, front_of, take_uses, ContextRow, Call, Frozen, Front, cond, ◌⊎◌, inl, inr, option_and_then, option_and_then_some, cond_some}
 use Rattle.lucid_texts.proofs.WordLemmas.{taken, no_word}
-use Rattle.lucid_why.specs.WhyText.{context_row, row_head, row_rest, row_line}
-use Rattle.lucid_why.specs.WhyTexts.{Is32, Is63, ContextFits, RowFits}
-use Rattle.lucid_why.specs.WordsRead.{take_32, take_63, call_of, frozen_of, context_of, front_of, take_uses}
-use Rattle.lucid_why.specs.declared.rows.ContextRow.{ContextRow}
-use Rattle.lucid_why.specs.declared.rows.ContextRow.TheVariants.{Call, Frozen}
-use Rattle.lucid_why.specs.declared.read_rows.Front.{Front}
+use Rattle.lucid_why.specs.WhyTexts.{Is32, Is63}
+use Rattle.lucid_why.specs.WordsRead.{take_32, take_63}
 use Rattle.lucid_why.proofs.RowsGiven.{line_parts}
 
 -- a context's row has this first word, and these words behind it

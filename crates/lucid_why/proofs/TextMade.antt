@@ -1,19 +1,9 @@
 -- The text of a certificate as it is put together.
-use Rattle.std.proofs.Common.{◌≡◌, ℕ, zero, suc, ◌+◌, ◌<◌, List, [], ◌∷◌, ◌++◌, map, take, length, get_or, refl, sym, ap, ◌∙◌, subst, arith, append_assoc}
-use Rattle.std.specs.Prelude.{codes, decimal}
-use Rattle.std.specs.List.{AllByRecursion, flat_map, join_with_byte}
-use Rattle.std.proofs.lemmas.List.{append-nil}
-use Rattle.lucid_value.specs.ValueText.{value_text}
-use Rattle.lucid_texts.specs.Words.{spaced}
-use Rattle.lucid_texts.specs.TextLines.{ended, text_of}
+use Rattle.lucid_why.proofs.Common.{◌≡◌, ℕ, zero, suc, ◌<◌, List, [], ◌∷◌, ◌++◌, map, take, length, refl, sym, ap, ◌∙◌, subst, arith, append_assoc, codes, decimal, AllByRecursion, flat_map, join_with_byte, append-nil, value_text, spaced, text_of, PlainJudgment, plain_judgment, WhyRow, context_row, judgment_row, why_rows, row_line, MayShow, RowFits, line_of, ContextRow, JudgmentRow, Why, ◌+◌, get_or}
+use Rattle.lucid_texts.specs.TextLines.{ended}
 use Rattle.lucid_texts.proofs.Spaced.{line_three, more}
-use Rattle.lucid_why.specs.Certificates.{PlainJudgment, plain_judgment}
-use Rattle.lucid_why.specs.WhyText.{WhyRow, context_row, judgment_row, why_rows, row_line, why_text}
-use Rattle.lucid_why.specs.WhyTexts.{MayShow, MayBeShown, RowFits}
-use Rattle.lucid_why.specs.LinesRead.{line_of}
-use Rattle.lucid_why.specs.declared.rows.ContextRow.{ContextRow}
-use Rattle.lucid_why.specs.declared.rows.JudgmentRow.{JudgmentRow}
-use Rattle.lucid_why.specs.declared.rows.Why.{Why}
+use Rattle.lucid_why.specs.WhyText.{why_text}
+use Rattle.lucid_why.specs.WhyTexts.{MayBeShown}
 
 -- the lines of rows, each ended
 pub lines-ended : (rs : List WhyRow) → text_of (map row_line rs) ≡ flat_map line_of rs

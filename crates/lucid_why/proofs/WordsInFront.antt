@@ -1,10 +1,7 @@
 -- Words of letters and digits in front of bytes that may have blanks.
-use Rattle.std.proofs.Common.{◌≡◌, ℕ, false, List, [], ◌∷◌, ◌++◌, refl, sym, ap, ◌∙◌}
-use Rattle.std.specs.List.{AllByRecursion, join_with_byte}
-use Rattle.std.proofs.lemmas.List.Splits.{join_with_byte-slice_split}
-use Rattle.lucid_texts.specs.Words.{words_of, is_end}
-use Rattle.lucid_texts.proofs.Bytes.{IsSolid, has_none, solid_lacks}
-use Rattle.lucid_texts.proofs.WordLemmas.{words_of_more, is_end-words_of}
+use Rattle.lucid_why.proofs.Common.{◌≡◌, ℕ, false, List, [], ◌∷◌, ◌++◌, refl, sym, ap, ◌∙◌, AllByRecursion, join_with_byte, join_with_byte-slice_split, words_of, is_end, IsSolid, solid_lacks, is_end-words_of}
+use Rattle.lucid_texts.proofs.Bytes.{has_none}
+use Rattle.lucid_texts.proofs.WordLemmas.{words_of_more}
 
 pub words_in_front : (ws : List (List ℕ)) (b : List ℕ) → AllByRecursion IsSolid ws → words_of (join_with_byte 32 (ws ++ b ∷ [])) ≡ ws ++ words_of b
 words_in_front [] b h = refl

@@ -1,9 +1,5 @@
 -- Texts of which each has a form, taken one after the other.
-use Rattle.std.proofs.Common.{◌≡◌, ℕ, ◌<◌, ◌+◌, Bool, true, false, cond, not, IsTrue, List, [], ◌∷◌, ◌++◌, map, take, get_or, length, Some, None, refl}
-use Rattle.std.specs.List.{list_all}
-use Rattle.std.specs.Borrow.{Bor}
-use Rattle.std.proofs.lemmas.List.{map-append, take_more}
-use Rattle.std.proofs.lemmas.List.Folds.{list_all_at, list_all-append, list_all-map}
+use Rattle.lucid_words.proofs.Common.{◌≡◌, ℕ, ◌<◌, Bool, true, false, cond, not, List, [], ◌∷◌, ◌++◌, map, take, length, Some, None, refl, list_all, Bor, ◌+◌, IsTrue, get_or, map-append, take_more, list_all_at, list_all-append, list_all-map}
 
 -- each text passes, and the parts of them all are these
 pub record EachSoFar {X Y : Type 0} (passes : X → Bool) (part : X → Y) (texts : List X) (parts : List Y) : Type 0 where

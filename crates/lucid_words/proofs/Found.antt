@@ -1,15 +1,9 @@
 -- What the readers of the matches answer, as `clap`'s rows have it.
-use Rattle.std.proofs.Common.{◌≡◌, ℕ, ◌<◌, ◌^◌, Bool, true, false, ◌&&◌, List, [], ◌∷◌, length, Option, Some, None, Result, Ok, Err, refl, sym, ap, ◌∙◌}
-use Rattle.std.specs.Prelude.{option_map, nat_lt}
-use Rattle.std.specs.List.{list_all}
-use Rattle.std.specs.Char.{digit_value}
-use Rattle.std.specs.Str.Parse.{AllDigits, ParsesUnsigned, digits_value, without_leading_plus}
-use Rattle.std.proofs.lemmas.Bool.{ltb-true, lt-ltb}
+use Rattle.lucid_words.proofs.Common.{◌≡◌, ℕ, ◌<◌, ◌^◌, Bool, true, false, ◌&&◌, List, [], ◌∷◌, length, Option, Some, None, Ok, Err, refl, sym, ap, ◌∙◌, option_map, list_all, ParsesUnsigned, digits_value, without_leading_plus, ltb-true, both, one_text-rows, number_in, number_given, Result, nat_lt, digit_value, AllDigits, lt-ltb}
 use Rattle.clap.specs.Words.{Text, all_of, matched_of, raw_values, ReadsOne, first_of, first_value, one_text, rows_of}
 use Rattle.clap.specs.ValueTests.{is_numeral}
 use Rattle.clap.specs.declared.parser.matches.Found.{Found}
-use Rattle.clap.proofs.WalkLemmas.{both, first_value-rows, one_text-rows, raw_values-rows}
-use Rattle.lucid_words.specs.Rows.{number_in, number_given}
+use Rattle.clap.proofs.WalkLemmas.{first_value-rows, raw_values-rows}
 
 -- the first value of an option
 pub first_is : (f : Found) (name : Text) (value : Option Text) → value ≡ first_value f name → first_of name (rows_of f) ≡ value

@@ -1,3 +1,4 @@
+pub mod Common
 pub mod Adds
 pub mod Asked
 pub mod Each

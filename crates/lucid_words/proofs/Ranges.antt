@@ -1,12 +1,6 @@
 -- The numbers that words give are in range: each passed the parser of its option.
-use Rattle.std.proofs.Common.{◌≡◌, ℕ, ◌<◌, ◌^◌, ◌-◌, ◌&&◌, Bool, true, false, cond, not, List, [], ◌∷◌, map, length, zero, suc, Option, Some, None, Ok, refl, sym, ap, ◌∙◌, subst, inl, inr, arith}
-use Rattle.std.specs.Prelude.{codes, pos, option_map, unwrap_or, slice_get}
-use Rattle.std.specs.List.{All, slice_index_or}
-use Rattle.std.specs.Borrow.{Bor}
-use Rattle.std.specs.Str.{bytes_eq}
-use Rattle.std.specs.Str.Parse.{ParsesUnsigned, digits_value, without_leading_plus}
-use Rattle.std.proofs.lemmas.Bool.{cases_lt, ltb-true}
-use Rattle.std.proofs.lemmas.Slice.Eq.{bytes_eq-Decides}
+use Rattle.lucid_words.proofs.Common.{◌≡◌, ℕ, ◌<◌, ◌^◌, ◌&&◌, Bool, true, false, cond, not, List, [], ◌∷◌, map, length, Option, Some, None, Ok, refl, sym, ap, ◌∙◌, subst, inl, inr, option_map, Bor, ParsesUnsigned, digits_value, without_leading_plus, ltb-true, Arg, Command, ArgMatches, both, one_text-rows, lucid_command, number_in, number_given, ◌-◌, zero, suc, arith, pos, unwrap_or, slice_get, All, slice_index_or, bytes_eq, cases_lt, bytes_eq-Decides}
+use Rattle.std.specs.Prelude.{codes}
 use Rattle.clap.specs.Facts.{EntryPasses, PassesArg, args_of, groups_of, parser_of, parser_of_value}
 use Rattle.clap.specs.Built.{IsParsedFrom, IsAuto, SameRules}
 use Rattle.clap.specs.Lexer.{without_minus}
@@ -14,20 +8,14 @@ use Rattle.clap.specs.Matches.{found_of, matched_of, one_text}
 use Rattle.clap.specs.Simple.{App, app_of}
 use Rattle.clap.specs.Values.{Accepts, IsSignedIn, IsUnsignedIn, read_as, reading_of}
 use Rattle.clap.specs.Walk.{Rule, Text, rule_of, rows_of}
-use Rattle.clap.specs.declared.builder.arg.Arg.{Arg}
-use Rattle.clap.specs.declared.builder.command.Command.{Command}
 use Rattle.clap.specs.declared.builder.command.Command.TheViews.{out-Command}
 use Rattle.clap.specs.declared.builder.value_parser.ValueParser.{ValueParser}
 use Rattle.clap.specs.declared.builder.value_parser.ValueParser.TheVariants as vp
-use Rattle.clap.specs.declared.parser.matches.ArgMatches.{ArgMatches}
 use Rattle.clap.specs.declared.parser.matches.MatchedArg.{MatchedArg}
 use Rattle.clap.proofs.CallerLemmas.{entry_by_id}
 use Rattle.clap.proofs.CallerReads.{signed_reads}
 use Rattle.clap.proofs.SimpleLemmas.{all_simple, is_false, is_nil, simple_groups}
-use Rattle.clap.proofs.WalkLemmas.{both, one_text-rows}
 use Rattle.lucid_ports.specs.Limits.{most_asked}
-use Rattle.lucid_words.specs.Command.{lucid_command}
-use Rattle.lucid_words.specs.Rows.{number_in, number_given}
 use Rattle.lucid_words.specs.Numbers.{HasNumbersInRange, IsFromTo, IsFromToIfGiven}
 use Rattle.lucid_words.proofs.Found.{is_number_in, digits_from}
 

@@ -1,8 +1,4 @@
-use Rattle.std.proofs.Common.{ℕ, List, Option, Some, IsSome, cond, ◌==◌, ap, refl, ◌∙◌}
-use Rattle.std.specs.Prelude.{option_and_then}
-use Rattle.std.specs.Map.{lookup}
-use Rattle.lucid_search.specs.Numbered.{number_in}
-use Rattle.lucid_search.specs.Noted.{same_site}
+use Rattle.lucid_search.proofs.Common.{ℕ, List, Option, Some, IsSome, cond, ◌==◌, ap, refl, ◌∙◌, option_and_then, lookup, number_in, same_site}
 use Rattle.lucid_search.proofs.NoteLemmas.{noted_from, same_from, on_err}
 use Rattle.lucid_search.proofs.add_note.Goals as goal
 

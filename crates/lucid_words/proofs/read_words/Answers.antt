@@ -1,6 +1,4 @@
-use Rattle.std.proofs.Common.{Option, map, subst, sym}
-use Rattle.std.specs.String.{string_bytes}
-use Rattle.std.proofs.lemmas.Result.{IfOk-weaker}
+use Rattle.lucid_words.proofs.Common.{Option, map, subst, sym, IfOk-weaker, string_bytes}
 use Rattle.clap.specs.Words.{app_of}
 use Rattle.lucid_words.specs.Plain.{Answers}
 use Rattle.lucid_words.specs.Asked.{PlainWords, plain_words}

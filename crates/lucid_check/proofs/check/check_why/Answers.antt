@@ -1,9 +1,4 @@
-use Rattle.std.proofs.Common.{◌-◌, ap, ◌∙◌, arith, length, refl}
-use Rattle.std.specs.Prelude.{Ok}
-use Rattle.std.proofs.lemmas.List.{length-map}
-use Rattle.lucid_equations.specs.Programs.{table_of}
-use Rattle.lucid_why.specs.Certificates.{plain_judgment}
-use Rattle.lucid_check.specs.Checked.{Checked}
+use Rattle.lucid_check.proofs.Common.{ap, ◌∙◌, arith, length, refl, Ok, table_of, plain_judgment, Checked, ◌-◌, length-map}
 use Rattle.lucid_check.proofs.Going.{begins, goes_on, stops, refused_with, is_refused, is_right, is_not_the_root}
 use Rattle.lucid_check.proofs.check.check_why.Goals as goal
 

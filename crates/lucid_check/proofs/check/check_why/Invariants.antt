@@ -1,4 +1,4 @@
-use Rattle.lucid_equations.specs.Programs.{table_of}
+use Rattle.lucid_check.proofs.Common.{table_of}
 use Rattle.lucid_check.proofs.Going.{GoesOn}
 use Rattle.lucid_check.proofs.check.check_why.Given as goal
 

@@ -1,4 +1,4 @@
-use Rattle.lucid_inputs.specs.Inputs.{stream_at}
+use Rattle.lucid_check.proofs.Common.{stream_at}
 use Rattle.lucid_check.proofs.Drawing.{stream_there}
 use Rattle.lucid_check.proofs.elements.is_element.Goals as goal
 

@@ -1,10 +1,5 @@
-use Rattle.std.proofs.Common.{◌≡◌, sym, ap, subst, ◌∙◌}
-use Rattle.std.proofs.lemmas.Result.{err_from_is_err_and}
-use Rattle.lucid_tree.specs.Tree.{block}
-use Rattle.lucid_tree.specs.View.{tree_of}
-use Rattle.lucid_tree.specs.WellMade.{IsWellMade}
-use Rattle.lucid_tree.specs.declared.tree.Block.{Block}
-use Rattle.lucid_columns.specs.Columns.{with_columns, AreColumns, RefusesColumns}
+use Rattle.lucid_columns.proofs.Common.{◌≡◌, sym, ap, subst, ◌∙◌, block, tree_of, IsWellMade, Block, with_columns, err_from_is_err_and}
+use Rattle.lucid_columns.specs.Columns.{AreColumns, RefusesColumns}
 use Rattle.lucid_columns.proofs.Placed.{beside_well_made}
 use Rattle.lucid_columns.proofs.Searching.{first_missing}
 use Rattle.lucid_columns.proofs.columns.column_tree.Goals as goal

@@ -1,6 +1,4 @@
-use Rattle.std.proofs.Common.{◌+◌, Some, refl, sym, ap, ◌∙◌, arith}
-use Rattle.std.proofs.lemmas.Option.{slice_get-get_or}
-use Rattle.lucid_tree.specs.Tree.{block}
+use Rattle.lucid_columns.proofs.Common.{◌+◌, Some, refl, sym, ap, ◌∙◌, arith, block, slice_get-get_or}
 use Rattle.lucid_columns.proofs.Searching.{one_more}
 use Rattle.lucid_columns.proofs.columns.find_columns.Goals as goal
 

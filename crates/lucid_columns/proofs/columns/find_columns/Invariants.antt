@@ -1,6 +1,4 @@
-use Rattle.std.proofs.Common.{ℕ}
-use Rattle.lucid_tree.specs.Tree.{PlainTree, block}
-use Rattle.lucid_columns.specs.Columns.{AreColumnsBelow}
+use Rattle.lucid_columns.proofs.Common.{ℕ, PlainTree, block, AreColumnsBelow}
 use Rattle.lucid_columns.proofs.columns.find_columns.Given as goal
 
 -- the names before are columns

@@ -1,6 +1,4 @@
-use Rattle.std.proofs.Common.{◌≡◌, false, sym, ◌∙◌, ap}
-use Rattle.lucid_tree.specs.Env.{definition}
-use Rattle.lucid_columns.specs.Columns.{is_plain, defines_plain}
+use Rattle.lucid_columns.proofs.Common.{◌≡◌, false, sym, ◌∙◌, ap, definition, is_plain, defines_plain}
 use Rattle.lucid_columns.proofs.Defined.{same_if, not_same_if, passed, met, none_left}
 use Rattle.lucid_columns.proofs.columns.has_plain.Goals as goal
 

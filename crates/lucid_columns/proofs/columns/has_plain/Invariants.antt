@@ -1,7 +1,4 @@
-use Rattle.std.proofs.Common.{◌≡◌, drop}
-use Rattle.lucid_tree.specs.DefsView.{defs_of}
-use Rattle.lucid_tree.specs.Env.{definition}
-use Rattle.lucid_columns.specs.Columns.{is_plain}
+use Rattle.lucid_columns.proofs.Common.{◌≡◌, drop, defs_of, definition, is_plain}
 use Rattle.lucid_columns.proofs.columns.has_plain.Given as goal
 
 -- what is left has the first definition

@@ -1,18 +1,10 @@
-use Rattle.std.proofs.Common.{◌≡◌, ◌+◌, length, [], ◌∷◌, ◌++◌, drop, sym, ap, ◌∙◌, subst, arith, rules}
+use Rattle.lucid_compile.proofs.Common.{◌≡◌, ◌+◌, length, [], ◌∷◌, ◌++◌, drop, sym, ap, ◌∙◌, subst, arith, block, nodes_in_defs, operands, Freeze, ScopeRow, Here, lists, OneScope, linked, AddsTree, AddsTrees, AddsDefs, rules}
 use Rattle.std.proofs.lemmas.List.{append-nil}
-use Rattle.lucid_tree.specs.Tree.{block}
 use Rattle.lucid_tree.specs.View.{tree_of}
-use Rattle.lucid_tree.specs.Size.{nodes_in, nodes_in_defs}
-use Rattle.lucid_tree.specs.Parts.{operands}
+use Rattle.lucid_tree.specs.Size.{nodes_in}
 use Rattle.lucid_tree.specs.declared.tree.Block.{Block}
-use Rattle.lucid_equations.specs.declared.rows.Node.TheVariants.{Freeze}
 use Rattle.lucid_equations.specs.declared.rows.ScopeKind.TheVariants.{Frozen}
-use Rattle.lucid_equations.specs.declared.rows.ScopeRow.{ScopeRow}
-use Rattle.lucid_compile.specs.declared.building.Here.{Here}
 use Rattle.lucid_compile.specs.declared.building.Rows.{Rows}
-use Rattle.lucid_compile.specs.Building.{lists, OneScope}
-use Rattle.lucid_compile.specs.Linked.{linked}
-use Rattle.lucid_compile.specs.Holds.{AddsTree, AddsTrees, AddsDefs}
 use Rattle.lucid_compile.proofs.Adding.{if_ok, on_then, not-both, no_trees-added, tree-then, no_defs-added, defs-then, right-added, frozen-opened, open-added}
 use Rattle.lucid_compile.proofs.LinkedRows.{scope-linked, node-linked}
 use Rattle.lucid_compile.proofs.Waiting.{none-waits, all-before, one-waits, before-kept, still-within}

@@ -1,10 +1,5 @@
-use Rattle.std.proofs.Common.{ℕ, List, ◌≡◌, ◌++◌, ◌+◌, ◌*◌, ◌≤◌, length, take, drop}
-use Rattle.lucid_tree.specs.Size.{nodes, nodes_in, nodes_in_defs}
-use Rattle.lucid_tree.specs.Parts.{operands}
-use Rattle.lucid_compile.specs.Bound.{Numbered}
-use Rattle.lucid_compile.specs.Building.{Lists}
-use Rattle.lucid_compile.specs.Linked.{linked}
-use Rattle.lucid_compile.specs.Holds.{AddsTrees, AddsDefs}
+use Rattle.lucid_compile.proofs.Common.{ℕ, List, ◌≡◌, ◌++◌, ◌+◌, ◌≤◌, length, take, drop, nodes_in_defs, operands, Numbered, Lists, linked, AddsTrees, AddsDefs, ◌*◌}
+use Rattle.lucid_tree.specs.Size.{nodes, nodes_in}
 use Rattle.lucid_compile.proofs.compiler.+compile.Given as goal
 
 abbrev pub decreases-add_tree : goal.decreases-add_tree

@@ -1,8 +1,4 @@
-use Rattle.std.proofs.Common.{◌≡◌, ap, ◌∙◌}
-use Rattle.lucid_equations.specs.declared.rows.Node.TheVariants.{Call}
-use Rattle.lucid_compile.specs.Keys.{plain_key}
-use Rattle.lucid_compile.specs.Building.{lists, with_place}
-use Rattle.lucid_compile.specs.Linked.{linked}
+use Rattle.lucid_compile.proofs.Common.{◌≡◌, ap, ◌∙◌, Call, plain_key, lists, with_place, linked}
 use Rattle.lucid_compile.proofs.Adding.{if_ok, call-added}
 use Rattle.lucid_compile.proofs.LinkedRows.{node-linked, place-linked}
 use Rattle.lucid_compile.proofs.compiler.add_call.Goals as goal

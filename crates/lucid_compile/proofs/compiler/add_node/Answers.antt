@@ -1,9 +1,4 @@
-use Rattle.std.proofs.Common.{drop, sym, ◌∙◌, subst}
-use Rattle.lucid_equations.specs.declared.rows.Node.TheVariants.{Refer}
-use Rattle.lucid_compile.specs.Building.{lists}
-use Rattle.lucid_compile.specs.Linked.{linked}
-use Rattle.lucid_compile.specs.Holds.{AddsTrees}
-use Rattle.lucid_compile.specs.Steps.{AddsNode}
+use Rattle.lucid_compile.proofs.Common.{drop, sym, ◌∙◌, subst, Refer, lists, linked, AddsTrees, AddsNode}
 use Rattle.lucid_compile.proofs.Adding.{if_ok, name-added}
 use Rattle.lucid_compile.proofs.LinkedRows.{node-linked}
 use Rattle.lucid_compile.proofs.compiler.add_node.Goals as goal

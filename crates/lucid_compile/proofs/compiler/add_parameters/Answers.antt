@@ -1,6 +1,4 @@
-use Rattle.std.proofs.Common.{get_or, refl, ◌∙◌, ap, subst, take_all}
-use Rattle.lucid_compile.specs.Linked.{link, linked}
-use Rattle.lucid_compile.specs.Steps.{AddsParameters}
+use Rattle.lucid_compile.proofs.Common.{get_or, refl, ◌∙◌, ap, subst, take_all, link, linked, AddsParameters}
 use Rattle.lucid_compile.proofs.Adding.{no_parameters-added, parameters-more}
 use Rattle.lucid_compile.proofs.compiler.add_parameters.Goals as goal
 

@@ -1,7 +1,4 @@
-use Rattle.std.proofs.Common.{length, take, ◌-◌}
-use Rattle.lucid_compile.specs.Bound.{Numbered}
-use Rattle.lucid_compile.specs.Linked.{linked}
-use Rattle.lucid_compile.specs.Steps.{AddsParameters}
+use Rattle.lucid_compile.proofs.Common.{length, take, ◌-◌, Numbered, linked, AddsParameters}
 use Rattle.lucid_compile.proofs.compiler.add_parameters.Given as goal
 
 -- the parameters before this one have their rows

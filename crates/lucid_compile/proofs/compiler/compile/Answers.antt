@@ -1,15 +1,6 @@
-use Rattle.std.proofs.Common.{◌≡◌, ◌≤◌, length, arith, true, false, ◌↔◌, is_some, Option, Some, None, IfSome, ap, sym, ◌∙◌, subst}
-use Rattle.lucid_tree.specs.Members.{AllDiffer}
-use Rattle.lucid_scope.specs.Scoped.{scoped_tree, scoped_inputs}
-use Rattle.lucid_equations.specs.declared.table.Table.{Table}
+use Rattle.lucid_compile.proofs.Common.{◌≡◌, ◌≤◌, length, arith, true, false, Option, Some, None, ap, sym, ◌∙◌, subst, AllDiffer, scoped_tree, scoped_inputs, Table, IsInRange, equations_of, IsSound, lists, Numbered, KeepsTree, ◌↔◌, is_some, IfSome}
 use Rattle.lucid_equations.specs.declared.program.Program.{Program}
-use Rattle.lucid_equations.specs.Ranges.{IsInRange}
-use Rattle.lucid_equations.specs.Rows.{equations_of}
 use Rattle.lucid_equations.specs.Programs.{table_of}
-use Rattle.lucid_equations.specs.Sound.{IsSound}
-use Rattle.lucid_compile.specs.Building.{lists}
-use Rattle.lucid_compile.specs.Bound.{Numbered}
-use Rattle.lucid_compile.specs.Promise.{KeepsTree}
 use Rattle.lucid_compile.proofs.Final.{IsMade, keys-apart, table-made}
 use Rattle.lucid_compile.proofs.compiler.compile.Goals as goal
 

@@ -1,4 +1,4 @@
-use Rattle.std.proofs.Common.{◌≡◌, take}
+use Rattle.lucid_compile.proofs.Common.{◌≡◌, take}
 use Rattle.lucid_compile.proofs.compiler.copied.Given as goal
 
 abbrev pub invariant-loop-name : goal.invariant-loop-name

@@ -1,6 +1,5 @@
-use Rattle.std.proofs.Common.{◌≡◌, drop}
+use Rattle.lucid_compile.proofs.Common.{◌≡◌, drop, freezes}
 use Rattle.lucid_tree.specs.DefsView.{defs_of}
-use Rattle.lucid_compile.specs.Static.{freezes}
 use Rattle.lucid_compile.proofs.compiler.has_frame.Given as goal
 
 -- whether the block has a frame rests on the definitions that are left

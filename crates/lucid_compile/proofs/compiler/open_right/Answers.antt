@@ -1,5 +1,4 @@
-use Rattle.lucid_compile.specs.Building.{lists}
-use Rattle.lucid_compile.specs.Linked.{linked}
+use Rattle.lucid_compile.proofs.Common.{lists, linked}
 use Rattle.lucid_compile.proofs.LinkedRows.{scope-linked}
 use Rattle.lucid_compile.proofs.compiler.open_right.Goals as goal
 

@@ -1,8 +1,4 @@
-use Rattle.std.proofs.Common.{◌≡◌, ◌<◌, ◌≤◌, length, get_or, slice_get, arith, sym, ap, ◌∙◌}
-use Rattle.lucid_compile.specs.declared.numbering.Key.{Key}
-use Rattle.lucid_compile.specs.Building.{Lists, lists}
-use Rattle.lucid_compile.specs.Bound.{Numbered}
-use Rattle.lucid_compile.specs.Steps.{numbered, callee_number, row_by, with_names}
+use Rattle.lucid_compile.proofs.Common.{◌≡◌, ◌<◌, ◌≤◌, length, get_or, slice_get, arith, sym, ap, ◌∙◌, Key, Lists, lists, Numbered, numbered, callee_number, row_by, with_names}
 use Rattle.lucid_compile.proofs.Calling.{calls-none, calls-more, calls-all}
 use Rattle.lucid_compile.proofs.linking.add_calls.Goals as goal
 

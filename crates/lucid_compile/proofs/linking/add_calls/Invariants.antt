@@ -1,6 +1,4 @@
-use Rattle.std.proofs.Common.{◌≡◌, length, take, ◌++◌, ◌-◌}
-use Rattle.lucid_compile.specs.Building.{lists}
-use Rattle.lucid_compile.specs.Steps.{numbered, with_names, rows_of_calls}
+use Rattle.lucid_compile.proofs.Common.{◌≡◌, length, take, ◌++◌, ◌-◌, lists, numbered, with_names, rows_of_calls}
 use Rattle.lucid_compile.proofs.linking.add_calls.Given as goal
 
 -- the calls before this one have their rows

@@ -1,8 +1,4 @@
-use Rattle.std.proofs.Common.{◌<◌, length, get_or, arith}
-use Rattle.lucid_equations.specs.declared.rows.NodeRow.{NodeRow}
-use Rattle.lucid_equations.specs.declared.rows.Node.TheVariants.{Const}
-use Rattle.lucid_compile.specs.Linked.{linked_row}
-use Rattle.lucid_compile.specs.Steps.{numbered}
+use Rattle.lucid_compile.proofs.Common.{◌<◌, length, get_or, arith, NodeRow, Const, linked_row, numbered}
 use Rattle.lucid_compile.proofs.LinkedRows.{over-more}
 use Rattle.lucid_compile.proofs.linking.link_nodes.Goals as goal
 

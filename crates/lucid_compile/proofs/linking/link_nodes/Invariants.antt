@@ -1,6 +1,4 @@
-use Rattle.std.proofs.Common.{◌≡◌, ◌++◌, map, take, drop}
-use Rattle.lucid_compile.specs.Linked.{linked_row}
-use Rattle.lucid_compile.specs.Steps.{numbered}
+use Rattle.lucid_compile.proofs.Common.{◌≡◌, ◌++◌, map, take, drop, linked_row, numbered}
 use Rattle.lucid_compile.proofs.linking.link_nodes.Given as goal
 
 -- the nodes before this one are linked

@@ -1,7 +1,4 @@
-use Rattle.std.proofs.Common.{◌<◌, length, get_or, arith}
-use Rattle.lucid_equations.specs.declared.rows.PlaceRow.{PlaceRow}
-use Rattle.lucid_compile.specs.Linked.{linked_place}
-use Rattle.lucid_compile.specs.Steps.{numbered}
+use Rattle.lucid_compile.proofs.Common.{◌<◌, length, get_or, arith, PlaceRow, linked_place, numbered}
 use Rattle.lucid_compile.proofs.LinkedRows.{over-more}
 use Rattle.lucid_compile.proofs.linking.link_places.Goals as goal
 

@@ -1,6 +1,4 @@
-use Rattle.std.proofs.Common.{◌≡◌, ◌++◌, map, take, drop}
-use Rattle.lucid_compile.specs.Linked.{linked_place}
-use Rattle.lucid_compile.specs.Steps.{numbered}
+use Rattle.lucid_compile.proofs.Common.{◌≡◌, ◌++◌, map, take, drop, linked_place, numbered}
 use Rattle.lucid_compile.proofs.linking.link_places.Given as goal
 
 -- the call places before this one are linked

@@ -1,9 +1,4 @@
-use Rattle.std.proofs.Common.{◌≡◌, ℕ, ◌+◌, List, get_or, Option, nat_eq, ap, ◌∙◌, arith}
-use Rattle.std.proofs.lemmas.List.{get_or_default}
-use Rattle.std.specs.Map.{lookup}
-use Rattle.lucid_compile.specs.declared.numbering.Mark.{Mark}
-use Rattle.lucid_compile.specs.declared.numbering.Key.{Key}
-use Rattle.lucid_compile.specs.Numbered.{mark_by}
+use Rattle.lucid_compile.proofs.Common.{◌≡◌, ℕ, ◌+◌, List, get_or, Option, nat_eq, ap, ◌∙◌, arith, get_or_default, lookup, Mark, Key, mark_by}
 use Rattle.lucid_compile.proofs.Marking.{Marked, mark-more, none-there}
 use Rattle.lucid_compile.proofs.numbering.mark_all.Goals as goal
 

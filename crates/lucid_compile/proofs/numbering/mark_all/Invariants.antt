@@ -1,7 +1,4 @@
-use Rattle.std.proofs.Common.{◌≡◌, ℕ, ◌+◌, ◌<◌, Some, get_or, nat_eq}
-use Rattle.std.specs.Map.{lookup}
-use Rattle.lucid_compile.specs.declared.numbering.Key.{Key}
-use Rattle.lucid_compile.specs.Numbered.{mark_by}
+use Rattle.lucid_compile.proofs.Common.{◌≡◌, ℕ, ◌+◌, ◌<◌, Some, get_or, nat_eq, lookup, Key, mark_by}
 use Rattle.lucid_compile.proofs.numbering.mark_all.Given as goal
 
 -- the keys before this one are marked, and all other places are as they were

@@ -1,4 +1,4 @@
-use Rattle.std.proofs.Common.{◌≡◌, ◌<◌, ◌≤◌, ℕ, length, get_or, sym, ap, subst, ◌∙◌, arith}
+use Rattle.lucid_cycles.proofs.Common.{◌≡◌, ◌<◌, ◌≤◌, ℕ, length, get_or, sym, ap, subst, ◌∙◌, arith}
 use Rattle.lucid_cycles.proofs.Trails.{cycle-some, cycle-length, begun-cycle}
 use Rattle.lucid_cycles.proofs.cycle.begun.Goals as goal
 

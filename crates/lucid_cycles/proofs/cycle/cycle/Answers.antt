@@ -1,10 +1,6 @@
-use Rattle.std.proofs.Common.{◌≡◌, ◌+◌, [], ◌∷◌, ◌++◌, length, get_or, drop, refl, sym, subst, ◌∙◌, ap, arith, rules}
-use Rattle.std.proofs.lemmas.Int.{to_z-of_z}
+use Rattle.lucid_cycles.proofs.Common.{◌≡◌, ◌+◌, [], ◌∷◌, ◌++◌, length, get_or, drop, refl, sym, subst, ◌∙◌, ap, arith, rules, to_z-of_z, In, Closed, potential}
 use mir.Syntax.{w64}
 use mir.Val.{SFits}
-use Rattle.lucid_tree.specs.Members.{In}
-use Rattle.lucid_cycles.specs.Closes.{Closed}
-use Rattle.lucid_cycles.specs.Potentials.{potential}
 use Rattle.lucid_cycles.proofs.Closing.{length-level, some-rises, back-begins, back-goes, back-low, back-ends, is-due, delays-many, closes}
 use Rattle.lucid_cycles.proofs.cycle.cycle.Goals as goal
 

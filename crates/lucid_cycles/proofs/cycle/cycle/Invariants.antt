@@ -1,4 +1,4 @@
-use Rattle.lucid_cycles.specs.Rounds.{levels_of}
+use Rattle.lucid_cycles.proofs.Common.{levels_of}
 use Rattle.lucid_cycles.proofs.Closing.{Back}
 use Rattle.lucid_cycles.proofs.cycle.cycle.Given as goal
 

@@ -1,10 +1,4 @@
-use Rattle.std.proofs.Common.{refl, subst}
-use Rattle.std.specs.List.{All}
-use Rattle.std.proofs.lemmas.List.{take_all}
-use Rattle.std.proofs.lemmas.List.Elements.{All-more}
-use Rattle.lucid_cycles.specs.declared.edge.Edge.{Edge}
-use Rattle.lucid_cycles.specs.Cycles.{edge}
-use Rattle.lucid_cycles.specs.Rounds.{Makes}
+use Rattle.lucid_cycles.proofs.Common.{refl, subst, All, take_all, All-more, Edge, edge, Makes}
 use Rattle.lucid_cycles.proofs.Lists.{all-in, in-at, same-item}
 use Rattle.lucid_cycles.proofs.cycle.due.Goals as goal
 

@@ -1,6 +1,4 @@
-use Rattle.std.proofs.Common.{take}
-use Rattle.std.specs.List.{All}
-use Rattle.lucid_cycles.specs.Rounds.{Makes}
+use Rattle.lucid_cycles.proofs.Common.{take, All, Makes}
 use Rattle.lucid_cycles.proofs.cycle.due.Given as goal
 
 abbrev pub invariant-loop-edge : goal.invariant-loop-edge

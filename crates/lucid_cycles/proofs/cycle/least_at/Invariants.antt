@@ -1,4 +1,4 @@
-use Rattle.std.proofs.Common.{ℕ, ◌<◌, ◌≤◌, length, get_or}
+use Rattle.lucid_cycles.proofs.Common.{ℕ, ◌<◌, ◌≤◌, length, get_or}
 use Rattle.lucid_cycles.proofs.cycle.least_at.Given as goal
 
 abbrev pub invariant-loop-i : goal.invariant-loop-i

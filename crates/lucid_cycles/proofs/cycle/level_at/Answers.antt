@@ -1,4 +1,4 @@
-use Rattle.std.proofs.Common.{sym, ◌∙◌}
+use Rattle.lucid_cycles.proofs.Common.{sym, ◌∙◌}
 use Rattle.lucid_cycles.proofs.Closing.{level-is}
 use Rattle.lucid_cycles.proofs.cycle.level_at.Goals as goal
 

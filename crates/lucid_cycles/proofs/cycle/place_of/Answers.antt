@@ -1,4 +1,4 @@
-use Rattle.std.proofs.Common.{arith}
+use Rattle.lucid_cycles.proofs.Common.{arith}
 use Rattle.lucid_cycles.proofs.Lists.{none-in}
 use Rattle.lucid_cycles.proofs.cycle.place_of.Goals as goal
 

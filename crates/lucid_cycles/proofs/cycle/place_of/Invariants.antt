@@ -1,4 +1,4 @@
-use Rattle.std.proofs.Common.{◌≡◌, ℕ, ◌<◌, get_or}
+use Rattle.lucid_cycles.proofs.Common.{◌≡◌, ℕ, ◌<◌, get_or}
 use Rattle.lucid_cycles.proofs.cycle.place_of.Given as goal
 
 abbrev pub invariant-loop-i : goal.invariant-loop-i

@@ -1,12 +1,5 @@
-use Rattle.std.proofs.Common.{◌≡◌, true, length, sym, ap, subst, ◌∙◌}
-use Rattle.std.specs.Prelude.{pos, None, IsTrue, ◌↔◌}
-use Rattle.std.specs.List.{All}
-use Rattle.lucid_tree.specs.Tree.{PlainTree}
-use Rattle.lucid_scope.specs.Scoped.{scoped_tree, scoped_inputs, scoped_binding}
-use Rattle.lucid_cycles.specs.declared.names.Survey.{Survey}
-use Rattle.lucid_cycles.specs.Graph.{Bindings, edges}
-use Rattle.lucid_cycles.specs.Walks.{listed_names, HasAsked}
-use Rattle.lucid_cycles.specs.Readers.{HasNames}
+use Rattle.lucid_cycles.proofs.Common.{◌≡◌, true, length, sym, ap, subst, ◌∙◌, pos, All, PlainTree, scoped_tree, scoped_inputs, scoped_binding, Survey, Bindings, edges, listed_names, HasAsked, HasNames, IsTrue, ◌↔◌}
+use Rattle.std.specs.Prelude.{None}
 use Rattle.lucid_cycles.proofs.Descended.{enough-from, enough-asks, ok-on, defined}
 use Rattle.lucid_cycles.proofs.judging.enough.Goals as goal
 

@@ -1,14 +1,6 @@
-use Rattle.std.proofs.Common.{◌≡◌, ◌++◌, [], length, map, sym, ap, subst, ◌∙◌, arith}
-use Rattle.std.specs.Prelude.{pos, None, MatchOption}
-use Rattle.std.specs.List.{All}
-use Rattle.lucid_tree.specs.Tree.{PlainTree}
-use Rattle.lucid_scope.specs.Scoped.{scoped_tree, scoped_inputs, scoped_binding}
-use Rattle.lucid_cycles.specs.declared.names.Survey.{Survey}
-use Rattle.lucid_cycles.specs.Judged.{outside, plain_names, IsFirstOutside}
-use Rattle.lucid_cycles.specs.Graph.{Bindings, edges, graph, numbered}
-use Rattle.lucid_cycles.specs.Rounds.{IsSmall}
-use Rattle.lucid_cycles.specs.Walks.{listed_names}
-use Rattle.lucid_cycles.specs.Readers.{HasNames}
+use Rattle.lucid_cycles.proofs.Common.{◌≡◌, ◌++◌, [], length, map, sym, ap, subst, ◌∙◌, arith, pos, MatchOption, All, PlainTree, scoped_tree, scoped_inputs, scoped_binding, Survey, outside, plain_names, IsFirstOutside, Bindings, edges, graph, IsSmall, listed_names, HasNames}
+use Rattle.std.specs.Prelude.{None}
+use Rattle.lucid_cycles.specs.Graph.{numbered}
 use Rattle.lucid_cycles.proofs.Small.{graph-small}
 use Rattle.lucid_cycles.proofs.Descended.{few-names, graph-is, judgment-is, judged-defined}
 use Rattle.lucid_cycles.proofs.judging.judge.Goals as goal

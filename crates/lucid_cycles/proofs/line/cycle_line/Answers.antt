@@ -1,10 +1,4 @@
-use Rattle.std.proofs.Common.{rules, codes, List, ℕ, ap, ◌∙◌, ◌++◌, ◌≡◌}
-use Rattle.std.specs.Fmt.{signed_decimal}
-use Rattle.std.specs.List.{join_by}
-use Rattle.lucid_scope.specs.Scoped.{scoped_tree}
-use Rattle.lucid_cycles.specs.Cycles.{total}
-use Rattle.lucid_cycles.specs.JudgmentLine.{name_text}
-use Rattle.lucid_cycles.specs.Found.{text_at}
+use Rattle.lucid_cycles.proofs.Common.{rules, codes, List, ℕ, ap, ◌∙◌, ◌++◌, ◌≡◌, join_by, scoped_tree, total, name_text, text_at, signed_decimal}
 use Rattle.lucid_cycles.proofs.Defined.{join-same}
 use Rattle.lucid_cycles.proofs.line.cycle_line.Goals as goal
 

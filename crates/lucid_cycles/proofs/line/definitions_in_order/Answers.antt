@@ -1,9 +1,4 @@
-use Rattle.std.proofs.Common.{rules, subst, ap, ◌∙◌, ◌++◌}
-use Rattle.std.specs.List.Sorted.{IsPermutation, IsNonDecreasingBy}
-use Rattle.std.proofs.lemmas.List.Sorted.{IsNonDecreasingBy-from_sort_by_key}
-use Rattle.lucid_scope.specs.Scoped.{scoped_tree}
-use Rattle.lucid_cycles.specs.declared.line.Definition.{Definition}
-use Rattle.lucid_cycles.specs.JudgmentLine.{definitions}
+use Rattle.lucid_cycles.proofs.Common.{rules, subst, ap, ◌∙◌, ◌++◌, IsPermutation, IsNonDecreasingBy, scoped_tree, Definition, definitions, IsNonDecreasingBy-from_sort_by_key}
 use Rattle.lucid_cycles.proofs.Defined.{named}
 use Rattle.lucid_cycles.proofs.line.definitions_in_order.Goals as goal
 

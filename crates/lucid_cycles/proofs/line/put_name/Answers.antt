@@ -1,4 +1,4 @@
-use Rattle.std.proofs.Common.{rules}
+use Rattle.lucid_cycles.proofs.Common.{rules}
 use Rattle.lucid_cycles.proofs.Found.{text-in, text-out}
 use Rattle.lucid_cycles.proofs.line.put_name.Goals as goal
 

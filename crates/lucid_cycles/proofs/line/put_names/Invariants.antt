@@ -1,6 +1,4 @@
-use Rattle.std.proofs.Common.{◌≡◌, ◌++◌, take, codes}
-use Rattle.std.specs.List.{flat_map}
-use Rattle.lucid_cycles.specs.Found.{text_at}
+use Rattle.lucid_cycles.proofs.Common.{◌≡◌, ◌++◌, take, codes, flat_map, text_at}
 use Rattle.lucid_cycles.proofs.line.put_names.Given as goal
 
 abbrev pub invariant-loop-number : goal.invariant-loop-number

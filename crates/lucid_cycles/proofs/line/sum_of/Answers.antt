@@ -1,6 +1,4 @@
-use Rattle.std.proofs.Common.{get_or, arith, rules, ◌∙◌, subst, sym}
-use Rattle.std.specs.Prelude.{pos}
-use Rattle.std.proofs.lemmas.Int.{to_z-of_z}
+use Rattle.lucid_cycles.proofs.Common.{get_or, arith, rules, ◌∙◌, subst, sym, pos, to_z-of_z}
 use mir.Syntax.{w64}
 use mir.Val.{SFits}
 use Rattle.lucid_cycles.proofs.Totals.{summed-more}

@@ -1,5 +1,4 @@
-use Rattle.std.proofs.Common.{take}
-use Rattle.lucid_cycles.specs.Rounds.{AreLeastAdded}
+use Rattle.lucid_cycles.proofs.Common.{take, AreLeastAdded}
 use Rattle.lucid_cycles.proofs.rounds.added.Given as goal
 
 abbrev pub invariant-loop-edge : goal.invariant-loop-edge

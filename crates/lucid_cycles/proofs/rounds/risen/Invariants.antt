@@ -1,5 +1,4 @@
-use Rattle.std.proofs.Common.{ℕ, ◌<◌, ◌≤◌}
-use Rattle.lucid_cycles.specs.Potentials.{potential}
+use Rattle.lucid_cycles.proofs.Common.{ℕ, ◌<◌, ◌≤◌, potential}
 use Rattle.lucid_cycles.proofs.rounds.risen.Given as goal
 
 abbrev pub invariant-loop-k : goal.invariant-loop-k

@@ -1,4 +1,4 @@
-use Rattle.std.proofs.lemmas.List.{take_all}
+use Rattle.lucid_cycles.proofs.Common.{take_all}
 use Rattle.lucid_cycles.proofs.Lists.{same-item}
 use Rattle.lucid_cycles.proofs.Raising.{rounding-more, rounding-end}
 use Rattle.lucid_cycles.proofs.rounds.round.Goals as goal

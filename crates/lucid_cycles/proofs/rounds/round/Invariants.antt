@@ -1,4 +1,4 @@
-use Rattle.lucid_cycles.specs.Rounds.{Rounding}
+use Rattle.lucid_cycles.proofs.Common.{Rounding}
 use Rattle.lucid_cycles.proofs.rounds.round.Given as goal
 
 abbrev pub invariant-loop-edge : goal.invariant-loop-edge

@@ -1,7 +1,4 @@
-use Rattle.std.proofs.Common.{◌≡◌, ℕ, ◌<◌, ◌≤◌, [], ◌∷◌, length, length-append, refl, sym, ap, subst, ◌∙◌, arith, rules}
-use Rattle.lucid_cycles.specs.Judgments.{IsLeastEnough}
-use Rattle.lucid_cycles.specs.Potentials.{potential}
-use Rattle.lucid_cycles.specs.Rounds.{IsRound, AreLeastAdded}
+use Rattle.lucid_cycles.proofs.Common.{◌≡◌, ℕ, ◌<◌, ◌≤◌, [], ◌∷◌, length, length-append, refl, sym, ap, subst, ◌∙◌, arith, rules, IsLeastEnough, potential, IsRound, AreLeastAdded}
 use Rattle.lucid_cycles.proofs.Settling.{settling-begins, settling-more, small-for, low-for, made-levels, settled-enough}
 use Rattle.lucid_cycles.proofs.settle.settle.Goals as goal
 

@@ -1,4 +1,4 @@
-use Rattle.std.proofs.Common.{◌+◌, ◌-◌, vec_len}
+use Rattle.lucid_cycles.proofs.Common.{◌+◌, ◌-◌, vec_len}
 use Rattle.lucid_cycles.proofs.Settling.{Settling}
 use Rattle.lucid_cycles.proofs.settle.settle.Given as goal
 

@@ -1,18 +1,10 @@
-use Rattle.std.proofs.Common.{◌≡◌, length, ap, sym, subst, ◌∙◌, arith, rules, Some, Ok, Err, false}
-use Rattle.std.specs.Prelude.{pos}
-use Rattle.std.proofs.lemmas.Int.{to_z-of_z}
+use Rattle.lucid_cycles.proofs.Common.{◌≡◌, length, ap, sym, subst, ◌∙◌, arith, rules, Some, false, pos, to_z-of_z, right_of, nodes, nodes_in, places, places_in, scoped_binding, is_judged, first_delay, later_delay, Fits, marked, own_marks, marks, marks_in, marks_in_defs}
+use Rattle.std.proofs.Common.{Ok, Err}
 use mir.Syntax.{w64}
 use mir.Val.{SFits, to_z, of_z}
 use Rattle.lucid_tree.specs.Shape.{head_of}
-use Rattle.lucid_tree.specs.Rights.{right_of}
-use Rattle.lucid_tree.specs.Size.{nodes, nodes_in}
-use Rattle.lucid_tree.specs.WellMade.{places, places_in}
-use Rattle.lucid_scope.specs.Scoped.{scoped_binding}
 use Rattle.lucid_cycles.specs.declared.walk.Mark.TheVariants.{Part}
-use Rattle.lucid_cycles.specs.Judged.{is_judged}
-use Rattle.lucid_cycles.specs.Graph.{first_delay, later_delay}
-use Rattle.lucid_cycles.specs.Rounds.{Fits}
-use Rattle.lucid_cycles.specs.Walks.{both, marked, own_marks, marks, marks_in, marks_in_defs}
+use Rattle.lucid_cycles.specs.Walks.{both}
 use Rattle.lucid_cycles.proofs.Small.{fits-here, fits-after, fits-first, fits-later, marks-def, rest-places}
 use Rattle.lucid_cycles.proofs.walk.+walk.Goals as goal
 

@@ -1,10 +1,5 @@
-use Rattle.std.proofs.Common.{◌+◌, ◌*◌, ◌≤◌, length}
-use Rattle.lucid_tree.specs.Size.{nodes, nodes_in, nodes_in_defs}
-use Rattle.lucid_tree.specs.WellMade.{places_in, places_in_defs}
-use Rattle.lucid_scope.specs.Scoped.{scoped_binding}
-use Rattle.lucid_cycles.specs.Laws.{HaveParts, DefsHaveParts}
-use Rattle.lucid_cycles.specs.Rounds.{Fits}
-use Rattle.lucid_cycles.specs.Walks.{marks_in, marks_in_defs}
+use Rattle.lucid_cycles.proofs.Common.{◌+◌, ◌*◌, ◌≤◌, length, nodes, nodes_in, places_in, places_in_defs, scoped_binding, HaveParts, DefsHaveParts, Fits, marks_in, marks_in_defs}
+use Rattle.lucid_tree.specs.Size.{nodes_in_defs}
 use Rattle.lucid_cycles.proofs.walk.+walk.Given as goal
 
 abbrev pub decreases-walk_tree : goal.decreases-walk_tree

@@ -1,8 +1,8 @@
-use Rattle.std.proofs.Common.{◌≡◌, subst}
-use Rattle.lucid_tags.specs.Known.{context_of, IsInnermost}
+use Rattle.lucid_demand.proofs.Common.{subst, context_of, node_at, program_equations}
+use Rattle.std.proofs.Common.{◌≡◌}
+use Rattle.lucid_tags.specs.Known.{IsInnermost}
 use Rattle.lucid_tags.specs.declared.Frame.TheVariants.{Frozen}
-use Rattle.lucid_equations.specs.Rows.{node_at}
-use Rattle.lucid_equations.specs.Programs.{table_of, program_equations}
+use Rattle.lucid_equations.specs.Programs.{table_of}
 use Rattle.lucid_demand.proofs.Aims.{current-goes}
 use Rattle.lucid_demand.proofs.aim.by_frame.Goals as goal
 

@@ -1,10 +1,7 @@
-use Rattle.std.proofs.Common.{◌≢◌, inl, inr, Some, sym, subst, ◌∙◌, arith}
-use Rattle.lucid_lemmas.proofs.Options.{on_err}
-use Rattle.lucid_tree.specs.Levels.{nowhere}
-use Rattle.lucid_tags.specs.Contexts.{call_frame}
-use Rattle.lucid_tags.specs.Known.{context_of}
+use Rattle.lucid_demand.proofs.Common.{◌≢◌, inl, inr, sym, subst, ◌∙◌, arith, on_err, nowhere, call_frame, context_of, program_equations}
+use Rattle.std.proofs.Common.{Some}
 use Rattle.lucid_equations.specs.Datons as aims
-use Rattle.lucid_equations.specs.Programs.{table_of, program_equations}
+use Rattle.lucid_equations.specs.Programs.{table_of}
 use Rattle.lucid_demand.proofs.Aims.{few-to_call, no-call, call-of_unknown, daton-of, added-in}
 use Rattle.lucid_demand.proofs.aim.call_aim.Goals as goal
 use Rattle.lucid_demand.proofs.aim.call_aim.Goals.{then-from-level-via-then-from-level, then-from-level-via-else-from-level+then-not-leads}

@@ -1,6 +1,4 @@
-use Rattle.std.proofs.Common.{arith}
-use Rattle.lucid_tags.specs.Known.{context_of}
-use Rattle.lucid_equations.specs.Programs.{program_equations}
+use Rattle.lucid_demand.proofs.Common.{arith, context_of, program_equations}
 use Rattle.lucid_demand.proofs.Aims.{few-frames}
 use Rattle.lucid_demand.proofs.aim.name_aim.Goals as goal
 

@@ -1,6 +1,5 @@
-use Rattle.std.proofs.Common.{◌≡◌, ap, ◌∙◌, arith}
-use Rattle.lucid_tags.specs.Contexts.{frames, cut}
-use Rattle.lucid_tags.specs.Known.{context_of}
+use Rattle.lucid_demand.proofs.Common.{ap, ◌∙◌, arith, frames, cut, context_of}
+use Rattle.std.proofs.Common.{◌≡◌}
 use Rattle.lucid_tags.proofs.ContextLemmas.{cut-frames}
 use Rattle.lucid_demand.proofs.aim.outer.Goals as goal
 

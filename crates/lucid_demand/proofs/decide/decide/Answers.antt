@@ -1,6 +1,5 @@
-use Rattle.std.proofs.Common.{Some, ap, ◌∙◌, subst}
-use Rattle.lucid_equations.specs.Rows.{node_by}
-use Rattle.lucid_equations.specs.Ranges.{NodeIsInRange, sizes}
+use Rattle.lucid_demand.proofs.Common.{ap, ◌∙◌, subst, node_by, NodeIsInRange, sizes}
+use Rattle.std.proofs.Common.{Some}
 use Rattle.lucid_equations.specs.Programs.{table_of}
 use Rattle.lucid_demand.proofs.Deciding.{its_ready}
 use Rattle.lucid_demand.proofs.Ending.{constant_decides, last_decides}

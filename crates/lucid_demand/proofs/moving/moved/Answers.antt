@@ -1,11 +1,5 @@
-use Rattle.std.proofs.Common.{inl, inr, sym, subst}
-use Rattle.lucid_lemmas.proofs.Options.{on_err}
-use Rattle.lucid_tree.specs.Members.{In}
-use Rattle.lucid_tags.specs.Contexts.{frozen_frame}
-use Rattle.lucid_tags.specs.Known.{context_of}
+use Rattle.lucid_demand.proofs.Common.{inl, inr, sym, subst, on_err, In, frozen_frame, context_of, plain_task, passed_contexts}
 use Rattle.lucid_equations.specs.Programs.{table_of}
-use Rattle.lucid_facts.specs.Tasks.{plain_task}
-use Rattle.lucid_facts.specs.Parts.{passed_contexts}
 use Rattle.lucid_demand.proofs.Aims.{added-in}
 use Rattle.lucid_demand.proofs.Passes.{frozen-way}
 use Rattle.lucid_demand.proofs.moving.moved.Goals as goal

@@ -1,8 +1,6 @@
-use Rattle.std.proofs.Common.{IfSome, option_map, sym, ap, subst, ◌∙◌}
-use Rattle.lucid_lemmas.proofs.Options.{on_err}
-use Rattle.lucid_tags.specs.Known.{IsKnown}
+use Rattle.lucid_demand.proofs.Common.{sym, ap, subst, ◌∙◌, on_err, IsKnown, plain_task}
+use Rattle.std.proofs.Common.{IfSome, option_map}
 use Rattle.lucid_equations.specs.Programs.{table_of}
-use Rattle.lucid_facts.specs.Tasks.{plain_task}
 use Rattle.lucid_demand.proofs.Passes.{passes-on, next-lower, entered-end, keeps-end, unknown-on}
 use Rattle.lucid_demand.proofs.moving.moved_on.Goals as goal
 

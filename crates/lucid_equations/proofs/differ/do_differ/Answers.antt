@@ -1,8 +1,4 @@
-use Rattle.std.proofs.Common.{◌≡◌, ℕ, ◌+◌, List, [], ◌∷◌, ◌++◌, take, ap, sym, ◌∙◌, subst, arith}
-use Rattle.std.specs.Bool.{Decides}
-use Rattle.std.specs.BTreeSet.{contains}
-use Rattle.std.proofs.lemmas.List.{take_more}
-use Rattle.lucid_tree.specs.Members.{In, AllDiffer}
+use Rattle.lucid_equations.proofs.Common.{◌≡◌, ℕ, ◌+◌, List, [], ◌∷◌, ◌++◌, take, ap, sym, ◌∙◌, subst, arith, Decides, contains, In, AllDiffer, take_more}
 use Rattle.lucid_equations.proofs.Names.{names_cmp, one_more-decides, new-differs, old-repeats, split-at}
 use Rattle.lucid_equations.proofs.differ.do_differ.Goals as goal
 

@@ -1,7 +1,4 @@
-use Rattle.std.proofs.Common.{ℕ, List, take, Bor}
-use Rattle.std.specs.Bool.{Decides}
-use Rattle.std.specs.BTreeSet.{contains}
-use Rattle.lucid_tree.specs.Members.{In, AllDiffer}
+use Rattle.lucid_equations.proofs.Common.{ℕ, List, take, Bor, Decides, contains, In, AllDiffer}
 use Rattle.lucid_equations.proofs.Names.{names_cmp}
 use Rattle.lucid_equations.proofs.differ.do_differ.Given as goal
 

@@ -1,6 +1,4 @@
-use Rattle.lucid_tree.specs.Levels.{nothing_held, below, deeper}
-use Rattle.lucid_equations.specs.Values.{node_value}
-use Rattle.lucid_equations.specs.Visits.{node_walk}
+use Rattle.lucid_equations.proofs.Common.{nothing_held, below, deeper, node_value, node_walk}
 use Rattle.lucid_equations.proofs.Moving.{part-read, part-walked}
 use Rattle.lucid_equations.proofs.FormNeeds.{look-visited, form-needs}
 use Rattle.lucid_equations.proofs.laws.forms_do_what_looks_do.Goals as goal

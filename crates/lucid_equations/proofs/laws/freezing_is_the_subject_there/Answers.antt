@@ -1,4 +1,4 @@
-use Rattle.std.proofs.Common.{refl}
+use Rattle.lucid_equations.proofs.Common.{refl}
 use Rattle.lucid_equations.proofs.Moving.{frozen-needs}
 use Rattle.lucid_equations.proofs.laws.freezing_is_the_subject_there.Goals as goal
 

@@ -1,4 +1,4 @@
-use Rattle.std.proofs.Common.{add-one}
+use Rattle.lucid_equations.proofs.Common.{add-one}
 use Rattle.lucid_equations.proofs.NodeWalks.{node_visits-up, node_visits-wider}
 use Rattle.lucid_equations.proofs.AddedNumbers.{added_is_limit}
 use Rattle.lucid_equations.proofs.VisitsGrow.{visits-more}

@@ -1,5 +1,4 @@
-use Rattle.std.proofs.Common.{drop, ◌↔◌}
-use Rattle.lucid_equations.specs.Ranges.{EachBelow}
+use Rattle.lucid_equations.proofs.Common.{drop, ◌↔◌, EachBelow}
 use Rattle.lucid_equations.proofs.range.are_below.Given as goal
 
 -- all are below where those from this one on are

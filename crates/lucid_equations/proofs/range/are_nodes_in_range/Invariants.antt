@@ -1,5 +1,4 @@
-use Rattle.std.proofs.Common.{drop, ◌↔◌}
-use Rattle.lucid_equations.specs.Ranges.{sizes, NodesAreInRange}
+use Rattle.lucid_equations.proofs.Common.{drop, ◌↔◌, sizes, NodesAreInRange}
 use Rattle.lucid_equations.proofs.range.are_nodes_in_range.Given as goal
 
 -- all rows are in range where those from this one on are

@@ -1,8 +1,5 @@
-use Rattle.std.proofs.Common.{map}
-use Rattle.std.specs.String.{string_bytes}
-use Rattle.std.proofs.lemmas.Result.{IfOk-weaker}
-use Rattle.lucid_words.specs.Asked.{plain_words}
-use Rattle.lucid_explained.specs.Said.{Says, SaysWords, IsExplanation, refused_words, asked_words}
+use Rattle.lucid_explained.proofs.Common.{map, string_bytes, IfOk-weaker, plain_words, Says, SaysWords, IsExplanation}
+use Rattle.lucid_explained.specs.Said.{refused_words, asked_words}
 use Rattle.lucid_explained.proofs.causes.explain.Goals as goal
 
 pub returns-in-Ok : goal.returns-in-Ok

@@ -1,9 +1,5 @@
-use Rattle.std.proofs.Common.{subst}
-use Rattle.std.proofs.lemmas.Result.{IfOk-weaker}
-use Rattle.lucid_words.specs.Asked.{plain_words}
-use Rattle.lucid_explained.specs.declared.outlook.Again.{Again}
-use Rattle.lucid_explained.specs.Files.{IsAgain}
-use Rattle.lucid_explained.specs.Said.{past_source, Tells, Says, of_source}
+use Rattle.lucid_explained.proofs.Common.{subst, IfOk-weaker, plain_words, Again, IsAgain, past_source, Tells, Says}
+use Rattle.lucid_explained.specs.Said.{of_source}
 use Rattle.lucid_explained.proofs.Telling.{same_source}
 use Rattle.lucid_explained.proofs.causes.text_of_file.Goals as goal
 

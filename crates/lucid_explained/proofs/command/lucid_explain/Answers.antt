@@ -1,5 +1,5 @@
+use Rattle.lucid_explained.proofs.Common.{told}
 use Rattle.lucid_ports.specs.Sink.{sink_bytes, sink_faults}
-use Rattle.lucid_session.specs.Runs.{told}
 use Rattle.lucid_explained.proofs.Explaining.{begun_empty, reported_as}
 use Rattle.lucid_explained.proofs.command.lucid_explain.Goals as goal
 

@@ -1,6 +1,4 @@
-use Rattle.std.proofs.Common.{ℕ, List, map, inr, sym, subst}
-use Rattle.std.specs.String.{string_bytes}
-use Rattle.lucid_explained.specs.Prompted.{IsPrompt}
+use Rattle.lucid_explained.proofs.Common.{ℕ, List, map, inr, sym, subst, string_bytes, IsPrompt}
 use Rattle.lucid_explained.proofs.command.report_prompt.Goals as goal
 
 pub returns-in-Ok : goal.returns-in-Ok

@@ -1,5 +1,4 @@
-use Rattle.std.proofs.Common.{ℕ, List, ◌++◌, append_assoc, ap, ◌∙◌}
-use Rattle.std.specs.Prelude.{codes}
+use Rattle.lucid_explained.proofs.Common.{ℕ, List, ◌++◌, append_assoc, ap, ◌∙◌, codes}
 use Rattle.lucid_explained.specs.Said.{shown_text}
 use Rattle.lucid_explained.proofs.Told.{ended}
 use Rattle.lucid_explained.proofs.faults.put_fault.Goals as goal

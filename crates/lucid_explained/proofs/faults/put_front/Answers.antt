@@ -1,6 +1,4 @@
-use Rattle.std.proofs.Common.{ℕ, List, ◌++◌, map, take, ap, ◌∙◌}
-use Rattle.std.proofs.lemmas.Result.{on_ok_weaker}
-use Rattle.std.proofs.lemmas.List.{take_min}
+use Rattle.lucid_explained.proofs.Common.{ℕ, List, ◌++◌, map, take, ap, ◌∙◌, on_ok_weaker, take_min}
 use Rattle.lucid_explanations.specs.Shown.{shown_byte}
 use Rattle.lucid_explained.proofs.faults.put_front.Goals as goal
 

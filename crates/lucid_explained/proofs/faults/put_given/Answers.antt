@@ -1,8 +1,4 @@
-use Rattle.std.proofs.Common.{map, sym, subst}
-use Rattle.std.specs.Prelude.{Contains}
-use Rattle.clap.specs.Words.{Text}
-use Rattle.lucid_words.specs.Plain.{plain_given}
-use Rattle.lucid_explained.specs.Said.{given_file}
+use Rattle.lucid_explained.proofs.Common.{map, sym, subst, Contains, Text, plain_given, given_file}
 use Rattle.lucid_explained.proofs.Told.{told_none, told_both, told_among, file_among}
 use Rattle.lucid_explained.proofs.faults.put_given.Goals as goal
 

@@ -1,6 +1,4 @@
-use Rattle.std.proofs.Common.{map}
-use Rattle.lucid_words.specs.Plain.{plain_given}
-use Rattle.lucid_explained.specs.Said.{given_file, TellsFiles}
+use Rattle.lucid_explained.proofs.Common.{map, plain_given, given_file, TellsFiles}
 use Rattle.lucid_explained.proofs.faults.put_given.Given as goal
 
 abbrev pub invariant-loop-word : goal.invariant-loop-word

@@ -1,4 +1,4 @@
-use Rattle.std.proofs.lemmas.Result.{on_ok_weaker}
+use Rattle.lucid_explained.proofs.Common.{on_ok_weaker}
 use Rattle.lucid_explained.proofs.Told.{told_one}
 use Rattle.lucid_explained.proofs.faults.put_if_unread.Goals as goal
 

@@ -1,7 +1,5 @@
-use Rattle.std.proofs.Common.{◌≡◌}
-use Rattle.std.proofs.lemmas.Result.{IfOk-weaker}
-use Rattle.lucid_words.specs.Asked.{plain_words}
-use Rattle.lucid_explained.specs.Said.{unknown_text, Says, of_no_file}
+use Rattle.lucid_explained.proofs.Common.{◌≡◌, IfOk-weaker, plain_words, Says}
+use Rattle.lucid_explained.specs.Said.{unknown_text, of_no_file}
 use Rattle.lucid_explained.proofs.faults.text_of_faults.Goals as goal
 
 pub returns-then-is_empty : goal.returns-then-is_empty

@@ -1,9 +1,6 @@
-use Rattle.std.proofs.Common.{ℕ, List, [], map, subst}
-use Rattle.std.proofs.lemmas.List.Elements.{Contains-append_left, Contains-append_right}
-use Rattle.lucid_words.specs.declared.Given.{Given}
-use Rattle.lucid_words.specs.Asked.{plain_words}
-use Rattle.lucid_words.specs.Plain.{plain_given, plain_source}
-use Rattle.lucid_explained.specs.Said.{source_files, given_file, files_asked, TellsFiles}
+use Rattle.lucid_explained.proofs.Common.{ℕ, List, [], map, subst, Given, plain_words, plain_given, given_file, TellsFiles, Contains-append_left, Contains-append_right}
+use Rattle.lucid_words.specs.Plain.{plain_source}
+use Rattle.lucid_explained.specs.Said.{source_files, files_asked}
 use Rattle.lucid_explained.proofs.Told.{told_both, told_wider}
 use Rattle.lucid_explained.proofs.faults.text_of_files.Goals as goal
 

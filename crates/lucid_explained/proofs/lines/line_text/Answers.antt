@@ -1,4 +1,4 @@
-use Rattle.std.proofs.Common.{sym, ◌∙◌}
+use Rattle.lucid_explained.proofs.Common.{sym, ◌∙◌}
 use Rattle.lucid_explained.proofs.lines.line_text.Goals as goal
 
 pub returns-then-ends : goal.returns-then-ends

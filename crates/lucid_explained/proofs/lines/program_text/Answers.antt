@@ -1,4 +1,4 @@
-use Rattle.std.proofs.Common.{sym, ◌∙◌}
+use Rattle.lucid_explained.proofs.Common.{sym, ◌∙◌}
 use Rattle.lucid_explained.proofs.lines.program_text.Goals as goal
 
 pub returns-then-begins-5 : goal.returns-then-begins-5

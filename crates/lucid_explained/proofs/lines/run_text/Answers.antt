@@ -1,4 +1,4 @@
-use Rattle.std.proofs.Common.{sym, ◌∙◌}
+use Rattle.lucid_explained.proofs.Common.{sym, ◌∙◌}
 use Rattle.lucid_explained.proofs.lines.run_text.Goals as goal
 
 pub returns-then-begins : goal.returns-then-begins

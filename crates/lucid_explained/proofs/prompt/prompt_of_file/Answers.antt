@@ -1,12 +1,6 @@
-use Rattle.std.proofs.Common.{ℕ, List, map, subst}
-use Rattle.std.specs.String.{string_bytes}
-use Rattle.std.proofs.lemmas.Result.{IfOk-weaker}
-use Rattle.lucid_words.specs.Asked.{plain_words}
+use Rattle.lucid_explained.proofs.Common.{ℕ, List, map, subst, string_bytes, IfOk-weaker, plain_words, Again, IsAgain, past_source, names_given, IsPrompt}
 use Rattle.lucid_causes.specs.Prompts.{TellsPrompt}
-use Rattle.lucid_explained.specs.declared.outlook.Again.{Again}
-use Rattle.lucid_explained.specs.Files.{IsAgain}
-use Rattle.lucid_explained.specs.Said.{past_source, names_given}
-use Rattle.lucid_explained.specs.Prompted.{IsPrompt, only}
+use Rattle.lucid_explained.specs.Prompted.{only}
 use Rattle.lucid_explained.proofs.prompt.prompt_of_file.Goals as goal
 
 pub returns-in-Bytes : goal.returns-in-Bytes

@@ -1,6 +1,4 @@
-use Rattle.std.proofs.Common.{◌≡◌, map, take}
-use Rattle.lucid_words.specs.Plain.{plain_given}
-use Rattle.lucid_explained.specs.Said.{names_given}
+use Rattle.lucid_explained.proofs.Common.{◌≡◌, map, take, plain_given, names_given}
 use Rattle.lucid_explained.proofs.sources.given_names.Given as goal
 
 abbrev pub invariant-loop-word : goal.invariant-loop-word

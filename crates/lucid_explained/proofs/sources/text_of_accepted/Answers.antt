@@ -1,9 +1,7 @@
-use Rattle.std.proofs.Common.{sym, ◌∙◌}
-use Rattle.std.proofs.lemmas.Result.{IfOk-weaker}
-use Rattle.lucid_words.specs.Asked.{plain_words}
+use Rattle.lucid_explained.proofs.Common.{sym, ◌∙◌, IfOk-weaker, plain_words, names_given, Tells}
 use Rattle.lucid_causes.specs.Inputs.{TellsInputs}
 use Rattle.lucid_explanations.specs.Columns.{TellsColumns}
-use Rattle.lucid_explained.specs.Said.{names_given, Tells, inputs, columns}
+use Rattle.lucid_explained.specs.Said.{inputs, columns}
 use Rattle.lucid_explained.proofs.sources.text_of_accepted.Goals as goal
 
 pub returns-then-is_empty : goal.returns-then-is_empty

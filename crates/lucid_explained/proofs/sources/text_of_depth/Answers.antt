@@ -1,10 +1,6 @@
-use Rattle.std.proofs.Common.{◌≡◌, ℕ, List, ◌++◌, Option, subst}
-use Rattle.std.specs.Prelude.{codes, IfSome}
-use Rattle.std.proofs.lemmas.Result.{IfOk-weaker}
-use Rattle.lucid_words.specs.Asked.{plain_words}
+use Rattle.lucid_explained.proofs.Common.{◌≡◌, ℕ, List, ◌++◌, Option, subst, codes, IfSome, IfOk-weaker, plain_words, line_text, TellsNumber, Tells}
 use Rattle.lucid_causes.specs.Depths.{TellsDepth}
-use Rattle.lucid_explained.specs.Lines.{line_text}
-use Rattle.lucid_explained.specs.Said.{TellsNumber, Tells, depth}
+use Rattle.lucid_explained.specs.Said.{depth}
 use Rattle.lucid_explained.proofs.sources.text_of_depth.Goals as goal
 
 pub returns-in-Some : goal.returns-in-Some

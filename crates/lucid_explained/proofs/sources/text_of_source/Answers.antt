@@ -1,5 +1,4 @@
-use Rattle.std.proofs.Common.{Option, subst}
-use Rattle.std.specs.Prelude.{IfSome}
+use Rattle.lucid_explained.proofs.Common.{Option, subst, IfSome}
 use Rattle.lucid_explanations.specs.declared.sources.Explanation.{Explanation}
 use Rattle.lucid_explanations.specs.Sources.{Explains}
 use Rattle.lucid_explained.specs.Said.{refused}

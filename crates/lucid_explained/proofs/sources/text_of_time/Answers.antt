@@ -1,4 +1,4 @@
-use Rattle.std.proofs.Common.{ℕ, List, ◌++◌, ap, ◌∙◌}
+use Rattle.lucid_explained.proofs.Common.{ℕ, List, ◌++◌, ap, ◌∙◌}
 use Rattle.lucid_explained.proofs.sources.text_of_time.Goals as goal
 
 pub returns : goal.returns

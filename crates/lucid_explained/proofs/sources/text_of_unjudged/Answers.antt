@@ -1,10 +1,6 @@
-use Rattle.std.proofs.Common.{◌≡◌, ℕ, ◌++◌, Option, subst}
-use Rattle.std.specs.Prelude.{codes, IfSome}
-use Rattle.std.proofs.lemmas.Result.{IfOk-weaker}
-use Rattle.lucid_words.specs.Asked.{plain_words}
+use Rattle.lucid_explained.proofs.Common.{◌≡◌, ℕ, ◌++◌, Option, subst, codes, IfSome, IfOk-weaker, plain_words, line_text, TellsNumber, Tells}
 use Rattle.lucid_explanations.specs.Shown.{place_text}
-use Rattle.lucid_explained.specs.Lines.{line_text}
-use Rattle.lucid_explained.specs.Said.{TellsNumber, Tells, unjudged}
+use Rattle.lucid_explained.specs.Said.{unjudged}
 use Rattle.lucid_explained.proofs.sources.text_of_unjudged.Goals as goal
 
 pub returns-in-Some : goal.returns-in-Some

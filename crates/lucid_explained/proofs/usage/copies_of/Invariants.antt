@@ -1,5 +1,4 @@
-use Rattle.std.proofs.Common.{◌≡◌, map, take}
-use Rattle.std.specs.String.{string_bytes}
+use Rattle.lucid_explained.proofs.Common.{◌≡◌, map, take, string_bytes}
 use Rattle.lucid_explained.proofs.usage.copies_of.Given as goal
 
 abbrev pub invariant-loop-word : goal.invariant-loop-word

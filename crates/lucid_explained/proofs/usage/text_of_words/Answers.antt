@@ -1,8 +1,4 @@
-use Rattle.std.proofs.Common.{◌≡◌, ℕ, ◌+◌, ◌<◌, false, length, map, take, Option, ap, subst, ◌∙◌}
-use Rattle.std.specs.Prelude.{IfSome}
-use Rattle.std.specs.String.{string_bytes}
-use Rattle.std.proofs.lemmas.Result.{IfOk-weaker}
-use Rattle.lucid_explained.specs.Said.{goes_on, wrong_text, SaysWords}
+use Rattle.lucid_explained.proofs.Common.{◌≡◌, ℕ, ◌+◌, ◌<◌, false, length, map, take, Option, ap, subst, ◌∙◌, IfSome, string_bytes, IfOk-weaker, goes_on, wrong_text, SaysWords}
 use Rattle.lucid_explained.proofs.Telling.{wrong_word}
 use Rattle.lucid_explained.proofs.usage.text_of_words.Goals as goal
 

@@ -1,4 +1,4 @@
-use Rattle.std.proofs.Common.{arith}
+use Rattle.lucid_explanations.proofs.Common.{arith}
 use Rattle.lucid_explanations.proofs.Stuck.{bad_within}
 use Rattle.lucid_explanations.proofs.advice.put_bad_byte.Goals as goal
 

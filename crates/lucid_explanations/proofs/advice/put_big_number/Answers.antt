@@ -1,4 +1,4 @@
-use Rattle.std.proofs.Common.{arith}
+use Rattle.lucid_explanations.proofs.Common.{arith}
 use Rattle.lucid_explanations.proofs.Stuck.{big_within}
 use Rattle.lucid_explanations.proofs.advice.put_big_number.Goals as goal
 

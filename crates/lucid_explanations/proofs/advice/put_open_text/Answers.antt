@@ -1,4 +1,4 @@
-use Rattle.std.proofs.Common.{arith}
+use Rattle.lucid_explanations.proofs.Common.{arith}
 use Rattle.lucid_explanations.proofs.Stuck.{open_within}
 use Rattle.lucid_explanations.proofs.advice.put_open_text.Goals as goal
 

@@ -1,4 +1,4 @@
-use Rattle.std.proofs.Common.{ℕ, List, ◌++◌, ap, ◌∙◌}
+use Rattle.lucid_explanations.proofs.Common.{ℕ, List, ◌++◌, ap, ◌∙◌}
 use Rattle.lucid_explanations.specs.Columns.{columns_text, columns}
 use Rattle.lucid_explanations.proofs.columns.text_of_columns.Goals as goal
 

@@ -1,5 +1,4 @@
-use Rattle.std.proofs.Common.{◌≡◌, ◌++◌, take, codes}
-use Rattle.std.specs.List.{flat_map}
+use Rattle.lucid_explanations.proofs.Common.{◌≡◌, ◌++◌, take, codes, flat_map}
 use Rattle.lucid_explanations.specs.Definitions.{name_text}
 use Rattle.lucid_explanations.proofs.definitions.put_names.Given as goal
 

@@ -1,5 +1,4 @@
-use Rattle.std.proofs.Common.{inl, inr, sym, arith}
-use Rattle.std.proofs.lemmas.Bool.{cases_lt}
+use Rattle.lucid_explanations.proofs.Common.{inl, inr, sym, arith, cases_lt}
 use Rattle.lucid_explanations.proofs.Grows.{one_place}
 use Rattle.lucid_explanations.proofs.laws.positions_tell_places.Goals as goal
 

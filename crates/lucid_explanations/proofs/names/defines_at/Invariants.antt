@@ -1,6 +1,4 @@
-use Rattle.std.proofs.Common.{◌≡◌, drop}
-use Rattle.lucid_explanations.specs.Names.{defines_at}
-use Rattle.lucid_explanations.specs.Scopes.{lent}
+use Rattle.lucid_explanations.proofs.Common.{◌≡◌, drop, defines_at, lent}
 use Rattle.lucid_explanations.proofs.names.defines_at.Given as goal
 
 abbrev pub invariant-loop-def : goal.invariant-loop-def

@@ -1,8 +1,4 @@
-use Rattle.std.proofs.Common.{ℕ, ◌+◌, List, ◌∷◌, ◌++◌, drop, ap, sym, ◌∙◌}
-use Rattle.std.specs.Borrow.{Bor}
-use Rattle.lucid_tree.specs.declared.tree.Def.{Def}
-use Rattle.lucid_explanations.specs.Names.{fits, told_text}
-use Rattle.lucid_explanations.specs.Scopes.{lent}
+use Rattle.lucid_explanations.proofs.Common.{ℕ, ◌+◌, List, ◌∷◌, ◌++◌, drop, ap, sym, ◌∙◌, Bor, Def, fits, told_text, lent}
 use Rattle.lucid_explanations.proofs.Lent.{told_more}
 use Rattle.lucid_explanations.proofs.names.put_told.Goals as goal
 

@@ -1,6 +1,4 @@
-use Rattle.std.proofs.Common.{◌≡◌, ◌++◌, drop}
-use Rattle.lucid_explanations.specs.Names.{fits, told_text}
-use Rattle.lucid_explanations.specs.Scopes.{lent}
+use Rattle.lucid_explanations.proofs.Common.{◌≡◌, ◌++◌, drop, fits, told_text, lent}
 use Rattle.lucid_explanations.proofs.names.put_told.Given as goal
 
 abbrev pub invariant-loop-def : goal.invariant-loop-def

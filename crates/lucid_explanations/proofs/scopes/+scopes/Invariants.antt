@@ -1,7 +1,6 @@
-use Rattle.std.proofs.Common.{◌≡◌, ◌+◌, ◌*◌, ◌≤◌, ◌++◌}
-use Rattle.std.specs.Prelude.{◌||◌}
+use Rattle.lucid_explanations.proofs.Common.{◌≡◌, ◌+◌, ◌≤◌, ◌++◌, lent, ◌*◌, ◌||◌}
 use Rattle.lucid_tree.specs.Size.{nodes, nodes_in, nodes_in_defs}
-use Rattle.lucid_explanations.specs.Scopes.{lent, has_place_in, has_place_in_defs, in_scope_in, in_scope_defs}
+use Rattle.lucid_explanations.specs.Scopes.{has_place_in, has_place_in_defs, in_scope_in, in_scope_defs}
 use Rattle.lucid_explanations.proofs.scopes.+scopes.Given as goal
 
 abbrev pub decreases-find_in_scope : goal.decreases-find_in_scope

@@ -1,5 +1,5 @@
-use Rattle.std.proofs.Common.{◌≡◌, ◌++◌}
-use Rattle.lucid_explanations.specs.Scopes.{lent, listed}
+use Rattle.lucid_explanations.proofs.Common.{◌≡◌, ◌++◌, lent}
+use Rattle.lucid_explanations.specs.Scopes.{listed}
 use Rattle.lucid_explanations.proofs.scopes.find_all.Given as goal
 
 abbrev pub invariant-loop-def : goal.invariant-loop-def

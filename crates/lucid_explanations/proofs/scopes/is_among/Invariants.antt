@@ -1,6 +1,4 @@
-use Rattle.std.proofs.Common.{◌≡◌, drop}
-use Rattle.std.specs.Prelude.{nat_eq}
-use Rattle.std.specs.List.{list_any}
+use Rattle.lucid_explanations.proofs.Common.{◌≡◌, drop, nat_eq, list_any}
 use Rattle.lucid_explanations.proofs.scopes.is_among.Given as goal
 
 abbrev pub invariant-loop-place : goal.invariant-loop-place

@@ -1,4 +1,4 @@
-use Rattle.std.proofs.Common.{◌≡◌, ◌++◌, replicate}
+use Rattle.lucid_explanations.proofs.Common.{◌≡◌, ◌++◌, replicate}
 use Rattle.lucid_explanations.proofs.shown.put_caret.Given as goal
 
 -- so many blanks are appended

@@ -1,4 +1,4 @@
-use Rattle.std.proofs.Common.{◌≡◌, ◌++◌, map, take}
+use Rattle.lucid_explanations.proofs.Common.{◌≡◌, ◌++◌, map, take}
 use Rattle.lucid_explanations.specs.Shown.{shown_byte}
 use Rattle.lucid_explanations.proofs.shown.put_shown.Given as goal
 

@@ -1,4 +1,4 @@
-use Rattle.std.proofs.Common.{ℕ, List, ◌++◌, ap, ◌∙◌}
+use Rattle.lucid_explanations.proofs.Common.{ℕ, List, ◌++◌, ap, ◌∙◌}
 use Rattle.lucid_explanations.specs.Sources.{depth_text, by_depth}
 use Rattle.lucid_explanations.proofs.sources.text_of_depth.Goals as goal
 

@@ -1,4 +1,4 @@
-use Rattle.std.proofs.Common.{ℕ, List, ◌++◌, ap, ◌∙◌}
+use Rattle.lucid_explanations.proofs.Common.{ℕ, List, ◌++◌, ap, ◌∙◌}
 use Rattle.lucid_explanations.specs.Names.{names_text}
 use Rattle.lucid_explanations.specs.Sources.{by_names}
 use Rattle.lucid_explanations.proofs.sources.text_of_names.Goals as goal

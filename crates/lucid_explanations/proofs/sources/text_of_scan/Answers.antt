@@ -1,4 +1,4 @@
-use Rattle.std.proofs.Common.{ℕ, List, ◌++◌, ap, ◌∙◌}
+use Rattle.lucid_explanations.proofs.Common.{ℕ, List, ◌++◌, ap, ◌∙◌}
 use Rattle.lucid_explanations.specs.Advice.{scan_text}
 use Rattle.lucid_explanations.specs.Sources.{by_scan}
 use Rattle.lucid_explanations.proofs.sources.text_of_scan.Goals as goal

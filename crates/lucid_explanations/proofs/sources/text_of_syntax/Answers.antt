@@ -1,6 +1,5 @@
-use Rattle.std.proofs.Common.{ℕ, List, ◌++◌, ap, ◌∙◌}
+use Rattle.lucid_explanations.proofs.Common.{ℕ, List, ◌++◌, ap, ◌∙◌, read_at, syntax_text}
 use Rattle.lucid_explanations.proofs.Begun.{fault_within}
-use Rattle.lucid_explanations.specs.Syntax.{read_at, syntax_text}
 use Rattle.lucid_explanations.specs.Sources.{by_syntax}
 use Rattle.lucid_explanations.proofs.sources.text_of_syntax.Goals as goal
 

@@ -1,7 +1,5 @@
-use Rattle.std.proofs.Common.{ℕ, List, ◌++◌, ap, ◌∙◌}
-use Rattle.std.proofs.lemmas.Result.{on_ok_weaker}
+use Rattle.lucid_explanations.proofs.Common.{ℕ, List, ◌++◌, ap, ◌∙◌, read_at, syntax_text, on_ok_weaker}
 use Rattle.lucid_explanations.specs.declared.candidates.Candidate.{Candidate}
-use Rattle.lucid_explanations.specs.Syntax.{read_at, syntax_text}
 use Rattle.lucid_explanations.proofs.syntax.put_syntax.Goals as goal
 
 pub returns : goal.returns

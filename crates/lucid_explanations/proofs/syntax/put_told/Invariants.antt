@@ -1,5 +1,4 @@
-use Rattle.std.proofs.Common.{◌≡◌, ◌++◌, take, codes}
-use Rattle.std.specs.List.{flat_map}
+use Rattle.lucid_explanations.proofs.Common.{◌≡◌, ◌++◌, take, codes, flat_map}
 use Rattle.lucid_explanations.specs.Syntax.{told_of}
 use Rattle.lucid_explanations.proofs.syntax.put_told.Given as goal
 

@@ -1,5 +1,4 @@
-use Rattle.std.proofs.Common.{◌≡◌, drop}
-use Rattle.lucid_explanations.specs.Syntax.{read_at}
+use Rattle.lucid_explanations.proofs.Common.{◌≡◌, drop, read_at}
 use Rattle.lucid_explanations.proofs.syntax.read_at.Given as goal
 
 abbrev pub invariant-loop-token : goal.invariant-loop-token

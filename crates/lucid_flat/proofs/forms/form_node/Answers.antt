@@ -1,6 +1,4 @@
-use Rattle.std.proofs.Common.{ap, ◌∙◌}
-use Rattle.std.specs.List.{find}
-use Rattle.lucid_flat.specs.Forms.{has_form, form_node}
+use Rattle.lucid_flat.proofs.Common.{ap, ◌∙◌, find, has_form, form_node}
 use Rattle.lucid_flat.proofs.forms.form_node.Goals as goal
 
 pub returns : goal.returns

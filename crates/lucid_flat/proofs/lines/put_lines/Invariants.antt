@@ -1,7 +1,4 @@
-use Rattle.std.proofs.Common.{◌≡◌, ◌++◌, map, take}
-use Rattle.std.specs.List.{AllByRecursion, flat_map}
-use Rattle.lucid_flat.specs.FlatTables.{RowFits}
-use Rattle.lucid_flat.specs.Shown.{IsNoRoot, line_of}
+use Rattle.lucid_flat.proofs.Common.{◌≡◌, ◌++◌, map, take, AllByRecursion, flat_map, RowFits, IsNoRoot, line_of}
 use Rattle.lucid_flat.proofs.lines.put_lines.Given as goal
 
 abbrev pub invariant-loop-row : goal.invariant-loop-row

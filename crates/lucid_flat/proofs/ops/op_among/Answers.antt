@@ -1,12 +1,5 @@
-use Rattle.std.proofs.Common.{◌≡◌, ℕ, Bool, true, false, cond, List, [], ◌∷◌, map, Option, Some, refl, sym, ap, ◌∙◌}
-use Rattle.std.specs.List.{find, list_all}
-use Rattle.std.specs.Option.{option_map}
-use Rattle.std.specs.Str.{bytes_eq}
-use Rattle.std.proofs.lemmas.Bool.{and_parts}
-use Rattle.std.proofs.lemmas.Slice.Eq.{bytes_eq-Decides}
-use Rattle.lucid_ops.specs.declared.op.Op.{Op}
+use Rattle.lucid_flat.proofs.Common.{◌≡◌, ℕ, Bool, true, false, cond, List, [], ◌∷◌, map, Option, Some, refl, sym, ap, ◌∙◌, find, option_map, bytes_eq, and_parts, bytes_eq-Decides, Op, op_word, list_all}
 use Rattle.lucid_flat.specs.declared.ops.OpWord.{OpWord}
-use Rattle.lucid_flat.specs.FlatText.{op_word}
 use Rattle.lucid_flat.specs.Forms.{op_in, is_own}
 use Rattle.lucid_flat.proofs.ops.op_among.Goals as goal
 

@@ -1,5 +1,4 @@
-use Rattle.std.proofs.Common.{refl}
-use Rattle.lucid_flat.specs.Forms.{op_of}
+use Rattle.lucid_flat.proofs.Common.{refl, op_of}
 use Rattle.lucid_flat.proofs.ops.op_of.Goals as goal
 
 pub returns : goal.returns

@@ -1,4 +1,4 @@
-use Rattle.std.proofs.Common.{arith}
+use Rattle.lucid_flat.proofs.Common.{arith}
 use Rattle.lucid_flat.proofs.NumberLemmas.{all_32}
 use Rattle.lucid_flat.proofs.put.put_numbers.Goals as goal
 

@@ -1,6 +1,4 @@
-use Rattle.std.proofs.Common.{◌≡◌, ◌++◌, map, take}
-use Rattle.std.specs.Prelude.{decimal}
-use Rattle.lucid_texts.specs.Words.{spaced}
+use Rattle.lucid_flat.proofs.Common.{◌≡◌, ◌++◌, map, take, decimal, spaced}
 use Rattle.lucid_flat.proofs.put.put_numbers.Given as goal
 
 abbrev pub invariant-loop-n : goal.invariant-loop-n

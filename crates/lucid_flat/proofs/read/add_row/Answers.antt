@@ -1,10 +1,4 @@
-use Rattle.std.proofs.Common.{◌≡◌, ◌++◌, [], ◌∷◌, Bool, Option, subst}
-use Rattle.std.specs.Bool.{MatchBool}
-use Rattle.std.specs.Option.{option_map}
-use Rattle.std.proofs.lemmas.Result.{IfOk-weaker}
-use Rattle.lucid_flat.specs.declared.rows.Row.{Row}
-use Rattle.lucid_flat.specs.RowLines.{plain_row, IsRowOf}
-use Rattle.lucid_flat.specs.Gathered.{rows_in, AreBegun, CannotCome}
+use Rattle.lucid_flat.proofs.Common.{◌≡◌, ◌++◌, [], ◌∷◌, Bool, Option, subst, MatchBool, option_map, IfOk-weaker, Row, plain_row, IsRowOf, rows_in, AreBegun, CannotCome}
 use Rattle.lucid_flat.proofs.WholeLines.{no_row_here, of_line}
 use Rattle.lucid_flat.proofs.read.add_row.Goals as goal
 

@@ -1,10 +1,5 @@
-use Rattle.std.proofs.Common.{◌≡◌, ℕ, refl, sym, subst}
-use Rattle.std.proofs.lemmas.Option.{MatchOption-at_none, MatchOption-at_some}
-use Rattle.lucid_equations.specs.declared.table.Table.{Table}
-use Rattle.lucid_texts.specs.TextLines.{text_of}
-use Rattle.lucid_flat.specs.FlatText.{flat_lines}
-use Rattle.lucid_flat.specs.FlatTables.{AreTableLines, IsTextOf, IsFirstWrongLine}
-use Rattle.lucid_flat.specs.LinesRead.{lines_in, AreKept}
+use Rattle.lucid_flat.proofs.Common.{◌≡◌, ℕ, refl, sym, subst, Table, text_of, flat_lines, AreTableLines, IsTextOf, lines_in, AreKept, MatchOption-at_none, MatchOption-at_some}
+use Rattle.lucid_flat.specs.FlatTables.{IsFirstWrongLine}
 use Rattle.lucid_flat.proofs.FirstLine.{text_read}
 use Rattle.lucid_flat.proofs.OneTable.{none_goes_on, one_root}
 use Rattle.lucid_flat.proofs.read.read_flat.Goals as goal

@@ -1,10 +1,4 @@
-use Rattle.std.proofs.Common.{◌≡◌, Option, sym, ap, ◌∙◌}
-use Rattle.std.specs.Str.{bytes_eq}
-use Rattle.std.proofs.lemmas.Result.{IfOk-weaker}
-use Rattle.std.specs.Option.{option_map}
-use Rattle.lucid_flat.specs.declared.rows.Row.{Row}
-use Rattle.lucid_flat.specs.RowTails.{tail_row}
-use Rattle.lucid_flat.specs.RowLines.{plain_row, IsRowOf}
+use Rattle.lucid_flat.proofs.Common.{◌≡◌, Option, sym, ap, ◌∙◌, bytes_eq, IfOk-weaker, option_map, Row, tail_row, plain_row, IsRowOf}
 use Rattle.lucid_flat.proofs.RowLemmas.{no_blank, tail_is_row}
 use Rattle.lucid_flat.proofs.rows.read_row.Goals as goal
 

@@ -1,7 +1,4 @@
-use Rattle.std.proofs.Common.{length, ap, arith}
-use Rattle.std.proofs.lemmas.List.{length-map}
-use Rattle.lucid_value.specs.View.{plain}
-use Rattle.lucid_flat.specs.FlatText.{scope_row, input_row, node_row, name_row, place_row}
+use Rattle.lucid_flat.proofs.Common.{length, ap, arith, length-map, plain, scope_row, input_row, node_row, name_row, place_row}
 use Rattle.lucid_flat.proofs.TextMade.{lines_of, fits_of, constant_lines, constant_fits, slice_tail, text_from, others_fit, inner_fit, rows_fit}
 use Rattle.lucid_flat.proofs.show.text_of.Goals as goal
 

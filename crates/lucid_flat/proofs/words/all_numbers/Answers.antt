@@ -1,4 +1,4 @@
-use Rattle.std.proofs.Common.{[], ◌∷◌, Some, length, sym, ap, ◌∙◌, arith, length-append}
+use Rattle.lucid_flat.proofs.Common.{[], ◌∷◌, Some, length, sym, ap, ◌∙◌, arith, length-append}
 use Rattle.lucid_flat.proofs.NumberLemmas.{few_none, few_past, fewer_words, front_pushed, few_all}
 use Rattle.lucid_flat.proofs.words.all_numbers.Goals as goal
 

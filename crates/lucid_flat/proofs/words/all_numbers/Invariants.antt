@@ -1,6 +1,5 @@
-use Rattle.std.proofs.Common.{◌≡◌, ◌<◌, ◌^◌, length}
-use Rattle.std.specs.Option.{option_copied}
-use Rattle.lucid_texts.specs.Words.{words_left, numbers_of}
+use Rattle.lucid_flat.proofs.Common.{◌≡◌, ◌<◌, ◌^◌, length, numbers_of, option_copied}
+use Rattle.lucid_texts.specs.Words.{words_left}
 use Rattle.lucid_flat.proofs.NumberLemmas.{with_front}
 use Rattle.lucid_flat.proofs.words.all_numbers.Given as goal
 

@@ -1,4 +1,4 @@
-use Rattle.std.proofs.Common.{sym, ◌∙◌}
+use Rattle.lucid_follow.proofs.Common.{sym, ◌∙◌}
 use Rattle.lucid_follow.proofs.ContextTags.{is_of_context}
 use Rattle.lucid_follow.proofs.contexts.enter.Goals as goal
 

@@ -1,8 +1,5 @@
-use Rattle.std.proofs.Common.{◌≡◌, ◌∷◌, [], Some, drop}
-use Rattle.lucid_tags.specs.Contexts.{root}
+use Rattle.lucid_follow.proofs.Common.{◌≡◌, ◌∷◌, [], Some, drop, root, contexts_behind, AreOfContexts, contexts_of}
 use Rattle.lucid_tags.specs.Known.{IsOneForOne}
-use Rattle.lucid_follow.specs.Follows.{contexts_behind}
-use Rattle.lucid_follow.specs.Checking.{AreOfContexts, contexts_of}
 use Rattle.lucid_follow.proofs.contexts.enter_all.Given as goal
 
 -- The contexts so far, with those of the rows that are left, are those of all rows.

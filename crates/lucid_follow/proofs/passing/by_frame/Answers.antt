@@ -1,7 +1,6 @@
-use Rattle.std.proofs.Common.{◌≡◌, subst}
-use Rattle.lucid_tags.specs.Known.{context_of, IsInnermost}
+use Rattle.lucid_follow.proofs.Common.{◌≡◌, subst, context_of, table_of}
+use Rattle.lucid_tags.specs.Known.{IsInnermost}
 use Rattle.lucid_tags.specs.declared.Frame.TheVariants.{Frozen}
-use Rattle.lucid_equations.specs.Programs.{table_of}
 use Rattle.lucid_follow.proofs.Going.{current_goes}
 use Rattle.lucid_follow.proofs.passing.by_frame.Goals as goal
 

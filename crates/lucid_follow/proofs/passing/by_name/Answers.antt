@@ -1,6 +1,4 @@
-use Rattle.std.proofs.Common.{arith}
-use Rattle.lucid_tags.specs.Known.{context_of}
-use Rattle.lucid_equations.specs.Programs.{table_of}
+use Rattle.lucid_follow.proofs.Common.{arith, context_of, table_of}
 use Rattle.lucid_follow.proofs.Going.{few_frames}
 use Rattle.lucid_follow.proofs.passing.by_name.Goals as goal
 

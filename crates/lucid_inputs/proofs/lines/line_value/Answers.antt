@@ -1,5 +1,5 @@
+use Rattle.lucid_inputs.proofs.Common.{arith}
 use Rattle.lucid_value.specs.Lines.{line_value, line_unread, line_long}
-use Rattle.std.proofs.Common.{arith}
 use Rattle.lucid_inputs.proofs.TakeLemmas.{line_value_is}
 use Rattle.lucid_inputs.proofs.lines.line_value.Goals as goal
 

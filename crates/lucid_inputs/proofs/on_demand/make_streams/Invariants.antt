@@ -1,6 +1,4 @@
-use Rattle.std.proofs.Common.{◌≡◌, map, take}
-use Rattle.lucid_inputs.specs.Streams.{fresh_stream}
-use Rattle.lucid_inputs.specs.View.{stream_of}
+use Rattle.lucid_inputs.proofs.Common.{◌≡◌, map, take, fresh_stream, stream_of}
 use Rattle.lucid_inputs.proofs.on_demand.make_streams.Given as goal
 
 abbrev pub invariant-loop-place : goal.invariant-loop-place

@@ -1,4 +1,4 @@
-use Rattle.std.proofs.Common.{arith}
+use Rattle.lucid_ops.proofs.Common.{arith}
 use Rattle.lucid_ops.proofs.Rule.{row_decides_two}
 use Rattle.lucid_ops.proofs.application.apply_to_two.Goals as goal
 

@@ -1,5 +1,4 @@
-use Rattle.std.proofs.Common.{arith}
-use Rattle.std.proofs.lemmas.Int.{ints}
+use Rattle.lucid_ops.proofs.Common.{arith, ints}
 use Rattle.lucid_ops.proofs.Powers.{power_of_zero, power_of_one, even_power, odd_power}
 use Rattle.lucid_ops.proofs.power.natural_power.Goals as goal
 

@@ -1,5 +1,5 @@
-use Rattle.std.proofs.Common.{◌≡◌, map, length}
-use Rattle.lucid_ops.specs.Rows.{rises}
+use Rattle.lucid_ops.proofs.Common.{◌≡◌, map, rises}
+use Rattle.std.proofs.Common.{length}
 use Rattle.lucid_ops.proofs.table.rise.Given as goal
 
 abbrev pub invariant-loop-rest : goal.invariant-loop-rest

@@ -1,7 +1,5 @@
 -- No node lacks its parts, and the tree is left.
-use Rattle.std.proofs.Common.{◌≡◌, ◌+◌, [], ◌∷◌, None, sym, ◌∙◌}
-use Rattle.lucid_parse.specs.Build.{plain_piles}
-use Rattle.lucid_parse.specs.Views.{items_of}
+use Rattle.lucid_parse.proofs.Common.{◌≡◌, ◌+◌, [], ◌∷◌, None, sym, ◌∙◌, plain_piles, items_of}
 use Rattle.lucid_parse.proofs.Building.{put_item, items_over}
 use Rattle.lucid_parse.proofs.Built.{never_lacks, all_built}
 use Rattle.lucid_parse.proofs.build.build.Goals as goal

@@ -1,6 +1,4 @@
-use Rattle.std.proofs.Common.{◌≡◌, Some, take}
-use Rattle.lucid_parse.specs.Build.{built, no_piles, plain_piles}
-use Rattle.lucid_parse.specs.Views.{items_of}
+use Rattle.lucid_parse.proofs.Common.{◌≡◌, Some, take, built, no_piles, plain_piles, items_of}
 use Rattle.lucid_parse.proofs.build.build.Given as goal
 
 -- the nodes so far are on the piles

@@ -1,5 +1,5 @@
 -- One more tree is taken.
-use Rattle.std.proofs.Common.{sym, ◌∙◌}
+use Rattle.lucid_parse.proofs.Common.{sym, ◌∙◌}
 use Rattle.lucid_parse.proofs.Gathering.{gather_more, length_more}
 use Rattle.lucid_parse.proofs.build.pop_parts.Goals as goal
 

@@ -1,7 +1,5 @@
-use Rattle.std.proofs.Common.{◌≡◌, ◌-◌, length, reverse}
-use Rattle.lucid_tree.specs.Tree.{no_trees}
-use Rattle.lucid_tree.specs.Lists.{trees_of}
-use Rattle.lucid_parse.specs.Build.{gather}
+use Rattle.lucid_parse.proofs.Common.{◌≡◌, length, reverse, no_trees, trees_of, gather}
+use Rattle.std.proofs.Common.{◌-◌}
 use Rattle.lucid_parse.proofs.build.pop_parts.Given as goal
 
 -- those that are taken go before those that are still to be

@@ -1,6 +1,5 @@
 -- With no depth left nothing more is found.
-use Rattle.std.proofs.Common.{sym, ◌∙◌, ap, reverse, take}
-use Rattle.lucid_parse.specs.Depth.{search_from}
+use Rattle.lucid_parse.proofs.Common.{sym, ◌∙◌, ap, reverse, take, search_from}
 use Rattle.lucid_parse.proofs.Deep.{search_from-over}
 use Rattle.lucid_parse.proofs.depth.least_at.Goals as goal
 

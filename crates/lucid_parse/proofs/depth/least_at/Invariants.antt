@@ -1,5 +1,4 @@
-use Rattle.std.proofs.Common.{◌≡◌, [], ◌∷◌, None, reverse, take}
-use Rattle.lucid_parse.specs.Depth.{search_from}
+use Rattle.lucid_parse.proofs.Common.{◌≡◌, [], ◌∷◌, None, reverse, take, search_from}
 use Rattle.lucid_parse.proofs.depth.least_at.Given as goal
 
 -- the search goes on as it began

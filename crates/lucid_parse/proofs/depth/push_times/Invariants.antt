@@ -1,5 +1,4 @@
-use Rattle.std.proofs.Common.{◌≡◌}
-use Rattle.lucid_parse.specs.Depth.{copies}
+use Rattle.lucid_parse.proofs.Common.{◌≡◌, copies}
 use Rattle.lucid_parse.proofs.depth.push_times.Given as goal
 
 -- so many copies are on the stack

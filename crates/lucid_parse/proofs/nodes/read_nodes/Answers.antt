@@ -1,5 +1,5 @@
 -- A step leads one terminal on, or shows the fault.
-use Rattle.lucid_parse.specs.Machine.{state}
+use Rattle.lucid_parse.proofs.Common.{state}
 use Rattle.lucid_parse.proofs.Reading.{terminal_read, terminal_stops, terminals_stop, terminals_read}
 use Rattle.lucid_parse.proofs.nodes.read_nodes.Goals as goal
 

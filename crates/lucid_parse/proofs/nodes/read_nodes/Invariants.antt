@@ -1,7 +1,4 @@
-use Rattle.std.proofs.Common.{◌≡◌, Some, take}
-use Rattle.lucid_parse.specs.Machine.{state, start, feeds}
-use Rattle.lucid_parse.specs.Fill.{fill_state}
-use Rattle.lucid_parse.specs.Views.{name_now, value_now, terminals_of}
+use Rattle.lucid_parse.proofs.Common.{◌≡◌, Some, take, state, start, feeds, fill_state, name_now, value_now, terminals_of}
 use Rattle.lucid_parse.proofs.nodes.read_nodes.Given as goal
 
 -- the terminals so far lead to where the machine is

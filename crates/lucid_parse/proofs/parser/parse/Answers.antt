@@ -1,9 +1,5 @@
 -- What is answered for the terminals is answered for the tokens.
-use Rattle.std.proofs.Common.{◌≤◌, length, refl, arith}
-use Rattle.std.proofs.lemmas.Result.{IfOk-weaker}
-use Rattle.lucid_tree.specs.WellMade.{places, IsWellMade}
-use Rattle.lucid_parse.specs.Spelled.{SpellsTree}
-use Rattle.lucid_parse.specs.Views.{terminals_of}
+use Rattle.lucid_parse.proofs.Common.{◌≤◌, length, refl, arith, places, IsWellMade, SpellsTree, terminals_of, IfOk-weaker}
 use Rattle.lucid_parse.proofs.Answered.{spelled, refused}
 use Rattle.lucid_parse.proofs.Texts.{terminals_again}
 use Rattle.lucid_parse.proofs.parser.parse.Goals as goal

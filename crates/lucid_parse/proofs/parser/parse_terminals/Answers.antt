@@ -1,5 +1,5 @@
 -- The tree is the one that the terminals spell.
-use Rattle.lucid_parse.specs.Views.{terminals_of}
+use Rattle.lucid_parse.proofs.Common.{terminals_of}
 use Rattle.lucid_parse.proofs.Parsed.{too_nested, have_tree, spelled_as, shallow_as}
 use Rattle.lucid_parse.proofs.parser.parse_terminals.Goals as goal
 

@@ -1,10 +1,7 @@
 -- The table of forms is the list of forms, and a mark or a reserved word that isn't in it spells an operator.
-use Rattle.std.proofs.Common.{◌≡◌, ℕ, List, Option, None, sym, ◌∙◌, ap}
-use Rattle.std.specs.Option.{option_or, option_map}
-use Rattle.lucid_forms.specs.declared.operator.Operator.{Operator}
+use Rattle.lucid_parse.proofs.Common.{◌≡◌, ℕ, List, Option, None, sym, ◌∙◌, ap, option_map, Operator, form_terminals, terminal_in, fixed_terminal, option_or}
 use Rattle.lucid_forms.specs.Operators.{spelled}
 use Rattle.lucid_parse.specs.declared.terminal.Terminal.TheVariants as terminal
-use Rattle.lucid_parse.specs.Terminals.{form_terminals, terminal_in, fixed_terminal}
 use Rattle.lucid_parse.proofs.Spellings.{has_terminal}
 use Rattle.lucid_parse.proofs.spelling.fixed_terminal.Goals as goal
 

@@ -1,4 +1,4 @@
-use Rattle.std.proofs.Common.{sym}
+use Rattle.lucid_parse.proofs.Common.{sym}
 use Rattle.lucid_parse.proofs.Spellings.{not_here}
 use Rattle.lucid_parse.proofs.spelling.terminal_among.Goals as goal
 

@@ -1,6 +1,4 @@
-use Rattle.std.proofs.Common.{◌≡◌, None, map, take}
-use Rattle.lucid_parse.specs.Terminals.{terminal_in}
-use Rattle.lucid_parse.specs.Spellings.{pair_of}
+use Rattle.lucid_parse.proofs.Common.{◌≡◌, None, map, take, terminal_in, pair_of}
 use Rattle.lucid_parse.proofs.spelling.terminal_among.Given as goal
 
 -- no spelling so far has these bytes

@@ -1,5 +1,5 @@
 -- The bytes read as a value, and as no other.
-use Rattle.std.proofs.Common.{ap, Err}
+use Rattle.lucid_parse.proofs.Common.{ap, Err}
 use Rattle.lucid_parse.proofs.Texts.{never_none, reading_of}
 use Rattle.lucid_parse.proofs.terminals.make_value.Goals as goal
 

@@ -1,6 +1,5 @@
 -- Each token's span lies within the source, and its terminal is the next terminal's.
-use Rattle.std.proofs.Common.{arith, refl}
-use Rattle.lucid_scan.specs.declared.token.Token.{Token}
+use Rattle.lucid_parse.proofs.Common.{arith, refl, Token}
 use Rattle.lucid_scan.specs.declared.token.TokenKind.TheVariants as kind
 use Rattle.lucid_parse.proofs.Texts.{terminals_more, no_terminals, starts_before, ends_within}
 use Rattle.lucid_parse.proofs.terminals.read_terminals.Goals as goal

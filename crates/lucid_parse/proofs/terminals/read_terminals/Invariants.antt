@@ -1,6 +1,4 @@
-use Rattle.std.proofs.Common.{take}
-use Rattle.lucid_parse.specs.Views.{terminals_of}
-use Rattle.lucid_parse.specs.Terminals.{Terminals}
+use Rattle.lucid_parse.proofs.Common.{take, terminals_of, Terminals}
 use Rattle.lucid_parse.proofs.terminals.read_terminals.Given as goal
 
 -- the terminals so far are the terminals of the tokens so far

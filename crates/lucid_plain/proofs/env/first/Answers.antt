@@ -1,6 +1,4 @@
-use Rattle.std.proofs.Common.{◌≡◌, sym, ◌∙◌, ap}
-use Rattle.lucid_tree.specs.Env.{definition, absent}
-use Rattle.lucid_plain.specs.View.{found_in}
+use Rattle.lucid_plain.proofs.Common.{◌≡◌, sym, ◌∙◌, ap, definition, absent, found_in}
 use Rattle.lucid_plain.proofs.Finds.{passed, met, none_left}
 use Rattle.lucid_plain.proofs.env.first.Goals as goal
 

@@ -1,6 +1,4 @@
-use Rattle.std.proofs.Common.{◌≡◌, drop}
-use Rattle.lucid_tree.specs.DefsView.{defs_of}
-use Rattle.lucid_tree.specs.Env.{definition}
+use Rattle.lucid_plain.proofs.Common.{◌≡◌, drop, defs_of, definition}
 use Rattle.lucid_plain.proofs.env.first.Given as goal
 
 -- what is left has the first definition

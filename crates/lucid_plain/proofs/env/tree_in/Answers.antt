@@ -1,5 +1,4 @@
-use Rattle.std.proofs.Common.{sym, ◌∙◌, ap, Some}
-use Rattle.lucid_tree.specs.Env.{tree_at}
+use Rattle.lucid_plain.proofs.Common.{sym, ◌∙◌, ap, Some, tree_at}
 use Rattle.lucid_plain.proofs.Finds.{tree_at_in, tree_at_past}
 use Rattle.lucid_plain.proofs.env.tree_in.Goals as goal
 

@@ -1,5 +1,4 @@
-use Rattle.std.proofs.Common.{sym, ◌∙◌, ap}
-use Rattle.lucid_tree.specs.Env.{frozen_at}
+use Rattle.lucid_plain.proofs.Common.{sym, ◌∙◌, ap, frozen_at}
 use Rattle.lucid_plain.proofs.Finds.{time_passed, time_met, no_time_left}
 use Rattle.lucid_plain.proofs.eval.frozen_time.Goals as goal
 

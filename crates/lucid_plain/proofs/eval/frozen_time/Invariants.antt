@@ -1,6 +1,4 @@
-use Rattle.std.proofs.Common.{◌≡◌, drop}
-use Rattle.lucid_tree.specs.DefsView.{defs_of}
-use Rattle.lucid_tree.specs.Env.{frozen_at}
+use Rattle.lucid_plain.proofs.Common.{◌≡◌, drop, defs_of, frozen_at}
 use Rattle.lucid_plain.proofs.eval.frozen_time.Given as goal
 
 abbrev pub invariant-loop-def : goal.invariant-loop-def

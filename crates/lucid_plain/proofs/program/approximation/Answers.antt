@@ -1,4 +1,4 @@
-use Rattle.std.proofs.Common.{arith}
+use Rattle.lucid_plain.proofs.Common.{arith}
 use Rattle.lucid_tree.proofs.Depths.{nodes_le-places}
 use Rattle.lucid_plain.proofs.WellMade.{shaped_applies}
 use Rattle.lucid_plain.proofs.program.approximation.Goals as goal

@@ -1,4 +1,4 @@
-use Rattle.std.proofs.Common.{arith}
+use Rattle.lucid_plain.proofs.Common.{arith}
 use Rattle.lucid_plain.proofs.Written.{writes_none, front_so_far, more_stands, stop_stands, ends_of}
 use Rattle.lucid_plain.proofs.running.run.Goals as goal
 

@@ -1,6 +1,4 @@
-use Rattle.std.proofs.Common.{◌≤◌}
-use Rattle.lucid_plain.specs.Streams.{elements_of}
-use Rattle.lucid_plain.specs.Runs.{Writes}
+use Rattle.lucid_plain.proofs.Common.{◌≤◌, elements_of, Writes}
 use Rattle.lucid_plain.proofs.running.run.Given as goal
 
 abbrev pub invariant-loop-time : goal.invariant-loop-time

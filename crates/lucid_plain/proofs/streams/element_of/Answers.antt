@@ -1,5 +1,4 @@
-use Rattle.std.proofs.Common.{arith}
-use Rattle.std.proofs.lemmas.Grind.{common_steps}
+use Rattle.lucid_plain.proofs.Common.{arith, common_steps}
 use Rattle.lucid_plain.proofs.Finds.{element_in_at, element_in_past}
 use Rattle.lucid_plain.proofs.streams.element_of.Goals as goal
 

@@ -1,5 +1,4 @@
-use Rattle.std.proofs.Common.{◌≡◌, true, bytes_eq, sym, ap, ◌∙◌}
-use Rattle.std.specs.String.{string_bytes}
+use Rattle.lucid_ports.proofs.Common.{◌≡◌, true, bytes_eq, sym, ap, ◌∙◌, string_bytes}
 use Rattle.lucid_ports.proofs.FilesLemmas.{bytes_named-found}
 use Rattle.lucid_ports.proofs.files.find_file.Goals as goal
 

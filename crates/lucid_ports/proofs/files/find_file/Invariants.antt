@@ -1,5 +1,4 @@
-use Rattle.std.proofs.Common.{◌≡◌, drop}
-use Rattle.lucid_ports.specs.Files.{bytes_named}
+use Rattle.lucid_ports.proofs.Common.{◌≡◌, drop, bytes_named}
 use Rattle.lucid_ports.proofs.files.find_file.Given as goal
 
 abbrev pub invariant-loop-k : goal.invariant-loop-k

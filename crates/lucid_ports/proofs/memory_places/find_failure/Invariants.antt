@@ -1,5 +1,4 @@
-use Rattle.std.proofs.Common.{◌≡◌, ℕ, ◌<◌, get_or}
-use Rattle.lucid_ports.specs.Memory.{fail_at}
+use Rattle.lucid_ports.proofs.Common.{◌≡◌, ℕ, ◌<◌, get_or, fail_at}
 use Rattle.lucid_ports.proofs.memory_places.find_failure.Given as goal
 
 abbrev pub invariant-loop-k : goal.invariant-loop-k

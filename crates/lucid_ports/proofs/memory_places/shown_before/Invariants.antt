@@ -1,6 +1,4 @@
-use Rattle.std.proofs.Common.{◌≡◌, ◌⊎◌, ℕ, ◌+◌, ◌<◌, ◌≤◌, Contains, get_or}
-use Rattle.lucid_ports.specs.declared.memory_places.FailAt.{FailAt}
-use Rattle.lucid_ports.specs.Memory.{fail_at}
+use Rattle.lucid_ports.proofs.Common.{◌≡◌, ◌⊎◌, ℕ, ◌+◌, ◌<◌, ◌≤◌, Contains, get_or, FailAt, fail_at}
 use Rattle.lucid_ports.proofs.memory_places.shown_before.Given as goal
 
 abbrev pub invariant-loop-failure : goal.invariant-loop-failure

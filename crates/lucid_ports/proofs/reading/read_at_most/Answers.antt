@@ -1,4 +1,4 @@
-use Rattle.std.proofs.Common.{◌≡◌, vec_len, rules, arith}
+use Rattle.lucid_ports.proofs.Common.{◌≡◌, vec_len, rules, arith}
 use Rattle.lucid_ports.proofs.ContentsLemmas.{both_consumed, both_read, all_read}
 use Rattle.lucid_ports.proofs.WorldLemmas.{KeepsOthers-trans}
 use Rattle.lucid_ports.proofs.reading.read_at_most.Goals as goal

@@ -1,5 +1,4 @@
-use Rattle.std.proofs.Common.{◌≡◌, ◌≤◌, ◌-◌, take, IfSome, option_map, vec_len}
-use Rattle.lucid_ports.specs.World.{advanced, KeepsOthers}
+use Rattle.lucid_ports.proofs.Common.{◌≡◌, ◌≤◌, ◌-◌, take, IfSome, option_map, vec_len, advanced, KeepsOthers}
 use Rattle.lucid_ports.proofs.reading.read_at_most.Given as goal
 
 abbrev pub invariant-loop-bytes : goal.invariant-loop-bytes

@@ -1,5 +1,5 @@
-use Rattle.std.proofs.Common.{arith, refl, rules}
-use Rattle.std.proofs.lemmas.List.{take_rest, length-drop}
+use Rattle.lucid_ports.proofs.Common.{arith, refl, rules, take_rest}
+use Rattle.std.proofs.lemmas.List.{length-drop}
 use Rattle.lucid_ports.proofs.WritingLemmas.{both_written}
 use Rattle.lucid_ports.proofs.writing.write_whole.Goals as goal
 

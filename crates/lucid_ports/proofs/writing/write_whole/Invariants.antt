@@ -1,5 +1,4 @@
-use Rattle.std.proofs.Common.{◌≡◌, ◌≤◌, ◌-◌, length}
-use Rattle.lucid_ports.specs.Writing.{with_front}
+use Rattle.lucid_ports.proofs.Common.{◌≡◌, ◌≤◌, ◌-◌, length, with_front}
 use Rattle.lucid_ports.proofs.writing.write_whole.Given as goal
 
 abbrev pub invariant-loop-done : goal.invariant-loop-done

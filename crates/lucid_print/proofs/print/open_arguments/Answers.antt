@@ -1,7 +1,4 @@
-use Rattle.std.proofs.Common.{◌++◌, sym, ap, arith}
-use Rattle.std.specs.Prelude.{codes}
-use Rattle.lucid_print.specs.Canonical.{source, parted, texts, parts}
-use Rattle.lucid_print.specs.Pieces.{work_in}
+use Rattle.lucid_print.proofs.Common.{◌++◌, sym, ap, arith, codes, source, parted, texts, parts, work_in}
 use Rattle.lucid_print.proofs.Operations.{on_ok}
 use Rattle.lucid_print.proofs.Unfolding.{put, before, are, whole, first_argument}
 use Rattle.lucid_print.proofs.print.open_arguments.Goals as goal

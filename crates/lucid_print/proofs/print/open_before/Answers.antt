@@ -1,4 +1,4 @@
-use Rattle.std.proofs.Common.{arith, append_assoc}
+use Rattle.lucid_print.proofs.Common.{arith, append_assoc}
 use Rattle.lucid_print.proofs.Operations.{on_ok}
 use Rattle.lucid_print.proofs.Unfolding.{put, before, are}
 use Rattle.lucid_print.proofs.print.open_before.Goals as goal

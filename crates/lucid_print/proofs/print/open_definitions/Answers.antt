@@ -1,7 +1,4 @@
-use Rattle.std.proofs.Common.{◌++◌, sym, ap, ◌∙◌, arith}
-use Rattle.std.specs.Prelude.{codes}
-use Rattle.lucid_print.specs.Canonical.{source, definitions}
-use Rattle.lucid_print.specs.Pieces.{sign, work}
+use Rattle.lucid_print.proofs.Common.{◌++◌, sym, ap, ◌∙◌, arith, codes, source, definitions, sign, work}
 use Rattle.lucid_print.proofs.Operations.{on_ok}
 use Rattle.lucid_print.proofs.Unfolding.{put, before, are, whole, none, first_definition, definition_work}
 use Rattle.lucid_print.proofs.print.open_definitions.Goals as goal

@@ -1,6 +1,4 @@
-use Rattle.std.proofs.Common.{refl, sym, ap, ◌∙◌, arith}
-use Rattle.lucid_print.specs.Canonical.{source}
-use Rattle.lucid_print.specs.Pieces.{work_in}
+use Rattle.lucid_print.proofs.Common.{refl, sym, ap, ◌∙◌, arith, source, work_in}
 use Rattle.lucid_print.proofs.Operations.{on_ok, as_written, not_one, not_two, not_three}
 use Rattle.lucid_print.proofs.Unfolding.{are, none}
 use Rattle.lucid_print.proofs.print.open_form.Goals as goal

@@ -1,6 +1,4 @@
-use Rattle.std.proofs.Common.{sym, ap, arith}
-use Rattle.lucid_print.specs.Canonical.{source, parted_more, texts, parts}
-use Rattle.lucid_print.specs.Pieces.{work_in}
+use Rattle.lucid_print.proofs.Common.{sym, ap, arith, source, parted_more, texts, parts, work_in}
 use Rattle.lucid_print.proofs.Operations.{on_ok}
 use Rattle.lucid_print.proofs.Unfolding.{put, before, are, whole, none}
 use Rattle.lucid_print.proofs.print.open_more.Goals as goal

@@ -1,5 +1,4 @@
-use Rattle.std.proofs.Common.{◌≡◌, ◌++◌, drop}
-use Rattle.lucid_print.specs.Canonical.{parted}
+use Rattle.lucid_print.proofs.Common.{◌≡◌, ◌++◌, drop, parted}
 use Rattle.lucid_print.proofs.Loops.{led}
 use Rattle.lucid_print.proofs.print.put_names.Given as goal
 

@@ -1,6 +1,5 @@
-use Rattle.std.proofs.Common.{◌≡◌, ◌++◌}
-use Rattle.lucid_print.specs.Canonical.{source}
-use Rattle.lucid_print.specs.Pieces.{left, steps_left}
+use Rattle.lucid_print.proofs.Common.{◌≡◌, ◌++◌, source, steps_left}
+use Rattle.lucid_print.specs.Pieces.{left}
 use Rattle.lucid_print.proofs.print.put_tree.Given as goal
 
 -- what is written and what is left are the tree's text

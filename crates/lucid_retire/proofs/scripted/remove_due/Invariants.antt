@@ -1,7 +1,4 @@
-use Rattle.std.proofs.Common.{◌≡◌, take, Some, None}
-use Rattle.std.specs.Prelude.{if◌then◌else◌}
-use Rattle.lucid_tags.specs.declared.Key.{Key}
-use Rattle.lucid_store.specs.Entries.{entry_at}
+use Rattle.lucid_retire.proofs.Common.{◌≡◌, take, Some, None, Key, entry_at, if◌then◌else◌}
 use Rattle.lucid_retire.specs.Script.{is_due}
 use Rattle.lucid_retire.proofs.scripted.remove_due.Given as goal
 

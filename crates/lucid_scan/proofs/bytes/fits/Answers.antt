@@ -1,5 +1,5 @@
 -- Each digit makes the value ten times as big and adds itself, and a value that is too big stays so.
-use Rattle.std.proofs.Common.{arith}
+use Rattle.lucid_scan.proofs.Common.{arith}
 use Rattle.lucid_scan.proofs.Numbers.{number_more, number_over}
 use Rattle.lucid_scan.proofs.bytes.fits.Goals as goal
 

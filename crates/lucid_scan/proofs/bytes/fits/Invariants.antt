@@ -1,5 +1,4 @@
-use Rattle.std.proofs.Common.{◌≡◌, ◌<◌, ◌^◌, take}
-use Rattle.lucid_value.specs.Reading.{number_of}
+use Rattle.lucid_scan.proofs.Common.{◌≡◌, ◌<◌, ◌^◌, take, number_of}
 use Rattle.lucid_scan.proofs.bytes.fits.Given as goal
 
 -- the value of the digits so far

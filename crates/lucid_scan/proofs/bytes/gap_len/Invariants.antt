@@ -1,5 +1,4 @@
-use Rattle.std.proofs.Common.{◌≡◌, ◌≤◌, ◌+◌, ◌-◌, drop, cond, length}
-use Rattle.lucid_scan.specs.Tokens.{gap, comment}
+use Rattle.lucid_scan.proofs.Common.{◌≡◌, ◌≤◌, ◌+◌, ◌-◌, drop, cond, length, gap, comment}
 use Rattle.lucid_scan.proofs.bytes.gap_len.Given as goal
 
 -- the bytes so far belong to the gap

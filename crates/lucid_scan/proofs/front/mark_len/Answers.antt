@@ -1,5 +1,5 @@
 -- A mark has at most two bytes.
-use Rattle.std.proofs.lemmas.Bool.{both_ways}
+use Rattle.lucid_scan.proofs.Common.{both_ways}
 use Rattle.lucid_scan.proofs.Longest.{two_marks, one_mark, no_mark}
 use Rattle.lucid_scan.proofs.front.mark_len.Goals as goal
 

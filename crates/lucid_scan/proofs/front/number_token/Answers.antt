@@ -1,5 +1,5 @@
 -- All the digits are the longest token, or none stands.
-use Rattle.std.proofs.Common.{arith}
+use Rattle.lucid_scan.proofs.Common.{arith}
 use Rattle.lucid_scan.proofs.Longest.{number_run, number_stands, number_none}
 use Rattle.lucid_scan.proofs.front.number_token.Goals as goal
 

@@ -1,11 +1,5 @@
 -- A quoted word is the longest token, or none stands.
-use Rattle.std.proofs.Common.{ℕ, List, sym, ap, subst, ◌∙◌}
-use Rattle.std.specs.List.{prefix_len}
-use Rattle.std.specs.Char.{is_ascii_alphanumeric}
-use Rattle.std.proofs.lemmas.Bool.{both_ways}
-use Rattle.std.proofs.lemmas.List.{take_rest}
-use Rattle.lucid_scan.specs.Texts.{is_word_value}
-use Rattle.lucid_scan.specs.Fronts.{Closed}
+use Rattle.lucid_scan.proofs.Common.{ℕ, List, sym, ap, subst, ◌∙◌, prefix_len, is_ascii_alphanumeric, both_ways, take_rest, is_word_value, Closed}
 use Rattle.lucid_scan.proofs.Longest.{quoted_stands, quoted_none}
 use Rattle.lucid_scan.proofs.front.quoted_token.Goals as goal
 

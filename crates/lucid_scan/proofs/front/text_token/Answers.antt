@@ -1,11 +1,5 @@
 -- A string is the longest token, or none stands.
-use Rattle.std.proofs.Common.{ℕ, List, sym, ap, subst, ◌∙◌}
-use Rattle.std.specs.List.{prefix_len}
-use Rattle.lucid_value.specs.Plain.{is_text_byte}
-use Rattle.std.proofs.lemmas.Bool.{both_ways}
-use Rattle.std.proofs.lemmas.List.{take_rest}
-use Rattle.lucid_scan.specs.Texts.{is_text_value}
-use Rattle.lucid_scan.specs.Fronts.{Closed}
+use Rattle.lucid_scan.proofs.Common.{ℕ, List, sym, ap, subst, ◌∙◌, prefix_len, is_text_byte, both_ways, take_rest, is_text_value, Closed}
 use Rattle.lucid_scan.proofs.Longest.{text_stands, text_none}
 use Rattle.lucid_scan.proofs.front.text_token.Goals as goal
 

@@ -1,5 +1,5 @@
 -- A run of the bytes of names is the longest token.
-use Rattle.std.proofs.Common.{sym, ◌∙◌}
+use Rattle.lucid_scan.proofs.Common.{sym, ◌∙◌}
 use Rattle.lucid_scan.proofs.Longest.{name_stands, reserved_stands}
 use Rattle.lucid_scan.proofs.front.word_token.Goals as goal
 

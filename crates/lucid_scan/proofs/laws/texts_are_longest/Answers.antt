@@ -1,4 +1,4 @@
-use Rattle.std.proofs.Common.{◌++◌}
+use Rattle.lucid_scan.proofs.Common.{◌++◌}
 use Rattle.lucid_scan.proofs.Pieces.{text_longest}
 use Rattle.lucid_scan.proofs.laws.texts_are_longest.Goals as goal
 

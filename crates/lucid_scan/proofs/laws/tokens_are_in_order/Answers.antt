@@ -1,4 +1,4 @@
-use Rattle.std.proofs.Common.{length, arith}
+use Rattle.lucid_scan.proofs.Common.{length, arith}
 use Rattle.lucid_scan.proofs.Spans.{in_order}
 use Rattle.lucid_scan.proofs.laws.tokens_are_in_order.Goals as goal
 

@@ -1,4 +1,4 @@
-use Rattle.std.proofs.Common.{refl}
+use Rattle.lucid_scan.proofs.Common.{refl}
 use Rattle.lucid_scan.proofs.Spans.{stand}
 use Rattle.lucid_scan.proofs.laws.tokens_stand.Goals as goal
 

@@ -1,8 +1,5 @@
 -- One token after the other.
-use Rattle.std.proofs.Common.{ℕ, ◌+◌, ◌∙◌, ap, subst, arith, drop, length-drop, List}
-use Rattle.std.proofs.lemmas.List.{take_rest}
-use Rattle.lucid_scan.specs.Tokens.{gap, IsLongest, NoneStands}
-use Rattle.lucid_scan.specs.Refusals.{refusal_of}
+use Rattle.lucid_scan.proofs.Common.{ℕ, ◌+◌, ◌∙◌, ap, subst, arith, drop, length-drop, List, take_rest, gap, IsLongest, NoneStands, refusal_of}
 use Rattle.lucid_scan.proofs.Scanned.{goes_on, gets_stuck, over, stops}
 use Rattle.lucid_scan.proofs.Refused.{refused}
 use Rattle.lucid_scan.proofs.scanner.scan.Goals as goal

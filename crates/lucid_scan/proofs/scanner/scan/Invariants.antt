@@ -1,6 +1,4 @@
-use Rattle.std.proofs.Common.{ℕ, ◌-◌, ◌≤◌, ◌++◌, List, drop, length}
-use Rattle.lucid_scan.specs.declared.token.Token.{Token}
-use Rattle.lucid_scan.specs.Tokens.{Tokens, Stuck}
+use Rattle.lucid_scan.proofs.Common.{ℕ, ◌-◌, ◌≤◌, ◌++◌, List, drop, length, Token, Tokens, Stuck}
 use Rattle.lucid_scan.proofs.scanner.scan.Given as goal
 
 -- the tokens so far go on with those of the rest

@@ -1,11 +1,4 @@
-use Rattle.std.proofs.Common.{◌≡◌, ap, sym, subst, ◌∙◌, inr, rules, refl, fold, [], None, nat_eq}
-use Rattle.std.specs.List.{All}
-use Rattle.std.specs.Map.{lookup}
-use Rattle.std.proofs.lemmas.Grind.{merely}
-use Rattle.lucid_scope.specs.Settled.{mark_fault, mark_binding, with_mark}
-use Rattle.std.specs.List.Sorted.{IsNonDecreasingBy}
-use Rattle.std.proofs.lemmas.List.Sorted.{IsNonDecreasingBy-from_sort_by_key}
-use Rattle.lucid_scope.specs.declared.marks.Mark.{Mark}
+use Rattle.lucid_scope.proofs.Common.{◌≡◌, ap, sym, subst, ◌∙◌, inr, refl, fold, [], None, nat_eq, All, lookup, mark_fault, mark_binding, with_mark, IsNonDecreasingBy, Mark, rules, merely, IsNonDecreasingBy-from_sort_by_key}
 use Rattle.lucid_scope.proofs.Resolved.{all_marked, in_order, fit, few, different, least, no-fault, resolved}
 use Rattle.lucid_scope.proofs.resolution.find.Goals as goal
 

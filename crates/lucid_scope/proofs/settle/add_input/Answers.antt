@@ -1,7 +1,4 @@
-use Rattle.std.proofs.Common.{ℕ, List, [], ◌∷◌, ◌++◌, cond, ap, sym, ◌∙◌}
-use Rattle.std.specs.List.{list_any}
-use Rattle.std.proofs.lemmas.Bool.{not-false}
-use Rattle.lucid_tree.specs.Env.{same_name}
+use Rattle.lucid_scope.proofs.Common.{ℕ, List, [], ◌∷◌, ◌++◌, cond, ap, sym, ◌∙◌, list_any, same_name, not-false}
 use Rattle.lucid_scope.proofs.Numbering.{any-keys, not_there}
 use Rattle.lucid_scope.proofs.settle.add_input.Goals as goal
 

@@ -1,6 +1,5 @@
-use Rattle.std.proofs.Common.{ℕ, List, Option, nat_eq, ap, sym, ◌∙◌, cond, get_or, HashMap, BuildHasherDefault, FoldHasher}
-use Rattle.std.specs.Map.{lookup}
-use Rattle.lucid_scope.specs.declared.scoped.Binding.{Binding}
+use Rattle.lucid_scope.proofs.Common.{ℕ, List, nat_eq, ap, sym, ◌∙◌, cond, get_or, lookup, Binding, HashMap, BuildHasherDefault, FoldHasher}
+use Rattle.std.proofs.Common.{Option}
 use Rattle.lucid_scope.proofs.Resolved.{Bound, bind-more, bind-none}
 use Rattle.lucid_scope.proofs.settle.bindings_of.Goals as goal
 use Rattle.lucid_scope.proofs.settle.bindings_of.Goals.{in-Some+in_ok-insert-in-Some, in-None}

@@ -1,7 +1,4 @@
-use Rattle.std.proofs.Common.{◌≡◌, ℕ, ◌<◌, None, get_or, nat_eq}
-use Rattle.std.specs.Map.{lookup}
-use Rattle.lucid_scope.specs.Settled.{mark_binding}
-use Rattle.lucid_scope.specs.declared.marks.Mark.{Mark}
+use Rattle.lucid_scope.proofs.Common.{◌≡◌, ℕ, ◌<◌, None, get_or, nat_eq, lookup, mark_binding, Mark}
 use Rattle.lucid_scope.proofs.settle.bindings_of.Given as goal
 
 abbrev pub invariant-loop-mark : goal.invariant-loop-mark

@@ -1,4 +1,4 @@
-use Rattle.std.proofs.Common.{sym}
+use Rattle.lucid_scope.proofs.Common.{sym}
 use Rattle.lucid_scope.proofs.settle.first_fault.Goals as goal
 
 pub returns-in-Some : goal.returns-in-Some

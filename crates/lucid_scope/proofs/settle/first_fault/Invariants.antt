@@ -1,6 +1,4 @@
-use Rattle.std.proofs.Common.{◌≡◌, ℕ, ◌<◌, None, get_or}
-use Rattle.lucid_scope.specs.Settled.{mark_fault}
-use Rattle.lucid_scope.specs.declared.marks.Mark.{Mark}
+use Rattle.lucid_scope.proofs.Common.{◌≡◌, ℕ, ◌<◌, None, get_or, mark_fault, Mark}
 use Rattle.lucid_scope.proofs.settle.first_fault.Given as goal
 
 abbrev pub invariant-loop-mark : goal.invariant-loop-mark

@@ -1,6 +1,4 @@
-use Rattle.std.proofs.Common.{◌≡◌, [], drop, fold, map}
-use Rattle.lucid_scope.specs.Keys.{key_bytes}
-use Rattle.lucid_scope.specs.Settled.{with_mark}
+use Rattle.lucid_scope.proofs.Common.{◌≡◌, [], drop, fold, map, key_bytes, with_mark}
 use Rattle.lucid_scope.proofs.settle.inputs_of.Given as goal
 
 abbrev pub invariant-loop-mark : goal.invariant-loop-mark

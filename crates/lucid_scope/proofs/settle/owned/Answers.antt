@@ -1,8 +1,4 @@
-use Rattle.std.proofs.Common.{◌≡◌, ℕ, List, length, ap, sym, ◌∙◌, Vec, Global}
-use Rattle.std.specs.Prelude.{unwrap_or, position}
-use Rattle.std.specs.List.{position_or_len}
-use Rattle.lucid_tree.specs.Env.{same_name}
-use Rattle.lucid_scope.specs.Settled.{owner_binding}
+use Rattle.lucid_scope.proofs.Common.{◌≡◌, ℕ, List, length, ap, sym, ◌∙◌, Vec, Global, unwrap_or, position_or_len, same_name, owner_binding, position}
 use Rattle.lucid_scope.specs.declared.scoped.Binding.TheVariants.{Input}
 use Rattle.lucid_scope.proofs.Numbering.{number, positions, position_le-length}
 use Rattle.lucid_scope.proofs.settle.owned.Goals as goal

@@ -1,12 +1,6 @@
-use Rattle.std.proofs.Common.{◌≡◌, ℕ, ◌∷◌, [], ◌++◌, length, refl, ap, sym, ◌∙◌, arith}
-use Rattle.lucid_tree.specs.Size.{count}
+use Rattle.lucid_scope.proofs.Common.{◌≡◌, ℕ, ◌∷◌, [], ◌++◌, length, refl, ap, sym, ◌∙◌, arith, count, look, no_names, marks, marks_in, outside_marks, inside_marks, in_block_owned, pending, told, work_in, work_outside, work_left, Mark, Called}
 use Rattle.lucid_tree.proofs.Counts.{count_listed as count-trees}
-use Rattle.lucid_scope.specs.Owners.{look}
-use Rattle.lucid_scope.specs.Sites.{no_names}
-use Rattle.lucid_scope.specs.Walks.{marks, marks_in, outside_marks, inside_marks, in_block_owned}
-use Rattle.lucid_scope.specs.Steps.{pending, told, work, work_in, work_outside, work_left}
-use Rattle.lucid_scope.specs.declared.marks.Mark.{Mark}
-use Rattle.lucid_scope.specs.declared.marks.What.TheVariants.{Called}
+use Rattle.lucid_scope.specs.Steps.{work}
 use Rattle.lucid_scope.specs.declared.steps.Step.TheVariants.{Outside}
 use Rattle.lucid_scope.proofs.Noting.{noted-then, on_ok}
 use Rattle.lucid_scope.proofs.Stepping.{in-three}

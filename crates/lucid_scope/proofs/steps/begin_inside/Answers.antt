@@ -1,8 +1,4 @@
-use Rattle.std.proofs.Common.{◌++◌, map, refl, ap, sym, ◌∙◌, arith}
-use Rattle.lucid_scope.specs.Owners.{look}
-use Rattle.lucid_scope.specs.Sites.{repeats, no_names}
-use Rattle.lucid_scope.specs.Walks.{mark, marks, inner_marks, in_function_owned}
-use Rattle.lucid_scope.specs.Steps.{pending, inner_work, work_left}
+use Rattle.lucid_scope.proofs.Common.{◌++◌, map, refl, ap, sym, ◌∙◌, arith, look, repeats, no_names, mark, marks, inner_marks, in_function_owned, pending, inner_work, work_left}
 use Rattle.lucid_scope.proofs.Noting.{noted-then, on_ok}
 use Rattle.lucid_scope.proofs.Stepping.{in-two, entered}
 use Rattle.lucid_scope.proofs.steps.begin_inside.Goals as goal

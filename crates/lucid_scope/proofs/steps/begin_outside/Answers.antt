@@ -1,7 +1,4 @@
-use Rattle.std.proofs.Common.{◌++◌, ap, sym, ◌∙◌, arith}
-use Rattle.lucid_scope.specs.Owners.{look}
-use Rattle.lucid_scope.specs.Walks.{outer_marks}
-use Rattle.lucid_scope.specs.Steps.{pending, outer_work}
+use Rattle.lucid_scope.proofs.Common.{◌++◌, ap, sym, ◌∙◌, arith, look, outer_marks, pending, outer_work}
 use Rattle.lucid_scope.proofs.Noting.{on_ok}
 use Rattle.lucid_scope.proofs.steps.begin_outside.Goals as goal
 

@@ -1,7 +1,4 @@
-use Rattle.std.proofs.Common.{◌∷◌, ◌++◌, ap, ◌∙◌, is_some, arith}
-use Rattle.lucid_scope.specs.Owners.{look, put_back}
-use Rattle.lucid_scope.specs.Walks.{marks, inside_marks, is_seen}
-use Rattle.lucid_scope.specs.Steps.{pending, work_inside, work_left}
+use Rattle.lucid_scope.proofs.Common.{◌∷◌, ◌++◌, ap, ◌∙◌, arith, look, put_back, marks, inside_marks, is_seen, pending, work_inside, work_left, is_some}
 use Rattle.lucid_scope.specs.declared.steps.Step.TheVariants.{Inside}
 use Rattle.lucid_scope.proofs.Noting.{on_ok}
 use Rattle.lucid_scope.proofs.Stepping.{opened}

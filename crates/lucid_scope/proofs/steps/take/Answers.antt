@@ -1,6 +1,4 @@
-use Rattle.std.proofs.Common.{◌∷◌, ap, sym, ◌∙◌}
-use Rattle.lucid_scope.specs.Owners.{look, put_back}
-use Rattle.lucid_scope.specs.Steps.{told}
+use Rattle.lucid_scope.proofs.Common.{◌∷◌, ap, sym, ◌∙◌, look, put_back, told}
 use Rattle.lucid_scope.proofs.Noting.{on_ok}
 use Rattle.lucid_scope.proofs.Stepping.{left_again}
 use Rattle.lucid_scope.proofs.steps.take.Goals as goal

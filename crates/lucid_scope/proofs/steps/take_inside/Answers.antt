@@ -1,8 +1,4 @@
-use Rattle.std.proofs.Common.{◌++◌, map, ap, ◌∙◌, arith}
-use Rattle.lucid_scope.specs.Owners.{look}
-use Rattle.lucid_scope.specs.Sites.{again_if}
-use Rattle.lucid_scope.specs.Walks.{mark, inner_marks, inside_marks, is_seen}
-use Rattle.lucid_scope.specs.Steps.{pending, work_left}
+use Rattle.lucid_scope.proofs.Common.{◌++◌, map, ap, ◌∙◌, arith, look, again_if, mark, inner_marks, inside_marks, is_seen, pending, work_left}
 use Rattle.lucid_scope.proofs.Noting.{noted-then, on_ok}
 use Rattle.lucid_scope.proofs.Stepping.{in-three, inside-next, inside-falls}
 use Rattle.lucid_scope.proofs.steps.take_inside.Goals as goal

@@ -1,7 +1,4 @@
-use Rattle.std.proofs.Common.{◌++◌, ap, ◌∙◌, arith}
-use Rattle.lucid_scope.specs.Owners.{look}
-use Rattle.lucid_scope.specs.Walks.{outer_marks, outside_marks}
-use Rattle.lucid_scope.specs.Steps.{pending, work_left}
+use Rattle.lucid_scope.proofs.Common.{◌++◌, ap, ◌∙◌, arith, look, outer_marks, outside_marks, pending, work_left}
 use Rattle.lucid_scope.proofs.Noting.{on_ok}
 use Rattle.lucid_scope.proofs.Stepping.{in-two, outside-next, outside-falls}
 use Rattle.lucid_scope.proofs.steps.take_outside.Goals as goal

@@ -1,7 +1,4 @@
-use Rattle.std.proofs.Common.{◌++◌, ap, ◌∙◌, arith}
-use Rattle.lucid_scope.specs.Owners.{look}
-use Rattle.lucid_scope.specs.Walks.{marks, marks_in}
-use Rattle.lucid_scope.specs.Steps.{pending, work_in, work_left}
+use Rattle.lucid_scope.proofs.Common.{◌++◌, ap, ◌∙◌, arith, look, marks, marks_in, pending, work_in, work_left}
 use Rattle.lucid_scope.proofs.Noting.{on_ok}
 use Rattle.lucid_scope.proofs.Stepping.{in-two}
 use Rattle.lucid_scope.proofs.steps.take_part.Goals as goal

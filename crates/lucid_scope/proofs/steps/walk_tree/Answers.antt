@@ -1,8 +1,4 @@
-use Rattle.std.proofs.Common.{◌++◌, ap, sym, ◌∙◌}
-use Rattle.std.proofs.lemmas.List.{append-nil}
-use Rattle.lucid_scope.specs.Owners.{look}
-use Rattle.lucid_scope.specs.Walks.{marks}
-use Rattle.lucid_scope.specs.Steps.{pending, told}
+use Rattle.lucid_scope.proofs.Common.{◌++◌, ap, sym, ◌∙◌, append-nil, look, marks, pending, told}
 use Rattle.lucid_scope.proofs.steps.walk_tree.Goals as goal
 
 pub loop-step-preserved : goal.loop-step-preserved

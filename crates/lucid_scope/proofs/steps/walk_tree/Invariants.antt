@@ -1,5 +1,4 @@
-use Rattle.std.proofs.Common.{◌≡◌}
-use Rattle.lucid_scope.specs.Steps.{told, work_left}
+use Rattle.lucid_scope.proofs.Common.{◌≡◌, told, work_left}
 use Rattle.lucid_scope.proofs.steps.walk_tree.Given as goal
 
 abbrev pub invariant-loop-step : goal.invariant-loop-step

@@ -1,7 +1,4 @@
-use Rattle.std.proofs.Common.{◌≡◌, ◌≤◌, ℕ, List, length, drop}
-use Rattle.lucid_tree.specs.DefsView.{defs_of}
-use Rattle.lucid_tree.specs.Env.{definition}
-use Rattle.lucid_scope.specs.Owners.{look, or_outer, definition_owner, put_back}
+use Rattle.lucid_scope.proofs.Common.{◌≡◌, ◌≤◌, ℕ, List, length, drop, defs_of, definition, look, or_outer, definition_owner, put_back}
 use Rattle.lucid_scope.proofs.table.enter_block.Given as goal
 
 abbrev pub invariant-loop-left : goal.invariant-loop-left

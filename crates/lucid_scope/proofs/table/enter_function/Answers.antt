@@ -1,7 +1,4 @@
-use Rattle.std.proofs.Common.{◌≡◌, suc, ◌-◌, length, drop, ap, sym, ◌∙◌, arith}
-use Rattle.std.proofs.lemmas.List.{drop_all}
-use Rattle.lucid_tree.specs.Env.{param}
-use Rattle.lucid_scope.specs.Owners.{look, put_back, or_outer, parameter_owner}
+use Rattle.lucid_scope.proofs.Common.{◌≡◌, suc, ◌-◌, length, drop, ap, sym, ◌∙◌, arith, drop_all, param, look, put_back, or_outer, parameter_owner}
 use Rattle.lucid_scope.proofs.Hiding.{later_parameter, function-hides, all_parameters}
 use Rattle.lucid_scope.proofs.table.enter_function.Goals as goal
 

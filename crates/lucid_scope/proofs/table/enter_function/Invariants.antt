@@ -1,6 +1,4 @@
-use Rattle.std.proofs.Common.{◌≡◌, ◌≤◌, ℕ, List, length, drop}
-use Rattle.lucid_tree.specs.Env.{param}
-use Rattle.lucid_scope.specs.Owners.{look, or_outer, put_back}
+use Rattle.lucid_scope.proofs.Common.{◌≡◌, ◌≤◌, ℕ, List, length, drop, param, look, or_outer, put_back}
 use Rattle.lucid_scope.proofs.Hiding.{later_parameter}
 use Rattle.lucid_scope.proofs.table.enter_function.Given as goal
 

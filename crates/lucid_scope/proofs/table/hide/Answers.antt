@@ -1,7 +1,5 @@
-use Rattle.std.proofs.Common.{Some, cond, ap, sym, ◌∙◌}
-use Rattle.lucid_tree.specs.Env.{same_name}
-use Rattle.lucid_scope.specs.Owners.{look, put_back}
-use Rattle.lucid_scope.specs.declared.table.Saved.{Saved}
+use Rattle.lucid_scope.proofs.Common.{cond, ap, sym, ◌∙◌, same_name, look, put_back, Saved}
+use Rattle.std.proofs.Common.{Some}
 use Rattle.lucid_scope.proofs.Hiding.{saved_back}
 use Rattle.lucid_scope.proofs.table.hide.Goals as goal
 

@@ -1,5 +1,4 @@
-use Rattle.std.proofs.Common.{ap, sym, ◌∙◌}
-use Rattle.lucid_scope.specs.Owners.{look, put_back, with_owner}
+use Rattle.lucid_scope.proofs.Common.{ap, sym, ◌∙◌, look, put_back, with_owner}
 use Rattle.lucid_scope.proofs.Hiding.{put_back-snoc, put_back-alike}
 use Rattle.lucid_scope.proofs.table.leave.Goals as goal
 

@@ -1,5 +1,4 @@
-use Rattle.std.proofs.Common.{◌≡◌, ℕ, List, vec_len}
-use Rattle.lucid_scope.specs.Owners.{look, put_back}
+use Rattle.lucid_scope.proofs.Common.{◌≡◌, ℕ, List, look, put_back, vec_len}
 use Rattle.lucid_scope.proofs.table.leave.Given as goal
 
 abbrev pub invariant-loop-last : goal.invariant-loop-last

@@ -1,6 +1,4 @@
-use Rattle.std.proofs.Common.{ap, ◌∙◌, ◌++◌, map, inl, inr, arith}
-use Rattle.lucid_scope.specs.Sites.{repeats, no_names}
-use Rattle.lucid_scope.specs.Walks.{mark, is_seen}
+use Rattle.lucid_scope.proofs.Common.{ap, ◌∙◌, ◌++◌, map, inl, inr, arith, repeats, no_names, mark, is_seen}
 use Rattle.lucid_scope.proofs.Noting.{noted-first, noted-all, repeats-next, repeats-end}
 use Rattle.lucid_scope.proofs.walk.note_repeats.Goals as goal
 use Rattle.lucid_scope.proofs.walk.note_repeats.Goals.{then-loop-i-test+else-i-places, else-loop-i-test}

@@ -1,6 +1,4 @@
-use Rattle.std.proofs.Common.{◌≡◌, ◌++◌, map, drop, length, ◌-◌}
-use Rattle.lucid_scope.specs.Sites.{repeats, no_names}
-use Rattle.lucid_scope.specs.Walks.{mark, is_seen}
+use Rattle.lucid_scope.proofs.Common.{◌≡◌, ◌++◌, map, drop, length, ◌-◌, repeats, no_names, mark, is_seen}
 use Rattle.lucid_scope.proofs.walk.note_repeats.Given as goal
 
 abbrev pub invariant-loop-i : goal.invariant-loop-i

@@ -1,7 +1,4 @@
-use Rattle.std.proofs.Common.{Some, None}
-use Rattle.lucid_search.specs.declared.Site.{Site}
-use Rattle.lucid_search.specs.Numbered.{number_in}
-use Rattle.lucid_search.specs.Noted.{number_of_site}
+use Rattle.lucid_search.proofs.Common.{Some, None, Site, number_in, number_of_site}
 use Rattle.lucid_search.proofs.NoteLemmas.{best_by, none_by, found_at}
 use Rattle.lucid_search.proofs.Positions.best.Goals as goal
 

@@ -1,5 +1,4 @@
-use Rattle.std.proofs.Common.{sym, subst, arith}
-use Rattle.lucid_facts.specs.Engine.{AreAskable}
+use Rattle.lucid_session.proofs.Common.{sym, subst, arith, AreAskable}
 use Rattle.lucid_session.proofs.Steps.{few_after, streams_after, refused_here, standing_here, ended_here, shown_here, short_here}
 use Rattle.lucid_session.proofs.cells.add_cell.Goals as goal
 

@@ -1,5 +1,4 @@
-use Rattle.std.proofs.Common.{true, false, refl, arith}
-use Rattle.std.proofs.lemmas.Result.{err_from_is_err_and}
+use Rattle.lucid_session.proofs.Common.{true, false, refl, arith, err_from_is_err_and}
 use Rattle.lucid_session.proofs.CellSteps.{get_at, begins_cells, lacks_here, skipped_here, demanded_here, given_here, ends_cells}
 use Rattle.lucid_session.proofs.cells.add_cells.Goals as goal
 use Rattle.lucid_session.proofs.cells.add_cells.Goals.{then-is_open-space+in_ok-stays, else-is_open-space}

@@ -1,8 +1,4 @@
-use Rattle.std.proofs.Common.{◌≡◌, ◌≤◌, ◌+◌, length}
-use Rattle.lucid_tree.specs.Levels.{Elements}
-use Rattle.lucid_facts.specs.Engine.{AreAskable}
-use Rattle.lucid_session.specs.Moments.{Start, Has, Standing, before}
-use Rattle.lucid_session.specs.Cells.{AreMarked, HasCells}
+use Rattle.lucid_session.proofs.Common.{◌≡◌, ◌≤◌, ◌+◌, length, Elements, AreAskable, Start, Has, Standing, before, AreMarked, HasCells}
 use Rattle.lucid_session.proofs.cells.add_cells.Given as goal
 
 abbrev pub invariant-loop-space : goal.invariant-loop-space

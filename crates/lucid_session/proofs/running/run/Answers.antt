@@ -1,4 +1,4 @@
-use Rattle.lucid_equations.specs.Programs.{table_of}
+use Rattle.lucid_session.proofs.Common.{table_of}
 use Rattle.lucid_session.proofs.AllOpen.{one_true}
 use Rattle.lucid_session.proofs.OneColumn.{ran_one, figures_one}
 use Rattle.lucid_session.proofs.running.run.Goals as goal

@@ -1,4 +1,4 @@
-use Rattle.lucid_equations.specs.Programs.{table_of}
+use Rattle.lucid_session.proofs.Common.{table_of}
 use Rattle.lucid_session.proofs.AllOpen.{all_true, front_size}
 use Rattle.lucid_session.proofs.Steps.{columns_there}
 use Rattle.lucid_session.proofs.running.run_columns.Goals as goal

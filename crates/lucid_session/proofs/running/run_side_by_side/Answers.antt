@@ -1,6 +1,4 @@
-use Rattle.std.proofs.Common.{refl, length}
-use Rattle.lucid_equations.specs.Programs.{table_of}
-use Rattle.lucid_facts.proofs.History.{reads_only_itself}
+use Rattle.lucid_session.proofs.Common.{refl, length, table_of, reads_only_itself}
 use Rattle.lucid_session.proofs.Unmade.{nothing_there}
 use Rattle.lucid_session.proofs.Steps.{fresh_there, run_there}
 use Rattle.lucid_session.proofs.running.run_side_by_side.Goals as goal

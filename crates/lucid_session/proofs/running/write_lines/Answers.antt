@@ -1,6 +1,4 @@
-use Rattle.std.proofs.Common.{length, refl, sym, arith}
-use Rattle.std.proofs.lemmas.Result.{err_from_is_err_and}
-use Rattle.lucid_session.specs.Moments.{start_of}
+use Rattle.lucid_session.proofs.Common.{length, refl, sym, arith, err_from_is_err_and, start_of}
 use Rattle.lucid_session.proofs.Steps.{begins_there, all_open, stopped_there, ended_there, cells_told, unwritten_there, written_there, counted_there, counts_after}
 use Rattle.lucid_session.proofs.running.write_lines.Goals as goal
 

@@ -1,7 +1,4 @@
-use Rattle.std.proofs.Common.{length, ◌≤◌, ◌*◌}
-use Rattle.lucid_tree.specs.Levels.{Elements}
-use Rattle.lucid_session.specs.Moments.{start_of, Has}
-use Rattle.lucid_session.specs.Cells.{AreMarked}
+use Rattle.lucid_session.proofs.Common.{length, ◌≤◌, Elements, start_of, Has, AreMarked, ◌*◌}
 use Rattle.lucid_session.proofs.Writing.{Going}
 use Rattle.lucid_session.proofs.running.write_lines.Given as goal
 

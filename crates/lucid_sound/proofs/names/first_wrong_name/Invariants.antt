@@ -1,4 +1,4 @@
-use Rattle.lucid_sound.specs.WrongRows.{NameIsRight}
+use Rattle.lucid_sound.proofs.Common.{NameIsRight}
 use Rattle.lucid_sound.proofs.RightRows.{RightBefore}
 use Rattle.lucid_sound.proofs.names.first_wrong_name.Given as goal
 

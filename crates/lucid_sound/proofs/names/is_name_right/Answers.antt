@@ -1,7 +1,4 @@
-use Rattle.std.proofs.Common.{List, length, sym, ap, subst, arith}
-use Rattle.std.proofs.lemmas.Bool.{false≢true}
-use Rattle.lucid_equations.specs.declared.rows.NodeRow.{NodeRow}
-use Rattle.lucid_sound.specs.Forms.{EntryFits}
+use Rattle.lucid_sound.proofs.Common.{List, length, sym, ap, subst, arith, false≢true, NodeRow, EntryFits}
 use Rattle.lucid_sound.proofs.NamesRight.{got, fits-right, right-fits}
 use Rattle.lucid_sound.proofs.names.is_name_right.Goals as goal
 

@@ -1,4 +1,4 @@
-use Rattle.lucid_sound.specs.WrongRows.{ScopeIsRight}
+use Rattle.lucid_sound.proofs.Common.{ScopeIsRight}
 use Rattle.lucid_sound.proofs.RightRows.{right-more, right-all, first-wrong}
 use Rattle.lucid_sound.proofs.nest.first_wrong_scope.Goals as goal
 

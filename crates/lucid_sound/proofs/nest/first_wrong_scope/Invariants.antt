@@ -1,4 +1,4 @@
-use Rattle.lucid_sound.specs.WrongRows.{ScopeIsRight}
+use Rattle.lucid_sound.proofs.Common.{ScopeIsRight}
 use Rattle.lucid_sound.proofs.RightRows.{RightBefore}
 use Rattle.lucid_sound.proofs.nest.first_wrong_scope.Given as goal
 

@@ -1,5 +1,4 @@
-use Rattle.std.proofs.Common.{arith}
-use Rattle.lucid_equations.specs.Sound.IsRound.{itself}
+use Rattle.lucid_sound.proofs.Common.{arith, itself}
 use Rattle.lucid_sound.proofs.Nesting.{round-then}
 use Rattle.lucid_sound.proofs.nest.leap_of.Goals as goal
 

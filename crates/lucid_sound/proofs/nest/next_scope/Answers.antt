@@ -1,7 +1,4 @@
-use Rattle.std.proofs.Common.{◌≡◌, ◌<◌, ℕ, length, sym, subst, arith}
-use Rattle.lucid_equations.specs.Sound.{IsRound, HasDepth}
-use Rattle.lucid_equations.specs.Sound.IsRound.{itself}
-use Rattle.lucid_equations.specs.Sound.HasDepth.{outermost}
+use Rattle.lucid_sound.proofs.Common.{◌≡◌, ◌<◌, ℕ, length, sym, subst, arith, IsRound, HasDepth, itself, outermost}
 use Rattle.lucid_sound.proofs.Nesting.{round-low, depth-low}
 use Rattle.lucid_sound.proofs.NestMade.{lower-low, next-low, next-depth, next-round}
 use Rattle.lucid_sound.proofs.nest.next_scope.Goals as goal

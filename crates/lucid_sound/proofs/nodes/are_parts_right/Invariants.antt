@@ -1,5 +1,4 @@
-use Rattle.std.proofs.Common.{drop, ◌↔◌}
-use Rattle.lucid_sound.specs.Forms.{ArePartsRight}
+use Rattle.lucid_sound.proofs.Common.{drop, ◌↔◌, ArePartsRight}
 use Rattle.lucid_sound.proofs.nodes.are_parts_right.Given as goal
 
 -- all are right where those from this one on are

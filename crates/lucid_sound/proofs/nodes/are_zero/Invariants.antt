@@ -1,4 +1,4 @@
-use Rattle.std.proofs.Common.{drop, ◌↔◌}
+use Rattle.lucid_sound.proofs.Common.{drop, ◌↔◌}
 use Rattle.lucid_equations.specs.Sound.{AreZero}
 use Rattle.lucid_sound.proofs.nodes.are_zero.Given as goal
 

@@ -1,6 +1,4 @@
-use Rattle.std.proofs.Common.{subst}
-use Rattle.std.proofs.lemmas.Bool.{both_ways}
-use Rattle.lucid_sound.specs.WrongRows.{NodeIsRight, AllRight, IsFirstWrong}
+use Rattle.lucid_sound.proofs.Common.{subst, both_ways, NodeIsRight, AllRight, IsFirstWrong}
 use Rattle.lucid_sound.proofs.RightRows.{right-more, right-all, first-wrong}
 use Rattle.lucid_sound.proofs.nodes.first_wrong_node.Goals as goal
 

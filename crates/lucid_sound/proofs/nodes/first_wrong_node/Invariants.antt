@@ -1,4 +1,4 @@
-use Rattle.lucid_sound.specs.WrongRows.{NodeIsRight}
+use Rattle.lucid_sound.proofs.Common.{NodeIsRight}
 use Rattle.lucid_sound.proofs.RightRows.{RightBefore}
 use Rattle.lucid_sound.proofs.nodes.first_wrong_node.Given as goal
 

@@ -1,5 +1,4 @@
-use Rattle.std.proofs.Common.{◌<◌, List, length, subst}
-use Rattle.lucid_equations.specs.declared.rows.ScopeRow.{ScopeRow}
+use Rattle.lucid_sound.proofs.Common.{◌<◌, List, length, subst, ScopeRow}
 use Rattle.lucid_sound.proofs.FormsRight.{form-node, node-form}
 use Rattle.lucid_sound.proofs.nodes.is_node_right.Goals as goal
 

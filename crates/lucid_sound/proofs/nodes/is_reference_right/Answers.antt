@@ -1,6 +1,4 @@
-use Rattle.std.proofs.Common.{List, sym, subst}
-use Rattle.lucid_equations.specs.Sound.{IsRound, HasDepth}
-use Rattle.lucid_equations.specs.declared.rows.ScopeRow.{ScopeRow}
+use Rattle.lucid_sound.proofs.Common.{List, sym, subst, IsRound, HasDepth, ScopeRow}
 use Rattle.lucid_sound.proofs.NamesRight.{got, leads-by, by-leads}
 use Rattle.lucid_sound.proofs.nodes.is_reference_right.Goals as goal
 

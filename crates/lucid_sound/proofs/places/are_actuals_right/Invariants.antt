@@ -1,5 +1,4 @@
-use Rattle.std.proofs.Common.{drop, ◌↔◌}
-use Rattle.lucid_equations.specs.Sound.{EachStandsIn}
+use Rattle.lucid_sound.proofs.Common.{drop, ◌↔◌, EachStandsIn}
 use Rattle.lucid_sound.proofs.places.are_actuals_right.Given as goal
 
 -- all stand there where those from this one on do

@@ -1,7 +1,4 @@
-use Rattle.std.proofs.Common.{ℕ, List, sym, subst}
-use Rattle.std.proofs.lemmas.Bool.{both_ways}
-use Rattle.lucid_equations.specs.declared.rows.PlaceRow.{PlaceRow}
-use Rattle.lucid_sound.specs.WrongRows.{PlaceIsRight, AllRight, IsFirstWrong}
+use Rattle.lucid_sound.proofs.Common.{ℕ, List, sym, subst, both_ways, PlaceRow, PlaceIsRight, AllRight, IsFirstWrong}
 use Rattle.lucid_sound.proofs.RightRows.{right-more, right-all, first-wrong}
 use Rattle.lucid_sound.proofs.places.first_wrong_place.Goals as goal
 

@@ -1,4 +1,4 @@
-use Rattle.lucid_sound.specs.WrongRows.{PlaceIsRight}
+use Rattle.lucid_sound.proofs.Common.{PlaceIsRight}
 use Rattle.lucid_sound.proofs.RightRows.{RightBefore}
 use Rattle.lucid_sound.proofs.places.first_wrong_place.Given as goal
 

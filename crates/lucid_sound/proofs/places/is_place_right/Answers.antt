@@ -1,7 +1,4 @@
-use Rattle.std.proofs.Common.{List, length, sym, ap, subst, arith}
-use Rattle.std.proofs.lemmas.Bool.{false≢true, leb-true}
-use Rattle.lucid_equations.specs.Sound.{EachStandsIn}
-use Rattle.lucid_equations.specs.declared.rows.NodeRow.{NodeRow}
+use Rattle.lucid_sound.proofs.Common.{List, length, sym, ap, subst, arith, false≢true, EachStandsIn, NodeRow, leb-true}
 use Rattle.lucid_sound.proofs.NamesRight.{got, passes-right, right-few, right-called}
 use Rattle.lucid_sound.proofs.places.is_place_right.Goals as goal
 

@@ -1,5 +1,4 @@
-use Rattle.std.proofs.Common.{◌≡◌, ◌<◌, ℕ, length, drop, max, slice_index}
-use Rattle.lucid_sound.specs.Wants.{wanted}
+use Rattle.lucid_sound.proofs.Common.{◌≡◌, ◌<◌, ℕ, length, drop, max, slice_index, wanted}
 use Rattle.lucid_sound.proofs.places.wants_of.Given as goal
 
 -- what is noted, and what the names from this one on ask for, is what is wanted

@@ -1,7 +1,5 @@
-use Rattle.std.proofs.Common.{is_some, ap}
-use Rattle.std.proofs.lemmas.Bool.{both_ways}
+use Rattle.lucid_sound.proofs.Common.{ap, both_ways, wrong_root, is_some}
 use Rattle.lucid_sound.specs.declared.program.BuildRefusal.TheVariants.{Root}
-use Rattle.lucid_sound.specs.WrongRows.IsFirstWrongRow.{wrong_root}
 use Rattle.lucid_sound.proofs.Rights.{refused, rights-sound}
 use Rattle.lucid_sound.proofs.InRange.{in-range}
 use Rattle.lucid_sound.proofs.program.build.Goals as goal

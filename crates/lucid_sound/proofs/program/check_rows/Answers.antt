@@ -1,11 +1,6 @@
-use Rattle.std.proofs.Common.{◌≡◌, ◌≢◌, ℕ, List, [], length, ap, sym, ◌∙◌, subst}
-use Rattle.std.proofs.lemmas.Bool.{eqb-true, eqb-false}
-use Rattle.std.proofs.lemmas.List.{nil_from_length}
-use Rattle.std.proofs.lemmas.Option.{MatchOption-at_some}
-use Rattle.lucid_equations.specs.declared.rows.ScopeRow.{ScopeRow}
+use Rattle.lucid_sound.proofs.Common.{◌≡◌, ◌≢◌, ℕ, List, [], length, ap, sym, ◌∙◌, subst, eqb-true, ScopeRow, ScopeIsRight, PlaceIsRight, AllRight, IsFirstWrong, no_scopes, wrong_scope, wrong_node, wrong_name, wrong_place, eqb-false, nil_from_length, MatchOption-at_some}
 use Rattle.lucid_sound.specs.declared.program.BuildRefusal.TheVariants.{Scope, Node, Name, Place}
-use Rattle.lucid_sound.specs.WrongRows.{ScopeIsRight, PlaceIsRight, AllRight, IsFirstWrong, PlacesAreRight}
-use Rattle.lucid_sound.specs.WrongRows.IsFirstWrongRow.{no_scopes, wrong_scope, wrong_node, wrong_name, wrong_place}
+use Rattle.lucid_sound.specs.WrongRows.{PlacesAreRight}
 use Rattle.lucid_sound.proofs.Rights.{refused}
 use Rattle.lucid_sound.proofs.program.check_rows.Goals as goal
 

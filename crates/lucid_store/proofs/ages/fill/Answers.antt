@@ -1,5 +1,4 @@
-use Rattle.std.proofs.Common.{length, ◌≡◌, ◌+◌, ◌∷◌, [], ap, ◌∙◌, arith}
-use Rattle.std.proofs.lemmas.List.{length-append}
+use Rattle.lucid_store.proofs.Common.{length, ◌≡◌, ◌+◌, ◌∷◌, [], ap, ◌∙◌, arith, length-append}
 use Rattle.lucid_store.proofs.AgeLemmas.{filled-more}
 use Rattle.lucid_store.proofs.ages.fill.Goals as goal
 

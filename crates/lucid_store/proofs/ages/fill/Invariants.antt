@@ -1,6 +1,4 @@
-use Rattle.std.proofs.Common.{◌≡◌, ◌≤◌, ◌-◌, ◌++◌, length}
-use Rattle.std.specs.Vec.{vec_capacity}
-use Rattle.lucid_store.specs.Ages.{zeros}
+use Rattle.lucid_store.proofs.Common.{◌≡◌, ◌≤◌, ◌-◌, ◌++◌, length, zeros, vec_capacity}
 use Rattle.lucid_store.proofs.ages.fill.Given as goal
 
 -- so many ages of 0 are written so far

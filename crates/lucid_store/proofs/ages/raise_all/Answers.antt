@@ -1,7 +1,5 @@
-use Rattle.std.proofs.Common.{◌<◌, length, slice_index_or, arith}
-use Rattle.std.proofs.lemmas.List.{get_or_default}
-use Rattle.std.proofs.lemmas.List.Edits.{map_over_more}
-use Rattle.lucid_store.specs.Entries.{older}
+use Rattle.lucid_store.proofs.Common.{◌<◌, length, arith, get_or_default, older, map_over_more}
+use Rattle.std.proofs.Common.{slice_index_or}
 use Rattle.lucid_store.proofs.ages.raise_all.Goals as goal
 
 pub loop-index-preserved : goal.loop-index-preserved

@@ -1,5 +1,4 @@
-use Rattle.std.proofs.Common.{◌≡◌, ◌++◌, map, take, drop}
-use Rattle.lucid_store.specs.Entries.{older}
+use Rattle.lucid_store.proofs.Common.{◌≡◌, ◌++◌, map, take, older, drop}
 use Rattle.lucid_store.proofs.ages.raise_all.Given as goal
 
 -- the ages so far have risen

@@ -1,4 +1,4 @@
-use Rattle.std.proofs.Common.{arith}
+use Rattle.lucid_tags.proofs.Common.{arith}
 use Rattle.lucid_tags.proofs.TagLemmas.{seen-one_for_one, seen-length}
 use Rattle.lucid_tags.proofs.Tags.count.Goals as goal
 

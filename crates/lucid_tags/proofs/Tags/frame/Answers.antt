@@ -1,5 +1,4 @@
-use Rattle.std.proofs.Common.{ap, ◌∙◌, refl}
-use Rattle.lucid_tags.specs.Contexts.{context_at}
+use Rattle.lucid_tags.proofs.Common.{ap, ◌∙◌, refl, context_at}
 use Rattle.lucid_tags.proofs.TagLemmas.{seen-first}
 use Rattle.lucid_tags.proofs.Tags.frame.Goals as goal
 

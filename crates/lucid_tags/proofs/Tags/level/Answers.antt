@@ -1,4 +1,4 @@
-use Rattle.std.proofs.Common.{arith}
+use Rattle.lucid_tags.proofs.Common.{arith}
 use Rattle.lucid_tags.proofs.TagLemmas.{seen-depths}
 use Rattle.lucid_tags.proofs.Tags.level.Goals as goal
 

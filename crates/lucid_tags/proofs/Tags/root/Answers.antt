@@ -1,5 +1,4 @@
-use Rattle.std.proofs.Common.{ap, ◌∙◌, arith}
-use Rattle.lucid_tags.specs.Contexts.{context_at}
+use Rattle.lucid_tags.proofs.Common.{ap, ◌∙◌, arith, context_at}
 use Rattle.lucid_tags.proofs.TagLemmas.{seen-one_for_one, seen-length, seen-first}
 use Rattle.lucid_tags.proofs.Tags.root.Goals as goal
 

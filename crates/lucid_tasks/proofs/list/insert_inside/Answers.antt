@@ -1,6 +1,5 @@
-use Rattle.std.proofs.Common.{◌<◌, cond, vec_len, ap, ◌∙◌, arith}
-use Rattle.std.specs.Prelude.{vec_capacity, insert}
-use Rattle.lucid_tasks.specs.Slots.{is_listed}
+use Rattle.lucid_tasks.proofs.Common.{◌<◌, cond, vec_len, ap, ◌∙◌, arith, vec_capacity, is_listed}
+use Rattle.std.specs.Prelude.{insert}
 use Rattle.lucid_tasks.proofs.SlotLemmas.{insert_in, listed_insert}
 use Rattle.lucid_tasks.proofs.list.insert_inside.Goals as goal
 

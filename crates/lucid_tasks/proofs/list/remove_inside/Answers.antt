@@ -1,5 +1,4 @@
-use Rattle.std.proofs.Common.{◌<◌, length, ap, sym, subst, ◌∙◌}
-use Rattle.lucid_tasks.specs.Slots.{is_listed}
+use Rattle.lucid_tasks.proofs.Common.{◌<◌, length, ap, sym, subst, ◌∙◌, is_listed}
 use Rattle.lucid_tasks.proofs.SlotLemmas.{place_in, place_below, rise_remove, listed_remove}
 use Rattle.lucid_tasks.proofs.list.remove_inside.Goals as goal
 

@@ -1,5 +1,4 @@
-use Rattle.std.proofs.Common.{◌-◌, length, ap, ◌∙◌, arith}
-use Rattle.lucid_tasks.specs.Slots.{is_listed}
+use Rattle.lucid_tasks.proofs.Common.{◌-◌, length, ap, ◌∙◌, arith, is_listed}
 use Rattle.lucid_tasks.proofs.EndLemmas.{last_of}
 use Rattle.lucid_tasks.proofs.SlotLemmas.{last_there, rise_remove, listed_remove}
 use Rattle.lucid_tasks.proofs.list.remove_slot.Goals as goal

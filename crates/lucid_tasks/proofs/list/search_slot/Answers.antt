@@ -1,5 +1,4 @@
-use Rattle.std.proofs.Common.{arith, Ok, Err}
-use Rattle.std.proofs.lemmas.List.Sorted.{searched}
+use Rattle.lucid_tasks.proofs.Common.{arith, Ok, Err, searched}
 use Rattle.lucid_tasks.proofs.SlotLemmas.{rise_sorted, rise_strict}
 use Rattle.lucid_tasks.proofs.list.search_slot.Goals as goal
 

@@ -1,5 +1,4 @@
-use Rattle.std.proofs.Common.{vec_len}
-use Rattle.lucid_tasks.specs.Laid.{Trims}
+use Rattle.lucid_tasks.proofs.Common.{vec_len, Trims}
 use Rattle.lucid_tasks.proofs.rows.trim.Given as goal
 
 abbrev pub invariant-loop-row : goal.invariant-loop-row

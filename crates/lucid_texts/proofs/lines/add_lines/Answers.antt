@@ -1,8 +1,4 @@
-use Rattle.std.proofs.Common.{◌≡◌, ℕ, List, ◌+◌, ◌++◌, [], ◌∷◌, length, true, refl, sym, ap, ◌∙◌, subst, arith, length-append}
-use Rattle.std.specs.Prelude.{◌==◌}
-use Rattle.std.proofs.lemmas.Bool.{MatchBool-at_true, MatchBool-at_false, eqb-true}
-use Rattle.std.proofs.lemmas.List.{append-nil}
-use Rattle.lucid_texts.specs.TextLines.{text_of, CanGoOn, CannotGoOn, IsFirstWrongLine}
+use Rattle.lucid_texts.proofs.Common.{◌≡◌, ℕ, List, ◌+◌, ◌++◌, [], ◌∷◌, length, true, refl, sym, ap, ◌∙◌, subst, arith, length-append, ◌==◌, append-nil, text_of, CanGoOn, CannotGoOn, IsFirstWrongLine, MatchBool-at_true, MatchBool-at_false, eqb-true}
 use Rattle.lucid_texts.proofs.TextsRead.{line_has, refused_line, refused_end, read_more}
 use Rattle.lucid_texts.proofs.lines.add_lines.Goals as goal
 use Rattle.lucid_texts.proofs.lines.add_lines.Goals.{else-is_empty-via-then-is_empty+else-is_whole, else-is_empty-via-else-is_empty}

@@ -1,5 +1,4 @@
-use Rattle.std.proofs.Common.{◌≡◌, ◌≤◌, ◌+◌, ◌++◌, length}
-use Rattle.lucid_texts.specs.TextLines.{CanGoOn, text_of}
+use Rattle.lucid_texts.proofs.Common.{◌≡◌, ◌≤◌, ◌+◌, ◌++◌, length, CanGoOn, text_of}
 use Rattle.lucid_texts.proofs.lines.add_lines.Given as goal
 
 abbrev pub invariant-loop-line : goal.invariant-loop-line

@@ -1,5 +1,4 @@
-use Rattle.std.proofs.Common.{◌≡◌, Err, ap, ◌∙◌, arith}
-use Rattle.std.proofs.lemmas.Slice.Eq.{bytes_eq-Decides}
+use Rattle.lucid_texts.proofs.Common.{◌≡◌, Err, ap, ◌∙◌, arith, bytes_eq-Decides}
 use Rattle.lucid_value.specs.View.{plain}
 use Rattle.lucid_texts.proofs.ValueLemmas.{no_text, same_text}
 use Rattle.lucid_texts.proofs.values.read_text.Goals as goal

@@ -1,8 +1,6 @@
-use Rattle.std.proofs.Common.{◌≡◌, Bool, true, false, Option, Some, None, not, is_some, refl, sym, ◌∙◌}
-use Rattle.std.proofs.Common.{List, ℕ}
+use Rattle.lucid_texts.proofs.Common.{◌≡◌, Bool, true, false, Option, Some, None, refl, sym, ◌∙◌, List, ℕ, words_left, is_end, is_some, option_copied}
+use Rattle.std.proofs.Common.{not}
 use denote.Ref.{Bor}
-use Rattle.std.specs.Option.{option_copied}
-use Rattle.lucid_texts.specs.Words.{words_left, is_end}
 use Rattle.lucid_texts.proofs.WordLemmas.{is_end-words_of}
 use Rattle.lucid_texts.proofs.words.at_end.Goals as goal
 

@@ -1,8 +1,4 @@
-use Rattle.std.proofs.Common.{◌≡◌, ◌<◌, sym, ap, ◌∙◌, arith}
-use Rattle.std.specs.Prelude.{decimal}
-use Rattle.std.proofs.lemmas.Fmt.{parse-decimal}
-use Rattle.std.proofs.lemmas.Slice.Eq.{bytes_eq-Decides}
-use Rattle.lucid_texts.specs.Words.{number_of}
+use Rattle.lucid_texts.proofs.Common.{◌≡◌, ◌<◌, sym, ap, ◌∙◌, arith, decimal, bytes_eq-Decides, number_of, parse-decimal}
 use Rattle.lucid_texts.proofs.WordLemmas.{number_of_none, number_of-decimal}
 use Rattle.lucid_texts.proofs.words.digits_of.Goals as goal
 

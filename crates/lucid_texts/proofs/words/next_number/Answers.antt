@@ -1,4 +1,4 @@
-use Rattle.std.proofs.Common.{sym}
+use Rattle.lucid_texts.proofs.Common.{sym}
 use Rattle.lucid_texts.proofs.WordLemmas.{number_of_some}
 use Rattle.lucid_texts.proofs.words.next_number.Goals as goal
 

@@ -1,4 +1,4 @@
-use Rattle.std.proofs.Common.{ap, sym}
+use Rattle.lucid_texts.proofs.Common.{ap, sym}
 use Rattle.lucid_texts.specs.Words.{take_word}
 use Rattle.lucid_texts.proofs.WordLemmas.{words_of_one, words_of_more}
 use Rattle.lucid_texts.proofs.words.next_word.Goals as goal

@@ -1,4 +1,4 @@
-use Rattle.std.proofs.Common.{sym, arith}
+use Rattle.lucid_texts.proofs.Common.{sym, arith}
 use Rattle.lucid_texts.proofs.WordLemmas.{number_of_none, utf8-decimal}
 use Rattle.lucid_texts.proofs.words.number.Goals as goal
 

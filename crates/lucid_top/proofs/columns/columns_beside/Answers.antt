@@ -1,6 +1,5 @@
-use Rattle.std.proofs.Common.{subst}
-use Rattle.std.proofs.lemmas.Option.{slice_get_within}
-use Rattle.lucid_columns.specs.Columns.{IsFirstMissing, RefusesColumns}
+use Rattle.lucid_top.proofs.Common.{subst, slice_get_within, IsFirstMissing}
+use Rattle.lucid_columns.specs.Columns.{RefusesColumns}
 use Rattle.lucid_top.proofs.NoColumn.{missing_stops}
 use Rattle.lucid_top.proofs.columns.columns_beside.Goals as goal
 

@@ -1,5 +1,4 @@
-use Rattle.std.proofs.Common.{refl}
-use Rattle.std.proofs.lemmas.Result.{err_from_is_err_and}
+use Rattle.lucid_top.proofs.Common.{refl, err_from_is_err_and}
 use Rattle.lucid_top.proofs.Naming.{refused_here, right_more}
 use Rattle.lucid_top.proofs.files.check_words.Goals as goal
 

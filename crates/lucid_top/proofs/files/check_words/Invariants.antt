@@ -1,6 +1,4 @@
-use Rattle.std.proofs.Common.{map}
-use Rattle.lucid_words.specs.Plain.{plain_given}
-use Rattle.lucid_top.specs.Files.{AreRightBelow}
+use Rattle.lucid_top.proofs.Common.{map, plain_given, AreRightBelow}
 use Rattle.lucid_top.proofs.files.check_words.Given as goal
 
 abbrev pub invariant-loop-k : goal.invariant-loop-k

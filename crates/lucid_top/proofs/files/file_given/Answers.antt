@@ -1,9 +1,5 @@
-use Rattle.std.proofs.Common.{◌≡◌, List, [], drop, map, Some, sym, ap, ◌∙◌}
-use Rattle.std.proofs.Math.ListN.{drop_of_length-le}
-use Rattle.std.specs.String.{string_bytes}
+use Rattle.lucid_top.proofs.Common.{◌≡◌, List, [], drop, map, Some, sym, ap, ◌∙◌, string_bytes, plain_given, file_given, drop_of_length-le}
 use Rattle.lucid_words.specs.declared.Given.{Given as Word}
-use Rattle.lucid_words.specs.Plain.{plain_given}
-use Rattle.lucid_top.specs.Files.{file_given}
 use Rattle.lucid_top.proofs.Naming.{given_here, given_later}
 use Rattle.lucid_top.proofs.files.file_given.Goals as goal
 

@@ -1,6 +1,4 @@
-use Rattle.std.proofs.Common.{◌≡◌, map, drop}
-use Rattle.lucid_words.specs.Plain.{plain_given}
-use Rattle.lucid_top.specs.Files.{file_given}
+use Rattle.lucid_top.proofs.Common.{◌≡◌, map, drop, plain_given, file_given}
 use Rattle.lucid_top.proofs.files.file_given.Given as goal
 
 abbrev pub invariant-loop-word : goal.invariant-loop-word

@@ -1,6 +1,5 @@
-use Rattle.std.proofs.Common.{◌≡◌, map, take}
-use Rattle.lucid_words.specs.Plain.{plain_given}
-use Rattle.lucid_top.specs.Files.{files_for}
+use Rattle.lucid_top.proofs.Common.{◌≡◌, map, plain_given, files_for}
+use Rattle.std.proofs.Common.{take}
 use Rattle.lucid_top.proofs.files.files_for.Given as goal
 
 abbrev pub invariant-loop-name : goal.invariant-loop-name

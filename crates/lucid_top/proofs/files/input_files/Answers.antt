@@ -1,8 +1,4 @@
-use Rattle.std.proofs.Common.{map, sym, subst, arith}
-use Rattle.std.proofs.lemmas.List.{length-map}
-use Rattle.std.proofs.lemmas.Result.{err_from_is_err_and}
-use Rattle.lucid_words.specs.Plain.{plain_given}
-use Rattle.lucid_top.specs.Files.{AreRightBelow, by_two}
+use Rattle.lucid_top.proofs.Common.{map, sym, subst, arith, length-map, err_from_is_err_and, plain_given, AreRightBelow, by_two}
 use Rattle.lucid_top.proofs.Naming.{given_refused}
 use Rattle.lucid_top.proofs.files.input_files.Goals as goal
 

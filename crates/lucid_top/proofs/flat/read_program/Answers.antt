@@ -1,6 +1,4 @@
-use Rattle.std.proofs.Common.{◌≤◌, length, arith}
-use Rattle.std.proofs.lemmas.Result.{err_from_is_err_and}
-use Rattle.lucid_top.specs.Flat.{most_flat_bytes, by_length}
+use Rattle.lucid_top.proofs.Common.{◌≤◌, length, arith, err_from_is_err_and, most_flat_bytes, by_length}
 use Rattle.lucid_top.proofs.Refusing.{flat_refuses, build_refuses}
 use Rattle.lucid_top.proofs.flat.read_program.Goals as goal
 

@@ -1,7 +1,5 @@
-use Rattle.std.proofs.Common.{subst}
-use Rattle.std.proofs.lemmas.Result.{err_from_is_err_and}
+use Rattle.lucid_top.proofs.Common.{subst, err_from_is_err_and, HasTokens}
 use Rattle.lucid_parse.specs.Spelled.{SpellsTree, IsRefused}
-use Rattle.lucid_top.specs.Judged.{HasTokens}
 use Rattle.lucid_top.proofs.Refusing.{scan_refuses, parse_refuses}
 use Rattle.lucid_top.proofs.Within.{places_within}
 use Rattle.lucid_top.proofs.judging.read_tree.Goals as goal

@@ -1,10 +1,4 @@
-use Rattle.std.proofs.Common.{sym, subst}
-use Rattle.std.proofs.lemmas.Result.{IfErr-weaker, err_from_is_err_and}
-use Rattle.lucid_scan.specs.Refusals.{most_source_bytes}
-use Rattle.lucid_scope.specs.Bindings.{HasNoFault}
-use Rattle.lucid_scope.specs.Scoped.{scoped_inputs}
-use Rattle.lucid_top.specs.Refusals.{IsRefusalOf}
-use Rattle.lucid_top.specs.Judged.{RefusesNames, RefusesBeside}
+use Rattle.lucid_top.proofs.Common.{sym, subst, IfErr-weaker, err_from_is_err_and, most_source_bytes, HasNoFault, scoped_inputs, IsRefusalOf, RefusesNames, RefusesBeside}
 use Rattle.lucid_top.proofs.Beside.{free_of, all_stand, names_refused, columns_refused, memory_alone}
 use Rattle.lucid_top.proofs.judging.resolve_beside.Goals as goal
 

@@ -1,5 +1,4 @@
-use Rattle.std.proofs.Common.{map, ◌∙◌, arith}
-use Rattle.lucid_ports.specs.declared.fault.PortFault.TheVariants.{Failed}
+use Rattle.lucid_top.proofs.Common.{map, ◌∙◌, arith, Failed}
 use Rattle.lucid_top.proofs.Counting.{none_at_ok}
 use Rattle.lucid_top.proofs.Reaching.{keeps_on, first_stays, fresh_after, fresh_more, range_more, named_at, given_before, refused_before}
 use Rattle.lucid_top.proofs.places.reach_files.Goals as goal

@@ -1,6 +1,4 @@
-use Rattle.std.proofs.Common.{◌≡◌, ◌+◌, ◌<◌, map}
-use Rattle.std.specs.List.{range_with_len}
-use Rattle.lucid_top.specs.Places.{KeepsNames, AreFresh}
+use Rattle.lucid_top.proofs.Common.{◌≡◌, ◌+◌, ◌<◌, map, range_with_len, KeepsNames, AreFresh}
 use Rattle.lucid_top.proofs.places.reach_files.Given as goal
 
 abbrev pub invariant-loop-file : goal.invariant-loop-file

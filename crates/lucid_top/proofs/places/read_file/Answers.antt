@@ -1,7 +1,5 @@
-use Rattle.std.proofs.Common.{◌∙◌}
+use Rattle.lucid_top.proofs.Common.{◌∙◌, err_from_is_err_and, Failed}
 use Rattle.lucid_top.proofs.Reaching.{read_all, read_within}
-use Rattle.std.proofs.lemmas.Result.{err_from_is_err_and}
-use Rattle.lucid_ports.specs.declared.fault.PortFault.TheVariants.{Failed}
 use Rattle.lucid_top.proofs.Counting.{none_at_ok, handed_on, counts_then}
 use Rattle.lucid_top.proofs.places.read_file.Goals as goal
 

@@ -1,6 +1,4 @@
-use Rattle.std.proofs.Common.{arith}
-use Rattle.std.proofs.lemmas.Result.{err_from_is_err_and}
-use Rattle.lucid_session.specs.Runs.{told}
+use Rattle.lucid_top.proofs.Common.{arith, err_from_is_err_and, told}
 use Rattle.lucid_top.proofs.Pieces.{more_parts, stops_in_part}
 use Rattle.lucid_top.proofs.report.write_line.Goals as goal
 

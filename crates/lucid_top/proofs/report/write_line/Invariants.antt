@@ -1,7 +1,5 @@
-use Rattle.std.proofs.Common.{◌≤◌, take}
-use Rattle.lucid_session.specs.Runs.{told}
-use Rattle.lucid_top.specs.Lines.{line_of}
-use Rattle.lucid_top.specs.Telling.{WritesWhole}
+use Rattle.lucid_top.proofs.Common.{◌≤◌, told, line_of, WritesWhole}
+use Rattle.std.proofs.Common.{take}
 use Rattle.lucid_top.proofs.report.write_line.Given as goal
 
 abbrev pub invariant-loop-part : goal.invariant-loop-part

@@ -1,13 +1,7 @@
-use Rattle.std.proofs.Common.{◌≡◌, ◌<◌, ◌⊎◌, Ok, Err, refl, sym, subst, length}
-use Rattle.std.proofs.lemmas.Result.{err_from_is_err_and}
-use Rattle.lucid_tree.specs.Members.{In}
+use Rattle.lucid_top.proofs.Common.{◌≡◌, ◌<◌, ◌⊎◌, Ok, Err, refl, sym, subst, length, err_from_is_err_and, In, table_of, plain_words, told, OnTooLarge, viewed, table_program}
 use Rattle.lucid_inputs.specs.Inputs.{streams, most_bytes}
 use Rattle.lucid_facts.specs.Engine.{places_of}
-use Rattle.lucid_equations.specs.Programs.{table_of}
-use Rattle.lucid_words.specs.Asked.{plain_words}
 use Rattle.lucid_retire.specs.Policies.{keeps_all, empties_all, most_held}
-use Rattle.lucid_session.specs.Runs.{told, OnTooLarge}
-use Rattle.lucid_top.specs.Runs.{viewed, table_program}
 use Rattle.lucid_top.proofs.Asking.{askable, places_are}
 use Rattle.lucid_top.proofs.Begun.{no_memory, same_contents}
 use Rattle.lucid_top.proofs.Carrying.{seen_same, stopped_run}

@@ -1,6 +1,5 @@
-use Rattle.std.proofs.Common.{◌≡◌, nat_eq, length, true, false, sym, ap, ◌∙◌}
-use Rattle.lucid_equations.specs.Programs.{table_of}
-use Rattle.lucid_words.specs.Asked.{plain_words}
+use Rattle.lucid_top.proofs.Common.{◌≡◌, length, true, false, sym, ap, ◌∙◌, table_of, plain_words}
+use Rattle.std.proofs.Common.{nat_eq}
 use Rattle.lucid_top.proofs.Carrying.{root_lines, root_figures, spaces_lines, spaces_figures}
 use Rattle.lucid_top.proofs.running.run_streams.Goals as goal
 

@@ -1,14 +1,5 @@
-use Rattle.std.proofs.Common.{◌+◌, subst}
-use Rattle.std.specs.Prelude.{IfOk}
-use Rattle.std.proofs.lemmas.Result.{IfErr-weaker, err_from_is_err_and}
-use Rattle.lucid_words.specs.Plain.{plain_source}
-use Rattle.lucid_words.specs.Asked.{plain_words}
-use Rattle.lucid_scope.specs.Scoped.{scoped_tree, scoped_inputs}
-use Rattle.lucid_top.specs.Places.{IsAcceptedBeside, IsColumnsStop}
-use Rattle.lucid_top.specs.Judged.{RefusesBeside}
-use Rattle.lucid_top.specs.Refusals.{IsRefusalOf}
+use Rattle.lucid_top.proofs.Common.{◌+◌, subst, IfOk, IfErr-weaker, err_from_is_err_and, plain_source, plain_words, scoped_tree, scoped_inputs, IsAcceptedBeside, IsColumnsStop, RefusesBeside, IsRefusalOf, most_source_bytes}
 use Rattle.lucid_top.proofs.Ending.{all_accepted_beside, beside_stop, source_columns_stop}
-use Rattle.lucid_scan.specs.Refusals.{most_source_bytes}
 use Rattle.lucid_top.proofs.Doing.{has_read, has_stopped}
 use Rattle.lucid_top.proofs.top.columns_of.Goals as goal
 

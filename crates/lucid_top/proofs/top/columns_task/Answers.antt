@@ -1,18 +1,6 @@
-use Rattle.std.proofs.Common.{◌+◌, Some, refl, sym, ap, subst, ◌∙◌, length, arith}
-use Rattle.std.proofs.lemmas.Result.{err_from_is_err_and}
-use Rattle.lucid_tree.specs.WellMade.{IsWellMade}
-use Rattle.lucid_equations.specs.Programs.{table_of}
-use Rattle.lucid_equations.specs.Rows.{equations_of}
-use Rattle.lucid_compile.specs.Promise.{KeepsTree}
-use Rattle.lucid_scan.specs.Refusals.{most_source_bytes}
-use Rattle.lucid_scope.specs.Scoped.{scoped_tree, scoped_inputs, scoped_binding}
-use Rattle.lucid_words.specs.Asked.{plain_words}
-use Rattle.lucid_session.specs.Runs.{told}
+use Rattle.lucid_top.proofs.Common.{◌+◌, Some, refl, sym, ap, subst, ◌∙◌, length, arith, err_from_is_err_and, IsWellMade, table_of, equations_of, KeepsTree, most_source_bytes, scoped_tree, scoped_inputs, scoped_binding, plain_words, told, Call, beside, RanSo, by_columns}
 use Rattle.lucid_top.specs.declared.task.Task.TheVariants as task
-use Rattle.lucid_top.specs.Call.{Call, call}
-use Rattle.lucid_top.specs.Programs.{beside}
-use Rattle.lucid_top.specs.Runs.{RanSo}
-use Rattle.lucid_top.specs.Stages.{by_columns}
+use Rattle.lucid_top.specs.Call.{call}
 use Rattle.lucid_top.proofs.Ending.{Begins, of_text, within_text, columns_stops, inputs_of, columns_of, first_place_le}
 use Rattle.lucid_top.proofs.Doing.{stops, memory_does, run_does}
 use Rattle.lucid_top.proofs.Carrying.{runs_columns, spaces_of_table}

@@ -1,13 +1,8 @@
-use Rattle.std.proofs.Common.{◌≡◌, Some, refl, inr}
-use Rattle.std.proofs.lemmas.Result.{err_from_is_err_and}
-use Rattle.lucid_scope.specs.Scoped.{scoped_tree, scoped_inputs, scoped_binding}
-use Rattle.lucid_words.specs.Asked.{plain_words}
+use Rattle.lucid_top.proofs.Common.{◌≡◌, Some, refl, inr, err_from_is_err_and, scoped_tree, scoped_inputs, scoped_binding, plain_words, told, Call, judges, IsTextFor}
 use Rattle.lucid_cycles.specs.JudgmentLine.{judgment_line}
-use Rattle.lucid_session.specs.Runs.{told}
 use Rattle.lucid_top.specs.declared.stop.Stop.TheVariants as stop
 use Rattle.lucid_top.specs.declared.task.Task.TheVariants as task
-use Rattle.lucid_top.specs.Call.{Call, call}
-use Rattle.lucid_top.specs.Stages.{judges, IsTextFor}
+use Rattle.lucid_top.specs.Call.{call}
 use Rattle.lucid_top.proofs.Counting.{none_at_ok}
 use Rattle.lucid_top.proofs.Ending.{Begins, of_text, within_text, cycles_not_print, judging_stops, inputs_of, names_of, as_text}
 use Rattle.lucid_top.proofs.Doing.{reads_for, program_does, writing_does}

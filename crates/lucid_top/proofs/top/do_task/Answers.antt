@@ -1,11 +1,5 @@
-use Rattle.std.proofs.Common.{◌≡◌, map, false, inr, refl, sym, ap, subst, ◌∙◌}
-use Rattle.std.proofs.lemmas.Result.{err_from_is_err_and}
-use Rattle.std.specs.String.{string_bytes}
-use Rattle.lucid_words.specs.Asked.{plain_words, words_asked}
-use Rattle.lucid_session.specs.Runs.{told}
-use Rattle.lucid_top.specs.Call.{Call, call}
-use Rattle.lucid_top.specs.Tasks.{task_of, form_of, is_built}
-use Rattle.lucid_top.specs.Coming.{MayBegin}
+use Rattle.lucid_top.proofs.Common.{◌≡◌, map, false, inr, refl, sym, ap, subst, ◌∙◌, err_from_is_err_and, string_bytes, plain_words, words_asked, told, Call, task_of, form_of, is_built, MayBegin}
+use Rattle.lucid_top.specs.Call.{call}
 use Rattle.lucid_top.proofs.Ending.{words_stops, not_built_stops, other_is_not}
 use Rattle.lucid_top.proofs.Doing.{may_begin, none_read}
 use Rattle.lucid_top.proofs.top.do_task.Goals as goal

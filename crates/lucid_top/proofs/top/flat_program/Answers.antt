@@ -1,12 +1,5 @@
-use Rattle.std.proofs.Common.{◌+◌, List, ℕ, subst}
-use Rattle.std.proofs.lemmas.Result.{IfOk-weaker, IfErr-weaker, err_from_is_err_and}
-use Rattle.lucid_equations.specs.Programs.{table_of}
-use Rattle.lucid_words.specs.Plain.{plain_source}
-use Rattle.lucid_top.specs.Refusals.{IsRefusalOf}
-use Rattle.lucid_top.specs.Flat.{SpellsTable, RefusesFlat}
-use Rattle.lucid_top.specs.Places.{FlatBySource, IsSourceStop}
+use Rattle.lucid_top.proofs.Common.{◌+◌, List, ℕ, subst, IfOk-weaker, IfErr-weaker, err_from_is_err_and, table_of, plain_source, IsRefusalOf, SpellsTable, RefusesFlat, FlatBySource, IsSourceStop, most_flat_bytes}
 use Rattle.lucid_top.proofs.Sources.{flat_by, flat_stop, read_stops}
-use Rattle.lucid_top.specs.Flat.{most_flat_bytes}
 use Rattle.lucid_top.proofs.Doing.{has_read, has_stopped}
 use Rattle.lucid_top.proofs.top.flat_program.Goals as goal
 

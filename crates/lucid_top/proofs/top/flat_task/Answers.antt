@@ -1,11 +1,6 @@
-use Rattle.std.proofs.Common.{Some, refl, arith}
-use Rattle.std.proofs.lemmas.Result.{err_from_is_err_and}
-use Rattle.lucid_scope.specs.Scoped.{scoped_tree, scoped_inputs, scoped_binding}
-use Rattle.lucid_words.specs.Asked.{plain_words}
-use Rattle.lucid_session.specs.Runs.{told}
+use Rattle.lucid_top.proofs.Common.{Some, refl, arith, err_from_is_err_and, scoped_tree, scoped_inputs, scoped_binding, plain_words, told, Call, flattens}
 use Rattle.lucid_top.specs.declared.task.Task.TheVariants as task
-use Rattle.lucid_top.specs.Call.{Call, call}
-use Rattle.lucid_top.specs.Stages.{flattens}
+use Rattle.lucid_top.specs.Call.{call}
 use Rattle.lucid_top.proofs.Ending.{Begins, of_text, flat_not_print, inputs_of, names_of}
 use Rattle.lucid_top.proofs.Doing.{program_does, writing_does}
 use Rattle.lucid_top.proofs.top.flat_task.Goals as goal

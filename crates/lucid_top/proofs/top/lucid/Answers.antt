@@ -1,8 +1,5 @@
-use Rattle.std.proofs.Common.{map}
-use Rattle.std.specs.String.{string_bytes}
-use Rattle.lucid_words.specs.Asked.{words_asked}
+use Rattle.lucid_top.proofs.Common.{map, string_bytes, words_asked, told}
 use Rattle.lucid_top.specs.Call.{call}
-use Rattle.lucid_session.specs.Runs.{told}
 use Rattle.lucid_top.proofs.OneCall.{OneVerdict}
 use Rattle.lucid_top.proofs.Meeting.{meets}
 use Rattle.lucid_top.proofs.top.lucid.Goals as goal

@@ -1,10 +1,6 @@
-use Rattle.std.proofs.Common.{Some, refl}
-use Rattle.std.proofs.lemmas.Result.{err_from_is_err_and}
-use Rattle.lucid_words.specs.Asked.{plain_words}
-use Rattle.lucid_session.specs.Runs.{told}
+use Rattle.lucid_top.proofs.Common.{Some, refl, err_from_is_err_and, plain_words, told, Call, prints}
 use Rattle.lucid_top.specs.declared.task.Task.TheVariants as task
-use Rattle.lucid_top.specs.Call.{Call, call}
-use Rattle.lucid_top.specs.Stages.{prints}
+use Rattle.lucid_top.specs.Call.{call}
 use Rattle.lucid_top.proofs.Ending.{Begins, of_text, within_text, source_stops, tree_of}
 use Rattle.lucid_top.proofs.Doing.{stops, writing_does}
 use Rattle.lucid_top.proofs.top.print_task.Goals as goal

@@ -1,11 +1,5 @@
-use Rattle.std.proofs.lemmas.Result.{IfErr-weaker, err_from_is_err_and}
-use Rattle.lucid_words.specs.Plain.{plain_source}
-use Rattle.lucid_top.specs.Places.{IsProgramStop}
-use Rattle.lucid_top.specs.Judged.{RefusesNames}
-use Rattle.lucid_top.specs.Refusals.{IsRefusalOf}
+use Rattle.lucid_top.proofs.Common.{IfErr-weaker, err_from_is_err_and, plain_source, IsProgramStop, RefusesNames, IsRefusalOf, ◌+◌, most_source_bytes}
 use Rattle.lucid_top.proofs.Ending.{all_accepted, names_stop, source_stop}
-use Rattle.std.proofs.Common.{◌+◌}
-use Rattle.lucid_scan.specs.Refusals.{most_source_bytes}
 use Rattle.lucid_top.proofs.Doing.{has_read, has_stopped}
 use Rattle.lucid_top.proofs.top.program_of.Goals as goal
 

@@ -1,17 +1,5 @@
-use Rattle.std.proofs.Common.{◌≡◌, ◌≢◌, length, map, Some, refl, sym, ap, subst, ◌∙◌, arith}
-use Rattle.std.specs.Prelude.{AllPairs}
-use Rattle.std.proofs.lemmas.List.FromFn.{length-range_with_len}
-use Rattle.std.proofs.lemmas.Result.{err_from_is_err_and}
-use Rattle.lucid_equations.specs.Programs.{table_of}
-use Rattle.lucid_words.specs.Plain.{plain_source}
-use Rattle.lucid_words.specs.Asked.{plain_words}
-use Rattle.lucid_top.specs.Call.{Call, call}
-use Rattle.lucid_session.specs.Runs.{told}
-use Rattle.lucid_top.specs.Refusals.{IsRefusalOf}
-use Rattle.lucid_top.specs.Files.{RefusesGiven, FitsGiven, files_for}
-use Rattle.lucid_top.specs.Places.{AreFresh}
-use Rattle.lucid_top.specs.Runs.{viewed, table_program, RanSo}
-use Rattle.lucid_top.specs.Running.{RunComesOnly}
+use Rattle.lucid_top.proofs.Common.{◌≡◌, ◌≢◌, length, map, Some, refl, sym, ap, subst, ◌∙◌, arith, AllPairs, length-range_with_len, err_from_is_err_and, table_of, plain_source, plain_words, Call, told, IsRefusalOf, RefusesGiven, FitsGiven, files_for, AreFresh, viewed, table_program, RanSo, RunComesOnly}
+use Rattle.lucid_top.specs.Call.{call}
 use Rattle.lucid_top.proofs.Ending.{given_stops, reaching_stops}
 use Rattle.lucid_top.proofs.RunEnds.{source_stays, source_run, carried, refs_are, refs_long, files_long, reached_of, range_differs, all_unread, runs}
 use Rattle.lucid_top.specs.declared.stop.Stop.TheVariants as stop

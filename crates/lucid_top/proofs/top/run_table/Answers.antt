@@ -1,12 +1,5 @@
-use Rattle.std.proofs.Common.{◌+◌, Some, refl, ap, subst, ◌∙◌, length, arith}
-use Rattle.std.proofs.lemmas.Result.{err_from_is_err_and}
-use Rattle.lucid_equations.specs.Programs.{table_of}
-use Rattle.lucid_words.specs.Asked.{plain_words}
-use Rattle.lucid_session.specs.Runs.{told}
-use Rattle.lucid_top.specs.Flat.{most_flat_bytes}
-use Rattle.lucid_top.specs.Call.{Call, call}
-use Rattle.lucid_top.specs.Runs.{RanSo}
-use Rattle.lucid_top.specs.Stages.{by_table}
+use Rattle.lucid_top.proofs.Common.{◌+◌, Some, refl, ap, subst, ◌∙◌, length, arith, err_from_is_err_and, table_of, plain_words, told, most_flat_bytes, Call, RanSo, by_table}
+use Rattle.lucid_top.specs.Call.{call}
 use Rattle.lucid_top.proofs.Ending.{Begins, within_flat, flat_stops, flat_of, first_place_le}
 use Rattle.lucid_top.proofs.Doing.{stops, memory_does, run_does}
 use Rattle.lucid_top.proofs.Carrying.{one_table}

@@ -1,13 +1,5 @@
-use Rattle.std.proofs.Common.{◌+◌, Some, refl, sym, ap, subst, ◌∙◌, length, arith}
-use Rattle.std.proofs.lemmas.Result.{err_from_is_err_and}
-use Rattle.lucid_equations.specs.Programs.{table_of}
-use Rattle.lucid_scan.specs.Refusals.{most_source_bytes}
-use Rattle.lucid_scope.specs.Scoped.{scoped_tree, scoped_inputs, scoped_binding}
-use Rattle.lucid_words.specs.Asked.{plain_words}
-use Rattle.lucid_session.specs.Runs.{told}
-use Rattle.lucid_top.specs.Call.{Call, call}
-use Rattle.lucid_top.specs.Runs.{RanSo}
-use Rattle.lucid_top.specs.Stages.{by_tree}
+use Rattle.lucid_top.proofs.Common.{◌+◌, Some, refl, sym, ap, subst, ◌∙◌, length, arith, err_from_is_err_and, table_of, most_source_bytes, scoped_tree, scoped_inputs, scoped_binding, plain_words, told, Call, RanSo, by_tree}
+use Rattle.lucid_top.specs.Call.{call}
 use Rattle.lucid_top.proofs.Ending.{Begins, within_text, run_not_print, inputs_of, names_of, first_place_le}
 use Rattle.lucid_top.proofs.Doing.{program_does, memory_does, run_does}
 use Rattle.lucid_top.proofs.Carrying.{runs_tree, one_table}

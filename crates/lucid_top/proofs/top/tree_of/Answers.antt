@@ -1,11 +1,5 @@
-use Rattle.std.proofs.Common.{◌+◌, List, ℕ, subst}
-use Rattle.std.proofs.lemmas.Result.{IfOk-weaker, IfErr-weaker, err_from_is_err_and}
-use Rattle.lucid_words.specs.Plain.{plain_source}
-use Rattle.lucid_top.specs.Refusals.{IsRefusalOf}
-use Rattle.lucid_top.specs.Judged.{Spelt, RefusesText}
-use Rattle.lucid_top.specs.Places.{SpeltBySource, IsSourceStop}
+use Rattle.lucid_top.proofs.Common.{◌+◌, List, ℕ, subst, IfOk-weaker, IfErr-weaker, err_from_is_err_and, plain_source, IsRefusalOf, Spelt, RefusesText, SpeltBySource, IsSourceStop, most_source_bytes}
 use Rattle.lucid_top.proofs.Sources.{spelt_by, text_stop}
-use Rattle.lucid_scan.specs.Refusals.{most_source_bytes}
 use Rattle.lucid_top.proofs.Doing.{has_read, has_stopped}
 use Rattle.lucid_top.proofs.top.tree_of.Goals as goal
 

@@ -1,6 +1,4 @@
-use Rattle.std.proofs.Common.{◌≡◌, ◌++◌, ap, ◌∙◌}
-use Rattle.lucid_print.specs.Canonical.{canonical}
-use Rattle.lucid_session.specs.Runs.{told}
+use Rattle.lucid_top.proofs.Common.{◌≡◌, ◌++◌, ap, ◌∙◌, canonical, told}
 use Rattle.lucid_top.proofs.Ending.{as_text}
 use Rattle.lucid_top.proofs.writing.print_program.Goals as goal
 

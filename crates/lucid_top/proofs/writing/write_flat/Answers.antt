@@ -1,13 +1,6 @@
-use Rattle.std.proofs.Common.{◌≡◌, ◌++◌, List, ℕ, ap, subst, sym, ◌∙◌}
-use Rattle.lucid_scope.specs.Scoped.{scoped_tree, scoped_inputs, scoped_binding}
-use Rattle.lucid_equations.specs.Programs.{table_of}
-use Rattle.lucid_equations.specs.Sound.{IsSound}
-use Rattle.lucid_equations.specs.declared.table.Table.{Table}
+use Rattle.lucid_top.proofs.Common.{◌≡◌, ◌++◌, List, ℕ, ap, subst, sym, ◌∙◌, scoped_tree, scoped_inputs, scoped_binding, table_of, IsSound, Table, IsTextOf, told, HasInputs, IsFlatForm}
 use Rattle.lucid_flat.specs.FlatText.{flat_text}
-use Rattle.lucid_flat.specs.FlatTables.{HasText, IsTextOf}
-use Rattle.lucid_session.specs.Runs.{told}
-use Rattle.lucid_top.specs.Judged.{HasInputs}
-use Rattle.lucid_top.specs.Texts.{IsFlatForm}
+use Rattle.lucid_flat.specs.FlatTables.{HasText}
 use Rattle.lucid_top.proofs.Ending.{as_text, inputs_of}
 use Rattle.lucid_top.proofs.writing.write_flat.Goals as goal
 

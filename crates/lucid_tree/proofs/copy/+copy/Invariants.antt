@@ -1,7 +1,4 @@
-use Rattle.std.proofs.Common.{◌≡◌, ◌+◌, ◌*◌, ◌≤◌, ◌++◌}
-use Rattle.lucid_tree.specs.Size.{nodes, nodes_in, nodes_in_defs}
-use Rattle.lucid_tree.specs.Lists.{listed}
-use Rattle.lucid_tree.specs.Rights.{rights}
+use Rattle.lucid_tree.proofs.Common.{◌≡◌, ◌+◌, ◌*◌, ◌≤◌, ◌++◌, nodes, nodes_in, nodes_in_defs, listed, rights}
 use Rattle.lucid_tree.proofs.copy.+copy.Given as goal
 
 abbrev pub decreases-copy_onto : goal.decreases-copy_onto

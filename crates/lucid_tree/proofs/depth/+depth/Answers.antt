@@ -1,6 +1,4 @@
-use Rattle.std.proofs.Common.{ap, arith}
-use Rattle.lucid_tree.specs.Size.{nodes}
-use Rattle.lucid_tree.specs.WellMade.{depths, depths_in_defs}
+use Rattle.lucid_tree.proofs.Common.{ap, arith, nodes, depths, depths_in_defs}
 use Rattle.lucid_tree.proofs.Depths.{depth_le-nodes, depths_le-nodes, def_depths_le-nodes}
 use Rattle.lucid_tree.proofs.depth.+depth.Goals as goal
 

@@ -1,6 +1,4 @@
-use Rattle.std.proofs.Common.{◌≡◌, ◌+◌, ◌*◌, ◌≤◌, max}
-use Rattle.lucid_tree.specs.Size.{nodes, nodes_in, nodes_in_defs}
-use Rattle.lucid_tree.specs.WellMade.{depths, depths_in_defs}
+use Rattle.lucid_tree.proofs.Common.{◌≡◌, ◌+◌, ◌*◌, ◌≤◌, max, nodes, nodes_in, nodes_in_defs, depths, depths_in_defs}
 use Rattle.lucid_tree.proofs.depth.+depth.Given as goal
 
 abbrev pub decreases-depth_of : goal.decreases-depth_of

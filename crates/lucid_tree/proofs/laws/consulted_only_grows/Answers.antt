@@ -1,4 +1,4 @@
-use Rattle.std.proofs.Common.{add-one}
+use Rattle.lucid_tree.proofs.Common.{add-one}
 use Rattle.lucid_tree.proofs.Walks.{consults-up, consults-wider}
 use Rattle.lucid_tree.proofs.laws.consulted_only_grows.Goals as goal
 

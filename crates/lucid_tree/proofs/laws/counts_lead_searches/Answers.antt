@@ -1,4 +1,4 @@
-use Rattle.lucid_tree.specs.Rests.{Reads}
+use Rattle.lucid_tree.proofs.Common.{Reads}
 use Rattle.lucid_tree.proofs.SearchesLead.{count-keeps, counted_truth, rest_at_start, search_leads}
 use Rattle.lucid_tree.proofs.laws.counts_lead_searches.Goals as goal
 

@@ -1,6 +1,4 @@
-use Rattle.std.proofs.Common.{[], ◌∷◌, refl, subst, sym, inl, inr}
-use Rattle.lucid_tree.specs.Members.{In}
-use Rattle.lucid_tree.specs.Rows.{Look}
+use Rattle.lucid_tree.proofs.Common.{[], ◌∷◌, refl, subst, sym, inl, inr, In, Look}
 use Rattle.lucid_tree.specs.PlanLaws.{point_of}
 use Rattle.lucid_tree.proofs.RestsTraced.{next_taken, next_seen, next_seen_on, seen_on_the_way}
 use Rattle.lucid_tree.proofs.laws.next_looks_are_traced.Goals as goal

@@ -1,4 +1,4 @@
-use Rattle.lucid_tree.specs.Rests.{ReadsAtSome}
+use Rattle.lucid_tree.proofs.Common.{ReadsAtSome}
 use Rattle.lucid_tree.proofs.RestsDefined.{rest_defined, next_defined, nothing_undefined}
 use Rattle.lucid_tree.proofs.laws.rests_are_defined.Goals as goal
 

@@ -1,4 +1,4 @@
-use Rattle.lucid_tree.specs.Rests.{Reads}
+use Rattle.lucid_tree.proofs.Common.{Reads}
 use Rattle.lucid_tree.proofs.Ways.{leads-maps, leads-join, one_reader_for_all}
 use Rattle.lucid_tree.proofs.laws.ways_go_over_and_join.Goals as goal
 

@@ -1,6 +1,4 @@
-use Rattle.std.proofs.Common.{◌≡◌}
-use Rattle.std.specs.Vec.Iter.{into_iter_items}
-use Rattle.lucid_tree.specs.Rights.{rights}
+use Rattle.lucid_tree.proofs.Common.{◌≡◌, rights, into_iter_items}
 use Rattle.lucid_tree.proofs.Rebuilt.{before}
 use Rattle.lucid_tree.proofs.rebuild.copy_defs.Given as goal
 

@@ -1,4 +1,4 @@
-use Rattle.std.proofs.Common.{◌≡◌, take}
+use Rattle.lucid_tree.proofs.Common.{◌≡◌, take}
 use Rattle.lucid_tree.proofs.rebuild.copy_names.Given as goal
 
 abbrev pub invariant-loop-name : goal.invariant-loop-name

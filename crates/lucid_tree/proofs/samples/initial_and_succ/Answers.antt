@@ -1,4 +1,4 @@
-use Rattle.std.proofs.Common.{refl}
+use Rattle.lucid_tree.proofs.Common.{refl}
 use Rattle.lucid_tree.proofs.samples.initial_and_succ.Goals as goal
 
 pub returns : goal.returns

@@ -1,4 +1,4 @@
-use Rattle.std.proofs.Common.{refl}
+use Rattle.lucid_tree.proofs.Common.{refl}
 use Rattle.lucid_tree.proofs.samples.what_is_not_looked_at.Goals as goal
 
 pub returns : goal.returns

@@ -1,7 +1,6 @@
-use Rattle.std.proofs.Common.{◌≡◌, length, ap, ◌∙◌, sym}
+use Rattle.lucid_tree.proofs.Common.{◌≡◌, length, ap, ◌∙◌, sym, count}
 use Rattle.lucid_tree.specs.declared.shape.Head.TheVariants.{Apply}
 use Rattle.lucid_tree.specs.declared.shape.Shape.TheVariants.{Form}
-use Rattle.lucid_tree.specs.Size.{count}
 use Rattle.lucid_tree.proofs.shape.apply.Goals as goal
 use Rattle.lucid_tree.proofs.Counts.{count_listed}
 

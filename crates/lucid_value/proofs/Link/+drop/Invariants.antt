@@ -1,4 +1,4 @@
-use Rattle.std.proofs.Common.{◌≤◌}
+use Rattle.lucid_value.proofs.Common.{◌≤◌}
 use Rattle.lucid_value.specs.declared.List.TheDeep.{deep-Link}
 use Rattle.lucid_value.proofs.Link.+drop.Given as goal
 

@@ -1,4 +1,5 @@
-use Rattle.std.proofs.Common.{◌≡◌, slice_get}
+use Rattle.lucid_value.proofs.Common.{◌≡◌}
+use Rattle.std.proofs.Common.{slice_get}
 use Rattle.lucid_value.specs.Plain.{listed}
 use Rattle.lucid_value.proofs.List.item.Given as goal
 

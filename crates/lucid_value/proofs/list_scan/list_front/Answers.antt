@@ -1,5 +1,4 @@
-use Rattle.std.proofs.Common.{sym, subst}
-use Rattle.lucid_value.specs.ListScan.{IsScanned}
+use Rattle.lucid_value.proofs.Common.{sym, subst, IsScanned}
 use Rattle.lucid_value.proofs.Fronts.{front_none, front_unopened}
 use Rattle.lucid_value.proofs.list_scan.list_front.Goals as goal
 

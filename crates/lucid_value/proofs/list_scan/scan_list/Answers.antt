@@ -1,5 +1,4 @@
-use Rattle.std.proofs.Common.{sym, ◌∙◌}
-use Rattle.lucid_value.specs.ListScan.{state_of}
+use Rattle.lucid_value.proofs.Common.{sym, ◌∙◌, state_of}
 use Rattle.lucid_value.proofs.Fronts.{scan_refused, scan_more, scan_whole}
 use Rattle.lucid_value.proofs.list_scan.scan_list.Goals as goal
 

@@ -1,5 +1,4 @@
-use Rattle.std.proofs.Common.{◌≡◌, Some, false, take}
-use Rattle.lucid_value.specs.ListScan.{start, runs, state_of, is_done}
+use Rattle.lucid_value.proofs.Common.{◌≡◌, Some, false, take, start, runs, state_of, is_done}
 use Rattle.lucid_value.proofs.list_scan.scan_list.Given as goal
 
 abbrev pub invariant-loop-i : goal.invariant-loop-i

@@ -1,6 +1,5 @@
-use Rattle.std.proofs.Common.{◌≡◌, ◌+◌}
-use Rattle.lucid_value.specs.Plain.{no_items, weights}
-use Rattle.lucid_value.specs.ListScan.{turned}
+use Rattle.lucid_value.proofs.Common.{◌≡◌, no_items, weights, turned}
+use Rattle.std.proofs.Common.{◌+◌}
 use Rattle.lucid_value.proofs.list_scan.turn.Given as goal
 
 abbrev pub invariant-loop-rest : goal.invariant-loop-rest

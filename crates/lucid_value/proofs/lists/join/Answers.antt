@@ -1,8 +1,4 @@
-use Rattle.std.proofs.Common.{◌≡◌, ◌∙◌, ap, sym, arith, map}
-use Rattle.std.proofs.lemmas.Bool.{and_parts}
-use Rattle.lucid_value.specs.Plain.{Items, item, weights, nestings, may_be_held, well_formed, all_well_formed}
-use Rattle.lucid_value.specs.View.{plain}
-use Rattle.lucid_value.specs.Lists.{onto, joined}
+use Rattle.lucid_value.proofs.Common.{◌≡◌, ◌∙◌, ap, sym, arith, map, and_parts, Items, item, weights, nestings, may_be_held, well_formed, all_well_formed, plain, onto, joined}
 use Rattle.lucid_value.proofs.Joined.{taken, onto_joined, onto_light, onto_flat, onto_formed, weights_joined, nestings_joined, formed_joined}
 use Rattle.lucid_value.specs.contracts.List.{the_view}
 use Rattle.lucid_value.proofs.lists.join.Goals as goal

@@ -1,7 +1,5 @@
-use Rattle.std.proofs.Common.{◌≡◌, ◌+◌, ◌≤◌, map, vec_len, IsTrue}
-use Rattle.lucid_value.specs.Plain.{weights, nestings, all_well_formed}
-use Rattle.lucid_value.specs.View.{plain}
-use Rattle.lucid_value.specs.Lists.{joined, onto}
+use Rattle.lucid_value.proofs.Common.{◌≡◌, ◌≤◌, map, IsTrue, weights, nestings, all_well_formed, plain, joined, onto, vec_len}
+use Rattle.std.proofs.Common.{◌+◌}
 use Rattle.lucid_value.proofs.lists.join.Given as goal
 
 abbrev pub invariant-loop-item : goal.invariant-loop-item

@@ -1,8 +1,4 @@
-use Rattle.std.proofs.Common.{◌≡◌, ◌∙◌, ap, map, arith}
-use Rattle.std.proofs.lemmas.Grind.{common_steps}
-use Rattle.lucid_value.specs.Plain.{Items, item}
-use Rattle.lucid_value.specs.View.{plain}
-use Rattle.lucid_value.specs.Lists.{onto}
+use Rattle.lucid_value.proofs.Common.{◌≡◌, ◌∙◌, ap, map, arith, Items, item, plain, onto, common_steps}
 use Rattle.lucid_value.proofs.Joined.{taken}
 use Rattle.lucid_value.proofs.lists.places.Goals as goal
 

@@ -1,6 +1,4 @@
-use Rattle.std.proofs.Common.{◌≡◌, map}
-use Rattle.lucid_value.specs.View.{plain}
-use Rattle.lucid_value.specs.Lists.{onto}
+use Rattle.lucid_value.proofs.Common.{◌≡◌, map, plain, onto}
 use Rattle.lucid_value.proofs.lists.places.Given as goal
 
 abbrev pub invariant-loop-rest : goal.invariant-loop-rest

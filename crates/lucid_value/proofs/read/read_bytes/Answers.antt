@@ -1,5 +1,4 @@
-use Rattle.std.proofs.Common.{sym, subst}
-use Rattle.lucid_value.specs.ListScan.{IsScanned}
+use Rattle.lucid_value.proofs.Common.{sym, subst, IsScanned}
 use Rattle.lucid_value.proofs.Readings.{list_longer}
 use Rattle.lucid_value.proofs.read.read_bytes.Goals as goal
 

@@ -1,5 +1,4 @@
-use Rattle.std.proofs.Common.{subst}
-use Rattle.lucid_value.specs.Trimming.{IsRead}
+use Rattle.lucid_value.proofs.Common.{subst, IsRead}
 use Rattle.lucid_value.proofs.Trimmed.{trimmed_unread}
 use Rattle.lucid_value.proofs.read.read_value.Goals as goal
 

@@ -1,5 +1,5 @@
-use Rattle.std.proofs.Common.{◌≡◌, length, reverse}
-use Rattle.lucid_value.specs.Trimming.{after_blanks}
+use Rattle.lucid_value.proofs.Common.{◌≡◌, reverse, after_blanks}
+use Rattle.std.proofs.Common.{length}
 use Rattle.lucid_value.proofs.read.trim_end.Given as goal
 
 abbrev pub invariant-loop-last : goal.invariant-loop-last

@@ -1,5 +1,5 @@
-use Rattle.std.proofs.Common.{◌≡◌, length}
-use Rattle.lucid_value.specs.Trimming.{after_blanks}
+use Rattle.lucid_value.proofs.Common.{◌≡◌, after_blanks}
+use Rattle.std.proofs.Common.{length}
 use Rattle.lucid_value.proofs.read.trim_start.Given as goal
 
 abbrev pub invariant-loop-first : goal.invariant-loop-first

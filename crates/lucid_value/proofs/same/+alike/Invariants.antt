@@ -1,5 +1,4 @@
-use Rattle.std.proofs.Common.{◌≡◌, ◌≤◌}
-use Rattle.lucid_value.specs.View.{size_items}
+use Rattle.lucid_value.proofs.Common.{◌≡◌, ◌≤◌, size_items}
 use Rattle.lucid_value.specs.Equality.{same_items}
 use Rattle.lucid_value.proofs.same.+alike.Given as goal
 

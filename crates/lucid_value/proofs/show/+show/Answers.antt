@@ -1,4 +1,4 @@
-use Rattle.std.proofs.lemmas.Result.{err_from_is_err_and}
+use Rattle.lucid_value.proofs.Common.{err_from_is_err_and}
 use Rattle.lucid_value.proofs.Kept.{kept_more, kept_through}
 use Rattle.lucid_value.proofs.show.+show.Goals as goal
 

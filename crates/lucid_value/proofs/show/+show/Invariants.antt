@@ -1,6 +1,5 @@
-use Rattle.std.proofs.Common.{◌≡◌, ◌≤◌, ◌++◌, ◌∷◌, length, take}
-use Rattle.lucid_value.specs.View.{size_items}
-use Rattle.lucid_value.specs.ValueText.{items_text}
+use Rattle.lucid_value.proofs.Common.{◌≡◌, ◌≤◌, ◌++◌, ◌∷◌, take, size_items, items_text}
+use Rattle.std.proofs.Common.{length}
 use Rattle.lucid_value.proofs.show.+show.Given as goal
 
 abbrev pub decreases-put : goal.decreases-put

@@ -1,4 +1,4 @@
-use Rattle.std.proofs.Common.{arith}
+use Rattle.lucid_why.proofs.Common.{arith}
 use Rattle.lucid_why.proofs.TextMade.{lines_more, fits_more}
 use Rattle.lucid_why.proofs.put.put_lines.Goals as goal
 

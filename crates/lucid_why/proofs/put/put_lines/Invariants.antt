@@ -1,7 +1,4 @@
-use Rattle.std.proofs.Common.{◌≡◌, ◌++◌, map, take}
-use Rattle.std.specs.List.{AllByRecursion, flat_map}
-use Rattle.lucid_why.specs.WhyTexts.{MayShow, RowFits}
-use Rattle.lucid_why.specs.LinesRead.{line_of}
+use Rattle.lucid_why.proofs.Common.{◌≡◌, ◌++◌, map, take, AllByRecursion, flat_map, MayShow, RowFits, line_of}
 use Rattle.lucid_why.proofs.put.put_lines.Given as goal
 
 abbrev pub invariant-loop-row : goal.invariant-loop-row

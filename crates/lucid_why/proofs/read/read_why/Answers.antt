@@ -1,10 +1,5 @@
-use Rattle.std.proofs.Common.{◌≡◌, ℕ, List, map, sym, subst}
-use Rattle.std.proofs.lemmas.Option.{MatchOption-at_none}
-use Rattle.lucid_texts.specs.TextLines.{text_of}
-use Rattle.lucid_why.specs.Certificates.{PlainJudgment, plain_judgment}
-use Rattle.lucid_why.specs.WhyTexts.{AreWhyLines, IsTextOf, IsFirstWrongLine}
-use Rattle.lucid_why.specs.LinesRead.{why_of, lines_in, AllFit}
-use Rattle.lucid_why.specs.declared.rows.ContextRow.{ContextRow}
+use Rattle.lucid_why.proofs.Common.{◌≡◌, ℕ, List, map, sym, subst, text_of, PlainJudgment, plain_judgment, AreWhyLines, IsTextOf, why_of, lines_in, AllFit, ContextRow, MatchOption-at_none}
+use Rattle.lucid_why.specs.WhyTexts.{IsFirstWrongLine}
 use Rattle.lucid_why.proofs.OneText.{none_goes_on, text_is}
 use Rattle.lucid_why.proofs.read.read_why.Goals as goal
 

@@ -1,11 +1,5 @@
-use Rattle.std.proofs.Common.{ℕ, List, Option, Some, sym, ap, ◌∙◌, subst, arith}
+use Rattle.lucid_why.proofs.Common.{ℕ, List, Option, Some, sym, ap, ◌∙◌, subst, arith, option_copied, plain, Value, words_left, IsValueOf, IsTailOf}
 use denote.Ref.{Bor}
-use Rattle.std.specs.Option.{option_copied}
-use Rattle.lucid_value.specs.View.{plain}
-use Rattle.lucid_value.specs.declared.Value.{Value}
-use Rattle.lucid_texts.specs.Words.{words_left}
-use Rattle.lucid_texts.specs.ValueLines.{IsValueOf}
-use Rattle.lucid_why.specs.RowLines.{IsTailOf}
 use Rattle.lucid_why.proofs.RowsTaken.{none_taken, one_taken, few_more, all_taken}
 use Rattle.lucid_why.proofs.RowLemmas.{judgment_by, no_front, no_uses, no_words, no_value, tail_is}
 use Rattle.lucid_why.proofs.read_rows.read_judgment.Goals as goal

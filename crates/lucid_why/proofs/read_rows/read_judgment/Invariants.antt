@@ -1,7 +1,4 @@
-use Rattle.std.proofs.Common.{◌≡◌, ◌-◌, ◌≤◌, length}
-use Rattle.std.specs.Option.{option_copied}
-use Rattle.lucid_texts.specs.Words.{words_left}
-use Rattle.lucid_why.specs.WordsRead.{take_uses}
+use Rattle.lucid_why.proofs.Common.{◌≡◌, ◌-◌, ◌≤◌, length, option_copied, words_left, take_uses}
 use Rattle.lucid_why.proofs.RowsTaken.{with_front}
 use Rattle.lucid_why.proofs.read_rows.read_judgment.Given as goal
 

@@ -1,7 +1,4 @@
-use Rattle.std.proofs.Common.{Option, sym, ap, ◌∙◌, subst}
-use Rattle.std.specs.Str.{bytes_eq}
-use Rattle.lucid_why.specs.WhyText.{WhyRow}
-use Rattle.lucid_why.specs.RowLines.{IsRowOf}
+use Rattle.lucid_why.proofs.Common.{Option, sym, ap, ◌∙◌, subst, bytes_eq, WhyRow, IsRowOf}
 use Rattle.lucid_why.proofs.RowLemmas.{no_blank, context_is_row}
 use Rattle.lucid_why.proofs.read_rows.read_row.Goals as goal
 

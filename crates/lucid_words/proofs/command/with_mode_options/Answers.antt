@@ -1,5 +1,4 @@
-use Rattle.std.proofs.Common.{refl}
-use Rattle.std.proofs.lemmas.Result.{IfOk-weaker}
+use Rattle.lucid_words.proofs.Common.{refl, IfOk-weaker}
 use Rattle.lucid_words.proofs.Adds.{adds}
 use Rattle.lucid_words.proofs.command.with_mode_options.Goals as goal
 

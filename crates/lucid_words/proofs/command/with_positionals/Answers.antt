@@ -1,5 +1,4 @@
-use Rattle.std.proofs.Common.{refl, rules}
-use Rattle.std.proofs.lemmas.Result.{IfOk-weaker}
+use Rattle.lucid_words.proofs.Common.{refl, rules, IfOk-weaker}
 use Rattle.lucid_words.proofs.Adds.{adds}
 use Rattle.lucid_words.proofs.command.with_positionals.Goals as goal
 

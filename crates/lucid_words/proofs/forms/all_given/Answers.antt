@@ -1,9 +1,4 @@
-use Rattle.std.proofs.Common.{◌≡◌, ◌++◌, ◌∷◌, [], map, rules, ap, ◌∙◌}
-use Rattle.std.proofs.lemmas.Result.{err_from_is_err_and}
-use Rattle.std.proofs.lemmas.List.{map_push}
-use Rattle.std.proofs.lemmas.Option.{cond_some}
-use Rattle.lucid_words.specs.Forms.{is_given, parts_of}
-use Rattle.lucid_words.specs.Plain.{plain_given}
+use Rattle.lucid_words.proofs.Common.{◌≡◌, ◌++◌, ◌∷◌, [], map, rules, ap, ◌∙◌, err_from_is_err_and, is_given, parts_of, plain_given, map_push, cond_some}
 use Rattle.lucid_words.proofs.Each.{one_fails, one_more, fails_where_none}
 use Rattle.lucid_words.proofs.forms.all_given.Goals as goal
 

@@ -1,6 +1,4 @@
-use Rattle.std.proofs.Common.{map, take}
-use Rattle.lucid_words.specs.Forms.{is_given, parts_of}
-use Rattle.lucid_words.specs.Plain.{plain_given}
+use Rattle.lucid_words.proofs.Common.{map, take, is_given, parts_of, plain_given}
 use Rattle.lucid_words.proofs.Each.{EachSoFar}
 use Rattle.lucid_words.proofs.forms.all_given.Given as goal
 

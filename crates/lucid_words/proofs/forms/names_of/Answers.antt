@@ -1,9 +1,7 @@
-use Rattle.std.proofs.Common.{◌≡◌, ap, Err, false}
-use Rattle.std.proofs.lemmas.Result.{err_from_is_err_and}
+use Rattle.lucid_words.proofs.Common.{◌≡◌, ap, Err, false, err_from_is_err_and, is_name}
 use Rattle.lucid_words.specs.declared.WordsRefusal.TheVariants.{Usage}
 use Rattle.lucid_value.specs.declared.bytes.MakeRefusal.{MakeRefusal}
 use Rattle.lucid_value.specs.declared.bytes.MakeRefusal.TheVariants.{NotThat, NoMemory}
-use Rattle.lucid_value.specs.Names.{is_name}
 use Rattle.lucid_words.specs.Refusal.{refusal_for}
 use Rattle.lucid_words.proofs.Each.{one_fails, false_from_not}
 use Rattle.lucid_words.proofs.forms.names_of.Goals as goal

@@ -1,5 +1,4 @@
-use Rattle.std.proofs.Common.{map, take}
-use Rattle.lucid_value.specs.Names.{is_name}
+use Rattle.lucid_words.proofs.Common.{map, take, is_name}
 use Rattle.lucid_words.proofs.Each.{EachSoFar}
 use Rattle.lucid_words.proofs.forms.names_of.Given as goal
 

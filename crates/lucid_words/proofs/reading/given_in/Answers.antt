@@ -1,4 +1,5 @@
-use Rattle.std.proofs.Common.{codes, map, Some, None, refl}
+use Rattle.lucid_words.proofs.Common.{map, Some, None, refl}
+use Rattle.std.proofs.Common.{codes}
 use Rattle.clap.specs.Words.{found_of}
 use Rattle.lucid_words.proofs.Found.{all_is}
 use Rattle.lucid_words.proofs.reading.given_in.Goals as goal

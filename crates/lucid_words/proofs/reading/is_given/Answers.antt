@@ -1,4 +1,4 @@
-use Rattle.std.proofs.Common.{Some, None, refl}
+use Rattle.lucid_words.proofs.Common.{Some, None, refl}
 use Rattle.clap.specs.Words.{found_of}
 use Rattle.lucid_words.proofs.Found.{first_is}
 use Rattle.lucid_words.proofs.reading.is_given.Goals as goal

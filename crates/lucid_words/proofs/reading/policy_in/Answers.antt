@@ -1,5 +1,5 @@
+use Rattle.lucid_words.proofs.Common.{option_map}
 use Rattle.std.proofs.Common.{codes}
-use Rattle.std.specs.Prelude.{option_map}
 use Rattle.clap.specs.Words.{found_of}
 use Rattle.lucid_words.proofs.Found.{first_is}
 use Rattle.lucid_words.proofs.reading.policy_in.Goals as goal

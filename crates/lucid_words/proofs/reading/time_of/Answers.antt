@@ -1,4 +1,4 @@
-use Rattle.std.specs.Str.Parse.{ParsesUnsigned, ExplainsUnsignedError, HasUnsignedDigitsIfOk}
+use Rattle.lucid_words.proofs.Common.{ParsesUnsigned, ExplainsUnsignedError, HasUnsignedDigitsIfOk}
 use Rattle.clap.specs.Words.{found_of}
 use Rattle.lucid_words.proofs.Found.{number_is}
 use Rattle.lucid_words.proofs.reading.time_of.Goals as goal

@@ -1,9 +1,4 @@
-use Rattle.std.proofs.Common.{get_or, ap, arith, length, subst, List, ℕ}
-use Rattle.lucid_tags.specs.Known.{context_of}
-use Rattle.lucid_equations.specs.Programs.{table_of}
-use Rattle.lucid_why.specs.Certificates.{plain_judgment}
-use Rattle.lucid_follow.specs.declared.rest.Rest.{Rest}
-use Rattle.lucid_check.specs.Checks.{judgments_of, contexts_in}
+use Rattle.lucid_check.proofs.Common.{get_or, ap, arith, length, subst, List, ℕ, context_of, table_of, plain_judgment, Rest, judgments_of, contexts_in}
 use Rattle.lucid_check.proofs.Feeding.{FedSoFar, no_look, one_more_fed, one_use_too_many, all_fed}
 use Rattle.lucid_check.proofs.check.Check.fed.Goals as goal
 

@@ -1,7 +1,4 @@
-use Rattle.lucid_tags.specs.Known.{context_of}
-use Rattle.lucid_equations.specs.Programs.{table_of}
-use Rattle.lucid_why.specs.Certificates.{plain_judgment}
-use Rattle.lucid_check.specs.Checks.{judgments_of, contexts_in}
+use Rattle.lucid_check.proofs.Common.{context_of, table_of, plain_judgment, judgments_of, contexts_in}
 use Rattle.lucid_check.proofs.Feeding.{FedSoFar}
 use Rattle.lucid_check.proofs.check.Check.fed.Given as goal
 

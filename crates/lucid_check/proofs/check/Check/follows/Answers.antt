@@ -1,5 +1,4 @@
-use Rattle.std.proofs.Common.{get_or}
-use Rattle.std.specs.Prelude.{Ok}
+use Rattle.lucid_check.proofs.Common.{get_or, Ok}
 use Rattle.lucid_check.proofs.Following.{no_uses, some_uses, is_form, passes, form_no_input, passes_no_input, no_memory_alone, no_answer, same_check, by_form, by_passing, reads_nothing, by_used_input, used_reads_nothing, by_input, reads_its_input}
 use Rattle.lucid_check.proofs.check.Check.follows.Goals as goal
 

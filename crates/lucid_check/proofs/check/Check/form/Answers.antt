@@ -1,5 +1,4 @@
-use Rattle.std.proofs.Common.{Some, arith}
-use Rattle.lucid_follow.proofs.ContextTags.{context_there, is_of_context}
+use Rattle.lucid_check.proofs.Common.{Some, arith, context_there, is_of_context}
 use Rattle.lucid_check.proofs.Using.{by_slice}
 use Rattle.lucid_check.proofs.check.Check.form.Goals as goal
 

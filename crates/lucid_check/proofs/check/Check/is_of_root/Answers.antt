@@ -1,8 +1,4 @@
-use Rattle.std.proofs.Common.{None, Some, get_or, ◌∙◌}
-use Rattle.lucid_equations.specs.Programs.{table_of}
-use Rattle.lucid_why.specs.Certificates.{plain_judgment}
-use Rattle.lucid_follow.proofs.ContextTags.{is_of_context}
-use Rattle.lucid_check.specs.Checks.{judgments_of}
+use Rattle.lucid_check.proofs.Common.{None, Some, get_or, ◌∙◌, table_of, plain_judgment, is_of_context, judgments_of}
 use Rattle.lucid_check.proofs.Using.{item_at, by_slice, root_there, root_nowhere}
 use Rattle.lucid_check.proofs.check.Check.is_of_root.Goals as goal
 

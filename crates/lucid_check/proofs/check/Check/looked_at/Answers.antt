@@ -1,5 +1,4 @@
-use Rattle.lucid_tags.specs.Known.{context_of}
-use Rattle.lucid_check.specs.Checks.{judgments_of, contexts_in}
+use Rattle.lucid_check.proofs.Common.{context_of, judgments_of, contexts_in}
 use Rattle.lucid_check.proofs.Using.{earlier_used, told_used}
 use Rattle.lucid_check.proofs.check.Check.looked_at.Goals as goal
 

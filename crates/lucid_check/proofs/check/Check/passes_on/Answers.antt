@@ -1,8 +1,5 @@
-use Rattle.lucid_value.specs.View.{plain}
-use Rattle.lucid_tags.specs.Known.{context_of}
-use Rattle.lucid_equations.specs.Programs.{table_of}
-use Rattle.lucid_follow.specs.Checking.{contexts_of, going, row_onward}
-use Rattle.lucid_check.specs.Checks.{judgments_of, contexts_in}
+use Rattle.lucid_check.proofs.Common.{plain, context_of, table_of, contexts_of, row_onward, judgments_of, contexts_in}
+use Rattle.lucid_follow.specs.Checking.{going}
 use Rattle.lucid_check.proofs.Using.{still_sound, still_same, passed_by}
 use Rattle.lucid_check.proofs.check.Check.passes_on.Goals as goal
 

@@ -1,6 +1,4 @@
-use Rattle.std.proofs.Common.{sym, get_or}
-use Rattle.lucid_why.specs.Certificates.{plain_judgment}
-use Rattle.lucid_check.specs.Checks.{judgments_of}
+use Rattle.lucid_check.proofs.Common.{sym, get_or, plain_judgment, judgments_of}
 use Rattle.lucid_check.proofs.Using.{item_at, told_there}
 use Rattle.lucid_check.proofs.check.Check.told.Goals as goal
 

@@ -1,14 +1,4 @@
-use Rattle.std.proofs.Common.{None, Some, get_or, sym, ap, ◌∙◌, arith}
-use Rattle.std.specs.Prelude.{option_map}
-use Rattle.std.specs.Borrow.{Bor}
-use Rattle.lucid_value.specs.Plain.{PlainValue}
-use Rattle.lucid_value.specs.View.{plain}
-use Rattle.lucid_value.specs.declared.Value.{Value}
-use Rattle.lucid_tags.specs.Known.{context_of}
-use Rattle.lucid_tags.specs.EqualityDecides.{same_tag_is_equality}
-use Rattle.lucid_why.specs.Certificates.{plain_judgment}
-use Rattle.lucid_follow.proofs.ContextTags.{is_of_context}
-use Rattle.lucid_check.specs.Checks.{judgments_of, contexts_in}
+use Rattle.lucid_check.proofs.Common.{None, Some, get_or, sym, ap, ◌∙◌, arith, option_map, Bor, PlainValue, plain, Value, context_of, same_tag_is_equality, plain_judgment, is_of_context, judgments_of, contexts_in}
 use Rattle.lucid_check.proofs.Using.{item_at, by_slice, used_late, used_without, used_here, used_elsewhere}
 use Rattle.lucid_check.proofs.check.Check.used.Goals as goal
 use Rattle.lucid_check.proofs.check.Check.used.Goals.{else-judgment-at-via-then-judgment-at+then-eq+then-judgment-at-2+else-judgment-space, else-judgment-at-via-then-judgment-at+then-eq+else-judgment-at-2, else-judgment-at-via-then-judgment-at+else-eq, else-judgment-at-via-else-judgment-at}

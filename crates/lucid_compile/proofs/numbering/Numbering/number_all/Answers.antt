@@ -1,9 +1,5 @@
-use Rattle.std.proofs.Common.{◌≡◌, ℕ, length, Option, nat_eq, map, sym, subst, arith}
-use Rattle.std.specs.Map.{lookup}
-use Rattle.lucid_tree.specs.Members.{In, AllDiffer}
-use Rattle.lucid_compile.specs.declared.numbering.Mark.{Mark}
-use Rattle.lucid_compile.specs.Numbered.{key_at, AreMarked}
-use Rattle.lucid_compile.specs.Keys.{KeyLists, key_lists}
+use Rattle.lucid_compile.proofs.Common.{◌≡◌, ℕ, length, Option, nat_eq, map, sym, subst, arith, lookup, In, AllDiffer, Mark, key_at, AreMarked, KeyLists}
+use Rattle.lucid_compile.specs.Keys.{key_lists}
 use Rattle.lucid_compile.proofs.Marking.{front-differs, rest-differs, marks-stay}
 use Rattle.lucid_compile.proofs.numbering.Numbering.number_all.Goals as goal
 

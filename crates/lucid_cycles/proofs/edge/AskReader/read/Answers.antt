@@ -1,8 +1,5 @@
-use Rattle.std.proofs.Common.{◌≡◌, Bool, true, false, [], refl, sym, ap, subst, ◌∙◌}
-use Rattle.std.specs.Prelude.{is_ok, is_some}
-use Rattle.std.specs.Bool.{then_some}
-use Rattle.std.proofs.lemmas.List.Elements.{All-nil, All-cons, All-head}
-use Rattle.lucid_cycles.specs.Walks.{marked, asked}
+use Rattle.lucid_cycles.proofs.Common.{◌≡◌, Bool, true, false, [], refl, sym, ap, subst, ◌∙◌, All-nil, All-cons, All-head, marked, is_ok, is_some, then_some}
+use Rattle.lucid_cycles.specs.Walks.{asked}
 use Rattle.lucid_cycles.specs.Readers.{Answers}
 use Rattle.lucid_cycles.proofs.edge.AskReader.read.Goals as goal
 

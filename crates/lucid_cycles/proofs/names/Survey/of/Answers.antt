@@ -1,5 +1,4 @@
-use Rattle.std.proofs.Common.{refl, rules}
-use Rattle.lucid_scope.specs.Scoped.{scoped_tree, scoped_binding}
+use Rattle.lucid_cycles.proofs.Common.{refl, rules, scoped_tree, scoped_binding}
 use Rattle.lucid_cycles.proofs.Descended.{is-survey}
 use Rattle.lucid_cycles.proofs.names.Survey.of.Goals as goal
 

@@ -1,9 +1,7 @@
-use Rattle.std.proofs.lemmas.Option.{slice_get-get_or}
-use Rattle.std.proofs.Common.{◌≡◌, length, sym, ◌∙◌, arith, rules}
-use Rattle.std.specs.Prelude.{slice_index_or}
+use Rattle.lucid_demand.proofs.Common.{slice_get-get_or, sym, ◌∙◌, arith, rules, slice_index_or, Apply, AskAll}
+use Rattle.std.proofs.Common.{◌≡◌, length}
 use Rattle.lucid_equations.specs.Programs.{table_of}
 use Rattle.lucid_equations.specs.declared.rows.Node.TheVariants as node
-use Rattle.lucid_demand.specs.declared.decide.Decision.TheVariants.{Apply, AskAll}
 use Rattle.lucid_demand.proofs.Deciding.{decides_in}
 use Rattle.lucid_demand.proofs.Applying.{has_argument, asks_all, applies_one, applies_two, applies_three}
 use Rattle.lucid_demand.proofs.decide.Ready.apply.Goals as goal

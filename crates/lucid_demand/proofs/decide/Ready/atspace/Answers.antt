@@ -1,13 +1,8 @@
+use Rattle.lucid_demand.proofs.Common.{plain, sym, ◌∙◌, subst, arith, got_of, Ask, End, Fault, DecidesFor, nat_tests}
 use Rattle.std.specs.Prelude.{option_map}
-use Rattle.lucid_value.specs.View.{plain}
-use Rattle.std.proofs.Common.{sym, ◌∙◌, subst, arith}
-use Rattle.lucid_tasks.specs.Rows.{got_of}
 use Rattle.lucid_equations.specs.declared.rows.Node.TheVariants as node
-use Rattle.lucid_demand.specs.declared.decide.Decision.TheVariants.{Ask, End, Fault}
-use Rattle.lucid_demand.specs.Answers.{DecidesFor}
 use Rattle.lucid_demand.proofs.Answers.{IsTruthOrOther}
 use Rattle.lucid_demand.proofs.Deciding.{decides_for, read}
-use Rattle.std.proofs.lemmas.Bool.Decides.{nat_tests}
 use Rattle.lucid_demand.proofs.Answers.{place_is_read}
 use Rattle.lucid_demand.proofs.DecidingPlaces.{decides_at_tag, atspace_asks, atspace_ends, atspace_fails}
 use Rattle.lucid_demand.proofs.decide.Ready.atspace.Goals as goal

@@ -1,8 +1,5 @@
-use Rattle.std.proofs.Common.{sym, ◌∙◌, subst}
-use Rattle.lucid_tasks.specs.Rows.{got_of}
+use Rattle.lucid_demand.proofs.Common.{sym, ◌∙◌, subst, got_of, Ask, End, Fault, part_or_ask, DecidesFor}
 use Rattle.lucid_equations.specs.declared.rows.Node.TheVariants as node
-use Rattle.lucid_demand.specs.declared.decide.Decision.TheVariants.{Ask, End, Fault}
-use Rattle.lucid_demand.specs.Answers.{part_or_ask, DecidesFor}
 use Rattle.lucid_demand.proofs.Answers.{IsTruthOrOther}
 use Rattle.lucid_demand.proofs.Deciding.{decides_for, read}
 use Rattle.lucid_demand.proofs.DecidingPlaces.{attime_asks, attime_there, attime_ends, attime_fails}

@@ -1,11 +1,7 @@
+use Rattle.lucid_demand.proofs.Common.{sym, ap, ◌∙◌, subst, refl, plain, got_of, Holds, Ask, End, Fault, answer_of, truth_or_ask, DecidesFor}
 use Rattle.std.specs.Prelude.{option_map, false}
-use Rattle.std.proofs.Common.{sym, ap, ◌∙◌, subst, refl}
-use Rattle.lucid_value.specs.View.{plain}
-use Rattle.lucid_tasks.specs.Rows.{got_of}
 use Rattle.lucid_equations.specs.declared.rows.Node.TheVariants as node
-use Rattle.lucid_demand.specs.declared.decide.Answer.TheVariants.{Holds}
-use Rattle.lucid_demand.specs.declared.decide.Decision.TheVariants.{Ask, Truth, End, Fault}
-use Rattle.lucid_demand.specs.Answers.{answer_of, truth_or_ask, DecidesFor}
+use Rattle.lucid_demand.specs.declared.decide.Decision.TheVariants.{Truth}
 use Rattle.lucid_demand.proofs.Answers.{IsPlaceOrOther}
 use Rattle.lucid_demand.proofs.Deciding.{decides_for, read, and_asks, and_right, and_false, and_ends, and_fails}
 use Rattle.lucid_demand.proofs.decide.Ready.both.Goals as goal

@@ -1,9 +1,5 @@
-use Rattle.std.proofs.Common.{sym, ap, ◌∙◌, subst}
-use Rattle.lucid_tasks.specs.Rows.{got_of}
+use Rattle.lucid_demand.proofs.Common.{sym, ap, ◌∙◌, subst, got_of, Holds, Ask, End, Fault, part_or_ask, DecidesFor}
 use Rattle.lucid_equations.specs.declared.rows.Node.TheVariants as node
-use Rattle.lucid_demand.specs.declared.decide.Answer.TheVariants.{Holds}
-use Rattle.lucid_demand.specs.declared.decide.Decision.TheVariants.{Ask, End, Fault}
-use Rattle.lucid_demand.specs.Answers.{part_or_ask, DecidesFor}
 use Rattle.lucid_demand.proofs.Answers.{IsPlaceOrOther}
 use Rattle.lucid_demand.proofs.Deciding.{decides_for, read, if_asks, if_yes, if_no, if_ends, if_fails}
 use Rattle.lucid_demand.proofs.decide.Ready.choose.Goals as goal

@@ -1,7 +1,6 @@
+use Rattle.lucid_demand.proofs.Common.{arith, Refuse, Read}
 use Rattle.std.specs.Prelude.{◌≡◌, ◌<◌}
-use Rattle.std.proofs.Common.{arith}
 use Rattle.lucid_equations.specs.declared.rows.Node.TheVariants as node
-use Rattle.lucid_demand.specs.declared.decide.Decision.TheVariants.{Refuse, Read}
 use Rattle.lucid_demand.proofs.Deciding.{decides_where}
 use Rattle.lucid_demand.proofs.DecidingPlaces.{input_reads, input_refuses}
 use Rattle.lucid_demand.proofs.decide.Ready.read.Goals as goal

@@ -1,4 +1,4 @@
-use Rattle.std.proofs.Common.{sym, ◌∙◌}
+use Rattle.lucid_demand.proofs.Common.{sym, ◌∙◌}
 use Rattle.lucid_equations.specs.declared.rows.Node.TheVariants as node
 use Rattle.lucid_demand.specs.declared.decide.Decision.TheVariants.{Part}
 use Rattle.lucid_demand.proofs.Deciding.{decides_for}

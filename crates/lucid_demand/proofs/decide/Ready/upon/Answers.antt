@@ -1,9 +1,6 @@
+use Rattle.lucid_demand.proofs.Common.{sym, ◌∙◌, subst, arith, got_of, Ask, End, Fault, LookOn, Refuse, part_or_ask, DecidesFor}
 use Rattle.std.specs.Prelude.{◌<◌, ◌≤◌}
-use Rattle.std.proofs.Common.{sym, ◌∙◌, subst, arith}
-use Rattle.lucid_tasks.specs.Rows.{got_of}
 use Rattle.lucid_equations.specs.declared.rows.Node.TheVariants as node
-use Rattle.lucid_demand.specs.declared.decide.Decision.TheVariants.{Ask, End, Fault, LookOn, Refuse}
-use Rattle.lucid_demand.specs.Answers.{part_or_ask, DecidesFor}
 use Rattle.lucid_demand.proofs.Answers.{IsPlaceOrOther}
 use Rattle.lucid_demand.proofs.Deciding.{decides_at, read}
 use Rattle.lucid_demand.proofs.DecidingSearches.{upon_refuses, upon_finds, upon_asks, upon_moves, upon_ends, upon_fails}

@@ -1,10 +1,6 @@
+use Rattle.lucid_demand.proofs.Common.{sym, ap, ◌∙◌, subst, arith, got_of, Holds, Ask, End, Fault, LookOn, Refuse, part_or_ask, DecidesFor}
 use Rattle.std.specs.Prelude.{true, false, ◌<◌, ◌≤◌}
-use Rattle.std.proofs.Common.{sym, ap, ◌∙◌, subst, arith}
-use Rattle.lucid_tasks.specs.Rows.{got_of}
 use Rattle.lucid_equations.specs.declared.rows.Node.TheVariants as node
-use Rattle.lucid_demand.specs.declared.decide.Answer.TheVariants.{Holds}
-use Rattle.lucid_demand.specs.declared.decide.Decision.TheVariants.{Ask, End, Fault, LookOn, Refuse}
-use Rattle.lucid_demand.specs.Answers.{part_or_ask, DecidesFor}
 use Rattle.lucid_demand.proofs.Answers.{IsPlaceOrOther}
 use Rattle.lucid_demand.proofs.Deciding.{decides_at, read}
 use Rattle.lucid_demand.proofs.DecidingSearches.{whenever_refuses, whenever_asks, whenever_finds, whenever_moves, whenever_ends, whenever_fails}

@@ -1,8 +1,5 @@
-use Rattle.std.proofs.Common.{sym, ap, subst}
-use Rattle.lucid_facts.specs.Engine.{EngineView, IsSound, AreAskable, ReadsWithin}
+use Rattle.lucid_demand.proofs.Common.{sym, ap, subst, EngineView, IsSound, AreAskable, ReadsWithin, Evaluating, Demanded}
 use Rattle.lucid_facts.proofs.Reading.{inputs_within}
-use Rattle.lucid_demand.specs.Evaluating.{Evaluating}
-use Rattle.lucid_demand.specs.Demanded.{Demanded}
 use Rattle.lucid_demand.proofs.Demanding.{demanded}
 use Rattle.lucid_demand.proofs.engine.Engine.demand_at.Goals as goal
 

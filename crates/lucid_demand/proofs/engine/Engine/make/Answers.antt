@@ -1,5 +1,4 @@
-use Rattle.std.proofs.Common.{ap}
-use Rattle.lucid_facts.proofs.Nothing.{nothing_is_sound}
+use Rattle.lucid_demand.proofs.Common.{ap, nothing_is_sound}
 use Rattle.lucid_facts.proofs.Reading.{inputs_apart}
 use Rattle.lucid_demand.proofs.engine.Engine.make.Goals as goal
 

@@ -1,5 +1,5 @@
-use Rattle.std.proofs.Common.{Some, sym, subst}
-use Rattle.lucid_demand.specs.Evaluating.{Stepped, gave}
+use Rattle.lucid_demand.proofs.Common.{sym, subst, Stepped, gave}
+use Rattle.std.proofs.Common.{Some}
 use Rattle.lucid_demand.proofs.LookingOn.{can_look_on}
 use Rattle.lucid_demand.proofs.MayAsk.{can_ask, can_ask_all, may_refer, refers_here}
 use Rattle.lucid_demand.proofs.AskedParts.{asked_steps}

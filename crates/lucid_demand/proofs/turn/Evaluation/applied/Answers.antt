@@ -1,6 +1,5 @@
-use Rattle.std.proofs.lemmas.Option.{slice_get-get_or}
-use Rattle.std.proofs.Common.{◌≡◌, length, arith, rules}
-use Rattle.std.specs.Prelude.{slice_index_or}
+use Rattle.lucid_demand.proofs.Common.{slice_get-get_or, arith, rules, slice_index_or}
+use Rattle.std.proofs.Common.{◌≡◌, length}
 use Rattle.lucid_demand.proofs.turn.Evaluation.applied.Goals as goal
 
 pub applied_to_one-requires-clause-first : goal.applied_to_one-requires-clause-first

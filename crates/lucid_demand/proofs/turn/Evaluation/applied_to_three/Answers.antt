@@ -1,8 +1,6 @@
-use Rattle.std.proofs.Common.{◌≡◌, ◌∷◌, [], Some, sym, ap, ◌∙◌, rules}
-use Rattle.std.specs.Prelude.{option_copied, option_map}
-use Rattle.lucid_value.specs.View.{plain}
-use Rattle.lucid_ops.specs.Arity.{arity}
-use Rattle.lucid_demand.specs.Acting.{value_of}
+use Rattle.lucid_demand.proofs.Common.{◌∷◌, [], sym, ap, ◌∙◌, rules, option_copied, plain, arity, value_of}
+use Rattle.std.proofs.Common.{◌≡◌, Some}
+use Rattle.std.specs.Prelude.{option_map}
 use Rattle.lucid_demand.proofs.TakenParts.{applied_value}
 use Rattle.lucid_demand.proofs.turn.Evaluation.applied_to_three.Goals as goal
 

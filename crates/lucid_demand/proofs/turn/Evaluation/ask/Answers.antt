@@ -1,15 +1,8 @@
-use Rattle.std.proofs.Common.{Ok, ap, sym, ◌∙◌, subst, ◌<◌, length}
+use Rattle.lucid_demand.proofs.Common.{ap, sym, ◌∙◌, subst, KeepsKnown, plain, const, row, PlainTask, plain_task, passed-stands, Evaluating, gave, AsksIn, SetsPart, NoMemory}
+use Rattle.std.proofs.Common.{Ok, ◌<◌, length}
 use Rattle.std.specs.Prelude.{IfSome}
-use Rattle.lucid_tags.specs.Known.{KeepsKnown}
-use Rattle.lucid_value.specs.View.{plain}
-use Rattle.lucid_tree.specs.Tree.{const}
-use Rattle.lucid_equations.specs.Nodes.{row, no_nodes}
+use Rattle.lucid_equations.specs.Nodes.{no_nodes}
 use Rattle.lucid_equations.specs.Programs.{table_of}
-use Rattle.lucid_facts.specs.Tasks.{PlainTask, plain_task}
-use Rattle.lucid_facts.proofs.Passing.{passed-stands}
-use Rattle.lucid_demand.specs.Evaluating.{Evaluating, gave}
-use Rattle.lucid_demand.specs.Asking.{AsksIn, SetsPart}
-use Rattle.lucid_demand.specs.declared.fault.DemandFault.TheVariants.{NoMemory}
 use Rattle.lucid_demand.proofs.TakenParts.{gave_err}
 use Rattle.lucid_demand.proofs.AskedParts.{only_known, ask_refused, ask_given, ask_referred, ask_asked, given_sets, asked_sets, last_sets, can_ask_last, open_still, open_given, no_ok, on_ok}
 use Rattle.lucid_demand.proofs.turn.Evaluation.ask.Goals as goal

@@ -1,8 +1,7 @@
-use Rattle.std.proofs.lemmas.Option.{slice_get-get_or}
-use Rattle.std.proofs.Common.{◌≡◌, ◌+◌, ◌<◌, Ok, Some, length, sym, ap, ◌∙◌, subst, arith, rules}
-use Rattle.std.specs.Prelude.{option_map, slice_index_or}
-use Rattle.lucid_tasks.specs.Rows.{TaskRow, row_at}
-use Rattle.lucid_demand.specs.Evaluating.{Evaluating, Stepped, gave}
+use Rattle.lucid_demand.proofs.Common.{slice_get-get_or, ◌+◌, sym, ap, ◌∙◌, subst, arith, rules, slice_index_or, TaskRow, Evaluating, Stepped, gave}
+use Rattle.std.proofs.Common.{◌≡◌, ◌<◌, Ok, Some, length}
+use Rattle.std.specs.Prelude.{option_map}
+use Rattle.lucid_tasks.specs.Rows.{row_at}
 use Rattle.lucid_demand.proofs.TakenParts.{err_is}
 use Rattle.lucid_demand.proofs.AskedRows.{AskedBelow, told_none, told_some, asks_begin, argument_node, can_ask_argument, argument_is_there, part_is_next, asks_refused, asks_end}
 use Rattle.lucid_demand.proofs.turn.Evaluation.ask_arguments.Goals as goal

@@ -1,4 +1,5 @@
-use Rattle.std.proofs.Common.{◌≡◌, None}
+use Rattle.lucid_demand.proofs.Common.{None}
+use Rattle.std.proofs.Common.{◌≡◌}
 use Rattle.lucid_demand.proofs.AskedRows.{AskedBelow}
 use Rattle.lucid_demand.proofs.turn.Evaluation.ask_arguments.Given as goal
 

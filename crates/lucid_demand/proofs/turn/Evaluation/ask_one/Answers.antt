@@ -1,5 +1,5 @@
-use Rattle.std.proofs.Common.{Some, arith}
-use Rattle.lucid_demand.specs.Evaluating.{gave}
+use Rattle.lucid_demand.proofs.Common.{arith, gave}
+use Rattle.std.proofs.Common.{Some}
 use Rattle.lucid_demand.proofs.Beginning.{stepped_from_less, noted_costs}
 use Rattle.lucid_demand.proofs.AskedParts.{asked_steps}
 use Rattle.lucid_demand.proofs.MayAsk.{can_ask}

@@ -1,9 +1,5 @@
-use Rattle.std.proofs.Common.{◌-◌, refl, ap, ◌∙◌, subst, arith}
+use Rattle.lucid_demand.proofs.Common.{◌-◌, refl, ap, ◌∙◌, subst, arith, value_at, Evaluating, gave, IsTurned, NoMemory}
 use Rattle.std.specs.Prelude.{Ok}
-use Rattle.lucid_store.specs.Entries.{value_at}
-use Rattle.lucid_demand.specs.Evaluating.{Evaluating, gave}
-use Rattle.lucid_demand.specs.Turning.{IsTurned}
-use Rattle.lucid_demand.specs.declared.fault.DemandFault.TheVariants.{NoMemory}
 use Rattle.lucid_demand.proofs.TakenParts.{gave_err}
 use Rattle.lucid_demand.proofs.AskedParts.{open_still, open_given}
 use Rattle.lucid_demand.proofs.AskedReferences.{seen_so, aim_refused, nowhere_refused, look_refused, look_given, look_too_deep, body_refused, body_asked, held_sets, made_sets}

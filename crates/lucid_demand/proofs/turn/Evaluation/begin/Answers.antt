@@ -1,6 +1,5 @@
-use Rattle.std.proofs.Common.{◌≡◌, [], sym, ◌∙◌, subst}
-use Rattle.lucid_demand.specs.Evaluating.{Evaluating, gave}
-use Rattle.lucid_demand.specs.Turning.{IsTurned}
+use Rattle.lucid_demand.proofs.Common.{[], sym, ◌∙◌, subst, Evaluating, gave, IsTurned}
+use Rattle.std.proofs.Common.{◌≡◌}
 use Rattle.lucid_demand.proofs.Starting.{root_begins, root_can_be_asked}
 use Rattle.lucid_demand.proofs.turn.Evaluation.begin.Goals as goal
 

@@ -1,4 +1,4 @@
-use Rattle.std.proofs.Common.{sym}
+use Rattle.lucid_demand.proofs.Common.{sym}
 use Rattle.lucid_demand.proofs.Beginning.{stands_still}
 use Rattle.lucid_demand.proofs.SearchesBegin.{no_value, begun_there}
 use Rattle.lucid_demand.proofs.turn.Evaluation.begin_at_best.Goals as goal

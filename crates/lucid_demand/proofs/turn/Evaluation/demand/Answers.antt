@@ -1,6 +1,4 @@
-use Rattle.std.proofs.Common.{refl, sym, subst}
-use Rattle.lucid_facts.specs.Demands.{demand_of}
-use Rattle.lucid_demand.specs.LoopEnds.{LoopEnds}
+use Rattle.lucid_demand.proofs.Common.{refl, sym, subst, demand_of, LoopEnds}
 use Rattle.lucid_demand.proofs.TakenParts.{err_is}
 use Rattle.lucid_demand.proofs.Looping.{ends_at_once, ends_with, ends_refused, goes_on, may_turn, less_is_left, uncounted}
 use Rattle.lucid_demand.proofs.turn.Evaluation.demand.Goals as goal

@@ -1,8 +1,6 @@
+use Rattle.lucid_demand.proofs.Common.{demand_of, cost, Begins}
 use Rattle.std.proofs.Common.{◌≡◌}
 use Rattle.std.specs.Prelude.{Ok}
-use Rattle.lucid_facts.specs.Demands.{demand_of}
-use Rattle.lucid_demand.specs.Evaluating.{cost}
-use Rattle.lucid_demand.specs.Turning.{Begins}
 use Rattle.lucid_demand.proofs.Looping.{left}
 use Rattle.lucid_demand.proofs.turn.Evaluation.demand.Given as goal
 

@@ -1,9 +1,5 @@
-use Rattle.std.proofs.Common.{ap, refl}
-use Rattle.lucid_value.specs.View.{plain}
-use Rattle.lucid_demand.specs.Faults.{fault_of}
-use Rattle.lucid_demand.specs.declared.fault.DemandFault.TheVariants.{NoMemory}
+use Rattle.lucid_demand.proofs.Common.{ap, refl, plain, fault_of, NoMemory, Evaluating}
 use Rattle.lucid_demand.proofs.TakenParts.{err_is}
-use Rattle.lucid_demand.specs.Evaluating.{Evaluating}
 use Rattle.lucid_demand.proofs.ElementRead.{may_be_read, element_read_in, read_value, no_copy, refused_by}
 use Rattle.lucid_demand.proofs.turn.Evaluation.element.Goals as goal
 

@@ -1,4 +1,4 @@
-use Rattle.lucid_demand.specs.Evaluating.{gave}
+use Rattle.lucid_demand.proofs.Common.{gave}
 use Rattle.lucid_demand.proofs.SettledRows.{settled_end}
 use Rattle.lucid_demand.proofs.turn.Evaluation.end.Goals as goal
 

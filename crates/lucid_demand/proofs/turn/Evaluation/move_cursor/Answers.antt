@@ -1,4 +1,4 @@
-use Rattle.std.proofs.Common.{refl}
+use Rattle.lucid_demand.proofs.Common.{refl}
 use Rattle.lucid_demand.proofs.LookingOn.{looked, looked_ready, next_cursor}
 use Rattle.lucid_demand.proofs.turn.Evaluation.move_cursor.Goals as goal
 

@@ -1,4 +1,4 @@
-use Rattle.std.proofs.Common.{refl}
+use Rattle.lucid_demand.proofs.Common.{refl}
 use Rattle.lucid_demand.proofs.Beginning.{noted_asks}
 use Rattle.lucid_demand.proofs.turn.Evaluation.note_end.Goals as goal
 

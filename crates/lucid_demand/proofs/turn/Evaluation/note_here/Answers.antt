@@ -1,4 +1,4 @@
-use Rattle.std.proofs.Common.{sym}
+use Rattle.lucid_demand.proofs.Common.{sym}
 use Rattle.lucid_demand.proofs.SearchesBegin.{noted_right}
 use Rattle.lucid_demand.proofs.turn.Evaluation.note_here.Goals as goal
 

@@ -1,5 +1,4 @@
-use Rattle.std.proofs.Common.{ap, subst, sym}
-use Rattle.lucid_demand.specs.Evaluating.{Evaluating, Stepped, gave}
+use Rattle.lucid_demand.proofs.Common.{ap, subst, sym, Evaluating, Stepped, gave}
 use Rattle.lucid_demand.proofs.TakenParts.{err_is}
 use Rattle.lucid_demand.proofs.ReadElements.{settled_read, refused_read}
 use Rattle.lucid_demand.proofs.turn.Evaluation.read.Goals as goal

@@ -1,5 +1,4 @@
-use Rattle.std.proofs.Common.{refl, ap}
-use Rattle.lucid_demand.specs.Evaluating.{Evaluating}
+use Rattle.lucid_demand.proofs.Common.{refl, ap, Evaluating}
 use Rattle.lucid_demand.proofs.SettledRows.{settled_in}
 use Rattle.lucid_demand.proofs.turn.Evaluation.settle.Goals as goal
 

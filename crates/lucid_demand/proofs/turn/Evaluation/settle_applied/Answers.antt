@@ -1,5 +1,4 @@
-use Rattle.std.proofs.Common.{refl}
-use Rattle.lucid_demand.specs.Evaluating.{gave}
+use Rattle.lucid_demand.proofs.Common.{refl, gave}
 use Rattle.lucid_demand.proofs.SettledRows.{settled_applied, nothing_taken}
 use Rattle.lucid_demand.proofs.turn.Evaluation.settle_applied.Goals as goal
 

@@ -1,8 +1,4 @@
-use Rattle.std.proofs.Common.{refl, sym, ap, ◌∙◌, subst}
-use Rattle.lucid_value.specs.View.{plain}
-use Rattle.lucid_equations.specs.Rows.{constant_at}
-use Rattle.lucid_demand.specs.Evaluating.{Evaluating}
-use Rattle.lucid_demand.specs.Acting.{MayGive, at_rows}
+use Rattle.lucid_demand.proofs.Common.{refl, sym, ap, ◌∙◌, subst, plain, constant_at, Evaluating, MayGive, at_rows}
 use Rattle.lucid_demand.proofs.SettledRows.{gives_may_settle, nothing_taken}
 use Rattle.lucid_demand.proofs.Stepping.{constant_gives}
 use Rattle.lucid_demand.proofs.turn.Evaluation.settle_constant.Goals as goal

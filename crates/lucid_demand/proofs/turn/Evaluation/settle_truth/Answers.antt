@@ -1,6 +1,5 @@
-use Rattle.std.proofs.Common.{refl}
+use Rattle.lucid_demand.proofs.Common.{refl, at_rows}
 use Rattle.lucid_value.specs.declared.Value.TheVariants.{Truth}
-use Rattle.lucid_demand.specs.Acting.{at_rows}
 use Rattle.lucid_demand.proofs.SettledRows.{gives_may_settle, nothing_taken}
 use Rattle.lucid_demand.proofs.turn.Evaluation.settle_truth.Goals as goal
 

@@ -1,5 +1,4 @@
-use Rattle.lucid_demand.specs.Acting.{DemandIn}
-use Rattle.lucid_demand.specs.Evaluating.{gave}
+use Rattle.lucid_demand.proofs.Common.{DemandIn, gave}
 use Rattle.lucid_demand.proofs.Beginning.{stepped_from_less}
 use Rattle.lucid_demand.proofs.Stepping.{ready_task, may_decide, may_act}
 use Rattle.lucid_demand.proofs.turn.Evaluation.step.Goals as goal

@@ -1,5 +1,4 @@
-use Rattle.std.proofs.Common.{sym, subst}
-use Rattle.lucid_demand.specs.Evaluating.{Evaluating, MayStep, Stepped, gave}
+use Rattle.lucid_demand.proofs.Common.{sym, subst, Evaluating, MayStep, Stepped, gave}
 use Rattle.lucid_demand.proofs.Turning.{turned_may_step, turn_steps}
 use Rattle.lucid_demand.proofs.turn.Evaluation.turn.Goals as goal
 

@@ -1,5 +1,4 @@
-use Rattle.lucid_equations.specs.Ranges.{sizes}
-use Rattle.lucid_equations.specs.Programs.{table_of}
+use Rattle.lucid_equations.proofs.Common.{sizes, table_of}
 use Rattle.lucid_equations.proofs.Rising.{actual-in_range}
 use Rattle.lucid_equations.proofs.program.Program.actual.Goals as goal
 

@@ -1,4 +1,4 @@
-use Rattle.std.proofs.Common.{arith}
+use Rattle.lucid_flat.proofs.Common.{arith}
 use Rattle.lucid_flat.proofs.Rising.{too_early}
 use Rattle.lucid_flat.proofs.gather.Rows.add.Goals as goal
 

@@ -1,8 +1,5 @@
-use Rattle.std.proofs.Common.{◌≡◌, ◌<◌, ◌≤◌, ◌+◌, ◌^◌, [], ◌∷◌, ◌++◌, Bool, length, refl, ap}
-use Rattle.std.specs.Bool.{MatchBool}
-use Rattle.std.proofs.lemmas.Result.{IfOk-weaker}
-use Rattle.lucid_flat.specs.Gathered.{table_of, part_in, part_number}
-use Rattle.lucid_flat.specs.RowLines.{plain_row}
+use Rattle.lucid_flat.proofs.Common.{◌≡◌, ◌<◌, ◌≤◌, ◌+◌, ◌^◌, [], ◌∷◌, ◌++◌, Bool, length, refl, ap, MatchBool, IfOk-weaker, table_of, part_in, plain_row}
+use Rattle.lucid_flat.specs.Gathered.{part_number}
 use Rattle.lucid_flat.proofs.Gathering.{scopes_pushed, inputs_pushed, constants_pushed, nodes_pushed, names_pushed, places_pushed, root_pushed}
 use Rattle.lucid_flat.proofs.gather.Rows.push.Goals as goal
 

@@ -1,8 +1,5 @@
-use Rattle.std.proofs.Common.{List, ℕ, [], ◌∷◌, ◌++◌, ap, ◌∙◌}
-use Rattle.std.specs.Prelude.{codes, decimal}
-use Rattle.lucid_flat.specs.FlatText.{node_words}
-use Rattle.lucid_texts.specs.Words.{spaced}
-use Rattle.lucid_texts.proofs.Spaced.{line_two, appended}
+use Rattle.lucid_flat.proofs.Common.{List, ℕ, [], ◌∷◌, ◌++◌, ap, ◌∙◌, codes, decimal, node_words, spaced, appended}
+use Rattle.lucid_texts.proofs.Spaced.{line_two}
 use Rattle.lucid_flat.proofs.lines.NodeRowLine.put.Goals as goal
 
 pub returns-clause-line : goal.returns-clause-line

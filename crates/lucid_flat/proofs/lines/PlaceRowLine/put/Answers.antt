@@ -1,7 +1,5 @@
-use Rattle.std.proofs.Common.{List, ℕ, [], ◌∷◌, ◌++◌, map, ap, ◌∙◌}
-use Rattle.std.specs.Prelude.{codes, decimal}
-use Rattle.lucid_texts.specs.Words.{spaced}
-use Rattle.lucid_texts.proofs.Spaced.{line_three, appended}
+use Rattle.lucid_flat.proofs.Common.{List, ℕ, [], ◌∷◌, ◌++◌, map, ap, ◌∙◌, codes, decimal, spaced, appended}
+use Rattle.lucid_texts.proofs.Spaced.{line_three}
 use Rattle.lucid_flat.proofs.lines.PlaceRowLine.put.Goals as goal
 
 pub returns-clause-line : goal.returns-clause-line

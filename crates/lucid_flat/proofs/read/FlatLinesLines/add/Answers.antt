@@ -1,12 +1,4 @@
-use Rattle.std.proofs.Common.{◌≡◌, ◌++◌, [], ◌∷◌, Bool, refl, ap, ◌∙◌}
-use Rattle.std.specs.Bool.{MatchBool}
-use Rattle.std.specs.Str.{bytes_eq}
-use Rattle.std.proofs.lemmas.Result.{IfOk-weaker}
-use Rattle.lucid_texts.specs.TextLines.{CannotGoOn}
-use Rattle.lucid_flat.specs.declared.read.FlatLines.{FlatLines}
-use Rattle.lucid_flat.specs.FlatTables.{AreTableLines}
-use Rattle.lucid_flat.specs.Gathered.{rows_in, AreBegun}
-use Rattle.lucid_flat.specs.LinesRead.{lines_of_rows}
+use Rattle.lucid_flat.proofs.Common.{◌≡◌, ◌++◌, [], ◌∷◌, Bool, refl, ap, ◌∙◌, MatchBool, bytes_eq, IfOk-weaker, CannotGoOn, FlatLines, AreTableLines, rows_in, AreBegun, lines_of_rows}
 use Rattle.lucid_flat.proofs.FirstLine.{row_added, first_added}
 use Rattle.lucid_flat.proofs.read.FlatLinesLines.add.Goals as goal
 

@@ -1,5 +1,4 @@
-use Rattle.std.proofs.Common.{[], ◌∷◌, ◌++◌, ◌-◌, suc, arith}
-use Rattle.lucid_ops.specs.Arity.{arity}
+use Rattle.lucid_follow.proofs.Common.{[], ◌∷◌, ◌++◌, ◌-◌, suc, arith, arity}
 use Rattle.lucid_follow.proofs.Alike.{argument_next, last_argument}
 use Rattle.lucid_follow.proofs.rest.Look.argument.Goals as goal
 

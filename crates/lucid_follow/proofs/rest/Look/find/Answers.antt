@@ -1,4 +1,4 @@
-use Rattle.std.proofs.Common.{◌+◌}
+use Rattle.lucid_follow.proofs.Common.{◌+◌}
 use Rattle.lucid_follow.proofs.rest.Look.find.Goals as goal
 
 pub returns-then-wanted-eq0-clause-stands : goal.returns-then-wanted-eq0-clause-stands

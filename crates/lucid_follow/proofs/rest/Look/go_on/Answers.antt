@@ -1,7 +1,6 @@
-use Rattle.std.proofs.Common.{◌≡◌, ◌+◌, [], ◌∷◌, ◌++◌, subst, arith}
+use Rattle.lucid_follow.proofs.Common.{◌≡◌, ◌+◌, [], ◌∷◌, ◌++◌, subst, arith, Then}
 use Rattle.lucid_value.specs.View.{plain}
 use Rattle.lucid_follow.specs.RestPlans.{rest_plan, IsAfter}
-use Rattle.lucid_follow.specs.declared.rest.Then.{Then}
 use Rattle.lucid_follow.proofs.GoesOn.{goes_time, goes_space, goes_find}
 use Rattle.lucid_follow.proofs.rest.Look.go_on.Goals as goal
 

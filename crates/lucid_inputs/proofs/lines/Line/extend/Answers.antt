@@ -1,4 +1,4 @@
-use Rattle.std.proofs.Common.{◌∙◌, arith}
+use Rattle.lucid_inputs.proofs.Common.{◌∙◌, arith}
 use Rattle.lucid_inputs.proofs.TakeLemmas.{kept_front}
 use Rattle.lucid_inputs.proofs.lines.Line.extend.Goals as goal
 

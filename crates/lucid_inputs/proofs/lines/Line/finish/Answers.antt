@@ -1,8 +1,4 @@
-use Rattle.std.proofs.Common.{◌≡◌, [], sym, ap, ◌∙◌, arith}
-use Rattle.std.proofs.lemmas.List.{nil_from_length}
-use Rattle.std.proofs.lemmas.Bool.{eqb-true}
-use Rattle.lucid_value.specs.Elements.{line_value_of}
-use Rattle.lucid_inputs.specs.Steps.{line_with}
+use Rattle.lucid_inputs.proofs.Common.{◌≡◌, [], sym, ap, ◌∙◌, arith, eqb-true, line_value_of, line_with, nil_from_length}
 use Rattle.lucid_inputs.proofs.StreamLemmas.{line_value_of-take}
 use Rattle.lucid_inputs.proofs.lines.Line.finish.Goals as goal
 

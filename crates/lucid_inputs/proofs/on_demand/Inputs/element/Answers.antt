@@ -1,5 +1,4 @@
-use Rattle.std.proofs.Common.{refl, rules}
-use Rattle.lucid_inputs.specs.Inputs.{stream_at}
+use Rattle.lucid_inputs.proofs.Common.{refl, rules, stream_at}
 use Rattle.lucid_inputs.proofs.OverlongLemmas.{element_told}
 use Rattle.lucid_inputs.proofs.on_demand.Inputs.element.Goals as goal
 

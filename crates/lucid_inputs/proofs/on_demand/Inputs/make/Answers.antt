@@ -1,5 +1,5 @@
-use Rattle.std.proofs.Common.{refl, sym, subst, ◌∙◌}
-use Rattle.std.specs.Prelude.{◌≢◌, AllPairs}
+use Rattle.lucid_inputs.proofs.Common.{refl, sym, subst, ◌∙◌, AllPairs}
+use Rattle.std.specs.Prelude.{◌≢◌}
 use Rattle.lucid_inputs.proofs.InputsLemmas.{all_fresh_within, fresh_places}
 use Rattle.lucid_inputs.proofs.on_demand.Inputs.make.Goals as goal
 

@@ -1,9 +1,5 @@
-use Rattle.std.proofs.Common.{◌<◌, length, refl, slice_set, sym, subst, arith}
-use Rattle.std.proofs.lemmas.List.{length-map}
-use Rattle.std.proofs.lemmas.Option.{slice_get_read}
-use Rattle.std.specs.Prelude.{◌≢◌, AllPairs}
-use Rattle.lucid_lemmas.proofs.Lists.{slice_get-set_same}
-use Rattle.lucid_inputs.specs.View.{stream_of}
+use Rattle.lucid_inputs.proofs.Common.{◌<◌, length, refl, slice_set, sym, subst, arith, length-map, slice_get_read, AllPairs, slice_get-set_same, stream_of}
+use Rattle.std.specs.Prelude.{◌≢◌}
 use Rattle.lucid_inputs.proofs.InputsLemmas.{all_within, at_is, not_too_large_at, places-set, reads_stream, ready_set, too_large_at}
 use Rattle.lucid_inputs.proofs.on_demand.Inputs.read_on.Goals as goal
 

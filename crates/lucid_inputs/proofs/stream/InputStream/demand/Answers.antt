@@ -1,7 +1,4 @@
-use Rattle.std.proofs.Common.{sym, ap, subst, ◌∙◌, arith}
-use Rattle.std.proofs.lemmas.List.{length-map}
-use Rattle.lucid_inputs.specs.Reading.{IsWithin, ReadsOn}
-use Rattle.lucid_inputs.specs.View.{element_of, stream_of}
+use Rattle.lucid_inputs.proofs.Common.{sym, ap, subst, ◌∙◌, arith, length-map, IsWithin, ReadsOn, element_of, stream_of}
 use Rattle.lucid_inputs.proofs.InputsLemmas.{ok_then, ready_read, told_too_large}
 use Rattle.lucid_inputs.proofs.OverlongLemmas.{not_overlong_told, overlong_told}
 use Rattle.lucid_inputs.proofs.stream.InputStream.demand.Goals as goal

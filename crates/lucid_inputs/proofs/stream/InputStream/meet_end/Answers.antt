@@ -1,4 +1,4 @@
-use Rattle.std.proofs.Common.{arith, sym, ◌∙◌}
+use Rattle.lucid_inputs.proofs.Common.{arith, sym, ◌∙◌}
 use Rattle.lucid_inputs.proofs.TakeLemmas.{end_some, some_length}
 use Rattle.lucid_inputs.proofs.stream.InputStream.meet_end.Goals as goal
 

@@ -1,6 +1,4 @@
-use Rattle.std.proofs.Common.{◌≡◌, false, refl, rules, arith}
-use Rattle.std.proofs.lemmas.List.{length-map}
-use Rattle.lucid_inputs.specs.View.{element_of}
+use Rattle.lucid_inputs.proofs.Common.{◌≡◌, false, refl, rules, arith, length-map, element_of}
 use Rattle.lucid_inputs.proofs.StepLemmas.{reads_none, reads_further, step_done, step_smaller, step_within, not_ended}
 use Rattle.lucid_inputs.proofs.stream.InputStream.read_on.Goals as goal
 

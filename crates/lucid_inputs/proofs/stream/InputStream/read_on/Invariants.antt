@@ -1,6 +1,4 @@
-use Rattle.std.proofs.Common.{◌≡◌, ◌+◌, ◌-◌, cond}
-use Rattle.lucid_inputs.specs.Reading.{ReadsOn, IsWithin}
-use Rattle.lucid_inputs.specs.View.{stream_of}
+use Rattle.lucid_inputs.proofs.Common.{◌≡◌, ◌+◌, ◌-◌, cond, ReadsOn, IsWithin, stream_of}
 use Rattle.lucid_inputs.proofs.stream.InputStream.read_on.Given as goal
 
 abbrev pub invariant-pieces : goal.invariant-pieces

@@ -1,5 +1,4 @@
-use Rattle.std.proofs.Common.{arith, length, sym, ◌∙◌, ◌<◌}
-use Rattle.std.proofs.lemmas.List.{length-take-le}
+use Rattle.lucid_inputs.proofs.Common.{arith, length, sym, ◌∙◌, ◌<◌, length-take-le}
 use Rattle.lucid_inputs.proofs.TakeLemmas.{piece_step, shown_contents, some_length}
 use Rattle.lucid_inputs.proofs.stream.InputStream.read_piece.Goals as goal
 

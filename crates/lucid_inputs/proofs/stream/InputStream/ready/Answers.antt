@@ -1,8 +1,4 @@
-use Rattle.std.proofs.Common.{◌<◌, length, MatchOption, refl, sym, subst, arith}
-use Rattle.std.specs.Prelude.{IsTrue}
-use Rattle.std.proofs.lemmas.Option.{slice_get_read, slice_get_past}
-use Rattle.lucid_lemmas.proofs.Lists.{slice_get-set_same}
-use Rattle.lucid_inputs.specs.View.{IsRead, element_of, stream_of}
+use Rattle.lucid_inputs.proofs.Common.{◌<◌, length, MatchOption, refl, sym, subst, arith, IsTrue, slice_get_read, slice_get-set_same, IsRead, element_of, stream_of, slice_get_past}
 use Rattle.lucid_inputs.proofs.TakeLemmas.{map-set_same, with_elements}
 use Rattle.lucid_inputs.proofs.stream.InputStream.ready.Goals as goal
 

@@ -1,5 +1,4 @@
-use Rattle.std.proofs.Common.{arith}
-use Rattle.lucid_inputs.specs.View.{stream_of}
+use Rattle.lucid_inputs.proofs.Common.{arith, stream_of}
 use Rattle.lucid_inputs.proofs.TakeLemmas.{none_at_all, none_before, taken_part, taken_line}
 use Rattle.lucid_inputs.proofs.stream.InputStream.take_front.Goals as goal
 

@@ -1,8 +1,4 @@
-use Rattle.std.proofs.Common.{◌≡◌, refl, rules, tests}
-use Rattle.std.specs.List.{find}
-use Rattle.std.proofs.lemmas.Iterator.{YieldsList-from_slice}
-use Rattle.std.proofs.lemmas.Iterator.Search.{find_from_yields_List}
-use Rattle.lucid_ops.specs.Rows.{has}
+use Rattle.lucid_ops.proofs.Common.{◌≡◌, refl, find, has, rules, tests, YieldsList-from_slice, find_from_yields_List}
 use Rattle.lucid_ops.proofs.RowsInOrder.{find_plain}
 use Rattle.lucid_ops.proofs.table.Table.find.Goals as goal
 

@@ -1,5 +1,4 @@
-use Rattle.std.proofs.Common.{◌≡◌, length}
-use Rattle.lucid_parse.specs.Machine.{inner_frames, inner_out}
+use Rattle.lucid_parse.proofs.Common.{◌≡◌, length, inner_frames, inner_out}
 use Rattle.lucid_parse.proofs.machine.Machine.close_operators.Given as goal
 
 -- what is left closes as all does

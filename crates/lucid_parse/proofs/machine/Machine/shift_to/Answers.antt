@@ -1,6 +1,5 @@
 -- The operator takes its operand where the test says so.
-use Rattle.std.proofs.Common.{◌≡◌, true}
-use Rattle.lucid_parse.specs.Machine.{takes}
+use Rattle.lucid_parse.proofs.Common.{◌≡◌, true, takes}
 use Rattle.lucid_parse.proofs.Complete.{shift-takes}
 use Rattle.lucid_parse.proofs.machine.Machine.shift_to.Goals as goal
 

@@ -1,5 +1,4 @@
-use Rattle.std.proofs.Common.{◌≡◌, length}
-use Rattle.lucid_parse.specs.Machine.{shift}
+use Rattle.lucid_parse.proofs.Common.{◌≡◌, length, shift}
 use Rattle.lucid_parse.proofs.machine.Machine.shift_to.Given as goal
 
 -- the operator goes on as it began

@@ -1,31 +1,10 @@
-use Rattle.std.proofs.Common.{◌≡◌, sym, ◌∙◌, ap, subst, arith, Some}
-use Rattle.lucid_tree.specs.Env.{name_target}
-use Rattle.lucid_plain.specs.View.{at_tree, env_of}
+use Rattle.lucid_plain.proofs.Common.{◌≡◌, sym, ◌∙◌, ap, subst, arith, Some, name_target, at_tree, env_of, ◌+◌, ◌-◌, val, elements_of, found_by, turn_of, ◌≤◌, true, refl, None, map, drop, [], ◌∷◌, ◌++◌, plain, algebra, nat_tests, nodes, nodes_in, trees_of, call_target, calls, counted_by, each_value, Applies, AllApply, count, length, nat_le, option_map, map-append, length-map}
 use Rattle.lucid_plain.proofs.Goings.{IsGoingSmall, target_small, below_by_going}
-use Rattle.std.proofs.Common.{◌+◌, ◌-◌}
-use Rattle.lucid_tree.specs.Meaning.{val}
-use Rattle.lucid_plain.specs.Streams.{elements_of}
-use Rattle.lucid_plain.specs.Turns.{found_by, turn_of}
 use Rattle.lucid_plain.proofs.Searches.{met_at, on_at, off_at, ends_at}
 use Rattle.lucid_plain.proofs.eval.Evaluator.+value.Goals.{search-in-On+else-left-eq0, search-in-Off, counted-in-On, counted-in-Off}
-use Rattle.std.proofs.Common.{◌≤◌, true, nat_le, refl, None, map, drop, [], ◌∷◌, ◌++◌}
-use Rattle.std.specs.Option.{option_map}
-use Rattle.lucid_value.specs.View.{plain}
-use Rattle.lucid_ops.specs.Algebra.{algebra}
-use Rattle.std.proofs.lemmas.List.{map-append}
-use Rattle.std.proofs.lemmas.Bool.Decides.{nat_tests}
-use Rattle.lucid_tree.specs.Size.{nodes, nodes_in}
-use Rattle.lucid_tree.specs.Lists.{trees_of}
-use Rattle.lucid_tree.specs.Env.{call_target}
-use Rattle.lucid_plain.specs.View.{calls}
-use Rattle.lucid_plain.specs.Turns.{counted_by, each_value}
 use Rattle.lucid_plain.proofs.Searches.{one_more, no_more, count_ends}
 use Rattle.lucid_plain.proofs.Parts.{nodes_at, applies_at, each_count, each_one, next_all, none_left, undefined_at, op_none, op_some, before_all}
 use Rattle.lucid_plain.proofs.Calls.{IsCallSmall, calling_small, call_going_is}
-use Rattle.lucid_plain.specs.Small.{Applies, AllApply}
-use Rattle.lucid_tree.specs.Size.{count}
-use Rattle.std.proofs.Common.{length}
-use Rattle.std.proofs.lemmas.List.{length-map}
 use Rattle.lucid_plain.proofs.eval.Evaluator.+value.Goals as goal
 
 pub named-value-requires : goal.named-value-requires

@@ -1,9 +1,4 @@
-use Rattle.std.proofs.Common.{map, drop, ◌≤◌, ◌≡◌, ◌+◌, ◌-◌, ◌*◌, ◌^◌}
-use Rattle.lucid_tree.specs.Size.{nodes, nodes_in, nodes_in_defs}
-use Rattle.lucid_tree.specs.Lists.{trees_of}
-use Rattle.lucid_plain.specs.View.{env_of}
-use Rattle.lucid_plain.specs.Turns.{found_by, counted_by, each_value}
-use Rattle.lucid_value.specs.View.{plain}
+use Rattle.lucid_plain.proofs.Common.{map, drop, ◌≤◌, ◌≡◌, ◌+◌, ◌-◌, ◌^◌, nodes, nodes_in, nodes_in_defs, trees_of, env_of, found_by, counted_by, each_value, plain, ◌*◌}
 use Rattle.lucid_plain.proofs.Parts.{before_all}
 use Rattle.lucid_plain.proofs.eval.Evaluator.+value.Given as goal
 

@@ -1,9 +1,4 @@
-use Rattle.std.proofs.Common.{◌<◌, length, Some, option_map, refl, sym, ap, ◌∙◌, arith}
-use Rattle.std.proofs.lemmas.Option.{slice_get_read}
-use Rattle.lucid_lemmas.proofs.Lists.{slice_get-set_same, slice_get-set_other}
-use Rattle.lucid_ports.specs.declared.endless.EndlessPlace.{EndlessPlace}
-use Rattle.lucid_ports.specs.Endless.{moved}
-use Rattle.lucid_ports.specs.EndlessView.{spot_of}
+use Rattle.lucid_ports.proofs.Common.{◌<◌, length, Some, option_map, refl, sym, ap, ◌∙◌, arith, slice_get_read, slice_get-set_same, slice_get-set_other, EndlessPlace, moved, spot_of}
 use Rattle.lucid_ports.proofs.EndlessLemmas.{spot_of-after}
 use Rattle.lucid_ports.proofs.endless.EndlessPlaces.consume.Goals as goal
 

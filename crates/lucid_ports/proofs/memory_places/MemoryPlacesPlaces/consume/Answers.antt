@@ -1,7 +1,4 @@
-use Rattle.std.proofs.Common.{◌<◌, length, refl, ap, le_refl, arith}
-use Rattle.std.proofs.lemmas.Option.{slice_get_read}
-use Rattle.lucid_lemmas.proofs.Lists.{slice_get-set_same, slice_get-set_other}
-use Rattle.lucid_ports.specs.MemoryView.{memory_place}
+use Rattle.lucid_ports.proofs.Common.{◌<◌, length, refl, ap, le_refl, arith, slice_get_read, slice_get-set_same, slice_get-set_other, memory_place}
 use Rattle.lucid_ports.proofs.MemoryLemmas.{place_consumed}
 use Rattle.lucid_ports.proofs.memory_places.MemoryPlacesPlaces.consume.Goals as goal
 

@@ -1,10 +1,4 @@
-use Rattle.std.proofs.Common.{◌≡◌, ◌<◌, ◌≤◌, ◌⊎◌, ◌+◌, ℕ, length, drop, IfSome, Contains, inr, refl, sym, ap, subst, ◌∙◌, arith, le_refl}
-use Rattle.std.proofs.lemmas.Option.{slice_get_read}
-use Rattle.lucid_lemmas.proofs.Lists.{slice_get-set_same, slice_get-set_other}
-use Rattle.lucid_ports.specs.declared.memory_places.MemoryPlace.{MemoryPlace}
-use Rattle.lucid_ports.specs.Files.{bytes_at}
-use Rattle.lucid_ports.specs.Memory.{fail_at}
-use Rattle.lucid_ports.specs.MemoryView.{memory_place}
+use Rattle.lucid_ports.proofs.Common.{◌≡◌, ◌<◌, ◌≤◌, ◌⊎◌, ◌+◌, ℕ, length, drop, IfSome, Contains, inr, refl, sym, ap, subst, ◌∙◌, arith, le_refl, slice_get_read, slice_get-set_same, slice_get-set_other, MemoryPlace, bytes_at, fail_at, memory_place}
 use Rattle.lucid_ports.proofs.MemoryLemmas.{place_shown, piece_clauses, shows_piece}
 use Rattle.lucid_ports.proofs.memory_places.MemoryPlacesPlaces.fill.Goals as goal
 

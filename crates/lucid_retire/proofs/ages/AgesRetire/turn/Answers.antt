@@ -1,5 +1,4 @@
-use Rattle.std.proofs.Common.{◌≡◌, ap, sym, subst, arith}
-use Rattle.lucid_retire.specs.Aging.{Aging, most_of, IsPaced}
+use Rattle.lucid_retire.proofs.Common.{◌≡◌, ap, sym, subst, arith, Aging, most_of, IsPaced}
 use Rattle.lucid_retire.proofs.Paces.{paced_turn}
 use Rattle.lucid_retire.proofs.ages.AgesRetire.turn.Goals as goal
 

@@ -1,8 +1,4 @@
-use Rattle.std.proofs.Common.{◌≡◌, ap, subst, ◌∙◌}
-use Rattle.std.proofs.lemmas.Result.{err_from_is_err_and}
-use Rattle.lru.specs.LruCache.{displaced}
-use Rattle.lucid_tags.specs.Keys.{same_key}
-use Rattle.lucid_retire.specs.Recency.{Recency, pushed_out, fallen_of}
+use Rattle.lucid_retire.proofs.Common.{◌≡◌, ap, subst, ◌∙◌, displaced, same_key, Recency, pushed_out, fallen_of, err_from_is_err_and}
 use Rattle.lucid_retire.proofs.Pushes.{not_listed, keys_of-push, fallen-displaced}
 use Rattle.lucid_retire.proofs.last.Last.bring.Goals as goal
 

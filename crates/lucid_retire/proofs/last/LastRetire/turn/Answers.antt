@@ -1,6 +1,4 @@
-use Rattle.std.proofs.Common.{◌≤◌, ◌<◌, arith}
-use Rattle.std.proofs.lemmas.Bool.{lt-ltb, le-ltb}
-use Rattle.lucid_store.specs.Entries.{count_of}
+use Rattle.lucid_retire.proofs.Common.{◌≤◌, ◌<◌, arith, le-ltb, count_of, lt-ltb}
 use Rattle.lucid_retire.proofs.RecencyTurns.{cut_turn, kept_turn}
 use Rattle.lucid_retire.proofs.last.LastRetire.turn.Goals as goal
 

@@ -1,7 +1,4 @@
-use Rattle.std.proofs.Common.{ℕ, cond, Vec, Global, refl, ap, ◌∙◌}
-use Rattle.std.specs.Map.{lookup}
-use Rattle.lucid_tree.specs.Env.{same_name}
-use Rattle.lucid_scope.specs.Owners.{look, flattened}
+use Rattle.lucid_scope.proofs.Common.{ℕ, cond, Vec, Global, refl, ap, ◌∙◌, lookup, same_name, look, flattened}
 use Rattle.lucid_scope.proofs.Tables.{lookup-insert, flattened-cond}
 use Rattle.lucid_scope.proofs.table.Table.set.Goals as goal
 

@@ -1,5 +1,4 @@
-use Rattle.std.proofs.Common.{◌≡◌, ◌<◌, sym, subst, rules}
-use Rattle.lucid_search.specs.Numbered.{Rises, IsAt, IsGapFor}
+use Rattle.lucid_search.proofs.Common.{◌≡◌, ◌<◌, sym, subst, rules, Rises, IsAt, IsGapFor}
 use Rattle.lucid_search.proofs.NumberedLemmas.{best_at, best_before, none_low}
 use Rattle.lucid_search.proofs.notes.Notes.best.Goals as goal
 

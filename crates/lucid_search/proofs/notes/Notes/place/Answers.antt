@@ -1,5 +1,4 @@
-use Rattle.std.proofs.Common.{rules}
-use Rattle.std.proofs.lemmas.List.Sorted.{answers_always}
+use Rattle.lucid_search.proofs.Common.{rules, answers_always}
 use Rattle.lucid_search.proofs.NumberedLemmas.{searched}
 use Rattle.lucid_search.proofs.notes.Notes.place.Goals as goal
 

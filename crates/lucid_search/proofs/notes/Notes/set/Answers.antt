@@ -1,5 +1,4 @@
-use Rattle.std.proofs.Common.{◌≡◌, ℕ, set, sym, subst, ap, ◌∙◌}
-use Rattle.lucid_search.specs.Numbered.{number_in, IsAt, IsGapFor}
+use Rattle.lucid_search.proofs.Common.{◌≡◌, ℕ, set, sym, subst, ap, ◌∙◌, number_in, IsAt, IsGapFor}
 use Rattle.lucid_search.proofs.NumberedLemmas.{set_sets, insert_sets}
 use Rattle.lucid_search.proofs.notes.Notes.set.Goals as goal
 

@@ -1,4 +1,4 @@
-use Rattle.std.proofs.Common.{arith}
+use Rattle.lucid_sound.proofs.Common.{arith}
 use Rattle.lucid_sound.proofs.NestMade.{next-low}
 use Rattle.lucid_sound.proofs.Leaping.{inner-some, parent-depth, parent-round}
 use Rattle.lucid_sound.proofs.nest.Nest.further.Goals as goal

@@ -1,7 +1,4 @@
-use Rattle.std.proofs.Common.{arith}
-use Rattle.std.proofs.lemmas.Bool.{eqb-true, eq-eqb, false≢true}
-use Rattle.std.proofs.lemmas.List.{get_or_read}
-use Rattle.lucid_equations.specs.Sound.IsRound.{itself}
+use Rattle.lucid_sound.proofs.Common.{arith, eqb-true, eq-eqb, false≢true, itself, get_or_read}
 use Rattle.lucid_sound.proofs.Nesting.{round-then}
 use Rattle.lucid_sound.proofs.Leaping.{ended, none-deeper}
 use Rattle.lucid_sound.proofs.nest.Nest.is_round_at.Goals as goal

@@ -1,5 +1,4 @@
-use Rattle.std.proofs.Common.{◌<◌, ◌≤◌, length, slice_index}
-use Rattle.lucid_equations.specs.Sound.{IsRound}
+use Rattle.lucid_sound.proofs.Common.{◌<◌, ◌≤◌, length, slice_index, IsRound}
 use Rattle.lucid_sound.proofs.nest.Nest.is_round_at.Given as goal
 
 -- the walk has come to a scope that is the scope or stands round it, not too far out

@@ -1,5 +1,4 @@
-use Rattle.std.proofs.Common.{◌≤◌, ◌-◌, length}
-use Rattle.lucid_sound.specs.Nests.{IsNestOf}
+use Rattle.lucid_sound.proofs.Common.{◌≤◌, length, IsNestOf, ◌-◌}
 use Rattle.lucid_sound.proofs.nest.Nest.make.Given as goal
 
 -- the depths and leaps of the first scopes

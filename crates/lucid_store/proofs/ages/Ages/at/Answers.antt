@@ -1,4 +1,4 @@
-use Rattle.std.proofs.Common.{arith}
+use Rattle.lucid_store.proofs.Common.{arith}
 use Rattle.lucid_store.proofs.AgeLemmas.{all-there, zero-there}
 use Rattle.lucid_store.proofs.ages.Ages.at.Goals as goal
 

@@ -1,5 +1,4 @@
-use Rattle.std.proofs.Common.{◌≡◌, ◌-◌, length, slice_get, Some, sym, ap, ◌∙◌, arith}
-use Rattle.std.specs.Prelude.{slice_set}
+use Rattle.lucid_store.proofs.Common.{◌≡◌, ◌-◌, length, slice_get, Some, sym, ap, ◌∙◌, arith, slice_set}
 use Rattle.lucid_store.proofs.AgeLemmas.{all-there, zero-there, set-view, set-zero, read_or}
 use Rattle.lucid_store.proofs.ages.Ages.copy_last.Goals as goal
 

@@ -1,4 +1,4 @@
-use Rattle.std.proofs.Common.{arith}
+use Rattle.lucid_store.proofs.Common.{arith}
 use Rattle.lucid_store.proofs.AgeLemmas.{all-there, dropped-view}
 use Rattle.lucid_store.proofs.ages.Ages.drop_last.Goals as goal
 

@@ -1,4 +1,4 @@
-use Rattle.std.proofs.Common.{arith}
+use Rattle.lucid_store.proofs.Common.{arith}
 use Rattle.lucid_store.proofs.AgeLemmas.{raised-length, raised-view}
 use Rattle.lucid_store.proofs.ages.Ages.raise.Goals as goal
 

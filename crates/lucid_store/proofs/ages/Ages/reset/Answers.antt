@@ -1,4 +1,4 @@
-use Rattle.std.proofs.Common.{sym, arith}
+use Rattle.lucid_store.proofs.Common.{sym, arith}
 use Rattle.lucid_store.proofs.AgeLemmas.{all-there, zero-there, set-view, set-zero}
 use Rattle.lucid_store.proofs.ages.Ages.reset.Goals as goal
 

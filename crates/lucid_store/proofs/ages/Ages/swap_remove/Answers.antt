@@ -1,6 +1,5 @@
-use Rattle.std.proofs.Common.{◌≡◌, ◌-◌, length, ap, ◌∙◌, arith}
+use Rattle.lucid_store.proofs.Common.{◌≡◌, ◌-◌, length, ap, ◌∙◌, arith, length-set, length-take-le}
 use Rattle.std.specs.Prelude.{slice_index_or}
-use Rattle.std.proofs.lemmas.List.{length-set, length-take-le}
 use Rattle.lucid_store.proofs.ages.Ages.swap_remove.Goals as goal
 
 pub drop_last-requires : goal.drop_last-requires

@@ -1,5 +1,4 @@
-use Rattle.std.proofs.Common.{None, refl, sym, ap, subst, is_some}
-use Rattle.lucid_store.specs.Beside.{Sets}
+use Rattle.lucid_store.proofs.Common.{None, refl, sym, ap, subst, is_some, Sets}
 use Rattle.lucid_store.proofs.Besides.{absent-sets, none_placed, some_placed, same_place}
 use Rattle.lucid_store.proofs.datons.Datons.forget.Goals as goal
 

@@ -1,4 +1,4 @@
-use Rattle.std.proofs.Common.{sym, ◌∙◌}
+use Rattle.lucid_store.proofs.Common.{sym, ◌∙◌}
 use Rattle.lucid_store.proofs.Besides.{found-beside}
 use Rattle.lucid_store.proofs.datons.Datons.has.Goals as goal
 

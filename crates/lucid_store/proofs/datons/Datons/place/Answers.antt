@@ -1,5 +1,4 @@
-use Rattle.std.proofs.Common.{ap, sym, position, ◌∙◌}
-use Rattle.lucid_tags.specs.Keys.{same_key}
+use Rattle.lucid_store.proofs.Common.{ap, sym, position, ◌∙◌, same_key}
 use Rattle.lucid_store.proofs.Besides.{keys-beside}
 use Rattle.lucid_store.proofs.datons.Datons.place.Goals as goal
 

@@ -1,7 +1,4 @@
-use Rattle.std.proofs.Common.{◌≡◌, true, Some, None, is_some, sym, ap, ◌∙◌}
-use Rattle.std.specs.Map.{lookup}
-use Rattle.lucid_tags.specs.Keys.{same_key}
-use Rattle.lucid_store.specs.Beside.{beside}
+use Rattle.lucid_store.proofs.Common.{◌≡◌, true, Some, None, is_some, sym, ap, ◌∙◌, lookup, same_key, beside}
 use Rattle.lucid_store.proofs.Besides.{put-known, put-new, put-popped, count-put, none-beside}
 use Rattle.lucid_store.proofs.datons.Datons.put.Goals as goal
 

@@ -1,8 +1,5 @@
-use Rattle.std.proofs.Common.{◌≡◌, ◌+◌, ◌≤◌, ◌<◌, if◌then◌else◌, length, slice_get, Some, IfSome, refl, ap, sym, subst, ◌∙◌, arith, position, is_some}
+use Rattle.lucid_store.proofs.Common.{◌≡◌, ◌+◌, ◌≤◌, ◌<◌, length, slice_get, Some, IfSome, refl, ap, sym, subst, ◌∙◌, arith, position, is_some, AllWithin, swap_remove, beside, ages_of, same_key, if◌then◌else◌}
 use Rattle.lucid_store.proofs.AgeLemmas.{moved-last, moved-other, length-moved}
-use Rattle.std.specs.List.{AllWithin, swap_remove}
-use Rattle.lucid_store.specs.Beside.{beside, ages_of}
-use Rattle.lucid_tags.specs.Keys.{same_key}
 use Rattle.lucid_store.proofs.Besides.{keys-beside, length-beside, ages-beside, place-removed, remove-sets, later_stays, is_some_within}
 use Rattle.lucid_store.proofs.datons.Datons.remove.Goals as goal
 

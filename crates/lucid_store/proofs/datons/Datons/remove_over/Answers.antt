@@ -1,6 +1,4 @@
-use Rattle.std.proofs.Common.{◌≡◌, ◌≤◌, ◌<◌, ◌+◌, ◌-◌, length, slice_get, Some, ap, sym, subst, ◌∙◌, arith}
-use Rattle.std.specs.List.{AllWithin}
-use Rattle.lucid_store.specs.Beside.{beside, ages_of}
+use Rattle.lucid_store.proofs.Common.{◌≡◌, ◌≤◌, ◌<◌, ◌+◌, ◌-◌, length, slice_get, Some, ap, sym, subst, ◌∙◌, arith, AllWithin, beside, ages_of}
 use Rattle.lucid_store.proofs.Besides.{length-beside, ages-beside, over_goes, age_placed, more_within, all_within}
 use Rattle.lucid_store.proofs.datons.Datons.remove_over.Goals as goal
 

@@ -1,11 +1,4 @@
-use Rattle.std.proofs.Common.{◌≡◌, ◌≤◌, length}
-use Rattle.std.specs.Prelude.{option_and_then}
-use Rattle.std.specs.List.{AllWithin}
-use Rattle.std.specs.Map.{lookup}
-use Rattle.lucid_tags.specs.declared.Key.{Key}
-use Rattle.lucid_tags.specs.Keys.{same_key}
-use Rattle.lucid_store.specs.Beside.{ages_of}
-use Rattle.lucid_store.specs.Entries.{within}
+use Rattle.lucid_store.proofs.Common.{◌≡◌, ◌≤◌, length, option_and_then, AllWithin, lookup, Key, same_key, ages_of, within}
 use Rattle.lucid_store.proofs.datons.Datons.remove_over.Given as goal
 
 -- of the entries that were over the limit some are gone, and none is left at the place or later

@@ -1,13 +1,4 @@
-use Rattle.std.proofs.Common.{◌≡◌, None, is_some, sym, ap, ◌∙◌}
-use Rattle.std.specs.Prelude.{option_map, option_and_then}
-use Rattle.std.specs.Map.{lookup}
-use Rattle.std.proofs.lemmas.Option.{slice_get-map}
-use Rattle.lucid_value.specs.declared.Value.{Value}
-use Rattle.lucid_tags.specs.declared.Key.{Key}
-use Rattle.lucid_store.specs.Stored.{Entry}
-use Rattle.lucid_tags.specs.Keys.{same_key}
-use Rattle.lucid_store.specs.Beside.{beside, value_in}
-use Rattle.lucid_store.specs.Entries.{renewed}
+use Rattle.lucid_store.proofs.Common.{◌≡◌, None, is_some, sym, ap, ◌∙◌, option_map, option_and_then, lookup, slice_get-map, Value, Key, Entry, same_key, beside, value_in, renewed}
 use Rattle.lucid_store.proofs.Besides.{absent-sets, none-beside, none_from_test, some_from_test, length-beside, value-beside, value_in-beside, found-beside, renew-sets}
 use Rattle.lucid_store.proofs.datons.Datons.renew.Goals as goal
 

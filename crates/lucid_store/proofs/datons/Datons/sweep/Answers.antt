@@ -1,9 +1,4 @@
-use Rattle.std.proofs.Common.{ap, ◌∙◌, arith}
-use Rattle.std.specs.Prelude.{option_and_then}
-use Rattle.std.specs.Map.{lookup}
-use Rattle.lucid_tags.specs.Keys.{same_key}
-use Rattle.lucid_store.specs.Beside.{beside}
-use Rattle.lucid_store.specs.Entries.{within, swept}
+use Rattle.lucid_store.proofs.Common.{ap, ◌∙◌, arith, option_and_then, lookup, same_key, beside, within, swept}
 use Rattle.lucid_store.proofs.Besides.{length-beside, raise-beside, swept_from}
 use Rattle.lucid_store.proofs.datons.Datons.sweep.Goals as goal
 

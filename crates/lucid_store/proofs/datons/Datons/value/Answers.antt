@@ -1,7 +1,4 @@
-use Rattle.std.proofs.Common.{ap, ◌∙◌}
-use Rattle.std.specs.Prelude.{option_map, option_copied}
-use Rattle.lucid_value.specs.declared.Value.{Value}
-use Rattle.lucid_tags.specs.declared.Key.{Key}
+use Rattle.lucid_store.proofs.Common.{ap, ◌∙◌, option_map, Value, Key, option_copied}
 use Rattle.lucid_store.proofs.Besides.{value_in-beside}
 use Rattle.lucid_store.proofs.datons.Datons.value.Goals as goal
 

@@ -1,7 +1,5 @@
 -- A number is what its bytes are read as.
-use Rattle.std.proofs.Common.{ap, sym, ◌∙◌}
-use Rattle.std.specs.Hash.{le_bytes}
-use Rattle.std.proofs.lemmas.Nat.{from_le_bytes-to_le_bytes_4}
+use Rattle.lucid_store.proofs.Common.{ap, sym, ◌∙◌, le_bytes, from_le_bytes-to_le_bytes_4}
 use Rattle.lucid_store.specs.Hashing as hashing
 use Rattle.lucid_store.proofs.hashing.KeyHasherHasher.write_u32.Goals as goal
 

@@ -1,4 +1,4 @@
-use Rattle.std.proofs.Common.{refl}
+use Rattle.lucid_store.proofs.Common.{refl}
 use Rattle.lucid_store.proofs.warehouse.Warehouse.sweep.Goals as goal
 
 pub returns : goal.returns

@@ -1,6 +1,5 @@
-use Rattle.std.proofs.Common.{◌≡◌, ◌≢◌, ap, subst, arith, Some}
-use Rattle.lucid_tags.specs.Contexts.{frames, cut, context_at}
-use Rattle.lucid_tags.specs.Rows.{contexts}
+use Rattle.lucid_tags.proofs.Common.{◌≡◌, ◌≢◌, ap, subst, arith, frames, cut, context_at, contexts}
+use Rattle.std.proofs.Common.{Some}
 use Rattle.lucid_tags.proofs.ContextLemmas.{cut-outer, outer-itself}
 use Rattle.lucid_tags.proofs.RowLemmas.{length-depths}
 use Rattle.lucid_tags.proofs.rows.Table.cut_to.Goals as goal

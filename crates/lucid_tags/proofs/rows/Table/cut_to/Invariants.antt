@@ -1,6 +1,4 @@
-use Rattle.std.proofs.Common.{◌≤◌, length}
-use Rattle.lucid_tags.specs.Contexts.{context_at, IsOuter}
-use Rattle.lucid_tags.specs.Rows.{contexts, IsDepth}
+use Rattle.lucid_tags.proofs.Common.{◌≤◌, length, context_at, IsOuter, contexts, IsDepth}
 use Rattle.lucid_tags.proofs.rows.Table.cut_to.Given as goal
 
 abbrev pub invariant-loop-depth : goal.invariant-loop-depth

@@ -1,5 +1,4 @@
-use Rattle.std.proofs.Common.{◌<◌, ◌-◌, length, refl, arith}
-use Rattle.std.proofs.lemmas.Option.{slice_get_read}
+use Rattle.lucid_tags.proofs.Common.{◌<◌, ◌-◌, length, refl, arith, slice_get_read}
 use Rattle.lucid_tags.proofs.RowLemmas.{IsDepth-first, depth_of-at}
 use Rattle.lucid_tags.proofs.rows.Table.depth_of.Goals as goal
 

@@ -1,8 +1,5 @@
-use Rattle.std.proofs.Common.{◌≡◌, sym, subst, ap, ◌∙◌, arith}
-use Rattle.std.proofs.lemmas.Option.{slice_get_within}
+use Rattle.lucid_tags.proofs.Common.{◌≡◌, sym, subst, ap, ◌∙◌, arith, slice_get_within, context_at, contexts, row_context}
 use Rattle.std.specs.Prelude.{Some}
-use Rattle.lucid_tags.specs.Contexts.{context_at}
-use Rattle.lucid_tags.specs.Rows.{contexts, row_context}
 use Rattle.lucid_tags.proofs.RowLemmas.{length-contexts, context_of-row, found_row, fresh-none, if_none}
 use Rattle.lucid_tags.proofs.rows.Table.number_of.Goals as goal
 

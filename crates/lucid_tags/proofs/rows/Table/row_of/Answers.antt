@@ -1,4 +1,4 @@
-use Rattle.std.proofs.Common.{sym, arith}
+use Rattle.lucid_tags.proofs.Common.{sym, arith}
 use Rattle.lucid_tags.proofs.RowLemmas.{length-contexts, row_of-at}
 use Rattle.lucid_tags.proofs.rows.Table.row_of.Goals as goal
 

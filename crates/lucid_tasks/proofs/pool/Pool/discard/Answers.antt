@@ -1,6 +1,4 @@
-use Rattle.std.proofs.Common.{◌-◌, length, ap, le_refl, arith}
-use Rattle.std.specs.Prelude.{vec_capacity}
-use Rattle.lucid_tasks.specs.Laid.{Values}
+use Rattle.lucid_tasks.proofs.Common.{◌-◌, length, ap, arith, vec_capacity, Values, le_refl}
 use Rattle.lucid_tasks.proofs.EndLemmas.{last_of}
 use Rattle.lucid_tasks.proofs.NumberedLemmas.{last_is_at, found_removed, found_keeps, unset, none_past}
 use Rattle.lucid_tasks.proofs.pool.Pool.discard.Goals as goal

@@ -1,5 +1,4 @@
-use Rattle.std.proofs.Common.{ap, sym}
-use Rattle.lucid_tasks.specs.Laid.{Values}
+use Rattle.lucid_tasks.proofs.Common.{ap, sym, Values}
 use Rattle.lucid_tasks.proofs.NumberedLemmas.{found_value, value_in_gap}
 use Rattle.lucid_tasks.proofs.pool.Pool.get.Goals as goal
 

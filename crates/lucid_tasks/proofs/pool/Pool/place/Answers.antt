@@ -1,5 +1,4 @@
-use Rattle.std.proofs.Common.{◌≡◌, ◌+◌, ◌-◌, ◌<◌, length, ap, rules}
-use Rattle.lucid_tasks.specs.Laid.{Values}
+use Rattle.lucid_tasks.proofs.Common.{◌≡◌, ◌+◌, ◌-◌, ◌<◌, length, ap, rules, Values}
 use Rattle.lucid_tasks.proofs.NumberedLemmas.{between_last}
 use Rattle.lucid_tasks.proofs.pool.Pool.place.Goals as goal
 

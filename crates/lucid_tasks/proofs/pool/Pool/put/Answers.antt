@@ -1,6 +1,4 @@
-use Rattle.std.proofs.Common.{◌≡◌, ◌<◌, length, ap, sym, subst, arith, rules}
-use Rattle.std.specs.Prelude.{vec_capacity}
-use Rattle.lucid_tasks.specs.Laid.{Values}
+use Rattle.lucid_tasks.proofs.Common.{◌≡◌, ◌<◌, length, ap, sym, subst, arith, rules, vec_capacity, Values}
 use Rattle.lucid_tasks.proofs.EndLemmas.{end_of}
 use Rattle.lucid_tasks.proofs.NumberedLemmas.{put_room, put_sets, put_keeps}
 use Rattle.lucid_tasks.proofs.pool.Pool.put.Goals as goal

@@ -1,6 +1,5 @@
-use Rattle.std.proofs.Common.{◌<◌, cond, vec_len, ap, sym, subst, rules, ◌∙◌}
-use Rattle.std.specs.Prelude.{vec_capacity, insert}
-use Rattle.lucid_tasks.specs.Laid.{Values}
+use Rattle.lucid_tasks.proofs.Common.{◌<◌, cond, vec_len, ap, sym, subst, rules, ◌∙◌, vec_capacity, Values}
+use Rattle.std.specs.Prelude.{insert}
 use Rattle.lucid_tasks.proofs.NumberedLemmas.{put_room, put_sets, put_keeps}
 use Rattle.lucid_tasks.proofs.pool.Pool.put_inside.Goals as goal
 

@@ -1,5 +1,4 @@
-use Rattle.std.proofs.Common.{ap}
-use Rattle.lucid_tasks.specs.Laid.{Values}
+use Rattle.lucid_tasks.proofs.Common.{ap, Values}
 use Rattle.lucid_tasks.proofs.NumberedLemmas.{not_found}
 use Rattle.lucid_tasks.proofs.pool.Pool.put_searched.Goals as goal
 

@@ -1,5 +1,4 @@
-use Rattle.std.proofs.Common.{◌-◌, length, ap, arith}
-use Rattle.lucid_tasks.specs.Laid.{Values}
+use Rattle.lucid_tasks.proofs.Common.{◌-◌, length, ap, arith, Values}
 use Rattle.lucid_tasks.proofs.EndLemmas.{last_of}
 use Rattle.lucid_tasks.proofs.NumberedLemmas.{last_is_at, found_value, found_removed}
 use Rattle.lucid_tasks.proofs.pool.Pool.take.Goals as goal

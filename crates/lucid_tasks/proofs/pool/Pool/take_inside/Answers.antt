@@ -1,6 +1,4 @@
-use Rattle.std.proofs.Common.{ap}
-use Rattle.std.specs.Prelude.{vec_capacity}
-use Rattle.lucid_tasks.specs.Laid.{Values}
+use Rattle.lucid_tasks.proofs.Common.{ap, vec_capacity, Values}
 use Rattle.lucid_tasks.proofs.NumberedLemmas.{found_value, found_removed, found_keeps}
 use Rattle.lucid_tasks.proofs.pool.Pool.take_inside.Goals as goal
 

@@ -1,4 +1,4 @@
-use Rattle.std.proofs.Common.{sym}
+use Rattle.lucid_tasks.proofs.Common.{sym}
 use Rattle.lucid_tasks.proofs.NumberedLemmas.{value_in_gap, unset}
 use Rattle.lucid_tasks.proofs.pool.Pool.take_searched.Goals as goal
 

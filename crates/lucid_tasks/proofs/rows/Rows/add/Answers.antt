@@ -1,7 +1,4 @@
-use Rattle.std.proofs.Common.{◌≡◌, ℕ, ◌<◌, ◌+◌, ◌*◌, ◌^◌, ◌≤◌, List, [], ◌∷◌, ◌++◌, length, Some, ap, sym, subst, rules, ◌∙◌}
-use Rattle.lucid_tasks.specs.declared.rows.Row.{Row}
-use Rattle.lucid_tasks.specs.Rows.{IsRow, SetsOnly, fresh}
-use Rattle.lucid_tasks.specs.Laid.{laid_from}
+use Rattle.lucid_tasks.proofs.Common.{◌≡◌, ℕ, ◌<◌, ◌+◌, ◌*◌, ◌^◌, ◌≤◌, List, [], ◌∷◌, ◌++◌, length, Some, ap, sym, subst, rules, ◌∙◌, Row, IsRow, SetsOnly, fresh, laid_from}
 use Rattle.lucid_tasks.proofs.LaidLemmas.{row_in_range, parent_fits, roomier, added, added_laid}
 use Rattle.lucid_tasks.proofs.rows.Rows.add.Goals as goal
 

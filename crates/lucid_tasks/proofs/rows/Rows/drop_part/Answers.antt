@@ -1,6 +1,4 @@
-use Rattle.std.proofs.Common.{None, sym, subst}
-use Rattle.lucid_tasks.specs.Numbered.{value_at, SetsOne}
-use Rattle.lucid_tasks.specs.Rows.{IsRow}
+use Rattle.lucid_tasks.proofs.Common.{None, sym, subst, value_at, SetsOne, IsRow}
 use Rattle.lucid_tasks.proofs.LaidLemmas.{the_live, taken_changes, taken_laid}
 use Rattle.lucid_tasks.proofs.rows.Rows.drop_part.Goals as goal
 

@@ -1,6 +1,4 @@
-use Rattle.std.proofs.Common.{sym, subst, ◌∙◌, arith}
-use Rattle.lucid_tasks.specs.Rows.{IsRow}
-use Rattle.lucid_tasks.specs.Laid.{part_number}
+use Rattle.lucid_tasks.proofs.Common.{sym, subst, ◌∙◌, arith, IsRow, part_number}
 use Rattle.lucid_tasks.proofs.LaidLemmas.{got_at}
 use Rattle.lucid_tasks.proofs.NumberedLemmas.{none_past}
 use Rattle.lucid_tasks.proofs.rows.Rows.drop_row.Goals as goal

@@ -1,7 +1,4 @@
-use Rattle.std.proofs.Common.{◌≡◌, ℕ, ◌<◌, None, false, sym, subst, refl, rules}
-use Rattle.lucid_tasks.specs.Numbered.{value_at}
-use Rattle.lucid_tasks.specs.Rows.{IsRow, got_of}
-use Rattle.lucid_tasks.specs.Laid.{part_number}
+use Rattle.lucid_tasks.proofs.Common.{◌≡◌, ℕ, ◌<◌, None, false, sym, subst, refl, rules, value_at, IsRow, got_of, part_number}
 use Rattle.lucid_tasks.proofs.LaidLemmas.{row_in_range, at_it, live_it, value_empty, ends, ended_laid}
 use Rattle.lucid_tasks.proofs.rows.Rows.end.Goals as goal
 

@@ -1,6 +1,4 @@
-use Rattle.std.proofs.Common.{◌≡◌, ◌<◌, None, Some, sym, subst, ap, rules, ◌∙◌}
-use Rattle.lucid_tasks.specs.Numbered.{value_at, SetsOne}
-use Rattle.lucid_tasks.specs.Rows.{IsRow, got_of}
+use Rattle.lucid_tasks.proofs.Common.{◌≡◌, ◌<◌, None, Some, sym, subst, ap, rules, ◌∙◌, value_at, SetsOne, IsRow, got_of}
 use Rattle.lucid_tasks.proofs.LaidLemmas.{row_in_range, at_it, live_it, value_empty, part_in_room, given_changes, given_laid}
 use Rattle.lucid_tasks.proofs.rows.Rows.give.Goals as goal
 

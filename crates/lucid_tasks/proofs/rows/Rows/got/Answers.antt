@@ -1,6 +1,4 @@
-use Rattle.std.proofs.Common.{sym, subst, ap, ◌∙◌}
-use Rattle.lucid_tasks.specs.Rows.{IsRow}
-use Rattle.lucid_tasks.specs.Numbered.{value_at}
+use Rattle.lucid_tasks.proofs.Common.{sym, subst, ap, ◌∙◌, IsRow, value_at}
 use Rattle.lucid_tasks.proofs.LaidLemmas.{got_at}
 use Rattle.lucid_tasks.proofs.rows.Rows.got.Goals as goal
 

@@ -1,5 +1,4 @@
-use Rattle.std.proofs.Common.{◌≡◌, ◌+◌, None, sym, subst, refl, rules}
-use Rattle.lucid_tasks.specs.Rows.{IsRow, got_of}
+use Rattle.lucid_tasks.proofs.Common.{◌≡◌, ◌+◌, None, sym, subst, refl, rules, IsRow, got_of}
 use Rattle.lucid_tasks.proofs.LaidLemmas.{row_in_range, at_it, live_it, value_empty, asked_changes, asked_laid, named_next}
 use Rattle.lucid_tasks.proofs.rows.Rows.mark_asked.Goals as goal
 

@@ -1,5 +1,4 @@
-use Rattle.std.proofs.Common.{sym, subst, rules}
-use Rattle.lucid_tasks.specs.Rows.{IsRow}
+use Rattle.lucid_tasks.proofs.Common.{sym, subst, rules, IsRow}
 use Rattle.lucid_tasks.proofs.LaidLemmas.{row_in_range, slot_is_word, shows}
 use Rattle.lucid_tasks.proofs.rows.Rows.row.Goals as goal
 

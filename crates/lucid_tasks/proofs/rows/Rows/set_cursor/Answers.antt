@@ -1,5 +1,4 @@
-use Rattle.std.proofs.Common.{sym, subst, refl, rules}
-use Rattle.lucid_tasks.specs.Rows.{IsRow, with_cursor}
+use Rattle.lucid_tasks.proofs.Common.{sym, subst, refl, rules, IsRow, with_cursor}
 use Rattle.lucid_tasks.proofs.LaidLemmas.{row_in_range, at_it, live_it, words_changes, words_laid}
 use Rattle.lucid_tasks.proofs.rows.Rows.set_cursor.Goals as goal
 

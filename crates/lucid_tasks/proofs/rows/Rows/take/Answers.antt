@@ -1,6 +1,4 @@
-use Rattle.std.proofs.Common.{None, sym, subst, ap, ◌∙◌}
-use Rattle.lucid_tasks.specs.Numbered.{value_at, SetsOne}
-use Rattle.lucid_tasks.specs.Rows.{IsRow}
+use Rattle.lucid_tasks.proofs.Common.{None, sym, subst, ap, ◌∙◌, value_at, SetsOne, IsRow}
 use Rattle.lucid_tasks.proofs.LaidLemmas.{the_live, got_at, taken_changes, taken_laid}
 use Rattle.lucid_tasks.proofs.rows.Rows.take.Goals as goal
 

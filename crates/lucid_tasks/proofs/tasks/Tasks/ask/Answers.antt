@@ -1,7 +1,4 @@
-use Rattle.std.proofs.Common.{◌≡◌, ◌≤◌, ℕ, List, [], ◌∷◌, ◌++◌, ◌==◌, cond, false, Option, Some, None, IfSome, vec_len, refl, sym, subst, ap, rules, ◌∙◌}
-use Rattle.std.specs.Prelude.{vec_capacity}
-use Rattle.lucid_tasks.specs.Slots.{is_listed, RiseFrom}
-use Rattle.lucid_tasks.specs.Rows.{TaskRow, AreTasks, IsIdlePart, SetsOnly, ChangesOnly, fresh, with_part, Asked}
+use Rattle.lucid_tasks.proofs.Common.{◌≡◌, ◌≤◌, ℕ, List, [], ◌∷◌, ◌++◌, ◌==◌, cond, false, Option, Some, None, IfSome, vec_len, refl, sym, subst, ap, rules, ◌∙◌, vec_capacity, is_listed, RiseFrom, TaskRow, AreTasks, IsIdlePart, SetsOnly, ChangesOnly, fresh, with_part, Asked}
 use Rattle.lucid_tasks.proofs.CallLemmas.{stays_listed, pushed_after}
 use Rattle.lucid_tasks.proofs.TaskLemmas.{begun_tasks, asked_tasks}
 use Rattle.lucid_tasks.proofs.tasks.Tasks.ask.Goals as goal

@@ -1,5 +1,4 @@
-use Rattle.std.proofs.Common.{sym, subst, IfSome}
-use Rattle.lucid_tasks.specs.Rows.{IsIdlePart}
+use Rattle.lucid_tasks.proofs.Common.{sym, subst, IfSome, IsIdlePart}
 use Rattle.lucid_tasks.proofs.TaskLemmas.{given_tasks}
 use Rattle.lucid_tasks.proofs.tasks.Tasks.give.Goals as goal
 

@@ -1,4 +1,4 @@
-use Rattle.std.proofs.Common.{◌<◌, length, subst, sym, arith, ◌∙◌}
+use Rattle.lucid_tasks.proofs.Common.{◌<◌, length, subst, sym, arith, ◌∙◌}
 use Rattle.lucid_tasks.proofs.ForestLemmas.{ready_meaning, ready_from_meaning, ready_exists}
 use Rattle.lucid_tasks.proofs.SlotLemmas.{some_listed}
 use Rattle.lucid_tasks.proofs.tasks.Tasks.ready.Goals as goal

@@ -1,5 +1,4 @@
-use Rattle.std.proofs.Common.{sym, subst, refl}
-use Rattle.lucid_tasks.specs.Rows.{IsRow, with_cursor}
+use Rattle.lucid_tasks.proofs.Common.{sym, subst, refl, IsRow, with_cursor}
 use Rattle.lucid_tasks.proofs.TaskLemmas.{words_tasks}
 use Rattle.lucid_tasks.proofs.tasks.Tasks.set_cursor.Goals as goal
 

@@ -1,6 +1,4 @@
-use Rattle.std.proofs.Common.{◌≡◌, true, cond, ◌==◌, sym, subst, ap, ◌∙◌, arith}
-use Rattle.lucid_tasks.specs.Slots.{is_listed}
-use Rattle.lucid_tasks.specs.Rows.{row_at, is_ready}
+use Rattle.lucid_tasks.proofs.Common.{◌≡◌, true, cond, ◌==◌, sym, subst, ap, ◌∙◌, arith, is_listed, row_at, is_ready}
 use Rattle.lucid_tasks.proofs.TaskLemmas.{settled_root, part_row, now_is_row, part_waits, settled_part, not_added}
 use Rattle.lucid_tasks.proofs.tasks.Tasks.settle.Goals as goal
 

@@ -1,5 +1,4 @@
-use Rattle.std.proofs.Common.{sym, subst}
-use Rattle.lucid_tasks.specs.Rows.{IsRow}
+use Rattle.lucid_tasks.proofs.Common.{sym, subst, IsRow}
 use Rattle.lucid_tasks.proofs.TaskLemmas.{taken_tasks}
 use Rattle.lucid_tasks.proofs.tasks.Tasks.take.Goals as goal
 

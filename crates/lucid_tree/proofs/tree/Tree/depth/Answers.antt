@@ -1,4 +1,4 @@
-use Rattle.std.proofs.Common.{arith}
+use Rattle.lucid_tree.proofs.Common.{arith}
 use Rattle.lucid_tree.proofs.Depths.{nodes_le-places}
 use Rattle.lucid_tree.proofs.tree.Tree.depth.Goals as goal
 

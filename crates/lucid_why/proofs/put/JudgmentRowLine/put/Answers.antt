@@ -1,5 +1,4 @@
-use Rattle.std.proofs.Common.{[], ◌∷◌}
-use Rattle.lucid_why.specs.Certificates.{plain_judgment}
+use Rattle.lucid_why.proofs.Common.{[], ◌∷◌, plain_judgment}
 use Rattle.lucid_texts.proofs.Spaced.{appended}
 use Rattle.lucid_why.proofs.TextMade.{judgment_put}
 use Rattle.lucid_why.proofs.put.JudgmentRowLine.put.Goals as goal

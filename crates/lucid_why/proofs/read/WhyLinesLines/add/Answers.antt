@@ -1,8 +1,5 @@
-use Rattle.std.proofs.Common.{Option, Some, sym, ap, ◌∙◌, subst}
-use Rattle.std.specs.Option.{option_map}
-use Rattle.lucid_why.specs.WhyText.{why_rows}
-use Rattle.lucid_why.specs.RowLines.{plain_row, IsRowOf}
-use Rattle.lucid_why.specs.LinesRead.{why_of}
+use Rattle.lucid_why.proofs.Common.{Option, Some, sym, ap, ◌∙◌, subst, option_map, why_rows, IsRowOf, why_of}
+use Rattle.lucid_why.specs.RowLines.{plain_row}
 use Rattle.lucid_why.specs.declared.read_rows.Row.{Row}
 use Rattle.lucid_why.proofs.OneText.{no_row_here}
 use Rattle.lucid_why.proofs.Added.{judgment_adds, context_adds, context_cannot}

@@ -1,0 +1,73 @@
+-- What the proofs of this crate take of std, and what two of them or more cite of other modules, passed on from one place. Declares nothing.
+pub use Rattle.lucid_compile.specs.Bound.{CallStand, FunctionStand, Log, NodeStand, Numbered, Stand, Target, added, added_all, added_defs, block_scopes, block_stands, bound_node, bound_nodes, call_stand, callee_place, form_stand, name_node, name_stand, no_log, no_target, node_by, numbers_in, of_call, of_name, opened_block, opened_function, reference_by, with_call, with_function, with_nodes, with_parameters, with_scopes, with_stand}
+pub use Rattle.lucid_compile.specs.Building.{Lists, OneConstant, OneNode, OneScope, lists, with_body, with_name, with_place}
+pub use Rattle.lucid_compile.specs.Compiles.{Actuals, AllKept, Callable, Compiles, DefsKept, Good, HasRow, Kept, Parameters, Shape}
+pub use Rattle.lucid_compile.specs.Counts.{valued_entries}
+pub use Rattle.lucid_compile.specs.Forms.{HasFirst, IsForm, node_of}
+pub use Rattle.lucid_compile.specs.Holds.{AddsDefs, AddsTree, AddsTrees, AreKnown, Begins, BodyFits, EachRow, FunctionsHold, Grown, GrownTo, HasTarget, Holds, IsBody, IsEntry, IsKnown, IsNameRow, IsNodeRow, IsOpen, IsPlaceRow, IsScopeRow, NameFits, NamesHold, NodeFits, NodesHold, OneForOne, PlaceFits, PlacesHold, ScopesHold, StandsAt}
+pub use Rattle.lucid_compile.specs.Keys.{IsNumberingOf, KeyLists, call_key, key_of_function, keys_of, place_key, plain_key, stand_key, with_call_key, with_function_key, with_name_key}
+pub use Rattle.lucid_compile.specs.Linked.{link, linked, linked_node, linked_place, linked_row}
+pub use Rattle.lucid_compile.specs.Numbered.{AreMarked, call_number, function_mark, key_at, mark_by, name_mark, or_no_mark}
+pub use Rattle.lucid_compile.specs.Places.{first_place, place_of}
+pub use Rattle.lucid_compile.specs.Promise.{KeepsTree}
+pub use Rattle.lucid_compile.specs.Static.{Numbers, Origin, Source, call_level, context_for, daton_of, event_of, frame, freezes, in_body, level, node_for, nodes_for, position_for, static_of}
+pub use Rattle.lucid_compile.specs.Steps.{AddsNode, AddsParameters, call_row, callee_number, numbered, row_by, row_of_call, rows_of_calls, with_calls, with_names}
+pub use Rattle.lucid_compile.specs.declared.building.Body.{Body}
+pub use Rattle.lucid_compile.specs.declared.building.Here.{Here}
+pub use Rattle.lucid_compile.specs.declared.numbering.Key.{Key}
+pub use Rattle.lucid_compile.specs.declared.numbering.Mark.{Mark}
+pub use Rattle.lucid_compile.specs.declared.numbering.Numbering.{Numbering}
+pub use Rattle.lucid_equations.proofs.Rising.{at-kept}
+pub use Rattle.lucid_equations.specs.Counts.{HasDistinct, Points, valued_datons}
+pub use Rattle.lucid_equations.specs.Datons.{Daton, NodeAim, NodePosition, call_aim, reference_aim}
+pub use Rattle.lucid_equations.specs.Nodes.{Equations, PlainEntry, PlainNode, PlainNodes, called_entry, current_entry, freeze, invoke, no_nodes, node, parameter_entry, plain_entry, reference, row}
+pub use Rattle.lucid_equations.specs.Ranges.{EachBelow, IsInRange, NodeNames, NodesAreInRange, Sizes, sizes}
+pub use Rattle.lucid_equations.specs.Rows.{all_at, as_node, at, equations_of, grow, nodes_of, parts}
+pub use Rattle.lucid_equations.specs.Sound.{EachStandsIn, HasDepth, IsFilled, IsSound, PartsStand, ScopeIs, StandsIn}
+pub use Rattle.lucid_equations.specs.Values.{node_val}
+pub use Rattle.lucid_equations.specs.declared.rows.Entry.{Entry}
+pub use Rattle.lucid_equations.specs.declared.rows.Entry.TheVariants.{Called, Current, Parameter, Plain}
+pub use Rattle.lucid_equations.specs.declared.rows.NameRow.{NameRow}
+pub use Rattle.lucid_equations.specs.declared.rows.Node.{Node}
+pub use Rattle.lucid_equations.specs.declared.rows.Node.TheVariants.{Call, Const, Freeze, Input, Refer}
+pub use Rattle.lucid_equations.specs.declared.rows.NodeRow.{NodeRow}
+pub use Rattle.lucid_equations.specs.declared.rows.PlaceRow.{PlaceRow}
+pub use Rattle.lucid_equations.specs.declared.rows.ScopeKind.{ScopeKind}
+pub use Rattle.lucid_equations.specs.declared.rows.ScopeKind.TheVariants.{Root}
+pub use Rattle.lucid_equations.specs.declared.rows.ScopeRow.{ScopeRow}
+pub use Rattle.lucid_equations.specs.declared.table.Table.{Table}
+pub use Rattle.lucid_lemmas.proofs.Truths.{both_true, first_true, second_true}
+pub use Rattle.lucid_scope.specs.Bindings.{binding_for, binding_of, call_fault, fault_of, name_fault}
+pub use Rattle.lucid_scope.specs.Scope.{Meaning, current_name, defined_in, free, function, meaning, parameter, parameter_in, plain_name}
+pub use Rattle.lucid_scope.specs.Scoped.{scoped_binding, scoped_inputs, scoped_tree}
+pub use Rattle.lucid_scope.specs.Sites.{Earlier, again, again_if, also, inside_sites, named, no_names, outside_sites, repeats, site_at, sites, sites_in}
+pub use Rattle.lucid_scope.specs.declared.refusal.ScopeRefusal.TheVariants.{Arity}
+pub use Rattle.lucid_scope.specs.declared.scoped.Binding.{Binding}
+pub use Rattle.lucid_tags.specs.Contexts.{Context, call_frame, cut, frames, frozen_frame, root}
+pub use Rattle.lucid_tree.proofs.Members.{in_left, in_map, in_right}
+pub use Rattle.lucid_tree.proofs.Times.{differ-once, once-differ, times, times-append}
+pub use Rattle.lucid_tree.specs.DefsView.{def_of, one_def}
+pub use Rattle.lucid_tree.specs.Demand.{Events}
+pub use Rattle.lucid_tree.specs.Env.{Aim, Env, Found, Position, Referent, absent, args, call_target, current_def, definition, empty, frozen_at, function_def, name_target, param, plain_def, same_name, scope, tree_at, unless_param}
+pub use Rattle.lucid_tree.specs.Levels.{Elements, Event, element_of, entered, goes_to, looked_up, nowhere, referred}
+pub use Rattle.lucid_tree.specs.Members.{AllDiffer, In}
+pub use Rattle.lucid_tree.specs.Parts.{operands}
+pub use Rattle.lucid_tree.specs.Rows.{Look, Plan, Reader, all_values, gather, gives, looks, nothing, plan, trace, with_values}
+pub use Rattle.lucid_tree.specs.Shape.{FitsHead}
+pub use Rattle.lucid_tree.specs.Size.{count, nodes_in_defs}
+pub use Rattle.lucid_tree.specs.Tree.{Head, PlainDefs, PlainTree, PlainTrees, block, call, const, defines, defines_current, defines_function, form, name, no_defs, no_trees, tree}
+pub use Rattle.lucid_tree.specs.WellMade.{IsWellMade, are_shaped, defs_are_shaped, fits_arity, is_shaped, places, places_in_defs}
+pub use Rattle.lucid_tree.specs.declared.tree.Def.{Def}
+pub use Rattle.lucid_tree.specs.declared.tree.DefKind.{DefKind}
+pub use Rattle.lucid_value.specs.Plain.{PlainValue}
+pub use Rattle.std.proofs.Common.{All, Bool, Err, IfOk, IfSome, IsTrue, List, None, Ok, OnOk, Option, Result, Some, [], add-zero, ap, append_assoc, arith, cond, drop, false, get_or, if◌then◌else◌, inl, inr, is_some, length, length-append, length-take-le, map, nat_eq, nat_le, nat_lt, refl, rules, slice_get, slice_set, subst, suc, sym, take, take_all, true, zero, ℕ, ◌&&◌, ◌*◌, ◌++◌, ◌+◌, ◌-◌, ◌<◌, ◌↔◌, ◌∙◌, ◌∷◌, ◌≡◌, ◌≤◌, ◌⊎◌}
+pub use Rattle.std.proofs.Math.Logic.{∥∥₁_elim}
+pub use Rattle.std.proofs.Math.Seq.{drop-append_seam, get_or-append_seam, take-append_seam}
+pub use Rattle.std.proofs.lemmas.Bool.Decides.{nat_tests}
+pub use Rattle.std.proofs.lemmas.List.{drop-append-le, get_or_append_left, get_or_default, length-map, map-append, take-append-le, take_more}
+pub use Rattle.std.proofs.lemmas.List.Quantifiers.{position-Some}
+pub use Rattle.std.proofs.lemmas.Option.{none-some, slice_get-map, slice_get_within}
+pub use Rattle.std.specs.Coded.{Coded-set, coded_list, coded_option}
+pub use Rattle.std.specs.List.{cons_option, filter_map, flat_map, position_or_len}
+pub use Rattle.std.specs.Map.{lookup}
+pub use Rattle.std.specs.Option.{option_map}
