@@ -1,5 +1,6 @@
 //! Certificates that are right, and wrong ones, with the judgment that is told.
 use lucid_check::{CheckFault, check_why};
+use lucid_test_programs::COUNTING;
 use lucid_test_trials::{Parts, Setup};
 use lucid_value::Value;
 use lucid_why::{Why, read_why};
@@ -171,8 +172,6 @@ fn too_large(rt: HostRuntime) -> Result<(), Fail> {
 const WHY: &[u8] =
     b"j 1 0 0 0 0 0\nj 5 0 0 0 1 0 0\nj 2 0 0 0 1 1 0\nj 3 0 0 0 0 1\nj 4 0 0 0 2 2 3 1\nj 5 0 1 0 1 4 1\nj 2 0 1 0 1 5 1\nj 3 0 1 0 0 1\nj 4 0 1 0 2 6 7 2\nj 5 0 2 0 1 8 2\nj 0 0 2 0 1 9 2\n";
 
-const COUNT: &str = "x where x = 0 fby x + 1; end";
-
 // Whether the last judgment has this value.
 fn last_is(why: &Why, value: i128) -> bool {
     match why.judgments.items().last() {
@@ -185,7 +184,7 @@ fn last_is(why: &Why, value: i128) -> bool {
 #[test]
 fn each_digit_raised(rt: HostRuntime) -> Result<(), Fail> {
     let alloc = rt.alloc();
-    let setup = Setup::of(COUNT, &[]);
+    let setup = Setup::of(COUNTING, &[]);
     assert!(rt; checked(alloc, &setup, WHY)?.is_ok());
     for (at, byte) in WHY.iter().enumerate() {
         if !matches!(*byte, b'0'..=b'8') {
@@ -207,7 +206,7 @@ fn each_digit_raised(rt: HostRuntime) -> Result<(), Fail> {
 #[test]
 fn each_cut(rt: HostRuntime) -> Result<(), Fail> {
     let alloc = rt.alloc();
-    let setup = Setup::of(COUNT, &[]);
+    let setup = Setup::of(COUNTING, &[]);
     for end in 0..WHY.len() {
         let cut = &WHY[..end];
         if read_why(alloc, cut).is_ok() {

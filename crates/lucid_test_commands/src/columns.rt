@@ -1,21 +1,18 @@
 //! Columns: several names of the outermost block side by side, and what is refused as a column.
-use crate::edges;
 use crate::inputs::LINES;
-use crate::row::{DONE, REFUSED, Row, TOO_DEEP, USAGE, each_passes, each_passes_alone};
-use crate::streams::OVER_TIME;
+use crate::row::{DONE, REFUSED, Row, TOO_DEEP, USAGE, Way, each_passes, each_passes_by};
+use lucid_test_programs::THREE_NAMES;
 use std::test::Fail;
-
-const THREE: &str = "a where a = 1 fby a + 1; b = a * a; c = 5 fby eod; end";
 
 const THREE_LINES: &str = "1\t1\t5\n2\t4\t\n3\t9\t\n";
 
 const SUM_AND_DOUBLE: &str = "s where s = a fby s + next a; d = a * 2; end";
 
-static SHOWN: [Row; 9] = [
+static SHOWN: [Row<'static>; 9] = [
     // three columns, of which the last ends early
     Row {
         words: "--columns a,b,c --count 3 p",
-        source: THREE,
+        source: THREE_NAMES,
         out: THREE_LINES,
         ..DONE
     },
@@ -76,7 +73,7 @@ static SHOWN: [Row; 9] = [
     },
 ];
 
-static INPUTS: [Row; 5] = [
+static INPUTS: [Row<'static>; 5] = [
     // an input that two columns share is read once
     Row {
         words: "--columns s,d p",
@@ -121,29 +118,29 @@ static INPUTS: [Row; 5] = [
     },
 ];
 
-static POLICIES: [Row; 6] = [
+static POLICIES: [Row<'static>; 6] = [
     Row {
         words: "--columns a,b,c --count 3 --policy none p",
-        source: THREE,
+        source: THREE_NAMES,
         out: THREE_LINES,
         ..DONE
     },
     Row {
         words: "--columns a,b,c --count 3 --policy last --room 1 p",
-        source: THREE,
+        source: THREE_NAMES,
         out: THREE_LINES,
         ..DONE
     },
     Row {
         words: "--columns a,b,c --count 3 --policy age --age 1 p",
-        source: THREE,
+        source: THREE_NAMES,
         out: THREE_LINES,
         ..DONE
     },
     // `b` needs what `a` needed: it is held once. `c` has ended after its second value
     Row {
         words: "--columns a,b,c --count 3 --stats p",
-        source: THREE,
+        source: THREE_NAMES,
         out: THREE_LINES,
         report: "lines 3 held 8 lost 0 cleared 0\n",
         ..DONE
@@ -151,7 +148,7 @@ static POLICIES: [Row; 6] = [
     // a name twice is held once
     Row {
         words: "--columns a,a --count 2 --stats p",
-        source: THREE,
+        source: THREE_NAMES,
         out: "1\t1\n2\t2\n",
         report: "lines 2 held 2 lost 0 cleared 0\n",
         ..DONE
@@ -165,7 +162,7 @@ static POLICIES: [Row; 6] = [
     },
 ];
 
-static DEEP: [Row; 5] = [
+static DEEP: [Row<'static>; 5] = [
     // the second column is too deep at once: no part of the line is written
     Row {
         words: "--columns a,b --depth 50 p",
@@ -204,17 +201,17 @@ static DEEP: [Row; 5] = [
     },
 ];
 
-static NONE: [Row; 12] = [
+static NONE: [Row<'static>; 12] = [
     Row {
         words: "--columns a,z p",
-        source: THREE,
+        source: THREE_NAMES,
         report: "no column z\n",
         ..REFUSED
     },
     // the first that is none is told
     Row {
         words: "--columns a,y,z p",
-        source: THREE,
+        source: THREE_NAMES,
         report: "no column y\n",
         ..REFUSED
     },
@@ -263,18 +260,18 @@ static NONE: [Row; 12] = [
     // no list of names
     Row {
         words: "--columns a, p",
-        source: THREE,
+        source: THREE_NAMES,
         ..USAGE
     },
     // seventeen names
     Row {
         words: "--columns a,a,a,a,a,a,a,a,a,a,a,a,a,a,a,a,a p",
-        source: THREE,
+        source: THREE_NAMES,
         ..USAGE
     },
     Row {
         words: "--columns a --print p",
-        source: THREE,
+        source: THREE_NAMES,
         ..USAGE
     },
     Row {
@@ -303,7 +300,5 @@ fn what_is_no_column(rt: HostRuntime) -> Result<(), Fail> {
 
 #[test]
 fn one_column_is_the_program(rt: HostRuntime) -> Result<(), Fail> {
-    each_passes_alone(&rt, &OVER_TIME)?;
-    each_passes_alone(&rt, &LINES)?;
-    each_passes_alone(&rt, &edges::OVER_SPACE)
+    each_passes_by(&rt, &LINES, Way::Alone)
 }

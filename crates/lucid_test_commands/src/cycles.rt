@@ -1,11 +1,11 @@
 //! Judgments by the delays along cycles of references.
 use crate::row::{DONE, REFUSED, Row, each_passes};
-use crate::streams::COUNTING;
+use lucid_test_programs::{COUNTING, FIBONACCI, SEARCH_WITHOUT_END};
 use lucid_top::Status;
 use std::test::Fail;
 
 // A depth that is enough, or a cycle. Words that a run would look at are not looked at.
-static JUDGED: [Row; 8] = [
+static JUDGED: [Row<'static>; 8] = [
     Row {
         words: "--cycles p",
         source: COUNTING,
@@ -15,7 +15,7 @@ static JUDGED: [Row; 8] = [
     // two names, and cycles of delay 2 and 1
     Row {
         words: "--cycles p",
-        source: "f where f = 0 fby g; g = 1 fby f + g; end",
+        source: FIBONACCI,
         out: "depth 2 * t + 2\n",
         ..DONE
     },
@@ -60,10 +60,10 @@ static JUDGED: [Row; 8] = [
     },
 ];
 
-static NOT_JUDGED: [Row; 4] = [
+static NOT_JUDGED: [Row<'static>; 4] = [
     Row {
         words: "--cycles p",
-        source: "1 asa false",
+        source: SEARCH_WITHOUT_END,
         report: "not judged at 2\n",
         ..REFUSED
     },

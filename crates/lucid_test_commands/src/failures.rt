@@ -1,10 +1,9 @@
 //! Failures in turn: a read or a write fails at each place at which it can.
 ghost use Rattle.std.specs.Prelude.{◌≤◌};
 
-use crate::inputs::RUNNING_SUM;
 use crate::row::{call, places_of, taken};
-use crate::streams::COUNTING;
 use lucid_ports::FailAt;
+use lucid_test_programs::{COUNTING, RUNNING_SUM};
 use lucid_top::Status;
 use std::process::Abort;
 use std::test::Fail;

@@ -1,10 +1,10 @@
 //! The flat form: what is written of a program, and what runs and is refused as a source. Its rules are those of the form: a line for each
 //! row, and each row's names lead somewhere.
-use crate::edges;
 use crate::inputs::{FAULTS, LINES};
-use crate::row::{DONE, REFUSED, Row, USAGE, call, each_passes, each_passes_flat};
-use crate::streams::{CALLS, COUNTING, DEEP, OVER_TIME, POLICIES};
+use crate::row::{DONE, REFUSED, Row, USAGE, Way, call, each_passes, each_passes_by};
+use crate::streams::{DEEP, POLICIES, UNCOUNTED};
 use lucid_ports::Endless;
+use lucid_test_programs::COUNTING;
 use lucid_top::Status;
 use std::test::Fail;
 
@@ -14,7 +14,7 @@ const ONE: &str = "lucid flat 1\nconst 1\nnode 0 const 0\nroot 0\n";
 const SUM: &str =
     "lucid flat 1\ninput b\ninput a\nnode 0 input 0\nnode 0 input 1\nnode 0 apply add 0 1 0\nroot 2\n";
 
-static WRITTEN: [Row; 4] = [
+static WRITTEN: [Row<'static>; 4] = [
     Row {
         words: "--flat p",
         source: "1",
@@ -44,7 +44,7 @@ static WRITTEN: [Row; 4] = [
     },
 ];
 
-static RUN: [Row; 6] = [
+static RUN: [Row<'static>; 6] = [
     Row {
         words: "--from-flat --count 2 p",
         source: ONE,
@@ -93,7 +93,7 @@ static RUN: [Row; 6] = [
 ];
 
 // The files of the inputs.
-static INPUTS: [Row; 4] = [
+static INPUTS: [Row<'static>; 4] = [
     Row {
         words: "--from-flat p",
         source: SUM,
@@ -121,7 +121,7 @@ static INPUTS: [Row; 4] = [
 ];
 
 // The first wrong row of a table, and the first line with which no text goes on.
-static WRONG: [Row; 12] = [
+static WRONG: [Row<'static>; 12] = [
     Row {
         words: "--from-flat p",
         source: "lucid flat 1\nscope 1 called\nconst 1\nnode 0 const 0\nroot 0\n",
@@ -208,16 +208,12 @@ fn flat_forms(rt: HostRuntime) -> Result<(), Fail> {
 }
 
 #[test]
-fn worked_programs_by_their_flat_forms(rt: HostRuntime) -> Result<(), Fail> {
-    each_passes_flat(&rt, &OVER_TIME)?;
-    each_passes_flat(&rt, &CALLS)?;
-    each_passes_flat(&rt, &POLICIES)?;
-    each_passes_flat(&rt, &DEEP)?;
-    each_passes_flat(&rt, &LINES)?;
-    each_passes_flat(&rt, &FAULTS)?;
-    each_passes_flat(&rt, &edges::OVER_TIME)?;
-    each_passes_flat(&rt, &edges::OVER_SPACE)?;
-    each_passes_flat(&rt, &edges::INTEGERS)
+fn rows_by_their_flat_forms(rt: HostRuntime) -> Result<(), Fail> {
+    each_passes_by(&rt, &UNCOUNTED, Way::Flat)?;
+    each_passes_by(&rt, &POLICIES, Way::Flat)?;
+    each_passes_by(&rt, &DEEP, Way::Flat)?;
+    each_passes_by(&rt, &LINES, Way::Flat)?;
+    each_passes_by(&rt, &FAULTS, Way::Flat)
 }
 
 #[test]

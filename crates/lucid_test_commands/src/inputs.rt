@@ -1,13 +1,11 @@
 //! Programs over inputs: their lines, and how many bytes they consume.
 use crate::row::{DONE, Row, call, each_passes, file, places_of};
-use crate::streams::COUNTING;
 use lucid_ports::{Endless, FailAt, Narrow};
+use lucid_test_programs::{COUNTING, RUNNING_SUM};
 use lucid_top::Status;
 use std::test::Fail;
 
-pub(crate) const RUNNING_SUM: &str = "s where s = a fby s + next a; end";
-
-/// The total and the largest of sales.
+/// The total and the largest of sales, with a comment.
 pub(crate) const SALES: &str =
     "total :: largest :: [] where // sales\ntotal = sale fby total + next sale; largest = sale fby if next sale > largest then next sale else largest fi; end";
 
@@ -15,39 +13,8 @@ pub(crate) const THREE_SALES: &str = "120\r\n80\r\n200\r\n";
 
 pub(crate) const TOTALS: &str = "[% 120 120 %]\n[% 200 120 %]\n[% 400 200 %]\n";
 
-pub(crate) static LINES: [Row; 8] = [
-    // running counts
-    Row {
-        source: "c where c = n where e is current a; n = (if a eq e then 1 else 0 fi) fby n + (if next a eq e then 1 else 0 fi); end; end",
-        inputs: &[("-", "5\n5\n7\n5\n")],
-        out: "1\n2\n1\n3\n",
-        ..DONE
-    },
-    // running sum
-    Row {
-        source: RUNNING_SUM,
-        inputs: &[("-", "3\n4\n5")],
-        out: "3\n7\n12\n",
-        ..DONE
-    },
-    // first element alone is read
-    Row {
-        words: "--count 3 p",
-        source: "first a",
-        inputs: &[("-", "7\n8\n9\n")],
-        out: "7\n7\n7\n",
-        taken: Some(&[2]),
-        ..DONE
-    },
-    // lines that are no values
-    Row {
-        words: "--count 3 p",
-        source: "a",
-        inputs: &[("-", "3 x y\n\ndog\n")],
-        out: "error\nerror\ndog\n",
-        ..DONE
-    },
-    // two inputs
+pub(crate) static LINES: [Row<'static>; 2] = [
+    // two inputs, of which one ends first
     Row {
         words: "p a=f b=g",
         source: "a + b",
@@ -55,32 +22,17 @@ pub(crate) static LINES: [Row; 8] = [
         out: "11\n",
         ..DONE
     },
-    // total and largest of sales
+    // a source with a comment
     Row {
         source: SALES,
         inputs: &[("-", THREE_SALES)],
         out: TOTALS,
         ..DONE
     },
-    // end of data in the input
-    Row {
-        source: "a",
-        inputs: &[("-", "1\neod\n2\n")],
-        out: "1\n",
-        taken: Some(&[6]),
-        ..DONE
-    },
-    // the last time of an input
-    Row {
-        source: "a attime 9223372036854775807",
-        inputs: &[("-", "1\n")],
-        taken: Some(&[2]),
-        ..DONE
-    },
 ];
 
 // A write fault, and read faults.
-pub(crate) static FAULTS: [Row; 3] = [
+pub(crate) static FAULTS: [Row<'static>; 3] = [
     // the second write fails
     Row {
         source: COUNTING,

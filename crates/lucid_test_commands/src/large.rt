@@ -1,6 +1,6 @@
 //! Large runs and their figures.
 use crate::row::{call, places_of};
-use crate::streams::COUNTING;
+use lucid_test_programs::{COUNTING, FIBONACCI, LONG_ADVANCE, NESTED_CURRENT};
 use lucid_top::Status;
 use std::alloc::{AllocError, Global};
 use std::process::Abort;
@@ -69,8 +69,7 @@ fn two_names_that_need_each_other(rt: HostRuntime) -> Result<(), Fail> {
         assert_eq!(rt; lines.lines().nth(time), Some(value));
     }
     let words = "--policy keep --count 94 --stats p";
-    let source = "f where f = 0 fby g; g = 1 fby f + g; end";
-    let report = report_of(&rt, words, source, Status::Done, &lines)?;
+    let report = report_of(&rt, words, FIBONACCI, Status::Done, &lines)?;
     assert_eq!(rt; report.as_str(), "lines 94 held 187 lost 0 cleared 0\n");
     Ok(())
 }
@@ -89,8 +88,7 @@ fn a_large_made_program(rt: HostRuntime) -> Result<(), Fail> {
 fn a_long_search(rt: HostRuntime) -> Result<(), Fail> {
     let lines = numbers_below(rt.alloc(), 100_000)?;
     let words = "--count 100000 --stats p";
-    let source = "x upon true where x = 0 fby x + 1; end";
-    let report = report_of(&rt, words, source, Status::Done, &lines)?;
+    let report = report_of(&rt, words, LONG_ADVANCE, Status::Done, &lines)?;
     assert_eq!(rt;
         report.as_str(),
         "lines 100000 held 100000 lost 0 cleared 0\n"
@@ -115,16 +113,13 @@ fn a_store_that_forgets_by_age(rt: HostRuntime) -> Result<(), Fail> {
     Ok(())
 }
 
-// Each line enters two contexts. With the empty one 1,000,001 are known after line 500,000, and all is cleared.
-const CLEARED: &str =
-    "m where m is current n; end where n is current k; end where k = 0 fby k + 1; end";
-
-// After the clearing `k` has to be evaluated from time 0 on, 500,000 references deep.
+// Each line enters two contexts. With the empty one 1,000,001 are known after line 500,000, and all is cleared. After the clearing `k` has to be
+// evaluated from time 0 on, 500,000 references deep.
 #[test]
 fn a_long_run_that_is_cleared(rt: HostRuntime) -> Result<(), Fail> {
     let lines = numbers_below(rt.alloc(), 500_002)?;
     let words = "--count 500002 --depth 1000000 --stats p";
-    let report = report_of(&rt, words, CLEARED, Status::Done, &lines)?;
+    let report = report_of(&rt, words, NESTED_CURRENT, Status::Done, &lines)?;
     assert_eq!(rt;
         report.as_str(),
         "lines 500002 held 500006 lost 0 cleared 1\n"
@@ -136,7 +131,7 @@ fn a_long_run_that_is_cleared(rt: HostRuntime) -> Result<(), Fail> {
 fn too_deep_after_a_clearing(rt: HostRuntime) -> Result<(), Fail> {
     let lines = numbers_below(rt.alloc(), 500_000)?;
     let words = "--count 500002 --depth 100000 --stats p";
-    let report = report_of(&rt, words, CLEARED, Status::TooDeep, &lines)?;
+    let report = report_of(&rt, words, NESTED_CURRENT, Status::TooDeep, &lines)?;
     assert_eq!(rt;
         report.as_str(),
         "too deep at time 500000 lost 0 cleared 1\n"

@@ -19,6 +19,8 @@ mod inputs;
 #[cfg(test)]
 mod large;
 #[cfg(test)]
+mod programs;
+#[cfg(test)]
 mod refused;
 #[cfg(test)]
 mod row;

@@ -1,11 +1,11 @@
 //! Sources and words that are refused, and what isn't built yet.
 use crate::row::{REFUSED, Row, USAGE, call, each_passes, places_of};
-use crate::streams::COUNTING;
+use lucid_test_programs::COUNTING;
 use lucid_top::Status;
 use std::test::Fail;
 
 // Bytes that are no tokens, and tokens that spell no program.
-static SOURCES: [Row; 6] = [
+static SOURCES: [Row<'static>; 6] = [
     Row {
         source: "",
         report: "syntax at 0\n",
@@ -39,7 +39,7 @@ static SOURCES: [Row; 6] = [
     },
 ];
 
-static NAMES: [Row; 6] = [
+static NAMES: [Row<'static>; 6] = [
     Row {
         source: "x where x = 1; x = 2; end",
         report: "defined twice at 15\n",
@@ -73,7 +73,7 @@ static NAMES: [Row; 6] = [
     },
 ];
 
-static WORDS: [Row; 6] = [
+static WORDS: [Row<'static>; 6] = [
     // no words
     Row {
         words: "",
@@ -111,7 +111,7 @@ static WORDS: [Row; 6] = [
     },
 ];
 
-static NOT_BUILT: [Row; 2] = [
+static NOT_BUILT: [Row<'static>; 2] = [
     Row {
         words: "--why 3 p",
         source: COUNTING,

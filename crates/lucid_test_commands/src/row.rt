@@ -10,25 +10,39 @@ use std::test::Fail;
 
 /// A row. The file `p` has the source.
 #[derive(Clone, Copy)]
-pub(crate) struct Row {
+pub(crate) struct Row<'a> {
+    /// By which it is told where it fails, beside its words and its source.
+    pub(crate) name: &'a str,
     /// The words, parted by blanks.
-    pub(crate) words: &'static str,
-    pub(crate) source: &'static str,
+    pub(crate) words: &'a str,
+    pub(crate) source: &'a str,
     /// The files of the inputs by their names, and their bytes.
-    pub(crate) inputs: &'static [(&'static str, &'static str)],
+    pub(crate) inputs: &'a [(&'a str, &'a str)],
     /// The reads that fail.
-    pub(crate) reads: &'static [FailAt],
+    pub(crate) reads: &'a [FailAt],
     /// The writes that fail, each counted from 0.
-    pub(crate) writes: &'static [u64],
+    pub(crate) writes: &'a [u64],
     pub(crate) status: Status,
-    pub(crate) out: &'static str,
-    pub(crate) report: &'static str,
+    pub(crate) out: &'a str,
+    pub(crate) report: &'a str,
     /// The bytes consumed of each input that is reached, where the row says so.
-    pub(crate) taken: Option<&'static [u64]>,
+    pub(crate) taken: Option<&'a [u64]>,
+}
+
+/// A way to run a row's program.
+#[derive(Clone, Copy)]
+pub(crate) enum Way {
+    /// By its source.
+    Source,
+    /// By its flat form.
+    Flat,
+    /// By its source, with its subject as the only column where that is a name.
+    Alone,
 }
 
 /// A run of `p` that is done.
-pub(crate) const DONE: Row = Row {
+pub(crate) const DONE: Row<'static> = Row {
+    name: "",
     words: "p",
     source: "",
     inputs: &[],
@@ -41,20 +55,20 @@ pub(crate) const DONE: Row = Row {
 };
 
 /// A source that is refused.
-pub(crate) const REFUSED: Row = Row {
+pub(crate) const REFUSED: Row<'static> = Row {
     status: Status::Refused,
     ..DONE
 };
 
 /// Row of words that are refused.
-pub(crate) const USAGE: Row = Row {
+pub(crate) const USAGE: Row<'static> = Row {
     status: Status::Usage,
     report: "usage: lucid [--count N] [--depth N] [--policy keep|none|age|last] [--age K] [--room N] [--stats] [--print] [--columns LIST] [--cycles] [--why T] [--check FILE] [--flat] [--from-flat] PROGRAM [NAME=FILE]... | lucid --make N\n",
     ..DONE
 };
 
 /// A run that ends at a value that is too deep.
-pub(crate) const TOO_DEEP: Row = Row {
+pub(crate) const TOO_DEEP: Row<'static> = Row {
     status: Status::TooDeep,
     ..DONE
 };
@@ -139,15 +153,19 @@ pub(crate) fn taken(alloc: Global, places: &mut MemoryPlaces) -> Result<Vec<u64>
 // The call does what the row says.
 fn passes<R: Abort + AllocGlobal>(rt: &R, row: &Row) -> Result<(), Fail> {
     let alloc = rt.alloc();
-    let (words, source) = (row.words, row.source);
+    let (name, words, source) = (row.name, row.words, row.source);
     let mut places = places_of(alloc, source.as_bytes(), row.inputs, row.reads)?;
     let answer = call(alloc, words, &mut places, 100, row.writes)?;
-    assert_eq!(rt; answer.status, row.status, "{words}: {source}");
-    assert_eq!(rt; answer.out.as_str(), row.out, "{words}: {source}");
-    assert_eq!(rt; answer.report.as_str(), row.report, "{words}: {source}");
+    assert_eq!(rt; answer.status, row.status, "{name} {words}: {source}");
+    assert_eq!(rt; answer.out.as_str(), row.out, "{name} {words}: {source}");
+    assert_eq!(rt;
+        answer.report.as_str(),
+        row.report,
+        "{name} {words}: {source}"
+    );
     if let Some(wanted) = row.taken {
         let taken = taken(alloc, &mut places)?;
-        assert_eq!(rt; taken.as_slice(), wanted, "{words}: {source}");
+        assert_eq!(rt; taken.as_slice(), wanted, "{name} {words}: {source}");
     }
     Ok(())
 }
@@ -168,16 +186,16 @@ fn is_as_told(answer: &Answer, row: &Row) -> bool {
 // The flat form of the row's program runs as the program does.
 fn passes_flat<R: Abort + AllocGlobal>(rt: &R, row: &Row) -> Result<(), Fail> {
     let alloc = rt.alloc();
-    let source = row.source;
+    let (name, source) = (row.name, row.source);
     let flat = flat_form(alloc, source)?;
-    assert_eq!(rt; flat.status, Status::Done, "{source}");
+    assert_eq!(rt; flat.status, Status::Done, "{name}: {source}");
     let words = format!(in alloc; "--from-flat {}", row.words)?;
     let mut places = places_of(alloc, flat.out.as_bytes(), row.inputs, row.reads)?;
     let answer = call(alloc, &words, &mut places, 100, row.writes)?;
-    assert!(rt; is_as_told(&answer, row), "{source}");
+    assert!(rt; is_as_told(&answer, row), "{name}: {source}");
     if let Some(wanted) = row.taken {
         let taken = taken(alloc, &mut places)?;
-        assert_eq!(rt; taken.as_slice(), wanted, "{source}");
+        assert_eq!(rt; taken.as_slice(), wanted, "{name}: {source}");
     }
     Ok(())
 }
@@ -210,25 +228,26 @@ fn passes_alone<R: Abort + AllocGlobal>(rt: &R, row: &Row) -> Result<(), Fail> {
     Ok(())
 }
 
-/// Each row whose subject is a name passes with that name as the only column.
-pub(crate) fn each_passes_alone<R: Abort + AllocGlobal>(rt: &R, rows: &[Row]) -> Result<(), Fail> {
-    for row in rows {
-        passes_alone(rt, row)?;
+/// The row passes by a way.
+pub(crate) fn passes_by<R: Abort + AllocGlobal>(rt: &R, row: &Row, way: Way) -> Result<(), Fail> {
+    match way {
+        Way::Source => passes(rt, row),
+        Way::Flat => passes_flat(rt, row),
+        Way::Alone => passes_alone(rt, row),
     }
-    Ok(())
 }
 
-/// Each row passes by the flat form of its program.
-pub(crate) fn each_passes_flat<R: Abort + AllocGlobal>(rt: &R, rows: &[Row]) -> Result<(), Fail> {
+pub(crate) fn each_passes_by<R: Abort + AllocGlobal>(
+    rt: &R,
+    rows: &[Row],
+    way: Way,
+) -> Result<(), Fail> {
     for row in rows {
-        passes_flat(rt, row)?;
+        passes_by(rt, row, way)?;
     }
     Ok(())
 }
 
 pub(crate) fn each_passes<R: Abort + AllocGlobal>(rt: &R, rows: &[Row]) -> Result<(), Fail> {
-    for row in rows {
-        passes(rt, row)?;
-    }
-    Ok(())
+    each_passes_by(rt, rows, Way::Source)
 }

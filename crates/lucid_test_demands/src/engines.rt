@@ -1,6 +1,7 @@
 //! Single engines that hold all: long runs and deep ones, and one that is cleared.
 use lucid_retire::Keep;
 use lucid_schedule::Newest;
+use lucid_test_programs::{FIBONACCI, LONG_ADVANCE};
 use lucid_test_trials::{Demand, Demands, Outcome, OverFiles, Setup, times_below};
 use std::alloc::{AllocError, Global};
 use std::process::Abort;
@@ -40,8 +41,7 @@ fn fibonacci_numbers(rt: HostRuntime) -> Result<(), Fail> {
     demands.push(Demand::at(93, 1))?;
     let mut wanted = sums(alloc, 94)?;
     wanted.push(String::from_str(alloc, "12200160415121876738")?)?;
-    let source = "f where f = 0 fby g; g = 1 fby f + g; end";
-    let outcome = outcome_of(alloc, source, &demands)?;
+    let outcome = outcome_of(alloc, FIBONACCI, &demands)?;
     assert_eq!(rt; outcome.answers, wanted);
     assert_eq!(rt; outcome.held, 187);
     Ok(())
@@ -52,7 +52,7 @@ fn fibonacci_numbers(rt: HostRuntime) -> Result<(), Fail> {
 fn long_search(rt: HostRuntime) -> Result<(), Fail> {
     let alloc = rt.alloc();
     let demands = times_below(alloc, LONG, DEPTH)?;
-    let outcome = outcome_of(alloc, "x upon true where x = 0 fby x + 1; end", &demands)?;
+    let outcome = outcome_of(alloc, LONG_ADVANCE, &demands)?;
     assert_eq!(rt; outcome.answers.len(), LONG as usize);
     for (time, answer) in outcome.answers.iter().enumerate() {
         let wanted = format!(in alloc; "{time}")?;

@@ -2,6 +2,7 @@
 //! by hand.
 use crate::wanted::Wanted;
 use lucid_ports::FailAt;
+use lucid_test_programs::{COUNTING, RUNNING_SUM, SEARCH_WITHOUT_END};
 use lucid_test_trials::{Demand, MOST_BYTES, ORDERS, Order, PLANS, Plan, Setup};
 use std::process::Abort;
 use std::test::Fail;
@@ -35,7 +36,7 @@ fn answers_so<A: Abort + AllocGlobal>(rt: &A, row: &Row) -> Result<(), Fail> {
         demands.push(Demand::at(*time, *limit))?;
         answers.push(*answer)?;
     }
-    let wanted = Wanted::of(row.setup, &demands, &answers, row.consumed, None);
+    let wanted = Wanted::of(row.setup, &demands, &answers, row.consumed);
     wanted.by_each(rt, row.plans, row.orders)
 }
 
@@ -45,10 +46,6 @@ fn each_answers_so<A: Abort + AllocGlobal>(rt: &A, rows: &[Row]) -> Result<(), F
     }
     Ok(())
 }
-
-const COUNTING: &str = "x where x = 0 fby x + 1; end";
-
-const RUNNING_SUM: &str = "s where s = a fby s + next a; end";
 
 static REFUSED: [Row; 6] = [
     // too deep
@@ -62,7 +59,7 @@ static REFUSED: [Row; 6] = [
     Row {
         plans: &PLANS,
         orders: &ORDERS,
-        setup: setup!("1 asa false", &[]),
+        setup: setup!(SEARCH_WITHOUT_END, &[]),
         answers: &[(0, 50, "too deep"), (1, 20, "too deep")],
         consumed: [0, 0],
     },

@@ -6,6 +6,8 @@ use std::test::Fail;
 /// Demands on one engine, and what they are to give.
 #[derive(Clone, Copy)]
 pub struct Wanted<'a> {
+    /// By which what fails is told, beside the source.
+    pub name: &'a str,
     pub demands: Demands<'a>,
     pub answers: &'a [&'a str],
     /// How many bytes of the first and of the second input are consumed at the end.
@@ -19,19 +21,19 @@ fn are_texts(texts: &[String], wanted: &[&str]) -> bool {
 }
 
 impl<'a> Wanted<'a> {
-    /// What demands on an engine of this setup are to give.
+    /// What demands on an engine of this setup are to give, without a name, and with nothing said of what is held.
     pub fn of(
         setup: Setup<'a>,
         demands: &'a [Demand],
         answers: &'a [&'a str],
         consumed: [u64; 2],
-        held: Option<u64>,
     ) -> Wanted<'a> {
         Wanted {
+            name: "",
             demands: Demands { setup, demands },
             answers,
             consumed,
-            held,
+            held: None,
         }
     }
 
@@ -46,7 +48,7 @@ impl<'a> Wanted<'a> {
     fn by<A: Abort + AllocGlobal>(&self, rt: &A, plan: Plan, order: Order) -> Result<(), Fail> {
         let outcome = self.demands.outcome_by(rt.alloc(), plan, order, 1)?;
         let met = self.is_met(plan, &outcome);
-        let source = self.demands.setup.source;
+        let (name, source) = (self.name, self.demands.setup.source);
         let Outcome {
             answers,
             consumed,
@@ -54,7 +56,7 @@ impl<'a> Wanted<'a> {
         } = outcome;
         assert!(rt;
             met,
-            "{source} by {plan:?}, {order:?}: {answers:?}, {consumed:?}, {held}"
+            "{name}: {source} by {plan:?}, {order:?}: {answers:?}, {consumed:?}, {held}"
         );
         Ok(())
     }

@@ -3,6 +3,7 @@ use lucid_parse::parse;
 use lucid_plain::{Stream, approximation, run};
 use lucid_ports::{MemorySink, Options, RunFault, Summary};
 use lucid_scan::scan;
+use lucid_test_programs::{COUNTING, DEEP_TREE, NO_VALUE};
 use lucid_value::{Name, Value};
 use std::alloc::Global;
 use std::test::Fail;
@@ -55,19 +56,9 @@ fn lines_ends_and_faults(rt: HostRuntime) -> Result<(), Fail> {
         ("1 whenever 5", [9], done(3, false), "error\nerror\nerror\n"),
         ("1 asa false", [9], TOO_DEEP, ""),
         ("eod + error", [9], done(0, true), ""),
-        (
-            "x where x = 0 fby x + 1; end",
-            [9],
-            done(3, false),
-            "0\n1\n2\n",
-        ),
-        (
-            "x where x = 0 fby x + 1; end",
-            [1],
-            Err(RunFault::WriteFault),
-            "0\n",
-        ),
-        ("x where x = x; end", [9], TOO_DEEP, ""),
+        (COUNTING, [9], done(3, false), "0\n1\n2\n"),
+        (COUNTING, [1], Err(RunFault::WriteFault), "0\n"),
+        (NO_VALUE, [9], TOO_DEEP, ""),
     ];
     for (source, failures, answer, written) in rows {
         let (answered, out) = three_lines(rt.alloc(), source, &failures)?;
@@ -99,8 +90,7 @@ fn an_input(rt: HostRuntime) -> Result<(), Fail> {
 #[test]
 fn a_deep_tree_at_a_deep_limit(rt: HostRuntime) -> Result<(), Fail> {
     let alloc = rt.alloc();
-    let source =
-        "x where x = not not not not not not not not not not not not not not not not not not not not not not not not not not not not not x; end";
+    let source = DEEP_TREE;
     let tokens = scan(alloc, source.as_bytes())?;
     let tree = parse(alloc, source.as_bytes(), &tokens)?;
     let value = approximation(alloc, &[], &tree, 0, 0, 100)?;

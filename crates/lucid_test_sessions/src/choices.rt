@@ -1,108 +1,46 @@
-//! Whatever drops values and whatever is picked, a run writes the same lines. Each row is worked out by hand.
+//! Whatever drops values and whatever is picked, a run of a worked program writes its lines.
 use crate::program_run::run_of;
 use lucid_ports::{MemorySink, Options, Summary};
 use lucid_retire::{Keep, Last, Nothing, Retire, Scrap, Scripted};
 use lucid_schedule::{Listed, Newest, Oldest, Pick};
 use lucid_store::Key;
 use lucid_tags::Tags;
+use lucid_test_programs::{IN_CONTEXTS, OVER_INPUTS, OVER_TIME, Worked};
 use lucid_test_trials::Setup;
 use std::alloc::{AllocError, Global};
 use std::process::Abort;
 use std::test::Fail;
 
-/// A source, the bytes of its input, and its lines at times below 5.
-#[derive(Clone, Copy)]
-struct Row {
-    source: &'static str,
-    input: &'static str,
-    lines: &'static str,
-    /// Whether the end of data comes before time 5.
-    ended: bool,
-}
-
-static ROWS: [Row; 7] = [
-    // every third number
-    Row {
-        source: "n whenever n mod 3 eq 0 where n = 0 fby n + 1; end",
-        input: "",
-        lines: "0\n3\n6\n9\n12\n",
-        ended: false,
-    },
-    // advance upon truths
-    Row {
-        source: "x upon p where x = 0 fby x + 1; p = true fby false fby p; end",
-        input: "",
-        lines: "0\n1\n1\n2\n2\n",
-        ended: false,
-    },
-    // nested iteration
-    Row {
-        source: "f asa i eq n where n is current k; i = 0 fby i + 1; f = 1 fby f * (i + 1); end where k = 0 fby k + 1; end",
-        input: "",
-        lines: "1\n1\n2\n6\n24\n",
-        ended: false,
-    },
-    // recursive function
-    Row {
-        source: "fact(n) where fact(n) = if n eq 0 then 1 else n * fact(n - 1) fi; n = 0 fby n + 1; end",
-        input: "",
-        lines: "1\n1\n2\n6\n24\n",
-        ended: false,
-    },
-    // two calls of one function
-    Row {
-        source: "sum(x) + sum(y) where sum(z) = s where s = z fby s + next z; end; x = 1 fby x + 1; y = 10; end",
-        input: "",
-        lines: "11\n23\n36\n50\n65\n",
-        ended: false,
-    },
-    // running counts
-    Row {
-        source: "c where c = n where e is current a; n = (if a eq e then 1 else 0 fi) fby n + (if next a eq e then 1 else 0 fi); end; end",
-        input: "5\n5\n7\n5\n",
-        lines: "1\n2\n1\n3\n",
-        ended: true,
-    },
-    // total and largest of sales
-    Row {
-        source: "total :: largest :: [] where total = sale fby total + next sale; largest = sale fby if next sale > largest then next sale else largest fi; end",
-        input: "120\r\n80\r\n200\r\n",
-        lines: "[% 120 120 %]\n[% 200 120 %]\n[% 400 200 %]\n",
-        ended: true,
-    },
-];
-
-// The summary of the row's run by a policy and a pick.
+// The summary of the program's run by a policy and a pick.
 fn summary_of<R: Retire, S: Pick>(
     alloc: Global,
-    row: Row,
+    program: &Worked,
     out: &mut MemorySink,
     policy: R,
     pick: S,
 ) -> Result<Summary, Fail> {
-    // The input of a row's program, where it has one, is named so.
-    let files = [("a", row.input), ("sale", row.input)];
-    let setup = Setup::of(row.source, &files);
+    let setup = Setup::of(program.source, program.inputs);
     let options = Options {
-        count: 5,
+        count: u32::try_from(program.count())?,
         depth: 100,
     };
     Ok(run_of(alloc, &setup, &options, out, policy, pick)??)
 }
 
-// The run by a policy and a pick writes the row's lines.
+// The run by a policy and a pick writes the program's lines.
 fn passes_by<A: Abort + AllocGlobal, R: Retire, S: Pick>(
     rt: &A,
-    row: Row,
+    program: &Worked,
     policy: R,
     pick: S,
 ) -> Result<(), Fail> {
     let alloc = rt.alloc();
-    let source = row.source;
+    let (name, source) = (program.name, program.source);
     let mut out = MemorySink::make(alloc, 100, Vec::new(alloc));
-    let summary = summary_of(alloc, row, &mut out, policy, pick)?;
-    assert_eq!(rt; out.written(), row.lines.as_bytes(), "{source}");
-    assert_eq!(rt; summary.ended, row.ended, "{source}");
+    let summary = summary_of(alloc, program, &mut out, policy, pick)?;
+    let lines = program.lines(alloc)?;
+    assert_eq!(rt; out.written(), lines.as_bytes(), "{name}: {source}");
+    assert_eq!(rt; summary.ended, program.ends(), "{name}: {source}");
     Ok(())
 }
 
@@ -132,42 +70,60 @@ fn scraps(alloc: Global) -> Result<Vec<Scrap>, AllocError> {
     Ok(scraps)
 }
 
-// The row passes by each policy.
+// The program passes by each policy.
 fn passes_by_each_policy<A: Abort + AllocGlobal, S: Pick + Copy>(
     rt: &A,
-    row: Row,
+    program: &Worked,
     pick: S,
 ) -> Result<(), Fail> {
     let alloc = rt.alloc();
-    passes_by(rt, row, Keep, pick)?;
-    passes_by(rt, row, Nothing, pick)?;
-    passes_by(rt, row, Last::make(alloc, 1)?, pick)?;
-    passes_by(rt, row, Scripted::make(alloc, scraps(alloc)?), pick)
+    passes_by(rt, program, Keep, pick)?;
+    passes_by(rt, program, Nothing, pick)?;
+    passes_by(rt, program, Last::make(alloc, 1)?, pick)?;
+    passes_by(rt, program, Scripted::make(alloc, scraps(alloc)?), pick)
 }
 
-#[test]
-fn newest_first(rt: HostRuntime) -> Result<(), Fail> {
-    for row in ROWS {
-        passes_by_each_policy(&rt, row, Newest)?;
+fn each_passes_by_each_policy<A: Abort + AllocGlobal, S: Pick + Copy>(
+    rt: &A,
+    programs: &[Worked],
+    pick: S,
+) -> Result<(), Fail> {
+    for program in programs {
+        passes_by_each_policy(rt, program, pick)?;
     }
     Ok(())
 }
 
 #[test]
+fn newest_first(rt: HostRuntime) -> Result<(), Fail> {
+    each_passes_by_each_policy(&rt, &OVER_TIME, Newest)?;
+    each_passes_by_each_policy(&rt, &IN_CONTEXTS, Newest)?;
+    each_passes_by_each_policy(&rt, &OVER_INPUTS, Newest)
+}
+
+#[test]
 fn oldest_first(rt: HostRuntime) -> Result<(), Fail> {
-    for row in ROWS {
-        passes_by_each_policy(&rt, row, Oldest)?;
+    each_passes_by_each_policy(&rt, &OVER_TIME, Oldest)?;
+    each_passes_by_each_policy(&rt, &IN_CONTEXTS, Oldest)?;
+    each_passes_by_each_policy(&rt, &OVER_INPUTS, Oldest)
+}
+
+fn each_passes_by_listed_numbers<A: Abort + AllocGlobal>(
+    rt: &A,
+    programs: &[Worked],
+) -> Result<(), Fail> {
+    let alloc = rt.alloc();
+    for program in programs {
+        passes_by(rt, program, Keep, Listed::make(numbers(alloc)?))?;
+        let policy = Scripted::make(alloc, scraps(alloc)?);
+        passes_by(rt, program, policy, Listed::make(numbers(alloc)?))?;
     }
     Ok(())
 }
 
 #[test]
 fn listed_numbers(rt: HostRuntime) -> Result<(), Fail> {
-    let alloc = rt.alloc();
-    for row in ROWS {
-        passes_by(&rt, row, Keep, Listed::make(numbers(alloc)?))?;
-        let policy = Scripted::make(alloc, scraps(alloc)?);
-        passes_by(&rt, row, policy, Listed::make(numbers(alloc)?))?;
-    }
-    Ok(())
+    each_passes_by_listed_numbers(&rt, &OVER_TIME)?;
+    each_passes_by_listed_numbers(&rt, &IN_CONTEXTS)?;
+    each_passes_by_listed_numbers(&rt, &OVER_INPUTS)
 }

@@ -3,6 +3,7 @@ use lucid_ports::{MAX_ASKED, MemorySink, Options, RunFault, Summary};
 use lucid_retire::{Keep, Last, Nothing, Retire};
 use lucid_schedule::Newest;
 use lucid_session::{MOST_COLUMNS, run_columns};
+use lucid_test_programs::COUNTING;
 use lucid_test_trials::{Parts, Setup};
 use std::alloc::Global;
 use std::process::Abort;
@@ -50,7 +51,7 @@ static ROWS: [Row; 9] = [
     },
     // one column is the stream
     Row {
-        source: "x where x = 0 fby x + 1; end",
+        source: COUNTING,
         columns: 1,
         input: "",
         count: 2,

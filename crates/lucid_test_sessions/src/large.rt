@@ -4,6 +4,7 @@ use lucid_ports::{MemorySink, Options, RunFault, Summary};
 use lucid_retire::{Ages, Keep};
 use lucid_schedule::Newest;
 use lucid_session::run_columns;
+use lucid_test_programs::{COUNTING, NESTED_CURRENT};
 use lucid_test_trials::{Parts, Setup};
 use std::alloc::{AllocError, Global};
 use std::test::Fail;
@@ -21,7 +22,7 @@ fn numbers_below(alloc: Global, count: u32) -> Result<String, AllocError> {
 #[test]
 fn a_store_that_forgets_by_age(rt: HostRuntime) -> Result<(), Fail> {
     let alloc = rt.alloc();
-    let setup = Setup::of("x where x = 0 fby x + 1; end", &[]);
+    let setup = Setup::of(COUNTING, &[]);
     let options = Options {
         count: 10_000,
         depth: 100,
@@ -36,11 +37,8 @@ fn a_store_that_forgets_by_age(rt: HostRuntime) -> Result<(), Fail> {
     Ok(())
 }
 
-// Each line enters two contexts. With the empty one 1,000,001 are known after line 500,000, and all is cleared.
-const CLEARED: &str =
-    "m where m is current n; end where n is current k; end where k = 0 fby k + 1; end";
-
-// After the clearing `k` has to be evaluated from time 0 on, 500,000 references deep.
+// Each line enters two contexts. With the empty one 1,000,001 are known after line 500,000, and all is cleared. After the clearing `k` has to be
+// evaluated from time 0 on, 500,000 references deep.
 #[test]
 fn a_run_that_is_cleared(rt: HostRuntime) -> Result<(), Fail> {
     let alloc = rt.alloc();
@@ -49,7 +47,7 @@ fn a_run_that_is_cleared(rt: HostRuntime) -> Result<(), Fail> {
         depth: 1_000_000,
     };
     let mut out = MemorySink::make(alloc, 100, Vec::new(alloc));
-    let setup = Setup::of(CLEARED, &[]);
+    let setup = Setup::of(NESTED_CURRENT, &[]);
     let answer = run_of(alloc, &setup, &options, &mut out, Keep, Newest)?;
     assert_eq!(rt;
         answer,
@@ -73,7 +71,7 @@ fn too_deep_after_a_clearing(rt: HostRuntime) -> Result<(), Fail> {
         depth: 100_000,
     };
     let mut out = MemorySink::make(alloc, 100, Vec::new(alloc));
-    let setup = Setup::of(CLEARED, &[]);
+    let setup = Setup::of(NESTED_CURRENT, &[]);
     let answer = run_of(alloc, &setup, &options, &mut out, Keep, Newest)?;
     assert_eq!(rt;
         answer,

@@ -7,6 +7,7 @@ use lucid_ports::{MemorySink, Options, PortFault, RunFault, Sink, Summary};
 use lucid_retire::Keep;
 use lucid_schedule::Newest;
 use lucid_session::run_columns;
+use lucid_test_programs::GROWING_LIST;
 use lucid_test_trials::{Parts, Setup};
 use std::alloc::Global;
 use std::process::Abort;
@@ -31,9 +32,7 @@ impl Sink for Pieces {
     }
 }
 
-// The growing list has lines of different lengths.
-const GROWING: &str = "x where x = [] fby i :: x; i = 0 fby i + 1; end";
-
+// The lines of the growing list, which have different lengths.
 static LINES: [&str; 4] = ["[% %]\n", "[% 0 %]\n", "[% 1 0 %]\n", "[% 2 1 0 %]\n"];
 
 // The run of four lines, where these writes fail.
@@ -50,7 +49,7 @@ fn four_lines(
         sink: MemorySink::make(alloc, 100, Vec::from_slice(alloc, failures)?),
         pieces: Vec::new(alloc),
     };
-    let setup = Setup::of(GROWING, &[]);
+    let setup = Setup::of(GROWING_LIST, &[]);
     let answer = run_of(alloc, &setup, &options, &mut out, Keep, Newest)?;
     Ok((answer, out))
 }

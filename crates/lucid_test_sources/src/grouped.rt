@@ -3,6 +3,7 @@
 use lucid_parse::parse;
 use lucid_print::print_tree;
 use lucid_scan::scan;
+use lucid_test_programs::{IN_CONTEXTS, OVER_INPUTS, OVER_SPACE, OVER_TIME, UNDEFINED, Worked};
 use std::alloc::Global;
 use std::process::Abort;
 use std::test::Fail;
@@ -88,54 +89,17 @@ fn sources_spell_the_trees_of_their_parenthesised_texts(rt: HostRuntime) -> Resu
     Ok(())
 }
 
-/// The accepted sources of the worked rows.
-static ACCEPTED: [&'static str; 50] = [
-    "1",
-    "x where x = 0 fby x + 1; end",
-    "f where f = 0 fby g; g = 1 fby f + g; end",
-    "n whenever n mod 3 eq 0 where n = 0 fby n + 1; end",
-    "x upon p where x = 0 fby x + 1; p = true fby false fby p; end",
-    "x attime 3 - x where x = 0 fby x + 1; end",
-    "x where x = x; end",
-    "1 asa false",
-    "f asa i eq n where n is current k; i = 0 fby i + 1; f = 1 fby f * (i + 1); end where k = 0 fby k + 1; end",
-    "c where c = n where e is current a; n = (if a eq e then 1 else 0 fi) fby n + (if next a eq e then 1 else 0 fi); end; end",
-    "fact(n) where fact(n) = if n eq 0 then 1 else n * fact(n - 1) fi; n = 0 fby n + 1; end",
-    "sum(x) + sum(y) where sum(z) = s where s = z fby s + next z; end; x = 1 fby x + 1; y = 10; end",
-    "s where s = a fby s + next a; end",
-    "first a",
-    "a",
-    "a attime 9223372036854775807",
-    "x where x = [] fby i :: x; i = 0 fby i + 1; end",
+/// Accepted sources that are no worked programs.
+static OTHERS: [&'static str; 13] = [
     "x where x = 1; x = 2; end",
-    "a + b",
     "total :: largest :: [] where // sales\ntotal = sale fby total + next sale; largest = sale fby if next sale > largest then next sale else largest fi; end",
-    "(next 1) attime 9223372036854775807",
-    "(1 fby 2) attime 9223372036854775807",
-    "1 attime 9223372036854775808",
-    "false and x where x = x; end",
-    "1 whenever 5",
-    "eod + error",
     "f(1) where f = 2; end",
     "f where f(x) = x; end",
     "f(1, 2) where f(x) = x; end",
     "f(1)",
-    "x where x = `a' fby x ^ x; end",
     "a+b*c wvr(p)",
     "(a - b) - (c - d)",
-    "2 ** 126 + (2 ** 126 - 1)",
-    "2 ** 127",
-    "abs (0 - 5) cmp 3",
-    "abs true",
-    "p atspace 2 where p = (1 sby 0) fby (1 sby p + succ p); end",
-    "(succ 1) atspace 9223372036854775807",
-    "x atspace 0 - 1 where x = 1; end",
-    "initial x + x where x = 4 sby 9; end",
-    "succ x where x = 4 sby 9; end",
-    "a where a = 1 fby a + 1; b = a * a; c = 5 fby eod; end",
     "x where x = 0 fby y; y = next x; end",
-    "m where m is current n; end where n is current k; end where k = 0 fby k + 1; end",
-    "x upon true where x = 0 fby x + 1; end",
     "b + a + b",
     "a + x where x = x; end",
     "(a + x) + (b + x) where x = x; end",
@@ -150,10 +114,22 @@ fn is_read_again<R: Abort + AllocGlobal>(rt: &R, source: &str) -> Result<(), Fai
     Ok(())
 }
 
+fn each_is_read_again<R: Abort + AllocGlobal>(rt: &R, programs: &[Worked]) -> Result<(), Fail> {
+    for program in programs {
+        is_read_again(rt, program.source)?;
+    }
+    Ok(())
+}
+
 // As accepted as those, the deepest tree.
 #[test]
 fn printed_texts_spell_the_same_trees(rt: HostRuntime) -> Result<(), Fail> {
-    for source in &ACCEPTED {
+    each_is_read_again(&rt, &OVER_TIME)?;
+    each_is_read_again(&rt, &OVER_SPACE)?;
+    each_is_read_again(&rt, &IN_CONTEXTS)?;
+    each_is_read_again(&rt, &OVER_INPUTS)?;
+    each_is_read_again(&rt, &UNDEFINED)?;
+    for source in &OTHERS {
         is_read_again(&rt, source)?;
     }
     let mut deepest = "not ".repeat(rt.alloc(), 399)?;

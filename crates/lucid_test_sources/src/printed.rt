@@ -2,6 +2,10 @@
 use lucid_parse::parse;
 use lucid_print::print_tree;
 use lucid_scan::scan;
+use lucid_test_programs::{
+    ADVANCE, COUNTING, DOUBLING_TEXT, FACTORIAL, FALSE_AND, FIBONACCI, GROWING_LIST, LAST_TIME,
+    MADE_NAMES, NESTED_CURRENT, NESTED_ITERATION, SALES, THIRDS, TWO_SUMS, VALUE_AT_A_TIME,
+};
 use std::alloc::Global;
 use std::test::Fail;
 
@@ -156,31 +160,31 @@ fn other_forms_and_their_places(rt: HostRuntime) -> Result<(), Fail> {
 }
 
 /// Programs that are their own canonical sources.
-const PROGRAMS: [&[u8]; 17] = [
-    b"1",
-    b"x where x = 0 fby x + 1; end",
-    b"f where f = 0 fby g; g = 1 fby f + g; end",
-    b"n whenever n mod 3 eq 0 where n = 0 fby n + 1; end",
-    b"x upon p where x = 0 fby x + 1; p = true fby false fby p; end",
-    b"x attime 3 - x where x = 0 fby x + 1; end",
-    b"f asa i eq n where n is current k; i = 0 fby i + 1; f = 1 fby f * (i + 1); end where k = 0 fby k + 1; end",
-    b"c where c = n where e is current a; n = if a eq e then 1 else 0 fi fby n + if next a eq e then 1 else 0 fi; end; end",
-    b"fact(n) where fact(n) = if n eq 0 then 1 else n * fact(n - 1) fi; n = 0 fby n + 1; end",
-    b"sum(x) + sum(y) where sum(z) = s where s = z fby s + next z; end; x = 1 fby x + 1; y = 10; end",
-    b"x where x = [] fby i :: x; i = 0 fby i + 1; end",
-    b"total :: largest :: [] where total = sale fby total + next sale; largest = sale fby if next sale > largest then next sale else largest fi; end",
-    b"(1 fby 2) attime 9223372036854775807",
-    b"false and x where x = x; end",
-    b"x where x = `a' fby x ^ x; end",
-    b"v2 where v0 = 1 fby (v0 + 1) mod 1000; v1 = v0 fby (v1 + v0) mod 1000; v2 = v1 fby (v2 + v1) mod 1000; end",
-    b"m where m is current n; end where n is current k; end where k = 0 fby k + 1; end",
+static PROGRAMS: [&'static str; 17] = [
+    "1",
+    COUNTING,
+    FIBONACCI,
+    THIRDS,
+    ADVANCE,
+    VALUE_AT_A_TIME,
+    NESTED_ITERATION,
+    "c where c = n where e is current a; n = if a eq e then 1 else 0 fi fby n + if next a eq e then 1 else 0 fi; end; end",
+    FACTORIAL,
+    TWO_SUMS,
+    GROWING_LIST,
+    SALES,
+    LAST_TIME,
+    FALSE_AND,
+    DOUBLING_TEXT,
+    MADE_NAMES,
+    NESTED_CURRENT,
 ];
 
 #[test]
 fn programs_that_are_canonical(rt: HostRuntime) -> Result<(), Fail> {
-    for program in PROGRAMS {
-        let text = canonical(rt.alloc(), program)?;
-        assert_eq!(rt; text.as_slice(), program, "{program:?}");
+    for program in &PROGRAMS {
+        let text = canonical(rt.alloc(), program.as_bytes())?;
+        assert_eq!(rt; text.as_slice(), program.as_bytes(), "{program}");
     }
     Ok(())
 }

@@ -1,5 +1,4 @@
-//! Programs without inputs, as trees and as tables: at each limit both have the same values. Each row's lines come from the rules of
-//! the language.
+//! The worked programs without inputs, as trees and as tables: at each limit both have the same values.
 ghost use Rattle.lucid_tree.specs.WellMade.{IsWellMade};
 
 use crate::table_value::{Context, Evaluator, Point};
@@ -9,14 +8,12 @@ use lucid_parse::parse;
 use lucid_plain::approximation;
 use lucid_scan::scan;
 use lucid_scope::{Scoped, resolve};
+use lucid_test_programs::{DOUBLING_TEXT, IN_CONTEXTS, OVER_SPACE, OVER_TIME, UNDEFINED, Worked};
 use lucid_tree::Tree;
 use lucid_value::Value;
 use std::alloc::Global;
 use std::process::Abort;
 use std::test::Fail;
-
-/// A source, a count of times, a limit, and the values at the times below the count by the approximation of the limit.
-type Row = (&'static str, u32, u32, &'static str);
 
 // A value's text behind those before it.
 fn add_value(alloc: Global, text: &mut String, value: &Option<Value>) -> Result<(), Fail> {
@@ -105,156 +102,64 @@ fn values_of<R: Abort + AllocGlobal>(
     same_values(rt, source, &scoped, &program, count, limit)
 }
 
-// The tree and the table have the row's values at its limit, and the same ones at each lower limit.
-fn keeps_values<R: Abort + AllocGlobal>(rt: &R, row: &Row) -> Result<(), Fail> {
-    let (source, count, limit, values) = *row;
-    let text = values_of(rt, source, count, 0, limit)?;
-    assert_eq!(rt; text.as_str(), values, "{source}");
-    Ok(())
-}
-
-fn each_keeps_values<R: Abort + AllocGlobal>(rt: &R, rows: &[Row]) -> Result<(), Fail> {
-    for row in rows {
-        keeps_values(rt, row)?;
+// The texts of the values, each behind those before it.
+fn add_texts(text: &mut String, values: &[&str]) -> Result<(), Fail> {
+    for value in values {
+        if !text.is_empty() {
+            text.push_str(" / ")?;
+        }
+        text.push_str(value)?;
     }
     Ok(())
 }
 
-// Names, forms over time and functions.
-static OVER_TIME: [Row; 16] = [
-    ("1", 3, 1, "1 / 1 / 1"),
-    ("x where x = 0 fby x + 1; end", 5, 6, "0 / 1 / 2 / 3 / 4"),
-    (
-        "f where f = 0 fby g; g = 1 fby f + g; end",
-        8,
-        9,
-        "0 / 1 / 1 / 2 / 3 / 5 / 8 / 13",
-    ),
-    (
-        "n whenever n mod 3 eq 0 where n = 0 fby n + 1; end",
-        4,
-        11,
-        "0 / 3 / 6 / 9",
-    ),
-    (
-        "x upon p where x = 0 fby x + 1; p = true fby false fby p; end",
-        5,
-        9,
-        "0 / 1 / 1 / 2 / 2",
-    ),
-    (
-        "x attime 3 - x where x = 0 fby x + 1; end",
-        6,
-        8,
-        "3 / 2 / 1 / 0 / error / error",
-    ),
-    ("x where x = x; end", 1, 20, "undefined"),
-    ("1 asa false", 1, 20, "undefined"),
-    (
-        "f asa i eq n where n is current k; i = 0 fby i + 1; f = 1 fby f * (i + 1); end where k = 0 fby k + 1; end",
-        5,
-        8,
-        "1 / 1 / 2 / 6 / 24",
-    ),
-    (
-        "fact(n) where fact(n) = if n eq 0 then 1 else n * fact(n - 1) fi; n = 0 fby n + 1; end",
-        5,
-        16,
-        "1 / 1 / 2 / 6 / 24",
-    ),
-    (
-        "sum(x) + sum(y) where sum(z) = s where s = z fby s + next z; end; x = 1 fby x + 1; y = 10; end",
-        3,
-        9,
-        "11 / 23 / 36",
-    ),
-    (
-        "f(n, 10) where f(x, y) = y - x; n = 0 fby n + 1; end",
-        3,
-        6,
-        "10 / 9 / 8",
-    ),
-    (
-        "x + y where x is current (y where y is current k + 1; end); y = 10; end where k = 0 fby k + 1; end",
-        3,
-        7,
-        "11 / 12 / 13",
-    ),
-    (
-        "x where x = [] fby i :: x; i = 0 fby i + 1; end",
-        3,
-        5,
-        "[% %] / [% 0 %] / [% 1 0 %]",
-    ),
-    (
-        "x where x = `a' fby x ^ x; end",
-        4,
-        5,
-        "`a' / `aa' / `aaaa' / `aaaaaaaa'",
-    ),
-    (
-        "v2 where\nv0 = 1 fby (v0 + 1) mod 1000;\nv1 = v0 fby (v1 + v0) mod 1000;\nv2 = v1 fby (v2 + v1) mod 1000;\nend\n",
-        5,
-        8,
-        "1 / 2 / 4 / 8 / 15",
-    ),
-];
+// The tree and the table have the program's values at a limit that is enough, and the same ones at each lower limit.
+fn keeps_values<R: Abort + AllocGlobal>(rt: &R, program: &Worked) -> Result<(), Fail> {
+    let (name, source) = (program.name, program.source);
+    let count = u32::try_from(program.count())?;
+    let text = values_of(rt, source, count, 0, program.enough)?;
+    let mut wanted = String::new(rt.alloc());
+    add_texts(&mut wanted, program.values)?;
+    add_texts(&mut wanted, program.later)?;
+    assert_eq!(rt; text, wanted, "{name}: {source}");
+    Ok(())
+}
+
+fn each_keeps_values<R: Abort + AllocGlobal>(rt: &R, programs: &[Worked]) -> Result<(), Fail> {
+    for program in programs {
+        keeps_values(rt, program)?;
+    }
+    Ok(())
+}
 
 #[test]
 fn over_time(rt: HostRuntime) -> Result<(), Fail> {
     each_keeps_values(&rt, &OVER_TIME)
 }
 
-// Edges: what isn't looked at, errors and end of data, the last time and space, the widest integers; and forms over space.
-static AT_EDGES: [Row; 17] = [
-    ("(next 1) attime 9223372036854775807", 1, 1, "error"),
-    ("(1 fby 2) attime 9223372036854775807", 1, 1, "2"),
-    ("1 attime 9223372036854775808", 2, 1, "error / error"),
-    ("false and x where x = x; end", 1, 3, "false"),
-    ("1 whenever 5", 2, 2, "error / error"),
-    ("eod + error", 1, 1, "eod"),
-    (
-        "2 ** 126 + (2 ** 126 - 1)",
-        1,
-        1,
-        "170141183460469231731687303715884105727",
-    ),
-    ("2 ** 127", 1, 1, "error"),
-    ("abs (0 - 5) cmp 3", 1, 1, "1"),
-    ("abs true", 1, 1, "error"),
-    (
-        "p atspace 2 where p = (1 sby 0) fby (1 sby p + succ p); end",
-        6,
-        8,
-        "0 / 0 / 1 / 3 / 6 / 10",
-    ),
-    ("(succ 1) atspace 9223372036854775807", 1, 1, "error"),
-    ("x atspace 0 - 1 where x = 1; end", 1, 2, "error"),
-    ("initial x + x where x = 4 sby 9; end", 1, 2, "8"),
-    ("succ x where x = 4 sby 9; end", 1, 2, "9"),
-    (
-        "a where a = 1 fby a + 1; b = a * a; c = 5 fby eod; end",
-        3,
-        4,
-        "1 / 2 / 3",
-    ),
-    (
-        "c where a = 1 fby a + 1; b = a * a; c = 5 fby eod; end",
-        3,
-        2,
-        "5 / eod / eod",
-    ),
-];
+#[test]
+fn over_space(rt: HostRuntime) -> Result<(), Fail> {
+    each_keeps_values(&rt, &OVER_SPACE)
+}
 
 #[test]
-fn at_edges(rt: HostRuntime) -> Result<(), Fail> {
-    each_keeps_values(&rt, &AT_EDGES)
+fn in_contexts(rt: HostRuntime) -> Result<(), Fail> {
+    each_keeps_values(&rt, &IN_CONTEXTS)
+}
+
+#[test]
+fn without_a_value(rt: HostRuntime) -> Result<(), Fail> {
+    for program in &UNDEFINED {
+        let text = values_of(&rt, program.source, 1, 0, 20)?;
+        assert_eq!(rt; text.as_str(), "undefined", "{}", program.name);
+    }
+    Ok(())
 }
 
 // A text that doubles at each time, and is too heavy from time 16 on: the texts of the sixteen strings and of two errors.
 #[test]
 fn weight_of_a_text(rt: HostRuntime) -> Result<(), Fail> {
-    let text = values_of(&rt, "x where x = `a' fby x ^ x; end", 18, 18, 18)?;
+    let text = values_of(&rt, DOUBLING_TEXT, 18, 18, 18)?;
     assert_eq!(rt; text.len(), 65_535 + 16 * 2 + 2 * 5 + 17 * 3);
     Ok(())
 }

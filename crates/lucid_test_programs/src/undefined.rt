@@ -1,0 +1,16 @@
+//! Programs without a value at time 0, whatever the limit.
+use crate::sources::{NO_VALUE, SEARCH_WITHOUT_END};
+use crate::worked::{PLAIN, Worked};
+
+pub static UNDEFINED: [Worked; 2] = [
+    Worked {
+        name: "name that is itself",
+        source: NO_VALUE,
+        ..PLAIN
+    },
+    Worked {
+        name: "search without end",
+        source: SEARCH_WITHOUT_END,
+        ..PLAIN
+    },
+];
