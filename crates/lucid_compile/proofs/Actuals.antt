@@ -1,6 +1,5 @@
 -- The actuals of a call place, one by one.
-use Rattle.lucid_compile.proofs.Common.{◌≡◌, ℕ, zero, suc, List, [], ◌∷◌, Option, Some, None, slice_get, refl, option_map, PlainTrees, no_trees, tree, tree_at, PlainNode, PlainNodes, no_nodes, node, at, all_at, PlaceRow, Numbers, node_for, nodes_for}
-use Rattle.lucid_equations.specs.Rows.{actuals_of}
+use Rattle.lucid_compile.proofs.Common.{◌≡◌, ℕ, zero, suc, List, [], ◌∷◌, Option, Some, None, slice_get, refl, option_map, PlainTrees, no_trees, tree, tree_at, PlainNode, PlainNodes, no_nodes, node, at, all_at, PlaceRow, Numbers, node_for, nodes_for, actuals_of}
 use Rattle.lucid_compile.specs.Static.{Static}
 
 -- the node of that index among some nodes

@@ -1,5 +1,5 @@
 -- What a tree adds, from what its parts add.
-use Rattle.lucid_compile.proofs.Common.{◌≡◌, ℕ, suc, ◌+◌, ◌<◌, Bool, true, false, ◌&&◌, IsTrue, nat_eq, nat_lt, if◌then◌else◌, length, List, [], ◌∷◌, ◌++◌, take, get_or, slice_get, Some, refl, sym, ap, ◌∙◌, subst, arith, take_more, PlainValue, fits_arity, is_shaped, Head, const, PlainTree, form, name, PlainTrees, no_trees, tree, PlainDefs, no_defs, defines, defines_function, defines_current, count, FitsHead, def_of, one_def, Def, DefKind, scoped_inputs, scoped_binding, PlainNode, PlainNodes, row, freeze, invoke, no_nodes, node, plain_entry, current_entry, parameter_entry, at-kept, freezes, frame, level, in_body, first_place, EachBelow, all_at, Const, Freeze, ScopeIs, EachStandsIn, Plain, Parameter, Current, Node, Body, Here, ScopeRow, name_mark, function_mark, call_number, plain_key, Lists, with_name, with_place, with_body, OneScope, OneConstant, OneNode, Stand, Numbered, name_node, callee_place, bound_node, bound_nodes, form_stand, name_stand, call_stand, block_stands, CallStand, FunctionStand, NodeStand, Log, with_nodes, with_scopes, block_scopes, with_call, with_parameters, added, added_all, added_defs, node_of, HasFirst, IsForm, StandsAt, IsNameRow, Grown, GrownTo, AddsTree, AddsTrees, AddsDefs, link, AddsNode, AddsParameters, first_true, second_true, Result, Ok, Err, IfOk, OnOk, add-zero, length-take-le}
+use Rattle.lucid_compile.proofs.Common.{◌≡◌, ℕ, suc, ◌+◌, ◌<◌, Bool, true, false, ◌&&◌, IsTrue, nat_eq, nat_lt, if◌then◌else◌, length, List, [], ◌∷◌, ◌++◌, take, get_or, slice_get, Some, refl, sym, ap, ◌∙◌, subst, arith, take_more, PlainValue, fits_arity, is_shaped, Head, const, PlainTree, form, name, PlainTrees, no_trees, tree, PlainDefs, no_defs, defines, defines_function, defines_current, count, FitsHead, def_of, one_def, Def, DefKind, scoped_inputs, scoped_binding, PlainNode, PlainNodes, row, freeze, invoke, no_nodes, node, plain_entry, current_entry, parameter_entry, at-kept, freezes, frame, level, in_body, first_place, EachBelow, all_at, Const, Freeze, ScopeIs, EachStandsIn, Plain, Parameter, Current, Node, Body, Here, ScopeRow, name_mark, function_mark, call_number, plain_key, Lists, with_name, with_place, with_body, OneScope, OneConstant, OneNode, Stand, Numbered, name_node, callee_place, bound_node, bound_nodes, form_stand, name_stand, call_stand, block_stands, CallStand, FunctionStand, NodeStand, Log, with_nodes, with_scopes, block_scopes, with_call, with_parameters, added, added_all, added_defs, node_of, HasFirst, IsForm, StandsAt, IsNameRow, Grown, GrownTo, AddsTree, AddsTrees, AddsDefs, link, AddsNode, AddsParameters, first_true, second_true, Result, Ok, Err, IfOk, OnOk, add-zero, length-take-le, right_of}
 use Rattle.lucid_lemmas.proofs.Lists.{slice_get-push_same as some-last}
 use Rattle.lucid_tree.specs.declared.tree.DefKind.TheVariants.{Plain as PlainKind, Function as FunctionKind, Current as CurrentKind}
 use Rattle.lucid_compile.specs.Static.{Static, in_block}
@@ -10,7 +10,6 @@ use Rattle.lucid_compile.proofs.Pairs.{pairs-count}
 use Rattle.lucid_compile.specs.Bound.{call_node}
 use Rattle.lucid_compile.proofs.Formed.{is-form}
 use Rattle.lucid_compile.specs.Holds.{nodes_in, AllGrownTo}
-use Rattle.lucid_tree.specs.Rights.{right_of}
 use Rattle.lucid_compile.specs.Steps.{AddsCall, AddsBlock, OpensRight, ClosesRight}
 use Rattle.lucid_compile.proofs.Growing.{begins-then, scope-kept, stands-kept, no-nodes, no-scopes, open-grown, opened-is, parent-below, grown-none, grown-then, push-grown, keep-grown, keep-constant, keep-known, define-grown, close-grown, place-grown, within-kept}
 use Rattle.lucid_compile.proofs.Shapes.{shaped-one, freezes-first, freezes-rest}

@@ -1,6 +1,5 @@
 -- Levels are numbers of frames, and cutting a context at a level gives the context from an entry on.
-use Rattle.lucid_compile.proofs.Common.{◌≡◌, ℕ, suc, ◌≤◌, Bool, true, false, Some, None, refl, ap, ◌∙◌, if◌then◌else◌, arith, Env, empty, scope, args, Context, call_frame, frozen_frame, frames, cut, freezes, level, Numbers, Source, static_of, context_for, Shape, Good, Equations}
-use Rattle.lucid_tags.proofs.ContextLemmas.{cut-call_frame, cut-frozen_frame, cut-frames, cut-above}
+use Rattle.lucid_compile.proofs.Common.{◌≡◌, ℕ, suc, ◌≤◌, Bool, true, false, Some, None, refl, ap, ◌∙◌, if◌then◌else◌, arith, Env, empty, scope, args, Context, call_frame, frozen_frame, frames, cut, freezes, level, Numbers, Source, static_of, context_for, Shape, Good, Equations, cut-call_frame, cut-frozen_frame, cut-frames, cut-above}
 
 -- the second context is the first, without some inner frames
 abbrev pub Outward : Context → Context → Type 0

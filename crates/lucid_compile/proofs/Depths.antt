@@ -1,6 +1,6 @@
 -- Scopes in a table: the level of what is in scope is the depth of its scope, and what is round it has a scope round its own.
-use Rattle.lucid_compile.proofs.Common.{◌≡◌, ℕ, suc, ◌+◌, Bool, true, false, if◌then◌else◌, List, ◌⊎◌, inl, inr, Some, slice_get, refl, sym, ap, ◌∙◌, subst, arith, ScopeRow, ScopeIs, HasDepth, PlainDefs, freezes, frame, level, IsOpen, IsScopeRow, ScopesHold}
-use Rattle.lucid_equations.specs.Sound.{IsRound, itself, further, deeper, outermost as no_depth}
+use Rattle.lucid_compile.proofs.Common.{◌≡◌, ℕ, suc, ◌+◌, Bool, true, false, if◌then◌else◌, List, ◌⊎◌, inl, inr, Some, slice_get, refl, sym, ap, ◌∙◌, subst, arith, ScopeRow, ScopeIs, HasDepth, PlainDefs, freezes, frame, level, IsOpen, IsScopeRow, ScopesHold, IsRound, itself, further}
+use Rattle.lucid_equations.specs.Sound.{deeper, outermost as no_depth}
 use Rattle.lucid_compile.specs.Static.{Static, outermost, in_block, in_function}
 use Rattle.lucid_compile.proofs.Pairs.{row-at}
 use Rattle.lucid_compile.proofs.Apart.{AreApart}

@@ -1,7 +1,5 @@
 -- Counts of different items, under a function that is one for one on the list.
-use Rattle.lucid_compile.proofs.Common.{◌≡◌, ℕ, ◌≤◌, length, List, [], ◌∷◌, map, refl, sym, ap, ◌∙◌, subst, inl, inr, arith, length-map, In, AllDiffer, in_map, HasDistinct}
-use Rattle.lucid_tree.specs.Members.{Inside}
-use Rattle.lucid_tree.proofs.Members.{fewer}
+use Rattle.lucid_compile.proofs.Common.{◌≡◌, ℕ, ◌≤◌, length, List, [], ◌∷◌, map, refl, sym, ap, ◌∙◌, subst, inl, inr, arith, length-map, In, AllDiffer, in_map, HasDistinct, Inside, fewer}
 
 module _ {A B : Type 0} (f : A → B) where
   pub from_map : (y : B) (xs : List A) → In y (map f xs) → (x : A) × In x xs × (y ≡ f x)

@@ -1,9 +1,6 @@
 -- The node of a form is this form of its parts.
-use Rattle.lucid_compile.proofs.Common.{◌≡◌, ℕ, ◌≤◌, IsTrue, List, [], ◌∷◌, length, take, drop, get_or, refl, sym, ap, ◌∙◌, subst, arith, Head, const, PlainTrees, count, FitsHead, fits_arity, row, all_at, node_of, IsForm}
-use Rattle.lucid_tree.specs.Tree.{apply}
-use Rattle.lucid_ops.specs.Arity.{arity}
+use Rattle.lucid_compile.proofs.Common.{◌≡◌, ℕ, ◌≤◌, IsTrue, List, [], ◌∷◌, length, take, drop, get_or, refl, sym, ap, ◌∙◌, subst, arith, Head, const, PlainTrees, count, FitsHead, fits_arity, row, all_at, node_of, IsForm, apply, arity, AreZero}
 use Rattle.lucid_ops.proofs.OperatorRows.{arity_few as few}
-use Rattle.lucid_equations.specs.Sound.{AreZero}
 use Rattle.lucid_compile.proofs.Shapes.{as_many}
 
 -- the three numbers of a node: those that are there, and 0 past them

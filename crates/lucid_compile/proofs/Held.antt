@@ -1,8 +1,6 @@
 -- Held values: entries with values, and their datons with the same values.
-use Rattle.lucid_compile.proofs.Common.{◌≡◌, ℕ, List, map, Option, Some, None, refl, sym, ap, ◌∙◌, subst, PlainValue, PlainTree, In, Elements, empty, Referent, in_map, root, Equations, Daton, Points, valued_datons, valued_entries, Numbers, Source, daton_of, Compiles}
-use Rattle.lucid_tree.specs.Levels.{HoldsExactly}
+use Rattle.lucid_compile.proofs.Common.{◌≡◌, ℕ, List, map, Option, Some, None, refl, sym, ap, ◌∙◌, subst, PlainValue, PlainTree, In, Elements, empty, Referent, in_map, root, Equations, Daton, Points, valued_datons, valued_entries, Numbers, Source, daton_of, Compiles, HoldsExactly, node_hval, eqhval}
 use Rattle.lucid_tree.specs.Meaning as of_trees
-use Rattle.lucid_equations.specs.Values.{node_hval, eqhval}
 use Rattle.lucid_compile.proofs.Targets.{Placed}
 use Rattle.lucid_compile.proofs.Same.{HeldAlike, hval-same}
 use Rattle.lucid_compile.proofs.One.{daton-one}

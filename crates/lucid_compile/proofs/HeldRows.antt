@@ -1,7 +1,6 @@
 -- The scopes of a table's rows: which scope each node, name and call place of a tree that was resolved stands in, and the name of each
 -- call place.
-use Rattle.lucid_compile.proofs.Common.{ℕ, ◌<◌, ◌++◌, length, map, sym, subst, nodes_of, Table, Numbered, Log, IsOpen, IsScopeRow, IsNodeRow, IsNameRow, IsPlaceRow, ScopesHold, NodesHold, NamesHold, PlacesHold, call_row, slice_get_within}
-use Rattle.lucid_equations.specs.Sound.{RowsHaveScopes}
+use Rattle.lucid_compile.proofs.Common.{ℕ, ◌<◌, ◌++◌, length, map, sym, subst, nodes_of, Table, Numbered, Log, IsOpen, IsScopeRow, IsNodeRow, IsNameRow, IsPlaceRow, ScopesHold, NodesHold, NamesHold, PlacesHold, call_row, slice_get_within, RowsHaveScopes}
 use Rattle.lucid_compile.specs.Static.{Static}
 use Rattle.lucid_compile.proofs.Pairs.{pairs-count, thing-at}
 

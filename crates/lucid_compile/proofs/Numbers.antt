@@ -1,10 +1,6 @@
 -- As many datons as entries, with the same values, and at most as many contexts as environments.
-use Rattle.lucid_compile.proofs.Common.{◌≡◌, ℕ, ◌≤◌, List, [], ◌∷◌, ◌++◌, map, Option, Some, None, refl, sym, ap, ◌∙◌, subst, option_map, map-append, PlainValue, PlainTree, empty, Referent, Position, Events, Elements, looked_up, referred, entered, Equations, Daton, NodePosition, node_val, HasDistinct, Points, valued_datons, valued_entries, Numbers, Source, static_of, context_for, daton_of, position_for, event_of, Kept, Good, Compiles, filter_map, flat_map, cons_option}
-use Rattle.lucid_tree.specs.Meaning.{val}
-use Rattle.lucid_tree.specs.Demand.{seen, consults, refers, refers_with_values, enters}
-use Rattle.lucid_tree.specs.Levels.{nothing_held, look_up_of, reference_of, entered_of, valued_of}
-use Rattle.lucid_equations.specs.Visits.{consults_on_nodes, visited_datons, visited_values, visited_contexts}
-use Rattle.lucid_equations.specs.Counts.{datons, contexts}
+use Rattle.lucid_compile.proofs.Common.{◌≡◌, ℕ, ◌≤◌, List, [], ◌∷◌, ◌++◌, map, Option, Some, None, refl, sym, ap, ◌∙◌, subst, option_map, map-append, PlainValue, PlainTree, empty, Referent, Position, Events, Elements, looked_up, referred, entered, Equations, Daton, NodePosition, node_val, HasDistinct, Points, valued_datons, valued_entries, Numbers, Source, static_of, context_for, daton_of, position_for, event_of, Kept, Good, Compiles, filter_map, flat_map, cons_option, val, seen, consults, refers, refers_with_values, enters, nothing_held, look_up_of, entered_of, valued_of, consults_on_nodes, visited_datons, visited_values, visited_contexts, datons, contexts}
+use Rattle.lucid_tree.specs.Levels.{reference_of}
 use Rattle.lucid_compile.specs.Counts.{entries, environments}
 use Rattle.lucid_compile.proofs.Targets.{Placed}
 use Rattle.lucid_compile.proofs.Same.{hval-same, visits-same}

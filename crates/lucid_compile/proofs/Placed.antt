@@ -1,8 +1,8 @@
 -- What is met from a tree has its rows.
-use Rattle.lucid_compile.proofs.Common.{ℕ, zero, suc, ◌+◌, Bool, true, false, List, [], ◌∷◌, ◌++◌, Option, Some, None, sym, subst, if◌then◌else◌, nat_le, inl, inr, PlainValue, PlainTree, form, name, call, block, PlainTrees, no_trees, tree, Look, Plan, gives, nothing, looks, plan, Reader, trace, gather, all_values, with_values, Env, scope, Referent, Position, Aim, name_target, call_target, element_of, goes_to, nowhere, Event, looked_up, referred, entered, Events, In, Equations, Numbers, Source, static_of, Kept, AllKept, Good}
-use Rattle.lucid_tree.specs.Levels.{Given, below, deeper}
-use Rattle.lucid_tree.specs.Meaning.{value, part_at}
-use Rattle.lucid_tree.specs.Demand.{entry_of, walk_at, walk_part, walk}
+use Rattle.lucid_compile.proofs.Common.{ℕ, zero, suc, ◌+◌, Bool, true, false, List, [], ◌∷◌, ◌++◌, Option, Some, None, sym, subst, if◌then◌else◌, nat_le, inl, inr, PlainValue, PlainTree, form, name, call, block, PlainTrees, no_trees, tree, Look, Plan, gives, nothing, looks, plan, Reader, trace, gather, all_values, with_values, Env, scope, Referent, Position, Aim, name_target, call_target, element_of, goes_to, nowhere, Event, looked_up, referred, entered, Events, In, Equations, Numbers, Source, static_of, Kept, AllKept, Good, Given, value, entry_of, walk}
+use Rattle.lucid_tree.specs.Levels.{below, deeper}
+use Rattle.lucid_tree.specs.Meaning.{part_at}
+use Rattle.lucid_tree.specs.Demand.{walk_at, walk_part}
 use Rattle.lucid_compile.proofs.Targets.{Placed, Fits, name-fits, call-fits}
 use Rattle.lucid_compile.proofs.Same.{opened}
 

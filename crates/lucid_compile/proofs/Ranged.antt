@@ -1,7 +1,6 @@
 -- The rows of a resolved tree's table are in range.
-use Rattle.lucid_compile.proofs.Common.{◌≡◌, ℕ, suc, ◌<◌, ◌≤◌, length, List, [], ◌∷◌, sym, subst, arith, In, scoped_inputs, PlainNode, PlainEntry, Sizes, NodeNames, NodesAreInRange, EachBelow, Node, Const, Input, Refer, Call, Entry, Plain, Parameter, Current, Called, NodeRow, NameRow, PlaceRow, first_place, name_mark, call_number, Stand, Numbered, name_node, Target, no_target, of_name, of_call, NodeStand, CallStand, Log, IsKnown, AreKnown, EachRow, OneForOne, HasTarget, IsNodeRow, IsEntry, IsNameRow, IsPlaceRow}
+use Rattle.lucid_compile.proofs.Common.{◌≡◌, ℕ, suc, ◌<◌, ◌≤◌, length, List, [], ◌∷◌, sym, subst, arith, In, scoped_inputs, PlainNode, PlainEntry, Sizes, NodeNames, NodesAreInRange, EachBelow, Node, Const, Input, Refer, Call, Entry, Plain, Parameter, Current, Called, NodeRow, NameRow, PlaceRow, first_place, name_mark, call_number, Stand, Numbered, name_node, Target, no_target, of_name, of_call, NodeStand, CallStand, Log, IsKnown, AreKnown, EachRow, OneForOne, HasTarget, IsNodeRow, IsEntry, IsNameRow, IsPlaceRow, EntryIsInRange, NamesAreInRange, PlacesAreInRange}
 use Rattle.std.proofs.lemmas.Option.{slice_get_within as index-below}
-use Rattle.lucid_equations.specs.Ranges.{EntryIsInRange, NamesAreInRange, PlacesAreInRange}
 use Rattle.lucid_compile.specs.Static.{Static}
 use Rattle.lucid_compile.proofs.Meeting.{NameLeads, TargetMet, NodeMet}
 

@@ -1,13 +1,11 @@
 -- The table that is compiled from a tree has its approximations, and visits what it visits.
-use Rattle.lucid_compile.proofs.Common.{◌≡◌, ℕ, zero, suc, ◌+◌, Bool, true, false, List, [], ◌∷◌, ◌++◌, map, Option, Some, None, refl, sym, ap, ◌∙◌, if◌then◌else◌, nat_le, ◌⊎◌, inl, inr, map-append, PlainValue, PlainTree, form, name, call, block, PlainTrees, no_trees, tree, PlainDefs, no_defs, defines, defines_function, defines_current, Look, Plan, gives, nothing, looks, plan, Reader, trace, gather, all_values, with_values, Env, empty, scope, args, frozen_at, Found, absent, plain_def, function_def, current_def, definition, param, Referent, Position, Aim, name_target, unless_param, call_target, element_of, goes_to, nowhere, Event, looked_up, referred, entered, Equations, Daton, NodePosition, NodeAim, reference_aim, call_aim, node_val, Context, root, meaning, freezes, level, Numbers, Source, call_level, node_for, nodes_for, static_of, context_for, daton_of, position_for, event_of, Kept, AllKept, Good, Compiles}
-use Rattle.lucid_tree.specs.Rows.{run}
+use Rattle.lucid_compile.proofs.Common.{◌≡◌, ℕ, zero, suc, ◌+◌, Bool, true, false, List, [], ◌∷◌, ◌++◌, map, Option, Some, None, refl, sym, ap, ◌∙◌, if◌then◌else◌, nat_le, ◌⊎◌, inl, inr, map-append, PlainValue, PlainTree, form, name, call, block, PlainTrees, no_trees, tree, PlainDefs, no_defs, defines, defines_function, defines_current, Look, Plan, gives, nothing, looks, plan, Reader, trace, gather, all_values, with_values, Env, empty, scope, args, frozen_at, Found, absent, plain_def, function_def, current_def, definition, param, Referent, Position, Aim, name_target, unless_param, call_target, element_of, goes_to, nowhere, Event, looked_up, referred, entered, Equations, Daton, NodePosition, NodeAim, reference_aim, call_aim, node_val, Context, root, meaning, freezes, level, Numbers, Source, call_level, node_for, nodes_for, static_of, context_for, daton_of, position_for, event_of, Kept, AllKept, Good, Compiles, run, or_else, value_at, node_value, eqval, context_of, node_walk, node_visits, visits}
 use Rattle.lucid_tree.specs.Env.{called}
 use Rattle.lucid_tree.specs.Meaning as of_trees
-use Rattle.lucid_tree.specs.Levels.{or_else}
 use Rattle.lucid_tree.specs.Demand as seen_of_trees
 use Rattle.lucid_tree.specs.Levels as levels
-use Rattle.lucid_equations.specs.Values.{value_at, part_at, node_value, eqval}
-use Rattle.lucid_equations.specs.Visits.{context_of, walk_at, walk_part, node_walk, node_visits, visits}
+use Rattle.lucid_equations.specs.Values.{part_at}
+use Rattle.lucid_equations.specs.Visits.{walk_at, walk_part}
 use Rattle.lucid_compile.specs.Static.{reference_of}
 use Rattle.lucid_compile.proofs.Cuts.{frames-level}
 use Rattle.lucid_compile.proofs.Targets.{target_of, Placed, Fits, name-goal, call-goal, name-fits, call-fits}

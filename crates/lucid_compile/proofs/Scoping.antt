@@ -1,6 +1,5 @@
 -- Names in scope: what a name is bound to is what the tree's environments find, at the numbers and levels that the numbering has.
-use Rattle.lucid_compile.proofs.Common.{◌≡◌, ℕ, suc, ◌+◌, ◌<◌, Bool, true, false, if◌then◌else◌, length, List, [], Option, Some, None, get_or, slice_get, refl, sym, ap, ◌∙◌, position-Some, position_or_len, PlainTree, PlainDefs, no_defs, defines, defines_function, defines_current, Found, absent, plain_def, function_def, current_def, definition, param, same_name, Meaning, free, plain_name, parameter, current_name, function, meaning, defined_in, parameter_in, binding_of, name_fault, call_fault, Binding, PlainEntry, in_body, level, Numbering, name_mark, function_mark, Stand, Numbered, numbers_in, reference_by, callee_place, FunctionStand}
-use Rattle.lucid_equations.specs.Nodes.{input, refer}
+use Rattle.lucid_compile.proofs.Common.{◌≡◌, ℕ, suc, ◌+◌, ◌<◌, Bool, true, false, if◌then◌else◌, length, List, [], Option, Some, None, get_or, slice_get, refl, sym, ap, ◌∙◌, position-Some, position_or_len, PlainTree, PlainDefs, no_defs, defines, defines_function, defines_current, Found, absent, plain_def, function_def, current_def, definition, param, same_name, Meaning, free, plain_name, parameter, current_name, function, meaning, defined_in, parameter_in, binding_of, name_fault, call_fault, Binding, PlainEntry, in_body, level, Numbering, name_mark, function_mark, Stand, Numbered, numbers_in, reference_by, callee_place, FunctionStand, input, refer}
 use Rattle.lucid_compile.specs.Static.{Static, outermost, in_block, in_function, reference_of}
 
 pub not_some : {A : Type 0} (x : A) → Some x ≡ None → ⊥

@@ -1,7 +1,6 @@
 -- The scopes and the nodes of a table nest.
-use Rattle.lucid_compile.proofs.Common.{◌≡◌, ℕ, zero, suc, ◌+◌, ◌<◌, List, [], ◌∷◌, Some, slice_get, sym, ap, ◌∙◌, subst, arith, none-some, ScopeKind, Root, ScopeRow, NodeRow, Table, parts, EachBelow, Sizes, sizes, NodeNames, NodesAreInRange, IsInRange, Numbered, NodeStand, EachRow, IsOpen, IsScopeRow, ScopesHold, IsNodeRow, NodesHold, NodeFits}
+use Rattle.lucid_compile.proofs.Common.{◌≡◌, ℕ, zero, suc, ◌+◌, ◌<◌, List, [], ◌∷◌, Some, slice_get, sym, ap, ◌∙◌, subst, arith, none-some, ScopeKind, Root, ScopeRow, NodeRow, Table, parts, EachBelow, Sizes, sizes, NodeNames, NodesAreInRange, IsInRange, Numbered, NodeStand, EachRow, IsOpen, IsScopeRow, ScopesHold, IsNodeRow, NodesHold, NodeFits, ScopesNest, NodesNest}
 use Rattle.lucid_equations.specs.declared.rows.ScopeKind.TheVariants.{Called as CalledScope, Frozen as FrozenScope}
-use Rattle.lucid_equations.specs.Sound.{ScopesNest, NodesNest}
 use Rattle.lucid_compile.specs.Static.{Static, outermost, in_block, in_function}
 use Rattle.lucid_compile.proofs.Pairs.{thing-at}
 use Rattle.lucid_compile.proofs.Depths.{scope-row}

@@ -67,8 +67,7 @@ impl Rows {
         ensures { IfOk result (λ id. OneConstant (lists self.old) (lists self.new) (plain value.now) id) }
     {
         let id = number(self.constants.len())?;
-        let value = value.copy(alloc)?;
-        self.constants.push(value)?;
+        self.constants.push(value.copy(alloc)?)?;
         Ok(id)
     }
 
@@ -101,25 +100,24 @@ impl Rows {
         Ok(())
     }
 
-    /// One call place more, of a call at a place, whose first actual is at a place.
+    /// One call place more, of a call at the place `name`, whose first actual is at a place.
     pub(crate) fn add_place(
         &mut self,
         here: Here,
-        at: u32,
+        name: u32,
         first: u32,
         actuals: Numbers32,
     ) -> Result<(), AllocError>
-        ensures { OnOk result (lists self.new ≡ with_place (plain_key at here.level) (plain_key first here.level) (record { scope = here.scope; name = at; actuals = actuals }) (lists self.old)) }
+        ensures { OnOk result (lists self.new ≡ with_place (plain_key name here.level) (plain_key first here.level) (record { scope = here.scope; name = name; actuals = actuals }) (lists self.old)) }
     {
         let scope = here.scope;
-        let name = at;
         let row = PlaceRow {
             scope,
             name,
             actuals,
         };
         self.places.push(row)?;
-        self.keys.calls.push(plain_key(at, here.level))?;
+        self.keys.calls.push(plain_key(name, here.level))?;
         self.keys.places.push(plain_key(first, here.level))?;
         Ok(())
     }

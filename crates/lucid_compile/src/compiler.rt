@@ -29,8 +29,7 @@ use lucid_tree::{Block, Def, DefKind, Defs, Head, Kind, Names, Places32, Shape, 
 use lucid_value::Name;
 use std::alloc::{AllocError, Global};
 
-// The number of the tree's node, which the table then has. The numbers of a node's operands wait behind others until it is made, so that
-// a level of the recursion holds no list.
+// The number of the tree's node, which the table then has. It only hands on, so that a level takes little of the machine's stack.
 #[cycle(compile)]
 fn add_tree(
     alloc: Global,
@@ -42,9 +41,26 @@ fn add_tree(
     ensures waiting { OnOk result (ids.new.items ≡ ids.old.items) }
     ensures adds { IfOk result (λ id. (w : Numbered) → AddsTree w (linked w rows.old) (linked w rows.new) here tree.now id) }
 {
-    if let Kind::Scope(block) = &tree.kind {
-        return add_block(alloc, rows, ids, block, here);
+    match &tree.kind {
+        Kind::Scope(block) => add_block(alloc, rows, ids, block, here),
+        _ => add_operands(alloc, rows, ids, tree, here),
     }
+}
+
+// The number of the node of a tree that is no block. The numbers of its operands wait behind others until it is made: no level holds a list.
+#[cycle(compile)]
+#[inline(never)]
+fn add_operands(
+    alloc: Global,
+    rows: &mut Rows,
+    ids: &mut Vec<u32>,
+    tree: &Tree,
+    here: Here,
+) -> Result<u32, AllocError>
+    requires node { IsNode tree.now }
+    ensures waiting { OnOk result (ids.new.items ≡ ids.old.items) }
+    ensures adds { IfOk result (λ id. (w : Numbered) → AddsTree w (linked w rows.old) (linked w rows.new) here tree.now id) }
+{
     let before = ids.len();
     for part in tree.operands() {
         let id = add_tree(alloc, rows, ids, part, here)?;
@@ -127,23 +143,17 @@ fn add_form(
 #[inline(never)]
 fn add_call(
     rows: &mut Rows,
-    at: u32,
-    first: u32,
+    name: u32,
+    place: u32,
     ids: Vec<u32>,
     here: Here,
 ) -> Result<u32, AllocError>
-    ensures { IfOk result (λ id. (w : Numbered) → AddsCall w (linked w rows.old) (linked w rows.new) here at first ids.items id) }
+    ensures { IfOk result (λ id. (w : Numbered) → AddsCall w (linked w rows.old) (linked w rows.new) here name place ids.items id) }
 {
     number(ids.len())?;
-    rows.add_place(here, at, first, Numbers32::from_vec(ids))?;
-    rows.push(
-        here,
-        Node::Call {
-            name: at,
-            place: first,
-            level: 0,
-        },
-    )
+    rows.add_place(here, name, place, Numbers32::from_vec(ids))?;
+    let level = 0;
+    rows.push(here, Node::Call { name, place, level })
 }
 
 // Whether a block has a current definition, and so a frame.
@@ -281,8 +291,7 @@ fn copied(alloc: Global, names: &[Name]) -> Result<Vec<Name>, AllocError>
 {
     let mut made = Vec::new(alloc);
     for name in names {
-        let name = name.copy()?;
-        made.push(name)?;
+        made.push(name.copy()?)?;
     }
     Ok(made)
 }
@@ -304,10 +313,8 @@ pub fn compile(alloc: Global, scoped: &Scoped) -> Result<Program, AllocError>
     let root = add_tree(alloc, &mut rows, &mut ids, tree, Here { scope, level: 0 })?;
     let mut numbering = Numbering::make(alloc);
     numbering.number_all(&rows.keys)?;
-    let source = Source {
-        scoped,
-        numbering: &numbering,
-    };
+    let numbering = &numbering;
+    let source = Source { scoped, numbering };
     link_rows(&source, &mut rows)?;
     let inputs = copied(alloc, scoped.inputs())?;
     let table = table_of(rows, inputs, root)?;

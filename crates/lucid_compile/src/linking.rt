@@ -133,16 +133,9 @@ fn add_calls(source: &Source, rows: &mut Rows) -> Result<(), AllocError>
 fn call_row(source: &Source, bodies: &[Body], at: u32) -> NameRow
     ensures { result ≡ row_by (slice_get bodies.now (callee_number (numbered source.now) at)) }
 {
-    match bodies.get(called(source, at).number as usize) {
-        Some(found) => {
-            let scope = found.scope;
-            let body = found.body;
-            let kind = Entry::Called { body };
-            NameRow { scope, kind }
-        }
-        None => {
-            let kind = Entry::Parameter { index: 0 };
-            NameRow { scope: 0, kind }
-        }
-    }
+    let (scope, kind) = match bodies.get(called(source, at).number as usize) {
+        Some(found) => (found.scope, Entry::Called { body: found.body }),
+        None => (0, Entry::Parameter { index: 0 }),
+    };
+    NameRow { scope, kind }
 }

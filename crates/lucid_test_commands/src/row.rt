@@ -204,7 +204,11 @@ fn passes_flat<R: Abort + AllocGlobal>(rt: &R, row: &Row) -> Result<(), Fail> {
 fn subject_of(source: &str) -> Option<&str> {
     let mut words = source.split_whitespace();
     let name = words.next()?;
-    if words.next()? == "where" {
+    let is_name = name
+        .as_bytes()
+        .iter()
+        .all(|byte| byte.is_ascii_alphanumeric());
+    if is_name && words.next()? == "where" {
         Some(name)
     } else {
         None

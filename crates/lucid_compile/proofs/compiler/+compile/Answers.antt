@@ -1,9 +1,6 @@
-use Rattle.lucid_compile.proofs.Common.{◌≡◌, ◌+◌, length, [], ◌∷◌, ◌++◌, drop, sym, ap, ◌∙◌, subst, arith, block, nodes_in_defs, operands, Freeze, ScopeRow, Here, lists, OneScope, linked, AddsTree, AddsTrees, AddsDefs, rules}
+use Rattle.lucid_compile.proofs.Common.{◌≡◌, ◌+◌, length, [], ◌∷◌, ◌++◌, drop, sym, ap, ◌∙◌, subst, arith, block, nodes_in_defs, operands, Freeze, ScopeRow, Here, lists, OneScope, linked, AddsTree, AddsTrees, AddsDefs, rules, tree_of, Block, Frozen}
 use Rattle.std.proofs.lemmas.List.{append-nil}
-use Rattle.lucid_tree.specs.View.{tree_of}
 use Rattle.lucid_tree.specs.Size.{nodes_in}
-use Rattle.lucid_tree.specs.declared.tree.Block.{Block}
-use Rattle.lucid_equations.specs.declared.rows.ScopeKind.TheVariants.{Frozen}
 use Rattle.lucid_compile.specs.declared.building.Rows.{Rows}
 use Rattle.lucid_compile.proofs.Adding.{if_ok, on_then, not-both, no_trees-added, tree-then, no_defs-added, defs-then, right-added, frozen-opened, open-added}
 use Rattle.lucid_compile.proofs.LinkedRows.{scope-linked, node-linked}
@@ -11,8 +8,8 @@ use Rattle.lucid_compile.proofs.Waiting.{none-waits, all-before, one-waits, befo
 use Rattle.lucid_compile.proofs.compiler.+compile.Goals.{add_block-then-frozen+in_ok-inside, add_block-else-frozen}
 use Rattle.lucid_compile.proofs.compiler.+compile.Goals as goal
 
-pub add_tree-loop-part-init : goal.add_tree-loop-part-init
-add_tree-loop-part-init t c =
+pub add_operands-loop-part-init : goal.add_operands-loop-part-init
+add_operands-loop-part-init t c =
     let is : c.into_iter-part-iterator.result ≡ operands c.args.tree.now = search rules in
     let all : c.len-before.result ≡ length c.args.ids.now.items = omega arith in (
       tt,
@@ -24,8 +21,8 @@ add_tree-loop-part-init t c =
       omega (arith, ap nodes_in is),
     )
 
-pub add_tree-loop-part-preserved : goal.add_tree-loop-part-preserved
-add_tree-loop-part-preserved t c =
+pub add_operands-loop-part-preserved : goal.add_operands-loop-part-preserved
+add_operands-loop-part-preserved t c =
     let more_waits : c.push.new.self.items ≡ c.loop-part.ids.items ++ c.in_ok-id.id ∷ [] = c.in_ok-push.ensures.items ∙ ap (λ l. l ++ c.in_ok-id.id ∷ []) c.in_ok-id.ensures.waiting in (
       tt,
       tt,
@@ -37,8 +34,8 @@ add_tree-loop-part-preserved t c =
       omega (arith, ap nodes_in c.in-Some.ensures.steps, c.loop-part.invariant.5),
     )
 
-pub add_tree-returns : goal.add_tree-returns
-add_tree-returns t c = record {
+pub add_operands-returns : goal.add_operands-returns
+add_operands-returns t c = record {
   waiting = on_then c.add_node.result (λ e. e ∙ c.loop-part.invariant.4) c.add_node.ensures.waiting;
   adds = if_ok c.add_node.result _ _ c.add_node.ensures.adds (λ id s w.
       s w (linked w c.args.rows.now) (subst (AddsTrees w (linked w c.args.rows.now) (linked w c.loop-part.rows) c.args.here (operands c.args.tree.now)) (append-nil (drop c.len-before.result c.loop-part.ids.items))

@@ -1,5 +1,4 @@
-use Rattle.lucid_compile.proofs.Common.{◌≡◌, get_or, ap, ◌∙◌, subst, Head, lists, OneNode, linked, linked_node, node_of}
-use Rattle.lucid_tree.specs.Shape.{head_of}
+use Rattle.lucid_compile.proofs.Common.{◌≡◌, get_or, ap, ◌∙◌, subst, Head, lists, OneNode, linked, linked_node, node_of, head_of}
 use Rattle.lucid_compile.proofs.Adding.{if_ok, form-added}
 use Rattle.lucid_compile.proofs.LinkedRows.{form-linked, first-linked, node-linked}
 use Rattle.lucid_compile.proofs.compiler.add_form.Goals as goal

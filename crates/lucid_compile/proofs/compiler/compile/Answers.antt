@@ -1,6 +1,4 @@
-use Rattle.lucid_compile.proofs.Common.{◌≡◌, ◌≤◌, length, arith, true, false, Option, Some, None, ap, sym, ◌∙◌, subst, AllDiffer, scoped_tree, scoped_inputs, Table, IsInRange, equations_of, IsSound, lists, Numbered, KeepsTree, ◌↔◌, is_some, IfSome}
-use Rattle.lucid_equations.specs.declared.program.Program.{Program}
-use Rattle.lucid_equations.specs.Programs.{table_of}
+use Rattle.lucid_compile.proofs.Common.{◌≡◌, ◌≤◌, length, arith, true, false, Option, Some, None, ap, sym, ◌∙◌, subst, AllDiffer, scoped_tree, scoped_inputs, Table, IsInRange, equations_of, IsSound, lists, Numbered, KeepsTree, ◌↔◌, is_some, IfSome, Program, table_of}
 use Rattle.lucid_compile.proofs.Final.{IsMade, keys-apart, table-made}
 use Rattle.lucid_compile.proofs.compiler.compile.Goals as goal
 

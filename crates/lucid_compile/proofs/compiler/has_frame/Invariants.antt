@@ -1,5 +1,4 @@
-use Rattle.lucid_compile.proofs.Common.{◌≡◌, drop, freezes}
-use Rattle.lucid_tree.specs.DefsView.{defs_of}
+use Rattle.lucid_compile.proofs.Common.{◌≡◌, drop, freezes, defs_of}
 use Rattle.lucid_compile.proofs.compiler.has_frame.Given as goal
 
 -- whether the block has a frame rests on the definitions that are left
