@@ -117,9 +117,14 @@ fn an_integer_past_the_widest_is_refused(rt: HostRuntime) {
 }
 
 // The program has no value at time 0 by the approximation of the limit.
-fn is_undefined<R: Abort + AllocGlobal>(rt: &R, program: &Worked, limit: u32) -> Result<(), Fail> {
+fn is_undefined<R: Abort + AllocGlobal>(
+    rt: &R,
+    streams: &[Stream],
+    program: &Worked,
+    limit: u32,
+) -> Result<(), Fail> {
     let (name, source) = (program.name, program.source);
-    let shown = text_at(rt.alloc(), &[], source, 0, limit)?;
+    let shown = text_at(rt.alloc(), streams, source, 0, limit)?;
     assert_eq!(rt; shown.as_deref(), None, "{name} at limit {limit}: {source}");
     Ok(())
 }
@@ -127,8 +132,9 @@ fn is_undefined<R: Abort + AllocGlobal>(rt: &R, program: &Worked, limit: u32) ->
 #[test]
 fn without_a_value(rt: HostRuntime) -> Result<(), Fail> {
     for program in &UNDEFINED {
-        is_undefined(&rt, program, 50)?;
-        is_undefined(&rt, program, 100)?;
+        let streams = streams_of(rt.alloc(), program.inputs)?;
+        is_undefined(&rt, &streams, program, 50)?;
+        is_undefined(&rt, &streams, program, 100)?;
     }
     Ok(())
 }
@@ -136,15 +142,16 @@ fn without_a_value(rt: HostRuntime) -> Result<(), Fail> {
 // The program has the value at the limit, and none just below it.
 fn needs<R: Abort + AllocGlobal>(
     rt: &R,
+    streams: &[Stream],
     program: &Worked,
     time: u32,
     limit: u32,
     text: &str,
 ) -> Result<(), Fail> {
     let (name, source) = (program.name, program.source);
-    let shown = text_at(rt.alloc(), &[], source, time, limit)?;
+    let shown = text_at(rt.alloc(), streams, source, time, limit)?;
     assert_eq!(rt; shown.as_deref(), Some(text), "{name} at {time}: {source}");
-    let below = text_at(rt.alloc(), &[], source, time, limit.saturating_sub(1))?;
+    let below = text_at(rt.alloc(), streams, source, time, limit.saturating_sub(1))?;
     assert_eq!(rt;
         below.as_deref(),
         None,
@@ -155,8 +162,9 @@ fn needs<R: Abort + AllocGlobal>(
 
 fn each_needs<R: Abort + AllocGlobal>(rt: &R, programs: &[Worked]) -> Result<(), Fail> {
     for program in programs {
+        let streams = streams_of(rt.alloc(), program.inputs)?;
         for (time, (limit, text)) in program.least.iter().zip(program.values).enumerate() {
-            needs(rt, program, u32::try_from(time)?, *limit, text)?;
+            needs(rt, &streams, program, u32::try_from(time)?, *limit, text)?;
         }
     }
     Ok(())
