@@ -19,6 +19,8 @@ module _ (T : Table) (w : Why) (old : Inputs) (before : World) where
     drawn = read_more_of T (contexts w) w.judgments old before n (length w.judgments) now mid l r;
     elements = r.elements;
     askable = r.askable;
+    places = r.places;
+    most = r.most;
     reads_only = r.reads_only;
   }
 

@@ -6,7 +6,7 @@ use Rattle.lucid_equations.specs.declared.table.Table.{Table}
 use Rattle.lucid_ports.specs.World.{World}
 use Rattle.lucid_ports.specs.Faults.{Rises, CountsNoFaultUnless}
 use Rattle.lucid_inputs.specs.declared.on_demand.Inputs.{Inputs}
-use Rattle.lucid_inputs.specs.Inputs.{streams}
+use Rattle.lucid_inputs.specs.Inputs.{streams, most_bytes}
 use Rattle.lucid_facts.specs.Elements.{elements_read}
 use Rattle.lucid_facts.specs.Engine.{AreAskable, ReadsOnly, places_of}
 use Rattle.lucid_why.specs.declared.rows.Why.{Why}
@@ -36,12 +36,15 @@ pub record TellsPast (T : Table) (b : Elements) (w : Why) (inputs : Inputs) (bef
 abbrev pub NoneTellsPast : Table → Why → Inputs → World → (below : ℕ) → Type 0
 NoneTellsPast T w inputs before n = (i k j : ℕ) → i < n → TellsElement T (contexts w) w.judgments i k j → LiesWithin inputs before k j
 
--- What a check does to the inputs, whatever the answer: elements that were read stay, the inputs may be asked on, no place but theirs is
--- touched, and no stream is consumed past what was, or past the end of an element that a judgment tells.
+-- What a check does to the inputs, whatever the answer: elements that were read stay, the inputs may be asked on, they have the places and the
+-- bound that they had, no place but theirs is touched, and no stream is consumed past what was, or past the end of an element that a judgment
+-- tells.
 pub record HasLooked (T : Table) (w : Why) (old new : Inputs) (before after : World) : Type 0 where
   pub drawn : DrawsFor T (contexts w) w.judgments (length w.judgments) old new after
   pub elements : Extends (elements_read T.inputs (streams old)) (elements_read T.inputs (streams new))
   pub askable : AreAskable (streams new) after
+  pub places : places_of (streams new) ≡ places_of (streams old)
+  pub most : most_bytes new ≡ most_bytes old
   pub reads_only : ReadsOnly (places_of (streams old)) before after
 
 -- What a check promises, whoever made the certificate, by all elements that there may be.
