@@ -111,21 +111,12 @@ static WORDS: [Row<'static>; 6] = [
     },
 ];
 
-static NOT_BUILT: [Row<'static>; 2] = [
-    Row {
-        words: "--why 3 p",
-        source: COUNTING,
-        report: "not built yet\n",
-        ..REFUSED
-    },
-    Row {
-        words: "--check f p",
-        source: COUNTING,
-        inputs: &[("f", "j 0 0 0 0 0 1\n")],
-        report: "not built yet\n",
-        ..REFUSED
-    },
-];
+static NOT_BUILT: [Row<'static>; 1] = [Row {
+    words: "--why 3 p",
+    source: COUNTING,
+    report: "not built yet\n",
+    ..REFUSED
+}];
 
 #[test]
 fn refused_sources_names_and_words(rt: HostRuntime) -> Result<(), Fail> {

@@ -97,7 +97,7 @@ pub(crate) fn call<P: Places>(
 ) -> Result<Answer, Fail>
     requires none { (P.world places.old).reached ≡ 0 }
     requires some { 1 ≤ most }
-    ensures few { OnOk result ((P.world places.new).reached ≤ 1048577) }
+    ensures few { OnOk result ((P.world places.new).reached ≤ 1048578) }
 {
     let mut list = Vec::new(alloc);
     for word in words.split_whitespace() {
@@ -140,7 +140,7 @@ pub(crate) fn places_of(
 
 /// The bytes consumed of each input that was reached, the source's place being the first.
 pub(crate) fn taken(alloc: Global, places: &mut MemoryPlaces) -> Result<Vec<u64>, Fail>
-    requires { (memory_world places.old).reached ≤ 1048577 }
+    requires { (memory_world places.old).reached ≤ 1048578 }
 {
     let mut taken = Vec::new(alloc);
     let reached = places.reach(alloc, "p")?;

@@ -1,10 +1,9 @@
 -- A run that never began, and one that ended for want of memory in place of another fault: what is promised of runs holds of them.
-use Rattle.lucid_top.proofs.Common.{◌≡◌, ℕ, ◌≤◌, ◌<◌, List, [], length, Option, Some, Err, inl, inr, refl, ap, sym, subst, ◌∙◌, arith, IsSomeAnd, le_refl, Contents, Rises, Summary, RunFault, Elements, Subject, RunView, HasElements, Ran, Figures, Stop, Outcome, Program, program_subject, program_counted, run_result, RanSo}
+use Rattle.lucid_top.proofs.Common.{◌≡◌, ℕ, ◌≤◌, ◌<◌, [], length, Option, Some, Err, inl, inr, refl, ap, sym, subst, ◌∙◌, arith, IsSomeAnd, le_refl, Contents, Rises, Summary, RunFault, Elements, Subject, RunView, HasElements, Ran, Figures, Stop, Outcome, Program, program_subject, program_counted, run_result, RanSo, ConsumesNothing}
 use Rattle.std.proofs.Common.{Result}
 use Rattle.lucid_ports.specs.declared.run.RunFault.TheVariants as fault
 use Rattle.lucid_ports.proofs.WritingLemmas.{with_nothing}
 use Rattle.lucid_session.specs.Subject.{no_lines}
-use Rattle.lucid_session.specs.Runs.{IsInput}
 use Rattle.lucid_top.specs.declared.stop.Stop.TheVariants as stop
 
 -- what is promised of the result of a run
@@ -15,11 +14,6 @@ RanWith p r result = (b : Elements) → HasElements r b → Ran (program_subject
 pub ran_with : (p : Program) (r : RunView) (o : Outcome) (result : Result Summary RunFault) → run_result o ≡ Some result → RanWith p r result → RanSo p r o
 ran_with p r o result is h b has =
     subst (λ x. IsSomeAnd x (λ y. Ran (program_subject p) b r y × Figures (program_counted p) b r y)) (sym is) (h b has)
-
--- nothing is consumed of any input
-abbrev pub ConsumesNothing : RunView → Type 0
-ConsumesNothing r = (k : ℕ) (n : List ℕ) (q : ℕ) → IsInput r k n q → (old new : Contents) → (r.before.place q).contents ≡ Some old → (r.after.place q).contents ≡ Some new
-    → length new.consumed ≤ length old.consumed
 
 not_below_zero : (t : ℕ) → t < 0 → ⊥
 not_below_zero t h = absurd (omega arith)

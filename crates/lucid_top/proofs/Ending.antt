@@ -1,5 +1,5 @@
 -- How a call comes to its outcome: it stops early, or it writes a text.
-use Rattle.lucid_top.proofs.Common.{◌≡◌, ◌≢◌, ℕ, ◌+◌, ◌-◌, ◌<◌, ◌≤◌, true, false, List, [], length, get_or, Option, Some, None, Ok, Err, ◌⊎◌, inl, inr, refl, sym, ap, subst, ◌∙◌, arith, slice_get, option_map, IfOk, slice_get-get_or, ∥∥₁_map, le_refl, take_all, World, Contents, with_all, PlainTree, Table, most_source_bytes, places, IsWellMade, HasNoFault, Scoped, scoped_tree, scoped_inputs, IsJudgeRefusal, JudgeRefusal, rises_from, PlainSource, file, made, PlainWords, Told, Refusal, Stop, Form, Task, Outcome, Call, task_of, form_of, is_built, WritesWhole, WritesFront, judge_stop, IsRefusalOf, RefusesText, RefusesNames, RefusesBeside, StandsBeside, HasInputs, most_flat_bytes, RefusesFlat, RefusesGiven, FitsGiven, IsSource, Asks, HasTree, HasFlat, HasNames, HasColumns, IsWriting, IsTextFor, asks_for, inputs_in, IsAskedFor, IsRun, by_words, by_task, by_text, by_flat, by_names, by_missing, by_judging, by_given, first_place, run_places, run_of, KeepsNames, ReadsSource, most_read, SpeltBySource, FlatBySource, IsAcceptedBeside, IsSourceStop, IsProgramStop, IsColumnsStop, IsReadStop, AreFresh, WritesOnly, WritesNothing, reaches_nothing, reaches_source, reaches_inputs, Rests, IsOfMade, RunsTable, Comes, OnOk}
+use Rattle.lucid_top.proofs.Common.{◌≡◌, ◌≢◌, ℕ, ◌+◌, ◌-◌, ◌<◌, ◌≤◌, true, false, List, [], length, get_or, Option, Some, None, Ok, Err, inl, inr, refl, sym, ap, subst, ◌∙◌, arith, slice_get, option_map, IfOk, slice_get-get_or, ∥∥₁_map, le_refl, take_all, World, Contents, with_all, PlainTree, Table, most_source_bytes, places, IsWellMade, HasNoFault, Scoped, scoped_tree, scoped_inputs, IsJudgeRefusal, JudgeRefusal, rises_from, PlainSource, file, made, PlainWords, Told, Refusal, Stop, Form, Task, Outcome, Call, task_of, form_of, is_built, WritesWhole, WritesFront, judge_stop, IsRefusalOf, RefusesText, RefusesNames, RefusesBeside, StandsBeside, HasInputs, most_flat_bytes, RefusesFlat, RefusesGiven, FitsGiven, IsSource, Asks, HasTree, HasFlat, HasNames, HasColumns, IsWriting, IsTextFor, asks_for, inputs_in, IsAskedFor, IsRun, by_words, by_task, by_text, by_flat, by_names, by_missing, by_judging, by_given, first_place, run_places, run_of, KeepsNames, ReadsSource, most_read, SpeltBySource, FlatBySource, IsAcceptedBeside, IsSourceStop, IsProgramStop, IsColumnsStop, IsReadStop, AreFresh, WritesOnly, WritesNothing, reaches_nothing, reaches_source, reaches_inputs, Rests, IsOfMade, RunsTable, Comes, OnOk, by_tree, certificate_places, first_input, by_columns, by_table}
 use Rattle.std.proofs.Common.{Result}
 use Rattle.lucid_ports.specs.World.{unread}
 use Rattle.lucid_scope.specs.Bindings.{IsResolved}
@@ -14,7 +14,7 @@ use Rattle.lucid_top.specs.declared.task.Form.TheVariants as form
 use Rattle.lucid_top.specs.declared.task.Task.TheVariants as task
 use Rattle.lucid_top.specs.Refusals.{words_stop}
 use Rattle.lucid_top.specs.Judged.{RefusesColumns}
-use Rattle.lucid_top.specs.Stages.{Refuses}
+use Rattle.lucid_top.specs.Stages.{HasProgram, task_for, Refuses}
 use Rattle.lucid_top.specs.Runs.{most_places}
 use Rattle.lucid_top.specs.Places.{IsAccepted}
 use Rattle.lucid_top.specs.Writing.{WritesSome, WritesSomeFront}
@@ -69,11 +69,11 @@ rests_of c w b silent few = record {
   unread = λ v asked q le lt new is.
       let read = b.read in
       let same : v ≡ w = cc (asked, read) in
-      let le' : first_place w.source ≤ q = subst (λ (u : PlainWords). first_place u.source ≤ q) same le in
+      let le' : first_input w ≤ q = subst (λ u. first_input u ≤ q) same le in
       absurd (omega (arith, few, le', lt));
 }
 
-few_places : (c : Call) (s : PlainSource) → c.after.reached ≤ first_place s → c.after.reached ≤ 1048577
+few_places : (c : Call) (s : PlainSource) → c.after.reached ≤ first_place s → c.after.reached ≤ 1048578
 few_places c s few = let one = first_place_le s in omega (arith, few, one)
 
 -- the source stops the call, which is refused as its text is
@@ -119,18 +119,18 @@ front_of_some P before after h = (h.0, h.1, whole_front h.0 before after h.2)
 -- the text that is asked for is written
 pub writes : (c : Call) (w : PlainWords) (x : IsWriting c) (o : Outcome) → Begins c w → c.after.reached ≤ first_place w.source → WritesOnly (IsTextFor x) c.out_before c.out_after o → Comes c o
 writes c w x (Ok done.Written) b few h = record {
-  only = x;
-  how = inr (inr (x, record { front = inr (front_of_some (IsTextFor x) c.out_before c.out_after h); whole = λ _. h; complete = λ _ _. inl refl }, (asks_of c w b, few)));
+  only = inl x;
+  how = inr (inr (inl (x, record { front = inr (front_of_some (IsTextFor x) c.out_before c.out_after h); whole = λ _. h; complete = λ _ _. inl refl }, (asks_of c w b, few))));
   few_places = few_places c w.source few;
 }
 writes c w x (Err stop.WriteFault) b few h = record {
   only = h.1;
-  how = inr (inr (x, record { front = inr h.0; whole = λ e. absurd (cc e); complete = λ _ writes. absurd (writes h.1) }, (asks_of c w b, few)));
+  how = inr (inr (inl (x, record { front = inr h.0; whole = λ e. absurd (cc e); complete = λ _ writes. absurd (writes h.1) }, (asks_of c w b, few))));
   few_places = few_places c w.source few;
 }
 writes c w x (Err stop.NoMemory) b few h = record {
   only = tt;
-  how = inr (inr (x, record { front = h; whole = λ e. absurd (cc e); complete = λ _ _. inr refl }, (asks_of c w b, few)));
+  how = inr (inr (inl (x, record { front = h; whole = λ e. absurd (cc e); complete = λ _ _. inr refl }, (asks_of c w b, few))));
   few_places = few_places c w.source few;
 }
 writes c w x (Ok (done.Ran summary stats)) b few h = absurd h
@@ -195,6 +195,9 @@ cycles_not_print w is = not_print w task.Cycles is (λ e. absurd (cc e))
 
 pub columns_not_print : (w : PlainWords) → task_of w ≡ task.Columns → task_of w ≢ task.Print
 columns_not_print w is = not_print w task.Columns is (λ e. absurd (cc e))
+
+pub check_not_print : (w : PlainWords) → task_of w ≡ task.Check → task_of w ≢ task.Print
+check_not_print w is = not_print w task.Check is (λ e. absurd (cc e))
 
 -- the columns that are run
 abbrev pub columns_of : (c : Call) (w : PlainWords) (q : PlainTree) (free : List (List ℕ)) → Begins c w → IsText w → task_of w ≡ task.Columns
@@ -285,12 +288,29 @@ run_of_table c w t v b fits =
       fits = subst (λ (x : PlainWords). FitsGiven (inputs_in b.program) x.given) (sym words) (subst (λ names. FitsGiven names w.given) (sym b.inputs) fits);
     }
 
+-- it reads no certificate
+first_of : (w : PlainWords) (t : Task) → task_of w ≡ t → certificate_places t ≡ 0 → first_input w ≡ first_place w.source
+first_of w t is none =
+    let here : certificate_places (task_of w) ≡ certificate_places t = ap certificate_places is in
+    ap (λ n. first_place w.source + n) (here ∙ none) ∙ and_none (first_place w.source)
+  where
+    and_none : (n : ℕ) → n + 0 ≡ n
+    and_none n = omega arith
+
+pub first_of_run : (c : Call) (w : PlainWords) (t : Table) (v : World) → RunsTable c w t v → first_input w ≡ first_place w.source
+first_of_run c w t v b = first_of w (task_for b.program) b.task (none b.program)
+  where
+    none : (p : HasProgram c) → certificate_places (task_for p) ≡ 0
+    none (by_tree n) = refl
+    none (by_columns h) = refl
+    none (by_table f) = refl
+
 -- it reaches the source's place and one for each input of the table
 pub places_of_table : (c : Call) (w : PlainWords) (t : Table) (v : World) (b : RunsTable c w t v) (fits : FitsGiven t.inputs w.given)
     → run_places (run_of (run_of_table c w t v b fits)) ≡ first_place w.source + length t.inputs
 places_of_table c w t v b fits =
     let words : (asks_for b.program).words ≡ w = words_of c w t v b in
-    ap (λ (x : PlainWords). first_place x.source + length (inputs_in b.program)) words ∙ ap (λ names. first_place w.source + length names) b.inputs
+    ap (λ x. first_input x + length (inputs_in b.program)) words ∙ ap (λ names. first_input w + length names) b.inputs ∙ ap (λ n. n + length t.inputs) (first_of_run c w t v b)
 
 -- the words NAME=FILE stop the call
 pub given_stops : (c : Call) (w : PlainWords) (t : Table) (v : World) (s : Stop) → RunsTable c w t v → IsRefusalOf (RefusesGiven t.inputs w.given) s → WritesNothing c
@@ -300,7 +320,7 @@ given_stops c w t v (stop.Refused why) b refused silent few =
     let is : IsAskedFor b.program = ap task_of same ∙ b.task in
     let here : RefusesGiven (inputs_in b.program) (asks_for b.program).words.given why =
     subst (λ (u : PlainWords). RefusesGiven (inputs_in b.program) u.given why) (sym same) (subst (λ names. RefusesGiven names w.given why) (sym b.inputs) refused) in
-    record { only = (by_given b.program is here, silent); how = inl ((by_given b.program is here, b.made), rests_of c w (begins_of c w t v b) silent few); few_places = few_places c w.source few }
+    record { only = (by_given b.program (inl is) here, silent); how = inl ((by_given b.program (inl is) here, b.made), rests_of c w (begins_of c w t v b) silent few); few_places = few_places c w.source few }
 given_stops c w t v stop.NoMemory b refused silent few = memory_stops c w (begins_of c w t v b) silent few
 given_stops c w t v _ b refused silent few = absurd refused
 
@@ -326,6 +346,23 @@ fresh_consumed files old new fresh few q le lt c is =
     let place = fresh k.0 file there lt' in
     nothing_consumed (old.holds file) (new.place (old.reached + k.0)).contents c place.contents (subst (λ n. (new.place n).contents ≡ Some c) k.1 is)
 
+-- where the places of the inputs were reached and no more, nothing of an input is read
+pub inputs_unread : (c : Call) (w : PlainWords) (files : List (List ℕ)) (v : World) → c.asked ≡ Some w → v.reached ≡ first_input w → AreFresh files v c.after
+    → c.after.reached ≤ v.reached + length files → (u : PlainWords) → c.asked ≡ Some u → (q : ℕ) → first_input u ≤ q → q < c.after.reached
+    → (new : Contents) → (c.after.place q).contents ≡ Some new → new.consumed ≡ []
+inputs_unread c w files v read first fresh few u asked q le lt new is =
+    let same : u ≡ w = cc (asked, read) in
+    let le' : first_input w ≤ q = subst (λ x. first_input x ≤ q) same le in
+    fresh_consumed files v c.after fresh few q (omega (arith, first, le')) lt new is
+
+-- a place stops the call
+pub place_stops : (c : Call) (a : Asks c) (v : World) (s : Stop) → KeepsNames c.before v → KeepsNames v c.after → IsReadStop v c.after s → Rests c → c.after.reached ≤ most_places
+    → Comes c (Err s)
+place_stops c a v stop.ReadFault kept kept' rises rests few =
+    record { only = rises_from c.before.faults v.faults c.after.faults kept.faults kept'.faults rises; how = inl (a, rests); few_places = few }
+place_stops c a v stop.NoMemory kept kept' rises rests few = record { only = tt; how = inl (tt, rests); few_places = few }
+place_stops c a v _ kept kept' rises rests few = absurd rises
+
 -- the places of the inputs stop the call
 pub reaching_stops : (c : Call) (w : PlainWords) (t : Table) (files : List (List ℕ)) (v : World) (s : Stop) → RunsTable c w t v → FitsGiven t.inputs w.given
     → length files ≡ length t.inputs → KeepsNames v c.after → AreFresh files v c.after → c.after.reached ≤ v.reached + length files → length files ≤ most_source_bytes
@@ -337,22 +374,9 @@ reaching_stops c w t files v s b fits as_many kept fresh few short why silent =
     let rests : Rests c = record {
       reaches = reaches_inputs (run_of_table c w t v b fits) b.made (omega (arith, few, first, as_many, places));
       silent = silent;
-      unread = λ u asked q le lt new is.
-          let here = b.read in
-          let same : u ≡ w = cc (asked, here) in
-          let le' : first_place w.source ≤ q = subst (λ (x : PlainWords). first_place x.source ≤ q) same le in
-          fresh_consumed files v c.after fresh few q (omega (arith, first, le')) lt new is;
+      unread = inputs_unread c w files v b.read (first ∙ sym (first_of_run c w t v b)) fresh few;
     } in
-    ends s why rests (omega (arith, few, short, first, one))
-  where
-    ends : (x : Stop) → IsReadStop v c.after x → Rests c → c.after.reached ≤ most_places → Comes c (Err x)
-    ends stop.ReadFault rises rests few' =
-        record { only = rises_from c.before.faults v.faults c.after.faults b.kept.faults kept.faults rises; how = inl (asks_for b.program, rests); few_places = few' }
-    ends stop.NoMemory rises rests few' = record { only = tt; how = inl (tt, rests); few_places = few' }
-    ends (stop.Refused y) rises rests few' = absurd rises
-    ends stop.WriteFault rises rests few' = absurd rises
-    ends (stop.TooDeep d l x f) rises rests few' = absurd rises
-    ends (stop.TooLarge j n) rises rests few' = absurd rises
+    place_stops c (asks_for b.program) v s b.kept kept why rests (omega (arith, few, short, first, one))
 
 -- where nothing is reached, nothing is read
 nothing_reached : (c : Call) → WritesNothing c → c.after.reached ≡ 0 → Rests c
@@ -376,10 +400,6 @@ not_built_stops c w read not_built silent none = record {
   few_places = omega (arith, none);
 }
 
--- what is asked for is something that isn't built
-abbrev pub IsOther : Task → Type 0
-IsOther t = (t ≡ task.Why) ⊎ (t ≡ task.Check)
-
-pub other_is_not : (t : Task) (f : Form) → IsOther t → is_built t f ≡ false
-other_is_not t f (inl is) = ap (λ x. is_built x f) is
-other_is_not t f (inr is) = ap (λ x. is_built x f) is
+-- certificates aren't made yet
+pub why_is_not : (t : Task) (f : Form) → t ≡ task.Why → is_built t f ≡ false
+why_is_not t f is = ap (λ x. is_built x f) is

@@ -1,5 +1,5 @@
 -- The headline, from the clauses of a call.
-use Rattle.lucid_top.proofs.Common.{◌≡◌, ◌≢◌, ℕ, suc, ◌+◌, ◌-◌, ◌<◌, ◌≤◌, ◌⊎◌, List, [], ◌∷◌, ◌++◌, length, Option, Some, None, Ok, Err, Bool, true, false, inl, inr, refl, sym, ◌∙◌, ap, subst, arith, IfSome, IsSome, IsSomeAnd, slice_get, unwrap_or, option_map, codes, range_with_len, lt-ltb, length-range_with_len, get_or-range_with_len, slice_get-map, slice_get-get_or, slice_get_within, PlainValue, eod, IsOverlong, Elements, empty, line, Derives, Contents, with_all, Summary, RunFault, all_bytes, file, PlainWords, stream_subject, tree_stream, Told, RunView, HasElements, Ran, IsDone, IsTooDeep, Figures, Status, Outcome, Call, of_tree, program_counted, task_of, form_of, is_built, file_given, files_for, IsSource, IsTold, Asks, HasNames, by_tree, IsRun, run_of, view_of, run_result, most_input_bytes, first_place, ReadFails, TellsSource, ComesOnly, MeetsClauses, RunsProgram, elements, Lines, one_line_more, Headline}
+use Rattle.lucid_top.proofs.Common.{◌≡◌, ◌≢◌, ℕ, suc, ◌+◌, ◌-◌, ◌<◌, ◌≤◌, ◌⊎◌, List, [], ◌∷◌, ◌++◌, length, Option, Some, None, Ok, Err, Bool, true, false, inl, inr, refl, sym, ◌∙◌, ap, subst, arith, IfSome, IsSome, IsSomeAnd, slice_get, unwrap_or, option_map, codes, range_with_len, lt-ltb, length-range_with_len, get_or-range_with_len, slice_get-map, slice_get-get_or, slice_get_within, PlainValue, eod, IsOverlong, Elements, empty, line, Derives, Contents, with_all, Summary, RunFault, all_bytes, file, PlainWords, stream_subject, tree_stream, Told, RunView, HasElements, Ran, IsDone, IsTooDeep, Figures, Status, Outcome, Call, of_tree, program_counted, task_of, form_of, is_built, file_given, files_for, IsSource, IsTold, Asks, HasNames, by_tree, IsRun, run_of, view_of, run_result, most_input_bytes, first_place, ReadFails, TellsFiles, ComesOnly, MeetsClauses, RunsProgram, elements, Lines, one_line_more, Headline, certificate_places, first_input}
 use Rattle.std.proofs.Common.{take, Result, cond}
 use Rattle.lucid_tree.specs.Meaning.{val}
 use Rattle.lucid_least.proofs.Rules.{means-derives}
@@ -18,7 +18,7 @@ use Rattle.lucid_top.specs.Status.{status_of}
 use Rattle.lucid_top.specs.Tasks.{form_for}
 use Rattle.lucid_top.specs.Clauses.{WriteFails}
 use Rattle.lucid_top.specs.Headline.{Has, no_lines, IsConsulted, ForSomeAdded, ConsultsOverlong, ConsumesWithin, HeadlineFollows}
-use Rattle.lucid_top.proofs.OneCall.{same_words}
+use Rattle.lucid_top.proofs.OneCall.{same_words, one_task}
 use Rattle.lucid_top.proofs.RunEnds.{in_range}
 
 module _ (c : Call) (g : RunsProgram c) where
@@ -55,19 +55,21 @@ module _ (c : Call) (g : RunsProgram c) where
   abbrev is_run : IsRun c
   is_run = record { program = by_tree names; task = g.run.0; fits = g.given }
 
-  tells : TellsSource c
-  tells a = subst (λ (w : PlainWords). IsTold w.source c.before) (same_words asks a) is_told
+  tells : TellsFiles c
+  tells a = (subst (λ (w : PlainWords). IsTold w.source c.before) (same_words asks a) is_told, λ is. absurd (cc (one_task a asks task.Check task.Run is g.run.0)))
 
   abbrev view : RunView
   view = view_of c (run_of is_run)
 
   -- the place of an input: its file is told before the run
-  first_is : first_place g.words.source ≡ 1
-  first_is = ap first_place g.run.1
+  first_is : first_input g.words ≡ 1
+  first_is =
+      let source : first_place g.words.source ≡ 1 = ap first_place g.run.1 in
+      let none : certificate_places (task_of g.words) ≡ 0 = ap certificate_places g.run.0 in omega (arith, source, none)
 
   place_of : (k : ℕ) (n : List ℕ) → slice_get g.inputs k ≡ Some n → slice_get view.places k ≡ Some (1 + k)
   place_of k n is =
-      let a : ℕ = first_place g.words.source in
+      let a : ℕ = first_input g.words in
       let lt : k < length g.inputs = slice_get_within g.inputs k n is in
       let long : length (range_with_len a (length g.inputs)) ≡ length g.inputs = length-range_with_len a (length g.inputs) in
       slice_get-get_or (range_with_len a (length g.inputs)) k 0 (omega (arith, lt, long))
@@ -76,9 +78,9 @@ module _ (c : Call) (g : RunsProgram c) where
   file_is : (k : ℕ) (n : List ℕ) (q : ℕ) → slice_get g.inputs k ≡ Some n → slice_get view.places k ≡ Some q → (view.before.place q).contents ≡ Some (unread (g.bytes_of n))
   file_is k n q is at =
       let files : List (List ℕ) = files_for g.inputs g.words.given in
-      let here = in_range (first_place g.words.source) (length g.inputs) k q at in
-      let back : q - first_place g.words.source ≡ k = omega (arith, here.0) in
-      let named : slice_get files (q - first_place g.words.source) ≡ Some (unwrap_or (file_given g.words.given n) (codes "-")) =
+      let here = in_range (first_input g.words) (length g.inputs) k q at in
+      let back : q - first_input g.words ≡ k = omega (arith, here.0) in
+      let named : slice_get files (q - first_input g.words) ≡ Some (unwrap_or (file_given g.words.given n) (codes "-")) =
       ap (slice_get files) back ∙ slice_get-map (λ m. unwrap_or (file_given g.words.given m) (codes "-")) g.inputs k ∙ ap (option_map (λ m. unwrap_or (file_given g.words.given m) (codes "-"))) is in
       ap (λ o. option_map unread (c.before.holds (unwrap_or o []))) named ∙ ap (option_map unread) (g.inputs_held k n is)
 
@@ -200,6 +202,7 @@ module _ (c : Call) (g : RunsProgram c) where
       (from (Err (fault.TooDeep time lost cleared)) ran status.TooDeep (λ is. elim is [ inl e ↦ absurd (cc e) | inr e ↦ absurd (cc e) ]) (λ is. absurd (cc is)) (λ is. (time, ran.deep)) (λ is. absurd (cc is)) (λ is. absurd (cc is)) (λ is. absurd (cc is)) (λ is. elim is [ inl e ↦ absurd (cc e) | inr e ↦ absurd (cc e) ]) (λ ok. absurd (cc ok)), no_memory (Err (fault.TooDeep time lost cleared)) ran)
   by_outcome (Err (stop.TooLarge k n)) only ran =
       (from (Err (fault.TooLarge k)) ran status.TooLarge (λ is. elim is [ inl e ↦ absurd (cc e) | inr e ↦ absurd (cc e) ]) (λ is. absurd (cc is)) (λ is. absurd (cc is)) (λ is. (k, ran.too_large)) (λ is. absurd (cc is)) (λ is. absurd (cc is)) (λ is. elim is [ inl e ↦ absurd (cc e) | inr e ↦ absurd (cc e) ]) (λ ok. absurd (cc ok)), no_memory (Err (fault.TooLarge k)) ran)
+  by_outcome (Err (stop.Wrong judgment)) only ran = absurd ran
   by_outcome (Err stop.NoMemory) only ran = (no_memory (Err fault.NoMemory) ran, no_memory (Err fault.NoMemory) ran)
 
   -- without the figures

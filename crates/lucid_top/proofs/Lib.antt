@@ -22,7 +22,11 @@ pub mod FewColumns
 pub mod Beside
 pub mod FirstWrong
 pub mod FlatVerdicts
+pub mod CertificateVerdicts
 pub mod OneCall
+pub mod LastLine
+pub mod Proving
+pub mod CheckEnds
 pub mod Meeting
 mod Headlines
 mod CountingSource

@@ -1,20 +1,20 @@
 -- From how a call comes to its outcome to the clauses of the command.
-use Rattle.lucid_top.proofs.Common.{◌≡◌, ℕ, ◌≤◌, Bool, true, false, nat_lt, List, [], length, Some, None, Err, ◌⊎◌, inl, inr, refl, ap, subst, arith, Contents, PlainWords, Told, Refusal, Status, Outcome, Call, task_of, form_of, is_built, Asks, IsWriting, IsTextFor, asks_for, IsRun, by_words, by_task, by_text, by_flat, by_names, by_missing, by_judging, by_given, first_place, run_places, run_of, unread_place, view_of, RanSo, ReadsSource, most_read, WritesNothing, TellsSource, ReadFails, ComesOnly, MeetsClauses, IsMade, reaches_nothing, reaches_source, reaches_inputs, Rests, Comes, ltb-true}
+use Rattle.lucid_top.proofs.Common.{◌≡◌, ℕ, ◌≤◌, Bool, true, false, nat_lt, List, [], length, Some, None, Err, ◌⊎◌, inl, inr, refl, ap, subst, arith, Contents, PlainWords, Told, Refusal, Status, Outcome, Call, task_of, form_of, is_built, Asks, IsWriting, IsTextFor, asks_for, IsRun, by_words, by_task, by_text, by_flat, by_names, by_missing, by_judging, by_given, first_place, run_places, run_of, unread_place, view_of, RanSo, ReadsSource, most_read, WritesNothing, TellsFiles, ReadFails, ComesOnly, MeetsClauses, IsMade, reaches_nothing, reaches_source, reaches_inputs, Rests, Comes, ltb-true, ChecksTree, ConsumesNothing, EndsCheck, IsCheck, IsWellMade, MayCheck, ReadsCertificate, Run, before_checking, by_certificate, by_checking, check_of, first_input, reaches_certificate, reaches_checked}
 use Rattle.std.proofs.Common.{cond}
 use Rattle.lucid_ports.specs.declared.run.RunFault.TheVariants as fault
 use Rattle.lucid_top.specs.declared.refusal.Refusal.TheVariants as refusal
 use Rattle.lucid_top.specs.declared.stop.Stop.TheVariants as stop
 use Rattle.lucid_top.specs.Telling.{Tells}
 use Rattle.lucid_top.specs.Stages.{Refuses}
-use Rattle.lucid_top.specs.Clauses.{IsRefusedSo, Writes, TellsFaults, IsEvaluated}
-use Rattle.lucid_top.specs.Coming.{Reaches, StopsEarly, EndsRun, EndsWriting}
+use Rattle.lucid_top.specs.Clauses.{IsRefusedSo, Writes, TellsFaults, IsEvaluated, places_before}
+use Rattle.lucid_top.specs.Coming.{Reaches, StopsEarly, EndsRun, EndsWriting, Checked}
 use Rattle.lucid_top.proofs.RunEnds.{in_range}
-use Rattle.lucid_top.proofs.Begun.{ConsumesNothing, ran_with, never_read, never_made, same_contents}
-use Rattle.lucid_top.proofs.OneCall.{OneVerdict, same_words, not_asked, not_unbuilt, run_or_text, same_inputs, same_run, same_text, one_refusal, run_not_refused, run_not_stopped, text_not_refused}
+use Rattle.lucid_top.proofs.Begun.{ran_with, never_read, never_made, same_contents}
+use Rattle.lucid_top.proofs.OneCall.{OneVerdict, same_words, not_asked, not_unbuilt, run_or_text, run_or_check, check_or_text, asks_in, same_tree, same_inputs, same_run, same_text, same_check, same_why, one_refusal, run_not_refused, run_not_stopped, text_not_refused, may_refused, check_not_refused, OfCertificate}
 
 -- how a call comes to its outcome
 abbrev pub How : Call → Outcome → Type 0
-How c o = (StopsEarly c o × Rests c) ⊎ (EndsRun c o ⊎ EndsWriting c o)
+How c o = (StopsEarly c o × Rests c) ⊎ (EndsRun c o ⊎ (EndsWriting c o ⊎ Checked c o))
 
 -- by words that are refused, or don't ask for what is built, nothing is read, run or written
 stopped_by_words : (c : Call) (o : Outcome) (why : Refusal) → (Asks c → ⊥) → ((v : Refusal) → Refuses c v → v ≡ why) → How c o → IsRefusedSo o why
@@ -22,21 +22,22 @@ stopped_by_words c (Err (stop.Refused v)) why asks one (inl early) = inl (ap (λ
 stopped_by_words c (Err stop.ReadFault) why asks one (inl early) = absurd (asks early.0)
 stopped_by_words c (Err stop.NoMemory) why asks one (inl early) = inr refl
 stopped_by_words c o why asks one (inr (inl run)) = absurd (asks (asks_for run.0.program))
-stopped_by_words c o why asks one (inr (inr writing)) = absurd (asks writing.2.0)
+stopped_by_words c o why asks one (inr (inr (inl writing))) = absurd (asks writing.2.0)
+stopped_by_words c o why asks one (inr (inr (inr check))) = absurd (asks (asks_in check.0.may))
 stopped_by_words c _ why asks one (inl early) = absurd early.0
 
 -- where nothing of an input was consumed, nothing is
-rested : (c : Call) (r : IsRun c) → Rests c → (q : ℕ) → first_place (run_of r).words.source ≤ q → (b : Bool) → nat_lt q c.after.reached ≡ b → (old new : Contents)
-    → (unread_place c (run_of r) q).contents ≡ Some old → (cond b (c.after.place q) (unread_place c (run_of r) q)).contents ≡ Some new → length new.consumed ≤ length old.consumed
-rested c r rests q le true lt old new before after =
-    let none : new.consumed ≡ [] = rests.unread (run_of r).words (asks_for r.program).read q le (ltb-true q c.after.reached lt) new after in
+rested : (c : Call) (p : Run) → c.asked ≡ Some p.words → Rests c → (q : ℕ) → first_input p.words ≤ q → (b : Bool) → nat_lt q c.after.reached ≡ b → (old new : Contents)
+    → (unread_place c p q).contents ≡ Some old → (cond b (c.after.place q) (unread_place c p q)).contents ≡ Some new → length new.consumed ≤ length old.consumed
+rested c p read rests q le true lt old new before after =
+    let none : new.consumed ≡ [] = rests.unread p.words read q le (ltb-true q c.after.reached lt) new after in
     let zero : length new.consumed ≡ 0 = ap length none in omega (arith, zero)
-rested c r rests q le false lt old new before after = same_contents (unread_place c (run_of r) q).contents old new before after
+rested c p read rests q le false lt old new before after = same_contents (unread_place c p q).contents old new before after
 
-consumes_nothing : (c : Call) (r : IsRun c) → Rests c → ConsumesNothing (view_of c (run_of r))
-consumes_nothing c r rests k n q is old new before after =
-    let at = in_range (first_place (run_of r).words.source) (length (run_of r).inputs) k q is.1 in
-    rested c r rests q (omega (arith, at.0)) (nat_lt q c.after.reached) refl old new before after
+consumes_nothing : (c : Call) (p : Run) → c.asked ≡ Some p.words → Rests c → ConsumesNothing (view_of c p)
+consumes_nothing c p read rests k n q is old new before after =
+    let at = in_range (first_input p.words) (length p.inputs) k q is.1 in
+    rested c p read rests q (omega (arith, at.0)) (nat_lt q c.after.reached) refl old new before after
 
 -- texts of one kind are texts of another
 as_text : (c : Call) (o : Outcome) (P Q : List ℕ → Type 0) → ((text : List ℕ) → P text → Q text) → Writes c o P → Writes c o Q
@@ -54,41 +55,72 @@ none_reached c o asks (inl early) = of_early early.1.reaches
     of_early (reaches_nothing none) = none
     of_early (reaches_source a few) = absurd (asks a)
     of_early (reaches_inputs r is_made few) = absurd (asks (asks_for r.program))
+    of_early (reaches_certificate m is_made few) = absurd (asks (asks_in m))
+    of_early (reaches_checked k is_made few) = absurd (asks (asks_in k.may))
 none_reached c o asks (inr (inl run)) = absurd (asks (asks_for run.0.program))
-none_reached c o asks (inr (inr writing)) = absurd (asks writing.2.0)
+none_reached c o asks (inr (inr (inl writing))) = absurd (asks writing.2.0)
+none_reached c o asks (inr (inr (inr check))) = absurd (asks (asks_in check.0.may))
 
--- where no program is run, at most the source's place is
-few_reached : (c : Call) (a : Asks c) → ((r : IsRun c) → IsMade r.program → ⊥) → Reaches c → c.after.reached ≤ first_place a.words.source
-few_reached c a no_run (reaches_nothing none) = omega (arith, none)
-few_reached c a no_run (reaches_source b few) = subst (λ (w : PlainWords). c.after.reached ≤ first_place w.source) (same_words b a) few
-few_reached c a no_run (reaches_inputs r is_made few) = absurd (no_run r is_made)
+-- where no program is run and no certificate is read, at most the source's place is
+few_reached : (c : Call) (a : Asks c) → ((r : IsRun c) → IsMade r.program → ⊥) → ((m : MayCheck c) → ⊥) → Reaches c → c.after.reached ≤ first_place a.words.source
+few_reached c a no_run no_check (reaches_nothing none) = omega (arith, none)
+few_reached c a no_run no_check (reaches_source b few) = subst (λ (w : PlainWords). c.after.reached ≤ first_place w.source) (same_words b a) few
+few_reached c a no_run no_check (reaches_inputs r is_made few) = absurd (no_run r is_made)
+few_reached c a no_run no_check (reaches_certificate m is_made few) = absurd (no_check m)
+few_reached c a no_run no_check (reaches_checked k is_made few) = absurd (no_check k.may)
 
-module _ (l : OneVerdict) (c : Call) (told : TellsSource c) where
+-- the source's place is among those before a refusal, and where that is one of a certificate, so is the certificate's
+source_before : {c : Call} {why : Refusal} (w : PlainWords) (a : Refuses c why) → first_place w.source ≤ places_before w a
+source_before w (by_words none) = omega arith
+source_before w (by_task u read not_built) = omega arith
+source_before w (by_text s other refused) = omega arith
+source_before w (by_flat s is refused) = omega arith
+source_before w (by_names t other refused) = omega arith
+source_before w (by_missing n is refused) = omega arith
+source_before w (by_judging n is refused) = omega arith
+source_before w (by_given p is refused) = omega arith
+source_before w (by_certificate m bytes is refused) = omega arith
+
+module _ (l : OneVerdict) (c : Call) (told : TellsFiles c) where
+  certificate_before : (why : Refusal) (w : PlainWords) (a : Refuses c why) → OfCertificate l c told a → first_input w ≤ places_before w a
+  certificate_before why w (by_certificate m bytes is refused) of = omega arith
+  certificate_before why w (by_words none) of = absurd of
+  certificate_before why w (by_task u read not_built) of = absurd of
+  certificate_before why w (by_text s other refused) of = absurd of
+  certificate_before why w (by_flat s is refused) of = absurd of
+  certificate_before why w (by_names t other refused) of = absurd of
+  certificate_before why w (by_missing n is refused) of = absurd of
+  certificate_before why w (by_judging n is refused) of = absurd of
+  certificate_before why w (by_given p is refused) of = absurd of
+
   first : (o : Outcome) (why : Refusal) → Refuses c why → (o ≡ Err stop.ReadFault → ⊥) → How c o → IsRefusedSo o why
   first (Err (stop.Refused v)) why refused no_read (inl early) = inl (ap (λ x. Err (stop.Refused x)) (one_refusal l c told v why early.0.0 early.0.1 refused))
   first (Err stop.ReadFault) why refused no_read (inl early) = absurd (no_read refl)
   first (Err stop.NoMemory) why refused no_read (inl early) = inr refl
   first o why refused no_read (inr (inl run)) =
-      absurd (run_not_refused l c told run.0 why refused (λ q asked. same_inputs l c told run.0.program q run.0.task asked run.1))
-  first o why refused no_read (inr (inr writing)) = absurd (text_not_refused l c told writing.0 why refused)
+      absurd (run_not_refused l c told run.0 why refused (λ q asked. same_inputs l c told run.0.program q (inl run.0.task) asked run.1))
+  first o why refused no_read (inr (inr (inl writing))) = absurd (text_not_refused l c told writing.0 why refused)
+  first o why refused no_read (inr (inr (inr check))) = absurd (check_not_refused l c told check.0 why refused (inl check.1))
   first _ why refused no_read (inl early) = absurd early.0
 
   refused_silent : (o : Outcome) (why : Refusal) → Refuses c why → How c o → WritesNothing c
   refused_silent o why refused (inl early) = early.1.silent
   refused_silent o why refused (inr (inl run)) =
-      absurd (run_not_refused l c told run.0 why refused (λ q asked. same_inputs l c told run.0.program q run.0.task asked run.1))
-  refused_silent o why refused (inr (inr writing)) = absurd (text_not_refused l c told writing.0 why refused)
+      absurd (run_not_refused l c told run.0 why refused (λ q asked. same_inputs l c told run.0.program q (inl run.0.task) asked run.1))
+  refused_silent o why refused (inr (inr (inl writing))) = absurd (text_not_refused l c told writing.0 why refused)
+  refused_silent o why refused (inr (inr (inr check))) = absurd (check_not_refused l c told check.0 why refused (inl check.1))
 
   runs_so : (r : IsRun c) (o : Outcome) → ComesOnly c o → How c o → RanSo (run_of r).program (view_of c (run_of r)) o
   runs_so r (Err (stop.Refused v)) only (inl early) = absurd (run_not_stopped l c told r v early.0.0 early.0.1)
   runs_so r (Err stop.ReadFault) only (inl early) =
       let view = view_of c (run_of r) in
-      ran_with (run_of r).program view (Err stop.ReadFault) (Err fault.ReadFault) refl (never_read (run_of r).program view early.1.silent (consumes_nothing c r early.1) only)
+      ran_with (run_of r).program view (Err stop.ReadFault) (Err fault.ReadFault) refl (never_read (run_of r).program view early.1.silent (consumes_nothing c (run_of r) (asks_for r.program).read early.1) only)
   runs_so r (Err stop.NoMemory) only (inl early) =
       let view = view_of c (run_of r) in
-      ran_with (run_of r).program view (Err stop.NoMemory) (Err fault.NoMemory) refl (never_made (run_of r).program view early.1.silent (consumes_nothing c r early.1))
+      ran_with (run_of r).program view (Err stop.NoMemory) (Err fault.NoMemory) refl (never_made (run_of r).program view early.1.silent (consumes_nothing c (run_of r) (asks_for r.program).read early.1))
   runs_so r o only (inr (inl run)) = subst (λ p. RanSo p.program (view_of c p) o) (same_run l c told r run.0 run.1) run.2
-  runs_so r o only (inr (inr writing)) = absurd (run_or_text r writing.0)
+  runs_so r o only (inr (inr (inl writing))) = absurd (run_or_text r writing.0)
+  runs_so r o only (inr (inr (inr check))) = absurd (run_or_check r check.0.may)
   runs_so r _ only (inl early) = absurd early.0
 
   writes_so : (x : IsWriting c) (o : Outcome) → ComesOnly c o → How c o → Writes c o (IsTextFor x)
@@ -97,39 +129,90 @@ module _ (l : OneVerdict) (c : Call) (told : TellsSource c) where
       record { front = inl early.1.silent; whole = λ e. absurd (cc e); complete = λ reads writes. absurd (reads only) }
   writes_so x (Err stop.NoMemory) only (inl early) = record { front = inl early.1.silent; whole = λ e. absurd (cc e); complete = λ reads writes. inr refl }
   writes_so x o only (inr (inl run)) = absurd (run_or_text run.0 x)
-  writes_so x o only (inr (inr writing)) = as_text c o (IsTextFor writing.0) (IsTextFor x) (same_text l c told writing.0 x) writing.1
+  writes_so x o only (inr (inr (inl writing))) = as_text c o (IsTextFor writing.0) (IsTextFor x) (same_text l c told writing.0 x) writing.1
+  writes_so x o only (inr (inr (inr check))) = absurd (check_or_text check.0.may x)
   writes_so x _ only (inl early) = absurd early.0
 
-  refused_reaches : (o : Outcome) (a : Asks c) (why : Refusal) → Refuses c why → How c o → c.after.reached ≤ first_place a.words.source
-  refused_reaches o a why refused (inl early) =
-      few_reached c a (λ r is_made. run_not_refused l c told r why refused (λ q asked. same_inputs l c told r.program q r.task asked is_made)) early.1.reaches
-  refused_reaches o a why refused (inr (inl run)) =
-      absurd (run_not_refused l c told run.0 why refused (λ q asked. same_inputs l c told run.0.program q run.0.task asked run.1))
-  refused_reaches o a why refused (inr (inr writing)) = absurd (text_not_refused l c told writing.0 why refused)
+  -- a check is that of the same tree, by the same certificate, over the same inputs
+  as_check : (k j : IsCheck c) (o : Outcome) → IsWellMade j.may.names.program.tree → ChecksTree j.may.names.program.tree j.why (view_of c (check_of j.may)) o
+      → ChecksTree k.may.names.program.tree k.why (view_of c (check_of k.may)) o
+  as_check k j o is_made x =
+      subst (λ p. ChecksTree k.may.names.program.tree k.why (view_of c p) o) (same_check l c told k.may j.may is_made)
+      (subst (λ w. ChecksTree k.may.names.program.tree w (view_of c (check_of j.may)) o) (same_why l c told k j)
+      (subst (λ p. ChecksTree p j.why (view_of c (check_of j.may)) o) (same_tree l c told j.may.names.program k.may.names.program) x))
+
+  checks_so : (k : IsCheck c) (o : Outcome) → How c o → EndsCheck k o
+  checks_so k (Err (stop.Refused v)) (inl early) = absurd (check_not_refused l c told k v early.0.0 (inr early.0.1))
+  checks_so k (Err stop.ReadFault) (inl early) = before_checking (inl refl) early.1.silent (consumes_nothing c (check_of k.may) (asks_in k.may).read early.1)
+  checks_so k (Err stop.NoMemory) (inl early) = before_checking (inr refl) early.1.silent (consumes_nothing c (check_of k.may) (asks_in k.may).read early.1)
+  checks_so k o (inr (inl run)) = absurd (run_or_check run.0 k.may)
+  checks_so k o (inr (inr (inl writing))) = absurd (check_or_text k.may writing.0)
+  checks_so k o (inr (inr (inr check))) = by_checking (as_check k check.0 o check.1 check.2)
+  checks_so k _ (inl early) = absurd early.0
+
+  refused_reaches : (o : Outcome) (a : Asks c) (why : Refusal) (x : Refuses c why) → How c o → c.after.reached ≤ places_before a.words x
+  refused_reaches o a why x (inl early) = of_early early.1.reaches
+    where
+      of_early : Reaches c → c.after.reached ≤ places_before a.words x
+      of_early (reaches_nothing none) = omega (arith, none)
+      of_early (reaches_source b few) =
+          let few' : c.after.reached ≤ first_place a.words.source = subst (λ (w : PlainWords). c.after.reached ≤ first_place w.source) (same_words b a) few in
+          let before = source_before a.words x in omega (arith, few', before)
+      of_early (reaches_inputs r is_made few) = absurd (run_not_refused l c told r why x (λ q asked. same_inputs l c told r.program q (inl r.task) asked is_made))
+      of_early (reaches_certificate m is_made few) =
+          let few' : c.after.reached ≤ first_input a.words = subst (λ (w : PlainWords). c.after.reached ≤ first_input w) (same_words (asks_in m) a) few in
+          let before = certificate_before why a.words x (may_refused l c told m why x (inl is_made)) in omega (arith, few', before)
+      of_early (reaches_checked k is_made few) = absurd (check_not_refused l c told k why x (inl is_made))
+  refused_reaches o a why x (inr (inl run)) = absurd (run_not_refused l c told run.0 why x (λ q asked. same_inputs l c told run.0.program q (inl run.0.task) asked run.1))
+  refused_reaches o a why x (inr (inr (inl writing))) = absurd (text_not_refused l c told writing.0 why x)
+  refused_reaches o a why x (inr (inr (inr check))) = absurd (check_not_refused l c told check.0 why x (inl check.1))
 
   text_reaches : (o : Outcome) (a : Asks c) (x : IsWriting c) → How c o → c.after.reached ≤ first_place a.words.source
-  text_reaches o a x (inl early) = few_reached c a (λ r is_made. run_or_text r x) early.1.reaches
+  text_reaches o a x (inl early) = few_reached c a (λ r is_made. run_or_text r x) (λ m. check_or_text m x) early.1.reaches
   text_reaches o a x (inr (inl run)) = absurd (run_or_text run.0 x)
-  text_reaches o a x (inr (inr writing)) = few_reached c a (λ r is_made. run_or_text r x) (reaches_source writing.2.0 writing.2.1)
+  text_reaches o a x (inr (inr (inl writing))) = few_reached c a (λ r is_made. run_or_text r x) (λ m. check_or_text m x) (reaches_source writing.2.0 writing.2.1)
+  text_reaches o a x (inr (inr (inr check))) = absurd (check_or_text check.0.may x)
 
   begun_reaches : (r : IsRun c) → Reaches c → c.after.reached ≤ run_places (run_of r)
   begun_reaches r (reaches_nothing none) = omega (arith, none)
   begun_reaches r (reaches_source a few) =
       let few' : c.after.reached ≤ first_place (run_of r).words.source = subst (λ (w : PlainWords). c.after.reached ≤ first_place w.source) (same_words a (asks_for r.program)) few in
       omega (arith, few')
+  begun_reaches r (reaches_certificate m is_made few) = absurd (run_or_check r m)
+  begun_reaches r (reaches_checked k is_made few) = absurd (run_or_check r k.may)
   begun_reaches r (reaches_inputs s is_made few) = subst (λ p. c.after.reached ≤ run_places p) (same_run l c told r s is_made) few
 
   run_reaches : (r : IsRun c) (o : Outcome) → How c o → c.after.reached ≤ run_places (run_of r)
   run_reaches r o (inl early) = begun_reaches r early.1.reaches
   run_reaches r o (inr (inl run)) = let all = subst (λ p. c.after.reached ≡ run_places p) (same_run l c told r run.0 run.1) run.3 in omega (arith, all)
-  run_reaches r o (inr (inr writing)) = absurd (run_or_text r writing.0)
+  run_reaches r o (inr (inr (inl writing))) = absurd (run_or_text r writing.0)
+  run_reaches r o (inr (inr (inr check))) = absurd (run_or_check r check.0.may)
+
+  check_begins : (k : IsCheck c) → Reaches c → c.after.reached ≤ run_places (check_of k.may)
+  check_begins k (reaches_nothing none) = omega (arith, none)
+  check_begins k (reaches_source a few) =
+      let few' : c.after.reached ≤ first_place (asks_in k.may).words.source =
+      subst (λ (w : PlainWords). c.after.reached ≤ first_place w.source) (same_words a (asks_in k.may)) few in omega (arith, few')
+  check_begins k (reaches_inputs r is_made few) = absurd (run_or_check r k.may)
+  check_begins k (reaches_certificate m is_made few) =
+      let few' : c.after.reached ≤ first_input (asks_in k.may).words =
+      subst (λ (w : PlainWords). c.after.reached ≤ first_input w) (same_words (asks_in m) (asks_in k.may)) few in omega (arith, few')
+  check_begins k (reaches_checked j is_made few) = subst (λ p. c.after.reached ≤ run_places p) (same_check l c told k.may j.may is_made) few
+
+  check_reaches : (k : IsCheck c) (o : Outcome) → How c o → c.after.reached ≤ run_places (check_of k.may)
+  check_reaches k o (inl early) = check_begins k early.1.reaches
+  check_reaches k o (inr (inl run)) = absurd (run_or_check run.0 k.may)
+  check_reaches k o (inr (inr (inl writing))) = absurd (check_or_text k.may writing.0)
+  check_reaches k o (inr (inr (inr check))) =
+      let all = subst (λ p. c.after.reached ≡ run_places p) (same_check l c told k.may check.0.may check.1) check.3 in omega (arith, all)
 
   evaluated_reaches : (r : IsRun c) (o : Outcome) → IsEvaluated o → How c o → c.after.reached ≡ run_places (run_of r)
   evaluated_reaches r (Err (stop.Refused v)) is (inl early) = absurd is
   evaluated_reaches r (Err stop.ReadFault) is (inl early) = absurd is
   evaluated_reaches r (Err stop.NoMemory) is (inl early) = absurd is
   evaluated_reaches r o is (inr (inl run)) = subst (λ p. c.after.reached ≡ run_places p) (same_run l c told r run.0 run.1) run.3
-  evaluated_reaches r o is (inr (inr writing)) = absurd (run_or_text r writing.0)
+  evaluated_reaches r o is (inr (inr (inl writing))) = absurd (run_or_text r writing.0)
+  evaluated_reaches r o is (inr (inr (inr check))) = absurd (run_or_check r check.0.may)
   evaluated_reaches r _ is (inl early) = absurd early.0
 
 -- a read fault is counted
@@ -146,6 +229,7 @@ only_usage c none v (by_names t other refused) = absurd (not_asked t.source.asks
 only_usage c none v (by_missing n is refused) = absurd (not_asked n.program.source.asks none)
 only_usage c none v (by_judging n is refused) = absurd (not_asked n.program.source.asks none)
 only_usage c none v (by_given p is refused) = absurd (not_asked (asks_for p) none)
+only_usage c none v (by_certificate m bytes is refused) = absurd (not_asked (asks_in m) none)
 
 only_unbuilt : (c : Call) (w : PlainWords) → c.asked ≡ Some w → is_built (task_of w) (form_of w) ≡ false → (v : Refusal) → Refuses c v → v ≡ refusal.NotBuilt
 only_unbuilt c w read not_built v (by_words none) = absurd (cc (none, read))
@@ -156,15 +240,17 @@ only_unbuilt c w read not_built v (by_names t other refused) = absurd (not_unbui
 only_unbuilt c w read not_built v (by_missing n is refused) = absurd (not_unbuilt n.program.source.asks w read not_built)
 only_unbuilt c w read not_built v (by_judging n is refused) = absurd (not_unbuilt n.program.source.asks w read not_built)
 only_unbuilt c w read not_built v (by_given p is refused) = absurd (not_unbuilt (asks_for p) w read not_built)
+only_unbuilt c w read not_built v (by_certificate m bytes is refused) = absurd (not_unbuilt (asks_in m) w read not_built)
 
-silent_or : (c : Call) (o : Outcome) → How c o → WritesNothing c ⊎ (IsRun c ⊎ IsWriting c)
+silent_or : (c : Call) (o : Outcome) → How c o → WritesNothing c ⊎ (IsRun c ⊎ (IsWriting c ⊎ IsCheck c))
 silent_or c o (inl early) = inl early.1.silent
 silent_or c o (inr (inl run)) = inr (inl run.0)
-silent_or c o (inr (inr writing)) = inr (inr writing.0)
+silent_or c o (inr (inr (inl writing))) = inr (inr (inl writing.0))
+silent_or c o (inr (inr (inr check))) = inr (inr (inr check.0))
 
 pub meets : OneVerdict → (c : Call) (before after : Told) (o : Outcome) (s : Status) → Comes c o → ((a : Asks c) → ReadsSource (most_read (form_of a.words)) a.words.source c.after)
-    → TellsFaults c o → Tells o s before after → MeetsClauses c before after s
-meets l c before after o s h within faults tells = record {
+    → ((a : Asks c) → ReadsCertificate a.words c.after) → TellsFaults c o → Tells o s before after → MeetsClauses c before after s
+meets l c before after o s h within certificate faults tells = record {
   outcome = o;
   report = tells;
   comes_only = h.only;
@@ -178,13 +264,16 @@ meets l c before after o s h within faults tells = record {
   silent = silent_or c o h.how;
   headline = λ r told. runs_so l c told r o h.only h.how;
   written = λ x told. writes_so l c told x o h.only h.how;
+  checked = λ k told. checks_so l c told k o h.how;
   reaches = record {
     unasked = λ asks. none_reached c o asks h.how;
     refused = λ a why refused told. refused_reaches l c told o a why refused h.how;
     written = λ a x told. text_reaches l c told o a x h.how;
     run = λ r told. run_reaches l c told r o h.how;
+    checked = λ k told. check_reaches l c told k o h.how;
     evaluated = λ r told is. evaluated_reaches l c told r o is h.how;
   };
   source_within = within;
+  certificate_within = certificate;
   few_places = h.few_places;
 }

@@ -1,5 +1,5 @@
--- A call has one of each thing: words, source, tree, free names, first refusal; and where it has a run or a text, no refusal.
-use Rattle.lucid_top.proofs.Common.{◌≡◌, ◌≢◌, ℕ, ◌<◌, false, List, length, Option, Some, None, ◌⊎◌, inl, inr, refl, sym, ◌∙◌, ap, subst, arith, IsSome, IfSome, slice_get, option_and_then, slice_get_within, cases_order, World, IsWellMade, Table, canonical, HasNoFault, PlainSource, file, made, PlainWords, IsJudged, Refusal, Task, Call, task_of, form_of, is_built, Spelt, RefusesText, RefusesNames, RefusesJudging, HasInputs, Given, word_refusal, refusal_at, AreRightBelow, RefusedFirst, RefusesGiven, FitsGiven, by_word, by_two, IsSource, IsTold, Asks, HasTree, HasFlat, HasNames, IsWriting, IsTextFor, prints, judges, flattens, HasColumns, by_tree, by_columns, by_table, asks_for, program_in, inputs_in, IsAskedFor, IsRun, by_words, by_task, by_text, by_flat, by_names, by_missing, by_judging, by_given, IsFlatForm, SpellsTable, RefusesFlat, Program, of_tree, of_columns, of_table, beside, Run, run_of, TellsSource, IsMade, IsOfMade, OneTextRefusal, OneNameRefusal, OneListOfInputs, OneFlatTable, TableIsNotRefused, OneFlatRefusal}
+-- A call has one of each thing: words, source, tree, free names, certificate, first refusal; and where it has a run, a text or a check, no refusal.
+use Rattle.lucid_top.proofs.Common.{◌≡◌, ◌≢◌, ℕ, ◌<◌, false, Bool, true, List, length, Option, Some, None, ◌⊎◌, inl, inr, refl, sym, ◌∙◌, ap, subst, arith, IsSome, IfSome, slice_get, option_and_then, slice_get_within, cases_order, World, IsWellMade, Table, canonical, HasNoFault, PlainSource, file, made, PlainWords, IsJudged, Refusal, Task, Call, task_of, form_of, is_built, Spelt, RefusesText, RefusesNames, RefusesJudging, HasInputs, Given, word_refusal, refusal_at, AreRightBelow, RefusedFirst, RefusesGiven, FitsGiven, by_word, by_two, IsSource, IsTold, Asks, HasTree, HasFlat, HasNames, IsWriting, IsTextFor, prints, judges, flattens, HasColumns, by_tree, by_columns, by_table, asks_for, program_in, inputs_in, IsAskedFor, WantsInputs, IsRun, MayCheck, IsCheck, certificate_file, by_words, by_task, by_text, by_flat, by_names, by_missing, by_judging, by_given, by_certificate, IsFlatForm, SpellsTable, RefusesFlat, Program, of_tree, of_columns, of_table, beside, Run, run_of, check_of, HoldsCertificate, RefusesCertificate, OneCertificate, CertificateIsNotRefused, OneCertificateRefusal, TellsFiles, IsMade, IsOfMade, OneTextRefusal, OneNameRefusal, OneListOfInputs, OneFlatTable, TableIsNotRefused, OneFlatRefusal}
 use Rattle.std.specs.Prelude.{take}
 use Rattle.lucid_top.specs.declared.task.Task.TheVariants as task
 use Rattle.lucid_top.specs.declared.task.Form.TheVariants as form
@@ -21,6 +21,9 @@ pub record OneVerdict : Type 0 where
   pub one_flat_table : OneFlatTable
   pub table_not_refused : TableIsNotRefused
   pub one_flat_refusal : OneFlatRefusal
+  pub one_certificate : OneCertificate
+  pub certificate_not_refused : CertificateIsNotRefused
+  pub one_certificate_refusal : OneCertificateRefusal
 
 -- what a name holds is one list of bytes, where it is told; so is a source
 held_once : (held : Option (List ℕ)) (a b : List ℕ) → IsSome held → IfSome held (λ h. a ≡ h) → IfSome held (λ h. b ≡ h) → a ≡ b
@@ -94,20 +97,48 @@ one_task a b x y is js = sym is ∙ ap task_of (same_words a b) ∙ js
 one_form : {c : Call} (a b : Asks c) → form_of a.words ≡ form.Flat → form_of b.words ≢ form.Flat → ⊥
 one_form a b is other = other (ap form_of (same_words b a) ∙ is)
 
--- a program is for a run or for columns
-pub other_task : {c : Call} (p : HasProgram c) (a : Asks c) (t : Task) → IsAskedFor p → task_of a.words ≡ t → (t ≡ task.Run → ⊥) → (t ≡ task.Columns → ⊥) → ⊥
-other_task {c = c} p a t asked is run columns = by p (one_task a (asks_for p) t (task_for p) is asked)
-  where
-    by : (q : HasProgram c) → t ≡ task_for q → ⊥
-    by (by_tree n) same = run same
-    by (by_columns h) same = columns same
-    by (by_table f) same = run same
+-- the tasks for which a program's inputs are wanted
+abbrev wants : Task → Bool
+wants task.Run = true
+wants task.Columns = true
+wants task.Check = true
+wants t = false
 
--- a run isn't a text
+wanted : {c : Call} (p : HasProgram c) → WantsInputs p → wants (task_of (asks_for p).words) ≡ true
+wanted (by_tree n) (inl is) = ap wants is
+wanted (by_tree n) (inr is) = ap wants is
+wanted (by_columns h) (inl is) = ap wants is
+wanted (by_columns h) (inr is) = absurd is
+wanted (by_table f) (inl is) = ap wants is
+wanted (by_table f) (inr is) = absurd is
+
+pub other_task : {c : Call} (p : HasProgram c) (a : Asks c) (t : Task) → WantsInputs p → task_of a.words ≡ t → wants t ≡ false → ⊥
+other_task p a t asked is none =
+    let some : wants (task_of a.words) ≡ true = subst (λ (w : PlainWords). wants (task_of w) ≡ true) (same_words (asks_for p) a) (wanted p asked) in
+    let there : wants (task_of a.words) ≡ wants t = ap wants is in absurd (cc (some, there, none))
+
+-- a run is neither a text nor a check, and a check is no text
 pub run_or_text : {c : Call} → IsRun c → IsWriting c → ⊥
-run_or_text r (prints t is) = other_task r.program t.source.asks task.Print r.task is (λ e. absurd (cc e)) (λ e. absurd (cc e))
-run_or_text r (judges n is judged) = other_task r.program n.program.source.asks task.Cycles r.task is (λ e. absurd (cc e)) (λ e. absurd (cc e))
-run_or_text r (flattens n is) = other_task r.program n.program.source.asks task.Flat r.task is (λ e. absurd (cc e)) (λ e. absurd (cc e))
+run_or_text r (prints t is) = other_task r.program t.source.asks task.Print (inl r.task) is refl
+run_or_text r (judges n is judged) = other_task r.program n.program.source.asks task.Cycles (inl r.task) is refl
+run_or_text r (flattens n is) = other_task r.program n.program.source.asks task.Flat (inl r.task) is refl
+
+-- the words of a check
+abbrev pub asks_in : {c : Call} → MayCheck c → Asks c
+asks_in m = m.names.program.source.asks
+
+pub run_or_check : {c : Call} → IsRun c → MayCheck c → ⊥
+run_or_check {c = c} r m = by r.program (one_task (asks_for r.program) (asks_in m) (task_for r.program) task.Check r.task m.task)
+  where
+    by : (p : HasProgram c) → task_for p ≡ task.Check → ⊥
+    by (by_tree n) same = absurd (cc same)
+    by (by_columns h) same = absurd (cc same)
+    by (by_table f) same = absurd (cc same)
+
+pub check_or_text : {c : Call} → MayCheck c → IsWriting c → ⊥
+check_or_text m (prints t is) = absurd (cc (one_task (asks_in m) t.source.asks task.Check task.Print m.task is))
+check_or_text m (judges n is judged) = absurd (cc (one_task (asks_in m) n.program.source.asks task.Check task.Cycles m.task is))
+check_or_text m (flattens n is) = absurd (cc (one_task (asks_in m) n.program.source.asks task.Check task.Flat m.task is))
 
 -- a run of these words, of this program, with inputs of these names
 abbrev run_with : PlainWords → Program → List (List ℕ) → Run
@@ -116,13 +147,13 @@ run_with w p f = record { words = w; program = p; inputs = f }
 one_run : {v w : PlainWords} {p q : Program} {f g : List (List ℕ)} → v ≡ w → p ≡ q → f ≡ g → run_with v p f ≡ run_with w q g
 one_run a b e = cc (a, b, e)
 
-module _ (l : OneVerdict) (c : Call) (told : TellsSource c) where
+module _ (l : OneVerdict) (c : Call) (told : TellsFiles c) where
   -- the source of a call is one, and so are its tree and the free names of that
   same_bytes : (s t : HasSource c) → s.bytes ≡ t.bytes
   same_bytes s t =
       let there : IsSource s.asks.words.source c.before t.bytes =
       subst (λ (w : PlainWords). IsSource w.source c.before t.bytes) (same_words t.asks s.asks) t.is in
-      source_once s.asks.words.source c.before s.bytes t.bytes (told s.asks) s.is there
+      source_once s.asks.words.source c.before s.bytes t.bytes (told s.asks).0 s.is there
 
   pub same_tree : (t u : HasTree c) → t.tree ≡ u.tree
   same_tree t u = l.one_tree t.source.bytes t.tree u.tree t.spelt (subst (λ b. Spelt b u.tree) (same_bytes u.source t.source) u.spelt)
@@ -148,14 +179,19 @@ module _ (l : OneVerdict) (c : Call) (told : TellsSource c) where
       l.one_list (beside h.names.program.tree (columns_named h.names)) h.free k.free well h.are_free (subst (λ p. HasInputs p k.free) (same_beside k.names h.names) k.are_free)
 
   -- The program that is asked for is one, and so are the names of its inputs.
-  tree_or_columns : (n m : HasNames c) → task_of n.program.source.asks.words ≡ task.Run → task_of m.program.source.asks.words ≡ task.Columns → ⊥
-  tree_or_columns n m is js = absurd (cc (one_task n.program.source.asks m.program.source.asks task.Run task.Columns is js))
+  tree_or_columns : (n m : HasNames c) → WantsInputs {c = c} (by_tree n) → task_of m.program.source.asks.words ≡ task.Columns → ⊥
+  tree_or_columns n m (inl is) js = absurd (cc (one_task n.program.source.asks m.program.source.asks task.Run task.Columns is js))
+  tree_or_columns n m (inr is) js = absurd (cc (one_task n.program.source.asks m.program.source.asks task.Check task.Columns is js))
 
-  pub same_inputs : (p q : HasProgram c) → IsAskedFor p → IsAskedFor q → IsMade p → inputs_in p ≡ inputs_in q
+  asks_columns : (h : HasColumns c) → WantsInputs {c = c} (by_columns h) → task_of h.names.program.source.asks.words ≡ task.Columns
+  asks_columns h (inl is) = is
+  asks_columns h (inr is) = absurd is
+
+  pub same_inputs : (p q : HasProgram c) → WantsInputs p → WantsInputs q → IsMade p → inputs_in p ≡ inputs_in q
   same_inputs (by_tree n) (by_tree m) is js well = same_free n.program well n m
-  same_inputs (by_tree n) (by_columns h) is js well = absurd (tree_or_columns n h.names is js)
+  same_inputs (by_tree n) (by_columns h) is js well = absurd (tree_or_columns n h.names is (asks_columns h js))
   same_inputs (by_tree n) (by_table g) is js well = absurd (one_form g.source.asks n.program.source.asks g.form n.program.form)
-  same_inputs (by_columns h) (by_tree m) is js well = absurd (tree_or_columns m h.names js is)
+  same_inputs (by_columns h) (by_tree m) is js well = absurd (tree_or_columns m h.names js (asks_columns h is))
   same_inputs (by_columns h) (by_columns k) is js well = same_free_beside h k well
   same_inputs (by_columns h) (by_table g) is js well = absurd (one_form g.source.asks h.names.program.source.asks g.form h.names.program.form)
   same_inputs (by_table f) (by_tree m) is js well = absurd (one_form f.source.asks m.program.source.asks f.form m.program.form)
@@ -164,9 +200,9 @@ module _ (l : OneVerdict) (c : Call) (told : TellsSource c) where
 
   same_program : (p q : HasProgram c) → IsAskedFor p → IsAskedFor q → program_in p ≡ program_in q
   same_program (by_tree n) (by_tree m) is js = ap of_tree (same_tree n.program m.program)
-  same_program (by_tree n) (by_columns h) is js = absurd (tree_or_columns n h.names is js)
+  same_program (by_tree n) (by_columns h) is js = absurd (tree_or_columns n h.names (inl is) js)
   same_program (by_tree n) (by_table g) is js = absurd (one_form g.source.asks n.program.source.asks g.form n.program.form)
-  same_program (by_columns h) (by_tree m) is js = absurd (tree_or_columns m h.names js is)
+  same_program (by_columns h) (by_tree m) is js = absurd (tree_or_columns m h.names (inl js) is)
   same_program (by_columns h) (by_columns k) is js =
       ap (λ p. of_columns p (columns_named h.names)) (same_tree h.names.program k.names.program) ∙ ap (of_columns k.names.program.tree) (same_columns h.names k.names)
   same_program (by_columns h) (by_table g) is js = absurd (one_form g.source.asks h.names.program.source.asks g.form h.names.program.form)
@@ -177,7 +213,22 @@ module _ (l : OneVerdict) (c : Call) (told : TellsSource c) where
   -- the run of a program is one
   pub same_run : (r q : IsRun c) → IsMade q.program → run_of q ≡ run_of r
   same_run r q well =
-      one_run (same_words (asks_for q.program) (asks_for r.program)) (same_program q.program r.program q.task r.task) (same_inputs q.program r.program q.task r.task well)
+      one_run (same_words (asks_for q.program) (asks_for r.program)) (same_program q.program r.program q.task r.task) (same_inputs q.program r.program (inl q.task) (inl r.task) well)
+
+  -- what is asked for by a check is one, and so is its certificate
+  pub same_check : (m k : MayCheck c) → IsWellMade k.names.program.tree → check_of k ≡ check_of m
+  same_check m k well =
+      one_run (same_words (asks_in k) (asks_in m)) (ap of_tree (same_tree k.names.program m.names.program)) (same_free k.names.program well k.names m.names)
+
+  same_file : (m k : MayCheck c) (a b : List ℕ) → IsSource (file (certificate_file m)) c.before a → IsSource (file (certificate_file k)) c.before b → a ≡ b
+  same_file m k a b x y =
+      source_once (file (certificate_file m)) c.before a b ((told (asks_in m)).1 m.task) x
+      (subst (λ (w : PlainWords). IsSource (file w.check) c.before b) (same_words (asks_in k) (asks_in m)) y)
+
+  pub same_why : (k j : IsCheck c) → j.why ≡ k.why
+  same_why k j =
+      l.one_certificate k.held.bytes j.why k.why
+      (subst (λ b. HoldsCertificate b j.why) (same_file j.may k.may j.held.bytes k.held.bytes j.held.is k.held.is) j.held.holds) k.held.holds
 
   -- a tree isn't refused, nor is a table, nor are names without a fault
   text_not : (s : HasSource c) (v : Refusal) → RefusesText s.bytes v → HasTree c → ⊥
@@ -217,8 +268,8 @@ module _ (l : OneVerdict) (c : Call) (told : TellsSource c) where
   judging_not n v judged m refused = judged_not_refused n.program.tree v judged (subst (λ p. RefusesJudging p v) (same_tree m.program n.program) refused)
 
   -- who judges runs nothing
-  judging_or_run : (n : HasNames c) (p : HasProgram c) → task_of n.program.source.asks.words ≡ task.Cycles → IsAskedFor p → ⊥
-  judging_or_run n p is js = other_task p n.program.source.asks task.Cycles js is (λ e. absurd (cc e)) (λ e. absurd (cc e))
+  judging_or_run : (n : HasNames c) (p : HasProgram c) → task_of n.program.source.asks.words ≡ task.Cycles → WantsInputs p → ⊥
+  judging_or_run n p is js = other_task p n.program.source.asks task.Cycles js is refl
 
   -- columns that are there aren't refused, and whoever asks for columns runs nothing else
   missing_there : (n m : HasNames c) (v : Refusal) → RefusesColumns m.program.tree (columns_named m) v → RefusesColumns n.program.tree (columns_named n) v
@@ -226,13 +277,17 @@ module _ (l : OneVerdict) (c : Call) (told : TellsSource c) where
       subst (λ p. RefusesColumns p (columns_named n) v) (same_tree m.program n.program) (subst (λ ns. RefusesColumns m.program.tree ns v) (same_columns m n) refused)
 
   missing_program : (n : HasNames c) (v : Refusal) → task_of n.program.source.asks.words ≡ task.Columns → RefusesColumns n.program.tree (columns_named n) v
-      → (p : HasProgram c) → IsAskedFor p → ⊥
+      → (p : HasProgram c) → WantsInputs p → ⊥
   missing_program n v is refused (by_tree m) js = tree_or_columns m n js is
   missing_program n v is refused (by_columns h) js = none_missing h.names.program.tree (columns_named h.names) v h.are (missing_there h.names n v refused)
   missing_program n v is refused (by_table f) js = one_form f.source.asks n.program.source.asks f.form n.program.form
 
   columns_or : (n : HasNames c) (a : Asks c) (t : Task) → task_of n.program.source.asks.words ≡ task.Columns → task_of a.words ≡ t → task.Columns ≡ t
   columns_or n a t is js = one_task n.program.source.asks a task.Columns t is js
+
+  -- nor are words that give a check its files
+  given_check : (m : MayCheck c) (p : HasProgram c) (v : Refusal) → WantsInputs p → RefusesGiven (inputs_in p) (asks_for p).words.given v → m.names.free ≡ inputs_in p → ⊥
+  given_check m p v is r same = given_fits m.names.free (asks_in m).words.given v (given_there (by_tree m.names) p v same r) m.fits
 
   -- A call has one first refusal.
   pub one_refusal : (v w : Refusal) (a : Refuses c v) → IsOfMade a → Refuses c w → v ≡ w
@@ -244,6 +299,7 @@ module _ (l : OneVerdict) (c : Call) (told : TellsSource c) where
   one_refusal v w (by_words none) is_made (by_missing n' is' r') = absurd (not_asked n'.program.source.asks none)
   one_refusal v w (by_words none) is_made (by_judging n' is' r') = absurd (not_asked n'.program.source.asks none)
   one_refusal v w (by_words none) is_made (by_given p' is' r') = absurd (not_asked (asks_for p') none)
+  one_refusal v w (by_words none) is_made (by_certificate m' b' js' r') = absurd (not_asked (asks_in m') none)
   one_refusal v w (by_task u read nb) is_made (by_words none') = absurd (cc (none', read))
   one_refusal v w (by_task u read nb) is_made (by_task u' read' nb') = refl
   one_refusal v w (by_task u read nb) is_made (by_text s' other' r') = absurd (not_unbuilt s'.asks u read nb)
@@ -252,6 +308,7 @@ module _ (l : OneVerdict) (c : Call) (told : TellsSource c) where
   one_refusal v w (by_task u read nb) is_made (by_missing n' is' r') = absurd (not_unbuilt n'.program.source.asks u read nb)
   one_refusal v w (by_task u read nb) is_made (by_judging n' is' r') = absurd (not_unbuilt n'.program.source.asks u read nb)
   one_refusal v w (by_task u read nb) is_made (by_given p' is' r') = absurd (not_unbuilt (asks_for p') u read nb)
+  one_refusal v w (by_task u read nb) is_made (by_certificate m' b' js' r') = absurd (not_unbuilt (asks_in m') u read nb)
   one_refusal v w (by_text s other r) is_made (by_words none') = absurd (not_asked s.asks none')
   one_refusal v w (by_text s other r) is_made (by_task u' read' nb') = absurd (not_unbuilt s.asks u' read' nb')
   one_refusal v w (by_text s other r) is_made (by_text s' other' r') = l.one_text_refusal s.bytes v w r (subst (λ b. RefusesText b w) (same_bytes s' s) r')
@@ -260,6 +317,7 @@ module _ (l : OneVerdict) (c : Call) (told : TellsSource c) where
   one_refusal v w (by_text s other r) is_made (by_missing n' is' r') = absurd (text_not s v r n'.program)
   one_refusal v w (by_text s other r) is_made (by_judging n' is' r') = absurd (text_not s v r n'.program)
   one_refusal v w (by_text s other r) is_made (by_given p' is' r') = absurd (text_program s v other r p')
+  one_refusal v w (by_text s other r) is_made (by_certificate m' b' js' r') = absurd (text_not s v r m'.names.program)
   one_refusal v w (by_flat s is r) is_made (by_words none') = absurd (not_asked s.asks none')
   one_refusal v w (by_flat s is r) is_made (by_task u' read' nb') = absurd (not_unbuilt s.asks u' read' nb')
   one_refusal v w (by_flat s is r) is_made (by_text s' other' r') = absurd (one_form s.asks s'.asks is other')
@@ -268,6 +326,7 @@ module _ (l : OneVerdict) (c : Call) (told : TellsSource c) where
   one_refusal v w (by_flat s is r) is_made (by_missing n' is' r') = absurd (one_form s.asks n'.program.source.asks is n'.program.form)
   one_refusal v w (by_flat s is r) is_made (by_judging n' is' r') = absurd (one_form s.asks n'.program.source.asks is n'.program.form)
   one_refusal v w (by_flat s is r) is_made (by_given p' is' r') = absurd (flat_program s v is r p')
+  one_refusal v w (by_flat s is r) is_made (by_certificate m' b' js' r') = absurd (one_form s.asks (asks_in m') is m'.names.program.form)
   one_refusal v w (by_names t other r) is_made (by_words none') = absurd (not_asked t.source.asks none')
   one_refusal v w (by_names t other r) is_made (by_task u' read' nb') = absurd (not_unbuilt t.source.asks u' read' nb')
   one_refusal v w (by_names t other r) is_made (by_text s' other' r') = absurd (text_not s' w r' t)
@@ -276,6 +335,7 @@ module _ (l : OneVerdict) (c : Call) (told : TellsSource c) where
   one_refusal v w (by_names t other r) is_made (by_missing n' is' r') = absurd (names_not t v r n')
   one_refusal v w (by_names t other r) is_made (by_judging n' is' r') = absurd (names_not t v r n')
   one_refusal v w (by_names t other r) is_made (by_given p' is' r') = absurd (names_program t v r p')
+  one_refusal v w (by_names t other r) is_made (by_certificate m' b' js' r') = absurd (names_not t v r m'.names)
   one_refusal v w (by_missing n is r) is_made (by_words none') = absurd (not_asked n.program.source.asks none')
   one_refusal v w (by_missing n is r) is_made (by_task u' read' nb') = absurd (not_unbuilt n.program.source.asks u' read' nb')
   one_refusal v w (by_missing n is r) is_made (by_text s' other' r') = absurd (text_not s' w r' n.program)
@@ -284,6 +344,7 @@ module _ (l : OneVerdict) (c : Call) (told : TellsSource c) where
   one_refusal v w (by_missing n is r) is_made (by_missing n' is' r') = one_missing n.program.tree (columns_named n) v w r (missing_there n n' w r')
   one_refusal v w (by_missing n is r) is_made (by_judging n' is' r') = absurd (cc (columns_or n n'.program.source.asks task.Cycles is is'))
   one_refusal v w (by_missing n is r) is_made (by_given p' is' r') = absurd (missing_program n v is r p' is')
+  one_refusal v w (by_missing n is r) is_made (by_certificate m' b' js' r') = absurd (cc (columns_or n (asks_in m') task.Check is m'.task))
   one_refusal v w (by_judging n is r) is_made (by_words none') = absurd (not_asked n.program.source.asks none')
   one_refusal v w (by_judging n is r) is_made (by_task u' read' nb') = absurd (not_unbuilt n.program.source.asks u' read' nb')
   one_refusal v w (by_judging n is r) is_made (by_text s' other' r') = absurd (text_not s' w r' n.program)
@@ -292,6 +353,7 @@ module _ (l : OneVerdict) (c : Call) (told : TellsSource c) where
   one_refusal v w (by_judging n is r) is_made (by_missing n' is' r') = absurd (cc (columns_or n' n.program.source.asks task.Cycles is' is))
   one_refusal v w (by_judging n is r) is_made (by_judging n' is' r') = one_judging_refusal n.program.tree v w r (subst (λ p. RefusesJudging p w) (same_tree n'.program n.program) r')
   one_refusal v w (by_judging n is r) is_made (by_given p' is' r') = absurd (judging_or_run n p' is is')
+  one_refusal v w (by_judging n is r) is_made (by_certificate m' b' js' r') = absurd (cc (one_task n.program.source.asks (asks_in m') task.Cycles task.Check is m'.task))
   one_refusal v w (by_given p is r) is_made (by_words none') = absurd (not_asked (asks_for p) none')
   one_refusal v w (by_given p is r) is_made (by_task u' read' nb') = absurd (not_unbuilt (asks_for p) u' read' nb')
   one_refusal v w (by_given p is r) is_made (by_text s' other' r') = absurd (text_program s' w other' r' p)
@@ -300,17 +362,28 @@ module _ (l : OneVerdict) (c : Call) (told : TellsSource c) where
   one_refusal v w (by_given p is r) is_made (by_missing n' is' r') = absurd (missing_program n' w is' r' p is)
   one_refusal v w (by_given p is r) is_made (by_judging n' is' r') = absurd (judging_or_run n' p is' is)
   one_refusal v w (by_given p is r) is_made (by_given p' is' r') = given_once (inputs_in p) (asks_for p).words.given v w r (given_there p p' w (same_inputs p p' is is' is_made) r')
+  one_refusal v w (by_given p is r) is_made (by_certificate m' b' js' r') = absurd (given_check m' p v is r (sym (same_inputs p (by_tree m'.names) is (inr m'.task) is_made)))
+  one_refusal v w (by_certificate m b js r) is_made (by_words none') = absurd (not_asked (asks_in m) none')
+  one_refusal v w (by_certificate m b js r) is_made (by_task u' read' nb') = absurd (not_unbuilt (asks_in m) u' read' nb')
+  one_refusal v w (by_certificate m b js r) is_made (by_text s' other' r') = absurd (text_not s' w r' m.names.program)
+  one_refusal v w (by_certificate m b js r) is_made (by_flat s' is' r') = absurd (one_form s'.asks (asks_in m) is' m.names.program.form)
+  one_refusal v w (by_certificate m b js r) is_made (by_names t' other' r') = absurd (names_not t' w r' m.names)
+  one_refusal v w (by_certificate m b js r) is_made (by_missing n' is' r') = absurd (cc (columns_or n' (asks_in m) task.Check is' m.task))
+  one_refusal v w (by_certificate m b js r) is_made (by_judging n' is' r') = absurd (cc (one_task n'.program.source.asks (asks_in m) task.Cycles task.Check is' m.task))
+  one_refusal v w (by_certificate m b js r) is_made (by_given p' is' r') = absurd (given_check m p' w is' r' (same_inputs (by_tree m.names) p' (inr m.task) is' is_made))
+  one_refusal v w (by_certificate m b js r) is_made (by_certificate m' b' js' r') = l.one_certificate_refusal b v w r (subst (λ x. RefusesCertificate x w) (same_file m' m b' b js' js) r')
 
   -- a program that is run isn't refused, nor is one of which a text is written
-  pub run_not_refused : (x : IsRun c) (v : Refusal) → Refuses c v → ((q : HasProgram c) → IsAskedFor q → inputs_in x.program ≡ inputs_in q) → ⊥
+  pub run_not_refused : (x : IsRun c) (v : Refusal) → Refuses c v → ((q : HasProgram c) → WantsInputs q → inputs_in x.program ≡ inputs_in q) → ⊥
   run_not_refused x v (by_words none) lists = not_asked (asks_for x.program) none
   run_not_refused x v (by_task u read nb) lists = not_unbuilt (asks_for x.program) u read nb
   run_not_refused x v (by_text s other r) lists = text_program s v other r x.program
   run_not_refused x v (by_flat s is r) lists = flat_program s v is r x.program
   run_not_refused x v (by_names t other r) lists = names_program t v r x.program
-  run_not_refused x v (by_missing n is r) lists = missing_program n v is r x.program x.task
-  run_not_refused x v (by_judging n is r) lists = judging_or_run n x.program is x.task
+  run_not_refused x v (by_missing n is r) lists = missing_program n v is r x.program (inl x.task)
+  run_not_refused x v (by_judging n is r) lists = judging_or_run n x.program is (inl x.task)
   run_not_refused x v (by_given p is r) lists = given_fits (inputs_in x.program) (asks_for x.program).words.given v (given_there x.program p v (lists p is) r) x.fits
+  run_not_refused x v (by_certificate m b js r) lists = run_or_check x m
 
   pub text_not_refused : (x : IsWriting c) (v : Refusal) → Refuses c v → ⊥
   text_not_refused (prints q js) v (by_words none) = absurd (not_asked q.source.asks none)
@@ -320,7 +393,8 @@ module _ (l : OneVerdict) (c : Call) (told : TellsSource c) where
   text_not_refused (prints q js) v (by_names t other r) = absurd (other (ap task_of (same_words t.source.asks q.source.asks) ∙ js))
   text_not_refused (prints q js) v (by_missing n is r) = absurd (cc (columns_or n q.source.asks task.Print is js))
   text_not_refused (prints q js) v (by_judging n is r) = absurd (cc (one_task n.program.source.asks q.source.asks task.Cycles task.Print is js))
-  text_not_refused (prints q js) v (by_given p is r) = other_task p q.source.asks task.Print is js (λ e. absurd (cc e)) (λ e. absurd (cc e))
+  text_not_refused (prints q js) v (by_given p is r) = other_task p q.source.asks task.Print is js refl
+  text_not_refused (prints q js) v (by_certificate m' b js' r) = check_or_text m' (prints q js)
   text_not_refused (judges m js judged) v (by_words none) = absurd (not_asked m.program.source.asks none)
   text_not_refused (judges m js judged) v (by_task u read nb) = absurd (not_unbuilt m.program.source.asks u read nb)
   text_not_refused (judges m js judged) v (by_text s other r) = absurd (text_not s v r m.program)
@@ -328,7 +402,8 @@ module _ (l : OneVerdict) (c : Call) (told : TellsSource c) where
   text_not_refused (judges m js judged) v (by_names t other r) = absurd (names_not t v r m)
   text_not_refused (judges m js judged) v (by_missing n is r) = absurd (cc (columns_or n m.program.source.asks task.Cycles is js))
   text_not_refused (judges m js judged) v (by_judging n is r) = absurd (judging_not m v judged n r)
-  text_not_refused (judges m js judged) v (by_given p is r) = other_task p m.program.source.asks task.Cycles is js (λ e. absurd (cc e)) (λ e. absurd (cc e))
+  text_not_refused (judges m js judged) v (by_given p is r) = other_task p m.program.source.asks task.Cycles is js refl
+  text_not_refused (judges m js judged) v (by_certificate m' b js' r) = check_or_text m' (judges m js judged)
   text_not_refused (flattens m js) v (by_words none) = absurd (not_asked m.program.source.asks none)
   text_not_refused (flattens m js) v (by_task u read nb) = absurd (not_unbuilt m.program.source.asks u read nb)
   text_not_refused (flattens m js) v (by_text s other r) = absurd (text_not s v r m.program)
@@ -336,7 +411,8 @@ module _ (l : OneVerdict) (c : Call) (told : TellsSource c) where
   text_not_refused (flattens m js) v (by_names t other r) = absurd (names_not t v r m)
   text_not_refused (flattens m js) v (by_missing n is r) = absurd (cc (columns_or n m.program.source.asks task.Flat is js))
   text_not_refused (flattens m js) v (by_judging n is r) = absurd (cc (one_task n.program.source.asks m.program.source.asks task.Cycles task.Flat is js))
-  text_not_refused (flattens m js) v (by_given p is r) = other_task p m.program.source.asks task.Flat is js (λ e. absurd (cc e)) (λ e. absurd (cc e))
+  text_not_refused (flattens m js) v (by_given p is r) = other_task p m.program.source.asks task.Flat is js refl
+  text_not_refused (flattens m js) v (by_certificate m' b js' r) = check_or_text m' (flattens m js)
 
   -- a call writes texts of one kind, of one tree
   pub same_text : (x y : IsWriting c) (text : List ℕ) → IsTextFor x text → IsTextFor y text
@@ -357,6 +433,36 @@ module _ (l : OneVerdict) (c : Call) (told : TellsSource c) where
   run_not_stopped x v (by_text s other r) is_made = text_program s v other r x.program
   run_not_stopped x v (by_flat s is r) is_made = flat_program s v is r x.program
   run_not_stopped x v (by_names t other r) is_made = names_program t v r x.program
-  run_not_stopped x v (by_missing n is r) is_made = missing_program n v is r x.program x.task
-  run_not_stopped x v (by_judging n is r) is_made = judging_or_run n x.program is x.task
-  run_not_stopped x v (by_given p is r) is_made = run_not_refused x v (by_given p is r) (λ q js. sym (same_inputs p x.program is x.task is_made) ∙ same_inputs p q is js is_made)
+  run_not_stopped x v (by_missing n is r) is_made = missing_program n v is r x.program (inl x.task)
+  run_not_stopped x v (by_judging n is r) is_made = judging_or_run n x.program is (inl x.task)
+  run_not_stopped x v (by_given p is r) is_made = run_not_refused x v (by_given p is r) (λ q js. sym (same_inputs p x.program is (inl x.task) is_made) ∙ same_inputs p q is js is_made)
+  run_not_stopped x v (by_certificate m b js r) is_made = run_or_check x m
+
+  -- Where a certificate may be checked, nothing else than its file is refused; and in a check neither is that.
+  abbrev pub OfCertificate : {v : Refusal} → Refuses c v → Type 0
+  OfCertificate (by_certificate m b js r) = Unit {0}
+  OfCertificate r = ⊥
+
+  pub may_refused : (m : MayCheck c) (v : Refusal) (a : Refuses c v) → IsWellMade m.names.program.tree ⊎ IsOfMade a → OfCertificate a
+  may_refused m v (by_words none) well = absurd (not_asked (asks_in m) none)
+  may_refused m v (by_task u read nb) well = absurd (not_unbuilt (asks_in m) u read nb)
+  may_refused m v (by_text s other r) well = absurd (text_not s v r m.names.program)
+  may_refused m v (by_flat s is r) well = absurd (one_form s.asks (asks_in m) is m.names.program.form)
+  may_refused m v (by_names t other r) well = absurd (names_not t v r m.names)
+  may_refused m v (by_missing n is r) well = absurd (cc (columns_or n (asks_in m) task.Check is m.task))
+  may_refused m v (by_judging n is r) well = absurd (cc (one_task n.program.source.asks (asks_in m) task.Cycles task.Check is m.task))
+  may_refused m v (by_given p is r) (inl well) = absurd (given_check m p v is r (same_inputs (by_tree m.names) p (inr m.task) is well))
+  may_refused m v (by_given p is r) (inr well) = absurd (given_check m p v is r (sym (same_inputs p (by_tree m.names) is (inr m.task) well)))
+  may_refused m v (by_certificate m' b js r) well = tt
+
+  pub check_not_refused : (k : IsCheck c) (v : Refusal) (a : Refuses c v) → IsWellMade k.may.names.program.tree ⊎ IsOfMade a → ⊥
+  check_not_refused k v (by_certificate m b js r) well =
+      l.certificate_not_refused k.held.bytes k.why v k.held.holds (subst (λ x. RefusesCertificate x v) (same_file m k.may b k.held.bytes js k.held.is) r)
+  check_not_refused k v (by_words none) well = may_refused k.may v (by_words none) well
+  check_not_refused k v (by_task u read nb) well = may_refused k.may v (by_task u read nb) well
+  check_not_refused k v (by_text s other r) well = may_refused k.may v (by_text s other r) well
+  check_not_refused k v (by_flat s is r) well = may_refused k.may v (by_flat s is r) well
+  check_not_refused k v (by_names t other r) well = may_refused k.may v (by_names t other r) well
+  check_not_refused k v (by_missing n is r) well = may_refused k.may v (by_missing n is r) well
+  check_not_refused k v (by_judging n is r) well = may_refused k.may v (by_judging n is r) well
+  check_not_refused k v (by_given p is r) well = may_refused k.may v (by_given p is r) well

@@ -1,8 +1,8 @@
 -- Places that are reached one behind the other.
-use Rattle.lucid_top.proofs.Common.{◌≡◌, ℕ, zero, suc, ◌+◌, ◌<◌, ◌≤◌, ◌≢◌, List, [], ◌∷◌, ◌++◌, length, map, get_or, Option, Some, None, Ok, Err, ap, sym, subst, ◌∙◌, inl, inr, arith, add-one, IfSome, IfOk, slice_get, option_map, range_with_len, cases_lt, slice_get-map, slice_get-get_or, World, Contents, IsFresh, KeepsNames, AreFresh, IsErrAnd, OnErr, MatchResult}
+use Rattle.lucid_top.proofs.Common.{◌≡◌, ℕ, zero, suc, ◌+◌, ◌<◌, ◌≤◌, ◌≢◌, List, [], ◌∷◌, ◌++◌, length, map, get_or, Option, Some, None, Ok, Err, ap, sym, subst, ◌∙◌, inl, inr, arith, add-one, IfSome, IfOk, slice_get, option_map, range_with_len, cases_lt, slice_get-map, slice_get-get_or, World, Contents, IsFresh, KeepsNames, AreFresh, IsErrAnd, OnErr, MatchResult, AreKept, ReadsPlace}
 use Rattle.std.proofs.Common.{Result, take}
 use denote.Ref.{Bor}
-use Rattle.lucid_ports.specs.World.{KeepsOthers, unread, advanced}
+use Rattle.lucid_ports.specs.World.{KeepsOthers, Place, unread, advanced}
 use Rattle.lucid_session.proofs.Subjects.{range_more as range_suc}
 
 -- its first bytes are those of its name
@@ -30,14 +30,25 @@ consumed_within most n (Some bytes) old new fresh le is =
     let short = take_short n bytes in
     subst (λ o. IfSome o (λ s. length s.consumed ≤ most)) (sym (is ∙ ap (option_map (advanced n)) fresh)) (omega (arith, short, le))
 
-pub read_within : (most place : ℕ) (held : Option (List ℕ)) (old new : World) → place ≡ 0 → (old.place place).contents ≡ option_map unread held
-    → (n : ℕ) × (n ≤ most) × ((new.place place).contents ≡ option_map (advanced n) (old.place place).contents) → IfSome (new.place 0).contents (λ s. length s.consumed ≤ most)
-read_within most place held old new first fresh read =
-    subst (λ q. IfSome (new.place q).contents (λ s. length s.consumed ≤ most)) first (consumed_within most read.0 held (old.place place).contents (new.place place).contents fresh read.1 read.2)
+pub read_within : (most place q : ℕ) (held : Option (List ℕ)) (old new : World) → place ≡ q → (old.place place).contents ≡ option_map unread held
+    → (n : ℕ) × (n ≤ most) × ((new.place place).contents ≡ option_map (advanced n) (old.place place).contents) → IfSome (new.place q).contents (λ s. length s.consumed ≤ most)
+read_within most place q held old new is fresh read =
+    subst (λ k. IfSome (new.place k).contents (λ s. length s.consumed ≤ most)) is (consumed_within most read.0 held (old.place place).contents (new.place place).contents fresh read.1 read.2)
 
--- the first place stays as it was, where it was reached before
-pub first_stays : (w v u : World) → (0 < w.reached → v.place 0 ≡ w.place 0) → w.reached ≤ v.reached → KeepsOthers v.reached v u → 0 < w.reached → u.place 0 ≡ w.place 0
-first_stays w v u first le o some = o.others 0 (λ e. absurd (omega (arith, e, le, some))) ∙ first some
+-- what was kept is kept, where the next place is reached or changes
+pub kept_on : (w v u : World) → AreKept w v → w.reached ≤ v.reached → KeepsOthers v.reached v u → AreKept w u
+kept_on w v u stays le o q lt = o.others q (λ e. absurd (omega (arith, e, le, lt))) ∙ stays q lt
+
+-- reaching a place and reading it changes no place that was reached
+pub read_kept : (w v u : World) (number : ℕ) → number ≡ w.reached → KeepsOthers w.reached w v → KeepsOthers number v u → AreKept w u
+read_kept w v u number is o p q lt = p.others q (λ e. absurd (omega (arith, e, is, lt))) ∙ o.others q (λ e. absurd (omega (arith, e, lt)))
+
+-- what was kept is kept on, and of a place that is kept no more is read
+pub kept_then : (w v u : World) → AreKept w v → w.reached ≤ v.reached → AreKept v u → AreKept w u
+kept_then w v u a le b q lt = b q (omega (arith, lt, le)) ∙ a q lt
+
+pub reads_still : (most q : ℕ) (v u : World) → ReadsPlace most q v → q < v.reached → AreKept v u → ReadsPlace most q u
+reads_still most q v u reads lt kept more = subst (λ (p : Place). IfSome p.contents (λ s. length s.consumed ≤ most)) (sym (kept q lt)) (reads lt)
 
 -- names stay from call to call
 pub keeps_on : (w v u : World) (number : ℕ) → KeepsNames w v → KeepsOthers number v u → KeepsNames w u

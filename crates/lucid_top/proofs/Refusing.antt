@@ -1,5 +1,5 @@
--- What the scanner, the parser and the flat form refuse, as refusals of a call.
-use Rattle.lucid_top.proofs.Common.{ℕ, ◌≤◌, List, length, refl, Token, ScanRefusal, ParseRefusal, Table, BuildRefusal, most_flat_bytes, HasTable, RefusesFlat, by_line, by_row, scan_stop, parse_stop, build_stop, IsRefusalOf, HasTokens, RefusesText, by_scan, by_parse}
+-- What the scanner, the parser, the flat form and certificates refuse, as refusals of a call.
+use Rattle.lucid_top.proofs.Common.{ℕ, ◌≤◌, List, length, refl, Token, ScanRefusal, ParseRefusal, Table, BuildRefusal, most_flat_bytes, HasTable, RefusesFlat, by_line, by_row, scan_stop, parse_stop, build_stop, IsRefusalOf, HasTokens, RefusesText, by_scan, by_parse, RefusesCertificate, by_judgment, most_certificate_bytes}
 use Rattle.lucid_scan.specs.declared.refusal.ScanRefusal.TheVariants as scan
 use Rattle.lucid_scan.specs.Refusals.{Refuses}
 use Rattle.lucid_parse.specs.declared.refusal.ParseRefusal.TheVariants as parse
@@ -9,7 +9,10 @@ use Rattle.lucid_flat.specs.declared.read.FlatRefusal.TheVariants as flat
 use Rattle.lucid_flat.specs.LinesRead.{IsRefused as IsLineRefused}
 use Rattle.lucid_sound.specs.declared.program.BuildRefusal.TheVariants as build
 use Rattle.lucid_sound.specs.WrongRows.{IsRefused as IsTableRefused}
-use Rattle.lucid_top.specs.Refusals.{flat_stop}
+use Rattle.lucid_why.specs.declared.read.WhyRefusal.{WhyRefusal}
+use Rattle.lucid_why.specs.declared.read.WhyRefusal.TheVariants as why
+use Rattle.lucid_why.specs.LinesRead.{IsRefused as IsJudgmentRefused}
+use Rattle.lucid_top.specs.Refusals.{flat_stop, why_stop}
 
 pub scan_refuses : (source : List ℕ) (e : ScanRefusal) → Refuses source e → IsRefusalOf (RefusesText source) (scan_stop e)
 scan_refuses source scan.TooLong r = by_scan scan.TooLong refl r
@@ -35,3 +38,7 @@ build_refuses source t (build.Name at) has r = by_row t (build.Name at) refl has
 build_refuses source t (build.Place at) has r = by_row t (build.Place at) refl has r
 build_refuses source t build.Root has r = by_row t build.Root refl has r
 build_refuses source t build.NoMemory has r = tt
+
+pub certificate_refuses : (bytes : List ℕ) (e : WhyRefusal) → length bytes ≤ most_certificate_bytes → IsJudgmentRefused bytes e → IsRefusalOf (RefusesCertificate bytes) (why_stop e)
+certificate_refuses bytes (why.Form line) short r = by_judgment short r
+certificate_refuses bytes why.NoMemory short r = tt

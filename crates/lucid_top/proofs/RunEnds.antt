@@ -1,5 +1,5 @@
 -- How a call comes to its outcome that runs its program.
-use Rattle.lucid_top.proofs.Common.{◌≡◌, ◌≢◌, ℕ, zero, suc, ◌⊎◌, ◌+◌, ◌-◌, ◌<◌, ◌≤◌, Bool, true, List, [], length, map, get_or, nat_lt, Some, Ok, Err, inl, inr, sym, ap, subst, ◌∙◌, arith, IfSome, slice_get, unwrap_or, option_map, AllPairs, codes, lt-ltb, range_with_len, length-map, length-range_with_len, get_or-range_with_len, slice_get-get_or, slice_get_within, World, IsFresh, In, Table, most_source_bytes, rises_from, PlainSource, file, made, plain_given, PlainWords, Outcome, Call, Program, Given, FitsGiven, file_given, files_for, asks_for, program_in, IsRun, KeepsNames, ReadsSource, AreFresh, AreUnread, Run, first_place, run_of, unread_place, viewed, view_of, table_program, RanSo, RunComesOnly, ComesOnly, RunsTable, Comes, get_or_from_slice_get, unwrap_or-slice_get}
+use Rattle.lucid_top.proofs.Common.{◌≡◌, ◌≢◌, ℕ, zero, suc, ◌⊎◌, ◌+◌, ◌-◌, ◌<◌, ◌≤◌, Bool, true, List, [], length, map, get_or, nat_lt, Some, Ok, Err, inl, inr, sym, ap, subst, ◌∙◌, arith, IfSome, slice_get, unwrap_or, option_map, AllPairs, codes, lt-ltb, range_with_len, length-map, length-range_with_len, get_or-range_with_len, slice_get-get_or, slice_get_within, World, IsFresh, In, Table, most_source_bytes, rises_from, PlainSource, file, made, plain_given, PlainWords, Outcome, Call, Program, Given, FitsGiven, file_given, files_for, asks_for, program_in, IsRun, KeepsNames, ReadsSource, AreFresh, AreUnread, Run, first_place, run_of, unread_place, viewed, view_of, table_program, RanSo, RunComesOnly, ComesOnly, RunsTable, Comes, get_or_from_slice_get, unwrap_or-slice_get, AreKept, first_input, le_refl}
 use Rattle.std.proofs.Common.{cond}
 use denote.Ref.{Bor}
 use Rattle.lucid_ports.specs.World.{Place, unread}
@@ -7,7 +7,7 @@ use Rattle.lucid_words.specs.declared.Given.{Given as Word}
 use Rattle.lucid_top.specs.declared.stop.Done.TheVariants as done
 use Rattle.lucid_top.specs.declared.stop.Stop.TheVariants as stop
 use Rattle.lucid_top.specs.Runs.{input_places, world_before, world_after}
-use Rattle.lucid_top.proofs.Ending.{words_of, first_place_le, run_of_table, places_of_table}
+use Rattle.lucid_top.proofs.Ending.{words_of, first_place_le, first_of_run, run_of_table, places_of_table}
 use Rattle.lucid_top.proofs.Views.{TellAlike, ran_alike}
 
 -- a number of a range
@@ -32,19 +32,23 @@ not_in_range a (suc n) k below (inl is) = absurd (omega (arith, is, below))
 not_in_range a (suc n) k below (inr is) = not_in_range (a + 1) n k (omega (arith, below)) is
 
 -- the source's place is read no more once the inputs are reached
-pub source_stays : (most : ℕ) (s : PlainSource) (v u : World) → ReadsSource most s v → v.reached ≡ first_place s → (0 < v.reached → u.place 0 ≡ v.place 0) → ReadsSource most s u
+pub source_stays : (most : ℕ) (s : PlainSource) (v u : World) → ReadsSource most s v → v.reached ≡ first_place s → AreKept v u → ReadsSource most s u
 source_stays most (file name) v u within first stays = λ some.
     let was : 0 < v.reached = omega (arith, first) in
-    subst (λ (p : Place). IfSome p.contents (λ x. length x.consumed ≤ most)) (sym (stays was)) (within was)
+    subst (λ (p : Place). IfSome p.contents (λ x. length x.consumed ≤ most)) (sym (stays 0 was)) (within was)
 source_stays most (made n) v u within first stays = tt
 
-pub source_run : (most : ℕ) (s : PlainSource) (v u w : World) (n : ℕ) (numbers : List ℕ) → ReadsSource most s v → v.reached ≡ first_place s → (0 < v.reached → u.place 0 ≡ v.place 0)
-    → numbers ≡ range_with_len v.reached n → ((k : ℕ) → In k numbers ⊎ (w.place k ≡ u.place k)) → ReadsSource most s w
-source_run most s v u w n numbers within first stays are others = source_stays most s v w within first (λ some. kept some (others 0))
+-- places that were reached before those with these numbers stay as they were
+pub earlier_stay : (v u w : World) (n : ℕ) (numbers : List ℕ) → AreKept v u → (a : ℕ) → v.reached ≤ a → numbers ≡ range_with_len a n → ((k : ℕ) → In k numbers ⊎ (w.place k ≡ u.place k)) → AreKept v w
+earlier_stay v u w n numbers stays a le are others q lt = kept (others q)
   where
-    kept : 0 < v.reached → In 0 numbers ⊎ (w.place 0 ≡ u.place 0) → w.place 0 ≡ v.place 0
-    kept some (inl is) = absurd (not_in_range v.reached n 0 some (subst (In 0) are is))
-    kept some (inr same) = same ∙ stays some
+    kept : In q numbers ⊎ (w.place q ≡ u.place q) → w.place q ≡ v.place q
+    kept (inl is) = absurd (not_in_range a n q (omega (arith, lt, le)) (subst (In q) are is))
+    kept (inr same) = same ∙ stays q lt
+
+pub source_run : (most : ℕ) (s : PlainSource) (v u w : World) (n : ℕ) (numbers : List ℕ) → ReadsSource most s v → v.reached ≡ first_place s → AreKept v u
+    → numbers ≡ range_with_len v.reached n → ((k : ℕ) → In k numbers ⊎ (w.place k ≡ u.place k)) → ReadsSource most s w
+source_run most s v u w n numbers within first stays are others = source_stays most s v w within first (earlier_stay v u w n numbers stays v.reached (le_refl v.reached) are others)
 
 -- nothing is read of the places just reached
 pub all_unread : (files : List (List ℕ)) (old new : World) (numbers : List ℕ) → AreFresh files old new → new.reached ≡ old.reached + length files
@@ -90,31 +94,31 @@ reached_of free given refs refs' v u numbers same are fresh reached numbers_are 
     record { fresh = subst (λ fs. AreFresh fs v u) files fresh; reached = omega (arith, reached, long); numbers_are = numbers_are ∙ ap (range_with_len v.reached) long }
 
 -- what the places tell of the inputs before the run, told from the files
-told_before : (c : Call) (w : PlainWords) (p : Program) (free : List (List ℕ)) (v u : World) → v.reached ≡ first_place w.source → KeepsNames c.before v
+told_before : (c : Call) (w : PlainWords) (p : Program) (free : List (List ℕ)) (v u : World) → v.reached ≡ first_input w → KeepsNames c.before v
     → AreFresh (files_for free w.given) v u → u.reached ≡ v.reached + length (files_for free w.given)
-    → (k q : ℕ) → slice_get (range_with_len (first_place w.source) (length free)) k ≡ Some q
+    → (k q : ℕ) → slice_get (range_with_len (first_input w) (length free)) k ≡ Some q
     → (unread_place c (record { words = w; program = p; inputs = free }) q).contents ≡ (u.place q).contents
 told_before c w p free v u first kept fresh reached k q at =
     let files : List (List ℕ) = files_for free w.given in
     let long : length files ≡ length free = files_long free w.given in
-    let here = in_range (first_place w.source) (length free) k q at in
+    let here = in_range (first_input w) (length free) k q at in
     let below : k < length files = omega (arith, here.1, long) in
     let file : List ℕ = get_or files k [] in
     let at_place : q ≡ v.reached + k = omega (arith, here.0, first) in
-    let back : q - first_place w.source ≡ k = omega (arith, here.0) in
+    let back : q - first_input w ≡ k = omega (arith, here.0) in
     let place : IsFresh (v.holds file) (u.place (v.reached + k)) = fresh k file (slice_get-get_or files k [] below) (omega (arith, below, reached)) in
-    let name : unwrap_or (slice_get files (q - first_place w.source)) [] ≡ file = ap (λ j. unwrap_or (slice_get files j) []) back ∙ unwrap_or-slice_get files k [] in
+    let name : unwrap_or (slice_get files (q - first_input w)) [] ≡ file = ap (λ j. unwrap_or (slice_get files j) []) back ∙ unwrap_or-slice_get files k [] in
     ap (λ n. option_map unread (c.before.holds n)) name ∙ ap (option_map unread) (sym (kept.names file)) ∙ sym place.contents ∙ ap (λ n. (u.place n).contents) (sym at_place)
 
 -- the command's own view of its inputs tells the same as their places
-tells_alike : (c : Call) (w : PlainWords) (p : Program) (free : List (List ℕ)) (v u : World) → v.reached ≡ first_place w.source → KeepsNames c.before v → KeepsNames v u
+pub tells_alike : (c : Call) (w : PlainWords) (p : Program) (free : List (List ℕ)) (v u : World) → v.reached ≡ first_input w → KeepsNames c.before v → KeepsNames v u
     → AreFresh (files_for free w.given) v u → u.reached ≡ v.reached + length (files_for free w.given) → c.after.reached ≡ u.reached → u.faults ≤ c.after.faults
     → TellAlike (input_places (record { words = w; program = p; inputs = free })) u c.after
     (world_before c (record { words = w; program = p; inputs = free })) (world_after c (record { words = w; program = p; inputs = free }))
 tells_alike c w p free v u first kept kept' fresh reached same mono = record {
   before = told_before c w p free v u first kept fresh reached;
   after = λ k q at.
-      let here = in_range (first_place w.source) (length free) k q at in
+      let here = in_range (first_input w) (length free) k q at in
       let long : length (files_for free w.given) ≡ length free = files_long free w.given in
       let lt : q < c.after.reached = omega (arith, here.0, here.1, long, first, reached, same) in
       let_through (nat_lt q c.after.reached) (c.after.place q) (unread_place c (record { words = w; program = p; inputs = free }) q) (lt-ltb q c.after.reached lt);
@@ -130,7 +134,8 @@ run_only c r u (Err (stop.Refused why)) le mono h = absurd h
 run_only c r u (Err stop.ReadFault) le mono h = rises_from c.before.faults u.faults c.after.faults le mono h
 run_only c r u (Err stop.WriteFault) le mono h = h
 run_only c r u (Err (stop.TooDeep time lost cleared stats)) le mono h = (r, h)
-run_only c r u (Err (stop.TooLarge stream name)) le mono h = (r, h)
+run_only c r u (Err (stop.TooLarge stream name)) le mono h = inl (r, h)
+run_only c r u (Err (stop.Wrong judgment)) le mono h = absurd h
 run_only c r u (Err stop.NoMemory) le mono h = tt
 
 -- what is known of a run once it has ended, over the places as they were after the source was read, and once the inputs were reached
@@ -144,10 +149,10 @@ pub record Ended (c : Call) (w : PlainWords) (t : Table) (v u : World) (numbers 
   pub only : RunComesOnly w t.inputs u.faults c.after.faults c.out_before.faults c.out_after.faults o
 
 -- a run of these words, of this program, with inputs of these names
-abbrev run_with : PlainWords → Program → List (List ℕ) → Run
+abbrev pub run_with : PlainWords → Program → List (List ℕ) → Run
 run_with w p names = record { words = w; program = p; inputs = names }
 
-one_run : {v w : PlainWords} (p : Program) {f g : List (List ℕ)} → v ≡ w → f ≡ g → run_with v p f ≡ run_with w p g
+pub one_run : {v w : PlainWords} (p : Program) {f g : List (List ℕ)} → v ≡ w → f ≡ g → run_with v p f ≡ run_with w p g
 one_run p a b = cc (a, b)
 
 pub runs : (c : Call) (w : PlainWords) (t : Table) (v u : World) (numbers : List ℕ) (o : Outcome) → RunsTable c w t v → FitsGiven t.inputs w.given → Ended c w t v u numbers o → Comes c o
@@ -157,17 +162,18 @@ runs c w t v u numbers o b fits e =
     let r : IsRun c = run_of_table c w t v b fits in
     let same : run_with w p t.inputs ≡ run_of r = one_run p (sym words) (sym b.inputs) in
     let long : length (files_for t.inputs w.given) ≡ length t.inputs = files_long t.inputs w.given in
-    let places : numbers ≡ range_with_len (first_place w.source) (length t.inputs) =
-    e.inputs.numbers_are ∙ ap (λ n. range_with_len n (length (files_for t.inputs w.given))) b.first ∙ ap (range_with_len (first_place w.source)) long in
-    let seen : RanSo p (viewed w t.inputs (range_with_len (first_place w.source) (length t.inputs)) u c.after c.out_before c.out_after) o =
+    let first_here : v.reached ≡ first_input w = b.first ∙ sym (first_of_run c w t v b) in
+    let places : numbers ≡ range_with_len (first_input w) (length t.inputs) =
+    e.inputs.numbers_are ∙ ap (λ n. range_with_len n (length (files_for t.inputs w.given))) first_here ∙ ap (range_with_len (first_input w)) long in
+    let seen : RanSo p (viewed w t.inputs (range_with_len (first_input w) (length t.inputs)) u c.after c.out_before c.out_after) o =
     subst (λ qs. RanSo p (viewed w t.inputs qs u c.after c.out_before c.out_after) o) places (b.runs _ o e.ran) in
-    let alike = tells_alike c w p t.inputs v u b.first b.kept e.kept_on e.inputs.fresh e.inputs.reached e.same_reached e.faults in
+    let alike = tells_alike c w p t.inputs v u first_here b.kept e.kept_on e.inputs.fresh e.inputs.reached e.same_reached e.faults in
     let one = first_place_le w.source in
     let first = b.first in
     let few = e.few in
     let reached = places_of_table c w t v b fits in
     let ran : RanSo p (view_of c (run_with w p t.inputs)) o =
-    ran_alike w t.inputs (range_with_len (first_place w.source) (length t.inputs)) u c.after (world_before c (run_with w p t.inputs)) (world_after c (run_with w p t.inputs)) c.out_before c.out_after alike p o seen in
+    ran_alike w t.inputs (range_with_len (first_input w) (length t.inputs)) u c.after (world_before c (run_with w p t.inputs)) (world_after c (run_with w p t.inputs)) c.out_before c.out_after alike p o seen in
     let only : RunComesOnly (run_of r).words (run_of r).inputs u.faults c.after.faults c.out_before.faults c.out_after.faults o =
     subst (λ (x : Run). RunComesOnly x.words x.inputs u.faults c.after.faults c.out_before.faults c.out_after.faults o) same e.only in
     record {

@@ -1,10 +1,11 @@
 -- Judging the first bytes of a source, one more than it may have, is judging the source.
-use Rattle.lucid_top.proofs.Common.{◌≡◌, ℕ, ◌+◌, ◌≤◌, ◌<◌, List, length, Option, Some, None, subst, refl, inl, inr, arith, IfSome, cases_lt, take_all, World, PlainTree, Table, IsFirstWrongLine, most_source_bytes, PlainSource, file, made, Refusal, Stop, IsRefusalOf, HasTokens, Spelt, RefusesText, by_scan, by_parse, most_flat_bytes, HasTable, SpellsTable, RefusesFlat, by_length, by_line, by_row, IsSource, SpeltBySource, FlatBySource, IsSourceStop, IsReadStop, length-take-le}
+use Rattle.lucid_top.proofs.Common.{◌≡◌, ℕ, ◌+◌, ◌≤◌, ◌<◌, List, length, Option, Some, None, subst, refl, inl, inr, arith, IfSome, cases_lt, take_all, World, PlainTree, Table, IsFirstWrongLine, most_source_bytes, PlainSource, file, made, Refusal, Stop, IsRefusalOf, HasTokens, Spelt, RefusesText, by_scan, by_parse, most_flat_bytes, HasTable, SpellsTable, RefusesFlat, by_length, by_line, by_row, IsSource, SpeltBySource, FlatBySource, IsSourceStop, IsReadStop, length-take-le, HeldCertificate, HoldsCertificate, RefusesCertificate, Why, by_judgment, by_size, most_certificate_bytes}
 use Rattle.std.proofs.Common.{take}
 use Rattle.lucid_scan.specs.declared.refusal.ScanRefusal.TheVariants as scan
 use Rattle.lucid_scan.specs.Refusals.{Refuses}
 use Rattle.lucid_parse.specs.Spelled.{IsRefused}
 use Rattle.lucid_top.specs.declared.stop.Stop.TheVariants as stop
+use Rattle.lucid_why.specs.WhyTexts as why
 use Rattle.lucid_top.specs.Places.{IsSourceFront}
 
 short_whole : (most : ℕ) (source : List ℕ) → length (take (most + 1) source) ≤ most → take (most + 1) source ≡ source
@@ -44,6 +45,14 @@ whole_flat source why (by_length long) = by_length (long_whole most_flat_bytes s
 whole_flat source why (by_line short wrong) = by_line (subst (λ s. length s ≤ most_flat_bytes) (short_whole most_flat_bytes source short) short) (whole_line source _ short wrong)
 whole_flat source why (by_row t e is has r) = by_row t e is (subst (λ s. HasTable s t) (short_whole most_flat_bytes source has.short) has) r
 
+whole_row : (bytes : List ℕ) (line : ℕ) → length (take (most_certificate_bytes + 1) bytes) ≤ most_certificate_bytes → why.IsFirstWrongLine (take (most_certificate_bytes + 1) bytes) line → why.IsFirstWrongLine bytes line
+whole_row bytes line short wrong = subst (λ s. why.IsFirstWrongLine s line) (short_whole most_certificate_bytes bytes short) wrong
+
+whole_certificate : (bytes : List ℕ) (reason : Refusal) → RefusesCertificate (take (most_certificate_bytes + 1) bytes) reason → RefusesCertificate bytes reason
+whole_certificate bytes reason (by_size long) = by_size (long_whole most_certificate_bytes bytes long)
+whole_certificate bytes reason (by_judgment short wrong) =
+    by_judgment (subst (λ s. length s ≤ most_certificate_bytes) (short_whole most_certificate_bytes bytes short) short) (whole_row bytes _ short wrong)
+
 -- what holds of the bytes that were read holds of the source
 with_source : (most : ℕ) (source : PlainSource) (w : World) (bytes : List ℕ) (Q : List ℕ → Type 0) → ((held : List ℕ) → Q (take most held) → Q held) → IsSourceFront most source w bytes → Q bytes
     → (whole : List ℕ) × IsSource source w whole × Q whole
@@ -62,6 +71,11 @@ pub flat_by : (source : PlainSource) (w : World) (bytes : List ℕ) (t : Table) 
 flat_by source w bytes t read spelt =
     let s = with_source (most_flat_bytes + 1) source w bytes (λ b. SpellsTable b t) (λ held h. whole_spells held t h) read spelt in record { bytes = s.0; is = s.1; spelt = s.2 }
 
+pub held_by : (name : List ℕ) (w : World) (bytes : List ℕ) (c : Why) → IsSourceFront (most_certificate_bytes + 1) (file name) w bytes → HoldsCertificate bytes c → HeldCertificate name w c
+held_by name w bytes c read holds =
+    let s = with_source (most_certificate_bytes + 1) (file name) w bytes (λ b. HoldsCertificate b c)
+    (λ held h. subst (λ b. HoldsCertificate b c) (short_whole most_certificate_bytes held h.short) h) read holds in record { bytes = s.0; is = s.1; holds = s.2 }
+
 -- a refusal of the bytes that were read is one of the source
 refused_stop : (Refused : List ℕ → Refusal → Type 0) (most : ℕ) → ((source : List ℕ) (why : Refusal) → Refused (take most source) why → Refused source why)
     → (source : PlainSource) (old new : World) (bytes : List ℕ) (s : Stop) → IsSourceFront most source old bytes → IsRefusalOf (Refused bytes) s → IsSourceStop Refused source old new s
@@ -76,6 +90,11 @@ text_stop source old new bytes s read refused = refused_stop RefusesText (most_s
 pub flat_stop : (source : PlainSource) (old new : World) (bytes : List ℕ) (s : Stop) → IsSourceFront (most_flat_bytes + 1) source old bytes → IsRefusalOf (RefusesFlat bytes) s
     → IsSourceStop RefusesFlat source old new s
 flat_stop source old new bytes s read refused = refused_stop RefusesFlat (most_flat_bytes + 1) (λ held why h. whole_flat held why h) source old new bytes s read refused
+
+pub certificate_stop : (name : List ℕ) (old new : World) (bytes : List ℕ) (s : Stop) → IsSourceFront (most_certificate_bytes + 1) (file name) old bytes → IsRefusalOf (RefusesCertificate bytes) s
+    → IsSourceStop RefusesCertificate (file name) old new s
+certificate_stop name old new bytes s read refused =
+    refused_stop RefusesCertificate (most_certificate_bytes + 1) (λ held reason h. whole_certificate held reason h) (file name) old new bytes s read refused
 
 -- a place can't be read
 pub read_stops : (Refused : List ℕ → Refusal → Type 0) (source : PlainSource) (old new : World) (s : Stop) → IsReadStop old new s → IsSourceStop Refused source old new s

@@ -1,8 +1,11 @@
 -- The clauses of the command: what holds of a call and its status.
-use Rattle.std.specs.Prelude.{◌≡◌, ℕ, ◌≤◌, ◌⊎◌, List, Some, None, Ok, Err, false, slice_get}
+use Rattle.std.specs.Prelude.{◌≡◌, ℕ, ◌≤◌, ◌⊎◌, List, length, Some, None, Ok, Err, false, slice_get}
 use Rattle.lucid_ports.specs.Faults.{Rises}
 use Rattle.lucid_words.specs.Asked.{PlainWords}
-use Rattle.lucid_session.specs.Runs.{Told}
+use Rattle.lucid_words.specs.Plain.{file}
+use Rattle.lucid_ports.specs.World.{Contents}
+use Rattle.lucid_session.specs.Runs.{Told, RunView, IsInput}
+use Rattle.lucid_top.specs.declared.task.Task.TheVariants as task
 use Rattle.lucid_top.specs.declared.refusal.Refusal.{Refusal}
 use Rattle.lucid_top.specs.declared.refusal.Refusal.TheVariants as refusal
 use Rattle.lucid_top.specs.declared.status.Status.{Status}
@@ -13,9 +16,11 @@ use Rattle.lucid_top.specs.Call.{Call}
 use Rattle.lucid_top.specs.Tasks.{task_of, form_of, is_built, wants_figures}
 use Rattle.lucid_top.specs.Telling.{Tells}
 use Rattle.lucid_top.specs.Writing.{WritesSome, WritesSomeFront}
-use Rattle.lucid_top.specs.Stages.{IsTold, Asks, IsWriting, IsTextFor, IsRun, Refuses}
-use Rattle.lucid_top.specs.Places.{CountsNoRead, CountsNoWrite, ReadsSource, most_read}
-use Rattle.lucid_top.specs.Runs.{most_places, first_place, run_places, run_of, view_of, RanSo}
+use Rattle.lucid_top.specs.Sources.{IsTold, first_place}
+use Rattle.lucid_top.specs.Stages.{Asks, IsWriting, IsTextFor, IsRun, IsCheck, Refuses, by_certificate}
+use Rattle.lucid_top.specs.Places.{CountsNoRead, CountsNoWrite, ReadsSource, ReadsCertificate, most_read}
+use Rattle.lucid_top.specs.Runs.{most_places, first_input, run_places, run_of, check_of, view_of, RanSo}
+use Rattle.lucid_top.specs.Checks.{ChecksTree}
 use Rattle.lucid_top.specs.Running.{HoldsWithin}
 
 -- a call on the places failed
@@ -30,20 +35,22 @@ WriteFails c = Rises c.out_before.faults c.out_after.faults
 abbrev pub WritesNothing : Call → Type 0
 WritesNothing c = c.out_after.bytes ≡ c.out_before.bytes
 
--- the source that the words name is told
-abbrev pub TellsSource : Call → Type 0
-TellsSource c = (a : Asks c) → IsTold a.words.source c.before
+-- The source that the words name is told, and so is the file of a certificate that is checked.
+abbrev pub TellsFiles : Call → Type 0
+TellsFiles c = (a : Asks c) → IsTold a.words.source c.before × (task_of a.words ≡ task.Check → IsTold (file a.words.check) c.before)
 
 -- Each outcome comes only where this holds.
 abbrev pub ComesOnly : Call → Outcome → Type 0
 ComesOnly c (Ok (done.Ran summary stats)) =
     (r : IsRun c) × (stats ≡ wants_figures (run_of r).words) × HoldsWithin (run_of r).words summary.held
-ComesOnly c (Ok done.Written) = IsWriting c
+ComesOnly c (Ok done.Written) = IsWriting c ⊎ IsCheck c
 ComesOnly c (Err (stop.Refused why)) = Refuses c why × WritesNothing c
 ComesOnly c (Err stop.ReadFault) = ReadFails c
 ComesOnly c (Err stop.WriteFault) = WriteFails c
 ComesOnly c (Err (stop.TooDeep time lost cleared stats)) = (r : IsRun c) × (stats ≡ wants_figures (run_of r).words)
-ComesOnly c (Err (stop.TooLarge stream name)) = (r : IsRun c) × (slice_get (run_of r).inputs stream ≡ Some name)
+ComesOnly c (Err (stop.TooLarge stream name)) =
+    ((r : IsRun c) × (slice_get (run_of r).inputs stream ≡ Some name)) ⊎ ((k : IsCheck c) × (slice_get k.may.names.free stream ≡ Some name))
+ComesOnly c (Err (stop.Wrong judgment)) = IsCheck c × WritesNothing c
 ComesOnly c (Err stop.NoMemory) = Unit {0}
 
 -- the outcome is that refusal, or there was no memory
@@ -55,9 +62,9 @@ IsRefusedSo o why = (o ≡ Err (stop.Refused why)) ⊎ (o ≡ Err stop.NoMemory)
 pub record RefusedWhere (c : Call) (o : Outcome) : Type 0 where
   pub usage : c.asked ≡ None → IsRefusedSo o refusal.Usage
   pub not_built : (w : PlainWords) → c.asked ≡ Some w → is_built (task_of w) (form_of w) ≡ false → IsRefusedSo o refusal.NotBuilt
-  pub first : (why : Refusal) → Refuses c why → TellsSource c → (ReadFails c → ⊥) → IsRefusedSo o why
+  pub first : (why : Refusal) → Refuses c why → TellsFiles c → (ReadFails c → ⊥) → IsRefusedSo o why
   -- However such a call ends, it writes nothing.
-  pub silent : (why : Refusal) → Refuses c why → TellsSource c → WritesNothing c
+  pub silent : (why : Refusal) → Refuses c why → TellsFiles c → WritesNothing c
 
 -- A text of a kind is written: whole, or a front of it, or nothing. Less than the whole is written only where a call failed or there was no
 -- memory.
@@ -65,6 +72,16 @@ pub record Writes (c : Call) (o : Outcome) (IsText : List ℕ → Type 0) : Type
   pub front : WritesNothing c ⊎ WritesSomeFront IsText c.out_before c.out_after
   pub whole : o ≡ Ok done.Written → WritesSome IsText c.out_before c.out_after
   pub complete : (ReadFails c → ⊥) → (WriteFails c → ⊥) → (o ≡ Ok done.Written) ⊎ (o ≡ Err stop.NoMemory)
+
+-- nothing is consumed of any input
+abbrev pub ConsumesNothing : RunView → Type 0
+ConsumesNothing r = (k : ℕ) (n : List ℕ) (q : ℕ) → IsInput r k n q → (old new : Contents) → (r.before.place q).contents ≡ Some old → (r.after.place q).contents ≡ Some new
+    → length new.consumed ≤ length old.consumed
+
+-- How a check ends: by the certificate; or a call on the places failed before, which is told, or there was no memory.
+pub data EndsCheck {c : Call} (k : IsCheck c) (o : Outcome) : Type 0 where
+  by_checking : ChecksTree k.may.names.program.tree k.why (view_of c (check_of k.may)) o → EndsCheck k o
+  before_checking : (o ≡ Err stop.ReadFault) ⊎ (o ≡ Err stop.NoMemory) → WritesNothing c → ConsumesNothing (view_of c (check_of k.may)) → EndsCheck k o
 
 -- A read fault and a write fault come wherever a call failed: a count of faults is as it was, unless the outcome is that fault.
 pub record TellsFaults (c : Call) (o : Outcome) : Type 0 where
@@ -79,15 +96,21 @@ IsEvaluated (Err (stop.TooDeep time lost cleared stats)) = Unit {0}
 IsEvaluated (Err (stop.TooLarge stream name)) = Unit {0}
 IsEvaluated _ = ⊥
 
+-- what is reached of a call that is refused: of the source at most, and of the certificate where that is refused
+abbrev pub places_before : {c : Call} {why : Refusal} → PlainWords → Refuses c why → ℕ
+places_before w (by_certificate m bytes is refused) = first_input w
+places_before w r = first_place w.source
+
 -- How many places are reached: none where the words are refused or don't ask for what is built; that of the source alone where the call is
--- refused or writes a text; in a run that and one for each input, so that no input is read through a second place, and all of them before the
--- program is evaluated.
+-- refused or writes a text, and of a certificate that is refused; in a run or a check those and one for each input, so that no input is read
+-- through a second place, and all of them before the program is evaluated.
 pub record ReachesOnly (c : Call) (o : Outcome) : Type 0 where
   pub unasked : (Asks c → ⊥) → c.after.reached ≡ 0
-  pub refused : (a : Asks c) (why : Refusal) → Refuses c why → TellsSource c → c.after.reached ≤ first_place a.words.source
-  pub written : (a : Asks c) → IsWriting c → TellsSource c → c.after.reached ≤ first_place a.words.source
-  pub run : (r : IsRun c) → TellsSource c → c.after.reached ≤ run_places (run_of r)
-  pub evaluated : (r : IsRun c) → TellsSource c → IsEvaluated o → c.after.reached ≡ run_places (run_of r)
+  pub refused : (a : Asks c) (why : Refusal) (r : Refuses c why) → TellsFiles c → c.after.reached ≤ places_before a.words r
+  pub written : (a : Asks c) → IsWriting c → TellsFiles c → c.after.reached ≤ first_place a.words.source
+  pub run : (r : IsRun c) → TellsFiles c → c.after.reached ≤ run_places (run_of r)
+  pub checked : (k : IsCheck c) → TellsFiles c → c.after.reached ≤ run_places (check_of k.may)
+  pub evaluated : (r : IsRun c) → TellsFiles c → IsEvaluated o → c.after.reached ≡ run_places (run_of r)
 
 -- The clauses, of a call, what its report tells before and after, and its status. They are said of one outcome, of which the status and
 -- the line of the report are told.
@@ -98,14 +121,19 @@ pub record MeetsClauses (c : Call) (report_before report_after : Told) (s : Stat
   pub comes_only : ComesOnly c outcome
   pub tells_faults : TellsFaults c outcome
   pub refused_where : RefusedWhere c outcome
-  -- Nothing is written but by a run, or where a text is asked for.
-  pub silent : WritesNothing c ⊎ (IsRun c ⊎ IsWriting c)
+  -- Nothing is written but by a run or a check, or where a text is asked for.
+  pub silent : WritesNothing c ⊎ (IsRun c ⊎ (IsWriting c ⊎ IsCheck c))
   -- The headline: a program that is accepted is run, be it a tree, columns of it or a table. What is written are the values of its least fixed point, in order and without gaps.
-  pub headline : (r : IsRun c) → TellsSource c → RanSo (run_of r).program (view_of c (run_of r)) outcome
+  pub headline : (r : IsRun c) → TellsFiles c → RanSo (run_of r).program (view_of c (run_of r)) outcome
   -- Where a text is asked for, of the tree that the source spells, that text is written.
-  pub written : (x : IsWriting c) → TellsSource c → Writes c outcome (IsTextFor x)
+  pub written : (x : IsWriting c) → TellsFiles c → Writes c outcome (IsTextFor x)
+  -- Where a certificate is checked, its value and time are written only where it is right, and so only what the program has; and it is refused
+  -- only where it is wrong.
+  pub checked : (k : IsCheck c) → TellsFiles c → EndsCheck k outcome
   -- Only what the stages of the call need is reached, and never more places than a source and its inputs can need.
   pub reaches : ReachesOnly c outcome
   -- Of the source's file no more is consumed than one byte more than a source may have.
   pub source_within : (a : Asks c) → ReadsSource (most_read (form_of a.words)) a.words.source c.after
+  -- So it is of the certificate's.
+  pub certificate_within : (a : Asks c) → ReadsCertificate a.words c.after
   pub few_places : c.after.reached ≤ most_places

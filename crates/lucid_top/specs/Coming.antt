@@ -14,10 +14,13 @@ use Rattle.lucid_session.specs.Runs.{RunView}
 use Rattle.lucid_top.specs.Status.{Outcome}
 use Rattle.lucid_top.specs.Tasks.{task_of, form_of, is_built}
 use Rattle.lucid_top.specs.Programs.{beside}
-use Rattle.lucid_top.specs.Places.{KeepsNames, CountsNoRead, CountsNoWrite, ReadsSource, most_read}
+use Rattle.lucid_top.specs.Places.{KeepsNames, CountsNoRead, CountsNoWrite, ReadsSource, ReadsCertificate, most_read}
+use Rattle.lucid_top.specs.Sources.{first_place}
+use Rattle.lucid_top.specs.Checks.{IsTableOf, ChecksTree}
+use Rattle.lucid_top.specs.declared.task.Task.TheVariants as task
 use Rattle.lucid_top.specs.Call.{Call}
-use Rattle.lucid_top.specs.Stages.{Asks, IsWriting, IsTextFor, HasProgram, by_tree, by_columns, by_table, columns_named, task_for, program_in, inputs_in, IsRun, Refuses, by_words, by_task, by_text, by_flat, by_names, by_missing, by_judging, by_given}
-use Rattle.lucid_top.specs.Runs.{most_places, first_place, run_places, run_of, view_of, table_program, RanSo}
+use Rattle.lucid_top.specs.Stages.{Asks, IsWriting, IsTextFor, HasProgram, by_tree, by_columns, by_table, columns_named, task_for, program_in, inputs_in, IsRun, MayCheck, IsCheck, HasNames, Refuses, by_words, by_task, by_text, by_flat, by_names, by_missing, by_judging, by_given, by_certificate}
+use Rattle.lucid_top.specs.Runs.{most_places, first_input, run_places, run_of, check_of, view_of, table_program, RanSo}
 use Rattle.lucid_top.specs.Clauses.{WritesNothing, ComesOnly, Writes}
 
 -- The tree of a program that is run is well made.
@@ -27,17 +30,19 @@ IsMade (by_columns h) = IsWellMade (beside h.names.program.tree (columns_named h
 IsMade (by_table f) = Unit {0}
 
 -- No place is reached; or, where the words ask for what is built, at most that of the source; or, in a run, at most those of the source and
--- the inputs.
+-- the inputs; or, of a tree for which a certificate may be checked, at most that of its file too, and in a check those of the inputs too.
 pub data Reaches (c : Call) : Type 0 where
   reaches_nothing : c.after.reached ≡ 0 → Reaches c
   reaches_source : (a : Asks c) → c.after.reached ≤ first_place a.words.source → Reaches c
   reaches_inputs : (r : IsRun c) → IsMade r.program → c.after.reached ≤ run_places (run_of r) → Reaches c
+  reaches_certificate : (m : MayCheck c) → IsWellMade m.names.program.tree → c.after.reached ≤ first_input m.names.program.source.asks.words → Reaches c
+  reaches_checked : (k : IsCheck c) → IsWellMade k.may.names.program.tree → c.after.reached ≤ run_places (check_of k.may) → Reaches c
 
 -- Little is reached, nothing is written, and of no input is anything consumed.
 pub record Rests (c : Call) : Type 0 where
   pub reaches : Reaches c
   pub silent : WritesNothing c
-  pub unread : (w : PlainWords) → c.asked ≡ Some w → (q : ℕ) → first_place w.source ≤ q → q < c.after.reached
+  pub unread : (w : PlainWords) → c.asked ≡ Some w → (q : ℕ) → first_input w ≤ q → q < c.after.reached
       → (new : Contents) → (c.after.place q).contents ≡ Some new → new.consumed ≡ []
 
 -- The tree of a refusal that comes after it was read is well made.
@@ -50,6 +55,7 @@ IsOfMade (by_names t task refused) = IsWellMade t.tree
 IsOfMade (by_missing n task refused) = Unit {0}
 IsOfMade (by_judging n task refused) = IsWellMade n.program.tree
 IsOfMade (by_given p task refused) = IsMade p
+IsOfMade (by_certificate m bytes is refused) = IsWellMade m.names.program.tree
 
 -- What stops a call before a run or a text begins. Nothing is read where the words don't ask for what is built.
 abbrev pub StopsEarly : Call → Outcome → Type 0
@@ -58,16 +64,21 @@ StopsEarly c (Err stop.ReadFault) = Asks c
 StopsEarly c (Err stop.NoMemory) = Unit {0}
 StopsEarly c _ = ⊥
 
--- A run, whose inputs are all reached; or a text, for which the source alone is.
+-- A run, whose inputs are all reached; or a text, for which the source alone is; or a check, whose inputs are all reached.
 abbrev pub EndsRun : Call → Outcome → Type 0
 EndsRun c o = (r : IsRun c) × IsMade r.program × RanSo (run_of r).program (view_of c (run_of r)) o × (c.after.reached ≡ run_places (run_of r))
 
 abbrev pub EndsWriting : Call → Outcome → Type 0
 EndsWriting c o = (x : IsWriting c) × Writes c o (IsTextFor x) × ((a : Asks c) × (c.after.reached ≤ first_place a.words.source))
 
+abbrev pub Checked : Call → Outcome → Type 0
+Checked c o =
+    (k : IsCheck c) × IsWellMade k.may.names.program.tree × ChecksTree k.may.names.program.tree k.why (view_of c (check_of k.may)) o
+    × (c.after.reached ≡ run_places (check_of k.may))
+
 pub record Comes (c : Call) (o : Outcome) : Type 0 where
   pub only : ComesOnly c o
-  pub how : (StopsEarly c o × Rests c) ⊎ (EndsRun c o ⊎ EndsWriting c o)
+  pub how : (StopsEarly c o × Rests c) ⊎ (EndsRun c o ⊎ (EndsWriting c o ⊎ Checked c o))
   pub few_places : c.after.reached ≤ most_places
 
 -- What the words ask for may begin: they were read, they ask for this, which is built, and no place is reached yet.
@@ -79,12 +90,14 @@ pub record MayBegin (words : Words) (t : Task) (v : World) : Type 0 where
   pub built : is_built (task_of (plain_words words)) (form_of (plain_words words)) ≡ true
   pub none : v.reached ≡ 0
 
--- What a call does: it comes to its outcome, counts no fault but that of its outcome, and of its source reads no more than may be read.
+-- What a call does: it comes to its outcome, counts no fault but that of its outcome, and of its source and of a certificate reads no more
+-- than may be read.
 pub record Does (c : Call) (o : Outcome) : Type 0 where
   pub comes : Comes c o
   pub counts_no_read : CountsNoRead o c.before c.after
   pub counts_no_write : CountsNoWrite o c.out_before.faults c.out_after.faults
   pub within : (w : PlainWords) → c.asked ≡ Some w → ReadsSource (most_read (form_of w)) w.source c.after
+  pub certificate : (w : PlainWords) → c.asked ≡ Some w → ReadsCertificate w c.after
 
 -- A call is about to run a table, its source being read: it has a program with the table's inputs, its words ask for that, and runs of the
 -- table as they have it are runs of the program.
@@ -95,5 +108,16 @@ pub record RunsTable (c : Call) (w : PlainWords) (t : Table) (v : World) : Type 
   pub made : IsMade program
   pub inputs : inputs_in program ≡ t.inputs
   pub runs : (r : RunView) (o : Outcome) → RanSo (table_program w t) r o → RanSo (program_in program) r o
+  pub kept : KeepsNames c.before v
+  pub first : v.reached ≡ first_place w.source
+
+-- A call is about to check a certificate by a table, its source being read: it has a tree that the table keeps, with the table's inputs, and its
+-- words ask for that.
+pub record ChecksTable (c : Call) (w : PlainWords) (t : Table) (v : World) : Type 0 where
+  pub read : c.asked ≡ Some w
+  pub names : HasNames c
+  pub task : task_of w ≡ task.Check
+  pub made : IsWellMade names.program.tree
+  pub table : IsTableOf names.program.tree names.free t
   pub kept : KeepsNames c.before v
   pub first : v.reached ≡ first_place w.source

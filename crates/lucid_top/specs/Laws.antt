@@ -7,6 +7,8 @@ use Rattle.lucid_top.specs.declared.refusal.Refusal.{Refusal}
 use Rattle.lucid_equations.specs.declared.table.Table.{Table}
 use Rattle.lucid_top.specs.Judged.{Spelt, RefusesText, RefusesNames, HasInputs}
 use Rattle.lucid_top.specs.Flat.{SpellsTable, RefusesFlat}
+use Rattle.lucid_why.specs.declared.rows.Why.{Why}
+use Rattle.lucid_top.specs.Certificates.{HoldsCertificate, RefusesCertificate}
 
 -- A source spells at most one tree, and none where its text is refused; and its text has at most one refusal.
 abbrev pub OneTree : Type 0
@@ -38,3 +40,13 @@ TableIsNotRefused = (source : List ℕ) (t : Table) (why : Refusal) → SpellsTa
 
 abbrev pub OneFlatRefusal : Type 0
 OneFlatRefusal = (source : List ℕ) (v w : Refusal) → RefusesFlat source v → RefusesFlat source w → v ≡ w
+
+-- Bytes hold at most one certificate, and none where they are refused; and they have at most one refusal.
+abbrev pub OneCertificate : Type 0
+OneCertificate = (bytes : List ℕ) (v w : Why) → HoldsCertificate bytes v → HoldsCertificate bytes w → v ≡ w
+
+abbrev pub CertificateIsNotRefused : Type 0
+CertificateIsNotRefused = (bytes : List ℕ) (w : Why) (why : Refusal) → HoldsCertificate bytes w → RefusesCertificate bytes why → ⊥
+
+abbrev pub OneCertificateRefusal : Type 0
+OneCertificateRefusal = (bytes : List ℕ) (v w : Refusal) → RefusesCertificate bytes v → RefusesCertificate bytes w → v ≡ w

@@ -9,11 +9,14 @@ pub mod Texts
 pub mod Programs
 pub mod Files
 pub mod Call
+pub mod Sources
+pub mod Certificates
 pub mod Stages
 pub mod Places
 pub mod Runs
 pub mod Running
 pub mod Writing
+pub mod Checks
 pub mod Clauses
 pub mod Headline
 pub mod Witness

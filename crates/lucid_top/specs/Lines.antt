@@ -49,6 +49,8 @@ refusal_line refusal.TooManyNames = codes "too many names\n"
 refusal_line (refusal.NotFree name) = codes "no input is named " ++ (name ++ codes "\n")
 refusal_line (refusal.GivenTwice name) = name ++ codes " is given twice\n"
 refusal_line refusal.NoInput = codes "no input for two names\n"
+refusal_line refusal.CertificateTooLong = codes "certificate too long\n"
+refusal_line (refusal.NoJudgment line) = line_with (codes "line ") line (codes " is no judgment\n")
 
 -- the figures of a run that was done, and of one that was too deep
 abbrev pub figures_line : Summary → List ℕ
@@ -66,6 +68,7 @@ stop_line stop.ReadFault = codes "read fault\n"
 stop_line stop.WriteFault = codes "write fault\n"
 stop_line (stop.TooDeep time lost cleared stats) = depth_line time lost cleared stats
 stop_line (stop.TooLarge stream name) = codes "input " ++ (name ++ codes " too large\n")
+stop_line (stop.Wrong judgment) = line_with (codes "judgment ") judgment (codes " does not follow\n")
 stop_line stop.NoMemory = codes "no memory\n"
 
 -- the line of an outcome, or nothing where it has none

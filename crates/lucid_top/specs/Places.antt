@@ -18,8 +18,11 @@ use Rattle.lucid_top.specs.Judged.{Spelt, RefusesText, RefusesNames, RefusesColu
 use Rattle.lucid_top.specs.declared.task.Form.{Form}
 use Rattle.lucid_top.specs.declared.task.Form.TheVariants as form
 use Rattle.lucid_top.specs.Flat.{most_flat_bytes, SpellsTable}
-use Rattle.lucid_top.specs.Stages.{IsSource}
-use Rattle.lucid_top.specs.Runs.{first_place}
+use Rattle.lucid_top.specs.Sources.{IsSource, first_place}
+use Rattle.lucid_top.specs.Certificates.{most_certificate_bytes}
+use Rattle.lucid_words.specs.Asked.{PlainWords}
+use Rattle.lucid_top.specs.declared.task.Task.TheVariants as task
+use Rattle.lucid_top.specs.Tasks.{task_of}
 
 -- no name holds anything else, and faults are only counted
 pub record KeepsNames (old new : World) : Type 0 where
@@ -94,10 +97,18 @@ abbrev pub most_read : Form → ℕ
 most_read form.Flat = most_flat_bytes + 1
 most_read _ = most_source_bytes + 1
 
--- Of a file that the source is read from, at most so many bytes are consumed, where its place tells them.
+-- Of what is read at a place, once it is reached, at most so many bytes are consumed, where it tells them.
+abbrev pub ReadsPlace : (most place : ℕ) → World → Type 0
+ReadsPlace most q w = q < w.reached → IfSome (w.place q).contents (λ s. length s.consumed ≤ most)
+
+-- so it is of a file that the source is read from
 abbrev pub ReadsSource : (most : ℕ) → PlainSource → World → Type 0
-ReadsSource most (file name) w = 0 < w.reached → IfSome (w.place 0).contents (λ s. length s.consumed ≤ most)
+ReadsSource most (file name) w = ReadsPlace most 0 w
 ReadsSource most (made n) w = Unit {0}
+
+-- and of the file of a certificate that is checked, whose place comes behind the source's: one byte more than it may have
+abbrev pub ReadsCertificate : PlainWords → World → Type 0
+ReadsCertificate w v = task_of w ≡ task.Check → ReadsPlace (most_certificate_bytes + 1) (first_place w.source) v
 
 -- How the source is read, whatever comes of it: at most its place is reached, at most so many bytes of it are read, no name holds anything
 -- else, and a fault is counted only where it is told.
@@ -105,6 +116,19 @@ pub record HasRead {T : Type 0} (most : ℕ) (source : PlainSource) (old new : W
   pub reached : OnOk result (new.reached ≡ first_place source)
   pub few : new.reached ≤ first_place source
   pub within : ReadsSource most source new
+  pub keeps : KeepsNames old new
+  pub counts_no_read : CountsNoRead result old new
+
+-- no place that was reached changes
+abbrev pub AreKept : (old new : World) → Type 0
+AreKept old new = (q : ℕ) → q < old.reached → new.place q ≡ old.place q
+
+-- How one file more is reached and read, whatever comes of it.
+pub record HasReached {T : Type 0} (most : ℕ) (old new : World) (result : Result T Stop) : Type 0 where
+  pub reached : OnOk result (new.reached ≡ old.reached + 1)
+  pub few : new.reached ≤ old.reached + 1
+  pub others : AreKept old new
+  pub within : ReadsPlace most old.reached new
   pub keeps : KeepsNames old new
   pub counts_no_read : CountsNoRead result old new
 

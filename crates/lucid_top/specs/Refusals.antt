@@ -1,4 +1,4 @@
--- The refusals of the words, the scanner, the parser, the scopes, the judgment of cycles and the flat form, as a call's own. Want of memory is no refusal.
+-- The refusals of the words, the scanner, the parser, the scopes, the judgment of cycles, the flat form and certificates, as a call's own. Want of memory is no refusal.
 use Rattle.lucid_words.specs.declared.WordsRefusal.{WordsRefusal}
 use Rattle.lucid_words.specs.declared.WordsRefusal.TheVariants as words
 use Rattle.lucid_scan.specs.declared.refusal.ScanRefusal.{ScanRefusal}
@@ -13,6 +13,8 @@ use Rattle.lucid_flat.specs.declared.read.FlatRefusal.{FlatRefusal}
 use Rattle.lucid_flat.specs.declared.read.FlatRefusal.TheVariants as flat
 use Rattle.lucid_sound.specs.declared.program.BuildRefusal.{BuildRefusal}
 use Rattle.lucid_sound.specs.declared.program.BuildRefusal.TheVariants as build
+use Rattle.lucid_why.specs.declared.read.WhyRefusal.{WhyRefusal}
+use Rattle.lucid_why.specs.declared.read.WhyRefusal.TheVariants as why
 use Rattle.lucid_top.specs.declared.refusal.Refusal.{Refusal}
 use Rattle.lucid_top.specs.declared.refusal.Refusal.TheVariants as refusal
 use Rattle.lucid_top.specs.declared.stop.Stop.{Stop}
@@ -58,6 +60,10 @@ build_stop (build.Name at) = stop.Refused (refusal.FlatName at)
 build_stop (build.Place at) = stop.Refused (refusal.FlatPlace at)
 build_stop build.Root = stop.Refused refusal.FlatRoot
 build_stop build.NoMemory = stop.NoMemory
+
+abbrev pub why_stop : WhyRefusal → Stop
+why_stop (why.Form line) = stop.Refused (refusal.NoJudgment line)
+why_stop why.NoMemory = stop.NoMemory
 
 -- The call stops by a refusal of which this holds, or for want of memory.
 abbrev pub IsRefusalOf : (Refusal → Type 0) → Stop → Type 0

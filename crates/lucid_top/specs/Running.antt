@@ -25,6 +25,7 @@ RunComesOnly w free f f' g g' (Err stop.ReadFault) = Rises f f'
 RunComesOnly w free f f' g g' (Err stop.WriteFault) = Rises g g'
 RunComesOnly w free f f' g g' (Err (stop.TooDeep time lost cleared stats)) = stats ≡ wants_figures w
 RunComesOnly w free f f' g g' (Err (stop.TooLarge stream name)) = slice_get free stream ≡ Some name
+RunComesOnly w free f f' g g' (Err (stop.Wrong judgment)) = ⊥
 RunComesOnly w free f f' g g' (Err stop.NoMemory) = Unit {0}
 
 -- the input of that number is too large, by its name, or there was no memory

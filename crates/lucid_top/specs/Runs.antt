@@ -13,20 +13,24 @@ use Rattle.lucid_retire.specs.declared.policy.Policy.{Policy}
 use Rattle.lucid_retire.specs.declared.policy.Policy.TheVariants as retire
 use Rattle.lucid_words.specs.declared.PolicyWord.{PolicyWord}
 use Rattle.lucid_words.specs.declared.PolicyWord.TheVariants as policy
-use Rattle.lucid_words.specs.Plain.{PlainSource, file, made}
 use Rattle.lucid_words.specs.Asked.{PlainWords}
 use Rattle.lucid_top.specs.declared.stop.Done.TheVariants as done
 use Rattle.lucid_top.specs.declared.stop.Stop.TheVariants as stop
 use Rattle.lucid_top.specs.Status.{Outcome}
 use Rattle.lucid_top.specs.Call.{Call}
 use Rattle.lucid_equations.specs.declared.table.Table.{Table}
-use Rattle.lucid_top.specs.Programs.{Program, of_table, of_spaces, program_subject, program_counted}
-use Rattle.lucid_top.specs.Stages.{asks_for, program_in, inputs_in, IsRun}
+use Rattle.lucid_top.specs.Programs.{Program, of_tree, of_table, of_spaces, program_subject, program_counted}
+use Rattle.lucid_top.specs.declared.task.Task.{Task}
+use Rattle.lucid_top.specs.declared.task.Task.TheVariants as task
+use Rattle.lucid_top.specs.Tasks.{task_of}
+use Rattle.lucid_top.specs.Sources.{first_place}
+use Rattle.lucid_top.specs.Stages.{asks_for, program_in, inputs_in, IsRun, MayCheck}
 use Rattle.lucid_top.specs.Files.{files_for}
 
--- how many places a call reaches at most: the source's, and one for each input, of which there are no more than bytes of a text
+-- how many places a call reaches at most: those of the source and of a certificate, and one for each input, of which there are no more than
+-- bytes of a text
 abbrev pub most_places : ℕ
-most_places = most_source_bytes + 1
+most_places = most_source_bytes + 2
 
 -- how many bytes of each input may be read: one more than an input may have
 abbrev pub most_input_bytes : ℕ
@@ -51,12 +55,16 @@ policy_asked policy.Nothing age room = retire.Nothing (record {})
 policy_asked policy.Ages age room = retire.Ages (record { every = turns_between_sweeps; limit = age; since = 0 })
 policy_asked policy.Last age room = retire.Last (record { keys = []; room = room; unlisted = 0 })
 
--- The place of the first input: that of the source, where there is one, comes before.
-abbrev pub first_place : PlainSource → ℕ
-first_place (file name) = 1
-first_place (made n) = 0
+-- how many places are reached for a certificate that is read: that of its file
+abbrev pub certificate_places : Task → ℕ
+certificate_places task.Check = 1
+certificate_places t = 0
 
--- A run that is asked for: the words, the program and the names of its inputs.
+-- The place of the first input: those of the source and of a certificate come before.
+abbrev pub first_input : PlainWords → ℕ
+first_input w = first_place w.source + certificate_places (task_of w)
+
+-- A run that is asked for, or a check: the words, the program and the names of its inputs.
 pub record Run : Type 0 where
   pub words : PlainWords
   pub program : Program
@@ -65,16 +73,20 @@ pub record Run : Type 0 where
 abbrev pub run_of : {c : Call} → IsRun c → Run
 run_of r = record { words = (asks_for r.program).words; program = program_in r.program; inputs = inputs_in r.program }
 
+-- what is asked for by a check
+abbrev pub check_of : {c : Call} → MayCheck c → Run
+check_of m = record { words = m.names.program.source.asks.words; program = of_tree m.names.program.tree; inputs = m.names.free }
+
 -- the files and the places of its inputs
 abbrev pub input_files : Run → List (List ℕ)
 input_files p = files_for p.inputs p.words.given
 
 abbrev pub input_places : Run → List ℕ
-input_places p = range_with_len (first_place p.words.source) (length p.inputs)
+input_places p = range_with_len (first_input p.words) (length p.inputs)
 
--- how many places a run reaches: that of the source, where there is one, and one for each input
+-- how many places it reaches: those that are read before, and one for each input
 abbrev pub run_places : Run → ℕ
-run_places p = first_place p.words.source + length p.inputs
+run_places p = first_input p.words + length p.inputs
 
 -- the place of an input just reached, at which all that its file holds is left, where that is told
 abbrev pub fresh_place : World → (name : List ℕ) → Place
@@ -82,7 +94,7 @@ fresh_place w name = record { contents = option_map unread (w.holds name); shown
 
 -- the place of that number, before anything of an input is read
 abbrev pub unread_place : Call → Run → (number : ℕ) → Place
-unread_place c p q = fresh_place c.before (unwrap_or (slice_get (input_files p) (q - first_place p.words.source)) [])
+unread_place c p q = fresh_place c.before (unwrap_or (slice_get (input_files p) (q - first_input p.words)) [])
 
 -- The places before the run, with those of all inputs, and after it. An input that was never reached is unread.
 abbrev pub world_before : Call → Run → World
@@ -123,6 +135,7 @@ run_result (Err stop.ReadFault) = Some (Err fault.ReadFault)
 run_result (Err stop.WriteFault) = Some (Err fault.WriteFault)
 run_result (Err (stop.TooDeep time lost cleared stats)) = Some (Err (fault.TooDeep time lost cleared))
 run_result (Err (stop.TooLarge stream name)) = Some (Err (fault.TooLarge stream))
+run_result (Err (stop.Wrong judgment)) = None
 run_result (Err stop.NoMemory) = Some (Err fault.NoMemory)
 
 -- The run of this program, seen so, has this outcome, and what is promised of runs holds of it: the headline and the figures, by the

@@ -1,12 +1,11 @@
 -- The stages of a call, in their order, each with what the earlier ones gave; and the first refusal.
-use Rattle.std.specs.Prelude.{◌≡◌, ◌≢◌, ℕ, true, false, List, Some, None, IfSome, IsSome}
-use Rattle.lucid_ports.specs.World.{World}
-use Rattle.lucid_make.specs.Source.{made_source}
+use Rattle.std.specs.Prelude.{◌≡◌, ◌≢◌, ℕ, ◌⊎◌, true, false, List, Some, None}
 use Rattle.lucid_tree.specs.Tree.{PlainTree}
 use Rattle.lucid_scope.specs.Bindings.{HasNoFault}
 use Rattle.lucid_equations.specs.declared.table.Table.{Table}
-use Rattle.lucid_words.specs.Plain.{PlainSource, file, made}
+use Rattle.lucid_words.specs.Plain.{file}
 use Rattle.lucid_words.specs.Asked.{PlainWords}
+use Rattle.lucid_why.specs.declared.rows.Why.{Why}
 use Rattle.lucid_top.specs.declared.refusal.Refusal.{Refusal}
 use Rattle.lucid_top.specs.declared.refusal.Refusal.TheVariants as refusal
 use Rattle.lucid_columns.specs.Columns.{AreColumns}
@@ -14,6 +13,8 @@ use Rattle.lucid_top.specs.declared.task.Task.{Task}
 use Rattle.lucid_top.specs.declared.task.Task.TheVariants as task
 use Rattle.lucid_top.specs.declared.task.Form.TheVariants as form
 use Rattle.lucid_top.specs.Call.{Call}
+use Rattle.lucid_top.specs.Sources.{IsSource}
+use Rattle.lucid_top.specs.Certificates.{HeldCertificate, RefusesCertificate}
 use Rattle.lucid_top.specs.Tasks.{task_of, form_of, is_built}
 use Rattle.lucid_print.specs.Canonical.{canonical}
 use Rattle.lucid_cycles.specs.Judged.{IsJudged}
@@ -22,16 +23,6 @@ use Rattle.lucid_top.specs.Texts.{IsJudgmentLine, IsFlatForm}
 use Rattle.lucid_top.specs.Flat.{SpellsTable, RefusesFlat}
 use Rattle.lucid_top.specs.Programs.{Program, of_tree, of_columns, of_table, beside}
 use Rattle.lucid_top.specs.Files.{RefusesGiven, FitsGiven}
-
--- The source: what the file of its name holds, where that is told; or the text of a made program.
-abbrev pub IsSource : PlainSource → World → List ℕ → Type 0
-IsSource (file name) w bytes = IfSome (w.holds name) (λ held. bytes ≡ held)
-IsSource (made n) w bytes = bytes ≡ made_source n
-
--- the source is told
-abbrev pub IsTold : PlainSource → World → Type 0
-IsTold (file name) w = IsSome (w.holds name)
-IsTold (made n) w = Unit {0}
 
 -- The words are read, and ask for what is built.
 pub record Asks (c : Call) : Type 0 where
@@ -121,11 +112,37 @@ inputs_in (by_table f) = f.table.inputs
 abbrev pub IsAskedFor : {c : Call} → HasProgram c → Type 0
 IsAskedFor p = task_of (asks_for p).words ≡ task_for p
 
+-- or they ask for a certificate of a tree to be checked
+abbrev pub IsForCheck : {c : Call} → HasProgram c → Type 0
+IsForCheck (by_tree n) = task_of n.program.source.asks.words ≡ task.Check
+IsForCheck (by_columns h) = ⊥
+IsForCheck (by_table f) = ⊥
+
+-- its inputs are wanted: for a run or for a check
+abbrev pub WantsInputs : {c : Call} → HasProgram c → Type 0
+WantsInputs p = IsAskedFor p ⊎ IsForCheck p
+
 -- It is run: the words give each input a file, but for one at most.
 pub record IsRun (c : Call) : Type 0 where
   pub program : HasProgram c
   pub task : IsAskedFor program
   pub fits : FitsGiven (inputs_in program) (asks_for program).words.given
+
+-- A certificate of a tree may be checked, once it is read: the words give each input a file, but for one at most.
+pub record MayCheck (c : Call) : Type 0 where
+  pub names : HasNames c
+  pub task : task_of names.program.source.asks.words ≡ task.Check
+  pub fits : FitsGiven names.free names.program.source.asks.words.given
+
+-- the file of the certificate, by its name
+abbrev pub certificate_file : {c : Call} → MayCheck c → List ℕ
+certificate_file m = m.names.program.source.asks.words.check
+
+-- It is checked: that file holds one.
+pub record IsCheck (c : Call) : Type 0 where
+  pub may : MayCheck c
+  pub why : Why
+  pub held : HeldCertificate (certificate_file may) c.before why
 
 -- The call is refused so, by the first stage that refuses it.
 pub data Refuses (c : Call) : (why : Refusal) → Type 0 where
@@ -136,5 +153,7 @@ pub data Refuses (c : Call) : (why : Refusal) → Type 0 where
   by_names : {why : Refusal} → (t : HasTree c) → task_of t.source.asks.words ≢ task.Print → RefusesNames t.tree why → Refuses c why
   by_missing : {why : Refusal} → (n : HasNames c) → task_of n.program.source.asks.words ≡ task.Columns → RefusesColumns n.program.tree (columns_named n) why → Refuses c why
   by_judging : {why : Refusal} → (n : HasNames c) → task_of n.program.source.asks.words ≡ task.Cycles → RefusesJudging n.program.tree why → Refuses c why
-  by_given : {why : Refusal} → (p : HasProgram c) → IsAskedFor p → RefusesGiven (inputs_in p) (asks_for p).words.given why
+  by_given : {why : Refusal} → (p : HasProgram c) → WantsInputs p → RefusesGiven (inputs_in p) (asks_for p).words.given why
+      → Refuses c why
+  by_certificate : {why : Refusal} → (m : MayCheck c) → (bytes : List ℕ) → IsSource (file (certificate_file m)) c.before bytes → RefusesCertificate bytes why
       → Refuses c why

@@ -25,6 +25,7 @@ stop_status stop.ReadFault = status.ReadFault
 stop_status stop.WriteFault = status.WriteFault
 stop_status (stop.TooDeep time lost cleared stats) = status.TooDeep
 stop_status (stop.TooLarge stream name) = status.TooLarge
+stop_status (stop.Wrong judgment) = status.Refused
 stop_status stop.NoMemory = status.NoMemory
 
 abbrev pub status_of : Outcome → Status

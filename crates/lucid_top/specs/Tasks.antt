@@ -31,14 +31,15 @@ abbrev pub is_text : Form → Bool
 is_text form.Flat = false
 is_text f = true
 
--- What is built so far: runs; and of texts runs of columns, the canonical source, the judgment of cycles and the flat form. Words that ask for
--- something else than a run of a flat form are refused before.
+-- What is built so far: runs; and of texts runs of columns, the canonical source, the judgment of cycles, the flat form and the check of a
+-- certificate. Words that ask for something else than a run of a flat form are refused before.
 abbrev pub is_built : Task → Form → Bool
 is_built task.Run f = true
 is_built task.Columns f = is_text f
 is_built task.Print f = is_text f
 is_built task.Cycles f = is_text f
 is_built task.Flat f = is_text f
+is_built task.Check f = is_text f
 is_built t f = false
 
 abbrev pub is_made : PlainSource → Bool

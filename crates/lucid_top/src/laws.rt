@@ -1,5 +1,5 @@
 //! What holds of every source and every tree.
-ghost use Rattle.lucid_top.specs.Laws.{OneTree, TreeIsNotRefused, OneTextRefusal, NamesAreNotRefused, OneNameRefusal, OneListOfInputs, OneFlatTable, TableIsNotRefused, OneFlatRefusal};
+ghost use Rattle.lucid_top.specs.Laws.{OneTree, TreeIsNotRefused, OneTextRefusal, NamesAreNotRefused, OneNameRefusal, OneListOfInputs, OneFlatTable, TableIsNotRefused, OneFlatRefusal, OneCertificate, CertificateIsNotRefused, OneCertificateRefusal};
 
 use lucid_flat::laws::one_table;
 use lucid_parse::laws::{
@@ -7,6 +7,7 @@ use lucid_parse::laws::{
 };
 use lucid_scan::laws::{refusal_is_unique, tokens_are_not_refused, tokens_are_unique};
 use lucid_scope::laws::least_fault_is_unique;
+use lucid_why::one_why;
 
 /// A source spells one tree or has one refusal, and not both; the names of a tree that is well made have no fault or one, and the tree
 /// one list of free names. A source in the flat form spells one sound table or has one refusal, and not both.
@@ -20,6 +21,9 @@ pub fn one_verdict()
     ensures one_flat_table { OneFlatTable }
     ensures table_not_refused { TableIsNotRefused }
     ensures one_flat_refusal { OneFlatRefusal }
+    ensures one_certificate { OneCertificate }
+    ensures certificate_not_refused { CertificateIsNotRefused }
+    ensures one_certificate_refusal { OneCertificateRefusal }
 {
     tokens_are_unique();
     tokens_are_not_refused();
@@ -30,4 +34,5 @@ pub fn one_verdict()
     fault_is_unique();
     least_fault_is_unique();
     one_table();
+    one_why();
 }

@@ -1,5 +1,5 @@
 //! The command whole: it runs a pLucid program and writes the values of its stream, one a line; or it writes a text of the program, its
-//! canonical source, the judgment of its cycles or its flat form, a table without functions.
+//! canonical source, the judgment of its cycles or its flat form, a table without functions; or it checks a certificate of the program.
 #![tactic(auto)]
 
 pub use crate::arguments::lucid_from_arguments;
@@ -10,6 +10,7 @@ pub use crate::stop::{Done, Stop};
 pub use crate::top::lucid;
 
 mod arguments;
+mod checking;
 mod columns;
 mod files;
 mod flat;

@@ -2,10 +2,10 @@
 ghost use Rattle.std.specs.Prelude.{◌≡◌, ◌≤◌, ◌<◌, ◌+◌, length, map, take, IfOk, IfErr, IfSome, OnOk, IsErrOf};
 ghost use Rattle.std.specs.List.{range_with_len};
 ghost use Rattle.lucid_ports.specs.Faults.{Rises, CountsNoFaultUnless};
-ghost use Rattle.lucid_words.specs.Plain.{plain_source};
+ghost use Rattle.lucid_words.specs.Plain.{plain_source, file};
 ghost use Rattle.lucid_words.specs.Numbers.{MadeIsFromTo};
-ghost use Rattle.lucid_top.specs.Runs.{first_place};
-ghost use Rattle.lucid_top.specs.Places.{KeepsNames, CountsNoRead, IsSourceFront, ReadsSource, IsReadStop, AreFresh, read_stop};
+ghost use Rattle.lucid_top.specs.Sources.{first_place};
+ghost use Rattle.lucid_top.specs.Places.{KeepsNames, CountsNoRead, IsSourceFront, ReadsSource, ReadsPlace, IsReadStop, AreKept, AreFresh, HasReached, read_stop};
 
 use crate::stop::Stop;
 use lucid_make::make_source;
@@ -30,12 +30,13 @@ fn read_file<P: Places>(
     name: &str,
     most: usize,
 ) -> Result<Vec<u8>, PortFault>
-    requires { (P.world places.old).reached ≡ 0 }
+    requires { (P.world places.old).reached < 2000000 }
     ensures bytes { IfOk result (λ bytes. IfSome ((P.world places.old).holds name.now) (λ held. bytes.items ≡ take most held)) }
-    ensures reached { OnOk result ((P.world places.new).reached ≡ 1) }
-    ensures few { (P.world places.new).reached ≤ 1 }
+    ensures reached { OnOk result ((P.world places.new).reached ≡ (P.world places.old).reached + 1) }
+    ensures few { (P.world places.new).reached ≤ (P.world places.old).reached + 1 }
     ensures keeps { KeepsNames (P.world places.old) (P.world places.new) }
-    ensures within { 0 < (P.world places.new).reached → IfSome ((P.world places.new).place 0).contents (λ s. length s.consumed ≤ most) }
+    ensures others { AreKept (P.world places.old) (P.world places.new) }
+    ensures within { ReadsPlace most (P.world places.old).reached (P.world places.new) }
     ensures failed { IsErrOf result PortFault.Failed → Rises (P.world places.old).faults (P.world places.new).faults }
     ensures counts_no_fault { CountsNoFaultUnless (IsErrOf result PortFault.Failed) (P.world places.old).faults (P.world places.new).faults }
 {
@@ -66,6 +67,21 @@ pub fn read_source<P: Places>(
     }
 }
 
+/// The first bytes of the file of a certificate, at most so many.
+pub fn read_certificate_file<P: Places>(
+    alloc: Global,
+    name: &str,
+    most: usize,
+    places: &mut P,
+) -> Result<Vec<u8>, Stop>
+    requires { (P.world places.old).reached < 2000000 }
+    ensures bytes { IfOk result (λ bytes. IsSourceFront most (file name.now) (P.world places.old) bytes.items) }
+    ensures reading { HasReached most (P.world places.old) (P.world places.new) result }
+    ensures stopped { IfErr result (IsReadStop (P.world places.old) (P.world places.new)) }
+{
+    read_file(alloc, places, name, most).map_err(read_stop)
+}
+
 /// Reaches the place of each file, in order, and gives their numbers.
 pub fn reach_files<P: Places>(
     alloc: Global,
@@ -77,7 +93,7 @@ pub fn reach_files<P: Places>(
     ensures reached { OnOk result ((P.world places.new).reached ≡ (P.world places.old).reached + length files.now) }
     ensures few { (P.world places.new).reached ≤ (P.world places.old).reached + length files.now }
     ensures fresh { AreFresh (map (λ file. file.now) files.now) (P.world places.old) (P.world places.new) }
-    ensures first { 0 < (P.world places.old).reached → (P.world places.new).place 0 ≡ (P.world places.old).place 0 }
+    ensures others { AreKept (P.world places.old) (P.world places.new) }
     ensures keeps { KeepsNames (P.world places.old) (P.world places.new) }
     ensures stopped { IfErr result (IsReadStop (P.world places.old) (P.world places.new)) }
     ensures counts_no_read { CountsNoRead result (P.world places.old) (P.world places.new) }

@@ -54,4 +54,8 @@ pub enum Refusal {
     GivenTwice { name: Name },
     /// No file is given for two free names or more.
     NoInput,
+    /// The file of a certificate has more than 268,435,456 bytes.
+    CertificateTooLong,
+    /// No certificate's text goes on with the line, from 1.
+    NoJudgment { line: u64 },
 }

@@ -143,6 +143,10 @@ fn write_refusal<E: Sink>(report: &mut E, refusal: &Refusal) -> Result<(), PortF
         Refusal::NotFree { name } => write_named(report, b"no input is named ", name, b"\n"),
         Refusal::GivenTwice { name } => write_named(report, b"", name, b" is given twice\n"),
         Refusal::NoInput => write_text(report, b"no input for two names\n"),
+        Refusal::CertificateTooLong => write_text(report, b"certificate too long\n"),
+        Refusal::NoJudgment { line } => {
+            write_numbered(report, b"line ", *line, b" is no judgment\n")
+        }
     }
 }
 
@@ -189,6 +193,9 @@ fn write_stop<E: Sink>(report: &mut E, stop: &Stop) -> Result<(), PortFault>
             stats,
         } => write_depth(report, *time, *lost, *cleared, *stats),
         Stop::TooLarge { name, .. } => write_named(report, b"input ", name, b" too large\n"),
+        Stop::Wrong { judgment } => {
+            write_numbered(report, b"judgment ", *judgment, b" does not follow\n")
+        }
         Stop::NoMemory => write_text(report, b"no memory\n"),
     }
 }

@@ -1,5 +1,5 @@
 //! Running a program.
-ghost use Rattle.std.specs.Prelude.{◌≡◌, ◌≢◌, ◌≤◌, ◌<◌, ◌⊎◌, ℕ, AllPairs, length, IfOk};
+ghost use Rattle.std.specs.Prelude.{◌≡◌, ◌≢◌, ◌≤◌, ◌<◌, ◌⊎◌, ℕ, AllPairs, length, map, IfOk};
 ghost use Rattle.lucid_tree.specs.Members.{In};
 ghost use Rattle.lucid_ports.specs.Limits.{most_asked};
 ghost use Rattle.lucid_ports.specs.World.{World};
@@ -7,14 +7,15 @@ ghost use Rattle.lucid_equations.specs.Programs.{table_of};
 ghost use Rattle.lucid_words.specs.Asked.{plain_words};
 ghost use Rattle.lucid_words.specs.Numbers.{IsFromTo};
 ghost use Rattle.lucid_retire.specs.Policies.{keeps_all, empties_all, most_held};
-ghost use Rattle.lucid_inputs.specs.Inputs.{streams};
+ghost use Rattle.lucid_inputs.specs.Inputs.{streams, most_bytes};
+ghost use Rattle.lucid_inputs.specs.Streams.{fresh_stream};
 ghost use Rattle.lucid_facts.specs.Engine.{AreAskable};
 ghost use Rattle.lucid_session.specs.Runs.{told, policy_view, run_view, OnTooLarge};
 ghost use Rattle.lucid_session.specs.Sessions.{Promises};
 ghost use Rattle.lucid_top.specs.Tasks.{wants_figures};
 ghost use Rattle.lucid_top.specs.Places.{AreUnread, CountsNoRead, CountsNoWrite};
 ghost use Rattle.lucid_top.specs.Programs.{program_subject, program_counted};
-ghost use Rattle.lucid_top.specs.Runs.{policy_named, policy_asked, viewed, table_program, RanSo};
+ghost use Rattle.lucid_top.specs.Runs.{policy_named, policy_asked, viewed, most_input_bytes, table_program, RanSo};
 ghost use Rattle.lucid_top.specs.Running.{RunComesOnly, IsRunStop, IsLargeStop};
 
 use crate::stop::{Done, Stop};
@@ -33,6 +34,15 @@ const MOST_INPUT_BYTES: u64 = 268_435_456;
 
 // How many turns of the policy by age there are from one sweep to the next.
 const TURNS_BETWEEN_SWEEPS: u32 = 1000;
+
+/// Inputs at these places, of which nothing is read.
+pub fn unread_inputs(alloc: Global, numbers: Vec<u32>) -> Result<Inputs, AllocError>
+    requires { AllPairs (λ a b. a ≢ b) numbers.items }
+    ensures streams { IfOk result (λ inputs. streams inputs ≡ map fresh_stream numbers.items) }
+    ensures most { IfOk result (λ inputs. most_bytes inputs ≡ most_input_bytes) }
+{
+    Inputs::make(alloc, numbers, MOST_INPUT_BYTES)
+}
 
 // The policy that the words ask for.
 fn policy_of(alloc: Global, words: &Words) -> Result<Policy, AllocError>
@@ -58,8 +68,8 @@ fn wants_figures(words: &Words) -> bool
     }
 }
 
-// An input is too large.
-fn large_stop(inputs: &[Name], stream: u32) -> Stop
+/// An input is too large.
+pub fn large_stop(inputs: &[Name], stream: u32) -> Stop
     requires { stream < length inputs.now }
     ensures { IsLargeStop inputs.now stream result }
 {
@@ -146,7 +156,7 @@ pub fn run_program<P: Places, K: Sink>(
     ensures counts_no_write { CountsNoWrite result (K.faults out.old) (K.faults out.new) }
 {
     fresh_fits();
-    let inputs = Inputs::make(alloc, numbers, MOST_INPUT_BYTES)?;
+    let inputs = unread_inputs(alloc, numbers)?;
     let policy = policy_of(alloc, words)?;
     let stats = wants_figures(words);
     match run_streams(alloc, words, program, inputs, policy, places, out) {

@@ -63,6 +63,7 @@ impl Status {
             Stop::WriteFault => Status::WriteFault,
             Stop::TooDeep { .. } => Status::TooDeep,
             Stop::TooLarge { .. } => Status::TooLarge,
+            Stop::Wrong { .. } => Status::Refused,
             Stop::NoMemory => Status::NoMemory,
         }
     }

@@ -1,7 +1,7 @@
 //! What comes of a call.
 ghost use Rattle.std.specs.Prelude.{◌≡◌};
 ghost use Rattle.lucid_top.specs.declared.stop.Stop.TheVariants.{NoMemory};
-ghost use Rattle.lucid_top.specs.Refusals.{words_stop, scan_stop, parse_stop, scope_stop, judge_stop, flat_stop, build_stop};
+ghost use Rattle.lucid_top.specs.Refusals.{words_stop, scan_stop, parse_stop, scope_stop, judge_stop, flat_stop, build_stop, why_stop};
 
 use crate::refusal::Refusal;
 use lucid_cycles::JudgeRefusal;
@@ -12,6 +12,7 @@ use lucid_scan::ScanRefusal;
 use lucid_scope::ScopeRefusal;
 use lucid_sound::BuildRefusal;
 use lucid_value::Name;
+use lucid_why::WhyRefusal;
 use lucid_words::WordsRefusal;
 use std::alloc::{AllocError, AllocFailed};
 
@@ -44,6 +45,10 @@ pub enum Stop {
     TooLarge {
         stream: u32,
         name: Name,
+    },
+    /// The certificate that is checked is wrong at the judgment of this number, from 0.
+    Wrong {
+        judgment: u64,
     },
     /// There was no memory.
     NoMemory,
@@ -153,6 +158,17 @@ impl From<BuildRefusal> for Stop {
             BuildRefusal::Place { at } => Stop::Refused(Refusal::FlatPlace { at }),
             BuildRefusal::Root => Stop::Refused(Refusal::FlatRoot),
             BuildRefusal::NoMemory => Stop::NoMemory,
+        }
+    }
+}
+
+impl From<WhyRefusal> for Stop {
+    ghost from_gives = { λ refusal stop. stop ≡ why_stop refusal };
+
+    fn from(refusal: WhyRefusal) -> Stop {
+        match refusal {
+            WhyRefusal::Form { line } => Stop::Refused(Refusal::NoJudgment { line }),
+            WhyRefusal::NoMemory => Stop::NoMemory,
         }
     }
 }

@@ -63,8 +63,8 @@ impl Task {
     {
         match self {
             Task::Run => true,
-            Task::Columns | Task::Print | Task::Cycles | Task::Flat => form.is_text(),
-            Task::Why | Task::Check => false,
+            Task::Columns | Task::Print | Task::Cycles | Task::Check | Task::Flat => form.is_text(),
+            Task::Why => false,
         }
     }
 }

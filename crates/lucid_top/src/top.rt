@@ -9,17 +9,19 @@ ghost use Rattle.lucid_words.specs.Numbers.{IsFromTo, MadeIsFromTo};
 ghost use Rattle.lucid_top.specs.Call.{call};
 ghost use Rattle.lucid_session.specs.Runs.{told};
 ghost use Rattle.lucid_top.specs.Tasks.{task_of, form_of, is_built};
-ghost use Rattle.lucid_top.specs.Runs.{first_place};
+ghost use Rattle.lucid_top.specs.Sources.{first_place};
 ghost use Rattle.lucid_scope.specs.Scoped.{scoped_tree, scoped_inputs};
 ghost use Rattle.lucid_ports.specs.Limits.{most_asked};
 ghost use Rattle.lucid_ports.specs.World.{World};
 ghost use Rattle.lucid_equations.specs.Programs.{table_of};
 ghost use Rattle.lucid_top.specs.Judged.{RefusesText, AreResolved};
 ghost use Rattle.lucid_top.specs.Flat.{most_flat_bytes, RefusesFlat};
-ghost use Rattle.lucid_top.specs.Places.{CountsNoRead, CountsNoWrite, ReadsSource, HasRead, SpeltBySource, FlatBySource, IsAccepted, IsAcceptedBeside, IsSourceStop, IsProgramStop, IsColumnsStop};
-ghost use Rattle.lucid_top.specs.Coming.{Comes, Does, MayBegin, RunsTable};
+ghost use Rattle.lucid_top.specs.Certificates.{most_certificate_bytes};
+ghost use Rattle.lucid_top.specs.Places.{CountsNoRead, CountsNoWrite, ReadsSource, ReadsPlace, AreKept, HasRead, SpeltBySource, FlatBySource, IsAccepted, IsAcceptedBeside, IsSourceStop, IsProgramStop, IsColumnsStop};
+ghost use Rattle.lucid_top.specs.Coming.{Comes, Does, MayBegin, RunsTable, ChecksTable};
 ghost use Rattle.lucid_top.specs.Clauses.{MeetsClauses};
 
+use crate::checking::{check_program, read_certificate};
 use crate::files::{copied_names, input_files};
 use crate::flat::read_program;
 use crate::judging::{read_tree, resolve_beside, resolve_names};
@@ -241,6 +243,48 @@ fn flat_task<P: Places, K: Sink>(
     write_flat(alloc, &scoped, out)
 }
 
+// Checks the certificate in the file that the words name, of the program, over the files that the words give its inputs, which have these
+// names.
+fn check_inputs<P: Places, K: Sink>(
+    alloc: Global,
+    words: &Words,
+    names: &[Name],
+    program: &Program,
+    places: &mut P,
+    out: &mut K,
+) -> Result<Done, Stop>
+    requires names { names.now ≡ (table_of program.now).inputs }
+    requires few { length names.now ≤ most_source_bytes }
+    requires one { (P.world places.old).reached ≤ 1 }
+    ensures comes { (before : World)
+        → ChecksTable (call (Some (plain_words words.now)) before (P.world places.new) (told K.written K.faults out.old) (told K.written K.faults out.new)) (plain_words words.now) (table_of program.now) (P.world places.old)
+        → Comes (call (Some (plain_words words.now)) before (P.world places.new) (told K.written K.faults out.old) (told K.written K.faults out.new)) result }
+    ensures counts_no_read { CountsNoRead result (P.world places.old) (P.world places.new) }
+    ensures counts_no_write { CountsNoWrite result (K.faults out.old) (K.faults out.new) }
+    ensures others { AreKept (P.world places.old) (P.world places.new) }
+    ensures certificate { ReadsPlace (most_certificate_bytes + 1) (P.world places.old).reached (P.world places.new) }
+{
+    let files = input_files(alloc, names, &words.given)?;
+    let why = read_certificate(alloc, &words.check, places)?;
+    let numbers = reach_files(alloc, places, &files)?;
+    check_program(alloc, names, program, &why, numbers, places, out)
+}
+
+// Checks a certificate of the program that the words name.
+fn check_task<P: Places, K: Sink>(
+    alloc: Global,
+    words: &Words,
+    places: &mut P,
+    out: &mut K,
+) -> Result<Done, Stop>
+    requires { MayBegin words.now Task.Check (P.world places.old) }
+    ensures { Does (call (Some (plain_words words.now)) (P.world places.old) (P.world places.new) (told K.written K.faults out.old) (told K.written K.faults out.new)) result }
+{
+    let scoped = program_of(alloc, words, places)?;
+    let program = compile(alloc, &scoped)?;
+    check_inputs(alloc, words, scoped.inputs(), &program, places, out)
+}
+
 // Does what the words ask for.
 fn do_task<P: Places, K: Sink>(
     alloc: Global,
@@ -261,8 +305,9 @@ fn do_task<P: Places, K: Sink>(
         Task::Print => print_task(alloc, &words, places, out),
         Task::Cycles => cycles_task(alloc, &words, places, out),
         Task::Columns => columns_task(alloc, &words, places, out),
+        Task::Check => check_task(alloc, &words, places, out),
         Task::Flat => flat_task(alloc, &words, places, out),
-        Task::Why | Task::Check => unreachable!(),
+        Task::Why => unreachable!(),
     }
 }
 

@@ -21,8 +21,8 @@ use lucid_scope::Scoped;
 use lucid_tree::Tree;
 use std::alloc::Global;
 
-// Writes the text.
-fn write_out<K: Sink>(text: &[u8], out: &mut K) -> Result<Done, Stop>
+/// Writes the text.
+pub fn write_out<K: Sink>(text: &[u8], out: &mut K) -> Result<Done, Stop>
     ensures writes { WritesOnly (λ written. written ≡ text.now) (told K.written K.faults out.old) (told K.written K.faults out.new) result }
     ensures counts_no_write { CountsNoWrite result (K.faults out.old) (K.faults out.new) }
 {

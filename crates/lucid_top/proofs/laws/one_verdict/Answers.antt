@@ -1,6 +1,7 @@
 use Rattle.lucid_top.proofs.Verdicts.{Laws, one_text_refusal, one_name_refusal}
 use Rattle.lucid_top.proofs.OneList.{one_list_of_inputs}
 use Rattle.lucid_top.proofs.FlatVerdicts.{one_flat_table, table_is_not_refused, one_flat_refusal}
+use Rattle.lucid_top.proofs.CertificateVerdicts.{one_certificate, certificate_is_not_refused, one_certificate_refusal}
 use Rattle.lucid_top.proofs.laws.one_verdict.Goals as goal
 
 pub returns-clause-one_text_refusal : goal.returns-clause-one_text_refusal
@@ -28,3 +29,12 @@ returns-clause-table_not_refused c = table_is_not_refused c.one_table.ensures
 
 pub returns-clause-one_flat_refusal : goal.returns-clause-one_flat_refusal
 returns-clause-one_flat_refusal c = one_flat_refusal c.one_table.ensures
+
+pub returns-clause-one_certificate : goal.returns-clause-one_certificate
+returns-clause-one_certificate c = one_certificate c.one_why.ensures
+
+pub returns-clause-certificate_not_refused : goal.returns-clause-certificate_not_refused
+returns-clause-certificate_not_refused c = certificate_is_not_refused
+
+pub returns-clause-one_certificate_refusal : goal.returns-clause-one_certificate_refusal
+returns-clause-one_certificate_refusal c = one_certificate_refusal

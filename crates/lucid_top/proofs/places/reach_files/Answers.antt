@@ -1,6 +1,6 @@
 use Rattle.lucid_top.proofs.Common.{map, ◌∙◌, arith, Failed}
 use Rattle.lucid_top.proofs.Counting.{none_at_ok}
-use Rattle.lucid_top.proofs.Reaching.{keeps_on, first_stays, fresh_after, fresh_more, range_more, named_at, given_before, refused_before}
+use Rattle.lucid_top.proofs.Reaching.{keeps_on, kept_on, fresh_after, fresh_more, range_more, named_at, given_before, refused_before}
 use Rattle.lucid_top.proofs.places.reach_files.Goals as goal
 
 pub returns-in_err-place-clause-fresh : goal.returns-in_err-place-clause-fresh
@@ -19,14 +19,14 @@ returns-in_err-push-clause-fresh g c =
     c.loop-file.file-index _ c.loop-file.invariant.reached (named_at c.args.files.now c.loop-file.file-index _ c.loop-file-test.true) c.loop-file.invariant.fresh
     c.loop-file.invariant.keeps c.reach.ensures.others added c.in_ok-place.place number fresh
 
-pub returns-in_err-place-clause-first : goal.returns-in_err-place-clause-first
-returns-in_err-place-clause-first g c =
-    first_stays (g.P.Places.world c.args.places.now) (g.P.Places.world c.loop-file.places) (g.P.Places.world c.reach.new.self) c.loop-file.invariant.first
+pub returns-in_err-place-clause-others : goal.returns-in_err-place-clause-others
+returns-in_err-place-clause-others g c =
+    kept_on (g.P.Places.world c.args.places.now) (g.P.Places.world c.loop-file.places) (g.P.Places.world c.reach.new.self) c.loop-file.invariant.others
     (omega (arith, c.loop-file.invariant.reached)) c.reach.ensures.others
 
-pub returns-in_err-push-clause-first : goal.returns-in_err-push-clause-first
-returns-in_err-push-clause-first g c =
-    first_stays (g.P.Places.world c.args.places.now) (g.P.Places.world c.loop-file.places) (g.P.Places.world c.reach.new.self) c.loop-file.invariant.first
+pub returns-in_err-push-clause-others : goal.returns-in_err-push-clause-others
+returns-in_err-push-clause-others g c =
+    kept_on (g.P.Places.world c.args.places.now) (g.P.Places.world c.loop-file.places) (g.P.Places.world c.reach.new.self) c.loop-file.invariant.others
     (omega (arith, c.loop-file.invariant.reached)) c.reach.ensures.others
 
 pub loop-file-preserved : goal.loop-file-preserved
@@ -43,7 +43,7 @@ loop-file-preserved g c =
       fresh = fresh_more (map (λ file. file.now) c.args.files.now) (g.P.Places.world c.args.places.now) (g.P.Places.world c.loop-file.places) (g.P.Places.world c.reach.new.self)
           c.loop-file.file-index _ c.loop-file.invariant.reached (named_at c.args.files.now c.loop-file.file-index _ c.loop-file-test.true) c.loop-file.invariant.fresh
           c.loop-file.invariant.keeps c.reach.ensures.others added c.in_ok-place.place number fresh;
-      first = first_stays (g.P.Places.world c.args.places.now) (g.P.Places.world c.loop-file.places) (g.P.Places.world c.reach.new.self) c.loop-file.invariant.first
+      others = kept_on (g.P.Places.world c.args.places.now) (g.P.Places.world c.loop-file.places) (g.P.Places.world c.reach.new.self) c.loop-file.invariant.others
           (omega (arith, c.loop-file.invariant.reached)) c.reach.ensures.others;
       no_read_failed = none_at_ok c.in_ok-place.place Failed (g.P.Places.world c.loop-file.places).faults (g.P.Places.world c.reach.new.self).faults counted ∙ c.loop-file.invariant.no_read_failed;
       keeps = keeps_on (g.P.Places.world c.args.places.now) (g.P.Places.world c.loop-file.places) (g.P.Places.world c.reach.new.self) (g.P.Places.world c.loop-file.places).reached

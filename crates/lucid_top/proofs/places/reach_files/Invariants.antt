@@ -1,4 +1,4 @@
-use Rattle.lucid_top.proofs.Common.{◌≡◌, ◌+◌, ◌<◌, map, range_with_len, KeepsNames, AreFresh}
+use Rattle.lucid_top.proofs.Common.{◌≡◌, ◌+◌, map, range_with_len, KeepsNames, AreKept, AreFresh}
 use Rattle.lucid_top.proofs.places.reach_files.Given as goal
 
 abbrev pub invariant-loop-file : goal.invariant-loop-file
@@ -6,7 +6,7 @@ invariant-loop-file g l = record {
   numbers : l.numbers.items ≡ range_with_len (g.P.Places.world l.initial.places).reached l.file-index;
   reached : (g.P.Places.world l.places).reached ≡ (g.P.Places.world l.initial.places).reached + l.file-index;
   fresh : AreFresh (map (λ file. file.now) l.files) (g.P.Places.world l.initial.places) (g.P.Places.world l.places);
-  first : 0 < (g.P.Places.world l.initial.places).reached → (g.P.Places.world l.places).place 0 ≡ (g.P.Places.world l.initial.places).place 0;
+  others : AreKept (g.P.Places.world l.initial.places) (g.P.Places.world l.places);
   no_read_failed : (g.P.Places.world l.places).faults ≡ (g.P.Places.world l.initial.places).faults;
   keeps : KeepsNames (g.P.Places.world l.initial.places) (g.P.Places.world l.places);
 }

@@ -1,5 +1,5 @@
-use Rattle.lucid_top.proofs.Common.{◌∙◌, err_from_is_err_and, Failed}
-use Rattle.lucid_top.proofs.Reaching.{read_all, read_within}
+use Rattle.lucid_top.proofs.Common.{err_from_is_err_and, Failed}
+use Rattle.lucid_top.proofs.Reaching.{read_all, read_within, read_kept}
 use Rattle.lucid_top.proofs.Counting.{none_at_ok, handed_on, counts_then}
 use Rattle.lucid_top.proofs.places.read_file.Goals as goal
 
@@ -8,7 +8,7 @@ returns-clause-bytes g c = read_all c.read_at_most.result (λ bytes. bytes.items
 
 pub returns-clause-within : goal.returns-clause-within
 returns-clause-within g c some =
-    read_within c.args.most c.in_ok-place.place _ (g.P.Places.world c.reach.new.self) (g.P.Places.world c.read_at_most.new.places) (c.in_ok-place.ensures.number ∙ c.requires) c.in_ok-place.ensures.fresh.contents c.read_at_most.ensures.in_order
+    read_within c.args.most c.in_ok-place.place (g.P.Places.world c.args.places.now).reached _ (g.P.Places.world c.reach.new.self) (g.P.Places.world c.read_at_most.new.places) c.in_ok-place.ensures.number c.in_ok-place.ensures.fresh.contents c.read_at_most.ensures.in_order
 
 pub returns-in_err-place-clause-counts_no_fault : goal.returns-in_err-place-clause-counts_no_fault
 returns-in_err-place-clause-counts_no_fault g c =
@@ -19,3 +19,8 @@ pub returns-clause-counts_no_fault : goal.returns-clause-counts_no_fault
 returns-clause-counts_no_fault g c =
     counts_then (g.P.Places.world c.args.places.now).faults (g.P.Places.world c.reach.new.self).faults (g.P.Places.world c.read_at_most.new.places).faults
     (none_at_ok c.in_ok-place.place Failed (g.P.Places.world c.args.places.now).faults (g.P.Places.world c.reach.new.self).faults c.in_ok-place.ensures.counts_no_fault) c.read_at_most.ensures.counts_no_fault
+
+pub returns-clause-others : goal.returns-clause-others
+returns-clause-others g c =
+    read_kept (g.P.Places.world c.args.places.now) (g.P.Places.world c.reach.new.self) (g.P.Places.world c.read_at_most.new.places) c.in_ok-place.place c.in_ok-place.ensures.number
+    c.reach.ensures.others c.read_at_most.ensures.others

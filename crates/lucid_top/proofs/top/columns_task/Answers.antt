@@ -15,7 +15,7 @@ returns-in_err-scoped g c =
     let text = of_text w task.Columns c.requires.task refl c.requires.built in
     let read = c.in_err-scoped.ensures in
     let s = c.in_err-scoped.field-0.0 in
-    rw (p.1, p.2) (stops here w s refl refl (columns_stops here w s begins text c.requires.task read.stopped refl read.reading.few) read.reading.counts_no_read (within_text w w.source here.after text read.reading.within))
+    rw (p.1, p.2) (stops here w s refl refl read.reading.few (columns_stops here w s begins text c.requires.task read.stopped refl read.reading.few) read.reading.counts_no_read (within_text w w.source here.after text read.reading.within))
 
 pub returns-in_err-program : goal.returns-in_err-program
 returns-in_err-program g c =
@@ -51,7 +51,7 @@ returns g c =
     let tree = scoped_tree c.in_ok-scoped.scoped in
     let inputs = inputs_of tree (scoped_inputs c.in_ok-scoped.scoped) (scoped_binding c.in_ok-scoped.scoped) c.inputs.ensures.resolved in
     let keeps : KeepsTree (equations_of table) (beside a.tree w.columns) = subst (KeepsTree (equations_of table)) a.beside.is c.in_ok-program.ensures.keeps in
-    run_does c.in_ok-scoped.scoped here w (g.P.Places.world c.columns_of.new.places) c.run_inputs.result refl
+    run_does c.in_ok-scoped.scoped here w (g.P.Places.world c.columns_of.new.places) c.run_inputs.result refl (λ e. absurd (cc (e, c.requires.task)))
     (c.run_inputs.ensures.comes here.before (record {
       read = refl;
       task = c.requires.task;

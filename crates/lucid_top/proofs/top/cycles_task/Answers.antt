@@ -5,7 +5,7 @@ use Rattle.lucid_top.specs.declared.task.Task.TheVariants as task
 use Rattle.lucid_top.specs.Call.{call}
 use Rattle.lucid_top.proofs.Counting.{none_at_ok}
 use Rattle.lucid_top.proofs.Ending.{Begins, of_text, within_text, cycles_not_print, judging_stops, inputs_of, names_of, as_text}
-use Rattle.lucid_top.proofs.Doing.{reads_for, program_does, writing_does}
+use Rattle.lucid_top.proofs.Doing.{reads_for, program_does, writing_does, unread_certificate}
 use Rattle.lucid_top.proofs.top.cycles_task.Goals as goal
 
 pub returns-in_err-scoped : goal.returns-in_err-scoped
@@ -32,6 +32,7 @@ returns-in_err-judgment g c =
       counts_no_read = inr (none_at_ok c.in_ok-scoped.scoped stop.ReadFault here.before.faults here.after.faults read.reading.counts_no_read);
       counts_no_write = inr refl;
       within = reads_for here w refl (within_text w w.source here.after text read.reading.within);
+      certificate = unread_certificate here w refl read.reading.few;
     })
 
 pub returns : goal.returns

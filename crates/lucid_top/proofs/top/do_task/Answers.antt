@@ -1,7 +1,7 @@
 use Rattle.lucid_top.proofs.Common.{◌≡◌, map, false, inr, refl, sym, ap, subst, ◌∙◌, err_from_is_err_and, string_bytes, plain_words, words_asked, told, Call, task_of, form_of, is_built, MayBegin}
 use Rattle.lucid_top.specs.Call.{call}
-use Rattle.lucid_top.proofs.Ending.{words_stops, not_built_stops, other_is_not}
-use Rattle.lucid_top.proofs.Doing.{may_begin, none_read}
+use Rattle.lucid_top.proofs.Ending.{words_stops, not_built_stops, why_is_not}
+use Rattle.lucid_top.proofs.Doing.{may_begin, none_read, no_certificate}
 use Rattle.lucid_top.proofs.top.do_task.Goals as goal
 
 pub returns-in_err-words : goal.returns-in_err-words
@@ -15,6 +15,7 @@ returns-in_err-words g c =
       counts_no_read = inr refl;
       counts_no_write = inr refl;
       within = λ v asked. none_read _ v.source w c.requires;
+      certificate = λ v asked. no_certificate v w c.requires;
     })
 
 pub returns-then-not-is_built : goal.returns-then-not-is_built
@@ -30,10 +31,11 @@ returns-then-not-is_built g c =
       counts_no_read = inr refl;
       counts_no_write = inr refl;
       within = λ v asked. none_read _ v.source w c.requires;
+      certificate = λ v asked. no_certificate v w c.requires;
     }
 
 pub unreachable-requires : goal.unreachable-requires
-unreachable-requires g c = let is = other_is_not c.of-task.result c.of.result c.in-Why.is in absurd (cc (c.is_built.ensures, c.if-not-is_built.false, is))
+unreachable-requires g c = let is = why_is_not c.of-task.result c.of.result c.in-Why.is in absurd (cc (c.is_built.ensures, c.if-not-is_built.false, is))
 
 pub run_task-requires : goal.run_task-requires
 run_task-requires g c =
@@ -62,5 +64,11 @@ columns_task-requires g c =
 pub flat_task-requires : goal.flat_task-requires
 flat_task-requires g c =
     subst (λ t. MayBegin c.in_ok-words.words t (g.P.Places.world c.args.places.now)) c.in-Flat.is
+    (may_begin (map (string_bytes {Z = Rattle.std.specs.Global.Global}) c.args.words.now) c.in_ok-words.words c.of-task.result c.of.result (g.P.Places.world c.args.places.now)
+    c.in_ok-words.ensures.asked c.in_ok-words.ensures.made c.in_ok-words.ensures.room c.of-task.ensures c.of.ensures (sym c.is_built.ensures ∙ c.if-not-is_built.false) c.requires)
+
+pub check_task-requires : goal.check_task-requires
+check_task-requires g c =
+    subst (λ t. MayBegin c.in_ok-words.words t (g.P.Places.world c.args.places.now)) c.in-Check.is
     (may_begin (map (string_bytes {Z = Rattle.std.specs.Global.Global}) c.args.words.now) c.in_ok-words.words c.of-task.result c.of.result (g.P.Places.world c.args.places.now)
     c.in_ok-words.ensures.asked c.in_ok-words.ensures.made c.in_ok-words.ensures.room c.of-task.ensures c.of.ensures (sym c.is_built.ensures ∙ c.if-not-is_built.false) c.requires)

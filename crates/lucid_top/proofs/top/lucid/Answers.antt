@@ -16,6 +16,9 @@ returns g c =
       one_flat_table = c.one_verdict.ensures.one_flat_table;
       table_not_refused = c.one_verdict.ensures.table_not_refused;
       one_flat_refusal = c.one_verdict.ensures.one_flat_refusal;
+      one_certificate = c.one_verdict.ensures.one_certificate;
+      certificate_not_refused = c.one_verdict.ensures.certificate_not_refused;
+      one_certificate_refusal = c.one_verdict.ensures.one_certificate_refusal;
     } in
     let asked = words_asked (map (string_bytes {Z = Rattle.std.specs.Global.Global}) c.args.words.now) in
     let out_before = told g.K.Sink.written g.K.Sink.faults c.args.out.now in
@@ -23,5 +26,5 @@ returns g c =
     let before = told g.E.Sink.written g.E.Sink.faults c.args.report.now in
     let after = told g.E.Sink.written g.E.Sink.faults c.tell.new.report in
     meets laws (call asked (g.P.Places.world c.args.places.now) (g.P.Places.world c.do_task-outcome.new.places) out_before out_after) before after c.do_task-outcome.result c.tell.result
-    c.do_task-outcome.ensures.comes (λ a. c.do_task-outcome.ensures.within a.words a.read)
+    c.do_task-outcome.ensures.comes (λ a. c.do_task-outcome.ensures.within a.words a.read) (λ a. c.do_task-outcome.ensures.certificate a.words a.read)
     (record { reads = c.do_task-outcome.ensures.counts_no_read; writes = c.do_task-outcome.ensures.counts_no_write }) c.tell.ensures

@@ -14,7 +14,7 @@ returns-in_err-tree g c =
     let text = of_text w task.Print c.requires.task refl c.requires.built in
     let read = c.in_err-tree.ensures in
     let s = c.in_err-tree.field-0.0 in
-    rw (p.1, p.2) (stops here w s refl refl (source_stops here w s begins text read.stopped refl read.reading.few) read.reading.counts_no_read (within_text w w.source here.after text read.reading.within))
+    rw (p.1, p.2) (stops here w s refl refl read.reading.few (source_stops here w s begins text read.stopped refl read.reading.few) read.reading.counts_no_read (within_text w w.source here.after text read.reading.within))
 
 pub returns : goal.returns
 returns g c =

@@ -99,12 +99,12 @@ returns-clause-comes g c before b =
 
 pub returns-in_err-numbers-clause-within : goal.returns-in_err-numbers-clause-within
 returns-in_err-numbers-clause-within g c most first within =
-    source_stays most (plain_source c.args.words.now.source) (g.P.Places.world c.args.places.now) (g.P.Places.world c.reach_files.new.places) within first c.in_err-numbers.ensures.first
+    source_stays most (plain_source c.args.words.now.source) (g.P.Places.world c.args.places.now) (g.P.Places.world c.reach_files.new.places) within first c.in_err-numbers.ensures.others
 
 pub returns-clause-within : goal.returns-clause-within
 returns-clause-within g c most first within =
     source_run most (plain_source c.args.words.now.source) (g.P.Places.world c.args.places.now) (g.P.Places.world c.reach_files.new.places) (g.P.Places.world c.run_program.new.places)
-    (length c.deref-2.result.now) c.in_ok-numbers.numbers.items within first c.in_ok-numbers.ensures.first c.in_ok-numbers.ensures.numbers c.run_program.ensures.others
+    (length c.deref-2.result.now) c.in_ok-numbers.numbers.items within first c.in_ok-numbers.ensures.others c.in_ok-numbers.ensures.numbers c.run_program.ensures.others
 
 pub returns-in_err-numbers-clause-counts_no_read : goal.returns-in_err-numbers-clause-counts_no_read
 returns-in_err-numbers-clause-counts_no_read g c =

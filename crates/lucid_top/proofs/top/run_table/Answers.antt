@@ -13,7 +13,7 @@ returns-in_err-program g c =
     let begins : Begins here w = record { read = refl; built = c.requires.may.built } in
     let read = c.in_err-program.ensures in
     let s = c.in_err-program.field-0.0 in
-    rw (p.1, p.2) (stops here w s refl refl (flat_stops here w s begins c.requires.form read.stopped refl read.reading.few) read.reading.counts_no_read (within_flat w w.source here.after c.requires.form read.reading.within))
+    rw (p.1, p.2) (stops here w s refl refl read.reading.few (flat_stops here w s begins c.requires.form read.stopped refl read.reading.few) read.reading.counts_no_read (within_flat w w.source here.after c.requires.form read.reading.within))
 
 pub returns-in_err-names : goal.returns-in_err-names
 returns-in_err-names g c =
@@ -42,7 +42,7 @@ returns g c =
     let begins : Begins here w = record { read = refl; built = c.requires.may.built } in
     let read = c.in_ok-program.ensures in
     let table = table_of c.in_ok-program.program in
-    run_does c.in_ok-program.program here w (g.P.Places.world c.flat_program.new.places) c.run_inputs.result refl
+    run_does c.in_ok-program.program here w (g.P.Places.world c.flat_program.new.places) c.run_inputs.result refl (λ e. absurd (cc (e, c.requires.may.task)))
     (c.run_inputs.ensures.comes here.before (record {
       read = refl;
       task = c.requires.may.task;

@@ -45,7 +45,7 @@ returns g c =
     let table = table_of c.in_ok-program.program in
     let tree = scoped_tree c.in_ok-scoped.scoped in
     let inputs = inputs_of tree (scoped_inputs c.in_ok-scoped.scoped) (scoped_binding c.in_ok-scoped.scoped) c.inputs.ensures.resolved in
-    run_does c.in_ok-scoped.scoped here w (g.P.Places.world c.program_of.new.places) c.run_inputs.result refl
+    run_does c.in_ok-scoped.scoped here w (g.P.Places.world c.program_of.new.places) c.run_inputs.result refl (λ e. absurd (cc (e, c.requires.may.task)))
     (c.run_inputs.ensures.comes here.before (record {
       read = refl;
       task = c.requires.may.task;
