@@ -19,14 +19,22 @@ store_text line =
     else if ends line (codes " cleared 0\n") then codes "The store wasn't cleared.\n"
     else codes "The store was cleared on the way: more than 1,000,000 contexts were known. So values were computed anew, which wants more depth.\n"
 
--- of the flat form and of certificates
+-- of certificates
+abbrev pub certificate_text : (line : List ℕ) → List ℕ
+certificate_text line =
+    if begins line (codes "certificate too long") then codes "A certificate has at most 268,435,456 bytes.\n"
+    else if ends line (codes " is no judgment\n") then codes "No certificate's text goes on with this line: a context stands in a line as `c BASE PLACE CALLER` or `z BASE TIME`, and behind all of these a judgment as `j NODE CONTEXT TIME SPACE K U .. VALUE`.\n"
+    else if ends line (codes " does not follow\n") then codes "The judgment of this number, from 0, isn't what its node gives from the judgments that it uses, or it is the last one and not that of the program itself. The certificate is false, or it is one of another program or of other inputs.\n"
+    else if begins line (codes "not built yet") then codes "This option isn't built yet.\n"
+    else []
+
+-- of the flat form
 abbrev pub table_text : (line : List ℕ) → List ℕ
 table_text line =
     if ends line (codes " is no flat line\n") then codes "No table's text goes on with this line. What `lucid --flat` writes of a program has the right form.\n"
     else if begins line (codes "flat root ") then codes "The root, or a row of an input, doesn't fit the table. What `lucid --flat` writes of a program fits.\n"
     else if begins line (codes "flat ") then codes "The row of this number, from 0 among those of its kind, doesn't fit the table. What `lucid --flat` writes of a program fits.\n"
-    else if begins line (codes "not built yet") then codes "This option isn't built yet.\n"
-    else []
+    else certificate_text line
 
 -- of programs and their judgment
 abbrev pub program_text : (line : List ℕ) → List ℕ

@@ -1,5 +1,5 @@
 -- What is said behind the line that a call reported.
-use Rattle.std.specs.Prelude.{◌≡◌, ℕ, ◌≤◌, ◌⊎◌, Bool, true, false, List, [], ◌∷◌, ◌++◌, length, map, take, codes, decimal, Some, None, is_some, if◌then◌else◌, All, Contains}
+use Rattle.std.specs.Prelude.{◌≡◌, ◌==◌, ℕ, ◌≤◌, ◌⊎◌, Bool, true, false, List, [], ◌∷◌, ◌++◌, length, map, take, codes, decimal, Some, None, is_some, if◌then◌else◌, All, Contains}
 use Rattle.std.specs.Borrow.{Bor}
 use Rattle.std.specs.List.{flat_map, list_any}
 use Rattle.clap.specs.Words.{Text}
@@ -51,11 +51,14 @@ abbrev pub source_files : PlainSource → List Text
 source_files (file name) = name ∷ []
 source_files (made number) = []
 
+abbrev pub certificate_files : Text → List Text
+certificate_files name = if length name == 0 then [] else name ∷ []
+
 abbrev pub given_file : Text × Text → Text
 given_file given = given.1
 
 abbrev pub files_asked : PlainWords → List Text
-files_asked asked = source_files asked.source ++ map given_file asked.given
+files_asked asked = source_files asked.source ++ (certificate_files asked.check ++ map given_file asked.given)
 
 abbrev pub fault_text : (name : List ℕ) → List ℕ
 fault_text name = codes "This file can't be opened or read: " ++ (shown_text name ++ codes "\n")

@@ -3,7 +3,7 @@ ghost use Rattle.std.specs.Prelude.{◌≡◌, ◌++◌, map, [], ◌∷◌, IfO
 ghost use Rattle.std.specs.String.{string_bytes};
 ghost use Rattle.lucid_words.specs.Asked.{plain_words};
 ghost use Rattle.lucid_words.specs.Plain.{plain_given, plain_source};
-ghost use Rattle.lucid_explained.specs.Said.{shown_text, source_files, given_file, files_asked, fault_text, TellsFiles, Says};
+ghost use Rattle.lucid_explained.specs.Said.{shown_text, source_files, certificate_files, given_file, files_asked, fault_text, TellsFiles, Says};
 
 use crate::outlook::{Again, Outlook};
 use lucid_explanations::put_shown;
@@ -65,6 +65,22 @@ fn put_source<F: Outlook>(
     }
 }
 
+// Appends what is said of the file of a certificate, where one is asked for that can't be read now.
+fn put_certificate<F: Outlook>(
+    alloc: Global,
+    text: &mut Vec<u8>,
+    name: &str,
+    outlook: &F,
+) -> Result<(), AllocError>
+    ensures { OnOk result (TellsFiles (certificate_files name.now) text.old.items text.new.items) }
+{
+    if name.is_empty() {
+        Ok(())
+    } else {
+        put_if_unread(alloc, text, name, outlook)
+    }
+}
+
 // Appends what is said of the files of inputs that can't be read now.
 fn put_given<F: Outlook>(
     alloc: Global,
@@ -90,6 +106,7 @@ fn text_of_files<F: Outlook>(
 {
     let mut text = Vec::new(alloc);
     put_source(alloc, &mut text, &asked.source, outlook)?;
+    put_certificate(alloc, &mut text, &asked.check, outlook)?;
     put_given(alloc, &mut text, &asked.given, outlook)?;
     Ok(text)
 }

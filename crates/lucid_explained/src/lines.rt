@@ -1,7 +1,7 @@
 //! What is said of a line of the report by itself.
 ghost use Rattle.std.specs.Prelude.{◌≡◌};
 ghost use Rattle.std.specs.List.{count_by};
-ghost use Rattle.lucid_explained.specs.Lines.{begins, ends, is_blank, store_text, table_text, program_text, run_text, line_text};
+ghost use Rattle.lucid_explained.specs.Lines.{begins, ends, is_blank, store_text, certificate_text, table_text, program_text, run_text, line_text};
 
 /// Whether the line begins with the text.
 pub(crate) fn begins(line: &[u8], text: &[u8]) -> bool
@@ -37,7 +37,24 @@ fn store_text(line: &[u8]) -> &'static [u8]
     }
 }
 
-// What is said of lines of the flat form.
+// What is said of lines of certificates.
+fn certificate_text(line: &[u8]) -> &'static [u8]
+    ensures { result.now ≡ certificate_text line.now }
+{
+    if begins(line, b"certificate too long") {
+        b"A certificate has at most 268,435,456 bytes.\n"
+    } else if ends(line, b" is no judgment\n") {
+        b"No certificate's text goes on with this line: a context stands in a line as `c BASE PLACE CALLER` or `z BASE TIME`, and behind all of these a judgment as `j NODE CONTEXT TIME SPACE K U .. VALUE`.\n"
+    } else if ends(line, b" does not follow\n") {
+        b"The judgment of this number, from 0, isn't what its node gives from the judgments that it uses, or it is the last one and not that of the program itself. The certificate is false, or it is one of another program or of other inputs.\n"
+    } else if begins(line, b"not built yet") {
+        b"This option isn't built yet.\n"
+    } else {
+        b""
+    }
+}
+
+// What is said of lines of the flat form, or of others behind these.
 fn table_text(line: &[u8]) -> &'static [u8]
     ensures { result.now ≡ table_text line.now }
 {
@@ -47,10 +64,8 @@ fn table_text(line: &[u8]) -> &'static [u8]
         b"The root, or a row of an input, doesn't fit the table. What `lucid --flat` writes of a program fits.\n"
     } else if begins(line, b"flat ") {
         b"The row of this number, from 0 among those of its kind, doesn't fit the table. What `lucid --flat` writes of a program fits.\n"
-    } else if begins(line, b"not built yet") {
-        b"This option isn't built yet.\n"
     } else {
-        b""
+        certificate_text(line)
     }
 }
 
