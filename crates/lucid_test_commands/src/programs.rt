@@ -1,6 +1,7 @@
 //! The worked programs by the command.
-use crate::row::{DONE, Row, Way, passes_by};
+use crate::row::{Row, Way, passes_by};
 use lucid_test_programs::{IN_CONTEXTS, OVER_INPUTS, OVER_SPACE, OVER_TIME, Worked};
+use lucid_top::Status;
 use std::alloc::{AllocError, Global};
 use std::process::Abort;
 use std::test::Fail;
@@ -21,7 +22,27 @@ fn words_of(alloc: Global, program: &Worked) -> Result<String, AllocError> {
     Ok(words)
 }
 
-// The program writes its lines, and consumes what it should of these files.
+// What the program is to do, by these words and over these files: it writes these lines, and consumes what it should.
+fn row_of<'a>(
+    program: &'a Worked,
+    files: &'a [(&'a str, &'a str)],
+    words: &'a str,
+    lines: &'a str,
+) -> Row<'a> {
+    Row {
+        name: program.name,
+        words,
+        source: program.source,
+        inputs: files,
+        reads: &[],
+        writes: &[],
+        status: Status::Done,
+        out: lines,
+        report: "",
+        taken: program.consumed.get(..program.inputs.len()),
+    }
+}
+
 fn passes_over<R: Abort + AllocGlobal>(
     rt: &R,
     program: &Worked,
@@ -30,15 +51,7 @@ fn passes_over<R: Abort + AllocGlobal>(
 ) -> Result<(), Fail> {
     let words = words_of(rt.alloc(), program)?;
     let lines = program.lines(rt.alloc())?;
-    let row = Row {
-        name: program.name,
-        words: words.as_str(),
-        source: program.source,
-        inputs: files,
-        out: lines.as_str(),
-        taken: program.consumed.get(..program.inputs.len()),
-        ..DONE
-    };
+    let row = row_of(program, files, words.as_str(), lines.as_str());
     passes_by(rt, &row, way)
 }
 

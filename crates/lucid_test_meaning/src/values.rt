@@ -116,55 +116,47 @@ fn an_integer_past_the_widest_is_refused(rt: HostRuntime) {
     assert_eq!(rt; refused, Some(ScanRefusal::BigNumber { at: 0 }));
 }
 
-// The program has no value at time 0 by the approximation of the limit.
-fn is_undefined<R: Abort + AllocGlobal>(
-    rt: &R,
-    streams: &[Stream],
-    program: &Worked,
-    limit: u32,
-) -> Result<(), Fail> {
-    let (name, source) = (program.name, program.source);
-    let shown = text_at(rt.alloc(), streams, source, 0, limit)?;
-    assert_eq!(rt; shown.as_deref(), None, "{name} at limit {limit}: {source}");
+// The source has no value at time 0 by the approximation of the limit.
+fn is_undefined<R: Abort + AllocGlobal>(rt: &R, source: &str, limit: u32) -> Result<(), Fail> {
+    let shown = text_at(rt.alloc(), &[], source, 0, limit)?;
+    assert_eq!(rt; shown.as_deref(), None, "{source} at limit {limit}");
     Ok(())
 }
 
 #[test]
 fn without_a_value(rt: HostRuntime) -> Result<(), Fail> {
     for program in &UNDEFINED {
-        let streams = streams_of(rt.alloc(), program.inputs)?;
-        is_undefined(&rt, &streams, program, 50)?;
-        is_undefined(&rt, &streams, program, 100)?;
+        is_undefined(&rt, program.source, 50)?;
+        is_undefined(&rt, program.source, 100)?;
     }
     Ok(())
 }
 
-// The program has the value at the limit, and none just below it.
+// The source has the value at the limit, and none just below it.
 fn needs<R: Abort + AllocGlobal>(
     rt: &R,
-    streams: &[Stream],
-    program: &Worked,
+    source: &str,
     time: u32,
     limit: u32,
     text: &str,
 ) -> Result<(), Fail> {
-    let (name, source) = (program.name, program.source);
-    let shown = text_at(rt.alloc(), streams, source, time, limit)?;
-    assert_eq!(rt; shown.as_deref(), Some(text), "{name} at {time}: {source}");
-    let below = text_at(rt.alloc(), streams, source, time, limit.saturating_sub(1))?;
+    let shown = text_at(rt.alloc(), &[], source, time, limit)?;
+    assert_eq!(rt; shown.as_deref(), Some(text), "{source} at {time}");
+    let below = text_at(rt.alloc(), &[], source, time, limit.saturating_sub(1))?;
     assert_eq!(rt;
         below.as_deref(),
         None,
-        "{name} at {time} below limit {limit}: {source}"
+        "{source} at {time} below limit {limit}"
     );
     Ok(())
 }
 
 fn each_needs<R: Abort + AllocGlobal>(rt: &R, programs: &[Worked]) -> Result<(), Fail> {
     for program in programs {
-        let streams = streams_of(rt.alloc(), program.inputs)?;
-        for (time, (limit, text)) in program.least.iter().zip(program.values).enumerate() {
-            needs(rt, &streams, program, u32::try_from(time)?, *limit, text)?;
+        for (time, limit) in program.least.iter().enumerate() {
+            if let Some(text) = program.values.get(time) {
+                needs(rt, program.source, u32::try_from(time)?, *limit, text)?;
+            }
         }
     }
     Ok(())

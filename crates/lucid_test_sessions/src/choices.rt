@@ -1,6 +1,7 @@
 //! Whatever drops values and whatever is picked, a run of a worked program writes its lines.
+use crate::columns::options_of;
 use crate::program_run::run_of;
-use lucid_ports::{MemorySink, Options, Summary};
+use lucid_ports::{MemorySink, Summary};
 use lucid_retire::{Keep, Last, Nothing, Retire, Scrap, Scripted};
 use lucid_schedule::{Listed, Newest, Oldest, Pick};
 use lucid_store::Key;
@@ -20,10 +21,7 @@ fn summary_of<R: Retire, S: Pick>(
     pick: S,
 ) -> Result<Summary, Fail> {
     let setup = Setup::of(program.source, program.inputs);
-    let options = Options {
-        count: u32::try_from(program.count())?,
-        depth: 100,
-    };
+    let options = options_of(u32::try_from(program.count())?, 100)?;
     Ok(run_of(alloc, &setup, &options, out, policy, pick)??)
 }
 

@@ -105,8 +105,8 @@ static ROWS: [Row; 9] = [
     },
 ];
 
-// The options, where both numbers are in range.
-fn options_of(count: u32, depth: u32) -> Result<Options, Fail> {
+/// The options, where both numbers are in range.
+pub(crate) fn options_of(count: u32, depth: u32) -> Result<Options, Fail> {
     if count < 1 || count > MAX_ASKED || depth < 1 || depth > MAX_ASKED {
         return Err(Fail::new("an option is out of range"));
     }

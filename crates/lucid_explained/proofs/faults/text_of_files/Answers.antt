@@ -18,5 +18,5 @@ returns g c =
     told_both files [] after_source c.put_given.new.text.items
     (subst P c.new-text.ensures.items (told_wider first files c.new-text.result.items after_source (λ n h. Contains-append_left first (certificate ++ others) n h) c.in_ok-put_source.ensures))
     (told_both files after_source after_certificate c.put_given.new.text.items
-    (told_wider certificate files after_source after_certificate (λ n h. Contains-append_right first (certificate ++ others) n (Contains-append_left certificate others n h)) (subst R c.deref.ensures.value c.in_ok-put_certificate.ensures))
+    (told_wider certificate files after_source after_certificate (λ n h. Contains-append_right first (certificate ++ others) n (Contains-append_left certificate others n h)) (subst R c.deref.ensures c.in_ok-put_certificate.ensures))
     (told_wider others files after_certificate c.put_given.new.text.items (λ n h. Contains-append_right first (certificate ++ others) n (Contains-append_right certificate others n h)) (subst Q c.deref-2.ensures.value c.in_ok-put_given.ensures)))
