@@ -1,7 +1,8 @@
 -- What is said of a source that is refused.
-use Rattle.std.specs.Prelude.{◌≡◌, ℕ, List, ◌++◌, length, min, codes}
+use Rattle.std.specs.Prelude.{◌≡◌, ◌≢◌, ℕ, List, ◌++◌, length, min, codes}
 use Rattle.lucid_scan.specs.declared.token.Token.{Token}
 use Rattle.lucid_scan.specs.declared.refusal.ScanRefusal.{ScanRefusal}
+use Rattle.lucid_scan.specs.declared.refusal.ScanRefusal.TheVariants as scanned
 use Rattle.lucid_scan.specs.Tokens.{Tokens}
 use Rattle.lucid_scan.specs.Refusals.{Refuses}
 use Rattle.lucid_parse.specs.declared.refusal.ParseRefusal.TheVariants as refusal
@@ -25,7 +26,7 @@ depth_text file source at = place_text file source (min (length source) at) ++ n
 
 -- The text says why a source is refused, and where: the scanner refuses it, or the parser its tokens, or the names of its tree are at fault.
 pub data Explains (file source text : List ℕ) : Type 0 where
-  by_scan : (why : ScanRefusal) → Refuses source why → text ≡ scan_text file source why → Explains file source text
+  by_scan : (why : ScanRefusal) → why ≢ scanned.NoMemory → Refuses source why → text ≡ scan_text file source why → Explains file source text
   by_syntax : (tokens : List Token) (at : ℕ) (those : List Candidate) → Tokens source 0 tokens → IsRefused source tokens (refusal.Syntax at) → AreStanding source at those
       → text ≡ syntax_text file source at (read_at source tokens at) those → Explains file source text
   by_depth : (tokens : List Token) (at : ℕ) → Tokens source 0 tokens → IsRefused source tokens (refusal.TooNested at)

@@ -62,7 +62,7 @@ fn text_of_columns(alloc: Global, source: &[u8], tree: &Tree) -> Result<Vec<u8>,
 pub fn explain_columns(alloc: Global, source: &[u8]) -> Result<Vec<u8>, AllocError>
     ensures { IfOk result (λ text. TellsColumns source.now text.items) }
 {
-    match scoped_of(alloc, source) {
+    match scoped_of(alloc, source)? {
         Some(scoped) => text_of_columns(alloc, source, scoped.tree()),
         None => Ok(Vec::new(alloc)),
     }

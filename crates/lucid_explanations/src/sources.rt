@@ -1,5 +1,5 @@
 //! What is said of a source that is refused.
-ghost use Rattle.std.specs.Prelude.{◌≡◌, ◌≤◌, ◌++◌, length, IfOk, IfSome, IfNone, OnOk};
+ghost use Rattle.std.specs.Prelude.{◌≡◌, ◌≢◌, ◌≤◌, ◌++◌, length, IfOk, IfSome, IfNone, OnOk};
 ghost use Rattle.lucid_scan.specs.Refusals.{Refuses};
 ghost use Rattle.lucid_scan.specs.Tokens.{Tokens};
 ghost use Rattle.lucid_parse.specs.Spelled.{SpellsTree, IsRefused};
@@ -41,7 +41,8 @@ fn text_of_scan(
     source: &[u8],
     refusal: ScanRefusal,
 ) -> Result<Vec<u8>, AllocError>
-    requires { Refuses source.now refusal }
+    requires known { refusal ≢ ScanRefusal.NoMemory }
+    requires refused { Refuses source.now refusal }
     ensures { IfOk result (λ text. Explains file.now source.now text.items) }
 {
     let mut text = Vec::new(alloc);
@@ -212,6 +213,7 @@ pub fn explain_source(
 {
     match scan(alloc, source) {
         Ok(tokens) => explain_tokens(alloc, file, source, &tokens),
+        Err(ScanRefusal::NoMemory) => Err(AllocError),
         Err(refusal) => {
             let line = format!(in alloc; "{refusal}")?;
             let text = text_of_scan(alloc, file, source, refusal)?;

@@ -5,5 +5,5 @@ use Rattle.lucid_explanations.proofs.sources.text_of_scan.Goals as goal
 
 pub returns : goal.returns
 returns c =
-    by_scan c.args.refusal c.requires
+    by_scan c.args.refusal c.requires.known c.requires.refused
     (c.in_ok-put_scan.ensures ∙ ap (λ (z : List ℕ). z ++ scan_text c.args.file.now c.args.source.now c.args.refusal) c.new-text.ensures.items)
