@@ -1,5 +1,5 @@
 -- What is said of a value that is too deep: the judgment of cycles, and what it means for the value at a time.
-use Rattle.std.specs.Prelude.{◌≡◌, ℕ, ◌+◌, ◌*◌, List, [], ◌++◌, codes, decimal, nat_le, if◌then◌else◌}
+use Rattle.std.specs.Prelude.{◌≡◌, ◌≢◌, ℕ, ◌+◌, ◌*◌, List, [], ◌++◌, codes, decimal, nat_le, if◌then◌else◌}
 use Rattle.lucid_tree.specs.Tree.{PlainTree}
 use Rattle.lucid_scope.specs.declared.scoped.Scoped.{Scoped}
 use Rattle.lucid_scope.specs.Scoped.{scoped_tree, scoped_binding}
@@ -10,7 +10,7 @@ use Rattle.lucid_cycles.specs.declared.judgment.Judgment.{Judgment}
 use Rattle.lucid_cycles.specs.declared.judgment.Judgment.TheVariants.{Enough, Cycle}
 use Rattle.lucid_cycles.specs.declared.judgment.JudgeRefusal.{JudgeRefusal}
 use Rattle.lucid_cycles.specs.declared.judgment.JudgeRefusal.TheVariants.{Outside, TooMany, NoMemory}
-use Rattle.lucid_explanations.specs.Accepted.{IsSpelt}
+use Rattle.lucid_explanations.specs.Accepted.{IsSpelt, IsTurnedDown}
 
 -- the greatest depth limit
 abbrev pub most_depth : ℕ
@@ -45,11 +45,11 @@ refusal_text NoMemory = codes "no memory"
 abbrev pub unjudged_text : JudgeRefusal → List ℕ
 unjudged_text why = codes "`--cycles` says: " ++ (refusal_text why ++ unjudged_advice)
 
--- The text tells the judgment of cycles of the source, or why there is none; or nothing, where the source isn't accepted. A depth that is told is
+-- The text tells the judgment of cycles of the source, or why there is none; or nothing, where the source is refused. A depth that is told is
 -- enough: at it the value at the time is defined.
 pub data TellsDepth (source : List ℕ) (time : ℕ) (text : List ℕ) : Type 0 where
-  nothing : text ≡ [] → TellsDepth source time text
+  nothing : IsTurnedDown source → text ≡ [] → TellsDepth source time text
   judged : (scoped : Scoped) (judgment : Judgment) → IsSpelt source (scoped_tree scoped) → IsJudgment (scoped_tree scoped) (scoped_binding scoped) judgment
       → IsDefinedAsJudged (scoped_tree scoped) judgment → text ≡ judged_text (scoped_tree scoped) time judgment → TellsDepth source time text
-  unjudged : (scoped : Scoped) (why : JudgeRefusal) → IsSpelt source (scoped_tree scoped) → IsJudgeRefusal (scoped_tree scoped) why
+  unjudged : (scoped : Scoped) (why : JudgeRefusal) → why ≢ NoMemory → IsSpelt source (scoped_tree scoped) → IsJudgeRefusal (scoped_tree scoped) why
       → text ≡ unjudged_text why → TellsDepth source time text

@@ -1,14 +1,15 @@
 -- What is said of inputs that have no file: the name of each, where it stands first, and a definition in scope there whose name differs by little.
-use Rattle.std.specs.Prelude.{◌≡◌, ℕ, ◌≤◌, ◌<◌, List, [], ◌∷◌, ◌++◌, length, min, nat_lt, if◌then◌else◌, Option, None, Some, IfSome, All, Contains, codes, nat_eq}
+use Rattle.std.specs.Prelude.{◌≡◌, ℕ, ◌≤◌, ◌<◌, ◌⊎◌, List, [], ◌∷◌, ◌++◌, length, map, min, nat_lt, if◌then◌else◌, Option, None, Some, IfSome, All, Contains, codes, nat_eq}
 use Rattle.std.specs.Borrow.{Bor}
 use Rattle.std.specs.List.{slice_get, flat_map}
 use Rattle.strsim.specs.Edits.{levenshtein_row}
+use Rattle.lucid_tree.specs.Members.{In}
 use Rattle.lucid_tree.specs.declared.tree.Def.{Def}
 use Rattle.lucid_scope.specs.declared.scoped.Scoped.{Scoped}
 use Rattle.lucid_scope.specs.declared.scoped.Binding.TheVariants.{Input}
 use Rattle.lucid_scope.specs.Scoped.{scoped_tree, scoped_inputs, scoped_binding}
 use Rattle.lucid_causes.specs.declared.inputs.Lacking.{Lacking}
-use Rattle.lucid_explanations.specs.Accepted.{IsSpelt}
+use Rattle.lucid_explanations.specs.Accepted.{IsSpelt, IsTurnedDown}
 use Rattle.lucid_explanations.specs.Positions.{where_text}
 use Rattle.lucid_explanations.specs.Definitions.{definition_text}
 use Rattle.lucid_explanations.specs.Scopes.{in_scope}
@@ -33,6 +34,22 @@ pub record IsLacking (scoped : Scoped) (given : List (List ℕ)) (l : Lacking) :
   pub free : Contains given l.name.now → ⊥
   pub first : StandsFirst scoped stream l.at
   pub near : IfSome l.near (λ d. Contains (in_scope l.at (scoped_tree scoped)) d.now × IsNear l.name.now d.now.name)
+
+-- The input of this number has this name and no file among those given, and stands at a place before the end.
+pub record IsWanted (scoped : Scoped) (given : List (List ℕ)) (end stream : ℕ) (name : List ℕ) : Type 0 where
+  pub named : slice_get (scoped_inputs scoped) stream ≡ Some name
+  pub free : Contains given name → ⊥
+  pub at : ℕ
+  pub before : at < end
+  pub stands : StandsAt scoped stream at
+
+abbrev pub name_of : Lacking → List ℕ
+name_of l = l.name.now
+
+-- They are six, or all such inputs are among them.
+abbrev pub AreAll : Scoped → (given : List (List ℕ)) → (end : ℕ) → List Lacking → Type 0
+AreAll scoped given end those =
+    (length those ≡ 6) ⊎ ((stream : ℕ) (name : List ℕ) → IsWanted scoped given end stream name → In name (map name_of those))
 
 -- one more of them, where there is one and they are fewer than six
 abbrev pub with_one : List Lacking → Option Lacking → List Lacking
@@ -60,8 +77,8 @@ lacking_advice = codes "A name that nothing defines is an input. One of them may
 abbrev pub inputs_text : (source : List ℕ) → List Lacking → List ℕ
 inputs_text source those = lacking_advice ++ (flat_map word_text those ++ (codes "\n" ++ flat_map (lacking_text source) those))
 
--- The text tells inputs of the source that have no file among those given, at most six; or nothing, where the source isn't accepted.
+-- The text tells the inputs of the source that have no file among those given, or six of them; or nothing, where the source is refused.
 pub data TellsInputs (source : List ℕ) (given : List (List ℕ)) (text : List ℕ) : Type 0 where
-  nothing : text ≡ [] → TellsInputs source given text
+  nothing : IsTurnedDown source → text ≡ [] → TellsInputs source given text
   lacking : (scoped : Scoped) (those : List Lacking) → IsSpelt source (scoped_tree scoped)
-      → All (IsLacking scoped given) those → length those ≤ 6 → text ≡ inputs_text source those → TellsInputs source given text
+      → All (IsLacking scoped given) those → length those ≤ 6 → AreAll scoped given (length source) those → text ≡ inputs_text source those → TellsInputs source given text

@@ -2,7 +2,7 @@
 use Rattle.std.specs.Prelude.{◌≡◌, ℕ, List, [], ◌++◌, codes, Contains, ◌⊎◌}
 use Rattle.lucid_scope.specs.declared.scoped.Scoped.{Scoped}
 use Rattle.lucid_scope.specs.Scoped.{scoped_tree, scoped_inputs}
-use Rattle.lucid_explanations.specs.Accepted.{IsSpelt}
+use Rattle.lucid_explanations.specs.Accepted.{IsSpelt, IsTurnedDown}
 
 -- Of these inputs the name is one, and the only one without a file among those given.
 pub record IsOnly (inputs given : List (List ℕ)) (name : List ℕ) : Type 0 where
@@ -10,11 +10,16 @@ pub record IsOnly (inputs given : List (List ℕ)) (name : List ℕ) : Type 0 wh
   pub free : Contains given name → ⊥
   pub others : (n : List ℕ) → Contains inputs n → Contains given n ⊎ (n ≡ name)
 
+-- None of these inputs is the only one without a file.
+abbrev pub IsNoneOnly : (inputs given : List (List ℕ)) → Type 0
+IsNoneOnly inputs given = (name : List ℕ) → IsOnly inputs given name → ⊥
+
 abbrev pub prompt_text : (name : List ℕ) → List ℕ
 prompt_text name = codes "The input " ++ (name ++ codes " is read from here, a value on each line.\n")
 
--- The text tells the only input of the source without a file; or nothing, where there is no such input or the source isn't accepted.
+-- The text tells the only input of the source without a file; or nothing, where there is no such input or the source is refused.
 pub data TellsPrompt (source : List ℕ) (given : List (List ℕ)) (text : List ℕ) : Type 0 where
-  nothing : text ≡ [] → TellsPrompt source given text
+  nothing : IsTurnedDown source → text ≡ [] → TellsPrompt source given text
+  not_one : (scoped : Scoped) → IsSpelt source (scoped_tree scoped) → IsNoneOnly (scoped_inputs scoped) given → text ≡ [] → TellsPrompt source given text
   only : (scoped : Scoped) (name : List ℕ) → IsSpelt source (scoped_tree scoped) → IsOnly (scoped_inputs scoped) given name
       → text ≡ prompt_text name → TellsPrompt source given text

@@ -1,5 +1,5 @@
 //! What is said of a value that is too deep.
-ghost use Rattle.std.specs.Prelude.{◌≡◌, ◌+◌, ◌*◌, ◌≤◌, ◌++◌, codes, decimal, IfOk, OnOk};
+ghost use Rattle.std.specs.Prelude.{◌≡◌, ◌≢◌, ◌+◌, ◌*◌, ◌≤◌, ◌++◌, codes, decimal, IfOk, OnOk};
 ghost use Rattle.std.specs.Option.{SomeIff};
 ghost use Rattle.lucid_scope.specs.Scoped.{scoped_tree, scoped_binding};
 ghost use Rattle.lucid_cycles.specs.Judgments.{IsJudgment, IsJudgeRefusal};
@@ -139,6 +139,7 @@ fn text_of_refusal(
     time: u64,
 ) -> Result<Vec<u8>, AllocError>
     requires spelt { IsSpelt source.now (scoped_tree scoped.now) }
+    requires known { refusal.now ≢ JudgeRefusal.NoMemory }
     requires refused { IsJudgeRefusal (scoped_tree scoped.now) refusal.now }
     ensures { IfOk result (λ text. TellsDepth source.now time text.items) }
 {
@@ -147,16 +148,30 @@ fn text_of_refusal(
     Ok(text)
 }
 
+// What is said of a source by what its names belong to.
+fn text_of_scoped(
+    alloc: Global,
+    source: &[u8],
+    scoped: &Scoped,
+    time: u64,
+) -> Result<Vec<u8>, AllocError>
+    requires { IsSpelt source.now (scoped_tree scoped.now) }
+    ensures { IfOk result (λ text. TellsDepth source.now time text.items) }
+{
+    match judge(alloc, scoped) {
+        Ok(judgment) => text_of_judgment(alloc, source, scoped, &judgment, time),
+        Err(JudgeRefusal::NoMemory) => Err(AllocError),
+        Err(refusal) => text_of_refusal(alloc, source, scoped, &refusal, time),
+    }
+}
+
 /// What is said of a source whose value at the time is too deep: what `--cycles` says of it, and the depth that is enough for the time, where
 /// one is. Nothing of a source that is refused.
 pub fn explain_depth(alloc: Global, source: &[u8], time: u64) -> Result<Vec<u8>, AllocError>
     ensures { IfOk result (λ text. TellsDepth source.now time text.items) }
 {
-    let Some(scoped) = scoped_of(alloc, source) else {
-        return Ok(Vec::new(alloc));
-    };
-    match judge(alloc, &scoped) {
-        Ok(judgment) => text_of_judgment(alloc, source, &scoped, &judgment, time),
-        Err(refusal) => text_of_refusal(alloc, source, &scoped, &refusal, time),
+    match scoped_of(alloc, source)? {
+        Some(scoped) => text_of_scoped(alloc, source, &scoped, time),
+        None => Ok(Vec::new(alloc)),
     }
 }

@@ -1,9 +1,9 @@
 //! What is said of inputs that have no file.
-ghost use Rattle.std.specs.Prelude.{◌≡◌, ◌≤◌, ◌++◌, ◌↔◌, length, min, All, Contains, Some, IfOk, IfSome, IsTrue, OnOk};
+ghost use Rattle.std.specs.Prelude.{◌≡◌, ◌≤◌, ◌++◌, ◌↔◌, length, min, All, Contains, Some, ℕ, ◌<◌, IfOk, IfSome, IfNone, IsTrue, OnOk};
 ghost use Rattle.std.specs.List.{slice_get, flat_map};
 ghost use Rattle.lucid_scope.specs.Scoped.{scoped_tree, scoped_inputs};
 ghost use Rattle.lucid_explanations.specs.Accepted.{IsSpelt};
-ghost use Rattle.lucid_causes.specs.Inputs.{StandsAt, StandsFirst, IsNear, IsLacking, with_one, near_text, first_text, lacking_text, word_text, inputs_text, TellsInputs};
+ghost use Rattle.lucid_causes.specs.Inputs.{StandsAt, StandsFirst, IsNear, IsLacking, IsWanted, AreAll, with_one, near_text, first_text, lacking_text, word_text, inputs_text, TellsInputs};
 ghost use Rattle.lucid_explanations.specs.Scopes.{lent};
 
 use lucid_explanations::{find_in_scope, put_definition, put_where, scoped_of};
@@ -42,7 +42,8 @@ fn stands_at(scoped: &Scoped, stream: u32, at: u32) -> bool
 
 // The first place before the end at which a name belongs to the input of this number.
 fn first_place(scoped: &Scoped, stream: u32, end: u32) -> Option<u32>
-    ensures { IfSome result (λ at. StandsFirst scoped.now stream at) }
+    ensures first { IfSome result (λ at. StandsFirst scoped.now stream at) }
+    ensures none { IfNone result ((at : ℕ) → at < end → StandsAt scoped.now stream at → ⊥) }
 {
     for at in 0..end {
         if stands_at(scoped, stream, at) {
@@ -107,7 +108,9 @@ fn lacking_of<'a>(
 ) -> Result<Option<Lacking<'a>>, AllocError>
     requires named { slice_get (scoped_inputs scoped.now) stream ≡ Some name.now }
     requires free { Contains given.now name.now → ⊥ }
-    ensures { IfOk result (λ found. IfSome found (IsLacking scoped.entry.now given.now)) }
+    ensures lacking { IfOk result (λ found. IfSome found (IsLacking scoped.entry.now given.now)) }
+    ensures named { IfOk result (λ found. IfSome found (λ l. l.name.now ≡ name.entry.now)) }
+    ensures none { IfOk result (λ found. IfNone found (IsWanted scoped.entry.now given.now end stream name.entry.now → ⊥)) }
 {
     let Some(at) = first_place(scoped, stream, end) else {
         return Ok(None);
@@ -136,7 +139,9 @@ fn lacking_if<'a>(
     has_room: bool,
 ) -> Result<Option<Lacking<'a>>, AllocError>
     requires { slice_get (scoped_inputs scoped.now) stream ≡ Some name.now }
-    ensures { IfOk result (λ found. IfSome found (IsLacking scoped.entry.now given.now)) }
+    ensures lacking { IfOk result (λ found. IfSome found (IsLacking scoped.entry.now given.now)) }
+    ensures named { IfOk result (λ found. IfSome found (λ l. l.name.now ≡ name.entry.now)) }
+    ensures none { IfOk result (λ found. IfNone found (IsTrue has_room → IsWanted scoped.entry.now given.now end stream name.entry.now → ⊥)) }
 {
     if !has_room || is_given(given, name) {
         return Ok(None);
@@ -162,7 +167,7 @@ fn add_lacking<'a>(
     }
 }
 
-// The inputs without a file among those given, at most six.
+// The inputs without a file among those given that stand before the end, or six of them.
 fn all_lacking<'a>(
     alloc: Global,
     scoped: &'a Scoped,
@@ -172,6 +177,7 @@ fn all_lacking<'a>(
     requires { length (scoped_inputs scoped.now) ≤ 1048576 }
     ensures lacking { IfOk result (λ those. All (IsLacking scoped.entry.now given.now) those.items) }
     ensures few { IfOk result (λ those. length those.items ≤ 6) }
+    ensures all { IfOk result (λ those. AreAll scoped.entry.now given.now end those.items) }
 {
     let mut those = Vec::new(alloc);
     let mut stream = 0;
@@ -276,7 +282,7 @@ fn text_of(
 pub fn explain_inputs(alloc: Global, source: &[u8], given: &[Name]) -> Result<Vec<u8>, AllocError>
     ensures { IfOk result (λ text. TellsInputs source.now given.now text.items) }
 {
-    match scoped_of(alloc, source) {
+    match scoped_of(alloc, source)? {
         Some(scoped) => text_of(alloc, source, &scoped, given),
         None => Ok(Vec::new(alloc)),
     }

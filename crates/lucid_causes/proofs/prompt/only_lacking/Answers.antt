@@ -1,7 +1,7 @@
 use Rattle.std.proofs.Common.{ℕ, ◌+◌, List, Option, rules, sym, subst, arith}
 use Rattle.std.specs.Borrow.{Bor}
 use Rattle.std.specs.Option.{option_copied}
-use Rattle.lucid_causes.proofs.Only.{Passed, passed_given, passed_lacking, passed_ended, unfound}
+use Rattle.lucid_causes.proofs.Only.{Passed, passed_given, passed_lacking, passed_ended, none_ended, passed_seconded, unfound}
 use Rattle.lucid_causes.proofs.prompt.only_lacking.Goals as goal
 use Rattle.lucid_causes.proofs.prompt.only_lacking.Goals.{then-not-is_given+else-is_some, else-not-is_given}
 
@@ -19,4 +19,12 @@ loop-name-preserved c =
     ]
 
 pub returns : goal.returns
-returns c = passed_ended c.args.inputs.now c.args.given.now c.loop-name.name-index c.loop-name.only (omega (arith, c.loop-name-test.false)) c.loop-name.invariant
+returns c = record {
+  only = passed_ended c.args.inputs.now c.args.given.now c.loop-name.name-index c.loop-name.only (omega (arith, c.loop-name-test.false)) c.loop-name.invariant;
+  none = none_ended c.args.inputs.now c.args.given.now c.loop-name.name-index c.loop-name.only (omega (arith, c.loop-name-test.false)) c.loop-name.invariant;
+}
+
+pub returns-then-is_some-clause-none : goal.returns-then-is_some-clause-none
+returns-then-is_some-clause-none c =
+    passed_seconded c.args.inputs.now c.args.given.now c.loop-name.name-index c.name-item.result c.loop-name.only c.requires c.loop-name-test.true c.name-item.is
+    (search (rules, c.if-not-is_given.true, c.is_given.ensures)) (search (rules, c.if-is_some.true, c.is_some.ensures)) c.loop-name.invariant
