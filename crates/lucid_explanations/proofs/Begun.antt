@@ -3,14 +3,20 @@ use Rattle.lucid_explanations.proofs.Common.{◌≡◌, ℕ, zero, suc, ◌≤�
 use Rattle.lucid_scan.specs.declared.token.Token.{Token}
 use Rattle.lucid_parse.specs.declared.refusal.ParseRefusal.{ParseRefusal}
 use Rattle.lucid_scan.specs.Tokens.{Tokens}
-use Rattle.lucid_scan.specs.Laws.{IsInOrder, TokensAreInOrder}
+use Rattle.lucid_scan.specs.Laws.{IsInOrder, TokensAreInOrder, TokensAreUnique, TokensAreNotRefused}
+use Rattle.lucid_scan.specs.Refusals.{Refuses}
+use Rattle.lucid_scan.specs.declared.refusal.ScanRefusal.{ScanRefusal}
+use Rattle.lucid_scan.specs.declared.refusal.ScanRefusal.TheVariants as scanned
+use Rattle.lucid_parse.specs.Laws.{TerminalsAreUnique}
+use Rattle.std.proofs.Common.{◌≢◌, ◌++◌, ◌+◌, drop, ap, ◌∙◌, append_assoc}
+use Rattle.std.proofs.lemmas.List.{take-append-drop}
 use Rattle.lucid_tree.specs.Tree.{PlainTree}
 use Rattle.lucid_parse.specs.Grammar.{PlacedTerminal, Spells}
 use Rattle.lucid_parse.specs.Terminals.{Terminals, terminals_none, terminals_next}
 use Rattle.lucid_parse.specs.Verdict.{Begins, IsFault}
 use Rattle.lucid_parse.specs.Spelled.{SpellsTree, IsRefused}
 use Rattle.lucid_parse.specs.declared.refusal.ParseRefusal.TheVariants as refusal
-use Rattle.lucid_explanations.specs.Standing.{GoesOn}
+use Rattle.lucid_explanations.specs.Standing.{GoesOn, IsBegun}
 
 -- a program begins with its own terminals
 spelled_begins : (ws : List PlacedTerminal) (e : PlainTree) → Spells 0 ws e → Begins ws
@@ -87,3 +93,30 @@ answered source ts (Ok e) o scanned spelt refused is = let P : Option ParseRefus
     subst P (sym is) (gone_on source ts e scanned spelt)
 answered source ts (Err why) o scanned spelt refused is = let P : Option ParseRefusal → Type 0 = λ p. MatchOption p (GoesOn source) (λ why. IsRefused source ts why) in
     subst P (sym is) refused
+
+-- What a program begins with is begun so too.
+front_begins : (ws : List PlacedTerminal) (n : ℕ) → Begins ws → Begins (take n ws)
+front_begins ws n b =
+    let P : List PlacedTerminal → Type 0 = λ vs. Spells 0 vs b.1 in
+    let parts : take n ws ++ (drop n ws ++ b.0) ≡ ws ++ b.0 =
+    sym (append_assoc (take n ws) (drop n ws) b.0) ∙ ap (λ (vs : List PlacedTerminal). vs ++ b.0) (take-append-drop n ws) in
+    (drop n ws ++ b.0, b.1, subst P (sym parts) b.2)
+
+-- Where some program goes on with the bytes, their tokens have no fault before the end.
+pub begun_ends : (source : List ℕ) (ts : List Token) (ws : List PlacedTerminal) (at : ℕ) → TokensAreUnique → TerminalsAreUnique → Tokens source 0 ts
+    → Terminals source ts ws → IsFault ws (length source) at → GoesOn source → at ≡ length source
+begun_ends source ts ws at one_tokens one_terminals scanned named fault g =
+    let P : List Token → Type 0 = λ us. Terminals source us g.terminals in
+    let Q : List PlacedTerminal → Type 0 = λ vs. Begins vs in
+    let same : g.terminals ≡ ws = one_terminals source ts g.terminals ws (subst P (one_tokens source g.tokens ts g.scanned scanned) g.stand_for) named in
+    let begun : Begins ws = subst Q same g.begins in
+    elim (cases_lt fault.index (length ws)) [
+      | inl below ↦ absurd (fault.through below (front_begins ws (fault.index + 1) begun))
+      | inr above ↦
+          fault.place
+          ∙ get_or_past (map (λ (one : PlacedTerminal). one.at) ws) fault.index (length source) (omega (arith, above, length-map ws (λ (one : PlacedTerminal). one.at)))
+    ]
+
+-- Bytes that the scanner refuses are begun by no program.
+pub not_begun : (source : List ℕ) (why : ScanRefusal) → TokensAreNotRefused → Refuses source why → why ≢ scanned.NoMemory → IsBegun source → ⊥
+not_begun source why law refused known g = known (law source g.goes_on.tokens why g.goes_on.scanned g.short refused)

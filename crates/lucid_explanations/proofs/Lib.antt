@@ -3,3 +3,4 @@ pub mod Grows
 pub mod Begun
 pub mod Stuck
 pub mod Lent
+pub mod First

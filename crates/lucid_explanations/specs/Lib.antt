@@ -3,6 +3,7 @@ pub mod Shown
 pub mod Standing
 pub mod Advice
 pub mod Syntax
+pub mod Reported
 pub mod Sources
 pub mod Scopes
 pub mod Definitions

@@ -31,12 +31,13 @@ abbrev pub is_plain : DefKind → Bool
 is_plain (Plain right) = true
 is_plain kind = false
 
--- Which definitions are told: the functions; those of plain names; those of the name; those of the name that are no functions; that with a name of
--- its own or a parameter at the place.
+-- Which definitions are told: the functions; those of plain names; those of the name; those of the name that stand before the place; those of the name
+-- that are no functions; that with a name of its own or a parameter at the place.
 abbrev pub fits : Wanted → (name : List ℕ) → (at : ℕ) → Def → Bool
 fits wanted.Functions name at d = is_function d.kind
 fits wanted.Columns name at d = is_plain d.kind
 fits wanted.Named name at d = same_bytes d.name name
+fits wanted.Earlier name at d = same_bytes d.name name && nat_lt d.at at
 fits wanted.Plainly name at d = same_bytes d.name name && not (is_function d.kind)
 fits wanted.Headed name at d = is_headed at d.at d.kind
 
@@ -75,7 +76,7 @@ arity_advice = codes "A call has as many arguments as the function has parameter
 -- what is said of a place at which a name stands again, by the definitions in scope
 abbrev pub twice_text : (source : List ℕ) → List Def → (at : ℕ) → List ℕ
 twice_text source defs at =
-    if defines_at at defs then advised_text source defs at twice_advice wanted.Named 1 else advised_text source defs at parameter_advice wanted.Headed 1
+    if defines_at at defs then advised_text source defs at twice_advice wanted.Earlier 1 else advised_text source defs at parameter_advice wanted.Headed 1
 
 -- what is said of a refusal, by the definitions in scope at its place
 abbrev pub said_text : (source : List ℕ) → List Def → ScopeRefusal → List ℕ

@@ -13,6 +13,7 @@ use Rattle.lucid_scope.specs.Bindings.{IsLeastFault}
 use Rattle.lucid_explanations.specs.declared.candidates.Candidate.{Candidate}
 use Rattle.lucid_explanations.specs.Shown.{place_text}
 use Rattle.lucid_explanations.specs.Standing.{AreStanding}
+use Rattle.lucid_explanations.specs.Reported.{scan_line, syntax_line, nested_line, names_line}
 use Rattle.lucid_explanations.specs.Advice.{scan_text}
 use Rattle.lucid_explanations.specs.Syntax.{read_at, syntax_text}
 use Rattle.lucid_explanations.specs.Names.{names_text}
@@ -24,12 +25,13 @@ nested_advice = codes "This stands more than 400 levels deep: give an inner part
 abbrev pub depth_text : (file source : List ℕ) → (at : ℕ) → List ℕ
 depth_text file source at = place_text file source (min (length source) at) ++ nested_advice
 
--- The text says why a source is refused, and where: the scanner refuses it, or the parser its tokens, or the names of its tree are at fault.
-pub data Explains (file source text : List ℕ) : Type 0 where
-  by_scan : (why : ScanRefusal) → why ≢ scanned.NoMemory → Refuses source why → text ≡ scan_text file source why → Explains file source text
+-- The text says why a source is refused, and where, and the line reports it: the scanner refuses it, or the parser its tokens, or the names of
+-- its tree are at fault.
+pub data Explains (file source line text : List ℕ) : Type 0 where
+  by_scan : (why : ScanRefusal) → why ≢ scanned.NoMemory → Refuses source why → line ≡ scan_line why → text ≡ scan_text file source why → Explains file source line text
   by_syntax : (tokens : List Token) (at : ℕ) (those : List Candidate) → Tokens source 0 tokens → IsRefused source tokens (refusal.Syntax at) → AreStanding source at those
-      → text ≡ syntax_text file source at (read_at source tokens at) those → Explains file source text
+      → line ≡ syntax_line at → text ≡ syntax_text file source at (read_at source tokens at) those → Explains file source line text
   by_depth : (tokens : List Token) (at : ℕ) → Tokens source 0 tokens → IsRefused source tokens (refusal.TooNested at)
-      → text ≡ depth_text file source at → Explains file source text
+      → line ≡ nested_line at → text ≡ depth_text file source at → Explains file source line text
   by_names : (tokens : List Token) (tree : PlainTree) (why : ScopeRefusal) → Tokens source 0 tokens → SpellsTree source tokens tree → IsLeastFault tree why
-      → text ≡ names_text file source tree why → Explains file source text
+      → line ≡ names_line why → text ≡ names_text file source tree why → Explains file source line text

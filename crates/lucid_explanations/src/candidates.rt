@@ -1,11 +1,14 @@
 //! Which tokens may stand at a place.
-ghost use Rattle.std.specs.Prelude.{◌≡◌, ◌≤◌, ◌∷◌, ◌++◌, length, take, IfOk, IsTrue, MatchOption};
+ghost use Rattle.std.specs.Prelude.{◌≡◌, ℕ, ◌-◌, ◌≤◌, List, ◌∷◌, ◌++◌, length, map, take, IfOk, OnOk, IsTrue, MatchOption};
+ghost use Rattle.std.specs.Option.{option_to_list};
 ghost use Rattle.lucid_scan.specs.Tokens.{Tokens};
 ghost use Rattle.lucid_parse.specs.Spelled.{IsRefused};
-ghost use Rattle.lucid_explanations.specs.Standing.{GoesOn, MayStand, AreStanding};
+ghost use Rattle.lucid_explanations.specs.declared.candidates.Candidate.{Candidate as Told};
+ghost use Rattle.lucid_explanations.specs.Standing.{GoesOn, IsBegun, MayStand, tried, text_and_told, AreFirst, AreStanding};
 
+use lucid_parse::laws::terminals_are_unique;
 use lucid_parse::{ParseRefusal, parse};
-use lucid_scan::laws::tokens_are_in_order;
+use lucid_scan::laws::{tokens_are_in_order, tokens_are_not_refused, tokens_are_unique};
 use lucid_scan::{ScanRefusal, Token, scan};
 use std::alloc::{AllocError, Global};
 
@@ -95,18 +98,18 @@ fn refusal_of(alloc: Global, bytes: &[u8], tokens: &[Token]) -> Option<ParseRefu
     parse(alloc, bytes, tokens).err()
 }
 
-// Whether some program goes on with the bytes.
-#[tactic(auto, using(crate::proofs::Begun::begun_at_end, crate::proofs::Begun::nested_goes_on))]
-fn goes_on(alloc: Global, bytes: &[u8]) -> Result<bool, AllocError>
-    ensures { IfOk result (λ b. IsTrue b → GoesOn bytes.now) }
+// Whether some program goes on with the bytes, which have these tokens.
+#[tactic(auto, using(crate::proofs::Begun::begun_at_end, crate::proofs::Begun::nested_goes_on, crate::proofs::Begun::begun_ends))]
+fn tokens_go_on(alloc: Global, bytes: &[u8], tokens: &[Token]) -> Result<bool, AllocError>
+    requires short { length bytes.now ≤ 1048576 }
+    requires scanned { Tokens bytes.now 0 tokens.now }
+    ensures yes { IfOk result (λ b. IsTrue b → GoesOn bytes.now) }
+    ensures no { IfOk result (λ b. GoesOn bytes.now → IsTrue b) }
 {
     tokens_are_in_order();
-    let tokens = match scan(alloc, bytes) {
-        Ok(tokens) => tokens,
-        Err(ScanRefusal::NoMemory) => return Err(AllocError),
-        Err(_) => return Ok(false),
-    };
-    match refusal_of(alloc, bytes, &tokens) {
+    tokens_are_unique();
+    terminals_are_unique();
+    match refusal_of(alloc, bytes, tokens) {
         None => Ok(true),
         Some(ParseRefusal::TooNested { .. }) => Ok(true),
         Some(ParseRefusal::Syntax { at }) => Ok(at as usize == bytes.len()),
@@ -114,9 +117,24 @@ fn goes_on(alloc: Global, bytes: &[u8]) -> Result<bool, AllocError>
     }
 }
 
+// Whether some program goes on with the bytes.
+#[tactic(auto, using(crate::proofs::Begun::not_begun))]
+fn goes_on(alloc: Global, bytes: &[u8]) -> Result<bool, AllocError>
+    ensures yes { IfOk result (λ b. IsTrue b → IsBegun bytes.now) }
+    ensures no { IfOk result (λ b. IsBegun bytes.now → IsTrue b) }
+{
+    tokens_are_not_refused();
+    match scan(alloc, bytes) {
+        Ok(tokens) => tokens_go_on(alloc, bytes, &tokens),
+        Err(ScanRefusal::NoMemory) => Err(AllocError),
+        Err(_) => Ok(false),
+    }
+}
+
 // Whether the text may stand behind the bytes.
 fn may_stand(alloc: Global, before: &[u8], text: &[u8]) -> Result<bool, AllocError>
-    ensures { IfOk result (λ b. IsTrue b → GoesOn (before.now ++ (10 ∷ text.now))) }
+    ensures yes { IfOk result (λ b. IsTrue b → IsBegun (before.now ++ (10 ∷ text.now))) }
+    ensures no { IfOk result (λ b. IsBegun (before.now ++ (10 ∷ text.now)) → IsTrue b) }
 {
     let mut bytes = Vec::from_slice(alloc, before)?;
     bytes.extend_from_slice(b"\n")?;
@@ -124,16 +142,60 @@ fn may_stand(alloc: Global, before: &[u8], text: &[u8]) -> Result<bool, AllocErr
     goes_on(alloc, &bytes)
 }
 
-/// Some of the tokens that may stand at a place, the commonest first: at most six.
+// The candidate, where there is room for it and it may stand at the place.
+fn if_standing(
+    alloc: Global,
+    source: &[u8],
+    at: usize,
+    candidate: &Candidate,
+    room: usize,
+) -> Result<Option<Candidate>, AllocError>
+    requires { at ≤ length source.now }
+    ensures few { IfOk result (λ found. length (option_to_list found) ≤ room) }
+    ensures first { IfOk result (λ found. (these : List (List ℕ × List ℕ)) (those : List Told) → AreFirst source.now at (room - length (option_to_list found)) these those
+        → AreFirst source.now at room (text_and_told candidate.now ∷ these) (option_to_list found ++ those)) }
+{
+    if room == 0 {
+        return Ok(None);
+    }
+    if may_stand(alloc, &source[..at], candidate.text)? {
+        Ok(Some(*candidate))
+    } else {
+        Ok(None)
+    }
+}
+
+// Adds a candidate, where there is one.
+fn add_found(those: &mut Vec<Candidate>, found: Option<Candidate>) -> Result<(), AllocError>
+    ensures { OnOk result (those.new.items ≡ those.old.items ++ option_to_list found) }
+{
+    match found {
+        Some(candidate) => {
+            those.push(candidate)?;
+            Ok(())
+        }
+        None => Ok(()),
+    }
+}
+
+// The candidates.
+fn candidates() -> &'static [Candidate]
+    ensures { map text_and_told result.now ≡ tried }
+{
+    &CANDIDATES
+}
+
+/// The first of the tokens that may stand at a place, the commonest first: at most six.
 pub fn standing(alloc: Global, source: &[u8], at: usize) -> Result<Vec<Candidate>, AllocError>
     requires { at ≤ length source.now }
     ensures { IfOk result (λ those. AreStanding source.now at those.items) }
 {
     let mut those = Vec::new(alloc);
-    for candidate in &CANDIDATES {
-        if those.len() < MOST_TOLD && may_stand(alloc, &source[..at], candidate.text)? {
-            those.push(*candidate)?;
-        }
+    let candidates = candidates();
+    for candidate in candidates {
+        let room = MOST_TOLD - those.len();
+        let found = if_standing(alloc, source, at, candidate, room)?;
+        add_found(&mut those, found)?;
     }
     Ok(those)
 }

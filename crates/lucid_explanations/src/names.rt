@@ -41,6 +41,8 @@ pub(crate) enum Wanted {
     Columns,
     /// Those of the name.
     Named,
+    /// Those of the name that stand before the place.
+    Earlier,
     /// Those of the name that are no functions.
     Plainly,
     /// That whose own name, or a parameter of which, stands at the place.
@@ -95,6 +97,7 @@ fn fits(wanted: Wanted, name: &[u8], at: u32, def: &Def) -> bool
         Wanted::Functions => is_function(&def.kind),
         Wanted::Columns => is_plain(&def.kind),
         Wanted::Named => def.name.bytes() == name,
+        Wanted::Earlier => def.name.bytes() == name && def.at < at,
         Wanted::Plainly => def.name.bytes() == name && !is_function(&def.kind),
         Wanted::Headed => is_headed(def, at),
     }
@@ -177,7 +180,7 @@ fn put_twice(text: &mut Vec<u8>, source: &[u8], defs: &[&Def], at: u32) -> Resul
     ensures { OnOk result (text.new.items ≡ text.old.items ++ twice_text source.now (lent defs.now) at) }
 {
     if defines_at(defs, at) {
-        put_advised(text, source, defs, at, TWICE, Wanted::Named, 1)
+        put_advised(text, source, defs, at, TWICE, Wanted::Earlier, 1)
     } else {
         put_advised(text, source, defs, at, PARAMETER, Wanted::Headed, 1)
     }

@@ -10,6 +10,7 @@ ghost use Rattle.lucid_explanations.specs.Sources.{nested_advice, depth_text, Ex
 
 use crate::advice::put_scan;
 use crate::names::put_names;
+use crate::reported::{put_line_at, put_names_line, put_scan_line};
 use crate::shown::put_place;
 use crate::syntax::put_syntax;
 use lucid_parse::{ParseRefusal, parse};
@@ -22,8 +23,8 @@ use std::alloc::{AllocError, Global};
 /// What is reported of a source that is refused, and what is said of it.
 #[derive(Drop)]
 pub struct Explanation {
-    /// The line of the report, without its end.
-    pub line: String,
+    /// The line of the report, with its end.
+    pub line: Vec<u8>,
     pub text: Vec<u8>,
 }
 
@@ -35,39 +36,43 @@ fn nested_advice() -> &'static [u8]
 }
 
 // What is said of a source that the scanner refuses.
-fn text_of_scan(
+fn said_of_scan(
     alloc: Global,
     file: &[u8],
     source: &[u8],
     refusal: ScanRefusal,
-) -> Result<Vec<u8>, AllocError>
+) -> Result<Explanation, AllocError>
     requires known { refusal ≢ ScanRefusal.NoMemory }
     requires refused { Refuses source.now refusal }
-    ensures { IfOk result (λ text. Explains file.now source.now text.items) }
+    ensures { IfOk result (λ said. Explains file.now source.now said.line.items said.text.items) }
 {
+    let mut line = Vec::new(alloc);
+    put_scan_line(&mut line, refusal)?;
     let mut text = Vec::new(alloc);
     put_scan(&mut text, file, source, refusal)?;
-    Ok(text)
+    Ok(Explanation { line, text })
 }
 
 // What is said of a source whose tokens go wrong at the place.
 #[tactic(auto, using(crate::proofs::Begun::fault_within))]
-fn text_of_syntax(
+fn said_of_syntax(
     alloc: Global,
     file: &[u8],
     source: &[u8],
     tokens: &[Token],
     at: u32,
-) -> Result<Vec<u8>, AllocError>
+) -> Result<Explanation, AllocError>
     requires short { length source.now ≤ 1048576 }
     requires scanned { Tokens source.now 0 tokens.now }
     requires refused { IsRefused source.now tokens.now (ParseRefusal.Syntax at) }
-    ensures { IfOk result (λ text. Explains file.now source.now text.items) }
+    ensures { IfOk result (λ said. Explains file.now source.now said.line.items said.text.items) }
 {
     tokens_are_in_order();
+    let mut line = Vec::new(alloc);
+    put_line_at(&mut line, b"syntax at ", at)?;
     let mut text = Vec::new(alloc);
     put_syntax(alloc, &mut text, file, source, tokens, at)?;
-    Ok(text)
+    Ok(Explanation { line, text })
 }
 
 // Appends what is said of a place at which a tree is too deep.
@@ -80,45 +85,27 @@ fn put_depth(text: &mut Vec<u8>, file: &[u8], source: &[u8], at: u32) -> Result<
 }
 
 // What is said of a source whose tree is too deep at the place.
-fn text_of_depth(
+fn said_of_depth(
     alloc: Global,
     file: &[u8],
     source: &[u8],
     tokens: &[Token],
     at: u32,
-) -> Result<Vec<u8>, AllocError>
+) -> Result<Explanation, AllocError>
     requires short { length source.now ≤ 1048576 }
     requires scanned { Tokens source.now 0 tokens.now }
     requires refused { IsRefused source.now tokens.now (ParseRefusal.TooNested at) }
-    ensures { IfOk result (λ text. Explains file.now source.now text.items) }
+    ensures { IfOk result (λ said. Explains file.now source.now said.line.items said.text.items) }
 {
+    let mut line = Vec::new(alloc);
+    put_line_at(&mut line, b"too nested at ", at)?;
     let mut text = Vec::new(alloc);
     put_depth(&mut text, file, source, at)?;
-    Ok(text)
+    Ok(Explanation { line, text })
 }
 
 // What is said of a source whose tokens the parser refuses.
-fn text_of_parse(
-    alloc: Global,
-    file: &[u8],
-    source: &[u8],
-    tokens: &[Token],
-    refusal: &ParseRefusal,
-) -> Result<Vec<u8>, AllocError>
-    requires short { length source.now ≤ 1048576 }
-    requires scanned { Tokens source.now 0 tokens.now }
-    requires refused { IsRefused source.now tokens.now refusal.now }
-    ensures { IfOk result (λ text. Explains file.now source.now text.items) }
-{
-    match refusal {
-        ParseRefusal::Syntax { at } => text_of_syntax(alloc, file, source, tokens, *at),
-        ParseRefusal::TooNested { at } => text_of_depth(alloc, file, source, tokens, *at),
-        ParseRefusal::NoMemory => Err(AllocError),
-    }
-}
-
-// What is said of a source whose tokens the parser refuses, with the line of the report.
-fn explain_parse(
+fn said_of_parse(
     alloc: Global,
     file: &[u8],
     source: &[u8],
@@ -128,31 +115,35 @@ fn explain_parse(
     requires short { length source.now ≤ 1048576 }
     requires scanned { Tokens source.now 0 tokens.now }
     requires refused { IsRefused source.now tokens.now refusal.now }
-    ensures { IfOk result (λ said. Explains file.now source.now said.text.items) }
+    ensures { IfOk result (λ said. Explains file.now source.now said.line.items said.text.items) }
 {
-    let line = format!(in alloc; "{refusal}")?;
-    let text = text_of_parse(alloc, file, source, tokens, refusal)?;
-    Ok(Explanation { line, text })
+    match refusal {
+        ParseRefusal::Syntax { at } => said_of_syntax(alloc, file, source, tokens, *at),
+        ParseRefusal::TooNested { at } => said_of_depth(alloc, file, source, tokens, *at),
+        ParseRefusal::NoMemory => Err(AllocError),
+    }
 }
 
 // What is said of a source whose names are refused.
-fn text_of_names(
+fn said_of_names(
     alloc: Global,
     file: &[u8],
     source: &[u8],
     tokens: &[Token],
     tree: &Tree,
     refusal: &ScopeRefusal,
-) -> Result<Vec<u8>, AllocError>
+) -> Result<Explanation, AllocError>
     requires short { length source.now ≤ 1048576 }
     requires scanned { Tokens source.now 0 tokens.now }
     requires spelled { SpellsTree source.now tokens.now tree.now }
     requires refused { IsLeastFault tree.now refusal.now }
-    ensures { IfOk result (λ text. Explains file.now source.now text.items) }
+    ensures { IfOk result (λ said. Explains file.now source.now said.line.items said.text.items) }
 {
+    let mut line = Vec::new(alloc);
+    put_names_line(&mut line, refusal)?;
     let mut text = Vec::new(alloc);
     put_names(alloc, &mut text, file, source, tree, refusal)?;
-    Ok(text)
+    Ok(Explanation { line, text })
 }
 
 // What is said of a source by its tree, where the names of that are refused.
@@ -167,16 +158,15 @@ fn explain_tree(
     requires scanned { Tokens source.now 0 tokens.now }
     requires spelled { SpellsTree source.now tokens.now tree.now }
     requires well_made { IsWellMade tree.now }
-    ensures refused { IfOk result (λ found. IfSome found (λ said. Explains file.now source.now said.text.items)) }
+    ensures refused { IfOk result (λ found. IfSome found (λ said. Explains file.now source.now said.line.items said.text.items)) }
     ensures accepted { IfOk result (λ found. IfNone found (IsAccepted source.now)) }
 {
     match resolve(alloc, tree) {
         Ok(_) => Ok(None),
         Err(ScopeRefusal::NoMemory) => Err(AllocError),
         Err(refusal) => {
-            let line = format!(in alloc; "{refusal}")?;
-            let text = text_of_names(alloc, file, source, tokens, tree, &refusal)?;
-            Ok(Some(Explanation { line, text }))
+            let said = said_of_names(alloc, file, source, tokens, tree, &refusal)?;
+            Ok(Some(said))
         }
     }
 }
@@ -190,13 +180,13 @@ fn explain_tokens(
 ) -> Result<Option<Explanation>, AllocError>
     requires short { length source.now ≤ 1048576 }
     requires scanned { Tokens source.now 0 tokens.now }
-    ensures refused { IfOk result (λ found. IfSome found (λ said. Explains file.now source.now said.text.items)) }
+    ensures refused { IfOk result (λ found. IfSome found (λ said. Explains file.now source.now said.line.items said.text.items)) }
     ensures accepted { IfOk result (λ found. IfNone found (IsAccepted source.now)) }
 {
     match parse(alloc, source, tokens) {
         Ok(tree) => explain_tree(alloc, file, source, tokens, &tree),
         Err(refusal) => {
-            let said = explain_parse(alloc, file, source, tokens, &refusal)?;
+            let said = said_of_parse(alloc, file, source, tokens, &refusal)?;
             Ok(Some(said))
         }
     }
@@ -208,16 +198,15 @@ pub fn explain_source(
     file: &[u8],
     source: &[u8],
 ) -> Result<Option<Explanation>, AllocError>
-    ensures refused { IfOk result (λ found. IfSome found (λ said. Explains file.now source.now said.text.items)) }
+    ensures refused { IfOk result (λ found. IfSome found (λ said. Explains file.now source.now said.line.items said.text.items)) }
     ensures accepted { IfOk result (λ found. IfNone found (IsAccepted source.now)) }
 {
     match scan(alloc, source) {
         Ok(tokens) => explain_tokens(alloc, file, source, &tokens),
         Err(ScanRefusal::NoMemory) => Err(AllocError),
         Err(refusal) => {
-            let line = format!(in alloc; "{refusal}")?;
-            let text = text_of_scan(alloc, file, source, refusal)?;
-            Ok(Some(Explanation { line, text }))
+            let said = said_of_scan(alloc, file, source, refusal)?;
+            Ok(Some(said))
         }
     }
 }

@@ -1,7 +1,9 @@
-use Rattle.lucid_explanations.proofs.Common.{ℕ, List, ◌++◌, ap, ◌∙◌, read_at, syntax_text}
+use Rattle.std.proofs.Common.{ℕ, List, ◌++◌, ap, ◌∙◌}
 use Rattle.lucid_explanations.proofs.Begun.{fault_within}
+use Rattle.lucid_explanations.specs.Syntax.{read_at, syntax_text}
+use Rattle.lucid_explanations.specs.Reported.{syntax_line}
 use Rattle.lucid_explanations.specs.Sources.{by_syntax}
-use Rattle.lucid_explanations.proofs.sources.text_of_syntax.Goals as goal
+use Rattle.lucid_explanations.proofs.sources.said_of_syntax.Goals as goal
 
 pub put_syntax-requires-clause-within : goal.put_syntax-requires-clause-within
 put_syntax-requires-clause-within c = fault_within c.args.source.now c.args.tokens.now c.args.at c.tokens_are_in_order.ensures c.requires.scanned c.requires.refused
@@ -10,5 +12,6 @@ pub returns : goal.returns
 returns c =
     let said = c.in_ok-put_syntax.ensures in
     by_syntax c.args.tokens.now c.args.at said.0 c.requires.scanned c.requires.refused said.1
+    (c.in_ok-put_line_at.ensures ∙ ap (λ (z : List ℕ). z ++ syntax_line c.args.at) c.new-line.ensures.items)
     (said.2
     ∙ ap (λ (z : List ℕ). z ++ syntax_text c.args.file.now c.args.source.now c.args.at (read_at c.args.source.now c.args.tokens.now c.args.at) said.0) c.new-text.ensures.items)
