@@ -1,7 +1,8 @@
 -- What is said of inputs that have no file: the name of each, where it stands first, and a definition in scope there whose name differs by little.
-use Rattle.std.specs.Prelude.{◌≡◌, ℕ, ◌≤◌, ◌<◌, ◌⊎◌, List, [], ◌∷◌, ◌++◌, length, map, min, nat_lt, if◌then◌else◌, Option, None, Some, IfSome, All, Contains, codes, nat_eq}
+use Rattle.std.specs.Prelude.{◌≡◌, ℕ, ◌*◌, ◌≤◌, ◌<◌, ◌⊎◌, List, [], ◌∷◌, ◌++◌, length, map, find, min, max, Bool, ◌&&◌, nat_le, nat_lt, if◌then◌else◌, Option, None, Some, All, Contains, codes, nat_eq}
 use Rattle.std.specs.Borrow.{Bor}
 use Rattle.std.specs.List.{slice_get, flat_map}
+use Rattle.std.specs.Option.{option_or, option_copied}
 use Rattle.strsim.specs.Edits.{levenshtein_row}
 use Rattle.lucid_tree.specs.Members.{In}
 use Rattle.lucid_tree.specs.declared.tree.Def.{Def}
@@ -11,7 +12,7 @@ use Rattle.lucid_scope.specs.Scoped.{scoped_tree, scoped_inputs, scoped_binding}
 use Rattle.lucid_causes.specs.declared.inputs.Lacking.{Lacking}
 use Rattle.lucid_explanations.specs.Accepted.{IsSpelt, IsTurnedDown}
 use Rattle.lucid_explanations.specs.Positions.{where_text}
-use Rattle.lucid_explanations.specs.Definitions.{definition_text}
+use Rattle.lucid_explanations.specs.Definitions.{name_text, definition_text}
 use Rattle.lucid_explanations.specs.Scopes.{in_scope}
 
 -- The name at a place belongs to the input of this number.
@@ -23,17 +24,26 @@ pub record StandsFirst (scoped : Scoped) (stream at : ℕ) : Type 0 where
   pub stands : StandsAt scoped stream at
   pub first : (before : ℕ) → before < at → StandsAt scoped stream before → ⊥
 
--- One name comes of the other by at most two letters that are put in, left out or changed.
-abbrev pub IsNear : (name other : List ℕ) → Type 0
-IsNear name other = levenshtein_row nat_eq name other (length other) ≤ 2
+-- how many letters have to be put in, left out or changed, to make one name of the other
+abbrev pub edits : (name other : List ℕ) → ℕ
+edits name other = levenshtein_row nat_eq name other (length other)
 
--- An input without a file among those given: its name, its first place, and maybe a definition in scope there whose name is near.
+-- They differ by so many letters at most, and each has more than twice as many as they differ by. Names of more than 40 bytes aren't compared.
+abbrev pub is_near : (most : ℕ) → (name other : List ℕ) → Bool
+is_near most name other =
+    nat_le (max (length name) (length other)) 40 && (nat_le (edits name other) most && nat_lt (2 * edits name other) (min (length name) (length other)))
+
+-- the first definition whose name differs by one letter at most, or else by two
+abbrev pub nearest : (name : List ℕ) → List Def → Option Def
+nearest name defs = option_or (find (λ d. is_near 1 name d.name) defs) (find (λ d. is_near 2 name d.name) defs)
+
+-- An input without a file among those given: its name, its first place, and the definition in scope there whose name is nearest.
 pub record IsLacking (scoped : Scoped) (given : List (List ℕ)) (l : Lacking) : Type 0 where
   pub stream : ℕ
   pub named : slice_get (scoped_inputs scoped) stream ≡ Some l.name.now
   pub free : Contains given l.name.now → ⊥
   pub first : StandsFirst scoped stream l.at
-  pub near : IfSome l.near (λ d. Contains (in_scope l.at (scoped_tree scoped)) d.now × IsNear l.name.now d.now.name)
+  pub near : option_copied l.near ≡ nearest l.name.now (in_scope l.at (scoped_tree scoped))
 
 -- The input of this number has this name and no file among those given, and stands at a place before the end.
 pub record IsWanted (scoped : Scoped) (given : List (List ℕ)) (end stream : ℕ) (name : List ℕ) : Type 0 where
@@ -65,11 +75,11 @@ abbrev pub first_text : (source : List ℕ) → (at : ℕ) → List ℕ
 first_text source at = where_text (codes " stands first in line ") source at
 
 abbrev pub lacking_text : (source : List ℕ) → Lacking → List ℕ
-lacking_text source l = l.name.now ++ (first_text source (min (length source) l.at) ++ near_text source l.near)
+lacking_text source l = name_text l.name.now ++ (first_text source (min (length source) l.at) ++ near_text source l.near)
 
 -- a word that gives a file
 abbrev pub word_text : Lacking → List ℕ
-word_text l = codes " " ++ (l.name.now ++ codes "=FILE")
+word_text l = codes " " ++ (name_text l.name.now ++ codes "=FILE")
 
 abbrev pub lacking_advice : List ℕ
 lacking_advice = codes "A name that nothing defines is an input. One of them may be read from the standard input; give each other a file:"

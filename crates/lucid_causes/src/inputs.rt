@@ -1,12 +1,14 @@
 //! What is said of inputs that have no file.
-ghost use Rattle.std.specs.Prelude.{◌≡◌, ◌≤◌, ◌++◌, ◌↔◌, length, min, All, Contains, Some, ℕ, ◌<◌, IfOk, IfSome, IfNone, IsTrue, OnOk};
+ghost use Rattle.std.specs.Prelude.{◌≡◌, ◌≤◌, ◌++◌, ◌↔◌, length, find, min, All, Contains, Some, ℕ, ◌<◌, IfOk, IfSome, IfNone, IsTrue, OnOk};
+ghost use Rattle.std.specs.Option.{option_copied};
 ghost use Rattle.std.specs.List.{slice_get, flat_map};
 ghost use Rattle.lucid_scope.specs.Scoped.{scoped_tree, scoped_inputs};
 ghost use Rattle.lucid_explanations.specs.Accepted.{IsSpelt};
-ghost use Rattle.lucid_causes.specs.Inputs.{StandsAt, StandsFirst, IsNear, IsLacking, IsWanted, AreAll, with_one, near_text, first_text, lacking_text, word_text, inputs_text, TellsInputs};
+ghost use Rattle.lucid_causes.specs.Inputs.{StandsAt, StandsFirst, is_near, nearest, IsLacking, IsWanted, AreAll, with_one, near_text, first_text, lacking_text, word_text, inputs_text, TellsInputs};
+ghost use Rattle.lucid_explanations.specs.Definitions.{name_text};
 ghost use Rattle.lucid_explanations.specs.Scopes.{lent};
 
-use lucid_explanations::{find_in_scope, put_definition, put_where, scoped_of};
+use lucid_explanations::{find_in_scope, put_definition, put_name, put_where, scoped_of};
 use lucid_scope::{Binding, Scoped};
 use lucid_tree::Def;
 use lucid_value::Name;
@@ -56,7 +58,7 @@ fn first_place(scoped: &Scoped, stream: u32, end: u32) -> Option<u32>
 // Whether the two names differ by so many letters at most, and both have others besides.
 fn is_near(alloc: Global, name: &[u8], other: &[u8], most: usize) -> Result<bool, AllocError>
     requires { most ≤ 2 }
-    ensures { IfOk result (λ b. IsTrue b → IsNear name.now other.now) }
+    ensures { IfOk result (λ b. b ≡ is_near most name.now other.now) }
 {
     if name.len().max(other.len()) > MOST_COMPARED {
         return Ok(false);
@@ -66,6 +68,7 @@ fn is_near(alloc: Global, name: &[u8], other: &[u8], most: usize) -> Result<bool
 }
 
 // The first definition whose name differs by so many letters at most.
+#[tactic(auto, using(crate::proofs::Near::near_more))]
 fn find_near<'a>(
     alloc: Global,
     defs: &[&'a Def],
@@ -73,7 +76,7 @@ fn find_near<'a>(
     most: usize,
 ) -> Result<Option<&'a Def>, AllocError>
     requires { most ≤ 2 }
-    ensures { IfOk result (λ found. IfSome found (λ d. Contains (lent defs.now) d.now × IsNear name.now d.now.name)) }
+    ensures { IfOk result (λ found. option_copied found ≡ find (λ d. is_near most name.now d.name) (lent defs.now)) }
 {
     for def in defs {
         if is_near(alloc, name, def.name.bytes(), most)? {
@@ -83,13 +86,13 @@ fn find_near<'a>(
     Ok(None)
 }
 
-// A definition whose name differs by a letter, or else by two.
+// The first definition whose name differs by a letter, or else by two.
 fn find_nearest<'a>(
     alloc: Global,
     defs: &[&'a Def],
     name: &[u8],
 ) -> Result<Option<&'a Def>, AllocError>
-    ensures { IfOk result (λ found. IfSome found (λ d. Contains (lent defs.now) d.now × IsNear name.now d.now.name)) }
+    ensures { IfOk result (λ found. option_copied found ≡ nearest name.now (lent defs.now)) }
 {
     match find_near(alloc, defs, name, 1)? {
         Some(def) => Ok(Some(def)),
@@ -207,9 +210,9 @@ fn put_near(text: &mut Vec<u8>, source: &[u8], near: Option<&Def>) -> Result<(),
 // Appends the name of an input, and where it stands first.
 fn put_stands(text: &mut Vec<u8>, source: &[u8], name: &Name, at: u32) -> Result<(), AllocError>
     requires { length source.now ≤ 1048576 }
-    ensures { OnOk result (text.new.items ≡ text.old.items ++ (name.now ++ first_text source.now (min (length source.now) at))) }
+    ensures { OnOk result (text.new.items ≡ text.old.items ++ (name_text name.now ++ first_text source.now (min (length source.now) at))) }
 {
-    text.extend_from_slice(name.bytes())?;
+    put_name(text, name.bytes())?;
     let at = source.len().min(at as usize);
     put_where(text, b" stands first in line ", source, at)
 }
@@ -229,7 +232,7 @@ fn put_words(text: &mut Vec<u8>, those: &[Lacking<'_>]) -> Result<(), AllocError
 {
     for lacking in those {
         text.extend_from_slice(b" ")?;
-        text.extend_from_slice(lacking.name.bytes())?;
+        put_name(text, lacking.name.bytes())?;
         text.extend_from_slice(b"=FILE")?;
     }
     Ok(())

@@ -6,7 +6,7 @@ ghost use Rattle.lucid_explanations.specs.Accepted.{IsSpelt};
 ghost use Rattle.lucid_causes.specs.Prompts.{IsOnly, IsNoneOnly, prompt_text, TellsPrompt};
 
 use crate::inputs::is_given;
-use lucid_explanations::scoped_of;
+use lucid_explanations::{put_name, scoped_of};
 use lucid_scope::Scoped;
 use lucid_value::Name;
 use std::alloc::{AllocError, Global};
@@ -35,7 +35,7 @@ fn put_prompt(text: &mut Vec<u8>, name: &Name) -> Result<(), AllocError>
     ensures { OnOk result (text.new.items ≡ text.old.items ++ prompt_text name.now) }
 {
     text.extend_from_slice(b"The input ")?;
-    text.extend_from_slice(name.bytes())?;
+    put_name(text, name.bytes())?;
     text.extend_from_slice(b" is read from here, a value on each line.\n")
 }
 
