@@ -3,7 +3,7 @@ pub use Rattle.clap.specs.Words.{Text}
 pub use Rattle.lucid_explained.specs.Files.{IsAgain}
 pub use Rattle.lucid_explained.specs.Lines.{line_text}
 pub use Rattle.lucid_explained.specs.Prompted.{IsPrompt}
-pub use Rattle.lucid_explained.specs.Said.{IsExplanation, Says, SaysWords, Tells, TellsFiles, TellsNumber, given_file, goes_on, names_given, past_source, wrong_text}
+pub use Rattle.lucid_explained.specs.Said.{IsExplanation, Says, SaysWords, Tells, TellsFiles, given_file, goes_on, names_given, past_source, wrong_text}
 pub use Rattle.lucid_explained.specs.declared.outlook.Again.{Again}
 pub use Rattle.lucid_session.specs.Runs.{told}
 pub use Rattle.lucid_words.specs.Asked.{plain_words}

@@ -1,5 +1,5 @@
 -- What a call that explains does: what the command does with the same words, with more behind its report.
-use Rattle.std.specs.Prelude.{◌≡◌, ℕ, Bool, true, false, List, [], Some, Result, Err, ◌⊎◌}
+use Rattle.std.specs.Prelude.{◌≡◌, ℕ, Bool, true, false, List, [], codes, Some, Result, Err, ◌⊎◌}
 use Rattle.clap.specs.Words.{Text}
 use Rattle.lucid_ports.specs.declared.fault.PortFault.{PortFault}
 use Rattle.lucid_session.specs.Runs.{Told}
@@ -15,9 +15,14 @@ use Rattle.lucid_explained.specs.Prompted.{IsPrompt}
 abbrev pub in_memory : (bytes : List ℕ) → (faults : ℕ) → Told
 in_memory bytes faults = record { bytes = Some bytes; faults = faults }
 
--- Nothing is reported, or such a text: whole, or a front of it where a write failed or there was no memory.
+-- what is said where there is no memory for what would be said
+abbrev pub unsaid_text : List ℕ
+unsaid_text = codes "There is not memory enough to explain this.\n"
+
+-- Such a text is reported, or that there was no memory for it: whole, or a front of it where a write failed.
 abbrev pub WritesText : (IsText : List ℕ → Type 0) → (before after : Told) → Type 0
-WritesText IsText before after = (after ≡ before) ⊎ ((text : List ℕ) × (written : Result (Unit {0}) PortFault) × IsText text × WritesLine text written before after)
+WritesText IsText before after =
+    (text : List ℕ) × (written : Result (Unit {0}) PortFault) × (IsText text ⊎ (text ≡ unsaid_text)) × WritesLine text written before after
 
 -- Before the call nothing is reported, but where the standard input is a terminal.
 abbrev pub Prompts : (files : Files) → (words : List Text) → (terminal : Bool) → (before after : Told) → Type 0

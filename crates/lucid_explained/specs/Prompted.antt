@@ -1,14 +1,31 @@
 -- What is said before a call, where the standard input is a terminal.
-use Rattle.std.specs.Prelude.{◌≡◌, ℕ, List, [], Some}
+use Rattle.std.specs.Prelude.{◌≡◌, ℕ, Bool, ◌||◌, not, List, [], ◌∷◌, Option, Some, None, is_some, if◌then◌else◌}
 use Rattle.clap.specs.Words.{Text}
-use Rattle.lucid_words.specs.Plain.{file}
 use Rattle.lucid_words.specs.Asked.{PlainWords, words_asked}
 use Rattle.lucid_causes.specs.Prompts.{TellsPrompt}
-use Rattle.lucid_explained.specs.Files.{Files, IsFront}
-use Rattle.lucid_explained.specs.Said.{past_source, names_given}
+use Rattle.lucid_explained.specs.Files.{Files, Held, holds, unread, gone, IsSeen}
+use Rattle.lucid_explained.specs.Said.{past_source, names_given, is_none_of, source_file}
 
--- Nothing; or the only input without a file of the program in the file that the words name.
+-- The words ask for a text of the program; or for columns, or for what has to do with certificates.
+abbrev pub asks_text : PlainWords → Bool
+asks_text asked = asked.print || asked.cycles || asked.flat || asked.from_flat
+
+abbrev pub asks_more : PlainWords → Bool
+asks_more asked = not (is_none_of asked.columns) || is_some asked.why || not (is_none_of asked.check)
+
+-- the file of the program whose one stream is run
+abbrev pub run_file : PlainWords → Option Text
+run_file asked = if asks_text asked then None else if asks_more asked then None else source_file asked.source
+
+-- The text tells the only input without a file of a program that is seen so; nothing is said of a file that isn't read.
+abbrev pub PromptsBy : (asked : PlainWords) → (seen : Held) → (text : List ℕ) → Type 0
+PromptsBy asked (holds source) text = TellsPrompt source (names_given asked.given) text
+PromptsBy asked unread text = text ≡ []
+PromptsBy asked gone text = text ≡ []
+
+-- What is said before a call with the words.
 pub data IsPrompt (files : Files) (words : List Text) (text : List ℕ) : Type 0 where
-  nothing : text ≡ [] → IsPrompt files words text
-  only : (asked : PlainWords) (name source : List ℕ) → words_asked words ≡ Some asked → asked.source ≡ file name → IsFront files name past_source source
-      → TellsPrompt source (names_given asked.given) text → IsPrompt files words text
+  refused_words : words_asked words ≡ None → text ≡ [] → IsPrompt files words text
+  no_run : (asked : PlainWords) → words_asked words ≡ Some asked → run_file asked ≡ None → text ≡ [] → IsPrompt files words text
+  run : (asked : PlainWords) (name : Text) (seen : Held) → words_asked words ≡ Some asked → run_file asked ≡ Some name → IsSeen files name past_source seen
+      → PromptsBy asked seen text → IsPrompt files words text

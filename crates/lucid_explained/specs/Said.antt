@@ -1,16 +1,21 @@
 -- What is said behind the line that a call reported.
-use Rattle.std.specs.Prelude.{◌≡◌, ◌==◌, ℕ, ◌≤◌, ◌⊎◌, Bool, true, false, List, [], ◌∷◌, ◌++◌, length, map, take, codes, decimal, Some, None, is_some, if◌then◌else◌, All, Contains}
+use Rattle.std.specs.Prelude.{◌≡◌, ◌≢◌, ℕ, ◌+◌, ◌<◌, ◌≤◌, Bool, true, false, ◌&&◌, ◌||◌, not, nat_le, ◌==◌, List, [], ◌∷◌, ◌++◌, length, map, take, drop, min, codes, Option, Some, None, is_some, if◌then◌else◌}
 use Rattle.std.specs.Borrow.{Bor}
-use Rattle.std.specs.List.{flat_map, list_any}
+use Rattle.std.specs.Char.{is_ascii_digit}
+use Rattle.std.specs.List.{flat_map, list_any, prefix_len, slice_get}
 use Rattle.clap.specs.Words.{Text}
+use Rattle.lucid_texts.specs.Words.{number_of}
 use Rattle.lucid_words.specs.Plain.{PlainSource, file, made}
 use Rattle.lucid_words.specs.Asked.{PlainWords, words_asked}
+use Rattle.lucid_explanations.specs.Accepted.{IsAccepted}
 use Rattle.lucid_explanations.specs.Shown.{place_text, shown_byte}
 use Rattle.lucid_explanations.specs.Sources.{Explains}
 use Rattle.lucid_causes.specs.Inputs.{TellsInputs}
 use Rattle.lucid_explanations.specs.Columns.{TellsColumns}
 use Rattle.lucid_causes.specs.Depths.{TellsDepth}
-use Rattle.lucid_explained.specs.Files.{Files, IsFront}
+use Rattle.lucid_explained.specs.declared.sources.Cause.{Cause}
+use Rattle.lucid_explained.specs.declared.sources.Cause.TheVariants as cause
+use Rattle.lucid_explained.specs.Files.{Files, Held, holds, unread, gone, is_unread, IsSeen}
 use Rattle.lucid_explained.specs.Lines.{begins, line_text}
 
 -- one byte more than a source may have: so much of it is read again
@@ -24,23 +29,63 @@ given_name given = given.0
 abbrev pub names_given : List (Text × Text) → List Text
 names_given given = map given_name given
 
--- The line tells the number behind the text.
-abbrev pub TellsNumber : (line text : List ℕ) → ℕ → Type 0
-TellsNumber line text n =
-    (begins line (text ++ (decimal n ++ codes "\n")) ≡ true) ⊎ (begins line (text ++ (decimal n ++ codes " ")) ≡ true)
+-- the number that stands in the line behind the text, in decimal digits
+abbrev pub digits_front : List ℕ → List ℕ
+digits_front rest = take (prefix_len is_ascii_digit rest) rest
 
--- What the source of this name says of a line, in a call with these words: why it is refused, and where; inputs without a file; names that may
--- be columns; the place at which it isn't judged; what `--cycles` says of it, and what that means for the time of the line. Or the line is
--- explained by itself.
+abbrev pub number_behind : (line text : List ℕ) → Option ℕ
+number_behind line text = if begins line text then number_of 18446744073709551615 (digits_front (drop (length text) line)) else None
+
+-- there are none of them
+abbrev pub is_none_of : {X : Type 0} → List X → Bool
+is_none_of xs = length xs == 0
+
+-- The place at which a source isn't judged, where it is one of the source.
+abbrev pub place_within : (source : List ℕ) → (at : ℕ) → Cause
+place_within source at = if nat_le at (length source) && nat_le (length source) 1048576 then cause.Place at else cause.Line
+
+abbrev pub place_cause : (source : List ℕ) → Option ℕ → Cause
+place_cause source (Some at) = place_within source at
+place_cause source None = cause.Line
+
+abbrev pub depth_cause : Option ℕ → Cause
+depth_cause (Some time) = cause.Depth time
+depth_cause None = cause.Line
+
+-- What of a source explains the line: of columns, of which the source isn't what is run, and else.
+abbrev pub columns_cause : (line : List ℕ) → Cause
+columns_cause line = if begins line (codes "no column ") then cause.Columns else cause.Line
+
+abbrev pub plain_cause : (source line : List ℕ) → Cause
+plain_cause source line =
+    if begins line (codes "no input for two names") then cause.Inputs
+    else if begins line (codes "not judged at ") then place_cause source (number_behind line (codes "not judged at "))
+    else depth_cause (number_behind line (codes "too deep at time "))
+
+abbrev pub cause_of : (asked : PlainWords) → (source line : List ℕ) → Cause
+cause_of asked source line = if is_none_of asked.columns then plain_cause source line else columns_cause line
+
+-- a place that is told is one of the source, which isn't too long
+abbrev pub IsWithin : (source : List ℕ) → Cause → Type 0
+IsWithin source (cause.Place at) = (at ≤ length source) × (length source ≤ 1048576)
+IsWithin source other = Unit {0}
+
+-- The text says that of the source of this name: its inputs without a file; the names that may be columns; a place; what `--cycles` says of it, and what
+-- that means for a time; or nothing. Behind a place and a depth, and alone, stands what explains the line by itself.
+abbrev pub TellsBy : Cause → (asked : PlainWords) → (name source line text : List ℕ) → Type 0
+TellsBy cause.Inputs asked name source line text = TellsInputs source (names_given asked.given) text
+TellsBy cause.Columns asked name source line text = TellsColumns source text
+TellsBy (cause.Place at) asked name source line text = text ≡ place_text name source at ++ line_text line
+TellsBy (cause.Depth time) asked name source line text = (said : List ℕ) × TellsDepth source time said × (text ≡ said ++ line_text line)
+TellsBy cause.Line asked name source line text = text ≡ line_text line
+
+-- What the source of this name says of a line, in a call with these words: why it is refused, and where, if it is refused with this line; else what of it
+-- explains the line.
 pub data Tells (asked : PlainWords) (name source line text : List ℕ) : Type 0 where
-  refused : Explains name source text → Tells asked name source line text
-  inputs : begins line (codes "no input for two names") ≡ true → TellsInputs source (names_given asked.given) text → Tells asked name source line text
-  columns : begins line (codes "no column ") ≡ true → TellsColumns source text → Tells asked name source line text
-  unjudged : (at : ℕ) → at ≤ length source → TellsNumber line (codes "not judged at ") at
-      → text ≡ place_text name source at ++ line_text line → Tells asked name source line text
-  depth : (time : ℕ) (said : List ℕ) → TellsNumber line (codes "too deep at time ") time → TellsDepth source time said
-      → text ≡ said ++ line_text line → Tells asked name source line text
-  alone : text ≡ line_text line → Tells asked name source line text
+  refused : Explains name source line text → Tells asked name source line text
+  otherwise : (reported said : List ℕ) → Explains name source reported said → reported ≢ line
+      → TellsBy (cause_of asked source line) asked name source line text → Tells asked name source line text
+  accepted : IsAccepted source → TellsBy (cause_of asked source line) asked name source line text → Tells asked name source line text
 
 -- Bytes as they are shown, at most 160.
 abbrev pub shown_text : List ℕ → List ℕ
@@ -66,24 +111,67 @@ fault_text name = codes "This file can't be opened or read: " ++ (shown_text nam
 abbrev pub unknown_text : List ℕ
 unknown_text = codes "A file of these words, or the standard input, couldn't be read to the end.\n"
 
--- Behind a text it is told of some of these files, in any order, that they can't be read.
-pub record TellsFiles (files : List Text) (before after : List ℕ) : Type 0 where
-  pub names : List Text
-  pub among : All (λ name. Contains files name) names
-  pub told : after ≡ before ++ flat_map fault_text names
+-- Those are the names, in order, under which nothing can be read.
+pub data AreUnread (files : Files) : (names those : List Text) → Type 0 where
+  no_names : AreUnread files [] []
+  one_more : (name : Text) (seen : Held) (names those : List Text) → IsSeen files name 1 seen → AreUnread files names those
+      → AreUnread files (name ∷ names) (if is_unread seen then name ∷ those else those)
+
+-- Behind a text it is told of those that they can't be read.
+abbrev pub TellsFiles : Files → (names : List Text) → (before after : List ℕ) → Type 0
+TellsFiles files names before after = (those : List Text) × AreUnread files names those × (after ≡ before ++ flat_map fault_text those)
+
+-- what is said of a read fault, by what is told of files
+abbrev pub or_unknown : List ℕ → List ℕ
+or_unknown [] = unknown_text
+or_unknown (b ∷ bs) = b ∷ bs
 
 -- of a source that doesn't come again
 abbrev pub gone_text : List ℕ
 gone_text = codes "The source is no regular file, so it can't be read again: its place isn't shown.\n"
 
--- What is said of a call with these words that reported the line, over files that hold this.
+abbrev pub or_gone : List ℕ → List ℕ
+or_gone [] = gone_text
+or_gone (b ∷ bs) = b ∷ bs
+
+-- texts that are lent
+abbrev pub texts_of : List (Bor Text) → List Text
+texts_of words = map (λ word. word.now) words
+
+-- How the lines begin that are explained by the source.
+abbrev pub source_lines : List (List ℕ)
+source_lines =
+    codes "bad byte at " ∷ codes "open text at " ∷ codes "number too big at " ∷ codes "source too long" ∷ codes "syntax at " ∷ codes "too nested at "
+    ∷ codes "defined twice at " ∷ codes "no such function at " ∷ codes "not a function at " ∷ codes "function without arguments at "
+    ∷ codes "wrong number of arguments at " ∷ codes "no column " ∷ codes "no input for two names" ∷ codes "not judged at " ∷ codes "too deep at " ∷ []
+
+abbrev pub is_of_source : (line : List ℕ) → Bool
+is_of_source line = list_any (begins line) source_lines
+
+-- the file of a source
+abbrev pub source_file : PlainSource → Option Text
+source_file (file name) = Some name
+source_file (made number) = None
+
+-- the file whose source explains the line, if one does; what is no source, as a table, explains none
+abbrev pub line_file : PlainWords → (line : List ℕ) → Option Text
+line_file asked line = if asked.from_flat || not (is_of_source line) then None else source_file asked.source
+
+-- The text says of the line what the file of this name says, of which this is seen: its source, or that this doesn't come again; else the line is explained
+-- by itself.
+abbrev pub SaysBy : (asked : PlainWords) → (name : Text) → (seen : Held) → (line text : List ℕ) → Type 0
+SaysBy asked name (holds source) line text = Tells asked name source line text
+SaysBy asked name unread line text = text ≡ line_text line
+SaysBy asked name gone line text = text ≡ or_gone (line_text line)
+
+-- What is said of a call with these words that reported the line: of a read fault the files that can't be read, or that none is such; else what a file
+-- says of the line, or what explains it by itself.
 pub data Says (files : Files) (asked : PlainWords) (line text : List ℕ) : Type 0 where
-  of_source : (name source : List ℕ) → asked.source ≡ file name → IsFront files name past_source source → Tells asked name source line text
+  of_fault : (told : List ℕ) → begins line (codes "read fault") ≡ true → TellsFiles files (files_asked asked) [] told → text ≡ or_unknown told
       → Says files asked line text
-  of_files : TellsFiles (files_asked asked) [] text → Says files asked line text
-  of_no_file : text ≡ unknown_text → Says files asked line text
-  gone : text ≡ gone_text → Says files asked line text
-  of_line : text ≡ line_text line → Says files asked line text
+  of_line : begins line (codes "read fault") ≡ false → line_file asked line ≡ None → text ≡ line_text line → Says files asked line text
+  of_file : (name : Text) (seen : Held) → begins line (codes "read fault") ≡ false → line_file asked line ≡ Some name → IsSeen files name past_source seen
+      → SaysBy asked name seen line text → Says files asked line text
 
 -- what is tried behind words, to see whether they are the first of some that are right
 abbrev pub tried : List (List Text)
@@ -92,10 +180,6 @@ tried =
 
 abbrev pub is_right_with : (words end : List Text) → Bool
 is_right_with words end = is_some (words_asked (words ++ end))
-
--- texts that are lent
-abbrev pub texts_of : List (Bor Text) → List Text
-texts_of words = map (λ word. word.now) words
 
 -- One of those makes the words right.
 abbrev pub goes_on : (words : List Text) → Bool
@@ -112,11 +196,15 @@ wrong_text word = codes "This word doesn't go with those before it: " ++ (shown_
 abbrev pub lacking_text : List ℕ
 lacking_text = codes "Behind these words something lacks: the program's file, or what an option wants.\n"
 
--- What is said of words that are refused: the first with which none of those makes them right; or that something lacks behind them.
+-- With each of the first words, so many, one of those makes the words right.
+abbrev pub GoOn : (words : List Text) → (count : ℕ) → Type 0
+GoOn words count = (k : ℕ) → k < count → goes_on (take (k + 1) words) ≡ true
+
+-- What is said of words that are refused: the first with which none of those makes them right, among the first hundred; or that something lacks behind them.
 pub data SaysWords (words : List Text) (text : List ℕ) : Type 0 where
-  wrong : (before after : List Text) (word : Text) → words ≡ before ++ (word ∷ after) → goes_on (before ++ word ∷ []) ≡ false
-      → text ≡ wrong_text word → SaysWords words text
-  lacking : text ≡ lacking_text → SaysWords words text
+  wrong : (number : ℕ) (word : Text) → slice_get words number ≡ Some word → number < 100 → GoOn words number
+      → goes_on (take (number + 1) words) ≡ false → text ≡ wrong_text word → SaysWords words text
+  lacking : GoOn words (min (length words) 100) → text ≡ lacking_text → SaysWords words text
 
 -- What is said behind the line.
 pub data IsExplanation (files : Files) (words : List Text) (line text : List ℕ) : Type 0 where

@@ -1,10 +1,10 @@
 //! What explains the line that the command reported.
-ghost use Rattle.std.specs.Prelude.{◌≡◌, map, IfOk};
+ghost use Rattle.std.specs.Prelude.{◌≡◌, false, ◌||◌, not, map, codes, Some, None, IfOk};
 ghost use Rattle.std.specs.String.{string_bytes};
 ghost use Rattle.lucid_words.specs.Asked.{plain_words};
-ghost use Rattle.lucid_words.specs.Plain.{file, plain_source};
-ghost use Rattle.lucid_explained.specs.Lines.{line_text};
-ghost use Rattle.lucid_explained.specs.Said.{Says, IsExplanation};
+ghost use Rattle.lucid_explained.specs.Files.{plain_again};
+ghost use Rattle.lucid_explained.specs.Lines.{begins, line_text};
+ghost use Rattle.lucid_explained.specs.Said.{or_gone, is_of_source, line_file, SaysBy, Says, IsExplanation};
 
 use crate::faults::text_of_faults;
 use crate::lines::{begins, is_of_source, line_text};
@@ -18,13 +18,8 @@ use std::alloc::{AllocError, Global};
 pub(crate) const PAST_SOURCE: usize = 1_048_577;
 
 // What is said of a line by itself, or else that its source doesn't come again.
-fn text_of_gone<F: Outlook>(
-    alloc: Global,
-    asked: &Words,
-    line: &[u8],
-    outlook: &F,
-) -> Result<Vec<u8>, AllocError>
-    ensures { IfOk result (λ text. Says (F.files outlook.now) (plain_words asked.now) line.now text.items) }
+fn text_of_gone(alloc: Global, line: &[u8]) -> Result<Vec<u8>, AllocError>
+    ensures { IfOk result (λ text. text.items ≡ or_gone (line_text line.now)) }
 {
     let said = line_text(line);
     if said.is_empty() {
@@ -36,6 +31,23 @@ fn text_of_gone<F: Outlook>(
     Vec::from_slice(alloc, said)
 }
 
+// What is said of the line by what is seen of the file of this name.
+fn text_by_file(
+    alloc: Global,
+    asked: &Words,
+    name: &str,
+    line: &[u8],
+    again: &Again,
+) -> Result<Vec<u8>, AllocError>
+    ensures { IfOk result (λ text. SaysBy (plain_words asked.now) name.now (plain_again again.now) line.now text.items) }
+{
+    match again {
+        Again::Bytes(source) => text_of_source(alloc, asked, name.as_bytes(), source, line),
+        Again::Unread => Vec::from_slice(alloc, line_text(line)),
+        Again::Gone => text_of_gone(alloc, line),
+    }
+}
+
 // What is said of a line of which the source in the file of this name says more.
 fn text_of_file<F: Outlook>(
     alloc: Global,
@@ -44,14 +56,33 @@ fn text_of_file<F: Outlook>(
     line: &[u8],
     outlook: &F,
 ) -> Result<Vec<u8>, AllocError>
-    requires { (plain_words asked.now).source ≡ file name.now }
+    requires no_fault { begins line.now (codes "read fault") ≡ false }
+    requires file { line_file (plain_words asked.now) line.now ≡ Some name.now }
     ensures { IfOk result (λ text. Says (F.files outlook.now) (plain_words asked.now) line.now text.items) }
 {
-    match outlook.reread(alloc, name, PAST_SOURCE) {
-        Again::Bytes(source) => text_of_source(alloc, asked, name.as_bytes(), &source, line),
-        Again::Gone => text_of_gone(alloc, asked, line, outlook),
-        Again::Unread => Vec::from_slice(alloc, line_text(line)),
-    }
+    let again = outlook.reread(alloc, name, PAST_SOURCE)?;
+    text_by_file(alloc, asked, name, line, &again)
+}
+
+// What is said of a line that no source explains.
+fn text_of_itself<F: Outlook>(
+    alloc: Global,
+    asked: &Words,
+    line: &[u8],
+    outlook: &F,
+) -> Result<Vec<u8>, AllocError>
+    requires no_fault { begins line.now (codes "read fault") ≡ false }
+    requires no_file { line_file (plain_words asked.now) line.now ≡ None }
+    ensures { IfOk result (λ text. Says (F.files outlook.now) (plain_words asked.now) line.now text.items) }
+{
+    Vec::from_slice(alloc, line_text(line))
+}
+
+// Whether no source explains the line: it tells of something else, or what was read is no source.
+fn is_of_itself(asked: &Words, line: &[u8]) -> bool
+    ensures { result ≡ ((plain_words asked.now).from_flat || not (is_of_source line.now)) }
+{
+    asked.from_flat || !is_of_source(line)
 }
 
 // What is said of a line that is explained by itself or by the source.
@@ -61,14 +92,15 @@ fn text_of_line<F: Outlook>(
     line: &[u8],
     outlook: &F,
 ) -> Result<Vec<u8>, AllocError>
+    requires { begins line.now (codes "read fault") ≡ false }
     ensures { IfOk result (λ text. Says (F.files outlook.now) (plain_words asked.now) line.now text.items) }
 {
-    if asked.from_flat || !is_of_source(line) {
-        return Vec::from_slice(alloc, line_text(line));
+    if is_of_itself(asked, line) {
+        return text_of_itself(alloc, asked, line, outlook);
     }
     match &asked.source {
         Source::File(name) => text_of_file(alloc, asked, name, line, outlook),
-        Source::Made(_) => Vec::from_slice(alloc, line_text(line)),
+        Source::Made(_) => text_of_itself(alloc, asked, line, outlook),
     }
 }
 

@@ -7,7 +7,7 @@ ghost use Rattle.lucid_session.specs.Runs.{told};
 ghost use Rattle.lucid_top.specs.Telling.{WritesLine};
 ghost use Rattle.lucid_explained.specs.Said.{IsExplanation};
 ghost use Rattle.lucid_explained.specs.Prompted.{IsPrompt};
-ghost use Rattle.lucid_explained.specs.Explained.{WritesText, Prompts, Reports, IsExplained};
+ghost use Rattle.lucid_explained.specs.Explained.{unsaid_text, WritesText, Prompts, Reports, IsExplained};
 
 use crate::causes::explain;
 use crate::outlook::Outlook;
@@ -23,12 +23,24 @@ fn write_line<E: Sink>(report: &mut E, line: &[u8]) -> Result<(), PortFault>
     write_whole(report, line)
 }
 
-// Reports what is said before the call, where there was memory for it.
+// Says that there was no memory for what would be said.
+fn report_unsaid<E: Sink>(report: &mut E) -> Result<(), PortFault>
+    ensures { WritesLine unsaid_text result (told E.written E.faults report.old) (told E.written E.faults report.new) }
+{
+    write_line(report, b"There is not memory enough to explain this.\n")
+}
+
+// Reports what is said before the call, or that there was no memory for it.
 fn report_prompt<E: Sink, F: Outlook>(alloc: Global, words: &[String], outlook: &F, report: &mut E)
     ensures { WritesText (IsPrompt (F.files outlook.now) (map string_bytes words.now)) (told E.written E.faults report.old) (told E.written E.faults report.new) }
 {
-    if let Ok(text) = text_of_prompt(alloc, words, outlook) {
-        let _ = write_line(report, &text);
+    match text_of_prompt(alloc, words, outlook) {
+        Ok(text) => {
+            let _ = write_line(report, &text);
+        }
+        Err(_) => {
+            let _ = report_unsaid(report);
+        }
     }
 }
 
@@ -46,7 +58,7 @@ fn prompt_terminal<E: Sink, F: Outlook>(
     }
 }
 
-// Reports what explains the line, where there was memory for it.
+// Reports what explains the line, or that there was no memory for it.
 fn report_cause<E: Sink, F: Outlook>(
     alloc: Global,
     words: &[String],
@@ -56,8 +68,13 @@ fn report_cause<E: Sink, F: Outlook>(
 )
     ensures { WritesText (IsExplanation (F.files outlook.now) (map string_bytes words.now) line.now) (told E.written E.faults report.old) (told E.written E.faults report.new) }
 {
-    if let Ok(text) = explain(alloc, words, line, outlook) {
-        let _ = write_line(report, &text);
+    match explain(alloc, words, line, outlook) {
+        Ok(text) => {
+            let _ = write_line(report, &text);
+        }
+        Err(_) => {
+            let _ = report_unsaid(report);
+        }
     }
 }
 

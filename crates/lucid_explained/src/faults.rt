@@ -1,9 +1,11 @@
 //! What is said of a read fault.
-ghost use Rattle.std.specs.Prelude.{◌≡◌, ◌++◌, map, [], ◌∷◌, IfOk, OnOk};
+ghost use Rattle.std.specs.Prelude.{◌≡◌, true, ◌++◌, map, [], ◌∷◌, codes, IfOk, OnOk};
 ghost use Rattle.std.specs.String.{string_bytes};
 ghost use Rattle.lucid_words.specs.Asked.{plain_words};
 ghost use Rattle.lucid_words.specs.Plain.{plain_given, plain_source};
-ghost use Rattle.lucid_explained.specs.Said.{shown_text, source_files, certificate_files, given_file, files_asked, fault_text, TellsFiles, Says};
+ghost use Rattle.lucid_explained.specs.Files.{Held, IsSeen, is_unread, plain_again};
+ghost use Rattle.lucid_explained.specs.Lines.{begins};
+ghost use Rattle.lucid_explained.specs.Said.{shown_text, source_files, certificate_files, given_file, files_asked, fault_text, TellsFiles, or_unknown, Says};
 
 use crate::outlook::{Again, Outlook};
 use lucid_explanations::put_shown;
@@ -20,9 +22,22 @@ pub(crate) fn put_front(text: &mut Vec<u8>, bytes: &[u8]) -> Result<(), AllocErr
     put_shown(text, &bytes[..MOST_SHOWN.min(bytes.len())])
 }
 
+// Whether nothing could be read.
+fn shows_unread(again: &Again) -> bool
+    ensures { result ≡ is_unread (plain_again again.now) }
+{
+    match again {
+        Again::Unread => true,
+        Again::Bytes(_) | Again::Gone => false,
+    }
+}
+
 // Whether the file can't be read now.
-fn is_unread<F: Outlook>(alloc: Global, name: &str, outlook: &F) -> bool {
-    matches!(outlook.reread(alloc, name, 1), Again::Unread)
+fn is_unread<F: Outlook>(alloc: Global, name: &str, outlook: &F) -> Result<bool, AllocError>
+    ensures { IfOk result (λ b. (seen : Held) × IsSeen (F.files outlook.now) name.now 1 seen × (b ≡ is_unread seen)) }
+{
+    let again = outlook.reread(alloc, name, 1)?;
+    Ok(shows_unread(&again))
 }
 
 // Appends what is said of a file that can't be read.
@@ -41,9 +56,9 @@ fn put_if_unread<F: Outlook>(
     name: &str,
     outlook: &F,
 ) -> Result<(), AllocError>
-    ensures { OnOk result (TellsFiles (name.now ∷ []) text.old.items text.new.items) }
+    ensures { OnOk result (TellsFiles (F.files outlook.now) (name.now ∷ []) text.old.items text.new.items) }
 {
-    if is_unread(alloc, name, outlook) {
+    if is_unread(alloc, name, outlook)? {
         put_fault(text, name)
     } else {
         Ok(())
@@ -57,7 +72,7 @@ fn put_source<F: Outlook>(
     source: &Source,
     outlook: &F,
 ) -> Result<(), AllocError>
-    ensures { OnOk result (TellsFiles (source_files (plain_source source.now)) text.old.items text.new.items) }
+    ensures { OnOk result (TellsFiles (F.files outlook.now) (source_files (plain_source source.now)) text.old.items text.new.items) }
 {
     match source {
         Source::File(name) => put_if_unread(alloc, text, name, outlook),
@@ -72,7 +87,7 @@ fn put_certificate<F: Outlook>(
     name: &str,
     outlook: &F,
 ) -> Result<(), AllocError>
-    ensures { OnOk result (TellsFiles (certificate_files name.now) text.old.items text.new.items) }
+    ensures { OnOk result (TellsFiles (F.files outlook.now) (certificate_files name.now) text.old.items text.new.items) }
 {
     if name.is_empty() {
         Ok(())
@@ -88,7 +103,7 @@ fn put_given<F: Outlook>(
     given: &[Given],
     outlook: &F,
 ) -> Result<(), AllocError>
-    ensures { OnOk result (TellsFiles (map given_file (map plain_given given.now)) text.old.items text.new.items) }
+    ensures { OnOk result (TellsFiles (F.files outlook.now) (map given_file (map plain_given given.now)) text.old.items text.new.items) }
 {
     for word in given {
         put_if_unread(alloc, text, &word.file, outlook)?;
@@ -102,13 +117,26 @@ fn text_of_files<F: Outlook>(
     asked: &Words,
     outlook: &F,
 ) -> Result<Vec<u8>, AllocError>
-    ensures { IfOk result (λ text. TellsFiles (files_asked (plain_words asked.now)) [] text.items) }
+    ensures { IfOk result (λ text. TellsFiles (F.files outlook.now) (files_asked (plain_words asked.now)) [] text.items) }
 {
     let mut text = Vec::new(alloc);
     put_source(alloc, &mut text, &asked.source, outlook)?;
     put_certificate(alloc, &mut text, &asked.check, outlook)?;
     put_given(alloc, &mut text, &asked.given, outlook)?;
     Ok(text)
+}
+
+// What is said of a read fault, where these files are told.
+fn or_unknown(alloc: Global, told: Vec<u8>) -> Result<Vec<u8>, AllocError>
+    ensures { IfOk result (λ text. text.items ≡ or_unknown told.items) }
+{
+    if told.is_empty() {
+        return Vec::from_slice(
+            alloc,
+            b"A file of these words, or the standard input, couldn't be read to the end.\n",
+        );
+    }
+    Ok(told)
 }
 
 /// What is said of a read fault: the files of the words that can't be read now.
@@ -118,14 +146,9 @@ pub(crate) fn text_of_faults<F: Outlook>(
     line: &[u8],
     outlook: &F,
 ) -> Result<Vec<u8>, AllocError>
+    requires { begins line.now (codes "read fault") ≡ true }
     ensures { IfOk result (λ text. Says (F.files outlook.now) (plain_words asked.now) line.now text.items) }
 {
-    let text = text_of_files(alloc, asked, outlook)?;
-    if text.is_empty() {
-        return Vec::from_slice(
-            alloc,
-            b"A file of these words, or the standard input, couldn't be read to the end.\n",
-        );
-    }
-    Ok(text)
+    let told = text_of_files(alloc, asked, outlook)?;
+    or_unknown(alloc, told)
 }

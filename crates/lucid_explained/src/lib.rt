@@ -2,6 +2,7 @@
 #![tactic(auto)]
 
 pub use crate::command::{lucid_explain, lucid_explain_from_arguments};
+pub use crate::lines::line_text;
 pub use crate::outlook::{Again, Outlook, RealOutlook};
 
 mod causes;

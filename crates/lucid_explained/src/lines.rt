@@ -2,6 +2,7 @@
 ghost use Rattle.std.specs.Prelude.{◌≡◌};
 ghost use Rattle.std.specs.List.{count_by};
 ghost use Rattle.lucid_explained.specs.Lines.{begins, ends, is_blank, store_text, certificate_text, table_text, program_text, run_text, line_text};
+ghost use Rattle.lucid_explained.specs.Said.{source_lines, is_of_source, texts_of};
 
 /// Whether the line begins with the text.
 pub(crate) fn begins(line: &[u8], text: &[u8]) -> bool
@@ -108,7 +109,7 @@ fn run_text(line: &[u8]) -> &'static [u8]
 }
 
 /// What is said of a line by itself; nothing where there is nothing to say.
-pub(crate) fn line_text(line: &[u8]) -> &'static [u8]
+pub fn line_text(line: &[u8]) -> &'static [u8]
     ensures { result.now ≡ line_text line.now }
 {
     if ends(line, b" is given twice\n") {
@@ -139,7 +140,23 @@ const OF_SOURCE: [&[u8]; 15] = [
     b"too deep at ",
 ];
 
+// How the lines begin that are explained by the source.
+fn source_lines() -> &'static [&'static [u8]]
+    ensures { texts_of result.now ≡ source_lines }
+{
+    &OF_SOURCE
+}
+
 /// Whether the source explains the line.
-pub(crate) fn is_of_source(line: &[u8]) -> bool {
-    OF_SOURCE.iter().any(|text| begins(line, text))
+#[tactic(auto, using(crate::proofs::Begins::begins_more))]
+pub(crate) fn is_of_source(line: &[u8]) -> bool
+    ensures { result ≡ is_of_source line.now }
+{
+    let texts = source_lines();
+    for text in texts {
+        if begins(line, text) {
+            return true;
+        }
+    }
+    false
 }

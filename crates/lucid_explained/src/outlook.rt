@@ -1,9 +1,9 @@
 //! What explanations look at beside the call.
-ghost use Rattle.std.specs.Prelude.{◌≡◌, ℕ, Bool, List, Option};
+ghost use Rattle.std.specs.Prelude.{◌≡◌, ℕ, Bool, List, Option, IfOk};
 ghost use Rattle.lucid_explained.specs.Files.{Files, IsAgain};
 
-use lucid_ports::{Places, RealPlaces, read_at_most};
-use std::alloc::Global;
+use lucid_ports::{Places, PortFault, RealPlaces, read_at_most};
+use std::alloc::{AllocError, Global};
 use std::fs;
 use std::io::IsTerminal;
 
@@ -12,7 +12,7 @@ use std::io::IsTerminal;
 pub enum Again {
     /// Its first bytes.
     Bytes(Vec<u8>),
-    /// It can't be opened or read, or there is no memory for it.
+    /// It can't be opened or read.
     Unread,
     /// It isn't a regular file, as a pipe: what was read of it doesn't come again.
     Gone,
@@ -28,9 +28,9 @@ pub trait Outlook {
     fn is_terminal(&self) -> bool
         ensures { result ≡ terminal self.now };
 
-    /// The first bytes of the file of this name, at most so many.
-    fn reread(&self, alloc: Global, name: &str, most: usize) -> Again
-        ensures { IsAgain (files self.now) name.now most result };
+    /// The first bytes of the file of this name, at most so many. An error is want of memory.
+    fn reread(&self, alloc: Global, name: &str, most: usize) -> Result<Again, AllocError>
+        ensures { IfOk result (IsAgain (files self.now) name.now most) };
 }
 
 /// The real files and the real standard input. They tell nothing of contents.
@@ -50,12 +50,10 @@ impl<'a> RealOutlook<'a> {
     }
 
     // The first bytes of a regular file.
-    fn first_bytes(&self, alloc: Global, name: &str, most: usize) -> Option<Vec<u8>> {
+    fn first_bytes(&self, alloc: Global, name: &str, most: usize) -> Result<Vec<u8>, PortFault> {
         let mut places = RealPlaces::make(alloc, self.rt);
-        match places.reach(alloc, name) {
-            Ok(place) => read_at_most(alloc, &mut places, place, most).ok(),
-            Err(_) => None,
-        }
+        let place = places.reach(alloc, name)?;
+        read_at_most(alloc, &mut places, place, most)
     }
 }
 
@@ -70,12 +68,13 @@ impl<'a> Outlook for RealOutlook<'a> {
         self.terminal
     }
 
-    fn reread(&self, alloc: Global, name: &str, most: usize) -> Again {
+    fn reread(&self, alloc: Global, name: &str, most: usize) -> Result<Again, AllocError> {
         match fs::metadata(self.rt, name) {
-            Ok(metadata) if !metadata.is_file() => Again::Gone,
+            Ok(metadata) if !metadata.is_file() => Ok(Again::Gone),
             _ => match self.first_bytes(alloc, name, most) {
-                Some(bytes) => Again::Bytes(bytes),
-                None => Again::Unread,
+                Ok(bytes) => Ok(Again::Bytes(bytes)),
+                Err(PortFault::Failed) => Ok(Again::Unread),
+                Err(PortFault::NoMemory) => Err(AllocError),
             },
         }
     }

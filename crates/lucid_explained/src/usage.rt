@@ -1,5 +1,5 @@
 //! What is said of words that are refused.
-ghost use Rattle.std.specs.Prelude.{◌≡◌, ◌<◌, ◌+◌, ◌++◌, ◌∷◌, [], List, length, map, take, slice_get, Some, false, IfOk, IfSome, OnOk};
+ghost use Rattle.std.specs.Prelude.{◌≡◌, ℕ, ◌<◌, ◌+◌, ◌++◌, length, min, map, take, true, false, IfOk, IfSome, IfNone, OnOk};
 ghost use Rattle.std.specs.String.{string_bytes};
 ghost use Rattle.clap.specs.Words.{Text as Word};
 ghost use Rattle.lucid_explained.specs.Said.{goes_on, is_right_with, word_advice, wrong_text, lacking_text, texts_of, SaysWords};
@@ -60,9 +60,12 @@ fn goes_on(alloc: Global, words: &[String]) -> Result<bool, AllocError>
     )
 }
 
-// The number of the first word with which none of the ends that are tried makes the words right.
+// The number of the first word with which none of the ends that are tried makes the words right, among the first hundred.
 fn first_wrong(alloc: Global, words: &[String]) -> Result<Option<usize>, AllocError>
-    ensures { IfOk result (λ found. IfSome found (λ k. (k < length words.now) × (goes_on (map string_bytes (take (k + 1) words.now)) ≡ false))) }
+    ensures within { IfOk result (λ found. IfSome found (λ k. (k < length words.now) × (k < 100))) }
+    ensures wrong { IfOk result (λ found. IfSome found (λ k. goes_on (map string_bytes (take (k + 1) words.now)) ≡ false)) }
+    ensures first { IfOk result (λ found. IfSome found (λ k. (j : ℕ) → j < k → goes_on (map string_bytes (take (j + 1) words.now)) ≡ true)) }
+    ensures none { IfOk result (λ found. IfNone found ((j : ℕ) → j < min (length words.now) 100 → goes_on (map string_bytes (take (j + 1) words.now)) ≡ true)) }
 {
     for count in 0..words.len().min(MOST_WORDS) {
         if !goes_on(alloc, &words[..count + 1])? {

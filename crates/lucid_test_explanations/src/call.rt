@@ -25,17 +25,15 @@ impl<'a> Outlook for OneFile<'a> {
         self.terminal
     }
 
-    fn reread(&self, alloc: Global, name: &str, most: usize) -> Again {
+    fn reread(&self, alloc: Global, name: &str, most: usize) -> Result<Again, AllocError> {
         let Some(source) = self.source else {
-            return Again::Gone;
+            return Ok(Again::Gone);
         };
         if name != "p" {
-            return Again::Unread;
+            return Ok(Again::Unread);
         }
-        match Vec::from_slice(alloc, &source[..source.len().min(most)]) {
-            Ok(bytes) => Again::Bytes(bytes),
-            Err(_) => Again::Unread,
-        }
+        let bytes = Vec::from_slice(alloc, &source[..source.len().min(most)])?;
+        Ok(Again::Bytes(bytes))
     }
 }
 

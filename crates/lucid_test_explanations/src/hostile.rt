@@ -165,3 +165,40 @@ fn no_memory(rt: HostRuntime) -> Result<(), Fail> {
     );
     Ok(())
 }
+
+// A name of 200 bytes is told by its first 160.
+#[test]
+fn names_that_are_long(rt: HostRuntime) -> Result<(), Fail> {
+    let alloc = rt.alloc();
+    let mut source = many(alloc, "x", 200)?;
+    source.push_str(" + y")?;
+    let shown = many(alloc, "x", 160)?;
+    let wanted = format!(in alloc;
+        "no input for two names\nA name that nothing defines is an input. One of them may be read from the standard input; give each other a file: {shown}..=FILE y=FILE\n{shown}.. stands first in line 1, column 1.\ny stands first in line 1, column 204.\n"
+    )?;
+    let answer = plain_call(alloc, "p", source.as_bytes())?;
+    assert_eq!(rt; answer.report.as_str(), wanted.as_str());
+    Ok(())
+}
+
+// Of a function the first twenty parameters are told.
+#[test]
+fn parameters_that_are_many(rt: HostRuntime) -> Result<(), Fail> {
+    let alloc = rt.alloc();
+    let mut source = String::from_str(alloc, "f(1) where\nf(a0")?;
+    let mut shown = String::from_str(alloc, "f(a0")?;
+    for number in 1..30 {
+        let parameter = format!(in alloc; ", a{number}")?;
+        source.push_str(parameter.as_str())?;
+        if number < 20 {
+            shown.push_str(parameter.as_str())?;
+        }
+    }
+    source.push_str(") = a0; end")?;
+    let wanted = format!(in alloc;
+        "wrong number of arguments at 0: 30 wanted, 1 given\np:1:1:\nf(1) where\n^\nA call has as many arguments as the function has parameters.\n{shown}, ..) is defined in line 2, column 1.\n"
+    )?;
+    let answer = plain_call(alloc, "p", source.as_bytes())?;
+    assert_eq!(rt; answer.report.as_str(), wanted.as_str());
+    Ok(())
+}

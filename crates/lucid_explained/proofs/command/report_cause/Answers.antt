@@ -1,4 +1,7 @@
-use Rattle.lucid_explained.proofs.Common.{ℕ, List, map, inr, sym, subst, string_bytes, IsExplanation}
+use Rattle.std.proofs.Common.{ℕ, List, map, inl, inr, refl, sym, subst}
+use Rattle.std.specs.String.{string_bytes}
+use Rattle.lucid_explained.specs.Said.{IsExplanation}
+use Rattle.lucid_explained.specs.Explained.{unsaid_text}
 use Rattle.lucid_explained.proofs.command.report_cause.Goals as goal
 
 pub returns-in-Ok : goal.returns-in-Ok
@@ -6,4 +9,7 @@ returns-in-Ok g c =
     let files = g.F.Outlook.files c.args.outlook.now in
     let words = map string_bytes c.args.words.now in
     let P : List ℕ → Type 0 = λ z. IsExplanation files words c.args.line.now z in
-    inr (c.deref.result.now, c.write_line.result, subst P (sym c.deref.ensures.value) c.in-Ok.ensures, c.write_line.ensures)
+    (c.deref.result.now, c.write_line.result, inl (subst P (sym c.deref.ensures.value) c.in-Ok.ensures), c.write_line.ensures)
+
+pub returns-in-Err : goal.returns-in-Err
+returns-in-Err g c = (unsaid_text, c.report_unsaid.result, inr refl, c.report_unsaid.ensures)

@@ -1,8 +1,10 @@
-use Rattle.lucid_explained.proofs.Common.{◌≡◌, IfOk-weaker, plain_words, Says}
-use Rattle.lucid_explained.specs.Said.{unknown_text, of_no_file}
+use Rattle.std.proofs.lemmas.Result.{IfOk-weaker}
+use Rattle.std.proofs.Common.{◌≡◌}
+use Rattle.lucid_words.specs.Asked.{plain_words}
+use Rattle.lucid_explained.specs.Said.{or_unknown, Says, of_fault}
 use Rattle.lucid_explained.proofs.faults.text_of_faults.Goals as goal
 
-pub returns-then-is_empty : goal.returns-then-is_empty
-returns-then-is_empty g c =
-    IfOk-weaker c.from_slice.result (λ v. v.items ≡ unknown_text) (λ v. Says (g.F.Outlook.files c.args.outlook.now) (plain_words c.args.asked.now) c.args.line.now v.items)
-    (λ v e. of_no_file e) c.from_slice.ensures.items
+pub returns : goal.returns
+returns g c =
+    IfOk-weaker c.or_unknown.result (λ text. text.items ≡ or_unknown c.in_ok-told.told.items) (λ text. Says (g.F.Outlook.files c.args.outlook.now) (plain_words c.args.asked.now) c.args.line.now text.items)
+    (λ text e. of_fault c.in_ok-told.told.items c.requires c.in_ok-told.ensures e) c.or_unknown.ensures
