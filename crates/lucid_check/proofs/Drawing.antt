@@ -16,8 +16,21 @@ use Rattle.lucid_check.specs.Reads.{LiesPast}
 pub stream_there : (inputs : Inputs) (k : ℕ) → k < length (streams inputs) → slice_get (streams inputs) k ≡ Some (stream_at inputs k)
 stream_there inputs k h = slice_get-get_or (streams inputs) k (fresh_stream 0) h ∙ ap Some (sym (unwrap_or-slice_get (streams inputs) k (fresh_stream 0)))
 
+-- where a stream is read on, no place but its own is touched
+pub its_place : (now next : Inputs) (q x : ℕ) (mid after : World) → q < length (streams now) → ReadsStream now q x next mid after → ReadsOnly (places_of (streams now)) mid after
+its_place now next q x mid after there r = record {
+  names = r.asked.others.names;
+  reached = r.asked.reached;
+  others = λ k. elim (cases_eq k (stream_at now q).place) [
+    | inl e ↦ inl (subst (λ p. In p (places_of (streams now))) (sym e) (place_in (streams now) q (stream_at now q) (stream_there now q there)))
+    | inr e ↦ inr (r.asked.others.others k e)
+  ];
+  bytes = r.bytes;
+  faults = r.asked.others.faults;
+}
+
 -- what is said of the bytes of a place is said of the same bytes
-of_bytes : (P : List ℕ → Type 0) (o p : Option Contents) → option_map all_bytes p ≡ option_map all_bytes o → IfSome o (λ c. P (all_bytes c)) → IfSome p (λ c. P (all_bytes c))
+pub of_bytes : (P : List ℕ → Type 0) (o p : Option Contents) → option_map all_bytes p ≡ option_map all_bytes o → IfSome o (λ c. P (all_bytes c)) → IfSome p (λ c. P (all_bytes c))
 of_bytes P o None e h = tt
 of_bytes P None (Some c) e h = absurd (cc)
 of_bytes P (Some a) (Some c) e h = let f : all_bytes a ≡ all_bytes c = cc in subst P f h
@@ -145,19 +158,6 @@ module _ (T : Table) (cs : List (Option Context)) (js : List PlainJudgment) wher
           | inr e ↦ ap (λ (s : Stream). s.place) (r.others k e)
         ]
 
-        -- no other place is touched
-        its_place : ReadsOnly (places_of (streams now)) mid after
-        its_place = record {
-          names = r.asked.others.names;
-          reached = r.asked.reached;
-          others = λ k. elim (cases_eq k (stream_at now q).place) [
-            | inl e ↦ inl (subst (λ p. In p (places_of (streams now))) (sym e) (place_in (streams now) q (stream_at now q) (stream_there now q there)))
-            | inr e ↦ inr (r.asked.others.others k e)
-          ];
-          bytes = r.bytes;
-          faults = r.asked.others.faults;
-        }
-
         one_read : HaveRead (n + 1) next after
         one_read = record {
           drawn = λ k l. elim (cases_eq k q) [
@@ -166,7 +166,7 @@ module _ (T : Table) (cs : List (Option Context)) (js : List PlainJudgment) wher
           ];
           elements = extends_then _ _ _ h.elements (read_more (streams now) (streams next) q x mid after read apart T.inputs);
           askable = asked_again (streams now) (streams next) q x mid after read apart h.askable;
-          reads_only = reads_only_then (places_of (streams old)) before mid after h.reads_only (subst (λ ps. ReadsOnly ps mid after) h.places its_place);
+          reads_only = reads_only_then (places_of (streams old)) before mid after h.reads_only (subst (λ ps. ReadsOnly ps mid after) h.places (its_place now next q x mid after there r));
           places = read_places (streams now) (streams next) q x mid after read apart ∙ h.places;
           count = r.count ∙ h.count;
           most = r.most ∙ h.most;

@@ -12,7 +12,7 @@ use Rattle.lucid_check.proofs.Using.{fed_on, fed_nowhere}
 pub feeds_on : (value : Uses) (o : Option PlainValue) (m most : ℕ) (vs : List PlainValue) (l : Look) (u : ℕ) (us : List ℕ) (v : PlainValue) (r : Rest) → o ≡ fed value (look_plan m vs l) (u ∷ us)
     → value (plain_look l) u ≡ Some v → AreFedAlike most (by_then m vs l.then l.part l.time l.space v) (rest_plan m (vs ++ v ∷ []) r) → length us ≤ most
     → o ≡ fed value (rest_plan m (vs ++ v ∷ []) r) us
-feeds_on value o m most vs l u us v r e h a n = e ∙ (fed_on value l.part l.time l.space (least_of l.then l.time) (by_then m vs l.then l.part l.time l.space) u us v h ∙ a value us n)
+feeds_on value o m most vs l u us v r e h a n = e ∙ (fed_on value l.part l.time l.space (least_of l.then l.time) (by_then m vs l.then l.part l.time l.space) u us v h ∙ a.fed value us n)
 
 -- or it doesn't
 pub feeds_nowhere : (value : Uses) (o : Option PlainValue) (m : ℕ) (vs : List PlainValue) (l : Look) (u : ℕ) (us : List ℕ) → o ≡ fed value (look_plan m vs l) (u ∷ us) → value (plain_look l) u ≡ None → o ≡ None
@@ -101,7 +101,7 @@ module _ (T : Table) (cs : List (Option Context)) (js : List PlainJudgment) (i :
   -- none do at first;
   pub none_fed : (r : Rest) → ((f : Head) → HasHead T node f → (m most : ℕ) → j.time + most ≤ m → AreFedAlike most (plan m f j.time j.space) (rest_plan m [] r)) → Stands 0 r → FedSoFar 0 r
   none_fed r begins stands = record {
-    plan = λ id f there has. begins f has most (length j.uses) (omega arith) (value_of id) j.uses (omega arith);
+    plan = λ id f there has. (begins f has most (length j.uses) (omega arith)).fed (value_of id) j.uses (omega arith);
     stands = stands;
     earlier = tt;
   }

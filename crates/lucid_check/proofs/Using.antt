@@ -34,7 +34,7 @@ pub by_slice : (slice tags : List (Option Tag)) (n : ℕ) (r o : Option Tag) →
 by_slice slice tags n r o same e is = sym is ∙ (e ∙ ap (λ (z : List (Option Tag)). get_or z n None) same)
 
 -- what an earlier judgment has for a use
-used_by : (cs : List (Option Context)) (js : List PlainJudgment) (i n : ℕ) (c : Context) (t s u : ℕ) (j : PlainJudgment) → u < i → slice_get js u ≡ Some j
+pub used_by : (cs : List (Option Context)) (js : List PlainJudgment) (i n : ℕ) (c : Context) (t s u : ℕ) (j : PlainJudgment) → u < i → slice_get js u ≡ Some j
     → used cs js i n c t s u ≡ value_if (is_of cs j n c t s) j.value
 unfolding used
 used_by cs js i n c t s u j l e = rw (lt-ltb u i l, e) refl
@@ -91,7 +91,7 @@ told_there [] u j e = absurd (cc)
 told_there (x ∷ xs) zero j e = ap (λ (y : PlainJudgment). y.value) (same_Some x j e)
 told_there (x ∷ xs) (suc u) j e = told_there xs u j e
 
-earlier_by : (b : Bool) (o : Option PlainValue) (v : PlainValue) → cond b o None ≡ Some v → (b ≡ true) × (o ≡ Some v)
+pub earlier_by : (b : Bool) (o : Option PlainValue) (v : PlainValue) → cond b o None ≡ Some v → (b ≡ true) × (o ≡ Some v)
 earlier_by true o v h = (refl, h)
 earlier_by false o v h = absurd (cc)
 

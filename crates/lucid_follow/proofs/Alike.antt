@@ -1,17 +1,30 @@
--- Plans that are fed alike.
-use Rattle.lucid_follow.proofs.Common.{◌≡◌, ℕ, zero, suc, ◌+◌, ◌-◌, ◌<◌, ◌≤◌, Bool, true, false, cond, List, [], ◌∷◌, ◌++◌, Option, Some, None, refl, sym, ap, ◌∙◌, subst, arith, nat_le, option_and_then, PlainValue, truth, fault, arity, Op, last, Look, Plan, gives, looks, gives_part, by_test, at_zero, find_true, count_true, Uses, take_values, fed, look_plan, AreFedAlike, answer_of, by_answer, truth_by, place_by, append_assoc, pos, negsuc, append-nil}
+-- Plans that are alike: for the same uses, and where they look.
+use Rattle.lucid_follow.proofs.Common.{◌≡◌, ℕ, zero, suc, ◌+◌, ◌-◌, ◌<◌, ◌≤◌, Bool, true, false, cond, List, [], ◌∷◌, ◌++◌, length, Option, Some, None, refl, sym, ap, ◌∙◌, subst, arith, nat_le, option_and_then, PlainValue, truth, fault, arity, Op, last, Look, Plan, gives, looks, gives_part, by_test, at_zero, find_true, count_true, Uses, take_values, fed, look_plan, AreFedAlike, answer_of, by_answer, truth_by, place_by, append_assoc, pos, negsuc, append-nil}
 use Rattle.lucid_value.specs.Plain.{int, word, text, list, eod}
 use Rattle.lucid_ops.specs.Algebra.{algebra}
-use Rattle.lucid_tree.specs.Rows.{single, look, by_place, only_truth, arguments}
+use Rattle.std.proofs.Common.{inl, inr}
+use Rattle.std.specs.Prelude.{if◌then◌else◌}
+use Rattle.lucid_tree.specs.Members.{In}
+use Rattle.lucid_tree.specs.PlanLaws.{points_of}
+use Rattle.lucid_tree.specs.Rows.{single, look, by_place, only_truth, arguments, Reader, all_values, add_value, with_values, gather}
+use Rattle.lucid_tree.proofs.Members.{in_left, in_right, in_either}
 use Rattle.lucid_follow.specs.declared.rest.Answer.TheVariants.{At, Other}
 use Rattle.lucid_follow.specs.declared.rest.Then.TheVariants as then
 
 -- one plan
 pub alike : (most : ℕ) (p q : Plan) → p ≡ q → AreFedAlike most p q
-alike most p q e value us l = ap (λ (x : Plan). fed value x us) e
+alike most p q e = record {
+  fed = λ value us l. ap (λ (x : Plan). fed value x us) e;
+  look = λ some m r z i. subst (λ (x : Plan). In z (points_of m x r)) (sym e) i;
+}
 
 pub alike_then : (most : ℕ) (p q r : Plan) → p ≡ q → AreFedAlike most q r → AreFedAlike most p r
-alike_then most p q r e h value us l = ap (λ (x : Plan). fed value x us) e ∙ h value us l
+alike_then most p q r e h =
+    let P : Plan → Type 0 = λ x. AreFedAlike most x r in subst P (sym e) h
+
+alike_end : (most : ℕ) (p q r : Plan) → AreFedAlike most p q → q ≡ r → AreFedAlike most p r
+alike_end most p q r h e =
+    let P : Plan → Type 0 = λ x. AreFedAlike most p x in subst P e h
 
 -- what a value tells decides as it does
 other_test : (b : Bool) (n : ℕ) (on off : Plan) → gives fault ≡ by_answer (cond b (At n) Other) on off
@@ -72,11 +85,21 @@ none_found : (value : Uses) (x t w s : ℕ) → fed value (find_true x t w s) []
 none_found value zero t w s = refl
 none_found value (suc x) t w s = refl
 
+search_looks : (m : ℕ) (vs : List PlainValue) (t w s : ℕ) → suc t ≤ m → find_true (m - t) t w s ≡ look_plan m vs (record { part = 1; time = t; space = s; then = then.Find w })
+search_looks m vs t w s h =
+    let e : m - t ≡ suc (m - suc t) = omega (arith, h) in ap (λ (x : ℕ). find_true x t w s) e
+
 pub find_alike : (m most : ℕ) (vs : List PlainValue) (t w s : ℕ) → t + most ≤ m
     → AreFedAlike most (find_true (m - t) t w s) (look_plan m vs (record { part = 1; time = t; space = s; then = then.Find w }))
-find_alike m most vs t w s h value [] l = none_found value (m - t) t w s
-find_alike m most vs t w s h value (u ∷ us) l =
-    let e : m - t ≡ suc (m - suc t) = omega (arith, h, l) in ap (λ (x : ℕ). fed value (find_true x t w s) (u ∷ us)) e
+find_alike m most vs t w s h = record {
+  fed = by_uses;
+  look = λ some n r z i.
+      subst (λ (x : Plan). In z (points_of n x r)) (sym (search_looks m vs t w s (omega (arith, h, some)))) i;
+}
+  where
+    by_uses : (value : Uses) (us : List ℕ) → length us ≤ most → fed value (find_true (m - t) t w s) us ≡ fed value (look_plan m vs (record { part = 1; time = t; space = s; then = then.Find w })) us
+    by_uses value [] l = none_found value (m - t) t w s
+    by_uses value (u ∷ us) l = ap (λ (x : Plan). fed value x (u ∷ us)) (search_looks m vs t w s (omega (arith, h, l)))
 
 pub find_next : (m most : ℕ) (vs : List PlainValue) (t w s : ℕ) → t + 1 + most ≤ m
     → AreFedAlike most (find_true (m - suc t) (suc t) w s) (look_plan m vs (record { part = 1; time = t + 1; space = s; then = then.Find w }))
@@ -108,13 +131,60 @@ first_value : (value : Uses) (ls : List Look) (k : List PlainValue → Plan) (us
 first_value value ls k us None = refl
 first_value value ls k us (Some v) = pairs value k v (take_values value ls us)
 
+-- what the first of looks sees, and then the others, all of them see together
+module _ (m : ℕ) (r : Reader (Option PlainValue)) (l : Look) (ls : List Look) (k : List PlainValue → Plan) (z : ℕ × ℕ × ℕ) where
+  abbrev seen : List (ℕ × ℕ × ℕ)
+  seen = if nat_le l.least m then (l.part, l.time, l.space) ∷ [] else []
+
+  abbrev others : List (ℕ × ℕ × ℕ)
+  others = gather m (λ i t s. (i, t, s) ∷ []) ls
+
+  later_looks : (v : PlainValue) (o : Option (List PlainValue)) → In z (others ++ with_values o [] (λ ws. points_of m (k (v ∷ ws)) r))
+      → In z ((seen ++ others) ++ with_values (add_value (Some v) o) [] (λ ws. points_of m (k ws) r))
+  later_looks v None i =
+      elim (in_either z others [] i) [
+        | inl j ↦ in_left z (seen ++ others) [] (in_right z seen others j)
+        | inr j ↦ absurd j
+      ]
+  later_looks v (Some ws) i =
+      elim (in_either z others (points_of m (k (v ∷ ws)) r) i) [
+        | inl j ↦ in_left z (seen ++ others) (points_of m (k (v ∷ ws)) r) (in_right z seen others j)
+        | inr j ↦ in_right z (seen ++ others) (points_of m (k (v ∷ ws)) r) j
+      ]
+
+  first_look : (ys : List (ℕ × ℕ × ℕ)) → In z (seen ++ []) → In z ((seen ++ others) ++ ys)
+  first_look ys i =
+      elim (in_either z seen [] i) [
+        | inl j ↦ in_left z (seen ++ others) ys (in_left z seen others j)
+        | inr j ↦ absurd j
+      ]
+
+  looks_together : (o : Option PlainValue) → In z ((seen ++ []) ++ with_values (add_value o (Some [])) [] (λ vs. points_of m (single (λ v. looks ls (λ ws. k (v ∷ ws))) vs) r))
+      → In z ((seen ++ others) ++ with_values (add_value o (all_values r ls)) [] (λ ws. points_of m (k ws) r))
+  looks_together None i =
+      elim (in_either z (seen ++ []) [] i) [
+        | inl j ↦ first_look [] j
+        | inr j ↦ absurd j
+      ]
+  looks_together (Some v) i =
+      elim (in_either z (seen ++ []) (points_of m (looks ls (λ ws. k (v ∷ ws))) r) i) [
+        | inl j ↦ first_look (with_values (add_value (Some v) (all_values r ls)) [] (λ ws. points_of m (k ws) r)) j
+        | inr j ↦ later_looks v (all_values r ls) j
+      ]
+
 pub one_by_one : (most : ℕ) (l : Look) (ls : List Look) (k : List PlainValue → Plan) → AreFedAlike most (looks (l ∷ ls) k) (looks (l ∷ []) (single (λ v. looks ls (λ ws. k (v ∷ ws)))))
-one_by_one most l ls k value [] h = refl
-one_by_one most l ls k value (u ∷ us) h = first_value value ls k us (value l u)
+one_by_one most l ls k = record {
+  fed = by_uses;
+  look = λ some m r z i. looks_together m r l ls k z (r l.part l.time l.space) i;
+}
+  where
+    by_uses : (value : Uses) (us : List ℕ) → length us ≤ most → fed value (looks (l ∷ ls) k) us ≡ fed value (looks (l ∷ []) (single (λ v. looks ls (λ ws. k (v ∷ ws))))) us
+    by_uses value [] h = refl
+    by_uses value (u ∷ us) h = first_value value ls k us (value l u)
 
 -- no looks
 pub no_looks : (most : ℕ) (k : List PlainValue → Plan) → AreFedAlike most (looks [] k) (k [])
-no_looks most k value us h = refl
+no_looks most k = record { fed = λ value us h. refl; look = λ some m r z i. i }
 
 -- The arguments of an operator from one on, behind some values: the first, and then the others,
 module _ (op : Op) (t s : ℕ) where
@@ -127,11 +197,14 @@ module _ (op : Op) (t s : ℕ) where
 
   pub next_argument : (most m : ℕ) (vs : List PlainValue) (left i : ℕ) → left ≡ arity op - i → i < arity op
       → AreFedAlike most (from_argument vs left i) (look_plan m vs (record { part = i; time = t; space = s; then = then.Argument op }))
-  next_argument most m vs left i e h value us l =
+  next_argument most m vs left i e h =
       let n : left ≡ suc (arity op - suc i) = omega (arith, e, h) in
-      ap (λ (x : ℕ). fed value (from_argument vs x i) us) n
-      ∙ (one_by_one most (record { part = i; time = t; space = s; least = 0 }) (arguments (arity op - suc i) (suc i) t s) (λ ws. gives (algebra op (vs ++ ws))) value us l
-      ∙ ap (λ (x : Plan). fed value x us) (regrouped vs (arity op - suc i) i))
+      alike_then most (from_argument vs left i) (from_argument vs (suc (arity op - suc i)) i) (look_plan m vs (record { part = i; time = t; space = s; then = then.Argument op }))
+      (ap (λ (x : ℕ). from_argument vs x i) n)
+      (alike_end most (from_argument vs (suc (arity op - suc i)) i) (look i t s 0 (λ v. looks (arguments (arity op - suc i) (suc i) t s) (λ ws. gives (algebra op (vs ++ v ∷ ws)))))
+      (look_plan m vs (record { part = i; time = t; space = s; then = then.Argument op }))
+      (one_by_one most (record { part = i; time = t; space = s; least = 0 }) (arguments (arity op - suc i) (suc i) t s) (λ ws. gives (algebra op (vs ++ ws))))
+      (regrouped vs (arity op - suc i) i))
 
   pub argument_next : (most m : ℕ) (vs : List PlainValue) (i : ℕ) → i + 1 < arity op
       → AreFedAlike most (from_argument vs (arity op - suc i) (suc i)) (look_plan m vs (record { part = i + 1; time = t; space = s; then = then.Argument op }))
@@ -142,5 +215,7 @@ module _ (op : Op) (t s : ℕ) where
 
   -- and with none left its value.
   pub last_argument : (most : ℕ) (vs : List PlainValue) (left i : ℕ) → left ≡ 0 → AreFedAlike most (from_argument vs left i) (gives (algebra op vs))
-  last_argument most vs left i e value us l =
-      ap (λ (x : ℕ). fed value (from_argument vs x i) us) e ∙ ap (λ (x : List PlainValue). fed value (gives (algebra op x)) us) (append-nil vs)
+  last_argument most vs left i e =
+      alike_then most (from_argument vs left i) (looks [] (λ ws. gives (algebra op (vs ++ ws)))) (gives (algebra op vs)) (ap (λ (x : ℕ). from_argument vs x i) e)
+      (alike_end most (looks [] (λ ws. gives (algebra op (vs ++ ws)))) (gives (algebra op (vs ++ []))) (gives (algebra op vs)) (no_looks most (λ ws. gives (algebra op (vs ++ ws))))
+      (ap (λ (x : List PlainValue). gives (algebra op x)) (append-nil vs)))

@@ -10,13 +10,13 @@ use Rattle.lucid_follow.specs.RestPlans.{IsForm}
 use Rattle.lucid_follow.specs.Checking.{PassesOn, row_onward}
 
 -- a form has a head, and its node is that with parts
-record IsOfForm (T : Table) (n : Node) : Type 0 where
+pub record IsOfForm (T : Table) (n : Node) : Type 0 where
   pub head : Head
   pub has : HasHead T n head
   pub nodes : PlainNodes
   pub is : node_by T n ≡ row head nodes
 
-of_form : (T : Table) (n : Node) → IsForm n → IsOfForm T n
+pub of_form : (T : Table) (n : Node) → IsForm n → IsOfForm T n
 of_form T (rows.Const k) h = record { head = const (constant_at T k); has = refl; nodes = no_nodes; is = refl }
 of_form T (rows.Input k) h = absurd h
 of_form T (rows.Apply op args) h = record { head = apply op (arity op); has = refl; nodes = all_at (nodes_of T) (parts (rows.Apply op args)); is = refl }

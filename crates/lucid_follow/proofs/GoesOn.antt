@@ -3,8 +3,16 @@ use Rattle.lucid_follow.proofs.Common.{◌≡◌, ℕ, suc, ◌-◌, false, true
 use Rattle.lucid_follow.specs.RestPlans.{second_side, by_then}
 use Rattle.lucid_follow.specs.Told.{found_by, counted_by}
 use Rattle.lucid_follow.specs.declared.rest.Answer.{Answer}
+use Rattle.lucid_follow.specs.declared.rest.Answer.TheVariants.{Holds}
 use Rattle.lucid_follow.specs.declared.rest.Then.TheVariants.{Give, Choose, Both, Either, Judge, Time, Space, Find, Count, Argument}
-use Rattle.lucid_follow.proofs.Alike.{alike, alike_then, told_test, told_place, told_truth}
+use Rattle.std.proofs.Common.{◌<◌, arith}
+use Rattle.lucid_follow.proofs.Alike.{alike, at_more, alike_then, told_test, told_place, told_truth}
+
+-- a search goes on after a true value that isn't the one that is wanted
+pub found_again : (most m w t s : ℕ) (a : Answer) (q : Plan) → a ≡ Holds true → 0 < w → AreFedAlike most (find_true (m - suc t) (suc t) (w - 1) s) q → AreFedAlike most (found_by m a w t s) q
+found_again most m w t s a q e some h =
+    let on = at_more w (w - 1) (gives_part 0 t s) (λ k. find_true (m - suc t) (suc t) k s) (omega (arith, some)) in
+    alike_then most (found_by m a w t s) (find_true (m - suc t) (suc t) (w - 1) s) q (ap (λ (x : Answer). found_by m x w t s) e ∙ on) h
 
 module _ (most m : ℕ) (vs : List PlainValue) (i t s : ℕ) (v : PlainValue) (a : Answer) (told : a ≡ answer_of v) (th : Then) (q : Plan) where
   -- the plan goes on as another one does

@@ -4,6 +4,8 @@ pub mod Alike
 pub mod Begins
 pub mod GoesOn
 pub mod ContextTags
+pub mod RowsOf
+pub mod Inside
 pub mod Going
 pub mod GivenBy
 pub mod Meant

@@ -12,9 +12,8 @@ use Rattle.lucid_equations.specs.Needs.{ReferencesHaveValues, ElementsHaveValues
 use Rattle.lucid_equations.specs.Parts.{reads_parts}
 use Rattle.lucid_equations.specs.Ranges.{IsInRange}
 use Rattle.lucid_equations.specs.declared.rows.Node.TheVariants.{Freeze}
-use Rattle.lucid_why.specs.declared.rows.Why.{Why}
-use Rattle.lucid_follow.specs.Follows.{contexts, is_context, is_of, AllFollow}
-use Rattle.lucid_follow.specs.Meant.{AreWithin, WhatFollowsIsMeant}
+use Rattle.lucid_follow.specs.Follows.{contexts, is_context, is_of}
+use Rattle.lucid_follow.specs.Meant.{WhatFollowsIsMeant}
 use Rattle.lucid_follow.proofs.FedRuns.{fed_runs, runs_up}
 
 -- the laws of tables that it rests on
@@ -38,28 +37,28 @@ same_there : (o : Option Context) (c : Context) → is_context o c ≡ true → 
 same_there (Some d) c e = ap Some ((same_context_is_equality d c).0 e)
 same_there None c e = absurd (cc)
 
-module _ (T : Table) (in_range : IsInRange T) (laws : Laws) (b : Elements) (w : Why) (most : ℕ) where
+module _ (T : Table) (in_range : IsInRange T) (laws : Laws) (b : Elements) (cs : List (Option Context)) (js : List PlainJudgment) (most : ℕ) where
   -- a part by its number
   has_part : (id i k : ℕ) → part_number T id i ≡ Some k → HasPart T id i k
   has_part id i k e = option_and_then_some _ (row_at T id) k e (λ n t m. record { row = n; there = t; names = m })
 
   -- a judgment's value is its node's at a limit
-  abbrev Has : (limit node : ℕ) → Context → (time space : ℕ) → PlainValue → Type 0
+  abbrev pub Has : (limit node : ℕ) → Context → (time space : ℕ) → PlainValue → Type 0
   Has m n c t s v = node_val (equations_of T) b m (node_at T n) c t s ≡ Some v
 
   -- it is so of the judgment of a number
-  abbrev IsMeant : ℕ → Type 0
-  IsMeant i = (j : PlainJudgment) (c : Context) → slice_get w.judgments i ≡ Some j → context_in (contexts w) j.context ≡ Some c → Has (i + 1 + most) j.node c j.time j.space j.value
+  abbrev pub IsMeant : ℕ → Type 0
+  IsMeant i = (j : PlainJudgment) (c : Context) → slice_get js i ≡ Some j → context_in cs j.context ≡ Some c → Has (i + 1 + most) j.node c j.time j.space j.value
 
   up : (m n id : ℕ) → m ≤ n → (c : Context) (t s : ℕ) (v : PlainValue) → Has m id c t s v → Has n id c t s v
   up m n id l c t s v h = laws.stay (equations_of T) (nothing_held b) m n l (node_at T id) c t s v h
 
   module _ (i : ℕ) (earlier : (u : ℕ) → u < i → IsMeant u) where
-    of_judgment : (u n : ℕ) (c : Context) (t s : ℕ) (v : PlainValue) (j : PlainJudgment) → u < i → slice_get w.judgments u ≡ Some j → is_of (contexts w) j n c t s ≡ true → j.value ≡ v
+    of_judgment : (u n : ℕ) (c : Context) (t s : ℕ) (v : PlainValue) (j : PlainJudgment) → u < i → slice_get js u ≡ Some j → is_of cs j n c t s ≡ true → j.value ≡ v
         → Has (i + most) n c t s v
     of_judgment u n c t s v j l there is e =
         let p = and_parts (j.node == n) _ is in
-        let q = and_parts (is_context (context_in (contexts w) j.context) c) _ p.1 in
+        let q = and_parts (is_context (context_in cs j.context) c) _ p.1 in
         let r = and_parts (j.time == t) (j.space == s) q.1 in
         let m = earlier u l j c there (same_there _ c q.0) in
         let P0 : ℕ → Type 0 = λ k. Has (u + 1 + most) k c j.time j.space j.value in
@@ -72,19 +71,19 @@ module _ (T : Table) (in_range : IsInRange T) (laws : Laws) (b : Elements) (w : 
         let m3 = subst P3 e m2 in up (u + 1 + most) (i + most) n (omega (arith, l)) c t s v m3
 
     -- what a use has is meant
-    used_means : (n : ℕ) (c : Context) (t s u : ℕ) (v : PlainValue) → used (contexts w) w.judgments i n c t s u ≡ Some v → Has (i + most) n c t s v
+    used_means : (n : ℕ) (c : Context) (t s u : ℕ) (v : PlainValue) → used cs js i n c t s u ≡ Some v → Has (i + most) n c t s v
     unfolding used
     used_means n c t s u v e =
         let p = cond_parts (nat_lt u i) _ v e in
-        option_and_then_some _ (slice_get w.judgments u) v p.1 (λ j there k.
-        let q = cond_some (is_of (contexts w) j n c t s) j.value v k in of_judgment u n c t s v j (ltb-true u i p.0) there q.0 q.1)
+        option_and_then_some _ (slice_get js u) v p.1 (λ j there k.
+        let q = cond_some (is_of cs j n c t s) j.value v k in of_judgment u n c t s v j (ltb-true u i p.0) there q.0 q.1)
       where
         cond_parts : (x : Bool) (o : Option PlainValue) (y : PlainValue) → cond x o None ≡ Some y → (x ≡ true) × (o ≡ Some y)
         cond_parts true o y h = (refl, h)
         cond_parts false o y h = absurd (cc)
 
     -- what is read of a part, by a use
-    part_means : (id : ℕ) (f : Head) (es : PlainNodes) (c : Context) → node_at T id ≡ row f es → (l : Look) (u : ℕ) (v : PlainValue) → of_part T (used (contexts w) w.judgments i) id c l u ≡ Some v
+    part_means : (id : ℕ) (f : Head) (es : PlainNodes) (c : Context) → node_at T id ≡ row f es → (l : Look) (u : ℕ) (v : PlainValue) → of_part T (used cs js i) id c l u ≡ Some v
         → reads_parts (equations_of T) (nothing_held b) (i + 1 + most) es c l.part l.time l.space ≡ Some v
     part_means id f es c is l u v e =
         option_and_then_some _ (part_number T id l.part) v e (λ k t m.
@@ -92,10 +91,10 @@ module _ (T : Table) (in_range : IsInRange T) (laws : Laws) (b : Elements) (w : 
         ∙ up (i + most) (i + 1 + most) k (omega arith) c l.time l.space v (used_means k c l.time l.space u v m))
 
     by_row : (id : ℕ) (f : Head) (es : PlainNodes) (c : Context) (t s : ℕ) (us : List ℕ) (v : PlainValue) → t + length us ≤ most → node_at T id ≡ row f es
-        → fed (of_part T (used (contexts w) w.judgments i) id c) (plan (t + length us) f t s) us ≡ Some v → Has (i + 1 + most) id c t s v
+        → fed (of_part T (used cs js i) id c) (plan (t + length us) f t s) us ≡ Some v → Has (i + 1 + most) id c t s v
     by_row id f es c t s us v l is e =
         let r = reads_parts (equations_of T) (nothing_held b) (i + 1 + most) es c in
-        let runs = fed_runs (of_part T (used (contexts w) w.judgments i) id c) r (part_means id f es c is) (plan (t + length us) f t s) us v e in
+        let runs = fed_runs (of_part T (used cs js i) id c) r (part_means id f es c is) (plan (t + length us) f t s) us v e in
         let P : PlainNode → Type 0 = λ x. node_val (equations_of T) b (i + 1 + most) x c t s ≡ Some v in
         subst P (sym is) (runs_up (t + length us) (i + 1 + most) (omega (arith, l)) f t s r v runs)
 
@@ -112,7 +111,7 @@ module _ (T : Table) (in_range : IsInRange T) (laws : Laws) (b : Elements) (w : 
     only_one value (u ∷ x ∷ us) v e = absurd (cc)
 
     by_freeze : (id : ℕ) (e : PlainNode) (c : Context) (t s : ℕ) (us : List ℕ) (v : PlainValue) → node_at T id ≡ freeze e
-        → only (λ u. option_and_then (λ n. used (contexts w) w.judgments i n (frozen_frame t c) t s u) (part_number T id 0)) us ≡ Some v → Has (i + 1 + most) id c t s v
+        → only (λ u. option_and_then (λ n. used cs js i n (frozen_frame t c) t s u) (part_number T id 0)) us ≡ Some v → Has (i + 1 + most) id c t s v
     by_freeze id e c t s us v is h =
         let one = only_one _ us v h in
         option_and_then_some _ (part_number T id 0) v one.1 (λ k p m.
@@ -123,7 +122,7 @@ module _ (T : Table) (in_range : IsInRange T) (laws : Laws) (b : Elements) (w : 
         subst P (sym is) (laws.freezing (equations_of T) e (nothing_held b) (i + 1 + most) c t s
         ∙ (ap (λ (x : PlainNode). node_val (equations_of T) b (i + 1 + most) x (frozen_frame t c) t s) subject ∙ value)))
 
-    by_aim : (id : ℕ) (c : Context) (t s : ℕ) (us : List ℕ) (v : PlainValue) (a : NumberAim) → number_aim T id c t ≡ a → by_onward b (used (contexts w) w.judgments i) (onward a) s us ≡ Some v
+    by_aim : (id : ℕ) (c : Context) (t s : ℕ) (us : List ℕ) (v : PlainValue) (a : NumberAim) → number_aim T id c t ≡ a → by_onward b (used cs js i) (onward a) s us ≡ Some v
         → Has (i + 1 + most) id c t s v
     by_aim id c t s [] v (element_of n j) is h =
         let aim = laws.numbers T in_range id c t ∙ ap (plain_aim T) is in
@@ -137,20 +136,20 @@ module _ (T : Table) (in_range : IsInRange T) (laws : Laws) (b : Elements) (w : 
     by_aim id c t s us v nowhere is h = absurd (cc)
 
     by_its_node : (id : ℕ) (c : Context) (t s : ℕ) (us : List ℕ) (v : PlainValue) (e : PlainNode) → t + length us ≤ most → node_at T id ≡ e
-        → by_node T b (used (contexts w) w.judgments i) e id c t s us ≡ Some v → Has (i + 1 + most) id c t s v
+        → by_node T b (used cs js i) e id c t s us ≡ Some v → Has (i + 1 + most) id c t s v
     by_its_node id c t s us v (row f es) l is h = by_row id f es c t s us v l is h
     by_its_node id c t s us v (freeze e) l is h = by_freeze id e c t s us v is h
     by_its_node id c t s us v (reference r) l is h = by_aim id c t s us v (number_aim T id c t) refl h
     by_its_node id c t s us v (invoke n at k) l is h = by_aim id c t s us v (number_aim T id c t) refl h
 
-    gives_meant : (id : ℕ) (c : Context) (t s : ℕ) (us : List ℕ) (v : PlainValue) → t + length us ≤ most → given T b (used (contexts w) w.judgments i) id c t s us ≡ Some v → Has (i + 1 + most) id c t s v
+    gives_meant : (id : ℕ) (c : Context) (t s : ℕ) (us : List ℕ) (v : PlainValue) → t + length us ≤ most → given T b (used cs js i) id c t s us ≡ Some v → Has (i + 1 + most) id c t s v
     unfolding given
     gives_meant id c t s us v l h = by_its_node id c t s us v (node_at T id) l refl h
 
-    follows_meant : (f : FollowsIn T b (contexts w) w.judgments i) → f.judgment.time + length f.judgment.uses ≤ most → IsMeant i
+    follows_meant : (f : FollowsIn T b cs js i) → f.judgment.time + length f.judgment.uses ≤ most → IsMeant i
     follows_meant f l j c there context =
         let same : f.judgment ≡ j = same_Some f.judgment j (sym f.there ∙ there) in
-        let at : f.context ≡ c = same_Some f.context c (sym f.form.context ∙ (ap (λ (x : PlainJudgment). context_in (contexts w) x.context) same ∙ context)) in
+        let at : f.context ≡ c = same_Some f.context c (sym f.form.context ∙ (ap (λ (x : PlainJudgment). context_in cs x.context) same ∙ context)) in
         let value = gives_meant f.judgment.node f.context f.judgment.time f.judgment.space f.judgment.uses f.judgment.value l f.gives in
         let P : PlainJudgment → Type 0 = λ x. Has (i + 1 + most) x.node f.context x.time x.space x.value in
         let Q : Context → Type 0 = λ x. Has (i + 1 + most) j.node x j.time j.space j.value in subst Q at (subst P same value)
@@ -163,15 +162,22 @@ module _ (T : Table) (in_range : IsInRange T) (laws : Laws) (b : Elements) (w : 
       split (inr (inl e)) = inl e
       split (inr (inr e)) = absurd (omega (arith, e, h))
 
-  next_meant : (n : ℕ) → AllFollow T b w n → AreWithin w n most → (k : ℕ) → suc k ≤ n → ((u : ℕ) → u < k → IsMeant u) → (i : ℕ) → (i < k) ⊎ (i ≡ k) → IsMeant i
+  -- all judgments below a number follow, and none has a time and uses that together are more
+  abbrev pub Follow : ℕ → Type 0
+  Follow n = (i : ℕ) → i < n → FollowsIn T b cs js i
+
+  abbrev pub Within : ℕ → Type 0
+  Within n = (i : ℕ) (j : PlainJudgment) → i < n → slice_get js i ≡ Some j → j.time + length j.uses ≤ most
+
+  next_meant : (n : ℕ) → Follow n → Within n → (k : ℕ) → suc k ≤ n → ((u : ℕ) → u < k → IsMeant u) → (i : ℕ) → (i < k) ⊎ (i ≡ k) → IsMeant i
   next_meant n all within k l below i (inl q) = below i q
   next_meant n all within k l below i (inr q) =
       let f = all i (omega (arith, q, l)) in
       follows_meant i (λ u m. below u (omega (arith, m, q))) f (within i f.judgment (omega (arith, q, l)) f.there)
 
-  all_meant : (n : ℕ) → AllFollow T b w n → AreWithin w n most → (k : ℕ) → k ≤ n → (i : ℕ) → i < k → IsMeant i
+  pub all_meant : (n : ℕ) → Follow n → Within n → (k : ℕ) → k ≤ n → (i : ℕ) → i < k → IsMeant i
   all_meant n all within zero l i h = absurd (omega (arith, h))
   all_meant n all within (suc k) l i h = next_meant n all within k l (all_meant n all within k (omega (arith, l))) i (lesser i k h)
 
 pub what_follows_is_meant : Laws → WhatFollowsIsMeant
-what_follows_is_meant laws T r b w n most all within i j c l there context = all_meant T r laws b w most n all within n (omega arith) i l j c there context
+what_follows_is_meant laws T r b w n most all within i j c l there context = all_meant T r laws b (contexts w) w.judgments most n all within n (omega arith) i l j c there context

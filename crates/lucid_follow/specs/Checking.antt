@@ -1,7 +1,8 @@
 -- What a check has of a certificate: tags in place of contexts.
-use Rattle.std.specs.Prelude.{◌≡◌, ℕ, List, Option, Some, None, map, option_map, slice_get}
+use Rattle.std.specs.Prelude.{◌≡◌, ℕ, ◌<◌, ◌≤◌, List, Option, Some, None, map, take, length, option_map, slice_get}
+use Rattle.lucid_tree.specs.Rows.{last}
 use Rattle.lucid_tree.specs.Levels.{goes_to, nowhere}
-use Rattle.lucid_tags.specs.Contexts.{Context, frozen_frame}
+use Rattle.lucid_tags.specs.Contexts.{Context, frozen_frame, context_at}
 use Rattle.lucid_tags.specs.Known.{IsKnown, context_of, space_of}
 use Rattle.lucid_tags.specs.declared.Tag.{Tag}
 use Rattle.lucid_equations.specs.NumberAims.{row_aim}
@@ -22,6 +23,19 @@ contexts_of known tags = map (option_map (context_of known)) tags
 
 abbrev pub AreOfContexts : (known : List Context) → List (Option Tag) → Type 0
 AreOfContexts known tags = (i : ℕ) (tag : Tag) → slice_get tags i ≡ Some (Some tag) → IsOfContext known tag
+
+-- the known contexts before a number, each of them good
+abbrev pub known_before : List Context → (number : ℕ) → List (Option Context)
+known_before known n = map Some (take n known)
+
+-- the frozen times of known contexts are times
+abbrev pub AreTimes : List Context → Type 0
+AreTimes known = (i t : ℕ) (c : Context) → context_at known i ≡ frozen_frame t c → t ≤ last
+
+-- a node of the table at a time
+pub record IsWithin (T : Table) (at : Position) : Type 0 where
+  pub node : at.node < length T.nodes
+  pub time : at.time ≤ last
 
 -- where a position goes on, without its daton
 abbrev pub going : List Context → Option Position → Onward

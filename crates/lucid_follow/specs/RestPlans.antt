@@ -1,11 +1,13 @@
 -- The plans that what is left of a form stands for, and what the looks on the way were.
-use Rattle.std.specs.Prelude.{◌≡◌, ℕ, true, false, suc, ◌+◌, ◌-◌, ◌<◌, ◌≤◌, ◌^◌, List, [], ◌∷◌, ◌++◌, length}
+use Rattle.std.specs.Prelude.{◌≡◌, ℕ, true, false, suc, ◌+◌, ◌-◌, ◌<◌, ◌≤◌, ◌^◌, List, [], ◌∷◌, ◌++◌, length, Option}
 use Rattle.lucid_value.specs.Plain.{PlainValue, truth, eod, fault}
 use Rattle.lucid_value.specs.View.{plain}
 use Rattle.lucid_ops.specs.Algebra.{algebra}
 use Rattle.lucid_ops.specs.Arity.{arity}
 use Rattle.lucid_tree.specs.Tree.{Head, const, apply, choose, both, either, first, next, fby, whenever, asa, upon, attime, initial, succ, sby, atspace}
-use Rattle.lucid_tree.specs.Rows.{Plan, gives, looks, look, gives_part, by_test, by_place, only_truth, at_zero, arguments, find_true, count_true}
+use Rattle.lucid_tree.specs.Members.{Inside}
+use Rattle.lucid_tree.specs.Rows.{Plan, last, gives, looks, look, gives_part, by_test, by_place, only_truth, at_zero, arguments, find_true, count_true, Reader}
+use Rattle.lucid_tree.specs.PlanLaws.{points_of}
 use Rattle.lucid_equations.specs.Rows.{constant_at}
 use Rattle.lucid_equations.specs.declared.rows.Node.{Node}
 use Rattle.lucid_equations.specs.declared.rows.Node.TheVariants as node
@@ -116,6 +118,35 @@ Stands k (rest.Look l) = CanGoOn k l
 Stands k (rest.Apply op) = k ≡ arity op
 Stands k _ = Unit {0}
 
--- Two plans are fed alike by as many uses, or fewer.
-abbrev pub AreFedAlike : (most : ℕ) → Plan → Plan → Type 0
-AreFedAlike most p q = (value : Uses) (us : List ℕ) → length us ≤ most → fed value p us ≡ fed value q us
+-- With so many parts, those that are looked at by what is done with a value are there.
+abbrev pub PartsFor : Then → (count : ℕ) → Type 0
+PartsFor Choose n = 2 < n
+PartsFor Both n = 1 < n
+PartsFor Either n = 1 < n
+PartsFor Time n = 0 < n
+PartsFor Space n = 0 < n
+PartsFor (Find w) n = 1 < n
+PartsFor (Count seen until) n = 1 < n
+PartsFor (Argument op) n = arity op ≤ n
+PartsFor _ n = Unit {0}
+
+-- a time and a space; that of a search goes on to any time
+abbrev pub IsAtPoint : Then → (time space : ℕ) → Type 0
+IsAtPoint (Find w) t s = s ≤ last
+IsAtPoint _ t s = (t ≤ last) × (s ≤ last)
+
+-- A look of a form with so many parts: at one of them, at a point.
+pub record IsLookOf (count : ℕ) (l : Look) : Type 0 where
+  pub part : l.part < count
+  pub parts : PartsFor l.then count
+  pub point : IsAtPoint l.then l.time l.space
+
+abbrev pub LooksInside : (count : ℕ) → Rest → Type 0
+LooksInside n (rest.Look l) = IsLookOf n l
+LooksInside n _ = Unit {0}
+
+-- Two plans are alike for as many uses, or fewer: these feed them alike; and if there may be one at all, the first looks wherever the second
+-- looks, at each limit and by whatever values.
+pub record AreFedAlike (most : ℕ) (p q : Plan) : Type 0 where
+  pub fed : (value : Uses) (us : List ℕ) → length us ≤ most → fed value p us ≡ fed value q us
+  pub look : 0 < most → (m : ℕ) (r : Reader (Option PlainValue)) → Inside (points_of m q r) (points_of m p r)

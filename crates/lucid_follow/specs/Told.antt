@@ -1,5 +1,5 @@
 -- What a value tells of a choice, and what a plan goes on with by that.
-use Rattle.std.specs.Prelude.{ℕ, suc, ◌-◌, true, false, pos, nat_le, if◌then◌else◌}
+use Rattle.std.specs.Prelude.{ℕ, suc, ◌-◌, ◌≤◌, true, false, pos, nat_le, if◌then◌else◌}
 use Rattle.lucid_value.specs.Plain.{PlainValue, int, truth, eod, fault}
 use Rattle.lucid_tree.specs.Rows.{last, Plan, gives, gives_part, at_zero, find_true, count_true}
 use Rattle.lucid_follow.specs.declared.rest.Answer.{Answer}
@@ -11,6 +11,11 @@ answer_of (truth b) = Holds b
 answer_of (int (pos n)) = if nat_le n last then At n else Other
 answer_of eod = Ended
 answer_of _ = Other
+
+-- a time or a space is at most the last
+abbrev pub IsPoint : Answer → Type 0
+IsPoint (At n) = n ≤ last
+IsPoint _ = Unit {0}
 
 -- on by a truth
 abbrev pub by_answer : Answer → (on off : Plan) → Plan

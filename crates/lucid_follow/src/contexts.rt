@@ -1,11 +1,14 @@
 //! The contexts of a certificate, as tags.
-ghost use Rattle.std.specs.Prelude.{◌≡◌, ◌∷◌, [], Some, None, IfOk, IfSome, option_map, get_or};
+ghost use Rattle.std.specs.Prelude.{◌≡◌, ◌∷◌, [], Some, None, IfOk, IfSome, map, option_map, get_or};
+ghost use Rattle.std.specs.List.{AllByRecursion};
 ghost use Rattle.lucid_tags.specs.Contexts.{root};
-ghost use Rattle.lucid_tags.specs.Known.{IsOneForOne, KeepsKnown, context_of};
+ghost use Rattle.lucid_tags.specs.Known.{HasLowerCaller, IsInnermost, IsKnown, IsOneForOne, KeepsKnown, context_of, number_of};
+ghost use Rattle.lucid_why.specs.WhyText.{context_row};
+ghost use Rattle.lucid_why.specs.WhyTexts.{MayShow};
 ghost use Rattle.lucid_follow.specs.Follows.{row_context, contexts_behind};
-ghost use Rattle.lucid_follow.specs.Checking.{IsOfContext, AreOfContexts, contexts_of};
+ghost use Rattle.lucid_follow.specs.Checking.{IsOfContext, AreOfContexts, AreTimes, contexts_of, known_before};
 
-use lucid_tags::{Tag, Tags};
+use lucid_tags::{Frame, Tag, Tags};
 use lucid_tree::LAST;
 use lucid_why::ContextRow;
 use std::alloc::{AllocError, Global};
@@ -66,4 +69,47 @@ pub fn enter_all(
         contexts.push(context)?;
     }
     Ok(contexts)
+}
+
+// The row of a context that has a frame, by those that became known before it.
+fn row_of(tags: &Tags, tag: Tag, frame: Frame) -> ContextRow
+    requires known { IsKnown tags.now tag }
+    requires innermost { IsInnermost tags.now frame (context_of tags.now tag) }
+    requires lower { HasLowerCaller (number_of tag) frame }
+    requires times { AreTimes tags.now }
+    ensures context { row_context (known_before tags.now (number_of tag)) result ≡ Some (context_of tags.now tag) }
+    ensures shown { MayShow (context_row result) }
+{
+    let base = tags.cut(tag, (tags.level(tag) - 1) as u32).number();
+    match frame {
+        Frame::Call { place, caller } => ContextRow::Call {
+            base,
+            place,
+            caller: caller.number(),
+        },
+        Frame::Frozen { time } => ContextRow::Frozen { base, time },
+    }
+}
+
+/// The rows of the known contexts but the empty one, in the order in which they became known. More than have numbers are want of memory.
+pub fn rows_of(alloc: Global, tags: &Tags) -> Result<Vec<ContextRow>, AllocError>
+    requires { AreTimes tags.now }
+    ensures contexts { IfOk result (λ rows. contexts_behind (Some root ∷ []) rows.items ≡ map Some tags.now) }
+    ensures shown { IfOk result (λ rows. AllByRecursion (λ r. MayShow (context_row r)) rows.items) }
+{
+    // The first known context is the empty one.
+    let _ = tags.root();
+    let mut rows = Vec::new(alloc);
+    let count = tags.count();
+    for number in 1..count {
+        let Ok(at) = u32::try_from(number) else {
+            return Err(AllocError);
+        };
+        let tag = tags.numbered(at);
+        let Some(frame) = tags.frame(tag) else {
+            unreachable!()
+        };
+        rows.push(row_of(tags, tag, frame))?;
+    }
+    Ok(rows)
 }

@@ -2,7 +2,7 @@
 //! tags, and what a reference goes on with, by which certificates are checked and made.
 #![tactic(auto)]
 
-pub use crate::contexts::{context_at, enter_all};
+pub use crate::contexts::{context_at, enter_all, rows_of};
 pub use crate::passing::{Position, onward};
 pub use crate::rest::{Look, Rest, Then, begin};
 

@@ -1,14 +1,15 @@
 //! What a frozen time, a reference or a call goes on with.
-ghost use Rattle.std.specs.Prelude.{◌≡◌, ◌<◌, Some, length, IfOk, IfSome};
+ghost use Rattle.std.specs.Prelude.{◌≡◌, ◌<◌, ◌≤◌, Some, length, IfOk, OnOk, IfSome};
+ghost use Rattle.lucid_tree.specs.Rows.{last};
 ghost use Rattle.lucid_tags.specs.Contexts.{cut};
 ghost use Rattle.lucid_tags.specs.Known.{IsOneForOne, KeepsKnown, context_of};
 ghost use Rattle.lucid_equations.specs.NumberAims.{name_number_aim};
 ghost use Rattle.lucid_equations.specs.Datons.{called_from};
 ghost use Rattle.lucid_equations.specs.Programs.{table_of};
-ghost use Rattle.lucid_equations.specs.Ranges.{NodeNames, sizes};
-ghost use Rattle.lucid_equations.specs.Rows.{actual_at};
+ghost use Rattle.lucid_equations.specs.Ranges.{EachBelow, NodeNames, sizes};
+ghost use Rattle.lucid_equations.specs.Rows.{actual_at, parts};
 ghost use Rattle.lucid_follow.specs.Follows.{onward};
-ghost use Rattle.lucid_follow.specs.Checking.{IsOfContext, PassesOn, going, row_onward};
+ghost use Rattle.lucid_follow.specs.Checking.{IsOfContext, AreTimes, IsWithin, PassesOn, going, row_onward};
 
 use lucid_equations::{Entry, Node, Program};
 use lucid_tags::{Frame, Tag, Tags};
@@ -24,7 +25,8 @@ pub struct Position {
 
 // The actual of a call place, if it has one of that index.
 fn actual(program: &Program, place: u32, index: u32) -> Option<u32>
-    ensures { result ≡ actual_at (table_of program.now) place index }
+    ensures number { result ≡ actual_at (table_of program.now) place index }
+    ensures within { IfSome result (λ node. node < length (table_of program.now).nodes) }
 {
     if place < program.places() && index < program.actuals(place) {
         Some(program.actual(place, index))
@@ -40,6 +42,7 @@ fn by_frame(program: &Program, tags: &Tags, name: u32, context: Tag, time: u64) 
     requires there { IsOfContext tags.now context }
     ensures at { going tags.now result ≡ onward (name_number_aim (table_of program.now) name (Some (context_of tags.now context)) time) }
     ensures there { IfSome result (λ p. IsOfContext tags.now p.context) }
+    ensures within { AreTimes tags.now → time ≤ last → IfSome result (IsWithin (table_of program.now)) }
 {
     match (program.entry(name), tags.frame(context)) {
         (Entry::Plain { body } | Entry::Called { body }, _) => Some(Position {
@@ -77,6 +80,7 @@ fn by_name(
     requires there { IsOfContext tags.now context }
     ensures at { going tags.now result ≡ onward (name_number_aim (table_of program.now) name (cut level (context_of tags.now context)) time) }
     ensures there { IfSome result (λ p. IsOfContext tags.now p.context) }
+    ensures within { AreTimes tags.now → time ≤ last → IfSome result (IsWithin (table_of program.now)) }
 {
     if u64::from(level) > tags.level(context) {
         return None;
@@ -107,6 +111,8 @@ fn by_call(
     ensures there { IfOk result (λ at. IfSome at (λ p. IsOfContext tags.new p.context)) }
     ensures keeps { KeepsKnown tags.old tags.new }
     ensures once { IsOneForOne tags.old → IsOneForOne tags.new }
+    ensures times { AreTimes tags.old → OnOk result (AreTimes tags.new) }
+    ensures within { AreTimes tags.old → time ≤ last → IfOk result (λ at. IfSome at (IsWithin (table_of program.now))) }
 {
     if u64::from(call.level) > tags.level(context) {
         return Ok(None);
@@ -131,6 +137,8 @@ pub fn onward(
     ensures there { IfOk result (λ at. IfSome at (λ p. IsOfContext tags.new p.context)) }
     ensures keeps { KeepsKnown tags.old tags.new }
     ensures once { IsOneForOne tags.old → IsOneForOne tags.new }
+    ensures times { AreTimes tags.old → time ≤ last → OnOk result (AreTimes tags.new) }
+    ensures within { AreTimes tags.old → time ≤ last → EachBelow (length (table_of program.now).nodes) (parts node) → IfOk result (λ at. IfSome at (IsWithin (table_of program.now))) }
 {
     match node {
         Node::Freeze { subject } => {

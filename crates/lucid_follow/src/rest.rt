@@ -1,15 +1,16 @@
 //! The plan of a form, as a small value: what it looks at next and what is done with that, or what it gives.
-ghost use Rattle.std.specs.Prelude.{◌≡◌, ℕ, suc, true, false, ◌+◌, ◌-◌, ◌<◌, ◌≤◌, ◌^◌, List, [], ◌∷◌, ◌++◌};
+ghost use Rattle.std.specs.Prelude.{◌≡◌, ℕ, suc, true, false, ◌+◌, ◌-◌, ◌<◌, ◌≤◌, ◌^◌, List, [], ◌∷◌, ◌++◌, length};
 ghost use Rattle.lucid_value.specs.Plain.{PlainValue, truth};
 ghost use Rattle.lucid_value.specs.View.{plain};
 ghost use Rattle.lucid_ops.specs.Arity.{arity};
 ghost use Rattle.lucid_tree.specs.Tree.{Head};
-ghost use Rattle.lucid_tree.specs.Rows.{gives, gives_part, count_true, find_true, plan};
+ghost use Rattle.lucid_tree.specs.Rows.{gives, gives_part, count_true, find_true, last, plan};
 ghost use Rattle.lucid_equations.specs.Programs.{table_of};
 ghost use Rattle.lucid_equations.specs.Ranges.{NodeNames, sizes};
+ghost use Rattle.lucid_equations.specs.Rows.{parts};
 ghost use Rattle.lucid_equations.specs.declared.table.Table.{Table};
-ghost use Rattle.lucid_follow.specs.RestPlans.{IsForm, OnlyMoves, HasHead, second_side, by_then, rest_plan, CanGoOn, MayGoOn, Stands, AreFedAlike};
-ghost use Rattle.lucid_follow.specs.Told.{answer_of, by_answer, truth_by, place_by, found_by, counted_by};
+ghost use Rattle.lucid_follow.specs.RestPlans.{IsForm, OnlyMoves, HasHead, second_side, by_then, rest_plan, CanGoOn, MayGoOn, Stands, IsLookOf, LooksInside, AreFedAlike};
+ghost use Rattle.lucid_follow.specs.Told.{answer_of, IsPoint, by_answer, truth_by, place_by, found_by, counted_by};
 ghost use Rattle.lucid_follow.specs.declared.rest.Then.TheVariants as then;
 ghost use Rattle.lucid_follow.specs.declared.rest.Rest.TheVariants as rest;
 
@@ -77,7 +78,8 @@ enum Answer {
 }
 
 fn tell(value: &Value) -> Answer
-    ensures { result ≡ answer_of (plain value.now) }
+    ensures answer { result ≡ answer_of (plain value.now) }
+    ensures point { IsPoint result }
 {
     match value {
         Value::Truth(holds) => Answer::Holds(*holds),
@@ -91,6 +93,7 @@ fn tell(value: &Value) -> Answer
 fn give(part: u32, time: u64, space: u64) -> Rest<'static>
     ensures plan { (m : ℕ) (vs : List PlainValue) → rest_plan m vs result ≡ gives_part part time space }
     ensures stands { (k : ℕ) → Stands k result }
+    ensures inside { (n : ℕ) → part < n → time ≤ last → space ≤ last → LooksInside n result }
 {
     Rest::Look(Look {
         part,
@@ -104,6 +107,7 @@ fn give(part: u32, time: u64, space: u64) -> Rest<'static>
 fn judge(answer: Answer) -> Rest<'static>
     ensures plan { (m : ℕ) (vs : List PlainValue) → rest_plan m vs result ≡ gives (truth_by answer) }
     ensures stands { (k : ℕ) → Stands k result }
+    ensures inside { (n : ℕ) → LooksInside n result }
 {
     match answer {
         Answer::Holds(holds) => Rest::Truth(holds),
@@ -116,6 +120,7 @@ impl Look {
     fn choose(self, answer: Answer) -> Rest<'static>
         ensures plan { (m : ℕ) (vs : List PlainValue) → rest_plan m vs result ≡ by_answer answer (gives_part 1 self.time self.space) (gives_part 2 self.time self.space) }
         ensures stands { (k : ℕ) → Stands k result }
+        ensures inside { (n : ℕ) → 2 < n → self.time ≤ last → self.space ≤ last → LooksInside n result }
     {
         match answer {
             Answer::Holds(true) => give(1, self.time, self.space),
@@ -129,6 +134,7 @@ impl Look {
     fn second_side(self) -> Rest<'static>
         ensures plan { (m : ℕ) (vs : List PlainValue) → rest_plan m vs result ≡ second_side self.time self.space }
         ensures stands { (k : ℕ) → Stands k result }
+        ensures inside { (n : ℕ) → 1 < n → self.time ≤ last → self.space ≤ last → LooksInside n result }
     {
         Rest::Look(Look {
             part: 1,
@@ -141,6 +147,7 @@ impl Look {
     fn both(self, answer: Answer) -> Rest<'static>
         ensures plan { (m : ℕ) (vs : List PlainValue) → rest_plan m vs result ≡ by_answer answer (second_side self.time self.space) (gives (truth false)) }
         ensures stands { (k : ℕ) → Stands k result }
+        ensures inside { (n : ℕ) → 1 < n → self.time ≤ last → self.space ≤ last → LooksInside n result }
     {
         match answer {
             Answer::Holds(true) => self.second_side(),
@@ -153,6 +160,7 @@ impl Look {
     fn either(self, answer: Answer) -> Rest<'static>
         ensures plan { (m : ℕ) (vs : List PlainValue) → rest_plan m vs result ≡ by_answer answer (gives (truth true)) (second_side self.time self.space) }
         ensures stands { (k : ℕ) → Stands k result }
+        ensures inside { (n : ℕ) → 1 < n → self.time ≤ last → self.space ≤ last → LooksInside n result }
     {
         match answer {
             Answer::Holds(true) => Rest::Truth(true),
@@ -166,6 +174,7 @@ impl Look {
     fn at_time(self, answer: Answer) -> Rest<'static>
         ensures plan { (m : ℕ) (vs : List PlainValue) → rest_plan m vs result ≡ place_by answer (λ u. gives_part 0 u self.space) }
         ensures stands { (k : ℕ) → Stands k result }
+        ensures inside { (n : ℕ) → 0 < n → IsPoint answer → self.space ≤ last → LooksInside n result }
     {
         match answer {
             Answer::At(time) => give(0, time, self.space),
@@ -178,6 +187,7 @@ impl Look {
     fn at_space(self, answer: Answer) -> Rest<'static>
         ensures plan { (m : ℕ) (vs : List PlainValue) → rest_plan m vs result ≡ place_by answer (λ r. gives_part 0 self.time r) }
         ensures stands { (k : ℕ) → Stands k result }
+        ensures inside { (n : ℕ) → 0 < n → IsPoint answer → self.time ≤ last → LooksInside n result }
     {
         match answer {
             Answer::At(space) => give(0, self.time, space),
@@ -191,6 +201,7 @@ impl Look {
         requires { self.time + 1 < 2 ^ 64 }
         ensures plan { (m most : ℕ) (vs : List PlainValue) → self.time + 1 + most ≤ m → AreFedAlike most (find_true (m - suc self.time) (suc self.time) wanted self.space) (rest_plan m vs result) }
         ensures stands { (k : ℕ) → self.time ≡ k → Stands (k + 1) result }
+        ensures inside { (n : ℕ) → 1 < n → self.space ≤ last → LooksInside n result }
     {
         Rest::Look(Look {
             part: 1,
@@ -204,6 +215,7 @@ impl Look {
         requires { self.time + 1 < 2 ^ 64 }
         ensures plan { (m most : ℕ) (vs : List PlainValue) → self.time + 1 + most ≤ m → AreFedAlike most (found_by m answer wanted self.time self.space) (rest_plan m vs result) }
         ensures stands { (k : ℕ) → self.time ≡ k → Stands (k + 1) result }
+        ensures inside { (n : ℕ) → 1 < n → self.time ≤ last → self.space ≤ last → LooksInside n result }
     {
         match answer {
             Answer::Holds(true) => {
@@ -225,6 +237,7 @@ impl Look {
         requires until { until < 2 ^ 63 }
         ensures plan { (m : ℕ) (vs : List PlainValue) → rest_plan m vs result ≡ count_true (until - suc self.time) (suc self.time) seen self.space until }
         ensures stands { (k : ℕ) → Stands k result }
+        ensures inside { (n : ℕ) → 1 < n → self.space ≤ last → LooksInside n result }
     {
         if self.time + 1 == until {
             return give(0, seen, self.space);
@@ -243,6 +256,7 @@ impl Look {
         requires until { until < 2 ^ 63 }
         ensures plan { (m : ℕ) (vs : List PlainValue) → rest_plan m vs result ≡ counted_by answer seen until self.time self.space }
         ensures stands { (k : ℕ) → Stands k result }
+        ensures inside { (n : ℕ) → 1 < n → self.space ≤ last → LooksInside n result }
     {
         match answer {
             Answer::Holds(true) => self.count_on(seen + 1, until),
@@ -256,6 +270,7 @@ impl Look {
         requires { self.part < arity op }
         ensures plan { (m most : ℕ) (vs : List PlainValue) (v : PlainValue) → AreFedAlike most (by_then m vs (then.Argument op) self.part self.time self.space v) (rest_plan m (vs ++ v ∷ []) result) }
         ensures stands { (k : ℕ) → self.part ≡ k → Stands (k + 1) result }
+        ensures inside { (n : ℕ) → arity op ≤ n → self.time ≤ last → self.space ≤ last → LooksInside n result }
     {
         let part = self.part + 1;
         if (part as usize) < op.arity() {
@@ -276,6 +291,7 @@ impl Look {
         ensures plan { (m k most : ℕ) (vs : List PlainValue) → CanGoOn k self → k + 1 + most ≤ m
             → AreFedAlike most (by_then m vs self.then self.part self.time self.space (plain value.now)) (rest_plan m (vs ++ plain value.now ∷ []) result) }
         ensures stands { (k : ℕ) → CanGoOn k self → Stands (k + 1) result }
+        ensures inside { (n : ℕ) → self.time ≤ last → IsLookOf n self → LooksInside n result }
     {
         let answer = tell(value);
         match self.then {
@@ -297,6 +313,7 @@ impl Look {
 fn search(space: u64, wanted: u64) -> Rest<'static>
     ensures plan { (m most : ℕ) (vs : List PlainValue) → most ≤ m → AreFedAlike most (find_true m 0 wanted space) (rest_plan m vs result) }
     ensures stands { Stands 0 result }
+    ensures inside { (n : ℕ) → 1 < n → space ≤ last → LooksInside n result }
 {
     Rest::Look(Look {
         part: 1,
@@ -311,6 +328,7 @@ fn count_below(until: u64, space: u64) -> Rest<'static>
     requires { until < 2 ^ 63 }
     ensures plan { (m : ℕ) (vs : List PlainValue) → rest_plan m vs result ≡ count_true until 0 0 space until }
     ensures stands { Stands 0 result }
+    ensures inside { (n : ℕ) → 1 < n → space ≤ last → LooksInside n result }
 {
     if until == 0 {
         return give(0, 0, space);
@@ -328,6 +346,7 @@ fn moved(node: Node, time: u64, space: u64) -> Rest<'static>
     requires { OnlyMoves node }
     ensures plan { (T : Table) (f : Head) → HasHead T node f → (m : ℕ) (vs : List PlainValue) → rest_plan m vs result ≡ plan m f time space }
     ensures stands { (k : ℕ) → Stands k result }
+    ensures inside { time ≤ last → space ≤ last → LooksInside (length (parts node)) result }
 {
     match node {
         Node::First { .. } => give(0, 0, space),
@@ -361,6 +380,7 @@ pub fn begin<'a>(program: &'a Program, node: Node, time: u64, space: u64) -> Res
     requires time { time < 2 ^ 63 }
     ensures plan { (f : Head) → HasHead (table_of program.now) node f → (m most : ℕ) → time + most ≤ m → AreFedAlike most (plan m f time space) (rest_plan m [] result) }
     ensures stands { Stands 0 result }
+    ensures inside { space ≤ last → LooksInside (length (parts node)) result }
 {
     match node {
         Node::Const { constant } => Rest::Value(program.constant(constant)),

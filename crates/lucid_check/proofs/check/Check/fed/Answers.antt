@@ -1,6 +1,11 @@
 use Rattle.lucid_check.proofs.Common.{get_or, ap, arith, length, subst, List, ℕ, context_of, table_of, plain_judgment, Rest, judgments_of, contexts_in}
-use Rattle.lucid_check.proofs.Feeding.{FedSoFar, no_look, one_more_fed, one_use_too_many, all_fed}
+use Rattle.lucid_check.proofs.Feeding.{FedSoFar, none_fed, no_look, one_more_fed, one_use_too_many, all_fed}
 use Rattle.lucid_check.proofs.check.Check.fed.Goals as goal
+
+pub loop-number-init : goal.loop-number-init
+loop-number-init c =
+    none_fed (table_of c.args.self.now.program.now) (contexts_in c.args.self.now) (judgments_of c.args.self.now) c.args.before c.args.node (context_of c.args.self.now.tags c.args.context) (plain_judgment c.args.row.now)
+    c.begin-rest.result c.begin-rest.ensures.plan c.begin-rest.ensures.stands
 
 pub returns-in_default : goal.returns-in_default
 returns-in_default c =
