@@ -1,6 +1,6 @@
 -- Names of a program. The rule and the reserved words are this language's own.
-use Rattle.std.specs.Prelude.{ℕ, Bool, false, List, [], ◌∷◌, ◌&&◌, ◌||◌, nat_eq, not, codes}
-use Rattle.std.specs.List.{list_all, list_any}
+use Rattle.std.specs.Prelude.{ℕ, Bool, false, List, [], ◌∷◌, ◌&&◌, ◌||◌, length, nat_eq, not, codes}
+use Rattle.std.specs.List.{filter, list_all, list_any}
 use Rattle.std.specs.Char.{is_ascii_alphabetic, is_ascii_alphanumeric}
 use Rattle.lucid_value.specs.Plain.{same_bytes}
 
@@ -23,6 +23,10 @@ reserved_words =
     ∷ codes "substr" ∷ codes "nth" ∷ codes "mkword" ∷ codes "mkstring" ∷ codes "isint" ∷ codes "isword"
     ∷ codes "isstring" ∷ codes "islist" ∷ codes "istruth" ∷ codes "isnull" ∷ codes "isatom" ∷ codes "iseod"
     ∷ codes "iserror" ∷ codes "abs" ∷ codes "cmp" ∷ codes "initial" ∷ codes "succ" ∷ codes "sby" ∷ codes "atspace" ∷ []
+
+-- those of so many letters
+unfoldable pub reserved_of_length : ℕ → List (List ℕ)
+reserved_of_length n = filter (λ word. nat_eq (length word) n) reserved_words
 
 -- one of the reserved words
 abbrev pub is_reserved : List ℕ → Bool

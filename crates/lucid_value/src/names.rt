@@ -1,8 +1,8 @@
 //! Names of a program, made from bytes.
-ghost use Rattle.std.specs.Prelude.{◌≡◌, IfOk, IsErrOf, IsTrue, not, ◌↔◌};
+ghost use Rattle.std.specs.Prelude.{◌≡◌, IfOk, IsErrOf, IsTrue, List, [], ◌∷◌, map, not, ◌↔◌};
 ghost use Rattle.std.specs.List.{list_all, list_any};
 ghost use Rattle.lucid_value.specs.Plain.{same_bytes};
-ghost use Rattle.lucid_value.specs.Names.{is_name, is_namelike, is_name_byte, is_reserved, reserved_words};
+ghost use Rattle.lucid_value.specs.Names.{is_name, is_namelike, is_name_byte, is_reserved, reserved_of_length};
 
 use crate::MakeRefusal;
 use std::alloc::{AllocError, Global};
@@ -50,58 +50,44 @@ fn looks_like_name(bytes: &[u8]) -> bool
     }
 }
 
-// The reserved words.
-const RESERVED_WORDS: [&[u8]; 49] = [
-    b"where",
-    b"end",
-    b"is",
-    b"current",
-    b"if",
-    b"then",
-    b"else",
-    b"fi",
-    b"first",
-    b"next",
-    b"fby",
-    b"whenever",
-    b"wvr",
-    b"asa",
-    b"upon",
-    b"attime",
-    b"and",
-    b"or",
-    b"not",
-    b"true",
-    b"false",
-    b"eod",
-    b"error",
-    b"div",
-    b"mod",
-    b"eq",
-    b"ne",
-    b"hd",
-    b"tl",
-    b"length",
-    b"substr",
-    b"nth",
-    b"mkword",
-    b"mkstring",
-    b"isint",
-    b"isword",
-    b"isstring",
-    b"islist",
-    b"istruth",
-    b"isnull",
-    b"isatom",
-    b"iseod",
-    b"iserror",
-    b"abs",
-    b"cmp",
-    b"initial",
-    b"succ",
+// The reserved words, by their number of letters.
+const OF_TWO: [&[u8]; 8] = [b"is", b"if", b"fi", b"or", b"eq", b"ne", b"hd", b"tl"];
+
+const OF_THREE: [&[u8]; 13] = [
+    b"end", b"fby", b"wvr", b"asa", b"and", b"not", b"eod", b"div", b"mod", b"nth", b"abs", b"cmp",
     b"sby",
-    b"atspace",
 ];
+
+const OF_FOUR: [&[u8]; 6] = [b"then", b"else", b"next", b"upon", b"true", b"succ"];
+
+const OF_FIVE: [&[u8]; 6] = [b"where", b"first", b"false", b"error", b"isint", b"iseod"];
+
+const OF_SIX: [&[u8]; 8] = [
+    b"attime", b"length", b"substr", b"mkword", b"isword", b"islist", b"isnull", b"isatom",
+];
+
+const OF_SEVEN: [&[u8]; 5] = [b"current", b"istruth", b"iserror", b"initial", b"atspace"];
+
+const OF_EIGHT: [&[u8]; 3] = [b"whenever", b"mkstring", b"isstring"];
+
+// The reserved words of 0, 1, .. 8 letters: there are none of more.
+const WORDS_BY_LENGTH: [&[&[u8]]; 9] = [
+    &[],
+    &[],
+    &OF_TWO,
+    &OF_THREE,
+    &OF_FOUR,
+    &OF_FIVE,
+    &OF_SIX,
+    &OF_SEVEN,
+    &OF_EIGHT,
+];
+
+fn words_by_length() -> &'static [&'static [&'static [u8]]]
+    ensures { map (λ words. map (λ word. word.now) words.now) result.now ≡ map reserved_of_length (0 ∷ 1 ∷ 2 ∷ 3 ∷ 4 ∷ 5 ∷ 6 ∷ 7 ∷ 8 ∷ []) }
+{
+    &WORDS_BY_LENGTH
+}
 
 fn is_among(bytes: &[u8], words: &[&[u8]]) -> bool
     ensures { result ≡ list_any (λ word. same_bytes bytes.now word.now) words.now }
@@ -113,7 +99,10 @@ fn is_among(bytes: &[u8], words: &[&[u8]]) -> bool
 pub fn is_reserved(bytes: &[u8]) -> bool
     ensures { result ≡ is_reserved bytes.now }
 {
-    is_among(bytes, &RESERVED_WORDS)
+    match words_by_length().get(bytes.len()) {
+        Some(words) => is_among(bytes, words),
+        None => false,
+    }
 }
 
 fn can_be_name(bytes: &[u8]) -> bool
