@@ -1,7 +1,7 @@
 #!/usr/bin/env python3
 """Times `lucid` on the programs beside this file, and prints seconds, lines a second and peak memory for each.
 
-  bench/run.py [LUCID] [--beside NAME=BINARY].. [--beside-hand] [--times N] [--only NAME,..] [--growth]
+  bench/run.py [LUCID] [--beside NAME=BINARY].. [--beside-hand] [--times N] [--only NAME,..] [--growth] [--certificates]
 
 LUCID          the built command; without it crates/lucid/out/lucid, which `rt run -- data/p` in crates/lucid leaves there
 --beside       another interpreter that takes the same words: both run in turns, and ratios of processor time are printed
@@ -10,6 +10,7 @@ LUCID          the built command; without it crates/lucid/out/lucid, which `rt r
 --times        how many runs of each; the median is printed (5)
 --only         these programs alone, or these kinds of growth
 --growth       each kind of growth at half and at full size in place of the programs: what twice the work costs
+--certificates making and checking certificates of half a million and of a million judgments in place of the programs
 
 What stands beside must write the bytes that lucid writes, on a few lines, before it is timed.
 
@@ -87,11 +88,16 @@ GROWTH = {
 }
 
 
-def run(call, given, measure=None):
+# A certificate of this program's value at time 0 has four judgments for each reference that the value is deep: a name's, and of its right side
+# `fby`, `+` and 1.
+PROVED, JUDGMENTS = "x attime {} where x = 0 fby x + 1; end", 4
+
+
+def run(call, given, measure=None, to=os.devnull):
     """Runs a call over an input, and returns its seconds and its processor's seconds."""
-    with open(given, "rb") as source:
+    with open(given, "rb") as source, open(to, "wb") as out:
         begun = time.perf_counter()
-        child = subprocess.Popen([*(measure or []), *call], stdin=source, stdout=subprocess.DEVNULL, stderr=subprocess.DEVNULL)
+        child = subprocess.Popen([*(measure or []), *call], stdin=source, stdout=out, stderr=subprocess.DEVNULL)
         _, status, used = os.wait4(child.pid, 0)
         took = time.perf_counter() - begun
     if os.waitstatus_to_exitcode(status) != 0:
@@ -205,6 +211,24 @@ def growth(binary, only, times, room):
         print(f"{name:21} {took[0]:8.3f} {took[1]:8.3f} {took[1] / took[0]:9.2f}", flush=True)
 
 
+def certificates(binary, times, room):
+    """What it costs to make a certificate, and to check it."""
+    print(f"{'what':6} {'judgments':>10} {'bytes':>12} {'cpu':>8} {'MiB':>7}")
+    text, given = f"{room}/why", input_of(room, None, 0, 0)
+    for depth in (125_000, 250_000):
+        with open(f"{room}/p", "w", encoding="ascii") as out:
+            out.write(PROVED.format(depth))
+        calls = {"make": [binary, *DEEP, "--why", "0", f"{room}/p"], "check": [binary, "--check", text, f"{room}/p"]}
+        run(calls["make"], given, to=text)
+        with open(text, "rb") as it:
+            size, judgments = os.path.getsize(text), sum(1 for _ in it)
+        if judgments < depth * JUDGMENTS:
+            sys.exit(f"the certificate has only {judgments} lines")
+        for name, call in calls.items():
+            work = statistics.median(run(call, given)[1] for _ in range(times))
+            print(f"{name:6} {depth * JUDGMENTS:10} {size:12} {work:8.3f} {peak(call, given, room):7.1f}", flush=True)
+
+
 def main():
     words = argparse.ArgumentParser(description=__doc__, formatter_class=argparse.RawDescriptionHelpFormatter)
     words.add_argument("lucid", nargs="?", default=BUILT)
@@ -213,11 +237,14 @@ def main():
     words.add_argument("--times", type=int, default=5)
     words.add_argument("--only", default="")
     words.add_argument("--growth", action="store_true")
+    words.add_argument("--certificates", action="store_true")
     words = words.parse_args()
     binaries = {"lucid": words.lucid, **dict(it.split("=", 1) for it in words.beside)}
     only = [it for it in words.only.split(",") if it]
     with tempfile.TemporaryDirectory() as room:
-        if words.growth:
+        if words.certificates:
+            certificates(words.lucid, words.times, room)
+        elif words.growth:
             growth(words.lucid, only, words.times, room)
         else:
             programs(binaries, hands(room) if words.beside_hand else {}, only, words.times, room)
