@@ -1,6 +1,6 @@
 -- A task that may be asked for, for a part or as the root: it may be where more contexts are known, where a key was looked up and where the
 -- point moved on; and it has its value at once, or a row, or is refused.
-use Rattle.lucid_demand.proofs.Common.{ℕ, suc, inl, inr, List, [], Option, None, refl, sym, ap, ◌∙◌, subst, arith, IsErrAnd, Value, plain, In, Elements, Context, IsKnown, IsOneForOne, KeepsKnown, Key, Task, TaskRow, Got, Stored, IsTouched, Noted, World, Table, PlainTask, DatonAt, plain_task, plain_key, rank, moved, IsTask, RefersTo, passed, passed_contexts, StandsFor, EngineView, known_elements, holding, MayHave, Demand, stays, IsEntered, IsWanted, Remembers, Waits, at_it, at_another, task_as_tags_grow, all_rows_as_tags_grow, stands-itself, passed-stands, too_deep-is_right, owns_enters, cost_of, GoesDown, Evaluating, Stepped, cost, CanAsk, Enters, SetsPart, IsFor, MayAskFor, MayAskNow, MayRefer, AsksIn, DemandIn, OnTooLarge, IsTurned, DemandFault, TooDeep, ReadFault, NoMemory, OnOk}
+use Rattle.lucid_demand.proofs.Common.{ℕ, suc, inl, inr, List, [], Option, None, refl, sym, ap, ◌∙◌, subst, arith, IsErrAnd, Value, plain, In, Elements, Context, IsKnown, IsOneForOne, KeepsKnown, Key, Task, TaskRow, Got, Stored, IsTouched, Noted, World, Table, PlainTask, DatonAt, plain_task, plain_key, rank, moved, RefersTo, passed, passed_contexts, StandsFor, EngineView, known_elements, holding, MayHave, Demand, stays, IsEntered, IsWanted, Remembers, Waits, at_it, at_another, task_as_tags_grow, all_rows_as_tags_grow, stands-itself, passed-stands, too_deep-is_right, owns_enters, cost_of, GoesDown, Evaluating, Stepped, cost, CanAsk, Enters, SetsPart, IsFor, MayAskFor, MayAskNow, MayRefer, AsksIn, DemandIn, OnTooLarge, IsTurned, DemandFault, TooDeep, ReadFault, NoMemory, OnOk}
 use Rattle.std.proofs.Common.{◌≡◌, ◌<◌, ◌≤◌, ◌⊎◌, Some}
 use Rattle.std.specs.Prelude.{IfSome, Result, Ok, Err, length, option_map}
 use Rattle.lucid_tasks.specs.declared.Part.{Part}
@@ -13,6 +13,7 @@ use Rattle.lucid_facts.proofs.Standing.{stands-then, standing-answers}
 use Rattle.lucid_facts.proofs.NewRows.{standing-is_wanted}
 use Rattle.lucid_facts.proofs.Answering.{constant-answers}
 use Rattle.lucid_facts.proofs.Acting.{cost_as_tags_grow, asks_goes_down, gives_goes_down, begins_waiting}
+use Rattle.lucid_facts.specs.Parts.{IsTask}
 use Rattle.lucid_demand.proofs.GrownTags.{entered_by_root, way_is_entered, waits_grow, nothing_grown}
 use Rattle.lucid_demand.proofs.SettledRows.{changed_row, on_going}
 use Rattle.lucid_demand.proofs.TouchedKeys.{held_as_before, owns_touched, waits_touched}

@@ -1,7 +1,8 @@
 -- Asking for a reference: what it gives, by what each call leaves.
-use Rattle.lucid_demand.proofs.Common.{ℕ, suc, inl, inr, List, [], ◌∷◌, Option, None, sym, ap, ◌∙◌, subst, IsTrue, Value, plain, In, Elements, nowhere, Context, Key, IsKnown, KeepsKnown, space_of, Task, TaskRow, value_at, IsTouched, Table, PlainTask, DatonAt, plain_task, plain_key, node_of, rank, moved, aim_of_task, IsReference, RefersTo, GoesTo, passed, passed_contexts, StandsFor, EngineView, holding, MayHave, stays, IsEntered, IsWanted, Remembers, task_as_tags_grow, Evaluating, cost, DemandIn, plain_aim, IsAim, Enters, SetsPart, MayAskFor, MayRefer, AsksIn, FindsAim, IsTurned, Aim, DemandFault, TooDeep, NoMemory}
+use Rattle.lucid_demand.proofs.Common.{ℕ, suc, inl, inr, List, [], ◌∷◌, Option, None, sym, ap, ◌∙◌, subst, IsTrue, Value, plain, In, Elements, Context, Key, IsKnown, KeepsKnown, space_of, Task, TaskRow, value_at, IsTouched, Table, PlainTask, DatonAt, plain_task, plain_key, node_of, rank, moved, aim_of_task, IsReference, RefersTo, passed, passed_contexts, StandsFor, EngineView, holding, MayHave, stays, IsEntered, IsWanted, Remembers, task_as_tags_grow, Evaluating, cost, DemandIn, plain_aim, IsAim, Enters, SetsPart, MayAskFor, MayRefer, AsksIn, FindsAim, IsTurned, Aim, DemandFault, TooDeep, NoMemory}
 use Rattle.std.proofs.Common.{◌≡◌, ◌<◌, ◌⊎◌, Some}
 use Rattle.std.specs.Prelude.{IfOk, IfSome, Result, Ok, Err, length, option_map}
+use Rattle.lucid_tree.specs.Levels.{nowhere}
 use Rattle.lucid_tasks.specs.declared.Part.{Part}
 use Rattle.lucid_tasks.specs.Rows as rows
 use Rattle.lucid_facts.specs.Demands.{table_of, Answers}
@@ -11,7 +12,8 @@ use Rattle.lucid_facts.proofs.Standing.{standing-is_seen}
 use Rattle.lucid_facts.proofs.References.{references-stand}
 use Rattle.lucid_facts.proofs.Answering.{held-answers}
 use Rattle.lucid_facts.proofs.NewRows.{StandsBelow, body-stands, body-is_wanted, body-remembers}
-use Rattle.lucid_demand.proofs.FoundAims.{body_task, aim_refers, aim_goes, refers_to_one, refers_nowhere}
+use Rattle.lucid_facts.specs.Parts.{GoesTo}
+use Rattle.lucid_decide.proofs.FoundAims.{body_task, aim_refers, aim_goes, refers_to_one, refers_nowhere}
 use Rattle.lucid_demand.proofs.TouchedKeys.{found_is_held, absent_is_no_stay}
 use Rattle.lucid_demand.proofs.GrownTags.{way_is_entered}
 use Rattle.lucid_demand.proofs.AskedParts.{EntersWay, may_ask_grown, may_ask_entered, may_ask_touched, costs_grown, asked_given, asked_row, asked_refused, asked_too_deep, asked_turned, only_set, given_sets, asked_sets}

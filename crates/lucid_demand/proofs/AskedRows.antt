@@ -1,16 +1,18 @@
 -- An operator's row asks for its arguments one after another.
-use Rattle.lucid_demand.proofs.Common.{cases_lt, ℕ, zero, suc, ◌+◌, inl, inr, List, [], ◌∷◌, Option, None, refl, sym, ap, ◌∙◌, subst, arith, Bor, is_some, option_copied, IsSome, IsTrue, slice_get, slice_index_or, option_and_then, list_all, same_Some, Value, PlainValue, plain, Op, arity, IsKnown, KeepsKnown, Task, TaskRow, Idle, Asked, Got, got_of, is_ready, World, parts, Node, Table, idle, state_at, plain_task, plain_state, plain_row, IsPart, EngineView, Demand, Waits, Evaluating, Stepped, cost, DemandIn, MayAct, value_of, argument_by, CanAsk, CanAskAll, SetsPart, HoldsNothing, MayAskNow, AsksIn, DemandFault, le_refl}
+use Rattle.lucid_demand.proofs.Common.{cases_lt, ℕ, zero, suc, ◌+◌, inl, inr, List, [], ◌∷◌, Option, None, refl, sym, ap, ◌∙◌, subst, arith, Bor, is_some, option_copied, IsSome, IsTrue, slice_get, slice_index_or, option_and_then, list_all, same_Some, Value, PlainValue, plain, Op, arity, IsKnown, KeepsKnown, Task, TaskRow, Idle, Got, got_of, is_ready, World, Node, Table, idle, state_at, plain_task, plain_row, IsPart, EngineView, Demand, Waits, Evaluating, Stepped, cost, DemandIn, MayAct, value_of, argument_by, CanAsk, CanAskAll, SetsPart, HoldsNothing, MayAskNow, AsksIn, DemandFault, le_refl}
 use Rattle.std.proofs.Common.{◌≡◌, ◌<◌, ◌≤◌, ◌⊎◌, length, Some, true, false}
 use Rattle.std.specs.Prelude.{Result, Ok, Err, option_map}
 use Rattle.lucid_tasks.specs.Rows as rows
-use Rattle.lucid_tasks.specs.Rows.{row_at, state_of, IsRow}
+use Rattle.lucid_tasks.specs.Rows.{row_at, state_of, IsRow, Asked}
 use Rattle.lucid_equations.specs.Rows as table
 use Rattle.lucid_equations.specs.declared.rows.Node.TheVariants as node
+use Rattle.lucid_equations.specs.Rows.{parts}
 use Rattle.lucid_facts.specs.Demands.{table_of}
 use Rattle.lucid_facts.proofs.Seeing.{plain_at}
 use Rattle.lucid_facts.proofs.Coming.{arguments_may_be_asked}
-use Rattle.lucid_demand.specs.declared.decide.Decision.TheVariants as decision
-use Rattle.lucid_demand.proofs.OperatorParts.{operator_node, operator_part}
+use Rattle.lucid_facts.specs.Tasks.{plain_state}
+use Rattle.lucid_decide.specs.declared.decision.Decision.TheVariants as decision
+use Rattle.lucid_decide.proofs.OperatorParts.{operator_node, operator_part}
 use Rattle.lucid_demand.proofs.SettledRows.{ready_is_there, argument_value}
 use Rattle.lucid_demand.proofs.Beginning.{stepped_from_less}
 use Rattle.lucid_demand.proofs.AskedParts.{asked_steps}

@@ -1,10 +1,12 @@
 -- What a call goes on with is found, and no context becomes known but that which it enters.
-use Rattle.lucid_demand.proofs.Common.{ℕ, inl, inr, List, Option, None, refl, sym, ap, ◌∙◌, subst, filter_map, In, entered_of, Context, IsOneForOne, KeepsKnown, context_of, space_of, Task, node_aim, call_aim, equations_of, Table, plain_task, plain_key, node_of, aim_of_task, Evaluating, plain_aim, IsAim, IsOfDaton, Enters, FindsAim, Aim, OnErr}
+use Rattle.lucid_demand.proofs.Common.{ℕ, inl, inr, List, Option, None, refl, sym, ap, ◌∙◌, subst, filter_map, In, entered_of, Context, IsOneForOne, KeepsKnown, context_of, space_of, Task, equations_of, Table, plain_task, plain_key, node_of, aim_of_task, Evaluating, plain_aim, IsAim, Enters, FindsAim, Aim, OnErr}
 use Rattle.std.proofs.Common.{◌≡◌, ◌⊎◌, Some, IfSome, Result, Ok, Err, IfOk}
 use Rattle.lucid_equations.specs.Nodes.{invoke}
+use Rattle.lucid_equations.specs.Datons.{node_aim, call_aim}
 use Rattle.lucid_facts.specs.Stands.{visits_of}
 use Rattle.lucid_facts.proofs.References.{call-enters}
-use Rattle.lucid_demand.proofs.FoundAims.{aim_refers}
+use Rattle.lucid_decide.specs.Aims.{IsOfDaton}
+use Rattle.lucid_decide.proofs.FoundAims.{aim_refers}
 
 module _ (T : Table) (old known : List Context) (x : Task) (n at l : ℕ) (is : node_of T (plain_task old x) ≡ invoke n at l) where
   aim_is : (o : Option Aim) → plain_aim T known o ≡ call_aim (equations_of T) n at l (context_of old x.tag) x.time → plain_aim T known o ≡ aim_of_task T (plain_task old x)

@@ -1,8 +1,9 @@
 -- What is true of a demand's loop stays true where contexts become known that the root enters.
-use Rattle.lucid_demand.proofs.Common.{ℕ, zero, suc, inl, inr, List, [], ◌∷◌, Option, refl, sym, ◌∙◌, subst, arith, IsSome, slice_index_or, filter_map, In, Elements, entered_of, inside-read, Context, root, IsKnown, IsOneForOne, KeepsKnown, context_of, TaskRow, Task, World, IsInRange, PlainTask, plain_task, plain_rows, passed_contexts, task_visits, held_in, EngineView, known_elements, holding, MayHave, Demand, IsEntered, Waits, HoldsNothing, owns_enters, all_rows_as_tags_grow, work_over}
+use Rattle.lucid_demand.proofs.Common.{ℕ, zero, suc, inl, inr, List, [], ◌∷◌, Option, refl, sym, ◌∙◌, subst, arith, IsSome, slice_index_or, filter_map, In, Elements, entered_of, inside-read, Context, root, IsKnown, IsOneForOne, KeepsKnown, context_of, TaskRow, Task, World, PlainTask, plain_task, plain_rows, passed_contexts, task_visits, held_in, EngineView, known_elements, holding, MayHave, Demand, IsEntered, Waits, HoldsNothing, owns_enters, all_rows_as_tags_grow, work_over}
 use Rattle.std.proofs.Common.{◌≡◌, ◌<◌, ◌⊎◌, Bool, true, false, length}
 use Rattle.lucid_tags.specs.Contexts.{same_context}
 use Rattle.lucid_tags.specs.EqualityDecides.{same_context_is_equality}
+use Rattle.lucid_equations.specs.Ranges.{IsInRange}
 use Rattle.lucid_facts.specs.Held.{AreKeysKnown}
 use Rattle.lucid_facts.specs.Demands.{table_of, IsSeen}
 use Rattle.lucid_facts.proofs.HeldByKey.{held_as_tags_grow}

@@ -1,16 +1,16 @@
 -- A search looks on: it takes a step, which its cursor's time and count have room for.
-use Rattle.lucid_demand.proofs.Common.{ℕ, suc, ◌+◌, List, Option, None, sym, ap, ◌∙◌, subst, arith, IsTrue, same_Some, Cursor, TaskRow, is_ready, waits_for_none, plain_row, EngineView, known_elements, holding, Demand, RowFacts, looked_on, Owns, Waits, plain_ready, plain_of_row, changed_there, ready_after_take, GoesDown, World, Evaluating, MayStep, Stepped, cost, DemandIn, MayAct, IsReadyTask, from_bool}
+use Rattle.lucid_demand.proofs.Common.{ℕ, suc, ◌+◌, List, Option, None, sym, ap, ◌∙◌, subst, arith, IsTrue, same_Some, Cursor, TaskRow, is_ready, waits_for_none, plain_row, EngineView, known_elements, holding, Demand, RowFacts, Owns, Waits, plain_ready, plain_of_row, changed_there, ready_after_take, GoesDown, World, Evaluating, MayStep, Stepped, cost, DemandIn, MayAct, IsReadyTask, from_bool}
 use Rattle.std.proofs.Common.{◌≡◌, ◌<◌, ◌≤◌, Bool, true, false, length, Some}
 use Rattle.std.specs.Prelude.{Ok, option_map}
 use Rattle.lucid_tasks.specs.Rows as rows
 use Rattle.lucid_tasks.specs.Rows.{row_at}
 use Rattle.lucid_facts.specs.Demands.{table_of}
-use Rattle.lucid_facts.specs.Decisions.{MayMove}
+use Rattle.lucid_facts.specs.Decisions.{MayMove, looked_on}
 use Rattle.lucid_facts.proofs.Noting.{stream_of_search}
 use Rattle.lucid_facts.proofs.Searching.{count-is_few}
 use Rattle.lucid_facts.proofs.Acting.{moves_goes_down}
+use Rattle.lucid_decide.specs.declared.decision.Decision.TheVariants as decision
 use Rattle.lucid_demand.specs.Searching.{CanLookOn}
-use Rattle.lucid_demand.specs.declared.decide.Decision.TheVariants as decision
 use Rattle.lucid_demand.proofs.GoneRows.{goes_on_step}
 use Rattle.lucid_demand.proofs.Beginning.{noted_costs}
 use Rattle.lucid_demand.proofs.SettledRows.{ready_is_there}

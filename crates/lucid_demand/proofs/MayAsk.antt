@@ -9,7 +9,7 @@ use Rattle.lucid_facts.specs.Demands.{table_of}
 use Rattle.lucid_facts.proofs.Listing.{row_of_plain}
 use Rattle.lucid_facts.proofs.Seeing.{plain_idle}
 use Rattle.lucid_facts.proofs.Asking.{asked_is_lower, asked_is_wanted}
-use Rattle.lucid_demand.specs.declared.decide.Decision.TheVariants as decision
+use Rattle.lucid_decide.specs.declared.decision.Decision.TheVariants as decision
 use Rattle.lucid_demand.proofs.SettledRows.{ready_is_there}
 use Rattle.lucid_demand.proofs.Stepping.{argument_in_table}
 

@@ -1,13 +1,14 @@
 -- A row that reads an element: what is owned stays right, and the row may settle with the element, or the reading is refused.
-use Rattle.lucid_demand.proofs.Common.{ℕ, List, Option, None, refl, sym, ap, ◌∙◌, subst, IsTrue, IfErr, slice_get, Value, plain, IsOverlong, Elements, inside-read, Task, TaskRow, World, Stream, all_bytes, GivesElement, equations_of, Table, AllDiffer, In, plain_task, plain_row, plain_rows, task_visits, EngineView, known_elements, holding, MayHave, places_of, Demand, demand_of, RowFacts, Owns, Waits, plain_of_row, StreamsRead, OnTooLarge, Evaluating, Stepped, cost, MayAct, IsTaken, Settling, MaySettle, ReadsElement, DemandFault, TooDeep, ReadFault}
+use Rattle.lucid_demand.proofs.Common.{ℕ, List, Option, None, refl, sym, ap, ◌∙◌, subst, IsTrue, IfErr, slice_get, Value, plain, IsOverlong, Elements, inside-read, Task, TaskRow, World, Stream, all_bytes, GivesElement, equations_of, Table, In, plain_task, plain_row, plain_rows, task_visits, EngineView, known_elements, holding, MayHave, Demand, demand_of, RowFacts, Owns, Waits, plain_of_row, StreamsRead, OnTooLarge, Evaluating, Stepped, cost, MayAct, IsTaken, Settling, MaySettle, ReadsElement, DemandFault, TooDeep, ReadFault}
 use Rattle.std.proofs.Common.{◌≡◌, Some}
 use Rattle.std.specs.Prelude.{IfSome, Result, Ok, Err, IfOk, option_map}
 use Rattle.lucid_tree.specs.Levels.{look_up_of}
+use Rattle.lucid_tree.specs.Members.{AllDiffer}
 use Rattle.lucid_tasks.specs.Rows.{row_at}
 use Rattle.lucid_ports.specs.World.{Contents}
 use Rattle.lucid_equations.specs.MoreElements.{Extends}
 use Rattle.lucid_equations.specs.Visits.{consults_on_nodes}
-use Rattle.lucid_facts.specs.Engine.{ConsultsOverlong}
+use Rattle.lucid_facts.specs.Engine.{ConsultsOverlong, places_of}
 use Rattle.lucid_facts.specs.Demands.{table_of, Answers, IsConsulted}
 use Rattle.lucid_facts.specs.Decisions.{MayRead}
 use Rattle.lucid_facts.proofs.References.{input-consults}
@@ -15,7 +16,7 @@ use Rattle.lucid_facts.proofs.Answering.{element-answers}
 use Rattle.lucid_facts.proofs.Working.{work_later}
 use Rattle.lucid_facts.proofs.Places.{reads_its_element}
 use Rattle.lucid_facts.proofs.Reading.{EngineReads, later_elements, owns_reads}
-use Rattle.lucid_demand.specs.declared.decide.Decision.TheVariants as decision
+use Rattle.lucid_decide.specs.declared.decision.Decision.TheVariants as decision
 use Rattle.lucid_demand.specs.declared.fault.DemandFault.TheVariants.{TooLarge}
 use Rattle.lucid_demand.proofs.SettledRows.{nothing_taken, stepped_from}
 

@@ -1,50 +1,23 @@
--- What is noted of a search is its form's pair, and a search begins where its form may stand.
-use Rattle.lucid_demand.proofs.Common.{ℕ, List, [], ◌∷◌, Option, None, refl, sym, ap, ◌∙◌, subst, arith, IsTrue, is_some, option_and_then, none-some, plain, Head, whenever, asa, upon, CanStandAt, Elements, Noted, Cursor, Task, TaskRow, got_of, is_ready, PlainNodes, row, node_at, node_by, Node, Table, waits_for_none, value_of_part, plain_row, is_search, known_elements, holding, MayHave, RowFacts, Owns, Waits, plain_ready, plain_got, plain_of_row, changed_there, cost_of, Evaluating, MayStep, cost, DemandIn}
+-- Where a ready row stands may be noted, and it may begin at a noted position.
+use Rattle.lucid_demand.proofs.Common.{ℕ, List, Option, None, refl, sym, ap, ◌∙◌, subst, arith, IsTrue, is_some, option_and_then, none-some, plain, Elements, Noted, Cursor, Task, TaskRow, got_of, is_ready, row, Node, Table, waits_for_none, value_of_part, plain_row, known_elements, holding, MayHave, RowFacts, Owns, Waits, plain_ready, plain_got, plain_of_row, changed_there, cost_of, Evaluating, MayStep, cost, DemandIn}
 use Rattle.std.proofs.Common.{◌≡◌, ◌≤◌, true, false, Some}
 use Rattle.std.specs.Prelude.{option_map}
+use Rattle.lucid_tree.specs.Rests.{CanStandAt}
 use Rattle.lucid_search.specs.Noted.{IsBest, NotesOrMisses}
 use Rattle.lucid_tasks.specs.Rows as rows
 use Rattle.lucid_tasks.specs.Rows.{row_at}
-use Rattle.lucid_equations.specs.Rows.{nodes_of, all_at}
-use Rattle.lucid_equations.specs.declared.rows.Node.TheVariants.{Whenever, Asa, Upon}
+use Rattle.lucid_equations.specs.Rows.{node_at, node_by}
 use Rattle.lucid_facts.specs.Tasks.{all_idle}
-use Rattle.lucid_facts.specs.Held.{cursor_noted, key_noted}
 use Rattle.lucid_facts.specs.Demands.{table_of}
 use Rattle.lucid_facts.specs.Changes.{at_cursor}
 use Rattle.lucid_facts.proofs.Idling.{search-is_all_idle}
 use Rattle.lucid_facts.proofs.Searching.{begun-facts}
 use Rattle.lucid_facts.proofs.Owning.{owns_notes}
 use Rattle.lucid_facts.proofs.Acting.{begins_goes_on}
-use Rattle.lucid_demand.specs.Searching.{search_for, noted_of, greatest_key}
-use Rattle.lucid_demand.specs.declared.searches.Search.{Search}
-use Rattle.lucid_demand.specs.declared.searches.Search.TheVariants.{Find, Count}
+use Rattle.lucid_decide.specs.Searches.{search_for, noted_of, greatest_key}
+use Rattle.lucid_decide.specs.declared.searches.Search.{Search}
+use Rattle.lucid_decide.proofs.SearchForms.{SearchesBy, searches_by}
 use Rattle.lucid_demand.proofs.SettledRows.{ready_is_there}
-
--- A node that searches by a form: what is noted of the search is the form's pair, which gives the cursor back; and wherever the search
--- may begin, the form may stand.
-pub record SearchesBy (T : Table) (n : Node) (t : ℕ) (s : Search) : Type 0 where
-  pub form : Head
-  pub nodes : PlainNodes
-  pub is : node_by T n ≡ row form nodes
-  pub search : is_search form ≡ true
-  pub pair : (c : Cursor) → noted_of s c ≡ key_noted form c
-  pub back : (c : Cursor) → cursor_noted form (noted_of s c).0 (noted_of s c).1 ≡ c
-  pub begins : (c : Cursor) → (noted_of s c).0 ≤ greatest_key s → CanStandAt form c.time c.count t
-
-one_search : (s q : Search) → Some s ≡ Some q → s ≡ q
-one_search s q e = cc
-
-pub searches_by : (T : Table) (n : Node) (t : ℕ) (s : Search) → search_for n t ≡ Some s → SearchesBy T n t s
-searches_by T (Whenever a b) t s e =
-    subst (λ z. SearchesBy T (Whenever a b) t z) (one_search (Find t) s e)
-    (record { form = whenever; nodes = all_at (nodes_of T) (a ∷ b ∷ []); is = refl; search = refl; pair = λ c. refl; back = λ c. refl; begins = λ c l. l })
-searches_by T (Asa a b) t s e =
-    subst (λ z. SearchesBy T (Asa a b) t z) (one_search (Find 0) s e)
-    (record { form = asa; nodes = all_at (nodes_of T) (a ∷ b ∷ []); is = refl; search = refl; pair = λ c. refl; back = λ c. refl; begins = λ c l. omega (arith, l) })
-searches_by T (Upon a b) t s e =
-    subst (λ z. SearchesBy T (Upon a b) t z) (one_search (Count t) s e)
-    (record { form = upon; nodes = all_at (nodes_of T) (a ∷ b ∷ []); is = refl; search = refl; pair = λ c. refl; back = λ c. refl; begins = λ c l. l })
-searches_by T _ t s e = absurd (none-some s e)
 
 -- A ready row of a node that searches.
 module _ (i : DemandIn) (e : Evaluating) (slot : ℕ) (step : MayStep i.demand e i.world slot) (r : TaskRow) (at : row_at e.rows slot ≡ Some r) (n : Node)

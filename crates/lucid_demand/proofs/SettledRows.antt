@@ -13,9 +13,9 @@ use Rattle.lucid_facts.proofs.Changing.{settles_after_taking}
 use Rattle.lucid_facts.proofs.Putting.{remembered-is_put}
 use Rattle.lucid_facts.proofs.Giving.{plan_answers, reference_answers}
 use Rattle.lucid_facts.proofs.Storing.{AfterPut, after_put}
+use Rattle.lucid_decide.specs.declared.decision.Decision.TheVariants as decision
 use Rattle.lucid_demand.specs.Evaluating.{OnGoingOn}
 use Rattle.lucid_demand.specs.Acting.{IsKept}
-use Rattle.lucid_demand.specs.declared.decide.Decision.TheVariants as decision
 use Rattle.lucid_demand.proofs.GoneRows.{row_goes}
 use Rattle.lucid_demand.proofs.TakenParts.{values_alike}
 

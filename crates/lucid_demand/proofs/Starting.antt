@@ -1,7 +1,10 @@
 -- A demand begins: the policy has its turn, and the root may be asked for.
-use Rattle.lucid_demand.proofs.Common.{ℕ, [], Option, None, sym, ap, ◌∙◌, subst, Value, root, context_at, IsKnown, context_of, space_of, number_of, Tag, Task, World, plain_task, EngineView, IsSound, AreAskable, Demand, demand_of, StandsFor, IsWanted, IsDemand, Owns, stands-itself, engine_begins, Evaluating, CanAsk, MayAskNow, AsksIn, IsTurned, Begins, DemandFault}
+use Rattle.lucid_demand.proofs.Common.{ℕ, [], Option, None, sym, ap, ◌∙◌, subst, Value, root, IsKnown, context_of, space_of, Task, World, plain_task, EngineView, IsSound, AreAskable, Demand, demand_of, StandsFor, IsWanted, IsDemand, Owns, stands-itself, engine_begins, Evaluating, CanAsk, MayAskNow, AsksIn, IsTurned, Begins, DemandFault}
 use Rattle.std.proofs.Common.{◌≡◌, ◌<◌, length}
 use Rattle.std.specs.Prelude.{Result, Ok, Err, Some}
+use Rattle.lucid_tags.specs.Contexts.{context_at}
+use Rattle.lucid_tags.specs.Known.{number_of}
+use Rattle.lucid_tags.specs.declared.Tag.{Tag}
 use Rattle.lucid_facts.specs.Demands.{table_of}
 use Rattle.lucid_facts.proofs.NewRows.{root-is_wanted}
 use Rattle.lucid_demand.proofs.Turning.{owns_turned, emptied_turn}

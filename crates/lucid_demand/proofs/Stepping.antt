@@ -1,18 +1,22 @@
 -- A ready row decides, and what its decision asks for is there.
-use Rattle.lucid_demand.proofs.Common.{inl, inr, ℕ, ◌+◌, List, refl, sym, ap, ◌∙◌, subst, arith, IsSome, slice_get, truth, eod, fault, Op, arity, Elements, element_of, goes_to, TaskRow, is_ready, World, NodeAim, Daton, equations_of, constant_at, Table, plain_task, plain_row, HoldsRight, known_elements, holding, MayHave, Demand, stays, RowFacts, plain_of_row, row-is_wanted, too_deep-is_right, MayDecide, Evaluating, MayStep, Stepped, MayAct, MayGive, IsReadyTask, Justified, argument_at, Decision, TooDeep, length-map, slice_get_within}
+use Rattle.lucid_demand.proofs.Common.{inl, inr, ℕ, ◌+◌, List, refl, sym, ap, ◌∙◌, subst, arith, IsSome, slice_get, Op, arity, Elements, TaskRow, is_ready, World, equations_of, constant_at, Table, plain_task, plain_row, HoldsRight, known_elements, holding, MayHave, Demand, stays, RowFacts, plain_of_row, row-is_wanted, too_deep-is_right, Evaluating, MayStep, Stepped, MayAct, MayGive, IsReadyTask, Justified, argument_at, TooDeep, length-map, slice_get_within}
 use Rattle.std.proofs.Common.{◌≡◌, ◌<◌, length, Some}
 use Rattle.std.specs.Prelude.{Bool, Err}
+use Rattle.lucid_value.specs.Plain.{truth, eod, fault}
+use Rattle.lucid_tree.specs.Levels.{element_of, goes_to}
 use Rattle.lucid_tasks.specs.Rows.{row_at}
-use Rattle.lucid_equations.specs.Datons.{NodePosition}
+use Rattle.lucid_equations.specs.Datons.{NodePosition, NodeAim, Daton}
 use Rattle.lucid_equations.specs.Rows as table
 use Rattle.lucid_equations.specs.declared.rows.Node.TheVariants as node
 use Rattle.lucid_facts.specs.Stands.{IsDefined}
 use Rattle.lucid_facts.specs.Demands.{table_of}
 use Rattle.lucid_facts.specs.Decisions.{element_too_deep}
 use Rattle.lucid_facts.proofs.Asking.{nothing_is_right}
+use Rattle.lucid_decide.specs.declared.decision.Decision.TheVariants as decision
+use Rattle.lucid_decide.specs.Ready.{MayDecide}
+use Rattle.lucid_decide.specs.declared.decision.Decision.{Decision}
+use Rattle.lucid_decide.proofs.OperatorParts.{argument_is_lower}
 use Rattle.lucid_demand.specs.Acting.{AreThere}
-use Rattle.lucid_demand.specs.declared.decide.Decision.TheVariants as decision
-use Rattle.lucid_demand.proofs.OperatorParts.{argument_is_lower}
 use Rattle.lucid_demand.proofs.TakenParts.{value_there}
 use Rattle.lucid_demand.proofs.SettledRows.{ready_is_there, argument_value}
 

@@ -1,9 +1,10 @@
 -- The values of an operator's arguments, to which it is applied.
-use Rattle.lucid_demand.proofs.Common.{ℕ, zero, suc, ◌+◌, List, [], ◌∷◌, Option, refl, sym, ap, ◌∙◌, subst, arith, same_Some, IsErrAnd, ⊤, IsSome, slice_get, slice_index_or, Value, PlainValue, plain, Op, arity, Idle, Evaluating, gave, Applies, value_of, HaveValues, DemandFault, slice_set}
+use Rattle.lucid_demand.proofs.Common.{ℕ, zero, suc, ◌+◌, List, [], ◌∷◌, Option, refl, sym, ap, ◌∙◌, subst, arith, same_Some, IsErrAnd, ⊤, IsSome, slice_get, slice_index_or, Value, PlainValue, plain, Op, arity, Idle, Evaluating, gave, Applies, value_of, DemandFault, slice_set}
 use Rattle.std.proofs.Common.{◌≡◌, ◌<◌, length, Some}
 use Rattle.std.specs.Prelude.{Result, Ok, Err, IfOk}
 use Rattle.lucid_ops.specs.Algebra.{algebra}
 use Rattle.lucid_tasks.specs.Rows as rows
+use Rattle.lucid_decide.specs.Justified.{HaveValues}
 
 -- another part than the one that is set stands as it did
 pub other_part : (ps : List rows.PartState) (i k : ℕ) (y : rows.PartState) → (k ≡ i → ⊥) → slice_index_or (slice_set ps i y) k Idle ≡ slice_index_or ps k Idle

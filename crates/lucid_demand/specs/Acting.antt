@@ -16,10 +16,10 @@ use Rattle.lucid_facts.specs.Demands.{Demand, table_of, Answers}
 use Rattle.lucid_facts.specs.Decisions.{GivesByPlan}
 use Rattle.lucid_facts.specs.Going.{Waits, WithinRoom}
 use Rattle.lucid_facts.specs.Changes.{PutsOrLoses}
+use Rattle.lucid_decide.specs.Justified.{Justified, HaveValues}
+use Rattle.lucid_decide.specs.Ready.{argument_of}
+use Rattle.lucid_decide.specs.declared.decision.Decision.{Decision}
 use Rattle.lucid_demand.specs.Evaluating.{Evaluating, MayStep}
-use Rattle.lucid_demand.specs.Justified.{Justified, HaveValues}
-use Rattle.lucid_demand.specs.Answers.{argument_of}
-use Rattle.lucid_demand.specs.declared.decide.Decision.{Decision}
 
 -- a demand, and the world in which its next step is taken
 pub record DemandIn : Type 0 where

@@ -22,9 +22,9 @@ use Rattle.lucid_facts.specs.Engine.{EngineView, holding, MayHave}
 use Rattle.lucid_facts.specs.Demands.{Demand, table_of, stays, Answers}
 use Rattle.lucid_facts.specs.Rows.{IsWanted}
 use Rattle.lucid_facts.specs.Going.{IsDemand, Owns, Waits}
+use Rattle.lucid_decide.specs.Aims.{plain_aim, IsAim}
+use Rattle.lucid_decide.specs.declared.aim.Aim.{Aim}
 use Rattle.lucid_demand.specs.Evaluating.{Evaluating, cost, OnAnswer, OnGoingOn}
-use Rattle.lucid_demand.specs.Aims.{plain_aim, IsAim}
-use Rattle.lucid_demand.specs.declared.aim.Aim.{Aim}
 use Rattle.lucid_demand.specs.declared.fault.DemandFault.{DemandFault}
 use Rattle.lucid_demand.specs.declared.fault.DemandFault.TheVariants.{TooDeep, NoMemory}
 

@@ -1,12 +1,9 @@
 pub mod Acting
-pub mod Aims
-pub mod Answers
 pub mod Asking
 pub mod Demanded
 pub mod Evaluating
 pub mod EvaluatingCode
 pub mod Faults
-pub mod Justified
 pub mod LoopEnds
 pub mod Reading
 pub mod Searching

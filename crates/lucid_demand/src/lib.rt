@@ -20,12 +20,9 @@
 pub use crate::engine::Engine;
 pub use crate::fault::DemandFault;
 
-mod aim;
 mod arguments;
-mod decide;
 mod engine;
 mod fault;
-mod moving;
 mod references;
 mod searches;
 mod settling;

@@ -9,9 +9,8 @@ ghost use Rattle.lucid_demand.specs.Acting.{DemandIn};
 ghost use Rattle.lucid_demand.specs.Asking.{CanAsk, FindsAim, MayRefer, AsksIn, SetsPart};
 
 use crate::DemandFault;
-use crate::aim::{Aim, call_aim, name_aim};
-use crate::moving::moved_on;
 use crate::turn::Evaluation;
+use lucid_decide::{Aim, call_aim, moved_on, name_aim};
 use lucid_equations::Node;
 use lucid_retire::Retire;
 use lucid_schedule::Pick;

@@ -1,79 +1,19 @@
 //! Searches begin at the best noted position, and note where they end.
-ghost use Rattle.std.specs.Prelude.{◌≡◌, ℕ, ◌<◌, ◌≤◌, None, Some, IfSome, IfNone, is_some};
-ghost use Rattle.lucid_search.specs.Noted.{number_at, IsBest, NotesOrMisses};
+ghost use Rattle.std.specs.Prelude.{◌≡◌, ◌<◌, ◌≤◌, None, Some};
 ghost use Rattle.lucid_facts.specs.Going.{Owns};
+ghost use Rattle.lucid_decide.specs.declared.decision.Decision.TheVariants as decision;
 ghost use Rattle.lucid_demand.specs.Evaluating.{MayStep, gave, Stepped, cost};
 ghost use Rattle.lucid_demand.specs.Acting.{DemandIn, MayAct, IsReadyTask};
-ghost use Rattle.lucid_demand.specs.Searching.{search_for, noted_of, greatest_key, StandsAt, CanLookOn};
+ghost use Rattle.lucid_demand.specs.Searching.{StandsAt, CanLookOn};
 ghost use Rattle.lucid_demand.specs.Asking.{MayAskNow};
-ghost use Rattle.lucid_demand.specs.declared.decide.Decision.TheVariants as decision;
 
 use crate::DemandFault;
 use crate::turn::Evaluation;
+use lucid_decide::{is_search, search_of};
 use lucid_equations::Node;
 use lucid_retire::Retire;
 use lucid_schedule::Pick;
-use lucid_search::Positions;
 use lucid_tasks::{Cursor, Part, Task};
-
-/// What a search wants, by which its positions are noted.
-#[derive(Clone, Copy)]
-pub(crate) enum Search {
-    /// `whenever` and `asa` want so many true values to be passed: noted are counts, each with a time.
-    Find { wanted: u64 },
-    /// `upon` wants the count of true values below a time: noted are times, each with a count.
-    Count { time: u64 },
-}
-
-/// The search of a node at a time, if it is one.
-pub(crate) fn search_of(node: Node, time: u64) -> Option<Search>
-    ensures { result ≡ search_for node time }
-{
-    match node {
-        Node::Whenever { .. } => Some(Search::Find { wanted: time }),
-        Node::Asa { .. } => Some(Search::Find { wanted: 0 }),
-        Node::Upon { .. } => Some(Search::Count { time }),
-        _ => None,
-    }
-}
-
-/// Whether a node is a search.
-#[inline(always)]
-pub(crate) fn is_search(node: Node) -> bool
-    ensures { result ≡ is_some (search_for node 0) }
-{
-    match node {
-        Node::Whenever { .. } | Node::Asa { .. } | Node::Upon { .. } => true,
-        _ => false,
-    }
-}
-
-/// The best noted position of a search, if there is one.
-pub(crate) fn best(positions: &Positions, task: Task, search: Search) -> Option<Cursor>
-    ensures best { IfSome result (λ cursor. IsBest positions.now task.node task.tag (greatest_key search) (noted_of search cursor)) }
-    ensures none { IfNone result ((key : ℕ) → key ≤ greatest_key search → number_at positions.now task.node task.tag key ≡ None) }
-{
-    match search {
-        Search::Find { wanted } => {
-            let (count, time) = positions.best(task.node, task.tag, wanted)?;
-            Some(Cursor { time, count })
-        }
-        Search::Count { time } => {
-            let (time, count) = positions.best(task.node, task.tag, time)?;
-            Some(Cursor { time, count })
-        }
-    }
-}
-
-/// Notes where a search stands.
-pub(crate) fn note(positions: &mut Positions, task: Task, search: Search, cursor: Cursor)
-    ensures { let pair = noted_of search cursor in NotesOrMisses positions.old positions.new task.node task.tag pair.0 pair.1 }
-{
-    match search {
-        Search::Find { .. } => positions.note(task.node, task.tag, cursor.count, cursor.time),
-        Search::Count { .. } => positions.note(task.node, task.tag, cursor.time, cursor.count),
-    }
-}
 
 impl<R: Retire, S: Pick> Evaluation<R, S> {
     // A search that looked at nothing so far begins at the best noted position. Most tasks are no search, so that is asked first.
@@ -111,7 +51,7 @@ impl<R: Retire, S: Pick> Evaluation<R, S> {
         {
             return;
         }
-        if let Some(cursor) = best(&self.positions, task, search) {
+        if let Some(cursor) = search.best(&self.positions, task) {
             self.tasks.set_cursor(slot, cursor);
         }
     }
@@ -126,7 +66,7 @@ impl<R: Retire, S: Pick> Evaluation<R, S> {
     {
         let task = self.tasks.task(slot);
         if let Some(search) = search_of(self.program.node(task.node), task.time) {
-            note(&mut self.positions, task, search, self.tasks.cursor(slot));
+            search.note(&mut self.positions, task, self.tasks.cursor(slot));
         }
     }
 

@@ -6,15 +6,15 @@ ghost use Rattle.lucid_ops.specs.Arity.{arity};
 ghost use Rattle.lucid_tasks.specs.Rows.{row_at, parent_of, key_of, got_of, taken, returned, is_ready, ChangesOnly, IsRow, Settles};
 ghost use Rattle.lucid_facts.specs.Demands.{Demand};
 ghost use Rattle.lucid_facts.specs.Engine.{AreAskable};
+ghost use Rattle.lucid_decide.specs.declared.decision.Decision.TheVariants as decision;
 ghost use Rattle.lucid_demand.specs.Faults.{CountsReadFaults};
 ghost use Rattle.lucid_demand.specs.Evaluating.{gave, Stepped};
 ghost use Rattle.lucid_demand.specs.Acting.{DemandIn, Settling, MayAct, MayGive, MaySettle, IsKept, IsReadyTask, IsThere, AreThere, Applies, value_of};
 ghost use Rattle.lucid_demand.specs.Reading.{ReadsElement};
-ghost use Rattle.lucid_demand.specs.declared.decide.Decision.TheVariants as decision;
 
 use crate::DemandFault;
-use crate::decide::argument;
 use crate::turn::Evaluation;
+use lucid_decide::argument;
 use lucid_ops::{Op, apply_to_one, apply_to_three, apply_to_two};
 use lucid_ports::Places;
 use lucid_retire::Retire;

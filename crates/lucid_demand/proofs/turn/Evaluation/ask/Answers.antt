@@ -1,6 +1,7 @@
-use Rattle.lucid_demand.proofs.Common.{ap, sym, ◌∙◌, subst, KeepsKnown, plain, const, row, PlainTask, plain_task, passed-stands, Evaluating, gave, AsksIn, SetsPart, NoMemory}
+use Rattle.lucid_demand.proofs.Common.{ap, sym, ◌∙◌, subst, KeepsKnown, plain, row, PlainTask, plain_task, passed-stands, Evaluating, gave, AsksIn, SetsPart, NoMemory}
 use Rattle.std.proofs.Common.{Ok, ◌<◌, length}
 use Rattle.std.specs.Prelude.{IfSome}
+use Rattle.lucid_tree.specs.Tree.{const}
 use Rattle.lucid_equations.specs.Nodes.{no_nodes}
 use Rattle.lucid_equations.specs.Programs.{table_of}
 use Rattle.lucid_demand.proofs.TakenParts.{gave_err}
