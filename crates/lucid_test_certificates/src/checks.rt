@@ -21,10 +21,10 @@ fn checked(alloc: Global, setup: &Setup, text: &[u8]) -> Result<Result<(), Check
     ))
 }
 
-static FILES: [(&str, &str); 2] = [("a", "4\n5\n"), ("b", "1\n2\n3\n")];
+pub(crate) static FILES: [(&str, &str); 2] = [("a", "4\n5\n"), ("b", "1\n2\n3\n")];
 
 // Programs and certificates of their values.
-static RIGHT: [(&str, &[u8]); 17] = [
+pub(crate) static RIGHT: [(&str, &[u8]); 17] = [
     ("7", b"j 0 0 5 0 0 7\n"),
     ("7", b"j 0 0 5 0 0 7\nj 0 0 5 0 0 7\n"),
     ("7", b"z 2 0\nj 0 0 5 0 0 7\n"),

@@ -5,4 +5,6 @@
 #[cfg(test)]
 mod checks;
 #[cfg(test)]
+mod made;
+#[cfg(test)]
 mod texts;
