@@ -4,6 +4,7 @@ use lucid_cert::certify;
 use lucid_check::check_why;
 use lucid_demand::DemandFault;
 use lucid_test_trials::{Parts, Setup};
+use lucid_tree::LAST;
 use lucid_value::Value;
 use lucid_why::{Why, read_why};
 use std::alloc::Global;
@@ -11,6 +12,9 @@ use std::test::Fail;
 
 // The certificate of a program's value at a time, over files.
 fn made(alloc: Global, setup: &Setup, time: u64) -> Result<Result<Why, DemandFault>, Fail> {
+    if time > LAST {
+        return Err(Fail::new("no time"));
+    }
     let mut parts = Parts::make(alloc, setup)?;
     Ok(certify(
         alloc,
