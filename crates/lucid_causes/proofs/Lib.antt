@@ -1,5 +1,4 @@
 pub mod Only
 pub mod Flat
-pub mod Few
-pub mod Whole
+pub mod First
 pub mod Near

@@ -10,7 +10,7 @@ use Rattle.lucid_cycles.specs.declared.judgment.Judgment.{Judgment}
 use Rattle.lucid_cycles.specs.declared.judgment.Judgment.TheVariants.{Enough, Cycle}
 use Rattle.lucid_cycles.specs.declared.judgment.JudgeRefusal.{JudgeRefusal}
 use Rattle.lucid_cycles.specs.declared.judgment.JudgeRefusal.TheVariants.{Outside, TooMany, NoMemory}
-use Rattle.lucid_explanations.specs.Accepted.{IsSpelt, IsTurnedDown}
+use Rattle.lucid_explanations.specs.Accepted.{IsProgram, IsTurnedDown}
 
 -- the greatest depth limit
 abbrev pub most_depth : ℕ
@@ -49,7 +49,7 @@ unjudged_text why = codes "`--cycles` says: " ++ (refusal_text why ++ unjudged_a
 -- enough: at it the value at the time is defined.
 pub data TellsDepth (source : List ℕ) (time : ℕ) (text : List ℕ) : Type 0 where
   nothing : IsTurnedDown source → text ≡ [] → TellsDepth source time text
-  judged : (scoped : Scoped) (judgment : Judgment) → IsSpelt source (scoped_tree scoped) → IsJudgment (scoped_tree scoped) (scoped_binding scoped) judgment
+  judged : (scoped : Scoped) (judgment : Judgment) → IsProgram source (scoped_tree scoped) → IsJudgment (scoped_tree scoped) (scoped_binding scoped) judgment
       → IsDefinedAsJudged (scoped_tree scoped) judgment → text ≡ judged_text (scoped_tree scoped) time judgment → TellsDepth source time text
-  unjudged : (scoped : Scoped) (why : JudgeRefusal) → why ≢ NoMemory → IsSpelt source (scoped_tree scoped) → IsJudgeRefusal (scoped_tree scoped) why
+  unjudged : (scoped : Scoped) (why : JudgeRefusal) → why ≢ NoMemory → IsProgram source (scoped_tree scoped) → IsJudgeRefusal (scoped_tree scoped) why
       → text ≡ unjudged_text why → TellsDepth source time text

@@ -1,17 +1,16 @@
 -- What is said of inputs that have no file: the name of each, where it stands first, and a definition in scope there whose name differs by little.
-use Rattle.std.specs.Prelude.{◌≡◌, ℕ, ◌*◌, ◌≤◌, ◌<◌, ◌⊎◌, List, [], ◌∷◌, ◌++◌, length, map, find, min, max, Bool, ◌&&◌, nat_le, nat_lt, if◌then◌else◌, Option, None, Some, All, Contains, codes, nat_eq}
+use Rattle.std.specs.Prelude.{◌≡◌, ℕ, suc, ◌+◌, ◌*◌, ◌<◌, List, [], ◌∷◌, ◌++◌, length, find, min, max, Bool, ◌&&◌, nat_le, nat_lt, Option, None, Some, Contains, codes, nat_eq}
 use Rattle.std.specs.Borrow.{Bor}
 use Rattle.std.specs.List.{slice_get, flat_map}
 use Rattle.std.specs.Option.{option_or, option_copied}
 use Rattle.strsim.specs.Edits.{levenshtein_row}
-use Rattle.lucid_tree.specs.Members.{In}
 use Rattle.lucid_tree.specs.declared.tree.Def.{Def}
 use Rattle.lucid_scope.specs.declared.scoped.Scoped.{Scoped}
 use Rattle.lucid_scope.specs.declared.scoped.Binding.TheVariants.{Input}
 use Rattle.lucid_scope.specs.Scoped.{scoped_tree, scoped_inputs, scoped_binding}
 use Rattle.lucid_causes.specs.declared.inputs.Lacking.{Lacking}
-use Rattle.lucid_explanations.specs.Accepted.{IsSpelt, IsTurnedDown}
-use Rattle.lucid_explanations.specs.Positions.{where_text}
+use Rattle.lucid_explanations.specs.Accepted.{IsProgram, IsTurnedDown}
+use Rattle.lucid_expected.specs.Positions.{where_text}
 use Rattle.lucid_explanations.specs.Definitions.{name_text, definition_text}
 use Rattle.lucid_explanations.specs.Scopes.{in_scope}
 
@@ -37,9 +36,8 @@ is_near most name other =
 abbrev pub nearest : (name : List ℕ) → List Def → Option Def
 nearest name defs = option_or (find (λ d. is_near 1 name d.name) defs) (find (λ d. is_near 2 name d.name) defs)
 
--- An input without a file among those given: its name, its first place, and the definition in scope there whose name is nearest.
-pub record IsLacking (scoped : Scoped) (given : List (List ℕ)) (l : Lacking) : Type 0 where
-  pub stream : ℕ
+-- The input of this number has no file among those given: its name, its first place, and the definition in scope there whose name is nearest.
+pub record IsLacking (scoped : Scoped) (given : List (List ℕ)) (stream : ℕ) (l : Lacking) : Type 0 where
   pub named : slice_get (scoped_inputs scoped) stream ≡ Some l.name.now
   pub free : Contains given l.name.now → ⊥
   pub first : StandsFirst scoped stream l.at
@@ -53,18 +51,20 @@ pub record IsWanted (scoped : Scoped) (given : List (List ℕ)) (end stream : �
   pub before : at < end
   pub stands : StandsAt scoped stream at
 
-abbrev pub name_of : Lacking → List ℕ
-name_of l = l.name.now
+-- Of the inputs of these names, which are numbered from here on, those are the first that have no file and stand before the end, as many as there is
+-- room for.
+pub data AreFirst (scoped : Scoped) (given : List (List ℕ)) (end : ℕ) : (room stream : ℕ) → (names : List (List ℕ)) → (those : List Lacking) → Type 0 where
+  ended : (room stream : ℕ) → AreFirst scoped given end room stream [] []
+  lacks : (room stream : ℕ) (l : Lacking) (names : List (List ℕ)) (those : List Lacking) → IsLacking scoped given stream l
+      → AreFirst scoped given end room (stream + 1) names those → AreFirst scoped given end (suc room) stream (l.name.now ∷ names) (l ∷ those)
+  passed : (room stream : ℕ) (name : List ℕ) (names : List (List ℕ)) (those : List Lacking) → (IsWanted scoped given end stream name → ⊥)
+      → AreFirst scoped given end room (stream + 1) names those → AreFirst scoped given end room stream (name ∷ names) those
+  no_room : (stream : ℕ) (name : List ℕ) (names : List (List ℕ)) (those : List Lacking) → AreFirst scoped given end 0 (stream + 1) names those
+      → AreFirst scoped given end 0 stream (name ∷ names) those
 
--- They are six, or all such inputs are among them.
-abbrev pub AreAll : Scoped → (given : List (List ℕ)) → (end : ℕ) → List Lacking → Type 0
-AreAll scoped given end those =
-    (length those ≡ 6) ⊎ ((stream : ℕ) (name : List ℕ) → IsWanted scoped given end stream name → In name (map name_of those))
-
--- one more of them, where there is one and they are fewer than six
-abbrev pub with_one : List Lacking → Option Lacking → List Lacking
-with_one those None = those
-with_one those (Some l) = if nat_lt (length those) 6 then those ++ l ∷ [] else those
+-- They are the first six of a program's inputs that do, or all.
+abbrev pub AreLacking : Scoped → (given : List (List ℕ)) → (end : ℕ) → List Lacking → Type 0
+AreLacking scoped given end those = AreFirst scoped given end 6 0 (scoped_inputs scoped) those
 
 abbrev pub near_text : (source : List ℕ) → Option (Bor Def) → List ℕ
 near_text source None = []
@@ -87,8 +87,8 @@ lacking_advice = codes "A name that nothing defines is an input. One of them may
 abbrev pub inputs_text : (source : List ℕ) → List Lacking → List ℕ
 inputs_text source those = lacking_advice ++ (flat_map word_text those ++ (codes "\n" ++ flat_map (lacking_text source) those))
 
--- The text tells the inputs of the source that have no file among those given, or six of them; or nothing, where the source is refused.
+-- The text tells the inputs of the source that have no file among those given, or the first six; or nothing, where the source is refused.
 pub data TellsInputs (source : List ℕ) (given : List (List ℕ)) (text : List ℕ) : Type 0 where
   nothing : IsTurnedDown source → text ≡ [] → TellsInputs source given text
-  lacking : (scoped : Scoped) (those : List Lacking) → IsSpelt source (scoped_tree scoped)
-      → All (IsLacking scoped given) those → length those ≤ 6 → AreAll scoped given (length source) those → text ≡ inputs_text source those → TellsInputs source given text
+  lacking : (scoped : Scoped) (those : List Lacking) → IsProgram source (scoped_tree scoped)
+      → AreLacking scoped given (length source) those → text ≡ inputs_text source those → TellsInputs source given text

@@ -4,11 +4,12 @@ ghost use Rattle.std.specs.Option.{SomeIff};
 ghost use Rattle.lucid_scope.specs.Scoped.{scoped_tree, scoped_binding};
 ghost use Rattle.lucid_cycles.specs.Judgments.{IsJudgment, IsJudgeRefusal};
 ghost use Rattle.lucid_cycles.specs.Laws.{IsDefinedAsJudged};
-ghost use Rattle.lucid_explanations.specs.Accepted.{IsSpelt};
+ghost use Rattle.lucid_explanations.specs.Accepted.{IsProgram};
 ghost use Rattle.lucid_causes.specs.Depths.{enough_text, cycle_advice, unjudged_advice, meaning_text, judged_text, refusal_text, unjudged_text, TellsDepth};
 
 use lucid_cycles::{JudgeRefusal, Judgment, judge};
-use lucid_explanations::{put_number, scoped_of};
+use lucid_expected::put_number;
+use lucid_explanations::scoped_of;
 use lucid_scope::Scoped;
 use std::alloc::{AllocError, Global};
 
@@ -120,7 +121,7 @@ fn text_of_judgment(
     judgment: &Judgment,
     time: u64,
 ) -> Result<Vec<u8>, AllocError>
-    requires spelt { IsSpelt source.now (scoped_tree scoped.now) }
+    requires program { IsProgram source.now (scoped_tree scoped.now) }
     requires judged { IsJudgment (scoped_tree scoped.now) (scoped_binding scoped.now) judgment.now }
     requires enough { IsDefinedAsJudged (scoped_tree scoped.now) judgment.now }
     ensures { IfOk result (λ text. TellsDepth source.now time text.items) }
@@ -138,7 +139,7 @@ fn text_of_refusal(
     refusal: &JudgeRefusal,
     time: u64,
 ) -> Result<Vec<u8>, AllocError>
-    requires spelt { IsSpelt source.now (scoped_tree scoped.now) }
+    requires program { IsProgram source.now (scoped_tree scoped.now) }
     requires known { refusal.now ≢ JudgeRefusal.NoMemory }
     requires refused { IsJudgeRefusal (scoped_tree scoped.now) refusal.now }
     ensures { IfOk result (λ text. TellsDepth source.now time text.items) }
@@ -155,7 +156,7 @@ fn text_of_scoped(
     scoped: &Scoped,
     time: u64,
 ) -> Result<Vec<u8>, AllocError>
-    requires { IsSpelt source.now (scoped_tree scoped.now) }
+    requires { IsProgram source.now (scoped_tree scoped.now) }
     ensures { IfOk result (λ text. TellsDepth source.now time text.items) }
 {
     match judge(alloc, scoped) {

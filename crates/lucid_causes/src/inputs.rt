@@ -1,14 +1,16 @@
 //! What is said of inputs that have no file.
-ghost use Rattle.std.specs.Prelude.{◌≡◌, ◌≤◌, ◌++◌, ◌↔◌, length, find, min, All, Contains, Some, ℕ, ◌<◌, IfOk, IfSome, IfNone, IsTrue, OnOk};
-ghost use Rattle.std.specs.Option.{option_copied};
+ghost use Rattle.std.specs.Prelude.{◌≡◌, ◌-◌, ◌+◌, ◌≤◌, ◌∷◌, ◌++◌, ◌↔◌, List, length, find, min, Contains, Some, ℕ, ◌<◌, IfOk, IfSome, IfNone, IsTrue, OnOk};
+ghost use Rattle.std.specs.Option.{option_copied, option_to_list};
 ghost use Rattle.std.specs.List.{slice_get, flat_map};
 ghost use Rattle.lucid_scope.specs.Scoped.{scoped_tree, scoped_inputs};
-ghost use Rattle.lucid_explanations.specs.Accepted.{IsSpelt};
-ghost use Rattle.lucid_causes.specs.Inputs.{StandsAt, StandsFirst, is_near, nearest, IsLacking, IsWanted, AreAll, with_one, near_text, first_text, lacking_text, word_text, inputs_text, TellsInputs};
+ghost use Rattle.lucid_explanations.specs.Accepted.{IsProgram};
+ghost use Rattle.lucid_causes.specs.declared.inputs.Lacking.{Lacking as Told};
+ghost use Rattle.lucid_causes.specs.Inputs.{StandsAt, StandsFirst, is_near, nearest, IsLacking, IsWanted, AreFirst, AreLacking, near_text, first_text, lacking_text, word_text, inputs_text, TellsInputs};
 ghost use Rattle.lucid_explanations.specs.Definitions.{name_text};
 ghost use Rattle.lucid_explanations.specs.Scopes.{lent};
 
-use lucid_explanations::{find_in_scope, put_definition, put_name, put_where, scoped_of};
+use lucid_expected::put_where;
+use lucid_explanations::{find_in_scope, put_definition, put_name, scoped_of};
 use lucid_scope::{Binding, Scoped};
 use lucid_tree::Def;
 use lucid_value::Name;
@@ -111,7 +113,7 @@ fn lacking_of<'a>(
 ) -> Result<Option<Lacking<'a>>, AllocError>
     requires named { slice_get (scoped_inputs scoped.now) stream ≡ Some name.now }
     requires free { Contains given.now name.now → ⊥ }
-    ensures lacking { IfOk result (λ found. IfSome found (IsLacking scoped.entry.now given.now)) }
+    ensures lacking { IfOk result (λ found. IfSome found (IsLacking scoped.entry.now given.now stream)) }
     ensures named { IfOk result (λ found. IfSome found (λ l. l.name.now ≡ name.entry.now)) }
     ensures none { IfOk result (λ found. IfNone found (IsWanted scoped.entry.now given.now end stream name.entry.now → ⊥)) }
 {
@@ -131,7 +133,7 @@ pub(crate) fn is_given(given: &[Name], name: &Name) -> bool
     given.iter().any(|other| other.same(name))
 }
 
-// The same where no file is given for it and there is room.
+// The same where there is room and no file is given for it.
 fn lacking_if<'a>(
     alloc: Global,
     scoped: &'a Scoped,
@@ -139,38 +141,43 @@ fn lacking_if<'a>(
     stream: u32,
     given: &[Name],
     end: u32,
-    has_room: bool,
+    room: usize,
 ) -> Result<Option<Lacking<'a>>, AllocError>
     requires { slice_get (scoped_inputs scoped.now) stream ≡ Some name.now }
-    ensures lacking { IfOk result (λ found. IfSome found (IsLacking scoped.entry.now given.now)) }
-    ensures named { IfOk result (λ found. IfSome found (λ l. l.name.now ≡ name.entry.now)) }
-    ensures none { IfOk result (λ found. IfNone found (IsTrue has_room → IsWanted scoped.entry.now given.now end stream name.entry.now → ⊥)) }
+    ensures few { IfOk result (λ found. length (option_to_list found) ≤ room) }
+    ensures first { IfOk result (λ found. (names : List (List ℕ)) (those : List Told)
+        → AreFirst scoped.entry.now given.now end (room - length (option_to_list found)) (stream + 1) names those
+        → AreFirst scoped.entry.now given.now end room stream (name.entry.now ∷ names) (option_to_list found ++ those)) }
 {
-    if !has_room || is_given(given, name) {
+    if room == 0 {
         return Ok(None);
     }
-    lacking_of(alloc, scoped, name, stream, end, given)
+    if is_given(given, name) {
+        return Ok(None);
+    }
+    match lacking_of(alloc, scoped, name, stream, end, given)? {
+        Some(lacking) => Ok(Some(lacking)),
+        None => Ok(None),
+    }
 }
 
-// Adds an input, where there is one and room for it.
+// Adds an input, where there is one.
 fn add_lacking<'a>(
     those: &mut Vec<Lacking<'a>>,
     lacking: Option<Lacking<'a>>,
 ) -> Result<(), AllocError>
-    ensures { OnOk result (those.new.items ≡ with_one those.old.items lacking.entry) }
+    ensures { OnOk result (those.new.items ≡ those.old.items ++ option_to_list lacking.entry) }
 {
     match lacking {
         Some(lacking) => {
-            if those.len() < MOST_TOLD {
-                those.push(lacking)?;
-            }
+            those.push(lacking)?;
             Ok(())
         }
         None => Ok(()),
     }
 }
 
-// The inputs without a file among those given that stand before the end, or six of them.
+// The inputs without a file among those given that stand before the end, or the first six of them.
 fn all_lacking<'a>(
     alloc: Global,
     scoped: &'a Scoped,
@@ -178,15 +185,13 @@ fn all_lacking<'a>(
     given: &[Name],
 ) -> Result<Vec<Lacking<'a>>, AllocError>
     requires { length (scoped_inputs scoped.now) ≤ 1048576 }
-    ensures lacking { IfOk result (λ those. All (IsLacking scoped.entry.now given.now) those.items) }
-    ensures few { IfOk result (λ those. length those.items ≤ 6) }
-    ensures all { IfOk result (λ those. AreAll scoped.entry.now given.now end those.items) }
+    ensures { IfOk result (λ those. AreLacking scoped.entry.now given.now end those.items) }
 {
     let mut those = Vec::new(alloc);
     let mut stream = 0;
     for name in scoped.inputs() {
-        let has_room = those.len() < MOST_TOLD;
-        let lacking = lacking_if(alloc, scoped, name, stream, given, end, has_room)?;
+        let room = MOST_TOLD - those.len();
+        let lacking = lacking_if(alloc, scoped, name, stream, given, end, room)?;
         add_lacking(&mut those, lacking)?;
         stream += 1;
     }
@@ -270,7 +275,7 @@ fn text_of(
     given: &[Name],
 ) -> Result<Vec<u8>, AllocError>
     requires short { length source.now ≤ 1048576 }
-    requires spelt { IsSpelt source.now (scoped_tree scoped.now) }
+    requires program { IsProgram source.now (scoped_tree scoped.now) }
     requires few { length (scoped_inputs scoped.now) ≤ 1048576 }
     ensures { IfOk result (λ text. TellsInputs source.now given.now text.items) }
 {

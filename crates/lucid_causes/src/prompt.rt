@@ -2,7 +2,7 @@
 ghost use Rattle.std.specs.Prelude.{◌≡◌, ◌≤◌, ◌++◌, length, IfOk, IfSome, IfNone, OnOk};
 ghost use Rattle.lucid_scope.specs.Scoped.{scoped_tree, scoped_inputs};
 ghost use Rattle.lucid_tree.specs.Members.{AllDiffer};
-ghost use Rattle.lucid_explanations.specs.Accepted.{IsSpelt};
+ghost use Rattle.lucid_explanations.specs.Accepted.{IsProgram};
 ghost use Rattle.lucid_causes.specs.Prompts.{IsOnly, IsNoneOnly, prompt_text, TellsPrompt};
 
 use crate::inputs::is_given;
@@ -47,7 +47,7 @@ fn text_of_prompt(
     given: &[Name],
     name: &Name,
 ) -> Result<Vec<u8>, AllocError>
-    requires spelt { IsSpelt source.now (scoped_tree scoped.now) }
+    requires program { IsProgram source.now (scoped_tree scoped.now) }
     requires only { IsOnly (scoped_inputs scoped.now) given.now name.now }
     ensures { IfOk result (λ text. TellsPrompt source.now given.now text.items) }
 {
@@ -58,7 +58,7 @@ fn text_of_prompt(
 
 // What is said of a source of whose inputs none is the only one without a file.
 fn text_of_none(alloc: Global, source: &[u8], scoped: &Scoped, given: &[Name]) -> Vec<u8>
-    requires spelt { IsSpelt source.now (scoped_tree scoped.now) }
+    requires program { IsProgram source.now (scoped_tree scoped.now) }
     requires none { IsNoneOnly (scoped_inputs scoped.now) given.now }
     ensures { TellsPrompt source.now given.now result.items }
 {
@@ -72,7 +72,7 @@ fn text_of_scoped(
     scoped: &Scoped,
     given: &[Name],
 ) -> Result<Vec<u8>, AllocError>
-    requires { IsSpelt source.now (scoped_tree scoped.now) }
+    requires { IsProgram source.now (scoped_tree scoped.now) }
     ensures { IfOk result (λ text. TellsPrompt source.now given.now text.items) }
 {
     match only_lacking(scoped.inputs(), given) {

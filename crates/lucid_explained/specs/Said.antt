@@ -8,7 +8,7 @@ use Rattle.lucid_texts.specs.Words.{number_of}
 use Rattle.lucid_words.specs.Plain.{PlainSource, file, made}
 use Rattle.lucid_words.specs.Asked.{PlainWords, words_asked}
 use Rattle.lucid_explanations.specs.Accepted.{IsAccepted}
-use Rattle.lucid_explanations.specs.Shown.{place_text, shown_byte}
+use Rattle.lucid_expected.specs.Shown.{place_text, shown_byte}
 use Rattle.lucid_explanations.specs.Sources.{Explains}
 use Rattle.lucid_causes.specs.Inputs.{TellsInputs}
 use Rattle.lucid_explanations.specs.Columns.{TellsColumns}

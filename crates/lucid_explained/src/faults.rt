@@ -8,7 +8,7 @@ ghost use Rattle.lucid_explained.specs.Lines.{begins};
 ghost use Rattle.lucid_explained.specs.Said.{shown_text, source_files, certificate_files, given_file, files_asked, fault_text, TellsFiles, or_unknown, Says};
 
 use crate::outlook::{Again, Outlook};
-use lucid_explanations::put_shown;
+use lucid_expected::put_shown;
 use lucid_words::{Given, Source, Words};
 use std::alloc::{AllocError, Global};
 

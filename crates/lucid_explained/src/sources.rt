@@ -5,7 +5,7 @@ ghost use Rattle.std.specs.List.{prefix_len};
 ghost use Rattle.lucid_words.specs.Asked.{plain_words};
 ghost use Rattle.lucid_words.specs.Plain.{plain_given};
 ghost use Rattle.lucid_explanations.specs.Accepted.{IsAccepted};
-ghost use Rattle.lucid_explanations.specs.Shown.{place_text};
+ghost use Rattle.lucid_expected.specs.Shown.{place_text};
 ghost use Rattle.lucid_explanations.specs.Sources.{Explains};
 ghost use Rattle.lucid_causes.specs.Inputs.{TellsInputs};
 ghost use Rattle.lucid_causes.specs.Depths.{TellsDepth};
@@ -14,7 +14,8 @@ ghost use Rattle.lucid_explained.specs.Said.{names_given, digits_front, number_b
 
 use crate::lines::{begins, line_text};
 use lucid_causes::{explain_depth, explain_inputs};
-use lucid_explanations::{Explanation, explain_columns, explain_source, put_place};
+use lucid_expected::put_place;
+use lucid_explanations::{Explanation, explain_columns, explain_source};
 use lucid_texts::number;
 use lucid_value::Name;
 use lucid_words::{Given, Words};

@@ -1,6 +1,7 @@
 pub mod Common
-pub mod Grows
-pub mod Begun
 pub mod Stuck
 pub mod Lent
-pub mod First
+pub mod Rising
+pub mod Again
+pub mod Twice
+pub mod Verdicts

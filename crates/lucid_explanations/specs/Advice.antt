@@ -2,7 +2,7 @@
 use Rattle.std.specs.Prelude.{ℕ, List, ◌++◌, slice_index, codes, ◌==◌, ◌||◌, nat_lt, if◌then◌else◌}
 use Rattle.lucid_scan.specs.declared.refusal.ScanRefusal.{ScanRefusal}
 use Rattle.lucid_scan.specs.declared.refusal.ScanRefusal.TheVariants as refusal
-use Rattle.lucid_explanations.specs.Shown.{place_text}
+use Rattle.lucid_expected.specs.Shown.{place_text}
 
 abbrev pub list_advice : List ℕ
 list_advice = codes "A list of constants is written `[% 1 2 3 %]`, with blanks between its items and no commas.\n"

@@ -3,7 +3,7 @@ use Rattle.std.specs.Prelude.{◌≡◌, ℕ, List, [], codes}
 use Rattle.lucid_tree.specs.Tree.{PlainTree, form, name, call, block}
 use Rattle.lucid_tree.specs.declared.tree.Def.{Def}
 use Rattle.lucid_explanations.specs.declared.names.Wanted.TheVariants as wanted
-use Rattle.lucid_explanations.specs.Accepted.{IsSpelt, IsTurnedDown}
+use Rattle.lucid_explanations.specs.Accepted.{IsProgram, IsTurnedDown}
 use Rattle.lucid_explanations.specs.Scopes.{listed}
 use Rattle.lucid_explanations.specs.Names.{advised_text}
 
@@ -27,4 +27,4 @@ columns_text source e = outer_text source (outer_defs e)
 -- The text tells the first of the names that may be columns; or nothing, where the source is refused.
 pub data TellsColumns (source text : List ℕ) : Type 0 where
   nothing : IsTurnedDown source → text ≡ [] → TellsColumns source text
-  columns : (tree : PlainTree) → IsSpelt source tree → text ≡ columns_text source tree → TellsColumns source text
+  columns : (tree : PlainTree) → IsProgram source tree → text ≡ columns_text source tree → TellsColumns source text

@@ -4,7 +4,7 @@ use Rattle.std.specs.List.{join_by}
 use Rattle.lucid_tree.specs.declared.tree.Def.{Def}
 use Rattle.lucid_tree.specs.declared.tree.DefKind.{DefKind}
 use Rattle.lucid_tree.specs.declared.tree.DefKind.TheVariants.{Function}
-use Rattle.lucid_explanations.specs.Positions.{where_text}
+use Rattle.lucid_expected.specs.Positions.{where_text}
 
 -- what stands for the bytes of a name behind the first 160
 abbrev pub cut_text : List ℕ → List ℕ

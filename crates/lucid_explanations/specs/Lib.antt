@@ -1,8 +1,4 @@
-pub mod Positions
-pub mod Shown
-pub mod Standing
 pub mod Advice
-pub mod Syntax
 pub mod Reported
 pub mod Sources
 pub mod Scopes
@@ -10,3 +6,4 @@ pub mod Definitions
 pub mod Names
 pub mod Accepted
 pub mod Columns
+pub mod Laws

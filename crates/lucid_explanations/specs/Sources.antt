@@ -3,19 +3,19 @@ use Rattle.std.specs.Prelude.{◌≡◌, ◌≢◌, ℕ, List, ◌++◌, length,
 use Rattle.lucid_scan.specs.declared.token.Token.{Token}
 use Rattle.lucid_scan.specs.declared.refusal.ScanRefusal.{ScanRefusal}
 use Rattle.lucid_scan.specs.declared.refusal.ScanRefusal.TheVariants as scanned
-use Rattle.lucid_scan.specs.Tokens.{Tokens}
 use Rattle.lucid_scan.specs.Refusals.{Refuses}
 use Rattle.lucid_parse.specs.declared.refusal.ParseRefusal.TheVariants as refusal
-use Rattle.lucid_parse.specs.Spelled.{SpellsTree, IsRefused}
+use Rattle.lucid_parse.specs.Spelled.{IsRefused}
 use Rattle.lucid_tree.specs.Tree.{PlainTree}
 use Rattle.lucid_scope.specs.declared.refusal.ScopeRefusal.{ScopeRefusal}
 use Rattle.lucid_scope.specs.Bindings.{IsLeastFault}
-use Rattle.lucid_explanations.specs.declared.candidates.Candidate.{Candidate}
-use Rattle.lucid_explanations.specs.Shown.{place_text}
-use Rattle.lucid_explanations.specs.Standing.{AreStanding}
+use Rattle.lucid_expected.specs.declared.candidates.Candidate.{Candidate}
+use Rattle.lucid_explanations.specs.Accepted.{HasTokens, IsSpelt}
+use Rattle.lucid_expected.specs.Shown.{place_text}
+use Rattle.lucid_expected.specs.Standing.{AreStanding}
 use Rattle.lucid_explanations.specs.Reported.{scan_line, syntax_line, nested_line, names_line}
 use Rattle.lucid_explanations.specs.Advice.{scan_text}
-use Rattle.lucid_explanations.specs.Syntax.{read_at, syntax_text}
+use Rattle.lucid_expected.specs.Syntax.{read_at, syntax_text}
 use Rattle.lucid_explanations.specs.Names.{names_text}
 
 abbrev pub nested_advice : List ℕ
@@ -29,9 +29,9 @@ depth_text file source at = place_text file source (min (length source) at) ++ n
 -- its tree are at fault.
 pub data Explains (file source line text : List ℕ) : Type 0 where
   by_scan : (why : ScanRefusal) → why ≢ scanned.NoMemory → Refuses source why → line ≡ scan_line why → text ≡ scan_text file source why → Explains file source line text
-  by_syntax : (tokens : List Token) (at : ℕ) (those : List Candidate) → Tokens source 0 tokens → IsRefused source tokens (refusal.Syntax at) → AreStanding source at those
+  by_syntax : (tokens : List Token) (at : ℕ) (those : List Candidate) → HasTokens source tokens → IsRefused source tokens (refusal.Syntax at) → AreStanding source at those
       → line ≡ syntax_line at → text ≡ syntax_text file source at (read_at source tokens at) those → Explains file source line text
-  by_depth : (tokens : List Token) (at : ℕ) → Tokens source 0 tokens → IsRefused source tokens (refusal.TooNested at)
+  by_depth : (tokens : List Token) (at : ℕ) → HasTokens source tokens → IsRefused source tokens (refusal.TooNested at)
       → line ≡ nested_line at → text ≡ depth_text file source at → Explains file source line text
-  by_names : (tokens : List Token) (tree : PlainTree) (why : ScopeRefusal) → Tokens source 0 tokens → SpellsTree source tokens tree → IsLeastFault tree why
+  by_names : (tree : PlainTree) (why : ScopeRefusal) → IsSpelt source tree → IsLeastFault tree why
       → line ≡ names_line why → text ≡ names_text file source tree why → Explains file source line text

@@ -6,7 +6,7 @@ ghost use Rattle.lucid_parse.specs.Spelled.{IsRefused};
 ghost use Rattle.lucid_scope.specs.Bindings.{IsLeastFault};
 ghost use Rattle.lucid_scope.specs.Scoped.{scoped_tree, scoped_inputs};
 ghost use Rattle.lucid_tree.specs.WellMade.{IsWellMade, places};
-ghost use Rattle.lucid_explanations.specs.Accepted.{IsSpelt, IsTurnedDown};
+ghost use Rattle.lucid_explanations.specs.Accepted.{IsSpelt, IsProgram, IsTurnedDown};
 
 use lucid_parse::{ParseRefusal, parse};
 use lucid_scan::{ScanRefusal, Token, scan};
@@ -24,6 +24,7 @@ fn scanner_turns_down(source: &[u8], refusal: ScanRefusal)
 // A source is turned down whose tokens the parser refuses.
 fn parser_turns_down(source: &[u8], tokens: &[Token], refusal: &ParseRefusal)
     requires known { refusal.now ≢ ParseRefusal.NoMemory }
+    requires short { length source.now ≤ 1048576 }
     requires scanned { Tokens source.now 0 tokens.now }
     requires refused { IsRefused source.now tokens.now refusal.now }
     ensures { IsTurnedDown source.now }
@@ -41,7 +42,7 @@ fn scoped_of_tree(alloc: Global, source: &[u8], tree: &Tree) -> Result<Option<Sc
     requires spelt { IsSpelt source.now tree.now }
     requires well_made { IsWellMade tree.now }
     requires few { length (places tree.now) ≤ 1048576 }
-    ensures spelt { IfOk result (λ found. IfSome found (λ scoped. IsSpelt source.now (scoped_tree scoped))) }
+    ensures program { IfOk result (λ found. IfSome found (λ scoped. IsProgram source.now (scoped_tree scoped))) }
     ensures few { IfOk result (λ found. IfSome found (λ scoped. length (scoped_inputs scoped) ≤ 1048576)) }
     ensures refused { IfOk result (λ found. IfNone found (IsTurnedDown source.now)) }
 {
@@ -66,7 +67,7 @@ fn scoped_of_tokens(
 ) -> Result<Option<Scoped>, AllocError>
     requires short { length source.now ≤ 1048576 }
     requires scanned { Tokens source.now 0 tokens.now }
-    ensures spelt { IfOk result (λ found. IfSome found (λ scoped. IsSpelt source.now (scoped_tree scoped))) }
+    ensures program { IfOk result (λ found. IfSome found (λ scoped. IsProgram source.now (scoped_tree scoped))) }
     ensures few { IfOk result (λ found. IfSome found (λ scoped. length (scoped_inputs scoped) ≤ 1048576)) }
     ensures refused { IfOk result (λ found. IfNone found (IsTurnedDown source.now)) }
 {
@@ -82,7 +83,7 @@ fn scoped_of_tokens(
 
 /// What the names of a source belong to; none where the source is refused.
 pub fn scoped_of(alloc: Global, source: &[u8]) -> Result<Option<Scoped>, AllocError>
-    ensures spelt { IfOk result (λ found. IfSome found (λ scoped. IsSpelt source.now (scoped_tree scoped))) }
+    ensures program { IfOk result (λ found. IfSome found (λ scoped. IsProgram source.now (scoped_tree scoped))) }
     ensures short { IfOk result (λ found. OnSome found (length source.now ≤ 1048576)) }
     ensures few { IfOk result (λ found. IfSome found (λ scoped. length (scoped_inputs scoped) ≤ 1048576)) }
     ensures refused { IfOk result (λ found. IfNone found (IsTurnedDown source.now)) }

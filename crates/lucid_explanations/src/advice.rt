@@ -2,9 +2,9 @@
 ghost use Rattle.std.specs.Prelude.{◌≡◌, ◌≤◌, ◌++◌, length, OnOk};
 ghost use Rattle.lucid_scan.specs.Refusals.{Refuses};
 ghost use Rattle.lucid_explanations.specs.Advice.{byte_advice, open_advice, big_advice, long_advice, scan_text};
-ghost use Rattle.lucid_explanations.specs.Shown.{place_text};
+ghost use Rattle.lucid_expected.specs.Shown.{place_text};
 
-use crate::shown::put_place;
+use lucid_expected::put_place;
 use lucid_scan::ScanRefusal;
 use std::alloc::AllocError;
 

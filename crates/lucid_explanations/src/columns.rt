@@ -1,6 +1,6 @@
 //! What is said of a column that a program hasn't.
 ghost use Rattle.std.specs.Prelude.{◌≡◌, ◌≤◌, ◌++◌, length, IfOk, OnOk};
-ghost use Rattle.lucid_explanations.specs.Accepted.{IsSpelt};
+ghost use Rattle.lucid_explanations.specs.Accepted.{IsProgram};
 ghost use Rattle.lucid_explanations.specs.Scopes.{lent};
 ghost use Rattle.lucid_explanations.specs.Columns.{outer_defs, outer_text, columns_text, TellsColumns};
 
@@ -49,7 +49,7 @@ fn put_columns(
 // What is said of the columns of a source that spells the tree.
 fn text_of_columns(alloc: Global, source: &[u8], tree: &Tree) -> Result<Vec<u8>, AllocError>
     requires short { length source.now ≤ 1048576 }
-    requires spelt { IsSpelt source.now tree.now }
+    requires program { IsProgram source.now tree.now }
     ensures { IfOk result (λ text. TellsColumns source.now text.items) }
 {
     let mut text = Vec::new(alloc);

@@ -3,7 +3,7 @@ ghost use Rattle.std.specs.Prelude.{◌≡◌, ◌≤◌, ◌++◌, length, take
 ghost use Rattle.std.specs.List.{join_by};
 ghost use Rattle.lucid_explanations.specs.Definitions.{cut_text, name_text, others_text, names_text, parameters_text, head_text, spot_text, definition_text};
 
-use crate::texts::put_where;
+use lucid_expected::put_where;
 use lucid_tree::{Def, DefKind};
 use lucid_value::Name;
 use std::alloc::AllocError;

@@ -2,7 +2,7 @@
 ghost use Rattle.std.specs.Prelude.{◌≡◌, ◌++◌, OnOk};
 ghost use Rattle.lucid_explanations.specs.Reported.{line_at, scan_line, counts_text, arity_line, names_line};
 
-use crate::texts::put_number;
+use lucid_expected::put_number;
 use lucid_scan::ScanRefusal;
 use lucid_scope::ScopeRefusal;
 use std::alloc::AllocError;

@@ -2,17 +2,16 @@
 ghost use Rattle.std.specs.Prelude.{◌≡◌, ◌≢◌, ◌≤◌, ◌++◌, length, IfOk, IfSome, IfNone, OnOk};
 ghost use Rattle.lucid_scan.specs.Refusals.{Refuses};
 ghost use Rattle.lucid_scan.specs.Tokens.{Tokens};
-ghost use Rattle.lucid_parse.specs.Spelled.{SpellsTree, IsRefused};
+ghost use Rattle.lucid_parse.specs.Spelled.{IsRefused};
 ghost use Rattle.lucid_scope.specs.Bindings.{IsLeastFault};
 ghost use Rattle.lucid_tree.specs.WellMade.{IsWellMade};
-ghost use Rattle.lucid_explanations.specs.Accepted.{IsAccepted};
+ghost use Rattle.lucid_explanations.specs.Accepted.{IsSpelt, IsAccepted};
 ghost use Rattle.lucid_explanations.specs.Sources.{nested_advice, depth_text, Explains};
 
 use crate::advice::put_scan;
 use crate::names::put_names;
 use crate::reported::{put_line_at, put_names_line, put_scan_line};
-use crate::shown::put_place;
-use crate::syntax::put_syntax;
+use lucid_expected::{put_place, put_syntax};
 use lucid_parse::{ParseRefusal, parse};
 use lucid_scan::laws::tokens_are_in_order;
 use lucid_scan::{ScanRefusal, Token, scan};
@@ -54,7 +53,7 @@ fn said_of_scan(
 }
 
 // What is said of a source whose tokens go wrong at the place.
-#[tactic(auto, using(crate::proofs::Begun::fault_within))]
+#[tactic(auto, using(lucid_expected::proofs::Begun::fault_within))]
 fn said_of_syntax(
     alloc: Global,
     file: &[u8],
@@ -129,13 +128,11 @@ fn said_of_names(
     alloc: Global,
     file: &[u8],
     source: &[u8],
-    tokens: &[Token],
     tree: &Tree,
     refusal: &ScopeRefusal,
 ) -> Result<Explanation, AllocError>
     requires short { length source.now ≤ 1048576 }
-    requires scanned { Tokens source.now 0 tokens.now }
-    requires spelled { SpellsTree source.now tokens.now tree.now }
+    requires spelt { IsSpelt source.now tree.now }
     requires refused { IsLeastFault tree.now refusal.now }
     ensures { IfOk result (λ said. Explains file.now source.now said.line.items said.text.items) }
 {
@@ -151,12 +148,10 @@ fn explain_tree(
     alloc: Global,
     file: &[u8],
     source: &[u8],
-    tokens: &[Token],
     tree: &Tree,
 ) -> Result<Option<Explanation>, AllocError>
     requires short { length source.now ≤ 1048576 }
-    requires scanned { Tokens source.now 0 tokens.now }
-    requires spelled { SpellsTree source.now tokens.now tree.now }
+    requires spelt { IsSpelt source.now tree.now }
     requires well_made { IsWellMade tree.now }
     ensures refused { IfOk result (λ found. IfSome found (λ said. Explains file.now source.now said.line.items said.text.items)) }
     ensures accepted { IfOk result (λ found. IfNone found (IsAccepted source.now)) }
@@ -165,7 +160,7 @@ fn explain_tree(
         Ok(_) => Ok(None),
         Err(ScopeRefusal::NoMemory) => Err(AllocError),
         Err(refusal) => {
-            let said = said_of_names(alloc, file, source, tokens, tree, &refusal)?;
+            let said = said_of_names(alloc, file, source, tree, &refusal)?;
             Ok(Some(said))
         }
     }
@@ -184,7 +179,7 @@ fn explain_tokens(
     ensures accepted { IfOk result (λ found. IfNone found (IsAccepted source.now)) }
 {
     match parse(alloc, source, tokens) {
-        Ok(tree) => explain_tree(alloc, file, source, tokens, &tree),
+        Ok(tree) => explain_tree(alloc, file, source, &tree),
         Err(refusal) => {
             let said = said_of_parse(alloc, file, source, tokens, &refusal)?;
             Ok(Some(said))

@@ -124,7 +124,7 @@ static TOKENS: [Row; 7] = [
 ];
 
 // Names that are at fault.
-static NAMES: [Row; 8] = [
+static NAMES: [Row; 10] = [
     Row {
         words: "p",
         source: "x where x = 1; x = 2; end",
@@ -136,6 +136,18 @@ static NAMES: [Row; 8] = [
         source: "f(1, 2) where f(x, x) = x; end",
         status: Status::Refused,
         report: "defined twice at 19\np:1:20:\nf(1, 2) where f(x, x) = x; end\n                   ^\nA list of parameters has each name once.\nf(x, x) is defined in line 1, column 15.\n",
+    },
+    Row {
+        words: "p",
+        source: "f(1, 2) where x = 1; f(x, x) = x; end",
+        status: Status::Refused,
+        report: "defined twice at 26\np:1:27:\nf(1, 2) where x = 1; f(x, x) = x; end\n                          ^\nA list of parameters has each name once.\nf(x, x) is defined in line 1, column 22.\n",
+    },
+    Row {
+        words: "p",
+        source: "g(1) where g(f) = f(2); f = 3; end",
+        status: Status::Refused,
+        report: "not a function at 18\np:1:19:\ng(1) where g(f) = f(2); f = 3; end\n                  ^\nWhat this name stands for here has no parameters: write it without arguments.\n",
     },
     Row {
         words: "p",

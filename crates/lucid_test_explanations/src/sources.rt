@@ -1,6 +1,6 @@
 //! Places by line and column, and as they are shown.
 use crate::call::plain_call;
-use lucid_explanations::{Position, position_of, put_place, standing};
+use lucid_expected::{Position, position_of, put_place, standing};
 use std::alloc::Global;
 use std::process::Abort;
 use std::test::Fail;

@@ -1,7 +1,7 @@
 use Rattle.std.proofs.Common.{ℕ, List, ◌++◌, append_assoc, ap, ◌∙◌}
 use Rattle.std.specs.Prelude.{codes}
 use Rattle.std.proofs.lemmas.Result.{on_ok_weaker}
-use Rattle.lucid_explanations.specs.Positions.{where_text}
+use Rattle.lucid_expected.specs.Positions.{where_text}
 use Rattle.lucid_explanations.specs.Definitions.{name_text}
 use Rattle.lucid_causes.proofs.inputs.put_stands.Goals as goal
 

@@ -5,7 +5,7 @@ use Rattle.lucid_causes.proofs.inputs.text_of.Goals as goal
 
 pub returns : goal.returns
 returns c =
-    lacking c.args.scoped.now c.in_ok-those.those.items c.requires.spelt c.in_ok-those.ensures.lacking c.in_ok-those.ensures.few c.in_ok-those.ensures.all
+    lacking c.args.scoped.now c.in_ok-those.those.items c.requires.program c.in_ok-those.ensures
     (c.in_ok-put_inputs.ensures
     ∙ ap (λ (z : List ℕ). z ++ inputs_text c.args.source.now c.deref.result.now) c.new-text.ensures.items
     ∙ ap (λ (those : List Lacking). inputs_text c.args.source.now those) c.deref.ensures.value)

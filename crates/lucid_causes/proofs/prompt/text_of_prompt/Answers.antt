@@ -4,5 +4,5 @@ use Rattle.lucid_causes.proofs.prompt.text_of_prompt.Goals as goal
 
 pub returns : goal.returns
 returns c =
-    only c.args.scoped.now c.args.name.now c.requires.spelt c.requires.only
+    only c.args.scoped.now c.args.name.now c.requires.program c.requires.only
     (c.in_ok-put_prompt.ensures ∙ ap (λ (z : List ℕ). z ++ prompt_text c.args.name.now) c.new-text.ensures.items)

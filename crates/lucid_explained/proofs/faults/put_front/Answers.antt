@@ -1,5 +1,5 @@
 use Rattle.lucid_explained.proofs.Common.{ℕ, List, ◌++◌, map, take, ap, ◌∙◌, on_ok_weaker, take_min}
-use Rattle.lucid_explanations.specs.Shown.{shown_byte}
+use Rattle.lucid_expected.specs.Shown.{shown_byte}
 use Rattle.lucid_explained.proofs.faults.put_front.Goals as goal
 
 pub returns : goal.returns

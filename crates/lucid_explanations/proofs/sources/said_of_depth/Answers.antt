@@ -5,6 +5,6 @@ use Rattle.lucid_explanations.proofs.sources.said_of_depth.Goals as goal
 
 pub returns : goal.returns
 returns c =
-    by_depth c.args.tokens.now c.args.at c.requires.scanned c.requires.refused
+    by_depth c.args.tokens.now c.args.at (record { short = c.requires.short; listed = c.requires.scanned }) c.requires.refused
     (c.in_ok-put_line_at.ensures ∙ ap (λ (z : List ℕ). z ++ nested_line c.args.at) c.new-line.ensures.items)
     (c.in_ok-put_depth.ensures ∙ ap (λ (z : List ℕ). z ++ depth_text c.args.file.now c.args.source.now c.args.at) c.new-text.ensures.items)

@@ -1,0 +1,4 @@
+pub mod Common
+pub mod Grows
+pub mod Begun
+pub mod First

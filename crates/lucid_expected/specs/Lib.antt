@@ -1,0 +1,4 @@
+pub mod Positions
+pub mod Shown
+pub mod Standing
+pub mod Syntax

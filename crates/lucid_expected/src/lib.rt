@@ -1,0 +1,15 @@
+//! Places of a source: their lines and columns, how they are shown, and what may stand there.
+#![tactic(auto)]
+
+pub use crate::candidates::{Candidate, standing};
+pub use crate::position::{Position, position_of};
+pub use crate::shown::{put_place, put_shown};
+pub use crate::syntax::put_syntax;
+pub use crate::texts::{put_number, put_where};
+
+mod candidates;
+pub mod laws;
+mod position;
+mod shown;
+mod syntax;
+mod texts;
