@@ -105,7 +105,11 @@ fn made_with_values(rt: HostRuntime) -> Result<(), Fail> {
 }
 
 // What leads nowhere, or to itself, is too deep.
-static TOO_DEEP: [&str; 3] = ["x where x = x; end", "5 asa false", "x where x = y; y = x + 1; end"];
+static TOO_DEEP: [&str; 3] = [
+    "x where x = x; end",
+    "5 asa false",
+    "x where x = y; y = x + 1; end",
+];
 
 #[test]
 fn too_deep(rt: HostRuntime) -> Result<(), Fail> {
