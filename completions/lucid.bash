@@ -6,7 +6,7 @@ _lucid_inputs() {
 }
 
 _lucid() {
-    local options='--count --depth --policy --age --room --stats --print --columns --cycles --flat --from-flat --make'
+    local options='--count --depth --policy --age --room --stats --print --columns --cycles --why --check --flat --from-flat --make'
     local current=${COMP_WORDS[COMP_CWORD]} before=${COMP_WORDS[COMP_CWORD - 1]} program='' is_value='' i
     COMPREPLY=()
     # bash parts words at `=`
@@ -19,13 +19,13 @@ _lucid() {
         --policy)
             mapfile -t COMPREPLY < <(compgen -W 'keep none age last' -- "$current")
             return ;;
-        --count | --depth | --age | --room | --columns | --make)
+        --count | --depth | --age | --room | --columns | --why | --make)
             return ;;
     esac
     # the first word that is no option and no option's value
     for ((i = 1; i < COMP_CWORD; i++)); do
         case ${COMP_WORDS[i]} in
-            --count | --depth | --policy | --age | --room | --columns | --make)
+            --count | --depth | --policy | --age | --room | --columns | --why | --check | --make)
                 if [[ ${COMP_WORDS[i + 1]} == '=' ]]; then i=$((i + 2)); else i=$((i + 1)); fi ;;
             -*) ;;
             *)

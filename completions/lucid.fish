@@ -8,7 +8,7 @@ function __lucid_program
     for word in $words
         if test $is_value = yes
             set is_value no
-        else if contains -- $word --count --depth --policy --age --room --columns --make
+        else if contains -- $word --count --depth --policy --age --room --columns --why --check --make
             set is_value yes
         else if not string match -q -- '-*' $word
             echo $word
@@ -34,6 +34,8 @@ complete -c lucid -l stats -d 'say how many lines were written and values held'
 complete -c lucid -l columns -x -d 'up to 16 names of the outermost block side by side, parted by commas'
 complete -c lucid -l print -d 'write the program with the least parentheses'
 complete -c lucid -l cycles -d 'judge the cycles of references'
+complete -c lucid -l why -x -d 'write why the value at a time is what it is'
+complete -c lucid -l check -r -d 'check such a text'
 complete -c lucid -l flat -d 'write the program as a table'
 complete -c lucid -l from-flat -d 'run such a table'
 complete -c lucid -l make -x -d 'run a made program of N + 1 names'

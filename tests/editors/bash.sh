@@ -22,7 +22,7 @@ chmod +x "$stand_in"
 
 complete -p lucid >/dev/null || failed=1
 same "$(completed lucid --po)" '--policy'
-same "$(completed lucid --c)" '--count --columns --cycles'
+same "$(completed lucid --c)" '--count --columns --cycles --check'
 same "$(completed lucid --policy '')" 'keep none age last'
 same "$(completed lucid --policy = l)" 'last'
 same "$(completed lucid --policy '=')" 'keep none age last'

@@ -348,6 +348,29 @@ def a_table_goes_round(run):
 
 
 @case
+def a_certificate_is_made_and_checked(run):
+    run.source("s asa n ge first b where s = 0 fby s + next a; n = 0 fby n + 1; end")
+    run.write("f", lines(4, 5, 6, 7, 8))
+    made = run.lucid("--why", "2", "p", "a=f", given="3\n")
+    check(made.status == 0 and made.out.startswith(b"j ") and made.out.endswith(b" 18\n"), shown(made.out))
+    run.write("why", made.out)
+    run.lucid("--check", "why", "p", "a=f", given="3\n").must("18 at 2\n")
+    run.write("why", made.out.replace(b" 18\n", b" 19\n"))
+    ended = run.lucid("--check", "why", "p", "a=f", given="3\n")
+    check(ended.status == 1 and ended.report.endswith(b" does not follow\n"), shown(ended.report))
+    run.lucid("--why", "2", "--depth=2", "--stats", "p", "a=f", given="3\n").must("", 5, "too deep at time 2\n")
+
+
+@case
+def a_certificate_is_deep(run):
+    run.source("x where x = 0 fby x + 1; end")
+    made = run.lucid("--why", "20000", "p")
+    check(made.status == 0 and made.out.count(b"\n") > 20000, made.words)
+    run.write("why", made.out)
+    run.lucid("--check", "why", "p").must("20000 at 20000\n")
+
+
+@case
 def a_table_from_anybody(run):
     good = run.source("f(n) where f(x) = x + 1; n = 0 fby n + 1; end")
     table = run.lucid("--flat", good).out

@@ -15,7 +15,7 @@ is_blank b = b == 32
 
 abbrev pub store_text : (line : List ℕ) → List ℕ
 store_text line =
-    if nat_lt (count_by is_blank line) 5 then codes "With --stats the report tells whether the store was cleared.\n"
+    if nat_lt (count_by is_blank line) 5 then codes "With --stats the report of a run tells whether the store was cleared.\n"
     else if ends line (codes " cleared 0\n") then codes "The store wasn't cleared.\n"
     else codes "The store was cleared on the way: more than 1,000,000 contexts were known. So values were computed anew, which wants more depth.\n"
 
@@ -25,7 +25,6 @@ certificate_text line =
     if begins line (codes "certificate too long") then codes "A certificate has at most 268,435,456 bytes.\n"
     else if ends line (codes " is no judgment\n") then codes "No certificate's text goes on with this line: a context stands in a line as `c BASE PLACE CALLER` or `z BASE TIME`, and behind all of these a judgment as `j NODE CONTEXT TIME SPACE K U .. VALUE`.\n"
     else if ends line (codes " does not follow\n") then codes "The judgment of this number, from 0, isn't what its node gives from the judgments that it uses, or it is the last one and not that of the program itself. The certificate is false, or it is one of another program or of other inputs.\n"
-    else if begins line (codes "not built yet") then codes "This option isn't built yet.\n"
     else []
 
 -- of the flat form

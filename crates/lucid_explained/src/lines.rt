@@ -30,7 +30,7 @@ fn store_text(line: &[u8]) -> &'static [u8]
     ensures { result.now ≡ store_text line.now }
 {
     if count_blanks(line) < 5 {
-        b"With --stats the report tells whether the store was cleared.\n"
+        b"With --stats the report of a run tells whether the store was cleared.\n"
     } else if ends(line, b" cleared 0\n") {
         b"The store wasn't cleared.\n"
     } else {
@@ -48,8 +48,6 @@ fn certificate_text(line: &[u8]) -> &'static [u8]
         b"No certificate's text goes on with this line: a context stands in a line as `c BASE PLACE CALLER` or `z BASE TIME`, and behind all of these a judgment as `j NODE CONTEXT TIME SPACE K U .. VALUE`.\n"
     } else if ends(line, b" does not follow\n") {
         b"The judgment of this number, from 0, isn't what its node gives from the judgments that it uses, or it is the last one and not that of the program itself. The certificate is false, or it is one of another program or of other inputs.\n"
-    } else if begins(line, b"not built yet") {
-        b"This option isn't built yet.\n"
     } else {
         b""
     }

@@ -1,5 +1,5 @@
-//! Certificates that are checked: a value that they tell, a judgment that doesn't follow, and the order of what is looked at.
-use crate::row::{DONE, REFUSED, Row, USAGE, call, each_passes, places_of};
+//! Certificates that are made and checked: a value that they tell, a judgment that doesn't follow, and the order of what is looked at.
+use crate::row::{DONE, REFUSED, Row, TOO_DEEP, USAGE, call, each_passes, places_of};
 use lucid_ports::{Endless, FailAt};
 use lucid_top::Status;
 use std::process::Abort;
@@ -20,6 +20,116 @@ const NINE: &str =
 
 // A certificate of a sum at time 2, past the end of the first input.
 const END: &str = "j 0 0 2 0 0 eod\nj 1 0 2 0 0 3\nj 2 0 2 0 2 0 1 eod\n";
+
+// What is made; the rows of RIGHT check the first two again.
+static MADE: [Row<'static>; 7] = [
+    Row {
+        words: "--why 3 p",
+        source: FACTORIALS,
+        out: SIX,
+        ..DONE
+    },
+    Row {
+        words: "--why 3 p",
+        source: THIRDS,
+        out: NINE,
+        ..DONE
+    },
+    // the inputs are read as far as the value looks at them, here past the end of the first
+    Row {
+        words: "--why 2 p a=f b=g",
+        source: "a + b",
+        inputs: &[("f", "4\n5\n"), ("g", "1\n2\n3\n4\n")],
+        out: END,
+        taken: Some(&[4, 6]),
+        ..DONE
+    },
+    // what no value looks at is not read
+    Row {
+        words: "--why 5 p",
+        source: "if true then 7 else a fi",
+        inputs: &[("-", "4\n")],
+        out: "j 0 0 5 0 0 true\nj 1 0 5 0 0 7\nj 3 0 5 0 2 0 1 7\n",
+        taken: Some(&[0]),
+        ..DONE
+    },
+    // of the words of a run the depth alone is looked at; at the last time too
+    Row {
+        words: "--why 9223372036854775807 --depth 1 --stats --count 7 --policy none p",
+        source: "7",
+        out: "j 0 0 9223372036854775807 0 0 7\n",
+        ..DONE
+    },
+    Row {
+        words: "--why 0 --make 1",
+        out: "j 1 0 0 0 0 1\nj 7 0 0 0 1 0 1\nj 8 0 0 0 1 1 1\nj 14 0 0 0 1 2 1\nj 0 0 0 0 1 3 1\n",
+        ..DONE
+    },
+    // the end of data has one too
+    Row {
+        words: "--why 1 p",
+        source: "a",
+        inputs: &[("-", "4\n")],
+        out: "j 0 0 1 0 0 eod\n",
+        ..DONE
+    },
+];
+
+// Too deep, without figures; a limit that is just enough; and what is refused before: words, source, names, files.
+static NOT_MADE: [Row<'static>; 9] = [
+    Row {
+        words: "--why 0 p",
+        source: "x where x = x; end",
+        report: "too deep at time 0\n",
+        ..TOO_DEEP
+    },
+    Row {
+        words: "--why 3 --stats --depth 3 p",
+        source: "x where x = 0 fby x + 1; end",
+        report: "too deep at time 3\n",
+        ..TOO_DEEP
+    },
+    Row {
+        words: "--why 9 --depth 1 --make 1",
+        report: "too deep at time 9\n",
+        ..TOO_DEEP
+    },
+    Row {
+        words: "--why 9223372036854775808 p",
+        source: "7",
+        ..USAGE
+    },
+    Row {
+        words: "--why 3 --from-flat p",
+        source: "7",
+        ..USAGE
+    },
+    Row {
+        words: "--why 3 p",
+        source: "x where x = 1; x = 2; end",
+        report: "defined twice at 15\n",
+        ..REFUSED
+    },
+    Row {
+        words: "--why 3 p",
+        source: "a + b",
+        report: "no input for two names\n",
+        ..REFUSED
+    },
+    Row {
+        words: "--why 3 p b=f",
+        source: "a",
+        report: "no input is named b\n",
+        ..USAGE
+    },
+    Row {
+        words: "--why 3 p",
+        source: "a",
+        status: Status::ReadFault,
+        report: "read fault\n",
+        ..DONE
+    },
+];
 
 static RIGHT: [Row<'static>; 6] = [
     Row {
@@ -177,7 +287,28 @@ static ORDER: [Row<'static>; 8] = [
     },
 ];
 
-static FAILURES: [Row<'static>; 3] = [
+static FAILURES: [Row<'static>; 5] = [
+    Row {
+        words: "--why 1 p",
+        source: "a",
+        inputs: &[("-", "4\n5\n")],
+        reads: &[FailAt {
+            place: 1,
+            position: 3,
+        }],
+        status: Status::ReadFault,
+        report: "read fault\n",
+        taken: Some(&[3]),
+        ..DONE
+    },
+    Row {
+        words: "--why 1 p",
+        source: "7",
+        writes: &[0],
+        status: Status::WriteFault,
+        report: "write fault\n",
+        ..DONE
+    },
     Row {
         words: "--check w p",
         source: "7",
@@ -213,6 +344,12 @@ static FAILURES: [Row<'static>; 3] = [
         ..DONE
     },
 ];
+
+#[test]
+fn certificates_are_made(rt: HostRuntime) -> Result<(), Fail> {
+    each_passes(&rt, &MADE)?;
+    each_passes(&rt, &NOT_MADE)
+}
 
 #[test]
 fn certificates_are_checked(rt: HostRuntime) -> Result<(), Fail> {

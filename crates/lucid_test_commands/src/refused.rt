@@ -1,4 +1,4 @@
-//! Sources and words that are refused, and what isn't built yet.
+//! Sources and words that are refused.
 use crate::row::{REFUSED, Row, USAGE, call, each_passes, places_of};
 use lucid_test_programs::COUNTING;
 use lucid_top::Status;
@@ -111,19 +111,11 @@ static WORDS: [Row<'static>; 6] = [
     },
 ];
 
-static NOT_BUILT: [Row<'static>; 1] = [Row {
-    words: "--why 3 p",
-    source: COUNTING,
-    report: "not built yet\n",
-    ..REFUSED
-}];
-
 #[test]
 fn refused_sources_names_and_words(rt: HostRuntime) -> Result<(), Fail> {
     each_passes(&rt, &SOURCES)?;
     each_passes(&rt, &NAMES)?;
-    each_passes(&rt, &WORDS)?;
-    each_passes(&rt, &NOT_BUILT)
+    each_passes(&rt, &WORDS)
 }
 
 #[test]

@@ -267,7 +267,7 @@ static RUNS: [Row; 5] = [
         words: "--depth 9 p",
         source: "x where x = x; end",
         status: Status::TooDeep,
-        report: "too deep at time 0\n`--cycles` says: cycle x at 8: sum 0\nThese names refer to each other without delay: no depth may be enough. An `fby` on the way gives one.\nWith --stats the report tells whether the store was cleared.\n",
+        report: "too deep at time 0\n`--cycles` says: cycle x at 8: sum 0\nThese names refer to each other without delay: no depth may be enough. An `fby` on the way gives one.\nWith --stats the report of a run tells whether the store was cleared.\n",
     },
     Row {
         words: "--depth 9 --stats p",
@@ -279,13 +279,13 @@ static RUNS: [Row; 5] = [
         words: "--depth 1 p",
         source: "x where x = y + 1; y = 0 fby x; end",
         status: Status::TooDeep,
-        report: "too deep at time 0\n`--cycles` says: depth 2 * t + 3\nSo --depth 3 is enough for time 0.\nWith --stats the report tells whether the store was cleared.\n",
+        report: "too deep at time 0\n`--cycles` says: depth 2 * t + 3\nSo --depth 3 is enough for time 0.\nWith --stats the report of a run tells whether the store was cleared.\n",
     },
     Row {
         words: "--depth 3 p",
         source: "x attime 9 where x = 0 fby x + 1; end",
         status: Status::TooDeep,
-        report: "too deep at time 0\n`--cycles` says: not judged at 2\nSo no depth is told for this program. A greater --depth may be enough, up to 1000000.\nWith --stats the report tells whether the store was cleared.\n",
+        report: "too deep at time 0\n`--cycles` says: not judged at 2\nSo no depth is told for this program. A greater --depth may be enough, up to 1000000.\nWith --stats the report of a run tells whether the store was cleared.\n",
     },
 ];
 
@@ -335,9 +335,9 @@ static OTHERS: [Row; 10] = [
     },
     Row {
         words: "--why 0 p",
-        source: "1",
-        status: Status::Refused,
-        report: "not built yet\nThis option isn't built yet.\n",
+        source: "x where x = x; end",
+        status: Status::TooDeep,
+        report: "too deep at time 0\n`--cycles` says: cycle x at 8: sum 0\nThese names refer to each other without delay: no depth may be enough. An `fby` on the way gives one.\nWith --stats the report of a run tells whether the store was cleared.\n",
     },
     Row {
         words: "p",

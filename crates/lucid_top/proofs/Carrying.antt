@@ -19,6 +19,9 @@ use Rattle.lucid_top.proofs.Begun.{RanWith, ran_with, want_of_memory}
 same_stream : (T : Table) (e : PlainTree) → KeepsTree (equations_of T) e → AreSameStream (table_stream T) (tree_stream e)
 same_stream T e keeps = record { values = λ b m t. keeps.values b m t 0; pairs = λ b m d t. keeps.consults b m d t 0 }
 
+pub stream_is : (T : Table) (e : PlainTree) → KeepsTree (equations_of T) e → table_stream T ≡ tree_stream e
+stream_is T e keeps = λ k. record { value = λ b m t. keeps.values b m t 0 k; pairs = λ b m d t. keeps.consults b m d t 0 k }
+
 -- and wherever values are demanded, the table stands for the tree in all that is counted
 stands_for : (T : Table) (e : PlainTree) (l : Layout) → KeepsTree (equations_of T) e → StandsFor (root_counted T l) (tree_counted e l)
 stands_for T e l keeps = record {

@@ -1,53 +1,29 @@
 -- How a call comes to its outcome that checks a certificate.
-use Rattle.lucid_top.proofs.Common.{◌≡◌, ℕ, ◌+◌, ◌≤◌, List, length, Some, Ok, Err, inl, inr, sym, ap, subst, ◌∙◌, arith, IfSome, slice_get, World, most_source_bytes, rises_from, file, PlainWords, Stop, Outcome, Call, of_tree, FitsGiven, RefusesGiven, files_for, IsRefusalOf, Asks, by_tree, by_given, by_certificate, MayCheck, IsCheck, IsSource, IsSourceStop, IsReadStop, KeepsNames, AreFresh, Run, certificate_places, first_place, first_input, check_of, run_places, viewed, view_of, Why, HeldCertificate, RefusesCertificate, Checks, CheckComesOnly, IsStopped, PlainTree, Table, ComesOnly, WritesNothing, reaches_certificate, reaches_checked, Rests, ChecksTable, Comes, task_of, form_of, is_built, true, range_with_len}
+use Rattle.lucid_top.proofs.Common.{◌≡◌, ℕ, ◌+◌, ◌≤◌, List, length, Some, Ok, Err, inl, inr, sym, ap, subst, ◌∙◌, arith, IfSome, slice_get, World, most_source_bytes, rises_from, file, PlainWords, Stop, Outcome, Call, of_tree, FitsGiven, files_for, Asks, by_certificate, MayCheck, IsCheck, IsSource, IsSourceStop, IsReadStop, KeepsNames, AreFresh, Run, first_place, first_input, certificate_of, run_places, viewed, view_of, Why, HeldCertificate, RefusesCertificate, Checks, CheckComesOnly, IsStopped, PlainTree, Table, ComesOnly, WritesNothing, reaches_certificate, reaches_checked, Rests, ProvesTable, Comes, range_with_len}
 use Rattle.lucid_session.specs.Subject.{table_stream, tree_stream}
 use Rattle.lucid_top.specs.declared.stop.Done.TheVariants as done
 use Rattle.lucid_top.specs.declared.stop.Stop.TheVariants as stop
 use Rattle.lucid_top.specs.declared.task.Task.TheVariants as task
 use Rattle.lucid_top.specs.Runs.{most_places, world_before, world_after}
-use Rattle.lucid_top.proofs.Ending.{Begins, first_place_le, rests_of, memory_stops, inputs_unread, place_stops}
+use Rattle.lucid_top.proofs.Certifying.{words_are, first_is, has_files, places_are}
+use Rattle.lucid_top.proofs.Ending.{first_place_le, inputs_unread, place_stops}
 use Rattle.lucid_top.proofs.RunEnds.{Reached, run_with, one_run, files_long, tells_alike}
 use Rattle.lucid_top.proofs.Proving.{by_the_tree, checks_alike}
 
-module _ (c : Call) (w : PlainWords) (t : Table) (v : World) (b : ChecksTable c w t v) where
+module _ (c : Call) (w : PlainWords) (t : Table) (v : World) (b : ProvesTable c task.Check w t v) where
   abbrev asks : Asks c
   asks = b.names.program.source.asks
 
   words : asks.words ≡ w
-  words =
-      let there = asks.read in
-      let here = b.read in cc (there, here)
-
-  begins : Begins c w
-  begins = record { read = b.read; built = subst (λ (u : PlainWords). is_built (task_of u) (form_of u) ≡ true) words asks.built }
+  words = words_are c task.Check w t v b
 
   -- the place of the certificate comes behind the source's
-  pub one_more : first_input w ≡ first_place w.source + 1
-  one_more = ap (λ n. first_place w.source + n) (ap certificate_places b.task)
-
-  asked : task_of asks.words ≡ task.Check
-  asked = ap task_of words ∙ b.task
-
-  -- the words NAME=FILE stop the call
-  pub given_stop : (s : Stop) → IsRefusalOf (RefusesGiven t.inputs w.given) s → WritesNothing c → c.after.reached ≤ first_place w.source → Comes c (Err s)
-  given_stop (stop.Refused why) refused silent few =
-      let here : RefusesGiven b.names.free asks.words.given why =
-      subst (λ (u : PlainWords). RefusesGiven b.names.free u.given why) (sym words) (subst (λ names. RefusesGiven names w.given why) b.table.names refused) in
-      record {
-        only = (by_given (by_tree b.names) (inr asked) here, silent);
-        how = inl ((by_given (by_tree b.names) (inr asked) here, b.made), rests_of c w begins silent few);
-        few_places = let one = first_place_le w.source in omega (arith, few, one);
-      }
-  given_stop stop.NoMemory refused silent few = memory_stops c w begins silent few
-  given_stop _ refused silent few = absurd refused
+  one_more : first_input w ≡ first_place w.source + 1
+  one_more = first_is c task.Check w t v b
 
   module _ (fits : FitsGiven t.inputs w.given) where
     abbrev may : MayCheck c
-    may = record {
-      names = b.names;
-      task = asked;
-      fits = subst (λ (u : PlainWords). FitsGiven b.names.free u.given) (sym words) (subst (λ names. FitsGiven names w.given) b.table.names fits);
-    }
+    may = has_files c task.Check w t v b fits
 
     -- the file of the certificate stops the call
     same_file : (bytes : List ℕ) → IsSource (file w.check) v bytes → IsSource (file asks.words.check) c.before bytes
@@ -96,9 +72,8 @@ module _ (c : Call) (w : PlainWords) (t : Table) (v : World) (b : ChecksTable c 
       kept_all : KeepsNames c.before u
       kept_all = record { names = λ name. kept.names name ∙ b.kept.names name; faults = let e = b.kept.faults in let f = kept.faults in omega (arith, e, f) }
 
-      -- as many places as the words and the inputs need
-      places : run_places (check_of may) ≡ first_input w + length t.inputs
-      places = ap (λ x. first_input x + length b.names.free) words ∙ ap (λ names. first_input w + length names) (sym b.table.names)
+      places : run_places (certificate_of may) ≡ first_input w + length t.inputs
+      places = places_are c task.Check w t v b fits
 
       -- the places of the inputs stop the call
       pub reaching_stop : (files : List (List ℕ)) (s : Stop) → length files ≡ length t.inputs → KeepsNames u c.after → AreFresh files u c.after → c.after.reached ≤ u.reached + length files
@@ -118,9 +93,9 @@ module _ (c : Call) (w : PlainWords) (t : Table) (v : World) (b : ChecksTable c 
       -- It has such outcomes alone.
       only : (x : World) (o : Outcome) → c.before.faults ≤ x.faults → x.faults ≤ c.after.faults
           → CheckComesOnly t.inputs x.faults c.after.faults c.out_before.faults c.out_after.faults o → (IsStopped o → WritesNothing c) → ComesOnly c o
-      only x (Ok done.Written) le mono h silent = inr is_check
+      only x (Ok done.Written) le mono h silent = inr (inl is_check)
       only x (Err (stop.Wrong n)) le mono h silent = (is_check, silent tt)
-      only x (Err (stop.TooLarge stream name)) le mono h silent = inr (is_check, subst (λ names. slice_get names stream ≡ Some name) b.table.names h)
+      only x (Err (stop.TooLarge stream name)) le mono h silent = inr (inl (is_check, subst (λ names. slice_get names stream ≡ Some name) b.table.names h))
       only x (Err stop.ReadFault) le mono h silent = rises_from c.before.faults x.faults c.after.faults le mono h
       only x (Err stop.WriteFault) le mono h silent = h
       only x (Err stop.NoMemory) le mono h silent = tt
@@ -135,25 +110,25 @@ module _ (c : Call) (w : PlainWords) (t : Table) (v : World) (b : ChecksTable c 
           let free : List (List ℕ) = b.names.free in
           let run : Run = run_with w (of_tree tree) t.inputs in
           let long : length (files_for t.inputs w.given) ≡ length t.inputs = files_long t.inputs w.given in
-          let places_are : numbers ≡ range_with_len (first_input w) (length t.inputs) =
+          let numbers_are : numbers ≡ range_with_len (first_input w) (length t.inputs) =
           reached.numbers_are ∙ ap (λ n. range_with_len n (length (files_for t.inputs w.given))) first_here ∙ ap (range_with_len (first_input w)) long in
           let alike = tells_alike c w (of_tree tree) t.inputs u x first_here kept_all kept' reached.fresh reached.reached same mono in
           let by_tree_checks : Checks t (tree_stream tree) why (viewed w t.inputs (range_with_len (first_input w) (length t.inputs)) x c.after c.out_before c.out_after) o =
-          subst (λ qs. Checks t (tree_stream tree) why (viewed w t.inputs qs x c.after c.out_before c.out_after) o) places_are
+          subst (λ qs. Checks t (tree_stream tree) why (viewed w t.inputs qs x c.after c.out_before c.out_after) o) numbers_are
           (by_the_tree t tree why (viewed w t.inputs numbers x c.after c.out_before c.out_after) o b.table.keeps checks) in
           let there : Checks t (tree_stream tree) why (view_of c run) o =
           checks_alike t (tree_stream tree) why w t.inputs (range_with_len (first_input w) (length t.inputs)) x c.after (world_before c run) (world_after c run) c.out_before c.out_after alike o by_tree_checks in
-          let same_run : run ≡ check_of may = one_run (of_tree tree) (sym words) b.table.names in
-          let here : Checks t (tree_stream tree) why (view_of c (check_of may)) o = subst (λ p. Checks t (tree_stream tree) why (view_of c p) o) same_run there in
+          let same_run : run ≡ certificate_of may = one_run (of_tree tree) (sym words) b.table.names in
+          let here : Checks t (tree_stream tree) why (view_of c (certificate_of may)) o = subst (λ p. Checks t (tree_stream tree) why (view_of c p) o) same_run there in
           let one = first_place_le w.source in
           let more = one_more in
-          let first_is = first_here in
+          let first_at = first_here in
           let all = places in
           let reach = reached.reached in
           let kept_faults = kept'.faults in
           let kept_before = kept_all.faults in
           record {
             only = only x o (omega (arith, kept_before, kept_faults)) mono outcomes checks.silent;
-            how = inr (inr (inr (is_check, b.made, (t, b.table, here), omega (arith, same, reach, long, first_is, all))));
-            few_places = omega (arith, same, reach, long, few, first_is, more, one);
+            how = inr (inr (inr (inl (is_check, b.made, (t, b.table, here), omega (arith, same, reach, long, first_at, all)))));
+            few_places = omega (arith, same, reach, long, few, first_at, more, one);
           }

@@ -38,23 +38,24 @@ pub use Rattle.lucid_follow.specs.Follows.{AllFollow, IsRight, contexts}
 pub use Rattle.lucid_top.specs.Call.{Call}
 pub use Rattle.lucid_top.specs.Certificates.{HeldCertificate, HoldsCertificate, RefusesCertificate, by_judgment, by_size, most_certificate_bytes}
 pub use Rattle.lucid_top.specs.Checks.{CheckComesOnly, Checks, ChecksTree, ConsumesFor, EndsSo, IsCheckStop, IsLast, IsLastLine, IsProvedLine, IsStopped, IsTableOf, LiesPast, NoneTellsPast, Proves, TellsPast, looked_at}
-pub use Rattle.lucid_top.specs.Clauses.{ComesOnly, ConsumesNothing, EndsCheck, MeetsClauses, ReadFails, TellsFiles, WritesNothing, before_checking, by_checking}
-pub use Rattle.lucid_top.specs.Coming.{ChecksTable, Comes, IsMade, IsOfMade, MayBegin, Rests, RunsTable, reaches_certificate, reaches_checked, reaches_inputs, reaches_nothing, reaches_source}
+pub use Rattle.lucid_top.specs.Clauses.{ComesOnly, ConsumesNothing, EndsCheck, EndsMaking, MeetsClauses, ReadFails, TellsFiles, WritesNothing, before_checking, before_making, by_checking, by_making}
+pub use Rattle.lucid_top.specs.Coming.{Comes, IsMade, IsOfMade, MayBegin, ProvesTable, Rests, RunsTable, reaches_certificate, reaches_checked, reaches_inputs, reaches_made, reaches_nothing, reaches_source}
 pub use Rattle.lucid_top.specs.Files.{AreRightBelow, FitsGiven, Given, RefusedFirst, RefusesGiven, by_two, by_word, file_given, files_for, refusal_at, word_refusal}
 pub use Rattle.lucid_top.specs.Flat.{HasTable, RefusesFlat, SpellsTable, by_length, by_line, by_row, most_flat_bytes}
 pub use Rattle.lucid_top.specs.Headline.{Headline, Lines, RunsProgram, elements, one_line_more}
 pub use Rattle.lucid_top.specs.Judged.{HasInputs, HasTokens, RefusesBeside, RefusesJudging, RefusesNames, RefusesText, Spelt, StandsBeside, by_parse, by_scan}
 pub use Rattle.lucid_top.specs.Laws.{CertificateIsNotRefused, OneCertificate, OneCertificateRefusal, OneFlatRefusal, OneFlatTable, OneListOfInputs, OneNameRefusal, OneTextRefusal, TableIsNotRefused}
 pub use Rattle.lucid_top.specs.Lines.{line_of}
+pub use Rattle.lucid_top.specs.Makes.{ForSomeAdded, IsMakingStop, IsNotMade, Makes, MakesTree, MakingComesOnly}
 pub use Rattle.lucid_top.specs.Places.{AreFresh, AreKept, AreUnread, FlatBySource, HasReached, IsAcceptedBeside, IsColumnsStop, IsProgramStop, IsReadStop, IsSourceStop, KeepsNames, ReadsCertificate, ReadsPlace, ReadsSource, SpeltBySource, most_read}
 pub use Rattle.lucid_top.specs.Programs.{Program, beside, of_columns, of_table, of_tree, program_counted, program_subject}
 pub use Rattle.lucid_top.specs.Refusals.{IsRefusalOf, build_stop, judge_stop, parse_stop, scan_stop}
 pub use Rattle.lucid_top.specs.Running.{IsRunStop, RunComesOnly}
-pub use Rattle.lucid_top.specs.Runs.{RanSo, Run, certificate_places, check_of, first_input, most_input_bytes, run_of, run_places, run_result, table_program, unread_place, view_of, viewed}
+pub use Rattle.lucid_top.specs.Runs.{RanSo, Run, certificate_of, certificate_places, first_input, most_input_bytes, run_of, run_places, run_result, table_program, unread_place, view_of, viewed}
 pub use Rattle.lucid_top.specs.Sources.{IsSource, IsTold, first_place}
-pub use Rattle.lucid_top.specs.Stages.{Asks, HasColumns, HasFlat, HasNames, HasTree, IsAskedFor, IsCheck, IsForCheck, IsRun, IsTextFor, IsWriting, MayCheck, WantsInputs, asks_for, by_certificate, by_columns, by_flat, by_given, by_judging, by_missing, by_names, by_table, by_task, by_text, by_tree, by_words, certificate_file, flattens, inputs_in, judges, prints, program_in}
+pub use Rattle.lucid_top.specs.Stages.{Asks, HasColumns, HasFiles, HasFlat, HasNames, HasTree, IsAskedFor, IsCheck, IsForCertificate, IsMaking, IsRun, IsTextFor, IsWriting, MayCheck, WantsInputs, asks_for, by_certificate, by_columns, by_flat, by_given, by_judging, by_missing, by_names, by_table, by_text, by_tree, by_words, certificate_file, flattens, inputs_in, judges, prints, program_in}
 pub use Rattle.lucid_top.specs.Status.{Outcome}
-pub use Rattle.lucid_top.specs.Tasks.{form_of, is_built, task_of}
+pub use Rattle.lucid_top.specs.Tasks.{form_of, is_certificate, task_of, time_asked}
 pub use Rattle.lucid_top.specs.Telling.{WritesFront, WritesWhole}
 pub use Rattle.lucid_top.specs.Texts.{IsFlatForm}
 pub use Rattle.lucid_top.specs.Witness.{counting_source}

@@ -1,15 +1,16 @@
 -- What a call does: it stops early, or it writes or runs behind a source that was read.
-use Rattle.lucid_top.proofs.Common.{◌≡◌, ◌≢◌, ℕ, ◌+◌, true, List, Some, Ok, Err, inr, refl, sym, ap, subst, arith, IsErrOf, CountsNoFaultUnless, World, most_source_bytes, PlainSource, file, made, PlainWords, plain_words, words_asked, Told, Stop, Form, Task, Outcome, Call, task_of, form_of, is_built, IsWriting, IsTextFor, ReadsSource, most_read, IsProgramStop, WritesOnly, Comes, MayBegin, ReadsCertificate, first_place, HasReached, ◌≤◌, ◌∙◌, ReadsPlace, most_certificate_bytes}
-use Rattle.std.proofs.Common.{Result}
+use Rattle.lucid_top.proofs.Common.{◌≡◌, ◌≢◌, ℕ, ◌+◌, List, Some, Ok, Err, inr, refl, sym, ap, subst, arith, IsErrOf, CountsNoFaultUnless, World, most_source_bytes, PlainSource, file, made, PlainWords, plain_words, words_asked, Told, Stop, Task, Outcome, Call, task_of, form_of, IsWriting, IsTextFor, ReadsSource, most_read, IsProgramStop, WritesOnly, Comes, MayBegin, ReadsCertificate, first_place, HasReached, ◌≤◌, ◌∙◌, ReadsPlace, most_certificate_bytes}
+use Rattle.std.proofs.Common.{Result, ◌^◌, ◌-◌}
 use Rattle.clap.proofs.BuiltLemmas.{on_ok_always}
 use Rattle.lucid_words.specs.declared.Words.{Words}
-use Rattle.lucid_words.specs.Numbers.{IsFromTo, MadeIsFromTo}
+use Rattle.lucid_words.specs.Numbers.{IsFromTo, IsFromToIfGiven, MadeIsFromTo}
 use Rattle.lucid_ports.specs.Limits.{most_asked}
 use Rattle.lucid_top.specs.declared.stop.Stop.TheVariants as stop
 use Rattle.lucid_top.specs.declared.task.Task.TheVariants as task
 use Rattle.lucid_top.specs.Places.{HasRead, CountsNoRead, CountsNoWrite}
 use Rattle.lucid_top.specs.Coming.{Does}
 use Rattle.lucid_top.proofs.FewColumns.{few_columns}
+use Rattle.lucid_top.proofs.TextsOnly.{texts_only}
 use Rattle.lucid_top.proofs.Counting.{none_at_ok, handed_on, counts_then}
 use Rattle.lucid_top.proofs.Ending.{Begins, IsText, within_text, program_stops, memory_stops, writes}
 
@@ -43,15 +44,16 @@ reaching_stopped e most v w h = record {
   counts_no_read = handed_on e e stop.ReadFault v.faults w.faults refl h.counts_no_read;
 }
 
--- what the words ask for may begin, where it is built
-pub may_begin : (texts : List (List ℕ)) (words : Words) (t : Task) (f : Form) (v : World) → words_asked texts ≡ Some (plain_words words) → MadeIsFromTo 1 10000 words.source → IsFromTo 1 most_asked words.room
-    → t ≡ task_of (plain_words words) → f ≡ form_of (plain_words words) → is_built t f ≡ true → v.reached ≡ 0 → MayBegin words t v
-may_begin texts words t f v asked given room is form built none = record {
+-- what the words ask for may begin
+pub may_begin : (texts : List (List ℕ)) (words : Words) (t : Task) (v : World) → words_asked texts ≡ Some (plain_words words) → MadeIsFromTo 1 10000 words.source → IsFromTo 1 most_asked words.room
+    → IsFromToIfGiven 0 (2 ^ 63 - 1) words.why → t ≡ task_of (plain_words words) → v.reached ≡ 0 → MayBegin words t v
+may_begin texts words t v asked given room time is none = record {
   made = given;
   room = room;
   columns = few_columns texts (plain_words words) asked;
   task = sym is;
-  built = subst (λ x. is_built x (form_of (plain_words words)) ≡ true) is (subst (λ x. is_built t x ≡ true) form built);
+  text = λ other. texts_only texts (plain_words words) asked (λ run. other (is ∙ run));
+  time = time;
   none = none;
 }
 
@@ -92,7 +94,7 @@ stops c w s read silent few comes counts within = record {
 pub program_does : {T : Type 0} (c : Call) (w : PlainWords) (s : Stop) → Begins c w → IsText w → task_of w ≢ task.Print → c.out_after ≡ c.out_before
     → IsProgramStop w.source c.before c.after s → HasRead {T = T} (most_source_bytes + 1) w.source c.before c.after (Err s) → Does c (Err s)
 program_does c w s b text other silent why h =
-    stops c w s b.read silent h.few (program_stops c w s b text other why (ap (λ (t : Told). t.bytes) silent) h.few) h.counts_no_read (within_text w w.source c.after text h.within)
+    stops c w s b silent h.few (program_stops c w s b text other why (ap (λ (t : Told). t.bytes) silent) h.few) h.counts_no_read (within_text w w.source c.after text h.within)
 
 -- want of memory behind a source that was read
 pub memory_does : {T : Type 0} (x : T) (most : ℕ) (c : Call) (w : PlainWords) → Begins c w → c.out_after ≡ c.out_before → HasRead {T = T} most w.source c.before c.after (Ok x)
@@ -101,8 +103,8 @@ memory_does x most c w b silent h within = record {
   comes = memory_stops c w b (ap (λ (t : Told). t.bytes) silent) h.few;
   counts_no_read = inr (none_at_ok x stop.ReadFault c.before.faults c.after.faults h.counts_no_read);
   counts_no_write = inr (ap (λ (t : Told). t.faults) silent);
-  within = reads_for c w b.read within;
-  certificate = unread_certificate c w b.read h.few;
+  within = reads_for c w b within;
+  certificate = unread_certificate c w b h.few;
 }
 
 -- the text that is asked for is written
@@ -113,8 +115,8 @@ writing_does x c w y o b text h written counted = record {
   comes = writes c w y o b h.few written;
   counts_no_read = inr (none_at_ok x stop.ReadFault c.before.faults c.after.faults h.counts_no_read);
   counts_no_write = counted;
-  within = reads_for c w b.read (within_text w w.source c.after text h.within);
-  certificate = unread_certificate c w b.read h.few;
+  within = reads_for c w b (within_text w w.source c.after text h.within);
+  certificate = unread_certificate c w b h.few;
 }
 
 -- a run behind a source that was read

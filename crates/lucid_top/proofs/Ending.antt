@@ -1,5 +1,5 @@
 -- How a call comes to its outcome: it stops early, or it writes a text.
-use Rattle.lucid_top.proofs.Common.{◌≡◌, ◌≢◌, ℕ, ◌+◌, ◌-◌, ◌<◌, ◌≤◌, true, false, List, [], length, get_or, Option, Some, None, Ok, Err, inl, inr, refl, sym, ap, subst, ◌∙◌, arith, slice_get, option_map, IfOk, slice_get-get_or, ∥∥₁_map, le_refl, take_all, World, Contents, with_all, PlainTree, Table, most_source_bytes, places, IsWellMade, HasNoFault, Scoped, scoped_tree, scoped_inputs, IsJudgeRefusal, JudgeRefusal, rises_from, PlainSource, file, made, PlainWords, Told, Refusal, Stop, Form, Task, Outcome, Call, task_of, form_of, is_built, WritesWhole, WritesFront, judge_stop, IsRefusalOf, RefusesText, RefusesNames, RefusesBeside, StandsBeside, HasInputs, most_flat_bytes, RefusesFlat, RefusesGiven, FitsGiven, IsSource, Asks, HasTree, HasFlat, HasNames, HasColumns, IsWriting, IsTextFor, asks_for, inputs_in, IsAskedFor, IsRun, by_words, by_task, by_text, by_flat, by_names, by_missing, by_judging, by_given, first_place, run_places, run_of, KeepsNames, ReadsSource, most_read, SpeltBySource, FlatBySource, IsAcceptedBeside, IsSourceStop, IsProgramStop, IsColumnsStop, IsReadStop, AreFresh, WritesOnly, WritesNothing, reaches_nothing, reaches_source, reaches_inputs, Rests, IsOfMade, RunsTable, Comes, OnOk, by_tree, certificate_places, first_input, by_columns, by_table}
+use Rattle.lucid_top.proofs.Common.{◌≡◌, ◌≢◌, ℕ, ◌+◌, ◌-◌, ◌<◌, ◌≤◌, List, [], length, get_or, Option, Some, None, Ok, Err, inl, inr, refl, sym, ap, subst, ◌∙◌, arith, slice_get, option_map, IfOk, slice_get-get_or, ∥∥₁_map, le_refl, take_all, World, Contents, with_all, PlainTree, Table, most_source_bytes, places, IsWellMade, HasNoFault, Scoped, scoped_tree, scoped_inputs, IsJudgeRefusal, JudgeRefusal, rises_from, PlainSource, file, made, PlainWords, Told, Refusal, Stop, Form, Task, Outcome, Call, task_of, form_of, WritesWhole, WritesFront, judge_stop, IsRefusalOf, RefusesText, RefusesNames, RefusesBeside, StandsBeside, HasInputs, most_flat_bytes, RefusesFlat, RefusesGiven, FitsGiven, IsSource, Asks, HasTree, HasFlat, HasNames, HasColumns, IsWriting, IsTextFor, asks_for, inputs_in, IsAskedFor, IsRun, by_words, by_text, by_flat, by_names, by_missing, by_judging, by_given, first_place, run_places, run_of, KeepsNames, ReadsSource, most_read, SpeltBySource, FlatBySource, IsAcceptedBeside, IsSourceStop, IsProgramStop, IsColumnsStop, IsReadStop, AreFresh, WritesOnly, WritesNothing, reaches_nothing, reaches_source, reaches_inputs, Rests, IsOfMade, RunsTable, Comes, OnOk, by_tree, certificate_places, first_input, by_columns, by_table}
 use Rattle.std.proofs.Common.{Result}
 use Rattle.lucid_ports.specs.World.{unread}
 use Rattle.lucid_scope.specs.Bindings.{IsResolved}
@@ -7,7 +7,6 @@ use Rattle.lucid_scope.specs.declared.scoped.Binding.{Binding}
 use Rattle.lucid_cycles.specs.declared.judgment.JudgeRefusal.TheVariants as judge
 use Rattle.lucid_words.specs.declared.WordsRefusal.{WordsRefusal}
 use Rattle.lucid_words.specs.declared.WordsRefusal.TheVariants as words
-use Rattle.lucid_top.specs.declared.refusal.Refusal.TheVariants as refusal
 use Rattle.lucid_top.specs.declared.stop.Done.TheVariants as done
 use Rattle.lucid_top.specs.declared.stop.Stop.TheVariants as stop
 use Rattle.lucid_top.specs.declared.task.Form.TheVariants as form
@@ -19,10 +18,9 @@ use Rattle.lucid_top.specs.Runs.{most_places}
 use Rattle.lucid_top.specs.Places.{IsAccepted}
 use Rattle.lucid_top.specs.Writing.{WritesSome, WritesSomeFront}
 
--- the words of a call ask for what is built
-pub record Begins (c : Call) (w : PlainWords) : Type 0 where
-  pub read : c.asked ≡ Some w
-  pub built : is_built (task_of w) (form_of w) ≡ true
+-- the words of a call are read
+abbrev pub Begins : Call → PlainWords → Type 0
+Begins c w = c.asked ≡ Some w
 
 -- and the source is no flat form; it is one
 abbrev pub IsText : PlainWords → Type 0
@@ -30,11 +28,6 @@ IsText w = form_of w ≢ form.Flat
 
 abbrev pub IsFlat : PlainWords → Type 0
 IsFlat w = form_of w ≡ form.Flat
-
--- what is built of texts alone is asked for of a text
-pub of_text : (w : PlainWords) (t : Task) → task_of w ≡ t → is_built t form.Flat ≡ false → is_built (task_of w) (form_of w) ≡ true → IsText w
-of_text w t is not built flat =
-    let there : is_built t form.Flat ≡ true = subst (λ f. is_built t f ≡ true) flat (subst (λ x. is_built x (form_of w) ≡ true) is built) in absurd (cc (there, not))
 
 -- how much of a source may be read, by its form
 most_of_text : (f : Form) → f ≢ form.Flat → most_read f ≡ most_source_bytes + 1
@@ -49,7 +42,7 @@ pub within_flat : (w : PlainWords) (s : PlainSource) (u : World) → IsFlat w �
 within_flat w s u flat within = subst (λ f. ReadsSource (most_read f) s u) (sym flat) within
 
 abbrev pub asks_of : (c : Call) (w : PlainWords) → Begins c w → Asks c
-asks_of c w b = record { words = w; read = b.read; built = b.built }
+asks_of c w b = record { words = w; read = b }
 
 abbrev pub tree_of : (c : Call) (w : PlainWords) (p : PlainTree) → Begins c w → IsText w → SpeltBySource w.source c.before p → HasTree c
 tree_of c w p b text s = record { source = record { asks = asks_of c w b; bytes = s.bytes; is = s.is }; form = text; tree = p; spelt = s.spelt }
@@ -67,8 +60,7 @@ rests_of c w b silent few = record {
   reaches = reaches_source (asks_of c w b) few;
   silent = silent;
   unread = λ v asked q le lt new is.
-      let read = b.read in
-      let same : v ≡ w = cc (asked, read) in
+      let same : v ≡ w = cc (asked, b) in
       let le' : first_input w ≤ q = subst (λ u. first_input u ≤ q) same le in
       absurd (omega (arith, few, le', lt));
 }
@@ -199,6 +191,9 @@ columns_not_print w is = not_print w task.Columns is (λ e. absurd (cc e))
 pub check_not_print : (w : PlainWords) → task_of w ≡ task.Check → task_of w ≢ task.Print
 check_not_print w is = not_print w task.Check is (λ e. absurd (cc e))
 
+pub why_not_print : (w : PlainWords) → task_of w ≡ task.Why → task_of w ≢ task.Print
+why_not_print w is = not_print w task.Why is (λ e. absurd (cc e))
+
 -- the columns that are run
 abbrev pub columns_of : (c : Call) (w : PlainWords) (q : PlainTree) (free : List (List ℕ)) → Begins c w → IsText w → task_of w ≡ task.Columns
     → (a : IsAcceptedBeside w.source c.before w.columns q free) → HasInputs q free → HasColumns c
@@ -273,11 +268,6 @@ words_of c w t v b =
     let there = (asks_for b.program).read in
     let here = b.read in cc (there, here)
 
--- they ask for what is built
-begins_of : (c : Call) (w : PlainWords) (t : Table) (v : World) → RunsTable c w t v → Begins c w
-begins_of c w t v b =
-    record { read = b.read; built = subst (λ (u : PlainWords). is_built (task_of u) (form_of u) ≡ true) (words_of c w t v b) (asks_for b.program).built }
-
 -- the table is run, where the words give its inputs files
 abbrev pub run_of_table : (c : Call) (w : PlainWords) (t : Table) (v : World) → RunsTable c w t v → FitsGiven t.inputs w.given → IsRun c
 run_of_table c w t v b fits =
@@ -320,8 +310,8 @@ given_stops c w t v (stop.Refused why) b refused silent few =
     let is : IsAskedFor b.program = ap task_of same ∙ b.task in
     let here : RefusesGiven (inputs_in b.program) (asks_for b.program).words.given why =
     subst (λ (u : PlainWords). RefusesGiven (inputs_in b.program) u.given why) (sym same) (subst (λ names. RefusesGiven names w.given why) (sym b.inputs) refused) in
-    record { only = (by_given b.program (inl is) here, silent); how = inl ((by_given b.program (inl is) here, b.made), rests_of c w (begins_of c w t v b) silent few); few_places = few_places c w.source few }
-given_stops c w t v stop.NoMemory b refused silent few = memory_stops c w (begins_of c w t v b) silent few
+    record { only = (by_given b.program (inl is) here, silent); how = inl ((by_given b.program (inl is) here, b.made), rests_of c w b.read silent few); few_places = few_places c w.source few }
+given_stops c w t v stop.NoMemory b refused silent few = memory_stops c w b.read silent few
 given_stops c w t v _ b refused silent few = absurd refused
 
 -- the free names of a tree that was resolved
@@ -390,16 +380,3 @@ words_stops c words.Usage refused silent none = record {
   few_places = omega (arith, none);
 }
 words_stops c words.NoMemory refused silent none = record { only = tt; how = inl (tt, nothing_reached c silent none); few_places = omega (arith, none) }
-
--- what they ask for isn't built
-pub not_built_stops : (c : Call) (w : PlainWords) → c.asked ≡ Some w → is_built (task_of w) (form_of w) ≡ false → WritesNothing c → c.after.reached ≡ 0
-    → Comes c (Err (stop.Refused refusal.NotBuilt))
-not_built_stops c w read not_built silent none = record {
-  only = (by_task w read not_built, silent);
-  how = inl ((by_task w read not_built, tt), nothing_reached c silent none);
-  few_places = omega (arith, none);
-}
-
--- certificates aren't made yet
-pub why_is_not : (t : Task) (f : Form) → t ≡ task.Why → is_built t f ≡ false
-why_is_not t f is = ap (λ x. is_built x f) is

@@ -12,15 +12,15 @@ use Rattle.lucid_top.specs.declared.task.Task.TheVariants as task
 
 module _ {A B : Type 0} where
   -- what comes of a part that is there
-  part_of : (o : Option A) (f : A → Option B) (x : B) → option_and_then f o ≡ Some x → (a : A) × (o ≡ Some a) × (f a ≡ Some x)
+  pub part_of : (o : Option A) (f : A → Option B) (x : B) → option_and_then f o ≡ Some x → (a : A) × (o ≡ Some a) × (f a ≡ Some x)
   part_of None f x is = absurd (cc is)
   part_of (Some a) f x is = (a, refl, is)
 
-  image_of : (o : Option A) (f : A → B) (x : B) → option_map f o ≡ Some x → (a : A) × (f a ≡ x)
+  pub image_of : (o : Option A) (f : A → B) (x : B) → option_map f o ≡ Some x → (a : A) × (o ≡ Some a) × (f a ≡ x)
   image_of None f x is = absurd (cc is)
-  image_of (Some a) f x is = (a, cc is)
+  image_of (Some a) f x is = (a, refl, cc is)
 
-unless : {A : Type 0} (b : Bool) (o : Option A) (x : A) → cond b None o ≡ Some x → (b ≡ false) × (o ≡ Some x)
+pub unless : {A : Type 0} (b : Bool) (o : Option A) (x : A) → cond b None o ≡ Some x → (b ≡ false) × (o ≡ Some x)
 unless true o x is = absurd (cc is)
 unless false o x is = (refl, is)
 
@@ -28,7 +28,7 @@ where_so : {A : Type 0} (b : Bool) (xs ys : A) → cond b (Some xs) None ≡ Som
 where_so true xs ys is = cc is
 where_so false xs ys is = absurd (cc is)
 
-taken : {A : Type 0} (ks : Kinds) (o : Option A) (x : A) → where_taken ks o ≡ Some x → o ≡ Some x
+pub taken : {A : Type 0} (ks : Kinds) (o : Option A) (x : A) → where_taken ks o ≡ Some x → o ≡ Some x
 taken [] o x is = is
 taken (k ∷ ks) o x is = absurd (cc is)
 
@@ -52,7 +52,7 @@ columns_are rows w is =
     let given = part_of (given_in rows) _ w policy.2 in
     let columns = part_of (columns_in rows) _ w given.2 in
     let check = image_of (check_in rows) _ w columns.2 in
-    columns.1 ∙ ap (λ (x : PlainWords). Some x.columns) check.1
+    columns.1 ∙ ap (λ (x : PlainWords). Some x.columns) check.2
 
 pub few_columns : (words : List Text) (w : PlainWords) → words_asked words ≡ Some w → length w.columns ≤ 16
 unfolding words_asked

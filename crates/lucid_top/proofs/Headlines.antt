@@ -1,5 +1,5 @@
 -- The headline, from the clauses of a call.
-use Rattle.lucid_top.proofs.Common.{◌≡◌, ◌≢◌, ℕ, suc, ◌+◌, ◌-◌, ◌<◌, ◌≤◌, ◌⊎◌, List, [], ◌∷◌, ◌++◌, length, Option, Some, None, Ok, Err, Bool, true, false, inl, inr, refl, sym, ◌∙◌, ap, subst, arith, IfSome, IsSome, IsSomeAnd, slice_get, unwrap_or, option_map, codes, range_with_len, lt-ltb, length-range_with_len, get_or-range_with_len, slice_get-map, slice_get-get_or, slice_get_within, PlainValue, eod, IsOverlong, Elements, empty, line, Derives, Contents, with_all, Summary, RunFault, all_bytes, file, PlainWords, stream_subject, tree_stream, Told, RunView, HasElements, Ran, IsDone, IsTooDeep, Figures, Status, Outcome, Call, of_tree, program_counted, task_of, form_of, is_built, file_given, files_for, IsSource, IsTold, Asks, HasNames, by_tree, IsRun, run_of, view_of, run_result, most_input_bytes, first_place, ReadFails, TellsFiles, ComesOnly, MeetsClauses, RunsProgram, elements, Lines, one_line_more, Headline, certificate_places, first_input}
+use Rattle.lucid_top.proofs.Common.{◌≡◌, ◌≢◌, ℕ, suc, ◌+◌, ◌-◌, ◌<◌, ◌≤◌, ◌⊎◌, List, [], ◌∷◌, ◌++◌, length, Option, Some, None, Ok, Err, Bool, true, false, inl, inr, refl, sym, ◌∙◌, ap, subst, arith, IfSome, IsSome, IsSomeAnd, slice_get, unwrap_or, option_map, codes, range_with_len, lt-ltb, length-range_with_len, get_or-range_with_len, slice_get-map, slice_get-get_or, slice_get_within, PlainValue, eod, IsOverlong, Elements, empty, line, Derives, Contents, with_all, Summary, RunFault, all_bytes, file, PlainWords, stream_subject, tree_stream, Told, RunView, HasElements, Ran, IsDone, IsTooDeep, Figures, Status, Outcome, Call, of_tree, program_counted, task_of, form_of, file_given, files_for, IsSource, IsTold, Asks, HasNames, by_tree, IsRun, run_of, view_of, run_result, most_input_bytes, first_place, ReadFails, TellsFiles, ComesOnly, MeetsClauses, RunsProgram, elements, Lines, one_line_more, Headline, certificate_places, first_input, ForSomeAdded}
 use Rattle.std.proofs.Common.{take, Result, cond}
 use Rattle.lucid_tree.specs.Meaning.{val}
 use Rattle.lucid_least.proofs.Rules.{means-derives}
@@ -17,7 +17,7 @@ use Rattle.lucid_top.specs.declared.task.Form.TheVariants as form
 use Rattle.lucid_top.specs.Status.{status_of}
 use Rattle.lucid_top.specs.Tasks.{form_for}
 use Rattle.lucid_top.specs.Clauses.{WriteFails}
-use Rattle.lucid_top.specs.Headline.{Has, no_lines, IsConsulted, ForSomeAdded, ConsultsOverlong, ConsumesWithin, HeadlineFollows}
+use Rattle.lucid_top.specs.Headline.{Has, no_lines, IsConsulted, ConsultsOverlong, ConsumesWithin, HeadlineFollows}
 use Rattle.lucid_top.proofs.OneCall.{same_words, one_task}
 use Rattle.lucid_top.proofs.RunEnds.{in_range}
 
@@ -27,7 +27,7 @@ module _ (c : Call) (g : RunsProgram c) where
 
   -- the stages of the call
   abbrev asks : Asks c
-  asks = record { words = g.words; read = g.asked; built = ap (λ t. is_built t (form_of g.words)) g.run.0 }
+  asks = record { words = g.words; read = g.asked }
 
   is_source : IsSource g.words.source c.before g.source
   is_source = subst (λ s. IsSource s c.before g.source) (sym g.run.1) (subst (λ o. IfSome o (λ held. g.source ≡ held)) (sym g.held) refl)

@@ -19,14 +19,19 @@ pub mod NoColumn
 pub mod Within
 pub mod FewInputs
 pub mod FewColumns
+pub mod TextsOnly
 pub mod Beside
 pub mod FirstWrong
 pub mod FlatVerdicts
 pub mod CertificateVerdicts
 pub mod OneCall
 pub mod LastLine
+pub mod Unread
 pub mod Proving
+pub mod Promising
+pub mod Certifying
 pub mod CheckEnds
+pub mod MakingEnds
 pub mod Meeting
 mod Headlines
 mod CountingSource

@@ -1,5 +1,5 @@
 -- A call has one of each thing: words, source, tree, free names, certificate, first refusal; and where it has a run, a text or a check, no refusal.
-use Rattle.lucid_top.proofs.Common.{◌≡◌, ◌≢◌, ℕ, ◌<◌, false, Bool, true, List, length, Option, Some, None, ◌⊎◌, inl, inr, refl, sym, ◌∙◌, ap, subst, arith, IsSome, IfSome, slice_get, option_and_then, slice_get_within, cases_order, World, IsWellMade, Table, canonical, HasNoFault, PlainSource, file, made, PlainWords, IsJudged, Refusal, Task, Call, task_of, form_of, is_built, Spelt, RefusesText, RefusesNames, RefusesJudging, HasInputs, Given, word_refusal, refusal_at, AreRightBelow, RefusedFirst, RefusesGiven, FitsGiven, by_word, by_two, IsSource, IsTold, Asks, HasTree, HasFlat, HasNames, IsWriting, IsTextFor, prints, judges, flattens, HasColumns, by_tree, by_columns, by_table, asks_for, program_in, inputs_in, IsAskedFor, WantsInputs, IsRun, MayCheck, IsCheck, certificate_file, by_words, by_task, by_text, by_flat, by_names, by_missing, by_judging, by_given, by_certificate, IsFlatForm, SpellsTable, RefusesFlat, Program, of_tree, of_columns, of_table, beside, Run, run_of, check_of, HoldsCertificate, RefusesCertificate, OneCertificate, CertificateIsNotRefused, OneCertificateRefusal, TellsFiles, IsMade, IsOfMade, OneTextRefusal, OneNameRefusal, OneListOfInputs, OneFlatTable, TableIsNotRefused, OneFlatRefusal}
+use Rattle.lucid_top.proofs.Common.{◌≡◌, ◌≢◌, ℕ, ◌<◌, false, Bool, true, List, length, Option, Some, None, ◌⊎◌, inl, inr, refl, sym, ◌∙◌, ap, subst, arith, IsSome, IfSome, slice_get, option_and_then, slice_get_within, cases_order, World, IsWellMade, Table, canonical, HasNoFault, PlainSource, file, made, PlainWords, IsJudged, Refusal, Task, Call, task_of, form_of, is_certificate, Spelt, RefusesText, RefusesNames, RefusesJudging, HasInputs, Given, word_refusal, refusal_at, AreRightBelow, RefusedFirst, RefusesGiven, FitsGiven, by_word, by_two, IsSource, IsTold, Asks, HasTree, HasFlat, HasNames, HasFiles, IsWriting, IsTextFor, prints, judges, flattens, HasColumns, by_tree, by_columns, by_table, asks_for, program_in, inputs_in, IsAskedFor, WantsInputs, IsRun, IsMaking, MayCheck, IsCheck, certificate_file, by_words, by_text, by_flat, by_names, by_missing, by_judging, by_given, by_certificate, IsFlatForm, SpellsTable, RefusesFlat, Program, of_tree, of_columns, of_table, beside, Run, run_of, certificate_of, HoldsCertificate, RefusesCertificate, OneCertificate, CertificateIsNotRefused, OneCertificateRefusal, TellsFiles, IsMade, IsOfMade, OneTextRefusal, OneNameRefusal, OneListOfInputs, OneFlatTable, TableIsNotRefused, OneFlatRefusal}
 use Rattle.std.specs.Prelude.{take}
 use Rattle.lucid_top.specs.declared.task.Task.TheVariants as task
 use Rattle.lucid_top.specs.declared.task.Form.TheVariants as form
@@ -73,7 +73,7 @@ given_fits : (free : List (List ℕ)) (given : Given) (v : Refusal) → RefusesG
 given_fits free given v (by_word a) fits = all_right free given v a fits.right
 given_fits free given v (by_two right two) fits = let one = fits.one_left in absurd (omega (arith, two, one))
 
--- the words of a call are one; they are refused or ask for what is built
+-- the words of a call are one, or they are refused
 pub same_words : {c : Call} (a b : Asks c) → a.words ≡ b.words
 same_words a b =
     let x = a.read in
@@ -81,13 +81,6 @@ same_words a b =
 
 pub not_asked : {c : Call} → Asks c → c.asked ≡ None → ⊥
 not_asked a none = let x = a.read in absurd (cc (x, none))
-
-pub not_unbuilt : {c : Call} (a : Asks c) (w : PlainWords) → c.asked ≡ Some w → is_built (task_of w) (form_of w) ≡ false → ⊥
-not_unbuilt a w read not_built =
-    let x = a.read in
-    let same : w ≡ a.words = cc (x, read) in
-    let there : is_built (task_of a.words) (form_of a.words) ≡ false = subst (λ u. is_built (task_of u) (form_of u) ≡ false) same not_built in
-    let built = a.built in absurd (cc (there, built))
 
 -- a call has one task
 pub one_task : {c : Call} (a b : Asks c) (x y : Task) → task_of a.words ≡ x → task_of b.words ≡ y → x ≡ y
@@ -101,12 +94,18 @@ one_form a b is other = other (ap form_of (same_words b a) ∙ is)
 abbrev wants : Task → Bool
 wants task.Run = true
 wants task.Columns = true
+wants task.Why = true
 wants task.Check = true
 wants t = false
 
+certificate_wants : (t : Task) → is_certificate t ≡ true → wants t ≡ true
+certificate_wants task.Why is = refl
+certificate_wants task.Check is = refl
+certificate_wants _ is = absurd (cc is)
+
 wanted : {c : Call} (p : HasProgram c) → WantsInputs p → wants (task_of (asks_for p).words) ≡ true
 wanted (by_tree n) (inl is) = ap wants is
-wanted (by_tree n) (inr is) = ap wants is
+wanted (by_tree n) (inr is) = certificate_wants (task_of n.program.source.asks.words) is
 wanted (by_columns h) (inl is) = ap wants is
 wanted (by_columns h) (inr is) = absurd is
 wanted (by_table f) (inl is) = ap wants is
@@ -117,28 +116,42 @@ other_task p a t asked is none =
     let some : wants (task_of a.words) ≡ true = subst (λ (w : PlainWords). wants (task_of w) ≡ true) (same_words (asks_for p) a) (wanted p asked) in
     let there : wants (task_of a.words) ≡ wants t = ap wants is in absurd (cc (some, there, none))
 
--- a run is neither a text nor a check, and a check is no text
+-- a run is neither a text nor a certificate, and a certificate is no text
 pub run_or_text : {c : Call} → IsRun c → IsWriting c → ⊥
 run_or_text r (prints t is) = other_task r.program t.source.asks task.Print (inl r.task) is refl
 run_or_text r (judges n is judged) = other_task r.program n.program.source.asks task.Cycles (inl r.task) is refl
 run_or_text r (flattens n is) = other_task r.program n.program.source.asks task.Flat (inl r.task) is refl
 
--- the words of a check
-abbrev pub asks_in : {c : Call} → MayCheck c → Asks c
+-- the words of a certificate
+abbrev pub asks_in : {c : Call} {t : Task} → HasFiles c t → Asks c
 asks_in m = m.names.program.source.asks
 
-pub run_or_check : {c : Call} → IsRun c → MayCheck c → ⊥
-run_or_check {c = c} r m = by r.program (one_task (asks_for r.program) (asks_in m) (task_for r.program) task.Check r.task m.task)
-  where
-    by : (p : HasProgram c) → task_for p ≡ task.Check → ⊥
-    by (by_tree n) same = absurd (cc same)
-    by (by_columns h) same = absurd (cc same)
-    by (by_table f) same = absurd (cc same)
+-- they ask for nothing that isn't one
+other_certificate : {c : Call} {t : Task} (m : HasFiles c t) → is_certificate t ≡ true → (a : Asks c) (u : Task) → task_of a.words ≡ u → is_certificate u ≡ false → ⊥
+other_certificate {t = t} m is a u asked not =
+    let same : t ≡ u = one_task (asks_in m) a t u m.task asked in
+    let there : is_certificate u ≡ true = subst (λ x. is_certificate x ≡ true) same is in absurd (cc (there, not))
 
-pub check_or_text : {c : Call} → MayCheck c → IsWriting c → ⊥
-check_or_text m (prints t is) = absurd (cc (one_task (asks_in m) t.source.asks task.Check task.Print m.task is))
-check_or_text m (judges n is judged) = absurd (cc (one_task (asks_in m) n.program.source.asks task.Check task.Cycles m.task is))
-check_or_text m (flattens n is) = absurd (cc (one_task (asks_in m) n.program.source.asks task.Check task.Flat m.task is))
+-- what they ask for is one
+is_one : {c : Call} {t : Task} (m : HasFiles c t) → is_certificate t ≡ true → is_certificate (task_of (asks_in m).words) ≡ true
+is_one m one = ap is_certificate m.task ∙ one
+
+pub run_or_certificate : {c : Call} {t : Task} → IsRun c → HasFiles c t → is_certificate t ≡ true → ⊥
+run_or_certificate {c = c} r m is = other_certificate m is (asks_for r.program) (task_for r.program) r.task (by r.program)
+  where
+    by : (p : HasProgram c) → is_certificate (task_for p) ≡ false
+    by (by_tree n) = refl
+    by (by_columns h) = refl
+    by (by_table f) = refl
+
+pub certificate_or_text : {c : Call} {t : Task} → HasFiles c t → is_certificate t ≡ true → IsWriting c → ⊥
+certificate_or_text m is (prints t asked) = other_certificate m is t.source.asks task.Print asked refl
+certificate_or_text m is (judges n asked judged) = other_certificate m is n.program.source.asks task.Cycles asked refl
+certificate_or_text m is (flattens n asked) = other_certificate m is n.program.source.asks task.Flat asked refl
+
+-- nor is a certificate that is made checked
+pub made_or_checked : {c : Call} → IsMaking c → MayCheck c → ⊥
+made_or_checked m k = absurd (cc (one_task (asks_in m) (asks_in k) task.Why task.Check m.task k.task))
 
 -- a run of these words, of this program, with inputs of these names
 abbrev run_with : PlainWords → Program → List (List ℕ) → Run
@@ -181,7 +194,9 @@ module _ (l : OneVerdict) (c : Call) (told : TellsFiles c) where
   -- The program that is asked for is one, and so are the names of its inputs.
   tree_or_columns : (n m : HasNames c) → WantsInputs {c = c} (by_tree n) → task_of m.program.source.asks.words ≡ task.Columns → ⊥
   tree_or_columns n m (inl is) js = absurd (cc (one_task n.program.source.asks m.program.source.asks task.Run task.Columns is js))
-  tree_or_columns n m (inr is) js = absurd (cc (one_task n.program.source.asks m.program.source.asks task.Check task.Columns is js))
+  tree_or_columns n m (inr is) js =
+      let there : is_certificate (task_of m.program.source.asks.words) ≡ true = subst (λ (w : PlainWords). is_certificate (task_of w) ≡ true) (same_words n.program.source.asks m.program.source.asks) is in
+      let not : is_certificate (task_of m.program.source.asks.words) ≡ false = ap is_certificate js in absurd (cc (there, not))
 
   asks_columns : (h : HasColumns c) → WantsInputs {c = c} (by_columns h) → task_of h.names.program.source.asks.words ≡ task.Columns
   asks_columns h (inl is) = is
@@ -215,9 +230,9 @@ module _ (l : OneVerdict) (c : Call) (told : TellsFiles c) where
   same_run r q well =
       one_run (same_words (asks_for q.program) (asks_for r.program)) (same_program q.program r.program q.task r.task) (same_inputs q.program r.program (inl q.task) (inl r.task) well)
 
-  -- what is asked for by a check is one, and so is its certificate
-  pub same_check : (m k : MayCheck c) → IsWellMade k.names.program.tree → check_of k ≡ check_of m
-  same_check m k well =
+  -- what is asked for of a certificate is one, and so is the one that is checked
+  pub same_certificate : {t u : Task} (m : HasFiles c t) (k : HasFiles c u) → IsWellMade k.names.program.tree → certificate_of k ≡ certificate_of m
+  same_certificate m k well =
       one_run (same_words (asks_in k) (asks_in m)) (ap of_tree (same_tree k.names.program m.names.program)) (same_free k.names.program well k.names m.names)
 
   same_file : (m k : MayCheck c) (a b : List ℕ) → IsSource (file (certificate_file m)) c.before a → IsSource (file (certificate_file k)) c.before b → a ≡ b
@@ -285,14 +300,13 @@ module _ (l : OneVerdict) (c : Call) (told : TellsFiles c) where
   columns_or : (n : HasNames c) (a : Asks c) (t : Task) → task_of n.program.source.asks.words ≡ task.Columns → task_of a.words ≡ t → task.Columns ≡ t
   columns_or n a t is js = one_task n.program.source.asks a task.Columns t is js
 
-  -- nor are words that give a check its files
-  given_check : (m : MayCheck c) (p : HasProgram c) (v : Refusal) → WantsInputs p → RefusesGiven (inputs_in p) (asks_for p).words.given v → m.names.free ≡ inputs_in p → ⊥
-  given_check m p v is r same = given_fits m.names.free (asks_in m).words.given v (given_there (by_tree m.names) p v same r) m.fits
+  -- nor are words that give a certificate its files
+  given_certificate : {t : Task} (m : HasFiles c t) (p : HasProgram c) (v : Refusal) → WantsInputs p → RefusesGiven (inputs_in p) (asks_for p).words.given v → m.names.free ≡ inputs_in p → ⊥
+  given_certificate m p v is r same = given_fits m.names.free (asks_in m).words.given v (given_there (by_tree m.names) p v same r) m.fits
 
   -- A call has one first refusal.
   pub one_refusal : (v w : Refusal) (a : Refuses c v) → IsOfMade a → Refuses c w → v ≡ w
   one_refusal v w (by_words none) is_made (by_words none') = refl
-  one_refusal v w (by_words none) is_made (by_task u' read' nb') = absurd (cc (none, read'))
   one_refusal v w (by_words none) is_made (by_text s' other' r') = absurd (not_asked s'.asks none)
   one_refusal v w (by_words none) is_made (by_flat s' is' r') = absurd (not_asked s'.asks none)
   one_refusal v w (by_words none) is_made (by_names t' other' r') = absurd (not_asked t'.source.asks none)
@@ -300,17 +314,7 @@ module _ (l : OneVerdict) (c : Call) (told : TellsFiles c) where
   one_refusal v w (by_words none) is_made (by_judging n' is' r') = absurd (not_asked n'.program.source.asks none)
   one_refusal v w (by_words none) is_made (by_given p' is' r') = absurd (not_asked (asks_for p') none)
   one_refusal v w (by_words none) is_made (by_certificate m' b' js' r') = absurd (not_asked (asks_in m') none)
-  one_refusal v w (by_task u read nb) is_made (by_words none') = absurd (cc (none', read))
-  one_refusal v w (by_task u read nb) is_made (by_task u' read' nb') = refl
-  one_refusal v w (by_task u read nb) is_made (by_text s' other' r') = absurd (not_unbuilt s'.asks u read nb)
-  one_refusal v w (by_task u read nb) is_made (by_flat s' is' r') = absurd (not_unbuilt s'.asks u read nb)
-  one_refusal v w (by_task u read nb) is_made (by_names t' other' r') = absurd (not_unbuilt t'.source.asks u read nb)
-  one_refusal v w (by_task u read nb) is_made (by_missing n' is' r') = absurd (not_unbuilt n'.program.source.asks u read nb)
-  one_refusal v w (by_task u read nb) is_made (by_judging n' is' r') = absurd (not_unbuilt n'.program.source.asks u read nb)
-  one_refusal v w (by_task u read nb) is_made (by_given p' is' r') = absurd (not_unbuilt (asks_for p') u read nb)
-  one_refusal v w (by_task u read nb) is_made (by_certificate m' b' js' r') = absurd (not_unbuilt (asks_in m') u read nb)
   one_refusal v w (by_text s other r) is_made (by_words none') = absurd (not_asked s.asks none')
-  one_refusal v w (by_text s other r) is_made (by_task u' read' nb') = absurd (not_unbuilt s.asks u' read' nb')
   one_refusal v w (by_text s other r) is_made (by_text s' other' r') = l.one_text_refusal s.bytes v w r (subst (λ b. RefusesText b w) (same_bytes s' s) r')
   one_refusal v w (by_text s other r) is_made (by_flat s' is' r') = absurd (one_form s'.asks s.asks is' other)
   one_refusal v w (by_text s other r) is_made (by_names t' other' r') = absurd (text_not s v r t')
@@ -319,7 +323,6 @@ module _ (l : OneVerdict) (c : Call) (told : TellsFiles c) where
   one_refusal v w (by_text s other r) is_made (by_given p' is' r') = absurd (text_program s v other r p')
   one_refusal v w (by_text s other r) is_made (by_certificate m' b' js' r') = absurd (text_not s v r m'.names.program)
   one_refusal v w (by_flat s is r) is_made (by_words none') = absurd (not_asked s.asks none')
-  one_refusal v w (by_flat s is r) is_made (by_task u' read' nb') = absurd (not_unbuilt s.asks u' read' nb')
   one_refusal v w (by_flat s is r) is_made (by_text s' other' r') = absurd (one_form s.asks s'.asks is other')
   one_refusal v w (by_flat s is r) is_made (by_flat s' is' r') = l.one_flat_refusal s.bytes v w r (subst (λ b. RefusesFlat b w) (same_bytes s' s) r')
   one_refusal v w (by_flat s is r) is_made (by_names t' other' r') = absurd (one_form s.asks t'.source.asks is t'.form)
@@ -328,7 +331,6 @@ module _ (l : OneVerdict) (c : Call) (told : TellsFiles c) where
   one_refusal v w (by_flat s is r) is_made (by_given p' is' r') = absurd (flat_program s v is r p')
   one_refusal v w (by_flat s is r) is_made (by_certificate m' b' js' r') = absurd (one_form s.asks (asks_in m') is m'.names.program.form)
   one_refusal v w (by_names t other r) is_made (by_words none') = absurd (not_asked t.source.asks none')
-  one_refusal v w (by_names t other r) is_made (by_task u' read' nb') = absurd (not_unbuilt t.source.asks u' read' nb')
   one_refusal v w (by_names t other r) is_made (by_text s' other' r') = absurd (text_not s' w r' t)
   one_refusal v w (by_names t other r) is_made (by_flat s' is' r') = absurd (one_form s'.asks t.source.asks is' t.form)
   one_refusal v w (by_names t other r) is_made (by_names t' other' r') = l.one_name_refusal t.tree v w is_made r (subst (λ p. RefusesNames p w) (same_tree t' t) r')
@@ -337,7 +339,6 @@ module _ (l : OneVerdict) (c : Call) (told : TellsFiles c) where
   one_refusal v w (by_names t other r) is_made (by_given p' is' r') = absurd (names_program t v r p')
   one_refusal v w (by_names t other r) is_made (by_certificate m' b' js' r') = absurd (names_not t v r m'.names)
   one_refusal v w (by_missing n is r) is_made (by_words none') = absurd (not_asked n.program.source.asks none')
-  one_refusal v w (by_missing n is r) is_made (by_task u' read' nb') = absurd (not_unbuilt n.program.source.asks u' read' nb')
   one_refusal v w (by_missing n is r) is_made (by_text s' other' r') = absurd (text_not s' w r' n.program)
   one_refusal v w (by_missing n is r) is_made (by_flat s' is' r') = absurd (one_form s'.asks n.program.source.asks is' n.program.form)
   one_refusal v w (by_missing n is r) is_made (by_names t' other' r') = absurd (names_not t' w r' n)
@@ -346,7 +347,6 @@ module _ (l : OneVerdict) (c : Call) (told : TellsFiles c) where
   one_refusal v w (by_missing n is r) is_made (by_given p' is' r') = absurd (missing_program n v is r p' is')
   one_refusal v w (by_missing n is r) is_made (by_certificate m' b' js' r') = absurd (cc (columns_or n (asks_in m') task.Check is m'.task))
   one_refusal v w (by_judging n is r) is_made (by_words none') = absurd (not_asked n.program.source.asks none')
-  one_refusal v w (by_judging n is r) is_made (by_task u' read' nb') = absurd (not_unbuilt n.program.source.asks u' read' nb')
   one_refusal v w (by_judging n is r) is_made (by_text s' other' r') = absurd (text_not s' w r' n.program)
   one_refusal v w (by_judging n is r) is_made (by_flat s' is' r') = absurd (one_form s'.asks n.program.source.asks is' n.program.form)
   one_refusal v w (by_judging n is r) is_made (by_names t' other' r') = absurd (names_not t' w r' n)
@@ -355,64 +355,58 @@ module _ (l : OneVerdict) (c : Call) (told : TellsFiles c) where
   one_refusal v w (by_judging n is r) is_made (by_given p' is' r') = absurd (judging_or_run n p' is is')
   one_refusal v w (by_judging n is r) is_made (by_certificate m' b' js' r') = absurd (cc (one_task n.program.source.asks (asks_in m') task.Cycles task.Check is m'.task))
   one_refusal v w (by_given p is r) is_made (by_words none') = absurd (not_asked (asks_for p) none')
-  one_refusal v w (by_given p is r) is_made (by_task u' read' nb') = absurd (not_unbuilt (asks_for p) u' read' nb')
   one_refusal v w (by_given p is r) is_made (by_text s' other' r') = absurd (text_program s' w other' r' p)
   one_refusal v w (by_given p is r) is_made (by_flat s' is' r') = absurd (flat_program s' w is' r' p)
   one_refusal v w (by_given p is r) is_made (by_names t' other' r') = absurd (names_program t' w r' p)
   one_refusal v w (by_given p is r) is_made (by_missing n' is' r') = absurd (missing_program n' w is' r' p is)
   one_refusal v w (by_given p is r) is_made (by_judging n' is' r') = absurd (judging_or_run n' p is' is)
   one_refusal v w (by_given p is r) is_made (by_given p' is' r') = given_once (inputs_in p) (asks_for p).words.given v w r (given_there p p' w (same_inputs p p' is is' is_made) r')
-  one_refusal v w (by_given p is r) is_made (by_certificate m' b' js' r') = absurd (given_check m' p v is r (sym (same_inputs p (by_tree m'.names) is (inr m'.task) is_made)))
+  one_refusal v w (by_given p is r) is_made (by_certificate m' b' js' r') = absurd (given_certificate m' p v is r (sym (same_inputs p (by_tree m'.names) is (inr (ap is_certificate m'.task)) is_made)))
   one_refusal v w (by_certificate m b js r) is_made (by_words none') = absurd (not_asked (asks_in m) none')
-  one_refusal v w (by_certificate m b js r) is_made (by_task u' read' nb') = absurd (not_unbuilt (asks_in m) u' read' nb')
   one_refusal v w (by_certificate m b js r) is_made (by_text s' other' r') = absurd (text_not s' w r' m.names.program)
   one_refusal v w (by_certificate m b js r) is_made (by_flat s' is' r') = absurd (one_form s'.asks (asks_in m) is' m.names.program.form)
   one_refusal v w (by_certificate m b js r) is_made (by_names t' other' r') = absurd (names_not t' w r' m.names)
   one_refusal v w (by_certificate m b js r) is_made (by_missing n' is' r') = absurd (cc (columns_or n' (asks_in m) task.Check is' m.task))
   one_refusal v w (by_certificate m b js r) is_made (by_judging n' is' r') = absurd (cc (one_task n'.program.source.asks (asks_in m) task.Cycles task.Check is' m.task))
-  one_refusal v w (by_certificate m b js r) is_made (by_given p' is' r') = absurd (given_check m p' w is' r' (same_inputs (by_tree m.names) p' (inr m.task) is' is_made))
+  one_refusal v w (by_certificate m b js r) is_made (by_given p' is' r') = absurd (given_certificate m p' w is' r' (same_inputs (by_tree m.names) p' (inr (ap is_certificate m.task)) is' is_made))
   one_refusal v w (by_certificate m b js r) is_made (by_certificate m' b' js' r') = l.one_certificate_refusal b v w r (subst (λ x. RefusesCertificate x w) (same_file m' m b' b js' js) r')
 
   -- a program that is run isn't refused, nor is one of which a text is written
   pub run_not_refused : (x : IsRun c) (v : Refusal) → Refuses c v → ((q : HasProgram c) → WantsInputs q → inputs_in x.program ≡ inputs_in q) → ⊥
   run_not_refused x v (by_words none) lists = not_asked (asks_for x.program) none
-  run_not_refused x v (by_task u read nb) lists = not_unbuilt (asks_for x.program) u read nb
   run_not_refused x v (by_text s other r) lists = text_program s v other r x.program
   run_not_refused x v (by_flat s is r) lists = flat_program s v is r x.program
   run_not_refused x v (by_names t other r) lists = names_program t v r x.program
   run_not_refused x v (by_missing n is r) lists = missing_program n v is r x.program (inl x.task)
   run_not_refused x v (by_judging n is r) lists = judging_or_run n x.program is (inl x.task)
   run_not_refused x v (by_given p is r) lists = given_fits (inputs_in x.program) (asks_for x.program).words.given v (given_there x.program p v (lists p is) r) x.fits
-  run_not_refused x v (by_certificate m b js r) lists = run_or_check x m
+  run_not_refused x v (by_certificate m b js r) lists = run_or_certificate x m refl
 
   pub text_not_refused : (x : IsWriting c) (v : Refusal) → Refuses c v → ⊥
   text_not_refused (prints q js) v (by_words none) = absurd (not_asked q.source.asks none)
-  text_not_refused (prints q js) v (by_task u read nb) = absurd (not_unbuilt q.source.asks u read nb)
   text_not_refused (prints q js) v (by_text s other r) = absurd (text_not s v r q)
   text_not_refused (prints q js) v (by_flat s is r) = absurd (one_form s.asks q.source.asks is q.form)
   text_not_refused (prints q js) v (by_names t other r) = absurd (other (ap task_of (same_words t.source.asks q.source.asks) ∙ js))
   text_not_refused (prints q js) v (by_missing n is r) = absurd (cc (columns_or n q.source.asks task.Print is js))
   text_not_refused (prints q js) v (by_judging n is r) = absurd (cc (one_task n.program.source.asks q.source.asks task.Cycles task.Print is js))
   text_not_refused (prints q js) v (by_given p is r) = other_task p q.source.asks task.Print is js refl
-  text_not_refused (prints q js) v (by_certificate m' b js' r) = check_or_text m' (prints q js)
+  text_not_refused (prints q js) v (by_certificate m' b js' r) = certificate_or_text m' refl (prints q js)
   text_not_refused (judges m js judged) v (by_words none) = absurd (not_asked m.program.source.asks none)
-  text_not_refused (judges m js judged) v (by_task u read nb) = absurd (not_unbuilt m.program.source.asks u read nb)
   text_not_refused (judges m js judged) v (by_text s other r) = absurd (text_not s v r m.program)
   text_not_refused (judges m js judged) v (by_flat s is r) = absurd (one_form s.asks m.program.source.asks is m.program.form)
   text_not_refused (judges m js judged) v (by_names t other r) = absurd (names_not t v r m)
   text_not_refused (judges m js judged) v (by_missing n is r) = absurd (cc (columns_or n m.program.source.asks task.Cycles is js))
   text_not_refused (judges m js judged) v (by_judging n is r) = absurd (judging_not m v judged n r)
   text_not_refused (judges m js judged) v (by_given p is r) = other_task p m.program.source.asks task.Cycles is js refl
-  text_not_refused (judges m js judged) v (by_certificate m' b js' r) = check_or_text m' (judges m js judged)
+  text_not_refused (judges m js judged) v (by_certificate m' b js' r) = certificate_or_text m' refl (judges m js judged)
   text_not_refused (flattens m js) v (by_words none) = absurd (not_asked m.program.source.asks none)
-  text_not_refused (flattens m js) v (by_task u read nb) = absurd (not_unbuilt m.program.source.asks u read nb)
   text_not_refused (flattens m js) v (by_text s other r) = absurd (text_not s v r m.program)
   text_not_refused (flattens m js) v (by_flat s is r) = absurd (one_form s.asks m.program.source.asks is m.program.form)
   text_not_refused (flattens m js) v (by_names t other r) = absurd (names_not t v r m)
   text_not_refused (flattens m js) v (by_missing n is r) = absurd (cc (columns_or n m.program.source.asks task.Flat is js))
   text_not_refused (flattens m js) v (by_judging n is r) = absurd (cc (one_task n.program.source.asks m.program.source.asks task.Cycles task.Flat is js))
   text_not_refused (flattens m js) v (by_given p is r) = other_task p m.program.source.asks task.Flat is js refl
-  text_not_refused (flattens m js) v (by_certificate m' b js' r) = check_or_text m' (flattens m js)
+  text_not_refused (flattens m js) v (by_certificate m' b js' r) = certificate_or_text m' refl (flattens m js)
 
   -- a call writes texts of one kind, of one tree
   pub same_text : (x y : IsWriting c) (text : List ℕ) → IsTextFor x text → IsTextFor y text
@@ -429,40 +423,48 @@ module _ (l : OneVerdict) (c : Call) (told : TellsFiles c) where
   -- nor is one that is run stopped by the refusal of a well-made tree
   pub run_not_stopped : (x : IsRun c) (v : Refusal) (a : Refuses c v) → IsOfMade a → ⊥
   run_not_stopped x v (by_words none) is_made = not_asked (asks_for x.program) none
-  run_not_stopped x v (by_task u read nb) is_made = not_unbuilt (asks_for x.program) u read nb
   run_not_stopped x v (by_text s other r) is_made = text_program s v other r x.program
   run_not_stopped x v (by_flat s is r) is_made = flat_program s v is r x.program
   run_not_stopped x v (by_names t other r) is_made = names_program t v r x.program
   run_not_stopped x v (by_missing n is r) is_made = missing_program n v is r x.program (inl x.task)
   run_not_stopped x v (by_judging n is r) is_made = judging_or_run n x.program is (inl x.task)
   run_not_stopped x v (by_given p is r) is_made = run_not_refused x v (by_given p is r) (λ q js. sym (same_inputs p x.program is (inl x.task) is_made) ∙ same_inputs p q is js is_made)
-  run_not_stopped x v (by_certificate m b js r) is_made = run_or_check x m
+  run_not_stopped x v (by_certificate m b js r) is_made = run_or_certificate x m refl
 
-  -- Where a certificate may be checked, nothing else than its file is refused; and in a check neither is that.
+  -- Where a certificate is made or may be checked, nothing else than the file of one is refused; and in a check neither is that.
   abbrev pub OfCertificate : {v : Refusal} → Refuses c v → Type 0
   OfCertificate (by_certificate m b js r) = Unit {0}
   OfCertificate r = ⊥
 
-  pub may_refused : (m : MayCheck c) (v : Refusal) (a : Refuses c v) → IsWellMade m.names.program.tree ⊎ IsOfMade a → OfCertificate a
-  may_refused m v (by_words none) well = absurd (not_asked (asks_in m) none)
-  may_refused m v (by_task u read nb) well = absurd (not_unbuilt (asks_in m) u read nb)
-  may_refused m v (by_text s other r) well = absurd (text_not s v r m.names.program)
-  may_refused m v (by_flat s is r) well = absurd (one_form s.asks (asks_in m) is m.names.program.form)
-  may_refused m v (by_names t other r) well = absurd (names_not t v r m.names)
-  may_refused m v (by_missing n is r) well = absurd (cc (columns_or n (asks_in m) task.Check is m.task))
-  may_refused m v (by_judging n is r) well = absurd (cc (one_task n.program.source.asks (asks_in m) task.Cycles task.Check is m.task))
-  may_refused m v (by_given p is r) (inl well) = absurd (given_check m p v is r (same_inputs (by_tree m.names) p (inr m.task) is well))
-  may_refused m v (by_given p is r) (inr well) = absurd (given_check m p v is r (sym (same_inputs p (by_tree m.names) is (inr m.task) well)))
-  may_refused m v (by_certificate m' b js r) well = tt
+  pub may_refused : {t : Task} (m : HasFiles c t) → is_certificate t ≡ true → (v : Refusal) (a : Refuses c v) → IsWellMade m.names.program.tree ⊎ IsOfMade a → OfCertificate a
+  may_refused m one v (by_words none) well = absurd (not_asked (asks_in m) none)
+  may_refused m one v (by_text s other r) well = absurd (text_not s v r m.names.program)
+  may_refused m one v (by_flat s is r) well = absurd (one_form s.asks (asks_in m) is m.names.program.form)
+  may_refused m one v (by_names t other r) well = absurd (names_not t v r m.names)
+  may_refused m one v (by_missing n is r) well = absurd (other_certificate m one n.program.source.asks task.Columns is refl)
+  may_refused m one v (by_judging n is r) well = absurd (other_certificate m one n.program.source.asks task.Cycles is refl)
+  may_refused m one v (by_given p is r) (inl well) = absurd (given_certificate m p v is r (same_inputs (by_tree m.names) p (inr (is_one m one)) is well))
+  may_refused m one v (by_given p is r) (inr well) = absurd (given_certificate m p v is r (sym (same_inputs p (by_tree m.names) is (inr (is_one m one)) well)))
+  may_refused m one v (by_certificate m' b js r) well = tt
 
   pub check_not_refused : (k : IsCheck c) (v : Refusal) (a : Refuses c v) → IsWellMade k.may.names.program.tree ⊎ IsOfMade a → ⊥
   check_not_refused k v (by_certificate m b js r) well =
       l.certificate_not_refused k.held.bytes k.why v k.held.holds (subst (λ x. RefusesCertificate x v) (same_file m k.may b k.held.bytes js k.held.is) r)
-  check_not_refused k v (by_words none) well = may_refused k.may v (by_words none) well
-  check_not_refused k v (by_task u read nb) well = may_refused k.may v (by_task u read nb) well
-  check_not_refused k v (by_text s other r) well = may_refused k.may v (by_text s other r) well
-  check_not_refused k v (by_flat s is r) well = may_refused k.may v (by_flat s is r) well
-  check_not_refused k v (by_names t other r) well = may_refused k.may v (by_names t other r) well
-  check_not_refused k v (by_missing n is r) well = may_refused k.may v (by_missing n is r) well
-  check_not_refused k v (by_judging n is r) well = may_refused k.may v (by_judging n is r) well
-  check_not_refused k v (by_given p is r) well = may_refused k.may v (by_given p is r) well
+  check_not_refused k v (by_words none) well = may_refused k.may refl v (by_words none) well
+  check_not_refused k v (by_text s other r) well = may_refused k.may refl v (by_text s other r) well
+  check_not_refused k v (by_flat s is r) well = may_refused k.may refl v (by_flat s is r) well
+  check_not_refused k v (by_names t other r) well = may_refused k.may refl v (by_names t other r) well
+  check_not_refused k v (by_missing n is r) well = may_refused k.may refl v (by_missing n is r) well
+  check_not_refused k v (by_judging n is r) well = may_refused k.may refl v (by_judging n is r) well
+  check_not_refused k v (by_given p is r) well = may_refused k.may refl v (by_given p is r) well
+
+  -- Where a certificate is made, nothing is refused.
+  pub making_not_refused : (m : IsMaking c) (v : Refusal) (a : Refuses c v) → IsWellMade m.names.program.tree ⊎ IsOfMade a → ⊥
+  making_not_refused m v (by_certificate m' b js r) well = made_or_checked m m'
+  making_not_refused m v (by_words none) well = may_refused m refl v (by_words none) well
+  making_not_refused m v (by_text s other r) well = may_refused m refl v (by_text s other r) well
+  making_not_refused m v (by_flat s is r) well = may_refused m refl v (by_flat s is r) well
+  making_not_refused m v (by_names t other r) well = may_refused m refl v (by_names t other r) well
+  making_not_refused m v (by_missing n is r) well = may_refused m refl v (by_missing n is r) well
+  making_not_refused m v (by_judging n is r) well = may_refused m refl v (by_judging n is r) well
+  making_not_refused m v (by_given p is r) well = may_refused m refl v (by_given p is r) well

@@ -1,13 +1,11 @@
 -- What a check of a certificate promises, as it is seen from outside.
-use Rattle.lucid_top.proofs.Common.{◌≡◌, ℕ, ◌+◌, ◌<◌, ◌≤◌, List, [], ◌∷◌, length, map, get_or, Option, Some, None, Ok, Err, ◌⊎◌, inl, inr, refl, sym, ap, subst, ◌∙◌, arith, true, false, zero, suc, IfSome, slice_get, unwrap_or, option_map, slice_get-map, slice_get_within, slice_get-get_or, World, Contents, all_bytes, Elements, Table, equations_of, IsOverlong, KeepsTree, PlainTree, tree_stream, PlainWords, Told, HasElements, RunView, Stop, Outcome, viewed, most_input_bytes, WritesOnly, Why, IsRight, contexts, Checks, ConsumesFor, ConsumesNothing, EndsSo, IsCheckStop, IsLast, IsLastLine, IsProvedLine, LiesPast, NoneTellsPast, IsStopped, Proves, TellsPast, looked_at}
+use Rattle.lucid_top.proofs.Common.{◌≡◌, ℕ, ◌+◌, ◌<◌, ◌≤◌, List, [], ◌∷◌, length, map, get_or, Option, Some, None, Ok, Err, ◌⊎◌, inl, inr, refl, sym, ap, subst, ◌∙◌, arith, zero, suc, IfSome, slice_get, option_map, slice_get_within, slice_get-get_or, World, all_bytes, Elements, Table, equations_of, IsOverlong, KeepsTree, PlainTree, tree_stream, PlainWords, Told, HasElements, RunView, Stop, Outcome, viewed, most_input_bytes, WritesOnly, Why, IsRight, contexts, Checks, ConsumesFor, ConsumesNothing, EndsSo, IsCheckStop, IsLast, IsLastLine, IsProvedLine, LiesPast, NoneTellsPast, IsStopped, Proves, TellsPast, looked_at}
 use Rattle.std.proofs.Common.{Result}
 use Rattle.std.proofs.lemmas.Option.{get_or_from_slice_get}
 use Rattle.lucid_value.specs.Lines.{end_of_line}
-use Rattle.lucid_store.specs.Entries.{empty_warehouse}
-use Rattle.lucid_search.specs.Noted.{nothing_noted}
 use Rattle.lucid_inputs.specs.Inputs.{streams, stream_at, most_bytes}
 use Rattle.lucid_inputs.specs.Laws.{KeepsWithin}
-use Rattle.lucid_inputs.specs.Streams.{Stream, Fits, fresh_stream}
+use Rattle.lucid_inputs.specs.Streams.{Stream, fresh_stream}
 use Rattle.lucid_inputs.specs.declared.on_demand.Inputs.{Inputs}
 use Rattle.lucid_equations.specs.Ranges.{IsInRange, NodeNames, sizes}
 use Rattle.lucid_equations.specs.Rows.{row_at, node_at}
@@ -16,7 +14,6 @@ use Rattle.lucid_equations.specs.declared.rows.Node.TheVariants.{Input}
 use Rattle.lucid_equations.specs.declared.rows.NodeRow.{NodeRow}
 use Rattle.lucid_equations.proofs.Rising.{node-in_range}
 use Rattle.lucid_facts.specs.Elements.{elements_read}
-use Rattle.lucid_facts.specs.Engine.{EngineView, ReadsOnly, places_of}
 use Rattle.lucid_why.specs.Certificates.{PlainJudgment}
 use Rattle.lucid_follow.specs.Meant.{WhatFollowsIsMeant}
 use Rattle.lucid_check.specs.Checked.{Checked, MayBe}
@@ -25,14 +22,13 @@ use Rattle.lucid_check.specs.Reads.{TellsElement, DrawsFor, OnTooLarge}
 use Rattle.lucid_check.specs.Reads as check_reads
 use Rattle.lucid_check.specs.declared.fault.CheckFault.{CheckFault}
 use Rattle.lucid_check.specs.declared.fault.CheckFault.TheVariants as fault
-use Rattle.lucid_session.specs.Moments.{Start}
 use Rattle.lucid_session.specs.Runs.{IsInput, ReadsWithin}
 use Rattle.lucid_session.specs.Subject.{OneStream, StreamMeans, table_stream}
-use Rattle.lucid_session.proofs.Told.{may_have, tells_too, stream_at as stream_of_place}
+use Rattle.lucid_session.proofs.Told.{tells_too}
 use Rattle.lucid_top.specs.declared.stop.Done.TheVariants as done
 use Rattle.lucid_top.specs.declared.stop.Stop.TheVariants as stop
-use Rattle.lucid_top.proofs.Asking.{places_are}
 use Rattle.lucid_top.proofs.Ending.{as_text}
+use Rattle.lucid_top.proofs.Unread.{ReadOn, of_told, reads, was_there, was_at, is_at, fits_at, may_be as may_read, stays_within}
 use Rattle.lucid_top.proofs.Views.{TellAlike}
 
 -- the times and the uses of judgments together
@@ -88,11 +84,6 @@ input_there T range id k row = by (slice_get T.nodes id) refl row
         let node : (get_or T.nodes id r).node ≡ Input k = ap (λ (x : NodeRow). x.node) (get_or_from_slice_get T.nodes id r r at) ∙ cc is in
         subst (NodeNames (sizes T)) node names
 
--- what is said of contents that are told
-of_told : (P : Contents → Type 0) (o : Option Contents) (c : Contents) → IfSome o P → o ≡ Some c → P c
-of_told P None c h is = absurd (cc is)
-of_told P (Some d) c h is = let same : d ≡ c = cc is in subst P same h
-
 -- A check of a table over inputs of which nothing was read, at these places.
 module _ (T : Table) (range : IsInRange T) (w : Why) (names : List (List ℕ)) (qs : List ℕ) (old new : Inputs) (before after : World) (o p : Told) (named : names ≡ T.inputs)
     (count : length qs ≡ length names) (fresh : streams old ≡ map fresh_stream qs) (most : most_bytes old ≡ most_input_bytes) (result : Result (Unit {0}) CheckFault)
@@ -100,56 +91,11 @@ module _ (T : Table) (range : IsInRange T) (w : Why) (names : List (List ℕ)) (
   abbrev r : RunView
   r = viewed words names qs before after o p
 
-  were : places_of (streams old) ≡ qs
-  were = places_are (streams old) qs fresh
-
-  are : places_of (streams new) ≡ qs
-  are = x.looked.places ∙ were
-
-  reads : ReadsOnly qs before after
-  reads = subst (λ ps. ReadsOnly ps before after) were x.looked.reads_only
-
-  -- the stream of an input, before and after
-  was_at : (k q : ℕ) → slice_get qs k ≡ Some q → stream_at old k ≡ fresh_stream q
-  was_at k q at =
-      ap (λ (l : List Stream). unwrap_or (slice_get l k) (fresh_stream 0)) fresh
-      ∙ ap (λ s. unwrap_or s (fresh_stream 0)) (slice_get-map fresh_stream qs k ∙ ap (option_map fresh_stream) at)
-
-  is_at : (k q : ℕ) → slice_get qs k ≡ Some q → (s : Stream) × (slice_get (streams new) k ≡ Some s) × (s.place ≡ q) × (stream_at new k ≡ s)
-  is_at k q at =
-      let s = stream_of_place (streams new) k q (ap (λ ps. slice_get ps k) are ∙ at) in
-      (s.0, s.1, s.2, ap (λ y. unwrap_or y (fresh_stream 0)) s.1)
-
-  -- the elements of the inputs are among those that there may be
-  abbrev start : Start
-  start = record {
-    table = T;
-    columns = 0;
-    count = 0;
-    depth = 0;
-    most = most_input_bytes;
-    policy = record { keeps = true; empties = false; room = None };
-    places = qs;
-    before = before;
-    out_before = o;
-  }
-
-  abbrev engine : EngineView
-  engine = record {
-    table = T;
-    known = [];
-    stored = empty_warehouse;
-    noted = nothing_noted;
-    streams = streams new;
-    most = most_input_bytes;
-    keeps = true;
-    empties = false;
-    room = None;
-  }
+  abbrev on : ReadOn qs old new before after
+  on = record { fresh = fresh; bound = most; places = x.looked.places; most = x.looked.most; askable = x.looked.askable; reads_only = x.looked.reads_only }
 
   may_be : (b : Elements) → HasElements r b → MayBe T new b
-  may_be b has =
-      may_have start b engine after refl (subst (λ ns. HasElements (viewed words ns qs before after o p) b) named has) are reads x.looked.askable
+  may_be = may_read on T names o p words named
 
   -- what lies past what may be read did so for the check, and the other way round
   lies_past : (b : Elements) → HasElements r b → (k j n : ℕ) → TellsElement T (contexts w) w.judgments n k j → check_reads.LiesPast old before k j → LiesPast r k j
@@ -159,7 +105,7 @@ module _ (T : Table) (range : IsInRange T) (w : Why) (names : List (List ℕ)) (
       let q : ℕ = get_or qs k 0 in
       let is : IsInput r k name q = (slice_get-get_or names k [] lt, slice_get-get_or qs k 0 (omega (arith, lt, count))) in
       let told = has k name q is in
-      let place : (stream_at old k).place ≡ q = ap (λ (s : Stream). s.place) (was_at k q is.1) in
+      let place : (stream_at old k).place ≡ q = ap (λ (s : Stream). s.place) (was_at on k q is.1) in
       let over : IsOverlong (all_bytes told.0) j (most_bytes old) =
       of_told _ (before.place q).contents told.0 (subst (λ y. IfSome (before.place y).contents (λ c. IsOverlong (all_bytes c) j (most_bytes old))) place lies) told.1 in
       (name, q, told.0, is, told.1, subst (IsOverlong (all_bytes told.0) j) most over)
@@ -167,7 +113,7 @@ module _ (T : Table) (range : IsInRange T) (w : Why) (names : List (List ℕ)) (
   lies_within : (k j : ℕ) → check_reads.LiesWithin old before k j → LiesPast r k j → ⊥
   lies_within k j lies y =
       let q : ℕ = y.1 in
-      let place : (stream_at old k).place ≡ q = ap (λ (s : Stream). s.place) (was_at k q y.3.1) in
+      let place : (stream_at old k).place ≡ q = ap (λ (s : Stream). s.place) (was_at on k q y.3.1) in
       of_told _ (before.place q).contents y.2 (subst (λ z. IfSome (before.place z).contents (λ c. IsOverlong (all_bytes c) j (most_bytes old) → ⊥)) place lies) y.4
       (subst (IsOverlong (all_bytes y.2) j) (sym most) y.5)
 
@@ -177,13 +123,13 @@ module _ (T : Table) (range : IsInRange T) (w : Why) (names : List (List ℕ)) (
   -- what is consumed
   consumes : (n : ℕ) → DrawsFor T (contexts w) w.judgments n old new after → ConsumesFor T w r n
   consumes n draws k name q is was now first last =
-      let s = is_at k q is.1 in
-      let lt : k < length (streams old) = slice_get_within (streams old) k (fresh_stream q) (ap (λ (l : List Stream). slice_get l k) fresh ∙ slice_get-map fresh_stream qs k ∙ ap (option_map fresh_stream) is.1) in
+      let s = is_at on k q is.1 in
+      let lt : k < length (streams old) = slice_get_within (streams old) k (fresh_stream q) (was_there on k q is.1) in
       let here : (after.place s.0.place).contents ≡ Some now = ap (λ y. (after.place y).contents) s.2 ∙ last in
-      let fits : Fits s.0 now = of_told _ (after.place s.0.place).contents now (x.looked.askable k s.0 s.1).1 here in
+      let fits = fits_at on k q is.1 now last in
       let read = fits.consumed in
-      let none : (stream_at old k).consumed ≡ 0 = ap (λ (y : Stream). y.consumed) (was_at k q is.1) in
-      let later = tells_too (before.place q).contents (after.place q).contents was (reads.bytes q) first in
+      let none : (stream_at old k).consumed ≡ 0 = ap (λ (y : Stream). y.consumed) (was_at on k q is.1) in
+      let later = tells_too (before.place q).contents (after.place q).contents was ((reads on).bytes q) first in
       let one : later.0 ≡ now = let a = later.1 in cc (a, last) in
       let bytes : all_bytes now ≡ all_bytes was = ap all_bytes (sym one) ∙ later.2 in
       let drawn = of_told _ (after.place s.0.place).contents now
@@ -195,13 +141,7 @@ module _ (T : Table) (range : IsInRange T) (w : Why) (names : List (List ℕ)) (
       ]
 
   within : KeepsWithin → ReadsWithin r
-  within keeps k name q is was now first last =
-      let s = is_at k q is.1 in
-      let here : (after.place s.0.place).contents ≡ Some now = ap (λ y. (after.place y).contents) s.2 ∙ last in
-      let fits : Fits s.0 now = of_told _ (after.place s.0.place).contents now (x.looked.askable k s.0 s.1).1 here in
-      let read = fits.consumed in
-      let few : s.0.consumed ≤ most_bytes new = subst (λ (y : Stream). y.consumed ≤ most_bytes new) s.3 (keeps new k).0 in
-      let same = x.looked.most in inr (omega (arith, few, read, same, most))
+  within = stays_within on T names o p words
 
 -- the certificate is right, and its line is written
 module _ (meant : WhatFollowsIsMeant) (keeps : KeepsWithin) (T : Table) (range : IsInRange T) (w : Why) (names : List (List ℕ)) (qs : List ℕ) (old new : Inputs) (before after : World) (o p : Told)

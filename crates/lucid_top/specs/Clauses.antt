@@ -13,14 +13,15 @@ use Rattle.lucid_top.specs.declared.stop.Done.TheVariants as done
 use Rattle.lucid_top.specs.declared.stop.Stop.TheVariants as stop
 use Rattle.lucid_top.specs.Status.{Outcome}
 use Rattle.lucid_top.specs.Call.{Call}
-use Rattle.lucid_top.specs.Tasks.{task_of, form_of, is_built, wants_figures}
+use Rattle.lucid_top.specs.Tasks.{task_of, form_of, time_asked, wants_figures}
 use Rattle.lucid_top.specs.Telling.{Tells}
 use Rattle.lucid_top.specs.Writing.{WritesSome, WritesSomeFront}
 use Rattle.lucid_top.specs.Sources.{IsTold, first_place}
-use Rattle.lucid_top.specs.Stages.{Asks, IsWriting, IsTextFor, IsRun, IsCheck, Refuses, by_certificate}
+use Rattle.lucid_top.specs.Stages.{Asks, IsWriting, IsTextFor, IsRun, IsMaking, IsCheck, Refuses, by_certificate}
 use Rattle.lucid_top.specs.Places.{CountsNoRead, CountsNoWrite, ReadsSource, ReadsCertificate, most_read}
-use Rattle.lucid_top.specs.Runs.{most_places, first_input, run_places, run_of, check_of, view_of, RanSo}
+use Rattle.lucid_top.specs.Runs.{most_places, first_input, run_places, run_of, certificate_of, view_of, RanSo}
 use Rattle.lucid_top.specs.Checks.{ChecksTree}
+use Rattle.lucid_top.specs.Makes.{MakesTree}
 use Rattle.lucid_top.specs.Running.{HoldsWithin}
 
 -- a call on the places failed
@@ -43,13 +44,15 @@ TellsFiles c = (a : Asks c) → IsTold a.words.source c.before × (task_of a.wor
 abbrev pub ComesOnly : Call → Outcome → Type 0
 ComesOnly c (Ok (done.Ran summary stats)) =
     (r : IsRun c) × (stats ≡ wants_figures (run_of r).words) × HoldsWithin (run_of r).words summary.held
-ComesOnly c (Ok done.Written) = IsWriting c ⊎ IsCheck c
+ComesOnly c (Ok done.Written) = IsWriting c ⊎ (IsCheck c ⊎ IsMaking c)
 ComesOnly c (Err (stop.Refused why)) = Refuses c why × WritesNothing c
 ComesOnly c (Err stop.ReadFault) = ReadFails c
 ComesOnly c (Err stop.WriteFault) = WriteFails c
-ComesOnly c (Err (stop.TooDeep time lost cleared stats)) = (r : IsRun c) × (stats ≡ wants_figures (run_of r).words)
+ComesOnly c (Err (stop.TooDeep time lost cleared stats)) =
+    ((r : IsRun c) × (stats ≡ wants_figures (run_of r).words)) ⊎ ((m : IsMaking c) × (time ≡ time_asked (certificate_of m).words) × (stats ≡ false) × WritesNothing c)
 ComesOnly c (Err (stop.TooLarge stream name)) =
-    ((r : IsRun c) × (slice_get (run_of r).inputs stream ≡ Some name)) ⊎ ((k : IsCheck c) × (slice_get k.may.names.free stream ≡ Some name))
+    ((r : IsRun c) × (slice_get (run_of r).inputs stream ≡ Some name))
+    ⊎ (((k : IsCheck c) × (slice_get k.may.names.free stream ≡ Some name)) ⊎ ((m : IsMaking c) × (slice_get m.names.free stream ≡ Some name)))
 ComesOnly c (Err (stop.Wrong judgment)) = IsCheck c × WritesNothing c
 ComesOnly c (Err stop.NoMemory) = Unit {0}
 
@@ -57,11 +60,9 @@ ComesOnly c (Err stop.NoMemory) = Unit {0}
 abbrev pub IsRefusedSo : Outcome → Refusal → Type 0
 IsRefusedSo o why = (o ≡ Err (stop.Refused why)) ⊎ (o ≡ Err stop.NoMemory)
 
--- A refusal comes wherever it is the first: those by the words alone at once; any other where the source is told and no call on the
--- places fails.
+-- A refusal comes wherever it is the first: that of the words at once; any other where the source is told and no call on the places fails.
 pub record RefusedWhere (c : Call) (o : Outcome) : Type 0 where
   pub usage : c.asked ≡ None → IsRefusedSo o refusal.Usage
-  pub not_built : (w : PlainWords) → c.asked ≡ Some w → is_built (task_of w) (form_of w) ≡ false → IsRefusedSo o refusal.NotBuilt
   pub first : (why : Refusal) → Refuses c why → TellsFiles c → (ReadFails c → ⊥) → IsRefusedSo o why
   -- However such a call ends, it writes nothing.
   pub silent : (why : Refusal) → Refuses c why → TellsFiles c → WritesNothing c
@@ -80,8 +81,14 @@ ConsumesNothing r = (k : ℕ) (n : List ℕ) (q : ℕ) → IsInput r k n q → (
 
 -- How a check ends: by the certificate; or a call on the places failed before, which is told, or there was no memory.
 pub data EndsCheck {c : Call} (k : IsCheck c) (o : Outcome) : Type 0 where
-  by_checking : ChecksTree k.may.names.program.tree k.why (view_of c (check_of k.may)) o → EndsCheck k o
-  before_checking : (o ≡ Err stop.ReadFault) ⊎ (o ≡ Err stop.NoMemory) → WritesNothing c → ConsumesNothing (view_of c (check_of k.may)) → EndsCheck k o
+  by_checking : ChecksTree k.may.names.program.tree k.why (view_of c (certificate_of k.may)) o → EndsCheck k o
+  before_checking : (o ≡ Err stop.ReadFault) ⊎ (o ≡ Err stop.NoMemory) → WritesNothing c → ConsumesNothing (view_of c (certificate_of k.may)) → EndsCheck k o
+
+-- How the making of a certificate ends: at the time that is asked for; or a call on the places failed before, which is told, or there was
+-- no memory.
+pub data EndsMaking {c : Call} (m : IsMaking c) (o : Outcome) : Type 0 where
+  by_making : MakesTree m.names.program.tree (view_of c (certificate_of m)) (time_asked (certificate_of m).words) o → EndsMaking m o
+  before_making : (o ≡ Err stop.ReadFault) ⊎ (o ≡ Err stop.NoMemory) → WritesNothing c → ConsumesNothing (view_of c (certificate_of m)) → EndsMaking m o
 
 -- A read fault and a write fault come wherever a call failed: a count of faults is as it was, unless the outcome is that fault.
 pub record TellsFaults (c : Call) (o : Outcome) : Type 0 where
@@ -101,15 +108,16 @@ abbrev pub places_before : {c : Call} {why : Refusal} → PlainWords → Refuses
 places_before w (by_certificate m bytes is refused) = first_input w
 places_before w r = first_place w.source
 
--- How many places are reached: none where the words are refused or don't ask for what is built; that of the source alone where the call is
--- refused or writes a text, and of a certificate that is refused; in a run or a check those and one for each input, so that no input is read
+-- How many places are reached: none where the words are refused; that of the source alone where the call is refused or writes a text, and of a
+-- certificate that is refused; in a run, a check or a making of a certificate those and one for each input, so that no input is read
 -- through a second place, and all of them before the program is evaluated.
 pub record ReachesOnly (c : Call) (o : Outcome) : Type 0 where
   pub unasked : (Asks c → ⊥) → c.after.reached ≡ 0
   pub refused : (a : Asks c) (why : Refusal) (r : Refuses c why) → TellsFiles c → c.after.reached ≤ places_before a.words r
   pub written : (a : Asks c) → IsWriting c → TellsFiles c → c.after.reached ≤ first_place a.words.source
   pub run : (r : IsRun c) → TellsFiles c → c.after.reached ≤ run_places (run_of r)
-  pub checked : (k : IsCheck c) → TellsFiles c → c.after.reached ≤ run_places (check_of k.may)
+  pub checked : (k : IsCheck c) → TellsFiles c → c.after.reached ≤ run_places (certificate_of k.may)
+  pub made : (m : IsMaking c) → TellsFiles c → c.after.reached ≤ run_places (certificate_of m)
   pub evaluated : (r : IsRun c) → TellsFiles c → IsEvaluated o → c.after.reached ≡ run_places (run_of r)
 
 -- The clauses, of a call, what its report tells before and after, and its status. They are said of one outcome, of which the status and
@@ -121,8 +129,8 @@ pub record MeetsClauses (c : Call) (report_before report_after : Told) (s : Stat
   pub comes_only : ComesOnly c outcome
   pub tells_faults : TellsFaults c outcome
   pub refused_where : RefusedWhere c outcome
-  -- Nothing is written but by a run or a check, or where a text is asked for.
-  pub silent : WritesNothing c ⊎ (IsRun c ⊎ (IsWriting c ⊎ IsCheck c))
+  -- Nothing is written but by a run or a check, or where a text or a certificate is asked for.
+  pub silent : WritesNothing c ⊎ (IsRun c ⊎ (IsWriting c ⊎ (IsCheck c ⊎ IsMaking c)))
   -- The headline: a program that is accepted is run, be it a tree, columns of it or a table. What is written are the values of its least fixed point, in order and without gaps.
   pub headline : (r : IsRun c) → TellsFiles c → RanSo (run_of r).program (view_of c (run_of r)) outcome
   -- Where a text is asked for, of the tree that the source spells, that text is written.
@@ -130,6 +138,8 @@ pub record MeetsClauses (c : Call) (report_before report_after : Told) (s : Stat
   -- Where a certificate is checked, its value and time are written only where it is right, and so only what the program has; and it is refused
   -- only where it is wrong.
   pub checked : (k : IsCheck c) → TellsFiles c → EndsCheck k outcome
+  -- Where a certificate is asked for, what is written is the text of one that proves the value at the time.
+  pub made : (m : IsMaking c) → TellsFiles c → EndsMaking m outcome
   -- Only what the stages of the call need is reached, and never more places than a source and its inputs can need.
   pub reaches : ReachesOnly c outcome
   -- Of the source's file no more is consumed than one byte more than a source may have.

@@ -1,26 +1,28 @@
 -- How a call comes to its outcome, as its parts say it.
-use Rattle.std.specs.Prelude.{◌≡◌, ℕ, ◌<◌, ◌≤◌, ◌⊎◌, true, [], length, Some, Err}
+use Rattle.std.specs.Prelude.{◌≡◌, ◌≢◌, ℕ, ◌<◌, ◌≤◌, ◌⊎◌, ◌-◌, ◌^◌, [], length, Some, Err}
 use Rattle.lucid_ports.specs.World.{World, Contents}
 use Rattle.lucid_tree.specs.WellMade.{IsWellMade}
 use Rattle.lucid_ports.specs.Limits.{most_asked}
 use Rattle.lucid_words.specs.declared.Words.{Words}
 use Rattle.lucid_words.specs.Asked.{PlainWords, plain_words}
-use Rattle.lucid_words.specs.Numbers.{IsFromTo, MadeIsFromTo}
+use Rattle.lucid_words.specs.Numbers.{IsFromTo, IsFromToIfGiven, MadeIsFromTo}
 use Rattle.lucid_top.specs.declared.task.Task.{Task}
 use Rattle.lucid_top.specs.declared.refusal.Refusal.{Refusal}
 use Rattle.lucid_top.specs.declared.stop.Stop.TheVariants as stop
 use Rattle.lucid_equations.specs.declared.table.Table.{Table}
 use Rattle.lucid_session.specs.Runs.{RunView}
 use Rattle.lucid_top.specs.Status.{Outcome}
-use Rattle.lucid_top.specs.Tasks.{task_of, form_of, is_built}
+use Rattle.lucid_top.specs.Tasks.{task_of, form_of, time_asked}
 use Rattle.lucid_top.specs.Programs.{beside}
 use Rattle.lucid_top.specs.Places.{KeepsNames, CountsNoRead, CountsNoWrite, ReadsSource, ReadsCertificate, most_read}
 use Rattle.lucid_top.specs.Sources.{first_place}
 use Rattle.lucid_top.specs.Checks.{IsTableOf, ChecksTree}
+use Rattle.lucid_top.specs.Makes.{MakesTree}
+use Rattle.lucid_top.specs.declared.task.Form.TheVariants as form
 use Rattle.lucid_top.specs.declared.task.Task.TheVariants as task
 use Rattle.lucid_top.specs.Call.{Call}
-use Rattle.lucid_top.specs.Stages.{Asks, IsWriting, IsTextFor, HasProgram, by_tree, by_columns, by_table, columns_named, task_for, program_in, inputs_in, IsRun, MayCheck, IsCheck, HasNames, Refuses, by_words, by_task, by_text, by_flat, by_names, by_missing, by_judging, by_given, by_certificate}
-use Rattle.lucid_top.specs.Runs.{most_places, first_input, run_places, run_of, check_of, view_of, table_program, RanSo}
+use Rattle.lucid_top.specs.Stages.{Asks, IsWriting, IsTextFor, HasProgram, by_tree, by_columns, by_table, columns_named, task_for, program_in, inputs_in, IsRun, IsMaking, MayCheck, IsCheck, HasNames, Refuses, by_words, by_text, by_flat, by_names, by_missing, by_judging, by_given, by_certificate}
+use Rattle.lucid_top.specs.Runs.{most_places, first_input, run_places, run_of, certificate_of, view_of, table_program, RanSo}
 use Rattle.lucid_top.specs.Clauses.{WritesNothing, ComesOnly, Writes}
 
 -- The tree of a program that is run is well made.
@@ -29,14 +31,16 @@ IsMade (by_tree n) = IsWellMade n.program.tree
 IsMade (by_columns h) = IsWellMade (beside h.names.program.tree (columns_named h.names))
 IsMade (by_table f) = Unit {0}
 
--- No place is reached; or, where the words ask for what is built, at most that of the source; or, in a run, at most those of the source and
--- the inputs; or, of a tree for which a certificate may be checked, at most that of its file too, and in a check those of the inputs too.
+-- No place is reached; or, where the words are read, at most that of the source; or, in a run or where a certificate is made, at most those
+-- of the source and the inputs; or, of a tree for which a certificate may be checked, at most that of its file too, and in a check those of
+-- the inputs too.
 pub data Reaches (c : Call) : Type 0 where
   reaches_nothing : c.after.reached ≡ 0 → Reaches c
   reaches_source : (a : Asks c) → c.after.reached ≤ first_place a.words.source → Reaches c
   reaches_inputs : (r : IsRun c) → IsMade r.program → c.after.reached ≤ run_places (run_of r) → Reaches c
   reaches_certificate : (m : MayCheck c) → IsWellMade m.names.program.tree → c.after.reached ≤ first_input m.names.program.source.asks.words → Reaches c
-  reaches_checked : (k : IsCheck c) → IsWellMade k.may.names.program.tree → c.after.reached ≤ run_places (check_of k.may) → Reaches c
+  reaches_checked : (k : IsCheck c) → IsWellMade k.may.names.program.tree → c.after.reached ≤ run_places (certificate_of k.may) → Reaches c
+  reaches_made : (m : IsMaking c) → IsWellMade m.names.program.tree → c.after.reached ≤ run_places (certificate_of m) → Reaches c
 
 -- Little is reached, nothing is written, and of no input is anything consumed.
 pub record Rests (c : Call) : Type 0 where
@@ -48,7 +52,6 @@ pub record Rests (c : Call) : Type 0 where
 -- The tree of a refusal that comes after it was read is well made.
 abbrev pub IsOfMade : {c : Call} {why : Refusal} → Refuses c why → Type 0
 IsOfMade (by_words none) = Unit {0}
-IsOfMade (by_task w asked not_built) = Unit {0}
 IsOfMade (by_text s form refused) = Unit {0}
 IsOfMade (by_flat s form refused) = Unit {0}
 IsOfMade (by_names t task refused) = IsWellMade t.tree
@@ -57,14 +60,14 @@ IsOfMade (by_judging n task refused) = IsWellMade n.program.tree
 IsOfMade (by_given p task refused) = IsMade p
 IsOfMade (by_certificate m bytes is refused) = IsWellMade m.names.program.tree
 
--- What stops a call before a run or a text begins. Nothing is read where the words don't ask for what is built.
+-- What stops a call before a run or a text begins. Nothing is read where the words are refused.
 abbrev pub StopsEarly : Call → Outcome → Type 0
 StopsEarly c (Err (stop.Refused why)) = (r : Refuses c why) × IsOfMade r
 StopsEarly c (Err stop.ReadFault) = Asks c
 StopsEarly c (Err stop.NoMemory) = Unit {0}
 StopsEarly c _ = ⊥
 
--- A run, whose inputs are all reached; or a text, for which the source alone is; or a check, whose inputs are all reached.
+-- A run, whose inputs are all reached; or a text, for which the source alone is; or a check or a certificate, whose inputs are all reached.
 abbrev pub EndsRun : Call → Outcome → Type 0
 EndsRun c o = (r : IsRun c) × IsMade r.program × RanSo (run_of r).program (view_of c (run_of r)) o × (c.after.reached ≡ run_places (run_of r))
 
@@ -73,21 +76,27 @@ EndsWriting c o = (x : IsWriting c) × Writes c o (IsTextFor x) × ((a : Asks c)
 
 abbrev pub Checked : Call → Outcome → Type 0
 Checked c o =
-    (k : IsCheck c) × IsWellMade k.may.names.program.tree × ChecksTree k.may.names.program.tree k.why (view_of c (check_of k.may)) o
-    × (c.after.reached ≡ run_places (check_of k.may))
+    (k : IsCheck c) × IsWellMade k.may.names.program.tree × ChecksTree k.may.names.program.tree k.why (view_of c (certificate_of k.may)) o
+    × (c.after.reached ≡ run_places (certificate_of k.may))
+
+abbrev pub Made : Call → Outcome → Type 0
+Made c o =
+    (m : IsMaking c) × IsWellMade m.names.program.tree × MakesTree m.names.program.tree (view_of c (certificate_of m)) (time_asked (certificate_of m).words) o
+    × (c.after.reached ≡ run_places (certificate_of m))
 
 pub record Comes (c : Call) (o : Outcome) : Type 0 where
   pub only : ComesOnly c o
-  pub how : (StopsEarly c o × Rests c) ⊎ (EndsRun c o ⊎ (EndsWriting c o ⊎ Checked c o))
+  pub how : (StopsEarly c o × Rests c) ⊎ (EndsRun c o ⊎ (EndsWriting c o ⊎ (Checked c o ⊎ Made c o)))
   pub few_places : c.after.reached ≤ most_places
 
--- What the words ask for may begin: they were read, they ask for this, which is built, and no place is reached yet.
+-- What the words ask for may begin: they were read, they ask for this, of a text where it is no run, and no place is reached yet.
 pub record MayBegin (words : Words) (t : Task) (v : World) : Type 0 where
   pub made : MadeIsFromTo 1 10000 words.source
   pub room : IsFromTo 1 most_asked words.room
   pub columns : length (plain_words words).columns ≤ 16
+  pub text : t ≢ task.Run → form_of (plain_words words) ≢ form.Flat
+  pub time : IsFromToIfGiven 0 (2 ^ 63 - 1) words.why
   pub task : task_of (plain_words words) ≡ t
-  pub built : is_built (task_of (plain_words words)) (form_of (plain_words words)) ≡ true
   pub none : v.reached ≡ 0
 
 -- What a call does: it comes to its outcome, counts no fault but that of its outcome, and of its source and of a certificate reads no more
@@ -111,12 +120,12 @@ pub record RunsTable (c : Call) (w : PlainWords) (t : Table) (v : World) : Type 
   pub kept : KeepsNames c.before v
   pub first : v.reached ≡ first_place w.source
 
--- A call is about to check a certificate by a table, its source being read: it has a tree that the table keeps, with the table's inputs, and its
--- words ask for that.
-pub record ChecksTable (c : Call) (w : PlainWords) (t : Table) (v : World) : Type 0 where
+-- A call is about to make or to check a certificate by a table, its source being read: it has a tree that the table keeps, with the table's
+-- inputs, and its words ask for that.
+pub record ProvesTable (c : Call) (k : Task) (w : PlainWords) (t : Table) (v : World) : Type 0 where
   pub read : c.asked ≡ Some w
   pub names : HasNames c
-  pub task : task_of w ≡ task.Check
+  pub task : task_of w ≡ k
   pub made : IsWellMade names.program.tree
   pub table : IsTableOf names.program.tree names.free t
   pub kept : KeepsNames c.before v

@@ -26,6 +26,7 @@ use Rattle.lucid_top.specs.Tasks.{task_of}
 use Rattle.lucid_top.specs.Files.{FitsGiven, file_given}
 use Rattle.lucid_top.specs.Judged.{Spelt, HasInputs}
 use Rattle.lucid_top.specs.Runs.{most_input_bytes}
+use Rattle.lucid_top.specs.Makes.{ForSomeAdded}
 use Rattle.lucid_top.specs.Clauses.{ReadFails, WriteFails, MeetsClauses}
 
 -- A call that asks for a run of a program in source form, of which all is told: the words; the bytes of the source and the tree that they
@@ -69,10 +70,6 @@ pub data Lines {c : Call} (r : RunsProgram c) : (k : ℕ) → (bytes : List ℕ)
 -- its choices are those of the approximation that is greater by the added number.
 abbrev pub IsConsulted : {c : Call} → RunsProgram c → (whole added : ℕ) → (input : List ℕ) → (index : ℕ) → Type 0
 IsConsulted r whole d n j = (t : ℕ) × (t < r.words.count) × (t ≤ whole) × In (n, j) (consults (elements r) r.words.depth d r.program empty t 0)
-
--- so it is for each added number from some on
-abbrev pub ForSomeAdded : (ℕ → Type 0) → Type 0
-ForSomeAdded P = (a : ℕ) × ((d : ℕ) → a ≤ d → P d)
 
 -- an element that is consulted lies past the bytes of its input that may be read
 abbrev pub ConsultsOverlong : {c : Call} → RunsProgram c → (whole : ℕ) → Type 0

@@ -24,7 +24,6 @@ usage_line =
 
 abbrev pub refusal_line : Refusal → List ℕ
 refusal_line refusal.Usage = usage_line
-refusal_line refusal.NotBuilt = codes "not built yet\n"
 refusal_line refusal.TooLong = codes "source too long\n"
 refusal_line (refusal.BadByte at) = line_at (codes "bad byte at ") at
 refusal_line (refusal.OpenText at) = line_at (codes "open text at ") at

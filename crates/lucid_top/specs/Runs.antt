@@ -24,7 +24,7 @@ use Rattle.lucid_top.specs.declared.task.Task.{Task}
 use Rattle.lucid_top.specs.declared.task.Task.TheVariants as task
 use Rattle.lucid_top.specs.Tasks.{task_of}
 use Rattle.lucid_top.specs.Sources.{first_place}
-use Rattle.lucid_top.specs.Stages.{asks_for, program_in, inputs_in, IsRun, MayCheck}
+use Rattle.lucid_top.specs.Stages.{asks_for, program_in, inputs_in, IsRun, HasFiles}
 use Rattle.lucid_top.specs.Files.{files_for}
 
 -- how many places a call reaches at most: those of the source and of a certificate, and one for each input, of which there are no more than
@@ -64,7 +64,7 @@ certificate_places t = 0
 abbrev pub first_input : PlainWords → ℕ
 first_input w = first_place w.source + certificate_places (task_of w)
 
--- A run that is asked for, or a check: the words, the program and the names of its inputs.
+-- A run that is asked for, or a certificate: the words, the program and the names of its inputs.
 pub record Run : Type 0 where
   pub words : PlainWords
   pub program : Program
@@ -73,9 +73,9 @@ pub record Run : Type 0 where
 abbrev pub run_of : {c : Call} → IsRun c → Run
 run_of r = record { words = (asks_for r.program).words; program = program_in r.program; inputs = inputs_in r.program }
 
--- what is asked for by a check
-abbrev pub check_of : {c : Call} → MayCheck c → Run
-check_of m = record { words = m.names.program.source.asks.words; program = of_tree m.names.program.tree; inputs = m.names.free }
+-- what is asked for of a certificate
+abbrev pub certificate_of : {c : Call} {t : Task} → HasFiles c t → Run
+certificate_of m = record { words = m.names.program.source.asks.words; program = of_tree m.names.program.tree; inputs = m.names.free }
 
 -- the files and the places of its inputs
 abbrev pub input_files : Run → List (List ℕ)

@@ -1,5 +1,5 @@
 -- The stages of a call, in their order, each with what the earlier ones gave; and the first refusal.
-use Rattle.std.specs.Prelude.{◌≡◌, ◌≢◌, ℕ, ◌⊎◌, true, false, List, Some, None}
+use Rattle.std.specs.Prelude.{◌≡◌, ◌≢◌, ℕ, ◌⊎◌, true, List, Some, None}
 use Rattle.lucid_tree.specs.Tree.{PlainTree}
 use Rattle.lucid_scope.specs.Bindings.{HasNoFault}
 use Rattle.lucid_equations.specs.declared.table.Table.{Table}
@@ -15,7 +15,7 @@ use Rattle.lucid_top.specs.declared.task.Form.TheVariants as form
 use Rattle.lucid_top.specs.Call.{Call}
 use Rattle.lucid_top.specs.Sources.{IsSource}
 use Rattle.lucid_top.specs.Certificates.{HeldCertificate, RefusesCertificate}
-use Rattle.lucid_top.specs.Tasks.{task_of, form_of, is_built}
+use Rattle.lucid_top.specs.Tasks.{task_of, form_of, is_certificate}
 use Rattle.lucid_print.specs.Canonical.{canonical}
 use Rattle.lucid_cycles.specs.Judged.{IsJudged}
 use Rattle.lucid_top.specs.Judged.{Spelt, RefusesText, RefusesNames, RefusesColumns, RefusesJudging, HasInputs}
@@ -24,11 +24,10 @@ use Rattle.lucid_top.specs.Flat.{SpellsTable, RefusesFlat}
 use Rattle.lucid_top.specs.Programs.{Program, of_tree, of_columns, of_table, beside}
 use Rattle.lucid_top.specs.Files.{RefusesGiven, FitsGiven}
 
--- The words are read, and ask for what is built.
+-- The words are read.
 pub record Asks (c : Call) : Type 0 where
   pub words : PlainWords
   pub read : c.asked ≡ Some words
-  pub built : is_built (task_of words) (form_of words) ≡ true
 
 -- The source is read.
 pub record HasSource (c : Call) : Type 0 where
@@ -112,15 +111,15 @@ inputs_in (by_table f) = f.table.inputs
 abbrev pub IsAskedFor : {c : Call} → HasProgram c → Type 0
 IsAskedFor p = task_of (asks_for p).words ≡ task_for p
 
--- or they ask for a certificate of a tree to be checked
-abbrev pub IsForCheck : {c : Call} → HasProgram c → Type 0
-IsForCheck (by_tree n) = task_of n.program.source.asks.words ≡ task.Check
-IsForCheck (by_columns h) = ⊥
-IsForCheck (by_table f) = ⊥
+-- or they ask for a certificate of a tree to be made or checked
+abbrev pub IsForCertificate : {c : Call} → HasProgram c → Type 0
+IsForCertificate (by_tree n) = is_certificate (task_of n.program.source.asks.words) ≡ true
+IsForCertificate (by_columns h) = ⊥
+IsForCertificate (by_table f) = ⊥
 
--- its inputs are wanted: for a run or for a check
+-- its inputs are wanted: for a run or for a certificate
 abbrev pub WantsInputs : {c : Call} → HasProgram c → Type 0
-WantsInputs p = IsAskedFor p ⊎ IsForCheck p
+WantsInputs p = IsAskedFor p ⊎ IsForCertificate p
 
 -- It is run: the words give each input a file, but for one at most.
 pub record IsRun (c : Call) : Type 0 where
@@ -128,11 +127,19 @@ pub record IsRun (c : Call) : Type 0 where
   pub task : IsAskedFor program
   pub fits : FitsGiven (inputs_in program) (asks_for program).words.given
 
--- A certificate of a tree may be checked, once it is read: the words give each input a file, but for one at most.
-pub record MayCheck (c : Call) : Type 0 where
+-- The words ask for this of a certificate of a tree, and give each input a file, but for one at most.
+pub record HasFiles (c : Call) (t : Task) : Type 0 where
   pub names : HasNames c
-  pub task : task_of names.program.source.asks.words ≡ task.Check
+  pub task : task_of names.program.source.asks.words ≡ t
   pub fits : FitsGiven names.free names.program.source.asks.words.given
+
+-- A certificate is made.
+abbrev pub IsMaking : Call → Type 0
+IsMaking c = HasFiles c task.Why
+
+-- A certificate may be checked, once it is read.
+abbrev pub MayCheck : Call → Type 0
+MayCheck c = HasFiles c task.Check
 
 -- the file of the certificate, by its name
 abbrev pub certificate_file : {c : Call} → MayCheck c → List ℕ
@@ -147,7 +154,6 @@ pub record IsCheck (c : Call) : Type 0 where
 -- The call is refused so, by the first stage that refuses it.
 pub data Refuses (c : Call) : (why : Refusal) → Type 0 where
   by_words : c.asked ≡ None → Refuses c refusal.Usage
-  by_task : (w : PlainWords) → c.asked ≡ Some w → is_built (task_of w) (form_of w) ≡ false → Refuses c refusal.NotBuilt
   by_text : {why : Refusal} → (s : HasSource c) → form_of s.asks.words ≢ form.Flat → RefusesText s.bytes why → Refuses c why
   by_flat : {why : Refusal} → (s : HasSource c) → form_of s.asks.words ≡ form.Flat → RefusesFlat s.bytes why → Refuses c why
   by_names : {why : Refusal} → (t : HasTree c) → task_of t.source.asks.words ≢ task.Print → RefusesNames t.tree why → Refuses c why

@@ -1,5 +1,5 @@
 -- What the words ask for, and the form of the source that they name.
-use Rattle.std.specs.Prelude.{Bool, true, false, ◌||◌, ◌==◌, not, length, is_some, if◌then◌else◌}
+use Rattle.std.specs.Prelude.{ℕ, Bool, true, false, ◌||◌, ◌==◌, not, length, is_some, unwrap_or, if◌then◌else◌}
 use Rattle.lucid_words.specs.Plain.{PlainSource, file, made}
 use Rattle.lucid_words.specs.Asked.{PlainWords}
 use Rattle.lucid_top.specs.declared.task.Task.{Task}
@@ -26,21 +26,15 @@ form_for (file name) false = form.Text
 abbrev pub form_of : PlainWords → Form
 form_of w = form_for w.source w.from_flat
 
--- whether a source is a text
-abbrev pub is_text : Form → Bool
-is_text form.Flat = false
-is_text f = true
+-- whether a certificate is made or checked
+abbrev pub is_certificate : Task → Bool
+is_certificate task.Why = true
+is_certificate task.Check = true
+is_certificate t = false
 
--- What is built so far: runs; and of texts runs of columns, the canonical source, the judgment of cycles, the flat form and the check of a
--- certificate. Words that ask for something else than a run of a flat form are refused before.
-abbrev pub is_built : Task → Form → Bool
-is_built task.Run f = true
-is_built task.Columns f = is_text f
-is_built task.Print f = is_text f
-is_built task.Cycles f = is_text f
-is_built task.Flat f = is_text f
-is_built task.Check f = is_text f
-is_built t f = false
+-- the time of the value whose certificate is asked for
+abbrev pub time_asked : PlainWords → ℕ
+time_asked w = unwrap_or w.why 0
 
 abbrev pub is_made : PlainSource → Bool
 is_made (made n) = true

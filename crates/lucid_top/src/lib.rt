@@ -1,5 +1,6 @@
 //! The command whole: it runs a pLucid program and writes the values of its stream, one a line; or it writes a text of the program, its
-//! canonical source, the judgment of its cycles or its flat form, a table without functions; or it checks a certificate of the program.
+//! canonical source, the judgment of its cycles or its flat form, a table without functions; or it makes or checks a certificate of a
+//! value of the program.
 #![tactic(auto)]
 
 pub use crate::arguments::lucid_from_arguments;
@@ -17,6 +18,7 @@ mod flat;
 pub mod headline;
 mod judging;
 mod laws;
+mod making;
 mod places;
 mod refusal;
 mod report;

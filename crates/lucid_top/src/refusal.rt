@@ -6,8 +6,6 @@ use lucid_value::Name;
 pub enum Refusal {
     /// The words are refused.
     Usage,
-    /// What the words ask for isn't built yet.
-    NotBuilt,
     /// The source has more than 1,048,576 bytes, or in the flat form more than 67,108,864.
     TooLong,
     /// No token begins at the place, and neither a number nor an open text does.

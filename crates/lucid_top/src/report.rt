@@ -115,7 +115,6 @@ fn write_refusal<E: Sink>(report: &mut E, refusal: &Refusal) -> Result<(), PortF
 {
     match refusal {
         Refusal::Usage => write_text(report, USAGE),
-        Refusal::NotBuilt => write_text(report, b"not built yet\n"),
         Refusal::TooLong => write_text(report, b"source too long\n"),
         Refusal::BadByte { at } => write_at(report, b"bad byte at ", u64::from(*at)),
         Refusal::OpenText { at } => write_at(report, b"open text at ", u64::from(*at)),

@@ -1,7 +1,7 @@
 //! What the words ask for, and the form of the source.
 ghost use Rattle.std.specs.Prelude.{◌≡◌};
 ghost use Rattle.lucid_words.specs.Asked.{plain_words};
-ghost use Rattle.lucid_top.specs.Tasks.{task_of, form_of, is_text, is_built};
+ghost use Rattle.lucid_top.specs.Tasks.{task_of, form_of};
 
 use lucid_words::{Source, Words};
 
@@ -56,17 +56,6 @@ impl Task {
             Task::Run
         }
     }
-
-    /// Whether it is built so far, of a source of the form.
-    pub fn is_built(self, form: Form) -> bool
-        ensures { result ≡ is_built self form }
-    {
-        match self {
-            Task::Run => true,
-            Task::Columns | Task::Print | Task::Cycles | Task::Check | Task::Flat => form.is_text(),
-            Task::Why => false,
-        }
-    }
 }
 
 impl Form {
@@ -78,16 +67,6 @@ impl Form {
             Source::Made(_) => Form::Made,
             Source::File(_) if words.from_flat => Form::Flat,
             Source::File(_) => Form::Text,
-        }
-    }
-
-    // Whether the source is a text.
-    fn is_text(self) -> bool
-        ensures { result ≡ is_text self }
-    {
-        match self {
-            Form::Text | Form::Made => true,
-            Form::Flat => false,
         }
     }
 }

@@ -1,14 +1,14 @@
 //! The command.
-ghost use Rattle.std.specs.Prelude.{◌≡◌, ◌≢◌, ℕ, ◌+◌, ◌<◌, ◌≤◌, All, Some, length, map, IfOk, IfErr, OnOk, true};
+ghost use Rattle.std.specs.Prelude.{◌≡◌, ◌≢◌, ℕ, ◌+◌, ◌-◌, ◌^◌, ◌<◌, ◌≤◌, All, Some, length, map, IfOk, IfErr, OnOk};
 ghost use Rattle.std.specs.String.{string_bytes};
 ghost use Rattle.lucid_scan.specs.Refusals.{most_source_bytes};
 ghost use Rattle.lucid_tree.specs.WellMade.{places as all_places, IsWellMade};
 ghost use Rattle.lucid_words.specs.Asked.{PlainWords, plain_words, words_asked};
 ghost use Rattle.lucid_words.specs.Plain.{plain_source};
-ghost use Rattle.lucid_words.specs.Numbers.{IsFromTo, MadeIsFromTo};
+ghost use Rattle.lucid_words.specs.Numbers.{IsFromTo, IsFromToIfGiven, MadeIsFromTo};
 ghost use Rattle.lucid_top.specs.Call.{call};
 ghost use Rattle.lucid_session.specs.Runs.{told};
-ghost use Rattle.lucid_top.specs.Tasks.{task_of, form_of, is_built};
+ghost use Rattle.lucid_top.specs.Tasks.{form_of};
 ghost use Rattle.lucid_top.specs.Sources.{first_place};
 ghost use Rattle.lucid_scope.specs.Scoped.{scoped_tree, scoped_inputs};
 ghost use Rattle.lucid_ports.specs.Limits.{most_asked};
@@ -18,7 +18,7 @@ ghost use Rattle.lucid_top.specs.Judged.{RefusesText, AreResolved};
 ghost use Rattle.lucid_top.specs.Flat.{most_flat_bytes, RefusesFlat};
 ghost use Rattle.lucid_top.specs.Certificates.{most_certificate_bytes};
 ghost use Rattle.lucid_top.specs.Places.{CountsNoRead, CountsNoWrite, ReadsSource, ReadsPlace, AreKept, HasRead, SpeltBySource, FlatBySource, IsAccepted, IsAcceptedBeside, IsSourceStop, IsProgramStop, IsColumnsStop};
-ghost use Rattle.lucid_top.specs.Coming.{Comes, Does, MayBegin, RunsTable, ChecksTable};
+ghost use Rattle.lucid_top.specs.Coming.{Comes, Does, MayBegin, RunsTable, ProvesTable};
 ghost use Rattle.lucid_top.specs.Clauses.{MeetsClauses};
 
 use crate::checking::{check_program, read_certificate};
@@ -26,8 +26,8 @@ use crate::files::{copied_names, input_files};
 use crate::flat::read_program;
 use crate::judging::{read_tree, resolve_beside, resolve_names};
 use crate::laws::one_verdict;
+use crate::making::make_program;
 use crate::places::{reach_files, read_source};
-use crate::refusal::Refusal;
 use crate::report::tell;
 use crate::running::run_program;
 use crate::status::Status;
@@ -243,6 +243,47 @@ fn flat_task<P: Places, K: Sink>(
     write_flat(alloc, &scoped, out)
 }
 
+// Makes a certificate of the program's value at the time that the words ask for, over the files that the words give its inputs, which have
+// these names.
+fn make_inputs<P: Places, K: Sink>(
+    alloc: Global,
+    words: &Words,
+    names: &[Name],
+    program: &Program,
+    places: &mut P,
+    out: &mut K,
+) -> Result<Done, Stop>
+    requires time { IsFromToIfGiven 0 (2 ^ 63 - 1) words.now.why }
+    requires names { names.now ≡ (table_of program.now).inputs }
+    requires few { length names.now ≤ most_source_bytes }
+    requires one { (P.world places.old).reached ≤ 1 }
+    ensures comes { (before : World)
+        → ProvesTable (call (Some (plain_words words.now)) before (P.world places.new) (told K.written K.faults out.old) (told K.written K.faults out.new)) Task.Why (plain_words words.now) (table_of program.now) (P.world places.old)
+        → Comes (call (Some (plain_words words.now)) before (P.world places.new) (told K.written K.faults out.old) (told K.written K.faults out.new)) result }
+    ensures counts_no_read { CountsNoRead result (P.world places.old) (P.world places.new) }
+    ensures counts_no_write { CountsNoWrite result (K.faults out.old) (K.faults out.new) }
+    ensures others { AreKept (P.world places.old) (P.world places.new) }
+{
+    let files = input_files(alloc, names, &words.given)?;
+    let numbers = reach_files(alloc, places, &files)?;
+    make_program(alloc, words, names, program, numbers, places, out)
+}
+
+// Makes a certificate of a value of the program that the words name.
+fn why_task<P: Places, K: Sink>(
+    alloc: Global,
+    words: &Words,
+    places: &mut P,
+    out: &mut K,
+) -> Result<Done, Stop>
+    requires { MayBegin words.now Task.Why (P.world places.old) }
+    ensures { Does (call (Some (plain_words words.now)) (P.world places.old) (P.world places.new) (told K.written K.faults out.old) (told K.written K.faults out.new)) result }
+{
+    let scoped = program_of(alloc, words, places)?;
+    let program = compile(alloc, &scoped)?;
+    make_inputs(alloc, words, scoped.inputs(), &program, places, out)
+}
+
 // Checks the certificate in the file that the words name, of the program, over the files that the words give its inputs, which have these
 // names.
 fn check_inputs<P: Places, K: Sink>(
@@ -257,7 +298,7 @@ fn check_inputs<P: Places, K: Sink>(
     requires few { length names.now ≤ most_source_bytes }
     requires one { (P.world places.old).reached ≤ 1 }
     ensures comes { (before : World)
-        → ChecksTable (call (Some (plain_words words.now)) before (P.world places.new) (told K.written K.faults out.old) (told K.written K.faults out.new)) (plain_words words.now) (table_of program.now) (P.world places.old)
+        → ProvesTable (call (Some (plain_words words.now)) before (P.world places.new) (told K.written K.faults out.old) (told K.written K.faults out.new)) Task.Check (plain_words words.now) (table_of program.now) (P.world places.old)
         → Comes (call (Some (plain_words words.now)) before (P.world places.new) (told K.written K.faults out.old) (told K.written K.faults out.new)) result }
     ensures counts_no_read { CountsNoRead result (P.world places.old) (P.world places.new) }
     ensures counts_no_write { CountsNoWrite result (K.faults out.old) (K.faults out.new) }
@@ -296,18 +337,14 @@ fn do_task<P: Places, K: Sink>(
     ensures { Does (call (words_asked (map string_bytes words.now)) (P.world places.old) (P.world places.new) (told K.written K.faults out.old) (told K.written K.faults out.new)) result }
 {
     let words = read_words(alloc, words)?;
-    let task = Task::of(&words);
-    if !task.is_built(Form::of(&words)) {
-        return Err(Stop::Refused(Refusal::NotBuilt));
-    }
-    match task {
+    match Task::of(&words) {
         Task::Run => run_task(alloc, &words, places, out),
         Task::Print => print_task(alloc, &words, places, out),
         Task::Cycles => cycles_task(alloc, &words, places, out),
         Task::Columns => columns_task(alloc, &words, places, out),
         Task::Check => check_task(alloc, &words, places, out),
         Task::Flat => flat_task(alloc, &words, places, out),
-        Task::Why => unreachable!(),
+        Task::Why => why_task(alloc, &words, places, out),
     }
 }
 

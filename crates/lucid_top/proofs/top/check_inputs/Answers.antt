@@ -2,7 +2,9 @@ use Rattle.lucid_top.proofs.Common.{◌≡◌, ◌≢◌, ◌+◌, length, map, 
 use Rattle.lucid_session.specs.Subject.{table_stream}
 use Rattle.lucid_top.specs.Call.{call}
 use Rattle.lucid_top.specs.declared.stop.Stop.TheVariants as stop
-use Rattle.lucid_top.proofs.CheckEnds.{given_stop, certificate_stop, reaching_stop, check_ends}
+use Rattle.lucid_top.specs.declared.task.Task.TheVariants as task
+use Rattle.lucid_top.proofs.Certifying.{given_stops}
+use Rattle.lucid_top.proofs.CheckEnds.{certificate_stop, reaching_stop, check_ends}
 use Rattle.lucid_top.proofs.RunEnds.{carried, refs_are, refs_long, files_long, reached_of, range_differs, all_unread, earlier_stay}
 use Rattle.lucid_top.proofs.Counting.{none_at_ok, handed_on, counts_then}
 use Rattle.lucid_top.proofs.Reaching.{kept_then, reads_still}
@@ -17,7 +19,7 @@ returns-in_err-files-clause-comes g c before b =
     let the_call : Call = call (Some (plain_words c.args.words.now)) before world out out in
     let refused = carried (λ names given. IsRefusalOf (RefusesGiven names given) c.in_err-files.field-0.0) c.args.names.now t.inputs c.deref.result.now c.args.words.now.given.items
     c.requires.names c.deref.ensures.value c.in_err-files.ensures.refused in
-    rw (p.1, p.2) (given_stop the_call (plain_words c.args.words.now) t world b c.in_err-files.field-0.0 refused refl (omega (arith, b.first)))
+    rw (p.1, p.2) (given_stops the_call task.Check (plain_words c.args.words.now) t world b refl c.in_err-files.field-0.0 refused refl (omega (arith, b.first)))
 
 pub returns-in_err-why-clause-comes : goal.returns-in_err-why-clause-comes
 returns-in_err-why-clause-comes g c before b =

@@ -1,7 +1,6 @@
 use Rattle.lucid_top.proofs.Common.{◌+◌, Some, refl, sym, ap, ◌∙◌, length, arith, err_from_is_err_and, table_of, most_source_bytes, scoped_tree, scoped_inputs, scoped_binding, plain_words, told, Call}
-use Rattle.lucid_top.specs.declared.task.Task.TheVariants as task
 use Rattle.lucid_top.specs.Call.{call}
-use Rattle.lucid_top.proofs.Ending.{Begins, of_text, within_text, check_not_print, inputs_of, names_of, first_place_le}
+use Rattle.lucid_top.proofs.Ending.{Begins, within_text, check_not_print, inputs_of, names_of, first_place_le}
 use Rattle.lucid_top.proofs.Doing.{program_does, memory_does, check_does}
 use Rattle.lucid_top.proofs.RunEnds.{source_stays}
 use Rattle.lucid_top.proofs.top.check_task.Goals as goal
@@ -11,18 +10,18 @@ returns-in_err-scoped g c =
     let p = err_from_is_err_and c.from_residual.result c.from_residual.ensures.1 in
     let w = plain_words c.args.words.now in
     let here : Call = call (Some w) (g.P.Places.world c.args.places.now) (g.P.Places.world c.program_of.new.places) (told g.K.Sink.written g.K.Sink.faults c.args.out.now) (told g.K.Sink.written g.K.Sink.faults c.args.out.now) in
-    let begins : Begins here w = record { read = refl; built = c.requires.built } in
+    let begins : Begins here w = refl in
     let read = c.in_err-scoped.ensures in
-    rw (p.1, p.2) (program_does here w c.in_err-scoped.field-0.0 begins (of_text w task.Check c.requires.task refl c.requires.built) (check_not_print w c.requires.task) refl read.stopped read.reading)
+    rw (p.1, p.2) (program_does here w c.in_err-scoped.field-0.0 begins (c.requires.text (λ e. absurd (cc e))) (check_not_print w c.requires.task) refl read.stopped read.reading)
 
 pub returns-in_err-program : goal.returns-in_err-program
 returns-in_err-program g c =
     let p = err_from_is_err_and c.from_residual-in_err-program.result c.from_residual-in_err-program.ensures.1 in
     let w = plain_words c.args.words.now in
     let here : Call = call (Some w) (g.P.Places.world c.args.places.now) (g.P.Places.world c.program_of.new.places) (told g.K.Sink.written g.K.Sink.faults c.args.out.now) (told g.K.Sink.written g.K.Sink.faults c.args.out.now) in
-    let begins : Begins here w = record { read = refl; built = c.requires.built } in
+    let begins : Begins here w = refl in
     let read = c.in_ok-scoped.ensures in
-    rw (p.1, p.2) (memory_does c.in_ok-scoped.scoped (most_source_bytes + 1) here w begins refl read.reading (within_text w w.source here.after (of_text w task.Check c.requires.task refl c.requires.built) read.reading.within))
+    rw (p.1, p.2) (memory_does c.in_ok-scoped.scoped (most_source_bytes + 1) here w begins refl read.reading (within_text w w.source here.after (c.requires.text (λ e. absurd (cc e))) read.reading.within))
 
 pub check_inputs-requires-clause-names : goal.check_inputs-requires-clause-names
 check_inputs-requires-clause-names g c = c.inputs.ensures.value ∙ sym c.in_ok-program.ensures.inputs
@@ -41,8 +40,8 @@ pub returns : goal.returns
 returns g c =
     let w = plain_words c.args.words.now in
     let here : Call = call (Some w) (g.P.Places.world c.args.places.now) (g.P.Places.world c.check_inputs.new.places) (told g.K.Sink.written g.K.Sink.faults c.args.out.now) (told g.K.Sink.written g.K.Sink.faults c.check_inputs.new.out) in
-    let begins : Begins here w = record { read = refl; built = c.requires.built } in
-    let text = of_text w task.Check c.requires.task refl c.requires.built in
+    let begins : Begins here w = refl in
+    let text = c.requires.text (λ e. absurd (cc e)) in
     let read = c.in_ok-scoped.ensures in
     let table = table_of c.in_ok-program.program in
     let tree = scoped_tree c.in_ok-scoped.scoped in

@@ -1,7 +1,6 @@
 use Rattle.lucid_top.proofs.Common.{◌+◌, Some, refl, sym, ap, subst, ◌∙◌, length, arith, err_from_is_err_and, IsWellMade, table_of, equations_of, KeepsTree, most_source_bytes, scoped_tree, scoped_inputs, scoped_binding, plain_words, told, Call, beside, RanSo, by_columns}
-use Rattle.lucid_top.specs.declared.task.Task.TheVariants as task
 use Rattle.lucid_top.specs.Call.{call}
-use Rattle.lucid_top.proofs.Ending.{Begins, of_text, within_text, columns_stops, inputs_of, columns_of, first_place_le}
+use Rattle.lucid_top.proofs.Ending.{Begins, within_text, columns_stops, inputs_of, columns_of, first_place_le}
 use Rattle.lucid_top.proofs.Doing.{stops, memory_does, run_does}
 use Rattle.lucid_top.proofs.Carrying.{runs_columns, spaces_of_table}
 use Rattle.lucid_top.proofs.top.columns_task.Goals as goal
@@ -11,8 +10,8 @@ returns-in_err-scoped g c =
     let p = err_from_is_err_and c.from_residual.result c.from_residual.ensures.1 in
     let w = plain_words c.args.words.now in
     let here : Call = call (Some w) (g.P.Places.world c.args.places.now) (g.P.Places.world c.columns_of.new.places) (told g.K.Sink.written g.K.Sink.faults c.args.out.now) (told g.K.Sink.written g.K.Sink.faults c.args.out.now) in
-    let begins : Begins here w = record { read = refl; built = c.requires.built } in
-    let text = of_text w task.Columns c.requires.task refl c.requires.built in
+    let begins : Begins here w = refl in
+    let text = c.requires.text (λ e. absurd (cc e)) in
     let read = c.in_err-scoped.ensures in
     let s = c.in_err-scoped.field-0.0 in
     rw (p.1, p.2) (stops here w s refl refl read.reading.few (columns_stops here w s begins text c.requires.task read.stopped refl read.reading.few) read.reading.counts_no_read (within_text w w.source here.after text read.reading.within))
@@ -22,9 +21,9 @@ returns-in_err-program g c =
     let p = err_from_is_err_and c.from_residual-in_err-program.result c.from_residual-in_err-program.ensures.1 in
     let w = plain_words c.args.words.now in
     let here : Call = call (Some w) (g.P.Places.world c.args.places.now) (g.P.Places.world c.columns_of.new.places) (told g.K.Sink.written g.K.Sink.faults c.args.out.now) (told g.K.Sink.written g.K.Sink.faults c.args.out.now) in
-    let begins : Begins here w = record { read = refl; built = c.requires.built } in
+    let begins : Begins here w = refl in
     let read = c.in_ok-scoped.ensures in
-    rw (p.1, p.2) (memory_does c.in_ok-scoped.scoped (most_source_bytes + 1) here w begins refl read.reading (within_text w w.source here.after (of_text w task.Columns c.requires.task refl c.requires.built) read.reading.within))
+    rw (p.1, p.2) (memory_does c.in_ok-scoped.scoped (most_source_bytes + 1) here w begins refl read.reading (within_text w w.source here.after (c.requires.text (λ e. absurd (cc e))) read.reading.within))
 
 pub run_inputs-requires-clause-names : goal.run_inputs-requires-clause-names
 run_inputs-requires-clause-names g c = c.inputs.ensures.value ∙ sym c.in_ok-program.ensures.inputs
@@ -43,8 +42,8 @@ pub returns : goal.returns
 returns g c =
     let w = plain_words c.args.words.now in
     let here : Call = call (Some w) (g.P.Places.world c.args.places.now) (g.P.Places.world c.run_inputs.new.places) (told g.K.Sink.written g.K.Sink.faults c.args.out.now) (told g.K.Sink.written g.K.Sink.faults c.run_inputs.new.out) in
-    let begins : Begins here w = record { read = refl; built = c.requires.built } in
-    let text = of_text w task.Columns c.requires.task refl c.requires.built in
+    let begins : Begins here w = refl in
+    let text = c.requires.text (λ e. absurd (cc e)) in
     let read = c.in_ok-scoped.ensures in
     let a = read.accepted in
     let table = table_of c.in_ok-program.program in

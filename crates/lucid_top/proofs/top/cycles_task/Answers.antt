@@ -1,10 +1,9 @@
 use Rattle.lucid_top.proofs.Common.{◌≡◌, Some, refl, inr, err_from_is_err_and, scoped_tree, scoped_inputs, scoped_binding, plain_words, told, Call, judges, IsTextFor}
 use Rattle.lucid_cycles.specs.JudgmentLine.{judgment_line}
 use Rattle.lucid_top.specs.declared.stop.Stop.TheVariants as stop
-use Rattle.lucid_top.specs.declared.task.Task.TheVariants as task
 use Rattle.lucid_top.specs.Call.{call}
 use Rattle.lucid_top.proofs.Counting.{none_at_ok}
-use Rattle.lucid_top.proofs.Ending.{Begins, of_text, within_text, cycles_not_print, judging_stops, inputs_of, names_of, as_text}
+use Rattle.lucid_top.proofs.Ending.{Begins, within_text, cycles_not_print, judging_stops, inputs_of, names_of, as_text}
 use Rattle.lucid_top.proofs.Doing.{reads_for, program_does, writing_does, unread_certificate}
 use Rattle.lucid_top.proofs.top.cycles_task.Goals as goal
 
@@ -13,17 +12,17 @@ returns-in_err-scoped g c =
     let p = err_from_is_err_and c.from_residual.result c.from_residual.ensures.1 in
     let w = plain_words c.args.words.now in
     let here : Call = call (Some w) (g.P.Places.world c.args.places.now) (g.P.Places.world c.program_of.new.places) (told g.K.Sink.written g.K.Sink.faults c.args.out.now) (told g.K.Sink.written g.K.Sink.faults c.args.out.now) in
-    let begins : Begins here w = record { read = refl; built = c.requires.built } in
+    let begins : Begins here w = refl in
     let read = c.in_err-scoped.ensures in
-    rw (p.1, p.2) (program_does here w c.in_err-scoped.field-0.0 begins (of_text w task.Cycles c.requires.task refl c.requires.built) (cycles_not_print w c.requires.task) refl read.stopped read.reading)
+    rw (p.1, p.2) (program_does here w c.in_err-scoped.field-0.0 begins (c.requires.text (λ e. absurd (cc e))) (cycles_not_print w c.requires.task) refl read.stopped read.reading)
 
 pub returns-in_err-judgment : goal.returns-in_err-judgment
 returns-in_err-judgment g c =
     let p = err_from_is_err_and c.from_residual-in_err-judgment.result c.from_residual-in_err-judgment.ensures.1 in
     let w = plain_words c.args.words.now in
     let here : Call = call (Some w) (g.P.Places.world c.args.places.now) (g.P.Places.world c.program_of.new.places) (told g.K.Sink.written g.K.Sink.faults c.args.out.now) (told g.K.Sink.written g.K.Sink.faults c.args.out.now) in
-    let begins : Begins here w = record { read = refl; built = c.requires.built } in
-    let text = of_text w task.Cycles c.requires.task refl c.requires.built in
+    let begins : Begins here w = refl in
+    let text = c.requires.text (λ e. absurd (cc e)) in
     let read = c.in_ok-scoped.ensures in
     let tree = scoped_tree c.in_ok-scoped.scoped in
     let inputs = inputs_of tree (scoped_inputs c.in_ok-scoped.scoped) (scoped_binding c.in_ok-scoped.scoped) read.resolved.resolved in
@@ -39,8 +38,8 @@ pub returns : goal.returns
 returns g c =
     let w = plain_words c.args.words.now in
     let here : Call = call (Some w) (g.P.Places.world c.args.places.now) (g.P.Places.world c.program_of.new.places) (told g.K.Sink.written g.K.Sink.faults c.args.out.now) (told g.K.Sink.written g.K.Sink.faults c.write_judgment.new.out) in
-    let begins : Begins here w = record { read = refl; built = c.requires.built } in
-    let text = of_text w task.Cycles c.requires.task refl c.requires.built in
+    let begins : Begins here w = refl in
+    let text = c.requires.text (λ e. absurd (cc e)) in
     let read = c.in_ok-scoped.ensures in
     let tree = scoped_tree c.in_ok-scoped.scoped in
     let inputs = inputs_of tree (scoped_inputs c.in_ok-scoped.scoped) (scoped_binding c.in_ok-scoped.scoped) read.resolved.resolved in

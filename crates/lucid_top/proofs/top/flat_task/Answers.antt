@@ -1,7 +1,6 @@
 use Rattle.lucid_top.proofs.Common.{Some, refl, arith, err_from_is_err_and, scoped_tree, scoped_inputs, scoped_binding, plain_words, told, Call, flattens}
-use Rattle.lucid_top.specs.declared.task.Task.TheVariants as task
 use Rattle.lucid_top.specs.Call.{call}
-use Rattle.lucid_top.proofs.Ending.{Begins, of_text, flat_not_print, inputs_of, names_of}
+use Rattle.lucid_top.proofs.Ending.{Begins, flat_not_print, inputs_of, names_of}
 use Rattle.lucid_top.proofs.Doing.{program_does, writing_does}
 use Rattle.lucid_top.proofs.top.flat_task.Goals as goal
 
@@ -10,9 +9,9 @@ returns-in_err-scoped g c =
     let p = err_from_is_err_and c.from_residual.result c.from_residual.ensures.1 in
     let w = plain_words c.args.words.now in
     let here : Call = call (Some w) (g.P.Places.world c.args.places.now) (g.P.Places.world c.program_of.new.places) (told g.K.Sink.written g.K.Sink.faults c.args.out.now) (told g.K.Sink.written g.K.Sink.faults c.args.out.now) in
-    let begins : Begins here w = record { read = refl; built = c.requires.built } in
+    let begins : Begins here w = refl in
     let read = c.in_err-scoped.ensures in
-    rw (p.1, p.2) (program_does here w c.in_err-scoped.field-0.0 begins (of_text w task.Flat c.requires.task refl c.requires.built) (flat_not_print w c.requires.task) refl read.stopped read.reading)
+    rw (p.1, p.2) (program_does here w c.in_err-scoped.field-0.0 begins (c.requires.text (λ e. absurd (cc e))) (flat_not_print w c.requires.task) refl read.stopped read.reading)
 
 pub write_flat-requires-clause-few : goal.write_flat-requires-clause-few
 write_flat-requires-clause-few g c = omega (arith, c.in_ok-scoped.ensures.resolved.few, c.in_ok-scoped.ensures.accepted.few)
@@ -21,8 +20,8 @@ pub returns : goal.returns
 returns g c =
     let w = plain_words c.args.words.now in
     let here : Call = call (Some w) (g.P.Places.world c.args.places.now) (g.P.Places.world c.program_of.new.places) (told g.K.Sink.written g.K.Sink.faults c.args.out.now) (told g.K.Sink.written g.K.Sink.faults c.write_flat.new.out) in
-    let begins : Begins here w = record { read = refl; built = c.requires.built } in
-    let text = of_text w task.Flat c.requires.task refl c.requires.built in
+    let begins : Begins here w = refl in
+    let text = c.requires.text (λ e. absurd (cc e)) in
     let read = c.in_ok-scoped.ensures in
     let tree = scoped_tree c.in_ok-scoped.scoped in
     let inputs = inputs_of tree (scoped_inputs c.in_ok-scoped.scoped) (scoped_binding c.in_ok-scoped.scoped) read.resolved.resolved in

@@ -1,7 +1,6 @@
 use Rattle.lucid_top.proofs.Common.{Some, refl, err_from_is_err_and, plain_words, told, Call, prints}
-use Rattle.lucid_top.specs.declared.task.Task.TheVariants as task
 use Rattle.lucid_top.specs.Call.{call}
-use Rattle.lucid_top.proofs.Ending.{Begins, of_text, within_text, source_stops, tree_of}
+use Rattle.lucid_top.proofs.Ending.{Begins, within_text, source_stops, tree_of}
 use Rattle.lucid_top.proofs.Doing.{stops, writing_does}
 use Rattle.lucid_top.proofs.top.print_task.Goals as goal
 
@@ -10,8 +9,8 @@ returns-in_err-tree g c =
     let p = err_from_is_err_and c.from_residual.result c.from_residual.ensures.1 in
     let w = plain_words c.args.words.now in
     let here : Call = call (Some w) (g.P.Places.world c.args.places.now) (g.P.Places.world c.tree_of.new.places) (told g.K.Sink.written g.K.Sink.faults c.args.out.now) (told g.K.Sink.written g.K.Sink.faults c.args.out.now) in
-    let begins : Begins here w = record { read = refl; built = c.requires.built } in
-    let text = of_text w task.Print c.requires.task refl c.requires.built in
+    let begins : Begins here w = refl in
+    let text = c.requires.text (λ e. absurd (cc e)) in
     let read = c.in_err-tree.ensures in
     let s = c.in_err-tree.field-0.0 in
     rw (p.1, p.2) (stops here w s refl refl read.reading.few (source_stops here w s begins text read.stopped refl read.reading.few) read.reading.counts_no_read (within_text w w.source here.after text read.reading.within))
@@ -20,8 +19,8 @@ pub returns : goal.returns
 returns g c =
     let w = plain_words c.args.words.now in
     let here : Call = call (Some w) (g.P.Places.world c.args.places.now) (g.P.Places.world c.tree_of.new.places) (told g.K.Sink.written g.K.Sink.faults c.args.out.now) (told g.K.Sink.written g.K.Sink.faults c.print_program.new.out) in
-    let begins : Begins here w = record { read = refl; built = c.requires.built } in
-    let text = of_text w task.Print c.requires.task refl c.requires.built in
+    let begins : Begins here w = refl in
+    let text = c.requires.text (λ e. absurd (cc e)) in
     let read = c.in_ok-tree.ensures in
     writing_does c.in_ok-tree.tree here w (prints (tree_of here w c.in_ok-tree.tree begins text read.spelt) c.requires.task) c.print_program.result
     begins text read.reading c.print_program.ensures.writes c.print_program.ensures.counts_no_write

@@ -10,7 +10,7 @@ returns-in_err-scoped g c =
     let p = err_from_is_err_and c.from_residual.result c.from_residual.ensures.1 in
     let w = plain_words c.args.words.now in
     let here : Call = call (Some w) (g.P.Places.world c.args.places.now) (g.P.Places.world c.program_of.new.places) (told g.K.Sink.written g.K.Sink.faults c.args.out.now) (told g.K.Sink.written g.K.Sink.faults c.args.out.now) in
-    let begins : Begins here w = record { read = refl; built = c.requires.may.built } in
+    let begins : Begins here w = refl in
     let read = c.in_err-scoped.ensures in
     rw (p.1, p.2) (program_does here w c.in_err-scoped.field-0.0 begins c.requires.form (run_not_print w c.requires.may.task) refl read.stopped read.reading)
 
@@ -19,7 +19,7 @@ returns-in_err-program g c =
     let p = err_from_is_err_and c.from_residual-in_err-program.result c.from_residual-in_err-program.ensures.1 in
     let w = plain_words c.args.words.now in
     let here : Call = call (Some w) (g.P.Places.world c.args.places.now) (g.P.Places.world c.program_of.new.places) (told g.K.Sink.written g.K.Sink.faults c.args.out.now) (told g.K.Sink.written g.K.Sink.faults c.args.out.now) in
-    let begins : Begins here w = record { read = refl; built = c.requires.may.built } in
+    let begins : Begins here w = refl in
     let read = c.in_ok-scoped.ensures in
     rw (p.1, p.2) (memory_does c.in_ok-scoped.scoped (most_source_bytes + 1) here w begins refl read.reading (within_text w w.source here.after c.requires.form read.reading.within))
 
@@ -40,7 +40,7 @@ pub returns : goal.returns
 returns g c =
     let w = plain_words c.args.words.now in
     let here : Call = call (Some w) (g.P.Places.world c.args.places.now) (g.P.Places.world c.run_inputs.new.places) (told g.K.Sink.written g.K.Sink.faults c.args.out.now) (told g.K.Sink.written g.K.Sink.faults c.run_inputs.new.out) in
-    let begins : Begins here w = record { read = refl; built = c.requires.may.built } in
+    let begins : Begins here w = refl in
     let read = c.in_ok-scoped.ensures in
     let table = table_of c.in_ok-program.program in
     let tree = scoped_tree c.in_ok-scoped.scoped in
