@@ -349,7 +349,7 @@ def a_table_goes_round(run):
 
 @case
 def a_certificate_is_made_and_checked(run):
-    run.source("s asa n ge first b where s = 0 fby s + next a; n = 0 fby n + 1; end")
+    run.source("s asa n >= first b where s = 0 fby s + next a; n = 0 fby n + 1; end")
     run.write("f", lines(4, 5, 6, 7, 8))
     made = run.lucid("--why", "2", "p", "a=f", given="3\n")
     check(made.status == 0 and made.out.startswith(b"j ") and made.out.endswith(b" 18\n"), shown(made.out))
