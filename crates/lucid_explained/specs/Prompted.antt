@@ -6,14 +6,14 @@ use Rattle.lucid_causes.specs.Prompts.{TellsPrompt}
 use Rattle.lucid_explained.specs.Files.{Files, Held, holds, unread, gone, IsSeen}
 use Rattle.lucid_explained.specs.Said.{past_source, names_given, is_none_of, source_file}
 
--- The words ask for a text of the program; or for columns, or for what has to do with certificates.
+-- The words ask for a text of the program; or for columns, or for a certificate.
 abbrev pub asks_text : PlainWords → Bool
 asks_text asked = asked.print || asked.cycles || asked.flat || asked.from_flat
 
 abbrev pub asks_more : PlainWords → Bool
-asks_more asked = not (is_none_of asked.columns) || is_some asked.why || not (is_none_of asked.check)
+asks_more asked = not (is_none_of asked.columns) || is_some asked.why
 
--- the file of the program whose one stream is run
+-- the file of the program whose one stream is run, or checked
 abbrev pub run_file : PlainWords → Option Text
 run_file asked = if asks_text asked then None else if asks_more asked then None else source_file asked.source
 

@@ -13,6 +13,7 @@ use Rattle.lucid_explanations.specs.Sources.{Explains}
 use Rattle.lucid_causes.specs.Inputs.{TellsInputs}
 use Rattle.lucid_explanations.specs.Columns.{TellsColumns}
 use Rattle.lucid_causes.specs.Depths.{TellsDepth}
+use Rattle.lucid_pieces.specs.Judgments.{TellsJudgment}
 use Rattle.lucid_explained.specs.declared.sources.Cause.{Cause}
 use Rattle.lucid_explained.specs.declared.sources.Cause.TheVariants as cause
 use Rattle.lucid_explained.specs.Files.{Files, Held, holds, unread, gone, is_unread, IsSeen}
@@ -164,12 +165,40 @@ SaysBy asked name (holds source) line text = Tells asked name source line text
 SaysBy asked name unread line text = text ≡ line_text line
 SaysBy asked name gone line text = text ≡ or_gone (line_text line)
 
+-- one byte more than a certificate may have
+abbrev pub past_certificate : ℕ
+past_certificate = 268435457
+
+-- the number of a judgment, where the words ask for a check and the line tells one
+abbrev pub judgment_number : PlainWords → (line : List ℕ) → Option ℕ
+judgment_number asked line = if is_none_of asked.check then None else number_behind line (codes "judgment ")
+
+-- The text says which piece of the source has the node of a judgment, where the source and the certificate are seen; and behind that, and else, what
+-- explains the line by itself.
+abbrev pub SaysOf : (name : Text) → (source certificate : Held) → (number : ℕ) → (line text : List ℕ) → Type 0
+SaysOf name (holds source) (holds certificate) number line text = (said : List ℕ) × TellsJudgment name source certificate number said × (text ≡ said ++ line_text line)
+SaysOf name (holds source) unread number line text = text ≡ line_text line
+SaysOf name (holds source) gone number line text = text ≡ line_text line
+SaysOf name unread certificate number line text = text ≡ line_text line
+SaysOf name gone certificate number line text = text ≡ line_text line
+
+-- the file of the source whose certificate the line tells of
+abbrev pub file_if : Option ℕ → PlainSource → Option Text
+file_if None source = None
+file_if (Some number) source = source_file source
+
+abbrev pub checked_file : PlainWords → (line : List ℕ) → Option Text
+checked_file asked line = file_if (judgment_number asked line) asked.source
+
 -- What is said of a call with these words that reported the line: of a read fault the files that can't be read, or that none is such; else what a file
--- says of the line, or what explains it by itself.
+-- says of the line, or the source and the certificate say of it, or what explains it by itself.
 pub data Says (files : Files) (asked : PlainWords) (line text : List ℕ) : Type 0 where
   of_fault : (told : List ℕ) → begins line (codes "read fault") ≡ true → TellsFiles files (files_asked asked) [] told → text ≡ or_unknown told
       → Says files asked line text
-  of_line : begins line (codes "read fault") ≡ false → line_file asked line ≡ None → text ≡ line_text line → Says files asked line text
+  of_line : begins line (codes "read fault") ≡ false → line_file asked line ≡ None → checked_file asked line ≡ None → text ≡ line_text line → Says files asked line text
+  of_judgment : (name : Text) (number : ℕ) (seen certificate : Held) → begins line (codes "read fault") ≡ false → line_file asked line ≡ None
+      → checked_file asked line ≡ Some name → judgment_number asked line ≡ Some number → IsSeen files name past_source seen
+      → IsSeen files asked.check past_certificate certificate → SaysOf name seen certificate number line text → Says files asked line text
   of_file : (name : Text) (seen : Held) → begins line (codes "read fault") ≡ false → line_file asked line ≡ Some name → IsSeen files name past_source seen
       → SaysBy asked name seen line text → Says files asked line text
 

@@ -4,9 +4,10 @@ ghost use Rattle.std.specs.String.{string_bytes};
 ghost use Rattle.lucid_words.specs.Asked.{plain_words};
 ghost use Rattle.lucid_explained.specs.Files.{plain_again};
 ghost use Rattle.lucid_explained.specs.Lines.{begins, line_text};
-ghost use Rattle.lucid_explained.specs.Said.{or_gone, is_of_source, line_file, SaysBy, Says, IsExplanation};
+ghost use Rattle.lucid_explained.specs.Said.{or_gone, is_of_source, line_file, judgment_number, checked_file, SaysBy, Says, IsExplanation};
 
 use crate::faults::text_of_faults;
+use crate::judgments::{judgment_number, text_of_judgment};
 use crate::lines::{begins, is_of_source, line_text};
 use crate::outlook::{Again, Outlook};
 use crate::sources::text_of_source;
@@ -73,12 +74,49 @@ fn text_of_itself<F: Outlook>(
 ) -> Result<Vec<u8>, AllocError>
     requires no_fault { begins line.now (codes "read fault") ≡ false }
     requires no_file { line_file (plain_words asked.now) line.now ≡ None }
+    requires no_judgment { checked_file (plain_words asked.now) line.now ≡ None }
     ensures { IfOk result (λ text. Says (F.files outlook.now) (plain_words asked.now) line.now text.items) }
 {
     Vec::from_slice(alloc, line_text(line))
 }
 
-// Whether no source explains the line: it tells of something else, or what was read is no source.
+// What is said of a line that tells a judgment of this number, which no source explains alone.
+fn text_of_number<F: Outlook>(
+    alloc: Global,
+    asked: &Words,
+    number: u64,
+    line: &[u8],
+    outlook: &F,
+) -> Result<Vec<u8>, AllocError>
+    requires no_fault { begins line.now (codes "read fault") ≡ false }
+    requires no_file { line_file (plain_words asked.now) line.now ≡ None }
+    requires number { judgment_number (plain_words asked.now) line.now ≡ Some number }
+    ensures { IfOk result (λ text. Says (F.files outlook.now) (plain_words asked.now) line.now text.items) }
+{
+    match &asked.source {
+        Source::File(name) => text_of_judgment(alloc, asked, name, number, line, outlook),
+        Source::Made(_) => text_of_itself(alloc, asked, line, outlook),
+    }
+}
+
+// What is said of a line that no source explains alone.
+fn text_beside_source<F: Outlook>(
+    alloc: Global,
+    asked: &Words,
+    line: &[u8],
+    outlook: &F,
+) -> Result<Vec<u8>, AllocError>
+    requires no_fault { begins line.now (codes "read fault") ≡ false }
+    requires no_file { line_file (plain_words asked.now) line.now ≡ None }
+    ensures { IfOk result (λ text. Says (F.files outlook.now) (plain_words asked.now) line.now text.items) }
+{
+    match judgment_number(asked, line) {
+        Some(number) => text_of_number(alloc, asked, number, line, outlook),
+        None => text_of_itself(alloc, asked, line, outlook),
+    }
+}
+
+// Whether no source explains the line alone: it tells of something else, or what was read is no source.
 fn is_of_itself(asked: &Words, line: &[u8]) -> bool
     ensures { result ≡ ((plain_words asked.now).from_flat || not (is_of_source line.now)) }
 {
@@ -96,11 +134,11 @@ fn text_of_line<F: Outlook>(
     ensures { IfOk result (λ text. Says (F.files outlook.now) (plain_words asked.now) line.now text.items) }
 {
     if is_of_itself(asked, line) {
-        return text_of_itself(alloc, asked, line, outlook);
+        return text_beside_source(alloc, asked, line, outlook);
     }
     match &asked.source {
         Source::File(name) => text_of_file(alloc, asked, name, line, outlook),
-        Source::Made(_) => text_of_itself(alloc, asked, line, outlook),
+        Source::Made(_) => text_beside_source(alloc, asked, line, outlook),
     }
 }
 

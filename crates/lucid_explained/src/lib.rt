@@ -8,6 +8,7 @@ pub use crate::outlook::{Again, Outlook, RealOutlook};
 mod causes;
 mod command;
 mod faults;
+mod judgments;
 mod lines;
 mod outlook;
 mod prompt;

@@ -21,11 +21,11 @@ fn asks_text(asked: &Words) -> bool
     asked.print || asked.cycles || asked.flat || asked.from_flat
 }
 
-// Whether they ask for columns, or for what has to do with certificates.
+// Whether they ask for columns, or for a certificate.
 fn asks_more(asked: &Words) -> bool
     ensures { result ≡ asks_more (plain_words asked.now) }
 {
-    !asked.columns.is_empty() || asked.why.is_some() || !asked.check.is_empty()
+    !asked.columns.is_empty() || asked.why.is_some()
 }
 
 // What is said of a source before it is run with these words.

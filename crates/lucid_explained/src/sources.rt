@@ -72,8 +72,8 @@ fn digits_front(rest: &[u8]) -> &[u8]
     &rest[..count_digits(rest)]
 }
 
-// The number that stands in the line behind the text.
-fn number_behind(line: &[u8], text: &[u8]) -> Option<u64>
+/// The number that stands in the line behind the text.
+pub(crate) fn number_behind(line: &[u8], text: &[u8]) -> Option<u64>
     ensures { result ≡ number_behind line.now text.now }
 {
     if line.starts_with(text) {

@@ -53,7 +53,7 @@ pub(crate) fn file(alloc: Global, name: &str, bytes: &[u8]) -> Result<MemoryFile
 }
 
 /// The words, parted by blanks.
-fn words_of(alloc: Global, words: &str) -> Result<Vec<String>, AllocError> {
+pub(crate) fn words_of(alloc: Global, words: &str) -> Result<Vec<String>, AllocError> {
     let mut list = Vec::new(alloc);
     for word in words.split_whitespace() {
         list.push(String::from_str(alloc, word)?)?;
@@ -62,12 +62,12 @@ fn words_of(alloc: Global, words: &str) -> Result<Vec<String>, AllocError> {
 }
 
 /// Calls the command with the words over these places.
-pub(crate) fn call_over<P: Places, K: Sink>(
+pub(crate) fn call_over<P: Places, K: Sink, F: Outlook>(
     alloc: Global,
     words: &[String],
     places: &mut P,
     out: &mut K,
-    outlook: &OneFile<'_>,
+    outlook: &F,
 ) -> Result<Answer, Fail>
     requires { (P.world places.old).reached ≡ 0 }
 {
