@@ -1,4 +1,3 @@
 pub mod Only
 pub mod Flat
 pub mod First
-pub mod Near

@@ -70,7 +70,7 @@ fn is_near(alloc: Global, name: &[u8], other: &[u8], most: usize) -> Result<bool
 }
 
 // The first definition whose name differs by so many letters at most.
-#[tactic(auto, using(crate::proofs::Near::near_more))]
+#[tactic(auto, using(lucid_explanations::proofs::Lent::find_more))]
 fn find_near<'a>(
     alloc: Global,
     defs: &[&'a Def],

@@ -2,6 +2,7 @@
 use Rattle.lucid_explanations.proofs.Common.{◌≡◌, ℕ, suc, ◌≤◌, ◌<◌, inl, inr, List, [], ◌∷◌, ◌++◌, Bool, true, false, refl, ap, sym, subst, ◌∙◌, arith, Def, Option, find, list_any, nat_eq, ◌||◌, if◌then◌else◌}
 use Rattle.std.specs.Prelude.{Some, None, IsSome, ◌⊎◌, ◌&&◌, nat_lt}
 use Rattle.std.specs.List.{filter}
+use Rattle.std.proofs.lemmas.Bool.{or_left, or_right}
 use Rattle.lucid_value.specs.Plain.{same_bytes}
 use Rattle.lucid_tree.specs.Env.{same_name}
 use Rattle.lucid_tree.specs.Members.{In}
@@ -67,14 +68,6 @@ again_known whole low test d at h l i t e =
     let r = h d.name t in
     before d r.0 i r.1 (sym e) (omega (arith, r.2, l, e)) r.3
 
-either : (b c : Bool) → b ≡ true → (b || c) ≡ true
-either true c e = refl
-either false c e = absurd (grind (arith, e))
-
-or_right : (b c : Bool) → c ≡ true → (b || c) ≡ true
-or_right true c e = refl
-or_right false c e = e
-
 at_itself : (p at : ℕ) → at ≡ p → nat_eq p at ≡ true
 at_itself p at e = grind (arith, e)
 
@@ -136,7 +129,7 @@ mutual
         | inl here ↦
             let a = again_here (test x) p at here in
             known_right at (in_scope at e) (block ++ rest)
-            (seen (sees_block at p (Plain e) (has_place at e)) whole at rest (either (nat_eq p at) (has_place at e) (at_itself p at a.1))
+            (seen (sees_block at p (Plain e) (has_place at e)) whole at rest (or_left (nat_eq p at) (has_place at e) (at_itself p at a.1))
             (again_known whole low test d at g r.0 (i d (inl refl)) a.0 a.1))
         | inr more ↦ elim (in_either (again at) (sites k e) (inside_sites k (also x test) ds) more) [
           | inl right ↦ known_left at (in_scope at e) (block ++ rest) (again_in k e at r.1 right)
@@ -155,14 +148,14 @@ mutual
             let a = again_here (test x) p at here in
             known_right at (in_scope at e) (block ++ rest)
             (seen (sees_block at p (Function ns ats e) (has_place at e)) whole at rest
-            (either (is_headed at p (Function ns ats e)) (has_place at e) (either (nat_eq p at) _ (at_itself p at a.1)))
+            (or_left (is_headed at p (Function ns ats e)) (has_place at e) (or_left (nat_eq p at) _ (at_itself p at a.1)))
             (again_known whole low test d at g r.0 (i d (inl refl)) a.0 a.1))
         | inr more ↦ elim (in_either (again at) (repeats no_names ns ats ++ sites (in_function p ns ats k) e) (inside_sites k (also x test) ds) more) [
           | inl own ↦ elim (in_either (again at) (repeats no_names ns ats) (sites (in_function p ns ats k) e) own) [
             | inl parameters ↦
                 let heads : is_headed at p (Function ns ats e) ≡ true = or_right (nat_eq p at) _ (repeated no_names ns ats at parameters) in
                 known_right at (in_scope at e) (block ++ rest)
-                (seen (sees_block at p (Function ns ats e) (has_place at e)) whole at rest (either (is_headed at p (Function ns ats e)) (has_place at e) heads)
+                (seen (sees_block at p (Function ns ats e) (has_place at e)) whole at rest (or_left (is_headed at p (Function ns ats e)) (has_place at e) heads)
                 (among d (i d (inl refl)) heads))
             | inr right ↦ known_left at (in_scope at e) (block ++ rest) (again_in (in_function p ns ats k) e at r.1 right)
           ]

@@ -17,7 +17,7 @@ pub use Rattle.lucid_value.specs.Laws.{TextIsRead}
 pub use Rattle.lucid_value.specs.Plain.{PlainValue}
 pub use Rattle.std.proofs.Common.{Bool, Err, List, None, Ok, Option, Result, Some, [], ap, append-nil, append_assoc, arith, cond, drop, eqb, false, inl, inr, le_refl, length, length-append, not, refl, subst, suc, sym, take, true, zero, zero-le, ℕ, ◌&&◌, ◌++◌, ◌+◌, ◌-◌, ◌<◌, ◌^◌, ◌||◌, ◌∙◌, ◌∷◌, ◌≡◌, ◌≤◌}
 pub use Rattle.std.proofs.Math.Seq.{drop-append_seam, take-append_seam}
-pub use Rattle.std.proofs.lemmas.Bool.{and_from, and_parts, cond-false, cond-true, eqb-true, le-leb, lt-ltb, ltb-false, not-true, or_cases, or_left}
+pub use Rattle.std.proofs.lemmas.Bool.{and_from, and_parts, cond-false, cond-true, eqb-true, le-leb, lt-ltb, ltb-false, not-true, or_cases, or_left, or_right}
 pub use Rattle.std.proofs.lemmas.Bool.Decides.{nat_tests}
 pub use Rattle.std.proofs.lemmas.Fmt.{decimal_is_IsNumeral_wide}
 pub use Rattle.std.specs.Borrow.{Bor}

@@ -1,5 +1,5 @@
 -- Terminals whose text is read as they are, before every byte that may come behind it.
-use Rattle.lucid_print.proofs.Common.{◌≡◌, ℕ, suc, ◌≤◌, List, [], ◌∷◌, ◌++◌, length, take, Some, Bool, true, false, cond, ◌&&◌, ◌||◌, inl, inr, refl, sym, ◌∙◌, ap, subst, arith, None, or_cases, and_parts, or_left, PlainValue, TextIsRead, TokenKind, Operator, Data, PlainTerminal, StandsFor, zero, ◌^◌, ◌<◌, not, eqb, Option, pos, neg_ℤ, decimal, is_ascii_digit, decimal_is_IsNumeral_wide, not-true, eqb-true, lt-ltb, le-leb, and_from, option_or, option_map}
+use Rattle.lucid_print.proofs.Common.{◌≡◌, ℕ, suc, ◌≤◌, List, [], ◌∷◌, ◌++◌, length, take, Some, Bool, true, false, cond, ◌&&◌, ◌||◌, inl, inr, refl, sym, ◌∙◌, ap, subst, arith, None, or_cases, and_parts, or_left, or_right, PlainValue, TextIsRead, TokenKind, Operator, Data, PlainTerminal, StandsFor, zero, ◌^◌, ◌<◌, not, eqb, Option, pos, neg_ℤ, decimal, is_ascii_digit, decimal_is_IsNumeral_wide, not-true, eqb-true, lt-ltb, le-leb, and_from, option_or, option_map}
 use Rattle.lucid_lemmas.proofs.Lists.{same_between}
 use Rattle.lucid_value.specs.Plain.{int, truth, word, text, list, eod, fault, Items, no_items, item, weight, nesting, may_be_held, well_formed, all_well_formed, in_range, all_in_range, is_i128, is_value, within_limits, same_bytes}
 use Rattle.lucid_value.specs.Names.{is_name, is_name_byte, is_reserved, reserved_words}
@@ -58,10 +58,6 @@ stop_digit b h = not-true (is_ascii_digit b) (among_every (λ c. not (is_ascii_d
 false_or : (a b : Bool) → a ≡ false → (a || b) ≡ true → b ≡ true
 false_or true b h k = cc
 false_or false b h k = k
-
-pub or_right : (a b : Bool) → b ≡ true → (a || b) ≡ true
-or_right true b h = refl
-or_right false b h = h
 
 -- a reserved word
 reserved_good : (s : PlainTerminal) → fixed_terminal (terminal_text s) ≡ Some s → is_reserved (terminal_text s) ≡ true → is_open s ≡ false → Good s

@@ -1,5 +1,5 @@
 -- A text of good terminals is scanned as words of these terminals.
-use Rattle.lucid_print.proofs.Common.{◌≡◌, ℕ, suc, ◌+◌, ◌≤◌, List, [], ◌∷◌, ◌++◌, length, take, drop, Bool, true, false, cond, ◌&&◌, ◌||◌, inl, inr, refl, sym, ◌∙◌, ap, subst, arith, zero-le, append_assoc, or_cases, and_parts, cond-true, cond-false, or_left, TextIsRead, TokenKind, PlainTree, form, name, call, block, PlainTrees, no_trees, tree, PlainDefs, no_defs, defines, defines_function, defines_current, PlainTerminal, PlacedTerminal, terminal_at, Spells, StandsFor, looser, unplaced, all_unplaced, defs_unplaced, ◌-◌, le_refl, length-append, slice_range, max, All, take-append_seam, drop-append_seam}
+use Rattle.lucid_print.proofs.Common.{◌≡◌, ℕ, suc, ◌+◌, ◌≤◌, List, [], ◌∷◌, ◌++◌, length, take, drop, Bool, true, false, cond, ◌&&◌, ◌||◌, inl, inr, refl, sym, ◌∙◌, ap, subst, arith, zero-le, append_assoc, or_cases, and_parts, cond-true, cond-false, or_left, or_right, TextIsRead, TokenKind, PlainTree, form, name, call, block, PlainTrees, no_trees, tree, PlainDefs, no_defs, defines, defines_function, defines_current, PlainTerminal, PlacedTerminal, terminal_at, Spells, StandsFor, looser, unplaced, all_unplaced, defs_unplaced, ◌-◌, le_refl, length-append, slice_range, max, All, take-append_seam, drop-append_seam}
 use Rattle.lucid_scan.specs.declared.token.Token.{Token}
 use Rattle.lucid_scan.specs.Tokens.{IsLongest, past_gap, token, Tokens, tokens_end, tokens_next}
 use Rattle.lucid_scan.specs.Tokens.{gap as gap_length}
@@ -14,7 +14,7 @@ use Rattle.lucid_parse.specs.Terminals.{Terminals}
 use Rattle.lucid_print.specs.Canonical.{canonical}
 use Rattle.lucid_print.specs.Again.{IsReadAs, IsParsed}
 use Rattle.lucid_print.proofs.Terminals.{terminal_text, is_open, is_closer, is_callable, is_tight, gap, after}
-use Rattle.lucid_print.proofs.Goods.{Good, AllGood, stoppers, among, or_right}
+use Rattle.lucid_print.proofs.Goods.{Good, AllGood, stoppers, among}
 use Rattle.lucid_print.proofs.Printed.{terminals_of, AllWritten, print}
 
 -- the byte behind a terminal

@@ -1,4 +1,5 @@
 -- What a check of a certificate promises, as it is seen from outside.
+use Rattle.lucid_cert.proofs.MeantSoFar.{most_of, within_most}
 use Rattle.lucid_top.proofs.Common.{◌≡◌, ℕ, ◌+◌, ◌<◌, ◌≤◌, List, [], ◌∷◌, length, map, get_or, Option, Some, None, Ok, Err, ◌⊎◌, inl, inr, refl, sym, ap, subst, ◌∙◌, arith, zero, suc, IfSome, slice_get, option_map, slice_get_within, slice_get-get_or, World, all_bytes, Elements, Table, equations_of, IsOverlong, KeepsTree, PlainTree, tree_stream, PlainWords, Told, HasElements, RunView, Stop, Outcome, viewed, most_input_bytes, WritesOnly, Why, IsRight, contexts, Checks, ConsumesFor, ConsumesNothing, EndsSo, IsCheckStop, IsLast, IsLastLine, IsProvedLine, LiesPast, NoneTellsPast, IsStopped, Proves, TellsPast, looked_at}
 use Rattle.std.proofs.Common.{Result}
 use Rattle.std.proofs.lemmas.Option.{get_or_from_slice_get}
@@ -31,19 +32,6 @@ use Rattle.lucid_top.proofs.Ending.{as_text}
 use Rattle.lucid_top.proofs.Unread.{ReadOn, of_told, reads, was_there, was_at, is_at, fits_at, may_be as may_read, stays_within}
 use Rattle.lucid_top.proofs.Views.{TellAlike}
 
--- the times and the uses of judgments together
-abbrev most_of : List PlainJudgment → ℕ
-most_of [] = 0
-most_of (j ∷ js) = (j.time + length j.uses) + most_of js
-
-most_is : (js : List PlainJudgment) (i : ℕ) (j : PlainJudgment) → slice_get js i ≡ Some j → j.time + length j.uses ≤ most_of js
-most_is js i j at = by js i at
-  where
-    by : (js : List PlainJudgment) (i : ℕ) → slice_get js i ≡ Some j → j.time + length j.uses ≤ most_of js
-    by [] i at = absurd (cc at)
-    by (x ∷ js) zero at = let same : x ≡ j = cc at in subst (λ (y : PlainJudgment). y.time + length y.uses ≤ most_of (x ∷ js)) same (omega arith)
-    by (x ∷ js) (suc i) at = let more = by js i at in omega (arith, more)
-
 -- A certificate that is right proves its value.
 module _ (meant : WhatFollowsIsMeant) (T : Table) (range : IsInRange T) (b : Elements) (w : Why) (right : IsRight T b w) where
   -- its last judgment is the root's
@@ -61,7 +49,7 @@ module _ (meant : WhatFollowsIsMeant) (T : Table) (range : IsInRange T) (b : Ele
       let n : ℕ = right.before + 1 + most_of w.judgments in
       let long = right.last_number in
       let lt : right.before < length w.judgments = omega (arith, long) in
-      let is = meant T range b w (length w.judgments) (most_of w.judgments) right.all (λ i x l at. most_is w.judgments i x at) right.before j _ lt right.of_root.there right.of_root.context in (
+      let is = meant T range b w (length w.judgments) (most_of w.judgments) right.all (λ i x l at. within_most w.judgments i x at) right.before j _ lt right.of_root.there right.of_root.context in (
         n,
         subst (λ s. node_val (equations_of T) b n (node_at T T.root) _ j.time s ≡ Some j.value) right.of_root.space
             (subst (λ id. node_val (equations_of T) b n (node_at T id) _ j.time j.space ≡ Some j.value) right.of_root.node is),

@@ -1,4 +1,5 @@
 -- Constants, words and integers: what the reader gives of their bytes is what the bytes denote.
+use Rattle.std.proofs.lemmas.Bool.{or_left}
 use Rattle.lucid_value.proofs.Common.{◌≡◌, ℕ, zero, suc, ◌≤◌, ◌^◌, List, [], ◌∷◌, Bool, true, false, Option, Some, None, refl, sym, ap, subst, arith, ◌&&◌, ◌||◌, pos, neg_ℤ, nat_lt, nat_le, nat_eq, if◌then◌else◌, list_all, both_true, and_parts, leb-true, le-leb, ltb-true, lt-ltb, eqb-true, nat_tests, PlainValue, int, truth, word, text, list, eod, fault, is_light, weight, is_number, number_of, Denotes, denotes_number, denotes_minus, denotes_true, denotes_false, denotes_word, denotes_text, denotes_list, denotes_eod, denotes_fault, atom_value, is_atom_byte, rules, Result, Ok, Err, ℤ, not, codes, option_map, result_ok, OkIff, is_ascii_digit, is_ascii_alphabetic, is_ascii_alphanumeric, IsUtf8, IsAscii, ParsesSigned, IsAscii-from_digits, IsUtf8-from_ascii, IsDigitsTest, WeighsDigits, IsNumeralModel, numerals_by_weight, parse_signed_minus, parse_signed_plain, Decides-eqb, slice_eq-Decides}
 use Rattle.std.proofs.Common.{◌<◌, length}
 use mir.Syntax.{w128}
@@ -186,10 +187,6 @@ atom_read bs v (denotes_list bs' vs d) a w = cc
 atom_read bs v _ a w = refl
 
 -- all its bytes are those of atoms
-or_left : (a b : Bool) → a ≡ true → (a || b) ≡ true
-or_left true b h = refl
-or_left false b h = cc
-
 digit_atom : (d : ℕ) → is_ascii_digit d ≡ true → is_atom_byte d ≡ true
 digit_atom d h = grind (arith, nat_tests)
 
