@@ -13,7 +13,8 @@ module _ (scoped : Scoped) (given : List (List ℕ)) (end : ℕ) where
       let e : room - 0 ≡ 0 = omega (arith, none) in
       subst Q (sym none) (no_room stream name names those (subst P e f))
 
-  pub first_lacks : (room stream : ℕ) (l : Lacking) (name : List ℕ) (names : List (List ℕ)) (those : List Lacking) → 0 < room → IsLacking scoped given stream l → l.name.now ≡ name
+  pub first_lacks : (room stream : ℕ) (l : Lacking) (name : List ℕ) (names : List (List ℕ)) (those : List Lacking) → 0 < room → IsLacking scoped given stream l
+      → l.name.now ≡ name
       → AreFirst scoped given end (room - 1) (stream + 1) names those → AreFirst scoped given end room stream (name ∷ names) (l ∷ those)
   first_lacks room stream l name names those some lacking is f =
       let Q : ℕ → Type 0 = λ n. AreFirst scoped given end n stream (l.name.now ∷ names) (l ∷ those) in

@@ -22,7 +22,8 @@ pub record Passed (inputs given : List (List ℕ)) (i : ℕ) (only : Option (Lis
   pub rest : (n : List ℕ) → Contains (take i inputs) n → Contains given n ⊎ (only ≡ Some n)
 
 -- one more of them
-more : (inputs : List (List ℕ)) (i : ℕ) (x n : List ℕ) → i < length inputs → x ≡ get_or inputs i x → Contains (take (i + 1) inputs) n → Contains (take i inputs) n ⊎ (x ≡ n)
+more : (inputs : List (List ℕ)) (i : ℕ) (x n : List ℕ) → i < length inputs → x ≡ get_or inputs i x → Contains (take (i + 1) inputs) n
+    → Contains (take i inputs) n ⊎ (x ≡ n)
 more inputs i x n h is c =
     let P : List (List ℕ) → Type 0 = λ l. Contains l n in
     let pushed : Contains (take i inputs ++ get_or inputs i x ∷ []) n = subst P (take_more inputs i x h) c in
@@ -94,7 +95,8 @@ pub passed_seconded : (inputs given : List (List ℕ)) (i : ℕ) (x : List ℕ) 
 passed_seconded inputs given i x None differ h is free e p = absurd (cc)
 passed_seconded inputs given i x (Some b) differ h is free e p = passed_second inputs given i x b.now differ h is free p
 
-pub unfound : (inputs given : List (List ℕ)) (i : ℕ) (only : Option (Bor (List ℕ))) → is_some only ≡ false → Passed inputs given i (option_copied only) → Passed inputs given i None
+pub unfound : (inputs given : List (List ℕ)) (i : ℕ) (only : Option (Bor (List ℕ))) → is_some only ≡ false → Passed inputs given i (option_copied only)
+    → Passed inputs given i None
 unfound inputs given i None e p = p
 unfound inputs given i (Some b) e p = absurd (cc)
 

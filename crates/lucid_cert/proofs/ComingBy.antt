@@ -52,13 +52,15 @@ module _ (m : ℕ) (r : Reader (Option PlainValue)) where
   taken_one : (l : Look) (u : ℕ) (v : PlainValue) → nat_le l.least m ≡ true → r l.part l.time l.space ≡ Some v → taken_by m r l u ≡ Some v
   taken_one l u v a e = rw (a, e) refl
 
-  taken_all : (ls : List Look) → AllTaken m ls → (vs : List PlainValue) → all_values r ls ≡ Some vs → (us : List ℕ) → take_values (taken_by m r) ls (any_uses ls ++ us) ≡ Some (vs, us)
+  taken_all : (ls : List Look) → AllTaken m ls → (vs : List PlainValue) → all_values r ls ≡ Some vs → (us : List ℕ)
+      → take_values (taken_by m r) ls (any_uses ls ++ us) ≡ Some (vs, us)
   taken_all [] none_taken vs e us = let f : [] ≡ vs = same_Some [] vs e in ap (λ (ws : List PlainValue). Some (ws, us)) f
   taken_all (l ∷ ls) (one_taken a rest) vs e us =
       let q = added (r l.part l.time l.space) (all_values r ls) vs e in
       let first : taken_by m r l 0 ≡ Some q.0 = taken_one l 0 q.0 a q.2 in
       let others : take_values (taken_by m r) ls (any_uses ls ++ us) ≡ Some (q.1, us) = taken_all ls rest q.1 q.3 us in
-      let is : ◌≡◌ {A = Option (List PlainValue)} (Some (q.0 ∷ q.1)) (Some vs) = sym (ap (λ (o : Option PlainValue). add_value o (all_values r ls)) q.2 ∙ ap (λ (o : Option (List PlainValue)). add_value (Some q.0) o) q.3) ∙ e in
+      let is : ◌≡◌ {A = Option (List PlainValue)} (Some (q.0 ∷ q.1)) (Some vs) =
+      sym (ap (λ (o : Option PlainValue). add_value o (all_values r ls)) q.2 ∙ ap (λ (o : Option (List PlainValue)). add_value (Some q.0) o) q.3) ∙ e in
       rw (first, others) (ap (λ (ws : List PlainValue). Some (ws, us)) (same_Some (q.0 ∷ q.1) vs is))
 
   -- A plan of looks that the limit takes is fed by them where it has a value.
@@ -67,7 +69,8 @@ module _ (m : ℕ) (r : Reader (Option PlainValue)) where
   runs_fed nothing takes v e = absurd (cc)
   runs_fed (looks ls k) (takes_looks all each) v e = on (λ vs h. runs_fed (k vs) (each vs) v h) (all_values r ls) refl e
     where
-      on : ((vs : List PlainValue) → run (k vs) r ≡ Some v → (us : List ℕ) × (fed (taken_by m r) (k vs) us ≡ Some v)) → (o : Option (List PlainValue)) → all_values r ls ≡ o
+      on : ((vs : List PlainValue) → run (k vs) r ≡ Some v → (us : List ℕ) × (fed (taken_by m r) (k vs) us ≡ Some v)) → (o : Option (List PlainValue))
+          → all_values r ls ≡ o
           → with_values o None (λ vs. run (k vs) r) ≡ Some v → (us : List ℕ) × (fed (taken_by m r) (looks ls k) us ≡ Some v)
       on later None is h = absurd (cc)
       on later (Some vs) is h =
@@ -100,18 +103,21 @@ module _ (M : Look → PlainValue → Type 0) (p : ℕ → Plan) (time : ℕ) wh
     fed_from vs x (gone_on ws l w r before m a s) =
         let stands : CanGoOn (length ws) l = stands_after M p time ws (rest.Look l) before in
         let f = fed_from ws (rest.Look l) before in
-        let one = fed_look value l.part l.time l.space (least_of l.then l.time) (by_then f.least ws l.then l.part l.time l.space) f.uses v (f.fed_by f.least (omega arith)) in
+        let one = fed_look value l.part l.time l.space (least_of l.then l.time) (by_then f.least ws l.then l.part l.time l.space) f.uses v
+        (f.fed_by f.least (omega arith)) in
         let same : w ≡ one.first = agree (plain_look l) w one.first one.number m one.has in
         record {
           least = max f.least (length ws + 1 + length one.others);
           uses = one.others;
           fed_by = λ n h.
-              let here = fed_look value l.part l.time l.space (least_of l.then l.time) (by_then n ws l.then l.part l.time l.space) f.uses v (f.fed_by n (omega (arith, h))) in
+              let here = fed_look value l.part l.time l.space (least_of l.then l.time) (by_then n ws l.then l.part l.time l.space) f.uses v
+              (f.fed_by n (omega (arith, h))) in
               let others : here.others ≡ one.others = tails here.number one.number here.others one.others (sym here.are ∙ one.are) in
               let again : w ≡ here.first = agree (plain_look l) w here.first here.number m here.has in
               let P : PlainValue → Type 0 = λ x. fed value (by_then n ws l.then l.part l.time l.space x) one.others ≡ Some v in
               let Q : List ℕ → Type 0 = λ us. fed value (by_then n ws l.then l.part l.time l.space here.first) us ≡ Some v in
-              sym ((a n (length ws) (length one.others) ws stands (omega (arith, h))).fed value one.others (omega arith)) ∙ subst P (sym again) (subst Q others here.left);
+              sym ((a n (length ws) (length one.others) ws stands (omega (arith, h))).fed value one.others (omega arith))
+              ∙ subst P (sym again) (subst Q others here.left);
         }
       where
         tails : (x y : ℕ) (xs ys : List ℕ) → x ∷ xs ≡ y ∷ ys → xs ≡ ys
@@ -121,15 +127,18 @@ module _ (M : Look → PlainValue → Type 0) (p : ℕ → Plan) (time : ℕ) wh
     pub next_has : (vs : List PlainValue) (l : NextLook) → ComesTo M p time vs (rest.Look l) → (u : ℕ) × (w : PlainValue) × (value (plain_look l) u ≡ Some w)
     next_has vs l comes =
         let f = fed_from vs (rest.Look l) comes in
-        let one = fed_look value l.part l.time l.space (least_of l.then l.time) (by_then f.least vs l.then l.part l.time l.space) f.uses v (f.fed_by f.least (omega arith)) in
+        let one = fed_look value l.part l.time l.space (least_of l.then l.time) (by_then f.least vs l.then l.part l.time l.space) f.uses v
+        (f.fed_by f.least (omega arith)) in
         (one.number, one.first, one.has)
 
   -- Where what is left looks, the plan looks, by readers that have the values on the way from some limit on.
   module _ (rs : ℕ → Reader (Option PlainValue)) (has : (l : Look) (v : PlainValue) → M l v → (n : ℕ) × ((k : ℕ) → n ≤ k → Reads (rs k) l v)) where
-    look_seen : (m : ℕ) (r : Reader (Option PlainValue)) (i t s least : ℕ) (k : PlainValue → Plan) (v : PlainValue) → r i t s ≡ Some v → Inside (points_of m (k v) r) (points_of m (look i t s least k) r)
+    look_seen : (m : ℕ) (r : Reader (Option PlainValue)) (i t s least : ℕ) (k : PlainValue → Plan) (v : PlainValue) → r i t s ≡ Some v
+        → Inside (points_of m (k v) r) (points_of m (look i t s least k) r)
     look_seen m r i t s least k v e z h = rw e (in_right z ((if nat_le least m then (i, t, s) ∷ [] else []) ++ []) (points_of m (k v) r) h)
 
-    pub looks_from : (vs : List PlainValue) (r : Rest) → ComesTo M p time vs r → (least : ℕ) × ((n : ℕ) → least ≤ n → (m : ℕ) → Inside (points_of m (rest_plan n vs r) (rs n)) (points_of m (p n) (rs n)))
+    pub looks_from : (vs : List PlainValue) (r : Rest) → ComesTo M p time vs r
+        → (least : ℕ) × ((n : ℕ) → least ≤ n → (m : ℕ) → Inside (points_of m (rest_plan n vs r) (rs n)) (points_of m (p n) (rs n)))
     looks_from vs x (begun r a s) = (time + 1, λ n h m. (a n 1 h).look (omega arith) m (rs n))
     looks_from vs x (gone_on ws l w r before held a s) =
         let stands : CanGoOn (length ws) l = stands_after M p time ws (rest.Look l) before in
@@ -137,7 +146,8 @@ module _ (M : Look → PlainValue → Type 0) (p : ℕ → Plan) (time : ℕ) wh
         let from = has (plain_look l) w held in (
           max (max f.0 from.0) (length ws + 2),
           λ n h m z i.
-              f.1 n (omega (arith, h)) m z (look_seen m (rs n) l.part l.time l.space (least_of l.then l.time) (by_then n ws l.then l.part l.time l.space) w (from.1 n (omega (arith, h))) z
+              f.1 n (omega (arith, h)) m z (look_seen m (rs n) l.part l.time l.space (least_of l.then l.time) (by_then n ws l.then l.part l.time l.space) w
+              (from.1 n (omega (arith, h))) z
               ((a n (length ws) 1 ws stands (omega (arith, h))).look (omega arith) m (rs n) z i)),
         )
 
@@ -151,5 +161,6 @@ module _ (M : Look → PlainValue → Type 0) (p : ℕ → Plan) (time : ℕ) wh
         first : (n : ℕ) → In (l.part, l.time, l.space) (points_of m (look_plan n vs l) (rs n))
         first n =
             in_left (l.part, l.time, l.space) ((if nat_le (least_of l.then l.time) m then (l.part, l.time, l.space) ∷ [] else []) ++ [])
-            (with_values (add_value (rs n l.part l.time l.space) (Some [])) [] (λ ws. points_of m (single (by_then n vs l.then l.part l.time l.space) ws) (rs n)))
+            (with_values (add_value (rs n l.part l.time l.space) (Some [])) []
+            (λ ws. points_of m (single (by_then n vs l.then l.part l.time l.space) ws) (rs n)))
             (rw (le-leb (least_of l.then l.time) m low) (inl refl))

@@ -35,7 +35,8 @@ module _ (T : Table) (first : Inputs) (w : World) (limit time : ℕ) where
   }
 
   -- what a wanted input tells, the root looks up
-  consulted : (range : IsInRange T) (b : Elements) (x : PlainTask) (k : ℕ) → IsWanted T b (root_task T limit time) x → row_at T x.node ≡ Some (Input k) → 0 < x.limit
+  consulted : (range : IsInRange T) (b : Elements) (x : PlainTask) (k : ℕ) → IsWanted T b (root_task T limit time) x → row_at T x.node ≡ Some (Input k)
+      → 0 < x.limit
       → IsConsulted demand b (get_or T.inputs k []) x.time
   consulted range b x k want there some = record {
     added = want.added;
@@ -43,8 +44,10 @@ module _ (T : Table) (first : Inputs) (w : World) (limit time : ℕ) where
     holds = λ d l. input_is_consulted T b (root_task T limit time) x want range k there some d l;
   }
 
-  module _ (range : IsInRange T) (x : PlainTask) (k : ℕ) (there : row_at T x.node ≡ Some (Input k)) (some : 0 < x.limit) (now next : Inputs) (before after : World)
-      (want : (b : Elements) → MayBe T now b → IsWanted T b (root_task T limit time) x) (count : length (streams now) ≡ length T.inputs) (below : k < length (streams now))
+  module _ (range : IsInRange T) (x : PlainTask) (k : ℕ) (there : row_at T x.node ≡ Some (Input k)) (some : 0 < x.limit) (now next : Inputs)
+      (before after : World)
+      (want : (b : Elements) → MayBe T now b → IsWanted T b (root_task T limit time) x) (count : length (streams now) ≡ length T.inputs)
+      (below : k < length (streams now))
       (apart : AllDiffer (places_of (streams now))) (r : ReadsStream now k x.time next before after) where
     named : slice_get T.inputs k ≡ Some (get_or T.inputs k [])
     named = slice_get-get_or T.inputs k [] (omega (arith, count, below))
@@ -63,16 +66,19 @@ module _ (T : Table) (first : Inputs) (w : World) (limit time : ℕ) where
     }
 
     may_before : (b : Elements) → MayBe T next b → MayBe T now b
-    may_before b m n j v e = m n j v (read_more (streams now) (streams next) k x.time before after (streams_read now next k x.time before after below r) apart T.inputs n j v e)
+    may_before b m n j v e = m n j v (read_more (streams now) (streams next) k x.time before after (streams_read now next k x.time before after below r) apart
+        T.inputs n j v e)
 
     -- No stream is drawn further,
     pub drawn_on : AreAskable (streams now) before → HasDrawn T first now before limit time → HasDrawn T first next after limit time
     drawn_on ask was =
-        (stock_reads demand refl (view_of T now) (view_of T next) k x.time (get_or T.inputs k []) before after named apart reads (λ b m. consulted range b x k (want b m) there some)
+        (stock_reads demand refl (view_of T now) (view_of T next) k x.time (get_or T.inputs k []) before after named apart reads
+        (λ b m. consulted range b x k (want b m) there some)
         (record { stock = λ b m. nothing_held b now; drawn = was; askable = ask })).drawn
 
     -- and one that is too large is consulted.
-    pub overlong_consulted : LiesPast now before k x.time → (stream_at next k).consumed ≡ most_bytes now → (b : Elements) → MayBe T next b → ConsultsOverlong (view_of T next) b after k limit time 0
+    pub overlong_consulted : LiesPast now before k x.time → (stream_at next k).consumed ≡ most_bytes now → (b : Elements) → MayBe T next b
+        → ConsultsOverlong (view_of T next) b after k limit time 0
     overlong_consulted past full b m = record {
       name = get_or T.inputs k [];
       named = named;
@@ -82,7 +88,8 @@ module _ (T : Table) (first : Inputs) (w : World) (limit time : ℕ) where
       read_from = stream_there next k (omega (arith, below, r.count));
       overlong = subst (λ (p : ℕ). IfSome (after.place p).contents (λ c. IsOverlong (all_bytes c) x.time (most_bytes next))) (sym r.asked.place)
           (subst (λ (q : ℕ). IfSome (after.place (stream_at now k).place).contents (λ c. IsOverlong (all_bytes c) x.time q)) (sym r.most)
-          (of_bytes (λ bs. IsOverlong bs x.time (most_bytes now)) (before.place (stream_at now k).place).contents (after.place (stream_at now k).place).contents (r.bytes (stream_at now k).place) past));
+          (of_bytes (λ bs. IsOverlong bs x.time (most_bytes now)) (before.place (stream_at now k).place).contents (after.place (stream_at now k).place).contents
+          (r.bytes (stream_at now k).place) past));
       full = full ∙ sym r.most;
     }
       where

@@ -23,13 +23,16 @@ all_have : {X : Type 0} (P : X → Type 0) (xs : List X) → Each P xs → AllBy
 all_have P [] h = tt
 all_have P (x ∷ xs) h = (h 0 x refl, all_have P xs (λ i y e. h (suc i) y e))
 
-rows_shown : (cs : List ContextRow) (js : List PlainJudgment) → AllByRecursion (λ r. MayShow (context_row r)) cs → AllByRecursion MayShowJudgment js → AllByRecursion MayShow (map context_row cs ++ map judgment_row js)
+rows_shown : (cs : List ContextRow) (js : List PlainJudgment) → AllByRecursion (λ r. MayShow (context_row r)) cs → AllByRecursion MayShowJudgment js
+    → AllByRecursion MayShow (map context_row cs ++ map judgment_row js)
 rows_shown [] [] h k = tt
 rows_shown [] (j ∷ js) h k = (k.0, rows_shown [] js h k.1)
 rows_shown (c ∷ cs) js h k = (h.0, rows_shown cs js h.1 k)
 
-module _ (T : Table) (known : List Context) (keys : List Key) (js : List PlainJudgment) (waiting : List Making) (s : IsSoundBy T known keys js waiting) (at : Position) (is_root : IsRoot T at) (n : ℕ)
-    (it : IsJudgmentAt js (spot_at at 0) n) (w : Why) (rows : contexts_behind (Some root ∷ []) w.contexts ≡ map Some known) (front : w.judgments ≡ take (n + 1) js) where
+module _ (T : Table) (known : List Context) (keys : List Key) (js : List PlainJudgment) (waiting : List Making) (s : IsSoundBy T known keys js waiting)
+    (at : Position) (is_root : IsRoot T at) (n : ℕ)
+    (it : IsJudgmentAt js (spot_at at 0) n) (w : Why) (rows : contexts_behind (Some root ∷ []) w.contexts ≡ map Some known)
+    (front : w.judgments ≡ take (n + 1) js) where
   its_contexts : contexts w ≡ map Some known
   unfolding contexts
   its_contexts = rows
@@ -71,10 +74,12 @@ module _ (T : Table) (known : List Context) (keys : List Key) (js : List PlainJu
   all_follow : (b : Elements) → FollowAmong T b known js → (i : ℕ) → i < length w.judgments → FollowsIn T b (contexts w) w.judgments i
   all_follow b follow i l =
       subst (λ (cs : List (Option Context)). FollowsIn T b cs w.judgments i) (sym its_contexts)
-      (follow_in_front T b (map Some known) w.judgments behind i l (subst (λ (xs : List PlainJudgment). FollowsIn T b (map Some known) xs i) (sym whole) (follow i (omega (arith, l, count, below)))))
+      (follow_in_front T b (map Some known) w.judgments behind i l
+      (subst (λ (xs : List PlainJudgment). FollowsIn T b (map Some known) xs i) (sym whole) (follow i (omega (arith, l, count, below)))))
 
   -- no two judgments are of one node in one context at one point
-  one_number : (i k : ℕ) (j l : PlainJudgment) → slice_get js i ≡ Some j → slice_get js k ≡ Some l → context_in (contexts w) j.context ≡ context_in (contexts w) l.context → j.context ≡ l.context
+  one_number : (i k : ℕ) (j l : PlainJudgment) → slice_get js i ≡ Some j → slice_get js k ≡ Some l
+      → context_in (contexts w) j.context ≡ context_in (contexts w) l.context → j.context ≡ l.context
   one_number i k j l e f same =
       s.once.places j.context l.context (s.contexts i j e) (s.contexts k l f)
       (same_Some (context_at known j.context) (context_at known l.context)

@@ -25,7 +25,8 @@ is_used known js at s u there h =
       earlier = slice_get_within js u h.judgment h.there;
       judgment = h.judgment;
       there = h.there;
-      is = both_hold _ _ (eq-eqb h.judgment.node at.node node) (both_hold _ _ (ap (λ (o : Option Context). is_context o (context_of known at.context)) context ∙ same)
+      is = both_hold _ _ (eq-eqb h.judgment.node at.node node)
+          (both_hold _ _ (ap (λ (o : Option Context). is_context o (context_of known at.context)) context ∙ same)
           (both_hold _ _ (eq-eqb h.judgment.time at.time time) (eq-eqb h.judgment.space s space)));
       value = refl;
     })
@@ -45,16 +46,29 @@ is_used known js at s u there h =
     same : same_context (context_of known at.context) (context_of known at.context) ≡ true
     same = (same_context_is_equality (context_of known at.context) (context_of known at.context)).1 refl
 
-module _ (T : Table) (known : List Context) (js : List PlainJudgment) (at : Position) (space : ℕ) (node : Node) (row : row_at T at.node ≡ Some node) (meaning : node_at T at.node ≡ node_by T node) where
+module _ (T : Table) (known : List Context) (js : List PlainJudgment) (at : Position) (space : ℕ) (node : Node) (row : row_at T at.node ≡ Some node)
+    (meaning : node_at T at.node ≡ node_by T node) where
   -- It begins as its form's plan does.
-  pub forming_begins : (r : Rest) → IsForm node → ((f : Head) → HasHead T node f → (m most : ℕ) → at.time + most ≤ m → AreFedAlike most (plan m f at.time space) (rest_plan m [] r)) → Stands 0 r
+  pub forming_begins : (r : Rest) → IsForm node → ((f : Head) → HasHead T node f → (m most : ℕ) → at.time + most ≤ m
+      → AreFedAlike most (plan m f at.time space) (rest_plan m [] r)) → Stands 0 r
       → LooksInside (length (parts node)) r → IsForming T known js at space [] r
   forming_begins r form begins stands inside =
-      record { node = node; row = row; meaning = meaning; form = form; trace = λ f has. begun r (begins f has) stands; stands = stands; earlier = tt; inside = inside }
+      record {
+        node = node;
+        row = row;
+        meaning = meaning;
+        form = form;
+        trace = λ f has. begun r (begins f has) stands;
+        stands = stands;
+        earlier = tt;
+        inside = inside;
+      }
 
 -- With one more use, of the look that stands next, it goes on as that does.
-module _ (T : Table) (known : List Context) (js : List PlainJudgment) (at : Position) (space : ℕ) (uses : List ℕ) (l : Look) (f : IsForming T known js at space uses (rest.Look l)) (u : ℕ) (v : PlainValue) (r : Rest)
-    (p : ℕ) (part : part_number T at.node l.part ≡ Some p) (context : IsOfContext known at.context) (it : IsJudgmentAt js (spot_at (record at { node = p; time = l.time }) l.space) u) (is : v ≡ told js u) where
+module _ (T : Table) (known : List Context) (js : List PlainJudgment) (at : Position) (space : ℕ) (uses : List ℕ) (l : Look)
+    (f : IsForming T known js at space uses (rest.Look l)) (u : ℕ) (v : PlainValue) (r : Rest)
+    (p : ℕ) (part : part_number T at.node l.part ≡ Some p) (context : IsOfContext known at.context)
+    (it : IsJudgmentAt js (spot_at (record at { node = p; time = l.time }) l.space) u) (is : v ≡ told js u) where
   its_value : values_for T known js at (plain_look l) u ≡ Some v
   its_value =
       ap (option_and_then (λ n. used (map Some known) js (length js) n (context_of known at.context) l.time l.space u)) part
@@ -63,7 +77,8 @@ module _ (T : Table) (known : List Context) (js : List PlainJudgment) (at : Posi
   more_told : map (told js) uses ++ v ∷ [] ≡ map (told js) (uses ++ u ∷ [])
   more_told = ap (λ (x : PlainValue). map (told js) uses ++ x ∷ []) is ∙ sym (map-append (told js) uses (u ∷ []))
 
-  pub forming_goes : ((m k most : ℕ) (ws : List PlainValue) → CanGoOn k l → k + 1 + most ≤ m → AreFedAlike most (by_then m ws l.then l.part l.time l.space v) (rest_plan m (ws ++ v ∷ []) r))
+  pub forming_goes : ((m k most : ℕ) (ws : List PlainValue) → CanGoOn k l → k + 1 + most ≤ m
+      → AreFedAlike most (by_then m ws l.then l.part l.time l.space v) (rest_plan m (ws ++ v ∷ []) r))
       → ((k : ℕ) → CanGoOn k l → Stands (k + 1) r) → LooksInside (length (parts f.node)) r → IsForming T known js at space (uses ++ u ∷ []) r
   forming_goes goes stands inside = record {
     node = f.node;
@@ -82,14 +97,16 @@ module _ (T : Table) (known : List Context) (js : List PlainJudgment) (at : Posi
       all_and (x ∷ us) h = (h.0, all_and us h.1)
 
 -- Where it gives a value by itself, its node gives that from its uses.
-pub forming_ends : (T : Table) (known : List Context) (js : List PlainJudgment) (at : Position) (space : ℕ) (uses : List ℕ) (r : Rest) (v : PlainValue) → IsForming T known js at space uses r
+pub forming_ends : (T : Table) (known : List Context) (js : List PlainJudgment) (at : Position) (space : ℕ) (uses : List ℕ) (r : Rest) (v : PlainValue)
+    → IsForming T known js at space uses r
     → ((m : ℕ) → gives_only (rest_plan m (map (told js) uses) r) v) → (b : Elements) → GivesBy T b known js at space uses v
 forming_ends T known js at space uses r v f gives b =
     let g = form_gives T b (used (map Some known) js (length js)) at.node f.node f.row f.meaning (context_of known at.context) at.time space uses f.form in
     g.gives ∙ ends (λ m. plan m g.head at.time space) at.time (values_for T known js at) (f.trace g.head g.has) v (gives (at.time + length uses))
 
 -- What passes on has one use, whose value it has.
-pub passing_ends : (T : Table) (known : List Context) (js : List PlainJudgment) (at : Position) (space : ℕ) (uses : List ℕ) (on : Position) (u : ℕ) (v : PlainValue) → IsPassing T known at space uses on
+pub passing_ends : (T : Table) (known : List Context) (js : List PlainJudgment) (at : Position) (space : ℕ) (uses : List ℕ) (on : Position) (u : ℕ)
+    (v : PlainValue) → IsPassing T known at space uses on
     → IsJudgmentAt js (spot_at on space) u → v ≡ told js u → (b : Elements) → GivesBy T b known js at space (uses ++ u ∷ []) v
 passing_ends T known js at space uses on u v p it is b =
     ap (λ (us : List ℕ). given T b (used (map Some known) js (length js)) at.node (context_of known at.context) at.time space (us ++ u ∷ [])) p.no_uses
@@ -102,26 +119,31 @@ module _ (T : Table) (old new : List Context) (keeps : KeepsKnown old new) (js m
   pub may_still : (at : Position) (space : ℕ) → MayJudge T old at space → MayJudge T new at space
   may_still at space m = record { within = m.within; context = keeps_tag old new at.context keeps m.context; space_in_range = m.space_in_range }
 
-  values_still : (at : Position) → IsOfContext old at.context → (l : _) (u : ℕ) (v : PlainValue) → values_for T old js at l u ≡ Some v → values_for T new (js ++ more) at l u ≡ Some v
+  values_still : (at : Position) → IsOfContext old at.context → (l : _) (u : ℕ) (v : PlainValue) → values_for T old js at l u ≡ Some v
+      → values_for T new (js ++ more) at l u ≡ Some v
   values_still at there l u v e =
       let same = keeps.same at.context there.known_tag in
       subst (λ (c : Context). of_part T (used (map Some new) (js ++ more) (length (js ++ more))) at.node c l u ≡ Some v) (sym same)
-      (look_still T (map Some old) (map Some new) js more (length js) (length (js ++ more)) at.node (context_of old at.context) l u v (stays_known old new keeps) (omega (arith, length-append js more)) e)
+      (look_still T (map Some old) (map Some new) js more (length js) (length (js ++ more)) at.node (context_of old at.context) l u v
+      (stays_known old new keeps) (omega (arith, length-append js more)) e)
 
-  pub forming_still : (at : Position) (space : ℕ) (uses : List ℕ) (r : Rest) → IsOfContext old at.context → IsForming T old js at space uses r → IsForming T new (js ++ more) at space uses r
+  pub forming_still : (at : Position) (space : ℕ) (uses : List ℕ) (r : Rest) → IsOfContext old at.context → IsForming T old js at space uses r
+      → IsForming T new (js ++ more) at space uses r
   forming_still at space uses r there f = record {
     node = f.node;
     row = f.row;
     meaning = f.meaning;
     form = f.form;
-    trace = λ h has. subst (λ (vs : List PlainValue). Trace (λ m. plan m h at.time space) at.time (values_for T new (js ++ more) at) uses vs r) (sym (told_still js more uses f.earlier))
+    trace = λ h has. subst (λ (vs : List PlainValue). Trace (λ m. plan m h at.time space) at.time (values_for T new (js ++ more) at) uses vs r)
+        (sym (told_still js more uses f.earlier))
         (traced_by (λ m. plan m h at.time space) at.time (values_for T old js at) (values_for T new (js ++ more) at) (values_still at there) (f.trace h has));
     stands = f.stands;
     earlier = earlier_still js more uses f.earlier;
     inside = f.inside;
   }
 
-  pub passing_still : (at : Position) (space : ℕ) (uses : List ℕ) (on : Position) → IsOfContext old at.context → IsPassing T old at space uses on → IsPassing T new at space uses on
+  pub passing_still : (at : Position) (space : ℕ) (uses : List ℕ) (on : Position) → IsOfContext old at.context → IsPassing T old at space uses on
+      → IsPassing T new at space uses on
   passing_still at space uses on there p = record {
     node = p.node;
     row = p.row;
@@ -142,16 +164,21 @@ module _ (T : Table) (old new : List Context) (keeps : KeepsKnown old new) (js m
   waiting_still w h = record { may = may_still w.at w.space h.may; waits = waits_still w w.next h.may.context h.waits }
 
 -- An input gives its element, which was read.
-pub input_given : (T : Table) (known : List Context) (js : List PlainJudgment) (at : Position) (space k : ℕ) → row_at T at.node ≡ Some (Input k) → node_at T at.node ≡ node_by T (Input k) → AllDiffer T.inputs
-    → k < length T.inputs → (new : Inputs) → length (streams new) ≡ length T.inputs → (v : PlainValue) → GivesElement (stream_at new k) at.time v → (b : Elements) → MayBe T new b → GivesBy T b known js at space [] v
+pub input_given : (T : Table) (known : List Context) (js : List PlainJudgment) (at : Position) (space k : ℕ) → row_at T at.node ≡ Some (Input k)
+    → node_at T at.node ≡ node_by T (Input k) → AllDiffer T.inputs
+    → k < length T.inputs → (new : Inputs) → length (streams new) ≡ length T.inputs → (v : PlainValue) → GivesElement (stream_at new k) at.time v
+    → (b : Elements) → MayBe T new b → GivesBy T b known js at space [] v
 input_given T known js at space k row meaning differ below new count v gives b may =
     input_gives T b (used (map Some known) js (length js)) at.node k (context_of known at.context) at.time space [] row meaning
-    ∙ may (get_or T.inputs k []) at.time v (reads_its_element T.inputs (streams new) k at.time (get_or T.inputs k []) (stream_at new k) v differ (slice_get-get_or T.inputs k [] below)
+    ∙ may (get_or T.inputs k []) at.time v (reads_its_element T.inputs (streams new) k at.time (get_or T.inputs k []) (stream_at new k) v differ
+    (slice_get-get_or T.inputs k [] below)
     (stream_there new k (omega (arith, below, count))) gives)
 
 -- What passes on waits for what it goes on with.
-pub passing_begins : (T : Table) (old new : List Context) → KeepsKnown old new → (at : Position) (space : ℕ) (node : Node) → row_at T at.node ≡ Some node → node_at T at.node ≡ node_by T node → PassesOn node
-    → MayJudge T old at space → (o : Option Position) (on : Position) → o ≡ Some on → going new o ≡ row_onward T node (context_of old at.context) at.time → IfSome o (λ p. IsOfContext new p.context)
+pub passing_begins : (T : Table) (old new : List Context) → KeepsKnown old new → (at : Position) (space : ℕ) (node : Node) → row_at T at.node ≡ Some node
+    → node_at T at.node ≡ node_by T node → PassesOn node
+    → MayJudge T old at space → (o : Option Position) (on : Position) → o ≡ Some on → going new o ≡ row_onward T node (context_of old at.context) at.time
+    → IfSome o (λ p. IsOfContext new p.context)
     → IfSome o (IsWithin T) → (uses : List ℕ) → uses ≡ [] → IsPassing T new at space uses on
 passing_begins T old new keeps at space node row meaning passes may o on is goes there within uses none = record {
   node = node;
@@ -169,12 +196,14 @@ passing_begins T old new keeps at space node row meaning passes may o on is goes
 }
 
 -- What a rest gives is given by the same rest; the judgment of a look's part, and where it is looked for.
-pub look_forming : (T : Table) (known : List Context) (js : List PlainJudgment) (at : Position) (space : ℕ) (uses : List ℕ) (r : Rest) (l : Look) → r ≡ rest.Look l → IsForming T known js at space uses r
+pub look_forming : (T : Table) (known : List Context) (js : List PlainJudgment) (at : Position) (space : ℕ) (uses : List ℕ) (r : Rest) (l : Look)
+    → r ≡ rest.Look l → IsForming T known js at space uses r
     → IsForming T known js at space uses (rest.Look l)
 look_forming T known js at space uses r l e f = subst (IsForming T known js at space uses) e f
 
 -- the part of a look is there
-pub part_there : (T : Table) (known : List Context) (js : List PlainJudgment) (at : Position) (space : ℕ) (uses : List ℕ) (l : Look) → IsForming T known js at space uses (rest.Look l)
+pub part_there : (T : Table) (known : List Context) (js : List PlainJudgment) (at : Position) (space : ℕ) (uses : List ℕ) (l : Look)
+    → IsForming T known js at space uses (rest.Look l)
     → (p : ℕ) × (part_number T at.node l.part ≡ Some p)
 part_there T known js at space uses l f =
     let p = there_is (parts f.node) l.part f.inside.part in

@@ -40,7 +40,8 @@ pub record Passes {X : Type 0} (test : X → Bool) (xs : List X) : Type 0 where
   pub there : slice_get xs number ≡ Some item
   pub holds : test item ≡ true
 
-passes_at : {X : Type 0} (test : X → Bool) (x : X) (xs : List X) (b : Bool) → test x ≡ b → (list_any test xs ≡ true → Passes test xs) → list_any test (x ∷ xs) ≡ true → Passes test (x ∷ xs)
+passes_at : {X : Type 0} (test : X → Bool) (x : X) (xs : List X) (b : Bool) → test x ≡ b → (list_any test xs ≡ true → Passes test xs)
+    → list_any test (x ∷ xs) ≡ true → Passes test (x ∷ xs)
 passes_at test x xs true h further e = record { number = 0; item = x; there = refl; holds = h }
 passes_at test x xs false h further e =
     let p = further (sym (ap (λ (b : Bool). b || list_any test xs) h) ∙ e) in record { number = suc p.number; item = p.item; there = p.there; holds = p.holds }
@@ -53,7 +54,8 @@ module _ (keys : List Key) (js : List PlainJudgment) (of : AreKeysOf keys js) wh
   -- the judgment of a key's number is of its spot, and the key of a judgment's
   pub judgment_of_key : (i : ℕ) (k : Key) → slice_get keys i ≡ Some k → IsJudgmentAt js (spot_by k) i
   judgment_of_key i k e =
-      let p = of_mapped spot_of js i (spot_by k) (ap (λ (xs : List Spot). slice_get xs i) (sym of) ∙ mapped spot_by keys i k e) in record { judgment = p.0; there = p.1; its_spot = p.2 }
+      let p = of_mapped spot_of js i (spot_by k) (ap (λ (xs : List Spot). slice_get xs i) (sym of) ∙ mapped spot_by keys i k e) in
+      record { judgment = p.0; there = p.1; its_spot = p.2 }
 
   pub key_of_judgment : (i : ℕ) (j : PlainJudgment) → slice_get js i ≡ Some j → (k : Key) × (slice_get keys i ≡ Some k) × (spot_by k ≡ spot_of j)
   key_of_judgment i j e = of_mapped spot_by keys i (spot_of j) (ap (λ (xs : List Spot). slice_get xs i) of ∙ mapped spot_of js i j e)

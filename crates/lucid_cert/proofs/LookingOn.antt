@@ -20,7 +20,8 @@ use Rattle.lucid_cert.proofs.ComingBy.{taken_by, runs_fed, fed_within, next_has,
 
 -- A form's plan has begun.
 pub has_begun : (T : Table) → IsInRange T → (b : Elements) (x : PlainTask) (n : Node) (r : Rest) → row_at T x.node ≡ Some n → IsForm n
-    → ((f : Head) → HasHead T n f → (m most : ℕ) → x.time + most ≤ m → AreFedAlike most (plan m f x.time x.space) (rest_plan m [] r)) → Stands 0 r → HasCome T b x r
+    → ((f : Head) → HasHead T n f → (m most : ℕ) → x.time + most ≤ m → AreFedAlike most (plan m f x.time x.space) (rest_plan m [] r)) → Stands 0 r
+    → HasCome T b x r
 has_begun T range b x n r there form begins stands =
     let f = of_form T n form in
     record { head = f.head; nodes = f.nodes; is = row-node T range x.node n there ∙ f.is; values = []; comes = begun r (begins f.head f.has) stands }
@@ -42,19 +43,23 @@ module _ (T : Table) (range : IsInRange T) (b : Elements) (x : PlainTask) (l : N
       same_Some v w (sym (reads_on m.0 n (omega arith) q v m.1) ∙ reads_on x.limit n (omega arith) q w p.1)
 
   -- where the form's approximation is defined, so is that of the part, and the limit takes the look
-  next_of_own : (v : PlainValue) → task_val T b x ≡ Some v → (nat_le (least_of l.then l.time) x.limit ≡ true) × (w : PlainValue) × (reads x.limit l.part l.time l.space ≡ Some w)
+  next_of_own : (v : PlainValue) → task_val T b x ≡ Some v
+      → (nat_le (least_of l.then l.time) x.limit ≡ true) × (w : PlainValue) × (reads x.limit l.part l.time l.space ≡ Some w)
   next_of_own v e =
       let runs : run (plan x.limit h.head x.time x.space) (reads x.limit) ≡ Some v =
       sym (ap (λ (n : PlainNode). node_val (equations_of T) b x.limit n x.context x.time x.space) h.is) ∙ e in
       let by = runs_fed x.limit (reads x.limit) (plan x.limit h.head x.time x.space) (takes_plan x.limit h.head x.time x.space) v runs in
       let next = next_has (ReadsAtSome reads) (λ m. plan m h.head x.time x.space) x.time value_of agree v x.limit by.0
-      (λ n le. fed_within value_of (plan x.limit h.head x.time x.space) (plan n h.head x.time x.space) (plan-up x.limit n le h.head x.time x.space) by.0 v by.1) h.values l h.comes in
+      (λ n le. fed_within value_of (plan x.limit h.head x.time x.space) (plan n h.head x.time x.space) (plan-up x.limit n le h.head x.time x.space) by.0 v by.1)
+      h.values l h.comes in
       let p = earlier_by (nat_le (least_of l.then l.time) x.limit) (reads x.limit l.part l.time l.space) next.1 next.2 in
       (p.0, next.1, p.1)
 
   -- With a value that the part means the plan goes on.
-  pub has_come_on : (y : PlainTask) (v : PlainValue) (r : Rest) → look_task T x (plain_look l) ≡ Some y → NodeMeans (equations_of T) b (node_of T y) y.context y.time y.space v
-      → ((m k most : ℕ) (vs : List PlainValue) → CanGoOn k l → k + 1 + most ≤ m → AreFedAlike most (by_then m vs l.then l.part l.time l.space v) (rest_plan m (vs ++ v ∷ []) r))
+  pub has_come_on : (y : PlainTask) (v : PlainValue) (r : Rest) → look_task T x (plain_look l) ≡ Some y
+      → NodeMeans (equations_of T) b (node_of T y) y.context y.time y.space v
+      → ((m k most : ℕ) (vs : List PlainValue) → CanGoOn k l → k + 1 + most ≤ m
+      → AreFedAlike most (by_then m vs l.then l.part l.time l.space v) (rest_plan m (vs ++ v ∷ []) r))
       → ((k : ℕ) → CanGoOn k l → Stands (k + 1) r) → HasCome T b x r
   has_come_on y v r is means goes stands = record {
     head = h.head;
@@ -84,11 +89,15 @@ module _ (T : Table) (range : IsInRange T) (b : Elements) (x : PlainTask) (l : N
           let own = w.needed v e in
           let next = next_of_own own.0 own.1 in
           let value : node_val (equations_of T) b x.limit (node_of T y) y.context y.time y.space ≡ Some next.1 =
-          sym (look_value T range x (plain_look l) y at h.head h.nodes h.is (nothing_held b) x.limit) ∙ next.2 in
-          (next.1, ap (λ (n : ℕ). node_val (equations_of T) b n (node_of T y) y.context y.time y.space) (look_keeps_limit T range x (plain_look l) y at) ∙ value)
+          sym (look_value T range x (plain_look l) y at h.head h.nodes h.is (nothing_held b) x.limit) ∙ next.2 in (
+            next.1,
+            ap (λ (n : ℕ). node_val (equations_of T) b n (node_of T y) y.context y.time y.space) (look_keeps_limit T range x (plain_look l) y at)
+                ∙ value,
+          )
 
       looked : (least : ℕ) × ((n : ℕ) → least ≤ n → In (l.part, l.time, l.space) (points_of x.limit (plan n h.head x.time x.space) (reads n)))
-      looked = next_looked (ReadsAtSome reads) (λ m. plan m h.head x.time x.space) x.time reads (λ q v m. (m.0, λ k le. reads_on m.0 k le q v m.1)) h.values l h.comes x.limit low
+      looked = next_looked (ReadsAtSome reads) (λ m. plan m h.head x.time x.space) x.time reads (λ q v m. (m.0, λ k le. reads_on m.0 k le q v m.1)) h.values l
+          h.comes x.limit low
 
       part_seen : (d : ℕ) → max w.added looked.0 ≤ d → Inside (task_visits T b d y) (task_visits T b d root)
       part_seen d le z i =
@@ -96,7 +105,8 @@ module _ (T : Table) (range : IsInRange T) (b : Elements) (x : PlainTask) (l : N
           let visited : In z (visits_parts (equations_of T) b x.limit d h.nodes x.context l.part l.time l.space) =
           subst (λ zs. In z zs) (sym (look_visits T range x (plain_look l) y at h.head h.nodes h.is b x.limit d)) here in
           let form : In z (node_visits (equations_of T) b x.limit d (row h.head h.nodes) x.context x.time x.space) =
-          look-visited (equations_of T) b x.limit d h.head h.nodes x.context x.time x.space l.part l.time l.space (looked.1 (x.limit + d) (omega (arith, le))) z visited in
+          look-visited (equations_of T) b x.limit d h.head h.nodes x.context x.time x.space l.part l.time l.space (looked.1 (x.limit + d) (omega (arith, le))) z
+          visited in
           w.seen d (omega (arith, le)) z (subst (λ (n : PlainNode). In z (node_visits (equations_of T) b x.limit d n x.context x.time x.space)) (sym h.is) form)
 
       pub look_is_wanted : IsWanted T b root y

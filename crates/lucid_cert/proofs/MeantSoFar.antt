@@ -30,7 +30,12 @@ within_most (k ∷ js) zero j e =
 within_most (k ∷ js) (suc i) j e = let h = within_most js i j e in omega (arith, h)
 
 -- Where all judgments follow, each has a value that its node means.
-pub judgment_means : (T : Table) → IsInRange T → (b : Elements) (cs : List (Option Context)) (js : List PlainJudgment) → ((i : ℕ) → i < length js → FollowsIn T b cs js i)
-    → (i : ℕ) (j : PlainJudgment) (c : Context) → slice_get js i ≡ Some j → context_in cs j.context ≡ Some c → NodeMeans (equations_of T) b (node_at T j.node) c j.time j.space j.value
-judgment_means T range b cs js follow i j c there context =
-    (i + 1 + most_of js, all_meant T range laws b cs js (most_of js) (length js) follow (λ k q l e. within_most js k q e) (length js) (omega arith) i (slice_get_within js i j there) j c there context)
+pub judgment_means : (T : Table) → IsInRange T → (b : Elements) (cs : List (Option Context)) (js : List PlainJudgment)
+    → ((i : ℕ) → i < length js → FollowsIn T b cs js i)
+    → (i : ℕ) (j : PlainJudgment) (c : Context) → slice_get js i ≡ Some j → context_in cs j.context ≡ Some c
+    → NodeMeans (equations_of T) b (node_at T j.node) c j.time j.space j.value
+judgment_means T range b cs js follow i j c there context = (
+  i + 1 + most_of js,
+  all_meant T range laws b cs js (most_of js) (length js) follow (λ k q l e. within_most js k q e) (length js) (omega arith) i
+      (slice_get_within js i j there) j c there context,
+)

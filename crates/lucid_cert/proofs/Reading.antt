@@ -20,7 +20,8 @@ nothing_yet T old before ask = record {
 }
 
 -- elements that were read stay
-pub stay_read : (T : Table) (now next : Inputs) (mid after : World) → AllDiffer (places_of (streams now)) → (at : Position) (limit : ℕ) (result : Result (Unit {0}) DemandFault)
+pub stay_read : (T : Table) (now next : Inputs) (mid after : World) → AllDiffer (places_of (streams now))
+    → (at : Position) (limit : ℕ) (result : Result (Unit {0}) DemandFault)
     → ReadsFor T at limit now next mid after result → Extends (elements_read T.inputs (streams now)) (elements_read T.inputs (streams next))
 stay_read T now next mid after apart at limit result (nothing_read e f own) =
     subst (λ (x : Inputs). Extends (elements_read T.inputs (streams now)) (elements_read T.inputs (streams x))) (sym e) (λ n j v h. h)
@@ -35,7 +36,8 @@ module _ (T : Table) (old now next : Inputs) (before mid after : World) (h : Has
       record {
         elements = extends_then _ _ _ h.elements (read_more (streams now) (streams next) q x mid after read apart T.inputs);
         askable = asked_again (streams now) (streams next) q x mid after read apart h.askable;
-        reads_only = reads_only_then (places_of (streams old)) before mid after h.reads_only (subst (λ ps. ReadsOnly ps mid after) h.places (its_place now next q x mid after there r));
+        reads_only = reads_only_then (places_of (streams old)) before mid after h.reads_only
+            (subst (λ ps. ReadsOnly ps mid after) h.places (its_place now next q x mid after there r));
         places = read_places (streams now) (streams next) q x mid after read apart ∙ h.places;
         most = r.most ∙ h.most;
         count = r.count ∙ h.count;
@@ -45,7 +47,8 @@ module _ (T : Table) (old now next : Inputs) (before mid after : World) (h : Has
   reads_none : next ≡ now → after ≡ mid → HasRead T old next before after
   reads_none e f = subst (λ x. HasRead T old next before x) (sym f) (subst (λ x. HasRead T old x before mid) (sym e) h)
 
-  pub reads_on : AllDiffer (places_of (streams now)) → (at : Position) (limit : ℕ) (result : Result (Unit {0}) DemandFault) → ReadsFor T at limit now next mid after result → HasRead T old next before after
+  pub reads_on : AllDiffer (places_of (streams now)) → (at : Position) (limit : ℕ) (result : Result (Unit {0}) DemandFault)
+      → ReadsFor T at limit now next mid after result → HasRead T old next before after
   reads_on apart at limit result (nothing_read e f own) = reads_none e f
   reads_on apart at limit result (element_read k row some r) = reads_one apart k at.time r.there r.reads
 
@@ -65,7 +68,8 @@ module _ (T : Table) (old now next : Inputs) (before mid after : World) (h : Has
       }
 
   -- no fault is counted where nothing is refused,
-  pub no_fault : (at : Position) (limit : ℕ) (x : Unit {0}) → ReadsFor T at limit now next mid after (Ok x) → mid.faults ≡ before.faults → after.faults ≡ before.faults
+  pub no_fault : (at : Position) (limit : ℕ) (x : Unit {0}) → ReadsFor T at limit now next mid after (Ok x) → mid.faults ≡ before.faults
+      → after.faults ≡ before.faults
   no_fault at limit x (nothing_read e f own) faults = ap (λ (w : World). w.faults) f ∙ faults
   no_fault at limit x (element_read k row some r) faults = none r.counts ∙ faults
     where
@@ -79,15 +83,18 @@ module _ (T : Table) (old now next : Inputs) (before mid after : World) (h : Has
     its_failure (nothing_read e f own) q = absurd (subst IsOwn q own)
     its_failure (element_read k row some r) q = subst (λ x. Rises x after.faults) faults (r.failed (ap Err q))
 
-    its_count : (a : ℕ) → CountsNoFaultUnless (◌≡◌ {A = Result (Unit {0}) DemandFault} (Err fault) (Err ReadFault)) mid.faults a → CountsNoFaultUnless (◌≡◌ {A = Result Why DemandFault} (Err fault) (Err ReadFault)) before.faults a
+    its_count : (a : ℕ) → CountsNoFaultUnless (◌≡◌ {A = Result (Unit {0}) DemandFault} (Err fault) (Err ReadFault)) mid.faults a
+        → CountsNoFaultUnless (◌≡◌ {A = Result Why DemandFault} (Err fault) (Err ReadFault)) before.faults a
     its_count a (inl e) = let q : fault ≡ ReadFault = cc in inl (ap Err q)
     its_count a (inr e) = inr (e ∙ faults)
 
-    counted : ReadsFor T at limit now next mid after (Err fault) → CountsNoFaultUnless (◌≡◌ {A = Result Why DemandFault} (Err fault) (Err ReadFault)) before.faults after.faults
+    counted : ReadsFor T at limit now next mid after (Err fault)
+        → CountsNoFaultUnless (◌≡◌ {A = Result Why DemandFault} (Err fault) (Err ReadFault)) before.faults after.faults
     counted (nothing_read e f own) = inr (ap (λ (w : World). w.faults) f ∙ faults)
     counted (element_read k row some r) = its_count after.faults r.counts
 
-    pub refused : AllDiffer (places_of (streams now)) → (time : ℕ) → ReadsFor T at limit now next mid after (Err fault) → Made T old next before after time (Err fault)
+    pub refused : AllDiffer (places_of (streams now)) → (time : ℕ) → ReadsFor T at limit now next mid after (Err fault)
+        → Made T old next before after time (Err fault)
     refused apart time r =
         let h = reads_on apart at limit (Err fault) r in
         record {
@@ -102,7 +109,8 @@ module _ (T : Table) (old now next : Inputs) (before mid after : World) (h : Has
         }
 
 -- What is read for a judgment is read whether that is made or there is no memory for it.
-pub read_for : (old new : Inputs) (stream index : ℕ) (before after : World) (v : Value) → ReadsElement Value old new stream index before after (Ok v) → (result : Result (Unit {0}) DemandFault)
+pub read_for : (old new : Inputs) (stream index : ℕ) (before after : World) (v : Value) → ReadsElement Value old new stream index before after (Ok v)
+    → (result : Result (Unit {0}) DemandFault)
     → IfErr result (λ e. e ≡ NoMemory) → ReadsElement (Unit {0}) old new stream index before after result
 read_for old new stream index before after v r (Ok x) own = record {
   there = r.there;
@@ -116,20 +124,22 @@ read_for old new stream index before after v r (Ok x) own = record {
     none : CountsNoFaultUnless (◌≡◌ {A = Result Value DemandFault} (Ok v) (Err ReadFault)) before.faults after.faults → after.faults ≡ before.faults
     none (inl e) = absurd (cc)
     none (inr e) = e
-read_for old new stream index before after v r (Err e) own = subst (λ (f : DemandFault). ReadsElement (Unit {0}) old new stream index before after (Err f)) (sym own) (record {
-  there = r.there;
-  reads = r.reads;
-  too_large = tt;
-  failed = λ q. absurd (cc);
-  counts = inr (none r.counts);
-  deep = λ q. cc;
-})
+read_for old new stream index before after v r (Err e) own =
+    subst (λ (f : DemandFault). ReadsElement (Unit {0}) old new stream index before after (Err f)) (sym own) (record {
+      there = r.there;
+      reads = r.reads;
+      too_large = tt;
+      failed = λ q. absurd (cc);
+      counts = inr (none r.counts);
+      deep = λ q. cc;
+    })
   where
     none : CountsNoFaultUnless (◌≡◌ {A = Result Value DemandFault} (Ok v) (Err ReadFault)) before.faults after.faults → after.faults ≡ before.faults
     none (inl e) = absurd (cc)
     none (inr e) = e
 
-pub not_read_for : (old new : Inputs) (stream index : ℕ) (before after : World) (f : DemandFault) → ReadsElement Value old new stream index before after (Err f) → ReadsElement (Unit {0}) old new stream index before after (Err f)
+pub not_read_for : (old new : Inputs) (stream index : ℕ) (before after : World) (f : DemandFault) → ReadsElement Value old new stream index before after (Err f)
+    → ReadsElement (Unit {0}) old new stream index before after (Err f)
 not_read_for old new stream index before after f r = record {
   there = r.there;
   reads = r.reads;

@@ -19,13 +19,15 @@ nothing_sound T once = record {
 }
 
 -- Nothing is made, and nothing waits.
-pub new_sound : (T : Table) (known : List Context) (keys : List Key) (js : List PlainJudgment) (waiting : List Making) → known ≡ root ∷ [] → IsOneForOne known → keys ≡ [] → js ≡ [] → waiting ≡ [] → IsSoundBy T known keys js waiting
+pub new_sound : (T : Table) (known : List Context) (keys : List Key) (js : List PlainJudgment) (waiting : List Making) → known ≡ root ∷ [] → IsOneForOne known
+    → keys ≡ [] → js ≡ [] → waiting ≡ [] → IsSoundBy T known keys js waiting
 new_sound T known keys js waiting e once f g h =
     subst (λ x. IsSoundBy T known keys js x) (sym h) (subst (λ x. IsSoundBy T known keys x []) (sym g) (subst (λ x. IsSoundBy T known x [] []) (sym f)
     (subst (λ x. IsSoundBy T x [] [] []) (sym e) (nothing_sound T (subst IsOneForOne e once)))))
 
 -- What waits innermost is taken.
-pub fewer_sound : (T : Table) (known : List Context) (keys : List Key) (js : List PlainJudgment) (waiting fewer more : List Making) → waiting ≡ fewer ++ more → IsSoundBy T known keys js waiting → IsSoundBy T known keys js fewer
+pub fewer_sound : (T : Table) (known : List Context) (keys : List Key) (js : List PlainJudgment) (waiting fewer more : List Making) → waiting ≡ fewer ++ more
+    → IsSoundBy T known keys js waiting → IsSoundBy T known keys js fewer
 fewer_sound T known keys js waiting fewer more e s = record {
   once = s.once;
   times = s.times;
@@ -41,7 +43,8 @@ innermost_has P xs ys None e h = tt
 innermost_has P xs ys (Some x) e h = subst (Each P) e h (length ys) x (slice_get-push_same ys x)
 
 -- The judgment of a key that is found.
-found_first : (x : Key) (xs : List Key) (key k : Key) (b : Bool) → same_key key x ≡ b → (Some k ≡ find (same_key key) xs → same_key key k ≡ true) → Some k ≡ find (same_key key) (x ∷ xs) → same_key key k ≡ true
+found_first : (x : Key) (xs : List Key) (key k : Key) (b : Bool) → same_key key x ≡ b → (Some k ≡ find (same_key key) xs → same_key key k ≡ true)
+    → Some k ≡ find (same_key key) (x ∷ xs) → same_key key k ≡ true
 found_first x xs key k true h further e =
     let same : k ≡ x = same_Some k x (e ∙ ap (λ b. cond b (Some x) (find (same_key key) xs)) h) in subst (λ y. same_key key y ≡ true) (sym same) h
 found_first x xs key k false h further e = further (e ∙ ap (λ b. cond b (Some x) (find (same_key key) xs)) h)
@@ -50,7 +53,8 @@ pub found_key : (keys : List Key) (key k : Key) → Some k ≡ find (same_key ke
 found_key [] key k e = absurd (cc)
 found_key (x ∷ xs) key k e = found_first x xs key k (same_key key x) refl (found_key xs key k) e
 
-pub judgment_found : (keys : List Key) (js : List PlainJudgment) (of : AreKeysOf keys js) (key k : Key) (i : ℕ) (spot : Spot) → slice_get keys i ≡ Some k → Some k ≡ find (same_key key) keys → spot_by key ≡ spot → IsJudgmentAt js spot i
+pub judgment_found : (keys : List Key) (js : List PlainJudgment) (of : AreKeysOf keys js) (key k : Key) (i : ℕ) (spot : Spot) → slice_get keys i ≡ Some k
+    → Some k ≡ find (same_key key) keys → spot_by key ≡ spot → IsJudgmentAt js spot i
 judgment_found keys js of key k i spot there found is =
     subst (λ s. IsJudgmentAt js s i) (sym (same_spot key k (found_key keys key k found)) ∙ is) (judgment_of_key keys js of i k there)
 
@@ -70,11 +74,13 @@ each_below n m [] h k = tt
 each_below n m (i ∷ is) h k = (omega (arith, h, k.0), each_below n m is h k.1)
 
 -- a key by its parts
-pub by_parts : (k : Key) (at : Position) (space : ℕ) → k.name ≡ at.node → number_of k.tag ≡ number_of at.context → k.time ≡ at.time → space_of k.tag ≡ space → spot_by k ≡ spot_at at space
+pub by_parts : (k : Key) (at : Position) (space : ℕ) → k.name ≡ at.node → number_of k.tag ≡ number_of at.context → k.time ≡ at.time → space_of k.tag ≡ space
+    → spot_by k ≡ spot_at at space
 by_parts k at space a b c d i = record { node = a i; context = b i; time = c i; space = d i }
 
 -- a judgment by its parts
-pub placed : (j : PlainJudgment) (at : Position) (space : ℕ) → j.node ≡ at.node → j.context ≡ number_of at.context → j.time ≡ at.time → j.space ≡ space → spot_of j ≡ spot_at at space
+pub placed : (j : PlainJudgment) (at : Position) (space : ℕ) → j.node ≡ at.node → j.context ≡ number_of at.context → j.time ≡ at.time → j.space ≡ space
+    → spot_of j ≡ spot_at at space
 placed j at space a b c d i = record { node = a i; context = b i; time = c i; space = d i }
 
 -- a refusal that is that of a call

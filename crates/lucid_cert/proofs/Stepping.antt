@@ -66,12 +66,17 @@ module _ (T : Table) (known : List Context) (js : List PlainJudgment) (w : Makin
 
       pub look_wanted : (at : Position) → slice_get (parts n) l.part ≡ Some at.node → at.context ≡ w.at.context → at.time ≡ l.time → Wants T w at l.space 0
       look_wanted at part context time = record {
-        by = subst (λ (x : Next). WantsBy T w x at l.space 0) (sym e) (ap (option_and_then (λ (x : Node). slice_get (parts x) l.part)) row ∙ part, context, time, refl, refl);
+        by = subst (λ (x : Next). WantsBy T w x at l.space 0) (sym e)
+            (ap (option_and_then (λ (x : Node). slice_get (parts x) l.part)) row ∙ part, context, time, refl, refl);
       }
 
-      pub look_may : (at : Position) → EachBelow w.at.node (parts n) → slice_get (parts n) l.part ≡ Some at.node → at.context ≡ w.at.context → at.time ≡ l.time → MayJudge T known at l.space
+      pub look_may : (at : Position) → EachBelow w.at.node (parts n) → slice_get (parts n) l.part ≡ Some at.node → at.context ≡ w.at.context → at.time ≡ l.time
+          → MayJudge T known at l.space
       look_may at below part context time = record {
-        within = record { node = omega (arith, each-lower w.at.node (parts n) l.part at.node below part, h.may.within.node); time = omega (arith, time, its_time) };
+        within = record {
+          node = omega (arith, each-lower w.at.node (parts n) l.part at.node below part, h.may.within.node);
+          time = omega (arith, time, its_time);
+        };
         context = subst (λ c. IsOfContext known c) (sym context) h.may.context;
         space_in_range = its_space;
       }
@@ -84,13 +89,18 @@ module _ (T : Table) (known : List Context) (js : List PlainJudgment) (w : Makin
       look_judgment : IsJudgmentAt js (spot_at (record (w.at) { node = part.0; time = l.time }) l.space) u
       look_judgment =
           it (record (w.at) { node = part.0; time = l.time }) l.space 0
-          (record { by = subst (λ (x : Next). WantsBy T w x (record (w.at) { node = part.0; time = l.time }) l.space 0) (sym e) (part.1, refl, refl, refl, refl) })
+          (record {
+            by = subst (λ (x : Next). WantsBy T w x (record (w.at) { node = part.0; time = l.time }) l.space 0) (sym e) (part.1, refl, refl, refl, refl);
+          })
 
       pub look_used : (v : PlainValue) (r : Rest) → v ≡ told js u
-          → ((m k most : ℕ) (ws : List PlainValue) → CanGoOn k l → k + 1 + most ≤ m → AreFedAlike most (by_then m ws l.then l.part l.time l.space v) (rest_plan m (ws ++ v ∷ []) r))
-          → ((k : ℕ) → CanGoOn k l → Stands (k + 1) r) → ((n : ℕ) → l.time ≤ last → IsLookOf n l → LooksInside n r) → IsForming T known js w.at w.space (w.uses.items ++ u ∷ []) r
+          → ((m k most : ℕ) (ws : List PlainValue) → CanGoOn k l → k + 1 + most ≤ m
+          → AreFedAlike most (by_then m ws l.then l.part l.time l.space v) (rest_plan m (ws ++ v ∷ []) r))
+          → ((k : ℕ) → CanGoOn k l → Stands (k + 1) r) → ((n : ℕ) → l.time ≤ last → IsLookOf n l → LooksInside n r)
+          → IsForming T known js w.at w.space (w.uses.items ++ u ∷ []) r
       look_used v r is goes stands inside =
-          forming_goes T known js w.at w.space w.uses.items l its_form u v r part.0 part.1 h.may.context look_judgment is goes stands (inside (length (parts its_form.node)) its_time its_form.inside)
+          forming_goes T known js w.at w.space w.uses.items l its_form u v r part.0 part.1 h.may.context look_judgment is goes stands
+          (inside (length (parts its_form.node)) its_time its_form.inside)
 
   -- It waits for what it goes on with.
   module _ (on : Position) (references : ℕ) (e : w.next ≡ next.Position on references) where
@@ -124,9 +134,11 @@ module _ (T : Table) (known : List Context) (js : List PlainJudgment) (w : Makin
   use_there u it = its_use w.next refl u it
 
 -- what is said of it with one more use
-pub with_its_use : (P : Position → ℕ → List ℕ → Type 0) (old new : Making) (u : ℕ) → HasUse old u new → P old.at old.space (old.uses.items ++ u ∷ []) → P new.at new.space new.uses.items
+pub with_its_use : (P : Position → ℕ → List ℕ → Type 0) (old new : Making) (u : ℕ) → HasUse old u new → P old.at old.space (old.uses.items ++ u ∷ [])
+    → P new.at new.space new.uses.items
 with_its_use P old new u h p =
-    subst (λ a. P a new.space new.uses.items) (sym h.at) (subst (λ s. P old.at s new.uses.items) (sym h.space) (subst (λ us. P old.at old.space us) (sym h.uses) p))
+    subst (λ a. P a new.space new.uses.items) (sym h.at)
+    (subst (λ s. P old.at s new.uses.items) (sym h.space) (subst (λ us. P old.at old.space us) (sym h.uses) p))
 
 -- A judgment wants one spot.
 one_wanted : (T : Table) (w : Making) (n : Next) (a c : Position) (s x r y : ℕ) → WantsBy T w n a s r → WantsBy T w n c x y → spot_at a s ≡ spot_at c x
@@ -138,6 +150,7 @@ one_wanted T w (next.Look l) a c s x r y p q =
 one_wanted T w (next.Position on references) a c s x r y p q =
     ap (λ (z : Position). spot_at z s) (p.0 ∙ sym q.0) ∙ ap (λ (z : ℕ). spot_at c z) (p.1 ∙ sym q.1)
 
-pub judgment_wanted : (T : Table) (js : List PlainJudgment) (w : Making) (a : Position) (s r u : ℕ) → Wants T w a s r → IsJudgmentAt js (spot_at a s) u → (c : Position) (x y : ℕ) → Wants T w c x y
+pub judgment_wanted : (T : Table) (js : List PlainJudgment) (w : Making) (a : Position) (s r u : ℕ) → Wants T w a s r → IsJudgmentAt js (spot_at a s) u
+    → (c : Position) (x y : ℕ) → Wants T w c x y
     → IsJudgmentAt js (spot_at c x) u
 judgment_wanted T js w a s r u p j c x y q = subst (λ z. IsJudgmentAt js z u) (one_wanted T w w.next a c s x r y p.by q.by) j

@@ -23,7 +23,8 @@ module _ (T : Table) (b : Elements) (root : PlainTask) (old new : List Context) 
 
   want_on : (w : Making) (n : Next) → MayJudge T old w.at w.space → WaitsFor T old js w n → MayWant T b root old w n → MayWant T b root new w n
   want_on w (next.Look l) may f h = subst (λ (x : PlainTask). HasCome T b x (rest.Look l)) (same_task w.at w.space w.limit w.space may) h
-  want_on w (next.Position on references) may f h = subst (λ (x : PlainTask). IsWanted T b root x) (same_task on w.space (w.limit - references) w.space f.0.may) h
+  want_on w (next.Position on references) may f h =
+      subst (λ (x : PlainTask). IsWanted T b root x) (same_task on w.space (w.limit - references) w.space f.0.may) h
 
   wait_on : (w : Making) → IsWaiting T old js w → MayWait T b root old w → MayWait T b root new w
   wait_on w is h = record {
@@ -43,11 +44,13 @@ module _ (T : Table) (range : IsInRange T) (b : Elements) (root : PlainTask) (kn
 
   -- the task of a look's part
   part_task : (l : Look) (k : ℕ) → part_number T w.at.node l.part ≡ Some k
-      → look_task T own_task (plain_look l) ≡ Some (record { node = k; context = context_of known w.at.context; time = l.time; space = l.space; limit = w.limit })
+      → look_task T own_task (plain_look l) ≡ Some (record
+      { node = k; context = context_of known w.at.context; time = l.time; space = l.space; limit = w.limit })
   part_task l k e = ap (option_map (λ (n : ℕ). record { node = n; context = context_of known w.at.context; time = l.time; space = l.space; limit = w.limit })) e
 
   module _ (at : Position) (s r : ℕ) where
-    wanted_by : (n : Next) → WaitsFor T known js w n → MayWant T b root known w n → IsWanted T b root own_task → WantsBy T w n at s r → IsWanted T b root (task_at known at s (w.limit - r))
+    wanted_by : (n : Next) → WaitsFor T known js w n → MayWant T b root known w n → IsWanted T b root own_task → WantsBy T w n at s r
+        → IsWanted T b root (task_at known at s (w.limit - r))
     wanted_by (next.Look l) f h own by =
         let y : PlainTask = record { node = at.node; context = context_of known w.at.context; time = l.time; space = l.space; limit = w.limit } in
         let part = look_is_wanted T range b own_task l h root own f.1 y (part_task l at.node by.0) in
@@ -82,12 +85,15 @@ module _ (T : Table) (range : IsInRange T) (b : Elements) (root : PlainTask) (kn
         let P2 : ℕ → Type 0 = λ q. NodeMeans (equations_of T) b (node_at T at.node) (context_of known at.context) at.time q j.value in
         let P3 : PlainValue → Type 0 = λ v. NodeMeans (equations_of T) b (node_at T at.node) (context_of known at.context) at.time s v in
         subst P3 (sym (told_there js number j is.there))
-        (subst P2 space (subst P1 time (subst P0 node (judgment_means T range b (map Some known) js follow number j (context_of known at.context) is.there there))))
+        (subst P2 space
+        (subst P1 time (subst P0 node (judgment_means T range b (map Some known) js follow number j (context_of known at.context) is.there there))))
 
   -- With the value of such a judgment the plan goes on from a look.
-  pub use_goes_on : (l : Look) (at : Position) (s number : ℕ) (v : PlainValue) (r : Rest) → w.next ≡ next.Look l → MayWait T b root known w → FollowAmong T b known js → IsKnown known at.context
+  pub use_goes_on : (l : Look) (at : Position) (s number : ℕ) (v : PlainValue) (r : Rest) → w.next ≡ next.Look l → MayWait T b root known w
+      → FollowAmong T b known js → IsKnown known at.context
       → Wants T w at s 0 → IsJudgmentAt js (spot_at at s) number → v ≡ told js number
-      → ((m k most : ℕ) (vs : List PlainValue) → CanGoOn k l → k + 1 + most ≤ m → AreFedAlike most (by_then m vs l.then l.part l.time l.space v) (rest_plan m (vs ++ v ∷ []) r))
+      → ((m k most : ℕ) (vs : List PlainValue) → CanGoOn k l → k + 1 + most ≤ m
+      → AreFedAlike most (by_then m vs l.then l.part l.time l.space v) (rest_plan m (vs ++ v ∷ []) r))
       → ((k : ℕ) → CanGoOn k l → Stands (k + 1) r) → HasCome T b own_task r
   use_goes_on l at s number v r is h follow may wants it same goes stands =
       let come : HasCome T b own_task (rest.Look l) = subst (λ (n : Next). MayWant T b root known w n) is h.next in
@@ -97,7 +103,13 @@ module _ (T : Table) (range : IsInRange T) (b : Elements) (root : PlainTask) (kn
       let P1 : ℕ → Type 0 = λ t. NodeMeans (equations_of T) b (node_at T at.node) (context_of known w.at.context) t s (told js number) in
       let P2 : ℕ → Type 0 = λ q. NodeMeans (equations_of T) b (node_at T at.node) (context_of known w.at.context) l.time q (told js number) in
       let P3 : PlainValue → Type 0 = λ x. NodeMeans (equations_of T) b (node_at T at.node) (context_of known w.at.context) l.time l.space x in
-      has_come_on T range b own_task l come (record { node = at.node; context = context_of known w.at.context; time = l.time; space = l.space; limit = w.limit }) v r (part_task l at.node by.0)
+      has_come_on T range b own_task l come (record {
+        node = at.node;
+        context = context_of known w.at.context;
+        time = l.time;
+        space = l.space;
+        limit = w.limit;
+      }) v r (part_task l at.node by.0)
       (subst P3 (sym same) (subst P2 by.3 (subst P1 by.2 (subst P0 (ap (context_of known) by.1) means)))) goes stands
 
 -- A look wants its part, in a known context.

@@ -18,8 +18,10 @@ refused_with (Ok x) f h P p = absurd h
 refused_with (Err e) f h P p = subst (λ z. P (Err z)) (sym h) p
 
 -- It begins with the root's judgment.
-pub walk_begins : (T : Table) (old : Inputs) (before : World) (root : Position) (none m : Maker) (next : Inputs) (after : World) (limit : ℕ) (x : Unit {0}) → PlacesDiffer → table_in none ≡ T → judgments_of none ≡ []
-    → none.waiting.items ≡ [] → AreAskable (streams old) before → Goes none m root 0 → ((b : Elements) → MayBe (table_in none) next b → AreFollowing b none → AreFollowing b m)
+pub walk_begins : (T : Table) (old : Inputs) (before : World) (root : Position) (none m : Maker) (next : Inputs) (after : World) (limit : ℕ) (x : Unit {0})
+    → PlacesDiffer → table_in none ≡ T → judgments_of none ≡ []
+    → none.waiting.items ≡ [] → AreAskable (streams old) before → Goes none m root 0
+    → ((b : Elements) → MayBe (table_in none) next b → AreFollowing b none → AreFollowing b m)
     → ReadsFor (table_in none) root limit old next before after (Ok x) → Walks T old before root m next after
 walk_begins T old before root none m next after limit x differ table no_judgment no_waiting ask goes follow reads =
     let r = subst (λ U. ReadsFor U root limit old next before after (Ok x)) table reads in
@@ -33,13 +35,15 @@ walk_begins T old before root none m next after limit x differ table no_judgment
       faults = no_fault T old old next before before after h root limit x r refl;
     }
 
-pub begin_refused : (T : Table) (old : Inputs) (before : World) (root : Position) (none : Maker) (next : Inputs) (after : World) (limit time : ℕ) (fault : DemandFault) → PlacesDiffer → table_in none ≡ T
+pub begin_refused : (T : Table) (old : Inputs) (before : World) (root : Position) (none : Maker) (next : Inputs) (after : World) (limit time : ℕ)
+    (fault : DemandFault) → PlacesDiffer → table_in none ≡ T
     → AreAskable (streams old) before → ReadsFor (table_in none) root limit old next before after (Err fault) → Made T old next before after time (Err fault)
 begin_refused T old before root none next after limit time fault differ table ask reads =
     refused T old old next before before after (nothing_yet T old before ask) root limit fault refl (inputs_apart differ old) time
     (subst (λ U. ReadsFor U root limit old next before after (Err fault)) table reads)
 
-module _ (T : Table) (old : Inputs) (before : World) (root : Position) (m : Maker) (now : Inputs) (mid : World) (g : Walks T old before root m now mid) (differ : PlacesDiffer) (p : Maker) (left : Leaves m p) where
+module _ (T : Table) (old : Inputs) (before : World) (root : Position) (m : Maker) (now : Inputs) (mid : World) (g : Walks T old before root m now mid)
+    (differ : PlacesDiffer) (p : Maker) (left : Leaves m p) where
   pub its_table : table_in p ≡ T
   its_table = left.table ∙ g.table
 
@@ -51,7 +55,8 @@ module _ (T : Table) (old : Inputs) (before : World) (root : Position) (m : Make
 
   -- The innermost one goes on,
   module _ (w : Making) (waiting : m.waiting.items ≡ p.waiting.items ++ w ∷ []) (next : Inputs) (after : World) where
-    reads_by : (result : Result (Unit {0}) DemandFault) → (r : ReadsNext (table_in p) w now next mid after result) → ReadsFor T r.at (w.limit - r.references) now next mid after result
+    reads_by : (result : Result (Unit {0}) DemandFault) → (r : ReadsNext (table_in p) w now next mid after result)
+        → ReadsFor T r.at (w.limit - r.references) now next mid after result
     reads_by result r = subst (λ U. ReadsFor U r.at (w.limit - r.references) now next mid after result) its_table r.reads
 
     pub walk_on : (new : Maker) (x : Unit {0}) → Goes p new w.at w.space → ((b : Elements) → MayBe (table_in p) next b → AreFollowing b p → AreFollowing b new)
@@ -69,16 +74,19 @@ module _ (T : Table) (old : Inputs) (before : World) (root : Position) (m : Make
         }
 
     -- or is refused.
-    pub walk_refused : (time : ℕ) (fault : DemandFault) → ReadsNext (table_in p) w now next mid after (Err fault) → Made T old next before after time (Err fault)
+    pub walk_refused : (time : ℕ) (fault : DemandFault) → ReadsNext (table_in p) w now next mid after (Err fault)
+        → Made T old next before after time (Err fault)
     walk_refused time fault reads =
-        refused T old now next before mid after g.read reads.at (w.limit - reads.references) fault g.faults (inputs_apart differ now) time (reads_by (Err fault) reads)
+        refused T old now next before mid after g.read reads.at (w.limit - reads.references) fault g.faults (inputs_apart differ now) time
+        (reads_by (Err fault) reads)
 
   -- None waits: the root is made.
   pub root_made : m.waiting.items ≡ [] → IsMade (judgments_of p) root 0
   root_made e =
       subst (λ js. IsMade js root 0) (sym left.judgments) (subst (λ ws. RootStands root ws (judgments_of m)) e g.root_stands)
 
-  pub walk_ends : (time : ℕ) (w : Why) → root.time ≡ time → ((b : Elements) → AreFollowing b p → IsCertificate (table_in p) b w root.time) → Made T old now before mid time (Ok w)
+  pub walk_ends : (time : ℕ) (w : Why) → root.time ≡ time → ((b : Elements) → AreFollowing b p → IsCertificate (table_in p) b w root.time)
+      → Made T old now before mid time (Ok w)
   walk_ends time w e certificate = record {
     made = λ b may. subst (λ t. IsCertificate T b w t) e (subst (λ U. IsCertificate U b w root.time) its_table (certificate b (its_follow b may)));
     failed = λ q. absurd (cc);
@@ -91,5 +99,6 @@ module _ (T : Table) (old : Inputs) (before : World) (root : Position) (m : Make
   }
 
 -- There is no memory.
-pub walk_breaks : (T : Table) (old : Inputs) (before : World) (root : Position) (m : Maker) (now : Inputs) (mid : World) (time : ℕ) → Walks T old before root m now mid → Made T old now before mid time (Err NoMemory)
+pub walk_breaks : (T : Table) (old : Inputs) (before : World) (root : Position) (m : Maker) (now : Inputs) (mid : World) (time : ℕ)
+    → Walks T old before root m now mid → Made T old now before mid time (Err NoMemory)
 walk_breaks T old before root m now mid time g = want_of_memory T old now now before mid mid g.read time refl refl g.faults

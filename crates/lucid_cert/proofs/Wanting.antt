@@ -88,13 +88,16 @@ module _ (T : Table) (b : Elements) (root x : PlainTask) (w : IsWanted T b root 
     leads_nowhere (row f es) h is to = absurd is
     leads_nowhere (freeze e) h is to = absurd is
     leads_nowhere (reference r) h is to =
-        ap (λ (n : PlainNode). node_val (equations_of T) b x.limit n x.context x.time x.space) h ∙ (law.nowhere-value (equations_of T) (nothing_held b) x.limit x.context x.time x.space).0 r to
+        ap (λ (n : PlainNode). node_val (equations_of T) b x.limit n x.context x.time x.space) h
+        ∙ (law.nowhere-value (equations_of T) (nothing_held b) x.limit x.context x.time x.space).0 r to
     leads_nowhere (invoke n at l) h is to =
-        ap (λ (q : PlainNode). node_val (equations_of T) b x.limit q x.context x.time x.space) h ∙ (law.nowhere-value (equations_of T) (nothing_held b) x.limit x.context x.time x.space).1 n at l to
+        ap (λ (q : PlainNode). node_val (equations_of T) b x.limit q x.context x.time x.space) h
+        ∙ (law.nowhere-value (equations_of T) (nothing_held b) x.limit x.context x.time x.space).1 n at l to
 
     nowhere_is_undefined : (e : PlainNode) → node_of T x ≡ e → IsReference e → number_aim T x.node x.context x.time ≡ nowhere → task_val T b root ≡ None
     nowhere_is_undefined e h is to =
-        undefined_root (leads_nowhere e h is (ap (λ (n : PlainNode). node_aim (equations_of T) n x.context x.time) (sym h) ∙ nodes-by-numbers T range x.node x.context x.time ∙ ap (plain_aim T) to))
+        undefined_root (leads_nowhere e h is (ap (λ (n : PlainNode). node_aim (equations_of T) n x.context x.time) (sym h)
+        ∙ nodes-by-numbers T range x.node x.context x.time ∙ ap (plain_aim T) to))
 
     -- the aim of a row's number is the row's
     aim_of_row : (n : Node) → row_at T x.node ≡ Some n → number_aim T x.node x.context x.time ≡ row_aim T (Some n) x.context x.time
@@ -102,24 +105,31 @@ module _ (T : Table) (b : Elements) (root x : PlainTask) (w : IsWanted T b root 
 
     -- What passes on goes on with what is wanted, so many references on;
     module _ (known : List Context) (at : Position) where
-      aimed : (n : Node) → row_at T x.node ≡ Some n → 1 ≤ x.limit → goes_to tt (record { number = at.node; context = context_of known at.context }) at.time ≡ onward (row_aim T (Some n) x.context x.time)
+      aimed : (n : Node) → row_at T x.node ≡ Some n → 1 ≤ x.limit
+          → goes_to tt (record { number = at.node; context = context_of known at.context }) at.time ≡ onward (row_aim T (Some n) x.context x.time)
           → IsWanted T b root (task_at known at x.space (x.limit - 1))
       aimed n there some e =
           let g = goes_where (row_aim T (Some n) x.context x.time) (record { number = at.node; context = context_of known at.context }) at.time e in
           let one : x.limit ≡ suc (x.limit - 1) = omega (arith, some) in
           referred_is_wanted g.0 (record { number = at.node; context = context_of known at.context }) at.time (aim_of_row n there ∙ g.1) (x.limit - 1) one
 
-      pub passed_is_wanted : (n : Node) → row_at T x.node ≡ Some n → PassesOn n → going known (Some at) ≡ row_onward T n x.context x.time → references_of n ≤ x.limit
+      pub passed_is_wanted : (n : Node) → row_at T x.node ≡ Some n → PassesOn n → going known (Some at) ≡ row_onward T n x.context x.time
+          → references_of n ≤ x.limit
           → IsWanted T b root (task_at known at x.space (x.limit - references_of n))
       passed_is_wanted (rows.Freeze a) there passes e some =
-          let same = goes_parts (record { number = at.node; context = context_of known at.context }) (record { number = a; context = frozen_frame x.time x.context }) at.time x.time e in
+          let same = goes_parts (record { number = at.node; context = context_of known at.context })
+          (record { number = a; context = frozen_frame x.time x.context }) at.time x.time e in
           let number : at.node ≡ a = ap (λ (q : NumberPosition). q.number) same.0 in
           let context : context_of known at.context ≡ frozen_frame x.time x.context = ap (λ (q : NumberPosition). q.context) same.0 in
           let time : at.time ≡ x.time = same.1 in
           let limit : x.limit - 0 ≡ x.limit = omega arith in
-          let P0 : ℕ → Type 0 = λ q. IsWanted T b root (record { node = q; context = frozen_frame x.time x.context; time = x.time; space = x.space; limit = x.limit }) in
+          let P0 : ℕ
+          → Type 0 =
+          λ q. IsWanted T b root (record { node = q; context = frozen_frame x.time x.context; time = x.time; space = x.space; limit = x.limit }) in
           let P1 : Context → Type 0 = λ q. IsWanted T b root (record { node = at.node; context = q; time = x.time; space = x.space; limit = x.limit }) in
-          let P2 : ℕ → Type 0 = λ q. IsWanted T b root (record { node = at.node; context = context_of known at.context; time = q; space = x.space; limit = x.limit }) in
+          let P2 : ℕ
+          → Type 0 =
+          λ q. IsWanted T b root (record { node = at.node; context = context_of known at.context; time = q; space = x.space; limit = x.limit }) in
           let P3 : ℕ → Type 0 = λ q. IsWanted T b root (task_at known at x.space q) in
           subst P3 (sym limit) (subst P2 (sym time) (subst P1 (sym context) (subst P0 (sym number) (frozen_is_wanted a there))))
       passed_is_wanted (rows.Refer m l) there passes e some = aimed (rows.Refer m l) there some e

@@ -17,7 +17,8 @@ pub stream_there : (inputs : Inputs) (k : ℕ) → k < length (streams inputs) �
 stream_there inputs k h = slice_get-get_or (streams inputs) k (fresh_stream 0) h ∙ ap Some (sym (unwrap_or-slice_get (streams inputs) k (fresh_stream 0)))
 
 -- where a stream is read on, no place but its own is touched
-pub its_place : (now next : Inputs) (q x : ℕ) (mid after : World) → q < length (streams now) → ReadsStream now q x next mid after → ReadsOnly (places_of (streams now)) mid after
+pub its_place : (now next : Inputs) (q x : ℕ) (mid after : World) → q < length (streams now) → ReadsStream now q x next mid after
+    → ReadsOnly (places_of (streams now)) mid after
 its_place now next q x mid after there r = record {
   names = r.asked.others.names;
   reached = r.asked.reached;
@@ -30,13 +31,15 @@ its_place now next q x mid after there r = record {
 }
 
 -- what is said of the bytes of a place is said of the same bytes
-pub of_bytes : (P : List ℕ → Type 0) (o p : Option Contents) → option_map all_bytes p ≡ option_map all_bytes o → IfSome o (λ c. P (all_bytes c)) → IfSome p (λ c. P (all_bytes c))
+pub of_bytes : (P : List ℕ → Type 0) (o p : Option Contents) → option_map all_bytes p ≡ option_map all_bytes o → IfSome o (λ c. P (all_bytes c))
+    → IfSome p (λ c. P (all_bytes c))
 of_bytes P o None e h = tt
 of_bytes P None (Some c) e h = absurd (cc)
 of_bytes P (Some a) (Some c) e h = let f : all_bytes a ≡ all_bytes c = cc in subst P f h
 
 -- and what follows from two facts
-from_both : (A B C : List ℕ → Type 0) (o : Option Contents) → ((bs : List ℕ) → A bs → B bs → C bs) → IfSome o (λ c. A (all_bytes c)) → IfSome o (λ c. B (all_bytes c)) → IfSome o (λ c. C (all_bytes c))
+from_both : (A B C : List ℕ → Type 0) (o : Option Contents) → ((bs : List ℕ) → A bs → B bs → C bs) → IfSome o (λ c. A (all_bytes c))
+    → IfSome o (λ c. B (all_bytes c)) → IfSome o (λ c. C (all_bytes c))
 from_both A B C None f a b = tt
 from_both A B C (Some c) f a b = f (all_bytes c) a b
 
@@ -103,7 +106,8 @@ module _ (T : Table) (cs : List (Option Context)) (js : List PlainJudgment) wher
     pub read_more_of : (n m : ℕ) (now : Inputs) (mid : World) → n ≤ m → HaveRead n now mid → DrawsFor T cs js m old now mid
     read_more_of n m now mid l h k lt = more (mid.place (stream_at now k).place).contents (h.drawn k lt)
       where
-        more : (o : Option Contents) → IfSome o (λ c. Drawn n k (stream_at now k).consumed (all_bytes c)) → IfSome o (λ c. Drawn m k (stream_at now k).consumed (all_bytes c))
+        more : (o : Option Contents) → IfSome o (λ c. Drawn n k (stream_at now k).consumed (all_bytes c))
+            → IfSome o (λ c. Drawn m k (stream_at now k).consumed (all_bytes c))
         more None d = tt
         more (Some c) d = drawn_more n m k (stream_at now k).consumed (all_bytes c) l d
 
@@ -132,19 +136,25 @@ module _ (T : Table) (cs : List (Option Context)) (js : List PlainJudgment) wher
         read = streams_read now next q x mid after there r
 
         -- of the stream that is read on, and of each other one
-        this_drawn : q < length (streams old) → IfSome (after.place (stream_at next q).place).contents (λ c. Drawn (n + 1) q (stream_at next q).consumed (all_bytes c))
+        this_drawn : q < length (streams old) → IfSome (after.place (stream_at next q).place).contents
+            (λ c. Drawn (n + 1) q (stream_at next q).consumed (all_bytes c))
         this_drawn l =
             let place = (stream_at now q).place in
             let A : ℕ → Type 0 = λ p. IfSome (after.place p).contents (λ c. Drawn (n + 1) q (stream_at next q).consumed (all_bytes c)) in
-            subst A (sym r.asked.place) (of_bytes (Drawn (n + 1) q (stream_at next q).consumed) (mid.place place).contents (after.place place).contents (r.bytes place)
-            (from_both (Drawn n q (stream_at now q).consumed) (λ bs. (stream_at next q).consumed ≤ max (stream_at now q).consumed (end_of_line bs x)) (Drawn (n + 1) q (stream_at next q).consumed)
-            (mid.place place).contents (λ bs a b. drawn_on n q (stream_at now q).consumed (stream_at next q).consumed x bs tells a b) (h.drawn q l) r.asked.bound))
+            subst A (sym r.asked.place) (of_bytes (Drawn (n + 1) q (stream_at next q).consumed) (mid.place place).contents (after.place place).contents
+            (r.bytes place)
+            (from_both (Drawn n q (stream_at now q).consumed) (λ bs. (stream_at next q).consumed ≤ max (stream_at now q).consumed (end_of_line bs x))
+            (Drawn (n + 1) q (stream_at next q).consumed)
+            (mid.place place).contents (λ bs a b. drawn_on n q (stream_at now q).consumed (stream_at next q).consumed x bs tells a b) (h.drawn q l)
+            r.asked.bound))
 
-        other_drawn : (k : ℕ) → k ≢ q → k < length (streams old) → IfSome (after.place (stream_at next k).place).contents (λ c. Drawn (n + 1) k (stream_at next k).consumed (all_bytes c))
+        other_drawn : (k : ℕ) → k ≢ q → k < length (streams old)
+            → IfSome (after.place (stream_at next k).place).contents (λ c. Drawn (n + 1) k (stream_at next k).consumed (all_bytes c))
         other_drawn k other l =
             let place = (stream_at now k).place in
             let A : Stream → Type 0 = λ s. IfSome (after.place s.place).contents (λ c. Drawn (n + 1) k s.consumed (all_bytes c)) in
-            subst A (sym (r.others k other)) (of_bytes (Drawn (n + 1) k (stream_at now k).consumed) (mid.place place).contents (after.place place).contents (r.bytes place)
+            subst A (sym (r.others k other)) (of_bytes (Drawn (n + 1) k (stream_at now k).consumed) (mid.place place).contents (after.place place).contents
+            (r.bytes place)
             (from_both (Drawn n k (stream_at now k).consumed) (λ bs. Unit {0}) (Drawn (n + 1) k (stream_at now k).consumed) (mid.place place).contents
             (λ bs a b. drawn_more n (n + 1) k (stream_at now k).consumed bs (omega arith) a) (h.drawn k l) (nothing_said (mid.place place).contents)))
           where
@@ -161,12 +171,14 @@ module _ (T : Table) (cs : List (Option Context)) (js : List PlainJudgment) wher
         one_read : HaveRead (n + 1) next after
         one_read = record {
           drawn = λ k l. elim (cases_eq k q) [
-            | inl e ↦ subst (λ i. IfSome (after.place (stream_at next i).place).contents (λ c. Drawn (n + 1) i (stream_at next i).consumed (all_bytes c))) (sym e) (this_drawn (omega (arith, e, l)))
+            | inl e ↦ subst (λ i. IfSome (after.place (stream_at next i).place).contents (λ c. Drawn (n + 1) i (stream_at next i).consumed (all_bytes c)))
+                (sym e) (this_drawn (omega (arith, e, l)))
             | inr e ↦ other_drawn k e l
           ];
           elements = extends_then _ _ _ h.elements (read_more (streams now) (streams next) q x mid after read apart T.inputs);
           askable = asked_again (streams now) (streams next) q x mid after read apart h.askable;
-          reads_only = reads_only_then (places_of (streams old)) before mid after h.reads_only (subst (λ ps. ReadsOnly ps mid after) h.places (its_place now next q x mid after there r));
+          reads_only = reads_only_then (places_of (streams old)) before mid after h.reads_only
+              (subst (λ ps. ReadsOnly ps mid after) h.places (its_place now next q x mid after there r));
           places = read_places (streams now) (streams next) q x mid after read apart ∙ h.places;
           count = r.count ∙ h.count;
           most = r.most ∙ h.most;

@@ -9,13 +9,16 @@ use Rattle.lucid_follow.specs.declared.rest.Rest.TheVariants as rest
 use Rattle.lucid_check.proofs.Using.{fed_on, fed_nowhere}
 
 -- one more use: it feeds the look that stands next
-pub feeds_on : (value : Uses) (o : Option PlainValue) (m most : ℕ) (vs : List PlainValue) (l : Look) (u : ℕ) (us : List ℕ) (v : PlainValue) (r : Rest) → o ≡ fed value (look_plan m vs l) (u ∷ us)
+pub feeds_on : (value : Uses) (o : Option PlainValue) (m most : ℕ) (vs : List PlainValue) (l : Look) (u : ℕ) (us : List ℕ) (v : PlainValue) (r : Rest)
+    → o ≡ fed value (look_plan m vs l) (u ∷ us)
     → value (plain_look l) u ≡ Some v → AreFedAlike most (by_then m vs l.then l.part l.time l.space v) (rest_plan m (vs ++ v ∷ []) r) → length us ≤ most
     → o ≡ fed value (rest_plan m (vs ++ v ∷ []) r) us
-feeds_on value o m most vs l u us v r e h a n = e ∙ (fed_on value l.part l.time l.space (least_of l.then l.time) (by_then m vs l.then l.part l.time l.space) u us v h ∙ a.fed value us n)
+feeds_on value o m most vs l u us v r e h a n = e
+    ∙ (fed_on value l.part l.time l.space (least_of l.then l.time) (by_then m vs l.then l.part l.time l.space) u us v h ∙ a.fed value us n)
 
 -- or it doesn't
-pub feeds_nowhere : (value : Uses) (o : Option PlainValue) (m : ℕ) (vs : List PlainValue) (l : Look) (u : ℕ) (us : List ℕ) → o ≡ fed value (look_plan m vs l) (u ∷ us) → value (plain_look l) u ≡ None → o ≡ None
+pub feeds_nowhere : (value : Uses) (o : Option PlainValue) (m : ℕ) (vs : List PlainValue) (l : Look) (u : ℕ) (us : List ℕ)
+    → o ≡ fed value (look_plan m vs l) (u ∷ us) → value (plain_look l) u ≡ None → o ≡ None
 feeds_nowhere value o m vs l u us e h = e ∙ fed_nowhere value l.part l.time l.space (least_of l.then l.time) (by_then m vs l.then l.part l.time l.space) u us h
 
 -- what gives a value takes no use more
@@ -32,7 +35,8 @@ one_too_many value m vs rest.Fault u us h = refl
 one_too_many value m vs (rest.Apply op) u us h = refl
 
 -- without a use left, a plan gives its value or none
-pub gives_alone : (value : Uses) (m : ℕ) (vs : List PlainValue) (r : Rest) (v : PlainValue) → gives_only (rest_plan m vs r) v → fed value (rest_plan m vs r) [] ≡ Some v
+pub gives_alone : (value : Uses) (m : ℕ) (vs : List PlainValue) (r : Rest) (v : PlainValue) → gives_only (rest_plan m vs r) v
+    → fed value (rest_plan m vs r) [] ≡ Some v
 gives_alone value m vs (rest.Look l) v h = absurd h
 gives_alone value m vs (rest.Value w) v h = ap Some h
 gives_alone value m vs (rest.Truth b) v h = ap Some h
@@ -40,7 +44,8 @@ gives_alone value m vs rest.End v h = ap Some h
 gives_alone value m vs rest.Fault v h = ap Some h
 gives_alone value m vs (rest.Apply op) v h = ap Some h
 
-pub alone_gives : (value : Uses) (m : ℕ) (vs : List PlainValue) (r : Rest) (v : PlainValue) → fed value (rest_plan m vs r) [] ≡ Some v → gives_only (rest_plan m vs r) v
+pub alone_gives : (value : Uses) (m : ℕ) (vs : List PlainValue) (r : Rest) (v : PlainValue) → fed value (rest_plan m vs r) [] ≡ Some v
+    → gives_only (rest_plan m vs r) v
 alone_gives value m vs (rest.Look l) v h = absurd (cc)
 alone_gives value m vs (rest.Value w) v h = cc
 alone_gives value m vs (rest.Truth b) v h = cc
@@ -99,7 +104,8 @@ module _ (T : Table) (cs : List (Option Context)) (js : List PlainJudgment) (i :
     pub earlier : AllByRecursion (λ u. u < i) (take k j.uses)
 
   -- none do at first;
-  pub none_fed : (r : Rest) → ((f : Head) → HasHead T node f → (m most : ℕ) → j.time + most ≤ m → AreFedAlike most (plan m f j.time j.space) (rest_plan m [] r)) → Stands 0 r → FedSoFar 0 r
+  pub none_fed : (r : Rest) → ((f : Head) → HasHead T node f → (m most : ℕ) → j.time + most ≤ m → AreFedAlike most (plan m f j.time j.space) (rest_plan m [] r))
+      → Stands 0 r → FedSoFar 0 r
   none_fed r begins stands = record {
     plan = λ id f there has. (begins f has most (length j.uses) (omega arith)).fed (value_of id) j.uses (omega arith);
     stands = stands;
@@ -114,19 +120,23 @@ module _ (T : Table) (cs : List (Option Context)) (js : List PlainJudgment) (i :
     taken_next = rw (add-one, is_next) (take-suc j.uses k 0 below)
 
     -- one more use that the next look takes;
-    module _ (l : Look) (s : FedSoFar k (rest.Look l)) (v : PlainValue) (r : Rest) (taken : (id : ℕ) → row_at T id ≡ Some node → Some v ≡ value_of id (plain_look l) next) (earlier : next < i) (is : v ≡ told js next) where
+    module _ (l : Look) (s : FedSoFar k (rest.Look l)) (v : PlainValue) (r : Rest)
+        (taken : (id : ℕ) → row_at T id ≡ Some node → Some v ≡ value_of id (plain_look l) next) (earlier : next < i) (is : v ≡ told js next) where
       told_next : map (told js) (take (k + 1) j.uses) ≡ map (told js) (take k j.uses) ++ v ∷ []
-      told_next = ap (map (told js)) taken_next ∙ (map-append (told js) (take k j.uses) (next ∷ []) ∙ ap (λ x. map (told js) (take k j.uses) ++ x ∷ []) (sym is))
+      told_next = ap (map (told js)) taken_next ∙ (map-append (told js) (take k j.uses) (next ∷ [])
+          ∙ ap (λ x. map (told js) (take k j.uses) ++ x ∷ []) (sym is))
 
       pub one_more_fed : ((m k most : ℕ) (vs : List PlainValue) → CanGoOn k l → k + 1 + most ≤ m
-          → AreFedAlike most (by_then m vs l.then l.part l.time l.space v) (rest_plan m (vs ++ v ∷ []) r)) → ((k : ℕ) → CanGoOn k l → Stands (k + 1) r) → FedSoFar (k + 1) r
+          → AreFedAlike most (by_then m vs l.then l.part l.time l.space v) (rest_plan m (vs ++ v ∷ []) r)) → ((k : ℕ) → CanGoOn k l
+          → Stands (k + 1) r) → FedSoFar (k + 1) r
       one_more_fed goes stands = record {
         plan = λ id f there has.
             let us = drop (k + 1) j.uses in
             let vs = map (told js) (take k j.uses) in
             let few : k + 1 + length us ≤ most = omega (arith, below, length-drop (k + 1) j.uses) in
             feeds_on (value_of id) (fed (value_of id) (plan most f j.time j.space) j.uses) most (length us) vs l next us v r
-            (s.plan id f there has ∙ ap (λ (x : List ℕ). fed (value_of id) (look_plan most vs l) x) left) (sym (taken id there)) (goes most k (length us) vs s.stands few) (omega arith)
+            (s.plan id f there has ∙ ap (λ (x : List ℕ). fed (value_of id) (look_plan most vs l) x) left) (sym (taken id there))
+            (goes most k (length us) vs s.stands few) (omega arith)
             ∙ ap (λ (x : List PlainValue). fed (value_of id) (rest_plan most x r) us) (sym told_next);
         stands = stands k s.stands;
         earlier = subst (AllByRecursion (λ u. u < i)) (sym taken_next) (all_and (take k j.uses) s.earlier);
@@ -137,14 +147,16 @@ module _ (T : Table) (cs : List (Option Context)) (js : List PlainJudgment) (i :
           all_and (u ∷ us) h = (h.0, all_and us h.1)
 
     -- one that it doesn't take, and one more than there are looks.
-    pub no_more_fed : (l : Look) → FedSoFar k (rest.Look l) → ((id : ℕ) → row_at T id ≡ Some node → None ≡ value_of id (plain_look l) next) → FedTo T cs js i node c j None
+    pub no_more_fed : (l : Look) → FedSoFar k (rest.Look l) → ((id : ℕ) → row_at T id ≡ Some node → None ≡ value_of id (plain_look l) next)
+        → FedTo T cs js i node c j None
     no_more_fed l s none id f there has =
         feeds_nowhere (value_of id) (fed (value_of id) (plan most f j.time j.space) j.uses) most (map (told js) (take k j.uses)) l next (drop (k + 1) j.uses)
         (s.plan id f there has ∙ ap (λ (x : List ℕ). fed (value_of id) (look_plan most (map (told js) (take k j.uses)) l) x) left) (sym (none id there))
 
     pub one_use_too_many : (r : Rest) → IsNoLook r → FedSoFar k r → FedTo T cs js i node c j None
     one_use_too_many r none s id f there has =
-        s.plan id f there has ∙ (ap (λ (x : List ℕ). fed (value_of id) (rest_plan most (map (told js) (take k j.uses)) r) x) left ∙ one_too_many (value_of id) most (map (told js) (take k j.uses)) r next (drop (k + 1) j.uses) none)
+        s.plan id f there has ∙ (ap (λ (x : List ℕ). fed (value_of id) (rest_plan most (map (told js) (take k j.uses)) r) x) left
+        ∙ one_too_many (value_of id) most (map (told js) (take k j.uses)) r next (drop (k + 1) j.uses) none)
 
   -- all do at last
   pub all_fed : (k : ℕ) (r : Rest) → k ≡ length j.uses → FedSoFar k r → FeedsTo T cs js i node c j r
@@ -154,7 +166,8 @@ module _ (T : Table) (cs : List (Option Context)) (js : List PlainJudgment) (i :
         plan = λ id f there has.
             s.plan id f there has
             ∙ (ap (λ (x : List ℕ). fed (value_of id) (rest_plan most (map (told js) x) r) (drop (length j.uses) j.uses)) (take-length j.uses)
-            ∙ (ap (λ (x : List ℕ). fed (value_of id) (rest_plan most (map (told js) j.uses) r) x) (drop-length j.uses) ∙ fed_alone (value_of id) (λ l u. None) most (map (told js) j.uses) r));
+            ∙ (ap (λ (x : List ℕ). fed (value_of id) (rest_plan most (map (told js) j.uses) r) x) (drop-length j.uses)
+            ∙ fed_alone (value_of id) (λ l u. None) most (map (told js) j.uses) r));
         stands = s.stands;
         earlier = subst (AllByRecursion (λ u. u < i)) (take-length j.uses) s.earlier;
       }

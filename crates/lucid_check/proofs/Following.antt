@@ -38,25 +38,31 @@ module _ (T : Table) (cs : List (Option Context)) (js : List PlainJudgment) (i :
     by_given b it h = follows_where T b cs js i j c it there form h
 
     -- another equation of what is given
-    by_equation : (b : Elements) (it : Bool) (o : Option PlainValue) → given T b (used cs js i) j.node c j.time j.space j.uses ≡ o → (it ≡ true) ↔ (o ≡ Some j.value) → (it ≡ true) ↔ FollowsIn T b cs js i
+    by_equation : (b : Elements) (it : Bool) (o : Option PlainValue) → given T b (used cs js i) j.node c j.time j.space j.uses ≡ o
+        → (it ≡ true) ↔ (o ≡ Some j.value) → (it ≡ true) ↔ FollowsIn T b cs js i
     by_equation b it o e h = by_given b it (λ x. e ∙ h.0 x, λ x. h.1 (sym e ∙ x))
 
     -- it is of another node than an input
     pub no_input_tells : ((k : ℕ) → n ≡ Input k → ⊥) → (k t : ℕ) → TellsElement T cs js i k t → ⊥
-    no_input_tells other k t e = other k (same_Some n (Input k) (sym row ∙ (ap (λ (x : PlainJudgment). row_at T x.node) (sym (same e.judgment e.there)) ∙ e.row)))
+    no_input_tells other k t e = other k (same_Some n (Input k)
+        (sym row ∙ (ap (λ (x : PlainJudgment). row_at T x.node) (sym (same e.judgment e.there)) ∙ e.row)))
 
     -- of a form:
     pub form_follows : (b : Elements) (it : Bool) → IsForm n
         → ((id : ℕ) (f : Head) → row_at T id ≡ Some n → HasHead T n f
-        → (it ≡ true) ↔ (fed (of_part T (used cs js i) id c) (plan (j.time + length j.uses) f j.time j.space) j.uses ≡ Some j.value)) → (it ≡ true) ↔ FollowsIn T b cs js i
+        → (it ≡ true) ↔ (fed (of_part T (used cs js i) id c) (plan (j.time + length j.uses) f j.time j.space) j.uses ≡ Some
+        j.value)) → (it ≡ true) ↔ FollowsIn T b cs js i
     form_follows b it is_form h =
         let g = form_gives T b (used cs js i) j.node n row is c j.time j.space j.uses is_form in
-        by_equation b it (fed (of_part T (used cs js i) j.node c) (plan (j.time + length j.uses) g.head j.time j.space) j.uses) g.gives (h j.node g.head row g.has)
+        by_equation b it (fed (of_part T (used cs js i) j.node c) (plan (j.time + length j.uses) g.head j.time j.space) j.uses) g.gives
+        (h j.node g.head row g.has)
 
     -- of a frozen time, a reference or a call:
-    pub passes_follows : (b : Elements) (it : Bool) → PassesOn n → (it ≡ true) ↔ (by_onward b (used cs js i) (row_onward T n c j.time) j.space j.uses ≡ Some j.value) → (it ≡ true) ↔ FollowsIn T b cs js i
+    pub passes_follows : (b : Elements) (it : Bool) → PassesOn n
+        → (it ≡ true) ↔ (by_onward b (used cs js i) (row_onward T n c j.time) j.space j.uses ≡ Some j.value) → (it ≡ true) ↔ FollowsIn T b cs js i
     passes_follows b it passes h =
-        by_equation b it (by_onward b (used cs js i) (row_onward T n c j.time) j.space j.uses) (passes_gives T b (used cs js i) j.node n c j.time j.space j.uses passes row is) h
+        by_equation b it (by_onward b (used cs js i) (row_onward T n c j.time) j.space j.uses)
+        (passes_gives T b (used cs js i) j.node n c j.time j.space j.uses passes row is) h
 
   -- Of an input:
   module _ (k : ℕ) (c : Context) (form : HasForm T cs j c) (row : row_at T j.node ≡ Some (Input k)) (is : node_at T j.node ≡ node_by T (Input k)) where
@@ -64,7 +70,8 @@ module _ (T : Table) (cs : List (Option Context)) (js : List PlainJudgment) (i :
     tells_its_element none = record { judgment = j; there = there; context = c; form = form; row = row; no_uses = none; is_time = refl }
 
     -- with a use it doesn't follow,
-    used_input : (b : Elements) (us : List ℕ) → (us ≡ [] → ⊥) → by_onward b (used cs js i) (element_of (get_or T.inputs k []) j.time) j.space us ≡ Some j.value → ⊥
+    used_input : (b : Elements) (us : List ℕ) → (us ≡ [] → ⊥) → by_onward b (used cs js i) (element_of (get_or T.inputs k []) j.time) j.space us ≡ Some j.value
+        → ⊥
     used_input b [] some e = absurd (some refl)
     used_input b (u ∷ us) some e = absurd (cc)
 
@@ -77,7 +84,8 @@ module _ (T : Table) (cs : List (Option Context)) (js : List PlainJudgment) (i :
         (input_gives T b (used cs js i) j.node k c j.time j.space j.uses row is) (never (used_input b j.uses some))
 
     -- and without where its value is the element.
-    one_input_follows : j.uses ≡ [] → AllDiffer T.inputs → k < length T.inputs → (new : Inputs) → length (streams new) ≡ length T.inputs → (it : Bool) (v : PlainValue) → GivesElement (stream_at new k) j.time v
+    one_input_follows : j.uses ≡ [] → AllDiffer T.inputs → k < length T.inputs → (new : Inputs) → length (streams new) ≡ length T.inputs
+        → (it : Bool) (v : PlainValue) → GivesElement (stream_at new k) j.time v
         → (it ≡ true) ↔ (v ≡ j.value) → (b : Elements) → MayBe T new b → (it ≡ true) ↔ FollowsIn T b cs js i
     one_input_follows none differ below new count it v gives same_value b may =
         by_equation (Input k) c form row is b it (Some v)
@@ -89,7 +97,8 @@ module _ (T : Table) (cs : List (Option Context)) (js : List PlainJudgment) (i :
         element = may (get_or T.inputs k []) j.time v (reads_its_element T.inputs (streams new) k j.time (get_or T.inputs k []) (stream_at new k) v differ
             (slice_get-get_or T.inputs k [] below) (stream_there new k (omega (arith, below, count))) gives)
 
-    pub input_follows : j.uses ≡ [] → AllDiffer T.inputs → k < length T.inputs → (new : Inputs) → length (streams new) ≡ length T.inputs → (result : Result Bool CheckFault) → TellsSame new k j.time j.value result
+    pub input_follows : j.uses ≡ [] → AllDiffer T.inputs → k < length T.inputs → (new : Inputs) → length (streams new) ≡ length T.inputs
+        → (result : Result Bool CheckFault) → TellsSame new k j.time j.value result
         → IfOk result (λ it. (b : Elements) → MayBe T new b → (it ≡ true) ↔ FollowsIn T b cs js i)
     input_follows none differ below new count (Err e) h = tt
     input_follows none differ below new count (Ok it) h = one_input_follows none differ below new count it h.0 h.1 h.2
@@ -103,7 +112,8 @@ pub some_uses : (slice us : List ℕ) → slice ≡ us → false ≡ (length sli
 some_uses slice us e h none = let f : length slice ≡ 0 = ap length (e ∙ none) in let g = eq-eqb (length slice) 0 f in absurd (cc)
 
 -- what a node is that is no input, and whether it is told by another one
-pub is_form : (n : Node) → ((k : ℕ) → n ≡ Input k → ⊥) → ((a : ℕ) → n ≡ Freeze a → ⊥) → ((m l : ℕ) → n ≡ Refer m l → ⊥) → ((m q l : ℕ) → n ≡ Call m q l → ⊥) → IsForm n
+pub is_form : (n : Node) → ((k : ℕ) → n ≡ Input k → ⊥) → ((a : ℕ) → n ≡ Freeze a → ⊥) → ((m l : ℕ) → n ≡ Refer m l → ⊥) → ((m q l : ℕ) → n ≡ Call m q l → ⊥)
+    → IsForm n
 is_form (Input k) a b c d = a k refl
 is_form (Freeze e) a b c d = b e refl
 is_form (Refer m l) a b c d = c m l refl
@@ -134,7 +144,8 @@ pub same_check : (c : Check) → IsSameCheck c c
 same_check c = record { program = refl; judgments = refl; contexts = refl }
 
 -- The same of a check.
-module _ (c : Check) (i : ℕ) (d : JudgmentRow) (below : i < length (judgments_of c)) (n : Node) (tag : Tag) (h : HasRow (table_of c.program.now) c (plain_judgment (get_or c.judgments.now i d)) n tag) where
+module _ (c : Check) (i : ℕ) (d : JudgmentRow) (below : i < length (judgments_of c)) (n : Node) (tag : Tag)
+    (h : HasRow (table_of c.program.now) c (plain_judgment (get_or c.judgments.now i d)) n tag) where
   abbrev T : Table
   T = table_of c.program.now
 
@@ -149,15 +160,19 @@ module _ (c : Check) (i : ℕ) (d : JudgmentRow) (below : i < length (judgments_
 
   pub by_form : IsForm n → (b : Elements) (it : Bool)
       → ((id : ℕ) (f : Head) → row_at T id ≡ Some n → HasHead T n f
-      → (it ≡ true) ↔ (fed (of_part T (used (contexts_in c) (judgments_of c) i) id (context_of c.tags tag)) (plan (j.time + length j.uses) f j.time j.space) j.uses ≡ Some j.value)) → (it ≡ true) ↔ Follows b
+      → (it ≡ true) ↔ (fed (of_part T (used (contexts_in c) (judgments_of c) i) id (context_of c.tags tag)) (plan (j.time + length j.uses) f j.time j.space)
+      j.uses ≡ Some j.value)) → (it ≡ true) ↔ Follows b
   by_form is_form b it = form_follows T (contexts_in c) (judgments_of c) i j at n (context_of c.tags tag) h.form h.row h.meaning b it is_form
 
   pub by_passing : PassesOn n → (b : Elements) (it : Bool)
-      → (it ≡ true) ↔ (by_onward b (used (contexts_in c) (judgments_of c) i) (row_onward T n (context_of c.tags tag) j.time) j.space j.uses ≡ Some j.value) → (it ≡ true) ↔ Follows b
+      → (it ≡ true) ↔ (by_onward b (used (contexts_in c) (judgments_of c) i) (row_onward T n (context_of c.tags tag) j.time) j.space j.uses ≡ Some j.value)
+      → (it ≡ true) ↔ Follows b
   by_passing passes b it = passes_follows T (contexts_in c) (judgments_of c) i j at n (context_of c.tags tag) h.form h.row h.meaning b it passes
 
-  pub reads_nothing : ((k : ℕ) → n ≡ Input k → ⊥) → (old : Inputs) (w : World) (r : Result Bool CheckFault) → IfErr r (λ e. e ≡ NoMemory) → ReadsFor T (contexts_in c) (judgments_of c) i old old w w r
-  reads_nothing other old w r own = nothing_read (no_input_tells T (contexts_in c) (judgments_of c) i j at n (context_of c.tags tag) h.form h.row h.meaning other) refl refl own
+  pub reads_nothing : ((k : ℕ) → n ≡ Input k → ⊥) → (old : Inputs) (w : World) (r : Result Bool CheckFault) → IfErr r (λ e. e ≡ NoMemory)
+      → ReadsFor T (contexts_in c) (judgments_of c) i old old w w r
+  reads_nothing other old w r own = nothing_read (no_input_tells T (contexts_in c) (judgments_of c) i j at n (context_of c.tags tag) h.form h.row h.meaning
+      other) refl refl own
 
   module _ (k : ℕ) (is : n ≡ Input k) where
     input_row : row_at T j.node ≡ Some (Input k)
@@ -170,12 +185,15 @@ module _ (c : Check) (i : ℕ) (d : JudgmentRow) (below : i < length (judgments_
     by_used_input some b = used_input_follows T (contexts_in c) (judgments_of c) i j at k (context_of c.tags tag) h.form input_row input_node some b
 
     pub used_reads_nothing : (j.uses ≡ [] → ⊥) → (old : Inputs) (w : World) → ReadsFor T (contexts_in c) (judgments_of c) i old old w w (Ok false)
-    used_reads_nothing some old w = nothing_read (used_input_tells T (contexts_in c) (judgments_of c) i j at k (context_of c.tags tag) h.form input_row input_node some) refl refl tt
+    used_reads_nothing some old w = nothing_read (used_input_tells T (contexts_in c) (judgments_of c) i j at k (context_of c.tags tag) h.form input_row
+        input_node some) refl refl tt
 
-    pub by_input : j.uses ≡ [] → AllDiffer T.inputs → (old new : Inputs) → length (streams old) ≡ length T.inputs → (before after : World) (r : Result Bool CheckFault) → ReadsElement old new k j.time before after r
+    pub by_input : j.uses ≡ [] → AllDiffer T.inputs → (old new : Inputs) → length (streams old) ≡ length T.inputs
+        → (before after : World) (r : Result Bool CheckFault) → ReadsElement old new k j.time before after r
         → TellsSame new k j.time j.value r → IfOk r (λ it. (b : Elements) → MayBe T new b → (it ≡ true) ↔ Follows b)
     by_input none differ old new count before after r reads same =
-        input_follows T (contexts_in c) (judgments_of c) i j at k (context_of c.tags tag) h.form input_row input_node none differ (omega (arith, reads.there, count)) new (reads.reads.count ∙ count) r same
+        input_follows T (contexts_in c) (judgments_of c) i j at k (context_of c.tags tag) h.form input_row input_node none differ
+        (omega (arith, reads.there, count)) new (reads.reads.count ∙ count) r same
 
     pub reads_its_input : j.uses ≡ [] → (old new : Inputs) (before after : World) (r : Result Bool CheckFault) → ReadsElement old new k j.time before after r
         → ReadsFor T (contexts_in c) (judgments_of c) i old new before after r

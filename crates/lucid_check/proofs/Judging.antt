@@ -25,7 +25,8 @@ module _ (T : Table) (w : Why) (old : Inputs) (before : World) where
   }
 
   -- there is no memory
-  pub no_memory : (n : ℕ) (now : Inputs) (mid : World) → n ≤ length w.judgments → Read n now mid → mid.faults ≡ before.faults → Checked T w old now before mid (Err NoMemory)
+  pub no_memory : (n : ℕ) (now : Inputs) (mid : World) → n ≤ length w.judgments → Read n now mid → mid.faults ≡ before.faults
+      → Checked T w old now before mid (Err NoMemory)
   no_memory n now mid l r same = record {
     right = tt;
     wrong = tt;
@@ -52,9 +53,12 @@ module _ (T : Table) (w : Why) (old : Inputs) (before : World) where
 
   module _ (n : ℕ) (now next : Inputs) (mid after : World) (apart : AllDiffer (places_of (streams now))) (s : FollowSoFar n now mid) where
     -- what was read before is read still
-    extends : (result : Result Bool CheckFault) → LooksAt n now next mid after result → Extends (elements_read T.inputs (streams now)) (elements_read T.inputs (streams next))
-    extends result (nothing_read none e f own) = subst (λ (i : Inputs). Extends (elements_read T.inputs (streams now)) (elements_read T.inputs (streams i))) (sym e) (λ m j v h. h)
-    extends result (element_read k j t r) = read_more (streams now) (streams next) k j mid after (streams_read now next k j mid after r.there r.reads) apart T.inputs
+    extends : (result : Result Bool CheckFault) → LooksAt n now next mid after result
+        → Extends (elements_read T.inputs (streams now)) (elements_read T.inputs (streams next))
+    extends result (nothing_read none e f own) = subst (λ (i : Inputs). Extends (elements_read T.inputs (streams now)) (elements_read T.inputs (streams i)))
+        (sym e) (λ m j v h. h)
+    extends result (element_read k j t r) = read_more (streams now) (streams next) k j mid after (streams_read now next k j mid after r.there r.reads) apart
+        T.inputs
 
     followed : (result : Result Bool CheckFault) → LooksAt n now next mid after result → (b : Elements) → MayBe T next b → AllFollow T b w n
     followed result l b m = s.follow b (extends_then _ _ b (extends result l) m)
@@ -65,7 +69,8 @@ module _ (T : Table) (w : Why) (old : Inputs) (before : World) where
     -- no judgment through this one tells an element past
     none_past : (it : Bool) → LooksAt n now next mid after (Ok it) → NoneTellsPast T w old before (n + 1)
     none_past it l i k j lt t =
-        below_or (λ i. (k j : ℕ) → TellsElement T (contexts w) w.judgments i k j → LiesWithin old before k j) n (λ i m k j. s.within i k j m) (here it l) i lt k j t
+        below_or (λ i. (k j : ℕ) → TellsElement T (contexts w) w.judgments i k j → LiesWithin old before k j) n (λ i m k j. s.within i k j m) (here it l) i lt k
+        j t
       where
         here : (it : Bool) → LooksAt n now next mid after (Ok it) → (k j : ℕ) → TellsElement T (contexts w) w.judgments n k j → LiesWithin old before k j
         here it (nothing_read none e f own) k j t = absurd (none k j t)
@@ -96,7 +101,8 @@ module _ (T : Table) (w : Why) (old : Inputs) (before : World) where
     looked result l lt = has_looked (n + 1) next after (omega (arith, lt)) (on result l)
 
     -- or it doesn't, and is the first;
-    pub one_is_wrong : n < length w.judgments → LooksAt n now next mid after (Ok false) → ((b : Elements) → MayBe T next b → Follows T b w n → ⊥) → Checked T w old next before after (Err (Wrong n))
+    pub one_is_wrong : n < length w.judgments → LooksAt n now next mid after (Ok false) → ((b : Elements) → MayBe T next b → Follows T b w n → ⊥)
+        → Checked T w old next before after (Err (Wrong n))
     one_is_wrong lt l f = record {
       right = tt;
       wrong = λ b m. not_following lt (followed (Ok false) l b m) (f b m);

@@ -24,13 +24,16 @@ no_fault (plain_def d e) at k o n is = refl
 no_fault _ at k o n is = absurd (true≢false (sym is))
 
 module _ (ds : PlainDefs) where
-  names_faultless : (base j : ℕ) (n : List ℕ) (ns : List (List ℕ)) → ((i : ℕ) (m : List ℕ) → slice_get (n ∷ ns) i ≡ Some m → IsTrue (is_plain (definition m ds)))
+  names_faultless : (base j : ℕ) (n : List ℕ) (ns : List (List ℕ))
+      → ((i : ℕ) (m : List ℕ) → slice_get (n ∷ ns) i ≡ Some m → IsTrue (is_plain (definition m ds)))
       → All Faultless (sites (in_block ds outermost) (over_space base j n ns))
-  names_faultless base j n [] plain = All-cons Faultless (named (base + j) n (in_block ds outermost)) [] (no_fault (definition n ds) (base + j) (in_block ds outermost) outermost n (plain 0 n refl)) (All-nil Faultless)
+  names_faultless base j n [] plain = All-cons Faultless (named (base + j) n (in_block ds outermost)) []
+      (no_fault (definition n ds) (base + j) (in_block ds outermost) outermost n (plain 0 n refl)) (All-nil Faultless)
   names_faultless base j n (k ∷ ns) plain =
       All-cons Faultless (named (base + j) n (in_block ds outermost)) (sites (in_block ds outermost) (over_space base (suc j) k ns) ++ [])
       (no_fault (definition n ds) (base + j) (in_block ds outermost) outermost n (plain 0 n refl))
-      (All-append Faultless (sites (in_block ds outermost) (over_space base (suc j) k ns)) [] (names_faultless base (suc j) k ns (λ i m e. plain (suc i) m e)) (All-nil Faultless))
+      (All-append Faultless (sites (in_block ds outermost) (over_space base (suc j) k ns)) [] (names_faultless base (suc j) k ns (λ i m e. plain (suc i) m e))
+      (All-nil Faultless))
 
 within : {A : Type 0} (xs : List A) (i : ℕ) (x : A) → slice_get xs i ≡ Some x → i < length xs
 within [] i x e = absurd (cc e)

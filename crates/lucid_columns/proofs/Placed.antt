@@ -43,7 +43,10 @@ module _ (base : ℕ) where
   differ : (j : ℕ) (n : List ℕ) (ns : List (List ℕ)) → j + length ns < 16 → AllDiffer (places (over_space base j n ns))
   differ j n [] few = ((λ i. i), tt)
   differ j n (k ∷ ns) few = (
-    λ i. elim i [ inl e ↦ absurd (omega (arith, e)) | inr h ↦ elim (there (base + 16 + j) h) [ inl p ↦ absurd (omega (arith, p.1)) | inr p ↦ absurd (omega (arith, p)) ] ],
+    λ i. elim i [
+      | inl e ↦ absurd (omega (arith, e))
+      | inr h ↦ elim (there (base + 16 + j) h) [ inl p ↦ absurd (omega (arith, p.1)) | inr p ↦ absurd (omega (arith, p)) ]
+    ],
     (
       λ h. elim (there (base + j) h) [ inl p ↦ absurd (omega (arith, p.0)) | inr p ↦ absurd (omega (arith, p)) ],
       subst AllDiffer (sym (append-nil (places (over_space base (suc j) k ns)))) (differ (suc j) k ns (omega (arith, few))),
@@ -70,7 +73,8 @@ module _ (base : ℕ) where
         | inl j ↦ apart at j (in_all (λ p. p < base) (places (block at e ds)) at lower (inl refl))
         | inr j ↦ well.placed.0 (in_right at (places e) (places_in_defs ds) j)
       ]),
-      differ_both (places (over_space base 0 n ns)) (places_in_defs ds) (differ 0 n ns (omega (arith, few))) (differ_right (places e) (places_in_defs ds) well.placed.1)
+      differ_both (places (over_space base 0 n ns)) (places_in_defs ds) (differ 0 n ns (omega (arith, few)))
+          (differ_right (places e) (places_in_defs ds) well.placed.1)
           (λ p i j. apart p i (in_all (λ p. p < base) (places (block at e ds)) p lower (inr (in_right p (places e) (places_in_defs ds) j)))),
     );
     few = omega (
@@ -87,7 +91,8 @@ module _ (base : ℕ) where
       apart p i lt = elim (placed 0 n ns p (omega (arith, few)) i) [ inl h ↦ absurd (omega (arith, h.0, lt)) | inr h ↦ absurd (omega (arith, h, lt)) ]
 
 -- So is any tree with columns of it as the subject.
-pub beside_well_made : (e : PlainTree) (base : ℕ) (columns : List (List ℕ)) → length columns ≤ 16 → IsWellMade e → All (λ p. p < base) (places e) → length (places e) ≤ 1048576
+pub beside_well_made : (e : PlainTree) (base : ℕ) (columns : List (List ℕ)) → length columns ≤ 16 → IsWellMade e → All (λ p. p < base) (places e)
+    → length (places e) ≤ 1048576
     → IsWellMade (with_columns e base columns)
 beside_well_made e base [] few well lower short = well
 beside_well_made (block at e ds) base (n ∷ ns) few well lower short = still_well_made base at e ds n ns (omega (arith, few)) well lower short

@@ -5,7 +5,8 @@ use Rattle.lucid_tree.specs.declared.tree.Kind.TheVariants.{Scope}
 use Rattle.lucid_columns.specs.Columns.{is_column, IsFirstMissing}
 
 -- one column more
-pub one_more : (e : PlainTree) (ns : List (List ℕ)) (i k : ℕ) (n : List ℕ) → AreColumnsBelow e ns i → slice_get ns i ≡ Some n → IsTrue (is_column e n) → k ≡ i + 1 → AreColumnsBelow e ns k
+pub one_more : (e : PlainTree) (ns : List (List ℕ)) (i k : ℕ) (n : List ℕ) → AreColumnsBelow e ns i → slice_get ns i ≡ Some n → IsTrue (is_column e n)
+    → k ≡ i + 1 → AreColumnsBelow e ns k
 one_more e ns i k n below is good next j m lt at = elim (cases_lt j i) [
   | inl lower ↦ below j m lower at
   | inr le ↦
@@ -19,7 +20,8 @@ no_block : (at : ℕ) (k : Kind) → ((b : Box Block Global) → k ≡ Scope b �
 no_block at (Scope b) h n = absurd (h b refl)
 no_block at _ h n = refl
 
-pub first_missing : (e : PlainTree) (at : ℕ) (k : Kind) (columns : List (List ℕ)) (n : List ℕ) (ns : List (List ℕ)) → tree_of at k ≡ e → ((b : Box Block Global) → k ≡ Scope b → ⊥)
+pub first_missing : (e : PlainTree) (at : ℕ) (k : Kind) (columns : List (List ℕ)) (n : List ℕ) (ns : List (List ℕ)) → tree_of at k ≡ e
+    → ((b : Box Block Global) → k ≡ Scope b → ⊥)
     → columns ≡ n ∷ ns → IsFirstMissing e columns 0
 first_missing e at k columns n ns is other named = record {
   before = λ j m lt there. absurd (omega (arith, lt));

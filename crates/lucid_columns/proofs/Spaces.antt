@@ -27,13 +27,15 @@ met_on : (m : ℕ) (p : Reader (Option PlainValue)) (see : Reader Events) (xs : 
     → ((if nat_le 0 m then xs else []) ++ []) ++ with_values (add_value o (Some [])) [] (λ vs. trace m (single gives vs) p see) ≡ xs
 met_on m p see xs o = by o ∙ append-nil (if nat_le 0 m then xs else []) ∙ ap (λ c. if c then xs else []) (zero_le m)
   where
-    by : (o : Option PlainValue) → ((if nat_le 0 m then xs else []) ++ []) ++ with_values (add_value o (Some [])) [] (λ vs. trace m (single gives vs) p see) ≡ (if nat_le 0 m then xs else []) ++ []
+    by : (o : Option PlainValue) → ((if nat_le 0 m then xs else []) ++ []) ++ with_values (add_value o (Some [])) []
+        (λ vs. trace m (single gives vs) p see) ≡ (if nat_le 0 m then xs else []) ++ []
     by None = append-nil ((if nat_le 0 m then xs else []) ++ [])
     by (Some v) = append-nil ((if nat_le 0 m then xs else []) ++ [])
 
 module _ (m : ℕ) (b : Below Referent Position) (env : Env) (t : ℕ) where
   -- the value at the space of a name is that of the name at space 0
-  value_beside : (base j : ℕ) (n : List ℕ) (ns : List (List ℕ)) (i : ℕ) (x : List ℕ) → slice_get (n ∷ ns) i ≡ Some x → value_at m b (over_space base j n ns) env t i ≡ b (name_target x env t) 0
+  value_beside : (base j : ℕ) (n : List ℕ) (ns : List (List ℕ)) (i : ℕ) (x : List ℕ) → slice_get (n ∷ ns) i ≡ Some x
+      → value_at m b (over_space base j n ns) env t i ≡ b (name_target x env t) 0
   value_beside base j n [] zero x e = ap (λ y. b (name_target y env t) 0) (some_same e)
   value_beside base j n [] (suc i) x e = absurd (absent_some e)
   value_beside base j n (k ∷ ns) zero x e = read_on _ (b (name_target n env t) 0) ∙ ap (λ y. b (name_target y env t) 0) (some_same e)
@@ -41,11 +43,13 @@ module _ (m : ℕ) (b : Below Referent Position) (env : Env) (t : ℕ) where
 
 module _ (g : Given Referent) (m d : ℕ) (deep : Aim → ℕ → Events) (env : Env) (t : ℕ) where
   -- and so is what a walk meets
-  walk_beside : (base j : ℕ) (n : List ℕ) (ns : List (List ℕ)) (i : ℕ) (x : List ℕ) → slice_get (n ∷ ns) i ≡ Some x → walk_at g m d deep (over_space base j n ns) env t i ≡ deep (name_target x env t) 0
+  walk_beside : (base j : ℕ) (n : List ℕ) (ns : List (List ℕ)) (i : ℕ) (x : List ℕ) → slice_get (n ∷ ns) i ≡ Some x
+      → walk_at g m d deep (over_space base j n ns) env t i ≡ deep (name_target x env t) 0
   walk_beside base j n [] zero x e = ap (λ y. deep (name_target y env t) 0) (some_same e)
   walk_beside base j n [] (suc i) x e = absurd (absent_some e)
   walk_beside base j n (k ∷ ns) zero x e =
-      met_on m _ _ (deep (name_target n env t) 0) (value_at (m + d) (below value g (m + d)) (name (base + j) n) env t 0) ∙ ap (λ y. deep (name_target y env t) 0) (some_same e)
+      met_on m _ _ (deep (name_target n env t) 0) (value_at (m + d) (below value g (m + d)) (name (base + j) n) env t 0)
+      ∙ ap (λ y. deep (name_target y env t) 0) (some_same e)
   walk_beside base j n (k ∷ ns) (suc i) x e =
       met_on m _ _ (walk_at g m d deep (over_space base (suc j) k ns) env t i) (value_at (m + d) (below value g (m + d)) (over_space base (suc j) k ns) env t i)
       ∙ walk_beside base (suc j) k ns i x e

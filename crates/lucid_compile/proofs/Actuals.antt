@@ -17,11 +17,13 @@ at_number-all_at ts [] i = refl
 at_number-all_at ts (j ∷ js) zero = refl
 at_number-all_at ts (j ∷ js) (suc i) = at_number-all_at ts js i
 
-pub at_number-nodes_for : (nu : Numbers) (k : Static) (es : PlainTrees) (i : ℕ) → option_map (λ e. node_for nu k e) (tree_at es i) ≡ at_number (nodes_for nu k es) i
+pub at_number-nodes_for : (nu : Numbers) (k : Static) (es : PlainTrees) (i : ℕ)
+    → option_map (λ e. node_for nu k e) (tree_at es i) ≡ at_number (nodes_for nu k es) i
 at_number-nodes_for nu k no_trees i = refl
 at_number-nodes_for nu k (tree e es) zero = refl
 at_number-nodes_for nu k (tree e es) (suc i) = at_number-nodes_for nu k es i
 
-pub actuals-read : (ts : List PlainNode) (o : Option PlaceRow) (i : ℕ) → option_map (at ts) (slice_get (actuals_of o) i) ≡ at_number_of (option_map (λ r. all_at ts r.actuals) o) i
+pub actuals-read : (ts : List PlainNode) (o : Option PlaceRow) (i : ℕ)
+    → option_map (at ts) (slice_get (actuals_of o) i) ≡ at_number_of (option_map (λ r. all_at ts r.actuals) o) i
 actuals-read ts None i = refl
 actuals-read ts (Some r) i = at_number-all_at ts r.actuals i

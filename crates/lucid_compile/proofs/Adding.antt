@@ -28,16 +28,19 @@ not-both b x y =
     let q : true ≡ false = sym x ∙ y in
     cc
 
-one-added : (w : Numbered) (k q : Static) (at : ℕ) (n : List ℕ) (ds : PlainDefs) (x : DefKind) (g : Log) → added_defs w k q (def_of at n x ds) g ≡ added_defs w k q ds (added_defs w k q (def_of at n x no_defs) g)
+one-added : (w : Numbered) (k q : Static) (at : ℕ) (n : List ℕ) (ds : PlainDefs) (x : DefKind) (g : Log)
+    → added_defs w k q (def_of at n x ds) g ≡ added_defs w k q ds (added_defs w k q (def_of at n x no_defs) g)
 one-added w k q at n ds (PlainKind e) g = refl
 one-added w k q at n ds (FunctionKind ps ats e) g = refl
 one-added w k q at n ds (CurrentKind e) g = refl
 
 -- what a first definition adds, and then what the others do
-pub first-added : (w : Numbered) (k q : Static) (d : Def) (ds : PlainDefs) (g : Log) → added_defs w k q (one_def d ds) g ≡ added_defs w k q ds (added_defs w k q (one_def d no_defs) g)
+pub first-added : (w : Numbered) (k q : Static) (d : Def) (ds : PlainDefs) (g : Log)
+    → added_defs w k q (one_def d ds) g ≡ added_defs w k q ds (added_defs w k q (one_def d no_defs) g)
 first-added w k q d ds g = one-added w k q d.at d.name ds d.kind g
 
-pub parameters-after : (k : Static) (i : ℕ) (ats : List ℕ) (at : ℕ) (g : Log) → with_parameters k i (ats ++ at ∷ []) g ≡ with_parameters k (i + length ats) (at ∷ []) (with_parameters k i ats g)
+pub parameters-after : (k : Static) (i : ℕ) (ats : List ℕ) (at : ℕ) (g : Log)
+    → with_parameters k i (ats ++ at ∷ []) g ≡ with_parameters k (i + length ats) (at ∷ []) (with_parameters k i ats g)
 parameters-after k i [] at g = ap (λ j. with_parameters k j (at ∷ []) g) (sym (add-zero i))
 parameters-after k i (x ∷ ats) at g =
     let e : suc i + length ats ≡ i + suc (length ats) = omega arith in
@@ -70,10 +73,12 @@ module _ (w : Numbered) where
   no_trees-added o d = λ k g l t h. record { grown = grown-none w o g h; within = tt; are = refl; stand = tt }
 
   -- a first part, and then others
-  pub tree-then : (o m n : Lists) (d : Here) (e : PlainTree) (es : PlainTrees) (id : ℕ) (ids : List ℕ) → AddsTree w o m d e id → AddsTrees w m n d es ids → AddsTrees w o n d (tree e es) (id ∷ ids)
+  pub tree-then : (o m n : Lists) (d : Here) (e : PlainTree) (es : PlainTrees) (id : ℕ) (ids : List ℕ) → AddsTree w o m d e id → AddsTrees w m n d es ids
+      → AddsTrees w o n d (tree e es) (id ∷ ids)
   tree-then o m n d e es id ids a b = λ k g l t h.
       let p : GrownTo w o m (added w k e g) (bound_node w e) d.scope id = a k g l (first_true (is_shaped e) _ t) h in
-      let q : AllGrownTo w m n (added_all w k es (added w k e g)) (bound_nodes w es) d.scope ids = b k (added w k e g) (here-tree w k d k e g l) (second_true (is_shaped e) _ t) p.grown.holds in
+      let q : AllGrownTo w m n (added_all w k es (added w k e g)) (bound_nodes w es) d.scope ids =
+      b k (added w k e g) (here-tree w k d k e g l) (second_true (is_shaped e) _ t) p.grown.holds in
       record {
         grown = grown-then w o m n _ _ p.grown q.grown;
         within = (within-kept (nodes_in w m) (nodes_in w n) q.grown.begins id p.within, q.within);
@@ -82,40 +87,53 @@ module _ (w : Numbered) where
       }
 
   -- a form of parts that were added, with its node
-  row-added : (o m n : Lists) (d : Here) (at : ℕ) (f : Head) (es : PlainTrees) (ids : List ℕ) (x : Node) (id : ℕ) → AddsTrees w o m d es ids → OneNode m n (record { scope = d.scope; node = x }) id → (length ids ≡ count es → IsTrue (fits_arity f es) → IsForm f ids x) → AddsTree w o n d (form at f es) id
+  row-added : (o m n : Lists) (d : Here) (at : ℕ) (f : Head) (es : PlainTrees) (ids : List ℕ) (x : Node) (id : ℕ) → AddsTrees w o m d es ids
+      → OneNode m n (record { scope = d.scope; node = x }) id → (length ids ≡ count es → IsTrue (fits_arity f es) → IsForm f ids x)
+      → AddsTree w o n d (form at f es) id
   row-added o m n d at f es ids x id a s made = λ k g l t h.
       let p : AllGrownTo w o m (added_all w k es g) (bound_nodes w es) d.scope ids = a k g l (second_true (fits_arity f es) _ t) h in
       let is : IsForm f ids x = made (count-same w (nodes_in w m) ids es p.are) (first_true (fits_arity f es) _ t) in
       grown-on o m n _ _ _ _ id p.grown
-      (subst (λ z. GrownTo w m n (with_nodes (form_stand k ∷ []) (added_all w k es g)) z d.scope id) (is.means m.constants (scoped_inputs w.scoped) (nodes_in w m) ∙ ap (row f) p.are)
-      (push-grown w m n (added_all w k es g) (record { scope = d.scope; node = x }) (form_stand k) id p.grown.holds s (is.known (length m.constants)) (subst (EachBelow (length (nodes_in w m))) (sym is.parts_are) p.within) is.alone (here-trees w k d k es g l).1
+      (subst (λ z. GrownTo w m n (with_nodes (form_stand k ∷ []) (added_all w k es g)) z d.scope id)
+      (is.means m.constants (scoped_inputs w.scoped) (nodes_in w m) ∙ ap (row f) p.are)
+      (push-grown w m n (added_all w k es g) (record { scope = d.scope; node = x }) (form_stand k) id p.grown.holds s (is.known (length m.constants))
+      (subst (EachBelow (length (nodes_in w m))) (sym is.parts_are) p.within) is.alone (here-trees w k d k es g l).1
       (parts-own m.scopes m.nodes d.scope x is.own (subst (EachStandsIn m.nodes d.scope) (sym is.parts_are) p.stand)) is.filled))
 
-  const-added : (o m l n : Lists) (d : Here) (at : ℕ) (v : PlainValue) (es : PlainTrees) (ids : List ℕ) (c id : ℕ) → count es ≡ 0 → AddsTrees w o m d es ids → OneConstant m l v c → OneNode l n (record { scope = d.scope; node = Const c }) id → AddsTree w o n d (form at (const v) es) id
+  const-added : (o m l n : Lists) (d : Here) (at : ℕ) (v : PlainValue) (es : PlainTrees) (ids : List ℕ) (c id : ℕ) → count es ≡ 0 → AddsTrees w o m d es ids
+      → OneConstant m l v c → OneNode l n (record { scope = d.scope; node = Const c }) id → AddsTree w o n d (form at (const v) es) id
   const-added o m l n d at v no_trees ids c id z a b s = λ k g q t h.
       let p : AllGrownTo w o m g no_nodes d.scope ids = a k g q refl h in
       let r : Grown w m l g = keep-grown w m l g v c p.grown.holds b in
       grown-on o l n _ _ _ _ id (grown-then w o m l _ _ p.grown r)
-      (subst (λ z. GrownTo w l n (with_nodes (form_stand k ∷ []) g) z d.scope id) (ap (λ x. row (const x) no_nodes) (keep-constant w m l v c b)) (push-grown w l n g (record { scope = d.scope; node = Const c }) (form_stand k) id r.holds s (keep-known w m l v c b) tt tt q.1 tt tt))
+      (subst (λ z. GrownTo w l n (with_nodes (form_stand k ∷ []) g) z d.scope id) (ap (λ x. row (const x) no_nodes) (keep-constant w m l v c b))
+      (push-grown w l n g (record { scope = d.scope; node = Const c }) (form_stand k) id r.holds s (keep-known w m l v c b) tt tt q.1 tt tt))
   const-added o m l n d at v (tree e es) ids c id z a b s = absurd (omega (arith, z))
 
-  pub form-added : (o m l n : Lists) (d : Here) (at : ℕ) (f : Head) (es : PlainTrees) (ids : List ℕ) (a id : ℕ) → FitsHead f (count es) → AddsTrees w o m d es ids → HasFirst m l f ids a
+  pub form-added : (o m l n : Lists) (d : Here) (at : ℕ) (f : Head) (es : PlainTrees) (ids : List ℕ) (a id : ℕ) → FitsHead f (count es)
+      → AddsTrees w o m d es ids → HasFirst m l f ids a
       → OneNode l n (record { scope = d.scope; node = node_of f a (get_or ids 1 0) (get_or ids 2 0) }) id → AddsTree w o n d (form at f es) id
   form-added o m l n d at (const v) es ids a id h x b s = const-added o m l n d at v es ids a id h x b s
   form-added o m l n d at f es ids a id h x b s =
-      let same : OneNode m n (record { scope = d.scope; node = node_of f (get_or ids 0 0) (get_or ids 1 0) (get_or ids 2 0) }) id = subst (λ y. OneNode m n (record { scope = d.scope; node = node_of f y (get_or ids 1 0) (get_or ids 2 0) }) id) b.1
+      let same : OneNode m n (record { scope = d.scope; node = node_of f (get_or ids 0 0) (get_or ids 1 0) (get_or ids 2 0) }) id =
+      subst (λ y. OneNode m n (record { scope = d.scope; node = node_of f y (get_or ids 1 0) (get_or ids 2 0) }) id) b.1
       (subst (λ z. OneNode z n (record { scope = d.scope; node = node_of f a (get_or ids 1 0) (get_or ids 2 0) }) id) b.0 s) in
       row-added o m n d at f es ids _ id x same (λ e t. is-form f es ids tt h e t)
 
-  pub name-added : (m n : Lists) (d : Here) (at id : ℕ) → OneNode m n (record { scope = d.scope; node = name_node w at }) id → (x ids : List ℕ) → AddsNode w m n d (name at x) ids id
+  pub name-added : (m n : Lists) (d : Here) (at id : ℕ) → OneNode m n (record { scope = d.scope; node = name_node w at }) id → (x ids : List ℕ)
+      → AddsNode w m n d (name at x) ids id
   name-added m n d at id s x ids = λ o a k g l t h.
       let b = scoped_binding w.scoped at in
       let p : AllGrownTo w o m g no_nodes d.scope ids = a k g l t h in
       grown-on o m n _ _ _ _ id p.grown
-      (subst (λ z. GrownTo w m n (with_nodes (name_stand k at ∷ []) g) z d.scope id) (named-means m.constants (scoped_inputs w.scoped) (nodes_in w m) w.numbering b)
-      (push-grown w m n g (record { scope = d.scope; node = name_node w at }) (name_stand k at) id p.grown.holds s (named-known (length m.constants) w.numbering b) (named-parts (length (nodes_in w m)) w.numbering b) refl l.1 (named-stands m.scopes m.nodes d.scope w.numbering b) (named-filled w.numbering b)))
+      (subst (λ z. GrownTo w m n (with_nodes (name_stand k at ∷ []) g) z d.scope id)
+      (named-means m.constants (scoped_inputs w.scoped) (nodes_in w m) w.numbering b)
+      (push-grown w m n g (record { scope = d.scope; node = name_node w at }) (name_stand k at) id p.grown.holds s
+      (named-known (length m.constants) w.numbering b) (named-parts (length (nodes_in w m)) w.numbering b) refl l.1
+      (named-stands m.scopes m.nodes d.scope w.numbering b) (named-filled w.numbering b)))
 
-  pub call-added : (m l n : Lists) (d : Here) (at first : ℕ) (ids : List ℕ) (id : ℕ) → l ≡ with_place (plain_key at d.level) (plain_key first d.level) (record { scope = d.scope; name = (name_mark w.numbering at).number; actuals = ids }) m
+  pub call-added : (m l n : Lists) (d : Here) (at first : ℕ) (ids : List ℕ) (id : ℕ)
+      → l ≡ with_place (plain_key at d.level) (plain_key first d.level) (record { scope = d.scope; name = (name_mark w.numbering at).number; actuals = ids }) m
       → OneNode l n (record { scope = d.scope; node = call_node w at first }) id → AddsCall w m n d at first ids id
   call-added m l n d at first ids id b s = λ o x es f a k g e u h.
       let r : AllGrownTo w o m (added_all w k es g) (bound_nodes w es) d.scope ids = a k g e u h in
@@ -123,9 +141,14 @@ module _ (w : Numbered) where
       let c : CallStand = record { at = at; actuals = es; home = k } in
       let v : NodeStand = call_stand k at (first_place es) in
       let z : Log = with_call c (added_all w k es g) in
-      let y : Grown w m l z = place-grown w m l (added_all w k es g) c (plain_key at d.level) (plain_key first d.level) (record { scope = d.scope; name = (name_mark w.numbering at).number; actuals = ids }) r.grown.holds b (ap (plain_key at) (sym e.0)) (λ j. plain_key (f j) (sym e.0 j)) r.within r.are on.1 refl r.stand in
+      let y : Grown w m l z = place-grown w m l (added_all w k es g) c (plain_key at d.level) (plain_key first d.level)
+      (record { scope = d.scope; name = (name_mark w.numbering at).number; actuals = ids }) r.grown.holds b (ap (plain_key at) (sym e.0))
+      (λ j. plain_key (f j) (sym e.0 j)) r.within r.are on.1 refl r.stand in
       grown-on o l n _ _ _ _ id (grown-then w o m l _ _ r.grown y)
-      (subst (λ b. GrownTo w l n (with_nodes (v ∷ []) z) b d.scope id) (λ j. invoke (name_mark w.numbering at).number (call_number w.numbering (f j)) (function_mark w.numbering (callee_place (scoped_binding w.scoped at))).level) (push-grown w l n z (record { scope = d.scope; node = call_node w at first }) v id y.holds s tt tt (λ j. call_node w at (f j)) on.1 tt tt))
+      (subst (λ b. GrownTo w l n (with_nodes (v ∷ []) z) b d.scope id)
+      (λ j. invoke (name_mark w.numbering at).number (call_number w.numbering (f j))
+      (function_mark w.numbering (callee_place (scoped_binding w.scoped at))).level)
+      (push-grown w l n z (record { scope = d.scope; node = call_node w at first }) v id y.holds s tt tt (λ j. call_node w at (f j)) on.1 tt tt))
 
   level-frozen : (b : Bool) (n m : ℕ) → b ≡ true → n ≡ m → (if b then suc n else n) ≡ m + 1
   level-frozen b n m e h = rw e (omega (arith, h))
@@ -140,7 +163,9 @@ module _ (w : Numbered) where
   frame-open b k q e = rw e refl
 
   -- in a scope that was opened
-  pub frozen-opened : (o p m l n : Lists) (d inner : Here) (e : PlainTree) (ds : PlainDefs) (i id : ℕ) → freezes ds ≡ true → OneScope o p (record { parent = d.scope; kind = FrozenScope }) inner.scope → inner.level ≡ d.level + 1 → AddsTree w p m inner e i → AddsDefs w m l inner d ds
+  pub frozen-opened : (o p m l n : Lists) (d inner : Here) (e : PlainTree) (ds : PlainDefs) (i id : ℕ) → freezes ds ≡ true
+      → OneScope o p (record { parent = d.scope; kind = FrozenScope }) inner.scope → inner.level ≡ d.level + 1 → AddsTree w p m inner e i
+      → AddsDefs w m l inner d ds
       → OneNode l n (record { scope = d.scope; node = Freeze i }) id → AddsBlock w o n d e ds id
   frozen-opened o p m l n d inner e ds i id f opens depth a b s = λ at k g q u h.
       let y : Static = in_block ds k in
@@ -153,23 +178,34 @@ module _ (w : Numbered) where
       let z : Log = added_defs w y k ds (added w y e first) in
       let on : StandsAt (added w y e first) k d = here-tree w k d y e first (here-scopes w k d (y ∷ []) g q) in
       let row : ScopeIs p.scopes inner.scope d.scope FrozenScope = opened-row o p x inner.scope opens in
-      let t : Grown w m l z = b y k (added w y e first) (here-tree w y inner y e first inside) on (λ _. scope-kept p.scopes m.scopes r.grown.outer inner.scope d.scope FrozenScope row) (second_true (is_shaped e) _ u) r.grown.holds in
+      let t : Grown w m l z = b y k (added w y e first) (here-tree w y inner y e first inside) on
+      (λ _. scope-kept p.scopes m.scopes r.grown.outer inner.scope d.scope FrozenScope row) (second_true (is_shaped e) _ u) r.grown.holds in
       let last : StandsAt z k d = here-defs w k d y k ds (added w y e first) on in
-      subst (λ c. GrownTo w o n (with_nodes (block_stands c k) (added_defs w y k ds (added w y e (with_scopes (block_scopes c y) g)))) (if c then freeze (bound_node w e) else bound_node w e) d.scope id) (sym f)
+      subst (λ c. GrownTo w o n (with_nodes (block_stands c k) (added_defs w y k ds (added w y e (with_scopes (block_scopes c y) g))))
+      (if c then freeze (bound_node w e) else bound_node w e) d.scope id) (sym f)
       (grown-on o l n _ _ _ _ id (grown-then w o p l _ _ v (grown-then w p m l _ _ r.grown t))
       (subst (λ c. GrownTo w l n (with_nodes (form_stand k ∷ []) z) c d.scope id) (ap freeze (at-kept (nodes_in w m) (nodes_in w l) i t.begins r.within ∙ r.is))
-      (push-grown w l n z (record { scope = d.scope; node = Freeze i }) (form_stand k) id t.holds s tt (within-kept (nodes_in w m) (nodes_in w l) t.begins i r.within, tt) tt last.1 (inner.scope, scope-kept p.scopes l.scopes (begins-then p.scopes m.scopes l.scopes r.grown.outer t.outer) inner.scope d.scope FrozenScope row, stands-kept m.nodes l.nodes t.rows inner.scope i r.stands) tt)))
+      (push-grown w l n z (record { scope = d.scope; node = Freeze i }) (form_stand k) id t.holds s tt
+      (within-kept (nodes_in w m) (nodes_in w l) t.begins i r.within, tt) tt last.1 (
+        inner.scope,
+        scope-kept p.scopes l.scopes (begins-then p.scopes m.scopes l.scopes r.grown.outer t.outer) inner.scope d.scope FrozenScope row,
+        stands-kept m.nodes l.nodes t.rows inner.scope i r.stands,
+      ) tt)))
 
-  pub open-added : (o m l : Lists) (d : Here) (e : PlainTree) (ds : PlainDefs) (i : ℕ) → freezes ds ≡ false → AddsTree w o m d e i → AddsDefs w m l d d ds → AddsBlock w o l d e ds i
+  pub open-added : (o m l : Lists) (d : Here) (e : PlainTree) (ds : PlainDefs) (i : ℕ) → freezes ds ≡ false → AddsTree w o m d e i → AddsDefs w m l d d ds
+      → AddsBlock w o l d e ds i
   open-added o m l d e ds i f a b = λ at k g q u h.
       let y : Static = in_block ds k in
       let same : frame y ≡ frame k = frame-open (freezes ds) y (frame k) f in
       let inside : StandsAt g y d = (level-open (freezes ds) (level k) d.level f q.0, q.1 ∙ ap Some (sym same)) in
       let r : GrownTo w o m (added w y e g) (bound_node w e) d.scope i = a y g inside (first_true (is_shaped e) _ u) h in
       let z : Log = added_defs w y k ds (added w y e g) in
-      let t : Grown w m l z = b y k (added w y e g) (here-tree w y d y e g inside) (here-tree w k d y e g q) (λ x. absurd (not-both (freezes ds) x f)) (second_true (is_shaped e) _ u) r.grown.holds in
-      subst (λ c. GrownTo w o l (with_nodes (block_stands c k) (added_defs w y k ds (added w y e (with_scopes (block_scopes c y) g)))) (if c then freeze (bound_node w e) else bound_node w e) d.scope i) (sym f)
-      (subst (λ x. GrownTo w o l (with_nodes [] (added_defs w y k ds (added w y e x))) (bound_node w e) d.scope i) (sym (no-scopes g)) (subst (λ x. GrownTo w o l x (bound_node w e) d.scope i) (sym (no-nodes z)) (record {
+      let t : Grown w m l z = b y k (added w y e g) (here-tree w y d y e g inside) (here-tree w k d y e g q) (λ x. absurd (not-both (freezes ds) x f))
+      (second_true (is_shaped e) _ u) r.grown.holds in
+      subst (λ c. GrownTo w o l (with_nodes (block_stands c k) (added_defs w y k ds (added w y e (with_scopes (block_scopes c y) g))))
+      (if c then freeze (bound_node w e) else bound_node w e) d.scope i) (sym f)
+      (subst (λ x. GrownTo w o l (with_nodes [] (added_defs w y k ds (added w y e x))) (bound_node w e) d.scope i) (sym (no-scopes g))
+      (subst (λ x. GrownTo w o l x (bound_node w e) d.scope i) (sym (no-nodes z)) (record {
         grown = grown-then w o m l _ _ r.grown t;
         within = within-kept (nodes_in w m) (nodes_in w l) t.begins i r.within;
         is = at-kept (nodes_in w m) (nodes_in w l) i t.begins r.within ∙ r.is;
@@ -182,27 +218,39 @@ module _ (w : Numbered) where
   no_defs-added o i d = λ k q g a b z t h. grown-none w o g h
 
   -- a first definition, and then others
-  pub defs-then : (o m n : Lists) (i d : Here) (x : Def) (ds : PlainDefs) → AddsDefs w o m i d (one_def x no_defs) → AddsDefs w m n i d ds → AddsDefs w o n i d (one_def x ds)
+  pub defs-then : (o m n : Lists) (i d : Here) (x : Def) (ds : PlainDefs) → AddsDefs w o m i d (one_def x no_defs) → AddsDefs w m n i d ds
+      → AddsDefs w o n i d (one_def x ds)
   defs-then o m n i d x ds a b = λ k q g e f z t h.
       let s = shaped-one x ds x.kind t in
       let one : Log = added_defs w k q (one_def x no_defs) g in
       let p : Grown w o m one = a k q g e f (λ y. z (freezes-first x ds y)) s.0 h in
-      subst (Grown w o n) (sym (first-added w k q x ds g)) (grown-then w o m n _ _ p (b k q one (here-defs w k i k q (one_def x no_defs) g e) (here-defs w q d k q (one_def x no_defs) g f) (λ y. scope-kept o.scopes m.scopes p.outer i.scope d.scope FrozenScope (z (freezes-rest x ds y))) s.1 p.holds))
+      subst (Grown w o n) (sym (first-added w k q x ds g))
+      (grown-then w o m n _ _ p (b k q one (here-defs w k i k q (one_def x no_defs) g e) (here-defs w q d k q (one_def x no_defs) g f)
+      (λ y. scope-kept o.scopes m.scopes p.outer i.scope d.scope FrozenScope (z (freezes-rest x ds y))) s.1 p.holds))
 
-  pub plain-added : (o m n : Lists) (i d : Here) (at : ℕ) (x : List ℕ) (e : PlainTree) (body : ℕ) → AddsTree w o m i e body → n ≡ with_name (plain_key at i.level) (record { scope = i.scope; kind = Plain body }) m → AddsDefs w o n i d (defines at x e no_defs)
+  pub plain-added : (o m n : Lists) (i d : Here) (at : ℕ) (x : List ℕ) (e : PlainTree) (body : ℕ) → AddsTree w o m i e body
+      → n ≡ with_name (plain_key at i.level) (record { scope = i.scope; kind = Plain body }) m → AddsDefs w o n i d (defines at x e no_defs)
   plain-added o m n i d at x e body a s = λ k q g u v fz t h.
       let p : GrownTo w o m (added w k e g) (bound_node w e) i.scope body = a k g u (first_true (is_shaped e) _ t) h in
-      grown-then w o m n _ _ p.grown (define-grown w m n (added w k e g) (record { at = at; home = k; entry = plain_entry (bound_node w e) }) (plain_key at i.level) (record { scope = i.scope; kind = Plain body }) p.grown.holds s (ap (plain_key at) (sym u.0)) (p.within, ap plain_entry p.is) (here-tree w k i k e g u).1 p.stands)
+      grown-then w o m n _ _ p.grown (define-grown w m n (added w k e g) (record { at = at; home = k; entry = plain_entry (bound_node w e) })
+      (plain_key at i.level) (record { scope = i.scope; kind = Plain body }) p.grown.holds s (ap (plain_key at) (sym u.0)) (p.within, ap plain_entry p.is)
+      (here-tree w k i k e g u).1 p.stands)
 
-  pub current-added : (o m n : Lists) (i d : Here) (at : ℕ) (x : List ℕ) (e : PlainTree) (body : ℕ) → AddsTree w o m d e body → n ≡ with_name (plain_key at i.level) (record { scope = i.scope; kind = Current body }) m → AddsDefs w o n i d (defines_current at x e no_defs)
+  pub current-added : (o m n : Lists) (i d : Here) (at : ℕ) (x : List ℕ) (e : PlainTree) (body : ℕ) → AddsTree w o m d e body
+      → n ≡ with_name (plain_key at i.level) (record { scope = i.scope; kind = Current body }) m → AddsDefs w o n i d (defines_current at x e no_defs)
   current-added o m n i d at x e body a s = λ k q g u v fz t h.
       let p : GrownTo w o m (added w q e g) (bound_node w e) d.scope body = a q g v (first_true (is_shaped e) _ t) h in
-      grown-then w o m n _ _ p.grown (define-grown w m n (added w q e g) (record { at = at; home = k; entry = current_entry (bound_node w e) }) (plain_key at i.level) (record { scope = i.scope; kind = Current body }) p.grown.holds s (ap (plain_key at) (sym u.0)) (p.within, ap current_entry p.is) (here-tree w k i q e g u).1 (d.scope, scope-kept o.scopes m.scopes p.grown.outer i.scope d.scope FrozenScope (fz refl), p.stands))
+      grown-then w o m n _ _ p.grown (define-grown w m n (added w q e g) (record { at = at; home = k; entry = current_entry (bound_node w e) })
+      (plain_key at i.level) (record { scope = i.scope; kind = Current body }) p.grown.holds s (ap (plain_key at) (sym u.0))
+      (p.within, ap current_entry p.is) (here-tree w k i q e g u).1
+      (d.scope, scope-kept o.scopes m.scopes p.grown.outer i.scope d.scope FrozenScope (fz refl), p.stands))
 
   pub no_parameters-added : (o : Lists) (d : Here) → AddsParameters w o o d []
   no_parameters-added o d = λ k g l c h. grown-none w o g h
 
-  pub parameters-more : (o m n : Lists) (d : Here) (ats : List ℕ) (i index at : ℕ) → i < length ats → index ≡ i → at ≡ get_or ats i 0 → AddsParameters w o m d (take i ats) → n ≡ with_name (plain_key at d.level) (record { scope = d.scope; kind = Parameter index }) m → AddsParameters w o n d (take (i + 1) ats)
+  pub parameters-more : (o m n : Lists) (d : Here) (ats : List ℕ) (i index at : ℕ) → i < length ats → index ≡ i → at ≡ get_or ats i 0
+      → AddsParameters w o m d (take i ats) → n ≡ with_name (plain_key at d.level) (record { scope = d.scope; kind = Parameter index }) m
+      → AddsParameters w o n d (take (i + 1) ats)
   parameters-more o m n d ats i index at h e is a s =
       let count : length (take i ats) ≡ i = length-take-le i ats (omega arith) in
       subst (AddsParameters w o n d) (sym (take_more ats i 0 h ∙ ap (λ y. take i ats ++ y ∷ []) (sym is))) (λ k g u c held.
@@ -210,10 +258,16 @@ module _ (w : Numbered) where
       let p : Grown w o m before = a k g u c held in
       let number : index ≡ 0 + length (take i ats) = omega (arith, e, count) in
       let one : Stand = record { at = at; home = k; entry = parameter_entry (0 + length (take i ats)) } in
-      subst (Grown w o n) (sym (parameters-after k 0 (take i ats) at g)) (grown-then w o m n _ _ p (define-grown w m n before one (plain_key at d.level) (record { scope = d.scope; kind = Parameter index }) p.holds s (ap (plain_key at) (sym u.0)) (ap parameter_entry number) (here-parameters w k d k 0 (take i ats) g u).1 (c.0, scope-kept o.scopes m.scopes p.outer d.scope c.0 CalledScope c.1))))
+      subst (Grown w o n) (sym (parameters-after k 0 (take i ats) at g))
+      (grown-then w o m n _ _ p (define-grown w m n before one (plain_key at d.level) (record { scope = d.scope; kind = Parameter index }) p.holds s
+      (ap (plain_key at) (sym u.0)) (ap parameter_entry number) (here-parameters w k d k 0 (take i ats) g u).1
+      (c.0, scope-kept o.scopes m.scopes p.outer d.scope c.0 CalledScope c.1))))
 
-  pub function-opened : (o p m l n : Lists) (i inner d : Here) (at number : ℕ) (x : List ℕ) (ns : List (List ℕ)) (ats : List ℕ) (e : PlainTree) (body : ℕ) → OneScope o p (record { parent = i.scope; kind = CalledScope }) inner.scope → inner.level ≡ i.level + 1 → AddsParameters w p m inner ats → AddsTree w m l inner e body
-      → number ≡ length o.names → n ≡ with_body (function_key at number i.level) (record { scope = inner.scope; body = body }) l → AddsDefs w o n i d (defines_function at x ns ats e no_defs)
+  pub function-opened : (o p m l n : Lists) (i inner d : Here) (at number : ℕ) (x : List ℕ) (ns : List (List ℕ)) (ats : List ℕ) (e : PlainTree) (body : ℕ)
+      → OneScope o p (record { parent = i.scope; kind = CalledScope }) inner.scope → inner.level ≡ i.level + 1 → AddsParameters w p m inner ats
+      → AddsTree w m l inner e body
+      → number ≡ length o.names → n ≡ with_body (function_key at number i.level) (record { scope = inner.scope; body = body }) l
+      → AddsDefs w o n i d (defines_function at x ns ats e no_defs)
   function-opened o p m l n i inner d at number x ns ats e body opens deeper a c count s = λ k q g u v fz t h.
       let f : Static = in_body ns ats k in
       let y : ScopeRow = record { parent = i.scope; kind = CalledScope } in
@@ -230,13 +284,29 @@ module _ (w : Numbered) where
       let stand : FunctionStand = record { at = at; first = length g.names; names = ns; places = ats; right = e; home = k } in
       let row : Body = record { scope = inner.scope; body = body } in
       let own : number ≡ length g.names = count ∙ pairs-count (λ i r s. IsNameRow g.scopes (nodes_in w o) r s) 0 o.names g.names h.names in
-      grown-then w o l n _ _ (grown-then w o m l _ _ (grown-then w o p m _ _ z j) r.grown) (close-grown w l n (added w f e before) stand (function_key at number i.level) row r.grown.holds s (λ j. function_key at (own j) (sym u.0 j)) r.within r.is (here-tree w f inner f e before on).1 (i.scope, scope-kept p.scopes l.scopes (begins-then p.scopes m.scopes l.scopes j.outer r.grown.outer) inner.scope i.scope CalledScope called, r.stands))
+      grown-then w o l n _ _ (grown-then w o m l _ _ (grown-then w o p m _ _ z j) r.grown)
+      (close-grown w l n (added w f e before) stand (function_key at number i.level) row r.grown.holds s (λ j. function_key at (own j) (sym u.0 j)) r.within
+      r.is (here-tree w f inner f e before on).1 (
+        i.scope,
+        scope-kept p.scopes l.scopes (begins-then p.scopes m.scopes l.scopes j.outer r.grown.outer)
+            inner.scope i.scope CalledScope called,
+        r.stands,
+      ))
 
   -- a definition, from its right side
-  kind-added : (o m n l : Lists) (i d h : Here) (at : ℕ) (x : List ℕ) (y : DefKind) (first body : ℕ) → OpensRight w o m i d y h → AddsTree w m (link w n) h (right_of y) body → first ≡ length o.names → ClosesRight n l i at y first (record { scope = h.scope; body = body }) → AddsDefs w o (link w l) i d (def_of at x y no_defs)
-  kind-added o m n l i d h at x (PlainKind e) first body opens a count s = plain-added o (link w n) (link w l) i d at x e body (subst (λ z. AddsTree w z (link w n) i e body) opens.0 (subst (λ z. AddsTree w m (link w n) z e body) opens.1 a)) (ap (link w) s)
-  kind-added o m n l i d h at x (FunctionKind ps ats e) first body opens a count s = function-opened o opens.0 m (link w n) (link w l) i h d at first x ps ats e body opens.1 opens.2 opens.3 a count (ap (link w) s)
-  kind-added o m n l i d h at x (CurrentKind e) first body opens a count s = current-added o (link w n) (link w l) i d at x e body (subst (λ z. AddsTree w z (link w n) d e body) opens.0 (subst (λ z. AddsTree w m (link w n) z e body) opens.1 a)) (ap (link w) s)
+  kind-added : (o m n l : Lists) (i d h : Here) (at : ℕ) (x : List ℕ) (y : DefKind) (first body : ℕ) → OpensRight w o m i d y h
+      → AddsTree w m (link w n) h (right_of y) body → first ≡ length o.names → ClosesRight n l i at y first (record { scope = h.scope; body = body })
+      → AddsDefs w o (link w l) i d (def_of at x y no_defs)
+  kind-added o m n l i d h at x (PlainKind e) first body opens a count s =
+      plain-added o (link w n) (link w l) i d at x e body
+      (subst (λ z. AddsTree w z (link w n) i e body) opens.0 (subst (λ z. AddsTree w m (link w n) z e body) opens.1 a)) (ap (link w) s)
+  kind-added o m n l i d h at x (FunctionKind ps ats e) first body opens a count s =
+      function-opened o opens.0 m (link w n) (link w l) i h d at first x ps ats e body opens.1 opens.2 opens.3 a count (ap (link w) s)
+  kind-added o m n l i d h at x (CurrentKind e) first body opens a count s =
+      current-added o (link w n) (link w l) i d at x e body
+      (subst (λ z. AddsTree w z (link w n) d e body) opens.0 (subst (λ z. AddsTree w m (link w n) z e body) opens.1 a)) (ap (link w) s)
 
-  pub right-added : (o m n l : Lists) (i d h : Here) (x : Def) (first body : ℕ) → OpensRight w o m i d x.kind h → AddsTree w m (link w n) h (right_of x.kind) body → first ≡ length o.names → ClosesRight n l i x.at x.kind first (record { scope = h.scope; body = body }) → AddsDefs w o (link w l) i d (one_def x no_defs)
+  pub right-added : (o m n l : Lists) (i d h : Here) (x : Def) (first body : ℕ) → OpensRight w o m i d x.kind h
+      → AddsTree w m (link w n) h (right_of x.kind) body → first ≡ length o.names
+      → ClosesRight n l i x.at x.kind first (record { scope = h.scope; body = body }) → AddsDefs w o (link w l) i d (one_def x no_defs)
   right-added o m n l i d h x first body opens a count s = kind-added o m n l i d h x.at x.name x.kind first body opens a count s

@@ -42,7 +42,8 @@ no-front x (defines at n e ds) q = omega arith
 no-front x (defines_function at n ns ats e ds) q = omega arith
 no-front x (defines_current at n e ds) q = omega arith
 
-block-owns : (x : ℕ) (ds : PlainDefs) (k : Static) (l : Log) (b : Bool) → freezes ds ≡ b → times x (map own (l.scopes ++ block_scopes b (in_block ds k))) ≤ times x (owns l) + taken x (front_of ds)
+block-owns : (x : ℕ) (ds : PlainDefs) (k : Static) (l : Log) (b : Bool) → freezes ds ≡ b
+    → times x (map own (l.scopes ++ block_scopes b (in_block ds k))) ≤ times x (owns l) + taken x (front_of ds)
 block-owns x ds k l true e =
     omega (arith, ap (times x) (map-append own l.scopes (in_block ds k ∷ [])), times-append x (owns l) (suc (first_of ds) ∷ []), no-front x ds e)
 block-owns x ds k l false e = omega (arith, ap (λ xs. times x (map own xs)) (append-nil l.scopes))
@@ -51,10 +52,17 @@ front-taken : (x : ℕ) (ats : List ℕ) → 0 < length ats → times x (suc (ge
 front-taken x [] h = absurd (omega (arith, h))
 front-taken x (at ∷ ats) h = omega arith
 
-function-owns : (x : ℕ) (ns : List (List ℕ)) (ats : List ℕ) (k : Static) (l : Log) → 0 < length ats → times x (owns (with_parameters (in_body ns ats k) 0 ats (opened_function ns ats k l))) ≤ times x (owns l) + taken x ats
+function-owns : (x : ℕ) (ns : List (List ℕ)) (ats : List ℕ) (k : Static) (l : Log) → 0 < length ats
+    → times x (owns (with_parameters (in_body ns ats k) 0 ats (opened_function ns ats k l))) ≤ times x (owns l) + taken x ats
 function-owns x ns ats k l h =
     let y : Static = in_body ns ats k in
-    omega (arith, ap (λ xs. times x (map own xs)) (parameters-scopes y 0 ats (opened_function ns ats k l)), ap (times x) (map-append own l.scopes (y ∷ [])), times-append x (owns l) (suc (get_or ats 0 0) ∷ []), front-taken x ats h)
+    omega (
+      arith,
+      ap (λ xs. times x (map own xs)) (parameters-scopes y 0 ats (opened_function ns ats k l)),
+      ap (times x) (map-append own l.scopes (y ∷ [])),
+      times-append x (owns l) (suc (get_or ats 0 0) ∷ []),
+      front-taken x ats h,
+    )
 
 has-first : (n m : ℕ) → IsTrue (nat_lt 0 n && nat_eq m n) → 0 < m
 has-first n m h =
@@ -71,18 +79,39 @@ module _ (w : Numbered) (x : ℕ) where
     owns-tree k (block at e ds) l t =
         let u : Log = opened_block ds k l in
         let b : Log = added w (in_block ds k) e u in
-        omega (arith, taken-append x (places e) (places_in_defs ds), block-owns x ds k l (freezes ds) refl, owns-tree (in_block ds k) e u (first_true (is_shaped e) _ t), owns-defs (in_block ds k) k ds b (second_true (is_shaped e) _ t))
+        omega (
+          arith,
+          taken-append x (places e) (places_in_defs ds),
+          block-owns x ds k l (freezes ds) refl,
+          owns-tree (in_block ds k) e u
+              (first_true (is_shaped e) _ t),
+          owns-defs (in_block ds k) k ds b (second_true (is_shaped e) _ t),
+        )
 
-    owns-trees : (k : Static) (es : PlainTrees) (l : Log) → IsTrue (are_shaped es) → times x (owns (added_all w k es l)) ≤ times x (owns l) + taken x (places_in es)
+    owns-trees : (k : Static) (es : PlainTrees) (l : Log) → IsTrue (are_shaped es)
+        → times x (owns (added_all w k es l)) ≤ times x (owns l) + taken x (places_in es)
     owns-trees k no_trees l t = omega arith
     owns-trees k (tree e es) l t =
-        omega (arith, taken-append x (places e) (places_in es), owns-tree k e l (first_true (is_shaped e) _ t), owns-trees k es (added w k e l) (second_true (is_shaped e) _ t))
+        omega (
+          arith,
+          taken-append x (places e) (places_in es),
+          owns-tree k e l (first_true (is_shaped e) _ t),
+          owns-trees k es (added w k e l)
+              (second_true (is_shaped e) _ t),
+        )
 
-    owns-defs : (k o : Static) (ds : PlainDefs) (l : Log) → IsTrue (defs_are_shaped ds) → times x (owns (added_defs w k o ds l)) + taken x (front_of ds) ≤ times x (owns l) + taken x (places_in_defs ds)
+    owns-defs : (k o : Static) (ds : PlainDefs) (l : Log) → IsTrue (defs_are_shaped ds)
+        → times x (owns (added_defs w k o ds l)) + taken x (front_of ds) ≤ times x (owns l) + taken x (places_in_defs ds)
     owns-defs k o no_defs l t = omega arith
     owns-defs k o (defines at n e ds) l t =
         let s : Stand = record { at = at; home = k; entry = plain_entry (bound_node w e) } in
-        omega (arith, taken-append x (places e) (places_in_defs ds), owns-tree k e l (first_true (is_shaped e) _ t), owns-defs k o ds (with_stand s (added w k e l)) (second_true (is_shaped e) _ t))
+        omega (
+          arith,
+          taken-append x (places e) (places_in_defs ds),
+          owns-tree k e l (first_true (is_shaped e) _ t),
+          owns-defs k o ds
+              (with_stand s (added w k e l)) (second_true (is_shaped e) _ t),
+        )
     owns-defs k o (defines_function at n ns ats e ds) l t =
         let y : Static = in_body ns ats k in
         let front : IsTrue ((nat_lt 0 (length ns) && nat_eq (length ats) (length ns)) && is_shaped e) = first_true _ (defs_are_shaped ds) t in
@@ -91,10 +120,24 @@ module _ (w : Numbered) (x : ℕ) where
         let rest : IsTrue (defs_are_shaped ds) = second_true ((nat_lt 0 (length ns) && nat_eq (length ats) (length ns)) && is_shaped e) _ t in
         let f : FunctionStand = record { at = at; first = length l.names; names = ns; places = ats; right = e; home = k } in
         let b : Log = with_parameters y 0 ats (opened_function ns ats k l) in
-        omega (arith, taken-append x (ats ++ places e) (places_in_defs ds), taken-append x ats (places e), function-owns x ns ats k l first, owns-tree y e b shape, owns-defs k o ds (with_function f (added w y e b)) rest)
+        omega (
+          arith,
+          taken-append x (ats ++ places e) (places_in_defs ds),
+          taken-append x ats (places e),
+          function-owns x ns ats k l first,
+          owns-tree y e b
+              shape,
+          owns-defs k o ds (with_function f (added w y e b)) rest,
+        )
     owns-defs k o (defines_current at n e ds) l t =
         let s : Stand = record { at = at; home = k; entry = current_entry (bound_node w e) } in
-        omega (arith, taken-append x (places e) (places_in_defs ds), owns-tree o e l (first_true (is_shaped e) _ t), owns-defs k o ds (with_stand s (added w o e l)) (second_true (is_shaped e) _ t))
+        omega (
+          arith,
+          taken-append x (places e) (places_in_defs ds),
+          owns-tree o e l (first_true (is_shaped e) _ t),
+          owns-defs k o ds
+              (with_stand s (added w o e l)) (second_true (is_shaped e) _ t),
+        )
 
 -- numbers that differ differ when each is one more
 not-zero : (xs : List ℕ) → In 0 (map suc xs) → ⊥
@@ -114,7 +157,8 @@ one-more (x ∷ xs) h = ((λ i. h.0 (one-less x xs i)), one-more xs h.1)
 owns-differ : (w : Numbered) (e : PlainTree) → IsWellMade e → AllDiffer (owns (added w outermost e no_log))
 owns-differ w e made =
     let all : AllDiffer (0 ∷ map suc (places e)) = (not-zero (places e), one-more (places e) made.placed) in
-    once-differ (owns (added w outermost e no_log)) (λ x. omega (arith, owns-tree w x outermost e no_log made.shaped, differ-once (0 ∷ map suc (places e)) all x))
+    once-differ (owns (added w outermost e no_log))
+    (λ x. omega (arith, owns-tree w x outermost e no_log made.shaped, differ-once (0 ∷ map suc (places e)) all x))
 
 -- what differs stands at one index
 module _ {A : Type 0} (f : A → ℕ) where

@@ -52,12 +52,14 @@ module _ (w : Numbered) where
     within-tree k (name at x) a = within-nodes _ a
     within-tree k (call at x es) a =
         let b : Log = with_call (record { at = at; actuals = es; home = k }) (added_all w k es a) in
-        within-then a (added_all w k es a) _ (within-trees k es a) (within-then (added_all w k es a) b _ (within-call _ (added_all w k es a)) (within-nodes _ b))
+        within-then a (added_all w k es a) _ (within-trees k es a)
+        (within-then (added_all w k es a) b _ (within-call _ (added_all w k es a)) (within-nodes _ b))
     within-tree k (block at e ds) a =
         let o : Log = opened_block ds k a in
         let b : Log = added w (in_block ds k) e o in
         let c : Log = added_defs w (in_block ds k) k ds b in
-        within-then a b _ (within-then a o b (within-scopes _ a) (within-tree (in_block ds k) e o)) (within-then b c _ (within-defs (in_block ds k) k ds b) (within-nodes _ c))
+        within-then a b _ (within-then a o b (within-scopes _ a) (within-tree (in_block ds k) e o))
+        (within-then b c _ (within-defs (in_block ds k) k ds b) (within-nodes _ c))
 
     pub within-trees : (k : Static) (es : PlainTrees) (a : Log) → Within a (added_all w k es a)
     within-trees k no_trees a = within-itself a
@@ -67,16 +69,21 @@ module _ (w : Numbered) where
     within-defs k o no_defs a = within-itself a
     within-defs k o (defines at x e ds) a =
         let s : Stand = record { at = at; home = k; entry = plain_entry (bound_node w e) } in
-        within-then a (added w k e a) _ (within-tree k e a) (within-then (added w k e a) (with_stand s (added w k e a)) _ (within-stand s (added w k e a)) (within-defs k o ds (with_stand s (added w k e a))))
+        within-then a (added w k e a) _ (within-tree k e a)
+        (within-then (added w k e a) (with_stand s (added w k e a)) _ (within-stand s (added w k e a)) (within-defs k o ds (with_stand s (added w k e a))))
     within-defs k o (defines_function at x ns ats e ds) a =
         let h : Static = in_body ns ats k in
         let f : FunctionStand = record { at = at; first = length a.names; names = ns; places = ats; right = e; home = k } in
         let u : Log = opened_function ns ats k a in
         let b : Log = with_parameters h 0 ats u in
-        within-then a b _ (within-then a u b (within-scopes _ a) (within-parameters h 0 ats u)) (within-then b (added w h e b) _ (within-tree h e b) (within-then (added w h e b) (with_function f (added w h e b)) _ (within-function f (added w h e b)) (within-defs k o ds (with_function f (added w h e b)))))
+        within-then a b _ (within-then a u b (within-scopes _ a) (within-parameters h 0 ats u))
+        (within-then b (added w h e b) _ (within-tree h e b)
+        (within-then (added w h e b) (with_function f (added w h e b)) _ (within-function f (added w h e b))
+        (within-defs k o ds (with_function f (added w h e b)))))
     within-defs k o (defines_current at x e ds) a =
         let s : Stand = record { at = at; home = k; entry = current_entry (bound_node w e) } in
-        within-then a (added w o e a) _ (within-tree o e a) (within-then (added w o e a) (with_stand s (added w o e a)) _ (within-stand s (added w o e a)) (within-defs k o ds (with_stand s (added w o e a))))
+        within-then a (added w o e a) _ (within-tree o e a)
+        (within-then (added w o e a) (with_stand s (added w o e a)) _ (within-stand s (added w o e a)) (within-defs k o ds (with_stand s (added w o e a))))
 
 -- What a whole log `z` has, by the lists that hold it: each name its level, each function its mark.
 pub record IsWhole (w : Numbered) (z : Log) : Type 0 where
@@ -95,7 +102,8 @@ Leads inputs (called at x n k) = Unit {0}
 Leads inputs (again at) = Unit {0}
 
 abbrev pub AreFit : Numbered → List NameSite → Type 0
-AreFit w ss = (s : NameSite) → In s ss → (scoped_binding w.scoped (site_at s) ≡ binding_for (scoped_inputs w.scoped) s) × (fault_of s ≡ None) × Leads (scoped_inputs w.scoped) s
+AreFit w ss = (s : NameSite) → In s ss → (scoped_binding w.scoped (site_at s) ≡ binding_for (scoped_inputs w.scoped) s) × (fault_of s ≡ None)
+    × Leads (scoped_inputs w.scoped) s
 
 pub fit-left : (w : Numbered) (xs ys : List NameSite) → AreFit w (xs ++ ys) → AreFit w xs
 fit-left w xs ys h = λ s i. h s (in_left s xs ys i)
@@ -130,10 +138,12 @@ module _ (w : Numbered) (z : Log) (whole : IsWhole w z) where
   last-function : (f : FunctionStand) (a b : Log) → Within (with_function f a) b → In f b.functions
   last-function f a b h = h.functions f (in_right f a.functions (f ∷ []) (inl refl))
 
-  there-with : (R : PlainTree → Static → Type 0) (f : FunctionStand) → In f z.functions → R f.right (in_body f.names f.places f.home) → IsThere w.numbering z.names z.functions R f
+  there-with : (R : PlainTree → Static → Type 0) (f : FunctionStand) → In f z.functions → R f.right (in_body f.names f.places f.home)
+      → IsThere w.numbering z.names z.functions R f
   there-with R f i r = let h = whole.functions f i in record { depth = h.depth; parameters = h.parameters; found = h.found; counts = h.counts; right_is = r }
 
-  pub defs-known : (R : PlainTree → Static → Type 0) (k o : Static) (ds : PlainDefs) (a : Log) → Within (added_defs w k o ds a) z → Rights R k ds → DefsKnown w.numbering z.names z.functions R k ds
+  pub defs-known : (R : PlainTree → Static → Type 0) (k o : Static) (ds : PlainDefs) (a : Log) → Within (added_defs w k o ds a) z → Rights R k ds
+      → DefsKnown w.numbering z.names z.functions R k ds
   defs-known R k o no_defs a h r = tt
   defs-known R k o (defines at x e ds) a h r =
       let s : Stand = record { at = at; home = k; entry = plain_entry (bound_node w e) } in
@@ -142,26 +152,35 @@ module _ (w : Numbered) (z : Log) (whole : IsWhole w z) where
   defs-known R k o (defines_function at x ns ats e ds) a h r =
       let f : FunctionStand = record { at = at; first = length a.names; names = ns; places = ats; right = e; home = k } in
       let c : Log = added w (in_body ns ats k) e (with_parameters (in_body ns ats k) 0 ats (opened_function ns ats k a)) in
-      let b : Log = with_function f c in
-      ((length a.names, there-with R f (last-function f c z (within-then b (added_defs w k o ds b) z (within-defs w k o ds b) h)) r.0), defs-known R k o ds b h r.1)
+      let b : Log = with_function f c in (
+        (length a.names, there-with R f (last-function f c z (within-then b (added_defs w k o ds b) z (within-defs w k o ds b) h)) r.0),
+        defs-known R k o ds b h
+            r.1,
+      )
   defs-known R k o (defines_current at x e ds) a h r =
       let s : Stand = record { at = at; home = k; entry = current_entry (bound_node w e) } in
       let b : Log = with_stand s (added w o e a) in
       (whole.names s (last-name s (added w o e a) z (within-then b (added_defs w k o ds b) z (within-defs w k o ds b) h)), defs-known R k o ds b h r)
 
-  pub function-known : (R : PlainTree → Static → Type 0) (k : Static) (at n : ℕ) (ns : List (List ℕ)) (ats : List ℕ) (e : PlainTree) → IsThere w.numbering z.names z.functions R (record { at = at; first = n; names = ns; places = ats; right = e; home = forget k }) → Known w.numbering z.names z.functions R k → Known w.numbering z.names z.functions R (in_function at ns ats k)
+  pub function-known : (R : PlainTree → Static → Type 0) (k : Static) (at n : ℕ) (ns : List (List ℕ)) (ats : List ℕ) (e : PlainTree)
+      → IsThere w.numbering z.names z.functions R (record { at = at; first = n; names = ns; places = ats; right = e; home = forget k })
+      → Known w.numbering z.names z.functions R k → Known w.numbering z.names z.functions R (in_function at ns ats k)
   function-known R k at n ns ats e t h = (t.parameters, t.depth, h)
 
   mutual
-    pub node-is : (k : Static) (e : PlainTree) (a : Log) → AreFit w (sites k e) → Known w.numbering z.names z.functions Nothing k → Within (added w (forget k) e a) z → bound_node w e ≡ node_for (numbers_in w) (forget k) e
+    pub node-is : (k : Static) (e : PlainTree) (a : Log) → AreFit w (sites k e) → Known w.numbering z.names z.functions Nothing k
+        → Within (added w (forget k) e a) z → bound_node w e ≡ node_for (numbers_in w) (forget k) e
     node-is k (form at f es) a h s i = ap (row f) (nodes-are k es a h s (before-nodes _ _ z i))
     node-is k (name at x) a h s i =
         let fit = h (named at x k) (inl refl) in
-        ap reference (name-is w z.names z.functions Nothing (level (forget k)) at x (scoped_inputs w.scoped) (scoped_binding w.scoped at) (meaning x k) fit.0 fit.1
-        (λ q. read (scoped_inputs w.scoped) (position_or_len (same_name x) (scoped_inputs w.scoped)) x (fit.2 q)) (meaning-known w.numbering z.names z.functions Nothing x k s) ∙ ap (reference_of (numbers_in w) (level (forget k)) x) (sym (meaning-bare x k)))
+        ap reference (name-is w z.names z.functions Nothing (level (forget k)) at x (scoped_inputs w.scoped) (scoped_binding w.scoped at) (meaning x k) fit.0
+        fit.1
+        (λ q. read (scoped_inputs w.scoped) (position_or_len (same_name x) (scoped_inputs w.scoped)) x (fit.2 q))
+        (meaning-known w.numbering z.names z.functions Nothing x k s) ∙ ap (reference_of (numbers_in w) (level (forget k)) x) (sym (meaning-bare x k)))
     node-is k (call at x es) a h s i =
         let fit = h (called at x (count es) k) (inl refl) in
-        let c = call-is w z.names z.functions Nothing at (count es) x (scoped_inputs w.scoped) (scoped_binding w.scoped at) (meaning x k) fit.0 fit.1 (meaning-known w.numbering z.names z.functions Nothing x k s) in
+        let c = call-is w z.names z.functions Nothing at (count es) x (scoped_inputs w.scoped) (scoped_binding w.scoped at) (meaning x k) fit.0 fit.1
+        (meaning-known w.numbering z.names z.functions Nothing x k s) in
         ap (invoke (name_mark w.numbering at).number (call_number w.numbering (first_place es)))
         (ap (λ p. (function_mark w.numbering p).level) c.place ∙ c.there.depth ∙ sym (ap (call_level (level (forget k))) (meaning-bare x k ∙ c.is)))
     node-is k (block at e ds) a h s i =
@@ -171,17 +190,22 @@ module _ (w : Numbered) (z : Log) (whole : IsWhole w z) where
         let inside = fit-right w (outside_sites k ds) _ h in
         let on : Within (added_defs w (forget q) (forget k) ds b) z = before-nodes _ _ z i in
         let known : Known w.numbering z.names z.functions Nothing q = (defs-known Nothing (forget q) (forget k) ds b on (no-rights (forget q) ds), s) in
-        let part : bound_node w e ≡ node_for (numbers_in w) (forget q) e = node-is q e u (fit-left w (sites q e) _ inside) known (within-then b _ z (within-defs w (forget q) (forget k) ds b) on) in
+        let part : bound_node w e ≡ node_for (numbers_in w) (forget q) e =
+        node-is q e u (fit-left w (sites q e) _ inside) known (within-then b _ z (within-defs w (forget q) (forget k) ds b) on) in
         λ j. if freezes ds then freeze (part j) else part j
 
-    nodes-are : (k : Static) (es : PlainTrees) (a : Log) → AreFit w (sites_in k es) → Known w.numbering z.names z.functions Nothing k → Within (added_all w (forget k) es a) z → bound_nodes w es ≡ nodes_for (numbers_in w) (forget k) es
+    nodes-are : (k : Static) (es : PlainTrees) (a : Log) → AreFit w (sites_in k es) → Known w.numbering z.names z.functions Nothing k
+        → Within (added_all w (forget k) es a) z → bound_nodes w es ≡ nodes_for (numbers_in w) (forget k) es
     nodes-are k no_trees a h s i = refl
     nodes-are k (tree e es) a h s i =
         let b : Log = added w (forget k) e a in
-        λ j. node (node-is k e a (fit-left w (sites k e) (sites_in k es) h) s (within-then b _ z (within-trees w (forget k) es b) i) j) (nodes-are k es b (fit-right w (sites k e) (sites_in k es) h) s i j)
+        λ j. node (node-is k e a (fit-left w (sites k e) (sites_in k es) h) s (within-then b _ z (within-trees w (forget k) es b) i) j)
+        (nodes-are k es b (fit-right w (sites k e) (sites_in k es) h) s i j)
 
   -- the right sides of a block's functions are what they become
-  rights-are : (k : Static) (o : Static) (earlier : Earlier) (ds : PlainDefs) (a : Log) → AreFit w (inside_sites k earlier ds) → Known w.numbering z.names z.functions Nothing k → DefsKnown w.numbering z.names z.functions Nothing (forget k) ds → Within (added_defs w (forget k) o ds a) z → Rights (Same w) (forget k) ds
+  rights-are : (k : Static) (o : Static) (earlier : Earlier) (ds : PlainDefs) (a : Log) → AreFit w (inside_sites k earlier ds)
+      → Known w.numbering z.names z.functions Nothing k → DefsKnown w.numbering z.names z.functions Nothing (forget k) ds
+      → Within (added_defs w (forget k) o ds a) z → Rights (Same w) (forget k) ds
   rights-are k o earlier no_defs a h s d i = tt
   rights-are k o earlier (defines at x e ds) a h s d i =
       rights-are k o (also x earlier) ds _ (fit-right w (sites k e) _ (fit-right w (again_if (earlier x) at) _ h)) s d.1 i
@@ -191,8 +215,13 @@ module _ (w : Numbered) (z : Log) (whole : IsWhole w z) where
       let f : FunctionStand = record { at = at; first = length a.names; names = ns; places = ats; right = e; home = forget k } in
       let b : Log = with_parameters (forget q) 0 ats (opened_function ns ats (forget k) a) in
       let c : Log = added w (forget q) e b in
-      let on : Within c z = within-then c (with_function f c) z (within-function f c) (within-then (with_function f c) _ z (within-defs w (forget k) o ds (with_function f c)) i) in
-      (node-is q e b (fit-right w (repeats no_names ns ats) (sites q e) (fit-left w _ (inside_sites k (also x earlier) ds) own)) (function-known Nothing k at d.0.0 ns ats e d.0.1 s) on, rights-are k o (also x earlier) ds _ (fit-right w _ (inside_sites k (also x earlier) ds) own) s d.1 i)
+      let on : Within c z = within-then c (with_function f c) z (within-function f c)
+      (within-then (with_function f c) _ z (within-defs w (forget k) o ds (with_function f c)) i) in (
+        node-is q e b (fit-right w (repeats no_names ns ats) (sites q e) (fit-left w _ (inside_sites k (also x earlier) ds) own))
+            (function-known Nothing k at d.0.0 ns ats e d.0.1 s) on,
+        rights-are k o (also x earlier) ds _ (fit-right w _ (inside_sites k (also x earlier) ds) own)
+            s d.1 i,
+      )
   rights-are k o earlier (defines_current at x e ds) a h s d i = rights-are k o (also x earlier) ds _ (fit-right w (again_if (earlier x) at) _ h) s d.1 i
 
   -- Where what is known goes with the right sides, so does less.
@@ -212,9 +241,11 @@ module _ (w : Numbered) (z : Log) (whole : IsWhole w z) where
 
   module _ (so : Source) (p : Equations)
       (have : (s : Stand) → In s z.names → HasRow (numbers_in w) so p s.at s.home s.entry)
-      (have-call : (c : CallStand) (f : FunctionStand) → In c z.calls → callee_place (scoped_binding w.scoped c.at) ≡ f.at → IsThere w.numbering z.names z.functions (Same w) f
+      (have-call : (c : CallStand) (f : FunctionStand) → In c z.calls → callee_place (scoped_binding w.scoped c.at) ≡ f.at
+      → IsThere w.numbering z.names z.functions (Same w) f
       → HasRow (numbers_in w) so p c.at (in_body f.names f.places f.home) (called_entry (bound_node w f.right)))
-      (have-place : (c : CallStand) → In c z.calls → bound_nodes w c.actuals ≡ nodes_for (numbers_in w) c.home c.actuals → Actuals (numbers_in w) so p c.home c.actuals) where
+      (have-place : (c : CallStand) → In c z.calls → bound_nodes w c.actuals ≡ nodes_for (numbers_in w) c.home c.actuals
+      → Actuals (numbers_in w) so p c.home c.actuals) where
     abbrev HaveSpots : List Origin → Type 0
     HaveSpots os = (o : Origin) → In o os → so.scope_at o.at ≡ o.home
 
@@ -227,7 +258,8 @@ module _ (w : Numbered) (z : Log) (whole : IsWhole w z) where
     spots-later : (o : Origin) (os : List Origin) → HaveSpots (o ∷ os) → HaveSpots os
     spots-later o os h = λ r i. h r (inr i)
 
-    parameters-from : (k : Static) (i : ℕ) (ats : List ℕ) (a : Log) → Within (with_parameters k i ats a) z → (j : ℕ) → j < length ats → HasRow (numbers_in w) so p (get_or ats j 0) k (parameter_entry (i + j))
+    parameters-from : (k : Static) (i : ℕ) (ats : List ℕ) (a : Log) → Within (with_parameters k i ats a) z → (j : ℕ) → j < length ats
+        → HasRow (numbers_in w) so p (get_or ats j 0) k (parameter_entry (i + j))
     parameters-from k i [] a h j b = absurd (omega arith)
     parameters-from k i (at ∷ ats) a h zero b =
         let s : Stand = record { at = at; home = k; entry = parameter_entry i } in
@@ -238,12 +270,14 @@ module _ (w : Numbered) (z : Log) (whole : IsWhole w z) where
         let e : suc i + j ≡ i + suc j = omega arith in
         subst (λ y. HasRow (numbers_in w) so p (get_or ats j 0) k (parameter_entry y)) e (parameters-from k (suc i) ats _ h j (omega arith))
 
-    parameters-kept : (ats : List ℕ) (k : Static) (ns : List (List ℕ)) (a : Log) → length ns ≡ length ats → Within (with_parameters k 0 ats a) z → Parameters (numbers_in w) so p ns ats k
+    parameters-kept : (ats : List ℕ) (k : Static) (ns : List (List ℕ)) (a : Log) → length ns ≡ length ats → Within (with_parameters k 0 ats a) z
+        → Parameters (numbers_in w) so p ns ats k
     parameters-kept ats k ns a count h j b =
         let e : 0 + j ≡ j = omega arith in
         subst (λ y. HasRow (numbers_in w) so p (get_or ats j 0) k (parameter_entry y)) e (parameters-from k 0 ats a h j (omega (arith, b, count)))
 
-    call-kept : (k : Static) (at : ℕ) (x : List ℕ) (c : CallStand) → c.at ≡ at → In c z.calls → Calls w z.names z.functions (Same w) (scoped_binding w.scoped at) (meaning x k) → Callable (numbers_in w) so p at (meaning x (forget k))
+    call-kept : (k : Static) (at : ℕ) (x : List ℕ) (c : CallStand) → c.at ≡ at → In c z.calls
+        → Calls w z.names z.functions (Same w) (scoped_binding w.scoped at) (meaning x k) → Callable (numbers_in w) so p at (meaning x (forget k))
     call-kept k at x c e i q =
         subst (Callable (numbers_in w) so p at) (sym (meaning-bare x k ∙ q.is))
         (subst (λ n. HasRow (numbers_in w) so p at (in_body q.stand.names q.stand.places q.stand.home) (called_entry n)) q.there.right_is
@@ -251,7 +285,8 @@ module _ (w : Numbered) (z : Log) (whole : IsWhole w z) where
         (have-call c q.stand i (ap (λ b. callee_place (scoped_binding w.scoped b)) e ∙ q.place) q.there)))
 
     mutual
-      pub kept-bound : (k : Static) (e : PlainTree) (a : Log) → AreFit w (sites k e) → Known w.numbering z.names z.functions (Same w) k → Within (added w (forget k) e a) z → HaveSpots (spots_for (forget k) e) → Kept (numbers_in w) so p (forget k) e
+      pub kept-bound : (k : Static) (e : PlainTree) (a : Log) → AreFit w (sites k e) → Known w.numbering z.names z.functions (Same w) k
+          → Within (added w (forget k) e a) z → HaveSpots (spots_for (forget k) e) → Kept (numbers_in w) so p (forget k) e
       kept-bound k (form at f es) a h s i o = (all-bound k es a h s (before-nodes _ _ z i) (spots-later _ _ o), o _ (inl refl))
       kept-bound k (name at x) a h s i o = o _ (inl refl)
       kept-bound k (call at x es) a h s i o =
@@ -259,10 +294,16 @@ module _ (w : Numbered) (z : Log) (whole : IsWhole w z) where
           let c : CallStand = record { at = at; actuals = es; home = forget k } in
           let b : Log = added_all w (forget k) es a in
           let parts = λ (y : NameSite) (q : In y (sites_in k es)). h y (inr q) in
-          let q = call-is w z.names z.functions (Same w) at (count es) x (scoped_inputs w.scoped) (scoped_binding w.scoped at) (meaning x k) fit.0 fit.1 (meaning-known w.numbering z.names z.functions (Same w) x k s) in
+          let q = call-is w z.names z.functions (Same w) at (count es) x (scoped_inputs w.scoped) (scoped_binding w.scoped at) (meaning x k) fit.0 fit.1
+          (meaning-known w.numbering z.names z.functions (Same w) x k s) in
           let on : Within b z = within-then b (with_call c b) z (within-call c b) (before-nodes _ _ z i) in
-          let there : In c z.calls = i.calls c (in_right c b.calls (c ∷ []) (inl refl)) in
-          (call-kept k at x c refl there q, have-place c there (nodes-are k es a parts (less-known k s) on), all-bound k es a parts s on (spots-later _ _ o), o _ (inl refl))
+          let there : In c z.calls = i.calls c (in_right c b.calls (c ∷ []) (inl refl)) in (
+            call-kept k at x c refl there q,
+            have-place c there (nodes-are k es a parts (less-known k s) on),
+            all-bound k es a parts s on (spots-later _ _ o),
+            o
+                _ (inl refl),
+          )
       kept-bound k (block at e ds) a h s i o =
           let q : Static = in_block ds k in
           let u : Log = opened_block ds (forget k) a in
@@ -271,19 +312,33 @@ module _ (w : Numbered) (z : Log) (whole : IsWhole w z) where
           let inside = fit-right w (outside_sites k ds) _ h in
           let defs = fit-right w (sites q e) _ inside in
           let on : Within (added_defs w (forget q) (forget k) ds b) z = before-nodes _ _ z i in
-          let less : Known w.numbering z.names z.functions Nothing q = (defs-known Nothing (forget q) (forget k) ds b on (no-rights (forget q) ds), less-known k s) in
+          let less : Known w.numbering z.names z.functions Nothing q =
+          (defs-known Nothing (forget q) (forget k) ds b on (no-rights (forget q) ds), less-known k s) in
           let rights = rights-are q (forget k) no_names ds b defs less less.0 on in
-          let known : Known w.numbering z.names z.functions (Same w) q = (defs-known (Same w) (forget q) (forget k) ds b on rights, s) in
-          (kept-bound q e u (fit-left w (sites q e) _ inside) known (within-then b _ z (within-defs w (forget q) (forget k) ds b) on) (spots-left (spots_for (forget q) e) _ (spots-later _ _ o)), defs-bound q k no_names ds b outside defs known known.0 s on (spots-right (spots_for (forget q) e) _ (spots-later _ _ o)), o _ (inl refl))
+          let known : Known w.numbering z.names z.functions (Same w) q = (defs-known (Same w) (forget q) (forget k) ds b on rights, s) in (
+            kept-bound q e u (fit-left w (sites q e) _ inside) known (within-then b _ z (within-defs w (forget q) (forget k) ds b) on)
+                (spots-left (spots_for (forget q) e) _ (spots-later _ _ o)),
+            defs-bound q k no_names ds b outside defs known known.0 s on
+                (spots-right (spots_for (forget q) e) _ (spots-later _ _ o)),
+            o _ (inl refl),
+          )
 
-      all-bound : (k : Static) (es : PlainTrees) (a : Log) → AreFit w (sites_in k es) → Known w.numbering z.names z.functions (Same w) k → Within (added_all w (forget k) es a) z → HaveSpots (all_spots (forget k) es) → AllKept (numbers_in w) so p (forget k) es
+      all-bound : (k : Static) (es : PlainTrees) (a : Log) → AreFit w (sites_in k es) → Known w.numbering z.names z.functions (Same w) k
+          → Within (added_all w (forget k) es a) z → HaveSpots (all_spots (forget k) es) → AllKept (numbers_in w) so p (forget k) es
       all-bound k no_trees a h s i o = tt
       all-bound k (tree e es) a h s i o =
-          let b : Log = added w (forget k) e a in
-          (kept-bound k e a (fit-left w (sites k e) (sites_in k es) h) s (within-then b _ z (within-trees w (forget k) es b) i) (spots-left (spots_for (forget k) e) _ o), all-bound k es b (fit-right w (sites k e) (sites_in k es) h) s i (spots-right (spots_for (forget k) e) _ o))
+          let b : Log = added w (forget k) e a in (
+            kept-bound k e a (fit-left w (sites k e) (sites_in k es) h) s (within-then b _ z (within-trees w (forget k) es b) i)
+                (spots-left (spots_for (forget k) e) _ o),
+            all-bound k es b (fit-right w (sites k e) (sites_in k es) h) s i
+                (spots-right (spots_for (forget k) e) _ o),
+          )
 
-      defs-bound : (k q : Static) (earlier : Earlier) (ds : PlainDefs) (a : Log) → AreFit w (outside_sites q ds) → AreFit w (inside_sites k earlier ds) → Known w.numbering z.names z.functions (Same w) k → DefsKnown w.numbering z.names z.functions (Same w) (forget k) ds → Known w.numbering z.names z.functions (Same w) q
-          → Within (added_defs w (forget k) (forget q) ds a) z → HaveSpots (def_spots (forget k) (forget q) ds) → DefsKept (numbers_in w) so p (forget k) (forget q) ds
+      defs-bound : (k q : Static) (earlier : Earlier) (ds : PlainDefs) (a : Log) → AreFit w (outside_sites q ds) → AreFit w (inside_sites k earlier ds)
+          → Known w.numbering z.names z.functions (Same w) k → DefsKnown w.numbering z.names z.functions (Same w) (forget k) ds
+          → Known w.numbering z.names z.functions (Same w) q
+          → Within (added_defs w (forget k) (forget q) ds a) z → HaveSpots (def_spots (forget k) (forget q) ds)
+          → DefsKept (numbers_in w) so p (forget k) (forget q) ds
       defs-bound k q earlier no_defs a out h s d t i o = tt
       defs-bound k q earlier (defines at x e ds) a out h s d t i o =
           let v : Stand = record { at = at; home = forget k; entry = plain_entry (bound_node w e) } in
@@ -292,8 +347,12 @@ module _ (w : Numbered) (z : Log) (whole : IsWhole w z) where
           let on : Within b z = within-then b _ z (within-defs w (forget k) (forget q) ds b) i in
           let own = fit-right w (again_if (earlier x) at) _ h in
           let part = fit-left w (sites k e) _ own in
-          let before : Within c z = within-then c b z (within-stand v c) on in
-          (subst (λ n. HasRow (numbers_in w) so p at (forget k) (plain_entry n)) (node-is k e a part (less-known k s) before) (have v (last-name v c z on)), kept-bound k e a part s before (spots-left (spots_for (forget k) e) _ o), defs-bound k q (also x earlier) ds b out (fit-right w (sites k e) _ own) s d.1 t i (spots-right (spots_for (forget k) e) _ o))
+          let before : Within c z = within-then c b z (within-stand v c) on in (
+            subst (λ n. HasRow (numbers_in w) so p at (forget k) (plain_entry n)) (node-is k e a part (less-known k s) before) (have v (last-name v c z on)),
+            kept-bound k e a part s before (spots-left (spots_for (forget k) e) _ o),
+            defs-bound k q (also x earlier) ds b out (fit-right w (sites k e) _ own)
+                s d.1 t i (spots-right (spots_for (forget k) e) _ o),
+          )
       defs-bound k q earlier (defines_function at x ns ats e ds) a out h s d t i o =
           let v : Static = in_function at ns ats k in
           let f : FunctionStand = record { at = at; first = length a.names; names = ns; places = ats; right = e; home = forget k } in
@@ -305,13 +364,22 @@ module _ (w : Numbered) (z : Log) (whole : IsWhole w z) where
           let before : Within l z = within-then l b z (within-function f l) on in
           let first : Within c z = within-then c l z (within-tree w (forget v) e c) before in
           let own = fit-right w (again_if (earlier x) at) _ h in
-          let part = fit-right w (repeats no_names ns ats) (sites v e) (fit-left w _ (inside_sites k (also x earlier) ds) own) in
-          (parameters-kept ats (forget v) ns u d.0.1.counts first, kept-bound v e c part (function-known (Same w) k at d.0.0 ns ats e d.0.1 s) before (spots-left (spots_for (forget v) e) _ o), defs-bound k q (also x earlier) ds b out (fit-right w _ (inside_sites k (also x earlier) ds) own) s d.1 t i (spots-right (spots_for (forget v) e) _ o))
+          let part = fit-right w (repeats no_names ns ats) (sites v e) (fit-left w _ (inside_sites k (also x earlier) ds) own) in (
+            parameters-kept ats (forget v) ns u d.0.1.counts first,
+            kept-bound v e c part (function-known (Same w) k at d.0.0 ns ats e d.0.1 s) before
+                (spots-left (spots_for (forget v) e) _ o),
+            defs-bound k q (also x earlier) ds b out (fit-right w _ (inside_sites k (also x earlier) ds) own) s d.1
+                t i (spots-right (spots_for (forget v) e) _ o),
+          )
       defs-bound k q earlier (defines_current at x e ds) a out h s d t i o =
           let v : Stand = record { at = at; home = forget k; entry = current_entry (bound_node w e) } in
           let c : Log = added w (forget q) e a in
           let b : Log = with_stand v c in
           let on : Within b z = within-then b _ z (within-defs w (forget k) (forget q) ds b) i in
           let part = fit-left w (sites q e) _ out in
-          let before : Within c z = within-then c b z (within-stand v c) on in
-          (subst (λ n. HasRow (numbers_in w) so p at (forget k) (current_entry n)) (node-is q e a part (less-known q t) before) (have v (last-name v c z on)), kept-bound q e a part t before (spots-left (spots_for (forget q) e) _ o), defs-bound k q (also x earlier) ds b (fit-right w (sites q e) _ out) (fit-right w (again_if (earlier x) at) _ h) s d.1 t i (spots-right (spots_for (forget q) e) _ o))
+          let before : Within c z = within-then c b z (within-stand v c) on in (
+            subst (λ n. HasRow (numbers_in w) so p at (forget k) (current_entry n)) (node-is q e a part (less-known q t) before) (have v (last-name v c z on)),
+            kept-bound q e a part t before (spots-left (spots_for (forget q) e) _ o),
+            defs-bound k q (also x earlier) ds b (fit-right w (sites q e) _ out)
+                (fit-right w (again_if (earlier x) at) _ h) s d.1 t i (spots-right (spots_for (forget q) e) _ o),
+          )

@@ -24,7 +24,8 @@ scope-row xs ks h i k e =
     record { row = r.row; there = r.there; is = subst (λ j. IsScopeRow ks j r.row k) n r.is }
 
 module _ (xs : List ScopeRow) (ks : List Static) (h : ScopesHold ks xs ks) where
-  block-depth : (ds : PlainDefs) (k : Static) (i : ℕ) (b : Bool) → freezes ds ≡ b → slice_get ks i ≡ Some (if b then in_block ds k else frame k) → ((j : ℕ) → IsOpen ks j k → HasDepth xs j (level k)) → HasDepth xs i (if b then suc (level k) else level k)
+  block-depth : (ds : PlainDefs) (k : Static) (i : ℕ) (b : Bool) → freezes ds ≡ b → slice_get ks i ≡ Some (if b then in_block ds k else frame k)
+      → ((j : ℕ) → IsOpen ks j k → HasDepth xs j (level k)) → HasDepth xs i (if b then suc (level k) else level k)
   block-depth ds k i true e o inner =
       let r = scope-row xs ks h i (in_block ds k) o in
       deeper {s = i} {p = r.row.parent} {n = level k} {k = r.row.kind} (omega (arith, r.is.1)) r.there (inner r.row.parent r.is.2)
@@ -45,7 +46,8 @@ module _ (xs : List ScopeRow) (ks : List Static) (h : ScopesHold ks xs ks) where
         let one : o ≡ i = apart o i (frame q) open_there (a ∙ ap (λ v. Some (frame v)) (sym e)) in
         subst (λ n. IsRound xs o n) one itself
 
-    block-round : (ds : PlainDefs) (k : Static) (i : ℕ) (b : Bool) → freezes ds ≡ b → slice_get ks i ≡ Some (if b then in_block ds k else frame k) → ((j : ℕ) → IsOpen ks j k → IsRound xs o j) → IsRound xs o i
+    block-round : (ds : PlainDefs) (k : Static) (i : ℕ) (b : Bool) → freezes ds ≡ b → slice_get ks i ≡ Some (if b then in_block ds k else frame k)
+        → ((j : ℕ) → IsOpen ks j k → IsRound xs o j) → IsRound xs o i
     block-round ds k i true e a inner =
         let r = scope-row xs ks h i (in_block ds k) a in
         further {s = i} {p = r.row.parent} {k = r.row.kind} r.there (inner r.row.parent r.is.2)

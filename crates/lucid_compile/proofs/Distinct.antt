@@ -13,8 +13,11 @@ module _ {A B : Type 0} (f : A → B) where
 
   map_once : (xs : List A) → OneOn xs → (us : List A) → Inside us xs → AllDiffer us → AllDiffer (map f us)
   map_once xs one [] h r = tt
-  map_once xs one (u ∷ us) h r =
-      ((λ i. let q : (x : A) × In x us × (f u ≡ f x) = from_map (f u) us i in r.0 (subst (λ z. In z us) (sym (one u q.0 (h u (inl refl)) (h q.0 (inr q.1)) q.2)) q.1)), map_once xs one us (λ x i. h x (inr i)) r.1)
+  map_once xs one (u ∷ us) h r = (
+    (λ i. let q : (x : A) × In x us × (f u ≡ f x) = from_map (f u) us i in
+        r.0 (subst (λ z. In z us) (sym (one u q.0 (h u (inl refl)) (h q.0 (inr q.1)) q.2)) q.1)),
+    map_once xs one us (λ x i. h x (inr i)) r.1,
+  )
 
   once_before : (us : List A) → AllDiffer (map f us) → AllDiffer us
   once_before [] r = tt
@@ -32,8 +35,10 @@ module _ {A B : Type 0} (f : A → B) where
   map-distinct xs n one h = record {
     items = map f h.items;
     once = map_once xs one h.items h.inside h.once;
-    inside = λ y i. let q : (x : A) × In x h.items × (y ≡ f x) = from_map y h.items i in subst (λ z. In z (map f xs)) (sym q.2) (in_map f q.0 xs (h.inside q.0 q.1));
-    outside = λ y i. let q : (x : A) × In x xs × (y ≡ f x) = from_map y xs i in subst (λ z. In z (map f h.items)) (sym q.2) (in_map f q.0 h.items (h.outside q.0 q.1));
+    inside = λ y i. let q : (x : A) × In x h.items × (y ≡ f x) = from_map y h.items i in
+        subst (λ z. In z (map f xs)) (sym q.2) (in_map f q.0 xs (h.inside q.0 q.1));
+    outside = λ y i. let q : (x : A) × In x xs × (y ≡ f x) = from_map y xs i in
+        subst (λ z. In z (map f h.items)) (sym q.2) (in_map f q.0 h.items (h.outside q.0 q.1));
     size = length-map h.items f ∙ h.size;
   }
 
@@ -44,7 +49,8 @@ module _ {A B : Type 0} (f : A → B) where
         items = vs.0;
         once = once_before vs.0 (subst AllDiffer vs.1 h.once);
         inside = vs.2;
-        outside = λ x i. let q : (y : A) × In y vs.0 × (f x ≡ f y) = from_map (f x) vs.0 (subst (λ z. In (f x) z) vs.1 (h.outside (f x) (in_map f x xs i))) in subst (λ z. In z vs.0) (sym (one x q.0 i (vs.2 q.0 q.1) q.2)) q.1;
+        outside = λ x i. let q : (y : A) × In y vs.0 × (f x ≡ f y) = from_map (f x) vs.0 (subst (λ z. In (f x) z) vs.1 (h.outside (f x) (in_map f x xs i))) in
+            subst (λ z. In z vs.0) (sym (one x q.0 i (vs.2 q.0 q.1) q.2)) q.1;
         size = sym (length-map vs.0 f) ∙ ap length (sym vs.1) ∙ h.size;
       }
 
@@ -52,10 +58,25 @@ module _ {A : Type 0} where
   -- the number is the only one
   pub distinct-one : (xs : List A) (n k : ℕ) → HasDistinct xs n → HasDistinct xs k → n ≡ k
   distinct-one xs n k h g =
-      omega (arith, h.size, g.size, fewer h.items g.items h.once (λ x i. g.outside x (h.inside x i)), fewer g.items h.items g.once (λ x i. h.outside x (g.inside x i)))
+      omega (
+        arith,
+        h.size,
+        g.size,
+        fewer h.items g.items h.once (λ x i. g.outside x (h.inside x i)),
+        fewer g.items h.items g.once
+            (λ x i. h.outside x (g.inside x i)),
+      )
 
 -- an image has at most as many
 pub image-fewer : {A B : Type 0} (f : A → B) (xs : List A) (n k : ℕ) → HasDistinct xs n → HasDistinct (map f xs) k → k ≤ n
 image-fewer {A} f xs n k h g =
     let vs : (vs : List A) × (g.items ≡ map f vs) × Inside vs xs = picked f xs g.items g.inside in
-    omega (arith, h.size, g.size, ap length vs.1, length-map vs.0 f, fewer vs.0 h.items (once_before f vs.0 (subst AllDiffer vs.1 g.once)) (λ x i. h.outside x (vs.2 x i)))
+    omega (
+      arith,
+      h.size,
+      g.size,
+      ap length vs.1,
+      length-map vs.0 f,
+      fewer vs.0 h.items (once_before f vs.0 (subst AllDiffer vs.1 g.once))
+          (λ x i. h.outside x (vs.2 x i)),
+    )

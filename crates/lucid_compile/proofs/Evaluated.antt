@@ -42,7 +42,8 @@ module _ (nu : Numbers) (so : Source) (p : Equations) where
         let fits = subst (Fits nu so p) q (call-fits nu so p at n es env t m.0 m.1.1 m.1.2 env m.0 m.1.0) in
         (fits.1, fits.2)
 
-    pub environment-one : (x y : PlainTree) (f g : Env) → IsEvaluated e x f → IsEvaluated e y g → place_of x ≡ place_of y → context_for nu f ≡ context_for nu g → f ≡ g
+    pub environment-one : (x y : PlainTree) (f g : Env) → IsEvaluated e x f → IsEvaluated e y g → place_of x ≡ place_of y → context_for nu f ≡ context_for nu g
+        → f ≡ g
     environment-one x y f g h i q r =
         let m : IsMet x f = evaluated-met x f h in
         let n : IsMet y g = evaluated-met y g i in

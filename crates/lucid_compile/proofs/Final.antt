@@ -41,12 +41,14 @@ module _ (w : Numbered) (z : Log) (fits : LogFits z) (n : IsNumberingOf (keys_of
   there : (f : FunctionStand) → In f z.functions → IsThere w.numbering z.names z.functions (λ _ _. Unit {0}) f
   there f i =
       let r = index-of z.functions f i in
-      let mark : function_mark w.numbering f.at ≡ mark_by (0 + r.0) (key_of_function f) = ap or_no_mark (marked-at key_of_function (function_of w.numbering) 0 z.functions r.0 f n.functions r.1) in
+      let mark : function_mark w.numbering f.at ≡ mark_by (0 + r.0) (key_of_function f) =
+      ap or_no_mark (marked-at key_of_function (function_of w.numbering) 0 z.functions r.0 f n.functions r.1) in
       let place : 0 + r.0 ≡ r.0 = omega arith in
       let fit = fits f i in
       record {
         depth = ap (λ (m : Mark). m.level) mark;
-        parameters = λ j b. (let l = listed-at (f.first + j) (parameter_stand (in_body f.names f.places f.home) j (get_or f.places j 0)) (fit.stand j (omega (arith, b, fit.counts))) in (l.0 ∙ ap (λ (m : Mark). m.first + j) (sym mark), l.1));
+        parameters = λ j b. (let l = listed-at (f.first + j) (parameter_stand (in_body f.names f.places f.home) j (get_or f.places j 0))
+            (fit.stand j (omega (arith, b, fit.counts))) in (l.0 ∙ ap (λ (m : Mark). m.first + j) (sym mark), l.1));
         found = ap (λ (m : Mark). slice_get z.functions m.number) mark ∙ ap (slice_get z.functions) place ∙ r.1;
         counts = fit.counts;
         right_is = tt;
@@ -74,15 +76,18 @@ all-in P (y ∷ xs) x h (inr i) = all-in P xs x (λ k d b. h (suc k) d (omega (a
 pub no-faults : (e : PlainTree) (inputs : List (List ℕ)) (bindings : ℕ → Option Binding) → ∥ IsResolved e inputs bindings ∥₁ → NoFaults (name_sites outermost e)
 no-faults e inputs bindings r s i = ∥∥₁_elim r (Coded-set (coded_option refusal.the_row.coded) _ _) (λ q. all-in (λ x. fault_of x ≡ None) _ s q.no_fault i)
 
-leads : (inputs : List (List ℕ)) (e : PlainTree) → FreeNamesAreInputs → (bindings : ℕ → Option Binding) → ∥ IsResolved e inputs bindings ∥₁ → (s : NameSite) → In s (name_sites outermost e) → Leads inputs s
+leads : (inputs : List (List ℕ)) (e : PlainTree) → FreeNamesAreInputs → (bindings : ℕ → Option Binding) → ∥ IsResolved e inputs bindings ∥₁ → (s : NameSite)
+    → In s (name_sites outermost e) → Leads inputs s
 leads inputs e law bindings r (named at x k) i = λ q.
     ∥∥₁_elim r (Coded-set (coded_option (coded_list coded_ℕ)) _ _) (λ y. law e inputs y.inputs_are at x k i q)
 leads inputs e law bindings r (called at x n k) i = tt
 leads inputs e law bindings r (again at) i = tt
 
-pub fit : (w : Numbered) (e : PlainTree) → FreeNamesAreInputs → ∥ IsResolved e (scoped_inputs w.scoped) (scoped_binding w.scoped) ∥₁ → AreFit w (name_sites outermost e)
+pub fit : (w : Numbered) (e : PlainTree) → FreeNamesAreInputs → ∥ IsResolved e (scoped_inputs w.scoped) (scoped_binding w.scoped) ∥₁
+    → AreFit w (name_sites outermost e)
 fit w e law r s i = (
-  ∥∥₁_elim r (Coded-set (coded_option binding.the_row.coded) _ _) (λ q. all-in (λ x. scoped_binding w.scoped (site_at x) ≡ binding_for (scoped_inputs w.scoped) x) _ s q.bindings_are.bound i),
+  ∥∥₁_elim r (Coded-set (coded_option binding.the_row.coded) _ _)
+      (λ q. all-in (λ x. scoped_binding w.scoped (site_at x) ≡ binding_for (scoped_inputs w.scoped) x) _ s q.bindings_are.bound i),
   ∥∥₁_elim r
       (Coded-set (coded_option refusal.the_row.coded) _ _) (λ q. all-in (λ x. fault_of x ≡ None) _ s q.no_fault i),
   leads (scoped_inputs w.scoped) e law (scoped_binding w.scoped) r s i,
@@ -158,8 +163,10 @@ module _ (w : Numbered) (e : PlainTree) (o n : Lists) (root : ℕ) (t : Table)
   rows = record {
     scopes = subst (λ rs. ScopesHold z.scopes rs z.scopes) (sym scopes-same) held.scopes;
     nodes = subst (λ rs. NodesHold w z.scopes rs z.nodes) (sym rows-same) held.nodes;
-    names = subst (λ rs. NamesHold z.scopes (nodes_of t) rs stands) (sym names-same) (subst (λ ts. NamesHold z.scopes ts (with_calls w o).names stands) (sym nodes-same) (calls-held w o z held));
-    places = subst (λ rs. PlacesHold w z.scopes (nodes_of t) rs z.calls) (sym places-same) (subst (λ ts. PlacesHold w z.scopes ts o.places z.calls) (sym nodes-same) held.places);
+    names = subst (λ rs. NamesHold z.scopes (nodes_of t) rs stands) (sym names-same)
+        (subst (λ ts. NamesHold z.scopes ts (with_calls w o).names stands) (sym nodes-same) (calls-held w o z held));
+    places = subst (λ rs. PlacesHold w z.scopes (nodes_of t) rs z.calls) (sym places-same)
+        (subst (λ ts. PlacesHold w z.scopes ts o.places z.calls) (sym nodes-same) held.places);
   }
 
   all : IsWhole w z
@@ -167,28 +174,41 @@ module _ (w : Numbered) (e : PlainTree) (o n : Lists) (root : ℕ) (t : Table)
 
   row-is : (k : ℕ) (s : Stand) → slice_get stands k ≡ Some s → (name_mark w.numbering s.at).number ≡ k → HasRow (numbers_in w) so p s.at s.home s.entry
   row-is k s stand number =
-      let f = row-at (λ i r s. IsNameRow z.scopes (nodes_of t) r s) 0 t.names stands k s rows.names stand in
-      (ap p.entry number ∙ ap (λ x. option_map (entry_by t) (option_map (λ x. x.kind) x)) f.there ∙ ap Some (entry-read t f.row.kind s.entry f.is.0), ap so.origin number ∙ ap or_nowhere (slice_get-map origin_of stands k ∙ ap (option_map origin_of) stand))
+      let f = row-at (λ i r s. IsNameRow z.scopes (nodes_of t) r s) 0 t.names stands k s rows.names stand in (
+        ap p.entry number ∙ ap (λ x. option_map (entry_by t) (option_map (λ x. x.kind) x)) f.there
+            ∙ ap Some (entry-read t f.row.kind s.entry f.is.0),
+        ap so.origin number
+            ∙ ap or_nowhere (slice_get-map origin_of stands k ∙ ap (option_map origin_of) stand),
+      )
 
   row-there : (s : Stand) → In s z.names → HasRow (numbers_in w) so p s.at s.home s.entry
   row-there s i =
       let f = index-of z.names s i in
       row-is f.0 s (some-left z.names _ f.0 s f.1) (name-numbers w z f.0 s numbers f.1).number
 
-  call-there : (c : CallStand) (f : FunctionStand) → In c z.calls → callee_place (scoped_binding w.scoped c.at) ≡ f.at → IsThere w.numbering z.names z.functions (Same w) f
+  call-there : (c : CallStand) (f : FunctionStand) → In c z.calls → callee_place (scoped_binding w.scoped c.at) ≡ f.at
+      → IsThere w.numbering z.names z.functions (Same w) f
       → HasRow (numbers_in w) so p c.at (in_body f.names f.places f.home) (called_entry (bound_node w f.right))
   call-there c f i q h =
-      let same : call_row w z.functions c.at ≡ row_of_call w c.at (Some f) = ap (λ a. row_of_call w c.at (slice_get z.functions (function_mark w.numbering a).number)) q ∙ ap (row_of_call w c.at) h.found in
+      let same : call_row w z.functions c.at ≡ row_of_call w c.at (Some f) =
+      ap (λ a. row_of_call w c.at (slice_get z.functions (function_mark w.numbering a).number)) q ∙ ap (row_of_call w c.at) h.found in
       let m = index-of z.calls c i in
-      let stand : slice_get stands (length z.names + m.0) ≡ Some (row_of_call w c.at (Some f)) = slice-past z.names _ m.0 ∙ slice_get-map (λ c. call_row w z.functions c.at) z.calls m.0 ∙ ap (option_map (λ c. call_row w z.functions c.at)) m.1 ∙ ap Some same in
+      let stand : slice_get stands (length z.names + m.0) ≡ Some (row_of_call w c.at (Some f)) = slice-past z.names _ m.0
+      ∙ slice_get-map (λ c. call_row w z.functions c.at) z.calls m.0 ∙ ap (option_map (λ c. call_row w z.functions c.at)) m.1 ∙ ap Some same in
       row-is (length z.names + m.0) (row_of_call w c.at (Some f)) stand (call-numbers w z m.0 c numbers m.1).name
 
-  place-there : (c : CallStand) → In c z.calls → bound_nodes w c.actuals ≡ nodes_for (numbers_in w) c.home c.actuals → Actuals (numbers_in w) so p c.home c.actuals
+  place-there : (c : CallStand) → In c z.calls → bound_nodes w c.actuals ≡ nodes_for (numbers_in w) c.home c.actuals
+      → Actuals (numbers_in w) so p c.home c.actuals
   place-there c i same =
       let m = index-of z.calls c i in
       let number : call_number w.numbering (first_place c.actuals) ≡ m.0 = (call-numbers w z m.0 c numbers m.1).place in
-      let f = row-at (λ i r c. IsPlaceRow w z.scopes (nodes_of t) r c) 0 t.places z.calls m.0 c rows.places m.1 in
-      (λ j. ap (λ q. p.actual q j) number ∙ actuals-read (nodes_of t) (slice_get t.places m.0) j ∙ ap (λ x. at_number_of (option_map (λ r. all_at (nodes_of t) r.actuals) x) j) f.there ∙ ap (λ x. at_number x j) (f.is.1 ∙ same) ∙ sym (at_number-nodes_for (numbers_in w) c.home c.actuals j), ap so.site number ∙ ap or_no_site (slice_get-map site_of z.calls m.0 ∙ ap (option_map site_of) m.1))
+      let f = row-at (λ i r c. IsPlaceRow w z.scopes (nodes_of t) r c) 0 t.places z.calls m.0 c rows.places m.1 in (
+        λ j. ap (λ q. p.actual q j) number ∙ actuals-read (nodes_of t) (slice_get t.places m.0) j
+            ∙ ap (λ x. at_number_of (option_map (λ r. all_at (nodes_of t) r.actuals) x) j) f.there ∙ ap (λ x. at_number x j) (f.is.1 ∙ same)
+            ∙ sym (at_number-nodes_for (numbers_in w) c.home c.actuals j),
+        ap so.site number
+            ∙ ap or_no_site (slice_get-map site_of z.calls m.0 ∙ ap (option_map site_of) m.1),
+      )
 
   spot-there : (x : Origin) → In x (spots e) → so.scope_at x.at ≡ x.home
   spot-there x i = ap (λ y. (or_nowhere y).home) (spot-at e made x i)
@@ -196,7 +216,8 @@ module _ (w : Numbered) (e : PlainTree) (o n : Lists) (root : ℕ) (t : Table)
   keeps : KeepsTree p e
   keeps =
       compiled-keeps (numbers_in w) so p e (record {
-        root = ap (at (nodes_of t)) is.root_is ∙ ap (λ ts. at ts root) nodes-same ∙ grown.is ∙ node-is w z all outermost e no_log (fit w e law r) tt (within-itself z);
+        root = ap (at (nodes_of t)) is.root_is ∙ ap (λ ts. at ts root) nodes-same ∙ grown.is
+            ∙ node-is w z all outermost e no_log (fit w e law r) tt (within-itself z);
         kept = kept-bound w z all so p row-there call-there place-there outermost e no_log (fit w e law r) tt (within-itself z) spot-there;
       })
 
@@ -204,12 +225,21 @@ module _ (w : Numbered) (e : PlainTree) (o n : Lists) (root : ℕ) (t : Table)
   met : AreMet w z z
   met = tree-met w z all outermost e no_log (fit w e law r) tt (within-itself z) (record { calls = tt; nodes = tt })
 
-  call-leads : (c : CallStand) → In c z.calls → ((name_mark w.numbering c.at).number < length t.names) × (call_number w.numbering (first_place c.actuals) < length t.places)
+  call-leads : (c : CallStand) → In c z.calls → ((name_mark w.numbering c.at).number < length t.names)
+      × (call_number w.numbering (first_place c.actuals) < length t.places)
   call-leads c i =
       let m = index-of z.calls c i in
       let k = call-numbers w z m.0 c numbers m.1 in
       let below : m.0 < length z.calls = index-below z.calls m.0 c m.1 in (
-        omega (arith, k.name, below, pairs-count (λ i r s. IsNameRow z.scopes (nodes_of t) r s) 0 t.names stands rows.names, length-append z.names (map (λ c. call_row w z.functions c.at) z.calls), length-map z.calls (λ c. call_row w z.functions c.at)),
+        omega (
+          arith,
+          k.name,
+          below,
+          pairs-count (λ i r s. IsNameRow z.scopes (nodes_of t) r s) 0 t.names stands rows.names,
+          length-append z.names
+              (map (λ c. call_row w z.functions c.at) z.calls),
+          length-map z.calls (λ c. call_row w z.functions c.at),
+        ),
         omega (arith, k.place, below, pairs-count (λ i r c. IsPlaceRow w z.scopes (nodes_of t) r c) 0 t.places z.calls rows.places),
       )
 
@@ -217,8 +247,15 @@ module _ (w : Numbered) (e : PlainTree) (o n : Lists) (root : ℕ) (t : Table)
   ranged : IsInRange t
   ranged =
       let long : length (nodes_of t) ≡ length t.nodes = omega (arith, grow-count t.constants t.inputs [] t.nodes) in
-      let more : length z.names ≤ length t.names = omega (arith, pairs-count (λ i r s. IsNameRow z.scopes (nodes_of t) r s) 0 t.names stands rows.names, length-append z.names (map (λ c. call_row w z.functions c.at) z.calls)) in
-      let known : AreKnown (length t.constants) t.nodes = subst (λ rs. AreKnown (length t.constants) rs) (sym rows-same) (subst (λ n. AreKnown n o.nodes) (sym (ap length (is.constants ∙ ap (λ (l : Lists). l.constants) others))) held.known) in (
+      let more : length z.names ≤ length t.names = omega (
+        arith,
+        pairs-count (λ i r s. IsNameRow z.scopes (nodes_of t) r s) 0 t.names stands rows.names,
+        length-append z.names
+            (map (λ c. call_row w z.functions c.at) z.calls),
+      ) in
+      let known : AreKnown (length t.constants) t.nodes =
+      subst (λ rs. AreKnown (length t.constants) rs) (sym rows-same)
+      (subst (λ n. AreKnown n o.nodes) (sym (ap length (is.constants ∙ ap (λ (l : Lists). l.constants) others))) held.known) in (
         omega (arith, is.root_is, grown.within, grow-count o.constants (scoped_inputs w.scoped) [] o.nodes, ap length rows-same),
         omega (arith, is.few_inputs, ap length is.inputs_are),
         nodes-in_range w z (sizes t) more (ap length is.inputs_are) call-leads z.scopes 0 t.nodes z.nodes known rows.nodes met.nodes,
@@ -231,10 +268,17 @@ module _ (w : Numbered) (e : PlainTree) (o n : Lists) (root : ℕ) (t : Table)
   sound differ few =
       let apart = scopes-apart w e made in
       let homes = home-tree w outermost e no_log tt in
-      let nodes : EachRow (NodeFits t.scopes t.nodes) t.nodes = subst (λ xs. EachRow (NodeFits xs t.nodes) t.nodes) (sym scopes-same) (subst (λ rs. EachRow (NodeFits o.scopes rs) rs) (sym rows-same) held.parts) in
-      let names : EachRow (NameFits o.scopes o.nodes) (with_calls w o).names = subst (λ cs. EachRow (NameFits o.scopes o.nodes) (o.names ++ rows_of_calls w o.bodies cs)) (sym (ap (λ (k : KeyLists). k.calls) held.keys)) (names-fit w z o.scopes o.nodes z.scopes (nodes_in w o) o.bodies o.names held.functions held.rights met.calls held.entries) in
-      let bodies : EachRow (NameFits t.scopes t.nodes) t.names = subst (λ ns. EachRow (NameFits t.scopes t.nodes) ns) (sym names-same) (subst (λ xs. EachRow (NameFits xs t.nodes) (with_calls w o).names) (sym scopes-same) (subst (λ rs. EachRow (NameFits o.scopes rs) (with_calls w o).names) (sym rows-same) names)) in
-      let actuals : EachRow (PlaceFits t.nodes) t.places = subst (λ ps. EachRow (PlaceFits t.nodes) ps) (sym places-same) (subst (λ rs. EachRow (PlaceFits rs) o.places) (sym rows-same) held.actuals) in
+      let nodes : EachRow (NodeFits t.scopes t.nodes) t.nodes =
+      subst (λ xs. EachRow (NodeFits xs t.nodes) t.nodes) (sym scopes-same) (subst (λ rs. EachRow (NodeFits o.scopes rs) rs) (sym rows-same) held.parts) in
+      let names : EachRow (NameFits o.scopes o.nodes) (with_calls w o).names =
+      subst (λ cs. EachRow (NameFits o.scopes o.nodes) (o.names ++ rows_of_calls w o.bodies cs)) (sym (ap (λ (k : KeyLists). k.calls) held.keys))
+      (names-fit w z o.scopes o.nodes z.scopes (nodes_in w o) o.bodies o.names held.functions held.rights met.calls held.entries) in
+      let bodies : EachRow (NameFits t.scopes t.nodes) t.names =
+      subst (λ ns. EachRow (NameFits t.scopes t.nodes) ns) (sym names-same)
+      (subst (λ xs. EachRow (NameFits xs t.nodes) (with_calls w o).names) (sym scopes-same)
+      (subst (λ rs. EachRow (NameFits o.scopes rs) (with_calls w o).names) (sym rows-same) names)) in
+      let actuals : EachRow (PlaceFits t.nodes) t.places =
+      subst (λ ps. EachRow (PlaceFits t.nodes) ps) (sym places-same) (subst (λ rs. EachRow (PlaceFits rs) o.places) (sym rows-same) held.actuals) in
       record {
         scopes = scopes-nest t z.scopes held.outer rows.scopes;
         nodes = nodes-nest t w z.scopes z.nodes ranged rows.nodes nodes;
@@ -242,7 +286,11 @@ module _ (w : Numbered) (e : PlainTree) (o n : Lists) (root : ℕ) (t : Table)
         calls = calls-lead t w z rows apart numbers met homes;
         bodies = bodies-stand t bodies;
         places = places-pass t w z rows apart numbers met homes actuals;
-        root = record { root = subst (StandsIn t.nodes 0) (sym is.root_is) (subst (λ rs. StandsIn rs 0 root) (sym rows-same) grown.stands); differ = differ; few = few };
+        root = record {
+          root = subst (StandsIn t.nodes 0) (sym is.root_is) (subst (λ rs. StandsIn rs 0 root) (sym rows-same) grown.stands);
+          differ = differ;
+          few = few;
+        };
         homes = have-scopes t w z rows;
       }
 
@@ -251,24 +299,46 @@ module _ (w : Numbered) (e : PlainTree) (o n : Lists) (root : ℕ) (t : Table)
 
 -- nothing was added to a list of the outermost scope
 nothing-held : (w : Numbered) → Holds w begun no_log
-nothing-held w = record { known = tt; outer = refl; scopes = ((refl, refl), tt); names = tt; nodes = tt; places = tt; functions = tt; keys = refl; parts = tt; entries = tt; actuals = tt; rights = tt }
+nothing-held w = record {
+  known = tt;
+  outer = refl;
+  scopes = ((refl, refl), tt);
+  names = tt;
+  nodes = tt;
+  places = tt;
+  functions = tt;
+  keys = refl;
+  parts = tt;
+  entries = tt;
+  actuals = tt;
+  rights = tt;
+}
 
 -- the lists to which a tree was added hold it, in the outermost scope
-module _ (w : Numbered) (b o m : Lists) (x : PlainTree) (scope root : ℕ) (made : IsWellMade (scoped_tree w.scoped)) (r : ∥ IsResolved (scoped_tree w.scoped) (scoped_inputs w.scoped) (scoped_binding w.scoped) ∥₁)
-    (empty : b ≡ no_lists) (start : OneScope b o (record { parent = 0; kind = Root }) scope) (whole_tree : x ≡ scoped_tree w.scoped) (adds : (w : Numbered) → AddsTree w (link w o) (link w m) (record { scope = scope; level = 0 }) x root) where
+module _ (w : Numbered) (b o m : Lists) (x : PlainTree) (scope root : ℕ) (made : IsWellMade (scoped_tree w.scoped))
+    (r : ∥ IsResolved (scoped_tree w.scoped) (scoped_inputs w.scoped) (scoped_binding w.scoped) ∥₁)
+    (empty : b ≡ no_lists) (start : OneScope b o (record { parent = 0; kind = Root }) scope) (whole_tree : x ≡ scoped_tree w.scoped)
+    (adds : (w : Numbered) → AddsTree w (link w o) (link w m) (record { scope = scope; level = 0 }) x root) where
   begin-held : GrownTo w begun (link w m) (added w outermost (scoped_tree w.scoped) no_log) (bound_node w (scoped_tree w.scoped)) 0 root
   begin-held =
-      let begins : OneScope no_lists (link w o) (record { parent = 0; kind = Root }) scope = subst (λ l. OneScope (link w l) (link w o) (record { parent = 0; kind = Root }) scope) empty (scope-linked w b o (record { parent = 0; kind = Root }) scope start) in
-      let tree : AddsTree w (link w o) (link w m) (record { scope = scope; level = 0 }) (scoped_tree w.scoped) root = subst (λ y. AddsTree w (link w o) (link w m) (record { scope = scope; level = 0 }) y root) whole_tree (adds w) in
-      let all : AddsTree w begun (link w m) (record { scope = 0; level = 0 }) (scoped_tree w.scoped) root = subst (λ l. AddsTree w l (link w m) (record { scope = 0; level = 0 }) (scoped_tree w.scoped) root) begins.lists
+      let begins : OneScope no_lists (link w o) (record { parent = 0; kind = Root }) scope =
+      subst (λ l. OneScope (link w l) (link w o) (record { parent = 0; kind = Root }) scope) empty
+      (scope-linked w b o (record { parent = 0; kind = Root }) scope start) in
+      let tree : AddsTree w (link w o) (link w m) (record { scope = scope; level = 0 }) (scoped_tree w.scoped) root =
+      subst (λ y. AddsTree w (link w o) (link w m) (record { scope = scope; level = 0 }) y root) whole_tree (adds w) in
+      let all : AddsTree w begun (link w m) (record { scope = 0; level = 0 }) (scoped_tree w.scoped) root =
+      subst (λ l. AddsTree w l (link w m) (record { scope = 0; level = 0 }) (scoped_tree w.scoped) root) begins.lists
       (subst (λ s. AddsTree w (link w o) (link w m) (record { scope = s; level = 0 }) (scoped_tree w.scoped) root) begins.number tree) in
       all outermost no_log (refl, refl) made.shaped (nothing-held w)
 
   -- their keys differ
   pub keys-apart : DifferingKeys m.keys
-  keys-apart = keys-differ w (scoped_tree w.scoped) m.keys made (no-faults (scoped_tree w.scoped) (scoped_inputs w.scoped) (scoped_binding w.scoped) r) begin-held.grown.holds.keys
+  keys-apart = keys-differ w (scoped_tree w.scoped) m.keys made (no-faults (scoped_tree w.scoped) (scoped_inputs w.scoped) (scoped_binding w.scoped) r)
+      begin-held.grown.holds.keys
 
   -- what is known of the table that they are, with numbers by the keys, and then the rows of the calls
-  pub table-made : (n : Lists) (inputs : List (List ℕ)) (t : Table) → FreeNamesAreInputs → IsNumberingOf m.keys w.numbering → n ≡ with_calls w (link w m) → inputs ≡ scoped_inputs w.scoped → IsTableOf n inputs root t → IsMade w (scoped_tree w.scoped) t
+  pub table-made : (n : Lists) (inputs : List (List ℕ)) (t : Table) → FreeNamesAreInputs → IsNumberingOf m.keys w.numbering → n ≡ with_calls w (link w m)
+      → inputs ≡ scoped_inputs w.scoped → IsTableOf n inputs root t → IsMade w (scoped_tree w.scoped) t
   table-made n inputs t law numbers others same is =
-      is-made w (scoped_tree w.scoped) (link w m) n root t made law r (subst (λ k. IsNumberingOf k w.numbering) begin-held.grown.holds.keys numbers) begin-held others (subst (λ y. IsTableOf n y root t) same is)
+      is-made w (scoped_tree w.scoped) (link w m) n root t made law r (subst (λ k. IsNumberingOf k w.numbering) begin-held.grown.holds.keys numbers) begin-held
+      others (subst (λ y. IsTableOf n y root t) same is)

@@ -26,14 +26,22 @@ abbrev pub HasParts : Head → Type 0
 HasParts (const v) = ⊥
 HasParts _ = Unit {0}
 
-pub is-form : (f : Head) (es : PlainTrees) (ids : List ℕ) → HasParts f → FitsHead f (count es) → length ids ≡ count es → IsTrue (fits_arity f es) → IsForm f ids (node_of f (get_or ids 0 0) (get_or ids 1 0) (get_or ids 2 0))
+pub is-form : (f : Head) (es : PlainTrees) (ids : List ℕ) → HasParts f → FitsHead f (count es) → length ids ≡ count es → IsTrue (fits_arity f es)
+    → IsForm f ids (node_of f (get_or ids 0 0) (get_or ids 1 0) (get_or ids 2 0))
 is-form (const v) es ids x h e t = absurd x
 is-form (apply op n) es ids x h e t =
     let fits : length ids ≡ arity op = e ∙ as_many (count es) (arity op) t in
     let within : length ids ≤ 3 = omega (arith, fits, few op) in
     let same : arity op ≡ n = sym fits ∙ e ∙ sym h in
     let taken : take (arity op) (three ids) ≡ ids = ap (λ z. take z (three ids)) (sym fits) ∙ front-is ids within in
-    record { means = λ vs ns ts j. row (apply op (same j)) (all_at ts (taken j)); known = λ n. tt; parts_are = taken; alone = tt; own = tt; filled = subst (λ z. AreZero (drop z (three ids))) fits (rest-zero ids within) }
+    record {
+      means = λ vs ns ts j. row (apply op (same j)) (all_at ts (taken j));
+      known = λ n. tt;
+      parts_are = taken;
+      alone = tt;
+      own = tt;
+      filled = subst (λ z. AreZero (drop z (three ids))) fits (rest-zero ids within);
+    }
 is-form f es ids x h e t =
     subst (λ l. IsForm f l (node_of f (get_or ids 0 0) (get_or ids 1 0) (get_or ids 2 0))) (front-is ids (omega (arith, e, h)))
     (subst (λ n. IsForm f (take n (three ids)) (node_of f (get_or ids 0 0) (get_or ids 1 0) (get_or ids 2 0))) (sym (e ∙ h))

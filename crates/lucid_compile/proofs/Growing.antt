@@ -18,11 +18,13 @@ begins-itself xs = ([], sym (append-nil xs))
 
 -- constants
 
-as_node-more : (vs ws : List PlainValue) (ns : List (List ℕ)) (ts : List PlainNode) (n : Node) → IsKnown (length vs) n → as_node (vs ++ ws) ns ts n ≡ as_node vs ns ts n
+as_node-more : (vs ws : List PlainValue) (ns : List (List ℕ)) (ts : List PlainNode) (n : Node) → IsKnown (length vs) n
+    → as_node (vs ++ ws) ns ts n ≡ as_node vs ns ts n
 as_node-more vs ws ns ts (Const k) h = ap (λ v. row (const v) no_nodes) (get_or_append_left vs ws fault k h)
 as_node-more vs ws ns ts _ h = refl
 
-grow-more : (vs ws : List PlainValue) (ns : List (List ℕ)) (ts : List PlainNode) (rs : List NodeRow) → AreKnown (length vs) rs → grow (vs ++ ws) ns ts rs ≡ grow vs ns ts rs
+grow-more : (vs ws : List PlainValue) (ns : List (List ℕ)) (ts : List PlainNode) (rs : List NodeRow) → AreKnown (length vs) rs
+    → grow (vs ++ ws) ns ts rs ≡ grow vs ns ts rs
 grow-more vs ws ns ts [] h = refl
 grow-more vs ws ns ts (r ∷ rs) h =
     grow-more vs ws ns (ts ++ as_node (vs ++ ws) ns ts r.node ∷ []) rs h.1 ∙ ap (λ x. grow vs ns (ts ++ x ∷ []) rs) (as_node-more vs ws ns ts r.node h.0)
@@ -41,7 +43,8 @@ known-one n (x ∷ rs) r h g = (h.0, known-one n rs r h.1 g)
 
 -- nodes
 
-grow-one : (vs : List PlainValue) (ns : List (List ℕ)) (ts : List PlainNode) (rs : List NodeRow) (r : NodeRow) → grow vs ns ts (rs ++ r ∷ []) ≡ grow vs ns ts rs ++ as_node vs ns (grow vs ns ts rs) r.node ∷ []
+grow-one : (vs : List PlainValue) (ns : List (List ℕ)) (ts : List PlainNode) (rs : List NodeRow) (r : NodeRow)
+    → grow vs ns ts (rs ++ r ∷ []) ≡ grow vs ns ts rs ++ as_node vs ns (grow vs ns ts rs) r.node ∷ []
 grow-one vs ns ts [] r = refl
 grow-one vs ns ts (x ∷ rs) r = grow-one vs ns (ts ++ as_node vs ns ts x.node ∷ []) rs r
 
@@ -106,10 +109,12 @@ module _ (ts us : List PlainNode) (b : Begins ts us) where
 
   places-kept : (w : Numbered) (ks : List Static) (rs : List PlaceRow) (cs : List CallStand) → PlacesHold w ks ts rs cs → PlacesHold w ks us rs cs
   places-kept w ks rs cs h =
-      pairs-kept (λ i r c. IsPlaceRow w ks ts r c) (λ i r c. IsPlaceRow w ks us r c) (λ i r c x. (each-kept r.actuals x.0, all_at-kept ts us r.actuals b x.0 ∙ x.1, x.2, x.3)) 0 rs cs h
+      pairs-kept (λ i r c. IsPlaceRow w ks ts r c) (λ i r c. IsPlaceRow w ks us r c)
+      (λ i r c x. (each-kept r.actuals x.0, all_at-kept ts us r.actuals b x.0 ∙ x.1, x.2, x.3)) 0 rs cs h
 
   functions-kept : (w : Numbered) (ks : List Static) (bs : List Body) (fs : List FunctionStand) → FunctionsHold w ks ts bs fs → FunctionsHold w ks us bs fs
-  functions-kept w ks bs fs h = pairs-kept (λ i x f. IsBody w ks ts x f) (λ i x f. IsBody w ks us x f) (λ i x f y. (within-kept x.body y.0, at-kept ts us x.body b y.0 ∙ y.1, y.2)) 0 bs fs h
+  functions-kept w ks bs fs h = pairs-kept (λ i x f. IsBody w ks ts x f) (λ i x f. IsBody w ks us x f)
+      (λ i x f y. (within-kept x.body y.0, at-kept ts us x.body b y.0 ∙ y.1, y.2)) 0 bs fs h
 
 -- what is held stays where more scopes are open
 
@@ -126,15 +131,19 @@ module _ (ks more : List Static) where
   nodes-open w rs ss h = pairs-kept (IsNodeRow w ks) (IsNodeRow w (ks ++ more)) (λ i r s x. (x.0, x.1, some-left ks more r.scope (frame s.home) x.2)) 0 rs ss h
 
   names-open : (ts : List PlainNode) (rs : List NameRow) (ss : List Stand) → NamesHold ks ts rs ss → NamesHold (ks ++ more) ts rs ss
-  names-open ts rs ss h = pairs-kept (λ i r s. IsNameRow ks ts r s) (λ i r s. IsNameRow (ks ++ more) ts r s) (λ i r s x. (x.0, some-left ks more r.scope (frame s.home) x.1)) 0 rs ss h
+  names-open ts rs ss h = pairs-kept (λ i r s. IsNameRow ks ts r s) (λ i r s. IsNameRow (ks ++ more) ts r s)
+      (λ i r s x. (x.0, some-left ks more r.scope (frame s.home) x.1)) 0 rs ss h
 
   places-open : (w : Numbered) (ts : List PlainNode) (rs : List PlaceRow) (cs : List CallStand) → PlacesHold w ks ts rs cs → PlacesHold w (ks ++ more) ts rs cs
   places-open w ts rs cs h =
-      pairs-kept (λ i r c. IsPlaceRow w ks ts r c) (λ i r c. IsPlaceRow w (ks ++ more) ts r c) (λ i r c x. (x.0, x.1, some-left ks more r.scope (frame c.home) x.2, x.3)) 0 rs cs h
+      pairs-kept (λ i r c. IsPlaceRow w ks ts r c) (λ i r c. IsPlaceRow w (ks ++ more) ts r c)
+      (λ i r c x. (x.0, x.1, some-left ks more r.scope (frame c.home) x.2, x.3)) 0 rs cs h
 
-  functions-open : (w : Numbered) (ts : List PlainNode) (bs : List Body) (fs : List FunctionStand) → FunctionsHold w ks ts bs fs → FunctionsHold w (ks ++ more) ts bs fs
+  functions-open : (w : Numbered) (ts : List PlainNode) (bs : List Body) (fs : List FunctionStand) → FunctionsHold w ks ts bs fs
+      → FunctionsHold w (ks ++ more) ts bs fs
   functions-open w ts bs fs h =
-      pairs-kept (λ i x f. IsBody w ks ts x f) (λ i x f. IsBody w (ks ++ more) ts x f) (λ i x f y. (y.0, y.1, some-left ks more x.scope (in_body f.names f.places f.home) y.2)) 0 bs fs h
+      pairs-kept (λ i x f. IsBody w ks ts x f) (λ i x f. IsBody w (ks ++ more) ts x f)
+      (λ i x f y. (y.0, y.1, some-left ks more x.scope (in_body f.names f.places f.home) y.2)) 0 bs fs h
 
 pub no-nodes : (g : Log) → with_nodes [] g ≡ g
 no-nodes g = λ j. record { names = g.names; calls = g.calls; functions = g.functions; nodes = append-nil g.nodes j; scopes = g.scopes }
@@ -147,10 +156,17 @@ module _ (w : Numbered) where
   grown-none o g h = record { holds = h; begins = begins-itself (nodes_in w o); rows = begins-itself o.nodes; outer = begins-itself o.scopes }
 
   pub grown-then : (o m n : Lists) (g h : Log) → Grown w o m g → Grown w m n h → Grown w o n h
-  grown-then o m n g h a b = record { holds = b.holds; begins = begins-then (nodes_in w o) (nodes_in w m) (nodes_in w n) a.begins b.begins; rows = begins-then o.nodes m.nodes n.nodes a.rows b.rows; outer = begins-then o.scopes m.scopes n.scopes a.outer b.outer }
+  grown-then o m n g h a b = record {
+    holds = b.holds;
+    begins = begins-then (nodes_in w o) (nodes_in w m) (nodes_in w n) a.begins b.begins;
+    rows = begins-then o.nodes m.nodes n.nodes a.rows b.rows;
+    outer = begins-then o.scopes m.scopes n.scopes a.outer b.outer;
+  }
 
   -- what is held, with other nodes
-  with-more : (o n : Lists) (g : Log) (more : List NodeStand) → Holds w o g → Begins (nodes_in w o) (nodes_in w n) → AreKnown (length n.constants) n.nodes → NodesHold w g.scopes n.nodes (g.nodes ++ more) → Begins o.nodes n.nodes → EachRow (NodeFits n.scopes n.nodes) n.nodes → n.scopes ≡ o.scopes → n.names ≡ o.names
+  with-more : (o n : Lists) (g : Log) (more : List NodeStand) → Holds w o g → Begins (nodes_in w o) (nodes_in w n) → AreKnown (length n.constants) n.nodes
+      → NodesHold w g.scopes n.nodes (g.nodes ++ more) → Begins o.nodes n.nodes → EachRow (NodeFits n.scopes n.nodes) n.nodes → n.scopes ≡ o.scopes
+      → n.names ≡ o.names
       → n.places ≡ o.places → n.bodies ≡ o.bodies → n.keys ≡ o.keys → Grown w o n (with_nodes more g)
   with-more o n g more h b k nodes later parts scopes names places bodies keys =
       let outer : Begins o.scopes n.scopes = ([], scopes ∙ sym (append-nil o.scopes)) in
@@ -168,13 +184,18 @@ module _ (w : Numbered) where
           functions = rw bodies (functions-kept (nodes_in w o) (nodes_in w n) b w g.scopes o.bodies g.functions h.functions);
           keys = keys ∙ h.keys;
           parts = parts;
-          entries = rw names (each-row (NameFits o.scopes o.nodes) (NameFits n.scopes n.nodes) o.names (λ r x. entry-stands-kept o.scopes n.scopes o.nodes n.nodes outer later r.scope r.kind x) h.entries);
-          actuals = rw places (each-row (PlaceFits o.nodes) (PlaceFits n.nodes) o.places (λ r x. each-stands-kept o.nodes n.nodes later r.scope r.actuals x) h.actuals);
-          rights = rw bodies (each-row (BodyFits o.scopes o.nodes) (BodyFits n.scopes n.nodes) o.bodies (λ x y. entry-stands-kept o.scopes n.scopes o.nodes n.nodes outer later x.scope (Called x.body) y) h.rights);
+          entries = rw names (each-row (NameFits o.scopes o.nodes) (NameFits n.scopes n.nodes) o.names
+              (λ r x. entry-stands-kept o.scopes n.scopes o.nodes n.nodes outer later r.scope r.kind x) h.entries);
+          actuals = rw places (each-row (PlaceFits o.nodes) (PlaceFits n.nodes) o.places (λ r x. each-stands-kept o.nodes n.nodes later r.scope r.actuals x)
+              h.actuals);
+          rights = rw bodies (each-row (BodyFits o.scopes o.nodes) (BodyFits n.scopes n.nodes) o.bodies
+              (λ x y. entry-stands-kept o.scopes n.scopes o.nodes n.nodes outer later x.scope (Called x.body) y) h.rights);
         };
       }
 
-  pub push-grown : (o n : Lists) (g : Log) (r : NodeRow) (v : NodeStand) (id : ℕ) → Holds w o g → OneNode o n r id → IsKnown (length o.constants) r.node → EachBelow (length (nodes_in w o)) (parts r.node) → HasTarget w r.node v.target → IsOpen g.scopes r.scope v.home → PartsStand o.scopes o.nodes r.scope r.node → IsFilled r.node
+  pub push-grown : (o n : Lists) (g : Log) (r : NodeRow) (v : NodeStand) (id : ℕ) → Holds w o g → OneNode o n r id → IsKnown (length o.constants) r.node
+      → EachBelow (length (nodes_in w o)) (parts r.node) → HasTarget w r.node v.target → IsOpen g.scopes r.scope v.home
+      → PartsStand o.scopes o.nodes r.scope r.node → IsFilled r.node
       → GrownTo w o n (with_nodes (v ∷ []) g) (as_node o.constants (scoped_inputs w.scoped) (nodes_in w o) r.node) r.scope id
   push-grown o n g r v id h s k b a c q z =
       let x : PlainNode = as_node o.constants (scoped_inputs w.scoped) (nodes_in w o) r.node in
@@ -184,14 +205,20 @@ module _ (w : Numbered) where
       let later : Begins o.nodes n.nodes = (r ∷ [], ap (λ (l : Lists). l.nodes) s.lists) in
       let here : Begins o.scopes o.scopes = begins-itself o.scopes in
       let end : Begins o.nodes (o.nodes ++ r ∷ []) = (r ∷ [], refl) in
-      let kept : (y : NodeRow) → NodeFits o.scopes o.nodes y → NodeFits o.scopes (o.nodes ++ r ∷ []) y = λ y u. (parts-kept o.scopes o.scopes o.nodes (o.nodes ++ r ∷ []) here end y.scope y.node u.0, u.1) in
-      let fitting : EachRow (NodeFits o.scopes (o.nodes ++ r ∷ [])) (o.nodes ++ r ∷ []) = each-one (NodeFits o.scopes (o.nodes ++ r ∷ [])) o.nodes r (each-row (NodeFits o.scopes o.nodes) (NodeFits o.scopes (o.nodes ++ r ∷ [])) o.nodes kept h.parts) (kept r (q, z)) in
+      let kept : (y : NodeRow) → NodeFits o.scopes o.nodes y
+      → NodeFits o.scopes (o.nodes ++ r ∷ []) y = λ y u. (parts-kept o.scopes o.scopes o.nodes (o.nodes ++ r ∷ []) here end y.scope y.node u.0, u.1) in
+      let fitting : EachRow (NodeFits o.scopes (o.nodes ++ r ∷ [])) (o.nodes ++ r ∷ []) =
+      each-one (NodeFits o.scopes (o.nodes ++ r ∷ [])) o.nodes r
+      (each-row (NodeFits o.scopes o.nodes) (NodeFits o.scopes (o.nodes ++ r ∷ [])) o.nodes kept h.parts) (kept r (q, z)) in
       record {
-        grown = with-more o n g (v ∷ []) h (x ∷ [], more) (rw s.lists (known-one (length o.constants) o.nodes r h.known k)) (rw s.lists (pairs-one (IsNodeRow w g.scopes) 0 o.nodes g.nodes r v h.nodes (subst (λ c. EachBelow c (parts r.node)) zero_more b, a, c))) later
-            (rw s.lists fitting) (ap (λ (l : Lists). l.scopes) s.lists) (ap (λ l. l.names) s.lists) (ap (λ l. l.places) s.lists) (ap (λ l. l.bodies) s.lists) (ap (λ l. l.keys) s.lists);
+        grown = with-more o n g (v ∷ []) h (x ∷ [], more) (rw s.lists (known-one (length o.constants) o.nodes r h.known k))
+            (rw s.lists (pairs-one (IsNodeRow w g.scopes) 0 o.nodes g.nodes r v h.nodes (subst (λ c. EachBelow c (parts r.node)) zero_more b, a, c))) later
+            (rw s.lists fitting) (ap (λ (l : Lists). l.scopes) s.lists) (ap (λ l. l.names) s.lists) (ap (λ l. l.places) s.lists) (ap (λ l. l.bodies) s.lists)
+            (ap (λ l. l.keys) s.lists);
         within = omega (arith, s.number, count, ap length more, length-append (nodes_in w o) (x ∷ []));
         is = ap (λ l. at l id) more ∙ ap (λ i. at (nodes_in w o ++ x ∷ []) i) (s.number ∙ sym count) ∙ get_or-append_seam (nodes_in w o) x [] no_node;
-        stands = ap (λ (l : Lists). option_map (λ y. y.scope) (slice_get l.nodes id)) s.lists ∙ ap (λ i. option_map (λ y. y.scope) (slice_get (o.nodes ++ r ∷ []) i)) s.number ∙ ap (option_map (λ y. y.scope)) (some-last o.nodes r);
+        stands = ap (λ (l : Lists). option_map (λ y. y.scope) (slice_get l.nodes id)) s.lists
+            ∙ ap (λ i. option_map (λ y. y.scope) (slice_get (o.nodes ++ r ∷ []) i)) s.number ∙ ap (option_map (λ y. y.scope)) (some-last o.nodes r);
       }
 
   pub keep-grown : (o n : Lists) (g : Log) (v : PlainValue) (id : ℕ) → Holds w o g → OneConstant o n v id → Grown w o n g
@@ -199,17 +226,22 @@ module _ (w : Numbered) where
       let same : nodes_in w n ≡ nodes_in w o = ap (nodes_in w) s.lists ∙ grow-more o.constants (v ∷ []) (scoped_inputs w.scoped) [] o.nodes h.known in
       let count : length (o.constants ++ v ∷ []) ≡ length o.constants + 1 = length-append o.constants (v ∷ []) in
       subst (Grown w o n) (no-nodes g)
-      (with-more o n g [] h ([], same ∙ sym (append-nil (nodes_in w o))) (rw s.lists (all_known-less (length o.constants) (length (o.constants ++ v ∷ [])) o.nodes (omega (arith, count)) h.known)) (rw s.lists (subst (NodesHold w g.scopes o.nodes) (sym (append-nil g.nodes)) h.nodes))
-      (subst (Begins o.nodes) (sym (ap (λ (l : Lists). l.nodes) s.lists)) (begins-itself o.nodes)) (rw s.lists h.parts) (ap (λ (l : Lists). l.scopes) s.lists) (ap (λ l. l.names) s.lists) (ap (λ l. l.places) s.lists) (ap (λ l. l.bodies) s.lists) (ap (λ l. l.keys) s.lists))
+      (with-more o n g [] h ([], same ∙ sym (append-nil (nodes_in w o)))
+      (rw s.lists (all_known-less (length o.constants) (length (o.constants ++ v ∷ [])) o.nodes (omega (arith, count)) h.known))
+      (rw s.lists (subst (NodesHold w g.scopes o.nodes) (sym (append-nil g.nodes)) h.nodes))
+      (subst (Begins o.nodes) (sym (ap (λ (l : Lists). l.nodes) s.lists)) (begins-itself o.nodes)) (rw s.lists h.parts) (ap (λ (l : Lists). l.scopes) s.lists)
+      (ap (λ l. l.names) s.lists) (ap (λ l. l.places) s.lists) (ap (λ l. l.bodies) s.lists) (ap (λ l. l.keys) s.lists))
 
   pub keep-constant : (o n : Lists) (v : PlainValue) (id : ℕ) → OneConstant o n v id → get_or n.constants id fault ≡ v
-  keep-constant o n v id s = ap (λ l. get_or l.constants id fault) s.lists ∙ ap (λ i. get_or (o.constants ++ v ∷ []) i fault) s.number ∙ get_or-append_seam o.constants v [] fault
+  keep-constant o n v id s = ap (λ l. get_or l.constants id fault) s.lists ∙ ap (λ i. get_or (o.constants ++ v ∷ []) i fault) s.number
+      ∙ get_or-append_seam o.constants v [] fault
 
   pub keep-known : (o n : Lists) (v : PlainValue) (id : ℕ) → OneConstant o n v id → id < length n.constants
   keep-known o n v id s = omega (arith, s.number, ap (λ l. length l.constants) s.lists, length-append o.constants (v ∷ []))
 
   -- a scope of its own, which is then open
-  pub open-grown : (o n : Lists) (g : Log) (k : Static) (r : ScopeRow) (id : ℕ) → Holds w o g → OneScope o n r id → IsScopeRow g.scopes id r k → Grown w o n (with_scopes (k ∷ []) g)
+  pub open-grown : (o n : Lists) (g : Log) (k : Static) (r : ScopeRow) (id : ℕ) → Holds w o g → OneScope o n r id → IsScopeRow g.scopes id r k
+      → Grown w o n (with_scopes (k ∷ []) g)
   open-grown o n g k r id h s x =
       let more : List Static = k ∷ [] in
       let number : id ≡ 0 + length o.scopes = omega (arith, s.number) in
@@ -220,30 +252,44 @@ module _ (w : Numbered) where
         holds = record {
           known = h.known;
           outer = some-left g.scopes more 0 outermost h.outer;
-          scopes = pairs-one (IsScopeRow (g.scopes ++ more)) 0 o.scopes g.scopes r k (scopes-open g.scopes more o.scopes g.scopes h.scopes) (subst (λ i. IsScopeRow (g.scopes ++ more) i r k) number (scope-row-open g.scopes more id r k x));
+          scopes = pairs-one (IsScopeRow (g.scopes ++ more)) 0 o.scopes g.scopes r k (scopes-open g.scopes more o.scopes g.scopes h.scopes)
+              (subst (λ i. IsScopeRow (g.scopes ++ more) i r k) number (scope-row-open g.scopes more id r k x));
           nodes = nodes-open g.scopes more w o.nodes g.nodes h.nodes;
           names = names-open g.scopes more (nodes_in w o) o.names g.names h.names;
           places = places-open g.scopes more w (nodes_in w o) o.places g.calls h.places;
           functions = functions-open g.scopes more w (nodes_in w o) o.bodies g.functions h.functions;
           keys = h.keys;
-          parts = each-row (NodeFits o.scopes o.nodes) (NodeFits (o.scopes ++ r ∷ []) o.nodes) o.nodes (λ y u. (parts-kept o.scopes (o.scopes ++ r ∷ []) o.nodes o.nodes (r ∷ [], refl) (begins-itself o.nodes) y.scope y.node u.0, u.1)) h.parts;
-          entries = each-row (NameFits o.scopes o.nodes) (NameFits (o.scopes ++ r ∷ []) o.nodes) o.names (λ y u. entry-stands-kept o.scopes (o.scopes ++ r ∷ []) o.nodes o.nodes (r ∷ [], refl) (begins-itself o.nodes) y.scope y.kind u) h.entries;
+          parts = each-row (NodeFits o.scopes o.nodes) (NodeFits (o.scopes ++ r ∷ []) o.nodes) o.nodes
+              (λ y u. (parts-kept o.scopes (o.scopes ++ r ∷ []) o.nodes o.nodes (r ∷ [], refl) (begins-itself o.nodes) y.scope y.node u.0, u.1)) h.parts;
+          entries = each-row (NameFits o.scopes o.nodes) (NameFits (o.scopes ++ r ∷ []) o.nodes) o.names
+              (λ y u. entry-stands-kept o.scopes (o.scopes ++ r ∷ []) o.nodes o.nodes (r ∷ [], refl) (begins-itself o.nodes) y.scope y.kind u) h.entries;
           actuals = h.actuals;
-          rights = each-row (BodyFits o.scopes o.nodes) (BodyFits (o.scopes ++ r ∷ []) o.nodes) o.bodies (λ y u. entry-stands-kept o.scopes (o.scopes ++ r ∷ []) o.nodes o.nodes (r ∷ [], refl) (begins-itself o.nodes) y.scope (Called y.body) u) h.rights;
+          rights = each-row (BodyFits o.scopes o.nodes) (BodyFits (o.scopes ++ r ∷ []) o.nodes) o.bodies
+              (λ y u. entry-stands-kept o.scopes (o.scopes ++ r ∷ []) o.nodes o.nodes (r ∷ [], refl) (begins-itself o.nodes) y.scope (Called y.body) u)
+              h.rights;
         };
       })
 
   -- that scope is what is in scope, where it is its own frame
-  pub opened-is : (o n : Lists) (g : Log) (k : Static) (r : ScopeRow) (id : ℕ) → Holds w o g → OneScope o n r id → frame k ≡ k → IsOpen (g.scopes ++ k ∷ []) id k
+  pub opened-is : (o n : Lists) (g : Log) (k : Static) (r : ScopeRow) (id : ℕ) → Holds w o g → OneScope o n r id → frame k ≡ k
+      → IsOpen (g.scopes ++ k ∷ []) id k
   opened-is o n g k r id h s own =
       let count = pairs-count (IsScopeRow g.scopes) 0 o.scopes g.scopes h.scopes in
       ap (slice_get (g.scopes ++ k ∷ [])) (s.number ∙ count) ∙ some-last g.scopes k ∙ ap Some (sym own)
 
   -- a parent that is open has a lower number
-  pub parent-below : (o n : Lists) (g : Log) (r : ScopeRow) (id parent : ℕ) (k : Static) → Holds w o g → OneScope o n r id → IsOpen g.scopes parent k → parent < id
-  parent-below o n g r id parent k h s c = omega (arith, index-below g.scopes parent (frame k) c, s.number, pairs-count (IsScopeRow g.scopes) 0 o.scopes g.scopes h.scopes)
+  pub parent-below : (o n : Lists) (g : Log) (r : ScopeRow) (id parent : ℕ) (k : Static) → Holds w o g → OneScope o n r id → IsOpen g.scopes parent k
+      → parent < id
+  parent-below o n g r id parent k h s c = omega (
+    arith,
+    index-below g.scopes parent (frame k) c,
+    s.number,
+    pairs-count (IsScopeRow g.scopes) 0 o.scopes
+        g.scopes h.scopes,
+  )
 
-  pub define-grown : (o n : Lists) (g : Log) (s : Stand) (k : Key) (r : NameRow) → Holds w o g → n ≡ with_name k r o → k ≡ stand_key s → IsEntry (nodes_in w o) r.kind s.entry → IsOpen g.scopes r.scope s.home → EntryStands o.scopes o.nodes r.scope r.kind → Grown w o n (with_stand s g)
+  pub define-grown : (o n : Lists) (g : Log) (s : Stand) (k : Key) (r : NameRow) → Holds w o g → n ≡ with_name k r o → k ≡ stand_key s
+      → IsEntry (nodes_in w o) r.kind s.entry → IsOpen g.scopes r.scope s.home → EntryStands o.scopes o.nodes r.scope r.kind → Grown w o n (with_stand s g)
   define-grown o n g s k r h x own e c q =
       subst (λ z. Grown w o z (with_stand s g)) (sym x) (record {
         begins = begins-itself (nodes_in w o);
@@ -265,7 +311,9 @@ module _ (w : Numbered) where
         };
       })
 
-  pub close-grown : (o n : Lists) (g : Log) (f : FunctionStand) (k : Key) (b : Body) → Holds w o g → n ≡ with_body k b o → k ≡ key_of_function f → b.body < length (nodes_in w o) → at (nodes_in w o) b.body ≡ bound_node w f.right → IsOpen g.scopes b.scope (in_body f.names f.places f.home) → EntryStands o.scopes o.nodes b.scope (Called b.body) → Grown w o n (with_function f g)
+  pub close-grown : (o n : Lists) (g : Log) (f : FunctionStand) (k : Key) (b : Body) → Holds w o g → n ≡ with_body k b o → k ≡ key_of_function f
+      → b.body < length (nodes_in w o) → at (nodes_in w o) b.body ≡ bound_node w f.right → IsOpen g.scopes b.scope (in_body f.names f.places f.home)
+      → EntryStands o.scopes o.nodes b.scope (Called b.body) → Grown w o n (with_function f g)
   close-grown o n g f k b h x own l e c q =
       subst (λ z. Grown w o z (with_function f g)) (sym x) (record {
         begins = begins-itself (nodes_in w o);
@@ -287,7 +335,9 @@ module _ (w : Numbered) where
         };
       })
 
-  pub place-grown : (o n : Lists) (g : Log) (c : CallStand) (k p : Key) (r : PlaceRow) → Holds w o g → n ≡ with_place k p r o → k ≡ call_key c → p ≡ place_key c → EachBelow (length (nodes_in w o)) r.actuals → all_at (nodes_in w o) r.actuals ≡ bound_nodes w c.actuals → IsOpen g.scopes r.scope c.home → r.name ≡ (name_mark w.numbering c.at).number → EachStandsIn o.nodes r.scope r.actuals → Grown w o n (with_call c g)
+  pub place-grown : (o n : Lists) (g : Log) (c : CallStand) (k p : Key) (r : PlaceRow) → Holds w o g → n ≡ with_place k p r o → k ≡ call_key c → p ≡ place_key c
+      → EachBelow (length (nodes_in w o)) r.actuals → all_at (nodes_in w o) r.actuals ≡ bound_nodes w c.actuals → IsOpen g.scopes r.scope c.home
+      → r.name ≡ (name_mark w.numbering c.at).number → EachStandsIn o.nodes r.scope r.actuals → Grown w o n (with_call c g)
   place-grown o n g c k p r h x own first l e i is_name q =
       subst (λ z. Grown w o z (with_call c g)) (sym x) (record {
         begins = begins-itself (nodes_in w o);

@@ -14,13 +14,15 @@ same_values None (Some v) h g = g v refl
 same_values (Some v) r h g = sym (h v refl)
 
 module _ (nu : Numbers) (so : Source) (p : Equations) (e : PlainTree) (c : Compiles nu so p e) (b : Elements) where
-  module _ (held : Referent → ℕ → Option PlainValue) (kept : Daton → ℕ → Option PlainValue) (values : List (Referent × ℕ × PlainValue)) (placed : Each (PlacedValue nu so p e c b) values) (lists : HoldsExactly values held) (also : HoldsExactly (map (valued_daton nu) values) kept) where
+  module _ (held : Referent → ℕ → Option PlainValue) (kept : Daton → ℕ → Option PlainValue) (values : List (Referent × ℕ × PlainValue))
+      (placed : Each (PlacedValue nu so p e c b) values) (lists : HoldsExactly values held) (also : HoldsExactly (map (valued_daton nu) values) kept) where
     forth : (k : Referent) (s : ℕ) (v : PlainValue) → held k s ≡ Some v → kept (daton_of nu k) s ≡ Some v
     forth k s v h = (also (daton_of nu k) s v).1 (in_map (valued_daton nu) (k, s, v) values ((lists k s v).0 h))
 
     back : (k : Referent) (s : ℕ) (v : PlainValue) → Placed nu so p k → kept (daton_of nu k) s ≡ Some v → held k s ≡ Some v
     back k s v g h =
-        let q : (x : Referent × ℕ × PlainValue) × In x values × ((daton_of nu k, s, v) ≡ valued_daton nu x) = from_map (valued_daton nu) (daton_of nu k, s, v) values ((also (daton_of nu k) s v).0 h) in
+        let q : (x : Referent × ℕ × PlainValue) × In x values
+        × ((daton_of nu k, s, v) ≡ valued_daton nu x) = from_map (valued_daton nu) (daton_of nu k, s, v) values ((also (daton_of nu k) s v).0 h) in
         let key : k ≡ q.0.0 = daton-one nu so p k q.0.0 g (each-at (PlacedValue nu so p e c b) values q.0 placed q.1) (ap (λ z. z.0) q.2) in
         (lists k s v).1 (subst (λ z. In z values) (sym (λ i. (key i, (q.2 i).1, (q.2 i).2))) q.1)
 
@@ -33,6 +35,9 @@ module _ (nu : Numbers) (so : Source) (p : Equations) (e : PlainTree) (c : Compi
         ap (λ r. node_hval p (record { element = b; held = kept }) n r root t s) c.root ∙ sym (hval-same nu so p b held kept alike n e empty t s tt c.kept)
 
   -- with the values held of all that is referred to from a list of points, equal at every approximation and point
-  pub held-same : (m : ℕ) (points : Points) (held : Referent → ℕ → Option PlainValue) (kept : Daton → ℕ → Option PlainValue) → HoldsExactly (valued_entries b m e points) held → HoldsExactly (valued_datons p b m points) kept → (n t s : ℕ) → eqhval p (record { element = b; held = kept }) n t s ≡ of_trees.hval (record { element = b; held = held }) n e empty t s
+  pub held-same : (m : ℕ) (points : Points) (held : Referent → ℕ → Option PlainValue) (kept : Daton → ℕ → Option PlainValue)
+      → HoldsExactly (valued_entries b m e points) held → HoldsExactly (valued_datons p b m points) kept → (n t s : ℕ)
+      → eqhval p (record { element = b; held = kept }) n t s ≡ of_trees.hval (record { element = b; held = held }) n e empty t s
   held-same m points held kept lists also =
-      listed-same held kept (valued_entries b m e points) (values-placed nu so p e c b m points) lists (subst (λ xs. HoldsExactly xs kept) (valued_datons-are nu so p e c b m points) also)
+      listed-same held kept (valued_entries b m e points) (values-placed nu so p e c b m points) lists
+      (subst (λ xs. HoldsExactly xs kept) (valued_datons-are nu so p e c b m points) also)

@@ -21,6 +21,8 @@ module _ (t : Table) (w : Numbered) (z : Log) (rows : HasRows w z t) where
   pub have-scopes : RowsHaveScopes t
   have-scopes = record {
     nodes = λ id r at. (let f = thing-at (IsNodeRow w z.scopes) 0 t.nodes z.nodes id r rows.nodes at in open-there r.scope f.thing.home f.is.2);
-    names = λ n r at. (let f = thing-at (λ i r s. IsNameRow z.scopes (nodes_of t) r s) 0 t.names (z.names ++ map (λ c. call_row w z.functions c.at) z.calls) n r rows.names at in open-there r.scope f.thing.home f.is.1);
-    places = λ q r at. (let f = thing-at (λ i r c. IsPlaceRow w z.scopes (nodes_of t) r c) 0 t.places z.calls q r rows.places at in open-there r.scope f.thing.home f.is.2);
+    names = λ n r at. (let f = thing-at (λ i r s. IsNameRow z.scopes (nodes_of t) r s) 0 t.names (z.names ++ map (λ c. call_row w z.functions c.at) z.calls) n r
+        rows.names at in open-there r.scope f.thing.home f.is.1);
+    places = λ q r at. (let f = thing-at (λ i r c. IsPlaceRow w z.scopes (nodes_of t) r c) 0 t.places z.calls q r rows.places at in
+        open-there r.scope f.thing.home f.is.2);
   }

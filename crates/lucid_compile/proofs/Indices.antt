@@ -21,7 +21,8 @@ read-key key (y ∷ xs) zero x d e =
 read-key key (y ∷ xs) (suc i) x d e = read-key key xs i x d e
 
 -- and has the mark of that index
-pub marked-at : {A : Type 0} (key : A → Key) (f : ℕ → Option Mark) (start : ℕ) (xs : List A) (i : ℕ) (x : A) → AreMarked f start (map key xs) → slice_get xs i ≡ Some x → f (key x).at ≡ Some (mark_by (start + i) (key x))
+pub marked-at : {A : Type 0} (key : A → Key) (f : ℕ → Option Mark) (start : ℕ) (xs : List A) (i : ℕ) (x : A) → AreMarked f start (map key xs)
+    → slice_get xs i ≡ Some x → f (key x).at ≡ Some (mark_by (start + i) (key x))
 marked-at key f start xs i x m e =
     let b : i < length (map key xs) = omega (arith, index-below xs i x e, length-map xs key) in
     subst (λ k. f k.at ≡ Some (mark_by (start + i) k)) (read-key key xs i x (key x) e) (m i (key x) b)
@@ -33,7 +34,8 @@ pub record CallNumbers (w : Numbered) (z : Log) (i : ℕ) (c : CallStand) : Type
 
 pub call-numbers : (w : Numbered) (z : Log) (i : ℕ) (c : CallStand) → IsNumberingOf (keys_of z) w.numbering → slice_get z.calls i ≡ Some c → CallNumbers w z i c
 call-numbers w z i c n e = record {
-  name = ap (λ m. (or_no_mark m).number) (marked-at call_key (mark_of w.numbering) (length (map stand_key z.names)) z.calls i c n.calls e) ∙ ap (λ k. k + i) (length-map z.names stand_key);
+  name = ap (λ m. (or_no_mark m).number) (marked-at call_key (mark_of w.numbering) (length (map stand_key z.names)) z.calls i c n.calls e)
+      ∙ ap (λ k. k + i) (length-map z.names stand_key);
   place = ap (λ m. (or_no_mark m).number) (marked-at place_key (call_of w.numbering) 0 z.calls i c n.places e) ∙ omega arith;
 }
 

@@ -14,16 +14,20 @@ module _ (w : Numbered) (e : PlainTree) (made : IsWellMade e) where
   names-differ =
       let same : map key_at (map stand_key z.names ++ map call_key z.calls) ≡ names_at z ++ calls_at z =
       map-append key_at (map stand_key z.names) (map call_key z.calls) ∙ (λ j. map_map key_at stand_key z.names j ++ map_map key_at call_key z.calls j) in
-      subst AllDiffer (sym same) (once-differ (names_at z ++ calls_at z) (λ x. omega (arith, times-append x (names_at z) (calls_at z), names-times w x outermost e no_log, differ-once (places e) made.placed x)))
+      subst AllDiffer (sym same) (once-differ (names_at z ++ calls_at z)
+      (λ x. omega (arith, times-append x (names_at z) (calls_at z), names-times w x outermost e no_log, differ-once (places e) made.placed x)))
 
   functions-differ : AllDiffer (map key_at (map key_of_function z.functions))
   functions-differ =
-      subst AllDiffer (sym (map_map key_at key_of_function z.functions)) (once-differ (functions_at z) (λ x. omega (arith, functions-times w x outermost e no_log, differ-once (places e) made.placed x)))
+      subst AllDiffer (sym (map_map key_at key_of_function z.functions))
+      (once-differ (functions_at z) (λ x. omega (arith, functions-times w x outermost e no_log, differ-once (places e) made.placed x)))
 
   places-differ : NoFaults (name_sites outermost e) → AllDiffer (map key_at (map place_key z.calls))
   places-differ n =
       let h : IsTrue (calls_pass_actuals e) = passes outermost e n tt made.shaped in
-      subst AllDiffer (sym (map_map key_at place_key z.calls)) (once-differ (sites_at z) (λ x. omega (arith, sites-times w x outermost e no_log h, ap (times x) (own-first e), differ-once (places e) made.placed x)))
+      subst AllDiffer (sym (map_map key_at place_key z.calls))
+      (once-differ (sites_at z)
+      (λ x. omega (arith, sites-times w x outermost e no_log h, ap (times x) (own-first e), differ-once (places e) made.placed x)))
 
 -- keys that differ, those of each kind
 pub record DifferingKeys (l : KeyLists) : Type 0 where
@@ -31,6 +35,7 @@ pub record DifferingKeys (l : KeyLists) : Type 0 where
   pub places : AllDiffer (map key_at l.places)
   pub functions : AllDiffer (map key_at l.functions)
 
-pub keys-differ : (w : Numbered) (e : PlainTree) (l : KeyLists) → IsWellMade e → NoFaults (name_sites outermost e) → l ≡ keys_of (added w outermost e no_log) → DifferingKeys l
+pub keys-differ : (w : Numbered) (e : PlainTree) (l : KeyLists) → IsWellMade e → NoFaults (name_sites outermost e) → l ≡ keys_of (added w outermost e no_log)
+    → DifferingKeys l
 keys-differ w e l made n same =
     subst DifferingKeys (sym same) (record { names = names-differ w e made; places = places-differ w e made n; functions = functions-differ w e made })

@@ -26,18 +26,23 @@ each-image P Q f h (x ∷ xs) p = (h x p.0, each-image P Q f h xs p.1)
 
 -- Names' rows stand: those of calls, since the bodies of their functions do.
 
-row-fits : (w : Numbered) (z : Log) (xs : List ScopeRow) (rs : List NodeRow) (ks : List Static) (ts : List PlainNode) (bs : List Body) → FunctionsHold w ks ts bs z.functions → EachRow (BodyFits xs rs) bs → (c : CallStand) → HasCallee w z c
+row-fits : (w : Numbered) (z : Log) (xs : List ScopeRow) (rs : List NodeRow) (ks : List Static) (ts : List PlainNode) (bs : List Body)
+    → FunctionsHold w ks ts bs z.functions → EachRow (BodyFits xs rs) bs → (c : CallStand) → HasCallee w z c
     → NameFits xs rs (row_by (slice_get bs (callee_number w c.at)))
 row-fits w z xs rs ks ts bs h fit c m =
     let b = row-at (λ i b f. IsBody w ks ts b f) 0 bs z.functions (callee_number w c.at) m.function h m.there in
     subst (λ o. NameFits xs rs (row_by o)) (sym b.there) (each-at (BodyFits xs rs) bs (callee_number w c.at) b.row fit b.there)
 
-pub names-fit : (w : Numbered) (z : Log) (xs : List ScopeRow) (rs : List NodeRow) (ks : List Static) (ts : List PlainNode) (bs : List Body) (names : List NameRow) → FunctionsHold w ks ts bs z.functions → EachRow (BodyFits xs rs) bs → EachRow (HasCallee w z) z.calls → EachRow (NameFits xs rs) names
+pub names-fit : (w : Numbered) (z : Log) (xs : List ScopeRow) (rs : List NodeRow) (ks : List Static) (ts : List PlainNode) (bs : List Body)
+    (names : List NameRow) → FunctionsHold w ks ts bs z.functions → EachRow (BodyFits xs rs) bs → EachRow (HasCallee w z) z.calls
+    → EachRow (NameFits xs rs) names
     → EachRow (NameFits xs rs) (names ++ rows_of_calls w bs (map call_key z.calls))
 names-fit w z xs rs ks ts bs names h fit met entries =
     each-joined (NameFits xs rs) names _ entries
-    (each-image (λ (k : Key). NameFits xs rs (row_by (slice_get bs (callee_number w k.at)))) (NameFits xs rs) (λ k. row_by (slice_get bs (callee_number w k.at))) (λ k p. p) (map call_key z.calls)
-    (each-image (HasCallee w z) (λ (k : Key). NameFits xs rs (row_by (slice_get bs (callee_number w k.at)))) call_key (row-fits w z xs rs ks ts bs h fit) z.calls met))
+    (each-image (λ (k : Key). NameFits xs rs (row_by (slice_get bs (callee_number w k.at)))) (NameFits xs rs)
+    (λ k. row_by (slice_get bs (callee_number w k.at))) (λ k p. p) (map call_key z.calls)
+    (each-image (HasCallee w z) (λ (k : Key). NameFits xs rs (row_by (slice_get bs (callee_number w k.at)))) call_key (row-fits w z xs rs ks ts bs h fit)
+    z.calls met))
 
 pub bodies-stand : (t : Table) → EachRow (NameFits t.scopes t.nodes) t.names → BodiesStand t
 bodies-stand t fit n s e h = each-at (NameFits t.scopes t.nodes) t.names n (record { scope = s; kind = e }) fit h
@@ -85,14 +90,16 @@ module _ (w : Numbered) (z : Log) where
   reference-met no_target k n l h m = absurd h
   reference-met (of_name at) k n l h m = subst (NameLeads z (length (scoped_inputs w.scoped)) k) (sym h) m
   reference-met (of_call at first) k n l h m =
-      let q : Refer n l ≡ Call (name_mark w.numbering at).number (call_number w.numbering first) (function_mark w.numbering (callee_place (scoped_binding w.scoped at))).level = h in
+      let q : Refer n l ≡ Call (name_mark w.numbering at).number (call_number w.numbering first)
+      (function_mark w.numbering (callee_place (scoped_binding w.scoped at))).level = h in
       absurd (cc)
 
   call-found : (t : Target) (k : Static) (n q l : ℕ) → HasTarget w (Call n q l) t → TargetMet w z t k → CallFound w z k n q l
   call-found no_target k n q l h m = absurd h
   call-found (of_name at) k n q l h m = absurd (no-call w.numbering (scoped_binding w.scoped at) n q l h)
   call-found (of_call at first) k n q l h m =
-      let e : Call n q l ≡ Call (name_mark w.numbering at).number (call_number w.numbering first) (function_mark w.numbering (callee_place (scoped_binding w.scoped at))).level = h in
+      let e : Call n q l ≡ Call (name_mark w.numbering at).number (call_number w.numbering first)
+      (function_mark w.numbering (callee_place (scoped_binding w.scoped at))).level = h in
       let name : n ≡ (name_mark w.numbering at).number = cc in
       let place : q ≡ call_number w.numbering first = cc in
       let depth : l ≡ (function_mark w.numbering (callee_place (scoped_binding w.scoped at))).level = cc in
@@ -106,7 +113,8 @@ module _ (w : Numbered) (z : Log) where
       }
 
 -- the scope of a parameter is that of its function
-parameter-of : (ks : List Static) (i s : ℕ) (k : Static) (ns : List (List ℕ)) (ats : List ℕ) (q : Static) → IsParameter i k → IsOpen ks s k → IsOpen ks s (in_body ns ats q) → i < length ats
+parameter-of : (ks : List Static) (i s : ℕ) (k : Static) (ns : List (List ℕ)) (ats : List ℕ) (q : Static) → IsParameter i k → IsOpen ks s k
+    → IsOpen ks s (in_body ns ats q) → i < length ats
 parameter-of ks i s outermost ns ats q p a b = absurd p
 parameter-of ks i s (in_block ds k) ns ats q p a b = absurd p
 parameter-of ks i s (in_function d xs bs k) ns ats q p a b =
@@ -127,7 +135,8 @@ home-passed (current_entry e) k h = tt
 home-passed (called_entry e) k h = tt
 home-passed (parameter_entry i) k h = h
 
-module _ (t : Table) (w : Numbered) (z : Log) (rows : HasRows w z t) (apart : AreApart z.scopes) (numbers : IsNumberingOf (keys_of z) w.numbering) (met : AreMet w z z) (homes : EachRow StandIsAtHome z.names) where
+module _ (t : Table) (w : Numbered) (z : Log) (rows : HasRows w z t) (apart : AreApart z.scopes) (numbers : IsNumberingOf (keys_of z) w.numbering)
+    (met : AreMet w z z) (homes : EachRow StandIsAtHome z.names) where
   abbrev stands : List Stand
   stands = z.names ++ map (λ c. call_row w z.functions c.at) z.calls
 
@@ -146,7 +155,8 @@ module _ (t : Table) (w : Numbered) (z : Log) (rows : HasRows w z t) (apart : Ar
   pub references-lead : ReferencesLead t
   references-lead id s n l e =
       let v = thing-at (IsNodeRow w z.scopes) 0 t.nodes z.nodes id (record { scope = s; node = Refer n l }) rows.nodes e in
-      met-leads s n l v.thing.home v.is.2 (reference-met w z v.thing.target v.thing.home n l v.is.1 (each-at (NodeMet w z) z.nodes id v.thing met.nodes v.there))
+      met-leads s n l v.thing.home v.is.2 (reference-met w z v.thing.target v.thing.home n l v.is.1
+      (each-at (NodeMet w z) z.nodes id v.thing met.nodes v.there))
 
   -- the row of a call's name
   record CalledRow (c : CallStand) (name : ℕ) : Type 0 where
@@ -162,10 +172,12 @@ module _ (t : Table) (w : Numbered) (z : Log) (rows : HasRows w z t) (apart : Ar
       let n : ℕ = length z.names + i in
       let s : Stand = row_of_call w c.at (Some h.function) in
       let there : slice_get stands n ≡ Some s =
-      slice-past z.names _ i ∙ slice_get-map (λ c. call_row w z.functions c.at) z.calls i ∙ ap (option_map (λ c. call_row w z.functions c.at)) e ∙ ap (λ o. Some (row_of_call w c.at o)) h.there in
+      slice-past z.names _ i ∙ slice_get-map (λ c. call_row w z.functions c.at) z.calls i ∙ ap (option_map (λ c. call_row w z.functions c.at)) e
+      ∙ ap (λ o. Some (row_of_call w c.at o)) h.there in
       let r = row-at (λ i r s. IsNameRow z.scopes (nodes_of t) r s) 0 t.names stands n s rows.names there in
       let b = a-body (nodes_of t) r.row.kind (bound_node w h.function.right) r.is.0 in
-      let named : slice_get t.names n ≡ Some (record { scope = r.row.scope; kind = Called b.0 }) = r.there ∙ ap (λ k. Some (record { scope = r.row.scope; kind = k })) b.1 in
+      let named : slice_get t.names n ≡ Some (record { scope = r.row.scope; kind = Called b.0 }) = r.there
+      ∙ ap (λ k. Some (record { scope = r.row.scope; kind = k })) b.1 in
       record { callee = h; inside = r.row.scope; body = b.0; named = named; opens = r.is.1 }
 
   found-leads : (s n q l : ℕ) (k : Static) → IsOpen z.scopes s k → CallFound w z k n q l → CallLeads t s n q l
@@ -184,7 +196,8 @@ module _ (t : Table) (w : Numbered) (z : Log) (rows : HasRows w z t) (apart : Ar
         named = subst (λ y. NameIs t y r.inside (Called r.body)) (sym (f.name_is ∙ m.name)) r.named;
         parent = x.there;
         round = rounds t.scopes z.scopes rows.scopes apart r.callee.function.home x.row.parent x.is.2 f.call.home s r.callee.outside here;
-        depth = subst (HasDepth t.scopes x.row.parent) (sym (f.depth_is ∙ r.callee.deep)) (depths t.scopes z.scopes rows.scopes r.callee.function.home x.row.parent x.is.2);
+        depth = subst (HasDepth t.scopes x.row.parent) (sym (f.depth_is ∙ r.callee.deep))
+            (depths t.scopes z.scopes rows.scopes r.callee.function.home x.row.parent x.is.2);
         row = p.row;
         passed = ap (slice_get t.places) (f.place_is ∙ m.place) ∙ p.there;
         row_scope = apart p.row.scope s (frame f.call.home) p.is.2 here;
@@ -194,14 +207,16 @@ module _ (t : Table) (w : Numbered) (z : Log) (rows : HasRows w z t) (apart : Ar
   pub calls-lead : CallsLead t
   calls-lead id s n q l e =
       let v = thing-at (IsNodeRow w z.scopes) 0 t.nodes z.nodes id (record { scope = s; node = Call n q l }) rows.nodes e in
-      found-leads s n q l v.thing.home v.is.2 (call-found w z v.thing.target v.thing.home n q l v.is.1 (each-at (NodeMet w z) z.nodes id v.thing met.nodes v.there))
+      found-leads s n q l v.thing.home v.is.2 (call-found w z v.thing.target v.thing.home n q l v.is.1
+      (each-at (NodeMet w z) z.nodes id v.thing met.nodes v.there))
 
   call-passed : (c : CallStand) → HasCallee w z c → IsPassed (call_row w z.functions c.at).entry (call_row w z.functions c.at).home
   call-passed c h = subst (λ o. IsPassed (row_of_call w c.at o).entry (row_of_call w c.at o).home) (sym h.there) tt
 
   all-passed : EachRow (λ s. IsPassed s.entry s.home) stands
   all-passed =
-      each-joined (λ s. IsPassed s.entry s.home) z.names _ (each-row StandIsAtHome (λ s. IsPassed s.entry s.home) z.names (λ s h. home-passed s.entry s.home h) homes)
+      each-joined (λ s. IsPassed s.entry s.home) z.names _
+      (each-row StandIsAtHome (λ s. IsPassed s.entry s.home) z.names (λ s h. home-passed s.entry s.home h) homes)
       (each-image (HasCallee w z) (λ s. IsPassed s.entry s.home) (λ c. call_row w z.functions c.at) call-passed z.calls met.calls)
 
   pub places-pass : EachRow (PlaceFits t.nodes) t.places → PlacesPass t
@@ -218,6 +233,13 @@ module _ (t : Table) (w : Numbered) (z : Log) (rows : HasRows w z t) (apart : Ar
         stand = each-at (PlaceFits t.nodes) t.places q r fit e;
         enough = λ n i h.
             let y = thing-at (λ i r s. IsNameRow z.scopes (nodes_of t) r s) 0 t.names stands n (record { scope = x.inside; kind = Parameter i }) rows.names h in
-            let p : IsParameter i y.thing.home = subst (λ d. IsPassed d y.thing.home) (sym y.is.0) (each-at (λ s. IsPassed s.entry s.home) stands n y.thing all-passed y.there) in
-            omega (arith, parameter-of z.scopes i x.inside y.thing.home f.names f.places f.home p y.is.1 x.opens, x.callee.given, count-same w (nodes_of t) r.actuals c.actuals v.is.1);
+            let p : IsParameter i y.thing.home = subst (λ d. IsPassed d y.thing.home) (sym y.is.0)
+            (each-at (λ s. IsPassed s.entry s.home) stands n y.thing all-passed y.there) in
+            omega (
+              arith,
+              parameter-of z.scopes i x.inside y.thing.home f.names f.places f.home p y.is.1 x.opens,
+              x.callee.given,
+              count-same w (nodes_of t)
+                  r.actuals c.actuals v.is.1,
+            );
       }

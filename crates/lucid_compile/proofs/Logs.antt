@@ -32,7 +32,8 @@ call-times : (x : ℕ) (c : CallStand) (l : Log) → times x (calls_at (with_cal
 call-times x c l = ap (times x) (map-append (λ y. y.at) l.calls (c ∷ [])) ∙ times-append x (calls_at l) (c.at ∷ []) ∙ omega arith
 
 site-times : (x : ℕ) (c : CallStand) (l : Log) → times x (sites_at (with_call c l)) ≡ times x (sites_at l) + cond (nat_eq x (first_place c.actuals)) 1 0
-site-times x c l = ap (times x) (map-append (λ y. first_place y.actuals) l.calls (c ∷ [])) ∙ times-append x (sites_at l) (first_place c.actuals ∷ []) ∙ omega arith
+site-times x c l = ap (times x) (map-append (λ y. first_place y.actuals) l.calls (c ∷ [])) ∙ times-append x (sites_at l) (first_place c.actuals ∷ [])
+    ∙ omega arith
 
 function-times : (x : ℕ) (f : FunctionStand) (l : Log) → times x (functions_at (with_function f l)) ≡ times x (functions_at l) + cond (nat_eq x f.at) 1 0
 function-times x f l = ap (times x) (map-append (λ y. y.at) l.functions (f ∷ [])) ∙ times-append x (functions_at l) (f.at ∷ []) ∙ omega arith
@@ -52,33 +53,69 @@ own-first (block at e ds) = refl
 
 module _ (w : Numbered) (x : ℕ) where
   mutual
-    pub names-times : (k : Static) (e : PlainTree) (l : Log) → times x (names_at (added w k e l)) + times x (calls_at (added w k e l)) ≤ times x (names_at l) + times x (calls_at l) + times x (places e)
+    pub names-times : (k : Static) (e : PlainTree) (l : Log)
+        → times x (names_at (added w k e l)) + times x (calls_at (added w k e l)) ≤ times x (names_at l) + times x (calls_at l) + times x (places e)
     names-times k (form at f es) l = omega (arith, all_names-times k es l)
     names-times k (name at n) l = omega arith
     names-times k (call at n es) l =
         let c : CallStand = record { at = at; actuals = es; home = k } in
         omega (arith, all_names-times k es l, call-times x c (added_all w k es l))
     names-times k (block at e ds) l =
-        omega (arith, times-append x (places e) (places_in_defs ds), names-times (in_block ds k) e (opened_block ds k l), def_names-times (in_block ds k) k ds (added w (in_block ds k) e (opened_block ds k l)))
+        omega (
+          arith,
+          times-append x (places e) (places_in_defs ds),
+          names-times (in_block ds k) e (opened_block ds k l),
+          def_names-times (in_block ds k) k ds
+              (added w (in_block ds k) e (opened_block ds k l)),
+        )
 
-    all_names-times : (k : Static) (es : PlainTrees) (l : Log) → times x (names_at (added_all w k es l)) + times x (calls_at (added_all w k es l)) ≤ times x (names_at l) + times x (calls_at l) + times x (places_in es)
+    all_names-times : (k : Static) (es : PlainTrees) (l : Log)
+        → times x (names_at (added_all w k es l)) + times x (calls_at (added_all w k es l)) ≤ times x (names_at l) + times x (calls_at l) + times x
+        (places_in es)
     all_names-times k no_trees l = omega arith
     all_names-times k (tree e es) l = omega (arith, times-append x (places e) (places_in es), names-times k e l, all_names-times k es (added w k e l))
 
-    def_names-times : (k o : Static) (ds : PlainDefs) (l : Log) → times x (names_at (added_defs w k o ds l)) + times x (calls_at (added_defs w k o ds l)) ≤ times x (names_at l) + times x (calls_at l) + times x (places_in_defs ds)
+    def_names-times : (k o : Static) (ds : PlainDefs) (l : Log)
+        → times x (names_at (added_defs w k o ds l)) + times x (calls_at (added_defs w k o ds l)) ≤ times x (names_at l) + times x (calls_at l) + times x
+        (places_in_defs ds)
     def_names-times k o no_defs l = omega arith
     def_names-times k o (defines at n e ds) l =
         let s : Stand = record { at = at; home = k; entry = plain_entry (bound_node w e) } in
-        omega (arith, times-append x (places e) (places_in_defs ds), names-times k e l, stand-times x s (added w k e l), def_names-times k o ds (with_stand s (added w k e l)))
+        omega (
+          arith,
+          times-append x (places e) (places_in_defs ds),
+          names-times k e l,
+          stand-times x s (added w k e l),
+          def_names-times k o ds
+              (with_stand s (added w k e l)),
+        )
     def_names-times k o (defines_function at n ns ats e ds) l =
         let y : Static = in_body ns ats k in
         let f : FunctionStand = record { at = at; first = length l.names; names = ns; places = ats; right = e; home = k } in
         let b : Log = with_parameters y 0 ats (opened_function ns ats k l) in
         let c : Log = added w y e b in
-        omega (arith, times-append x (ats ++ places e) (places_in_defs ds), times-append x ats (places e), ap (times x) (parameters-at y 0 ats (opened_function ns ats k l)), times-append x (names_at l) ats, ap (λ z. times x (map (λ v. v.at) z)) (parameters-calls y 0 ats (opened_function ns ats k l)), names-times y e b, def_names-times k o ds (with_function f c))
+        omega (
+          arith,
+          times-append x (ats ++ places e) (places_in_defs ds),
+          times-append x ats (places e),
+          ap (times x)
+              (parameters-at y 0 ats (opened_function ns ats k l)),
+          times-append x (names_at l) ats,
+          ap (λ z. times x (map (λ v. v.at) z))
+              (parameters-calls y 0 ats (opened_function ns ats k l)),
+          names-times y e b,
+          def_names-times k o ds (with_function f c),
+        )
     def_names-times k o (defines_current at n e ds) l =
         let s : Stand = record { at = at; home = k; entry = current_entry (bound_node w e) } in
-        omega (arith, times-append x (places e) (places_in_defs ds), names-times o e l, stand-times x s (added w o e l), def_names-times k o ds (with_stand s (added w o e l)))
+        omega (
+          arith,
+          times-append x (places e) (places_in_defs ds),
+          names-times o e l,
+          stand-times x s (added w o e l),
+          def_names-times k o ds
+              (with_stand s (added w o e l)),
+        )
 
   mutual
     pub functions-times : (k : Static) (e : PlainTree) (l : Log) → times x (functions_at (added w k e l)) ≤ times x (functions_at l) + times x (places e)
@@ -86,13 +123,27 @@ module _ (w : Numbered) (x : ℕ) where
     functions-times k (name at n) l = omega arith
     functions-times k (call at n es) l = omega (arith, all_functions-times k es l)
     functions-times k (block at e ds) l =
-        omega (arith, times-append x (places e) (places_in_defs ds), functions-times (in_block ds k) e (opened_block ds k l), def_functions-times (in_block ds k) k ds (added w (in_block ds k) e (opened_block ds k l)))
+        omega (
+          arith,
+          times-append x (places e) (places_in_defs ds),
+          functions-times (in_block ds k) e (opened_block ds k l),
+          def_functions-times
+              (in_block ds k) k ds (added w (in_block ds k) e (opened_block ds k l)),
+        )
 
-    all_functions-times : (k : Static) (es : PlainTrees) (l : Log) → times x (functions_at (added_all w k es l)) ≤ times x (functions_at l) + times x (places_in es)
+    all_functions-times : (k : Static) (es : PlainTrees) (l : Log)
+        → times x (functions_at (added_all w k es l)) ≤ times x (functions_at l) + times x (places_in es)
     all_functions-times k no_trees l = omega arith
-    all_functions-times k (tree e es) l = omega (arith, times-append x (places e) (places_in es), functions-times k e l, all_functions-times k es (added w k e l))
+    all_functions-times k (tree e es) l = omega (
+      arith,
+      times-append x (places e) (places_in es),
+      functions-times k e l,
+      all_functions-times k es
+          (added w k e l),
+    )
 
-    def_functions-times : (k o : Static) (ds : PlainDefs) (l : Log) → times x (functions_at (added_defs w k o ds l)) ≤ times x (functions_at l) + times x (places_in_defs ds)
+    def_functions-times : (k o : Static) (ds : PlainDefs) (l : Log)
+        → times x (functions_at (added_defs w k o ds l)) ≤ times x (functions_at l) + times x (places_in_defs ds)
     def_functions-times k o no_defs l = omega arith
     def_functions-times k o (defines at n e ds) l =
         let s : Stand = record { at = at; home = k; entry = plain_entry (bound_node w e) } in
@@ -102,38 +153,94 @@ module _ (w : Numbered) (x : ℕ) where
         let f : FunctionStand = record { at = at; first = length l.names; names = ns; places = ats; right = e; home = k } in
         let b : Log = with_parameters y 0 ats (opened_function ns ats k l) in
         let c : Log = added w y e b in
-        omega (arith, times-append x (ats ++ places e) (places_in_defs ds), times-append x ats (places e), ap (λ z. times x (map (λ v. v.at) z)) (parameters-functions y 0 ats (opened_function ns ats k l)), functions-times y e b, function-times x f c, def_functions-times k o ds (with_function f c))
+        omega (
+          arith,
+          times-append x (ats ++ places e) (places_in_defs ds),
+          times-append x ats (places e),
+          ap (λ z. times x (map (λ v. v.at) z))
+              (parameters-functions y 0 ats (opened_function ns ats k l)),
+          functions-times y e b,
+          function-times x f c,
+          def_functions-times k o ds
+              (with_function f c),
+        )
     def_functions-times k o (defines_current at n e ds) l =
         let s : Stand = record { at = at; home = k; entry = current_entry (bound_node w e) } in
         omega (arith, times-append x (places e) (places_in_defs ds), functions-times o e l, def_functions-times k o ds (with_stand s (added w o e l)))
 
   mutual
-    pub sites-times : (k : Static) (e : PlainTree) (l : Log) → IsTrue (calls_pass_actuals e) → times x (sites_at (added w k e l)) ≤ times x (sites_at l) + times x (below e)
+    pub sites-times : (k : Static) (e : PlainTree) (l : Log) → IsTrue (calls_pass_actuals e)
+        → times x (sites_at (added w k e l)) ≤ times x (sites_at l) + times x (below e)
     sites-times k (form at f es) l h = all_sites-times k es l h
     sites-times k (name at n) l h = omega arith
     sites-times k (call at n no_trees) l h = absurd (cc)
     sites-times k (call at n (tree e es)) l h =
         let c : CallStand = record { at = at; actuals = tree e es; home = k } in
-        omega (arith, ap (times x) (own-first e), times-append x (places e) (places_in es), sites-times k e l (first_true (calls_pass_actuals e) _ h), all_sites-times k es (added w k e l) (second_true (calls_pass_actuals e) _ h), site-times x c (added_all w k (tree e es) l))
+        omega (
+          arith,
+          ap (times x) (own-first e),
+          times-append x (places e) (places_in es),
+          sites-times k e l (first_true (calls_pass_actuals e) _ h),
+          all_sites-times k es (added w k e l) (second_true (calls_pass_actuals e) _ h),
+          site-times x c (added_all w k (tree e es) l),
+        )
     sites-times k (block at e ds) l h =
-        omega (arith, ap (times x) (own-first e), times-append x (places e) (places_in_defs ds), sites-times (in_block ds k) e (opened_block ds k l) (first_true (calls_pass_actuals e) _ h), def_sites-times (in_block ds k) k ds (added w (in_block ds k) e (opened_block ds k l)) (second_true (calls_pass_actuals e) _ h))
+        omega (
+          arith,
+          ap (times x) (own-first e),
+          times-append x (places e) (places_in_defs ds),
+          sites-times (in_block ds k) e (opened_block ds k l)
+              (first_true (calls_pass_actuals e) _ h),
+          def_sites-times (in_block ds k) k ds (added w (in_block ds k) e (opened_block ds k l))
+              (second_true (calls_pass_actuals e) _ h),
+        )
 
-    all_sites-times : (k : Static) (es : PlainTrees) (l : Log) → IsTrue (all_pass_actuals es) → times x (sites_at (added_all w k es l)) ≤ times x (sites_at l) + times x (places_in es)
+    all_sites-times : (k : Static) (es : PlainTrees) (l : Log) → IsTrue (all_pass_actuals es)
+        → times x (sites_at (added_all w k es l)) ≤ times x (sites_at l) + times x (places_in es)
     all_sites-times k no_trees l h = omega arith
     all_sites-times k (tree e es) l h =
-        omega (arith, ap (times x) (own-first e), times-append x (places e) (places_in es), sites-times k e l (first_true (calls_pass_actuals e) _ h), all_sites-times k es (added w k e l) (second_true (calls_pass_actuals e) _ h))
+        omega (
+          arith,
+          ap (times x) (own-first e),
+          times-append x (places e) (places_in es),
+          sites-times k e l (first_true (calls_pass_actuals e) _ h),
+          all_sites-times k es (added w k e l) (second_true (calls_pass_actuals e) _ h),
+        )
 
-    def_sites-times : (k o : Static) (ds : PlainDefs) (l : Log) → IsTrue (defs_pass_actuals ds) → times x (sites_at (added_defs w k o ds l)) ≤ times x (sites_at l) + times x (places_in_defs ds)
+    def_sites-times : (k o : Static) (ds : PlainDefs) (l : Log) → IsTrue (defs_pass_actuals ds)
+        → times x (sites_at (added_defs w k o ds l)) ≤ times x (sites_at l) + times x (places_in_defs ds)
     def_sites-times k o no_defs l h = omega arith
     def_sites-times k o (defines at n e ds) l h =
         let s : Stand = record { at = at; home = k; entry = plain_entry (bound_node w e) } in
-        omega (arith, ap (times x) (own-first e), times-append x (places e) (places_in_defs ds), sites-times k e l (first_true (calls_pass_actuals e) _ h), def_sites-times k o ds (with_stand s (added w k e l)) (second_true (calls_pass_actuals e) _ h))
+        omega (
+          arith,
+          ap (times x) (own-first e),
+          times-append x (places e) (places_in_defs ds),
+          sites-times k e l (first_true (calls_pass_actuals e) _ h),
+          def_sites-times k o ds (with_stand s (added w k e l)) (second_true (calls_pass_actuals e) _ h),
+        )
     def_sites-times k o (defines_function at n ns ats e ds) l h =
         let y : Static = in_body ns ats k in
         let f : FunctionStand = record { at = at; first = length l.names; names = ns; places = ats; right = e; home = k } in
         let b : Log = with_parameters y 0 ats (opened_function ns ats k l) in
         let c : Log = added w y e b in
-        omega (arith, ap (times x) (own-first e), times-append x (ats ++ places e) (places_in_defs ds), times-append x ats (places e), ap (λ z. times x (map (λ v. first_place v.actuals) z)) (parameters-calls y 0 ats (opened_function ns ats k l)), sites-times y e b (first_true (calls_pass_actuals e) _ h), def_sites-times k o ds (with_function f c) (second_true (calls_pass_actuals e) _ h))
+        omega (
+          arith,
+          ap (times x) (own-first e),
+          times-append x (ats ++ places e) (places_in_defs ds),
+          times-append x ats (places e),
+          ap
+              (λ z. times x (map (λ v. first_place v.actuals) z)) (parameters-calls y 0 ats (opened_function ns ats k l)),
+          sites-times y e b
+              (first_true (calls_pass_actuals e) _ h),
+          def_sites-times k o ds (with_function f c) (second_true (calls_pass_actuals e) _ h),
+        )
     def_sites-times k o (defines_current at n e ds) l h =
         let s : Stand = record { at = at; home = k; entry = current_entry (bound_node w e) } in
-        omega (arith, ap (times x) (own-first e), times-append x (places e) (places_in_defs ds), sites-times o e l (first_true (calls_pass_actuals e) _ h), def_sites-times k o ds (with_stand s (added w o e l)) (second_true (calls_pass_actuals e) _ h))
+        omega (
+          arith,
+          ap (times x) (own-first e),
+          times-append x (places e) (places_in_defs ds),
+          sites-times o e l (first_true (calls_pass_actuals e) _ h),
+          def_sites-times k o ds (with_stand s (added w o e l)) (second_true (calls_pass_actuals e) _ h),
+        )

@@ -27,13 +27,15 @@ pub record Marked (f before : ℕ → Option Mark) (start : ℕ) (ks : List Key)
   pub others : (at : ℕ) → ((k : ℕ) (d : Key) → k < i → (get_or ks k d).at ≡ at → ⊥) → f at ≡ before at
 
 -- one key more
-pub mark-more : (before old new : ℕ → Option Mark) (start : ℕ) (ks : List Key) (i : ℕ) (x : Key) (m : Mark) → AllDiffer (map key_at ks) → i < length ks → x ≡ get_or ks i x → m ≡ mark_by (start + i) x
+pub mark-more : (before old new : ℕ → Option Mark) (start : ℕ) (ks : List Key) (i : ℕ) (x : Key) (m : Mark) → AllDiffer (map key_at ks) → i < length ks
+    → x ≡ get_or ks i x → m ≡ mark_by (start + i) x
     → ((q : ℕ) → new q ≡ cond (nat_eq x.at q) (Some m) (old q)) → Marked old before start ks i → Marked new before start ks (i + 1)
 mark-more before old new start ks i x m differ lt is mark updates b = record {
   marked = λ k d h. elim (at-last k i h) [
     | inl l ↦
         updates (get_or ks k d).at
-        ∙ other-key x.at (get_or ks k d).at (Some m) (old (get_or ks k d).at) (λ e. apart ks differ k i d x l lt (sym e ∙ ap key_at is)) (nat_eq x.at (get_or ks k d).at) refl
+        ∙ other-key x.at (get_or ks k d).at (Some m) (old (get_or ks k d).at) (λ e. apart ks differ k i d x l lt (sym e ∙ ap key_at is))
+        (nat_eq x.at (get_or ks k d).at) refl
         ∙ b.marked k d l
     | inr e ↦
         let here : get_or ks k d ≡ x = ap (λ j. get_or ks j d) e ∙ get_or_default ks i d x lt ∙ sym is in
@@ -71,6 +73,8 @@ pub rest-differs : (a b : List Key) → AllDiffer (map key_at (a ++ b)) → AllD
 rest-differs a b h = differ-right (map key_at a) (map key_at b) (subst AllDiffer (map-append key_at a b) h)
 
 -- marks stay where others are added
-pub marks-stay : (f g : ℕ → Option Mark) (start : ℕ) (a b : List Key) → AllDiffer (map key_at (a ++ b)) → AreMarked f start a → ((at : ℕ) → (In at (map key_at b) → ⊥) → g at ≡ f at) → AreMarked g start a
+pub marks-stay : (f g : ℕ → Option Mark) (start : ℕ) (a b : List Key) → AllDiffer (map key_at (a ++ b)) → AreMarked f start a
+    → ((at : ℕ) → (In at (map key_at b) → ⊥) → g at ≡ f at) → AreMarked g start a
 marks-stay f g start a b h m others = λ i d l.
-    others (get_or a i d).at (λ j. differ-apart (map key_at a) (map key_at b) (subst AllDiffer (map-append key_at a b) h) (get_or a i d).at (stands a i d l) j) ∙ m i d l
+    others (get_or a i d).at (λ j. differ-apart (map key_at a) (map key_at b) (subst AllDiffer (map-append key_at a b) h) (get_or a i d).at (stands a i d l) j)
+    ∙ m i d l

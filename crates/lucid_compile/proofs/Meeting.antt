@@ -31,13 +31,15 @@ function-outside xs bs k (parameter d i p q) h = inr h
 function-outside xs bs k (current_name d e q o) h = inr h
 function-outside xs bs k (function d ns ats e q) h = inr h
 
-defined-outside : (f : Found) (ds : PlainDefs) (k : Static) (m : Meaning) → MeaningOutside (forget k) m → MeaningOutside (in_block ds (forget k)) (defined_in f (in_block ds k) k m)
+defined-outside : (f : Found) (ds : PlainDefs) (k : Static) (m : Meaning) → MeaningOutside (forget k) m
+    → MeaningOutside (in_block ds (forget k)) (defined_in f (in_block ds k) k m)
 defined-outside absent ds k m h = block-outside ds (forget k) m h
 defined-outside (plain_def at e) ds k m h = inl refl
 defined-outside (function_def at ns ats e) ds k m h = inl refl
 defined-outside (current_def at e) ds k m h = inl refl
 
-parameter-outside : (o : Option ℕ) (d : ℕ) (xs : List (List ℕ)) (ats : List ℕ) (k : Static) (m : Meaning) → MeaningOutside (forget k) m → MeaningOutside (in_body xs ats (forget k)) (parameter_in o d ats (in_function d xs ats k) m)
+parameter-outside : (o : Option ℕ) (d : ℕ) (xs : List (List ℕ)) (ats : List ℕ) (k : Static) (m : Meaning) → MeaningOutside (forget k) m
+    → MeaningOutside (in_body xs ats (forget k)) (parameter_in o d ats (in_function d xs ats k) m)
 parameter-outside None d xs ats k m h = function-outside xs ats (forget k) m h
 parameter-outside (Some i) d xs ats k m h = inl refl
 
@@ -77,15 +79,25 @@ pub record CallStands (z : Log) (home : Static) (at first : ℕ) : Type 0 where
 
 module _ (w : Numbered) (z : Log) where
   -- a name that is bound, at no fault
-  name-met : (at : ℕ) (x : List ℕ) (k : Static) (b : Option Binding) (m : Meaning) → b ≡ Some (binding_of (scoped_inputs w.scoped) x m) → name_fault at m ≡ None → (m ≡ free → slice_get (scoped_inputs w.scoped) (position_or_len (same_name x) (scoped_inputs w.scoped)) ≡ Some x)
+  name-met : (at : ℕ) (x : List ℕ) (k : Static) (b : Option Binding) (m : Meaning) → b ≡ Some (binding_of (scoped_inputs w.scoped) x m) → name_fault at m ≡ None
+      → (m ≡ free → slice_get (scoped_inputs w.scoped) (position_or_len (same_name x) (scoped_inputs w.scoped)) ≡ Some x)
       → MeaningKnown w.numbering z.names z.functions Nothing m → MeaningOutside k m → NameLeads z (length (scoped_inputs w.scoped)) k (node_by w.numbering b)
-  name-met at x k b free e f l h o = subst (λ v. NameLeads z (length (scoped_inputs w.scoped)) k (node_by w.numbering v)) (sym e) (index-below (scoped_inputs w.scoped) _ x (l refl))
+  name-met at x k b free e f l h o = subst (λ v. NameLeads z (length (scoped_inputs w.scoped)) k (node_by w.numbering v)) (sym e)
+      (index-below (scoped_inputs w.scoped) _ x (l refl))
   name-met at x k b (plain_name d t q) e f l h o =
-      subst (λ v. NameLeads z (length (scoped_inputs w.scoped)) k (node_by w.numbering v)) (sym e) (record { stand = record { at = d; home = forget q; entry = h.entry }; there = h.found; outside = o; deep = sym h.depth })
+      subst (λ v. NameLeads z (length (scoped_inputs w.scoped)) k (node_by w.numbering v)) (sym e)
+      (record { stand = record { at = d; home = forget q; entry = h.entry }; there = h.found; outside = o; deep = sym h.depth })
   name-met at x k b (parameter d i p q) e f l h o =
-      subst (λ v. NameLeads z (length (scoped_inputs w.scoped)) k (node_by w.numbering v)) (sym e) (record { stand = record { at = p; home = forget q; entry = h.2.entry }; there = ap (slice_get z.names) (sym h.0) ∙ h.2.found; outside = o; deep = sym h.1 })
+      subst (λ v. NameLeads z (length (scoped_inputs w.scoped)) k (node_by w.numbering v)) (sym e)
+      (record {
+        stand = record { at = p; home = forget q; entry = h.2.entry };
+        there = ap (slice_get z.names) (sym h.0) ∙ h.2.found;
+        outside = o;
+        deep = sym h.1;
+      })
   name-met at x k b (current_name d t q r) e f l h o =
-      subst (λ v. NameLeads z (length (scoped_inputs w.scoped)) k (node_by w.numbering v)) (sym e) (record { stand = record { at = d; home = forget q; entry = h.entry }; there = h.found; outside = o; deep = sym h.depth })
+      subst (λ v. NameLeads z (length (scoped_inputs w.scoped)) k (node_by w.numbering v)) (sym e)
+      (record { stand = record { at = d; home = forget q; entry = h.entry }; there = h.found; outside = o; deep = sym h.depth })
   name-met at x k b (function d ns ats t q) e f l h o = absurd (not_some _ f)
 
   as_given : (at n m : ℕ) (b : Bool) → nat_eq m n ≡ b → (if b then None else Some (Arity at m n)) ≡ None → n ≡ m
@@ -93,7 +105,8 @@ module _ (w : Numbered) (z : Log) where
   as_given at n m false q e = absurd (not_some _ e)
 
   -- a call that is bound, at no fault
-  call-met : (at : ℕ) (x : List ℕ) (es : PlainTrees) (k : Static) (m : Meaning) → scoped_binding w.scoped at ≡ Some (binding_of (scoped_inputs w.scoped) x m) → call_fault at (count es) m ≡ None → MeaningKnown w.numbering z.names z.functions Nothing m → MeaningOutside k m
+  call-met : (at : ℕ) (x : List ℕ) (es : PlainTrees) (k : Static) (m : Meaning) → scoped_binding w.scoped at ≡ Some (binding_of (scoped_inputs w.scoped) x m)
+      → call_fault at (count es) m ≡ None → MeaningKnown w.numbering z.names z.functions Nothing m → MeaningOutside k m
       → HasCallee w z (record { at = at; actuals = es; home = k })
   call-met at x es k free e f h o = absurd (not_some _ f)
   call-met at x es k (plain_name d t q) e f h o = absurd (not_some _ f)
@@ -139,7 +152,8 @@ module _ (w : Numbered) (z : Log) (whole : IsWhole w z) where
   }
 
   mutual
-    pub tree-met : (k : Static) (e : PlainTree) (a : Log) → AreFit w (sites k e) → Known w.numbering z.names z.functions Nothing k → Within (added w (forget k) e a) z → AreMet w z a → AreMet w z (added w (forget k) e a)
+    pub tree-met : (k : Static) (e : PlainTree) (a : Log) → AreFit w (sites k e) → Known w.numbering z.names z.functions Nothing k
+        → Within (added w (forget k) e a) z → AreMet w z a → AreMet w z (added w (forget k) e a)
     tree-met k (form at f es) a h s i m =
         let r = trees-met k es a h s (before-nodes _ _ z i) m in
         record { calls = r.calls; nodes = each-one (NodeMet w z) _ (form_stand (forget k)) r.nodes tt }
@@ -147,7 +161,9 @@ module _ (w : Numbered) (z : Log) (whole : IsWhole w z) where
         let fit = h (named at x k) (inl refl) in
         record {
           calls = m.calls;
-          nodes = each-one (NodeMet w z) a.nodes (name_stand (forget k) at) m.nodes (name-met w z at x (forget k) (scoped_binding w.scoped at) (meaning x k) fit.0 fit.1 fit.2 (meaning-known w.numbering z.names z.functions Nothing x k s) (meaning-outside x k));
+          nodes = each-one (NodeMet w z) a.nodes (name_stand (forget k) at) m.nodes
+              (name-met w z at x (forget k) (scoped_binding w.scoped at) (meaning x k) fit.0 fit.1 fit.2
+              (meaning-known w.numbering z.names z.functions Nothing x k s) (meaning-outside x k));
         }
     tree-met k (call at x es) a h s i m =
         let fit = h (called at x (count es) k) (inl refl) in
@@ -156,8 +172,10 @@ module _ (w : Numbered) (z : Log) (whole : IsWhole w z) where
         let j : Within (with_call c b) z = before-nodes _ _ z i in
         let r = trees-met k es a (λ y q. h y (inr q)) s (within-then b (with_call c b) z (within-call c b) j) m in
         record {
-          calls = each-one (HasCallee w z) b.calls c r.calls (call-met w z at x es (forget k) (meaning x k) fit.0 fit.1 (meaning-known w.numbering z.names z.functions Nothing x k s) (meaning-outside x k));
-          nodes = each-one (NodeMet w z) b.nodes (call_stand (forget k) at (first_place es)) r.nodes (record { call = c; inside = j.calls c (in_right c b.calls (c ∷ []) (inl refl)); place = refl; first_is = refl; home_is = refl });
+          calls = each-one (HasCallee w z) b.calls c r.calls
+              (call-met w z at x es (forget k) (meaning x k) fit.0 fit.1 (meaning-known w.numbering z.names z.functions Nothing x k s) (meaning-outside x k));
+          nodes = each-one (NodeMet w z) b.nodes (call_stand (forget k) at (first_place es)) r.nodes
+              (record { call = c; inside = j.calls c (in_right c b.calls (c ∷ []) (inl refl)); place = refl; first_is = refl; home_is = refl });
         }
     tree-met k (block at e ds) a h s i m =
         let q : Static = in_block ds k in
@@ -166,18 +184,24 @@ module _ (w : Numbered) (z : Log) (whole : IsWhole w z) where
         let on : Within (added_defs w (forget q) (forget k) ds b) z = before-nodes _ _ z i in
         let outside = fit-left w (outside_sites k ds) _ h in
         let inside = fit-right w (outside_sites k ds) _ h in
-        let known : Known w.numbering z.names z.functions Nothing q = (defs-known w z whole Nothing (forget q) (forget k) ds b on (no-rights w z whole (forget q) ds), s) in
-        let first : AreMet w z b = tree-met q e u (fit-left w (sites q e) _ inside) known (within-then b _ z (within-defs w (forget q) (forget k) ds b) on) (record { calls = m.calls; nodes = m.nodes }) in
+        let known : Known w.numbering z.names z.functions Nothing q =
+        (defs-known w z whole Nothing (forget q) (forget k) ds b on (no-rights w z whole (forget q) ds), s) in
+        let first : AreMet w z b = tree-met q e u (fit-left w (sites q e) _ inside) known (within-then b _ z (within-defs w (forget q) (forget k) ds b) on)
+        (record { calls = m.calls; nodes = m.nodes }) in
         let r = defs-met q k no_names ds b outside (fit-right w (sites q e) _ inside) known s known.0 on first in
         record { calls = r.calls; nodes = block-met w z (freezes ds) (forget k) _ r.nodes }
 
-    trees-met : (k : Static) (es : PlainTrees) (a : Log) → AreFit w (sites_in k es) → Known w.numbering z.names z.functions Nothing k → Within (added_all w (forget k) es a) z → AreMet w z a → AreMet w z (added_all w (forget k) es a)
+    trees-met : (k : Static) (es : PlainTrees) (a : Log) → AreFit w (sites_in k es) → Known w.numbering z.names z.functions Nothing k
+        → Within (added_all w (forget k) es a) z → AreMet w z a → AreMet w z (added_all w (forget k) es a)
     trees-met k no_trees a h s i m = m
     trees-met k (tree e es) a h s i m =
         let b : Log = added w (forget k) e a in
-        trees-met k es b (fit-right w (sites k e) (sites_in k es) h) s i (tree-met k e a (fit-left w (sites k e) (sites_in k es) h) s (within-then b _ z (within-trees w (forget k) es b) i) m)
+        trees-met k es b (fit-right w (sites k e) (sites_in k es) h) s i
+        (tree-met k e a (fit-left w (sites k e) (sites_in k es) h) s (within-then b _ z (within-trees w (forget k) es b) i) m)
 
-    defs-met : (k q : Static) (earlier : Earlier) (ds : PlainDefs) (a : Log) → AreFit w (outside_sites q ds) → AreFit w (inside_sites k earlier ds) → Known w.numbering z.names z.functions Nothing k → Known w.numbering z.names z.functions Nothing q → DefsKnown w.numbering z.names z.functions Nothing (forget k) ds
+    defs-met : (k q : Static) (earlier : Earlier) (ds : PlainDefs) (a : Log) → AreFit w (outside_sites q ds) → AreFit w (inside_sites k earlier ds)
+        → Known w.numbering z.names z.functions Nothing k → Known w.numbering z.names z.functions Nothing q
+        → DefsKnown w.numbering z.names z.functions Nothing (forget k) ds
         → Within (added_defs w (forget k) (forget q) ds a) z → AreMet w z a → AreMet w z (added_defs w (forget k) (forget q) ds a)
     defs-met k q earlier no_defs a out h s t d i m = m
     defs-met k q earlier (defines at x e ds) a out h s t d i m =
@@ -207,4 +231,5 @@ module _ (w : Numbered) (z : Log) (whole : IsWhole w z) where
         let b : Log = with_stand v c in
         let on : Within b z = within-then b _ z (within-defs w (forget k) (forget q) ds b) i in
         let r = tree-met q e a (fit-left w (sites q e) _ out) t (within-then c b z (within-stand v c) on) m in
-        defs-met k q (also x earlier) ds b (fit-right w (sites q e) _ out) (fit-right w (again_if (earlier x) at) _ h) s t d.1 i (record { calls = r.calls; nodes = r.nodes })
+        defs-met k q (also x earlier) ds b (fit-right w (sites q e) _ out) (fit-right w (again_if (earlier x) at) _ h) s t d.1 i
+        (record { calls = r.calls; nodes = r.nodes })

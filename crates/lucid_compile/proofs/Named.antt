@@ -18,7 +18,8 @@ named-filled g None = tt
 named-filled g (Some (PlainName d)) = tt
 named-filled g _ = tt
 
-pub named-means : (vs : List PlainValue) (inputs : List (List ℕ)) (ts : List PlainNode) (g : Numbering) (b : Option Binding) → as_node vs inputs ts (node_by g b) ≡ reference (reference_by g inputs b)
+pub named-means : (vs : List PlainValue) (inputs : List (List ℕ)) (ts : List PlainNode) (g : Numbering) (b : Option Binding)
+    → as_node vs inputs ts (node_by g b) ≡ reference (reference_by g inputs b)
 named-means vs inputs ts g None = refl
 named-means vs inputs ts g (Some (PlainName d)) = refl
 named-means vs inputs ts g _ = refl

@@ -45,7 +45,8 @@ module _ (nu : Numbers) where
   contexts-met (referred k x u s ∷ es) = contexts-met es
   contexts-met (entered f ∷ es) = ap (λ zs. context_for nu f ∷ zs) (contexts-met es)
 
-  valued-cons : (k : Referent) (s : ℕ) (o : Option PlainValue) (xs : List (Referent × ℕ × PlainValue)) → cons_option (option_map (λ v. (daton_of nu k, s, v)) o) (map valued_daton xs) ≡ map valued_daton (cons_option (option_map (λ v. (k, s, v)) o) xs)
+  valued-cons : (k : Referent) (s : ℕ) (o : Option PlainValue) (xs : List (Referent × ℕ × PlainValue))
+      → cons_option (option_map (λ v. (daton_of nu k, s, v)) o) (map valued_daton xs) ≡ map valued_daton (cons_option (option_map (λ v. (k, s, v)) o) xs)
   valued-cons k s None xs = refl
   valued-cons k s (Some v) xs = refl
 
@@ -69,7 +70,8 @@ module _ (nu : Numbers) (so : Source) (p : Equations) (e : PlainTree) (c : Compi
   entries-placed m d points =
       each-flat PlacedEntry (λ x. refers b m d e empty x.0 x.1) (λ x. placed-met (seen b m d e empty x.0 x.1) (all-met m d x.0 x.1)) points
 
-  placed-cons : (k : Referent) (s : ℕ) (o : Option PlainValue) (xs : List (Referent × ℕ × PlainValue)) → Placed nu so p k → Each PlacedValue xs → Each PlacedValue (cons_option (option_map (λ v. (k, s, v)) o) xs)
+  placed-cons : (k : Referent) (s : ℕ) (o : Option PlainValue) (xs : List (Referent × ℕ × PlainValue)) → Placed nu so p k → Each PlacedValue xs
+      → Each PlacedValue (cons_option (option_map (λ v. (k, s, v)) o) xs)
   placed-cons k s None xs h r = r
   placed-cons k s (Some v) xs h r = (h, r)
 
@@ -80,14 +82,17 @@ module _ (nu : Numbers) (so : Source) (p : Equations) (e : PlainTree) (c : Compi
   abbrev node_values : ℕ → NodePosition → (t s : ℕ) → Option PlainValue
   node_values m x t s = node_val p b m x.node x.context t s
 
-  value-same : (m : ℕ) (x : Position) (u s : ℕ) → Good nu so p x.env → Kept nu so p (static_of x.env) x.tree → node_values m (position_for nu x) u s ≡ tree_values m x u s
+  value-same : (m : ℕ) (x : Position) (u s : ℕ) → Good nu so p x.env → Kept nu so p (static_of x.env) x.tree
+      → node_values m (position_for nu x) u s ≡ tree_values m x u s
   value-same m x u s g k = sym (hval-same nu so p b (λ j r. None) (λ j r. None) (λ j r i. refl) m x.tree x.env u s g k)
 
-  values-met : (m : ℕ) (es : Events) → Each (Met nu so p) es → filter_map (valued_of (node_values m)) (map (event_of nu) es) ≡ map (valued_daton nu) (filter_map (valued_of (tree_values m)) es)
+  values-met : (m : ℕ) (es : Events) → Each (Met nu so p) es
+      → filter_map (valued_of (node_values m)) (map (event_of nu) es) ≡ map (valued_daton nu) (filter_map (valued_of (tree_values m)) es)
   values-met m [] h = refl
   values-met m (looked_up n j ∷ es) h = values-met m es h.1
   values-met m (referred k x u s ∷ es) h =
-      (λ i. cons_option (option_map (λ v. (daton_of nu k, s, v)) (value-same m x u s h.0.1 h.0.2 i)) (values-met m es h.1 i)) ∙ valued-cons nu k s (tree_values m x u s) (filter_map (valued_of (tree_values m)) es)
+      (λ i. cons_option (option_map (λ v. (daton_of nu k, s, v)) (value-same m x u s h.0.1 h.0.2 i)) (values-met m es h.1 i))
+      ∙ valued-cons nu k s (tree_values m x u s) (filter_map (valued_of (tree_values m)) es)
   values-met m (entered f ∷ es) h = values-met m es h.1
 
   placed-values : (m : ℕ) (es : Events) → Each (Met nu so p) es → Each PlacedValue (filter_map (valued_of (tree_values m)) es)
@@ -107,17 +112,24 @@ module _ (nu : Numbers) (so : Source) (p : Equations) (e : PlainTree) (c : Compi
   -- the datons are those of the entries, one by one
   pub datons-are : (m d : ℕ) (points : Points) → datons p b m d points ≡ map (entry_daton nu) (entries b m d e points)
   datons-are m d points =
-      flat_same (λ x. visited_datons p b m d x.0 x.1) (λ x. map (entry_daton nu) (refers b m d e empty x.0 x.1)) (λ x. ap (filter_map reference_of) (visits-same nu so p e c b m d x.0 x.1) ∙ datons-met nu (seen b m d e empty x.0 x.1)) points ∙ flat_map_map (entry_daton nu) (λ x. refers b m d e empty x.0 x.1) points
+      flat_same (λ x. visited_datons p b m d x.0 x.1) (λ x. map (entry_daton nu) (refers b m d e empty x.0 x.1))
+      (λ x. ap (filter_map reference_of) (visits-same nu so p e c b m d x.0 x.1) ∙ datons-met nu (seen b m d e empty x.0 x.1)) points
+      ∙ flat_map_map (entry_daton nu) (λ x. refers b m d e empty x.0 x.1) points
 
   -- and have the same values
   pub valued_datons-are : (m : ℕ) (points : Points) → valued_datons p b m points ≡ map (valued_daton nu) (valued_entries b m e points)
   valued_datons-are m points =
-      flat_same (λ x. visited_values p b m x.0 x.1) (λ x. map (valued_daton nu) (refers_with_values b m e empty x.0 x.1)) (λ x. ap (filter_map (valued_of (node_values m))) (visits-same nu so p e c b m 0 x.0 x.1) ∙ values-met m (seen b m 0 e empty x.0 x.1) (all-met m 0 x.0 x.1)) points ∙ flat_map_map (valued_daton nu) (λ x. refers_with_values b m e empty x.0 x.1) points
+      flat_same (λ x. visited_values p b m x.0 x.1) (λ x. map (valued_daton nu) (refers_with_values b m e empty x.0 x.1))
+      (λ x. ap (filter_map (valued_of (node_values m))) (visits-same nu so p e c b m 0 x.0 x.1)
+      ∙ values-met m (seen b m 0 e empty x.0 x.1) (all-met m 0 x.0 x.1)) points
+      ∙ flat_map_map (valued_daton nu) (λ x. refers_with_values b m e empty x.0 x.1) points
 
   -- the contexts are those of the environments, one by one
   pub contexts-are : (m d : ℕ) (points : Points) → contexts p b m d points ≡ map (context_for nu) (environments b m d e points)
   contexts-are m d points =
-      flat_same (λ x. visited_contexts p b m d x.0 x.1) (λ x. map (context_for nu) (enters b m d e empty x.0 x.1)) (λ x. ap (filter_map entered_of) (visits-same nu so p e c b m d x.0 x.1) ∙ contexts-met nu (seen b m d e empty x.0 x.1)) points ∙ flat_map_map (context_for nu) (λ x. enters b m d e empty x.0 x.1) points
+      flat_same (λ x. visited_contexts p b m d x.0 x.1) (λ x. map (context_for nu) (enters b m d e empty x.0 x.1))
+      (λ x. ap (filter_map entered_of) (visits-same nu so p e c b m d x.0 x.1) ∙ contexts-met nu (seen b m d e empty x.0 x.1)) points
+      ∙ flat_map_map (context_for nu) (λ x. enters b m d e empty x.0 x.1) points
 
   entry-one : (x y : Referent × ℕ) → PlacedEntry x → PlacedEntry y → entry_daton nu x ≡ entry_daton nu y → x ≡ y
   entry-one x y h g q = λ i. (daton-one nu so p x.0 y.0 h g (ap (λ z. z.0) q) i, (q i).1)
@@ -132,7 +144,8 @@ module _ (nu : Numbers) (so : Source) (p : Equations) (e : PlainTree) (c : Compi
 
   pub no_more : (m d : ℕ) (points : Points) (n : ℕ) → HasDistinct (datons p b m d points) n → HasDistinct (entries b m d e points) n
   no_more m d points n h =
-      distinct-before_map (entry_daton nu) (entries b m d e points) n (one-on (entries b m d e points) (entries-placed m d points)) (subst (λ z. HasDistinct z n) (datons-are m d points) h)
+      distinct-before_map (entry_daton nu) (entries b m d e points) n (one-on (entries b m d e points) (entries-placed m d points))
+      (subst (λ z. HasDistinct z n) (datons-are m d points) h)
 
   -- at most as many different contexts as different environments
   pub no_more_contexts : (m d : ℕ) (points : Points) (n k : ℕ) → HasDistinct (environments b m d e points) n → HasDistinct (contexts p b m d points) k → k ≤ n

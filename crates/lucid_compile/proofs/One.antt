@@ -60,15 +60,19 @@ module _ (nu : Numbers) (so : Source) (p : Equations) where
   ctx-one (scope ds None rest) (scope ds' None rest') g g' h c =
       λ i. scope (defs_in (h i)) None (ctx-one rest rest' g.2 g'.2 (ap outer_of h) c i)
   ctx-one (scope ds None rest) (scope ds' (Some u) rest') g g' h c = absurd (clash (freezes ds) (freezes ds') u g.0 g'.0 (ap (λ k. freezes (defs_in k)) h))
-  ctx-one (scope ds (Some u) rest) (scope ds' None rest') g g' h c = absurd (clash (freezes ds') (freezes ds) u g'.0 g.0 (sym (ap (λ k. freezes (defs_in k)) h)))
+  ctx-one (scope ds (Some u) rest) (scope ds' None rest') g g' h c =
+      absurd (clash (freezes ds') (freezes ds) u g'.0 g.0 (sym (ap (λ k. freezes (defs_in k)) h)))
   ctx-one (scope ds (Some u) rest) (scope ds' (Some u') rest') g g' h c =
       λ i. scope (defs_in (h i)) (Some (time_in (c i))) (ctx-one rest rest' g.2 g'.2 (ap outer_of h) (ap rest_of c) i)
   ctx-one (args ns ats es caller rest) (args ns' ats' es' caller' rest') g g' h c =
-      let site : record { actuals = es; caller = static_of caller } ≡ record { actuals = es'; caller = static_of caller' } = sym g.1.1 ∙ ap (λ x. so.site (place_in x)) c ∙ g'.1.1 in
-      λ i. args (names_in (h i)) (places_in (h i)) (site i).actuals (ctx-one caller caller' g.3 g'.3 (ap (λ x. x.caller) site) (ap caller_in c) i) (ctx-one rest rest' g.4 g'.4 (ap outer_of h) (ap rest_of c) i)
+      let site : record { actuals = es; caller = static_of caller } ≡ record { actuals = es'; caller = static_of caller' } = sym g.1.1
+      ∙ ap (λ x. so.site (place_in x)) c ∙ g'.1.1 in
+      λ i. args (names_in (h i)) (places_in (h i)) (site i).actuals (ctx-one caller caller' g.3 g'.3 (ap (λ x. x.caller) site) (ap caller_in c) i)
+      (ctx-one rest rest' g.4 g'.4 (ap outer_of h) (ap rest_of c) i)
 
   -- one daton for one entry
   pub daton-one : (k k' : Referent) → Placed nu so p k → Placed nu so p k' → daton_of nu k ≡ daton_of nu k' → k ≡ k'
   daton-one k k' h h' e =
-      let origin : record { at = k.at; home = static_of k.env } ≡ record { at = k'.at; home = static_of k'.env } = sym h.0 ∙ ap (λ d. so.origin d.name) e ∙ h'.0 in
+      let origin : record { at = k.at; home = static_of k.env } ≡ record { at = k'.at; home = static_of k'.env } = sym h.0 ∙ ap (λ d. so.origin d.name) e
+      ∙ h'.0 in
       λ i. record { at = (origin i).at; env = ctx-one k.env k'.env h.1 h'.1 (ap (λ o. o.home) origin) (ap (λ d. d.context) e) i; time = (e i).time }

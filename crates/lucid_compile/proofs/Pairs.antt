@@ -13,7 +13,8 @@ pub record ThingAt {A B : Type 0} (P : ℕ → A → B → Type 0) (ss : List B)
   pub is : P (i + j) r thing
 
 module _ {A B : Type 0} (P : ℕ → A → B → Type 0) where
-  pub pairs-join : (i : ℕ) (rs : List A) (ss : List B) (qs : List A) (ts : List B) → OneForOne P i rs ss → OneForOne P (i + length rs) qs ts → OneForOne P i (rs ++ qs) (ss ++ ts)
+  pub pairs-join : (i : ℕ) (rs : List A) (ss : List B) (qs : List A) (ts : List B) → OneForOne P i rs ss → OneForOne P (i + length rs) qs ts
+      → OneForOne P i (rs ++ qs) (ss ++ ts)
   pairs-join i [] [] qs ts h g =
       let e : i + 0 ≡ i = omega arith in
       subst (λ n. OneForOne P n qs ts) e g
@@ -23,7 +24,8 @@ module _ {A B : Type 0} (P : ℕ → A → B → Type 0) where
       let e : i + length (r ∷ rs) ≡ suc i + length rs = omega arith in
       (h.0, pairs-join (suc i) rs ss qs ts h.1 (subst (λ n. OneForOne P n qs ts) e g))
 
-  pub pairs-one : (i : ℕ) (rs : List A) (ss : List B) (r : A) (s : B) → OneForOne P i rs ss → P (i + length rs) r s → OneForOne P i (rs ++ r ∷ []) (ss ++ s ∷ [])
+  pub pairs-one : (i : ℕ) (rs : List A) (ss : List B) (r : A) (s : B) → OneForOne P i rs ss → P (i + length rs) r s
+      → OneForOne P i (rs ++ r ∷ []) (ss ++ s ∷ [])
   pairs-one i rs ss r s h x = pairs-join i rs ss (r ∷ []) (s ∷ []) h (x, tt)
 
   pub pairs-count : (i : ℕ) (rs : List A) (ss : List B) → OneForOne P i rs ss → length rs ≡ length ss
@@ -64,7 +66,8 @@ module _ {A B : Type 0} (P : ℕ → A → B → Type 0) where
   pairs-made f g h i (x ∷ xs) = (h i x, pairs-made f g h (suc i) xs)
 
 -- what follows of each
-pub pairs-kept : {A B : Type 0} (P Q : ℕ → A → B → Type 0) → ((i : ℕ) (r : A) (s : B) → P i r s → Q i r s) → (i : ℕ) (rs : List A) (ss : List B) → OneForOne P i rs ss → OneForOne Q i rs ss
+pub pairs-kept : {A B : Type 0} (P Q : ℕ → A → B → Type 0) → ((i : ℕ) (r : A) (s : B) → P i r s → Q i r s) → (i : ℕ) (rs : List A) (ss : List B)
+    → OneForOne P i rs ss → OneForOne Q i rs ss
 pairs-kept P Q f i [] [] h = tt
 pairs-kept P Q f i [] (_ ∷ ss) h = absurd h
 pairs-kept P Q f i (_ ∷ rs) [] h = absurd h

@@ -54,8 +54,10 @@ found-shaped n no_defs h = tt
 found-shaped n (defines at x e ds) h = either-shaped (same_name n x) (plain_def at e) (definition n ds) tt (found-shaped n ds (second_true (is_shaped e) _ h))
 found-shaped n (defines_function at x ns ats e ds) h =
     let front : IsTrue ((nat_lt 0 (length ns) && nat_eq (length ats) (length ns)) && is_shaped e) = first_true _ (defs_are_shaped ds) h in
-    either-shaped (same_name n x) (function_def at ns ats e) (definition n ds) (first_true (nat_lt 0 (length ns)) _ (first_true _ (is_shaped e) front)) (found-shaped n ds (second_true ((nat_lt 0 (length ns) && nat_eq (length ats) (length ns)) && is_shaped e) _ h))
-found-shaped n (defines_current at x e ds) h = either-shaped (same_name n x) (current_def at e) (definition n ds) tt (found-shaped n ds (second_true (is_shaped e) _ h))
+    either-shaped (same_name n x) (function_def at ns ats e) (definition n ds) (first_true (nat_lt 0 (length ns)) _ (first_true _ (is_shaped e) front))
+    (found-shaped n ds (second_true ((nat_lt 0 (length ns) && nat_eq (length ats) (length ns)) && is_shaped e) _ h))
+found-shaped n (defines_current at x e ds) h = either-shaped (same_name n x) (current_def at e) (definition n ds) tt
+    (found-shaped n ds (second_true (is_shaped e) _ h))
 
 defined-shaped : (f : Found) (h k : Static) (m : Meaning) → FoundIsShaped f → MeaningIsShaped m → MeaningIsShaped (defined_in f h k m)
 defined-shaped absent h k m a b = b
@@ -101,28 +103,36 @@ mutual
   passes k (form at f es) n s t = all-pass k es n s (second_true _ (are_shaped es) t)
   passes k (name at x) n s t = refl
   passes k (call at x es) n s t =
-      both_true (has_some es) _ (some-given es (given-some at (count es) (meaning x k) (n (called at x (count es) k) (inl refl)) (meaning-shaped x k s))) (all-pass k es (λ y i. n y (inr i)) s t)
+      both_true (has_some es) _ (some-given es (given-some at (count es) (meaning x k) (n (called at x (count es) k) (inl refl)) (meaning-shaped x k s)))
+      (all-pass k es (λ y i. n y (inr i)) s t)
   passes k (block at e ds) n s t =
       let q : Static = in_block ds k in
       let inside = none-right (outside_sites k ds) _ n in
       let rest : IsTrue (defs_are_shaped ds) = second_true (is_shaped e) _ t in
-      both_true (calls_pass_actuals e) _ (passes q e (none-left (sites q e) _ inside) (rest, s) (first_true (is_shaped e) _ t)) (defs-pass q k no_names ds (none-left (outside_sites k ds) _ n) (none-right (sites q e) _ inside) (rest, s) s rest)
+      both_true (calls_pass_actuals e) _ (passes q e (none-left (sites q e) _ inside) (rest, s) (first_true (is_shaped e) _ t))
+      (defs-pass q k no_names ds (none-left (outside_sites k ds) _ n) (none-right (sites q e) _ inside) (rest, s) s rest)
 
   all-pass : (k : Static) (es : PlainTrees) → NoFaults (sites_in k es) → ScopesAreShaped k → IsTrue (are_shaped es) → IsTrue (all_pass_actuals es)
   all-pass k no_trees n s t = refl
   all-pass k (tree e es) n s t =
-      both_true (calls_pass_actuals e) _ (passes k e (none-left (sites k e) _ n) s (first_true (is_shaped e) _ t)) (all-pass k es (none-right (sites k e) _ n) s (second_true (is_shaped e) _ t))
+      both_true (calls_pass_actuals e) _ (passes k e (none-left (sites k e) _ n) s (first_true (is_shaped e) _ t))
+      (all-pass k es (none-right (sites k e) _ n) s (second_true (is_shaped e) _ t))
 
-  defs-pass : (k q : Static) (earlier : Earlier) (ds : PlainDefs) → NoFaults (outside_sites q ds) → NoFaults (inside_sites k earlier ds) → ScopesAreShaped k → ScopesAreShaped q → IsTrue (defs_are_shaped ds) → IsTrue (defs_pass_actuals ds)
+  defs-pass : (k q : Static) (earlier : Earlier) (ds : PlainDefs) → NoFaults (outside_sites q ds) → NoFaults (inside_sites k earlier ds) → ScopesAreShaped k
+      → ScopesAreShaped q → IsTrue (defs_are_shaped ds) → IsTrue (defs_pass_actuals ds)
   defs-pass k q earlier no_defs out n s u t = refl
   defs-pass k q earlier (defines at x e ds) out n s u t =
       let own = none-right (again_if (earlier x) at) _ n in
-      both_true (calls_pass_actuals e) _ (passes k e (none-left (sites k e) _ own) s (first_true (is_shaped e) _ t)) (defs-pass k q (also x earlier) ds out (none-right (sites k e) _ own) s u (second_true (is_shaped e) _ t))
+      both_true (calls_pass_actuals e) _ (passes k e (none-left (sites k e) _ own) s (first_true (is_shaped e) _ t))
+      (defs-pass k q (also x earlier) ds out (none-right (sites k e) _ own) s u (second_true (is_shaped e) _ t))
   defs-pass k q earlier (defines_function at x ns ats e ds) out n s u t =
       let own = none-right (again_if (earlier x) at) _ n in
       let v : Static = in_function at ns ats k in
       let front : IsTrue ((nat_lt 0 (length ns) && nat_eq (length ats) (length ns)) && is_shaped e) = first_true _ (defs_are_shaped ds) t in
       let part = none-right (repeats no_names ns ats) (sites v e) (none-left _ (inside_sites k (also x earlier) ds) own) in
-      both_true (calls_pass_actuals e) _ (passes v e part s (second_true (nat_lt 0 (length ns) && nat_eq (length ats) (length ns)) _ front)) (defs-pass k q (also x earlier) ds out (none-right _ (inside_sites k (also x earlier) ds) own) s u (second_true ((nat_lt 0 (length ns) && nat_eq (length ats) (length ns)) && is_shaped e) _ t))
+      both_true (calls_pass_actuals e) _ (passes v e part s (second_true (nat_lt 0 (length ns) && nat_eq (length ats) (length ns)) _ front))
+      (defs-pass k q (also x earlier) ds out (none-right _ (inside_sites k (also x earlier) ds) own) s u
+      (second_true ((nat_lt 0 (length ns) && nat_eq (length ats) (length ns)) && is_shaped e) _ t))
   defs-pass k q earlier (defines_current at x e ds) out n s u t =
-      both_true (calls_pass_actuals e) _ (passes q e (none-left (sites q e) _ out) u (first_true (is_shaped e) _ t)) (defs-pass k q (also x earlier) ds (none-right (sites q e) _ out) (none-right (again_if (earlier x) at) _ n) s u (second_true (is_shaped e) _ t))
+      both_true (calls_pass_actuals e) _ (passes q e (none-left (sites q e) _ out) u (first_true (is_shaped e) _ t))
+      (defs-pass k q (also x earlier) ds (none-right (sites q e) _ out) (none-right (again_if (earlier x) at) _ n) s u (second_true (is_shaped e) _ t))

@@ -52,20 +52,24 @@ module _ (nu : Numbers) (so : Source) (p : Equations) where
 
   module _ (g : Given Referent) where
     mutual
-      walk-met : (m d : ℕ) (dp : Aim → ℕ → Events) → ((a : Aim) (s : ℕ) → Fits nu so p a → Each Met (dp a s)) → (e : PlainTree) (env : Env) (t s : ℕ) → Good nu so p env → Kept nu so p (static_of env) e → Each Met (walk_at g m d dp e env t s)
+      walk-met : (m d : ℕ) (dp : Aim → ℕ → Events) → ((a : Aim) (s : ℕ) → Fits nu so p a → Each Met (dp a s)) → (e : PlainTree) (env : Env) (t s : ℕ)
+          → Good nu so p env → Kept nu so p (static_of env) e → Each Met (walk_at g m d dp e env t s)
       walk-met m d dp h (form at f es) env t s good k =
-          each-trace Met m (plan (m + d) f t s) (λ i u r. part_at (m + d) (below value g (m + d)) es env i u r) (λ i u r. walk_part g m d dp es env i u r) (λ i u r. walk_part-met m d dp h es env i u r good k.0)
+          each-trace Met m (plan (m + d) f t s) (λ i u r. part_at (m + d) (below value g (m + d)) es env i u r) (λ i u r. walk_part g m d dp es env i u r)
+          (λ i u r. walk_part-met m d dp h es env i u r good k.0)
       walk-met m d dp h (name at x) env t s good k = h (name_target x env t) s (name-fits nu so p x t env good)
       walk-met m d dp h (call at x es) env t s good k =
           let fits : Fits nu so p (call_target at x es env env t) = call-fits nu so p at x es env t good k.1 k.2 env good k.0 in
           each-append Met _ _ (entry-met (call_target at x es env env t) fits) (h (call_target at x es env env t) s fits)
       walk-met m d dp h (block at e ds) env t s good k =
           elim (opened ds t) [
-            | inl o ↦ rw o.1 (let inside : Good nu so p (scope ds (Some t) env) = (rw o.0 tt, k.1, good) in (inside, walk-met m d dp h e (scope ds (Some t) env) t s inside k.0))
+            | inl o ↦ rw o.1 (let inside : Good nu so p (scope ds (Some t) env) = (rw o.0 tt, k.1, good) in
+                (inside, walk-met m d dp h e (scope ds (Some t) env) t s inside k.0))
             | inr o ↦ rw o.1 (walk-met m d dp h e (scope ds None env) t s (rw o.0 tt, k.1, good) k.0)
           ]
 
-      walk_part-met : (m d : ℕ) (dp : Aim → ℕ → Events) → ((a : Aim) (s : ℕ) → Fits nu so p a → Each Met (dp a s)) → (es : PlainTrees) (env : Env) (i t s : ℕ) → Good nu so p env → AllKept nu so p (static_of env) es → Each Met (walk_part g m d dp es env i t s)
+      walk_part-met : (m d : ℕ) (dp : Aim → ℕ → Events) → ((a : Aim) (s : ℕ) → Fits nu so p a → Each Met (dp a s)) → (es : PlainTrees) (env : Env) (i t s : ℕ)
+          → Good nu so p env → AllKept nu so p (static_of env) es → Each Met (walk_part g m d dp es env i t s)
       walk_part-met m d dp h no_trees env i t s good k = tt
       walk_part-met m d dp h (tree e es) env zero t s good k = walk-met m d dp h e env t s good k.0
       walk_part-met m d dp h (tree e es) env (suc i) t s good k = walk_part-met m d dp h es env i t s good k.1
@@ -76,5 +80,6 @@ module _ (nu : Numbers) (so : Source) (p : Equations) where
     deeper-met (suc m) d (goes_to k x u) s f = (f, walk-met m d (deeper (walk g) m d) (deeper-met m d) x.tree x.env u s f.1 f.2)
     deeper-met (suc m) d nowhere s f = tt
 
-    pub seen-met : (m d : ℕ) (e : PlainTree) (env : Env) (t s : ℕ) → Good nu so p env → Kept nu so p (static_of env) e → Each Met (walk_at g m d (deeper (walk g) m d) e env t s)
+    pub seen-met : (m d : ℕ) (e : PlainTree) (env : Env) (t s : ℕ) → Good nu so p env → Kept nu so p (static_of env) e
+        → Each Met (walk_at g m d (deeper (walk g) m d) e env t s)
     seen-met m d e env t s good k = walk-met m d (deeper (walk g) m d) (deeper-met m d) e env t s good k

@@ -13,7 +13,8 @@ plain-in_range w n _ h g = tt
 
 -- a name leads to an input or to a name that is there, and a call to a name and a call place
 module _ (w : Numbered) (z : Log) (n : Sizes) (more : length z.names ≤ n.names) (inputs : n.inputs ≡ length (scoped_inputs w.scoped))
-    (calls-lead : (c : CallStand) → In c z.calls → ((name_mark w.numbering c.at).number < n.names) × (call_number w.numbering (first_place c.actuals) < n.places)) where
+    (calls-lead : (c : CallStand) → In c z.calls → ((name_mark w.numbering c.at).number < n.names)
+    × (call_number w.numbering (first_place c.actuals) < n.places)) where
   name-in_range : (k : Static) (r : Node) → NameLeads z (length (scoped_inputs w.scoped)) k r → NodeNames n r
   name-in_range k (Input i) h = omega (arith, h, inputs)
   name-in_range k (Refer x l) h = omega (arith, index-below z.names x h.stand h.there, more)
@@ -24,9 +25,14 @@ module _ (w : Numbered) (z : Log) (n : Sizes) (more : length z.names ≤ n.names
   node-in_range (of_name at) k r h g m = subst (NodeNames n) (sym g) (name-in_range k (name_node w at) m)
   node-in_range (of_call at first) k r h g m =
       let b = calls-lead m.call m.inside in
-      subst (NodeNames n) (sym g) (subst (λ p. (name_mark w.numbering p).number < n.names) m.place b.0, subst (λ p. call_number w.numbering p < n.places) m.first_is b.1)
+      subst (NodeNames n) (sym g) (
+        subst (λ p. (name_mark w.numbering p).number < n.names) m.place b.0,
+        subst (λ p. call_number w.numbering p < n.places)
+            m.first_is b.1,
+      )
 
-  pub nodes-in_range : (ks : List Static) (i : ℕ) (rs : List NodeRow) (ss : List NodeStand) → AreKnown n.constants rs → OneForOne (IsNodeRow w ks) i rs ss → EachRow (NodeMet w z) ss → NodesAreInRange n i rs
+  pub nodes-in_range : (ks : List Static) (i : ℕ) (rs : List NodeRow) (ss : List NodeStand) → AreKnown n.constants rs → OneForOne (IsNodeRow w ks) i rs ss
+      → EachRow (NodeMet w z) ss → NodesAreInRange n i rs
   nodes-in_range ks i [] [] h g m = tt
   nodes-in_range ks i [] (s ∷ ss) h g m = absurd g
   nodes-in_range ks i (r ∷ rs) [] h g m = absurd g
@@ -38,12 +44,14 @@ entry-in_range n ts (Parameter i) e c h = tt
 entry-in_range n ts (Current a) e c h = omega (arith, c, h.0)
 entry-in_range n ts (Called a) e c h = omega (arith, c, h.0)
 
-pub names-in_range : (ks : List Static) (n : Sizes) (ts : List PlainNode) (i : ℕ) (rs : List NameRow) (ss : List Stand) → length ts ≡ n.nodes → OneForOne (λ id r s. IsNameRow ks ts r s) i rs ss → NamesAreInRange n rs
+pub names-in_range : (ks : List Static) (n : Sizes) (ts : List PlainNode) (i : ℕ) (rs : List NameRow) (ss : List Stand) → length ts ≡ n.nodes
+    → OneForOne (λ id r s. IsNameRow ks ts r s) i rs ss → NamesAreInRange n rs
 names-in_range ks n ts i [] ss c h = tt
 names-in_range ks n ts i (r ∷ rs) [] c h = absurd h
 names-in_range ks n ts i (r ∷ rs) (s ∷ ss) c h = (entry-in_range n ts r.kind s.entry c h.0.0, names-in_range ks n ts (suc i) rs ss c h.1)
 
-pub places-in_range : (w : Numbered) (ks : List Static) (n : Sizes) (ts : List PlainNode) (i : ℕ) (rs : List PlaceRow) (cs : List CallStand) → length ts ≡ n.nodes → OneForOne (λ id r c. IsPlaceRow w ks ts r c) i rs cs → PlacesAreInRange n rs
+pub places-in_range : (w : Numbered) (ks : List Static) (n : Sizes) (ts : List PlainNode) (i : ℕ) (rs : List PlaceRow) (cs : List CallStand)
+    → length ts ≡ n.nodes → OneForOne (λ id r c. IsPlaceRow w ks ts r c) i rs cs → PlacesAreInRange n rs
 places-in_range w ks n ts i [] cs c h = tt
 places-in_range w ks n ts i (r ∷ rs) [] c h = absurd h
 places-in_range w ks n ts i (r ∷ rs) (s ∷ cs) c h = (subst (λ m. EachBelow m r.actuals) c h.0.0, places-in_range w ks n ts (suc i) rs cs c h.1)

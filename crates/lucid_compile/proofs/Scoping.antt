@@ -30,8 +30,10 @@ parameter-bare (Some i) d ats k m = refl
 
 pub meaning-bare : (x : List ℕ) (k : Static) → meaning x (forget k) ≡ bare (meaning x k)
 meaning-bare x outermost = refl
-meaning-bare x (in_block ds k) = ap (defined_in (definition x ds) (in_block ds (forget k)) (forget k)) (meaning-bare x k) ∙ sym (defined-bare (definition x ds) (in_block ds k) k (meaning x k))
-meaning-bare x (in_function d ns ats k) = ap (parameter_in (param x ns) 0 ats (in_body ns ats (forget k))) (meaning-bare x k) ∙ sym (parameter-bare (param x ns) d ats (in_function d ns ats k) (meaning x k))
+meaning-bare x (in_block ds k) = ap (defined_in (definition x ds) (in_block ds (forget k)) (forget k)) (meaning-bare x k)
+    ∙ sym (defined-bare (definition x ds) (in_block ds k) k (meaning x k))
+meaning-bare x (in_function d ns ats k) = ap (parameter_in (param x ns) 0 ats (in_body ns ats (forget k))) (meaning-bare x k)
+    ∙ sym (parameter-bare (param x ns) d ats (in_function d ns ats k) (meaning x k))
 
 module _ (g : Numbering) (ns : List Stand) where
   -- what stands at a place is there, with its mark
@@ -57,7 +59,8 @@ module _ (g : Numbering) (ns : List Stand) (fs : List FunctionStand) (R : PlainT
   abbrev pub DefsKnown : Static → PlainDefs → Type 0
   DefsKnown h no_defs = Unit {0}
   DefsKnown h (defines at x e ds) = IsListed g ns at h × DefsKnown h ds
-  DefsKnown h (defines_function at x xs ats e ds) = ((n : ℕ) × IsThere (record { at = at; first = n; names = xs; places = ats; right = e; home = h })) × DefsKnown h ds
+  DefsKnown h (defines_function at x xs ats e ds) = ((n : ℕ) × IsThere (record { at = at; first = n; names = xs; places = ats; right = e; home = h }))
+      × DefsKnown h ds
   DefsKnown h (defines_current at x e ds) = IsListed g ns at h × DefsKnown h ds
 
   abbrev pub Known : Static → Type 0
@@ -74,7 +77,8 @@ module _ (g : Numbering) (ns : List Stand) (fs : List FunctionStand) (R : PlainT
   abbrev pub MeaningKnown : Meaning → Type 0
   MeaningKnown free = Unit {0}
   MeaningKnown (plain_name d e h) = IsListed g ns d (forget h)
-  MeaningKnown (parameter d i p h) = ((name_mark g p).number ≡ (function_mark g d).first + i) × (suc (function_mark g d).level ≡ level (forget h)) × IsListed g ns p (forget h)
+  MeaningKnown (parameter d i p h) = ((name_mark g p).number ≡ (function_mark g d).first + i) × (suc (function_mark g d).level ≡ level (forget h))
+      × IsListed g ns p (forget h)
   MeaningKnown (current_name d e h o) = IsListed g ns d (forget h)
   MeaningKnown (function d xs ats e h) = (n : ℕ) × IsThere (record { at = d; first = n; names = xs; places = ats; right = e; home = forget h })
 
@@ -85,16 +89,19 @@ module _ (g : Numbering) (ns : List Stand) (fs : List FunctionStand) (R : PlainT
   found-known : (h : Static) (n : List ℕ) (ds : PlainDefs) → DefsKnown h ds → FoundKnown h (definition n ds)
   found-known h n no_defs k = tt
   found-known h n (defines at x e ds) k = either-known h (same_name n x) (plain_def at e) (definition n ds) k.0 (found-known h n ds k.1)
-  found-known h n (defines_function at x ns ats e ds) k = either-known h (same_name n x) (function_def at ns ats e) (definition n ds) k.0 (found-known h n ds k.1)
+  found-known h n (defines_function at x ns ats e ds) k =
+      either-known h (same_name n x) (function_def at ns ats e) (definition n ds) k.0 (found-known h n ds k.1)
   found-known h n (defines_current at x e ds) k = either-known h (same_name n x) (current_def at e) (definition n ds) k.0 (found-known h n ds k.1)
 
-  defined-known : (f : Found) (ds : PlainDefs) (k : Static) (m : Meaning) → FoundKnown (in_block ds (forget k)) f → MeaningKnown m → MeaningKnown (defined_in f (in_block ds k) k m)
+  defined-known : (f : Found) (ds : PlainDefs) (k : Static) (m : Meaning) → FoundKnown (in_block ds (forget k)) f → MeaningKnown m
+      → MeaningKnown (defined_in f (in_block ds k) k m)
   defined-known absent ds k m h a = a
   defined-known (plain_def at e) ds k m h a = h
   defined-known (function_def at ns ats e) ds k m h a = h
   defined-known (current_def at e) ds k m h a = h
 
-  parameter-known : (o : Option ℕ) (d : ℕ) (xs : List (List ℕ)) (ats : List ℕ) (k : Static) (m : Meaning) → ((i : ℕ) → o ≡ Some i → i < length xs) → AreListed g ns (function_mark g d).first xs ats (forget k) → (function_mark g d).level ≡ level (forget k) → MeaningKnown m
+  parameter-known : (o : Option ℕ) (d : ℕ) (xs : List (List ℕ)) (ats : List ℕ) (k : Static) (m : Meaning) → ((i : ℕ) → o ≡ Some i → i < length xs)
+      → AreListed g ns (function_mark g d).first xs ats (forget k) → (function_mark g d).level ≡ level (forget k) → MeaningKnown m
       → MeaningKnown (parameter_in o d ats (in_function d xs ats k) m)
   parameter-known None d xs ats k m b a l h = h
   parameter-known (Some i) d xs ats k m b a l h = let p = a i (b i refl) in (p.0, ap suc l, p.1)
@@ -107,7 +114,8 @@ module _ (g : Numbering) (ns : List Stand) (fs : List FunctionStand) (R : PlainT
 
 module _ (w : Numbered) (ns : List Stand) (fs : List FunctionStand) (R : PlainTree → Static → Type 0) where
   -- a name whose meaning is known, and which is at no fault
-  pub name-is : (top at : ℕ) (x : List ℕ) (inputs : List (List ℕ)) (b : Option Binding) (m : Meaning) → b ≡ Some (binding_of inputs x m) → name_fault at m ≡ None → (m ≡ free → get_or inputs (position_or_len (same_name x) inputs) [] ≡ x) → MeaningKnown w.numbering ns fs R m
+  pub name-is : (top at : ℕ) (x : List ℕ) (inputs : List (List ℕ)) (b : Option Binding) (m : Meaning) → b ≡ Some (binding_of inputs x m)
+      → name_fault at m ≡ None → (m ≡ free → get_or inputs (position_or_len (same_name x) inputs) [] ≡ x) → MeaningKnown w.numbering ns fs R m
       → reference_by w.numbering inputs b ≡ reference_of (numbers_in w) top x (bare m)
   name-is top at x inputs b free e f l k = ap (reference_by w.numbering inputs) e ∙ ap input (l refl)
   name-is top at x inputs b (plain_name d t h) e f l k = ap (reference_by w.numbering inputs) e ∙ ap (refer (name_mark w.numbering d).number) k.depth
@@ -122,7 +130,8 @@ module _ (w : Numbered) (ns : List Stand) (fs : List FunctionStand) (R : PlainTr
     pub there : IsThere w.numbering ns fs R stand
     pub is : bare m ≡ function stand.at stand.names stand.places stand.right stand.home
 
-  pub call-is : (at n : ℕ) (x : List ℕ) (inputs : List (List ℕ)) (b : Option Binding) (m : Meaning) → b ≡ Some (binding_of inputs x m) → call_fault at n m ≡ None → MeaningKnown w.numbering ns fs R m → Calls b m
+  pub call-is : (at n : ℕ) (x : List ℕ) (inputs : List (List ℕ)) (b : Option Binding) (m : Meaning) → b ≡ Some (binding_of inputs x m)
+      → call_fault at n m ≡ None → MeaningKnown w.numbering ns fs R m → Calls b m
   call-is at n x inputs b free e f k = absurd (not_some _ f)
   call-is at n x inputs b (plain_name d t h) e f k = absurd (not_some _ f)
   call-is at n x inputs b (parameter d i p h) e f k = absurd (not_some _ f)

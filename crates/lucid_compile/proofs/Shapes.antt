@@ -2,7 +2,8 @@
 use Rattle.lucid_compile.proofs.Common.{◌≡◌, ℕ, true, false, IsTrue, nat_eq, List, refl, arith, nat_tests, both_true, first_true, second_true, is_shaped, defs_are_shaped, PlainDefs, no_defs, def_of, one_def, Def, DefKind, freezes}
 use Rattle.lucid_tree.specs.declared.tree.DefKind.TheVariants.{Plain as PlainKind, Function as FunctionKind, Current as CurrentKind}
 
-pub shaped-one : (d : Def) (ds : PlainDefs) (x : DefKind) → IsTrue (defs_are_shaped (def_of d.at d.name x ds)) → IsTrue (defs_are_shaped (def_of d.at d.name x no_defs)) × IsTrue (defs_are_shaped ds)
+pub shaped-one : (d : Def) (ds : PlainDefs) (x : DefKind) → IsTrue (defs_are_shaped (def_of d.at d.name x ds))
+    → IsTrue (defs_are_shaped (def_of d.at d.name x no_defs)) × IsTrue (defs_are_shaped ds)
 shaped-one d ds (PlainKind e) h = (both_true (is_shaped e) true (first_true (is_shaped e) _ h) refl, second_true (is_shaped e) _ h)
 shaped-one d ds (FunctionKind ps ats e) h = (both_true _ true (first_true _ (defs_are_shaped ds) h) refl, second_true _ (defs_are_shaped ds) h)
 shaped-one d ds (CurrentKind e) h = (both_true (is_shaped e) true (first_true (is_shaped e) _ h) refl, second_true (is_shaped e) _ h)

@@ -25,7 +25,8 @@ scopes-nest t ks o h =
     let first = scope-row t.scopes ks h 0 outermost o in
     record {
       first = first.there ∙ ap Some first.is.1;
-      others = λ s p k b e. (let f = thing-at (IsScopeRow ks) 0 t.scopes ks s (record { parent = p; kind = k }) h e in let n : 0 + s ≡ s = omega arith in nested ks s (record { parent = p; kind = k }) f.thing b (subst (λ y. IsScopeRow ks y (record { parent = p; kind = k }) f.thing) n f.is));
+      others = λ s p k b e. (let f = thing-at (IsScopeRow ks) 0 t.scopes ks s (record { parent = p; kind = k }) h e in let n : 0 + s ≡ s = omega arith in
+          nested ks s (record { parent = p; kind = k }) f.thing b (subst (λ y. IsScopeRow ks y (record { parent = p; kind = k }) f.thing) n f.is));
     }
 
 -- a row of some
@@ -43,7 +44,8 @@ there-at z i (x ∷ rs) zero r h e =
     subst (λ y. NodeNames z y.node) same h.0.1
 there-at z i (x ∷ rs) (suc j) r h e = there-at z (suc i) rs j r h.1 e
 
-pub nodes-nest : (t : Table) (w : Numbered) (ks : List Static) (ss : List NodeStand) → IsInRange t → NodesHold w ks t.nodes ss → EachRow (NodeFits t.scopes t.nodes) t.nodes → NodesNest t
+pub nodes-nest : (t : Table) (w : Numbered) (ks : List Static) (ss : List NodeStand) → IsInRange t → NodesHold w ks t.nodes ss
+    → EachRow (NodeFits t.scopes t.nodes) t.nodes → NodesNest t
 nodes-nest t w ks ss ranged h f = λ id r e.
     let fit : NodeFits t.scopes t.nodes r = each-at (NodeFits t.scopes t.nodes) t.nodes id r f e in
     let n : 0 + id ≡ id = omega arith in

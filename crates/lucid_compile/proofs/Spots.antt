@@ -41,15 +41,30 @@ module _ (x : ℕ) where
 
     all_spots-times : (k : Static) (es : PlainTrees) → times x (keys (all_spots k es)) ≤ times x (places_in es)
     all_spots-times k no_trees = omega arith
-    all_spots-times k (tree e es) = omega (arith, keys-append x (spots_for k e) (all_spots k es), times-append x (places e) (places_in es), spots-times k e, all_spots-times k es)
+    all_spots-times k (tree e es) = omega (
+      arith,
+      keys-append x (spots_for k e) (all_spots k es),
+      times-append x (places e) (places_in es),
+      spots-times k e,
+      all_spots-times k es,
+    )
 
     def_spots-times : (k o : Static) (ds : PlainDefs) → times x (keys (def_spots k o ds)) ≤ times x (places_in_defs ds)
     def_spots-times k o no_defs = omega arith
-    def_spots-times k o (defines at n e ds) = omega (arith, keys-append x (spots_for k e) (def_spots k o ds), times-append x (places e) (places_in_defs ds), spots-times k e, def_spots-times k o ds)
+    def_spots-times k o (defines at n e ds) = omega
+        (arith, keys-append x (spots_for k e) (def_spots k o ds), times-append x (places e) (places_in_defs ds), spots-times k e, def_spots-times k o ds)
     def_spots-times k o (defines_function at n ns ats e ds) =
         let f : Static = in_body ns ats k in
-        omega (arith, keys-append x (spots_for f e) (def_spots k o ds), times-append x (ats ++ places e) (places_in_defs ds), times-append x ats (places e), spots-times f e, def_spots-times k o ds)
-    def_spots-times k o (defines_current at n e ds) = omega (arith, keys-append x (spots_for o e) (def_spots k o ds), times-append x (places e) (places_in_defs ds), spots-times o e, def_spots-times k o ds)
+        omega (
+          arith,
+          keys-append x (spots_for f e) (def_spots k o ds),
+          times-append x (ats ++ places e) (places_in_defs ds),
+          times-append x ats (places e),
+          spots-times f e,
+          def_spots-times k o ds,
+        )
+    def_spots-times k o (defines_current at n e ds) =
+        omega (arith, keys-append x (spots_for o e) (def_spots k o ds), times-append x (places e) (places_in_defs ds), spots-times o e, def_spots-times k o ds)
 
 -- the index of a key, or the number of all keys
 abbrev pub index : List ℕ → ℕ → ℕ

@@ -21,7 +21,8 @@ parameters-names k i (at ∷ ats) l =
     let s : Stand = parameter_stand k i at in
     parameters-names k (suc i) ats (with_stand s l) ∙ append_assoc l.names (s ∷ []) (parameter_stands k (suc i) ats)
 
-stand-of : (k : Static) (i : ℕ) (ats : List ℕ) (j : ℕ) → j < length ats → slice_get (parameter_stands k i ats) j ≡ Some (parameter_stand k (i + j) (get_or ats j 0))
+stand-of : (k : Static) (i : ℕ) (ats : List ℕ) (j : ℕ) → j < length ats
+    → slice_get (parameter_stands k i ats) j ≡ Some (parameter_stand k (i + j) (get_or ats j 0))
 stand-of k i [] j h = absurd (omega (arith, h))
 stand-of k i (at ∷ ats) zero h =
     let e : i ≡ i + 0 = omega arith in
@@ -56,7 +57,8 @@ module _ (w : Numbered) where
         let b : Log = with_parameters h 0 ats (opened_function ns ats k l) in
         let f : FunctionStand = record { at = at; first = length l.names; names = ns; places = ats; right = e; home = k } in
         let c : Log = added w h e b in
-        begins-then l.names b.names _ (parameter_stands h 0 ats, parameters-names h 0 ats (opened_function ns ats k l)) (begins-then b.names c.names _ (more-tree h e b) (more-defs k o ds (with_function f c)))
+        begins-then l.names b.names _ (parameter_stands h 0 ats, parameters-names h 0 ats (opened_function ns ats k l))
+        (begins-then b.names c.names _ (more-tree h e b) (more-defs k o ds (with_function f c)))
     more-defs k o (defines_current at x e ds) l =
         let s : Stand = record { at = at; home = k; entry = current_entry (bound_node w e) } in
         let c : Log = added w o e l in
@@ -90,13 +92,15 @@ parameters-functions k i [] l = refl
 parameters-functions k i (at ∷ ats) l = parameters-functions k (suc i) ats _
 
 -- a function that was just added, whose parameters stand behind some names
-own-fits : (ss : List Stand) (f : FunctionStand) → f.first ≡ length ss → length f.names ≡ length f.places → FunctionFits (ss ++ parameter_stands (in_body f.names f.places f.home) 0 f.places) f
+own-fits : (ss : List Stand) (f : FunctionStand) → f.first ≡ length ss → length f.names ≡ length f.places
+    → FunctionFits (ss ++ parameter_stands (in_body f.names f.places f.home) 0 f.places) f
 own-fits ss f first counts =
     let k : Static = in_body f.names f.places f.home in
     record {
       stand = λ i b.
           let n : 0 + i ≡ i = omega arith in
-          ap (λ m. slice_get (ss ++ parameter_stands k 0 f.places) (m + i)) first ∙ slice-past ss (parameter_stands k 0 f.places) i ∙ stand-of k 0 f.places i b ∙ ap (λ m. Some (parameter_stand k m (get_or f.places i 0))) n;
+          ap (λ m. slice_get (ss ++ parameter_stands k 0 f.places) (m + i)) first ∙ slice-past ss (parameter_stands k 0 f.places) i ∙ stand-of k 0 f.places i b
+          ∙ ap (λ m. Some (parameter_stand k m (get_or f.places i 0))) n;
       counts = counts;
     }
 
@@ -107,7 +111,8 @@ module _ (w : Numbered) where
     fits-tree k (name at x) l t h = h
     fits-tree k (call at x es) l t h = fits-trees k es l t h
     fits-tree k (block at e ds) l t h =
-        fits-defs (in_block ds k) k ds (added w (in_block ds k) e (opened_block ds k l)) (second_true (is_shaped e) _ t) (fits-tree (in_block ds k) e (opened_block ds k l) (first_true (is_shaped e) _ t) h)
+        fits-defs (in_block ds k) k ds (added w (in_block ds k) e (opened_block ds k l)) (second_true (is_shaped e) _ t)
+        (fits-tree (in_block ds k) e (opened_block ds k l) (first_true (is_shaped e) _ t) h)
 
     fits-trees : (k : Static) (es : PlainTrees) (l : Log) → IsTrue (are_shaped es) → LogFits l → LogFits (added_all w k es l)
     fits-trees k no_trees l t h = h
@@ -118,7 +123,8 @@ module _ (w : Numbered) where
     fits-defs k o (defines at x e ds) l t h =
         let s : Stand = record { at = at; home = k; entry = plain_entry (bound_node w e) } in
         let c : Log = added w k e l in
-        fits-defs k o ds (with_stand s c) (second_true (is_shaped e) _ t) (fits-on c (with_stand s c) refl (s ∷ [], refl) (fits-tree k e l (first_true (is_shaped e) _ t) h))
+        fits-defs k o ds (with_stand s c) (second_true (is_shaped e) _ t)
+        (fits-on c (with_stand s c) refl (s ∷ [], refl) (fits-tree k e l (first_true (is_shaped e) _ t) h))
     fits-defs k o (defines_function at x ns ats e ds) l t h =
         let y : Static = in_body ns ats k in
         let front : IsTrue ((nat_lt 0 (length ns) && nat_eq (length ats) (length ns)) && is_shaped e) = first_true _ (defs_are_shaped ds) t in
@@ -131,7 +137,8 @@ module _ (w : Numbered) where
         let c : Log = added w y e b in
         let own : FunctionFits b.names f = subst (λ ss. FunctionFits ss f) (sym (parameters-names y 0 ats u)) (own-fits l.names f refl (sym count)) in
         let all : FunctionFits c.names f = fits-more b.names c.names f (more-tree w y e b) own in
-        let before : LogFits c = fits-tree y e b shape (fits-on l b (parameters-functions y 0 ats u) (parameter_stands y 0 ats, parameters-names y 0 ats u) h) in
+        let before : LogFits c = fits-tree y e b shape
+        (fits-on l b (parameters-functions y 0 ats u) (parameter_stands y 0 ats, parameters-names y 0 ats u) h) in
         fits-defs k o ds (with_function f c) rest (λ g i. elim (in_either g c.functions (f ∷ []) i) [
           | inl j ↦ before g j
           | inr j ↦ (elim j [ inl q ↦ subst (FunctionFits c.names) (sym q) all | inr z ↦ absurd z ])
@@ -139,7 +146,8 @@ module _ (w : Numbered) where
     fits-defs k o (defines_current at x e ds) l t h =
         let s : Stand = record { at = at; home = k; entry = current_entry (bound_node w e) } in
         let c : Log = added w o e l in
-        fits-defs k o ds (with_stand s c) (second_true (is_shaped e) _ t) (fits-on c (with_stand s c) refl (s ∷ [], refl) (fits-tree o e l (first_true (is_shaped e) _ t) h))
+        fits-defs k o ds (with_stand s c) (second_true (is_shaped e) _ t)
+        (fits-on c (with_stand s c) refl (s ∷ [], refl) (fits-tree o e l (first_true (is_shaped e) _ t) h))
 
 -- a row's entry goes with what is in scope from it on: a parameter is one of its function's; a call stands elsewhere
 abbrev pub IsParameter : (index : ℕ) → Static → Type 0
@@ -157,7 +165,8 @@ abbrev pub StandIsAtHome : Stand → Type 0
 StandIsAtHome s = IsAtHome s.entry s.home
 
 -- the rest of a function's parameters
-parameters-home : (ns : List (List ℕ)) (ats : List ℕ) (k : Static) (i : ℕ) (rest : List ℕ) (l : Log) → i + length rest ≡ length ats → EachRow StandIsAtHome l.names → EachRow StandIsAtHome (with_parameters (in_body ns ats k) i rest l).names
+parameters-home : (ns : List (List ℕ)) (ats : List ℕ) (k : Static) (i : ℕ) (rest : List ℕ) (l : Log) → i + length rest ≡ length ats
+    → EachRow StandIsAtHome l.names → EachRow StandIsAtHome (with_parameters (in_body ns ats k) i rest l).names
 parameters-home ns ats k i [] l count h = h
 parameters-home ns ats k i (at ∷ rest) l count h =
     let s : Stand = parameter_stand (in_body ns ats k) i at in
@@ -170,7 +179,8 @@ module _ (w : Numbered) where
     home-tree k (form at f es) l h = home-trees k es l h
     home-tree k (name at x) l h = h
     home-tree k (call at x es) l h = home-trees k es l h
-    home-tree k (block at e ds) l h = home-defs (in_block ds k) k ds (added w (in_block ds k) e (opened_block ds k l)) (home-tree (in_block ds k) e (opened_block ds k l) h)
+    home-tree k (block at e ds) l h = home-defs (in_block ds k) k ds (added w (in_block ds k) e (opened_block ds k l))
+        (home-tree (in_block ds k) e (opened_block ds k l) h)
 
     home-trees : (k : Static) (es : PlainTrees) (l : Log) → EachRow StandIsAtHome l.names → EachRow StandIsAtHome (added_all w k es l).names
     home-trees k no_trees l h = h

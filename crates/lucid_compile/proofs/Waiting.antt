@@ -11,7 +11,8 @@ all-before xs n e = ap (λ k. take k xs) e ∙ ap (take (length xs)) (sym (appen
 
 -- and then one more behind
 pub one-waits : (xs ys more : List ℕ) (n x : ℕ) → n ≤ length xs → ys ≡ xs ++ x ∷ [] → drop n xs ++ x ∷ more ≡ drop n ys ++ more
-one-waits xs ys more n x h e = sym (ap (λ l. drop n l ++ more) e ∙ ap (λ l. l ++ more) (drop-append-le n xs (x ∷ []) h) ∙ append_assoc (drop n xs) (x ∷ []) more)
+one-waits xs ys more n x h e = sym (ap (λ l. drop n l ++ more) e ∙ ap (λ l. l ++ more) (drop-append-le n xs (x ∷ []) h)
+    ∙ append_assoc (drop n xs) (x ∷ []) more)
 
 pub before-kept : (xs ys zs : List ℕ) (n x : ℕ) → n ≤ length xs → ys ≡ xs ++ x ∷ [] → take n xs ≡ zs → take n ys ≡ zs
 before-kept xs ys zs n x h e b = ap (take n) e ∙ take-append-le n xs (x ∷ []) h ∙ b

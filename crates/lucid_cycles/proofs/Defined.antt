@@ -7,7 +7,8 @@ use Rattle.lucid_cycles.proofs.Ordered.{Once, count-map, one-at, none-at}
 use Rattle.lucid_cycles.proofs.Found.{text-in, text-out}
 
 -- the places of the definitions are those of the plain names
-both-parts : (xs ys : List Definition) (ns ms : List ℕ) → ns ≡ map (λ (d : Definition). d.at) xs → ms ≡ map (λ (d : Definition). d.at) ys → ns ++ ms ≡ map (λ (d : Definition). d.at) (xs ++ ys)
+both-parts : (xs ys : List Definition) (ns ms : List ℕ) → ns ≡ map (λ (d : Definition). d.at) xs → ms ≡ map (λ (d : Definition). d.at) ys
+    → ns ++ ms ≡ map (λ (d : Definition). d.at) (xs ++ ys)
 both-parts xs ys ns ms p q = ap (λ z. z ++ ms) p ∙ ap (λ z. map (λ (d : Definition). d.at) xs ++ z) q ∙ sym (map-append (λ (d : Definition). d.at) xs ys)
 
 mutual
@@ -15,7 +16,8 @@ mutual
   names-places (form at f es) = names-places-in es
   names-places (name at n) = refl
   names-places (call at n es) = names-places-in es
-  names-places (block at e ds) = both-parts (definitions e) (definitions_in_defs ds) (plain_names e) (plain_names_in_defs ds) (names-places e) (names-places-defs ds)
+  names-places (block at e ds) = both-parts (definitions e) (definitions_in_defs ds) (plain_names e) (plain_names_in_defs ds) (names-places e)
+      (names-places-defs ds)
 
   names-places-in : (es : PlainTrees) → plain_names_in es ≡ map (λ (d : Definition). d.at) (definitions_in es)
   names-places-in no_trees = refl
@@ -23,9 +25,12 @@ mutual
 
   names-places-defs : (ds : PlainDefs) → plain_names_in_defs ds ≡ map (λ (d : Definition). d.at) (definitions_in_defs ds)
   names-places-defs no_defs = refl
-  names-places-defs (defines at x e ds) = ap (λ z. at ∷ z) (both-parts (definitions e) (definitions_in_defs ds) (plain_names e) (plain_names_in_defs ds) (names-places e) (names-places-defs ds))
-  names-places-defs (defines_function at x ns ats e ds) = both-parts (definitions e) (definitions_in_defs ds) (plain_names e) (plain_names_in_defs ds) (names-places e) (names-places-defs ds)
-  names-places-defs (defines_current at x e ds) = both-parts (definitions e) (definitions_in_defs ds) (plain_names e) (plain_names_in_defs ds) (names-places e) (names-places-defs ds)
+  names-places-defs (defines at x e ds) = ap (λ z. at ∷ z)
+      (both-parts (definitions e) (definitions_in_defs ds) (plain_names e) (plain_names_in_defs ds) (names-places e) (names-places-defs ds))
+  names-places-defs (defines_function at x ns ats e ds) =
+      both-parts (definitions e) (definitions_in_defs ds) (plain_names e) (plain_names_in_defs ds) (names-places e) (names-places-defs ds)
+  names-places-defs (defines_current at x e ds) =
+      both-parts (definitions e) (definitions_in_defs ds) (plain_names e) (plain_names_in_defs ds) (names-places e) (names-places-defs ds)
 
 -- and a plain name's place stands no more often among the names than among all places
 mutual
@@ -33,7 +38,14 @@ mutual
   few x (form at f es) = omega (arith, few-in x es)
   few x (name at n) = omega arith
   few x (call at n es) = omega (arith, few-in x es)
-  few x (block at e ds) = omega (arith, few x e, few-defs x ds, times-append x (plain_names e) (plain_names_in_defs ds), times-append x (places e) (places_in_defs ds))
+  few x (block at e ds) = omega (
+    arith,
+    few x e,
+    few-defs x ds,
+    times-append x (plain_names e) (plain_names_in_defs ds),
+    times-append x (places e)
+        (places_in_defs ds),
+  )
 
   few-in : (x : ℕ) (es : PlainTrees) → times x (plain_names_in es) ≤ times x (places_in es)
   few-in x no_trees = omega arith
@@ -41,9 +53,31 @@ mutual
 
   few-defs : (x : ℕ) (ds : PlainDefs) → times x (plain_names_in_defs ds) ≤ times x (places_in_defs ds)
   few-defs x no_defs = omega arith
-  few-defs x (defines at n e ds) = omega (arith, few x e, few-defs x ds, times-append x (plain_names e) (plain_names_in_defs ds), times-append x (places e) (places_in_defs ds))
-  few-defs x (defines_function at n ns ats e ds) = omega (arith, few x e, few-defs x ds, times-append x (plain_names e) (plain_names_in_defs ds), times-append x (ats ++ places e) (places_in_defs ds), times-append x ats (places e))
-  few-defs x (defines_current at n e ds) = omega (arith, few x e, few-defs x ds, times-append x (plain_names e) (plain_names_in_defs ds), times-append x (places e) (places_in_defs ds))
+  few-defs x (defines at n e ds) = omega (
+    arith,
+    few x e,
+    few-defs x ds,
+    times-append x (plain_names e) (plain_names_in_defs ds),
+    times-append x (places e)
+        (places_in_defs ds),
+  )
+  few-defs x (defines_function at n ns ats e ds) =
+      omega (
+        arith,
+        few x e,
+        few-defs x ds,
+        times-append x (plain_names e) (plain_names_in_defs ds),
+        times-append x (ats ++ places e) (places_in_defs ds),
+        times-append x ats (places e),
+      )
+  few-defs x (defines_current at n e ds) = omega (
+    arith,
+    few x e,
+    few-defs x ds,
+    times-append x (plain_names e) (plain_names_in_defs ds),
+    times-append x
+        (places e) (places_in_defs ds),
+  )
 
 pub defined-once : (e : PlainTree) → AllDiffer (places e) → Once (λ (d : Definition). d.at) (definitions e)
 defined-once e h x =
@@ -52,18 +86,23 @@ defined-once e h x =
     omega (arith, same, ap (λ l. times x l) (names-places e), few x e, differ-once (places e) h x)
 
 -- the text of a name is that of the definition at the place of its number
-text-of : (e : PlainTree) (k : ℕ) (l : List Definition) → filter (λ (d : Definition). nat_eq (count_by (λ x. nat_lt x d.at) (map (λ (z : Definition). z.at) (definitions e))) k) (definitions e) ≡ l → name_text e k ≡ flat_map definition_text l
+text-of : (e : PlainTree) (k : ℕ) (l : List Definition)
+    → filter (λ (d : Definition). nat_eq (count_by (λ x. nat_lt x d.at) (map (λ (z : Definition). z.at) (definitions e))) k) (definitions e) ≡ l
+    → name_text e k ≡ flat_map definition_text l
 text-of e k l h =
-    ap (λ ns. flat_map definition_text (filter (λ (d : Definition). nat_eq (count_by (λ x. nat_lt x d.at) ns) k) (definitions e))) (names-places e) ∙ ap (λ l. flat_map definition_text l) h
+    ap (λ ns. flat_map definition_text (filter (λ (d : Definition). nat_eq (count_by (λ x. nat_lt x d.at) ns) k) (definitions e))) (names-places e)
+    ∙ ap (λ l. flat_map definition_text l) h
 
-named-at : (e : PlainTree) (x : Definition) (ds : List Definition) → AllDiffer (places e) → IsPermutation (definitions e) ds → IsNonDecreasingBy (λ (d : Definition). d.at) ds → (k : ℕ)
+named-at : (e : PlainTree) (x : Definition) (ds : List Definition) → AllDiffer (places e) → IsPermutation (definitions e) ds
+    → IsNonDecreasingBy (λ (d : Definition). d.at) ds → (k : ℕ)
     → (k < length ds) ⊎ (length ds ≤ k) → text_at ds k ≡ name_text e k
 named-at e x ds h p s k (inl l) =
     let one = one-at (λ (d : Definition). d.at) (definitions e) ds p s (defined-once e h) k x l in
     text-in ds k (get_or ds k x) l (get_or_default ds k x (get_or ds k x) l) ∙ sym (append-nil (definition_text (get_or ds k x))) ∙ sym (text-of e k _ one)
 named-at e x ds h p s k (inr l) = text-out ds k l ∙ sym (text-of e k _ (none-at (λ (d : Definition). d.at) (definitions e) ds p s (defined-once e h) k l))
 
-pub named : (e : PlainTree) (ds : List Definition) → AllDiffer (places e) → IsPermutation (definitions e) ds → IsNonDecreasingBy (λ (d : Definition). d.at) ds → (k : ℕ) → text_at ds k ≡ name_text e k
+pub named : (e : PlainTree) (ds : List Definition) → AllDiffer (places e) → IsPermutation (definitions e) ds → IsNonDecreasingBy (λ (d : Definition). d.at) ds
+    → (k : ℕ) → text_at ds k ≡ name_text e k
 named e [] h p s k = sym (text-of e k _ (none-at (λ (d : Definition). d.at) (definitions e) [] p s (defined-once e h) k (omega arith)))
 named e (x ∷ ds) h p s k = named-at e x (x ∷ ds) h p s k (cases_lt k (length (x ∷ ds)))
 

@@ -56,7 +56,8 @@ module _ (inputs : List (List ℕ)) (bind : Bindings) (ds : List ℕ) (a c : ℕ
 
   found-good : (n : List ℕ) (k : Static) (es : PlainDefs) → GoodDefs k es → GoodFound k (definition n es)
   found-good n k no_defs g = tt
-  found-good n k (defines at x e es) g = elim (same_name n x) as (λ v. GoodFound k (cond v (plain_def at e) (definition n es))) [ true ↦ g.0 | false ↦ found-good n k es g.1 ]
+  found-good n k (defines at x e es) g = elim (same_name n x) as (λ v. GoodFound k (cond v (plain_def at e) (definition n es)))
+      [ true ↦ g.0 | false ↦ found-good n k es g.1 ]
   found-good n k (defines_function at x ns ats e es) g = absurd g
   found-good n k (defines_current at x e es) g = absurd g
 
@@ -75,7 +76,8 @@ module _ (inputs : List (List ℕ)) (bind : Bindings) (ds : List ℕ) (a c : ℕ
 
   meaning-good : (n : List ℕ) (k : Static) → GoodScope k → GoodMeaning (meaning n k)
   meaning-good n outermost g = tt
-  meaning-good n (in_block es k) g = defined-good (definition n es) (in_block es k) k (meaning n k) (found-good n (in_block es k) es g.0) g (meaning-good n k g.1)
+  meaning-good n (in_block es k) g = defined-good (definition n es) (in_block es k) k (meaning n k) (found-good n (in_block es k) es g.0) g
+      (meaning-good n k g.1)
   meaning-good n (in_function d ns ats k) g = absurd g
 
   good-head : (k : Static) (x : Option ℕ) (w v : ℤ) (e : PlainTree) (es : PlainTrees) → GoodTrees k x w v (tree e es) → GoodTree k x w e
@@ -104,7 +106,8 @@ module _ (inputs : List (List ℕ)) (bind : Bindings) (ds : List ℕ) (a c : ℕ
     asked = g.asked;
   }
 
-  good-defs : (k : Static) (earlier : Earlier) (es : PlainDefs) → outside_in_defs es ≡ [] → DefsHaveParts es → All Bound (inside_sites k earlier es) → All Asked (edges_in_defs bind es) → GoodDefs k es
+  good-defs : (k : Static) (earlier : Earlier) (es : PlainDefs) → outside_in_defs es ≡ [] → DefsHaveParts es → All Bound (inside_sites k earlier es)
+      → All Asked (edges_in_defs bind es) → GoodDefs k es
   good-defs k earlier no_defs o h s q = tt
   good-defs k earlier (defines at x e es) o h s q =
       let rest = all-right Bound (again_if (earlier x) at) (sites k e ++ inside_sites k (also x earlier) es) s in (
@@ -121,7 +124,8 @@ module _ (inputs : List (List ℕ)) (bind : Bindings) (ds : List ℕ) (a c : ℕ
   good-defs k earlier (defines_function at x ns ats e es) o h s q = cc
   good-defs k earlier (defines_current at x e es) o h s q = cc
 
-  good-block : (k : Static) (x : Option ℕ) (w : ℤ) (at : ℕ) (e : PlainTree) (es : PlainDefs) → GoodScope k → GoodTree k x w (block at e es) → GoodTree (in_block es k) x w e × GoodScope (in_block es k)
+  good-block : (k : Static) (x : Option ℕ) (w : ℤ) (at : ℕ) (e : PlainTree) (es : PlainDefs) → GoodScope k → GoodTree k x w (block at e es)
+      → GoodTree (in_block es k) x w e × GoodScope (in_block es k)
   good-block k x w at e es s g =
       let j : Static = in_block es k in
       let own = all-right Bound (outside_sites k es) (sites j e ++ inside_sites j no_names es) g.bound in (
@@ -144,13 +148,15 @@ module _ (inputs : List (List ℕ)) (bind : Bindings) (ds : List ℕ) (a c : ℕ
   Starts (Some d) m t = a * t + potential p (number ds d) + 1 ≤ m
   Starts None m t = a * t + c ≤ m
 
-  covered : (from : Option ℕ) (to : ℕ) (w : ℤ) (m t u : ℕ) → Asked (record { from = from; to = to; delay = w }) → Starts from m t → (pos u +ℤ w) ≤ℤ pos t → a * u + potential p (number ds to) + 2 ≤ m
+  covered : (from : Option ℕ) (to : ℕ) (w : ℤ) (m t u : ℕ) → Asked (record { from = from; to = to; delay = w }) → Starts from m t → (pos u +ℤ w) ≤ℤ pos t
+      → a * u + potential p (number ds to) + 2 ≤ m
   covered (Some d) to w m t u q s h = omega (arith, s, reach a (potential p (number ds d)) (potential p (number ds to)) 1 t u w q.falls h)
   covered None to w m t u q s h = omega (arith, s, reach a c (potential p (number ds to)) 2 t u w q.adds h)
 
   -- the right sides of plain names are defined at m where it is enough for them
   abbrev Ready : ℕ → Type 0
-  Ready m = (d : ℕ) (e : PlainTree) (k : Static) (env : Env) → GoodTree k (Some d) (pos 0) e → GoodScope k → Matches env k → (t s : ℕ) → Starts (Some d) m t → IsSome (value_at m (below value (nothing_held b) m) e env t s)
+  Ready m = (d : ℕ) (e : PlainTree) (k : Static) (env : Env) → GoodTree k (Some d) (pos 0) e → GoodScope k → Matches env k → (t s : ℕ) → Starts (Some d) m t
+      → IsSome (value_at m (below value (nothing_held b) m) e env t s)
 
   abbrev ReadyBelow : ℕ → Type 0
   ReadyBelow zero = Unit {0}
@@ -165,17 +171,22 @@ module _ (inputs : List (List ℕ)) (bind : Bindings) (ds : List ℕ) (a c : ℕ
     starts-positive (Some d) m t h = omega arith
     starts-positive None m t h = omega arith
 
-    name-goes : (m : ℕ) → ReadyBelow m → (d : ℕ) (e : PlainTree) (k : Static) (env : Env) (u s : ℕ) → GoodTree k (Some d) (pos 0) e → GoodScope k → Matches env k
+    name-goes : (m : ℕ) → ReadyBelow m → (d : ℕ) (e : PlainTree) (k : Static) (env : Env) (u s : ℕ) → GoodTree k (Some d) (pos 0) e → GoodScope k
+        → Matches env k
         → a * u + potential p (number ds d) + 2 ≤ m → IsSome (below value (nothing_held b) m (to_tree (record { at = d; env = env; time = u }) e env u) s)
     name-goes zero r d e k env u s g f h i = absurd (omega arith)
     name-goes (suc m) r d e k env u s g f h i = r d e k env g f h u s (omega arith)
 
-    asked-edge : (from : Option ℕ) (w : ℤ) (at : ℕ) (n : List ℕ) (d : ℕ) (e : PlainTree) (k : Static) (o : Option Binding) → o ≡ Some (Plain d) → All Asked (edge_to from w o) → Asked (record { from = from; to = d; delay = w })
+    asked-edge : (from : Option ℕ) (w : ℤ) (at : ℕ) (n : List ℕ) (d : ℕ) (e : PlainTree) (k : Static) (o : Option Binding) → o ≡ Some (Plain d)
+        → All Asked (edge_to from w o) → Asked (record { from = from; to = d; delay = w })
     asked-edge from w at n d e k o is h = All-head Asked (record { from = from; to = d; delay = w }) [] (subst (λ x. All Asked (edge_to from w x)) is h)
 
-    name-defined-by : (m : ℕ) → ReadyBelow m → (at : ℕ) (n : List ℕ) (from : Option ℕ) (w : ℤ) (t u s : ℕ) (mean : Meaning) (aim : Aim) → NameAim n mean u aim → GoodMeaning mean
-        → bind at ≡ Some (binding_of inputs n mean) → All Asked (edge_to from w (bind at)) → Starts from m t → (pos u +ℤ w) ≤ℤ pos t → IsSome (below value (nothing_held b) m aim s)
-    name-defined-by m r at n from w t u s free aim q g e h f i = subst (λ x. IsSome (below value (nothing_held b) m x s)) (sym q) (input-defined n m u s (starts-positive from m t f))
+    name-defined-by : (m : ℕ) → ReadyBelow m → (at : ℕ) (n : List ℕ) (from : Option ℕ) (w : ℤ) (t u s : ℕ) (mean : Meaning) (aim : Aim) → NameAim n mean u aim
+        → GoodMeaning mean
+        → bind at ≡ Some (binding_of inputs n mean) → All Asked (edge_to from w (bind at)) → Starts from m t → (pos u +ℤ w) ≤ℤ pos t
+        → IsSome (below value (nothing_held b) m aim s)
+    name-defined-by m r at n from w t u s free aim q g e h f i =
+        subst (λ x. IsSome (below value (nothing_held b) m x s)) (sym q) (input-defined n m u s (starts-positive from m t f))
     name-defined-by m r at n from w t u s (plain_name d x k) aim q g e h f i =
         subst (λ y. IsSome (below value (nothing_held b) m y s)) (sym q.is)
         (name-goes m r d x k q.env u s g.0 g.1 q.matches (covered from d w m t u (asked-edge from w at n d x k (bind at) e h) f i))
@@ -183,14 +194,17 @@ module _ (inputs : List (List ℕ)) (bind : Bindings) (ds : List ℕ) (a c : ℕ
     name-defined-by m r at n from w t u s (current_name d x k o) aim q g e h f i = absurd g
     name-defined-by m r at n from w t u s (function d ns ats x k) aim q g e h f i = absurd g
 
-    name-defined : (m : ℕ) → ReadyBelow m → (at : ℕ) (n : List ℕ) (k : Static) (env : Env) (from : Option ℕ) (w : ℤ) (t u s : ℕ) → GoodTree k from w (name at n) → GoodScope k → Matches env k
+    name-defined : (m : ℕ) → ReadyBelow m → (at : ℕ) (n : List ℕ) (k : Static) (env : Env) (from : Option ℕ) (w : ℤ) (t u s : ℕ) → GoodTree k from w (name at n)
+        → GoodScope k → Matches env k
         → Starts from m t → (pos u +ℤ w) ≤ℤ pos t → IsSome (below value (nothing_held b) m (name_target n env u) s)
     name-defined m r at n k env from w t u s g f h i l =
-        name-defined-by m r at n from w t u s (meaning n k) (name_target n env u) (goes n env k h u) (meaning-good n k f) (All-head Bound (named at n k) [] g.bound) g.asked i l
+        name-defined-by m r at n from w t u s (meaning n k) (name_target n env u) (goes n env k h u) (meaning-good n k f)
+        (All-head Bound (named at n k) [] g.bound) g.asked i l
 
     module _ (m : ℕ) (r : ReadyBelow m) where
       abbrev TreeDefined : PlainTree → Type 0
-      TreeDefined e = (k : Static) (env : Env) (from : Option ℕ) (w : ℤ) (t u s : ℕ) → GoodTree k from w e → GoodScope k → Matches env k → Starts from m t → (pos u +ℤ w) ≤ℤ pos t
+      TreeDefined e = (k : Static) (env : Env) (from : Option ℕ) (w : ℤ) (t u s : ℕ) → GoodTree k from w e → GoodScope k → Matches env k → Starts from m t
+          → (pos u +ℤ w) ≤ℤ pos t
           → IsSome (value_at m (below value (nothing_held b) m) e env u s)
 
       -- where the first part is met at w, and the later ones at v
@@ -269,7 +283,8 @@ module _ (inputs : List (List ℕ)) (bind : Bindings) (ds : List ℕ) (a c : ℕ
     ready-below (suc m) = λ d e k env g f h t s i. tree-defined m (ready-below m) e k env (Some d) (pos 0) t t s g f h i (omega (arith, ints))
 
     program-defined : (e : PlainTree) → GoodTree outermost None (pos 0) e → (t s : ℕ) → IsSome (val b (a * t + c) e empty t s)
-    program-defined e g t s = tree-defined (a * t + c) (ready-below (a * t + c)) e outermost empty None (pos 0) t t s g tt outermost_matches (omega arith) (omega (arith, ints))
+    program-defined e g t s = tree-defined (a * t + c) (ready-below (a * t + c)) e outermost empty None (pos 0) t t s g tt outermost_matches (omega arith)
+        (omega (arith, ints))
 
 pub enough-defined : NamesGoWhereTheyBelong → EnoughIsEnough
 enough-defined goes e inputs bind factor add p parts resolved inside q b there =

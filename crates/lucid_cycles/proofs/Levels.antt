@@ -35,6 +35,8 @@ next-rises-by : (y z x w : ℕ) (t : ℤ) → pos (y + 1) ≤ℤ (pos x +ℤ t) 
 next-rises-by y z x w t h e l = omega (arith, ints)
 
 -- the end of an edge that makes a name rise rose in the round before
-pub next-rises : (g : List Edge) (a : ℕ) (p q : List ℕ) (x y : ℕ) (w : ℤ) (value : ℕ) → IsRound g a p q → In (edge x y w) g → pos (potential q y + 1) ≡ pos value +ℤ by a w → potential q x < value
+pub next-rises : (g : List Edge) (a : ℕ) (p q : List ℕ) (x y : ℕ) (w : ℤ) (value : ℕ) → IsRound g a p q → In (edge x y w) g
+    → pos (potential q y + 1) ≡ pos value +ℤ by a w → potential q x < value
     → potential p y < potential q y
-next-rises g a p q x y w value d i e l = next-rises-by (potential p y) (potential q y) (potential q x) value (by a w) (all-in (Raises a p q) (edge x y w) g i d.raises) e l
+next-rises g a p q x y w value d i e l = next-rises-by (potential p y) (potential q y) (potential q x) value (by a w)
+    (all-in (Raises a p q) (edge x y w) g i d.raises) e l

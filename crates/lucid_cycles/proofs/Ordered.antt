@@ -36,7 +36,8 @@ abbrev Rises : {X : Type 0} → (X → ℕ) → List X → Type 0
 Rises n [] = Unit {0}
 Rises n (x ∷ xs) = All (λ z. n x < n z) xs × Rises n xs
 
-above-at : {X : Type 0} (n : X → ℕ) (x z : X) (xs : List X) (k : ℕ) (d : X) → k < length xs → z ≡ get_or xs k d → n x ≤ n z → count_by (λ y. nat_eq (n x) (n y)) (x ∷ xs) ≤ 1 → (n x < n z) ⊎ (n z ≤ n x) → n x < n z
+above-at : {X : Type 0} (n : X → ℕ) (x z : X) (xs : List X) (k : ℕ) (d : X) → k < length xs → z ≡ get_or xs k d → n x ≤ n z
+    → count_by (λ y. nat_eq (n x) (n y)) (x ∷ xs) ≤ 1 → (n x < n z) ⊎ (n z ≤ n x) → n x < n z
 above-at n x z xs k d l e a h (inl q) = q
 above-at n x z xs k d l e a h (inr q) =
     let same : nat_eq (n x) (n (get_or xs k d)) ≡ true = eq-eqb (n x) (n (get_or xs k d)) (omega (arith, a, q, ap n e)) in
@@ -75,7 +76,8 @@ counts-none f b k xs h (inl l) = none-counted (λ z. nat_eq (f z) k) xs (λ i d 
 counts-none f b k xs h (inr l) = none-counted (λ z. nat_eq (f z) k) xs (λ i d q. eq-false (f (get_or xs i d)) k (omega (arith, h i d q, q, l)))
 
 -- one of them has the number k: the first, or one of the others
-one-first-or : {X : Type 0} (f : X → ℕ) (b k : ℕ) (x : X) (xs : List X) → Numbers f b (x ∷ xs) → b ≤ k → (b < k → count_by (λ z. nat_eq (f z) k) xs ≡ 1) → (b < k) ⊎ (k ≤ b) → count_by (λ z. nat_eq (f z) k) (x ∷ xs) ≡ 1
+one-first-or : {X : Type 0} (f : X → ℕ) (b k : ℕ) (x : X) (xs : List X) → Numbers f b (x ∷ xs) → b ≤ k → (b < k → count_by (λ z. nat_eq (f z) k) xs ≡ 1)
+    → (b < k) ⊎ (k ≤ b) → count_by (λ z. nat_eq (f z) k) (x ∷ xs) ≡ 1
 one-first-or f b k x xs h l others (inl q) =
     no-more (λ z. nat_eq (f z) k) x xs (eq-false (f x) k (omega (arith, h 0 x (omega arith), q))) ∙ others q
 one-first-or f b k x xs h l others (inr q) =
@@ -88,7 +90,8 @@ counts-one f b k (x ∷ xs) h l m =
     one-first-or f b k x xs h l (λ q. counts-one f (b + 1) k xs (further f b x xs h) (omega (arith, q)) (omega (arith, m))) (cases_lt b k)
 
 -- what a filter leaves, by its count
-none-on : {X : Type 0} (p : X → Bool) (x : X) (xs : List X) (b : Bool) → p x ≡ b → count_by p (x ∷ xs) ≡ 0 → (count_by p xs ≡ 0 → filter p xs ≡ []) → filter p (x ∷ xs) ≡ []
+none-on : {X : Type 0} (p : X → Bool) (x : X) (xs : List X) (b : Bool) → p x ≡ b → count_by p (x ∷ xs) ≡ 0 → (count_by p xs ≡ 0 → filter p xs ≡ [])
+    → filter p (x ∷ xs) ≡ []
 none-on p x xs true e h rest = absurd (omega (arith, one-more p x xs e, h))
 none-on p x xs false e h rest = ap (λ b. cond b (x ∷ filter p xs) (filter p xs)) e ∙ rest (sym (no-more p x xs e) ∙ h)
 
@@ -144,4 +147,5 @@ pub none-at : {X : Type 0} (n : X → ℕ) (xs ys : List X) → IsPermutation xs
     → filter (λ z. nat_eq (count_by (λ x. nat_lt x (n z)) (map n xs)) k) xs ≡ []
 none-at n xs ys p s o k l =
     none-left (λ z. nat_eq (lesser n xs z) k) xs
-    (sym (sum_by-IsPermutation (λ z. cond (nat_eq (lesser n xs z) k) 1 0) xs ys p) ∙ counts-none (lesser n xs) 0 k ys (numbered n xs ys p s o) (inr (omega (arith, l))))
+    (sym (sum_by-IsPermutation (λ z. cond (nat_eq (lesser n xs z) k) 1 0) xs ys p)
+    ∙ counts-none (lesser n xs) 0 k ys (numbered n xs ys p s o) (inr (omega (arith, l))))

@@ -12,7 +12,8 @@ more y want has t h l = omega (arith, ints)
 pub edge-is : (e : Edge) (x : ℕ) → e.from ≡ Some x → e ≡ edge x e.to e.delay
 edge-is e x n = λ i. record { from = n i; to = e.to; delay = e.delay }
 
-raises-on : (a : ℕ) (p old new : List ℕ) → ((x : ℕ) → potential old x ≤ potential new x) → (y : ℕ) (w : ℤ) (from : Option ℕ) → RaisesFrom a p old from y w → RaisesFrom a p new from y w
+raises-on : (a : ℕ) (p old new : List ℕ) → ((x : ℕ) → potential old x ≤ potential new x) → (y : ℕ) (w : ℤ) (from : Option ℕ) → RaisesFrom a p old from y w
+    → RaisesFrom a p new from y w
 raises-on a p old new h y w None r = tt
 raises-on a p old new h y w (Some x) r = more (potential p y) (potential old x) (potential new x) (by a w) r (h x)
 
@@ -22,11 +23,13 @@ due-on g a p old new e x i (inl s) (inl t) = inl (t ∙ s)
 due-on g a p old new e x i (inr d) (inl t) = inr (subst (IsDue g a p x) (sym t) d)
 due-on g a p old new e x i o (inr m) = inr (record { to = e.to; delay = e.delay; stands = subst (λ y. In y g) (edge-is e x m.from_name) i; is = m.is })
 
-pub rounding-more : (g : List Edge) (a : ℕ) (p old new : List ℕ) (i : ℕ) (e : Edge) → i < length g → e ≡ get_or g i e → Rounding g a p old i → IsRaised a p old new e → Rounding g a p new (i + 1)
+pub rounding-more : (g : List Edge) (a : ℕ) (p old new : List ℕ) (i : ℕ) (e : Edge) → i < length g → e ≡ get_or g i e → Rounding g a p old i
+    → IsRaised a p old new e → Rounding g a p new (i + 1)
 rounding-more g a p old new i e h is r d = record {
   same = d.same ∙ r.same;
   rises = λ x. omega (arith, r.rises x, d.rises x);
-  raises = All-more (Raises a p new) g i e h (All-weaker (Raises a p old) (Raises a p new) (λ f q. raises-on a p old new d.rises f.to f.delay f.from q) (take i g) r.raises)
+  raises = All-more (Raises a p new) g i e h (All-weaker (Raises a p old) (Raises a p new) (λ f q. raises-on a p old new d.rises f.to f.delay f.from q)
+      (take i g) r.raises)
       (subst (Raises a p new) is d.raises);
   due = λ x. due-on g a p old new e x (in-at g i e h is) (r.due x) (d.due x);
 }
@@ -46,7 +49,8 @@ pub added-more : (g : List Edge) (a : ℕ) (p : List ℕ) (c d i : ℕ) (e : Edg
 added-more g a p c d i e h is l k q m = record {
   enough = record {
     two = omega (arith, l.enough.two, k);
-    adds = All-more (Adds a p d) g i e h (All-weaker (Adds a p c) (Adds a p d) (λ f r. adds-on a p c d k f.to f.delay f.from r) (take i g) l.enough.adds) (subst (Adds a p d) is q);
+    adds = All-more (Adds a p d) g i e h (All-weaker (Adds a p c) (Adds a p d) (λ f r. adds-on a p c d k f.to f.delay f.from r) (take i g) l.enough.adds)
+        (subst (Adds a p d) is q);
   };
   least = λ n r.
       let q : All (Adds a p n) (take i g ++ e ∷ []) = subst (All (Adds a p n)) (take_more g i e h ∙ ap (λ x. take i g ++ x ∷ []) (sym is)) r.adds in

@@ -39,12 +39,14 @@ fits-later fby w n h = let l = h.low in let u = h.high in record { low = omega (
 fits-later f w n h = fits-first f w n h
 
 -- what is met in definitions is what is met in the first, and in those after it
-marks-one : (b : Bindings) (at : ℕ) (n : List ℕ) (k : DefKind) (ds : PlainDefs) → marks_in_defs b (def_of at n k ds) ≡ both (own_marks at n k) (both (marks b (Some at) (pos 0) (right_of k)) (marks_in_defs b ds))
+marks-one : (b : Bindings) (at : ℕ) (n : List ℕ) (k : DefKind) (ds : PlainDefs)
+    → marks_in_defs b (def_of at n k ds) ≡ both (own_marks at n k) (both (marks b (Some at) (pos 0) (right_of k)) (marks_in_defs b ds))
 marks-one b at n (DefPlain e) ds = refl
 marks-one b at n (DefFunction ps ats e) ds = refl
 marks-one b at n (DefCurrent e) ds = refl
 
-pub marks-def : (b : Bindings) (d : Def) (ds es : PlainDefs) → es ≡ one_def d ds → marks_in_defs b es ≡ both (own_marks d.at d.name d.kind) (both (marks b (Some d.at) (pos 0) (right_of d.kind)) (marks_in_defs b ds))
+pub marks-def : (b : Bindings) (d : Def) (ds es : PlainDefs) → es ≡ one_def d ds
+    → marks_in_defs b es ≡ both (own_marks d.at d.name d.kind) (both (marks b (Some d.at) (pos 0) (right_of d.kind)) (marks_in_defs b ds))
 marks-def b d ds es e = ap (marks_in_defs b) e ∙ marks-one b d.at d.name d.kind ds
 
 -- and those after it have no more places
@@ -78,18 +80,23 @@ Has ds xs = (d : ℕ) → In d xs → In d ds
 
 module _ (b : Bindings) (ds : List ℕ) where
   mutual
-    good-edges : (x : Option ℕ) (w : ℤ) (e : PlainTree) → outside e ≡ [] → Known ds x → Has ds (plain_names e) → Fits w (length (places e)) → All (Good ds) (edges b x w e)
+    good-edges : (x : Option ℕ) (w : ℤ) (e : PlainTree) → outside e ≡ [] → Known ds x → Has ds (plain_names e) → Fits w (length (places e))
+        → All (Good ds) (edges b x w e)
     good-edges x w (name at n) o k h f = one-edge ds x w (b at) k (fits-part w 1 0 (omega arith) f)
     good-edges x w (call at n es) o k h f = cc
     good-edges x w (block at e es) o k h f =
         let all = length-append (places e) (places_in_defs es) in
         All-append (Good ds) (edges b x w e) (edges_in_defs b es)
-        (good-edges x w e (nil-left (outside e) (outside_in_defs es) o) k (λ d i. h d (in_left d (plain_names e) (plain_names_in_defs es) i)) (fits-part w (suc (length (places e ++ places_in_defs es))) (length (places e)) (omega (arith, all)) f))
-        (good-edges-of es (nil-right (outside e) (outside_in_defs es) o) (λ d i. h d (in_right d (plain_names e) (plain_names_in_defs es) i)) (omega (arith, all, fits-under w _ f)))
+        (good-edges x w e (nil-left (outside e) (outside_in_defs es) o) k (λ d i. h d (in_left d (plain_names e) (plain_names_in_defs es) i))
+        (fits-part w (suc (length (places e ++ places_in_defs es))) (length (places e)) (omega (arith, all)) f))
+        (good-edges-of es (nil-right (outside e) (outside_in_defs es) o) (λ d i. h d (in_right d (plain_names e) (plain_names_in_defs es) i))
+        (omega (arith, all, fits-under w _ f)))
     good-edges x w (form at l es) o k h f =
-        good-edges-in x (first_delay l w) (later_delay l w) es (nil-right _ (outside_in es) o) k h (fits-first l w (length (places_in es)) f) (fits-later l w (length (places_in es)) f)
+        good-edges-in x (first_delay l w) (later_delay l w) es (nil-right _ (outside_in es) o) k h (fits-first l w (length (places_in es)) f)
+        (fits-later l w (length (places_in es)) f)
 
-    good-edges-in : (x : Option ℕ) (w v : ℤ) (es : PlainTrees) → outside_in es ≡ [] → Known ds x → Has ds (plain_names_in es) → Fits w (length (places_in es)) → Fits v
+    good-edges-in : (x : Option ℕ) (w v : ℤ) (es : PlainTrees) → outside_in es ≡ [] → Known ds x → Has ds (plain_names_in es) → Fits w (length (places_in es))
+        → Fits v
         (length (places_in es)) → All (Good ds) (edges_in b x w v es)
     good-edges-in x w v no_trees o k h f g = All-nil (Good ds)
     good-edges-in x w v (tree e es) o k h f g =
@@ -98,13 +105,16 @@ module _ (b : Bindings) (ds : List ℕ) where
         (good-edges x w e (nil-left (outside e) (outside_in es) o) k (λ d i. h d (in_left d (plain_names e) (plain_names_in es) i)) (fits-here w e es f))
         (good-edges-in x v v es (nil-right (outside e) (outside_in es) o) k (λ d i. h d (in_right d (plain_names e) (plain_names_in es) i)) rest rest)
 
-    good-edges-of : (es : PlainDefs) → outside_in_defs es ≡ [] → Has ds (plain_names_in_defs es) → length (places_in_defs es) ≤ 4294967296 → All (Good ds) (edges_in_defs b es)
+    good-edges-of : (es : PlainDefs) → outside_in_defs es ≡ [] → Has ds (plain_names_in_defs es) → length (places_in_defs es) ≤ 4294967296
+        → All (Good ds) (edges_in_defs b es)
     good-edges-of no_defs o h f = All-nil (Good ds)
     good-edges-of (defines at n e es) o h f =
         let all = length-append (places e) (places_in_defs es) in
         All-append (Good ds) (edges b (Some at) (pos 0) e) (edges_in_defs b es)
-        (good-edges (Some at) (pos 0) e (nil-left (outside e) (outside_in_defs es) o) (h at (inl refl)) (λ d i. h d (inr (in_left d (plain_names e) (plain_names_in_defs es) i))) (fits-zero (length (places e)) (omega (arith, all, f))))
-        (good-edges-of es (nil-right (outside e) (outside_in_defs es) o) (λ d i. h d (inr (in_right d (plain_names e) (plain_names_in_defs es) i))) (omega (arith, all, f)))
+        (good-edges (Some at) (pos 0) e (nil-left (outside e) (outside_in_defs es) o) (h at (inl refl))
+        (λ d i. h d (inr (in_left d (plain_names e) (plain_names_in_defs es) i))) (fits-zero (length (places e)) (omega (arith, all, f))))
+        (good-edges-of es (nil-right (outside e) (outside_in_defs es) o) (λ d i. h d (inr (in_right d (plain_names e) (plain_names_in_defs es) i)))
+        (omega (arith, all, f)))
     good-edges-of (defines_function at n ns ats e es) o h f = cc
     good-edges-of (defines_current at n e es) o h f = cc
 
@@ -126,8 +136,10 @@ number-more d x ds = sum_by-cons (λ y. cond (nat_lt y d) 1 0) x ds
 number-below : (d : ℕ) (ds : List ℕ) → In d ds → number ds d < length ds
 number-below d [] i = absurd i
 number-below d (x ∷ ds) (inl e) =
-    subst (λ n. n < suc (length ds)) (sym (number-more d x ds)) (lesser-not (nat_lt x d) (number ds d) (length ds) (not-itself x d e) (count_by-le-length (λ y. nat_lt y d) ds))
-number-below d (x ∷ ds) (inr i) = subst (λ n. n < suc (length ds)) (sym (number-more d x ds)) (less-more (nat_lt x d) (number ds d) (length ds) (number-below d ds i))
+    subst (λ n. n < suc (length ds)) (sym (number-more d x ds))
+    (lesser-not (nat_lt x d) (number ds d) (length ds) (not-itself x d e) (count_by-le-length (λ y. nat_lt y d) ds))
+number-below d (x ∷ ds) (inr i) = subst (λ n. n < suc (length ds)) (sym (number-more d x ds))
+    (less-more (nat_lt x d) (number ds d) (length ds) (number-below d ds i))
 
 below-from : (ds : List ℕ) (x : Option ℕ) → Known ds x → FromBelow (length ds) (option_map (number ds) x)
 below-from ds None k = tt

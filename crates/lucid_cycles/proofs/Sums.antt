@@ -41,7 +41,8 @@ positive a n (negsuc v) h g = absurd (omega (arith, ints, g))
 cancel : (x n : ℕ) (t : ℤ) → pos (x + n) ≤ℤ (pos x +ℤ t) → pos n ≤ℤ t
 cancel x n t h = omega (arith, ints)
 
-cycle-delays : (g : List Edge) (a : ℕ) (p : List ℕ) → All (Falls a p) g → (xs : List ℕ) (ws : List ℤ) → xs ≢ [] → Leads g xs ws (first_or 0 xs) → pos 0 <ℤ total ws
+cycle-delays : (g : List Edge) (a : ℕ) (p : List ℕ) → All (Falls a p) g → (xs : List ℕ) (ws : List ℤ) → xs ≢ [] → Leads g xs ws (first_or 0 xs)
+    → pos 0 <ℤ total ws
 cycle-delays g a p f [] ws h l = absurd (h refl)
 cycle-delays g a p f (x ∷ xs) ws h l =
     positive a (suc (length xs)) (total ws) (omega arith) (cancel (potential p x) (suc (length xs)) (by a (total ws)) (leads-fall g a p f (x ∷ xs) ws x l))

@@ -10,10 +10,12 @@ pub record Roomy (n m : Names) (ds : List ℕ) : Type 0 where
   pub listed : listed_names m ≡ listed_names n ++ ds
 
 with-room : (n : Names) (d : ℕ) → n.count < 2000 → with_name n d ≡ record { places = set n.places n.count d; count = n.count + 1 }
-with-room n d h = ap (λ b. cond b (record { places = set n.places n.count d; count = n.count + 1 }) (record { places = n.places; count = most_names + 1 })) (lt-ltb n.count 2000 h)
+with-room n d h = ap (λ b. cond b (record { places = set n.places n.count d; count = n.count + 1 }) (record { places = n.places; count = most_names + 1 }))
+    (lt-ltb n.count 2000 h)
 
 without-room : (n : Names) (d : ℕ) → 2000 ≤ n.count → with_name n d ≡ record { places = n.places; count = 2001 }
-without-room n d h = ap (λ b. cond b (record { places = set n.places n.count d; count = n.count + 1 }) (record { places = n.places; count = most_names + 1 })) (le-ltb n.count 2000 h)
+without-room n d h = ap (λ b. cond b (record { places = set n.places n.count d; count = n.count + 1 }) (record { places = n.places; count = most_names + 1 }))
+    (le-ltb n.count 2000 h)
 
 pub roomy : (ds : List ℕ) (n m : Names) → m ≡ fold with_name n ds → length n.places ≡ 2000 → n.count + length ds ≤ 2000 → Roomy n m ds
 roomy [] n m e r h = record { count = omega (arith, ap (λ x. x.count) e); listed = ap listed_names e ∙ sym (append-nil (listed_names n)) }
@@ -28,12 +30,14 @@ roomy (d ∷ ds) n m e r h =
     }
 
 under : (x : ℕ) → (x < 2000) ⊎ (2000 ≤ x)
-under x = elim (nat_lt x 2000) as (λ b. nat_lt x 2000 ≡ b → (x < 2000) ⊎ (2000 ≤ x)) [ true ↦ (λ e. inl (grind (arith, nat_tests, e))) | false ↦ (λ e. inr (grind (arith, nat_tests, e))) ] refl
+under x = elim (nat_lt x 2000) as (λ b. nat_lt x 2000 ≡ b → (x < 2000) ⊎ (2000 ≤ x))
+    [ true ↦ (λ e. inl (grind (arith, nat_tests, e))) | false ↦ (λ e. inr (grind (arith, nat_tests, e))) ] refl
 
 pub crowded : (ds : List ℕ) (n m : Names) → m ≡ fold with_name n ds → n.count ≤ 2001 → 2000 < n.count + length ds → m.count ≡ 2001
 crowded [] n m e l h = omega (arith, ap (λ x. x.count) e, l, h)
 crowded (d ∷ ds) n m e l h = elim (under n.count) [
-  | inl u ↦ crowded ds (record { places = set n.places n.count d; count = n.count + 1 }) m (e ∙ ap (λ x. fold with_name x ds) (with-room n d u)) (omega (arith, u)) (omega (arith, h))
+  | inl u ↦ crowded ds (record { places = set n.places n.count d; count = n.count + 1 }) m (e ∙ ap (λ x. fold with_name x ds) (with-room n d u))
+      (omega (arith, u)) (omega (arith, h))
   | inr u ↦ crowded ds (record { places = n.places; count = 2001 }) m (e ∙ ap (λ x. fold with_name x ds) (without-room n d u)) (omega arith) (omega arith)
 ]
 

@@ -24,7 +24,8 @@ module _ (g : List Edge) (a : ℕ) (h : ℕ → List ℕ) where
   first-more y z (x ∷ xs) = refl
 
   -- one name more
-  pub trail-more : (top : ℕ) (xs : List ℕ) (ws : List ℤ) (k y z : ℕ) (w : ℤ) → Trail top xs ws (suc k) y → Down k y z w → Trail top (xs ++ y ∷ []) (ws ++ w ∷ []) k z
+  pub trail-more : (top : ℕ) (xs : List ℕ) (ws : List ℤ) (k y z : ℕ) (w : ℤ) → Trail top xs ws (suc k) y → Down k y z w
+      → Trail top (xs ++ y ∷ []) (ws ++ w ∷ []) k z
   trail-more top [] [] k y z w t d = subst (λ n. Trail n (y ∷ []) (w ∷ []) k z) (sym t) (d, refl)
   trail-more top [] (v ∷ ws) k y z w t d = absurd t
   trail-more top (x ∷ xs) [] k y z w t d = absurd t
@@ -33,7 +34,8 @@ module _ (g : List Edge) (a : ℕ) (h : ℕ → List ℕ) where
       (subst (λ n. Down top x n v) (sym (first-more y z xs)) t.0, trail-more top xs ws k y z w t.1 d)
 
   -- the rest of a trail
-  pub trail-drop : (i top : ℕ) (xs : List ℕ) (ws : List ℤ) (k y : ℕ) → i ≤ length xs → Trail top xs ws k y → (t : ℕ) × (t + i ≡ top) × Trail t (drop i xs) (drop i ws) k y
+  pub trail-drop : (i top : ℕ) (xs : List ℕ) (ws : List ℤ) (k y : ℕ) → i ≤ length xs → Trail top xs ws k y
+      → (t : ℕ) × (t + i ≡ top) × Trail t (drop i xs) (drop i ws) k y
   trail-drop zero top xs ws k y l t = (top, omega arith, t)
   trail-drop (suc i) top [] ws k y l t = absurd (omega (arith, l))
   trail-drop (suc i) top (x ∷ xs) [] k y l t = absurd t
@@ -58,7 +60,8 @@ module _ (g : List Edge) (a : ℕ) (h : ℕ → List ℕ) where
   sum-step : (y n f x : ℕ) (w t s : ℤ) → s ≡ w +ℤ t → pos (y + n) ≡ pos f +ℤ t → pos (f + 1) ≡ pos x +ℤ w → pos (y + suc n) ≡ pos x +ℤ s
   sum-step y n f x w t s e u v = omega (arith, ints)
 
-  pub trail-sum : (top : ℕ) (xs : List ℕ) (ws : List ℤ) (k y : ℕ) → Trail top xs ws k y → pos (potential (h k) y + length xs) ≡ pos (potential (h top) (first_or y xs)) +ℤ by a (total ws)
+  pub trail-sum : (top : ℕ) (xs : List ℕ) (ws : List ℤ) (k y : ℕ) → Trail top xs ws k y
+      → pos (potential (h k) y + length xs) ≡ pos (potential (h top) (first_or y xs)) +ℤ by a (total ws)
   trail-sum top [] [] k y t =
       let e = by-none a in
       let same : potential (h top) y ≡ potential (h k) y = ap (λ n. potential (h n) y) t in
@@ -67,14 +70,16 @@ module _ (g : List Edge) (a : ℕ) (h : ℕ → List ℕ) where
   trail-sum top (x ∷ xs) [] k y t = absurd t
   trail-sum zero (x ∷ xs) (w ∷ ws) k y t = absurd t
   trail-sum (suc top) (x ∷ xs) (w ∷ ws) k y t =
-      sum-step (potential (h k) y) (length xs) (potential (h top) (first_or y xs)) (potential (h (suc top)) x) (by a w) (by a (total ws)) (by a (w +ℤ total ws)) (by-sum a w (total ws))
+      sum-step (potential (h k) y) (length xs) (potential (h top) (first_or y xs)) (potential (h (suc top)) x) (by a w) (by a (total ws)) (by a (w +ℤ total ws))
+      (by-sum a w (total ws))
       (trail-sum top xs ws k y t.1) t.0.is
 
   less : (y n x : ℕ) (t : ℤ) → pos (y + n) ≡ pos x +ℤ t → y < x → t <ℤ pos n
   less y n x t e l = omega (arith, ints)
 
   -- a trail that comes back to its first name has a small sum, where levels only rise
-  pub closed-sum : (top : ℕ) (xs : List ℕ) (ws : List ℤ) (k y : ℕ) → Trail top xs ws k y → xs ≢ [] → first_or y xs ≡ y → ((i j x : ℕ) → i ≤ j → j ≤ top → potential (h i) x ≤ potential (h j) x)
+  pub closed-sum : (top : ℕ) (xs : List ℕ) (ws : List ℤ) (k y : ℕ) → Trail top xs ws k y → xs ≢ [] → first_or y xs ≡ y
+      → ((i j x : ℕ) → i ≤ j → j ≤ top → potential (h i) x ≤ potential (h j) x)
       → by a (total ws) <ℤ pos (length xs)
   closed-sum top [] ws k y t s e m = absurd (s refl)
   closed-sum top (x ∷ xs) [] k y t s e m = absurd t
@@ -83,7 +88,8 @@ module _ (g : List Edge) (a : ℕ) (h : ℕ → List ℕ) where
       let q = trail-length top xs ws k y t.1 in
       let low : potential (h k) y ≤ potential (h top) y = m k top y (omega (arith, q.0)) (omega arith) in
       let same : potential (h top) x ≡ potential (h top) y = ap (λ n. potential (h top) n) e in
-      less (potential (h k) y) (suc (length xs)) (potential (h (suc top)) x) (by a (total (w ∷ ws))) (trail-sum (suc top) (x ∷ xs) (w ∷ ws) k y t) (omega (arith, low, same, t.0.rose))
+      less (potential (h k) y) (suc (length xs)) (potential (h (suc top)) x) (by a (total (w ∷ ws))) (trail-sum (suc top) (x ∷ xs) (w ∷ ws) k y t)
+      (omega (arith, low, same, t.0.rose))
 
 -- turning a cycle
 first-append : (z : ℕ) (xs ys : List ℕ) → first_or z (xs ++ ys) ≡ first_or (first_or z ys) xs
@@ -147,7 +153,8 @@ some-append xs [] s e = s refl
 some-append xs (y ∷ ys) s e = cc
 
 -- a cycle begun further on
-pub turned : (g : List Edge) (xs ys : List ℕ) (ws vs : List ℤ) → length xs ≡ length ws → ys ≢ [] → IsCycle g (xs ++ ys) (ws ++ vs) → IsCycle g (ys ++ xs) (vs ++ ws)
+pub turned : (g : List Edge) (xs ys : List ℕ) (ws vs : List ℤ) → length xs ≡ length ws → ys ≢ [] → IsCycle g (xs ++ ys) (ws ++ vs)
+    → IsCycle g (ys ++ xs) (vs ++ ws)
 turned g xs ys ws vs e s c =
     let z : ℕ = first_or 0 (xs ++ ys) in
     let y : ℕ = first_or 0 (ys ++ xs) in
@@ -183,17 +190,20 @@ firsts (x ∷ xs) (suc i) z h = firsts xs i z (omega (arith, h))
 least-first : (xs : List ℕ) (i d : ℕ) → i < length xs → first_or d (drop i xs ++ take i xs) ≡ get_or xs i d
 least-first [] i d h = absurd (omega (arith, h))
 least-first (x ∷ xs) zero d h = refl
-least-first (x ∷ xs) (suc i) d h = first-append d (drop i xs) (x ∷ take i xs) ∙ first-some x d (drop i xs) (some_left xs i (omega (arith, h))) ∙ firsts xs i d (omega (arith, h))
+least-first (x ∷ xs) (suc i) d h = first-append d (drop i xs) (x ∷ take i xs) ∙ first-some x d (drop i xs) (some_left xs i (omega (arith, h)))
+    ∙ firsts xs i d (omega (arith, h))
 
 -- a cycle without delay, begun at its least name
-pub begun-cycle : (g : List Edge) (xs : List ℕ) (ws : List ℤ) (i : ℕ) (us : List ℕ) (vs : List ℤ) → Closed g xs ws → i < length xs → ((k : ℕ) → k < length xs → get_or xs i 0 ≤ get_or xs k 0)
+pub begun-cycle : (g : List Edge) (xs : List ℕ) (ws : List ℤ) (i : ℕ) (us : List ℕ) (vs : List ℤ) → Closed g xs ws → i < length xs
+    → ((k : ℕ) → k < length xs → get_or xs i 0 ≤ get_or xs k 0)
     → us ≡ drop i xs ++ take i xs → vs ≡ drop i ws ++ take i ws → IsCycleWithoutDelay g us vs
 begun-cycle g xs ws i us vs c h l eu ev =
     let same : length ws ≡ length xs = cycle-length g xs ws c.cycle in
     let parts : length (take i xs) ≡ length (take i ws) = length-take-le i xs (omega (arith, h)) ∙ sym (length-take-le i ws (omega (arith, h, same))) in
     let whole : IsCycle g (take i xs ++ drop i xs) (take i ws ++ drop i ws) =
     subst (λ x. IsCycle g x (take i ws ++ drop i ws)) (sym (take-append-drop i xs)) (subst (IsCycle g xs) (sym (take-append-drop i ws)) c.cycle) in
-    let turn : IsCycle g (drop i xs ++ take i xs) (drop i ws ++ take i ws) = turned g (take i xs) (drop i xs) (take i ws) (drop i ws) parts (some_left xs i h) whole in
+    let turn : IsCycle g (drop i xs ++ take i xs) (drop i ws ++ take i ws) =
+    turned g (take i xs) (drop i xs) (take i ws) (drop i ws) parts (some_left xs i h) whole in
     let sum : total (drop i ws ++ take i ws) ≡ total ws = total-turned (take i ws) (drop i ws) ∙ ap total (take-append-drop i ws) in
     let least : All (λ x. get_or xs i 0 ≤ x) xs = All-from_get_or (λ x. get_or xs i 0 ≤ x) xs 0 l in
     let here : All (λ x. get_or xs i 0 ≤ x) (drop i xs ++ take i xs) =

@@ -16,7 +16,8 @@ same-time : (u f : ℕ) (c d : Context) → frozen_frame u c ≡ frozen_frame f 
 same-time u f c d h = cc
 
 -- a current name goes on with its body in the context without its frozen time, at that time
-pub current-goes : (p : Equations) (n : ℕ) (e : PlainNode) (c outer : Context) (f t top : ℕ) → p.entry n ≡ Some (current_entry e) → c ≡ frozen_frame f (base_of c)
+pub current-goes : (p : Equations) (n : ℕ) (e : PlainNode) (c outer : Context) (f t top : ℕ) → p.entry n ≡ Some (current_entry e)
+    → c ≡ frozen_frame f (base_of c)
     → top ≡ frames c → cut (top - 1) c ≡ Some outer → to_node n c 0 e outer f ≡ name_aim p n (Some c) t
 current-goes p n e root outer f t top h is l o = absurd (cc)
 current-goes p n e (call_frame at c d) outer f t top h is l o = absurd (cc)
@@ -35,7 +36,8 @@ pub few-to_call : (p : Equations) (n at level : ℕ) (c : Context) (t : ℕ) →
 few-to_call p n at level c t h = sym (ap (λ z. name_aim p n (called_from at c z) t) (cut-is_none level c h))
 
 -- a call that leads nowhere from any context
-pub no-call : (p : Equations) (n at level : ℕ) (c : Context) (t : ℕ) → ((caller base : Context) (u : ℕ) → name_aim p n (Some (call_frame at caller base)) u ≡ nowhere)
+pub no-call : (p : Equations) (n at level : ℕ) (c : Context) (t : ℕ)
+    → ((caller base : Context) (u : ℕ) → name_aim p n (Some (call_frame at caller base)) u ≡ nowhere)
     → nowhere ≡ call_aim p n at level c t
 no-call p n at level c t h = go (cut level c)
   where
@@ -44,22 +46,26 @@ no-call p n at level c t h = go (cut level c)
     go (Some base) = sym (h c base t)
 
 -- where there are enough frames, a call's aim is the name's in the context that it enters
-pub call-goes : (p : Equations) (n at level : ℕ) (c base inner : Context) (t : ℕ) → cut level c ≡ Some base → inner ≡ call_frame at c base → name_aim p n (Some inner) t ≡ call_aim p n at level c t
+pub call-goes : (p : Equations) (n at level : ℕ) (c base inner : Context) (t : ℕ) → cut level c ≡ Some base → inner ≡ call_frame at c base
+    → name_aim p n (Some inner) t ≡ call_aim p n at level c t
 call-goes p n at level c base inner t h i = ap (λ z. name_aim p n (Some z) t) i ∙ sym (ap (λ z. name_aim p n (called_from at c z) t) h)
 
 -- what leads somewhere goes on with a daton of its own context
-of-actual : (p : Equations) (known : List Context) (o : Option PlainNode) (n : ℕ) (c f : Context) (t : ℕ) → IsUnknown known c → to_actual o n c f t ≢ nowhere → IsOfUnknown known (to_actual o n c f t)
+of-actual : (p : Equations) (known : List Context) (o : Option PlainNode) (n : ℕ) (c f : Context) (t : ℕ) → IsUnknown known c → to_actual o n c f t ≢ nowhere
+    → IsOfUnknown known (to_actual o n c f t)
 of-actual p known None n c f t u s = absurd (s refl)
 of-actual p known (Some e) n c f t u s = u
 
-of-entry : (p : Equations) (known : List Context) (o : Option PlainEntry) (n : ℕ) (c : Context) (t : ℕ) → IsUnknown known c → by_entry p o n c t ≢ nowhere → IsOfUnknown known (by_entry p o n c t)
+of-entry : (p : Equations) (known : List Context) (o : Option PlainEntry) (n : ℕ) (c : Context) (t : ℕ) → IsUnknown known c → by_entry p o n c t ≢ nowhere
+    → IsOfUnknown known (by_entry p o n c t)
 of-entry p known (Some (plain_entry e)) n c t u s = u
 of-entry p known (Some (called_entry e)) n c t u s = u
 of-entry p known (Some (parameter_entry i)) n (call_frame at f c) t u s = of-actual p known (p.actual at i) n (call_frame at f c) f t u s
 of-entry p known (Some (current_entry e)) n (frozen_frame w c) t u s = u
 of-entry p known o n c t u s = absurd (s refl)
 
-pub call-of_unknown : (p : Equations) (known : List Context) (n at level : ℕ) (c base : Context) (t : ℕ) → cut level c ≡ Some base → IsUnknown known (call_frame at c base)
+pub call-of_unknown : (p : Equations) (known : List Context) (n at level : ℕ) (c base : Context) (t : ℕ) → cut level c ≡ Some base
+    → IsUnknown known (call_frame at c base)
     → name_aim p n (Some (call_frame at c base)) t ≢ nowhere → IsOfUnknown known (call_aim p n at level c t)
 call-of_unknown p known n at level c base t h u s =
     subst (IsOfUnknown known) (call-goes p n at level c base (call_frame at c base) t h refl) (of-entry p known (p.entry n) n (call_frame at c base) t u s)

@@ -18,7 +18,8 @@ pub value_is_got : (known : List Context) (forest : List (Option TaskRow)) (slot
 value_is_got known forest slot row i e = value_there row.parts i ∙ rw e refl
 
 -- a part of a ready row that has no value is idle
-idle_there : (ps : List rows.PartState) (i : ℕ) → list_all rows.is_free ps ≡ true → value_in (state_at (map plain_state ps) i) ≡ None → state_at (map plain_state ps) i ≡ idle
+idle_there : (ps : List rows.PartState) (i : ℕ) → list_all rows.is_free ps ≡ true → value_in (state_at (map plain_state ps) i) ≡ None
+    → state_at (map plain_state ps) i ≡ idle
 idle_there [] i h e = refl
 idle_there (Idle ∷ ps) zero h e = refl
 idle_there (Asked s ∷ ps) zero h e = absurd (cc)
@@ -27,7 +28,8 @@ idle_there (Idle ∷ ps) (suc i) h e = idle_there ps i h e
 idle_there (Asked s ∷ ps) (suc i) h e = absurd (cc)
 idle_there (Got v ∷ ps) (suc i) h e = idle_there ps i h e
 
-pub none_is_idle : (known : List Context) (row : TaskRow) (i : ℕ) → rows.is_ready (Some row) ≡ true → value_of_part (plain_row known row) i ≡ None → state_at (plain_row known row).parts i ≡ idle
+pub none_is_idle : (known : List Context) (row : TaskRow) (i : ℕ) → rows.is_ready (Some row) ≡ true → value_of_part (plain_row known row) i ≡ None
+    → state_at (plain_row known row).parts i ≡ idle
 none_is_idle known row i ready e = idle_there row.parts i ready e
 
 -- A value that is no truth and no end of data, and one that is no place and no end of data.
@@ -126,9 +128,14 @@ no_truth_is_read (Some v) h = record { value = v; has = refl; no_truth = record 
 pub no_place_is_read : (o : Option PlainValue) → IsTruthOrOther (answer_of o) → HasNoPlace o
 no_place_is_read None h = absurd (no (truth_or_other Absent h))
 no_place_is_read (Some eod) h = absurd (no (truth_or_other Ended h))
-no_place_is_read (Some (int (pos n))) h = record { value = int (pos n); has = refl; no_place = λ k. far k (nat_le n last) refl (truth_or_other (answer_of (Some (int (pos n)))) h) }
+no_place_is_read (Some (int (pos n))) h = record {
+  value = int (pos n);
+  has = refl;
+  no_place = λ k. far k (nat_le n last) refl (truth_or_other (answer_of (Some (int (pos n)))) h);
+}
   where
-    far : (k : ℕ → Plan) (b : Bool) → nat_le n last ≡ b → is_truth_or_other (if nat_le n last then At n else Other) ≡ true → by_place (int (pos n)) k ≡ gives fault
+    far : (k : ℕ → Plan) (b : Bool) → nat_le n last ≡ b → is_truth_or_other (if nat_le n last then At n else Other) ≡ true
+        → by_place (int (pos n)) k ≡ gives fault
     far k true e w = absurd (no (sym (ap (λ z. is_truth_or_other (if z then At n else Other)) e) ∙ w))
     far k false e w = ap (λ z. if z then k n else gives fault) e
 no_place_is_read (Some v) h = record { value = v; has = refl; no_place = λ k. refl }

@@ -26,48 +26,58 @@ module _ (T : Table) (known : List Context) (forest : List (Option TaskRow)) (sl
       λ i. record { node = n; context = context_at known (sym number i); time = its.task.time; space = sym space i; limit = its.task.depth }
 
   -- `attime`
-  module _ (left right : ℕ) (there : row_at T its.task.node ≡ Some (node.Attime left right)) (e : node_at T its.task.node ≡ node_by T (node.Attime left right)) where
-    attime_on : (v : PlainValue) → value_of_part r 1 ≡ Some v → Way attime r (by_place v (λ u. gives_part 0 u r.task.space))
-    attime_on v has = on_by attime r 1 its.task.time r.task.space 0 (λ y. by_place y (λ u. gives_part 0 u r.task.space)) v refl has at_start
+  module _ (left right : ℕ) (there : row_at T its.task.node ≡ Some (node.Attime left right)) (e : node_at T its.task.node ≡ node_by T (node.Attime left right))
+    where
+      attime_on : (v : PlainValue) → value_of_part r 1 ≡ Some v → Way attime r (by_place v (λ u. gives_part 0 u r.task.space))
+      attime_on v has = on_by attime r 1 its.task.time r.task.space 0 (λ y. by_place y (λ u. gives_part 0 u r.task.space)) v refl has at_start
 
-    pub attime_asks : answer_of (value_of_part r 1) ≡ Absent → Justified T known r (Ask 1 (record its.task { node = right }))
-    attime_asks a =
-        asks T known forest slot its is attime _ e 1 its.task.time r.task.space 0 _ (omega arith) at_start refl (absent_is_none (value_of_part r 1) a) (record its.task { node = right })
-        (its_look T known forest slot its is (node.Attime left right) there 1 right its.task.time r.task.space 0 refl (plain_task known (record its.task { node = right })) refl) is.known_tag
+      pub attime_asks : answer_of (value_of_part r 1) ≡ Absent → Justified T known r (Ask 1 (record its.task { node = right }))
+      attime_asks a =
+          asks T known forest slot its is attime _ e 1 its.task.time r.task.space 0 _ (omega arith) at_start refl (absent_is_none (value_of_part r 1) a)
+          (record its.task { node = right })
+          (its_look T known forest slot its is (node.Attime left right) there 1 right its.task.time r.task.space 0 refl
+          (plain_task known (record its.task { node = right })) refl) is.known_tag
 
-    pub attime_there : (n : ℕ) → answer_of (value_of_part r 1) ≡ At n
-        → Justified T known r (part_or_ask (got_of forest (record { slot = slot; index = 0 })) 0 (record its.task { node = left; time = n }))
-    attime_there n a =
-        let v = place_is_read (value_of_part r 1) n a in
-        part_or_asks T known forest slot its is attime _ e 0 n r.task.space (omega arith) (subst (Way attime r) (by_a_place r n (λ u. gives_part 0 u r.task.space) v.low) (attime_on (int (pos n)) v.has))
-        (ap (λ o. at_place o (λ u. record { part = 0; time = u; space = r.task.space; least = 0 })) v.has) (record its.task { node = left; time = n })
-        (its_look T known forest slot its is (node.Attime left right) there 0 left n r.task.space 0 refl (plain_task known (record its.task { node = left; time = n })) refl) is.known_tag
+      pub attime_there : (n : ℕ) → answer_of (value_of_part r 1) ≡ At n
+          → Justified T known r (part_or_ask (got_of forest (record { slot = slot; index = 0 })) 0 (record its.task { node = left; time = n }))
+      attime_there n a =
+          let v = place_is_read (value_of_part r 1) n a in
+          part_or_asks T known forest slot its is attime _ e 0 n r.task.space (omega arith)
+          (subst (Way attime r) (by_a_place r n (λ u. gives_part 0 u r.task.space) v.low) (attime_on (int (pos n)) v.has))
+          (ap (λ o. at_place o (λ u. record { part = 0; time = u; space = r.task.space; least = 0 })) v.has) (record its.task { node = left; time = n })
+          (its_look T known forest slot its is (node.Attime left right) there 0 left n r.task.space 0 refl
+          (plain_task known (record its.task { node = left; time = n })) refl) is.known_tag
 
-    pub attime_ends : answer_of (value_of_part r 1) ≡ Ended → Justified T known r End
-    attime_ends a = comes T known forest slot its is attime _ e (gives eod) (attime_on eod (end_is_read (value_of_part r 1) a))
+      pub attime_ends : answer_of (value_of_part r 1) ≡ Ended → Justified T known r End
+      attime_ends a = comes T known forest slot its is attime _ e (gives eod) (attime_on eod (end_is_read (value_of_part r 1) a))
 
-    pub attime_fails : IsTruthOrOther (answer_of (value_of_part r 1)) → Justified T known r Fault
-    attime_fails a =
-        let v = no_place_is_read (value_of_part r 1) a in
-        comes T known forest slot its is attime _ e (gives fault) (subst (Way attime r) (v.no_place _) (attime_on v.value v.has))
+      pub attime_fails : IsTruthOrOther (answer_of (value_of_part r 1)) → Justified T known r Fault
+      attime_fails a =
+          let v = no_place_is_read (value_of_part r 1) a in
+          comes T known forest slot its is attime _ e (gives fault) (subst (Way attime r) (v.no_place _) (attime_on v.value v.has))
 
   -- `atspace`
-  module _ (left right : ℕ) (there : row_at T its.task.node ≡ Some (node.Atspace left right)) (e : node_at T its.task.node ≡ node_by T (node.Atspace left right)) where
+  module _ (left right : ℕ) (there : row_at T its.task.node ≡ Some (node.Atspace left right))
+      (e : node_at T its.task.node ≡ node_by T (node.Atspace left right)) where
     atspace_on : (v : PlainValue) → value_of_part r 1 ≡ Some v → Way atspace r (by_place v (λ s. gives_part 0 its.task.time s))
     atspace_on v has = on_by atspace r 1 its.task.time r.task.space 0 (λ y. by_place y (λ s. gives_part 0 its.task.time s)) v refl has at_start
 
     pub atspace_asks : answer_of (value_of_part r 1) ≡ Absent → Justified T known r (Ask 1 (record its.task { node = right }))
     atspace_asks a =
-        asks T known forest slot its is atspace _ e 1 its.task.time r.task.space 0 _ (omega arith) at_start refl (absent_is_none (value_of_part r 1) a) (record its.task { node = right })
-        (its_look T known forest slot its is (node.Atspace left right) there 1 right its.task.time r.task.space 0 refl (plain_task known (record its.task { node = right })) refl) is.known_tag
+        asks T known forest slot its is atspace _ e 1 its.task.time r.task.space 0 _ (omega arith) at_start refl (absent_is_none (value_of_part r 1) a)
+        (record its.task { node = right })
+        (its_look T known forest slot its is (node.Atspace left right) there 1 right its.task.time r.task.space 0 refl
+        (plain_task known (record its.task { node = right })) refl) is.known_tag
 
     pub atspace_there : (n : ℕ) (tag : Tag) → number_of tag ≡ number_of its.task.tag → space_of tag ≡ n → answer_of (value_of_part r 1) ≡ At n
         → Justified T known r (part_or_ask (got_of forest (record { slot = slot; index = 0 })) 0 (record its.task { node = left; tag = tag }))
     atspace_there n tag number space a =
         let v = place_is_read (value_of_part r 1) n a in
-        part_or_asks T known forest slot its is atspace _ e 0 its.task.time n (omega arith) (subst (Way atspace r) (by_a_place r n (λ s. gives_part 0 its.task.time s) v.low) (atspace_on (int (pos n)) v.has))
+        part_or_asks T known forest slot its is atspace _ e 0 its.task.time n (omega arith)
+        (subst (Way atspace r) (by_a_place r n (λ s. gives_part 0 its.task.time s) v.low) (atspace_on (int (pos n)) v.has))
         (ap (λ o. at_place o (λ s. record { part = 0; time = its.task.time; space = s; least = 0 })) v.has) (record its.task { node = left; tag = tag })
-        (its_look T known forest slot its is (node.Atspace left right) there 0 left its.task.time n 0 refl (plain_task known (record its.task { node = left; tag = tag })) (at_space_is tag left n number space))
+        (its_look T known forest slot its is (node.Atspace left right) there 0 left its.task.time n 0 refl
+        (plain_task known (record its.task { node = left; tag = tag })) (at_space_is tag left n number space))
         (subst (λ z. z < length known) (sym number) is.known_tag)
 
     pub atspace_ends : answer_of (value_of_part r 1) ≡ Ended → Justified T known r End
@@ -79,7 +89,8 @@ module _ (T : Table) (known : List Context) (forest : List (Option TaskRow)) (sl
         comes T known forest slot its is atspace _ e (gives fault) (subst (Way atspace r) (v.no_place _) (atspace_on v.value v.has))
 
   -- a constant, by its number
-  pub constant_there : (k : ℕ) → node_at T its.task.node ≡ node_by T (node.Const k) → NodeIsInRange (sizes T) its.task.node (node.Const k) → Justified T known r (Constant k)
+  pub constant_there : (k : ℕ) → node_at T its.task.node ≡ node_by T (node.Const k) → NodeIsInRange (sizes T) its.task.node (node.Const k)
+      → Justified T known r (Constant k)
   constant_there k e range = (range.1, comes T known forest slot its is (const (constant_at T k)) _ e (gives (constant_at T k)) at_start)
 
   -- a reference: it asks for what it goes on with, or has that value
@@ -111,12 +122,16 @@ module _ (T : Table) (known : List Context) (forest : List (Option TaskRow)) (sl
     input_refuses none = inr (get_or T.inputs k [], its.task.time, input_aim, none)
 
 -- `atspace` at a place: the tag of the place is of the task's context
-pub decides_at_tag : (forest : List (Option TaskRow)) (slot : ℕ) (task : Task) (left right n : ℕ) (tag : Tag) → number_of tag ≡ number_of task.tag → space_of tag ≡ n
+pub decides_at_tag : (forest : List (Option TaskRow)) (slot : ℕ) (task : Task) (left right n : ℕ) (tag : Tag) → number_of tag ≡ number_of task.tag
+    → space_of tag ≡ n
     → answer_of (option_map plain (got_of forest (record { slot = slot; index = 1 }))) ≡ At n
-    → DecidesFor forest slot task (node.Atspace left right) (part_or_ask (got_of forest (record { slot = slot; index = 0 })) 0 (record task { node = left; tag = tag }))
+    → DecidesFor forest slot task (node.Atspace left right)
+    (part_or_ask (got_of forest (record { slot = slot; index = 0 })) 0 (record task { node = left; tag = tag }))
 decides_at_tag forest slot task left right n tag number space a T known its is there e range =
     let back : task ≡ its.task = sym is.is_task in
     let own : IsReadyRow T known forest slot its.task its = subst (λ x. IsReadyRow T known forest slot x its) back is in
-    subst (λ x. Justified T known (plain_row known its) (part_or_ask (got_of forest (record { slot = slot; index = 0 })) 0 (record x { node = left; tag = tag }))) is.is_task
-    (atspace_there T known forest slot its own left right (subst (λ x. row_at T x.node ≡ Some (node.Atspace left right)) back there) (subst (λ x. node_at T x.node ≡ node_by T (node.Atspace left right)) back e)
+    subst (λ x. Justified T known (plain_row known its)
+    (part_or_ask (got_of forest (record { slot = slot; index = 0 })) 0 (record x { node = left; tag = tag }))) is.is_task
+    (atspace_there T known forest slot its own left right (subst (λ x. row_at T x.node ≡ Some (node.Atspace left right)) back there)
+    (subst (λ x. node_at T x.node ≡ node_by T (node.Atspace left right)) back e)
     n tag (subst (λ x. number_of tag ≡ number_of x.tag) back number) space (ap answer_of (value_is_got known forest slot its 1 is.there) ∙ a))

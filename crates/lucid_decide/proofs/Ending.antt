@@ -11,9 +11,11 @@ use Rattle.lucid_decide.proofs.Deciding.{decides_for, comes}
 use Rattle.lucid_decide.proofs.DecidingPlaces.{constant_there}
 
 pub constant_decides : (forest : List (Option TaskRow)) (slot : ℕ) (task : Task) (k : ℕ) → DecidesFor forest slot task (node.Const k) (Constant k)
-constant_decides forest slot task k = decides_for forest slot task (node.Const k) (λ x. Constant k) (λ T known its is there e range. constant_there T known forest slot its is k e range)
+constant_decides forest slot task k = decides_for forest slot task (node.Const k) (λ x. Constant k)
+    (λ T known its is there e range. constant_there T known forest slot its is k e range)
 
-module _ (T : Table) (known : List Context) (forest : List (Option TaskRow)) (slot : ℕ) (its : TaskRow) (is : IsReadyRow T known forest slot its.task its) (a : ℕ) where
+module _ (T : Table) (known : List Context) (forest : List (Option TaskRow)) (slot : ℕ) (its : TaskRow) (is : IsReadyRow T known forest slot its.task its)
+    (a : ℕ) where
   abbrev r : PlainRow
   r = plain_row known its
 
@@ -23,9 +25,12 @@ module _ (T : Table) (known : List Context) (forest : List (Option TaskRow)) (sl
       go : (b : Bool) → nat_lt r.task.time last ≡ b → Justified T known r Fault
       go true low = absurd (none-some (record r.task { node = a; time = suc r.task.time })
           (sym is.still ∙ ap (moved_by T r.task) e
-          ∙ ap (λ b. option_and_then {T = Onward} (λ q. option_map (λ n. record r.task { node = n; time = q.time; space = q.space }) (part_number T r.task.node q.part)) (if b then Some (record { part = 0; time = suc r.task.time; space = r.task.space }) else None)) low
+          ∙ ap
+          (λ b. option_and_then {T = Onward} (λ q. option_map (λ n. record r.task { node = n; time = q.time; space = q.space })
+          (part_number T r.task.node q.part)) (if b then Some (record { part = 0; time = suc r.task.time; space = r.task.space }) else None)) low
           ∙ ap (option_map (λ n. record r.task { node = n; time = suc r.task.time })) (ap (option_and_then (λ z. slice_get (parts z) 0)) there)))
-      go false high = comes T known forest slot its is next _ e (gives fault) (subst (λ b. Way next r (if b then gives_part 0 (suc r.task.time) r.task.space else gives fault)) high at_start)
+      go false high = comes T known forest slot its is next _ e (gives fault)
+          (subst (λ b. Way next r (if b then gives_part 0 (suc r.task.time) r.task.space else gives fault)) high at_start)
 
   succ_fails : row_at T its.task.node ≡ Some (node.Succ a) → node_at T its.task.node ≡ node_by T (node.Succ a) → Justified T known r Fault
   succ_fails there e = go (nat_lt r.task.space last) refl
@@ -33,9 +38,12 @@ module _ (T : Table) (known : List Context) (forest : List (Option TaskRow)) (sl
       go : (b : Bool) → nat_lt r.task.space last ≡ b → Justified T known r Fault
       go true low = absurd (none-some (record r.task { node = a; space = suc r.task.space })
           (sym is.still ∙ ap (moved_by T r.task) e
-          ∙ ap (λ b. option_and_then {T = Onward} (λ q. option_map (λ n. record r.task { node = n; time = q.time; space = q.space }) (part_number T r.task.node q.part)) (if b then Some (record { part = 0; time = r.task.time; space = suc r.task.space }) else None)) low
+          ∙ ap
+          (λ b. option_and_then {T = Onward} (λ q. option_map (λ n. record r.task { node = n; time = q.time; space = q.space })
+          (part_number T r.task.node q.part)) (if b then Some (record { part = 0; time = r.task.time; space = suc r.task.space }) else None)) low
           ∙ ap (option_map (λ n. record r.task { node = n; space = suc r.task.space })) (ap (option_and_then (λ z. slice_get (parts z) 0)) there)))
-      go false high = comes T known forest slot its is succ _ e (gives fault) (subst (λ b. Way succ r (if b then gives_part 0 r.task.time (suc r.task.space) else gives fault)) high at_start)
+      go false high = comes T known forest slot its is succ _ e (gives fault)
+          (subst (λ b. Way succ r (if b then gives_part 0 r.task.time (suc r.task.space) else gives fault)) high at_start)
 
 -- `next` or `succ`
 abbrev pub IsNextOrSucc : Node → Type 0

@@ -11,14 +11,20 @@ use Rattle.lucid_decide.specs.Aims.{IsAim}
 abbrev pub body_task : Aim → (depth : ℕ) → Task
 body_task a depth = record { node = a.body; tag = a.tag; time = a.time; depth = depth }
 
-module _ (T : Table) (known : List Context) (x : PlainTask) (a : Aim) (is : plain_aim T known (Some a) ≡ aim_of_task T x) (there : IsAim T known x.space a) where
-  -- the reference is of the aim's daton,
-  pub aim_refers : RefersTo T x (plain_key known a.key)
-  aim_refers = record { position = record { node = node_at T a.body; context = context_of known a.tag }; time = a.time; aim = sym is; space = there.key_space }
+module _ (T : Table) (known : List Context) (x : PlainTask) (a : Aim) (is : plain_aim T known (Some a) ≡ aim_of_task T x) (there : IsAim T known x.space a)
+  where
+    -- the reference is of the aim's daton,
+    pub aim_refers : RefersTo T x (plain_key known a.key)
+    aim_refers = record {
+      position = record { node = node_at T a.body; context = context_of known a.tag };
+      time = a.time;
+      aim = sym is;
+      space = there.key_space;
+    }
 
-  -- and goes on with the aim's body.
-  pub aim_goes : (depth : ℕ) → x.limit ≡ suc depth → GoesTo T x (plain_key known a.key) (plain_task known (body_task a depth))
-  aim_goes depth limit = record { aim = sym is; space = there.key_space; same_space = there.same_space; limit = limit; there = there.body }
+    -- and goes on with the aim's body.
+    pub aim_goes : (depth : ℕ) → x.limit ≡ suc depth → GoesTo T x (plain_key known a.key) (plain_task known (body_task a depth))
+    aim_goes depth limit = record { aim = sym is; space = there.key_space; same_space = there.same_space; limit = limit; there = there.body }
 
 abbrev daton_of : Daton → NodeAim → Daton
 daton_of k (goes_to d y u) = d

@@ -16,7 +16,8 @@ taken_at (x ∷ xs) (suc n) zero l = refl
 taken_at (x ∷ xs) (suc n) (suc i) l = taken_at xs n i (omega (arith, l))
 
 -- Each argument is a part of the operator's node.
-pub argument_is_part : (T : Table) (id : ℕ) (op : Op) (args : List ℕ) → row_at T id ≡ Some (node.Apply op args) → (i n : ℕ) → i < arity op → slice_get args i ≡ Some n → part_number T id i ≡ Some n
+pub argument_is_part : (T : Table) (id : ℕ) (op : Op) (args : List ℕ) → row_at T id ≡ Some (node.Apply op args) → (i n : ℕ) → i < arity op
+    → slice_get args i ≡ Some n → part_number T id i ≡ Some n
 argument_is_part T id op args is i n low arg = ap (option_and_then (λ x. slice_get (parts x) i)) is ∙ taken_at args (arity op) i low ∙ arg
 
 module _ (T : Table) (id : ℕ) (op : Op) (args : List ℕ) (range : IsInRange T) (is : row_at T id ≡ Some (node.Apply op args)) where
@@ -28,11 +29,14 @@ module _ (T : Table) (id : ℕ) (op : Op) (args : List ℕ) (range : IsInRange T
   argument_is_lower i n low arg = part-lower T range id i n (has_part T id i n (argument_is_part T id op args is i n low arg))
 
 -- The task of an argument is the row's part.
-pub operator_part : (T : Table) (r : PlainRow) (op : Op) (args : List ℕ) (i n : ℕ) → IsInRange T → row_at T r.task.node ≡ Some (node.Apply op args) → i < arity op → slice_get args i ≡ Some n
+pub operator_part : (T : Table) (r : PlainRow) (op : Op) (args : List ℕ) (i n : ℕ) → IsInRange T → row_at T r.task.node ≡ Some (node.Apply op args)
+    → i < arity op → slice_get args i ≡ Some n
     → IsPart T r i (record r.task { node = n })
 operator_part T r op args i n range is low arg =
-    part_by_look {f = apply op (arity op)} {es = (operator_node T r.task.node op args range is).0} {l = record { part = i; time = r.task.time; space = r.task.space; least = 0 }} i
-    (operator_node T r.task.node op args range is).1 look (ap (option_map (λ m. record r.task { node = m; time = r.task.time; space = r.task.space })) (argument_is_part T r.task.node op args is i n low arg))
+    part_by_look {f = apply op (arity op)} {es = (operator_node T r.task.node op args range is).0}
+    {l = record { part = i; time = r.task.time; space = r.task.space; least = 0 }} i
+    (operator_node T r.task.node op args range is).1 look
+    (ap (option_map (λ m. record r.task { node = m; time = r.task.time; space = r.task.space })) (argument_is_part T r.task.node op args is i n low arg))
   where
     look : look_of_row (apply op (arity op)) r i ≡ Some (record { part = i; time = r.task.time; space = r.task.space; least = 0 })
     look = let yes : nat_lt i (arity op) ≡ true = grind (arith, nat_tests) in rw yes refl

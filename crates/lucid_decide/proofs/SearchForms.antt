@@ -28,7 +28,15 @@ searches_by T (Whenever a b) t s e =
     (record { form = whenever; nodes = all_at (nodes_of T) (a ∷ b ∷ []); is = refl; search = refl; pair = λ c. refl; back = λ c. refl; begins = λ c l. l })
 searches_by T (Asa a b) t s e =
     subst (λ z. SearchesBy T (Asa a b) t z) (one_search (Find 0) s e)
-    (record { form = asa; nodes = all_at (nodes_of T) (a ∷ b ∷ []); is = refl; search = refl; pair = λ c. refl; back = λ c. refl; begins = λ c l. omega (arith, l) })
+    (record {
+      form = asa;
+      nodes = all_at (nodes_of T) (a ∷ b ∷ []);
+      is = refl;
+      search = refl;
+      pair = λ c. refl;
+      back = λ c. refl;
+      begins = λ c l. omega (arith, l);
+    })
 searches_by T (Upon a b) t s e =
     subst (λ z. SearchesBy T (Upon a b) t z) (one_search (Count t) s e)
     (record { form = upon; nodes = all_at (nodes_of T) (a ∷ b ∷ []); is = refl; search = refl; pair = λ c. refl; back = λ c. refl; begins = λ c l. l })

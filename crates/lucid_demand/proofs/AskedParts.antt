@@ -24,7 +24,8 @@ use Rattle.lucid_demand.proofs.Turning.{owns_turned, waits_turned, answers_turne
 -- where more contexts are known, which the root enters,
 for_grown : (d : Demand) (e : Evaluating) (w : World) (known : List Context) → KeepsKnown e.engine.known known → IsOneForOne known
     → ((b : Elements) → MayHave e.engine b → (c : Context) → In c known → In c e.engine.known ⊎ IsEntered d b c)
-    → (part : Option Part) (x : PlainTask) (n : ℕ) → IsFor d e w part x n → IsFor d (record { engine = record e.engine { known = known }; rows = e.rows }) w part x n
+    → (part : Option Part) (x : PlainTask) (n : ℕ) → IsFor d e w part x n
+    → IsFor d (record { engine = record e.engine { known = known }; rows = e.rows }) w part x n
 for_grown d e w known keeps one entered None x n f = f
 for_grown d e w known keeps one entered (Some part) x n f = record {
   waits = waits_grow d e.engine w e.rows known keeps one entered f.waits;
@@ -40,7 +41,8 @@ for_grown d e w known keeps one entered (Some part) x n f = record {
 
 -- where a key was looked up,
 for_touched : (d : Demand) (e : Evaluating) (w : World) (stored : Stored) (key : Key) → IsTouched e.engine.stored stored key
-    → (part : Option Part) (x : PlainTask) (n : ℕ) → IsFor d e w part x n → IsFor d (record { engine = record e.engine { stored = stored }; rows = e.rows }) w part x n
+    → (part : Option Part) (x : PlainTask) (n : ℕ) → IsFor d e w part x n
+    → IsFor d (record { engine = record e.engine { stored = stored }; rows = e.rows }) w part x n
 for_touched d e w stored key touched None x n f = f
 for_touched d e w stored key touched (Some part) x n f = record {
   waits = waits_touched d e.engine w stored key f.waits.going.owns touched e.rows f.waits;
@@ -55,7 +57,8 @@ for_touched d e w stored key touched (Some part) x n f = record {
 }
 
 -- and by a task that stands for it, at the same rank or a lower one.
-for_moved : (d : Demand) (e : Evaluating) (w : World) (part : Option Part) (x y : PlainTask) (n m : ℕ) → StandsFor (table_of d) [] y x → m ≤ n → IsFor d e w part x n → IsFor d e w part y m
+for_moved : (d : Demand) (e : Evaluating) (w : World) (part : Option Part) (x y : PlainTask) (n m : ℕ) → StandsFor (table_of d) [] y x → m ≤ n
+    → IsFor d e w part x n → IsFor d e w part y m
 for_moved d e w None x y n m s le f = (f.0, stands-then (table_of d) [] [] y x d.root s f.1)
 for_moved d e w (Some part) x y n m s le f = record {
   waits = f.waits;
@@ -88,7 +91,8 @@ module _ (d : Demand) (e : Evaluating) (w : World) (part : Option Part) (x : Tas
     nothing = nothing_grown d e.engine known keeps m.owns.keys m.nothing;
     wanted = λ b z. subst (λ y. IsWanted d b y) (sym same) (m.wanted b z);
     tag = keeps.known x.tag m.tag;
-    is_for = subst (λ y. IsFor d (record { engine = record e.engine { known = known }; rows = e.rows }) w part y n) (sym same) (for_grown d e w known keeps one entered part task n m.is_for);
+    is_for = subst (λ y. IsFor d (record { engine = record e.engine { known = known }; rows = e.rows }) w part y n) (sym same)
+        (for_grown d e w known keeps one entered part task n m.is_for);
   }
     where
       same : plain_task known x ≡ task
@@ -96,7 +100,8 @@ module _ (d : Demand) (e : Evaluating) (w : World) (part : Option Part) (x : Tas
 
   -- as those that it enters itself;
   pub may_ask_entered : (known : List Context) → KeepsKnown e.engine.known known → IsOneForOne known
-      → ((c : Context) → In c known → In c e.engine.known ⊎ Enters (table_of d) task c) → MayAskFor d (record { engine = record e.engine { known = known }; rows = e.rows }) w part x n
+      → ((c : Context) → In c known → In c e.engine.known ⊎ Enters (table_of d) task c)
+      → MayAskFor d (record { engine = record e.engine { known = known }; rows = e.rows }) w part x n
   may_ask_entered known keeps one entered = may_ask_grown known keeps one (λ b z c i. onward b z c (entered c i))
     where
       onward : (b : Elements) → MayHave e.engine b → (c : Context) → In c e.engine.known ⊎ Enters (table_of d) task c → In c e.engine.known ⊎ IsEntered d b c
@@ -107,7 +112,8 @@ module _ (d : Demand) (e : Evaluating) (w : World) (part : Option Part) (x : Tas
   costs_grown known keeps = cost_as_tags_grow d e.engine.known known e.rows keeps (rows_known d e w part task n m.is_for)
 
   -- and where a key was looked up.
-  pub may_ask_touched : (stored : Stored) (key : Key) → IsTouched e.engine.stored stored key → MayAskFor d (record { engine = record e.engine { stored = stored }; rows = e.rows }) w part x n
+  pub may_ask_touched : (stored : Stored) (key : Key) → IsTouched e.engine.stored stored key
+      → MayAskFor d (record { engine = record e.engine { stored = stored }; rows = e.rows }) w part x n
   may_ask_touched stored key touched = record {
     demand = m.demand;
     owns = owns_touched d e.engine w stored key m.owns touched;
@@ -119,16 +125,19 @@ module _ (d : Demand) (e : Evaluating) (w : World) (part : Option Part) (x : Tas
 
   -- and as those on the way of its moves,
   pub may_ask_on_way : (known : List Context) → KeepsKnown e.engine.known known → IsOneForOne known
-      → ((c : Context) → In c known → In c e.engine.known ⊎ In c (passed_contexts (table_of d) (suc x.node) task)) → MayAskFor d (record { engine = record e.engine { known = known }; rows = e.rows }) w part x n
+      → ((c : Context) → In c known → In c e.engine.known ⊎ In c (passed_contexts (table_of d) (suc x.node) task))
+      → MayAskFor d (record { engine = record e.engine { known = known }; rows = e.rows }) w part x n
   may_ask_on_way known keeps one entered = may_ask_grown known keeps one (λ b z c i. elim (entered c i) [
     | inl o ↦ inl o
     | inr j ↦ way_is_entered d b e.engine.known x c m.demand.in_range m.tag ((m.wanted b z).seen) (suc x.node) j
   ])
 
 -- and so may the task after all its moves, which doesn't move the point.
-module _ (d : Demand) (e : Evaluating) (w : World) (part : Option Part) (x : Task) (m : MayAskNow d e w part x) (y : Task) (is : plain_task e.engine.known y ≡ passed (table_of d) (plain_task e.engine.known x))
+module _ (d : Demand) (e : Evaluating) (w : World) (part : Option Part) (x : Task) (m : MayAskNow d e w part x) (y : Task)
+    (is : plain_task e.engine.known y ≡ passed (table_of d) (plain_task e.engine.known x))
     (tag : IsKnown e.engine.known y.tag) where
-  stood : StandsFor (table_of d) [] (passed (table_of d) (plain_task e.engine.known x)) (plain_task e.engine.known x) × (moved (table_of d) (passed (table_of d) (plain_task e.engine.known x)) ≡ None)
+  stood : StandsFor (table_of d) [] (passed (table_of d) (plain_task e.engine.known x)) (plain_task e.engine.known x)
+      × (moved (table_of d) (passed (table_of d) (plain_task e.engine.known x)) ≡ None)
       × IsTask (table_of d) (passed (table_of d) (plain_task e.engine.known x)) × ((passed (table_of d) (plain_task e.engine.known x)).limit ≡ x.depth)
   stood = passed-stands (table_of d) m.demand.in_range (plain_task e.engine.known x) ((m.wanted (known_elements e.engine) (λ k j v h. h)).there)
 
@@ -146,7 +155,8 @@ module _ (d : Demand) (e : Evaluating) (w : World) (part : Option Part) (x : Tas
     wanted = λ b z. standing-is_wanted d b [] (plain_task e.engine.known y) (plain_task e.engine.known x) (λ k i. absurd i) stands
         (subst (λ q. IsTask (table_of d) q) (sym is) stood.2) (m.wanted b z);
     tag = tag;
-    is_for = for_moved d e w part (plain_task e.engine.known x) (plain_task e.engine.known y) (suc (rank (table_of d) (plain_task e.engine.known x))) (suc (rank (table_of d) (plain_task e.engine.known y))) stands
+    is_for = for_moved d e w part (plain_task e.engine.known x) (plain_task e.engine.known y) (suc (rank (table_of d) (plain_task e.engine.known x)))
+        (suc (rank (table_of d) (plain_task e.engine.known y))) stands
         (omega (arith, stands.rank)) m.is_for;
   }
 
@@ -158,7 +168,8 @@ refers_now d e w part x m = record {
   nothing = m.nothing;
   wanted = m.wanted;
   tag = m.tag;
-  is_for = for_moved d e w part (plain_task e.engine.known x) (plain_task e.engine.known x) (suc (rank (table_of d) (plain_task e.engine.known x))) (rank (table_of d) (plain_task e.engine.known x))
+  is_for = for_moved d e w part (plain_task e.engine.known x) (plain_task e.engine.known x) (suc (rank (table_of d) (plain_task e.engine.known x)))
+      (rank (table_of d) (plain_task e.engine.known x))
       (stands-itself (table_of d) (plain_task e.engine.known x)) (omega arith) m.is_for;
 }
 
@@ -169,19 +180,23 @@ stands_on : (T : Table) (o : Option DatonAt) (x y z : PlainTask) → StandsFor T
 stands_on T None x y z p q = stands-then T [] [] x y z p q
 stands_on T (Some k) x y z p q = stands-then T (key_list (Some k)) [] x y z p q
 
-module _ (d : Demand) (old now : Evaluating) (w : World) (part : Option Part) (x : Task) (n : ℕ) (m : MayAskFor d now w part x n) (same : cost d now ≡ cost d old) where
+module _ (d : Demand) (old now : Evaluating) (w : World) (part : Option Part) (x : Task) (n : ℕ) (m : MayAskFor d now w part x n)
+    (same : cost d now ≡ cost d old) where
   abbrev its : PlainTask
   its = plain_task now.engine.known x
 
   -- A value that answers the task is given.
-  pub asked_given : (new : List (Option TaskRow)) (v : Value) → ((b : Elements) → MayHave now.engine b → Answers d b (holding now.engine) now.engine.stored.lost its (plain v))
+  pub asked_given : (new : List (Option TaskRow)) (v : Value)
+      → ((b : Elements) → MayHave now.engine b → Answers d b (holding now.engine) now.engine.stored.lost its (plain v))
       → rows.Gives now.rows new part v → AsksIn d old (record { engine = now.engine; rows = new }) w part (Ok (rows.returned part v))
   asked_given new v answers = go part m.is_for
     where
-      onward : (y : PlainTask) → StandsFor (table_of d) [] its y → (b : Elements) → MayHave now.engine b → Answers d b (holding now.engine) now.engine.stored.lost y (plain v)
+      onward : (y : PlainTask) → StandsFor (table_of d) [] its y → (b : Elements) → MayHave now.engine b
+          → Answers d b (holding now.engine) now.engine.stored.lost y (plain v)
       onward y s b z = standing-answers d b (holding now.engine) now.engine.stored.lost [] its y (plain v) s (λ a c k i. absurd i) (answers b z)
 
-      go : (p : Option Part) → IsFor d now w p its n → rows.Gives now.rows new p v → AsksIn d old (record { engine = now.engine; rows = new }) w p (Ok (rows.returned p v))
+      go : (p : Option Part) → IsFor d now w p its n → rows.Gives now.rows new p v
+          → AsksIn d old (record { engine = now.engine; rows = new }) w p (Ok (rows.returned p v))
       go None f gives = record { owns = m.owns; goes_on = tt; answers = λ b z. onward d.root f.1 b z; nothing = tt; deep = λ e. absurd (cc); refused = tt }
       go (Some p) f gives = record {
         owns = m.owns;
@@ -193,13 +208,17 @@ module _ (d : Demand) (old now : Evaluating) (w : World) (part : Option Part) (x
       }
         where
           down : GoesDown d now.engine w now.rows new
-          down = gives_goes_down d now.engine w now.rows new f.waits p f.parent v f.there f.free f.few (λ b z. record { task = f.task; is = f.is_part; answers = onward f.task f.stands b z }) gives
+          down = gives_goes_down d now.engine w now.rows new f.waits p f.parent v f.there f.free f.few
+              (λ b z. record { task = f.task; is = f.is_part; answers = onward f.task f.stands b z }) gives
 
   -- A row is made, of a task that stands for it.
-  pub asked_row : (new : List (Option TaskRow)) (slot : ℕ) (y : Task) (key : Option Key) → StandsFor (table_of d) (key_list (option_map (plain_key now.engine.known) key)) (plain_task now.engine.known y) its
-      → moved (table_of d) (plain_task now.engine.known y) ≡ None → rank (table_of d) (plain_task now.engine.known y) < n → IsKnown now.engine.known y.tag → IfSome key (λ k. IsKnown now.engine.known k.tag)
+  pub asked_row : (new : List (Option TaskRow)) (slot : ℕ) (y : Task) (key : Option Key)
+      → StandsFor (table_of d) (key_list (option_map (plain_key now.engine.known) key)) (plain_task now.engine.known y) its
+      → moved (table_of d) (plain_task now.engine.known y) ≡ None → rank (table_of d) (plain_task now.engine.known y) < n → IsKnown now.engine.known y.tag
+      → IfSome key (λ k. IsKnown now.engine.known k.tag)
       → ((b : Elements) → MayHave now.engine b → IsWanted d b (plain_task now.engine.known y))
-      → ((b : Elements) → MayHave now.engine b → (k : DatonAt) → option_map (plain_key now.engine.known) key ≡ Some k → Remembers d b (plain_task now.engine.known y) k)
+      → ((b : Elements) → MayHave now.engine b → (k : DatonAt) → option_map (plain_key now.engine.known) key ≡ Some k
+      → Remembers d b (plain_task now.engine.known y) k)
       → rows.IsPast now.rows slot → rows.Asks now.rows new part slot y key → AsksIn d old (record { engine = now.engine; rows = new }) w part (Ok None)
   asked_row new slot y key stands still low tag key_tag wanted remembers past = go part m.is_for
     where
@@ -209,24 +228,29 @@ module _ (d : Demand) (old now : Evaluating) (w : World) (part : Option Part) (x
       onward : (z : PlainTask) → StandsFor (table_of d) [] its z → StandsFor (table_of d) (key_list daton) (plain_task now.engine.known y) z
       onward z s = stands_on (table_of d) daton (plain_task now.engine.known y) its z stands s
 
-      went : (p : Option Part) → Waits d now.engine w new → IfSome p (λ q. cost_of d now.engine.known new < cost d old) → AsksIn d old (record { engine = now.engine; rows = new }) w p (Ok None)
+      went : (p : Option Part) → Waits d now.engine w new → IfSome p (λ q. cost_of d now.engine.known new < cost d old)
+          → AsksIn d old (record { engine = now.engine; rows = new }) w p (Ok None)
       went p waits less = record { owns = m.owns; goes_on = (waits, less); answers = tt; nothing = m.nothing; deep = λ e. absurd (cc); refused = tt }
 
-      go : (p : Option Part) → IsFor d now w p its n → rows.Asks now.rows new p slot y key → AsksIn d old (record { engine = now.engine; rows = new }) w p (Ok None)
+      go : (p : Option Part) → IsFor d now w p its n → rows.Asks now.rows new p slot y key
+          → AsksIn d old (record { engine = now.engine; rows = new }) w p (Ok None)
       go None f asks =
-          went None (begins_waiting d now.engine w new slot y key m.owns (onward d.root f.1) still tag key_tag wanted remembers (subst (λ rs. rows.Asks rs new None slot y key) f.0 asks)) tt
+          went None (begins_waiting d now.engine w new slot y key m.owns (onward d.root f.1) still tag key_tag wanted remembers
+          (subst (λ rs. rows.Asks rs new None slot y key) f.0 asks)) tt
       go (Some p) f asks = went (Some p) down.waits (subst (λ k. cost_of d now.engine.known new < k) same down.less)
         where
           down : GoesDown d now.engine w now.rows new
           down = asks_goes_down d now.engine w now.rows new f.waits p slot f.parent y key f.there f.free f.few
-              (record { part = f.task; is_part = f.is_part; stands = onward f.task f.stands; lower = omega (arith, low, f.least_rank); still = still }) tag key_tag wanted remembers past asks
+              (record { part = f.task; is_part = f.is_part; stands = onward f.task f.stands; lower = omega (arith, low, f.least_rank); still = still }) tag
+              key_tag wanted remembers past asks
 
   -- It is refused for want of memory,
   pub asked_refused : (new : List (Option TaskRow)) → AsksIn d old (record { engine = now.engine; rows = new }) w part (Err NoMemory)
   asked_refused new = record { owns = m.owns; goes_on = tt; answers = tt; nothing = tt; deep = λ e. absurd (cc); refused = inr refl }
 
   -- or as too deep.
-  pub asked_too_deep : LooksTooDeep (table_of d) its → ((k : DatonAt) → RefersTo (table_of d) its k → stays d k.0 k.1 ≡ None) → AsksIn d old now w part (Err TooDeep)
+  pub asked_too_deep : LooksTooDeep (table_of d) its → ((k : DatonAt) → RefersTo (table_of d) its k → stays d k.0 k.1 ≡ None)
+      → AsksIn d old now w part (Err TooDeep)
   asked_too_deep why lacks = record {
     owns = m.owns;
     goes_on = tt;
@@ -237,7 +261,8 @@ module _ (d : Demand) (old now : Evaluating) (w : World) (part : Option Part) (x
   }
 
 -- What asking gave stays so where the policy had its turn then.
-pub asked_turned : (d : Demand) (old mid new : Evaluating) (w : World) (part : Option Part) (o : Option Value) → AsksIn d old mid w part (Ok o) → IsTurned mid.engine new.engine → new.rows ≡ mid.rows
+pub asked_turned : (d : Demand) (old mid new : Evaluating) (w : World) (part : Option Part) (o : Option Value) → AsksIn d old mid w part (Ok o)
+    → IsTurned mid.engine new.engine → new.rows ≡ mid.rows
     → AsksIn d old new w part (Ok o)
 asked_turned d old mid new w part None a t same = record {
   owns = owns_turned d mid.engine new.engine w a.owns t;
@@ -265,7 +290,8 @@ asked_turned d old mid new w part (Some v) a t same = record {
 }
 
 -- What asking gave from what costs as much.
-pub asked_from : (d : Demand) (old mid new : Evaluating) (w : World) (part : Option Part) (result : Result (Option Value) DemandFault) → cost d mid ≡ cost d old → AsksIn d mid new w part result
+pub asked_from : (d : Demand) (old mid new : Evaluating) (w : World) (part : Option Part) (result : Result (Option Value) DemandFault) → cost d mid ≡ cost d old
+    → AsksIn d mid new w part result
     → AsksIn d old new w part result
 asked_from d old mid new w part result same a = record {
   owns = a.owns;
@@ -290,9 +316,24 @@ not_failed f (inl e) g = let both : TooDeep ≡ ReadFault = sym e ∙ g in absur
 not_failed f (inr e) g = let both : NoMemory ≡ ReadFault = sym e ∙ g in absurd (cc)
 
 -- What asking for a part gave is a step.
-pub asked_steps : (d : Demand) (old new : Evaluating) (w : World) (part : Part) (result : Result (Option Value) DemandFault) → AsksIn d old new w (Some part) result → Stepped d old new w w result
-asked_steps d old new w part (Ok None) a = record { owns = a.owns; goes_on = a.goes_on; answers = tt; deep = λ e. absurd (cc); too_large = tt; failed = λ e. absurd (cc) }
-asked_steps d old new w part (Ok (Some v)) a = record { owns = a.owns; goes_on = tt; answers = a.answers; deep = λ e. absurd (cc); too_large = tt; failed = λ e. absurd (cc) }
+pub asked_steps : (d : Demand) (old new : Evaluating) (w : World) (part : Part) (result : Result (Option Value) DemandFault)
+    → AsksIn d old new w (Some part) result → Stepped d old new w w result
+asked_steps d old new w part (Ok None) a = record {
+  owns = a.owns;
+  goes_on = a.goes_on;
+  answers = tt;
+  deep = λ e. absurd (cc);
+  too_large = tt;
+  failed = λ e. absurd (cc);
+}
+asked_steps d old new w part (Ok (Some v)) a = record {
+  owns = a.owns;
+  goes_on = tt;
+  answers = a.answers;
+  deep = λ e. absurd (cc);
+  too_large = tt;
+  failed = λ e. absurd (cc);
+}
 asked_steps d old new w part (Err f) a = record {
   owns = a.owns;
   goes_on = tt;
@@ -311,7 +352,8 @@ pub record EntersWay (T : Table) (old new : List Context) (x : Task) : Type 0 wh
   pub entered : (c : Context) → In c new → In c old ⊎ In c (passed_contexts T (suc x.node) (plain_task old x))
 
 -- A task is asked for, of what is seen so, and moved on.
-module _ (o old : Evaluating) (view : o ≡ old) (part : Option Part) (x : Task) (known : List Context) (way : EntersWay o.engine.table o.engine.known known x) (i : DemandIn)
+module _ (o old : Evaluating) (view : o ≡ old) (part : Option Part) (x : Task) (known : List Context) (way : EntersWay o.engine.table o.engine.known known x)
+    (i : DemandIn)
     (may : MayAskNow i.demand old i.world part x) where
   abbrev after : List (Option TaskRow) → Evaluating
   after rs = record { engine = record o.engine { known = known }; rows = rs }
@@ -327,14 +369,17 @@ module _ (o old : Evaluating) (view : o ≡ old) (part : Option Part) (x : Task)
 
   may_after : MayAskNow i.demand (after o.rows) i.world part x
   may_after = may_ask_on_way i.demand o i.world part x n may_here known way.keeps (way.contexts may_here.owns.contexts)
-      (subst (λ T. (c : Context) → In c known → In c o.engine.known ⊎ In c (passed_contexts T (suc x.node) (plain_task o.engine.known x))) same_table way.entered)
+      (subst (λ T. (c : Context) → In c known → In c o.engine.known ⊎ In c (passed_contexts T (suc x.node) (plain_task o.engine.known x))) same_table
+      way.entered)
 
   same_cost : cost i.demand (after o.rows) ≡ cost i.demand old
   same_cost = costs_grown i.demand o i.world part x n may_here known way.keeps ∙ ap (cost i.demand) view
 
   -- It is refused for want of memory.
-  pub ask_refused : (rs : List (Option TaskRow)) (res : Result (Option Value) DemandFault) → res ≡ Err NoMemory → AsksIn i.demand old (after rs) i.world part res
-  ask_refused rs res is = subst (λ r. AsksIn i.demand old (after rs) i.world part r) (sym is) (asked_refused i.demand old (after o.rows) i.world part x n may_after same_cost rs)
+  pub ask_refused : (rs : List (Option TaskRow)) (res : Result (Option Value) DemandFault) → res ≡ Err NoMemory
+      → AsksIn i.demand old (after rs) i.world part res
+  ask_refused rs res is = subst (λ r. AsksIn i.demand old (after rs) i.world part r) (sym is)
+      (asked_refused i.demand old (after o.rows) i.world part x n may_after same_cost rs)
 
   module _ (y : Task) (ends : plain_task known y ≡ passed o.engine.table (plain_task o.engine.known x)) (tag : IsKnown known y.tag) where
     last : plain_task known y ≡ passed (table_of i.demand) (plain_task known x)
@@ -348,19 +393,24 @@ module _ (o old : Evaluating) (view : o ≡ old) (part : Option Part) (x : Task)
     m = suc (rank (table_of i.demand) (plain_task known y))
 
     -- The constant that is left of it is given.
-    pub ask_given : (rs : List (Option TaskRow)) (v : Value) → IsConstant o.engine.table (plain_task known y) (plain v) → rows.Gives o.rows rs part v → (r : Option Value) → r ≡ rows.returned part v
+    pub ask_given : (rs : List (Option TaskRow)) (v : Value) → IsConstant o.engine.table (plain_task known y) (plain v) → rows.Gives o.rows rs part v
+        → (r : Option Value) → r ≡ rows.returned part v
         → AsksIn i.demand old (after rs) i.world part (Ok r)
     ask_given rs v constant gives r told = subst (λ z. AsksIn i.demand old (after rs) i.world part (Ok z)) (sym told)
         (asked_given i.demand old (after o.rows) i.world part y m may_last same_cost rs v
-        (λ b z. constant-answers i.demand b (holding (after o.rows).engine) o.engine.stored.lost (plain_task known y) (plain v) (subst (λ T. IsConstant T (plain_task known y) (plain v)) same_table constant)) gives)
+        (λ b z. constant-answers i.demand b (holding (after o.rows).engine) o.engine.stored.lost (plain_task known y) (plain v)
+        (subst (λ T. IsConstant T (plain_task known y) (plain v)) same_table constant)) gives)
 
     -- The reference that is left of it is asked for.
-    pub ask_referred : (new : Evaluating) (res : Result (Option Value) DemandFault) → (MayRefer i.demand (after o.rows) i.world part y → AsksIn i.demand (after o.rows) new i.world part res)
+    pub ask_referred : (new : Evaluating) (res : Result (Option Value) DemandFault)
+        → (MayRefer i.demand (after o.rows) i.world part y → AsksIn i.demand (after o.rows) new i.world part res)
         → AsksIn i.demand old new i.world part res
-    ask_referred new res asks = asked_from i.demand old (after o.rows) new i.world part res same_cost (asks (refers_now i.demand (after o.rows) i.world part y may_last))
+    ask_referred new res asks = asked_from i.demand old (after o.rows) new i.world part res same_cost
+        (asks (refers_now i.demand (after o.rows) i.world part y may_last))
 
     -- Any other task has a row.
-    pub ask_asked : (rs : List (Option TaskRow)) (slot : ℕ) → rows.IsPast o.rows slot → rows.Asks o.rows rs part slot y None → (r : Option Value) → r ≡ None → AsksIn i.demand old (after rs) i.world part (Ok r)
+    pub ask_asked : (rs : List (Option TaskRow)) (slot : ℕ) → rows.IsPast o.rows slot → rows.Asks o.rows rs part slot y None → (r : Option Value) → r ≡ None
+        → AsksIn i.demand old (after rs) i.world part (Ok r)
     ask_asked rs slot past asks r stays = subst (λ z. AsksIn i.demand old (after rs) i.world part (Ok z)) (sym stays)
         (asked_row i.demand old (after o.rows) i.world part y m may_last same_cost rs slot y None (stands-itself (table_of i.demand) (plain_task known y))
         (moved_is_still i.demand (after o.rows) i.world part x may_after y last tag) (omega arith) tag tt may_last.wanted (λ b z k e. absurd (cc)) past asks)
@@ -368,16 +418,19 @@ module _ (o old : Evaluating) (view : o ≡ old) (part : Option Part) (x : Task)
 -- ---- what is set
 
 -- an engine of which only these are others than another's
-pub only_set : (a b : EngineView) (known : List Context) (stored : Stored) (noted : Noted) → a ≡ record b { known = known; stored = stored; noted = noted } → a ≡ record b { known = a.known; stored = a.stored; noted = a.noted }
+pub only_set : (a b : EngineView) (known : List Context) (stored : Stored) (noted : Noted) → a ≡ record b { known = known; stored = stored; noted = noted }
+    → a ≡ record b { known = a.known; stored = a.stored; noted = a.noted }
 only_set a b known stored noted e = e ∙ sym (λ i. record b { known = (e i).known; stored = (e i).stored; noted = (e i).noted })
 
 -- the same where more contexts are known of what is seen so
 pub only_known : (o old : Evaluating) (view : o ≡ old) (known : List Context)
     → record o.engine { known = known } ≡ record old.engine { known = known; stored = o.engine.stored; noted = o.engine.noted }
-only_known o old view known = only_set (record o.engine { known = known }) old.engine known old.engine.stored old.engine.noted (ap (λ (e : Evaluating). record e.engine { known = known }) view)
+only_known o old view known = only_set (record o.engine { known = known }) old.engine known old.engine.stored old.engine.noted
+    (ap (λ (e : Evaluating). record e.engine { known = known }) view)
 
 -- What is given or asked for a part is set of its row, and no more.
-module _ (old new : Evaluating) (inner : List (Option TaskRow)) (same : inner ≡ old.rows) (only : new.engine ≡ record old.engine { known = new.engine.known; stored = new.engine.stored; noted = new.engine.noted })
+module _ (old new : Evaluating) (inner : List (Option TaskRow)) (same : inner ≡ old.rows)
+    (only : new.engine ≡ record old.engine { known = new.engine.known; stored = new.engine.stored; noted = new.engine.noted })
     (keeps : KeepsKnown old.engine.known new.engine.known) where
   pub given_sets : (part : Option Part) (v : Value) → rows.Gives inner new.rows part v → IfSome part (SetsPart old new)
   given_sets None v gives = tt
@@ -388,7 +441,8 @@ module _ (old new : Evaluating) (inner : List (Option TaskRow)) (same : inner �
     keeps = keeps;
   }
 
-  pub asked_sets : (part : Option Part) (slot : ℕ) (y : Task) (key : Option Key) → IfSome part (rows.IsIdlePart old.rows) → rows.IsPast inner slot → rows.Asks inner new.rows part slot y key → IfSome part (SetsPart old new)
+  pub asked_sets : (part : Option Part) (slot : ℕ) (y : Task) (key : Option Key) → IfSome part (rows.IsIdlePart old.rows) → rows.IsPast inner slot
+      → rows.Asks inner new.rows part slot y key → IfSome part (SetsPart old new)
   asked_sets None slot y key there past asks = tt
   asked_sets (Some part) slot y key there past asks = record {
     state = rows.Asked slot;
@@ -416,7 +470,8 @@ pub idle_seen : (o now : Evaluating) (part : Option Part) → o ≡ now → IfSo
 idle_seen o now part view idle = subst (λ (e : Evaluating). IfSome part (rows.IsIdlePart e.rows)) (sym view) idle
 
 -- What a task moves on to can be asked for where that can.
-pub can_ask_last : (o old : Evaluating) (view : o ≡ old) (part : Option Part) (x : Task) → CanAsk old part x → (known : List Context) (y : Task) → y.node < length o.engine.table.nodes → IsKnown known y.tag
+pub can_ask_last : (o old : Evaluating) (view : o ≡ old) (part : Option Part) (x : Task) → CanAsk old part x → (known : List Context) (y : Task)
+    → y.node < length o.engine.table.nodes → IsKnown known y.tag
     → CanAsk (record { engine = record o.engine { known = known }; rows = o.rows }) part y
 can_ask_last o old view part x can known y there tag = record { part_idle = idle_seen o old part view can.part_idle; there = there; known = tag }
 

@@ -56,7 +56,8 @@ module _ {F : Type 0} (old mid : Evaluating) (part : Option Part) (x : Task) (re
 
   aim_of : (o : Option Aim) → result ≡ Ok o → plain_aim T mid.engine.known o ≡ aim_of_task T (plain_task mid.engine.known x)
   aim_of o is = subst (λ z. plain_aim z mid.engine.known o ≡ aim_of_task z (plain_task mid.engine.known x)) same_table
-      (at_ok result (λ a. plain_aim old.engine.table mid.engine.known a ≡ aim_of_task old.engine.table (plain_task old.engine.known x)) o is (finds.aim reference)
+      (at_ok result (λ a. plain_aim old.engine.table mid.engine.known a ≡ aim_of_task old.engine.table (plain_task old.engine.known x)) o is
+      (finds.aim reference)
       ∙ ap (aim_of_task old.engine.table) (sym (task_as_tags_grow old.engine.known mid.engine.known x finds.keeps may.tag)))
 
   -- There was no memory for its context.
@@ -67,12 +68,14 @@ module _ {F : Type 0} (old mid : Evaluating) (part : Option Part) (x : Task) (re
   pub nowhere_refused : result ≡ Ok None → AsksIn i.demand old mid i.world part (Err TooDeep)
   nowhere_refused is =
       let none : aim_of_task T (plain_task mid.engine.known x) ≡ nowhere = sym (aim_of None is) in
-      asked_too_deep i.demand old mid i.world part x n may_mid same_cost (leads_nowhere is_reference none) (λ k r. absurd (refers_nowhere T (plain_task mid.engine.known x) k none r))
+      asked_too_deep i.demand old mid i.world part x n may_mid same_cost (leads_nowhere is_reference none)
+      (λ k r. absurd (refers_nowhere T (plain_task mid.engine.known x) k none r))
 
   -- It leads to a daton, whose key was looked up.
   module _ (a : Aim) (is : result ≡ Ok (Some a)) (looked : Evaluating) (found : Option Value) (looks : LooksUp mid looked a.key found) where
     may_looked : MayAskFor i.demand looked i.world part x n
-    may_looked = subst (λ z. MayAskFor i.demand z i.world part x n) (sym looks.only) (may_ask_touched i.demand mid i.world part x n may_mid looked.engine.stored a.key looks.touched)
+    may_looked = subst (λ z. MayAskFor i.demand z i.world part x n) (sym looks.only)
+        (may_ask_touched i.demand mid i.world part x n may_mid looked.engine.stored a.key looks.touched)
 
     same_cost_looked : cost i.demand looked ≡ cost i.demand old
     same_cost_looked = ap (cost i.demand) looks.only ∙ same_cost
@@ -91,23 +94,27 @@ module _ {F : Type 0} (old mid : Evaluating) (part : Option Part) (x : Task) (re
 
     aim_there : IsAim T looked.engine.known (space_of x.tag) a
     aim_there = subst (λ k. IsAim T k (space_of x.tag) a) (sym same_known)
-        (subst (λ z. IsAim z mid.engine.known (space_of x.tag) a) same_table (at_ok result (λ o. IfSome o (IsAim old.engine.table mid.engine.known (space_of x.tag))) (Some a) is finds.there))
+        (subst (λ z. IsAim z mid.engine.known (space_of x.tag) a) same_table
+        (at_ok result (λ o. IfSome o (IsAim old.engine.table mid.engine.known (space_of x.tag))) (Some a) is finds.there))
 
     refers : RefersTo T its daton
     refers = aim_refers T looked.engine.known its a aim_is aim_there
 
     -- what was found is held
     held_is : holding looked.engine daton.0 daton.1 ≡ option_map plain found
-    held_is = subst (λ (z : Evaluating). holding z.engine (plain_key z.engine.known a.key).0 (plain_key z.engine.known a.key).1 ≡ option_map plain found) (sym looks.only)
+    held_is = subst (λ (z : Evaluating). holding z.engine (plain_key z.engine.known a.key).0 (plain_key z.engine.known a.key).1 ≡ option_map plain found)
+        (sym looks.only)
         (found_is_held i.demand mid.engine i.world looked.engine.stored a.key may_mid.owns looks.touched found
         (subst (λ (k : List Context). a.key.tag.number < length k) same_known aim_there.key_known) looks.value)
 
     -- There was no memory for a copy of what is held.
     pub look_refused : (res : Result (Option Value) DemandFault) → res ≡ Err NoMemory → AsksIn i.demand old looked i.world part res
-    look_refused res is_so = subst (λ r. AsksIn i.demand old looked i.world part r) (sym is_so) (asked_refused i.demand old looked i.world part x n may_looked same_cost_looked looked.rows)
+    look_refused res is_so = subst (λ r. AsksIn i.demand old looked i.world part r) (sym is_so)
+        (asked_refused i.demand old looked i.world part x n may_looked same_cost_looked looked.rows)
 
     -- What is held is given, and the policy has its turn.
-    pub look_given : (v : Value) → found ≡ Some v → (rs : List (Option TaskRow)) → rows.Gives looked.rows rs part v → (new : Evaluating) → IsTurned looked.engine new.engine → new.rows ≡ rs
+    pub look_given : (v : Value) → found ≡ Some v → (rs : List (Option TaskRow)) → rows.Gives looked.rows rs part v → (new : Evaluating)
+        → IsTurned looked.engine new.engine → new.rows ≡ rs
         → (o : Option Value) → o ≡ rows.returned part v → AsksIn i.demand old new i.world part (Ok o)
     look_given v has rs gives new turned same o told = subst (λ r. AsksIn i.demand old new i.world part (Ok r)) (sym told)
         (asked_turned i.demand old (record { engine = looked.engine; rows = rs }) new i.world part (rows.returned part v)
@@ -136,9 +143,11 @@ module _ {F : Type 0} (old mid : Evaluating) (part : Option Part) (x : Task) (re
           (λ k r. subst (λ z. stays i.demand z.0 z.1 ≡ None) (refers_to_one T its daton k refers r) no_stay)
 
       -- Its body moves on.
-      module _ (depth : ℕ) (limit : x.depth ≡ suc depth) (body : Task) (is_body : body ≡ body_task a depth) (known : List Context) (way : EntersWay looked.engine.table looked.engine.known known body) where
+      module _ (depth : ℕ) (limit : x.depth ≡ suc depth) (body : Task) (is_body : body ≡ body_task a depth) (known : List Context)
+          (way : EntersWay looked.engine.table looked.engine.known known body) where
         goes : GoesTo T its daton (plain_task looked.engine.known body)
-        goes = subst (λ z. GoesTo T its daton (plain_task looked.engine.known z)) (sym is_body) (aim_goes T looked.engine.known its a aim_is aim_there depth limit)
+        goes = subst (λ z. GoesTo T its daton (plain_task looked.engine.known z)) (sym is_body)
+            (aim_goes T looked.engine.known its a aim_is aim_there depth limit)
 
         body_tag : IsKnown looked.engine.known body.tag
         body_tag = subst (λ (z : Task). IsKnown looked.engine.known z.tag) (sym is_body) aim_there.known_tag
@@ -150,8 +159,10 @@ module _ {F : Type 0} (old mid : Evaluating) (part : Option Part) (x : Task) (re
         entered b z c k = elim (way.entered c k) [
           | inl o ↦ inl o
           | inr j ↦ way_is_entered i.demand b looked.engine.known body c may_looked.demand.in_range body_tag
-              (standing-is_seen i.demand b (daton ∷ []) (plain_task looked.engine.known body) its (references-stand T its (plain_task looked.engine.known body) daton goes) ((may_looked.wanted b z).seen))
-              (suc body.node) (subst (λ t. In c (passed_contexts t (suc body.node) (plain_task looked.engine.known body))) may_looked.owns.since.goes_on.table j)
+              (standing-is_seen i.demand b (daton ∷ []) (plain_task looked.engine.known body) its
+              (references-stand T its (plain_task looked.engine.known body) daton goes) ((may_looked.wanted b z).seen))
+              (suc body.node) (subst (λ t. In c (passed_contexts t (suc body.node) (plain_task looked.engine.known body))) may_looked.owns.since.goes_on.table
+              j)
         ]
 
         may_later : MayAskFor i.demand later i.world part x n
@@ -163,19 +174,26 @@ module _ {F : Type 0} (old mid : Evaluating) (part : Option Part) (x : Task) (re
         -- There was no memory for a context on its way, or for a row.
         pub body_refused : (rs : List (Option TaskRow)) (res : Result (Option Value) DemandFault) → res ≡ Err NoMemory
             → AsksIn i.demand old (record { engine = record looked.engine { known = known }; rows = rs }) i.world part res
-        body_refused rs res is_so = subst (λ r. AsksIn i.demand old (record { engine = record looked.engine { known = known }; rows = rs }) i.world part r) (sym is_so)
+        body_refused rs res is_so = subst (λ r. AsksIn i.demand old (record { engine = record looked.engine { known = known }; rows = rs }) i.world part r)
+            (sym is_so)
             (asked_refused i.demand old later i.world part x n may_later same_cost_later rs)
 
         -- It has a row, which remembers the daton.
-        pub body_asked : (rs : List (Option TaskRow)) (slot : ℕ) (y : Task) → plain_task known y ≡ passed looked.engine.table (plain_task looked.engine.known body) → IsKnown known y.tag
+        pub body_asked : (rs : List (Option TaskRow)) (slot : ℕ) (y : Task)
+            → plain_task known y ≡ passed looked.engine.table (plain_task looked.engine.known body) → IsKnown known y.tag
             → rows.IsPast looked.rows slot → rows.Asks looked.rows rs part slot y (Some a.key) → (o : Option Value) → o ≡ None
             → AsksIn i.demand old (record { engine = record looked.engine { known = known }; rows = rs }) i.world part (Ok o)
-        body_asked rs slot y ends tag past asks o stays = subst (λ r. AsksIn i.demand old (record { engine = record looked.engine { known = known }; rows = rs }) i.world part (Ok r)) (sym stays)
+        body_asked rs slot y ends tag past asks o stays =
+            subst (λ r. AsksIn i.demand old (record { engine = record looked.engine { known = known }; rows = rs }) i.world part (Ok r)) (sym stays)
             (asked_row i.demand old later i.world part x n may_later same_cost_later rs slot y (Some a.key)
-            (by_plain (λ k z t. StandsFor T (k ∷ []) t z) below.stands) (ap (moved T) last ∙ below.still) (by_plain (λ k z t. rank T t < n) below.lower) tag (way.keeps.known a.key.tag aim_there.key_known)
-            (λ b z. by_plain (λ k q t. IsWanted i.demand b t) (body-is_wanted i.demand b its (passed T (plain_task looked.engine.known body)) daton below no_stay (may_looked.wanted b z)))
+            (by_plain (λ k z t. StandsFor T (k ∷ []) t z) below.stands) (ap (moved T) last ∙ below.still) (by_plain (λ k z t. rank T t < n) below.lower) tag
+            (way.keeps.known a.key.tag aim_there.key_known)
+            (λ b z. by_plain (λ k q t. IsWanted i.demand b t)
+            (body-is_wanted i.demand b its (passed T (plain_task looked.engine.known body)) daton below no_stay (may_looked.wanted b z)))
             (λ b z k e. subst (λ q. Remembers i.demand b (plain_task known y) q) (let same : plain_key known a.key ≡ k = cc in same)
-            (by_plain (λ q u t. Remembers i.demand b t q) (body-remembers i.demand may_looked.demand.in_range b its (plain_task looked.engine.known body) daton ((may_looked.wanted b z).seen) goes no_stay))) past asks)
+            (by_plain (λ q u t. Remembers i.demand b t q)
+            (body-remembers i.demand may_looked.demand.in_range b its (plain_task looked.engine.known body) daton ((may_looked.wanted b z).seen) goes
+            no_stay))) past asks)
           where
             last : plain_task known y ≡ passed T (plain_task looked.engine.known body)
             last = subst (λ t. plain_task known y ≡ passed t (plain_task looked.engine.known body)) may_looked.owns.since.goes_on.table ends
@@ -184,14 +202,18 @@ module _ {F : Type 0} (old mid : Evaluating) (part : Option Part) (x : Task) (re
             below = body-stands T may_looked.demand.in_range its (plain_task looked.engine.known body) daton goes
 
             -- the key, the reference and the last task are seen as before
-            by_plain : (P : DatonAt → PlainTask → PlainTask → Type 0) → P daton its (passed T (plain_task looked.engine.known body)) → P (plain_key known a.key) (plain_task known x) (plain_task known y)
+            by_plain : (P : DatonAt → PlainTask → PlainTask → Type 0) → P daton its (passed T (plain_task looked.engine.known body))
+                → P (plain_key known a.key) (plain_task known x) (plain_task known y)
             by_plain P p =
                 subst (λ t. P (plain_key known a.key) (plain_task known x) t) (sym last)
-                (subst (λ z. P (plain_key known a.key) z (passed T (plain_task looked.engine.known body))) (sym (task_as_tags_grow looked.engine.known known x way.keeps may_looked.tag))
-                (subst (λ k. P k its (passed T (plain_task looked.engine.known body))) (sym (key_as_tags_grow looked.engine.known known a.key way.keeps aim_there.key_known)) p))
+                (subst (λ z. P (plain_key known a.key) z (passed T (plain_task looked.engine.known body)))
+                (sym (task_as_tags_grow looked.engine.known known x way.keeps may_looked.tag))
+                (subst (λ k. P k its (passed T (plain_task looked.engine.known body)))
+                (sym (key_as_tags_grow looked.engine.known known a.key way.keeps aim_there.key_known)) p))
 
 -- What it does to the row of a part, whoever asks.
-module _ {F : Type 0} (old mid looked : Evaluating) (x : Task) (result : Result (Option Aim) F) (finds : FindsAim old mid x result) (key : Key) (found : Option Value) (looks : LooksUp mid looked key found) where
+module _ {F : Type 0} (old mid looked : Evaluating) (x : Task) (result : Result (Option Aim) F) (finds : FindsAim old mid x result) (key : Key)
+    (found : Option Value) (looks : LooksUp mid looked key found) where
   engine_is : looked.engine ≡ record old.engine { known = mid.engine.known; stored = looked.engine.stored }
   engine_is = ap (λ (e : Evaluating). e.engine) looks.only ∙ ap (λ (e : Evaluating). record e.engine { stored = looked.engine.stored }) finds.only
 
@@ -202,16 +224,23 @@ module _ {F : Type 0} (old mid looked : Evaluating) (x : Task) (result : Result 
   keeps_known = subst (λ (e : EngineView). KeepsKnown old.engine.known e.known) (sym engine_is) finds.keeps
 
   -- It has what is held, and the policy had its turn;
-  pub held_sets : (part : Option Part) (v : Value) (rs : List (Option TaskRow)) → rows.Gives looked.rows rs part v → (new : Evaluating) → IsTurned looked.engine new.engine → new.rows ≡ rs → IfSome part (SetsPart old new)
+  pub held_sets : (part : Option Part) (v : Value) (rs : List (Option TaskRow)) → rows.Gives looked.rows rs part v → (new : Evaluating)
+      → IsTurned looked.engine new.engine → new.rows ≡ rs → IfSome part (SetsPart old new)
   held_sets part v rs gives new t same =
       given_sets old new looked.rows same_rows
-      (only_set new.engine old.engine mid.engine.known new.engine.stored new.engine.noted (t.only ∙ ap (λ (e : EngineView). record e { stored = new.engine.stored; noted = new.engine.noted }) engine_is))
-      (subst (λ (e : EngineView). KeepsKnown old.engine.known e.known) (sym t.only) keeps_known) part v (subst (λ r. rows.Gives looked.rows r part v) (sym same) gives)
+      (only_set new.engine old.engine mid.engine.known new.engine.stored new.engine.noted
+      (t.only ∙ ap (λ (e : EngineView). record e { stored = new.engine.stored; noted = new.engine.noted }) engine_is))
+      (subst (λ (e : EngineView). KeepsKnown old.engine.known e.known) (sym t.only) keeps_known) part v
+      (subst (λ r. rows.Gives looked.rows r part v) (sym same) gives)
 
   -- or it was asked for.
-  pub made_sets : (part : Option Part) (known : List Context) → KeepsKnown looked.engine.known known → IfSome part (rows.IsIdlePart old.rows) → (rs : List (Option TaskRow)) (slot : ℕ) (y : Task) (k : Option Key)
-      → rows.IsPast looked.rows slot → rows.Asks looked.rows rs part slot y k → IfSome part (SetsPart old (record { engine = record looked.engine { known = known }; rows = rs }))
+  pub made_sets : (part : Option Part) (known : List Context) → KeepsKnown looked.engine.known known → IfSome part (rows.IsIdlePart old.rows)
+      → (rs : List (Option TaskRow)) (slot : ℕ) (y : Task) (k : Option Key)
+      → rows.IsPast looked.rows slot → rows.Asks looked.rows rs part slot y k
+      → IfSome part (SetsPart old (record { engine = record looked.engine { known = known }; rows = rs }))
   made_sets part known more idle rs slot y k =
       asked_sets old (record { engine = record looked.engine { known = known }; rows = rs }) looked.rows same_rows
-      (only_set (record looked.engine { known = known }) old.engine known looked.engine.stored old.engine.noted (ap (λ (e : EngineView). record e { known = known }) engine_is))
-      (record { known = λ tag h. more.known tag (keeps_known.known tag h); same = λ tag h. more.same tag (keeps_known.known tag h) ∙ keeps_known.same tag h }) part slot y k idle
+      (only_set (record looked.engine { known = known }) old.engine known looked.engine.stored old.engine.noted
+      (ap (λ (e : EngineView). record e { known = known }) engine_is))
+      (record { known = λ tag h. more.known tag (keeps_known.known tag h); same = λ tag h. more.same tag (keeps_known.known tag h) ∙ keeps_known.same tag h })
+      part slot y k idle

@@ -64,7 +64,8 @@ pub record AskedBelow (old now : Evaluating) (slot : ℕ) (op : Op) (args : List
   pub in_demand : (i : DemandIn) → MayAct i.demand old i.world slot (decision.AskAll op args) → AskedIn i.demand old now i.world slot args index
 
 -- before the first part
-pub asks_begin : (old : Evaluating) (slot : ℕ) (op : Op) (args : List ℕ) (task : Task) → IsTrue (is_ready (row_at old.rows slot)) → option_map (λ row. row.task) (row_at old.rows slot) ≡ Some task
+pub asks_begin : (old : Evaluating) (slot : ℕ) (op : Op) (args : List ℕ) (task : Task) → IsTrue (is_ready (row_at old.rows slot))
+    → option_map (λ row. row.task) (row_at old.rows slot) ≡ Some task
     → AskedBelow old old slot op args task 0
 asks_begin old slot op args task ready told = record {
   row = its.0;
@@ -82,7 +83,8 @@ asks_begin old slot op args task ready told = record {
     its : (r : TaskRow) × (row_at old.rows slot ≡ Some r)
     its = ready_is_there old.rows slot ready
 
-module _ (old now : Evaluating) (slot : ℕ) (op : Op) (args : List ℕ) (task : Task) (index : ℕ) (b : AskedBelow old now slot op args task index) (ready : IsTrue (is_ready (row_at old.rows slot))) where
+module _ (old now : Evaluating) (slot : ℕ) (op : Op) (args : List ℕ) (task : Task) (index : ℕ) (b : AskedBelow old now slot op args task index)
+    (ready : IsTrue (is_ready (row_at old.rows slot))) where
   -- the row is there
   pub asking_row : IsRow now.rows slot
   asking_row = subst (λ o. IsSome o) (sym b.there) refl
@@ -109,7 +111,8 @@ module _ (old now : Evaluating) (slot : ℕ) (op : Op) (args : List ℕ) (task :
     in_demand = λ i act. on i act (b.in_demand i act);
   }
     where
-      below : now ≡ old → ((i m : ℕ) → i < index → slice_get args i ≡ Some m → IsSome (value_of old slot i m)) → (i m : ℕ) → i < index + 1 → slice_get args i ≡ Some m → IsSome (value_of old slot i m)
+      below : now ≡ old → ((i m : ℕ) → i < index → slice_get args i ≡ Some m → IsSome (value_of old slot i m)) → (i m : ℕ) → i < index + 1
+          → slice_get args i ≡ Some m → IsSome (value_of old slot i m)
       below same f i m l e = by (cases_lt i index)
         where
           by : (i < index) ⊎ (index ≤ i) → IsSome (value_of old slot i m)
@@ -117,15 +120,18 @@ module _ (old now : Evaluating) (slot : ℕ) (op : Op) (args : List ℕ) (task :
           by (inr le) =
               let it : index ≡ i = omega (arith, l, le) in
               let its : n ≡ m = same_Some n m (sym arg ∙ ap (slice_get args) it ∙ e) in
-              subst (λ k. IsSome (value_of old slot i k)) its (subst (λ k. IsSome (value_of old slot k n)) it (subst (λ z. IsSome (value_of z slot index n)) same there))
+              subst (λ k. IsSome (value_of old slot i k)) its
+              (subst (λ k. IsSome (value_of old slot k n)) it (subst (λ z. IsSome (value_of z slot index n)) same there))
 
-      on : (i : DemandIn) → MayAct i.demand old i.world slot (decision.AskAll op args) → AskedIn i.demand old now i.world slot args index → AskedIn i.demand old now i.world slot args (index + 1)
+      on : (i : DemandIn) → MayAct i.demand old i.world slot (decision.AskAll op args) → AskedIn i.demand old now i.world slot args index
+          → AskedIn i.demand old now i.world slot args (index + 1)
       on i act a = record { waits = a.waits; nothing = a.nothing; some = elim a.some [ inl less ↦ inl less | inr same ↦ inr (same.0, below same.0 same.1) ] }
 
   -- The part of an argument that has no value is idle, and may be asked.
   module _ (n : ℕ) (none : value_of now slot index n ≡ None) where
     part_is_free : rows.state_at index b.row ≡ Idle
-    part_is_free = free_idle (rows.state_at index b.row) (subst (λ s. rows.is_free s ≡ true) (sym (b.rest index (le_refl index))) (free_at b.first.parts index first_free))
+    part_is_free = free_idle (rows.state_at index b.row)
+        (subst (λ s. rows.is_free s ≡ true) (sym (b.rest index (le_refl index))) (free_at b.first.parts index first_free))
         (sym (ap (λ o. option_and_then rows.got_value (option_map (rows.state_at index) o)) b.there)
         ∙ no_value now.engine.table (table.row_at now.engine.table n) (got_of now.rows (record { slot = slot; index = index })) none)
 
@@ -140,26 +146,32 @@ module _ (old now : Evaluating) (slot : ℕ) (op : Op) (args : List ℕ) (task :
       known = b.keeps.known task.tag (subst (λ (x : Task). IsKnown old.engine.known x.tag) b.is_task (can.known b.first b.first_there));
     }
 
-    module _ (low : index < arity op) (few : arity op ≤ 3) (arg : slice_get args index ≡ Some n) (i : DemandIn) (act : MayAct i.demand old i.world slot (decision.AskAll op args)) where
+    module _ (low : index < arity op) (few : arity op ≤ 3) (arg : slice_get args index ≡ Some n) (i : DemandIn)
+        (act : MayAct i.demand old i.world slot (decision.AskAll op args)) where
       plain_free : state_at (plain_row now.engine.known b.row).parts index ≡ idle
       plain_free = plain_at b.row.parts index ∙ ap plain_state part_is_free
 
       operator : table.row_at (table_of i.demand) b.row.task.node ≡ Some (node.Apply op args)
-      operator = subst (λ (x : Task). table.row_at (table_of i.demand) x.node ≡ Some (node.Apply op args)) (sym b.same_task) ((act.justified b.first b.first_there).0)
+      operator = subst (λ (x : Task). table.row_at (table_of i.demand) x.node ≡ Some (node.Apply op args)) (sym b.same_task)
+          ((act.justified b.first b.first_there).0)
 
       -- The argument may be asked for.
       pub may_ask_argument : MayAskNow i.demand now i.world (Some (record { slot = slot; index = index })) (record task { node = n })
       may_ask_argument =
-          part_may_be_asked i.demand now i.world act.step.demand (b.in_demand i act).waits (b.in_demand i act).nothing (record { slot = slot; index = index }) b.row b.there (record task { node = n }) (
-            arguments_may_be_asked (table_of i.demand) (plain_row now.engine.known b.row) op (arity op) (operator_node (table_of i.demand) b.row.task.node op args act.step.demand.in_range operator).0 index
+          part_may_be_asked i.demand now i.world act.step.demand (b.in_demand i act).waits (b.in_demand i act).nothing (record { slot = slot; index = index })
+          b.row b.there (record task { node = n }) (
+            arguments_may_be_asked (table_of i.demand) (plain_row now.engine.known b.row) op (arity op)
+                (operator_node (table_of i.demand) b.row.task.node op args act.step.demand.in_range operator).0 index
                 (operator_node (table_of i.demand) b.row.task.node op args act.step.demand.in_range operator).1 low few plain_free,
-            subst (λ (x : Task). IsPart (table_of i.demand) (plain_row now.engine.known b.row) index (plain_task now.engine.known (record x { node = n }))) (b.same_task ∙ b.is_task)
+            subst (λ (x : Task). IsPart (table_of i.demand) (plain_row now.engine.known b.row) index (plain_task now.engine.known (record x { node = n })))
+                (b.same_task ∙ b.is_task)
                 (operator_part (table_of i.demand) (plain_row now.engine.known b.row) op args index n act.step.demand.in_range operator low arg),
             subst (λ (x : Task). IsKnown now.engine.known x.tag) (b.same_task ∙ b.is_task) (((b.in_demand i act).waits.known slot b.row b.there).task),
           )
 
     -- The part was asked or given: the next may be.
-    pub part_is_next : (new : Evaluating) → SetsPart now new (record { slot = slot; index = index }) → index < arity op → arity op ≤ 3 → slice_get args index ≡ Some n
+    pub part_is_next : (new : Evaluating) → SetsPart now new (record { slot = slot; index = index }) → index < arity op → arity op ≤ 3
+        → slice_get args index ≡ Some n
         → (result : Result (Option Value) DemandFault) → result ≡ Ok None
         → ((i : DemandIn) → MayAskNow i.demand now i.world (Some (record { slot = slot; index = index })) (record task { node = n })
         → AsksIn i.demand now new i.world (Some (record { slot = slot; index = index })) result)
@@ -173,15 +185,20 @@ module _ (old now : Evaluating) (slot : ℕ) (op : Op) (args : List ℕ) (task :
       same_task = b.same_task;
       rest = λ i l. other_part b.row.parts index i sets.state (λ e. absurd (omega (arith, e, l))) ∙ b.rest i (omega (arith, l));
       only = sets.only ∙ ap (λ (e : EngineView). record e { known = new.engine.known; stored = new.engine.stored; noted = new.engine.noted }) b.only;
-      keeps = record { known = λ tag k. sets.keeps.known tag (b.keeps.known tag k); same = λ tag k. sets.keeps.same tag (b.keeps.known tag k) ∙ b.keeps.same tag k };
-      in_demand = λ i act. on i (subst (λ z. AsksIn i.demand now new i.world (Some (record { slot = slot; index = index })) z) ok (goes i (may_ask_argument low few arg i act))) (b.in_demand i act);
+      keeps = record {
+        known = λ tag k. sets.keeps.known tag (b.keeps.known tag k);
+        same = λ tag k. sets.keeps.same tag (b.keeps.known tag k) ∙ b.keeps.same tag k;
+      };
+      in_demand = λ i act. on i (subst (λ z. AsksIn i.demand now new i.world (Some (record { slot = slot; index = index })) z) ok
+          (goes i (may_ask_argument low few arg i act))) (b.in_demand i act);
     }
       where
         on : (i : DemandIn) → AsksIn i.demand now new i.world (Some (record { slot = slot; index = index })) (Ok None)
             → AskedIn i.demand old now i.world slot args index → AskedIn i.demand old new i.world slot args (index + 1)
         on i asked its = record { waits = asked.goes_on.0; nothing = asked.nothing; some = inl (less its.some) }
           where
-            less : (cost i.demand now < cost i.demand old) ⊎ ((now ≡ old) × ((k m : ℕ) → k < index → slice_get args k ≡ Some m → IsSome (value_of old slot k m))) → cost i.demand new < cost i.demand old
+            less : (cost i.demand now < cost i.demand old)
+                ⊎ ((now ≡ old) × ((k m : ℕ) → k < index → slice_get args k ≡ Some m → IsSome (value_of old slot k m))) → cost i.demand new < cost i.demand old
             less (inl l) = omega (arith, l, asked.goes_on.1)
             less (inr same) = subst (λ e. cost i.demand new < cost i.demand e) same.0 asked.goes_on.1
 
@@ -194,12 +211,14 @@ module _ (old now : Evaluating) (slot : ℕ) (op : Op) (args : List ℕ) (task :
         stepped_from_less i.demand old now new i.world i.world (Err f) (no_more (b.in_demand i act).some)
         (asked_steps i.demand now new i.world (record { slot = slot; index = index }) (Err f) (asks i (may_ask_argument low few arg i act)))
       where
-        no_more : (cost i.demand now < cost i.demand old) ⊎ ((now ≡ old) × ((k m : ℕ) → k < index → slice_get args k ≡ Some m → IsSome (value_of old slot k m))) → cost i.demand now ≤ cost i.demand old
+        no_more : (cost i.demand now < cost i.demand old) ⊎ ((now ≡ old) × ((k m : ℕ) → k < index → slice_get args k ≡ Some m → IsSome (value_of old slot k m)))
+            → cost i.demand now ≤ cost i.demand old
         no_more (inl l) = omega (arith, l)
         no_more (inr same) = subst (λ e. cost i.demand now ≤ cost i.demand e) same.0 (le_refl (cost i.demand now))
 
   -- After the last part some was asked or given, since one argument had no value.
-  pub asks_end : arity op ≤ index → (i : DemandIn) → MayAct i.demand old i.world slot (decision.AskAll op args) → Stepped i.demand old now i.world i.world (Ok None)
+  pub asks_end : arity op ≤ index → (i : DemandIn) → MayAct i.demand old i.world slot (decision.AskAll op args)
+      → Stepped i.demand old now i.world i.world (Ok None)
   asks_end all i act = goes_on_step i.demand old now i.world a.waits (elim a.some [ inl less ↦ less | inr same ↦ absurd (one_had_none same.1) ])
     where
       a : AskedIn i.demand old now i.world slot args index
@@ -213,11 +232,13 @@ module _ (old now : Evaluating) (slot : ℕ) (op : Op) (args : List ℕ) (task :
           absent (value_of old slot j.0 j.2.0) none (f j.0 j.2.0 (omega (arith, low, all)) j.2.1)
 
 -- What is told of an argument's value: there is none,
-pub told_none : (now : Evaluating) (slot index n : ℕ) (r : Option (Bor Value)) → option_map plain (option_copied r) ≡ value_of now slot index n → is_some r ≡ false → value_of now slot index n ≡ None
+pub told_none : (now : Evaluating) (slot index n : ℕ) (r : Option (Bor Value)) → option_map plain (option_copied r) ≡ value_of now slot index n
+    → is_some r ≡ false → value_of now slot index n ≡ None
 told_none now slot index n None e h = sym e
 told_none now slot index n (Some v) e h = absurd (cc)
 
 -- or there is one.
-pub told_some : (now : Evaluating) (slot index n : ℕ) (r : Option (Bor Value)) → option_map plain (option_copied r) ≡ value_of now slot index n → is_some r ≡ true → IsSome (value_of now slot index n)
+pub told_some : (now : Evaluating) (slot index n : ℕ) (r : Option (Bor Value)) → option_map plain (option_copied r) ≡ value_of now slot index n
+    → is_some r ≡ true → IsSome (value_of now slot index n)
 told_some now slot index n None e h = absurd (cc)
 told_some now slot index n (Some v) e h = subst (λ o. IsSome o) e refl

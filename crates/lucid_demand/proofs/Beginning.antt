@@ -26,7 +26,8 @@ stands_still rs slot ready = record { cursor = (r.0).cursor; rows = λ q. go q (
     go q (inr n) = sym (at_another q slot (option_map (rows.with_cursor (r.0).cursor) (row_at rs q)) (row_at rs q) n)
 
 -- A step from what costs no more is a step.
-pub stepped_from_less : (d : Demand) (old mid new : Evaluating) (v w : World) (result : Result (Option Value) DemandFault) → cost d mid ≤ cost d old → Stepped d mid new v w result
+pub stepped_from_less : (d : Demand) (old mid new : Evaluating) (v w : World) (result : Result (Option Value) DemandFault) → cost d mid ≤ cost d old
+    → Stepped d mid new v w result
     → Stepped d old new v w result
 stepped_from_less d old mid new v w result less s = record {
   owns = s.owns;
@@ -44,11 +45,14 @@ noted_costs d e new noted only same =
     ∙ ap (λ (rs : List (Option TaskRow)). cost d (record { engine = record e.engine { noted = noted }; rows = rs })) same
 
 -- A row that may ask for a part may ask for it once its search was noted.
-pub noted_asks : (i : DemandIn) (e new : Evaluating) (slot index : ℕ) (task : Task) → Owns i.demand new.engine i.world → new.engine ≡ record e.engine { noted = new.engine.noted } → new.rows ≡ e.rows
+pub noted_asks : (i : DemandIn) (e new : Evaluating) (slot index : ℕ) (task : Task) → Owns i.demand new.engine i.world
+    → new.engine ≡ record e.engine { noted = new.engine.noted } → new.rows ≡ e.rows
     → MayAct i.demand e i.world slot (decision.Ask index task) → MayAskNow i.demand new i.world (Some (record { slot = slot; index = index })) task
 noted_asks i e new slot index task owns only same act =
-    subst (λ (z : EngineView). MayAskNow i.demand (record { engine = z; rows = new.rows }) i.world (Some (record { slot = slot; index = index })) task) (sym only)
-    (subst (λ (rs : List (Option TaskRow)). MayAskNow i.demand (record { engine = record e.engine { noted = new.engine.noted }; rows = rs }) i.world (Some (record { slot = slot; index = index })) task)
+    subst (λ (z : EngineView). MayAskNow i.demand (record { engine = z; rows = new.rows }) i.world (Some (record { slot = slot; index = index })) task)
+    (sym only)
+    (subst (λ (rs : List (Option TaskRow)). MayAskNow i.demand (record { engine = record e.engine { noted = new.engine.noted }; rows = rs }) i.world
+    (Some (record { slot = slot; index = index })) task)
     (sym same) (
     let r = ready_is_there e.rows slot act.step.ready in
     part_may_be_asked i.demand (record { engine = record e.engine { noted = new.engine.noted }; rows = e.rows }) i.world act.step.demand

@@ -15,10 +15,13 @@ if_ok (Err e) P Q h f = tt
 pub demanded : (old new : EngineView) (before after : World) (t s m : ℕ) (result : Result Value DemandFault) → IsSound old → AreAskable old.streams before
     → ReadsWithin new → LoopEnds old new before after t s m result → Demanded old new before after t s m result
 demanded old new before after t s m result sound ask within l = record {
-  value = if_ok result _ (λ v. (b : Elements) → MayHave new b → RootMeans new b t s (plain v)) l.answers (λ v a b may. let x = (a b may).means in (x.0, at_new b x.0 ∙ x.1));
-  exact = λ empties. if_ok result _ (λ v. (b : Elements) → MayHave new b → root_val new b m t s ≡ Some (plain v)) l.answers (λ v a b may. at_new b m ∙ (a b may).exact empties);
+  value = if_ok result _ (λ v. (b : Elements) → MayHave new b → RootMeans new b t s (plain v)) l.answers
+      (λ v a b may. let x = (a b may).means in (x.0, at_new b x.0 ∙ x.1));
+  exact = λ empties. if_ok result _ (λ v. (b : Elements) → MayHave new b → root_val new b m t s ≡ Some (plain v)) l.answers
+      (λ v a b may. at_new b m ∙ (a b may).exact empties);
   deep = λ e b may. at_new b m ∙ (undefined old before t s m b (right b may) (l.deep e b may)).0;
-  kept = λ keeps e b may. ap (λ (T : Table). eqhval (equations_of T) (given b (holding old)) m t s) l.owns.since.goes_on.table ∙ (undefined old before t s m b (right b may) (l.deep e b may)).1 keeps;
+  kept = λ keeps e b may. ap (λ (T : Table). eqhval (equations_of T) (given b (holding old)) m t s) l.owns.since.goes_on.table
+      ∙ (undefined old before t s m b (right b may) (l.deep e b may)).1 keeps;
   drawn = λ b may. (engine_visits old new before after t s m l.owns b may).1;
   too_large = l.too_large;
   failed = l.failed;

@@ -28,10 +28,13 @@ pub data Comes (answer : Result (Bor Value) InputFault) (result : Result Value D
   no_copy : (b : Bor Value) → answer ≡ Ok b → result ≡ Err NoMemory → Comes answer result
   refused_by : (f : InputFault) → answer ≡ Err f → result ≡ Err (fault_of f) → Comes answer result
 
-module _ (first : EngineView) (ins outs : Inputs) (number index : ℕ) (before after : World) (answer : Result (Bor Value) InputFault) (streams_are : streams ins ≡ first.streams)
+module _ (first : EngineView) (ins outs : Inputs) (number index : ℕ) (before after : World) (answer : Result (Bor Value) InputFault)
+    (streams_are : streams ins ≡ first.streams)
     (most_is : most_bytes ins ≡ first.most) (below : number < length first.streams) (a : Answers ins number index answer outs before after)
-    (large : IfErr answer (λ e. inputs.OnTooLarge e (λ s. (s ≡ number) × IfSome (before.place (stream_at ins number).place).contents (λ c. IsOverlong (all_bytes c) index (most_bytes ins)))))
-    (failed : IsErrOf answer input.ReadFault → Rises before.faults after.faults) (unless : CountsNoFaultUnless (IsErrOf answer input.ReadFault) before.faults after.faults) where
+    (large : IfErr answer (λ e. inputs.OnTooLarge e
+    (λ s. (s ≡ number) × IfSome (before.place (stream_at ins number).place).contents (λ c. IsOverlong (all_bytes c) index (most_bytes ins)))))
+    (failed : IsErrOf answer input.ReadFault → Rises before.faults after.faults)
+    (unless : CountsNoFaultUnless (IsErrOf answer input.ReadFault) before.faults after.faults) where
   abbrev later : EngineView
   later = record first { streams = streams outs; most = most_bytes outs }
 
@@ -45,19 +48,25 @@ module _ (first : EngineView) (ins outs : Inputs) (number index : ℕ) (before a
   gives : (result : Result Value DemandFault) → Comes answer result → IfOk result (λ v. GivesElement (stream_at outs number) index (plain v))
   gives result (read_value b v is ok same) =
       subst (λ z. IfOk z (λ x. GivesElement (stream_at outs number) index (plain x))) (sym ok)
-      (subst (λ z. GivesElement (stream_at outs number) index z) (sym same) (subst (λ z. IfOk z (λ x. GivesElement (stream_at outs number) index (plain x.now))) is a.element))
+      (subst (λ z. GivesElement (stream_at outs number) index z) (sym same)
+      (subst (λ z. IfOk z (λ x. GivesElement (stream_at outs number) index (plain x.now))) is a.element))
   gives result (no_copy b ok is) = subst (λ z. IfOk z (λ x. GivesElement (stream_at outs number) index (plain x))) (sym is) tt
   gives result (refused_by f is err) = subst (λ z. IfOk z (λ x. GivesElement (stream_at outs number) index (plain x))) (sym err) tt
 
   -- what is said of the stream that is too large
   abbrev IsPast : ℕ → Type 0
-  IsPast k = (k ≡ number) × ((stream_at outs number).consumed ≡ first.most) × IfSome (before.place (stream_at ins number).place).contents (λ c. IsOverlong (all_bytes c) index first.most)
+  IsPast k = (k ≡ number) × ((stream_at outs number).consumed ≡ first.most)
+      × IfSome (before.place (stream_at ins number).place).contents (λ c. IsOverlong (all_bytes c) index first.most)
 
   past : (f : InputFault) → answer ≡ Err f → OnTooLarge (fault_of f) IsPast
   past input.ReadFault is = tt
   past input.NoMemory is = tt
   past (input.TooLarge s) is =
-      let l = subst (λ z. IfErr z (λ e. inputs.OnTooLarge e (λ s. (s ≡ number) × IfSome (before.place (stream_at ins number).place).contents (λ c. IsOverlong (all_bytes c) index (most_bytes ins))))) is large in
+      let l =
+      subst
+      (λ z.
+      IfErr z (λ e. inputs.OnTooLarge e (λ s. (s ≡ number)
+      × IfSome (before.place (stream_at ins number).place).contents (λ c. IsOverlong (all_bytes c) index (most_bytes ins))))) is large in
       let n = subst (λ z. IfErr z (λ e. inputs.OnTooLarge e (λ _. (stream_at outs number).consumed ≡ most_bytes ins))) is a.too_large in
       (l.0, n ∙ most_is, subst (λ m. IfSome (before.place (stream_at ins number).place).contents (λ c. IsOverlong (all_bytes c) index m)) most_is l.1)
 
@@ -108,7 +117,8 @@ module _ (first : EngineView) (ins outs : Inputs) (number index : ℕ) (before a
     to = stream_at outs number;
     there = subst (λ z. slice_get z number ≡ Some (stream_at ins number)) streams_are
         (there_at (streams ins) number (fresh_stream 0) (subst (λ z. number < length z) (sym streams_are) below));
-    now = there_at (streams outs) number (fresh_stream 0) (subst (λ n. number < n) (sym a.reads.count) (subst (λ z. number < length z) (sym streams_are) below));
+    now = there_at (streams outs) number (fresh_stream 0)
+        (subst (λ n. number < n) (sym a.reads.count) (subst (λ z. number < length z) (sym streams_are) below));
     reads = a.reads.asked;
     others = λ k n. read.others k n ∙ ap (λ z. slice_get z k) streams_are;
     count = read.count ∙ ap length streams_are;
@@ -121,11 +131,16 @@ module _ (first : EngineView) (ins outs : Inputs) (number index : ℕ) (before a
   }
 
 -- The same of an evaluation whose inputs were asked.
-pub element_read_in : (old view : Evaluating) (ins outs : Inputs) (number index : ℕ) (before after : World) (answer : Result (Bor Value) InputFault) → view ≡ old → streams ins ≡ view.engine.streams
+pub element_read_in : (old view : Evaluating) (ins outs : Inputs) (number index : ℕ) (before after : World) (answer : Result (Bor Value) InputFault)
+    → view ≡ old → streams ins ≡ view.engine.streams
     → most_bytes ins ≡ view.engine.most → number < length old.engine.streams → Answers ins number index answer outs before after
-    → IfErr answer (λ e. inputs.OnTooLarge e (λ s. (s ≡ number) × IfSome (before.place (stream_at ins number).place).contents (λ c. IsOverlong (all_bytes c) index (most_bytes ins))))
-    → (IsErrOf answer input.ReadFault → Rises before.faults after.faults) → CountsNoFaultUnless (IsErrOf answer input.ReadFault) before.faults after.faults → (result : Result Value DemandFault) → Comes answer result
+    → IfErr answer (λ e. inputs.OnTooLarge e (λ s. (s ≡ number)
+    × IfSome (before.place (stream_at ins number).place).contents (λ c. IsOverlong (all_bytes c) index (most_bytes ins))))
+    → (IsErrOf answer input.ReadFault → Rises before.faults after.faults) → CountsNoFaultUnless (IsErrOf answer input.ReadFault) before.faults after.faults
+    → (result : Result Value DemandFault) → Comes answer result
     → ReadsElement old.engine (record view.engine { streams = streams outs; most = most_bytes outs }) number index before after result
 element_read_in old view ins outs number index before after answer same streams_are most_is below a large failed unless result comes =
-    subst (λ (z : Evaluating). ReadsElement z.engine (record view.engine { streams = streams outs; most = most_bytes outs }) number index before after result) same
-    (element_read view.engine ins outs number index before after answer streams_are most_is (subst (λ (z : Evaluating). number < length z.engine.streams) (sym same) below) a large failed unless result comes)
+    subst (λ (z : Evaluating). ReadsElement z.engine (record view.engine { streams = streams outs; most = most_bytes outs }) number index before after result)
+    same
+    (element_read view.engine ins outs number index before after answer streams_are most_is
+    (subst (λ (z : Evaluating). number < length z.engine.streams) (sym same) below) a large failed unless result comes)

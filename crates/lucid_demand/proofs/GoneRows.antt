@@ -16,8 +16,10 @@ pub record Answered (d : Demand) (now : EngineView) (w : World) (before : List (
   pub there : IsTrue d.first.keeps → now.stored.lost ≡ 0 → (k : DatonAt) → (plain_row now.known r).key ≡ Some k → IsSome (holding now k.0 k.1)
 
 -- The row goes, and its parent has the value, or it answers the root.
-pub row_goes : (d : Demand) (old new : Evaluating) (w : World) (before : List (Option TaskRow)) (slot : ℕ) (r : TaskRow) (v : Value) → row_at before slot ≡ Some r
-    → Answered d new.engine w before r v → rows.Settles before new.rows slot v → cost_of d new.engine.known before ≡ cost d old → Stepped d old new w w (Ok (returned r.parent v))
+pub row_goes : (d : Demand) (old new : Evaluating) (w : World) (before : List (Option TaskRow)) (slot : ℕ) (r : TaskRow) (v : Value)
+    → row_at before slot ≡ Some r
+    → Answered d new.engine w before r v → rows.Settles before new.rows slot v → cost_of d new.engine.known before ≡ cost d old
+    → Stepped d old new w w (Ok (returned r.parent v))
 row_goes d old new w before slot r v at a settles same = go r.parent refl
   where
     go : (p : Option Part) → r.parent ≡ p → Stepped d old new w w (Ok (returned p v))
@@ -46,4 +48,11 @@ row_goes d old new w before slot r v at a settles same = go r.parent refl
 
 -- A step that goes on.
 pub goes_on_step : (d : Demand) (old new : Evaluating) (w : World) → Waits d new.engine w new.rows → cost d new < cost d old → Stepped d old new w w (Ok None)
-goes_on_step d old new w waits less = record { owns = waits.going.owns; goes_on = (waits, less); answers = tt; deep = λ e. absurd (cc); too_large = tt; failed = λ e. absurd (cc) }
+goes_on_step d old new w waits less = record {
+  owns = waits.going.owns;
+  goes_on = (waits, less);
+  answers = tt;
+  deep = λ e. absurd (cc);
+  too_large = tt;
+  failed = λ e. absurd (cc);
+}

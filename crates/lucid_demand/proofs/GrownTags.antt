@@ -12,7 +12,8 @@ use Rattle.lucid_facts.proofs.Knowing.{rows_stay_known}
 use Rattle.lucid_facts.proofs.Working.{work_same}
 
 -- What a task enters that the root sees, the root enters.
-pub entered_by_root : (d : Demand) (b : Elements) (x : PlainTask) (c : Context) → IsSeen d b x → ((e : ℕ) → In c (filter_map entered_of (task_visits (table_of d) b e x))) → IsEntered d b c
+pub entered_by_root : (d : Demand) (b : Elements) (x : PlainTask) (c : Context) → IsSeen d b x
+    → ((e : ℕ) → In c (filter_map entered_of (task_visits (table_of d) b e x))) → IsEntered d b c
 entered_by_root d b x c seen enters = record {
   added = seen.added;
   none = seen.none;
@@ -26,7 +27,8 @@ place_is_known (c ∷ known) zero l = inl refl
 place_is_known (c ∷ known) (suc n) l = inr (place_is_known known n (omega (arith, l)))
 
 -- Each context on the way of a task that only moves the point is known, or the root enters it.
-pub way_is_entered : (d : Demand) (b : Elements) (known : List Context) (x : Task) (c : Context) → IsInRange (table_of d) → IsKnown known x.tag → IsSeen d b (plain_task known x)
+pub way_is_entered : (d : Demand) (b : Elements) (known : List Context) (x : Task) (c : Context) → IsInRange (table_of d) → IsKnown known x.tag
+    → IsSeen d b (plain_task known x)
     → (steps : ℕ) → In c (passed_contexts (table_of d) steps (plain_task known x)) → In c known ⊎ IsEntered d b c
 way_is_entered d b known x c range tag seen steps i = by (same_context c (context_of known x.tag)) refl
   where
@@ -39,13 +41,16 @@ way_is_entered d b known x c range tag seen steps i = by (same_context c (contex
         ]))
 
 -- The rows wait on where such contexts become known.
-pub waits_grow : (d : Demand) (now : EngineView) (w : World) (rs : List (Option TaskRow)) (known : List Context) → KeepsKnown now.known known → IsOneForOne known
-    → ((b : Elements) → MayHave now b → (c : Context) → In c known → In c now.known ⊎ IsEntered d b c) → Waits d now w rs → Waits d (record now { known = known }) w rs
+pub waits_grow : (d : Demand) (now : EngineView) (w : World) (rs : List (Option TaskRow)) (known : List Context) → KeepsKnown now.known known
+    → IsOneForOne known
+    → ((b : Elements) → MayHave now b → (c : Context) → In c known → In c now.known ⊎ IsEntered d b c) → Waits d now w rs
+    → Waits d (record now { known = known }) w rs
 waits_grow d now w rs known keeps contexts enters waits = record {
   going = record {
     work = work_over d (known_elements now) (holding now) (held_in known now.stored) now.stored.lost now.stored.lost (plain_rows known rs)
         (λ k z. (z, λ q i. subst (λ o. IsSome o) (sym ((held_as_tags_grow now.known known now.stored keeps waits.going.owns.keys).1 q.0 q.1)) i))
-        (work_same d (known_elements now) (holding now) now.stored.lost (plain_rows now.known rs) (plain_rows known rs) (λ q. all_rows_as_tags_grow now.known known rs keeps waits.known q) waits.going.work);
+        (work_same d (known_elements now) (holding now) now.stored.lost (plain_rows now.known rs) (plain_rows known rs)
+        (λ q. all_rows_as_tags_grow now.known known rs keeps waits.known q) waits.going.work);
     owns = owns_enters d now w waits.going.owns known keeps contexts enters;
   };
   known = rows_stay_known now.known known rs keeps waits.known;

@@ -25,13 +25,16 @@ can_look_on d e w slot seen act = record {
     few : (r : TaskRow) → row_at e.rows slot ≡ Some r → MayMove (table_of d) (plain_row e.engine.known r) seen → r.cursor.count ≤ r.cursor.time
     few r at may =
         let facts : RowFacts d (known_elements e.engine) (holding e.engine) e.engine.stored.lost (plain_row e.engine.known r)
-        = act.step.waits.going.work.each slot (plain_row e.engine.known r) (plain_of_row e.engine.known e.rows slot r at) (known_elements e.engine) (λ name j v h. h) in
-        let stream = stream_of_search (table_of d) act.step.demand.in_range (plain_row e.engine.known r).task facts.there may.form may.nodes may.is may.search in
+        = act.step.waits.going.work.each slot (plain_row e.engine.known r) (plain_of_row e.engine.known e.rows slot r at) (known_elements e.engine)
+        (λ name j v h. h) in
+        let stream = stream_of_search (table_of d) act.step.demand.in_range (plain_row e.engine.known r).task facts.there may.form may.nodes may.is
+        may.search in
         let stands = facts.search may.form may.nodes stream.0 may.is may.search stream.1 in
         count-is_few _ r.cursor.time r.cursor.count stands.counted.1
 
 -- the next cursor, after a truth
-pub next_cursor : (c : Cursor) (seen : Bool) (n : ℕ) → n ≡ from_bool seen → ◌≡◌ {A = Cursor} (record { time = c.time + 1; count = c.count + n }) (looked_on c seen)
+pub next_cursor : (c : Cursor) (seen : Bool) (n : ℕ) → n ≡ from_bool seen
+    → ◌≡◌ {A = Cursor} (record { time = c.time + 1; count = c.count + n }) (looked_on c seen)
 next_cursor c true n p =
     let time : c.time + 1 ≡ suc c.time = omega arith in
     let count : c.count + n ≡ suc c.count = omega (arith, p) in
@@ -43,14 +46,18 @@ next_cursor c false n p =
 
 -- The row is ready at its next cursor, with its task.
 pub looked_ready : (now inside new : Evaluating) (one two : List (Option TaskRow)) (slot : ℕ) (c : Cursor) → inside ≡ now → new.engine ≡ inside.engine
-    → rows.ChangesOnly inside.rows one slot (rows.taken 0) → rows.ChangesOnly one two slot (rows.taken 1) → rows.ChangesOnly two new.rows slot (rows.with_cursor c)
+    → rows.ChangesOnly inside.rows one slot (rows.taken 0) → rows.ChangesOnly one two slot (rows.taken 1)
+    → rows.ChangesOnly two new.rows slot (rows.with_cursor c)
     → IsReadyTask now slot → IsReadyTask new slot
 looked_ready now inside new one two slot c same engine first second moved task = record {
-  ready = ap is_ready at ∙ sym (ap is_ready was) ∙ ready_after_take one two slot 1 second ∙ ready_after_take inside.rows one slot 0 first ∙ subst (λ z. IsTrue (is_ready (row_at z.rows slot))) (sym same) task.ready;
+  ready = ap is_ready at ∙ sym (ap is_ready was) ∙ ready_after_take one two slot 1 second ∙ ready_after_take inside.rows one slot 0 first
+      ∙ subst (λ z. IsTrue (is_ready (row_at z.rows slot))) (sym same) task.ready;
   there = λ r is.
       let own : rows.with_cursor c taken ≡ r = same_Some (rows.with_cursor c taken) r (sym at ∙ is) in
       subst (λ (z : EngineView). r.task.node < length z.table.nodes) (sym engine)
-      (subst (λ (x : TaskRow). x.task.node < length inside.engine.table.nodes) own (subst (λ (z : Evaluating). (row.0).task.node < length z.engine.table.nodes) (sym same) (task.there row.0 (subst (λ (z : Evaluating). row_at z.rows slot ≡ Some row.0) same row.1))));
+      (subst (λ (x : TaskRow). x.task.node < length inside.engine.table.nodes) own
+      (subst (λ (z : Evaluating). (row.0).task.node < length z.engine.table.nodes) (sym same)
+      (task.there row.0 (subst (λ (z : Evaluating). row_at z.rows slot ≡ Some row.0) same row.1))));
 }
   where
     row : (r : TaskRow) × (row_at inside.rows slot ≡ Some r)
@@ -68,9 +75,11 @@ looked_ready now inside new one two slot c same engine first second moved task =
 -- It looks on at less cost, and may step again.
 pub looked : (i : DemandIn) (now inside : Evaluating) (new one two : List (Option TaskRow)) (slot : ℕ) (seen : Bool) (cursor c : Cursor) → inside ≡ now
     → option_map (λ row. row.cursor) (row_at inside.rows slot) ≡ Some cursor → c ≡ looked_on cursor seen → rows.ChangesOnly inside.rows one slot (rows.taken 0)
-    → rows.ChangesOnly one two slot (rows.taken 1) → rows.ChangesOnly two new slot (rows.with_cursor c) → MayAct i.demand now i.world slot (decision.LookOn seen)
+    → rows.ChangesOnly one two slot (rows.taken 1) → rows.ChangesOnly two new slot (rows.with_cursor c)
+    → MayAct i.demand now i.world slot (decision.LookOn seen)
     → IsReadyTask (record { engine = inside.engine; rows = new }) slot
-    → MayStep i.demand (record { engine = inside.engine; rows = new }) i.world slot × (cost i.demand (record { engine = inside.engine; rows = new }) < cost i.demand now)
+    → MayStep i.demand (record { engine = inside.engine; rows = new }) i.world slot
+    × (cost i.demand (record { engine = inside.engine; rows = new }) < cost i.demand now)
 looked i now inside new one two slot seen cursor c same stood next first second moved may task = (
   record { demand = act.step.demand; waits = down.waits; emptied = act.step.emptied; within = act.step.within; ready = task.ready },
   subst (λ z. cost i.demand (record { engine = inside.engine; rows = new }) < cost i.demand z) same down.less,
@@ -89,15 +98,18 @@ looked i now inside new one two slot seen cursor c same stood next first second 
     ready = sym (plain_ready inside.engine.known there.0) ∙ ap is_ready (sym there.1) ∙ act.step.ready
 
     down : GoesDown i.demand inside.engine i.world inside.rows new
-    down = moves_goes_down i.demand inside.engine i.world inside.rows new act.step.waits one two slot there.0 c seen there.1 ready (act.justified there.0 there.1)
+    down = moves_goes_down i.demand inside.engine i.world inside.rows new act.step.waits one two slot there.0 c seen there.1 ready
+        (act.justified there.0 there.1)
         (next ∙ ap (λ z. looked_on z seen) its) first second moved
 
 -- What is noted then costs nothing.
-pub noted_on : (i : DemandIn) (old mid new : Evaluating) (slot : ℕ) → MayStep i.demand mid i.world slot → cost i.demand mid < cost i.demand old → Owns i.demand new.engine i.world
+pub noted_on : (i : DemandIn) (old mid new : Evaluating) (slot : ℕ) → MayStep i.demand mid i.world slot → cost i.demand mid < cost i.demand old
+    → Owns i.demand new.engine i.world
     → new.engine ≡ record mid.engine { noted = new.engine.noted } → new.rows ≡ mid.rows → Stepped i.demand old new i.world i.world (Ok None)
 noted_on i old mid new slot step less owns only same =
     goes_on_step i.demand old new i.world
-    (subst (λ (rs : List (Option TaskRow)). Waits i.demand new.engine i.world rs) (sym same) (subst (λ (z : EngineView). Waits i.demand z i.world mid.rows) (sym only) (record {
+    (subst (λ (rs : List (Option TaskRow)). Waits i.demand new.engine i.world rs) (sym same)
+    (subst (λ (z : EngineView). Waits i.demand z i.world mid.rows) (sym only) (record {
       going = record { work = step.waits.going.work; owns = subst (λ z. Owns i.demand z i.world) only owns };
       known = step.waits.known;
     })))

@@ -37,7 +37,8 @@ module _ (first : EngineView) (before : World) (t s m : ℕ) where
   }
 
   -- There is an answer.
-  pub ends_with : (mid : Evaluating) (w : World) (o : Option Value) (x : Value) → o ≡ Some x → w.faults ≡ before.faults → Begins d mid w (Ok o) → LoopEnds first mid.engine before w t s m (Ok x)
+  pub ends_with : (mid : Evaluating) (w : World) (o : Option Value) (x : Value) → o ≡ Some x → w.faults ≡ before.faults → Begins d mid w (Ok o)
+      → LoopEnds first mid.engine before w t s m (Ok x)
   ends_with mid w None x has same b = absurd (cc)
   ends_with mid w (Some y) x has same b = subst (λ z. LoopEnds first mid.engine before w t s m (Ok z)) (let one : y ≡ x = cc in one)
       (record { owns = b.owns; answers = b.answers; deep = λ e. absurd (cc); too_large = tt; failed = λ e. absurd (cc); counts = inr same })
@@ -48,7 +49,8 @@ module _ (first : EngineView) (before : World) (t s m : ℕ) where
   may_turn mid w (Some x) none b = absurd (cc)
 
   -- It refused.
-  pub ends_refused : (mid new : Evaluating) (v w : World) (e : DemandFault) → MayTurn d mid v → v.faults ≡ before.faults → v.faults ≤ w.faults → CountsReadFaults {T = ⊤} (Err e) v w → Stepped d mid new v w (Err e) → LoopEnds first new.engine before w t s m (Err e)
+  pub ends_refused : (mid new : Evaluating) (v w : World) (e : DemandFault) → MayTurn d mid v → v.faults ≡ before.faults → v.faults ≤ w.faults
+      → CountsReadFaults {T = ⊤} (Err e) v w → Stepped d mid new v w (Err e) → LoopEnds first new.engine before w t s m (Err e)
   ends_refused mid new v w e may same more counts s = record {
     owns = s.owns;
     answers = tt;
@@ -60,10 +62,17 @@ module _ (first : EngineView) (before : World) (t s m : ℕ) where
 
   -- It went on, or gave the answer: less is left.
   pub goes_on : (mid new : Evaluating) (v w : World) (o : Option Value) → MayTurn d mid v → Stepped d mid new v w (Ok o) → Begins d new w (Ok o)
-  goes_on mid new v w None may s = record { owns = s.owns; stands = record { demand = may.demand; waits = s.goes_on.0 }; answers = tt; deep = λ e. absurd (cc); refused = tt }
+  goes_on mid new v w None may s = record {
+    owns = s.owns;
+    stands = record { demand = may.demand; waits = s.goes_on.0 };
+    answers = tt;
+    deep = λ e. absurd (cc);
+    refused = tt;
+  }
   goes_on mid new v w (Some x) may s = record { owns = s.owns; stands = tt; answers = s.answers; deep = λ e. absurd (cc); refused = tt }
 
-  pub less_is_left : (mid new : Evaluating) (v w : World) (before_turn o : Option Value) → before_turn ≡ None → Stepped d mid new v w (Ok o) → left o (cost d new) < left before_turn (cost d mid)
+  pub less_is_left : (mid new : Evaluating) (v w : World) (before_turn o : Option Value) → before_turn ≡ None → Stepped d mid new v w (Ok o)
+      → left o (cost d new) < left before_turn (cost d mid)
   less_is_left mid new v w before_turn o none s = subst (λ z. left o (cost d new) < left z (cost d mid)) (sym none) (go o s)
     where
       go : (o : Option Value) → Stepped d mid new v w (Ok o) → left o (cost d new) < suc (cost d mid)

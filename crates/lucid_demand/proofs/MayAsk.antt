@@ -37,7 +37,8 @@ can_ask d e w part x n m = record {
       idle = plain_idle e.engine.known e.rows p f.parent f.there f.free;
     }
 
-module _ (d : Demand) (e : Evaluating) (w : World) (demand : IsDemand d) (waits : Waits d e.engine w e.rows) (nothing : HoldsNothing d e.engine) (part : Part) (r : TaskRow) (at : row_at e.rows part.slot ≡ Some r) where
+module _ (d : Demand) (e : Evaluating) (w : World) (demand : IsDemand d) (waits : Waits d e.engine w e.rows) (nothing : HoldsNothing d e.engine) (part : Part)
+    (r : TaskRow) (at : row_at e.rows part.slot ≡ Some r) where
   abbrev row : PlainRow
   row = plain_row e.engine.known r
 
@@ -50,7 +51,8 @@ module _ (d : Demand) (e : Evaluating) (w : World) (demand : IsDemand d) (waits 
     demand = demand;
     owns = waits.going.owns;
     nothing = nothing;
-    wanted = λ b m. asked_is_wanted d b (holding e.engine) e.engine.stored.lost row demand (right b m) (facts b m) part.index why.0 (plain_task e.engine.known x) why.1;
+    wanted = λ b m. asked_is_wanted d b (holding e.engine) e.engine.stored.lost row demand (right b m) (facts b m) part.index why.0
+        (plain_task e.engine.known x) why.1;
     tag = why.2;
     is_for = record {
       waits = waits;
@@ -61,7 +63,8 @@ module _ (d : Demand) (e : Evaluating) (w : World) (demand : IsDemand d) (waits 
       task = plain_task e.engine.known x;
       is_part = why.1;
       stands = stands-itself (table_of d) (plain_task e.engine.known x);
-      least_rank = let low = asked_is_lower d now (holding e.engine) e.engine.stored.lost row demand (right now all) (facts now all) part.index why.0 (plain_task e.engine.known x) why.1 in omega (arith, low);
+      least_rank = let low = asked_is_lower d now (holding e.engine) e.engine.stored.lost row demand (right now all) (facts now all) part.index why.0
+          (plain_task e.engine.known x) why.1 in omega (arith, low);
     };
   }
     where
@@ -101,7 +104,8 @@ module _ (d : Demand) (e : Evaluating) (w : World) (slot : ℕ) where
   pub may_refer : (x : Task) → MayAct d e w slot (decision.Refer x) → MayRefer d e w (Some (record { slot = slot; index = 0 })) x
   may_refer x act =
       let r = ready_is_there e.rows slot act.step.ready in
-      reference_may_be_asked d e w act.step.demand act.step.waits act.step.emptied.nothing (record { slot = slot; index = 0 }) r.0 r.1 x refl (act.justified r.0 r.1)
+      reference_may_be_asked d e w act.step.demand act.step.waits act.step.emptied.nothing (record { slot = slot; index = 0 }) r.0 r.1 x refl
+      (act.justified r.0 r.1)
 
   pub refers_here : (x : Task) → MayAct d e w slot (decision.Refer x) → IsReference (node_of e.engine.table (plain_task e.engine.known x))
   refers_here x act =

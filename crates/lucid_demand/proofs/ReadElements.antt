@@ -20,14 +20,16 @@ use Rattle.lucid_decide.specs.declared.decision.Decision.TheVariants as decision
 use Rattle.lucid_demand.specs.declared.fault.DemandFault.TheVariants.{TooLarge}
 use Rattle.lucid_demand.proofs.SettledRows.{nothing_taken, stepped_from}
 
-overlong_again : (o p : Option Contents) (index most : ℕ) → option_map all_bytes p ≡ option_map all_bytes o → IfSome o (λ c. IsOverlong (all_bytes c) index most)
+overlong_again : (o p : Option Contents) (index most : ℕ) → option_map all_bytes p ≡ option_map all_bytes o
+    → IfSome o (λ c. IsOverlong (all_bytes c) index most)
     → IfSome p (λ c. IsOverlong (all_bytes c) index most)
 overlong_again o None index most e h = tt
 overlong_again None (Some c) index most e h = absurd (cc)
 overlong_again (Some a) (Some c) index most e h = let f : all_bytes a ≡ all_bytes c = cc in subst (λ z. IsOverlong z index most) f h
 
 -- the row that reads
-module _ (d : Demand) (e : Evaluating) (slot number : ℕ) (before after : World) (act : MayAct d e before slot (decision.Read number)) (row : TaskRow) (at : row_at e.rows slot ≡ Some row) where
+module _ (d : Demand) (e : Evaluating) (slot number : ℕ) (before after : World) (act : MayAct d e before slot (decision.Read number)) (row : TaskRow)
+    (at : row_at e.rows slot ≡ Some row) where
   abbrev name : List ℕ
   name = (act.justified row at).0
 
@@ -50,7 +52,8 @@ module _ (d : Demand) (e : Evaluating) (slot number : ℕ) (before after : World
       record {
         added = s.added;
         none = s.none;
-        holds = λ a le. inside-read look_up_of (task_visits (table_of d) b a (plain_task e.engine.known row.task)) (task_visits (table_of d) b a d.root) (s.holds a le) (name, row.task.time)
+        holds = λ a le. inside-read look_up_of (task_visits (table_of d) b a (plain_task e.engine.known row.task)) (task_visits (table_of d) b a d.root)
+            (s.holds a le) (name, row.task.time)
             (input-consults (table_of d) b a (plain_task e.engine.known row.task) name row.task.time may);
       }
 
@@ -70,7 +73,8 @@ module _ (d : Demand) (e : Evaluating) (slot number : ℕ) (before after : World
     waits : Waits d later after e.rows
     waits = record {
       going = record {
-        work = work_later d (known_elements e.engine) (known_elements later) (holding e.engine) e.engine.stored.lost (plain_rows e.engine.known e.rows) more act.step.waits.going.work;
+        work = work_later d (known_elements e.engine) (known_elements later) (holding e.engine) e.engine.stored.lost (plain_rows e.engine.known e.rows) more
+            act.step.waits.going.work;
         owns = owned;
       };
       known = act.step.waits.known;
@@ -90,10 +94,12 @@ module _ (d : Demand) (e : Evaluating) (slot number : ℕ) (before after : World
         → Answers d b (holding later) later.stored.lost (plain_task later.known row.task) (plain v)
     answered to v there gives b m =
         element-answers d b (holding later) later.stored.lost (plain_task later.known row.task) name row.task.time (plain v) may
-        (m name row.task.time (plain v) (reads_its_element later.table.inputs streams number row.task.time name to (plain v) names_differ named_now there gives))
+        (m name row.task.time (plain v) (reads_its_element later.table.inputs streams number row.task.time name to (plain v) names_differ named_now there
+        gives))
 
     -- an element that was too large is consulted
-    overlong : (to : Stream) → slice_get streams number ≡ Some to → to.consumed ≡ e.engine.most → IfSome (after.place to.place).contents (λ c. IsOverlong (all_bytes c) row.task.time e.engine.most)
+    overlong : (to : Stream) → slice_get streams number ≡ Some to → to.consumed ≡ e.engine.most
+        → IfSome (after.place to.place).contents (λ c. IsOverlong (all_bytes c) row.task.time e.engine.most)
         → (b : Elements) → MayHave later b → ConsultsOverlong later b after number d.root.limit d.root.time d.root.space
     overlong to there full past b m = record {
       name = name;
@@ -102,7 +108,8 @@ module _ (d : Demand) (e : Evaluating) (slot number : ℕ) (before after : World
       consulted = record {
         added = here.added;
         none = λ i. here.none (subst (λ t. IsTrue t) act.step.waits.going.owns.since.goes_on.empties i);
-        holds = λ a le. subst (λ T. In (name, row.task.time) (consults_on_nodes (equations_of T) b d.root.limit a d.root.time d.root.space)) (sym table_is) (here.holds a le);
+        holds = λ a le. subst (λ T. In (name, row.task.time) (consults_on_nodes (equations_of T) b d.root.limit a d.root.time d.root.space)) (sym table_is)
+            (here.holds a le);
       };
       source = to;
       read_from = there;
@@ -116,7 +123,8 @@ module _ (d : Demand) (e : Evaluating) (slot number : ℕ) (before after : World
         here : IsConsulted (demand_of d.first d.world d.root.time d.root.space d.root.limit) b name row.task.time
         here = subst (λ q. IsConsulted q b name row.task.time) (sym act.step.demand.of_root) (consulted b may_now)
 
-module _ (d : Demand) (e new : Evaluating) (slot number : ℕ) (before after : World) (act : MayAct d e before slot (decision.Read number)) (row : TaskRow) (at : row_at e.rows slot ≡ Some row)
+module _ (d : Demand) (e new : Evaluating) (slot number : ℕ) (before after : World) (act : MayAct d e before slot (decision.Read number)) (row : TaskRow)
+    (at : row_at e.rows slot ≡ Some row)
     (result : Result Value DemandFault) (r : ReadsElement e.engine new.engine number row.task.time before after result) where
   read_on : StreamsRead e.engine.streams new.engine.streams number row.task.time before after
   read_on = record { from = r.from; to = r.to; there = r.there; now = r.now; reads = r.reads; others = r.others; count = r.count; bytes = r.bytes }
@@ -127,12 +135,15 @@ module _ (d : Demand) (e new : Evaluating) (slot number : ℕ) (before after : W
   -- The element was read: the row may settle with it.
   pub read_may_settle : (v : Value) → result ≡ Ok v → new.rows ≡ e.rows → MaySettle (record { demand = d; world = after; before = e.rows }) new slot v
   read_may_settle v is same =
-      subst (λ (z : EngineView). MaySettle (record { demand = d; world = after; before = e.rows }) (record { engine = z; rows = new.rows }) slot v) (sym r.only) (record {
+      subst (λ (z : EngineView). MaySettle (record { demand = d; world = after; before = e.rows }) (record { engine = z; rows = new.rows }) slot v) (sym r.only)
+      (record {
         waits = waits d e slot number before after act row at new.engine.streams read_on;
         within = act.step.within;
         ready = act.step.ready;
         taken = subst (λ z. IsTaken e.rows z slot) (sym same) (nothing_taken e.rows slot act.step.ready);
-        answers = λ q there b m. subst (λ (z : TaskRow). Answers d b (holding (later d e slot number before after act row at new.engine.streams read_on)) e.engine.stored.lost (plain_task e.engine.known z.task) (plain v))
+        answers = λ q there b m. subst (λ (z : TaskRow).
+            Answers d b (holding (later d e slot number before after act row at new.engine.streams read_on)) e.engine.stored.lost
+            (plain_task e.engine.known z.task) (plain v))
             (one_row q there) (answered d e slot number before after act row at new.engine.streams read_on r.to v r.now gives b m);
       })
     where
@@ -172,7 +183,8 @@ module _ (d : Demand) (e new : Evaluating) (slot number : ℕ) (before after : W
       too_large _ h = tt
 
 -- the row that is asked for its task
-task_row : (rs inner : List (Option TaskRow)) (slot : ℕ) (x : Task) → inner ≡ rs → option_map (λ r. r.task) (row_at inner slot) ≡ Some x → (r : TaskRow) × (row_at rs slot ≡ Some r) × (r.task ≡ x)
+task_row : (rs inner : List (Option TaskRow)) (slot : ℕ) (x : Task) → inner ≡ rs → option_map (λ r. r.task) (row_at inner slot) ≡ Some x
+    → (r : TaskRow) × (row_at rs slot ≡ Some r) × (r.task ≡ x)
 task_row rs inner slot x same is = go (row_at rs slot) refl (ap (λ z. option_map (λ r. r.task) (row_at z slot)) (sym same) ∙ is)
   where
     go : (o : Option TaskRow) → row_at rs slot ≡ o → option_map (λ r. r.task) o ≡ Some x → (r : TaskRow) × (row_at rs slot ≡ Some r) × (r.task ≡ x)
@@ -180,20 +192,25 @@ task_row rs inner slot x same is = go (row_at rs slot) refl (ap (λ z. option_ma
     go (Some r) e h = (r, e, cc)
 
 -- A row reads its element and settles with it.
-pub settled_read : (d : Demand) (e mid new : Evaluating) (slot number : ℕ) (before after : World) (inner : List (Option TaskRow)) (x : Task) (v : Value) (element : Result Value DemandFault)
-    (result : Result (Option Value) DemandFault) → inner ≡ e.rows → option_map (λ r. r.task) (row_at inner slot) ≡ Some x → ReadsElement e.engine mid.engine number x.time before after element
+pub settled_read : (d : Demand) (e mid new : Evaluating) (slot number : ℕ) (before after : World) (inner : List (Option TaskRow)) (x : Task) (v : Value)
+    (element : Result Value DemandFault)
+    (result : Result (Option Value) DemandFault) → inner ≡ e.rows → option_map (λ r. r.task) (row_at inner slot) ≡ Some x
+    → ReadsElement e.engine mid.engine number x.time before after element
     → element ≡ Ok v → mid.rows ≡ e.rows
     → ((s : Settling) → MaySettle s mid slot v → Stepped s.demand (record { engine = mid.engine; rows = s.before }) new s.world s.world result)
     → MayAct d e before slot (decision.Read number) → Stepped d e new before after result
 settled_read d e mid new slot number before after inner x v element result rows_are is reads ok same steps act =
     let f = task_row e.rows inner slot x rows_are is in
     let r = subst (λ (t : Task). ReadsElement e.engine mid.engine number t.time before after element) (sym f.2) reads in
-    stepped_from d e (record { engine = mid.engine; rows = e.rows }) new before after result (ap (λ (z : EngineView). cost d (record { engine = z; rows = e.rows })) r.only)
+    stepped_from d e (record { engine = mid.engine; rows = e.rows }) new before after result
+    (ap (λ (z : EngineView). cost d (record { engine = z; rows = e.rows })) r.only)
     (steps (record { demand = d; world = after; before = e.rows }) (read_may_settle d e mid slot number before after act f.0 f.1 element r v ok same))
 
 -- A refused reading is a step that refuses.
-pub refused_read : (d : Demand) (e mid : Evaluating) (slot number : ℕ) (before after : World) (inner : List (Option TaskRow)) (x : Task) (element : Result Value DemandFault) (f : DemandFault)
-    → inner ≡ e.rows → option_map (λ r. r.task) (row_at inner slot) ≡ Some x → ReadsElement e.engine mid.engine number x.time before after element → element ≡ Err f
+pub refused_read : (d : Demand) (e mid : Evaluating) (slot number : ℕ) (before after : World) (inner : List (Option TaskRow)) (x : Task)
+    (element : Result Value DemandFault) (f : DemandFault)
+    → inner ≡ e.rows → option_map (λ r. r.task) (row_at inner slot) ≡ Some x → ReadsElement e.engine mid.engine number x.time before after element
+    → element ≡ Err f
     → MayAct d e before slot (decision.Read number) → Stepped d e mid before after (Err f)
 refused_read d e mid slot number before after inner x element f rows_are is reads err act =
     let q = task_row e.rows inner slot x rows_are is in

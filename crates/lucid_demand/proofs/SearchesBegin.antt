@@ -35,7 +35,8 @@ module _ (i : DemandIn) (e : Evaluating) (slot : ℕ) (step : MayStep i.demand e
   owns_here : (noted : Noted) → NotesOrMisses e.engine.noted noted r.task.node r.task.tag (noted_of s r.cursor).0 (noted_of s r.cursor).1
       → Owns i.demand (record e.engine { noted = noted }) i.world
   owns_here noted notes =
-      owns_notes i.demand e.engine i.world step.waits.going.owns step.demand noted (plain_row e.engine.known r) r.task.tag by.form by.nodes facts form_is by.search
+      owns_notes i.demand e.engine i.world step.waits.going.owns step.demand noted (plain_row e.engine.known r) r.task.tag by.form by.nodes facts form_is
+      by.search
       (step.waits.known slot r at).task refl refl
       (subst (λ (p : ℕ × ℕ). NotesOrMisses e.engine.noted noted r.task.node r.task.tag p.0 p.1) (by.pair r.cursor) notes)
 
@@ -48,7 +49,8 @@ module _ (i : DemandIn) (e : Evaluating) (slot : ℕ) (step : MayStep i.demand e
     facts_there : (b : Elements) → MayHave e.engine b → RowFacts i.demand b (holding e.engine) e.engine.stored.lost (at_cursor c (plain_row e.engine.known r))
     facts_there b m =
         subst (λ z. RowFacts i.demand b (holding e.engine) e.engine.stored.lost (at_cursor z (plain_row e.engine.known r))) (by.back c)
-        (begun-facts i.demand b e.engine.known (holding e.engine) e.engine.stored.lost e.engine.noted (plain_row e.engine.known r) by.form by.nodes r.task.tag (noted_of s c).0 (noted_of s c).1
+        (begun-facts i.demand b e.engine.known (holding e.engine) e.engine.stored.lost e.engine.noted (plain_row e.engine.known r) by.form by.nodes r.task.tag
+        (noted_of s c).0 (noted_of s c).1
         (step.waits.going.owns.stock.stock b m) not_emptying (facts b m) form_is by.search refl refl best.noted
         (subst (λ z. CanStandAt by.form z.time z.count r.task.time) (sym (by.back c)) (by.begins c best.low)))
 
@@ -57,16 +59,19 @@ module _ (i : DemandIn) (e : Evaluating) (slot : ℕ) (step : MayStep i.demand e
 
     valueless : (index : ℕ) → got_of e.rows (record { slot = slot; index = index }) ≡ None → value_of_part (plain_row e.engine.known r) index ≡ None
     valueless index none =
-        sym (ap (λ o. option_and_then (λ p. value_of_part p index) o) (plain_of_row e.engine.known e.rows slot r at)) ∙ sym (plain_got e.engine.known e.rows slot index) ∙ ap (option_map plain) none
+        sym (ap (λ o. option_and_then (λ p. value_of_part p index) o) (plain_of_row e.engine.known e.rows slot r at))
+        ∙ sym (plain_got e.engine.known e.rows slot index) ∙ ap (option_map plain) none
 
     nothing_got : (plain_row e.engine.known r).parts ≡ all_idle
     nothing_got =
-        search-is_all_idle i.demand (known_elements e.engine) (holding e.engine) e.engine.stored.lost (plain_row e.engine.known r) by.form by.nodes (facts (known_elements e.engine) (λ name j v h. h))
+        search-is_all_idle i.demand (known_elements e.engine) (holding e.engine) e.engine.stored.lost (plain_row e.engine.known r) by.form by.nodes
+        (facts (known_elements e.engine) (λ name j v h. h))
         form_is by.search ready (valueless 0 no_subject) (valueless 1 no_stream)
 
     -- It may take its step from there, at no more cost.
     begun : (new : List (Option TaskRow)) → rows.ChangesOnly e.rows new slot (rows.with_cursor c)
-        → MayStep i.demand (record { engine = e.engine; rows = new }) i.world slot × (cost_of i.demand e.engine.known new ≤ cost_of i.demand e.engine.known e.rows)
+        → MayStep i.demand (record { engine = e.engine; rows = new }) i.world slot
+        × (cost_of i.demand e.engine.known new ≤ cost_of i.demand e.engine.known e.rows)
     begun new changes = (
       record {
         demand = step.demand;
@@ -91,8 +96,10 @@ one_field : {A : Type 0} (f : TaskRow → A) (o : Option TaskRow) (r : TaskRow) 
 one_field f o r x at e = let z : Some (f r) ≡ Some x = sym (ap (option_map f) at) ∙ e in cc
 
 -- The same by what each call gives: the row's task and its cursor, the task's node, its search, and what is noted or found.
-module _ (now inside : Evaluating) (slot : ℕ) (task : Task) (cursor : Cursor) (n : Node) (s : Search) (same : inside ≡ now) (task_is : option_map (λ row. row.task) (row_at inside.rows slot) ≡ Some task)
-    (cursor_is : option_map (λ row. row.cursor) (row_at inside.rows slot) ≡ Some cursor) (node : node_at inside.engine.table task.node ≡ node_by inside.engine.table n)
+module _ (now inside : Evaluating) (slot : ℕ) (task : Task) (cursor : Cursor) (n : Node) (s : Search) (same : inside ≡ now)
+    (task_is : option_map (λ row. row.task) (row_at inside.rows slot) ≡ Some task)
+    (cursor_is : option_map (λ row. row.cursor) (row_at inside.rows slot) ≡ Some cursor)
+    (node : node_at inside.engine.table task.node ≡ node_by inside.engine.table n)
     (is : search_for n task.time ≡ Some s) (i : DemandIn) (step : MayStep i.demand now i.world slot) where
   stepping : MayStep i.demand inside i.world slot
   stepping = subst (λ z. MayStep i.demand z i.world slot) (sym same) step
@@ -112,16 +119,20 @@ module _ (now inside : Evaluating) (slot : ℕ) (task : Task) (cursor : Cursor) 
   its_search : search_for n (its.0).task.time ≡ Some s
   its_search = subst (λ (x : Task). search_for n x.time ≡ Some s) same_task is
 
-  pub noted_right : (noted : Noted) → NotesOrMisses inside.engine.noted noted task.node task.tag (noted_of s cursor).0 (noted_of s cursor).1 → Owns i.demand (record inside.engine { noted = noted }) i.world
+  pub noted_right : (noted : Noted) → NotesOrMisses inside.engine.noted noted task.node task.tag (noted_of s cursor).0 (noted_of s cursor).1
+      → Owns i.demand (record inside.engine { noted = noted }) i.world
   noted_right noted notes =
       owns_here i inside slot stepping its.0 its.1 n its_node s its_search noted
       (subst (λ (c : Cursor). NotesOrMisses inside.engine.noted noted (its.0).task.node (its.0).task.tag (noted_of s c).0 (noted_of s c).1) same_cursor
       (subst (λ (x : Task). NotesOrMisses inside.engine.noted noted x.node x.tag (noted_of s cursor).0 (noted_of s cursor).1) same_task notes))
 
   pub begun_there : (c : Cursor) (new : List (Option TaskRow)) → IsBest inside.engine.noted task.node task.tag (greatest_key s) (noted_of s c) → cursor.time ≡ 0
-      → got_of inside.rows (record { slot = slot; index = 0 }) ≡ None → got_of inside.rows (record { slot = slot; index = 1 }) ≡ None → rows.ChangesOnly inside.rows new slot (rows.with_cursor c)
-      → MayStep i.demand (record { engine = inside.engine; rows = new }) i.world slot × (cost i.demand (record { engine = inside.engine; rows = new }) ≤ cost i.demand now)
+      → got_of inside.rows (record { slot = slot; index = 0 }) ≡ None → got_of inside.rows (record { slot = slot; index = 1 }) ≡ None
+      → rows.ChangesOnly inside.rows new slot (rows.with_cursor c)
+      → MayStep i.demand (record { engine = inside.engine; rows = new }) i.world slot
+      × (cost i.demand (record { engine = inside.engine; rows = new }) ≤ cost i.demand now)
   begun_there c new best start no_subject no_stream changes =
       let both = begun i inside slot stepping its.0 its.1 n its_node s its_search c
-      (subst (λ (x : Task). IsBest inside.engine.noted x.node x.tag (greatest_key s) (noted_of s c)) same_task best) (ap (λ (x : Cursor). x.time) (sym same_cursor) ∙ start) no_subject no_stream new changes in
+      (subst (λ (x : Task). IsBest inside.engine.noted x.node x.tag (greatest_key s) (noted_of s c)) same_task best)
+      (ap (λ (x : Cursor). x.time) (sym same_cursor) ∙ start) no_subject no_stream new changes in
       (both.0, subst (λ z. cost i.demand (record { engine = inside.engine; rows = new }) ≤ cost i.demand z) same both.1)

@@ -27,7 +27,8 @@ refused d old new v w owns = record { owns = owns; goes_on = tt; answers = tt; d
 pub nothing_taken : (rs : List (Option TaskRow)) (slot : ℕ) → IsTrue (is_ready (row_at rs slot)) → IsTaken rs rs slot
 nothing_taken rs slot ready = record { others = λ q n. refl; parent = refl; key = refl; ready = ready }
 
-pub changed_row : (old new : List (Option TaskRow)) (slot : ℕ) (f : TaskRow → TaskRow) → rows.ChangesOnly old new slot f → row_at new slot ≡ option_map f (row_at old slot)
+pub changed_row : (old new : List (Option TaskRow)) (slot : ℕ) (f : TaskRow → TaskRow) → rows.ChangesOnly old new slot f
+    → row_at new slot ≡ option_map f (row_at old slot)
 changed_row old new slot f changes = changes slot ∙ at_it slot slot (option_map f (row_at old slot)) (row_at old slot) refl
 
 parent_stays : (i : ℕ) (o : Option TaskRow) → option_and_then (λ r. r.parent) (option_map (rows.taken i) o) ≡ option_and_then (λ r. r.parent) o
@@ -39,7 +40,8 @@ key_stays i None = refl
 key_stays i (Some r) = refl
 
 -- one more part's value is taken
-pub one_more_taken : (before old new : List (Option TaskRow)) (slot i : ℕ) → IsTaken before old slot → rows.ChangesOnly old new slot (rows.taken i) → IsTaken before new slot
+pub one_more_taken : (before old new : List (Option TaskRow)) (slot i : ℕ) → IsTaken before old slot → rows.ChangesOnly old new slot (rows.taken i)
+    → IsTaken before new slot
 one_more_taken before old new slot i t changes = record {
   others = λ q n. same_elsewhere old new slot (rows.taken i) changes q n ∙ t.others q n;
   parent = ap (λ o. option_and_then (λ r. r.parent) o) (changed_row old new slot (rows.taken i) changes) ∙ parent_stays i (row_at old slot) ∙ t.parent;
@@ -68,18 +70,21 @@ module _ (s : Settling) (now : Evaluating) (slot : ℕ) (v : Value) (m : MaySett
   facts b e = m.waits.going.work.each slot (plain_row now.engine.known r) (plain_of_row now.engine.known s.before slot r at) b e
 
   -- it remembers one
-  kept_under : (k : Key) → r.key ≡ Some k → (stored : Stored) → PutsOrLoses now.engine.stored stored k v → Kept s now.engine (record now.engine { stored = stored }) r v
+  kept_under : (k : Key) → r.key ≡ Some k → (stored : Stored) → PutsOrLoses now.engine.stored stored k v
+      → Kept s now.engine (record now.engine { stored = stored }) r v
   kept_under k has stored change = record {
     waits = record {
       going = record {
-        work = work_over s.demand (known_elements now.engine) (holding now.engine) (holding later) now.engine.stored.lost stored.lost (plain_rows now.engine.known s.before) put.more m.waits.going.work;
+        work = work_over s.demand (known_elements now.engine) (holding now.engine) (holding later) now.engine.stored.lost stored.lost
+            (plain_rows now.engine.known s.before) put.more m.waits.going.work;
         owns = put.owns;
       };
       known = m.waits.known;
     };
     known = refl;
     answers = λ b e.
-        answers_over s.demand (holding now.engine) (holding later) now.engine.stored.lost stored.lost put.more b (plain_task now.engine.known r.task) (plain v) (m.answers r at b e);
+        answers_over s.demand (holding now.engine) (holding later) now.engine.stored.lost stored.lost put.more b (plain_task now.engine.known r.task) (plain v)
+        (m.answers r at b e);
     there = λ keeps z q e. subst (λ (x : DatonAt). IsSome (holding later x.0 x.1)) (same q e) (put.there z);
   }
     where
@@ -98,7 +103,8 @@ module _ (s : Settling) (now : Evaluating) (slot : ℕ) (v : Value) (m : MaySett
       put : AfterPut s.demand now.engine later s.world (plain_key now.engine.known k)
       put =
           after_put s.demand now.engine stored s.world k v m.waits.going.owns m.within known_tag
-          (λ b e. remembered-is_put s.demand b (holding now.engine) now.engine.stored.lost (plain_task now.engine.known r.task) (plain_key now.engine.known k) (plain v)
+          (λ b e. remembered-is_put s.demand b (holding now.engine) now.engine.stored.lost (plain_task now.engine.known r.task) (plain_key now.engine.known k)
+          (plain v)
           ((facts b e).remembers (plain_key now.engine.known k) key_is) (m.answers r at b e)) change
 
   kept : (new : EngineView) (o : Option Key) → r.key ≡ o → IsKept o now.engine new v → Kept s now.engine new r v
@@ -110,7 +116,8 @@ module _ (s : Settling) (now : Evaluating) (slot : ℕ) (v : Value) (m : MaySett
       → Stepped s.demand (record { engine = now.engine; rows = s.before }) new s.world s.world (Ok (returned r.parent v))
   goes new k settles =
       row_goes s.demand (record { engine = now.engine; rows = s.before }) new s.world s.before slot r v at
-      (record { waits = k.waits; ready = subst (λ o. IsTrue (is_ready o)) at m.ready; answers = k.answers; there = k.there }) settles (ap (λ c. cost_of s.demand c s.before) k.known)
+      (record { waits = k.waits; ready = subst (λ o. IsTrue (is_ready o)) at m.ready; answers = k.answers; there = k.there }) settles
+      (ap (λ c. cost_of s.demand c s.before) k.known)
 
 -- the row that is ready is there
 pub ready_is_there : (rs : List (Option TaskRow)) (slot : ℕ) → IsTrue (is_ready (row_at rs slot)) → (r : TaskRow) × (row_at rs slot ≡ Some r)
@@ -121,7 +128,8 @@ ready_is_there rs slot = go (row_at rs slot) refl
     go (Some r) e i = (r, e)
 
 -- A row settles: it takes a step.
-pub settled : (s : Settling) (now new : Evaluating) (slot : ℕ) (v : Value) → MaySettle s now slot v → IsKept (key_of now.rows slot) now.engine new.engine v → rows.Settles now.rows new.rows slot v
+pub settled : (s : Settling) (now new : Evaluating) (slot : ℕ) (v : Value) → MaySettle s now slot v → IsKept (key_of now.rows slot) now.engine new.engine v
+    → rows.Settles now.rows new.rows slot v
     → Stepped s.demand (record { engine = now.engine; rows = s.before }) new s.world s.world (Ok (returned (parent_of now.rows slot) v))
 settled s now new slot v m is settles =
     subst (λ p. Stepped s.demand (record { engine = now.engine; rows = s.before }) new s.world s.world (Ok (returned p v))) (sym parent_is)
@@ -143,7 +151,8 @@ settled s now new slot v m is settles =
 -- A row may settle with what answers its task, whatever was taken of its parts,
 may_settle : (i : DemandIn) (e new : Evaluating) (slot : ℕ) (v : Value) → MayStep i.demand e i.world slot
     → ((r : TaskRow) → row_at e.rows slot ≡ Some r → (b : Elements) → MayHave e.engine b
-    → RowFacts i.demand b (holding e.engine) e.engine.stored.lost (plain_row e.engine.known r) → Answers i.demand b (holding e.engine) e.engine.stored.lost (plain_task e.engine.known r.task) (plain v))
+    → RowFacts i.demand b (holding e.engine) e.engine.stored.lost (plain_row e.engine.known r)
+    → Answers i.demand b (holding e.engine) e.engine.stored.lost (plain_task e.engine.known r.task) (plain v))
     → new.engine ≡ e.engine → IsTaken e.rows new.rows slot → MaySettle (at_rows i e.rows) new slot v
 may_settle i e new slot v step answers same taken =
     subst (λ (z : EngineView). MaySettle (at_rows i e.rows) (record { engine = z; rows = new.rows }) slot v) (sym same) (record {
@@ -155,11 +164,13 @@ may_settle i e new slot v step answers same taken =
     })
 
 -- as with the value that its form's plan gives.
-pub gives_may_settle : (i : DemandIn) (e new : Evaluating) (slot : ℕ) (v : Value) → MayGive i.demand e i.world slot (plain v) → new.engine ≡ e.engine → IsTaken e.rows new.rows slot
+pub gives_may_settle : (i : DemandIn) (e new : Evaluating) (slot : ℕ) (v : Value) → MayGive i.demand e i.world slot (plain v) → new.engine ≡ e.engine
+    → IsTaken e.rows new.rows slot
     → MaySettle (at_rows i e.rows) new slot v
 gives_may_settle i e new slot v may =
     may_settle i e new slot v may.step
-    (λ r at b m facts. plan_answers i.demand b (holding e.engine) e.engine.stored.lost (plain_row e.engine.known r) may.step.demand facts (plain v) (may.gives r at))
+    (λ r at b m facts. plan_answers i.demand b (holding e.engine) e.engine.stored.lost (plain_row e.engine.known r) may.step.demand facts (plain v)
+    (may.gives r at))
 
 -- the value of a part, of the row and of its plain row
 pub part_value : (known : List Context) (rs : List (Option TaskRow)) (slot index : ℕ) (r : TaskRow) → row_at rs slot ≡ Some r
@@ -167,7 +178,8 @@ pub part_value : (known : List Context) (rs : List (Option TaskRow)) (slot index
 part_value known rs slot index r at = plain_got known rs slot index ∙ ap (λ o. option_and_then (λ p. value_of_part p index) o) (plain_of_row known rs slot r at)
 
 -- The value of the part that a decision names is that of the row.
-pub part_may_settle : (i : DemandIn) (e new : Evaluating) (slot index : ℕ) (v : Value) → MayAct i.demand e i.world slot (decision.Part index) → got_of e.rows (record { slot = slot; index = index }) ≡ Some v
+pub part_may_settle : (i : DemandIn) (e new : Evaluating) (slot index : ℕ) (v : Value) → MayAct i.demand e i.world slot (decision.Part index)
+    → got_of e.rows (record { slot = slot; index = index }) ≡ Some v
     → new.engine ≡ e.engine → IsTaken e.rows new.rows slot → MaySettle (at_rows i e.rows) new slot v
 part_may_settle i e new slot index v act is = may_settle i e new slot v act.step answers
   where
@@ -177,17 +189,21 @@ part_may_settle i e new slot index v act is = may_settle i e new slot v act.step
     same : (o : Option PlainValue) (u w : PlainValue) → o ≡ Some u → o ≡ Some w → u ≡ w
     same o u w e f = let both : Some u ≡ Some w = sym e ∙ f in cc
 
-    answers : (r : TaskRow) → row_at e.rows slot ≡ Some r → (b : Elements) → MayHave e.engine b → RowFacts i.demand b (holding e.engine) e.engine.stored.lost (plain_row e.engine.known r)
+    answers : (r : TaskRow) → row_at e.rows slot ≡ Some r → (b : Elements) → MayHave e.engine b
+        → RowFacts i.demand b (holding e.engine) e.engine.stored.lost (plain_row e.engine.known r)
         → Answers i.demand b (holding e.engine) e.engine.stored.lost (plain_task e.engine.known r.task) (plain v)
     answers r at b m facts = elim j.2 [
-      | inl gives ↦ plan_answers i.demand b (holding e.engine) e.engine.stored.lost row act.step.demand facts (plain v) (subst (λ u. GivesByPlan (table_of i.demand) row u) (same (value_of_part row index) j.0 (plain v) j.1 (has r at)) gives)
-      | inr of ↦ reference_answers i.demand b (holding e.engine) e.engine.stored.lost row facts of.0 (plain v) (subst (λ k. value_of_part row k ≡ Some (plain v)) of.1 (has r at))
+      | inl gives ↦ plan_answers i.demand b (holding e.engine) e.engine.stored.lost row act.step.demand facts (plain v)
+          (subst (λ u. GivesByPlan (table_of i.demand) row u) (same (value_of_part row index) j.0 (plain v) j.1 (has r at)) gives)
+      | inr of ↦ reference_answers i.demand b (holding e.engine) e.engine.stored.lost row facts of.0 (plain v)
+          (subst (λ k. value_of_part row k ≡ Some (plain v)) of.1 (has r at))
     ]
       where
         row : PlainRow
         row = plain_row e.engine.known r
 
-        j : (u : PlainValue) × (value_of_part row index ≡ Some u) × (GivesByPlan (table_of i.demand) row u ⊎ (IsReference (node_of (table_of i.demand) row.task) × (index ≡ 0)))
+        j : (u : PlainValue) × (value_of_part row index ≡ Some u)
+            × (GivesByPlan (table_of i.demand) row u ⊎ (IsReference (node_of (table_of i.demand) row.task) × (index ≡ 0)))
         j = (act.justified r at).1
 
 pub some_before : (o : Option Value) (u : PlainValue) → option_map plain o ≡ Some u → IsSome o
@@ -195,7 +211,8 @@ some_before None u h = absurd (cc)
 some_before (Some x) u h = refl
 
 -- the part that a decision names is one of three, and has a value
-pub part_is_there : (d : Demand) (e : Evaluating) (w : World) (slot index : ℕ) → MayAct d e w slot (decision.Part index) → (index < 3) × IsSome (got_of e.rows (record { slot = slot; index = index }))
+pub part_is_there : (d : Demand) (e : Evaluating) (w : World) (slot index : ℕ) → MayAct d e w slot (decision.Part index)
+    → (index < 3) × IsSome (got_of e.rows (record { slot = slot; index = index }))
 part_is_there d e w slot index act =
     let r = ready_is_there e.rows slot act.step.ready in
     let j = act.justified r.0 r.1 in
@@ -209,13 +226,15 @@ argument_value d e w slot step r at i n =
     ∙ ap (argument_by e.engine.table (table.row_at e.engine.table n)) (sym (part_value e.engine.known e.rows slot i r at))
 
 -- What an applied operator gives is given.
-pub applied_gives : (d : Demand) (e : Evaluating) (w : World) (slot : ℕ) (op : Op) (args : List ℕ) (v : Value) → MayAct d e w slot (decision.Apply op args) → Applies e slot op args v
+pub applied_gives : (d : Demand) (e : Evaluating) (w : World) (slot : ℕ) (op : Op) (args : List ℕ) (v : Value) → MayAct d e w slot (decision.Apply op args)
+    → Applies e slot op args v
     → MayGive d e w slot (plain v)
 applied_gives d e w slot op args v act is = record {
   step = act.step;
   gives = λ r at.
       let j = (act.justified r at).1 in
-      let has = values_alike (argument_at (table_of d) (plain_row e.engine.known r)) (value_of e slot) (argument_value d e w slot act.step r at) args 0 j.0 j.2 in
+      let has = values_alike (argument_at (table_of d) (plain_row e.engine.known r)) (value_of e slot) (argument_value d e w slot act.step r at) args 0 j.0
+      j.2 in
       subst (λ u. GivesByPlan (table_of d) (plain_row e.engine.known r) u) (sym (is j.0 j.1 has)) j.3;
 }
 
@@ -224,7 +243,10 @@ pub noted_may_settle : (i : DemandIn) (e new : Evaluating) (slot : ℕ) (v : Val
     → new.engine ≡ record e.engine { noted = new.engine.noted } → new.rows ≡ e.rows → MaySettle (at_rows i e.rows) new slot v
 noted_may_settle i e new slot v may owns only same =
     subst (λ (z : EngineView). MaySettle (at_rows i e.rows) (record { engine = z; rows = new.rows }) slot v) (sym only) (record {
-      waits = record { going = record { work = may.step.waits.going.work; owns = subst (λ z. Owns i.demand z i.world) only owns }; known = may.step.waits.known };
+      waits = record {
+        going = record { work = may.step.waits.going.work; owns = subst (λ z. Owns i.demand z i.world) only owns };
+        known = may.step.waits.known;
+      };
       within = may.step.within;
       ready = may.step.ready;
       taken = subst (λ z. IsTaken e.rows z slot) (sym same) (nothing_taken e.rows slot may.step.ready);
@@ -234,12 +256,16 @@ noted_may_settle i e new slot v may owns only same =
     })
 
 -- The same over what each call leaves: what is kept, and then the rows.
-pub settled_in : (s : Settling) (old mid new : Evaluating) (inner : List (Option TaskRow)) (slot : ℕ) (v : Value) (result : Option Value) → MaySettle s old slot v
-    → IsKept (key_of old.rows slot) old.engine mid.engine v → mid.rows ≡ old.rows → new.engine ≡ mid.engine → inner ≡ mid.rows → rows.Settles inner new.rows slot v
+pub settled_in : (s : Settling) (old mid new : Evaluating) (inner : List (Option TaskRow)) (slot : ℕ) (v : Value) (result : Option Value)
+    → MaySettle s old slot v
+    → IsKept (key_of old.rows slot) old.engine mid.engine v → mid.rows ≡ old.rows → new.engine ≡ mid.engine → inner ≡ mid.rows
+    → rows.Settles inner new.rows slot v
     → result ≡ returned (parent_of inner slot) v → Stepped s.demand (record { engine = old.engine; rows = s.before }) new s.world s.world (Ok result)
 settled_in s old mid new inner slot v result m kept same engine rows_are settles is =
-    subst (λ o. Stepped s.demand (record { engine = old.engine; rows = s.before }) new s.world s.world (Ok o)) (sym (is ∙ ap (λ rs. returned (parent_of rs slot) v) inner_is))
-    (settled s old new slot v m (subst (λ z. IsKept (key_of old.rows slot) old.engine z v) (sym engine) kept) (subst (λ rs. rows.Settles rs new.rows slot v) inner_is settles))
+    subst (λ o. Stepped s.demand (record { engine = old.engine; rows = s.before }) new s.world s.world (Ok o))
+    (sym (is ∙ ap (λ rs. returned (parent_of rs slot) v) inner_is))
+    (settled s old new slot v m (subst (λ z. IsKept (key_of old.rows slot) old.engine z v) (sym engine) kept)
+    (subst (λ rs. rows.Settles rs new.rows slot v) inner_is settles))
   where
     inner_is : inner ≡ old.rows
     inner_is = rows_are ∙ same
@@ -254,7 +280,8 @@ settled_part i e mid new slot index v result same changes is steps act =
     (steps (at_rows i e.rows) (part_may_settle i e mid slot index v act is same
     (one_more_taken e.rows e.rows mid.rows slot index (nothing_taken e.rows slot act.step.ready) changes)))
 
-pub settled_applied : (i : DemandIn) (e mid new : Evaluating) (slot : ℕ) (op : Op) (args : List ℕ) (v : Value) (result : Result (Option Value) DemandFault) → mid.engine ≡ e.engine
+pub settled_applied : (i : DemandIn) (e mid new : Evaluating) (slot : ℕ) (op : Op) (args : List ℕ) (v : Value) (result : Result (Option Value) DemandFault)
+    → mid.engine ≡ e.engine
     → IsTaken e.rows mid.rows slot → Applies e slot op args v
     → ((s : Settling) → MaySettle s mid slot v → Stepped s.demand (record { engine = mid.engine; rows = s.before }) new s.world s.world result)
     → MayAct i.demand e i.world slot (decision.Apply op args) → Stepped i.demand e new i.world i.world result
@@ -276,7 +303,8 @@ rises_since u v rises few = by (cases_lt v (2 ^ 64 - 1))
     by (inr le) = omega (arith, few, le)
 
 -- A step from what costs as much is a step.
-pub stepped_from : (d : Demand) (old mid new : Evaluating) (v w : World) (result : Result (Option Value) DemandFault) → cost d mid ≡ cost d old → Stepped d mid new w w result
+pub stepped_from : (d : Demand) (old mid new : Evaluating) (v w : World) (result : Result (Option Value) DemandFault) → cost d mid ≡ cost d old
+    → Stepped d mid new w w result
     → Stepped d old new v w result
 stepped_from d old mid new v w result same s = record {
   owns = s.owns;
@@ -289,9 +317,11 @@ stepped_from d old mid new v w result same s = record {
 
 -- What a form gives is settled after its search was noted.
 pub settled_end : (i : DemandIn) (e mid new : Evaluating) (slot : ℕ) (v : Value) (result : Result (Option Value) DemandFault)
-    → ((j : DemandIn) → MayStep j.demand e j.world slot → Owns j.demand mid.engine j.world) → mid.engine ≡ record e.engine { noted = mid.engine.noted } → mid.rows ≡ e.rows
+    → ((j : DemandIn) → MayStep j.demand e j.world slot → Owns j.demand mid.engine j.world) → mid.engine ≡ record e.engine { noted = mid.engine.noted }
+    → mid.rows ≡ e.rows
     → ((s : Settling) → MaySettle s mid slot v → Stepped s.demand (record { engine = mid.engine; rows = s.before }) new s.world s.world result)
     → MayGive i.demand e i.world slot (plain v) → Stepped i.demand e new i.world i.world result
 settled_end i e mid new slot v result owns only same steps may =
-    stepped_from i.demand e (record { engine = mid.engine; rows = e.rows }) new i.world i.world result (ap (λ (z : EngineView). cost i.demand (record { engine = z; rows = e.rows })) only)
+    stepped_from i.demand e (record { engine = mid.engine; rows = e.rows }) new i.world i.world result
+    (ap (λ (z : EngineView). cost i.demand (record { engine = z; rows = e.rows })) only)
     (steps (at_rows i e.rows) (noted_may_settle i e mid slot v may (owns i may.step) only same))

@@ -10,14 +10,23 @@ use Rattle.lucid_facts.proofs.NewRows.{root-is_wanted}
 use Rattle.lucid_demand.proofs.Turning.{owns_turned, emptied_turn}
 
 -- What asking for the root gave is how the demand begins.
-pub asked_begins : (d : Demand) (old new : Evaluating) (w : World) (result : Result (Option Value) DemandFault) → IsDemand d → AsksIn d old new w None result → Begins d new w result
-asked_begins d old new w (Ok None) is a = record { owns = a.owns; stands = record { demand = is; waits = a.goes_on.0 }; answers = tt; deep = λ e. absurd (cc); refused = tt }
+pub asked_begins : (d : Demand) (old new : Evaluating) (w : World) (result : Result (Option Value) DemandFault) → IsDemand d → AsksIn d old new w None result
+    → Begins d new w result
+asked_begins d old new w (Ok None) is a = record {
+  owns = a.owns;
+  stands = record { demand = is; waits = a.goes_on.0 };
+  answers = tt;
+  deep = λ e. absurd (cc);
+  refused = tt;
+}
 asked_begins d old new w (Ok (Some v)) is a = record { owns = a.owns; stands = tt; answers = a.answers; deep = λ e. absurd (cc); refused = tt }
 asked_begins d old new w (Err f) is a = record { owns = a.owns; stands = tt; answers = tt; deep = a.deep; refused = a.refused }
 
 -- The root's task is made of the empty context's tag, at a space.
-module _ (old turned : Evaluating) (t : IsTurned old.engine turned.engine) (none : turned.rows ≡ []) (node : ℕ) (empty tag : Tag) (time space limit : ℕ) (is_root : node ≡ turned.engine.table.root)
-    (empty_known : IsKnown turned.engine.known empty) (is_empty : context_of turned.engine.known empty ≡ root) (number : number_of tag ≡ number_of empty) (at_space : space_of tag ≡ space)
+module _ (old turned : Evaluating) (t : IsTurned old.engine turned.engine) (none : turned.rows ≡ []) (node : ℕ) (empty tag : Tag) (time space limit : ℕ)
+    (is_root : node ≡ turned.engine.table.root)
+    (empty_known : IsKnown turned.engine.known empty) (is_empty : context_of turned.engine.known empty ≡ root) (number : number_of tag ≡ number_of empty)
+    (at_space : space_of tag ≡ space)
     (w : World) (sound : IsSound old.engine) (ask : AreAskable old.engine.streams w) where
   abbrev d : Demand
   d = demand_of old.engine w time space limit
@@ -48,12 +57,14 @@ module _ (old turned : Evaluating) (t : IsTurned old.engine turned.engine) (none
   }
 
   -- What asking for it gave is how the demand begins.
-  pub root_begins : (view : Evaluating) → view ≡ turned → (new : Evaluating) (result : Result (Option Value) DemandFault) → (MayAskNow d view w None first → AsksIn d view new w None result) → Begins d new w result
+  pub root_begins : (view : Evaluating) → view ≡ turned → (new : Evaluating) (result : Result (Option Value) DemandFault)
+      → (MayAskNow d view w None first → AsksIn d view new w None result) → Begins d new w result
   root_begins view same new result asks =
       asked_begins d view new w result begins.0 (asks (subst (λ e. MayAskNow d e w None first) (sym same) root_may_be_asked))
 
 -- The root can be asked for.
-pub root_can_be_asked : (o turned : Evaluating) (view : o ≡ turned) (node : ℕ) (empty tag : Tag) (time limit : ℕ) → node < length o.engine.table.nodes → IsKnown o.engine.known empty → number_of tag ≡ number_of empty
+pub root_can_be_asked : (o turned : Evaluating) (view : o ≡ turned) (node : ℕ) (empty tag : Tag) (time limit : ℕ) → node < length o.engine.table.nodes
+    → IsKnown o.engine.known empty → number_of tag ≡ number_of empty
     → CanAsk turned None (record { node = node; tag = tag; time = time; depth = limit })
 root_can_be_asked o turned view node empty tag time limit there known number =
     subst (λ e. CanAsk e None (record { node = node; tag = tag; time = time; depth = limit })) view

@@ -15,13 +15,15 @@ other_part (p ∷ ps) (suc i) zero y n = refl
 other_part (p ∷ ps) (suc i) (suc k) y n = other_part ps i k y (λ e. n (ap suc e))
 
 -- What the arguments have, they have by each function that gives the same values.
-pub values_alike : (f g : ℕ → ℕ → Option PlainValue) → ((i n : ℕ) → f i n ≡ g i n) → (args : List ℕ) (i : ℕ) (vs : List PlainValue) → HaveValues f args i vs → HaveValues g args i vs
+pub values_alike : (f g : ℕ → ℕ → Option PlainValue) → ((i n : ℕ) → f i n ≡ g i n) → (args : List ℕ) (i : ℕ) (vs : List PlainValue) → HaveValues f args i vs
+    → HaveValues g args i vs
 values_alike f g same args i [] h = tt
 values_alike f g same [] i (v ∷ vs) h = absurd h
 values_alike f g same (n ∷ args) i (v ∷ vs) h = (sym (same i n) ∙ h.0, values_alike f g same args (suc i) vs h.1)
 
 -- Each of them is there,
-pub value_there : (f : ℕ → ℕ → Option PlainValue) (args : List ℕ) (i : ℕ) (vs : List PlainValue) → HaveValues f args i vs → (j n : ℕ) → j < length vs → slice_get args j ≡ Some n
+pub value_there : (f : ℕ → ℕ → Option PlainValue) (args : List ℕ) (i : ℕ) (vs : List PlainValue) → HaveValues f args i vs → (j n : ℕ) → j < length vs
+    → slice_get args j ≡ Some n
     → IsSome (f (i + j) n)
 value_there f args i [] h j n low arg = absurd (omega (arith, low))
 value_there f [] i (v ∷ vs) h j n low arg = absurd h
@@ -33,7 +35,8 @@ value_there f (k ∷ args) i (v ∷ vs) h (suc j) n low arg =
     subst (λ q. IsSome (f q n)) on (value_there f args (suc i) vs h.1 j n (omega (arith, low)) arg)
 
 -- and they are the same.
-same_values : (f : ℕ → ℕ → Option PlainValue) (args : List ℕ) (i : ℕ) (vs ws : List PlainValue) → length vs ≡ length ws → HaveValues f args i vs → HaveValues f args i ws → vs ≡ ws
+same_values : (f : ℕ → ℕ → Option PlainValue) (args : List ℕ) (i : ℕ) (vs ws : List PlainValue) → length vs ≡ length ws → HaveValues f args i vs
+    → HaveValues f args i ws → vs ≡ ws
 same_values f args i [] [] l h g = refl
 same_values f args i [] (w ∷ ws) l h g = absurd (omega (arith, l))
 same_values f args i (v ∷ vs) [] l h g = absurd (omega (arith, l))
@@ -43,9 +46,12 @@ same_values f (n ∷ args) i (v ∷ vs) (w ∷ ws) l h g =
     ap (λ x. x ∷ vs) one ∙ ap (λ xs. w ∷ xs) (same_values f args (suc i) vs ws (omega (arith, l)) h.1 g.1)
 
 -- What an operator gives for these values, it gives for those that its arguments have.
-pub applied_value : {E : Type 0} (op : Op) (e : Evaluating) (slot : ℕ) (args : List ℕ → List ℕ) (ws : List PlainValue) (result : Result Value E) → IfOk result (λ v. plain v ≡ algebra op ws)
-    → length ws ≡ arity op → ((rest : List ℕ) → HaveValues (value_of e slot) (args rest) 0 ws) → IfOk result (λ v. (rest : List ℕ) → Applies e slot op (args rest) v)
-applied_value op e slot args ws (Ok v) is count got = λ rest vs l h. is ∙ ap (algebra op) (sym (same_values (value_of e slot) (args rest) 0 vs ws (l ∙ sym count) h (got rest)))
+pub applied_value : {E : Type 0} (op : Op) (e : Evaluating) (slot : ℕ) (args : List ℕ → List ℕ) (ws : List PlainValue) (result : Result Value E)
+    → IfOk result (λ v. plain v ≡ algebra op ws)
+    → length ws ≡ arity op → ((rest : List ℕ) → HaveValues (value_of e slot) (args rest) 0 ws)
+    → IfOk result (λ v. (rest : List ℕ) → Applies e slot op (args rest) v)
+applied_value op e slot args ws (Ok v) is count got = λ rest vs l h. is
+    ∙ ap (algebra op) (sym (same_values (value_of e slot) (args rest) 0 vs ws (l ∙ sym count) h (got rest)))
 applied_value op e slot args ws (Err f) is count got = tt
 
 -- a refusal that is this one

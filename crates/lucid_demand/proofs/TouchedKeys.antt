@@ -14,8 +14,10 @@ module _ (d : Demand) (now : EngineView) (w : World) (stored : Stored) (key : Ke
   -- What is owned stays right after a look-up,
   pub owns_touched : Owns d (record now { stored = stored }) w
   owns_touched =
-      owns_drops d now w owns stored now.noted (λ k v h. sym (held-touched now.stored stored key touched k) ∙ h) (λ keeps k. held-touched now.stored stored key touched k)
-      (omega (arith, touched.lost)) (λ node tag k number h. h) (λ h. few_where_fewer d.first.room now.stored stored (omega (arith, touched.count)) (owns.since.few h))
+      owns_drops d now w owns stored now.noted (λ k v h. sym (held-touched now.stored stored key touched k) ∙ h)
+      (λ keeps k. held-touched now.stored stored key touched k)
+      (omega (arith, touched.lost)) (λ node tag k number h. h)
+      (λ h. few_where_fewer d.first.room now.stored stored (omega (arith, touched.count)) (owns.since.few h))
 
   -- and the rows wait on.
   pub waits_touched : (rs : List (Option TaskRow)) → Waits d now w rs → Waits d (record now { stored = stored }) w rs
@@ -31,7 +33,8 @@ module _ (d : Demand) (now : EngineView) (w : World) (stored : Stored) (key : Ke
   -- What is found under a known key is what is held of its daton, before and after.
   pub found_is_held : (found : Option Value) → IsKnown now.known key.tag → found ≡ value_at now.stored key
       → held_in now.known stored (plain_key now.known key).0 (plain_key now.known key).1 ≡ option_map plain found
-  found_is_held found tag is = held_as_before (plain_key now.known key) ∙ held_by_key now.known now.stored key owns.contexts owns.keys tag ∙ ap (option_map plain) (sym is)
+  found_is_held found tag is = held_as_before (plain_key now.known key) ∙ held_by_key now.known now.stored key owns.contexts owns.keys tag
+      ∙ ap (option_map plain) (sym is)
 
 -- What isn't held doesn't stay held.
 pub absent_is_no_stay : (d : Demand) (now : EngineView) (w : World) (k : DatonAt) → Owns d now w → holding now k.0 k.1 ≡ None → stays d k.0 k.1 ≡ None

@@ -57,14 +57,20 @@ module _ (d : Demand) (now later : EngineView) (w : World) (owns : Owns d now w)
   -- the rows wait on,
   pub waits_turned : (rs : List (Option TaskRow)) → Waits d now w rs → Waits d later w rs
   waits_turned rs waits = subst (λ e. Waits d e w rs) (sym t.only) (record {
-    going = record { work = work_over d (known_elements now) (holding now) (holding turned) now.stored.lost later.stored.lost (plain_rows now.known rs) over waits.going.work; owns = owned };
+    going = record {
+      work = work_over d (known_elements now) (holding now) (holding turned) now.stored.lost later.stored.lost (plain_rows now.known rs) over
+          waits.going.work;
+      owns = owned;
+    };
     known = waits.known;
   })
 
   -- what answers a task answers it,
-  pub answers_turned : (b : Elements) (x : PlainTask) (v : PlainValue) → Answers d b (holding now) now.stored.lost x v → Answers d b (holding later) later.stored.lost x v
+  pub answers_turned : (b : Elements) (x : PlainTask) (v : PlainValue) → Answers d b (holding now) now.stored.lost x v
+      → Answers d b (holding later) later.stored.lost x v
   answers_turned b x v a =
-      subst (λ (e : EngineView). Answers d b (holding e) e.stored.lost x v) (sym t.only) (answers_over d (holding now) (holding turned) now.stored.lost later.stored.lost over b x v a)
+      subst (λ (e : EngineView). Answers d b (holding e) e.stored.lost x v) (sym t.only)
+      (answers_over d (holding now) (holding turned) now.stored.lost later.stored.lost over b x v a)
 
   none_left : IsTrue d.first.empties → count_of later.stored ≡ 0
   none_left e = t.turn.emptied (empties_now e)
@@ -77,7 +83,8 @@ module _ (d : Demand) (now later : EngineView) (w : World) (owns : Owns d now w)
   })
 
 -- After the policy's turn a ready row may take its step.
-pub turned_may_step : (d : Demand) (old mid : Evaluating) (w : World) (slot : ℕ) → MayTurn d old w → IsTurned old.engine mid.engine → mid.rows ≡ old.rows → IsTrue (is_ready (row_at mid.rows slot))
+pub turned_may_step : (d : Demand) (old mid : Evaluating) (w : World) (slot : ℕ) → MayTurn d old w → IsTurned old.engine mid.engine → mid.rows ≡ old.rows
+    → IsTrue (is_ready (row_at mid.rows slot))
     → MayStep d mid w slot
 turned_may_step d old mid w slot may t same ready = record {
   demand = may.demand;
@@ -91,7 +98,9 @@ pub turned_cost : (d : Demand) (old mid : Evaluating) → IsTurned old.engine mi
 turned_cost d old mid t same = ap (λ (e : Evaluating). cost d e) (λ i. record { engine = t.only i; rows = same i })
 
 -- What the row's step does is what the turn does.
-pub turn_steps : (d : Demand) (old mid new : Evaluating) (v w : World) (slot : ℕ) (result : Result (Option Value) DemandFault) → MayTurn d old v → IsTurned old.engine mid.engine → mid.rows ≡ old.rows
+pub turn_steps : (d : Demand) (old mid new : Evaluating) (v w : World) (slot : ℕ) (result : Result (Option Value) DemandFault) → MayTurn d old v
+    → IsTurned old.engine mid.engine → mid.rows ≡ old.rows
     → IsTrue (is_ready (row_at mid.rows slot)) → (MayStep d mid v slot → Stepped d mid new v w result) → Stepped d old new v w result
 turn_steps d old mid new v w slot result may t same ready steps =
-    stepped_from_less d old mid new v w result (let e = turned_cost d old mid t same in omega (arith, e)) (steps (turned_may_step d old mid v slot may t same ready))
+    stepped_from_less d old mid new v w result (let e = turned_cost d old mid t same in omega (arith, e))
+    (steps (turned_may_step d old mid v slot may t same ready))

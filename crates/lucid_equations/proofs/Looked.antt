@@ -10,7 +10,8 @@ abbrev points : Reader (List Point)
 points i t s = (i, t, s) ∷ []
 
 module _ {A : Type 0} (m : ℕ) (decide : Reader (Option PlainValue)) (see : Reader (List A)) where
-  one-inside : (c : Bool) (l : Look) (q : Point) → In q (if c then points l.part l.time l.space else []) → Inside (see q.0 q.1 q.2) (if c then see l.part l.time l.space else [])
+  one-inside : (c : Bool) (l : Look) (q : Point) → In q (if c then points l.part l.time l.space else [])
+      → Inside (see q.0 q.1 q.2) (if c then see l.part l.time l.space else [])
   one-inside true l q (inl e) x i = subst (λ z. In x (see z.0 z.1 z.2)) e i
   one-inside true l q (inr j) x i = absurd j
   one-inside false l q j x i = absurd j
@@ -23,7 +24,8 @@ module _ {A : Type 0} (m : ℕ) (decide : Reader (Option PlainValue)) (see : Rea
         | inr a ↦ in_right x (if nat_le l.least m then see l.part l.time l.space else []) (gather m see ls) (gathered-inside ls q a x i)
       ]
 
-  later-inside : (o : Option (List PlainValue)) (f : List PlainValue → List Point) (g : List PlainValue → List A) (q : Point) → ((vs : List PlainValue) → In q (f vs) → Inside (see q.0 q.1 q.2) (g vs)) → In q (with_values o [] f) → Inside (see q.0 q.1 q.2) (with_values o [] g)
+  later-inside : (o : Option (List PlainValue)) (f : List PlainValue → List Point) (g : List PlainValue → List A) (q : Point)
+      → ((vs : List PlainValue) → In q (f vs) → Inside (see q.0 q.1 q.2) (g vs)) → In q (with_values o [] f) → Inside (see q.0 q.1 q.2) (with_values o [] g)
   later-inside None f g q h j x i = absurd j
   later-inside (Some vs) f g q h j x i = h vs j x i
 
@@ -34,7 +36,8 @@ module _ {A : Type 0} (m : ℕ) (decide : Reader (Option PlainValue)) (see : Rea
   looked-inside (looks ls k) q j x i =
       elim (in_either q (gather m points ls) (with_values (all_values decide ls) [] (λ vs. trace m (k vs) decide points)) j) [
         | inl a ↦ in_left x (gather m see ls) (with_values (all_values decide ls) [] (λ vs. trace m (k vs) decide see)) (gathered-inside ls q a x i)
-        | inr a ↦ in_right x (gather m see ls) (with_values (all_values decide ls) [] (λ vs. trace m (k vs) decide see)) (later-inside (all_values decide ls) (λ vs. trace m (k vs) decide points) (λ vs. trace m (k vs) decide see) q (λ vs. looked-inside (k vs) q) a x i)
+        | inr a ↦ in_right x (gather m see ls) (with_values (all_values decide ls) [] (λ vs. trace m (k vs) decide see))
+            (later-inside (all_values decide ls) (λ vs. trace m (k vs) decide points) (λ vs. trace m (k vs) decide see) q (λ vs. looked-inside (k vs) q) a x i)
       ]
 
   abbrev Found : List Point → A → Type 0
@@ -48,11 +51,15 @@ module _ {A : Type 0} (m : ℕ) (decide : Reader (Option PlainValue)) (see : Rea
   gathered-found [] x i = absurd i
   gathered-found (l ∷ ls) x i =
       elim (in_either x (if nat_le l.least m then see l.part l.time l.space else []) (gather m see ls) i) [
-        | inl a ↦ (let h = one-found (nat_le l.least m) l x a in (h.0, in_left h.0 (if nat_le l.least m then points l.part l.time l.space else []) (gather m points ls) h.1, h.2))
-        | inr a ↦ (let h = gathered-found ls x a in (h.0, in_right h.0 (if nat_le l.least m then points l.part l.time l.space else []) (gather m points ls) h.1, h.2))
+        | inl a ↦ (let h = one-found (nat_le l.least m) l x a in
+            (h.0, in_left h.0 (if nat_le l.least m then points l.part l.time l.space else []) (gather m points ls) h.1, h.2))
+        | inr
+            a ↦ (let h = gathered-found ls x a in
+            (h.0, in_right h.0 (if nat_le l.least m then points l.part l.time l.space else []) (gather m points ls) h.1, h.2))
       ]
 
-  later-found : (o : Option (List PlainValue)) (f : List PlainValue → List Point) (g : List PlainValue → List A) (x : A) → ((vs : List PlainValue) → In x (g vs) → Found (f vs) x) → In x (with_values o [] g) → Found (with_values o [] f) x
+  later-found : (o : Option (List PlainValue)) (f : List PlainValue → List Point) (g : List PlainValue → List A) (x : A)
+      → ((vs : List PlainValue) → In x (g vs) → Found (f vs) x) → In x (with_values o [] g) → Found (with_values o [] f) x
   later-found None f g x h i = absurd i
   later-found (Some vs) f g x h i = h vs i
 
@@ -62,7 +69,9 @@ module _ {A : Type 0} (m : ℕ) (decide : Reader (Option PlainValue)) (see : Rea
   look-found nothing x i = absurd i
   look-found (looks ls k) x i =
       elim (in_either x (gather m see ls) (with_values (all_values decide ls) [] (λ vs. trace m (k vs) decide see)) i) [
-        | inl a ↦ (let h = gathered-found ls x a in (h.0, in_left h.0 (gather m points ls) (with_values (all_values decide ls) [] (λ vs. trace m (k vs) decide points)) h.1, h.2))
+        | inl
+            a ↦ (let h = gathered-found ls x a in
+            (h.0, in_left h.0 (gather m points ls) (with_values (all_values decide ls) [] (λ vs. trace m (k vs) decide points)) h.1, h.2))
         | inr a ↦ (
             let h = later-found (all_values decide ls) (λ vs. trace m (k vs) decide points) (λ vs. trace m (k vs) decide see) x (λ vs. look-found (k vs) x) a in
             (h.0, in_right h.0 (gather m points ls) (with_values (all_values decide ls) [] (λ vs. trace m (k vs) decide points)) h.1, h.2)
@@ -73,7 +82,8 @@ module _ (m : ℕ) (decide : Reader (Option PlainValue)) where
   abbrev HasIt : Point → Type 0
   HasIt q = (w : PlainValue) × (decide q.0 q.1 q.2 ≡ Some w)
 
-  one-defined : (c : Bool) (l : Look) (w : PlainValue) → decide l.part l.time l.space ≡ Some w → (q : Point) → In q (if c then points l.part l.time l.space else []) → HasIt q
+  one-defined : (c : Bool) (l : Look) (w : PlainValue) → decide l.part l.time l.space ≡ Some w → (q : Point)
+      → In q (if c then points l.part l.time l.space else []) → HasIt q
   one-defined true l w e q (inl h) = (w, subst (λ z. decide z.0 z.1 z.2 ≡ Some w) (sym h) e)
   one-defined true l w e q (inr j) = absurd j
   one-defined false l w e q j = absurd j

@@ -19,10 +19,12 @@ module _ (p : Equations) where
   Same a = (d : Daton) (x : NodePosition) (u : ℕ) → a ≡ goes_to d x u → by_entry p (p.entry d.name) d.name d.context d.time ≡ goes_to d x u
 
   -- where the daton of this aim goes on with the aim itself
-  by-own : (a : NodeAim) (k : Daton) → a ≡ by_entry p (p.entry k.name) k.name k.context k.time → (d : Daton) (x : NodePosition) (u : ℕ) → a ≡ goes_to d x u → d ≡ k → by_entry p (p.entry d.name) d.name d.context d.time ≡ goes_to d x u
+  by-own : (a : NodeAim) (k : Daton) → a ≡ by_entry p (p.entry k.name) k.name k.context k.time → (d : Daton) (x : NodePosition) (u : ℕ) → a ≡ goes_to d x u
+      → d ≡ k → by_entry p (p.entry d.name) d.name d.context d.time ≡ goes_to d x u
   by-own a k h d x u e i = ap (λ z. by_entry p (p.entry z.name) z.name z.context z.time) i ∙ sym h ∙ e
 
-  actual-same : (o : Option PlainEntry) (q : Option PlainNode) (n : ℕ) (c f : Context) (t : ℕ) → p.entry n ≡ o → by_entry p o n c t ≡ to_actual q n c f t → Same (to_actual q n c f t)
+  actual-same : (o : Option PlainEntry) (q : Option PlainNode) (n : ℕ) (c f : Context) (t : ℕ) → p.entry n ≡ o → by_entry p o n c t ≡ to_actual q n c f t
+      → Same (to_actual q n c f t)
   actual-same o None n c f t h i d x u e = absurd (no_aim d x u e)
   actual-same o (Some y) n c f t h i d x u e =
       by-own (to_node n c t y f t) (record { name = n; context = c; time = t }) (sym i ∙ ap (λ z. by_entry p z n c t) (sym h)) d x u e (ap (daton_in d) (sym e))
@@ -35,7 +37,8 @@ module _ (p : Equations) where
   entry-same (Some (parameter_entry i)) n (call_frame at f c) t h d x u e =
       actual-same (Some (parameter_entry i)) (p.actual at i) n (call_frame at f c) f t h refl d x u e
   entry-same (Some (current_entry y)) n (frozen_frame v c) t h d x u e =
-      by-own (to_node n (frozen_frame v c) 0 y c v) (record { name = n; context = frozen_frame v c; time = 0 }) (ap (λ z. by_entry p z n (frozen_frame v c) 0) (sym h)) d x u e (ap (daton_in d) (sym e))
+      by-own (to_node n (frozen_frame v c) 0 y c v) (record { name = n; context = frozen_frame v c; time = 0 })
+      (ap (λ z. by_entry p z n (frozen_frame v c) 0) (sym h)) d x u e (ap (daton_in d) (sym e))
   entry-same o n c t h d x u e = absurd (no_aim d x u e)
 
   name-same : (n : ℕ) (o : Option Context) (t : ℕ) → Same (name_aim p n o t)

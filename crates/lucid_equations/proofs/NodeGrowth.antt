@@ -5,14 +5,17 @@ use Rattle.lucid_equations.proofs.NodeAims.{reference-by_daton, call-by_daton}
 
 module _ (p : Equations) where
   mutual
-    value_at-grows : (m : ℕ) (b b' : Below Daton NodePosition) → ((a : NodeAim) (s : ℕ) → Keeps (b a s) (b' a s)) → (e : PlainNode) (c : Context) (t s : ℕ) → Keeps (value_at p m b e c t s) (value_at p (suc m) b' e c t s)
+    value_at-grows : (m : ℕ) (b b' : Below Daton NodePosition) → ((a : NodeAim) (s : ℕ) → Keeps (b a s) (b' a s)) → (e : PlainNode) (c : Context) (t s : ℕ)
+        → Keeps (value_at p m b e c t s) (value_at p (suc m) b' e c t s)
     value_at-grows m b b' h (row f es) c t s =
-        run-keeps (plan-grows m f t s) (λ i u r. part_at p m b es c i u r) (λ i u r. part_at p (suc m) b' es c i u r) (λ i u r. part_at-grows m b b' h es c i u r)
+        run-keeps (plan-grows m f t s) (λ i u r. part_at p m b es c i u r) (λ i u r. part_at p (suc m) b' es c i u r)
+        (λ i u r. part_at-grows m b b' h es c i u r)
     value_at-grows m b b' h (freeze e) c t s = value_at-grows m b b' h e (frozen_frame t c) t s
     value_at-grows m b b' h (reference r) c t s = h (reference_aim p r c t) s
     value_at-grows m b b' h (invoke n at l) c t s = h (call_aim p n at l c t) s
 
-    pub part_at-grows : (m : ℕ) (b b' : Below Daton NodePosition) → ((a : NodeAim) (s : ℕ) → Keeps (b a s) (b' a s)) → (es : PlainNodes) (c : Context) (i t s : ℕ) → Keeps (part_at p m b es c i t s) (part_at p (suc m) b' es c i t s)
+    pub part_at-grows : (m : ℕ) (b b' : Below Daton NodePosition) → ((a : NodeAim) (s : ℕ) → Keeps (b a s) (b' a s))
+        → (es : PlainNodes) (c : Context) (i t s : ℕ) → Keeps (part_at p m b es c i t s) (part_at p (suc m) b' es c i t s)
     part_at-grows m b b' h no_nodes c i t s x d = d
     part_at-grows m b b' h (node e es) c zero t s x d = value_at-grows m b b' h e c t s x d
     part_at-grows m b b' h (node e es) c (suc i) t s x d = part_at-grows m b b' h es c i t s x d
@@ -32,17 +35,21 @@ module _ (p : Equations) where
 
   -- with references that have at least the values that they had, a node at the same limit keeps its value
   mutual
-    value_at-keeps : (m : ℕ) (b b' : Below Daton NodePosition) → ((a : NodeAim) (s : ℕ) → GoesByItsDaton p a → Keeps (b a s) (b' a s)) → (e : PlainNode) (c : Context) (t s : ℕ) → Keeps (value_at p m b e c t s) (value_at p m b' e c t s)
+    value_at-keeps : (m : ℕ) (b b' : Below Daton NodePosition) → ((a : NodeAim) (s : ℕ) → GoesByItsDaton p a → Keeps (b a s) (b' a s))
+        → (e : PlainNode) (c : Context) (t s : ℕ) → Keeps (value_at p m b e c t s) (value_at p m b' e c t s)
     value_at-keeps m b b' h (row f es) c t s =
-        run-keeps (within_itself (plan m f t s)) (λ i u r. part_at p m b es c i u r) (λ i u r. part_at p m b' es c i u r) (λ i u r. part_at-keeps m b b' h es c i u r)
+        run-keeps (within_itself (plan m f t s)) (λ i u r. part_at p m b es c i u r) (λ i u r. part_at p m b' es c i u r)
+        (λ i u r. part_at-keeps m b b' h es c i u r)
     value_at-keeps m b b' h (freeze e) c t s = value_at-keeps m b b' h e (frozen_frame t c) t s
     value_at-keeps m b b' h (reference r) c t s = h (reference_aim p r c t) s (reference-by_daton p r c t)
     value_at-keeps m b b' h (invoke n at l) c t s = h (call_aim p n at l c t) s (call-by_daton p n at l c t)
 
-    pub part_at-keeps : (m : ℕ) (b b' : Below Daton NodePosition) → ((a : NodeAim) (s : ℕ) → GoesByItsDaton p a → Keeps (b a s) (b' a s)) → (es : PlainNodes) (c : Context) (i t s : ℕ) → Keeps (part_at p m b es c i t s) (part_at p m b' es c i t s)
+    pub part_at-keeps : (m : ℕ) (b b' : Below Daton NodePosition) → ((a : NodeAim) (s : ℕ) → GoesByItsDaton p a → Keeps (b a s) (b' a s))
+        → (es : PlainNodes) (c : Context) (i t s : ℕ) → Keeps (part_at p m b es c i t s) (part_at p m b' es c i t s)
     part_at-keeps m b b' h no_nodes c i t s x d = d
     part_at-keeps m b b' h (node e es) c zero t s x d = value_at-keeps m b b' h e c t s x d
     part_at-keeps m b b' h (node e es) c (suc i) t s x d = part_at-keeps m b b' h es c i t s x d
 
-  pub node_value-keeps : (m : ℕ) (b b' : Below Daton NodePosition) → ((a : NodeAim) (s : ℕ) → GoesByItsDaton p a → Keeps (b a s) (b' a s)) → (x : NodePosition) (t s : ℕ) → Keeps (node_value p m b x t s) (node_value p m b' x t s)
+  pub node_value-keeps : (m : ℕ) (b b' : Below Daton NodePosition) → ((a : NodeAim) (s : ℕ) → GoesByItsDaton p a → Keeps (b a s) (b' a s))
+      → (x : NodePosition) (t s : ℕ) → Keeps (node_value p m b x t s) (node_value p m b' x t s)
   node_value-keeps m b b' h x t s = value_at-keeps m b b' h x.node x.context t s

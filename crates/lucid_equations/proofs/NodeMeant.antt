@@ -12,19 +12,27 @@ module _ (p : Equations) where
   abbrev Anywhere : NodePosition → Type 0
   Anywhere x = Unit {0}
 
-  module _ (m : ℕ) (b : Below Daton NodePosition) (bs : ℕ → Below Daton NodePosition) (grows : (n : ℕ) (a : NodeAim) (s : ℕ) → Keeps (bs n a s) (bs (suc n) a s)) (meant : (a : NodeAim) (s : ℕ) (v : PlainValue) → GoesByItsDaton p a → b a s ≡ Some v → (n : ℕ) × (bs n a s ≡ Some v)) where
+  module _ (m : ℕ) (b : Below Daton NodePosition) (bs : ℕ → Below Daton NodePosition)
+      (grows : (n : ℕ) (a : NodeAim) (s : ℕ) → Keeps (bs n a s) (bs (suc n) a s))
+      (meant : (a : NodeAim) (s : ℕ) (v : PlainValue) → GoesByItsDaton p a → b a s ≡ Some v → (n : ℕ) × (bs n a s ≡ Some v)) where
     mutual
-      value_at-gathers : (e : PlainNode) (c : Context) (t s : ℕ) (v : PlainValue) → value_at p m b e c t s ≡ Some v → (n : ℕ) × (value_at p n (bs n) e c t s ≡ Some v)
+      value_at-gathers : (e : PlainNode) (c : Context) (t s : ℕ) (v : PlainValue) → value_at p m b e c t s ≡ Some v
+          → (n : ℕ) × (value_at p n (bs n) e c t s ≡ Some v)
       value_at-gathers (row f es) c t s v d =
           let steps = λ (n i u r : ℕ). part_at-grows p n (bs n) (bs (suc n)) (grows n) es c i u r in
-          let h = run-meant (λ n i u r. part_at p n (bs n) es c i u r) steps (λ i u r. part_at p m b es c i u r) (λ i u r w k. part_at-gathers es c i u r w k) (plan m f t s) v d in
-          let n : ℕ = max m h.0 in
-          (n, run-keeps (plan-up m n (omega arith) f t s) (λ i u r. part_at p h.0 (bs h.0) es c i u r) (λ i u r. part_at p n (bs n) es c i u r) (reader-up (λ j i u r. part_at p j (bs j) es c i u r) steps h.0 n (omega arith)) v h.1)
+          let h = run-meant (λ n i u r. part_at p n (bs n) es c i u r) steps (λ i u r. part_at p m b es c i u r) (λ i u r w k. part_at-gathers es c i u r w k)
+          (plan m f t s) v d in
+          let n : ℕ = max m h.0 in (
+            n,
+            run-keeps (plan-up m n (omega arith) f t s) (λ i u r. part_at p h.0 (bs h.0) es c i u r) (λ i u r. part_at p n (bs n) es c i u r)
+                (reader-up (λ j i u r. part_at p j (bs j) es c i u r) steps h.0 n (omega arith)) v h.1,
+          )
       value_at-gathers (freeze e) c t s v d = value_at-gathers e (frozen_frame t c) t s v d
       value_at-gathers (reference r) c t s v d = meant (reference_aim p r c t) s v (reference-by_daton p r c t) d
       value_at-gathers (invoke n at l) c t s v d = meant (call_aim p n at l c t) s v (call-by_daton p n at l c t) d
 
-      part_at-gathers : (es : PlainNodes) (c : Context) (i t s : ℕ) (v : PlainValue) → part_at p m b es c i t s ≡ Some v → (n : ℕ) × (part_at p n (bs n) es c i t s ≡ Some v)
+      part_at-gathers : (es : PlainNodes) (c : Context) (i t s : ℕ) (v : PlainValue) → part_at p m b es c i t s ≡ Some v
+          → (n : ℕ) × (part_at p n (bs n) es c i t s ≡ Some v)
       part_at-gathers no_nodes c i t s v d = (0, d)
       part_at-gathers (node e es) c zero t s v d = value_at-gathers e c t s v d
       part_at-gathers (node e es) c (suc i) t s v d = part_at-gathers es c i t s v d
@@ -32,9 +40,11 @@ module _ (p : Equations) where
   node_value-gathers : Gathers (node_value p) Anywhere (GoesByItsDaton p)
   node_value-gathers m b bs grows meant x t s v a d = value_at-gathers m b bs grows meant x.node x.context t s v d
 
-  pub node_hval-meant : (g : Given Daton) → HeldIsMeant p g → (m : ℕ) (e : PlainNode) (c : Context) (t s : ℕ) (v : PlainValue) → node_hval p g m e c t s ≡ Some v → NodeMeans p g.element e c t s v
+  pub node_hval-meant : (g : Given Daton) → HeldIsMeant p g → (m : ℕ) (e : PlainNode) (c : Context) (t s : ℕ) (v : PlainValue)
+      → node_hval p g m e c t s ≡ Some v → NodeMeans p g.element e c t s v
   node_hval-meant g held_meant m e c t s v d =
-      approximation-meant (node_value p) Anywhere (GoesByItsDaton p) (node_value-grows p) node_value-gathers (λ k x u a. tt) g (λ k x u r w a h. held_meant k x u r w (a k x u refl) h) m (record { node = e; context = c }) t s v tt d
+      approximation-meant (node_value p) Anywhere (GoesByItsDaton p) (node_value-grows p) node_value-gathers (λ k x u a. tt) g
+      (λ k x u r w a h. held_meant k x u r w (a k x u refl) h) m (record { node = e; context = c }) t s v tt d
 
   module _ (g h : Given Daton) (more : HoldsMore g h) (held_meant : HeldIsMeant p h) where
     -- a value that is held, or one that is found, where what is held is the same
@@ -55,8 +65,11 @@ module _ (p : Equations) where
         elim (by_either (g.held k s) (node_value p m (below (node_value p) g m) x u s) v e) [
           | inl q ↦ or_else-held (h.held k s) (node_value p m (below (node_value p) h m) x u s) v (more.held k s v q)
           | inr q ↦ (
-              let found : node_value p m (below (node_value p) h m) x u s ≡ Some v = node_value-keeps p m (below (node_value p) g m) (below (node_value p) h m) (below-more m) x u s v q in
-              first_or_found (h.held k s) (node_value p m (below (node_value p) h m) x u s) v found (λ w i. node-meant_once p h.element x.node x.context u s w v (held_meant k x u s w (y k x u refl) i) (node_hval-meant h held_meant m x.node x.context u s v found))
+              let found : node_value p m (below (node_value p) h m) x u s ≡ Some v =
+              node_value-keeps p m (below (node_value p) g m) (below (node_value p) h m) (below-more m) x u s v q in
+              first_or_found (h.held k s) (node_value p m (below (node_value p) h m) x u s) v found
+              (λ w i. node-meant_once p h.element x.node x.context u s w v (held_meant k x u s w (y k x u refl) i)
+              (node_hval-meant h held_meant m x.node x.context u s v found))
               )
         ]
     below-more (suc m) nowhere s y v e = e

@@ -28,7 +28,8 @@ module _ (T : Table) where
   actual-plain None n c f t = refl
   actual-plain (Some id) n c f t = refl
 
-  entry-plain : (o : Option Entry) (n : ℕ) (c : Context) (t : ℕ) → by_entry (equations_of T) (option_map (entry_by T) o) n c t ≡ plain_aim T (by_name_row T o n c t)
+  entry-plain : (o : Option Entry) (n : ℕ) (c : Context) (t : ℕ)
+      → by_entry (equations_of T) (option_map (entry_by T) o) n c t ≡ plain_aim T (by_name_row T o n c t)
   entry-plain (Some (Parameter i)) n (call_frame at f c) t = actual-plain (actual_at T at i) n (call_frame at f c) f t
   entry-plain (Some (Current id)) n (frozen_frame u c) t = refl
   entry-plain o n c t = refl
@@ -67,7 +68,8 @@ module _ (T : Table) where
         elim ((slice_get_cases T.places q).1) [
           | inl r ↦
               let here : slice_get r.0.actuals i ≡ Some id = sym (ap (λ o. slice_get (actuals_of o) i) r.2) ∙ h in
-              let each : EachBelow (length T.nodes) r.0.actuals = subst (λ (x : PlaceRow). EachBelow (length T.nodes) x.actuals) r.3 (place-in_range (sizes T) T.places q r.0 range.4 r.1) in
+              let each : EachBelow (length T.nodes) r.0.actuals =
+              subst (λ (x : PlaceRow). EachBelow (length T.nodes) x.actuals) r.3 (place-in_range (sizes T) T.places q r.0 range.4 r.1) in
               each-lower (length T.nodes) r.0.actuals i id each here
           | inr r ↦ absurd (none-some id (sym (ap (λ o. slice_get (actuals_of o) i) r.1) ∙ h))
         ]
@@ -76,7 +78,8 @@ module _ (T : Table) where
     actual-leads None n c f t h = tt
     actual-leads (Some id) n c f t h = h id refl
 
-    entry-leads : (o : Option Entry) (n : ℕ) (c : Context) (t : ℕ) → ((e : Entry) → o ≡ Some e → EntryIsInRange (sizes T) e) → LeadsToNode (by_name_row T o n c t)
+    entry-leads : (o : Option Entry) (n : ℕ) (c : Context) (t : ℕ) → ((e : Entry) → o ≡ Some e → EntryIsInRange (sizes T) e)
+        → LeadsToNode (by_name_row T o n c t)
     entry-leads (Some (Plain id)) n c t h = h (Plain id) refl
     entry-leads (Some (Called id)) n c t h = h (Called id) refl
     entry-leads (Some (Parameter i)) n (call_frame at f c) t h = actual-leads (actual_at T at i) n (call_frame at f c) f t (actual-there at i)
@@ -97,7 +100,8 @@ nodes-by-numbers T range id c t =
     elim ((slice_get_cases T.nodes id).1) [
       | inl r ↦
           let here : row_at T id ≡ Some r.0.node = ap (option_map node_in) r.2 in
-          ap (λ e. node_aim (equations_of T) e c t) (row-node T range id r.0.node here) ∙ row-plain T r.0.node c t ∙ ap (λ o. plain_aim T (row_aim T o c t)) (sym here)
+          ap (λ e. node_aim (equations_of T) e c t) (row-node T range id r.0.node here) ∙ row-plain T r.0.node c t
+          ∙ ap (λ o. plain_aim T (row_aim T o c t)) (sym here)
       | inr r ↦
           let here : row_at T id ≡ None = ap (option_map node_in) r.1 in
           ap (λ e. node_aim (equations_of T) e c t) (past-none T id r.0) ∙ ap (λ o. plain_aim T (row_aim T o c t)) (sym here)

@@ -5,7 +5,8 @@ use Rattle.lucid_equations.specs.RowParts.{HasPart}
 use Rattle.lucid_equations.proofs.Rising.{read-row, node-in_range}
 use Rattle.lucid_equations.proofs.Moving.{part-read, part-walked}
 
-parts-are : (vs : List PlainValue) (ns : List (List ℕ)) (ts : List PlainNode) (n : Node) (f : Head) (es : PlainNodes) → as_node vs ns ts n ≡ row f es → es ≡ all_at ts (parts n)
+parts-are : (vs : List PlainValue) (ns : List (List ℕ)) (ts : List PlainNode) (n : Node) (f : Head) (es : PlainNodes) → as_node vs ns ts n ≡ row f es
+    → es ≡ all_at ts (parts n)
 parts-are vs ns ts (Const k) f es h = cc
 parts-are vs ns ts n f es h = cc
 
@@ -52,9 +53,13 @@ module _ (T : Table) (range : IsInRange T) where
       let is : es ≡ all_at (nodes_of T) (parts h.row) = parts-are (constants_of T) T.inputs (nodes_of T) h.row f es (sym (row-node id h.row h.there) ∙ e) in
       ap (λ z. part_of z i) is ∙ part-at (nodes_of T) (parts h.row) i k h.names
 
-  pub part-value : (id i k : ℕ) → HasPart T id i k → (f : Head) (es : PlainNodes) → node_at T id ≡ row f es → (g : Given Daton) (m : ℕ) (c : Context) (t s : ℕ) → reads_parts (equations_of T) g m es c i t s ≡ node_hval (equations_of T) g m (node_at T k) c t s
-  part-value id i k h f es e g m c t s = part-read (equations_of T) m (below (node_value (equations_of T)) g m) es i (node_at T k) (part-node id i k h f es e) c t s
+  pub part-value : (id i k : ℕ) → HasPart T id i k → (f : Head) (es : PlainNodes) → node_at T id ≡ row f es → (g : Given Daton) (m : ℕ) (c : Context) (t s : ℕ)
+      → reads_parts (equations_of T) g m es c i t s ≡ node_hval (equations_of T) g m (node_at T k) c t s
+  part-value id i k h f es e g m c t s = part-read (equations_of T) m (below (node_value (equations_of T)) g m) es i (node_at T k) (part-node id i k h f es e) c
+      t s
 
-  pub part-visits : (id i k : ℕ) → HasPart T id i k → (f : Head) (es : PlainNodes) → node_at T id ≡ row f es → (b : Elements) (m d : ℕ) (c : Context) (t s : ℕ) → visits_parts (equations_of T) b m d es c i t s ≡ node_visits (equations_of T) b m d (node_at T k) c t s
+  pub part-visits : (id i k : ℕ) → HasPart T id i k → (f : Head) (es : PlainNodes) → node_at T id ≡ row f es → (b : Elements) (m d : ℕ) (c : Context) (t s : ℕ)
+      → visits_parts (equations_of T) b m d es c i t s ≡ node_visits (equations_of T) b m d (node_at T k) c t s
   part-visits id i k h f es e b m d c t s =
-      part-walked (equations_of T) (nothing_held b) m d (deeper (node_walk (equations_of T) (nothing_held b)) m d) es i (node_at T k) (part-node id i k h f es e) c t s
+      part-walked (equations_of T) (nothing_held b) m d (deeper (node_walk (equations_of T) (nothing_held b)) m d) es i (node_at T k)
+      (part-node id i k h f es e) c t s

@@ -24,26 +24,33 @@ module _ (vs : List PlainValue) (ns : List (List ℕ)) where
   pub begins-grow : (ts : List PlainNode) (rs : List NodeRow) → Begins ts (grow vs ns ts rs)
   begins-grow ts [] = ([], sym (append-nil ts))
   begins-grow ts (r ∷ rs) =
-      begins-then ts (ts ++ as_node vs ns ts r.node ∷ []) (grow vs ns (ts ++ as_node vs ns ts r.node ∷ []) rs) (as_node vs ns ts r.node ∷ [], refl) (begins-grow (ts ++ as_node vs ns ts r.node ∷ []) rs)
+      begins-then ts (ts ++ as_node vs ns ts r.node ∷ []) (grow vs ns (ts ++ as_node vs ns ts r.node ∷ []) rs) (as_node vs ns ts r.node ∷ [], refl)
+      (begins-grow (ts ++ as_node vs ns ts r.node ∷ []) rs)
 
-  read-from : (z : Sizes) (ts : List PlainNode) (rs : List NodeRow) (i : ℕ) (d : NodeRow) → NodesAreInRange z (length ts) rs → i < length rs → at (grow vs ns ts rs) (length ts + i) ≡ as_node vs ns (grow vs ns ts rs) (get_or rs i d).node
+  read-from : (z : Sizes) (ts : List PlainNode) (rs : List NodeRow) (i : ℕ) (d : NodeRow) → NodesAreInRange z (length ts) rs → i < length rs
+      → at (grow vs ns ts rs) (length ts + i) ≡ as_node vs ns (grow vs ns ts rs) (get_or rs i d).node
   read-from z ts [] i d h b = absurd (omega arith)
   read-from z ts (r ∷ rs) zero d h b =
       let n : length ts + 0 ≡ length ts = omega arith in
       let one : length (ts ++ as_node vs ns ts r.node ∷ []) ≡ length ts + 1 = length-append ts (as_node vs ns ts r.node ∷ []) in
-      ap (at (grow vs ns ts (r ∷ rs))) n ∙ at-kept (ts ++ as_node vs ns ts r.node ∷ []) (grow vs ns (ts ++ as_node vs ns ts r.node ∷ []) rs) (length ts) (begins-grow (ts ++ as_node vs ns ts r.node ∷ []) rs) (omega (arith, one)) ∙ get_or-append_seam ts (as_node vs ns ts r.node) [] no_node ∙ sym (row-kept ts (grow vs ns ts (r ∷ rs)) r.node (begins-grow ts (r ∷ rs)) h.0.0)
+      ap (at (grow vs ns ts (r ∷ rs))) n ∙ at-kept (ts ++ as_node vs ns ts r.node ∷ []) (grow vs ns (ts ++ as_node vs ns ts r.node ∷ []) rs) (length ts)
+      (begins-grow (ts ++ as_node vs ns ts r.node ∷ []) rs) (omega (arith, one)) ∙ get_or-append_seam ts (as_node vs ns ts r.node) [] no_node
+      ∙ sym (row-kept ts (grow vs ns ts (r ∷ rs)) r.node (begins-grow ts (r ∷ rs)) h.0.0)
   read-from z ts (r ∷ rs) (suc i) d h b =
       let one : length (ts ++ as_node vs ns ts r.node ∷ []) ≡ suc (length ts) = omega (arith, length-append ts (as_node vs ns ts r.node ∷ [])) in
       let n : length ts + suc i ≡ length (ts ++ as_node vs ns ts r.node ∷ []) + i = omega (arith, one) in
-      ap (at (grow vs ns ts (r ∷ rs))) n ∙ read-from z (ts ++ as_node vs ns ts r.node ∷ []) rs i d (subst (λ k. NodesAreInRange z k rs) (sym one) h.1) (omega arith)
+      ap (at (grow vs ns ts (r ∷ rs))) n ∙ read-from z (ts ++ as_node vs ns ts r.node ∷ []) rs i d (subst (λ k. NodesAreInRange z k rs) (sym one) h.1)
+      (omega arith)
 
-  pub read-row : (z : Sizes) (rs : List NodeRow) (i : ℕ) (d : NodeRow) → NodesAreInRange z 0 rs → i < length rs → at (grow vs ns [] rs) i ≡ as_node vs ns (grow vs ns [] rs) (get_or rs i d).node
+  pub read-row : (z : Sizes) (rs : List NodeRow) (i : ℕ) (d : NodeRow) → NodesAreInRange z 0 rs → i < length rs
+      → at (grow vs ns [] rs) i ≡ as_node vs ns (grow vs ns [] rs) (get_or rs i d).node
   read-row z rs i d h b =
       let n : i ≡ 0 + i = omega arith in
       ap (at (grow vs ns [] rs)) n ∙ read-from z [] rs i d h b
 
 -- each row of a list in range is in range
-nodes-from : (z : Sizes) (j : ℕ) (rs : List NodeRow) (i : ℕ) (d : NodeRow) → NodesAreInRange z j rs → i < length rs → NodeIsInRange z (j + i) (get_or rs i d).node
+nodes-from : (z : Sizes) (j : ℕ) (rs : List NodeRow) (i : ℕ) (d : NodeRow) → NodesAreInRange z j rs → i < length rs
+    → NodeIsInRange z (j + i) (get_or rs i d).node
 nodes-from z j [] i d h b = absurd (omega arith)
 nodes-from z j (r ∷ rs) zero d h b = let n : j ≡ j + 0 = omega arith in subst (λ k. NodeIsInRange z k r.node) n h.0
 nodes-from z j (r ∷ rs) (suc i) d h b =
@@ -74,7 +81,8 @@ get-at (x ∷ xs) zero d h = refl
 get-at (x ∷ xs) (suc i) d h = get-at xs i d (omega arith)
 
 -- an actual of a call place is there
-pub actual-in_range : (z : Sizes) (rs ps : List PlaceRow) (q : ℕ) (r : PlaceRow) (js : List ℕ) (i d : ℕ) → PlacesAreInRange z rs → ps ≡ rs → q < length rs → r ≡ get_or ps q r → js ≡ r.actuals → i < length (actuals_of (slice_get rs q)) → get_or js i d < z.nodes
+pub actual-in_range : (z : Sizes) (rs ps : List PlaceRow) (q : ℕ) (r : PlaceRow) (js : List ℕ) (i d : ℕ) → PlacesAreInRange z rs → ps ≡ rs → q < length rs
+    → r ≡ get_or ps q r → js ≡ r.actuals → i < length (actuals_of (slice_get rs q)) → get_or js i d < z.nodes
 actual-in_range z rs ps q r js i d h e k is a few =
     let here : get_or rs q r ≡ r = sym (is ∙ ap (λ l. get_or l q r) e) in
     let each : EachBelow z.nodes r.actuals = subst (λ x. EachBelow z.nodes x.actuals) here (place-in_range z rs q r h k) in

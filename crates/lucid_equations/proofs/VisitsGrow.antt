@@ -24,8 +24,15 @@ module _ (p : Equations) (b : Elements) where
   pub visits-more : (m n d k : ℕ) → m ≤ n → d ≤ k → (e : PlainNode) (c : Context) (t s : ℕ) → Inside (node_visits p b m d e c t s) (node_visits p b n k e c t s)
   visits-more m n d k h g e c t s v i = visits-above m n k h e c t s v (visits-beyond m d k g e c t s v i)
 
-  pub visited-needed : (m d : ℕ) (e : PlainNode) (c : Context) (t s : ℕ) (v : PlainValue) → NodeMeans p b e c t s v → (k : Daton × ℕ) → In k (filter_map reference_of (node_visits p b m d e c t s)) → IsNeeded p b e c t s k
+  pub visited-needed : (m d : ℕ) (e : PlainNode) (c : Context) (t s : ℕ) (v : PlainValue) → NodeMeans p b e c t s v → (k : Daton × ℕ)
+      → In k (filter_map reference_of (node_visits p b m d e c t s)) → IsNeeded p b e c t s k
   visited-needed m d e c t s v means k i =
       let n : ℕ = max means.0 (m + d) in
-      let up : Inside (node_visits p b m d e c t s) (node_visits p b n 0 e c t s) = λ z j. visits-above (m + d) n 0 (omega arith) e c t s z (added_is_limit p b m d e c t s z j) in
-      (n, v, node_hval-up p (nothing_held b) means.0 n (omega arith) e c t s v means.1, inside-read reference_of (node_visits p b m d e c t s) (node_visits p b n 0 e c t s) up k i)
+      let up : Inside (node_visits p b m d e c t s) (node_visits p b n 0 e c t s) =
+      λ z j. visits-above (m + d) n 0 (omega arith) e c t s z (added_is_limit p b m d e c t s z j) in (
+        n,
+        v,
+        node_hval-up p (nothing_held b) means.0 n (omega arith) e c t s v means.1,
+        inside-read reference_of (node_visits p b m d e c t s)
+            (node_visits p b n 0 e c t s) up k i,
+      )

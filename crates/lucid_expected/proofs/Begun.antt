@@ -57,7 +57,13 @@ begun_at_end source ts ws at law scanned named fault end = elim (cases_lt fault.
       let same : fault.index ≡ length ws = omega (arith, above, fault.within) in
       let P : ℕ → Type 0 = λ n. Begins (take n ws) in
       let Q : List PlacedTerminal → Type 0 = λ vs. Begins vs in
-      record { tokens = ts; terminals = ws; scanned = scanned; stand_for = named; begins = subst Q (take_all (length ws) ws (omega arith)) (subst P same fault.before) }
+      record {
+        tokens = ts;
+        terminals = ws;
+        scanned = scanned;
+        stand_for = named;
+        begins = subst Q (take_all (length ws) ws (omega arith)) (subst P same fault.before);
+      }
 ]
 
 -- what is a program is gone on with
@@ -82,16 +88,20 @@ fault_within source ts at law scanned r =
           omega (arith, before, fault.place)
       | inr above ↦
           let end : get_or (map (λ (one : PlacedTerminal). one.at) r.0) fault.index (length source) ≡ length source =
-          get_or_past (map (λ (one : PlacedTerminal). one.at) r.0) fault.index (length source) (omega (arith, above, length-map r.0 (λ (one : PlacedTerminal). one.at))) in
+          get_or_past (map (λ (one : PlacedTerminal). one.at) r.0) fault.index (length source)
+          (omega (arith, above, length-map r.0 (λ (one : PlacedTerminal). one.at))) in
           omega (arith, end, fault.place)
     ]
 
 -- what the parser's answer says, by its refusal
-pub answered : (source : List ℕ) (ts : List Token) (r : Result PlainTree ParseRefusal) (o : Option ParseRefusal) → Tokens source 0 ts → IfOk r (λ e. SpellsTree source ts e)
+pub answered : (source : List ℕ) (ts : List Token) (r : Result PlainTree ParseRefusal) (o : Option ParseRefusal) → Tokens source 0 ts
+    → IfOk r (λ e. SpellsTree source ts e)
     → IfErr r (λ why. IsRefused source ts why) → o ≡ result_err r → MatchOption o (GoesOn source) (λ why. IsRefused source ts why)
-answered source ts (Ok e) o scanned spelt refused is = let P : Option ParseRefusal → Type 0 = λ p. MatchOption p (GoesOn source) (λ why. IsRefused source ts why) in
+answered source ts (Ok e) o scanned spelt refused is = let P : Option ParseRefusal
+    → Type 0 = λ p. MatchOption p (GoesOn source) (λ why. IsRefused source ts why) in
     subst P (sym is) (gone_on source ts e scanned spelt)
-answered source ts (Err why) o scanned spelt refused is = let P : Option ParseRefusal → Type 0 = λ p. MatchOption p (GoesOn source) (λ why. IsRefused source ts why) in
+answered source ts (Err why) o scanned spelt refused is = let P : Option ParseRefusal
+    → Type 0 = λ p. MatchOption p (GoesOn source) (λ why. IsRefused source ts why) in
     subst P (sym is) refused
 
 -- What a program begins with is begun so too.
@@ -114,7 +124,8 @@ begun_ends source ts ws at one_tokens one_terminals scanned named fault g =
       | inl below ↦ absurd (fault.through below (front_begins ws (fault.index + 1) begun))
       | inr above ↦
           fault.place
-          ∙ get_or_past (map (λ (one : PlacedTerminal). one.at) ws) fault.index (length source) (omega (arith, above, length-map ws (λ (one : PlacedTerminal). one.at)))
+          ∙ get_or_past (map (λ (one : PlacedTerminal). one.at) ws) fault.index (length source)
+          (omega (arith, above, length-map ws (λ (one : PlacedTerminal). one.at)))
     ]
 
 -- Bytes that the scanner refuses are begun by no program.

@@ -11,7 +11,8 @@ one_more : (s : List ℕ) (n : ℕ) (b : Bool) → n < length s → ends_line (g
 one_more s n true h e = let f = count_by_more_yes ends_line s n 0 h e in record { line = omega arith; column = λ same. absurd (omega arith) }
 one_more s n false h e =
     let f = count_by_more_no ends_line s n 0 h e in
-    let g : suffix_len stands_in_line (take (n + 1) s) ≡ 1 + suffix_len stands_in_line (take n s) = grind (arith, common_steps, suffix_len-take_yes stands_in_line s (n + 1) 0, e) in
+    let g : suffix_len stands_in_line (take (n + 1) s) ≡ 1 + suffix_len stands_in_line (take n s) =
+    grind (arith, common_steps, suffix_len-take_yes stands_in_line s (n + 1) 0, e) in
     record { line = omega arith; column = λ same. omega arith }
 
 grows : (s : List ℕ) (n k : ℕ) → n + k ≤ length s → Step s n (n + k)

@@ -8,7 +8,8 @@ use Rattle.lucid_explained.specs.Files.{Files}
 use Rattle.lucid_explained.specs.Explained.{in_memory, Reports}
 
 -- the report is empty before the call
-pub begun_empty : (c : Call) (bytes : List ℕ) (faults : ℕ) (after : Told) (s : Status) → bytes ≡ [] → faults ≡ 0 → MeetsClauses c (in_memory bytes faults) after s
+pub begun_empty : (c : Call) (bytes : List ℕ) (faults : ℕ) (after : Told) (s : Status) → bytes ≡ [] → faults ≡ 0
+    → MeetsClauses c (in_memory bytes faults) after s
     → MeetsClauses c (in_memory [] 0) after s
 begun_empty c bytes faults after s e f clauses =
     let P : List ℕ → Type 0 = λ z. MeetsClauses c (in_memory z faults) after s in

@@ -16,11 +16,14 @@ pub wrong_word : (words : List (String Global)) (k : ℕ) (w : String Global) (t
     → text ≡ wrong_text (string_bytes w) → SaysWords (map string_bytes words) text
 wrong_word words k w text h few is go stuck e =
     let within : k < length (map string_bytes words) = simp length-map h in
-    let read : string_bytes w ≡ get_or (map string_bytes words) k (string_bytes w) = ap string_bytes is ∙ sym (get_or-map string_bytes words k w (string_bytes w) h) in
-    wrong k (string_bytes w) (slice_get_read (map string_bytes words) (length (map string_bytes words)) k (string_bytes w) refl within read) few (gone_on words k go)
+    let read : string_bytes w ≡ get_or (map string_bytes words) k (string_bytes w) = ap string_bytes is
+    ∙ sym (get_or-map string_bytes words k w (string_bytes w) h) in
+    wrong k (string_bytes w) (slice_get_read (map string_bytes words) (length (map string_bytes words)) k (string_bytes w) refl within read) few
+    (gone_on words k go)
     (ap goes_on (take-map string_bytes (k + 1) words) ∙ stuck) e
 
-pub lacking_word : (words : List (String Global)) (text : List ℕ) → ((j : ℕ) → j < min (length words) 100 → goes_on (map string_bytes (take (j + 1) words)) ≡ true)
+pub lacking_word : (words : List (String Global)) (text : List ℕ)
+    → ((j : ℕ) → j < min (length words) 100 → goes_on (map string_bytes (take (j + 1) words)) ≡ true)
     → text ≡ lacking_text → SaysWords (map string_bytes words) text
 lacking_word words text go e =
     let P : ℕ → Type 0 = λ n. GoOn (map string_bytes words) (min n 100) in

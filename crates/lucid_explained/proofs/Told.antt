@@ -20,7 +20,8 @@ unread_both {files} {ys = ys} {vs = vs} (one_more name seen names those s t) u =
 pub told_none : (files : Files) (a : List ℕ) → TellsFiles files [] a a
 told_none files a = ([], no_names, sym (append-nil a))
 
-seen_so : (files : Files) (name : List ℕ) (seen : Held) (b : Bool) → IsSeen files name 1 seen → b ≡ is_unread seen → AreUnread files (name ∷ []) (if b then name ∷ [] else [])
+seen_so : (files : Files) (name : List ℕ) (seen : Held) (b : Bool) → IsSeen files name 1 seen → b ≡ is_unread seen
+    → AreUnread files (name ∷ []) (if b then name ∷ [] else [])
 seen_so files name seen b s e =
     let P : Bool → Type 0 = λ v. AreUnread files (name ∷ []) (if v then name ∷ [] else []) in
     subst P (sym e) (one_more name seen [] [] s no_names)
@@ -51,6 +52,7 @@ pub told_of : (files : Files) (xs ys : List (List ℕ)) (a b : List ℕ) → xs 
 told_of files xs ys a b e t = let P : List (List ℕ) → Type 0 = λ z. TellsFiles files z a b in subst P e t
 
 -- a text is appended as the last one, where there is memory for it
-pub ended : {T E : Type 0} (r : Result T E) (new old more whole : List ℕ) → new ≡ (if is_ok r then old ++ more else old) → old ++ more ≡ whole → OnOk r (new ≡ whole)
+pub ended : {T E : Type 0} (r : Result T E) (new old more whole : List ℕ) → new ≡ (if is_ok r then old ++ more else old) → old ++ more ≡ whole
+    → OnOk r (new ≡ whole)
 ended (Ok x) new old more whole e f = e ∙ f
 ended (Err x) new old more whole e f = tt

@@ -48,12 +48,14 @@ abbrev Heads : (whole : PlainDefs) → (low : ℕ) → Earlier → Type 0
 Heads whole low test = (x : List ℕ) → test x ≡ true → (d : Def) × In d (listed whole) × (d.at < low) × (same_bytes x d.name ≡ true)
 
 -- one definition more
-head_or : (whole : PlainDefs) (low : ℕ) (test : Earlier) (d : Def) → Heads whole low test → low ≤ d.at → In d (listed whole) → (x : List ℕ) (b : Bool) → same_name x d.name ≡ b
+head_or : (whole : PlainDefs) (low : ℕ) (test : Earlier) (d : Def) → Heads whole low test → low ≤ d.at → In d (listed whole) → (x : List ℕ) (b : Bool)
+    → same_name x d.name ≡ b
     → (b || test x) ≡ true → (o : Def) × In o (listed whole) × (o.at < suc d.at) × (same_bytes x o.name ≡ true)
 head_or whole low test d h l i x true e t = (d, i, omega arith, e)
 head_or whole low test d h l i x false e t = let r = h x t in (r.0, r.1, omega (arith, r.2, l), r.3)
 
-heads_and : (whole : PlainDefs) (low : ℕ) (test : Earlier) (d : Def) → Heads whole low test → low ≤ d.at → In d (listed whole) → Heads whole (suc d.at) (also d.name test)
+heads_and : (whole : PlainDefs) (low : ℕ) (test : Earlier) (d : Def) → Heads whole low test → low ≤ d.at → In d (listed whole)
+    → Heads whole (suc d.at) (also d.name test)
 heads_and whole low test d h l i x t = head_or whole low test d h l i x (same_name x d.name) refl t
 
 -- where a block is seen, a definition of it that stands again is known
@@ -62,7 +64,8 @@ seen true whole at more e k = known_left at (listed whole) more k
 seen false whole at more e k = absurd (grind (arith, e))
 
 -- the definition at a place repeats a name
-again_known : (whole : PlainDefs) (low : ℕ) (test : Earlier) (d : Def) (at : ℕ) → Heads whole low test → low ≤ d.at → In d (listed whole) → test d.name ≡ true → at ≡ d.at
+again_known : (whole : PlainDefs) (low : ℕ) (test : Earlier) (d : Def) (at : ℕ) → Heads whole low test → low ≤ d.at → In d (listed whole) → test d.name ≡ true
+    → at ≡ d.at
     → Known at (listed whole)
 again_known whole low test d at h l i t e =
     let r = h d.name t in
@@ -104,18 +107,22 @@ mutual
     | inr there ↦ known_right at (in_scope at e) (in_scope_in at es) (again_in_all k es at r.1 there)
   ]
 
-  again_outside : (k : Static) (whole ds : PlainDefs) (at low high : ℕ) → DefsRise low ds high → In (again at) (outside_sites k ds) → Known at (in_scope_defs at whole ds)
+  again_outside : (k : Static) (whole ds : PlainDefs) (at low high : ℕ) → DefsRise low ds high → In (again at) (outside_sites k ds)
+      → Known at (in_scope_defs at whole ds)
   again_outside k whole no_defs at low high r h = absurd h
   again_outside k whole (defines p x e ds) at low high r h =
-      known_right at (in_scope at e) _ (known_right at (listed_if (sees_block at p (Plain e) (has_place at e)) whole) (in_scope_defs at whole ds) (again_outside k whole ds at (suc p) high r.2 h))
+      known_right at (in_scope at e) _ (known_right at (listed_if (sees_block at p (Plain e) (has_place at e)) whole) (in_scope_defs at whole ds)
+      (again_outside k whole ds at (suc p) high r.2 h))
   again_outside k whole (defines_function p x ns ats e ds) at low high r h =
       known_right at (in_scope at e) _
-      (known_right at (listed_if (sees_block at p (Function ns ats e) (has_place at e)) whole) (in_scope_defs at whole ds) (again_outside k whole ds at (suc p) high r.2 h))
+      (known_right at (listed_if (sees_block at p (Function ns ats e) (has_place at e)) whole) (in_scope_defs at whole ds)
+      (again_outside k whole ds at (suc p) high r.2 h))
   again_outside k whole (defines_current p x e ds) at low high r h = elim (in_either (again at) (sites k e) (outside_sites k ds) h) [
     | inl here ↦ known_left at (in_scope at e) _ (again_in k e at r.1 here)
     | inr there ↦
         known_right at (in_scope at e) _
-        (known_right at (listed_if (sees_block at p (Current e) (has_place at e)) whole) (in_scope_defs at whole ds) (again_outside k whole ds at (suc p) high r.2 there))
+        (known_right at (listed_if (sees_block at p (Current e) (has_place at e)) whole) (in_scope_defs at whole ds)
+        (again_outside k whole ds at (suc p) high r.2 there))
   ]
 
   again_inside : (k : Static) (whole ds : PlainDefs) (test : Earlier) (at low high : ℕ) → DefsRise low ds high → Listed ds whole → Heads whole low test
@@ -192,7 +199,8 @@ find_among p x [] h e = absurd h
 find_among p x (y ∷ ys) (inl q) e = found_some p y (p y) ys (inl (ap p (sym q) ∙ e))
 find_among p x (y ∷ ys) (inr h) e = found_some p y (p y) ys (inr (find_among p x ys h e))
 
-any_kept : {X : Type 0} (q p : X → Bool) (y : X) (b : Bool) (ys : List X) → (b ≡ true) × (q y ≡ true) ⊎ (list_any q (filter p ys) ≡ true) → list_any q (if b then y ∷ filter p ys else filter p ys) ≡ true
+any_kept : {X : Type 0} (q p : X → Bool) (y : X) (b : Bool) (ys : List X) → (b ≡ true) × (q y ≡ true) ⊎ (list_any q (filter p ys) ≡ true)
+    → list_any q (if b then y ∷ filter p ys else filter p ys) ≡ true
 any_kept q p y true ys (inl e) = grind (arith, e.1)
 any_kept q p y true ys (inr f) = grind (arith, f)
 any_kept q p y false ys (inl e) = absurd (grind (arith, e.0))
@@ -211,5 +219,6 @@ known_told at defs (before d other h i e l n) =
     inl (find_among (is_before at (heads at defs)) other defs i fits)
 known_told at defs (among d h e) = inr (find_among (λ (o : Def). is_headed at o.at o.kind) d defs h e)
 
-pub again_told : (k : Static) (e : PlainTree) (at : ℕ) → Rises e → In (again at) (sites k e) → IsSome (earlier at (in_scope at e)) ⊎ IsSome (headed at (in_scope at e))
+pub again_told : (k : Static) (e : PlainTree) (at : ℕ) → Rises e → In (again at) (sites k e)
+    → IsSome (earlier at (in_scope at e)) ⊎ IsSome (headed at (in_scope at e))
 again_told k e at r h = known_told at (in_scope at e) (again_in k e at r h)

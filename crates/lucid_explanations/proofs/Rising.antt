@@ -51,7 +51,8 @@ plain_after low (defines at' x' e' ds) mid at high x e d h r top = (d.0, d.1, pl
 plain_after low (defines_function at' x' ns ats e' ds) mid at high x e d h r top = (d.0, d.1, plain_after (suc at') ds mid at high x e d.2 h r top)
 plain_after low (defines_current at' x' e' ds) mid at high x e d h r top = (d.0, d.1, plain_after (suc at') ds mid at high x e d.2 h r top)
 
-function_after : (low : ℕ) (ds : PlainDefs) (mid at high : ℕ) (x : List ℕ) (ps : List Parameter) (e : PlainTree) → DefsRise low ds mid → mid ≤ at → Rises e → suc at ≤ high
+function_after : (low : ℕ) (ds : PlainDefs) (mid at high : ℕ) (x : List ℕ) (ps : List Parameter) (e : PlainTree) → DefsRise low ds mid → mid ≤ at → Rises e
+    → suc at ≤ high
     → DefsRise low (defs_and ds at x (Function ps) e) high
 function_after low no_defs mid at high x ps e d h r top = (omega (arith, d, h), r, top)
 function_after low (defines at' x' e' ds) mid at high x ps e d h r top = (d.0, d.1, function_after (suc at') ds mid at high x ps e d.2 h r top)
@@ -106,20 +107,25 @@ mutual
       let q = parted _ ys (_ ∷ []) high p.2.1.1 in
       plain_after low all p.0 at high n y (defs_rise d low p.0 p.1) p.2.0 (spelled_rises s _ q.0 q.1)
       (ended (suc at) (terminal_at terminal.Equals equals_at ∷ (ys ++ terminal_at terminal.Semicolon semicolon_at ∷ [])) high p.2.1)
-  defs_rise (spells_function at n open_at close_at equals_at semicolon_at {ds = ds} {ns = ns} {ys = ys} {all = all} {parameters = ps} {y = y} d names s) low high o =
+  defs_rise (spells_function at n open_at close_at equals_at semicolon_at {ds = ds} {ns = ns} {ys = ys} {all = all} {parameters = ps} {y = y} d names s) low
+      high o =
       let p = parted low ds _ high o in
       let q = parted _ ns _ high p.2.1.1 in
       let r = parted _ ys (_ ∷ []) high q.2.1.1 in
       function_after low all p.0 at high n ps y (defs_rise d low p.0 p.1) p.2.0 (spelled_rises s _ r.0 r.1)
-      (ended (suc at) (terminal_at terminal.Open open_at ∷ (ns ++ terminal_at terminal.Close close_at ∷ terminal_at terminal.Equals equals_at ∷ (ys ++ terminal_at terminal.Semicolon semicolon_at ∷ []))) high p.2.1)
+      (ended (suc at)
+      (terminal_at terminal.Open open_at ∷ (ns ++ terminal_at terminal.Close close_at ∷ terminal_at terminal.Equals
+      equals_at ∷ (ys ++ terminal_at terminal.Semicolon semicolon_at ∷ []))) high p.2.1)
   defs_rise (spells_current at n is_at current_at semicolon_at {ds = ds} {ys = ys} {all = all} {y = y} d s) low high o =
       let p = parted low ds _ high o in
       let q = parted _ ys (_ ∷ []) high p.2.1.1.1 in
       current_after low all p.0 at high n y (defs_rise d low p.0 p.1) p.2.0 (spelled_rises s _ q.0 q.1)
-      (ended (suc at) (terminal_at terminal.Is is_at ∷ terminal_at terminal.Current current_at ∷ (ys ++ terminal_at terminal.Semicolon semicolon_at ∷ [])) high p.2.1)
+      (ended (suc at) (terminal_at terminal.Is is_at ∷ terminal_at terminal.Current current_at ∷ (ys ++ terminal_at terminal.Semicolon semicolon_at ∷ [])) high
+      p.2.1)
 
 -- terminals stand where their tokens begin
-pub ordered : {source : List ℕ} {ts : List Token} {ws : List PlacedTerminal} → Terminals source ts ws → (low limit : ℕ) → IsInOrder low ts limit → Ordered low ws limit
+pub ordered : {source : List ℕ} {ts : List Token} {ws : List PlacedTerminal} → Terminals source ts ws → (low limit : ℕ) → IsInOrder low ts limit
+    → Ordered low ws limit
 ordered terminals_none low limit o = o
 ordered (terminals_next {ws = ws} t w s r) low limit o =
     (o.0, lower (suc t.from) t.to ws limit (omega (arith, o.1)) (ordered r t.to limit o.2))

@@ -44,7 +44,8 @@ module _ (laws : Laws) (source : List ℕ) where
   no_scan : (ts : List Token) (why : ScanRefusal) → HasTokens source ts → why ≢ scanned.NoMemory → Refuses source why → ⊥
   no_scan ts why h known r = known (laws.not_refused source ts why h.listed h.short r)
 
-  no_parse : (ts : List Token) (why : ParseRefusal) (e : PlainTree) → HasTokens source ts → why ≢ parsed.NoMemory → IsRefused source ts why → IsSpelt source e → ⊥
+  no_parse : (ts : List Token) (why : ParseRefusal) (e : PlainTree) → HasTokens source ts → why ≢ parsed.NoMemory → IsRefused source ts why → IsSpelt source e
+      → ⊥
   no_parse ts why e h known r s =
       let P : List Token → Type 0 = λ z. SpellsTree source z e in
       known (laws.spelled source ts e why (subst P (same_tokens s.tokens ts s.scanned h) s.spelled) s.shallow r)
@@ -81,7 +82,8 @@ module _ (laws : Laws) (source : List ℕ) where
   explained_are_refused file line text (by_depth ts at h r l t) = by_parser ts (parsed.TooNested at) (nested_known at) h r
   explained_are_refused file line text (by_fault e why s f l t) = by_names e why s f
 
-  one_refusal : (ts us : List Token) (why other : ParseRefusal) → HasTokens source ts → HasTokens source us → IsRefused source ts why → IsRefused source us other
+  one_refusal : (ts us : List Token) (why other : ParseRefusal) → HasTokens source ts → HasTokens source us → IsRefused source ts why
+      → IsRefused source us other
       → why ≢ parsed.NoMemory → other ≢ parsed.NoMemory → why ≡ other
   one_refusal ts us why other h i r s known too =
       let P : List Token → Type 0 = λ z. IsRefused source z why in

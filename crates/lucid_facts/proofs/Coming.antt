@@ -19,7 +19,8 @@ among_arguments (suc n) first i t s low high =
     ]
 
 -- Each idle argument of an operator may be asked for, whatever the others are.
-pub arguments_may_be_asked : (T : Table) (r : PlainRow) (op : Op) (count : ℕ) (es : PlainNodes) (i : ℕ) → node_of T r.task ≡ row (apply op count) es → i < count → count ≤ 3
+pub arguments_may_be_asked : (T : Table) (r : PlainRow) (op : Op) (count : ℕ) (es : PlainNodes) (i : ℕ) → node_of T r.task ≡ row (apply op count) es → i < count
+    → count ≤ 3
     → state_at r.parts i ≡ idle → MayAsk T r i
 arguments_may_be_asked T r op count es i e low few free = record {
   stands_next = arguments count 0 r.task.time r.task.space;

@@ -24,7 +24,8 @@ drawn_at_once None P n m e = tt
 drawn_at_once (Some c) P n m e = inl (omega (arith, e))
 
 -- An engine that may be asked is ready for a demand.
-pub engine_begins : (e : EngineView) (w : World) (t s m : ℕ) → IsSound e → AreAskable e.streams w → IsDemand (demand_of e w t s m) × Owns (demand_of e w t s m) e w
+pub engine_begins : (e : EngineView) (w : World) (t s m : ℕ) → IsSound e → AreAskable e.streams w
+    → IsDemand (demand_of e w t s m) × Owns (demand_of e w t s m) e w
 engine_begins e w t s m sound ask = (demand, owns)
   where
     demand : IsDemand (demand_of e w t s m)
@@ -45,7 +46,8 @@ engine_begins e w t s m sound ask = (demand, owns)
     owns = record {
       stock = record {
         stock = facts;
-        drawn = λ b may k n before after named was is. drawn_at_once (w.place after.place).contents _ after.consumed before.consumed (ap (λ x. x.consumed) (same_Some _ _ (sym is ∙ was)));
+        drawn = λ b may k n before after named was is.
+            drawn_at_once (w.place after.place).contents _ after.consumed before.consumed (ap (λ x. x.consumed) (same_Some _ _ (sym is ∙ was)));
         askable = ask;
       };
       keys = sound.keys;
@@ -60,9 +62,11 @@ engine_ends old new v w t s m demand owns = record {
   keys = owns.keys;
   noted = subst (λ T. AllNotedRight T (known_elements new) new.known new.noted) same facts.noted_right;
   closed = λ keeps z. subst (λ T. IsClosed (equations_of T) (known_elements new) (holding new)) same (facts.closed (sym go.keeps ∙ keeps) z);
-  noted_closed = λ keeps z. subst (λ T. AllNotedClosed T (known_elements new) new.known new.noted (holding new)) same (facts.noted_closed (sym go.keeps ∙ keeps) z);
+  noted_closed = λ keeps z. subst (λ T. AllNotedClosed T (known_elements new) new.known new.noted (holding new)) same
+      (facts.noted_closed (sym go.keeps ∙ keeps) z);
   contexts = owns.contexts;
-  streams = sym (length-map new.streams (λ s. s.place)) ∙ ap length go.places ∙ length-map old.streams (λ s. s.place) ∙ demand.streams ∙ ap (λ (T : Table). length T.inputs) same;
+  streams = sym (length-map new.streams (λ s. s.place)) ∙ ap length go.places ∙ length-map old.streams (λ s. s.place) ∙ demand.streams
+      ∙ ap (λ (T : Table). length T.inputs) same;
   places = subst (λ ps. AllDiffer ps) (sym go.places) demand.places;
   in_range = subst (λ T. IsInRange T) same demand.in_range;
   names = subst (λ (T : Table). AllDiffer T.inputs) same demand.names;
@@ -92,7 +96,8 @@ kept_is_held old new v w t s m owns keeps k r x e =
 
 -- And after a value, with nothing lost, what is held is what was held and what the root needs.
 pub holds_what_is_needed :
-    (old new : EngineView) (v w : World) (t s m : ℕ) (x : PlainValue) → Owns (demand_of old v t s m) new w → IsTrue old.keeps → new.stored.lost ≡ 0 → (b : Elements) → MayHave new b
+    (old new : EngineView) (v w : World) (t s m : ℕ) (x : PlainValue) → Owns (demand_of old v t s m) new w → IsTrue old.keeps → new.stored.lost ≡ 0
+    → (b : Elements) → MayHave new b
     → Answers (demand_of old v t s m) b (holding new) new.stored.lost (demand_of old v t s m).root x → HoldsNeeded old new b t s
 holds_what_is_needed old new v w t s m x owns keeps z b may answers k r = (there, back)
   where
@@ -102,7 +107,8 @@ holds_what_is_needed old new v w t s m x owns keeps z b may answers k r = (there
     there : IsSome (holding new k r) → IsSome (holding old k r) ⊎ IsNeeded (equations_of old.table) b (equations_of old.table).root root t s (k, r)
     there i = elim (facts.traced k r i) [
       | inl o ↦ inl o
-      | inr q ↦ inr (visited-needed (equations_of old.table) b m q.added (equations_of old.table).root root t s x answers.means (k, r) (q.holds q.added (le_refl q.added)))
+      | inr q ↦ inr (visited-needed (equations_of old.table) b m q.added (equations_of old.table).root root t s x answers.means (k, r)
+          (q.holds q.added (le_refl q.added)))
     ]
 
     back : IsSome (holding old k r) ⊎ IsNeeded (equations_of old.table) b (equations_of old.table).root root t s (k, r) → IsSome (holding new k r)
@@ -113,8 +119,13 @@ holds_what_is_needed old new v w t s m x owns keeps z b may answers k r = (there
 -- was held.
 pub undefined :
     (old : EngineView) (w : World) (t s m : ℕ) (b : Elements) → HoldsRight (equations_of old.table) b (stays (demand_of old w t s m))
-    → (IsDefined old.table b (stays (demand_of old w t s m)) (demand_of old w t s m).root → ⊥) → (root_val old b m t s ≡ None) × (IsTrue old.keeps → root_hval old b (holding old) m t s ≡ None)
-undefined old w t s m b right none = (plainly, λ keeps. ap (λ h. root_hval old b h m t s) (sym (stays_all old.keeps (holding old) keeps)) ∙ nothing (root_hval old b (stays (demand_of old w t s m)) m t s) (λ v e. none (v, e)))
+    → (IsDefined old.table b (stays (demand_of old w t s m)) (demand_of old w t s m).root → ⊥)
+    → (root_val old b m t s ≡ None) × (IsTrue old.keeps → root_hval old b (holding old) m t s ≡ None)
+undefined old w t s m b right none = (
+  plainly,
+  λ keeps. ap (λ h. root_hval old b h m t s) (sym (stays_all old.keeps (holding old) keeps))
+      ∙ nothing (root_hval old b (stays (demand_of old w t s m)) m t s) (λ v e. none (v, e)),
+)
   where
     nothing : (o : Option PlainValue) → ((v : PlainValue) → o ≡ Some v → ⊥) → o ≡ None
     nothing None h = refl

@@ -20,7 +20,8 @@ cost_some limit (suc r) = rw (cost_is limit r) (omega arith)
 cost_rises : (limit r s : ℕ) → r ≤ s → cost_below limit r ≤ cost_below limit s
 cost_rises limit r zero h = let e : r ≡ 0 = omega (arith, h) in subst (λ n. cost_below limit n ≤ cost_below limit 0) (sym e) (omega arith)
 cost_rises limit zero (suc s) h = subst (λ n. n ≤ cost_below limit (suc s)) (sym (cost_zero limit)) (cost_some limit (suc s))
-cost_rises limit (suc r) (suc s) h = rw (cost_is limit r, cost_is limit s) (go (cost_below limit r) (cost_below limit s) (cost_rises limit r s (omega (arith, h))))
+cost_rises limit (suc r) (suc s) h = rw (cost_is limit r, cost_is limit s)
+    (go (cost_below limit r) (cost_below limit s) (cost_rises limit r s (omega (arith, h))))
   where
     go : (a b : ℕ) → a ≤ b → 2 + 3 * a + limit * (3 * a + 1) ≤ 2 + 3 * b + limit * (3 * b + 1)
     go a b g = grind (arith, g)
@@ -45,14 +46,17 @@ new_below T limit r x parent key lower le =
     omega (arith, new, up)
 
 -- one idle part less, where one that was idle is asked or got
-one_less : (ps : List PartState) (i : ℕ) (y : PartState) → state_at ps i ≡ idle → i < length ps → idle_one y ≡ 0 → suc (sum_by idle_one (slice_set ps i y)) ≡ sum_by idle_one ps
+one_less : (ps : List PartState) (i : ℕ) (y : PartState) → state_at ps i ≡ idle → i < length ps → idle_one y ≡ 0
+    → suc (sum_by idle_one (slice_set ps i y)) ≡ sum_by idle_one ps
 one_less [] i y e l z = absurd (omega (arith, l))
-one_less (p ∷ ps) zero y e l z = ap suc (sum_by-cons idle_one y ps) ∙ go (idle_one y) (idle_one p) (sum_by idle_one ps) z (ap idle_one e) ∙ sym (sum_by-cons idle_one p ps)
+one_less (p ∷ ps) zero y e l z = ap suc (sum_by-cons idle_one y ps) ∙ go (idle_one y) (idle_one p) (sum_by idle_one ps) z (ap idle_one e)
+    ∙ sym (sum_by-cons idle_one p ps)
   where
     go : (a b n : ℕ) → a ≡ 0 → b ≡ 1 → suc (a + n) ≡ b + n
     go a b n z o = omega (arith, z, o)
 one_less (p ∷ ps) (suc i) y e l z =
-    ap suc (sum_by-cons idle_one p (slice_set ps i y)) ∙ go (idle_one p) (sum_by idle_one (slice_set ps i y)) (sum_by idle_one ps) (one_less ps i y e (omega (arith, l)) z)
+    ap suc (sum_by-cons idle_one p (slice_set ps i y))
+    ∙ go (idle_one p) (sum_by idle_one (slice_set ps i y)) (sum_by idle_one ps) (one_less ps i y e (omega (arith, l)) z)
     ∙ sym (sum_by-cons idle_one p ps)
   where
     go : (a n m : ℕ) → suc n ≡ m → suc (a + n) ≡ a + m
@@ -62,15 +66,18 @@ one_less (p ∷ ps) (suc i) y e l z =
 as_many : (ps : List PartState) (i slot : ℕ) (v : PlainValue) → state_at ps i ≡ asked slot → sum_by idle_one (slice_set ps i (got v)) ≡ sum_by idle_one ps
 as_many [] i slot v e = refl
 as_many (p ∷ ps) zero slot v e = sum_by-cons idle_one (got v) ps ∙ ap (λ n. n + sum_by idle_one ps) (sym (ap idle_one e)) ∙ sym (sum_by-cons idle_one p ps)
-as_many (p ∷ ps) (suc i) slot v e = sum_by-cons idle_one p (slice_set ps i (got v)) ∙ ap (λ n. idle_one p + n) (as_many ps i slot v e) ∙ sym (sum_by-cons idle_one p ps)
+as_many (p ∷ ps) (suc i) slot v e = sum_by-cons idle_one p (slice_set ps i (got v)) ∙ ap (λ n. idle_one p + n) (as_many ps i slot v e)
+    ∙ sym (sum_by-cons idle_one p ps)
 
 -- an idle part is asked: the row and the new one that it waits for cost less than the row did
-pub asking_falls : (T : Table) (limit : ℕ) (r : PlainRow) (i slot : ℕ) (x : PlainTask) (parent : Option Part) (key : Option DatonAt) → state_at r.parts i ≡ idle → i < length r.parts
+pub asking_falls : (T : Table) (limit : ℕ) (r : PlainRow) (i slot : ℕ) (x : PlainTask) (parent : Option Part) (key : Option DatonAt) → state_at r.parts i ≡ idle
+    → i < length r.parts
     → rank T x < rank T r.task → x.limit ≤ limit → weight T limit (with_part i (asked slot) r) + weight T limit (new_row x parent key) < weight T limit r
 asking_falls T limit r i slot x parent key free few lower le =
     let new = new_below T limit r x parent key lower le in
     let less = one_less r.parts i (asked slot) free few refl in
-    go (cost_below limit (rank T r.task)) ((r.task.limit - r.cursor.time) * (3 * cost_below limit (rank T r.task) + 1)) (sum_by idle_one (slice_set r.parts i (asked slot)))
+    go (cost_below limit (rank T r.task)) ((r.task.limit - r.cursor.time) * (3 * cost_below limit (rank T r.task) + 1))
+    (sum_by idle_one (slice_set r.parts i (asked slot)))
     (sum_by idle_one r.parts) (weight T limit (new_row x parent key)) less new
   where
     go : (part own n m w : ℕ) → suc n ≡ m → w < part → 1 + n * part + own + w < 1 + m * part + own
@@ -81,19 +88,23 @@ pub giving_falls : (T : Table) (limit : ℕ) (r : PlainRow) (i : ℕ) (v : Plain
     → weight T limit (with_part i (got v) r) < weight T limit r
 giving_falls T limit r i v free few =
     let less = one_less r.parts i (got v) free few refl in
-    go (cost_below limit (rank T r.task)) ((r.task.limit - r.cursor.time) * (3 * cost_below limit (rank T r.task) + 1)) (sum_by idle_one (slice_set r.parts i (got v)))
+    go (cost_below limit (rank T r.task)) ((r.task.limit - r.cursor.time) * (3 * cost_below limit (rank T r.task) + 1))
+    (sum_by idle_one (slice_set r.parts i (got v)))
     (sum_by idle_one r.parts) less (cost_some limit (rank T r.task))
   where
     go : (part own n m : ℕ) → suc n ≡ m → 0 < part → 1 + n * part + own < 1 + m * part + own
     go part own n m e l = subst (λ k. 1 + n * part + own < 1 + k * part + own) e (grind (arith, l))
 
 -- a part that was asked gets a value: the row costs what it did
-pub given_weight : (T : Table) (limit : ℕ) (r : PlainRow) (i slot : ℕ) (v : PlainValue) → state_at r.parts i ≡ asked slot → weight T limit (with_part i (got v) r) ≡ weight T limit r
+pub given_weight : (T : Table) (limit : ℕ) (r : PlainRow) (i slot : ℕ) (v : PlainValue) → state_at r.parts i ≡ asked slot
+    → weight T limit (with_part i (got v) r) ≡ weight T limit r
 given_weight T limit r i slot v e =
-    ap (λ n. 1 + n * cost_below limit (rank T r.task) + (r.task.limit - r.cursor.time) * (3 * cost_below limit (rank T r.task) + 1)) (as_many r.parts i slot v e)
+    ap (λ n. 1 + n * cost_below limit (rank T r.task) + (r.task.limit - r.cursor.time) * (3 * cost_below limit (rank T r.task) + 1))
+    (as_many r.parts i slot v e)
 
 -- a search goes on below its limit
-pub moving_falls : (T : Table) (limit : ℕ) (r : PlainRow) (c : Cursor) → length r.parts ≡ 3 → r.cursor.time < r.task.limit → r.cursor.time < c.time → weight T limit (at_cursor c r) < weight T limit r
+pub moving_falls : (T : Table) (limit : ℕ) (r : PlainRow) (c : Cursor) → length r.parts ≡ 3 → r.cursor.time < r.task.limit → r.cursor.time < c.time
+    → weight T limit (at_cursor c r) < weight T limit r
 moving_falls T limit r c three before later =
     go (cost_below limit (rank T r.task)) (sum_by idle_one r.parts) (r.task.limit - c.time) (r.task.limit - r.cursor.time) (omega (arith, before, later))
   where
@@ -104,7 +115,8 @@ moving_falls T limit r c three before later =
         omega (arith, m, s)
 
 -- a search begins at a later cursor
-pub beginning_raises_nothing : (T : Table) (limit : ℕ) (r : PlainRow) (c : Cursor) → r.parts ≡ all_idle → r.cursor.time ≤ c.time → weight T limit (at_cursor c r) ≤ weight T limit r
+pub beginning_raises_nothing : (T : Table) (limit : ℕ) (r : PlainRow) (c : Cursor) → r.parts ≡ all_idle → r.cursor.time ≤ c.time
+    → weight T limit (at_cursor c r) ≤ weight T limit r
 beginning_raises_nothing T limit r c free later =
     let three : sum_by idle_one r.parts ≡ 3 = ap (λ ps. sum_by idle_one ps) free in
     go (cost_below limit (rank T r.task)) (sum_by idle_one r.parts) (r.task.limit - c.time) (r.task.limit - r.cursor.time) three (omega (arith, later))

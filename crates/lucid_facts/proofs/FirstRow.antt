@@ -5,8 +5,10 @@ use Rattle.std.specs.Prelude.{if◌then◌else◌}
 use Rattle.lucid_facts.proofs.Slots.{at_it, at_another}
 
 -- A demand's first row, which stands for its root.
-pub work_begins : (d : Demand) (now : Elements) (h : Holding) (lost : ℕ) (rows : PlainRows) (slot : ℕ) (x : PlainTask) (key : Option DatonAt) → StandsFor (table_of d) (key_list key) x d.root
-    → ((b : Elements) → Extends now b → RowFacts d b h lost (new_row x None key)) → ((q : ℕ) → rows q ≡ (if q == slot then Some (new_row x None key) else None)) → Work d now h lost rows
+pub work_begins : (d : Demand) (now : Elements) (h : Holding) (lost : ℕ) (rows : PlainRows) (slot : ℕ) (x : PlainTask) (key : Option DatonAt)
+    → StandsFor (table_of d) (key_list key) x d.root
+    → ((b : Elements) → Extends now b → RowFacts d b h lost (new_row x None key)) → ((q : ℕ) → rows q ≡ (if q == slot then Some (new_row x None key) else None))
+    → Work d now h lost rows
 work_begins d now h lost rows slot x key stands facts sets = record {
   each = λ q c e. subst (λ z. (b : Elements) → Extends now b → RowFacts d b h lost z) (row_is q c e (cases_eq q slot)).1 facts;
   links = λ q c e. let is = row_is q c e (cases_eq q slot) in subst (λ z. Links d rows q z) is.1 (linked q);

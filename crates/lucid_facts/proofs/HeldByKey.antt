@@ -12,8 +12,10 @@ use Rattle.lucid_store.specs.Entries.{IsHeld}
 -- the test of a daton's key decides whether the key is the daton's
 pub key_of_decides : (known : List Context) (d : Daton) (s : ℕ) (k : Key) → Decides (is_key_of known d s k) (plain_key known k ≡ (d, s))
 key_of_decides known d s k = Decides-like (is_key_of known d s k) there back
-    (Decides-and (k.name == d.name) (same_context (context_of known k.tag) d.context && ((space_of k.tag == s) && (k.time == d.time))) (Decides-eqb k.name d.name)
-    (Decides-and (same_context (context_of known k.tag) d.context) ((space_of k.tag == s) && (k.time == d.time)) (same_context_is_equality (context_of known k.tag) d.context)
+    (Decides-and (k.name == d.name) (same_context (context_of known k.tag) d.context && ((space_of k.tag == s) && (k.time == d.time)))
+    (Decides-eqb k.name d.name)
+    (Decides-and (same_context (context_of known k.tag) d.context) ((space_of k.tag == s) && (k.time == d.time))
+    (same_context_is_equality (context_of known k.tag) d.context)
     (Decides-and (space_of k.tag == s) (k.time == d.time) (Decides-eqb (space_of k.tag) s) (Decides-eqb k.time d.time))))
   where
     there : (k.name ≡ d.name) × ((context_of known k.tag ≡ d.context) × ((space_of k.tag ≡ s) × (k.time ≡ d.time))) → plain_key known k ≡ (d, s)
@@ -23,7 +25,8 @@ key_of_decides known d s k = Decides-like (is_key_of known d s k) there back
     back e = (ap (λ q. q.0.name) e, (ap (λ q. q.0.context) e, (ap (λ q. q.1) e, ap (λ q. q.0.time) e)))
 
 -- keys with known tags are equal exactly where their datons are
-keys_alike : (known : List Context) → IsOneForOne known → (k q : Key) → IsKnown known k.tag → IsKnown known q.tag → plain_key known q ≡ plain_key known k → k ≡ q
+keys_alike : (known : List Context) → IsOneForOne known → (k q : Key) → IsKnown known k.tag → IsKnown known q.tag → plain_key known q ≡ plain_key known k
+    → k ≡ q
 keys_alike known one k q h j e =
     let tags = (one.tags k.tag q.tag h j).1 (sym (ap (λ z. z.0.context) e), sym (ap (λ z. z.1) e)) in
     λ i. record { name = ap (λ z. z.0.name) (sym e) i; tag = tags i; time = ap (λ z. z.0.time) (sym e) i }
@@ -50,7 +53,11 @@ found f [] h = absurd (true≢false (sym h))
 found f (e ∷ es) h =
     (elim (f e.0) as (λ t. f e.0 ≡ t → IsSome (cond t (Some e.1) (lookup f es)) → Found f (e ∷ es)) [
       | true ↦ λ passes i. record { key = e.0; passes = passes; there = itself e.0 e.1 es }
-      | false ↦ λ fails i. let r = found f es i in record { key = r.key; passes = r.passes; there = some_still (same_key r.key e.0) e.1 (lookup (same_key r.key) es) r.there }
+      | false ↦ λ fails i. let r = found f es i in record {
+        key = r.key;
+        passes = r.passes;
+        there = some_still (same_key r.key e.0) e.1 (lookup (same_key r.key) es) r.there;
+      }
     ]) refl h
 
 map_twice : (o : Option Entry) → option_map (λ e. plain e.value) o ≡ option_map plain (option_map (λ e. e.value) o)
@@ -62,11 +69,13 @@ pub held_by_key :
     (known : List Context) (w : Stored) (k : Key) → IsOneForOne known → AreKeysKnown known w → IsKnown known k.tag
     → held_in known w (plain_key known k).0 (plain_key known k).1 ≡ held w k
 held_by_key known w k one keys there =
-    ap (option_map (λ (e : Entry). plain e.value)) (lookup_alike (is_key_of known (plain_key known k).0 (plain_key known k).1) (same_key k) w.entries same) ∙ map_twice (entry_at w k)
+    ap (option_map (λ (e : Entry). plain e.value)) (lookup_alike (is_key_of known (plain_key known k).0 (plain_key known k).1) (same_key k) w.entries same)
+    ∙ map_twice (entry_at w k)
   where
     same : (q : Key) → IsHeld w q → is_key_of known (plain_key known k).0 (plain_key known k).1 q ≡ same_key k q
     same q h = same_from_decides (is_key_of known (plain_key known k).0 (plain_key known k).1 q) (same_key k q)
-        (Decides-like (is_key_of known (plain_key known k).0 (plain_key known k).1 q) (keys_alike known one k q there (keys q h)) (λ e. ap (plain_key known) (sym e)) (key_of_decides known (plain_key known k).0 (plain_key known k).1 q))
+        (Decides-like (is_key_of known (plain_key known k).0 (plain_key known k).1 q) (keys_alike known one k q there (keys q h))
+        (λ e. ap (plain_key known) (sym e)) (key_of_decides known (plain_key known k).0 (plain_key known k).1 q))
         (same_key_is_equality k q)
 
 is_there : (o : Option Entry) (v : PlainValue) → option_map (λ e. plain e.value) o ≡ Some v → IsSome o
@@ -88,7 +97,8 @@ pub record HasKey (known : List Context) (w : Stored) (d : Daton) (s : ℕ) (v :
   pub is : plain_key known key ≡ (d, s)
   pub value : held w key ≡ Some v
 
-pub key_of_held : (known : List Context) (w : Stored) (d : Daton) (s : ℕ) (v : PlainValue) → IsOneForOne known → AreKeysKnown known w → held_in known w d s ≡ Some v → HasKey known w d s v
+pub key_of_held : (known : List Context) (w : Stored) (d : Daton) (s : ℕ) (v : PlainValue) → IsOneForOne known → AreKeysKnown known w
+    → held_in known w d s ≡ Some v → HasKey known w d s v
 key_of_held known w d s v one keys e =
     let r = found (is_key_of known d s) w.entries (is_there (lookup (is_key_of known d s) w.entries) v e) in
     let is = (key_of_decides known d s r.key).0 r.passes in
@@ -96,12 +106,14 @@ key_of_held known w d s v one keys e =
     record { key = r.key; known_tag = tag; is = is; value = sym (held_by_key known w r.key one keys tag) ∙ ap (λ q. held_in known w q.0 q.1) is ∙ e }
 
 -- and what a key has, its daton has
-pub held_of_key : (known : List Context) (w : Stored) (d : Daton) (s : ℕ) (v : PlainValue) → IsOneForOne known → AreKeysKnown known w → HasKey known w d s v → held_in known w d s ≡ Some v
+pub held_of_key : (known : List Context) (w : Stored) (d : Daton) (s : ℕ) (v : PlainValue) → IsOneForOne known → AreKeysKnown known w → HasKey known w d s v
+    → held_in known w d s ≡ Some v
 held_of_key known w d s v one keys k = ap (λ q. held_in known w q.0 q.1) (sym k.is) ∙ held_by_key known w k.key one keys k.known_tag ∙ k.value
 
 -- What is dropped by keys is dropped by datons.
 pub held_drops :
-    (known : List Context) (old new : Stored) → IsOneForOne known → AreKeysKnown known old → ((k : Key) (v : PlainValue) → held new k ≡ Some v → held old k ≡ Some v)
+    (known : List Context) (old new : Stored) → IsOneForOne known → AreKeysKnown known old
+    → ((k : Key) (v : PlainValue) → held new k ≡ Some v → held old k ≡ Some v)
     → AreKeysKnown known new × ((k : DatonAt) (v : PlainValue) → held_in known new k.0 k.1 ≡ Some v → held_in known old k.0 k.1 ≡ Some v)
 held_drops known old new one keys drops = (now, λ k v e. went k v (key_of_held known new k.0 k.1 v one now e))
   where
@@ -122,7 +134,8 @@ held_stays known old new one keys same =
 
 -- What is held stays the same where more contexts become known: each key's tag stands for what it stood for.
 pub held_as_tags_grow :
-    (old new : List Context) (w : Stored) → KeepsKnown old new → AreKeysKnown old w → AreKeysKnown new w × ((d : Daton) (s : ℕ) → held_in new w d s ≡ held_in old w d s)
+    (old new : List Context) (w : Stored) → KeepsKnown old new → AreKeysKnown old w
+    → AreKeysKnown new w × ((d : Daton) (s : ℕ) → held_in new w d s ≡ held_in old w d s)
 held_as_tags_grow old new w keeps keys = (
   λ k h. keeps.known k.tag (keys k h),
   λ d s. ap (option_map (λ (e : Entry). plain e.value)) (lookup_alike (is_key_of new d s) (is_key_of old d s) w.entries (λ q h.
@@ -131,7 +144,8 @@ held_as_tags_grow old new w keeps keys = (
 
 -- A put of a key is a put of its daton.
 pub put_by_key :
-    (known : List Context) (old new : Stored) (k : Key) (v : Value) → IsOneForOne known → AreKeysKnown known old → IsKnown known k.tag → SetsOnly old new k (Some (fresh v))
+    (known : List Context) (old new : Stored) (k : Key) (v : Value) → IsOneForOne known → AreKeysKnown known old → IsKnown known k.tag
+    → SetsOnly old new k (Some (fresh v))
     → PutsDaton (held_in known old) (held_in known new) (plain_key known k) (plain v) × AreKeysKnown known new
 put_by_key known old new k v one keys there sets = (λ q. puts q (is_daton (plain_key known k) q) refl, now)
   where
@@ -144,7 +158,8 @@ put_by_key known old new k v one keys there sets = (λ q. puts q (is_daton (plai
 
     daton_decides : (q : DatonAt) → Decides (is_daton (plain_key known k) q) (plain_key known k ≡ q)
     daton_decides q = Decides-like (is_daton (plain_key known k) q) (λ e i. (e.0 i, e.1 i)) (λ e. (ap (λ z. z.0) e, ap (λ z. z.1) e))
-        (Decides-and (same_daton (plain_key known k).0 q.0) ((plain_key known k).1 == q.1) (same-daton (plain_key known k).0 q.0) (Decides-eqb (plain_key known k).1 q.1))
+        (Decides-and (same_daton (plain_key known k).0 q.0) ((plain_key known k).1 == q.1) (same-daton (plain_key known k).0 q.0)
+        (Decides-eqb (plain_key known k).1 q.1))
 
     apart : (q : DatonAt) → is_daton (plain_key known k) q ≡ false → (x : Key) → plain_key known x ≡ (q.0, q.1) → held new x ≡ held old x
     apart q other x is = by (same_key k x) refl

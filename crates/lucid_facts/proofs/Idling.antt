@@ -27,7 +27,8 @@ no_third : (f : Head) (r : PlainRow) (l : Look) → is_search f ≡ true → loo
 no_third (const v) r l s e = absurd (cc)
 no_third _ r l s e = absurd (cc)
 
-no_third_part : (T : Table) (r : PlainRow) (f : Head) (es : PlainNodes) (j : ℕ) (x : PlainTask) → node_of T r.task ≡ row f es → is_search f ≡ true → j ≡ 2 → IsPart T r j x → ⊥
+no_third_part : (T : Table) (r : PlainRow) (f : Head) (es : PlainNodes) (j : ℕ) (x : PlainTask) → node_of T r.task ≡ row f es → is_search f ≡ true → j ≡ 2
+    → IsPart T r j x → ⊥
 no_third_part T r f es j x e s two (part_by_look {f = g} {es = gs} {l = l} i n q t) =
     no_third g r l (subst (λ h. is_search h ≡ true) (one-form f g es gs (sym e ∙ n)) s) (subst (λ k. look_of_row g r k ≡ Some l) two q)
 no_third_part T r f es j x e s two (part_by_reference k o) = absurd (cc)
@@ -40,7 +41,8 @@ search-is_idle d b h lost r f es facts e s free =
 
 all_idle_list : (ps : List PartState) → length ps ≡ 3 → ((i : ℕ) → i < 3 → state_at ps i ≡ idle) → ps ≡ all_idle
 all_idle_list (p ∷ (q ∷ (r ∷ []))) n h =
-    ap (λ x. x ∷ (q ∷ (r ∷ []))) (h 0 (omega arith)) ∙ ap (λ x. idle ∷ (x ∷ (r ∷ []))) (h 1 (omega arith)) ∙ ap (λ x. idle ∷ (idle ∷ (x ∷ []))) (h 2 (omega arith))
+    ap (λ x. x ∷ (q ∷ (r ∷ []))) (h 0 (omega arith)) ∙ ap (λ x. idle ∷ (x ∷ (r ∷ []))) (h 1 (omega arith))
+    ∙ ap (λ x. idle ∷ (idle ∷ (x ∷ []))) (h 2 (omega arith))
 all_idle_list ps n h = absurd (omega (arith, n))
 
 -- Three parts of which each is idle are all idle.
@@ -49,7 +51,8 @@ all-are_idle r n h = all_idle_list r.parts n h
 
 -- So are all parts of a search that waits for none, and whose subject and stream have no value yet.
 pub search-is_all_idle : (d : Demand) (b : Elements) (h : Holding) (lost : ℕ) (r : PlainRow) (f : Head) (es : PlainNodes) → RowFacts d b h lost r
-    → node_of (table_of d) r.task ≡ row f es → is_search f ≡ true → waits_for_none r ≡ true → value_of_part r 0 ≡ None → value_of_part r 1 ≡ None → r.parts ≡ all_idle
+    → node_of (table_of d) r.task ≡ row f es → is_search f ≡ true → waits_for_none r ≡ true → value_of_part r 0 ≡ None → value_of_part r 1 ≡ None
+    → r.parts ≡ all_idle
 search-is_all_idle d b h lost r f es facts e s free no_subject no_stream = all-are_idle r facts.three each
   where
     valueless : (i : ℕ) → value_of_part r i ≡ None → (v : PlainValue) → value_of_part r i ≡ Some v → ⊥

@@ -31,7 +31,8 @@ all_known : (known : List Context) (rs : List (Option TaskRow)) → ((q : ℕ) �
 all_known known rs each q r at = subst (λ o. IfKnown known o) at (each q)
 
 -- and all rows are seen as before
-pub all_rows_as_tags_grow : (old new : List Context) (rs : List (Option TaskRow)) → KeepsKnown old new → AreRowsKnown old rs → (q : ℕ) → plain_rows new rs q ≡ plain_rows old rs q
+pub all_rows_as_tags_grow : (old new : List Context) (rs : List (Option TaskRow)) → KeepsKnown old new → AreRowsKnown old rs → (q : ℕ)
+    → plain_rows new rs q ≡ plain_rows old rs q
 all_rows_as_tags_grow old new rs keeps known q = go (row_at rs q) (each_known old rs known q)
   where
     go : (o : Option TaskRow) → IfKnown old o → option_map (plain_row new) o ≡ option_map (plain_row old) o
@@ -42,16 +43,19 @@ known_choice : (known : List Context) (t : Bool) (a b : Option TaskRow) → IfKn
 known_choice known true a b k l = k
 known_choice known false a b k l = l
 
-known_map : (known : List Context) (f : TaskRow → TaskRow) → ((r : TaskRow) → AreTagsKnown known r → AreTagsKnown known (f r)) → (o : Option TaskRow) → IfKnown known o → IfKnown known (option_map f o)
+known_map : (known : List Context) (f : TaskRow → TaskRow) → ((r : TaskRow) → AreTagsKnown known r → AreTagsKnown known (f r)) → (o : Option TaskRow)
+    → IfKnown known o → IfKnown known (option_map f o)
 known_map known f keeps None k = tt
 known_map known f keeps (Some r) k = keeps r k
 
 -- a change that keeps a row's tags known
-pub known_changes : (known : List Context) (old new : List (Option TaskRow)) (slot : ℕ) (f : TaskRow → TaskRow) → ((r : TaskRow) → AreTagsKnown known r → AreTagsKnown known (f r))
+pub known_changes : (known : List Context) (old new : List (Option TaskRow)) (slot : ℕ) (f : TaskRow → TaskRow)
+    → ((r : TaskRow) → AreTagsKnown known r → AreTagsKnown known (f r))
     → rows.ChangesOnly old new slot f → AreRowsKnown known old → AreRowsKnown known new
 known_changes known old new slot f keeps changes all = all_known known new (λ q.
     let k = each_known known old all q in
-    subst (λ o. IfKnown known o) (sym (changes q)) (known_choice known (q == slot) (option_map f (row_at old q)) (row_at old q) (known_map known f keeps (row_at old q) k) k))
+    subst (λ o. IfKnown known o) (sym (changes q))
+    (known_choice known (q == slot) (option_map f (row_at old q)) (row_at old q) (known_map known f keeps (row_at old q) k) k))
 
 -- a part that is set, and a cursor, keep them
 same_tags : (known : List Context) (r s : TaskRow) → s.task ≡ r.task → s.key ≡ r.key → AreTagsKnown known r → AreTagsKnown known s
@@ -60,14 +64,18 @@ same_tags known r s task key k = record {
   key_tag = subst (λ o. IfSome o (λ x. IsKnown known x.tag)) (sym key) k.key_tag;
 }
 
-pub known_takes : (known : List Context) (old new : List (Option TaskRow)) (slot index : ℕ) → rows.ChangesOnly old new slot (rows.taken index) → AreRowsKnown known old → AreRowsKnown known new
+pub known_takes : (known : List Context) (old new : List (Option TaskRow)) (slot index : ℕ) → rows.ChangesOnly old new slot (rows.taken index)
+    → AreRowsKnown known old → AreRowsKnown known new
 known_takes known old new slot index = known_changes known old new slot (rows.taken index) (λ r. same_tags known r (rows.taken index r) refl refl)
 
-pub known_gives : (known : List Context) (old new : List (Option TaskRow)) (slot index : ℕ) (v : Value) → rows.ChangesOnly old new slot (rows.with_part index (Got v)) → AreRowsKnown known old
+pub known_gives : (known : List Context) (old new : List (Option TaskRow)) (slot index : ℕ) (v : Value)
+    → rows.ChangesOnly old new slot (rows.with_part index (Got v)) → AreRowsKnown known old
     → AreRowsKnown known new
-known_gives known old new slot index v = known_changes known old new slot (rows.with_part index (Got v)) (λ r. same_tags known r (rows.with_part index (Got v) r) refl refl)
+known_gives known old new slot index v = known_changes known old new slot (rows.with_part index (Got v))
+    (λ r. same_tags known r (rows.with_part index (Got v) r) refl refl)
 
-pub known_moves : (known : List Context) (old new : List (Option TaskRow)) (slot : ℕ) (c : Cursor) → rows.ChangesOnly old new slot (rows.with_cursor c) → AreRowsKnown known old
+pub known_moves : (known : List Context) (old new : List (Option TaskRow)) (slot : ℕ) (c : Cursor) → rows.ChangesOnly old new slot (rows.with_cursor c)
+    → AreRowsKnown known old
     → AreRowsKnown known new
 known_moves known old new slot c = known_changes known old new slot (rows.with_cursor c) (λ r. same_tags known r (rows.with_cursor c r) refl refl)
 
@@ -85,11 +93,13 @@ known_asks known old new part slot x key task key_tag asks all = all_known known
         (known_map known (rows.with_part p.index (Asked slot)) (λ r. same_tags known r (rows.with_part p.index (Asked slot) r) refl refl) o k) k
 
 -- a row settles
-pub known_settles : (known : List Context) (old new : List (Option TaskRow)) (slot : ℕ) (v : Value) → rows.Settles old new slot v → AreRowsKnown known old → AreRowsKnown known new
+pub known_settles : (known : List Context) (old new : List (Option TaskRow)) (slot : ℕ) (v : Value) → rows.Settles old new slot v → AreRowsKnown known old
+    → AreRowsKnown known new
 known_settles known old new slot v settles all = all_known known new (λ q.
     let k = each_known known old all q in
     subst (λ o. IfKnown known o) (sym (settles q))
-    (known_choice known (q == slot) None (rows.given (rows.parent_of old slot) v q (row_at old q)) tt (given_known q (rows.parent_of old slot) (row_at old q) k)))
+    (known_choice known (q == slot) None (rows.given (rows.parent_of old slot) v q (row_at old q)) tt
+    (given_known q (rows.parent_of old slot) (row_at old q) k)))
   where
     given_known : (q : ℕ) (parent : Option Part) (o : Option TaskRow) → IfKnown known o → IfKnown known (rows.given parent v q o)
     given_known q None o k = k

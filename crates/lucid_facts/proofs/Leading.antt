@@ -38,7 +38,8 @@ module _ (d : Demand) (b : Elements) (h : Holding) (lost : ℕ) (r : PlainRow) w
   }
 
   -- what the row's parts have as answers to looks answers the looks' tasks
-  pub looks_are_answered : IsDemand d → RowFacts d b h lost r → (f : Head) (es : PlainNodes) → node_of (table_of d) r.task ≡ row f es → (l : Look) (v : PlainValue)
+  pub looks_are_answered : IsDemand d → RowFacts d b h lost r → (f : Head) (es : PlainNodes) → node_of (table_of d) r.task ≡ row f es
+      → (l : Look) (v : PlainValue)
       → LookHas (table_of d) f r l v → LookAnswers d b h lost r.task l v
   looks_are_answered demand facts f es e l v (inr constant) = constant_is_answered demand l v constant
   looks_are_answered demand facts f es e l v (inl has) = go (facts.got_parts has.index v has.value)
@@ -47,10 +48,12 @@ module _ (d : Demand) (b : Elements) (h : Holding) (lost : ℕ) (r : PlainRow) w
       go a = record { task = a.task; is = part_is_of_its_look (table_of d) r f es e has.index l a.task a.is has.look; answers = a.answers }
 
   -- what was looked at answers the looks at it
-  looked_answers : (f : Head) (k : ℕ) (s : SearchFacts d b h lost r f k) → part_number (table_of d) r.task.node 1 ≡ Some k → (least u : ℕ) (holds : Bool) → u < r.cursor.time
+  looked_answers : (f : Head) (k : ℕ) (s : SearchFacts d b h lost r f k) → part_number (table_of d) r.task.node 1 ≡ Some k → (least u : ℕ) (holds : Bool)
+      → u < r.cursor.time
       → node_val (equations_of (table_of d)) b s.counted.0 (node_at (table_of d) k) r.task.context u r.task.space ≡ Some (truth holds)
       → LookAnswers d b h lost r.task (test_look u r.task.space least) (truth holds)
-  looked_answers f k s number least u holds low value = record { task = stream; is = ap (option_map (λ n. record r.task { node = n; time = u })) number; answers = answer }
+  looked_answers f k s number least u holds low value =
+      record { task = stream; is = ap (option_map (λ n. record r.task { node = n; time = u })) number; answers = answer }
     where
       stream : PlainTask
       stream = record r.task { node = k; time = u }
@@ -60,12 +63,15 @@ module _ (d : Demand) (b : Elements) (h : Holding) (lost : ℕ) (r : PlainRow) w
 
       own : (holds' : Bool) → at r.task.limit ≡ Some (truth holds') → at r.task.limit ≡ Some (truth holds)
       own holds' e =
-          e ∙ ap Some (node-meant_once (equations_of (table_of d)) b (node_at (table_of d) k) r.task.context u r.task.space (truth holds') (truth holds) (r.task.limit, e) (s.counted.0, value))
+          e ∙ ap Some (node-meant_once (equations_of (table_of d)) b (node_at (table_of d) k) r.task.context u r.task.space (truth holds') (truth holds)
+          (r.task.limit, e) (s.counted.0, value))
 
       answer : Answers d b h lost stream (truth holds)
       answer = record {
         means = (s.counted.0, value);
-        exact = λ empties. let own_truth = counted_truth (λ t. node_val (equations_of (table_of d)) b r.task.limit (node_at (table_of d) k) r.task.context t r.task.space) r.cursor.time r.cursor.count (s.exact empties) u low in own own_truth.0 own_truth.1;
+        exact = λ empties. let own_truth = counted_truth
+            (λ t. node_val (equations_of (table_of d)) b r.task.limit (node_at (table_of d) k) r.task.context t r.task.space) r.cursor.time r.cursor.count
+            (s.exact empties) u low in own own_truth.0 own_truth.1;
         kept = λ keeps none. s.kept keeps none u low;
       }
 
@@ -78,8 +84,10 @@ module _ (d : Demand) (b : Elements) (h : Holding) (lost : ℕ) (r : PlainRow) w
       go true searches =
           let k = stream_of_search (table_of d) demand.in_range r.task facts.there f es e searches in
           let s = facts.search f es k.0 e searches k.1 in
-          search_leads (LookAnswers d b h lost r.task) (λ u. node_val (equations_of (table_of d)) b s.counted.0 (node_at (table_of d) k.0) r.task.context u r.task.space) f
-          r.task.limit r.cursor.time r.cursor.count r.task.time r.task.space (λ u holds low value. looked_answers f k.0 s k.1 (least_of f r.task.time u) u holds low value) s.within s.counted.1
+          search_leads (LookAnswers d b h lost r.task) (λ u.
+          node_val (equations_of (table_of d)) b s.counted.0 (node_at (table_of d) k.0) r.task.context u r.task.space) f
+          r.task.limit r.cursor.time r.cursor.count r.task.time r.task.space
+          (λ u holds low value. looked_answers f k.0 s k.1 (least_of f r.task.time u) u holds low value) s.within s.counted.1
       go false stays =
           subst (λ q. LeadsTo (LookAnswers d b h lost r.task) (plan r.task.limit f r.task.time r.task.space) q)
           (sym (rest_is_plan f stays r.task.limit r.cursor.time r.cursor.count r.task.time r.task.space)) at_start
@@ -88,5 +96,7 @@ module _ (d : Demand) (b : Elements) (h : Holding) (lost : ℕ) (r : PlainRow) w
   pub row_came : IsDemand d → RowFacts d b h lost r → (q : Plan) (s : ComesTo (table_of d) r q)
       → LeadsTo (LookAnswers d b h lost r.task) (plan r.task.limit s.form r.task.time r.task.space) q
   row_came demand facts q s =
-      leads-join (LookAnswers d b h lost r.task) (plan r.task.limit s.form r.task.time r.task.space) (rest_of s.form r) q (row_leads demand facts s.form s.nodes s.is)
-      (leads-maps (LookHas (table_of d) s.form r) (LookAnswers d b h lost r.task) (looks_are_answered demand facts s.form s.nodes s.is) (rest_of s.form r) q s.along)
+      leads-join (LookAnswers d b h lost r.task) (plan r.task.limit s.form r.task.time r.task.space) (rest_of s.form r) q
+      (row_leads demand facts s.form s.nodes s.is)
+      (leads-maps (LookHas (table_of d) s.form r) (LookAnswers d b h lost r.task) (looks_are_answered demand facts s.form s.nodes s.is) (rest_of s.form r) q
+      s.along)

@@ -55,7 +55,8 @@ module _ (T : Table) (range : IsInRange T) (x : PlainTask) (l : Look) (y : Plain
     look_part = part-node T range x.node l.part at.node at.part f es e ∙ ap (λ z. Some (node_of T z)) (sym at.is)
 
     -- What the form reads of the part is what the task has,
-    pub look_value : (g : Given Daton) (m : ℕ) → reads_parts (equations_of T) g m es x.context l.part l.time l.space ≡ node_hval (equations_of T) g m (node_of T y) y.context y.time y.space
+    pub look_value : (g : Given Daton) (m : ℕ) → reads_parts (equations_of T) g m es x.context l.part l.time l.space ≡ node_hval (equations_of T) g m
+        (node_of T y) y.context y.time y.space
     look_value g m =
         part-value T range x.node l.part at.node at.part f es e g m x.context l.time l.space
         ∙ ap (λ z. node_hval (equations_of T) g m (node_of T z) z.context z.time z.space) (sym at.is)
@@ -65,10 +66,12 @@ module _ (T : Table) (range : IsInRange T) (x : PlainTask) (l : Look) (y : Plain
     look_visits b m d = part-visits T range x.node l.part at.node at.part f es e b m d x.context l.time l.space ∙ ap (λ z. visits_of T b m d z) (sym at.is)
 
     -- What the part needs at the look's point is what the task needs.
-    pub look_needs : (b : Elements) (part : PlainNode) → part_of es l.part ≡ Some part → (k : DatonAt) → IsNeeded (equations_of T) b part x.context l.time l.space k → TaskNeeds T b y k
+    pub look_needs : (b : Elements) (part : PlainNode) → part_of es l.part ≡ Some part → (k : DatonAt)
+        → IsNeeded (equations_of T) b part x.context l.time l.space k → TaskNeeds T b y k
     look_needs b part h k n =
         let same : part ≡ node_of T y = let both : Some part ≡ Some (node_of T y) = sym h ∙ look_part in cc in
-        let here : IsNeeded (equations_of T) b (node_of T y) x.context l.time l.space k = subst (λ q. IsNeeded (equations_of T) b q x.context l.time l.space k) same n in
+        let here : IsNeeded (equations_of T) b (node_of T y) x.context l.time l.space k =
+        subst (λ q. IsNeeded (equations_of T) b q x.context l.time l.space k) same n in
         subst (λ z. IsNeeded (equations_of T) b (node_of T y) z.context z.time z.space k) (sym at.is) here
 
 no : false ≡ true → ⊥

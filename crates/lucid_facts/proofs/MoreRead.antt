@@ -20,7 +20,8 @@ time_in (goes_to k y u) = u
 time_in _ = 0
 
 -- what a daton that is held goes on with means its value
-pub held_means : (p : Equations) (b : Elements) (h : Holding) → HoldsRight p b h → (d : Daton) (x : NodePosition) (u s : ℕ) (v : PlainValue) → daton_aim p d ≡ goes_to d x u → h d s ≡ Some v
+pub held_means : (p : Equations) (b : Elements) (h : Holding) → HoldsRight p b h → (d : Daton) (x : NodePosition) (u s : ℕ) (v : PlainValue)
+    → daton_aim p d ≡ goes_to d x u → h d s ≡ Some v
     → NodeMeans p b x.node x.context u s v
 held_means p b h right d x u s v aim e =
     let m = right d s v e in
@@ -40,10 +41,14 @@ closed_over p b c more h right closed d x u s i aim k n =
 
 -- and what is noted is counted,
 counted_over : (p : Equations) (b c : Elements) → Extends b c → (e : PlainNode) (f : Context) (s t n : ℕ) → Counted p b e f s t n → Counted p c e f s t n
-counted_over p b c more e f s t n r =
-    (r.0, count-keeps (λ u. node_val p b r.0 e f u s) (λ u. node_val p c r.0 e f u s) (λ u v h. node_hval-extends p b c more (λ d z. None) r.0 e f u s v h) t n r.1)
+counted_over p b c more e f s t n r = (
+  r.0,
+  count-keeps (λ u. node_val p b r.0 e f u s) (λ u. node_val p c r.0 e f u s) (λ u v h. node_hval-extends p b c more (λ d z. None) r.0 e f u s v h) t n
+      r.1,
+)
 
-pub noted_over : (T : Table) (b c : Elements) → Extends b c → (known : List Context) (noted : Noted) → AllNotedRight T b known noted → AllNotedRight T c known noted
+pub noted_over : (T : Table) (b c : Elements) → Extends b c → (known : List Context) (noted : Noted) → AllNotedRight T b known noted
+    → AllNotedRight T c known noted
 noted_over T b c more known noted right node tag key number e =
     let r = right node tag key number e in
     record {
@@ -54,21 +59,26 @@ noted_over T b c more known noted right node tag key number e =
       known_tag = r.known_tag;
       stream = r.stream;
       part = r.part;
-      counted = counted_over (equations_of T) b c more (node_at T r.stream) (context_of known tag) (space_of tag) (cursor_noted r.form key number).time (cursor_noted r.form key number).count r.counted;
+      counted = counted_over (equations_of T) b c more (node_at T r.stream) (context_of known tag) (space_of tag) (cursor_noted r.form key number).time
+          (cursor_noted r.form key number).count r.counted;
     }
 
 -- with all that the looks before it need.
-pub noted_closed_over : (T : Table) (b c : Elements) → Extends b c → (known : List Context) (noted : Noted) (h : Holding) → AllNotedRight T b known noted → AllNotedClosed T b known noted h → AllNotedClosed T c known noted h
+pub noted_closed_over : (T : Table) (b c : Elements) → Extends b c → (known : List Context) (noted : Noted) (h : Holding) → AllNotedRight T b known noted
+    → AllNotedClosed T b known noted h → AllNotedClosed T c known noted h
 noted_closed_over T b c more known noted h right closed node tag key number e form nodes is stream part u lt k n =
-    closed node tag key number e form nodes is stream part u lt k ((needed-same (equations_of T) b c more (node_at T stream) (context_of known tag) u (space_of tag) there.0 there.1 k).0 n)
+    closed node tag key number e form nodes is stream part u lt k
+    ((needed-same (equations_of T) b c more (node_at T stream) (context_of known tag) u (space_of tag) there.0 there.1 k).0 n)
   where
     r : NotedRight T b known node tag key number
     r = right node tag key number e
 
-    truth_there : (g : Head) → form ≡ g → (q : ℕ) → stream ≡ q → Counted (equations_of T) b (node_at T q) (context_of known tag) (space_of tag) (cursor_noted g key number).time (cursor_noted g key number).count
+    truth_there : (g : Head) → form ≡ g → (q : ℕ) → stream ≡ q
+        → Counted (equations_of T) b (node_at T q) (context_of known tag) (space_of tag) (cursor_noted g key number).time (cursor_noted g key number).count
         → (v : PlainValue) × NodeMeans (equations_of T) b (node_at T stream) (context_of known tag) u (space_of tag) v
     truth_there g same q this count =
-        let t = counted_truth (λ w. node_val (equations_of T) b count.0 (node_at T q) (context_of known tag) w (space_of tag)) (cursor_noted g key number).time (cursor_noted g key number).count count.1 u
+        let t = counted_truth (λ w. node_val (equations_of T) b count.0 (node_at T q) (context_of known tag) w (space_of tag)) (cursor_noted g key number).time
+        (cursor_noted g key number).count count.1 u
         (subst (λ z. u < (cursor_noted z key number).time) same lt) in
         (truth t.0, subst (λ z. NodeMeans (equations_of T) b (node_at T z) (context_of known tag) u (space_of tag) (truth t.0)) (sym this) (count.0, t.1))
 

@@ -31,7 +31,8 @@ part_in o i = option_and_then (λ n. slice_get (parts n) i) o
 
 -- what moves the point, with the row in place of its number
 abbrev moved_with : PlainTask → Option Node → PlainNode → Option PlainTask
-moved_with x o (row f es) = option_and_then (λ q. option_map (λ n. record x { node = n; time = q.time; space = q.space }) (part_in o q.part)) (onward f x.time x.space)
+moved_with x o (row f es) = option_and_then (λ q. option_map (λ n. record x { node = n; time = q.time; space = q.space }) (part_in o q.part))
+    (onward f x.time x.space)
 moved_with x o (freeze e) = option_map (λ n. record x { node = n; context = frozen_frame x.time x.context }) (part_in o 0)
 moved_with x o (reference r) = None
 moved_with x o (invoke n at l) = None
@@ -44,18 +45,22 @@ below-last : (to : Onward → Option PlainTask) (b : Bool) (q : Onward) → opti
 below-last to true q = refl
 below-last to false q = refl
 
-moved-fby : (T : Table) (x : PlainTask) (a b t : ℕ) → moved_with (record x { time = t }) (Some (Fby a b)) (node_by T (Fby a b)) ≡ moved_row (record x { time = t }) (Fby a b)
+moved-fby : (T : Table) (x : PlainTask) (a b t : ℕ)
+    → moved_with (record x { time = t }) (Some (Fby a b)) (node_by T (Fby a b)) ≡ moved_row (record x { time = t }) (Fby a b)
 moved-fby T x a b zero = refl
 moved-fby T x a b (suc t) = refl
 
-moved-sby : (T : Table) (x : PlainTask) (a b s : ℕ) → moved_with (record x { space = s }) (Some (Sby a b)) (node_by T (Sby a b)) ≡ moved_row (record x { space = s }) (Sby a b)
+moved-sby : (T : Table) (x : PlainTask) (a b s : ℕ)
+    → moved_with (record x { space = s }) (Some (Sby a b)) (node_by T (Sby a b)) ≡ moved_row (record x { space = s }) (Sby a b)
 moved-sby T x a b zero = refl
 moved-sby T x a b (suc s) = refl
 
 by-row : (T : Table) (x : PlainTask) (n : Node) → moved_with x (Some n) (node_by T n) ≡ moved_row x n
-by-row T x (Next a) = below-last (λ q. option_map (λ n. record x { node = n; time = q.time; space = q.space }) (part_in (Some (Next a)) q.part)) (nat_lt x.time last) (record { part = 0; time = suc x.time; space = x.space })
+by-row T x (Next a) = below-last (λ q. option_map (λ n. record x { node = n; time = q.time; space = q.space }) (part_in (Some (Next a)) q.part))
+    (nat_lt x.time last) (record { part = 0; time = suc x.time; space = x.space })
 by-row T x (Fby a b) = moved-fby T x a b x.time
-by-row T x (Succ a) = below-last (λ q. option_map (λ n. record x { node = n; time = q.time; space = q.space }) (part_in (Some (Succ a)) q.part)) (nat_lt x.space last) (record { part = 0; time = x.time; space = suc x.space })
+by-row T x (Succ a) = below-last (λ q. option_map (λ n. record x { node = n; time = q.time; space = q.space }) (part_in (Some (Succ a)) q.part))
+    (nat_lt x.space last) (record { part = 0; time = x.time; space = suc x.space })
 by-row T x (Sby a b) = moved-sby T x a b x.space
 by-row T x _ = refl
 

@@ -38,7 +38,8 @@ pub record Moves (T : Table) (new old : PlainTask) : Type 0 where
 
 module _ (T : Table) (range : IsInRange T) where
   -- a form that only moves the point
-  form-moves : (x : PlainTask) (f : Head) (es : PlainNodes) (q : Onward) (n : ℕ) → node_of T x ≡ row f es → onward f x.time x.space ≡ Some q → part_number T x.node q.part ≡ Some n
+  form-moves : (x : PlainTask) (f : Head) (es : PlainNodes) (q : Onward) (n : ℕ) → node_of T x ≡ row f es → onward f x.time x.space ≡ Some q
+      → part_number T x.node q.part ≡ Some n
       → Moves T (record x { node = n; time = q.time; space = q.space }) x
   form-moves x f es q n is on number =
       let part : HasPart T x.node q.part n = has_part T x.node q.part n number in
@@ -57,7 +58,8 @@ module _ (T : Table) (range : IsInRange T) where
       }
 
   -- a frozen time
-  frozen-moves : (x : PlainTask) (e : PlainNode) (n : ℕ) → node_of T x ≡ freeze e → part_number T x.node 0 ≡ Some n → Moves T (record x { node = n; context = frozen_frame x.time x.context }) x
+  frozen-moves : (x : PlainTask) (e : PlainNode) (n : ℕ) → node_of T x ≡ freeze e → part_number T x.node 0 ≡ Some n
+      → Moves T (record x { node = n; context = frozen_frame x.time x.context }) x
   frozen-moves x e n is number =
       let part : HasPart T x.node 0 n = has_part T x.node 0 n number in
       let named : node_of T x ≡ freeze (node_at T n) = is ∙ ap freeze (subject-node T range x.node n e is part) in
@@ -66,7 +68,10 @@ module _ (T : Table) (range : IsInRange T) where
         limit = refl;
         values = λ b h m. sym (ap (λ z. node_hval (equations_of T) (given b h) m z x.context x.time x.space) named);
         visits = λ b m d v i. subst (λ z. In v (node_visits (equations_of T) b m d z x.context x.time x.space)) (sym named) (inr i);
-        context = λ b m d. inr (subst (λ z. In (frozen_frame x.time x.context) (filter_map entered_of (node_visits (equations_of T) b m d z x.context x.time x.space))) (sym named) (inl refl));
+        context =
+            λ b m d.
+            inr (subst (λ z. In (frozen_frame x.time x.context) (filter_map entered_of (node_visits (equations_of T) b m d z x.context x.time x.space)))
+            (sym named) (inl refl));
         needs = λ b k i. subst (λ z. IsNeeded (equations_of T) b z x.context x.time x.space k) named i;
       }
 
@@ -79,12 +84,14 @@ module _ (T : Table) (range : IsInRange T) where
       → option_and_then (λ q. option_map (λ n. record x { node = n; time = q.time; space = q.space }) (part_number T x.node q.part)) o ≡ Some y → Moves T y x
   go-form x y f es is None on h = absurd (cc)
   go-form x y f es is (Some q) on h =
-      go-number (λ z. Moves T z x) (λ n. record x { node = n; time = q.time; space = q.space }) y (part_number T x.node q.part) (λ n e. form-moves x f es q n is on e) h
+      go-number (λ z. Moves T z x) (λ n. record x { node = n; time = q.time; space = q.space }) y (part_number T x.node q.part)
+      (λ n e. form-moves x f es q n is on e) h
 
   by-node : (x y : PlainTask) (e : PlainNode) → node_of T x ≡ e → moved_by T x e ≡ Some y → Moves T y x
   by-node x y (row f es) is h = go-form x y f es is (onward f x.time x.space) refl h
   by-node x y (freeze e) is h =
-      go-number (λ z. Moves T z x) (λ n. record x { node = n; context = frozen_frame x.time x.context }) y (part_number T x.node 0) (λ n p. frozen-moves x e n is p) h
+      go-number (λ z. Moves T z x) (λ n. record x { node = n; context = frozen_frame x.time x.context }) y (part_number T x.node 0)
+      (λ n p. frozen-moves x e n is p) h
   by-node x y (reference r) is h = absurd (cc)
   by-node x y (invoke n at l) is h = absurd (cc)
 

@@ -55,7 +55,8 @@ lacks-one d k absent q (inl e) = subst (λ z. stays d z.0 z.1 ≡ None) (sym e) 
 lacks-one d k absent q (inr i) = absurd i
 
 -- So it may be asked for, where the daton doesn't stay held.
-pub body-is_wanted : (d : Demand) (b : Elements) (x y : PlainTask) (k : DatonAt) → StandsBelow (table_of d) x y k → stays d k.0 k.1 ≡ None → IsWanted d b x → IsWanted d b y
+pub body-is_wanted : (d : Demand) (b : Elements) (x y : PlainTask) (k : DatonAt) → StandsBelow (table_of d) x y k → stays d k.0 k.1 ≡ None → IsWanted d b x
+    → IsWanted d b y
 body-is_wanted d b x y k below absent wanted = standing-is_wanted d b (k ∷ []) y x (lacks-one d k absent) below.stands below.there wanted
 
 -- a search can stand where it starts
@@ -90,7 +91,8 @@ pub reference-is_visited : (d : Demand) (b : Elements) (x y : PlainTask) (k : Da
 reference-is_visited d b x y k seen goes = record {
   added = seen.added;
   none = seen.none;
-  holds = λ e l. inside-read reference_of (task_visits (table_of d) b e x) (task_visits (table_of d) b e d.root) (seen.holds e l) k (reference-visits (table_of d) b e x y k goes);
+  holds = λ e l. inside-read reference_of (task_visits (table_of d) b e x) (task_visits (table_of d) b e d.root) (seen.holds e l) k
+      (reference-visits (table_of d) b e x y k goes);
 }
 
 -- A row of what the body moves on to remembers the reference's daton.

@@ -20,7 +20,8 @@ not_some o e h = absurd (true≢false (sym h ∙ ap is_some e))
 
 -- so it has all that the type of an engine keeps, where its tags, its streams and its table have.
 pub nothing_is_sound :
-    (e : EngineView) → e.stored.entries ≡ [] → e.noted.sites ≡ [] → IsOneForOne e.known → length e.streams ≡ length e.table.inputs → AllDiffer (places_of e.streams) → IsInRange e.table
+    (e : EngineView) → e.stored.entries ≡ [] → e.noted.sites ≡ [] → IsOneForOne e.known → length e.streams ≡ length e.table.inputs
+    → AllDiffer (places_of e.streams) → IsInRange e.table
     → AllDiffer e.table.inputs → IsSound e
 nothing_is_sound e empty none contexts streams places in_range names = record {
   right = λ d s v h. not_none (holding e d s) v (holds_none e empty d s) h;

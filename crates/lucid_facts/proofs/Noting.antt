@@ -43,12 +43,14 @@ abbrev NotedAt : Type 0
 NotedAt = ℕ × Tag × ℕ × ℕ
 
 -- A number that is noted is the one just noted, or was noted before.
-noted_cases : (old new : Noted) (node : ℕ) (tag : Tag) (key number : ℕ) → NotesOrMisses old new node tag key number → (n : ℕ) (t : Tag) (k v : ℕ) → number_at new n t k ≡ Some v
+noted_cases : (old new : Noted) (node : ℕ) (tag : Tag) (key number : ℕ) → NotesOrMisses old new node tag key number → (n : ℕ) (t : Tag) (k v : ℕ)
+    → number_at new n t k ≡ Some v
     → (◌≡◌ {A = NotedAt} (node, tag, key, number) (n, t, k, v)) ⊎ (number_at old n t k ≡ Some v)
 noted_cases old new node tag key number (Misses same missed) n t k v e = inr (sym (same n t k) ∙ e)
 noted_cases old new node tag key number (Notes only missed) n t k v e =
     (elim (same_site (record { node = node; tag = tag }) (record { node = n; tag = t }) && (k == key))
-    as (λ z. same_site (record { node = node; tag = tag }) (record { node = n; tag = t }) && (k == key) ≡ z → cond z (Some number) (number_at old n t k) ≡ Some v
+    as (λ z. same_site (record { node = node; tag = tag }) (record { node = n; tag = t }) && (k == key) ≡ z
+    → cond z (Some number) (number_at old n t k) ≡ Some v
     → (◌≡◌ {A = NotedAt} (node, tag, key, number) (n, t, k, v)) ⊎ (number_at old n t k ≡ Some v)) [
       | true ↦ λ here i. inl (λ j. ((decides.0 here).0.0 j, (decides.0 here).0.1 j, sym ((decides.0 here).1) j, once i j))
       | false ↦ λ other i. inr i
@@ -64,7 +66,8 @@ noted_cases old new node tag key number (Notes only missed) n t k v e =
 -- A row notes where its search stands: its facts of its search are those of a noted position.
 pub stock_notes :
     (d : Demand) (b : Elements) (known : List Context) (h : Holding) (lost : ℕ) (old new : Noted) (r : PlainRow) (tag : Tag) (f : Head) (es : PlainNodes)
-    → IsDemand d → StockFacts d b known h lost old → RowFacts d b h lost r → node_of (table_of d) r.task ≡ row f es → is_search f ≡ true → IsKnown known tag → context_of known tag ≡ r.task.context
+    → IsDemand d → StockFacts d b known h lost old → RowFacts d b h lost r → node_of (table_of d) r.task ≡ row f es → is_search f ≡ true → IsKnown known tag
+    → context_of known tag ≡ r.task.context
     → space_of tag ≡ r.task.space → NotesOrMisses old new r.task.node tag (key_noted f r.cursor).0 (key_noted f r.cursor).1 → StockFacts d b known h lost new
 stock_notes d b known h lost old new r tag f es demand facts ready is search known_tag context space notes = record {
   right = facts.right;
@@ -75,11 +78,15 @@ stock_notes d b known h lost old new r tag f es demand facts ready is search kno
     | inl z ↦ subst (λ (q : NotedAt). NotedRight (table_of d) b known q.0 q.1 q.2 q.3) z here
     | inr z ↦ facts.noted_right n t k v z
   ];
-  noted_closed = λ keeps lost_none n t k v e form nodes at stream part. elim (noted_cases old new r.task.node tag (key_noted f r.cursor).0 (key_noted f r.cursor).1 notes n t k v e) [
-    | inl z ↦ subst (λ (q : NotedAt). node_at (table_of d) q.0 ≡ row form nodes → part_number (table_of d) q.0 1 ≡ Some stream → (u : ℕ) → u < (cursor_noted form q.2 q.3).time
-        → NeedsHeld (equations_of (table_of d)) b h (node_at (table_of d) stream) (context_of known q.1) u (space_of q.1)) z (needed keeps lost_none form nodes stream) at part
-    | inr z ↦ facts.noted_closed keeps lost_none n t k v z form nodes at stream part
-  ];
+  noted_closed = λ keeps lost_none n t k v e form nodes at stream part.
+      elim (noted_cases old new r.task.node tag (key_noted f r.cursor).0 (key_noted f r.cursor).1 notes n t k v e) [
+        | inl z ↦ subst (λ (q : NotedAt). node_at (table_of d) q.0 ≡ row form nodes → part_number (table_of d) q.0 1 ≡ Some stream → (u : ℕ)
+            → u < (cursor_noted form q.2 q.3).time
+            → NeedsHeld (equations_of (table_of d)) b h (node_at (table_of d) stream) (context_of known q.1) u (space_of q.1)) z (needed keeps lost_none form
+            nodes
+            stream) at part
+        | inr z ↦ facts.noted_closed keeps lost_none n t k v z form nodes at stream part
+      ];
   contexts = facts.contexts;
 }
   where
@@ -98,17 +105,21 @@ stock_notes d b known h lost old new r tag f es demand facts ready is search kno
       known_tag = known_tag;
       stream = stream_there.0;
       part = stream_there.1;
-      counted = subst (λ (c : Cursor). Counted (equations_of (table_of d)) b (node_at (table_of d) stream_there.0) (context_of known tag) (space_of tag) c.time c.count) (sym (cursor_back f r.cursor))
+      counted = subst (λ (c : Cursor). Counted (equations_of (table_of d)) b (node_at (table_of d) stream_there.0) (context_of known tag) (space_of tag) c.time
+          c.count) (sym (cursor_back f r.cursor))
           (subst (λ c. Counted (equations_of (table_of d)) b (node_at (table_of d) stream_there.0) c (space_of tag) r.cursor.time r.cursor.count) (sym context)
-          (subst (λ s. Counted (equations_of (table_of d)) b (node_at (table_of d) stream_there.0) r.task.context s r.cursor.time r.cursor.count) (sym space) stands.counted));
+          (subst (λ s. Counted (equations_of (table_of d)) b (node_at (table_of d) stream_there.0) r.task.context s r.cursor.time r.cursor.count) (sym space)
+          stands.counted));
     }
 
-    needed : IsTrue d.first.keeps → lost ≡ 0 → (form : Head) (nodes : PlainNodes) (stream : ℕ) → node_at (table_of d) r.task.node ≡ row form nodes → part_number (table_of d) r.task.node 1 ≡ Some stream
+    needed : IsTrue d.first.keeps → lost ≡ 0 → (form : Head) (nodes : PlainNodes) (stream : ℕ) → node_at (table_of d) r.task.node ≡ row form nodes
+        → part_number (table_of d) r.task.node 1 ≡ Some stream
         → (u : ℕ) → u < (cursor_noted form (key_noted f r.cursor).0 (key_noted f r.cursor).1).time
         → NeedsHeld (equations_of (table_of d)) b h (node_at (table_of d) stream) (context_of known tag) u (space_of tag)
     needed keeps lost_none form nodes stream at part u lt =
         let same : f ≡ form = one-form f form es nodes (sym is ∙ at) in
-        let cursor : cursor_noted form (key_noted f r.cursor).0 (key_noted f r.cursor).1 ≡ r.cursor = ap (λ g. cursor_noted g (key_noted f r.cursor).0 (key_noted f r.cursor).1) (sym same) ∙ cursor_back f r.cursor in
+        let cursor : cursor_noted form (key_noted f r.cursor).0 (key_noted f r.cursor).1 ≡ r.cursor =
+        ap (λ g. cursor_noted g (key_noted f r.cursor).0 (key_noted f r.cursor).1) (sym same) ∙ cursor_back f r.cursor in
         let facts = ready.search form nodes stream at (ap is_search (sym same) ∙ search) part in
         subst (λ c. NeedsHeld (equations_of (table_of d)) b h (node_at (table_of d) stream) c u (space_of tag)) (sym context)
         (subst (λ s. NeedsHeld (equations_of (table_of d)) b h (node_at (table_of d) stream) r.task.context u s) (sym space)

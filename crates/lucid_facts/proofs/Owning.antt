@@ -10,7 +10,8 @@ use Rattle.lucid_facts.proofs.History.{keeps_known_then}
 
 -- What a change to the contexts, to what is held and to what is noted leaves of what has only grown: contexts and the count of losses
 -- don't fall.
-since_then : (first now : EngineView) → GoesOn first now → (known : List Context) (stored : Stored) (noted : Noted) → KeepsKnown now.known known → now.stored.lost ≤ stored.lost
+since_then : (first now : EngineView) → GoesOn first now → (known : List Context) (stored : Stored) (noted : Noted) → KeepsKnown now.known known
+    → now.stored.lost ≤ stored.lost
     → GoesOn first (record now { known = known; stored = stored; noted = noted })
 since_then first now go known stored noted keeps more = record {
   table = go.table;
@@ -29,13 +30,16 @@ known_itself known = record { known = λ tag h. h; same = λ tag h. refl }
 
 module _ (d : Demand) (now : EngineView) (w : World) (owns : Owns d now w) where
   -- The value of a daton is put under its key, which every row and every later step then finds.
-  pub owns_puts : (k : Key) (v : Value) (stored : Stored) → IsKnown now.known k.tag → SetsOnly now.stored stored k (Some (fresh v)) → stored.lost ≡ now.stored.lost
+  pub owns_puts : (k : Key) (v : Value) (stored : Stored) → IsKnown now.known k.tag → SetsOnly now.stored stored k (Some (fresh v))
+      → stored.lost ≡ now.stored.lost
       → (HoldsFew d.first.room d.first.stored → HoldsFew d.first.room stored)
-      → ((b : Elements) → MayHave now b → MayPut d b (holding now) now.stored.lost (plain_key now.known k) (plain v)) → Owns d (record now { stored = stored }) w
+      → ((b : Elements) → MayHave now b → MayPut d b (holding now) now.stored.lost (plain_key now.known k) (plain v))
+      → Owns d (record now { stored = stored }) w
   owns_puts k v stored there sets same few may = record {
     stock = record {
       stock = λ b m. subst (λ n. StockFacts d b now.known (held_in now.known stored) n now.noted) (sym same)
-          (stock_puts d b now.known (holding now) (held_in now.known stored) now.stored.lost now.noted (plain_key now.known k) (plain v) (owns.stock.stock b m) (may b m) puts.0).0;
+          (stock_puts d b now.known (holding now) (held_in now.known stored) now.stored.lost now.noted (plain_key now.known k) (plain v) (owns.stock.stock b m)
+          (may b m) puts.0).0;
       drawn = owns.stock.drawn;
       askable = owns.stock.askable;
     };
@@ -58,7 +62,8 @@ module _ (d : Demand) (now : EngineView) (w : World) (owns : Owns d now w) where
       → (HoldsFew d.first.room d.first.stored → HoldsFew d.first.room stored) → Owns d (record now { stored = stored; noted = noted }) w
   owns_drops stored noted drops same more notes few = record {
     stock = record {
-      stock = λ b m. stock_drops d b now.known (holding now) (held_in now.known stored) now.stored.lost stored.lost now.noted noted (owns.stock.stock b m) (λ z. omega (arith, more, z)) gone.1
+      stock = λ b m. stock_drops d b now.known (holding now) (held_in now.known stored) now.stored.lost stored.lost now.noted noted (owns.stock.stock b m)
+          (λ z. omega (arith, more, z)) gone.1
           (λ keeps k. (held_stays now.known now.stored stored owns.contexts owns.keys (same keeps)).1 k) notes;
       drawn = owns.stock.drawn;
       askable = owns.stock.askable;
@@ -72,16 +77,20 @@ module _ (d : Demand) (now : EngineView) (w : World) (owns : Owns d now w) where
     };
   }
     where
-      gone : AreKeysKnown now.known stored × ((k : DatonAt) (v : PlainValue) → held_in now.known stored k.0 k.1 ≡ Some v → held_in now.known now.stored k.0 k.1 ≡ Some v)
+      gone : AreKeysKnown now.known stored × ((k : DatonAt) (v : PlainValue) → held_in now.known stored k.0 k.1 ≡ Some v
+          → held_in now.known now.stored k.0 k.1 ≡ Some v)
       gone = held_drops now.known now.stored stored owns.contexts owns.keys drops
 
   -- A row notes where its search stands.
-  pub owns_notes : IsDemand d → (noted : Noted) (r : PlainRow) (tag : Tag) (f : Head) (es : PlainNodes) → ((b : Elements) → MayHave now b → RowFacts d b (holding now) now.stored.lost r)
-      → node_of (table_of d) r.task ≡ row f es → is_search f ≡ true → IsKnown now.known tag → context_of now.known tag ≡ r.task.context → space_of tag ≡ r.task.space
+  pub owns_notes : IsDemand d → (noted : Noted) (r : PlainRow) (tag : Tag) (f : Head) (es : PlainNodes)
+      → ((b : Elements) → MayHave now b → RowFacts d b (holding now) now.stored.lost r)
+      → node_of (table_of d) r.task ≡ row f es → is_search f ≡ true → IsKnown now.known tag → context_of now.known tag ≡ r.task.context
+      → space_of tag ≡ r.task.space
       → NotesOrMisses now.noted noted r.task.node tag (key_noted f r.cursor).0 (key_noted f r.cursor).1 → Owns d (record now { noted = noted }) w
   owns_notes demand noted r tag f es ready is search known context space notes = record {
     stock = record {
-      stock = λ b m. stock_notes d b now.known (holding now) now.stored.lost now.noted noted r tag f es demand (owns.stock.stock b m) (ready b m) is search known context space notes;
+      stock = λ b m. stock_notes d b now.known (holding now) now.stored.lost now.noted noted r tag f es demand (owns.stock.stock b m) (ready b m) is search
+          known context space notes;
       drawn = owns.stock.drawn;
       askable = owns.stock.askable;
     };
@@ -95,11 +104,13 @@ module _ (d : Demand) (now : EngineView) (w : World) (owns : Owns d now w) where
   }
 
   -- Contexts that the root enters become known.
-  pub owns_enters : (known : List Context) → KeepsKnown now.known known → IsOneForOne known → ((b : Elements) → MayHave now b → (c : Context) → In c known → In c now.known ⊎ IsEntered d b c)
+  pub owns_enters : (known : List Context) → KeepsKnown now.known known → IsOneForOne known
+      → ((b : Elements) → MayHave now b → (c : Context) → In c known → In c now.known ⊎ IsEntered d b c)
       → Owns d (record now { known = known }) w
   owns_enters known keeps contexts enters = record {
     stock = record {
-      stock = λ b m. subst (λ h. StockFacts d b known h now.stored.lost now.noted) (sym same) (stock_enters d b now.known known (holding now) now.stored.lost now.noted (owns.stock.stock b m) keeps (enters b m));
+      stock = λ b m. subst (λ h. StockFacts d b known h now.stored.lost now.noted) (sym same)
+          (stock_enters d b now.known known (holding now) now.stored.lost now.noted (owns.stock.stock b m) keeps (enters b m));
       drawn = owns.stock.drawn;
       askable = owns.stock.askable;
     };

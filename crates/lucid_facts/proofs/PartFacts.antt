@@ -3,7 +3,8 @@ use Rattle.lucid_facts.proofs.Common.{◌≡◌, ◌⊎◌, inl, inr, ℕ, zero,
 use Rattle.lucid_facts.proofs.Parting.{part-stays}
 
 -- what stands at each place after a write: the new state there, and the old one elsewhere
-written : (ps : List PartState) (i k : ℕ) (y : PartState) (v : PlainValue) → value_in (state_at (slice_set ps i y) k) ≡ Some v → (k ≡ i → ⊥) → value_in (state_at ps k) ≡ Some v
+written : (ps : List PartState) (i k : ℕ) (y : PartState) (v : PlainValue) → value_in (state_at (slice_set ps i y) k) ≡ Some v → (k ≡ i → ⊥)
+    → value_in (state_at ps k) ≡ Some v
 written [] i k y v e n = e
 written (p ∷ ps) zero zero y v e n = absurd (n refl)
 written (p ∷ ps) zero (suc k) y v e n = e
@@ -33,11 +34,14 @@ part-got d b h lost r i v f lt n a = record {
     carry : (k : ℕ) (w : PlainValue) → PartAnswers d b h lost r k w → PartAnswers d b h lost (with_part i (got v) r) k w
     carry k w p = record { task = p.task; is = part-stays (table_of d) r i k (got v) p.task p.is n; answers = p.answers }
 
-    go : (k : ℕ) (w : PlainValue) → value_of_part (with_part i (got v) r) k ≡ Some w → (k ≡ i) ⊎ (k ≡ i → ⊥) → PartAnswers d b h lost (with_part i (got v) r) k w
+    go : (k : ℕ) (w : PlainValue) → value_of_part (with_part i (got v) r) k ≡ Some w → (k ≡ i) ⊎ (k ≡ i → ⊥)
+        → PartAnswers d b h lost (with_part i (got v) r) k w
     go k w e (inl same) =
-        let here : value_in (state_at (slice_set r.parts i (got v)) i) ≡ Some w = ap (λ z. value_in (state_at (slice_set r.parts i (got v)) z)) (sym same) ∙ e in
+        let here : value_in (state_at (slice_set r.parts i (got v)) i) ≡ Some w = ap (λ z. value_in (state_at (slice_set r.parts i (got v)) z)) (sym same)
+        ∙ e in
         let value : v ≡ w = written_there r.parts i v w here in
-        subst (λ z. PartAnswers d b h lost (with_part i (got v) r) z w) (sym same) (subst (λ z. PartAnswers d b h lost (with_part i (got v) r) i z) value (carry i v a))
+        subst (λ z. PartAnswers d b h lost (with_part i (got v) r) z w) (sym same)
+        (subst (λ z. PartAnswers d b h lost (with_part i (got v) r) i z) value (carry i v a))
     go k w e (inr other) = carry k w (f.got_parts k w (written r.parts i k (got v) w e other))
 
 written_asked : (ps : List PartState) (i slot : ℕ) (v : PlainValue) → value_in (state_at (slice_set ps i (asked slot)) i) ≡ Some v → ⊥
@@ -63,7 +67,8 @@ part-asked d b h lost r i slot f free = record {
     none : (w : PlainValue) → state_at r.parts i ≡ got w → ⊥
     none w e = let x : idle ≡ got w = sym free ∙ e in absurd (cc)
 
-    go : (k : ℕ) (w : PlainValue) → value_of_part (with_part i (asked slot) r) k ≡ Some w → (k ≡ i) ⊎ (k ≡ i → ⊥) → PartAnswers d b h lost (with_part i (asked slot) r) k w
+    go : (k : ℕ) (w : PlainValue) → value_of_part (with_part i (asked slot) r) k ≡ Some w → (k ≡ i) ⊎ (k ≡ i → ⊥)
+        → PartAnswers d b h lost (with_part i (asked slot) r) k w
     go k w e (inl same) = absurd (written_asked r.parts i slot w (ap (λ z. value_in (state_at (slice_set r.parts i (asked slot)) z)) (sym same) ∙ e))
     go k w e (inr other) =
         let p = f.got_parts k w (written r.parts i k (asked slot) w e other) in

@@ -3,7 +3,8 @@ use Rattle.lucid_facts.proofs.Common.{◌≡◌, ℕ, zero, suc, List, [], ◌�
 use Rattle.lucid_facts.specs.Parts.{look_of}
 
 -- a write at a part that has no value leaves each value where it was
-kept_at : (ps : List PartState) (i k : ℕ) (y : PartState) (v : PlainValue) → ((w : PlainValue) → state_at ps i ≡ got w → ⊥) → value_in (state_at ps k) ≡ Some v → state_at (slice_set ps i y) k ≡ state_at ps k
+kept_at : (ps : List PartState) (i k : ℕ) (y : PartState) (v : PlainValue) → ((w : PlainValue) → state_at ps i ≡ got w → ⊥) → value_in (state_at ps k) ≡ Some v
+    → state_at (slice_set ps i y) k ≡ state_at ps k
 kept_at [] i k y v n e = absurd (cc)
 kept_at (p ∷ ps) zero zero y v n e = absurd (first p n e)
   where
@@ -31,7 +32,8 @@ look_kept f c (Some v) p t s i l keeps e = subst (λ q. look_of f c q t s i ≡ 
 look_stays : (f : Head) (r : PlainRow) (i j : ℕ) (y : PartState) (l : Look) → ((w : PlainValue) → state_at r.parts i ≡ got w → ⊥)
     → look_of_row f r j ≡ Some l → look_of_row f (with_part i y r) j ≡ Some l
 look_stays f r i j y l n e =
-    look_kept f r.cursor (value_of_part r 1) (value_of_part (with_part i y r) 1) r.task.time r.task.space j l (λ v h. ap value_in (kept_at r.parts i 1 y v n h) ∙ h) e
+    look_kept f r.cursor (value_of_part r 1) (value_of_part (with_part i y r) 1) r.task.time r.task.space j l
+    (λ v h. ap value_in (kept_at r.parts i 1 y v n h) ∙ h) e
 
 -- What is the task of a part stays so where a part that has no value gets one or is asked.
 pub part-stays : (T : Table) (r : PlainRow) (i j : ℕ) (y : PartState) (x : PlainTask) → IsPart T r j x → ((w : PlainValue) → state_at r.parts i ≡ got w → ⊥)

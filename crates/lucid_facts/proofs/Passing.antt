@@ -25,7 +25,8 @@ module _ (T : Table) (range : IsInRange T) where
   leads zero x there = record { stands = stands-itself T x; there = there; limit = refl }
   leads (suc n) x there = leads-on n (leads n) x there (moved T x) refl
 
-  stops-on : (n : ℕ) → ((y : PlainTask) → y.node < n → moved T (passed_in T n y) ≡ None) → (x : PlainTask) → x.node < suc n → (o : Option PlainTask) → moved T x ≡ o
+  stops-on : (n : ℕ) → ((y : PlainTask) → y.node < n → moved T (passed_in T n y) ≡ None) → (x : PlainTask) → x.node < suc n → (o : Option PlainTask)
+      → moved T x ≡ o
       → moved T (on_with o x (λ y. passed_in T n y)) ≡ None
   stops-on n on x low None e = e
   stops-on n on x low (Some y) e = let m = moved-moves T range x y e in on y (omega (arith, low, m.lower))
@@ -35,7 +36,8 @@ module _ (T : Table) (range : IsInRange T) where
   stops (suc n) x low = stops-on n (stops n) x low (moved T x) refl
 
   -- The task after everything that only moves the point stands for the one before. It doesn't move the point, and has the same limit.
-  pub passed-stands : (x : PlainTask) → IsTask T x → StandsFor T [] (passed T x) x × (moved T (passed T x) ≡ None) × IsTask T (passed T x) × ((passed T x).limit ≡ x.limit)
+  pub passed-stands : (x : PlainTask) → IsTask T x
+      → StandsFor T [] (passed T x) x × (moved T (passed T x) ≡ None) × IsTask T (passed T x) × ((passed T x).limit ≡ x.limit)
   passed-stands x there = let p = leads (suc x.node) x there in (p.stands, stops (suc x.node) x (omega arith), p.there, p.limit)
 
   -- More steps than the node's number make no difference.
@@ -49,7 +51,8 @@ module _ (T : Table) (range : IsInRange T) where
   same-end (suc n) zero x low few = absurd (omega (arith, few))
   same-end (suc n) (suc m) x low few = same-on n m (same-end n m) x low few (moved T x) refl
 
-  same-way-on : (n m : ℕ) → ((y : PlainTask) → y.node < n → y.node < m → passed_contexts T n y ≡ passed_contexts T m y) → (x : PlainTask) → x.node < suc n → x.node < suc m
+  same-way-on : (n m : ℕ) → ((y : PlainTask) → y.node < n → y.node < m → passed_contexts T n y ≡ passed_contexts T m y) → (x : PlainTask) → x.node < suc n
+      → x.node < suc m
       → (o : Option PlainTask) → moved T x ≡ o → on_with o [] (λ y. y.context ∷ passed_contexts T n y) ≡ on_with o [] (λ y. y.context ∷ passed_contexts T m y)
   same-way-on n m on x low few None e = refl
   same-way-on n m on x low few (Some y) e =
@@ -79,7 +82,8 @@ module _ (T : Table) (range : IsInRange T) where
   module _ (b : Elements) (m e : ℕ) where
     through : (x y : PlainTask) (c : Context) → Moves T y x → (c ≡ y.context) ⊎ In c (filter_map entered_of (visits_of T b m e y))
         → (c ≡ x.context) ⊎ In c (filter_map entered_of (visits_of T b m e x))
-    through x y c p (inl h) = elim (p.context b m e) [ inl s ↦ inl (h ∙ s) | inr i ↦ inr (subst (λ z. In z (filter_map entered_of (visits_of T b m e x))) (sym h) i) ]
+    through x y c p (inl h) = elim (p.context b m e)
+        [ inl s ↦ inl (h ∙ s) | inr i ↦ inr (subst (λ z. In z (filter_map entered_of (visits_of T b m e x))) (sym h) i) ]
     through x y c p (inr i) = inr (inside-read entered_of (visits_of T b m e y) (visits_of T b m e x) (p.visits b m e) c i)
 
     enters-on : (n : ℕ) → ((y : PlainTask) (c : Context) → In c (passed_contexts T n y) → (c ≡ y.context) ⊎ In c (filter_map entered_of (visits_of T b m e y)))
@@ -93,7 +97,8 @@ module _ (T : Table) (range : IsInRange T) where
     enters zero x c i = absurd i
     enters (suc n) x c i = enters-on n (enters n) x c (moved T x) refl i
 
-    pub passing-enters : (x : PlainTask) (steps : ℕ) (c : Context) → In c (passed_contexts T steps x) → (c ≡ x.context) ⊎ In c (filter_map entered_of (visits_of T b m e x))
+    pub passing-enters : (x : PlainTask) (steps : ℕ) (c : Context) → In c (passed_contexts T steps x)
+        → (c ≡ x.context) ⊎ In c (filter_map entered_of (visits_of T b m e x))
     passing-enters x steps c i = enters steps x c i
 
 -- Without its innermost frame, which is a frozen time, a context is that on which the time was frozen.

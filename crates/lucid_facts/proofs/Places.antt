@@ -27,7 +27,8 @@ place_in (t ∷ streams) zero s e = inl (ap (λ z. z.place) (sym (same_Some _ _ 
 place_in (t ∷ streams) (suc k) s e = inr (place_in streams k s e)
 
 -- Streams whose places all differ are of one number where they have one place,
-pub places_apart : (streams : List Stream) → AllDiffer (places_of streams) → (i k : ℕ) (s t : Stream) → slice_get streams i ≡ Some s → slice_get streams k ≡ Some t → s.place ≡ t.place → i ≡ k
+pub places_apart : (streams : List Stream) → AllDiffer (places_of streams) → (i k : ℕ) (s t : Stream) → slice_get streams i ≡ Some s
+    → slice_get streams k ≡ Some t → s.place ≡ t.place → i ≡ k
 places_apart [] differ i k s t e f same = absurd (none-some _ e)
 places_apart (x ∷ streams) differ zero zero s t e f same = refl
 places_apart (x ∷ streams) differ zero (suc k) s t e f same =
@@ -50,7 +51,8 @@ at_place_of (s ∷ streams) place (inr i) = let r = at_place_of streams place i 
 
 -- and the other way round.
 pub places_all_differ :
-    (streams : List Stream) → ((i k : ℕ) (s t : Stream) → slice_get streams i ≡ Some s → slice_get streams k ≡ Some t → s.place ≡ t.place → i ≡ k) → AllDiffer (places_of streams)
+    (streams : List Stream) → ((i k : ℕ) (s t : Stream) → slice_get streams i ≡ Some s → slice_get streams k ≡ Some t → s.place ≡ t.place → i ≡ k)
+    → AllDiffer (places_of streams)
 places_all_differ [] apart = tt
 places_all_differ (s ∷ streams) apart = (first, places_all_differ streams (λ i k t u e f same. omega (arith, apart (suc i) (suc k) t u e f same)))
   where
@@ -58,7 +60,8 @@ places_all_differ (s ∷ streams) apart = (first, places_all_differ streams (λ 
     first i = let r = at_place_of streams s.place i in let e = apart 0 (suc r.number) s r.stream refl r.there (sym r.is) in absurd (omega (arith, e))
 
 -- of two choices, each of which keeps a value
-chosen : (b : Bool) (o p q r : Option PlainValue) (v : PlainValue) → (o ≡ Some v → q ≡ Some v) → (p ≡ Some v → r ≡ Some v) → cond b o p ≡ Some v → cond b q r ≡ Some v
+chosen : (b : Bool) (o p q r : Option PlainValue) (v : PlainValue) → (o ≡ Some v → q ≡ Some v) → (p ≡ Some v → r ≡ Some v) → cond b o p ≡ Some v
+    → cond b q r ≡ Some v
 chosen true o p q r v f g e = f e
 chosen false o p q r v f g e = g e
 
@@ -75,7 +78,8 @@ read_extends (m ∷ names) (s ∷ old) (t ∷ new) same each n j v e =
     (read_extends names old new (omega (arith, same)) (λ k. each (suc k)) n j v) e
 
 -- A stream that is read on keeps each element. One whose end was met isn't read on, so its end of data stays.
-pub reads_on_keeps : (index : ℕ) (s t : Stream) (before after : World) → ReadsOn index s t before after → (j : ℕ) (v : PlainValue) → read_in s j ≡ Some v → read_in t j ≡ Some v
+pub reads_on_keeps : (index : ℕ) (s t : Stream) (before after : World) → ReadsOn index s t before after → (j : ℕ) (v : PlainValue) → read_in s j ≡ Some v
+    → read_in t j ≡ Some v
 reads_on_keeps index s t before after r j v e = by s.ended refl
   where
     open_end : (o : Option PlainValue) → or_end o s ≡ Some v → s.ended ≡ false → o ≡ Some v
@@ -84,12 +88,14 @@ reads_on_keeps index s t before after r j v e = by s.ended refl
 
     by : (b : Bool) → s.ended ≡ b → read_in t j ≡ Some v
     by true f = ap (λ z. read_in z j) (r.ended f) ∙ e
-    by false f = ap (λ o. or_end o t) (ap (λ es. slice_get es j) r.elements ∙ slice_get-append_left s.elements r.more j v (open_end (slice_get s.elements j) e f))
+    by false f = ap (λ o. or_end o t) (ap (λ es. slice_get es j) r.elements
+        ∙ slice_get-append_left s.elements r.more j v (open_end (slice_get s.elements j) e f))
 
 -- What was read stays read, where one stream is read on.
 pub reading_extends :
     (names : List (List ℕ)) (old new : List Stream) (number index : ℕ) (before after : World) → length new ≡ length old
-    → ((s t : Stream) → slice_get old number ≡ Some s → slice_get new number ≡ Some t → ReadsOn index s t before after) → ((k : ℕ) → k ≢ number → slice_get new k ≡ slice_get old k)
+    → ((s t : Stream) → slice_get old number ≡ Some s → slice_get new number ≡ Some t → ReadsOn index s t before after)
+    → ((k : ℕ) → k ≢ number → slice_get new k ≡ slice_get old k)
     → Extends (elements_read names old) (elements_read names new)
 reading_extends names old new number index before after same reads others = read_extends names old new same each
   where
@@ -101,7 +107,8 @@ reading_extends names old new number index before after same reads others = read
 
 -- The elements of a name are those that its stream has read, where no name stands twice.
 pub elements_at :
-    (names : List (List ℕ)) (streams : List Stream) (number : ℕ) (n : List ℕ) (s : Stream) → AllDiffer names → slice_get names number ≡ Some n → slice_get streams number ≡ Some s
+    (names : List (List ℕ)) (streams : List Stream) (number : ℕ) (n : List ℕ) (s : Stream) → AllDiffer names → slice_get names number ≡ Some n
+    → slice_get streams number ≡ Some s
     → (j : ℕ) → elements_read names streams n j ≡ read_in s j
 elements_at [] streams number n s differ e f j = absurd (none-some _ e)
 elements_at (m ∷ names) [] number n s differ e f j = absurd (none-some _ f)
@@ -123,16 +130,19 @@ gives_read s index v g = by (slice_get s.elements index) g
 
 -- So an element that a stream gives is among those read.
 pub reads_its_element :
-    (names : List (List ℕ)) (streams : List Stream) (number index : ℕ) (n : List ℕ) (s : Stream) (v : PlainValue) → AllDiffer names → slice_get names number ≡ Some n → slice_get streams number ≡ Some s
+    (names : List (List ℕ)) (streams : List Stream) (number index : ℕ) (n : List ℕ) (s : Stream) (v : PlainValue) → AllDiffer names
+    → slice_get names number ≡ Some n → slice_get streams number ≡ Some s
     → GivesElement s index v → elements_read names streams n index ≡ Some v
 reads_its_element names streams number index n s v differ e f g = elements_at names streams number n s differ e f index ∙ gives_read s index v g
 
 -- what a place tells of a stream that fits it extends what the stream has read
-told_extends_one : (s : Stream) (o : Option Contents) → MatchOption o (Unit {0}) (λ c. Fits s c) → (j : ℕ) (v : PlainValue) → read_in s j ≡ Some v → told_in s o j ≡ Some v
+told_extends_one : (s : Stream) (o : Option Contents) → MatchOption o (Unit {0}) (λ c. Fits s c) → (j : ℕ) (v : PlainValue) → read_in s j ≡ Some v
+    → told_in s o j ≡ Some v
 told_extends_one s None fits j v e = e
 told_extends_one s (Some c) fits j v e = by (slice_get s.elements j) (elements_fit s c fits j) e
   where
-    ended : (b : Bool) → s.ended ≡ b → (IsTrue s.ended → element (all_bytes c) j ≡ eod) → cond {A = Option PlainValue} b (Some eod) None ≡ Some v → ◌≡◌ {A = Option PlainValue} (Some (element (all_bytes c) j)) (Some v)
+    ended : (b : Bool) → s.ended ≡ b → (IsTrue s.ended → element (all_bytes c) j ≡ eod) → cond {A = Option PlainValue} b (Some eod) None ≡ Some v
+        → ◌≡◌ {A = Option PlainValue} (Some (element (all_bytes c) j)) (Some v)
     ended true f past h = ap Some (past f) ∙ h
     ended false f past h = absurd (none-some _ h)
 

@@ -8,7 +8,8 @@ at T x = record { node = node_of T x; context = x.context }
 
 -- A visited daton may be put with what answers the task with which it goes on.
 pub body-may_be_put : (d : Demand) (b : Elements) (h : Holding) (lost : ℕ) (k : DatonAt) (x : PlainTask) (v : PlainValue)
-    → daton_aim (equations_of (table_of d)) k.0 ≡ goes_to k.0 (at (table_of d) x) x.time → x.space ≡ k.1 → IsVisited d b k → Answers d b h lost x v → MayPut d b h lost k v
+    → daton_aim (equations_of (table_of d)) k.0 ≡ goes_to k.0 (at (table_of d) x) x.time → x.space ≡ k.1 → IsVisited d b k → Answers d b h lost x v
+    → MayPut d b h lost k v
 body-may_be_put d b h lost k x v aim space visited answers = record {
   means = record {
     position = at (table_of d) x;
@@ -26,7 +27,8 @@ body-may_be_put d b h lost k x v aim space visited answers = record {
 }
 
 -- What answers a row that remembers a daton may be put for it.
-pub remembered-is_put : (d : Demand) (b : Elements) (h : Holding) (lost : ℕ) (x : PlainTask) (k : DatonAt) (v : PlainValue) → Remembers d b x k → Answers d b h lost x v
+pub remembered-is_put : (d : Demand) (b : Elements) (h : Holding) (lost : ℕ) (x : PlainTask) (k : DatonAt) (v : PlainValue) → Remembers d b x k
+    → Answers d b h lost x v
     → MayPut d b h lost k v
 remembered-is_put d b h lost x k v m answers =
     body-may_be_put d b h lost k m.body v m.aim m.space m.visited

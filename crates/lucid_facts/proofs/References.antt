@@ -25,7 +25,8 @@ module _ (T : Table) (x body : PlainTask) (k : DatonAt) (g : GoesTo T x k body) 
   value-at b h l m =
       ap (λ r. node_hval (equations_of T) (given b h) m (node_of T body) body.context body.time r) g.same_space
       ∙ sym ((law.reference-value (equations_of T) (given b h) m (node_of T x) x.context x.time x.space k.0 position body.time g.aim).0
-      ∙ held-not (h k.0 x.space) (node_hval (equations_of T) (given b h) m (node_of T body) body.context body.time x.space) (ap (λ r. h k.0 r) (sym g.space) ∙ l k (inl refl)))
+      ∙ held-not (h k.0 x.space) (node_hval (equations_of T) (given b h) m (node_of T body) body.context body.time x.space)
+      (ap (λ r. h k.0 r) (sym g.space) ∙ l k (inl refl)))
 
   visits-at : (b : Elements) (m e : ℕ) → Inside (visits_of T b m e body) (visits_of T b (suc m) e x)
   visits-at b m e v i =
@@ -51,7 +52,8 @@ module _ (T : Table) (x body : PlainTask) (k : DatonAt) (g : GoesTo T x k body) 
   }
 
 -- A reference that goes on visits its daton, with each added number.
-pub reference-visits : (T : Table) (b : Elements) (e : ℕ) (x y : PlainTask) (k : DatonAt) → GoesTo T x k y → In k (filter_map reference_of (task_visits T b e x))
+pub reference-visits : (T : Table) (b : Elements) (e : ℕ) (x y : PlainTask) (k : DatonAt) → GoesTo T x k y
+    → In k (filter_map reference_of (task_visits T b e x))
 reference-visits T b e x y k g =
     let at : NodePosition = record { node = node_of T y; context = y.context } in
     in_read reference_of (referred k.0 at y.time x.space) k (task_visits T b e x) (ap (λ s. Some (k.0, s)) (sym g.space))
@@ -63,10 +65,12 @@ pub call-enters : (T : Table) (b : Elements) (m e : ℕ) (x : PlainTask) (n at l
     → In k.0.context (filter_map entered_of (visits_of T b m e x))
 call-enters T b m e x n at l k h r =
     subst (λ z. In k.0.context (filter_map entered_of (node_visits (equations_of T) b m e z x.context x.time x.space))) (sym h)
-    (calls-enter (equations_of T) b m e n at l x.context x.time x.space k.0 r.position r.time (subst (λ z. node_aim (equations_of T) z x.context x.time ≡ goes_to k.0 r.position r.time) h r.aim))
+    (calls-enter (equations_of T) b m e n at l x.context x.time x.space k.0 r.position r.time
+    (subst (λ z. node_aim (equations_of T) z x.context x.time ≡ goes_to k.0 r.position r.time) h r.aim))
 
 -- An input that may read looks its element up.
-pub input-consults : (T : Table) (b : Elements) (e : ℕ) (x : PlainTask) (n : List ℕ) (j : ℕ) → MayRead T x n j → In (n, j) (filter_map look_up_of (task_visits T b e x))
+pub input-consults : (T : Table) (b : Elements) (e : ℕ) (x : PlainTask) (n : List ℕ) (j : ℕ) → MayRead T x n j
+    → In (n, j) (filter_map look_up_of (task_visits T b e x))
 input-consults T b e x n j r = go x.limit r.deep
   where
     go : (m : ℕ) → 0 < m → In (n, j) (filter_map look_up_of (visits_of T b m e x))

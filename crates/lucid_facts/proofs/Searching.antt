@@ -22,7 +22,8 @@ nothing_got i v e = cc
 
 -- A row at another cursor, with nothing got, has its facts where its search has those of the cursor.
 pub at_cursor-facts : (d : Demand) (b : Elements) (h : Holding) (lost : ℕ) (r : PlainRow) (c : Cursor) → RowFacts d b h lost r
-    → ((f : Head) (es : PlainNodes) (stream : ℕ) → node_of (table_of d) r.task ≡ row f es → is_search f ≡ true → part_number (table_of d) r.task.node 1 ≡ Some stream
+    → ((f : Head) (es : PlainNodes) (stream : ℕ) → node_of (table_of d) r.task ≡ row f es → is_search f ≡ true
+    → part_number (table_of d) r.task.node 1 ≡ Some stream
     → SearchFacts d b h lost (at_cursor c r) f stream)
     → RowFacts d b h lost (at_cursor c r)
 at_cursor-facts d b h lost r c f search = record {
@@ -71,7 +72,8 @@ stream_part T r f es stream j x e s p one (part_by_look {f = g} {es = gs} {l = l
 stream_part T r f es stream j x e s p one (part_by_reference k o) = absurd (cc)
 
 -- a count that goes on by a truth
-on_by_truth : (o : Option ℕ) (v : Option PlainValue) (c : Cursor) (seen : Bool) → o ≡ Some c.count → v ≡ Some (truth seen) → count_on o v ≡ Some (looked_on c seen).count
+on_by_truth : (o : Option ℕ) (v : Option PlainValue) (c : Cursor) (seen : Bool) → o ≡ Some c.count → v ≡ Some (truth seen)
+    → count_on o v ≡ Some (looked_on c seen).count
 on_by_truth o v c true p q = rw (p, q) refl
 on_by_truth o v c false p q = rw (p, q) refl
 
@@ -81,7 +83,8 @@ one_on c false = refl
 
 counted_further : (f : ℕ → Option PlainValue) (c : Cursor) (seen : Bool) → count_below f c.time ≡ Some c.count → f c.time ≡ Some (truth seen)
     → count_below f (looked_on c seen).time ≡ Some (looked_on c seen).count
-counted_further f c seen p q = subst (λ t. count_below f t ≡ Some (looked_on c seen).count) (sym (one_on c seen)) (on_by_truth (count_below f c.time) (f c.time) c seen p q)
+counted_further f c seen p q = subst (λ t. count_below f t ≡ Some (looked_on c seen).count) (sym (one_on c seen))
+    (on_by_truth (count_below f c.time) (f c.time) c seen p q)
 
 -- one more truth is counted by the greater of two limits
 counted_more : (p : Equations) (b : Elements) (e : PlainNode) (c : Context) (s : ℕ) (at : Cursor) (seen : Bool) → Counted p b e c s at.time at.count
@@ -102,17 +105,21 @@ moved-facts d b h lost r seen facts may = at_cursor-facts d b h lost r (looked_o
     part : PartAnswers d b h lost r 1 (truth seen)
     part = facts.got_parts 1 (truth seen) may.value
 
-    on : (f : Head) (es : PlainNodes) (stream : ℕ) → node_of (table_of d) r.task ≡ row f es → is_search f ≡ true → part_number (table_of d) r.task.node 1 ≡ Some stream
+    on : (f : Head) (es : PlainNodes) (stream : ℕ) → node_of (table_of d) r.task ≡ row f es → is_search f ≡ true
+        → part_number (table_of d) r.task.node 1 ≡ Some stream
         → SearchFacts d b h lost (at_cursor (looked_on r.cursor seen) r) f stream
     on f es stream e s p = record {
-      counted = counted_more (equations_of (table_of d)) b (node_at (table_of d) stream) r.task.context r.task.space r.cursor seen old.counted answers.means.0 answers.means.1;
-      exact = λ empties. counted_further (λ u. node_val (equations_of (table_of d)) b r.task.limit (node_at (table_of d) stream) r.task.context u r.task.space) r.cursor seen
+      counted = counted_more (equations_of (table_of d)) b (node_at (table_of d) stream) r.task.context r.task.space r.cursor seen old.counted answers.means.0
+          answers.means.1;
+      exact = λ empties. counted_further (λ u. node_val (equations_of (table_of d)) b r.task.limit (node_at (table_of d) stream) r.task.context u r.task.space)
+          r.cursor seen
           (old.exact empties) (answers.exact empties);
       kept = λ keeps none u lt. kept keeps none u (elim (cases_lt u r.cursor.time) [
         | inl l ↦ inl l
         | inr l ↦ inr (let le : u < suc r.cursor.time = subst (λ t. u < t) (one_on r.cursor seen) lt in let z : u ≡ r.cursor.time = omega (arith, l, le) in z)
       ]);
-      within = subst (λ g. CanStandAt g (looked_on r.cursor seen).time (looked_on r.cursor seen).count r.task.time) same (may.within (subst (λ g. CanStandAt g r.cursor.time r.cursor.count r.task.time) (sym same) old.within));
+      within = subst (λ g. CanStandAt g (looked_on r.cursor seen).time (looked_on r.cursor seen).count r.task.time) same
+          (may.within (subst (λ g. CanStandAt g r.cursor.time r.cursor.count r.task.time) (sym same) old.within));
     }
       where
         old : SearchFacts d b h lost r f stream
@@ -127,16 +134,21 @@ moved-facts d b h lost r seen facts may = at_cursor-facts d b h lost r (looked_o
         kept : IsTrue d.first.keeps → lost ≡ 0 → (u : ℕ) → (u < r.cursor.time) ⊎ (u ≡ r.cursor.time)
             → NeedsHeld (equations_of (table_of d)) b h (node_at (table_of d) stream) r.task.context u r.task.space
         kept keeps none u (inl lt) = old.kept keeps none u lt
-        kept keeps none u (inr z) = subst (λ t. NeedsHeld (equations_of (table_of d)) b h (node_at (table_of d) stream) r.task.context t r.task.space) (sym z) (answers.kept keeps none)
+        kept keeps none u (inr z) = subst (λ t. NeedsHeld (equations_of (table_of d)) b h (node_at (table_of d) stream) r.task.context t r.task.space) (sym z)
+            (answers.kept keeps none)
 
 -- A search that begins where one stood has its facts, past its own limit too. Under a policy that empties none is noted.
-pub begun-facts : (d : Demand) (b : Elements) (known : List Context) (h : Holding) (lost : ℕ) (noted : Noted) (r : PlainRow) (f : Head) (es : PlainNodes) (tag : Tag) (key number : ℕ)
+pub begun-facts : (d : Demand) (b : Elements) (known : List Context) (h : Holding) (lost : ℕ) (noted : Noted) (r : PlainRow) (f : Head) (es : PlainNodes)
+    (tag : Tag) (key number : ℕ)
     → StockFacts d b known h lost noted → (IsTrue d.first.empties → ⊥) → RowFacts d b h lost r → node_of (table_of d) r.task ≡ row f es → is_search f ≡ true
     → context_of known tag ≡ r.task.context → space_of tag ≡ r.task.space → number_at noted r.task.node tag key ≡ Some number
-    → CanStandAt f (cursor_noted f key number).time (cursor_noted f key number).count r.task.time → RowFacts d b h lost (at_cursor (cursor_noted f key number) r)
-begun-facts d b known h lost noted r f es tag key number stock not_emptying facts e s c sp n within = at_cursor-facts d b h lost r (cursor_noted f key number) facts on
+    → CanStandAt f (cursor_noted f key number).time (cursor_noted f key number).count r.task.time
+    → RowFacts d b h lost (at_cursor (cursor_noted f key number) r)
+begun-facts d b known h lost noted r f es tag key number stock not_emptying facts e s c sp n within =
+    at_cursor-facts d b h lost r (cursor_noted f key number) facts on
   where
-    on : (g : Head) (gs : PlainNodes) (stream : ℕ) → node_of (table_of d) r.task ≡ row g gs → is_search g ≡ true → part_number (table_of d) r.task.node 1 ≡ Some stream
+    on : (g : Head) (gs : PlainNodes) (stream : ℕ) → node_of (table_of d) r.task ≡ row g gs → is_search g ≡ true
+        → part_number (table_of d) r.task.node 1 ≡ Some stream
         → SearchFacts d b h lost (at_cursor (cursor_noted f key number) r) g stream
     on g gs stream q t p = record {
       counted = there;
@@ -156,10 +168,15 @@ begun-facts d b known h lost noted r f es tag key number stock not_emptying fact
         same_stream : x.stream ≡ stream
         same_stream = let z : Some x.stream ≡ Some stream = sym x.part ∙ p in cc
 
-        there : Counted (equations_of (table_of d)) b (node_at (table_of d) stream) r.task.context r.task.space (cursor_noted f key number).time (cursor_noted f key number).count
+        there : Counted (equations_of (table_of d)) b (node_at (table_of d) stream) r.task.context r.task.space (cursor_noted f key number).time
+            (cursor_noted f key number).count
         there =
-            subst (λ y. Counted (equations_of (table_of d)) b (node_at (table_of d) stream) r.task.context y (cursor_noted f key number).time (cursor_noted f key number).count) sp
-            (subst (λ y. Counted (equations_of (table_of d)) b (node_at (table_of d) stream) y (space_of tag) (cursor_noted f key number).time (cursor_noted f key number).count) c
-            (subst (λ y. Counted (equations_of (table_of d)) b (node_at (table_of d) y) (context_of known tag) (space_of tag) (cursor_noted f key number).time (cursor_noted f key number).count) same_stream
-            (subst (λ y. Counted (equations_of (table_of d)) b (node_at (table_of d) x.stream) (context_of known tag) (space_of tag) (cursor_noted y key number).time (cursor_noted y key number).count) same_form
+            subst (λ y. Counted (equations_of (table_of d)) b (node_at (table_of d) stream) r.task.context y (cursor_noted f key number).time
+            (cursor_noted f key number).count) sp
+            (subst (λ y. Counted (equations_of (table_of d)) b (node_at (table_of d) stream) y (space_of tag) (cursor_noted f key number).time
+            (cursor_noted f key number).count) c
+            (subst (λ y. Counted (equations_of (table_of d)) b (node_at (table_of d) y) (context_of known tag) (space_of tag) (cursor_noted f key number).time
+            (cursor_noted f key number).count) same_stream
+            (subst (λ y. Counted (equations_of (table_of d)) b (node_at (table_of d) x.stream) (context_of known tag) (space_of tag)
+            (cursor_noted y key number).time (cursor_noted y key number).count) same_form
             x.counted)))

@@ -15,7 +15,8 @@ task_as_tags_grow old new x k known = ap (λ c. record (plain_task old x) { cont
 pub key_as_tags_grow : (old new : List Context) (x : Key) → KeepsKnown old new → IsKnown old x.tag → plain_key new x ≡ plain_key old x
 key_as_tags_grow old new x k known = ap (λ c. (record ((plain_key old x).0) { context = c }, (plain_key old x).1)) (k.same x.tag known)
 
-keys_as_tags_grow : (old new : List Context) (o : Option Key) → KeepsKnown old new → IfSome o (λ x. IsKnown old x.tag) → option_map (plain_key new) o ≡ option_map (plain_key old) o
+keys_as_tags_grow : (old new : List Context) (o : Option Key) → KeepsKnown old new → IfSome o (λ x. IsKnown old x.tag)
+    → option_map (plain_key new) o ≡ option_map (plain_key old) o
 keys_as_tags_grow old new None k known = refl
 keys_as_tags_grow old new (Some x) k known = ap Some (key_as_tags_grow old new x k known)
 
@@ -57,7 +58,8 @@ pub plain_got : (known : List Context) (rs : List (Option TaskRow)) (slot index 
 plain_got known rs slot index = go (row_at rs slot)
   where
     go : (o : Option TaskRow)
-        → option_map plain (option_and_then rows.got_value (option_map (rows.state_at index) o)) ≡ option_and_then (λ r. value_of_part r index) (option_map (plain_row known) o)
+        → option_map plain (option_and_then rows.got_value (option_map (rows.state_at index) o)) ≡ option_and_then (λ r. value_of_part r index)
+        (option_map (plain_row known) o)
     go None = refl
     go (Some r) = sym (ap value_in (plain_at r.parts index) ∙ plain_value (slice_index_or r.parts index Idle))
 
@@ -67,7 +69,8 @@ plain_idle_state (Asked slot) e = absurd (cc)
 plain_idle_state (Got v) e = absurd (cc)
 
 -- a part is idle where the plain row's part is
-pub plain_idle : (known : List Context) (rs : List (Option TaskRow)) (part : Part) (r : PlainRow) → plain_rows known rs part.slot ≡ Some r → state_at r.parts part.index ≡ idle
+pub plain_idle : (known : List Context) (rs : List (Option TaskRow)) (part : Part) (r : PlainRow) → plain_rows known rs part.slot ≡ Some r
+    → state_at r.parts part.index ≡ idle
     → rows.state_of rs part ≡ Some Idle
 plain_idle known rs part r at free = go (row_at rs part.slot) at
   where
@@ -75,4 +78,5 @@ plain_idle known rs part r at free = go (row_at rs part.slot) at
     go None e = absurd (cc)
     go (Some s) e =
         let same : plain_row known s ≡ r = cc in
-        ap Some (plain_idle_state (slice_index_or s.parts part.index Idle) (sym (plain_at s.parts part.index) ∙ ap (λ x. state_at x.parts part.index) same ∙ free))
+        ap Some (plain_idle_state (slice_index_or s.parts part.index Idle)
+        (sym (plain_at s.parts part.index) ∙ ap (λ x. state_at x.parts part.index) same ∙ free))

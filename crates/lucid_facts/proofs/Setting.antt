@@ -20,8 +20,10 @@ set_state (p ∷ ps) zero y l = refl
 set_state (p ∷ ps) (suc i) y l = set_state ps i y (omega (arith, l))
 
 -- A part of a row is set that is no row's, and that isn't got: the facts of the other rows stay.
-module _ (d : Demand) (now : Elements) (h : Holding) (lost : ℕ) (old new : PlainRows) (slot i : ℕ) (p : PlainRow) (y : PartState) (w : Work d now h lost old) (at : old slot ≡ Some p)
-    (unset : (v : PlainValue) → state_at p.parts i ≡ got v → ⊥) (alone : (q : ℕ) (c : PlainRow) → old q ≡ Some c → c.parent ≡ Some (record { slot = slot; index = i }) → ⊥)
+module _ (d : Demand) (now : Elements) (h : Holding) (lost : ℕ) (old new : PlainRows) (slot i : ℕ) (p : PlainRow) (y : PartState) (w : Work d now h lost old)
+    (at : old slot ≡ Some p)
+    (unset : (v : PlainValue) → state_at p.parts i ≡ got v → ⊥)
+    (alone : (q : ℕ) (c : PlainRow) → old q ≡ Some c → c.parent ≡ Some (record { slot = slot; index = i }) → ⊥)
     (facts : (b : Elements) → Extends now b → RowFacts d b h lost (with_part i y p)) (sets : SetsRow old new slot (Some (with_part i y p))) where
   elsewhere : (q : ℕ) → (q ≡ slot → ⊥) → new q ≡ old q
   elsewhere q n = sets q ∙ at_another q slot (Some (with_part i y p)) (old q) n
@@ -43,20 +45,31 @@ module _ (d : Demand) (now : Elements) (h : Holding) (lost : ℕ) (old new : Pla
         stands = s.stands;
       }
 
-  serves_set : (q : ℕ) (c : PlainRow) (part : Part) → old q ≡ Some c → c.parent ≡ Some part → (part.slot ≡ slot) ⊎ (part.slot ≡ slot → ⊥) → Serves d old q c part → Serves d new q c part
+  serves_set : (q : ℕ) (c : PlainRow) (part : Part) → old q ≡ Some c → c.parent ≡ Some part → (part.slot ≡ slot) ⊎ (part.slot ≡ slot → ⊥)
+      → Serves d old q c part → Serves d new q c part
   serves_set q c part was up (inl e) s =
-      serves_beside q c part e (λ f. alone q c was (up ∙ ap (λ z. Some (record { slot = z; index = part.index })) e ∙ ap (λ z. Some (record { slot = slot; index = z })) f)) s
+      serves_beside q c part e (λ f. alone q c was (up ∙ ap (λ z. Some (record { slot = z; index = part.index })) e
+      ∙ ap (λ z. Some (record { slot = slot; index = z })) f)) s
   serves_set q c part was up (inr n) s = serves_there d old new q c part (elsewhere part.slot n) s
 
   links_kept : (q : ℕ) (c : PlainRow) → old q ≡ Some c → Links d new q c
-  links_kept q c was = let l = w.links q c was in record { root = l.root; serves = λ part up. serves_set q c part was up (cases_eq part.slot slot) (l.serves part up) }
+  links_kept q c was = let l = w.links q c was in
+      record { root = l.root; serves = λ part up. serves_set q c part was up (cases_eq part.slot slot) (l.serves part up) }
 
   -- the row whose part is set is linked as it was
   links_changed : Links d new slot p → Links d new slot (with_part i y p)
   links_changed l = record { root = l.root; serves = λ part up. again part (l.serves part up) }
     where
       again : (part : Part) → Serves d new slot p part → Serves d new slot (with_part i y p) part
-      again part s = record { parent = s.parent; there = s.there; asked_it = s.asked_it; older = s.older; task = s.task; is_part = s.is_part; stands = s.stands }
+      again part s = record {
+        parent = s.parent;
+        there = s.there;
+        asked_it = s.asked_it;
+        older = s.older;
+        task = s.task;
+        is_part = s.is_part;
+        stands = s.stands;
+      }
 
   each : (q : ℕ) (c : PlainRow) → new q ≡ Some c → (q ≡ slot) ⊎ (q ≡ slot → ⊥) → (b : Elements) → Extends now b → RowFacts d b h lost c
   each q c e (inl s) = subst (λ z. (b : Elements) → Extends now b → RowFacts d b h lost z) (one_row (new q) (with_part i y p) c (here q s) e) facts
@@ -64,14 +77,20 @@ module _ (d : Demand) (now : Elements) (h : Holding) (lost : ℕ) (old new : Pla
 
   links : (q : ℕ) (c : PlainRow) → new q ≡ Some c → (q ≡ slot) ⊎ (q ≡ slot → ⊥) → Links d new q c
   links q c e (inl s) =
-      subst (λ z. Links d new q z) (one_row (new q) (with_part i y p) c (here q s) e) (subst (λ z. Links d new z (with_part i y p)) (sym s) (links_changed (links_kept slot p at)))
+      subst (λ z. Links d new q z) (one_row (new q) (with_part i y p) c (here q s) e)
+      (subst (λ z. Links d new z (with_part i y p)) (sym s) (links_changed (links_kept slot p at)))
   links q c e (inr n) = links_kept q c (sym (elsewhere q n) ∙ e)
 
   pub work_part : Work d now h lost new
-  work_part = record { each = λ q c e. each q c e (cases_eq q slot); links = λ q c e. links q c e (cases_eq q slot); some = (slot, with_part i y p, here slot refl) }
+  work_part = record {
+    each = λ q c e. each q c e (cases_eq q slot);
+    links = λ q c e. links q c e (cases_eq q slot);
+    some = (slot, with_part i y p, here slot refl);
+  }
 
 -- A part that is idle is no row's.
-idle_is_alone : (d : Demand) (now : Elements) (h : Holding) (lost : ℕ) (old : PlainRows) (slot i : ℕ) (p : PlainRow) → Work d now h lost old → old slot ≡ Some p → state_at p.parts i ≡ idle
+idle_is_alone : (d : Demand) (now : Elements) (h : Holding) (lost : ℕ) (old : PlainRows) (slot i : ℕ) (p : PlainRow) → Work d now h lost old → old slot ≡ Some p
+    → state_at p.parts i ≡ idle
     → (q : ℕ) (c : PlainRow) → old q ≡ Some c → c.parent ≡ Some (record { slot = slot; index = i }) → ⊥
 idle_is_alone d now h lost old slot i p w at free q c e up =
     let s = (w.links q c e).serves (record { slot = slot; index = i }) up in
@@ -83,8 +102,10 @@ idle_is_unset : (p : PlainRow) (i : ℕ) → state_at p.parts i ≡ idle → (v 
 idle_is_unset p i free v e = let both : idle ≡ got v = sym free ∙ e in absurd (cc)
 
 -- A part gets a value without a row.
-pub work_gives : (d : Demand) (now : Elements) (h : Holding) (lost : ℕ) (old new : PlainRows) (slot i : ℕ) (r : PlainRow) (v : PlainValue) → Work d now h lost old → old slot ≡ Some r
-    → state_at r.parts i ≡ idle → i < 3 → ((b : Elements) → Extends now b → PartAnswers d b h lost r i v) → ChangesRow old new slot (with_part i (got v)) → Work d now h lost new
+pub work_gives : (d : Demand) (now : Elements) (h : Holding) (lost : ℕ) (old new : PlainRows) (slot i : ℕ) (r : PlainRow) (v : PlainValue)
+    → Work d now h lost old → old slot ≡ Some r
+    → state_at r.parts i ≡ idle → i < 3 → ((b : Elements) → Extends now b → PartAnswers d b h lost r i v) → ChangesRow old new slot (with_part i (got v))
+    → Work d now h lost new
 work_gives d now h lost old new slot i r v w at free few answers changes =
     let unset = idle_is_unset r i free in
     work_part d now h lost old new slot i r (got v) w at unset (idle_is_alone d now h lost old slot i r w at free)
@@ -99,8 +120,10 @@ past_is_none rows slot past = go (rows slot) refl
     go (Some c) e = let l = past slot (subst (λ o. IsSome o) (sym e) refl) in absurd (omega (arith, l))
 
 -- A part is asked, by a task that stands for it.
-pub work_asks : (d : Demand) (now : Elements) (h : Holding) (lost : ℕ) (old new : PlainRows) (part : Part) (slot : ℕ) (r : PlainRow) (x : PlainTask) (key : Option DatonAt) → Work d now h lost old → old part.slot ≡ Some r
-    → state_at r.parts part.index ≡ idle → part.index < 3 → AsksFor (table_of d) r part.index x key → ((b : Elements) → Extends now b → RowFacts d b h lost (new_row x (Some part) key))
+pub work_asks : (d : Demand) (now : Elements) (h : Holding) (lost : ℕ) (old new : PlainRows) (part : Part) (slot : ℕ) (r : PlainRow) (x : PlainTask)
+    (key : Option DatonAt) → Work d now h lost old → old part.slot ≡ Some r
+    → state_at r.parts part.index ≡ idle → part.index < 3 → AsksFor (table_of d) r part.index x key
+    → ((b : Elements) → Extends now b → RowFacts d b h lost (new_row x (Some part) key))
     → ((q : ℕ) → IsSome (old q) → q < slot) → AsksRow old new (Some part) slot x key → Work d now h lost new
 work_asks d now h lost old new part slot r x key w at free few asks facts past changes =
     work_sets d now h lost mid waiting new slot (Some child) (none_is_no_parent d now h lost mid waiting slot unused)
@@ -118,14 +141,16 @@ work_asks d now h lost old new part slot r x key w at free few asks facts past c
 
     waiting : Work d now h lost mid
     waiting =
-        work_part d now h lost old mid part.slot part.index r (asked slot) w at (idle_is_unset r part.index free) (idle_is_alone d now h lost old part.slot part.index r w at free)
+        work_part d now h lost old mid part.slot part.index r (asked slot) w at (idle_is_unset r part.index free)
+        (idle_is_alone d now h lost old part.slot part.index r w at free)
         (λ b z. part-asked d b h lost r part.index slot (w.each part.slot r at b z) free) (λ q. refl)
 
     older : part.slot < slot
     older = past part.slot (subst (λ o. IsSome o) (sym at) refl)
 
     unused : mid slot ≡ None
-    unused = at_another slot part.slot (Some (with_part part.index (asked slot) r)) (old slot) (λ e. absurd (omega (arith, older, e))) ∙ past_is_none old slot past
+    unused = at_another slot part.slot (Some (with_part part.index (asked slot) r)) (old slot) (λ e. absurd (omega (arith, older, e)))
+        ∙ past_is_none old slot past
 
     same : (c : PlainRow) → Some child ≡ Some c → child ≡ c
     same c e = cc

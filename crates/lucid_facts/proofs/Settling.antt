@@ -27,7 +27,8 @@ in_keys (Some m) k (inl e) = ap Some (sym e)
 in_keys (Some m) k (inr i) = absurd i
 
 -- A ready row settles for a part of another. What it remembered is held by then, or was lost.
-pub work_settles : (d : Demand) (now : Elements) (h : Holding) (lost : ℕ) (old new : PlainRows) (slot : ℕ) (r : PlainRow) (part : Part) (v : PlainValue) → Work d now h lost old → old slot ≡ Some r
+pub work_settles : (d : Demand) (now : Elements) (h : Holding) (lost : ℕ) (old new : PlainRows) (slot : ℕ) (r : PlainRow) (part : Part) (v : PlainValue)
+    → Work d now h lost old → old slot ≡ Some r
     → waits_for_none r ≡ true → r.parent ≡ Some part → ((b : Elements) → Extends now b → Answers d b h lost r.task v)
     → (IsTrue d.first.keeps → lost ≡ 0 → (k : DatonAt) → r.key ≡ Some k → IsSome (h k.0 k.1)) → SettlesRow old new slot r v → Work d now h lost new
 work_settles d now h lost old new slot r part v w at ready up answers kept settles =
@@ -58,7 +59,8 @@ work_settles d now h lost old new slot r part v w at ready up answers kept settl
     alone q c e o =
         let s = (gone.links q c e).serves part o in
         let same : s.parent ≡ serves.parent = one_row (mid part.slot) s.parent serves.parent s.there parent_there in
-        let here : q ≡ slot = one_asked q slot (state_at serves.parent.parts part.index) (ap (λ z. state_at z.parts part.index) (sym same) ∙ s.asked_it) serves.asked_it in
+        let here : q ≡ slot = one_asked q slot (state_at serves.parent.parts part.index) (ap (λ z. state_at z.parts part.index) (sym same) ∙ s.asked_it)
+        serves.asked_it in
         let both : None ≡ Some c = sym (at_it q slot None (old q) here) ∙ e in
         absurd (cc)
 
@@ -72,8 +74,10 @@ work_settles d now h lost old new slot r part v w at ready up answers kept settl
         })
 
 -- A row without a parent settles: its value answers the root.
-pub root_settles : (d : Demand) (now : Elements) (h : Holding) (lost : ℕ) (rows : PlainRows) (slot : ℕ) (r : PlainRow) (v : PlainValue) → Work d now h lost rows → rows slot ≡ Some r
-    → r.parent ≡ None → (b : Elements) → Extends now b → Answers d b h lost r.task v → (IsTrue d.first.keeps → lost ≡ 0 → (k : DatonAt) → r.key ≡ Some k → IsSome (h k.0 k.1))
+pub root_settles : (d : Demand) (now : Elements) (h : Holding) (lost : ℕ) (rows : PlainRows) (slot : ℕ) (r : PlainRow) (v : PlainValue) → Work d now h lost rows
+    → rows slot ≡ Some r
+    → r.parent ≡ None → (b : Elements) → Extends now b → Answers d b h lost r.task v
+    → (IsTrue d.first.keeps → lost ≡ 0 → (k : DatonAt) → r.key ≡ Some k → IsSome (h k.0 k.1))
     → Answers d b h lost d.root v
 root_settles d now h lost rows slot r v w at up b x answers kept =
     standing-answers d b h lost (key_list r.key) r.task d.root v ((w.links slot r at).root up) (λ k z i m. kept k z i (in_keys r.key i m)) answers

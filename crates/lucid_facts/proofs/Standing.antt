@@ -42,11 +42,13 @@ nothing-lacks : (ks : List DatonAt) → Lacks (λ k s. None) ks
 nothing-lacks ks k i = refl
 
 -- What a task means, the task for which it stands means.
-pub standing-means : (T : Table) (b : Elements) (ks : List DatonAt) (x y : PlainTask) (v : PlainValue) → StandsFor T ks x y → TaskMeans T b x v → TaskMeans T b y v
+pub standing-means : (T : Table) (b : Elements) (ks : List DatonAt) (x y : PlainTask) (v : PlainValue) → StandsFor T ks x y → TaskMeans T b x v
+    → TaskMeans T b y v
 standing-means T b ks x y v p h = (higher p.fewer h.0, sym (p.values b (λ k s. None) (nothing-lacks ks) h.0) ∙ h.1)
 
 -- An answer of a task answers the task for which it stands, where the datons on the way are held.
-pub standing-answers : (d : Demand) (b : Elements) (h : Holding) (lost : ℕ) (ks : List DatonAt) (x y : PlainTask) (v : PlainValue) → StandsFor (table_of d) ks x y
+pub standing-answers : (d : Demand) (b : Elements) (h : Holding) (lost : ℕ) (ks : List DatonAt) (x y : PlainTask) (v : PlainValue)
+    → StandsFor (table_of d) ks x y
     → (IsTrue d.first.keeps → lost ≡ 0 → (k : DatonAt) → In k ks → IsSome (h k.0 k.1)) → Answers d b h lost x v → Answers d b h lost y v
 standing-answers d b h lost ks x y v p held a = record {
   means = standing-means (table_of d) b ks x y v p a.means;
@@ -59,7 +61,8 @@ standing-answers d b h lost ks x y v p held a = record {
     go e z k (inr n) = a.kept e z k n
 
 -- Where a task's own approximation is defined, and none of the datons on the way is held, so is that of the task that stands for it.
-pub standing-is_defined : (T : Table) (b : Elements) (h : Holding) (ks : List DatonAt) (x y : PlainTask) → Lacks h ks → StandsFor T ks x y → IsDefined T b h y → IsDefined T b h x
+pub standing-is_defined : (T : Table) (b : Elements) (h : Holding) (ks : List DatonAt) (x y : PlainTask) → Lacks h ks → StandsFor T ks x y → IsDefined T b h y
+    → IsDefined T b h x
 standing-is_defined T b h ks x y l p g = (g.0, p.values b h l x.limit ∙ ap (λ n. hval_of T b h n y) (sym p.limit) ∙ g.1)
 
 -- What the root sees of a task, it sees of the task that stands for it.

@@ -48,7 +48,8 @@ needs_more p b h g more x u s n k i = more k (n k i)
 
 -- The value of a daton is put, where it means it, is visited, and all that it needs is held.
 pub stock_puts :
-    (d : Demand) (b : Elements) (known : List Context) (h g : Holding) (lost : ℕ) (noted : Noted) (k : DatonAt) (v : PlainValue) → StockFacts d b known h lost noted
+    (d : Demand) (b : Elements) (known : List Context) (h g : Holding) (lost : ℕ) (noted : Noted) (k : DatonAt) (v : PlainValue)
+    → StockFacts d b known h lost noted
     → MayPut d b h lost k v → PutsDaton h g k v
     → StockFacts d b known g lost noted × (IsSome (g k.0 k.1)) × ((q : DatonAt) → IsSome (h q.0 q.1) → IsSome (g q.0 q.1))
 stock_puts d b known h g lost noted k v f m puts = (facts, ap is_some (put_here h g k v puts), more)
@@ -58,7 +59,8 @@ stock_puts d b known h g lost noted k v f m puts = (facts, ap is_some (put_here 
 
     right : (q : DatonAt) (w : PlainValue) → g q.0 q.1 ≡ Some w → DatonMeans (equations_of (table_of d)) b (q.0, q.1) w
     right q w e = elim (put_cases h g k v puts q) [
-      | inl c ↦ let same : v ≡ w = some_once (sym c.1 ∙ e) in subst (λ z. DatonMeans (equations_of (table_of d)) b (q.0, q.1) z) same (subst (λ z. DatonMeans (equations_of (table_of d)) b z v) c.0 m.means)
+      | inl c ↦ let same : v ≡ w = some_once (sym c.1 ∙ e) in
+          subst (λ z. DatonMeans (equations_of (table_of d)) b (q.0, q.1) z) same (subst (λ z. DatonMeans (equations_of (table_of d)) b z v) c.0 m.means)
       | inr c ↦ f.right q.0 q.1 w (sym c ∙ e)
     ]
       where
@@ -67,7 +69,8 @@ stock_puts d b known h g lost noted k v f m puts = (facts, ap is_some (put_here 
 
     kept : (q : DatonAt) (w : PlainValue) → stays d q.0 q.1 ≡ Some w → g q.0 q.1 ≡ Some w
     kept q w e = elim (put_cases h g k v puts q) [
-      | inl c ↦ c.1 ∙ ap Some (datons_mean_once (equations_of (table_of d)) b (q.0, q.1) v w (subst (λ z. DatonMeans (equations_of (table_of d)) b z v) c.0 m.means) (f.right q.0 q.1 w (f.stays q.0 q.1 w e)))
+      | inl c ↦ c.1 ∙ ap Some (datons_mean_once (equations_of (table_of d)) b (q.0, q.1) v w
+          (subst (λ z. DatonMeans (equations_of (table_of d)) b z v) c.0 m.means) (f.right q.0 q.1 w (f.stays q.0 q.1 w e)))
       | inr c ↦ c ∙ f.stays q.0 q.1 w e
     ]
 
@@ -91,7 +94,8 @@ stock_puts d b known h g lost noted k v f m puts = (facts, ap is_some (put_here 
       traced = λ q s i. traced (q, s) i;
       closed = closed;
       noted_right = f.noted_right;
-      noted_closed = λ keeps z node tag key number e form nodes is stream part u lt q n. more q (f.noted_closed keeps z node tag key number e form nodes is stream part u lt q n);
+      noted_closed = λ keeps z node tag key number e form nodes is stream part u lt q n.
+          more q (f.noted_closed keeps z node tag key number e form nodes is stream part u lt q n);
       contexts = f.contexts;
     }
 
@@ -109,9 +113,11 @@ stays_held d h g was same k s v e =
 
 -- Values are dropped, by a policy's turn or for want of memory, and with them noted positions.
 pub stock_drops :
-    (d : Demand) (b : Elements) (known : List Context) (h g : Holding) (lost more : ℕ) (noted fewer : Noted) → StockFacts d b known h lost noted → (more ≡ 0 → lost ≡ 0)
+    (d : Demand) (b : Elements) (known : List Context) (h g : Holding) (lost more : ℕ) (noted fewer : Noted) → StockFacts d b known h lost noted
+    → (more ≡ 0 → lost ≡ 0)
     → ((k : DatonAt) (v : PlainValue) → g k.0 k.1 ≡ Some v → h k.0 k.1 ≡ Some v) → (IsTrue d.first.keeps → (k : DatonAt) → g k.0 k.1 ≡ h k.0 k.1)
-    → ((node : ℕ) (tag : Tag) (key number : ℕ) → number_at fewer node tag key ≡ Some number → number_at noted node tag key ≡ Some number) → StockFacts d b known g more fewer
+    → ((node : ℕ) (tag : Tag) (key number : ℕ) → number_at fewer node tag key ≡ Some number → number_at noted node tag key ≡ Some number)
+    → StockFacts d b known g more fewer
 stock_drops d b known h g lost more noted fewer f none drops same notes = record {
   right = λ k s v e. f.right k s v (drops (k, s) v e);
   stays = stays_held d h g f.stays same;
@@ -155,6 +161,7 @@ stock_enters d b old new h lost noted f keeps enters = record {
       known_tag = keeps.known tag r.known_tag;
       stream = r.stream;
       part = r.part;
-      counted = subst (λ c. Counted (equations_of (table_of d)) b (node_at (table_of d) r.stream) c (space_of tag) (cursor_noted r.form key number).time (cursor_noted r.form key number).count)
+      counted = subst (λ c. Counted (equations_of (table_of d)) b (node_at (table_of d) r.stream) c (space_of tag) (cursor_noted r.form key number).time
+          (cursor_noted r.form key number).count)
           (sym (keeps.same tag r.known_tag)) r.counted;
     }

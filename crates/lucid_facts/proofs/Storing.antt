@@ -8,7 +8,8 @@ use Rattle.lucid_facts.proofs.Stocking.{stock_puts, stock_drops}
 -- What the engine owns is right; where nothing is lost, all that was held is held, and the daton is.
 pub record AfterPut (d : Demand) (now later : EngineView) (w : World) (k : DatonAt) : Type 0 where
   pub owns : Owns d later w
-  pub more : IsTrue d.first.keeps → later.stored.lost ≡ 0 → (now.stored.lost ≡ 0) × ((q : DatonAt) → IsSome (holding now q.0 q.1) → IsSome (holding later q.0 q.1))
+  pub more : IsTrue d.first.keeps → later.stored.lost ≡ 0
+      → (now.stored.lost ≡ 0) × ((q : DatonAt) → IsSome (holding now q.0 q.1) → IsSome (holding later q.0 q.1))
   pub there : later.stored.lost ≡ 0 → IsSome (holding later k.0 k.1)
 
 few_after : (room : Option ℕ) (n m : ℕ) → IfSome room (λ r. n ≤ r) → m ≤ n + 1 → IfSome room (λ r. m ≤ r + 1)
@@ -37,12 +38,14 @@ goes_on_storing old now stored g le = record {
   places = g.places;
 }
 
-module _ (d : Demand) (now : EngineView) (stored : Stored) (w : World) (k : Key) (v : Value) (o : Owns d now w) (within : WithinRoom d.first.room now.stored) (known : IsKnown now.known k.tag)
+module _ (d : Demand) (now : EngineView) (stored : Stored) (w : World) (k : Key) (v : Value) (o : Owns d now w) (within : WithinRoom d.first.room now.stored)
+    (known : IsKnown now.known k.tag)
     (may : (b : Elements) → MayHave now b → MayPut d b (holding now) now.stored.lost (plain_key now.known k) (plain v)) where
   abbrev later : EngineView
   later = record now { stored = stored }
 
-  after_puts : SetsOnly now.stored stored k (Some (fresh v)) → stored.lost ≡ now.stored.lost → count_of stored ≤ count_of now.stored + 1 → AfterPut d now later w (plain_key now.known k)
+  after_puts : SetsOnly now.stored stored k (Some (fresh v)) → stored.lost ≡ now.stored.lost → count_of stored ≤ count_of now.stored + 1
+      → AfterPut d now later w (plain_key now.known k)
   after_puts sets lost count = record {
     owns = record {
       stock = record {
@@ -65,7 +68,8 @@ module _ (d : Demand) (now : EngineView) (stored : Stored) (w : World) (k : Key)
       put : PutsDaton (holding now) (holding later) (plain_key now.known k) (plain v) × AreKeysKnown now.known stored
       put = put_by_key now.known now.stored stored k v o.contexts o.keys known sets
 
-      stocked : (b : Elements) → MayHave now b → StockFacts d b now.known (holding later) now.stored.lost now.noted × (IsSome (holding later (plain_key now.known k).0 (plain_key now.known k).1))
+      stocked : (b : Elements) → MayHave now b → StockFacts d b now.known (holding later) now.stored.lost now.noted
+          × (IsSome (holding later (plain_key now.known k).0 (plain_key now.known k).1))
           × ((q : DatonAt) → IsSome (holding now q.0 q.1) → IsSome (holding later q.0 q.1))
       stocked b m =
           stock_puts d b now.known (holding now) (holding later) now.stored.lost now.noted (plain_key now.known k) (plain v) (o.stock.stock b m) (may b m) put.0
@@ -81,7 +85,8 @@ module _ (d : Demand) (now : EngineView) (stored : Stored) (w : World) (k : Key)
       lost_one l = record {
         owns = record {
           stock = record {
-            stock = λ b m. stock_drops d b now.known (holding now) (holding now) now.stored.lost more_lost.lost now.noted now.noted (o.stock.stock b m) (λ z. absurd (some_lost now.stored.lost z))
+            stock = λ b m. stock_drops d b now.known (holding now) (holding now) now.stored.lost more_lost.lost now.noted now.noted (o.stock.stock b m)
+                (λ z. absurd (some_lost now.stored.lost z))
                 (λ q u e. e) (λ keeps q. refl) (λ node tag key number e. e);
             drawn = o.stock.drawn;
             askable = o.stock.askable;

@@ -10,7 +10,8 @@ use Rattle.lucid_facts.proofs.Falling.{asking_falls, given_weight}
 pub total_same : (T : Table) (limit : ℕ) (old new : PlainRows) (n : ℕ) → ((q : ℕ) → q < n → new q ≡ old q) → total T limit new n ≡ total T limit old n
 total_same T limit old new zero h = refl
 total_same T limit old new (suc n) h =
-    ap (λ k. k + weight_at T limit (new n)) (total_same T limit old new n (λ q l. h q (omega (arith, l)))) ∙ ap (λ o. total T limit old n + weight_at T limit o) (h n (omega arith))
+    ap (λ k. k + weight_at T limit (new n)) (total_same T limit old new n (λ q l. h q (omega (arith, l))))
+    ∙ ap (λ o. total T limit old n + weight_at T limit o) (h n (omega arith))
 
 -- past the last row nothing more can cost
 pub total_past : (T : Table) (limit : ℕ) (rows : PlainRows) (n m : ℕ) → ((q : ℕ) → n ≤ q → rows q ≡ None) → n ≤ m → total T limit rows m ≡ total T limit rows n
@@ -31,7 +32,8 @@ pub total_set : (T : Table) (limit : ℕ) (old new : PlainRows) (slot n : ℕ) (
 total_set T limit old new slot zero row sets l = absurd (omega (arith, l))
 total_set T limit old new slot (suc n) row sets l = go (λ b. total_set T limit old new slot n row sets b) (cases_eq n slot)
   where
-    go : (slot < n → total T limit new n + weight_at T limit (old slot) ≡ total T limit old n + weight_at T limit row) → (n ≡ slot) ⊎ (n ≡ slot → ⊥) → total T limit new (suc n) + weight_at T limit (old slot) ≡ total T limit old (suc n) + weight_at T limit row
+    go : (slot < n → total T limit new n + weight_at T limit (old slot) ≡ total T limit old n + weight_at T limit row) → (n ≡ slot) ⊎ (n ≡ slot → ⊥)
+        → total T limit new (suc n) + weight_at T limit (old slot) ≡ total T limit old (suc n) + weight_at T limit row
     go again (inl e) =
         let before = total_same T limit old new n (λ q k. sets q ∙ at_another q slot row (old q) (λ z. absurd (omega (arith, e, k, z)))) in
         let here : weight_at T limit (new n) ≡ weight_at T limit row = ap (λ o. weight_at T limit o) (sets n ∙ at_it n slot row (old n) e) in
@@ -43,7 +45,8 @@ total_set T limit old new slot (suc n) row sets l = go (λ b. total_set T limit 
         omega (arith, before, here)
 
 -- a row takes the place of one that costs more: all can cost less than before
-pub total_changes : (T : Table) (limit : ℕ) (old new : PlainRows) (slot n : ℕ) (r s : PlainRow) → old slot ≡ Some r → weight T limit s < weight T limit r → SetsRow old new slot (Some s) → slot < n
+pub total_changes : (T : Table) (limit : ℕ) (old new : PlainRows) (slot n : ℕ) (r s : PlainRow) → old slot ≡ Some r → weight T limit s < weight T limit r
+    → SetsRow old new slot (Some s) → slot < n
     → total T limit new n < total T limit old n
 total_changes T limit old new slot n r s at falls sets below =
     let set = total_set T limit old new slot n (Some s) sets below in
@@ -51,7 +54,8 @@ total_changes T limit old new slot n r s at falls sets below =
     omega (arith, set, was, falls)
 
 -- and one that costs no more: no more than before
-pub total_begins : (T : Table) (limit : ℕ) (old new : PlainRows) (slot n : ℕ) (r s : PlainRow) → old slot ≡ Some r → weight T limit s ≤ weight T limit r → SetsRow old new slot (Some s) → slot < n
+pub total_begins : (T : Table) (limit : ℕ) (old new : PlainRows) (slot n : ℕ) (r s : PlainRow) → old slot ≡ Some r → weight T limit s ≤ weight T limit r
+    → SetsRow old new slot (Some s) → slot < n
     → total T limit new n ≤ total T limit old n
 total_begins T limit old new slot n r s at no_more sets below =
     let set = total_set T limit old new slot n (Some s) sets below in
@@ -59,8 +63,10 @@ total_begins T limit old new slot n r s at no_more sets below =
     omega (arith, set, was, no_more)
 
 -- a part is asked, whose row is new: all can cost less than before
-pub total_asks : (T : Table) (limit : ℕ) (old new : PlainRows) (part : Part) (slot n : ℕ) (r : PlainRow) (x : PlainTask) (key : Option DatonAt) → old part.slot ≡ Some r → old slot ≡ None
-    → state_at r.parts part.index ≡ idle → part.index < length r.parts → rank T x < rank T r.task → x.limit ≤ limit → AsksRow old new (Some part) slot x key → part.slot < n → slot < n
+pub total_asks : (T : Table) (limit : ℕ) (old new : PlainRows) (part : Part) (slot n : ℕ) (r : PlainRow) (x : PlainTask) (key : Option DatonAt)
+    → old part.slot ≡ Some r → old slot ≡ None
+    → state_at r.parts part.index ≡ idle → part.index < length r.parts → rank T x < rank T r.task → x.limit ≤ limit → AsksRow old new (Some part) slot x key
+    → part.slot < n → slot < n
     → total T limit new n < total T limit old n
 total_asks T limit old new part slot n r x key at none free few lower le asks part_below below =
     let changed = with_part part.index (asked slot) r in
@@ -79,8 +85,10 @@ weighs_one : (T : Table) (limit : ℕ) (r : PlainRow) → 0 < weight T limit r
 weighs_one T limit r = omega arith
 
 -- a row settles for a part of another: it costs nothing more, and the other what it did
-pub total_settles : (T : Table) (limit : ℕ) (old new : PlainRows) (slot n : ℕ) (r p : PlainRow) (part : Part) (v : PlainValue) → old slot ≡ Some r → r.parent ≡ Some part → part.slot ≢ slot
-    → old part.slot ≡ Some p → state_at p.parts part.index ≡ asked slot → SettlesRow old new slot r v → slot < n → part.slot < n → total T limit new n < total T limit old n
+pub total_settles : (T : Table) (limit : ℕ) (old new : PlainRows) (slot n : ℕ) (r p : PlainRow) (part : Part) (v : PlainValue) → old slot ≡ Some r
+    → r.parent ≡ Some part → part.slot ≢ slot
+    → old part.slot ≡ Some p → state_at p.parts part.index ≡ asked slot → SettlesRow old new slot r v → slot < n → part.slot < n
+    → total T limit new n < total T limit old n
 total_settles T limit old new slot n r p part v at up apart there asked_it settles below part_below =
     let changed = with_part part.index (got v) p in
     let mid = with_row old slot None in
@@ -88,9 +96,11 @@ total_settles T limit old new slot n r p part v at up apart there asked_it settl
     let second = total_set T limit mid new part.slot n (Some changed) (settles_in_two old new slot r p part v up apart there settles) part_below in
     let same = given_weight T limit p part.index slot v asked_it in
     let gone : weight_at T limit (old slot) ≡ weight T limit r = ap (λ o. weight_at T limit o) at in
-    let was : weight_at T limit (mid part.slot) ≡ weight T limit p = ap (λ o. weight_at T limit o) (at_another part.slot slot None (old part.slot) apart ∙ there) in
+    let was : weight_at T limit (mid part.slot) ≡ weight T limit p =
+    ap (λ o. weight_at T limit o) (at_another part.slot slot None (old part.slot) apart ∙ there) in
     let some = weighs_one T limit r in
-    go (total T limit old n) (total T limit mid n) (total T limit new n) (weight T limit r) (weight T limit p) (weight_at T limit (mid part.slot)) (weight T limit changed)
+    go (total T limit old n) (total T limit mid n) (total T limit new n) (weight T limit r) (weight T limit p) (weight_at T limit (mid part.slot))
+    (weight T limit changed)
     (weight_at T limit (old slot)) first second same was gone some
   where
     go : (a m b w p o c g : ℕ) → m + g ≡ a + 0 → b + o ≡ m + c → c ≡ p → o ≡ p → g ≡ w → 0 < w → b < a

@@ -6,7 +6,8 @@ use Rattle.lucid_facts.proofs.Slots.{at_it, at_another}
 -- ---- the same rows
 
 -- Facts of rows stay where more elements are read: they are of all elements that extend those read.
-pub work_later : (d : Demand) (now later : Elements) (h : Holding) (lost : ℕ) (rows : PlainRows) → Extends now later → Work d now h lost rows → Work d later h lost rows
+pub work_later : (d : Demand) (now later : Elements) (h : Holding) (lost : ℕ) (rows : PlainRows) → Extends now later → Work d now h lost rows
+    → Work d later h lost rows
 work_later d now later h lost rows more w = record {
   each = λ slot r e b x. w.each slot r e b (λ n j v k. x n j v (more n j v k));
   links = w.links;
@@ -14,7 +15,8 @@ work_later d now later h lost rows more w = record {
 }
 
 -- the row that waits for a row is there still, where its slot has the row that it had
-pub serves_there : (d : Demand) (old new : PlainRows) (q : ℕ) (c : PlainRow) (part : Part) → new part.slot ≡ old part.slot → Serves d old q c part → Serves d new q c part
+pub serves_there : (d : Demand) (old new : PlainRows) (q : ℕ) (c : PlainRow) (part : Part) → new part.slot ≡ old part.slot → Serves d old q c part
+    → Serves d new q c part
 serves_there d old new q c part same s = record {
   parent = s.parent;
   there = same ∙ s.there;
@@ -26,15 +28,18 @@ serves_there d old new q c part same s = record {
 }
 
 -- Facts of rows are of each slot's row, however the rows are given: as a row is seen the same where more contexts become known.
-pub work_same : (d : Demand) (now : Elements) (h : Holding) (lost : ℕ) (old new : PlainRows) → ((q : ℕ) → new q ≡ old q) → Work d now h lost old → Work d now h lost new
+pub work_same : (d : Demand) (now : Elements) (h : Holding) (lost : ℕ) (old new : PlainRows) → ((q : ℕ) → new q ≡ old q) → Work d now h lost old
+    → Work d now h lost new
 work_same d now h lost old new same w = record {
   each = λ q c e. w.each q c (sym (same q) ∙ e);
-  links = λ q c e. let l = w.links q c (sym (same q) ∙ e) in record { root = l.root; serves = λ part o. serves_there d old new q c part (same part.slot) (l.serves part o) };
+  links = λ q c e. let l = w.links q c (sym (same q) ∙ e) in
+      record { root = l.root; serves = λ part o. serves_there d old new q c part (same part.slot) (l.serves part o) };
   some = (w.some.0, w.some.1, same w.some.0 ∙ w.some.2);
 }
 
 -- what is said of what is held stays where that grows, or where nothing that is said of it counts any more
-module _ (d : Demand) (h g : Holding) (lost more : ℕ) (over : IsTrue d.first.keeps → more ≡ 0 → (lost ≡ 0) × ((k : DatonAt) → IsSome (h k.0 k.1) → IsSome (g k.0 k.1))) where
+module _ (d : Demand) (h g : Holding) (lost more : ℕ)
+    (over : IsTrue d.first.keeps → more ≡ 0 → (lost ≡ 0) × ((k : DatonAt) → IsSome (h k.0 k.1) → IsSome (g k.0 k.1))) where
   pub answers_over : (b : Elements) (x : PlainTask) (v : PlainValue) → Answers d b h lost x v → Answers d b g more x v
   answers_over b x v a = record { means = a.means; exact = a.exact; kept = λ e z k n. let o = over e z in o.1 k (a.kept e o.0 k n) }
 
@@ -61,8 +66,13 @@ module _ (d : Demand) (h g : Holding) (lost more : ℕ) (over : IsTrue d.first.k
 
 -- Facts of rows stay where what is held grows, or where nothing that they say of it counts any more.
 pub work_over : (d : Demand) (now : Elements) (h g : Holding) (lost more : ℕ) (rows : PlainRows)
-    → (IsTrue d.first.keeps → more ≡ 0 → (lost ≡ 0) × ((k : DatonAt) → IsSome (h k.0 k.1) → IsSome (g k.0 k.1))) → Work d now h lost rows → Work d now g more rows
-work_over d now h g lost more rows over w = record { each = λ q r e b x. facts_over d h g lost more over b r (w.each q r e b x); links = w.links; some = w.some }
+    → (IsTrue d.first.keeps → more ≡ 0 → (lost ≡ 0) × ((k : DatonAt) → IsSome (h k.0 k.1) → IsSome (g k.0 k.1))) → Work d now h lost rows
+    → Work d now g more rows
+work_over d now h g lost more rows over w = record {
+  each = λ q r e b x. facts_over d h g lost more over b r (w.each q r e b x);
+  links = w.links;
+  some = w.some;
+}
 
 -- ---- one slot's row is set
 
@@ -85,7 +95,8 @@ IsNoParent rows slot = (q : ℕ) (c : PlainRow) (i : ℕ) → rows q ≡ Some c 
 
 module _ (d : Demand) (now : Elements) (h : Holding) (lost : ℕ) (old : PlainRows) (w : Work d now h lost old) where
   -- a row's parent is there, and asked it
-  pub serves_of : (q : ℕ) (c : PlainRow) (slot i : ℕ) → old q ≡ Some c → c.parent ≡ Some (record { slot = slot; index = i }) → Serves d old q c (record { slot = slot; index = i })
+  pub serves_of : (q : ℕ) (c : PlainRow) (slot i : ℕ) → old q ≡ Some c → c.parent ≡ Some (record { slot = slot; index = i })
+      → Serves d old q c (record { slot = slot; index = i })
   serves_of q c slot i at up = (w.links q c at).serves (record { slot = slot; index = i }) up
 
   -- a row that waits for none of its parts is no row's parent
@@ -100,7 +111,8 @@ module _ (d : Demand) (now : Elements) (h : Holding) (lost : ℕ) (old : PlainRo
   none_is_no_parent slot none q c i e up = let s = serves_of q c slot i e up in let both : None ≡ Some s.parent = sym none ∙ s.there in absurd (cc)
 
   -- A slot that is no row's parent is set: the facts of the other rows stay.
-  module _ (new : PlainRows) (slot : ℕ) (o : Option PlainRow) (alone : IsNoParent old slot) (facts : (s : PlainRow) → o ≡ Some s → (b : Elements) → Extends now b → RowFacts d b h lost s)
+  module _ (new : PlainRows) (slot : ℕ) (o : Option PlainRow) (alone : IsNoParent old slot)
+      (facts : (s : PlainRow) → o ≡ Some s → (b : Elements) → Extends now b → RowFacts d b h lost s)
       (linked : (s : PlainRow) → o ≡ Some s → Links d new slot s) (some : (q : ℕ) × (c : PlainRow) × (new q ≡ Some c)) (sets : SetsRow old new slot o) where
     here : (q : ℕ) (c : PlainRow) → q ≡ slot → new q ≡ Some c → o ≡ Some c
     here q c e at = sym (at_it q slot o (old q) e) ∙ sym (sets q) ∙ at
@@ -119,14 +131,16 @@ module _ (d : Demand) (now : Elements) (h : Holding) (lost : ℕ) (old : PlainRo
         let l = w.links q c was in
         record {
           root = l.root;
-          serves = λ part up. serves_there d old new q c part (elsewhere part.slot (λ e. alone q c part.index was (up ∙ ap (λ z. Some (record { slot = z; index = part.index })) e))) (l.serves part up);
+          serves = λ part up. serves_there d old new q c part
+              (elsewhere part.slot (λ e. alone q c part.index was (up ∙ ap (λ z. Some (record { slot = z; index = part.index })) e))) (l.serves part up);
         }
 
     pub work_sets : Work d now h lost new
     work_sets = record { each = λ q c at. each_set q c at (cases_eq q slot); links = λ q c at. links_set q c at (cases_eq q slot); some = some }
 
 -- A row that waits for nothing has its cursor elsewhere. No other row is a part of it.
-pub work_moves : (d : Demand) (now : Elements) (h : Holding) (lost : ℕ) (old new : PlainRows) (slot : ℕ) (r : PlainRow) (c : Cursor) → Work d now h lost old → old slot ≡ Some r
+pub work_moves : (d : Demand) (now : Elements) (h : Holding) (lost : ℕ) (old new : PlainRows) (slot : ℕ) (r : PlainRow) (c : Cursor) → Work d now h lost old
+    → old slot ≡ Some r
     → ((q : ℕ) (p : PlainRow) (i : ℕ) → old q ≡ Some p → p.parent ≡ Some (record { slot = slot; index = i }) → ⊥)
     → ((b : Elements) → Extends now b → RowFacts d b h lost (at_cursor c r)) → SetsRow old new slot (Some (at_cursor c r)) → Work d now h lost new
 work_moves d now h lost old new slot r c w at alone facts sets =

@@ -12,7 +12,8 @@ before_it l h = ap (λ (b : Bool). cond b (lines_of_rows (rows_in l.rows)) []) h
 -- what is said of a line that is added, or can't come
 abbrev pub Adds : (l m : FlatLines) → (line : List ℕ) → (added : Bool) → Type 0
 Adds l m line added =
-    MatchBool added (AreKept m × (lines_in m ≡ lines_in l ++ line ∷ []) × CanGoOn AreTableLines (lines_in m)) (CannotGoOn AreTableLines (lines_in l ++ line ∷ []))
+    MatchBool added (AreKept m × (lines_in m ≡ lines_in l ++ line ∷ []) × CanGoOn AreTableLines (lines_in m))
+    (CannotGoOn AreTableLines (lines_in l ++ line ∷ []))
 
 kept : (m : FlatLines) → m.has_first ≡ true → AreBegun m.rows → AreKept m
 kept m h b = record { begun = b; none = λ f. absurd (false≢true (sym f ∙ h)) }
@@ -22,7 +23,8 @@ goes_on m h b = subst (CanGoOn AreTableLines) (sym (behind_it m h)) (begun_goes_
 
 -- a row's line behind the first
 pub row_added : (l m : FlatLines) (line : List ℕ) (added : Bool) → l.has_first ≡ true → m.has_first ≡ true
-    → MatchBool added (AreBegun m.rows × (lines_of_rows (rows_in m.rows) ≡ lines_of_rows (rows_in l.rows) ++ line ∷ [])) (CannotGoOn AreTableLines (lines_of_rows (rows_in l.rows) ++ line ∷ []))
+    → MatchBool added (AreBegun m.rows × (lines_of_rows (rows_in m.rows) ≡ lines_of_rows (rows_in l.rows) ++ line ∷ []))
+    (CannotGoOn AreTableLines (lines_of_rows (rows_in l.rows) ++ line ∷ []))
     → Adds l m line added
 row_added l m line true h k e =
     (kept m k e.0, behind_it m k ∙ (e.1 ∙ ap (λ (ls : List (List ℕ)). ls ++ line ∷ []) (sym (behind_it l h))), goes_on m k e.0)
@@ -36,7 +38,8 @@ no_first line h (more, (t, d, e)) = h (same line first_line more (map row_line (
     same x y xs ys q = cc
 
 -- the first line
-pub first_added : (l m : FlatLines) (line : List ℕ) (added : Bool) → AreKept l → l.has_first ≡ false → m.has_first ≡ added → m.rows ≡ l.rows → added ≡ bytes_eq line first_line
+pub first_added : (l m : FlatLines) (line : List ℕ) (added : Bool) → AreKept l → l.has_first ≡ false → m.has_first ≡ added → m.rows ≡ l.rows
+    → added ≡ bytes_eq line first_line
     → Adds l m line added
 first_added l m line true k f g r e =
     let begun = subst AreBegun (sym r) k.begun in
@@ -51,7 +54,8 @@ first_added l m line false k f g r e =
     subst P (sym (before_it l f)) (no_first line (λ q. false≢true (e ∙ (bytes_eq-Decides line first_line).1 q)))
 
 -- The lines so far are a text's exactly where the first one is read and the rows end with the root.
-pub whole_by : OneValue → (l : FlatLines) → AreKept l → (w : Bool) → ((w ≡ true) ↔ (part_in l.rows ≡ 7)) → l.has_first ≡ true → (w ≡ true) ↔ AreTableLines (lines_in l)
+pub whole_by : OneValue → (l : FlatLines) → AreKept l → (w : Bool) → ((w ≡ true) ↔ (part_in l.rows ≡ 7)) → l.has_first ≡ true
+    → (w ≡ true) ↔ AreTableLines (lines_in l)
 whole_by law l k w e h = (to, from)
   where
     to : w ≡ true → AreTableLines (lines_in l)
@@ -71,7 +75,8 @@ by_first l true h d = h
 by_first l false h d = absurd (not_whole l h d)
 
 -- Bytes whose lines are those of a text are the text of the rows' table.
-pub text_read : OneValue → (bytes : List ℕ) (l : FlatLines) → AreKept l → AreTableLines (lines_in l) → bytes ≡ text_of (lines_in l) → IsTextOf bytes (table_of l.rows)
+pub text_read : OneValue → (bytes : List ℕ) (l : FlatLines) → AreKept l → AreTableLines (lines_in l) → bytes ≡ text_of (lines_in l)
+    → IsTextOf bytes (table_of l.rows)
 text_read law bytes l k d e =
     let h = by_first l l.has_first refl d in
     let P : List (List ℕ) → Type 0 = AreTableLines in

@@ -53,7 +53,8 @@ args_given : (op : Op) (args : List ℕ) → Are32 args → length args ≡ 3 �
 unfolding apply_node
 args_given op [] h l = absurd (cc)
 args_given op (a ∷ b ∷ c ∷ []) h l =
-    let e : exactly 3 (decimal a ∷ decimal b ∷ decimal c ∷ []) ≡ Some (as_three (a ∷ b ∷ c ∷ [])) = exactly-words (a ∷ b ∷ c ∷ []) h (omega arith, omega arith) in
+    let e : exactly 3 (decimal a ∷ decimal b ∷ decimal c ∷ []) ≡ Some (as_three (a ∷ b ∷ c ∷ [])) =
+    exactly-words (a ∷ b ∷ c ∷ []) h (omega arith, omega arith) in
     rw (op_of-word op, e) refl
 args_given op _ h l = absurd (omega arith)
 

@@ -32,7 +32,8 @@ unfolding take_number
 numbers_none [] h e = absurd (cc)
 numbers_none (w ∷ ws) h e = none_first w ws (number_of (2 ^ 32) w) refl e
 
-some_first : (w : List ℕ) (ws vs : List (List ℕ)) (n : ℕ) (o : Option ℕ) → number_of (2 ^ 32) w ≡ o → beside ws o ≡ Some (n, vs) → numbers_of (2 ^ 32) (w ∷ ws) ≡ with_front (n ∷ []) (numbers_of (2 ^ 32) vs)
+some_first : (w : List ℕ) (ws vs : List (List ℕ)) (n : ℕ) (o : Option ℕ) → number_of (2 ^ 32) w ≡ o → beside ws o ≡ Some (n, vs)
+    → numbers_of (2 ^ 32) (w ∷ ws) ≡ with_front (n ∷ []) (numbers_of (2 ^ 32) vs)
 some_first w ws vs n None e h = absurd (cc)
 some_first w ws vs n (Some k) e h =
     let q : (k, ws) ≡ (n, vs) = cc in
@@ -44,7 +45,8 @@ some_first w ws vs n (Some k) e h =
     joined (Some ns) = refl
 
 -- and where it is one, it stands in front
-pub numbers_some : (ws vs : List (List ℕ)) (n : ℕ) → take_number (2 ^ 32) ws ≡ Some (n, vs) → numbers_of (2 ^ 32) ws ≡ with_front (n ∷ []) (numbers_of (2 ^ 32) vs)
+pub numbers_some : (ws vs : List (List ℕ)) (n : ℕ) → take_number (2 ^ 32) ws ≡ Some (n, vs)
+    → numbers_of (2 ^ 32) ws ≡ with_front (n ∷ []) (numbers_of (2 ^ 32) vs)
 unfolding take_number
 numbers_some [] vs n e = absurd (cc)
 numbers_some (w ∷ ws) vs n e = some_first w ws vs n (number_of (2 ^ 32) w) refl e
@@ -61,11 +63,13 @@ fewer_words [] vs n e = absurd (cc)
 fewer_words (w ∷ ws) vs n e = let k = ap (length {A = List ℕ}) (behind w ws vs n (number_of (2 ^ 32) w) e) in omega arith
 
 -- one more number
-pub front_more : (all ws vs : List (List ℕ)) (ns : List ℕ) (n : ℕ) → numbers_of (2 ^ 32) all ≡ with_front ns (numbers_of (2 ^ 32) ws) → take_number (2 ^ 32) ws ≡ Some (n, vs)
+pub front_more : (all ws vs : List (List ℕ)) (ns : List ℕ) (n : ℕ) → numbers_of (2 ^ 32) all ≡ with_front ns (numbers_of (2 ^ 32) ws)
+    → take_number (2 ^ 32) ws ≡ Some (n, vs)
     → numbers_of (2 ^ 32) all ≡ with_front (ns ++ n ∷ []) (numbers_of (2 ^ 32) vs)
 front_more all ws vs ns n e t = (e ∙ ap (with_front ns) (numbers_some ws vs n t)) ∙ with_front_front ns (n ∷ []) (numbers_of (2 ^ 32) vs)
 
-pub front_pushed : (all ws vs : List (List ℕ)) (ns ms : List ℕ) (n : ℕ) → numbers_of (2 ^ 32) all ≡ with_front ns (numbers_of (2 ^ 32) ws) → take_number (2 ^ 32) ws ≡ Some (n, vs)
+pub front_pushed : (all ws vs : List (List ℕ)) (ns ms : List ℕ) (n : ℕ) → numbers_of (2 ^ 32) all ≡ with_front ns (numbers_of (2 ^ 32) ws)
+    → take_number (2 ^ 32) ws ≡ Some (n, vs)
     → ms ≡ ns ++ n ∷ [] → numbers_of (2 ^ 32) all ≡ with_front ms (numbers_of (2 ^ 32) vs)
 front_pushed all ws vs ns ms n e t m = front_more all ws vs ns n e t ∙ ap (λ ks. with_front ks (numbers_of (2 ^ 32) vs)) (sym m)
 
@@ -95,12 +99,15 @@ past ns None h = refl
 past ns (Some ms) h = lost (ns ++ ms) _ (le-ltb _ _ (omega (arith, length-append ns ms)))
 
 -- too many numbers are none
-pub few_past : (all ws vs : List (List ℕ)) (ns : List ℕ) (n : ℕ) → numbers_of (2 ^ 32) all ≡ with_front ns (numbers_of (2 ^ 32) ws) → take_number (2 ^ 32) ws ≡ Some (n, vs)
+pub few_past : (all ws vs : List (List ℕ)) (ns : List ℕ) (n : ℕ) → numbers_of (2 ^ 32) all ≡ with_front ns (numbers_of (2 ^ 32) ws)
+    → take_number (2 ^ 32) ws ≡ Some (n, vs)
     → 2 ^ 32 ≤ length ns + 1 → few_numbers_of all ≡ None
-few_past all ws vs ns n e t h = ap few_of (front_more all ws vs ns n e t) ∙ past (ns ++ n ∷ []) (numbers_of (2 ^ 32) vs) (omega (arith, length-append ns (n ∷ [])))
+few_past all ws vs ns n e t h = ap few_of (front_more all ws vs ns n e t)
+    ∙ past (ns ++ n ∷ []) (numbers_of (2 ^ 32) vs) (omega (arith, length-append ns (n ∷ [])))
 
 -- where the next word is none
-pub few_none : (all ws : List (List ℕ)) (ns : List ℕ) → numbers_of (2 ^ 32) all ≡ with_front ns (numbers_of (2 ^ 32) ws) → is_end ws ≡ false → take_number (2 ^ 32) ws ≡ None
+pub few_none : (all ws : List (List ℕ)) (ns : List ℕ) → numbers_of (2 ^ 32) all ≡ with_front ns (numbers_of (2 ^ 32) ws) → is_end ws ≡ false
+    → take_number (2 ^ 32) ws ≡ None
     → few_numbers_of all ≡ None
 few_none all ws ns e h t = ap few_of (e ∙ ap (with_front ns) (numbers_none ws h t))
 

@@ -44,44 +44,114 @@ picks_none pick f h [] = refl
 picks_none pick f h (x ∷ xs) = rw (h x) (picks_none pick f h xs)
 
 picks_seven : {B : Type 0} (pick : FlatRow → Option B) (a b c d e f g : List FlatRow)
-    → filter_map pick (a ++ (b ++ (c ++ (d ++ (e ++ (f ++ g)))))) ≡ filter_map pick a ++ (filter_map pick b ++ (filter_map pick c ++ (filter_map pick d ++ (filter_map pick e ++ (filter_map pick f ++ filter_map pick g)))))
+    → filter_map pick (a ++ (b ++ (c ++ (d ++ (e ++ (f ++ g)))))) ≡ filter_map pick
+    a ++ (filter_map pick b ++ (filter_map pick c ++ (filter_map pick d ++ (filter_map pick e ++ (filter_map pick f ++ filter_map pick g)))))
 picks_seven pick a b c d e f g = simp filter_map-append
 
 -- the lists of a table, by its rows
 scopes_of : (t : Table) → filter_map scopes_in (flat_rows t) ≡ drop 1 t.scopes
 scopes_of t =
-    picks_seven scopes_in (map scope_row (drop 1 t.scopes)) (map input_row (t.inputs)) (map constant_row (t.constants)) (map node_row (t.nodes)) (map name_row (t.names)) (map place_row (t.places)) (root_row t.root ∷ [])
-    ∙ rw (picks_all scopes_in scope_row (λ x. refl) (drop 1 t.scopes), picks_none scopes_in input_row (λ x. refl) (t.inputs), picks_none scopes_in constant_row (λ x. refl) (t.constants), picks_none scopes_in node_row (λ x. refl) (t.nodes), picks_none scopes_in name_row (λ x. refl) (t.names), picks_none scopes_in place_row (λ x. refl) (t.places)) (append-nil (drop 1 t.scopes))
+    picks_seven scopes_in (map scope_row (drop 1 t.scopes)) (map input_row (t.inputs)) (map constant_row (t.constants)) (map node_row (t.nodes))
+    (map name_row (t.names)) (map place_row (t.places)) (root_row t.root ∷ [])
+    ∙ rw (
+      picks_all scopes_in scope_row (λ x. refl) (drop 1 t.scopes),
+      picks_none scopes_in input_row (λ x. refl) (t.inputs),
+      picks_none scopes_in constant_row
+          (λ x. refl) (t.constants),
+      picks_none scopes_in node_row (λ x. refl) (t.nodes),
+      picks_none scopes_in name_row (λ x. refl) (t.names),
+      picks_none
+          scopes_in place_row (λ x. refl) (t.places),
+    ) (append-nil (drop 1 t.scopes))
 
 inputs_of : (t : Table) → filter_map inputs_in (flat_rows t) ≡ t.inputs
 inputs_of t =
-    picks_seven inputs_in (map scope_row (drop 1 t.scopes)) (map input_row (t.inputs)) (map constant_row (t.constants)) (map node_row (t.nodes)) (map name_row (t.names)) (map place_row (t.places)) (root_row t.root ∷ [])
-    ∙ rw (picks_none inputs_in scope_row (λ x. refl) (drop 1 t.scopes), picks_all inputs_in input_row (λ x. refl) (t.inputs), picks_none inputs_in constant_row (λ x. refl) (t.constants), picks_none inputs_in node_row (λ x. refl) (t.nodes), picks_none inputs_in name_row (λ x. refl) (t.names), picks_none inputs_in place_row (λ x. refl) (t.places)) (append-nil (t.inputs))
+    picks_seven inputs_in (map scope_row (drop 1 t.scopes)) (map input_row (t.inputs)) (map constant_row (t.constants)) (map node_row (t.nodes))
+    (map name_row (t.names)) (map place_row (t.places)) (root_row t.root ∷ [])
+    ∙ rw (
+      picks_none inputs_in scope_row (λ x. refl) (drop 1 t.scopes),
+      picks_all inputs_in input_row (λ x. refl) (t.inputs),
+      picks_none inputs_in constant_row
+          (λ x. refl) (t.constants),
+      picks_none inputs_in node_row (λ x. refl) (t.nodes),
+      picks_none inputs_in name_row (λ x. refl) (t.names),
+      picks_none
+          inputs_in place_row (λ x. refl) (t.places),
+    ) (append-nil (t.inputs))
 
 constants_of : (t : Table) → filter_map constants_in (flat_rows t) ≡ t.constants
 constants_of t =
-    picks_seven constants_in (map scope_row (drop 1 t.scopes)) (map input_row (t.inputs)) (map constant_row (t.constants)) (map node_row (t.nodes)) (map name_row (t.names)) (map place_row (t.places)) (root_row t.root ∷ [])
-    ∙ rw (picks_none constants_in scope_row (λ x. refl) (drop 1 t.scopes), picks_none constants_in input_row (λ x. refl) (t.inputs), picks_all constants_in constant_row (λ x. refl) (t.constants), picks_none constants_in node_row (λ x. refl) (t.nodes), picks_none constants_in name_row (λ x. refl) (t.names), picks_none constants_in place_row (λ x. refl) (t.places)) (append-nil (t.constants))
+    picks_seven constants_in (map scope_row (drop 1 t.scopes)) (map input_row (t.inputs)) (map constant_row (t.constants)) (map node_row (t.nodes))
+    (map name_row (t.names)) (map place_row (t.places)) (root_row t.root ∷ [])
+    ∙ rw (
+      picks_none constants_in scope_row (λ x. refl) (drop 1 t.scopes),
+      picks_none constants_in input_row (λ x. refl) (t.inputs),
+      picks_all constants_in
+          constant_row (λ x. refl) (t.constants),
+      picks_none constants_in node_row (λ x. refl) (t.nodes),
+      picks_none constants_in name_row (λ x. refl) (t.names),
+      picks_none constants_in place_row (λ x. refl) (t.places),
+    ) (append-nil (t.constants))
 
 nodes_of : (t : Table) → filter_map nodes_in (flat_rows t) ≡ t.nodes
 nodes_of t =
-    picks_seven nodes_in (map scope_row (drop 1 t.scopes)) (map input_row (t.inputs)) (map constant_row (t.constants)) (map node_row (t.nodes)) (map name_row (t.names)) (map place_row (t.places)) (root_row t.root ∷ [])
-    ∙ rw (picks_none nodes_in scope_row (λ x. refl) (drop 1 t.scopes), picks_none nodes_in input_row (λ x. refl) (t.inputs), picks_none nodes_in constant_row (λ x. refl) (t.constants), picks_all nodes_in node_row (λ x. refl) (t.nodes), picks_none nodes_in name_row (λ x. refl) (t.names), picks_none nodes_in place_row (λ x. refl) (t.places)) (append-nil (t.nodes))
+    picks_seven nodes_in (map scope_row (drop 1 t.scopes)) (map input_row (t.inputs)) (map constant_row (t.constants)) (map node_row (t.nodes))
+    (map name_row (t.names)) (map place_row (t.places)) (root_row t.root ∷ [])
+    ∙ rw (
+      picks_none nodes_in scope_row (λ x. refl) (drop 1 t.scopes),
+      picks_none nodes_in input_row (λ x. refl) (t.inputs),
+      picks_none nodes_in constant_row
+          (λ x. refl) (t.constants),
+      picks_all nodes_in node_row (λ x. refl) (t.nodes),
+      picks_none nodes_in name_row (λ x. refl) (t.names),
+      picks_none nodes_in
+          place_row (λ x. refl) (t.places),
+    ) (append-nil (t.nodes))
 
 names_of : (t : Table) → filter_map names_in (flat_rows t) ≡ t.names
 names_of t =
-    picks_seven names_in (map scope_row (drop 1 t.scopes)) (map input_row (t.inputs)) (map constant_row (t.constants)) (map node_row (t.nodes)) (map name_row (t.names)) (map place_row (t.places)) (root_row t.root ∷ [])
-    ∙ rw (picks_none names_in scope_row (λ x. refl) (drop 1 t.scopes), picks_none names_in input_row (λ x. refl) (t.inputs), picks_none names_in constant_row (λ x. refl) (t.constants), picks_none names_in node_row (λ x. refl) (t.nodes), picks_all names_in name_row (λ x. refl) (t.names), picks_none names_in place_row (λ x. refl) (t.places)) (append-nil (t.names))
+    picks_seven names_in (map scope_row (drop 1 t.scopes)) (map input_row (t.inputs)) (map constant_row (t.constants)) (map node_row (t.nodes))
+    (map name_row (t.names)) (map place_row (t.places)) (root_row t.root ∷ [])
+    ∙ rw (
+      picks_none names_in scope_row (λ x. refl) (drop 1 t.scopes),
+      picks_none names_in input_row (λ x. refl) (t.inputs),
+      picks_none names_in constant_row
+          (λ x. refl) (t.constants),
+      picks_none names_in node_row (λ x. refl) (t.nodes),
+      picks_all names_in name_row (λ x. refl) (t.names),
+      picks_none names_in
+          place_row (λ x. refl) (t.places),
+    ) (append-nil (t.names))
 
 places_of : (t : Table) → filter_map places_in (flat_rows t) ≡ t.places
 places_of t =
-    picks_seven places_in (map scope_row (drop 1 t.scopes)) (map input_row (t.inputs)) (map constant_row (t.constants)) (map node_row (t.nodes)) (map name_row (t.names)) (map place_row (t.places)) (root_row t.root ∷ [])
-    ∙ rw (picks_none places_in scope_row (λ x. refl) (drop 1 t.scopes), picks_none places_in input_row (λ x. refl) (t.inputs), picks_none places_in constant_row (λ x. refl) (t.constants), picks_none places_in node_row (λ x. refl) (t.nodes), picks_none places_in name_row (λ x. refl) (t.names), picks_all places_in place_row (λ x. refl) (t.places)) (append-nil (t.places))
+    picks_seven places_in (map scope_row (drop 1 t.scopes)) (map input_row (t.inputs)) (map constant_row (t.constants)) (map node_row (t.nodes))
+    (map name_row (t.names)) (map place_row (t.places)) (root_row t.root ∷ [])
+    ∙ rw (
+      picks_none places_in scope_row (λ x. refl) (drop 1 t.scopes),
+      picks_none places_in input_row (λ x. refl) (t.inputs),
+      picks_none places_in constant_row
+          (λ x. refl) (t.constants),
+      picks_none places_in node_row (λ x. refl) (t.nodes),
+      picks_none places_in name_row (λ x. refl) (t.names),
+      picks_all places_in
+          place_row (λ x. refl) (t.places),
+    ) (append-nil (t.places))
 
 root_of : (t : Table) → filter_map root_in (flat_rows t) ≡ t.root ∷ []
 root_of t =
-    picks_seven root_in (map scope_row (drop 1 t.scopes)) (map input_row (t.inputs)) (map constant_row (t.constants)) (map node_row (t.nodes)) (map name_row (t.names)) (map place_row (t.places)) (root_row t.root ∷ [])
-    ∙ rw (picks_none root_in scope_row (λ x. refl) (drop 1 t.scopes), picks_none root_in input_row (λ x. refl) (t.inputs), picks_none root_in constant_row (λ x. refl) (t.constants), picks_none root_in node_row (λ x. refl) (t.nodes), picks_none root_in name_row (λ x. refl) (t.names), picks_none root_in place_row (λ x. refl) (t.places)) refl
+    picks_seven root_in (map scope_row (drop 1 t.scopes)) (map input_row (t.inputs)) (map constant_row (t.constants)) (map node_row (t.nodes))
+    (map name_row (t.names)) (map place_row (t.places)) (root_row t.root ∷ [])
+    ∙ rw (
+      picks_none root_in scope_row (λ x. refl) (drop 1 t.scopes),
+      picks_none root_in input_row (λ x. refl) (t.inputs),
+      picks_none root_in constant_row
+          (λ x. refl) (t.constants),
+      picks_none root_in node_row (λ x. refl) (t.nodes),
+      picks_none root_in name_row (λ x. refl) (t.names),
+      picks_none root_in
+          place_row (λ x. refl) (t.places),
+    ) refl
 
 scopes_same : (xs ys : List ScopeRow) → ScopeIs xs 0 0 Root → ScopeIs ys 0 0 Root → drop 1 xs ≡ drop 1 ys → xs ≡ ys
 scopes_same [] ys h k e = absurd (cc)
@@ -95,7 +165,8 @@ one_item m n e = cc
 abbrev made : List ScopeRow → List (List ℕ) → List PlainValue → List NodeRow → List NameRow → List PlaceRow → ℕ → Table
 made a b c d e f g = record { scopes = a; inputs = b; constants = c; nodes = d; names = e; places = f; root = g }
 
-table_by : (t u : Table) → t.scopes ≡ u.scopes → t.inputs ≡ u.inputs → t.constants ≡ u.constants → t.nodes ≡ u.nodes → t.names ≡ u.names → t.places ≡ u.places → t.root ≡ u.root → t ≡ u
+table_by : (t u : Table) → t.scopes ≡ u.scopes → t.inputs ≡ u.inputs → t.constants ≡ u.constants → t.nodes ≡ u.nodes → t.names ≡ u.names → t.places ≡ u.places
+    → t.root ≡ u.root → t ≡ u
 table_by t u e0 e1 e2 e3 e4 e5 e6 =
     ap (λ (x : List ScopeRow). made x t.inputs t.constants t.nodes t.names t.places t.root) e0
     ∙ (ap (λ (x : List (List ℕ)). made u.scopes x t.constants t.nodes t.names t.places t.root) e1
@@ -108,7 +179,8 @@ table_by t u e0 e1 e2 e3 e4 e5 e6 =
 -- No bytes are the text of two tables.
 pub one_table : OneValue → OneTable
 one_table law bytes t u h k =
-    let l = sym (text_lines AreTableLines table_lines bytes (flat_lines t) (t, h.has, refl) h.text) ∙ text_lines AreTableLines table_lines bytes (flat_lines u) (u, k.has, refl) k.text in
+    let l = sym (text_lines AreTableLines table_lines bytes (flat_lines t) (t, h.has, refl) h.text)
+    ∙ text_lines AreTableLines table_lines bytes (flat_lines u) (u, k.has, refl) k.text in
     let r = same_rows law (flat_rows t) (flat_rows u) h.has.rows k.has.rows l in
     let scopes = sym (scopes_of t) ∙ (ap (filter_map scopes_in) r ∙ scopes_of u) in
     table_by t u (scopes_same t.scopes u.scopes h.has.root k.has.root scopes) (sym (inputs_of t) ∙ (ap (filter_map inputs_in) r ∙ inputs_of u))
@@ -122,7 +194,15 @@ smallest = record { scopes = record { parent = 0; kind = Root } ∷ []; inputs =
 
 smallest_has : HasText smallest
 unfolding smallest
-smallest_has = record { root = refl; rows = (omega arith, tt); scopes = omega arith; constants = omega arith; nodes = omega arith; names = omega arith; places = omega arith }
+smallest_has = record {
+  root = refl;
+  rows = (omega arith, tt);
+  scopes = omega arith;
+  constants = omega arith;
+  nodes = omega arith;
+  names = omega arith;
+  places = omega arith;
+}
 
 -- a text goes on with no line
 pub none_goes_on : CanGoOn AreTableLines []
@@ -133,14 +213,16 @@ pub none_is_no_text : AreTableLines [] → ⊥
 none_is_no_text (t, h, e) = cc
 
 -- A table with a text has one root.
-no_inner_root : (xs : List ScopeRow) (more : List FlatRow) → AllByRecursion RowFits (map scope_row xs ++ more) → (s p : ℕ) (k : ScopeKind) → ScopeIs xs s p k → k ≢ Root
+no_inner_root : (xs : List ScopeRow) (more : List FlatRow) → AllByRecursion RowFits (map scope_row xs ++ more) → (s p : ℕ) (k : ScopeKind) → ScopeIs xs s p k
+    → k ≢ Root
 no_inner_root [] more h s p k e = absurd (cc)
 no_inner_root (x ∷ xs) more h zero p k e =
     let q = same_Some x (record { parent = p; kind = k }) e in
     let P : ScopeRow → Type 0 = λ y. y.kind ≢ Root in subst P q h.0.1
 no_inner_root (x ∷ xs) more h (suc s) p k e = no_inner_root xs more h.1 s p k e
 
-behind_root : (xs : List ScopeRow) → ((s p : ℕ) (k : ScopeKind) → ScopeIs (drop 1 xs) s p k → k ≢ Root) → (s p : ℕ) (k : ScopeKind) → 0 < s → ScopeIs xs s p k → k ≢ Root
+behind_root : (xs : List ScopeRow) → ((s p : ℕ) (k : ScopeKind) → ScopeIs (drop 1 xs) s p k → k ≢ Root) → (s p : ℕ) (k : ScopeKind) → 0 < s → ScopeIs xs s p k
+    → k ≢ Root
 behind_root xs h zero p k l e = absurd (omega arith)
 behind_root [] h (suc s) p k l e = absurd (cc)
 behind_root (x ∷ xs) h (suc s) p k l e = h s p k e

@@ -6,7 +6,8 @@ abbrev pub Rises : ℕ → List FlatRow → Type 0
 Rises p [] = Unit {0}
 Rises p (r ∷ rs) = (p ≤ row_part r) × Rises (next_part r) rs
 
-rises_map : {A : Type 0} (f : A → FlatRow) (k : ℕ) → ((x : A) → row_part (f x) ≡ k) → ((x : A) → next_part (f x) ≡ k) → (p : ℕ) → p ≤ k → (xs : List A) (ys : List FlatRow)
+rises_map : {A : Type 0} (f : A → FlatRow) (k : ℕ) → ((x : A) → row_part (f x) ≡ k) → ((x : A) → next_part (f x) ≡ k) → (p : ℕ) → p ≤ k
+    → (xs : List A) (ys : List FlatRow)
     → ((q : ℕ) → q ≤ k → Rises q ys) → Rises p (map f xs ++ ys)
 rises_map f k part next p l [] ys h = h p l
 rises_map f k part next p l (x ∷ xs) ys h =
@@ -83,7 +84,11 @@ count_scopes t p =
     let h3 = count_none 0 node_row (λ x. refl) (t.nodes) in
     let h4 = count_none 0 name_row (λ x. refl) (t.names) in
     let h5 = count_none 0 place_row (λ x. refl) (t.places) in
-    let h6 = no_root 0 t.root (p == 7) refl in omega (arith, count_seven 0 (map scope_row (drop 1 t.scopes)) (map input_row t.inputs) (map constant_row t.constants) (map node_row t.nodes) (map name_row t.names) (map place_row t.places) (cond (p == 7) (root_row t.root ∷ []) []))
+    let h6 = no_root 0 t.root (p == 7) refl in omega (
+      arith,
+      count_seven 0 (map scope_row (drop 1 t.scopes)) (map input_row t.inputs) (map constant_row t.constants) (map node_row t.nodes)
+          (map name_row t.names) (map place_row t.places) (cond (p == 7) (root_row t.root ∷ []) []),
+    )
 
 pub count_constants : (t : Table) (p : ℕ) → count 2 (rows_so_far t p) ≡ length (t.constants)
 count_constants t p =
@@ -93,7 +98,11 @@ count_constants t p =
     let h3 = count_none 2 node_row (λ x. refl) (t.nodes) in
     let h4 = count_none 2 name_row (λ x. refl) (t.names) in
     let h5 = count_none 2 place_row (λ x. refl) (t.places) in
-    let h6 = no_root 2 t.root (p == 7) refl in omega (arith, count_seven 2 (map scope_row (drop 1 t.scopes)) (map input_row t.inputs) (map constant_row t.constants) (map node_row t.nodes) (map name_row t.names) (map place_row t.places) (cond (p == 7) (root_row t.root ∷ []) []))
+    let h6 = no_root 2 t.root (p == 7) refl in omega (
+      arith,
+      count_seven 2 (map scope_row (drop 1 t.scopes)) (map input_row t.inputs) (map constant_row t.constants) (map node_row t.nodes)
+          (map name_row t.names) (map place_row t.places) (cond (p == 7) (root_row t.root ∷ []) []),
+    )
 
 pub count_nodes : (t : Table) (p : ℕ) → count 3 (rows_so_far t p) ≡ length (t.nodes)
 count_nodes t p =
@@ -103,7 +112,11 @@ count_nodes t p =
     let h3 = count_all 3 node_row (λ x. refl) (t.nodes) in
     let h4 = count_none 3 name_row (λ x. refl) (t.names) in
     let h5 = count_none 3 place_row (λ x. refl) (t.places) in
-    let h6 = no_root 3 t.root (p == 7) refl in omega (arith, count_seven 3 (map scope_row (drop 1 t.scopes)) (map input_row t.inputs) (map constant_row t.constants) (map node_row t.nodes) (map name_row t.names) (map place_row t.places) (cond (p == 7) (root_row t.root ∷ []) []))
+    let h6 = no_root 3 t.root (p == 7) refl in omega (
+      arith,
+      count_seven 3 (map scope_row (drop 1 t.scopes)) (map input_row t.inputs) (map constant_row t.constants) (map node_row t.nodes)
+          (map name_row t.names) (map place_row t.places) (cond (p == 7) (root_row t.root ∷ []) []),
+    )
 
 pub count_names : (t : Table) (p : ℕ) → count 4 (rows_so_far t p) ≡ length (t.names)
 count_names t p =
@@ -113,7 +126,11 @@ count_names t p =
     let h3 = count_none 4 node_row (λ x. refl) (t.nodes) in
     let h4 = count_all 4 name_row (λ x. refl) (t.names) in
     let h5 = count_none 4 place_row (λ x. refl) (t.places) in
-    let h6 = no_root 4 t.root (p == 7) refl in omega (arith, count_seven 4 (map scope_row (drop 1 t.scopes)) (map input_row t.inputs) (map constant_row t.constants) (map node_row t.nodes) (map name_row t.names) (map place_row t.places) (cond (p == 7) (root_row t.root ∷ []) []))
+    let h6 = no_root 4 t.root (p == 7) refl in omega (
+      arith,
+      count_seven 4 (map scope_row (drop 1 t.scopes)) (map input_row t.inputs) (map constant_row t.constants) (map node_row t.nodes)
+          (map name_row t.names) (map place_row t.places) (cond (p == 7) (root_row t.root ∷ []) []),
+    )
 
 pub count_places : (t : Table) (p : ℕ) → count 5 (rows_so_far t p) ≡ length (t.places)
 count_places t p =
@@ -123,7 +140,11 @@ count_places t p =
     let h3 = count_none 5 node_row (λ x. refl) (t.nodes) in
     let h4 = count_none 5 name_row (λ x. refl) (t.names) in
     let h5 = count_all 5 place_row (λ x. refl) (t.places) in
-    let h6 = no_root 5 t.root (p == 7) refl in omega (arith, count_seven 5 (map scope_row (drop 1 t.scopes)) (map input_row t.inputs) (map constant_row t.constants) (map node_row t.nodes) (map name_row t.names) (map place_row t.places) (cond (p == 7) (root_row t.root ∷ []) []))
+    let h6 = no_root 5 t.root (p == 7) refl in omega (
+      arith,
+      count_seven 5 (map scope_row (drop 1 t.scopes)) (map input_row t.inputs) (map constant_row t.constants) (map node_row t.nodes)
+          (map name_row t.names) (map place_row t.places) (cond (p == 7) (root_row t.root ∷ []) []),
+    )
 
 -- rows of a part, and one more of it
 one_more : (k : ℕ) (rs more all : List FlatRow) (r : FlatRow) → (row_part r == k) ≡ true → all ≡ rs ++ r ∷ more → count k rs + 1 ≤ count k all

@@ -56,4 +56,5 @@ pub tail_is_row : (line w t : List ℕ) (o : Option FlatRow) → line ≡ w ++ 3
 tail_is_row line w t (Some r) l h d e =
     let g = tail_read w t r (sym e) in (g.0, l ∙ g.1)
 tail_is_row line w t None l h d e = λ r f k.
-    let p = one_cut 32 w (row_head r) t (row_tail r) (recursion_from_All _ w h) (head_lacks r) (sym l ∙ (k ∙ line_parts r)) in none_by r w t (kind r) f d e p.0 p.1
+    let p = one_cut 32 w (row_head r) t (row_tail r) (recursion_from_All _ w h) (head_lacks r) (sym l ∙ (k ∙ line_parts r)) in
+    none_by r w t (kind r) f d e p.0 p.1

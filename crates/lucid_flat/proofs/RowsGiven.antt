@@ -63,7 +63,8 @@ entry_of-word : (e : Entry) → entry_of (entry_word e) (entry_number e) ≡ Som
 entry_of-word (Plain a) = refl
 entry_of-word _ = refl
 
-name_of-words : (r : NameRow) → r.scope < 2 ^ 32 → entry_number r.kind < 2 ^ 32 → name_of (entry_word r.kind) (decimal r.scope ∷ decimal (entry_number r.kind) ∷ []) ≡ Some r
+name_of-words : (r : NameRow) → r.scope < 2 ^ 32 → entry_number r.kind < 2 ^ 32
+    → name_of (entry_word r.kind) (decimal r.scope ∷ decimal (entry_number r.kind) ∷ []) ≡ Some r
 unfolding name_of
 name_of-words r h k =
     let ns = r.scope ∷ entry_number r.kind ∷ [] in
@@ -73,7 +74,12 @@ name_of-words r h k =
 place_of-words : (r : PlaceRow) → RowFits (place_row r) → place_of (decimal r.scope ∷ decimal r.name ∷ map decimal r.actuals) ≡ Some r
 unfolding place_of
 place_of-words r h =
-    rw (take_number-decimal (2 ^ 32) r.scope (decimal r.name ∷ map decimal r.actuals) (omega arith) h.0, take_number-decimal (2 ^ 32) r.name (map decimal r.actuals) (omega arith) h.1, few_numbers_of-words r.actuals h.2 h.3) refl
+    rw (
+      take_number-decimal (2 ^ 32) r.scope (decimal r.name ∷ map decimal r.actuals) (omega arith) h.0,
+      take_number-decimal (2 ^ 32) r.name
+          (map decimal r.actuals) (omega arith) h.1,
+      few_numbers_of-words r.actuals h.2 h.3,
+    ) refl
 
 root_of-words : (n : ℕ) → n < 2 ^ 32 → root_of (decimal n ∷ []) ≡ Some n
 unfolding root_of
@@ -103,10 +109,12 @@ tail_row-parts (node_row r) h n =
     let words = spaced_words (decimal r.scope) (node_words r.node) (decimal_solid r.scope (omega (arith, h.0)), node_solid r.node h.1) in
     ap (option_map node_row) (ap node_row_of words ∙ node_row_of-words r h.0 h.1)
 tail_row-parts (name_row r) h n =
-    let words = spaced_words (decimal r.scope) (decimal (entry_number r.kind) ∷ []) (decimal_solid r.scope (omega (arith, h.0)), (decimal_solid (entry_number r.kind) (omega (arith, h.1)), tt)) in
+    let words = spaced_words (decimal r.scope) (decimal (entry_number r.kind) ∷ [])
+    (decimal_solid r.scope (omega (arith, h.0)), (decimal_solid (entry_number r.kind) (omega (arith, h.1)), tt)) in
     name_tail r.kind (row_tail (name_row r)) ∙ ap (option_map name_row) (ap (name_of (entry_word r.kind)) words ∙ name_of-words r h.0 h.1)
 tail_row-parts (place_row r) h n =
-    let words = spaced_words (decimal r.scope) (decimal r.name ∷ map decimal r.actuals) (decimal_solid r.scope (omega (arith, h.0)), (decimal_solid r.name (omega (arith, h.1)), decimals_solid (2 ^ 32) (omega arith) r.actuals h.2)) in
+    let words = spaced_words (decimal r.scope) (decimal r.name ∷ map decimal r.actuals)
+    (decimal_solid r.scope (omega (arith, h.0)), (decimal_solid r.name (omega (arith, h.1)), decimals_solid (2 ^ 32) (omega arith) r.actuals h.2)) in
     ap (option_map place_row) (ap place_of words ∙ place_of-words r h)
 tail_row-parts (root_row n) h c =
     let words = spaced_words (decimal n) [] (decimal_solid n (omega (arith, h)), tt) in

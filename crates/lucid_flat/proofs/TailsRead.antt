@@ -45,7 +45,8 @@ scope_read ws r e =
     let q = cond_some (is_end x.1) (record { parent = p.0; kind = kind }) r m in
     let d = taken (2 ^ 32) ws p t in
     let g = kind_read x.0 kind v in
-    let words = d.0 ∙ ap (λ (us : List (List ℕ)). decimal p.0 ∷ us) (word_taken p.1 x u ∙ (ap (λ (us : List (List ℕ)). x.0 ∷ us) (no_word x.1 q.0) ∙ ap (λ (w : List ℕ). w ∷ []) g.0)) in
+    let words = d.0 ∙ ap (λ (us : List (List ℕ)). decimal p.0 ∷ us)
+    (word_taken p.1 x u ∙ (ap (λ (us : List (List ℕ)). x.0 ∷ us) (no_word x.1 q.0) ∙ ap (λ (w : List ℕ). w ∷ []) g.0)) in
     let P : ScopeRow → Type 0 = λ s. Reads ws (scope_row s) in subst P q.1 (words, (d.1, g.1)))))
 
 node_row_read : (ws : List (List ℕ)) (r : NodeRow) → node_row_of ws ≡ Some r → Reads ws (node_row r)

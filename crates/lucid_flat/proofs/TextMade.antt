@@ -35,10 +35,12 @@ seven h a b c d e f g =
 
 -- The text of a table, as it is put together.
 pub text_made : (t : Table)
-    → ((((((ended first_line ++ lines (map scope_row (drop 1 t.scopes))) ++ lines (map input_row t.inputs)) ++ lines (map constant_row t.constants)) ++ lines (map node_row t.nodes))
+    → ((((((ended first_line ++ lines (map scope_row (drop 1 t.scopes))) ++ lines (map input_row t.inputs)) ++ lines (map constant_row t.constants)) ++ lines
+    (map node_row t.nodes))
     ++ lines (map name_row t.names)) ++ lines (map place_row t.places)) ++ line_of (root_row t.root) ≡ flat_text t
 text_made t =
-    seven (ended first_line) (map scope_row (drop 1 t.scopes)) (map input_row t.inputs) (map constant_row t.constants) (map node_row t.nodes) (map name_row t.names) (map place_row t.places) (root_row t.root)
+    seven (ended first_line) (map scope_row (drop 1 t.scopes)) (map input_row t.inputs) (map constant_row t.constants) (map node_row t.nodes)
+    (map name_row t.names) (map place_row t.places) (root_row t.root)
     ∙ ap (λ (x : List ℕ). ended first_line ++ x) (sym (lines-ended (flat_rows t)))
 
 pub constants_rows : (vs : List Value) → map (λ v. constant_row (plain v)) vs ≡ map constant_row (map plain vs)
@@ -49,24 +51,29 @@ constants_rows (v ∷ vs) = ap (λ (x : List FlatRow). constant_row (plain v) �
 abbrev pub MayFit : FlatRow → Type 0
 MayFit r = IsNoRoot r → RowFits r
 
-pub others_fit : {A : Type 0} (f : A → FlatRow) → ((x : A) → IsNoRoot (f x)) → (xs : List A) → AllByRecursion MayFit (map f xs) → AllByRecursion RowFits (map f xs)
+pub others_fit : {A : Type 0} (f : A → FlatRow) → ((x : A) → IsNoRoot (f x)) → (xs : List A) → AllByRecursion MayFit (map f xs)
+    → AllByRecursion RowFits (map f xs)
 others_fit f n [] h = tt
 others_fit f n (x ∷ xs) h = (h.0 (n x), others_fit f n xs h.1)
 
 -- the scopes behind the first are no roots
-scopes_fit : (xs : List ScopeRow) → ((s p : ℕ) (k : ScopeKind) → ScopeIs xs s p k → k ≢ Root) → AllByRecursion MayFit (map scope_row xs) → AllByRecursion RowFits (map scope_row xs)
+scopes_fit : (xs : List ScopeRow) → ((s p : ℕ) (k : ScopeKind) → ScopeIs xs s p k → k ≢ Root) → AllByRecursion MayFit (map scope_row xs)
+    → AllByRecursion RowFits (map scope_row xs)
 scopes_fit [] o h = tt
 scopes_fit (x ∷ xs) o h = (h.0 (o 0 x.parent x.kind refl), scopes_fit xs (λ s p k e. o (suc s) p k e) h.1)
 
-pub inner_fit : (xs : List ScopeRow) → ((s p : ℕ) (k : ScopeKind) → 0 < s → ScopeIs xs s p k → k ≢ Root) → AllByRecursion MayFit (map scope_row (drop 1 xs)) → AllByRecursion RowFits (map scope_row (drop 1 xs))
+pub inner_fit : (xs : List ScopeRow) → ((s p : ℕ) (k : ScopeKind) → 0 < s → ScopeIs xs s p k → k ≢ Root) → AllByRecursion MayFit (map scope_row (drop 1 xs))
+    → AllByRecursion RowFits (map scope_row (drop 1 xs))
 inner_fit [] o h = tt
 inner_fit (x ∷ xs) o h = scopes_fit xs (λ s p k e. o (suc s) p k (omega arith) e) h
 
 -- All rows of a table fit where those of each list do.
-pub rows_fit : (a b c d e f : List FlatRow) (g : FlatRow) → AllByRecursion RowFits a → AllByRecursion RowFits b → AllByRecursion RowFits c → AllByRecursion RowFits d
+pub rows_fit : (a b c d e f : List FlatRow) (g : FlatRow) → AllByRecursion RowFits a → AllByRecursion RowFits b → AllByRecursion RowFits c
+    → AllByRecursion RowFits d
     → AllByRecursion RowFits e → AllByRecursion RowFits f → RowFits g → AllByRecursion RowFits (a ++ (b ++ (c ++ (d ++ (e ++ (f ++ g ∷ []))))))
 rows_fit a b c d e f g p q r s t u v =
-    all-append RowFits a _ p (all-append RowFits b _ q (all-append RowFits c _ r (all-append RowFits d _ s (all-append RowFits e _ t (all-append RowFits f _ u (v, tt))))))
+    all-append RowFits a _ p (all-append RowFits b _ q
+    (all-append RowFits c _ r (all-append RowFits d _ s (all-append RowFits e _ t (all-append RowFits f _ u (v, tt))))))
 
 -- lines of rows that are the same
 pub lines_of : {A : Type 0} (new old : List ℕ) (f : A → FlatRow) (xs ys : List A) → xs ≡ ys → new ≡ old ++ lines (map f xs) → new ≡ old ++ lines (map f ys)
@@ -76,10 +83,12 @@ pub fits_of : {A : Type 0} (f : A → FlatRow) (xs ys : List A) → xs ≡ ys �
 fits_of {A} f xs ys e h =
     let P : List A → Type 0 = λ zs. AllByRecursion MayFit (map f zs) in subst P e h
 
-pub constant_lines : (new old : List ℕ) (vs : List Value) (ws : List PlainValue) → map plain vs ≡ ws → new ≡ old ++ lines (map (λ v. constant_row (plain v)) vs) → new ≡ old ++ lines (map constant_row ws)
+pub constant_lines : (new old : List ℕ) (vs : List Value) (ws : List PlainValue) → map plain vs ≡ ws → new ≡ old ++ lines (map (λ v. constant_row (plain v)) vs)
+    → new ≡ old ++ lines (map constant_row ws)
 constant_lines new old vs ws e h = h ∙ ap (λ (rs : List FlatRow). old ++ lines rs) (constants_rows vs ∙ ap (map constant_row) e)
 
-pub constant_fits : (vs : List Value) (ws : List PlainValue) → map plain vs ≡ ws → AllByRecursion MayFit (map (λ v. constant_row (plain v)) vs) → AllByRecursion RowFits (map constant_row ws)
+pub constant_fits : (vs : List Value) (ws : List PlainValue) → map plain vs ≡ ws → AllByRecursion MayFit (map (λ v. constant_row (plain v)) vs)
+    → AllByRecursion RowFits (map constant_row ws)
 constant_fits vs ws e h =
     let P : List FlatRow → Type 0 = AllByRecursion RowFits in
     subst P (constants_rows vs ∙ ap (map constant_row) e) (others_fit (λ (v : Value). constant_row (plain v)) (λ v. tt) vs h)
@@ -98,7 +107,8 @@ slice_tail {A} xs ys e = whole xs ∙ ap (drop 1) e
         let n : suc (length zs) - 1 ≡ length zs = omega arith in rw n (take_all zs)
 
 -- A text that was put together part by part.
-pub text_from : (t : Table) (t0 t1 t2 t3 t4 t5 t6 t7 : List ℕ) → t0 ≡ ended first_line → t1 ≡ t0 ++ lines (map scope_row (drop 1 t.scopes)) → t2 ≡ t1 ++ lines (map input_row t.inputs)
+pub text_from : (t : Table) (t0 t1 t2 t3 t4 t5 t6 t7 : List ℕ) → t0 ≡ ended first_line → t1 ≡ t0 ++ lines (map scope_row (drop 1 t.scopes))
+    → t2 ≡ t1 ++ lines (map input_row t.inputs)
     → t3 ≡ t2 ++ lines (map constant_row t.constants) → t4 ≡ t3 ++ lines (map node_row t.nodes) → t5 ≡ t4 ++ lines (map name_row t.names)
     → t6 ≡ t5 ++ lines (map place_row t.places) → t7 ≡ t6 ++ line_of (root_row t.root) → t7 ≡ flat_text t
 text_from t t0 t1 t2 t3 t4 t5 t6 t7 e0 e1 e2 e3 e4 e5 e6 e7 =

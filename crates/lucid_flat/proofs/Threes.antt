@@ -42,13 +42,16 @@ module _ (ws : List (List ℕ)) (ns : Three) where
       (refl, ((taken (2 ^ 32) ws a t).1, ((taken (2 ^ 32) a.1 b u).1, ((taken (2 ^ 32) b.1 c v).1, tt))))
 
   by_second : (a b : ℕ × List (List ℕ)) → take_number (2 ^ 32) ws ≡ Some a → take_number (2 ^ 32) a.1 ≡ Some b
-      → ((is_end b.1 ≡ true) × (Some (two a.0 b.0) ≡ Some ns)) ⊎ ((is_end b.1 ≡ false) × (option_and_then (third a.0 b.0) (take_number (2 ^ 32) b.1) ≡ Some ns)) → AreWordsOf ws ns
+      → ((is_end b.1 ≡ true) × (Some (two a.0 b.0) ≡ Some ns)) ⊎ ((is_end b.1 ≡ false) × (option_and_then (third a.0 b.0) (take_number (2 ^ 32) b.1) ≡ Some ns))
+      → AreWordsOf ws ns
   by_second a b t u (inl e) =
-      words_of ws _ (two a.0 b.0) ns (more_taken ws _ a t (more_taken a.1 [] b u (no_word b.1 e.0))) e.1 (refl, ((taken (2 ^ 32) ws a t).1, ((taken (2 ^ 32) a.1 b u).1, tt)))
+      words_of ws _ (two a.0 b.0) ns (more_taken ws _ a t (more_taken a.1 [] b u (no_word b.1 e.0))) e.1
+      (refl, ((taken (2 ^ 32) ws a t).1, ((taken (2 ^ 32) a.1 b u).1, tt)))
   by_second a b t u (inr e) = option_and_then_some (third a.0 b.0) (take_number (2 ^ 32) b.1) ns e.1 (λ c v k. by_third a b c t u v k)
 
   by_first : (a : ℕ × List (List ℕ)) → take_number (2 ^ 32) ws ≡ Some a
-      → ((is_end a.1 ≡ true) × (Some (one a.0) ≡ Some ns)) ⊎ ((is_end a.1 ≡ false) × (option_and_then (second a.0) (take_number (2 ^ 32) a.1) ≡ Some ns)) → AreWordsOf ws ns
+      → ((is_end a.1 ≡ true) × (Some (one a.0) ≡ Some ns)) ⊎ ((is_end a.1 ≡ false) × (option_and_then (second a.0) (take_number (2 ^ 32) a.1) ≡ Some ns))
+      → AreWordsOf ws ns
   by_first a t (inl e) = words_of ws _ (one a.0) ns (more_taken ws [] a t (no_word a.1 e.0)) e.1 (refl, ((taken (2 ^ 32) ws a t).1, tt))
   by_first a t (inr e) = option_and_then_some (second a.0) (take_number (2 ^ 32) a.1) ns e.1 (λ b u k. by_second a b t u (by_test (is_end b.1) _ _ (Some ns) k))
 
@@ -77,9 +80,14 @@ pub three_of-words : (ns : List ℕ) → Are32 ns → HasUpToThree ns → three_
 unfolding three_of
 three_of-words [] h l = absurd (omega (arith, l.0))
 three_of-words (a ∷ []) h l = rw (take_number-decimal (2 ^ 32) a [] (omega arith) h.0) refl
-three_of-words (a ∷ b ∷ []) h l = rw (take_number-decimal (2 ^ 32) a (decimal b ∷ []) (omega arith) h.0, take_number-decimal (2 ^ 32) b [] (omega arith) h.1.0) refl
+three_of-words (a ∷ b ∷ []) h l = rw (take_number-decimal (2 ^ 32) a (decimal b ∷ []) (omega arith) h.0, take_number-decimal (2 ^ 32) b [] (omega arith) h.1.0)
+    refl
 three_of-words (a ∷ b ∷ c ∷ []) h l =
-    rw (take_number-decimal (2 ^ 32) a (decimal b ∷ decimal c ∷ []) (omega arith) h.0, take_number-decimal (2 ^ 32) b (decimal c ∷ []) (omega arith) h.1.0, take_number-decimal (2 ^ 32) c [] (omega arith) h.1.1.0) refl
+    rw (
+      take_number-decimal (2 ^ 32) a (decimal b ∷ decimal c ∷ []) (omega arith) h.0,
+      take_number-decimal (2 ^ 32) b (decimal c ∷ []) (omega arith) h.1.0,
+      take_number-decimal (2 ^ 32) c [] (omega arith) h.1.1.0,
+    ) refl
 three_of-words (a ∷ b ∷ c ∷ d ∷ ds) h l = absurd (omega (arith, l.1))
 
 pub exactly-words : (ns : List ℕ) → Are32 ns → HasUpToThree ns → exactly (length ns) (map decimal ns) ≡ Some (as_three ns)

@@ -14,8 +14,10 @@ words_lack (scope_row r) h = all_solid_lack 10 refl (row_words (scope_row r)) (r
 words_lack (input_row n) h = (solid_lacks 10 refl (codes "input") refl, (name_lacks 10 refl refl n h, tt))
 words_lack (constant_row v) h = (solid_lacks 10 refl (codes "const") refl, (value_lacks v h, tt))
 words_lack (node_row r) h = all_solid_lack 10 refl (row_words (node_row r)) (refl, (decimal_solid r.scope (omega (arith, h.0)), node_solid r.node h.1))
-words_lack (name_row r) h = all_solid_lack 10 refl (row_words (name_row r)) (entry_solid r.kind, (decimal_solid r.scope (omega (arith, h.0)), (decimal_solid (entry_number r.kind) (omega (arith, h.1)), tt)))
-words_lack (place_row r) h = all_solid_lack 10 refl (row_words (place_row r)) (refl, (decimal_solid r.scope (omega (arith, h.0)), (decimal_solid r.name (omega (arith, h.1)), decimals_solid (2 ^ 32) (omega arith) r.actuals h.2)))
+words_lack (name_row r) h = all_solid_lack 10 refl (row_words (name_row r))
+    (entry_solid r.kind, (decimal_solid r.scope (omega (arith, h.0)), (decimal_solid (entry_number r.kind) (omega (arith, h.1)), tt)))
+words_lack (place_row r) h = all_solid_lack 10 refl (row_words (place_row r))
+    (refl, (decimal_solid r.scope (omega (arith, h.0)), (decimal_solid r.name (omega (arith, h.1)), decimals_solid (2 ^ 32) (omega arith) r.actuals h.2)))
 words_lack (root_row n) h = all_solid_lack 10 refl (row_words (root_row n)) (refl, (decimal_solid n (omega (arith, h)), tt))
 
 -- a row's line has no line end
@@ -72,7 +74,8 @@ goes_on_by law rs line more t g d e =
     one_more_row law (flat_rows t) rs line more d.rows g (behind_first first_line _ _ split)
 
 -- a line that is no row's comes nowhere
-pub no_row_here : OneValue → (rs : List FlatRow) (line : List ℕ) → AllByRecursion RowFits rs → IsRowOf line None → CannotGoOn AreTableLines (lines_of_rows rs ++ line ∷ [])
+pub no_row_here : OneValue → (rs : List FlatRow) (line : List ℕ) → AllByRecursion RowFits rs → IsRowOf line None
+    → CannotGoOn AreTableLines (lines_of_rows rs ++ line ∷ [])
 no_row_here law rs line g h (more, (t, d, e)) =
     let o = goes_on_by law rs line more t g d e in h o.row o.fits o.is
 
@@ -92,7 +95,8 @@ lines-push rs r = ap (λ (ls : List (List ℕ)). first_line ∷ ls) (pushed rs)
     pushed (s ∷ ss) = ap (λ (ls : List (List ℕ)). row_line s ∷ ls) (pushed ss)
 
 -- what is said of a row that was added, or can't come, said of its line
-pub of_line : OneValue → (P : Type 0) (old new : List FlatRow) (r : FlatRow) (line : List ℕ) (added : Bool) → AllByRecursion RowFits old → RowFits r → line ≡ row_line r
+pub of_line : OneValue → (P : Type 0) (old new : List FlatRow) (r : FlatRow) (line : List ℕ) (added : Bool) → AllByRecursion RowFits old → RowFits r
+    → line ≡ row_line r
     → MatchBool added (P × (new ≡ old ++ r ∷ [])) (CannotCome old r)
     → MatchBool added (P × (lines_of_rows new ≡ lines_of_rows old ++ line ∷ [])) (CannotGoOn AreTableLines (lines_of_rows old ++ line ∷ []))
 of_line law P old new r line true g f l h =
@@ -113,7 +117,8 @@ goes_on_to t p false e h =
     let u = record t { root = 0 } in
     let g : cond (p == 7) (root_row t.root ∷ []) [] ≡ [] = rw e refl in
     let q : flat_rows u ≡ rows_so_far t p ++ root_row 0 ∷ [] =
-    push_g (map scope_row (drop 1 t.scopes)) (map input_row t.inputs) (map constant_row t.constants) (map node_row t.nodes) (map name_row t.names) (map place_row t.places)
+    push_g (map scope_row (drop 1 t.scopes)) (map input_row t.inputs) (map constant_row t.constants) (map node_row t.nodes) (map name_row t.names)
+    (map place_row t.places)
     (cond (p == 7) (root_row t.root ∷ []) []) (root_row 0) g in
     let P : List FlatRow → Type 0 = AllByRecursion RowFits in
     let has : HasText u = record {
@@ -133,7 +138,8 @@ begun_goes_on t p h = goes_on_to t p (p == 7) refl h
 whole_part : (t : Table) → part_behind 0 (flat_rows t) ≡ 7
 whole_part t =
     ap (part_behind 0)
-    (push_g (map scope_row (drop 1 t.scopes)) (map input_row t.inputs) (map constant_row t.constants) (map node_row t.nodes) (map name_row t.names) (map place_row t.places) [] (root_row t.root) refl)
+    (push_g (map scope_row (drop 1 t.scopes)) (map input_row t.inputs) (map constant_row t.constants) (map node_row t.nodes) (map name_row t.names)
+    (map place_row t.places) [] (root_row t.root) refl)
     ∙ behind-push 0 (rows_so_far t 0) (root_row t.root)
 
 pub same_rows : OneValue → (rs ss : List FlatRow) → AllByRecursion RowFits rs → AllByRecursion RowFits ss → lines_of_rows rs ≡ lines_of_rows ss → rs ≡ ss

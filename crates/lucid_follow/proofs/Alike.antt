@@ -85,7 +85,8 @@ none_found : (value : Uses) (x t w s : ℕ) → fed value (find_true x t w s) []
 none_found value zero t w s = refl
 none_found value (suc x) t w s = refl
 
-search_looks : (m : ℕ) (vs : List PlainValue) (t w s : ℕ) → suc t ≤ m → find_true (m - t) t w s ≡ look_plan m vs (record { part = 1; time = t; space = s; then = then.Find w })
+search_looks : (m : ℕ) (vs : List PlainValue) (t w s : ℕ) → suc t ≤ m
+    → find_true (m - t) t w s ≡ look_plan m vs (record { part = 1; time = t; space = s; then = then.Find w })
 search_looks m vs t w s h =
     let e : m - t ≡ suc (m - suc t) = omega (arith, h) in ap (λ (x : ℕ). find_true x t w s) e
 
@@ -97,7 +98,8 @@ find_alike m most vs t w s h = record {
       subst (λ (x : Plan). In z (points_of n x r)) (sym (search_looks m vs t w s (omega (arith, h, some)))) i;
 }
   where
-    by_uses : (value : Uses) (us : List ℕ) → length us ≤ most → fed value (find_true (m - t) t w s) us ≡ fed value (look_plan m vs (record { part = 1; time = t; space = s; then = then.Find w })) us
+    by_uses : (value : Uses) (us : List ℕ) → length us ≤ most
+        → fed value (find_true (m - t) t w s) us ≡ fed value (look_plan m vs (record { part = 1; time = t; space = s; then = then.Find w })) us
     by_uses value [] l = none_found value (m - t) t w s
     by_uses value (u ∷ us) l = ap (λ (x : Plan). fed value x (u ∷ us)) (search_looks m vs t w s (omega (arith, h, l)))
 
@@ -126,8 +128,10 @@ pairs value k v None = refl
 pairs value k v (Some r) = refl
 
 first_value : (value : Uses) (ls : List Look) (k : List PlainValue → Plan) (us : List ℕ) (o : Option PlainValue)
-    → option_and_then (λ (r : List PlainValue × List ℕ). fed value (k r.0) r.1) (option_and_then (λ v. option_and_then (λ (r : List PlainValue × List ℕ). Some (v ∷ r.0, r.1)) (take_values value ls us)) o)
-    ≡ option_and_then (λ (r : List PlainValue × List ℕ). fed value (single (λ v. looks ls (λ ws. k (v ∷ ws))) r.0) r.1) (option_and_then (λ v. Some (v ∷ [], us)) o)
+    → option_and_then (λ (r : List PlainValue × List ℕ). fed value (k r.0) r.1)
+    (option_and_then (λ v. option_and_then (λ (r : List PlainValue × List ℕ). Some (v ∷ r.0, r.1)) (take_values value ls us)) o)
+    ≡ option_and_then (λ (r : List PlainValue × List ℕ). fed value (single (λ v. looks ls (λ ws. k (v ∷ ws))) r.0) r.1)
+    (option_and_then (λ v. Some (v ∷ [], us)) o)
 first_value value ls k us None = refl
 first_value value ls k us (Some v) = pairs value k v (take_values value ls us)
 
@@ -159,7 +163,8 @@ module _ (m : ℕ) (r : Reader (Option PlainValue)) (l : Look) (ls : List Look) 
         | inr j ↦ absurd j
       ]
 
-  looks_together : (o : Option PlainValue) → In z ((seen ++ []) ++ with_values (add_value o (Some [])) [] (λ vs. points_of m (single (λ v. looks ls (λ ws. k (v ∷ ws))) vs) r))
+  looks_together : (o : Option PlainValue) → In z
+      ((seen ++ []) ++ with_values (add_value o (Some [])) [] (λ vs. points_of m (single (λ v. looks ls (λ ws. k (v ∷ ws))) vs) r))
       → In z ((seen ++ others) ++ with_values (add_value o (all_values r ls)) [] (λ ws. points_of m (k ws) r))
   looks_together None i =
       elim (in_either z (seen ++ []) [] i) [
@@ -172,13 +177,15 @@ module _ (m : ℕ) (r : Reader (Option PlainValue)) (l : Look) (ls : List Look) 
         | inr j ↦ later_looks v (all_values r ls) j
       ]
 
-pub one_by_one : (most : ℕ) (l : Look) (ls : List Look) (k : List PlainValue → Plan) → AreFedAlike most (looks (l ∷ ls) k) (looks (l ∷ []) (single (λ v. looks ls (λ ws. k (v ∷ ws)))))
+pub one_by_one : (most : ℕ) (l : Look) (ls : List Look) (k : List PlainValue → Plan)
+    → AreFedAlike most (looks (l ∷ ls) k) (looks (l ∷ []) (single (λ v. looks ls (λ ws. k (v ∷ ws)))))
 one_by_one most l ls k = record {
   fed = by_uses;
   look = λ some m r z i. looks_together m r l ls k z (r l.part l.time l.space) i;
 }
   where
-    by_uses : (value : Uses) (us : List ℕ) → length us ≤ most → fed value (looks (l ∷ ls) k) us ≡ fed value (looks (l ∷ []) (single (λ v. looks ls (λ ws. k (v ∷ ws))))) us
+    by_uses : (value : Uses) (us : List ℕ) → length us ≤ most
+        → fed value (looks (l ∷ ls) k) us ≡ fed value (looks (l ∷ []) (single (λ v. looks ls (λ ws. k (v ∷ ws))))) us
     by_uses value [] h = refl
     by_uses value (u ∷ us) h = first_value value ls k us (value l u)
 
@@ -192,16 +199,19 @@ module _ (op : Op) (t s : ℕ) where
   from_argument vs n i = looks (arguments n i t s) (λ ws. gives (algebra op (vs ++ ws)))
 
   regrouped : (vs : List PlainValue) (n i : ℕ)
-      → look i t s 0 (λ v. looks (arguments n (suc i) t s) (λ ws. gives (algebra op (vs ++ v ∷ ws)))) ≡ look i t s 0 (λ v. from_argument (vs ++ v ∷ []) n (suc i))
+      → look i t s 0 (λ v. looks (arguments n (suc i) t s) (λ ws. gives (algebra op (vs ++ v ∷ ws)))) ≡ look i t s 0
+      (λ v. from_argument (vs ++ v ∷ []) n (suc i))
   regrouped vs n i = λ j. look i t s 0 (λ v. looks (arguments n (suc i) t s) (λ ws. gives (algebra op (sym (append_assoc vs (v ∷ []) ws) j))))
 
   pub next_argument : (most m : ℕ) (vs : List PlainValue) (left i : ℕ) → left ≡ arity op - i → i < arity op
       → AreFedAlike most (from_argument vs left i) (look_plan m vs (record { part = i; time = t; space = s; then = then.Argument op }))
   next_argument most m vs left i e h =
       let n : left ≡ suc (arity op - suc i) = omega (arith, e, h) in
-      alike_then most (from_argument vs left i) (from_argument vs (suc (arity op - suc i)) i) (look_plan m vs (record { part = i; time = t; space = s; then = then.Argument op }))
+      alike_then most (from_argument vs left i) (from_argument vs (suc (arity op - suc i)) i)
+      (look_plan m vs (record { part = i; time = t; space = s; then = then.Argument op }))
       (ap (λ (x : ℕ). from_argument vs x i) n)
-      (alike_end most (from_argument vs (suc (arity op - suc i)) i) (look i t s 0 (λ v. looks (arguments (arity op - suc i) (suc i) t s) (λ ws. gives (algebra op (vs ++ v ∷ ws)))))
+      (alike_end most (from_argument vs (suc (arity op - suc i)) i)
+      (look i t s 0 (λ v. looks (arguments (arity op - suc i) (suc i) t s) (λ ws. gives (algebra op (vs ++ v ∷ ws)))))
       (look_plan m vs (record { part = i; time = t; space = s; then = then.Argument op }))
       (one_by_one most (record { part = i; time = t; space = s; least = 0 }) (arguments (arity op - suc i) (suc i) t s) (λ ws. gives (algebra op (vs ++ ws))))
       (regrouped vs (arity op - suc i) i))
@@ -210,12 +220,15 @@ module _ (op : Op) (t s : ℕ) where
       → AreFedAlike most (from_argument vs (arity op - suc i) (suc i)) (look_plan m vs (record { part = i + 1; time = t; space = s; then = then.Argument op }))
   argument_next most m vs i h =
       let e : i + 1 ≡ suc i = omega arith in
-      let P : ℕ → Type 0 = λ x. AreFedAlike most (from_argument vs (arity op - suc i) x) (look_plan m vs (record { part = i + 1; time = t; space = s; then = then.Argument op })) in
+      let P : ℕ → Type 0 = λ x. AreFedAlike most (from_argument vs (arity op - suc i) x)
+      (look_plan m vs (record { part = i + 1; time = t; space = s; then = then.Argument op })) in
       subst P e (next_argument most m vs (arity op - suc i) (i + 1) (omega arith) h)
 
   -- and with none left its value.
   pub last_argument : (most : ℕ) (vs : List PlainValue) (left i : ℕ) → left ≡ 0 → AreFedAlike most (from_argument vs left i) (gives (algebra op vs))
   last_argument most vs left i e =
-      alike_then most (from_argument vs left i) (looks [] (λ ws. gives (algebra op (vs ++ ws)))) (gives (algebra op vs)) (ap (λ (x : ℕ). from_argument vs x i) e)
-      (alike_end most (looks [] (λ ws. gives (algebra op (vs ++ ws)))) (gives (algebra op (vs ++ []))) (gives (algebra op vs)) (no_looks most (λ ws. gives (algebra op (vs ++ ws))))
+      alike_then most (from_argument vs left i) (looks [] (λ ws. gives (algebra op (vs ++ ws)))) (gives (algebra op vs))
+      (ap (λ (x : ℕ). from_argument vs x i) e)
+      (alike_end most (looks [] (λ ws. gives (algebra op (vs ++ ws)))) (gives (algebra op (vs ++ []))) (gives (algebra op vs))
+      (no_looks most (λ ws. gives (algebra op (vs ++ ws))))
       (ap (λ (x : List PlainValue). gives (algebra op x)) (append-nil vs)))

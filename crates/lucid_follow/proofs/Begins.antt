@@ -18,7 +18,8 @@ begins_alike m most t s f g p e h =
     let P : Head → Type 0 = λ x. AreFedAlike most (plan m x t s) p in subst P (sym e) h
 
 -- a search
-pub search_alike : (m most : ℕ) (w s : ℕ) → most ≤ m → AreFedAlike most (find_true m 0 w s) (look_plan m [] (record { part = 1; time = 0; space = s; then = then.Find w }))
+pub search_alike : (m most : ℕ) (w s : ℕ) → most ≤ m
+    → AreFedAlike most (find_true m 0 w s) (look_plan m [] (record { part = 1; time = 0; space = s; then = then.Find w }))
 search_alike m most w s h =
     let e : m - 0 ≡ m = omega arith in
     let P : ℕ → Type 0 = λ x. AreFedAlike most (find_true x 0 w s) (look_plan m [] (record { part = 1; time = 0; space = s; then = then.Find w })) in
@@ -29,7 +30,8 @@ pub upon_is : (m t s : ℕ) → t ≤ m → count_true t 0 0 s t ≡ plan m upon
 upon_is m t s h = rw (le-leb t m h) refl
 
 -- an operator
-pub apply_alike : (m most : ℕ) (op : Op) (t s : ℕ) → AreFedAlike most (plan m (apply op (arity op)) t s) (look_plan m [] (record { part = 0; time = t; space = s; then = then.Argument op }))
+pub apply_alike : (m most : ℕ) (op : Op) (t s : ℕ)
+    → AreFedAlike most (plan m (apply op (arity op)) t s) (look_plan m [] (record { part = 0; time = t; space = s; then = then.Argument op }))
 apply_alike m most op t s = next_argument op t s most m [] (arity op) 0 (omega arith) (let l = arity_some op in omega (arith, l))
 
 -- what moves the point

@@ -38,7 +38,8 @@ of_form T (rows.Freeze a) h = absurd h
 of_form T (rows.Refer n l) h = absurd h
 of_form T (rows.Call n q l) h = absurd h
 
-module _ (T : Table) (b : Elements) (value : Judged) (id : ℕ) (n : Node) (there : row_at T id ≡ Some n) (is : node_at T id ≡ node_by T n) (c : Context) (t s : ℕ) (us : List ℕ) where
+module _ (T : Table) (b : Elements) (value : Judged) (id : ℕ) (n : Node) (there : row_at T id ≡ Some n) (is : node_at T id ≡ node_by T n) (c : Context)
+    (t s : ℕ) (us : List ℕ) where
   by_its_node : (e : PlainNode) → node_at T id ≡ e → given T b value id c t s us ≡ by_node T b value e id c t s us
   unfolding given
   by_its_node e h = ap (λ (x : PlainNode). by_node T b value x id c t s us) h
@@ -60,13 +61,15 @@ module _ (T : Table) (b : Elements) (value : Judged) (id : ℕ) (n : Node) (ther
   part_is i = ap (λ (x : Option Node). option_and_then (λ y. slice_get (parts y) i) x) there
 
 -- an input gives its element, and what passes on what it goes on with
-pub input_gives : (T : Table) (b : Elements) (value : Judged) (id k : ℕ) (c : Context) (t s : ℕ) (us : List ℕ) → row_at T id ≡ Some (rows.Input k) → node_at T id ≡ node_by T (rows.Input k)
+pub input_gives : (T : Table) (b : Elements) (value : Judged) (id k : ℕ) (c : Context) (t s : ℕ) (us : List ℕ) → row_at T id ≡ Some (rows.Input k)
+    → node_at T id ≡ node_by T (rows.Input k)
     → given T b value id c t s us ≡ by_onward b value (element_of (get_or T.inputs k []) t) s us
 input_gives T b value id k c t s us there is =
     by_its_node T b value id (rows.Input k) there is c t s us (reference (input (get_or T.inputs k []))) is
     ∙ ap (λ x. by_onward b value (onward x) s us) (aim_is T b value id (rows.Input k) there is c t s us)
 
-pub passes_gives : (T : Table) (b : Elements) (value : Judged) (id : ℕ) (n : Node) (c : Context) (t s : ℕ) (us : List ℕ) → PassesOn n → row_at T id ≡ Some n → node_at T id ≡ node_by T n
+pub passes_gives : (T : Table) (b : Elements) (value : Judged) (id : ℕ) (n : Node) (c : Context) (t s : ℕ) (us : List ℕ) → PassesOn n → row_at T id ≡ Some n
+    → node_at T id ≡ node_by T n
     → given T b value id c t s us ≡ by_onward b value (row_onward T n c t) s us
 passes_gives T b value id (rows.Freeze a) c t s us h there is =
     by_its_node T b value id (rows.Freeze a) there is c t s us (freeze (at (nodes_of T) a)) is
@@ -80,7 +83,8 @@ passes_gives T b value id (rows.Call m q l) c t s us h there is =
 passes_gives T b value id n c t s us h there is = absurd h
 
 -- A judgment that can follow does where its node gives its value.
-pub follows_where : (T : Table) (b : Elements) (cs : List (Option Context)) (js : List PlainJudgment) (i : ℕ) (j : PlainJudgment) (c : Context) (it : Bool) → slice_get js i ≡ Some j → HasForm T cs j c
+pub follows_where : (T : Table) (b : Elements) (cs : List (Option Context)) (js : List PlainJudgment) (i : ℕ) (j : PlainJudgment) (c : Context) (it : Bool)
+    → slice_get js i ≡ Some j → HasForm T cs j c
     → (it ≡ true) ↔ (given T b (used cs js i) j.node c j.time j.space j.uses ≡ Some j.value) → (it ≡ true) ↔ FollowsIn T b cs js i
 follows_where T b cs js i j c it there form h = (
   λ e. record { judgment = j; there = there; context = c; form = form; gives = h.0 e },
@@ -93,7 +97,8 @@ follows_where T b cs js i j c it there form h = (
 )
 
 -- One that has no form doesn't follow.
-pub follows_not : (T : Table) (b : Elements) (cs : List (Option Context)) (js : List PlainJudgment) (i : ℕ) (j : PlainJudgment) → slice_get js i ≡ Some j → ((c : Context) → HasForm T cs j c → ⊥)
+pub follows_not : (T : Table) (b : Elements) (cs : List (Option Context)) (js : List PlainJudgment) (i : ℕ) (j : PlainJudgment) → slice_get js i ≡ Some j
+    → ((c : Context) → HasForm T cs j c → ⊥)
     → FollowsIn T b cs js i → ⊥
 follows_not T b cs js i j there none f =
     let same : f.judgment ≡ j = same_Some f.judgment j (sym f.there ∙ there) in

@@ -9,7 +9,8 @@ use Rattle.std.proofs.Common.{◌<◌, arith}
 use Rattle.lucid_follow.proofs.Alike.{alike, at_more, alike_then, told_test, told_place, told_truth}
 
 -- a search goes on after a true value that isn't the one that is wanted
-pub found_again : (most m w t s : ℕ) (a : Answer) (q : Plan) → a ≡ Holds true → 0 < w → AreFedAlike most (find_true (m - suc t) (suc t) (w - 1) s) q → AreFedAlike most (found_by m a w t s) q
+pub found_again : (most m w t s : ℕ) (a : Answer) (q : Plan) → a ≡ Holds true → 0 < w → AreFedAlike most (find_true (m - suc t) (suc t) (w - 1) s) q
+    → AreFedAlike most (found_by m a w t s) q
 found_again most m w t s a q e some h =
     let on = at_more w (w - 1) (gives_part 0 t s) (λ k. find_true (m - suc t) (suc t) k s) (omega (arith, some)) in
     alike_then most (found_by m a w t s) (find_true (m - suc t) (suc t) (w - 1) s) q (ap (λ (x : Answer). found_by m x w t s) e ∙ on) h

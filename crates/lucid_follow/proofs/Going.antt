@@ -10,7 +10,8 @@ use Rattle.lucid_equations.specs.declared.rows.Entry.TheVariants.{Current}
 use Rattle.lucid_follow.specs.Follows.{Onward}
 
 -- a current name goes on with its body in the context without its frozen time, at that time
-pub current_goes : (T : Table) (n id : ℕ) (c outer : Context) (f t top : ℕ) → name_at T n ≡ Some (Current id) → c ≡ frozen_frame f (base_of c) → top ≡ frames c → cut (top - 1) c ≡ Some outer
+pub current_goes : (T : Table) (n id : ℕ) (c outer : Context) (f t top : ℕ) → name_at T n ≡ Some (Current id) → c ≡ frozen_frame f (base_of c) → top ≡ frames c
+    → cut (top - 1) c ≡ Some outer
     → goes_to tt (record { number = id; context = outer }) f ≡ onward (name_number_aim T n (Some c) t)
 current_goes T n id root outer f t top h is l o = absurd (cc)
 current_goes T n id (call_frame at c d) outer f t top h is l o = absurd (cc)
@@ -25,14 +26,18 @@ current_goes T n id (frozen_frame u c) outer f t top h is l o =
 pub few_frames : (T : Table) (n level : ℕ) (c : Context) (t : ℕ) → frames c < level → nowhere ≡ onward (name_number_aim T n (cut level c) t)
 few_frames T n level c t h = sym (ap (λ (z : Option Context). onward (name_number_aim T n z t)) (cut-above c level h))
 
-pub few_to_call : (T : Table) (n at level : ℕ) (c : Context) (t : ℕ) → frames c < level → nowhere ≡ onward (name_number_aim T n (called_from at c (cut level c)) t)
+pub few_to_call : (T : Table) (n at level : ℕ) (c : Context) (t : ℕ) → frames c < level
+    → nowhere ≡ onward (name_number_aim T n (called_from at c (cut level c)) t)
 few_to_call T n at level c t h = sym (ap (λ (z : Option Context). onward (name_number_aim T n (called_from at c z) t)) (cut-above c level h))
 
 -- where there are enough, a name's aim is that in the context of the outer frames, and a call's that in the context that it enters
-pub name_goes : (T : Table) (n level : ℕ) (c base : Context) (t : ℕ) (a : Onward) → cut level c ≡ Some base → a ≡ onward (name_number_aim T n (Some base) t) → a ≡ onward (name_number_aim T n (cut level c) t)
+pub name_goes : (T : Table) (n level : ℕ) (c base : Context) (t : ℕ) (a : Onward) → cut level c ≡ Some base → a ≡ onward (name_number_aim T n (Some base) t)
+    → a ≡ onward (name_number_aim T n (cut level c) t)
 name_goes T n level c base t a h e = e ∙ sym (ap (λ (z : Option Context). onward (name_number_aim T n z t)) h)
 
-pub call_goes : (T : Table) (n at level : ℕ) (c base inner : Context) (t : ℕ) (a : Onward) → cut level c ≡ Some base → inner ≡ call_frame at c base → a ≡ onward (name_number_aim T n (Some inner) t)
+pub call_goes : (T : Table) (n at level : ℕ) (c base inner : Context) (t : ℕ) (a : Onward) → cut level c ≡ Some base → inner ≡ call_frame at c base
+    → a ≡ onward (name_number_aim T n (Some inner) t)
     → a ≡ onward (name_number_aim T n (called_from at c (cut level c)) t)
 call_goes T n at level c base inner t a h i e =
-    e ∙ (ap (λ (z : Context). onward (name_number_aim T n (Some z) t)) i ∙ sym (ap (λ (z : Option Context). onward (name_number_aim T n (called_from at c z) t)) h))
+    e ∙ (ap (λ (z : Context). onward (name_number_aim T n (Some z) t)) i
+    ∙ sym (ap (λ (z : Option Context). onward (name_number_aim T n (called_from at c z) t)) h))

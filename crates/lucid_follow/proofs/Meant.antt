@@ -48,13 +48,15 @@ module _ (T : Table) (in_range : IsInRange T) (laws : Laws) (b : Elements) (cs :
 
   -- it is so of the judgment of a number
   abbrev pub IsMeant : ℕ → Type 0
-  IsMeant i = (j : PlainJudgment) (c : Context) → slice_get js i ≡ Some j → context_in cs j.context ≡ Some c → Has (i + 1 + most) j.node c j.time j.space j.value
+  IsMeant i = (j : PlainJudgment) (c : Context) → slice_get js i ≡ Some j → context_in cs j.context ≡ Some c
+      → Has (i + 1 + most) j.node c j.time j.space j.value
 
   up : (m n id : ℕ) → m ≤ n → (c : Context) (t s : ℕ) (v : PlainValue) → Has m id c t s v → Has n id c t s v
   up m n id l c t s v h = laws.stay (equations_of T) (nothing_held b) m n l (node_at T id) c t s v h
 
   module _ (i : ℕ) (earlier : (u : ℕ) → u < i → IsMeant u) where
-    of_judgment : (u n : ℕ) (c : Context) (t s : ℕ) (v : PlainValue) (j : PlainJudgment) → u < i → slice_get js u ≡ Some j → is_of cs j n c t s ≡ true → j.value ≡ v
+    of_judgment : (u n : ℕ) (c : Context) (t s : ℕ) (v : PlainValue) (j : PlainJudgment) → u < i → slice_get js u ≡ Some j → is_of cs j n c t s ≡ true
+        → j.value ≡ v
         → Has (i + most) n c t s v
     of_judgment u n c t s v j l there is e =
         let p = and_parts (j.node == n) _ is in
@@ -83,7 +85,8 @@ module _ (T : Table) (in_range : IsInRange T) (laws : Laws) (b : Elements) (cs :
         cond_parts false o y h = absurd (cc)
 
     -- what is read of a part, by a use
-    part_means : (id : ℕ) (f : Head) (es : PlainNodes) (c : Context) → node_at T id ≡ row f es → (l : Look) (u : ℕ) (v : PlainValue) → of_part T (used cs js i) id c l u ≡ Some v
+    part_means : (id : ℕ) (f : Head) (es : PlainNodes) (c : Context) → node_at T id ≡ row f es → (l : Look) (u : ℕ) (v : PlainValue)
+        → of_part T (used cs js i) id c l u ≡ Some v
         → reads_parts (equations_of T) (nothing_held b) (i + 1 + most) es c l.part l.time l.space ≡ Some v
     part_means id f es c is l u v e =
         option_and_then_some _ (part_number T id l.part) v e (λ k t m.
@@ -122,7 +125,8 @@ module _ (T : Table) (in_range : IsInRange T) (laws : Laws) (b : Elements) (cs :
         subst P (sym is) (laws.freezing (equations_of T) e (nothing_held b) (i + 1 + most) c t s
         ∙ (ap (λ (x : PlainNode). node_val (equations_of T) b (i + 1 + most) x (frozen_frame t c) t s) subject ∙ value)))
 
-    by_aim : (id : ℕ) (c : Context) (t s : ℕ) (us : List ℕ) (v : PlainValue) (a : NumberAim) → number_aim T id c t ≡ a → by_onward b (used cs js i) (onward a) s us ≡ Some v
+    by_aim : (id : ℕ) (c : Context) (t s : ℕ) (us : List ℕ) (v : PlainValue) (a : NumberAim) → number_aim T id c t ≡ a
+        → by_onward b (used cs js i) (onward a) s us ≡ Some v
         → Has (i + 1 + most) id c t s v
     by_aim id c t s [] v (element_of n j) is h =
         let aim = laws.numbers T in_range id c t ∙ ap (plain_aim T) is in
@@ -142,7 +146,8 @@ module _ (T : Table) (in_range : IsInRange T) (laws : Laws) (b : Elements) (cs :
     by_its_node id c t s us v (reference r) l is h = by_aim id c t s us v (number_aim T id c t) refl h
     by_its_node id c t s us v (invoke n at k) l is h = by_aim id c t s us v (number_aim T id c t) refl h
 
-    gives_meant : (id : ℕ) (c : Context) (t s : ℕ) (us : List ℕ) (v : PlainValue) → t + length us ≤ most → given T b (used cs js i) id c t s us ≡ Some v → Has (i + 1 + most) id c t s v
+    gives_meant : (id : ℕ) (c : Context) (t s : ℕ) (us : List ℕ) (v : PlainValue) → t + length us ≤ most → given T b (used cs js i) id c t s us ≡ Some v
+        → Has (i + 1 + most) id c t s v
     unfolding given
     gives_meant id c t s us v l h = by_its_node id c t s us v (node_at T id) l refl h
 
@@ -180,4 +185,5 @@ module _ (T : Table) (in_range : IsInRange T) (laws : Laws) (b : Elements) (cs :
   all_meant n all within (suc k) l i h = next_meant n all within k l (all_meant n all within k (omega (arith, l))) i (lesser i k h)
 
 pub what_follows_is_meant : Laws → WhatFollowsIsMeant
-what_follows_is_meant laws T r b w n most all within i j c l there context = all_meant T r laws b (contexts w) w.judgments most n all within n (omega arith) i l j c there context
+what_follows_is_meant laws T r b w n most all within i j c l there context =
+    all_meant T r laws b (contexts w) w.judgments most n all within n (omega arith) i l j c there context

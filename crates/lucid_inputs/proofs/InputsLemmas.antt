@@ -27,7 +27,8 @@ at_other : (streams : List InputStream) (i k : ℕ) (t : InputStream) → k ≢ 
     → unwrap_or (slice_get (map stream_of (slice_set streams i t)) k) (fresh_stream 0) ≡ unwrap_or (slice_get (map stream_of streams) k) (fresh_stream 0)
 at_other streams i k t other =
     ap (λ o. unwrap_or o (fresh_stream 0))
-    (slice_get-map stream_of (slice_set streams i t) k ∙ ap (option_map stream_of) (slice_get-set_other streams i k t other) ∙ sym (slice_get-map stream_of streams k))
+    (slice_get-map stream_of (slice_set streams i t) k ∙ ap (option_map stream_of) (slice_get-set_other streams i k t other)
+    ∙ sym (slice_get-map stream_of streams k))
 
 -- the numbers of the places
 places-map : (streams : List InputStream) → map (λ s. s.place) (map stream_of streams) ≡ map place_of streams
@@ -189,7 +190,8 @@ same_place : (old new : List Stream) (k : ℕ) → map (λ s. s.place) new ≡ m
 same_place old new k same =
     number_at new k ∙ ap (λ ps. unwrap_or (slice_get ps k) 0) same ∙ sym (number_at old k)
   where
-    number_at : (streams : List Stream) (k : ℕ) → (unwrap_or (slice_get streams k) (fresh_stream 0)).place ≡ unwrap_or (slice_get (map (λ s. s.place) streams) k) 0
+    number_at : (streams : List Stream) (k : ℕ) → (unwrap_or (slice_get streams k) (fresh_stream 0)).place ≡ unwrap_or
+        (slice_get (map (λ s. s.place) streams) k) 0
     number_at [] k = refl
     number_at (s ∷ streams) zero = refl
     number_at (s ∷ streams) (suc k) = number_at streams k

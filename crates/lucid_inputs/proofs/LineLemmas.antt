@@ -134,4 +134,5 @@ one_past b ys n k j false e h past = rw (lines_of-onto b ys e) (onto_past b (lin
 pub end_past : (bytes : List ℕ) (m : ℕ) (ms : List ℕ) (j : ℕ) → line_ends bytes ≤ j → length bytes < length (concat (take (suc j) (lines_of (bytes ++ m ∷ ms))))
 end_past [] m ms j h = none_past m ms j (m == 10) refl
 end_past (b ∷ bs) m ms j h =
-    one_past b (bs ++ m ∷ ms) (length bs) (line_ends bs) j (b == 10) refl (omega (arith, sum_by-cons (λ x. cond (x == 10) 1 0) b bs)) (λ i few. end_past bs m ms i few)
+    one_past b (bs ++ m ∷ ms) (length bs) (line_ends bs) j (b == 10) refl (omega (arith, sum_by-cons (λ x. cond (x == 10) 1 0) b bs))
+    (λ i few. end_past bs m ms i few)

@@ -140,7 +140,8 @@ takes_done old new before bytes going some front (takes_part plain is) =
     subst (λ n. StepDone old n before (option_map (advanced (length bytes)) before)) (sym is) (part_done old before bytes going some front plain)
 takes_done old new before bytes going some front (takes_line xs joined plain is) =
     let these = subst (λ b. IfSome before (λ c. StartsWith c.left b)) joined front in
-    let done = subst (λ n. StepDone old n before (option_map (advanced (length (xs ++ 10 ∷ []))) before)) (sym is) (line_done old before xs going these plain) in
+    let done = subst (λ n. StepDone old n before (option_map (advanced (length (xs ++ 10 ∷ []))) before)) (sym is)
+    (line_done old before xs going these plain) in
     subst (λ b. StepDone old new before (option_map (advanced (length b)) before)) (sym joined) done
 
 pub step_done : (old new : Stream) (before after : Option Contents) → old.ended ≡ false → Step old new before after → StepDone old new before after

@@ -145,7 +145,8 @@ fits_line s c xs e f front plain =
 last_is : (rest : List ℕ) → line_ends rest ≡ 0 → last_element (take 4194305 rest) ≡ map line_element (lines_of rest)
 last_is [] plain = refl
 last_is (b ∷ bs) plain =
-    ap (λ v. v ∷ []) (whole_value (take 4194305 (b ∷ bs)) (b ∷ bs) [] refl ∙ ap line_value_of (append-nil (b ∷ bs)) ∙ sym (ap line_value_of (without_end-part (b ∷ bs) plain)))
+    ap (λ v. v ∷ []) (whole_value (take 4194305 (b ∷ bs)) (b ∷ bs) [] refl ∙ ap line_value_of (append-nil (b ∷ bs))
+    ∙ sym (ap line_value_of (without_end-part (b ∷ bs) plain)))
     ∙ sym (ap (map line_element) (lines_of-part b bs plain))
 
 pub fits_end : (s : Stream) (c : Contents) → s.ended ≡ false → Fits s c → c.left ≡ [] → Fits (with_end s) c

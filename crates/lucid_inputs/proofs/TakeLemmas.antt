@@ -56,7 +56,8 @@ now_ended s = record s { ended = true }
 pub taken_part : (s : Stream) (bytes partial : List ℕ) → line_ends bytes ≡ 0 → partial ≡ line_with s.partial bytes
     → Takes (take (length bytes) bytes) s (record s { partial = partial; consumed = s.consumed + length bytes })
 taken_part s bytes partial plain is =
-    subst (λ b. Takes b s (record s { partial = partial; consumed = s.consumed + length bytes })) (sym (take_all (length bytes) bytes (le_refl _))) (takes_part plain (ap (λ p. record s { partial = p; consumed = s.consumed + length bytes }) is))
+    subst (λ b. Takes b s (record s { partial = partial; consumed = s.consumed + length bytes })) (sym (take_all (length bytes) bytes (le_refl _)))
+    (takes_part plain (ap (λ p. record s { partial = p; consumed = s.consumed + length bytes }) is))
 
 -- the bytes through the first line end are taken
 pub taken_line : (s t : Stream) (bytes : List ℕ) (end : ℕ) → end < length bytes → (get_or bytes end 0 == 10) ≡ true → line_ends (take end bytes) ≡ 0

@@ -19,11 +19,14 @@ unfolding text_through
 text_through_none last = refl
 
 -- the pieces of a line that stand one after the other, and the same pieces as a line with its end
-pub joined_pieces : (name before equals begin plus end_of line_end : List ℕ) → name ++ (equals ++ (before ++ (begin ++ (name ++ (plus ++ (before ++ (end_of ++ line_end))))))) ≡ (name ++ equals ++ before ++ begin ++ name ++ plus ++ before ++ end_of) ++ line_end
+pub joined_pieces : (name before equals begin plus end_of line_end : List ℕ)
+    → name ++ (equals ++ (before ++ (begin ++ (name ++ (plus ++ (before ++ (end_of ++ line_end))))))) ≡ (name ++ equals ++ before ++ begin ++ name ++ plus ++ before ++ end_of) ++ line_end
 joined_pieces name before equals begin plus end_of line_end = simp append_assoc
 
 -- one more line after some definitions of a list of any kind
-one_line_more : (end_of : List ℕ → List ℕ) (line : ℕ → List ℕ) (front : List (List ℕ)) (count : ℕ) → flat_map end_of (front ++ map line (range_with_len 1 (count + 1))) ≡ flat_map end_of (front ++ map line (range_with_len 1 count)) ++ end_of (line (count + 1))
+one_line_more : (end_of : List ℕ → List ℕ) (line : ℕ → List ℕ) (front : List (List ℕ)) (count : ℕ)
+    → flat_map end_of (front ++ map line (range_with_len 1 (count + 1))) ≡ flat_map end_of (front ++ map line (range_with_len 1 count)) ++ end_of
+    (line (count + 1))
 one_line_more end_of line front count =
     let lines = map line (range_with_len 1 count) in
     let new = line (count + 1) in
@@ -84,7 +87,8 @@ begins old new last empty gained =
     gained ∙ ap (λ bs. bs ++ (ended_line (subject_line last) ++ ended_line first_definition)) empty ∙ sym (text_through_none last)
 
 -- a text that gains the next definition
-pub goes_on : (old new : List ℕ) (last count number through : ℕ) → count + 1 ≡ number → through ≡ number → old ≡ text_through last count → new ≡ old ++ ended_line (definition_of number) → new ≡ text_through last through
+pub goes_on : (old new : List ℕ) (last count number through : ℕ) → count + 1 ≡ number → through ≡ number → old ≡ text_through last count
+    → new ≡ old ++ ended_line (definition_of number) → new ≡ text_through last through
 goes_on old new last count number through next same was gained =
     let added : new ≡ old ++ ended_line (definition_of (count + 1)) = rw next gained in
     rw (same, ← next) (added ∙ ap (λ bs. bs ++ ended_line (definition_of (count + 1))) was ∙ sym (text_through_more last count))

@@ -38,7 +38,8 @@ found_in (o ∷ ops) form spelling op e = by (has form spelling (operator_row o)
         → (option_map (λ r. r.op) (find (has form spelling) (map operator_row ops)) ≡ Some op → has form spelling (operator_row op) ≡ true)
         → option_map (λ r. r.op) (cond t (Some (operator_row o)) (find (has form spelling) (map operator_row ops))) ≡ Some op
         → has form spelling (operator_row op) ≡ true
-    by true h k e = let own : (operator_row o).op ≡ o = (row_stands o).own in let same : o ≡ op = grind (arith, e, own) in subst (λ x. has form spelling (operator_row x) ≡ true) same h
+    by true h k e = let own : (operator_row o).op ≡ o = (row_stands o).own in let same : o ≡ op = grind (arith, e, own) in
+        subst (λ x. has form spelling (operator_row x) ≡ true) same h
     by false h k e = k e
 
 -- a form is the one of its number

@@ -30,7 +30,8 @@ nonzero : (n : ℕ) (v : PlainValue) → unless_zero (pos (suc n)) v ≡ v
 nonzero n v = let e : nat_eq (suc n) 0 ≡ false = grind (arith, nat_tests) in rw e refl
 
 -- a quotient is there where the divisor is not 0 and it has a place
-pub quotient_checked : (r : Option ℤ) (a b : ℤ) → FitsSigned w128 b → SomeIff r (CanDivide w128 a b) (int_div a b) → option_map_or int r fault ≡ unless_zero b (integer (int_div a b))
+pub quotient_checked : (r : Option ℤ) (a b : ℤ) → FitsSigned w128 b → SomeIff r (CanDivide w128 a b) (int_div a b)
+    → option_map_or int r fault ≡ unless_zero b (integer (int_div a b))
 quotient_checked None a (pos zero) f h = refl
 quotient_checked (Some x) a (pos zero) f h = absurd (omega (arith, h.0.0))
 quotient_checked None a (pos (suc n)) f h = rw (nonzero n, integer_past (int_div a (pos (suc n))) (λ k. h (omega arith, k))) refl
@@ -41,16 +42,22 @@ quotient_checked (Some x) a (negsuc n) f h = rw (integer_within (int_div a (negs
 -- a remainder has its place
 pub remainder_fits : (a b : ℤ) → FitsSigned w128 a → 0 < unsigned_abs b → int (int_rem a b) ≡ unless_zero b (integer (int_rem a b))
 remainder_fits a (pos zero) f h = absurd (omega arith)
-remainder_fits a (pos (suc n)) f h = rw (nonzero n, integer_within (int_rem a (pos (suc n))) (record { sfits = omega (arith, f.sfits, mag_rem a (pos (suc n))) })) refl
+remainder_fits a (pos (suc n)) f h = rw (
+  nonzero n,
+  integer_within (int_rem a (pos (suc n)))
+      (record { sfits = omega (arith, f.sfits, mag_rem a (pos (suc n))) }),
+) refl
 remainder_fits a (negsuc n) f h = rw (integer_within (int_rem a (negsuc n)) (record { sfits = omega (arith, f.sfits, mag_rem a (negsuc n)) })) refl
 
 -- a power is there where it has a place
-pub power_checked : (r : Option ℤ) (a e : ℤ) → pos 0 ≤ℤ e → SomeIff r (FitsSigned w128 (int_pow a (unsigned_abs e))) (int_pow a (unsigned_abs e)) → option_map_or int r fault ≡ row_of_two integer Pow (int a) (int e)
+pub power_checked : (r : Option ℤ) (a e : ℤ) → pos 0 ≤ℤ e → SomeIff r (FitsSigned w128 (int_pow a (unsigned_abs e))) (int_pow a (unsigned_abs e))
+    → option_map_or int r fault ≡ row_of_two integer Pow (int a) (int e)
 power_checked r a (pos n) p h = integer_checked r (int_pow a n) h
 power_checked r a (negsuc n) p h = absurd (omega (arith, ints))
 
 -- the size of an integer has its place where the integer's opposite has
-pub size_checked : (r : Option ℤ) (z : ℤ) → FitsSigned w128 z → SomeIff r (FitsSigned w128 (neg_ℤ z)) (pos (unsigned_abs z)) → option_map_or int r fault ≡ integer (pos (unsigned_abs z))
+pub size_checked : (r : Option ℤ) (z : ℤ) → FitsSigned w128 z → SomeIff r (FitsSigned w128 (neg_ℤ z)) (pos (unsigned_abs z))
+    → option_map_or int r fault ≡ integer (pos (unsigned_abs z))
 size_checked r (pos zero) f h = integer_checked r (pos 0) h
 size_checked None (pos (suc n)) f h = absurd (h (record { sfits = omega (arith, f.sfits) }))
 size_checked (Some x) (pos (suc n)) f h = rw (integer_within (pos (suc n)) f, h.1) refl

@@ -14,6 +14,7 @@ pub find_plain : {A : Type 0} (f : A → Row) (test : Row → Bool) (xs : List A
 find_plain f test [] = refl
 find_plain f test (x ∷ xs) = by (test (f x)) (find_plain f test xs)
   where
-    by : (t : Bool) → find test (map f xs) ≡ option_map f (find (λ y. test (f y)) xs) → cond t (Some (f x)) (find test (map f xs)) ≡ option_map f (cond t (Some x) (find (λ y. test (f y)) xs))
+    by : (t : Bool) → find test (map f xs) ≡ option_map f (find (λ y. test (f y)) xs)
+        → cond t (Some (f x)) (find test (map f xs)) ≡ option_map f (cond t (Some x) (find (λ y. test (f y)) xs))
     by true h = refl
     by false h = h

@@ -21,13 +21,15 @@ neither Fault p q = absurd (q refl)
 neither _ p q = (refl, refl)
 
 -- where no argument is end of data or an error the row decides
-pub row_decides_two : (op : Op) (v w : Value) → 1 < arity op → (v ≡ Eod → ⊥) → (v ≡ Fault → ⊥) → (w ≡ Eod → ⊥) → (w ≡ Fault → ⊥) → algebra op (plain v ∷ plain w ∷ []) ≡ row_of_two integer op (plain v) (plain w)
+pub row_decides_two : (op : Op) (v w : Value) → 1 < arity op → (v ≡ Eod → ⊥) → (v ≡ Fault → ⊥) → (w ≡ Eod → ⊥) → (w ≡ Fault → ⊥)
+    → algebra op (plain v ∷ plain w ∷ []) ≡ row_of_two integer op (plain v) (plain w)
 row_decides_two op v w h a b c d =
     let s = neither v a b in
     let t = neither w c d in
     many_keep_rule op (plain v ∷ plain w ∷ []) h ∙ rw (s.0, t.0, s.1, t.1) refl
 
-pub row_decides_three : (op : Op) (u v w : Value) → 1 < arity op → (u ≡ Eod → ⊥) → (u ≡ Fault → ⊥) → (v ≡ Eod → ⊥) → (v ≡ Fault → ⊥) → (w ≡ Eod → ⊥) → (w ≡ Fault → ⊥) → algebra op (plain u ∷ plain v ∷ plain w ∷ []) ≡ row_of_three op (plain u) (plain v) (plain w)
+pub row_decides_three : (op : Op) (u v w : Value) → 1 < arity op → (u ≡ Eod → ⊥) → (u ≡ Fault → ⊥) → (v ≡ Eod → ⊥) → (v ≡ Fault → ⊥) → (w ≡ Eod → ⊥)
+    → (w ≡ Fault → ⊥) → algebra op (plain u ∷ plain v ∷ plain w ∷ []) ≡ row_of_three op (plain u) (plain v) (plain w)
 row_decides_three op u v w h a b c d e f =
     let r = neither u a b in
     let s = neither v c d in

@@ -11,7 +11,8 @@ letter_or_digit b h = grind (arith, nat_tests)
 
 letters_and_digits : (bs : List ℕ) → list_all is_ascii_alphanumeric bs ≡ true → is_text bs ≡ true
 letters_and_digits [] h = refl
-letters_and_digits (b ∷ bs) h = let p = and_parts (is_ascii_alphanumeric b) (list_all is_ascii_alphanumeric bs) h in both_true (letter_or_digit b p.0) (letters_and_digits bs p.1)
+letters_and_digits (b ∷ bs) h = let p = and_parts (is_ascii_alphanumeric b) (list_all is_ascii_alphanumeric bs) h in
+    both_true (letter_or_digit b p.0) (letters_and_digits bs p.1)
 
 wordlike : (bs : List ℕ) → is_wordlike bs ≡ true → is_text bs ≡ true
 wordlike [] h = refl

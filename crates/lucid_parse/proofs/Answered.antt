@@ -11,7 +11,8 @@ use Rattle.lucid_parse.proofs.Built.{one_tree}
 pub refused_memory : (source : List ℕ) (tokens : List Token) (why : ParseRefusal) → why ≡ refusal.NoMemory → IsRefused source tokens why
 refused_memory source tokens why is = subst (IsRefused source tokens) (sym is) tt
 
-refused_as : (source : List ℕ) (tokens : List Token) (terminals : List PlacedTerminal) (why : ParseRefusal) → Terminals source tokens terminals → AreRefused why terminals (length source)
+refused_as : (source : List ℕ) (tokens : List Token) (terminals : List PlacedTerminal) (why : ParseRefusal) → Terminals source tokens terminals
+    → AreRefused why terminals (length source)
     → IsRefused source tokens why
 refused_as source tokens terminals (refusal.Syntax at) stand refused = (terminals, stand, refused)
 refused_as source tokens terminals (refusal.TooNested at) stand refused = (terminals, stand, refused)
@@ -22,7 +23,8 @@ module _ (source : List ℕ) (tokens : List Token) (terminals : List PlacedTermi
   spelled (Ok tree) h = (terminals, stand, h)
   spelled (Err why) h = tt
 
-  pub refused : (r : Result PlainTree ParseRefusal) (end : ℕ) → end ≡ length source → IfErr r (λ why. AreRefused why terminals end) → IfErr r (λ why. IsRefused source tokens why)
+  pub refused : (r : Result PlainTree ParseRefusal) (end : ℕ) → end ≡ length source → IfErr r (λ why. AreRefused why terminals end)
+      → IfErr r (λ why. IsRefused source tokens why)
   refused (Ok tree) end is h = tt
   refused (Err why) end is h = refused_as source tokens terminals why stand (subst (AreRefused why terminals) is h)
 

@@ -12,7 +12,8 @@ use Rattle.lucid_parse.proofs.Levels.{infix_arity, prefix_arity, node-operator}
 use Rattle.lucid_parse.proofs.Complete.{written_parts-and, written_all-and, written_defs-and}
 use Rattle.lucid_parse.proofs.Exact.{spelled_nodes}
 
-over : (f g : PlainPiles → Option PlainPiles) (h : PlainPiles → Option PlainPiles) (o : Option PlainPiles) → ((now : PlainPiles) → f now ≡ option_and_then h (g now))
+over : (f g : PlainPiles → Option PlainPiles) (h : PlainPiles → Option PlainPiles) (o : Option PlainPiles)
+    → ((now : PlainPiles) → f now ≡ option_and_then h (g now))
     → option_and_then f o ≡ option_and_then h (option_and_then g o)
 over f g h None k = refl
 over f g h (Some now) k = k now
@@ -25,11 +26,13 @@ pub built-push : (out : List PlainItem) (i : PlainItem) (from : PlainPiles) → 
 built-push [] i from = last (put_on i from)
 built-push (x ∷ out) i from = over (built (out ++ i ∷ [])) (built out) (put_on i) (put_on x from) (λ now. built-push out i now)
 
-grow : (out : List PlainItem) (i : PlainItem) (from now after : PlainPiles) → built out from ≡ Some now → put_on i now ≡ Some after → built (out ++ i ∷ []) from ≡ Some after
+grow : (out : List PlainItem) (i : PlainItem) (from now after : PlainPiles) → built out from ≡ Some now → put_on i now ≡ Some after
+    → built (out ++ i ∷ []) from ≡ Some after
 grow out i from now after e f = built-push out i from ∙ ap (option_and_then (put_on i)) e ∙ f
 
 -- the same where the node is an equal one
-grow_as : (out : List PlainItem) (j i : PlainItem) (from now after : PlainPiles) → j ≡ i → built out from ≡ Some now → put_on i now ≡ Some after → built (out ++ j ∷ []) from ≡ Some after
+grow_as : (out : List PlainItem) (j i : PlainItem) (from now after : PlainPiles) → j ≡ i → built out from ≡ Some now → put_on i now ≡ Some after
+    → built (out ++ j ∷ []) from ≡ Some after
 grow_as out j i from now after s e f = ap (λ x. built (out ++ x ∷ []) from) s ∙ grow out i from now after e f
 
 -- piles with one more on top
@@ -66,7 +69,8 @@ in_front-none no_trees = refl
 in_front-none (tree t ts) = ap (tree t) (in_front-none ts)
 
 -- taking as many as were put, over any that were taken since
-gathered : (parts : PlainTrees) (ts : List PlainTree) (n : ℕ) (more : PlainTrees) → gather (count parts + n) (piled parts ts) more ≡ gather n ts (in_front parts more)
+gathered : (parts : PlainTrees) (ts : List PlainTree) (n : ℕ) (more : PlainTrees)
+    → gather (count parts + n) (piled parts ts) more ≡ gather n ts (in_front parts more)
 gathered no_trees ts n more = ap (λ k. gather k ts more) (let e : 0 + n ≡ n = omega arith in e)
 gathered (tree t parts) ts n more =
     ap (λ k. gather k (piled parts (t ∷ ts)) more) (let e : (count parts + 1) + n ≡ count parts + suc n = omega arith in e)
@@ -78,7 +82,8 @@ taken parts ts =
     ∙ gathered parts ts 0 no_trees ∙ ap (λ all. Some (all, ts)) (in_front-none parts)
 
 -- an operator over as many trees as it has operands
-put_operator : (o : Operator) (at : ℕ) (args : PlainTrees) (now : PlainPiles) → count args ≡ arity_of o → put_on (item.Operator o at) (with_trees args now) ≡ Some (with_tree (form at (head o) args) now)
+put_operator : (o : Operator) (at : ℕ) (args : PlainTrees) (now : PlainPiles) → count args ≡ arity_of o
+    → put_on (item.Operator o at) (with_trees args now) ≡ Some (with_tree (form at (head o) args) now)
 put_operator o at args now all =
     ap (option_and_then (λ g. Some (piles (form at (head o) g.0 ∷ g.1) now.lists now.names now.places now.blocks)))
     (ap (λ n. gather n (piled args now.trees) no_trees) (sym all) ∙ taken args now.trees)
@@ -107,7 +112,8 @@ def_kind_of Plain e = def_kind.Plain e
 def_kind_of (Function ps) e = def_kind.Function (names_of ps) (places_of ps) e
 def_kind_of Current e = def_kind.Current e
 
-def_list-and : (ds : PlainDefs) (at : ℕ) (n : List ℕ) (h : Defined) (t : PlainTree) → def_list ds ++ definition at n (def_kind_of h t) ∷ [] ≡ def_list (defs_and ds at n h t)
+def_list-and : (ds : PlainDefs) (at : ℕ) (n : List ℕ) (h : Defined) (t : PlainTree)
+    → def_list ds ++ definition at n (def_kind_of h t) ∷ [] ≡ def_list (defs_and ds at n h t)
 def_list-and no_defs at n Plain t = refl
 def_list-and no_defs at n (Function ps) t = refl
 def_list-and no_defs at n Current t = refl
@@ -123,7 +129,8 @@ defs_of-list (defines_current at n e ds) = ap (defines_current at n e) (defs_of-
 
 built-parameters : (ps : List Parameter) (out : List PlainItem) (from now : PlainPiles) (ns : List (List ℕ)) (ats : List ℕ)
     → built out from ≡ Some (with_names ns ats now) → built (with_parameters out ps) from ≡ Some (with_names (ns ++ names_of ps) (ats ++ places_of ps) now)
-built-parameters [] out from now ns ats e = e ∙ ap (λ l. Some (with_names l ats now)) (sym (append-nil ns)) ∙ ap (λ l. Some (with_names (ns ++ []) l now)) (sym (append-nil ats))
+built-parameters [] out from now ns ats e = e ∙ ap (λ l. Some (with_names l ats now)) (sym (append-nil ns))
+    ∙ ap (λ l. Some (with_names (ns ++ []) l now)) (sym (append-nil ats))
 built-parameters (x ∷ ps) out from now ns ats e =
     built-parameters ps (out ++ item.Param x.at x.name ∷ []) from now (ns ++ x.name ∷ []) (ats ++ x.at ∷ []) (grow out (item.Param x.at x.name) from _ _ e refl)
     ∙ ap (λ l. Some (with_names l ((ats ++ x.at ∷ []) ++ places_of ps) now)) (append_assoc ns (x.name ∷ []) (names_of ps))
@@ -138,7 +145,8 @@ mutual
   built-written (Grammar.spells_name {at = at} {n = n}) out from now e = grow out (item.Name at n) from now _ e refl
   built-written (Grammar.spells_infix {at = at} {x = x} {y = y} terminal operator is low sx sy) out from now e =
       grow_as (written (written out x) y) _ (item.Operator operator at) from (with_tree y (with_tree x now)) _ (node-operator operator at)
-      (built-written sy (written out x) from (with_tree x now) (built-written sx out from now e)) (put_operator operator at (tree x (tree y no_trees)) now (sym (infix_arity terminal operator is)))
+      (built-written sy (written out x) from (with_tree x now) (built-written sx out from now e))
+      (put_operator operator at (tree x (tree y no_trees)) now (sym (infix_arity terminal operator is)))
   built-written (Grammar.spells_prefix {at = at} {x = x} terminal operator is low sx) out from now e =
       grow_as (written out x) _ (item.Operator operator at) from (with_tree x now) _ (node-operator operator at) (built-written sx out from now e)
       (put_operator operator at (tree x no_trees) now (sym (prefix_arity terminal operator is)))
@@ -156,7 +164,8 @@ mutual
       (built-parts sa out from now e) (put_operator operator at args now all)
   built-written (Grammar.spells_block {at = at} end_at {x = x} {all = all} low sx sd) out from now e =
       grow (written_defs (written out x ++ item.NoDefs ∷ []) all) (item.Block at) from (with_block (def_list all) (with_tree x now)) _
-      (built-defs sd (written out x ++ item.NoDefs ∷ []) from (with_tree x now) (grow (written out x) item.NoDefs from (with_tree x now) _ (built-written sx out from now e) refl))
+      (built-defs sd (written out x ++ item.NoDefs ∷ []) from (with_tree x now)
+      (grow (written out x) item.NoDefs from (with_tree x now) _ (built-written sx out from now e) refl))
       (ap (λ a. Some (with_tree (block at x a) now)) (defs_of-list all))
 
   built-parts : {ws : List PlacedTerminal} {args : PlainTrees} → SpellsArgs ws args → (out : List PlainItem) (from now : PlainPiles)
@@ -169,7 +178,8 @@ mutual
 
   built-args : {ws : List PlacedTerminal} {args : PlainTrees} → SpellsArgs ws args → (out : List PlainItem) (from now : PlainPiles)
       → built out from ≡ Some (with_list [] now) → built (written_all out args) from ≡ Some (with_list (tree_list args) now)
-  built-args (Grammar.spells_one {x = x} sx) out from now e = grow (written out x) item.More from (with_tree x (with_list [] now)) _ (built-written sx out from (with_list [] now) e) refl
+  built-args (Grammar.spells_one {x = x} sx) out from now e =
+      grow (written out x) item.More from (with_tree x (with_list [] now)) _ (built-written sx out from (with_list [] now) e) refl
   built-args (Grammar.spells_more comma_at {all = all} {y = y} sa sy) out from now e =
       ap (λ o. built o from) (written_all-and out all y)
       ∙ grow (written (written_all out all) y) item.More from (with_tree y (with_list (tree_list all) now)) _
@@ -207,9 +217,11 @@ first_trees None = []
 first_trees (Some held) = held.trees
 
 -- two trees with the same nodes are one
-pub written-one : {outer allowed : ℕ} {us ws : List PlacedTerminal} {x y : PlainTree} → Spells outer us x → Spells allowed ws y → written [] x ≡ written [] y → x ≡ y
+pub written-one : {outer allowed : ℕ} {us ws : List PlacedTerminal} {x y : PlainTree} → Spells outer us x → Spells allowed ws y → written [] x ≡ written [] y
+    → x ≡ y
 written-one {x = x} {y = y} s t e =
-    let same : ◌≡◌ {A = Option PlainPiles} (Some (piles (x ∷ []) [] [] [] [])) (Some (piles (y ∷ []) [] [] [] [])) = sym (rebuilt s) ∙ ap (λ l. built l no_piles) e ∙ rebuilt t in
+    let same : ◌≡◌ {A = Option PlainPiles} (Some (piles (x ∷ []) [] [] [] [])) (Some (piles (y ∷ []) [] [] [] [])) = sym (rebuilt s)
+    ∙ ap (λ l. built l no_piles) e ∙ rebuilt t in
     let lists : ◌≡◌ {A = List PlainTree} (x ∷ []) (y ∷ []) = ap first_trees same in cc
 
 -- terminals spell at most one tree
@@ -219,7 +231,8 @@ one_tree ws x y s t =
     written-one s t (cc)
 
 -- a node more
-pub built-more : (items : List PlainItem) (i : ℕ) (d : PlainItem) (from now : PlainPiles) (o : Option PlainPiles) → i < length items → built (take i items) from ≡ Some now → put_on (get_or items i d) now ≡ o
+pub built-more : (items : List PlainItem) (i : ℕ) (d : PlainItem) (from now : PlainPiles) (o : Option PlainPiles) → i < length items
+    → built (take i items) from ≡ Some now → put_on (get_or items i d) now ≡ o
     → built (take (i + 1) items) from ≡ o
 built-more items i d from now o h e f =
     ap (λ l. built l from) (take_more items i d h) ∙ built-push (take i items) (get_or items i d) from ∙ ap (option_and_then (put_on (get_or items i d))) e ∙ f
@@ -234,13 +247,15 @@ built-front (x ∷ xs) ys from after e f = of (put_on x from) e f (λ now g h. b
     of (Some now) g h k = k now g h
 
 -- no node of a tree that is spelled lacks its parts
-pub never_lacks : {ws : List PlacedTerminal} {t : PlainTree} → Spells 0 ws t → (items : List PlainItem) (n : ℕ) → items ≡ written [] t → built (take n items) no_piles ≡ None → ⊥
+pub never_lacks : {ws : List PlacedTerminal} {t : PlainTree} → Spells 0 ws t → (items : List PlainItem) (n : ℕ) → items ≡ written [] t
+    → built (take n items) no_piles ≡ None → ⊥
 never_lacks {t = t} s items n e f =
     built-front (take n items) (drop n items) no_piles (piles (t ∷ []) [] [] [] [])
     (ap (λ l. built l no_piles) (take-append-drop n items ∙ e) ∙ rebuilt s) f
 
 -- in the end there is the tree
-pub all_built : {ws : List PlacedTerminal} {t : PlainTree} → Spells 0 ws t → (items : List PlainItem) (n : ℕ) (from : PlainPiles) → items ≡ written [] t → length items ≤ n → built (take n items) no_piles ≡ Some from → from.trees ≡ t ∷ []
+pub all_built : {ws : List PlacedTerminal} {t : PlainTree} → Spells 0 ws t → (items : List PlainItem) (n : ℕ) (from : PlainPiles) → items ≡ written [] t
+    → length items ≤ n → built (take n items) no_piles ≡ Some from → from.trees ≡ t ∷ []
 all_built {t = t} s items n from e h f =
     let same : Some from ≡ Some (piles (t ∷ []) [] [] [] []) = sym f ∙ ap (λ l. built l no_piles) (take_all n items h ∙ e) ∙ rebuilt s in
     let one : from ≡ piles (t ∷ []) [] [] [] [] = cc in

@@ -17,31 +17,39 @@ least_in-append best (x ∷ xs) ys = ap (lesser x) (least_in-append best xs ys)
 pub from_end : List PlainItem → List ℕ → Option ℕ → Option ℕ
 from_end out ds best = search_from (reverse out) ds best
 
-from_end-push : (out : List PlainItem) (i : PlainItem) (d : ℕ) (ds : List ℕ) (best : Option ℕ) → from_end (out ++ i ∷ []) (d ∷ ds) best ≡ from_end out (below i d ds) (found i d best)
+from_end-push : (out : List PlainItem) (i : PlainItem) (d : ℕ) (ds : List ℕ) (best : Option ℕ)
+    → from_end (out ++ i ∷ []) (d ∷ ds) best ≡ from_end out (below i d ds) (found i d best)
 unfolding from_end
 from_end-push out i d ds best = ap (λ l. search_from l (d ∷ ds) best) (reverse-append out (i ∷ []))
 
 -- the same where the node is an equal one
-from_end-as : (out : List PlainItem) (other i : PlainItem) (d : ℕ) (ds : List ℕ) (best : Option ℕ) → other ≡ i → from_end (out ++ other ∷ []) (d ∷ ds) best ≡ from_end out (below i d ds) (found i d best)
+from_end-as : (out : List PlainItem) (other i : PlainItem) (d : ℕ) (ds : List ℕ) (best : Option ℕ) → other ≡ i
+    → from_end (out ++ other ∷ []) (d ∷ ds) best ≡ from_end out (below i d ds) (found i d best)
 from_end-as out other i d ds best e = ap (λ x. from_end (out ++ x ∷ []) (d ∷ ds) best) e ∙ from_end-push out i d ds best
 
-searched_parameters : (ps : List Parameter) (out : List PlainItem) (d : ℕ) (ds : List ℕ) (best : Option ℕ) → from_end (with_parameters out ps) (d ∷ ds) best ≡ from_end out (d ∷ ds) best
+searched_parameters : (ps : List Parameter) (out : List PlainItem) (d : ℕ) (ds : List ℕ) (best : Option ℕ)
+    → from_end (with_parameters out ps) (d ∷ ds) best ≡ from_end out (d ∷ ds) best
 searched_parameters [] out d ds best = refl
-searched_parameters (p ∷ ps) out d ds best = searched_parameters ps (out ++ item.Param p.at p.name ∷ []) d ds best ∙ from_end-push out (item.Param p.at p.name) d ds best
+searched_parameters (p ∷ ps) out d ds best = searched_parameters ps (out ++ item.Param p.at p.name ∷ []) d ds best
+    ∙ from_end-push out (item.Param p.at p.name) d ds best
 
 at_depth_in-and : (d : ℕ) (ts : PlainTrees) (t : PlainTree) → at_depth_in d (trees_and ts t) ≡ at_depth_in d ts ++ at_depth d t
 unfolding at_depth
 at_depth_in-and d no_trees t = append-nil (at_depth d t)
 at_depth_in-and d (tree s ts) t = ap (λ l. at_depth d s ++ l) (at_depth_in-and d ts t) ∙ sym (append_assoc (at_depth d s) (at_depth_in d ts) (at_depth d t))
 
-at_depth_in_defs-and : (d : ℕ) (ds : PlainDefs) (at : ℕ) (n : List ℕ) (h : Defined) (t : PlainTree) → at_depth_in_defs d (defs_and ds at n h t) ≡ at_depth_in_defs d ds ++ at_depth d t
+at_depth_in_defs-and : (d : ℕ) (ds : PlainDefs) (at : ℕ) (n : List ℕ) (h : Defined) (t : PlainTree)
+    → at_depth_in_defs d (defs_and ds at n h t) ≡ at_depth_in_defs d ds ++ at_depth d t
 unfolding at_depth
 at_depth_in_defs-and d no_defs at n Plain t = append-nil (at_depth d t)
 at_depth_in_defs-and d no_defs at n (Function ps) t = append-nil (at_depth d t)
 at_depth_in_defs-and d no_defs at n Current t = append-nil (at_depth d t)
-at_depth_in_defs-and d (defines a m s ds) at n h t = ap (λ l. at_depth d s ++ l) (at_depth_in_defs-and d ds at n h t) ∙ sym (append_assoc (at_depth d s) (at_depth_in_defs d ds) (at_depth d t))
-at_depth_in_defs-and d (defines_function a m ns ats s ds) at n h t = ap (λ l. at_depth d s ++ l) (at_depth_in_defs-and d ds at n h t) ∙ sym (append_assoc (at_depth d s) (at_depth_in_defs d ds) (at_depth d t))
-at_depth_in_defs-and d (defines_current a m s ds) at n h t = ap (λ l. at_depth d s ++ l) (at_depth_in_defs-and d ds at n h t) ∙ sym (append_assoc (at_depth d s) (at_depth_in_defs d ds) (at_depth d t))
+at_depth_in_defs-and d (defines a m s ds) at n h t = ap (λ l. at_depth d s ++ l) (at_depth_in_defs-and d ds at n h t)
+    ∙ sym (append_assoc (at_depth d s) (at_depth_in_defs d ds) (at_depth d t))
+at_depth_in_defs-and d (defines_function a m ns ats s ds) at n h t = ap (λ l. at_depth d s ++ l) (at_depth_in_defs-and d ds at n h t)
+    ∙ sym (append_assoc (at_depth d s) (at_depth_in_defs d ds) (at_depth d t))
+at_depth_in_defs-and d (defines_current a m s ds) at n h t = ap (λ l. at_depth d s ++ l) (at_depth_in_defs-and d ds at n h t)
+    ∙ sym (append_assoc (at_depth d s) (at_depth_in_defs d ds) (at_depth d t))
 
 copies-more : (n d : ℕ) (ds : List ℕ) → copies (n + 1) d ds ≡ d ∷ copies n d ds
 copies-more n d ds = ap (λ k. copies k d ds) (add-one n)
@@ -49,7 +57,8 @@ copies-more n d ds = ap (λ k. copies k d ds) (add-one n)
 mutual
   unfolding written at_depth
 
-  searched : {allowed : ℕ} {ws : List PlacedTerminal} {t : PlainTree} → Spells allowed ws t → (out : List PlainItem) (d : ℕ) (ds : List ℕ) (best : Option ℕ) → from_end (written out t) (d ∷ ds) best ≡ from_end out ds (least_in best (at_depth d t))
+  searched : {allowed : ℕ} {ws : List PlacedTerminal} {t : PlainTree} → Spells allowed ws t → (out : List PlainItem) (d : ℕ) (ds : List ℕ) (best : Option ℕ)
+      → from_end (written out t) (d ∷ ds) best ≡ from_end out ds (least_in best (at_depth d t))
   searched (Grammar.spells_const {at = at} {v = v}) out d ds best = from_end-push out (item.Const at v) d ds best
   searched (Grammar.spells_name {at = at} {n = n}) out d ds best = from_end-push out (item.Name at n) d ds best
   searched (Grammar.spells_infix {at = at} {x = x} {y = y} terminal operator is low sx sy) out d ds best =
@@ -116,13 +125,15 @@ mutual
       ∙ from_end-push (written (written_defs out all) y) (item.Def kind.Plain at n) d ds best
       ∙ searched sy (written_defs out all) d (d ∷ ds) best
       ∙ searched_defs sd out d ds (least_in best (at_depth d y))
-      ∙ ap (from_end out (d ∷ ds)) (sym (ap (least_in best) (at_depth_in_defs-and d all at n Plain y) ∙ least_in-append best (at_depth_in_defs d all) (at_depth d y)))
+      ∙ ap (from_end out (d ∷ ds)) (sym (ap (least_in best) (at_depth_in_defs-and d all at n Plain y)
+      ∙ least_in-append best (at_depth_in_defs d all) (at_depth d y)))
   searched_defs (Grammar.spells_current at n is_at current_at semicolon_at {all = all} {y = y} sd sy) out d ds best =
       ap (λ is_at. from_end is_at (d ∷ ds) best) (written_defs-and out all at n Current y)
       ∙ from_end-push (written (written_defs out all) y) (item.Def kind.Current at n) d ds best
       ∙ searched sy (written_defs out all) d (d ∷ ds) best
       ∙ searched_defs sd out d ds (least_in best (at_depth d y))
-      ∙ ap (from_end out (d ∷ ds)) (sym (ap (least_in best) (at_depth_in_defs-and d all at n Current y) ∙ least_in-append best (at_depth_in_defs d all) (at_depth d y)))
+      ∙ ap (from_end out (d ∷ ds)) (sym (ap (least_in best) (at_depth_in_defs-and d all at n Current y)
+      ∙ least_in-append best (at_depth_in_defs d all) (at_depth d y)))
   searched_defs (Grammar.spells_function at n open_at close_at equals_at semicolon_at {all = all} {parameters = ps} {y = y} sd sn sy) out d ds best =
       let named = with_parameters (written_defs out all ++ item.NoNames ∷ []) ps in
       ap (λ open_at. from_end open_at (d ∷ ds) best) (written_defs-and out all at n (Function ps) y)
@@ -131,10 +142,12 @@ mutual
       ∙ searched_parameters ps (written_defs out all ++ item.NoNames ∷ []) d (d ∷ ds) (least_in best (at_depth d y))
       ∙ from_end-push (written_defs out all) item.NoNames d (d ∷ ds) (least_in best (at_depth d y))
       ∙ searched_defs sd out d ds (least_in best (at_depth d y))
-      ∙ ap (from_end out (d ∷ ds)) (sym (ap (least_in best) (at_depth_in_defs-and d all at n (Function ps) y) ∙ least_in-append best (at_depth_in_defs d all) (at_depth d y)))
+      ∙ ap (from_end out (d ∷ ds)) (sym (ap (least_in best) (at_depth_in_defs-and d all at n (Function ps) y)
+      ∙ least_in-append best (at_depth_in_defs d all) (at_depth d y)))
 
 -- what the search finds in a program
-pub search_finds : {allowed : ℕ} {ws : List PlacedTerminal} {t : PlainTree} → Spells allowed ws t → (d : ℕ) → search_from (reverse (written [] t)) (d ∷ []) None ≡ least_in None (at_depth d t)
+pub search_finds : {allowed : ℕ} {ws : List PlacedTerminal} {t : PlainTree} → Spells allowed ws t → (d : ℕ)
+    → search_from (reverse (written [] t)) (d ∷ []) None ≡ least_in None (at_depth d t)
 unfolding from_end
 search_finds s d = searched s [] d [] None
 
@@ -175,7 +188,8 @@ least_in-some [] at e = cc
 least_in-some (p ∷ []) at e = let same : p ≡ at = cc in subst (IsLeast (p ∷ [])) same (IsLeast-one p)
 least_in-some (p ∷ (r ∷ ps)) at e = of (least_in None (r ∷ ps)) refl e (λ q f. least_in-some (r ∷ ps) q f)
   where
-    of : (o : Option ℕ) → least_in None (r ∷ ps) ≡ o → lesser p o ≡ Some at → ((q : ℕ) → least_in None (r ∷ ps) ≡ Some q → IsLeast (r ∷ ps) q) → IsLeast (p ∷ (r ∷ ps)) at
+    of : (o : Option ℕ) → least_in None (r ∷ ps) ≡ o → lesser p o ≡ Some at → ((q : ℕ) → least_in None (r ∷ ps) ≡ Some q → IsLeast (r ∷ ps) q)
+        → IsLeast (p ∷ (r ∷ ps)) at
     of None f g k = absurd (not_none (least_in None ps) f)
       where
         not_none : (o : Option ℕ) → lesser r o ≡ None → ⊥
@@ -246,9 +260,12 @@ mutual
 
   filled_in_defs : (all : PlainDefs) (d : ℕ) → at_depth_in_defs d all ≡ [] → 1 ≤ d → depths_in_defs all < d
   filled_in_defs no_defs d e h = omega arith
-  filled_in_defs (defines at n t all) d e h = let s = split2 (at_depth d t) (at_depth_in_defs d all) e in omega (arith, filled t d s.0 h, filled_in_defs all d s.1 h)
-  filled_in_defs (defines_function at n ns ats t all) d e h = let s = split2 (at_depth d t) (at_depth_in_defs d all) e in omega (arith, filled t d s.0 h, filled_in_defs all d s.1 h)
-  filled_in_defs (defines_current at n t all) d e h = let s = split2 (at_depth d t) (at_depth_in_defs d all) e in omega (arith, filled t d s.0 h, filled_in_defs all d s.1 h)
+  filled_in_defs (defines at n t all) d e h = let s = split2 (at_depth d t) (at_depth_in_defs d all) e in
+      omega (arith, filled t d s.0 h, filled_in_defs all d s.1 h)
+  filled_in_defs (defines_function at n ns ats t all) d e h = let s = split2 (at_depth d t) (at_depth_in_defs d all) e in
+      omega (arith, filled t d s.0 h, filled_in_defs all d s.1 h)
+  filled_in_defs (defines_current at n t all) d e h = let s = split2 (at_depth d t) (at_depth_in_defs d all) e in
+      omega (arith, filled t d s.0 h, filled_in_defs all d s.1 h)
 
 -- a tree with a place at a depth is that deep
 pub deep : (t : PlainTree) (d at : ℕ) → Contains (at_depth d t) at → d ≤ depth t

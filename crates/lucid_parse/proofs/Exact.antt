@@ -15,7 +15,8 @@ front [] ys g h e = (g, refl)
 front (x ∷ xs) ys g h e = onto (step g x.terminal x.at) refl e (λ i f. front xs ys i h f)
   where
     onto : (o : Option PlainState) → step g x.terminal x.at ≡ o → option_and_then (λ i. feeds i (xs ++ ys)) o ≡ Some h
-        → ((i : PlainState) → feeds i (xs ++ ys) ≡ Some h → (j : PlainState) × (feeds i xs ≡ Some j)) → (j : PlainState) × (option_and_then (λ i. feeds i xs) o ≡ Some j)
+        → ((i : PlainState) → feeds i (xs ++ ys) ≡ Some h → (j : PlainState) × (feeds i xs ≡ Some j))
+        → (j : PlainState) × (option_and_then (λ i. feeds i xs) o ≡ Some j)
     onto None s e k = cc
     onto (Some i) s e k = k i e
 
@@ -40,7 +41,8 @@ begins_take : (ts : List PlacedTerminal) (i : ℕ) (t : PlainTree) → Spells 0 
 begins_take ts i t s = (drop i ts, t, subst (λ l. Spells 0 l t) (sym (take-append-drop i ts)) s)
 
 -- a step over the next terminal
-pub feeds-more : (ts : List PlacedTerminal) (i : ℕ) (d : PlacedTerminal) (g : PlainState) (o : Option PlainState) → i < length ts → feeds start (take i ts) ≡ Some g → step g (get_or ts i d).terminal (get_or ts i d).at ≡ o
+pub feeds-more : (ts : List PlacedTerminal) (i : ℕ) (d : PlacedTerminal) (g : PlainState) (o : Option PlainState) → i < length ts
+    → feeds start (take i ts) ≡ Some g → step g (get_or ts i d).terminal (get_or ts i d).at ≡ o
     → feeds start (take (i + 1) ts) ≡ o
 feeds-more ts i d g o h e f =
     ap (feeds start) (take_more ts i d h) ∙ feeds-append (take i ts) (get_or ts i d ∷ []) start g e ∙ ap (option_and_then (λ j. feeds j [])) f ∙ last o
@@ -49,7 +51,8 @@ feeds-more ts i d g o h e f =
     last None = refl
     last (Some j) = refl
 
-module _ (ts : List PlacedTerminal) (i end : ℕ) (d : PlacedTerminal) (g : PlainState) (h : i < length ts) (e : feeds start (take i ts) ≡ Some g) (f : step g (get_or ts i d).terminal (get_or ts i d).at ≡ None) where
+module _ (ts : List PlacedTerminal) (i end : ℕ) (d : PlacedTerminal) (g : PlainState) (h : i < length ts) (e : feeds start (take i ts) ≡ Some g)
+    (f : step g (get_or ts i d).terminal (get_or ts i d).at ≡ None) where
   stuck : Begins (take (i + 1) ts) → ⊥
   stuck b = no_way (take i ts) (get_or ts i d) g e f (subst Begins (take_more ts i d h) b)
 

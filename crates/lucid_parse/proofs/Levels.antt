@@ -16,7 +16,8 @@ use Rattle.lucid_parse.specs.Grammar.{row_of, as_form}
 of_form : (wanted : Form) (o found : Operator) → as_form wanted o ≡ Some found → ((row_of o).form ≡ wanted) × (o ≡ found)
 of_form wanted o found e = of (nat_eq (form_number (row_of o).form) (form_number wanted)) refl e
   where
-    of : (b : Bool) → nat_eq (form_number (row_of o).form) (form_number wanted) ≡ b → cond b (Some o) None ≡ Some found → ((row_of o).form ≡ wanted) × (o ≡ found)
+    of : (b : Bool) → nat_eq (form_number (row_of o).form) (form_number wanted) ≡ b → cond b (Some o) None ≡ Some found
+        → ((row_of o).form ≡ wanted) × (o ≡ found)
     of true s f = (form_is _ _ s, cc)
     of false s f = cc
 
@@ -45,7 +46,8 @@ single_fits _ level n e = cc
 infix_fits : (terminal : PlainTerminal) (o : Operator) → operator_in Between terminal ≡ Some o → (level_of o < 12) × (arity_of o ≡ 2)
 infix_fits terminal o e = both_fit (level_of o) (arity_of o) 2 (fits_as o Between (stands Between terminal o e))
 
-prefix_fits : (terminal : PlainTerminal) (o : Operator) → operator_in Before terminal ≡ Some o → ((row_of o).side ≡ Single) × ((level_of o < 12) × (arity_of o ≡ 1))
+prefix_fits : (terminal : PlainTerminal) (o : Operator) → operator_in Before terminal ≡ Some o
+    → ((row_of o).side ≡ Single) × ((level_of o < 12) × (arity_of o ≡ 1))
 prefix_fits terminal o e =
     let single = single_fits (row_of o).side (level_of o) (arity_of o) (fits_as o Before (stands Before terminal o e)) in
     (single.0, both_fit (level_of o) (arity_of o) 1 single.1)
@@ -60,7 +62,8 @@ pub prefix_level_most : (terminal : PlainTerminal) (o : Operator) → operator_i
 prefix_level_most terminal o e = let fits = prefix_fits terminal o e in omega (arith, fits.1.0)
 
 -- the levels of an operator's operands
-bounds : (side : Side) (level : ℕ) → (level ≤ left_level side level) × ((left_level side level ≤ level + 1) × ((level ≤ right_level side level) × (right_level side level ≤ level + 1)))
+bounds : (side : Side) (level : ℕ) → (level ≤ left_level side level)
+    × ((left_level side level ≤ level + 1) × ((level ≤ right_level side level) × (right_level side level ≤ level + 1)))
 bounds Left level = (omega arith, (omega arith, (omega arith, omega arith)))
 bounds _ level = (omega arith, (omega arith, (omega arith, omega arith)))
 
@@ -90,10 +93,12 @@ apart operator following h k =
     (subst (λ x. left_level x (level_of operator) ≤ level_of operator) sides (subst (λ n. left_level (row_of following).side n ≤ level_of operator) same h))
     (subst (λ n. right_level (row_of operator).side (level_of operator) ≤ n) same k)
 
-pub apart_prefix : (terminal : PlainTerminal) (operator following : Operator) → operator_in Before terminal ≡ Some operator → left following ≤ level_of operator → level_of operator ≤ level_of following → ⊥
+pub apart_prefix : (terminal : PlainTerminal) (operator following : Operator) → operator_in Before terminal ≡ Some operator → left following ≤ level_of operator
+    → level_of operator ≤ level_of following → ⊥
 apart_prefix terminal operator following e h k =
     let same : level_of following ≡ level_of operator = omega (arith, h, k, left_least following) in
-    let single : (row_of following).side ≡ Single = (row_stands following).side ∙ ap level_side same ∙ sym (row_stands operator).side ∙ (prefix_fits terminal operator e).0 in
+    let single : (row_of following).side ≡ Single = (row_stands following).side ∙ ap level_side same ∙ sym (row_stands operator).side
+    ∙ (prefix_fits terminal operator e).0 in
     let alone : left following ≡ level_of following + 1 = ap (λ s. left_level s (level_of following)) single in
     omega (arith, h, same, alone)
 

@@ -15,7 +15,8 @@ pub record Spelling (ws : List PlacedTerminal) (items : List PlainItem) : Type 0
   pub spells : Spells 0 ws tree
   pub nodes_are : items ≡ written [] tree
 
-reached : (ws : List PlacedTerminal) (items : List PlainItem) (o : Option PlainState) → feeds start ws ≡ o → option_and_then finish o ≡ Some items → Spelling ws items
+reached : (ws : List PlacedTerminal) (items : List PlainItem) (o : Option PlainState) → feeds start ws ≡ o → option_and_then finish o ≡ Some items
+    → Spelling ws items
 reached ws items None s e = cc
 reached ws items (Some g) s e = let h = sound ws g items s e in record { tree = h.0; spells = h.1; nodes_are = h.2 }
 
@@ -26,7 +27,8 @@ abbrev CodeItem : Type 0
 CodeItem = Item (Bor (List ℕ)) (Bor Value)
 
 -- What was found in the same nodes, for the terminals whose nodes these are.
-module _ (ws : List PlacedTerminal) (items seen : List CodeItem) (e : nodes ws ≡ Some (items_of items)) (same : seen ≡ items) (r : Option ℕ) (f : r ≡ search_from (reverse seen) (401 ∷ []) None) where
+module _ (ws : List PlacedTerminal) (items seen : List CodeItem) (e : nodes ws ≡ Some (items_of items)) (same : seen ≡ items) (r : Option ℕ)
+    (f : r ≡ search_from (reverse seen) (401 ∷ []) None) where
   abbrev pub spelling : Spelling ws (items_of items)
   spelling = spelling_of ws (items_of items) e
 
@@ -61,7 +63,8 @@ have_tree ws items again e k seen same r f is =
 abbrev IsBuilt : List CodeItem → PlainTree → Type 0
 IsBuilt items tree = (us : List PlacedTerminal) → (t : PlainTree) → Spells 0 us t → items_of items ≡ written [] t → tree ≡ t
 
-module _ (ws : List PlacedTerminal) (items again : List CodeItem) (e : nodes ws ≡ Some (items_of items)) (k : again ≡ items) (tree : PlainTree) (built : IsBuilt again tree) where
+module _ (ws : List PlacedTerminal) (items again : List CodeItem) (e : nodes ws ≡ Some (items_of items)) (k : again ≡ items) (tree : PlainTree)
+    (built : IsBuilt again tree) where
   pub built_is : tree ≡ (spelling_of ws (items_of items) e).tree
   built_is = let s = spelling_of ws (items_of items) e in built ws s.tree s.spells (ap items_of k ∙ s.nodes_are)
 

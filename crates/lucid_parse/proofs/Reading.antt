@@ -4,8 +4,10 @@ use Rattle.lucid_parse.proofs.Filled.{filled_step, filled_finish}
 use Rattle.lucid_parse.proofs.Exact.{feeds-more, fault_at_step, none_at_step, fault_at_end, none_at_end}
 
 module _ {M V : Type 0} (f : M → List ℕ) (g : V → PlainValue) (ws : List PlacedTerminal) (h : State M V) where
-  module _ (i : ℕ) (d : PlacedTerminal) (terminal : Terminal M V) (fits : i < length ws) (so_far : feeds start (take i ws) ≡ Some (fill_state f g h)) (same : fill_terminal f g terminal ≡ (get_or ws i d).terminal) where
-    step_is : (o : Option (State M V)) → step h terminal (get_or ws i d).at ≡ o → step (fill_state f g h) (get_or ws i d).terminal (get_or ws i d).at ≡ option_map (fill_state f g) o
+  module _ (i : ℕ) (d : PlacedTerminal) (terminal : Terminal M V) (fits : i < length ws) (so_far : feeds start (take i ws) ≡ Some (fill_state f g h))
+      (same : fill_terminal f g terminal ≡ (get_or ws i d).terminal) where
+    step_is : (o : Option (State M V)) → step h terminal (get_or ws i d).at ≡ o
+        → step (fill_state f g h) (get_or ws i d).terminal (get_or ws i d).at ≡ option_map (fill_state f g) o
     step_is o e =
         ap (λ x. step (fill_state f g h) x (get_or ws i d).at) (sym same) ∙ filled_step f g h terminal (get_or ws i d).at ∙ ap (option_map (fill_state f g)) e
 
@@ -33,7 +35,8 @@ module _ {M V : Type 0} (f : M → List ℕ) (g : V → PlainValue) (ws : List P
 -- The same of the code's terminals.
 module _ (terminals : List TerminalAt) (h : State (Bor (List ℕ)) (Bor Value)) where
   module _ (i : ℕ) (x : TerminalAt) (fits : i < length terminals) (is : x ≡ get_or terminals i x) (terminal : Terminal (Bor (List ℕ)) (Bor Value))
-      (so_far : feeds start (take i (terminals_of terminals)) ≡ Some (fill_state name_now value_now h)) (same : fill_terminal name_now value_now terminal ≡ (placed_of x).terminal) where
+      (so_far : feeds start (take i (terminals_of terminals)) ≡ Some (fill_state name_now value_now h))
+      (same : fill_terminal name_now value_now terminal ≡ (placed_of x).terminal) where
     terminal_is : get_or (terminals_of terminals) i (placed_of x) ≡ placed_of x
     terminal_is = get_or-map placed_of terminals i x (placed_of x) fits ∙ ap placed_of (sym is)
 
@@ -43,13 +46,16 @@ module _ (terminals : List TerminalAt) (h : State (Bor (List ℕ)) (Bor Value)) 
     same_terminal : fill_terminal name_now value_now terminal ≡ (get_or (terminals_of terminals) i (placed_of x)).terminal
     same_terminal = same ∙ ap (λ w. w.terminal) (sym terminal_is)
 
-    pub terminal_read : (moved : State (Bor (List ℕ)) (Bor Value)) → step h terminal x.at ≡ Some moved → feeds start (take (i + 1) (terminals_of terminals)) ≡ Some (fill_state name_now value_now moved)
-    terminal_read moved e = read_more name_now value_now (terminals_of terminals) h i (placed_of x) terminal in_terminals so_far same_terminal moved (ap (λ w. step h terminal w.at) terminal_is ∙ e)
+    pub terminal_read : (moved : State (Bor (List ℕ)) (Bor Value)) → step h terminal x.at ≡ Some moved
+        → feeds start (take (i + 1) (terminals_of terminals)) ≡ Some (fill_state name_now value_now moved)
+    terminal_read moved e = read_more name_now value_now (terminals_of terminals) h i (placed_of x) terminal in_terminals so_far same_terminal moved
+        (ap (λ w. step h terminal w.at) terminal_is ∙ e)
 
     pub terminal_stops : (end : ℕ) → step h terminal x.at ≡ None → SpellsNone (terminals_of terminals) × IsFault (terminals_of terminals) end x.at
     terminal_stops end e =
         subst (λ w. SpellsNone (terminals_of terminals) × IsFault (terminals_of terminals) end w.at) terminal_is
-        (stops_here name_now value_now (terminals_of terminals) h i (placed_of x) terminal in_terminals so_far same_terminal end (ap (λ w. step h terminal w.at) terminal_is ∙ e))
+        (stops_here name_now value_now (terminals_of terminals) h i (placed_of x) terminal in_terminals so_far same_terminal end
+        (ap (λ w. step h terminal w.at) terminal_is ∙ e))
 
   module _ (i : ℕ) (over : length terminals ≤ i) (so_far : feeds start (take i (terminals_of terminals)) ≡ Some (fill_state name_now value_now h)) where
     past_terminals : length (terminals_of terminals) ≤ i

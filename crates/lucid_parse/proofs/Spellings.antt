@@ -10,7 +10,8 @@ use Rattle.lucid_parse.specs.declared.spelling.Spelling.{Spelling}
 use Rattle.lucid_parse.specs.Spellings.{fixed_plain}
 
 -- the first spelling with these bytes has been found
-pub found_here : (bytes : List ℕ) (spellings : List Spelling) (i : ℕ) (d : Spelling) → i < length spellings → terminal_in bytes (map pair_of (take i spellings)) ≡ None
+pub found_here : (bytes : List ℕ) (spellings : List Spelling) (i : ℕ) (d : Spelling) → i < length spellings
+    → terminal_in bytes (map pair_of (take i spellings)) ≡ None
     → same_bytes bytes (get_or spellings i d).bytes.now ≡ true → Some (fixed_plain (get_or spellings i d).terminal) ≡ terminal_in bytes (map pair_of spellings)
 found_here bytes [] i d h e s = absurd (omega arith)
 found_here bytes (x ∷ xs) zero d h e s = sym (ap (λ b. cond b (Some (fixed_plain x.terminal)) (terminal_in bytes (map pair_of xs))) s)
@@ -22,7 +23,8 @@ found_here bytes (x ∷ xs) (suc i) d h e s = of (same_bytes bytes x.bytes.now) 
     of true f k = cc
     of false f k = k f
 
-not_here_suc : (bytes : List ℕ) (spellings : List Spelling) (i : ℕ) (d : Spelling) → i < length spellings → terminal_in bytes (map pair_of (take i spellings)) ≡ None
+not_here_suc : (bytes : List ℕ) (spellings : List Spelling) (i : ℕ) (d : Spelling) → i < length spellings
+    → terminal_in bytes (map pair_of (take i spellings)) ≡ None
     → same_bytes bytes (get_or spellings i d).bytes.now ≡ false → terminal_in bytes (map pair_of (take (suc i) spellings)) ≡ None
 not_here_suc bytes [] i d h e s = absurd (omega arith)
 not_here_suc bytes (x ∷ xs) zero d h e s = ap (λ b. cond b (Some (fixed_plain x.terminal)) None) s
@@ -35,7 +37,8 @@ not_here_suc bytes (x ∷ xs) (suc i) d h e s = of (same_bytes bytes x.bytes.now
     of false f k = k f
 
 -- the next spelling has other bytes
-pub not_here : (bytes : List ℕ) (spellings : List Spelling) (i : ℕ) (d : Spelling) → i < length spellings → terminal_in bytes (map pair_of (take i spellings)) ≡ None
+pub not_here : (bytes : List ℕ) (spellings : List Spelling) (i : ℕ) (d : Spelling) → i < length spellings
+    → terminal_in bytes (map pair_of (take i spellings)) ≡ None
     → same_bytes bytes (get_or spellings i d).bytes.now ≡ false → terminal_in bytes (map pair_of (take (i + 1) spellings)) ≡ None
 not_here bytes xs i d h e s = ap (λ k. terminal_in bytes (map pair_of (take k xs))) (add-one i) ∙ not_here_suc bytes xs i d h e s
 
@@ -43,7 +46,8 @@ not_here bytes xs i d h e s = ap (λ k. terminal_in bytes (map pair_of (take k x
 abbrev stands : List ℕ → Bool
 stands text = is_some (fixed_terminal text)
 
-stands_of : (bytes : List ℕ) (texts : List (List ℕ)) → list_all stands texts ≡ true → list_any (λ text. same_bytes bytes text) texts ≡ true → stands bytes ≡ true
+stands_of : (bytes : List ℕ) (texts : List (List ℕ)) → list_all stands texts ≡ true → list_any (λ text. same_bytes bytes text) texts ≡ true
+    → stands bytes ≡ true
 stands_of bytes [] h e = cc
 stands_of bytes (x ∷ xs) h e = of (same_bytes bytes x) refl (and_parts (stands x) (list_all stands xs) h) e (λ g f. stands_of bytes xs g f)
   where

@@ -60,25 +60,29 @@ pub never_none : (bytes : List ℕ) → ((v : PlainValue) × Reads bytes v) → 
 never_none bytes h none = none h.0 (as_line bytes h.0 h.1)
 
 -- terminals of one token more
-pub terminals-push : {source : List ℕ} {ts : List Token} {ws : List PlacedTerminal} → Terminals source ts ws → (t : Token) (terminal : PlainTerminal) → StandsFor t.kind (bytes_of source t) terminal
+pub terminals-push : {source : List ℕ} {ts : List Token} {ws : List PlacedTerminal} → Terminals source ts ws → (t : Token) (terminal : PlainTerminal)
+    → StandsFor t.kind (bytes_of source t) terminal
     → Terminals source (ts ++ t ∷ []) (ws ++ terminal_at terminal t.from ∷ [])
 terminals-push Terminals.terminals_none t terminal h = Terminals.terminals_next t terminal h Terminals.terminals_none
 terminals-push (Terminals.terminals_next u r k more) t terminal h = Terminals.terminals_next u r k (terminals-push more t terminal h)
 
 -- one token of a source more
-pub terminals_more : (source : List ℕ) (ts : List Token) (i : ℕ) (d : Token) (terminals more : List TerminalAt) (s : TerminalAt) → Terminals source (take i ts) (terminals_of terminals) → i < length ts
+pub terminals_more : (source : List ℕ) (ts : List Token) (i : ℕ) (d : Token) (terminals more : List TerminalAt) (s : TerminalAt)
+    → Terminals source (take i ts) (terminals_of terminals) → i < length ts
     → more ≡ terminals ++ s ∷ [] → s.at ≡ (get_or ts i d).from → StandsFor (get_or ts i d).kind (bytes_of source (get_or ts i d)) (plain_terminal s.terminal)
     → Terminals source (take (i + 1) ts) (terminals_of more)
 terminals_more source ts i d terminals more s w h e at k =
     subst (λ l. Terminals source l (terminals_of more)) (sym (take_more ts i d h))
     (subst (λ l. Terminals source (take i ts ++ get_or ts i d ∷ []) l)
-    (ap (λ p. terminals_of terminals ++ terminal_at (plain_terminal s.terminal) p ∷ []) (sym at) ∙ sym (map-append placed_of terminals (s ∷ [])) ∙ ap terminals_of (sym e))
+    (ap (λ p. terminals_of terminals ++ terminal_at (plain_terminal s.terminal) p ∷ []) (sym at) ∙ sym (map-append placed_of terminals (s ∷ []))
+    ∙ ap terminals_of (sym e))
     (terminals-push w (get_or ts i d) (plain_terminal s.terminal) k))
 
 pub no_terminals : (source : List ℕ) (terminals : List TerminalAt) → terminals ≡ [] → Terminals source [] (terminals_of terminals)
 no_terminals source terminals e = subst (λ l. Terminals source [] (terminals_of l)) (sym e) Terminals.terminals_none
 
-pub terminals_again : (source : List ℕ) (ts : List Token) (terminals again : List TerminalAt) → Terminals source ts (terminals_of terminals) → again ≡ terminals → Terminals source ts (terminals_of again)
+pub terminals_again : (source : List ℕ) (ts : List Token) (terminals again : List TerminalAt) → Terminals source ts (terminals_of terminals) → again ≡ terminals
+    → Terminals source ts (terminals_of again)
 terminals_again source ts terminals again w e = subst (λ l. Terminals source ts (terminals_of l)) (sym e) w
 
 -- a token's span lies within the source
@@ -93,7 +97,8 @@ module _ (source : List ℕ) (ts : List Token) (tokens : Tokens source 0 ts) (la
   ends_within = omega (arith, stands_there.some, stands_there.within, length-drop (get_or ts i d).from source)
 
 -- terminals stand at rising places, as many as the tokens
-pub terminals_rise : {source : List ℕ} {ts : List Token} {ws : List PlacedTerminal} → Terminals source ts ws → (low limit : ℕ) → IsInOrder low ts limit → Rises low ws
+pub terminals_rise : {source : List ℕ} {ts : List Token} {ws : List PlacedTerminal} → Terminals source ts ws → (low limit : ℕ) → IsInOrder low ts limit
+    → Rises low ws
 terminals_rise Terminals.terminals_none low limit h = rises_none low
 terminals_rise (Terminals.terminals_next {ws = ws} t s k more) low limit h =
     rises_next (terminal_at s t.from) ws low h.0 (lower ws t.to (t.from + 1) (omega (arith, h.1)) (terminals_rise more t.to limit h.2))

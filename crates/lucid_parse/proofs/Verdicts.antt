@@ -8,7 +8,8 @@ use Rattle.lucid_parse.proofs.Texts.{terminals_rise, terminals_length}
 
 pub trees_well_made : TokensAreInOrder → TokensAreFew → SpelledTreesAreWellMade
 trees_well_made in_order few_tokens source tokens tree short listed spelled =
-    well_made spelled.2 (terminals_rise spelled.1 0 (length source) (in_order source tokens listed)) (omega (arith, few_tokens source tokens listed, short, terminals_length spelled.1))
+    well_made spelled.2 (terminals_rise spelled.1 0 (length source) (in_order source tokens listed))
+    (omega (arith, few_tokens source tokens listed, short, terminals_length spelled.1))
 
 pub places_few : TokensAreFew → SpelledPlacesAreFew
 places_few few_tokens source tokens tree listed spelled = omega (arith, few_tokens source tokens listed, terminals_length spelled.1, few spelled.2)

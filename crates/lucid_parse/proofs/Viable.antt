@@ -49,7 +49,8 @@ padded (suc n) xs all s =
       counts = omega (arith, p.counts, count-and all (form 0 (const eod) no_trees));
     }
 
-pub closing : {frames : List PlainFrame} {allowed : ℕ} {pre : List PlacedTerminal} {out : List PlainItem} → Context frames allowed pre out → (xs : List PlacedTerminal) (x : PlainTree) → Spells allowed xs x → Begins (pre ++ xs)
+pub closing : {frames : List PlainFrame} {allowed : ℕ} {pre : List PlacedTerminal} {out : List PlainItem} → Context frames allowed pre out
+    → (xs : List PlacedTerminal) (x : PlainTree) → Spells allowed xs x → Begins (pre ++ xs)
 closing Sound.outermost xs x sx = ([], x, subst (λ l. Spells 0 l x) (sym (append-nil xs)) sx)
 closing (Sound.in_left {at = at} terminal operator is low c sw) xs x sx =
     begins_along _ _ (simp append_assoc) (closing c _ _ (Grammar.spells_infix {at = at} terminal operator is low sw sx))
@@ -66,9 +67,11 @@ closing (Sound.in_yes {at = at} then_at c sw) xs x sx =
 closing (Sound.in_no {at = at} then_at else_at c sw sv) xs x sx =
     short _ _ (terminal_at terminal.Fi 0 ∷ []) (simp append_assoc) (closing c _ _ (Grammar.spells_if {at = at} then_at else_at 0 sw sv sx))
 closing (Sound.in_first {at = at} {n = n} open_at c) xs x sx =
-    short _ _ (terminal_at terminal.Close 0 ∷ []) (simp append_assoc) (closing c _ _ (Grammar.spells_call {at = at} {p = open_at} 0 {n = n} (Grammar.spells_one sx)))
+    short _ _ (terminal_at terminal.Close 0 ∷ []) (simp append_assoc)
+    (closing c _ _ (Grammar.spells_call {at = at} {p = open_at} 0 {n = n} (Grammar.spells_one sx)))
 closing (Sound.in_more {at = at} {n = n} open_at comma_at c sa) xs x sx =
-    short _ _ (terminal_at terminal.Close 0 ∷ []) (simp append_assoc) (closing c _ _ (Grammar.spells_call {at = at} {p = open_at} 0 {n = n} (Grammar.spells_more comma_at sa sx)))
+    short _ _ (terminal_at terminal.Close 0 ∷ []) (simp append_assoc)
+    (closing c _ _ (Grammar.spells_call {at = at} {p = open_at} 0 {n = n} (Grammar.spells_more comma_at sa sx)))
 closing (Sound.in_right {block = at} {at = def_at} {n = n} equals_at c sw sd) xs x sx =
     short _ _ (terminal_at terminal.Semicolon 0 ∷ terminal_at terminal.End 0 ∷ []) (simp append_assoc)
     (closing c _ _ (Grammar.spells_block {at = at} 0 zero-le sw (Grammar.spells_def def_at n equals_at 0 sd sx)))
@@ -104,13 +107,18 @@ viable f frames _ _ (Sound.frozen {block = at} {at = def_at} {n = n} is_at c sx 
     short _ _ (terminal_at terminal.Current 0 ∷ (one ++ terminal_at terminal.Semicolon 0 ∷ terminal_at terminal.End 0 ∷ [])) (simp append_assoc)
     (closing c _ _ (Grammar.spells_block {at = at} 0 zero-le sx (Grammar.spells_current def_at n is_at 0 0 sd spells_one_terminal)))
 viable f frames _ _ (Sound.no_names_yet {block = at} {at = def_at} {n = n} open_at c sx sd) =
-    short _ _ (terminal_at (terminal.Name []) 0 ∷ terminal_at terminal.Close 0 ∷ terminal_at terminal.Equals 0 ∷ (one ++ terminal_at terminal.Semicolon 0 ∷ terminal_at terminal.End 0 ∷ [])) (simp append_assoc)
-    (closing c _ _ (Grammar.spells_block {at = at} 0 zero-le sx (Grammar.spells_function def_at n open_at 0 0 0 sd (Grammar.spells_first_name {at = 0} {n = []}) spells_one_terminal)))
+    short _ _ (terminal_at (terminal.Name []) 0 ∷ terminal_at terminal.Close 0 ∷ terminal_at terminal.Equals
+    0 ∷ (one ++ terminal_at terminal.Semicolon 0 ∷ terminal_at terminal.End 0 ∷ [])) (simp append_assoc)
+    (closing c _ _ (Grammar.spells_block {at = at} 0 zero-le sx
+    (Grammar.spells_function def_at n open_at 0 0 0 sd (Grammar.spells_first_name {at = 0} {n = []}) spells_one_terminal)))
 viable f frames _ _ (Sound.more_names {block = at} {at = def_at} {n = n} open_at comma_at c sx sd sn) =
-    short _ _ (terminal_at (terminal.Name []) 0 ∷ terminal_at terminal.Close 0 ∷ terminal_at terminal.Equals 0 ∷ (one ++ terminal_at terminal.Semicolon 0 ∷ terminal_at terminal.End 0 ∷ [])) (simp append_assoc)
-    (closing c _ _ (Grammar.spells_block {at = at} 0 zero-le sx (Grammar.spells_function def_at n open_at 0 0 0 sd (Grammar.spells_more_names comma_at 0 [] sn) spells_one_terminal)))
+    short _ _ (terminal_at (terminal.Name []) 0 ∷ terminal_at terminal.Close 0 ∷ terminal_at terminal.Equals
+    0 ∷ (one ++ terminal_at terminal.Semicolon 0 ∷ terminal_at terminal.End 0 ∷ [])) (simp append_assoc)
+    (closing c _ _ (Grammar.spells_block {at = at} 0 zero-le sx
+    (Grammar.spells_function def_at n open_at 0 0 0 sd (Grammar.spells_more_names comma_at 0 [] sn) spells_one_terminal)))
 viable f frames _ _ (Sound.has_names {block = at} {at = def_at} {n = n} open_at c sx sd sn) =
-    short _ _ (terminal_at terminal.Close 0 ∷ terminal_at terminal.Equals 0 ∷ (one ++ terminal_at terminal.Semicolon 0 ∷ terminal_at terminal.End 0 ∷ [])) (simp append_assoc)
+    short _ _ (terminal_at terminal.Close 0 ∷ terminal_at terminal.Equals 0 ∷ (one ++ terminal_at terminal.Semicolon 0 ∷ terminal_at terminal.End 0 ∷ []))
+    (simp append_assoc)
     (closing c _ _ (Grammar.spells_block {at = at} 0 zero-le sx (Grammar.spells_function def_at n open_at 0 0 0 sd sn spells_one_terminal)))
 viable f frames _ _ (Sound.is_ready {block = at} {at = def_at} {n = n} open_at close_at c sx sd sn) =
     short _ _ (terminal_at terminal.Equals 0 ∷ (one ++ terminal_at terminal.Semicolon 0 ∷ terminal_at terminal.End 0 ∷ [])) (simp append_assoc)

@@ -31,13 +31,16 @@ length-places_of (p ∷ ps) = ap suc (length-places_of ps)
 def_is_shaped : (at : ℕ) (n : List ℕ) (h : Defined) (t : PlainTree) → HasParameter h → is_shaped t ≡ true → defs_are_shaped (def_before at n h t no_defs) ≡ true
 def_is_shaped at n Plain t k s = and_from _ _ s refl
 def_is_shaped at n (Function ps) t k s =
-    and_from _ _ (and_from _ _ (and_from _ _ (lt-ltb 0 (length (names_of ps)) k) (eq-eqb (length (places_of ps)) (length (names_of ps)) (length-places_of ps))) s) refl
+    and_from _ _ (and_from _ _ (and_from _ _ (lt-ltb 0 (length (names_of ps)) k) (eq-eqb (length (places_of ps)) (length (names_of ps)) (length-places_of ps)))
+    s) refl
 def_is_shaped at n Current t k s = and_from _ _ s refl
 
-defs_are_shaped-and : (ds : PlainDefs) (at : ℕ) (n : List ℕ) (h : Defined) (t : PlainTree) → HasParameter h → defs_are_shaped ds ≡ true → is_shaped t ≡ true → defs_are_shaped (defs_and ds at n h t) ≡ true
+defs_are_shaped-and : (ds : PlainDefs) (at : ℕ) (n : List ℕ) (h : Defined) (t : PlainTree) → HasParameter h → defs_are_shaped ds ≡ true → is_shaped t ≡ true
+    → defs_are_shaped (defs_and ds at n h t) ≡ true
 defs_are_shaped-and no_defs at n h t k d s = def_is_shaped at n h t k s
 defs_are_shaped-and (defines a m e ds) at n h t k d s = and_from _ _ (and_parts _ _ d).0 (defs_are_shaped-and ds at n h t k (and_parts _ _ d).1 s)
-defs_are_shaped-and (defines_function a m ns ats e ds) at n h t k d s = and_from _ _ (and_parts _ _ d).0 (defs_are_shaped-and ds at n h t k (and_parts _ _ d).1 s)
+defs_are_shaped-and (defines_function a m ns ats e ds) at n h t k d s =
+    and_from _ _ (and_parts _ _ d).0 (defs_are_shaped-and ds at n h t k (and_parts _ _ d).1 s)
 defs_are_shaped-and (defines_current a m e ds) at n h t k d s = and_from _ _ (and_parts _ _ d).0 (defs_are_shaped-and ds at n h t k (and_parts _ _ d).1 s)
 
 names_of-and : (ps qs : List Parameter) → length (names_of (ps ++ qs)) ≡ length (names_of ps) + length (names_of qs)
@@ -52,8 +55,11 @@ mutual
   pub shaped : {level : ℕ} {ws : List PlacedTerminal} {t : PlainTree} → Spells level ws t → is_shaped t ≡ true
   shaped Grammar.spells_const = refl
   shaped Grammar.spells_name = refl
-  shaped (Grammar.spells_infix {x = x} {y = y} terminal operator is low sx sy) = and_from _ _ (fits-operator operator (tree x (tree y no_trees)) (sym (infix_arity terminal operator is))) (and_from _ _ (shaped sx) (and_from _ _ (shaped sy) refl))
-  shaped (Grammar.spells_prefix {x = x} terminal operator is low sx) = and_from _ _ (fits-operator operator (tree x no_trees) (sym (prefix_arity terminal operator is))) (and_from _ _ (shaped sx) refl)
+  shaped (Grammar.spells_infix {x = x} {y = y} terminal operator is low sx sy) =
+      and_from _ _ (fits-operator operator (tree x (tree y no_trees)) (sym (infix_arity terminal operator is)))
+      (and_from _ _ (shaped sx) (and_from _ _ (shaped sy) refl))
+  shaped (Grammar.spells_prefix {x = x} terminal operator is low sx) =
+      and_from _ _ (fits-operator operator (tree x no_trees) (sym (prefix_arity terminal operator is))) (and_from _ _ (shaped sx) refl)
   shaped (Grammar.spells_inner close_at sx) = shaped sx
   shaped (Grammar.spells_if then_at else_at fi_at sx sy sz) = and_from _ _ (shaped sx) (and_from _ _ (shaped sy) (and_from _ _ (shaped sz) refl))
   shaped (Grammar.spells_call close_at sa) = shaped_args sa
@@ -69,7 +75,8 @@ mutual
   shaped_defs (Grammar.spells_def at n equals_at semicolon_at {all = all} {y = y} sd sy) = defs_are_shaped-and all at n Plain y tt (shaped_defs sd) (shaped sy)
   shaped_defs (Grammar.spells_function at n open_at close_at equals_at semicolon_at {all = all} {parameters = ps} {y = y} sd sn sy) =
       defs_are_shaped-and all at n (Function ps) y (some_names sn) (shaped_defs sd) (shaped sy)
-  shaped_defs (Grammar.spells_current at n is_at current_at semicolon_at {all = all} {y = y} sd sy) = defs_are_shaped-and all at n Current y tt (shaped_defs sd) (shaped sy)
+  shaped_defs (Grammar.spells_current at n is_at current_at semicolon_at {all = all} {y = y} sd sy) =
+      defs_are_shaped-and all at n Current y tt (shaped_defs sd) (shaped sy)
 
 -- The places. How often a number stands in a list, and a place among terminals.
 
@@ -100,26 +107,30 @@ own_places Plain = []
 own_places (Function ps) = places_of ps
 own_places Current = []
 
-occurs-trees_and : (place : ℕ) (ts : PlainTrees) (t : PlainTree) → occurs place (places_in (trees_and ts t)) ≡ occurs place (places_in ts) + occurs place (places t)
+occurs-trees_and : (place : ℕ) (ts : PlainTrees) (t : PlainTree)
+    → occurs place (places_in (trees_and ts t)) ≡ occurs place (places_in ts) + occurs place (places t)
 unfolding occurs
 occurs-trees_and place no_trees t = simp occurs-append (omega arith)
 occurs-trees_and place (tree s ts) t = simp occurs-append (omega (arith, occurs-trees_and place ts t))
 
-occurs-def : (place at : ℕ) (n : List ℕ) (h : Defined) (t : PlainTree) → occurs place (places_in_defs (def_before at n h t no_defs)) ≡ one place at + (occurs place (own_places h) + occurs place (places t))
+occurs-def : (place at : ℕ) (n : List ℕ) (h : Defined) (t : PlainTree)
+    → occurs place (places_in_defs (def_before at n h t no_defs)) ≡ one place at + (occurs place (own_places h) + occurs place (places t))
 unfolding occurs
 occurs-def place at n Plain t = simp occurs-append (omega arith)
 occurs-def place at n (Function ps) t = simp occurs-append (omega arith)
 occurs-def place at n Current t = simp occurs-append (omega arith)
 
 occurs-defs_and : (place : ℕ) (ds : PlainDefs) (at : ℕ) (n : List ℕ) (h : Defined) (t : PlainTree)
-    → occurs place (places_in_defs (defs_and ds at n h t)) ≡ occurs place (places_in_defs ds) + (one place at + (occurs place (own_places h) + occurs place (places t)))
+    → occurs place (places_in_defs (defs_and ds at n h t)) ≡ occurs place
+    (places_in_defs ds) + (one place at + (occurs place (own_places h) + occurs place (places t)))
 unfolding occurs
 occurs-defs_and place no_defs at n h t = omega (arith, occurs-def place at n h t)
 occurs-defs_and place (defines a m s ds) at n h t = simp occurs-append (omega (arith, occurs-defs_and place ds at n h t))
 occurs-defs_and place (defines_function a m ns ats s ds) at n h t = simp occurs-append (omega (arith, occurs-defs_and place ds at n h t))
 occurs-defs_and place (defines_current a m s ds) at n h t = simp occurs-append (omega (arith, occurs-defs_and place ds at n h t))
 
-occurs-places_of : (place : ℕ) (ps : List Parameter) (at : ℕ) (n : List ℕ) → occurs place (places_of (ps ++ record { at = at; name = n } ∷ [])) ≡ occurs place (places_of ps) + one place at
+occurs-places_of : (place : ℕ) (ps : List Parameter) (at : ℕ) (n : List ℕ)
+    → occurs place (places_of (ps ++ record { at = at; name = n } ∷ [])) ≡ occurs place (places_of ps) + one place at
 unfolding occurs
 occurs-places_of place [] at n = omega arith
 occurs-places_of place (q ∷ ps) at n = omega (arith, occurs-places_of place ps at n)
@@ -127,7 +138,8 @@ occurs-places_of place (q ∷ ps) at n = omega (arith, occurs-places_of place ps
 placed_names : {ws : List PlacedTerminal} {ps : List Parameter} → SpellsNames ws ps → (place : ℕ) → occurs place (places_of ps) ≤ occurs_at place ws
 unfolding occurs occurs_at
 placed_names Grammar.spells_first_name place = omega arith
-placed_names (Grammar.spells_more_names comma_at at n {xs = xs} {all = all} sn) place = simp (occurs_at-append, occurs-places_of) (omega (arith, placed_names sn place))
+placed_names (Grammar.spells_more_names comma_at at n {xs = xs} {all = all} sn) place =
+    simp (occurs_at-append, occurs-places_of) (omega (arith, placed_names sn place))
 
 mutual
   unfolding occurs occurs_at
@@ -139,7 +151,8 @@ mutual
   placed (Grammar.spells_infix terminal operator is low sx sy) place = simp (occurs-append, occurs_at-append) (omega (arith, placed sx place, placed sy place))
   placed (Grammar.spells_prefix terminal operator is low sx) place = simp (occurs-append, occurs_at-append) (omega (arith, placed sx place))
   placed (Grammar.spells_inner close_at sx) place = simp (occurs_at-append) (omega (arith, placed sx place))
-  placed (Grammar.spells_if then_at else_at fi_at sx sy sz) place = simp (occurs-append, occurs_at-append) (omega (arith, placed sx place, placed sy place, placed sz place))
+  placed (Grammar.spells_if then_at else_at fi_at sx sy sz) place =
+      simp (occurs-append, occurs_at-append) (omega (arith, placed sx place, placed sy place, placed sz place))
   placed (Grammar.spells_call close_at sa) place = simp (occurs_at-append) (omega (arith, placed_args sa place))
   placed (Grammar.spells_called close_at terminal operator is all sa) place = simp (occurs_at-append) (omega (arith, placed_args sa place))
   placed (Grammar.spells_block end_at low sx sd) place = simp (occurs-append, occurs_at-append) (omega (arith, placed sx place, placed_defs sd place))
@@ -150,10 +163,12 @@ mutual
 
   placed_defs : {ws : List PlacedTerminal} {all : PlainDefs} → SpellsDefs ws all → (place : ℕ) → occurs place (places_in_defs all) ≤ occurs_at place ws
   placed_defs Grammar.spells_none place = omega arith
-  placed_defs (Grammar.spells_def at n equals_at semicolon_at sd sy) place = simp (occurs-defs_and, occurs_at-append) (omega (arith, placed_defs sd place, placed sy place))
+  placed_defs (Grammar.spells_def at n equals_at semicolon_at sd sy) place =
+      simp (occurs-defs_and, occurs_at-append) (omega (arith, placed_defs sd place, placed sy place))
   placed_defs (Grammar.spells_function at n open_at close_at equals_at semicolon_at sd sn sy) place =
       simp (occurs-defs_and, occurs_at-append) (omega (arith, placed_defs sd place, placed_names sn place, placed sy place))
-  placed_defs (Grammar.spells_current at n is_at current_at semicolon_at sd sy) place = simp (occurs-defs_and, occurs_at-append) (omega (arith, placed_defs sd place, placed sy place))
+  placed_defs (Grammar.spells_current at n is_at current_at semicolon_at sd sy) place =
+      simp (occurs-defs_and, occurs_at-append) (omega (arith, placed_defs sd place, placed sy place))
 
 -- The number of places.
 
@@ -161,7 +176,8 @@ length-trees_and : (ts : PlainTrees) (t : PlainTree) → length (places_in (tree
 length-trees_and no_trees t = simp length-append (omega arith)
 length-trees_and (tree s ts) t = simp length-append (omega (arith, length-trees_and ts t))
 
-length-def : (at : ℕ) (n : List ℕ) (h : Defined) (t : PlainTree) → length (places_in_defs (def_before at n h t no_defs)) ≡ 1 + (length (own_places h) + length (places t))
+length-def : (at : ℕ) (n : List ℕ) (h : Defined) (t : PlainTree)
+    → length (places_in_defs (def_before at n h t no_defs)) ≡ 1 + (length (own_places h) + length (places t))
 length-def at n Plain t = simp length-append (omega arith)
 length-def at n (Function ps) t = simp length-append (omega arith)
 length-def at n Current t = simp length-append (omega arith)
@@ -201,7 +217,8 @@ mutual
   few_defs : {ws : List PlacedTerminal} {all : PlainDefs} → SpellsDefs ws all → length (places_in_defs all) ≤ length ws
   few_defs Grammar.spells_none = omega arith
   few_defs (Grammar.spells_def at n equals_at semicolon_at sd sy) = simp (length-append, length-defs_and) (omega (arith, few_defs sd, few sy))
-  few_defs (Grammar.spells_function at n open_at close_at equals_at semicolon_at sd sn sy) = simp (length-append, length-defs_and) (omega (arith, few_defs sd, few_names sn, few sy))
+  few_defs (Grammar.spells_function at n open_at close_at equals_at semicolon_at sd sn sy) =
+      simp (length-append, length-defs_and) (omega (arith, few_defs sd, few_names sn, few sy))
   few_defs (Grammar.spells_current at n is_at current_at semicolon_at sd sy) = simp (length-append, length-defs_and) (omega (arith, few_defs sd, few sy))
 
 -- Terminals whose places rise.

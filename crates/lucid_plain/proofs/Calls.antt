@@ -8,11 +8,13 @@ abbrev pub call_going : Calling → PlainTrees → Env → ℕ → Going
 call_going (calls ns ats e f) es env t = at_tree e (args ns ats es env f) t
 call_going no_call es env t = at_none
 
-in_block : (d : Found) (at : ℕ) (es : PlainTrees) (env f : Env) (t : ℕ) (a : Aim) (k : Calling) → going a ≡ call_going k es env t → going (called d at es env f t a) ≡ call_going (called_in (kept d) f k) es env t
+in_block : (d : Found) (at : ℕ) (es : PlainTrees) (env f : Env) (t : ℕ) (a : Aim) (k : Calling) → going a ≡ call_going k es env t
+    → going (called d at es env f t a) ≡ call_going (called_in (kept d) f k) es env t
 in_block absent at es env f t a k h = h
 in_block _ at es env f t a k h = refl
 
-in_call : (o : Option ℕ) (es : PlainTrees) (env : Env) (t : ℕ) (a : Aim) (k : Calling) → going a ≡ call_going k es env t → going (unless_param o a) ≡ call_going (unless_named o k) es env t
+in_call : (o : Option ℕ) (es : PlainTrees) (env : Env) (t : ℕ) (a : Aim) (k : Calling) → going a ≡ call_going k es env t
+    → going (unless_param o a) ≡ call_going (unless_named o k) es env t
 in_call None es env t a k h = h
 in_call (Some i) es env t a k h = refl
 
@@ -40,5 +42,6 @@ param_small (Some i) k r = tt
 pub calling_small : (n : List ℕ) (env : Env) → IsUsable env → IsCallSmall (calling n env)
 calling_small n empty h = tt
 calling_small n (scope ds z rest) h =
-    block_small (definition n ds) (scope ds z rest) (calling n rest) (omega (arith, found_small n ds, h.0)) (found_applies n ds h.1) h (calling_small n rest h.3)
+    block_small (definition n ds) (scope ds z rest) (calling n rest) (omega (arith, found_small n ds, h.0)) (found_applies n ds h.1) h
+    (calling_small n rest h.3)
 calling_small n (args ns ats es caller rest) h = param_small (param n ns) (calling n rest) (calling_small n rest h.3)

@@ -13,10 +13,12 @@ definition-met n at x (Plain e) ds h = rw h refl
 definition-met n at x (Function ps ats e) ds h = rw h refl
 definition-met n at x (Current e) ds h = rw h refl
 
-pub passed : (n : List ℕ) (ds : List Def) (i : ℕ) (d : Def) → i < length ds → d ≡ slice_index_or ds i d → same_name n d.name ≡ false → definition n (defs_of (drop i ds)) ≡ definition n (defs_of (drop (i + 1) ds))
+pub passed : (n : List ℕ) (ds : List Def) (i : ℕ) (d : Def) → i < length ds → d ≡ slice_index_or ds i d → same_name n d.name ≡ false
+    → definition n (defs_of (drop i ds)) ≡ definition n (defs_of (drop (i + 1) ds))
 passed n ds i d h is other = rw (drop-cons ds i d, ← is, add-one) (definition_passed n d.at d.name d.kind _ other)
 
-pub met : (n : List ℕ) (ds : List Def) (i : ℕ) (d : Def) → i < length ds → d ≡ slice_index_or ds i d → same_name n d.name ≡ true → definition n (defs_of (drop i ds)) ≡ found_in d.at d.kind
+pub met : (n : List ℕ) (ds : List Def) (i : ℕ) (d : Def) → i < length ds → d ≡ slice_index_or ds i d → same_name n d.name ≡ true
+    → definition n (defs_of (drop i ds)) ≡ found_in d.at d.kind
 met n ds i d h is this = rw (drop-cons ds i d, ← is) (definition-met n d.at d.name d.kind _ this)
 
 pub none_left : (n : List ℕ) (ds : List Def) (i : ℕ) → length ds ≤ i → definition n (defs_of (drop i ds)) ≡ absent
@@ -47,13 +49,15 @@ frozen-other t at x (Plain e) ds h = refl
 frozen-other t at x (Function ps ats e) ds h = refl
 frozen-other t at x (Current e) ds h = absurd (h e refl)
 
-pub time_passed : (t : ℕ) (ds : List Def) (i : ℕ) (d : Def) → i < length ds → d ≡ slice_index_or ds i d → ((e : PlainTree) → d.kind ≡ Current e → ⊥) → frozen_at (defs_of (drop i ds)) t ≡ frozen_at (defs_of (drop (i + 1) ds)) t
+pub time_passed : (t : ℕ) (ds : List Def) (i : ℕ) (d : Def) → i < length ds → d ≡ slice_index_or ds i d → ((e : PlainTree) → d.kind ≡ Current e → ⊥)
+    → frozen_at (defs_of (drop i ds)) t ≡ frozen_at (defs_of (drop (i + 1) ds)) t
 time_passed t ds i d h is other = rw (drop-cons ds i d, ← is, add-one) (frozen-other t d.at d.name d.kind _ other)
 
 frozen-met : (t at : ℕ) (x : List ℕ) (k : DefKind) (ds : PlainDefs) (e : PlainTree) → k ≡ Current e → frozen_at (def_of at x k ds) t ≡ Some t
 frozen-met t at x k ds e h = rw h refl
 
-pub time_met : (t : ℕ) (ds : List Def) (i : ℕ) (d : Def) → i < length ds → d ≡ slice_index_or ds i d → (e : PlainTree) → d.kind ≡ Current e → frozen_at (defs_of (drop i ds)) t ≡ Some t
+pub time_met : (t : ℕ) (ds : List Def) (i : ℕ) (d : Def) → i < length ds → d ≡ slice_index_or ds i d → (e : PlainTree) → d.kind ≡ Current e
+    → frozen_at (defs_of (drop i ds)) t ≡ Some t
 time_met t ds i d h is e this = rw (drop-cons ds i d, ← is) (frozen-met t d.at d.name d.kind _ e this)
 
 pub no_time_left : (t : ℕ) (ds : List Def) (i : ℕ) → length ds ≤ i → frozen_at (defs_of (drop i ds)) t ≡ None

@@ -37,7 +37,8 @@ if-nodes false x y n h k = k
 pub found_small : (n : List ℕ) (ds : PlainDefs) → found_nodes (definition n ds) ≤ nodes_in_defs ds
 found_small n no_defs = omega arith
 found_small n (defines at x e ds) = if-nodes (same_name n x) (plain_def at e) (definition n ds) _ (omega arith) (omega (arith, found_small n ds))
-found_small n (defines_function at x ns ats e ds) = if-nodes (same_name n x) (function_def at ns ats e) (definition n ds) _ (omega arith) (omega (arith, found_small n ds))
+found_small n (defines_function at x ns ats e ds) =
+    if-nodes (same_name n x) (function_def at ns ats e) (definition n ds) _ (omega arith) (omega (arith, found_small n ds))
 found_small n (defines_current at x e ds) = if-nodes (same_name n x) (current_def at e) (definition n ds) _ (omega arith) (omega (arith, found_small n ds))
 
 abbrev pub FoundApplies : Found → Type 0
@@ -56,25 +57,29 @@ found_applies n (defines at x e ds) h = if-applies (same_name n x) (plain_def at
 found_applies n (defines_function at x ns ats e ds) h = if-applies (same_name n x) (function_def at ns ats e) (definition n ds) h.0 (found_applies n ds h.1)
 found_applies n (defines_current at x e ds) h = if-applies (same_name n x) (current_def at e) (definition n ds) h.0 (found_applies n ds h.1)
 
-scope_small : (d : Found) (ds : PlainDefs) (rest : Env) (z : Option ℕ) (t : ℕ) (a : Aim) → found_nodes d < 2 ^ 31 → FoundApplies d → IsUsable (scope ds z rest) → t < 2 ^ 63 → IsGoingSmall (going a) → IsGoingSmall (going (in_scope d (scope ds z rest) rest z t a))
+scope_small : (d : Found) (ds : PlainDefs) (rest : Env) (z : Option ℕ) (t : ℕ) (a : Aim) → found_nodes d < 2 ^ 31 → FoundApplies d → IsUsable (scope ds z rest)
+    → t < 2 ^ 63 → IsGoingSmall (going a) → IsGoingSmall (going (in_scope d (scope ds z rest) rest z t a))
 scope_small absent ds rest z t a h f k l r = r
 scope_small (plain_def at e) ds rest z t a h f k l r = (h, f, k, l)
 scope_small (function_def at ns ats e) ds rest z t a h f k l r = tt
 scope_small (current_def at e) ds rest None t a h f k l r = tt
 scope_small (current_def at e) ds rest (Some u) t a h f k l r = (h, f, k.3, k.2)
 
-actual_small : (at : ℕ) (es : PlainTrees) (i : ℕ) (f caller : Env) (t : ℕ) → nodes_in es < 2 ^ 31 → AllApply es → IsUsable caller → t < 2 ^ 63 → IsGoingSmall (going (to_actual at (tree_at es i) f caller t))
+actual_small : (at : ℕ) (es : PlainTrees) (i : ℕ) (f caller : Env) (t : ℕ) → nodes_in es < 2 ^ 31 → AllApply es → IsUsable caller → t < 2 ^ 63
+    → IsGoingSmall (going (to_actual at (tree_at es i) f caller t))
 actual_small at no_trees i f caller t h k l n = tt
 actual_small at (tree e es) zero f caller t h k l n = (omega arith, k.0, l, n)
 actual_small at (tree e es) (suc i) f caller t h k l n = actual_small at es i f caller t (omega arith) k.1 l n
 
-args_small : (o : Option ℕ) (ats : List ℕ) (es : PlainTrees) (f caller : Env) (t : ℕ) (a : Aim) → nodes_in es < 2 ^ 31 → AllApply es → IsUsable caller → t < 2 ^ 63 → IsGoingSmall (going a) → IsGoingSmall (going (in_args o ats es f caller t a))
+args_small : (o : Option ℕ) (ats : List ℕ) (es : PlainTrees) (f caller : Env) (t : ℕ) (a : Aim) → nodes_in es < 2 ^ 31 → AllApply es → IsUsable caller
+    → t < 2 ^ 63 → IsGoingSmall (going a) → IsGoingSmall (going (in_args o ats es f caller t a))
 args_small None ats es f caller t a h k l n r = r
 args_small (Some i) ats es f caller t a h k l n r = actual_small (get_or ats i 0) es i f caller t h k l n
 
 pub target_small : (n : List ℕ) (env : Env) (t : ℕ) → IsUsable env → t < 2 ^ 63 → IsGoingSmall (going (name_target n env t))
 target_small n empty t h l = l
 target_small n (scope ds z rest) t h l =
-    scope_small (definition n ds) ds rest z t (name_target n rest t) (omega (arith, found_small n ds, h.0)) (found_applies n ds h.1) h l (target_small n rest t h.3 l)
+    scope_small (definition n ds) ds rest z t (name_target n rest t) (omega (arith, found_small n ds, h.0)) (found_applies n ds h.1) h l
+    (target_small n rest t h.3 l)
 target_small n (args ns ats es caller rest) t h l =
     args_small (param n ns) ats es (args ns ats es caller rest) caller t (name_target n rest t) h.0 h.1 h.2 l (target_small n rest t h.3 l)

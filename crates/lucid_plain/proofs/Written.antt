@@ -62,8 +62,11 @@ front_of_next b n p k c old mid new v before within is some front = record {
 -- a run that stops while it writes a line
 pub stops_in_line : (b : Elements) (n : ℕ) (p : PlainTree) (k c : ℕ) (old mid new : Option (List ℕ)) (f g h : ℕ) (bytes : List ℕ) (fault : RunFault)
     → Writes b n p k old mid → k < c → f ≤ g → g ≤ h → HasLine b n p k bytes → StopsLine bytes mid new g h fault → Stops b n p c old new f h fault
-stops_in_line b n p k c old mid new f g h bytes WriteFault before within i j has stops =
-    (front_of_next b n p k c old mid new has.v before within has.is has.goes_on (subst (λ piece. FrontOf piece mid new) has.shown stops.0), rises_from f g h i j stops.1)
+stops_in_line b n p k c old mid new f g h bytes WriteFault before within i j has stops = (
+  front_of_next b n p k c old mid new has.v before within has.is has.goes_on (subst (λ piece. FrontOf piece mid new) has.shown stops.0),
+  rises_from f g h i j
+      stops.1,
+)
 stops_in_line b n p k c old mid new f g h bytes NoMemory before within i j has stops =
     front_of_next b n p k c old mid new has.v before within has.is has.goes_on (subst (λ piece. FrontOf piece mid new) has.shown stops)
 stops_in_line b n p k c old mid new f g h bytes _ before within i j has stops = absurd stops
@@ -78,7 +81,8 @@ pub more_stands : (b : Elements) (n : ℕ) (p : PlainTree) (k t : ℕ) (old mid 
 more_stands b n p k t old mid new l bytes piece before at stands is same after =
     writes_more_line b n p k old mid new bytes.items before (line_standing b n p k t l bytes at stands is) (after ∙ ap (λ x. with_all x mid) same)
 
-pub stop_stands : (b : Elements) (n : ℕ) (p : PlainTree) (k c t : ℕ) (old mid new : Option (List ℕ)) (f g h : ℕ) (l : Line) (bytes : Vec ℕ Global) (piece : List ℕ)
+pub stop_stands : (b : Elements) (n : ℕ) (p : PlainTree) (k c t : ℕ) (old mid new : Option (List ℕ)) (f g h : ℕ) (l : Line) (bytes : Vec ℕ Global)
+    (piece : List ℕ)
     (fault : RunFault) → Writes b n p k old mid → k < c → f ≤ g → g ≤ h → t ≡ k → IsLineAt b n p t l → l ≡ Bytes bytes → piece ≡ bytes.items
     → StopsLine piece mid new g h fault → Stops b n p c old new f h fault
 stop_stands b n p k c t old mid new f g h l bytes piece fault before within i j at stands is same stops =

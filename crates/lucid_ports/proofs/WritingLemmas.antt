@@ -11,7 +11,8 @@ with_front-with_front n m piece (Some bytes) =
 pub both_written : (n m k : ℕ) (piece rest : List ℕ) (o p q : Option (List ℕ)) → rest ≡ drop n piece → k ≡ n + m → p ≡ with_front n piece o
     → q ≡ with_front m rest p → q ≡ with_front k piece o
 both_written n m k piece rest o p q same sum first second =
-    second ∙ ap (λ r. with_front m r p) same ∙ ap (with_front m (drop n piece)) first ∙ with_front-with_front n m piece o ∙ ap (λ i. with_front i piece o) (sym sum)
+    second ∙ ap (λ r. with_front m r p) same ∙ ap (with_front m (drop n piece)) first ∙ with_front-with_front n m piece o
+    ∙ ap (λ i. with_front i piece o) (sym sum)
 
 -- the empty piece changes nothing
 pub with_nothing : (o : Option (List ℕ)) → o ≡ with_all [] o

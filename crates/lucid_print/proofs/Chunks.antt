@@ -131,7 +131,8 @@ pub called-text : (s : PlainTerminal) → is_callable s ≡ true → (more : Lis
     → terminal_text s ++ after s (terminal.Open ∷ more) ≡ terminal_text s ++ 40 ∷ ys
 called-text s n more ys e = ap (λ g. terminal_text s ++ (g ++ 40 ∷ after terminal.Open more)) (tight_call s n) ∙ ap (λ t. terminal_text s ++ 40 ∷ t) e
 
-abbrev pub called : {xs : List ℕ} (s : PlainTerminal) → is_callable s ≡ true → is_closer s ≡ false → Good s → Good terminal.Open → Good terminal.Close → Chunk xs
+abbrev pub called : {xs : List ℕ} (s : PlainTerminal) → is_callable s ≡ true → is_closer s ≡ false → Good s → Good terminal.Open → Good terminal.Close
+    → Chunk xs
     → Chunk (terminal_text s ++ 40 ∷ (xs ++ 41 ∷ []))
 called {xs} s n c k g h x = record {
   first = s;
@@ -178,7 +179,8 @@ one_more {bs} {d} ds c q l s more o p e =
     ∙ ds.text l c.first (c.rest ++ s ∷ more) o q c.starts
     ∙ ap (λ t. 32 ∷ (bs ++ t))
     (behind-text c.first c.rest (s ∷ more) d c.text ∙ ap (λ t. d ++ t) (behind_plain (last c.first c.rest) s more c.ends p e))
-    ∙ ap (λ t. 32 ∷ t) (ap (λ t. bs ++ t) (sym (append_assoc d (32 ∷ []) (terminal_text s ++ after s more))) ∙ sym (append_assoc bs (d ++ 32 ∷ []) (terminal_text s ++ after s more)))
+    ∙ ap (λ t. 32 ∷ t) (ap (λ t. bs ++ t) (sym (append_assoc d (32 ∷ []) (terminal_text s ++ after s more)))
+    ∙ sym (append_assoc bs (d ++ 32 ∷ []) (terminal_text s ++ after s more)))
 
 abbrev pub and_definition : {bs d : List ℕ} (ds : Definitions bs) (c : Chunk d) → is_open c.first ≡ false → Definitions (bs ++ (d ++ 32 ∷ []))
 and_definition {bs} {d} ds c q = record {

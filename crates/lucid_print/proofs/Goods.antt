@@ -78,7 +78,8 @@ one_good s m t e k stop o = record {
   stops = λ b after h. inr (
     k,
     λ long.
-        let never = not-true (is_mark (m ∷ b ∷ [])) (among_every (λ c. not (is_mark (m ∷ c ∷ []))) stoppers b stop (false_or (is_open s) (among b stoppers) o h)) in
+        let never = not-true (is_mark (m ∷ b ∷ [])) (among_every (λ c. not (is_mark (m ∷ c ∷ []))) stoppers b stop
+        (false_or (is_open s) (among b stoppers) o h)) in
         let same : is_mark (m ∷ b ∷ []) ≡ true = sym (ap (λ l. is_mark (take 2 (l ++ b ∷ after))) t) ∙ long in
         cc,
   );
@@ -158,13 +159,15 @@ operator_stands (Data op.Sub) = refl
 operator_stands (Stream Fby) = refl
 operator_stands o = refl
 
-operator_token : (o : Operator) → (is_reserved (terminal_text (terminal_of o)) || (one_mark (terminal_text (terminal_of o)) || two_mark (terminal_text (terminal_of o)))) ≡ true
+operator_token : (o : Operator)
+    → (is_reserved (terminal_text (terminal_of o)) || (one_mark (terminal_text (terminal_of o)) || two_mark (terminal_text (terminal_of o)))) ≡ true
 unfolding reserved_words one_mark two_mark
 operator_token (Data op.Sub) = refl
 operator_token (Stream Fby) = refl
 operator_token o = refl
 
-one_mark_good : (s : PlainTerminal) (bytes : List ℕ) → terminal_text s ≡ bytes → one_mark bytes ≡ true → fixed_terminal (terminal_text s) ≡ Some s → is_open s ≡ false → Good s
+one_mark_good : (s : PlainTerminal) (bytes : List ℕ) → terminal_text s ≡ bytes → one_mark bytes ≡ true → fixed_terminal (terminal_text s) ≡ Some s
+    → is_open s ≡ false → Good s
 unfolding one_mark
 one_mark_good s (m ∷ []) t h e o =
     let two = and_parts (is_mark (m ∷ [])) (every (λ b. not (is_mark (m ∷ b ∷ []))) stoppers) h in
@@ -180,7 +183,8 @@ operator_good o =
       | inl r ↦ reserved_good (terminal_of o) (operator_stands o) r (not_open o)
       | inr m ↦ elim (or_cases (one_mark bytes) (two_mark bytes) m) [
         | inl one ↦ one_mark_good (terminal_of o) bytes refl one (operator_stands o) (not_open o)
-        | inr two ↦ let parts = and_parts (eqb (length bytes) 2) (is_mark bytes) two in two_good (terminal_of o) (eqb-true (length bytes) 2 parts.0) (operator_stands o) parts.1
+        | inr two ↦ let parts = and_parts (eqb (length bytes) 2) (is_mark bytes) two in
+            two_good (terminal_of o) (eqb-true (length bytes) 2 parts.0) (operator_stands o) parts.1
       ]
     ]
 
@@ -245,8 +249,11 @@ mutual
   keep_rules (denotes_none g h) = (refl, refl)
   keep_rules (denotes_item g bs rest v vs h may d a more) =
       let here = keeps_rules d in
-      let rest = keep_rules more in
-      (and_from (may_be_held v && well_formed v) (all_well_formed vs) (and_from (may_be_held v) (well_formed v) may here.0) rest.0, and_from (in_range v) (all_in_range vs) here.1 rest.1)
+      let rest = keep_rules more in (
+        and_from (may_be_held v && well_formed v) (all_well_formed vs) (and_from (may_be_held v) (well_formed v) may here.0) rest.0,
+        and_from (in_range v)
+            (all_in_range vs) here.1 rest.1,
+      )
 
 what_reads : {bs : List ℕ} {v : PlainValue} → Reads bs v → is_value v ≡ true
 what_reads {bs} {v} r =
@@ -284,7 +291,8 @@ fixed_in bytes (p ∷ ps) s h e =
     let two = and_parts (is_fixed p.1) (every_fixed ps) h in
     of (same_bytes bytes p.0) e two.0 (λ f. fixed_in bytes ps s two.1 f)
   where
-    of : (b : Bool) → cond b (Some p.1) (terminal_in bytes ps) ≡ Some s → is_fixed p.1 ≡ true → (terminal_in bytes ps ≡ Some s → is_fixed s ≡ true) → is_fixed s ≡ true
+    of : (b : Bool) → cond b (Some p.1) (terminal_in bytes ps) ≡ Some s → is_fixed p.1 ≡ true → (terminal_in bytes ps ≡ Some s → is_fixed s ≡ true)
+        → is_fixed s ≡ true
     of true f k l = let same : p.1 ≡ s = cc in sym (ap is_fixed same) ∙ k
     of false f k l = l f
 
@@ -292,7 +300,8 @@ operator_fixed : (a : Option Operator) (s : PlainTerminal) → option_map termin
 operator_fixed (Some o) s e = let same : terminal.Operator o ≡ s = cc in sym (ap is_fixed same)
 operator_fixed None s e = cc
 
-fixed_by : (bytes : List ℕ) (o : Option PlainTerminal) (s : PlainTerminal) → terminal_in bytes form_terminals ≡ o → option_or o (option_map terminal.Operator (spelled bytes)) ≡ Some s → is_fixed s ≡ true
+fixed_by : (bytes : List ℕ) (o : Option PlainTerminal) (s : PlainTerminal) → terminal_in bytes form_terminals ≡ o
+    → option_or o (option_map terminal.Operator (spelled bytes)) ≡ Some s → is_fixed s ≡ true
 unfolding form_terminals
 fixed_by bytes (Some x) s f e = fixed_in bytes form_terminals s refl (f ∙ e)
 fixed_by bytes None s f e = operator_fixed (spelled bytes) s e
@@ -314,7 +323,8 @@ IsWritten s = (k : TokenKind) × (bytes : List ℕ) × (after : List ℕ) × IsT
 as_const : {v w : PlainValue} → ◌≡◌ {A = PlainTerminal} (terminal.Const v) (terminal.Const w) → Good (terminal.Const w) → Good (terminal.Const v)
 as_const e g = subst Good (sym e) g
 
-const_by : TextIsRead → (v : PlainValue) (k : TokenKind) (bytes after : List ℕ) → IsTokenText k bytes after → StandsFor k bytes (terminal.Const v) → Good (terminal.Const v)
+const_by : TextIsRead → (v : PlainValue) (k : TokenKind) (bytes after : List ℕ) → IsTokenText k bytes after → StandsFor k bytes (terminal.Const v)
+    → Good (terminal.Const v)
 const_by law v kind.Name bytes after t h = absurd (let e : ◌≡◌ {A = PlainTerminal} (terminal.Const v) (terminal.Name bytes) = h in cc)
 const_by law v kind.Int bytes after t h = as_const h (number_good (number_of bytes) t.2)
 const_by law v kind.Quoted bytes after t h =
@@ -329,7 +339,8 @@ pub const_good : TextIsRead → (v : PlainValue) → IsWritten (terminal.Const v
 const_good law v w = const_by law v w.0 w.1 w.2 w.3 w.4
 
 name_by : (n : List ℕ) (k : TokenKind) (bytes after : List ℕ) → IsTokenText k bytes after → StandsFor k bytes (terminal.Name n) → is_name n ≡ true
-name_by n kind.Name bytes after t h = let e : ◌≡◌ {A = PlainTerminal} (terminal.Name n) (terminal.Name bytes) = h in let same : n ≡ bytes = cc in ap is_name same ∙ t
+name_by n kind.Name bytes after t h = let e : ◌≡◌ {A = PlainTerminal} (terminal.Name n) (terminal.Name bytes) = h in let same : n ≡ bytes = cc in
+    ap is_name same ∙ t
 name_by n kind.Int bytes after t h = absurd (let e : ◌≡◌ {A = PlainTerminal} (terminal.Name n) (terminal.Const (int (pos (number_of bytes)))) = h in cc)
 name_by n kind.Quoted bytes after t h = absurd (let e : ◌≡◌ {A = PlainTerminal} (terminal.Name n) (terminal.Const (word h.0)) = h.2 in cc)
 name_by n kind.Text bytes after t h = absurd (let e : ◌≡◌ {A = PlainTerminal} (terminal.Name n) (terminal.Const (text h.0)) = h.2 in cc)

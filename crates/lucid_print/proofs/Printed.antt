@@ -29,7 +29,13 @@ split [] (s ∷ a) b e = cc
 split (w ∷ ws) (s ∷ a) b e =
     let same : w.terminal ≡ s = cc in
     let r = split ws a b (cc) in
-    record { front = w ∷ r.front; back = r.back; is = ap (λ l. w ∷ l) r.is; of_front = ap (λ l. w.terminal ∷ l) r.of_front ∙ ap (λ y. y ∷ a) same; of_back = r.of_back }
+    record {
+      front = w ∷ r.front;
+      back = r.back;
+      is = ap (λ l. w ∷ l) r.is;
+      of_front = ap (λ l. w.terminal ∷ l) r.of_front ∙ ap (λ y. y ∷ a) same;
+      of_back = r.of_back;
+    }
 
 -- words with a terminal in front
 record First (ws : List PlacedTerminal) (s : PlainTerminal) (b : List PlainTerminal) : Type 0 where
@@ -97,7 +103,8 @@ at_level k t p = of (nat_lt (level t) k) refl
           let m = between2 f.rest (p.chunk.first ∷ p.chunk.rest) terminal.Close [] f.of_rest in
           let a = p.again m.front m.of_front in
           let all : us ≡ terminal_at terminal.Open f.at ∷ (m.front ++ terminal_at terminal.Close m.at ∷ []) =
-          f.is ∙ ap (λ l. terminal_at terminal.Open f.at ∷ l) m.is ∙ ap (λ l. terminal_at terminal.Open f.at ∷ (m.front ++ terminal_at terminal.Close m.at ∷ l)) (no_words m.back m.of_back) in
+          f.is ∙ ap (λ l. terminal_at terminal.Open f.at ∷ l) m.is
+          ∙ ap (λ l. terminal_at terminal.Open f.at ∷ (m.front ++ terminal_at terminal.Close m.at ∷ l)) (no_words m.back m.of_back) in
           record { tree = a.tree; spells = along all (Grammar.spells_inner m.at (looser a.spells 0 zero-le)); same = a.same };
     }
 
@@ -167,7 +174,8 @@ unfolding source
 between_text b w at x y =
     sym (ap (λ s. form_text s (part_of x ∷ part_of y ∷ [])) (style-between b w) ∙ simp append_assoc)
 
-print_between : (b : Operator) → as_form Between b ≡ Some b → (at : ℕ) (x y : PlainTree) → Printed x → Printed y → Printed (form at (head b) (tree x (tree y no_trees)))
+print_between : (b : Operator) → as_form Between b ≡ Some b → (at : ℕ) (x y : PlainTree) → Printed x → Printed y
+    → Printed (form at (head b) (tree x (tree y no_trees)))
 print_between b w at x y px py =
     let l = at_level (Grammar.left b) x px in
     let r = at_level (Grammar.right b) y py in
@@ -179,12 +187,15 @@ print_between b w at x y px py =
           let j = r.again m.back m.of_back in
           record {
             tree = form m.at (head b) (tree i.tree (tree j.tree no_trees));
-            spells = along m.is (Grammar.spells_infix (terminal_of b) b (terminal_is Between b w) (omega (arith, ap style_level (style-between b w))) i.spells j.spells);
-            same = ap (λ z. form 0 (head b) (tree z (tree (unplaced j.tree) no_trees))) i.same ∙ ap (λ z. form 0 (head b) (tree (unplaced x) (tree z no_trees))) j.same;
+            spells = along m.is (Grammar.spells_infix (terminal_of b) b (terminal_is Between b w) (omega (arith, ap style_level (style-between b w))) i.spells
+                j.spells);
+            same = ap (λ z. form 0 (head b) (tree z (tree (unplaced j.tree) no_trees))) i.same
+                ∙ ap (λ z. form 0 (head b) (tree (unplaced x) (tree z no_trees))) j.same;
           };
     }
 
-before_text : (u : Operator) → as_form Before u ≡ Some u → (at : ℕ) (x : PlainTree) → terminal_text (terminal_of u) ++ 32 ∷ placed (Grammar.level_of u) (part_of x) ≡ source (form at (head u) (tree x no_trees))
+before_text : (u : Operator) → as_form Before u ≡ Some u → (at : ℕ) (x : PlainTree)
+    → terminal_text (terminal_of u) ++ 32 ∷ placed (Grammar.level_of u) (part_of x) ≡ source (form at (head u) (tree x no_trees))
 unfolding source
 before_text u w at x = sym (ap (λ s. form_text s (part_of x ∷ [])) (style-before u w) ∙ simp append_assoc)
 
@@ -204,14 +215,17 @@ print_before u w at x px =
     }
 
 if_text : (at : ℕ) (x y z : PlainTree)
-    → terminal_text terminal.If ++ 32 ∷ (source x ++ 32 ∷ (terminal_text terminal.Then ++ 32 ∷ (source y ++ 32 ∷ (terminal_text terminal.Else ++ 32 ∷ (source z ++ 32 ∷ terminal_text terminal.Fi)))))
+    → terminal_text
+    terminal.If ++ 32 ∷ (source x ++ 32 ∷ (terminal_text
+    terminal.Then ++ 32 ∷ (source y ++ 32 ∷ (terminal_text terminal.Else ++ 32 ∷ (source z ++ 32 ∷ terminal_text terminal.Fi)))))
     ≡ source (form at choose (tree x (tree y (tree z no_trees))))
 unfolding source
 if_text at x y z = sym (simp append_assoc)
 
 print_if : (at : ℕ) (x y z : PlainTree) → Printed x → Printed y → Printed z → Printed (form at choose (tree x (tree y (tree z no_trees))))
 print_if at x y z px py pz = record {
-  chunk = chunk_as (if_text at x y z) (led terminal.If plain_if (operated terminal.Then plain_then px.chunk (operated terminal.Else plain_else py.chunk (trailed terminal.Fi plain_fi pz.chunk))));
+  chunk = chunk_as (if_text at x y z) (led terminal.If plain_if
+      (operated terminal.Then plain_then px.chunk (operated terminal.Else plain_else py.chunk (trailed terminal.Fi plain_fi pz.chunk))));
   again = λ us h.
       let xs = px.chunk.first ∷ px.chunk.rest in
       let ys = py.chunk.first ∷ py.chunk.rest in
@@ -223,7 +237,8 @@ print_if at x y z px py pz = record {
       let i = px.again a.front a.of_front in
       let j = py.again b.front b.of_front in
       let k = pz.again c.front c.of_front in
-      let is = f.is ∙ ap (λ l. terminal_at terminal.If f.at ∷ l) (a.is ∙ ap (λ l. a.front ++ terminal_at terminal.Then a.at ∷ l) (b.is ∙ ap (λ l. b.front ++ terminal_at terminal.Else b.at ∷ l)
+      let is = f.is ∙ ap (λ l. terminal_at terminal.If f.at ∷ l)
+      (a.is ∙ ap (λ l. a.front ++ terminal_at terminal.Then a.at ∷ l) (b.is ∙ ap (λ l. b.front ++ terminal_at terminal.Else b.at ∷ l)
       (c.is ∙ ap (λ l. c.front ++ terminal_at terminal.Fi c.at ∷ l) (no_words c.back c.of_back)))) in
       record {
         tree = form f.at choose (tree i.tree (tree j.tree (tree k.tree no_trees)));
@@ -262,15 +277,18 @@ print_call at n all g pa = record {
       let o = first f.rest terminal.Open (xs ++ terminal.Close ∷ []) f.of_rest in
       let m = between2 o.rest xs terminal.Close [] o.of_rest in
       let a = pa.again m.front m.of_front in
-      let is = f.is ∙ ap (λ l. terminal_at (terminal.Name n) f.at ∷ l) (o.is ∙ ap (λ l. terminal_at terminal.Open o.at ∷ l) (m.is ∙ ap (λ l. m.front ++ terminal_at terminal.Close m.at ∷ l) (no_words m.back m.of_back))) in
+      let is = f.is ∙ ap (λ l. terminal_at (terminal.Name n) f.at ∷ l)
+      (o.is ∙ ap (λ l. terminal_at terminal.Open o.at ∷ l) (m.is ∙ ap (λ l. m.front ++ terminal_at terminal.Close m.at ∷ l) (no_words m.back m.of_back))) in
       record { tree = call f.at n a.args; spells = along is (Grammar.spells_call m.at a.spells); same = ap (call 0 n) a.same };
 }
 
-operated_text : (at : ℕ) (c : Operator) → as_form Called c ≡ Some c → (all : PlainTrees) → terminal_text (terminal_of c) ++ 40 ∷ (parted (texts (parts all)) ++ 41 ∷ []) ≡ source (form at (head c) all)
+operated_text : (at : ℕ) (c : Operator) → as_form Called c ≡ Some c → (all : PlainTrees)
+    → terminal_text (terminal_of c) ++ 40 ∷ (parted (texts (parts all)) ++ 41 ∷ []) ≡ source (form at (head c) all)
 unfolding source
 operated_text at c w all = sym (ap (λ s. form_text s (parts all)) (style-called c w) ∙ simp append_assoc)
 
-print_operated : (at : ℕ) (c : Operator) → as_form Called c ≡ Some c → (all : PlainTrees) → count all ≡ arity_of c → PrintedArgs all → Printed (form at (head c) all)
+print_operated : (at : ℕ) (c : Operator) → as_form Called c ≡ Some c → (all : PlainTrees) → count all ≡ arity_of c → PrintedArgs all
+    → Printed (form at (head c) all)
 print_operated at c w all n pa = record {
   chunk = chunk_as (operated_text at c w all) (called (terminal_of c) (callable c w) (not_closer c) (operator_good c) open_good close_good pa.chunk);
   again = λ us h.
@@ -279,9 +297,14 @@ print_operated at c w all n pa = record {
       let o = first f.rest terminal.Open (xs ++ terminal.Close ∷ []) f.of_rest in
       let m = between2 o.rest xs terminal.Close [] o.of_rest in
       let a = pa.again m.front m.of_front in
-      let is = f.is ∙ ap (λ l. terminal_at (terminal_of c) f.at ∷ l) (o.is ∙ ap (λ l. terminal_at terminal.Open o.at ∷ l) (m.is ∙ ap (λ l. m.front ++ terminal_at terminal.Close m.at ∷ l) (no_words m.back m.of_back))) in
+      let is = f.is ∙ ap (λ l. terminal_at (terminal_of c) f.at ∷ l)
+      (o.is ∙ ap (λ l. terminal_at terminal.Open o.at ∷ l) (m.is ∙ ap (λ l. m.front ++ terminal_at terminal.Close m.at ∷ l) (no_words m.back m.of_back))) in
       let fits : count a.args ≡ arity_of c = sym (count-unplaced a.args) ∙ ap count a.same ∙ count-unplaced all ∙ n in
-      record { tree = form f.at (head c) a.args; spells = along is (Grammar.spells_called m.at (terminal_of c) c (terminal_is Called c w) fits a.spells); same = ap (form 0 (head c)) a.same };
+      record {
+        tree = form f.at (head c) a.args;
+        spells = along is (Grammar.spells_called m.at (terminal_of c) c (terminal_is Called c w) fits a.spells);
+        same = ap (form 0 (head c)) a.same;
+      };
 }
 
 one_text : (x : PlainTree) → source x ≡ parted (texts (parts (tree x no_trees)))
@@ -334,7 +357,8 @@ print_more all y some pa py = record {
       record {
         args = trees_and a.args i.tree;
         spells = subst (λ l. SpellsArgs l (trees_and a.args i.tree)) (sym m.is) (Grammar.spells_more m.at a.spells (looser i.spells 0 zero-le));
-        same = all_unplaced-and a.args i.tree ∙ ap (λ w. trees_and w (unplaced i.tree)) a.same ∙ ap (trees_and (all_unplaced all)) i.same ∙ sym (all_unplaced-and all y);
+        same = all_unplaced-and a.args i.tree ∙ ap (λ w. trees_and w (unplaced i.tree)) a.same ∙ ap (trees_and (all_unplaced all)) i.same
+            ∙ sym (all_unplaced-and all y);
       };
 }
 
@@ -355,7 +379,8 @@ print_first_name at n g = record {
       let f = first us (terminal.Name n) [] h in
       record {
         parameters = parameter f.at n ∷ [];
-        spells = subst (λ l. SpellsNames l (parameter f.at n ∷ [])) (sym (f.is ∙ ap (λ l. terminal_at (terminal.Name n) f.at ∷ l) (no_words f.rest f.of_rest))) Grammar.spells_first_name;
+        spells = subst (λ l. SpellsNames l (parameter f.at n ∷ [])) (sym (f.is ∙ ap (λ l. terminal_at (terminal.Name n) f.at ∷ l) (no_words f.rest f.of_rest)))
+            Grammar.spells_first_name;
         same = refl;
       };
 }
@@ -377,7 +402,8 @@ more_names-and (p ∷ all) at n =
     ap (λ l. 44 ∷ 32 ∷ (p.name ++ l)) (more_names-and all at n)
     ∙ ap (λ l. 44 ∷ 32 ∷ l) (sym (append_assoc p.name (parted_more (names_of all)) (44 ∷ 32 ∷ n)))
 
-parted_names-and : (all : List Parameter) (at : ℕ) (n : List ℕ) → SomeNames all → parted (names_of all) ++ 44 ∷ 32 ∷ n ≡ parted (names_of (all ++ parameter at n ∷ []))
+parted_names-and : (all : List Parameter) (at : ℕ) (n : List ℕ) → SomeNames all
+    → parted (names_of all) ++ 44 ∷ 32 ∷ n ≡ parted (names_of (all ++ parameter at n ∷ []))
 parted_names-and (p ∷ all) at n some =
     append_assoc p.name (parted_more (names_of all)) (44 ∷ 32 ∷ n) ∙ ap (λ l. p.name ++ l) (sym (more_names-and all at n))
 parted_names-and [] at n some = elim some [ ]
@@ -386,14 +412,16 @@ names_of-and : (all : List Parameter) (at : ℕ) (n : List ℕ) → names_of (al
 names_of-and [] at n = refl
 names_of-and (p ∷ all) at n = ap (λ l. p.name ∷ l) (names_of-and all at n)
 
-print_more_names : (all : List Parameter) (at : ℕ) (n : List ℕ) → SomeNames all → PrintedNames all → Good (terminal.Name n) → PrintedNames (all ++ parameter at n ∷ [])
+print_more_names : (all : List Parameter) (at : ℕ) (n : List ℕ) → SomeNames all → PrintedNames all → Good (terminal.Name n)
+    → PrintedNames (all ++ parameter at n ∷ [])
 print_more_names all at n some pn g = record {
   chunk = chunk_as (parted_names-and all at n some) (with_comma comma_good pn.chunk (single (terminal.Name n) refl refl g));
   again = λ us h.
       let m = between2 us (pn.chunk.first ∷ pn.chunk.rest) terminal.Comma (terminal.Name n ∷ []) h in
       let f = first m.back (terminal.Name n) [] m.of_back in
       let a = pn.again m.front m.of_front in
-      let is = m.is ∙ ap (λ l. m.front ++ terminal_at terminal.Comma m.at ∷ l) (f.is ∙ ap (λ l. terminal_at (terminal.Name n) f.at ∷ l) (no_words f.rest f.of_rest)) in
+      let is = m.is ∙ ap (λ l. m.front ++ terminal_at terminal.Comma m.at ∷ l)
+      (f.is ∙ ap (λ l. terminal_at (terminal.Name n) f.at ∷ l) (no_words f.rest f.of_rest)) in
       record {
         parameters = a.parameters ++ parameter f.at n ∷ [];
         spells = subst (λ l. SpellsNames l (a.parameters ++ parameter f.at n ∷ [])) (sym is) (Grammar.spells_more_names m.at f.at n a.spells);
@@ -411,13 +439,15 @@ defs_append (defines_current at n t ds) es = defines_current at n t (defs_append
 abbrev one_def : ℕ → List ℕ → Defined → PlainTree → PlainDefs
 one_def at n h t = def_before at n h t no_defs
 
-defs_unplaced-and : (ds : PlainDefs) (at : ℕ) (n : List ℕ) (h : Defined) (t : PlainTree) → defs_unplaced (defs_and ds at n h t) ≡ defs_append (defs_unplaced ds) (defs_unplaced (one_def at n h t))
+defs_unplaced-and : (ds : PlainDefs) (at : ℕ) (n : List ℕ) (h : Defined) (t : PlainTree)
+    → defs_unplaced (defs_and ds at n h t) ≡ defs_append (defs_unplaced ds) (defs_unplaced (one_def at n h t))
 defs_unplaced-and no_defs at n h t = refl
 defs_unplaced-and (defines a m s ds) at n h t = ap (defines 0 m (unplaced s)) (defs_unplaced-and ds at n h t)
 defs_unplaced-and (defines_function a m ns ats s ds) at n h t = ap (defines_function 0 m ns [] (unplaced s)) (defs_unplaced-and ds at n h t)
 defs_unplaced-and (defines_current a m s ds) at n h t = ap (defines_current 0 m (unplaced s)) (defs_unplaced-and ds at n h t)
 
-definitions-and : (ds : PlainDefs) (at : ℕ) (n : List ℕ) (h : Defined) (t : PlainTree) → definitions (defs_and ds at n h t) ≡ definitions ds ++ definitions (one_def at n h t)
+definitions-and : (ds : PlainDefs) (at : ℕ) (n : List ℕ) (h : Defined) (t : PlainTree)
+    → definitions (defs_and ds at n h t) ≡ definitions ds ++ definitions (one_def at n h t)
 unfolding definitions
 definitions-and no_defs at n h t = refl
 definitions-and (defines a m s ds) at n h t =
@@ -491,7 +521,8 @@ print_def all at n h y pd p = record {
       };
 }
 
-plain_text : (at : ℕ) (n : List ℕ) (y : PlainTree) → ((n ++ 32 ∷ (terminal_text terminal.Equals ++ 32 ∷ source y)) ++ terminal_text terminal.Semicolon) ++ 32 ∷ [] ≡ definitions (one_def at n Plain y)
+plain_text : (at : ℕ) (n : List ℕ) (y : PlainTree)
+    → ((n ++ 32 ∷ (terminal_text terminal.Equals ++ 32 ∷ source y)) ++ terminal_text terminal.Semicolon) ++ 32 ∷ [] ≡ definitions (one_def at n Plain y)
 unfolding definitions
 plain_text at n y = simp (append_assoc, append-nil)
 
@@ -508,25 +539,30 @@ plain_def at n y g py = record {
       let o = between2 e.rest ys terminal.Semicolon [] e.of_rest in
       let i = py.again o.front o.of_front in
       let is : us ≡ terminal_at (terminal.Name n) f.at ∷ terminal_at terminal.Equals e.at ∷ (o.front ++ terminal_at terminal.Semicolon o.at ∷ []) =
-      f.is ∙ ap (λ l. terminal_at (terminal.Name n) f.at ∷ l) (e.is ∙ ap (λ l. terminal_at terminal.Equals e.at ∷ l) (o.is ∙ ap (λ l. o.front ++ terminal_at terminal.Semicolon o.at ∷ l) (no_words o.back o.of_back))) in
+      f.is ∙ ap (λ l. terminal_at (terminal.Name n) f.at ∷ l)
+      (e.is ∙ ap (λ l. terminal_at terminal.Equals e.at ∷ l)
+      (o.is ∙ ap (λ l. o.front ++ terminal_at terminal.Semicolon o.at ∷ l) (no_words o.back o.of_back))) in
       record {
         at = f.at;
         header = Plain;
         right = i.tree;
-        spells = λ ds all s. subst (λ l. SpellsDefs (ds ++ l) (defs_and all f.at n Plain i.tree)) (sym is) (Grammar.spells_def f.at n e.at o.at s (looser i.spells 0 zero-le));
+        spells = λ ds all s. subst (λ l. SpellsDefs (ds ++ l) (defs_and all f.at n Plain i.tree)) (sym is)
+            (Grammar.spells_def f.at n e.at o.at s (looser i.spells 0 zero-le));
         same = ap (λ w. defines 0 n w no_defs) i.same;
       };
 }
 
 current_text : (at : ℕ) (n : List ℕ) (y : PlainTree)
-    → ((n ++ 32 ∷ (terminal_text terminal.Is ++ 32 ∷ (terminal_text terminal.Current ++ 32 ∷ source y))) ++ terminal_text terminal.Semicolon) ++ 32 ∷ [] ≡ definitions (one_def at n Current y)
+    → ((n ++ 32 ∷ (terminal_text terminal.Is ++ 32 ∷ (terminal_text terminal.Current ++ 32 ∷ source y))) ++ terminal_text
+    terminal.Semicolon) ++ 32 ∷ [] ≡ definitions (one_def at n Current y)
 unfolding definitions
 current_text at n y = simp (append_assoc, append-nil)
 
 current_def : (at : ℕ) (n : List ℕ) (y : PlainTree) → Good (terminal.Name n) → Printed y → PrintedDef at n Current y
 current_def at n y g py = record {
   bytes = (n ++ 32 ∷ (terminal_text terminal.Is ++ 32 ∷ (terminal_text terminal.Current ++ 32 ∷ source y))) ++ terminal_text terminal.Semicolon;
-  chunk = ended terminal.Semicolon refl refl semicolon_good (operated terminal.Is plain_is (single (terminal.Name n) refl refl g) (led terminal.Current plain_current py.chunk));
+  chunk = ended terminal.Semicolon refl refl semicolon_good
+      (operated terminal.Is plain_is (single (terminal.Name n) refl refl g) (led terminal.Current plain_current py.chunk));
   begins = refl;
   text = current_text at n y;
   again = λ us h.
@@ -536,30 +572,36 @@ current_def at n y g py = record {
       let c = first e.rest terminal.Current (ys ++ terminal.Semicolon ∷ []) e.of_rest in
       let o = between2 c.rest ys terminal.Semicolon [] c.of_rest in
       let i = py.again o.front o.of_front in
-      let is : us ≡ terminal_at (terminal.Name n) f.at ∷ terminal_at terminal.Is e.at ∷ terminal_at terminal.Current c.at ∷ (o.front ++ terminal_at terminal.Semicolon o.at ∷ []) =
-      f.is ∙ ap (λ l. terminal_at (terminal.Name n) f.at ∷ l) (e.is ∙ ap (λ l. terminal_at terminal.Is e.at ∷ l) (c.is ∙ ap (λ l. terminal_at terminal.Current c.at ∷ l)
+      let is : us ≡ terminal_at (terminal.Name n) f.at ∷ terminal_at terminal.Is e.at ∷ terminal_at terminal.Current
+      c.at ∷ (o.front ++ terminal_at terminal.Semicolon o.at ∷ []) =
+      f.is ∙ ap (λ l. terminal_at (terminal.Name n) f.at ∷ l)
+      (e.is ∙ ap (λ l. terminal_at terminal.Is e.at ∷ l) (c.is ∙ ap (λ l. terminal_at terminal.Current c.at ∷ l)
       (o.is ∙ ap (λ l. o.front ++ terminal_at terminal.Semicolon o.at ∷ l) (no_words o.back o.of_back)))) in
       record {
         at = f.at;
         header = Current;
         right = i.tree;
-        spells = λ ds all s. subst (λ l. SpellsDefs (ds ++ l) (defs_and all f.at n Current i.tree)) (sym is) (Grammar.spells_current f.at n e.at c.at o.at s (looser i.spells 0 zero-le));
+        spells = λ ds all s. subst (λ l. SpellsDefs (ds ++ l) (defs_and all f.at n Current i.tree)) (sym is)
+            (Grammar.spells_current f.at n e.at c.at o.at s (looser i.spells 0 zero-le));
         same = ap (λ w. defines_current 0 n w no_defs) i.same;
       };
 }
 
 function_text : (at : ℕ) (n : List ℕ) (ps : List Parameter) (y : PlainTree)
-    → (((n ++ 40 ∷ (parted (names_of ps) ++ 41 ∷ [])) ++ 32 ∷ (terminal_text terminal.Equals ++ 32 ∷ source y)) ++ terminal_text terminal.Semicolon) ++ 32 ∷ [] ≡ definitions (one_def at n (Function ps) y)
+    → (((n ++ 40 ∷ (parted (names_of ps) ++ 41 ∷ [])) ++ 32 ∷ (terminal_text terminal.Equals ++ 32 ∷ source y)) ++ terminal_text
+    terminal.Semicolon) ++ 32 ∷ [] ≡ definitions (one_def at n (Function ps) y)
 unfolding definitions
 function_text at n ps y = simp (append_assoc, append-nil)
 
 regroup : (p q : List PlainTerminal) (c e s : PlainTerminal) → ((p ++ c ∷ []) ++ e ∷ q) ++ s ∷ [] ≡ p ++ c ∷ e ∷ (q ++ s ∷ [])
 regroup p q c e s = simp append_assoc
 
-function_def : (at : ℕ) (n : List ℕ) (ps : List Parameter) (y : PlainTree) → Good (terminal.Name n) → PrintedNames ps → Printed y → PrintedDef at n (Function ps) y
+function_def : (at : ℕ) (n : List ℕ) (ps : List Parameter) (y : PlainTree) → Good (terminal.Name n) → PrintedNames ps → Printed y
+    → PrintedDef at n (Function ps) y
 function_def at n ps y g pn py = record {
   bytes = ((n ++ 40 ∷ (parted (names_of ps) ++ 41 ∷ [])) ++ 32 ∷ (terminal_text terminal.Equals ++ 32 ∷ source y)) ++ terminal_text terminal.Semicolon;
-  chunk = ended terminal.Semicolon refl refl semicolon_good (operated terminal.Equals plain_equals (called (terminal.Name n) refl refl g open_good close_good pn.chunk) py.chunk);
+  chunk = ended terminal.Semicolon refl refl semicolon_good
+      (operated terminal.Equals plain_equals (called (terminal.Name n) refl refl g open_good close_good pn.chunk) py.chunk);
   begins = refl;
   text = function_text at n ps y;
   again = λ us h.
@@ -573,14 +615,18 @@ function_def at n ps y g pn py = record {
       let q = between2 e.rest ys terminal.Semicolon [] e.of_rest in
       let a = pn.again m.front m.of_front in
       let i = py.again q.front q.of_front in
-      let is : us ≡ terminal_at (terminal.Name n) f.at ∷ terminal_at terminal.Open o.at ∷ (m.front ++ terminal_at terminal.Close m.at ∷ terminal_at terminal.Equals e.at ∷ (q.front ++ terminal_at terminal.Semicolon q.at ∷ [])) =
-      f.is ∙ ap (λ l. terminal_at (terminal.Name n) f.at ∷ l) (o.is ∙ ap (λ l. terminal_at terminal.Open o.at ∷ l) (m.is ∙ ap (λ l. m.front ++ terminal_at terminal.Close m.at ∷ l)
-      (e.is ∙ ap (λ l. terminal_at terminal.Equals e.at ∷ l) (q.is ∙ ap (λ l. q.front ++ terminal_at terminal.Semicolon q.at ∷ l) (no_words q.back q.of_back))))) in
+      let is : us ≡ terminal_at (terminal.Name n) f.at ∷ terminal_at terminal.Open
+      o.at ∷ (m.front ++ terminal_at terminal.Close m.at ∷ terminal_at terminal.Equals e.at ∷ (q.front ++ terminal_at terminal.Semicolon q.at ∷ [])) =
+      f.is ∙ ap (λ l. terminal_at (terminal.Name n) f.at ∷ l)
+      (o.is ∙ ap (λ l. terminal_at terminal.Open o.at ∷ l) (m.is ∙ ap (λ l. m.front ++ terminal_at terminal.Close m.at ∷ l)
+      (e.is ∙ ap (λ l. terminal_at terminal.Equals e.at ∷ l)
+      (q.is ∙ ap (λ l. q.front ++ terminal_at terminal.Semicolon q.at ∷ l) (no_words q.back q.of_back))))) in
       record {
         at = f.at;
         header = Function a.parameters;
         right = i.tree;
-        spells = λ ds all s. subst (λ l. SpellsDefs (ds ++ l) (defs_and all f.at n (Function a.parameters) i.tree)) (sym is) (Grammar.spells_function f.at n o.at m.at e.at q.at s a.spells (looser i.spells 0 zero-le));
+        spells = λ ds all s. subst (λ l. SpellsDefs (ds ++ l) (defs_and all f.at n (Function a.parameters) i.tree)) (sym is)
+            (Grammar.spells_function f.at n o.at m.at e.at q.at s a.spells (looser i.spells 0 zero-le));
         same = ap (λ l. defines_function 0 n l [] (unplaced i.tree) no_defs) a.same ∙ ap (λ w. defines_function 0 n (names_of ps) [] w no_defs) i.same;
       };
 }
@@ -599,7 +645,8 @@ print_block at x all px pd = record {
       let n = between2 m.back pd.terminals.all terminal.End [] m.of_back in
       let i = px.again m.front m.of_front in
       let d = pd.again n.front n.of_front in
-      let is = m.is ∙ ap (λ l. m.front ++ terminal_at terminal.Where m.at ∷ l) (n.is ∙ ap (λ l. n.front ++ terminal_at terminal.End n.at ∷ l) (no_words n.back n.of_back)) in
+      let is = m.is ∙ ap (λ l. m.front ++ terminal_at terminal.Where m.at ∷ l)
+      (n.is ∙ ap (λ l. n.front ++ terminal_at terminal.End n.at ∷ l) (no_words n.back n.of_back)) in
       record {
         tree = block m.at i.tree d.defs;
         spells = along is (Grammar.spells_block n.at zero-le (looser i.spells 0 zero-le) d.spells);
@@ -624,7 +671,8 @@ module _ (law : TextIsRead) where
   print_names : {ws : List PlacedTerminal} {all : List Parameter} → SpellsNames ws all → AllWritten ws → PrintedNames all
   print_names (Grammar.spells_first_name {at = at} {n = n}) h = print_first_name at n (written_name_good n h.0)
   print_names (Grammar.spells_more_names p at n {xs = xs} {all = all} sn) h =
-      print_more_names all at n (names_some sn) (print_names sn (front xs _ h)) (written_name_good n (back xs (terminal_at terminal.Comma p ∷ terminal_at (terminal.Name n) at ∷ []) h).1.0)
+      print_more_names all at n (names_some sn) (print_names sn (front xs _ h))
+      (written_name_good n (back xs (terminal_at terminal.Comma p ∷ terminal_at (terminal.Name n) at ∷ []) h).1.0)
 
   mutual
     pub print : {k : ℕ} {ws : List PlacedTerminal} {t : PlainTree} → Spells k ws t → AllWritten ws → Printed t
@@ -651,13 +699,15 @@ module _ (law : TextIsRead) where
     print_args : {ws : List PlacedTerminal} {all : PlainTrees} → SpellsArgs ws all → AllWritten ws → PrintedArgs all
     print_args (Grammar.spells_one {x = x} sx) h = print_one x (print sx h)
     print_args (Grammar.spells_more p {xs = xs} {ys = ys} {all = all} {y = y} sa sy) h =
-        print_more all y (args_some sa) (print_args sa (front xs (terminal_at terminal.Comma p ∷ ys) h)) (print sy (back xs (terminal_at terminal.Comma p ∷ ys) h).1)
+        print_more all y (args_some sa) (print_args sa (front xs (terminal_at terminal.Comma p ∷ ys) h))
+        (print sy (back xs (terminal_at terminal.Comma p ∷ ys) h).1)
 
     print_defs : {ws : List PlacedTerminal} {all : PlainDefs} → SpellsDefs ws all → AllWritten ws → PrintedDefs all
     print_defs Grammar.spells_none h = print_none
     print_defs (Grammar.spells_def at n p q {ds = ds} {ys = ys} {all = all} {y = y} sd sy) h =
         let w = back ds (terminal_at (terminal.Name n) at ∷ terminal_at terminal.Equals p ∷ (ys ++ terminal_at terminal.Semicolon q ∷ [])) h in
-        print_def all at n Plain y (print_defs sd (front ds (terminal_at (terminal.Name n) at ∷ terminal_at terminal.Equals p ∷ (ys ++ terminal_at terminal.Semicolon q ∷ [])) h))
+        print_def all at n Plain y
+        (print_defs sd (front ds (terminal_at (terminal.Name n) at ∷ terminal_at terminal.Equals p ∷ (ys ++ terminal_at terminal.Semicolon q ∷ [])) h))
         (plain_def at n y (written_name_good n w.0) (print sy (front ys (terminal_at terminal.Semicolon q ∷ []) w.1.1)))
     print_defs (Grammar.spells_function at n o p q r {ds = ds} {ns = ns} {ys = ys} {all = all} {parameters = ps} {y = y} sd sn sy) h =
         let yw = ys ++ terminal_at terminal.Semicolon r ∷ [] in

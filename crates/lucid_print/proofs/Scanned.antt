@@ -93,7 +93,8 @@ next l (s ∷ ss) = of (is_tight l s) refl
           ]
         ])
 
-next_by : (bytes : List ℕ) (at g n : ℕ) (k : TokenKind) (here rest : List ℕ) (ts : List Token) → gap_length bytes ≡ g → drop g bytes ≡ here → IsLongest here k n → drop n here ≡ rest
+next_by : (bytes : List ℕ) (at g n : ℕ) (k : TokenKind) (here rest : List ℕ) (ts : List Token) → gap_length bytes ≡ g → drop g bytes ≡ here → IsLongest here k n
+    → drop n here ≡ rest
     → Tokens rest ((at + g) + n) ts → Tokens bytes at (token k (at + g) ((at + g) + n) ∷ ts)
 next_by bytes at g n k here rest ts e f l d more =
     let there : past_gap bytes ≡ here = ap (λ i. drop i bytes) e ∙ f in
@@ -167,7 +168,8 @@ module _ (longest : TextsAreLongest) (none : TextsBeginNoGap) where
         terminals = ap (λ x. s ∷ x) more.terminals;
       }
 
-  pub scanned : (ss : List PlainTerminal) → AllGood ss → (l : PlainTerminal) (pre : List ℕ) → Scanned (pre ++ (after l ss ++ 10 ∷ [])) (after l ss ++ 10 ∷ []) (length pre) ss
+  pub scanned : (ss : List PlainTerminal) → AllGood ss → (l : PlainTerminal) (pre : List ℕ)
+      → Scanned (pre ++ (after l ss ++ 10 ∷ [])) (after l ss ++ 10 ∷ []) (length pre) ss
   scanned [] g l pre = record { tokens = []; are_tokens = tokens_end (le_one); words = []; are_words = Terminals.terminals_none; terminals = refl }
     where
       le_one : length {A = ℕ} (10 ∷ []) ≤ gap_length (10 ∷ [])
@@ -178,8 +180,11 @@ module _ (longest : TextsAreLongest) (none : TextsBeginNoGap) where
 words_written : {whole : List ℕ} {ts : List Token} {ws : List PlacedTerminal} → Terminals whole ts ws → All (StandsIn whole) ts → AllWritten ws
 words_written Terminals.terminals_none h = tt
 words_written {whole} (Terminals.terminals_next {ts = ts} t s stands more) h =
-    let here : StandsIn whole t = h 0 t (omega arith) in
-    ((t.kind, take (t.to - t.from) (drop t.from whole), drop (t.to - t.from) (drop t.from whole), here.text, stands), words_written more (λ k d lt. h (suc k) d (omega (arith, lt))))
+    let here : StandsIn whole t = h 0 t (omega arith) in (
+      (t.kind, take (t.to - t.from) (drop t.from whole), drop (t.to - t.from) (drop t.from whole), here.text, stands),
+      words_written more
+          (λ k d lt. h (suc k) d (omega (arith, lt))),
+    )
 
 -- depth is the same up to places
 mutual

@@ -61,7 +61,8 @@ operator_text o = refl
 style-row : (wanted : Form) (o : Operator) → as_form wanted o ≡ Some o → style (head o) ≡ row_style wanted (row_of o)
 style-row wanted o w = ap (λ x. made_style x (head o)) (known o) ∙ ap (λ f. row_style f (row_of o)) (stands wanted (terminal.Operator o) o w)
 
-pub style-between : (o : Operator) → as_form Between o ≡ Some o → style (head o) ≡ styles.between (terminal_text (terminal_of o)) (level_of o) (left o) (right o)
+pub style-between : (o : Operator) → as_form Between o ≡ Some o
+    → style (head o) ≡ styles.between (terminal_text (terminal_of o)) (level_of o) (left o) (right o)
 style-between o w = style-row Between o w ∙ ap (λ s. styles.between s (level_of o) (left o) (right o)) (sym (operator_text o))
 
 pub style-before : (o : Operator) → as_form Before o ≡ Some o → style (head o) ≡ styles.before (terminal_text (terminal_of o)) (level_of o)

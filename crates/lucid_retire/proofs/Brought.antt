@@ -13,13 +13,15 @@ not_itself true = refl
 not_itself false = refl
 
 -- where x is apart from the rest, what falls out of the rest is not the same as x
-falls_apart : (x q : Key) (xs : List Key) (n : ℕ) → IsDistinct same_key (x ∷ xs) → same_key q x ≡ true → (o : Option Key) → slice_get xs n ≡ o → is_the o q ≡ false
+falls_apart : (x q : Key) (xs : List Key) (n : ℕ) → IsDistinct same_key (x ∷ xs) → same_key q x ≡ true → (o : Option Key) → slice_get xs n ≡ o
+    → is_the o q ≡ false
 falls_apart x q xs n d same None e = refl
 falls_apart x q xs n d same (Some z) e =
     same_key_equiv.symm z q ∙ same_key_equiv.congr q x z same ∙ same_key_equiv.symm x z ∙ apart_item same_key_equiv x xs n z (IsDistinct-head same_key x xs d) e
 
 -- of different keys, at most one more than n, the first n are all but the one that falls out
-pub listed-take : (n : ℕ) (ks : List Key) (q : Key) → IsDistinct same_key ks → length ks ≤ n + 1 → is_listed (take n ks) q ≡ (is_listed ks q && not (is_the (slice_get ks n) q))
+pub listed-take : (n : ℕ) (ks : List Key) (q : Key) → IsDistinct same_key ks → length ks ≤ n + 1
+    → is_listed (take n ks) q ≡ (is_listed ks q && not (is_the (slice_get ks n) q))
 listed-take zero [] q d le = refl
 listed-take zero (x ∷ []) q d le = sym (ap (λ b. (same_key q x || false) && not b) (same_key_equiv.symm x q) ∙ not_itself (same_key q x))
 listed-take zero (x ∷ y ∷ ys) q d le = absurd (omega (arith, le))
@@ -65,7 +67,8 @@ module _ (r : Recency) (few : AreRecent r) (old : Stored) where
         or_false true = refl
         or_false false = refl
 
-        by : (t : Bool) → same_key k q ≡ t → (e : Option Entry) → is_some e ≡ (is_listed r.keys q || same_key k q) → is_some (cond t None e) ≡ is_listed r.keys q
+        by : (t : Bool) → same_key k q ≡ t → (e : Option Entry) → is_some e ≡ (is_listed r.keys q || same_key k q)
+            → is_some (cond t None e) ≡ is_listed r.keys q
         by true same e h = sym (subst (λ x. is_listed r.keys x ≡ false) ((same_key_is_equality k q).0 same) unlisted)
         by false other e h = h ∙ ap (λ b. is_listed r.keys q || b) other ∙ or_false (is_listed r.keys q)
 

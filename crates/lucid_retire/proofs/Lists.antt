@@ -46,10 +46,11 @@ module _ {K : Type 0} {eq : K → K → Bool} (laws : IsEquivalence eq) where
 
   pub IsDistinct-remove : (k : K) (ks : List K) → IsDistinct eq ks → IsDistinct eq (remove_key (eq k) ks)
   IsDistinct-remove k [] d = d
-  IsDistinct-remove k (x ∷ xs) d = let rest = IsDistinct-remove k xs (IsDistinct-tail eq x xs d) in elim (eq k x) as (λ t. IsDistinct eq (cond t xs (x ∷ remove_key (eq k) xs))) [
-    | true ↦ IsDistinct-tail eq x xs d
-    | false ↦ IsDistinct-cons eq x (remove_key (eq k) xs) (Apart-remove x k xs (IsDistinct-head eq x xs d)) rest
-  ]
+  IsDistinct-remove k (x ∷ xs) d = let rest = IsDistinct-remove k xs (IsDistinct-tail eq x xs d) in
+      elim (eq k x) as (λ t. IsDistinct eq (cond t xs (x ∷ remove_key (eq k) xs))) [
+        | true ↦ IsDistinct-tail eq x xs d
+        | false ↦ IsDistinct-cons eq x (remove_key (eq k) xs) (Apart-remove x k xs (IsDistinct-head eq x xs d)) rest
+      ]
 
   -- of different keys none is the same as the one that was taken out
   pub apart_from_removed : (k : K) (ks : List K) → IsDistinct eq ks → Apart k (remove_key (eq k) ks)
@@ -69,10 +70,11 @@ module _ {K : Type 0} {eq : K → K → Bool} (laws : IsEquivalence eq) where
       or_false : (b : Bool) → (b || false) ≡ b
       or_false true = refl
       or_false false = refl
-  listed-front k q (x ∷ xs) = (elim (eq k x) as (λ t. eq k x ≡ t → (eq q k || list_any (eq q) (cond t xs (x ∷ remove_key (eq k) xs))) ≡ ((eq q x || list_any (eq q) xs) || eq k q)) [
-    | true ↦ λ e. alike (eq q k) (eq q x) (list_any (eq q) xs) (eq k q) (laws.symm q k) (laws.symm q x ∙ sym (laws.congr k x q e))
-    | false ↦ λ e. deeper (eq q k) (eq q x) (list_any (eq q) (remove_key (eq k) xs)) (list_any (eq q) xs) (eq k q) (listed-front k q xs)
-  ]) refl
+  listed-front k q (x ∷ xs) =
+      (elim (eq k x) as (λ t. eq k x ≡ t → (eq q k || list_any (eq q) (cond t xs (x ∷ remove_key (eq k) xs))) ≡ ((eq q x || list_any (eq q) xs) || eq k q)) [
+        | true ↦ λ e. alike (eq q k) (eq q x) (list_any (eq q) xs) (eq k q) (laws.symm q k) (laws.symm q x ∙ sym (laws.congr k x q e))
+        | false ↦ λ e. deeper (eq q k) (eq q x) (list_any (eq q) (remove_key (eq k) xs)) (list_any (eq q) xs) (eq k q) (listed-front k q xs)
+      ]) refl
     where
       alike : (a b c d : Bool) → a ≡ d → b ≡ d → (a || c) ≡ ((b || c) || d)
       alike true true c true p r = refl

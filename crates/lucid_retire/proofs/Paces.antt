@@ -15,18 +15,24 @@ all_touches touches (suc n) = touches (suc n) ++ all_touches touches n
 length-all : (touches : ℕ → List Key) (every n : ℕ) → ((k : ℕ) → length (touches k) ≤ every) → length (all_touches touches n) ≤ every * (n + 1)
 length-all touches every zero few = let one = few 0 in grind arith
 length-all touches every (suc n) few =
-    longer (length (touches (suc n))) (length (all_touches touches n)) _ every n (length-append (touches (suc n)) (all_touches touches n)) (few (suc n)) (length-all touches every n few)
+    longer (length (touches (suc n))) (length (all_touches touches n)) _ every n (length-append (touches (suc n)) (all_touches touches n)) (few (suc n))
+    (length-all touches every n few)
   where
     longer : (x y z every n : ℕ) → z ≡ x + y → x ≤ every → y ≤ every * (n + 1) → z ≤ every * (suc n + 1)
     longer x y z every n e h k = omega arith
 
-among_all : (touches : ℕ → List Key) (q : Key) (age n : ℕ) → age ≤ n → is_member same_key (touches age) q ≡ true → is_member same_key (all_touches touches n) q ≡ true
+among_all : (touches : ℕ → List Key) (q : Key) (age n : ℕ) → age ≤ n → is_member same_key (touches age) q ≡ true
+    → is_member same_key (all_touches touches n) q ≡ true
 among_all touches q age zero le h = let at : age ≡ 0 = omega (arith, le) in subst (λ k. is_member same_key (touches k) q ≡ true) at h
-among_all touches q age (suc n) le h = list_any-append (same_key q) (touches (suc n)) (all_touches touches n) ∙ by (age == suc n) refl (λ below. among_all touches q age n below h)
+among_all touches q age (suc n) le h = list_any-append (same_key q) (touches (suc n)) (all_touches touches n)
+    ∙ by (age == suc n) refl (λ below. among_all touches q age n below h)
   where
-    by : (t : Bool) → (age == suc n) ≡ t → (age ≤ n → is_member same_key (all_touches touches n) q ≡ true) → (is_member same_key (touches (suc n)) q || is_member same_key (all_touches touches n) q) ≡ true
-    by true e among = let at : age ≡ suc n = grind (arith, nat_tests) in ap (λ b. b || is_member same_key (all_touches touches n) q) (subst (λ k. is_member same_key (touches k) q ≡ true) at h)
-    by false e among = let below : age ≤ n = grind (arith, nat_tests) in ap (λ b. is_member same_key (touches (suc n)) q || b) (among below) ∙ or_true (is_member same_key (touches (suc n)) q)
+    by : (t : Bool) → (age == suc n) ≡ t → (age ≤ n → is_member same_key (all_touches touches n) q ≡ true)
+        → (is_member same_key (touches (suc n)) q || is_member same_key (all_touches touches n) q) ≡ true
+    by true e among = let at : age ≡ suc n = grind (arith, nat_tests) in
+        ap (λ b. b || is_member same_key (all_touches touches n) q) (subst (λ k. is_member same_key (touches k) q ≡ true) at h)
+    by false e among = let below : age ≤ n = grind (arith, nat_tests) in
+        ap (λ b. is_member same_key (touches (suc n)) q || b) (among below) ∙ or_true (is_member same_key (touches (suc n)) q)
 
 abbrev age_of : Option Entry → Option ℕ
 age_of e = option_map (λ x. x.age) e
@@ -52,17 +58,20 @@ module _ (a : Aging) (touches : ℕ → List Key) where
   accounted_more key q None h = tt
   accounted_more key q (Some age) h = (h.0, listed_more key q age h.1)
 
-  accounted_touch : (key : Key) (old new : Stored) → TouchesOne key old new → ((q : Key) → IsAccounted a touches q (age_at old q)) → (q : Key) → IsAccounted a (with_touch key touches) q (age_at new q)
+  accounted_touch : (key : Key) (old new : Stored) → TouchesOne key old new → ((q : Key) → IsAccounted a touches q (age_at old q)) → (q : Key)
+      → IsAccounted a (with_touch key touches) q (age_at new q)
   accounted_touch key old new one accounts q = by (same_key key q) refl
     where
       stays : (j : Key) → (entry_at new j ≡ None) ⊎ (entry_at new j ≡ entry_at old j) → IsAccounted a (with_touch key touches) j (age_at new j)
       stays j (inl none) = subst (λ e. IsAccounted a (with_touch key touches) j (age_of e)) (sym none) tt
       stays j (inr same) = subst (λ e. IsAccounted a (with_touch key touches) j (age_of e)) (sym same) (accounted_more key j (age_at old j) (accounts j))
 
-      here : (entry_at new key ≡ None) ⊎ ((entry_at new key ≡ entry_at old key) ⊎ (age_at new key ≡ Some 0)) → IsAccounted a (with_touch key touches) key (age_at new key)
+      here : (entry_at new key ≡ None) ⊎ ((entry_at new key ≡ entry_at old key) ⊎ (age_at new key ≡ Some 0))
+          → IsAccounted a (with_touch key touches) key (age_at new key)
       here (inl none) = stays key (inl none)
       here (inr (inl same)) = stays key (inr same)
-      here (inr (inr young)) = subst (IsAccounted a (with_touch key touches) key) (sym young) (omega arith, ap (λ b. b || is_member same_key (touches 0) key) (same_key_equiv.refl key))
+      here (inr (inr young)) = subst (IsAccounted a (with_touch key touches) key) (sym young)
+          (omega arith, ap (λ b. b || is_member same_key (touches 0) key) (same_key_equiv.refl key))
 
       by : (t : Bool) → same_key key q ≡ t → IsAccounted a (with_touch key touches) q (age_at new q)
       by true same = subst (λ j. IsAccounted a (with_touch key touches) j (age_at new j)) ((same_key_is_equality key q).0 same) (here one.touched)
@@ -73,21 +82,28 @@ module _ (a : Aging) (touches : ℕ → List Key) where
   one_older : (age : ℕ) → age ≤ a.limit → a.limit < 2 ^ 32 - 1 → older age ≡ suc age
   one_older age le small = omega (arith, le, small)
 
-  accounted_swept : a.limit < 2 ^ 32 - 1 → (q : Key) (e : Option Entry) → IsAccounted a touches q (age_of e) → IsAccounted a (later touches) q (age_of (option_and_then (swept a.limit) e))
+  accounted_swept : a.limit < 2 ^ 32 - 1 → (q : Key) (e : Option Entry) → IsAccounted a touches q (age_of e)
+      → IsAccounted a (later touches) q (age_of (option_and_then (swept a.limit) e))
   accounted_swept small q None h = tt
   accounted_swept small q (Some e) h = by (nat_le (older e.age) a.limit) refl
     where
       by : (t : Bool) → nat_le (older e.age) a.limit ≡ t → IsAccounted a (later touches) q (age_of (cond {A = Option Entry} t (Some (aged e)) None))
-      by true young = (let within : older e.age ≤ a.limit = grind (arith, nat_tests) in within, subst (λ n. is_member same_key (later touches n) q ≡ true) (sym (one_older e.age h.0 small)) h.1)
+      by true young = (
+        let within : older e.age ≤ a.limit = grind (arith, nat_tests) in
+            within,
+        subst (λ n. is_member same_key (later touches n) q ≡ true) (sym (one_older e.age h.0 small)) h.1,
+      )
       by false old = tt
 
   -- ---- how many are held
 
-  count-accounted : (w : Stored) → IsOneForEach w → ((k : ℕ) → length (touches k) ≤ a.every) → ((q : Key) → IsAccounted a touches q (age_at w q)) → count_of w ≤ most_of a
+  count-accounted : (w : Stored) → IsOneForEach w → ((k : ℕ) → length (touches k) ≤ a.every) → ((q : Key) → IsAccounted a touches q (age_at w q))
+      → count_of w ≤ most_of a
   count-accounted w one few accounts =
       let among = length-le_from_is_member same_key_equiv (keys_of w.entries) (all_touches touches a.limit) one
       (λ q h. listed q (entry_at w q) (is_some-lookup (same_key q) w.entries ∙ h) (accounts q)) in
-      within (count_of w) (length (keys_of w.entries)) (length (all_touches touches a.limit)) (most_of a) (length-keys_of w.entries) among (length-all touches a.every a.limit few)
+      within (count_of w) (length (keys_of w.entries)) (length (all_touches touches a.limit)) (most_of a) (length-keys_of w.entries) among
+      (length-all touches a.every a.limit few)
     where
       listed : (q : Key) (e : Option Entry) → is_some e ≡ true → IsAccounted a touches q (age_of e) → is_member same_key (all_touches touches a.limit) q ≡ true
       listed q None some h = cc
@@ -97,7 +113,8 @@ module _ (a : Aging) (touches : ℕ → List Key) where
       within n k l m e h g = omega arith
 
 -- a turn goes on at the pace, and leaves at most so many that nothing is emptied
-module _ (a : Aging) (w old : Stored) (key : Key) (paced : IsPaced a w) (touches : TouchesOne key w old) (since : a.since < a.every) (small : a.limit < 2 ^ 32 - 1) where
+module _ (a : Aging) (w old : Stored) (key : Key) (paced : IsPaced a w) (touches : TouchesOne key w old) (since : a.since < a.every)
+    (small : a.limit < 2 ^ 32 - 1) where
   abbrev now_touched : ℕ → List Key
   now_touched = with_touch key paced.touches
 
@@ -113,7 +130,8 @@ module _ (a : Aging) (w old : Stored) (key : Key) (paced : IsPaced a w) (touches
   few_later (suc n) = few_now n
 
   accounts_later : (new : Stored) → IsSwept a.limit old new → (q : Key) → IsAccounted a (later now_touched) q (age_at new q)
-  accounts_later new sweeps q = subst (λ e. IsAccounted a (later now_touched) q (age_of e)) (sym (sweeps.entries q)) (accounted_swept a now_touched small q (entry_at old q) (accounts_now q))
+  accounts_later new sweeps q = subst (λ e. IsAccounted a (later now_touched) q (age_of e)) (sym (sweeps.entries q))
+      (accounted_swept a now_touched small q (entry_at old q) (accounts_now q))
 
   pub paced_swept : (new : Stored) → IsSwept a.limit old new → is_sweeping a ≡ true → IsPaced (after_turn a) new
   paced_swept new sweeps t = record {

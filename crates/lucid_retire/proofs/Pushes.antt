@@ -6,17 +6,19 @@ use Rattle.lucid_retire.proofs.Lists.{remove-unlisted, apart_from_unlisted, apar
 
 value_of_entry : {K X : Type 0} (test : K → Bool) (es : List (K × X)) → lookup test es ≡ option_map (λ e. e.1) (lookup_entry test es)
 value_of_entry test [] = refl
-value_of_entry {X = X} test (e ∷ es) = let rest = value_of_entry test es in elim (test e.0) as (λ t. cond {A = Option X} t (Some e.1) (lookup test es) ≡ option_map (λ f. f.1) (cond t (Some e) (lookup_entry test es))) [
-  | true ↦ refl
-  | false ↦ rest
-]
+value_of_entry {X = X} test (e ∷ es) = let rest = value_of_entry test es in
+    elim (test e.0) as (λ t. cond {A = Option X} t (Some e.1) (lookup test es) ≡ option_map (λ f. f.1) (cond t (Some e) (lookup_entry test es))) [
+      | true ↦ refl
+      | false ↦ rest
+    ]
 
 keys_of-remove_entry : {K X : Type 0} (test : K → Bool) (es : List (K × X)) → keys_of (remove_entry test es) ≡ remove_key test (keys_of es)
 keys_of-remove_entry test [] = refl
-keys_of-remove_entry test (e ∷ es) = let rest = keys_of-remove_entry test es in elim (test e.0) as (λ t. keys_of (cond t es (e ∷ remove_entry test es)) ≡ cond t (keys_of es) (e.0 ∷ remove_key test (keys_of es))) [
-  | true ↦ refl
-  | false ↦ ap (λ ks. e.0 ∷ ks) rest
-]
+keys_of-remove_entry test (e ∷ es) = let rest = keys_of-remove_entry test es in
+    elim (test e.0) as (λ t. keys_of (cond t es (e ∷ remove_entry test es)) ≡ cond t (keys_of es) (e.0 ∷ remove_key test (keys_of es))) [
+      | true ↦ refl
+      | false ↦ ap (λ ks. e.0 ∷ ks) rest
+    ]
 
 -- a room of at least one
 take_front : (room : ℕ) (key : Key) (ks : List Key) → 0 < room → key ∷ take (room - 1) ks ≡ take room (key ∷ ks)

@@ -8,11 +8,13 @@ or_false true = refl
 or_false false = refl
 
 -- how a turn ends
-cut_at : (t : Bool) (after list : Recency) (new mid : Stored) → t ≡ true → after ≡ record list { keys = [] } → new ≡ cleared mid → MatchBool t ((after ≡ record list { keys = [] }) × (new ≡ cleared mid)) ((after ≡ list) × (new ≡ mid))
+cut_at : (t : Bool) (after list : Recency) (new mid : Stored) → t ≡ true → after ≡ record list { keys = [] } → new ≡ cleared mid
+    → MatchBool t ((after ≡ record list { keys = [] }) × (new ≡ cleared mid)) ((after ≡ list) × (new ≡ mid))
 cut_at true after list new mid e none cut = (none, cut)
 cut_at false after list new mid e none cut = cc
 
-uncut_at : (t : Bool) (after list : Recency) (new mid : Stored) → t ≡ false → after ≡ list → new ≡ mid → MatchBool t ((after ≡ record list { keys = [] }) × (new ≡ cleared mid)) ((after ≡ list) × (new ≡ mid))
+uncut_at : (t : Bool) (after list : Recency) (new mid : Stored) → t ≡ false → after ≡ list → new ≡ mid
+    → MatchBool t ((after ≡ record list { keys = [] }) × (new ≡ cleared mid)) ((after ≡ list) × (new ≡ mid))
 uncut_at false after list new mid e same stays = (same, stays)
 uncut_at true after list new mid e same stays = cc
 
@@ -32,7 +34,8 @@ module _ (r : Recency) (few : AreRecent r) (list : Recency) (old mid : Stored) w
   few_noted (Some k) (inr f) = subst (λ l. length l.keys ≤ r.room) (sym f.counted) few.few
 
   drops_noted : IsOneForEach old → (touched : Option Key) → IsNoted r touched list old mid → AgreesAt touched
-      → (DropsKey (cond (nat_lt r.room (count_of old)) (last_of (with_touched touched r.keys)) None) old mid × (list.unlisted ≡ r.unlisted)) ⊎ IsRefusedAt r touched list old mid
+      → (DropsKey (cond (nat_lt r.room (count_of old)) (last_of (with_touched touched r.keys)) None) old mid × (list.unlisted ≡ r.unlisted))
+      ⊎ IsRefusedAt r touched list old mid
   drops_noted one None notes agrees =
       let are : AreHeld r.keys old = λ q. agrees q ∙ or_false (is_listed r.keys q) in
       let within : count_of old ≤ r.room = omega (arith, few.few, count-listed r.keys old are one) in
@@ -44,7 +47,8 @@ module _ (r : Recency) (few : AreRecent r) (list : Recency) (old mid : Stored) w
       (one : IsOneForEach old) (one_mid : IsOneForEach mid) (some : 0 < count_of old) where
     -- where the list agreed, no more than the room are held
     within_room : Agrees r.keys old → nat_lt r.room (count_of mid) ≡ false
-    within_room agrees = le-ltb r.room (count_of mid) (omega (arith, few_noted old.touched notes, count-listed list.keys mid (held_noted old.touched notes agrees) one_mid))
+    within_room agrees = le-ltb r.room (count_of mid)
+        (omega (arith, few_noted old.touched notes, count-listed list.keys mid (held_noted old.touched notes agrees) one_mid))
 
     pub kept_turn : nat_lt r.room (count_of mid) ≡ false → IsRecencyTurn r list old mid
     kept_turn fits = record {

@@ -27,7 +27,8 @@ module _ (opening closing : ℕ) (test : List ℕ → Bool) where
         → (m ≡ prefix_len p (drop 1 bytes) + 2) × Closed closing test (drop 1 bytes) (prefix_len p (drop 1 bytes))
     closed bytes m h (inside, e, ok) =
         let rest = drop m bytes in
-        let run : prefix_len p (drop 1 bytes) ≡ length inside = ap (λ l. prefix_len p (drop 1 l)) (shape bytes inside m e) ∙ run_is p inside (closing ∷ rest) (runs inside ok) ends in
+        let run : prefix_len p (drop 1 bytes) ≡ length inside = ap (λ l. prefix_len p (drop 1 l)) (shape bytes inside m e)
+        ∙ run_is p inside (closing ∷ rest) (runs inside ok) ends in
         let there : Closed closing test (drop 1 bytes) (length inside) =
         subst (λ l. Closed closing test (drop 1 l) (length inside)) (sym (shape bytes inside m e)) (closed_here inside rest ok) in
         (len bytes inside m h e ∙ ap (λ n. n + 2) (sym run), subst (Closed closing test (drop 1 bytes)) (sym run) there)

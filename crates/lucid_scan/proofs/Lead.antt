@@ -56,7 +56,8 @@ other_lead (b ∷ t) h =
     ∙ cond-false (eqb b 91) _ _ no_bracket.1
 
 -- what holds of each entry of a table holds of what is among them
-pub among_all : (p : List ℕ → Bool) (table : List (List ℕ)) (t : List ℕ) → list_any (λ entry. same_bytes t entry) table ≡ true → list_all p table ≡ true → p t ≡ true
+pub among_all : (p : List ℕ → Bool) (table : List (List ℕ)) (t : List ℕ) → list_any (λ entry. same_bytes t entry) table ≡ true → list_all p table ≡ true
+    → p t ≡ true
 among_all p [] t h k = cc
 among_all p (entry ∷ table) t h k =
     let b = and_parts (p entry) (list_all p table) k in

@@ -20,7 +20,8 @@ letter_in_name b h = or_left (is_ascii_alphanumeric b) (eqb b 95) (letter_in_wor
 
 pub name_runs : (t : List ℕ) → is_namelike t ≡ true → list_all is_name_byte t ≡ true
 name_runs [] h = cc
-name_runs (b ∷ t) h = let p = and_parts (is_ascii_alphabetic b) (list_all is_name_byte t) h in and_from (is_name_byte b) (list_all is_name_byte t) (letter_in_name b p.0) p.1
+name_runs (b ∷ t) h = let p = and_parts (is_ascii_alphabetic b) (list_all is_name_byte t) h in
+    and_from (is_name_byte b) (list_all is_name_byte t) (letter_in_name b p.0) p.1
 
 namelike : (t : List ℕ) → first_passes is_ascii_alphabetic t ≡ true → list_all is_name_byte t ≡ true → is_namelike t ≡ true
 namelike [] f h = cc
@@ -281,7 +282,8 @@ module _ (bytes : List ℕ) where
     ];
   }
 
-  pub list_stands : (n : ℕ) → 4 ≤ lead bytes → NoMarkStands bytes → IsListFront bytes n → ((m : ℕ) → IsListFront bytes m → m ≡ n) → IsLongest bytes kind.ListText n
+  pub list_stands : (n : ℕ) → 4 ≤ lead bytes → NoMarkStands bytes → IsListFront bytes n → ((m : ℕ) → IsListFront bytes m → m ≡ n)
+      → IsLongest bytes kind.ListText n
   list_stands n f unmarked g one = record {
     stands = record { within = g.within; some = list_some bytes n g; text = (g.items, g.reads) };
     longest = λ j m s. elim (mark_or_list bytes f j m s) [
@@ -291,7 +293,8 @@ module _ (bytes : List ℕ) where
   }
 
   pub nothing_stands : 4 ≤ lead bytes → NoMarkStands bytes → ((m : ℕ) → IsListFront bytes m → ⊥) → NoneStands bytes
-  nothing_stands f unmarked unclosed j m s = elim (mark_or_list bytes f j m s) [ inl h ↦ unmarked m (record { within = s.within; mark = h }) | inr k ↦ unclosed m k ]
+  nothing_stands f unmarked unclosed j m s = elim (mark_or_list bytes f j m s)
+      [ inl h ↦ unmarked m (record { within = s.within; mark = h }) | inr k ↦ unclosed m k ]
 
 pub bracket_lead : (bytes : List ℕ) → first_passes (λ b. eqb b 91) bytes ≡ true → 4 ≤ lead bytes
 bracket_lead bytes f = let l : lead bytes ≡ 4 = byte_lead 91 bytes f in omega (arith, l)

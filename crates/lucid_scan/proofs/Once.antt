@@ -8,7 +8,8 @@ use Rattle.lucid_scan.proofs.Longest.{mark_kind, mark_or_none}
 -- the kind of a token's text: by its first byte, and whether it is a reserved word and a mark
 kind_by : ℕ → Bool → Bool → TokenKind
 kind_by n reserved mark =
-    cond (eqb n 0) (cond reserved kind.Fixed kind.Name) (cond (eqb n 1) kind.Int (cond (eqb n 2) kind.Quoted (cond (eqb n 3) kind.Text (cond mark kind.Fixed kind.ListText))))
+    cond (eqb n 0) (cond reserved kind.Fixed kind.Name)
+    (cond (eqb n 1) kind.Int (cond (eqb n 2) kind.Quoted (cond (eqb n 3) kind.Text (cond mark kind.Fixed kind.ListText))))
 
 kind_of : List ℕ → TokenKind
 kind_of t = kind_by (lead t) (is_reserved t) (is_mark t)
@@ -73,7 +74,8 @@ no_scan (tokens_next j m l r) at rest (stuck_here h f) = f j m l.stands
 no_scan {bytes} {p} (tokens_next j m l r) at rest (stuck_next k n h s) =
     no_scan r at rest (subst (λ i. Stuck (drop i (past_gap bytes)) ((p + gap bytes) + i) at rest) (sym (one_length (past_gap bytes) j k m n l h)) s)
 
-pub one_stuck : {bytes : List ℕ} {p at : ℕ} {rest : List ℕ} → Stuck bytes p at rest → (place : ℕ) (more : List ℕ) → Stuck bytes p place more → (at ≡ place) × (rest ≡ more)
+pub one_stuck : {bytes : List ℕ} {p at : ℕ} {rest : List ℕ} → Stuck bytes p at rest → (place : ℕ) (more : List ℕ) → Stuck bytes p place more
+    → (at ≡ place) × (rest ≡ more)
 one_stuck (stuck_here h f) _ _ (stuck_here i g) = (refl, refl)
 one_stuck (stuck_here h f) place more (stuck_next k n l s) = absurd (f k n l.stands)
 one_stuck (stuck_next j m l r) _ _ (stuck_here h f) = absurd (f j m l.stands)

@@ -51,7 +51,8 @@ module _ (text after : List ℕ) where
   lead_here : (k : TokenKind) → IsTokenText k text after → lead (text ++ after) ≡ lead text
   lead_here k h = lead-append text after (has_some k text after h)
 
-  mark_longest : is_mark text ≡ true → (is_mark (take 2 (text ++ after)) ≡ true → length text ≡ 2) → IsTokenText kind.Fixed text after → IsLongestMark (text ++ after) (length text)
+  mark_longest : is_mark text ≡ true → (is_mark (take 2 (text ++ after)) ≡ true → length text ≡ 2) → IsTokenText kind.Fixed text after
+      → IsLongestMark (text ++ after) (length text)
   mark_longest m stop h = record {
     stands = record { within = (own kind.Fixed h).within; mark = ap is_mark (take-append_seam text after) ∙ m };
     longest = λ n f.
@@ -82,7 +83,8 @@ module _ (text after : List ℕ) where
       stands = own kind.Quoted h;
       longest = λ j m s.
           let there : lead (text ++ after) ≡ 2 = lead_here kind.Quoted h ∙ leads kind.Quoted text after h in
-          let all = closed 34 34 is_word_value is_ascii_alphanumeric refl word_runs (text ++ after) (length text) (own kind.Quoted h).within (own kind.Quoted h).text in
+          let all = closed 34 34 is_word_value is_ascii_alphanumeric refl word_runs (text ++ after) (length text) (own kind.Quoted h).within
+          (own kind.Quoted h).text in
           let other = closed 34 34 is_word_value is_ascii_alphanumeric refl word_runs (text ++ after) m s.within (quoted_only (text ++ after) there j m s) in
           omega (arith, all.0, other.0);
     }

@@ -42,7 +42,8 @@ module _ (p : ℕ → Bool) where
     | inr e ↦ let none : m < 0 = subst (λ n. m < n) (run_ends x xs e) h in absurd (omega (arith, none))
   ]
     where
-      inside : (y : ℕ) (ys : List ℕ) (i : ℕ) → p y ≡ true → i < suc (prefix_len p ys) → ((j : ℕ) → j < prefix_len p ys → first_passes p (drop j ys) ≡ true) → first_passes p (drop i (y ∷ ys)) ≡ true
+      inside : (y : ℕ) (ys : List ℕ) (i : ℕ) → p y ≡ true → i < suc (prefix_len p ys) → ((j : ℕ) → j < prefix_len p ys → first_passes p (drop j ys) ≡ true)
+          → first_passes p (drop i (y ∷ ys)) ≡ true
       inside y ys zero e k rec = e
       inside y ys (suc i) e k rec = rec i (omega arith)
 

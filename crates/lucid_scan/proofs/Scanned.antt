@@ -34,18 +34,21 @@ pub goes_on : (source : List ℕ) (at g n : ℕ) (k : TokenKind) (before items :
     → items ≡ before ++ token k (at + g) ((at + g) + n) ∷ [] → GoesOn source at before → GoesOn source ((at + g) + n) items
 goes_on source at g n k before items e = onto source at n k g (sym e) before items
 
-pub gets_stuck : (source : List ℕ) (at g n : ℕ) (k : TokenKind) → g ≡ gap (drop at source) → IsLongest (drop (at + g) source) k n → GetsStuck source at → GetsStuck source ((at + g) + n)
+pub gets_stuck : (source : List ℕ) (at g n : ℕ) (k : TokenKind) → g ≡ gap (drop at source) → IsLongest (drop (at + g) source) k n → GetsStuck source at
+    → GetsStuck source ((at + g) + n)
 gets_stuck source at g n k e = stuck_onto source at n k g (sym e)
 
 -- the end
-pub over : (source : List ℕ) (at g : ℕ) (before : List Token) → g ≡ gap (drop at source) → at ≤ length source → length source ≤ at + g → GoesOn source at before → Tokens source 0 before
+pub over : (source : List ℕ) (at g : ℕ) (before : List Token) → g ≡ gap (drop at source) → at ≤ length source → length source ≤ at + g → GoesOn source at before
+    → Tokens source 0 before
 over source at g before e h k goes =
     subst (Tokens source 0) (append-nil before) (goes [] (tokens_end (omega (arith, length-drop at source, e, h, k))))
 
 -- where nothing stands
 pub stops : (source : List ℕ) (at g : ℕ) → g ≡ gap (drop at source) → at + g < length source → NoneStands (drop (at + g) source) → GetsStuck source at
     → Stuck source 0 (at + g) (drop (at + g) source)
-stops source at g e = subst (λ h. at + h < length source → NoneStands (drop (at + h) source) → GetsStuck source at → Stuck source 0 (at + h) (drop (at + h) source)) (sym e)
+stops source at g e = subst (λ h. at + h < length source → NoneStands (drop (at + h) source) → GetsStuck source at
+    → Stuck source 0 (at + h) (drop (at + h) source)) (sym e)
     (λ within none gets.
     let h = gap (drop at source) in
     subst (Stuck source 0 (at + h)) (drop-drop h at source)

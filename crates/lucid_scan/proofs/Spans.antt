@@ -28,4 +28,5 @@ stand (tokens_end e) source h = All-nil (StandsIn source)
 stand {bytes} {p} (tokens_next {ts = ts} k n l r) source h =
     let here : drop (p + gap bytes) source ≡ past_gap bytes = sym (drop-drop (gap bytes) p source) ∙ ap (drop (gap bytes)) h in
     let behind : drop ((p + gap bytes) + n) source ≡ drop n (past_gap bytes) = sym (drop-drop n (p + gap bytes) source) ∙ ap (drop n) here in
-    All-cons (StandsIn source) (token k (p + gap bytes) ((p + gap bytes) + n)) ts (stands_there source (past_gap bytes) k (p + gap bytes) n here l.stands) (stand r source behind)
+    All-cons (StandsIn source) (token k (p + gap bytes) ((p + gap bytes) + n)) ts (stands_there source (past_gap bytes) k (p + gap bytes) n here l.stands)
+    (stand r source behind)

@@ -28,14 +28,16 @@ outer-fits : (a b : Option Owner) → OwnerFits a → OwnerFits b → OwnerFits 
 outer-fits None b x y = y
 outer-fits (Some o) b x y = x
 
-opened-fits : (own : List ℕ → Option Owner) (open_scope : Static → Static) → Opens own open_scope → ((n : List ℕ) → OwnerFits (own n)) → (k : Static) → ScopeFits k → ScopeFits (open_scope k)
+opened-fits : (own : List ℕ → Option Owner) (open_scope : Static → Static) → Opens own open_scope → ((n : List ℕ) → OwnerFits (own n)) → (k : Static)
+    → ScopeFits k → ScopeFits (open_scope k)
 opened-fits own open_scope o fits k f n = subst OwnerFits (sym (o.opens k n)) (outer-fits (own n) (owner_of (meaning n k)) (fits n) (f n))
 
 found-fits : (b : Bool) (x y : Found) → OwnerFits (definition_owner x) → OwnerFits (definition_owner y) → OwnerFits (definition_owner (cond b x y))
 found-fits true x y f g = f
 found-fits false x y f g = g
 
-definitions-fit : (ds : PlainDefs) → defs_are_shaped ds ≡ true → length (places_in_defs ds) < 2147483648 → (n : List ℕ) → OwnerFits (definition_owner (definition n ds))
+definitions-fit : (ds : PlainDefs) → defs_are_shaped ds ≡ true → length (places_in_defs ds) < 2147483648 → (n : List ℕ)
+    → OwnerFits (definition_owner (definition n ds))
 definitions-fit no_defs s l n = tt
 definitions-fit (defines at x e ds) s l n =
     found-fits (same_name n x) (plain_def at e) (definition n ds) tt
@@ -58,7 +60,8 @@ position-fits d p len h true is = grind (arith, is, h)
 position-fits d p len h false is = tt
 
 parameters-fit : (d : ℕ) (ns : List (List ℕ)) → length ns < 2 ^ 32 → (n : List ℕ) → OwnerFits (parameter_owner d (param n ns))
-parameters-fit d ns h n = position-fits d (position_or_len (λ x. same_name n x) ns) (length ns) h (nat_lt (position_or_len (λ x. same_name n x) ns) (length ns)) refl
+parameters-fit d ns h n = position-fits d (position_or_len (λ x. same_name n x) ns) (length ns) h (nat_lt (position_or_len (λ x. same_name n x) ns) (length ns))
+    refl
 
 some_places : (e : PlainTree) → 1 ≤ length (places e)
 some_places (form at h es) = omega arith
@@ -111,7 +114,8 @@ mutual
 
   outside-fit : (k : Static) → ScopeFits k → (ds : PlainDefs) → defs_are_shaped ds ≡ true → length (places_in_defs ds) < N → Each SiteFits (outside_sites k ds)
   outside-fit k f no_defs s l = tt
-  outside-fit k f (defines at x e ds) s l = outside-fit k f ds (both (is_shaped e) (defs_are_shaped ds) s).1 (omega (arith, l, length-append (places e) (places_in_defs ds)))
+  outside-fit k f (defines at x e ds) s l = outside-fit k f ds (both (is_shaped e) (defs_are_shaped ds) s).1
+      (omega (arith, l, length-append (places e) (places_in_defs ds)))
   outside-fit k f (defines_function at x ns ats e ds) s l =
       outside-fit k f ds (both (nat_lt 0 (length ns) && nat_eq (length ats) (length ns) && is_shaped e) (defs_are_shaped ds) s).1
       (omega (arith, l, length-append (ats ++ places e) (places_in_defs ds)))
@@ -120,13 +124,15 @@ mutual
       let long = length-append (places e) (places_in_defs ds) in
       each-append SiteFits (sites k e) (outside_sites k ds) (sites-fit k f e b.0 (omega (arith, l, long))) (outside-fit k f ds b.1 (omega (arith, l, long)))
 
-  inside-fit : (k : Static) → ScopeFits k → (earlier : Earlier) (ds : PlainDefs) → defs_are_shaped ds ≡ true → length (places_in_defs ds) < N → Each SiteFits (inside_sites k earlier ds)
+  inside-fit : (k : Static) → ScopeFits k → (earlier : Earlier) (ds : PlainDefs) → defs_are_shaped ds ≡ true → length (places_in_defs ds) < N
+      → Each SiteFits (inside_sites k earlier ds)
   inside-fit k f earlier no_defs s l = tt
   inside-fit k f earlier (defines at x e ds) s l =
       let b = both (is_shaped e) (defs_are_shaped ds) s in
       let long = length-append (places e) (places_in_defs ds) in
       each-append SiteFits (again_if (earlier x) at) (sites k e ++ inside_sites k (also x earlier) ds) (again-fits (earlier x) at)
-      (each-append SiteFits (sites k e) (inside_sites k (also x earlier) ds) (sites-fit k f e b.0 (omega (arith, l, long))) (inside-fit k f (also x earlier) ds b.1 (omega (arith, l, long))))
+      (each-append SiteFits (sites k e) (inside_sites k (also x earlier) ds) (sites-fit k f e b.0 (omega (arith, l, long)))
+      (inside-fit k f (also x earlier) ds b.1 (omega (arith, l, long))))
   inside-fit k f earlier (defines_function at x ns ats e ds) s l =
       let a = both (nat_lt 0 (length ns) && nat_eq (length ats) (length ns) && is_shaped e) (defs_are_shaped ds) s in
       let b = both (nat_lt 0 (length ns) && nat_eq (length ats) (length ns)) (is_shaped e) a.0 in
@@ -135,9 +141,11 @@ mutual
       let long' = length-append ats (places e) in
       let few : length ns < 2 ^ 32 = grind (arith, c.1, long, long', l) in
       let g = opened-fits (λ n. parameter_owner at (param n ns)) (in_function at ns ats) (function-opens at ns ats) (parameters-fit at ns few) k f in
-      each-append SiteFits (again_if (earlier x) at) ((repeats no_names ns ats ++ sites (in_function at ns ats k) e) ++ inside_sites k (also x earlier) ds) (again-fits (earlier x) at)
+      each-append SiteFits (again_if (earlier x) at) ((repeats no_names ns ats ++ sites (in_function at ns ats k) e) ++ inside_sites k (also x earlier) ds)
+      (again-fits (earlier x) at)
       (each-append SiteFits (repeats no_names ns ats ++ sites (in_function at ns ats k) e) (inside_sites k (also x earlier) ds)
-      (each-append SiteFits (repeats no_names ns ats) (sites (in_function at ns ats k) e) (repeats-fit no_names ns ats) (sites-fit (in_function at ns ats k) g e b.1 (omega (arith, l, long, long'))))
+      (each-append SiteFits (repeats no_names ns ats) (sites (in_function at ns ats k) e) (repeats-fit no_names ns ats)
+      (sites-fit (in_function at ns ats k) g e b.1 (omega (arith, l, long, long'))))
       (inside-fit k f (also x earlier) ds a.1 (omega (arith, l, long))))
   inside-fit k f earlier (defines_current at x e ds) s l =
       each-append SiteFits (again_if (earlier x) at) (inside_sites k (also x earlier) ds) (again-fits (earlier x) at)

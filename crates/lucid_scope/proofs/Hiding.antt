@@ -15,7 +15,8 @@ pub put_back-alike : (ss : List Saved) (f g : Owners) → ((n : List ℕ) → f 
 put_back-alike [] f g h n = h n
 put_back-alike (t ∷ ss) f g h n = ap (λ o. cond (same_name n t.name) t.owner o) (put_back-alike ss f g h n)
 
-hidden : (b : Bool) (m x : List ℕ) (o before : Option Owner) (f g : Owners) → same_name m x ≡ b → before ≡ f x → g m ≡ cond b o (f m) → cond b before (g m) ≡ f m
+hidden : (b : Bool) (m x : List ℕ) (o before : Option Owner) (f g : Owners) → same_name m x ≡ b → before ≡ f x → g m ≡ cond b o (f m)
+    → cond b before (g m) ≡ f m
 hidden true m x o before f g is e h = e ∙ ap f (sym (same_one m x is))
 hidden false m x o before f g is e h = h
 
@@ -35,7 +36,8 @@ abbrev pub later_parameter : (def i : ℕ) → Option ℕ → Option Owner
 later_parameter def i None = None
 later_parameter def i (Some j) = Some (Parameter def (i + j))
 
-place-step : (b : Bool) (p len : ℕ) → cond (nat_lt (cond (not b) (1 + p) 0) (suc len)) (Some (cond (not b) (1 + p) 0)) None ≡ cond b (Some 0) (option_map suc (cond (nat_lt p len) (Some p) None))
+place-step : (b : Bool) (p len : ℕ) → cond (nat_lt (cond (not b) (1 + p) 0) (suc len)) (Some (cond (not b) (1 + p) 0)) None ≡ cond b (Some 0)
+    (option_map suc (cond (nat_lt p len) (Some p) None))
 place-step true p len = grind arith
 place-step false p len = grind arith
 
@@ -43,7 +45,8 @@ place-step false p len = grind arith
 pub param-first : (n x : List ℕ) (xs : List (List ℕ)) → param n (x ∷ xs) ≡ cond (same_name n x) (Some 0) (option_map suc (param n xs))
 param-first n x xs = place-step (same_name n x) (position_or_len (λ y. same_name n y) xs) (length xs)
 
-pick_parameter : (b : Bool) (q : Option ℕ) (def i : ℕ) (o : Option Owner) → cond b (Some (Parameter def i)) (or_outer (later_parameter def (suc i) q) o) ≡ or_outer (later_parameter def i (cond b (Some 0) (option_map suc q))) o
+pick_parameter : (b : Bool) (q : Option ℕ) (def i : ℕ) (o : Option Owner)
+    → cond b (Some (Parameter def i)) (or_outer (later_parameter def (suc i) q) o) ≡ or_outer (later_parameter def i (cond b (Some 0) (option_map suc q))) o
 pick_parameter true q def i o = ap (λ j. Some (Parameter def j)) (omega arith)
 pick_parameter false None def i o = refl
 pick_parameter false (Some j) def i o = ap (λ j. Some (Parameter def j)) (omega arith)
@@ -55,7 +58,8 @@ pub function-hides : (xs : List (List ℕ)) (i def : ℕ) (x : List ℕ) (f g h 
     → (n : List ℕ) → g n ≡ or_outer (later_parameter def i (param n (drop i xs))) (h n)
 function-hides xs i def x f g h lt is before sets n =
     let split : drop i xs ≡ x ∷ drop (suc i) xs = drop-cons xs i x lt ∙ ap (λ y. y ∷ drop (suc i) xs) (sym is) in
-    let more : param n (drop i xs) ≡ cond (same_name n x) (Some 0) (option_map suc (param n (drop (suc i) xs))) = ap (λ l. param n l) split ∙ param-first n x (drop (suc i) xs) in
+    let more : param n (drop i xs) ≡ cond (same_name n x) (Some 0) (option_map suc (param n (drop (suc i) xs))) = ap (λ l. param n l) split
+    ∙ param-first n x (drop (suc i) xs) in
     sets n ∙ ap (λ y. cond (same_name n x) (Some (Parameter def i)) y) (before n)
     ∙ pick_parameter (same_name n x) (param n (drop (suc i) xs)) def i (h n)
     ∙ ap (λ y. or_outer (later_parameter def i y) (h n)) (sym more)

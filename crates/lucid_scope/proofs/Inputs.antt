@@ -65,12 +65,14 @@ inputs-few-of e inputs a =
     let ones' : sum_by (λ (x : ℕ). 1) (places e) ≡ length (places e) = sum-ones (places e) in
     omega (arith, ap length a.names, names-grow a.order [], all, ones, ones', sites-weight (λ x. 1) outermost e)
 
-pub inputs-few : (e : PlainTree) (inputs : List (List ℕ)) (bindings : ℕ → Option Binding) → ∥ IsResolved e inputs bindings ∥₁ → length inputs ≤ length (places e)
+pub inputs-few : (e : PlainTree) (inputs : List (List ℕ)) (bindings : ℕ → Option Binding) → ∥ IsResolved e inputs bindings ∥₁
+    → length inputs ≤ length (places e)
 inputs-few e inputs bindings r = ∥∥₁_elim r (hlevel props) (λ q. inputs-few-of e inputs q.inputs_are)
 
 -- a free name is among the inputs, and its number leads to it
 
-either-among : (x i : List ℕ) (is : List (List ℕ)) (b : Bool) → same_name x i ≡ b → list_any (same_name x) (i ∷ is) ≡ true → (list_any (same_name x) is ≡ true → In x is) → In x (i ∷ is)
+either-among : (x i : List ℕ) (is : List (List ℕ)) (b : Bool) → same_name x i ≡ b → list_any (same_name x) (i ∷ is) ≡ true
+    → (list_any (same_name x) is ≡ true → In x is) → In x (i ∷ is)
 either-among x i is true q e h = inl (same_one x i q)
 either-among x i is false q e h = inr (h (grind (arith, e, q)))
 
@@ -111,7 +113,8 @@ free-among at x k (s ∷ ss) is (inl q) e =
     names-keep x ss (with_site is s) (subst (λ z. In x (with_site is z)) q (has-input x is (meaning x k) e))
 free-among at x k (s ∷ ss) is (inr q) e = free-among at x k ss (with_site is s) q e
 
-number-leads-by : (x i : List ℕ) (is : List (List ℕ)) (b : Bool) → same_name x i ≡ b → In x (i ∷ is) → (In x is → slice_get is (position_or_len (same_name x) is) ≡ Some x)
+number-leads-by : (x i : List ℕ) (is : List (List ℕ)) (b : Bool) → same_name x i ≡ b → In x (i ∷ is)
+    → (In x is → slice_get is (position_or_len (same_name x) is) ≡ Some x)
     → slice_get (i ∷ is) (cond (not b) (1 + position_or_len (same_name x) is) 0) ≡ Some x
 number-leads-by x i is true q h rest = ap Some (sym (same_one x i q))
 number-leads-by x i is false q (inl e) rest = absurd (grind (arith, q, same_itself x, ap (same_name x) e))
@@ -123,7 +126,8 @@ number-leads : (x : List ℕ) (is : List (List ℕ)) → In x is → slice_get i
 number-leads x [] h = absurd h
 number-leads x (i ∷ is) h = number-leads-by x i is (same_name x i) refl h (number-leads x is)
 
-pub free-leads : (e : PlainTree) (inputs : List (List ℕ)) → AreInputs e inputs → (at : ℕ) (x : List ℕ) (k : Static) → In (named at x k) (all_sites e) → meaning x k ≡ free → slice_get inputs (position_or_len (same_name x) inputs) ≡ Some x
+pub free-leads : (e : PlainTree) (inputs : List (List ℕ)) → AreInputs e inputs → (at : ℕ) (x : List ℕ) (k : Static) → In (named at x k) (all_sites e)
+    → meaning x k ≡ free → slice_get inputs (position_or_len (same_name x) inputs) ≡ Some x
 free-leads e inputs a at x k h q =
     let c = Contains-permutation (all_sites e) a.order (named at x k) a.permutes (contained (named at x k) (all_sites e) h) in
     number-leads x inputs (subst (In x) (sym a.names) (free-among at x k a.order [] (stands (named at x k) a.order c.0 c.1 c.2) q))

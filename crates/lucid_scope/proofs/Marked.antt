@@ -79,4 +79,5 @@ step ss l i j hi hj o =
     }
 
 pub ordered : (ss : List Site) (ms : List Mark) → IsPermutation (map mark ss) ms → Ordered ss ms
-ordered ss ms p = IsPermutation-keeps (map mark ss) (λ l. Ordered ss l) (record { order = ss; marks = refl; permutes = IsPermutation-refl ss }) (λ l i j hi hj o. step ss l i j hi hj o) ms p
+ordered ss ms p = IsPermutation-keeps (map mark ss) (λ l. Ordered ss l) (record { order = ss; marks = refl; permutes = IsPermutation-refl ss })
+    (λ l i j hi hj o. step ss l i j hi hj o) ms p

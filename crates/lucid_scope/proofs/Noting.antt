@@ -35,7 +35,8 @@ defined (current_def at e) h k m = refl
 pub block-opens : (ds : PlainDefs) → Opens (λ n. definition_owner (definition n ds)) (in_block ds)
 block-opens ds = record { opens = λ k n. defined (definition n ds) (in_block ds k) k (meaning n k) }
 
-a_parameter : (q : Option ℕ) (d : ℕ) (ats : List ℕ) (h : Static) (m : Meaning) → owner_of (parameter_in q d ats h m) ≡ or_outer (parameter_owner d q) (owner_of m)
+a_parameter : (q : Option ℕ) (d : ℕ) (ats : List ℕ) (h : Static) (m : Meaning)
+    → owner_of (parameter_in q d ats h m) ≡ or_outer (parameter_owner d q) (owner_of m)
 a_parameter None d ats h m = refl
 a_parameter (Some i) d ats h m = refl
 
@@ -110,7 +111,8 @@ no-places : (xs : List (List ℕ)) (earlier : Earlier) → repeats earlier xs []
 no-places [] earlier = refl
 no-places (x ∷ xs) earlier = refl
 
-pub repeats-end : (xs : List (List ℕ)) (ats : List ℕ) (i : ℕ) (earlier : Earlier) → (length xs ≤ i) ⊎ (length ats ≤ i) → repeats earlier (drop i xs) (drop i ats) ≡ []
+pub repeats-end : (xs : List (List ℕ)) (ats : List ℕ) (i : ℕ) (earlier : Earlier) → (length xs ≤ i) ⊎ (length ats ≤ i)
+    → repeats earlier (drop i xs) (drop i ats) ≡ []
 repeats-end xs ats i earlier (inl h) = ap (λ l. repeats earlier l (drop i ats)) (drop_all i xs h)
 repeats-end xs ats i earlier (inr h) = ap (λ l. repeats earlier (drop i xs) l) (drop_all i ats h) ∙ no-places (drop i xs) earlier
 

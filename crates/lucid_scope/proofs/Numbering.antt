@@ -10,7 +10,8 @@ pub position_le-length : {X : Type 0} (test : X → Bool) (xs : List X) → posi
 position_le-length test [] = omega arith
 position_le-length test (x ∷ xs) = omega (arith, shorter (test x) (position_or_len test xs) (length xs) (position_le-length test xs))
 
-pub positions : (x : List ℕ) (keys : List (Vec ℕ Global)) → position_or_len (λ k. same_name x k.items) keys ≡ position_or_len (λ n. same_name x n) (map key_bytes keys)
+pub positions : (x : List ℕ) (keys : List (Vec ℕ Global))
+    → position_or_len (λ k. same_name x k.items) keys ≡ position_or_len (λ n. same_name x n) (map key_bytes keys)
 positions x [] = refl
 positions x (k ∷ keys) = ap (λ p. cond (not (same_name x k.items)) (1 + p) 0) (positions x keys)
 
@@ -22,7 +23,8 @@ pub number : (p len : ℕ) → p ≤ len → unwrap_or (cond (nat_lt p len) (Som
 number p len h = found (nat_lt p len) p len refl h
 
 -- whether a name is among the keys is whether it is among the names
-pub any-keys : (x : List ℕ) (key : Vec ℕ Global) (keys : List (Vec ℕ Global)) → key.items ≡ x → list_any (λ n. same_name x n) (map key_bytes keys) ≡ list_any (λ k. same_name key.items k.items) keys
+pub any-keys : (x : List ℕ) (key : Vec ℕ Global) (keys : List (Vec ℕ Global)) → key.items ≡ x
+    → list_any (λ n. same_name x n) (map key_bytes keys) ≡ list_any (λ k. same_name key.items k.items) keys
 any-keys x key [] e = refl
 any-keys x key (k ∷ keys) e = λ i. same_name (sym e i) k.items || any-keys x key keys e i
 

@@ -41,7 +41,8 @@ later_places s ss rises own t i =
     let cons = sum_by-cons (λ x. at_number (site_at t) (site_at x)) s ss in
     let most = own (site_at t) in
     let some = weighs t ss i in
-    apart (site_at s) (site_at t) (nat_eq (site_at t) (site_at s)) refl le' (sum_by (λ x. at_number (site_at t) (site_at x)) ss) some (omega (arith, cons, most))
+    apart (site_at s) (site_at t) (nat_eq (site_at t) (site_at s)) refl le' (sum_by (λ x. at_number (site_at t) (site_at x)) ss) some
+    (omega (arith, cons, most))
   where
     apart : (a b : ℕ) (same : Bool) → nat_eq b a ≡ same → a ≤ b → (rest : ℕ) → 1 ≤ rest → cond same 1 0 + rest ≤ 1 → a < b
     apart a b true is le rest some most = absurd (omega (arith, some, most))
@@ -86,7 +87,10 @@ same_sites xs ys p s i = let c = Contains-permutation xs ys s p (contained s xs 
 
 pub one_list : InputsAreUnique
 one_list e a b w x y =
-    let to : Inside x.order y.order = λ s i. same_sites (all_sites e) y.order y.permutes s (same_sites x.order (all_sites e) (IsPermutation-sym (all_sites e) x.order x.permutes) s i) in
-    let from : Inside y.order x.order = λ s i. same_sites (all_sites e) x.order x.permutes s (same_sites y.order (all_sites e) (IsPermutation-sym (all_sites e) y.order y.permutes) s i) in
-    let same : x.order ≡ y.order = one_order x.order y.order (rise x.order x.rises (own_places e x.order w x.permutes)) (rise y.order y.rises (own_places e y.order w y.permutes)) to from in
+    let to : Inside x.order y.order = λ s i. same_sites (all_sites e) y.order y.permutes s
+    (same_sites x.order (all_sites e) (IsPermutation-sym (all_sites e) x.order x.permutes) s i) in
+    let from : Inside y.order x.order = λ s i. same_sites (all_sites e) x.order x.permutes s
+    (same_sites y.order (all_sites e) (IsPermutation-sym (all_sites e) y.order y.permutes) s i) in
+    let same : x.order ≡ y.order = one_order x.order y.order (rise x.order x.rises (own_places e x.order w x.permutes))
+    (rise y.order y.rises (own_places e y.order w y.permutes)) to from in
     x.names ∙ ap (λ ss. fold with_site [] ss) same ∙ sym y.names

@@ -20,7 +20,8 @@ mark-at (called at x n k) = refl
 mark-at (again at) = refl
 
 -- what each mark says each site says
-pub all-sites : (P : Mark → Type 0) (Q : Site → Type 0) (ss : List Site) (ms : List Mark) → Ordered ss ms → ((s : Site) → P (mark s) → Q s) → All P ms → All Q ss
+pub all-sites : (P : Mark → Type 0) (Q : Site → Type 0) (ss : List Site) (ms : List Mark) → Ordered ss ms → ((s : Site) → P (mark s) → Q s) → All P ms
+    → All Q ss
 all-sites P Q ss ms o turn h =
     All-permutation Q o.order ss (IsPermutation-sym ss o.order o.permutes)
     (λ k d lt.
@@ -35,7 +36,8 @@ itself-true x = nat_eq_equiv.refl x
 pub itself : (x : ℕ) → ◌≡◌ {A = ℕ} (cond (nat_eq x x) 1 0) 1
 itself x = rw (itself-true x) refl
 
-counted : (at x : ℕ) (xs : List ℕ) (b : Bool) → nat_eq at x ≡ b → ((at ≡ x) ⊎ In at xs → ⊥) → sum_by (λ x. cond (nat_eq at x) 1 0) xs ≡ 0 → cond b 1 0 + sum_by (λ x. cond (nat_eq at x) 1 0) xs ≡ 0
+counted : (at x : ℕ) (xs : List ℕ) (b : Bool) → nat_eq at x ≡ b → ((at ≡ x) ⊎ In at xs → ⊥) → sum_by (λ x. cond (nat_eq at x) 1 0) xs ≡ 0
+    → cond b 1 0 + sum_by (λ x. cond (nat_eq at x) 1 0) xs ≡ 0
 counted at x xs true is h zero_left = absurd (h (inl (grind (arith, is))))
 counted at x xs false is h zero_left = omega (arith, zero_left)
 
@@ -43,13 +45,20 @@ absent : (at : ℕ) (xs : List ℕ) → (In at xs → ⊥) → sum_by (λ x. con
 absent at [] h = refl
 absent at (x ∷ xs) h = sum_by-cons (λ x. cond (nat_eq at x) 1 0) x xs ∙ counted at x xs (nat_eq at x) refl h (absent at xs (λ i. h (inr i)))
 
-once : (at x : ℕ) (xs : List ℕ) (b : Bool) → nat_eq at x ≡ b → (In x xs → ⊥) × AllDiffer xs → sum_by (λ x. cond (nat_eq at x) 1 0) xs ≤ 1 → cond b 1 0 + sum_by (λ x. cond (nat_eq at x) 1 0) xs ≤ 1
+once : (at x : ℕ) (xs : List ℕ) (b : Bool) → nat_eq at x ≡ b → (In x xs → ⊥) × AllDiffer xs → sum_by (λ x. cond (nat_eq at x) 1 0) xs ≤ 1
+    → cond b 1 0 + sum_by (λ x. cond (nat_eq at x) 1 0) xs ≤ 1
 once at x xs true is h le = omega (arith, absent at xs (λ i. h.0 (subst (λ y. In y xs) (grind (arith, is)) i)))
 once at x xs false is h le = omega (arith, le)
 
 sum-marks : (f : ℕ → ℕ) (ss : List Site) → sum_by (λ (m : Mark). f m.at) (map mark ss) ≡ sum_by (λ s. f (site_at s)) ss
 sum-marks f [] = refl
-sum-marks f (s ∷ ss) = omega (arith, sum_by-cons (λ (m : Mark). f m.at) (mark s) (map mark ss), sum_by-cons (λ s. f (site_at s)) s ss, ap f (mark-at s), sum-marks f ss)
+sum-marks f (s ∷ ss) = omega (
+  arith,
+  sum_by-cons (λ (m : Mark). f m.at) (mark s) (map mark ss),
+  sum_by-cons (λ s. f (site_at s)) s ss,
+  ap f (mark-at s),
+  sum-marks f ss,
+)
 
 pub sum-ones : {X : Type 0} (xs : List X) → sum_by (λ (x : X). 1) xs ≡ length xs
 sum-ones [] = refl
@@ -69,7 +78,8 @@ mapped P Q turn (x ∷ xs) a zero d lt = turn x (a 0 x (omega arith))
 mapped P Q turn (x ∷ xs) a (suc k) d lt = mapped P Q turn xs (λ i e l. a (suc i) e (omega (arith, l))) k d (omega (arith, lt))
 
 -- and what each site says each mark says
-pub all-marks : (P : Mark → Type 0) (Q : Site → Type 0) (ss : List Site) (ms : List Mark) → Ordered ss ms → ((s : Site) → Q s → P (mark s)) → All Q ss → All P ms
+pub all-marks : (P : Mark → Type 0) (Q : Site → Type 0) (ss : List Site) (ms : List Mark) → Ordered ss ms → ((s : Site) → Q s → P (mark s)) → All Q ss
+    → All P ms
 all-marks P Q ss ms o turn h = subst (λ l. All P l) o.marks (mapped P Q turn o.order (All-permutation Q ss o.order o.permutes h))
 
 -- the mark at an index is that of the site there
@@ -79,7 +89,8 @@ here ss ms o j d e l =
     ap (λ l. get_or l j d) (sym o.marks) ∙ get_or-map mark o.order j e d (omega (arith, l, long))
 
 -- the first fault of marks in order is the one at the least place
-pub least : (e : PlainTree) (ms : List Mark) (f : ScopeRefusal) → Ordered (all_sites e) ms → IsNonDecreasingBy (λ (m : Mark). m.at) ms → IsFirstFault ms f → IsLeastFault e f
+pub least : (e : PlainTree) (ms : List Mark) (f : ScopeRefusal) → Ordered (all_sites e) ms → IsNonDecreasingBy (λ (m : Mark). m.at) ms → IsFirstFault ms f
+    → IsLeastFault e f
 least e ms f o rises h =
     let long : length ms ≡ length o.order = ap length (sym o.marks) ∙ length-map o.order mark in
     let d : Site = again 0 in
@@ -88,7 +99,8 @@ least e ms f o rises h =
     let the_mark : h.mark ≡ mark s = h.is_there ∙ here (all_sites e) ms o h.index h.mark d h.within in
     record {
       site = s;
-      stands = Contains-permutation o.order (all_sites e) s (IsPermutation-sym (all_sites e) o.order o.permutes) (h.index, lt, get_or_default o.order h.index s d lt);
+      stands = Contains-permutation o.order (all_sites e) s (IsPermutation-sym (all_sites e) o.order o.permutes)
+          (h.index, lt, get_or_default o.order h.index s d lt);
       is = sym (mark-fault s) ∙ ap mark_fault (sym the_mark) ∙ h.is;
       least = All-permutation (λ t. IsSome (fault_of t) → site_at s ≤ site_at t) o.order (all_sites e) (IsPermutation-sym (all_sites e) o.order o.permutes)
           (λ k g l some.
@@ -98,8 +110,10 @@ least e ms f o rises h =
                 (sym (mark-fault (get_or o.order k g)) ∙ ap mark_fault (sym (here (all_sites e) ms o k (mark d) g l')) ∙ h.first k (mark d) before) some)
             | inr after ↦
                 let rise = rises h.index k (mark d) after l' in
-                let first : (get_or ms h.index (mark d)).at ≡ site_at s = ap (λ (m : Mark). m.at) (here (all_sites e) ms o h.index (mark d) d h.within) ∙ mark-at s in
-                let later : (get_or ms k (mark d)).at ≡ site_at (get_or o.order k g) = ap (λ (m : Mark). m.at) (here (all_sites e) ms o k (mark d) g l') ∙ mark-at (get_or o.order k g) in
+                let first : (get_or ms h.index (mark d)).at ≡ site_at s = ap (λ (m : Mark). m.at) (here (all_sites e) ms o h.index (mark d) d h.within)
+                ∙ mark-at s in
+                let later : (get_or ms k (mark d)).at ≡ site_at (get_or o.order k g) = ap (λ (m : Mark). m.at) (here (all_sites e) ms o k (mark d) g l')
+                ∙ mark-at (get_or o.order k g) in
                 omega (arith, rise, first, later)
           ]);
     }
@@ -118,7 +132,8 @@ pub different : (e : PlainTree) (ms : List Mark) → IsWellMade e → Ordered (a
 different e ms w o at =
     let f : ℕ → ℕ = λ x. cond (nat_eq at x) 1 0 in
     let marks : sum_by (λ (m : Mark). f m.at) ms ≡ sum_by (λ s. f (site_at s)) (all_sites e) =
-    ap (λ l. sum_by (λ (m : Mark). f m.at) l) (sym o.marks) ∙ sum-marks f o.order ∙ sum_by-IsPermutation (λ s. f (site_at s)) (all_sites e) o.order o.permutes in
+    ap (λ l. sum_by (λ (m : Mark). f m.at) l) (sym o.marks) ∙ sum-marks f o.order
+    ∙ sum_by-IsPermutation (λ s. f (site_at s)) (all_sites e) o.order o.permutes in
     omega (arith, marks, sites-weight f outermost e, at-most-one at (places e) w.placed)
 
 -- the marks of a well-made tree fit their types
@@ -150,7 +165,8 @@ few e ms w o =
     grind (arith, inputs-few ms [], long, all, ones, ones', sites-weight (λ x. 1) outermost e, w.few)
 
 -- all that is known of a tree without faults
-pub resolved : (e : PlainTree) (ms : List Mark) (inputs : List (List ℕ)) (bindings : ℕ → Option Binding) → Ordered (all_sites e) ms → IsNonDecreasingBy (λ (m : Mark). m.at) ms
+pub resolved : (e : PlainTree) (ms : List Mark) (inputs : List (List ℕ)) (bindings : ℕ → Option Binding) → Ordered (all_sites e) ms
+    → IsNonDecreasingBy (λ (m : Mark). m.at) ms
     → All (λ m. mark_fault m ≡ None) ms → inputs ≡ fold with_mark [] ms → All (λ (m : Mark). bindings m.at ≡ mark_binding inputs m) ms
     → ((at : ℕ) → All (λ (m : Mark). m.at ≡ at → ⊥) ms → bindings at ≡ None) → IsResolved e inputs bindings
 resolved e ms inputs bindings o rises none names bound others = record {
@@ -161,25 +177,32 @@ resolved e ms inputs bindings o rises none names bound others = record {
     rises = λ i j d le lt.
         let long : length ms ≡ length o.order = ap length (sym o.marks) ∙ length-map o.order mark in
         let j' : j < length ms = omega (arith, lt, long) in
-        let first : (get_or ms i (mark d)).at ≡ site_at (get_or o.order i d) = ap (λ (m : Mark). m.at) (here (all_sites e) ms o i (mark d) d (omega (arith, le, j'))) ∙ mark-at (get_or o.order i d) in
-        let later : (get_or ms j (mark d)).at ≡ site_at (get_or o.order j d) = ap (λ (m : Mark). m.at) (here (all_sites e) ms o j (mark d) d j') ∙ mark-at (get_or o.order j d) in
+        let first : (get_or ms i (mark d)).at ≡ site_at (get_or o.order i d) =
+        ap (λ (m : Mark). m.at) (here (all_sites e) ms o i (mark d) d (omega (arith, le, j'))) ∙ mark-at (get_or o.order i d) in
+        let later : (get_or ms j (mark d)).at ≡ site_at (get_or o.order j d) = ap (λ (m : Mark). m.at) (here (all_sites e) ms o j (mark d) d j')
+        ∙ mark-at (get_or o.order j d) in
         omega (arith, rises i j (mark d) le j', first, later);
     names = names ∙ ap (λ l. fold with_mark [] l) (sym o.marks) ∙ marks-inputs o.order [];
   };
   bindings_are = record {
-    bound = all-sites (λ (m : Mark). bindings m.at ≡ mark_binding inputs m) (λ s. bindings (site_at s) ≡ binding_for inputs s) (all_sites e) ms o (λ s is. ap bindings (sym (mark-at s)) ∙ is ∙ mark-binding inputs s) bound;
-    others = λ at h. others at (all-marks (λ (m : Mark). m.at ≡ at → ⊥) (λ s. site_at s ≡ at → ⊥) (all_sites e) ms o (λ s no same. no (sym (mark-at s) ∙ same)) h);
+    bound = all-sites (λ (m : Mark). bindings m.at ≡ mark_binding inputs m) (λ s. bindings (site_at s) ≡ binding_for inputs s) (all_sites e) ms o
+        (λ s is. ap bindings (sym (mark-at s)) ∙ is ∙ mark-binding inputs s) bound;
+    others = λ at h. others at (all-marks (λ (m : Mark). m.at ≡ at → ⊥) (λ s. site_at s ≡ at → ⊥) (all_sites e) ms o (λ s no same. no (sym (mark-at s) ∙ same))
+        h);
   };
 }
 
 -- the marks of a descent from the root are those of all sites
-pub all_marked : (start end : Walk) (e : PlainTree) → ((n : List ℕ) → look start.table n ≡ None) → start.marks.items ≡ [] → end.marks.items ≡ start.marks.items ++ marks (look start.table) e
+pub all_marked : (start end : Walk) (e : PlainTree) → ((n : List ℕ) → look start.table n ≡ None) → start.marks.items ≡ []
+    → end.marks.items ≡ start.marks.items ++ marks (look start.table) e
     → end.marks.items ≡ map mark (all_sites e)
 all_marked start end e empty none d = d ∙ ap (λ l. l ++ marks (look start.table) e) none ∙ ap (λ f. marks f e) (λ j n. empty n j) ∙ marks-sites outermost e
 
 -- the sites in the order of the marks, once these are sorted
-pub in_order : (e : PlainTree) (marks sorted ms : List Mark) → marks ≡ map mark (all_sites e) → IsPermutation marks sorted → ms ≡ sorted → Ordered (all_sites e) ms
-in_order e marks sorted ms is p same = ordered (all_sites e) ms (subst (λ l. IsPermutation (map mark (all_sites e)) l) (sym same) (subst (λ l. IsPermutation l sorted) is p))
+pub in_order : (e : PlainTree) (marks sorted ms : List Mark) → marks ≡ map mark (all_sites e) → IsPermutation marks sorted → ms ≡ sorted
+    → Ordered (all_sites e) ms
+in_order e marks sorted ms is p same = ordered (all_sites e) ms
+    (subst (λ l. IsPermutation (map mark (all_sites e)) l) (sym same) (subst (λ l. IsPermutation l sorted) is p))
 
 -- an index below another one has another place
 one-there : (f : Mark → ℕ) (ms : List Mark) (i : ℕ) (d : Mark) → i < length ms → f (get_or ms i d) ≤ sum_by f ms
@@ -214,7 +237,8 @@ other-key at x a b ne false is = refl
 same-key : (at : ℕ) (a b : Option Binding) → cond (nat_eq at at) a b ≡ a
 same-key at a b = rw (itself-true at) refl
 
-pub bind-more : (ms : List Mark) (inputs : List (List ℕ)) (i : ℕ) (m : Mark) (old new : ℕ → Option Binding) → i < length ms → m ≡ get_or ms i m → ArePlacesDifferent ms
+pub bind-more : (ms : List Mark) (inputs : List (List ℕ)) (i : ℕ) (m : Mark) (old new : ℕ → Option Binding) → i < length ms → m ≡ get_or ms i m
+    → ArePlacesDifferent ms
     → ((q : ℕ) → new q ≡ cond (nat_eq m.at q) (mark_binding inputs m) (old q)) → Bound ms inputs i old → Bound ms inputs (i + 1) new
 bind-more ms inputs i m old new lt is differ updates b = record {
   bound = λ k d h. elim (at-last k i h) [
@@ -234,7 +258,8 @@ bind-more ms inputs i m old new lt is differ updates b = record {
 }
 
 -- a mark without a binding binds nothing
-pub bind-none : (ms : List Mark) (inputs : List (List ℕ)) (i : ℕ) (m : Mark) (old : ℕ → Option Binding) → i < length ms → m ≡ get_or ms i m → ArePlacesDifferent ms
+pub bind-none : (ms : List Mark) (inputs : List (List ℕ)) (i : ℕ) (m : Mark) (old : ℕ → Option Binding) → i < length ms → m ≡ get_or ms i m
+    → ArePlacesDifferent ms
     → mark_binding inputs m ≡ None → Bound ms inputs i old → Bound ms inputs (i + 1) old
 bind-none ms inputs i m old lt is differ none b = record {
   bound = λ k d h. elim (at-last k i h) [

@@ -50,7 +50,8 @@ opened m e ds st saved f g seen enters saves none =
 
 -- a function's scope is opened, and will be left
 pub entered : (m : List Mark) (e : PlainTree) (st : List Step) (saved : List Saved) (f g h : Owned)
-    → ((n : List ℕ) → g n ≡ h n) → ((n : List ℕ) → put_back saved g n ≡ f n) → m ++ (marks g e ++ pending (put_back saved g) st) ≡ m ++ (marks h e ++ pending f st)
+    → ((n : List ℕ) → g n ≡ h n) → ((n : List ℕ) → put_back saved g n ≡ f n)
+    → m ++ (marks g e ++ pending (put_back saved g) st) ≡ m ++ (marks h e ++ pending f st)
 entered m e st saved f g h enters saves =
     let in_scope : g ≡ h = λ j n. enters n j in
     let back : put_back saved g ≡ f = λ j n. saves n j in

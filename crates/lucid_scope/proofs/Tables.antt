@@ -19,7 +19,8 @@ module _ {K X : Type 0} (bytes : K → List ℕ) (eq : K → K → Bool) (same :
   found n es = lookup (λ key. same_name n (bytes key)) es
 
   step : (e : K × X) (es : List (K × X)) (k : K) (v : X) (n : List ℕ) → found n (insert_entry eq es k v) ≡ cond (same_name n (bytes k)) (Some v) (found n es)
-      → (b : Bool) → eq k e.0 ≡ b → found n (cond b ((e.0, v) ∷ es) (e ∷ insert_entry eq es k v)) ≡ cond (same_name n (bytes k)) (Some v) (cond (same_name n (bytes e.0)) (Some e.1) (found n es))
+      → (b : Bool) → eq k e.0 ≡ b → found n (cond b ((e.0, v) ∷ es) (e ∷ insert_entry eq es k v)) ≡ cond (same_name n (bytes k)) (Some v)
+      (cond (same_name n (bytes e.0)) (Some e.1) (found n es))
   step e es k v n h true is =
       let one : bytes k ≡ bytes e.0 = same_one (bytes k) (bytes e.0) (sym (same k e.0) ∙ is) in
       cond-hide (same_name n (bytes e.0)) (Some v) (Some e.1) (found n es)

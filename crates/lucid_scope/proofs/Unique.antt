@@ -8,14 +8,17 @@ use Rattle.lucid_scope.proofs.Resolved.{mark-at, here, different, apart, none_so
 abbrev unsorted : (e : PlainTree) → Ordered (all_sites e) (map mark (all_sites e))
 unsorted e = record { order = all_sites e; marks = refl; permutes = IsPermutation-refl (all_sites e) }
 
-mark-there : (e : PlainTree) (k : ℕ) (s : Site) → k < length (all_sites e) → (get_or (map mark (all_sites e)) k (mark s)).at ≡ site_at (get_or (all_sites e) k s)
+mark-there : (e : PlainTree) (k : ℕ) (s : Site) → k < length (all_sites e)
+    → (get_or (map mark (all_sites e)) k (mark s)).at ≡ site_at (get_or (all_sites e) k s)
 mark-there e k s h =
     ap (λ (m : Mark). m.at) (here (all_sites e) (map mark (all_sites e)) (unsorted e) k (mark s) s (omega (arith, h, length-map (all_sites e) mark)))
     ∙ mark-at (get_or (all_sites e) k s)
 
-before : (e : PlainTree) → IsWellMade e → (k i : ℕ) (s t : Site) → k < i → i < length (all_sites e) → site_at (get_or (all_sites e) k s) ≡ site_at (get_or (all_sites e) i t) → ⊥
+before : (e : PlainTree) → IsWellMade e → (k i : ℕ) (s t : Site) → k < i → i < length (all_sites e)
+    → site_at (get_or (all_sites e) k s) ≡ site_at (get_or (all_sites e) i t) → ⊥
 before e w k i s t h l same =
-    apart (map mark (all_sites e)) (different e (map mark (all_sites e)) w (unsorted e)) k i (mark s) (mark t) h (omega (arith, l, length-map (all_sites e) mark))
+    apart (map mark (all_sites e)) (different e (map mark (all_sites e)) w (unsorted e)) k i (mark s) (mark t) h
+    (omega (arith, l, length-map (all_sites e) mark))
     (mark-there e k s (omega (arith, h, l)) ∙ same ∙ sym (mark-there e i t l))
 
 one_site : (e : PlainTree) → IsWellMade e → (s t : Site) → Contains (all_sites e) s → Contains (all_sites e) t → site_at s ≡ site_at t → s ≡ t
@@ -39,8 +42,10 @@ a_fault o f is = subst IsSome (sym is) refl
 
 pub one_fault : (e : PlainTree) (f g : ScopeRefusal) → IsWellMade e → IsLeastFault e f → IsLeastFault e g → f ≡ g
 one_fault e f g w a b =
-    let le : site_at a.site ≤ site_at b.site = holds (λ s. IsSome (fault_of s) → site_at a.site ≤ site_at s) e b.site a.least b.stands (a_fault (fault_of b.site) g b.is) in
-    let ge : site_at b.site ≤ site_at a.site = holds (λ s. IsSome (fault_of s) → site_at b.site ≤ site_at s) e a.site b.least a.stands (a_fault (fault_of a.site) f a.is) in
+    let le : site_at a.site ≤ site_at b.site = holds (λ s. IsSome (fault_of s) → site_at a.site ≤ site_at s) e b.site a.least b.stands
+    (a_fault (fault_of b.site) g b.is) in
+    let ge : site_at b.site ≤ site_at a.site = holds (λ s. IsSome (fault_of s) → site_at b.site ≤ site_at s) e a.site b.least a.stands
+    (a_fault (fault_of a.site) f a.is) in
     let same : a.site ≡ b.site = one_site e w a.site b.site a.stands b.stands (omega (arith, le, ge)) in
     ap (λ o. unwrap_or o f) (sym a.is ∙ ap fault_of same ∙ b.is)
 

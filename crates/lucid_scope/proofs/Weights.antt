@@ -17,7 +17,14 @@ module _ (f : ℕ → ℕ) where
   repeats-weight earlier [] ats = omega arith
   repeats-weight earlier (n ∷ ns) [] = omega arith
   repeats-weight earlier (n ∷ ns) (at ∷ ats) =
-      omega (arith, sum_by-cons f at ats, weight-append (again_if (earlier n) at) (repeats (also n earlier) ns ats), again-weight (earlier n) at, repeats-weight (also n earlier) ns ats)
+      omega (
+        arith,
+        sum_by-cons f at ats,
+        weight-append (again_if (earlier n) at) (repeats (also n earlier) ns ats),
+        again-weight (earlier n) at,
+        repeats-weight
+            (also n earlier) ns ats,
+      )
 
   mutual
     pub sites-weight : (k : Static) (e : PlainTree) → weight (sites k e) ≤ sum_by f (places e)
@@ -41,7 +48,8 @@ module _ (f : ℕ → ℕ) where
     all-weight k (tree e es) =
         omega (arith, weight-append (sites k e) (sites_in k es), sum_by-append f (places e) (places_in es), sites-weight k e, all-weight k es)
 
-    pub defs-weight : (o k : Static) (earlier : Earlier) (ds : PlainDefs) → weight (outside_sites o ds) + weight (inside_sites k earlier ds) ≤ sum_by f (places_in_defs ds)
+    pub defs-weight : (o k : Static) (earlier : Earlier) (ds : PlainDefs)
+        → weight (outside_sites o ds) + weight (inside_sites k earlier ds) ≤ sum_by f (places_in_defs ds)
     defs-weight o k earlier no_defs = omega arith
     defs-weight o k earlier (defines at x e ds) =
         omega (

@@ -13,7 +13,9 @@ module _ (old new : List (Site × List (ℕ × ℕ))) (site : Site) (m : List (�
   -- where the site's numbers are those of before, with one written
   pub noted_from : (key number : ℕ) → ((k : ℕ) → number_in m k ≡ cond (k == key) (Some number) (number_of_site old site k)) → NotesSite old new site key number
   noted_from key number pairs = λ q k. ap (option_and_then (λ pairs. number_in pairs k)) (sites q)
-      ∙ (elim (same_site site q) as (λ b. same_site site q ≡ b → option_and_then (λ pairs. number_in pairs k) (cond b (Some m) (lookup (same_site q) old)) ≡ cond (b && (k == key)) (Some number) (number_of_site old q k)) [
+      ∙ (elim (same_site site q) as (λ b. same_site site q ≡ b
+      → option_and_then (λ pairs. number_in pairs k) (cond b (Some m) (lookup (same_site q) old)) ≡ cond (b && (k == key)) (Some number)
+      (number_of_site old q k)) [
         | true ↦ λ same. pairs k ∙ ap (λ s. cond (k == key) (Some number) (number_of_site old s k)) (site_from_same site q same)
         | false ↦ λ _. refl
       ]) refl
@@ -21,7 +23,8 @@ module _ (old new : List (Site × List (ℕ × ℕ))) (site : Site) (m : List (�
   -- where the site's numbers are those of before
   pub same_from : ((k : ℕ) → number_in m k ≡ number_of_site old site k) → SameSites old new
   same_from pairs = λ q k. ap (option_and_then (λ pairs. number_in pairs k)) (sites q)
-      ∙ (elim (same_site site q) as (λ b. same_site site q ≡ b → option_and_then (λ pairs. number_in pairs k) (cond b (Some m) (lookup (same_site q) old)) ≡ number_of_site old q k) [
+      ∙ (elim (same_site site q) as (λ b. same_site site q ≡ b
+      → option_and_then (λ pairs. number_in pairs k) (cond b (Some m) (lookup (same_site q) old)) ≡ number_of_site old q k) [
         | true ↦ λ same. pairs k ∙ ap (λ s. number_of_site old s k) (site_from_same site q same)
         | false ↦ λ _. refl
       ]) refl

@@ -13,7 +13,8 @@ none_has (x ∷ l) n none = (elim (x.0 == n) as (λ t. (x.0 == n) ≡ t → cond
 ]) refl
 
 -- the first pair that has the key gives the number
-first_has : (l : List (ℕ × ℕ)) (n i : ℕ) (d : ℕ × ℕ) → i < length l → key_at d l i ≡ n → ((j : ℕ) → j < i → key_at d l j ≢ n) → number_in l n ≡ Some (get_or l i d).1
+first_has : (l : List (ℕ × ℕ)) (n i : ℕ) (d : ℕ × ℕ) → i < length l → key_at d l i ≡ n → ((j : ℕ) → j < i → key_at d l j ≢ n)
+    → number_in l n ≡ Some (get_or l i d).1
 first_has [] n i d h at none = absurd (omega (arith, h))
 first_has (x ∷ l) n zero d h at none = ap (λ t. cond t (Some x.1) (number_in l n)) (ap (λ m. m == n) at ∙ number_itself n)
 first_has (x ∷ l) n (suc i) d h at none = (elim (x.0 == n) as (λ t. (x.0 == n) ≡ t → cond t (Some x.1) (number_in l n) ≡ Some (get_or l i d).1) [
@@ -24,34 +25,42 @@ first_has (x ∷ l) n (suc i) d h at none = (elim (x.0 == n) as (λ t. (x.0 == n
 -- a key that has a number stands at a place
 some_place : (l : List (ℕ × ℕ)) (n : ℕ) → IsSome (number_in l n) → (j : ℕ) × ((j < length l) × ((d : ℕ × ℕ) → key_at d l j ≡ n))
 some_place [] n h = absurd (true≢false (sym h))
-some_place (x ∷ l) n h = (elim (x.0 == n) as (λ t. (x.0 == n) ≡ t → IsSome (cond t (Some x.1) (number_in l n)) → (j : ℕ) × ((j < length (x ∷ l)) × ((d : ℕ × ℕ) → key_at d (x ∷ l) j ≡ n))) [
-  | true ↦ λ t h. (0, (omega arith, λ d. eqb-true x.0 n t))
-  | false ↦ λ t h. let rest = some_place l n h in (suc rest.0, (omega (arith, rest.1.0), rest.1.1))
-]) refl h
+some_place (x ∷ l) n h =
+    (elim (x.0 == n) as (λ t. (x.0 == n) ≡ t → IsSome (cond t (Some x.1) (number_in l n))
+    → (j : ℕ) × ((j < length (x ∷ l)) × ((d : ℕ × ℕ) → key_at d (x ∷ l) j ≡ n))) [
+      | true ↦ λ t h. (0, (omega arith, λ d. eqb-true x.0 n t))
+      | false ↦ λ t h. let rest = some_place l n h in (suc rest.0, (omega (arith, rest.1.0), rest.1.1))
+    ]) refl h
 
 -- a new pair before any pair that has the key
-has_inserted : (l : List (ℕ × ℕ)) (n v i : ℕ) (d : ℕ × ℕ) → ((j : ℕ) → j < i → key_at d l j < n) → i ≤ length l → (q : ℕ) → number_in (insert l i (n, v)) q ≡ cond (q == n) (Some v) (number_in l q)
+has_inserted : (l : List (ℕ × ℕ)) (n v i : ℕ) (d : ℕ × ℕ) → ((j : ℕ) → j < i → key_at d l j < n) → i ≤ length l → (q : ℕ)
+    → number_in (insert l i (n, v)) q ≡ cond (q == n) (Some v) (number_in l q)
 has_inserted l n v zero d less h q = ap (λ t. cond t (Some v) (number_in l q)) (equality_turned n q)
 has_inserted [] n v (suc i) d less h q = absurd (omega (arith, h))
 has_inserted (x ∷ l) n v (suc i) d less h q =
     let first = less 0 (omega arith) in
     ap (cond (x.0 == q) (Some x.1)) (has_inserted l n v i d (λ j lt. less (suc j) (omega (arith, lt))) (omega (arith, h)) q)
-    ∙ (elim (x.0 == q) as (λ t. (x.0 == q) ≡ t → cond t (Some x.1) (cond (q == n) (Some v) (number_in l q)) ≡ cond (q == n) (Some v) (cond t (Some x.1) (number_in l q))) [
+    ∙ (elim (x.0 == q) as (λ t. (x.0 == q) ≡ t → cond t (Some x.1) (cond (q == n) (Some v) (number_in l q)) ≡ cond (q == n) (Some v)
+    (cond t (Some x.1) (number_in l q))) [
       | true ↦ λ t. let same = eqb-true x.0 q t in ap (λ b. cond b (Some v) (Some x.1)) (sym (below_differs q n (omega (arith, first, same))))
       | false ↦ λ t. refl
     ]) refl
 
 -- the pair that has the key written over
-has_set : (l : List (ℕ × ℕ)) (n v i : ℕ) (d : ℕ × ℕ) → ((j : ℕ) → j < i → key_at d l j < n) → i < length l → key_at d l i ≡ n → (q : ℕ) → number_in (set l i (n, v)) q ≡ cond (q == n) (Some v) (number_in l q)
+has_set : (l : List (ℕ × ℕ)) (n v i : ℕ) (d : ℕ × ℕ) → ((j : ℕ) → j < i → key_at d l j < n) → i < length l → key_at d l i ≡ n → (q : ℕ)
+    → number_in (set l i (n, v)) q ≡ cond (q == n) (Some v) (number_in l q)
 has_set [] n v i d less h at q = absurd (omega (arith, h))
-has_set (x ∷ l) n v zero d less h at q = (elim (q == n) as (λ t. (q == n) ≡ t → cond (n == q) (Some v) (number_in l q) ≡ cond t (Some v) (cond (x.0 == q) (Some x.1) (number_in l q))) [
-  | true ↦ λ t. ap (λ b. cond b (Some v) (number_in l q)) (equality_turned n q ∙ t)
-  | false ↦ λ t. ap (λ b. cond b (Some v) (number_in l q)) (equality_turned n q ∙ t) ∙ ap (λ b. cond b (Some x.1) (number_in l q)) (sym (ap (λ m. m == q) at ∙ equality_turned n q ∙ t))
-]) refl
+has_set (x ∷ l) n v zero d less h at q =
+    (elim (q == n) as (λ t. (q == n) ≡ t → cond (n == q) (Some v) (number_in l q) ≡ cond t (Some v) (cond (x.0 == q) (Some x.1) (number_in l q))) [
+      | true ↦ λ t. ap (λ b. cond b (Some v) (number_in l q)) (equality_turned n q ∙ t)
+      | false ↦ λ t. ap (λ b. cond b (Some v) (number_in l q)) (equality_turned n q ∙ t)
+          ∙ ap (λ b. cond b (Some x.1) (number_in l q)) (sym (ap (λ m. m == q) at ∙ equality_turned n q ∙ t))
+    ]) refl
 has_set (x ∷ l) n v (suc i) d less h at q =
     let first = less 0 (omega arith) in
     ap (cond (x.0 == q) (Some x.1)) (has_set l n v i d (λ j lt. less (suc j) (omega (arith, lt))) (omega (arith, h)) at q)
-    ∙ (elim (x.0 == q) as (λ t. (x.0 == q) ≡ t → cond t (Some x.1) (cond (q == n) (Some v) (number_in l q)) ≡ cond (q == n) (Some v) (cond t (Some x.1) (number_in l q))) [
+    ∙ (elim (x.0 == q) as (λ t. (x.0 == q) ≡ t → cond t (Some x.1) (cond (q == n) (Some v) (number_in l q)) ≡ cond (q == n) (Some v)
+    (cond t (Some x.1) (number_in l q))) [
       | true ↦ λ t. let same = eqb-true x.0 q t in ap (λ b. cond b (Some v) (Some x.1)) (sym (below_differs q n (omega (arith, first, same))))
       | false ↦ λ t. refl
     ]) refl
@@ -60,7 +69,9 @@ module _ (l : List (ℕ × ℕ)) (up : Rises l) where
   -- a pair that is the first at or below the key
   greatest_at : (key i : ℕ) (x : ℕ × ℕ) → i < length l → x ≡ get_or l i x → x.0 ≤ key → ((j : ℕ) → i < j → j < length l → key < key_at x l j) → IsBestOf l key x
   greatest_at key i x h is low above = record {
-    noted = first_has l x.0 i x h (ap (λ (y : ℕ × ℕ). y.0) (sym is)) (λ j lt same. let less = up x j i lt h in let here = ap (λ (y : ℕ × ℕ). y.0) is in omega (arith, less, here, same)) ∙ ap (λ (y : ℕ × ℕ). Some y.1) (sym is);
+    noted = first_has l x.0 i x h (ap (λ (y : ℕ × ℕ). y.0) (sym is))
+        (λ j lt same. let less = up x j i lt h in let here = ap (λ (y : ℕ × ℕ). y.0) is in omega (arith, less, here, same))
+        ∙ ap (λ (y : ℕ × ℕ). Some y.1) (sym is);
     low = low;
     greatest = λ q at_most some.
         let place = some_place l q some in
@@ -88,7 +99,8 @@ module _ (l : List (ℕ × ℕ)) (up : Rises l) where
   -- a pair written over
   module _ (key i number : ℕ) (at : IsAt l key i) where
     pub set_sets : SetsOne (number_in l) (number_in (set l i (key, number))) key number
-    set_sets = has_set l key number i (0, 0) (λ j lt. let less = up (0, 0) j i lt at.in_range in let same = at.has (0, 0) in omega (arith, less, same)) at.in_range (at.has (0, 0))
+    set_sets = has_set l key number i (0, 0) (λ j lt. let less = up (0, 0) j i lt at.in_range in let same = at.has (0, 0) in omega (arith, less, same))
+        at.in_range (at.has (0, 0))
 
     pub set_rises : Rises (set l i (key, number))
     set_rises d a b lt in_range = grind (arith, common_steps, up d a b, up d a i, up d i b, at.in_range, at.has d)
@@ -105,8 +117,24 @@ module _ (l : List (ℕ × ℕ)) (up : Rises l) where
         let first = λ (x : ℕ × ℕ). x.0 in
         let below : (k : ℕ) → k < i → key_at e new k ≡ key_at e l k = λ k h. ap first (get_or-insert_below l i (key, number) e k h gap.in_range) in
         let here : (k : ℕ) → k ≡ i → key_at e new k ≡ key = λ k h. rw h (ap first (get_or-insert_at l i (key, number) e gap.in_range)) in
-        let above : (k : ℕ) → i < k → key_at e new k ≡ key_at e l (k - 1) = λ k h. subst (λ q. key_at e new q ≡ key_at e l (k - 1)) {x = k - 1 + 1} (omega arith) (ap first (get_or-insert_above l i (key, number) e (k - 1) (omega arith) gap.in_range)) in
-        grind (arith, below a, here a, above a, below b, here b, above b, up e a b, up e a (b - 1), up e (a - 1) (b - 1), gap.smaller e a, gap.greater e (b - 1))
+        let above : (k : ℕ) → i < k → key_at e new k ≡ key_at e l (k - 1) =
+        λ k h. subst (λ q. key_at e new q ≡ key_at e l (k - 1)) {x = k - 1 + 1} (omega arith)
+        (ap first (get_or-insert_above l i (key, number) e (k - 1) (omega arith) gap.in_range)) in
+        grind (
+          arith,
+          below a,
+          here a,
+          above a,
+          below b,
+          here b,
+          above b,
+          up e a b,
+          up e a (b - 1),
+          up e (a - 1) (b - 1),
+          gap.smaller e a,
+          gap.greater e
+              (b - 1),
+        )
 
 -- ---- the search
 
@@ -116,7 +144,8 @@ module _ (l : List (ℕ × ℕ)) (up : Rises l) (n : ℕ) where
       let keys_rise : key_at (0, 0) l i ≤ key_at (0, 0) l j = grind (arith, up (0, 0) i j, λ (same : i ≡ j). ap (key_at (0, 0) l) same) in
       grind (arith, nat_tests))
 
-  pub searched : (r : Result ℕ ℕ) → IsSearchInRange r (length l) → IsBinarySearchResult (λ (pair : ℕ × ℕ). nat_cmp pair.0 n) l r → IfOk r (IsAt l n) × IfErr r (IsGapFor l n)
+  pub searched : (r : Result ℕ ℕ) → IsSearchInRange r (length l) → IsBinarySearchResult (λ (pair : ℕ × ℕ). nat_cmp pair.0 n) l r
+      → IfOk r (IsAt l n) × IfErr r (IsGapFor l n)
   searched (Ok at) in_range equal = (record { in_range = in_range; has = λ d. ranked _ n _ (sym (equal d)) }, tt)
   searched (Err at) in_range parted = (
     tt,

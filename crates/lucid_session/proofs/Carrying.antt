@@ -32,7 +32,8 @@ is_listed : (xs : List (Daton × ℕ × PlainValue)) (k : Daton) (s : ℕ) (v : 
 is_listed [] k s v e = absurd (cc)
 is_listed (x ∷ xs) k s v e = by (is_listed xs k s v) (same_daton k x.0 && (s == x.1)) refl e
   where
-    by : (listed xs k s ≡ Some v → In (k, s, v) xs) → (t : Bool) → same_daton k x.0 && (s == x.1) ≡ t → cond t (Some x.2) (listed xs k s) ≡ Some v → In (k, s, v) (x ∷ xs)
+    by : (listed xs k s ≡ Some v → In (k, s, v) xs) → (t : Bool) → same_daton k x.0 && (s == x.1) ≡ t → cond t (Some x.2) (listed xs k s) ≡ Some v
+        → In (k, s, v) (x ∷ xs)
     by more true h i = let at = (same_place k s x).0 h in let value : v ≡ x.2 = cc in inl (λ j. (at.0 j, at.1 j, value j))
     by more false h i = inr (more i)
 
@@ -65,14 +66,16 @@ abbrev pub values_at : Equations → Elements → ℕ → NodePosition → ℕ �
 values_at p b m x u r = node_val p b m x.node x.context u r
 
 -- A value that is listed with its daton at a space is that of where the daton was gone on.
-pub went-to : (p : Equations) (b : Elements) (m : ℕ) (xs : NodeEvents) (k : Daton) (s : ℕ) (v : PlainValue) → In (k, s, v) (filter_map (valued_of (values_at p b m)) xs) → WentTo p b m xs k s v
+pub went-to : (p : Equations) (b : Elements) (m : ℕ) (xs : NodeEvents) (k : Daton) (s : ℕ) (v : PlainValue)
+    → In (k, s, v) (filter_map (valued_of (values_at p b m)) xs) → WentTo p b m xs k s v
 went-to p b m [] k s v i = absurd i
 went-to p b m (x ∷ xs) k s v i = by (went-to p b m xs k s v) x i
   where
     later : (x : Event Daton NodePosition Context) → WentTo p b m xs k s v → WentTo p b m (x ∷ xs) k s v
     later x w = record { position = w.position; time = w.time; there = inr w.there; value = w.value }
 
-    at : (In (k, s, v) (filter_map (valued_of (values_at p b m)) xs) → WentTo p b m xs k s v) → (d : Daton) (y : NodePosition) (u r : ℕ) (o : Option PlainValue) → values_at p b m y u r ≡ o
+    at : (In (k, s, v) (filter_map (valued_of (values_at p b m)) xs) → WentTo p b m xs k s v) → (d : Daton) (y : NodePosition) (u r : ℕ) (o : Option PlainValue)
+        → values_at p b m y u r ≡ o
         → In (k, s, v) (cons_option (option_map (λ w. (d, r, w)) o) (filter_map (valued_of (values_at p b m)) xs)) → WentTo p b m (referred d y u r ∷ xs) k s v
     at more d y u r None e i = later (referred d y u r) (more i)
     at more d y u r (Some w) e (inl h) =
@@ -82,7 +85,8 @@ went-to p b m (x ∷ xs) k s v i = by (went-to p b m xs k s v) x i
         record { position = y; time = u; there = inl (λ i. referred (daton i) y u (space i)); value = ap (values_at p b m y u) space ∙ e ∙ ap Some value }
     at more d y u r (Some w) e (inr j) = later (referred d y u r) (more j)
 
-    by : (In (k, s, v) (filter_map (valued_of (values_at p b m)) xs) → WentTo p b m xs k s v) → (x : Event Daton NodePosition Context) → In (k, s, v) (filter_map (valued_of (values_at p b m)) (x ∷ xs)) → WentTo p b m (x ∷ xs) k s v
+    by : (In (k, s, v) (filter_map (valued_of (values_at p b m)) xs) → WentTo p b m xs k s v) → (x : Event Daton NodePosition Context)
+        → In (k, s, v) (filter_map (valued_of (values_at p b m)) (x ∷ xs)) → WentTo p b m (x ∷ xs) k s v
     by more (looked_up n j) i = later (looked_up n j) (more i)
     by more (entered c) i = later (entered c) (more i)
     by more (referred d y u r) i = at more d y u r (values_at p b m y u r) refl i
@@ -101,7 +105,8 @@ pub goes_on : (T : Table) (b : Elements) (m t s : ℕ) (z : PlainValue) → eqva
 goes_on T b m t s z e k r v w = (reached (equations_of T) b k w.position w.time r m (equations_of T).root root t s z e w.there).goes
 
 -- where the root has values, one value is listed of each daton at a space
-values_once : (T : Table) (b : Elements) (m : ℕ) (points : Points) → ((t s : ℕ) → In (t, s) points → IsSome (eqval (equations_of T) b m t s)) → IsOnce (valued_datons (equations_of T) b m points)
+values_once : (T : Table) (b : Elements) (m : ℕ) (points : Points) → ((t s : ℕ) → In (t, s) points → IsSome (eqval (equations_of T) b m t s))
+    → IsOnce (valued_datons (equations_of T) b m points)
 values_once T b m points defined k s v w i j =
     let x = from_flat (λ x. visited_values (equations_of T) b m x.0 x.1) (k, s, v) points i in
     let y = from_flat (λ x. visited_values (equations_of T) b m x.0 x.1) (k, s, w) points j in
@@ -118,7 +123,8 @@ module _ (T : Table) (l : Layout) (D : Counted Referent Env) (stands : StandsFor
   defined_too m points defined t s i = subst (λ o. IsSome o) (sym (stands.values b m t s)) (defined t s i)
 
   -- what the values at points needed can be held
-  kept : (m : ℕ) (points : Points) → IsDefinedAt D b m points → HoldsExactly (valued_datons (equations_of T) b m points) (listed (valued_datons (equations_of T) b m points))
+  kept : (m : ℕ) (points : Points) → IsDefinedAt D b m points
+      → HoldsExactly (valued_datons (equations_of T) b m points) (listed (valued_datons (equations_of T) b m points))
   kept m points defined = holds_listed (valued_datons (equations_of T) b m points) (values_once T b m points (defined_too m points defined))
 
   -- values are demanded at the same points
@@ -152,7 +158,8 @@ module _ (T : Table) (l : Layout) (D : Counted Referent Env) (stands : StandsFor
 
   module _ (r : RunView) where
     held_too : (result : Result Summary RunFault) → Figures (root_counted T l) b r result → IsTrue r.policy.keeps
-        → IfOk result (λ s. s.lost ≡ 0 → s.cleared ≡ 0 → (points : Points) → ArePointsBelow D.layout b (times_of s) points → (m : ℕ) → IsDefinedAt D b m points → HasDistinct (D.refers b m 0 points) s.held)
+        → IfOk result (λ s. s.lost ≡ 0 → s.cleared ≡ 0 → (points : Points) → ArePointsBelow D.layout b (times_of s) points → (m : ℕ) → IsDefinedAt D b m points
+        → HasDistinct (D.refers b m 0 points) s.held)
     held_too (Ok s) f keeps = λ lost cleared points exactly m defined.
         stands.as_many b m 0 points s.held (f.held keeps lost cleared points (below_too (times_of s) points exactly) m (defined_too m points defined))
     held_too (Err e) f keeps = tt
@@ -162,7 +169,8 @@ module _ (T : Table) (l : Layout) (D : Counted Referent Env) (stands : StandsFor
     deep_too (Err (TooDeep time lost cleared)) f keeps = λ none again. undefined_too r.depth time (f.deep keeps none again)
     deep_too _ f keeps = tt
 
-    some_added : (times : ℕ) → ForSomeAdded r (λ d. (points : Points) → ArePointsBelow l b times points → HasMoreThan 999999 ((root_counted T l).enters b r.depth d points))
+    some_added : (times : ℕ) → ForSomeAdded r (λ d. (points : Points) → ArePointsBelow l b times points
+        → HasMoreThan 999999 ((root_counted T l).enters b r.depth d points))
         → ForSomeAdded r (λ d. (points : Points) → ArePointsBelow D.layout b times points → HasMoreThan 999999 (D.enters b r.depth d points))
     some_added times s = record {
       added = s.added;
@@ -171,11 +179,16 @@ module _ (T : Table) (l : Layout) (D : Counted Referent Env) (stands : StandsFor
     }
 
     cleared_too : (result : Result Summary RunFault) → Figures (root_counted T l) b r result
-        → OnClearings result (λ times cleared. 0 < cleared → ForSomeAdded r (λ d. (points : Points) → ArePointsBelow D.layout b times points → HasMoreThan 999999 (D.enters b r.depth d points)))
+        → OnClearings result (λ times cleared. 0 < cleared
+        → ForSomeAdded r (λ d. (points : Points) → ArePointsBelow D.layout b times points → HasMoreThan 999999 (D.enters b r.depth d points)))
     cleared_too (Ok s) f = λ lt. some_added (times_of s) (f.cleared lt)
     cleared_too (Err (TooDeep time lost cleared)) f = λ lt. some_added (ℕ.suc time) (f.cleared lt)
     cleared_too _ f = tt
 
 -- So the figures of a table are those of each subject for which it stands.
 pub figures_too : FiguresCarry
-figures_too T l D stands b r result f = record { held = held_too T l D stands b r result f; deep = deep_too T l D stands b r result f; cleared = cleared_too T l D stands b r result f }
+figures_too T l D stands b r result f = record {
+  held = held_too T l D stands b r result f;
+  deep = deep_too T l D stands b r result f;
+  cleared = cleared_too T l D stands b r result f;
+}

@@ -15,17 +15,20 @@ abbrev pub HasCome : (z : Start) → EngineView → World → (time space cleare
 HasCome z e w t i c marks line goes_on = Standing z (before z t i) e w c × ((b : Elements) → Has z b → AreMarked z b t i marks × HasCells z b t i line goes_on)
 
 -- before the first
-pub begins_cells : (z : Start) (e : EngineView) (w : World) (t c : ℕ) (marks : List Bool) (line : List ℕ) → line ≡ [] → Standing z (before z t 0) e w c → ((b : Elements) → Has z b → AreMarked z b t 0 marks)
+pub begins_cells : (z : Start) (e : EngineView) (w : World) (t c : ℕ) (marks : List Bool) (line : List ℕ) → line ≡ [] → Standing z (before z t 0) e w c
+    → ((b : Elements) → Has z b → AreMarked z b t 0 marks)
     → HasCome z e w t 0 c marks line false
 begins_cells z e w t c marks line none standing marked = (standing, λ b has. (marked b has, subst (λ l. HasCells z b t 0 l false) (sym none) (no_cells z b t)))
 
-module _ (z : Start) (e : EngineView) (w : World) (t i c : ℕ) (marks : List Bool) (line : List ℕ) (goes_on : Bool) (now : HasCome z e w t i c marks line goes_on) where
+module _ (z : Start) (e : EngineView) (w : World) (t i c : ℕ) (marks : List Bool) (line : List ℕ) (goes_on : Bool)
+    (now : HasCome z e w t i c marks line goes_on) where
   -- there is no memory
   pub lacks_here : (q : RunFault) → q ≡ run.NoMemory → StopsAt z e w t c q
   lacks_here q is = inr (record { space = i; is = is; standing = now.0 })
 
   -- a column that has ended is passed over
-  pub skipped_here : slice_get marks i ≡ Some false → (more : List ℕ) → more ≡ (if nat_lt 0 i then line ++ 9 ∷ [] else line) → HasCome z e w t (i + 1) c marks more goes_on
+  pub skipped_here : slice_get marks i ≡ Some false → (more : List ℕ) → more ≡ (if nat_lt 0 i then line ++ 9 ∷ [] else line)
+      → HasCome z e w t (i + 1) c marks more goes_on
   skipped_here is more parted = (
     skipped_space z e w t c i (λ b has. never_demanded z b t i marks is (now.1 b has).0) now.0,
     λ b has. let h = now.1 b has in (marked_over z b t i marks is h.0, cells_over z b t i marks is h.0 line more goes_on h.1 parted),
@@ -37,7 +40,8 @@ module _ (z : Start) (e : EngineView) (w : World) (t i c : ℕ) (marks : List Bo
     demanded_here lt b has = is_demanded z b has t i marks is (now.1 b has).0 lt
 
     -- and its cell is added
-    pub given_here : (f : EngineView) (v : World) (d : ℕ) (stays : Bool) (parted_line more : List ℕ) → parted_line ≡ (if nat_lt 0 i then line ++ 9 ∷ [] else line)
+    pub given_here : (f : EngineView) (v : World) (d : ℕ) (stays : Bool) (parted_line more : List ℕ)
+        → parted_line ≡ (if nat_lt 0 i then line ++ 9 ∷ [] else line)
         → Standing z (before z t (i + 1)) f v d × GivesCell z t i stays parted_line more → (after : Bool) → SomeNow goes_on stays after
         → HasCome z f v t (i + 1) d (slice_set marks i stays) more after
     given_here f v d stays parted_line more parted gives after how = (

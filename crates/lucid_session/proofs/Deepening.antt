@@ -17,7 +17,8 @@ some_like : {A : Type 0} (o : Option A) (x y : A) → o ≡ Some x → y ≡ x �
 some_like o x y e f = e ∙ ap Some (sym f)
 
 -- a value, read with its daton and its space
-read_as : (k : Daton) (s : ℕ) (o : Option PlainValue) (v : PlainValue) → o ≡ Some v → option_map {U = Daton × ℕ × PlainValue} (λ w. (k, s, w)) o ≡ Some (k, s, v)
+read_as : (k : Daton) (s : ℕ) (o : Option PlainValue) (v : PlainValue) → o ≡ Some v
+    → option_map {U = Daton × ℕ × PlainValue} (λ w. (k, s, w)) o ≡ Some (k, s, v)
 read_as k s o v e = ap (option_map {U = Daton × ℕ × PlainValue} (λ w. (k, s, w))) e
 
 module _ (z : Start) (b : Elements) (D : (time space : ℕ) → Type 0) (h : Holding) (right : HoldsRight (equations_of z.table) b h)
@@ -31,7 +32,8 @@ module _ (z : Start) (b : Elements) (D : (time space : ℕ) → Type 0) (h : Hol
         let x = from_flat (λ (q : ℕ × ℕ). visited_values (equations_of z.table) b m q.0 q.1) (k, s, v) points ((all k s v).0 e) in
         let y = some_value (eqval p b m x.item.0 x.item.1) (defined x.item.0 x.item.1 x.among) in
         let w = went-to p b m (visits p b m 0 x.item.0 x.item.1) k s v x.gives in
-        let there : In (k, s) (visited_datons p b m 0 x.item.0 x.item.1) = in_read reference_of (referred k w.position w.time s) (k, s) (visits p b m 0 x.item.0 x.item.1) refl w.there in
+        let there : In (k, s) (visited_datons p b m 0 x.item.0 x.item.1) =
+        in_read reference_of (referred k w.position w.time s) (k, s) (visits p b m 0 x.item.0 x.item.1) refl w.there in
         let o = some_value (h k s) ((holds k s).1 (x.item.0, x.item.1, (exactly x.item.0 x.item.1).0 x.among, (m, y.0, y.1, there))) in
         let aim = goes_on z.table b m x.item.0 x.item.1 y.0 y.1 k s v w in
         let means = held_means p b h right k w.position w.time s o.0 aim o.1 in
@@ -51,9 +53,12 @@ module _ (z : Start) (b : Elements) (D : (time space : ℕ) → Type 0) (h : Hol
         let means = held_means p b h right k g.position g.time s v r.goes e in
         let same : v ≡ r.value = node-meant_once p b g.position.node g.position.context g.time s v r.value means (m, has) in
         let there : In (k, s, r.value) (visited_values p b m n.0 n.1) =
-        in_read (valued_of (values_at p b m)) (referred k g.position g.time s) (k, s, r.value) (visits p b m 0 n.0 n.1) (read_as k s (node_val p b m g.position.node g.position.context g.time s) r.value has) g.there in
+        in_read (valued_of (values_at p b m)) (referred k g.position g.time s) (k, s, r.value) (visits p b m 0 n.0 n.1)
+        (read_as k s (node_val p b m g.position.node g.position.context g.time s) r.value has) g.there in
         some_like (held k s) r.value v
         ((all k s r.value).1 (in_flat (λ (q : ℕ × ℕ). visited_values (equations_of z.table) b m q.0 q.1) (k, s, r.value) (n.0, n.1) points i there)) same
 
-    pub same_held_value : (limit time space : ℕ) → eqhval (equations_of z.table) (record { element = b; held = held }) limit time space ≡ eqhval (equations_of z.table) (record { element = b; held = h }) limit time space
-    same_held_value limit time space = λ i. eqhval (equations_of z.table) (record { element = b; held = λ k s. same_values (held k s) (h k s) (forth k s) (back k s) i }) limit time space
+    pub same_held_value : (limit time space : ℕ) → eqhval (equations_of z.table) (record { element = b; held = held }) limit time space ≡ eqhval
+        (equations_of z.table) (record { element = b; held = h }) limit time space
+    same_held_value limit time space = λ i. eqhval (equations_of z.table)
+        (record { element = b; held = λ k s. same_values (held k s) (h k s) (forth k s) (back k s) i }) limit time space

@@ -18,10 +18,12 @@ counts s None c fits e = absurd (none-some _ e)
 counts s (Some d) c fits e = fits.consumed ∙ ap (λ x. length x.consumed) (same_Some _ _ e)
 
 -- Where each stream fits its place, of no input more is consumed than its stream may read.
-pub reads_within : (z : Start) (e : EngineView) (w : World) → AreAskable e.streams w → places_of e.streams ≡ z.places → facts.ReadsWithin (of_run z e) → ReadsWithin (seen z w z.out_before)
+pub reads_within : (z : Start) (e : EngineView) (w : World) → AreAskable e.streams w → places_of e.streams ≡ z.places → facts.ReadsWithin (of_run z e)
+    → ReadsWithin (seen z w z.out_before)
 reads_within z e w ask places few k n q is old new first last =
     let s = stream_at e.streams k q (ap (λ ps. slice_get ps k) places ∙ is.1) in
-    let counted : s.0.consumed ≡ length new.consumed = counts s.0 (w.place s.0.place).contents new (ask k s.0 s.1).1 (ap (λ x. (w.place x).contents) s.2 ∙ last) in
+    let counted : s.0.consumed ≡ length new.consumed =
+    counts s.0 (w.place s.0.place).contents new (ask k s.0 s.1).1 (ap (λ x. (w.place x).contents) s.2 ∙ last) in
     let most : s.0.consumed ≤ z.most = few k s.0 s.1 in
     inr (omega (arith, counted, most))
 
@@ -39,7 +41,8 @@ module _ (z : Start) (b : Elements) (D : (time space : ℕ) → Type 0) where
   DrawnFrom v w t s k d =
       (n : List ℕ) (q : ℕ) → (slice_get z.table.inputs k ≡ Some n) × (slice_get z.places k ≡ Some q)
       → (old new : Contents) → (v.place q).contents ≡ Some old → (w.place q).contents ≡ Some new
-      → (length new.consumed ≤ length old.consumed) ⊎ ((j : ℕ) × In (n, j) (consults_on_nodes (equations_of z.table) b z.depth d t s) × (length new.consumed ≤ end_of_line (all_bytes new) j))
+      → (length new.consumed ≤ length old.consumed) ⊎ ((j : ℕ) × In (n, j) (consults_on_nodes (equations_of z.table) b z.depth d t s)
+      × (length new.consumed ≤ end_of_line (all_bytes new) j))
 
   module _ (v w : World) (before : ReadsOnly z.places z.before v) (after : ReadsOnly z.places z.before w) where
     -- what was drawn so far and by one demand more, in one
@@ -54,27 +57,36 @@ module _ (z : Start) (b : Elements) (D : (time space : ℕ) → Type 0) where
 
         by : (mid : Contents) → all_bytes new ≡ all_bytes old
             → (length mid.consumed ≤ length old.consumed) ⊎ ((j : ℕ) × IsConsultedSoFar z b D d (n, j) × (length mid.consumed ≤ end_of_line (all_bytes old) j))
-            → (length new.consumed ≤ length mid.consumed) ⊎ ((j : ℕ) × In (n, j) (consults_on_nodes (equations_of z.table) b z.depth d t s) × (length new.consumed ≤ end_of_line (all_bytes new) j))
-            → (length new.consumed ≤ length old.consumed) ⊎ ((j : ℕ) × IsConsultedSoFar z b (with_point D t s) d (n, j) × (length new.consumed ≤ end_of_line (all_bytes old) j))
+            → (length new.consumed ≤ length mid.consumed)
+            ⊎ ((j : ℕ) × In (n, j) (consults_on_nodes (equations_of z.table) b z.depth d t s) × (length new.consumed ≤ end_of_line (all_bytes new) j))
+            → (length new.consumed ≤ length old.consumed)
+            ⊎ ((j : ℕ) × IsConsultedSoFar z b (with_point D t s) d (n, j) × (length new.consumed ≤ end_of_line (all_bytes old) j))
         by mid same g (inr r) = inr (r.0, (t, s, inr (refl, refl), r.1), subst (λ bytes. length new.consumed ≤ end_of_line bytes r.0) same r.2)
         by mid same (inl g) (inl h) = inl (omega (arith, g, h))
         by mid same (inr r) (inl h) = inr (r.0, later_pair t s d (n, r.0) r.1, omega (arith, r.2, h))
 
-    module _ (old new : EngineView) (t i : ℕ) (askable : AreAskable old.streams v) (now : AreAskable new.streams w) (places : places_of old.streams ≡ z.places) (places_now : places_of new.streams ≡ z.places) (draws : DrawsWithin (of_run z old) (of_run z new) b w z.depth t i) where
+    module _ (old new : EngineView) (t i : ℕ) (askable : AreAskable old.streams v) (now : AreAskable new.streams w) (places : places_of old.streams ≡ z.places)
+        (places_now : places_of new.streams ≡ z.places) (draws : DrawsWithin (of_run z old) (of_run z new) b w z.depth t i) where
       -- one input's, by its streams
-      of_stream : (k : ℕ) (n : List ℕ) (s r : Stream) → slice_get z.table.inputs k ≡ Some n → slice_get old.streams k ≡ Some s → slice_get new.streams k ≡ Some r → s.place ≡ r.place
+      of_stream : (k : ℕ) (n : List ℕ) (s r : Stream) → slice_get z.table.inputs k ≡ Some n → slice_get old.streams k ≡ Some s
+          → slice_get new.streams k ≡ Some r → s.place ≡ r.place
           → (x y : Contents) → (v.place s.place).contents ≡ Some x → (w.place s.place).contents ≡ Some y
-          → Added z.policy.empties (λ d. (length y.consumed ≤ length x.consumed) ⊎ ((j : ℕ) × In (n, j) (consults_on_nodes (equations_of z.table) b z.depth d t i) × (length y.consumed ≤ end_of_line (all_bytes y) j)))
+          → Added z.policy.empties (λ d. (length y.consumed ≤ length x.consumed)
+          ⊎ ((j : ℕ) × In (n, j) (consults_on_nodes (equations_of z.table) b z.depth d t i) × (length y.consumed ≤ end_of_line (all_bytes y) j)))
       of_stream k n s r named was is same x y first last =
           let last_here : (w.place r.place).contents ≡ Some y = ap (λ q. (w.place q).contents) (sym same) ∙ last in
           let had : s.consumed ≡ length x.consumed = counts s (v.place s.place).contents x (askable k s was).1 first in
           let has_now : r.consumed ≡ length y.consumed = counts r (w.place r.place).contents y (now k r is).1 last_here in
-          by had has_now (drawn_of (w.place r.place).contents y (λ c. (r.consumed ≤ s.consumed) ⊎ ((j : ℕ) × facts.ForSomeAdded (of_run z old) (λ d. In (n, j) (consults_on_nodes (equations_of z.table) b z.depth d t i)) × (r.consumed ≤ end_of_line (all_bytes c) j)))
+          by had has_now (drawn_of (w.place r.place).contents y
+          (λ c. (r.consumed ≤ s.consumed) ⊎ ((j : ℕ) × facts.ForSomeAdded (of_run z old)
+          (λ d. In (n, j) (consults_on_nodes (equations_of z.table) b z.depth d t i)) × (r.consumed ≤ end_of_line (all_bytes c) j)))
           (draws k n s r named was is) last_here)
         where
           by : s.consumed ≡ length x.consumed → r.consumed ≡ length y.consumed
-              → (r.consumed ≤ s.consumed) ⊎ ((j : ℕ) × facts.ForSomeAdded (of_run z old) (λ d. In (n, j) (consults_on_nodes (equations_of z.table) b z.depth d t i)) × (r.consumed ≤ end_of_line (all_bytes y) j))
-              → Added z.policy.empties (λ d. (length y.consumed ≤ length x.consumed) ⊎ ((j : ℕ) × In (n, j) (consults_on_nodes (equations_of z.table) b z.depth d t i) × (length y.consumed ≤ end_of_line (all_bytes y) j)))
+              → (r.consumed ≤ s.consumed) ⊎ ((j : ℕ) × facts.ForSomeAdded (of_run z old)
+              (λ d. In (n, j) (consults_on_nodes (equations_of z.table) b z.depth d t i)) × (r.consumed ≤ end_of_line (all_bytes y) j))
+              → Added z.policy.empties (λ d. (length y.consumed ≤ length x.consumed)
+              ⊎ ((j : ℕ) × In (n, j) (consults_on_nodes (equations_of z.table) b z.depth d t i) × (length y.consumed ≤ end_of_line (all_bytes y) j)))
           by had has_now (inl le) = at_once z.policy.empties _ (λ d. inl (omega (arith, le, had, has_now)))
           by had has_now (inr q) = record { added = q.1.added; none = q.1.none; holds = λ d le. inr (q.0, q.1.holds d le, omega (arith, q.2, has_now)) }
 
@@ -86,10 +98,13 @@ module _ (z : Start) (b : Elements) (D : (time space : ℕ) → Type 0) where
           nothing {P = P} h = at_once z.policy.empties P h
 
           told : (n : List ℕ) (q : ℕ) → slice_get z.table.inputs k ≡ Some n → slice_get z.places k ≡ Some q
-              → ((x : Contents) × ((v.place q).contents ≡ Some x)) ⊎ ((v.place q).contents ≡ None) → ((y : Contents) × ((w.place q).contents ≡ Some y)) ⊎ ((w.place q).contents ≡ None)
+              → ((x : Contents) × ((v.place q).contents ≡ Some x)) ⊎ ((v.place q).contents ≡ None)
+              → ((y : Contents) × ((w.place q).contents ≡ Some y)) ⊎ ((w.place q).contents ≡ None)
               → Added z.policy.empties (DrawnFrom v w t i k)
-          told n q e f (inr lacks) g = nothing (λ d m p is x y first last. absurd (none-some _ (sym (ap (λ i. (v.place i).contents) (same_Some _ _ (sym is.1 ∙ f)) ∙ lacks) ∙ first)))
-          told n q e f (inl x) (inr lacks) = nothing (λ d m p is c y first last. absurd (none-some _ (sym (ap (λ i. (w.place i).contents) (same_Some _ _ (sym is.1 ∙ f)) ∙ lacks) ∙ last)))
+          told n q e f (inr lacks) g = nothing (λ d m p is x y first last.
+              absurd (none-some _ (sym (ap (λ i. (v.place i).contents) (same_Some _ _ (sym is.1 ∙ f)) ∙ lacks) ∙ first)))
+          told n q e f (inl x) (inr lacks) = nothing (λ d m p is c y first last.
+              absurd (none-some _ (sym (ap (λ i. (w.place i).contents) (same_Some _ _ (sym is.1 ∙ f)) ∙ lacks) ∙ last)))
           told n q e f (inl x) (inl y) =
               let s = stream_at old.streams k q (ap (λ ps. slice_get ps k) places ∙ f) in
               let r = stream_at new.streams k q (ap (λ ps. slice_get ps k) places_now ∙ f) in
@@ -99,12 +114,19 @@ module _ (z : Start) (b : Elements) (D : (time space : ℕ) → Type 0) where
               let same_place : q ≡ p = same_Some _ _ (sym f ∙ is.1) in
               let same_old : x.0 ≡ c = same_Some _ _ (sym x.1 ∙ ap (λ i. (v.place i).contents) same_place ∙ first) in
               let same_new : y.0 ≡ g = same_Some _ _ (sym y.1 ∙ ap (λ i. (w.place i).contents) same_place ∙ last) in
-              subst (λ c. (length g.consumed ≤ length c.consumed) ⊎ ((j : ℕ) × In (m, j) (consults_on_nodes (equations_of z.table) b z.depth d t i) × (length g.consumed ≤ end_of_line (all_bytes g) j))) same_old
-              (subst (λ g. (length g.consumed ≤ length x.0.consumed) ⊎ ((j : ℕ) × In (m, j) (consults_on_nodes (equations_of z.table) b z.depth d t i) × (length g.consumed ≤ end_of_line (all_bytes g) j))) same_new
-              (subst (λ m. (length y.0.consumed ≤ length x.0.consumed) ⊎ ((j : ℕ) × In (m, j) (consults_on_nodes (equations_of z.table) b z.depth d t i) × (length y.0.consumed ≤ end_of_line (all_bytes y.0) j))) same_name h)))
+              subst (λ c. (length g.consumed ≤ length c.consumed)
+              ⊎ ((j : ℕ) × In (m, j) (consults_on_nodes (equations_of z.table) b z.depth d t i) × (length g.consumed ≤ end_of_line (all_bytes g) j)))
+              same_old
+              (subst (λ g. (length g.consumed ≤ length x.0.consumed)
+              ⊎ ((j : ℕ) × In (m, j) (consults_on_nodes (equations_of z.table) b z.depth d t i) × (length g.consumed ≤ end_of_line (all_bytes g) j)))
+              same_new
+              (subst (λ m. (length y.0.consumed ≤ length x.0.consumed)
+              ⊎ ((j : ℕ) × In (m, j) (consults_on_nodes (equations_of z.table) b z.depth d t i) × (length y.0.consumed ≤ end_of_line (all_bytes y.0) j)))
+              same_name h)))
               (of_stream k n s.0 r.0 e s.1 r.1 (s.2 ∙ sym r.2) x.0 y.0 (ap (λ i. (v.place i).contents) s.2 ∙ x.1) (ap (λ i. (w.place i).contents) s.2 ∙ y.1))
 
-          named : ((n : List ℕ) × (slice_get z.table.inputs k ≡ Some n)) ⊎ (slice_get z.table.inputs k ≡ None) → ((q : ℕ) × (slice_get z.places k ≡ Some q)) ⊎ (slice_get z.places k ≡ None)
+          named : ((n : List ℕ) × (slice_get z.table.inputs k ≡ Some n)) ⊎ (slice_get z.table.inputs k ≡ None)
+              → ((q : ℕ) × (slice_get z.places k ≡ Some q)) ⊎ (slice_get z.places k ≡ None)
               → Added z.policy.empties (DrawnFrom v w t i k)
           named (inr lacks) g = nothing (λ d n q is. absurd (none-some _ (sym lacks ∙ is.0)))
           named (inl n) (inr lacks) = nothing (λ d m q is. absurd (none-some _ (sym lacks ∙ is.1)))
@@ -115,5 +137,6 @@ module _ (z : Start) (b : Elements) (D : (time space : ℕ) → Type 0) where
           → Added z.policy.empties (λ d. (k : ℕ) → k < length z.table.inputs → Draws z b (with_point D t i) w k d)
       drawn_more so_far =
           so z.policy.empties _ _ (λ d p k lt. drawn_then t i k d (p.0 k lt) (p.1 k lt))
-          (both z.policy.empties (λ d. (k : ℕ) → k < length z.table.inputs → Draws z b D v k d) (λ d. (k : ℕ) → k < length z.table.inputs → DrawnFrom v w t i k d) so_far
+          (both z.policy.empties (λ d. (k : ℕ) → k < length z.table.inputs → Draws z b D v k d)
+          (λ d. (k : ℕ) → k < length z.table.inputs → DrawnFrom v w t i k d) so_far
           (of_numbers z.policy.empties (DrawnFrom v w t i) (length z.table.inputs) (λ k lt. of_number k)))

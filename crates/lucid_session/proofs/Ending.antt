@@ -47,16 +47,20 @@ module _ (z : Start) (b : Elements) (w : World) (o : Told) where
     holds = λ d le k n q is old new first last. by d n old new (drawn.holds d le k (slice_get_within z.table.inputs k n is.0) n q is old new first last);
   }
     where
-      by : (d : ℕ) (n : List ℕ) (old new : Contents) → (length new.consumed ≤ length old.consumed) ⊎ ((j : ℕ) × IsConsultedSoFar z b D d (n, j) × (length new.consumed ≤ end_of_line (all_bytes old) j))
-          → (length new.consumed ≤ length old.consumed) ⊎ ((j : ℕ) × runs.IsConsulted (subject z) b (seen z w o) whole d (n, j) × (length new.consumed ≤ end_of_line (all_bytes old) j))
+      by : (d : ℕ) (n : List ℕ) (old new : Contents)
+          → (length new.consumed ≤ length old.consumed) ⊎ ((j : ℕ) × IsConsultedSoFar z b D d (n, j) × (length new.consumed ≤ end_of_line (all_bytes old) j))
+          → (length new.consumed ≤ length old.consumed)
+          ⊎ ((j : ℕ) × runs.IsConsulted (subject z) b (seen z w o) whole d (n, j) × (length new.consumed ≤ end_of_line (all_bytes old) j))
       by d n old new (inl le) = inl le
       by d n old new (inr r) =
           let at = attempted r.1.0 r.1.1 r.1.2 in
           inr (r.0, (r.1.0, (at.0, at.1), consults_there z b z.depth r.1.0 r.1.1 at.2 d (n, r.0) r.1.3), r.2)
 
   -- the engine was cleared only where much was entered
-  much : (D : (time space : ℕ) → Type 0) (e : EngineView) (c times : ℕ) → Visited z b D e w c → ((u r : ℕ) → D u r → (u < times) × Demands (layout z) b u r) → 0 < c
-      → ForSomeAdded (seen z w o) (λ d. (points : Points) → ArePointsBelow (layout z) b times points → HasMoreThan 999999 ((counted z).enters b z.depth d points))
+  much : (D : (time space : ℕ) → Type 0) (e : EngineView) (c times : ℕ) → Visited z b D e w c → ((u r : ℕ) → D u r → (u < times) × Demands (layout z) b u r)
+      → 0 < c
+      → ForSomeAdded (seen z w o) (λ d. (points : Points) → ArePointsBelow (layout z) b times points
+      → HasMoreThan 999999 ((counted z).enters b z.depth d points))
   much D e c times visited below lt =
       let r = visited.clearings lt in
       record { added = r.added; none = r.none; holds = λ d le points exactly. r.holds d le points (λ u s i. (exactly u s).1 (below u s i)) }
@@ -103,7 +107,8 @@ module _ (z : Start) (b : Elements) (w : World) (o : Told) where
           subst (λ n. HasDistinct ((counted z).refers b m 0 points) n) (sym held)
           (held_count z b (before z a 0 b) e c sound each far.holds keeps (sym lost ∙ none) (sym cleared ∙ again) points (same points exactly) m defined);
       deep = λ keeps. tt;
-      cleared = λ lt. much (before z a 0 b) e c (times_of s) far.visited (λ u r i. let at = below u r i in (omega (arith, at.0, times), at.1)) (omega (arith, lt, cleared));
+      cleared = λ lt. much (before z a 0 b) e c (times_of s) far.visited (λ u r i. let at = below u r i in (omega (arith, at.0, times), at.1))
+          (omega (arith, lt, cleared));
     }
       where
         same : (points : Points) → ArePointsBelow (layout z) b (times_of s) points → (u r : ℕ) → In (u, r) points ↔ before z a 0 b u r
@@ -113,21 +118,28 @@ module _ (z : Start) (b : Elements) (w : World) (o : Told) where
         )
 
 -- what is said of the bytes that a place tells, whether they are consumed or left
-same_bytes : (P : List ℕ → Type 0) (o p : Option Contents) → option_map all_bytes p ≡ option_map all_bytes o → IfSome p (λ c. P (all_bytes c)) → IfSome o (λ c. P (all_bytes c))
+same_bytes : (P : List ℕ → Type 0) (o p : Option Contents) → option_map all_bytes p ≡ option_map all_bytes o → IfSome p (λ c. P (all_bytes c))
+    → IfSome o (λ c. P (all_bytes c))
 same_bytes P None p e h = tt
 same_bytes P (Some c) None e h = absurd (none-some _ e)
 same_bytes P (Some c) (Some d) e h = subst P (same_Some _ _ e) h
 
 -- An overlong element that a demand consults is one that the run consults.
-overlong : (z : Start) (b : Elements) (e : EngineView) (w : World) (o : Told) (k t s whole : ℕ) → places_of e.streams ≡ z.places → ReadsOnly z.places z.before w → Demands (layout z) b t s → t < z.count → t ≤ whole
+overlong : (z : Start) (b : Elements) (e : EngineView) (w : World) (o : Told) (k t s whole : ℕ) → places_of e.streams ≡ z.places → ReadsOnly z.places z.before w
+    → Demands (layout z) b t s → t < z.count → t ≤ whole
     → facts.ConsultsOverlong (of_run z e) b w k z.depth t s → runs.ConsultsOverlong (subject z) b (seen z w o) whole k
 overlong z b e w o k t s whole places reads there early near c = record {
   name = c.name;
   place = c.source.place;
   is = (c.named, sym (ap (λ ps. slice_get ps k) places) ∙ place_at e.streams k c.source c.read_from);
   index = c.index;
-  consulted = record { added = c.consulted.added; none = c.consulted.none; holds = λ d le. (t, (early, near), consults_there z b z.depth t s there d (c.name, c.index) (c.consulted.holds d le)) };
-  overlong = same_bytes (λ bytes. IsOverlong bytes c.index z.most) (z.before.place c.source.place).contents (w.place c.source.place).contents (reads.bytes c.source.place) c.overlong;
+  consulted = record {
+    added = c.consulted.added;
+    none = c.consulted.none;
+    holds = λ d le. (t, (early, near), consults_there z b z.depth t s there d (c.name, c.index) (c.consulted.holds d le));
+  };
+  overlong = same_bytes (λ bytes. IsOverlong bytes c.index z.most) (z.before.place c.source.place).contents (w.place c.source.place).contents
+      (reads.bytes c.source.place) c.overlong;
 }
 
 -- A refused demand ends a run.
@@ -137,7 +149,8 @@ module _ (z : Start) (b : Elements) (e : EngineView) (w : World) (o : Told) (t s
   up_to u r (inl i) = (elim i.0 [ inl lt ↦ omega (arith, lt) | inr at ↦ omega (arith, at.0) ], i.1)
   up_to u r (inr at) = (omega (arith, at.0), subst (λ (p : ℕ × ℕ). Demands (layout z) b p.0 p.1) (λ i. (sym at.0 i, sym at.1 i)) there)
 
-  module _ (f : DemandFault) (asked : Asked z (before z t s) e w c t s (Err f)) (found : Found z b (before z t s b) e w c t s (Err f)) (lines : HasLines z b o t) (early : t < z.count) where
+  module _ (f : DemandFault) (asked : Asked z (before z t s) e w c t s (Err f)) (found : Found z b (before z t s b) e w c t s (Err f))
+      (lines : HasLines z b o t) (early : t < z.count) where
     drawn : ForSomeAdded (seen z w o) (ConsumesWithin (subject z) b (seen z w o) t)
     drawn = consumes z b w o (with_point (before z t s b) t s) t (λ u r i. let at = up_to u r i in (omega (arith, at.0, early), at.0, at.1)) found.visited.drawn
 
@@ -218,7 +231,8 @@ module _ (z : Start) (e : EngineView) (w : World) (o : Told) (t s c : ℕ) (no_w
     held = tt;
   }
     where
-      read : (f : DemandFault) → (IsErrOf {T = Value} (Err f) ReadFault → Rises z.before.faults w.faults) → IsErrOf {T = Summary} (Err (of_demand t e.stored.lost c f)) run.ReadFault → Rises z.before.faults w.faults
+      read : (f : DemandFault) → (IsErrOf {T = Value} (Err f) ReadFault → Rises z.before.faults w.faults)
+          → IsErrOf {T = Summary} (Err (of_demand t e.stored.lost c f)) run.ReadFault → Rises z.before.faults w.faults
       read ReadFault failed h = failed refl
       read _ failed h = absurd (cc)
 
@@ -236,12 +250,14 @@ module _ (z : Start) (e : EngineView) (w : World) (o : Told) (t s c : ℕ) (no_w
       write TooDeep h = absurd (cc)
       write _ h = absurd (cc)
 
-      large : (f : DemandFault) → demand.OnTooLarge f (λ k. k < length z.table.inputs) → runs.OnTooLarge (of_demand t e.stored.lost c f) (λ k. k < length z.table.inputs)
+      large : (f : DemandFault) → demand.OnTooLarge f (λ k. k < length z.table.inputs)
+          → runs.OnTooLarge (of_demand t e.stored.lost c f) (λ k. k < length z.table.inputs)
       large (TooLarge k) h = h
       large _ h = tt
 
   -- A refused demand ends a run.
-  pub promise_refused : (f : DemandFault) → Asked z (before z t s) e w c t s (Err f) → ((b : Elements) → Has z b → Demands (layout z) b t s) → ((b : Elements) → Has z b → HasLines z b o t) → t < z.count
+  pub promise_refused : (f : DemandFault) → Asked z (before z t s) e w c t s (Err f) → ((b : Elements) → Has z b → Demands (layout z) b t s)
+      → ((b : Elements) → Has z b → HasLines z b o t) → t < z.count
       → PromisesColumns z.table z.columns (seen z w o) (Err (of_demand t e.stored.lost c f))
   promise_refused f asked there lines early = record {
     headline = λ b has. ran_refused z b e w o t s c (there b has) f asked (asked.found b has) (lines b has) early;
@@ -251,7 +267,8 @@ module _ (z : Start) (e : EngineView) (w : World) (o : Told) (t s c : ℕ) (no_w
   }
 
 -- So does want of memory, between two demands.
-module _ (z : Start) (e : EngineView) (w : World) (o : Told) (t s c : ℕ) (no_write_failed : o.faults ≡ z.out_before.faults) (standing : Standing z (before z t s) e w c)
+module _ (z : Start) (e : EngineView) (w : World) (o : Told) (t s c : ℕ) (no_write_failed : o.faults ≡ z.out_before.faults)
+    (standing : Standing z (before z t s) e w c)
     (lines : (b : Elements) → Has z b → HasLines z b o t) (early : t < z.count) where
   ran_short : (b : Elements) → Has z b → Ran (subject z) b (seen z w o) (Err run.NoMemory)
   ran_short b has = record {
@@ -262,7 +279,8 @@ module _ (z : Start) (e : EngineView) (w : World) (o : Told) (t s c : ℕ) (no_w
     exact = defined_at z b w o t ⊥ (lines b has) (λ empties ended. absurd ended);
     stops = λ before defined quiet. refl;
     complete = λ deep quiet. refl;
-    consumed = consumes z b w o (before z t s b) t (λ u r i. elim i.0 [ inl lt ↦ (omega (arith, lt, early), omega (arith, lt), i.1) | inr at ↦ (omega (arith, at.0, early), omega (arith, at.0), i.1) ])
+    consumed = consumes z b w o (before z t s b) t
+        (λ u r i. elim i.0 [ inl lt ↦ (omega (arith, lt, early), omega (arith, lt), i.1) | inr at ↦ (omega (arith, at.0, early), omega (arith, at.0), i.1) ])
         (standing.so_far b has).visited.drawn;
     within = standing.within;
     too_large = tt;
@@ -287,12 +305,16 @@ module _ (z : Start) (e : EngineView) (w : World) (o : Told) (t s c : ℕ) (no_w
 
 -- So does the end, at which no line is written, after all demands of its time; and so does the count.
 module _ (z : Start) (e : EngineView) (w : World) (o : Told) (t a c : ℕ) (standing : Standing z (before z a 0) e w c) (each : IsOneForEach e.stored)
-    (no_write_failed : o.faults ≡ z.out_before.faults) (lines : (b : Elements) → Has z b → HasLines z b o t) (s : Summary) (is : s ≡ record { lines = t; ended = s.ended; held = count_of e.stored; lost = e.stored.lost; cleared = c }) where
+    (no_write_failed : o.faults ≡ z.out_before.faults) (lines : (b : Elements) → Has z b → HasLines z b o t) (s : Summary)
+    (is : s ≡ record { lines = t; ended = s.ended; held = count_of e.stored; lost = e.stored.lost; cleared = c }) where
   pub promise_done : t ≤ z.count → a ≤ z.count → a ≤ suc t → times_of s ≡ a → ((b : Elements) → Has z b → EndsAt (subject z) b (seen z w o) s.ended t)
-      → ((b : Elements) → Has z b → IsTrue z.policy.empties → s.ended ≡ true → (subject z).defined b z.depth t) → PromisesColumns z.table z.columns (seen z w o) (Ok s)
+      → ((b : Elements) → Has z b → IsTrue z.policy.empties → s.ended ≡ true → (subject z).defined b z.depth t)
+      → PromisesColumns z.table z.columns (seen z w o) (Ok s)
   promise_done most few near times ends exact = record {
-    headline = λ b has. ran_done z b w o e s t a c (lines b has) (standing.so_far b has) (ap (λ x. x.lines) is) (ends b has) (exact b has) most few near standing.within;
-    figures = λ b has. figures_done z b w o e s t a c (lines b has) (standing.so_far b has) standing.sound each (ap (λ x. x.held) is) (ap (λ x. x.lost) is) (ap (λ x. x.cleared) is) times;
+    headline = λ b has. ran_done z b w o e s t a c (lines b has) (standing.so_far b has) (ap (λ x. x.lines) is) (ends b has) (exact b has) most few near
+        standing.within;
+    figures = λ b has. figures_done z b w o e s t a c (lines b has) (standing.so_far b has) standing.sound each (ap (λ x. x.held) is) (ap (λ x. x.lost) is)
+        (ap (λ x. x.cleared) is) times;
     causes = record {
       read = λ h. absurd (cc);
       write = λ h. absurd (cc);

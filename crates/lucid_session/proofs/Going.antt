@@ -23,7 +23,8 @@ same_contents : {A : Type 0} (o : Option A) (x y : A) → o ≡ Some x → o ≡
 same_contents o x y e f = same_Some _ _ (sym e ∙ f)
 
 -- A run begins with an engine that holds nothing and knows the empty context alone: no point was demanded.
-pub begins : (z : Start) (D : Elements → (time space : ℕ) → Type 0) (e : EngineView) → e ≡ of_run z e → IsSound e → AreAskable e.streams z.before → places_of e.streams ≡ z.places → e.known ≡ root ∷ [] → e.stored ≡ empty_warehouse
+pub begins : (z : Start) (D : Elements → (time space : ℕ) → Type 0) (e : EngineView) → e ≡ of_run z e → IsSound e → AreAskable e.streams z.before
+    → places_of e.streams ≡ z.places → e.known ≡ root ∷ [] → e.stored ≡ empty_warehouse
     → ((b : Elements) (t s : ℕ) → D b t s → ⊥) → Standing z D e z.before 0
 begins z D e is sound askable places known stored never = record {
   is = is;
@@ -37,7 +38,8 @@ begins z D e is sound askable places known stored never = record {
   so_far = λ b has. record {
     visited = record {
       drawn = at_once z.policy.empties (λ d. (k : ℕ) → k < length z.table.inputs → Draws z b (D b) z.before k d)
-          (λ d k lt n q is old new before after. inl (omega (arith, ap (λ c. length c.consumed) (same_contents (z.before.place q).contents new old after before))));
+          (λ d k lt n q is old new before after. inl (omega
+          (arith, ap (λ c. length c.consumed) (same_contents (z.before.place q).contents new old after before))));
       known = at_once z.policy.empties (λ d. (c : Context) → In c e.known → (c ≡ root) ⊎ IsEntered z b (D b) d c)
           (λ d c i. elim (subst (λ cs. In c cs) known i) [ inl same ↦ inl same | inr j ↦ absurd j ]);
       clearings = λ lt. absurd (omega (arith, lt));
@@ -66,10 +68,13 @@ module _ (z : Start) (b : Elements) (D E : (time space : ℕ) → Type 0) (forth
   visited_too : (e : EngineView) (w : World) (c : ℕ) → Visited z b D e w c → Visited z b E e w c
   visited_too e w c v = record {
     drawn = so z.policy.empties (λ d. (k : ℕ) → k < length z.table.inputs → Draws z b D w k d) (λ d. (k : ℕ) → k < length z.table.inputs → Draws z b E w k d)
-        (λ d h k lt n q is old new first last. elim (h k lt n q is old new first last) [ inl le ↦ inl le | inr r ↦ inr (r.0, (r.1.0, r.1.1, forth r.1.0 r.1.1 r.1.2, r.1.3), r.2) ]) v.drawn;
-    known = so z.policy.empties (λ d. (x : Context) → In x e.known → (x ≡ root) ⊎ IsEntered z b D d x) (λ d. (x : Context) → In x e.known → (x ≡ root) ⊎ IsEntered z b E d x)
+        (λ d h k lt n q is old new first last. elim (h k lt n q is old new first last)
+        [ inl le ↦ inl le | inr r ↦ inr (r.0, (r.1.0, r.1.1, forth r.1.0 r.1.1 r.1.2, r.1.3), r.2) ]) v.drawn;
+    known = so z.policy.empties (λ d. (x : Context) → In x e.known → (x ≡ root) ⊎ IsEntered z b D d x)
+        (λ d. (x : Context) → In x e.known → (x ≡ root) ⊎ IsEntered z b E d x)
         (λ d h x i. elim (h x i) [ inl same ↦ inl same | inr r ↦ inr (r.0, r.1, forth r.0 r.1 r.2, r.3) ]) v.known;
-    clearings = λ lt. so z.policy.empties (MuchEntered z b D) (MuchEntered z b E) (λ d h points has. h points (λ t s i. has t s (forth t s i))) (v.clearings lt);
+    clearings = λ lt. so z.policy.empties (MuchEntered z b D) (MuchEntered z b E) (λ d h points has. h points (λ t s i. has t s (forth t s i)))
+        (v.clearings lt);
   }
 
   -- and exactly what is needed is held, where they are the same points
@@ -115,7 +120,8 @@ of_run_on z e f is on = λ i. record {
   room = (on.room ∙ ap (λ x. x.room) is) i;
 }
 
-module _ (z : Start) (D : Elements → (time space : ℕ) → Type 0) (e f : EngineView) (w v : World) (t s c : ℕ) (result : Result Value DemandFault) (standing : Standing z D e w c) where
+module _ (z : Start) (D : Elements → (time space : ℕ) → Type 0) (e f : EngineView) (w v : World) (t s c : ℕ) (result : Result Value DemandFault)
+    (standing : Standing z D e w c) where
   module _ (is_now : f ≡ of_run z f) (d : Demanded (of_run z e) (of_run z f) w v t s z.depth result) where
     places_now : places_of f.streams ≡ z.places
     places_now = d.goes_on.places ∙ standing.places
@@ -123,12 +129,14 @@ module _ (z : Start) (D : Elements → (time space : ℕ) → Type 0) (e f : Eng
     reads_now : ReadsOnly z.places z.before v
     reads_now = reads_only_then z.places z.before w v standing.reads_only (subst (λ ps. ReadsOnly ps w v) standing.places d.reads_only)
 
-    held_then : (r : Result Value DemandFault) → (b : Elements) → (IsTrue z.policy.keeps → f.stored.lost ≡ 0 → IfOk r (λ x. HoldsNeeded (of_run z e) (of_run z f) b t s)) → Holds z b (D b) e c
+    held_then : (r : Result Value DemandFault) → (b : Elements)
+        → (IsTrue z.policy.keeps → f.stored.lost ≡ 0 → IfOk r (λ x. HoldsNeeded (of_run z e) (of_run z f) b t s)) → Holds z b (D b) e c
         → IfOk r (λ x. Holds z b (with_point (D b) t s) f c)
     held_then (Ok x) b more was = holds_more z b (D b) e f t s c d.goes_on.lost more was
     held_then (Err x) b more was = tt
 
-    for_one : (r : Result Value DemandFault) (P : Elements → Value → Type 0) (b : Elements) → MayHave (of_run z f) b → IfOk r (λ x. (b : Elements) → MayHave (of_run z f) b → P b x) → IfOk r (P b)
+    for_one : (r : Result Value DemandFault) (P : Elements → Value → Type 0) (b : Elements) → MayHave (of_run z f) b
+        → IfOk r (λ x. (b : Elements) → MayHave (of_run z f) b → P b x) → IfOk r (P b)
     for_one (Ok x) P b may h = h b may
     for_one (Err x) P b may h = tt
 
@@ -147,16 +155,19 @@ module _ (z : Start) (D : Elements → (time space : ℕ) → Type 0) (e f : Eng
     found_now : (b : Elements) → Has z b → Found z b (D b) f v c t s result
     found_now b has = record {
       visited = record {
-        drawn = drawn_more z b (D b) w v standing.reads_only reads_now e f t s standing.askable d.fits standing.places places_now (d.drawn b may) far.visited.drawn;
+        drawn = drawn_more z b (D b) w v standing.reads_only reads_now e f t s standing.askable d.fits standing.places places_now (d.drawn b may)
+            far.visited.drawn;
         known = known_more z b (D b) e f t s (d.visited b may) far.visited.known;
-        clearings = λ lt. so z.policy.empties (MuchEntered z b (D b)) (MuchEntered z b (with_point (D b) t s)) (λ n h points all. h points (λ u r i. all u r (inl i))) (far.visited.clearings lt);
+        clearings = λ lt. so z.policy.empties (MuchEntered z b (D b)) (MuchEntered z b (with_point (D b) t s))
+            (λ n h points all. h points (λ u r i. all u r (inl i))) (far.visited.clearings lt);
       };
       holds = held_then result b (λ keeps none. for_one result (λ c x. HoldsNeeded (of_run z e) (of_run z f) c t s) b may (d.needed keeps none)) far.holds;
       value = for_one result (λ c x. StreamMeans (table_stream_at z.table s) c t (plain x)) b may d.value;
       exact = λ empties. for_one result (λ c x. eqval (equations_of z.table) c z.depth t s ≡ Some (plain x)) b may (d.exact empties);
       deep = λ x. d.deep x b may;
       kept = λ keeps x none again points exactly m defined held all.
-          same_held_value z b (D b) (holding e) right (far.holds keeps (omega (arith, d.goes_on.lost, none)) again) points exactly m defined held all z.depth t s ∙ d.kept keeps x b may;
+          same_held_value z b (D b) (holding e) right (far.holds keeps (omega (arith, d.goes_on.lost, none)) again) points exactly m defined held all z.depth t
+          s ∙ d.kept keeps x b may;
       too_large = large result b may d.too_large;
     }
       where
@@ -167,7 +178,8 @@ module _ (z : Start) (D : Elements → (time space : ℕ) → Type 0) (e f : Eng
         far = standing.so_far b has
 
         right : HoldsRight (equations_of z.table) b (holding e)
-        right = right_over (equations_of z.table) (known_elements (of_run z e)) b (λ n j x h. may n j x (d.goes_on.elements n j x h)) (holding e) (subst IsSound standing.is standing.sound).right
+        right = right_over (equations_of z.table) (known_elements (of_run z e)) b (λ n j x h. may n j x (d.goes_on.elements n j x h)) (holding e)
+            (subst IsSound standing.is standing.sound).right
 
     asked_now : Asked z D f v c t s result
     asked_now = record {

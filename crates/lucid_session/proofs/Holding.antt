@@ -20,14 +20,16 @@ abbrev datons_of : List Context → List (Key × Entry) → List DatonAt
 datons_of known es = map (λ (e : Key × Entry). plain_key known e.0) es
 
 -- keys with known tags are equal where their datons are
-keys_alike : (known : List Context) → IsOneForOne known → (k q : Key) → IsKnown known k.tag → IsKnown known q.tag → plain_key known k ≡ plain_key known q → k ≡ q
+keys_alike : (known : List Context) → IsOneForOne known → (k q : Key) → IsKnown known k.tag → IsKnown known q.tag → plain_key known k ≡ plain_key known q
+    → k ≡ q
 keys_alike known one k q h j e =
     let tags = (one.tags k.tag q.tag h j).1 (ap (λ z. z.0.context) e, ap (λ z. z.1) e) in
     λ i. record { name = ap (λ z. z.0.name) e i; tag = tags i; time = ap (λ z. z.0.time) e i }
 
 is_found : (es : List (Key × Entry)) (x : Key × Entry) → In x es → IsSome (lookup (same_key x.0) es)
 is_found [] x i = absurd i
-is_found (e ∷ es) x (inl h) = ap (λ t. is_some (cond t (Some e.1) (lookup (same_key x.0) es))) (ap (λ k. same_key k e.0) (ap (λ z. z.0) h) ∙ same_key_equiv.refl e.0)
+is_found (e ∷ es) x (inl h) = ap (λ t. is_some (cond t (Some e.1) (lookup (same_key x.0) es)))
+    (ap (λ k. same_key k e.0) (ap (λ z. z.0) h) ∙ same_key_equiv.refl e.0)
 is_found (e ∷ es) x (inr i) = some_still (same_key x.0 e.0) e.1 (lookup (same_key x.0) es) (is_found es x i)
 
 -- a key that is found is an entry's
@@ -35,7 +37,8 @@ found_is : (es : List (Key × Entry)) (k : Key) → IsSome (lookup (same_key k) 
 found_is [] k h = absurd (true≢false (sym h))
 found_is (e ∷ es) k h = by (found_is es k) (same_key k e.0) refl h
   where
-    by : (IsSome (lookup (same_key k) es) → (x : Key × Entry) × In x es × (k ≡ x.0)) → (t : Bool) → same_key k e.0 ≡ t → IsSome (cond t (Some e.1) (lookup (same_key k) es))
+    by : (IsSome (lookup (same_key k) es) → (x : Key × Entry) × In x es × (k ≡ x.0)) → (t : Bool) → same_key k e.0 ≡ t
+        → IsSome (cond t (Some e.1) (lookup (same_key k) es))
         → (x : Key × Entry) × In x (e ∷ es) × (k ≡ x.0)
     by more true same i = (e, inl refl, (same_key_is_equality k e.0).0 same)
     by more false other i = let r = more i in (r.0, inr r.1, r.2)
@@ -47,13 +50,15 @@ other_key k (e ∷ es) all x (inl h) = ap (λ q. same_key k q) (ap (λ z. z.0) h
 other_key k (e ∷ es) all x (inr i) = other_key k es all.1 x i
 
 module _ (known : List Context) (one : IsOneForOne known) where
-  datons_differ : (es : List (Key × Entry)) → ((x : Key × Entry) → In x es → IsKnown known x.0.tag) → IsDistinct same_key (keys_of es) → AllDiffer (datons_of known es)
+  datons_differ : (es : List (Key × Entry)) → ((x : Key × Entry) → In x es → IsKnown known x.0.tag) → IsDistinct same_key (keys_of es)
+      → AllDiffer (datons_of known es)
   datons_differ [] all distinct = tt
   datons_differ (e ∷ es) all distinct = (
     λ i.
         let r = from_map (λ (x : Key × Entry). plain_key known x.0) (plain_key known e.0) es i in
         let same : e.0 ≡ r.item.0 = keys_alike known one e.0 r.item.0 (all e (inl refl)) (all r.item (inr r.among)) r.is in
-        absurd (true≢false (sym ((same_key_is_equality e.0 r.item.0).1 same) ∙ other_key e.0 es (IsDistinct-head same_key e.0 (keys_of es) distinct) r.item r.among)),
+        absurd (true≢false (sym ((same_key_is_equality e.0 r.item.0).1 same)
+        ∙ other_key e.0 es (IsDistinct-head same_key e.0 (keys_of es) distinct) r.item r.among)),
     datons_differ es (λ x i. all x (inr i)) (IsDistinct-tail same_key e.0 (keys_of es) distinct),
   )
 
@@ -78,7 +83,8 @@ module _ (known : List Context) (one : IsOneForOne known) where
     held_is_listed x v e =
         let r = key_of_held known w x.0 x.1 v one keys e in
         let q = found_is w.entries r.key (is_there (entry_at w r.key) v r.value) in
-        subst (λ y. In y (datons_of known w.entries)) (ap (plain_key known) (sym q.2) ∙ r.is) (in_map (λ (e : Key × Entry). plain_key known e.0) q.0 w.entries q.1)
+        subst (λ y. In y (datons_of known w.entries)) (ap (plain_key known) (sym q.2) ∙ r.is)
+        (in_map (λ (e : Key × Entry). plain_key known e.0) q.0 w.entries q.1)
 
     pub held_once : IsOneForEach w → AllDiffer (datons_of known w.entries)
     held_once distinct = datons_differ w.entries (λ x i. keys x.0 (is_found w.entries x i)) distinct
@@ -93,8 +99,10 @@ module _ (z : Start) (b : Elements) (D : (time space : ℕ) → Type 0) where
   held_count e c sound each holds keeps none again points exactly m defined = record {
     items = datons_of e.known e.stored.entries;
     once = held_once e.known sound.contexts e.stored sound.keys each;
-    inside = λ x i. let v = listed_is_held e.known sound.contexts e.stored sound.keys x i in visited x ((holds keeps none again x.0 x.1).0 (some_is (holding e x.0 x.1) v.0 v.1));
-    outside = λ x i. let v = some_value (holding e x.0 x.1) ((holds keeps none again x.0 x.1).1 (needed x i)) in held_is_listed e.known sound.contexts e.stored sound.keys x v.0 v.1;
+    inside = λ x i. let v = listed_is_held e.known sound.contexts e.stored sound.keys x i in
+        visited x ((holds keeps none again x.0 x.1).0 (some_is (holding e x.0 x.1) v.0 v.1));
+    outside = λ x i. let v = some_value (holding e x.0 x.1) ((holds keeps none again x.0 x.1).1 (needed x i)) in
+        held_is_listed e.known sound.contexts e.stored sound.keys x v.0 v.1;
     size = length-map e.stored.entries (λ (x : Key × Entry). plain_key e.known x.0);
   }
     where
@@ -134,4 +142,5 @@ module _ (z : Start) (b : Elements) (D : (time space : ℕ) → Type 0) where
       either : (n : IsNeededSoFar z b (with_point D t i) (k, s)) → IsSome (holding old k s) ↔ IsNeededSoFar z b D (k, s) → with_point D t i n.0 n.1
           → IsSome (holding old k s) ⊎ IsNeeded (equations_of z.table) b (equations_of z.table).root root t i (k, s)
       either n then (inl was) = inl (then.1 (n.0, n.1, was, n.3))
-      either n then (inr at) = inr (subst (λ (p : ℕ × ℕ). IsNeeded (equations_of z.table) b (equations_of z.table).root root p.0 p.1 (k, s)) (λ j. (at.0 j, at.1 j)) n.3)
+      either n then (inr at) = inr (subst (λ (p : ℕ × ℕ). IsNeeded (equations_of z.table) b (equations_of z.table).root root p.0 p.1 (k, s))
+          (λ j. (at.0 j, at.1 j)) n.3)

@@ -30,11 +30,14 @@ module _ (z : Start) (b : Elements) (D : (time space : ℕ) → Type 0) where
   abbrev IsFrom : List Context → (time space : ℕ) → Context → ℕ → Type 0
   IsFrom known t s c d = In c known ⊎ In c (visited_contexts (equations_of z.table) b z.depth d t s)
 
-  from : (e : EngineView) (t s : ℕ) (c : Context) → In c e.known ⊎ facts.ForSomeAdded (of_run z e) (λ d. In c (visited_contexts (equations_of z.table) b z.depth d t s)) → Added z.policy.empties (IsFrom e.known t s c)
+  from : (e : EngineView) (t s : ℕ) (c : Context)
+      → In c e.known ⊎ facts.ForSomeAdded (of_run z e) (λ d. In c (visited_contexts (equations_of z.table) b z.depth d t s))
+      → Added z.policy.empties (IsFrom e.known t s c)
   from e t s c (inl i) = at_once z.policy.empties (IsFrom e.known t s c) (λ d. inl i)
   from e t s c (inr q) = record { added = q.added; none = q.none; holds = λ d le. inr (q.holds d le) }
 
-  entered_by : (known : List Context) (t s d : ℕ) (c : Context) → AllEntered D known d → IsFrom known t s c d → (c ≡ root) ⊎ IsEntered z b (with_point D t s) d c
+  entered_by : (known : List Context) (t s d : ℕ) (c : Context) → AllEntered D known d → IsFrom known t s c d
+      → (c ≡ root) ⊎ IsEntered z b (with_point D t s) d c
   entered_by known t s d c all (inl i) = elim (all c i) [ inl e ↦ inl e | inr j ↦ inr (j.0, j.1, inl j.2, j.3) ]
   entered_by known t s d c all (inr i) = inr (t, s, inr (refl, refl), i)
 
@@ -42,18 +45,24 @@ module _ (z : Start) (b : Elements) (D : (time space : ℕ) → Type 0) where
   pub known_more : (old new : EngineView) (t s : ℕ) → VisitsNew (of_run z old) (of_run z new) b z.depth t s → Added z.policy.empties (AllEntered D old.known)
       → Added z.policy.empties (AllEntered (with_point D t s) new.known)
   known_more old new t s visits was =
-      so z.policy.empties (λ d. AllEntered D old.known d × ((c : Context) → In c new.known → IsFrom old.known t s c d)) (AllEntered (with_point D t s) new.known)
+      so z.policy.empties (λ d. AllEntered D old.known d × ((c : Context) → In c new.known → IsFrom old.known t s c d))
+      (AllEntered (with_point D t s) new.known)
       (λ d h c i. entered_by old.known t s d c h.0 (h.1 c i))
       (both z.policy.empties (AllEntered D old.known) (λ d. (c : Context) → In c new.known → IsFrom old.known t s c d) was
       (of_items z.policy.empties (IsFrom old.known t s) new.known (λ c i. from old t s c (visits.known c i))))
 
   -- Where more than a million contexts are known, more than 999,999 were entered.
-  pub much_entered : (known : List Context) → IsOneForOne known → most_known < length known → Added z.policy.empties (AllEntered D known) → Added z.policy.empties (MuchEntered z b D)
+  pub much_entered : (known : List Context) → IsOneForOne known → most_known < length known → Added z.policy.empties (AllEntered D known)
+      → Added z.policy.empties (MuchEntered z b D)
   much_entered known one much = so z.policy.empties (AllEntered D known) (MuchEntered z b D) (λ d all points has n h.
       omega (
         arith,
         much,
         h.size,
         fewer known (root ∷ h.items) (all_differ known one.places) (λ c i.
-            elim (all c i) [ inl e ↦ inl e | inr j ↦ inr (h.outside c (in_flat (λ (x : ℕ × ℕ). visited_contexts (equations_of z.table) b z.depth d x.0 x.1) c (j.0, j.1) points (has j.0 j.1 j.2) j.3)) ]),
+            elim (all c i) [
+              | inl e ↦ inl e
+              | inr j ↦ inr
+                  (h.outside c (in_flat (λ (x : ℕ × ℕ). visited_contexts (equations_of z.table) b z.depth d x.0 x.1) c (j.0, j.1) points (has j.0 j.1 j.2) j.3))
+            ]),
       ))

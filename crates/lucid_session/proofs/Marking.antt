@@ -28,7 +28,8 @@ module _ (z : Start) (b : Elements) (t s : ℕ) where
     where
       at_time : u ≡ t → (r < s) ⊎ (s ≤ r) → r < s + 1 → Demands (layout z) b u r → before z t s b u r
       at_time at (inl lower) lt d = (inr (at, lower), d)
-      at_time at (inr le) lt d = let same : r ≡ s = omega (arith, le, lt) in absurd (never (subst (λ (p : ℕ × ℕ). Demands (layout z) b p.0 p.1) (λ i. (at i, same i)) d))
+      at_time at (inr le) lt d = let same : r ≡ s = omega (arith, le, lt) in
+          absurd (never (subst (λ (p : ℕ × ℕ). Demands (layout z) b p.0 p.1) (λ i. (at i, same i)) d))
 
       back : (u < t) ⊎ ((u ≡ t) × (r < s + 1)) → Demands (layout z) b u r → before z t s b u r
       back (inl lt) d = (inl lt, d)
@@ -48,10 +49,13 @@ all_more z b t u r = (λ i. (elim i.0 [ inl lt ↦ inl (omega (arith, lt)) | inr
 
 module _ (z : Start) (e : EngineView) (w : World) (t c : ℕ) where
   -- the run stands at the next space,
-  pub next_space : (s : ℕ) → ((b : Elements) → Has z b → Demands (layout z) b t s) → Standing z (λ b. with_point (before z t s b) t s) e w c → Standing z (before z t (s + 1)) e w c
-  next_space s there standing = stands_same z (λ b. with_point (before z t s b) t s) (before z t (s + 1)) e w c (λ b has. one_more z b t s (there b has)) standing
+  pub next_space : (s : ℕ) → ((b : Elements) → Has z b → Demands (layout z) b t s) → Standing z (λ b. with_point (before z t s b) t s) e w c
+      → Standing z (before z t (s + 1)) e w c
+  next_space s there standing = stands_same z (λ b. with_point (before z t s b) t s) (before z t (s + 1)) e w c (λ b has. one_more z b t s (there b has))
+      standing
 
-  pub skipped_space : (s : ℕ) → ((b : Elements) → Has z b → Demands (layout z) b t s → ⊥) → Standing z (before z t s) e w c → Standing z (before z t (s + 1)) e w c
+  pub skipped_space : (s : ℕ) → ((b : Elements) → Has z b → Demands (layout z) b t s → ⊥) → Standing z (before z t s) e w c
+      → Standing z (before z t (s + 1)) e w c
   skipped_space s never standing = stands_same z (before z t s) (before z t (s + 1)) e w c (λ b has. none_more z b t s (never b has)) standing
 
   -- or at the next time
@@ -61,7 +65,8 @@ module _ (z : Start) (e : EngineView) (w : World) (t c : ℕ) where
 
 -- one of the columns below a space goes on; or all have ended
 abbrev SomeGoOn : (z : Start) → Elements → (time space : ℕ) → Bool → Type 0
-SomeGoOn z b t s goes_on = MatchBool goes_on ((j : ℕ) × (j < s) × (HasEnded (table_stream_at z.table j) b t → ⊥)) ((j : ℕ) → j < s → HasEnded (table_stream_at z.table j) b t)
+SomeGoOn z b t s goes_on = MatchBool goes_on ((j : ℕ) × (j < s) × (HasEnded (table_stream_at z.table j) b t → ⊥))
+    ((j : ℕ) → j < s → HasEnded (table_stream_at z.table j) b t)
 
 -- that at the space does
 abbrev SomeStays : (z : Start) → Elements → (time space : ℕ) → Bool → Type 0
@@ -81,7 +86,8 @@ length-cells (x ∷ xs) b t [] are = absurd are
 length-cells (x ∷ xs) b t (cell ∷ cells) are = ap suc (length-cells xs b t cells are.1)
 
 -- one cell more
-cells_more : (xs : List OneStream) (x : OneStream) (b : Elements) (t : ℕ) (cells : List (List ℕ)) (cell : List ℕ) → AreCells xs b t cells → IsCell x b t cell → AreCells (xs ++ x ∷ []) b t (cells ++ cell ∷ [])
+cells_more : (xs : List OneStream) (x : OneStream) (b : Elements) (t : ℕ) (cells : List (List ℕ)) (cell : List ℕ) → AreCells xs b t cells → IsCell x b t cell
+    → AreCells (xs ++ x ∷ []) b t (cells ++ cell ∷ [])
 cells_more [] x b t [] cell are is = (is, refl)
 cells_more [] x b t (other ∷ cells) cell are is = absurd (cc are)
 cells_more (y ∷ xs) x b t [] cell are is = absurd are
@@ -91,16 +97,20 @@ some_before : (n : ℕ) → 0 < n → nat_lt 0 n ≡ true
 some_before n lt = grind arith
 
 -- is parted from those before
-parted_more : (cells : List (List ℕ)) (cell line : List ℕ) (n : ℕ) → length cells ≡ n → line ≡ parted cells → parted (cells ++ cell ∷ []) ≡ (if nat_lt 0 n then line ++ 9 ∷ [] else line) ++ cell
+parted_more : (cells : List (List ℕ)) (cell line : List ℕ) (n : ℕ) → length cells ≡ n → line ≡ parted cells
+    → parted (cells ++ cell ∷ []) ≡ (if nat_lt 0 n then line ++ 9 ∷ [] else line) ++ cell
 parted_more [] cell line n size joined =
     append-nil cell ∙ ap (λ front. front ++ cell) (sym joined) ∙ ap (λ k. (if nat_lt 0 k then line ++ 9 ∷ [] else line) ++ cell) size
 parted_more (first ∷ cells) cell line n size joined =
-    ap (λ more. first ++ more) (flat_map-append (λ next. 9 ∷ next) cells (cell ∷ []) ∙ ap (λ more. flat_map (λ next. 9 ∷ next) cells ++ more) (append-nil (9 ∷ cell)))
+    ap (λ more. first ++ more) (flat_map-append (λ next. 9 ∷ next) cells (cell ∷ [])
+    ∙ ap (λ more. flat_map (λ next. 9 ∷ next) cells ++ more) (append-nil (9 ∷ cell)))
     ∙ sym (append_assoc first (flat_map (λ next. 9 ∷ next) cells) (9 ∷ cell)) ∙ sym (append_assoc (first ++ flat_map (λ next. 9 ∷ next) cells) (9 ∷ []) cell)
-    ∙ ap (λ front. (front ++ 9 ∷ []) ++ cell) (sym joined) ∙ ap (λ begun. (if begun then line ++ 9 ∷ [] else line) ++ cell) (sym (some_before n (omega (arith, size))))
+    ∙ ap (λ front. (front ++ 9 ∷ []) ++ cell) (sym joined)
+    ∙ ap (λ begun. (if begun then line ++ 9 ∷ [] else line) ++ cell) (sym (some_before n (omega (arith, size))))
 
 -- what stands in a list of which one item was set
-get_set : {A : Type 0} (xs : List A) (i j : ℕ) (x y : A) → slice_get (slice_set xs i x) j ≡ Some y → ((j ≡ i) × (y ≡ x)) ⊎ ((j ≡ i → ⊥) × (slice_get xs j ≡ Some y))
+get_set : {A : Type 0} (xs : List A) (i j : ℕ) (x y : A) → slice_get (slice_set xs i x) j ≡ Some y
+    → ((j ≡ i) × (y ≡ x)) ⊎ ((j ≡ i → ⊥) × (slice_get xs j ≡ Some y))
 get_set [] i j x y e = inr ((λ same. cc e), e)
 get_set (a ∷ xs) zero zero x y e = inl (refl, sym (same_Some _ _ e))
 get_set (a ∷ xs) zero (suc j) x y e = inr ((λ same. absurd (omega (arith, same))), e)
@@ -133,12 +143,14 @@ module _ (z : Start) (b : Elements) (t s : ℕ) (marks : List Bool) (is : slice_
   has_ended = (ended_before.0, omega (arith, ended_before.1), ended_before.2)
 
   -- and its cell has no bytes
-  pub cells_over : (line more : List ℕ) (goes_on : Bool) → HasCells z b t s line goes_on → more ≡ (if nat_lt 0 s then line ++ 9 ∷ [] else line) → HasCells z b t (s + 1) more goes_on
+  pub cells_over : (line more : List ℕ) (goes_on : Bool) → HasCells z b t s line goes_on → more ≡ (if nat_lt 0 s then line ++ 9 ∷ [] else line)
+      → HasCells z b t (s + 1) more goes_on
   cells_over line more goes_on has is_more = record {
     cells = has.cells ++ [] ∷ [];
     are = subst (λ xs. AreCells xs b t (has.cells ++ [] ∷ [])) (sym (columns_more z.table s) ∙ ap (table_columns z.table) (sym (add-one s)))
         (cells_more (table_columns z.table s) (table_stream_at z.table s) b t has.cells [] has.are (inl (has_ended, refl)));
-    joined = is_more ∙ sym (append-nil (if nat_lt 0 s then line ++ 9 ∷ [] else line)) ∙ sym (parted_more has.cells [] line s (length-cells (table_columns z.table s) b t has.cells has.are ∙ length-columns z.table s) has.joined);
+    joined = is_more ∙ sym (append-nil (if nat_lt 0 s then line ++ 9 ∷ [] else line))
+        ∙ sym (parted_more has.cells [] line s (length-cells (table_columns z.table s) b t has.cells has.are ∙ length-columns z.table s) has.joined);
     some = some_over goes_on has.some;
     exact = λ empties j lt opened. elim (below_or_last j s lt) [
       | inl lower ↦ has.exact empties j lower opened
@@ -148,10 +160,12 @@ module _ (z : Start) (b : Elements) (t s : ℕ) (marks : List Bool) (is : slice_
     where
       some_over : (goes_on : Bool) → SomeGoOn z b t s goes_on → SomeGoOn z b t (s + 1) goes_on
       some_over true going = (going.0, omega (arith, going.1), going.2)
-      some_over false all = λ j lt. elim (below_or_last j s lt) [ inl lower ↦ all j lower | inr same ↦ subst (λ k. HasEnded (table_stream_at z.table k) b t) (sym same) has_ended ]
+      some_over false all = λ j lt. elim (below_or_last j s lt)
+          [ inl lower ↦ all j lower | inr same ↦ subst (λ k. HasEnded (table_stream_at z.table k) b t) (sym same) has_ended ]
 
 -- An open column gives its cell.
-module _ (z : Start) (b : Elements) (has_elements : Has z b) (t s : ℕ) (marks : List Bool) (is : slice_get marks s ≡ Some true) (marked : AreMarked z b t s marks) where
+module _ (z : Start) (b : Elements) (has_elements : Has z b) (t s : ℕ) (marks : List Bool) (is : slice_get marks s ≡ Some true)
+    (marked : AreMarked z b t s marks) where
   open_before : IsOpen (table_stream_at z.table s) b t
   open_before = marked.left s true is (omega arith)
 
@@ -169,14 +183,17 @@ module _ (z : Start) (b : Elements) (has_elements : Has z b) (t s : ℕ) (marks 
       | inl lower ↦ open_before u lower means
       | inr le ↦
           let at : u ≡ t = omega (arith, le, lt) in
-          g.adds.0 (sym (node-meant_once (equations_of z.table) b (equations_of z.table).root root t s eod g.value (subst (λ q. StreamMeans (table_stream_at z.table s) b q eod) at means) (g.means b has_elements)))
+          g.adds.0
+          (sym (node-meant_once (equations_of z.table) b (equations_of z.table).root root t s eod g.value
+          (subst (λ q. StreamMeans (table_stream_at z.table s) b q eod) at means) (g.means b has_elements)))
     ]
     mark_now false g = (t, omega arith, subst (λ v. StreamMeans (table_stream_at z.table s) b t v) g.adds.0 (g.means b has_elements))
 
     pub marked_now : AreMarked z b t (s + 1) (slice_set marks s stays)
     marked_now = record {
       done = λ j mark e lt. elim (get_set marks s j stays mark e) [
-        | inl h ↦ subst (λ k. IsMarked (table_stream_at z.table k) b (suc t) mark) (sym h.0) (subst (IsMarked (table_stream_at z.table s) b (suc t)) (sym h.1) (mark_now stays gives))
+        | inl h ↦ subst (λ k. IsMarked (table_stream_at z.table k) b (suc t) mark) (sym h.0)
+            (subst (IsMarked (table_stream_at z.table s) b (suc t)) (sym h.1) (mark_now stays gives))
         | inr h ↦ elim (below_or_last j s lt) [ inl lower ↦ marked.done j mark h.1 lower | inr same ↦ absurd (h.0 same) ]
       ];
       left = λ j mark e le. elim (get_set marks s j stays mark e) [
@@ -193,17 +210,20 @@ module _ (z : Start) (b : Elements) (has_elements : Has z b) (t s : ℕ) (marks 
     cell_of true = value_text gives.value
     cell_of false = []
 
-    is_cell : (stays : Bool) → GivesCell z t s stays parted_line more → (cell : List ℕ) × IsCell (table_stream_at z.table s) b t cell × (more ≡ parted_line ++ cell)
+    is_cell : (stays : Bool) → GivesCell z t s stays parted_line more
+        → (cell : List ℕ) × IsCell (table_stream_at z.table s) b t cell × (more ≡ parted_line ++ cell)
     is_cell true g = (value_text g.value, inr (ended_now true (mark_now true g), (g.value, g.means b has_elements, refl)), g.adds.1)
     is_cell false g = ([], inl (ended_now false (mark_now false g), refl), g.adds.1 ∙ sym (append-nil parted_line))
 
     -- and its text is added
-    pub cells_now : (goes_on : Bool) → HasCells z b t s line goes_on → parted_line ≡ (if nat_lt 0 s then line ++ 9 ∷ [] else line) → (now : Bool) → SomeNow goes_on stays now → HasCells z b t (s + 1) more now
+    pub cells_now : (goes_on : Bool) → HasCells z b t s line goes_on → parted_line ≡ (if nat_lt 0 s then line ++ 9 ∷ [] else line) → (now : Bool)
+        → SomeNow goes_on stays now → HasCells z b t (s + 1) more now
     cells_now goes_on has is_parted now how = record {
       cells = has.cells ++ cell.0 ∷ [];
       are = subst (λ xs. AreCells xs b t (has.cells ++ cell.0 ∷ [])) (sym (columns_more z.table s) ∙ ap (table_columns z.table) (sym (add-one s)))
           (cells_more (table_columns z.table s) (table_stream_at z.table s) b t has.cells cell.0 has.are cell.1);
-      joined = cell.2 ∙ ap (λ front. front ++ cell.0) is_parted ∙ sym (parted_more has.cells cell.0 line s (length-cells (table_columns z.table s) b t has.cells has.are ∙ length-columns z.table s) has.joined);
+      joined = cell.2 ∙ ap (λ front. front ++ cell.0) is_parted
+          ∙ sym (parted_more has.cells cell.0 line s (length-cells (table_columns z.table s) b t has.cells has.are ∙ length-columns z.table s) has.joined);
       some = some_now goes_on stays now how has.some (ended_now stays (mark_now stays gives));
       exact = λ empties j lt opened. elim (below_or_last j s lt) [
         | inl lower ↦ has.exact empties j lower opened
@@ -237,5 +257,6 @@ no_cells z b t = record {
 pub marked_then : (z : Start) (b : Elements) (t s : ℕ) (marks : List Bool) → s ≡ length marks → AreMarked z b t s marks → AreMarked z b (t + 1) 0 marks
 marked_then z b t s marks all marked = record {
   done = λ j mark e lt. absurd (omega (arith, lt));
-  left = λ j mark e le. subst (λ q. IsMarked (table_stream_at z.table j) b q mark) (sym (add-one t)) (marked.done j mark e (omega (arith, all, slice_get_within marks j mark e)));
+  left = λ j mark e le. subst (λ q. IsMarked (table_stream_at z.table j) b q mark) (sym (add-one t))
+      (marked.done j mark e (omega (arith, all, slice_get_within marks j mark e)));
 }

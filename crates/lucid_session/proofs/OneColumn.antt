@@ -18,7 +18,8 @@ module _ (x : OneStream) (b : Elements) where
   line_of : (t : ℕ) (bytes : List ℕ) → (columns_subject (x ∷ [])).line b t bytes → (stream_subject x).line b t bytes
   line_of t bytes l = by l.0 l.1 (the_one (λ y. HasEnded y b t → ⊥) l.2) l.3
     where
-      of_cell : (cell : List ℕ) (cells : List (List ℕ)) → IsCell x b t cell → cells ≡ [] → (HasEnded x b t → ⊥) → bytes ≡ parted (cell ∷ cells) ++ 10 ∷ [] → (stream_subject x).line b t bytes
+      of_cell : (cell : List ℕ) (cells : List (List ℕ)) → IsCell x b t cell → cells ≡ [] → (HasEnded x b t → ⊥) → bytes ≡ parted (cell ∷ cells) ++ 10 ∷ []
+          → (stream_subject x).line b t bytes
       of_cell cell cells (inl ended) none goes is = absurd (goes ended.0)
       of_cell cell cells (inr shown) none goes is = (
         shown.1.0,
@@ -55,7 +56,11 @@ module _ (x : OneStream) (b : Elements) where
       place = c.place;
       is = c.is;
       index = c.index;
-      consulted = record { added = c.consulted.added; none = c.consulted.none; holds = λ d le. consulted_of whole d (c.name, c.index) (c.consulted.holds d le) };
+      consulted = record {
+        added = c.consulted.added;
+        none = c.consulted.none;
+        holds = λ d le. consulted_of whole d (c.name, c.index) (c.consulted.holds d le);
+      };
       overlong = c.overlong;
     }
 
@@ -125,11 +130,13 @@ module _ (x : OneStream) (b : Elements) where
     if_ok (Ok s) P Q f h = f s h
     if_ok (Err e) P Q f h = tt
 
-    if_deep : (result : Result Summary RunFault) (P Q : ℕ → Type 0) → ((t : ℕ) → P t → Q t) → IfErr result (λ e. OnTooDeep e P) → IfErr result (λ e. OnTooDeep e Q)
+    if_deep : (result : Result Summary RunFault) (P Q : ℕ → Type 0) → ((t : ℕ) → P t → Q t) → IfErr result (λ e. OnTooDeep e P)
+        → IfErr result (λ e. OnTooDeep e Q)
     if_deep (Err (TooDeep time lost cleared)) P Q f h = f time h
     if_deep _ P Q f h = tt
 
-    if_large : (result : Result Summary RunFault) (P Q : ℕ → Type 0) → ((k : ℕ) → P k → Q k) → IfErr result (λ e. OnTooLarge e P) → IfErr result (λ e. OnTooLarge e Q)
+    if_large : (result : Result Summary RunFault) (P Q : ℕ → Type 0) → ((k : ℕ) → P k → Q k) → IfErr result (λ e. OnTooLarge e P)
+        → IfErr result (λ e. OnTooLarge e Q)
     if_large (Err (TooLarge number)) P Q f h = f number h
     if_large _ P Q f h = tt
 
@@ -139,13 +146,16 @@ module _ (x : OneStream) (b : Elements) where
       out = out_of result ran;
       cut_off = ran.cut_off;
       done = if_ok result (IsDone (columns_subject (x ∷ [])) b r ran.out) (IsDone (stream_subject x) b r (out_of result ran)) (done_of result ran) ran.done;
-      deep = if_deep result (IsTooDeep (columns_subject (x ∷ [])) b r ran.out) (IsTooDeep (stream_subject x) b r (out_of result ran)) (deep_of result ran) ran.deep;
-      exact = λ empties t shown. defined_of r.depth t (open_before ran.out.whole t (open_now result ran) (shown_of result ran t shown)) (ran.exact empties t shown);
+      deep = if_deep result (IsTooDeep (columns_subject (x ∷ [])) b r ran.out) (IsTooDeep (stream_subject x) b r (out_of result ran)) (deep_of result ran)
+          ran.deep;
+      exact = λ empties t shown. defined_of r.depth t (open_before ran.out.whole t (open_now result ran) (shown_of result ran t shown))
+          (ran.exact empties t shown);
       stops = λ early defined quiet. ran.stops early (of_defined r.depth ran.out.whole defined) (quiet_of ran.out.whole quiet);
       complete = λ deep quiet. ran.complete (enough_of result ran deep) (quiet_of ran.out.whole quiet);
       consumed = record { added = ran.consumed.added; none = ran.consumed.none; holds = λ d le. consumed_of result ran d (ran.consumed.holds d le) };
       within = ran.within;
-      too_large = if_large result (ConsultsOverlong (columns_subject (x ∷ [])) b r ran.out.whole) (ConsultsOverlong (stream_subject x) b r ran.out.whole) (overlong_of ran.out.whole) ran.too_large;
+      too_large = if_large result (ConsultsOverlong (columns_subject (x ∷ [])) b r ran.out.whole) (ConsultsOverlong (stream_subject x) b r ran.out.whole)
+          (overlong_of ran.out.whole) ran.too_large;
     }
 
   -- at the times through which the stream is open, its values are demanded at the same points
@@ -164,7 +174,8 @@ module _ (x : OneStream) (b : Elements) where
 
     before_one : (t s : ℕ) (points : Points) → t ≤ k → ArePointsBefore one_stream b t s points → ArePointsBefore (side_by_side (x ∷ [])) b t s points
     before_one t s points le exactly u r = (
-      (λ i. let p = (exactly u r).0 i in (p.0, demands_one u r (open_before k u opened (elim p.0 [ inl lt ↦ omega (arith, lt, le) | inr at ↦ omega (arith, at.0, le) ])) p.1)),
+      (λ i. let p = (exactly u r).0 i in
+          (p.0, demands_one u r (open_before k u opened (elim p.0 [ inl lt ↦ omega (arith, lt, le) | inr at ↦ omega (arith, at.0, le) ])) p.1)),
       (λ p. (exactly u r).1 (p.0, one_demands u r p.1)),
     )
 
@@ -177,14 +188,17 @@ module _ (T : Table) (b : Elements) (r : RunView) where
       by false is = omega (arith, e, ap (λ t. if t then suc s.lines else s.lines) is)
 
   -- And its figures are those of its stream.
-  pub figures_one : (result : Result Summary RunFault) → Ran (columns_subject (table_stream T ∷ [])) b r result → Figures (columns_counted T 1) b r result → Figures (table_counted T) b r result
+  pub figures_one : (result : Result Summary RunFault) → Ran (columns_subject (table_stream T ∷ [])) b r result → Figures (columns_counted T 1) b r result
+      → Figures (table_counted T) b r result
   figures_one (Ok s) ran f = record {
-    held = λ keeps lost cleared points exactly. f.held keeps lost cleared points (below_one (table_stream T) b ran.out.whole opened (times_of s) points (times_near s ran.out.whole ran.done.lines) exactly);
+    held = λ keeps lost cleared points exactly. f.held keeps lost cleared points
+        (below_one (table_stream T) b ran.out.whole opened (times_of s) points (times_near s ran.out.whole ran.done.lines) exactly);
     deep = λ keeps. tt;
     cleared = λ lt. let g = f.cleared lt in record {
       added = g.added;
       none = g.none;
-      holds = λ d le points exactly. g.holds d le points (below_one (table_stream T) b ran.out.whole opened (times_of s) points (times_near s ran.out.whole ran.done.lines) exactly);
+      holds = λ d le points exactly. g.holds d le points
+          (below_one (table_stream T) b ran.out.whole opened (times_of s) points (times_near s ran.out.whole ran.done.lines) exactly);
     };
   }
     where
@@ -200,7 +214,8 @@ module _ (T : Table) (b : Elements) (r : RunView) where
     cleared = λ lt. let g = f.cleared lt in record {
       added = g.added;
       none = g.none;
-      holds = λ d le points exactly. g.holds d le points (below_one (table_stream T) b ran.out.whole opened (suc time) points (omega (arith, ran.deep.lines)) exactly);
+      holds = λ d le points exactly. g.holds d le points
+          (below_one (table_stream T) b ran.out.whole opened (suc time) points (omega (arith, ran.deep.lines)) exactly);
     };
   }
     where

@@ -31,7 +31,8 @@ module _ (e f : EngineView) (c d : ℕ) (many : ClearsMany e f c d) where
       by (inr h) = subst (Standing z D f w) (sym (h.3 ∙ add-one c)) (cleared_standing z D e f w c standing h.0 h.1 h.2)
 
 -- The value of a column is demanded, by an engine that may have been cleared.
-module _ (z : Start) (e g f : EngineView) (w v : World) (t s u c d depth : ℕ) (many : ClearsMany e g c d) (deep : z.depth ≡ depth) (at : u ≡ t) (standing : Standing z (before z t s) e w c)
+module _ (z : Start) (e g f : EngineView) (w v : World) (t s u c d depth : ℕ) (many : ClearsMany e g c d) (deep : z.depth ≡ depth) (at : u ≡ t)
+    (standing : Standing z (before z t s) e w c)
     (there : (b : Elements) → Has z b → Demands (layout z) b t s) where
   asked_here : (r : Result Value DemandFault) → Demanded g f w v u s depth r → Asked z (before z t s) f v d t s r
   asked_here r done =
@@ -39,8 +40,10 @@ module _ (z : Start) (e g f : EngineView) (w v : World) (t s u c d depth : ℕ) 
       (subst (λ q. Demanded g f w v q s z.depth r) at (subst (λ m. Demanded g f w v u s m r) (sym deep) done))
 
   -- the demand is refused
-  pub refused_here : (q : DemandFault) → Demanded g f w v u s depth (Err q) → (lost : ℕ) → lost ≡ f.stored.lost → (x : RunFault) → x ≡ of_demand t lost d q → StopsAt z f v t d x
-  refused_here q done lost same x is = inl (record { space = s; fault = q; is = is ∙ ap (λ n. of_demand t n d q) same; asked = asked_here (Err q) done; demanded = there })
+  pub refused_here : (q : DemandFault) → Demanded g f w v u s depth (Err q) → (lost : ℕ) → lost ≡ f.stored.lost → (x : RunFault) → x ≡ of_demand t lost d q
+      → StopsAt z f v t d x
+  refused_here q done lost same x is = inl (record
+      { space = s; fault = q; is = is ∙ ap (λ n. of_demand t n d q) same; asked = asked_here (Err q) done; demanded = there })
 
   module _ (x : Value) (done : Demanded g f w v u s depth (Ok x)) where
     pub standing_here : Standing z (before z t (s + 1)) f v d
@@ -55,16 +58,23 @@ module _ (z : Start) (e g f : EngineView) (w v : World) (t s u c d depth : ℕ) 
 
     -- or a value, whose text is added
     pub shown_here : (plain x ≡ eod → ⊥) → (line more : List ℕ) → more ≡ line ++ value_text (plain x) → GivesCell z t s true line more
-    shown_here goes_on line more is = record { value = plain x; means = λ b has. ((asked_here (Ok x) done).found b has).value; exact = exact_here; adds = (goes_on, is) }
+    shown_here goes_on line more is = record {
+      value = plain x;
+      means = λ b has. ((asked_here (Ok x) done).found b has).value;
+      exact = exact_here;
+      adds = (goes_on, is);
+    }
 
     pub short_here : StopsAt z f v t d run.NoMemory
     short_here = inr (record { space = s + 1; is = refl; standing = standing_here })
 
 -- A run begins: at no point was anything demanded, no line is written, and all columns are open.
-module _ (z : Start) (e : EngineView) (is : e ≡ of_run z e) (sound : IsSound e) (askable : AreAskable e.streams z.before) (places : places_of e.streams ≡ z.places) (known : e.known ≡ root ∷ []) (stored : e.stored ≡ empty_warehouse) where
+module _ (z : Start) (e : EngineView) (is : e ≡ of_run z e) (sound : IsSound e) (askable : AreAskable e.streams z.before)
+    (places : places_of e.streams ≡ z.places) (known : e.known ≡ root ∷ []) (stored : e.stored ≡ empty_warehouse) where
   pub begins_there : Going z e z.before z.out_before 0 0
   begins_there = record {
-    standing = begins z (before z 0 0) e is sound askable places known stored (λ b t s i. elim i.0 [ inl lt ↦ absurd (omega (arith, lt)) | inr at ↦ absurd (omega (arith, at.1)) ]);
+    standing = begins z (before z 0 0) e is sound askable places known stored
+        (λ b t s i. elim i.0 [ inl lt ↦ absurd (omega (arith, lt)) | inr at ↦ absurd (omega (arith, at.1)) ]);
     no_write_failed = refl;
     lines = λ b has. record { bytes = []; output = no_lines; written = with_nothing z.out_before.bytes; exact = λ empties u lt. absurd (omega (arith, lt)) };
   }
@@ -77,11 +87,13 @@ all_open z b marks opened = record {
 
 -- what the cells of a time say, where it is known whether a column goes on
 pub cells_told : (z : Start) (t : ℕ) (marks : List Bool) (line : List ℕ) (goes_on told : Bool) → goes_on ≡ told
-    → ((b : Elements) → Has z b → AreMarked z b (t + 1) 0 marks × HasCells z b t z.columns line goes_on) → (b : Elements) → Has z b → HasCells z b t z.columns line told
+    → ((b : Elements) → Has z b → AreMarked z b (t + 1) 0 marks × HasCells z b t z.columns line goes_on) → (b : Elements) → Has z b
+    → HasCells z b t z.columns line told
 cells_told z t marks line goes_on told is cells b has = subst (HasCells z b t z.columns line) is (cells b has).1
 
 -- the limit's approximation is defined at the open columns, under a policy that empties
-defined_there : (z : Start) (b : Elements) (t : ℕ) (line : List ℕ) (goes_on : Bool) → HasCells z b t z.columns line goes_on → IsTrue z.policy.empties → (subject z).defined b z.depth t
+defined_there : (z : Start) (b : Elements) (t : ℕ) (line : List ℕ) (goes_on : Bool) → HasCells z b t z.columns line goes_on → IsTrue z.policy.empties
+    → (subject z).defined b z.depth t
 defined_there z b t line goes_on cells empties x i opened =
     let r = is_column z.table z.columns x i in
     subst (λ y. IsSome (y.value b z.depth t)) (sym r.2) (cells.exact empties r.0 r.1 (subst (λ y. IsOpen y b t) r.2 opened))
@@ -91,19 +103,23 @@ module _ (z : Start) (e f : EngineView) (w v : World) (o : Told) (t c d : ℕ) (
   -- the run ends there
   pub stopped_there : (q : RunFault) → StopsAt z f v t d q → PromisesColumns z.table z.columns (seen z v o) (Err q)
   stopped_there q (inl r) =
-      subst (λ x. PromisesColumns z.table z.columns (seen z v o) (Err x)) (sym r.is) (promise_refused z f v o t r.space d going.no_write_failed r.fault r.asked r.demanded going.lines early)
+      subst (λ x. PromisesColumns z.table z.columns (seen z v o) (Err x)) (sym r.is)
+      (promise_refused z f v o t r.space d going.no_write_failed r.fault r.asked r.demanded going.lines early)
   stopped_there q (inr r) =
-      subst (λ x. PromisesColumns z.table z.columns (seen z v o) (Err x)) (sym r.is) (promise_short z f v o t r.space d going.no_write_failed r.standing going.lines early)
+      subst (λ x. PromisesColumns z.table z.columns (seen z v o) (Err x)) (sym r.is)
+      (promise_short z f v o t r.space d going.no_write_failed r.standing going.lines early)
 
   module _ (standing : Standing z (before z (t + 1) 0) f v d) (line : List ℕ) where
     -- all columns have ended
     module _ (cells : (b : Elements) → Has z b → HasCells z b t z.columns line false) where
       pub ended_there : (g : EngineView) (n : ℕ) → ((g ≡ f) × (n ≡ d)) ⊎ ClearsMany f g d n → IsOneForEach g.stored → (s : Summary)
-          → s ≡ record { lines = t; ended = true; held = count_of g.stored; lost = g.stored.lost; cleared = n } → PromisesColumns z.table z.columns (seen z v o) (Ok s)
+          → s ≡ record { lines = t; ended = true; held = count_of g.stored; lost = g.stored.lost; cleared = n }
+          → PromisesColumns z.table z.columns (seen z v o) (Ok s)
       ended_there g n many each s is =
           let ended : s.ended ≡ true = ap (λ y. y.ended) is in
           let times : times_of s ≡ suc t = ap times_of is in
-          promise_done z g v o t (suc t) n (subst (λ q. Standing z (before z q 0) g v n) (add-one t) (standing_then many)) each going.no_write_failed going.lines s
+          promise_done z g v o t (suc t) n (subst (λ q. Standing z (before z q 0) g v n) (add-one t) (standing_then many)) each going.no_write_failed
+          going.lines s
           (subst (λ y. s ≡ record { lines = t; ended = y; held = count_of g.stored; lost = g.stored.lost; cleared = n }) (sym ended) is)
           (omega (arith, early)) (omega (arith, early)) (omega arith) times
           (λ b has. subst (λ y. EndsAt (subject z) b (seen z v o) y t) (sym ended) (early, all_ended b has))
@@ -130,7 +146,8 @@ module _ (z : Start) (e f : EngineView) (w v : World) (o : Told) (t c d : ℕ) (
         exact = λ b has. defined_there z b t line true (cells b has);
       }
         where
-          some_goes : {b : Elements} → (j : ℕ) × (j < z.columns) × (HasEnded (table_stream_at z.table j) b t → ⊥) → OfSome (table_columns z.table z.columns) (λ x. HasEnded x b t → ⊥)
+          some_goes : {b : Elements} → (j : ℕ) × (j < z.columns) × (HasEnded (table_stream_at z.table j) b t → ⊥)
+              → OfSome (table_columns z.table z.columns) (λ x. HasEnded x b t → ⊥)
           some_goes going = (table_stream_at z.table going.0, among_columns z.table z.columns going.0 going.1, going.2)
 
       -- that isn't written whole,
@@ -149,7 +166,8 @@ module _ (z : Start) (e f : EngineView) (w v : World) (o : Told) (t c d : ℕ) (
 
 -- the count is reached
 pub counted_there : (z : Start) (e : EngineView) (w : World) (o : Told) (t c : ℕ) → Going z e w o t c → t ≡ z.count → IsOneForEach e.stored → (s : Summary)
-    → s ≡ record { lines = z.count; ended = false; held = count_of e.stored; lost = e.stored.lost; cleared = c } → PromisesColumns z.table z.columns (seen z w o) (Ok s)
+    → s ≡ record { lines = z.count; ended = false; held = count_of e.stored; lost = e.stored.lost; cleared = c }
+    → PromisesColumns z.table z.columns (seen z w o) (Ok s)
 counted_there z e w o t c going all each s is =
     let ended : s.ended ≡ false = ap (λ y. y.ended) is in
     let times : times_of s ≡ z.count = ap times_of is in

@@ -34,10 +34,20 @@ ran_nothing S b r did = record {
     added = 0;
     none = λ e. refl;
     holds = λ d le k n q is old new before after.
-        inl (omega (arith, ap (λ c. length c.consumed) (same_some (r.before.place q).contents (r.after.place q).contents old new (ap (λ w. (w.place q).contents) did.after) before after)));
+        inl
+        (omega (
+          arith,
+          ap (λ c. length c.consumed) (same_some (r.before.place q).contents (r.after.place q).contents old new
+              (ap (λ w. (w.place q).contents) did.after) before after),
+        ));
   };
   within = λ k n q is old new before after.
-      inl (omega (arith, ap (λ c. length c.consumed) (same_some (r.before.place q).contents (r.after.place q).contents old new (ap (λ w. (w.place q).contents) did.after) before after)));
+      inl
+      (omega (
+        arith,
+        ap (λ c. length c.consumed) (same_some (r.before.place q).contents (r.after.place q).contents old new
+            (ap (λ w. (w.place q).contents) did.after) before after),
+      ));
   too_large = tt;
 }
 

@@ -82,7 +82,8 @@ module _ (z : Start) (b : Elements) where
 
     -- and not defined,
     pub not_defined : eqval (equations_of z.table) b m t s ≡ None → (subject z).defined b m t → ⊥
-    not_defined e defined = let r = demands_open t s there in is_none (eqval (equations_of z.table) b m t s) e (defined (table_stream_at z.table s) (among_columns z.table z.columns s r.0) r.1)
+    not_defined e defined = let r = demands_open t s there in
+        is_none (eqval (equations_of z.table) b m t s) e (defined (table_stream_at z.table s) (among_columns z.table z.columns s r.0) r.1)
 
     -- and what it consults there the subject consults then
     pub consults_there : (d : ℕ) (pair : List ℕ × ℕ) → In pair (consults_on_nodes (equations_of z.table) b m d t s) → (subject z).consults b m d t pair

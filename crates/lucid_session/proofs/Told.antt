@@ -18,7 +18,8 @@ stream_at (s ∷ streams) zero q e = (s, refl, same_Some _ _ e)
 stream_at (s ∷ streams) (suc k) q e = stream_at streams k q e
 
 -- what a place tells, where it told contents of the same bytes before
-pub tells_too : (o p : Option Contents) (c : Contents) → option_map all_bytes p ≡ option_map all_bytes o → o ≡ Some c → (d : Contents) × (p ≡ Some d) × (all_bytes d ≡ all_bytes c)
+pub tells_too : (o p : Option Contents) (c : Contents) → option_map all_bytes p ≡ option_map all_bytes o → o ≡ Some c
+    → (d : Contents) × (p ≡ Some d) × (all_bytes d ≡ all_bytes c)
 tells_too o None c same e = absurd (none-some _ (same ∙ ap (option_map all_bytes) e))
 tells_too o (Some d) c same e = (d, refl, same_Some _ _ (same ∙ ap (option_map all_bytes) e))
 
@@ -52,6 +53,8 @@ module _ (z : Start) (b : Elements) where
       (d.0, d.1, λ j. c.2 j ∙ ap (λ bytes. Some (element bytes j)) (sym d.2))
 
   -- So the elements of the inputs are among those that an engine of the run may have.
-  pub may_have : (e : EngineView) (w : World) → e.table ≡ z.table → Has z b → places_of e.streams ≡ z.places → ReadsOnly z.places z.before w → AreAskable e.streams w → MayHave e b
+  pub may_have : (e : EngineView) (w : World) → e.table ≡ z.table → Has z b → places_of e.streams ≡ z.places → ReadsOnly z.places z.before w
+      → AreAskable e.streams w → MayHave e b
   may_have e w same has places reads ask n j v known =
-      told_by w e.table.inputs e.streams b (subst (λ T. Tells w T.inputs e.streams b) (sym same) (tells_now w e.streams has places reads)) n j v (told_extends e w ask n j v known)
+      told_by w e.table.inputs e.streams b (subst (λ T. Tells w T.inputs e.streams b) (sym same) (tells_now w e.streams has places reads)) n j v
+      (told_extends e w ask n j v known)

@@ -118,7 +118,8 @@ module _ (z : Start) (e : EngineView) (w : World) (o p : Told) (t c : ℕ) (next
 
         by : (writes.count < length next) ⊎ (length next ≤ writes.count) → Ran (subject z) b (seen z w p) (Err q)
         by (inl short) =
-            ran_stopped (subject z) b (seen z w p) (written_front z b o p t (came.lines b has) next (came.stands b has) w early writes.count short writes.front) (came.lines b has).exact
+            ran_stopped (subject z) b (seen z w p) (written_front z b o p t (came.lines b has) next (came.stands b has) w early writes.count short writes.front)
+            (came.lines b has).exact
             (λ empties some. came.exact b has empties)
             (consumed t (omega arith)) came.standing.within q writes.refused rises
         by (inr long) =
@@ -154,11 +155,14 @@ module _ (z : Start) (e : EngineView) (w : World) (o p : Told) (t c : ℕ) (next
 
         Clear : Elements → (times cleared : ℕ) → Type 0
         Clear b times again =
-            0 < again → ForSomeAdded (seen z w p) (λ d. (points : Points) → ArePointsBelow (layout z) b times points → HasMoreThan 999999 ((counted z).enters b z.depth d points))
+            0 < again → ForSomeAdded (seen z w p) (λ d. (points : Points) → ArePointsBelow (layout z) b times points
+            → HasMoreThan 999999 ((counted z).enters b z.depth d points))
 
 -- The engine is cleared where more than a million contexts are known, and that is counted.
-module _ (z : Start) (D : Elements → (time space : ℕ) → Type 0) (e f : EngineView) (w : World) (c : ℕ) (standing : Standing z D e w c) (much : most_known < length e.known) where
-  pub cleared_standing : f ≡ record e { known = root ∷ []; stored = cleared e.stored; noted = record e.noted { sites = [] } } → IsSound f → Standing z D f w (suc c)
+module _ (z : Start) (D : Elements → (time space : ℕ) → Type 0) (e f : EngineView) (w : World) (c : ℕ) (standing : Standing z D e w c)
+    (much : most_known < length e.known) where
+  pub cleared_standing : f ≡ record e { known = root ∷ []; stored = cleared e.stored; noted = record e.noted { sites = [] } } → IsSound f
+      → Standing z D f w (suc c)
   cleared_standing is sound = record {
     is = is ∙ (λ i. record {
       table = ap (λ x. x.table) standing.is i;

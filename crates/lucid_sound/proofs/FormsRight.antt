@@ -37,14 +37,33 @@ module _ (t : Table) where
   }
 
   call-callee : (s n q l : ℕ) → CallLeads t s n q l → CalleeLeads t s n l
-  call-callee s n q l c = record { inside = c.inside; home = c.home; kind = c.kind; body = c.body; named = c.named; parent = c.parent; round = c.round; depth = c.depth }
+  call-callee s n q l c = record {
+    inside = c.inside;
+    home = c.home;
+    kind = c.kind;
+    body = c.body;
+    named = c.named;
+    parent = c.parent;
+    round = c.round;
+    depth = c.depth;
+  }
 
   call-place : (s n q l : ℕ) → CallLeads t s n q l → PlaceLeads t s n q
   call-place s n q l c = record { row = c.row; passed = c.passed; row_scope = c.row_scope; row_name = c.row_name }
 
   pub form-node : (s id : ℕ) (n : Node) → s < length t.scopes → FormIsRight t s id n → NodeIsRight t id (row_of s n)
-  form-node s id (Const k) here h = record { here = here; nests = record { lower = tt; stand = tt; there = h; filled = tt }; refers = λ n l e. cc; calls = λ n q l e. cc }
-  form-node s id (Input k) here h = record { here = here; nests = record { lower = tt; stand = tt; there = h; filled = tt }; refers = λ n l e. cc; calls = λ n q l e. cc }
+  form-node s id (Const k) here h = record {
+    here = here;
+    nests = record { lower = tt; stand = tt; there = h; filled = tt };
+    refers = λ n l e. cc;
+    calls = λ n q l e. cc;
+  }
+  form-node s id (Input k) here h = record {
+    here = here;
+    nests = record { lower = tt; stand = tt; there = h; filled = tt };
+    refers = λ n l e. cc;
+    calls = λ n q l e. cc;
+  }
   form-node s id (Freeze a) here h = record {
     here = here;
     nests = record { lower = (h.lower, tt); stand = (h.inner, h.frozen, h.stands); there = tt; filled = tt };

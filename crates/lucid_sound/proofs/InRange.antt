@@ -22,7 +22,8 @@ entry-in-range t s (Parameter i) h = tt
 entry-in-range t s (Current a) h = stands-below t.nodes h.0 a h.2
 entry-in-range t s (Called a) h = stands-below t.nodes s a h.2
 
-nodes-in-range : (z : Sizes) (first : ℕ) (rs : List NodeRow) → ((id : ℕ) (r : NodeRow) → slice_get rs id ≡ Some r → NodeIsInRange z (first + id) r.node) → NodesAreInRange z first rs
+nodes-in-range : (z : Sizes) (first : ℕ) (rs : List NodeRow) → ((id : ℕ) (r : NodeRow) → slice_get rs id ≡ Some r → NodeIsInRange z (first + id) r.node)
+    → NodesAreInRange z first rs
 nodes-in-range z first [] h = tt
 nodes-in-range z first (r ∷ rs) h =
     let P : ℕ → Type 0 = λ i. NodeIsInRange z i r.node in (

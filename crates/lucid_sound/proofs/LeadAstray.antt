@@ -17,7 +17,8 @@ inwards-astray h = h no_elements 0 0 0 0 0 (reference (refer 0 0)) root 0 0 the_
 pub place-astray : GoesAstray place_of_another
 place-astray h =
     h no_elements 1 0 0 0 0 (reference (refer 1 1)) (call_frame 0 root root) 0 0
-    (gone_on {k = record { name = 0; context = call_frame 0 root root; time = 0 }} {x = record { node = reference (refer 1 1); context = call_frame 0 root root }} the_root refl) tt refl
+    (gone_on {k = record { name = 0; context = call_frame 0 root root; time = 0 }}
+    {x = record { node = reference (refer 1 1); context = call_frame 0 root root }} the_root refl) tt refl
 
 pub body-astray : GoesAstray body_elsewhere
 body-astray h =
@@ -27,7 +28,8 @@ body-astray h =
 pub actual-astray : GoesAstray actual_missing
 actual-astray h =
     h no_elements 1 0 0 0 0 (reference (refer 1 1)) (call_frame 0 root root) 0 0
-    (gone_on {k = record { name = 0; context = call_frame 0 root root; time = 0 }} {x = record { node = reference (refer 1 1); context = call_frame 0 root root }} the_root refl) tt refl
+    (gone_on {k = record { name = 0; context = call_frame 0 root root; time = 0 }}
+    {x = record { node = reference (refer 1 1); context = call_frame 0 root root }} the_root refl) tt refl
 
 pub root-astray : GoesAstray root_elsewhere
 root-astray h = h no_elements 0 0 0 0 0 (reference (refer 0 1)) root 0 0 the_root tt refl

@@ -15,7 +15,8 @@ frozen-not_root e = cc
 called-not_frozen : CalledScope ≢ FrozenScope
 called-not_frozen e = cc
 
-pub same-row : (T : Table) (s p q : ℕ) (j k : ScopeKind) → ScopeIs T.scopes s p j → ScopeIs T.scopes s q k → ◌≡◌ {A = ScopeRow} (record { parent = p; kind = j }) (record { parent = q; kind = k })
+pub same-row : (T : Table) (s p q : ℕ) (j k : ScopeKind) → ScopeIs T.scopes s p j → ScopeIs T.scopes s q k
+    → ◌≡◌ {A = ScopeRow} (record { parent = p; kind = j }) (record { parent = q; kind = k })
 same-row T s p q j k a b = same_Some (record { parent = p; kind = j }) (record { parent = q; kind = k }) (sym a ∙ b)
 
 pub same-parent : (T : Table) (s p q : ℕ) (j k : ScopeKind) → ScopeIs T.scopes s p j → ScopeIs T.scopes s q k → p ≡ q

@@ -21,7 +21,8 @@ StandsRight T s (reference (input n)) = Unit {0}
 StandsRight T s (reference (refer n l)) = ReferenceLeads T s n l
 StandsRight T s (invoke n q l) = CallLeads T s n q l
 
-parts-stand : (T : Table) (s : ℕ) (is : List ℕ) → EachStandsIn T.nodes s is → (i : ℕ) (e : PlainNode) → part_of (all_at (nodes_of T) is) i ≡ Some e → Stands T s e
+parts-stand : (T : Table) (s : ℕ) (is : List ℕ) → EachStandsIn T.nodes s is → (i : ℕ) (e : PlainNode) → part_of (all_at (nodes_of T) is) i ≡ Some e
+    → Stands T s e
 parts-stand T s [] h i e p = absurd (none-some e p)
 parts-stand T s (k ∷ ks) h zero e p = record { number = k; stands = h.0; is = sym (same_Some (node_at T k) e p) }
 parts-stand T s (k ∷ ks) h (suc i) e p = parts-stand T s ks h.1 i e p

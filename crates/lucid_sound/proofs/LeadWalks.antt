@@ -18,14 +18,16 @@ module _ (p : Equations) (b : Elements) (limit d time space : ℕ) where
   deep_at m = deeper (node_walk p (nothing_held b)) m d
 
   -- what a node goes on with is visited by it
-  gone-inside : (m : ℕ) (e : PlainNode) (c : Context) (t s : ℕ) (k : Daton) (x : NodePosition) (u : ℕ) → node_aim p e c t ≡ goes_to k x u → Inside (node_visits p b m d x.node x.context u s) (node_visits p b (suc m) d e c t s)
+  gone-inside : (m : ℕ) (e : PlainNode) (c : Context) (t s : ℕ) (k : Daton) (x : NodePosition) (u : ℕ) → node_aim p e c t ≡ goes_to k x u
+      → Inside (node_visits p b m d x.node x.context u s) (node_visits p b (suc m) d e c t s)
   gone-inside m (row f es) c t s k x u e v i = absurd (no_aim k x u e)
   gone-inside m (freeze a) c t s k x u e v i = absurd (no_aim k x u e)
   gone-inside m (reference r) c t s k x u e v i = subst (λ a. In v (deep_at (suc m) a s)) (sym e) (inr i)
   gone-inside m (invoke n q l) c t s k x u e v i =
       in_right v (context_of (call_aim p n q l c t)) (deep_at (suc m) (call_aim p n q l c t) s) (subst (λ a. In v (deep_at (suc m) a s)) (sym e) (inr i))
 
-  pub met-visited : (m : ℕ) (e : PlainNode) (c : Context) (t s : ℕ) → IsMet p b limit d time space m e c t s → Inside (node_visits p b m d e c t s) (visits p b limit d time space)
+  pub met-visited : (m : ℕ) (e : PlainNode) (c : Context) (t s : ℕ) → IsMet p b limit d time space m e c t s
+      → Inside (node_visits p b m d e c t s) (visits p b limit d time space)
   met-visited m e c t s the_root v i = i
   met-visited m e c t s (part {t = t'} {s = s'} {f = f} {es = es} j met looked is) v i =
       met-visited m (row f es) c t' s' met v (look-visited p b m d f es c t' s' j t s looked v
@@ -55,13 +57,16 @@ module _ (p : Equations) (b : Elements) (limit d time space : ℕ) where
 
     -- the references of nodes that are met at m meet only the event of a node that is met
     abbrev MeetMet : (m : ℕ) → (NodeAim → ℕ → NodeEvents) → Type 0
-    MeetMet m deep = (e : PlainNode) (c : Context) (t r : ℕ) → IsMet p b limit d time space m e c t r → (a : NodeAim) → node_aim p e c t ≡ a → In event (deep a r) → Goes
+    MeetMet m deep = (e : PlainNode) (c : Context) (t r : ℕ) → IsMet p b limit d time space m e c t r → (a : NodeAim) → node_aim p e c t ≡ a
+        → In event (deep a r) → Goes
 
     module _ (m : ℕ) (deep : NodeAim → ℕ → NodeEvents) (below : MeetMet m deep) where
       mutual
-        walk-met : (e : PlainNode) (c : Context) (t r : ℕ) → IsMet p b limit d time space m e c t r → In event (walk_at p (nothing_held b) m d deep e c t r) → Goes
+        walk-met : (e : PlainNode) (c : Context) (t r : ℕ) → IsMet p b limit d time space m e c t r → In event (walk_at p (nothing_held b) m d deep e c t r)
+            → Goes
         walk-met (row f es) c t r met i =
-            let q = look-found m (reads_parts p (nothing_held b) (m + d) es c) (λ j v w. walk_part p (nothing_held b) m d deep es c j v w) (plan (m + d) f t r) event i in
+            let q = look-found m (reads_parts p (nothing_held b) (m + d) es c) (λ j v w. walk_part p (nothing_held b) m d deep es c j v w) (plan (m + d) f t r)
+            event i in
             parts-met es c q.0.0 q.0.1 q.0.2 (λ e is. part q.0.0 met q.1 is) q.2
         walk-met (freeze e) c t r met (inl h) = absurd (not_entered (frozen_frame t c) h)
         walk-met (freeze e) c t r met (inr i) = walk-met e (frozen_frame t c) t r (subject met) i
@@ -72,7 +77,8 @@ module _ (p : Equations) (b : Elements) (limit d time space : ℕ) where
               | inr j ↦ below (invoke n q l) c t r met (call_aim p n q l c t) refl j
             ]
 
-        parts-met : (es : PlainNodes) (c : Context) (i t r : ℕ) → ((e : PlainNode) → part_of es i ≡ Some e → IsMet p b limit d time space m e c t r) → In event (walk_part p (nothing_held b) m d deep es c i t r) → Goes
+        parts-met : (es : PlainNodes) (c : Context) (i t r : ℕ) → ((e : PlainNode) → part_of es i ≡ Some e → IsMet p b limit d time space m e c t r)
+            → In event (walk_part p (nothing_held b) m d deep es c i t r) → Goes
         parts-met no_nodes c i t r met j = absurd j
         parts-met (node e es) c zero t r met j = walk-met e c t r (met e refl) j
         parts-met (node e es) c (suc i) t r met j = parts-met es c i t r met j

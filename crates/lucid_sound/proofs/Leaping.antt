@@ -6,7 +6,8 @@ use Rattle.lucid_sound.proofs.NestMade.{no_row, next-low}
 module _ (xs : List ScopeRow) (right : AllRight ScopeIsRight xs) (ds ls : List ℕ) (h : IsNestOf xs ds ls (length xs)) where
   -- a scope with a depth above another number isn't scope 0
   pub inner-some : (s level : ℕ) → s < length xs → level < slice_index ds s → 0 < s
-  inner-some zero level within deep = let none = zero-depth xs 0 (slice_index ds 0) refl (h.depths 0 (omega (arith, within, h.all_depths))) in omega (arith, none, deep)
+  inner-some zero level within deep = let none = zero-depth xs 0 (slice_index ds 0) refl (h.depths 0 (omega (arith, within, h.all_depths))) in
+      omega (arith, none, deep)
   inner-some (suc s) level within deep = omega arith
 
   -- a leap leads to a lower scope that is there
@@ -17,13 +18,15 @@ module _ (xs : List ScopeRow) (right : AllRight ScopeIsRight xs) (ds ls : List �
   pub parent-depth : (s : ℕ) → s < length xs → 0 < s → slice_index ds s ≡ suc (slice_index ds (get_or xs s no_row).parent)
   parent-depth s within some =
       let low = next-low xs right s within some in
-      one-deeper xs s (get_or xs s no_row).parent _ _ _ some (slice_get-get_or xs s no_row within) (h.depths s (omega (arith, within, h.all_depths))) (h.depths _ (omega (arith, low, within, h.all_depths)))
+      one-deeper xs s (get_or xs s no_row).parent _ _ _ some (slice_get-get_or xs s no_row within) (h.depths s (omega (arith, within, h.all_depths)))
+      (h.depths _ (omega (arith, low, within, h.all_depths)))
 
   pub parent-round : (s : ℕ) → s < length xs → IsRound xs (get_or xs s no_row).parent s
   parent-round s within = further (slice_get-get_or xs s no_row within) itself
 
   -- where the walk ends, it has found the one scope of that depth that is another or stands round it
-  pub ended : (at outer scope level : ℕ) → scope < length xs → at < length xs → IsRound xs at scope → slice_index ds at ≡ level → (at ≡ outer) ↔ (IsRound xs outer scope × HasDepth xs outer level)
+  pub ended : (at outer scope level : ℕ) → scope < length xs → at < length xs → IsRound xs at scope → slice_index ds at ≡ level
+      → (at ≡ outer) ↔ (IsRound xs outer scope × HasDepth xs outer level)
   ended at outer scope level within there round deep =
       let depth = subst (HasDepth xs at) deep (h.depths at (omega (arith, there, h.all_depths))) in (
         λ same. let P : ℕ → Type 0 = λ s. IsRound xs s scope in let Q : ℕ → Type 0 = λ s. HasDepth xs s level in (subst P same round, subst Q same depth),

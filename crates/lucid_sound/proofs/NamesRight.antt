@@ -54,7 +54,8 @@ module _ (t : Table) where
   referable (Called a) other = other a refl
   referable _ other = tt
 
-  pub leads-by : (s n l : ℕ) (x : NameRow) → slice_get t.names n ≡ Some x → ((b : ℕ) → x.kind ≡ Called b → ⊥) → IsRound t.scopes x.scope s × HasDepth t.scopes x.scope l → ReferenceLeads t s n l
+  pub leads-by : (s n l : ℕ) (x : NameRow) → slice_get t.names n ≡ Some x → ((b : ℕ) → x.kind ≡ Called b → ⊥)
+      → IsRound t.scopes x.scope s × HasDepth t.scopes x.scope l → ReferenceLeads t s n l
   leads-by s n l x at other w = record { home = x.scope; entry = x.kind; named = at; referable = referable x.kind other; round = w.0; depth = w.1 }
 
   pub by-leads : (s n l : ℕ) (x : NameRow) → slice_get t.names n ≡ Some x → ReferenceLeads t s n l → IsRound t.scopes x.scope s × HasDepth t.scopes x.scope l
@@ -65,7 +66,8 @@ module _ (t : Table) where
       (subst P same h.round, subst Q same h.depth)
 
   -- a call place is right where its name is a called one, and its actuals stand in its scope and are as many as the name wants
-  pub passes-right : (r : PlaceRow) (x : NameRow) (b : ℕ) → r.scope < length t.scopes → slice_get t.names r.name ≡ Some x → x.kind ≡ Called b → wanted t.names x.scope ≤ length r.actuals → EachStandsIn t.nodes r.scope r.actuals → PlaceIsRight t r
+  pub passes-right : (r : PlaceRow) (x : NameRow) (b : ℕ) → r.scope < length t.scopes → slice_get t.names r.name ≡ Some x → x.kind ≡ Called b
+      → wanted t.names x.scope ≤ length r.actuals → EachStandsIn t.nodes r.scope r.actuals → PlaceIsRight t r
   passes-right r x b here at kind few stand = record {
     here = here;
     passes = record {

@@ -5,11 +5,13 @@ use Rattle.lucid_equations.specs.declared.rows.ScopeKind.TheVariants.{Root}
 use Rattle.lucid_sound.specs.Nests.{AreRound, AreLow, AreLower}
 
 -- what holds of each number of a list holds after one more
-pub each-more : (P : ℕ → ℕ → Type 0) (xs : List ℕ) (x : ℕ) → ((s : ℕ) → s < length xs → P s (slice_index xs s)) → P (length xs) x → (s : ℕ) → s < length (xs ++ x ∷ []) → P s (slice_index (xs ++ x ∷ []) s)
+pub each-more : (P : ℕ → ℕ → Type 0) (xs : List ℕ) (x : ℕ) → ((s : ℕ) → s < length xs → P s (slice_index xs s)) → P (length xs) x → (s : ℕ)
+    → s < length (xs ++ x ∷ []) → P s (slice_index (xs ++ x ∷ []) s)
 each-more P xs x h l s low =
     elim (cases_eq s (length xs)) [
       | inl e ↦ subst (P s) (sym (get_or_push xs x 0 s (sym e))) (let Q : ℕ → Type 0 = λ i. P i x in subst Q (sym e) l)
-      | inr n ↦ let within : s < length xs = omega (arith, n, low, length-append xs (x ∷ [])) in subst (P s) (sym (get_or_append_left xs (x ∷ []) 0 s within)) (h s within)
+      | inr n ↦ let within : s < length xs = omega (arith, n, low, length-append xs (x ∷ [])) in
+          subst (P s) (sym (get_or_append_left xs (x ∷ []) 0 s within)) (h s within)
     ]
 
 -- a leap to a lower scope is one to a scope no higher
@@ -19,7 +21,8 @@ lower-low xs ls lower round none (suc s) low = let h = lower (suc s) (omega arit
 
 module _ (xs : List ScopeRow) (ds ls : List ℕ) where
   -- one more scope
-  pub nest-more : (d l : ℕ) → IsNestOf xs ds ls (length ds) → HasDepth xs (length ds) d → IsRound xs l (length ds) → (0 < length ds → l < length ds) → IsNestOf xs (ds ++ d ∷ []) (ls ++ l ∷ []) (length ds + 1)
+  pub nest-more : (d l : ℕ) → IsNestOf xs ds ls (length ds) → HasDepth xs (length ds) d → IsRound xs l (length ds) → (0 < length ds → l < length ds)
+      → IsNestOf xs (ds ++ d ∷ []) (ls ++ l ∷ []) (length ds + 1)
   nest-more d l h depth round lower =
       let same = h.all_leaps in
       let Q : ℕ → Type 0 = λ n. IsRound xs l n in

@@ -10,7 +10,8 @@ asked-parameter : (s i : ℕ) → asked s (parameter_of s i) ≡ suc i
 asked-parameter s i = ap (λ b. asked_here b (Parameter i)) (eq-eqb s s refl)
 
 -- another name of it asks for nothing
-asked-low : (s p k : ℕ) (b : Bool) (e : Entry) → (p == s) ≡ b → ((i : ℕ) → ◌≡◌ {A = NameRow} (record { scope = p; kind = e }) (parameter_of s i) → i < k) → asked_here b e ≤ k
+asked-low : (s p k : ℕ) (b : Bool) (e : Entry) → (p == s) ≡ b → ((i : ℕ) → ◌≡◌ {A = NameRow} (record { scope = p; kind = e }) (parameter_of s i) → i < k)
+    → asked_here b e ≤ k
 asked-low s p k true (Parameter i) same h = let low = h i (ap (λ x. parameter_of x i) (eqb-true p s same)) in omega (arith, low)
 asked-low s p k b e same h = omega arith
 

@@ -61,7 +61,8 @@ moved-last old new i n d moved len less =
     ∙ get_or_default old (length old - 1) 0 d inside
     ∙ ap (λ k. slice_index_or old k d) at
 
-pub moved-other : (old new : List ℕ) (i j n d : ℕ) → new ≡ swap_remove old i 0 → length old ≡ n → j ≢ i → j + 1 < n → slice_index_or new j d ≡ slice_index_or old j d
+pub moved-other : (old new : List ℕ) (i j n d : ℕ) → new ≡ swap_remove old i 0 → length old ≡ n → j ≢ i → j + 1 < n
+    → slice_index_or new j d ≡ slice_index_or old j d
 moved-other old new i j n d moved len other less =
     let low : j < length old - 1 = omega (arith, len, less) in
     ap (λ l. slice_index_or l j d) moved
@@ -71,7 +72,8 @@ moved-other old new i j n d moved len other less =
 pub length-moved : (old : List ℕ) (i : ℕ) → 0 < length old → length (swap_remove old i 0) + 1 ≡ length old
 length-moved old i some =
     let set = length-set old i (slice_index_or old (length old - 1) 0) in
-    let cut : length (take (length old - 1) (slice_set old i (slice_index_or old (length old - 1) 0))) ≡ length old - 1 = length-take-le (length old - 1) _ (omega (arith, set)) in
+    let cut : length (take (length old - 1) (slice_set old i (slice_index_or old (length old - 1) 0))) ≡ length old - 1 =
+    length-take-le (length old - 1) _ (omega (arith, set)) in
     omega (arith, cut, some)
 
 -- ---- the view of ages, of which so many are there
@@ -79,20 +81,24 @@ length-moved old i some =
 pub all-there : (ws now : List ℕ) (count : ℕ) → ws ++ zeros (count - length ws) ≡ now → length ws ≤ count → length now ≡ count
 all-there ws now count view few = let len = length-all ws (count - length ws) in let same = ap length view in omega (arith, len, same, few)
 
-pub added-view : (ws vs now : List ℕ) (count : ℕ) → ws ++ zeros (count - length ws) ≡ now → vs ≡ ws → length ws ≤ count → vs ++ zeros (count + 1 - length vs) ≡ now ++ 0 ∷ []
+pub added-view : (ws vs now : List ℕ) (count : ℕ) → ws ++ zeros (count - length ws) ≡ now → vs ≡ ws → length ws ≤ count
+    → vs ++ zeros (count + 1 - length vs) ≡ now ++ 0 ∷ []
 added-view ws vs now count view same few =
     let more : count + 1 - length ws ≡ suc (count - length ws) = omega (arith, few) in
     (λ i. same i ++ zeros (count + 1 - length (same i))) ∙ ap (λ k. ws ++ zeros k) more ∙ one-more ws (count - length ws) ∙ ap (λ l. l ++ 0 ∷ []) view
 
-pub zero-there : (ws now : List ℕ) (count i : ℕ) → ws ++ zeros (count - length ws) ≡ now → length ws ≤ count → length ws ≤ i → i < count → slice_get now i ≡ Some 0
+pub zero-there : (ws now : List ℕ) (count i : ℕ) → ws ++ zeros (count - length ws) ≡ now → length ws ≤ count → length ws ≤ i → i < count
+    → slice_get now i ≡ Some 0
 zero-there ws now count i view few low high = subst (λ l. slice_get l i ≡ Some 0) view (zero_past ws (count - length ws) i low (omega (arith, few, high)))
 
-pub set-view : (ws vs now : List ℕ) (count i a : ℕ) → ws ++ zeros (count - length ws) ≡ now → i < length ws → vs ≡ slice_set ws i a → vs ++ zeros (count - length vs) ≡ slice_set now i a
+pub set-view : (ws vs now : List ℕ) (count i a : ℕ) → ws ++ zeros (count - length ws) ≡ now → i < length ws → vs ≡ slice_set ws i a
+    → vs ++ zeros (count - length vs) ≡ slice_set now i a
 set-view ws vs now count i a view low set =
     (λ j. set j ++ zeros (count - length (set j))) ∙ ap (λ k. slice_set ws i a ++ zeros (count - k)) (length-set ws i a)
     ∙ sym (set-written ws (count - length ws) i a low) ∙ ap (λ l. slice_set l i a) view
 
-pub dropped-view : (ws now : List ℕ) (count : ℕ) → ws ++ zeros (count - length ws) ≡ now → length ws ≤ count - 1 → 0 < count → ws ++ zeros (count - 1 - length ws) ≡ take (length now - 1) now
+pub dropped-view : (ws now : List ℕ) (count : ℕ) → ws ++ zeros (count - length ws) ≡ now → length ws ≤ count - 1 → 0 < count
+    → ws ++ zeros (count - 1 - length ws) ≡ take (length now - 1) now
 dropped-view ws now count view few some =
     let len : length now ≡ count = all-there ws now count view (omega (arith, few)) in
     let more : count - length ws ≡ suc (count - 1 - length ws) = omega (arith, few, some) in
@@ -100,21 +106,25 @@ dropped-view ws now count view few some =
     sym (ap (take (length now - 1)) (sym view ∙ ap (λ k. ws ++ zeros k) more) ∙ last-goes ws (count - 1 - length ws) (length now - 1) cut)
 
 -- one age more is written
-pub filled-more : (first ws vs : List ℕ) → ws ≡ first ++ zeros (length ws - length first) → length first ≤ length ws → vs ≡ ws ++ 0 ∷ [] → vs ≡ first ++ zeros (length vs - length first)
+pub filled-more : (first ws vs : List ℕ) → ws ≡ first ++ zeros (length ws - length first) → length first ≤ length ws → vs ≡ ws ++ 0 ∷ []
+    → vs ≡ first ++ zeros (length vs - length first)
 filled-more first ws vs same more push =
     let len : length vs ≡ length ws + 1 = ap length push ∙ length-append ws (0 ∷ []) in
     let next : length vs - length first ≡ suc (length ws - length first) = omega (arith, len, more) in
     push ∙ ap (λ l. l ++ 0 ∷ []) same ∙ sym (one-more first (length ws - length first)) ∙ ap (λ k. first ++ zeros k) (sym next)
 
 -- all are written, and each has risen
-pub raised-items : (ws fs rs now : List ℕ) (count : ℕ) → ws ++ zeros (count - length ws) ≡ now → fs ≡ ws ++ zeros (count - length ws) → rs ≡ map older fs → rs ≡ map older now
+pub raised-items : (ws fs rs now : List ℕ) (count : ℕ) → ws ++ zeros (count - length ws) ≡ now → fs ≡ ws ++ zeros (count - length ws) → rs ≡ map older fs
+    → rs ≡ map older now
 raised-items ws fs rs now count view filled raised = raised ∙ ap (map older) (filled ∙ view)
 
-pub raised-length : (ws fs rs now : List ℕ) (count : ℕ) → ws ++ zeros (count - length ws) ≡ now → length ws ≤ count → fs ≡ ws ++ zeros (count - length ws) → rs ≡ map older fs → length rs ≡ count
+pub raised-length : (ws fs rs now : List ℕ) (count : ℕ) → ws ++ zeros (count - length ws) ≡ now → length ws ≤ count → fs ≡ ws ++ zeros (count - length ws)
+    → rs ≡ map older fs → length rs ≡ count
 raised-length ws fs rs now count view few filled raised =
     ap length (raised-items ws fs rs now count view filled raised) ∙ length-map now older ∙ all-there ws now count view few
 
-pub raised-view : (ws fs rs now : List ℕ) (count : ℕ) → ws ++ zeros (count - length ws) ≡ now → length ws ≤ count → fs ≡ ws ++ zeros (count - length ws) → rs ≡ map older fs
+pub raised-view : (ws fs rs now : List ℕ) (count : ℕ) → ws ++ zeros (count - length ws) ≡ now → length ws ≤ count → fs ≡ ws ++ zeros (count - length ws)
+    → rs ≡ map older fs
     → rs ++ zeros (count - length rs) ≡ map older now
 raised-view ws fs rs now count view few filled raised =
     let all = raised-length ws fs rs now count view few filled raised in

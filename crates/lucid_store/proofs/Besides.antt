@@ -43,25 +43,34 @@ beside-again (e ∷ l) = ap (λ es. e ∷ es) (beside-again l)
 
 pub found-beside : (q : Key) (es : List (Key × Value)) (ages : List ℕ) → is_some (lookup (same_key q) (beside es ages)) ≡ is_some (lookup (same_key q) es)
 found-beside q [] ages = refl
-found-beside q (e ∷ es) [] = let rest = found-beside q es [] in elim (same_key q e.0) as (λ t. is_some (cond {A = Option Entry} t (Some (record { value = e.1; age = 0 })) (lookup (same_key q) (beside es []))) ≡ is_some (cond t (Some e.1) (lookup (same_key q) es))) [
-  | true ↦ refl
-  | false ↦ rest
-]
-found-beside q (e ∷ es) (a ∷ ages) = let rest = found-beside q es ages in elim (same_key q e.0) as (λ t. is_some (cond {A = Option Entry} t (Some (record { value = e.1; age = a })) (lookup (same_key q) (beside es ages))) ≡ is_some (cond t (Some e.1) (lookup (same_key q) es))) [
-  | true ↦ refl
-  | false ↦ rest
-]
+found-beside q (e ∷ es) [] = let rest = found-beside q es [] in
+    elim (same_key q e.0) as (λ t. is_some (cond {A = Option Entry} t (Some (record { value = e.1; age = 0 })) (lookup (same_key q) (beside es []))) ≡ is_some
+    (cond t (Some e.1) (lookup (same_key q) es))) [
+      | true ↦ refl
+      | false ↦ rest
+    ]
+found-beside q (e ∷ es) (a ∷ ages) = let rest = found-beside q es ages in
+    elim (same_key q e.0) as (λ t. is_some (cond {A = Option Entry} t (Some (record { value = e.1; age = a })) (lookup (same_key q) (beside es ages))) ≡ is_some
+    (cond t (Some e.1) (lookup (same_key q) es))) [
+      | true ↦ refl
+      | false ↦ rest
+    ]
 
-pub value-beside : (q : Key) (es : List (Key × Value)) (ages : List ℕ) → option_map (λ (x : Entry). x.value) (lookup (same_key q) (beside es ages)) ≡ lookup (same_key q) es
+pub value-beside : (q : Key) (es : List (Key × Value)) (ages : List ℕ)
+    → option_map (λ (x : Entry). x.value) (lookup (same_key q) (beside es ages)) ≡ lookup (same_key q) es
 value-beside q [] ages = refl
-value-beside q (e ∷ es) [] = let rest = value-beside q es [] in elim (same_key q e.0) as (λ t. option_map (λ (x : Entry). x.value) (cond {A = Option Entry} t (Some (record { value = e.1; age = 0 })) (lookup (same_key q) (beside es []))) ≡ cond t (Some e.1) (lookup (same_key q) es)) [
-  | true ↦ refl
-  | false ↦ rest
-]
-value-beside q (e ∷ es) (a ∷ ages) = let rest = value-beside q es ages in elim (same_key q e.0) as (λ t. option_map (λ (x : Entry). x.value) (cond {A = Option Entry} t (Some (record { value = e.1; age = a })) (lookup (same_key q) (beside es ages))) ≡ cond t (Some e.1) (lookup (same_key q) es)) [
-  | true ↦ refl
-  | false ↦ rest
-]
+value-beside q (e ∷ es) [] = let rest = value-beside q es [] in
+    elim (same_key q e.0) as (λ t. option_map (λ (x : Entry). x.value)
+    (cond {A = Option Entry} t (Some (record { value = e.1; age = 0 })) (lookup (same_key q) (beside es []))) ≡ cond t (Some e.1) (lookup (same_key q) es)) [
+      | true ↦ refl
+      | false ↦ rest
+    ]
+value-beside q (e ∷ es) (a ∷ ages) = let rest = value-beside q es ages in
+    elim (same_key q e.0) as (λ t. option_map (λ (x : Entry). x.value)
+    (cond {A = Option Entry} t (Some (record { value = e.1; age = a })) (lookup (same_key q) (beside es ages))) ≡ cond t (Some e.1) (lookup (same_key q) es)) [
+      | true ↦ refl
+      | false ↦ rest
+    ]
 
 -- an entry's value that is read by its place
 pub value_in-beside : (es : List (Key × Value)) (ages : List ℕ) (i : ℕ) → value_in (beside es ages) i ≡ option_map (λ e. e.1) (slice_get es i)
@@ -73,7 +82,8 @@ value_in-beside (e ∷ es) (a ∷ ages) (suc i) = value_in-beside es ages i
 
 -- ---- an insertion
 
-set_value-beside : (es : List (Key × Value)) (ages : List ℕ) (i : ℕ) (v : Value) → beside (set_value_at es i v) (slice_set ages i 0) ≡ set_value_at (beside es ages) i (fresh v)
+set_value-beside : (es : List (Key × Value)) (ages : List ℕ) (i : ℕ) (v : Value)
+    → beside (set_value_at es i v) (slice_set ages i 0) ≡ set_value_at (beside es ages) i (fresh v)
 set_value-beside [] ages i v = refl
 set_value-beside (e ∷ es) [] zero v = refl
 set_value-beside (e ∷ es) (a ∷ ages) zero v = refl
@@ -90,7 +100,8 @@ insert-known k v es ages i at =
     ∙ sym (insert_entry-first same_key k (fresh v) (beside es ages) i (Found-position (same_key k) (beside es ages) i there).first)
 
 -- the place at which an insertion finds a key
-pub known_place : (test : Key → Bool) (es : List (Key × Value)) (v : Value) → lookup test es ≡ Some v → position test (keys_of es) ≡ Some (position_or_len test (keys_of es))
+pub known_place : (test : Key → Bool) (es : List (Key × Value)) (v : Value) → lookup test es ≡ Some v
+    → position test (keys_of es) ≡ Some (position_or_len test (keys_of es))
 known_place test es v h = by (position test (keys_of es)) refl
   where
     by : (o : Option ℕ) → position test (keys_of es) ≡ o → o ≡ Some (position_or_len test (keys_of es))
@@ -103,8 +114,10 @@ pub insert-new : (k : Key) (v : Value) (es : List (Key × Value)) (ages : List �
 insert-new k v [] [] none h = refl
 insert-new k v [] (a ∷ ages) none h = absurd (omega (arith, h))
 insert-new k v (e ∷ es) [] none h = absurd (omega (arith, h))
-insert-new k v (e ∷ es) (a ∷ ages) none h = let less : length ages ≡ length es = omega (arith, h) in (elim (same_key k e.0) as (λ t. same_key k e.0 ≡ t → cond t (Some e.1) (lookup (same_key k) es) ≡ None
-    → beside (cond t ((e.0, v) ∷ es) (e ∷ insert_entry same_key es k v)) (a ∷ ages ++ 0 ∷ []) ≡ insert_entry same_key (beside (e ∷ es) (a ∷ ages)) k (fresh v)) [
+insert-new k v (e ∷ es) (a ∷ ages) none h = let less : length ages ≡ length es = omega (arith, h) in
+    (elim (same_key k e.0) as (λ t. same_key k e.0 ≡ t → cond t (Some e.1) (lookup (same_key k) es) ≡ None
+    → beside (cond t ((e.0, v) ∷ es) (e ∷ insert_entry same_key es k v)) (a ∷ ages ++ 0 ∷ []) ≡ insert_entry same_key (beside (e ∷ es) (a ∷ ages)) k
+    (fresh v)) [
       | true ↦ λ t none. cc
       | false ↦ λ t none. rw t (ap (λ l. (e.0, record { value = e.1; age = a }) ∷ l) (insert-new k v es ages none less))
     ]) refl none
@@ -112,10 +125,11 @@ insert-new k v (e ∷ es) (a ∷ ages) none h = let less : length ages ≡ lengt
 -- a value that is there already
 pub insert-same : (k : Key) (v : Value) (es : List (Key × Value)) → lookup (same_key k) es ≡ Some v → insert_entry same_key es k v ≡ es
 insert-same k v [] h = cc
-insert-same k v (e ∷ es) h = (elim (same_key k e.0) as (λ t. cond t (Some e.1) (lookup (same_key k) es) ≡ Some v → cond t ((e.0, v) ∷ es) (e ∷ insert_entry same_key es k v) ≡ e ∷ es) [
-  | true ↦ λ h. let same : v ≡ e.1 = cc in ap (λ x. (e.0, x) ∷ es) same
-  | false ↦ λ h. ap (λ l. e ∷ l) (insert-same k v es h)
-]) h
+insert-same k v (e ∷ es) h =
+    (elim (same_key k e.0) as (λ t. cond t (Some e.1) (lookup (same_key k) es) ≡ Some v → cond t ((e.0, v) ∷ es) (e ∷ insert_entry same_key es k v) ≡ e ∷ es) [
+      | true ↦ λ h. let same : v ≡ e.1 = cc in ap (λ x. (e.0, x) ∷ es) same
+      | false ↦ λ h. ap (λ l. e ∷ l) (insert-same k v es h)
+    ]) h
 
 same_test : (x : Entry) (s t : Bool) (o : Option Entry) → s ≡ t → cond s (Some x) o ≡ cond t (Some x) o
 same_test x s t o h = ap (λ b. cond b (Some x) o) h
@@ -130,31 +144,42 @@ first_test x y false true o h = cc
 pub insert-sets : (k : Key) (x : Entry) (l : List (Key × Entry)) → Sets l (insert_entry same_key l k x) k (Some x)
 insert-sets k x [] q = same_test x (same_key q k) (same_key k q) None (same_key_equiv.symm q k)
 insert-sets k x (e ∷ l) q = let rest = insert-sets k x l q in
-    (elim (same_key k e.0) as (λ t. same_key k e.0 ≡ t → lookup (same_key q) (cond t ((e.0, x) ∷ l) (e ∷ insert_entry same_key l k x)) ≡ cond (same_key k q) (Some x) (cond (same_key q e.0) (Some e.1) (lookup (same_key q) l))) [
+    (elim (same_key k e.0) as (λ t. same_key k e.0 ≡ t
+    → lookup (same_key q) (cond t ((e.0, x) ∷ l) (e ∷ insert_entry same_key l k x)) ≡ cond (same_key k q) (Some x)
+    (cond (same_key q e.0) (Some e.1) (lookup (same_key q) l))) [
       | true ↦ λ t. let here : k ≡ e.0 = (same_key_is_equality k e.0).0 t in
-          subst (λ j. cond (same_key q j) (Some x) (lookup (same_key q) l) ≡ cond (same_key k q) (Some x) (cond (same_key q j) (Some e.1) (lookup (same_key q) l))) here
+          subst (λ j. cond (same_key q j) (Some x) (lookup (same_key q) l) ≡ cond (same_key k q) (Some x)
+          (cond (same_key q j) (Some e.1) (lookup (same_key q) l))) here
           (first_test x e.1 (same_key q k) (same_key k q) (lookup (same_key q) l) (same_key_equiv.symm q k))
-      | false ↦ λ t. (elim (same_key q e.0) as (λ s. same_key q e.0 ≡ s → cond s (Some e.1) (lookup (same_key q) (insert_entry same_key l k x)) ≡ cond (same_key k q) (Some x) (cond s (Some e.1) (lookup (same_key q) l))) [
-        | true ↦ λ s. let other : same_key k q ≡ false = subst (λ j. same_key k j ≡ false) (sym ((same_key_is_equality q e.0).0 s)) t in sym (ap (λ b. cond b (Some x) (Some e.1)) other)
-        | false ↦ λ s. rest
-      ]) refl
+      | false ↦ λ t.
+          (elim (same_key q e.0) as (λ s. same_key q e.0 ≡ s
+          → cond s (Some e.1) (lookup (same_key q) (insert_entry same_key l k x)) ≡ cond (same_key k q) (Some x) (cond s (Some e.1) (lookup (same_key q) l))) [
+            | true ↦ λ s. let other : same_key k q ≡ false = subst (λ j. same_key k j ≡ false) (sym ((same_key_is_equality q e.0).0 s)) t in
+                sym (ap (λ b. cond b (Some x) (Some e.1)) other)
+            | false ↦ λ s. rest
+          ]) refl
     ]) refl
 
 -- what a put leaves
 module _ (k : Key) (v : Value) (es : List (Key × Value)) (ages : List ℕ) (fs : List (Key × Value)) (bs : List ℕ) (put : fs ≡ insert_entry same_key es k v) where
-  pub put-known : (w : Value) (i : ℕ) → lookup (same_key k) es ≡ Some w → i ≡ position_or_len (same_key k) (keys_of es) → bs ≡ slice_set ages i 0 → Sets (beside es ages) (beside fs bs) k (Some (fresh v))
+  pub put-known : (w : Value) (i : ℕ) → lookup (same_key k) es ≡ Some w → i ≡ position_or_len (same_key k) (keys_of es) → bs ≡ slice_set ages i 0
+      → Sets (beside es ages) (beside fs bs) k (Some (fresh v))
   put-known w i had index set q =
       let at : position (same_key k) (keys_of es) ≡ Some i = known_place (same_key k) es w had ∙ ap Some (sym index) in
       ap (lookup (same_key q)) ((λ j. beside (put j) (set j)) ∙ insert-known k v es ages i at) ∙ insert-sets k (fresh v) (beside es ages) q
 
   pub put-new : lookup (same_key k) es ≡ None → length ages ≡ length es → bs ≡ ages ++ 0 ∷ [] → Sets (beside es ages) (beside fs bs) k (Some (fresh v))
-  put-new none same pushed q = ap (lookup (same_key q)) ((λ j. beside (put j) (pushed j)) ∙ insert-new k v es ages none same) ∙ insert-sets k (fresh v) (beside es ages) q
+  put-new none same pushed q = ap (lookup (same_key q)) ((λ j. beside (put j) (pushed j)) ∙ insert-new k v es ages none same)
+      ∙ insert-sets k (fresh v) (beside es ages) q
 
   -- and what a refused age leaves
-  pub put-popped : lookup (same_key k) es ≡ None → (gs : List (Key × Value)) (r : Option (Key × Value)) → fs ≡ gs ++ option_to_list r → IsSome r → (r ≡ Some (k, v)) × (gs ≡ es)
-  put-popped none gs r off some = popped_last es gs (k, v) r (sym (insert_entry-absent same_key k v es (absent_from_lookup (same_key k) es none)) ∙ sym put ∙ off) some
+  pub put-popped : lookup (same_key k) es ≡ None → (gs : List (Key × Value)) (r : Option (Key × Value)) → fs ≡ gs ++ option_to_list r → IsSome r
+      → (r ≡ Some (k, v)) × (gs ≡ es)
+  put-popped none gs r off some = popped_last es gs (k, v) r
+      (sym (insert_entry-absent same_key k v es (absent_from_lookup (same_key k) es none)) ∙ sym put ∙ off) some
 
-pub count-put : (k : Key) (es fs : List (Key × Value)) (ages bs : List ℕ) (o : Option Value) → o ≡ lookup (same_key k) es → length fs ≡ length es + cond (is_some o) 0 1
+pub count-put : (k : Key) (es fs : List (Key × Value)) (ages bs : List ℕ) (o : Option Value) → o ≡ lookup (same_key k) es
+    → length fs ≡ length es + cond (is_some o) 0 1
     → length (beside fs bs) ≡ length (beside es ages) + cond (is_some (lookup (same_key k) (beside es ages))) 0 1
 count-put k es fs ages bs o old len =
     let found : is_some (lookup (same_key k) (beside es ages)) ≡ is_some o = found-beside k es ages ∙ ap is_some (sym old) in
@@ -166,14 +191,17 @@ renewed_from : (o : Option Entry) (v : Value) → option_map (λ (x : Entry). x.
 renewed_from None v h = cc
 renewed_from (Some x) v h = let same : x.value ≡ v = cc in ap (λ w. Some (fresh w)) same
 
-pub renew-sets : (k : Key) (v : Value) (es : List (Key × Value)) (ages : List ℕ) (i : ℕ) → position (same_key k) (keys_of es) ≡ Some i → lookup (same_key k) es ≡ Some v
+pub renew-sets : (k : Key) (v : Value) (es : List (Key × Value)) (ages : List ℕ) (i : ℕ) → position (same_key k) (keys_of es) ≡ Some i
+    → lookup (same_key k) es ≡ Some v
     → (bs : List ℕ) → bs ≡ slice_set ages i 0 → Sets (beside es ages) (beside es bs) k (option_map renewed (lookup (same_key k) (beside es ages)))
 renew-sets k v es ages i at h bs set =
     let known = insert-known k v es ages i at in
     let same = insert-same k v es h in
-    let now : beside es bs ≡ insert_entry same_key (beside es ages) k (fresh v) = ap (beside es) set ∙ ap (λ l. beside l (slice_set ages i 0)) (sym same) ∙ known in
+    let now : beside es bs ≡ insert_entry same_key (beside es ages) k (fresh v) = ap (beside es) set ∙ ap (λ l. beside l (slice_set ages i 0)) (sym same)
+    ∙ known in
     let entry = renewed_from (lookup (same_key k) (beside es ages)) v (value-beside k es ages ∙ h) in
-    λ q. ap (lookup (same_key q)) now ∙ insert-sets k (fresh v) (beside es ages) q ∙ ap (λ o. cond (same_key k q) o (lookup (same_key q) (beside es ages))) (sym entry)
+    λ q. ap (lookup (same_key q)) now ∙ insert-sets k (fresh v) (beside es ages) q
+    ∙ ap (λ o. cond (same_key k q) o (lookup (same_key q) (beside es ages))) (sym entry)
 
 -- a key that is not there
 pub absent-sets : (k : Key) (l : List (Key × Entry)) (o : Option Entry) → o ≡ None → lookup (same_key k) l ≡ None → Sets l l k o
@@ -195,14 +223,16 @@ none_from_test (Some x) e = cc
 
 -- ---- a removal
 
-module _ (es : List (Key × Value)) (ages : List ℕ) (i : ℕ) (k : Key) (v : Value) (distinct : IsDistinct same_key (keys_of es)) (at : slice_get es i ≡ Some (k, v)) where
+module _ (es : List (Key × Value)) (ages : List ℕ) (i : ℕ) (k : Key) (v : Value) (distinct : IsDistinct same_key (keys_of es))
+    (at : slice_get es i ≡ Some (k, v)) where
   pub place-removed : position (same_key k) (keys_of es) ≡ Some i
   place-removed = index-first (same_key k) es i (own_first same_key same_key_equiv es i k v distinct at)
 
   removed_from : (p : Option (Key × Entry)) → slice_get (beside es ages) i ≡ p → length ages ≡ length es
       → (fs : List (Key × Value)) (bs : List ℕ) (a : ℕ) → fs ≡ swap_remove es i (k, v) → bs ≡ swap_remove ages i a → Sets (beside es ages) (beside fs bs) k None
   removed_from None e same fs bs a f b =
-      let none : slice_get es i ≡ None = ap (λ l. slice_get l i) (sym (rows-beside es ages)) ∙ slice_get-map row (beside es ages) i ∙ ap (option_map row) e in cc
+      let none : slice_get es i ≡ None = ap (λ l. slice_get l i) (sym (rows-beside es ages)) ∙ slice_get-map row (beside es ages) i ∙ ap (option_map row) e in
+      cc
   removed_from (Some p) e same fs bs a f b =
       let l = beside es ages in
       let here : Some (row p) ≡ Some (k, v) = sym (ap (option_map row) e) ∙ sym (slice_get-map row l i) ∙ ap (λ r. slice_get r i) (rows-beside es ages) ∙ at in
@@ -212,19 +242,22 @@ module _ (es : List (Key × Value)) (ages : List ℕ) (i : ℕ) (k : Key) (v : V
       let some : 0 < length l = omega (arith, within) in
       let many : 0 < length ages = omega (arith, some, same, length-beside es ages) in
       let rows : map row (swap_remove l i p) ≡ fs = map-swap_remove row l i p some ∙ (λ j. swap_remove (rows-beside es ages j) i (pair j)) ∙ sym f in
-      let old : ages_of (swap_remove l i p) ≡ bs = map-swap_remove (λ (x : Key × Entry). x.1.age) l i p some ∙ ap (λ r. swap_remove r i p.1.age) (ages-beside es ages same) ∙ swap_remove-default ages i p.1.age a many ∙ sym b in
+      let old : ages_of (swap_remove l i p) ≡ bs = map-swap_remove (λ (x : Key × Entry). x.1.age) l i p some
+      ∙ ap (λ r. swap_remove r i p.1.age) (ages-beside es ages same) ∙ swap_remove-default ages i p.1.age a many ∙ sym b in
       let new : beside fs bs ≡ swap_remove l i p = (λ j. beside (sym rows j) (sym old j)) ∙ beside-again (swap_remove l i p) in
       let index : position (same_key k) (keys_of l) ≡ Some i = ap (position (same_key k)) (keys-beside es ages) ∙ place-removed in
       let apart : IsDistinct same_key (keys_of l) = subst (IsDistinct same_key) (sym (keys-beside es ages)) distinct in
       let out = swap_out same_key same_key_equiv (same_key k) (same_key_equiv.congr k) l i p index e apart (beside fs bs) new in
       λ q. out.updated.0 q
 
-  pub remove-sets : length ages ≡ length es → (fs : List (Key × Value)) (bs : List ℕ) (a : ℕ) → fs ≡ swap_remove es i (k, v) → bs ≡ swap_remove ages i a → Sets (beside es ages) (beside fs bs) k None
+  pub remove-sets : length ages ≡ length es → (fs : List (Key × Value)) (bs : List ℕ) (a : ℕ) → fs ≡ swap_remove es i (k, v) → bs ≡ swap_remove ages i a
+      → Sets (beside es ages) (beside fs bs) k None
   remove-sets = removed_from (slice_get (beside es ages) i) refl
 
 -- what stands at a removed age's place or later stood later
 pub later_stays : (old new : List ℕ) (i m n most : ℕ) → m + 1 ≡ n
-    → ((d : ℕ) → i + 1 < n → slice_index_or new i d ≡ slice_index_or old (n - 1) d) × ((j : ℕ) (d : ℕ) → j ≢ i → j + 1 < n → slice_index_or new j d ≡ slice_index_or old j d)
+    → ((d : ℕ) → i + 1 < n → slice_index_or new i d ≡ slice_index_or old (n - 1) d)
+    × ((j : ℕ) (d : ℕ) → j ≢ i → j + 1 < n → slice_index_or new j d ≡ slice_index_or old j d)
     → AllWithin (λ age. age ≤ most) old (i + 1) n → AllWithin (λ age. age ≤ most) new i m
 later_stays old new i m n most one moves all j d low high = by (j == i) refl
   where
@@ -247,7 +280,9 @@ pub raise-beside : (q : Key) (es : List (Key × Value)) (ages : List ℕ) → le
 raise-beside q [] ages h = refl
 raise-beside q (e ∷ es) [] h = absurd (omega (arith, h))
 raise-beside q (e ∷ es) (a ∷ ages) h = let less : length ages ≡ length es = omega (arith, h) in let rest = raise-beside q es ages less in
-    elim (same_key q e.0) as (λ t. cond {A = Option Entry} t (Some (record { value = e.1; age = older a })) (lookup (same_key q) (beside es (map older ages))) ≡ option_map aged (cond t (Some (record { value = e.1; age = a })) (lookup (same_key q) (beside es ages)))) [
+    elim (same_key q e.0) as (λ t. cond {A = Option Entry} t (Some (record { value = e.1; age = older a }))
+    (lookup (same_key q) (beside es (map older ages))) ≡ option_map aged
+    (cond t (Some (record { value = e.1; age = a })) (lookup (same_key q) (beside es ages)))) [
       | true ↦ refl
       | false ↦ rest
     ]
@@ -257,7 +292,8 @@ swept_from limit None = refl
 swept_from limit (Some e) = refl
 
 -- where no age is over the limit, all stays
-pub all_within : (limit : ℕ) (q : Key) (l : List (Key × Entry)) → AllWithin (λ age. age ≤ limit) (ages_of l) 0 (length l) → option_and_then (within limit) (lookup (same_key q) l) ≡ lookup (same_key q) l
+pub all_within : (limit : ℕ) (q : Key) (l : List (Key × Entry)) → AllWithin (λ age. age ≤ limit) (ages_of l) 0 (length l)
+    → option_and_then (within limit) (lookup (same_key q) l) ≡ lookup (same_key q) l
 all_within limit q [] all = refl
 all_within limit q (e ∷ l) all =
     let rest = all_within limit q l (λ j d low high. all (suc j) d (omega arith) (omega (arith, high))) in
@@ -271,13 +307,15 @@ all_within limit q (e ∷ l) all =
 -- an entry over the limit makes no difference
 pub over_goes : (limit : ℕ) (old new : List (Key × Entry)) (k : Key) (x : Entry) → Sets old new k None → lookup (same_key k) old ≡ Some x → limit < x.age
     → (q : Key) → option_and_then (within limit) (lookup (same_key q) new) ≡ option_and_then (within limit) (lookup (same_key q) old)
-over_goes limit old new k x sets at over q = ap (option_and_then (within limit)) (sets q) ∙ (elim (same_key k q) as (λ t. same_key k q ≡ t → option_and_then (within limit) (cond t None (lookup (same_key q) old)) ≡ option_and_then (within limit) (lookup (same_key q) old)) [
-  | true ↦ λ t.
-      let test : nat_le x.age limit ≡ false = grind (arith, nat_tests) in
-      let here : lookup (same_key q) old ≡ Some x = subst (λ j. lookup (same_key j) old ≡ Some x) ((same_key_is_equality k q).0 t) at in
-      sym (ap (option_and_then (within limit)) here ∙ ap (λ b. cond {A = Option Entry} b (Some x) None) test)
-  | false ↦ λ t. refl
-]) refl
+over_goes limit old new k x sets at over q = ap (option_and_then (within limit)) (sets q)
+    ∙ (elim (same_key k q) as (λ t. same_key k q ≡ t
+    → option_and_then (within limit) (cond t None (lookup (same_key q) old)) ≡ option_and_then (within limit) (lookup (same_key q) old)) [
+      | true ↦ λ t.
+          let test : nat_le x.age limit ≡ false = grind (arith, nat_tests) in
+          let here : lookup (same_key q) old ≡ Some x = subst (λ j. lookup (same_key j) old ≡ Some x) ((same_key_is_equality k q).0 t) at in
+          sym (ap (option_and_then (within limit)) here ∙ ap (λ b. cond {A = Option Entry} b (Some x) None) test)
+      | false ↦ λ t. refl
+    ]) refl
 
 pub is_some_within : {X : Type 0} (xs : List X) (i : ℕ) → i < length xs → is_some (slice_get xs i) ≡ true
 is_some_within [] i h = absurd (omega (arith, h))
@@ -315,20 +353,24 @@ pub some_placed : (k : Key) (l : List (Key × Entry)) (i : ℕ) → place_of l k
 some_placed k l i at = sym (some_index (same_key k) l) ∙ ap is_some at
 
 -- the age at a key's place
-pub age_placed : (k : Key) (l : List (Key × Entry)) (i a : ℕ) → place_of l k ≡ Some i → slice_get (ages_of l) i ≡ Some a → (x : Entry) × (lookup (same_key k) l ≡ Some x) × (x.age ≡ a)
+pub age_placed : (k : Key) (l : List (Key × Entry)) (i a : ℕ) → place_of l k ≡ Some i → slice_get (ages_of l) i ≡ Some a
+    → (x : Entry) × (lookup (same_key k) l ≡ Some x) × (x.age ≡ a)
 age_placed k l i a at age =
     let found = Found-position (same_key k) l i at in
     let p = some_from_test (slice_get l i) (is_some_within l i found.within) in
     let value : slice_get (values_of l) i ≡ Some p.0.1 = slice_get-map (λ (e : Key × Entry). e.1) l i ∙ ap (option_map (λ (e : Key × Entry). e.1)) p.1 in
-    let same : Some p.0.1.age ≡ Some a = ap (option_map (λ (e : Key × Entry). e.1.age)) (sym p.1) ∙ sym (slice_get-map (λ (e : Key × Entry). e.1.age) l i) ∙ age in
+    let same : Some p.0.1.age ≡ Some a = ap (option_map (λ (e : Key × Entry). e.1.age)) (sym p.1) ∙ sym (slice_get-map (λ (e : Key × Entry). e.1.age) l i)
+    ∙ age in
     (p.0.1, found.value ∙ value, cc)
 
 -- an age more within a limit
-pub more_within : (ages : List ℕ) (i n most a : ℕ) → slice_get ages i ≡ Some a → a ≤ most → AllWithin (λ age. age ≤ most) ages (i + 1) n → AllWithin (λ age. age ≤ most) ages i n
+pub more_within : (ages : List ℕ) (i n most a : ℕ) → slice_get ages i ≡ Some a → a ≤ most → AllWithin (λ age. age ≤ most) ages (i + 1) n
+    → AllWithin (λ age. age ≤ most) ages i n
 more_within ages i n most a at le all j d low high = by (j == i) refl
   where
     by : (t : Bool) → (j == i) ≡ t → slice_index_or ages j d ≤ most
-    by true t = let here : i ≡ j = grind (arith, nat_tests) in subst (λ x. slice_index_or ages x d ≤ most) here (subst (λ x. x ≤ most) (sym (get_or_from_slice_get ages i a d at)) le)
+    by true t = let here : i ≡ j = grind (arith, nat_tests) in
+        subst (λ x. slice_index_or ages x d ≤ most) here (subst (λ x. x ≤ most) (sym (get_or_from_slice_get ages i a d at)) le)
     by false t = let above : i + 1 ≤ j = grind (arith, nat_tests) in all j d above high
 
 -- ---- touches

@@ -26,7 +26,8 @@ inserted-absent true xs x h = absurd (cc)
 inserted-absent false xs x h = refl
 
 -- an item of a longer list is one of the list, or the last
-pub slice_get-push : {X : Type 0} (xs : List X) (x y : X) (i : ℕ) → slice_get (xs ++ x ∷ []) i ≡ Some y → (slice_get xs i ≡ Some y) ⊎ ((i ≡ length xs) × (x ≡ y))
+pub slice_get-push : {X : Type 0} (xs : List X) (x y : X) (i : ℕ) → slice_get (xs ++ x ∷ []) i ≡ Some y
+    → (slice_get xs i ≡ Some y) ⊎ ((i ≡ length xs) × (x ≡ y))
 slice_get-push [] x y zero h = inr (refl, cc)
 slice_get-push [] x y (suc i) h = absurd (cc)
 slice_get-push (z ∷ xs) x y zero h = inl h

@@ -9,7 +9,8 @@ left_true true x h = absurd (true≢false (sym h))
 left_true false x h = h
 
 -- a task is asked for a part: its parent is taken from the list, and the new row put at its end
-module _ (old mid : List (Option TaskRow)) (parent : Part) (slot : ℕ) (task : Task) (key : Option Key) (sets : SetsOnly old mid slot (Some (fresh task (Some parent) key))) (past : IsPast old slot)
+module _ (old mid : List (Option TaskRow)) (parent : Part) (slot : ℕ) (task : Task) (key : Option Key)
+    (sets : SetsOnly old mid slot (Some (fresh task (Some parent) key))) (past : IsPast old slot)
     (some : IsRow old parent.slot) (ready : List ℕ) (t : AreTasks old ready) where
   apart : parent.slot ≢ slot
   apart e = let below = past parent.slot some in omega (arith, below, e)
@@ -21,10 +22,12 @@ module _ (old mid : List (Option TaskRow)) (parent : Part) (slot : ℕ) (task : 
       ∙ ap is_ready (sym (sets parent.slot ∙ chosen_other parent.slot slot (Some (fresh task (Some parent) key)) (row_at old parent.slot) apart)) ∙ waits)
       (λ _. refl)
 
-  pub pushed_after : (left after : List ℕ) → RiseFrom 0 left → ((q : ℕ) → is_listed left q ≡ cond (q == parent.slot) false (is_listed ready q)) → after ≡ left ++ slot ∷ []
+  pub pushed_after : (left after : List ℕ) → RiseFrom 0 left → ((q : ℕ) → is_listed left q ≡ cond (q == parent.slot) false (is_listed ready q))
+      → after ≡ left ++ slot ∷ []
       → RiseFrom 0 after × ((q : ℕ) → is_listed after q ≡ cond (q == slot) true (cond (q == parent.slot) false (is_listed ready q)))
-  pushed_after left after rising lists is = subst (λ xs. RiseFrom 0 xs × ((q : ℕ) → is_listed xs q ≡ cond (q == slot) true (cond (q == parent.slot) false (is_listed ready q)))) (sym is) (
-    rise_push 0 left slot rising (omega arith)
-        (λ q h. past q (ready_is_row (row_at old q) (sym (t.listed q) ∙ left_true (q == parent.slot) (is_listed ready q) (sym (lists q) ∙ h)))),
-    λ q. listed_push left slot q ∙ ap (cond (q == slot) true) (lists q),
-  )
+  pushed_after left after rising lists is = subst
+      (λ xs. RiseFrom 0 xs × ((q : ℕ) → is_listed xs q ≡ cond (q == slot) true (cond (q == parent.slot) false (is_listed ready q)))) (sym is) (
+        rise_push 0 left slot rising (omega arith)
+            (λ q h. past q (ready_is_row (row_at old q) (sym (t.listed q) ∙ left_true (q == parent.slot) (is_listed ready q) (sym (lists q) ∙ h)))),
+        λ q. listed_push left slot q ∙ ap (cond (q == slot) true) (lists q),
+      )

@@ -38,7 +38,8 @@ module _ {X : Type 0} where
   inserted_before_end (y ∷ xs) x l (suc i) e = ap (λ ys. y ∷ ys) (inserted_before_end xs x l i (omega (arith, e)))
 
   -- a list whose end left, and came back after another
-  pub before_end_of : (left items middle after : List X) (l x : X) (i : ℕ) → items ≡ left ++ l ∷ [] → i + 1 ≡ length items → middle ≡ left ++ x ∷ [] → after ≡ middle ++ l ∷ [] → after ≡ insert items i x
+  pub before_end_of : (left items middle after : List X) (l x : X) (i : ℕ) → items ≡ left ++ l ∷ [] → i + 1 ≡ length items → middle ≡ left ++ x ∷ []
+      → after ≡ middle ++ l ∷ [] → after ≡ insert items i x
   before_end_of left items middle after l x i e h m a =
       let len = length-append left (l ∷ []) in
       let same : length items ≡ length (left ++ l ∷ []) = ap length e in

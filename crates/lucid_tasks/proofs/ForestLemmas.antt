@@ -124,7 +124,8 @@ ready_meaning rows f slot h = record {
 pub ready_from_meaning : (rows : List (Option TaskRow)) → IsForest rows → (slot : ℕ) → IsReady rows slot → is_ready (row_at rows slot) ≡ true
 ready_from_meaning rows f slot h = (elim (is_ready (row_at rows slot)) as (λ b. is_ready (row_at rows slot) ≡ b → b ≡ true) [
   | true ↦ λ e. refl
-  | false ↦ λ e. let w = waits_for rows slot h.row e in absurd (h.free w.1.0 (record { slot = slot; index = w.0 }) (f.child (record { slot = slot; index = w.0 }) w.1.0 w.1.1) refl)
+  | false ↦ λ e. let w = waits_for rows slot h.row e in
+      absurd (h.free w.1.0 (record { slot = slot; index = w.0 }) (f.child (record { slot = slot; index = w.0 }) w.1.0 w.1.1) refl)
 ]) refl
 
 pub is_below : (rows : List (Option TaskRow)) (q : ℕ) → IsRow rows q → q < length rows
@@ -138,11 +139,12 @@ is_below rows q some = by_row (row_at rows q) refl some
 pub ready_exists : (rows : List (Option TaskRow)) → IsForest rows → (left slot : ℕ) → length rows ≤ slot + left → IsRow rows slot
     → (q : ℕ) × (is_ready (row_at rows q) ≡ true)
 ready_exists rows f zero slot h row = let below = is_below rows slot row in absurd (omega (arith, h, below))
-ready_exists rows f (suc left) slot h row = (elim (is_ready (row_at rows slot)) as (λ b. is_ready (row_at rows slot) ≡ b → (q : ℕ) × (is_ready (row_at rows q) ≡ true)) [
-  | true ↦ λ e. (slot, e)
-  | false ↦ λ e.
-      let w = waits_for rows slot row e in
-      let parent = f.child (record { slot = slot; index = w.0 }) w.1.0 w.1.1 in
-      let older = f.older w.1.0 (record { slot = slot; index = w.0 }) parent in
-      ready_exists rows f left w.1.0 (omega (arith, h, older)) (parent_is_row rows w.1.0 (record { slot = slot; index = w.0 }) parent)
-]) refl
+ready_exists rows f (suc left) slot h row = (elim
+    (is_ready (row_at rows slot)) as (λ b. is_ready (row_at rows slot) ≡ b → (q : ℕ) × (is_ready (row_at rows q) ≡ true)) [
+      | true ↦ λ e. (slot, e)
+      | false ↦ λ e.
+          let w = waits_for rows slot row e in
+          let parent = f.child (record { slot = slot; index = w.0 }) w.1.0 w.1.1 in
+          let older = f.older w.1.0 (record { slot = slot; index = w.0 }) parent in
+          ready_exists rows f left w.1.0 (omega (arith, h, older)) (parent_is_row rows w.1.0 (record { slot = slot; index = w.0 }) parent)
+    ]) refl

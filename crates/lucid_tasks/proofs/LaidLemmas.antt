@@ -18,7 +18,8 @@ three_same f g e =
     let first = e 1 (omega arith) in
     let second = e 2 (omega arith) in λ i. zeroth i ∷ first i ∷ second i ∷ []
 
-pub three_set : (f g : ℕ → PartState) (index : ℕ) (s : PartState) → index < 3 → g index ≡ s → ((k : ℕ) → k < 3 → k ≢ index → g k ≡ f k) → three_of g ≡ set (three_of f) index s
+pub three_set : (f g : ℕ → PartState) (index : ℕ) (s : PartState) → index < 3 → g index ≡ s → ((k : ℕ) → k < 3 → k ≢ index → g k ≡ f k)
+    → three_of g ≡ set (three_of f) index s
 three_set f g zero s h is e =
     let first = e 1 (omega arith) (λ x. omega (arith, x)) in
     let second = e 2 (omega arith) (λ x. omega (arith, x)) in λ i. is i ∷ first i ∷ second i ∷ []
@@ -94,21 +95,31 @@ module _ (values : List (ℕ × Value)) where
   at_from : (slot : ℕ) (rows : List Row) (q : ℕ) → row_at (laid_from values slot rows) q ≡ option_and_then (laid_row values (slot + q)) (slice_get rows q)
   at_from slot [] q = refl
   at_from slot (r ∷ rows) zero = let e : slot ≡ slot + 0 = omega arith in ap (λ n. laid_row values n r) e
-  at_from slot (r ∷ rows) (suc q) = let e : suc slot + q ≡ slot + suc q = omega arith in at_from (suc slot) rows q ∙ ap (λ n. option_and_then (laid_row values n) (slice_get rows q)) e
+  at_from slot (r ∷ rows) (suc q) = let e : suc slot + q ≡ slot + suc q = omega arith in
+      at_from (suc slot) rows q ∙ ap (λ n. option_and_then (laid_row values n) (slice_get rows q)) e
 
   pub at : (rows : List Row) (q : ℕ) → row_at (laid_from values 0 rows) q ≡ option_and_then (laid_row values q) (slice_get rows q)
   at rows q = let e : 0 + q ≡ q = omega arith in at_from 0 rows q ∙ ap (λ n. option_and_then (laid_row values n) (slice_get rows q)) e
 
-  by_live : (q : ℕ) (o : Option Row) → option_and_then (laid_row values q) o ≡ option_map (laid values q) (option_and_then (λ (row : Row). cond row.live (Some row) None) o)
+  by_live : (q : ℕ) (o : Option Row) → option_and_then (laid_row values q) o ≡ option_map (laid values q)
+      (option_and_then (λ (row : Row). cond row.live (Some row) None) o)
   by_live q None = refl
-  by_live q (Some row) = (elim row.live as (λ b. cond b (Some (laid values q row)) None ≡ option_map (laid values q) (cond b (Some row) None)) [ true ↦ refl | false ↦ refl ])
+  by_live q (Some row) = (elim row.live as (λ b. cond b (Some (laid values q row)) None ≡ option_map (laid values q) (cond b (Some row) None))
+      [ true ↦ refl | false ↦ refl ])
 
   pub at_live : (rows : List Row) (q : ℕ) → row_at (laid_from values 0 rows) q ≡ option_map (laid values q) (live_at rows q)
   at_live rows q = at rows q ∙ by_live q (slice_get rows q)
 
   living : (q : ℕ) (o : Option Row) → IsSome (option_and_then (laid_row values q) o) → (row : Row) × ((o ≡ Some row) × (row.live ≡ true))
   living q None h = absurd (true≢false (sym h))
-  living q (Some row) h = (row, (refl, (elim row.live as (λ b. IsSome (cond b (Some (laid values q row)) None) → b ≡ true) [ true ↦ λ _. refl | false ↦ λ h. absurd (true≢false (sym h)) ]) h))
+  living q (Some row) h = (
+    row,
+    (
+      refl,
+      (elim row.live as (λ b. IsSome (cond b (Some (laid values q row)) None) → b ≡ true)
+          [ true ↦ λ _. refl | false ↦ λ h. absurd (true≢false (sym h)) ]) h,
+    ),
+  )
 
   pub the_live : (rows : List Row) (q : ℕ) → IsRow (laid_from values 0 rows) q → (row : Row) × ((slice_get rows q ≡ Some row) × (row.live ≡ true))
   the_live rows q h = living q (slice_get rows q) (subst IsSome (at rows q) h)
@@ -116,7 +127,8 @@ module _ (values : List (ℕ × Value)) where
   pub row_in_range : (rows : List Row) (q : ℕ) → IsRow (laid_from values 0 rows) q → q < length rows
   row_in_range rows q h = let r = the_live rows q h in slice_get_within rows q r.0 r.1.0
 
-  pub shown_is : (rows : List Row) (q : ℕ) (row : Row) → slice_get rows q ≡ Some row → row.live ≡ true → row_at (laid_from values 0 rows) q ≡ Some (laid values q row)
+  pub shown_is : (rows : List Row) (q : ℕ) (row : Row) → slice_get rows q ≡ Some row → row.live ≡ true
+      → row_at (laid_from values 0 rows) q ≡ Some (laid values q row)
   shown_is rows q row e live = at rows q ∙ ap (option_and_then (laid_row values q)) e ∙ ap (λ b. cond b (Some (laid values q row)) None) live
 
 -- the row of another slot, with the same values of its parts
@@ -125,7 +137,8 @@ same_row : (values after : List (ℕ × Value)) (q : ℕ) (o : Option Row) → (
 same_row values after q None e = refl
 same_row values after q (Some r) e =
     let parts = three_same (laid_state values q r) (laid_state after q r) (λ k h. ap (state (named (get_or r.asked k 0))) (e k h)) in
-    ap (λ (ps : List PartState). cond r.live (Some (record { task = r.task; parent = laid_parent r; cursor = r.cursor; key = laid_key r; parts = ps })) None) parts
+    ap (λ (ps : List PartState). cond r.live (Some (record { task = r.task; parent = laid_parent r; cursor = r.cursor; key = laid_key r; parts = ps })) None)
+    parts
 
 live_back : (o : Option Row) (row : Row) → option_and_then (λ (r : Row). cond r.live (Some r) None) o ≡ Some row → (o ≡ Some row) × (row.live ≡ true)
 live_back None row e = absurd (none-some row e)
@@ -139,14 +152,16 @@ live_from o row e live = ap (option_and_then (λ (r : Row). cond r.live (Some r)
 
 -- ---- what a value of a part says
 
-module _ (rows : List Row) (values : Values) (l : AreLaid rows values) (slot : ℕ) (row : Row) (at_slot : slice_get rows slot ≡ Some row) (live : row.live ≡ true) where
+module _ (rows : List Row) (values : Values) (l : AreLaid rows values) (slot : ℕ) (row : Row) (at_slot : slice_get rows slot ≡ Some row)
+    (live : row.live ≡ true) where
   idle_word : (i : ℕ) → i < 3 → IsSome (value_at values.0 (part_number slot i)) → get_or row.asked i 0 ≡ 0
   idle_word i h some =
       let has = l.owned slot i h some in
       let same : has.0 ≡ row = some_is row has.0 row (sym has.1.0 ∙ at_slot) in
       ap (λ (r : Row). get_or r.asked i 0) (sym same) ∙ has.1.1.1
 
-  got_by : (i : ℕ) → i < 3 → (a : ℕ) → get_or row.asked i 0 ≡ a → (o : Option Value) → value_at values.0 (part_number slot i) ≡ o → got_value (state (named a) o) ≡ o
+  got_by : (i : ℕ) → i < 3 → (a : ℕ) → get_or row.asked i 0 ≡ a → (o : Option Value) → value_at values.0 (part_number slot i) ≡ o
+      → got_value (state (named a) o) ≡ o
   got_by i h zero e None v = refl
   got_by i h zero e (Some x) v = refl
   got_by i h (suc a) e None v = refl
@@ -171,13 +186,18 @@ module _ (rows new : List Row) (values after : Values) (l : AreLaid rows values)
     (at_slot : slice_get rows slot ≡ Some row) (live : row.live ≡ true) (new_at : slice_get new slot ≡ Some changed) (still : changed.live ≡ true)
     (new_other : (q : ℕ) → q ≢ slot → slice_get new q ≡ slice_get rows q) (new_length : length new ≡ length rows)
     (same : (q k : ℕ) → q ≢ slot → k < 3 → value_at after.0 (part_number q k) ≡ value_at values.0 (part_number q k)) where
-  pub changes : (change : TaskRow → TaskRow) → laid after.0 slot changed ≡ change (laid values.0 slot row) → ChangesOnly (laid_from values.0 0 rows) (laid_from after.0 0 new) slot change
-  changes change is q = chosen q slot (row_at (laid_from after.0 0 new) q) (option_map change (row_at (laid_from values.0 0 rows) q)) (row_at (laid_from values.0 0 rows) q)
+  pub changes : (change : TaskRow → TaskRow) → laid after.0 slot changed ≡ change (laid values.0 slot row)
+      → ChangesOnly (laid_from values.0 0 rows) (laid_from after.0 0 new) slot change
+  changes change is q = chosen q slot (row_at (laid_from after.0 0 new) q) (option_map change (row_at (laid_from values.0 0 rows) q))
+      (row_at (laid_from values.0 0 rows) q)
       (λ e. ap (row_at (laid_from after.0 0 new)) e ∙ shown_is after.0 new slot changed new_at still ∙ ap Some is
-      ∙ ap (option_map change) (sym (shown_is values.0 rows slot row at_slot live)) ∙ ap (λ p. option_map change (row_at (laid_from values.0 0 rows) p)) (sym e))
-      (λ ne. at after.0 new q ∙ ap (option_and_then (laid_row after.0 q)) (new_other q ne) ∙ same_row values.0 after.0 q (slice_get rows q) (λ k h. same q k ne h) ∙ sym (at values.0 rows q))
+      ∙ ap (option_map change) (sym (shown_is values.0 rows slot row at_slot live))
+      ∙ ap (λ p. option_map change (row_at (laid_from values.0 0 rows) p)) (sym e))
+      (λ ne. at after.0 new q ∙ ap (option_and_then (laid_row after.0 q)) (new_other q ne)
+      ∙ same_row values.0 after.0 q (slice_get rows q) (λ k h. same q k ne h) ∙ sym (at values.0 rows q))
 
-  pub stays_laid : length changed.asked ≡ 3 → values.1 ≤ after.1 → ((i : ℕ) → i < 3 → IsSome (value_at after.0 (part_number slot i)) → get_or changed.asked i 0 ≡ 0) → AreLaid new after
+  pub stays_laid : length changed.asked ≡ 3 → values.1 ≤ after.1
+      → ((i : ℕ) → i < 3 → IsSome (value_at after.0 (part_number slot i)) → get_or changed.asked i 0 ≡ 0) → AreLaid new after
   stays_laid three room keep = record {
     owned = λ s i h some. owned_case s i h some (cases_eq s slot);
     three = λ s r e. three_case s r e (cases_eq s slot);
@@ -186,7 +206,8 @@ module _ (rows new : List Row) (values after : Values) (l : AreLaid rows values)
   }
     where
       owned_case : (s i : ℕ) → i < 3 → IsSome (value_at after.0 (part_number s i)) → (s ≡ slot) ⊎ (s ≡ slot → ⊥) → HasIdle new s i
-      owned_case s i h some (inl e) = (changed, (ap (slice_get new) e ∙ new_at, (still, keep i h (subst (λ n. IsSome (value_at after.0 (part_number n i))) e some))))
+      owned_case s i h some (inl e) =
+          (changed, (ap (slice_get new) e ∙ new_at, (still, keep i h (subst (λ n. IsSome (value_at after.0 (part_number n i))) e some))))
       owned_case s i h some (inr ne) = let had = l.owned s i h (subst IsSome (same s i ne h) some) in (had.0, (new_other s ne ∙ had.1.0, had.1.1))
 
       three_case : (s : ℕ) (r : Row) → slice_get new s ≡ Some r → (s ≡ slot) ⊎ (s ≡ slot → ⊥) → length r.asked ≡ 3
@@ -195,19 +216,23 @@ module _ (rows new : List Row) (values after : Values) (l : AreLaid rows values)
 
 -- ---- the values of other parts, where one was set
 
-module _ (values after : List (ℕ × Value)) (slot i : ℕ) (h : i < 3) (o : Option Value) (sets : SetsOne (value_at values) (value_at after) (part_number slot i) o) where
+module _ (values after : List (ℕ × Value)) (slot i : ℕ) (h : i < 3) (o : Option Value)
+    (sets : SetsOne (value_at values) (value_at after) (part_number slot i) o) where
   pub set_here : value_at after (part_number slot i) ≡ o
   set_here = sets (part_number slot i) ∙ chosen_same (part_number slot i) (part_number slot i) o (value_at values (part_number slot i)) refl
 
   pub set_elsewhere : (q k : ℕ) → q ≢ slot → k < 3 → value_at after (part_number q k) ≡ value_at values (part_number q k)
-  set_elsewhere q k ne l = sets (part_number q k) ∙ chosen_other (part_number q k) (part_number slot i) o (value_at values (part_number q k)) (other_slot q k slot i ne l h)
+  set_elsewhere q k ne l = sets (part_number q k)
+      ∙ chosen_other (part_number q k) (part_number slot i) o (value_at values (part_number q k)) (other_slot q k slot i ne l h)
 
   pub set_beside : (k : ℕ) → k ≢ i → k < 3 → value_at after (part_number slot k) ≡ value_at values (part_number slot k)
-  set_beside k ne l = sets (part_number slot k) ∙ chosen_other (part_number slot k) (part_number slot i) o (value_at values (part_number slot k)) (other_part slot k i ne l h)
+  set_beside k ne l = sets (part_number slot k) ∙ chosen_other (part_number slot k) (part_number slot i) o (value_at values (part_number slot k))
+      (other_part slot k i ne l h)
 
 -- ---- a part of a row
 
-module _ (rows : List Row) (values : Values) (l : AreLaid rows values) (slot i : ℕ) (row : Row) (at_slot : slice_get rows slot ≡ Some row) (live : row.live ≡ true) (h : i < 3) where
+module _ (rows : List Row) (values : Values) (l : AreLaid rows values) (slot i : ℕ) (row : Row) (at_slot : slice_get rows slot ≡ Some row)
+    (live : row.live ≡ true) (h : i < 3) where
   in_range : slot < length rows
   in_range = slice_get_within rows slot row at_slot
 
@@ -253,8 +278,10 @@ module _ (rows : List Row) (values : Values) (l : AreLaid rows values) (slot i :
     given_changes = changes rows (set rows slot gets) values after l slot row gets at_slot live (get_set rows slot gets in_range) live
         (λ q ne. get_set_other rows slot gets q ne) (set_length rows slot gets) (set_elsewhere values.0 after.0 slot i h (Some v) sets) (with_part i (Got v))
         (ap (λ (ps : List PartState). laid_parts ps) (three_set (laid_state values.0 slot row) (laid_state after.0 slot gets) i (Got v) h
-        (ap (λ w. state (named w) (value_at after.0 (part_number slot i))) (word_set row.asked i 0 within) ∙ ap (state None) (set_here values.0 after.0 slot i h (Some v) sets))
-        (λ k m ne. ap (λ w. state (named w) (value_at after.0 (part_number slot k))) (word_other row.asked i 0 k ne) ∙ ap (state (named (get_or row.asked k 0))) (set_beside values.0 after.0 slot i h (Some v) sets k ne m))))
+        (ap (λ w. state (named w) (value_at after.0 (part_number slot i))) (word_set row.asked i 0 within)
+        ∙ ap (state None) (set_here values.0 after.0 slot i h (Some v) sets))
+        (λ k m ne. ap (λ w. state (named w) (value_at after.0 (part_number slot k))) (word_other row.asked i 0 k ne)
+        ∙ ap (state (named (get_or row.asked k 0))) (set_beside values.0 after.0 slot i h (Some v) sets k ne m))))
       where
         laid_parts : List PartState → TaskRow
         laid_parts ps = record { task = row.task; parent = laid_parent row; cursor = row.cursor; key = laid_key row; parts = ps }
@@ -267,7 +294,8 @@ module _ (rows : List Row) (values : Values) (l : AreLaid rows values) (slot i :
         keep : (k : ℕ) → k < 3 → IsSome (value_at after.0 (part_number slot k)) → get_or (set row.asked i 0) k 0 ≡ 0
         keep k m some = elim (cases_eq k i) [
           | inl e ↦ ap (λ n. get_or (set row.asked i 0) n 0) e ∙ word_set row.asked i 0 within
-          | inr ne ↦ word_other row.asked i 0 k ne ∙ idle_word rows values l slot row at_slot live k m (subst IsSome (set_beside values.0 after.0 slot i h (Some v) sets k ne m) some)
+          | inr ne ↦ word_other row.asked i 0 k ne ∙ idle_word rows values l slot row at_slot live k m
+              (subst IsSome (set_beside values.0 after.0 slot i h (Some v) sets k ne m) some)
         ]
 
   -- its value is taken out
@@ -278,8 +306,10 @@ module _ (rows : List Row) (values : Values) (l : AreLaid rows values) (slot i :
     emptied_is (Some s) o = refl
 
     pub taken_changes : ChangesOnly (laid_from values.0 0 rows) (laid_from after.0 0 rows) slot (taken i)
-    taken_changes = changes rows rows values after l slot row row at_slot live at_slot live (λ q ne. refl) refl (set_elsewhere values.0 after.0 slot i h None sets) (taken i)
-        (ap (λ (ps : List PartState). laid_parts ps) (three_set (laid_state values.0 slot row) (laid_state after.0 slot row) i (emptied (get_or (three_of (laid_state values.0 slot row)) i Idle)) h
+    taken_changes = changes rows rows values after l slot row row at_slot live at_slot live (λ q ne. refl) refl
+        (set_elsewhere values.0 after.0 slot i h None sets) (taken i)
+        (ap (λ (ps : List PartState). laid_parts ps) (three_set (laid_state values.0 slot row) (laid_state after.0 slot row) i
+        (emptied (get_or (three_of (laid_state values.0 slot row)) i Idle)) h
         (ap (state (named (get_or row.asked i 0))) (set_here values.0 after.0 slot i h None sets)
         ∙ emptied_is (named (get_or row.asked i 0)) (value_at values.0 (part_number slot i))
         ∙ ap emptied (sym (three_at (laid_state values.0 slot row) i h)))
@@ -289,31 +319,38 @@ module _ (rows : List Row) (values : Values) (l : AreLaid rows values) (slot i :
         laid_parts ps = record { task = row.task; parent = laid_parent row; cursor = row.cursor; key = laid_key row; parts = ps }
 
     pub taken_laid : AreLaid rows after
-    taken_laid = stays_laid rows rows values after l slot row row at_slot live at_slot live (λ q ne. refl) refl (set_elsewhere values.0 after.0 slot i h None sets) three room keep
+    taken_laid = stays_laid rows rows values after l slot row row at_slot live at_slot live (λ q ne. refl) refl
+        (set_elsewhere values.0 after.0 slot i h None sets) three room keep
       where
         keep : (k : ℕ) → k < 3 → IsSome (value_at after.0 (part_number slot k)) → get_or row.asked k 0 ≡ 0
         keep k m some = elim (cases_eq k i) [
-          | inl e ↦ absurd (true≢false (sym (subst IsSome (ap (λ n. value_at after.0 (part_number slot n)) e ∙ set_here values.0 after.0 slot i h None sets) some)))
+          | inl e ↦ absurd
+              (true≢false (sym (subst IsSome (ap (λ n. value_at after.0 (part_number slot n)) e ∙ set_here values.0 after.0 slot i h None sets) some)))
           | inr ne ↦ idle_word rows values l slot row at_slot live k m (subst IsSome (set_beside values.0 after.0 slot i h None sets k ne m) some)
         ]
 
 -- ---- a row with other words, and the same parts
 
-module _ (rows : List Row) (values : Values) (l : AreLaid rows values) (slot : ℕ) (row changed : Row) (at_slot : slice_get rows slot ≡ Some row) (live : row.live ≡ true)
+module _ (rows : List Row) (values : Values) (l : AreLaid rows values) (slot : ℕ) (row changed : Row) (at_slot : slice_get rows slot ≡ Some row)
+    (live : row.live ≡ true)
     (still : changed.live ≡ row.live) (words : changed.asked ≡ row.asked) where
-  pub words_changes : (change : TaskRow → TaskRow) → laid values.0 slot changed ≡ change (laid values.0 slot row) → ChangesOnly (laid_from values.0 0 rows) (laid_from values.0 0 (set rows slot changed)) slot change
-  words_changes change is = changes rows (set rows slot changed) values values l slot row changed at_slot live (get_set rows slot changed (slice_get_within rows slot row at_slot)) (still ∙ live)
+  pub words_changes : (change : TaskRow → TaskRow) → laid values.0 slot changed ≡ change (laid values.0 slot row)
+      → ChangesOnly (laid_from values.0 0 rows) (laid_from values.0 0 (set rows slot changed)) slot change
+  words_changes change is = changes rows (set rows slot changed) values values l slot row changed at_slot live
+      (get_set rows slot changed (slice_get_within rows slot row at_slot)) (still ∙ live)
       (λ q ne. get_set_other rows slot changed q ne) (set_length rows slot changed) (λ q k ne m. refl) change is
 
   pub words_laid : AreLaid (set rows slot changed) values
-  words_laid = stays_laid rows (set rows slot changed) values values l slot row changed at_slot live (get_set rows slot changed (slice_get_within rows slot row at_slot)) (still ∙ live)
+  words_laid = stays_laid rows (set rows slot changed) values values l slot row changed at_slot live
+      (get_set rows slot changed (slice_get_within rows slot row at_slot)) (still ∙ live)
       (λ q ne. get_set_other rows slot changed q ne) (set_length rows slot changed) (λ q k ne m. refl)
       (ap length words ∙ l.three slot row at_slot) (omega arith)
       (λ k m some. ap (λ (asked : List ℕ). get_or asked k 0) words ∙ idle_word rows values l slot row at_slot live k m some)
 
 -- ---- a new row
 
-module _ (rows : List Row) (values after : Values) (l : AreLaid rows values) (same_values : after.0 ≡ values.0) (row : Row) (live : row.live ≡ true) (asked : row.asked ≡ 0 ∷ 0 ∷ 0 ∷ []) where
+module _ (rows : List Row) (values after : Values) (l : AreLaid rows values) (same_values : after.0 ≡ values.0) (row : Row) (live : row.live ≡ true)
+    (asked : row.asked ≡ 0 ∷ 0 ∷ 0 ∷ []) where
   no_value : (k : ℕ) → k < 3 → (o : Option Value) → value_at values.0 (part_number (length rows) k) ≡ o → o ≡ None
   no_value k h None e = refl
   no_value k h (Some v) e = let has = l.owned (length rows) k h (subst IsSome (sym e) refl) in absurd (none-some has.0 (sym (get_past rows) ∙ has.1.0))
@@ -332,9 +369,12 @@ module _ (rows : List Row) (values after : Values) (l : AreLaid rows values) (sa
 
   pub added : (task : Task) (parent : Option Part) (key : Option Key) → row.task ≡ task → laid_parent row ≡ parent → row.cursor ≡ start → laid_key row ≡ key
       → SetsOnly (laid_from values.0 0 rows) (laid_from after.0 0 (rows ++ row ∷ [])) (length rows) (Some (fresh task parent key))
-  added task parent key task_is parent_is cursor_is key_is q = subst (λ vs. row_at (laid_from vs 0 (rows ++ row ∷ [])) q ≡ cond (q == length rows) (Some (fresh task parent key)) (row_at (laid_from values.0 0 rows) q)) (sym same_values)
+  added task parent key task_is parent_is cursor_is key_is q =
+      subst (λ vs. row_at (laid_from vs 0 (rows ++ row ∷ [])) q ≡ cond (q == length rows) (Some (fresh task parent key)) (row_at (laid_from values.0 0 rows) q))
+      (sym same_values)
       (chosen q (length rows) (row_at (laid_from values.0 0 (rows ++ row ∷ [])) q) (Some (fresh task parent key)) (row_at (laid_from values.0 0 rows) q)
-      (λ e. ap (row_at (laid_from values.0 0 (rows ++ row ∷ []))) e ∙ shown_is values.0 (rows ++ row ∷ []) (length rows) row (slice_get-push_same rows row) live ∙ ap Some new_is)
+      (λ e. ap (row_at (laid_from values.0 0 (rows ++ row ∷ []))) e ∙ shown_is values.0 (rows ++ row ∷ []) (length rows) row (slice_get-push_same rows row) live
+      ∙ ap Some new_is)
       (λ ne. at values.0 (rows ++ row ∷ []) q ∙ ap (option_and_then (laid_row values.0 q)) (get_push_other rows row q ne) ∙ sym (at values.0 rows q)))
     where
       parts_are : three_of (laid_state values.0 (length rows) row) ≡ all_idle
@@ -353,7 +393,9 @@ module _ (rows : List Row) (values after : Values) (l : AreLaid rows values) (sa
     where
       owned_case : (s i : ℕ) → i < 3 → IsSome (value_at values.0 (part_number s i)) → (s ≡ length rows) ⊎ (s ≡ length rows → ⊥) → HasIdle (rows ++ row ∷ []) s i
       owned_case s i h some (inl e) =
-          absurd (true≢false (sym (subst IsSome (ap (λ n. value_at values.0 (part_number n i)) e ∙ no_value i h (value_at values.0 (part_number (length rows) i)) refl) some)))
+          absurd
+          (true≢false
+          (sym (subst IsSome (ap (λ n. value_at values.0 (part_number n i)) e ∙ no_value i h (value_at values.0 (part_number (length rows) i)) refl) some)))
       owned_case s i h some (inr ne) = let had = l.owned s i h some in (had.0, (get_push_other rows row s ne ∙ had.1.0, had.1.1))
 
       three_case : (s : ℕ) (r : Row) → slice_get (rows ++ row ∷ []) s ≡ Some r → (s ≡ length rows) ⊎ (s ≡ length rows → ⊥) → length r.asked ≡ 3
@@ -363,7 +405,8 @@ module _ (rows : List Row) (values after : Values) (l : AreLaid rows values) (sa
 
 -- ---- a row that ends
 
-module _ (rows new : List Row) (values : Values) (l : AreLaid rows values) (slot : ℕ) (row ended : Row) (at_slot : slice_get rows slot ≡ Some row) (live : row.live ≡ true)
+module _ (rows new : List Row) (values : Values) (l : AreLaid rows values) (slot : ℕ) (row ended : Row) (at_slot : slice_get rows slot ≡ Some row)
+    (live : row.live ≡ true)
     (dead : ended.live ≡ false) (words : ended.asked ≡ row.asked)
     (empty : (k : ℕ) → k < 3 → value_at values.0 (part_number slot k) ≡ None) (trims : Trims (set rows slot ended) new) where
   in_rows : slot < length rows
@@ -375,7 +418,8 @@ module _ (rows new : List Row) (values : Values) (l : AreLaid rows values) (slot
       (λ e. ap (λ p. option_map (laid values.0 q) (live_at (set rows slot ended) p)) e
       ∙ ap (λ o. option_map (laid values.0 q) (option_and_then (λ (r : Row). cond r.live (Some r) None) o)) (get_set rows slot ended in_rows)
       ∙ ap (λ b. option_map (laid values.0 q) (cond b (Some ended) None)) dead)
-      (λ ne. ap (λ o. option_map (laid values.0 q) (option_and_then (λ (r : Row). cond r.live (Some r) None) o)) (get_set_other rows slot ended q ne) ∙ sym (at_live values.0 rows q))
+      (λ ne. ap (λ o. option_map (laid values.0 q) (option_and_then (λ (r : Row). cond r.live (Some r) None) o)) (get_set_other rows slot ended q ne)
+      ∙ sym (at_live values.0 rows q))
 
   pub ended_laid : AreLaid new values
   ended_laid = record {
@@ -397,7 +441,8 @@ module _ (rows new : List Row) (values : Values) (l : AreLaid rows values) (slot
 
       three_case : (s : ℕ) (r : Row) → slice_get (set rows slot ended) s ≡ Some r → (s ≡ slot) ⊎ (s ≡ slot → ⊥) → length r.asked ≡ 3
       three_case s r e (inl is) =
-          ap (λ (x : Row). length x.asked) (some_is r r ended (sym e ∙ ap (slice_get (set rows slot ended)) is ∙ get_set rows slot ended in_rows)) ∙ ap length words ∙ l.three slot row at_slot
+          ap (λ (x : Row). length x.asked) (some_is r r ended (sym e ∙ ap (slice_get (set rows slot ended)) is ∙ get_set rows slot ended in_rows))
+          ∙ ap length words ∙ l.three slot row at_slot
       three_case s r e (inr ne) = l.three s r (sym (get_set_other rows slot ended s ne) ∙ e)
 
 -- ---- a row that is read
@@ -407,7 +452,8 @@ free_word zero None = refl
 free_word zero (Some v) = refl
 free_word (suc a) o = sym (above_differs (suc a) 0 (omega arith))
 
-ready_words : (asked : List ℕ) (f : ℕ → Option Value) → length asked ≡ 3 → list_all is_free (three_of (λ k. state (named (get_or asked k 0)) (f k))) ≡ list_all (λ word. word == 0) asked
+ready_words : (asked : List ℕ) (f : ℕ → Option Value) → length asked ≡ 3
+    → list_all is_free (three_of (λ k. state (named (get_or asked k 0)) (f k))) ≡ list_all (λ word. word == 0) asked
 ready_words (a ∷ b ∷ c ∷ []) f h =
     let zeroth = free_word a (f 0) in
     let first = free_word b (f 1) in
@@ -445,14 +491,16 @@ slot_is_word rows values slot l some = let below = row_in_range values.0 rows sl
     within : length rows < 2 ^ 32 → slot < length rows → slot + 1 < 2 ^ 32
     within h below = omega (arith, h, below)
 
-pub part_in_room : (rows : List Row) (values : Values) (slot i : ℕ) → AreLaid rows values → IsRow (laid_from values.0 0 rows) slot → part_number slot i < values.1
+pub part_in_room : (rows : List Row) (values : Values) (slot i : ℕ) → AreLaid rows values → IsRow (laid_from values.0 0 rows) slot
+    → part_number slot i < values.1
 part_in_room rows values slot i l some = let below = row_in_range values.0 rows slot some in let room = l.room in omega (arith, below, room)
 
 pub value_empty : (rows : List Row) (values : Values) → AreLaid rows values → (slot i : ℕ) → IsRow (laid_from values.0 0 rows) slot → i < 3
     → got_of (laid_from values.0 0 rows) (record { slot = slot; index = i }) ≡ None → value_at values.0 (part_number slot i) ≡ None
 value_empty rows values l slot i some h e = sym (got_at rows values l slot i some h) ∙ e
 
-pub parent_fits : (rows : List Row) (values : Values) (parent : Option Part) → AreLaid rows values → IfSome parent (λ part. IsRow (laid_from values.0 0 rows) part.slot × (part.index < 3))
+pub parent_fits : (rows : List Row) (values : Values) (parent : Option Part) → AreLaid rows values
+    → IfSome parent (λ part. IsRow (laid_from values.0 0 rows) part.slot × (part.index < 3))
     → IfSome parent (λ part. (part.slot + 1 < 2 ^ 32) × (part.index < 3))
 parent_fits rows values None l h = h
 parent_fits rows values (Some part) l h = (slot_is_word rows values part.slot l h.0, h.1)
@@ -472,7 +520,8 @@ module _ (initial rest : List Row) (row : Row) (dead : row.live ≡ false) (t : 
   live_left : (slot : ℕ) → live_at rest slot ≡ live_at (rest ++ row ∷ []) slot
   live_left slot = elim (cases_eq slot (length rest)) [
     | inl e ↦ ap (λ s. live_at rest s) e ∙ ap (option_and_then (λ (r : Row). cond r.live (Some r) None)) (get_past rest)
-        ∙ sym (ap (λ s. live_at (rest ++ row ∷ []) s) e ∙ ap (option_and_then (λ (r : Row). cond r.live (Some r) None)) (slice_get-push_same rest row) ∙ ap (λ b. cond b (Some row) None) dead)
+        ∙ sym (ap (λ s. live_at (rest ++ row ∷ []) s) e ∙ ap (option_and_then (λ (r : Row). cond r.live (Some r) None)) (slice_get-push_same rest row)
+        ∙ ap (λ b. cond b (Some row) None) dead)
     | inr ne ↦ ap (option_and_then (λ (r : Row). cond r.live (Some r) None)) (sym (get_push_other rest row slot ne))
   ]
 

@@ -16,7 +16,8 @@ module _ {X : Type 0} where
   ]) refl
 
   -- the first pair that has the number gives the value
-  first_has : (l : List (ℕ × X)) (n i : ℕ) (d : ℕ × X) → i < length l → number_at d l i ≡ n → ((j : ℕ) → j < i → number_at d l j ≢ n) → value_at l n ≡ Some (get_or l i d).1
+  first_has : (l : List (ℕ × X)) (n i : ℕ) (d : ℕ × X) → i < length l → number_at d l i ≡ n → ((j : ℕ) → j < i → number_at d l j ≢ n)
+      → value_at l n ≡ Some (get_or l i d).1
   first_has [] n i d h at none = absurd (omega (arith, h))
   first_has (x ∷ l) n zero d h at none = ap (λ t. cond t (Some x.1) (value_at l n)) (ap (λ m. m == n) at ∙ number_itself n)
   first_has (x ∷ l) n (suc i) d h at none = (elim (x.0 == n) as (λ t. (x.0 == n) ≡ t → cond t (Some x.1) (value_at l n) ≡ Some (get_or l i d).1) [
@@ -25,28 +26,34 @@ module _ {X : Type 0} where
   ]) refl
 
   -- a new pair before any pair that has the number
-  has_inserted : (l : List (ℕ × X)) (n : ℕ) (v : X) (i : ℕ) (d : ℕ × X) → ((j : ℕ) → j < i → number_at d l j < n) → i ≤ length l → (q : ℕ) → value_at (insert l i (n, v)) q ≡ cond (q == n) (Some v) (value_at l q)
+  has_inserted : (l : List (ℕ × X)) (n : ℕ) (v : X) (i : ℕ) (d : ℕ × X) → ((j : ℕ) → j < i → number_at d l j < n) → i ≤ length l → (q : ℕ)
+      → value_at (insert l i (n, v)) q ≡ cond (q == n) (Some v) (value_at l q)
   has_inserted l n v zero d none h q = ap (λ t. cond t (Some v) (value_at l q)) (equality_turned n q)
   has_inserted [] n v (suc i) d none h q = absurd (omega (arith, h))
   has_inserted (x ∷ l) n v (suc i) d none h q =
       let less = none 0 (omega arith) in
       ap (cond (x.0 == q) (Some x.1)) (has_inserted l n v i d (λ j lt. none (suc j) (omega (arith, lt))) (omega (arith, h)) q)
-      ∙ (elim (x.0 == q) as (λ t. (x.0 == q) ≡ t → cond t (Some x.1) (cond (q == n) (Some v) (value_at l q)) ≡ cond (q == n) (Some v) (cond t (Some x.1) (value_at l q))) [
+      ∙ (elim (x.0 == q) as (λ t. (x.0 == q) ≡ t → cond t (Some x.1) (cond (q == n) (Some v) (value_at l q)) ≡ cond (q == n) (Some v)
+      (cond t (Some x.1) (value_at l q))) [
         | true ↦ λ t. let same = eqb-true x.0 q t in ap (λ b. cond b (Some v) (Some x.1)) (sym (below_differs q n (omega (arith, less, same))))
         | false ↦ λ t. refl
       ]) refl
 
   -- the pair at a place taken out, where the numbers rise
-  has_removed : (l : List (ℕ × X)) (n i : ℕ) (d : ℕ × X) → Rises l → i < length l → number_at d l i ≡ n → (q : ℕ) → value_at (remove l i) q ≡ cond (q == n) None (value_at l q)
+  has_removed : (l : List (ℕ × X)) (n i : ℕ) (d : ℕ × X) → Rises l → i < length l → number_at d l i ≡ n → (q : ℕ)
+      → value_at (remove l i) q ≡ cond (q == n) None (value_at l q)
   has_removed [] n i d up h at q = absurd (omega (arith, h))
   has_removed (x ∷ l) n zero d up h at q = (elim (q == n) as (λ t. (q == n) ≡ t → value_at l q ≡ cond t None (cond (x.0 == q) (Some x.1) (value_at l q))) [
-    | true ↦ λ t. let same = eqb-true q n t in none_has l q (λ e j lt is. let above = up e 0 (suc j) (omega arith) (omega (arith, lt)) in omega (arith, above, is, same, at))
+    | true ↦ λ t. let same = eqb-true q n t in none_has l q
+        (λ e j lt is. let above = up e 0 (suc j) (omega arith) (omega (arith, lt)) in omega (arith, above, is, same, at))
     | false ↦ λ t. ap (λ b. cond b (Some x.1) (value_at l q)) (sym (ap (λ m. m == q) at ∙ equality_turned n q ∙ t))
   ]) refl
   has_removed (x ∷ l) n (suc i) d up h at q =
       let less = up d 0 (suc i) (omega arith) h in
-      ap (cond (x.0 == q) (Some x.1)) (has_removed l n i d (λ e a b lt in_range. up e (suc a) (suc b) (omega (arith, lt)) (omega (arith, in_range))) (omega (arith, h)) at q)
-      ∙ (elim (x.0 == q) as (λ t. (x.0 == q) ≡ t → cond t (Some x.1) (cond (q == n) None (value_at l q)) ≡ cond (q == n) None (cond t (Some x.1) (value_at l q))) [
+      ap (cond (x.0 == q) (Some x.1)) (has_removed l n i d (λ e a b lt in_range. up e (suc a) (suc b) (omega (arith, lt)) (omega (arith, in_range)))
+      (omega (arith, h)) at q)
+      ∙ (elim (x.0 == q) as (λ t. (x.0 == q) ≡ t → cond t (Some x.1) (cond (q == n) None (value_at l q)) ≡ cond (q == n) None
+      (cond t (Some x.1) (value_at l q))) [
         | true ↦ λ t. let same = eqb-true x.0 q t in ap (λ b. cond b None (Some x.1)) (sym (below_differs q n (omega (arith, less, same, at))))
         | false ↦ λ t. refl
       ]) refl
@@ -69,7 +76,8 @@ module _ {X : Type 0} where
 
 module _ {X : Type 0} (l : List (ℕ × X)) (d : ℕ × X) (up : Rises l) (n i : ℕ) (at : IsAt l n i) where
   pub value_there : value_at l n ≡ Some (get_or l i d).1
-  value_there = first_has l n i d at.in_range (at.has d) (λ j lt is. let above = up d j i lt at.in_range in let here = at.has d in omega (arith, above, is, here))
+  value_there = first_has l n i d at.in_range (at.has d)
+      (λ j lt is. let above = up d j i lt at.in_range in let here = at.has d in omega (arith, above, is, here))
 
   pub removed_sets : SetsOne (value_at l) (value_at (remove l i)) n None
   removed_sets = has_removed l n i d up at.in_range (at.has d)
@@ -105,8 +113,24 @@ module _ {X : Type 0} (l : List (ℕ × X)) (n i : ℕ) (gap : IsGapFor l n i) w
         let key = λ (x : ℕ × X). x.0 in
         let below : (k : ℕ) → k < i → number_at e new k ≡ number_at e l k = λ k h. ap key (get_or-insert_below l i (n, v) e k h gap.in_range) in
         let here : (k : ℕ) → k ≡ i → number_at e new k ≡ n = λ k h. rw h (ap key (get_or-insert_at l i (n, v) e gap.in_range)) in
-        let above : (k : ℕ) → i < k → number_at e new k ≡ number_at e l (k - 1) = λ k h. subst (λ q. number_at e new q ≡ number_at e l (k - 1)) {x = k - 1 + 1} (omega arith) (ap key (get_or-insert_above l i (n, v) e (k - 1) (omega arith) gap.in_range)) in
-        grind (arith, below a, here a, above a, below b, here b, above b, up e a b, up e a (b - 1), up e (a - 1) (b - 1), gap.smaller e a, gap.greater e (b - 1))
+        let above : (k : ℕ) → i < k → number_at e new k ≡ number_at e l (k - 1) =
+        λ k h. subst (λ q. number_at e new q ≡ number_at e l (k - 1)) {x = k - 1 + 1} (omega arith)
+        (ap key (get_or-insert_above l i (n, v) e (k - 1) (omega arith) gap.in_range)) in
+        grind (
+          arith,
+          below a,
+          here a,
+          above a,
+          below b,
+          here b,
+          above b,
+          up e a b,
+          up e a (b - 1),
+          up e (a - 1) (b - 1),
+          gap.smaller e a,
+          gap.greater e
+              (b - 1),
+        )
 
     pub inserted_below : (room : ℕ) → AreBelow room l → n < room → AreBelow room (insert l i (n, v))
     inserted_below room low h e a in_range =
@@ -115,7 +139,9 @@ module _ {X : Type 0} (l : List (ℕ × X)) (n i : ℕ) (gap : IsGapFor l n i) w
         let key = λ (x : ℕ × X). x.0 in
         let below : a < i → number_at e new a ≡ number_at e l a = λ h. ap key (get_or-insert_below l i (n, v) e a h gap.in_range) in
         let here : a ≡ i → number_at e new a ≡ n = λ h. rw h (ap key (get_or-insert_at l i (n, v) e gap.in_range)) in
-        let above : i < a → number_at e new a ≡ number_at e l (a - 1) = λ h. subst (λ q. number_at e new q ≡ number_at e l (a - 1)) {x = a - 1 + 1} (omega arith) (ap key (get_or-insert_above l i (n, v) e (a - 1) (omega arith) gap.in_range)) in
+        let above : i < a → number_at e new a ≡ number_at e l (a - 1) =
+        λ h. subst (λ q. number_at e new q ≡ number_at e l (a - 1)) {x = a - 1 + 1} (omega arith)
+        (ap key (get_or-insert_above l i (n, v) e (a - 1) (omega arith) gap.in_range)) in
         grind (arith, below, here, above, low e a, low e (a - 1))
 
     -- so there was room for it
@@ -132,7 +158,8 @@ module _ {X : Type 0} (l : List (ℕ × X)) (up : Rises l) (n : ℕ) where
       let keys_rise : number_at d l i ≤ number_at d l j = grind (arith, up d i j, λ (same : i ≡ j). ap (number_at d l) same) in
       grind (arith, nat_tests))
 
-  pub searched : (r : Result ℕ ℕ) → IsSearchInRange r (length l) → IsBinarySearchResult (λ (pair : ℕ × X). nat_cmp pair.0 n) l r → IfOk r (IsAt l n) × IfErr r (IsGapFor l n)
+  pub searched : (r : Result ℕ ℕ) → IsSearchInRange r (length l) → IsBinarySearchResult (λ (pair : ℕ × X). nat_cmp pair.0 n) l r
+      → IfOk r (IsAt l n) × IfErr r (IsGapFor l n)
   searched (Ok at) in_range equal = (record { in_range = in_range; has = λ d. ranked _ n _ (sym (equal d)) }, tt)
   searched (Err at) in_range parted = (
     tt,
@@ -150,9 +177,11 @@ module _ {X : Type 0} (l items : List (ℕ × X)) (e : items ≡ l) (n i : ℕ) 
   found_value x at is = ap (λ (y : ℕ × X). Some y.1) (is ∙ ap (λ (xs : List (ℕ × X)). get_or xs i x) e) ∙ sym (value_there l x (subst Rises e up) n i at)
 
   pub found_removed : (d : ℕ × X) (left : List (ℕ × X)) → IsAt l n i → left ≡ remove items i → SetsOne (value_at l) (value_at left) n None
-  found_removed d left at is = subst (λ xs. SetsOne (value_at l) (value_at xs) n None) (sym (is ∙ ap (λ (xs : List (ℕ × X)). remove xs i) e)) (removed_sets l d (subst Rises e up) n i at)
+  found_removed d left at is = subst (λ xs. SetsOne (value_at l) (value_at xs) n None) (sym (is ∙ ap (λ (xs : List (ℕ × X)). remove xs i) e))
+      (removed_sets l d (subst Rises e up) n i at)
 
-  pub found_keeps : (d : ℕ × X) (room more : ℕ) (left : List (ℕ × X)) → IsAt l n i → AreBelow room items → more ≡ room → left ≡ remove items i → Rises left × AreBelow more left
+  pub found_keeps : (d : ℕ × X) (room more : ℕ) (left : List (ℕ × X)) → IsAt l n i → AreBelow room items → more ≡ room → left ≡ remove items i
+      → Rises left × AreBelow more left
   found_keeps d room more left at low same is =
       let there = subst (λ xs. IsAt xs n i) (sym e) at in
       let below = removed_below items d up n i there room low in
@@ -165,9 +194,11 @@ module _ {X : Type 0} (l items : List (ℕ × X)) (e : items ≡ l) (n i : ℕ) 
   put_room v room gap low h = room_for items n i (subst (λ xs. IsGapFor xs n i) (sym e) gap) v room up low h
 
   pub put_sets : (v : X) (after : List (ℕ × X)) → IsGapFor l n i → after ≡ insert items i (n, v) → SetsOne (value_at l) (value_at after) n (Some v)
-  put_sets v after gap is = subst (λ xs. SetsOne (value_at l) (value_at xs) n (Some v)) (sym (is ∙ ap (λ (xs : List (ℕ × X)). insert xs i (n, v)) e)) (inserted_sets l n i gap v)
+  put_sets v after gap is = subst (λ xs. SetsOne (value_at l) (value_at xs) n (Some v)) (sym (is ∙ ap (λ (xs : List (ℕ × X)). insert xs i (n, v)) e))
+      (inserted_sets l n i gap v)
 
-  pub put_keeps : (v : X) (room more : ℕ) (after : List (ℕ × X)) → IsGapFor l n i → AreBelow room items → n < room → room ≤ more → after ≡ insert items i (n, v) → Rises after × AreBelow more after
+  pub put_keeps : (v : X) (room more : ℕ) (after : List (ℕ × X)) → IsGapFor l n i → AreBelow room items → n < room → room ≤ more → after ≡ insert items i (n, v)
+      → Rises after × AreBelow more after
   put_keeps v room more after gap low h grows is =
       let there = subst (λ xs. IsGapFor xs n i) (sym e) gap in
       let below = inserted_below items n i there v room low h in
@@ -200,7 +231,8 @@ at_place (y ∷ xs) zero x d e = let same : y ≡ x = cc in (omega arith, same)
 at_place (y ∷ xs) (suc i) x d e = let rest = at_place xs i x d e in (omega (arith, rest.0), rest.1)
 
 -- The last pair stands at the last place.
-pub last_is_at : {X : Type 0} (l items xs : List (ℕ × X)) (n : ℕ) (pair : ℕ × X) → xs ≡ items → items ≡ l → Some pair ≡ slice_get xs (length xs - 1) → pair.0 ≡ n → IsAt l n (length l - 1)
+pub last_is_at : {X : Type 0} (l items xs : List (ℕ × X)) (n : ℕ) (pair : ℕ × X) → xs ≡ items → items ≡ l → Some pair ≡ slice_get xs (length xs - 1)
+    → pair.0 ≡ n → IsAt l n (length l - 1)
 last_is_at {X} l items xs n pair same is e has =
     subst (λ (ys : List (ℕ × X)). IsAt ys n (length ys - 1)) (same ∙ is) (record {
       in_range = (at_place xs (length xs - 1) pair pair e).0;

@@ -56,7 +56,8 @@ asked_waits (p ∷ parts) zero child h = refl
 asked_waits (p ∷ parts) (suc i) child h = ap (λ b. is_free p && b) (asked_waits parts i child (omega (arith, h))) ∙ and_false (is_free p)
 
 -- a part that is free before and after says nothing of the others
-pub free_set : (parts : List PartState) (i : ℕ) (s : PartState) → is_free s ≡ is_free (get_or parts i Idle) → list_all is_free (set parts i s) ≡ list_all is_free parts
+pub free_set : (parts : List PartState) (i : ℕ) (s : PartState) → is_free s ≡ is_free (get_or parts i Idle)
+    → list_all is_free (set parts i s) ≡ list_all is_free parts
 free_set [] i s e = refl
 free_set (p ∷ parts) zero s e = ap (λ b. b && list_all is_free parts) e
 free_set (p ∷ parts) (suc i) s e = ap (λ b. is_free p && b) (free_set parts i s e)

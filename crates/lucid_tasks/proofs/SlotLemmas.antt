@@ -172,12 +172,14 @@ some_listed (x ∷ xs) q h = omega arith
 pub place_in : (xs items : List ℕ) (i s : ℕ) → xs ≡ items → RiseFrom 0 items → is_listed items s ≡ true
     → ((k : ℕ) → k < i → get_or xs k 0 < s) → ((k : ℕ) → i ≤ k → k < length xs → s ≤ get_or xs k 0) → slice_get items i ≡ Some s
 place_in xs items i s e r l below from =
-    place_is 0 items i s r l (subst (λ ys. (k : ℕ) → k < i → get_or ys k 0 < s) e below) (subst (λ ys. (k : ℕ) → i ≤ k → k < length ys → s ≤ get_or ys k 0) e from)
+    place_is 0 items i s r l (subst (λ ys. (k : ℕ) → k < i → get_or ys k 0 < s) e below)
+    (subst (λ ys. (k : ℕ) → i ≤ k → k < length ys → s ≤ get_or ys k 0) e from)
 
 pub insert_in : (xs items : List ℕ) (i s : ℕ) → xs ≡ items → RiseFrom 0 items → is_listed items s ≡ false
     → ((k : ℕ) → k < i → get_or xs k 0 < s) → ((k : ℕ) → i ≤ k → k < length xs → s ≤ get_or xs k 0) → i ≤ length xs → RiseFrom 0 (insert items i s)
 insert_in xs items i s e r l below from h =
-    rise_insert 0 items i s r (omega arith) l (subst (λ ys. (k : ℕ) → k < i → get_or ys k 0 < s) e below) (subst (λ ys. (k : ℕ) → i ≤ k → k < length ys → s ≤ get_or ys k 0) e from) (subst (λ ys. i ≤ length ys) e h)
+    rise_insert 0 items i s r (omega arith) l (subst (λ ys. (k : ℕ) → k < i → get_or ys k 0 < s) e below)
+    (subst (λ ys. (k : ℕ) → i ≤ k → k < length ys → s ≤ get_or ys k 0) e from) (subst (λ ys. i ≤ length ys) e h)
 
 -- ---- by the last slot
 
@@ -191,21 +193,25 @@ below_last xs s x r e h k l =
     let last = last_is xs (length xs - 1) x e in
     let up = rise_sorted 0 xs r k (length xs - 1) (omega (arith, l)) last.0 in omega (arith, up, last.1, h)
 
-pub below_before_last : (xs : List ℕ) (s x : ℕ) → RiseFrom 0 xs → Some x ≡ slice_get xs (length xs - 1) → x ≡ s → (k : ℕ) → k < length xs - 1 → get_or xs k 0 < s
+pub below_before_last : (xs : List ℕ) (s x : ℕ) → RiseFrom 0 xs → Some x ≡ slice_get xs (length xs - 1) → x ≡ s → (k : ℕ) → k < length xs - 1
+    → get_or xs k 0 < s
 below_before_last xs s x r e h k l =
     let last = last_is xs (length xs - 1) x e in
     let up = rise_strict 0 xs r k (length xs - 1) l last.0 in omega (arith, up, last.1, h)
 
 -- The last slot stands at the last place.
-pub last_there : (xs items : List ℕ) (s x : ℕ) → xs ≡ items → Some x ≡ slice_get xs (length xs - 1) → x ≡ s → (0 < length items) × (slice_get items (length items - 1) ≡ Some s)
+pub last_there : (xs items : List ℕ) (s x : ℕ) → xs ≡ items → Some x ≡ slice_get xs (length xs - 1) → x ≡ s
+    → (0 < length items) × (slice_get items (length items - 1) ≡ Some s)
 last_there xs items s x same e is =
     let there = last_is xs (length xs - 1) x e in
     subst (λ (ys : List ℕ). (0 < length ys) × (slice_get ys (length ys - 1) ≡ Some s)) same (omega (arith, there.0), sym e ∙ ap Some is)
 
 -- A slot past the last one is put at the end.
-pub pushed_past : (xs items after : List ℕ) (s x : ℕ) → xs ≡ items → RiseFrom 0 items → is_listed items s ≡ false → Some x ≡ slice_get xs (length xs - 1) → x < s → after ≡ items ++ s ∷ []
+pub pushed_past : (xs items after : List ℕ) (s x : ℕ) → xs ≡ items → RiseFrom 0 items → is_listed items s ≡ false → Some x ≡ slice_get xs (length xs - 1)
+    → x < s → after ≡ items ++ s ∷ []
     → RiseFrom 0 after
 pushed_past xs items after s x same r absent e less is =
     let last = subst (λ (ys : List ℕ). Some x ≡ slice_get ys (length ys - 1)) same e in
     subst (λ (ys : List ℕ). RiseFrom 0 ys) (sym (end_of items after s (length items) refl is))
-    (rise_insert 0 items (length items) s r (omega arith) absent (λ k h. below_last items s x r last less k h) (λ k h l. absurd (omega (arith, h, l))) (omega arith))
+    (rise_insert 0 items (length items) s r (omega arith) absent (λ k h. below_last items s x r last less k h) (λ k h l. absurd (omega (arith, h, l)))
+    (omega arith))

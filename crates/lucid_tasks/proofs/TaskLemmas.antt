@@ -18,7 +18,8 @@ no_row (Some row) h = absurd (h refl)
 past_none : (rows : List (Option TaskRow)) (slot : ℕ) → IsPast rows slot → row_at rows slot ≡ None
 past_none rows slot past = no_row (row_at rows slot) (λ some. let below = past slot some in omega (arith, below))
 
-three_of_row : (o : Option TaskRow) (row : TaskRow) → ((r : TaskRow) → o ≡ Some r → length r.parts ≡ 3) → Some (length row.parts) ≡ option_map (λ (r : TaskRow). length r.parts) o → length row.parts ≡ 3
+three_of_row : (o : Option TaskRow) (row : TaskRow) → ((r : TaskRow) → o ≡ Some r → length r.parts ≡ 3)
+    → Some (length row.parts) ≡ option_map (λ (r : TaskRow). length r.parts) o → length row.parts ≡ 3
 three_of_row None row three e = absurd (none-some (length row.parts) (sym e))
 three_of_row (Some r) row three e = some_is 0 (length row.parts) (length r.parts) e ∙ three r refl
 
@@ -31,7 +32,8 @@ module _ (old new : List (Option TaskRow)) (slot : ℕ) (change : TaskRow → Ta
   pub elsewhere : (q : ℕ) → q ≢ slot → row_at new q ≡ row_at old q
   elsewhere q ne = only q ∙ chosen_other q slot (option_map change (row_at old q)) (row_at old q) ne
 
-  same_of : {Y : Type 0} (f : Option TaskRow → Y) → f (option_map change (row_at old slot)) ≡ f (row_at old slot) → (q : ℕ) → f (row_at new q) ≡ f (row_at old q)
+  same_of : {Y : Type 0} (f : Option TaskRow → Y) → f (option_map change (row_at old slot)) ≡ f (row_at old slot) → (q : ℕ)
+      → f (row_at new q) ≡ f (row_at old q)
   same_of f h q = elim (cases_eq q slot) [
     | inl e ↦ ap (λ s. f (row_at new s)) e ∙ ap f there ∙ h ∙ ap (λ s. f (row_at old s)) (sym e)
     | inr ne ↦ ap f (elsewhere q ne)
@@ -58,7 +60,8 @@ module _ (old new : List (Option TaskRow)) (slot : ℕ) (change : TaskRow → Ta
       (ap (λ o. parent_in (option_map change o)) at ∙ parent ∙ ap parent_in (sym at))
       (λ i. ap (λ o. child_in i (option_map change o)) at ∙ child i ∙ ap (child_in i) (sym at))
       (ap (λ o. is_ready (option_map change o)) at ∙ free ∙ ap is_ready (sym at))
-      (ap (λ o. option_map (λ (r : TaskRow). length r.parts) (option_map change o)) at ∙ ap Some long ∙ ap (option_map (λ (r : TaskRow). length r.parts)) (sym at))
+      (ap (λ o. option_map (λ (r : TaskRow). length r.parts) (option_map change o)) at ∙ ap Some long
+      ∙ ap (option_map (λ (r : TaskRow). length r.parts)) (sym at))
       ready t
 
 -- ---- a row whose values are taken out
@@ -84,13 +87,16 @@ module _ (old new : List (Option TaskRow)) (slot i : ℕ) (only : ChangesOnly ol
   pub got_other : (k : ℕ) → k ≢ i → got_of new (record { slot = slot; index = k }) ≡ got_of old (record { slot = slot; index = k })
   got_other k ne = ap (λ o. option_and_then got_value (option_map (state_at k) o)) (there old new slot (taken i) only) ∙ by_row (row_at old slot)
     where
-      by_row : (o : Option TaskRow) → option_and_then got_value (option_map (state_at k) (option_map (taken i) o)) ≡ option_and_then got_value (option_map (state_at k) o)
+      by_row : (o : Option TaskRow) → option_and_then got_value (option_map (state_at k) (option_map (taken i) o)) ≡ option_and_then got_value
+          (option_map (state_at k) o)
       by_row None = refl
       by_row (Some row) = ap got_value (part_other row.parts i (emptied (get_or row.parts i Idle)) k ne)
 
-module _ (v0 v1 v2 v3 : List (Option TaskRow)) (slot : ℕ) (zeroth : ChangesOnly v0 v1 slot (taken 0)) (first : ChangesOnly v1 v2 slot (taken 1)) (second : ChangesOnly v2 v3 slot (taken 2)) where
+module _ (v0 v1 v2 v3 : List (Option TaskRow)) (slot : ℕ) (zeroth : ChangesOnly v0 v1 slot (taken 0)) (first : ChangesOnly v1 v2 slot (taken 1))
+    (second : ChangesOnly v2 v3 slot (taken 2)) where
   pub all_empty : (k : ℕ) → k < 3 → got_of v3 (record { slot = slot; index = k }) ≡ None
-  all_empty zero h = got_other v2 v3 slot 2 second 0 (λ e. omega (arith, e)) ∙ got_other v1 v2 slot 1 first 0 (λ e. omega (arith, e)) ∙ got_none v0 v1 slot 0 zeroth
+  all_empty zero h = got_other v2 v3 slot 2 second 0 (λ e. omega (arith, e)) ∙ got_other v1 v2 slot 1 first 0 (λ e. omega (arith, e))
+      ∙ got_none v0 v1 slot 0 zeroth
   all_empty (suc zero) h = got_other v2 v3 slot 2 second 1 (λ e. omega (arith, e)) ∙ got_none v1 v2 slot 1 first
   all_empty (suc (suc zero)) h = got_none v2 v3 slot 2 second
   all_empty (suc (suc (suc k))) h = absurd (omega (arith, h))
@@ -98,18 +104,21 @@ module _ (v0 v1 v2 v3 : List (Option TaskRow)) (slot : ℕ) (zeroth : ChangesOnl
   pub emptied_gone : (v4 : List (Option TaskRow)) → SetsOnly v3 v4 slot None → SetsOnly v0 v4 slot None
   emptied_gone v4 gone q = gone q ∙ chosen q slot (cond (q == slot) None (row_at v3 q)) None (row_at v0 q)
       (λ e. chosen_same q slot None (row_at v3 q) e)
-      (λ ne. chosen_other q slot None (row_at v3 q) ne ∙ elsewhere v2 v3 slot (taken 2) second q ne ∙ elsewhere v1 v2 slot (taken 1) first q ne ∙ elsewhere v0 v1 slot (taken 0) zeroth q ne)
+      (λ ne. chosen_other q slot None (row_at v3 q) ne ∙ elsewhere v2 v3 slot (taken 2) second q ne ∙ elsewhere v1 v2 slot (taken 1) first q ne
+      ∙ elsewhere v0 v1 slot (taken 0) zeroth q ne)
 
 -- a change of other words than the parts and the parent
 pub words_tasks : (old new : List (Option TaskRow)) (slot : ℕ) (change : TaskRow → TaskRow) → ChangesOnly old new slot change → IsRow old slot
-    → ((row : TaskRow) → (change row).parent ≡ row.parent) → ((row : TaskRow) → (change row).parts ≡ row.parts) → (ready : List ℕ) → AreTasks old ready → AreTasks new ready
+    → ((row : TaskRow) → (change row).parent ≡ row.parent) → ((row : TaskRow) → (change row).parts ≡ row.parts) → (ready : List ℕ) → AreTasks old ready
+    → AreTasks new ready
 words_tasks old new slot change only some parents parts ready t =
     let at = value_there (row_at old slot) some in
     changed_row old new slot change only at.0 at.1 (parents at.0) (λ i. ap (λ (ps : List PartState). asked_slot (get_or ps i Idle)) (parts at.0))
     (ap (list_all is_free) (parts at.0)) (ap (λ (ps : List PartState). length ps) (parts at.0)) ready t
 
 -- a part that no task is asked for before or after
-pub part_tasks : (old new : List (Option TaskRow)) (slot i : ℕ) (state : TaskRow → PartState) → ChangesOnly old new slot (λ row. with_part i (state row) row) → IsRow old slot → i < 3
+pub part_tasks : (old new : List (Option TaskRow)) (slot i : ℕ) (state : TaskRow → PartState) → ChangesOnly old new slot (λ row. with_part i (state row) row)
+    → IsRow old slot → i < 3
     → ((row : TaskRow) → row_at old slot ≡ Some row → (asked_slot (state row) ≡ asked_slot (state_at i row)) × (is_free (state row) ≡ is_free (state_at i row)))
     → (ready : List ℕ) → AreTasks old ready → AreTasks new ready
 part_tasks old new slot i state only some h same ready t =
@@ -117,7 +126,8 @@ part_tasks old new slot i state only some h same ready t =
     let three = t.three slot at.0 at.1 in
     changed_row old new slot (λ row. with_part i (state row) row) only at.0 at.1 refl
     (λ k. elim (cases_eq k i) [
-      | inl e ↦ ap (λ n. asked_slot (get_or (set at.0.parts i (state at.0)) n Idle)) e ∙ ap asked_slot (part_set at.0.parts i (state at.0) (omega (arith, h, three))) ∙ (same at.0 at.1).0 ∙ ap (λ n. asked_slot (state_at n at.0)) (sym e)
+      | inl e ↦ ap (λ n. asked_slot (get_or (set at.0.parts i (state at.0)) n Idle)) e
+          ∙ ap asked_slot (part_set at.0.parts i (state at.0) (omega (arith, h, three))) ∙ (same at.0 at.1).0 ∙ ap (λ n. asked_slot (state_at n at.0)) (sym e)
       | inr ne ↦ ap asked_slot (part_other at.0.parts i (state at.0) k ne)
     ])
     (free_set at.0.parts i (state at.0) (same at.0 at.1).1) (parts_length at.0.parts i (state at.0)) ready t
@@ -125,7 +135,8 @@ part_tasks old new slot i state only some h same ready t =
 idle_state : (o : Option TaskRow) (i : ℕ) (row : TaskRow) → option_map (state_at i) o ≡ Some Idle → o ≡ Some row → state_at i row ≡ Idle
 idle_state o i row idle at = some_is Idle (state_at i row) Idle (sym (ap (option_map (state_at i)) at) ∙ idle)
 
-pub given_tasks : (old new : List (Option TaskRow)) (part : Part) (v : Value) → ChangesOnly old new part.slot (with_part part.index (Got v)) → IsRow old part.slot → part.index < 3
+pub given_tasks : (old new : List (Option TaskRow)) (part : Part) (v : Value) → ChangesOnly old new part.slot (with_part part.index (Got v))
+    → IsRow old part.slot → part.index < 3
     → state_of old part ≡ Some Idle → (ready : List ℕ) → AreTasks old ready → AreTasks new ready
 given_tasks old new part v only some h idle = part_tasks old new part.slot part.index (λ _. Got v) only some h
     (λ row at. let is = idle_state (row_at old part.slot) part.index row idle at in (ap asked_slot (sym is), ap is_free (sym is)))
@@ -135,13 +146,16 @@ emptied_asks Idle = (refl, refl)
 emptied_asks (Asked s) = (refl, refl)
 emptied_asks (Got v) = (refl, refl)
 
-pub taken_tasks : (old new : List (Option TaskRow)) (part : Part) → ChangesOnly old new part.slot (λ row. with_part part.index (emptied (state_at part.index row)) row) → IsRow old part.slot → part.index < 3
+pub taken_tasks : (old new : List (Option TaskRow)) (part : Part)
+    → ChangesOnly old new part.slot (λ row. with_part part.index (emptied (state_at part.index row)) row) → IsRow old part.slot → part.index < 3
     → (ready : List ℕ) → AreTasks old ready → AreTasks new ready
-taken_tasks old new part only some h = part_tasks old new part.slot part.index (λ row. emptied (state_at part.index row)) only some h (λ row at. emptied_asks (state_at part.index row))
+taken_tasks old new part only some h = part_tasks old new part.slot part.index (λ row. emptied (state_at part.index row)) only some h
+    (λ row at. emptied_asks (state_at part.index row))
 
 -- ---- a new root
 
-module _ (old new : List (Option TaskRow)) (slot : ℕ) (task : Task) (key : Option Key) (sets : SetsOnly old new slot (Some (fresh task None key))) (past : IsPast old slot) (ready : List ℕ) (t : AreTasks old ready) where
+module _ (old new : List (Option TaskRow)) (slot : ℕ) (task : Task) (key : Option Key) (sets : SetsOnly old new slot (Some (fresh task None key)))
+    (past : IsPast old slot) (ready : List ℕ) (t : AreTasks old ready) where
   listed_below : (q : ℕ) → is_listed ready q ≡ true → q < slot
   listed_below q h = past q (ready_is_row (row_at old q) (sym (t.listed q) ∙ h))
 
@@ -159,15 +173,18 @@ module _ (old new : List (Option TaskRow)) (slot : ℕ) (task : Task) (key : Opt
         (λ e. ap is_ready (sets q ∙ chosen_same q slot (Some (fresh task None key)) (row_at old q) e))
         (λ ne. ap is_ready (sets q ∙ chosen_other q slot (Some (fresh task None key)) (row_at old q) ne) ∙ sym (t.listed q)));
     three = λ q row e. elim (cases_eq q slot) [
-      | inl is ↦ ap (λ (r : TaskRow). length r.parts) (some_is row row (fresh task None key) (sym e ∙ sets q ∙ chosen_same q slot (Some (fresh task None key)) (row_at old q) is))
+      | inl is ↦ ap (λ (r : TaskRow). length r.parts)
+          (some_is row row (fresh task None key) (sym e ∙ sets q ∙ chosen_same q slot (Some (fresh task None key)) (row_at old q) is))
       | inr ne ↦ t.three q row (sym (sets q ∙ chosen_other q slot (Some (fresh task None key)) (row_at old q) ne) ∙ e)
     ];
   }
 
 -- ---- a task that is asked for a part
 
-module _ (old mid new : List (Option TaskRow)) (parent : Part) (slot : ℕ) (task : Task) (key : Option Key) (sets : SetsOnly old mid slot (Some (fresh task (Some parent) key))) (past : IsPast old slot)
-    (only : ChangesOnly mid new parent.slot (with_part parent.index (Asked slot))) (some : IsRow old parent.slot) (h : parent.index < 3) (idle : state_of old parent ≡ Some Idle) where
+module _ (old mid new : List (Option TaskRow)) (parent : Part) (slot : ℕ) (task : Task) (key : Option Key)
+    (sets : SetsOnly old mid slot (Some (fresh task (Some parent) key))) (past : IsPast old slot)
+    (only : ChangesOnly mid new parent.slot (with_part parent.index (Asked slot))) (some : IsRow old parent.slot) (h : parent.index < 3)
+    (idle : state_of old parent ≡ Some Idle) where
   older : parent.slot < slot
   older = past parent.slot some
 
@@ -181,10 +198,12 @@ module _ (old mid new : List (Option TaskRow)) (parent : Part) (slot : ℕ) (tas
   mid_other q ne = sets q ∙ chosen_other q slot (Some child) (row_at old q) ne
 
   at_child : row_at new slot ≡ Some child
-  at_child = elsewhere mid new parent.slot (with_part parent.index (Asked slot)) only slot (λ e. apart (sym e)) ∙ sets slot ∙ chosen_same slot slot (Some child) (row_at old slot) refl
+  at_child = elsewhere mid new parent.slot (with_part parent.index (Asked slot)) only slot (λ e. apart (sym e)) ∙ sets slot
+      ∙ chosen_same slot slot (Some child) (row_at old slot) refl
 
   at_parent : row_at new parent.slot ≡ option_map (with_part parent.index (Asked slot)) (row_at old parent.slot)
-  at_parent = there mid new parent.slot (with_part parent.index (Asked slot)) only ∙ ap (option_map (with_part parent.index (Asked slot))) (mid_other parent.slot apart)
+  at_parent = there mid new parent.slot (with_part parent.index (Asked slot)) only
+      ∙ ap (option_map (with_part parent.index (Asked slot))) (mid_other parent.slot apart)
 
   others : (q : ℕ) → q ≢ slot → q ≢ parent.slot → row_at new q ≡ row_at old q
   others q ne other = elsewhere mid new parent.slot (with_part parent.index (Asked slot)) only q other ∙ mid_other q ne
@@ -218,7 +237,8 @@ module _ (old mid new : List (Option TaskRow)) (parent : Part) (slot : ℕ) (tas
       | inr other ↦ ap parent_in (others q ne other)
     ]
 
-    children : (p : Part) → (p ≡ parent → ⊥) → (p.slot ≡ parent.slot) ⊎ (p.slot ≡ parent.slot → ⊥) → (p.slot ≡ slot) ⊎ (p.slot ≡ slot → ⊥) → child_of new p ≡ child_of old p
+    children : (p : Part) → (p ≡ parent → ⊥) → (p.slot ≡ parent.slot) ⊎ (p.slot ≡ parent.slot → ⊥) → (p.slot ≡ slot) ⊎ (p.slot ≡ slot → ⊥)
+        → child_of new p ≡ child_of old p
     children p ne (inl e) _ =
         ap (λ s. child_in p.index (row_at new s)) e ∙ ap (child_in p.index) at_waiting
         ∙ ap asked_slot (part_other row_there.0.parts parent.index (Asked slot) p.index (other_index p parent ne e))
@@ -228,7 +248,8 @@ module _ (old mid new : List (Option TaskRow)) (parent : Part) (slot : ℕ) (tas
         ∙ ap (child_in p.index) (sym (ap (row_at old) e ∙ past_none old slot past))
     children p ne (inr other) (inr past) = ap (child_in p.index) (others p.slot past other)
 
-    pub asked_tasks : (after : List ℕ) → RiseFrom 0 after → ((q : ℕ) → is_listed after q ≡ cond (q == slot) true (cond (q == parent.slot) false (is_listed ready q))) → AreTasks new after
+    pub asked_tasks : (after : List ℕ) → RiseFrom 0 after
+        → ((q : ℕ) → is_listed after q ≡ cond (q == slot) true (cond (q == parent.slot) false (is_listed ready q))) → AreTasks new after
     asked_tasks after rising lists = record {
       forest = forest_asked old new slot parent (ap parent_in at_child) parents
           (ap (child_in parent.index) at_waiting ∙ ap asked_slot (part_set row_there.0.parts parent.index (Asked slot) within))
@@ -243,7 +264,8 @@ module _ (old mid new : List (Option TaskRow)) (parent : Part) (slot : ℕ) (tas
       three = λ q row e. three_case q row e (cases_eq q slot) (cases_eq q parent.slot);
     }
       where
-        three_case : (q : ℕ) (row : TaskRow) → row_at new q ≡ Some row → (q ≡ slot) ⊎ (q ≡ slot → ⊥) → (q ≡ parent.slot) ⊎ (q ≡ parent.slot → ⊥) → length row.parts ≡ 3
+        three_case : (q : ℕ) (row : TaskRow) → row_at new q ≡ Some row → (q ≡ slot) ⊎ (q ≡ slot → ⊥) → (q ≡ parent.slot) ⊎ (q ≡ parent.slot → ⊥)
+            → length row.parts ≡ 3
         three_case q row e (inl is) _ = ap (λ (r : TaskRow). length r.parts) (some_is row row child (sym e ∙ ap (row_at new) is ∙ at_child))
         three_case q row e (inr ne) (inl is) =
             ap (λ (r : TaskRow). length r.parts) (some_is row row waiting (sym e ∙ ap (row_at new) is ∙ at_waiting))
@@ -303,7 +325,8 @@ module _ (rows : List (Option TaskRow)) (slot : ℕ) (ready left : List ℕ) (t 
     pub part_index : part.index < 3
     part_index = t.forest.index slot part was
 
-    asked_row : (o : Option TaskRow) → child_in part.index o ≡ Some slot → (row : TaskRow) × ((o ≡ Some row) × (asked_slot (state_at part.index row) ≡ Some slot))
+    asked_row : (o : Option TaskRow) → child_in part.index o ≡ Some slot
+        → (row : TaskRow) × ((o ≡ Some row) × (asked_slot (state_at part.index row) ≡ Some slot))
     asked_row None h = absurd (none-some slot h)
     asked_row (Some row) h = (row, (refl, h))
 
@@ -326,10 +349,11 @@ module _ (rows : List (Option TaskRow)) (slot : ℕ) (ready left : List ℕ) (t 
 
     -- the row that waited isn't listed
     pub part_waits : is_listed left part.slot ≡ false
-    part_waits = left_listed part.slot ∙ ap is_ready (kept part.slot other_slot) ∙ (elim (is_ready (row_at rows part.slot)) as (λ b. is_ready (row_at rows part.slot) ≡ b → b ≡ false) [
-      | true ↦ λ e. absurd (none-some slot (sym (ready_is_free rows part e) ∙ t.forest.parent slot part was))
-      | false ↦ λ e. refl
-    ]) refl
+    part_waits = left_listed part.slot ∙ ap is_ready (kept part.slot other_slot)
+        ∙ (elim (is_ready (row_at rows part.slot)) as (λ b. is_ready (row_at rows part.slot) ≡ b → b ≡ false) [
+          | true ↦ λ e. absurd (none-some slot (sym (ready_is_free rows part e) ∙ t.forest.parent slot part was))
+          | false ↦ λ e. refl
+        ]) refl
 
     module _ (value : Value) (new : List (Option TaskRow)) (gave : ChangesOnly mid new part.slot (with_part part.index (Got value))) where
       abbrev done : TaskRow
@@ -364,7 +388,8 @@ module _ (rows : List (Option TaskRow)) (slot : ℕ) (ready left : List ℕ) (t 
         | inr other ↦ ap parent_in (others_left q ne other)
       ]
 
-      children_left : (p : Part) → (p ≡ part → ⊥) → (p.slot ≡ part.slot) ⊎ (p.slot ≡ part.slot → ⊥) → (p.slot ≡ slot) ⊎ (p.slot ≡ slot → ⊥) → child_of new p ≡ child_of rows p
+      children_left : (p : Part) → (p ≡ part → ⊥) → (p.slot ≡ part.slot) ⊎ (p.slot ≡ part.slot → ⊥) → (p.slot ≡ slot) ⊎ (p.slot ≡ slot → ⊥)
+          → child_of new p ≡ child_of rows p
       children_left p ne (inl e) _ =
           ap (λ s. child_in p.index (row_at new s)) e ∙ ap (child_in p.index) now_row
           ∙ ap asked_slot (part_other waiting_row.0.parts part.index (Got value) p.index (other_index p part ne e))
@@ -372,7 +397,8 @@ module _ (rows : List (Option TaskRow)) (slot : ℕ) (ready left : List ℕ) (t 
       children_left p ne (inr other) (inl e) = ap (child_in p.index) (ap (row_at new) e ∙ at_slot) ∙ sym (no_child p e)
       children_left p ne (inr other) (inr past) = ap (child_in p.index) (others_left p.slot past other)
 
-      pub settled_part : (after : List ℕ) → RiseFrom 0 after → ((q : ℕ) → is_listed after q ≡ cond (q == part.slot) (is_ready (row_at new part.slot)) (is_listed left q)) → AreTasks new after
+      pub settled_part : (after : List ℕ) → RiseFrom 0 after
+          → ((q : ℕ) → is_listed after q ≡ cond (q == part.slot) (is_ready (row_at new part.slot)) (is_listed left q)) → AreTasks new after
       settled_part after rising added = record {
         forest = forest_settled rows new slot part was (ap parent_in at_slot) parents_left
             (ap (child_in part.index) now_row ∙ ap asked_slot (part_set waiting_row.0.parts part.index (Got value) within_parts))
@@ -390,7 +416,8 @@ module _ (rows : List (Option TaskRow)) (slot : ℕ) (ready left : List ℕ) (t 
       }
 
       -- a row that waits on isn't listed either
-      pub not_added : is_ready (row_at new part.slot) ≡ false → (q : ℕ) → is_listed left q ≡ cond (q == part.slot) (is_ready (row_at new part.slot)) (is_listed left q)
+      pub not_added : is_ready (row_at new part.slot) ≡ false → (q : ℕ)
+          → is_listed left q ≡ cond (q == part.slot) (is_ready (row_at new part.slot)) (is_listed left q)
       not_added waits q = chosen q part.slot (is_listed left q) (is_ready (row_at new part.slot)) (is_listed left q)
           (λ e. ap (is_listed left) e ∙ part_waits ∙ sym waits)
           (λ _. refl)

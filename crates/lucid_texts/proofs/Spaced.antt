@@ -9,7 +9,8 @@ join-spaced w (v ∷ ws) = ap (λ (x : List ℕ). w ++ 32 ∷ x) (join-spaced v 
 
 pub spaced-append : (ws vs : List (List ℕ)) → spaced (ws ++ vs) ≡ spaced ws ++ spaced vs
 spaced-append [] vs = refl
-spaced-append (w ∷ ws) vs = ap (λ (x : List ℕ). 32 ∷ (w ++ x)) (spaced-append ws vs) ∙ ap (λ (x : List ℕ). 32 ∷ x) (sym (append_assoc w (spaced ws) (spaced vs)))
+spaced-append (w ∷ ws) vs = ap (λ (x : List ℕ). 32 ∷ (w ++ x)) (spaced-append ws vs)
+    ∙ ap (λ (x : List ℕ). 32 ∷ x) (sym (append_assoc w (spaced ws) (spaced vs)))
 
 -- a first word, words behind it and the end are the line of them all
 pub line_one : (to h : List ℕ) (ws : List (List ℕ)) → ((to ++ h) ++ spaced ws) ++ 10 ∷ [] ≡ to ++ ended (join_with_byte 32 (h ∷ ws))

@@ -61,7 +61,8 @@ module _ (Is : List (List ℕ) → Type 0) (law : (ls : List (List ℕ)) → Is 
       refused_line_by : IsFirstWrongLine Is bytes (length ls + 1)
       refused_line_by = record {
         no_text = λ ms h e.
-            line_goes_nowhere (text_goes_on bytes ms h e (length ls + 1) (omega (arith, ap length one_more_line, length-append ls (line ∷ whole_lines behind))));
+            line_goes_nowhere (text_goes_on bytes ms h e (length ls + 1)
+            (omega (arith, ap length one_more_line, length-append ls (line ∷ whole_lines behind))));
         before = length ls;
         is = refl;
         goes = goes_so_far;
@@ -89,12 +90,14 @@ module _ (Is : List (List ℕ) → Type 0) (law : (ls : List (List ℕ)) → Is 
   refused_line bytes ls rest line behind b c e f h = refused_line_by bytes ls rest b c line behind e (recursion_from_All _ line f) h
 
   -- Bytes that end too early are refused at the line behind the last whole one.
-  pub refused_end : (bytes : List ℕ) (ls : List (List ℕ)) (rest : List ℕ) → bytes ≡ text_of ls ++ rest → CanGoOn Is ls → HasNone 10 rest → (rest ≡ [] → Is ls → ⊥)
+  pub refused_end : (bytes : List ℕ) (ls : List (List ℕ)) (rest : List ℕ) → bytes ≡ text_of ls ++ rest → CanGoOn Is ls → HasNone 10 rest
+      → (rest ≡ [] → Is ls → ⊥)
       → IsFirstWrongLine Is bytes (length ls + 1)
   refused_end bytes ls rest b c f h = refused_end_by bytes ls rest b c (recursion_from_All _ rest f) h
 
 -- one more line
-pub read_more : (bytes : List ℕ) (ls new : List (List ℕ)) (rest line behind : List ℕ) → bytes ≡ text_of ls ++ rest → rest ≡ line ++ 10 ∷ behind → new ≡ ls ++ line ∷ []
+pub read_more : (bytes : List ℕ) (ls new : List (List ℕ)) (rest line behind : List ℕ) → bytes ≡ text_of ls ++ rest → rest ≡ line ++ 10 ∷ behind
+    → new ≡ ls ++ line ∷ []
     → bytes ≡ text_of new ++ behind
 read_more bytes ls new rest line behind e f n =
     (e ∙ ap (λ (x : List ℕ). text_of ls ++ x) f) ∙ (sym (moved ls line behind) ∙ ap (λ (ms : List (List ℕ)). text_of ms ++ behind) (sym n))

@@ -21,7 +21,8 @@ pub no_text : TextIsRead → (bytes : List ℕ) → ReadsAsNone bytes → (v : P
 no_text law bytes r v h e = r v (reads_text law bytes v h e)
 
 -- what reads as a value is no other's text
-pub same_text : TextIsRead → OneLineReading → (bytes : List ℕ) (w v : PlainValue) → ReadsLine bytes w → IsTrue (is_value v) → bytes ≡ value_text v → value_text w ≡ bytes
+pub same_text : TextIsRead → OneLineReading → (bytes : List ℕ) (w v : PlainValue) → ReadsLine bytes w → IsTrue (is_value v) → bytes ≡ value_text v
+    → value_text w ≡ bytes
 same_text law one bytes w v r h e = ap value_text (one bytes w v r (reads_text law bytes v h e)) ∙ sym e
 
 -- no text is that of two values

@@ -63,7 +63,8 @@ pub utf8-decimal : (w : List ℕ) (n : ℕ) → n < 2 ^ 64 → w ≡ decimal n �
 utf8-decimal w n h e = subst IsUtf8 (sym e) (IsUtf8-from_ascii (decimal n) (IsAscii-decimal n h))
 
 -- the parts of two equal pairs
-taken_by : (b : ℕ) (w : List ℕ) (ws : List (List ℕ)) (p : ℕ × List (List ℕ)) (o : Option ℕ) → number_of b w ≡ o → option_and_then {U = ℕ × List (List ℕ)} (λ n. Some (n, ws)) o ≡ Some p
+taken_by : (b : ℕ) (w : List ℕ) (ws : List (List ℕ)) (p : ℕ × List (List ℕ)) (o : Option ℕ) → number_of b w ≡ o
+    → option_and_then {U = ℕ × List (List ℕ)} (λ n. Some (n, ws)) o ≡ Some p
     → (w ∷ ws ≡ decimal p.0 ∷ p.1) × (p.0 < b)
 taken_by b w ws p None e h = absurd (cc)
 taken_by b w ws p (Some n) e h =
@@ -85,7 +86,8 @@ take_number-decimal b n ws l h = ap (option_and_then {U = ℕ × List (List ℕ)
 -- the words of words without blanks, joined by blanks, are these words
 words_of-join : (w : List ℕ) (ws : List (List ℕ)) → AllByRecursion (Lacks 32) (w ∷ ws) → words_of (join_with_byte 32 (w ∷ ws)) ≡ w ∷ ws
 words_of-join w [] h = words_of_one w (has_none 32 w h.0)
-words_of-join w (v ∷ ws) h = words_of_more w (join_with_byte 32 (v ∷ ws)) _ refl (has_none 32 w h.0) ∙ ap (λ (us : List (List ℕ)). w ∷ us) (words_of-join v ws h.1)
+words_of-join w (v ∷ ws) h = words_of_more w (join_with_byte 32 (v ∷ ws)) _ refl (has_none 32 w h.0)
+    ∙ ap (λ (us : List (List ℕ)). w ∷ us) (words_of-join v ws h.1)
 
 -- and so are words of letters and digits
 pub spaced_words : (w : List ℕ) (ws : List (List ℕ)) → AllByRecursion IsSolid (w ∷ ws) → words_of (join_with_byte 32 (w ∷ ws)) ≡ w ∷ ws

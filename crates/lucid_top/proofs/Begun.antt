@@ -21,11 +21,22 @@ not_below_zero t h = absurd (omega arith)
 unread : (S : Subject) (b : Elements) (r : RunView) → r.out_after.bytes ≡ r.out_before.bytes → ConsumesNothing r → Rises r.before.faults r.after.faults
     → Ran S b r (Err fault.ReadFault)
 unread S b r silent nothing rises = record {
-  out = record { whole = 0; within = omega arith; bytes = []; output = no_lines; front = []; begun = inl refl; written = silent ∙ with_nothing r.out_before.bytes };
+  out = record {
+    whole = 0;
+    within = omega arith;
+    bytes = [];
+    output = no_lines;
+    front = [];
+    begun = inl refl;
+    written = silent ∙ with_nothing r.out_before.bytes;
+  };
   cut_off = inl refl;
   done = tt;
   deep = tt;
-  exact = λ empties t h. elim h [ inl below ↦ absurd (not_below_zero t below) | inr at ↦ elim at.1 [ inl ended ↦ absurd ended | inr begun ↦ absurd (begun refl) ] ];
+  exact = λ empties t h. elim h [
+    | inl below ↦ absurd (not_below_zero t below)
+    | inr at ↦ elim at.1 [ inl ended ↦ absurd ended | inr begun ↦ absurd (begun refl) ]
+  ];
   stops = λ early defined quiet. absurd (quiet.no_read_failed rises);
   complete = λ deep quiet. absurd (quiet.no_read_failed rises);
   consumed = record { added = 0; none = λ _. refl; holds = λ d le k n q is old new x y. inl (nothing k n q is old new x y) };
@@ -35,11 +46,22 @@ unread S b r silent nothing rises = record {
 
 unmade : (S : Subject) (b : Elements) (r : RunView) → r.out_after.bytes ≡ r.out_before.bytes → ConsumesNothing r → Ran S b r (Err fault.NoMemory)
 unmade S b r silent nothing = record {
-  out = record { whole = 0; within = omega arith; bytes = []; output = no_lines; front = []; begun = inl refl; written = silent ∙ with_nothing r.out_before.bytes };
+  out = record {
+    whole = 0;
+    within = omega arith;
+    bytes = [];
+    output = no_lines;
+    front = [];
+    begun = inl refl;
+    written = silent ∙ with_nothing r.out_before.bytes;
+  };
   cut_off = inl refl;
   done = tt;
   deep = tt;
-  exact = λ empties t h. elim h [ inl below ↦ absurd (not_below_zero t below) | inr at ↦ elim at.1 [ inl ended ↦ absurd ended | inr begun ↦ absurd (begun refl) ] ];
+  exact = λ empties t h. elim h [
+    | inl below ↦ absurd (not_below_zero t below)
+    | inr at ↦ elim at.1 [ inl ended ↦ absurd ended | inr begun ↦ absurd (begun refl) ]
+  ];
   stops = λ early defined quiet. refl;
   complete = λ deep quiet. refl;
   consumed = record { added = 0; none = λ _. refl; holds = λ d le k n q is old new x y. inl (nothing k n q is old new x y) };
@@ -76,9 +98,11 @@ want_of_memory p r f h b has =
 
 -- a place that tells the same tells the same number of bytes consumed
 pub same_contents : (x : Option Contents) (old new : Contents) → x ≡ Some old → x ≡ Some new → length new.consumed ≤ length old.consumed
-same_contents x old new a b = let same : old ≡ new = cc (a, b) in subst (λ c. length new.consumed ≤ length c.consumed) (sym same) (le_refl (length new.consumed))
+same_contents x old new a b = let same : old ≡ new = cc (a, b) in
+    subst (λ c. length new.consumed ≤ length c.consumed) (sym same) (le_refl (length new.consumed))
 
 -- want of memory before the run
-pub no_memory : (p : Program) (r : RunView) (o : Outcome) (s : Stop) → o ≡ Err s → s ≡ stop.NoMemory → r.out_after.bytes ≡ r.out_before.bytes → ConsumesNothing r → RanSo p r o
+pub no_memory : (p : Program) (r : RunView) (o : Outcome) (s : Stop) → o ≡ Err s → s ≡ stop.NoMemory → r.out_after.bytes ≡ r.out_before.bytes
+    → ConsumesNothing r → RanSo p r o
 no_memory p r o s is memory silent nothing =
     ran_with p r o (Err fault.NoMemory) (ap run_result is ∙ ap (λ (x : Stop). run_result (Err x)) memory) (never_made p r silent nothing)

@@ -11,7 +11,8 @@ pub free_of : (p : PlainTree) (s : Scoped) → scoped_tree s ≡ p → AreResolv
 free_of p s is resolved = subst (λ q. HasInputs q (scoped_inputs s)) is (∥∥₁_map resolved.resolved (λ r. r.inputs_are))
 
 module _ (p : PlainTree) (columns : List (List ℕ)) where
-  stands : (q : PlainTree) (free : List (List ℕ)) (s : Scoped) → HasNoFault p → HasInputs p free → AreColumns p columns → q ≡ beside p columns → IsWellMade q → scoped_tree s ≡ q → AreResolved s
+  stands : (q : PlainTree) (free : List (List ℕ)) (s : Scoped) → HasNoFault p → HasInputs p free → AreColumns p columns → q ≡ beside p columns → IsWellMade q
+      → scoped_tree s ≡ q → AreResolved s
       → StandsBeside p columns (scoped_tree s) (scoped_inputs s)
   stands q free s none inputs are is well same resolved =
       let whole : scoped_tree s ≡ beside p columns = same ∙ is in
@@ -25,7 +26,8 @@ module _ (p : PlainTree) (columns : List (List ℕ)) where
         few = few_inputs p most_source_bytes columns (scoped_inputs s) are (free_of (beside p columns) s whole resolved);
       }
 
-  pub all_stand : (q : PlainTree) (free : List (List ℕ)) (r : Result Scoped Stop) → HasNoFault p → HasInputs p free → AreColumns p columns → q ≡ beside p columns → IsWellMade q
+  pub all_stand : (q : PlainTree) (free : List (List ℕ)) (r : Result Scoped Stop) → HasNoFault p → HasInputs p free → AreColumns p columns
+      → q ≡ beside p columns → IsWellMade q
       → IfOk r (λ s. scoped_tree s ≡ q) → IfOk r AreResolved → IfOk r (λ s. StandsBeside p columns (scoped_tree s) (scoped_inputs s))
   all_stand q free (Ok s) none inputs are is well same resolved = stands q free s none inputs are is well same resolved
   all_stand q free (Err e) none inputs are is well same resolved = tt
@@ -35,7 +37,8 @@ module _ (p : PlainTree) (columns : List (List ℕ)) where
   names_refused stop.NoMemory h = tt
   names_refused _ h = absurd h
 
-  pub columns_refused : (free : List (List ℕ)) (s : Stop) → HasNoFault p → HasInputs p free → IsRefusalOf (RefusesColumns p columns) s → IsRefusalOf (RefusesBeside p columns) s
+  pub columns_refused : (free : List (List ℕ)) (s : Stop) → HasNoFault p → HasInputs p free → IsRefusalOf (RefusesColumns p columns) s
+      → IsRefusalOf (RefusesBeside p columns) s
   columns_refused free (stop.Refused why) none inputs h = inr (none, (free, inputs), h)
   columns_refused free stop.NoMemory none inputs h = tt
   columns_refused free _ none inputs h = absurd h

@@ -32,18 +32,24 @@ stands_for T e l keeps = record {
   held = λ b m points held kept x y n t s. keeps.held b m points held kept x y n t s;
 }
 
-tree_ran : SameStreamsRunAlike → FiguresCarry → (T : Table) (e : PlainTree) → KeepsTree (equations_of T) e → (b : Elements) (r : RunView) (o : Option (Result Summary RunFault))
+tree_ran : SameStreamsRunAlike → FiguresCarry → (T : Table) (e : PlainTree) → KeepsTree (equations_of T) e
+    → (b : Elements) (r : RunView) (o : Option (Result Summary RunFault))
     → IsSomeAnd o (λ y. Ran (stream_subject (table_stream T)) b r y × Figures (table_counted T) b r y)
     → IsSomeAnd o (λ y. Ran (stream_subject (tree_stream e)) b r y × Figures (tree_counted e one_stream) b r y)
 tree_ran alike carry T e keeps b r None h = absurd h
-tree_ran alike carry T e keeps b r (Some y) h =
-    (alike (table_stream T) (tree_stream e) (same_stream T e keeps) b r y h.0, carry T one_stream (tree_counted e one_stream) (stands_for T e one_stream keeps) b r y h.1)
+tree_ran alike carry T e keeps b r (Some y) h = (
+  alike (table_stream T) (tree_stream e) (same_stream T e keeps) b r y h.0,
+  carry T one_stream (tree_counted e one_stream) (stands_for T e one_stream keeps)
+      b r y h.1,
+)
 
-pub runs_tree : SameStreamsRunAlike → FiguresCarry → (T : Table) (e : PlainTree) → KeepsTree (equations_of T) e → (r : RunView) (o : Outcome) → RanSo (of_table T) r o → RanSo (of_tree e) r o
+pub runs_tree : SameStreamsRunAlike → FiguresCarry → (T : Table) (e : PlainTree) → KeepsTree (equations_of T) e → (r : RunView) (o : Outcome)
+    → RanSo (of_table T) r o → RanSo (of_tree e) r o
 runs_tree alike carry T e keeps r o h b has = tree_ran alike carry T e keeps b r (run_result o) (h b has)
 
 -- streams that are the same one by one are the same in order
-streams_from : (T : Table) (f : List ℕ → OneStream) (a : ℕ) (ns : List (List ℕ)) → ((i : ℕ) (n : List ℕ) → slice_get ns i ≡ Some n → table_stream_at T (a + i) ≡ f n)
+streams_from : (T : Table) (f : List ℕ → OneStream) (a : ℕ) (ns : List (List ℕ))
+    → ((i : ℕ) (n : List ℕ) → slice_get ns i ≡ Some n → table_stream_at T (a + i) ≡ f n)
     → map (table_stream_at T) (range_with_len a (length ns)) ≡ map f ns
 streams_from T f a [] same = refl
 streams_from T f a (n ∷ ns) same =
@@ -57,7 +63,8 @@ streams_from T f a (n ∷ ns) same =
     one_on k i = omega arith
 
 -- the streams of a table that keeps a tree with its columns beside each other are those of the columns
-column_is : (T : Table) (e : PlainTree) (columns : List (List ℕ)) → KeepsTree (equations_of T) (beside e columns) → (i : ℕ) (n : List ℕ) → IsSpace e most_source_bytes columns i n
+column_is : (T : Table) (e : PlainTree) (columns : List (List ℕ)) → KeepsTree (equations_of T) (beside e columns) → (i : ℕ) (n : List ℕ)
+    → IsSpace e most_source_bytes columns i n
     → table_stream_at T i ≡ tree_stream (column e n)
 column_is T e columns keeps i n is = λ k. record {
   value = λ b m t. (keeps.values b m t i ∙ is.values b m t) k;
@@ -68,15 +75,18 @@ columns_are : ColumnsAreSpaces → (T : Table) (e : PlainTree) (columns : List (
     → table_columns T (length columns) ≡ column_streams e columns
 columns_are spaces T e columns keeps are =
     streams_from T (λ n. tree_stream (column e n)) 0 columns
-    (λ i n at. ap (table_stream_at T) (from_zero i) ∙ column_is T e columns keeps i n (spaces e most_source_bytes columns i n at (are i n (slice_get_within columns i n at) at)))
+    (λ i n at. ap (table_stream_at T) (from_zero i)
+    ∙ column_is T e columns keeps i n (spaces e most_source_bytes columns i n at (are i n (slice_get_within columns i n at) at)))
   where
     from_zero : (i : ℕ) → 0 + i ≡ i
     from_zero i = omega arith
 
-columns_ran : FiguresCarry → (T : Table) (e : PlainTree) (columns : List (List ℕ)) → KeepsTree (equations_of T) (beside e columns) → table_columns T (length columns) ≡ column_streams e columns
+columns_ran : FiguresCarry → (T : Table) (e : PlainTree) (columns : List (List ℕ)) → KeepsTree (equations_of T) (beside e columns)
+    → table_columns T (length columns) ≡ column_streams e columns
     → (b : Elements) (r : RunView) (o : Option (Result Summary RunFault))
     → IsSomeAnd o (λ y. Ran (columns_subject (table_columns T (length columns))) b r y × Figures (columns_counted T (length columns)) b r y)
-    → IsSomeAnd o (λ y. Ran (columns_subject (column_streams e columns)) b r y × Figures (tree_counted (beside e columns) (side_by_side (column_streams e columns))) b r y)
+    → IsSomeAnd o (λ y. Ran (columns_subject (column_streams e columns)) b r y
+    × Figures (tree_counted (beside e columns) (side_by_side (column_streams e columns))) b r y)
 columns_ran carry T e columns keeps same b r None h = absurd h
 columns_ran carry T e columns keeps same b r (Some y) h = (
   subst (λ xs. Ran (columns_subject xs) b r y) same h.0,
@@ -86,9 +96,11 @@ columns_ran carry T e columns keeps same b r (Some y) h = (
 )
 
 -- So a run of such a table at as many spaces is a run of the columns.
-pub runs_columns : FiguresCarry → ColumnsAreSpaces → (T : Table) (e : PlainTree) (columns : List (List ℕ)) → KeepsTree (equations_of T) (beside e columns) → AreColumns e columns
+pub runs_columns : FiguresCarry → ColumnsAreSpaces → (T : Table) (e : PlainTree) (columns : List (List ℕ)) → KeepsTree (equations_of T) (beside e columns)
+    → AreColumns e columns
     → (r : RunView) (o : Outcome) → RanSo (of_spaces T (length columns)) r o → RanSo (of_columns e columns) r o
-runs_columns carry spaces T e columns keeps are r o h b has = columns_ran carry T e columns keeps (columns_are spaces T e columns keeps are) b r (run_result o) (h b has)
+runs_columns carry spaces T e columns keeps are r o h b has =
+    columns_ran carry T e columns keeps (columns_are spaces T e columns keeps are) b r (run_result o) (h b has)
 
 -- Where words name no column, a table runs as it is; where they name some, at as many spaces.
 at_root : (w : PlainWords) (T : Table) → nat_eq (length w.columns) 0 ≡ true → table_program w T ≡ of_table T
@@ -139,7 +151,8 @@ parts count depth w v o p policy names places most = record {
 }
 
 -- a run seen with the same parts
-pub seen_same : (prog : Program) (words : PlainWords) (w v : World) (o p : Told) (result : Result Summary RunFault) (policy : PolicyView) (names free : List (List ℕ)) (places numbers : List ℕ)
+pub seen_same : (prog : Program) (words : PlainWords) (w v : World) (o p : Told) (result : Result Summary RunFault) (policy : PolicyView)
+    (names free : List (List ℕ)) (places numbers : List ℕ)
     (most : ℕ) → policy ≡ policy_named words.policy words.age words.room → names ≡ free → places ≡ numbers → most ≡ most_input_bytes
     → RanWith prog (parts words.count words.depth w v o p policy names places most) result → RanWith prog (viewed words free numbers w v o p) result
 seen_same prog words w v o p result policy names free places numbers most by_policy by_names by_places by_most h =
@@ -149,7 +162,8 @@ seen_same prog words w v o p result policy names free places numbers most by_pol
     (subst (λ y. RanWith prog (parts words.count words.depth w v o p y names places most) result) by_policy h)))
 
 -- the outcome of a run that stopped
-pub stopped_run : (prog : Program) (r : RunView) (free : List (List ℕ)) (stats : Bool) (f : RunFault) (s : Stop) → IsRunStop free stats f s → RanWith prog r (Err f) → RanSo prog r (Err s)
+pub stopped_run : (prog : Program) (r : RunView) (free : List (List ℕ)) (stats : Bool) (f : RunFault) (s : Stop) → IsRunStop free stats f s
+    → RanWith prog r (Err f) → RanSo prog r (Err s)
 stopped_run prog r free stats (fault.TooDeep time lost cleared) s is h =
     ran_with prog r (Err s) (Err (fault.TooDeep time lost cleared)) (ap (λ x. run_result (Err x)) is) h
 stopped_run prog r free stats fault.ReadFault s is h = ran_with prog r (Err s) (Err fault.ReadFault) (ap (λ x. run_result (Err x)) is) h
@@ -157,5 +171,6 @@ stopped_run prog r free stats fault.WriteFault s is h = ran_with prog r (Err s) 
 stopped_run prog r free stats fault.NoMemory s is h = ran_with prog r (Err s) (Err fault.NoMemory) (ap (λ x. run_result (Err x)) is) h
 stopped_run prog r free stats (fault.TooLarge k) (stop.TooLarge stream name) is h =
     ran_with prog r (Err (stop.TooLarge stream name)) (Err (fault.TooLarge k)) (ap (λ x. Some (Err (fault.TooLarge x))) is.0) h
-stopped_run prog r free stats (fault.TooLarge k) stop.NoMemory is h = ran_with prog r (Err stop.NoMemory) (Err fault.NoMemory) refl (want_of_memory prog r (fault.TooLarge k) h)
+stopped_run prog r free stats (fault.TooLarge k) stop.NoMemory is h =
+    ran_with prog r (Err stop.NoMemory) (Err fault.NoMemory) refl (want_of_memory prog r (fault.TooLarge k) h)
 stopped_run prog r free stats (fault.TooLarge k) _ is h = absurd is

@@ -20,10 +20,12 @@ module _ (c : Call) (k : Task) (w : PlainWords) (t : Table) (v : World) (b : Pro
   first_is = ap (λ n. first_place w.source + n) (ap certificate_places b.task)
 
   -- the words NAME=FILE stop the call
-  pub given_stops : is_certificate k ≡ true → (s : Stop) → IsRefusalOf (RefusesGiven t.inputs w.given) s → WritesNothing c → c.after.reached ≤ first_place w.source → Comes c (Err s)
+  pub given_stops : is_certificate k ≡ true → (s : Stop) → IsRefusalOf (RefusesGiven t.inputs w.given) s → WritesNothing c
+      → c.after.reached ≤ first_place w.source → Comes c (Err s)
   given_stops one (stop.Refused why) refused silent few =
       let here : RefusesGiven b.names.free asks.words.given why =
-      subst (λ (u : PlainWords). RefusesGiven b.names.free u.given why) (sym words_are) (subst (λ names. RefusesGiven names w.given why) b.table.names refused) in
+      subst (λ (u : PlainWords). RefusesGiven b.names.free u.given why) (sym words_are)
+      (subst (λ names. RefusesGiven names w.given why) b.table.names refused) in
       let for_one : is_certificate (task_of asks.words) ≡ true = ap is_certificate asked_are ∙ one in
       record {
         only = (by_given (by_tree b.names) (inr for_one) here, silent);

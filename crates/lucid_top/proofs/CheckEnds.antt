@@ -49,7 +49,8 @@ module _ (c : Call) (w : PlainWords) (t : Table) (v : World) (b : ProvesTable c 
         let one = first_place_le w.source in
         let first = b.first in omega (arith, few, one, first)
 
-    pub certificate_stop : (s : Stop) → KeepsNames v c.after → IsSourceStop RefusesCertificate (file w.check) v c.after s → WritesNothing c → c.after.reached ≤ v.reached + 1 → Comes c (Err s)
+    pub certificate_stop : (s : Stop) → KeepsNames v c.after → IsSourceStop RefusesCertificate (file w.check) v c.after s → WritesNothing c
+        → c.after.reached ≤ v.reached + 1 → Comes c (Err s)
     certificate_stop (stop.Refused why) kept h silent few = record {
       only = (by_certificate may h.0 (same_file h.0 h.1) h.2, silent);
       how = inl ((by_certificate may h.0 (same_file h.0 h.1) h.2, b.made), certificate_rests silent few);
@@ -76,7 +77,8 @@ module _ (c : Call) (w : PlainWords) (t : Table) (v : World) (b : ProvesTable c 
       places = places_are c task.Check w t v b fits
 
       -- the places of the inputs stop the call
-      pub reaching_stop : (files : List (List ℕ)) (s : Stop) → length files ≡ length t.inputs → KeepsNames u c.after → AreFresh files u c.after → c.after.reached ≤ u.reached + length files
+      pub reaching_stop : (files : List (List ℕ)) (s : Stop) → length files ≡ length t.inputs → KeepsNames u c.after → AreFresh files u c.after
+          → c.after.reached ≤ u.reached + length files
           → length files ≤ most_source_bytes → IsReadStop u c.after s → WritesNothing c → Comes c (Err s)
       reaching_stop files s as_many kept' fresh few short why_stops silent =
           let one = first_place_le w.source in
@@ -102,7 +104,8 @@ module _ (c : Call) (w : PlainWords) (t : Table) (v : World) (b : ProvesTable c 
       only x _ le mono h silent = absurd h
 
       -- It ends.
-      pub check_ends : (numbers : List ℕ) (x : World) (o : Outcome) → KeepsNames u x → Reached t.inputs w.given u x numbers → length t.inputs ≤ most_source_bytes → c.after.reached ≡ x.reached
+      pub check_ends : (numbers : List ℕ) (x : World) (o : Outcome) → KeepsNames u x → Reached t.inputs w.given u x numbers
+          → length t.inputs ≤ most_source_bytes → c.after.reached ≡ x.reached
           → x.faults ≤ c.after.faults → Checks t (table_stream t) why (viewed w t.inputs numbers x c.after c.out_before c.out_after) o
           → CheckComesOnly t.inputs x.faults c.after.faults c.out_before.faults c.out_after.faults o → Comes c o
       check_ends numbers x o kept' reached few same mono checks outcomes =
@@ -113,13 +116,16 @@ module _ (c : Call) (w : PlainWords) (t : Table) (v : World) (b : ProvesTable c 
           let numbers_are : numbers ≡ range_with_len (first_input w) (length t.inputs) =
           reached.numbers_are ∙ ap (λ n. range_with_len n (length (files_for t.inputs w.given))) first_here ∙ ap (range_with_len (first_input w)) long in
           let alike = tells_alike c w (of_tree tree) t.inputs u x first_here kept_all kept' reached.fresh reached.reached same mono in
-          let by_tree_checks : Checks t (tree_stream tree) why (viewed w t.inputs (range_with_len (first_input w) (length t.inputs)) x c.after c.out_before c.out_after) o =
+          let by_tree_checks : Checks t (tree_stream tree) why
+          (viewed w t.inputs (range_with_len (first_input w) (length t.inputs)) x c.after c.out_before c.out_after) o =
           subst (λ qs. Checks t (tree_stream tree) why (viewed w t.inputs qs x c.after c.out_before c.out_after) o) numbers_are
           (by_the_tree t tree why (viewed w t.inputs numbers x c.after c.out_before c.out_after) o b.table.keeps checks) in
           let there : Checks t (tree_stream tree) why (view_of c run) o =
-          checks_alike t (tree_stream tree) why w t.inputs (range_with_len (first_input w) (length t.inputs)) x c.after (world_before c run) (world_after c run) c.out_before c.out_after alike o by_tree_checks in
+          checks_alike t (tree_stream tree) why w t.inputs (range_with_len (first_input w) (length t.inputs)) x c.after (world_before c run) (world_after c run)
+          c.out_before c.out_after alike o by_tree_checks in
           let same_run : run ≡ certificate_of may = one_run (of_tree tree) (sym words) b.table.names in
-          let here : Checks t (tree_stream tree) why (view_of c (certificate_of may)) o = subst (λ p. Checks t (tree_stream tree) why (view_of c p) o) same_run there in
+          let here : Checks t (tree_stream tree) why (view_of c (certificate_of may)) o =
+          subst (λ p. Checks t (tree_stream tree) why (view_of c p) o) same_run there in
           let one = first_place_le w.source in
           let more = one_more in
           let first_at = first_here in

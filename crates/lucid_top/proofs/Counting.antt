@@ -14,7 +14,8 @@ none_at_ok x e f g (inl failed) = absurd (cc failed)
 none_at_ok x e f g (inr same) = same
 
 -- a refusal that is handed on
-pub handed_on : {T U E : Type 0} (s q e : E) (f g : ℕ) → q ≡ s → CountsNoFaultUnless (IsErrOf {T = T} (Err s) e) f g → CountsNoFaultUnless (IsErrOf {T = U} (Err q) e) f g
+pub handed_on : {T U E : Type 0} (s q e : E) (f g : ℕ) → q ≡ s → CountsNoFaultUnless (IsErrOf {T = T} (Err s) e) f g
+    → CountsNoFaultUnless (IsErrOf {T = U} (Err q) e) f g
 handed_on s q e f g same (inl failed) = inl (ap Err (same ∙ err_once failed))
 handed_on s q e f g same (inr is) = inr is
 
@@ -24,12 +25,16 @@ counts_then f g h same (inl failed) = inl failed
 counts_then f g h same (inr is) = inr (is ∙ same)
 
 -- what stopped a run, as what stops the call
-pub run_read : (free : List (List ℕ)) (stats : Bool) (r : RunFault) (s : Stop) (f g : ℕ) → IsRunStop free stats r s → CountsNoFaultUnless (IsErrOf {T = Summary} (Err r) fault.ReadFault) f g
+pub run_read : (free : List (List ℕ)) (stats : Bool) (r : RunFault) (s : Stop) (f g : ℕ) → IsRunStop free stats r s
+    → CountsNoFaultUnless (IsErrOf {T = Summary} (Err r) fault.ReadFault) f g
     → CountsNoFaultUnless (IsErrOf {T = Done} (Err s) stop.ReadFault) f g
-run_read free stats r s f g is (inl failed) = let there : IsRunStop free stats fault.ReadFault s = subst (λ x. IsRunStop free stats x s) (err_once failed) is in inl (ap Err there)
+run_read free stats r s f g is (inl failed) = let there : IsRunStop free stats fault.ReadFault s = subst (λ x. IsRunStop free stats x s) (err_once failed) is in
+    inl (ap Err there)
 run_read free stats r s f g is (inr same) = inr same
 
-pub run_written : (free : List (List ℕ)) (stats : Bool) (r : RunFault) (s : Stop) (f g : ℕ) → IsRunStop free stats r s → CountsNoFaultUnless (IsErrOf {T = Summary} (Err r) fault.WriteFault) f g
+pub run_written : (free : List (List ℕ)) (stats : Bool) (r : RunFault) (s : Stop) (f g : ℕ) → IsRunStop free stats r s
+    → CountsNoFaultUnless (IsErrOf {T = Summary} (Err r) fault.WriteFault) f g
     → CountsNoFaultUnless (IsErrOf {T = Done} (Err s) stop.WriteFault) f g
-run_written free stats r s f g is (inl failed) = let there : IsRunStop free stats fault.WriteFault s = subst (λ x. IsRunStop free stats x s) (err_once failed) is in inl (ap Err there)
+run_written free stats r s f g is (inl failed) = let there : IsRunStop free stats fault.WriteFault s =
+    subst (λ x. IsRunStop free stats x s) (err_once failed) is in inl (ap Err there)
 run_written free stats r s f g is (inr same) = inr same

@@ -34,7 +34,8 @@ record Read (bytes : List ℕ) (at : ℕ) (words : List PlacedTerminal) : Type 0
   are_tokens : Tokens bytes at tokens
   are_words : Terminals counting_source tokens words
 
-next_by : (bytes : List ℕ) (at g n : ℕ) (k : TokenKind) (here rest : List ℕ) (ts : List Token) → gap bytes ≡ g → drop g bytes ≡ here → IsLongest here k n → drop n here ≡ rest
+next_by : (bytes : List ℕ) (at g n : ℕ) (k : TokenKind) (here rest : List ℕ) (ts : List Token) → gap bytes ≡ g → drop g bytes ≡ here → IsLongest here k n
+    → drop n here ≡ rest
     → Tokens rest ((at + g) + n) ts → Tokens bytes at (token k (at + g) ((at + g) + n) ∷ ts)
 next_by bytes at g n k here rest ts e f l d more =
     let there : past_gap bytes ≡ here = ap (λ i. drop i bytes) e ∙ f in
@@ -45,14 +46,17 @@ next_by bytes at g n k here rest ts e f l d more =
 module _ (longest : TextsAreLongest) (read : TextIsRead) where
   -- one terminal in front, behind a gap and before a byte that ends it
   step : (bytes : List ℕ) (at g : ℕ) (s : PlainTerminal) → Good s → (b : ℕ) (after : List ℕ) (ws : List PlacedTerminal) → (is_open s || among b stoppers) ≡ true
-      → gap bytes ≡ g → drop g bytes ≡ terminal_text s ++ b ∷ after → slice_range counting_source (at + g) ((at + g) + length (terminal_text s)) ≡ terminal_text s
+      → gap bytes ≡ g → drop g bytes ≡ terminal_text s ++ b ∷ after
+      → slice_range counting_source (at + g) ((at + g) + length (terminal_text s)) ≡ terminal_text s
       → Read (b ∷ after) ((at + g) + length (terminal_text s)) ws → Read bytes at (terminal_at s (at + g) ∷ ws)
   step bytes at g s good b after ws fits e f is r =
       let n : ℕ = length (terminal_text s) in
-      let long : IsLongest (terminal_text s ++ b ∷ after) good.kind n = longest good.kind (terminal_text s) (b ∷ after) (good.token b after fits) (good.stops b after fits) in
+      let long : IsLongest (terminal_text s ++ b ∷ after) good.kind n =
+      longest good.kind (terminal_text s) (b ∷ after) (good.token b after fits) (good.stops b after fits) in
       record {
         tokens = token good.kind (at + g) ((at + g) + n) ∷ r.tokens;
-        are_tokens = next_by bytes at g n good.kind (terminal_text s ++ b ∷ after) (b ∷ after) r.tokens e f long (drop-append_seam (terminal_text s) (b ∷ after)) r.are_tokens;
+        are_tokens = next_by bytes at g n good.kind (terminal_text s ++ b ∷ after) (b ∷ after) r.tokens e f long
+            (drop-append_seam (terminal_text s) (b ∷ after)) r.are_tokens;
         are_words = terminals_next (token good.kind (at + g) ((at + g) + n)) s (subst (λ x. StandsFor good.kind x s) (sym is) good.stands) r.are_words;
       }
 

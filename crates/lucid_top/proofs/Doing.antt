@@ -17,11 +17,23 @@ use Rattle.lucid_top.proofs.Ending.{Begins, IsText, within_text, program_stops, 
 -- the source is read so, and then something else comes of it; or what stopped its reading is handed on
 pub has_read : {T U : Type 0} (x : T) (most : ℕ) (s : PlainSource) (v w : World) (r : Result U Stop) → HasRead {T = T} most s v w (Ok x) → HasRead most s v w r
 has_read x most s v w r h =
-    record { reached = on_ok_always r h.reached; few = h.few; within = h.within; keeps = h.keeps; counts_no_read = inr (none_at_ok x stop.ReadFault v.faults w.faults h.counts_no_read) }
+    record {
+      reached = on_ok_always r h.reached;
+      few = h.few;
+      within = h.within;
+      keeps = h.keeps;
+      counts_no_read = inr (none_at_ok x stop.ReadFault v.faults w.faults h.counts_no_read);
+    }
 
 pub has_stopped : {T U : Type 0} (e : Stop) (most : ℕ) (s : PlainSource) (v w : World) → HasRead {T = T} most s v w (Err e) → HasRead {T = U} most s v w (Err e)
 has_stopped e most s v w h =
-    record { reached = tt; few = h.few; within = h.within; keeps = h.keeps; counts_no_read = handed_on e e stop.ReadFault v.faults w.faults refl h.counts_no_read }
+    record {
+      reached = tt;
+      few = h.few;
+      within = h.within;
+      keeps = h.keeps;
+      counts_no_read = handed_on e e stop.ReadFault v.faults w.faults refl h.counts_no_read;
+    }
 
 -- so it is where one file more is reached and read
 pub has_reached : {T U : Type 0} (x : T) (most : ℕ) (v w : World) (r : Result U Stop) → HasReached {T = T} most v w (Ok x) → HasReached most v w r
@@ -45,7 +57,8 @@ reaching_stopped e most v w h = record {
 }
 
 -- what the words ask for may begin
-pub may_begin : (texts : List (List ℕ)) (words : Words) (t : Task) (v : World) → words_asked texts ≡ Some (plain_words words) → MadeIsFromTo 1 10000 words.source → IsFromTo 1 most_asked words.room
+pub may_begin : (texts : List (List ℕ)) (words : Words) (t : Task) (v : World) → words_asked texts ≡ Some (plain_words words)
+    → MadeIsFromTo 1 10000 words.source → IsFromTo 1 most_asked words.room
     → IsFromToIfGiven 0 (2 ^ 63 - 1) words.why → t ≡ task_of (plain_words words) → v.reached ≡ 0 → MayBegin words t v
 may_begin texts words t v asked given room time is none = record {
   made = given;
@@ -66,10 +79,12 @@ pub no_certificate : (w : PlainWords) (v : World) → v.reached ≡ 0 → ReadsC
 no_certificate w v none task lt = absurd (omega (arith, none, lt))
 
 -- nor is a certificate read, where no place but the source's is reached, or none is asked for
-pub unread_certificate : (c : Call) (w : PlainWords) → c.asked ≡ Some w → c.after.reached ≤ first_place w.source → (v : PlainWords) → c.asked ≡ Some v → ReadsCertificate v c.after
+pub unread_certificate : (c : Call) (w : PlainWords) → c.asked ≡ Some w → c.after.reached ≤ first_place w.source → (v : PlainWords) → c.asked ≡ Some v
+    → ReadsCertificate v c.after
 unread_certificate c w read few v asked task lt =
     let same : w ≡ v = cc (read, asked) in
-    let few' : c.after.reached ≤ first_place v.source = subst (λ (u : PlainWords). c.after.reached ≤ first_place u.source) same few in absurd (omega (arith, few', lt))
+    let few' : c.after.reached ≤ first_place v.source = subst (λ (u : PlainWords). c.after.reached ≤ first_place u.source) same few in
+    absurd (omega (arith, few', lt))
 
 other_certificate : (c : Call) (w : PlainWords) → c.asked ≡ Some w → task_of w ≢ task.Check → (v : PlainWords) → c.asked ≡ Some v → ReadsCertificate v c.after
 other_certificate c w read other v asked task = let same : w ≡ v = cc (read, asked) in absurd (other (ap task_of same ∙ task))
@@ -77,11 +92,14 @@ other_certificate c w read other v asked task = let same : w ≡ v = cc (read, a
 -- no more of the source is read, whatever the words of the call are called
 pub reads_for : (c : Call) (w : PlainWords) → c.asked ≡ Some w → ReadsSource (most_read (form_of w)) w.source c.after → (v : PlainWords) → c.asked ≡ Some v
     → ReadsSource (most_read (form_of v)) v.source c.after
-reads_for c w read within v asked = let same : w ≡ v = cc (read, asked) in subst (λ (u : PlainWords). ReadsSource (most_read (form_of u)) u.source c.after) same within
+reads_for c w read within v asked = let same : w ≡ v = cc (read, asked) in
+    subst (λ (u : PlainWords). ReadsSource (most_read (form_of u)) u.source c.after) same within
 
 -- a stop before anything is written
-pub stops : {T : Type 0} (c : Call) (w : PlainWords) (s : Stop) → c.asked ≡ Some w → c.out_after ≡ c.out_before → c.after.reached ≤ first_place w.source → Comes c (Err s)
-    → CountsNoFaultUnless (IsErrOf {T = T} (Err s) stop.ReadFault) c.before.faults c.after.faults → ReadsSource (most_read (form_of w)) w.source c.after → Does c (Err s)
+pub stops : {T : Type 0} (c : Call) (w : PlainWords) (s : Stop) → c.asked ≡ Some w → c.out_after ≡ c.out_before → c.after.reached ≤ first_place w.source
+    → Comes c (Err s)
+    → CountsNoFaultUnless (IsErrOf {T = T} (Err s) stop.ReadFault) c.before.faults c.after.faults → ReadsSource (most_read (form_of w)) w.source c.after
+    → Does c (Err s)
 stops c w s read silent few comes counts within = record {
   comes = comes;
   counts_no_read = handed_on s s stop.ReadFault c.before.faults c.after.faults refl counts;
@@ -94,10 +112,12 @@ stops c w s read silent few comes counts within = record {
 pub program_does : {T : Type 0} (c : Call) (w : PlainWords) (s : Stop) → Begins c w → IsText w → task_of w ≢ task.Print → c.out_after ≡ c.out_before
     → IsProgramStop w.source c.before c.after s → HasRead {T = T} (most_source_bytes + 1) w.source c.before c.after (Err s) → Does c (Err s)
 program_does c w s b text other silent why h =
-    stops c w s b silent h.few (program_stops c w s b text other why (ap (λ (t : Told). t.bytes) silent) h.few) h.counts_no_read (within_text w w.source c.after text h.within)
+    stops c w s b silent h.few (program_stops c w s b text other why (ap (λ (t : Told). t.bytes) silent) h.few) h.counts_no_read
+    (within_text w w.source c.after text h.within)
 
 -- want of memory behind a source that was read
-pub memory_does : {T : Type 0} (x : T) (most : ℕ) (c : Call) (w : PlainWords) → Begins c w → c.out_after ≡ c.out_before → HasRead {T = T} most w.source c.before c.after (Ok x)
+pub memory_does : {T : Type 0} (x : T) (most : ℕ) (c : Call) (w : PlainWords) → Begins c w → c.out_after ≡ c.out_before
+    → HasRead {T = T} most w.source c.before c.after (Ok x)
     → ReadsSource (most_read (form_of w)) w.source c.after → Does c (Err stop.NoMemory)
 memory_does x most c w b silent h within = record {
   comes = memory_stops c w b (ap (λ (t : Told). t.bytes) silent) h.few;
@@ -121,7 +141,8 @@ writing_does x c w y o b text h written counted = record {
 
 -- a run behind a source that was read
 pub run_does : {T : Type 0} (x : T) (c : Call) (w : PlainWords) (v : World) (o : Outcome) → c.asked ≡ Some w → task_of w ≢ task.Check → Comes c o
-    → CountsNoFaultUnless (IsErrOf {T = T} (Ok x) stop.ReadFault) c.before.faults v.faults → CountsNoRead o v c.after → CountsNoWrite o c.out_before.faults c.out_after.faults
+    → CountsNoFaultUnless (IsErrOf {T = T} (Ok x) stop.ReadFault) c.before.faults v.faults → CountsNoRead o v c.after
+    → CountsNoWrite o c.out_before.faults c.out_after.faults
     → ReadsSource (most_read (form_of w)) w.source c.after → Does c o
 run_does x c w v o read other comes counts behind counted within = record {
   comes = comes;
@@ -133,8 +154,10 @@ run_does x c w v o read other comes counts behind counted within = record {
 
 -- a check behind a source that was read
 pub check_does : {T : Type 0} (x : T) (c : Call) (w : PlainWords) (v : World) (o : Outcome) → c.asked ≡ Some w → Comes c o
-    → CountsNoFaultUnless (IsErrOf {T = T} (Ok x) stop.ReadFault) c.before.faults v.faults → CountsNoRead o v c.after → CountsNoWrite o c.out_before.faults c.out_after.faults
-    → ReadsSource (most_read (form_of w)) w.source c.after → v.reached ≡ first_place w.source → ReadsPlace (most_certificate_bytes + 1) v.reached c.after → Does c o
+    → CountsNoFaultUnless (IsErrOf {T = T} (Ok x) stop.ReadFault) c.before.faults v.faults → CountsNoRead o v c.after
+    → CountsNoWrite o c.out_before.faults c.out_after.faults
+    → ReadsSource (most_read (form_of w)) w.source c.after → v.reached ≡ first_place w.source → ReadsPlace (most_certificate_bytes + 1) v.reached c.after
+    → Does c o
 check_does x c w v o read comes counts behind counted within first reads = record {
   comes = comes;
   counts_no_read = counts_then c.before.faults v.faults c.after.faults (none_at_ok x stop.ReadFault c.before.faults v.faults counts) behind;
@@ -142,5 +165,6 @@ check_does x c w v o read comes counts behind counted within first reads = recor
   within = reads_for c w read within;
   certificate = λ u asked task.
       let same : w ≡ u = cc (read, asked) in
-      subst (λ (y : PlainWords). ReadsPlace (most_certificate_bytes + 1) (first_place y.source) c.after) same (subst (λ q. ReadsPlace (most_certificate_bytes + 1) q c.after) first reads);
+      subst (λ (y : PlainWords). ReadsPlace (most_certificate_bytes + 1) (first_place y.source) c.after) same
+      (subst (λ q. ReadsPlace (most_certificate_bytes + 1) q c.after) first reads);
 }

@@ -99,7 +99,8 @@ whole_front text before after h =
     (length text, le_refl (length text), h ∙ ap (λ l. with_all l before.bytes) (sym (take_all (length text) text (le_refl (length text)))))
 
 -- texts of one kind are written, which are texts of another
-pub as_text : (P Q : List ℕ → Type 0) (before after : Told) (o : Outcome) → ((text : List ℕ) → P text → Q text) → WritesOnly P before after o → WritesOnly Q before after o
+pub as_text : (P Q : List ℕ → Type 0) (before after : Told) (o : Outcome) → ((text : List ℕ) → P text → Q text) → WritesOnly P before after o
+    → WritesOnly Q before after o
 as_text P Q before after (Ok done.Written) f h = (h.0, f h.0 h.1, h.2)
 as_text P Q before after (Err stop.WriteFault) f h = ((h.0.0, f h.0.0 h.0.1, h.0.2), h.1)
 as_text P Q before after (Err stop.NoMemory) f h = elim h [ inl silent ↦ inl silent | inr some ↦ inr (some.0, f some.0 some.1, some.2) ]
@@ -109,10 +110,18 @@ front_of_some : (P : List ℕ → Type 0) (before after : Told) → WritesSome P
 front_of_some P before after h = (h.0, h.1, whole_front h.0 before after h.2)
 
 -- the text that is asked for is written
-pub writes : (c : Call) (w : PlainWords) (x : IsWriting c) (o : Outcome) → Begins c w → c.after.reached ≤ first_place w.source → WritesOnly (IsTextFor x) c.out_before c.out_after o → Comes c o
+pub writes : (c : Call) (w : PlainWords) (x : IsWriting c) (o : Outcome) → Begins c w → c.after.reached ≤ first_place w.source
+    → WritesOnly (IsTextFor x) c.out_before c.out_after o → Comes c o
 writes c w x (Ok done.Written) b few h = record {
   only = inl x;
-  how = inr (inr (inl (x, record { front = inr (front_of_some (IsTextFor x) c.out_before c.out_after h); whole = λ _. h; complete = λ _ _. inl refl }, (asks_of c w b, few))));
+  how =
+      inr
+      (inr
+      (inl (
+        x,
+        record { front = inr (front_of_some (IsTextFor x) c.out_before c.out_after h); whole = λ _. h; complete = λ _ _. inl refl },
+        (asks_of c w b, few),
+      )));
   few_places = few_places c w.source few;
 }
 writes c w x (Err stop.WriteFault) b few h = record {
@@ -133,17 +142,20 @@ pub not_print : (w : PlainWords) (t : Task) → task_of w ≡ t → (t ≡ task.
 not_print w t is other is_print = other (sym is ∙ is_print)
 
 -- the tree is accepted
-accepted : (source : PlainSource) (w : World) (p q : PlainTree) → SpeltBySource source w p → HasNoFault p → IsWellMade p → length (places p) ≤ 1048576 → q ≡ p → IsAccepted source w q
+accepted : (source : PlainSource) (w : World) (p q : PlainTree) → SpeltBySource source w p → HasNoFault p → IsWellMade p → length (places p) ≤ 1048576 → q ≡ p
+    → IsAccepted source w q
 accepted source w p q spelt none well few same =
     let here : IsAccepted source w p = record { spelt = spelt; no_fault = none; well_made = well; few = few } in subst (IsAccepted source w) (sym same) here
 
-pub all_accepted : (source : PlainSource) (w : World) (p : PlainTree) (r : Result Scoped Stop) → SpeltBySource source w p → IsWellMade p → length (places p) ≤ 1048576
+pub all_accepted : (source : PlainSource) (w : World) (p : PlainTree) (r : Result Scoped Stop) → SpeltBySource source w p → IsWellMade p
+    → length (places p) ≤ 1048576
     → IfOk r (λ s. scoped_tree s ≡ p) → OnOk r (HasNoFault p) → IfOk r (λ s. IsAccepted source w (scoped_tree s))
 all_accepted source w p (Ok s) spelt well few same none = accepted source w p (scoped_tree s) spelt none well few same
 all_accepted source w p (Err e) spelt well few same none = tt
 
 -- the names stop the call
-pub names_stop : (source : PlainSource) (old new : World) (p : PlainTree) (s : Stop) → SpeltBySource source old p → IsWellMade p → IsRefusalOf (RefusesNames p) s → IsProgramStop source old new s
+pub names_stop : (source : PlainSource) (old new : World) (p : PlainTree) (s : Stop) → SpeltBySource source old p → IsWellMade p
+    → IsRefusalOf (RefusesNames p) s → IsProgramStop source old new s
 names_stop source old new p (stop.Refused why) spelt well refused = inr (p, spelt, well, refused)
 names_stop source old new p stop.NoMemory spelt well refused = tt
 names_stop source old new p _ spelt well refused = absurd refused
@@ -152,7 +164,8 @@ pub source_stop : (source : PlainSource) (old new : World) (s : Stop) → IsSour
 source_stop source old new (stop.Refused why) h = inl h
 source_stop source old new _ h = h
 
-names_refuse : (c : Call) (w : PlainWords) (p : PlainTree) (why : Refusal) → Begins c w → IsText w → task_of w ≢ task.Print → SpeltBySource w.source c.before p → IsWellMade p → RefusesNames p why
+names_refuse : (c : Call) (w : PlainWords) (p : PlainTree) (why : Refusal) → Begins c w → IsText w → task_of w ≢ task.Print → SpeltBySource w.source c.before p
+    → IsWellMade p → RefusesNames p why
     → WritesNothing c → c.after.reached ≤ first_place w.source → Comes c (Err (stop.Refused why))
 names_refuse c w p why b text other spelt well refused silent few = record {
   only = (by_names (tree_of c w p b text spelt) other refused, silent);
@@ -161,7 +174,8 @@ names_refuse c w p why b text other spelt well refused silent few = record {
 }
 
 -- the source or the names stop the call
-pub program_stops : (c : Call) (w : PlainWords) (s : Stop) → Begins c w → IsText w → task_of w ≢ task.Print → IsProgramStop w.source c.before c.after s → WritesNothing c
+pub program_stops : (c : Call) (w : PlainWords) (s : Stop) → Begins c w → IsText w → task_of w ≢ task.Print → IsProgramStop w.source c.before c.after s
+    → WritesNothing c
     → c.after.reached ≤ first_place w.source → Comes c (Err s)
 program_stops c w (stop.Refused why) b text other (inl h) silent few = source_stops c w (stop.Refused why) b text h silent few
 program_stops c w (stop.Refused why) b text other (inr names) silent few = names_refuse c w names.0 why b text other names.1 names.2 names.3 silent few
@@ -170,7 +184,8 @@ program_stops c w stop.ReadFault b text other h silent few = source_stops c w st
 program_stops c w _ b text other h silent few = absurd h
 
 -- the names of the program that is run or judged
-abbrev pub names_of : (c : Call) (w : PlainWords) (p : PlainTree) (free : List (List ℕ)) → Begins c w → IsText w → task_of w ≢ task.Print → IsAccepted w.source c.before p → HasInputs p free
+abbrev pub names_of : (c : Call) (w : PlainWords) (p : PlainTree) (free : List (List ℕ)) → Begins c w → IsText w → task_of w ≢ task.Print
+    → IsAccepted w.source c.before p → HasInputs p free
     → HasNames c
 names_of c w p free b text other a inputs =
     record { program = tree_of c w p b text a.spelt; task = other; no_fault = a.no_fault; free = free; are_free = inputs }
@@ -205,7 +220,8 @@ columns_of c w q free b text is a inputs = record {
 }
 
 -- the source, the names or the columns stop the call
-missing_stops : (c : Call) (w : PlainWords) (p : PlainTree) (free : List (List ℕ)) (why : Refusal) → Begins c w → IsText w → task_of w ≡ task.Columns → IsAccepted w.source c.before p
+missing_stops : (c : Call) (w : PlainWords) (p : PlainTree) (free : List (List ℕ)) (why : Refusal) → Begins c w → IsText w → task_of w ≡ task.Columns
+    → IsAccepted w.source c.before p
     → HasInputs p free → RefusesColumns p w.columns why → WritesNothing c → c.after.reached ≤ first_place w.source → Comes c (Err (stop.Refused why))
 missing_stops c w p free why b text is a inputs refused silent few =
     let names = names_of c w p free b text (columns_not_print w is) a inputs in
@@ -215,7 +231,8 @@ missing_stops c w p free why b text is a inputs refused silent few =
       few_places = few_places c w.source few;
     }
 
-pub columns_stops : (c : Call) (w : PlainWords) (s : Stop) → Begins c w → IsText w → task_of w ≡ task.Columns → IsColumnsStop w.source w.columns c.before c.after s → WritesNothing c
+pub columns_stops : (c : Call) (w : PlainWords) (s : Stop) → Begins c w → IsText w → task_of w ≡ task.Columns
+    → IsColumnsStop w.source w.columns c.before c.after s → WritesNothing c
     → c.after.reached ≤ first_place w.source → Comes c (Err s)
 columns_stops c w (stop.Refused why) b text is (inl h) silent few = program_stops c w (stop.Refused why) b text (columns_not_print w is) h silent few
 columns_stops c w (stop.Refused why) b text is (inr h) silent few = missing_stops c w h.0 h.2.0 why b text is h.1 h.2.1 h.3 silent few
@@ -224,13 +241,15 @@ columns_stops c w stop.ReadFault b text is h silent few = program_stops c w stop
 columns_stops c w _ b text is h silent few = absurd h
 
 -- the tree is accepted, and its columns are beside each other
-pub all_accepted_beside : (source : PlainSource) (w : World) (p : PlainTree) (columns : List (List ℕ)) (r : Result Scoped Stop) → SpeltBySource source w p → IsWellMade p → length (places p) ≤ 1048576
+pub all_accepted_beside : (source : PlainSource) (w : World) (p : PlainTree) (columns : List (List ℕ)) (r : Result Scoped Stop) → SpeltBySource source w p
+    → IsWellMade p → length (places p) ≤ 1048576
     → IfOk r (λ s. StandsBeside p columns (scoped_tree s) (scoped_inputs s)) → IfOk r (λ s. IsAcceptedBeside source w columns (scoped_tree s) (scoped_inputs s))
 all_accepted_beside source w p columns (Ok s) spelt well few stands =
     record { tree = p; accepted = record { spelt = spelt; no_fault = stands.no_fault; well_made = well; few = few }; beside = stands }
 all_accepted_beside source w p columns (Err e) spelt well few stands = tt
 
-pub beside_stop : (source : PlainSource) (old new : World) (p : PlainTree) (columns : List (List ℕ)) (s : Stop) → SpeltBySource source old p → IsWellMade p → length (places p) ≤ 1048576
+pub beside_stop : (source : PlainSource) (old new : World) (p : PlainTree) (columns : List (List ℕ)) (s : Stop) → SpeltBySource source old p → IsWellMade p
+    → length (places p) ≤ 1048576
     → IsRefusalOf (RefusesBeside p columns) s → IsColumnsStop source columns old new s
 beside_stop source old new p columns (stop.Refused why) spelt well few (inl names) = inl (names_stop source old new p (stop.Refused why) spelt well names)
 beside_stop source old new p columns (stop.Refused why) spelt well few (inr h) =
@@ -238,12 +257,14 @@ beside_stop source old new p columns (stop.Refused why) spelt well few (inr h) =
 beside_stop source old new p columns stop.NoMemory spelt well few refused = tt
 beside_stop source old new p columns _ spelt well few refused = absurd refused
 
-pub source_columns_stop : (source : PlainSource) (columns : List (List ℕ)) (old new : World) (s : Stop) → IsSourceStop RefusesText source old new s → IsColumnsStop source columns old new s
+pub source_columns_stop : (source : PlainSource) (columns : List (List ℕ)) (old new : World) (s : Stop) → IsSourceStop RefusesText source old new s
+    → IsColumnsStop source columns old new s
 source_columns_stop source columns old new (stop.Refused why) h = inl (inl h)
 source_columns_stop source columns old new _ h = h
 
 -- the judgment stops the call
-pub judging_stops : (c : Call) (w : PlainWords) (p : PlainTree) (free : List (List ℕ)) (e : JudgeRefusal) → Begins c w → IsText w → task_of w ≡ task.Cycles → IsAccepted w.source c.before p
+pub judging_stops : (c : Call) (w : PlainWords) (p : PlainTree) (free : List (List ℕ)) (e : JudgeRefusal) → Begins c w → IsText w → task_of w ≡ task.Cycles
+    → IsAccepted w.source c.before p
     → HasInputs p free → IsJudgeRefusal p e → WritesNothing c → c.after.reached ≤ first_place w.source → Comes c (Err (judge_stop e))
 judging_stops c w p free (judge.Outside at) b text is a inputs refused silent few =
     let names = names_of c w p free b text (cycles_not_print w is) a inputs in
@@ -300,17 +321,24 @@ pub places_of_table : (c : Call) (w : PlainWords) (t : Table) (v : World) (b : R
     → run_places (run_of (run_of_table c w t v b fits)) ≡ first_place w.source + length t.inputs
 places_of_table c w t v b fits =
     let words : (asks_for b.program).words ≡ w = words_of c w t v b in
-    ap (λ x. first_input x + length (inputs_in b.program)) words ∙ ap (λ names. first_input w + length names) b.inputs ∙ ap (λ n. n + length t.inputs) (first_of_run c w t v b)
+    ap (λ x. first_input x + length (inputs_in b.program)) words ∙ ap (λ names. first_input w + length names) b.inputs
+    ∙ ap (λ n. n + length t.inputs) (first_of_run c w t v b)
 
 -- the words NAME=FILE stop the call
-pub given_stops : (c : Call) (w : PlainWords) (t : Table) (v : World) (s : Stop) → RunsTable c w t v → IsRefusalOf (RefusesGiven t.inputs w.given) s → WritesNothing c
+pub given_stops : (c : Call) (w : PlainWords) (t : Table) (v : World) (s : Stop) → RunsTable c w t v → IsRefusalOf (RefusesGiven t.inputs w.given) s
+    → WritesNothing c
     → c.after.reached ≤ first_place w.source → Comes c (Err s)
 given_stops c w t v (stop.Refused why) b refused silent few =
     let same : (asks_for b.program).words ≡ w = words_of c w t v b in
     let is : IsAskedFor b.program = ap task_of same ∙ b.task in
     let here : RefusesGiven (inputs_in b.program) (asks_for b.program).words.given why =
-    subst (λ (u : PlainWords). RefusesGiven (inputs_in b.program) u.given why) (sym same) (subst (λ names. RefusesGiven names w.given why) (sym b.inputs) refused) in
-    record { only = (by_given b.program (inl is) here, silent); how = inl ((by_given b.program (inl is) here, b.made), rests_of c w b.read silent few); few_places = few_places c w.source few }
+    subst (λ (u : PlainWords). RefusesGiven (inputs_in b.program) u.given why) (sym same)
+    (subst (λ names. RefusesGiven names w.given why) (sym b.inputs) refused) in
+    record {
+      only = (by_given b.program (inl is) here, silent);
+      how = inl ((by_given b.program (inl is) here, b.made), rests_of c w b.read silent few);
+      few_places = few_places c w.source few;
+    }
 given_stops c w t v stop.NoMemory b refused silent few = memory_stops c w b.read silent few
 given_stops c w t v _ b refused silent few = absurd refused
 
@@ -319,14 +347,16 @@ pub inputs_of : (q : PlainTree) (names : List (List ℕ)) (bindings : ℕ → Op
 inputs_of q names bindings resolved = ∥∥₁_map resolved (λ r. r.inputs_are)
 
 -- of a place that nothing was consumed of
-nothing_consumed : (held : Option (List ℕ)) (contents : Option Contents) (new : Contents) → contents ≡ option_map unread held → contents ≡ Some new → new.consumed ≡ []
+nothing_consumed : (held : Option (List ℕ)) (contents : Option Contents) (new : Contents) → contents ≡ option_map unread held → contents ≡ Some new
+    → new.consumed ≡ []
 nothing_consumed None contents new fresh is = absurd (cc (fresh, is))
 nothing_consumed (Some bytes) contents new fresh is = let same : new ≡ unread bytes = cc (fresh, is) in ap (λ (x : Contents). x.consumed) same
 
 within : (q w n v : ℕ) → w ≤ q → q < v → v ≤ w + n → (k : ℕ) × (q ≡ w + k) × (k < n)
 within q w n v le lt few = (q - w, omega (arith, le), omega (arith, le, lt, few))
 
-fresh_consumed : (files : List (List ℕ)) (old new : World) → AreFresh files old new → new.reached ≤ old.reached + length files → (q : ℕ) → old.reached ≤ q → q < new.reached
+fresh_consumed : (files : List (List ℕ)) (old new : World) → AreFresh files old new → new.reached ≤ old.reached + length files → (q : ℕ) → old.reached ≤ q
+    → q < new.reached
     → (c : Contents) → (new.place q).contents ≡ Some c → c.consumed ≡ []
 fresh_consumed files old new fresh few q le lt c is =
     let k = within q old.reached (length files) new.reached le lt few in
@@ -346,7 +376,8 @@ inputs_unread c w files v read first fresh few u asked q le lt new is =
     fresh_consumed files v c.after fresh few q (omega (arith, first, le')) lt new is
 
 -- a place stops the call
-pub place_stops : (c : Call) (a : Asks c) (v : World) (s : Stop) → KeepsNames c.before v → KeepsNames v c.after → IsReadStop v c.after s → Rests c → c.after.reached ≤ most_places
+pub place_stops : (c : Call) (a : Asks c) (v : World) (s : Stop) → KeepsNames c.before v → KeepsNames v c.after → IsReadStop v c.after s → Rests c
+    → c.after.reached ≤ most_places
     → Comes c (Err s)
 place_stops c a v stop.ReadFault kept kept' rises rests few =
     record { only = rises_from c.before.faults v.faults c.after.faults kept.faults kept'.faults rises; how = inl (a, rests); few_places = few }
@@ -355,7 +386,8 @@ place_stops c a v _ kept kept' rises rests few = absurd rises
 
 -- the places of the inputs stop the call
 pub reaching_stops : (c : Call) (w : PlainWords) (t : Table) (files : List (List ℕ)) (v : World) (s : Stop) → RunsTable c w t v → FitsGiven t.inputs w.given
-    → length files ≡ length t.inputs → KeepsNames v c.after → AreFresh files v c.after → c.after.reached ≤ v.reached + length files → length files ≤ most_source_bytes
+    → length files ≡ length t.inputs → KeepsNames v c.after → AreFresh files v c.after → c.after.reached ≤ v.reached + length files
+    → length files ≤ most_source_bytes
     → IsReadStop v c.after s → WritesNothing c → Comes c (Err s)
 reaching_stops c w t files v s b fits as_many kept fresh few short why silent =
     let one = first_place_le w.source in

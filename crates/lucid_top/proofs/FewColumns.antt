@@ -62,7 +62,8 @@ few_columns words w is =
 
 -- words that ask for a run name no column
 none_by : (print empty cycles why check flat : Bool)
-    → cond print task.Print (cond (not empty) task.Columns (cond cycles task.Cycles (cond why task.Why (cond check task.Check (cond flat task.Flat task.Run))))) ≡ task.Run → empty ≡ true
+    → cond print task.Print (cond (not empty) task.Columns
+    (cond cycles task.Cycles (cond why task.Why (cond check task.Check (cond flat task.Flat task.Run))))) ≡ task.Run → empty ≡ true
 none_by true empty cycles why check flat is = absurd (cc is)
 none_by false true cycles why check flat is = refl
 none_by false false cycles why check flat is = absurd (cc is)
@@ -71,7 +72,8 @@ pub no_columns : (w : PlainWords) → task_of w ≡ task.Run → nat_eq (length 
 no_columns w is = none_by w.print (nat_eq (length w.columns) 0) w.cycles (is_some w.why) (not (nat_eq (length w.check) 0)) w.flat is
 
 some_by : (print empty cycles why check flat : Bool)
-    → cond print task.Print (cond (not empty) task.Columns (cond cycles task.Cycles (cond why task.Why (cond check task.Check (cond flat task.Flat task.Run))))) ≡ task.Columns → empty ≡ false
+    → cond print task.Print (cond (not empty) task.Columns
+    (cond cycles task.Cycles (cond why task.Why (cond check task.Check (cond flat task.Flat task.Run))))) ≡ task.Columns → empty ≡ false
 some_by true empty cycles why check flat is = absurd (cc is)
 some_by false false cycles why check flat is = refl
 some_by false true true why check flat is = absurd (cc is)

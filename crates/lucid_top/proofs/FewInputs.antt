@@ -62,17 +62,31 @@ ones (x ∷ xs) = omega (arith, sum_by-cons (λ y. 1) x xs, ones xs)
 few_sites : (k : Static) (e : PlainTree) → length (sites k e) ≤ length (places e)
 few_sites k e = omega (arith, ones (sites k e), ones (places e), sites-weight (λ at. 1) k e)
 
-few_in_defs : (o k : Static) (earlier : Earlier) (ds : PlainDefs) → length (outside_sites o ds) + length (inside_sites k earlier ds) ≤ length (places_in_defs ds)
-few_in_defs o k earlier ds = omega (arith, ones (outside_sites o ds), ones (inside_sites k earlier ds), ones (places_in_defs ds), defs-weight (λ at. 1) o k earlier ds)
+few_in_defs : (o k : Static) (earlier : Earlier) (ds : PlainDefs)
+    → length (outside_sites o ds) + length (inside_sites k earlier ds) ≤ length (places_in_defs ds)
+few_in_defs o k earlier ds = omega (
+  arith,
+  ones (outside_sites o ds),
+  ones (inside_sites k earlier ds),
+  ones (places_in_defs ds),
+  defs-weight (λ at. 1) o k
+      earlier ds,
+)
 
 -- a plain name isn't free
 not_free : (found : Found) (k o : Static) (m : Meaning) → IsTrue (is_plain found) → free_one (defined_in found k o m) ≡ 0
 not_free (plain_def at e) k o m is = refl
 not_free _ k o m is = absurd (true≢false (sym is))
 
-columns_not_free : (ds : PlainDefs) (base j : ℕ) (n : List ℕ) (ns : List (List ℕ)) → ((i : ℕ) (m : List ℕ) → slice_get (n ∷ ns) i ≡ Some m → IsTrue (is_plain (definition m ds)))
+columns_not_free : (ds : PlainDefs) (base j : ℕ) (n : List ℕ) (ns : List (List ℕ))
+    → ((i : ℕ) (m : List ℕ) → slice_get (n ∷ ns) i ≡ Some m → IsTrue (is_plain (definition m ds)))
     → sum_by free_at (sites (in_block ds outermost) (over_space base j n ns)) ≡ 0
-columns_not_free ds base j n [] plain = omega (arith, sum_by-cons free_at (named (base + j) n (in_block ds outermost)) [], not_free (definition n ds) (in_block ds outermost) outermost free (plain 0 n refl))
+columns_not_free ds base j n [] plain = omega (
+  arith,
+  sum_by-cons free_at (named (base + j) n (in_block ds outermost)) [],
+  not_free (definition n ds)
+      (in_block ds outermost) outermost free (plain 0 n refl),
+)
 columns_not_free ds base j n (m ∷ ms) plain =
     let k : Static = in_block ds outermost in
     let rest : List Site = sites k (over_space base (suc j) m ms) in
@@ -87,7 +101,8 @@ columns_not_free ds base j n (m ∷ ms) plain =
 few_free : (e : PlainTree) → sum_by free_at (all_sites e) ≤ length (places e)
 few_free e = omega (arith, as_many (all_sites e), few_sites outermost e)
 
-few_beside : (e : PlainTree) (base : ℕ) (columns : List (List ℕ)) → AreColumns e columns → sum_by free_at (all_sites (with_columns e base columns)) ≤ length (places e)
+few_beside : (e : PlainTree) (base : ℕ) (columns : List (List ℕ)) → AreColumns e columns
+    → sum_by free_at (all_sites (with_columns e base columns)) ≤ length (places e)
 few_beside e base [] are = few_free e
 few_beside (form at f es) base (n ∷ ns) are = few_free (form at f es)
 few_beside (name at x) base (n ∷ ns) are = few_free (name at x)
@@ -108,7 +123,8 @@ few_beside (block at e ds) base (n ∷ ns) are =
       length-append (places e) (places_in_defs ds),
     )
 
-pub few_inputs : (e : PlainTree) (base : ℕ) (columns names : List (List ℕ)) → AreColumns e columns → HasInputs (with_columns e base columns) names → length names ≤ length (places e)
+pub few_inputs : (e : PlainTree) (base : ℕ) (columns names : List (List ℕ)) → AreColumns e columns → HasInputs (with_columns e base columns) names
+    → length names ≤ length (places e)
 few_inputs e base columns names are inputs =
     ∥∥₁_elim inputs le_prop
     (λ a. let here = few_names (with_columns e base columns) names a in let most = few_beside e base columns are in omega (arith, here, most))

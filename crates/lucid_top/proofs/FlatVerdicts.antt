@@ -23,7 +23,8 @@ not_sound : (t : Table) (e : BuildRefusal) (v : Refusal) → build_stop e ≡ st
 not_sound t build.NoMemory v is r = absurd (cc is)
 not_sound t _ v is r = r.1
 
-same_row : (t : Table) (e f : BuildRefusal) (v w : Refusal) → build_stop e ≡ stop.Refused v → build_stop f ≡ stop.Refused w → IsRefused t e → IsRefused t f → v ≡ w
+same_row : (t : Table) (e f : BuildRefusal) (v w : Refusal) → build_stop e ≡ stop.Refused v → build_stop f ≡ stop.Refused w → IsRefused t e → IsRefused t f
+    → v ≡ w
 same_row t e f v w is js r s =
     let same : build_stop e ≡ build_stop f = ap build_stop (one_wrong t e f (wrong_row t e v is r) (wrong_row t f w js s)) in cc (is, js, same)
 

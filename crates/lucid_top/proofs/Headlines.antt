@@ -56,7 +56,11 @@ module _ (c : Call) (g : RunsProgram c) where
   is_run = record { program = by_tree names; task = g.run.0; fits = g.given }
 
   tells : TellsFiles c
-  tells a = (subst (λ (w : PlainWords). IsTold w.source c.before) (same_words asks a) is_told, λ is. absurd (cc (one_task a asks task.Check task.Run is g.run.0)))
+  tells a = (
+    subst (λ (w : PlainWords). IsTold w.source c.before) (same_words asks a) is_told,
+    λ is.
+        absurd (cc (one_task a asks task.Check task.Run is g.run.0)),
+  )
 
   abbrev view : RunView
   view = view_of c (run_of is_run)
@@ -75,7 +79,8 @@ module _ (c : Call) (g : RunsProgram c) where
       slice_get-get_or (range_with_len a (length g.inputs)) k 0 (omega (arith, lt, long))
       ∙ ap Some (get_or-range_with_len a (length g.inputs) k 0 lt ∙ ap (λ m. m + k) first_is)
 
-  file_is : (k : ℕ) (n : List ℕ) (q : ℕ) → slice_get g.inputs k ≡ Some n → slice_get view.places k ≡ Some q → (view.before.place q).contents ≡ Some (unread (g.bytes_of n))
+  file_is : (k : ℕ) (n : List ℕ) (q : ℕ) → slice_get g.inputs k ≡ Some n → slice_get view.places k ≡ Some q
+      → (view.before.place q).contents ≡ Some (unread (g.bytes_of n))
   file_is k n q is at =
       let files : List (List ℕ) = files_for g.inputs g.words.given in
       let here = in_range (first_input g.words) (length g.inputs) k q at in
@@ -105,10 +110,23 @@ module _ (c : Call) (g : RunsProgram c) where
   begun_of whole front P (inr x) (inr cut) =
       let v : PlainValue = x.1.1.0 in
       let same : x.1.0 ≡ line v = x.1.1.3 in
-      inr (cut, x.0, (v, x.1.2.0, means-derives b g.program empty whole 0 v x.1.1.1, x.1.1.2, subst (λ l. x.1.2.0 < length l) same x.1.2.1, subst (λ l. front ≡ take x.1.2.0 l) same x.1.2.2))
+      inr (
+        cut,
+        x.0,
+        (
+          v,
+          x.1.2.0,
+          means-derives b g.program empty whole 0 v x.1.1.1,
+          x.1.1.2,
+          subst (λ l. x.1.2.0 < length l) same x.1.2.1,
+          subst
+              (λ l. front ≡ take x.1.2.0 l) same x.1.2.2,
+        ),
+      )
 
   -- what is consulted, one shape in another
-  consulted_too : (whole d : ℕ) (n : List ℕ) (j : ℕ) → run.IsConsulted (stream_subject (tree_stream g.program)) b view whole d (n, j) → IsConsulted g whole d n j
+  consulted_too : (whole d : ℕ) (n : List ℕ) (j : ℕ) → run.IsConsulted (stream_subject (tree_stream g.program)) b view whole d (n, j)
+      → IsConsulted g whole d n j
   consulted_too whole d n j x = (x.0, x.1.0, x.1.1, x.2)
 
   some_added : (P Q : ℕ → Type 0) → ((d : ℕ) → P d → Q d) → run.ForSomeAdded view P → ForSomeAdded Q
@@ -118,7 +136,8 @@ module _ (c : Call) (g : RunsProgram c) where
   overlong_too whole k x = (
     x.name,
     x.index,
-    some_added (λ d. run.IsConsulted (stream_subject (tree_stream g.program)) b view whole d (x.name, x.index)) (λ d. IsConsulted g whole d x.name x.index) (λ d. consulted_too whole d x.name x.index) x.consulted,
+    some_added (λ d. run.IsConsulted (stream_subject (tree_stream g.program)) b view whole d (x.name, x.index)) (λ d. IsConsulted g whole d x.name x.index)
+        (λ d. consulted_too whole d x.name x.index) x.consulted,
     subst (λ o. IfSome o (λ y. IsOverlong (all_bytes y) x.index most_input_bytes)) (file_is k x.name x.place x.is.0 x.is.1) x.overlong,
   )
 
@@ -166,7 +185,8 @@ module _ (c : Call) (g : RunsProgram c) where
       front = ran.out.front;
       within = ran.out.within;
       are_lines = lines_of whole ran.out.bytes ran.out.output;
-      begun = begun_of whole ran.out.front ((s ≡ status.WriteFault) ⊎ (s ≡ status.NoMemory)) ran.out.begun (elim ran.cut_off [ inl none ↦ inl none | inr is ↦ inr (cut is) ]);
+      begun = begun_of whole ran.out.front ((s ≡ status.WriteFault) ⊎ (s ≡ status.NoMemory)) ran.out.begun
+          (elim ran.cut_off [ inl none ↦ inl none | inr is ↦ inr (cut is) ]);
       written = ran.out.written ∙ ap (with_all (ran.out.bytes ++ ran.out.front)) g.told;
       done = λ is. let x = when_done is in ends_of x.0.ended whole x.1.ends;
       too_deep = λ is. let x = when_deep is in
@@ -182,26 +202,47 @@ module _ (c : Call) (g : RunsProgram c) where
 
     -- where the report found no memory
     no_memory : Headline g status.NoMemory
-    no_memory = from status.NoMemory (λ is. inr refl) (λ is. absurd (cc is)) (λ is. absurd (cc is)) (λ is. absurd (cc is)) (λ is. absurd (cc is)) (λ is. absurd (cc is)) refused (λ ok. inr refl)
+    no_memory = from status.NoMemory (λ is. inr refl) (λ is. absurd (cc is)) (λ is. absurd (cc is)) (λ is. absurd (cc is)) (λ is. absurd (cc is))
+        (λ is. absurd (cc is)) refused (λ ok. inr refl)
       where
         refused : (status.NoMemory ≡ status.Refused) ⊎ (status.NoMemory ≡ status.Usage) → ⊥
         refused (inl e) = absurd (cc e)
         refused (inr e) = absurd (cc e)
 
   -- by the outcome: its status, or that there was no memory to report it
-  by_outcome : (o : Outcome) → ComesOnly c o → (ran : IsSomeAnd (run_result o) (λ result. Ran (stream_subject (tree_stream g.program)) b view result)) → Headline g (status_of o) × Headline g status.NoMemory
-  by_outcome (Ok (done.Ran summary stats)) only ran =
-      (from (Ok summary) ran status.Done (λ is. absurd is) (λ is. (summary, ran.done)) (λ is. absurd (cc is)) (λ is. absurd (cc is)) (λ is. absurd (cc is)) (λ is. absurd (cc is)) (λ is. elim is [ inl e ↦ absurd (cc e) | inr e ↦ absurd (cc e) ]) (λ ok. inl refl), no_memory (Ok summary) ran)
+  by_outcome : (o : Outcome) → ComesOnly c o → (ran : IsSomeAnd (run_result o) (λ result. Ran (stream_subject (tree_stream g.program)) b view result))
+      → Headline g (status_of o) × Headline g status.NoMemory
+  by_outcome (Ok (done.Ran summary stats)) only ran = (
+    from (Ok summary) ran status.Done (λ is. absurd is) (λ is. (summary, ran.done)) (λ is. absurd (cc is)) (λ is. absurd (cc is)) (λ is. absurd (cc is))
+        (λ is. absurd (cc is)) (λ is. elim is [ inl e ↦ absurd (cc e) | inr e ↦ absurd (cc e) ]) (λ ok. inl refl),
+    no_memory (Ok summary) ran,
+  )
   by_outcome (Ok done.Written) only ran = absurd ran
   by_outcome (Err (stop.Refused why)) only ran = absurd ran
-  by_outcome (Err stop.ReadFault) only ran =
-      (from (Err fault.ReadFault) ran status.ReadFault (λ is. elim is [ inl e ↦ absurd (cc e) | inr e ↦ absurd (cc e) ]) (λ is. absurd (cc is)) (λ is. absurd (cc is)) (λ is. absurd (cc is)) (λ is. only) (λ is. absurd (cc is)) (λ is. elim is [ inl e ↦ absurd (cc e) | inr e ↦ absurd (cc e) ]) (λ ok. absurd (cc ok)), no_memory (Err fault.ReadFault) ran)
-  by_outcome (Err stop.WriteFault) only ran =
-      (from (Err fault.WriteFault) ran status.WriteFault (λ is. inl refl) (λ is. absurd (cc is)) (λ is. absurd (cc is)) (λ is. absurd (cc is)) (λ is. absurd (cc is)) (λ is. only) (λ is. elim is [ inl e ↦ absurd (cc e) | inr e ↦ absurd (cc e) ]) (λ ok. absurd (cc ok)), no_memory (Err fault.WriteFault) ran)
-  by_outcome (Err (stop.TooDeep time lost cleared stats)) only ran =
-      (from (Err (fault.TooDeep time lost cleared)) ran status.TooDeep (λ is. elim is [ inl e ↦ absurd (cc e) | inr e ↦ absurd (cc e) ]) (λ is. absurd (cc is)) (λ is. (time, ran.deep)) (λ is. absurd (cc is)) (λ is. absurd (cc is)) (λ is. absurd (cc is)) (λ is. elim is [ inl e ↦ absurd (cc e) | inr e ↦ absurd (cc e) ]) (λ ok. absurd (cc ok)), no_memory (Err (fault.TooDeep time lost cleared)) ran)
-  by_outcome (Err (stop.TooLarge k n)) only ran =
-      (from (Err (fault.TooLarge k)) ran status.TooLarge (λ is. elim is [ inl e ↦ absurd (cc e) | inr e ↦ absurd (cc e) ]) (λ is. absurd (cc is)) (λ is. absurd (cc is)) (λ is. (k, ran.too_large)) (λ is. absurd (cc is)) (λ is. absurd (cc is)) (λ is. elim is [ inl e ↦ absurd (cc e) | inr e ↦ absurd (cc e) ]) (λ ok. absurd (cc ok)), no_memory (Err (fault.TooLarge k)) ran)
+  by_outcome (Err stop.ReadFault) only ran = (
+    from (Err fault.ReadFault) ran status.ReadFault (λ is. elim is [ inl e ↦ absurd (cc e) | inr e ↦ absurd (cc e) ]) (λ is. absurd (cc is))
+        (λ is. absurd (cc is)) (λ is. absurd (cc is)) (λ is. only) (λ is. absurd (cc is)) (λ is. elim is [ inl e ↦ absurd (cc e) | inr e ↦ absurd (cc e) ])
+        (λ ok. absurd (cc ok)),
+    no_memory (Err fault.ReadFault) ran,
+  )
+  by_outcome (Err stop.WriteFault) only ran = (
+    from (Err fault.WriteFault) ran status.WriteFault (λ is. inl refl) (λ is. absurd (cc is)) (λ is. absurd (cc is)) (λ is. absurd (cc is))
+        (λ is. absurd (cc is)) (λ is. only) (λ is. elim is [ inl e ↦ absurd (cc e) | inr e ↦ absurd (cc e) ]) (λ ok. absurd (cc ok)),
+    no_memory
+        (Err fault.WriteFault) ran,
+  )
+  by_outcome (Err (stop.TooDeep time lost cleared stats)) only ran = (
+    from (Err (fault.TooDeep time lost cleared)) ran status.TooDeep (λ is. elim is [ inl e ↦ absurd (cc e) | inr e ↦ absurd (cc e) ]) (λ is. absurd (cc is))
+        (λ is. (time, ran.deep)) (λ is. absurd (cc is)) (λ is. absurd (cc is)) (λ is. absurd (cc is))
+        (λ is. elim is [ inl e ↦ absurd (cc e) | inr e ↦ absurd (cc e) ]) (λ ok. absurd (cc ok)),
+    no_memory (Err (fault.TooDeep time lost cleared)) ran,
+  )
+  by_outcome (Err (stop.TooLarge k n)) only ran = (
+    from (Err (fault.TooLarge k)) ran status.TooLarge (λ is. elim is [ inl e ↦ absurd (cc e) | inr e ↦ absurd (cc e) ]) (λ is. absurd (cc is))
+        (λ is. absurd (cc is)) (λ is. (k, ran.too_large)) (λ is. absurd (cc is)) (λ is. absurd (cc is))
+        (λ is. elim is [ inl e ↦ absurd (cc e) | inr e ↦ absurd (cc e) ]) (λ ok. absurd (cc ok)),
+    no_memory (Err (fault.TooLarge k)) ran,
+  )
   by_outcome (Err (stop.Wrong judgment)) only ran = absurd ran
   by_outcome (Err stop.NoMemory) only ran = (no_memory (Err fault.NoMemory) ran, no_memory (Err fault.NoMemory) ran)
 
@@ -212,7 +253,8 @@ module _ (c : Call) (g : RunsProgram c) where
 
   pub headline : (p q : Told) (s : Status) → MeetsClauses c p q s → Headline g s
   headline p q s m =
-      let both = by_outcome m.outcome m.comes_only (plainly (run_result m.outcome) (λ result. Ran (stream_subject (tree_stream g.program)) b view result) (λ result. Figures (program_counted (of_tree g.program)) b view result) (m.headline is_run tells b has_elements)) in
+      let both = by_outcome m.outcome m.comes_only (plainly (run_result m.outcome) (λ result. Ran (stream_subject (tree_stream g.program)) b view result)
+      (λ result. Figures (program_counted (of_tree g.program)) b view result) (m.headline is_run tells b has_elements)) in
       elim m.report [
         | inl whole_line ↦ subst (Headline g) (sym whole_line.0) both.0
         | inr other ↦ elim other [ inl front ↦ subst (Headline g) (sym front.0) both.0 | inr none ↦ subst (Headline g) (sym none.0) both.1 ]

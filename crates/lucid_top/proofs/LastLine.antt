@@ -16,7 +16,8 @@ spelled text digits =
     ∙ append_assoc (text ++ codes " at") (32 ∷ digits) (codes "\n")
     ∙ append_assoc text (codes " at") (32 ∷ (digits ++ codes "\n"))
 
-pub last_line : (w : Why) (rows : List JudgmentRow) (row : JudgmentRow) (line none a b c d : List ℕ) → map plain_judgment rows ≡ w.judgments → 0 < length w.judgments → row ≡ get_or rows (length rows - 1) row
+pub last_line : (w : Why) (rows : List JudgmentRow) (row : JudgmentRow) (line none a b c d : List ℕ) → map plain_judgment rows ≡ w.judgments
+    → 0 < length w.judgments → row ≡ get_or rows (length rows - 1) row
     → none ≡ [] → a ≡ none ++ value_text (plain row.value) → b ≡ a ++ codes " at" → c ≡ b ++ spaced (decimal row.time ∷ []) → d ≡ c ++ codes "\n" → line ≡ d → IsLastLine w line
 last_line w rows row line none a b c d are some is empty first word number end whole =
     let long : length rows ≡ length w.judgments = sym (length-map rows plain_judgment) ∙ ap length are in

@@ -31,7 +31,8 @@ module _ (c : Call) (w : PlainWords) (t : Table) (v : World) (b : ProvesTable c 
   places = places_are c task.Why w t v b fits
 
   -- the places of the inputs stop the call
-  pub reaching_stop : (files : List (List ℕ)) (s : Stop) → length files ≡ length t.inputs → KeepsNames v c.after → AreFresh files v c.after → c.after.reached ≤ v.reached + length files
+  pub reaching_stop : (files : List (List ℕ)) (s : Stop) → length files ≡ length t.inputs → KeepsNames v c.after → AreFresh files v c.after
+      → c.after.reached ≤ v.reached + length files
       → length files ≤ most_source_bytes → IsReadStop v c.after s → WritesNothing c → Comes c (Err s)
   reaching_stop files s as_many kept fresh few short why_stops silent =
       let one = first_place_le w.source in
@@ -47,7 +48,8 @@ module _ (c : Call) (w : PlainWords) (t : Table) (v : World) (b : ProvesTable c 
 
   -- It has such outcomes alone.
   only : (x : World) (o : Outcome) → c.before.faults ≤ x.faults → x.faults ≤ c.after.faults
-      → MakingComesOnly t.inputs (time_asked w) x.faults c.after.faults c.out_before.faults c.out_after.faults o → (IsNotMade o → WritesNothing c) → ComesOnly c o
+      → MakingComesOnly t.inputs (time_asked w) x.faults c.after.faults c.out_before.faults c.out_after.faults o → (IsNotMade o → WritesNothing c)
+      → ComesOnly c o
   only x (Ok done.Written) le mono h silent = inr (inr making)
   only x (Err (stop.TooDeep time lost cleared stats)) le mono h silent = inr (making, h.0 ∙ ap time_asked (sym words), h.1, silent tt)
   only x (Err (stop.TooLarge stream name)) le mono h silent = inr (inr (making, subst (λ names. slice_get names stream ≡ Some name) b.table.names h))
@@ -57,7 +59,8 @@ module _ (c : Call) (w : PlainWords) (t : Table) (v : World) (b : ProvesTable c 
   only x _ le mono h silent = absurd h
 
   -- It ends.
-  pub making_ends : (numbers : List ℕ) (x : World) (o : Outcome) → KeepsNames v x → Reached t.inputs w.given v x numbers → length t.inputs ≤ most_source_bytes → c.after.reached ≡ x.reached
+  pub making_ends : (numbers : List ℕ) (x : World) (o : Outcome) → KeepsNames v x → Reached t.inputs w.given v x numbers → length t.inputs ≤ most_source_bytes
+      → c.after.reached ≡ x.reached
       → x.faults ≤ c.after.faults → Makes t (table_stream t) (viewed w t.inputs numbers x c.after c.out_before c.out_after) (time_asked w) o
       → MakingComesOnly t.inputs (time_asked w) x.faults c.after.faults c.out_before.faults c.out_after.faults o → Comes c o
   making_ends numbers x o kept reached few same mono makes outcomes =
@@ -68,13 +71,16 @@ module _ (c : Call) (w : PlainWords) (t : Table) (v : World) (b : ProvesTable c 
       let numbers_are : numbers ≡ range_with_len (first_input w) (length t.inputs) =
       reached.numbers_are ∙ ap (λ n. range_with_len n (length (files_for t.inputs w.given))) first_here ∙ ap (range_with_len (first_input w)) long in
       let alike = tells_alike c w (of_tree tree) t.inputs v x first_here b.kept kept reached.fresh reached.reached same mono in
-      let by_tree_makes : Makes t (tree_stream tree) (viewed w t.inputs (range_with_len (first_input w) (length t.inputs)) x c.after c.out_before c.out_after) at o =
+      let by_tree_makes : Makes t (tree_stream tree) (viewed w t.inputs (range_with_len (first_input w) (length t.inputs)) x c.after c.out_before c.out_after)
+      at o =
       subst (λ qs. Makes t (tree_stream tree) (viewed w t.inputs qs x c.after c.out_before c.out_after) at o) numbers_are
       (subst (λ (y : OneStream). Makes t y (viewed w t.inputs numbers x c.after c.out_before c.out_after) at o) (stream_is t tree b.table.keeps) makes) in
       let there : Makes t (tree_stream tree) (view_of c run) at o =
-      makes_alike t (tree_stream tree) w t.inputs (range_with_len (first_input w) (length t.inputs)) x c.after (world_before c run) (world_after c run) c.out_before c.out_after alike at o by_tree_makes in
+      makes_alike t (tree_stream tree) w t.inputs (range_with_len (first_input w) (length t.inputs)) x c.after (world_before c run) (world_after c run)
+      c.out_before c.out_after alike at o by_tree_makes in
       let same_run : run ≡ certificate_of making = one_run (of_tree tree) (sym words) b.table.names in
-      let here : Makes t (tree_stream tree) (view_of c (certificate_of making)) (time_asked (certificate_of making).words) o = subst (λ p. Makes t (tree_stream tree) (view_of c p) (time_asked p.words) o) same_run there in
+      let here : Makes t (tree_stream tree) (view_of c (certificate_of making)) (time_asked (certificate_of making).words) o =
+      subst (λ p. Makes t (tree_stream tree) (view_of c p) (time_asked p.words) o) same_run there in
       let one = first_place_le w.source in
       let first = b.first in
       let first_at = first_here in

@@ -28,7 +28,8 @@ stopped_by_words c o why asks one (inr (inr (inr (inr made)))) = absurd (asks (a
 stopped_by_words c _ why asks one (inl early) = absurd early.0
 
 -- where nothing of an input was consumed, nothing is
-rested : (c : Call) (p : Run) → c.asked ≡ Some p.words → Rests c → (q : ℕ) → first_input p.words ≤ q → (b : Bool) → nat_lt q c.after.reached ≡ b → (old new : Contents)
+rested : (c : Call) (p : Run) → c.asked ≡ Some p.words → Rests c → (q : ℕ) → first_input p.words ≤ q → (b : Bool) → nat_lt q c.after.reached ≡ b
+    → (old new : Contents)
     → (unread_place c p q).contents ≡ Some old → (cond b (c.after.place q) (unread_place c p q)).contents ≡ Some new → length new.consumed ≤ length old.consumed
 rested c p read rests q le true lt old new before after =
     let none : new.consumed ≡ [] = rests.unread p.words read q le (ltb-true q c.after.reached lt) new after in
@@ -65,7 +66,8 @@ none_reached c o asks (inr (inr (inr (inl check)))) = absurd (asks (asks_in chec
 none_reached c o asks (inr (inr (inr (inr made)))) = absurd (asks (asks_in made.0))
 
 -- where no program is run and no certificate is made or read, at most the source's place is
-few_reached : (c : Call) (a : Asks c) → ((r : IsRun c) → IsMade r.program → ⊥) → ((m : MayCheck c) → ⊥) → ((m : IsMaking c) → ⊥) → Reaches c → c.after.reached ≤ first_place a.words.source
+few_reached : (c : Call) (a : Asks c) → ((r : IsRun c) → IsMade r.program → ⊥) → ((m : MayCheck c) → ⊥) → ((m : IsMaking c) → ⊥) → Reaches c
+    → c.after.reached ≤ first_place a.words.source
 few_reached c a no_run no_check none_made (reaches_nothing none) = omega (arith, none)
 few_reached c a no_run no_check none_made (reaches_source b few) = subst (λ (w : PlainWords). c.after.reached ≤ first_place w.source) (same_words b a) few
 few_reached c a no_run no_check none_made (reaches_inputs r is_made few) = absurd (no_run r is_made)
@@ -118,10 +120,12 @@ module _ (l : OneVerdict) (c : Call) (told : TellsFiles c) where
   runs_so r (Err (stop.Refused v)) only (inl early) = absurd (run_not_stopped l c told r v early.0.0 early.0.1)
   runs_so r (Err stop.ReadFault) only (inl early) =
       let view = view_of c (run_of r) in
-      ran_with (run_of r).program view (Err stop.ReadFault) (Err fault.ReadFault) refl (never_read (run_of r).program view early.1.silent (consumes_nothing c (run_of r) (asks_for r.program).read early.1) only)
+      ran_with (run_of r).program view (Err stop.ReadFault) (Err fault.ReadFault) refl
+      (never_read (run_of r).program view early.1.silent (consumes_nothing c (run_of r) (asks_for r.program).read early.1) only)
   runs_so r (Err stop.NoMemory) only (inl early) =
       let view = view_of c (run_of r) in
-      ran_with (run_of r).program view (Err stop.NoMemory) (Err fault.NoMemory) refl (never_made (run_of r).program view early.1.silent (consumes_nothing c (run_of r) (asks_for r.program).read early.1))
+      ran_with (run_of r).program view (Err stop.NoMemory) (Err fault.NoMemory) refl
+      (never_made (run_of r).program view early.1.silent (consumes_nothing c (run_of r) (asks_for r.program).read early.1))
   runs_so r o only (inr (inl run)) = subst (λ p. RanSo p.program (view_of c p) o) (same_run l c told r run.0 run.1) run.2
   runs_so r o only (inr (inr (inl writing))) = absurd (run_or_text r writing.0)
   runs_so r o only (inr (inr (inr (inl check)))) = absurd (run_or_certificate r check.0.may refl)
@@ -140,7 +144,8 @@ module _ (l : OneVerdict) (c : Call) (told : TellsFiles c) where
   writes_so x _ only (inl early) = absurd early.0
 
   -- a check is that of the same tree, by the same certificate, over the same inputs
-  as_check : (k j : IsCheck c) (o : Outcome) → IsWellMade j.may.names.program.tree → ChecksTree j.may.names.program.tree j.why (view_of c (certificate_of j.may)) o
+  as_check : (k j : IsCheck c) (o : Outcome) → IsWellMade j.may.names.program.tree
+      → ChecksTree j.may.names.program.tree j.why (view_of c (certificate_of j.may)) o
       → ChecksTree k.may.names.program.tree k.why (view_of c (certificate_of k.may)) o
   as_check k j o is_made x =
       subst (λ p. ChecksTree k.may.names.program.tree k.why (view_of c p) o) (same_certificate l c told k.may j.may is_made)
@@ -149,8 +154,10 @@ module _ (l : OneVerdict) (c : Call) (told : TellsFiles c) where
 
   checks_so : (k : IsCheck c) (o : Outcome) → How c o → EndsCheck k o
   checks_so k (Err (stop.Refused v)) (inl early) = absurd (check_not_refused l c told k v early.0.0 (inr early.0.1))
-  checks_so k (Err stop.ReadFault) (inl early) = before_checking (inl refl) early.1.silent (consumes_nothing c (certificate_of k.may) (asks_in k.may).read early.1)
-  checks_so k (Err stop.NoMemory) (inl early) = before_checking (inr refl) early.1.silent (consumes_nothing c (certificate_of k.may) (asks_in k.may).read early.1)
+  checks_so k (Err stop.ReadFault) (inl early) = before_checking (inl refl) early.1.silent
+      (consumes_nothing c (certificate_of k.may) (asks_in k.may).read early.1)
+  checks_so k (Err stop.NoMemory) (inl early) = before_checking (inr refl) early.1.silent
+      (consumes_nothing c (certificate_of k.may) (asks_in k.may).read early.1)
   checks_so k o (inr (inl run)) = absurd (run_or_certificate run.0 k.may refl)
   checks_so k o (inr (inr (inl writing))) = absurd (certificate_or_text k.may refl writing.0)
   checks_so k o (inr (inr (inr (inl check)))) = by_checking (as_check k check.0 o check.1 check.2)
@@ -158,7 +165,8 @@ module _ (l : OneVerdict) (c : Call) (told : TellsFiles c) where
   checks_so k _ (inl early) = absurd early.0
 
   -- a certificate is one of the same tree, at the same time, over the same inputs
-  as_made : (m n : IsMaking c) (o : Outcome) → IsWellMade n.names.program.tree → MakesTree n.names.program.tree (view_of c (certificate_of n)) (time_asked (certificate_of n).words) o
+  as_made : (m n : IsMaking c) (o : Outcome) → IsWellMade n.names.program.tree
+      → MakesTree n.names.program.tree (view_of c (certificate_of n)) (time_asked (certificate_of n).words) o
       → MakesTree m.names.program.tree (view_of c (certificate_of m)) (time_asked (certificate_of m).words) o
   as_made m n o is_made x =
       subst (λ p. MakesTree m.names.program.tree (view_of c p) (time_asked p.words) o) (same_certificate l c told m n is_made)
@@ -182,28 +190,33 @@ module _ (l : OneVerdict) (c : Call) (told : TellsFiles c) where
       of_early (reaches_source b few) =
           let few' : c.after.reached ≤ first_place a.words.source = subst (λ (w : PlainWords). c.after.reached ≤ first_place w.source) (same_words b a) few in
           let before = source_before a.words x in omega (arith, few', before)
-      of_early (reaches_inputs r is_made few) = absurd (run_not_refused l c told r why x (λ q asked. same_inputs l c told r.program q (inl r.task) asked is_made))
+      of_early (reaches_inputs r is_made few) = absurd
+          (run_not_refused l c told r why x (λ q asked. same_inputs l c told r.program q (inl r.task) asked is_made))
       of_early (reaches_certificate m is_made few) =
           let few' : c.after.reached ≤ first_input a.words = subst (λ (w : PlainWords). c.after.reached ≤ first_input w) (same_words (asks_in m) a) few in
           let before = certificate_before why a.words x (may_refused l c told m refl why x (inl is_made)) in omega (arith, few', before)
       of_early (reaches_checked k is_made few) = absurd (check_not_refused l c told k why x (inl is_made))
       of_early (reaches_made m is_made few) = absurd (making_not_refused l c told m why x (inl is_made))
-  refused_reaches o a why x (inr (inl run)) = absurd (run_not_refused l c told run.0 why x (λ q asked. same_inputs l c told run.0.program q (inl run.0.task) asked run.1))
+  refused_reaches o a why x (inr (inl run)) = absurd
+      (run_not_refused l c told run.0 why x (λ q asked. same_inputs l c told run.0.program q (inl run.0.task) asked run.1))
   refused_reaches o a why x (inr (inr (inl writing))) = absurd (text_not_refused l c told writing.0 why x)
   refused_reaches o a why x (inr (inr (inr (inl check)))) = absurd (check_not_refused l c told check.0 why x (inl check.1))
   refused_reaches o a why x (inr (inr (inr (inr made)))) = absurd (making_not_refused l c told made.0 why x (inl made.1))
 
   text_reaches : (o : Outcome) (a : Asks c) (x : IsWriting c) → How c o → c.after.reached ≤ first_place a.words.source
-  text_reaches o a x (inl early) = few_reached c a (λ r is_made. run_or_text r x) (λ m. certificate_or_text m refl x) (λ m. certificate_or_text m refl x) early.1.reaches
+  text_reaches o a x (inl early) = few_reached c a (λ r is_made. run_or_text r x) (λ m. certificate_or_text m refl x) (λ m. certificate_or_text m refl x)
+      early.1.reaches
   text_reaches o a x (inr (inl run)) = absurd (run_or_text run.0 x)
-  text_reaches o a x (inr (inr (inl writing))) = few_reached c a (λ r is_made. run_or_text r x) (λ m. certificate_or_text m refl x) (λ m. certificate_or_text m refl x) (reaches_source writing.2.0 writing.2.1)
+  text_reaches o a x (inr (inr (inl writing))) = few_reached c a (λ r is_made. run_or_text r x) (λ m. certificate_or_text m refl x)
+      (λ m. certificate_or_text m refl x) (reaches_source writing.2.0 writing.2.1)
   text_reaches o a x (inr (inr (inr (inl check)))) = absurd (certificate_or_text check.0.may refl x)
   text_reaches o a x (inr (inr (inr (inr made)))) = absurd (certificate_or_text made.0 refl x)
 
   begun_reaches : (r : IsRun c) → Reaches c → c.after.reached ≤ run_places (run_of r)
   begun_reaches r (reaches_nothing none) = omega (arith, none)
   begun_reaches r (reaches_source a few) =
-      let few' : c.after.reached ≤ first_place (run_of r).words.source = subst (λ (w : PlainWords). c.after.reached ≤ first_place w.source) (same_words a (asks_for r.program)) few in
+      let few' : c.after.reached ≤ first_place (run_of r).words.source =
+      subst (λ (w : PlainWords). c.after.reached ≤ first_place w.source) (same_words a (asks_for r.program)) few in
       omega (arith, few')
   begun_reaches r (reaches_certificate m is_made few) = absurd (run_or_certificate r m refl)
   begun_reaches r (reaches_checked k is_made few) = absurd (run_or_certificate r k.may refl)
@@ -278,7 +291,8 @@ silent_or c o (inr (inr (inl writing))) = inr (inr (inl writing.0))
 silent_or c o (inr (inr (inr (inl check)))) = inr (inr (inr (inl check.0)))
 silent_or c o (inr (inr (inr (inr made)))) = inr (inr (inr (inr made.0)))
 
-pub meets : OneVerdict → (c : Call) (before after : Told) (o : Outcome) (s : Status) → Comes c o → ((a : Asks c) → ReadsSource (most_read (form_of a.words)) a.words.source c.after)
+pub meets : OneVerdict → (c : Call) (before after : Told) (o : Outcome) (s : Status) → Comes c o
+    → ((a : Asks c) → ReadsSource (most_read (form_of a.words)) a.words.source c.after)
     → ((a : Asks c) → ReadsCertificate a.words c.after) → TellsFaults c o → Tells o s before after → MeetsClauses c before after s
 meets l c before after o s h within certificate faults tells = record {
   outcome = o;

@@ -11,19 +11,22 @@ same_if x y e = subst (λ z. same_name x z ≡ true) e (same_itself x)
 
 -- the file given by the words from one on, by the word there
 given_from : (ws : List Word) (i : ℕ) (d : Word) (n : List ℕ) → i < length ws
-    → file_given (map plain_given (drop i ws)) n ≡ cond (same_name n (get_or ws i d).name) (Some (string_bytes (get_or ws i d).file)) (file_given (map plain_given (drop (i + 1) ws)) n)
+    → file_given (map plain_given (drop i ws)) n ≡ cond (same_name n (get_or ws i d).name) (Some (string_bytes (get_or ws i d).file))
+    (file_given (map plain_given (drop (i + 1) ws)) n)
 given_from ws i d n h = rw (add-one, drop-cons ws i d h) refl
 
 -- the word at an index has the name, and those before it have not
 pub given_here : (ws : List Word) (i : ℕ) (d : Word) (n : List ℕ) → i < length ws → n ≡ (get_or ws i d).name
-    → file_given (map plain_given (drop i ws)) n ≡ file_given (map plain_given ws) n → Some (string_bytes (get_or ws i d).file) ≡ file_given (map plain_given ws) n
+    → file_given (map plain_given (drop i ws)) n ≡ file_given (map plain_given ws) n
+    → Some (string_bytes (get_or ws i d).file) ≡ file_given (map plain_given ws) n
 given_here ws i d n h same so_far =
     let yes : same_name n (get_or ws i d).name ≡ true = same_if n (get_or ws i d).name same in
     let step = given_from ws i d n h in
     sym (ap (λ b. cond b (Some (string_bytes (get_or ws i d).file)) (file_given (map plain_given (drop (i + 1) ws)) n)) yes) ∙ sym step ∙ so_far
 
 pub given_later : (ws : List Word) (i : ℕ) (d : Word) (n : List ℕ) → i < length ws → (n ≡ (get_or ws i d).name → ⊥)
-    → file_given (map plain_given (drop i ws)) n ≡ file_given (map plain_given ws) n → file_given (map plain_given (drop (i + 1) ws)) n ≡ file_given (map plain_given ws) n
+    → file_given (map plain_given (drop i ws)) n ≡ file_given (map plain_given ws) n
+    → file_given (map plain_given (drop (i + 1) ws)) n ≡ file_given (map plain_given ws) n
 given_later ws i d n h differ so_far =
     let no : same_name n (get_or ws i d).name ≡ false = not_same n (get_or ws i d).name differ in
     let step = given_from ws i d n h in
@@ -41,7 +44,8 @@ refusal_here free ws ys k word lt is front =
 pub refused_here : (free : List (List ℕ)) (ws ys : List Word) (k : ℕ) (word : Word) (s : Stop) → k < length ws → word ≡ get_or ws k word → ys ≡ take k ws
     → AreRightBelow free (map plain_given ws) k → IsRefusalOf (λ why. word_refusal free (map plain_given ys) word.name ≡ Some why) s
     → IsRefusalOf (RefusedFirst free (map plain_given ws)) s
-refused_here free ws ys k word (stop.Refused why) lt is front right refused = record { number = k; right = right; is = refusal_here free ws ys k word lt is front ∙ refused }
+refused_here free ws ys k word (stop.Refused why) lt is front right refused =
+    record { number = k; right = right; is = refusal_here free ws ys k word lt is front ∙ refused }
 refused_here free ws ys k word stop.NoMemory lt is front right refused = tt
 refused_here free ws ys k word _ lt is front right refused = absurd refused
 

@@ -27,7 +27,8 @@ module _ (p : PlainTree) (columns : List (List ℕ)) where
       x.is ∙ ap refusal.NoColumn name ∙ sym y.is
 
   pub none_missing : (v : Refusal) → AreColumns p columns → RefusesColumns p columns v → ⊥
-  none_missing v are x = not_both x.first.name (are x.number x.first.name (slice_get_within columns x.number x.first.name x.first.is) x.first.is) x.first.missing
+  none_missing v are x = not_both x.first.name (are x.number x.first.name (slice_get_within columns x.number x.first.name x.first.is) x.first.is)
+      x.first.missing
 
   told_missing : (k : ℕ) (why : Refusal) → IsFirstMissing p columns k → IsMissing columns k why → RefusesColumns p columns why
   told_missing k (refusal.NoColumn name) first is =

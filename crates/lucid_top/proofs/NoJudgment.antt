@@ -20,7 +20,8 @@ first_once e a b x y =
 none_outside : (e : PlainTree) (a : ℕ) → IsFirstOutside e a → outside e ≡ [] → ⊥
 none_outside e a x none = let there : In a [] = subst (In a) none x.stands in absurd there
 
-one_why : (e : PlainTree) (f g : JudgeRefusal) (v w : Refusal) → judge_stop f ≡ stop.Refused v → judge_stop g ≡ stop.Refused w → IsJudgeRefusal e f → IsJudgeRefusal e g → v ≡ w
+one_why : (e : PlainTree) (f g : JudgeRefusal) (v w : Refusal) → judge_stop f ≡ stop.Refused v → judge_stop g ≡ stop.Refused w → IsJudgeRefusal e f
+    → IsJudgeRefusal e g → v ≡ w
 one_why e (judge.Outside a) (judge.Outside b) v w is js r s =
     let at : a ≡ b = first_once e a b r s in cc (is, js, at)
 one_why e (judge.Outside a) judge.TooMany v w is js r s = absurd (none_outside e a r s.0)

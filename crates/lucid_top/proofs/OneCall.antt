@@ -49,7 +49,8 @@ first_once free given v w a b =
     let there = b.is in cc (here, there)
 
 -- it is one of the words
-is_within : (o : Option (List ℕ × List ℕ)) (f : List ℕ × List ℕ → Option Refusal) (v : Refusal) → option_and_then f o ≡ Some v → (w : List ℕ × List ℕ) × (o ≡ Some w)
+is_within : (o : Option (List ℕ × List ℕ)) (f : List ℕ × List ℕ → Option Refusal) (v : Refusal) → option_and_then f o ≡ Some v
+    → (w : List ℕ × List ℕ) × (o ≡ Some w)
 is_within None f v is = absurd (cc is)
 is_within (Some w) f v is = (w, refl)
 
@@ -127,7 +128,8 @@ abbrev pub asks_in : {c : Call} {t : Task} → HasFiles c t → Asks c
 asks_in m = m.names.program.source.asks
 
 -- they ask for nothing that isn't one
-other_certificate : {c : Call} {t : Task} (m : HasFiles c t) → is_certificate t ≡ true → (a : Asks c) (u : Task) → task_of a.words ≡ u → is_certificate u ≡ false → ⊥
+other_certificate : {c : Call} {t : Task} (m : HasFiles c t) → is_certificate t ≡ true → (a : Asks c) (u : Task) → task_of a.words ≡ u
+    → is_certificate u ≡ false → ⊥
 other_certificate {t = t} m is a u asked not =
     let same : t ≡ u = one_task (asks_in m) a t u m.task asked in
     let there : is_certificate u ≡ true = subst (λ x. is_certificate x ≡ true) same is in absurd (cc (there, not))
@@ -189,13 +191,15 @@ module _ (l : OneVerdict) (c : Call) (told : TellsFiles c) where
 
   same_free_beside : (h k : HasColumns c) → IsWellMade (beside h.names.program.tree (columns_named h.names)) → h.free ≡ k.free
   same_free_beside h k well =
-      l.one_list (beside h.names.program.tree (columns_named h.names)) h.free k.free well h.are_free (subst (λ p. HasInputs p k.free) (same_beside k.names h.names) k.are_free)
+      l.one_list (beside h.names.program.tree (columns_named h.names)) h.free k.free well h.are_free
+      (subst (λ p. HasInputs p k.free) (same_beside k.names h.names) k.are_free)
 
   -- The program that is asked for is one, and so are the names of its inputs.
   tree_or_columns : (n m : HasNames c) → WantsInputs {c = c} (by_tree n) → task_of m.program.source.asks.words ≡ task.Columns → ⊥
   tree_or_columns n m (inl is) js = absurd (cc (one_task n.program.source.asks m.program.source.asks task.Run task.Columns is js))
   tree_or_columns n m (inr is) js =
-      let there : is_certificate (task_of m.program.source.asks.words) ≡ true = subst (λ (w : PlainWords). is_certificate (task_of w) ≡ true) (same_words n.program.source.asks m.program.source.asks) is in
+      let there : is_certificate (task_of m.program.source.asks.words) ≡ true =
+      subst (λ (w : PlainWords). is_certificate (task_of w) ≡ true) (same_words n.program.source.asks m.program.source.asks) is in
       let not : is_certificate (task_of m.program.source.asks.words) ≡ false = ap is_certificate js in absurd (cc (there, not))
 
   asks_columns : (h : HasColumns c) → WantsInputs {c = c} (by_columns h) → task_of h.names.program.source.asks.words ≡ task.Columns
@@ -219,7 +223,8 @@ module _ (l : OneVerdict) (c : Call) (told : TellsFiles c) where
   same_program (by_tree n) (by_table g) is js = absurd (one_form g.source.asks n.program.source.asks g.form n.program.form)
   same_program (by_columns h) (by_tree m) is js = absurd (tree_or_columns m h.names (inl js) is)
   same_program (by_columns h) (by_columns k) is js =
-      ap (λ p. of_columns p (columns_named h.names)) (same_tree h.names.program k.names.program) ∙ ap (of_columns k.names.program.tree) (same_columns h.names k.names)
+      ap (λ p. of_columns p (columns_named h.names)) (same_tree h.names.program k.names.program)
+      ∙ ap (of_columns k.names.program.tree) (same_columns h.names k.names)
   same_program (by_columns h) (by_table g) is js = absurd (one_form g.source.asks h.names.program.source.asks g.form h.names.program.form)
   same_program (by_table f) (by_tree m) is js = absurd (one_form f.source.asks m.program.source.asks f.form m.program.form)
   same_program (by_table f) (by_columns k) is js = absurd (one_form f.source.asks k.names.program.source.asks f.form k.names.program.form)
@@ -228,7 +233,8 @@ module _ (l : OneVerdict) (c : Call) (told : TellsFiles c) where
   -- the run of a program is one
   pub same_run : (r q : IsRun c) → IsMade q.program → run_of q ≡ run_of r
   same_run r q well =
-      one_run (same_words (asks_for q.program) (asks_for r.program)) (same_program q.program r.program q.task r.task) (same_inputs q.program r.program (inl q.task) (inl r.task) well)
+      one_run (same_words (asks_for q.program) (asks_for r.program)) (same_program q.program r.program q.task r.task)
+      (same_inputs q.program r.program (inl q.task) (inl r.task) well)
 
   -- what is asked for of a certificate is one, and so is the one that is checked
   pub same_certificate : {t u : Task} (m : HasFiles c t) (k : HasFiles c u) → IsWellMade k.names.program.tree → certificate_of k ≡ certificate_of m
@@ -289,7 +295,8 @@ module _ (l : OneVerdict) (c : Call) (told : TellsFiles c) where
   -- columns that are there aren't refused, and whoever asks for columns runs nothing else
   missing_there : (n m : HasNames c) (v : Refusal) → RefusesColumns m.program.tree (columns_named m) v → RefusesColumns n.program.tree (columns_named n) v
   missing_there n m v refused =
-      subst (λ p. RefusesColumns p (columns_named n) v) (same_tree m.program n.program) (subst (λ ns. RefusesColumns m.program.tree ns v) (same_columns m n) refused)
+      subst (λ p. RefusesColumns p (columns_named n) v) (same_tree m.program n.program)
+      (subst (λ ns. RefusesColumns m.program.tree ns v) (same_columns m n) refused)
 
   missing_program : (n : HasNames c) (v : Refusal) → task_of n.program.source.asks.words ≡ task.Columns → RefusesColumns n.program.tree (columns_named n) v
       → (p : HasProgram c) → WantsInputs p → ⊥
@@ -301,7 +308,8 @@ module _ (l : OneVerdict) (c : Call) (told : TellsFiles c) where
   columns_or n a t is js = one_task n.program.source.asks a task.Columns t is js
 
   -- nor are words that give a certificate its files
-  given_certificate : {t : Task} (m : HasFiles c t) (p : HasProgram c) (v : Refusal) → WantsInputs p → RefusesGiven (inputs_in p) (asks_for p).words.given v → m.names.free ≡ inputs_in p → ⊥
+  given_certificate : {t : Task} (m : HasFiles c t) (p : HasProgram c) (v : Refusal) → WantsInputs p → RefusesGiven (inputs_in p) (asks_for p).words.given v
+      → m.names.free ≡ inputs_in p → ⊥
   given_certificate m p v is r same = given_fits m.names.free (asks_in m).words.given v (given_there (by_tree m.names) p v same r) m.fits
 
   -- A call has one first refusal.
@@ -333,7 +341,8 @@ module _ (l : OneVerdict) (c : Call) (told : TellsFiles c) where
   one_refusal v w (by_names t other r) is_made (by_words none') = absurd (not_asked t.source.asks none')
   one_refusal v w (by_names t other r) is_made (by_text s' other' r') = absurd (text_not s' w r' t)
   one_refusal v w (by_names t other r) is_made (by_flat s' is' r') = absurd (one_form s'.asks t.source.asks is' t.form)
-  one_refusal v w (by_names t other r) is_made (by_names t' other' r') = l.one_name_refusal t.tree v w is_made r (subst (λ p. RefusesNames p w) (same_tree t' t) r')
+  one_refusal v w (by_names t other r) is_made (by_names t' other' r') =
+      l.one_name_refusal t.tree v w is_made r (subst (λ p. RefusesNames p w) (same_tree t' t) r')
   one_refusal v w (by_names t other r) is_made (by_missing n' is' r') = absurd (names_not t v r n')
   one_refusal v w (by_names t other r) is_made (by_judging n' is' r') = absurd (names_not t v r n')
   one_refusal v w (by_names t other r) is_made (by_given p' is' r') = absurd (names_program t v r p')
@@ -351,25 +360,32 @@ module _ (l : OneVerdict) (c : Call) (told : TellsFiles c) where
   one_refusal v w (by_judging n is r) is_made (by_flat s' is' r') = absurd (one_form s'.asks n.program.source.asks is' n.program.form)
   one_refusal v w (by_judging n is r) is_made (by_names t' other' r') = absurd (names_not t' w r' n)
   one_refusal v w (by_judging n is r) is_made (by_missing n' is' r') = absurd (cc (columns_or n' n.program.source.asks task.Cycles is' is))
-  one_refusal v w (by_judging n is r) is_made (by_judging n' is' r') = one_judging_refusal n.program.tree v w r (subst (λ p. RefusesJudging p w) (same_tree n'.program n.program) r')
+  one_refusal v w (by_judging n is r) is_made (by_judging n' is' r') =
+      one_judging_refusal n.program.tree v w r (subst (λ p. RefusesJudging p w) (same_tree n'.program n.program) r')
   one_refusal v w (by_judging n is r) is_made (by_given p' is' r') = absurd (judging_or_run n p' is is')
-  one_refusal v w (by_judging n is r) is_made (by_certificate m' b' js' r') = absurd (cc (one_task n.program.source.asks (asks_in m') task.Cycles task.Check is m'.task))
+  one_refusal v w (by_judging n is r) is_made (by_certificate m' b' js' r') =
+      absurd (cc (one_task n.program.source.asks (asks_in m') task.Cycles task.Check is m'.task))
   one_refusal v w (by_given p is r) is_made (by_words none') = absurd (not_asked (asks_for p) none')
   one_refusal v w (by_given p is r) is_made (by_text s' other' r') = absurd (text_program s' w other' r' p)
   one_refusal v w (by_given p is r) is_made (by_flat s' is' r') = absurd (flat_program s' w is' r' p)
   one_refusal v w (by_given p is r) is_made (by_names t' other' r') = absurd (names_program t' w r' p)
   one_refusal v w (by_given p is r) is_made (by_missing n' is' r') = absurd (missing_program n' w is' r' p is)
   one_refusal v w (by_given p is r) is_made (by_judging n' is' r') = absurd (judging_or_run n' p is' is)
-  one_refusal v w (by_given p is r) is_made (by_given p' is' r') = given_once (inputs_in p) (asks_for p).words.given v w r (given_there p p' w (same_inputs p p' is is' is_made) r')
-  one_refusal v w (by_given p is r) is_made (by_certificate m' b' js' r') = absurd (given_certificate m' p v is r (sym (same_inputs p (by_tree m'.names) is (inr (ap is_certificate m'.task)) is_made)))
+  one_refusal v w (by_given p is r) is_made (by_given p' is' r') =
+      given_once (inputs_in p) (asks_for p).words.given v w r (given_there p p' w (same_inputs p p' is is' is_made) r')
+  one_refusal v w (by_given p is r) is_made (by_certificate m' b' js' r') =
+      absurd (given_certificate m' p v is r (sym (same_inputs p (by_tree m'.names) is (inr (ap is_certificate m'.task)) is_made)))
   one_refusal v w (by_certificate m b js r) is_made (by_words none') = absurd (not_asked (asks_in m) none')
   one_refusal v w (by_certificate m b js r) is_made (by_text s' other' r') = absurd (text_not s' w r' m.names.program)
   one_refusal v w (by_certificate m b js r) is_made (by_flat s' is' r') = absurd (one_form s'.asks (asks_in m) is' m.names.program.form)
   one_refusal v w (by_certificate m b js r) is_made (by_names t' other' r') = absurd (names_not t' w r' m.names)
   one_refusal v w (by_certificate m b js r) is_made (by_missing n' is' r') = absurd (cc (columns_or n' (asks_in m) task.Check is' m.task))
-  one_refusal v w (by_certificate m b js r) is_made (by_judging n' is' r') = absurd (cc (one_task n'.program.source.asks (asks_in m) task.Cycles task.Check is' m.task))
-  one_refusal v w (by_certificate m b js r) is_made (by_given p' is' r') = absurd (given_certificate m p' w is' r' (same_inputs (by_tree m.names) p' (inr (ap is_certificate m.task)) is' is_made))
-  one_refusal v w (by_certificate m b js r) is_made (by_certificate m' b' js' r') = l.one_certificate_refusal b v w r (subst (λ x. RefusesCertificate x w) (same_file m' m b' b js' js) r')
+  one_refusal v w (by_certificate m b js r) is_made (by_judging n' is' r') =
+      absurd (cc (one_task n'.program.source.asks (asks_in m) task.Cycles task.Check is' m.task))
+  one_refusal v w (by_certificate m b js r) is_made (by_given p' is' r') =
+      absurd (given_certificate m p' w is' r' (same_inputs (by_tree m.names) p' (inr (ap is_certificate m.task)) is' is_made))
+  one_refusal v w (by_certificate m b js r) is_made (by_certificate m' b' js' r') =
+      l.one_certificate_refusal b v w r (subst (λ x. RefusesCertificate x w) (same_file m' m b' b js' js) r')
 
   -- a program that is run isn't refused, nor is one of which a text is written
   pub run_not_refused : (x : IsRun c) (v : Refusal) → Refuses c v → ((q : HasProgram c) → WantsInputs q → inputs_in x.program ≡ inputs_in q) → ⊥
@@ -379,7 +395,8 @@ module _ (l : OneVerdict) (c : Call) (told : TellsFiles c) where
   run_not_refused x v (by_names t other r) lists = names_program t v r x.program
   run_not_refused x v (by_missing n is r) lists = missing_program n v is r x.program (inl x.task)
   run_not_refused x v (by_judging n is r) lists = judging_or_run n x.program is (inl x.task)
-  run_not_refused x v (by_given p is r) lists = given_fits (inputs_in x.program) (asks_for x.program).words.given v (given_there x.program p v (lists p is) r) x.fits
+  run_not_refused x v (by_given p is r) lists = given_fits (inputs_in x.program) (asks_for x.program).words.given v (given_there x.program p v (lists p is) r)
+      x.fits
   run_not_refused x v (by_certificate m b js r) lists = run_or_certificate x m refl
 
   pub text_not_refused : (x : IsWriting c) (v : Refusal) → Refuses c v → ⊥
@@ -428,7 +445,8 @@ module _ (l : OneVerdict) (c : Call) (told : TellsFiles c) where
   run_not_stopped x v (by_names t other r) is_made = names_program t v r x.program
   run_not_stopped x v (by_missing n is r) is_made = missing_program n v is r x.program (inl x.task)
   run_not_stopped x v (by_judging n is r) is_made = judging_or_run n x.program is (inl x.task)
-  run_not_stopped x v (by_given p is r) is_made = run_not_refused x v (by_given p is r) (λ q js. sym (same_inputs p x.program is (inl x.task) is_made) ∙ same_inputs p q is js is_made)
+  run_not_stopped x v (by_given p is r) is_made =
+      run_not_refused x v (by_given p is r) (λ q js. sym (same_inputs p x.program is (inl x.task) is_made) ∙ same_inputs p q is js is_made)
   run_not_stopped x v (by_certificate m b js r) is_made = run_or_certificate x m refl
 
   -- Where a certificate is made or may be checked, nothing else than the file of one is refused; and in a check neither is that.
@@ -436,7 +454,8 @@ module _ (l : OneVerdict) (c : Call) (told : TellsFiles c) where
   OfCertificate (by_certificate m b js r) = Unit {0}
   OfCertificate r = ⊥
 
-  pub may_refused : {t : Task} (m : HasFiles c t) → is_certificate t ≡ true → (v : Refusal) (a : Refuses c v) → IsWellMade m.names.program.tree ⊎ IsOfMade a → OfCertificate a
+  pub may_refused : {t : Task} (m : HasFiles c t) → is_certificate t ≡ true → (v : Refusal) (a : Refuses c v) → IsWellMade m.names.program.tree ⊎ IsOfMade a
+      → OfCertificate a
   may_refused m one v (by_words none) well = absurd (not_asked (asks_in m) none)
   may_refused m one v (by_text s other r) well = absurd (text_not s v r m.names.program)
   may_refused m one v (by_flat s is r) well = absurd (one_form s.asks (asks_in m) is m.names.program.form)

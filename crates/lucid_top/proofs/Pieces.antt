@@ -48,7 +48,8 @@ front_in_part : (xs : List Part) (i : ℕ) (d : Part) (old mid new : Told) → i
     → WritesFront (line_of (get_or xs i d ∷ [])) mid new → WritesFront (line_of xs) old new
 front_in_part xs i d old mid new lt before front =
     let more : WritesFront (line_of (take (i + 1) xs)) old new =
-    subst (λ line. WritesFront line old new) (sym (line_of_more xs i d lt)) (front_next (line_of (take i xs)) (line_of (get_or xs i d ∷ [])) old mid new before front) in
+    subst (λ line. WritesFront line old new) (sym (line_of_more xs i d lt))
+    (front_next (line_of (take i xs)) (line_of (get_or xs i d ∷ [])) old mid new before front) in
     let parts : line_of xs ≡ line_of (take (i + 1) xs) ++ line_of (drop (i + 1) xs) =
     ap line_of (sym (take-append-drop (i + 1) xs)) ∙ line_of-append (take (i + 1) xs) (drop (i + 1) xs) in
     subst (λ line. WritesFront line old new) (sym parts) (front_more (line_of (take (i + 1) xs)) (line_of (drop (i + 1) xs)) old new more)
@@ -56,5 +57,6 @@ front_in_part xs i d old mid new lt before front =
 pub stops_in_part : (T : Type 0) (xs : List Part) (i : ℕ) (d : Part) (old mid new : Told) (fault : PortFault) → i < length xs
     → WritesWhole (line_of (take i xs)) old mid → old.faults ≤ mid.faults → mid.faults ≤ new.faults
     → WritesLine (line_of (get_or xs i d ∷ [])) (stopped {T = T} fault) mid new → WritesLine (line_of xs) (stopped {T = T} fault) old new
-stops_in_part T xs i d old mid new Failed lt before le ge line = (front_in_part xs i d old mid new lt before line.0, rises_from old.faults mid.faults new.faults le ge line.1)
+stops_in_part T xs i d old mid new Failed lt before le ge line =
+    (front_in_part xs i d old mid new lt before line.0, rises_from old.faults mid.faults new.faults le ge line.1)
 stops_in_part T xs i d old mid new NoMemory lt before le ge line = front_in_part xs i d old mid new lt before line

@@ -43,7 +43,8 @@ all_from P (suc n) h =
     )
 
 -- a certificate of a table, over inputs of which nothing was read, at these places
-module _ (T : Table) (t : ℕ) (names : List (List ℕ)) (qs : List ℕ) (old new : Inputs) (before after : World) (o p : Told) (named : names ≡ T.inputs) (count : length qs ≡ length names)
+module _ (T : Table) (t : ℕ) (names : List (List ℕ)) (qs : List ℕ) (old new : Inputs) (before after : World) (o p : Told) (named : names ≡ T.inputs)
+    (count : length qs ≡ length names)
     (on : ReadOn qs old new before after) (words : PlainWords) where
   abbrev r : RunView
   r = viewed words names qs before after o p
@@ -73,11 +74,15 @@ module _ (T : Table) (t : ℕ) (names : List (List ℕ)) (qs : List ℕ) (old ne
         let fits = fits_at on k q at later.0 later.1 in
         let here : (after.place s.0.place).contents ≡ Some later.0 = ap (λ y. (after.place y).contents) s.2 ∙ later.1 in
         by k name q told.0 later.0 s.0 is at told.1 later.1 later.2 fits.consumed
-        (of_told _ (after.place s.0.place).contents later.0 (drawn b (may b has) k name (fresh_stream q) s.0 (ap (λ ns. slice_get ns k) (sym named) ∙ is) (was_there on k q at) s.1) here)
+        (of_told _ (after.place s.0.place).contents later.0
+        (drawn b (may b has) k name (fresh_stream q) s.0 (ap (λ ns. slice_get ns k) (sym named) ∙ is) (was_there on k q at) s.1) here)
       where
-        by : (k : ℕ) (name : List ℕ) (q : ℕ) (was now : Contents) (s : Stream) → slice_get names k ≡ Some name → slice_get qs k ≡ Some q → (before.place q).contents ≡ Some was
+        by : (k : ℕ) (name : List ℕ) (q : ℕ) (was now : Contents) (s : Stream) → slice_get names k ≡ Some name → slice_get qs k ≡ Some q
+            → (before.place q).contents ≡ Some was
             → (after.place q).contents ≡ Some now → all_bytes now ≡ all_bytes was → s.consumed ≡ length now.consumed
-            → (s.consumed ≤ (fresh_stream q).consumed) ⊎ ((j : ℕ) × facts.ForSomeAdded (seen_by T old) (λ d. In (name, j) (consults_on_nodes (equations_of T) b words.depth d t 0)) × (s.consumed ≤ end_of_line (all_bytes now) j))
+            → (s.consumed ≤ (fresh_stream q).consumed) ⊎ ((j : ℕ)
+            × facts.ForSomeAdded (seen_by T old) (λ d. In (name, j) (consults_on_nodes (equations_of T) b words.depth d t 0))
+            × (s.consumed ≤ end_of_line (all_bytes now) j))
             → ForSomeAdded (Consumes k)
         by k name q was now s is at first last bytes read (inl few) = (
           0,
@@ -94,9 +99,15 @@ module _ (T : Table) (t : ℕ) (names : List (List ℕ)) (qs : List ℕ) (old ne
               let same : now' ≡ now = let y = ap (λ z. (after.place z).contents) (sym place) ∙ last' in cc (y, last) in
               let before_same : was ≡ was' = let y = ap (λ z. (before.place z).contents) (sym place) ∙ first' in cc (y, first) in
               let long : length now'.consumed ≡ length now.consumed = ap (λ (z : Contents). length z.consumed) same in
-              let end : end_of_line (all_bytes now) some.0 ≡ end_of_line (all_bytes was') some.0 = ap (λ bs. end_of_line bs some.0) (bytes ∙ ap all_bytes before_same) in
+              let end : end_of_line (all_bytes now) some.0 ≡ end_of_line (all_bytes was') some.0 =
+              ap (λ bs. end_of_line bs some.0) (bytes ∙ ap all_bytes before_same) in
               let far = some.2 in
-              inr (some.0, subst (λ y. In (y, some.0) (consults_on_nodes (equations_of T) b words.depth d t 0)) called (some.1.holds d le), omega (arith, far, read, long, end)),
+              inr (
+                some.0,
+                subst (λ y. In (y, some.0) (consults_on_nodes (equations_of T) b words.depth d t 0)) called (some.1.holds d le),
+                omega
+                    (arith, far, read, long, end),
+              ),
         )
 
     consumes : ForSomeAdded (ConsumesAt x b r t)
@@ -117,7 +128,8 @@ module _ (T : Table) (t : ℕ) (names : List (List ℕ)) (qs : List ℕ) (old ne
       let stream : y.source ≡ s.0 = let a = y.read_from in let c = s.1 in cc (a, c) in
       let place : y.source.place ≡ q = ap (λ (z : Stream). z.place) stream ∙ s.2 in
       let over : IsOverlong (all_bytes later.0) y.index (most_bytes new) =
-      of_told _ (after.place q).contents later.0 (subst (λ z. IfSome (after.place z).contents (λ c. IsOverlong (all_bytes c) y.index (most_bytes new))) place y.overlong) later.1 in
+      of_told _ (after.place q).contents later.0 (subst (λ z. IfSome (after.place z).contents (λ c. IsOverlong (all_bytes c) y.index (most_bytes new))) place
+      y.overlong) later.1 in
       record {
         name = y.name;
         named = is;
@@ -135,9 +147,15 @@ module _ (T : Table) (t : ℕ) (names : List (List ℕ)) (qs : List ℕ) (old ne
 
   module _ (keeps : KeepsWithin) (drawn : HasDrawn T old new after words.depth t) where
     -- a certificate is made, and its text is written
-    pub made_ends : WhatFollowsIsMeant → IsInRange T → (w : Why) → ((b : Elements) → MayBe T new b → IsCertificate T b w t) → (out : Outcome) → WritesOnly (λ text. IsTextOf text w) o p out → Makes T x r t out
+    pub made_ends : WhatFollowsIsMeant → IsInRange T → (w : Why) → ((b : Elements) → MayBe T new b → IsCertificate T b w t) → (out : Outcome)
+        → WritesOnly (λ text. IsTextOf text w) o p out → Makes T x r t out
     made_ends meant range w certificate out h =
-        record { ends = λ b has. ends b has out h; silent = not_stopped out h; consumed = λ b has. consumes drawn b has; within = stays_within on T names o p words keeps }
+        record {
+          ends = λ b has. ends b has out h;
+          silent = not_stopped out h;
+          consumed = λ b has. consumes drawn b has;
+          within = stays_within on T names o p words keeps;
+        }
       where
         is_why : (b : Elements) → HasElements r b → IsWhy T x b t w
         is_why b has =
@@ -160,7 +178,8 @@ module _ (T : Table) (t : ℕ) (names : List (List ℕ)) (qs : List ℕ) (old ne
         not_stopped _ h is = absurd h
 
     -- or none is made
-    pub fault_ends : p.bytes ≡ o.bytes → (f : DemandFault) → AsDemanded T old new after t words.depth (Err f) → (s : Stop) → IsMakingStop names t f s → Makes T x r t (Err s)
+    pub fault_ends : p.bytes ≡ o.bytes → (f : DemandFault) → AsDemanded T old new after t words.depth (Err f) → (s : Stop) → IsMakingStop names t f s
+        → Makes T x r t (Err s)
     fault_ends silent f y s is = by f y s is
       where
         so : (s : Stop) → ((b : Elements) → HasElements r b → MakesSo T x b r t (Err s)) → Makes T x r t (Err s)
@@ -169,13 +188,15 @@ module _ (T : Table) (t : ℕ) (names : List (List ℕ)) (qs : List ℕ) (old ne
         by : (f : DemandFault) → AsDemanded T old new after t words.depth (Err f) → (s : Stop) → IsMakingStop names t f s → Makes T x r t (Err s)
         by fault.TooDeep y s is = subst (λ (z : Stop). Makes T x r t (Err z)) (sym is) (so (stop.TooDeep t 0 0 false) (λ b has. y.deep refl b (may b has)))
         by fault.ReadFault y s is = subst (λ (z : Stop). Makes T x r t (Err z)) (sym is) (so stop.ReadFault (λ b has. tt))
-        by (fault.TooLarge k) y (stop.TooLarge stream name) is = so (stop.TooLarge stream name) (λ b has. subst (ConsultsPast x b r t) (sym is.0) (past b has k (y.too_large b (may b has))))
+        by (fault.TooLarge k) y (stop.TooLarge stream name) is =
+            so (stop.TooLarge stream name) (λ b has. subst (ConsultsPast x b r t) (sym is.0) (past b has k (y.too_large b (may b has))))
         by (fault.TooLarge k) y stop.NoMemory is = so stop.NoMemory (λ b has. inl silent)
         by (fault.TooLarge k) y _ is = absurd is
         by fault.NoMemory y s is = subst (λ (z : Stop). Makes T x r t (Err z)) (sym is) (so stop.NoMemory (λ b has. inl silent))
 
 -- there was no memory before
-pub unmade : (T : Table) (x : OneStream) (r : RunView) (t : ℕ) (o : Outcome) (s : Stop) → o ≡ Err s → s ≡ stop.NoMemory → r.out_after.bytes ≡ r.out_before.bytes → ConsumesNothing r → Makes T x r t o
+pub unmade : (T : Table) (x : OneStream) (r : RunView) (t : ℕ) (o : Outcome) (s : Stop) → o ≡ Err s → s ≡ stop.NoMemory → r.out_after.bytes ≡ r.out_before.bytes
+    → ConsumesNothing r → Makes T x r t o
 unmade T x r t o s is memory silent nothing =
     let here : Makes T x r t (Err stop.NoMemory) = record {
       ends = λ b has. inl silent;
@@ -186,7 +207,8 @@ unmade T x r t o s is memory silent nothing =
     subst (Makes T x r t) (sym (is ∙ ap (λ (y : Stop). Err y) memory)) here
 
 -- the stream that is told too large is one of the inputs
-pub large_there : (T : Table) (t m : ℕ) (names : List (List ℕ)) (old new : Inputs) (after : World) (f : DemandFault) → names ≡ T.inputs → AsDemanded T old new after t m (Err f)
+pub large_there : (T : Table) (t m : ℕ) (names : List (List ℕ)) (old new : Inputs) (after : World) (f : DemandFault) → names ≡ T.inputs
+    → AsDemanded T old new after t m (Err f)
     → OnTooLarge f (λ number. number < length names)
 large_there T t m names old new after (fault.TooLarge k) named x =
     let y = x.too_large (elements_read T.inputs (streams new)) (λ n j v h. h) in
@@ -194,11 +216,13 @@ large_there T t m names old new after (fault.TooLarge k) named x =
 large_there T t m names old new after _ named x = tt
 
 -- a certificate that is made has a judgment, and may be shown
-pub made_one : (T : Table) (t : ℕ) (new : Inputs) (w : Why) → ((b : Elements) → MayBe T new b → IsCertificate T b w t) → IsCertificate T (elements_read T.inputs (streams new)) w t
+pub made_one : (T : Table) (t : ℕ) (new : Inputs) (w : Why) → ((b : Elements) → MayBe T new b → IsCertificate T b w t)
+    → IsCertificate T (elements_read T.inputs (streams new)) w t
 made_one T t new w h = h (elements_read T.inputs (streams new)) (λ n j v is. is)
 
 -- It is as good over places that tell the same of its inputs.
-module _ (T : Table) (x : OneStream) (words : PlainWords) (names : List (List ℕ)) (qs : List ℕ) (u v u' v' : World) (o p : Told) (a : TellAlike qs u v u' v') (t : ℕ) where
+module _ (T : Table) (x : OneStream) (words : PlainWords) (names : List (List ℕ)) (qs : List ℕ) (u v u' v' : World) (o p : Told) (a : TellAlike qs u v u' v')
+    (t : ℕ) where
   abbrev one : RunView
   one = viewed words names qs u v o p
 
@@ -214,7 +238,13 @@ module _ (T : Table) (x : OneStream) (words : PlainWords) (names : List (List �
   ends_too : (b : Elements) (out : Outcome) → MakesSo T x b one t out → MakesSo T x b other t out
   ends_too b (Ok done.Written) h = h
   ends_too b (Err (stop.TooDeep time lost cleared stats)) h = h
-  ends_too b (Err (stop.TooLarge k name)) h = record { name = h.name; named = h.named; index = h.index; consulted = h.consulted; past = past_too k h.index h.past }
+  ends_too b (Err (stop.TooLarge k name)) h = record {
+    name = h.name;
+    named = h.named;
+    index = h.index;
+    consulted = h.consulted;
+    past = past_too k h.index h.past;
+  }
   ends_too b (Err stop.ReadFault) h = h
   ends_too b (Err stop.WriteFault) h = h
   ends_too b (Err stop.NoMemory) h = h

@@ -49,7 +49,8 @@ module _ (meant : WhatFollowsIsMeant) (T : Table) (range : IsInRange T) (b : Ele
       let n : ℕ = right.before + 1 + most_of w.judgments in
       let long = right.last_number in
       let lt : right.before < length w.judgments = omega (arith, long) in
-      let is = meant T range b w (length w.judgments) (most_of w.judgments) right.all (λ i x l at. within_most w.judgments i x at) right.before j _ lt right.of_root.there right.of_root.context in (
+      let is = meant T range b w (length w.judgments) (most_of w.judgments) right.all (λ i x l at. within_most w.judgments i x at) right.before j _ lt
+      right.of_root.there right.of_root.context in (
         n,
         subst (λ s. node_val (equations_of T) b n (node_at T T.root) _ j.time s ≡ Some j.value) right.of_root.space
             (subst (λ id. node_val (equations_of T) b n (node_at T id) _ j.time j.space ≡ Some j.value) right.of_root.node is),
@@ -73,8 +74,10 @@ input_there T range id k row = by (slice_get T.nodes id) refl row
         subst (NodeNames (sizes T)) node names
 
 -- A check of a table over inputs of which nothing was read, at these places.
-module _ (T : Table) (range : IsInRange T) (w : Why) (names : List (List ℕ)) (qs : List ℕ) (old new : Inputs) (before after : World) (o p : Told) (named : names ≡ T.inputs)
-    (count : length qs ≡ length names) (fresh : streams old ≡ map fresh_stream qs) (most : most_bytes old ≡ most_input_bytes) (result : Result (Unit {0}) CheckFault)
+module _ (T : Table) (range : IsInRange T) (w : Why) (names : List (List ℕ)) (qs : List ℕ) (old new : Inputs) (before after : World) (o p : Told)
+    (named : names ≡ T.inputs)
+    (count : length qs ≡ length names) (fresh : streams old ≡ map fresh_stream qs) (most : most_bytes old ≡ most_input_bytes)
+    (result : Result (Unit {0}) CheckFault)
     (x : Checked T w old new before after result) (words : PlainWords) where
   abbrev r : RunView
   r = viewed words names qs before after o p
@@ -86,7 +89,8 @@ module _ (T : Table) (range : IsInRange T) (w : Why) (names : List (List ℕ)) (
   may_be = may_read on T names o p words named
 
   -- what lies past what may be read did so for the check, and the other way round
-  lies_past : (b : Elements) → HasElements r b → (k j n : ℕ) → TellsElement T (contexts w) w.judgments n k j → check_reads.LiesPast old before k j → LiesPast r k j
+  lies_past : (b : Elements) → HasElements r b → (k j n : ℕ) → TellsElement T (contexts w) w.judgments n k j → check_reads.LiesPast old before k j
+      → LiesPast r k j
   lies_past b has k j n tells lies =
       let lt : k < length names = subst (λ ns. k < length ns) (sym named) (input_there T range tells.judgment.node k tells.row) in
       let name : List ℕ = get_or names k [] in
@@ -95,14 +99,16 @@ module _ (T : Table) (range : IsInRange T) (w : Why) (names : List (List ℕ)) (
       let told = has k name q is in
       let place : (stream_at old k).place ≡ q = ap (λ (s : Stream). s.place) (was_at on k q is.1) in
       let over : IsOverlong (all_bytes told.0) j (most_bytes old) =
-      of_told _ (before.place q).contents told.0 (subst (λ y. IfSome (before.place y).contents (λ c. IsOverlong (all_bytes c) j (most_bytes old))) place lies) told.1 in
+      of_told _ (before.place q).contents told.0 (subst (λ y. IfSome (before.place y).contents (λ c. IsOverlong (all_bytes c) j (most_bytes old))) place lies)
+      told.1 in
       (name, q, told.0, is, told.1, subst (IsOverlong (all_bytes told.0) j) most over)
 
   lies_within : (k j : ℕ) → check_reads.LiesWithin old before k j → LiesPast r k j → ⊥
   lies_within k j lies y =
       let q : ℕ = y.1 in
       let place : (stream_at old k).place ≡ q = ap (λ (s : Stream). s.place) (was_at on k q y.3.1) in
-      of_told _ (before.place q).contents y.2 (subst (λ z. IfSome (before.place z).contents (λ c. IsOverlong (all_bytes c) j (most_bytes old) → ⊥)) place lies) y.4
+      of_told _ (before.place q).contents y.2 (subst (λ z. IfSome (before.place z).contents (λ c. IsOverlong (all_bytes c) j (most_bytes old) → ⊥)) place lies)
+      y.4
       (subst (IsOverlong (all_bytes y.2) j) (sym most) y.5)
 
   none_past : (n : ℕ) → check.NoneTellsPast T w old before n → NoneTellsPast T w r n
@@ -125,29 +131,48 @@ module _ (T : Table) (range : IsInRange T) (w : Why) (names : List (List ℕ)) (
       ⊎ ((i : ℕ) × (j : ℕ) × (i < n) × TellsElement T (contexts w) w.judgments i k j × (y.consumed ≤ end_of_line (all_bytes c) j)))) s.3 (draws k lt)) here in
       elim drawn [
         | inl few ↦ inl (omega (arith, few, none, read))
-        | inr some ↦ inr (some.0, some.1, some.2, some.3, subst (λ bs. length now.consumed ≤ end_of_line bs some.1) bytes (let far = some.4 in omega (arith, far, read)))
+        | inr some ↦ inr (
+          some.0,
+          some.1,
+          some.2,
+          some.3,
+          subst (λ bs. length now.consumed ≤ end_of_line bs some.1) bytes
+              (let far = some.4 in omega (arith, far, read)),
+        )
       ]
 
   within : KeepsWithin → ReadsWithin r
   within = stays_within on T names o p words
 
 -- the certificate is right, and its line is written
-module _ (meant : WhatFollowsIsMeant) (keeps : KeepsWithin) (T : Table) (range : IsInRange T) (w : Why) (names : List (List ℕ)) (qs : List ℕ) (old new : Inputs) (before after : World) (o p : Told)
-    (named : names ≡ T.inputs) (count : length qs ≡ length names) (fresh : streams old ≡ map fresh_stream qs) (most : most_bytes old ≡ most_input_bytes) (words : PlainWords) where
+module _ (meant : WhatFollowsIsMeant) (keeps : KeepsWithin) (T : Table) (range : IsInRange T) (w : Why) (names : List (List ℕ)) (qs : List ℕ) (old new : Inputs)
+    (before after : World) (o p : Told)
+    (named : names ≡ T.inputs) (count : length qs ≡ length names) (fresh : streams old ≡ map fresh_stream qs) (most : most_bytes old ≡ most_input_bytes)
+    (words : PlainWords) where
   abbrev seen : RunView
   seen = viewed words names qs before after o p
 
   pub right_ends : Checked T w old new before after (Ok tt) → (out : Outcome) → WritesOnly (IsLastLine w) o p out → Checks T (table_stream T) w seen out
-  right_ends x out h = record { ends = λ b has. ends b has out h; silent = not_stopped out h; consumed = drawn out h; within = within T range w names qs old new before after o p named count fresh most (Ok tt) x words keeps }
+  right_ends x out h = record {
+    ends = λ b has. ends b has out h;
+    silent = not_stopped out h;
+    consumed = drawn out h;
+    within = within T range w names qs old new before after o p named count fresh most (Ok tt) x words keeps;
+  }
     where
       proved : (b : Elements) → HasElements seen b → Proves T (table_stream T) b w
       proved b has = proves meant T range b w (x.right b (may_be T range w names qs old new before after o p named count fresh most (Ok tt) x words b has))
 
-      line : (b : Elements) → HasElements seen b → (out : Outcome) → WritesOnly (IsLastLine w) o p out → WritesOnly (IsProvedLine T (table_stream T) b w) o p out
+      line : (b : Elements) → HasElements seen b → (out : Outcome) → WritesOnly (IsLastLine w) o p out
+          → WritesOnly (IsProvedLine T (table_stream T) b w) o p out
       line b has out h = as_text (IsLastLine w) (IsProvedLine T (table_stream T) b w) o p out (λ text is. (proved b has, is)) h
 
       ends : (b : Elements) → HasElements seen b → (out : Outcome) → WritesOnly (IsLastLine w) o p out → EndsSo T (table_stream T) b w seen out
-      ends b has (Ok done.Written) h = (line b has (Ok done.Written) h, none_past T range w names qs old new before after o p named count fresh most (Ok tt) x words (length w.judgments) x.within.0)
+      ends b has (Ok done.Written) h = (
+        line b has (Ok done.Written) h,
+        none_past T range w names qs old new before after o p named count fresh most (Ok tt) x
+            words (length w.judgments) x.within.0,
+      )
       ends b has (Err stop.WriteFault) h = line b has (Err stop.WriteFault) h
       ends b has (Err stop.NoMemory) h = line b has (Err stop.NoMemory) h
       ends b has _ h = absurd h
@@ -168,7 +193,8 @@ module _ (meant : WhatFollowsIsMeant) (keeps : KeepsWithin) (T : Table) (range :
       drawn _ h = absurd h
 
   -- or it is refused
-  pub fault_ends : p.bytes ≡ o.bytes → (f : CheckFault) → Checked T w old new before after (Err f) → (s : Stop) → IsCheckStop names f s → Checks T (table_stream T) w seen (Err s)
+  pub fault_ends : p.bytes ≡ o.bytes → (f : CheckFault) → Checked T w old new before after (Err f) → (s : Stop) → IsCheckStop names f s
+      → Checks T (table_stream T) w seen (Err s)
   fault_ends silent f x s is = by f x s is
     where
       may : (f : CheckFault) (x : Checked T w old new before after (Err f)) (b : Elements) → HasElements seen b → MayBe T new b
@@ -188,17 +214,24 @@ module _ (meant : WhatFollowsIsMeant) (keeps : KeepsWithin) (T : Table) (range :
             index = y.index;
             follow = y.follow;
             tells = y.tells;
-            past = lies_past T range w names qs old new before after o p named count fresh most (Err (fault.TooLarge k)) x words b has k y.index y.number y.tells y.past;
+            past = lies_past T range w names qs old new before after o p named count fresh most (Err (fault.TooLarge k)) x words b has k y.index y.number
+                y.tells y.past;
           }
 
-      large : (k : ℕ) (x : Checked T w old new before after (Err (fault.TooLarge k))) (s : Stop) → IsCheckStop names (fault.TooLarge k) s → Checks T (table_stream T) w seen (Err s)
+      large : (k : ℕ) (x : Checked T w old new before after (Err (fault.TooLarge k))) (s : Stop) → IsCheckStop names (fault.TooLarge k) s
+          → Checks T (table_stream T) w seen (Err s)
       large k x (stop.TooLarge stream name) is = record {
         ends = λ b has. subst (TellsPast T b w seen) (sym is.0) (tells_past k x b has);
         silent = λ _. silent;
         consumed = all (fault.TooLarge k) x;
         within = reads_within (fault.TooLarge k) x;
       }
-      large k x stop.NoMemory is = record { ends = λ b has. inl silent; silent = λ _. silent; consumed = all (fault.TooLarge k) x; within = reads_within (fault.TooLarge k) x }
+      large k x stop.NoMemory is = record {
+        ends = λ b has. inl silent;
+        silent = λ _. silent;
+        consumed = all (fault.TooLarge k) x;
+        within = reads_within (fault.TooLarge k) x;
+      }
       large k x _ is = absurd is
 
       by : (f : CheckFault) (x : Checked T w old new before after (Err f)) (s : Stop) → IsCheckStop names f s → Checks T (table_stream T) w seen (Err s)
@@ -213,15 +246,18 @@ module _ (meant : WhatFollowsIsMeant) (keeps : KeepsWithin) (T : Table) (range :
             within = reads_within (fault.Wrong n) x;
           } in subst (λ (y : Stop). Checks T (table_stream T) w seen (Err y)) (sym is) here
       by fault.ReadFault x s is =
-          let here : Checks T (table_stream T) w seen (Err stop.ReadFault) = record { ends = λ b has. tt; silent = λ _. silent; consumed = all fault.ReadFault x; within = reads_within fault.ReadFault x } in
+          let here : Checks T (table_stream T) w seen (Err stop.ReadFault) =
+          record { ends = λ b has. tt; silent = λ _. silent; consumed = all fault.ReadFault x; within = reads_within fault.ReadFault x } in
           subst (λ (y : Stop). Checks T (table_stream T) w seen (Err y)) (sym is) here
       by (fault.TooLarge k) x s is = large k x s is
       by fault.NoMemory x s is =
-          let here : Checks T (table_stream T) w seen (Err stop.NoMemory) = record { ends = λ b has. inl silent; silent = λ _. silent; consumed = all fault.NoMemory x; within = reads_within fault.NoMemory x } in
+          let here : Checks T (table_stream T) w seen (Err stop.NoMemory) =
+          record { ends = λ b has. inl silent; silent = λ _. silent; consumed = all fault.NoMemory x; within = reads_within fault.NoMemory x } in
           subst (λ (y : Stop). Checks T (table_stream T) w seen (Err y)) (sym is) here
 
 -- there was no memory before the check
-pub unmade : (T : Table) (x : OneStream) (w : Why) (r : RunView) (o : Outcome) (s : Stop) → o ≡ Err s → s ≡ stop.NoMemory → r.out_after.bytes ≡ r.out_before.bytes → ConsumesNothing r
+pub unmade : (T : Table) (x : OneStream) (w : Why) (r : RunView) (o : Outcome) (s : Stop) → o ≡ Err s → s ≡ stop.NoMemory
+    → r.out_after.bytes ≡ r.out_before.bytes → ConsumesNothing r
     → Checks T x w r o
 unmade T x w r o s is memory silent nothing =
     let here : Checks T x w r (Err stop.NoMemory) = record {
@@ -233,7 +269,8 @@ unmade T x w r o s is memory silent nothing =
     subst (Checks T x w r) (sym (is ∙ ap (λ (y : Stop). Err y) memory)) here
 
 -- the stream that is told too large is one of the inputs
-pub large_there : (T : Table) → IsInRange T → (w : Why) (names : List (List ℕ)) (old new : Inputs) (before after : World) (f : CheckFault) → names ≡ T.inputs → Checked T w old new before after (Err f)
+pub large_there : (T : Table) → IsInRange T → (w : Why) (names : List (List ℕ)) (old new : Inputs) (before after : World) (f : CheckFault) → names ≡ T.inputs
+    → Checked T w old new before after (Err f)
     → OnTooLarge f (λ number. number < length names)
 large_there T range w names old new before after (fault.TooLarge k) named x =
     let y = x.too_large (elements_read T.inputs (streams new)) (λ n j v h. h) in
@@ -241,14 +278,17 @@ large_there T range w names old new before after (fault.TooLarge k) named x =
 large_there T range w names old new before after _ named x = tt
 
 -- A check by a table that keeps a tree is one by the tree.
-pub by_the_tree : (T : Table) (e : PlainTree) (w : Why) (r : RunView) (o : Outcome) → KeepsTree (equations_of T) e → Checks T (table_stream T) w r o → Checks T (tree_stream e) w r o
+pub by_the_tree : (T : Table) (e : PlainTree) (w : Why) (r : RunView) (o : Outcome) → KeepsTree (equations_of T) e → Checks T (table_stream T) w r o
+    → Checks T (tree_stream e) w r o
 by_the_tree T e w r o keeps x = record { ends = λ b has. ends b o (x.ends b has); silent = x.silent; consumed = x.consumed; within = x.within }
   where
     proved : (b : Elements) → Proves T (table_stream T) b w → Proves T (tree_stream e) b w
     proved b y = record { right = y.right; means = λ j last. let m = y.means j last in (m.0, sym (keeps.values b m.0 j.time 0) ∙ m.1) }
 
-    line : (b : Elements) (o : Outcome) → WritesOnly (IsProvedLine T (table_stream T) b w) r.out_before r.out_after o → WritesOnly (IsProvedLine T (tree_stream e) b w) r.out_before r.out_after o
-    line b o h = as_text (IsProvedLine T (table_stream T) b w) (IsProvedLine T (tree_stream e) b w) r.out_before r.out_after o (λ text is. (proved b is.0, is.1)) h
+    line : (b : Elements) (o : Outcome) → WritesOnly (IsProvedLine T (table_stream T) b w) r.out_before r.out_after o
+        → WritesOnly (IsProvedLine T (tree_stream e) b w) r.out_before r.out_after o
+    line b o h = as_text (IsProvedLine T (table_stream T) b w) (IsProvedLine T (tree_stream e) b w) r.out_before r.out_after o
+        (λ text is. (proved b is.0, is.1)) h
 
     ends : (b : Elements) (o : Outcome) → EndsSo T (table_stream T) b w r o → EndsSo T (tree_stream e) b w r o
     ends b (Ok done.Written) h = (line b (Ok done.Written) h.0, h.1)
@@ -260,7 +300,8 @@ by_the_tree T e w r o keeps x = record { ends = λ b has. ends b o (x.ends b has
     ends b _ h = absurd h
 
 -- A check is as good over places that tell the same of its inputs.
-module _ (T : Table) (x : OneStream) (w : Why) (words : PlainWords) (names : List (List ℕ)) (qs : List ℕ) (u v u' v' : World) (o p : Told) (a : TellAlike qs u v u' v') where
+module _ (T : Table) (x : OneStream) (w : Why) (words : PlainWords) (names : List (List ℕ)) (qs : List ℕ) (u v u' v' : World) (o p : Told)
+    (a : TellAlike qs u v u' v') where
   abbrev one : RunView
   one = viewed words names qs u v o p
 

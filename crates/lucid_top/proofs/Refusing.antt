@@ -27,7 +27,8 @@ parse_refuses source tokens (parse.Syntax at) has r = by_parse (parse.Syntax at)
 parse_refuses source tokens (parse.TooNested at) has r = by_parse (parse.TooNested at) tokens refl has r
 parse_refuses source tokens parse.NoMemory has r = tt
 
-pub flat_refuses : (source : List ℕ) (e : FlatRefusal) → length source ≤ most_flat_bytes → IsLineRefused source e → IsRefusalOf (RefusesFlat source) (flat_stop e)
+pub flat_refuses : (source : List ℕ) (e : FlatRefusal) → length source ≤ most_flat_bytes → IsLineRefused source e
+    → IsRefusalOf (RefusesFlat source) (flat_stop e)
 flat_refuses source (flat.Form line) short r = by_line short r
 flat_refuses source flat.NoMemory short r = tt
 
@@ -39,6 +40,7 @@ build_refuses source t (build.Place at) has r = by_row t (build.Place at) refl h
 build_refuses source t build.Root has r = by_row t build.Root refl has r
 build_refuses source t build.NoMemory has r = tt
 
-pub certificate_refuses : (bytes : List ℕ) (e : WhyRefusal) → length bytes ≤ most_certificate_bytes → IsJudgmentRefused bytes e → IsRefusalOf (RefusesCertificate bytes) (why_stop e)
+pub certificate_refuses : (bytes : List ℕ) (e : WhyRefusal) → length bytes ≤ most_certificate_bytes → IsJudgmentRefused bytes e
+    → IsRefusalOf (RefusesCertificate bytes) (why_stop e)
 certificate_refuses bytes (why.Form line) short r = by_judgment short r
 certificate_refuses bytes why.NoMemory short r = tt

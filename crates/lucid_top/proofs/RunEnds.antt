@@ -39,7 +39,8 @@ source_stays most (file name) v u within first stays = λ some.
 source_stays most (made n) v u within first stays = tt
 
 -- places that were reached before those with these numbers stay as they were
-pub earlier_stay : (v u w : World) (n : ℕ) (numbers : List ℕ) → AreKept v u → (a : ℕ) → v.reached ≤ a → numbers ≡ range_with_len a n → ((k : ℕ) → In k numbers ⊎ (w.place k ≡ u.place k)) → AreKept v w
+pub earlier_stay : (v u w : World) (n : ℕ) (numbers : List ℕ) → AreKept v u → (a : ℕ) → v.reached ≤ a → numbers ≡ range_with_len a n
+    → ((k : ℕ) → In k numbers ⊎ (w.place k ≡ u.place k)) → AreKept v w
 earlier_stay v u w n numbers stays a le are others q lt = kept (others q)
   where
     kept : In q numbers ⊎ (w.place q ≡ u.place q) → w.place q ≡ v.place q
@@ -48,7 +49,8 @@ earlier_stay v u w n numbers stays a le are others q lt = kept (others q)
 
 pub source_run : (most : ℕ) (s : PlainSource) (v u w : World) (n : ℕ) (numbers : List ℕ) → ReadsSource most s v → v.reached ≡ first_place s → AreKept v u
     → numbers ≡ range_with_len v.reached n → ((k : ℕ) → In k numbers ⊎ (w.place k ≡ u.place k)) → ReadsSource most s w
-source_run most s v u w n numbers within first stays are others = source_stays most s v w within first (earlier_stay v u w n numbers stays v.reached (le_refl v.reached) are others)
+source_run most s v u w n numbers within first stays are others =
+    source_stays most s v w within first (earlier_stay v u w n numbers stays v.reached (le_refl v.reached) are others)
 
 -- nothing is read of the places just reached
 pub all_unread : (files : List (List ℕ)) (old new : World) (numbers : List ℕ) → AreFresh files old new → new.reached ≡ old.reached + length files
@@ -66,11 +68,13 @@ let_through : (b : Bool) (x y : Place) → b ≡ true → (cond b x y).contents 
 let_through b x y is = ap (λ t. (cond t x y).contents) is
 
 -- the same by names that are the same and by the same words
-pub carried : (P : List (List ℕ) → Given → Type 0) (a b : List (List ℕ)) (ws vs : List Word) → a ≡ b → ws ≡ vs → P a (map plain_given ws) → P b (map plain_given vs)
+pub carried : (P : List (List ℕ) → Given → Type 0) (a b : List (List ℕ)) (ws vs : List Word) → a ≡ b → ws ≡ vs → P a (map plain_given ws)
+    → P b (map plain_given vs)
 carried P a b ws vs names words h = subst (λ x. P x (map plain_given vs)) names (subst (λ (y : List Word). P a (map plain_given y)) words h)
 
 -- the files as they are reached
-pub refs_are : (refs refs' : List (Bor (List ℕ))) (files : List (List ℕ)) → refs ≡ refs' → map (λ file. file.now) refs' ≡ files → map (λ file. file.now) refs ≡ files
+pub refs_are : (refs refs' : List (Bor (List ℕ))) (files : List (List ℕ)) → refs ≡ refs' → map (λ file. file.now) refs' ≡ files
+    → map (λ file. file.now) refs ≡ files
 refs_are refs refs' files same is = ap (map (λ (file : Bor (List ℕ)). file.now)) same ∙ is
 
 pub refs_long : (refs : List (Bor (List ℕ))) (files : List (List ℕ)) → map (λ file. file.now) refs ≡ files → length refs ≡ length files
@@ -86,12 +90,18 @@ pub record Reached (free : List (List ℕ)) (given : Given) (v u : World) (numbe
   pub reached : u.reached ≡ v.reached + length (files_for free given)
   pub numbers_are : numbers ≡ range_with_len v.reached (length (files_for free given))
 
-pub reached_of : (free : List (List ℕ)) (given : Given) (refs refs' : List (Bor (List ℕ))) (v u : World) (numbers : List ℕ) → refs ≡ refs' → map (λ file. file.now) refs' ≡ files_for free given
-    → AreFresh (map (λ file. file.now) refs) v u → u.reached ≡ v.reached + length refs → numbers ≡ range_with_len v.reached (length refs) → Reached free given v u numbers
+pub reached_of : (free : List (List ℕ)) (given : Given) (refs refs' : List (Bor (List ℕ))) (v u : World) (numbers : List ℕ) → refs ≡ refs'
+    → map (λ file. file.now) refs' ≡ files_for free given
+    → AreFresh (map (λ file. file.now) refs) v u → u.reached ≡ v.reached + length refs → numbers ≡ range_with_len v.reached (length refs)
+    → Reached free given v u numbers
 reached_of free given refs refs' v u numbers same are fresh reached numbers_are =
     let files : map (λ file. file.now) refs ≡ files_for free given = refs_are refs refs' (files_for free given) same are in
     let long : length refs ≡ length (files_for free given) = refs_long refs (files_for free given) files in
-    record { fresh = subst (λ fs. AreFresh fs v u) files fresh; reached = omega (arith, reached, long); numbers_are = numbers_are ∙ ap (range_with_len v.reached) long }
+    record {
+      fresh = subst (λ fs. AreFresh fs v u) files fresh;
+      reached = omega (arith, reached, long);
+      numbers_are = numbers_are ∙ ap (range_with_len v.reached) long;
+    }
 
 -- what the places tell of the inputs before the run, told from the files
 told_before : (c : Call) (w : PlainWords) (p : Program) (free : List (List ℕ)) (v u : World) → v.reached ≡ first_input w → KeepsNames c.before v
@@ -108,10 +118,12 @@ told_before c w p free v u first kept fresh reached k q at =
     let back : q - first_input w ≡ k = omega (arith, here.0) in
     let place : IsFresh (v.holds file) (u.place (v.reached + k)) = fresh k file (slice_get-get_or files k [] below) (omega (arith, below, reached)) in
     let name : unwrap_or (slice_get files (q - first_input w)) [] ≡ file = ap (λ j. unwrap_or (slice_get files j) []) back ∙ unwrap_or-slice_get files k [] in
-    ap (λ n. option_map unread (c.before.holds n)) name ∙ ap (option_map unread) (sym (kept.names file)) ∙ sym place.contents ∙ ap (λ n. (u.place n).contents) (sym at_place)
+    ap (λ n. option_map unread (c.before.holds n)) name ∙ ap (option_map unread) (sym (kept.names file)) ∙ sym place.contents
+    ∙ ap (λ n. (u.place n).contents) (sym at_place)
 
 -- the command's own view of its inputs tells the same as their places
-pub tells_alike : (c : Call) (w : PlainWords) (p : Program) (free : List (List ℕ)) (v u : World) → v.reached ≡ first_input w → KeepsNames c.before v → KeepsNames v u
+pub tells_alike : (c : Call) (w : PlainWords) (p : Program) (free : List (List ℕ)) (v u : World) → v.reached ≡ first_input w → KeepsNames c.before v
+    → KeepsNames v u
     → AreFresh (files_for free w.given) v u → u.reached ≡ v.reached + length (files_for free w.given) → c.after.reached ≡ u.reached → u.faults ≤ c.after.faults
     → TellAlike (input_places (record { words = w; program = p; inputs = free })) u c.after
     (world_before c (record { words = w; program = p; inputs = free })) (world_after c (record { words = w; program = p; inputs = free }))
@@ -121,7 +133,8 @@ tells_alike c w p free v u first kept kept' fresh reached same mono = record {
       let here = in_range (first_input w) (length free) k q at in
       let long : length (files_for free w.given) ≡ length free = files_long free w.given in
       let lt : q < c.after.reached = omega (arith, here.0, here.1, long, first, reached, same) in
-      let_through (nat_lt q c.after.reached) (c.after.place q) (unread_place c (record { words = w; program = p; inputs = free }) q) (lt-ltb q c.after.reached lt);
+      let_through (nat_lt q c.after.reached) (c.after.place q) (unread_place c (record { words = w; program = p; inputs = free }) q)
+      (lt-ltb q c.after.reached lt);
   faults = λ rises. rises_from c.before.faults u.faults c.after.faults (omega (arith, kept.faults, kept'.faults)) mono rises;
 }
 
@@ -155,7 +168,8 @@ run_with w p names = record { words = w; program = p; inputs = names }
 pub one_run : {v w : PlainWords} (p : Program) {f g : List (List ℕ)} → v ≡ w → f ≡ g → run_with v p f ≡ run_with w p g
 one_run p a b = cc (a, b)
 
-pub runs : (c : Call) (w : PlainWords) (t : Table) (v u : World) (numbers : List ℕ) (o : Outcome) → RunsTable c w t v → FitsGiven t.inputs w.given → Ended c w t v u numbers o → Comes c o
+pub runs : (c : Call) (w : PlainWords) (t : Table) (v u : World) (numbers : List ℕ) (o : Outcome) → RunsTable c w t v → FitsGiven t.inputs w.given
+    → Ended c w t v u numbers o → Comes c o
 runs c w t v u numbers o b fits e =
     let p : Program = program_in b.program in
     let words : (asks_for b.program).words ≡ w = words_of c w t v b in
@@ -173,11 +187,20 @@ runs c w t v u numbers o b fits e =
     let few = e.few in
     let reached = places_of_table c w t v b fits in
     let ran : RanSo p (view_of c (run_with w p t.inputs)) o =
-    ran_alike w t.inputs (range_with_len (first_input w) (length t.inputs)) u c.after (world_before c (run_with w p t.inputs)) (world_after c (run_with w p t.inputs)) c.out_before c.out_after alike p o seen in
+    ran_alike w t.inputs (range_with_len (first_input w) (length t.inputs)) u c.after (world_before c (run_with w p t.inputs))
+    (world_after c (run_with w p t.inputs)) c.out_before c.out_after alike p o seen in
     let only : RunComesOnly (run_of r).words (run_of r).inputs u.faults c.after.faults c.out_before.faults c.out_after.faults o =
     subst (λ (x : Run). RunComesOnly x.words x.inputs u.faults c.after.faults c.out_before.faults c.out_after.faults o) same e.only in
     record {
       only = run_only c r u o (omega (arith, b.kept.faults, e.kept_on.faults)) e.faults only;
-      how = inr (inl (r, b.made, subst (λ (x : Run). RanSo x.program (view_of c x) o) same ran, omega (arith, e.same_reached, e.inputs.reached, long, first, reached)));
+      how =
+          inr
+          (inl (
+            r,
+            b.made,
+            subst (λ (x : Run). RanSo x.program (view_of c x) o) same ran,
+            omega
+                (arith, e.same_reached, e.inputs.reached, long, first, reached),
+          ));
       few_places = omega (arith, e.same_reached, e.inputs.reached, long, few, first, one);
     }

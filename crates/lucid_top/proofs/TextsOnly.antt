@@ -39,7 +39,8 @@ no_file : (o : Option Text) (name : Text) → is_some o ≡ false → check_for 
 no_file None name none is = let same : [] ≡ name = cc is in ap (λ (l : Text). not (nat_eq (length l) 0)) (sym same)
 no_file (Some text) name none is = absurd (cc none)
 
-no_number : (o : Option Row) (f : Text → Option ℕ) → is_some (option_and_then (λ (r : Row). slice_get r.values 0) o) ≡ false → is_some (option_and_then f (option_and_then row_text o)) ≡ false
+no_number : (o : Option Row) (f : Text → Option ℕ) → is_some (option_and_then (λ (r : Row). slice_get r.values 0) o) ≡ false
+    → is_some (option_and_then f (option_and_then row_text o)) ≡ false
 no_number None f none = refl
 no_number (Some r) f none = by (slice_get r.values 0) none
   where
@@ -49,7 +50,8 @@ no_number (Some r) f none = by (slice_get r.values 0) none
 
 -- where no option asks for something else, a run is asked for
 run_by : (print empty cycles why check flat : Bool) → print ≡ false → empty ≡ true → cycles ≡ false → why ≡ false → check ≡ false → flat ≡ false
-    → cond print task.Print (cond (not empty) task.Columns (cond cycles task.Cycles (cond why task.Why (cond check task.Check (cond flat task.Flat task.Run))))) ≡ task.Run
+    → cond print task.Print (cond (not empty) task.Columns
+    (cond cycles task.Cycles (cond why task.Why (cond check task.Check (cond flat task.Flat task.Run))))) ≡ task.Run
 run_by print empty cycles why check flat a b c d e f = rw (a, b, c, d, e, f) refl
 
 -- the words that rows ask for, where the rows name a source in the flat form
@@ -70,7 +72,8 @@ flat_runs rows w is from_flat =
     let f : Bool = is_set (codes "flat") rows in
     let g : Bool = is_set (codes "from-flat") rows in
     let here : ones g ≡ 1 = ap (λ (x : PlainWords). ones x.from_flat) same ∙ ap ones from_flat in
-    let few : 0 + ones p + ones c + ones y + ones k + ones h + ones f + ones g ≤ 1 = at_most_one (0 + ones p + ones c + ones y + ones k + ones h + ones f + ones g) (left_of _ _ free.0) in
+    let few : 0 + ones p + ones c + ones y + ones k + ones h + ones f + ones g ≤ 1 =
+    at_most_one (0 + ones p + ones c + ones y + ones k + ones h + ones f + ones g) (left_of _ _ free.0) in
     let print : w.print ≡ false = ap (λ (x : PlainWords). x.print) (sym same) ∙ not_given p (omega (arith, here, few)) in
     let empty : nat_eq (length w.columns) 0 ≡ true =
     ap (λ (x : PlainWords). nat_eq (length x.columns) 0) (sym same) ∙ no_list (first_of (codes "columns") rows) columns.0 (not_given c (omega (arith, here, few))) columns.1 in
@@ -90,4 +93,5 @@ flat_given (file name) false is = absurd (cc is)
 pub texts_only : (words : List Text) (w : PlainWords) → words_asked words ≡ Some w → task_of w ≢ task.Run → form_of w ≢ form.Flat
 unfolding words_asked
 texts_only words w is other = λ flat.
-    other (flat_runs (matches_of lucid_command words) w (taken (fault_of lucid_command words) (words_in (matches_of lucid_command words)) w is) (flat_given w.source w.from_flat flat))
+    other (flat_runs (matches_of lucid_command words) w (taken (fault_of lucid_command words) (words_in (matches_of lucid_command words)) w is)
+    (flat_given w.source w.from_flat flat))

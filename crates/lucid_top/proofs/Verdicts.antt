@@ -30,15 +30,18 @@ not_memory e v is none = let here : scan_stop e ≡ stop.NoMemory = ap scan_stop
 one_why : (x y : Stop) (v w : Refusal) → x ≡ stop.Refused v → y ≡ stop.Refused w → x ≡ y → v ≡ w
 one_why x y v w a b same = cc
 
-scan_scan : Laws → (source : List ℕ) (e f : ScanRefusal) (v w : Refusal) → scan_stop e ≡ stop.Refused v → scan_stop f ≡ stop.Refused w → Refuses source e → Refuses source f → v ≡ w
+scan_scan : Laws → (source : List ℕ) (e f : ScanRefusal) (v w : Refusal) → scan_stop e ≡ stop.Refused v → scan_stop f ≡ stop.Refused w → Refuses source e
+    → Refuses source f → v ≡ w
 scan_scan l source e f v w is js r s =
     let same : e ≡ f = l.scans source e f r s (not_memory e v is) (not_memory f w js) in one_why (scan_stop e) (scan_stop f) v w is js (ap scan_stop same)
 
-no_scan : Laws → (source : List ℕ) (tokens : List Token) (e : ScanRefusal) (v : Refusal) → HasTokens source tokens → scan_stop e ≡ stop.Refused v → Refuses source e → ⊥
+no_scan : Laws → (source : List ℕ) (tokens : List Token) (e : ScanRefusal) (v : Refusal) → HasTokens source tokens → scan_stop e ≡ stop.Refused v
+    → Refuses source e → ⊥
 no_scan l source tokens e v has is r = not_memory e v is (l.accepted source tokens e has.listed has.short r)
 
 -- the terminals of the same tokens
-same_terminals : Laws → (source : List ℕ) (ts us : List Token) (ws vs : List PlacedTerminal) → HasTokens source ts → HasTokens source us → Terminals source ts ws → Terminals source us vs
+same_terminals : Laws → (source : List ℕ) (ts us : List Token) (ws vs : List PlacedTerminal) → HasTokens source ts → HasTokens source us
+    → Terminals source ts ws → Terminals source us vs
     → ws ≡ vs
 same_terminals l source ts us ws vs a b x y =
     let same : us ≡ ts = l.tokens source us ts b.listed a.listed in l.terminals source ts ws vs x (subst (λ t. Terminals source t vs) same y)
@@ -69,4 +72,5 @@ one_text_refusal l source v w (by_parse e ts is x r) (by_parse f us js y s) = pa
 
 pub one_name_refusal : LeastFaultIsUnique → OneNameRefusal
 one_name_refusal least p v w made x y =
-    let same : x.fault ≡ y.fault = least p x.fault y.fault made x.least y.least in one_why (scope_stop x.fault) (scope_stop y.fault) v w x.is y.is (ap scope_stop same)
+    let same : x.fault ≡ y.fault = least p x.fault y.fault made x.least y.least in
+    one_why (scope_stop x.fault) (scope_stop y.fault) v w x.is y.is (ap scope_stop same)

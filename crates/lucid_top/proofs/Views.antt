@@ -6,11 +6,13 @@ use Rattle.lucid_session.specs.Runs.{Written, ForSomeAdded, ConsultsOverlong, On
 use Rattle.lucid_session.specs.Figures.{Counted, OnClearings}
 
 -- what is said of the input that is too large, of the time that is too deep and of clearings, weakened
-large_weaker : (result : Result Summary RunFault) (P Q : ℕ → Type 0) → ((k : ℕ) → P k → Q k) → IfErr result (λ e. OnTooLarge e P) → IfErr result (λ e. OnTooLarge e Q)
+large_weaker : (result : Result Summary RunFault) (P Q : ℕ → Type 0) → ((k : ℕ) → P k → Q k) → IfErr result (λ e. OnTooLarge e P)
+    → IfErr result (λ e. OnTooLarge e Q)
 large_weaker (Err (fault.TooLarge k)) P Q h x = h k x
 large_weaker _ P Q h x = tt
 
-deep_weaker : (result : Result Summary RunFault) (P Q : ℕ → Type 0) → ((k : ℕ) → P k → Q k) → IfErr result (λ e. OnTooDeep e P) → IfErr result (λ e. OnTooDeep e Q)
+deep_weaker : (result : Result Summary RunFault) (P Q : ℕ → Type 0) → ((k : ℕ) → P k → Q k) → IfErr result (λ e. OnTooDeep e P)
+    → IfErr result (λ e. OnTooDeep e Q)
 deep_weaker (Err (fault.TooDeep t l c)) P Q h x = h t x
 deep_weaker _ P Q h x = tt
 
@@ -33,7 +35,8 @@ module _ (w : PlainWords) (free : List (List ℕ)) (qs : List ℕ) (u v u' v' : 
   added_too : (P : ℕ → Type 0) → ForSomeAdded (viewed w free qs u v o p) P → ForSomeAdded (viewed w free qs u' v' o p) P
   added_too P x = record { added = x.added; none = x.none; holds = x.holds }
 
-  overlong_too : (S : Subject) (b : Elements) (whole k : ℕ) → ConsultsOverlong S b (viewed w free qs u v o p) whole k → ConsultsOverlong S b (viewed w free qs u' v' o p) whole k
+  overlong_too : (S : Subject) (b : Elements) (whole k : ℕ) → ConsultsOverlong S b (viewed w free qs u v o p) whole k
+      → ConsultsOverlong S b (viewed w free qs u' v' o p) whole k
   overlong_too S b whole k x = record {
     name = x.name;
     place = x.place;
@@ -46,14 +49,16 @@ module _ (w : PlainWords) (free : List (List ℕ)) (qs : List ℕ) (u v u' v' : 
   written_too : (S : Subject) (b : Elements) → Written S b (viewed w free qs u v o p) → Written S b (viewed w free qs u' v' o p)
   written_too S b x = record { whole = x.whole; within = x.within; bytes = x.bytes; output = x.output; front = x.front; begun = x.begun; written = x.written }
 
-  quiet_back : (S : Subject) (b : Elements) (whole : ℕ) → IsUndisturbed S b (viewed w free qs u' v' o p) whole → IsUndisturbed S b (viewed w free qs u v o p) whole
+  quiet_back : (S : Subject) (b : Elements) (whole : ℕ) → IsUndisturbed S b (viewed w free qs u' v' o p) whole
+      → IsUndisturbed S b (viewed w free qs u v o p) whole
   quiet_back S b whole quiet = record {
     no_read_failed = λ rises. quiet.no_read_failed (a.faults rises);
     no_write_failed = quiet.no_write_failed;
     none_overlong = λ k long. quiet.none_overlong k (overlong_too S b whole k long);
   }
 
-  ran_too : (S : Subject) (b : Elements) (result : Result Summary RunFault) → Ran S b (viewed w free qs u v o p) result → Ran S b (viewed w free qs u' v' o p) result
+  ran_too : (S : Subject) (b : Elements) (result : Result Summary RunFault) → Ran S b (viewed w free qs u v o p) result
+      → Ran S b (viewed w free qs u' v' o p) result
   unfolding written_too
   ran_too S b result x = record {
     out = written_too S b x.out;
@@ -71,11 +76,13 @@ module _ (w : PlainWords) (free : List (List ℕ)) (qs : List ℕ) (u v u' v' : 
       holds = λ d le k n q is old new before after. x.consumed.holds d le k n q is old new (sym (a.before k q is.1) ∙ before) (sym (a.after k q is.1) ∙ after);
     };
     within = λ k n q is old new before after. x.within k n q is old new (sym (a.before k q is.1) ∙ before) (sym (a.after k q is.1) ∙ after);
-    too_large = large_weaker result (ConsultsOverlong S b (viewed w free qs u v o p) x.out.whole) (ConsultsOverlong S b (viewed w free qs u' v' o p) x.out.whole)
+    too_large = large_weaker result (ConsultsOverlong S b (viewed w free qs u v o p) x.out.whole)
+        (ConsultsOverlong S b (viewed w free qs u' v' o p) x.out.whole)
         (λ k long. overlong_too S b x.out.whole k long) x.too_large;
   }
 
-  figures_too : {K E : Type 0} (C : Counted K E) (b : Elements) (result : Result Summary RunFault) → Figures C b (viewed w free qs u v o p) result → Figures C b (viewed w free qs u' v' o p) result
+  figures_too : {K E : Type 0} (C : Counted K E) (b : Elements) (result : Result Summary RunFault) → Figures C b (viewed w free qs u v o p) result
+      → Figures C b (viewed w free qs u' v' o p) result
   figures_too C b result x = record {
     held = x.held;
     deep = x.deep;

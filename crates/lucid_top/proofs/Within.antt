@@ -48,7 +48,8 @@ module _ (n : ℕ) where
   own_places (Function ps) = places_of ps
   own_places Current = []
 
-  def_lower : (at : ℕ) (x : List ℕ) (h : Defined) (t : PlainTree) → at < n → Lower (own_places h) → Lower (places t) → Lower (places_in_defs (def_before at x h t no_defs))
+  def_lower : (at : ℕ) (x : List ℕ) (h : Defined) (t : PlainTree) → at < n → Lower (own_places h) → Lower (places t)
+      → Lower (places_in_defs (def_before at x h t no_defs))
   def_lower at x Plain t lt own b = (lt, both (places t) [] b tt)
   def_lower at x (Function ps) t lt own b = (lt, both (places_of ps ++ places t) [] (both (places_of ps) (places t) own b) tt)
   def_lower at x Current t lt own b = (lt, both (places t) [] b tt)
@@ -95,13 +96,15 @@ module _ (n : ℕ) where
 
     args_lower : {ws : List PlacedTerminal} {args : PlainTrees} → SpellsArgs ws args → LowerAt ws → Lower (places_in args)
     args_lower (grammar.spells_one {x = x} sx) a = both (places x) [] (lower sx a) tt
-    args_lower (grammar.spells_more comma_at {xs = xs} {all = all} {y = y} sa sy) a = let r = back xs _ a in one_more all y (args_lower sa (front xs _ a)) (lower sy r.1)
+    args_lower (grammar.spells_more comma_at {xs = xs} {all = all} {y = y} sa sy) a = let r = back xs _ a in
+        one_more all y (args_lower sa (front xs _ a)) (lower sy r.1)
 
     defs_lower : {ws : List PlacedTerminal} {all : PlainDefs} → SpellsDefs ws all → LowerAt ws → Lower (places_in_defs all)
     defs_lower grammar.spells_none a = tt
     defs_lower (grammar.spells_def at x equals_at semicolon_at {ds = ds} {ys = ys} {all = all} {y = y} sd sy) a =
         let r = back ds _ a in def_more all at x Plain y (defs_lower sd (front ds _ a)) r.0 tt (lower sy (front ys _ r.1.1))
-    defs_lower (grammar.spells_function at x open_at close_at equals_at semicolon_at {ds = ds} {ns = ns} {ys = ys} {all = all} {parameters = ps} {y = y} sd sn sy) a =
+    defs_lower (grammar.spells_function at x open_at close_at equals_at semicolon_at {ds = ds} {ns = ns} {ys = ys} {all = all} {parameters = ps} {y = y} sd sn
+        sy) a =
         let r = back ds _ a in
         let q = back ns _ r.1.1 in
         def_more all at x (Function ps) y (defs_lower sd (front ds _ a)) r.0 (names_lower sn (front ns _ r.1.1)) (lower sy (front ys _ q.1.1))
@@ -109,7 +112,8 @@ module _ (n : ℕ) where
         let r = back ds _ a in def_more all at x Current y (defs_lower sd (front ds _ a)) r.0 tt (lower sy (front ys _ r.1.1.1))
 
   -- the terminals of bytes stand before their end
-  stand_before : {source bytes : List ℕ} {at : ℕ} {ts : List Token} {ws : List PlacedTerminal} → scan.Tokens bytes at ts → Terminals source ts ws → at + length bytes ≤ n → LowerAt ws
+  stand_before : {source bytes : List ℕ} {at : ℕ} {ts : List Token} {ws : List PlacedTerminal} → scan.Tokens bytes at ts → Terminals source ts ws
+      → at + length bytes ≤ n → LowerAt ws
   stand_before (scan.tokens_end none) terminals.terminals_none le = tt
   stand_before (scan.tokens_next {bytes = bytes} k q longest more) (terminals.terminals_next t s is others) le =
       let behind = length-drop (scan.gap bytes) bytes in

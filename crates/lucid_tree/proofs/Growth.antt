@@ -4,14 +4,17 @@ use Rattle.lucid_tree.proofs.Plans.{Keeps, run-keeps, plan-grows}
 use Rattle.lucid_tree.proofs.LevelGrowth.{Grows, approximation-up}
 
 mutual
-  pub value_at-grows : (m : ℕ) (b b' : Below Referent Position) → ((a : Aim) (s : ℕ) → Keeps (b a s) (b' a s)) → (e : PlainTree) (env : Env) (t s : ℕ) → Keeps (value_at m b e env t s) (value_at (suc m) b' e env t s)
+  pub value_at-grows : (m : ℕ) (b b' : Below Referent Position) → ((a : Aim) (s : ℕ) → Keeps (b a s) (b' a s)) → (e : PlainTree) (env : Env) (t s : ℕ)
+      → Keeps (value_at m b e env t s) (value_at (suc m) b' e env t s)
   value_at-grows m b b' h (form at f es) env t s =
-      run-keeps (plan-grows m f t s) (λ i u r. part_at m b es env i u r) (λ i u r. part_at (suc m) b' es env i u r) (λ i u r. part_at-grows m b b' h es env i u r)
+      run-keeps (plan-grows m f t s) (λ i u r. part_at m b es env i u r) (λ i u r. part_at (suc m) b' es env i u r)
+      (λ i u r. part_at-grows m b b' h es env i u r)
   value_at-grows m b b' h (name at n) env t s = h (name_target n env t) s
   value_at-grows m b b' h (call at n es) env t s = h (call_target at n es env env t) s
   value_at-grows m b b' h (block at e ds) env t s = value_at-grows m b b' h e (scope ds (frozen_at ds t) env) t s
 
-  pub part_at-grows : (m : ℕ) (b b' : Below Referent Position) → ((a : Aim) (s : ℕ) → Keeps (b a s) (b' a s)) → (es : PlainTrees) (env : Env) (i t s : ℕ) → Keeps (part_at m b es env i t s) (part_at (suc m) b' es env i t s)
+  pub part_at-grows : (m : ℕ) (b b' : Below Referent Position) → ((a : Aim) (s : ℕ) → Keeps (b a s) (b' a s)) → (es : PlainTrees) (env : Env) (i t s : ℕ)
+      → Keeps (part_at m b es env i t s) (part_at (suc m) b' es env i t s)
   part_at-grows m b b' h no_trees env i t s x e = e
   part_at-grows m b b' h (tree e es) env zero t s x d = value_at-grows m b b' h e env t s x d
   part_at-grows m b b' h (tree e es) env (suc i) t s x d = part_at-grows m b b' h es env i t s x d

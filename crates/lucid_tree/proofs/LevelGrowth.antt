@@ -16,7 +16,8 @@ last_or_less m n h = grind arith
 module _ {K X : Type 0} (value : (m : ℕ) → Below K X → X → (time space : ℕ) → Option PlainValue) where
   -- at one more, with references that have at least the values that they had, a position keeps its value
   abbrev pub Grows : Type 0
-  Grows = (m : ℕ) (b b' : Below K X) → ((a : Target K X) (s : ℕ) → Keeps (b a s) (b' a s)) → (x : X) (t s : ℕ) → Keeps (value m b x t s) (value (suc m) b' x t s)
+  Grows = (m : ℕ) (b b' : Below K X) → ((a : Target K X) (s : ℕ) → Keeps (b a s) (b' a s)) → (x : X) (t s : ℕ)
+      → Keeps (value m b x t s) (value (suc m) b' x t s)
 
   pub below-grows : Grows → (g : Given K) (m : ℕ) (a : Target K X) (s : ℕ) → Keeps (below value g m a s) (below value g (suc m) a s)
   below-grows w g zero (element_of n j) s x e = absurd (grind arith)
@@ -24,7 +25,8 @@ module _ {K X : Type 0} (value : (m : ℕ) → Below K X → X → (time space :
   below-grows w g zero nowhere s x e = e
   below-grows w g (suc m) (element_of n j) s x e = e
   below-grows w g (suc m) (goes_to k y u) s x e =
-      or_else-keeps (g.held k s) (value m (below value g m) y u s) (value (suc m) (below value g (suc m)) y u s) (w m (below value g m) (below value g (suc m)) (below-grows w g m) y u s) x e
+      or_else-keeps (g.held k s) (value m (below value g m) y u s) (value (suc m) (below value g (suc m)) y u s)
+      (w m (below value g m) (below value g (suc m)) (below-grows w g m) y u s) x e
   below-grows w g (suc m) nowhere s x e = e
 
   pub approximation-grows : Grows → (g : Given K) (m : ℕ) (x : X) (t s : ℕ) → Keeps (approximation value g m x t s) (approximation value g (suc m) x t s)

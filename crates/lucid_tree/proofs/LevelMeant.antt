@@ -16,11 +16,14 @@ module _ {K X : Type 0} (value : (m : ℕ) → Below K X → X → (time space :
   -- A position that is reached takes its value from the references there: where each value of these is one of a growing
   -- family's, so is the position's.
   abbrev pub Gathers : Type 0
-  Gathers = (m : ℕ) (b : Below K X) (bs : ℕ → Below K X) → ((n : ℕ) (a : Target K X) (s : ℕ) → Keeps (bs n a s) (bs (suc n) a s)) → ((a : Target K X) (s : ℕ) (v : PlainValue) → GoneTo a → b a s ≡ Some v → (n : ℕ) × (bs n a s ≡ Some v)) → (x : X) (t s : ℕ) (v : PlainValue) → Reached x → value m b x t s ≡ Some v → (n : ℕ) × (value n (bs n) x t s ≡ Some v)
+  Gathers = (m : ℕ) (b : Below K X) (bs : ℕ → Below K X) → ((n : ℕ) (a : Target K X) (s : ℕ) → Keeps (bs n a s) (bs (suc n) a s))
+      → ((a : Target K X) (s : ℕ) (v : PlainValue) → GoneTo a → b a s ≡ Some v → (n : ℕ) × (bs n a s ≡ Some v)) → (x : X) (t s : ℕ) (v : PlainValue) → Reached x
+      → value m b x t s ≡ Some v → (n : ℕ) × (value n (bs n) x t s ≡ Some v)
 
   module _ (grows : Grows value) (gathers : Gathers) (reaches : (k : K) (x : X) (u : ℕ) → GoneTo (goes_to k x u) → Reached x) (g : Given K)
       (held_meant : (k : K) (x : X) (u s : ℕ) (v : PlainValue) → GoneTo (goes_to k x u) → g.held k s ≡ Some v → IsMeant g.element x u s v) where
-    pub below-meant : (m : ℕ) (a : Target K X) (s : ℕ) (v : PlainValue) → GoneTo a → below value g m a s ≡ Some v → (n : ℕ) × (below value (nothing_held g.element) n a s ≡ Some v)
+    pub below-meant : (m : ℕ) (a : Target K X) (s : ℕ) (v : PlainValue) → GoneTo a → below value g m a s ≡ Some v
+        → (n : ℕ) × (below value (nothing_held g.element) n a s ≡ Some v)
     below-meant zero (element_of i j) s v a d = absurd (grind arith)
     below-meant zero (goes_to k x u) s v a d = let h = held_meant k x u s v a d in (suc h.0, h.1)
     below-meant zero nowhere s v a d = absurd (grind arith)
@@ -29,7 +32,8 @@ module _ {K X : Type 0} (value : (m : ℕ) → Below K X → X → (time space :
         elim (one_of_two (g.held k s) (value m (below value g m) x u s) v d) [
           | inl e ↦ (let h = held_meant k x u s v a e in (suc h.0, h.1))
           | inr e ↦ (
-              let h = gathers m (below value g m) (below value (nothing_held g.element)) (below-grows value grows (nothing_held g.element)) (below-meant m) x u s v (reaches k x u a) e in
+              let h = gathers m (below value g m) (below value (nothing_held g.element)) (below-grows value grows (nothing_held g.element)) (below-meant m) x u
+              s v (reaches k x u a) e in
               (suc h.0, h.1)
               )
         ]

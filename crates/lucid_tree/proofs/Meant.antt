@@ -22,19 +22,26 @@ module _ (Reached : PlainTree → Env → Type 0) (GoneTo : Aim → Type 0) (clo
   abbrev At : Position → Type 0
   At x = Reached x.tree x.env
 
-  module _ (m : ℕ) (b : Below Referent Position) (bs : ℕ → Below Referent Position) (grows : (n : ℕ) (a : Aim) (s : ℕ) → Keeps (bs n a s) (bs (suc n) a s)) (meant : (a : Aim) (s : ℕ) (v : PlainValue) → GoneTo a → b a s ≡ Some v → (n : ℕ) × (bs n a s ≡ Some v)) where
+  module _ (m : ℕ) (b : Below Referent Position) (bs : ℕ → Below Referent Position) (grows : (n : ℕ) (a : Aim) (s : ℕ) → Keeps (bs n a s) (bs (suc n) a s))
+      (meant : (a : Aim) (s : ℕ) (v : PlainValue) → GoneTo a → b a s ≡ Some v → (n : ℕ) × (bs n a s ≡ Some v)) where
     mutual
-      value_at-gathers : (e : PlainTree) (env : Env) (t s : ℕ) (v : PlainValue) → Reached e env → value_at m b e env t s ≡ Some v → (n : ℕ) × (value_at n (bs n) e env t s ≡ Some v)
+      value_at-gathers : (e : PlainTree) (env : Env) (t s : ℕ) (v : PlainValue) → Reached e env → value_at m b e env t s ≡ Some v
+          → (n : ℕ) × (value_at n (bs n) e env t s ≡ Some v)
       value_at-gathers (form at f es) env t s v a d =
           let steps = λ (n i u r : ℕ). part_at-grows n (bs n) (bs (suc n)) (grows n) es env i u r in
-          let h = run-meant (λ n i u r. part_at n (bs n) es env i u r) steps (λ i u r. part_at m b es env i u r) (λ i u r w k. part_at-gathers es env i u r w (closed.parts at f es env a) k) (plan m f t s) v d in
-          let n : ℕ = max m h.0 in
-          (n, run-keeps (plan-up m n (omega arith) f t s) (λ i u r. part_at h.0 (bs h.0) es env i u r) (λ i u r. part_at n (bs n) es env i u r) (reader-up (λ j i u r. part_at j (bs j) es env i u r) steps h.0 n (omega arith)) v h.1)
+          let h = run-meant (λ n i u r. part_at n (bs n) es env i u r) steps (λ i u r. part_at m b es env i u r)
+          (λ i u r w k. part_at-gathers es env i u r w (closed.parts at f es env a) k) (plan m f t s) v d in
+          let n : ℕ = max m h.0 in (
+            n,
+            run-keeps (plan-up m n (omega arith) f t s) (λ i u r. part_at h.0 (bs h.0) es env i u r) (λ i u r. part_at n (bs n) es env i u r)
+                (reader-up (λ j i u r. part_at j (bs j) es env i u r) steps h.0 n (omega arith)) v h.1,
+          )
       value_at-gathers (name at n) env t s v a d = meant (name_target n env t) s v (closed.names at n env t a) d
       value_at-gathers (call at n es) env t s v a d = meant (call_target at n es env env t) s v (closed.calls at n es env t a) d
       value_at-gathers (block at e ds) env t s v a d = value_at-gathers e (scope ds (frozen_at ds t) env) t s v (closed.blocks at e ds env t a) d
 
-      part_at-gathers : (es : PlainTrees) (env : Env) (i t s : ℕ) (v : PlainValue) → AllReached Reached es env → part_at m b es env i t s ≡ Some v → (n : ℕ) × (part_at n (bs n) es env i t s ≡ Some v)
+      part_at-gathers : (es : PlainTrees) (env : Env) (i t s : ℕ) (v : PlainValue) → AllReached Reached es env → part_at m b es env i t s ≡ Some v
+          → (n : ℕ) × (part_at n (bs n) es env i t s ≡ Some v)
       part_at-gathers no_trees env i t s v a d = (0, d)
       part_at-gathers (tree e es) env zero t s v a d = value_at-gathers e env t s v a.0 d
       part_at-gathers (tree e es) env (suc i) t s v a d = part_at-gathers es env i t s v a.1 d
@@ -43,6 +50,8 @@ module _ (Reached : PlainTree → Env → Type 0) (GoneTo : Aim → Type 0) (clo
   value-gathers m b bs grows meant x t s v a d = value_at-gathers m b bs grows meant x.tree x.env t s v a d
 
   -- with held values that are meant, wherever a reference can go on, each value is meant
-  pub hval-meant : (g : Given Referent) → ((k : Referent) (x : Position) (u s : ℕ) (v : PlainValue) → GoneTo (goes_to k x u) → g.held k s ≡ Some v → Means g.element x.tree x.env u s v) → (m : ℕ) (e : PlainTree) (env : Env) (t s : ℕ) (v : PlainValue) → Reached e env → hval g m e env t s ≡ Some v → Means g.element e env t s v
+  pub hval-meant : (g : Given Referent) → ((k : Referent) (x : Position) (u s : ℕ) (v : PlainValue) → GoneTo (goes_to k x u) → g.held k s ≡ Some v
+      → Means g.element x.tree x.env u s v) → (m : ℕ) (e : PlainTree) (env : Env) (t s : ℕ) (v : PlainValue) → Reached e env → hval g m e env t s ≡ Some v
+      → Means g.element e env t s v
   hval-meant g held_meant m e env t s v a d =
       approximation-meant value At GoneTo value-grows value-gathers closed.ends g held_meant m (record { tree = e; env = env }) t s v a d

@@ -88,8 +88,11 @@ stands_at x (y ∷ xs) (suc i) within is = inr (stands_at x xs i (omega (arith, 
 -- another item behind different ones
 pub one_more-differs : {A : Type 0} (x : A) (xs : List A) → (In x xs → ⊥) → AllDiffer xs → AllDiffer (xs ++ x ∷ [])
 one_more-differs x [] h d = ((λ q. q), tt)
-one_more-differs x (y ∷ xs) h d =
-    ((λ q. elim (in_either y xs (x ∷ []) q) [ inl r ↦ d.0 r | inr r ↦ elim r [ inl e ↦ h (inl (sym e)) | inr z ↦ z ] ]), one_more-differs x xs (λ q. h (inr q)) d.1)
+one_more-differs x (y ∷ xs) h d = (
+  (λ q. elim (in_either y xs (x ∷ []) q) [ inl r ↦ d.0 r | inr r ↦ elim r [ inl e ↦ h (inl (sym e)) | inr z ↦ z ] ]),
+  one_more-differs x xs (λ q. h (inr q))
+      d.1,
+)
 
 module _ {A : Type 0} where
   -- the list without the item, which it has

@@ -22,12 +22,15 @@ add_value-keeps None o' r r' h hs x e = absurd (grind arith)
 add_value-keeps (Some v) o' None r' h hs x e = absurd (grind arith)
 add_value-keeps (Some v) o' (Some vs) r' h hs x e = rw (h v refl, hs vs refl) e
 
-pub all_values-keeps : (p p' : Reader (Option PlainValue)) → ((i t s : ℕ) → Keeps (p i t s) (p' i t s)) → (ls : List Look) → Keeps (all_values p ls) (all_values p' ls)
+pub all_values-keeps : (p p' : Reader (Option PlainValue)) → ((i t s : ℕ) → Keeps (p i t s) (p' i t s)) → (ls : List Look)
+    → Keeps (all_values p ls) (all_values p' ls)
 all_values-keeps p p' h [] x e = e
 all_values-keeps p p' h (l ∷ ls) x e =
-    add_value-keeps (p l.part l.time l.space) (p' l.part l.time l.space) (all_values p ls) (all_values p' ls) (h l.part l.time l.space) (all_values-keeps p p' h ls) x e
+    add_value-keeps (p l.part l.time l.space) (p' l.part l.time l.space) (all_values p ls) (all_values p' ls) (h l.part l.time l.space)
+    (all_values-keeps p p' h ls) x e
 
-pub with_values-keeps : (o o' : Option (List PlainValue)) (f f' : List PlainValue → Option PlainValue) → Keeps o o' → ((vs : List PlainValue) → Keeps (f vs) (f' vs)) → Keeps (with_values o None f) (with_values o' None f')
+pub with_values-keeps : (o o' : Option (List PlainValue)) (f f' : List PlainValue → Option PlainValue) → Keeps o o'
+    → ((vs : List PlainValue) → Keeps (f vs) (f' vs)) → Keeps (with_values o None f) (with_values o' None f')
 with_values-keeps None o' f f' h hf x e = absurd (grind arith)
 with_values-keeps (Some vs) o' f f' h hf x e = rw (h vs refl) (hf vs x e)
 
@@ -35,7 +38,8 @@ pub run-keeps : {p q : Plan} → Within p q → (r r' : Reader (Option PlainValu
 run-keeps from_nothing r r' h x e = absurd (grind arith)
 run-keeps same_value r r' h x e = e
 run-keeps (same_looks {ls = ls} {k = k} {k' = k'} w) r r' h x e =
-    with_values-keeps (all_values r ls) (all_values r' ls) (λ vs. run (k vs) r) (λ vs. run (k' vs) r') (all_values-keeps r r' h ls) (λ vs. run-keeps (w vs) r r' h) x e
+    with_values-keeps (all_values r ls) (all_values r' ls) (λ vs. run (k vs) r) (λ vs. run (k' vs) r') (all_values-keeps r r' h ls)
+    (λ vs. run-keeps (w vs) r r' h) x e
 
 pub by_test-within : (v : PlainValue) {p p' q q' : Plan} → Within p p' → Within q q' → Within (by_test v p q) (by_test v p' q')
 by_test-within (truth true) a b = a
@@ -54,7 +58,10 @@ single-within f f' h (v ∷ vs) = h v
 pub find-grows : (left j n s : ℕ) → Within (find_true left j n s) (find_true (suc left) j n s)
 find-grows zero j n s = from_nothing
 find-grows (suc left) j n s =
-    same_looks (single-within _ _ (λ v. by_test-within v (at_zero-within n (gives_part 0 j s) (λ k. find_true left (suc j) k s) (λ k. find_true (suc left) (suc j) k s) (λ k. find-grows left (suc j) k s)) (find-grows left (suc j) n s)))
+    same_looks
+    (single-within _ _
+    (λ v. by_test-within v (at_zero-within n (gives_part 0 j s) (λ k. find_true left (suc j) k s) (λ k. find_true (suc left) (suc j) k s)
+    (λ k. find-grows left (suc j) k s)) (find-grows left (suc j) n s)))
 
 pub if-within : (b b' : Bool) (p : Plan) → (b ≡ true → b' ≡ true) → Within (if b then p else nothing) (if b' then p else nothing)
 if-within true b' p h = rw (h refl) (within_itself p)

@@ -25,7 +25,8 @@ before_none [] = refl
 before_none (d ∷ ds) = ap (one_def d) (before_none ds)
 
 pub rights_more : (d : Def) (es : PlainDefs) → rights (one_def d es) ≡ right_of d.kind ∷ rights es
-rights_more d es = elim d.kind as (λ k. rights (one_def (record d { kind = k }) es) ≡ right_of k ∷ rights es) [ Plain e ↦ refl | Function ps ats e ↦ refl | Current e ↦ refl ]
+rights_more d es = elim d.kind as (λ k. rights (one_def (record d { kind = k }) es) ≡ right_of k ∷ rights es)
+    [ Plain e ↦ refl | Function ps ats e ↦ refl | Current e ↦ refl ]
 
 -- The place of a node is no matter to its parts.
 pub parts_anywhere : (k : Kind) (at : ℕ) → parts_of (tree_of at k) ≡ parts_of (tree_of 0 k)

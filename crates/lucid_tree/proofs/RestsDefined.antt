@@ -43,7 +43,8 @@ module _ (M : Look → PlainValue → Type 0) (r : Reader (Option PlainValue)) (
       one_defined ls q.1 q.3 l i
 
   -- and each look that stands next
-  pub next_defined : (p : Plan) (ls : List Look) (k : List PlainValue → Plan) (x : PlainValue) → LeadsTo M p (looks ls k) → run p r ≡ Some x → (l : Look) → In l ls → (v : PlainValue) × Reads r l v
+  pub next_defined : (p : Plan) (ls : List Look) (k : List PlainValue → Plan) (x : PlainValue) → LeadsTo M p (looks ls k) → run p r ≡ Some x → (l : Look)
+      → In l ls → (v : PlainValue) × Reads r l v
   next_defined p ls k x a h l i =
       let t = defined (all_values r ls) (λ ws. run (k ws) r) x (rest_defined p (looks ls k) x a h) in
       one_defined ls t.0 t.1 l i

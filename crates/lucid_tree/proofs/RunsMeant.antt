@@ -18,7 +18,8 @@ plan-up m (suc n) h f t s =
       | inr z ↦ subst (λ k. Within (plan m f t s) (plan k f t s)) z (within_itself (plan m f t s))
     ]
 
-both_added : (o : Option PlainValue) (r : Option (List PlainValue)) (v : PlainValue) (vs : List PlainValue) → o ≡ Some v → r ≡ Some vs → add_value o r ≡ Some (v ∷ vs)
+both_added : (o : Option PlainValue) (r : Option (List PlainValue)) (v : PlainValue) (vs : List PlainValue) → o ≡ Some v → r ≡ Some vs
+    → add_value o r ≡ Some (v ∷ vs)
 both_added o r v vs e f = rw (e, f) refl
 
 -- some reader of the family gives the value

@@ -14,7 +14,13 @@ pub record CountedOn (o : Option ℕ) (v : Option PlainValue) (n : ℕ) : Type 0
 
 pub counted_on : (o : Option ℕ) (v : Option PlainValue) (n : ℕ) → count_on o v ≡ Some n → CountedOn o v n
 counted_on None v n e = absurd (cc)
-counted_on (Some k) (Some (truth true)) n e = record { before = k; truth_is = true; had = refl; value = refl; now = inl (refl, let x : suc k ≡ n = cc in sym x) }
+counted_on (Some k) (Some (truth true)) n e = record {
+  before = k;
+  truth_is = true;
+  had = refl;
+  value = refl;
+  now = inl (refl, let x : suc k ≡ n = cc in sym x);
+}
 counted_on (Some k) (Some (truth false)) n e = record { before = k; truth_is = false; had = refl; value = refl; now = inr (refl, let x : k ≡ n = cc in sym x) }
 counted_on (Some k) _ n e = absurd (cc)
 
@@ -23,7 +29,8 @@ pub count-keeps : (f g : ℕ → Option PlainValue) → ((u : ℕ) → Keeps (f 
 count-keeps f g h zero n e = e
 count-keeps f g h (suc j) n e =
     let c = counted_on (count_below f j) (f j) n e in
-    rw (count-keeps f g h j c.before c.had, h j (truth c.truth_is) c.value) (sym (ap (λ o. count_on o (f j)) c.had ∙ ap (λ o. count_on (Some c.before) o) c.value) ∙ e)
+    rw (count-keeps f g h j c.before c.had, h j (truth c.truth_is) c.value)
+    (sym (ap (λ o. count_on o (f j)) c.had ∙ ap (λ o. count_on (Some c.before) o) c.value) ∙ e)
 
 -- all that was counted are truths
 pub counted_truth : (f : ℕ → Option PlainValue) (j n : ℕ) → count_below f j ≡ Some n → (u : ℕ) → u < j → (b : Bool) × (f u ≡ Some (truth b))
@@ -52,7 +59,8 @@ module _ (M : Look → PlainValue → Type 0) (f : ℕ → Option PlainValue) (m
   on_true j n lt le h a =
       let left : m - j ≡ suc (m - suc j) = omega (arith, lt) in
       let more : t - n ≡ suc (t - suc n) = omega (arith, le) in
-      and_then (truth true ∷ []) (subst (λ q. LeadsTo M (find_true m 0 t s) (find_true (suc (m - suc j)) j q s)) more (subst (λ q. LeadsTo M (find_true m 0 t s) (find_true q j (t - n) s)) left a)) (h, tt)
+      and_then (truth true ∷ []) (subst (λ q. LeadsTo M (find_true m 0 t s) (find_true (suc (m - suc j)) j q s)) more
+      (subst (λ q. LeadsTo M (find_true m 0 t s) (find_true q j (t - n) s)) left a)) (h, tt)
 
   on_false : (j n : ℕ) → j < m → M (test_look j s (suc j)) (truth false) → StandsAt j n → StandsAt (suc j) n
   on_false j n lt h a =
@@ -64,9 +72,11 @@ module _ (M : Look → PlainValue → Type 0) (f : ℕ → Option PlainValue) (m
   past j k n le a =
       let here : m - j ≡ 0 = omega (arith, le) in
       let there : 0 ≡ m - suc j = omega (arith, le) in
-      subst (λ q. LeadsTo M (find_true m 0 t s) (find_true q (suc j) (t - n) s)) there (subst (λ q. LeadsTo M (find_true m 0 t s) (find_true q j (t - k) s)) here a)
+      subst (λ q. LeadsTo M (find_true m 0 t s) (find_true q (suc j) (t - n) s)) there
+      (subst (λ q. LeadsTo M (find_true m 0 t s) (find_true q j (t - k) s)) here a)
 
-  on_by : (j k n : ℕ) (b : Bool) → n ≤ t → M (test_look j s (suc j)) (truth b) → ((b ≡ true) × (n ≡ suc k)) ⊎ ((b ≡ false) × (n ≡ k)) → StandsAt j k → (j < m) ⊎ (m ≤ j) → StandsAt (suc j) n
+  on_by : (j k n : ℕ) (b : Bool) → n ≤ t → M (test_look j s (suc j)) (truth b) → ((b ≡ true) × (n ≡ suc k)) ⊎ ((b ≡ false) × (n ≡ k)) → StandsAt j k
+      → (j < m) ⊎ (m ≤ j) → StandsAt (suc j) n
   on_by j k n b le h c a (inr g) = past j k n g a
   on_by j k n b le h (inl e) a (inl g) =
       subst (λ q. StandsAt (suc j) q) (sym e.1)
@@ -96,20 +106,24 @@ module _ (M : Look → PlainValue → Type 0) (f : ℕ → Option PlainValue) (t
   abbrev pub CountsAt : (j n : ℕ) → Type 0
   CountsAt j n = LeadsTo M (count_true t 0 0 s l) (count_true (t - j) j n s l)
 
-  count_by : (j k n : ℕ) (b : Bool) → j < t → M (test_look j s l) (truth b) → ((b ≡ true) × (n ≡ suc k)) ⊎ ((b ≡ false) × (n ≡ k)) → CountsAt j k → CountsAt (suc j) n
+  count_by : (j k n : ℕ) (b : Bool) → j < t → M (test_look j s l) (truth b) → ((b ≡ true) × (n ≡ suc k)) ⊎ ((b ≡ false) × (n ≡ k)) → CountsAt j k
+      → CountsAt (suc j) n
   count_by j k n b lt h (inl e) a =
       let left : t - j ≡ suc (t - suc j) = omega (arith, lt) in
-      subst (λ q. CountsAt (suc j) q) (sym e.1) (and_then (truth true ∷ []) (subst (λ q. LeadsTo M (count_true t 0 0 s l) (count_true q j k s l)) left a) (subst (λ q. M (test_look j s l) (truth q)) e.0 h, tt))
+      subst (λ q. CountsAt (suc j) q) (sym e.1) (and_then (truth true ∷ []) (subst (λ q. LeadsTo M (count_true t 0 0 s l) (count_true q j k s l)) left a)
+      (subst (λ q. M (test_look j s l) (truth q)) e.0 h, tt))
   count_by j k n b lt h (inr e) a =
       let left : t - j ≡ suc (t - suc j) = omega (arith, lt) in
-      subst (λ q. CountsAt (suc j) q) (sym e.1) (and_then (truth false ∷ []) (subst (λ q. LeadsTo M (count_true t 0 0 s l) (count_true q j k s l)) left a) (subst (λ q. M (test_look j s l) (truth q)) e.0 h, tt))
+      subst (λ q. CountsAt (suc j) q) (sym e.1) (and_then (truth false ∷ []) (subst (λ q. LeadsTo M (count_true t 0 0 s l) (count_true q j k s l)) left a)
+      (subst (λ q. M (test_look j s l) (truth q)) e.0 h, tt))
 
   -- a counted time up to t is reached
   pub counting_leads : (j n : ℕ) → Answered M f (λ u. l) s j → count_below f j ≡ Some n → j ≤ t → CountsAt j n
   counting_leads zero n h e le =
       let none : 0 ≡ n = cc in
       let whole : t ≡ t - 0 = omega arith in
-      subst (λ q. LeadsTo M (count_true t 0 0 s l) (count_true (t - 0) 0 q s l)) none (subst (λ q. LeadsTo M (count_true t 0 0 s l) (count_true q 0 0 s l)) whole at_start)
+      subst (λ q. LeadsTo M (count_true t 0 0 s l) (count_true (t - 0) 0 q s l)) none
+      (subst (λ q. LeadsTo M (count_true t 0 0 s l) (count_true q 0 0 s l)) whole at_start)
   counting_leads (suc j) n h e le =
       let c = counted_on (count_below f j) (f j) n e in
       count_by j c.before n c.truth_is (omega (arith, le)) (h j c.truth_is (omega arith) c.value) c.now
@@ -125,10 +139,12 @@ either_way M true p q a = a
 either_way M false p q a = at_start
 
 -- A search stands at a counted time after looks that were answered.
-pub search_leads : (M : Look → PlainValue → Type 0) (stream : ℕ → Option PlainValue) (f : Head) (m j n t s : ℕ) → Answered M stream (least_of f t) s j → CanStandAt f j n t → count_below stream j ≡ Some n → LeadsTo M (plan m f t s) (rest_at f m j n t s)
+pub search_leads : (M : Look → PlainValue → Type 0) (stream : ℕ → Option PlainValue) (f : Head) (m j n t s : ℕ) → Answered M stream (least_of f t) s j
+    → CanStandAt f j n t → count_below stream j ≡ Some n → LeadsTo M (plan m f t s) (rest_at f m j n t s)
 search_leads M stream whenever m j n t s h c e = finding_leads M stream m t s j n h e c
 search_leads M stream asa m j n t s h c e = finding_leads M stream m 0 s j n h e (omega (arith, c))
-search_leads M stream upon m j n t s h c e = either_way M (nat_le t m) (count_true t 0 0 s t) (count_true (t - j) j n s t) (counting_leads M stream t s t j n h e c)
+search_leads M stream upon m j n t s h c e = either_way M (nat_le t m) (count_true t 0 0 s t) (count_true (t - j) j n s t)
+    (counting_leads M stream t s t j n h e c)
 search_leads M stream _ m j n t s h c e = at_start
 
 less_none : (n : ℕ) → n - 0 ≡ n

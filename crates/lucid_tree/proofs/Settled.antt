@@ -52,7 +52,9 @@ all_arguments m (suc n) i t s = one_taken (zero_le m) (all_arguments m n (suc i)
 takes_find : (m left j n s : ℕ) → left + j ≤ m → Takes m (find_true left j n s)
 takes_find m zero j n s h = takes_nothing
 takes_find m (suc left) j n s h =
-    takes_look m 1 j s (suc j) _ (grind (arith, nat_tests)) (λ v. takes_test m v _ _ (takes_zero m n (gives_part 0 j s) (λ k. find_true left (suc j) k s) (takes_part m 0 j s) (λ k. takes_find m left (suc j) k s (omega arith))) (takes_find m left (suc j) n s (omega arith)))
+    takes_look m 1 j s (suc j) _ (grind (arith, nat_tests))
+    (λ v. takes_test m v _ _ (takes_zero m n (gives_part 0 j s) (λ k. find_true left (suc j) k s) (takes_part m 0 j s)
+    (λ k. takes_find m left (suc j) k s (omega arith))) (takes_find m left (suc j) n s (omega arith)))
 
 takes_count : (m left j n s l : ℕ) → nat_le l m ≡ true → Takes m (count_true left j n s l)
 takes_count m zero j n s l h = takes_part m 0 n s
@@ -79,13 +81,16 @@ takes_plan m sby t s = takes_zero m s (gives_part 0 t 0) (λ r. gives_part 1 t r
 takes_plan m _ t s = takes_look m 1 t s 0 _ (zero_le m) (λ y. takes_place m y _ (λ n. takes_part m 0 _ _))
 
 -- both are there where the list is
-pub added : (o : Option PlainValue) (r : Option (List PlainValue)) (vs : List PlainValue) → add_value o r ≡ Some vs → (v : PlainValue) × (ws : List PlainValue) × (o ≡ Some v) × (r ≡ Some ws)
+pub added : (o : Option PlainValue) (r : Option (List PlainValue)) (vs : List PlainValue) → add_value o r ≡ Some vs
+    → (v : PlainValue) × (ws : List PlainValue) × (o ≡ Some v) × (r ≡ Some ws)
 added None r vs e = absurd (grind arith)
 added (Some v) None vs e = absurd (grind arith)
 added (Some v) (Some ws) vs e = (v, ws, refl, refl)
 
 -- where every look has a value, and what has a value sees the same, both see the same
-gather-same : {A : Type 0} (m n : ℕ) (d : Reader (Option PlainValue)) (see see' : Reader (List A)) → TakesMore m n → ((i t s : ℕ) (v : PlainValue) → d i t s ≡ Some v → see i t s ≡ see' i t s) → (ls : List Look) → AllTaken m ls → (vs : List PlainValue) → all_values d ls ≡ Some vs → gather m see ls ≡ gather n see' ls
+gather-same : {A : Type 0} (m n : ℕ) (d : Reader (Option PlainValue)) (see see' : Reader (List A)) → TakesMore m n
+    → ((i t s : ℕ) (v : PlainValue) → d i t s ≡ Some v → see i t s ≡ see' i t s) → (ls : List Look) → AllTaken m ls → (vs : List PlainValue)
+    → all_values d ls ≡ Some vs → gather m see ls ≡ gather n see' ls
 gather-same m n d see see' up h [] f vs e = refl
 gather-same m n d see see' up h (l ∷ ls) (one_taken a f) vs e =
     let p = added (d l.part l.time l.space) (all_values d ls) vs e in
@@ -94,12 +99,15 @@ gather-same m n d see see' up h (l ∷ ls) (one_taken a f) vs e =
     rw (a, up l.least a, here, rest) refl
 
 -- a plan that looks has a value only where its looks have
-pub defined : (o : Option (List PlainValue)) (f : List PlainValue → Option PlainValue) (v : PlainValue) → with_values o None f ≡ Some v → (vs : List PlainValue) × (o ≡ Some vs) × (f vs ≡ Some v)
+pub defined : (o : Option (List PlainValue)) (f : List PlainValue → Option PlainValue) (v : PlainValue) → with_values o None f ≡ Some v
+    → (vs : List PlainValue) × (o ≡ Some vs) × (f vs ≡ Some v)
 defined None f v e = absurd (grind arith)
 defined (Some vs) f v e = (vs, refl, e)
 
 -- where a plan has a value, and what has a value sees the same, a plan that goes on further sees the same
-pub trace-same : {A : Type 0} (m n : ℕ) {p q : Plan} → Within p q → Takes m p → (d d' : Reader (Option PlainValue)) (see see' : Reader (List A)) → TakesMore m n → ((i t s : ℕ) → Keeps (d i t s) (d' i t s)) → ((i t s : ℕ) (v : PlainValue) → d i t s ≡ Some v → see i t s ≡ see' i t s) → (v : PlainValue) → run p d ≡ Some v → trace m p d see ≡ trace n q d' see'
+pub trace-same : {A : Type 0} (m n : ℕ) {p q : Plan} → Within p q → Takes m p → (d d' : Reader (Option PlainValue)) (see see' : Reader (List A)) → TakesMore m n
+    → ((i t s : ℕ) → Keeps (d i t s) (d' i t s)) → ((i t s : ℕ) (v : PlainValue) → d i t s ≡ Some v → see i t s ≡ see' i t s) → (v : PlainValue)
+    → run p d ≡ Some v → trace m p d see ≡ trace n q d' see'
 trace-same m n from_nothing b d d' see see' up k h v e = absurd (grind arith)
 trace-same m n same_value b d d' see see' up k h v e = refl
 trace-same m n (same_looks {ls = ls} {k = c} {k' = c'} w) (takes_looks f g) d d' see see' up k h v e =

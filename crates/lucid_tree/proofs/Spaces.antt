@@ -10,13 +10,15 @@ module _ (s s' : ℕ) where
   -- the same looks, the first at space s and the second at s'
   pub data LooksMoved : List Look → List Look → Type 0 where
     no_look : LooksMoved [] []
-    a_look : {i t l : ℕ} {ls ls' : List Look} → LooksMoved ls ls' → LooksMoved (record { part = i; time = t; space = s; least = l } ∷ ls) (record { part = i; time = t; space = s'; least = l } ∷ ls')
+    a_look : {i t l : ℕ} {ls ls' : List Look} → LooksMoved ls ls'
+        → LooksMoved (record { part = i; time = t; space = s; least = l } ∷ ls) (record { part = i; time = t; space = s'; least = l } ∷ ls')
 
   -- the same plans, but that the first looks at space s and the second at s'
   pub data Moved : Plan → Plan → Type 0 where
     both_give : {v : PlainValue} → Moved (gives v) (gives v)
     both_nothing : Moved nothing nothing
-    both_look : {ls ls' : List Look} {k k' : List PlainValue → Plan} → LooksMoved ls ls' → ((vs : List PlainValue) → Moved (k vs) (k' vs)) → Moved (looks ls k) (looks ls' k')
+    both_look : {ls ls' : List Look} {k k' : List PlainValue → Plan} → LooksMoved ls ls' → ((vs : List PlainValue) → Moved (k vs) (k' vs))
+        → Moved (looks ls k) (looks ls' k')
 
   single-moved : (k k' : PlainValue → Plan) → ((v : PlainValue) → Moved (k v) (k' v)) → (vs : List PlainValue) → Moved (single k vs) (single k' vs)
   single-moved k k' h [] = both_nothing
@@ -52,7 +54,9 @@ module _ (s s' : ℕ) where
   find-moved : (left j n : ℕ) → Moved (find_true left j n s) (find_true left j n s')
   find-moved zero j n = both_nothing
   find-moved (suc left) j n =
-      look-moved 1 j (suc j) _ _ (λ v. test-moved v _ _ _ _ (zero-moved n (gives_part 0 j s) (gives_part 0 j s') (λ k. find_true left (suc j) k s) (λ k. find_true left (suc j) k s') (part-moved 0 j) (λ k. find-moved left (suc j) k)) (find-moved left (suc j) n))
+      look-moved 1 j (suc j) _ _ (λ v. test-moved v _ _ _ _
+      (zero-moved n (gives_part 0 j s) (gives_part 0 j s') (λ k. find_true left (suc j) k s) (λ k. find_true left (suc j) k s') (part-moved 0 j)
+      (λ k. find-moved left (suc j) k)) (find-moved left (suc j) n))
 
   count-moved : (left j n l : ℕ) → Moved (count_true left j n s l) (count_true left j n s' l)
   count-moved zero j n l = part-moved 0 n
@@ -75,11 +79,13 @@ module _ (s s' : ℕ) where
   plan-moved m attime t h = look-moved 1 t 0 _ _ (λ y. place-moved y _ _ (λ u. part-moved 0 u))
   plan-moved m _ t h = absurd (grind arith)
 
-  all_values-moved : (r r' : Reader (Option PlainValue)) → ((i t : ℕ) → r i t s ≡ r' i t s') → {ls ls' : List Look} → LooksMoved ls ls' → all_values r ls ≡ all_values r' ls'
+  all_values-moved : (r r' : Reader (Option PlainValue)) → ((i t : ℕ) → r i t s ≡ r' i t s') → {ls ls' : List Look} → LooksMoved ls ls'
+      → all_values r ls ≡ all_values r' ls'
   all_values-moved r r' h no_look = refl
   all_values-moved r r' h (a_look {i = i} {t = t} g) = λ k. add_value (h i t k) (all_values-moved r r' h g k)
 
-  with_values-same : (o : Option (List PlainValue)) (f f' : List PlainValue → Option PlainValue) → ((vs : List PlainValue) → f vs ≡ f' vs) → with_values o None f ≡ with_values o None f'
+  with_values-same : (o : Option (List PlainValue)) (f f' : List PlainValue → Option PlainValue) → ((vs : List PlainValue) → f vs ≡ f' vs)
+      → with_values o None f ≡ with_values o None f'
   with_values-same None f f' h = refl
   with_values-same (Some vs) f f' h = h vs
 
@@ -108,25 +114,30 @@ if-spaceless false x y a b = b
 definition-spaceless : (n : List ℕ) (ds : PlainDefs) → DefsAreSpaceless ds → FoundIsSpaceless (definition n ds)
 definition-spaceless n no_defs h = tt
 definition-spaceless n (defines at x e ds) h = if-spaceless (same_name n x) (plain_def at e) (definition n ds) h.0 (definition-spaceless n ds h.1)
-definition-spaceless n (defines_function at x ns ats e ds) h = if-spaceless (same_name n x) (function_def at ns ats e) (definition n ds) h.0 (definition-spaceless n ds h.1)
+definition-spaceless n (defines_function at x ns ats e ds) h =
+    if-spaceless (same_name n x) (function_def at ns ats e) (definition n ds) h.0 (definition-spaceless n ds h.1)
 definition-spaceless n (defines_current at x e ds) h = if-spaceless (same_name n x) (current_def at e) (definition n ds) h.0 (definition-spaceless n ds h.1)
 
-frozen-spaceless : (at : ℕ) (f : Env) (e : PlainTree) (rest : Env) (z : Option ℕ) → IsSpaceless e → EnvIsSpaceless rest → AimIsSpaceless (frozen_target at f e rest z)
+frozen-spaceless : (at : ℕ) (f : Env) (e : PlainTree) (rest : Env) (z : Option ℕ) → IsSpaceless e → EnvIsSpaceless rest
+    → AimIsSpaceless (frozen_target at f e rest z)
 frozen-spaceless at f e rest None h g = tt
 frozen-spaceless at f e rest (Some u) h g = (h, g)
 
-in_scope-spaceless : (x : Found) (f rest : Env) (z : Option ℕ) (t : ℕ) (outer : Aim) → FoundIsSpaceless x → EnvIsSpaceless f → EnvIsSpaceless rest → AimIsSpaceless outer → AimIsSpaceless (in_scope x f rest z t outer)
+in_scope-spaceless : (x : Found) (f rest : Env) (z : Option ℕ) (t : ℕ) (outer : Aim) → FoundIsSpaceless x → EnvIsSpaceless f → EnvIsSpaceless rest
+    → AimIsSpaceless outer → AimIsSpaceless (in_scope x f rest z t outer)
 in_scope-spaceless absent f rest z t outer h g r o = o
 in_scope-spaceless (plain_def at e) f rest z t outer h g r o = (h, g)
 in_scope-spaceless (function_def at ns ats e) f rest z t outer h g r o = tt
 in_scope-spaceless (current_def at e) f rest z t outer h g r o = frozen-spaceless at f e rest z h r
 
-to_actual-spaceless : (at : ℕ) (es : PlainTrees) (i : ℕ) (f caller : Env) (t : ℕ) → AreSpaceless es → EnvIsSpaceless caller → AimIsSpaceless (to_actual at (tree_at es i) f caller t)
+to_actual-spaceless : (at : ℕ) (es : PlainTrees) (i : ℕ) (f caller : Env) (t : ℕ) → AreSpaceless es → EnvIsSpaceless caller
+    → AimIsSpaceless (to_actual at (tree_at es i) f caller t)
 to_actual-spaceless at no_trees i f caller t h g = tt
 to_actual-spaceless at (tree e es) zero f caller t h g = (h.0, g)
 to_actual-spaceless at (tree e es) (suc i) f caller t h g = to_actual-spaceless at es i f caller t h.1 g
 
-in_args-spaceless : (o : Option ℕ) (ats : List ℕ) (es : PlainTrees) (f caller : Env) (t : ℕ) (outer : Aim) → AreSpaceless es → EnvIsSpaceless caller → AimIsSpaceless outer → AimIsSpaceless (in_args o ats es f caller t outer)
+in_args-spaceless : (o : Option ℕ) (ats : List ℕ) (es : PlainTrees) (f caller : Env) (t : ℕ) (outer : Aim) → AreSpaceless es → EnvIsSpaceless caller
+    → AimIsSpaceless outer → AimIsSpaceless (in_args o ats es f caller t outer)
 in_args-spaceless None ats es f caller t outer h g o = o
 in_args-spaceless (Some i) ats es f caller t outer h g o = to_actual-spaceless _ es i f caller t h g
 
@@ -137,7 +148,8 @@ name-spaceless n (scope ds z rest) t h =
 name-spaceless n (args ns ats es caller rest) t h =
     in_args-spaceless (param n ns) ats es (args ns ats es caller rest) caller t (name_target n rest t) h.0 h.1 (name-spaceless n rest t h.2)
 
-called-spaceless : (x : Found) (at : ℕ) (es : PlainTrees) (env f : Env) (t : ℕ) (outer : Aim) → FoundIsSpaceless x → AreSpaceless es → EnvIsSpaceless env → EnvIsSpaceless f → AimIsSpaceless outer → AimIsSpaceless (called x at es env f t outer)
+called-spaceless : (x : Found) (at : ℕ) (es : PlainTrees) (env f : Env) (t : ℕ) (outer : Aim) → FoundIsSpaceless x → AreSpaceless es → EnvIsSpaceless env
+    → EnvIsSpaceless f → AimIsSpaceless outer → AimIsSpaceless (called x at es env f t outer)
 called-spaceless absent at es env f t outer h a c g o = o
 called-spaceless (plain_def d e) at es env f t outer h a c g o = tt
 called-spaceless (function_def d ns ats e) at es env f t outer h a c g o = (h, (a, c, g))
@@ -147,22 +159,27 @@ unless-spaceless : (o : Option ℕ) (outer : Aim) → AimIsSpaceless outer → A
 unless-spaceless None outer h = h
 unless-spaceless (Some i) outer h = tt
 
-call-spaceless : (at : ℕ) (n : List ℕ) (es : PlainTrees) (env f : Env) (t : ℕ) → AreSpaceless es → EnvIsSpaceless env → EnvIsSpaceless f → AimIsSpaceless (call_target at n es env f t)
+call-spaceless : (at : ℕ) (n : List ℕ) (es : PlainTrees) (env f : Env) (t : ℕ) → AreSpaceless es → EnvIsSpaceless env → EnvIsSpaceless f
+    → AimIsSpaceless (call_target at n es env f t)
 call-spaceless at n es env empty t a c h = tt
 call-spaceless at n es env (scope ds z rest) t a c h =
-    called-spaceless (definition n ds) at es env (scope ds z rest) t (call_target at n es env rest t) (definition-spaceless n ds h.0) a c h (call-spaceless at n es env rest t a c h.1)
+    called-spaceless (definition n ds) at es env (scope ds z rest) t (call_target at n es env rest t) (definition-spaceless n ds h.0) a c h
+    (call-spaceless at n es env rest t a c h.1)
 call-spaceless at n es env (args ns ats bs caller rest) t a c h =
     unless-spaceless (param n ns) (call_target at n es env rest t) (call-spaceless at n es env rest t a c h.2)
 
 mutual
-  value_at-spaceless : (s s' m : ℕ) (b : Below Referent Position) → ((a : Aim) → AimIsSpaceless a → b a s ≡ b a s') → (e : PlainTree) (env : Env) (t : ℕ) → IsSpaceless e → EnvIsSpaceless env → value_at m b e env t s ≡ value_at m b e env t s'
+  value_at-spaceless : (s s' m : ℕ) (b : Below Referent Position) → ((a : Aim) → AimIsSpaceless a → b a s ≡ b a s') → (e : PlainTree) (env : Env) (t : ℕ)
+      → IsSpaceless e → EnvIsSpaceless env → value_at m b e env t s ≡ value_at m b e env t s'
   value_at-spaceless s s' m b h (form at f es) env t g c =
-      run-moved s s' (λ i u r. meaning.part_at m b es env i u r) (λ i u r. meaning.part_at m b es env i u r) (λ i u. parts-spaceless s s' m b h es env i u g.1 c) (plan-moved s s' m f t g.0)
+      run-moved s s' (λ i u r. meaning.part_at m b es env i u r) (λ i u r. meaning.part_at m b es env i u r)
+      (λ i u. parts-spaceless s s' m b h es env i u g.1 c) (plan-moved s s' m f t g.0)
   value_at-spaceless s s' m b h (name at n) env t g c = h (name_target n env t) (name-spaceless n env t c)
   value_at-spaceless s s' m b h (call at n es) env t g c = h (call_target at n es env env t) (call-spaceless at n es env env t g c c)
   value_at-spaceless s s' m b h (block at e ds) env t g c = value_at-spaceless s s' m b h e (scope ds (frozen_at ds t) env) t g.0 (g.1, c)
 
-  parts-spaceless : (s s' m : ℕ) (b : Below Referent Position) → ((a : Aim) → AimIsSpaceless a → b a s ≡ b a s') → (es : PlainTrees) (env : Env) (i t : ℕ) → AreSpaceless es → EnvIsSpaceless env → meaning.part_at m b es env i t s ≡ meaning.part_at m b es env i t s'
+  parts-spaceless : (s s' m : ℕ) (b : Below Referent Position) → ((a : Aim) → AimIsSpaceless a → b a s ≡ b a s') → (es : PlainTrees) (env : Env) (i t : ℕ)
+      → AreSpaceless es → EnvIsSpaceless env → meaning.part_at m b es env i t s ≡ meaning.part_at m b es env i t s'
   parts-spaceless s s' m b h no_trees env i t g c = refl
   parts-spaceless s s' m b h (tree e es) env zero t g c = value_at-spaceless s s' m b h e env t g.0 c
   parts-spaceless s s' m b h (tree e es) env (suc i) t g c = parts-spaceless s s' m b h es env i t g.1 c
@@ -177,5 +194,6 @@ below-spaceless b s s' (suc m) (goes_to k x u) h =
 below-spaceless b s s' (suc m) nowhere h = refl
 
 -- the value at any two spaces
-pub val-spaceless : (b : Elements) (m : ℕ) (e : PlainTree) (env : Env) (t s s' : ℕ) → IsSpaceless e → EnvIsSpaceless env → val b m e env t s ≡ val b m e env t s'
+pub val-spaceless : (b : Elements) (m : ℕ) (e : PlainTree) (env : Env) (t s s' : ℕ) → IsSpaceless e → EnvIsSpaceless env
+    → val b m e env t s ≡ val b m e env t s'
 val-spaceless b m e env t s s' h g = value_at-spaceless s s' m (below value (nothing_held b) m) (below-spaceless b s s' m) e env t h g

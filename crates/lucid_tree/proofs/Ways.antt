@@ -4,7 +4,8 @@ use Rattle.lucid_tree.proofs.Common.{◌≡◌, ℕ, suc, ◌≤◌, max, List, 
 use Rattle.lucid_tree.proofs.Plans.{Within, same_looks, Keeps}
 use Rattle.lucid_tree.proofs.RunsMeant.{reader-up}
 
-all-maps : (M N : Look → PlainValue → Type 0) → ((l : Look) (v : PlainValue) → M l v → N l v) → (ls : List Look) (vs : List PlainValue) → AllHave M ls vs → AllHave N ls vs
+all-maps : (M N : Look → PlainValue → Type 0) → ((l : Look) (v : PlainValue) → M l v → N l v) → (ls : List Look) (vs : List PlainValue) → AllHave M ls vs
+    → AllHave N ls vs
 all-maps M N f [] [] a = tt
 all-maps M N f [] (v ∷ vs) a = a
 all-maps M N f (l ∷ ls) [] a = a
@@ -48,11 +49,15 @@ module _ (P : ℕ → Look → PlainValue → Type 0) (up : (m n : ℕ) → m �
   one_for_all p q (and_then {ls} {k} vs a m) =
       let before = one_for_all p (looks ls k) a in
       let here = one_for_these ls vs m in
-      let n : ℕ = max before.0 here.0 in
-      (n, and_then vs (leads-maps (P before.0) (P n) (up before.0 n (omega arith)) p (looks ls k) before.1) (all-maps (P here.0) (P n) (up here.0 n (omega arith)) ls vs here.1))
+      let n : ℕ = max before.0 here.0 in (
+        n,
+        and_then vs (leads-maps (P before.0) (P n) (up before.0 n (omega arith)) p (looks ls k) before.1)
+            (all-maps (P here.0) (P n) (up here.0 n (omega arith)) ls vs here.1),
+      )
 
 -- so it is for readers
-pub one_reader_for_all : (rs : ℕ → Reader (Option PlainValue)) → ((n i t s : ℕ) → Keeps (rs n i t s) (rs (suc n) i t s)) → (p q : Plan) → LeadsTo (ReadsAtSome rs) p q → (n : ℕ) × LeadsTo (Reads (rs n)) p q
+pub one_reader_for_all : (rs : ℕ → Reader (Option PlainValue)) → ((n i t s : ℕ) → Keeps (rs n i t s) (rs (suc n) i t s)) → (p q : Plan)
+    → LeadsTo (ReadsAtSome rs) p q → (n : ℕ) × LeadsTo (Reads (rs n)) p q
 one_reader_for_all rs grows = one_for_all (λ n. Reads (rs n)) (λ m n h l v d. reader-up rs grows m n h l.part l.time l.space v d)
 
 -- a rest that goes on further

@@ -39,7 +39,8 @@ unfolding integer_value
 integer_unlike [] h = refl
 integer_unlike (b ∷ bs) h = unlike (nat_eq b 45) (is_number bs) (is_number (b ∷ bs)) _ _ _ _ h
   where
-    unlike : (m p q : Bool) (x y : Bool) (v w : PlainValue) → (if m then p else q) ≡ false → (if m then (if p && x then Some v else None) else (if q && y then Some w else None)) ≡ None
+    unlike : (m p q : Bool) (x y : Bool) (v w : PlainValue) → (if m then p else q) ≡ false
+        → (if m then (if p && x then Some v else None) else (if q && y then Some w else None)) ≡ None
     unlike true false q x y v w h = refl
     unlike true true q x y v w h = cc
     unlike false p false x y v w h = refl
@@ -77,7 +78,8 @@ parsed_at b bs r false e h p =
     (λ t. let k = and_parts (is_number (b ∷ bs)) (nat_lt (number_of (b ∷ bs)) (2 ^ 127)) t in (k.0, omega arith, ltb-true _ _ k.1))
     (λ d. both_true (digits_number (b ∷ bs) d.0 d.1) (lt-ltb _ _ d.2))
 
-pub integer_parsed : {E : Type 0} (bs : List ℕ) (r : Result ℤ E) → is_integerlike bs ≡ true → ParsesSigned w128 10 bs r → option_map int (result_ok r) ≡ integer_value bs
+pub integer_parsed : {E : Type 0} (bs : List ℕ) (r : Result ℤ E) → is_integerlike bs ≡ true → ParsesSigned w128 10 bs r
+    → option_map int (result_ok r) ≡ integer_value bs
 unfolding integer_value
 integer_parsed [] r h p = cc
 integer_parsed (b ∷ bs) r h p = parsed_at b bs r (nat_eq b 45) refl h p

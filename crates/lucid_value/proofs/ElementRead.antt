@@ -24,11 +24,13 @@ last_quote_is : (bs inner : List ℕ) → last_quote_off bs ≡ Some inner → b
 last_quote_is [] inner h = cc
 last_quote_is (b ∷ bs) inner h = last_quote b bs inner (nat_eq b 39) refl h
 
-quotes_at : (b : ℕ) (bs inner : List ℕ) (m : Bool) → nat_eq b 96 ≡ m → (if m then last_quote_off (reverse bs) else None) ≡ Some inner → b ∷ bs ≡ 96 ∷ (inner ++ 39 ∷ [])
+quotes_at : (b : ℕ) (bs inner : List ℕ) (m : Bool) → nat_eq b 96 ≡ m → (if m then last_quote_off (reverse bs) else None) ≡ Some inner
+    → b ∷ bs ≡ 96 ∷ (inner ++ 39 ∷ [])
 quotes_at b bs inner true e h =
     let p = eqb-true b 96 e in
     let q : bs ≡ inner ++ 39 ∷ [] =
-    sym (reverse-reverse bs) ∙ ap reverse (last_quote_is (reverse bs) inner h) ∙ reverse-append (39 ∷ []) (reverse inner) ∙ ap (λ x. x ++ 39 ∷ []) (reverse-reverse inner) in
+    sym (reverse-reverse bs) ∙ ap reverse (last_quote_is (reverse bs) inner h) ∙ reverse-append (39 ∷ []) (reverse inner)
+    ∙ ap (λ x. x ++ 39 ∷ []) (reverse-reverse inner) in
     ap (λ x. x ∷ bs) p ∙ ap (λ x. 96 ∷ x) q
 quotes_at b bs inner false e h = cc
 
@@ -36,19 +38,22 @@ quotes_are : (bytes inner : List ℕ) → quotes_off bytes ≡ Some inner → by
 quotes_are [] inner h = cc
 quotes_are (b ∷ bs) inner h = quotes_at b bs inner (nat_eq b 96) refl h
 
-list_denotes : (bytes tail : List ℕ) (o : Option State) (v : PlainValue) → bytes ≡ 91 ∷ 37 ∷ tail → runs (Some start) tail ≡ o → whole_list o ≡ Some v → Denotes bytes v
+list_denotes : (bytes tail : List ℕ) (o : Option State) (v : PlainValue) → bytes ≡ 91 ∷ 37 ∷ tail → runs (Some start) tail ≡ o → whole_list o ≡ Some v
+    → Denotes bytes v
 list_denotes bytes tail (Some (state Done bs vs outer)) v e r h =
     let p = scan_sound tail bs vs outer r in
     let k : list vs ≡ v = cc in
     subst (λ x. Denotes bytes x) k (subst (λ x. Denotes x (list vs)) (sym (e ∙ ap (λ x. 91 ∷ 37 ∷ x) p.ends)) (denotes_list p.inner vs p.denotes))
 list_denotes bytes tail _ v e r h = cc
 
-kind_denotes : (bytes : List ℕ) (q o : Option (List ℕ)) (v : PlainValue) → quotes_off bytes ≡ q → opened bytes ≡ o → value_by_kind q o bytes ≡ Some v → Denotes bytes v
+kind_denotes : (bytes : List ℕ) (q o : Option (List ℕ)) (v : PlainValue) → quotes_off bytes ≡ q → opened bytes ≡ o → value_by_kind q o bytes ≡ Some v
+    → Denotes bytes v
 kind_denotes bytes (Some inner) o v e f h = subst (λ x. Denotes x v) (sym (quotes_are bytes inner e)) (text_denotes inner v h)
 kind_denotes bytes None (Some tail) v e f h = list_denotes bytes tail (runs (Some start) tail) v (opened_is bytes tail f) refl h
 kind_denotes bytes None None v e f h = atom_denotes bytes v h
 
-limited_reads : (bytes : List ℕ) (o : Option PlainValue) (v : PlainValue) → value_by_kind (quotes_off bytes) (opened bytes) bytes ≡ o → if_within_limits o ≡ Some v → Reads bytes v
+limited_reads : (bytes : List ℕ) (o : Option PlainValue) (v : PlainValue) → value_by_kind (quotes_off bytes) (opened bytes) bytes ≡ o
+    → if_within_limits o ≡ Some v → Reads bytes v
 limited_reads bytes None v e h = cc
 limited_reads bytes (Some w) v e h = at (within_limits w) refl h
   where
@@ -77,7 +82,8 @@ no_marks (a ∷ b ∷ bs) h = let e = not_equal a 91 (nat_eq a 91) refl refl (an
 kind_reads : (bytes : List ℕ) (v : PlainValue) → Reads bytes v → Kind bytes v → value_by_kind (quotes_off bytes) (opened bytes) bytes ≡ Some v
 kind_reads bytes v r (atomic v' a) =
     let b = atom_bytes bytes v r.denotes a in
-    ap (λ q. value_by_kind q (opened bytes) bytes) (no_quotes bytes b) ∙ ap (λ o. value_by_kind None o bytes) (no_marks bytes b) ∙ atom_read bytes v r.denotes a r.light
+    ap (λ q. value_by_kind q (opened bytes) bytes) (no_quotes bytes b) ∙ ap (λ o. value_by_kind None o bytes) (no_marks bytes b)
+    ∙ atom_read bytes v r.denotes a r.light
 kind_reads bytes v r (quoted inner e t) =
     let q : quotes_off bytes ≡ Some inner =
     ap quotes_off e ∙ ap last_quote_off (reverse-append inner (39 ∷ [])) ∙ ap Some (reverse-reverse inner) in
@@ -103,7 +109,8 @@ line_is : (line : List ℕ) → IsLineValue line (line_value_of line)
 unfolding line_value_of
 line_is line = at (nat_le (length line) 4194304) (value_read (trimmed line)) refl refl
   where
-    at : (m : Bool) (o : Option PlainValue) → nat_le (length line) 4194304 ≡ m → value_read (trimmed line) ≡ o → IsLineValue line (if m then value_or_fault o else fault)
+    at : (m : Bool) (o : Option PlainValue) → nat_le (length line) 4194304 ≡ m → value_read (trimmed line) ≡ o
+        → IsLineValue line (if m then value_or_fault o else fault)
     at true (Some v) e f = line_value (leb-true _ _ e) (line_sound line v f)
     at true None e f = line_unread (leb-true _ _ e) (λ v r. cc (line_complete line v r))
     at false o e f = line_long (leb-false _ _ e)
@@ -113,7 +120,8 @@ unfolding line_value_of
 one_line_value line v (line_value le r) = let e = le-leb _ _ le in let f = line_complete line v r in rw (e, f) refl
 one_line_value line v (line_unread le n) = let e = le-leb _ _ le in at (value_read (trimmed line)) refl e
   where
-    at : (o : Option PlainValue) → value_read (trimmed line) ≡ o → nat_le (length line) 4194304 ≡ true → fault ≡ (if nat_le (length line) 4194304 then value_or_fault o else fault)
+    at : (o : Option PlainValue) → value_read (trimmed line) ≡ o → nat_le (length line) 4194304 ≡ true
+        → fault ≡ (if nat_le (length line) 4194304 then value_or_fault o else fault)
     at (Some w) f e = absurd (n w (line_sound line w f))
     at None f e = rw e refl
 one_line_value line v (line_long lt) = at (nat_le (length line) 4194304) refl

@@ -7,7 +7,8 @@ use Rattle.lucid_value.proofs.ScanSound.{scan_sound, runs_none}
 use Rattle.lucid_value.proofs.ScanComplete.{runs_append, scan_complete}
 
 -- one byte more
-pub runs_more : (tail : List ℕ) (i d : ℕ) → i < length tail → runs (Some start) (take (i + 1) tail) ≡ step_from (get_or tail i d) (runs (Some start) (take i tail))
+pub runs_more : (tail : List ℕ) (i d : ℕ) → i < length tail
+    → runs (Some start) (take (i + 1) tail) ≡ step_from (get_or tail i d) (runs (Some start) (take i tail))
 runs_more tail i d h = ap (runs (Some start)) (take_more tail i d h) ∙ runs_append (Some start) (take i tail) (get_or tail i d ∷ [])
 
 -- from a state the outermost list is never whole
@@ -38,7 +39,8 @@ never_from : (xs ys : List ℕ) (s t : State) → runs (Some s) xs ≡ Some t �
 never_from [] ys s t h f = let k : s ≡ t = cc in subst (λ x. Never x ys) (sym k) f
 never_from (x ∷ xs) ys s t h f = at (λ u k e. never_back x (xs ++ ys) s u (goes_undone x s u k) k (never_from xs ys u t e f)) (step x s) refl h
   where
-    at : ((u : State) → step x s ≡ Some u → runs (Some u) xs ≡ Some t → Never s (x ∷ (xs ++ ys))) → (o : Option State) → step x s ≡ o → runs o xs ≡ Some t → Never s (x ∷ (xs ++ ys))
+    at : ((u : State) → step x s ≡ Some u → runs (Some u) xs ≡ Some t → Never s (x ∷ (xs ++ ys))) → (o : Option State) → step x s ≡ o → runs o xs ≡ Some t
+        → Never s (x ∷ (xs ++ ys))
     at g None k e = cc (runs_none xs)
     at g (Some u) k e = g u k e
 
@@ -55,7 +57,8 @@ never_end tail i s h d le = never_at tail i s h (subst (λ x. Never s x) (sym (d
     drop_past (suc i) [] le = refl
     drop_past (suc i) (x ∷ xs) le = drop_past i xs (omega arith)
 
-pub never_refused : (tail : List ℕ) (i d : ℕ) (s : State) → runs (Some start) (take i tail) ≡ Some s → is_done s ≡ false → i < length tail → step (get_or tail i d) s ≡ None → IsScanned None tail
+pub never_refused : (tail : List ℕ) (i d : ℕ) (s : State) → runs (Some start) (take i tail) ≡ Some s → is_done s ≡ false → i < length tail
+    → step (get_or tail i d) s ≡ None → IsScanned None tail
 never_refused tail i d s h f lt k =
     never_at tail i s h (subst (λ x. Never s x) (sym (drop-cons tail i d lt)) (never_stuck (get_or tail i d) (drop (suc i) tail) s f k))
 
@@ -68,7 +71,8 @@ pub record HasMarks (bytes : List ℕ) (vs : Items) : Type 0 where
 pub list_marks : (bytes : List ℕ) (vs : Items) → Denotes bytes (list vs) → HasMarks bytes vs
 list_marks bytes vs (denotes_list inner ws d) = record { inner = inner; parts = refl; denotes = d }
 
-opened_at : (a b : ℕ) (tail rest : List ℕ) (m n : Bool) → nat_eq a 91 ≡ m → nat_eq b 37 ≡ n → (if m && n then Some tail else None) ≡ Some rest → a ∷ b ∷ tail ≡ 91 ∷ 37 ∷ rest
+opened_at : (a b : ℕ) (tail rest : List ℕ) (m n : Bool) → nat_eq a 91 ≡ m → nat_eq b 37 ≡ n → (if m && n then Some tail else None) ≡ Some rest
+    → a ∷ b ∷ tail ≡ 91 ∷ 37 ∷ rest
 opened_at a b tail rest true true e f h =
     let p = eqb-true a 91 e in let q = eqb-true b 37 f in let r : tail ≡ rest = cc in cc
 opened_at a b tail rest true false e f h = cc
@@ -82,7 +86,8 @@ opened_is (a ∷ b ∷ bs) tail h = opened_at a b bs tail (nat_eq a 91) (nat_eq 
 pub unopened : (bytes tail : List ℕ) → opened bytes ≡ None → bytes ≡ 91 ∷ 37 ∷ tail → ⊥
 unopened bytes tail h e = cc (ap opened e)
 
-front_at : (bytes tail : List ℕ) (front : Front) → bytes ≡ 91 ∷ 37 ∷ tail → IsScanned (Some front) tail → weights front.list + 1 ≤ 65536 → nestings front.list + 1 ≤ 64
+front_at : (bytes tail : List ℕ) (front : Front) → bytes ≡ 91 ∷ 37 ∷ tail → IsScanned (Some front) tail → weights front.list + 1 ≤ 65536
+    → nestings front.list + 1 ≤ 64
     → IsListFront (91 ∷ 37 ∷ tail) (suc (suc front.len))
 front_at bytes tail front e s w n =
     let p = scan_sound (take front.len tail) s.1.0 front.list s.1.1 s.1.2 in
@@ -96,7 +101,8 @@ front_at bytes tail front e s w n =
       };
     }
 
-pub front_found : (bytes tail : List ℕ) (front : Front) → opened bytes ≡ Some tail → IsScanned (Some front) tail → weights front.list + 1 ≤ 65536 → nestings front.list + 1 ≤ 64
+pub front_found : (bytes tail : List ℕ) (front : Front) → opened bytes ≡ Some tail → IsScanned (Some front) tail → weights front.list + 1 ≤ 65536
+    → nestings front.list + 1 ≤ 64
     → IsListFront bytes (front.len + 2)
 front_found bytes tail front e s w n =
     let k = opened_is bytes tail e in
@@ -143,7 +149,8 @@ done_focus : (f : Focus) (bs : List ℕ) (vs : Items) (outer : List Items) → i
 done_focus Done bs vs outer h = refl
 done_focus _ bs vs outer h = cc
 
-pub scan_whole : (tail : List ℕ) (i : ℕ) (s : State) (f : Focus) (bs : List ℕ) (vs : Items) (outer : List Items) (m : Bool) → runs (Some start) (take i tail) ≡ Some s → i < length tail
+pub scan_whole : (tail : List ℕ) (i : ℕ) (s : State) (f : Focus) (bs : List ℕ) (vs : Items) (outer : List Items) (m : Bool)
+    → runs (Some start) (take i tail) ≡ Some s → i < length tail
     → Went m (state f bs vs outer) (step (get_or tail i 0) s) → m ≡ true → is_done (state f bs vs outer) ≡ true
     → (i + 1 ≤ length tail) × ((p : List ℕ) × (out : List Items) × (runs (Some start) (take (i + 1) tail) ≡ Some (state Done p vs out)))
 scan_whole tail i s f bs vs outer m h lt w e d =

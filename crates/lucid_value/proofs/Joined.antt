@@ -26,7 +26,8 @@ limited_list_within vs h k = grind (arith, nat_tests)
 pub joined_over : (us vs : Items) → 65536 < weights us + weights vs + 1 → limited_list (joined us vs) ≡ fault
 joined_over us vs h = limited_list_over (joined us vs) (omega (arith, weights_joined us vs))
 
-pub joined_within : (us vs : Items) → weights us + weights vs + 1 ≤ 65536 → nestings us + 1 ≤ 64 → nestings vs + 1 ≤ 64 → limited_list (joined us vs) ≡ list (joined us vs)
+pub joined_within : (us vs : Items) → weights us + weights vs + 1 ≤ 65536 → nestings us + 1 ≤ 64 → nestings vs + 1 ≤ 64
+    → limited_list (joined us vs) ≡ list (joined us vs)
 joined_within us vs h k l =
     limited_list_within (joined us vs) (omega (arith, weights_joined us vs)) (omega (arith, nestings_joined us vs))
 
@@ -72,6 +73,7 @@ onto_formed (u ∷ us) vs h =
     let p = and_parts (may_be_held u && well_formed u) (all_well_formed (onto us vs)) h in onto_formed us vs p.1
 
 -- the last of the values goes in front of the items
-pub taken : {A : Type 0} (f : A → PlainValue) (old new : List A) (x : A) (vs : Items) → old ≡ new ++ x ∷ [] → onto (map f old) vs ≡ onto (map f new) (item (f x) vs)
+pub taken : {A : Type 0} (f : A → PlainValue) (old new : List A) (x : A) (vs : Items) → old ≡ new ++ x ∷ []
+    → onto (map f old) vs ≡ onto (map f new) (item (f x) vs)
 taken f old new x vs e =
     ap (λ ws. onto (map f ws) vs) e ∙ ap (λ ws. onto ws vs) (map-append f new (x ∷ [])) ∙ onto_more (map f new) (f x) vs

@@ -51,7 +51,8 @@ record Scanned (bytes : List ℕ) (n : ℕ) : Type 0 where
   items : Items
   reads : runs (Some start) (take len tail) ≡ Some (state Done pending items [])
 
-scanned_at : (bytes : List ℕ) (n : ℕ) (vs : Items) → n ≤ length bytes → (inner : List ℕ) → take n bytes ≡ 91 ∷ 37 ∷ (inner ++ 37 ∷ 93 ∷ []) → DenotesItems inner vs
+scanned_at : (bytes : List ℕ) (n : ℕ) (vs : Items) → n ≤ length bytes → (inner : List ℕ) → take n bytes ≡ 91 ∷ 37 ∷ (inner ++ 37 ∷ 93 ∷ [])
+    → DenotesItems inner vs
     → weight (list vs) ≤ 65536 → nesting (list vs) ≤ 64 → Scanned bytes n
 scanned_at bytes zero vs le inner e d w f = cc
 scanned_at [] (suc n) vs le inner e d w f = cc
@@ -96,7 +97,8 @@ no_longer tail m n p q vs ws h le r s =
     done_ends k.rest p vs [] (state Done q ws []) k.some
     (sym (ap (λ x. runs x k.rest) r) ∙ sym (runs_append (Some start) (take m tail) k.rest) ∙ sym (ap (runs (Some start)) k.parts) ∙ s)
 
-same_len : (tail : List ℕ) (m n : ℕ) (p q : List ℕ) (vs ws : Items) → m ≤ length tail → n ≤ length tail → runs (Some start) (take m tail) ≡ Some (state Done p vs [])
+same_len : (tail : List ℕ) (m n : ℕ) (p q : List ℕ) (vs ws : Items) → m ≤ length tail → n ≤ length tail
+    → runs (Some start) (take m tail) ≡ Some (state Done p vs [])
     → runs (Some start) (take n tail) ≡ Some (state Done q ws []) → m ≡ n
 same_len tail m n p q vs ws lm ln r s = at (nat_lt m n) (nat_lt n m) refl refl
   where

@@ -24,6 +24,7 @@ no_quotes_one bytes first e = λ inner k. let m : [] ≡ inner ++ 39 ∷ [] = cc
 pub no_first_quote : (bytes : List ℕ) (first : ℕ) (rest : List ℕ) → bytes ≡ first ∷ rest → first ≢ 96 → IsUnquoted bytes
 no_first_quote bytes first rest e n = λ inner k. n cc
 
-pub no_last_quote : (bytes : List ℕ) (first : ℕ) (rest inner : List ℕ) (last : ℕ) → bytes ≡ first ∷ rest → rest ≡ inner ++ last ∷ [] → last ≢ 39 → IsUnquoted bytes
+pub no_last_quote : (bytes : List ℕ) (first : ℕ) (rest inner : List ℕ) (last : ℕ) → bytes ≡ first ∷ rest → rest ≡ inner ++ last ∷ [] → last ≢ 39
+    → IsUnquoted bytes
 no_last_quote bytes first rest inner last e f n = λ other k.
     let m : inner ++ last ∷ [] ≡ other ++ 39 ∷ [] = cc in n (last_is inner other last 39 m)

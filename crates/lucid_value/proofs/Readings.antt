@@ -30,11 +30,13 @@ no_atom_first c bytes rest v n d a e =
     let m = (and_parts (is_atom_byte c) (list_all is_atom_byte rest) k).0 in cc
 
 -- a string
-pub text_read : (bytes inner : List ℕ) (v : Value) → bytes ≡ 96 ∷ (inner ++ 39 ∷ []) → text_value inner ≡ Some (plain v) → weight (plain v) ≤ 65536 → nesting (plain v) ≤ 64 → IsRead (Some v) bytes
+pub text_read : (bytes inner : List ℕ) (v : Value) → bytes ≡ 96 ∷ (inner ++ 39 ∷ []) → text_value inner ≡ Some (plain v) → weight (plain v) ≤ 65536
+    → nesting (plain v) ≤ 64 → IsRead (Some v) bytes
 text_read bytes inner v e h w n =
     record { denotes = subst (λ x. Denotes x (plain v)) (sym e) (text_denotes inner (plain v) h); light = w; flat = n }
 
-text_unread_at : (bytes inner : List ℕ) (v : PlainValue) → bytes ≡ 96 ∷ (inner ++ 39 ∷ []) → text_value inner ≡ None → Denotes bytes v → weight v ≤ 65536 → Kind bytes v → ⊥
+text_unread_at : (bytes inner : List ℕ) (v : PlainValue) → bytes ≡ 96 ∷ (inner ++ 39 ∷ []) → text_value inner ≡ None → Denotes bytes v → weight v ≤ 65536
+    → Kind bytes v → ⊥
 text_unread_at bytes inner v e h d w (atomic v' a) = no_atom_first 96 bytes (inner ++ 39 ∷ []) v refl d a e
 text_unread_at bytes inner v e h d w (quoted other f t) =
     let s : other ++ 39 ∷ [] ≡ inner ++ 39 ∷ [] = cc in
@@ -49,7 +51,8 @@ text_unread bytes inner e h = λ v r. text_unread_at bytes inner v e h r.denotes
 pub atom_is_read : (bytes : List ℕ) (v : Value) → atom_value bytes ≡ Some (plain v) → weight (plain v) ≤ 65536 → nesting (plain v) ≤ 64 → IsRead (Some v) bytes
 atom_is_read bytes v h w n = record { denotes = atom_denotes bytes (plain v) h; light = w; flat = n }
 
-atom_unread_at : (bytes : List ℕ) (v : PlainValue) → IsUnquoted bytes → opened bytes ≡ None → atom_value bytes ≡ None → Denotes bytes v → weight v ≤ 65536 → Kind bytes v → ⊥
+atom_unread_at : (bytes : List ℕ) (v : PlainValue) → IsUnquoted bytes → opened bytes ≡ None → atom_value bytes ≡ None → Denotes bytes v → weight v ≤ 65536
+    → Kind bytes v → ⊥
 atom_unread_at bytes v u o h d w (atomic v' a) = cc (atom_read bytes v d a w)
 atom_unread_at bytes v u o h d w (quoted inner e t) = u inner e
 atom_unread_at bytes v u o h d w (listed inner vs e) = unopened bytes (inner ++ 37 ∷ 93 ∷ []) o e
@@ -80,7 +83,8 @@ list_takes_all_at bytes tail v o d w n (listed inner vs e) =
     let t : tail ≡ m.inner ++ 37 ∷ 93 ∷ [] = cc (opened_is bytes tail o, m.parts) in
     (c.pending, vs, ap (runs (Some start)) t ∙ c.reads)
 
-list_takes_all : (bytes tail : List ℕ) (v : PlainValue) → opened bytes ≡ Some tail → Reads bytes v → (p : List ℕ) × (vs : Items) × (runs (Some start) tail ≡ Some (state Done p vs []))
+list_takes_all : (bytes tail : List ℕ) (v : PlainValue) → opened bytes ≡ Some tail → Reads bytes v
+    → (p : List ℕ) × (vs : Items) × (runs (Some start) tail ≡ Some (state Done p vs []))
 list_takes_all bytes tail v o r = list_takes_all_at bytes tail v o r.denotes r.light r.flat (kind bytes v r.denotes)
 
 pub list_unread : (bytes tail : List ℕ) → opened bytes ≡ Some tail → IsScanned None tail → IsRead None bytes

@@ -41,7 +41,8 @@ blank_begins b p us outer h = blank_is b (λ x. begin x p us outer ≡ Some (sta
 pub blank_no_atom : (b : ℕ) → is_blank b ≡ true → is_atom_byte b ≡ false
 blank_no_atom b h = blank_is b (λ x. is_atom_byte x ≡ false) refl refl refl refl h
 
-gap_runs : (gap : List ℕ) (p : List ℕ) (us : Items) (outer : List Items) → all_blank gap ≡ true → runs (Some (state Ready p us outer)) gap ≡ Some (state Ready p us outer)
+gap_runs : (gap : List ℕ) (p : List ℕ) (us : Items) (outer : List Items) → all_blank gap ≡ true
+    → runs (Some (state Ready p us outer)) gap ≡ Some (state Ready p us outer)
 gap_runs [] p us outer h = refl
 gap_runs (b ∷ gap) p us outer h =
     let k = and_parts (is_blank b) (all_blank gap) h in
@@ -60,13 +61,15 @@ record Room (us vs : Items) (outer : List Items) : Type 0 where
   flat : nestings us + 1 ≤ 64
   deep : length outer + 1 + nestings vs ≤ 64
 
-put_fits : (v : PlainValue) (p : List ℕ) (us : Items) (outer : List Items) → may_be_held v ≡ true → weight v + weights us + 1 ≤ 65536 → nesting v + 1 ≤ 64 → nestings us + 1 ≤ 64
+put_fits : (v : PlainValue) (p : List ℕ) (us : Items) (outer : List Items) → may_be_held v ≡ true → weight v + weights us + 1 ≤ 65536 → nesting v + 1 ≤ 64
+    → nestings us + 1 ≤ 64
     → put v p us outer ≡ Some (state Full p (item v us) outer)
 unfolding put
 put_fits v p us outer m w n k =
     let f : fits (item v us) ≡ true = both_true (le-leb _ _ w) (le-leb _ _ (omega arith)) in rw (m, f) refl
 
-atoms_run : (cs bs : List ℕ) (us : Items) (outer : List Items) → list_all is_atom_byte cs ≡ true → runs (Some (state Atom bs us outer)) cs ≡ Some (state Atom (bs ++ cs) us outer)
+atoms_run : (cs bs : List ℕ) (us : Items) (outer : List Items) → list_all is_atom_byte cs ≡ true
+    → runs (Some (state Atom bs us outer)) cs ≡ Some (state Atom (bs ++ cs) us outer)
 atoms_run [] bs us outer h = ap (λ x. Some (state Atom x us outer)) (sym (nil bs))
   where
     nil : (xs : List ℕ) → xs ++ [] ≡ xs
@@ -101,7 +104,8 @@ atom_item bs v d a m p us outer w n k = record {
   next = λ b h. let e = atom_read bs v d a (omega arith) in let f = put_fits v bs us outer m w n k in rw (h, e) (rw f refl);
 }
 
-text_runs : (cs bs : List ℕ) (us : Items) (outer : List Items) → is_text cs ≡ true → runs (Some (state Quoted bs us outer)) cs ≡ Some (state Quoted (bs ++ cs) us outer)
+text_runs : (cs bs : List ℕ) (us : Items) (outer : List Items) → is_text cs ≡ true
+    → runs (Some (state Quoted bs us outer)) cs ≡ Some (state Quoted (bs ++ cs) us outer)
 text_runs [] bs us outer h = ap (λ x. Some (state Quoted x us outer)) (sym (nil bs))
   where
     nil : (xs : List ℕ) → xs ++ [] ≡ xs
@@ -135,15 +139,18 @@ record ReadAll (from : State) (bs : List ℕ) (us : Items) (outer : List Items) 
   pending : List ℕ
   reads : runs (Some from) (bs ++ 37 ∷ []) ≡ Some (state Closing pending us outer)
 
-close_item : (bs : List ℕ) (ws : Items) (p : List ℕ) (us : Items) (outer : List Items) → length outer < 63 → weight (list ws) + weights us + 1 ≤ 65536 → nesting (list ws) + 1 ≤ 64 → nestings us + 1 ≤ 64
-    → ReadAll (state Ready p no_items (us ∷ outer)) bs (turned ws no_items) (us ∷ outer) → Read (state Ready p us outer) (91 ∷ 37 ∷ (bs ++ 37 ∷ 93 ∷ [])) (item (list ws) us) outer
+close_item : (bs : List ℕ) (ws : Items) (p : List ℕ) (us : Items) (outer : List Items) → length outer < 63 → weight (list ws) + weights us + 1 ≤ 65536
+    → nesting (list ws) + 1 ≤ 64 → nestings us + 1 ≤ 64
+    → ReadAll (state Ready p no_items (us ∷ outer)) bs (turned ws no_items) (us ∷ outer)
+    → Read (state Ready p us outer) (91 ∷ 37 ∷ (bs ++ 37 ∷ 93 ∷ [])) (item (list ws) us) outer
 close_item bs ws p us outer o w n k r =
     let e = lt-ltb _ _ o in
     let opened : open_list 37 p us outer ≡ Some (state Ready p no_items (us ∷ outer)) = rw e refl in
     record {
       after = state Full r.pending (item (list ws) us) outer;
       pending = r.pending;
-      reads = ap (λ o. runs o (bs ++ 37 ∷ 93 ∷ [])) opened ∙ ap (λ x. runs (Some (state Ready p no_items (us ∷ outer))) x) (sym (append_assoc bs (37 ∷ []) (93 ∷ [])))
+      reads = ap (λ o. runs o (bs ++ 37 ∷ 93 ∷ [])) opened
+          ∙ ap (λ x. runs (Some (state Ready p no_items (us ∷ outer))) x) (sym (append_assoc bs (37 ∷ []) (93 ∷ [])))
           ∙ runs_append (Some (state Ready p no_items (us ∷ outer))) (bs ++ 37 ∷ []) (93 ∷ []) ∙ ap (λ x. runs x (93 ∷ [])) r.reads
           ∙ ap (λ x. put (list x) r.pending us outer) (turned_back ws) ∙ put_fits (list ws) r.pending us outer refl w n k;
       next = λ b a. refl;
@@ -160,7 +167,8 @@ resume from bs us outer r (b ∷ rest) h =
     blank_goes : (b : ℕ) → is_blank b ≡ true → go_on b r.pending us outer ≡ Some (state Ready r.pending us outer)
     blank_goes b h = rw h refl
 
-item_then : (gap bs rest : List ℕ) (p : List ℕ) (us : Items) (v : PlainValue) (ws : Items) (outer : List Items) → all_blank gap ≡ true → stands_apart rest ≡ true
+item_then : (gap bs rest : List ℕ) (p : List ℕ) (us : Items) (v : PlainValue) (ws : Items) (outer : List Items) → all_blank gap ≡ true
+    → stands_apart rest ≡ true
     → (r : Read (state Ready p us outer) bs (item v us) outer) → ReadAll (state Ready r.pending (item v us) outer) rest ws outer
     → ReadAll (state Ready p us outer) (gap ++ (bs ++ rest)) ws outer
 item_then gap bs rest p us v ws outer g a r m = record {
@@ -189,7 +197,8 @@ mutual
   item_reads bs v denotes_eod m p us outer w k n = cc
   item_reads bs v denotes_fault m p us outer w k n = cc
 
-  items_read : (bs : List ℕ) (vs : Items) → DenotesItems bs vs → (p : List ℕ) (us : Items) (outer : List Items) → Room us vs outer → ReadAll (state Ready p us outer) bs (turned vs us) outer
+  items_read : (bs : List ℕ) (vs : Items) → DenotesItems bs vs → (p : List ℕ) (us : Items) (outer : List Items) → Room us vs outer
+      → ReadAll (state Ready p us outer) bs (turned vs us) outer
   items_read bs vs (denotes_none gap g) p us outer r = record {
     pending = p;
     reads = runs_append (Some (state Ready p us outer)) gap (37 ∷ []) ∙ ap (λ o. runs o (37 ∷ [])) (gap_runs gap p us outer g);

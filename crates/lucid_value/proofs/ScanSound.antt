@@ -14,7 +14,8 @@ HasFull pre us = (rest : List ℕ) (vs : Items) → IsTrue (stands_apart rest) �
 -- what was read of the lists around it, through the innermost `[%`
 data Context : List Items → List ℕ → Type 0 where
   outermost : Context [] []
-  inside : (us : Items) (outer : List Items) (above pre : List ℕ) → Context outer above → HasReady pre us → Context (us ∷ outer) (above ++ (pre ++ 91 ∷ 37 ∷ []))
+  inside : (us : Items) (outer : List Items) (above pre : List ℕ) → Context outer above → HasReady pre us
+      → Context (us ∷ outer) (above ++ (pre ++ 91 ∷ 37 ∷ []))
 
 -- what a state says of the bytes that were read
 data Means : State → List ℕ → Type 0 where
@@ -49,7 +50,8 @@ full_blank b pre us h f = λ rest vs d.
 
 ready_item : (pre bs : List ℕ) (us : Items) (v : PlainValue) → HasReady pre us → may_be_held v ≡ true → Denotes bs v → HasFull (pre ++ bs) (item v us)
 ready_item pre bs us v f m dv = λ rest vs a d.
-    subst (λ x. DenotesItems x (turned us (item v vs))) (sym (append_assoc pre bs rest)) (f (bs ++ rest) (item v vs) (denotes_item [] bs rest v vs refl m dv a d))
+    subst (λ x. DenotesItems x (turned us (item v vs))) (sym (append_assoc pre bs rest))
+    (f (bs ++ rest) (item v vs) (denotes_item [] bs rest v vs refl m dv a d))
 
 append_nil : (xs : List ℕ) → xs ++ [] ≡ xs
 append_nil [] = refl
@@ -86,9 +88,11 @@ go_on_means b false true hm hn p us outer above pre read t c f e h =
     (more b read above pre e ∙ ap (λ x. above ++ (pre ++ x ∷ [])) (eqb-true b 37 hn)))
 go_on_means b false false hm hn p us outer above pre read t c f e h = cc
 
-begin_means : (b : ℕ) (k l m : Bool) → nat_eq b 91 ≡ k → nat_eq b 96 ≡ l → is_atom_byte b ≡ m → (p : List ℕ) (us : Items) (outer : List Items) (above pre read : List ℕ) (t : State)
+begin_means : (b : ℕ) (k l m : Bool) → nat_eq b 91 ≡ k → nat_eq b 96 ≡ l → is_atom_byte b ≡ m
+    → (p : List ℕ) (us : Items) (outer : List Items) (above pre read : List ℕ) (t : State)
     → Context outer above → HasReady pre us → read ≡ above ++ pre
-    → (if k then Some (state Opening p us outer) else (if l then Some (state Quoted [] us outer) else (if m then Some (state Atom (b ∷ []) us outer) else go_on b p us outer))) ≡ Some t
+    → (if k then Some (state Opening p us outer) else (if l then Some
+    (state Quoted [] us outer) else (if m then Some (state Atom (b ∷ []) us outer) else go_on b p us outer))) ≡ Some t
     → Means t (read ++ b ∷ [])
 begin_means b true l m hk hl hm p us outer above pre read t c f e h =
     along _ t _ h (means_opening p us outer above pre (read ++ b ∷ []) c f (more b read above pre e ∙ ap (λ x. above ++ (pre ++ x ∷ [])) (eqb-true b 91 hk)))
@@ -104,13 +108,16 @@ behind : (b : ℕ) (o : Option State) (read : List ℕ) (t : State) → ((s : St
     → ((f : Focus) (bs : List ℕ) (us : Items) (outer : List Items) → o ≡ Some (state f bs us outer) → f ≡ Full)
     → go_on_from b o ≡ Some t → Means t (read ++ b ∷ [])
 behind b None read t m f h = cc
-behind b (Some (state g bs us outer)) read t m f h = full_on b bs us outer read t (subst (λ x. Means (state x bs us outer) read) (f g bs us outer refl) (m (state g bs us outer) refl)) h
+behind b (Some (state g bs us outer)) read t m f h =
+    full_on b bs us outer read t (subst (λ x. Means (state x bs us outer) read) (f g bs us outer refl) (m (state g bs us outer) refl)) h
   where
     full_on : (b : ℕ) (bs : List ℕ) (us : Items) (outer : List Items) (read : List ℕ) (t : State) → Means (state Full bs us outer) read
         → go_on b bs us outer ≡ Some t → Means t (read ++ b ∷ [])
-    full_on b bs us outer read t (means_full bs' us' outer' above pre read' c f e) h = go_on_means b (is_blank b) (nat_eq b 37) refl refl bs us outer above pre read t c f e h
+    full_on b bs us outer read t (means_full bs' us' outer' above pre read' c f e) h =
+        go_on_means b (is_blank b) (nat_eq b 37) refl refl bs us outer above pre read t c f e h
 
-put_full : (v : PlainValue) (p : List ℕ) (us : Items) (outer : List Items) (f : Focus) (bs : List ℕ) (ws : Items) (out : List Items) → put v p us outer ≡ Some (state f bs ws out) → f ≡ Full
+put_full : (v : PlainValue) (p : List ℕ) (us : Items) (outer : List Items) (f : Focus) (bs : List ℕ) (ws : Items) (out : List Items)
+    → put v p us outer ≡ Some (state f bs ws out) → f ≡ Full
 unfolding put
 put_full v p us outer f bs ws out h = at (may_be_held v && fits (item v us)) h
   where
@@ -118,11 +125,13 @@ put_full v p us outer f bs ws out h = at (may_be_held v && fits (item v us)) h
     at true h = cc
     at false h = cc
 
-put_some_full : (o : Option PlainValue) (p : List ℕ) (us : Items) (outer : List Items) (f : Focus) (bs : List ℕ) (ws : Items) (out : List Items) → put_some o p us outer ≡ Some (state f bs ws out) → f ≡ Full
+put_some_full : (o : Option PlainValue) (p : List ℕ) (us : Items) (outer : List Items) (f : Focus) (bs : List ℕ) (ws : Items) (out : List Items)
+    → put_some o p us outer ≡ Some (state f bs ws out) → f ≡ Full
 put_some_full None p us outer f bs ws out h = cc
 put_some_full (Some v) p us outer f bs ws out h = put_full v p us outer f bs ws out h
 
-put_some_means : (o : Option PlainValue) (p bs : List ℕ) (us : Items) (outer : List Items) (above pre read : List ℕ) (t : State) → Context outer above → HasReady pre us
+put_some_means : (o : Option PlainValue) (p bs : List ℕ) (us : Items) (outer : List Items) (above pre read : List ℕ) (t : State) → Context outer above
+    → HasReady pre us
     → ((v : PlainValue) → o ≡ Some v → Denotes bs v) → read ≡ above ++ (pre ++ bs) → put_some o p us outer ≡ Some t → Means t read
 put_some_means None p bs us outer above pre read t c f d e h = cc
 put_some_means (Some v) p bs us outer above pre read t c f d e h = put_means v p bs us outer above pre read t c f (d v refl) e h
@@ -171,7 +180,8 @@ close_means : (bs : List ℕ) (us : Items) (outer : List Items) (above pre read 
     → Context outer above → DenotesItems pre (turned us no_items) → read ≡ above ++ (pre ++ 37 ∷ 93 ∷ []) → close_list bs us outer ≡ Some t → Means t read
 close_means bs us outer above pre read t outermost d e h = along _ t _ h (means_done bs (turned us no_items) [] pre read d e)
 close_means bs us outer above pre read t (inside ws out above' pre' c f) d e h =
-    put_means (list (turned us no_items)) bs (91 ∷ 37 ∷ (pre ++ 37 ∷ 93 ∷ [])) ws out above' pre' read t c f (denotes_list pre (turned us no_items) d) (e ∙ regroup above' pre' pre) h
+    put_means (list (turned us no_items)) bs (91 ∷ 37 ∷ (pre ++ 37 ∷ 93 ∷ [])) ws out above' pre' read t c f (denotes_list pre (turned us no_items) d)
+    (e ∙ regroup above' pre' pre) h
 
 closing_means : (b : ℕ) (m : Bool) → nat_eq b 93 ≡ m → (bs : List ℕ) (us : Items) (outer : List Items) (above pre read : List ℕ) (t : State)
     → Context outer above → DenotesItems pre (turned us no_items) → read ≡ above ++ (pre ++ 37 ∷ [])
@@ -181,7 +191,8 @@ closing_means b true hm bs us outer above pre read t c d e h =
 closing_means b false hm bs us outer above pre read t c d e h = cc
 
 step_means : (b : ℕ) (s t : State) (read : List ℕ) → Means s read → step b s ≡ Some t → Means t (read ++ b ∷ [])
-step_means b s t read (means_ready bs us outer above pre read' c f e) h = begin_means b (nat_eq b 91) (nat_eq b 96) (is_atom_byte b) refl refl refl bs us outer above pre read t c f e h
+step_means b s t read (means_ready bs us outer above pre read' c f e) h =
+    begin_means b (nat_eq b 91) (nat_eq b 96) (is_atom_byte b) refl refl refl bs us outer above pre read t c f e h
 step_means b s t read (means_full bs us outer above pre read' c f e) h = go_on_means b (is_blank b) (nat_eq b 37) refl refl bs us outer above pre read t c f e h
 step_means b s t read (means_atom bs us outer above pre read' c f e) h = atom_means b (is_atom_byte b) refl bs us outer above pre read t c f e h
 step_means b s t read (means_quoted bs us outer above pre read' c f e) h = quoted_means b (nat_eq b 39) refl bs us outer above pre read t c f e h
@@ -198,7 +209,8 @@ runs_means [] s t read m h = along s t (read ++ []) h (subst (λ x. Means s x) (
 runs_means (b ∷ bs) s t read m h =
     next (λ u k g. subst (λ x. Means t x) (append_assoc read (b ∷ []) bs) (runs_means bs u t (read ++ b ∷ []) (step_means b s u read m k) g)) (step b s) refl h
   where
-    next : ((u : State) → step b s ≡ Some u → runs (Some u) bs ≡ Some t → Means t (read ++ b ∷ bs)) → (o : Option State) → step b s ≡ o → runs o bs ≡ Some t → Means t (read ++ b ∷ bs)
+    next : ((u : State) → step b s ≡ Some u → runs (Some u) bs ≡ Some t → Means t (read ++ b ∷ bs)) → (o : Option State) → step b s ≡ o → runs o bs ≡ Some t
+        → Means t (read ++ b ∷ bs)
     next f None k h = cc (runs_none bs)
     next f (Some u) k h = f u k h
 

@@ -48,7 +48,8 @@ line_reads line bytes v e r =
     let b = blanks line in
     let a = blanks (reverse (after_blanks line)) in
     let k : after_blanks line ≡ bytes ++ reverse a.gap =
-    sym (reverse-reverse (after_blanks line)) ∙ ap reverse (a.parts ∙ ap (λ x. a.gap ++ x) (sym e)) ∙ reverse-append a.gap (reverse bytes) ∙ ap (λ x. x ++ reverse a.gap) (reverse-reverse bytes) in
+    sym (reverse-reverse (after_blanks line)) ∙ ap reverse (a.parts ∙ ap (λ x. a.gap ++ x) (sym e)) ∙ reverse-append a.gap (reverse bytes)
+    ∙ ap (λ x. x ++ reverse a.gap) (reverse-reverse bytes) in
     record {
       before = b.gap;
       bytes = bytes;
@@ -69,8 +70,10 @@ reads_trimmed line bytes v e r =
     let m : bytes ≡ r.bytes = sym (reverse-reverse bytes) ∙ ap reverse (e ∙ k) ∙ reverse-reverse r.bytes in
     subst (λ x. Reads x v) (sym m) r.reads
 
-pub trimmed_reads : (line start bytes : List ℕ) (v : Value) → start ≡ after_blanks line → reverse bytes ≡ after_blanks (reverse start) → IsRead (Some v) bytes → ReadsLine line (plain v)
+pub trimmed_reads : (line start bytes : List ℕ) (v : Value) → start ≡ after_blanks line → reverse bytes ≡ after_blanks (reverse start) → IsRead (Some v) bytes
+    → ReadsLine line (plain v)
 trimmed_reads line start bytes v s e r = line_reads line bytes (plain v) (e ∙ ap (λ x. after_blanks (reverse x)) s) r
 
-pub trimmed_unread : (line start bytes : List ℕ) → start ≡ after_blanks line → reverse bytes ≡ after_blanks (reverse start) → IsRead None bytes → ReadsAsNone line
+pub trimmed_unread : (line start bytes : List ℕ) → start ≡ after_blanks line → reverse bytes ≡ after_blanks (reverse start) → IsRead None bytes
+    → ReadsAsNone line
 trimmed_unread line start bytes s e r = λ v k. r v (reads_trimmed line bytes v (e ∙ ap (λ x. after_blanks (reverse x)) s) k)

@@ -7,7 +7,8 @@ use Rattle.lucid_why.proofs.OneText.{map-append, rows-push, begun_goes_on, no_co
 abbrev pub Adds : (v w : Why) → (line : List ℕ) → Type 0
 Adds v w line = AllByRecursion RowFits (why_rows w) × (why_lines w ≡ why_lines v ++ line ∷ []) × CanGoOn AreWhyLines (why_lines w)
 
-row_adds : (v w : Why) (r : WhyRow) (line : List ℕ) → AllByRecursion RowFits (why_rows v) → why_rows w ≡ why_rows v ++ r ∷ [] → RowFits r → line ≡ row_line r → Adds v w line
+row_adds : (v w : Why) (r : WhyRow) (line : List ℕ) → AllByRecursion RowFits (why_rows v) → why_rows w ≡ why_rows v ++ r ∷ [] → RowFits r → line ≡ row_line r
+    → Adds v w line
 row_adds v w r line h rows f l =
     let P : List WhyRow → Type 0 = AllByRecursion RowFits in
     let fit = subst P (sym rows) (all-append RowFits (why_rows v) (r ∷ []) h (f, tt)) in
@@ -17,7 +18,8 @@ abbrev made : List ContextRow → List PlainJudgment → Why
 made cs js = record { contexts = cs; judgments = js }
 
 -- a judgment
-pub judgment_adds : (cs : List ContextRow) (old new : List JudgmentRow) (row : JudgmentRow) (line : List ℕ) → AllByRecursion RowFits (why_rows (made cs (map plain_judgment old)))
+pub judgment_adds : (cs : List ContextRow) (old new : List JudgmentRow) (row : JudgmentRow) (line : List ℕ)
+    → AllByRecursion RowFits (why_rows (made cs (map plain_judgment old)))
     → new ≡ old ++ row ∷ [] → RowFits (judgment_row (plain_judgment row)) → line ≡ row_line (judgment_row (plain_judgment row))
     → Adds (made cs (map plain_judgment old)) (made cs (map plain_judgment new)) line
 judgment_adds cs old new row line h e f l =
@@ -31,16 +33,20 @@ none_of (j ∷ js) n e h = let z = eqb-true n 0 h in absurd (omega (arith, e, z)
 
 contexts-push : (cs : List ContextRow) (c : ContextRow) → map context_row (cs ++ c ∷ []) ++ [] ≡ (map context_row cs ++ []) ++ context_row c ∷ []
 contexts-push cs c =
-    append-nil (map context_row (cs ++ c ∷ [])) ∙ (map-append context_row cs (c ∷ []) ∙ ap (λ (x : List WhyRow). x ++ context_row c ∷ []) (sym (append-nil (map context_row cs))))
+    append-nil (map context_row (cs ++ c ∷ [])) ∙ (map-append context_row cs (c ∷ [])
+    ∙ ap (λ (x : List WhyRow). x ++ context_row c ∷ []) (sym (append-nil (map context_row cs))))
 
-context_adds_first : (old new : List ContextRow) (c : ContextRow) (line : List ℕ) → AllByRecursion RowFits (why_rows (made old [])) → new ≡ old ++ c ∷ [] → RowFits (context_row c) → line ≡ row_line (context_row c)
+context_adds_first : (old new : List ContextRow) (c : ContextRow) (line : List ℕ) → AllByRecursion RowFits (why_rows (made old [])) → new ≡ old ++ c ∷ []
+    → RowFits (context_row c) → line ≡ row_line (context_row c)
     → Adds (made old []) (made new []) line
 context_adds_first old new c line h e f l =
     row_adds (made old []) (made new []) (context_row c) line h (ap (λ (x : List ContextRow). why_rows (made x [])) e ∙ contexts-push old c) f l
 
 -- a context, where no judgment is before it
-pub context_adds : (old new : List ContextRow) (js : List JudgmentRow) (k : ℕ) (c : ContextRow) (line : List ℕ) → k ≡ length js → (k == 0) ≡ true → AllByRecursion RowFits (why_rows (made old (map plain_judgment js)))
-    → new ≡ old ++ c ∷ [] → RowFits (context_row c) → line ≡ row_line (context_row c) → Adds (made old (map plain_judgment js)) (made new (map plain_judgment js)) line
+pub context_adds : (old new : List ContextRow) (js : List JudgmentRow) (k : ℕ) (c : ContextRow) (line : List ℕ) → k ≡ length js → (k == 0) ≡ true
+    → AllByRecursion RowFits (why_rows (made old (map plain_judgment js)))
+    → new ≡ old ++ c ∷ [] → RowFits (context_row c) → line ≡ row_line (context_row c)
+    → Adds (made old (map plain_judgment js)) (made new (map plain_judgment js)) line
 context_adds old new js k c line q n h e f l =
     let none = none_of js k q n in
     let P : List JudgmentRow → Type 0 = λ xs. AllByRecursion RowFits (why_rows (made old (map plain_judgment xs))) in

@@ -67,7 +67,8 @@ goes_on_by : OneValue → (rs : List WhyRow) (line : List ℕ) (more : List (Lis
 goes_on_by law rs line more w g d e = one_more_row law (why_rows w) rs line more d.rows g (sym e ∙ append_assoc (map row_line rs) (line ∷ []) more)
 
 -- a line that is no row's comes nowhere
-pub no_row_here : OneValue → (rs : List WhyRow) (line : List ℕ) → AllByRecursion RowFits rs → IsRowOf line None → CannotGoOn AreWhyLines (map row_line rs ++ line ∷ [])
+pub no_row_here : OneValue → (rs : List WhyRow) (line : List ℕ) → AllByRecursion RowFits rs → IsRowOf line None
+    → CannotGoOn AreWhyLines (map row_line rs ++ line ∷ [])
 no_row_here law rs line g h (more, (w, d, e)) =
     let o = goes_on_by law rs line more w g d e in h o.row o.fits o.is
 
@@ -93,7 +94,8 @@ pub no_context_here : OneValue → (cs : List ContextRow) (j : PlainJudgment) (j
 no_context_here law cs j js c line g f l (more, (w, d, e)) =
     let o = goes_on_by law (map context_row cs ++ map judgment_row (j ∷ js)) line more w g d e in
     let same = one_row law (context_row c) o.row f o.fits (sym l ∙ o.is) in
-    no_context c o.others j js w.judgments cs w.contexts (sym (o.rows ∙ ap (λ (x : WhyRow). (map context_row cs ++ map judgment_row (j ∷ js)) ++ x ∷ o.others) (sym same)))
+    no_context c o.others j js w.judgments cs w.contexts
+    (sym (o.rows ∙ ap (λ (x : WhyRow). (map context_row cs ++ map judgment_row (j ∷ js)) ++ x ∷ o.others) (sym same)))
 
 -- a judgment with which each text goes on
 smallest : PlainJudgment
@@ -101,11 +103,17 @@ smallest = record { node = 0; context = 0; time = 0; space = 0; uses = []; value
 
 smallest_fits : RowFits (judgment_row smallest)
 unfolding smallest
-smallest_fits = record { node = omega arith; context = omega arith; shown = record { time = omega arith; space = omega arith; few = omega arith; uses = tt }; value = refl }
+smallest_fits = record {
+  node = omega arith;
+  context = omega arith;
+  shown = record { time = omega arith; space = omega arith; few = omega arith; uses = tt };
+  value = refl;
+}
 
 pub rows-push : (cs : List ContextRow) (js : List PlainJudgment) (j : PlainJudgment)
     → map context_row cs ++ map judgment_row (js ++ j ∷ []) ≡ (map context_row cs ++ map judgment_row js) ++ judgment_row j ∷ []
-rows-push cs js j = ap (λ (x : List WhyRow). map context_row cs ++ x) (map-append judgment_row js (j ∷ [])) ∙ sym (append_assoc (map context_row cs) (map judgment_row js) (judgment_row j ∷ []))
+rows-push cs js j = ap (λ (x : List WhyRow). map context_row cs ++ x) (map-append judgment_row js (j ∷ []))
+    ∙ sym (append_assoc (map context_row cs) (map judgment_row js) (judgment_row j ∷ []))
 
 -- Rows that fit, those of contexts first, go on to a text.
 pub begun_goes_on : (w : Why) → AllByRecursion RowFits (why_rows w) → CanGoOn AreWhyLines (why_lines w)
@@ -127,7 +135,8 @@ same_judgments (j ∷ js) (k ∷ ks) e =
     let q : j ≡ k = cc in
     let r = same_judgments js ks (cc) in cc (q, r)
 
-same_parts : (cs ds : List ContextRow) (js ks : List PlainJudgment) → map context_row cs ++ map judgment_row js ≡ map context_row ds ++ map judgment_row ks → (cs ≡ ds) × (js ≡ ks)
+same_parts : (cs ds : List ContextRow) (js ks : List PlainJudgment) → map context_row cs ++ map judgment_row js ≡ map context_row ds ++ map judgment_row ks
+    → (cs ≡ ds) × (js ≡ ks)
 same_parts [] [] js ks e = (refl, same_judgments js ks e)
 same_parts [] (d ∷ ds) [] ks e = absurd (cc)
 same_parts [] (d ∷ ds) (j ∷ js) ks e = let q : judgment_row j ≡ context_row d = cc in absurd (cc)
@@ -158,7 +167,8 @@ one_by_lines law v w f g e =
 pub one_why : OneValue → OneWhy
 one_why law bytes v w h k =
     one_by_lines law v w h.has.rows k.has.rows
-    (sym (text_lines AreWhyLines why_lines_are bytes (why_lines v) (v, h.has, refl) h.text) ∙ text_lines AreWhyLines why_lines_are bytes (why_lines w) (w, k.has, refl) k.text)
+    (sym (text_lines AreWhyLines why_lines_are bytes (why_lines v) (v, h.has, refl) h.text)
+    ∙ text_lines AreWhyLines why_lines_are bytes (why_lines w) (w, k.has, refl) k.text)
 
 -- The rows so far are those of a text exactly where there is a judgment.
 pub is_whole : OneValue → (w : Why) → AllByRecursion RowFits (why_rows w) → AreWhyLines (why_lines w) → 0 < length w.judgments
@@ -166,7 +176,8 @@ is_whole law w f (v, h, e) =
     let same = one_by_lines law w v f h.rows e in omega (arith, ap (λ (x : Why). length x.judgments) same, h.some)
 
 -- Bytes whose lines are those of a text are its certificate's text.
-pub text_is : OneValue → (bytes : List ℕ) (w : Why) → AllByRecursion RowFits (why_rows w) → AreWhyLines (why_lines w) → bytes ≡ text_of (why_lines w) → IsTextOf bytes w
+pub text_is : OneValue → (bytes : List ℕ) (w : Why) → AllByRecursion RowFits (why_rows w) → AreWhyLines (why_lines w) → bytes ≡ text_of (why_lines w)
+    → IsTextOf bytes w
 text_is law bytes w f d e = record { has = record { rows = f; some = is_whole law w f d }; text = e }
 
 -- A text goes on with no line.

@@ -47,7 +47,10 @@ same_heads r s e = one_cut 32 (row_head r) (row_head s) (row_tail r) (row_tail s
 
 one_row_by : OneValue → (r s : WhyRow) → RowFits r → RowFits s → row_head r ≡ row_head s → row_tail r ≡ row_tail s → r ≡ s
 one_row_by law (context_row c) (context_row d) f g h t =
-    ap context_row (same_Some c d ((sym (context_of-parts c f) ∙ (ap (λ (w : List ℕ). context_of w (row_tail (context_row c))) h ∙ ap (context_of (row_head (context_row d))) t)) ∙ context_of-parts d g))
+    ap context_row
+    (same_Some c d
+    ((sym (context_of-parts c f) ∙ (ap (λ (w : List ℕ). context_of w (row_tail (context_row c))) h ∙ ap (context_of (row_head (context_row d))) t))
+    ∙ context_of-parts d g))
 one_row_by law (context_row c) (judgment_row k) f g h t = absurd (no_judgment c h)
 one_row_by law (judgment_row j) (context_row d) f g h t = absurd (no_judgment d (sym h))
 one_row_by law (judgment_row j) (judgment_row k) f g h t = ap judgment_row (one_tail law j k f g t)
@@ -58,7 +61,8 @@ one_row law r s f g e =
     let p = same_heads r s e in one_row_by law r s f g p.0 p.1
 
 none_by : (r : WhyRow) (w t : List ℕ) → RowFits r → bytes_eq w (codes "j") ≡ false → None ≡ context_of w t → w ≡ row_head r → t ≡ row_tail r → ⊥
-none_by (context_row c) w t f d e h k = none-some c (e ∙ ((ap (λ (x : List ℕ). context_of x t) h ∙ ap (context_of (row_head (context_row c))) k) ∙ context_of-parts c f))
+none_by (context_row c) w t f d e h k = none-some c
+    (e ∙ ((ap (λ (x : List ℕ). context_of x t) h ∙ ap (context_of (row_head (context_row c))) k) ∙ context_of-parts c f))
 none_by (judgment_row j) w t f d e h k = let q = (bytes_eq-Decides w (codes "j")).1 h in cc
 
 -- Where the first word is no judgment's, what is read is the line's row, if it is one's.
@@ -90,7 +94,8 @@ no_uses t f ws r e = λ j h k.
     let a = uses_of_tail t j f ws h k (sym r) in none-some (j.uses, words_of (value_text j.value)) (sym e ∙ a.1)
 
 -- and where no value stands behind them.
-pub no_words : (t : List ℕ) (f : Front) (ws : List (List ℕ)) (us : List ℕ) → Some (f, ws) ≡ front_of (words_of t) → take_uses f.count ws ≡ Some (us, []) → IsTailOf t None
+pub no_words : (t : List ℕ) (f : Front) (ws : List (List ℕ)) (us : List ℕ) → Some (f, ws) ≡ front_of (words_of t) → take_uses f.count ws ≡ Some (us, [])
+    → IsTailOf t None
 no_words t f ws us r e = λ j h k.
     let a = uses_of_tail t j f ws h k (sym r) in
     let s = same_Some (us, []) (j.uses, words_of (value_text j.value)) (sym e ∙ a.1) in
@@ -98,20 +103,23 @@ no_words t f ws us r e = λ j h k.
     let some = is_end-words_of (value_text j.value) in
     cc
 
-pub no_value : (t : List ℕ) (f : Front) (ws : List (List ℕ)) (us text : List ℕ) → Some (f, ws) ≡ front_of (words_of t) → take_uses f.count ws ≡ Some (us, words_of text) → IsValueOf text None → IsTailOf t None
+pub no_value : (t : List ℕ) (f : Front) (ws : List (List ℕ)) (us text : List ℕ) → Some (f, ws) ≡ front_of (words_of t)
+    → take_uses f.count ws ≡ Some (us, words_of text) → IsValueOf text None → IsTailOf t None
 no_value t f ws us text r e n = λ j h k.
     let a = uses_of_tail t j f ws h k (sym r) in
     let s = same_Some (us, words_of text) (j.uses, words_of (value_text j.value)) (sym e ∙ a.1) in
     n j.value h.value (same_bytes text (value_text j.value) (ap words_part s))
 
 -- Where a value does, they are the judgment of front, uses and value.
-pub tail_is : (t : List ℕ) (f : Front) (ws : List (List ℕ)) (us text : List ℕ) (v : Value) → Some (f, ws) ≡ front_of (words_of t) → take_uses f.count ws ≡ Some (us, words_of text) → IsValueOf text (Some v)
+pub tail_is : (t : List ℕ) (f : Front) (ws : List (List ℕ)) (us text : List ℕ) (v : Value) → Some (f, ws) ≡ front_of (words_of t)
+    → take_uses f.count ws ≡ Some (us, words_of text) → IsValueOf text (Some v)
     → IsTailOf t (Some (judgment_by f us (plain v)))
 tail_is t f ws us text v r e n =
     let d = front_read (words_of t) (f, ws) (sym r) in
     let g = uses_read f.count ws (us, words_of text) e in
     let count : map decimal (front_numbers f) ++ ws ≡ map decimal (f.node ∷ f.context ∷ f.time ∷ f.space ∷ length us ∷ us) ++ words_of text =
-    ap (λ (x : List (List ℕ)). map decimal (front_numbers f) ++ x) g.2 ∙ ap (λ (n : ℕ). map decimal (f.node ∷ f.context ∷ f.time ∷ f.space ∷ n ∷ us) ++ words_of text) (sym g.1) in
+    ap (λ (x : List (List ℕ)). map decimal (front_numbers f) ++ x) g.2
+    ∙ ap (λ (n : ℕ). map decimal (f.node ∷ f.context ∷ f.time ∷ f.space ∷ n ∷ us) ++ words_of text) (sym g.1) in
     let numbers = map decimal (f.node ∷ f.context ∷ f.time ∷ f.space ∷ length us ∷ us) in (
       record {
         node = d.0.node;
@@ -119,5 +127,6 @@ tail_is t f ws us text v r e n =
         shown = record { time = d.0.time; space = d.0.space; few = subst (λ n. n < 2 ^ 32) (sym g.1) d.0.count; uses = g.0 };
         value = n.0;
       },
-      sym (join_with_byte-slice_split 32 t) ∙ (ap (join_with_byte 32) (d.1 ∙ count) ∙ (join_behind numbers text ∙ ap (λ (x : List ℕ). join_with_byte 32 (numbers ++ x ∷ [])) n.1)),
+      sym (join_with_byte-slice_split 32 t) ∙ (ap (join_with_byte 32) (d.1 ∙ count)
+          ∙ (join_behind numbers text ∙ ap (λ (x : List ℕ). join_with_byte 32 (numbers ++ x ∷ [])) n.1)),
     )

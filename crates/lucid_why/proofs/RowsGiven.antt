@@ -24,7 +24,11 @@ head_lacks r = solid_lacks 32 refl (row_head r) (head_solid r)
 call_of-words : (b p c : ℕ) → ContextFits (Call b p c) → call_of (row_rest (context_row (Call b p c))) ≡ Some (Call b p c)
 unfolding call_of
 call_of-words b p c h =
-    rw (take_number-decimal (2 ^ 32) b (decimal p ∷ decimal c ∷ []) (omega arith) h.0, take_number-decimal (2 ^ 32) p (decimal c ∷ []) (omega arith) h.1.0, take_number-decimal (2 ^ 32) c [] (omega arith) h.1.1) refl
+    rw (
+      take_number-decimal (2 ^ 32) b (decimal p ∷ decimal c ∷ []) (omega arith) h.0,
+      take_number-decimal (2 ^ 32) p (decimal c ∷ []) (omega arith) h.1.0,
+      take_number-decimal (2 ^ 32) c [] (omega arith) h.1.1,
+    ) refl
 
 frozen_of-words : (b t : ℕ) → ContextFits (Frozen b t) → frozen_of (row_rest (context_row (Frozen b t))) ≡ Some (Frozen b t)
 unfolding frozen_of
@@ -34,9 +38,11 @@ frozen_of-words b t h = rw (take_number-decimal (2 ^ 32) b (decimal t ∷ []) (o
 pub context_of-parts : (c : ContextRow) → ContextFits c → context_of (row_head (context_row c)) (row_tail (context_row c)) ≡ Some c
 unfolding context_of
 context_of-parts (Call b p c) h =
-    ap call_of (spaced_words (decimal b) (decimal p ∷ decimal c ∷ []) (decimal_solid b (omega (arith, h.0)), (decimal_solid p (omega (arith, h.1.0)), (decimal_solid c (omega (arith, h.1.1)), tt)))) ∙ call_of-words b p c h
+    ap call_of (spaced_words (decimal b) (decimal p ∷ decimal c ∷ [])
+    (decimal_solid b (omega (arith, h.0)), (decimal_solid p (omega (arith, h.1.0)), (decimal_solid c (omega (arith, h.1.1)), tt)))) ∙ call_of-words b p c h
 context_of-parts (Frozen b t) h =
-    ap frozen_of (spaced_words (decimal b) (decimal t ∷ []) (decimal_solid b (omega (arith, h.0)), (decimal_solid t (omega (arith, h.1)), tt))) ∙ frozen_of-words b t h
+    ap frozen_of (spaced_words (decimal b) (decimal t ∷ []) (decimal_solid b (omega (arith, h.0)), (decimal_solid t (omega (arith, h.1)), tt)))
+    ∙ frozen_of-words b t h
 
 -- the numbers of a judgment in front of its uses
 abbrev pub front_in : PlainJudgment → Front
@@ -50,7 +56,16 @@ pub numbers_solid : (j : PlainJudgment) → JudgmentFits j → AllByRecursion Is
 numbers_solid j h =
     let s = h.shown in (
       decimal_solid j.node (omega (arith, h.node)),
-      (decimal_solid j.context (omega (arith, h.context)), (decimal_solid j.time (omega (arith, s.time)), (decimal_solid j.space (omega (arith, s.space)), (decimal_solid (length j.uses) (omega (arith, s.few)), decimals_solid (2 ^ 32) (omega arith) j.uses s.uses)))),
+      (
+        decimal_solid j.context (omega (arith, h.context)),
+        (
+          decimal_solid j.time (omega (arith, s.time)),
+          (
+            decimal_solid j.space (omega (arith, s.space)),
+            (decimal_solid (length j.uses) (omega (arith, s.few)), decimals_solid (2 ^ 32) (omega arith) j.uses s.uses),
+          ),
+        ),
+      ),
     )
 
 front_of-numbers : (j : PlainJudgment) (ws : List (List ℕ)) → JudgmentFits j
@@ -68,7 +83,8 @@ front_of-numbers j ws h =
 
 -- The numbers in front are read from a judgment's line,
 pub front_of-tail : (j : PlainJudgment) → JudgmentFits j → front_of (words_of (judgment_tail j)) ≡ Some (front_in j, behind_front j)
-front_of-tail j h = ap front_of (words_in_front (map decimal (judgment_numbers j)) (value_text j.value) (numbers_solid j h)) ∙ front_of-numbers j (behind_front j) h
+front_of-tail j h = ap front_of (words_in_front (map decimal (judgment_numbers j)) (value_text j.value) (numbers_solid j h))
+    ∙ front_of-numbers j (behind_front j) h
 
 -- and so are the uses.
 pub take_uses-words : (us : List ℕ) (ws : List (List ℕ)) → AreBelow (2 ^ 32) us → take_uses (length us) (map decimal us ++ ws) ≡ Some (us, ws)
@@ -80,9 +96,11 @@ abbrev front_part : Front × List (List ℕ) → Front
 front_part p = p.0
 
 -- Bytes behind a judgment's first word whose front was read are those of this judgment's front, uses and value.
-pub uses_of_tail : (t : List ℕ) (j : PlainJudgment) (f : Front) (ws : List (List ℕ)) → JudgmentFits j → t ≡ judgment_tail j → front_of (words_of t) ≡ Some (f, ws)
+pub uses_of_tail : (t : List ℕ) (j : PlainJudgment) (f : Front) (ws : List (List ℕ)) → JudgmentFits j → t ≡ judgment_tail j
+    → front_of (words_of t) ≡ Some (f, ws)
     → (f ≡ front_in j) × (take_uses f.count ws ≡ Some (j.uses, words_of (value_text j.value)))
 uses_of_tail t j f ws h e r =
-    let same : (front_in j, behind_front j) ≡ (f, ws) = same_Some (front_in j, behind_front j) (f, ws) (sym (ap (λ (x : List ℕ). front_of (words_of x)) e ∙ front_of-tail j h) ∙ r) in
+    let same : (front_in j, behind_front j) ≡ (f, ws) =
+    same_Some (front_in j, behind_front j) (f, ws) (sym (ap (λ (x : List ℕ). front_of (words_of x)) e ∙ front_of-tail j h) ∙ r) in
     let P : Front × List (List ℕ) → Type 0 = λ p. (p.0 ≡ front_in j) × (take_uses p.0.count p.1 ≡ Some (j.uses, words_of (value_text j.value))) in
     subst P same (refl, take_uses-words j.uses (words_of (value_text j.value)) h.shown.uses)

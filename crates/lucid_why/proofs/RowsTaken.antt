@@ -19,7 +19,8 @@ call_read ws c e =
     let d = taken (2 ^ 32) ws b t in
     let g = taken (2 ^ 32) b.1 p u in
     let h = taken (2 ^ 32) p.1 f v in
-    let words = d.0 ∙ ap (λ (us : List (List ℕ)). decimal b.0 ∷ us) (g.0 ∙ ap (λ (us : List (List ℕ)). decimal p.0 ∷ us) (h.0 ∙ ap (λ (us : List (List ℕ)). decimal f.0 ∷ us) (no_word f.1 q.0))) in
+    let words = d.0 ∙ ap (λ (us : List (List ℕ)). decimal b.0 ∷ us)
+    (g.0 ∙ ap (λ (us : List (List ℕ)). decimal p.0 ∷ us) (h.0 ∙ ap (λ (us : List (List ℕ)). decimal f.0 ∷ us) (no_word f.1 q.0))) in
     let P : ContextRow → Type 0 = λ x. Has (codes "c") ws x in subst P q.1 ((d.1, (g.1, h.1)), refl, words))))
 
 frozen_read : (ws : List (List ℕ)) (c : ContextRow) → frozen_of ws ≡ Some c → Has (codes "z") ws c
@@ -89,7 +90,8 @@ front_read ws p e =
     let d2 = taken (2 ^ 63) c.1 t e2 in
     let d3 = taken (2 ^ 63) t.1 s e3 in
     let d4 = taken (2 ^ 32) s.1 k e4 in
-    let words = d0.0 ∙ ap (λ (us : List (List ℕ)). decimal n.0 ∷ us) (d1.0 ∙ ap (λ (us : List (List ℕ)). decimal c.0 ∷ us) (d2.0 ∙ ap (λ (us : List (List ℕ)). decimal t.0 ∷ us)
+    let words = d0.0 ∙ ap (λ (us : List (List ℕ)). decimal n.0 ∷ us)
+    (d1.0 ∙ ap (λ (us : List (List ℕ)). decimal c.0 ∷ us) (d2.0 ∙ ap (λ (us : List (List ℕ)). decimal t.0 ∷ us)
     (d3.0 ∙ ap (λ (us : List (List ℕ)). decimal s.0 ∷ us) d4.0))) in
     let f : Front = record { node = n.0; context = c.0; time = t.0; space = s.0; count = k.0 } in
     let fits : FrontFits f = record { node = d0.1; context = d1.1; time = d2.1; space = d3.1; count = d4.1 } in
@@ -115,12 +117,14 @@ abbrev pub with_front : List ℕ → Option (List ℕ × List (List ℕ)) → Op
 with_front ns None = None
 with_front ns (Some p) = Some (ns ++ p.0, p.1)
 
-one_more_by : (ns : List ℕ) (n : ℕ) (o : Option (List ℕ × List (List ℕ))) → with_front ns (option_and_then (λ (us : List ℕ × List (List ℕ)). Some (n ∷ us.0, us.1)) o) ≡ with_front (ns ++ n ∷ []) o
+one_more_by : (ns : List ℕ) (n : ℕ) (o : Option (List ℕ × List (List ℕ)))
+    → with_front ns (option_and_then (λ (us : List ℕ × List (List ℕ)). Some (n ∷ us.0, us.1)) o) ≡ with_front (ns ++ n ∷ []) o
 one_more_by ns n None = refl
 one_more_by ns n (Some p) = ap (λ (x : List ℕ). Some (x, p.1)) (sym (append_assoc ns (n ∷ []) p.0))
 
 -- one more number
-pub one_more : (k : ℕ) (ns : List ℕ) (n : ℕ) (ws vs : List (List ℕ)) → take_32 ws ≡ Some (n, vs) → with_front ns (take_uses (suc k) ws) ≡ with_front (ns ++ n ∷ []) (take_uses k vs)
+pub one_more : (k : ℕ) (ns : List ℕ) (n : ℕ) (ws vs : List (List ℕ)) → take_32 ws ≡ Some (n, vs)
+    → with_front ns (take_uses (suc k) ws) ≡ with_front (ns ++ n ∷ []) (take_uses k vs)
 one_more k ns n ws vs e = rw e (one_more_by ns n (take_uses k vs))
 
 -- where the next word is no number, none are taken
@@ -128,13 +132,15 @@ pub no_more : (k : ℕ) (ns : List ℕ) (ws : List (List ℕ)) → take_32 ws �
 no_more k ns ws e = rw e refl
 
 -- The same of the numbers that are left to take.
-pub none_taken : (count : ℕ) (ns : List ℕ) (all ws : List (List ℕ)) → take_uses count all ≡ with_front ns (take_uses (count - length ns) ws) → length ns < count → None ≡ take_32 ws
+pub none_taken : (count : ℕ) (ns : List ℕ) (all ws : List (List ℕ)) → take_uses count all ≡ with_front ns (take_uses (count - length ns) ws) → length ns < count
+    → None ≡ take_32 ws
     → take_uses count all ≡ None
 none_taken count ns all ws h l n =
     let e : count - length ns ≡ suc (count - suc (length ns)) = omega (arith, l) in
     h ∙ (ap (λ (k : ℕ). with_front ns (take_uses k ws)) e ∙ no_more (count - suc (length ns)) ns ws (sym n))
 
-pub one_taken : (count : ℕ) (ns ms : List ℕ) (n : ℕ) (all ws vs : List (List ℕ)) → take_uses count all ≡ with_front ns (take_uses (count - length ns) ws) → length ns < count → Some (n, vs) ≡ take_32 ws
+pub one_taken : (count : ℕ) (ns ms : List ℕ) (n : ℕ) (all ws vs : List (List ℕ)) → take_uses count all ≡ with_front ns (take_uses (count - length ns) ws)
+    → length ns < count → Some (n, vs) ≡ take_32 ws
     → ms ≡ ns ++ n ∷ [] → take_uses count all ≡ with_front ms (take_uses (count - length ms) vs)
 one_taken count ns ms n all ws vs h l t m =
     let e : count - length ns ≡ suc (count - suc (length ns)) = omega (arith, l) in
@@ -147,7 +153,8 @@ pub few_more : (count : ℕ) (ns ms : List ℕ) (n : ℕ) → length ns < count 
 few_more count ns ms n l m =
     let longer = ap length m ∙ length-append ns (n ∷ []) in omega (arith, l, longer)
 
-pub all_taken : (count : ℕ) (ns : List ℕ) (all ws : List (List ℕ)) → take_uses count all ≡ with_front ns (take_uses (count - length ns) ws) → count ≤ length ns → take_uses count all ≡ Some (ns, ws)
+pub all_taken : (count : ℕ) (ns : List ℕ) (all ws : List (List ℕ)) → take_uses count all ≡ with_front ns (take_uses (count - length ns) ws) → count ≤ length ns
+    → take_uses count all ≡ Some (ns, ws)
 all_taken count ns all ws h l =
     let e : count - length ns ≡ 0 = omega (arith, l) in
     h ∙ (ap (λ (k : ℕ). with_front ns (take_uses k ws)) e ∙ ap (λ (x : List ℕ). Some (x, ws)) (append-nil ns))

@@ -40,7 +40,8 @@ both-append P [] ss h k = k
 both-append P (r ∷ rs) ss h k = (h.0, both-append P rs ss h.1 k)
 
 -- The text of a certificate, as it is put together: contexts and judgments.
-pub text_made : (w : Why) (cs : List ContextRow) (js : List JudgmentRow) (none one two : List ℕ) → none ≡ [] → cs ≡ w.contexts → map plain_judgment js ≡ w.judgments → one ≡ none ++ flat_map line_of (map context_row cs)
+pub text_made : (w : Why) (cs : List ContextRow) (js : List JudgmentRow) (none one two : List ℕ) → none ≡ [] → cs ≡ w.contexts
+    → map plain_judgment js ≡ w.judgments → one ≡ none ++ flat_map line_of (map context_row cs)
     → two ≡ one ++ flat_map line_of (map (λ r. judgment_row (plain_judgment r)) js) → two ≡ why_text w
 text_made w cs js none one two n c j h f =
     let e = h ∙ ap (λ (x : List ℕ). x ++ flat_map line_of (map context_row cs)) n in
@@ -51,16 +52,19 @@ text_made w cs js none one two n c j h f =
     ∙ (sym (lines-append (map context_row w.contexts) (map judgment_row w.judgments)) ∙ sym (lines-ended (why_rows w)))))
 
 pub rows_fit : (w : Why) (cs : List ContextRow) (js : List JudgmentRow) → MayBeShown w → cs ≡ w.contexts → map plain_judgment js ≡ w.judgments
-    → AllByRecursion (λ r. MayShow r → RowFits r) (map context_row cs) → AllByRecursion (λ r. MayShow r → RowFits r) (map (λ r. judgment_row (plain_judgment r)) js)
+    → AllByRecursion (λ r. MayShow r → RowFits r) (map context_row cs)
+    → AllByRecursion (λ r. MayShow r → RowFits r) (map (λ r. judgment_row (plain_judgment r)) js)
     → AllByRecursion RowFits (why_rows w)
 rows_fit w cs js h c j f g =
     let P : List WhyRow → Type 0 = AllByRecursion (λ r. MayShow r → RowFits r) in
     all_fit (why_rows w) h
-    (both-append (λ r. MayShow r → RowFits r) (map context_row w.contexts) (map judgment_row w.judgments) (subst P (ap (map context_row) c) f) (subst P (judgments_rows js ∙ ap (map judgment_row) j) g))
+    (both-append (λ r. MayShow r → RowFits r) (map context_row w.contexts) (map judgment_row w.judgments) (subst P (ap (map context_row) c) f)
+    (subst P (judgments_rows js ∙ ap (map judgment_row) j) g))
 
 -- a judgment's line, put together from its parts
 pub judgment_put : (to t0 t1 t2 t3 t4 t5 : List ℕ) (j : PlainJudgment) (n c : ℕ) (us : List ℕ) → n ≡ j.node → c ≡ j.context → us ≡ j.uses → t0 ≡ to ++ codes "j"
-    → t1 ≡ t0 ++ spaced (map decimal (n ∷ c ∷ [])) → t2 ≡ t1 ++ spaced (map decimal (j.time ∷ j.space ∷ length us ∷ [])) → t3 ≡ t2 ++ spaced (map decimal us) → t4 ≡ t3 ++ 32 ∷ []
+    → t1 ≡ t0 ++ spaced (map decimal (n ∷ c ∷ [])) → t2 ≡ t1 ++ spaced (map decimal (j.time ∷ j.space ∷ length us ∷ [])) → t3 ≡ t2 ++ spaced (map decimal us)
+    → t4 ≡ t3 ++ 32 ∷ []
     → t5 ≡ t4 ++ value_text j.value → t5 ++ 10 ∷ [] ≡ to ++ line_of (judgment_row j)
 judgment_put to t0 t1 t2 t3 t4 t5 j n c us en ec eu e0 e1 e2 e3 e4 e5 =
     let h = judgment_line to (codes "j") (map decimal (j.node ∷ j.context ∷ [])) (map decimal (j.time ∷ j.space ∷ length j.uses ∷ [])) (map decimal j.uses) (value_text j.value) in
@@ -77,19 +81,23 @@ map-push : {A : Type 0} (f : A → WhyRow) (xs : List A) (x : A) → map f (xs +
 map-push f [] x = refl
 map-push f (y ∷ ys) x = ap (λ (zs : List WhyRow). f y ∷ zs) (map-push f ys x)
 
-rows_more : {A : Type 0} (f : A → WhyRow) (xs : List A) (i : ℕ) (x : A) → i < length xs → x ≡ get_or xs i x → map f (take (i + 1) xs) ≡ map f (take i xs) ++ f x ∷ []
+rows_more : {A : Type 0} (f : A → WhyRow) (xs : List A) (i : ℕ) (x : A) → i < length xs → x ≡ get_or xs i x
+    → map f (take (i + 1) xs) ≡ map f (take i xs) ++ f x ∷ []
 rows_more f xs i x h e = ap (map f) (item_taken xs i x h e) ∙ map-push f (take i xs) x
 
 -- One more row's line, and that it fits.
-pub lines_more : {A : Type 0} (f : A → WhyRow) (xs : List A) (i : ℕ) (x : A) (to old new : List ℕ) → i < length xs → x ≡ get_or xs i x → old ≡ to ++ flat_map line_of (map f (take i xs))
+pub lines_more : {A : Type 0} (f : A → WhyRow) (xs : List A) (i : ℕ) (x : A) (to old new : List ℕ) → i < length xs → x ≡ get_or xs i x
+    → old ≡ to ++ flat_map line_of (map f (take i xs))
     → new ≡ old ++ line_of (f x) → new ≡ to ++ flat_map line_of (map f (take (i + 1) xs))
 lines_more f xs i x to old new h e was is =
     let rows = rows_more f xs i x h e in
     let lines = lines-append (map f (take i xs)) (f x ∷ []) in
     is ∙ (ap (λ (y : List ℕ). y ++ line_of (f x)) was ∙ (append_assoc to (flat_map line_of (map f (take i xs))) (line_of (f x))
-    ∙ ap (λ (y : List ℕ). to ++ y) (ap (λ (y : List ℕ). flat_map line_of (map f (take i xs)) ++ y) (sym (append-nil (line_of (f x)))) ∙ (sym lines ∙ ap (flat_map line_of) (sym rows)))))
+    ∙ ap (λ (y : List ℕ). to ++ y) (ap (λ (y : List ℕ). flat_map line_of (map f (take i xs)) ++ y) (sym (append-nil (line_of (f x))))
+    ∙ (sym lines ∙ ap (flat_map line_of) (sym rows)))))
 
-pub fits_more : {A : Type 0} (f : A → WhyRow) (xs : List A) (i : ℕ) (x : A) → i < length xs → x ≡ get_or xs i x → AllByRecursion (λ r. MayShow r → RowFits r) (map f (take i xs))
+pub fits_more : {A : Type 0} (f : A → WhyRow) (xs : List A) (i : ℕ) (x : A) → i < length xs → x ≡ get_or xs i x
+    → AllByRecursion (λ r. MayShow r → RowFits r) (map f (take i xs))
     → (MayShow (f x) → RowFits (f x)) → AllByRecursion (λ r. MayShow r → RowFits r) (map f (take (i + 1) xs))
 fits_more f xs i x h e was is =
     let P : List WhyRow → Type 0 = AllByRecursion (λ r. MayShow r → RowFits r) in

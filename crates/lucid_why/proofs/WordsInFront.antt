@@ -7,7 +7,8 @@ pub words_in_front : (ws : List (List ℕ)) (b : List ℕ) → AllByRecursion Is
 words_in_front [] b h = refl
 words_in_front (w ∷ []) b h = words_of_more w b _ refl (has_none 32 w (solid_lacks 32 refl w h.0))
 words_in_front (w ∷ v ∷ ws) b h =
-    words_of_more w (join_with_byte 32 (v ∷ ws ++ b ∷ [])) _ refl (has_none 32 w (solid_lacks 32 refl w h.0)) ∙ ap (λ (us : List (List ℕ)). w ∷ us) (words_in_front (v ∷ ws) b h.1)
+    words_of_more w (join_with_byte 32 (v ∷ ws ++ b ∷ [])) _ refl (has_none 32 w (solid_lacks 32 refl w h.0))
+    ∙ ap (λ (us : List (List ℕ)). w ∷ us) (words_in_front (v ∷ ws) b h.1)
 
 join_more : (w : List ℕ) (ws : List (List ℕ)) → is_end ws ≡ false → join_with_byte 32 (w ∷ ws) ≡ w ++ 32 ∷ join_with_byte 32 ws
 join_more w [] h = absurd (cc)

@@ -22,7 +22,8 @@ where_some [] answer k among = absurd among
 where_some (x ∷ xs) answer k among = refl
 
 -- where the words are taken, they ask for what the rows ask for
-pub asked_at_ok : (app : App) (words : List Text) (m : ArgMatches) → app ≡ lucid_command → (is_simple_and_free app ≡ true → fault_of app words ≡ []) → HasMatchesOf app words m → words_asked words ≡ words_in (rows_of (found_of m))
+pub asked_at_ok : (app : App) (words : List Text) (m : ArgMatches) → app ≡ lucid_command → (is_simple_and_free app ≡ true → fault_of app words ≡ [])
+    → HasMatchesOf app words m → words_asked words ≡ words_in (rows_of (found_of m))
 unfolding words_asked
 asked_at_ok app words m same no_fault matches =
     let rows = subst (λ (a : App). rows_of (found_of m) ≡ matches_of a words) same (matches (ap is_simple same ∙ lucid_is_simple)).0 in
@@ -30,7 +31,8 @@ asked_at_ok app words m same no_fault matches =
     where_none (fault_of lucid_command words) (words_in (matches_of lucid_command words)) none ∙ ap words_in (sym rows)
 
 -- where they are refused but for memory, they ask for nothing
-pub asked_at_err : (app : App) (words : List Text) (error : Error) → app ≡ lucid_command → (is_simple_and_free app ≡ true → HasKind (fault_of app words) error) → kind_of error ≢ OutOfMemory → words_asked words ≡ None
+pub asked_at_err : (app : App) (words : List Text) (error : Error) → app ≡ lucid_command → (is_simple_and_free app ≡ true → HasKind (fault_of app words) error)
+    → kind_of error ≢ OutOfMemory → words_asked words ≡ None
 unfolding words_asked
 asked_at_err app words error same kinds no_memory =
     let kind = subst (λ (a : App). HasKind (fault_of a words) error) same (kinds (ap is_simple_and_free same ∙ lucid_is_free)) in

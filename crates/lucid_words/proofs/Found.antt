@@ -30,7 +30,8 @@ is_number_in bits text =
 numeral_back : (ds : List ℕ) → 0 < length ds → AllDigits 10 ds → is_numeral ds ≡ true
 numeral_back ds some digits = rw (lt-ltb 0 (length ds) some, digits_back ds digits) refl
 
-parse_is : (E : Type 0) (bits : ℕ) (text : Text) (answer : Option ℕ) (gives : Text → Result ℕ E → Type 0) → ((u : Text) (x : Result ℕ E) → gives u x → ParsesUnsigned bits 10 u x) → ReadsOne gives text answer → answer ≡ number_in bits text
+parse_is : (E : Type 0) (bits : ℕ) (text : Text) (answer : Option ℕ) (gives : Text → Result ℕ E → Type 0)
+    → ((u : Text) (x : Result ℕ E) → gives u x → ParsesUnsigned bits 10 u x) → ReadsOne gives text answer → answer ≡ number_in bits text
 parse_is E bits text (Some n) gives parses read =
     let parsed = parses text (Ok n) read in
     let numeral = numeral_back (without_leading_plus text) parsed.0.0.0 parsed.0.0.1 in
@@ -46,7 +47,9 @@ parse_is E bits text None gives parses read = go (is_number_in bits text) refl
     go false e = rw e refl
 
 -- the number of an option
-pub number_is : (E : Type 0) (bits : ℕ) (f : Found) (name : Text) (answer : Option ℕ) (gives : Text → Result ℕ E → Type 0) → ((u : Text) (x : Result ℕ E) → gives u x → ParsesUnsigned bits 10 u x) → (one_text f name ≡ None → answer ≡ None) → ((t : Text) → one_text f name ≡ Some t → ReadsOne gives t answer) → answer ≡ number_given bits name (rows_of f)
+pub number_is : (E : Type 0) (bits : ℕ) (f : Found) (name : Text) (answer : Option ℕ) (gives : Text → Result ℕ E → Type 0)
+    → ((u : Text) (x : Result ℕ E) → gives u x → ParsesUnsigned bits 10 u x) → (one_text f name ≡ None → answer ≡ None)
+    → ((t : Text) → one_text f name ≡ Some t → ReadsOne gives t answer) → answer ≡ number_given bits name (rows_of f)
 number_is E bits f name answer gives parses none value = rw (← one_text-rows f name) (go (one_text f name) refl)
   where
     go : (o : Option Text) → one_text f name ≡ o → answer ≡ elim o as (λ _. Option ℕ) [ None ↦ None | Some t ↦ number_in bits t ]

@@ -29,7 +29,8 @@ AllAre parser [] = Unit {0}
 AllAre parser (p ∷ ps) = (p ≡ parser) × AllAre parser ps
 
 -- an argument of this id has that parser
-parsed_by : (name : Text) (parser : Option ValueParser) (xs : List Arg) → AllAre parser (parsers_of name (map rule_of xs)) → (k : ℕ) (d : Arg) → k < length xs → bytes_eq (slice_index_or xs k d).id.now name ≡ true → (slice_index_or xs k d).value_parser ≡ parser
+parsed_by : (name : Text) (parser : Option ValueParser) (xs : List Arg) → AllAre parser (parsers_of name (map rule_of xs)) → (k : ℕ) (d : Arg) → k < length xs
+    → bytes_eq (slice_index_or xs k d).id.now name ≡ true → (slice_index_or xs k d).value_parser ≡ parser
 unfolding AllAre parsers_of
 parsed_by name parser [] all k d lt same = absurd (omega arith)
 parsed_by name parser (x ∷ xs) all zero d lt same =
@@ -37,7 +38,8 @@ parsed_by name parser (x ∷ xs) all zero d lt same =
 parsed_by name parser (x ∷ xs) all (suc k) d lt same =
     parsed_by name parser xs (rest (bytes_eq x.id.now name) all) k d (omega arith) same
   where
-    rest : (b : Bool) → AllAre parser (cond b (x.value_parser ∷ parsers_of name (map rule_of xs)) (parsers_of name (map rule_of xs))) → AllAre parser (parsers_of name (map rule_of xs))
+    rest : (b : Bool) → AllAre parser (cond b (x.value_parser ∷ parsers_of name (map rule_of xs)) (parsers_of name (map rule_of xs)))
+        → AllAre parser (parsers_of name (map rule_of xs))
     rest true all = all.1
     rest false all = all
 
@@ -53,7 +55,9 @@ differs name other apart same =
     cc
 
 -- and so in the command that a parse has built
-named_parser : (old : Command) (m : ArgMatches) (p : IsParsedFrom old m) (name : Text) (q : ValueParser) → AllAre (Some q) (parsers_of name (map rule_of (args_of old))) → is_own name ≡ true → (j : ℕ) (x : Arg) → j < length (args_of p.built) → slice_index_or (args_of p.built) j x ≡ x → bytes_eq x.id.now name ≡ true → parser_of x ≡ q
+named_parser : (old : Command) (m : ArgMatches) (p : IsParsedFrom old m) (name : Text) (q : ValueParser)
+    → AllAre (Some q) (parsers_of name (map rule_of (args_of old))) → is_own name ≡ true → (j : ℕ) (x : Arg) → j < length (args_of p.built)
+    → slice_index_or (args_of p.built) j x ≡ x → bytes_eq x.id.now name ≡ true → parser_of x ≡ q
 named_parser old m p name q all own j x low at same =
     let x_id : x.id.now ≡ name = (bytes_eq-Decides x.id.now name).0 same in
     let flags = both _ _ (both _ _ own).1 in
@@ -74,7 +78,9 @@ named_parser old m p name q all own j x low at same =
 abbrev IsAccepted : ValueParser → Text → Type 0
 IsAccepted q text = (ignore_case : Bool) × Accepts ignore_case q text
 
-accepted : (old : Command) (m : ArgMatches) (p : IsParsedFrom old m) (name : Text) (q : ValueParser) → AllAre (Some q) (parsers_of name (map rule_of (args_of old))) → is_own name ≡ true → (id : Text) (v : Text) → id ≡ name → PassesArg p.built id v → IsAccepted q v
+accepted : (old : Command) (m : ArgMatches) (p : IsParsedFrom old m) (name : Text) (q : ValueParser)
+    → AllAre (Some q) (parsers_of name (map rule_of (args_of old))) → is_own name ≡ true → (id : Text) (v : Text) → id ≡ name → PassesArg p.built id v
+    → IsAccepted q v
 accepted old m p name q all own id v key pass =
     let same : bytes_eq pass.1.id.now name ≡ true = subst (λ (u : Text). bytes_eq pass.1.id.now u ≡ true) key pass.4.0 in
     let parser = named_parser old m p name q all own pass.0 pass.1 pass.2 pass.3 same in
@@ -92,7 +98,9 @@ no_globals old m p same =
     p.from.globals ∙ is_false _ (both _ _ (both _ _ (both _ _ plain).1).1).0
 
 -- the values of an option passed its parser, and are read as that parser says
-option_values : (old : Command) (m : ArgMatches) (p : IsParsedFrom old m) → app_of old ≡ lucid_command → (name : Text) (q : ValueParser) → AllAre (Some q) (parsers_of name (map rule_of (args_of old))) → is_own name ≡ true → (x : MatchedArg) → matched_of (found_of m) name ≡ Some x → (x.reading ≡ reading_of q) × All (λ v. IsAccepted q v.now) x.vals.items
+option_values : (old : Command) (m : ArgMatches) (p : IsParsedFrom old m) → app_of old ≡ lucid_command → (name : Text) (q : ValueParser)
+    → AllAre (Some q) (parsers_of name (map rule_of (args_of old))) → is_own name ≡ true → (x : MatchedArg) → matched_of (found_of m) name ≡ Some x
+    → (x.reading ≡ reading_of q) × All (λ v. IsAccepted q v.now) x.vals.items
 option_values old m p same name q all own x found =
     let parsed = p.parsed (no_globals old m p same) in
     let got = entry_by_id (EntryPasses p.built) (found_of m).entries.items name x parsed.values found in
@@ -117,10 +125,13 @@ option_values old m p same name q all own x found =
     )
 
 -- the text that is read of an option is that of a value that passed
-text_passed : (old : Command) (m : ArgMatches) (p : IsParsedFrom old m) → app_of old ≡ lucid_command → (name : Text) (q : ValueParser) → AllAre (Some q) (parsers_of name (map rule_of (args_of old))) → is_own name ≡ true → (t : Text) → one_text (found_of m) name ≡ Some t → (v : Text) × (t ≡ read_as (reading_of q) v) × IsAccepted q v
+text_passed : (old : Command) (m : ArgMatches) (p : IsParsedFrom old m) → app_of old ≡ lucid_command → (name : Text) (q : ValueParser)
+    → AllAre (Some q) (parsers_of name (map rule_of (args_of old))) → is_own name ≡ true → (t : Text) → one_text (found_of m) name ≡ Some t
+    → (v : Text) × (t ≡ read_as (reading_of q) v) × IsAccepted q v
 text_passed old m p same name q all own t read = go (matched_of (found_of m) name) refl
   where
-    first : (x : MatchedArg) (vals : List (Bor Text)) → x.reading ≡ reading_of q → All (λ v. IsAccepted q v.now) vals → option_map (λ s. read_as x.reading s.now) (slice_get vals 0) ≡ Some t → (v : Text) × (t ≡ read_as (reading_of q) v) × IsAccepted q v
+    first : (x : MatchedArg) (vals : List (Bor Text)) → x.reading ≡ reading_of q → All (λ v. IsAccepted q v.now) vals
+        → option_map (λ s. read_as x.reading s.now) (slice_get vals 0) ≡ Some t → (v : Text) × (t ≡ read_as (reading_of q) v) × IsAccepted q v
     first x [] reading passed read = cc
     first x (v ∷ vals) reading passed read =
         let is : read_as x.reading v.now ≡ t = ap (λ (o : Option Text). unwrap_or o t) read in
@@ -135,7 +146,8 @@ text_passed old m p same name q all own t read = go (matched_of (found_of m) nam
         first x x.vals.items values.0 values.1 (rw e at read)
 
 -- a number of a range that is written with digits
-number_from_to : (bits least most : ℕ) (t : Text) → (is_number_in bits t ≡ true → IsFromTo least most (digits_value 10 (without_leading_plus t))) → IsFromToIfGiven least most (number_in bits t)
+number_from_to : (bits least most : ℕ) (t : Text) → (is_number_in bits t ≡ true → IsFromTo least most (digits_value 10 (without_leading_plus t)))
+    → IsFromToIfGiven least most (number_in bits t)
 number_from_to bits least most t within = go (is_number_in bits t) refl
   where
     go : (b : Bool) → is_number_in bits t ≡ b → IsFromToIfGiven least most (number_in bits t)
@@ -148,7 +160,8 @@ number_parses bits t e =
     let numeral = both _ _ parts.0 in
     (((ltb-true _ _ numeral.0, digits_from _ numeral.1), ltb-true _ _ parts.1), refl)
 
-signed_from_to : (bits least most : ℕ) (t v : Text) → most < 2 ^ bits → t ≡ without_minus v → IsSignedIn (pos least) (pos most) v → IsFromToIfGiven least most (number_in bits t)
+signed_from_to : (bits least most : ℕ) (t v : Text) → most < 2 ^ bits → t ≡ without_minus v → IsSignedIn (pos least) (pos most) v
+    → IsFromToIfGiven least most (number_in bits t)
 signed_from_to bits least most t v fits is passed = number_from_to bits least most t (λ e.
     let n = digits_value 10 (without_leading_plus t) in
     let parses = subst (λ (u : Text). ParsesUnsigned {E = ℕ} bits 10 u (Ok n)) is (number_parses bits t e) in
@@ -157,7 +170,9 @@ signed_from_to bits least most t v fits is passed = number_from_to bits least mo
     subst (IsFromTo least most) (sym same) (read.2, read.3))
 
 -- the number of an option that has such a parser
-signed_option : (old : Command) (m : ArgMatches) (p : IsParsedFrom old m) → app_of old ≡ lucid_command → (name : Text) (least most : ℕ) → AllAre (Some (vp.Signed (pos least) (pos most))) (parsers_of name lucid_command.top.rules) → is_own name ≡ true → most < 2 ^ 32 → IsFromToIfGiven least most (number_given 32 name (rows_of (found_of m)))
+signed_option : (old : Command) (m : ArgMatches) (p : IsParsedFrom old m) → app_of old ≡ lucid_command → (name : Text) (least most : ℕ)
+    → AllAre (Some (vp.Signed (pos least) (pos most))) (parsers_of name lucid_command.top.rules) → is_own name ≡ true → most < 2 ^ 32
+    → IsFromToIfGiven least most (number_given 32 name (rows_of (found_of m)))
 signed_option old m p same name least most rules own fits = rw (← one_text-rows (found_of m) name) (go (one_text (found_of m) name) refl)
   where
     go : (o : Option Text) → one_text (found_of m) name ≡ o → IsFromToIfGiven least most (elim o as (λ _. Option ℕ) [ None ↦ None | Some t ↦ number_in 32 t ])
@@ -167,7 +182,9 @@ signed_option old m p same name least most rules own fits = rw (← one_text-row
         let passed = text_passed old m p same name (vp.Signed (pos least) (pos most)) all own t e in
         signed_from_to 32 least most t passed.0 fits passed.1 passed.2.1
 
-unsigned_option : (old : Command) (m : ArgMatches) (p : IsParsedFrom old m) → app_of old ≡ lucid_command → (name : Text) (least most : ℕ) → AllAre (Some (vp.Unsigned least most)) (parsers_of name lucid_command.top.rules) → is_own name ≡ true → IsFromToIfGiven least most (number_given 64 name (rows_of (found_of m)))
+unsigned_option : (old : Command) (m : ArgMatches) (p : IsParsedFrom old m) → app_of old ≡ lucid_command → (name : Text) (least most : ℕ)
+    → AllAre (Some (vp.Unsigned least most)) (parsers_of name lucid_command.top.rules) → is_own name ≡ true
+    → IsFromToIfGiven least most (number_given 64 name (rows_of (found_of m)))
 unsigned_option old m p same name least most rules own = rw (← one_text-rows (found_of m) name) (go (one_text (found_of m) name) refl)
   where
     go : (o : Option Text) → one_text (found_of m) name ≡ o → IsFromToIfGiven least most (elim o as (λ _. Option ℕ) [ None ↦ None | Some t ↦ number_in 64 t ])

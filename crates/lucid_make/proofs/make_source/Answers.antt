@@ -18,5 +18,6 @@ returns-clause-text c =
 pub returns-clause-length : goal.returns-clause-length
 returns-clause-length c =
     let source = c.into_bytes.result in
-    let text : source.items ≡ made_source c.args.n = rw c.into_bytes.ensures.value (ends _ _ c.args.n _ (omega arith) c.loop-number.invariant c.in_ok-push_str.ensures.bytes) in
+    let text : source.items ≡ made_source c.args.n =
+    rw c.into_bytes.ensures.value (ends _ _ c.args.n _ (omega arith) c.loop-number.invariant c.in_ok-push_str.ensures.bytes) in
     omega (arith, source.ok.0, length_made_source-lt source.items c.args.n c.requires.high text)

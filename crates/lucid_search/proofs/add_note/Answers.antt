@@ -25,6 +25,8 @@ returns-in-Some-clause-ok c =
 pub returns-clause-ok : goal.returns-clause-ok
 returns-clause-ok c =
     noted_from c.args.sites.now.entries c.insert.new.self.entries c.args.site c.set-2.new.self
-    (λ q. c.in_ok-insert.ensures.updates.0 q ∙ ap (λ m. cond (same_site c.args.site q) (Some c.set-2.new.self) (lookup (same_site q) m.entries)) c.get_mut.follows.holds-at-none)
+    (λ q. c.in_ok-insert.ensures.updates.0 q ∙ ap (λ m. cond (same_site c.args.site q) (Some c.set-2.new.self) (lookup (same_site q) m.entries))
+    c.get_mut.follows.holds-at-none)
     c.args.key c.args.number
-    (λ k. c.in_ok-set-2.ensures.ok k ∙ ap (cond (k == c.args.key) (Some c.args.number)) (ap (λ es. number_in es k) c.make-notes.ensures ∙ ap (numbers_at k) c.in_default.ensures.value))
+    (λ k. c.in_ok-set-2.ensures.ok k ∙ ap (cond (k == c.args.key) (Some c.args.number))
+    (ap (λ es. number_in es k) c.make-notes.ensures ∙ ap (numbers_at k) c.in_default.ensures.value))

@@ -13,12 +13,14 @@ words_of-requires c =
 
 pub returns-in-Ok-clause-asked : goal.returns-in-Ok-clause-asked
 returns-in-Ok-clause-asked c =
-    let asked = asked_at_ok (app_of c.in_ok-command.command) (map string_bytes c.args.words.now) c.in-Ok.matches c.in_ok-command.ensures c.in-Ok.ensures.kinds c.in-Ok.ensures.matches in
+    let asked = asked_at_ok (app_of c.in_ok-command.command) (map string_bytes c.args.words.now) c.in-Ok.matches c.in_ok-command.ensures c.in-Ok.ensures.kinds
+    c.in-Ok.ensures.matches in
     subst (λ (o : Option PlainWords). Answers plain_words o c.words_of.result) (sym asked) c.words_of.ensures.asked
 
 pub returns-in-Err-clause-asked : goal.returns-in-Err-clause-asked
 returns-in-Err-clause-asked c =
-    λ usage. asked_at_err (app_of c.in_ok-command.command) (map string_bytes c.args.words.now) c.in-Err.error c.in_ok-command.ensures c.in-Err.ensures.kinds (c.refusal_of.ensures usage)
+    λ usage. asked_at_err (app_of c.in_ok-command.command) (map string_bytes c.args.words.now) c.in-Err.error c.in_ok-command.ensures c.in-Err.ensures.kinds
+    (c.refusal_of.ensures usage)
 
 -- the options have their ranges
 pub returns-in-Ok-clause-count : goal.returns-in-Ok-clause-count

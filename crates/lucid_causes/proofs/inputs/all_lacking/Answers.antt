@@ -13,5 +13,6 @@ returns c =
     let P : List Lacking → Type 0 = λ t. AreLacking scoped c.args.given.now c.args.end t in
     let R : List (List ℕ) → Type 0 = λ t. AreFirst scoped c.args.given.now c.args.end room c.loop-name.stream t [] in
     let none : drop c.loop-name.name-index (scoped_inputs scoped) ≡ [] =
-    at_drop_all (λ (z : List (List ℕ)). z) (scoped_inputs scoped) c.loop-name.name-index (rw (sym c.inputs-name-items.ensures.value) (omega (arith, c.loop-name-test.false))) in
+    at_drop_all (λ (z : List (List ℕ)). z) (scoped_inputs scoped) c.loop-name.name-index
+    (rw (sym c.inputs-name-items.ensures.value) (omega (arith, c.loop-name-test.false))) in
     subst P (append-nil those) (c.loop-name.invariant.goes_on [] (subst R (sym none) (ended room c.loop-name.stream)))

@@ -5,6 +5,7 @@ use Rattle.lucid_causes.proofs.inputs.put_all.Goals as goal
 
 pub loop-lacking-preserved : goal.loop-lacking-preserved
 loop-lacking-preserved c =
-    flat_step (lacking_text c.args.source.now) c.args.text.now.items c.put_lacking.new.text.items c.args.those.now c.loop-lacking.lacking-index c.lacking-item.result
+    flat_step (lacking_text c.args.source.now) c.args.text.now.items c.put_lacking.new.text.items c.args.those.now c.loop-lacking.lacking-index
+    c.lacking-item.result
     c.loop-lacking-test.true c.lacking-item.is
     (c.in_ok-put_lacking.ensures ∙ ap (λ (z : List ℕ). z ++ lacking_text c.args.source.now c.lacking-item.result) c.loop-lacking.invariant)

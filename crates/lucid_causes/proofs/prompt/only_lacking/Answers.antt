@@ -15,7 +15,8 @@ loop-name-preserved c =
           (unfound c.args.inputs.now c.args.given.now c.loop-name.name-index c.loop-name.only (search (rules, w)) c.loop-name.invariant))
       | else-not-is_given w ↦
           subst P (sym w.only-is)
-          (passed_given c.args.inputs.now c.args.given.now c.loop-name.name-index c.name-item.result (option_copied c.loop-name.only) c.loop-name-test.true c.name-item.is (search (rules, w)) c.loop-name.invariant)
+          (passed_given c.args.inputs.now c.args.given.now c.loop-name.name-index c.name-item.result (option_copied c.loop-name.only) c.loop-name-test.true
+          c.name-item.is (search (rules, w)) c.loop-name.invariant)
     ]
 
 pub returns : goal.returns
@@ -26,5 +27,6 @@ returns c = record {
 
 pub returns-then-is_some-clause-none : goal.returns-then-is_some-clause-none
 returns-then-is_some-clause-none c =
-    passed_seconded c.args.inputs.now c.args.given.now c.loop-name.name-index c.name-item.result c.loop-name.only c.requires c.loop-name-test.true c.name-item.is
+    passed_seconded c.args.inputs.now c.args.given.now c.loop-name.name-index c.name-item.result c.loop-name.only c.requires c.loop-name-test.true
+    c.name-item.is
     (search (rules, c.if-not-is_given.true, c.is_given.ensures)) (search (rules, c.if-is_some.true, c.is_some.ensures)) c.loop-name.invariant

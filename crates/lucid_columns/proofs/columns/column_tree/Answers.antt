@@ -11,7 +11,8 @@ returns-in_default-kind c =
       made = tt;
       well_made = tt;
       columns = tt;
-      refused = first_missing c.args.tree c.tree.inside.at c.tree.inside.kind c.args.columns.now c.in-Some.first.now c.in-Some.others.now is c.in_default-kind.not-Scope c.in-Some.ensures.cases.0;
+      refused = first_missing c.args.tree c.tree.inside.at c.tree.inside.kind c.args.columns.now c.in-Some.first.now c.in-Some.others.now is
+          c.in_default-kind.not-Scope c.in-Some.ensures.cases.0;
     }
 
 pub returns-in_err-find_columns-clause-refused : goal.returns-in_err-find_columns-clause-refused
@@ -20,19 +21,22 @@ returns-in_err-find_columns-clause-refused c =
     let is : tree_of c.tree.inside.at c.tree.inside.kind ≡ c.args.tree = cc (c.tree.view_is) in
     let whole : block c.tree.inside.at c.in-Scope.block.value.subject c.deref.result.now.defs ≡ c.args.tree =
     ap (λ (b : Block). block c.tree.inside.at c.in-Scope.block.value.subject b.defs) c.deref.ensures ∙ sym (ap (tree_of c.tree.inside.at) c.in-Scope.is) ∙ is in
-    rw (p.1, p.2) (subst (λ t. RefusesColumns t c.args.columns.now c.in_err-find_columns.field-0.0) whole (c.in_err-find_columns.ensures.refused c.tree.inside.at c.in-Scope.block.value.subject))
+    rw (p.1, p.2) (subst (λ t. RefusesColumns t c.args.columns.now c.in_err-find_columns.field-0.0) whole
+    (c.in_err-find_columns.ensures.refused c.tree.inside.at c.in-Scope.block.value.subject))
 
 pub returns-clause-well_made : goal.returns-clause-well_made
 returns-clause-well_made c =
     let is : tree_of c.tree.inside.at c.tree.inside.kind ≡ c.args.tree = cc (c.tree.view_is) in
-    let whole : c.args.tree ≡ block c.tree.inside.at c.in-Scope.block.value.subject c.in-Scope.block.value.defs = sym is ∙ ap (tree_of c.tree.inside.at) c.in-Scope.is in
+    let whole : c.args.tree ≡ block c.tree.inside.at c.in-Scope.block.value.subject c.in-Scope.block.value.defs = sym is
+    ∙ ap (tree_of c.tree.inside.at) c.in-Scope.is in
     let named = c.in-Some.ensures.cases.0 in
     let made : with_columns c.args.tree c.args.base c.args.columns.now ≡ block c.tree.inside.at c.in_ok-block.field-0 c.deref_mut.result.now.defs =
     ap (λ p. with_columns p c.args.base c.args.columns.now) whole
     ∙ ap (with_columns (block c.tree.inside.at c.in-Scope.block.value.subject c.in-Scope.block.value.defs) c.args.base) named
     ∙ ap (λ x. block c.tree.inside.at x c.in-Scope.block.value.defs) (sym c.in_ok-block.ensures)
     ∙ ap (λ (b : Block). block c.tree.inside.at c.in_ok-block.field-0 b.defs) (sym c.deref_mut.ensures.value) in
-    subst IsWellMade made (beside_well_made c.args.tree c.args.base c.args.columns.now c.requires.few c.requires.well_made c.requires.placed c.requires.few_places)
+    subst IsWellMade made (beside_well_made c.args.tree c.args.base c.args.columns.now c.requires.few c.requires.well_made c.requires.placed
+    c.requires.few_places)
 
 pub returns-clause-columns : goal.returns-clause-columns
 returns-clause-columns c =

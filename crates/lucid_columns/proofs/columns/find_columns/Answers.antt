@@ -4,7 +4,8 @@ use Rattle.lucid_columns.proofs.columns.find_columns.Goals as goal
 
 pub loop-index-preserved : goal.loop-index-preserved
 loop-index-preserved c at e =
-    one_more (block at e c.args.defs.now) c.args.columns.now c.loop-index.index (c.loop-index.index + 1) c.index-columns-index.result (c.loop-index.invariant at e)
+    one_more (block at e c.args.defs.now) c.args.columns.now c.loop-index.index (c.loop-index.index + 1) c.index-columns-index.result
+    (c.loop-index.invariant at e)
     (slice_get-get_or c.args.columns.now c.loop-index.index c.index-columns-index.result c.loop-index-test.true ∙ ap Some (sym c.index-columns-index.is))
     (sym c.has_plain.ensures ∙ c.if-not-has_plain.false) refl
 

@@ -16,7 +16,8 @@ abbrev pub invariant-add_operands-loop-part : goal.invariant-add_operands-loop-p
 invariant-add_operands-loop-part l =
     (goal.iterator-add_operands-loop-part).can_next l.part-iterator
     × (goal.iterator-add_operands-loop-part).is_finite l.part-iterator
-    × ((w : Numbered) (n : Lists) (more : List ℕ) → AddsTrees w (linked w l.rows) n l.here l.part-iterator more → AddsTrees w (linked w l.initial.rows) n l.here (operands l.tree) (drop l.before l.ids.items ++ more))
+    × ((w : Numbered) (n : Lists) (more : List ℕ) → AddsTrees w (linked w l.rows) n l.here l.part-iterator more
+    → AddsTrees w (linked w l.initial.rows) n l.here (operands l.tree) (drop l.before l.ids.items ++ more))
     × (l.before ≤ length l.ids.items)
     × (take l.before l.ids.items ≡ l.fn.ids.items)
     × (nodes_in l.part-iterator ≤ nodes_in (operands l.tree))
@@ -26,6 +27,7 @@ abbrev pub invariant-add_block-loop-def : goal.invariant-add_block-loop-def
 invariant-add_block-loop-def l =
     (goal.iterator-add_block-loop-def).can_next l.def-iterator
     × (goal.iterator-add_block-loop-def).is_finite l.def-iterator
-    × ((w : Numbered) (n : Lists) → AddsDefs w (linked w l.rows) n l.inside l.here l.def-iterator → AddsDefs w (linked w l.initial.rows) n l.inside l.here l.block.defs)
+    × ((w : Numbered) (n : Lists) → AddsDefs w (linked w l.rows) n l.inside l.here l.def-iterator
+    → AddsDefs w (linked w l.initial.rows) n l.inside l.here l.block.defs)
     × (l.ids.items ≡ l.fn.ids.items)
     × (nodes_in_defs l.def-iterator ≤ nodes_in_defs l.block.defs)

@@ -7,8 +7,11 @@ loop-i-init c = λ w. no_parameters-added w (linked w c.args.rows.now) c.args.he
 
 pub loop-i-preserved : goal.loop-i-preserved
 loop-i-preserved c = λ w.
-    parameters-more w (linked w c.args.rows.now) (linked w c.loop-i.rows) (linked w c.define.new.self) c.args.here c.items-places.result.now c.loop-i.i c.in_ok-index.index (get_or c.items-places.result.now c.loop-i.i 0) c.loop-i-test.true c.in_ok-index.ensures refl (c.loop-i.invariant w) (ap (link w) c.in_ok-define.ensures)
+    parameters-more w (linked w c.args.rows.now) (linked w c.loop-i.rows) (linked w c.define.new.self) c.args.here c.items-places.result.now c.loop-i.i
+    c.in_ok-index.index (get_or c.items-places.result.now c.loop-i.i 0) c.loop-i-test.true c.in_ok-index.ensures refl (c.loop-i.invariant w)
+    (ap (link w) c.in_ok-define.ensures)
 
 pub returns : goal.returns
 returns c = λ w.
-    subst (AddsParameters w (linked w c.args.rows.now) (linked w c.loop-i.rows) c.args.here) (take_all c.loop-i.i c.items-places.result.now c.loop-i-test.false ∙ c.items-places.ensures) (c.loop-i.invariant w)
+    subst (AddsParameters w (linked w c.args.rows.now) (linked w c.loop-i.rows) c.args.here)
+    (take_all c.loop-i.i c.items-places.result.now c.loop-i-test.false ∙ c.items-places.ensures) (c.loop-i.invariant w)

@@ -14,15 +14,21 @@ never-none o t e h r d =
 
 pub number_all-requires-clause-names : goal.number_all-requires-clause-names
 number_all-requires-clause-names c =
-    (keys-apart (record { numbering = c.make-numbering.result; scoped = c.args.scoped.now }) (lists c.make-rows.result) (lists c.open.new.self) (lists c.add_tree.new.rows) c.tree-tree.result.now c.in_ok-scope.scope c.in_ok-root.root c.tree-tree.ensures.well_made c.tree-tree.ensures.resolved c.make-rows.ensures c.in_ok-scope.ensures c.tree-tree.ensures.value c.in_ok-root.ensures.adds).names
+    (keys-apart (record { numbering = c.make-numbering.result; scoped = c.args.scoped.now }) (lists c.make-rows.result) (lists c.open.new.self)
+    (lists c.add_tree.new.rows) c.tree-tree.result.now c.in_ok-scope.scope c.in_ok-root.root c.tree-tree.ensures.well_made c.tree-tree.ensures.resolved
+    c.make-rows.ensures c.in_ok-scope.ensures c.tree-tree.ensures.value c.in_ok-root.ensures.adds).names
 
 pub number_all-requires-clause-places : goal.number_all-requires-clause-places
 number_all-requires-clause-places c =
-    (keys-apart (record { numbering = c.make-numbering.result; scoped = c.args.scoped.now }) (lists c.make-rows.result) (lists c.open.new.self) (lists c.add_tree.new.rows) c.tree-tree.result.now c.in_ok-scope.scope c.in_ok-root.root c.tree-tree.ensures.well_made c.tree-tree.ensures.resolved c.make-rows.ensures c.in_ok-scope.ensures c.tree-tree.ensures.value c.in_ok-root.ensures.adds).places
+    (keys-apart (record { numbering = c.make-numbering.result; scoped = c.args.scoped.now }) (lists c.make-rows.result) (lists c.open.new.self)
+    (lists c.add_tree.new.rows) c.tree-tree.result.now c.in_ok-scope.scope c.in_ok-root.root c.tree-tree.ensures.well_made c.tree-tree.ensures.resolved
+    c.make-rows.ensures c.in_ok-scope.ensures c.tree-tree.ensures.value c.in_ok-root.ensures.adds).places
 
 pub number_all-requires-clause-functions : goal.number_all-requires-clause-functions
 number_all-requires-clause-functions c =
-    (keys-apart (record { numbering = c.make-numbering.result; scoped = c.args.scoped.now }) (lists c.make-rows.result) (lists c.open.new.self) (lists c.add_tree.new.rows) c.tree-tree.result.now c.in_ok-scope.scope c.in_ok-root.root c.tree-tree.ensures.well_made c.tree-tree.ensures.resolved c.make-rows.ensures c.in_ok-scope.ensures c.tree-tree.ensures.value c.in_ok-root.ensures.adds).functions
+    (keys-apart (record { numbering = c.make-numbering.result; scoped = c.args.scoped.now }) (lists c.make-rows.result) (lists c.open.new.self)
+    (lists c.add_tree.new.rows) c.tree-tree.result.now c.in_ok-scope.scope c.in_ok-root.root c.tree-tree.ensures.well_made c.tree-tree.ensures.resolved
+    c.make-rows.ensures c.in_ok-scope.ensures c.tree-tree.ensures.value c.in_ok-root.ensures.adds).functions
 
 pub returns : goal.returns
 returns c =
@@ -31,10 +37,13 @@ returns c =
     let inputs : c.in_ok-inputs.inputs.items ≡ scoped_inputs c.args.scoped.now = c.in_ok-inputs.ensures ∙ c.inputs.ensures.value in
     let names : t.inputs ≡ scoped_inputs c.args.scoped.now = c.in_ok-table.ensures.inputs_are ∙ inputs in
     let made : IsMade w (scoped_tree c.args.scoped.now) t =
-    table-made w (lists c.make-rows.result) (lists c.open.new.self) (lists c.add_tree.new.rows) c.tree-tree.result.now c.in_ok-scope.scope c.in_ok-root.root c.tree-tree.ensures.well_made c.tree-tree.ensures.resolved c.make-rows.ensures c.in_ok-scope.ensures c.tree-tree.ensures.value c.in_ok-root.ensures.adds
-    (lists c.link_rows.new.rows) c.in_ok-inputs.inputs.items t c.free_names_are_inputs.ensures c.in_ok-number_all.ensures c.in_ok-link_rows.ensures inputs c.in_ok-table.ensures in
+    table-made w (lists c.make-rows.result) (lists c.open.new.self) (lists c.add_tree.new.rows) c.tree-tree.result.now c.in_ok-scope.scope c.in_ok-root.root
+    c.tree-tree.ensures.well_made c.tree-tree.ensures.resolved c.make-rows.ensures c.in_ok-scope.ensures c.tree-tree.ensures.value c.in_ok-root.ensures.adds
+    (lists c.link_rows.new.rows) c.in_ok-inputs.inputs.items t c.free_names_are_inputs.ensures c.in_ok-number_all.ensures c.in_ok-link_rows.ensures inputs
+    c.in_ok-table.ensures in
     let same : table_of c.in-Some.program ≡ t = table-is c.in_ok-program.field-0 c.in-Some.program t c.in-Some.is c.in_ok-program.ensures.table in
-    let sound : length (scoped_inputs c.args.scoped.now) ≤ 1048576 → IsSound t = λ few. made.sound (subst AllDiffer (sym names) c.inputs.ensures.differ) (omega (arith, ap length names, few)) in
+    let sound : length (scoped_inputs c.args.scoped.now) ≤ 1048576
+    → IsSound t = λ few. made.sound (subst AllDiffer (sym names) c.inputs.ensures.differ) (omega (arith, ap length names, few)) in
     record {
       keeps = subst (λ t. KeepsTree (equations_of t) (scoped_tree c.args.scoped.now)) (sym same) made.keeps;
       sound = subst (λ t. length (scoped_inputs c.args.scoped.now) ≤ 1048576 → IsSound t) (sym same) sound;
@@ -47,6 +56,9 @@ unreachable-requires c =
     let t : Table = c.in_ok-table.table in
     let inputs : c.in_ok-inputs.inputs.items ≡ scoped_inputs c.args.scoped.now = c.in_ok-inputs.ensures ∙ c.inputs.ensures.value in
     let made : IsMade w (scoped_tree c.args.scoped.now) t =
-    table-made w (lists c.make-rows.result) (lists c.open.new.self) (lists c.add_tree.new.rows) c.tree-tree.result.now c.in_ok-scope.scope c.in_ok-root.root c.tree-tree.ensures.well_made c.tree-tree.ensures.resolved c.make-rows.ensures c.in_ok-scope.ensures c.tree-tree.ensures.value c.in_ok-root.ensures.adds
-    (lists c.link_rows.new.rows) c.in_ok-inputs.inputs.items t c.free_names_are_inputs.ensures c.in_ok-number_all.ensures c.in_ok-link_rows.ensures inputs c.in_ok-table.ensures in
-    never-none c.in_ok-program.field-0 t c.in-None.is c.in_ok-program.ensures.exactly made.in_range (subst AllDiffer (sym (c.in_ok-table.ensures.inputs_are ∙ inputs)) c.inputs.ensures.differ)
+    table-made w (lists c.make-rows.result) (lists c.open.new.self) (lists c.add_tree.new.rows) c.tree-tree.result.now c.in_ok-scope.scope c.in_ok-root.root
+    c.tree-tree.ensures.well_made c.tree-tree.ensures.resolved c.make-rows.ensures c.in_ok-scope.ensures c.tree-tree.ensures.value c.in_ok-root.ensures.adds
+    (lists c.link_rows.new.rows) c.in_ok-inputs.inputs.items t c.free_names_are_inputs.ensures c.in_ok-number_all.ensures c.in_ok-link_rows.ensures inputs
+    c.in_ok-table.ensures in
+    never-none c.in_ok-program.field-0 t c.in-None.is c.in_ok-program.ensures.exactly made.in_range
+    (subst AllDiffer (sym (c.in_ok-table.ensures.inputs_are ∙ inputs)) c.inputs.ensures.differ)

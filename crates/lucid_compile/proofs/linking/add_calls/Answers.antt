@@ -12,8 +12,10 @@ loop-i-preserved c =
     let key : Key = c.index.result.now in
     let within : c.loop-i.i < length before.keys.calls = omega arith in
     let here : get_or before.keys.calls c.loop-i.i key ≡ key = sym c.index.ensures in
-    let row : c.call_row-row.result ≡ row_by (slice_get before.bodies (callee_number w key.at)) = c.call_row-row.ensures ∙ ap (λ l. row_by (slice_get l (callee_number w key.at))) c.deref.ensures.value in
-    ap (λ ns. with_names ns before) c.in_ok-push.ensures.items ∙ calls-more w (lists c.args.rows.now) before c.loop-i.i key c.call_row-row.result c.loop-i.invariant within here row
+    let row : c.call_row-row.result ≡ row_by (slice_get before.bodies (callee_number w key.at)) = c.call_row-row.ensures
+    ∙ ap (λ l. row_by (slice_get l (callee_number w key.at))) c.deref.ensures.value in
+    ap (λ ns. with_names ns before) c.in_ok-push.ensures.items
+    ∙ calls-more w (lists c.args.rows.now) before c.loop-i.i key c.call_row-row.result c.loop-i.invariant within here row
 
 pub returns : goal.returns
 returns c =

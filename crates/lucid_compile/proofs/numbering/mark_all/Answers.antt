@@ -12,9 +12,11 @@ loop-key-preserved c =
     let old : ℕ → Option Mark = λ q. lookup (nat_eq q) c.loop-key.marks.entries in
     let new : ℕ → Option Mark = λ q. lookup (nat_eq q) c.insert.new.self.entries in
     let h : Marked old before c.args.start ks i = record { marked = c.loop-key.invariant.1; others = c.loop-key.invariant.2 } in
-    let mark : m ≡ mark_by (c.args.start + i) x = ap (λ n. record { number = n; first = x.first; level = x.level }) (c.in_ok-number.ensures ∙ c.loop-key.invariant.0) in
+    let mark : m ≡ mark_by (c.args.start + i) x = ap (λ n. record { number = n; first = x.first; level = x.level })
+    (c.in_ok-number.ensures ∙ c.loop-key.invariant.0) in
     let is : x ≡ get_or ks i x = get_or_default ks i (record { at = 0; first = 0; level = 0 }) x c.loop-key-test.true in
-    let r : Marked new before c.args.start ks (i + 1) = mark-more before old new c.args.start ks i x m c.requires.differ c.loop-key-test.true is mark (λ q. c.in_ok-insert.ensures.updates.0 q) h in
+    let r : Marked new before c.args.start ks (i + 1) =
+    mark-more before old new c.args.start ks i x m c.requires.differ c.loop-key-test.true is mark (λ q. c.in_ok-insert.ensures.updates.0 q) h in
     (omega (arith, c.loop-key.invariant.0), r.marked, r.others)
 
 pub returns-clause-others : goal.returns-clause-others

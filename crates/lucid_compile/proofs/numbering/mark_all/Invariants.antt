@@ -6,4 +6,5 @@ abbrev pub invariant-loop-key : goal.invariant-loop-key
 invariant-loop-key l =
     (l.next ≡ l.start + l.key-index)
     × ((k : ℕ) (d : Key) → k < l.key-index → lookup (nat_eq (get_or l.keys k d).at) l.marks.entries ≡ Some (mark_by (l.start + k) (get_or l.keys k d)))
-    × ((at : ℕ) → ((k : ℕ) (d : Key) → k < l.key-index → (get_or l.keys k d).at ≡ at → ⊥) → lookup (nat_eq at) l.marks.entries ≡ lookup (nat_eq at) l.initial.marks.entries)
+    × ((at : ℕ) → ((k : ℕ) (d : Key) → k < l.key-index → (get_or l.keys k d).at ≡ at → ⊥)
+    → lookup (nat_eq at) l.marks.entries ≡ lookup (nat_eq at) l.initial.marks.entries)

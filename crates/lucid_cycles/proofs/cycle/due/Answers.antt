@@ -10,11 +10,13 @@ returns-then-makes c = record {
 
 pub loop-edge-preserved : goal.loop-edge-preserved
 loop-edge-preserved c =
-    All-more (λ (e : Edge). Makes c.args.factor c.args.before.now c.args.name c.args.value e → ⊥) c.args.edges.now c.loop-edge.edge-index _ c.loop-edge-test.true c.loop-edge.invariant
+    All-more (λ (e : Edge). Makes c.args.factor c.args.before.now c.args.name c.args.value e → ⊥) c.args.edges.now c.loop-edge.edge-index _
+    c.loop-edge-test.true c.loop-edge.invariant
     (λ m. let t = c.makes.ensures.1 m in cc)
 
 pub returns : goal.returns
 returns c d =
     all-in (λ (e : Edge). Makes c.args.factor c.args.before.now c.args.name c.args.value e → ⊥) (edge c.args.name d.to d.delay) c.args.edges.now d.stands
-    (subst (All (λ (e : Edge). Makes c.args.factor c.args.before.now c.args.name c.args.value e → ⊥)) (take_all c.loop-edge.edge-index c.args.edges.now c.loop-edge-test.false) c.loop-edge.invariant)
+    (subst (All (λ (e : Edge). Makes c.args.factor c.args.before.now c.args.name c.args.value e → ⊥))
+    (take_all c.loop-edge.edge-index c.args.edges.now c.loop-edge-test.false) c.loop-edge.invariant)
     (record { from_name = refl; is = d.is })

@@ -7,4 +7,5 @@ returns-in-None c = let t = text-out c.args.found.now c.args.number c.in-None.en
 
 pub returns-in-Some : goal.returns-in-Some
 returns-in-Some c =
-    rw (text-in c.args.found.now c.args.number c.in-Some.def.now c.in-Some.ensures.lookup.3.0 (c.in-Some.ensures.lookup.3.1 c.in-Some.def.now)) c.put_definition.ensures
+    rw (text-in c.args.found.now c.args.number c.in-Some.def.now c.in-Some.ensures.lookup.3.0 (c.in-Some.ensures.lookup.3.1 c.in-Some.def.now))
+    c.put_definition.ensures

@@ -8,4 +8,5 @@ pub loop-delay-preserved : goal.loop-delay-preserved
 loop-delay-preserved c =
     let element : SFits w64 (get_or c.args.delays.now c.loop-delay.delay-index (pos 0)) = search rules in
     let is = c.from-sum.ensures ∙ to_z-of_z w64 (get_or c.args.delays.now c.loop-delay.delay-index (pos 0)) element in
-    summed-more c.args.delays.now c.loop-delay.delay-index _ c.from-sum.result c.loop-delay-test.true (omega (arith, c.well_formed.0.1)) (subst (SFits w64) (sym is) element) is c.loop-delay.invariant
+    summed-more c.args.delays.now c.loop-delay.delay-index _ c.from-sum.result c.loop-delay-test.true (omega (arith, c.well_formed.0.1))
+    (subst (SFits w64) (sym is) element) is c.loop-delay.invariant

@@ -5,7 +5,8 @@ use Rattle.lucid_cycles.proofs.rounds.round.Goals as goal
 
 pub loop-edge-preserved : goal.loop-edge-preserved
 loop-edge-preserved c =
-    rounding-more c.args.edges.now c.args.factor c.args.before.now c.loop-edge.after.items c.raise.new.after.items c.loop-edge.edge-index _ c.loop-edge-test.true
+    rounding-more c.args.edges.now c.args.factor c.args.before.now c.loop-edge.after.items c.raise.new.after.items c.loop-edge.edge-index _
+    c.loop-edge-test.true
     (same-item c.args.edges.now c.loop-edge.edge-index _ _ c.loop-edge-test.true) c.loop-edge.invariant c.raise.ensures
 
 pub returns : goal.returns

@@ -15,7 +15,8 @@ walk_defs-returns-in_err-read-clause-marks g t c =
     let R = c.from_residual.result in
     c.loop-def.invariant.2 R c.read.new.self
     (subst (λ m. g.R.Reader.reads c.loop-def.reader m R c.read.new.self) (sym (marks-def b d c.next.new.self c.loop-def.def-iterator c.in-Some.ensures.steps))
-    (g.met.R.Reader.goes.stops c.loop-def.reader c.read.new.self (own_marks d.at d.name d.kind) (both (marks b (Some d.at) (pos 0) (right_of d.kind)) (marks_in_defs b c.next.new.self)) _ R c.from_residual.ensures.0
+    (g.met.R.Reader.goes.stops c.loop-def.reader c.read.new.self (own_marks d.at d.name d.kind)
+    (both (marks b (Some d.at) (pos 0) (right_of d.kind)) (marks_in_defs b c.next.new.self)) _ R c.from_residual.ensures.0
     (subst (λ m. g.R.Reader.reads c.loop-def.reader m (Err c.in_err-read.field-0.0) c.read.new.self) c.own_mark.ensures c.in_err-read.ensures)))
 
 pub walk_defs-returns-in_err-walk_tree-clause-marks : goal.walk_defs-returns-in_err-walk_tree-clause-marks
@@ -26,10 +27,13 @@ walk_defs-returns-in_err-walk_tree-clause-marks g t c =
     let N = c.walk_tree.new.reader in
     c.loop-def.invariant.2 R N
     (subst (λ m. g.R.Reader.reads c.loop-def.reader m R N) (sym (marks-def b d c.next.new.self c.loop-def.def-iterator c.in-Some.ensures.steps))
-    (g.met.R.Reader.goes.more c.loop-def.reader c.read.new.self N (own_marks d.at d.name d.kind) (both (marks b (Some d.at) (pos 0) (right_of d.kind)) (marks_in_defs b c.next.new.self)) R
+    (g.met.R.Reader.goes.more c.loop-def.reader c.read.new.self N (own_marks d.at d.name d.kind)
+    (both (marks b (Some d.at) (pos 0) (right_of d.kind)) (marks_in_defs b c.next.new.self)) R
     (subst (λ m. g.R.Reader.reads c.loop-def.reader m (Ok tt) c.read.new.self) c.own_mark.ensures c.in_ok-read.ensures)
-    (g.met.R.Reader.goes.stops c.read.new.self N (marks b (Some d.at) (pos 0) (right_of d.kind)) (marks_in_defs b c.next.new.self) _ R c.from_residual-in_err-walk_tree.ensures.0
-    (subst (λ e. g.R.Reader.reads c.read.new.self (marks b (Some d.at) (pos 0) e) (Err c.in_err-walk_tree.field-0.0) N) c.right.ensures c.in_err-walk_tree.ensures.marks))))
+    (g.met.R.Reader.goes.stops c.read.new.self N (marks b (Some d.at) (pos 0) (right_of d.kind)) (marks_in_defs b c.next.new.self) _ R
+    c.from_residual-in_err-walk_tree.ensures.0
+    (subst (λ e. g.R.Reader.reads c.read.new.self (marks b (Some d.at) (pos 0) e) (Err c.in_err-walk_tree.field-0.0) N) c.right.ensures
+    c.in_err-walk_tree.ensures.marks))))
 
 pub walk_defs-loop-def-preserved : goal.walk_defs-loop-def-preserved
 walk_defs-loop-def-preserved g t c =
@@ -40,7 +44,8 @@ walk_defs-loop-def-preserved g t c =
       tt,
       (λ r u k. c.loop-def.invariant.2 r u
           (subst (λ m. g.R.Reader.reads c.loop-def.reader m r u) (sym (marks-def b d c.next.new.self c.loop-def.def-iterator c.in-Some.ensures.steps))
-          (g.met.R.Reader.goes.more c.loop-def.reader c.read.new.self u (own_marks d.at d.name d.kind) (both (marks b (Some d.at) (pos 0) (right_of d.kind)) (marks_in_defs b c.next.new.self)) r
+          (g.met.R.Reader.goes.more c.loop-def.reader c.read.new.self u (own_marks d.at d.name d.kind)
+          (both (marks b (Some d.at) (pos 0) (right_of d.kind)) (marks_in_defs b c.next.new.self)) r
           (subst (λ m. g.R.Reader.reads c.loop-def.reader m (Ok tt) c.read.new.self) c.own_mark.ensures c.in_ok-read.ensures)
           (g.met.R.Reader.goes.more c.read.new.self N u (marks b (Some d.at) (pos 0) (right_of d.kind)) (marks_in_defs b c.next.new.self) r
           (subst (λ e. g.R.Reader.reads c.read.new.self (marks b (Some d.at) (pos 0) e) (Ok tt) N) c.right.ensures c.in_ok-walk_tree.ensures.marks) k)))),
@@ -71,10 +76,12 @@ walk_parts-returns-in_err-walk_tree-clause-marks g t c =
     let R = c.from_residual.result in
     let N = c.walk_tree.new.reader in
     subst (λ w. g.R.Reader.reads c.args.reader.now (marks_in b c.args.from w c.args.later c.args.parts) R N) (to_z-of_z w64 c.args.first c.ranges.first)
-    (subst (λ w. g.R.Reader.reads c.args.reader.now (marks_in b c.args.from (to_z w64 (of_z w64 c.args.first)) w c.args.parts) R N) (to_z-of_z w64 c.args.later c.ranges.later)
+    (subst (λ w. g.R.Reader.reads c.args.reader.now (marks_in b c.args.from (to_z w64 (of_z w64 c.args.first)) w c.args.parts) R N)
+    (to_z-of_z w64 c.args.later c.ranges.later)
     (c.loop-part.invariant.2 R N
     (subst (λ es. g.R.Reader.reads c.loop-part.reader (marks_in b c.args.from (to_z w64 c.loop-part.delay-bits) later es) R N) (sym c.in-Some.ensures.steps)
-    (g.met.R.Reader.goes.stops c.loop-part.reader N (marks b c.args.from (to_z w64 c.loop-part.delay-bits) c.in-Some.part.now) (marks_in b c.args.from later later c.next.new.self) _ R c.from_residual.ensures.0
+    (g.met.R.Reader.goes.stops c.loop-part.reader N (marks b c.args.from (to_z w64 c.loop-part.delay-bits) c.in-Some.part.now)
+    (marks_in b c.args.from later later c.next.new.self) _ R c.from_residual.ensures.0
     c.in_err-walk_tree.ensures.marks))))
 
 pub walk_parts-loop-part-preserved : goal.walk_parts-loop-part-preserved
@@ -88,8 +95,10 @@ walk_parts-loop-part-preserved g t c =
       tt,
       tt,
       (λ r u k. c.loop-part.invariant.2 r u
-          (subst (λ es. g.R.Reader.reads c.loop-part.reader (marks_in b c.args.from (to_z w64 c.loop-part.delay-bits) later es) r u) (sym c.in-Some.ensures.steps)
-          (g.met.R.Reader.goes.more c.loop-part.reader c.walk_tree.new.reader u (marks b c.args.from (to_z w64 c.loop-part.delay-bits) c.in-Some.part.now) (marks_in b c.args.from later later c.next.new.self) r
+          (subst (λ es. g.R.Reader.reads c.loop-part.reader (marks_in b c.args.from (to_z w64 c.loop-part.delay-bits) later es) r u)
+          (sym c.in-Some.ensures.steps)
+          (g.met.R.Reader.goes.more c.loop-part.reader c.walk_tree.new.reader u (marks b c.args.from (to_z w64 c.loop-part.delay-bits) c.in-Some.part.now)
+          (marks_in b c.args.from later later c.next.new.self) r
           c.in_ok-walk_tree.ensures.marks k))),
       fits,
       fits,
@@ -103,9 +112,11 @@ walk_parts-returns-clause-marks g t c =
     let later = to_z w64 (of_z w64 c.args.later) in
     let N = c.loop-part.reader in
     subst (λ w. g.R.Reader.reads c.args.reader.now (marks_in b c.args.from w c.args.later c.args.parts) (Ok tt) N) (to_z-of_z w64 c.args.first c.ranges.first)
-    (subst (λ w. g.R.Reader.reads c.args.reader.now (marks_in b c.args.from (to_z w64 (of_z w64 c.args.first)) w c.args.parts) (Ok tt) N) (to_z-of_z w64 c.args.later c.ranges.later)
+    (subst (λ w. g.R.Reader.reads c.args.reader.now (marks_in b c.args.from (to_z w64 (of_z w64 c.args.first)) w c.args.parts) (Ok tt) N)
+    (to_z-of_z w64 c.args.later c.ranges.later)
     (c.loop-part.invariant.2 (Ok tt) N
-    (subst (λ es. g.R.Reader.reads N (marks_in b c.args.from (to_z w64 c.loop-part.delay-bits) later es) (Ok tt) N) (sym c.in-None.ensures.steps.0) (g.met.R.Reader.goes.none N))))
+    (subst (λ es. g.R.Reader.reads N (marks_in b c.args.from (to_z w64 c.loop-part.delay-bits) later es) (Ok tt) N) (sym c.in-None.ensures.steps.0)
+    (g.met.R.Reader.goes.none N))))
 
 pub walk_tree-returns-in_err-read-in-Form-clause-marks : goal.walk_tree-returns-in_err-read-in-Form-clause-marks
 walk_tree-returns-in_err-read-in-Form-clause-marks g t c =
@@ -114,8 +125,10 @@ walk_tree-returns-in_err-read-in-Form-clause-marks g t c =
     let R = c.from_residual.result in
     let N = c.read-in-Form.new.self in
     subst (λ e. g.R.Reader.reads c.args.reader.now (marks b c.args.from c.args.delay e) R N) c.in-Form.ensures.tree
-    (g.met.R.Reader.goes.stops c.args.reader.now N (marked (Part c.in-Form.at (is_judged h))) (marks_in b c.args.from (first_delay h c.args.delay) (later_delay h c.args.delay) c.in-Form.parts) _ R c.from_residual.ensures.0
-    (subst (λ j. g.R.Reader.reads c.args.reader.now (marked (Part c.in-Form.at j)) (Err c.in_err-read-in-Form.field-0.0) N) c.is_judged-judged.ensures c.in_err-read-in-Form.ensures))
+    (g.met.R.Reader.goes.stops c.args.reader.now N (marked (Part c.in-Form.at (is_judged h)))
+    (marks_in b c.args.from (first_delay h c.args.delay) (later_delay h c.args.delay) c.in-Form.parts) _ R c.from_residual.ensures.0
+    (subst (λ j. g.R.Reader.reads c.args.reader.now (marked (Part c.in-Form.at j)) (Err c.in_err-read-in-Form.field-0.0) N) c.is_judged-judged.ensures
+    c.in_err-read-in-Form.ensures))
 
 pub walk_tree-walk_parts-requires : goal.walk_tree-walk_parts-requires
 walk_tree-walk_parts-requires g t c κs within =
@@ -131,8 +144,10 @@ walk_tree-walk_parts-requires g t c κs within =
         (
           within.1,
           (
-            subst (λ w. Fits w n) (sym (to_z-of_z w64 c.delays-first.result.0 first ∙ c.delays-first.ensures.first ∙ ap (first_delay h) same)) (fits-first h c.args.delay n fits),
-            subst (λ w. Fits w n) (sym (to_z-of_z w64 c.delays-first.result.1 later ∙ c.delays-first.ensures.later ∙ ap (later_delay h) same)) (fits-later h c.args.delay n fits),
+            subst (λ w. Fits w n) (sym (to_z-of_z w64 c.delays-first.result.0 first ∙ c.delays-first.ensures.first ∙ ap (first_delay h) same))
+                (fits-first h c.args.delay n fits),
+            subst (λ w. Fits w n) (sym (to_z-of_z w64 c.delays-first.result.1 later ∙ c.delays-first.ensures.later ∙ ap (later_delay h) same))
+                (fits-later h c.args.delay n fits),
           ),
         ),
       ),
@@ -144,7 +159,8 @@ walk_tree-returns-in_err-read-in-Call-clause-marks g t c =
     let R = c.from_residual-in_err-read-in-Call.result in
     let N = c.read-in-Call.new.self in
     subst (λ e. g.R.Reader.reads c.args.reader.now (marks b c.args.from c.args.delay e) R N) c.in-Call.ensures.tree
-    (g.met.R.Reader.goes.stops c.args.reader.now N (marked (Part c.in-Call.at false)) (marks_in b c.args.from c.args.delay c.args.delay c.in-Call.args.now) _ R c.from_residual-in_err-read-in-Call.ensures.0
+    (g.met.R.Reader.goes.stops c.args.reader.now N (marked (Part c.in-Call.at false)) (marks_in b c.args.from c.args.delay c.args.delay c.in-Call.args.now) _ R
+    c.from_residual-in_err-read-in-Call.ensures.0
     c.in_err-read-in-Call.ensures)
 
 pub walk_tree-returns-in_err-walk_tree-in-Scope-clause-marks : goal.walk_tree-returns-in_err-walk_tree-in-Scope-clause-marks
@@ -153,8 +169,10 @@ walk_tree-returns-in_err-walk_tree-in-Scope-clause-marks g t c =
     let R = c.from_residual-in_err-walk_tree-in-Scope.result in
     let N = c.walk_tree.new.reader in
     subst (λ e. g.R.Reader.reads c.args.reader.now (marks b c.args.from c.args.delay e) R N) c.in-Scope.ensures.tree
-    (g.met.R.Reader.goes.stops c.args.reader.now N (marks b c.args.from c.args.delay c.in-Scope.subject.now) (marks_in_defs b c.in-Scope.defs.now) _ R c.from_residual-in_err-walk_tree-in-Scope.ensures.0
-    (subst (λ w. g.R.Reader.reads c.args.reader.now (marks b c.args.from w c.in-Scope.subject.now) (Err c.in_err-walk_tree-in-Scope.field-0.0) N) (to_z-of_z w64 c.args.delay c.ranges.delay) c.in_err-walk_tree-in-Scope.ensures.marks))
+    (g.met.R.Reader.goes.stops c.args.reader.now N (marks b c.args.from c.args.delay c.in-Scope.subject.now) (marks_in_defs b c.in-Scope.defs.now) _ R
+    c.from_residual-in_err-walk_tree-in-Scope.ensures.0
+    (subst (λ w. g.R.Reader.reads c.args.reader.now (marks b c.args.from w c.in-Scope.subject.now) (Err c.in_err-walk_tree-in-Scope.field-0.0) N)
+    (to_z-of_z w64 c.args.delay c.ranges.delay) c.in_err-walk_tree-in-Scope.ensures.marks))
 
 pub walk_tree-returns-in_ok-read-in-Form-clause-marks : goal.walk_tree-returns-in_ok-read-in-Form-clause-marks
 walk_tree-returns-in_ok-read-in-Form-clause-marks g t c =
@@ -167,7 +185,8 @@ walk_tree-returns-in_ok-read-in-Form-clause-marks g t c =
     let first : SFits w64 c.delays-first.result.0 = search rules in
     let later : SFits w64 c.delays-first.result.1 = search rules in
     subst (λ e. g.R.Reader.reads c.args.reader.now (marks b c.args.from c.args.delay e) R N) c.in-Form.ensures.tree
-    (g.met.R.Reader.goes.more c.args.reader.now M N (marked (Part c.in-Form.at (is_judged h))) (marks_in b c.args.from (first_delay h c.args.delay) (later_delay h c.args.delay) c.in-Form.parts) R
+    (g.met.R.Reader.goes.more c.args.reader.now M N (marked (Part c.in-Form.at (is_judged h)))
+    (marks_in b c.args.from (first_delay h c.args.delay) (later_delay h c.args.delay) c.in-Form.parts) R
     (subst (λ j. g.R.Reader.reads c.args.reader.now (marked (Part c.in-Form.at j)) (Ok tt) M) c.is_judged-judged.ensures c.in_ok-read-in-Form.ensures)
     (subst (λ w. g.R.Reader.reads M (marks_in b c.args.from w (later_delay h c.args.delay) c.in-Form.parts) R N)
     (to_z-of_z w64 c.delays-first.result.0 first ∙ c.delays-first.ensures.first ∙ ap (first_delay h) same)
@@ -182,9 +201,11 @@ walk_tree-returns-in_ok-read-in-Call-clause-marks g t c =
     let M = c.read-in-Call.new.self in
     let N = c.walk_parts-in-Call.new.reader in
     subst (λ e. g.R.Reader.reads c.args.reader.now (marks b c.args.from c.args.delay e) R N) c.in-Call.ensures.tree
-    (g.met.R.Reader.goes.more c.args.reader.now M N (marked (Part c.in-Call.at false)) (marks_in b c.args.from c.args.delay c.args.delay c.in-Call.args.now) R c.in_ok-read-in-Call.ensures
+    (g.met.R.Reader.goes.more c.args.reader.now M N (marked (Part c.in-Call.at false)) (marks_in b c.args.from c.args.delay c.args.delay c.in-Call.args.now) R
+    c.in_ok-read-in-Call.ensures
     (subst (λ es. g.R.Reader.reads M (marks_in b c.args.from c.args.delay c.args.delay es) R N) c.parts.ensures
-    (subst (λ w. g.R.Reader.reads M (marks_in b c.args.from w w c.parts.result) R N) (to_z-of_z w64 c.args.delay c.ranges.delay) c.walk_parts-in-Call.ensures.marks)))
+    (subst (λ w. g.R.Reader.reads M (marks_in b c.args.from w w c.parts.result) R N) (to_z-of_z w64 c.args.delay c.ranges.delay)
+    c.walk_parts-in-Call.ensures.marks)))
 
 pub walk_tree-returns-in_ok-walk_tree-in-Scope-clause-marks : goal.walk_tree-returns-in_ok-walk_tree-in-Scope-clause-marks
 walk_tree-returns-in_ok-walk_tree-in-Scope-clause-marks g t c =
@@ -194,5 +215,6 @@ walk_tree-returns-in_ok-walk_tree-in-Scope-clause-marks g t c =
     let N = c.walk_defs.new.reader in
     subst (λ e. g.R.Reader.reads c.args.reader.now (marks b c.args.from c.args.delay e) R N) c.in-Scope.ensures.tree
     (g.met.R.Reader.goes.more c.args.reader.now M N (marks b c.args.from c.args.delay c.in-Scope.subject.now) (marks_in_defs b c.in-Scope.defs.now) R
-    (subst (λ w. g.R.Reader.reads c.args.reader.now (marks b c.args.from w c.in-Scope.subject.now) (Ok tt) M) (to_z-of_z w64 c.args.delay c.ranges.delay) c.in_ok-walk_tree-in-Scope.ensures.marks)
+    (subst (λ w. g.R.Reader.reads c.args.reader.now (marks b c.args.from w c.in-Scope.subject.now) (Ok tt) M) (to_z-of_z w64 c.args.delay c.ranges.delay)
+    c.in_ok-walk_tree-in-Scope.ensures.marks)
     (subst (λ ds. g.R.Reader.reads M (marks_in_defs b ds) R N) c.definitions.ensures c.walk_defs.ensures.marks))

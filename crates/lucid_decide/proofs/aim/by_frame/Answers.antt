@@ -9,6 +9,8 @@ use Rattle.lucid_decide.proofs.aim.by_frame.Goals as goal
 pub returns-in-Some-Frozen-clause-aim : goal.returns-in-Some-Frozen-clause-aim
 returns-in-Some-Frozen-clause-aim c =
     let same : c.in-Some-Frozen.field-0 ≡ Frozen c.in-Some-Frozen.frozen = search in
-    current-goes (program_equations c.args.program.now) c.args.name (node_at (table_of c.args.program.now) c.in-Current.body) (context_of c.args.tags.now c.args.tag)
+    current-goes (program_equations c.args.program.now) c.args.name (node_at (table_of c.args.program.now) c.in-Current.body)
+    (context_of c.args.tags.now c.args.tag)
     (context_of c.args.tags.now c.cut-outer.result) c.in-Some-Frozen.frozen c.args.time c.level.result
-    c.in-Current.ensures.meaning (subst (λ f. IsInnermost c.args.tags.now f (context_of c.args.tags.now c.args.tag)) same c.in-Some-Frozen.ensures.innermost) c.level.ensures.level c.cut-outer.ensures.context
+    c.in-Current.ensures.meaning (subst (λ f. IsInnermost c.args.tags.now f (context_of c.args.tags.now c.args.tag)) same c.in-Some-Frozen.ensures.innermost)
+    c.level.ensures.level c.cut-outer.ensures.context

@@ -14,8 +14,10 @@ returns-in_err-enter_frozen-in-Freeze-clause-unknown c =
 
 pub returns-in_ok-enter_frozen-in-Freeze-clause-entered : goal.returns-in_ok-enter_frozen-in-Freeze-clause-entered
 returns-in_ok-enter_frozen-in-Freeze-clause-entered c = λ y i.
-    elim (added-in c.args.tags.now c.enter_frozen.new.self (frozen_frame c.args.task.time (context_of c.args.tags.now c.args.task.tag)) y c.in_ok-enter_frozen-in-Freeze.ensures.added i) [
+    elim (added-in c.args.tags.now c.enter_frozen.new.self (frozen_frame c.args.task.time (context_of c.args.tags.now c.args.task.tag)) y
+    c.in_ok-enter_frozen-in-Freeze.ensures.added i) [
       | inl j ↦ inl j
       | inr e ↦ inr (subst (λ z. In z (passed_contexts (table_of c.args.program.now) 1 (plain_task c.args.tags.now c.args.task))) (sym e)
-          (frozen-way (table_of c.args.program.now) (plain_task c.args.tags.now c.args.task) c.in-Freeze.subject c.in-Freeze.ensures.row c.in-Freeze.ensures.meaning))
+          (frozen-way (table_of c.args.program.now) (plain_task c.args.tags.now c.args.task) c.in-Freeze.subject c.in-Freeze.ensures.row
+          c.in-Freeze.ensures.meaning))
     ]

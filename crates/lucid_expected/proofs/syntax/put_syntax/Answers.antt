@@ -8,6 +8,7 @@ returns c = on_ok_weaker c.put_said.result
       c.in_ok-those.those.items,
       c.in_ok-those.ensures,
       e ∙ ap (λ (z : List ℕ). c.args.text.now.items ++ syntax_text c.args.file.now c.args.source.now c.args.at z c.deref.result.now) c.read_at-read.ensures
-          ∙ ap (λ (w : List Candidate). c.args.text.now.items ++ syntax_text c.args.file.now c.args.source.now c.args.at (read_at c.args.source.now c.args.tokens.now c.args.at) w) c.deref.ensures.value,
+          ∙ ap (λ (w : List Candidate). c.args.text.now.items ++ syntax_text c.args.file.now c.args.source.now c.args.at
+          (read_at c.args.source.now c.args.tokens.now c.args.at) w) c.deref.ensures.value,
     ))
     c.put_said.ensures

@@ -14,5 +14,6 @@ returns-in-Bytes c =
     (λ text. SaysBy asked c.args.name.now (plain_again c.args.again.now) c.args.line.now text.items)
     (λ text t. let P : Again → Type 0 = λ a. SaysBy asked c.args.name.now (plain_again a) c.args.line.now text.items in
     subst P (sym c.in-Bytes.is)
-    (same_source asked c.as_bytes.result.now c.args.name.now c.deref.result.now c.in-Bytes.source.items c.args.line.now text.items c.as_bytes.ensures.value c.deref.ensures.value t))
+    (same_source asked c.as_bytes.result.now c.args.name.now c.deref.result.now c.in-Bytes.source.items c.args.line.now text.items c.as_bytes.ensures.value
+    c.deref.ensures.value t))
     c.text_of_source.ensures

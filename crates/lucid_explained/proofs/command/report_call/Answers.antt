@@ -12,5 +12,7 @@ returns-in-Ok g c =
 
 pub returns-in-Err : goal.returns-in-Err
 returns-in-Err g c =
-    let P : Result (Unit {0}) PortFault → Type 0 = λ r. WritesLine c.args.line.now r (told g.E.Sink.written g.E.Sink.faults c.args.report.now) (told g.E.Sink.written g.E.Sink.faults c.write_line.new.report) in
+    let P : Result (Unit {0}) PortFault → Type 0 =
+    λ r. WritesLine c.args.line.now r (told g.E.Sink.written g.E.Sink.faults c.args.report.now)
+    (told g.E.Sink.written g.E.Sink.faults c.write_line.new.report) in
     cut_off c.in-Err.field-0 (subst P c.in-Err.is c.write_line.ensures)

@@ -10,6 +10,7 @@ returns c =
     let shown = shown_text c.args.name.now in
     ended c.extend_from_slice-2.result c.extend_from_slice-2.new.self.items c.put_front.new.text.items (codes "\n") (old ++ (front ++ (shown ++ codes "\n"))) c.extend_from_slice-2.ensures.items
     (ap (λ (z : List ℕ). z ++ codes "\n")
-    (c.in_ok-put_front.ensures ∙ ap (λ (z : List ℕ). z ++ shown_text c.as_bytes.result.now) c.in_ok-extend_from_slice.ensures.items ∙ ap (λ (z : List ℕ). (old ++ front) ++ shown_text z) c.as_bytes.ensures.value)
+    (c.in_ok-put_front.ensures ∙ ap (λ (z : List ℕ). z ++ shown_text c.as_bytes.result.now) c.in_ok-extend_from_slice.ensures.items
+    ∙ ap (λ (z : List ℕ). (old ++ front) ++ shown_text z) c.as_bytes.ensures.value)
     ∙ append_assoc (old ++ front) shown (codes "\n")
     ∙ append_assoc old front (shown ++ codes "\n"))

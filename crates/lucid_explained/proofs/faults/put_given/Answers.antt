@@ -21,6 +21,8 @@ loop-word-preserved g c =
     ap (λ (z : List (Text × Text)). map given_file z) (map_more plain_given given i c.word-item.result c.loop-word-test.true)
     ∙ map-append given_file (map plain_given (take i given)) _
     ∙ ap (λ (z : Text). front ++ z ∷ []) (ap (λ (w : Given). string_bytes w.file) (sym c.word-item.is) ∙ sym c.deref.ensures) in
-    told_of files (front ++ c.deref.result.now ∷ []) (map given_file (map plain_given (take (i + 1) given))) c.args.text.now.items c.put_if_unread.new.text.items
+    told_of files (front ++ c.deref.result.now ∷ []) (map given_file (map plain_given (take (i + 1) given))) c.args.text.now.items
+    c.put_if_unread.new.text.items
     (sym whole)
-    (told_both files front (c.deref.result.now ∷ []) c.args.text.now.items c.loop-word.text.items c.put_if_unread.new.text.items c.loop-word.invariant c.in_ok-put_if_unread.ensures)
+    (told_both files front (c.deref.result.now ∷ []) c.args.text.now.items c.loop-word.text.items c.put_if_unread.new.text.items c.loop-word.invariant
+    c.in_ok-put_if_unread.ensures)

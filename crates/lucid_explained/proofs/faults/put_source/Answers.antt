@@ -8,5 +8,6 @@ use Rattle.lucid_explained.proofs.faults.put_source.Goals as goal
 
 pub returns-in-Made : goal.returns-in-Made
 returns-in-Made g c =
-    let P : Source → Type 0 = λ s. TellsFiles (g.F.Outlook.files c.args.outlook.now) (source_files (plain_source s)) c.args.text.now.items c.args.text.now.items in
+    let P : Source → Type 0 = λ s. TellsFiles (g.F.Outlook.files c.args.outlook.now) (source_files (plain_source s)) c.args.text.now.items
+    c.args.text.now.items in
     subst P (sym c.in-Made.is) (told_none (g.F.Outlook.files c.args.outlook.now) c.args.text.now.items)

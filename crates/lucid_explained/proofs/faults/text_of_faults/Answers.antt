@@ -6,5 +6,6 @@ use Rattle.lucid_explained.proofs.faults.text_of_faults.Goals as goal
 
 pub returns : goal.returns
 returns g c =
-    IfOk-weaker c.or_unknown.result (λ text. text.items ≡ or_unknown c.in_ok-told.told.items) (λ text. Says (g.F.Outlook.files c.args.outlook.now) (plain_words c.args.asked.now) c.args.line.now text.items)
+    IfOk-weaker c.or_unknown.result (λ text. text.items ≡ or_unknown c.in_ok-told.told.items)
+    (λ text. Says (g.F.Outlook.files c.args.outlook.now) (plain_words c.args.asked.now) c.args.line.now text.items)
     (λ text e. of_fault c.in_ok-told.told.items c.requires c.in_ok-told.ensures e) c.or_unknown.ensures

@@ -10,5 +10,6 @@ pub returns : goal.returns
 returns g c =
     let asked = plain_words c.args.asked.now in
     let seen = plain_again c.in_ok-again.again in
-    IfOk-weaker c.prompt_by_file.result (λ text. PromptsBy asked seen text.items) (λ text. IsPrompt (g.F.Outlook.files c.args.outlook.now) (map string_bytes c.args.words.now) text.items)
+    IfOk-weaker c.prompt_by_file.result (λ text. PromptsBy asked seen text.items)
+    (λ text. IsPrompt (g.F.Outlook.files c.args.outlook.now) (map string_bytes c.args.words.now) text.items)
     (λ text t. run asked c.args.name.now seen c.requires.read c.requires.file c.in_ok-again.ensures t) c.prompt_by_file.ensures

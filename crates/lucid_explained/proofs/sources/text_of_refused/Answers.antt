@@ -19,4 +19,5 @@ returns-else-is_line c =
     (λ text. Tells asked c.args.name.now c.args.source.now c.args.line.now text.items)
     (λ text t.
     otherwise c.args.said.line.items c.args.said.text.items c.requires
-    (λ same. let e : c.is_line.result ≡ true = c.is_line.ensures.1 (sym (c.deref.ensures.value ∙ same)) in let f = c.if-is_line.false in cc) t) c.text_by.ensures
+    (λ same. let e : c.is_line.result ≡ true = c.is_line.ensures.1 (sym (c.deref.ensures.value ∙ same)) in let f = c.if-is_line.false in cc)
+    t) c.text_by.ensures

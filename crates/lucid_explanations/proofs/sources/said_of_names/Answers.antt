@@ -8,4 +8,5 @@ pub returns : goal.returns
 returns c =
     by_names c.args.tree.now c.args.refusal.now c.requires.spelt c.requires.refused
     (c.in_ok-put_names_line.ensures ∙ ap (λ (z : List ℕ). z ++ names_line c.args.refusal.now) c.new-line.ensures.items)
-    (c.in_ok-put_names.ensures ∙ ap (λ (z : List ℕ). z ++ names_text c.args.file.now c.args.source.now c.args.tree.now c.args.refusal.now) c.new-text.ensures.items)
+    (c.in_ok-put_names.ensures ∙ ap (λ (z : List ℕ). z ++ names_text c.args.file.now c.args.source.now c.args.tree.now c.args.refusal.now)
+    c.new-text.ensures.items)

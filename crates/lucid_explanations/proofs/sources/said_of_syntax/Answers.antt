@@ -6,7 +6,8 @@ use Rattle.lucid_explanations.specs.Sources.{by_syntax}
 use Rattle.lucid_explanations.proofs.sources.said_of_syntax.Goals as goal
 
 pub put_syntax-requires-clause-within : goal.put_syntax-requires-clause-within
-put_syntax-requires-clause-within c = fault_within c.args.source.now c.args.tokens.now c.args.at c.tokens_are_in_order.ensures c.requires.scanned c.requires.refused
+put_syntax-requires-clause-within c = fault_within c.args.source.now c.args.tokens.now c.args.at c.tokens_are_in_order.ensures c.requires.scanned
+    c.requires.refused
 
 pub returns : goal.returns
 returns c =
@@ -14,4 +15,5 @@ returns c =
     by_syntax c.args.tokens.now c.args.at said.0 (record { short = c.requires.short; listed = c.requires.scanned }) c.requires.refused said.1
     (c.in_ok-put_line_at.ensures ∙ ap (λ (z : List ℕ). z ++ syntax_line c.args.at) c.new-line.ensures.items)
     (said.2
-    ∙ ap (λ (z : List ℕ). z ++ syntax_text c.args.file.now c.args.source.now c.args.at (read_at c.args.source.now c.args.tokens.now c.args.at) said.0) c.new-text.ensures.items)
+    ∙ ap (λ (z : List ℕ). z ++ syntax_text c.args.file.now c.args.source.now c.args.at (read_at c.args.source.now c.args.tokens.now c.args.at) said.0)
+    c.new-text.ensures.items)

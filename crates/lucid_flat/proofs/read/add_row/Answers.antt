@@ -8,9 +8,12 @@ returns-in-Some c =
     let f = subst P c.in-Some.is c.in_ok-row.ensures in
     let old = rows_in c.args.rows.now in
     let new = c.add.new.self in
-    IfOk-weaker c.add.result (λ (added : Bool). MatchBool added (AreBegun new × (rows_in new ≡ old ++ plain_row c.in-Some.row ∷ [])) (CannotCome old (plain_row c.in-Some.row))) _
-    (λ added h. of_line c.one_value.ensures (AreBegun new) old (rows_in new) (plain_row c.in-Some.row) c.args.line.now added c.requires.fit f.0 f.1 h) c.add.ensures
+    IfOk-weaker c.add.result (λ (added : Bool). MatchBool added (AreBegun new × (rows_in new ≡ old ++ plain_row c.in-Some.row ∷ []))
+    (CannotCome old (plain_row c.in-Some.row))) _
+    (λ added h. of_line c.one_value.ensures (AreBegun new) old (rows_in new) (plain_row c.in-Some.row) c.args.line.now added c.requires.fit f.0 f.1 h)
+    c.add.ensures
 
 pub returns-in-None : goal.returns-in-None
 returns-in-None c =
-    let P : Option Row → Type 0 = λ o. IsRowOf c.args.line.now (option_map plain_row o) in no_row_here c.one_value.ensures _ _ c.requires.fit (subst P c.in-None.is c.in_ok-row.ensures)
+    let P : Option Row → Type 0 = λ o. IsRowOf c.args.line.now (option_map plain_row o) in
+    no_row_here c.one_value.ensures _ _ c.requires.fit (subst P c.in-None.is c.in_ok-row.ensures)

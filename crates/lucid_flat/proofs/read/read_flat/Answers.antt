@@ -10,13 +10,15 @@ add_lines-requires-clause-some c = none_goes_on
 pub returns-in-Some-clause-again : goal.returns-in-Some-clause-again
 returns-in-Some-clause-again c = λ t d.
     let l = c.add_lines.new.to in
-    let wrong = MatchOption-at_some (AreKept l × AreTableLines (lines_in l) × (c.args.bytes.now ≡ text_of (lines_in l))) (λ (line : ℕ). IsFirstWrongLine c.args.bytes.now line) c.in-Some.line c.in-Some.is c.in_ok-line.ensures in
+    let wrong = MatchOption-at_some (AreKept l × AreTableLines (lines_in l) × (c.args.bytes.now ≡ text_of (lines_in l)))
+    (λ (line : ℕ). IsFirstWrongLine c.args.bytes.now line) c.in-Some.line c.in-Some.is c.in_ok-line.ensures in
     wrong.no_text (flat_lines t) (t, d.has, refl) d.text
 
 pub returns-in-None-clause-text : goal.returns-in-None-clause-text
 returns-in-None-clause-text c =
     let l = c.add_lines.new.to in
-    let m = MatchOption-at_none (AreKept l × AreTableLines (lines_in l) × (c.args.bytes.now ≡ text_of (lines_in l))) (λ (line : ℕ). IsFirstWrongLine c.args.bytes.now line) c.in-None.is c.in_ok-line.ensures in
+    let m = MatchOption-at_none (AreKept l × AreTableLines (lines_in l) × (c.args.bytes.now ≡ text_of (lines_in l)))
+    (λ (line : ℕ). IsFirstWrongLine c.args.bytes.now line) c.in-None.is c.in_ok-line.ensures in
     let P : Table → Type 0 = IsTextOf c.args.bytes.now in
     subst P (sym c.into_table.ensures) (text_read c.one_value.ensures c.args.bytes.now l m.0 m.1 m.2)
 

@@ -9,4 +9,5 @@ pub returns : goal.returns
 returns c =
     IfOk-weaker c.tail_row.result (λ (read : Option Row). option_map plain_row read ≡ tail_row c.in-Some.word.now c.in-Some.tail.now)
     (λ (read : Option Row). IsRowOf c.args.line.now (option_map plain_row read))
-    (λ read e. tail_is_row _ _ _ (option_map plain_row read) c.in-Some.ensures.0 c.in-Some.ensures.1 (sym (c.if-eq.ensures ∙ ap (bytes_eq c.in-Some.word.now) c.as_slice.ensures)) e) c.tail_row.ensures
+    (λ read e. tail_is_row _ _ _ (option_map plain_row read) c.in-Some.ensures.0 c.in-Some.ensures.1
+    (sym (c.if-eq.ensures ∙ ap (bytes_eq c.in-Some.word.now) c.as_slice.ensures)) e) c.tail_row.ensures

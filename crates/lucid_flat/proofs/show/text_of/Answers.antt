@@ -4,9 +4,12 @@ use Rattle.lucid_flat.proofs.show.text_of.Goals as goal
 
 pub returns-clause-text : goal.returns-clause-text
 returns-clause-text c =
-    text_from c.args.table.now _ _ _ _ _ _ _ _ c.in_ok-text.ensures.items (lines_of _ _ scope_row _ _ (slice_tail _ _ c.items.ensures.value) c.in_ok-put_lines.ensures.lines)
-    (lines_of _ _ input_row _ _ c.items-2.ensures c.in_ok-put_lines-2.ensures.lines) (constant_lines _ _ _ _ c.items-3.ensures.value c.in_ok-put_lines-3.ensures.lines)
-    (lines_of _ _ node_row _ _ c.items-4.ensures.value c.in_ok-put_lines-4.ensures.lines) (lines_of _ _ name_row _ _ c.items-5.ensures.value c.in_ok-put_lines-5.ensures.lines)
+    text_from c.args.table.now _ _ _ _ _ _ _ _ c.in_ok-text.ensures.items
+    (lines_of _ _ scope_row _ _ (slice_tail _ _ c.items.ensures.value) c.in_ok-put_lines.ensures.lines)
+    (lines_of _ _ input_row _ _ c.items-2.ensures c.in_ok-put_lines-2.ensures.lines)
+    (constant_lines _ _ _ _ c.items-3.ensures.value c.in_ok-put_lines-3.ensures.lines)
+    (lines_of _ _ node_row _ _ c.items-4.ensures.value c.in_ok-put_lines-4.ensures.lines)
+    (lines_of _ _ name_row _ _ c.items-5.ensures.value c.in_ok-put_lines-5.ensures.lines)
     (lines_of _ _ place_row _ _ c.items-6.ensures.value c.in_ok-put_lines-6.ensures.lines) c.in_ok-put_root.ensures.line
 
 pub returns-clause-has : goal.returns-clause-has

@@ -8,7 +8,8 @@ enter_call-requires-clause-base c =
 
 pub enter_call-requires-clause-caller : goal.enter_call-requires-clause-caller
 enter_call-requires-clause-caller c =
-    (is_of_context c.args.tags.now c.args.contexts.now c.in-Call.caller c.in-Some-Some.caller c.requires (sym c.in-Some-Some.is-1 ∙ c.context_at-in-Call.ensures)).known_tag
+    (is_of_context c.args.tags.now c.args.contexts.now c.in-Call.caller c.in-Some-Some.caller c.requires
+    (sym c.in-Some-Some.is-1 ∙ c.context_at-in-Call.ensures)).known_tag
 
 pub enter_frozen-requires : goal.enter_frozen-requires
 enter_frozen-requires c =
@@ -18,12 +19,14 @@ pub returns-in_ok-enter_call-in-Some-Some-clause-there : goal.returns-in_ok-ente
 returns-in_ok-enter_call-in-Some-Some-clause-there c = record {
   known_tag = c.in_ok-enter_call-in-Some-Some.ensures.known;
   space = c.in_ok-enter_call-in-Some-Some.ensures.space
-      ∙ (is_of_context c.args.tags.now c.args.contexts.now c.in-Call.base c.in-Some-Some.base c.requires (sym c.in-Some-Some.is-0 ∙ c.context_at.ensures)).space;
+      ∙ (is_of_context c.args.tags.now c.args.contexts.now c.in-Call.base c.in-Some-Some.base c.requires
+      (sym c.in-Some-Some.is-0 ∙ c.context_at.ensures)).space;
 }
 
 pub returns-in_ok-enter_frozen-in-Some-clause-there : goal.returns-in_ok-enter_frozen-in-Some-clause-there
 returns-in_ok-enter_frozen-in-Some-clause-there c = record {
   known_tag = c.in_ok-enter_frozen-in-Some.ensures.known;
   space = c.in_ok-enter_frozen-in-Some.ensures.space
-      ∙ (is_of_context c.args.tags.now c.args.contexts.now c.in-Frozen.base c.in-Some.base c.requires (sym c.in-Some.is ∙ c.context_at-in-Frozen.ensures)).space;
+      ∙ (is_of_context c.args.tags.now c.args.contexts.now c.in-Frozen.base c.in-Some.base c.requires
+      (sym c.in-Some.is ∙ c.context_at-in-Frozen.ensures)).space;
 }

@@ -9,4 +9,5 @@ use Rattle.lucid_follow.proofs.contexts.rows_of.Given as goal
 
 -- The rows are those of the contexts so far.
 abbrev pub invariant-loop-number : goal.invariant-loop-number
-invariant-loop-number l = (contexts_behind (Some root ∷ []) l.rows.items ≡ known_before l.tags l.number) × AllByRecursion (λ r. MayShow (context_row r)) l.rows.items
+invariant-loop-number l = (contexts_behind (Some root ∷ []) l.rows.items ≡ known_before l.tags l.number)
+    × AllByRecursion (λ r. MayShow (context_row r)) l.rows.items

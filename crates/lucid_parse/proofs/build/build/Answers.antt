@@ -18,7 +18,8 @@ loop-item-preserved c =
 pub unreachable-requires : goal.unreachable-requires
 unreachable-requires c =
     let none = rw c.in-None.is at c.pop.ensures in
-    let one = all_built c.requires.2 (items_of c.args.items.now) c.loop-item.item-index _ c.requires.3 (items_over c.args.items.now _ c.loop-item-test.false) c.loop-item.invariant in
+    let one = all_built c.requires.2 (items_of c.args.items.now) c.loop-item.item-index _ c.requires.3 (items_over c.args.items.now _ c.loop-item-test.false)
+    c.loop-item.invariant in
     let both : c.requires.1 ∷ [] ≡ [] = sym one ∙ none.0 in cc
 
 pub returns : goal.returns

@@ -6,7 +6,8 @@ use Rattle.lucid_parse.proofs.parser.parse.Goals as goal
 
 pub returns-clause-spelled : goal.returns-clause-spelled
 returns-clause-spelled c =
-    let stand = terminals_again c.args.source.now c.args.tokens.now c.in_ok-terminals.terminals.items c.deref.result.now c.in_ok-terminals.ensures.terminals c.deref.ensures.value in
+    let stand = terminals_again c.args.source.now c.args.tokens.now c.in_ok-terminals.terminals.items c.deref.result.now c.in_ok-terminals.ensures.terminals
+    c.deref.ensures.value in
     spelled c.args.source.now c.args.tokens.now (terminals_of c.deref.result.now) stand c.parse_terminals.result c.parse_terminals.ensures.spelled
 
 pub returns-clause-well_made : goal.returns-clause-well_made
@@ -23,5 +24,6 @@ returns-clause-few c =
 
 pub returns-clause-refused : goal.returns-clause-refused
 returns-clause-refused c =
-    let stand = terminals_again c.args.source.now c.args.tokens.now c.in_ok-terminals.terminals.items c.deref.result.now c.in_ok-terminals.ensures.terminals c.deref.ensures.value in
+    let stand = terminals_again c.args.source.now c.args.tokens.now c.in_ok-terminals.terminals.items c.deref.result.now c.in_ok-terminals.ensures.terminals
+    c.deref.ensures.value in
     refused c.args.source.now c.args.tokens.now (terminals_of c.deref.result.now) stand c.parse_terminals.result _ refl c.parse_terminals.ensures.refused

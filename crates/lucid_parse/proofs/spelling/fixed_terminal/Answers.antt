@@ -5,7 +5,8 @@ use Rattle.lucid_parse.specs.declared.terminal.Terminal.TheVariants as terminal
 use Rattle.lucid_parse.proofs.Spellings.{has_terminal}
 use Rattle.lucid_parse.proofs.spelling.fixed_terminal.Goals as goal
 
-spelled_so : (bytes : List ℕ) (found : Option Operator) → found ≡ spelled bytes → None ≡ terminal_in bytes form_terminals → fixed_terminal bytes ≡ option_map terminal.Operator found
+spelled_so : (bytes : List ℕ) (found : Option Operator) → found ≡ spelled bytes → None ≡ terminal_in bytes form_terminals
+    → fixed_terminal bytes ≡ option_map terminal.Operator found
 spelled_so bytes found e f = sym (ap (λ o. option_map terminal.Operator o) e ∙ ap (λ o. option_or o (option_map terminal.Operator (spelled bytes))) f)
 
 pub returns-in-Some : goal.returns-in-Some

@@ -27,5 +27,6 @@ slice_bounds-bytes-end c =
 
 pub loop-token-preserved : goal.loop-token-preserved
 loop-token-preserved c =
-    terminals_more c.args.source.now c.args.tokens.now c.loop-token.token-index none c.loop-token.terminals.items _ _ c.loop-token.invariant c.loop-token-test.true
+    terminals_more c.args.source.now c.args.tokens.now c.loop-token.token-index none c.loop-token.terminals.items _ _ c.loop-token.invariant
+    c.loop-token-test.true
     c.in_ok-push.ensures.items refl c.in_ok-terminal.ensures.terminal

@@ -4,7 +4,8 @@ use Rattle.lucid_plain.proofs.env.tree_in.Goals as goal
 
 pub returns-then-i-trees : goal.returns-then-i-trees
 returns-then-i-trees c =
-    ap Some c.index-trees-i.is ∙ sym (tree_at_in c.items-trees.result.now c.args.i c.index-trees-i.result c.if-i-trees.true) ∙ ap (λ es. tree_at es c.args.i) c.items-trees.ensures
+    ap Some c.index-trees-i.is ∙ sym (tree_at_in c.items-trees.result.now c.args.i c.index-trees-i.result c.if-i-trees.true)
+    ∙ ap (λ es. tree_at es c.args.i) c.items-trees.ensures
 
 pub returns-else-i-trees : goal.returns-else-i-trees
 returns-else-i-trees c =

@@ -7,7 +7,8 @@ pub returns-then-taken-eq0-clause-bytes : goal.returns-then-taken-eq0-clause-byt
 returns-then-taken-eq0-clause-bytes g c =
     let before = c.loop-bytes.invariant in
     let taken = c.in_ok-taken.ensures in
-    let read = both_read (vec_len c.loop-bytes.bytes) c.in_ok-taken.taken (vec_len c.take_piece.new.bytes) _ _ _ _ before.contents taken.len before.bytes taken.bytes in
+    let read = both_read (vec_len c.loop-bytes.bytes) c.in_ok-taken.taken (vec_len c.take_piece.new.bytes) _ _ _ _ before.contents taken.len before.bytes
+    taken.bytes in
     let same : vec_len c.take_piece.new.bytes ≡ vec_len c.loop-bytes.bytes = omega (arith, taken.len) in
     all_read (vec_len c.take_piece.new.bytes) _ _ _ _ _ _ (rw same before.contents) (omega arith) read c.if-taken-eq0.true (omega arith) taken.end
 

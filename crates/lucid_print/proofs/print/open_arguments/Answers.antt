@@ -7,7 +7,8 @@ pub returns-in_ok-push-in-Some-3 : goal.returns-in_ok-push-in-Some-3
 returns-in_ok-push-in-Some-3 c =
     let is = c.in-Some.ensures.steps in
     on_ok c.push-in-Some-3.result
-    (λ p. are (before (before (before (put c.in_ok-push-in-Some.ensures) (put c.in_ok-push-in-Some-2.ensures)) (whole c.in_ok-push-in-Some-3.ensures)) (put p)) (first_argument c.in-Some.first.now c.args.args c.next.new.self is) (omega (arith, ap work_in is)))
+    (λ p. are (before (before (before (put c.in_ok-push-in-Some.ensures) (put c.in_ok-push-in-Some-2.ensures)) (whole c.in_ok-push-in-Some-3.ensures)) (put p))
+    (first_argument c.in-Some.first.now c.args.args c.next.new.self is) (omega (arith, ap work_in is)))
     c.push-in-Some-3.ensures
 
 pub returns-in-None : goal.returns-in-None

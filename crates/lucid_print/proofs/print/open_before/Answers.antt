@@ -4,4 +4,5 @@ use Rattle.lucid_print.proofs.Unfolding.{put, before, are}
 use Rattle.lucid_print.proofs.print.open_before.Goals as goal
 
 pub returns : goal.returns
-returns c = on_ok c.push-3.result (λ p. are (before (before (put c.in_ok-push.ensures) (put c.in_ok-push-2.ensures)) (put p)) (simp append_assoc) (omega arith)) c.push-3.ensures
+returns c = on_ok c.push-3.result (λ p. are (before (before (put c.in_ok-push.ensures) (put c.in_ok-push-2.ensures)) (put p)) (simp append_assoc) (omega arith))
+    c.push-3.ensures

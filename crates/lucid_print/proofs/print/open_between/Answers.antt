@@ -6,5 +6,7 @@ use Rattle.lucid_print.proofs.print.open_between.Goals as goal
 pub returns : goal.returns
 returns c =
     on_ok c.push-5.result
-    (λ p. are (before (before (before (before (put c.in_ok-push.ensures) (put c.in_ok-push-2.ensures)) (put c.in_ok-push-3.ensures)) (put c.in_ok-push-4.ensures)) (put p)) (simp append_assoc) (omega arith))
+    (λ p.
+    are (before (before (before (before (put c.in_ok-push.ensures) (put c.in_ok-push-2.ensures)) (put c.in_ok-push-3.ensures)) (put c.in_ok-push-4.ensures))
+    (put p)) (simp append_assoc) (omega arith))
     c.push-5.ensures

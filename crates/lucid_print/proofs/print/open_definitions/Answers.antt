@@ -9,7 +9,10 @@ returns-in_ok-open_sign-in-Some c =
     let es = c.next.new.self in
     let is = c.in-Some.ensures.steps in
     on_ok c.push-in-Some-3.result
-    (λ p. are (before (before (before (before (put c.in_ok-push-in-Some.ensures) (put c.in_ok-push-in-Some-2.ensures)) (whole c.in_ok-push-in-Some-3.ensures)) c.in_ok-open_sign-in-Some.ensures) (put p))
+    (λ p.
+    are
+    (before (before (before (before (put c.in_ok-push-in-Some.ensures) (put c.in_ok-push-in-Some-2.ensures)) (whole c.in_ok-push-in-Some-3.ensures))
+    c.in_ok-open_sign-in-Some.ensures) (put p))
     (ap (λ l. l ++ (sign d.kind ++ (source c.right.result.now ++ (codes "; " ++ definitions es)))) c.bytes.ensures.value
     ∙ ap (λ e. d.name ++ (sign d.kind ++ (source e ++ (codes "; " ++ definitions es)))) c.right.ensures
     ∙ sym (first_definition d c.args.defs es is))

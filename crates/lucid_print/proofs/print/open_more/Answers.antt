@@ -8,7 +8,8 @@ unfolding source
 returns-in_ok-push-in-Some-2 c =
     let is = c.in-Some.ensures.steps in
     on_ok c.push-in-Some-2.result
-    (λ p. are (before (before (put c.in_ok-push-in-Some.ensures) (whole c.in_ok-push-in-Some-2.ensures)) (put p)) (ap (λ l. parted_more (texts (parts l))) (sym is)) (omega (arith, ap work_in is)))
+    (λ p. are (before (before (put c.in_ok-push-in-Some.ensures) (whole c.in_ok-push-in-Some-2.ensures)) (put p))
+    (ap (λ l. parted_more (texts (parts l))) (sym is)) (omega (arith, ap work_in is)))
     c.push-in-Some-2.ensures
 
 pub returns-in-None : goal.returns-in-None

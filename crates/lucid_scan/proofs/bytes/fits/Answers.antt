@@ -14,5 +14,6 @@ loop-digit-preserved c =
 pub returns-then-value-more : goal.returns-then-value-more
 returns-then-value-more c = (
   λ never. cc,
-  λ small. absurd (number_over c.args.digits.now c.loop-digit.digit-index 0 c.loop-digit-test.true (omega (arith, c.if-value-more.true, c.loop-digit.invariant.value)) small),
+  λ small. absurd (number_over c.args.digits.now c.loop-digit.digit-index 0 c.loop-digit-test.true
+      (omega (arith, c.if-value-more.true, c.loop-digit.invariant.value)) small),
 )

@@ -20,7 +20,8 @@ pub returns-in-Form-clause-told : goal.returns-in-Form-clause-told
 returns-in-Form-clause-told c =
     let w = c.args.walk.now in
     let st = c.args.steps.now in
-    on_ok c.push.result (λ p. ap (told w) p ∙ ap (λ e. w.marks.items ++ (marks (look w.table) e ++ pending (look w.table) st)) c.in-Form.ensures.tree) c.push.ensures
+    on_ok c.push.result (λ p. ap (told w) p ∙ ap (λ e. w.marks.items ++ (marks (look w.table) e ++ pending (look w.table) st)) c.in-Form.ensures.tree)
+    c.push.ensures
 
 pub returns-in-Form-clause-work : goal.returns-in-Form-clause-work
 returns-in-Form-clause-work c = on_ok c.push.result (λ p. omega (arith, ap work_left p, ap work c.in-Form.ensures.tree)) c.push.ensures
@@ -59,7 +60,8 @@ returns-in_ok-push-in-Scope-clause-told c =
     (λ p.
     ap (told w) (p ∙ ap (λ s. Outside c.definitions.result ∷ s) c.in_ok-push-in-Scope.ensures)
     ∙ ap (λ x. w.marks.items ++ (outside_marks f x ++ (marks g e ++ (inside_marks g no_names ds ++ pending f st)))) c.definitions.ensures
-    ∙ in-three w.marks.items (outside_marks f ds) (marks g e) (inside_marks g no_names ds) (pending f st) (outside_marks f ds ++ (marks g e ++ inside_marks g no_names ds)) refl
+    ∙ in-three w.marks.items (outside_marks f ds) (marks g e) (inside_marks g no_names ds) (pending f st)
+    (outside_marks f ds ++ (marks g e ++ inside_marks g no_names ds)) refl
     ∙ ap (λ t. w.marks.items ++ (marks f t ++ pending f st)) c.in-Scope.ensures.tree)
     c.push-in-Scope-2.ensures
 

@@ -11,7 +11,8 @@ returns-in_ok-push-in-Some-clause-told c =
     on_ok c.begin.result
     (λ b.
     b ∙ ap (λ s. w.marks.items ++ (marks f e ++ pending f s)) c.in_ok-push-in-Some.ensures
-    ∙ in-two w.marks.items (marks f e) (marks_in f c.next.new.self) (pending f c.args.steps.now) (marks_in f c.args.parts) (ap (marks_in f) c.in-Some.ensures.steps))
+    ∙ in-two w.marks.items (marks f e) (marks_in f c.next.new.self) (pending f c.args.steps.now) (marks_in f c.args.parts)
+    (ap (marks_in f) c.in-Some.ensures.steps))
     c.begin.ensures.told
 
 pub returns-in_ok-push-in-Some-clause-work : goal.returns-in_ok-push-in-Some-clause-work

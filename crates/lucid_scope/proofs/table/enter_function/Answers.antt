@@ -14,9 +14,11 @@ pub loop-left-preserved : goal.loop-left-preserved
 loop-left-preserved c =
     let e : c.loop-left.left ≡ suc (c.loop-left.left - 1) = grind (arith, c.loop-left-test.true) in (
       omega (arith, c.loop-left.invariant.0),
-      λ n. function-hides c.items-items.result.now (c.loop-left.left - 1) c.args.def c.index-items-left.result (look c.loop-left.table) (look c.hide.new.table) (look c.args.table.now)
+      λ n. function-hides c.items-items.result.now (c.loop-left.left - 1) c.args.def c.index-items-left.result (look c.loop-left.table) (look c.hide.new.table)
+          (look c.args.table.now)
           (omega (arith, e, c.loop-left.invariant.0)) c.index-items-left.is
-          (λ m. c.loop-left.invariant.1 m ∙ ap (λ j. or_outer (later_parameter c.args.def j (param m (drop j c.items-items.result.now))) (look c.args.table.now m)) e)
+          (λ m. c.loop-left.invariant.1 m ∙ ap (λ j. or_outer (later_parameter c.args.def j (param m (drop j c.items-items.result.now)))
+          (look c.args.table.now m)) e)
           c.in_ok-hide.ensures.sets n,
       λ n. c.in_ok-hide.ensures.saves n ∙ c.loop-left.invariant.2 n,
     )

@@ -7,7 +7,8 @@ pub loop-i-preserved : goal.loop-i-preserved
 loop-i-preserved c = (
   c.in_ok-note_repeat.ensures.noted.names ∙ c.loop-i.invariant.0,
   noted-first c.loop-i.walk c.note_repeat.new.walk _ _ _ _
-      (repeats-next c.items-names.result.now c.items-places.result.now c.loop-i.i c.index-names-i.result (is_seen c.loop-i.seen) (is_seen c.note_repeat.new.seen) c.loop-i-test.true c.if-i-places.true c.index-names-i.is c.in_ok-note_repeat.ensures.seen)
+      (repeats-next c.items-names.result.now c.items-places.result.now c.loop-i.i c.index-names-i.result (is_seen c.loop-i.seen)
+      (is_seen c.note_repeat.new.seen) c.loop-i-test.true c.if-i-places.true c.index-names-i.is c.in_ok-note_repeat.ensures.seen)
       c.in_ok-note_repeat.ensures.noted c.loop-i.invariant.1,
 )
 

@@ -13,18 +13,21 @@ demand_at-requires g c = record {
 
 pub returns-in-Err-clause-cell : goal.returns-in-Err-clause-cell
 returns-in-Err-clause-cell g c z deep standing there =
-    refused_here z _ _ _ _ _ _ _ _ _ _ _ c.clear_many.ensures deep c.from.ensures standing there c.in-Err.fault c.in-Err.ensures c.lost.result c.lost.ensures c.run_fault.result c.run_fault.ensures
+    refused_here z _ _ _ _ _ _ _ _ _ _ _ c.clear_many.ensures deep c.from.ensures standing there c.in-Err.fault c.in-Err.ensures c.lost.result c.lost.ensures
+    c.run_fault.result c.run_fault.ensures
 
 pub returns-then-is_end-clause-cell : goal.returns-then-is_end-clause-cell
 returns-then-is_end-clause-cell g c z deep standing there = (
   standing_here z _ _ _ _ _ _ _ _ _ _ _ c.clear_many.ensures deep c.from.ensures standing there c.in-Ok.value c.in-Ok.ensures,
-  ended_here z _ _ _ _ _ _ _ _ _ _ _ c.clear_many.ensures deep c.from.ensures standing there c.in-Ok.value c.in-Ok.ensures c.if-is_end.ensures c.args.line.now.items,
+  ended_here z _ _ _ _ _ _ _ _ _ _ _ c.clear_many.ensures deep c.from.ensures standing there c.in-Ok.value c.in-Ok.ensures c.if-is_end.ensures
+      c.args.line.now.items,
 )
 
 pub returns-in-Ok-show-clause-cell : goal.returns-in-Ok-show-clause-cell
 returns-in-Ok-show-clause-cell g c z deep standing there = (
   standing_here z _ _ _ _ _ _ _ _ _ _ _ c.clear_many.ensures deep c.from.ensures standing there c.in-Ok.value c.in-Ok.ensures,
-  shown_here z _ _ _ _ _ _ _ _ _ _ _ c.clear_many.ensures deep c.from.ensures standing there c.in-Ok.value c.in-Ok.ensures c.if-is_end.ensures c.args.line.now.items c.show.new.to.items c.in-Ok-show.ensures,
+  shown_here z _ _ _ _ _ _ _ _ _ _ _ c.clear_many.ensures deep c.from.ensures standing there c.in-Ok.value c.in-Ok.ensures c.if-is_end.ensures
+      c.args.line.now.items c.show.new.to.items c.in-Ok-show.ensures,
 )
 
 pub returns-clause-cell : goal.returns-clause-cell

@@ -19,7 +19,8 @@ returns-in_err-part-clause-cells g c z deep columns standing marked =
 pub returns-in_err-stays-clause-cells : goal.returns-in_err-stays-clause-cells
 returns-in_err-stays-clause-cells g c z deep columns standing marked =
     let now = c.loop-space.invariant.cells z deep columns standing marked in
-    let is = get_at c.loop-space.is_open c.loop-space.space false true (omega (arith, c.loop-space-test.true, c.loop-space.auto.is_open)) c.if-is_open-space.true in
+    let is = get_at c.loop-space.is_open c.loop-space.space false true (omega (arith, c.loop-space-test.true, c.loop-space.auto.is_open))
+    c.if-is_open-space.true in
     let p = err_from_is_err_and c.from_residual-in_err-stays.result c.from_residual-in_err-stays.ensures.1 in
     rw (p.1, p.2)
     (c.in_err-stays.ensures.cell z deep now.0 (demanded_here z _ _ _ _ _ _ _ _ now is (omega (arith, c.loop-space-test.true, columns))))
@@ -30,7 +31,8 @@ loop-space-preserved g c =
       | then-is_open-space+in_ok-stays w ↦ rw (w.engine-is, w.places-is, w.is_open-is, w.line-is, w.cleared-is, w.goes_on-is) (record {
         cells = λ z deep columns standing marked.
             let now = c.loop-space.invariant.cells z deep columns standing marked in
-            let is = get_at c.loop-space.is_open c.loop-space.space false true (omega (arith, c.loop-space-test.true, c.loop-space.auto.is_open)) w.if-is_open-space.true in
+            let is = get_at c.loop-space.is_open c.loop-space.space false true (omega (arith, c.loop-space-test.true, c.loop-space.auto.is_open))
+            w.if-is_open-space.true in
             given_here z _ _ _ _ _ _ _ _ now is _ _ _ _ _ _ c.in_ok-part.ensures
             (w.in_ok-stays.ensures.cell z deep now.0 (demanded_here z _ _ _ _ _ _ _ _ now is (omega (arith, c.loop-space-test.true, columns)))) _ refl;
         counts = omega (arith, w.in_ok-stays.ensures.counts, c.loop-space.invariant.counts);
@@ -38,7 +40,8 @@ loop-space-preserved g c =
       })
       | else-is_open-space w ↦ rw (w.engine-is, w.places-is, w.is_open-is, w.line-is, w.cleared-is, w.goes_on-is) (record {
         cells = λ z deep columns standing marked.
-            let is = get_at c.loop-space.is_open c.loop-space.space false false (omega (arith, c.loop-space-test.true, c.loop-space.auto.is_open)) w.if-is_open-space.false in
+            let is = get_at c.loop-space.is_open c.loop-space.space false false (omega (arith, c.loop-space-test.true, c.loop-space.auto.is_open))
+            w.if-is_open-space.false in
             skipped_here z _ _ _ _ _ _ _ _ (c.loop-space.invariant.cells z deep columns standing marked) is _ c.in_ok-part.ensures;
         counts = omega (arith, c.loop-space.invariant.counts);
         askable = c.loop-space.invariant.askable;

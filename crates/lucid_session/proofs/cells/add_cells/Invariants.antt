@@ -3,7 +3,8 @@ use Rattle.lucid_session.proofs.cells.add_cells.Given as goal
 
 abbrev pub invariant-loop-space : goal.invariant-loop-space
 invariant-loop-space g l = record {
-  cells : (z : Start) → z.depth ≡ l.depth → z.columns ≡ length l.fn.is_open → Standing z (before z l.time 0) l.fn.engine (g.P.Places.world l.fn.places) l.fn.cleared
+  cells : (z : Start) → z.depth ≡ l.depth → z.columns ≡ length l.fn.is_open
+      → Standing z (before z l.time 0) l.fn.engine (g.P.Places.world l.fn.places) l.fn.cleared
       → ((b : Elements) → Has z b → AreMarked z b l.time 0 l.fn.is_open)
       → Standing z (before z l.time l.space) l.engine (g.P.Places.world l.places) l.cleared
       × ((b : Elements) → Has z b → AreMarked z b l.time l.space l.is_open × HasCells z b l.time l.space l.line.items l.goes_on);

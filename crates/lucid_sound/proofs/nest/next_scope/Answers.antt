@@ -27,7 +27,8 @@ leap_of-requires-clause-known c =
     omega (arith, low, c.requires.nest.all_leaps)
 
 pub leap_of-requires-clause-low : goal.leap_of-requires-clause-low
-leap_of-requires-clause-low c = lower-low c.args.rows.now c.args.leaps.now c.requires.nest.lower c.requires.nest.round (λ s. round-low c.args.rows.now c.requires.right s 0)
+leap_of-requires-clause-low c = lower-low c.args.rows.now c.args.leaps.now c.requires.nest.lower c.requires.nest.round
+    (λ s. round-low c.args.rows.now c.requires.right s 0)
 
 pub returns-clause-depth : goal.returns-clause-depth
 returns-clause-depth c =
@@ -36,7 +37,8 @@ returns-clause-depth c =
     next-depth c.args.rows.now c.requires.right (length c.args.depths.now) c.requires.known some _ (c.requires.nest.depths _ low)
 
 pub returns-clause-round : goal.returns-clause-round
-returns-clause-round c = next-round c.args.rows.now c.requires.right (length c.args.depths.now) c.requires.known (omega (arith, c.if-id-eq0.false)) _ (c.leap_of.ensures.round c.args.rows.now c.requires.nest.round)
+returns-clause-round c = next-round c.args.rows.now c.requires.right (length c.args.depths.now) c.requires.known (omega (arith, c.if-id-eq0.false)) _
+    (c.leap_of.ensures.round c.args.rows.now c.requires.nest.round)
 
 pub returns-clause-lower : goal.returns-clause-lower
 returns-clause-lower c some =

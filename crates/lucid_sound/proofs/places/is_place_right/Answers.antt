@@ -19,7 +19,8 @@ returns-then-wants-name c =
           let stand = c.are_actuals_right.ensures.0 e in
           passes-right t r x c.in-Called.body (omega (arith, scopes, c.if-row-items.false)) at c.in-Called.is (omega (arith, wants, many, c.if-wants-name.true))
           (subst Stand nodes (subst (EachStandsIn c.items-then-wants-name.result.now r.scope) actuals stand)),
-      λ h. c.are_actuals_right.ensures.1 (subst (EachStandsIn c.items-then-wants-name.result.now r.scope) (sym actuals) (subst Stand (sym nodes) h.passes.stand)),
+      λ h. c.are_actuals_right.ensures.1 (subst (EachStandsIn c.items-then-wants-name.result.now r.scope) (sym actuals)
+          (subst Stand (sym nodes) h.passes.stand)),
     )
 
 pub returns-else-wants-name : goal.returns-else-wants-name

@@ -27,10 +27,13 @@ returns-in-Some-first_wrong_node-clause-refused c =
 pub returns-in-Some-first_wrong_name-clause-refused : goal.returns-in-Some-first_wrong_name-clause-refused
 returns-in-Some-first_wrong_name-clause-refused c =
     let scopes = some-scopes _ _ c.items-scopes.ensures.value (eqb-false _ _ (sym c.if-is_empty.ensures)) c.in_default.ensures in
-    refused c.args.table.now (Name c.in-Some-first_wrong_name.at) (wrong_name c.in-Some-first_wrong_name.at scopes c.in_default-first_wrong_node.ensures c.in-Some-first_wrong_name.ensures)
+    refused c.args.table.now (Name c.in-Some-first_wrong_name.at)
+    (wrong_name c.in-Some-first_wrong_name.at scopes c.in_default-first_wrong_node.ensures c.in-Some-first_wrong_name.ensures)
 
 pub returns-in-Some-2-clause-refused : goal.returns-in-Some-2-clause-refused
 returns-in-Some-2-clause-refused c =
     let scopes = some-scopes _ _ c.items-scopes.ensures.value (eqb-false _ _ (sym c.if-is_empty.ensures)) c.in_default.ensures in
-    let w = MatchOption-at_some (PlacesAreRight c.args.table.now) (λ at. IsFirstWrong (λ id. PlaceIsRight c.args.table.now) c.args.table.now.places at) c.in-Some-2.at c.in-Some-2.is c.in_ok-at.ensures in
-    refused c.args.table.now (Place c.in-Some-2.at) (wrong_place c.in-Some-2.at scopes c.in_default-first_wrong_node.ensures c.in_default-first_wrong_name.ensures w)
+    let w = MatchOption-at_some (PlacesAreRight c.args.table.now) (λ at. IsFirstWrong (λ id. PlaceIsRight c.args.table.now) c.args.table.now.places at)
+    c.in-Some-2.at c.in-Some-2.is c.in_ok-at.ensures in
+    refused c.args.table.now (Place c.in-Some-2.at)
+    (wrong_place c.in-Some-2.at scopes c.in_default-first_wrong_node.ensures c.in_default-first_wrong_name.ensures w)

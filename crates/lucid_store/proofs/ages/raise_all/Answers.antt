@@ -7,4 +7,5 @@ loop-index-preserved c =
     let x = slice_index_or c.loop-index.ages c.loop-index.index 0 in
     let within : c.loop-index.index < length c.args.ages.now = omega arith in
     let here : c.loop-index.index < length c.loop-index.ages = omega arith in
-    rw c.saturating_add.ensures (map_over_more older c.args.ages.now c.loop-index.ages c.loop-index.index x within c.loop-index.invariant (get_or_default c.loop-index.ages c.loop-index.index 0 x here))
+    rw c.saturating_add.ensures (map_over_more older c.args.ages.now c.loop-index.ages c.loop-index.index x within c.loop-index.invariant
+    (get_or_default c.loop-index.ages c.loop-index.index 0 x here))

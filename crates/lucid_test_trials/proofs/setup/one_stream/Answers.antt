@@ -10,4 +10,5 @@ returns-clause-count c = ap length (c.in_ok-inputs.ensures.streams ∙ ap (map f
 pub returns-clause-askable : goal.returns-clause-askable
 returns-clause-askable c =
     let same = c.in_ok-inputs.ensures.streams ∙ ap (map fresh_stream) c.in_ok-numbers.ensures.items in
-    one_askable c.fresh_fits.ensures (memory_world c.reach.new.self) _ _ _ same (omega (arith, c.in_ok-place.ensures.number, c.in_ok-place.ensures.added)) c.in_ok-place.ensures.fresh
+    one_askable c.fresh_fits.ensures (memory_world c.reach.new.self) _ _ _ same (omega (arith, c.in_ok-place.ensures.number, c.in_ok-place.ensures.added))
+    c.in_ok-place.ensures.fresh

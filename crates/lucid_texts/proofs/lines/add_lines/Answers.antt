@@ -23,10 +23,12 @@ returns-then-not-branch g c =
     let new = g.L.Lines.lines c.add.new.self in
     let line = c.in-Some.line.now in
     let Is = g.L.Lines.is_text in
-    let none = MatchBool-at_false (g.L.Lines.keeps c.add.new.self × (new ≡ lines ++ line ∷ []) × CanGoOn Is new) (CannotGoOn Is (lines ++ line ∷ [])) c.if-not-branch.true c.in_ok-add.ensures in
+    let none = MatchBool-at_false (g.L.Lines.keeps c.add.new.self × (new ≡ lines ++ line ∷ []) × CanGoOn Is new) (CannotGoOn Is (lines ++ line ∷ []))
+    c.if-not-branch.true c.in_ok-add.ensures in
     let inv = c.loop-line.invariant in
     let P : ℕ → Type 0 = λ n. IsFirstWrongLine Is c.args.bytes.now (n + 1) in
-    subst P (sym inv.read) (refused_line Is c.lines_of_texts.ensures _ lines _ line c.in-Some.behind.now inv.bytes inv.can c.in-Some.ensures.0 c.in-Some.ensures.1 none)
+    subst P (sym inv.read) (refused_line Is c.lines_of_texts.ensures _ lines _ line c.in-Some.behind.now inv.bytes inv.can c.in-Some.ensures.0
+    c.in-Some.ensures.1 none)
 
 pub loop-line-preserved : goal.loop-line-preserved
 loop-line-preserved g c =
@@ -34,7 +36,8 @@ loop-line-preserved g c =
     let new = g.L.Lines.lines c.add.new.self in
     let line = c.in-Some.line.now in
     let Is = g.L.Lines.is_text in
-    let added = MatchBool-at_true (g.L.Lines.keeps c.add.new.self × (new ≡ lines ++ line ∷ []) × CanGoOn Is new) (CannotGoOn Is (lines ++ line ∷ [])) c.if-not-branch.false c.in_ok-add.ensures in
+    let added = MatchBool-at_true (g.L.Lines.keeps c.add.new.self × (new ≡ lines ++ line ∷ []) × CanGoOn Is new) (CannotGoOn Is (lines ++ line ∷ []))
+    c.if-not-branch.false c.in_ok-add.ensures in
     let inv = c.loop-line.invariant in
     let some = line_has Is c.lines_of_texts.ensures lines line (subst (CanGoOn Is) added.1 added.2) in
     let cut = ap length c.in-Some.ensures.0 in
@@ -49,8 +52,12 @@ loop-line-preserved g c =
 pub returns-then-is_whole : goal.returns-then-is_whole
 returns-then-is_whole g c =
     let rest = no_bytes c.loop-line.rest.now c.if-is_empty.ensures in
-    let lines = text_of (g.L.Lines.lines c.loop-line.to) in
-    (c.loop-line.invariant.keeps, c.is_whole.ensures.0 c.if-is_whole.true, c.loop-line.invariant.bytes ∙ (ap (λ (x : List ℕ). lines ++ x) rest ∙ append-nil lines))
+    let lines = text_of (g.L.Lines.lines c.loop-line.to) in (
+      c.loop-line.invariant.keeps,
+      c.is_whole.ensures.0 c.if-is_whole.true,
+      c.loop-line.invariant.bytes
+          ∙ (ap (λ (x : List ℕ). lines ++ x) rest ∙ append-nil lines),
+    )
 
 pub returns-else-is_empty : goal.returns-else-is_empty
 returns-else-is_empty g c =

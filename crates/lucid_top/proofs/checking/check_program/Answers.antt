@@ -10,23 +10,29 @@ pub returns-in_err-inputs-clause-checks : goal.returns-in_err-inputs-clause-chec
 returns-in_err-inputs-clause-checks g c w =
     let p = err_from_is_err_and c.from_residual.result c.from_residual.ensures.1 in
     unmade (table_of c.args.program.now) (table_stream (table_of c.args.program.now)) c.args.why.now
-    (viewed w c.args.names.now c.args.numbers.items (g.P.Places.world c.args.places.now) (g.P.Places.world c.args.places.now) (told g.K.Sink.written g.K.Sink.faults c.args.out.now) (told g.K.Sink.written g.K.Sink.faults c.args.out.now))
+    (viewed w c.args.names.now c.args.numbers.items (g.P.Places.world c.args.places.now) (g.P.Places.world c.args.places.now)
+    (told g.K.Sink.written g.K.Sink.faults c.args.out.now) (told g.K.Sink.written g.K.Sink.faults c.args.out.now))
     c.from_residual.result p.0 p.1 p.2 refl (λ k n q is old new a b. same_contents _ old new a b)
 
 pub check_why-requires-clause-askable : goal.check_why-requires-clause-askable
 check_why-requires-clause-askable g c =
-    askable c.fresh_fits.ensures (streams c.in_ok-inputs.inputs) c.args.numbers.items (g.P.Places.world c.args.places.now) c.in_ok-inputs.ensures.streams c.requires.unread
+    askable c.fresh_fits.ensures (streams c.in_ok-inputs.inputs) c.args.numbers.items (g.P.Places.world c.args.places.now) c.in_ok-inputs.ensures.streams
+    c.requires.unread
 
 pub check_stop-requires : goal.check_stop-requires
 check_stop-requires g c =
-    large_there (table_of c.args.program.now) c.table.ensures.in_range c.args.why.now c.args.names.now c.in_ok-inputs.inputs c.check_why.new.inputs (g.P.Places.world c.args.places.now) (g.P.Places.world c.check_why.new.places)
+    large_there (table_of c.args.program.now) c.table.ensures.in_range c.args.why.now c.args.names.now c.in_ok-inputs.inputs c.check_why.new.inputs
+    (g.P.Places.world c.args.places.now) (g.P.Places.world c.check_why.new.places)
     c.in-Err.fault c.requires.names c.in-Err.ensures
 
 pub returns-in-Ok-clause-checks : goal.returns-in-Ok-clause-checks
 returns-in-Ok-clause-checks g c w =
-    right_ends c.what_follows_is_meant.ensures c.keeps_within.ensures (table_of c.args.program.now) c.table.ensures.in_range c.args.why.now c.args.names.now c.args.numbers.items c.in_ok-inputs.inputs c.check_why.new.inputs
-    (g.P.Places.world c.args.places.now) (g.P.Places.world c.check_why.new.places) (told g.K.Sink.written g.K.Sink.faults c.args.out.now) (told g.K.Sink.written g.K.Sink.faults c.write_last.new.out)
-    c.requires.names c.requires.count c.in_ok-inputs.ensures.streams c.in_ok-inputs.ensures.most w c.in-Ok.ensures c.write_last.result c.write_last.ensures.writes
+    right_ends c.what_follows_is_meant.ensures c.keeps_within.ensures (table_of c.args.program.now) c.table.ensures.in_range c.args.why.now c.args.names.now
+    c.args.numbers.items c.in_ok-inputs.inputs c.check_why.new.inputs
+    (g.P.Places.world c.args.places.now) (g.P.Places.world c.check_why.new.places) (told g.K.Sink.written g.K.Sink.faults c.args.out.now)
+    (told g.K.Sink.written g.K.Sink.faults c.write_last.new.out)
+    c.requires.names c.requires.count c.in_ok-inputs.ensures.streams c.in_ok-inputs.ensures.most w c.in-Ok.ensures c.write_last.result
+    c.write_last.ensures.writes
 
 pub returns-in-Ok-clause-others : goal.returns-in-Ok-clause-others
 returns-in-Ok-clause-others g c k =
@@ -35,9 +41,12 @@ returns-in-Ok-clause-others g c k =
 
 pub returns-clause-checks : goal.returns-clause-checks
 returns-clause-checks g c w =
-    fault_ends c.what_follows_is_meant.ensures c.keeps_within.ensures (table_of c.args.program.now) c.table.ensures.in_range c.args.why.now c.args.names.now c.args.numbers.items c.in_ok-inputs.inputs c.check_why.new.inputs
-    (g.P.Places.world c.args.places.now) (g.P.Places.world c.check_why.new.places) (told g.K.Sink.written g.K.Sink.faults c.args.out.now) (told g.K.Sink.written g.K.Sink.faults c.args.out.now)
-    c.requires.names c.requires.count c.in_ok-inputs.ensures.streams c.in_ok-inputs.ensures.most w refl c.in-Err.fault c.in-Err.ensures c.check_stop.result c.check_stop.ensures
+    fault_ends c.what_follows_is_meant.ensures c.keeps_within.ensures (table_of c.args.program.now) c.table.ensures.in_range c.args.why.now c.args.names.now
+    c.args.numbers.items c.in_ok-inputs.inputs c.check_why.new.inputs
+    (g.P.Places.world c.args.places.now) (g.P.Places.world c.check_why.new.places) (told g.K.Sink.written g.K.Sink.faults c.args.out.now)
+    (told g.K.Sink.written g.K.Sink.faults c.args.out.now)
+    c.requires.names c.requires.count c.in_ok-inputs.ensures.streams c.in_ok-inputs.ensures.most w refl c.in-Err.fault c.in-Err.ensures c.check_stop.result
+    c.check_stop.ensures
 
 pub returns-clause-others : goal.returns-clause-others
 returns-clause-others g c k =

@@ -9,5 +9,6 @@ returns-in_err-check_words-clause-refused c =
 
 pub returns-then-count_left-gt1-clause-refused : goal.returns-then-count_left-gt1-clause-refused
 returns-then-count_left-gt1-clause-refused c =
-    by_two (subst (AreRightBelow c.args.free.now (map plain_given c.args.given.now)) (sym (length-map c.args.given.now plain_given)) c.in_ok-check_words.ensures.right)
+    by_two (subst (AreRightBelow c.args.free.now (map plain_given c.args.given.now)) (sym (length-map c.args.given.now plain_given))
+    c.in_ok-check_words.ensures.right)
     (omega (arith, c.if-count_left-gt1.true, c.count_left.ensures))

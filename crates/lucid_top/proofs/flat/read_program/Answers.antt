@@ -17,4 +17,5 @@ returns-in_err-program-clause-refused c =
     let p = err_from_is_err_and c.from_residual-in_err-program.result c.from_residual-in_err-program.ensures.1 in
     let few = c.if-source-gt-MOST_FLAT_BYTES.false in
     let short : length c.args.source.now ≤ most_flat_bytes = omega (arith, few) in
-    rw (p.1, p.2) (build_refuses c.args.source.now c.in_ok-table.table c.in_err-program.field-0.0 (record { short = short; text = c.in_ok-table.ensures.text }) c.in_err-program.ensures.refused)
+    rw (p.1, p.2) (build_refuses c.args.source.now c.in_ok-table.table c.in_err-program.field-0.0 (record { short = short; text = c.in_ok-table.ensures.text })
+    c.in_err-program.ensures.refused)

@@ -12,7 +12,8 @@ returns-in_err-tokens-clause-refused c =
 pub returns-in_err-tree-clause-refused : goal.returns-in_err-tree-clause-refused
 returns-in_err-tree-clause-refused c =
     let p = err_from_is_err_and c.from_residual-in_err-tree.result c.from_residual-in_err-tree.ensures.1 in
-    let scanned : HasTokens c.args.source.now c.in_ok-tokens.tokens.items = record { short = c.in_ok-tokens.ensures.short; listed = c.in_ok-tokens.ensures.tokens } in
+    let scanned : HasTokens c.args.source.now c.in_ok-tokens.tokens.items =
+    record { short = c.in_ok-tokens.ensures.short; listed = c.in_ok-tokens.ensures.tokens } in
     rw (p.1, p.2) (
     parse_refuses c.args.source.now c.in_ok-tokens.tokens.items c.in_err-tree.field-0.0 scanned
     (subst (λ ts. IsRefused c.args.source.now ts c.in_err-tree.field-0.0) c.deref.ensures.value c.in_err-tree.ensures.refused)

@@ -4,6 +4,7 @@ use Rattle.lucid_top.proofs.report.write_line.Given as goal
 
 abbrev pub invariant-loop-part : goal.invariant-loop-part
 invariant-loop-part g l = record {
-  written : WritesWhole (line_of (take l.part-index l.parts)) (told g.E.Sink.written g.E.Sink.faults l.initial.report) (told g.E.Sink.written g.E.Sink.faults l.report);
+  written : WritesWhole (line_of (take l.part-index l.parts)) (told g.E.Sink.written g.E.Sink.faults l.initial.report)
+      (told g.E.Sink.written g.E.Sink.faults l.report);
   count : g.E.Sink.faults l.initial.report ≤ g.E.Sink.faults l.report;
 }

@@ -17,7 +17,8 @@ returns-in_err-files-clause-comes g c before b =
     let world = g.P.Places.world c.args.places.now in
     let out = told g.K.Sink.written g.K.Sink.faults c.args.out.now in
     let the_call : Call = call (Some (plain_words c.args.words.now)) before world out out in
-    let refused = carried (λ names given. IsRefusalOf (RefusesGiven names given) c.in_err-files.field-0.0) c.args.names.now t.inputs c.deref.result.now c.args.words.now.given.items
+    let refused = carried (λ names given. IsRefusalOf (RefusesGiven names given) c.in_err-files.field-0.0) c.args.names.now t.inputs c.deref.result.now
+    c.args.words.now.given.items
     c.requires.names c.deref.ensures.value c.in_err-files.ensures.refused in
     rw (p.1, p.2) (given_stops the_call task.Check (plain_words c.args.words.now) t world b refl c.in_err-files.field-0.0 refused refl (omega (arith, b.first)))
 
@@ -27,15 +28,19 @@ returns-in_err-why-clause-comes g c before b =
     let t = table_of c.args.program.now in
     let world = g.P.Places.world c.args.places.now in
     let out = told g.K.Sink.written g.K.Sink.faults c.args.out.now in
-    let fits = carried FitsGiven c.args.names.now t.inputs c.deref.result.now c.args.words.now.given.items c.requires.names c.deref.ensures.value c.in_ok-files.ensures.fits in
+    let fits = carried FitsGiven c.args.names.now t.inputs c.deref.result.now c.args.words.now.given.items c.requires.names c.deref.ensures.value
+    c.in_ok-files.ensures.fits in
     let the_call : Call = call (Some (plain_words c.args.words.now)) before (g.P.Places.world c.read_certificate.new.places) out out in
     let read = c.in_err-why.ensures in
-    rw (p.1, p.2) (certificate_stop the_call (plain_words c.args.words.now) t world b fits c.in_err-why.field-0.0 read.reading.keeps (subst (λ name. IsSourceStop RefusesCertificate (file name) world (g.P.Places.world c.read_certificate.new.places) c.in_err-why.field-0.0) c.deref-2.ensures read.stopped) refl read.reading.few)
+    rw (p.1, p.2) (certificate_stop the_call (plain_words c.args.words.now) t world b fits c.in_err-why.field-0.0 read.reading.keeps
+    (subst (λ name. IsSourceStop RefusesCertificate (file name) world (g.P.Places.world c.read_certificate.new.places) c.in_err-why.field-0.0)
+    c.deref-2.ensures read.stopped) refl read.reading.few)
 
 pub reach_files-requires : goal.reach_files-requires
 reach_files-requires g c =
     let t = table_of c.args.program.now in
-    let files = carried (λ names given. map (λ file. file.now) c.in_ok-files.files.items ≡ files_for names given) c.args.names.now t.inputs c.deref.result.now c.args.words.now.given.items
+    let files = carried (λ names given. map (λ file. file.now) c.in_ok-files.files.items ≡ files_for names given) c.args.names.now t.inputs c.deref.result.now
+    c.args.words.now.given.items
     c.requires.names c.deref.ensures.value c.in_ok-files.ensures.files in
     let long = refs_long c.deref-3.result.now _ (refs_are c.deref-3.result.now c.in_ok-files.files.items _ c.deref-3.ensures.value files) in
     let as_many = files_long t.inputs (plain_words c.args.words.now).given in
@@ -49,17 +54,20 @@ returns-in_err-numbers-clause-comes g c before b =
     let read_world = g.P.Places.world c.read_certificate.new.places in
     let out = told g.K.Sink.written g.K.Sink.faults c.args.out.now in
     let t = table_of c.args.program.now in
-    let files = carried (λ names given. map (λ file. file.now) c.in_ok-files.files.items ≡ files_for names given) c.args.names.now t.inputs c.deref.result.now c.args.words.now.given.items
+    let files = carried (λ names given. map (λ file. file.now) c.in_ok-files.files.items ≡ files_for names given) c.args.names.now t.inputs c.deref.result.now
+    c.args.words.now.given.items
     c.requires.names c.deref.ensures.value c.in_ok-files.ensures.files in
     let same = refs_are c.deref-3.result.now c.in_ok-files.files.items _ c.deref-3.ensures.value files in
     let long = refs_long c.deref-3.result.now _ same in
     let as_many = files_long t.inputs (plain_words c.args.words.now).given in
     let names_long = ap length c.requires.names in
-    let fits = carried FitsGiven c.args.names.now t.inputs c.deref.result.now c.args.words.now.given.items c.requires.names c.deref.ensures.value c.in_ok-files.ensures.fits in
+    let fits = carried FitsGiven c.args.names.now t.inputs c.deref.result.now c.args.words.now.given.items c.requires.names c.deref.ensures.value
+    c.in_ok-files.ensures.fits in
     let the_call : Call = call (Some (plain_words c.args.words.now)) before (g.P.Places.world c.reach_files.new.places) out out in
     let read = c.in_ok-why.ensures in
     rw (p.1, p.2) (
-    reaching_stop the_call (plain_words c.args.words.now) t world b fits read_world c.in_ok-why.why (subst (λ name. HeldCertificate name world c.in_ok-why.why) c.deref-2.ensures read.held) read.reading.keeps read.reading.reached
+    reaching_stop the_call (plain_words c.args.words.now) t world b fits read_world c.in_ok-why.why
+    (subst (λ name. HeldCertificate name world c.in_ok-why.why) c.deref-2.ensures read.held) read.reading.keeps read.reading.reached
     (files_for t.inputs (plain_words c.args.words.now).given) c.in_err-numbers.field-0.0 as_many c.in_err-numbers.ensures.keeps
     (subst (λ fs. AreFresh fs read_world (g.P.Places.world c.reach_files.new.places)) same c.in_err-numbers.ensures.fresh)
     (omega (arith, c.in_err-numbers.ensures.few, long)) (omega (arith, as_many, names_long, c.requires.few)) c.in_err-numbers.ensures.stopped refl
@@ -68,24 +76,30 @@ returns-in_err-numbers-clause-comes g c before b =
 pub check_program-requires-clause-count : goal.check_program-requires-clause-count
 check_program-requires-clause-count g c =
     let t = table_of c.args.program.now in
-    let files = carried (λ names given. map (λ file. file.now) c.in_ok-files.files.items ≡ files_for names given) c.args.names.now t.inputs c.deref.result.now c.args.words.now.given.items
+    let files = carried (λ names given. map (λ file. file.now) c.in_ok-files.files.items ≡ files_for names given) c.args.names.now t.inputs c.deref.result.now
+    c.args.words.now.given.items
     c.requires.names c.deref.ensures.value c.in_ok-files.ensures.files in
-    let reached = reached_of t.inputs (plain_words c.args.words.now).given c.deref-3.result.now c.in_ok-files.files.items (g.P.Places.world c.read_certificate.new.places) (g.P.Places.world c.reach_files.new.places)
+    let reached = reached_of t.inputs (plain_words c.args.words.now).given c.deref-3.result.now c.in_ok-files.files.items
+    (g.P.Places.world c.read_certificate.new.places) (g.P.Places.world c.reach_files.new.places)
     c.in_ok-numbers.numbers.items c.deref-3.ensures.value files c.in_ok-numbers.ensures.fresh c.in_ok-numbers.ensures.reached c.in_ok-numbers.ensures.numbers in
     ap length reached.numbers_are ∙ length-range_with_len _ _ ∙ files_long t.inputs (plain_words c.args.words.now).given ∙ sym (ap length c.requires.names)
 
 pub check_program-requires-clause-differ : goal.check_program-requires-clause-differ
 check_program-requires-clause-differ g c =
-    subst (λ ns. AllPairs (λ x y. x ≢ y) ns) (sym c.in_ok-numbers.ensures.numbers) (range_differs (g.P.Places.world c.read_certificate.new.places).reached (length c.deref-3.result.now))
+    subst (λ ns. AllPairs (λ x y. x ≢ y) ns) (sym c.in_ok-numbers.ensures.numbers)
+    (range_differs (g.P.Places.world c.read_certificate.new.places).reached (length c.deref-3.result.now))
 
 pub check_program-requires-clause-unread : goal.check_program-requires-clause-unread
 check_program-requires-clause-unread g c =
     let t = table_of c.args.program.now in
-    let files = carried (λ names given. map (λ file. file.now) c.in_ok-files.files.items ≡ files_for names given) c.args.names.now t.inputs c.deref.result.now c.args.words.now.given.items
+    let files = carried (λ names given. map (λ file. file.now) c.in_ok-files.files.items ≡ files_for names given) c.args.names.now t.inputs c.deref.result.now
+    c.args.words.now.given.items
     c.requires.names c.deref.ensures.value c.in_ok-files.ensures.files in
-    let reached = reached_of t.inputs (plain_words c.args.words.now).given c.deref-3.result.now c.in_ok-files.files.items (g.P.Places.world c.read_certificate.new.places) (g.P.Places.world c.reach_files.new.places)
+    let reached = reached_of t.inputs (plain_words c.args.words.now).given c.deref-3.result.now c.in_ok-files.files.items
+    (g.P.Places.world c.read_certificate.new.places) (g.P.Places.world c.reach_files.new.places)
     c.in_ok-numbers.numbers.items c.deref-3.ensures.value files c.in_ok-numbers.ensures.fresh c.in_ok-numbers.ensures.reached c.in_ok-numbers.ensures.numbers in
-    all_unread (files_for t.inputs (plain_words c.args.words.now).given) (g.P.Places.world c.read_certificate.new.places) (g.P.Places.world c.reach_files.new.places)
+    all_unread (files_for t.inputs (plain_words c.args.words.now).given) (g.P.Places.world c.read_certificate.new.places)
+    (g.P.Places.world c.reach_files.new.places)
     c.in_ok-numbers.numbers.items reached.fresh reached.reached reached.numbers_are
 
 pub check_program-requires-clause-some : goal.check_program-requires-clause-some
@@ -101,59 +115,81 @@ returns-clause-comes g c before b =
     let out = told g.K.Sink.written g.K.Sink.faults c.args.out.now in
     let out_after = told g.K.Sink.written g.K.Sink.faults c.check_program.new.out in
     let t = table_of c.args.program.now in
-    let files = carried (λ names given. map (λ file. file.now) c.in_ok-files.files.items ≡ files_for names given) c.args.names.now t.inputs c.deref.result.now c.args.words.now.given.items
+    let files = carried (λ names given. map (λ file. file.now) c.in_ok-files.files.items ≡ files_for names given) c.args.names.now t.inputs c.deref.result.now
+    c.args.words.now.given.items
     c.requires.names c.deref.ensures.value c.in_ok-files.ensures.files in
     let reached = reached_of t.inputs w.given c.deref-3.result.now c.in_ok-files.files.items read_world reached_world
     c.in_ok-numbers.numbers.items c.deref-3.ensures.value files c.in_ok-numbers.ensures.fresh c.in_ok-numbers.ensures.reached c.in_ok-numbers.ensures.numbers in
-    let fits = carried FitsGiven c.args.names.now t.inputs c.deref.result.now c.args.words.now.given.items c.requires.names c.deref.ensures.value c.in_ok-files.ensures.fits in
+    let fits = carried FitsGiven c.args.names.now t.inputs c.deref.result.now c.args.words.now.given.items c.requires.names c.deref.ensures.value
+    c.in_ok-files.ensures.fits in
     let names_long = ap length c.requires.names in
     let the_call : Call = call (Some w) before after out out_after in
     let read = c.in_ok-why.ensures in
-    check_ends the_call w t world b fits read_world c.in_ok-why.why (subst (λ name. HeldCertificate name world c.in_ok-why.why) c.deref-2.ensures read.held) read.reading.keeps read.reading.reached
-    c.in_ok-numbers.numbers.items reached_world c.check_program.result c.in_ok-numbers.ensures.keeps reached (omega (arith, names_long, c.requires.few)) c.check_program.ensures.reached c.check_program.ensures.faults
-    (subst (λ names. Checks t (table_stream t) c.in_ok-why.why (viewed w names c.in_ok-numbers.numbers.items reached_world after out out_after) c.check_program.result) c.requires.names (c.check_program.ensures.checks w))
-    (subst (λ names. CheckComesOnly names reached_world.faults after.faults (g.K.Sink.faults c.args.out.now) (g.K.Sink.faults c.check_program.new.out) c.check_program.result) c.requires.names c.check_program.ensures.comes_only)
+    check_ends the_call w t world b fits read_world c.in_ok-why.why (subst (λ name. HeldCertificate name world c.in_ok-why.why) c.deref-2.ensures read.held)
+    read.reading.keeps read.reading.reached
+    c.in_ok-numbers.numbers.items reached_world c.check_program.result c.in_ok-numbers.ensures.keeps reached (omega (arith, names_long, c.requires.few))
+    c.check_program.ensures.reached c.check_program.ensures.faults
+    (subst (λ names. Checks t (table_stream t) c.in_ok-why.why (viewed w names c.in_ok-numbers.numbers.items reached_world after out out_after)
+    c.check_program.result) c.requires.names (c.check_program.ensures.checks w))
+    (subst (λ names. CheckComesOnly names reached_world.faults after.faults (g.K.Sink.faults c.args.out.now) (g.K.Sink.faults c.check_program.new.out)
+    c.check_program.result) c.requires.names c.check_program.ensures.comes_only)
 
 pub returns-in_err-numbers-clause-others : goal.returns-in_err-numbers-clause-others
 returns-in_err-numbers-clause-others g c =
-    kept_then (g.P.Places.world c.args.places.now) (g.P.Places.world c.read_certificate.new.places) (g.P.Places.world c.reach_files.new.places) c.in_ok-why.ensures.reading.others
+    kept_then (g.P.Places.world c.args.places.now) (g.P.Places.world c.read_certificate.new.places) (g.P.Places.world c.reach_files.new.places)
+    c.in_ok-why.ensures.reading.others
     (omega (arith, c.in_ok-why.ensures.reading.reached)) c.in_err-numbers.ensures.others
 
 pub returns-clause-others : goal.returns-clause-others
 returns-clause-others g c =
-    earlier_stay (g.P.Places.world c.args.places.now) (g.P.Places.world c.reach_files.new.places) (g.P.Places.world c.check_program.new.places) (length c.deref-3.result.now) c.in_ok-numbers.numbers.items
-    (kept_then (g.P.Places.world c.args.places.now) (g.P.Places.world c.read_certificate.new.places) (g.P.Places.world c.reach_files.new.places) c.in_ok-why.ensures.reading.others
+    earlier_stay (g.P.Places.world c.args.places.now) (g.P.Places.world c.reach_files.new.places) (g.P.Places.world c.check_program.new.places)
+    (length c.deref-3.result.now) c.in_ok-numbers.numbers.items
+    (kept_then (g.P.Places.world c.args.places.now) (g.P.Places.world c.read_certificate.new.places) (g.P.Places.world c.reach_files.new.places)
+    c.in_ok-why.ensures.reading.others
     (omega (arith, c.in_ok-why.ensures.reading.reached)) c.in_ok-numbers.ensures.others)
-    (g.P.Places.world c.read_certificate.new.places).reached (omega (arith, c.in_ok-why.ensures.reading.reached)) c.in_ok-numbers.ensures.numbers c.check_program.ensures.others
+    (g.P.Places.world c.read_certificate.new.places).reached (omega (arith, c.in_ok-why.ensures.reading.reached)) c.in_ok-numbers.ensures.numbers
+    c.check_program.ensures.others
 
 pub returns-in_err-numbers-clause-certificate : goal.returns-in_err-numbers-clause-certificate
 returns-in_err-numbers-clause-certificate g c =
-    reads_still (most_certificate_bytes + 1) (g.P.Places.world c.args.places.now).reached (g.P.Places.world c.read_certificate.new.places) (g.P.Places.world c.reach_files.new.places) c.in_ok-why.ensures.reading.within
+    reads_still (most_certificate_bytes + 1) (g.P.Places.world c.args.places.now).reached (g.P.Places.world c.read_certificate.new.places)
+    (g.P.Places.world c.reach_files.new.places) c.in_ok-why.ensures.reading.within
     (omega (arith, c.in_ok-why.ensures.reading.reached)) c.in_err-numbers.ensures.others
 
 pub returns-clause-certificate : goal.returns-clause-certificate
 returns-clause-certificate g c =
-    reads_still (most_certificate_bytes + 1) (g.P.Places.world c.args.places.now).reached (g.P.Places.world c.read_certificate.new.places) (g.P.Places.world c.check_program.new.places) c.in_ok-why.ensures.reading.within
+    reads_still (most_certificate_bytes + 1) (g.P.Places.world c.args.places.now).reached (g.P.Places.world c.read_certificate.new.places)
+    (g.P.Places.world c.check_program.new.places) c.in_ok-why.ensures.reading.within
     (omega (arith, c.in_ok-why.ensures.reading.reached))
-    (earlier_stay (g.P.Places.world c.read_certificate.new.places) (g.P.Places.world c.reach_files.new.places) (g.P.Places.world c.check_program.new.places) (length c.deref-3.result.now) c.in_ok-numbers.numbers.items
-    c.in_ok-numbers.ensures.others (g.P.Places.world c.read_certificate.new.places).reached (omega arith) c.in_ok-numbers.ensures.numbers c.check_program.ensures.others)
+    (earlier_stay (g.P.Places.world c.read_certificate.new.places) (g.P.Places.world c.reach_files.new.places) (g.P.Places.world c.check_program.new.places)
+    (length c.deref-3.result.now) c.in_ok-numbers.numbers.items
+    c.in_ok-numbers.ensures.others (g.P.Places.world c.read_certificate.new.places).reached (omega arith) c.in_ok-numbers.ensures.numbers
+    c.check_program.ensures.others)
 
 pub returns-in_err-why-clause-counts_no_read : goal.returns-in_err-why-clause-counts_no_read
 returns-in_err-why-clause-counts_no_read g c =
     let p = err_from_is_err_and c.from_residual-in_err-why.result c.from_residual-in_err-why.ensures.1 in
-    rw (p.1) (handed_on c.in_err-why.field-0.0 p.0 stop.ReadFault (g.P.Places.world c.args.places.now).faults (g.P.Places.world c.read_certificate.new.places).faults p.2 c.in_err-why.ensures.reading.counts_no_read)
+    rw (p.1) (handed_on c.in_err-why.field-0.0 p.0 stop.ReadFault (g.P.Places.world c.args.places.now).faults
+    (g.P.Places.world c.read_certificate.new.places).faults p.2 c.in_err-why.ensures.reading.counts_no_read)
 
 pub returns-in_err-numbers-clause-counts_no_read : goal.returns-in_err-numbers-clause-counts_no_read
 returns-in_err-numbers-clause-counts_no_read g c =
     let p = err_from_is_err_and c.from_residual-in_err-numbers.result c.from_residual-in_err-numbers.ensures.1 in
-    rw (p.1) (counts_then (g.P.Places.world c.args.places.now).faults (g.P.Places.world c.read_certificate.new.places).faults (g.P.Places.world c.reach_files.new.places).faults
-    (none_at_ok c.in_ok-why.why stop.ReadFault (g.P.Places.world c.args.places.now).faults (g.P.Places.world c.read_certificate.new.places).faults c.in_ok-why.ensures.reading.counts_no_read)
-    (handed_on c.in_err-numbers.field-0.0 p.0 stop.ReadFault (g.P.Places.world c.read_certificate.new.places).faults (g.P.Places.world c.reach_files.new.places).faults p.2 c.in_err-numbers.ensures.counts_no_read))
+    rw (p.1) (counts_then (g.P.Places.world c.args.places.now).faults (g.P.Places.world c.read_certificate.new.places).faults
+    (g.P.Places.world c.reach_files.new.places).faults
+    (none_at_ok c.in_ok-why.why stop.ReadFault (g.P.Places.world c.args.places.now).faults (g.P.Places.world c.read_certificate.new.places).faults
+    c.in_ok-why.ensures.reading.counts_no_read)
+    (handed_on c.in_err-numbers.field-0.0 p.0 stop.ReadFault (g.P.Places.world c.read_certificate.new.places).faults
+    (g.P.Places.world c.reach_files.new.places).faults p.2 c.in_err-numbers.ensures.counts_no_read))
 
 pub returns-clause-counts_no_read : goal.returns-clause-counts_no_read
 returns-clause-counts_no_read g c =
-    counts_then (g.P.Places.world c.args.places.now).faults (g.P.Places.world c.read_certificate.new.places).faults (g.P.Places.world c.check_program.new.places).faults
-    (none_at_ok c.in_ok-why.why stop.ReadFault (g.P.Places.world c.args.places.now).faults (g.P.Places.world c.read_certificate.new.places).faults c.in_ok-why.ensures.reading.counts_no_read)
-    (counts_then (g.P.Places.world c.read_certificate.new.places).faults (g.P.Places.world c.reach_files.new.places).faults (g.P.Places.world c.check_program.new.places).faults
-    (none_at_ok c.in_ok-numbers.numbers stop.ReadFault (g.P.Places.world c.read_certificate.new.places).faults (g.P.Places.world c.reach_files.new.places).faults c.in_ok-numbers.ensures.counts_no_read)
+    counts_then (g.P.Places.world c.args.places.now).faults (g.P.Places.world c.read_certificate.new.places).faults
+    (g.P.Places.world c.check_program.new.places).faults
+    (none_at_ok c.in_ok-why.why stop.ReadFault (g.P.Places.world c.args.places.now).faults (g.P.Places.world c.read_certificate.new.places).faults
+    c.in_ok-why.ensures.reading.counts_no_read)
+    (counts_then (g.P.Places.world c.read_certificate.new.places).faults (g.P.Places.world c.reach_files.new.places).faults
+    (g.P.Places.world c.check_program.new.places).faults
+    (none_at_ok c.in_ok-numbers.numbers stop.ReadFault (g.P.Places.world c.read_certificate.new.places).faults
+    (g.P.Places.world c.reach_files.new.places).faults c.in_ok-numbers.ensures.counts_no_read)
     c.check_program.ensures.counts_no_read)

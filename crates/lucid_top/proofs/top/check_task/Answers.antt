@@ -9,19 +9,23 @@ pub returns-in_err-scoped : goal.returns-in_err-scoped
 returns-in_err-scoped g c =
     let p = err_from_is_err_and c.from_residual.result c.from_residual.ensures.1 in
     let w = plain_words c.args.words.now in
-    let here : Call = call (Some w) (g.P.Places.world c.args.places.now) (g.P.Places.world c.program_of.new.places) (told g.K.Sink.written g.K.Sink.faults c.args.out.now) (told g.K.Sink.written g.K.Sink.faults c.args.out.now) in
+    let here : Call = call (Some w) (g.P.Places.world c.args.places.now) (g.P.Places.world c.program_of.new.places)
+    (told g.K.Sink.written g.K.Sink.faults c.args.out.now) (told g.K.Sink.written g.K.Sink.faults c.args.out.now) in
     let begins : Begins here w = refl in
     let read = c.in_err-scoped.ensures in
-    rw (p.1, p.2) (program_does here w c.in_err-scoped.field-0.0 begins (c.requires.text (λ e. absurd (cc e))) (check_not_print w c.requires.task) refl read.stopped read.reading)
+    rw (p.1, p.2) (program_does here w c.in_err-scoped.field-0.0 begins (c.requires.text (λ e. absurd (cc e))) (check_not_print w c.requires.task) refl
+    read.stopped read.reading)
 
 pub returns-in_err-program : goal.returns-in_err-program
 returns-in_err-program g c =
     let p = err_from_is_err_and c.from_residual-in_err-program.result c.from_residual-in_err-program.ensures.1 in
     let w = plain_words c.args.words.now in
-    let here : Call = call (Some w) (g.P.Places.world c.args.places.now) (g.P.Places.world c.program_of.new.places) (told g.K.Sink.written g.K.Sink.faults c.args.out.now) (told g.K.Sink.written g.K.Sink.faults c.args.out.now) in
+    let here : Call = call (Some w) (g.P.Places.world c.args.places.now) (g.P.Places.world c.program_of.new.places)
+    (told g.K.Sink.written g.K.Sink.faults c.args.out.now) (told g.K.Sink.written g.K.Sink.faults c.args.out.now) in
     let begins : Begins here w = refl in
     let read = c.in_ok-scoped.ensures in
-    rw (p.1, p.2) (memory_does c.in_ok-scoped.scoped (most_source_bytes + 1) here w begins refl read.reading (within_text w w.source here.after (c.requires.text (λ e. absurd (cc e))) read.reading.within))
+    rw (p.1, p.2) (memory_does c.in_ok-scoped.scoped (most_source_bytes + 1) here w begins refl read.reading
+    (within_text w w.source here.after (c.requires.text (λ e. absurd (cc e))) read.reading.within))
 
 pub check_inputs-requires-clause-names : goal.check_inputs-requires-clause-names
 check_inputs-requires-clause-names g c = c.inputs.ensures.value ∙ sym c.in_ok-program.ensures.inputs
@@ -39,7 +43,8 @@ check_inputs-requires-clause-one g c =
 pub returns : goal.returns
 returns g c =
     let w = plain_words c.args.words.now in
-    let here : Call = call (Some w) (g.P.Places.world c.args.places.now) (g.P.Places.world c.check_inputs.new.places) (told g.K.Sink.written g.K.Sink.faults c.args.out.now) (told g.K.Sink.written g.K.Sink.faults c.check_inputs.new.out) in
+    let here : Call = call (Some w) (g.P.Places.world c.args.places.now) (g.P.Places.world c.check_inputs.new.places)
+    (told g.K.Sink.written g.K.Sink.faults c.args.out.now) (told g.K.Sink.written g.K.Sink.faults c.check_inputs.new.out) in
     let begins : Begins here w = refl in
     let text = c.requires.text (λ e. absurd (cc e)) in
     let read = c.in_ok-scoped.ensures in
@@ -54,10 +59,15 @@ returns g c =
       names = names_of here w tree (scoped_inputs c.in_ok-scoped.scoped) begins text (check_not_print w c.requires.task) read.accepted inputs;
       task = c.requires.task;
       made = read.accepted.well_made;
-      table = record { sound = c.in_ok-program.ensures.sound (omega (arith, few, short)); keeps = c.in_ok-program.ensures.keeps; names = c.in_ok-program.ensures.inputs };
+      table = record {
+        sound = c.in_ok-program.ensures.sound (omega (arith, few, short));
+        keeps = c.in_ok-program.ensures.keeps;
+        names = c.in_ok-program.ensures.inputs;
+      };
       kept = read.reading.keeps;
       first = read.reading.reached;
     }))
     read.reading.counts_no_read c.check_inputs.ensures.counts_no_read c.check_inputs.ensures.counts_no_write
-    (within_text w w.source here.after text (source_stays (most_source_bytes + 1) w.source (g.P.Places.world c.program_of.new.places) here.after read.reading.within read.reading.reached c.check_inputs.ensures.others))
+    (within_text w w.source here.after text (source_stays (most_source_bytes + 1) w.source (g.P.Places.world c.program_of.new.places) here.after
+    read.reading.within read.reading.reached c.check_inputs.ensures.others))
     read.reading.reached c.check_inputs.ensures.certificate

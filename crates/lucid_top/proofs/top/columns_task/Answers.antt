@@ -9,21 +9,25 @@ pub returns-in_err-scoped : goal.returns-in_err-scoped
 returns-in_err-scoped g c =
     let p = err_from_is_err_and c.from_residual.result c.from_residual.ensures.1 in
     let w = plain_words c.args.words.now in
-    let here : Call = call (Some w) (g.P.Places.world c.args.places.now) (g.P.Places.world c.columns_of.new.places) (told g.K.Sink.written g.K.Sink.faults c.args.out.now) (told g.K.Sink.written g.K.Sink.faults c.args.out.now) in
+    let here : Call = call (Some w) (g.P.Places.world c.args.places.now) (g.P.Places.world c.columns_of.new.places)
+    (told g.K.Sink.written g.K.Sink.faults c.args.out.now) (told g.K.Sink.written g.K.Sink.faults c.args.out.now) in
     let begins : Begins here w = refl in
     let text = c.requires.text (λ e. absurd (cc e)) in
     let read = c.in_err-scoped.ensures in
     let s = c.in_err-scoped.field-0.0 in
-    rw (p.1, p.2) (stops here w s refl refl read.reading.few (columns_stops here w s begins text c.requires.task read.stopped refl read.reading.few) read.reading.counts_no_read (within_text w w.source here.after text read.reading.within))
+    rw (p.1, p.2) (stops here w s refl refl read.reading.few (columns_stops here w s begins text c.requires.task read.stopped refl read.reading.few)
+    read.reading.counts_no_read (within_text w w.source here.after text read.reading.within))
 
 pub returns-in_err-program : goal.returns-in_err-program
 returns-in_err-program g c =
     let p = err_from_is_err_and c.from_residual-in_err-program.result c.from_residual-in_err-program.ensures.1 in
     let w = plain_words c.args.words.now in
-    let here : Call = call (Some w) (g.P.Places.world c.args.places.now) (g.P.Places.world c.columns_of.new.places) (told g.K.Sink.written g.K.Sink.faults c.args.out.now) (told g.K.Sink.written g.K.Sink.faults c.args.out.now) in
+    let here : Call = call (Some w) (g.P.Places.world c.args.places.now) (g.P.Places.world c.columns_of.new.places)
+    (told g.K.Sink.written g.K.Sink.faults c.args.out.now) (told g.K.Sink.written g.K.Sink.faults c.args.out.now) in
     let begins : Begins here w = refl in
     let read = c.in_ok-scoped.ensures in
-    rw (p.1, p.2) (memory_does c.in_ok-scoped.scoped (most_source_bytes + 1) here w begins refl read.reading (within_text w w.source here.after (c.requires.text (λ e. absurd (cc e))) read.reading.within))
+    rw (p.1, p.2) (memory_does c.in_ok-scoped.scoped (most_source_bytes + 1) here w begins refl read.reading
+    (within_text w w.source here.after (c.requires.text (λ e. absurd (cc e))) read.reading.within))
 
 pub run_inputs-requires-clause-names : goal.run_inputs-requires-clause-names
 run_inputs-requires-clause-names g c = c.inputs.ensures.value ∙ sym c.in_ok-program.ensures.inputs
@@ -41,7 +45,8 @@ run_inputs-requires-clause-one g c =
 pub returns : goal.returns
 returns g c =
     let w = plain_words c.args.words.now in
-    let here : Call = call (Some w) (g.P.Places.world c.args.places.now) (g.P.Places.world c.run_inputs.new.places) (told g.K.Sink.written g.K.Sink.faults c.args.out.now) (told g.K.Sink.written g.K.Sink.faults c.run_inputs.new.out) in
+    let here : Call = call (Some w) (g.P.Places.world c.args.places.now) (g.P.Places.world c.run_inputs.new.places)
+    (told g.K.Sink.written g.K.Sink.faults c.args.out.now) (told g.K.Sink.written g.K.Sink.faults c.run_inputs.new.out) in
     let begins : Begins here w = refl in
     let text = c.requires.text (λ e. absurd (cc e)) in
     let read = c.in_ok-scoped.ensures in
@@ -57,7 +62,8 @@ returns g c =
       program = by_columns (columns_of here w tree (scoped_inputs c.in_ok-scoped.scoped) begins text c.requires.task a inputs);
       made = subst IsWellMade a.beside.is a.beside.well_made;
       inputs = sym c.in_ok-program.ensures.inputs;
-      runs = λ r o h. runs_columns c.figures_carry.ensures c.columns_are_spaces.ensures table a.tree w.columns keeps a.beside.are r o (subst (λ p. RanSo p r o) (spaces_of_table w table c.requires.task) h);
+      runs = λ r o h. runs_columns c.figures_carry.ensures c.columns_are_spaces.ensures table a.tree w.columns keeps a.beside.are r o
+          (subst (λ p. RanSo p r o) (spaces_of_table w table c.requires.task) h);
       kept = read.reading.keeps;
       first = read.reading.reached;
     }))

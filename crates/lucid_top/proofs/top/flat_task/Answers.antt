@@ -8,10 +8,12 @@ pub returns-in_err-scoped : goal.returns-in_err-scoped
 returns-in_err-scoped g c =
     let p = err_from_is_err_and c.from_residual.result c.from_residual.ensures.1 in
     let w = plain_words c.args.words.now in
-    let here : Call = call (Some w) (g.P.Places.world c.args.places.now) (g.P.Places.world c.program_of.new.places) (told g.K.Sink.written g.K.Sink.faults c.args.out.now) (told g.K.Sink.written g.K.Sink.faults c.args.out.now) in
+    let here : Call = call (Some w) (g.P.Places.world c.args.places.now) (g.P.Places.world c.program_of.new.places)
+    (told g.K.Sink.written g.K.Sink.faults c.args.out.now) (told g.K.Sink.written g.K.Sink.faults c.args.out.now) in
     let begins : Begins here w = refl in
     let read = c.in_err-scoped.ensures in
-    rw (p.1, p.2) (program_does here w c.in_err-scoped.field-0.0 begins (c.requires.text (λ e. absurd (cc e))) (flat_not_print w c.requires.task) refl read.stopped read.reading)
+    rw (p.1, p.2) (program_does here w c.in_err-scoped.field-0.0 begins (c.requires.text (λ e. absurd (cc e))) (flat_not_print w c.requires.task) refl
+    read.stopped read.reading)
 
 pub write_flat-requires-clause-few : goal.write_flat-requires-clause-few
 write_flat-requires-clause-few g c = omega (arith, c.in_ok-scoped.ensures.resolved.few, c.in_ok-scoped.ensures.accepted.few)
@@ -19,7 +21,8 @@ write_flat-requires-clause-few g c = omega (arith, c.in_ok-scoped.ensures.resolv
 pub returns : goal.returns
 returns g c =
     let w = plain_words c.args.words.now in
-    let here : Call = call (Some w) (g.P.Places.world c.args.places.now) (g.P.Places.world c.program_of.new.places) (told g.K.Sink.written g.K.Sink.faults c.args.out.now) (told g.K.Sink.written g.K.Sink.faults c.write_flat.new.out) in
+    let here : Call = call (Some w) (g.P.Places.world c.args.places.now) (g.P.Places.world c.program_of.new.places)
+    (told g.K.Sink.written g.K.Sink.faults c.args.out.now) (told g.K.Sink.written g.K.Sink.faults c.write_flat.new.out) in
     let begins : Begins here w = refl in
     let text = c.requires.text (λ e. absurd (cc e)) in
     let read = c.in_ok-scoped.ensures in

@@ -25,6 +25,7 @@ returns g c =
     let out_after = told g.K.Sink.written g.K.Sink.faults c.do_task-outcome.new.out in
     let before = told g.E.Sink.written g.E.Sink.faults c.args.report.now in
     let after = told g.E.Sink.written g.E.Sink.faults c.tell.new.report in
-    meets laws (call asked (g.P.Places.world c.args.places.now) (g.P.Places.world c.do_task-outcome.new.places) out_before out_after) before after c.do_task-outcome.result c.tell.result
+    meets laws (call asked (g.P.Places.world c.args.places.now) (g.P.Places.world c.do_task-outcome.new.places) out_before out_after) before after
+    c.do_task-outcome.result c.tell.result
     c.do_task-outcome.ensures.comes (λ a. c.do_task-outcome.ensures.within a.words a.read) (λ a. c.do_task-outcome.ensures.certificate a.words a.read)
     (record { reads = c.do_task-outcome.ensures.counts_no_read; writes = c.do_task-outcome.ensures.counts_no_write }) c.tell.ensures

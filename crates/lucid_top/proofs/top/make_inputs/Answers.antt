@@ -16,14 +16,16 @@ returns-in_err-files-clause-comes g c before b =
     let world = g.P.Places.world c.args.places.now in
     let out = told g.K.Sink.written g.K.Sink.faults c.args.out.now in
     let the_call : Call = call (Some (plain_words c.args.words.now)) before world out out in
-    let refused = carried (λ names given. IsRefusalOf (RefusesGiven names given) c.in_err-files.field-0.0) c.args.names.now t.inputs c.deref.result.now c.args.words.now.given.items
+    let refused = carried (λ names given. IsRefusalOf (RefusesGiven names given) c.in_err-files.field-0.0) c.args.names.now t.inputs c.deref.result.now
+    c.args.words.now.given.items
     c.requires.names c.deref.ensures.value c.in_err-files.ensures.refused in
     rw (p.1, p.2) (given_stops the_call task.Why (plain_words c.args.words.now) t world b refl c.in_err-files.field-0.0 refused refl (omega (arith, b.first)))
 
 pub reach_files-requires : goal.reach_files-requires
 reach_files-requires g c =
     let t = table_of c.args.program.now in
-    let files = carried (λ names given. map (λ file. file.now) c.in_ok-files.files.items ≡ files_for names given) c.args.names.now t.inputs c.deref.result.now c.args.words.now.given.items
+    let files = carried (λ names given. map (λ file. file.now) c.in_ok-files.files.items ≡ files_for names given) c.args.names.now t.inputs c.deref.result.now
+    c.args.words.now.given.items
     c.requires.names c.deref.ensures.value c.in_ok-files.ensures.files in
     let long = refs_long c.deref-2.result.now _ (refs_are c.deref-2.result.now c.in_ok-files.files.items _ c.deref-2.ensures.value files) in
     let as_many = files_long t.inputs (plain_words c.args.words.now).given in
@@ -36,16 +38,19 @@ returns-in_err-numbers-clause-comes g c before b =
     let t = table_of c.args.program.now in
     let world = g.P.Places.world c.args.places.now in
     let out = told g.K.Sink.written g.K.Sink.faults c.args.out.now in
-    let files = carried (λ names given. map (λ file. file.now) c.in_ok-files.files.items ≡ files_for names given) c.args.names.now t.inputs c.deref.result.now c.args.words.now.given.items
+    let files = carried (λ names given. map (λ file. file.now) c.in_ok-files.files.items ≡ files_for names given) c.args.names.now t.inputs c.deref.result.now
+    c.args.words.now.given.items
     c.requires.names c.deref.ensures.value c.in_ok-files.ensures.files in
     let same = refs_are c.deref-2.result.now c.in_ok-files.files.items _ c.deref-2.ensures.value files in
     let long = refs_long c.deref-2.result.now _ same in
     let as_many = files_long t.inputs (plain_words c.args.words.now).given in
     let names_long = ap length c.requires.names in
-    let fits = carried FitsGiven c.args.names.now t.inputs c.deref.result.now c.args.words.now.given.items c.requires.names c.deref.ensures.value c.in_ok-files.ensures.fits in
+    let fits = carried FitsGiven c.args.names.now t.inputs c.deref.result.now c.args.words.now.given.items c.requires.names c.deref.ensures.value
+    c.in_ok-files.ensures.fits in
     let the_call : Call = call (Some (plain_words c.args.words.now)) before (g.P.Places.world c.reach_files.new.places) out out in
     rw (p.1, p.2) (
-    reaching_stop the_call (plain_words c.args.words.now) t world b fits (files_for t.inputs (plain_words c.args.words.now).given) c.in_err-numbers.field-0.0 as_many c.in_err-numbers.ensures.keeps
+    reaching_stop the_call (plain_words c.args.words.now) t world b fits (files_for t.inputs (plain_words c.args.words.now).given) c.in_err-numbers.field-0.0
+    as_many c.in_err-numbers.ensures.keeps
     (subst (λ fs. AreFresh fs world (g.P.Places.world c.reach_files.new.places)) same c.in_err-numbers.ensures.fresh)
     (omega (arith, c.in_err-numbers.ensures.few, long)) (omega (arith, as_many, names_long, c.requires.few)) c.in_err-numbers.ensures.stopped refl
     )
@@ -53,22 +58,27 @@ returns-in_err-numbers-clause-comes g c before b =
 pub make_program-requires-clause-count : goal.make_program-requires-clause-count
 make_program-requires-clause-count g c =
     let t = table_of c.args.program.now in
-    let files = carried (λ names given. map (λ file. file.now) c.in_ok-files.files.items ≡ files_for names given) c.args.names.now t.inputs c.deref.result.now c.args.words.now.given.items
+    let files = carried (λ names given. map (λ file. file.now) c.in_ok-files.files.items ≡ files_for names given) c.args.names.now t.inputs c.deref.result.now
+    c.args.words.now.given.items
     c.requires.names c.deref.ensures.value c.in_ok-files.ensures.files in
-    let reached = reached_of t.inputs (plain_words c.args.words.now).given c.deref-2.result.now c.in_ok-files.files.items (g.P.Places.world c.args.places.now) (g.P.Places.world c.reach_files.new.places)
+    let reached = reached_of t.inputs (plain_words c.args.words.now).given c.deref-2.result.now c.in_ok-files.files.items (g.P.Places.world c.args.places.now)
+    (g.P.Places.world c.reach_files.new.places)
     c.in_ok-numbers.numbers.items c.deref-2.ensures.value files c.in_ok-numbers.ensures.fresh c.in_ok-numbers.ensures.reached c.in_ok-numbers.ensures.numbers in
     ap length reached.numbers_are ∙ length-range_with_len _ _ ∙ files_long t.inputs (plain_words c.args.words.now).given ∙ sym (ap length c.requires.names)
 
 pub make_program-requires-clause-differ : goal.make_program-requires-clause-differ
 make_program-requires-clause-differ g c =
-    subst (λ ns. AllPairs (λ x y. x ≢ y) ns) (sym c.in_ok-numbers.ensures.numbers) (range_differs (g.P.Places.world c.args.places.now).reached (length c.deref-2.result.now))
+    subst (λ ns. AllPairs (λ x y. x ≢ y) ns) (sym c.in_ok-numbers.ensures.numbers)
+    (range_differs (g.P.Places.world c.args.places.now).reached (length c.deref-2.result.now))
 
 pub make_program-requires-clause-unread : goal.make_program-requires-clause-unread
 make_program-requires-clause-unread g c =
     let t = table_of c.args.program.now in
-    let files = carried (λ names given. map (λ file. file.now) c.in_ok-files.files.items ≡ files_for names given) c.args.names.now t.inputs c.deref.result.now c.args.words.now.given.items
+    let files = carried (λ names given. map (λ file. file.now) c.in_ok-files.files.items ≡ files_for names given) c.args.names.now t.inputs c.deref.result.now
+    c.args.words.now.given.items
     c.requires.names c.deref.ensures.value c.in_ok-files.ensures.files in
-    let reached = reached_of t.inputs (plain_words c.args.words.now).given c.deref-2.result.now c.in_ok-files.files.items (g.P.Places.world c.args.places.now) (g.P.Places.world c.reach_files.new.places)
+    let reached = reached_of t.inputs (plain_words c.args.words.now).given c.deref-2.result.now c.in_ok-files.files.items (g.P.Places.world c.args.places.now)
+    (g.P.Places.world c.reach_files.new.places)
     c.in_ok-numbers.numbers.items c.deref-2.ensures.value files c.in_ok-numbers.ensures.fresh c.in_ok-numbers.ensures.reached c.in_ok-numbers.ensures.numbers in
     all_unread (files_for t.inputs (plain_words c.args.words.now).given) (g.P.Places.world c.args.places.now) (g.P.Places.world c.reach_files.new.places)
     c.in_ok-numbers.numbers.items reached.fresh reached.reached reached.numbers_are
@@ -82,29 +92,39 @@ returns-clause-comes g c before b =
     let after = g.P.Places.world c.make_program.new.places in
     let out = told g.K.Sink.written g.K.Sink.faults c.args.out.now in
     let out_after = told g.K.Sink.written g.K.Sink.faults c.make_program.new.out in
-    let files = carried (λ names given. map (λ file. file.now) c.in_ok-files.files.items ≡ files_for names given) c.args.names.now t.inputs c.deref.result.now c.args.words.now.given.items
+    let files = carried (λ names given. map (λ file. file.now) c.in_ok-files.files.items ≡ files_for names given) c.args.names.now t.inputs c.deref.result.now
+    c.args.words.now.given.items
     c.requires.names c.deref.ensures.value c.in_ok-files.ensures.files in
     let reached = reached_of t.inputs w.given c.deref-2.result.now c.in_ok-files.files.items world reached_world
     c.in_ok-numbers.numbers.items c.deref-2.ensures.value files c.in_ok-numbers.ensures.fresh c.in_ok-numbers.ensures.reached c.in_ok-numbers.ensures.numbers in
-    let fits = carried FitsGiven c.args.names.now t.inputs c.deref.result.now c.args.words.now.given.items c.requires.names c.deref.ensures.value c.in_ok-files.ensures.fits in
+    let fits = carried FitsGiven c.args.names.now t.inputs c.deref.result.now c.args.words.now.given.items c.requires.names c.deref.ensures.value
+    c.in_ok-files.ensures.fits in
     let names_long = ap length c.requires.names in
     let the_call : Call = call (Some w) before after out out_after in
-    making_ends the_call w t world b fits c.in_ok-numbers.numbers.items reached_world c.make_program.result c.in_ok-numbers.ensures.keeps reached (omega (arith, names_long, c.requires.few))
+    making_ends the_call w t world b fits c.in_ok-numbers.numbers.items reached_world c.make_program.result c.in_ok-numbers.ensures.keeps reached
+    (omega (arith, names_long, c.requires.few))
     c.make_program.ensures.reached c.make_program.ensures.faults
-    (subst (λ names. Makes t (table_stream t) (viewed w names c.in_ok-numbers.numbers.items reached_world after out out_after) (time_asked w) c.make_program.result) c.requires.names c.make_program.ensures.makes)
-    (subst (λ names. MakingComesOnly names (time_asked w) reached_world.faults after.faults (g.K.Sink.faults c.args.out.now) (g.K.Sink.faults c.make_program.new.out) c.make_program.result) c.requires.names c.make_program.ensures.comes_only)
+    (subst (λ names. Makes t (table_stream t) (viewed w names c.in_ok-numbers.numbers.items reached_world after out out_after) (time_asked w)
+    c.make_program.result) c.requires.names c.make_program.ensures.makes)
+    (subst (λ names. MakingComesOnly names (time_asked w) reached_world.faults after.faults (g.K.Sink.faults c.args.out.now)
+    (g.K.Sink.faults c.make_program.new.out) c.make_program.result) c.requires.names c.make_program.ensures.comes_only)
 
 pub returns-clause-others : goal.returns-clause-others
 returns-clause-others g c =
-    earlier_stay (g.P.Places.world c.args.places.now) (g.P.Places.world c.reach_files.new.places) (g.P.Places.world c.make_program.new.places) (length c.deref-2.result.now) c.in_ok-numbers.numbers.items
-    c.in_ok-numbers.ensures.others (g.P.Places.world c.args.places.now).reached (le_refl (g.P.Places.world c.args.places.now).reached) c.in_ok-numbers.ensures.numbers c.make_program.ensures.others
+    earlier_stay (g.P.Places.world c.args.places.now) (g.P.Places.world c.reach_files.new.places) (g.P.Places.world c.make_program.new.places)
+    (length c.deref-2.result.now) c.in_ok-numbers.numbers.items
+    c.in_ok-numbers.ensures.others (g.P.Places.world c.args.places.now).reached (le_refl (g.P.Places.world c.args.places.now).reached)
+    c.in_ok-numbers.ensures.numbers c.make_program.ensures.others
 
 pub returns-in_err-numbers-clause-counts_no_read : goal.returns-in_err-numbers-clause-counts_no_read
 returns-in_err-numbers-clause-counts_no_read g c =
     let p = err_from_is_err_and c.from_residual-in_err-numbers.result c.from_residual-in_err-numbers.ensures.1 in
-    rw (p.1) (handed_on c.in_err-numbers.field-0.0 p.0 stop.ReadFault (g.P.Places.world c.args.places.now).faults (g.P.Places.world c.reach_files.new.places).faults p.2 c.in_err-numbers.ensures.counts_no_read)
+    rw (p.1) (handed_on c.in_err-numbers.field-0.0 p.0 stop.ReadFault (g.P.Places.world c.args.places.now).faults
+    (g.P.Places.world c.reach_files.new.places).faults p.2 c.in_err-numbers.ensures.counts_no_read)
 
 pub returns-clause-counts_no_read : goal.returns-clause-counts_no_read
 returns-clause-counts_no_read g c =
-    counts_then (g.P.Places.world c.args.places.now).faults (g.P.Places.world c.reach_files.new.places).faults (g.P.Places.world c.make_program.new.places).faults
-    (none_at_ok c.in_ok-numbers.numbers stop.ReadFault (g.P.Places.world c.args.places.now).faults (g.P.Places.world c.reach_files.new.places).faults c.in_ok-numbers.ensures.counts_no_read) c.make_program.ensures.counts_no_read
+    counts_then (g.P.Places.world c.args.places.now).faults (g.P.Places.world c.reach_files.new.places).faults
+    (g.P.Places.world c.make_program.new.places).faults
+    (none_at_ok c.in_ok-numbers.numbers stop.ReadFault (g.P.Places.world c.args.places.now).faults (g.P.Places.world c.reach_files.new.places).faults
+    c.in_ok-numbers.ensures.counts_no_read) c.make_program.ensures.counts_no_read

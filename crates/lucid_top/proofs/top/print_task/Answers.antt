@@ -8,17 +8,20 @@ pub returns-in_err-tree : goal.returns-in_err-tree
 returns-in_err-tree g c =
     let p = err_from_is_err_and c.from_residual.result c.from_residual.ensures.1 in
     let w = plain_words c.args.words.now in
-    let here : Call = call (Some w) (g.P.Places.world c.args.places.now) (g.P.Places.world c.tree_of.new.places) (told g.K.Sink.written g.K.Sink.faults c.args.out.now) (told g.K.Sink.written g.K.Sink.faults c.args.out.now) in
+    let here : Call = call (Some w) (g.P.Places.world c.args.places.now) (g.P.Places.world c.tree_of.new.places)
+    (told g.K.Sink.written g.K.Sink.faults c.args.out.now) (told g.K.Sink.written g.K.Sink.faults c.args.out.now) in
     let begins : Begins here w = refl in
     let text = c.requires.text (λ e. absurd (cc e)) in
     let read = c.in_err-tree.ensures in
     let s = c.in_err-tree.field-0.0 in
-    rw (p.1, p.2) (stops here w s refl refl read.reading.few (source_stops here w s begins text read.stopped refl read.reading.few) read.reading.counts_no_read (within_text w w.source here.after text read.reading.within))
+    rw (p.1, p.2) (stops here w s refl refl read.reading.few (source_stops here w s begins text read.stopped refl read.reading.few) read.reading.counts_no_read
+    (within_text w w.source here.after text read.reading.within))
 
 pub returns : goal.returns
 returns g c =
     let w = plain_words c.args.words.now in
-    let here : Call = call (Some w) (g.P.Places.world c.args.places.now) (g.P.Places.world c.tree_of.new.places) (told g.K.Sink.written g.K.Sink.faults c.args.out.now) (told g.K.Sink.written g.K.Sink.faults c.print_program.new.out) in
+    let here : Call = call (Some w) (g.P.Places.world c.args.places.now) (g.P.Places.world c.tree_of.new.places)
+    (told g.K.Sink.written g.K.Sink.faults c.args.out.now) (told g.K.Sink.written g.K.Sink.faults c.print_program.new.out) in
     let begins : Begins here w = refl in
     let text = c.requires.text (λ e. absurd (cc e)) in
     let read = c.in_ok-tree.ensures in

@@ -13,14 +13,16 @@ returns-in_err-files-clause-comes g c before b =
     let world = g.P.Places.world c.args.places.now in
     let out = told g.K.Sink.written g.K.Sink.faults c.args.out.now in
     let the_call : Call = call (Some (plain_words c.args.words.now)) before world out out in
-    let refused = carried (λ names given. IsRefusalOf (RefusesGiven names given) c.in_err-files.field-0.0) c.args.names.now t.inputs c.deref.result.now c.args.words.now.given.items
+    let refused = carried (λ names given. IsRefusalOf (RefusesGiven names given) c.in_err-files.field-0.0) c.args.names.now t.inputs c.deref.result.now
+    c.args.words.now.given.items
     c.requires.names c.deref.ensures.value c.in_err-files.ensures.refused in
     rw (p.1, p.2) (given_stops the_call (plain_words c.args.words.now) t world c.in_err-files.field-0.0 b refused refl (omega (arith, b.first)))
 
 pub reach_files-requires : goal.reach_files-requires
 reach_files-requires g c =
     let t = table_of c.args.program in
-    let files = carried (λ names given. map (λ file. file.now) c.in_ok-files.files.items ≡ files_for names given) c.args.names.now t.inputs c.deref.result.now c.args.words.now.given.items
+    let files = carried (λ names given. map (λ file. file.now) c.in_ok-files.files.items ≡ files_for names given) c.args.names.now t.inputs c.deref.result.now
+    c.args.words.now.given.items
     c.requires.names c.deref.ensures.value c.in_ok-files.ensures.files in
     let long = refs_long c.deref-2.result.now _ (refs_are c.deref-2.result.now c.in_ok-files.files.items _ c.deref-2.ensures.value files) in
     let as_many = files_long t.inputs (plain_words c.args.words.now).given in
@@ -33,16 +35,19 @@ returns-in_err-numbers-clause-comes g c before b =
     let t = table_of c.args.program in
     let world = g.P.Places.world c.args.places.now in
     let out = told g.K.Sink.written g.K.Sink.faults c.args.out.now in
-    let files = carried (λ names given. map (λ file. file.now) c.in_ok-files.files.items ≡ files_for names given) c.args.names.now t.inputs c.deref.result.now c.args.words.now.given.items
+    let files = carried (λ names given. map (λ file. file.now) c.in_ok-files.files.items ≡ files_for names given) c.args.names.now t.inputs c.deref.result.now
+    c.args.words.now.given.items
     c.requires.names c.deref.ensures.value c.in_ok-files.ensures.files in
     let same = refs_are c.deref-2.result.now c.in_ok-files.files.items _ c.deref-2.ensures.value files in
     let long = refs_long c.deref-2.result.now _ same in
     let as_many = files_long t.inputs (plain_words c.args.words.now).given in
     let names_long = ap length c.requires.names in
-    let fits = carried FitsGiven c.args.names.now t.inputs c.deref.result.now c.args.words.now.given.items c.requires.names c.deref.ensures.value c.in_ok-files.ensures.fits in
+    let fits = carried FitsGiven c.args.names.now t.inputs c.deref.result.now c.args.words.now.given.items c.requires.names c.deref.ensures.value
+    c.in_ok-files.ensures.fits in
     let the_call : Call = call (Some (plain_words c.args.words.now)) before (g.P.Places.world c.reach_files.new.places) out out in
     rw (p.1, p.2) (
-    reaching_stops the_call (plain_words c.args.words.now) t (files_for t.inputs (plain_words c.args.words.now).given) world c.in_err-numbers.field-0.0 b fits as_many c.in_err-numbers.ensures.keeps
+    reaching_stops the_call (plain_words c.args.words.now) t (files_for t.inputs (plain_words c.args.words.now).given) world c.in_err-numbers.field-0.0 b fits
+    as_many c.in_err-numbers.ensures.keeps
     (subst (λ fs. AreFresh fs world (g.P.Places.world c.reach_files.new.places)) same c.in_err-numbers.ensures.fresh)
     (omega (arith, c.in_err-numbers.ensures.few, long)) (omega (arith, as_many, names_long, c.requires.few)) c.in_err-numbers.ensures.stopped refl
     )
@@ -50,22 +55,27 @@ returns-in_err-numbers-clause-comes g c before b =
 pub run_program-requires-clause-count : goal.run_program-requires-clause-count
 run_program-requires-clause-count g c =
     let t = table_of c.args.program in
-    let files = carried (λ names given. map (λ file. file.now) c.in_ok-files.files.items ≡ files_for names given) c.args.names.now t.inputs c.deref.result.now c.args.words.now.given.items
+    let files = carried (λ names given. map (λ file. file.now) c.in_ok-files.files.items ≡ files_for names given) c.args.names.now t.inputs c.deref.result.now
+    c.args.words.now.given.items
     c.requires.names c.deref.ensures.value c.in_ok-files.ensures.files in
-    let reached = reached_of t.inputs (plain_words c.args.words.now).given c.deref-2.result.now c.in_ok-files.files.items (g.P.Places.world c.args.places.now) (g.P.Places.world c.reach_files.new.places)
+    let reached = reached_of t.inputs (plain_words c.args.words.now).given c.deref-2.result.now c.in_ok-files.files.items (g.P.Places.world c.args.places.now)
+    (g.P.Places.world c.reach_files.new.places)
     c.in_ok-numbers.numbers.items c.deref-2.ensures.value files c.in_ok-numbers.ensures.fresh c.in_ok-numbers.ensures.reached c.in_ok-numbers.ensures.numbers in
     ap length reached.numbers_are ∙ length-range_with_len _ _ ∙ files_long t.inputs (plain_words c.args.words.now).given ∙ sym (ap length c.requires.names)
 
 pub run_program-requires-clause-differ : goal.run_program-requires-clause-differ
 run_program-requires-clause-differ g c =
-    subst (λ ns. AllPairs (λ x y. x ≢ y) ns) (sym c.in_ok-numbers.ensures.numbers) (range_differs (g.P.Places.world c.args.places.now).reached (length c.deref-2.result.now))
+    subst (λ ns. AllPairs (λ x y. x ≢ y) ns) (sym c.in_ok-numbers.ensures.numbers)
+    (range_differs (g.P.Places.world c.args.places.now).reached (length c.deref-2.result.now))
 
 pub run_program-requires-clause-unread : goal.run_program-requires-clause-unread
 run_program-requires-clause-unread g c =
     let t = table_of c.args.program in
-    let files = carried (λ names given. map (λ file. file.now) c.in_ok-files.files.items ≡ files_for names given) c.args.names.now t.inputs c.deref.result.now c.args.words.now.given.items
+    let files = carried (λ names given. map (λ file. file.now) c.in_ok-files.files.items ≡ files_for names given) c.args.names.now t.inputs c.deref.result.now
+    c.args.words.now.given.items
     c.requires.names c.deref.ensures.value c.in_ok-files.ensures.files in
-    let reached = reached_of t.inputs (plain_words c.args.words.now).given c.deref-2.result.now c.in_ok-files.files.items (g.P.Places.world c.args.places.now) (g.P.Places.world c.reach_files.new.places)
+    let reached = reached_of t.inputs (plain_words c.args.words.now).given c.deref-2.result.now c.in_ok-files.files.items (g.P.Places.world c.args.places.now)
+    (g.P.Places.world c.reach_files.new.places)
     c.in_ok-numbers.numbers.items c.deref-2.ensures.value files c.in_ok-numbers.ensures.fresh c.in_ok-numbers.ensures.reached c.in_ok-numbers.ensures.numbers in
     all_unread (files_for t.inputs (plain_words c.args.words.now).given) (g.P.Places.world c.args.places.now) (g.P.Places.world c.reach_files.new.places)
     c.in_ok-numbers.numbers.items reached.fresh reached.reached reached.numbers_are
@@ -79,11 +89,13 @@ returns-clause-comes g c before b =
     let after = g.P.Places.world c.run_program.new.places in
     let out = told g.K.Sink.written g.K.Sink.faults c.args.out.now in
     let out_after = told g.K.Sink.written g.K.Sink.faults c.run_program.new.out in
-    let files = carried (λ names given. map (λ file. file.now) c.in_ok-files.files.items ≡ files_for names given) c.args.names.now t.inputs c.deref.result.now c.args.words.now.given.items
+    let files = carried (λ names given. map (λ file. file.now) c.in_ok-files.files.items ≡ files_for names given) c.args.names.now t.inputs c.deref.result.now
+    c.args.words.now.given.items
     c.requires.names c.deref.ensures.value c.in_ok-files.ensures.files in
     let reached = reached_of t.inputs w.given c.deref-2.result.now c.in_ok-files.files.items world reached_world
     c.in_ok-numbers.numbers.items c.deref-2.ensures.value files c.in_ok-numbers.ensures.fresh c.in_ok-numbers.ensures.reached c.in_ok-numbers.ensures.numbers in
-    let fits = carried FitsGiven c.args.names.now t.inputs c.deref.result.now c.args.words.now.given.items c.requires.names c.deref.ensures.value c.in_ok-files.ensures.fits in
+    let fits = carried FitsGiven c.args.names.now t.inputs c.deref.result.now c.args.words.now.given.items c.requires.names c.deref.ensures.value
+    c.in_ok-files.ensures.fits in
     let names_long = ap length c.requires.names in
     let the_call : Call = call (Some w) before after out out_after in
     runs the_call w t world reached_world c.in_ok-numbers.numbers.items c.run_program.result b fits
@@ -93,25 +105,33 @@ returns-clause-comes g c before b =
       few = omega (arith, names_long, c.requires.few);
       same_reached = c.run_program.ensures.reached;
       faults = c.run_program.ensures.faults;
-      ran = subst (λ names. RanSo (table_program w t) (viewed w names c.in_ok-numbers.numbers.items reached_world after out out_after) c.run_program.result) c.requires.names c.run_program.ensures.ran;
-      only = subst (λ names. RunComesOnly w names reached_world.faults after.faults (g.K.Sink.faults c.args.out.now) (g.K.Sink.faults c.run_program.new.out) c.run_program.result) c.requires.names c.run_program.ensures.comes_only;
+      ran = subst (λ names. RanSo (table_program w t) (viewed w names c.in_ok-numbers.numbers.items reached_world after out out_after) c.run_program.result)
+          c.requires.names c.run_program.ensures.ran;
+      only = subst (λ names. RunComesOnly w names reached_world.faults after.faults (g.K.Sink.faults c.args.out.now) (g.K.Sink.faults c.run_program.new.out)
+          c.run_program.result) c.requires.names c.run_program.ensures.comes_only;
     })
 
 pub returns-in_err-numbers-clause-within : goal.returns-in_err-numbers-clause-within
 returns-in_err-numbers-clause-within g c most first within =
-    source_stays most (plain_source c.args.words.now.source) (g.P.Places.world c.args.places.now) (g.P.Places.world c.reach_files.new.places) within first c.in_err-numbers.ensures.others
+    source_stays most (plain_source c.args.words.now.source) (g.P.Places.world c.args.places.now) (g.P.Places.world c.reach_files.new.places) within first
+    c.in_err-numbers.ensures.others
 
 pub returns-clause-within : goal.returns-clause-within
 returns-clause-within g c most first within =
-    source_run most (plain_source c.args.words.now.source) (g.P.Places.world c.args.places.now) (g.P.Places.world c.reach_files.new.places) (g.P.Places.world c.run_program.new.places)
-    (length c.deref-2.result.now) c.in_ok-numbers.numbers.items within first c.in_ok-numbers.ensures.others c.in_ok-numbers.ensures.numbers c.run_program.ensures.others
+    source_run most (plain_source c.args.words.now.source) (g.P.Places.world c.args.places.now) (g.P.Places.world c.reach_files.new.places)
+    (g.P.Places.world c.run_program.new.places)
+    (length c.deref-2.result.now) c.in_ok-numbers.numbers.items within first c.in_ok-numbers.ensures.others c.in_ok-numbers.ensures.numbers
+    c.run_program.ensures.others
 
 pub returns-in_err-numbers-clause-counts_no_read : goal.returns-in_err-numbers-clause-counts_no_read
 returns-in_err-numbers-clause-counts_no_read g c =
     let p = err_from_is_err_and c.from_residual-in_err-numbers.result c.from_residual-in_err-numbers.ensures.1 in
-    rw (p.1) (handed_on c.in_err-numbers.field-0.0 p.0 stop.ReadFault (g.P.Places.world c.args.places.now).faults (g.P.Places.world c.reach_files.new.places).faults p.2 c.in_err-numbers.ensures.counts_no_read)
+    rw (p.1) (handed_on c.in_err-numbers.field-0.0 p.0 stop.ReadFault (g.P.Places.world c.args.places.now).faults
+    (g.P.Places.world c.reach_files.new.places).faults p.2 c.in_err-numbers.ensures.counts_no_read)
 
 pub returns-clause-counts_no_read : goal.returns-clause-counts_no_read
 returns-clause-counts_no_read g c =
-    counts_then (g.P.Places.world c.args.places.now).faults (g.P.Places.world c.reach_files.new.places).faults (g.P.Places.world c.run_program.new.places).faults
-    (none_at_ok c.in_ok-numbers.numbers stop.ReadFault (g.P.Places.world c.args.places.now).faults (g.P.Places.world c.reach_files.new.places).faults c.in_ok-numbers.ensures.counts_no_read) c.run_program.ensures.counts_no_read
+    counts_then (g.P.Places.world c.args.places.now).faults (g.P.Places.world c.reach_files.new.places).faults
+    (g.P.Places.world c.run_program.new.places).faults
+    (none_at_ok c.in_ok-numbers.numbers stop.ReadFault (g.P.Places.world c.args.places.now).faults (g.P.Places.world c.reach_files.new.places).faults
+    c.in_ok-numbers.ensures.counts_no_read) c.run_program.ensures.counts_no_read

@@ -9,20 +9,24 @@ pub returns-in_err-program : goal.returns-in_err-program
 returns-in_err-program g c =
     let p = err_from_is_err_and c.from_residual.result c.from_residual.ensures.1 in
     let w = plain_words c.args.words.now in
-    let here : Call = call (Some w) (g.P.Places.world c.args.places.now) (g.P.Places.world c.flat_program.new.places) (told g.K.Sink.written g.K.Sink.faults c.args.out.now) (told g.K.Sink.written g.K.Sink.faults c.args.out.now) in
+    let here : Call = call (Some w) (g.P.Places.world c.args.places.now) (g.P.Places.world c.flat_program.new.places)
+    (told g.K.Sink.written g.K.Sink.faults c.args.out.now) (told g.K.Sink.written g.K.Sink.faults c.args.out.now) in
     let begins : Begins here w = refl in
     let read = c.in_err-program.ensures in
     let s = c.in_err-program.field-0.0 in
-    rw (p.1, p.2) (stops here w s refl refl read.reading.few (flat_stops here w s begins c.requires.form read.stopped refl read.reading.few) read.reading.counts_no_read (within_flat w w.source here.after c.requires.form read.reading.within))
+    rw (p.1, p.2) (stops here w s refl refl read.reading.few (flat_stops here w s begins c.requires.form read.stopped refl read.reading.few)
+    read.reading.counts_no_read (within_flat w w.source here.after c.requires.form read.reading.within))
 
 pub returns-in_err-names : goal.returns-in_err-names
 returns-in_err-names g c =
     let p = err_from_is_err_and c.from_residual-in_err-names.result c.from_residual-in_err-names.ensures.1 in
     let w = plain_words c.args.words.now in
-    let here : Call = call (Some w) (g.P.Places.world c.args.places.now) (g.P.Places.world c.flat_program.new.places) (told g.K.Sink.written g.K.Sink.faults c.args.out.now) (told g.K.Sink.written g.K.Sink.faults c.args.out.now) in
+    let here : Call = call (Some w) (g.P.Places.world c.args.places.now) (g.P.Places.world c.flat_program.new.places)
+    (told g.K.Sink.written g.K.Sink.faults c.args.out.now) (told g.K.Sink.written g.K.Sink.faults c.args.out.now) in
     let begins : Begins here w = refl in
     let read = c.in_ok-program.ensures in
-    rw (p.1, p.2) (memory_does c.in_ok-program.program (most_flat_bytes + 1) here w begins refl read.reading (within_flat w w.source here.after c.requires.form read.reading.within))
+    rw (p.1, p.2) (memory_does c.in_ok-program.program (most_flat_bytes + 1) here w begins refl read.reading
+    (within_flat w w.source here.after c.requires.form read.reading.within))
 
 pub run_inputs-requires-clause-few : goal.run_inputs-requires-clause-few
 run_inputs-requires-clause-few g c =
@@ -38,7 +42,8 @@ run_inputs-requires-clause-one g c =
 pub returns : goal.returns
 returns g c =
     let w = plain_words c.args.words.now in
-    let here : Call = call (Some w) (g.P.Places.world c.args.places.now) (g.P.Places.world c.run_inputs.new.places) (told g.K.Sink.written g.K.Sink.faults c.args.out.now) (told g.K.Sink.written g.K.Sink.faults c.run_inputs.new.out) in
+    let here : Call = call (Some w) (g.P.Places.world c.args.places.now) (g.P.Places.world c.run_inputs.new.places)
+    (told g.K.Sink.written g.K.Sink.faults c.args.out.now) (told g.K.Sink.written g.K.Sink.faults c.run_inputs.new.out) in
     let begins : Begins here w = refl in
     let read = c.in_ok-program.ensures in
     let table = table_of c.in_ok-program.program in

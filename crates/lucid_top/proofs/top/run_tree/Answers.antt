@@ -9,7 +9,8 @@ pub returns-in_err-scoped : goal.returns-in_err-scoped
 returns-in_err-scoped g c =
     let p = err_from_is_err_and c.from_residual.result c.from_residual.ensures.1 in
     let w = plain_words c.args.words.now in
-    let here : Call = call (Some w) (g.P.Places.world c.args.places.now) (g.P.Places.world c.program_of.new.places) (told g.K.Sink.written g.K.Sink.faults c.args.out.now) (told g.K.Sink.written g.K.Sink.faults c.args.out.now) in
+    let here : Call = call (Some w) (g.P.Places.world c.args.places.now) (g.P.Places.world c.program_of.new.places)
+    (told g.K.Sink.written g.K.Sink.faults c.args.out.now) (told g.K.Sink.written g.K.Sink.faults c.args.out.now) in
     let begins : Begins here w = refl in
     let read = c.in_err-scoped.ensures in
     rw (p.1, p.2) (program_does here w c.in_err-scoped.field-0.0 begins c.requires.form (run_not_print w c.requires.may.task) refl read.stopped read.reading)
@@ -18,10 +19,12 @@ pub returns-in_err-program : goal.returns-in_err-program
 returns-in_err-program g c =
     let p = err_from_is_err_and c.from_residual-in_err-program.result c.from_residual-in_err-program.ensures.1 in
     let w = plain_words c.args.words.now in
-    let here : Call = call (Some w) (g.P.Places.world c.args.places.now) (g.P.Places.world c.program_of.new.places) (told g.K.Sink.written g.K.Sink.faults c.args.out.now) (told g.K.Sink.written g.K.Sink.faults c.args.out.now) in
+    let here : Call = call (Some w) (g.P.Places.world c.args.places.now) (g.P.Places.world c.program_of.new.places)
+    (told g.K.Sink.written g.K.Sink.faults c.args.out.now) (told g.K.Sink.written g.K.Sink.faults c.args.out.now) in
     let begins : Begins here w = refl in
     let read = c.in_ok-scoped.ensures in
-    rw (p.1, p.2) (memory_does c.in_ok-scoped.scoped (most_source_bytes + 1) here w begins refl read.reading (within_text w w.source here.after c.requires.form read.reading.within))
+    rw (p.1, p.2) (memory_does c.in_ok-scoped.scoped (most_source_bytes + 1) here w begins refl read.reading
+    (within_text w w.source here.after c.requires.form read.reading.within))
 
 pub run_inputs-requires-clause-names : goal.run_inputs-requires-clause-names
 run_inputs-requires-clause-names g c = c.inputs.ensures.value ∙ sym c.in_ok-program.ensures.inputs
@@ -39,7 +42,8 @@ run_inputs-requires-clause-one g c =
 pub returns : goal.returns
 returns g c =
     let w = plain_words c.args.words.now in
-    let here : Call = call (Some w) (g.P.Places.world c.args.places.now) (g.P.Places.world c.run_inputs.new.places) (told g.K.Sink.written g.K.Sink.faults c.args.out.now) (told g.K.Sink.written g.K.Sink.faults c.run_inputs.new.out) in
+    let here : Call = call (Some w) (g.P.Places.world c.args.places.now) (g.P.Places.world c.run_inputs.new.places)
+    (told g.K.Sink.written g.K.Sink.faults c.args.out.now) (told g.K.Sink.written g.K.Sink.faults c.run_inputs.new.out) in
     let begins : Begins here w = refl in
     let read = c.in_ok-scoped.ensures in
     let table = table_of c.in_ok-program.program in
@@ -49,10 +53,12 @@ returns g c =
     (c.run_inputs.ensures.comes here.before (record {
       read = refl;
       task = c.requires.may.task;
-      program = by_tree (names_of here w tree (scoped_inputs c.in_ok-scoped.scoped) begins c.requires.form (run_not_print w c.requires.may.task) read.accepted inputs);
+      program = by_tree (names_of here w tree (scoped_inputs c.in_ok-scoped.scoped) begins c.requires.form (run_not_print w c.requires.may.task) read.accepted
+          inputs);
       made = read.accepted.well_made;
       inputs = sym c.in_ok-program.ensures.inputs;
-      runs = λ r o h. runs_tree c.same_streams_run_alike.ensures c.figures_carry.ensures table tree c.in_ok-program.ensures.keeps r o (subst (λ p. RanSo p r o) (one_table w table c.requires.may.task) h);
+      runs = λ r o h. runs_tree c.same_streams_run_alike.ensures c.figures_carry.ensures table tree c.in_ok-program.ensures.keeps r o
+          (subst (λ p. RanSo p r o) (one_table w table c.requires.may.task) h);
       kept = read.reading.keeps;
       first = read.reading.reached;
     }))

@@ -9,12 +9,14 @@ returns-clause-writes g c =
     let tree = scoped_tree c.args.scoped.now in
     let table : Table = table_of c.in_ok-program.program in
     let inputs = inputs_of tree (scoped_inputs c.args.scoped.now) (scoped_binding c.args.scoped.now) c.requires.resolved.resolved in
-    as_text (λ written. written ≡ c.deref.result.now) (IsFlatForm tree) (told g.K.Sink.written g.K.Sink.faults c.args.out.now) (told g.K.Sink.written g.K.Sink.faults c.write_out.new.out) c.write_out.result
+    as_text (λ written. written ≡ c.deref.result.now) (IsFlatForm tree) (told g.K.Sink.written g.K.Sink.faults c.args.out.now)
+    (told g.K.Sink.written g.K.Sink.faults c.write_out.new.out) c.write_out.result
     (λ text is.
     let sound : IsSound table = c.in_ok-program.ensures.sound c.requires.few in
     let is_text : IsTextOf text table = record {
       has = subst (λ (t : Table). HasText t) c.table.ensures.value c.in_ok-show_flat.ensures.has;
-      text = is ∙ c.deref.ensures.value ∙ c.in_ok-show_flat.ensures.text ∙ ap (λ front. front ++ flat_text c.table.result.now) c.new-text.ensures.items ∙ ap flat_text c.table.ensures.value;
+      text = is ∙ c.deref.ensures.value ∙ c.in_ok-show_flat.ensures.text ∙ ap (λ front. front ++ flat_text c.table.result.now) c.new-text.ensures.items
+          ∙ ap flat_text c.table.ensures.value;
     } in
     record {
       table = table;

@@ -17,7 +17,8 @@ other a b true e apart = elim (apart (eqb-true a b e)) [ ]
 other a b false e apart = refl
 
 -- where all words are shorter, none has so many letters
-none_longer : (words : List (List ℕ)) (n : ℕ) → 9 ≤ n → list_all (λ word. nat_lt (length word) 9) words ≡ true → filter (λ word. nat_eq (length word) n) words ≡ []
+none_longer : (words : List (List ℕ)) (n : ℕ) → 9 ≤ n → list_all (λ word. nat_lt (length word) 9) words ≡ true
+    → filter (λ word. nat_eq (length word) n) words ≡ []
 none_longer [] n h e = refl
 none_longer (word ∷ words) n h e =
     let parts = and_parts (nat_lt (length word) 9) (list_all (λ word. nat_lt (length word) 9) words) e in
@@ -45,7 +46,8 @@ nat_same n = (Decides-eqb n n).1 refl
 -- a word is reserved where it is one of the reserved words of its length
 among : (bs : List ℕ) → list_any (same_bytes bs) (reserved_of_length (length bs)) ≡ is_reserved bs
 unfolding reserved_of_length
-among bs = any-filter_same (same_bytes bs) (λ word. nat_eq (length word) (length bs)) true (λ k e. ap (λ (ks : List ℕ). nat_eq (length ks) (length bs)) (sym ((slice_eq-Decides Decides-eqb bs k _ refl).0 e)) ∙ nat_same (length bs)) reserved_words
+among bs = any-filter_same (same_bytes bs) (λ word. nat_eq (length word) (length bs)) true
+    (λ k e. ap (λ (ks : List ℕ). nat_eq (length ks) (length bs)) (sym ((slice_eq-Decides Decides-eqb bs k _ refl).0 e)) ∙ nat_same (length bs)) reserved_words
 
 -- a test of what words are seen as is one of the words
 any_seen : {A B : Type 0} (seen : A → B) (test : B → Bool) (xs : List A) → list_any (λ x. test (seen x)) xs ≡ list_any test (map seen xs)
@@ -55,7 +57,8 @@ any_seen seen test (x ∷ xs) = ap (λ b. test (seen x) || b) (any_seen seen tes
 seen : Bor (List (Bor (List ℕ))) → List (List ℕ)
 seen words = map (λ (x : Bor (List ℕ)). x.now) words.now
 
-found : (xs : List (Bor (List (Bor (List ℕ))))) (n : ℕ) (w : Bor (List (Bor (List ℕ)))) → map seen xs ≡ by_length → n < length xs → w ≡ get_or xs n w → seen w ≡ reserved_of_length n
+found : (xs : List (Bor (List (Bor (List ℕ))))) (n : ℕ) (w : Bor (List (Bor (List ℕ)))) → map seen xs ≡ by_length → n < length xs → w ≡ get_or xs n w
+    → seen w ≡ reserved_of_length n
 found xs n w e h at = ap seen at ∙ sym (get_or-map seen xs n w [] h) ∙ ap (λ ys. get_or ys n []) e ∙ at_length n
 
 none : (xs : List (Bor (List (Bor (List ℕ))))) (n : ℕ) → map seen xs ≡ by_length → length xs ≤ n → [] ≡ reserved_of_length n
@@ -67,7 +70,8 @@ returns-in-Some c =
     let bs = c.args.bytes.now in
     let w = c.in-Some.words.now in
     let look = c.in-Some.ensures.lookup.3 in
-    c.is_among.ensures ∙ any_seen (λ (x : Bor (List ℕ)). x.now) (same_bytes bs) w.now ∙ ap (list_any (same_bytes bs)) (found c.words_by_length.result.now (length bs) w c.words_by_length.ensures look.0 (look.1 w)) ∙ among bs
+    c.is_among.ensures ∙ any_seen (λ (x : Bor (List ℕ)). x.now) (same_bytes bs) w.now
+    ∙ ap (list_any (same_bytes bs)) (found c.words_by_length.result.now (length bs) w c.words_by_length.ensures look.0 (look.1 w)) ∙ among bs
 
 pub returns-in-None : goal.returns-in-None
 unfolding by_length seen

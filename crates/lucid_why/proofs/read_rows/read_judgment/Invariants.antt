@@ -4,7 +4,8 @@ use Rattle.lucid_why.proofs.read_rows.read_judgment.Given as goal
 
 abbrev pub invariant-loop-rest : goal.invariant-loop-rest
 invariant-loop-rest l = record {
-  read : take_uses l.front.count (words_left (option_copied l.initial.rest)) ≡ with_front l.uses.items (take_uses (l.front.count - length l.uses.items) (words_left (option_copied l.rest)));
+  read : take_uses l.front.count (words_left (option_copied l.initial.rest)) ≡ with_front l.uses.items
+      (take_uses (l.front.count - length l.uses.items) (words_left (option_copied l.rest)));
   few : length l.uses.items ≤ l.front.count;
 }
 

@@ -9,4 +9,5 @@ pub returns : goal.returns
 returns c =
     let P : Option WhyRow → Type 0 = IsRowOf c.args.line.now in
     subst P (sym c.of_context.ensures)
-    (context_is_row _ _ _ c.read_context.result c.in-Some.ensures.0 c.in-Some.ensures.1 (sym (c.if-eq.ensures ∙ ap (bytes_eq c.in-Some.word.now) c.as_slice.ensures)) c.read_context.ensures)
+    (context_is_row _ _ _ c.read_context.result c.in-Some.ensures.0 c.in-Some.ensures.1
+    (sym (c.if-eq.ensures ∙ ap (bytes_eq c.in-Some.word.now) c.as_slice.ensures)) c.read_context.ensures)

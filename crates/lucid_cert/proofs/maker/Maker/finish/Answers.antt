@@ -4,7 +4,9 @@ use Rattle.lucid_cert.proofs.maker.Maker.finish.Goals as goal
 
 pub returns : goal.returns
 returns c b follow =
-    is_certificate (table_in c.args.self) c.args.self.tags c.args.self.keys.keys (judgments_of c.args.self) c.args.self.waiting.items c.requires.sound c.args.root c.requires.root c.in-Some.number c.in-Some.ensures.there _
+    is_certificate (table_in c.args.self) c.args.self.tags c.args.self.keys.keys (judgments_of c.args.self) c.args.self.waiting.items c.requires.sound
+    c.args.root c.requires.root c.in-Some.number c.in-Some.ensures.there _
     (ap (contexts_behind (Some root ∷ [])) c.from_vec.ensures ∙ c.in_ok-contexts.ensures.contexts)
-    (c.from_vec-2.ensures ∙ (ap (map plain_judgment) c.truncate.ensures.items ∙ sym (take-map plain_judgment (c.in-Some.number + 1) c.args.self.judgments.items)))
+    (c.from_vec-2.ensures ∙ (ap (map plain_judgment) c.truncate.ensures.items
+    ∙ sym (take-map plain_judgment (c.in-Some.number + 1) c.args.self.judgments.items)))
     (subst (AllByRecursion (λ (r : ContextRow). MayShow (context_row r))) (sym c.from_vec.ensures) c.in_ok-contexts.ensures.shown) b follow

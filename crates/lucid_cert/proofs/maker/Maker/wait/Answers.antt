@@ -8,4 +8,5 @@ returns-clause-goes c = goes_waiting c.args.self.now _ refl refl refl refl c.arg
 
 pub returns-clause-wanted : goal.returns-clause-wanted
 returns-clause-wanted c b root may all =
-    one_more_waits (table_in c.args.self.now) b root c.args.self.now.tags c.args.self.now.waiting.items c.push.new.self.items c.args.making c.in_ok-push.ensures.items may all
+    one_more_waits (table_in c.args.self.now) b root c.args.self.now.tags c.args.self.now.waiting.items c.push.new.self.items c.args.making
+    c.in_ok-push.ensures.items may all

@@ -20,6 +20,8 @@ returns-clause-same c = still_same c.args.self.now c.onward.new.tags c.requires.
 
 pub returns-clause-follows : goal.returns-clause-follows
 returns-clause-follows c b =
-    passed_by b c.is_passed_on.result (judgments_of c.args.self.now) c.args.before (contexts_in c.args.self.now) (contexts_of c.onward.new.tags c.args.self.now.contexts.items) (going c.onward.new.tags c.in_ok-at.at)
-    (row_onward (table_of c.args.self.now.program.now) c.args.node (context_of c.args.self.now.tags c.args.context) c.args.row.now.time) c.args.row.now.space c.args.row.now.uses (plain c.args.row.now.value)
+    passed_by b c.is_passed_on.result (judgments_of c.args.self.now) c.args.before (contexts_in c.args.self.now)
+    (contexts_of c.onward.new.tags c.args.self.now.contexts.items) (going c.onward.new.tags c.in_ok-at.at)
+    (row_onward (table_of c.args.self.now.program.now) c.args.node (context_of c.args.self.now.tags c.args.context) c.args.row.now.time) c.args.row.now.space
+    c.args.row.now.uses (plain c.args.row.now.value)
     (still_same c.args.self.now c.onward.new.tags c.requires.sound c.onward.ensures.keeps).contexts c.in_ok-at.ensures.at (c.is_passed_on.ensures b)

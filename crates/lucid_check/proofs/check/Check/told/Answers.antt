@@ -4,5 +4,6 @@ use Rattle.lucid_check.proofs.check.Check.told.Goals as goal
 
 pub returns : goal.returns
 returns c =
-    sym (told_there (judgments_of c.args.self.now) c.args.number (plain_judgment (get_or c.args.self.now.judgments.now c.args.number c.index-self-number.result))
+    sym (told_there (judgments_of c.args.self.now) c.args.number
+    (plain_judgment (get_or c.args.self.now.judgments.now c.args.number c.index-self-number.result))
     (item_at c.args.self.now.judgments.now c.args.number c.index-self-number.result c.requires))

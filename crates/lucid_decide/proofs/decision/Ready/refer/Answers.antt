@@ -7,8 +7,10 @@ use Rattle.lucid_decide.proofs.decision.Ready.refer.Goals as goal
 
 pub returns-else-lacks-clause-names : goal.returns-else-lacks-clause-names
 returns-else-lacks-clause-names c = λ n l. decides_for c.args.tasks.now c.args.self.slot c.args.self.task (node.Refer n l) (λ x. Part 0)
-    (λ T known its is there e range. reference_has T known c.args.tasks.now c.args.self.slot its is (name_is T known c.args.tasks.now c.args.self.slot its is n l e) (sym c.lacks.ensures ∙ c.if-lacks.false))
+    (λ T known its is there e range. reference_has T known c.args.tasks.now c.args.self.slot its is
+    (name_is T known c.args.tasks.now c.args.self.slot its is n l e) (sym c.lacks.ensures ∙ c.if-lacks.false))
 
 pub returns-else-lacks-clause-calls : goal.returns-else-lacks-clause-calls
 returns-else-lacks-clause-calls c = λ n q l. decides_for c.args.tasks.now c.args.self.slot c.args.self.task (node.Call n q l) (λ x. Part 0)
-    (λ T known its is there e range. reference_has T known c.args.tasks.now c.args.self.slot its is (call_is T known c.args.tasks.now c.args.self.slot its is n q l e) (sym c.lacks.ensures ∙ c.if-lacks.false))
+    (λ T known its is there e range. reference_has T known c.args.tasks.now c.args.self.slot its is
+    (call_is T known c.args.tasks.now c.args.self.slot its is n q l e) (sym c.lacks.ensures ∙ c.if-lacks.false))

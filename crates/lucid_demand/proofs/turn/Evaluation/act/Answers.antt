@@ -17,7 +17,8 @@ pub settle_applied-requires-clause-there : goal.settle_applied-requires-clause-t
 settle_applied-requires-clause-there g c =
     let d = c.requires.may.0 in
     let w = g.P.Places.world c.args.places.now in
-    arguments_are_there d c.args.self.now w c.args.slot c.in-Apply.op c.in-Apply.args (decided_so d c.args.self.now w c.args.slot c.in-Apply.is c.requires.may.1)
+    arguments_are_there d c.args.self.now w c.args.slot c.in-Apply.op c.in-Apply.args
+    (decided_so d c.args.self.now w c.args.slot c.in-Apply.is c.requires.may.1)
 
 pub end_of_data-requires-clause-ready : goal.end_of_data-requires-clause-ready
 end_of_data-requires-clause-ready g c = ready_task c.requires.may.0 c.args.self.now (g.P.Places.world c.args.places.now) c.args.slot c.requires.may.1.step
@@ -55,17 +56,20 @@ returns-in-Constant-clause-steps g c = λ d act.
 pub returns-in-Truth-clause-steps : goal.returns-in-Truth-clause-steps
 returns-in-Truth-clause-steps g c = λ d act.
     let w = g.P.Places.world c.args.places.now in
-    c.settle_truth.ensures (record { demand = d; world = w }) (truth_gives d c.args.self.now w c.args.slot _ (decided_so d c.args.self.now w c.args.slot c.in-Truth.is act))
+    c.settle_truth.ensures (record { demand = d; world = w })
+    (truth_gives d c.args.self.now w c.args.slot _ (decided_so d c.args.self.now w c.args.slot c.in-Truth.is act))
 
 pub returns-in-End-clause-steps : goal.returns-in-End-clause-steps
 returns-in-End-clause-steps g c = λ d act.
     let w = g.P.Places.world c.args.places.now in
-    c.end_of_data.ensures (record { demand = d; world = w }) (end_gives d c.args.self.now w c.args.slot (decided_so d c.args.self.now w c.args.slot c.in-End.is act))
+    c.end_of_data.ensures (record { demand = d; world = w })
+    (end_gives d c.args.self.now w c.args.slot (decided_so d c.args.self.now w c.args.slot c.in-End.is act))
 
 pub returns-in-Fault-clause-steps : goal.returns-in-Fault-clause-steps
 returns-in-Fault-clause-steps g c = λ d act.
     let w = g.P.Places.world c.args.places.now in
-    c.end_in_error.ensures (record { demand = d; world = w }) (fault_gives d c.args.self.now w c.args.slot (decided_so d c.args.self.now w c.args.slot c.in-Fault.is act))
+    c.end_in_error.ensures (record { demand = d; world = w })
+    (fault_gives d c.args.self.now w c.args.slot (decided_so d c.args.self.now w c.args.slot c.in-Fault.is act))
 
 pub returns-in-LookOn-clause-steps : goal.returns-in-LookOn-clause-steps
 returns-in-LookOn-clause-steps g c = λ d act.
@@ -97,7 +101,8 @@ pub ask_reference-requires-clause-can : goal.ask_reference-requires-clause-can
 ask_reference-requires-clause-can g c =
     let d = c.requires.may.0 in
     let w = g.P.Places.world c.args.places.now in
-    can_ask d c.args.self.now w (Some (record { slot = c.args.slot; index = 0 })) c.in-Refer.task _ (may_refer d c.args.self.now w c.args.slot c.in-Refer.task (decided_so d c.args.self.now w c.args.slot c.in-Refer.is c.requires.may.1))
+    can_ask d c.args.self.now w (Some (record { slot = c.args.slot; index = 0 })) c.in-Refer.task _
+    (may_refer d c.args.self.now w c.args.slot c.in-Refer.task (decided_so d c.args.self.now w c.args.slot c.in-Refer.is c.requires.may.1))
 
 pub ask_reference-requires-clause-reference : goal.ask_reference-requires-clause-reference
 ask_reference-requires-clause-reference g c =
@@ -119,4 +124,5 @@ pub returns-in-Refer-clause-steps : goal.returns-in-Refer-clause-steps
 returns-in-Refer-clause-steps g c = λ d act.
     let w = g.P.Places.world c.args.places.now in
     asked_steps d c.args.self.now c.ask_reference.new.self w (record { slot = c.args.slot; index = 0 }) (gave c.ask_reference.result c.ask_reference.new.answer)
-    (c.ask_reference.ensures.asks (record { demand = d; world = w }) (may_refer d c.args.self.now w c.args.slot c.in-Refer.task (decided_so d c.args.self.now w c.args.slot c.in-Refer.is act)))
+    (c.ask_reference.ensures.asks (record { demand = d; world = w })
+    (may_refer d c.args.self.now w c.args.slot c.in-Refer.task (decided_so d c.args.self.now w c.args.slot c.in-Refer.is act)))

@@ -24,14 +24,16 @@ pub returns-in_err-value-in-Const-clause-asks : goal.returns-in_err-value-in-Con
 returns-in_err-value-in-Const-clause-asks g c = λ i may.
     ask_refused _ c.args.self.now c.self.view_is c.args.part c.args.task c.moved_on.new.tags
     (record { keeps = c.moved_on.ensures.keeps; contexts = c.moved_on.ensures.one_for_one; entered = c.moved_on.ensures.entered }) i may c.self.inside.tasks
-    (gave c.from_residual-in_err-value-in-Const.result c.args.answer.now) (gave_err c.from_residual-in_err-value-in-Const.result c.args.answer.now NoMemory c.from_residual-in_err-value-in-Const.ensures.1)
+    (gave c.from_residual-in_err-value-in-Const.result c.args.answer.now)
+    (gave_err c.from_residual-in_err-value-in-Const.result c.args.answer.now NoMemory c.from_residual-in_err-value-in-Const.ensures.1)
 
 pub ask_reference-requires-clause-can : goal.ask_reference-requires-clause-can
 ask_reference-requires-clause-can g c =
     can_ask_last _ c.args.self.now c.self.view_is c.args.part c.args.task c.requires.can c.moved_on.new.tags c.in_ok-task.task
     (subst (λ (y : PlainTask). y.node < length (table_of c.self.inside.program).nodes) (sym c.in_ok-task.ensures.passed)
     ((passed-stands (table_of c.self.inside.program) c.self.inside.program.in_range (plain_task c.self.inside.tags c.args.task)
-    (subst (λ (e : Evaluating). c.args.task.node < length e.engine.table.nodes) (sym c.self.view_is) c.requires.can.there)).2)) c.in_ok-task.ensures.passed_known
+    (subst (λ (e : Evaluating). c.args.task.node < length e.engine.table.nodes) (sym c.self.view_is)
+    c.requires.can.there)).2)) c.in_ok-task.ensures.passed_known
 
 pub returns-in_err-ask-in_default-clause-sets : goal.returns-in_err-ask-in_default-clause-sets
 returns-in_err-ask-in_default-clause-sets g c = no_ok c.from_residual-in_err-ask-in_default.result _ _ c.from_residual-in_err-ask-in_default.ensures.1
@@ -43,14 +45,16 @@ pub returns-in_err-ask-in_default-clause-asks : goal.returns-in_err-ask-in_defau
 returns-in_err-ask-in_default-clause-asks g c = λ i may.
     ask_refused _ c.args.self.now c.self.view_is c.args.part c.args.task c.moved_on.new.tags
     (record { keeps = c.moved_on.ensures.keeps; contexts = c.moved_on.ensures.one_for_one; entered = c.moved_on.ensures.entered }) i may c.ask.new.self
-    (gave c.from_residual-in_err-ask-in_default.result c.args.answer.now) (gave_err c.from_residual-in_err-ask-in_default.result c.args.answer.now NoMemory c.from_residual-in_err-ask-in_default.ensures.1)
+    (gave c.from_residual-in_err-ask-in_default.result c.args.answer.now)
+    (gave_err c.from_residual-in_err-ask-in_default.result c.args.answer.now NoMemory c.from_residual-in_err-ask-in_default.ensures.1)
 
 pub returns-in_ok-value-in-Const-clause-sets : goal.returns-in_ok-value-in-Const-clause-sets
 returns-in_ok-value-in-Const-clause-sets g c =
     subst (λ (e : Evaluating). IfSome c.args.part (SetsPart c.args.self.now e)) (sym c.give.ensures.only)
     (given_sets c.args.self.now _ c.self.inside.tasks (ap (λ (e : Evaluating). e.rows) c.self.view_is)
     (only_known _ c.args.self.now c.self.view_is c.moved_on.new.tags)
-    (subst (λ (e : Evaluating). KeepsKnown e.engine.known c.moved_on.new.tags) c.self.view_is c.moved_on.ensures.keeps) c.args.part c.in_ok-value-in-Const.value c.give.ensures.rows)
+    (subst (λ (e : Evaluating). KeepsKnown e.engine.known c.moved_on.new.tags) c.self.view_is c.moved_on.ensures.keeps) c.args.part c.in_ok-value-in-Const.value
+    c.give.ensures.rows)
 
 pub returns-in_ok-value-in-Const-clause-open : goal.returns-in_ok-value-in-Const-clause-open
 returns-in_ok-value-in-Const-clause-open g c = open_given c.args.part c.in_ok-value-in-Const.value c.give.new.answer c.give.ensures.answer
@@ -59,24 +63,29 @@ pub returns-in_ok-value-in-Const-clause-asks : goal.returns-in_ok-value-in-Const
 returns-in_ok-value-in-Const-clause-asks g c = λ i may.
     subst (λ (e : Evaluating). AsksIn i.demand c.args.self.now e i.world c.args.part (Ok c.give.new.answer)) (sym c.give.ensures.only)
     (ask_given _ c.args.self.now c.self.view_is c.args.part c.args.task c.moved_on.new.tags
-    (record { keeps = c.moved_on.ensures.keeps; contexts = c.moved_on.ensures.one_for_one; entered = c.moved_on.ensures.entered }) i may c.in_ok-task.task c.in_ok-task.ensures.passed c.in_ok-task.ensures.passed_known c.give.new.self.rows c.in_ok-value-in-Const.value
-    (c.in-Const.ensures.meaning ∙ ap (λ z. row (const z) no_nodes) (c.constant.ensures ∙ sym (ap plain c.in_ok-value-in-Const.ensures))) c.give.ensures.rows c.give.new.answer c.give.ensures.answer)
+    (record { keeps = c.moved_on.ensures.keeps; contexts = c.moved_on.ensures.one_for_one; entered = c.moved_on.ensures.entered }) i may c.in_ok-task.task
+    c.in_ok-task.ensures.passed c.in_ok-task.ensures.passed_known c.give.new.self.rows c.in_ok-value-in-Const.value
+    (c.in-Const.ensures.meaning ∙ ap (λ z. row (const z) no_nodes) (c.constant.ensures ∙ sym (ap plain c.in_ok-value-in-Const.ensures))) c.give.ensures.rows
+    c.give.new.answer c.give.ensures.answer)
 
 pub returns-in-Refer-clause-sets : goal.returns-in-Refer-clause-sets
 returns-in-Refer-clause-sets g c =
-    on_ok c.ask_reference.result _ _ (last_sets _ c.args.self.now c.self.view_is c.moved_on.new.tags c.moved_on.ensures.keeps c.ask_reference.new.self c.args.part) c.ask_reference.ensures.sets
+    on_ok c.ask_reference.result _ _ (last_sets _ c.args.self.now c.self.view_is c.moved_on.new.tags c.moved_on.ensures.keeps c.ask_reference.new.self
+    c.args.part) c.ask_reference.ensures.sets
 
 pub returns-in-Refer-clause-asks : goal.returns-in-Refer-clause-asks
 returns-in-Refer-clause-asks g c = λ i may.
     ask_referred _ c.args.self.now c.self.view_is c.args.part c.args.task c.moved_on.new.tags
-    (record { keeps = c.moved_on.ensures.keeps; contexts = c.moved_on.ensures.one_for_one; entered = c.moved_on.ensures.entered }) i may c.in_ok-task.task c.in_ok-task.ensures.passed c.in_ok-task.ensures.passed_known c.ask_reference.new.self
+    (record { keeps = c.moved_on.ensures.keeps; contexts = c.moved_on.ensures.one_for_one; entered = c.moved_on.ensures.entered }) i may c.in_ok-task.task
+    c.in_ok-task.ensures.passed c.in_ok-task.ensures.passed_known c.ask_reference.new.self
     (gave c.ask_reference.result c.ask_reference.new.answer) (c.ask_reference.ensures.asks i)
 
 pub returns-in_ok-ask-in_default-clause-sets : goal.returns-in_ok-ask-in_default-clause-sets
 returns-in_ok-ask-in_default-clause-sets g c =
     asked_sets c.args.self.now _ c.self.inside.tasks (ap (λ (e : Evaluating). e.rows) c.self.view_is)
     (only_known _ c.args.self.now c.self.view_is c.moved_on.new.tags)
-    (subst (λ (e : Evaluating). KeepsKnown e.engine.known c.moved_on.new.tags) c.self.view_is c.moved_on.ensures.keeps) c.args.part c.in_ok-ask-in_default.field-0 c.in_ok-task.task _ c.requires.can.part_idle
+    (subst (λ (e : Evaluating). KeepsKnown e.engine.known c.moved_on.new.tags) c.self.view_is c.moved_on.ensures.keeps) c.args.part
+    c.in_ok-ask-in_default.field-0 c.in_ok-task.task _ c.requires.can.part_idle
     c.in_ok-ask-in_default.ensures.newest c.in_ok-ask-in_default.ensures.rows
 
 pub returns-in_ok-ask-in_default-clause-open : goal.returns-in_ok-ask-in_default-clause-open
@@ -85,5 +94,6 @@ returns-in_ok-ask-in_default-clause-open g c = open_still c.args.part c.args.ans
 pub returns-in_ok-ask-in_default-clause-asks : goal.returns-in_ok-ask-in_default-clause-asks
 returns-in_ok-ask-in_default-clause-asks g c = λ i may.
     ask_asked _ c.args.self.now c.self.view_is c.args.part c.args.task c.moved_on.new.tags
-    (record { keeps = c.moved_on.ensures.keeps; contexts = c.moved_on.ensures.one_for_one; entered = c.moved_on.ensures.entered }) i may c.in_ok-task.task c.in_ok-task.ensures.passed c.in_ok-task.ensures.passed_known c.ask.new.self c.in_ok-ask-in_default.field-0
+    (record { keeps = c.moved_on.ensures.keeps; contexts = c.moved_on.ensures.one_for_one; entered = c.moved_on.ensures.entered }) i may c.in_ok-task.task
+    c.in_ok-task.ensures.passed c.in_ok-task.ensures.passed_known c.ask.new.self c.in_ok-ask-in_default.field-0
     c.in_ok-ask-in_default.ensures.newest c.in_ok-ask-in_default.ensures.rows c.args.answer.now c.requires.open

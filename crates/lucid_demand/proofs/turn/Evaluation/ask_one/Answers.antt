@@ -12,7 +12,8 @@ note_end-requires g c = ready_task c.requires.may.0.demand c.args.self.now c.req
 pub ask-requires-clause-can : goal.ask-requires-clause-can
 ask-requires-clause-can g c =
     let i = c.requires.may.0 in
-    can_ask i.demand c.note_end.new.self i.world (Some (record { slot = c.args.slot; index = c.args.index })) c.args.task _ (c.note_end.ensures.asks i c.args.task c.requires.may.1)
+    can_ask i.demand c.note_end.new.self i.world (Some (record { slot = c.args.slot; index = c.args.index })) c.args.task _
+    (c.note_end.ensures.asks i c.args.task c.requires.may.1)
 
 pub returns : goal.returns
 returns g c = λ i act.

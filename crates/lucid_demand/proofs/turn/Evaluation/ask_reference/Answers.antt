@@ -12,14 +12,16 @@ returns-in_err-aim-clause-asks g c = λ i may.
 
 pub returns-in_default-clause-asks : goal.returns-in_default-clause-asks
 returns-in_default-clause-asks g c = λ i may.
-    nowhere_refused c.args.self.now c.aim.new.self c.args.part c.args.task c.aim.result c.aim.ensures c.requires.reference i may (c.in_ok-aim.was ∙ ap Ok c.in_default.is)
+    nowhere_refused c.args.self.now c.aim.new.self c.args.part c.args.task c.aim.result c.aim.ensures c.requires.reference i may
+    (c.in_ok-aim.was ∙ ap Ok c.in_default.is)
 
 pub returns-in_err-value-clause-asks : goal.returns-in_err-value-clause-asks
 returns-in_err-value-clause-asks g c = λ i may.
     look_refused c.args.self.now c.aim.new.self c.args.part c.args.task c.aim.result c.aim.ensures c.requires.reference i may
     c.in-Some.aim (c.in_ok-aim.was ∙ ap Ok c.in-Some.is) c.copy_held.new.self (value_at c.aim.new.self.engine.stored c.in-Some.aim.key)
     (record { value = refl; touched = c.copy_held.ensures.touched; only = c.copy_held.ensures.only })
-    (gave c.from_residual-in_err-value.result c.args.answer.now) (gave_err c.from_residual-in_err-value.result c.args.answer.now NoMemory c.from_residual-in_err-value.ensures.1)
+    (gave c.from_residual-in_err-value.result c.args.answer.now)
+    (gave_err c.from_residual-in_err-value.result c.args.answer.now NoMemory c.from_residual-in_err-value.ensures.1)
 
 pub returns-in-Some-2-clause-sets : goal.returns-in-Some-2-clause-sets
 returns-in-Some-2-clause-sets g c =
@@ -37,37 +39,45 @@ returns-in-Some-2-clause-asks g c = λ i may.
     c.in-Some.aim (c.in_ok-aim.was ∙ ap Ok c.in-Some.is) c.copy_held.new.self c.in_ok-value.field-0
     (record { value = c.in_ok-value.ensures.value; touched = c.copy_held.ensures.touched; only = c.copy_held.ensures.only })
     c.in-Some-2.value c.in-Some-2.is c.give.new.self.rows c.give.ensures.rows c.drop_values.new.self
-    (subst (λ (e : Evaluating). IsTurned e.engine c.drop_values.new.self.engine) c.give.ensures.only c.drop_values.ensures.turned) c.drop_values.ensures.rows c.give.new.answer c.give.ensures.answer
+    (subst (λ (e : Evaluating). IsTurned e.engine c.drop_values.new.self.engine) c.give.ensures.only c.drop_values.ensures.turned) c.drop_values.ensures.rows
+    c.give.new.answer c.give.ensures.answer
 
 pub returns-then-task-eq0-clause-asks : goal.returns-then-task-eq0-clause-asks
 returns-then-task-eq0-clause-asks g c = λ i may.
     look_too_deep c.args.self.now c.aim.new.self c.args.part c.args.task c.aim.result c.aim.ensures c.requires.reference i may
     c.in-Some.aim (c.in_ok-aim.was ∙ ap Ok c.in-Some.is) c.copy_held.new.self c.in_ok-value.field-0
-    (record { value = c.in_ok-value.ensures.value; touched = c.copy_held.ensures.touched; only = c.copy_held.ensures.only }) c.in_default-2.is c.if-task-eq0.true
+    (record { value = c.in_ok-value.ensures.value; touched = c.copy_held.ensures.touched; only = c.copy_held.ensures.only }) c.in_default-2.is
+    c.if-task-eq0.true
 
 pub returns-in_err-body-clause-asks : goal.returns-in_err-body-clause-asks
 returns-in_err-body-clause-asks g c = λ i may.
     body_refused c.args.self.now c.aim.new.self c.args.part c.args.task c.aim.result c.aim.ensures c.requires.reference i may
     c.in-Some.aim (c.in_ok-aim.was ∙ ap Ok c.in-Some.is) _ c.in_ok-value.field-0
-    (seen_so c.aim.new.self _ c.copy_held.new.self c.in-Some.aim.key c.in_ok-value.field-0 c.self.view_is (record { value = c.in_ok-value.ensures.value; touched = c.copy_held.ensures.touched; only = c.copy_held.ensures.only })) c.in_default-2.is
+    (seen_so c.aim.new.self _ c.copy_held.new.self c.in-Some.aim.key c.in_ok-value.field-0 c.self.view_is
+    (record { value = c.in_ok-value.ensures.value; touched = c.copy_held.ensures.touched; only = c.copy_held.ensures.only })) c.in_default-2.is
     (c.args.task.depth - 1) (omega (arith, c.if-task-eq0.false)) c.task.result c.task.ensures c.moved_on.new.tags
     (record { keeps = c.moved_on.ensures.keeps; contexts = c.moved_on.ensures.one_for_one; entered = c.moved_on.ensures.entered }) c.self.inside.tasks
-    (gave c.from_residual-in_err-body.result c.args.answer.now) (gave_err c.from_residual-in_err-body.result c.args.answer.now NoMemory c.from_residual-in_err-body.ensures.1)
+    (gave c.from_residual-in_err-body.result c.args.answer.now)
+    (gave_err c.from_residual-in_err-body.result c.args.answer.now NoMemory c.from_residual-in_err-body.ensures.1)
 
 pub returns-in_err-ask-clause-asks : goal.returns-in_err-ask-clause-asks
 returns-in_err-ask-clause-asks g c = λ i may.
     body_refused c.args.self.now c.aim.new.self c.args.part c.args.task c.aim.result c.aim.ensures c.requires.reference i may
     c.in-Some.aim (c.in_ok-aim.was ∙ ap Ok c.in-Some.is) _ c.in_ok-value.field-0
-    (seen_so c.aim.new.self _ c.copy_held.new.self c.in-Some.aim.key c.in_ok-value.field-0 c.self.view_is (record { value = c.in_ok-value.ensures.value; touched = c.copy_held.ensures.touched; only = c.copy_held.ensures.only })) c.in_default-2.is
+    (seen_so c.aim.new.self _ c.copy_held.new.self c.in-Some.aim.key c.in_ok-value.field-0 c.self.view_is
+    (record { value = c.in_ok-value.ensures.value; touched = c.copy_held.ensures.touched; only = c.copy_held.ensures.only })) c.in_default-2.is
     (c.args.task.depth - 1) (omega (arith, c.if-task-eq0.false)) c.task.result c.task.ensures c.moved_on.new.tags
     (record { keeps = c.moved_on.ensures.keeps; contexts = c.moved_on.ensures.one_for_one; entered = c.moved_on.ensures.entered }) c.ask.new.self
-    (gave c.from_residual-in_err-ask.result c.args.answer.now) (gave_err c.from_residual-in_err-ask.result c.args.answer.now NoMemory c.from_residual-in_err-ask.ensures.1)
+    (gave c.from_residual-in_err-ask.result c.args.answer.now)
+    (gave_err c.from_residual-in_err-ask.result c.args.answer.now NoMemory c.from_residual-in_err-ask.ensures.1)
 
 pub returns-clause-sets : goal.returns-clause-sets
 returns-clause-sets g c =
     made_sets c.args.self.now c.aim.new.self _ c.args.task c.aim.result c.aim.ensures c.in-Some.aim.key c.in_ok-value.field-0
-    (seen_so c.aim.new.self _ c.copy_held.new.self c.in-Some.aim.key c.in_ok-value.field-0 c.self.view_is (record { value = c.in_ok-value.ensures.value; touched = c.copy_held.ensures.touched; only = c.copy_held.ensures.only }))
-    c.args.part c.moved_on.new.tags c.moved_on.ensures.keeps c.requires.can.part_idle c.ask.new.self c.in_ok-ask.field-0 c.in_ok-body.body _ c.in_ok-ask.ensures.newest c.in_ok-ask.ensures.rows
+    (seen_so c.aim.new.self _ c.copy_held.new.self c.in-Some.aim.key c.in_ok-value.field-0 c.self.view_is
+    (record { value = c.in_ok-value.ensures.value; touched = c.copy_held.ensures.touched; only = c.copy_held.ensures.only }))
+    c.args.part c.moved_on.new.tags c.moved_on.ensures.keeps c.requires.can.part_idle c.ask.new.self c.in_ok-ask.field-0 c.in_ok-body.body _
+    c.in_ok-ask.ensures.newest c.in_ok-ask.ensures.rows
 
 pub returns-clause-open : goal.returns-clause-open
 returns-clause-open g c = open_still c.args.part c.args.answer.now c.requires.open
@@ -76,7 +86,9 @@ pub returns-clause-asks : goal.returns-clause-asks
 returns-clause-asks g c = λ i may.
     body_asked c.args.self.now c.aim.new.self c.args.part c.args.task c.aim.result c.aim.ensures c.requires.reference i may
     c.in-Some.aim (c.in_ok-aim.was ∙ ap Ok c.in-Some.is) _ c.in_ok-value.field-0
-    (seen_so c.aim.new.self _ c.copy_held.new.self c.in-Some.aim.key c.in_ok-value.field-0 c.self.view_is (record { value = c.in_ok-value.ensures.value; touched = c.copy_held.ensures.touched; only = c.copy_held.ensures.only })) c.in_default-2.is
+    (seen_so c.aim.new.self _ c.copy_held.new.self c.in-Some.aim.key c.in_ok-value.field-0 c.self.view_is
+    (record { value = c.in_ok-value.ensures.value; touched = c.copy_held.ensures.touched; only = c.copy_held.ensures.only })) c.in_default-2.is
     (c.args.task.depth - 1) (omega (arith, c.if-task-eq0.false)) c.task.result c.task.ensures c.moved_on.new.tags
-    (record { keeps = c.moved_on.ensures.keeps; contexts = c.moved_on.ensures.one_for_one; entered = c.moved_on.ensures.entered }) c.ask.new.self c.in_ok-ask.field-0 c.in_ok-body.body c.in_ok-body.ensures.passed c.in_ok-body.ensures.passed_known
+    (record { keeps = c.moved_on.ensures.keeps; contexts = c.moved_on.ensures.one_for_one; entered = c.moved_on.ensures.entered }) c.ask.new.self
+    c.in_ok-ask.field-0 c.in_ok-body.body c.in_ok-body.ensures.passed c.in_ok-body.ensures.passed_known
     c.in_ok-ask.ensures.newest c.in_ok-ask.ensures.rows c.args.answer.now c.requires.open

@@ -15,8 +15,11 @@ decided-decision-requires g c κs within =
 pub act-requires-clause-may : goal.act-requires-clause-may
 act-requires-clause-may g c =
     let d = c.requires.may.0 in
-    let w = g.P.Places.world c.args.places.now in
-    (d, may_act d c.begin_search.new.self w c.args.slot (c.begin_search.ensures.step (record { demand = d; world = w }) c.requires.may.1) c.decided-decision.result c.decided-decision.ensures)
+    let w = g.P.Places.world c.args.places.now in (
+      d,
+      may_act d c.begin_search.new.self w c.args.slot (c.begin_search.ensures.step (record { demand = d; world = w }) c.requires.may.1)
+          c.decided-decision.result c.decided-decision.ensures,
+    )
 
 pub returns-clause-steps : goal.returns-clause-steps
 returns-clause-steps g c = λ d m.

@@ -4,4 +4,5 @@ use Rattle.lucid_equations.proofs.program.Program.entry.Goals as goal
 
 pub returns-clause-in_range : goal.returns-clause-in_range
 returns-clause-in_range c =
-    rw c.items.ensures.value (name-in_range (sizes (table_of c.args.self.now)) (table_of c.args.self.now).names c.args.name _ c.args.self.now.in_range.3 c.requires)
+    rw c.items.ensures.value (name-in_range (sizes (table_of c.args.self.now)) (table_of c.args.self.now).names c.args.name _ c.args.self.now.in_range.3
+    c.requires)

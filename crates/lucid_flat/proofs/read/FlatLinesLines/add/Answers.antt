@@ -8,7 +8,8 @@ returns-then-self c =
     let m : FlatLines = record { has_first = l.has_first; rows = c.add_row.new.rows } in
     let old = lines_of_rows (rows_in l.rows) in
     let line = c.args.line.now in
-    IfOk-weaker c.add_row.result (λ (added : Bool). MatchBool added (AreBegun m.rows × (lines_of_rows (rows_in m.rows) ≡ old ++ line ∷ [])) (CannotGoOn AreTableLines (old ++ line ∷ []))) _
+    IfOk-weaker c.add_row.result (λ (added : Bool).
+    MatchBool added (AreBegun m.rows × (lines_of_rows (rows_in m.rows) ≡ old ++ line ∷ [])) (CannotGoOn AreTableLines (old ++ line ∷ []))) _
     (λ added h. row_added l m line added c.if-self.true c.if-self.true h) c.add_row.ensures
 
 pub returns : goal.returns

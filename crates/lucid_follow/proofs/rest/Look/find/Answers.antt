@@ -18,5 +18,6 @@ returns-in-Holds-false-clause-inside c n h t s = c.search_on-in-Holds-false.ensu
 
 pub returns-else-wanted-eq0-clause-plan : goal.returns-else-wanted-eq0-clause-plan
 returns-else-wanted-eq0-clause-plan c m most vs h =
-    found_again most m c.args.wanted c.args.self.time c.args.self.space c.args.answer (rest_plan m vs c.search_on.result) (c.in-Holds-true.is ∙ ap Holds c.in-Holds-true.field-0-test) (omega (arith, c.if-wanted-eq0.false))
+    found_again most m c.args.wanted c.args.self.time c.args.self.space c.args.answer (rest_plan m vs c.search_on.result)
+    (c.in-Holds-true.is ∙ ap Holds c.in-Holds-true.field-0-test) (omega (arith, c.if-wanted-eq0.false))
     (c.search_on.ensures.plan m most vs h)

@@ -29,18 +29,21 @@ returns-in-Count-clause-stands c k h = c.count.ensures.stands (k + 1)
 
 pub returns-in-Time-clause-plan : goal.returns-in-Time-clause-plan
 returns-in-Time-clause-plan c m k most vs h l =
-    goes_time most m vs c.args.self.part c.args.self.time c.args.self.space (plain c.args.value.now) c.tell-answer.result c.tell-answer.ensures.answer c.args.self.then (rest_plan m (vs ++ plain c.args.value.now ∷ []) c.at_time.result)
+    goes_time most m vs c.args.self.part c.args.self.time c.args.self.space (plain c.args.value.now) c.tell-answer.result c.tell-answer.ensures.answer
+    c.args.self.then (rest_plan m (vs ++ plain c.args.value.now ∷ []) c.at_time.result)
     c.in-Time.is (c.at_time.ensures.plan m (vs ++ plain c.args.value.now ∷ []))
 
 pub returns-in-Space-clause-plan : goal.returns-in-Space-clause-plan
 returns-in-Space-clause-plan c m k most vs h l =
-    goes_space most m vs c.args.self.part c.args.self.time c.args.self.space (plain c.args.value.now) c.tell-answer.result c.tell-answer.ensures.answer c.args.self.then (rest_plan m (vs ++ plain c.args.value.now ∷ []) c.at_space.result)
+    goes_space most m vs c.args.self.part c.args.self.time c.args.self.space (plain c.args.value.now) c.tell-answer.result c.tell-answer.ensures.answer
+    c.args.self.then (rest_plan m (vs ++ plain c.args.value.now ∷ []) c.at_space.result)
     c.in-Space.is (c.at_space.ensures.plan m (vs ++ plain c.args.value.now ∷ []))
 
 pub returns-in-Find-clause-plan : goal.returns-in-Find-clause-plan
 returns-in-Find-clause-plan c m k most vs h l =
     let at : c.args.self.time ≡ k = subst (λ (x : Then). IsAfter k x c.args.self.part c.args.self.time) c.in-Find.is h in
-    goes_find most m vs c.args.self.part c.args.self.time c.args.self.space (plain c.args.value.now) c.tell-answer.result c.tell-answer.ensures.answer c.args.self.then (rest_plan m (vs ++ plain c.args.value.now ∷ []) c.find.result)
+    goes_find most m vs c.args.self.part c.args.self.time c.args.self.space (plain c.args.value.now) c.tell-answer.result c.tell-answer.ensures.answer
+    c.args.self.then (rest_plan m (vs ++ plain c.args.value.now ∷ []) c.find.result)
     c.in-Find.wanted c.in-Find.is (c.find.ensures.plan m most (vs ++ plain c.args.value.now ∷ []) (omega (arith, at, l)))
 
 pub returns-in-Choose-clause-inside : goal.returns-in-Choose-clause-inside
@@ -57,23 +60,28 @@ returns-in-Either-clause-inside c n t h =
 
 pub returns-in-Time-clause-inside : goal.returns-in-Time-clause-inside
 returns-in-Time-clause-inside c n t h =
-    let p = point_by n c.args.self then.Time c.in-Time.is h in c.at_time.ensures.inside n (parts_by n c.args.self then.Time c.in-Time.is h) c.tell-answer.ensures.point p.1
+    let p = point_by n c.args.self then.Time c.in-Time.is h in
+    c.at_time.ensures.inside n (parts_by n c.args.self then.Time c.in-Time.is h) c.tell-answer.ensures.point p.1
 
 pub returns-in-Space-clause-inside : goal.returns-in-Space-clause-inside
 returns-in-Space-clause-inside c n t h =
-    let p = point_by n c.args.self then.Space c.in-Space.is h in c.at_space.ensures.inside n (parts_by n c.args.self then.Space c.in-Space.is h) c.tell-answer.ensures.point p.0
+    let p = point_by n c.args.self then.Space c.in-Space.is h in
+    c.at_space.ensures.inside n (parts_by n c.args.self then.Space c.in-Space.is h) c.tell-answer.ensures.point p.0
 
 pub returns-in-Find-clause-inside : goal.returns-in-Find-clause-inside
 returns-in-Find-clause-inside c n t h =
-    let p = point_by n c.args.self (then.Find c.in-Find.wanted) c.in-Find.is h in c.find.ensures.inside n (parts_by n c.args.self (then.Find c.in-Find.wanted) c.in-Find.is h) t p
+    let p = point_by n c.args.self (then.Find c.in-Find.wanted) c.in-Find.is h in
+    c.find.ensures.inside n (parts_by n c.args.self (then.Find c.in-Find.wanted) c.in-Find.is h) t p
 
 pub returns-in-Count-clause-inside : goal.returns-in-Count-clause-inside
 returns-in-Count-clause-inside c n t h =
-    let p = point_by n c.args.self (then.Count c.in-Count.seen c.in-Count.until) c.in-Count.is h in c.count.ensures.inside n (parts_by n c.args.self (then.Count c.in-Count.seen c.in-Count.until) c.in-Count.is h) p.1
+    let p = point_by n c.args.self (then.Count c.in-Count.seen c.in-Count.until) c.in-Count.is h in
+    c.count.ensures.inside n (parts_by n c.args.self (then.Count c.in-Count.seen c.in-Count.until) c.in-Count.is h) p.1
 
 pub returns-in-Argument-clause-inside : goal.returns-in-Argument-clause-inside
 returns-in-Argument-clause-inside c n t h =
-    let p = point_by n c.args.self (then.Argument c.in-Argument.op) c.in-Argument.is h in c.argument.ensures.inside n (parts_by n c.args.self (then.Argument c.in-Argument.op) c.in-Argument.is h) p.0 p.1
+    let p = point_by n c.args.self (then.Argument c.in-Argument.op) c.in-Argument.is h in
+    c.argument.ensures.inside n (parts_by n c.args.self (then.Argument c.in-Argument.op) c.in-Argument.is h) p.0 p.1
 
 pub returns-in-Judge-clause-inside : goal.returns-in-Judge-clause-inside
 returns-in-Judge-clause-inside c n t h = c.judge.ensures.inside n

@@ -8,5 +8,6 @@ use Rattle.lucid_forms.proofs.operator.StreamOp.find.Goals as goal
 pub returns : goal.returns
 returns c =
     let test = λ (op : StreamOp). same_bytes (stream_row op).spelling c.args.spelling.now in
-    let found = find_from_yields_List test _ _ c.find.result c.find.ensures.ran (YieldsList-from_slice c.args.operators.now cc) (λ x b q k. search (rules, tests)) in
+    let found = find_from_yields_List test _ _ c.find.result c.find.ensures.ran (YieldsList-from_slice c.args.operators.now cc)
+    (λ x b q k. search (rules, tests)) in
     search (rules, found)

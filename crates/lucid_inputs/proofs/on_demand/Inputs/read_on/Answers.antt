@@ -10,7 +10,8 @@ invariant_of-self g c =
     let was = slice_get_read items _ c.args.stream c.index_mut.result.now refl within c.index_mut.ensures.value in
     record {
       ends = c.args.self.now.ends;
-      apart = subst (AllPairs (λ a b. a ≢ b)) (sym (places-set items c.args.stream c.index_mut.result.now c.demand.new.self was c.demand.ensures.on.place)) c.args.self.now.apart;
+      apart = subst (AllPairs (λ a b. a ≢ b)) (sym (places-set items c.args.stream c.index_mut.result.now c.demand.new.self was c.demand.ensures.on.place))
+          c.args.self.now.apart;
       within = all_within items c.args.stream c.demand.new.self c.args.self.now.most within c.args.self.now.within c.demand.ensures.within;
     }
 
@@ -33,7 +34,8 @@ returns-clause-too_large g c =
     let within : c.args.stream < length items = omega (arith, c.requires.stream, length-map items stream_of) in
     let was = slice_get_read items _ c.args.stream c.index_mut.result.now refl within c.index_mut.ensures.value in
     let is = slice_get-set_same items c.args.stream c.demand.new.self within in
-    too_large_at _ _ _ _ _ _ _ _ (g.P.Places.world c.args.places.now) (at_is items _ _ was) (at_is (slice_set items c.args.stream c.demand.new.self) _ _ is) c.demand.ensures.too_large
+    too_large_at _ _ _ _ _ _ _ _ (g.P.Places.world c.args.places.now) (at_is items _ _ was) (at_is (slice_set items c.args.stream c.demand.new.self) _ _ is)
+    c.demand.ensures.too_large
 
 pub returns-clause-not_too_large : goal.returns-clause-not_too_large
 returns-clause-not_too_large g c =

@@ -18,7 +18,8 @@ pub returns-clause-not_too_large : goal.returns-clause-not_too_large
 returns-clause-not_too_large g c =
     let new = c.ready.new.self in
     let same = c.ready.ensures.same in
-    let on = subst (λ s. ReadsOn c.args.index (stream_of c.args.self.now) s (g.P.Places.world c.args.places.now) (g.P.Places.world c.read_on.new.places)) (sym same) c.in_ok-read_on.ensures.on in
+    let on = subst (λ s. ReadsOn c.args.index (stream_of c.args.self.now) s (g.P.Places.world c.args.places.now) (g.P.Places.world c.read_on.new.places))
+    (sym same) c.in_ok-read_on.ensures.on in
     let within = subst (λ s. IsWithin s c.args.most) (sym same) c.in_ok-read_on.ensures.within in
     let long = length-map new.elements.items element_of in
     ok_then _ _ _ c.ready.ensures.ready

@@ -27,7 +27,8 @@ decreases-search l = l.at.now.limit * 2 ^ 32 + 2 * (nodes l.subject.now + nodes 
 -- what is left finds what the whole search finds
 abbrev pub invariant-search-loop-j : goal.invariant-search-loop-j
 invariant-search-loop-j l =
-    found_by l.self.streams.now l.at.limit l.subject l.test (env_of l.at.env.now) l.at.limit 0 l.number l.at.space ≡ found_by l.self.streams.now l.at.limit l.subject l.test (env_of l.at.env.now) (l.at.limit - l.j) l.j l.left l.at.space
+    found_by l.self.streams.now l.at.limit l.subject l.test (env_of l.at.env.now) l.at.limit 0 l.number l.at.space ≡ found_by l.self.streams.now l.at.limit
+    l.subject l.test (env_of l.at.env.now) (l.at.limit - l.j) l.j l.left l.at.space
 
 abbrev pub decreases-attime : goal.decreases-attime
 decreases-attime l = l.at.now.limit * 2 ^ 32 + 2 * (nodes l.left.now + nodes l.right.now) + 1
@@ -47,11 +48,13 @@ decreases-called l = l.at.now.limit * 2 ^ 32 + 1
 -- what is left counts what the whole count counts
 abbrev pub invariant-counted-loop-time : goal.invariant-counted-loop-time
 invariant-counted-loop-time l = record {
-  same : counted_by l.self.streams.now l.at.limit l.subject l.test (env_of l.at.env.now) l.at.time l.at.time 0 0 l.at.space ≡ counted_by l.self.streams.now l.at.limit l.subject l.test (env_of l.at.env.now) l.at.time (l.at.time - l.time) l.time l.number l.at.space;
+  same : counted_by l.self.streams.now l.at.limit l.subject l.test (env_of l.at.env.now) l.at.time l.at.time 0 0 l.at.space ≡ counted_by l.self.streams.now
+      l.at.limit l.subject l.test (env_of l.at.env.now) l.at.time (l.at.time - l.time) l.time l.number l.at.space;
   few : l.number ≤ l.time;
 }
 
 -- the values so far, and those of the rest, are all
 abbrev pub invariant-applied-loop-arg : goal.invariant-applied-loop-arg
 invariant-applied-loop-arg l =
-    each_value l.self.streams.now l.at.limit (trees_of l.arg-items) (env_of l.at.env.now) l.at.time l.at.space ≡ before_all (map plain l.values.items) (each_value l.self.streams.now l.at.limit (trees_of (drop l.arg-index l.arg-items)) (env_of l.at.env.now) l.at.time l.at.space)
+    each_value l.self.streams.now l.at.limit (trees_of l.arg-items) (env_of l.at.env.now) l.at.time l.at.space ≡ before_all (map plain l.values.items)
+    (each_value l.self.streams.now l.at.limit (trees_of (drop l.arg-index l.arg-items)) (env_of l.at.env.now) l.at.time l.at.space)

@@ -19,7 +19,8 @@ returns c =
     let here : next_bytes piece (spot_of files piece p) ≡ c.next_from.result.now =
     ap (λ k. next_bytes piece (record { source = option_map (bytes_at files) p.file; position = k })) (sym from) ∙ sym c.next_from.ensures.value in
     let same = spot_of-turned files piece p q refl (c.showing.ensures.position ∙ from) in
-    let long : length c.next_from-shown.result.now ≡ length c.next_from.result.now = ap length (c.next_from-shown.ensures.value ∙ sym c.next_from.ensures.value) in (
+    let long : length c.next_from-shown.result.now ≡ length c.next_from.result.now =
+    ap length (c.next_from-shown.ensures.value ∙ sym c.next_from.ensures.value) in (
       (
         refl,
         λ _. tt,

@@ -24,10 +24,12 @@ returns c =
     shown.before q past (subst (λ l. Contains l (fail_at c.args.place q)) (sym seen) fails) in
     let whole = subst (λ n. (c.shown_before-shown.result ≡ n) ⊎ Contains old (fail_at c.args.place (c.position-position.result + c.shown_before-shown.result)))
     (ap length (rest_left ∙ sym rest))
-    (subst (λ l. (c.shown_before-shown.result ≡ length c.rest_of-left.result.now) ⊎ Contains l (fail_at c.args.place (c.position-position.result + c.shown_before-shown.result))) seen shown.whole) in
+    (subst (λ l. (c.shown_before-shown.result ≡ length c.rest_of-left.result.now)
+    ⊎ Contains l (fail_at c.args.place (c.position-position.result + c.shown_before-shown.result))) seen shown.whole) in
     let clauses = piece_clauses _ c.args.place old c.spend_failure.new.failures.items _ c.shown_before-shown.result c.rest_of.result.now
     c.position-position.ensures told (omega (arith, shown.bound, ap length rest_left, ap length rest)) kept none before whole in
-    let shows = place_shown files _ _ p q _ was is refl (c.showing.ensures.position ∙ c.position-from.ensures) (c.showing.ensures.shown ∙ sym clauses.long) c.showing.ensures.used in (
+    let shows = place_shown files _ _ p q _ was is refl (c.showing.ensures.position ∙ c.position-from.ensures) (c.showing.ensures.shown ∙ sym clauses.long)
+    c.showing.ensures.used in (
       (
         refl,
         λ _. tt,

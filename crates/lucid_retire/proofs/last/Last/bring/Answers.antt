@@ -11,10 +11,12 @@ pub returns-clause-front : goal.returns-clause-front
 returns-clause-front c =
     let room = c.self.inside.recent.cap in
     let same = keys_of-push c.self.inside.recent.entries room c.args.key c.len-count.ensures.valid.1 c.len-count.ensures.valid.2 in
-    rw (← c.self.view_is, c.in_ok-pushed.ensures.entries) (ap (λ ks. let r : Recency = record { keys = ks; room = room; unlisted = c.self.inside.unlisted } in r) same)
+    rw (← c.self.view_is, c.in_ok-pushed.ensures.entries)
+    (ap (λ ks. let r : Recency = record { keys = ks; room = room; unlisted = c.self.inside.unlisted } in r) same)
 
 pub returns-clause-out : goal.returns-clause-out
 returns-clause-out c =
     let falls = fallen-displaced c.self.inside.recent.entries c.self.inside.recent.cap c.args.key c.len-count.ensures.valid.1 c.len-count.ensures.valid.2 in
     c.fallen.ensures ∙ ap (fallen_of c.args.key) c.in_ok-pushed.ensures.old
-    ∙ subst (λ (r : Recency). fallen_of c.args.key (displaced same_key c.self.inside.recent c.args.key tt) ≡ pushed_out r.room c.args.key r.keys) c.self.view_is falls
+    ∙ subst (λ (r : Recency). fallen_of c.args.key (displaced same_key c.self.inside.recent c.args.key tt) ≡ pushed_out r.room c.args.key r.keys) c.self.view_is
+    falls

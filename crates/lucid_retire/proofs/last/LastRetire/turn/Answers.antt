@@ -6,7 +6,8 @@ pub returns-then-len-room-clause-dropped : goal.returns-then-len-room-clause-dro
 returns-then-len-room-clause-dropped c =
     let some : 0 < count_of c.args.warehouse.now = omega arith in
     let over : c.args.self.now.room < count_of c.note.new.warehouse = omega arith in
-    rw (c.clear.ensures, c.forget-then-len-room.ensures) (cut_turn c.args.self.now c.keeps_rules.ensures c.note.new.self c.args.warehouse.now c.note.new.warehouse
+    rw (c.clear.ensures, c.forget-then-len-room.ensures)
+    (cut_turn c.args.self.now c.keeps_rules.ensures c.note.new.self c.args.warehouse.now c.note.new.warehouse
     c.note.ensures.notes c.note.ensures.lost c.note.ensures.forgotten c.len.ensures.one_for_each c.len-2.ensures.one_for_each some (lt-ltb _ _ over))
 
 pub returns-else-len-room-clause-dropped : goal.returns-else-len-room-clause-dropped

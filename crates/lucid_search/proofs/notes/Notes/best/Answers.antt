@@ -3,7 +3,9 @@ use Rattle.lucid_search.proofs.NumberedLemmas.{best_at, best_before, none_low}
 use Rattle.lucid_search.proofs.notes.Notes.best.Goals as goal
 
 pub returns-in-Ok-clause-best : goal.returns-in-Ok-clause-best
-returns-in-Ok-clause-best c = rw (← c.self.view_is) (best_at c.self.inside.pairs.items c.self.invariant c.args.key c.in-Ok.at c.index.result.now (subst (λ v. IsAt v c.args.key c.in-Ok.at) (sym c.self.view_is) c.in-Ok.ensures.found) c.index.ensures)
+returns-in-Ok-clause-best c = rw (← c.self.view_is)
+    (best_at c.self.inside.pairs.items c.self.invariant c.args.key c.in-Ok.at c.index.result.now
+    (subst (λ v. IsAt v c.args.key c.in-Ok.at) (sym c.self.view_is) c.in-Ok.ensures.found) c.index.ensures)
 
 pub returns-in-Err-eq0-clause-none : goal.returns-in-Err-eq0-clause-none
 returns-in-Err-eq0-clause-none c =
@@ -13,4 +15,5 @@ returns-in-Err-eq0-clause-none c =
 pub returns-in-Err-clause-best : goal.returns-in-Err-clause-best
 returns-in-Err-clause-best c =
     let some : 0 < c.in-Err.after = search rules in
-    rw (← c.self.view_is) (best_before c.self.inside.pairs.items c.self.invariant c.args.key c.in-Err.after c.index-in-Err.result.now (subst (λ v. IsGapFor v c.args.key c.in-Err.after) (sym c.self.view_is) c.in-Err.ensures.absent) some c.index-in-Err.ensures)
+    rw (← c.self.view_is) (best_before c.self.inside.pairs.items c.self.invariant c.args.key c.in-Err.after c.index-in-Err.result.now
+    (subst (λ v. IsGapFor v c.args.key c.in-Err.after) (sym c.self.view_is) c.in-Err.ensures.absent) some c.index-in-Err.ensures)

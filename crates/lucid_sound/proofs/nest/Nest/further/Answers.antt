@@ -5,7 +5,8 @@ use Rattle.lucid_sound.proofs.nest.Nest.further.Goals as goal
 
 pub returns-else-index-level-clause-less : goal.returns-else-index-level-clause-less
 returns-else-index-level-clause-less c =
-    next-low c.args.rows.now c.requires.right c.args.at c.requires.known (inner-some c.args.rows.now c.requires.right _ _ c.requires.nest c.args.at c.args.level c.requires.known c.requires.deeper)
+    next-low c.args.rows.now c.requires.right c.args.at c.requires.known
+    (inner-some c.args.rows.now c.requires.right _ _ c.requires.nest c.args.at c.args.level c.requires.known c.requires.deeper)
 
 pub returns-else-index-level-clause-round : goal.returns-else-index-level-clause-round
 returns-else-index-level-clause-round c = parent-round c.args.rows.now c.requires.right _ _ c.requires.nest c.args.at c.requires.known

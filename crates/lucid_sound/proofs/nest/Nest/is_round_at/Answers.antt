@@ -8,7 +8,8 @@ returns-then-index-level c =
     let xs = c.args.rows.now in
     let e = get_or_read c.args.self.now.depths.items _ _ (omega (arith, c.requires.known, c.requires.nest.all_depths)) c.index.ensures 0 in (
       λ no. absurd (false≢true no),
-      λ w. absurd (none-deeper xs c.requires.right _ _ c.requires.nest c.args.outer c.args.scope c.args.level c.requires.known (omega (arith, e, c.if-index-level.true)) w),
+      λ w. absurd (none-deeper xs c.requires.right _ _ c.requires.nest c.args.outer c.args.scope c.args.level c.requires.known
+          (omega (arith, e, c.if-index-level.true)) w),
     )
 
 pub loop-at-init : goal.loop-at-init
@@ -27,5 +28,6 @@ pub returns : goal.returns
 returns c =
     let inv = c.loop-at.invariant in
     let e = get_or_read c.args.self.now.depths.items _ _ (omega (arith, inv.known, c.requires.nest.all_depths)) c.index-in-loop-at.ensures 0 in
-    let w = ended c.args.rows.now c.requires.right _ _ c.requires.nest c.loop-at.at c.args.outer c.args.scope c.args.level c.requires.known inv.known inv.round (omega (arith, e, inv.deep, c.loop-at-test.false)) in
+    let w = ended c.args.rows.now c.requires.right _ _ c.requires.nest c.loop-at.at c.args.outer c.args.scope c.args.level c.requires.known inv.known inv.round
+    (omega (arith, e, inv.deep, c.loop-at-test.false)) in
     (λ same. w.0 (eqb-true _ _ same), λ at. eq-eqb _ _ (w.1 at))

@@ -5,26 +5,31 @@ use Rattle.lucid_store.proofs.datons.Datons.renew.Goals as goal
 pub returns-in_err-index-clause-entries : goal.returns-in_err-index-clause-entries
 returns-in_err-index-clause-entries c =
     let l = beside c.self.inside.values.entries c.self.inside.ages in
-    let none : lookup (same_key c.args.key) l ≡ None = none-beside c.args.key c.self.inside.values.entries c.self.inside.ages (none_from_test _ (sym c.in_err-index.ensures.found)) in
+    let none : lookup (same_key c.args.key) l ≡ None =
+    none-beside c.args.key c.self.inside.values.entries c.self.inside.ages (none_from_test _ (sym c.in_err-index.ensures.found)) in
     rw (← c.self.view_is) (absent-sets c.args.key l (option_map renewed (lookup (same_key c.args.key) l)) (ap (option_map renewed) none) none)
 
 pub returns-in_err-index-clause-found : goal.returns-in_err-index-clause-found
 returns-in_err-index-clause-found c =
-    ap is_some c.from_residual.ensures ∙ rw (← c.self.view_is) (c.in_err-index.ensures.found ∙ sym (found-beside c.args.key c.self.inside.values.entries c.self.inside.ages))
+    ap is_some c.from_residual.ensures ∙ rw (← c.self.view_is)
+    (c.in_err-index.ensures.found ∙ sym (found-beside c.args.key c.self.inside.values.entries c.self.inside.ages))
 
 pub returns-in_err-index-clause-value : goal.returns-in_err-index-clause-value
 returns-in_err-index-clause-value c =
     let l = beside c.self.inside.values.entries c.self.inside.ages in
-    let none : lookup (same_key c.args.key) l ≡ None = none-beside c.args.key c.self.inside.values.entries c.self.inside.ages (none_from_test _ (sym c.in_err-index.ensures.found)) in
+    let none : lookup (same_key c.args.key) l ≡ None =
+    none-beside c.args.key c.self.inside.values.entries c.self.inside.ages (none_from_test _ (sym c.in_err-index.ensures.found)) in
     ap (option_and_then (value_in c.args.self.now)) c.from_residual.ensures ∙ rw (← c.self.view_is) (sym (ap (option_map (λ (e : Entry). e.value)) none))
 
 pub returns-clause-entries : goal.returns-clause-entries
 returns-clause-entries c =
     let v = some_from_test _ (sym c.in_ok-index.ensures.found) in
-    rw (← c.self.view_is) (renew-sets c.args.key v.0 c.self.inside.values.entries c.self.inside.ages c.in_ok-index.index (sym c.in_ok-index.ensures.index) v.1 c.reset.new.self c.reset.ensures)
+    rw (← c.self.view_is) (renew-sets c.args.key v.0 c.self.inside.values.entries c.self.inside.ages c.in_ok-index.index (sym c.in_ok-index.ensures.index) v.1
+    c.reset.new.self c.reset.ensures)
 
 pub returns-clause-count : goal.returns-clause-count
-returns-clause-count c = rw (← c.self.view_is) (length-beside c.self.inside.values.entries c.reset.new.self ∙ sym (length-beside c.self.inside.values.entries c.self.inside.ages))
+returns-clause-count c = rw (← c.self.view_is) (length-beside c.self.inside.values.entries c.reset.new.self
+    ∙ sym (length-beside c.self.inside.values.entries c.self.inside.ages))
 
 pub returns-clause-found : goal.returns-clause-found
 returns-clause-found c = rw (← c.self.view_is) (c.in_ok-index.ensures.found ∙ sym (found-beside c.args.key c.self.inside.values.entries c.self.inside.ages))

@@ -8,7 +8,8 @@ use Rattle.lucid_tags.proofs.rows.Table.intern.Goals as goal
 pub returns-in_err-index-clause-unknown : goal.returns-in_err-index-clause-unknown
 returns-in_err-index-clause-unknown c =
     on_err c.from_residual.result
-    (fresh-none c.args.self.now.rows.keys c.args.self.now.depths.items c.requires.rows c.args.row c.requires.base c.requires.caller c.in_err-index.ensures.absent)
+    (fresh-none c.args.self.now.rows.keys c.args.self.now.depths.items c.requires.rows c.args.row c.requires.base c.requires.caller
+    c.in_err-index.ensures.absent)
 
 pub returns-then-not-added-clause-rows : goal.returns-then-not-added-clause-rows
 returns-then-not-added-clause-rows c =
@@ -50,7 +51,8 @@ returns-clause-rows c =
     } in
     let over = IsDepthOver-before rows c.args.row c.depth_over-depth.result c.requires.base
     (subst (λ k. IsDepthOver (contexts k) c.args.row.base c.depth_over-depth.result) more there) in
-    rw (more, deeper) (AreRows-push rows c.args.self.now.depths.items c.requires.rows c.args.row c.depth_over-depth.result (addable rows c.args.row c.requires.base c.requires.caller absent few) over)
+    rw (more, deeper) (AreRows-push rows c.args.self.now.depths.items c.requires.rows c.args.row c.depth_over-depth.result
+    (addable rows c.args.row c.requires.base c.requires.caller absent few) over)
 
 pub returns-clause-within : goal.returns-clause-within
 returns-clause-within c = omega (arith, c.in_ok-index.ensures.within, length-contexts c.insert_full.new.self.keys)

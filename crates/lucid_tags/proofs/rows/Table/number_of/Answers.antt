@@ -6,7 +6,8 @@ use Rattle.lucid_tags.proofs.rows.Table.number_of.Goals as goal
 pub returns-in_err-index-clause-unknown : goal.returns-in_err-index-clause-unknown
 returns-in_err-index-clause-unknown c =
     if_none c.from_residual.result
-    (fresh-none c.args.self.now.rows.keys c.args.self.now.depths.items c.requires.rows c.args.row c.requires.base c.requires.caller (sym c.in_err-index.ensures.found))
+    (fresh-none c.args.self.now.rows.keys c.args.self.now.depths.items c.requires.rows c.args.row c.requires.base c.requires.caller
+    (sym c.in_err-index.ensures.found))
 
 pub returns-clause-within : goal.returns-clause-within
 returns-clause-within c =

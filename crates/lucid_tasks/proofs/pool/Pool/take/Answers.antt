@@ -8,8 +8,10 @@ returns-in-Some-clause-value c =
     let items = c.self.inside.values.items in
     let same = ap (λ (v : Values). v.0) c.self.view_is in
     let len = ap length same in
-    let at = last_is_at c.args.self.now.0 items c.deref.result.now c.args.number c.in-Some.last.now c.deref.ensures.value same c.in-Some.ensures.value c.if-last-number.true in
-    let left = last_of c.take_last.new.self.items items c.take_last.result (length c.args.self.now.0 - 1) c.take_last.ensures.items (omega (arith, at.in_range, len)) in
+    let at = last_is_at c.args.self.now.0 items c.deref.result.now c.args.number c.in-Some.last.now c.deref.ensures.value same c.in-Some.ensures.value
+    c.if-last-number.true in
+    let left = last_of c.take_last.new.self.items items c.take_last.result (length c.args.self.now.0 - 1) c.take_last.ensures.items
+    (omega (arith, at.in_range, len)) in
     found_value c.args.self.now.0 items same c.args.number (length c.args.self.now.0 - 1) c.self.invariant.0 c.take_last.result at left.1
 
 pub returns-in-Some-clause-values : goal.returns-in-Some-clause-values
@@ -17,6 +19,9 @@ returns-in-Some-clause-values c =
     let items = c.self.inside.values.items in
     let same = ap (λ (v : Values). v.0) c.self.view_is in
     let len = ap length same in
-    let at = last_is_at c.args.self.now.0 items c.deref.result.now c.args.number c.in-Some.last.now c.deref.ensures.value same c.in-Some.ensures.value c.if-last-number.true in
-    let left = last_of c.take_last.new.self.items items c.take_last.result (length c.args.self.now.0 - 1) c.take_last.ensures.items (omega (arith, at.in_range, len)) in
-    found_removed c.args.self.now.0 items same c.args.number (length c.args.self.now.0 - 1) c.self.invariant.0 c.take_last.result c.take_last.new.self.items at left.0
+    let at = last_is_at c.args.self.now.0 items c.deref.result.now c.args.number c.in-Some.last.now c.deref.ensures.value same c.in-Some.ensures.value
+    c.if-last-number.true in
+    let left = last_of c.take_last.new.self.items items c.take_last.result (length c.args.self.now.0 - 1) c.take_last.ensures.items
+    (omega (arith, at.in_range, len)) in
+    found_removed c.args.self.now.0 items same c.args.number (length c.args.self.now.0 - 1) c.self.invariant.0 c.take_last.result c.take_last.new.self.items at
+    left.0

@@ -8,7 +8,9 @@ index-requires c =
     search rules
 
 pub returns-clause-slot : goal.returns-clause-slot
-returns-clause-slot c = slot_is_word c.self.inside.rows.items c.self.inside.pool c.args.slot c.self.invariant (subst (λ v. IsRow v c.args.slot) (sym c.self.view_is) c.requires)
+returns-clause-slot c = slot_is_word c.self.inside.rows.items c.self.inside.pool c.args.slot c.self.invariant
+    (subst (λ v. IsRow v c.args.slot) (sym c.self.view_is) c.requires)
 
 pub returns-clause-row : goal.returns-clause-row
-returns-clause-row c = rw (← c.self.view_is) (shows c.self.inside.rows.items c.self.inside.pool c.args.slot c.index.result.now (subst (λ v. IsRow v c.args.slot) (sym c.self.view_is) c.requires) c.index.ensures c.self.invariant)
+returns-clause-row c = rw (← c.self.view_is) (shows c.self.inside.rows.items c.self.inside.pool c.args.slot c.index.result.now
+    (subst (λ v. IsRow v c.args.slot) (sym c.self.view_is) c.requires) c.index.ensures c.self.invariant)

@@ -12,12 +12,14 @@ invariant_of-self c =
     let some = subst (λ v. IsRow v c.args.slot) (sym c.self.view_is) c.requires in
     let row = c.index_mut.result.now in
     words_laid c.self.inside.rows.items c.self.inside.pool c.self.invariant c.args.slot row (record row { cursor = c.args.cursor })
-    (at_it c.self.inside.rows.items c.self.inside.pool c.args.slot row some c.index_mut.ensures.value) (live_it c.self.inside.rows.items c.self.inside.pool c.args.slot row some c.index_mut.ensures.value) refl refl
+    (at_it c.self.inside.rows.items c.self.inside.pool c.args.slot row some c.index_mut.ensures.value)
+    (live_it c.self.inside.rows.items c.self.inside.pool c.args.slot row some c.index_mut.ensures.value) refl refl
 
 pub returns : goal.returns
 returns c =
     let some = subst (λ v. IsRow v c.args.slot) (sym c.self.view_is) c.requires in
     let row = c.index_mut.result.now in
     rw (← c.self.view_is) (words_changes c.self.inside.rows.items c.self.inside.pool c.self.invariant c.args.slot row (record row { cursor = c.args.cursor })
-    (at_it c.self.inside.rows.items c.self.inside.pool c.args.slot row some c.index_mut.ensures.value) (live_it c.self.inside.rows.items c.self.inside.pool c.args.slot row some c.index_mut.ensures.value) refl refl
+    (at_it c.self.inside.rows.items c.self.inside.pool c.args.slot row some c.index_mut.ensures.value)
+    (live_it c.self.inside.rows.items c.self.inside.pool c.args.slot row some c.index_mut.ensures.value) refl refl
     (with_cursor c.args.cursor) refl)
