@@ -2,8 +2,6 @@
 ghost use Rattle.std.specs.Prelude.{◌≡◌, ℕ, ◌<◌, ◌≤◌, ◌^◌, [], Some, None, map, length, ◌++◌, ◌∷◌, IfOk, OnOk, IfErr, IfSome, IfNone, option_to_list};
 ghost use Rattle.std.specs.List.{AllByRecursion};
 ghost use Rattle.lucid_value.specs.View.{plain};
-ghost use Rattle.lucid_ops.specs.Algebra.{algebra};
-ghost use Rattle.lucid_ops.specs.Arity.{arity};
 ghost use Rattle.lucid_tree.specs.Rows.{last};
 ghost use Rattle.lucid_tree.specs.Levels.{Elements};
 ghost use Rattle.lucid_tags.specs.Contexts.{Context};
@@ -27,12 +25,12 @@ ghost use Rattle.lucid_cert.specs.Makings.{HasUse};
 use crate::elements::element;
 use crate::making::{Making, Next, is_allowed};
 use indexmap::IndexSet;
+use lucid_check::{applied, told};
 use lucid_demand::DemandFault;
 use lucid_equations::{Node, Program};
 use lucid_follow::{Look, Position, Rest, begin, onward, rows_of};
 use lucid_inputs::Inputs;
 use lucid_lists::Numbers;
-use lucid_ops::{Op, apply_to_one, apply_to_three, apply_to_two};
 use lucid_ports::Places;
 use lucid_tags::{Key, Tags};
 use lucid_value::Value;
@@ -162,29 +160,7 @@ impl<'a> Maker<'a> {
         requires { number < length (judgments_of self.now) }
         ensures { plain result.now ≡ told (judgments_of self.now) number }
     {
-        &self.judgments[number as usize].value
-    }
-
-    // An operator applied to the values of uses.
-    fn applied(&self, op: Op, uses: &[u64]) -> Result<Value, AllocError>
-        requires there { AllByRecursion (λ u. u < length (judgments_of self.now)) uses.now }
-        requires count { length uses.now ≡ arity op }
-        ensures { IfOk result (λ v. plain v ≡ algebra op (map (told (judgments_of self.now)) uses.now)) }
-    {
-        match uses {
-            [first] => apply_to_one(self.alloc, op, self.value(*first)),
-            [first, second] => {
-                apply_to_two(self.alloc, op, self.value(*first), self.value(*second))
-            }
-            [first, second, third] => apply_to_three(
-                self.alloc,
-                op,
-                self.value(*first),
-                self.value(*second),
-                self.value(*third),
-            ),
-            _ => unreachable!(),
-        }
+        told(self.judgments.as_slice(), number)
     }
 
     // The value that a plan gives by itself, once it looks at nothing more.
@@ -200,7 +176,7 @@ impl<'a> Maker<'a> {
             Rest::Truth(holds) => Ok(Value::Truth(holds)),
             Rest::End => Ok(Value::Eod),
             Rest::Fault => Ok(Value::Fault),
-            Rest::Apply(op) => self.applied(op, uses),
+            Rest::Apply(op) => applied(self.alloc, op, self.judgments.as_slice(), uses),
         }
     }
 

@@ -2,8 +2,6 @@
 ghost use Rattle.std.specs.Prelude.{◌≡◌, ℕ, ◌+◌, ◌<◌, ◌≤◌, ◌^◌, ◌↔◌, true, Some, map, length, option_map, IfOk, IfSome, MatchOption};
 ghost use Rattle.std.specs.List.{AllByRecursion};
 ghost use Rattle.lucid_value.specs.View.{plain};
-ghost use Rattle.lucid_ops.specs.Algebra.{algebra};
-ghost use Rattle.lucid_ops.specs.Arity.{arity};
 ghost use Rattle.lucid_tree.specs.Tree.{Head};
 ghost use Rattle.lucid_tree.specs.Rows.{plan};
 ghost use Rattle.lucid_tree.specs.Levels.{Elements};
@@ -25,10 +23,10 @@ ghost use Rattle.lucid_check.specs.Uses.{told, gives_only, plain_look, IsFed};
 
 use crate::elements::is_element;
 use crate::fault::CheckFault;
+use crate::uses::applied;
 use lucid_equations::{Node, Program};
 use lucid_follow::{Look, Position, Rest, begin, context_at, enter_all, onward};
 use lucid_inputs::Inputs;
-use lucid_ops::{Op, apply_to_one, apply_to_three, apply_to_two};
 use lucid_ports::Places;
 use lucid_tags::{Tag, Tags};
 use lucid_tree::LAST;
@@ -72,36 +70,6 @@ impl<'a> Check<'a> {
         }
     }
 
-    // The value of a judgment.
-    fn told(&self, number: u64) -> &'a Value
-        requires { number < length (judgments_of self.now) }
-        ensures { plain result.now ≡ told (judgments_of self.now) number }
-    {
-        &self.judgments[number as usize].value
-    }
-
-    // An operator applied to the values of uses.
-    fn applied(&self, op: Op, uses: &[u64]) -> Result<Value, AllocError>
-        requires there { AllByRecursion (λ u. u < length (judgments_of self.now)) uses.now }
-        requires count { length uses.now ≡ arity op }
-        ensures { IfOk result (λ v. plain v ≡ algebra op (map (told (judgments_of self.now)) uses.now)) }
-    {
-        match uses {
-            [first] => apply_to_one(self.alloc, op, self.told(*first)),
-            [first, second] => {
-                apply_to_two(self.alloc, op, self.told(*first), self.told(*second))
-            }
-            [first, second, third] => apply_to_three(
-                self.alloc,
-                op,
-                self.told(*first),
-                self.told(*second),
-                self.told(*third),
-            ),
-            _ => unreachable!(),
-        }
-    }
-
     // Whether what is left of a plan gives the judgment's value by itself.
     fn gives(&self, rest: Rest, row: &JudgmentRow) -> Result<bool, AllocError>
         requires there { AllByRecursion (λ u. u < length (judgments_of self.now)) row.now.uses }
@@ -114,7 +82,9 @@ impl<'a> Check<'a> {
             Rest::Truth(holds) => matches!(&row.value, Value::Truth(told) if *told == holds),
             Rest::End => matches!(&row.value, Value::Eod),
             Rest::Fault => matches!(&row.value, Value::Fault),
-            Rest::Apply(op) => self.applied(op, row.uses.items())?.same(&row.value),
+            Rest::Apply(op) => applied(self.alloc, op, self.judgments, row.uses.items())?.same(
+                &row.value,
+            ),
         })
     }
 

@@ -3,7 +3,9 @@
 
 pub use crate::check::check_why;
 pub use crate::fault::CheckFault;
+pub use crate::uses::{applied, told};
 
 mod check;
 mod elements;
 mod fault;
+mod uses;
