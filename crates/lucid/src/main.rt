@@ -3,10 +3,11 @@
 
 ghost use Rattle.std.specs.Prelude.{◌≡◌, ◌≢◌};
 ghost use Rattle.std.specs.Process.{exit_status};
-ghost use Rattle.lucid_top.specs.Status.{code_of};
+ghost use Rattle.lucid_report.specs.Status.{code_of};
 
 use lucid_ports::{RealPlaces, RealSink};
-use lucid_top::{Refusal, Status, Stop, lucid_from_arguments, tell};
+use lucid_report::{Refusal, Status, Stop, tell};
+use lucid_top::lucid_from_arguments;
 use std::fs::File;
 use std::io::ErrorKind;
 use std::process::ExitCode;

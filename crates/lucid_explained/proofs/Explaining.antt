@@ -1,7 +1,7 @@
 -- A call with a report in memory, and a report with its line.
 use Rattle.lucid_explained.proofs.Common.{◌≡◌, ℕ, List, [], subst, Text}
 use Rattle.lucid_session.specs.Runs.{Told}
-use Rattle.lucid_top.specs.declared.status.Status.{Status}
+use Rattle.lucid_report.specs.declared.status.Status.{Status}
 use Rattle.lucid_top.specs.Call.{Call}
 use Rattle.lucid_top.specs.Clauses.{MeetsClauses}
 use Rattle.lucid_explained.specs.Files.{Files}

@@ -3,10 +3,10 @@ use Rattle.std.specs.Prelude.{◌≡◌, ℕ, Bool, true, false, List, [], codes
 use Rattle.clap.specs.Words.{Text}
 use Rattle.lucid_ports.specs.declared.fault.PortFault.{PortFault}
 use Rattle.lucid_session.specs.Runs.{Told}
-use Rattle.lucid_top.specs.declared.status.Status.{Status}
+use Rattle.lucid_report.specs.declared.status.Status.{Status}
 use Rattle.lucid_top.specs.Call.{Call}
 use Rattle.lucid_top.specs.Clauses.{MeetsClauses}
-use Rattle.lucid_top.specs.Telling.{WritesWhole, WritesLine}
+use Rattle.lucid_report.specs.Telling.{WritesWhole, WritesLine}
 use Rattle.lucid_explained.specs.Files.{Files}
 use Rattle.lucid_explained.specs.Said.{IsExplanation}
 use Rattle.lucid_explained.specs.Prompted.{IsPrompt}

@@ -4,7 +4,7 @@ ghost use Rattle.std.specs.String.{string_bytes};
 ghost use Rattle.lucid_words.specs.Asked.{words_asked};
 ghost use Rattle.lucid_top.specs.Call.{call};
 ghost use Rattle.lucid_session.specs.Runs.{told};
-ghost use Rattle.lucid_top.specs.Telling.{WritesLine};
+ghost use Rattle.lucid_report.specs.Telling.{WritesLine};
 ghost use Rattle.lucid_explained.specs.Said.{IsExplanation};
 ghost use Rattle.lucid_explained.specs.Prompted.{IsPrompt};
 ghost use Rattle.lucid_explained.specs.Explained.{unsaid_text, WritesText, Prompts, Reports, IsExplained};
@@ -13,7 +13,8 @@ use crate::causes::explain;
 use crate::outlook::Outlook;
 use crate::prompt::text_of_prompt;
 use lucid_ports::{MemorySink, Places, PortFault, Sink, write_whole};
-use lucid_top::{Status, lucid};
+use lucid_report::Status;
+use lucid_top::lucid;
 use std::alloc::{AllocError, Global};
 
 // Writes a line whole.

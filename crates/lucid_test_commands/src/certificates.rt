@@ -1,7 +1,7 @@
 //! Certificates that are made and checked: a value that they tell, a judgment that doesn't follow, and the order of what is looked at.
 use crate::row::{DONE, REFUSED, Row, TOO_DEEP, USAGE, call, each_passes, places_of};
 use lucid_ports::{Endless, FailAt};
-use lucid_top::Status;
+use lucid_report::Status;
 use std::process::Abort;
 use std::test::Fail;
 

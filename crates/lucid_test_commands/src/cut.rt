@@ -1,7 +1,7 @@
 //! A source that is cut after each of its bytes.
 use crate::inputs::{SALES, THREE_SALES};
 use crate::row::{call, places_of};
-use lucid_top::Status;
+use lucid_report::Status;
 use std::alloc::{AllocError, Global};
 use std::test::Fail;
 

@@ -1,7 +1,7 @@
 //! Judgments by the delays along cycles of references.
 use crate::row::{DONE, REFUSED, Row, each_passes};
+use lucid_report::Status;
 use lucid_test_programs::{COUNTING, FIBONACCI, SEARCH_WITHOUT_END};
-use lucid_top::Status;
 use std::test::Fail;
 
 // A depth that is enough, or a cycle. Words that a run would look at are not looked at.

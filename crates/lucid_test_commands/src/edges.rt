@@ -1,7 +1,7 @@
 //! The heaviest text and the deepest tree.
 use crate::row::{call, places_of};
+use lucid_report::Status;
 use lucid_test_programs::DOUBLING_TEXT;
-use lucid_top::Status;
 use std::test::Fail;
 
 // How often `not` stands before `true`, what comes of it, and what is written or reported.

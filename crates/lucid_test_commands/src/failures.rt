@@ -3,8 +3,8 @@ ghost use Rattle.std.specs.Prelude.{◌≤◌};
 
 use crate::row::{call, places_of, taken};
 use lucid_ports::FailAt;
+use lucid_report::Status;
 use lucid_test_programs::{COUNTING, RUNNING_SUM};
-use lucid_top::Status;
 use std::process::Abort;
 use std::test::Fail;
 

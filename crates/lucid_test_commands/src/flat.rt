@@ -4,8 +4,8 @@ use crate::inputs::{FAULTS, LINES};
 use crate::row::{DONE, REFUSED, Row, USAGE, Way, call, each_passes, each_passes_by};
 use crate::streams::{DEEP, POLICIES, UNCOUNTED};
 use lucid_ports::Endless;
+use lucid_report::Status;
 use lucid_test_programs::COUNTING;
-use lucid_top::Status;
 use std::test::Fail;
 
 const ONE: &str = "lucid flat 1\nconst 1\nnode 0 const 0\nroot 0\n";

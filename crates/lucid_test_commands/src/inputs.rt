@@ -1,8 +1,8 @@
 //! Programs over inputs: their lines, and how many bytes they consume.
 use crate::row::{DONE, Row, call, each_passes, file, places_of};
 use lucid_ports::{Endless, FailAt, Narrow};
+use lucid_report::Status;
 use lucid_test_programs::{COUNTING, RUNNING_SUM};
-use lucid_top::Status;
 use std::test::Fail;
 
 /// The total and the largest of sales, with a comment.

@@ -1,7 +1,7 @@
 //! Large runs and their figures.
 use crate::row::{call, places_of};
+use lucid_report::Status;
 use lucid_test_programs::{COUNTING, FIBONACCI, LONG_ADVANCE, NESTED_CURRENT};
-use lucid_top::Status;
 use std::alloc::{AllocError, Global};
 use std::process::Abort;
 use std::test::Fail;

@@ -1,7 +1,7 @@
 //! The worked programs by the command.
 use crate::row::{Row, Way, passes_by};
+use lucid_report::Status;
 use lucid_test_programs::{IN_CONTEXTS, OVER_INPUTS, OVER_SPACE, OVER_TIME, Worked};
-use lucid_top::Status;
 use std::alloc::{AllocError, Global};
 use std::process::Abort;
 use std::test::Fail;

@@ -1,7 +1,7 @@
 //! Sources and words that are refused.
 use crate::row::{REFUSED, Row, USAGE, call, each_passes, places_of};
+use lucid_report::Status;
 use lucid_test_programs::COUNTING;
-use lucid_top::Status;
 use std::test::Fail;
 
 // Bytes that are no tokens, and tokens that spell no program.

@@ -3,7 +3,8 @@ ghost use Rattle.std.specs.Prelude.{◌≡◌, ◌≤◌, IfOk, OnOk};
 ghost use Rattle.lucid_ports.specs.MemoryView.{memory_world};
 
 use lucid_ports::{FailAt, MemoryFile, MemoryPlaces, MemorySink, Places};
-use lucid_top::{Status, lucid};
+use lucid_report::Status;
+use lucid_top::lucid;
 use std::alloc::{AllocError, Global};
 use std::process::Abort;
 use std::test::Fail;

@@ -3,7 +3,7 @@ ghost use Rattle.std.specs.Prelude.{◌≡◌};
 
 use lucid_explained::{Again, Outlook, lucid_explain};
 use lucid_ports::{MemoryFile, MemoryPlaces, MemorySink, Places, Sink};
-use lucid_top::Status;
+use lucid_report::Status;
 use std::alloc::{AllocError, Global};
 use std::test::Fail;
 

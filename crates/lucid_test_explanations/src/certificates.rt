@@ -2,7 +2,7 @@
 use crate::call::{Answer, call_over, file, words_of};
 use lucid_explained::{Again, Outlook, line_text};
 use lucid_ports::{MemoryPlaces, MemorySink};
-use lucid_top::Status;
+use lucid_report::Status;
 use std::alloc::{AllocError, Global};
 use std::process::Abort;
 use std::test::Fail;

@@ -1,7 +1,7 @@
 //! Sources and words that nobody means, and ends of a run that need places of their own.
 use crate::call::{OneFile, call_over, file, plain_call};
 use lucid_ports::{Endless, MemoryPlaces, MemorySink, PortFault, Sink};
-use lucid_top::Status;
+use lucid_report::Status;
 use std::alloc::{AllocError, Global};
 use std::test::Fail;
 

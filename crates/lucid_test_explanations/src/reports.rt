@@ -1,6 +1,6 @@
 //! Reports with what explains them, over files in memory: a row for each line that is reported.
 use crate::call::{OneFile, call, plain_call};
-use lucid_top::Status;
+use lucid_report::Status;
 use std::process::Abort;
 use std::test::Fail;
 

@@ -4,7 +4,7 @@ use Rattle.std.proofs.Common.{Result}
 use Rattle.lucid_ports.specs.declared.run.RunFault.TheVariants as fault
 use Rattle.lucid_ports.proofs.WritingLemmas.{with_nothing}
 use Rattle.lucid_session.specs.Subject.{no_lines}
-use Rattle.lucid_top.specs.declared.stop.Stop.TheVariants as stop
+use Rattle.lucid_report.specs.declared.stop.Stop.TheVariants as stop
 
 -- what is promised of the result of a run
 abbrev pub RanWith : Program → RunView → Result Summary RunFault → Type 0

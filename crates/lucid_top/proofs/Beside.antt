@@ -2,7 +2,7 @@
 use Rattle.lucid_top.proofs.Common.{◌≡◌, ℕ, List, None, Ok, Err, inl, inr, sym, subst, ◌∙◌, IfOk, ∥∥₁_map, All-contains, PlainTree, IsWellMade, most_source_bytes, all_sites, HasNoFault, scoped_tree, scoped_inputs, Scoped, AreColumns, Refusal, Stop, IsRefusalOf, beside, RefusesNames, RefusesBeside, StandsBeside, HasInputs}
 use Rattle.std.proofs.Common.{Result}
 use Rattle.lucid_scope.specs.Bindings.{fault_of}
-use Rattle.lucid_top.specs.declared.stop.Stop.TheVariants as stop
+use Rattle.lucid_report.specs.declared.stop.Stop.TheVariants as stop
 use Rattle.lucid_top.specs.Judged.{RefusesColumns, AreResolved}
 use Rattle.lucid_top.proofs.FewInputs.{few_inputs}
 

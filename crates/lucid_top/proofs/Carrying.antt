@@ -8,7 +8,7 @@ use Rattle.lucid_session.specs.Subject.{OneStream, table_stream, table_stream_at
 use Rattle.lucid_session.specs.Runs.{PolicyView}
 use Rattle.lucid_session.specs.Figures.{Layout, one_stream, side_by_side, root_counted, table_counted, columns_counted}
 use Rattle.lucid_session.specs.Laws.{StandsFor, SameStreamsRunAlike, FiguresCarry}
-use Rattle.lucid_top.specs.declared.stop.Stop.TheVariants as stop
+use Rattle.lucid_report.specs.declared.stop.Stop.TheVariants as stop
 use Rattle.lucid_top.specs.declared.task.Task.TheVariants as task
 use Rattle.lucid_top.specs.Programs.{of_spaces, column_streams, tree_counted}
 use Rattle.lucid_top.specs.Runs.{policy_named}

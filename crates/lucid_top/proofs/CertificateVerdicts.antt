@@ -4,7 +4,7 @@ use Rattle.lucid_texts.proofs.TextsRead.{line_once}
 use Rattle.lucid_why.specs.WhyText.{why_lines}
 use Rattle.lucid_why.specs.WhyTexts.{AreWhyLines, IsTextOf, IsFirstWrongLine}
 use Rattle.lucid_why.specs.Laws.{OneWhy}
-use Rattle.lucid_top.specs.declared.refusal.Refusal.TheVariants as refusal
+use Rattle.lucid_report.specs.declared.refusal.Refusal.TheVariants as refusal
 
 -- bytes with a wrong line are no certificate's text
 no_text : (bytes : List ℕ) (line : ℕ) (w : Why) → IsFirstWrongLine bytes line → IsTextOf bytes w → ⊥

@@ -1,6 +1,6 @@
 -- A call that is about to make or to check a certificate, its source being read: the words NAME=FILE stop it, or the inputs have their files.
 use Rattle.lucid_top.proofs.Common.{◌≡◌, ◌+◌, ◌≤◌, true, length, Err, inl, inr, sym, ap, subst, ◌∙◌, arith, World, PlainWords, Stop, Task, Call, FitsGiven, RefusesGiven, IsRefusalOf, Asks, by_tree, by_given, HasFiles, certificate_of, certificate_places, first_place, first_input, run_places, WritesNothing, ProvesTable, Comes, Table, task_of, is_certificate}
-use Rattle.lucid_top.specs.declared.stop.Stop.TheVariants as stop
+use Rattle.lucid_report.specs.declared.stop.Stop.TheVariants as stop
 use Rattle.lucid_top.proofs.Ending.{first_place_le, rests_of, memory_stops}
 
 module _ (c : Call) (k : Task) (w : PlainWords) (t : Table) (v : World) (b : ProvesTable c k w t v) where

@@ -1,8 +1,8 @@
 -- How a call comes to its outcome that checks a certificate.
 use Rattle.lucid_top.proofs.Common.{◌≡◌, ℕ, ◌+◌, ◌≤◌, List, length, Some, Ok, Err, inl, inr, sym, ap, subst, ◌∙◌, arith, IfSome, slice_get, World, most_source_bytes, rises_from, file, PlainWords, Stop, Outcome, Call, of_tree, FitsGiven, files_for, Asks, by_certificate, MayCheck, IsCheck, IsSource, IsSourceStop, IsReadStop, KeepsNames, AreFresh, Run, first_place, first_input, certificate_of, run_places, viewed, view_of, Why, HeldCertificate, RefusesCertificate, Checks, CheckComesOnly, IsStopped, PlainTree, Table, ComesOnly, WritesNothing, reaches_certificate, reaches_checked, Rests, ProvesTable, Comes, range_with_len}
 use Rattle.lucid_session.specs.Subject.{table_stream, tree_stream}
-use Rattle.lucid_top.specs.declared.stop.Done.TheVariants as done
-use Rattle.lucid_top.specs.declared.stop.Stop.TheVariants as stop
+use Rattle.lucid_report.specs.declared.stop.Done.TheVariants as done
+use Rattle.lucid_report.specs.declared.stop.Stop.TheVariants as stop
 use Rattle.lucid_top.specs.declared.task.Task.TheVariants as task
 use Rattle.lucid_top.specs.Runs.{most_places, world_before, world_after}
 use Rattle.lucid_top.proofs.Certifying.{words_are, first_is, has_files, places_are}

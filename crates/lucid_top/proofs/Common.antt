@@ -45,25 +45,25 @@ pub use Rattle.lucid_top.specs.Flat.{HasTable, RefusesFlat, SpellsTable, by_leng
 pub use Rattle.lucid_top.specs.Headline.{Headline, Lines, RunsProgram, elements, one_line_more}
 pub use Rattle.lucid_top.specs.Judged.{HasInputs, HasTokens, RefusesBeside, RefusesJudging, RefusesNames, RefusesText, Spelt, StandsBeside, by_parse, by_scan}
 pub use Rattle.lucid_top.specs.Laws.{CertificateIsNotRefused, OneCertificate, OneCertificateRefusal, OneFlatRefusal, OneFlatTable, OneListOfInputs, OneNameRefusal, OneTextRefusal, TableIsNotRefused}
-pub use Rattle.lucid_top.specs.Lines.{line_of}
+pub use Rattle.lucid_report.specs.Lines.{line_of}
 pub use Rattle.lucid_top.specs.Makes.{ForSomeAdded, IsMakingStop, IsNotMade, Makes, MakesTree, MakingComesOnly}
 pub use Rattle.lucid_top.specs.Places.{AreFresh, AreKept, AreUnread, FlatBySource, HasReached, IsAcceptedBeside, IsColumnsStop, IsProgramStop, IsReadStop, IsSourceStop, KeepsNames, ReadsCertificate, ReadsPlace, ReadsSource, SpeltBySource, most_read}
 pub use Rattle.lucid_top.specs.Programs.{Program, beside, of_columns, of_table, of_tree, program_counted, program_subject}
-pub use Rattle.lucid_top.specs.Refusals.{IsRefusalOf, build_stop, judge_stop, parse_stop, scan_stop}
+pub use Rattle.lucid_report.specs.Refusals.{IsRefusalOf, build_stop, judge_stop, parse_stop, scan_stop}
 pub use Rattle.lucid_top.specs.Running.{IsRunStop, RunComesOnly}
 pub use Rattle.lucid_top.specs.Runs.{RanSo, Run, certificate_of, certificate_places, first_input, most_input_bytes, run_of, run_places, run_result, table_program, unread_place, view_of, viewed}
 pub use Rattle.lucid_top.specs.Sources.{IsSource, IsTold, first_place}
 pub use Rattle.lucid_top.specs.Stages.{Asks, HasColumns, HasFiles, HasFlat, HasNames, HasTree, IsAskedFor, IsCheck, IsForCertificate, IsMaking, IsRun, IsTextFor, IsWriting, MayCheck, WantsInputs, asks_for, by_certificate, by_columns, by_flat, by_given, by_judging, by_missing, by_names, by_table, by_text, by_tree, by_words, certificate_file, flattens, inputs_in, judges, prints, program_in}
-pub use Rattle.lucid_top.specs.Status.{Outcome}
+pub use Rattle.lucid_report.specs.Status.{Outcome}
 pub use Rattle.lucid_top.specs.Tasks.{form_of, is_certificate, task_of, time_asked}
-pub use Rattle.lucid_top.specs.Telling.{WritesFront, WritesWhole}
+pub use Rattle.lucid_report.specs.Telling.{WritesFront, WritesWhole}
 pub use Rattle.lucid_top.specs.Texts.{IsFlatForm}
 pub use Rattle.lucid_top.specs.Witness.{counting_source}
 pub use Rattle.lucid_top.specs.Writing.{WritesOnly}
 pub use Rattle.lucid_why.specs.declared.rows.Why.{Why}
-pub use Rattle.lucid_top.specs.declared.refusal.Refusal.{Refusal}
-pub use Rattle.lucid_top.specs.declared.status.Status.{Status}
-pub use Rattle.lucid_top.specs.declared.stop.Stop.{Stop}
+pub use Rattle.lucid_report.specs.declared.refusal.Refusal.{Refusal}
+pub use Rattle.lucid_report.specs.declared.status.Status.{Status}
+pub use Rattle.lucid_report.specs.declared.stop.Stop.{Stop}
 pub use Rattle.lucid_top.specs.declared.task.Form.{Form}
 pub use Rattle.lucid_top.specs.declared.task.Task.{Task}
 pub use Rattle.lucid_tree.specs.Env.{empty, same_name}

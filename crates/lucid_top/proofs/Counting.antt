@@ -2,8 +2,8 @@
 use Rattle.lucid_top.proofs.Common.{◌≡◌, ℕ, Bool, List, Ok, Err, inl, inr, ap, subst, ◌∙◌, IsErrOf, CountsNoFaultUnless, Summary, RunFault, Stop, IsRunStop}
 use Rattle.std.specs.Prelude.{Result}
 use Rattle.lucid_ports.specs.declared.run.RunFault.TheVariants as fault
-use Rattle.lucid_top.specs.declared.stop.Done.{Done}
-use Rattle.lucid_top.specs.declared.stop.Stop.TheVariants as stop
+use Rattle.lucid_report.specs.declared.stop.Done.{Done}
+use Rattle.lucid_report.specs.declared.stop.Stop.TheVariants as stop
 
 err_once : {T E : Type 0} {x y : E} → ◌≡◌ {A = Result T E} (Err x) (Err y) → x ≡ y
 err_once e = cc

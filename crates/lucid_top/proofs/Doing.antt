@@ -5,7 +5,7 @@ use Rattle.clap.proofs.BuiltLemmas.{on_ok_always}
 use Rattle.lucid_words.specs.declared.Words.{Words}
 use Rattle.lucid_words.specs.Numbers.{IsFromTo, IsFromToIfGiven, MadeIsFromTo}
 use Rattle.lucid_ports.specs.Limits.{most_asked}
-use Rattle.lucid_top.specs.declared.stop.Stop.TheVariants as stop
+use Rattle.lucid_report.specs.declared.stop.Stop.TheVariants as stop
 use Rattle.lucid_top.specs.declared.task.Task.TheVariants as task
 use Rattle.lucid_top.specs.Places.{HasRead, CountsNoRead, CountsNoWrite}
 use Rattle.lucid_top.specs.Coming.{Does}

@@ -7,11 +7,11 @@ use Rattle.lucid_scope.specs.declared.scoped.Binding.{Binding}
 use Rattle.lucid_cycles.specs.declared.judgment.JudgeRefusal.TheVariants as judge
 use Rattle.lucid_words.specs.declared.WordsRefusal.{WordsRefusal}
 use Rattle.lucid_words.specs.declared.WordsRefusal.TheVariants as words
-use Rattle.lucid_top.specs.declared.stop.Done.TheVariants as done
-use Rattle.lucid_top.specs.declared.stop.Stop.TheVariants as stop
+use Rattle.lucid_report.specs.declared.stop.Done.TheVariants as done
+use Rattle.lucid_report.specs.declared.stop.Stop.TheVariants as stop
 use Rattle.lucid_top.specs.declared.task.Form.TheVariants as form
 use Rattle.lucid_top.specs.declared.task.Task.TheVariants as task
-use Rattle.lucid_top.specs.Refusals.{words_stop}
+use Rattle.lucid_report.specs.Refusals.{words_stop}
 use Rattle.lucid_top.specs.Judged.{RefusesColumns}
 use Rattle.lucid_top.specs.Stages.{HasProgram, task_for, Refuses}
 use Rattle.lucid_top.specs.Runs.{most_places}

@@ -6,8 +6,8 @@ use Rattle.lucid_flat.specs.FlatTables.{AreTableLines}
 use Rattle.lucid_flat.specs.Laws.{OneTable}
 use Rattle.lucid_sound.specs.WrongRows.{IsRefused}
 use Rattle.lucid_sound.specs.declared.program.BuildRefusal.TheVariants as build
-use Rattle.lucid_top.specs.declared.refusal.Refusal.TheVariants as refusal
-use Rattle.lucid_top.specs.declared.stop.Stop.TheVariants as stop
+use Rattle.lucid_report.specs.declared.refusal.Refusal.TheVariants as refusal
+use Rattle.lucid_report.specs.declared.stop.Stop.TheVariants as stop
 use Rattle.lucid_top.proofs.FirstWrong.{one_wrong}
 
 -- bytes with a wrong line are no table's text

@@ -9,12 +9,12 @@ use Rattle.lucid_session.specs.Subject.{Output}
 use Rattle.lucid_session.specs.Subject as stream
 use Rattle.lucid_session.specs.Runs as run
 use Rattle.lucid_session.specs.Runs.{EndsAt, IsWriteFaultOrNoMemory, IsEndedOrNoMemory}
-use Rattle.lucid_top.specs.declared.status.Status.TheVariants as status
-use Rattle.lucid_top.specs.declared.stop.Done.TheVariants as done
-use Rattle.lucid_top.specs.declared.stop.Stop.TheVariants as stop
+use Rattle.lucid_report.specs.declared.status.Status.TheVariants as status
+use Rattle.lucid_report.specs.declared.stop.Done.TheVariants as done
+use Rattle.lucid_report.specs.declared.stop.Stop.TheVariants as stop
 use Rattle.lucid_top.specs.declared.task.Task.TheVariants as task
 use Rattle.lucid_top.specs.declared.task.Form.TheVariants as form
-use Rattle.lucid_top.specs.Status.{status_of}
+use Rattle.lucid_report.specs.Status.{status_of}
 use Rattle.lucid_top.specs.Tasks.{form_for}
 use Rattle.lucid_top.specs.Clauses.{WriteFails}
 use Rattle.lucid_top.specs.Headline.{Has, no_lines, IsConsulted, ConsultsOverlong, ConsumesWithin, HeadlineFollows}

@@ -1,5 +1,4 @@
 pub mod Common
-pub mod Pieces
 pub mod Counting
 pub mod Naming
 pub mod Reaching

@@ -1,8 +1,8 @@
 -- How a call comes to its outcome that makes a certificate.
 use Rattle.lucid_top.proofs.Common.{◌≡◌, ℕ, ◌+◌, ◌≤◌, List, length, Some, Ok, Err, inr, sym, ap, subst, ◌∙◌, arith, slice_get, World, most_source_bytes, rises_from, PlainWords, Stop, Outcome, Call, of_tree, FitsGiven, files_for, Asks, IsMaking, IsReadStop, KeepsNames, AreFresh, Run, certificate_of, first_place, first_input, run_places, time_asked, viewed, view_of, Makes, MakingComesOnly, IsNotMade, PlainTree, Table, ComesOnly, WritesNothing, reaches_made, Rests, ProvesTable, Comes, range_with_len}
 use Rattle.lucid_session.specs.Subject.{OneStream, table_stream, tree_stream}
-use Rattle.lucid_top.specs.declared.stop.Done.TheVariants as done
-use Rattle.lucid_top.specs.declared.stop.Stop.TheVariants as stop
+use Rattle.lucid_report.specs.declared.stop.Done.TheVariants as done
+use Rattle.lucid_report.specs.declared.stop.Stop.TheVariants as stop
 use Rattle.lucid_top.specs.declared.task.Task.TheVariants as task
 use Rattle.lucid_top.specs.Runs.{world_before, world_after}
 use Rattle.lucid_top.proofs.Carrying.{stream_is}

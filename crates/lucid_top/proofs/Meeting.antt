@@ -2,9 +2,9 @@
 use Rattle.lucid_top.proofs.Common.{◌≡◌, ℕ, ◌≤◌, Bool, true, false, nat_lt, List, [], length, Some, None, Err, ◌⊎◌, inl, inr, refl, ap, subst, arith, Contents, PlainWords, Told, Refusal, Status, Outcome, Call, form_of, is_certificate, time_asked, Asks, IsWriting, IsTextFor, asks_for, IsRun, by_words, by_text, by_flat, by_names, by_missing, by_judging, by_given, first_place, run_places, run_of, unread_place, view_of, RanSo, ReadsSource, most_read, WritesNothing, TellsFiles, ReadFails, ComesOnly, MeetsClauses, IsMade, reaches_nothing, reaches_source, reaches_inputs, Rests, Comes, ltb-true, ChecksTree, ConsumesNothing, EndsCheck, EndsMaking, HasFiles, IsCheck, IsMaking, IsWellMade, MakesTree, MayCheck, Task, ReadsCertificate, Run, before_checking, before_making, by_certificate, by_checking, by_making, certificate_of, first_input, reaches_certificate, reaches_checked, reaches_made}
 use Rattle.std.proofs.Common.{cond}
 use Rattle.lucid_ports.specs.declared.run.RunFault.TheVariants as fault
-use Rattle.lucid_top.specs.declared.refusal.Refusal.TheVariants as refusal
-use Rattle.lucid_top.specs.declared.stop.Stop.TheVariants as stop
-use Rattle.lucid_top.specs.Telling.{Tells}
+use Rattle.lucid_report.specs.declared.refusal.Refusal.TheVariants as refusal
+use Rattle.lucid_report.specs.declared.stop.Stop.TheVariants as stop
+use Rattle.lucid_report.specs.Telling.{Tells}
 use Rattle.lucid_top.specs.Stages.{Refuses}
 use Rattle.lucid_top.specs.Clauses.{IsRefusedSo, Writes, TellsFaults, IsEvaluated, places_before}
 use Rattle.lucid_top.specs.Coming.{Reaches, StopsEarly, EndsRun, EndsWriting, Checked, Made}

@@ -4,7 +4,7 @@ use Rattle.std.proofs.Common.{take}
 use Rattle.std.specs.Prelude.{cond}
 use Rattle.lucid_scope.proofs.Names.{not_same, same_itself}
 use Rattle.lucid_words.specs.declared.Given.{Given as Word}
-use Rattle.lucid_top.specs.declared.stop.Stop.TheVariants as stop
+use Rattle.lucid_report.specs.declared.stop.Stop.TheVariants as stop
 
 pub same_if : (x y : List ℕ) → x ≡ y → same_name x y ≡ true
 same_if x y e = subst (λ z. same_name x z ≡ true) e (same_itself x)

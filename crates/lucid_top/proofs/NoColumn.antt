@@ -1,8 +1,8 @@
 -- The columns of a tree have at most one refusal, and none where they are there.
 use Rattle.lucid_top.proofs.Common.{◌≡◌, ℕ, ◌<◌, List, Some, false, ◌⊎◌, inl, inr, sym, ap, subst, ◌∙◌, IsTrue, slice_get, cases_order, slice_get_within, PlainTree, AreColumns, IsFirstMissing, Refusal, Stop, IsRefusalOf}
 use Rattle.lucid_columns.specs.Columns.{is_column}
-use Rattle.lucid_top.specs.declared.refusal.Refusal.TheVariants as refusal
-use Rattle.lucid_top.specs.declared.stop.Stop.TheVariants as stop
+use Rattle.lucid_report.specs.declared.refusal.Refusal.TheVariants as refusal
+use Rattle.lucid_report.specs.declared.stop.Stop.TheVariants as stop
 use Rattle.lucid_top.specs.Judged.{IsMissing, RefusesColumns}
 
 module _ (p : PlainTree) (columns : List (List ℕ)) where

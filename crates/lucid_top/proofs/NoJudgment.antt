@@ -2,7 +2,7 @@
 use Rattle.lucid_top.proofs.Common.{◌≡◌, ℕ, suc, ◌<◌, ◌≤◌, List, [], ◌∷◌, length, get_or, inl, inr, sym, subst, arith, All-contains, PlainTree, In, IsJudged, IsJudgeRefusal, JudgeRefusal, Refusal, judge_stop, RefusesJudging, Contains}
 use Rattle.lucid_cycles.specs.Judged.{outside, IsFirstOutside}
 use Rattle.lucid_cycles.specs.declared.judgment.JudgeRefusal.TheVariants as judge
-use Rattle.lucid_top.specs.declared.stop.Stop.TheVariants as stop
+use Rattle.lucid_report.specs.declared.stop.Stop.TheVariants as stop
 
 index_of : (x d : ℕ) (xs : List ℕ) → In x xs → (i : ℕ) × (i < length xs) × (get_or xs i d ≡ x)
 index_of x d [] h = absurd h

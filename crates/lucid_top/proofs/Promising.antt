@@ -21,8 +21,8 @@ use Rattle.lucid_cert.specs.Drawn.{AsDemanded, HasDrawn, view_of as seen_by}
 use Rattle.lucid_session.specs.Runs.{IsInput}
 use Rattle.lucid_session.specs.Subject.{OneStream, table_stream}
 use Rattle.lucid_session.proofs.Told.{tells_too}
-use Rattle.lucid_top.specs.declared.stop.Done.TheVariants as done
-use Rattle.lucid_top.specs.declared.stop.Stop.TheVariants as stop
+use Rattle.lucid_report.specs.declared.stop.Done.TheVariants as done
+use Rattle.lucid_report.specs.declared.stop.Stop.TheVariants as stop
 use Rattle.lucid_top.specs.Makes.{ConsultsPast, ConsumesAt, IsConsultedAt, IsWhy, IsWhyText, MakesSo}
 use Rattle.lucid_top.proofs.Ending.{as_text}
 use Rattle.lucid_top.proofs.Proving.{proves}

@@ -26,8 +26,8 @@ use Rattle.lucid_check.specs.declared.fault.CheckFault.TheVariants as fault
 use Rattle.lucid_session.specs.Runs.{IsInput, ReadsWithin}
 use Rattle.lucid_session.specs.Subject.{OneStream, StreamMeans, table_stream}
 use Rattle.lucid_session.proofs.Told.{tells_too}
-use Rattle.lucid_top.specs.declared.stop.Done.TheVariants as done
-use Rattle.lucid_top.specs.declared.stop.Stop.TheVariants as stop
+use Rattle.lucid_report.specs.declared.stop.Done.TheVariants as done
+use Rattle.lucid_report.specs.declared.stop.Stop.TheVariants as stop
 use Rattle.lucid_top.proofs.Ending.{as_text}
 use Rattle.lucid_top.proofs.Unread.{ReadOn, of_told, reads, was_there, was_at, is_at, fits_at, may_be as may_read, stays_within}
 use Rattle.lucid_top.proofs.Views.{TellAlike}

@@ -12,7 +12,7 @@ use Rattle.lucid_sound.specs.WrongRows.{IsRefused as IsTableRefused}
 use Rattle.lucid_why.specs.declared.read.WhyRefusal.{WhyRefusal}
 use Rattle.lucid_why.specs.declared.read.WhyRefusal.TheVariants as why
 use Rattle.lucid_why.specs.LinesRead.{IsRefused as IsJudgmentRefused}
-use Rattle.lucid_top.specs.Refusals.{flat_stop, why_stop}
+use Rattle.lucid_report.specs.Refusals.{flat_stop, why_stop}
 
 pub scan_refuses : (source : List ℕ) (e : ScanRefusal) → Refuses source e → IsRefusalOf (RefusesText source) (scan_stop e)
 scan_refuses source scan.TooLong r = by_scan scan.TooLong refl r

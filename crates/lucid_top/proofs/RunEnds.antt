@@ -4,8 +4,8 @@ use Rattle.std.proofs.Common.{cond}
 use denote.Ref.{Bor}
 use Rattle.lucid_ports.specs.World.{Place, unread}
 use Rattle.lucid_words.specs.declared.Given.{Given as Word}
-use Rattle.lucid_top.specs.declared.stop.Done.TheVariants as done
-use Rattle.lucid_top.specs.declared.stop.Stop.TheVariants as stop
+use Rattle.lucid_report.specs.declared.stop.Done.TheVariants as done
+use Rattle.lucid_report.specs.declared.stop.Stop.TheVariants as stop
 use Rattle.lucid_top.specs.Runs.{input_places, world_before, world_after}
 use Rattle.lucid_top.proofs.Ending.{words_of, first_place_le, first_of_run, run_of_table, places_of_table}
 use Rattle.lucid_top.proofs.Views.{TellAlike, ran_alike}

@@ -4,7 +4,7 @@ use Rattle.std.proofs.Common.{take}
 use Rattle.lucid_scan.specs.declared.refusal.ScanRefusal.TheVariants as scan
 use Rattle.lucid_scan.specs.Refusals.{Refuses}
 use Rattle.lucid_parse.specs.Spelled.{IsRefused}
-use Rattle.lucid_top.specs.declared.stop.Stop.TheVariants as stop
+use Rattle.lucid_report.specs.declared.stop.Stop.TheVariants as stop
 use Rattle.lucid_why.specs.WhyTexts as why
 use Rattle.lucid_top.specs.Places.{IsSourceFront}
 

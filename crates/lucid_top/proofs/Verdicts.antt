@@ -10,9 +10,9 @@ use Rattle.lucid_parse.specs.Spelled.{IsRefused}
 use Rattle.lucid_parse.specs.Laws.{FaultIsUnique, TerminalsAreUnique, TerminalsSpellOneTree}
 use Rattle.lucid_parse.proofs.Verdicts.{least_once}
 use Rattle.lucid_scope.specs.Laws.{LeastFaultIsUnique}
-use Rattle.lucid_top.specs.declared.refusal.Refusal.TheVariants as refusal
-use Rattle.lucid_top.specs.declared.stop.Stop.TheVariants as stop
-use Rattle.lucid_top.specs.Refusals.{scope_stop}
+use Rattle.lucid_report.specs.declared.refusal.Refusal.TheVariants as refusal
+use Rattle.lucid_report.specs.declared.stop.Stop.TheVariants as stop
+use Rattle.lucid_report.specs.Refusals.{scope_stop}
 
 -- the laws of tokens, terminals and trees
 pub record Laws : Type 0 where

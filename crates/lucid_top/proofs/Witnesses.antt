@@ -2,7 +2,7 @@
 use Rattle.lucid_top.proofs.Common.{◌≡◌, ℕ, zero, suc, ◌≤◌, List, [], ◌++◌, Option, Some, None, false, inl, inr, refl, ◌∙◌, ap, arith, codes, digits, eod, TextIsRead, number, counting, line, TextsAreLongest, file, PlainWords, words_asked, Status, Call, RunsProgram, elements, Lines, one_line_more, Headline, counting_source}
 use Rattle.clap.proofs.OnLiterals.{clap_on_literals}
 use Rattle.lucid_words.specs.declared.PolicyWord.TheVariants as policy
-use Rattle.lucid_top.specs.declared.status.Status.TheVariants as status
+use Rattle.lucid_report.specs.declared.status.Status.TheVariants as status
 use Rattle.lucid_top.specs.Headline.{no_lines}
 use Rattle.lucid_top.specs.Witness.{three_lines, three_numbers, CountsToThree, CountingIsAWitness}
 use Rattle.lucid_top.proofs.CountingSource.{counting-spelt, counting-no-fault, counting-inputs, counting-value}

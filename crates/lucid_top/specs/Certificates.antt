@@ -4,8 +4,8 @@ use Rattle.lucid_ports.specs.World.{World}
 use Rattle.lucid_words.specs.Plain.{file}
 use Rattle.lucid_why.specs.WhyTexts.{IsTextOf, IsFirstWrongLine}
 use Rattle.lucid_why.specs.declared.rows.Why.{Why}
-use Rattle.lucid_top.specs.declared.refusal.Refusal.{Refusal}
-use Rattle.lucid_top.specs.declared.refusal.Refusal.TheVariants as refusal
+use Rattle.lucid_report.specs.declared.refusal.Refusal.{Refusal}
+use Rattle.lucid_report.specs.declared.refusal.Refusal.TheVariants as refusal
 use Rattle.lucid_top.specs.Sources.{IsSource}
 
 -- how many bytes the file of a certificate may have

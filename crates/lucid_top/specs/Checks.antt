@@ -20,11 +20,11 @@ use Rattle.lucid_check.specs.declared.fault.CheckFault.{CheckFault}
 use Rattle.lucid_check.specs.declared.fault.CheckFault.TheVariants as fault
 use Rattle.lucid_session.specs.Subject.{OneStream, StreamMeans, tree_stream}
 use Rattle.lucid_session.specs.Runs.{RunView, IsInput, HasElements, ReadsWithin}
-use Rattle.lucid_top.specs.declared.stop.Done.TheVariants as done
-use Rattle.lucid_top.specs.declared.stop.Stop.{Stop}
-use Rattle.lucid_top.specs.declared.stop.Stop.TheVariants as stop
-use Rattle.lucid_top.specs.Status.{Outcome}
-use Rattle.lucid_top.specs.Lines.{line_at}
+use Rattle.lucid_report.specs.declared.stop.Done.TheVariants as done
+use Rattle.lucid_report.specs.declared.stop.Stop.{Stop}
+use Rattle.lucid_report.specs.declared.stop.Stop.TheVariants as stop
+use Rattle.lucid_report.specs.Status.{Outcome}
+use Rattle.lucid_report.specs.Lines.{line_at}
 use Rattle.lucid_top.specs.Running.{IsLargeStop}
 use Rattle.lucid_top.specs.Writing.{WritesSome, WritesOnly}
 

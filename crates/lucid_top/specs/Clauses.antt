@@ -6,15 +6,15 @@ use Rattle.lucid_words.specs.Plain.{file}
 use Rattle.lucid_ports.specs.World.{Contents}
 use Rattle.lucid_session.specs.Runs.{Told, RunView, IsInput}
 use Rattle.lucid_top.specs.declared.task.Task.TheVariants as task
-use Rattle.lucid_top.specs.declared.refusal.Refusal.{Refusal}
-use Rattle.lucid_top.specs.declared.refusal.Refusal.TheVariants as refusal
-use Rattle.lucid_top.specs.declared.status.Status.{Status}
-use Rattle.lucid_top.specs.declared.stop.Done.TheVariants as done
-use Rattle.lucid_top.specs.declared.stop.Stop.TheVariants as stop
-use Rattle.lucid_top.specs.Status.{Outcome}
+use Rattle.lucid_report.specs.declared.refusal.Refusal.{Refusal}
+use Rattle.lucid_report.specs.declared.refusal.Refusal.TheVariants as refusal
+use Rattle.lucid_report.specs.declared.status.Status.{Status}
+use Rattle.lucid_report.specs.declared.stop.Done.TheVariants as done
+use Rattle.lucid_report.specs.declared.stop.Stop.TheVariants as stop
+use Rattle.lucid_report.specs.Status.{Outcome}
 use Rattle.lucid_top.specs.Call.{Call}
 use Rattle.lucid_top.specs.Tasks.{task_of, form_of, time_asked, wants_figures}
-use Rattle.lucid_top.specs.Telling.{Tells}
+use Rattle.lucid_report.specs.Telling.{Tells}
 use Rattle.lucid_top.specs.Writing.{WritesSome, WritesSomeFront}
 use Rattle.lucid_top.specs.Sources.{IsTold, first_place}
 use Rattle.lucid_top.specs.Stages.{Asks, IsWriting, IsTextFor, IsRun, IsMaking, IsCheck, Refuses, by_certificate}

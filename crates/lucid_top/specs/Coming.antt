@@ -7,11 +7,11 @@ use Rattle.lucid_words.specs.declared.Words.{Words}
 use Rattle.lucid_words.specs.Asked.{PlainWords, plain_words}
 use Rattle.lucid_words.specs.Numbers.{IsFromTo, IsFromToIfGiven, MadeIsFromTo}
 use Rattle.lucid_top.specs.declared.task.Task.{Task}
-use Rattle.lucid_top.specs.declared.refusal.Refusal.{Refusal}
-use Rattle.lucid_top.specs.declared.stop.Stop.TheVariants as stop
+use Rattle.lucid_report.specs.declared.refusal.Refusal.{Refusal}
+use Rattle.lucid_report.specs.declared.stop.Stop.TheVariants as stop
 use Rattle.lucid_equations.specs.declared.table.Table.{Table}
 use Rattle.lucid_session.specs.Runs.{RunView}
-use Rattle.lucid_top.specs.Status.{Outcome}
+use Rattle.lucid_report.specs.Status.{Outcome}
 use Rattle.lucid_top.specs.Tasks.{task_of, form_of, time_asked}
 use Rattle.lucid_top.specs.Programs.{beside}
 use Rattle.lucid_top.specs.Places.{KeepsNames, CountsNoRead, CountsNoWrite, ReadsSource, ReadsCertificate, most_read}

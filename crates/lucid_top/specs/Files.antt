@@ -3,10 +3,10 @@ use Rattle.std.specs.Prelude.{◌≡◌, ℕ, ◌<◌, ◌≤◌, not, List, len
 use Rattle.std.specs.List.{list_any}
 use Rattle.std.specs.Map.{lookup}
 use Rattle.lucid_tree.specs.Env.{same_name}
-use Rattle.lucid_top.specs.declared.refusal.Refusal.{Refusal}
-use Rattle.lucid_top.specs.declared.refusal.Refusal.TheVariants as refusal
-use Rattle.lucid_top.specs.declared.stop.Stop.{Stop}
-use Rattle.lucid_top.specs.Refusals.{IsRefusalOf}
+use Rattle.lucid_report.specs.declared.refusal.Refusal.{Refusal}
+use Rattle.lucid_report.specs.declared.refusal.Refusal.TheVariants as refusal
+use Rattle.lucid_report.specs.declared.stop.Stop.{Stop}
+use Rattle.lucid_report.specs.Refusals.{IsRefusalOf}
 
 -- words NAME=FILE: each a name and a file
 abbrev pub Given : Type 0

@@ -5,10 +5,10 @@ use Rattle.lucid_equations.specs.declared.table.Table.{Table}
 use Rattle.lucid_flat.specs.FlatTables.{IsTextOf, IsFirstWrongLine}
 use Rattle.lucid_sound.specs.WrongRows.{IsRefused}
 use Rattle.lucid_sound.specs.declared.program.BuildRefusal.{BuildRefusal}
-use Rattle.lucid_top.specs.declared.refusal.Refusal.{Refusal}
-use Rattle.lucid_top.specs.declared.refusal.Refusal.TheVariants as refusal
-use Rattle.lucid_top.specs.declared.stop.Stop.TheVariants as stop
-use Rattle.lucid_top.specs.Refusals.{build_stop}
+use Rattle.lucid_report.specs.declared.refusal.Refusal.{Refusal}
+use Rattle.lucid_report.specs.declared.refusal.Refusal.TheVariants as refusal
+use Rattle.lucid_report.specs.declared.stop.Stop.TheVariants as stop
+use Rattle.lucid_report.specs.Refusals.{build_stop}
 
 -- how many bytes a source in the flat form may have
 abbrev pub most_flat_bytes : ℕ

@@ -18,8 +18,8 @@ use Rattle.lucid_words.specs.Plain.{file}
 use Rattle.lucid_words.specs.Asked.{PlainWords}
 use Rattle.lucid_ports.specs.World.{Contents}
 use Rattle.lucid_session.specs.Runs.{Told}
-use Rattle.lucid_top.specs.declared.status.Status.{Status}
-use Rattle.lucid_top.specs.declared.status.Status.TheVariants as status
+use Rattle.lucid_report.specs.declared.status.Status.{Status}
+use Rattle.lucid_report.specs.declared.status.Status.TheVariants as status
 use Rattle.lucid_top.specs.declared.task.Task.TheVariants as task
 use Rattle.lucid_top.specs.Call.{Call}
 use Rattle.lucid_top.specs.Tasks.{task_of}

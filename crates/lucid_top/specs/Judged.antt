@@ -15,12 +15,12 @@ use Rattle.lucid_scope.specs.Scoped.{scoped_tree, scoped_inputs, scoped_binding}
 use Rattle.lucid_scope.specs.declared.scoped.Scoped.{Scoped}
 use Rattle.lucid_columns.specs.Columns.{AreColumns, IsFirstMissing}
 use Rattle.lucid_top.specs.Programs.{beside}
-use Rattle.lucid_top.specs.declared.refusal.Refusal.{Refusal}
-use Rattle.lucid_top.specs.declared.refusal.Refusal.TheVariants as refusal
-use Rattle.lucid_top.specs.declared.stop.Stop.TheVariants as stop
+use Rattle.lucid_report.specs.declared.refusal.Refusal.{Refusal}
+use Rattle.lucid_report.specs.declared.refusal.Refusal.TheVariants as refusal
+use Rattle.lucid_report.specs.declared.stop.Stop.TheVariants as stop
 use Rattle.lucid_cycles.specs.declared.judgment.JudgeRefusal.{JudgeRefusal}
 use Rattle.lucid_cycles.specs.Judgments.{IsJudgeRefusal}
-use Rattle.lucid_top.specs.Refusals.{scan_stop, parse_stop, scope_stop, judge_stop}
+use Rattle.lucid_report.specs.Refusals.{scan_stop, parse_stop, scope_stop, judge_stop}
 
 -- The source isn't too long, and these are its tokens.
 pub record HasTokens (source : List ℕ) (tokens : List Token) : Type 0 where

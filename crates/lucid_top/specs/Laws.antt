@@ -3,7 +3,7 @@ use Rattle.std.specs.Prelude.{◌≡◌, ℕ, List}
 use Rattle.lucid_tree.specs.Tree.{PlainTree}
 use Rattle.lucid_tree.specs.WellMade.{IsWellMade}
 use Rattle.lucid_scope.specs.Bindings.{HasNoFault}
-use Rattle.lucid_top.specs.declared.refusal.Refusal.{Refusal}
+use Rattle.lucid_report.specs.declared.refusal.Refusal.{Refusal}
 use Rattle.lucid_equations.specs.declared.table.Table.{Table}
 use Rattle.lucid_top.specs.Judged.{Spelt, RefusesText, RefusesNames, HasInputs}
 use Rattle.lucid_top.specs.Flat.{SpellsTable, RefusesFlat}

@@ -1,8 +1,4 @@
 pub mod Tasks
-pub mod Refusals
-pub mod Status
-pub mod Lines
-pub mod Telling
 pub mod Judged
 pub mod Flat
 pub mod Texts

@@ -16,10 +16,10 @@ use Rattle.lucid_why.specs.declared.rows.Why.{Why}
 use Rattle.lucid_cert.specs.Certified.{AreApart}
 use Rattle.lucid_session.specs.Subject.{OneStream, tree_stream}
 use Rattle.lucid_session.specs.Runs.{RunView, IsInput, HasElements, ReadsWithin}
-use Rattle.lucid_top.specs.declared.stop.Done.TheVariants as done
-use Rattle.lucid_top.specs.declared.stop.Stop.{Stop}
-use Rattle.lucid_top.specs.declared.stop.Stop.TheVariants as stop
-use Rattle.lucid_top.specs.Status.{Outcome}
+use Rattle.lucid_report.specs.declared.stop.Done.TheVariants as done
+use Rattle.lucid_report.specs.declared.stop.Stop.{Stop}
+use Rattle.lucid_report.specs.declared.stop.Stop.TheVariants as stop
+use Rattle.lucid_report.specs.Status.{Outcome}
 use Rattle.lucid_top.specs.Running.{IsLargeStop}
 use Rattle.lucid_top.specs.Writing.{WritesOnly}
 use Rattle.lucid_top.specs.Checks.{IsTableOf, IsLast, Proves, LiesPast}

@@ -11,9 +11,9 @@ use Rattle.lucid_scan.specs.Refusals.{most_source_bytes}
 use Rattle.lucid_scope.specs.Bindings.{HasNoFault}
 use Rattle.lucid_words.specs.Plain.{PlainSource, file, made}
 use Rattle.lucid_equations.specs.declared.table.Table.{Table}
-use Rattle.lucid_top.specs.declared.refusal.Refusal.{Refusal}
-use Rattle.lucid_top.specs.declared.stop.Stop.{Stop}
-use Rattle.lucid_top.specs.declared.stop.Stop.TheVariants as stop
+use Rattle.lucid_report.specs.declared.refusal.Refusal.{Refusal}
+use Rattle.lucid_report.specs.declared.stop.Stop.{Stop}
+use Rattle.lucid_report.specs.declared.stop.Stop.TheVariants as stop
 use Rattle.lucid_top.specs.Judged.{Spelt, RefusesText, RefusesNames, RefusesColumns, StandsBeside, HasInputs}
 use Rattle.lucid_top.specs.declared.task.Form.{Form}
 use Rattle.lucid_top.specs.declared.task.Form.TheVariants as form

@@ -14,9 +14,9 @@ use Rattle.lucid_retire.specs.declared.policy.Policy.TheVariants as retire
 use Rattle.lucid_words.specs.declared.PolicyWord.{PolicyWord}
 use Rattle.lucid_words.specs.declared.PolicyWord.TheVariants as policy
 use Rattle.lucid_words.specs.Asked.{PlainWords}
-use Rattle.lucid_top.specs.declared.stop.Done.TheVariants as done
-use Rattle.lucid_top.specs.declared.stop.Stop.TheVariants as stop
-use Rattle.lucid_top.specs.Status.{Outcome}
+use Rattle.lucid_report.specs.declared.stop.Done.TheVariants as done
+use Rattle.lucid_report.specs.declared.stop.Stop.TheVariants as stop
+use Rattle.lucid_report.specs.Status.{Outcome}
 use Rattle.lucid_top.specs.Call.{Call}
 use Rattle.lucid_equations.specs.declared.table.Table.{Table}
 use Rattle.lucid_top.specs.Programs.{Program, of_tree, of_table, of_spaces, program_subject, program_counted}

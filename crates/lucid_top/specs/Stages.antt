@@ -6,8 +6,8 @@ use Rattle.lucid_equations.specs.declared.table.Table.{Table}
 use Rattle.lucid_words.specs.Plain.{file}
 use Rattle.lucid_words.specs.Asked.{PlainWords}
 use Rattle.lucid_why.specs.declared.rows.Why.{Why}
-use Rattle.lucid_top.specs.declared.refusal.Refusal.{Refusal}
-use Rattle.lucid_top.specs.declared.refusal.Refusal.TheVariants as refusal
+use Rattle.lucid_report.specs.declared.refusal.Refusal.{Refusal}
+use Rattle.lucid_report.specs.declared.refusal.Refusal.TheVariants as refusal
 use Rattle.lucid_columns.specs.Columns.{AreColumns}
 use Rattle.lucid_top.specs.declared.task.Task.{Task}
 use Rattle.lucid_top.specs.declared.task.Task.TheVariants as task

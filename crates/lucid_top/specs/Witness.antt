@@ -1,8 +1,8 @@
 -- A call of which the headline speaks: the command counts to three lines. What it writes is told from the headline alone.
 use Rattle.std.specs.Prelude.{◌≡◌, ℕ, List, [], ◌∷◌, Some, codes}
 use Rattle.lucid_words.specs.Asked.{words_asked}
-use Rattle.lucid_top.specs.declared.status.Status.{Status}
-use Rattle.lucid_top.specs.declared.status.Status.TheVariants as status
+use Rattle.lucid_report.specs.declared.status.Status.{Status}
+use Rattle.lucid_report.specs.declared.status.Status.TheVariants as status
 use Rattle.lucid_top.specs.Call.{Call}
 use Rattle.lucid_top.specs.Headline.{RunsProgram, Headline}
 

@@ -2,10 +2,10 @@
 use Rattle.std.specs.Prelude.{◌≡◌, ℕ, ◌⊎◌, List, Ok, Err}
 use Rattle.lucid_ports.specs.Faults.{Rises}
 use Rattle.lucid_session.specs.Runs.{Told}
-use Rattle.lucid_top.specs.declared.stop.Done.TheVariants as done
-use Rattle.lucid_top.specs.declared.stop.Stop.TheVariants as stop
-use Rattle.lucid_top.specs.Status.{Outcome}
-use Rattle.lucid_top.specs.Telling.{WritesWhole, WritesFront}
+use Rattle.lucid_report.specs.declared.stop.Done.TheVariants as done
+use Rattle.lucid_report.specs.declared.stop.Stop.TheVariants as stop
+use Rattle.lucid_report.specs.Status.{Outcome}
+use Rattle.lucid_report.specs.Telling.{WritesWhole, WritesFront}
 
 -- A text of a kind is written whole; a front of one is written.
 abbrev pub WritesSome : (IsText : List ℕ → Type 0) → (before after : Told) → Type 0

@@ -6,9 +6,9 @@ ghost use Rattle.lucid_top.specs.Call.{call};
 ghost use Rattle.lucid_session.specs.Runs.{told};
 ghost use Rattle.lucid_top.specs.Clauses.{MeetsClauses};
 
-use crate::status::Status;
 use crate::top::lucid;
 use lucid_ports::{Places, Sink};
+use lucid_report::Status;
 use std::alloc::Global;
 
 // The words after the command's own name.

@@ -5,11 +5,10 @@ ghost use Rattle.lucid_scan.specs.Refusals.{most_source_bytes};
 ghost use Rattle.lucid_columns.specs.Columns.{AreColumns};
 ghost use Rattle.lucid_top.specs.Programs.{beside};
 ghost use Rattle.lucid_top.specs.Judged.{IsMissing, RefusesColumns};
-ghost use Rattle.lucid_top.specs.Refusals.{IsRefusalOf};
+ghost use Rattle.lucid_report.specs.Refusals.{IsRefusalOf};
 
-use crate::refusal::Refusal;
-use crate::stop::Stop;
 use lucid_columns::{ColumnRefusal, column_tree};
+use lucid_report::{Refusal, Stop};
 use lucid_tree::Tree;
 use lucid_value::Name;
 use std::alloc::Global;

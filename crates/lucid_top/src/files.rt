@@ -4,10 +4,9 @@ ghost use Rattle.std.specs.List.{list_any};
 ghost use Rattle.lucid_tree.specs.Env.{same_name};
 ghost use Rattle.lucid_words.specs.Plain.{plain_given};
 ghost use Rattle.lucid_top.specs.Files.{file_given, word_refusal, AreRightBelow, names_left, files_for, FitsGiven, RefusesGiven, RefusedFirst, IsWordStop};
-ghost use Rattle.lucid_top.specs.Refusals.{IsRefusalOf};
+ghost use Rattle.lucid_report.specs.Refusals.{IsRefusalOf};
 
-use crate::refusal::Refusal;
-use crate::stop::Stop;
+use lucid_report::{Refusal, Stop};
 use lucid_value::Name;
 use lucid_words::Given;
 use std::alloc::{AllocError, Global};

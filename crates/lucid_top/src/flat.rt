@@ -2,12 +2,11 @@
 ghost use Rattle.std.specs.Prelude.{IfOk, IfErr};
 ghost use Rattle.lucid_equations.specs.Programs.{table_of};
 ghost use Rattle.lucid_top.specs.Flat.{SpellsTable, RefusesFlat};
-ghost use Rattle.lucid_top.specs.Refusals.{IsRefusalOf};
+ghost use Rattle.lucid_report.specs.Refusals.{IsRefusalOf};
 
-use crate::refusal::Refusal;
-use crate::stop::Stop;
 use lucid_equations::Program;
 use lucid_flat::read_flat;
+use lucid_report::{Refusal, Stop};
 use lucid_sound::build;
 use std::alloc::Global;
 

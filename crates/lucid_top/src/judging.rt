@@ -5,12 +5,12 @@ ghost use Rattle.lucid_scan.specs.Refusals.{most_source_bytes};
 ghost use Rattle.lucid_scope.specs.Bindings.{HasNoFault};
 ghost use Rattle.lucid_scope.specs.Scoped.{scoped_tree, scoped_inputs};
 ghost use Rattle.lucid_top.specs.Judged.{Spelt, RefusesText, RefusesNames, RefusesBeside, StandsBeside, AreResolved};
-ghost use Rattle.lucid_top.specs.Refusals.{IsRefusalOf};
+ghost use Rattle.lucid_report.specs.Refusals.{IsRefusalOf};
 
 use crate::columns::columns_beside;
-use crate::stop::Stop;
 use lucid_columns::laws::columns_have_no_fault;
 use lucid_parse::parse;
+use lucid_report::Stop;
 use lucid_scan::scan;
 use lucid_scope::{Scoped, resolve, resolve_owned};
 use lucid_tree::Tree;

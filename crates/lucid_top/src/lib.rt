@@ -4,10 +4,6 @@
 #![tactic(auto)]
 
 pub use crate::arguments::lucid_from_arguments;
-pub use crate::refusal::Refusal;
-pub use crate::report::tell;
-pub use crate::status::Status;
-pub use crate::stop::{Done, Stop};
 pub use crate::top::lucid;
 
 mod arguments;
@@ -20,11 +16,7 @@ mod judging;
 mod laws;
 mod making;
 mod places;
-mod refusal;
-mod report;
 mod running;
-mod status;
-mod stop;
 mod task;
 mod top;
 mod writing;

@@ -16,7 +16,6 @@ ghost use Rattle.lucid_top.specs.Runs.{viewed};
 ghost use Rattle.lucid_top.specs.Writing.{WritesOnly};
 
 use crate::running::{large_stop, unread_inputs};
-use crate::stop::{Done, Stop};
 use crate::writing::write_out;
 use lucid_cert::certify;
 use lucid_demand::DemandFault;
@@ -24,6 +23,7 @@ use lucid_equations::Program;
 use lucid_follow::laws::what_follows_is_meant;
 use lucid_inputs::{fresh_fits, keeps_within};
 use lucid_ports::{Places, Sink};
+use lucid_report::{Done, Stop};
 use lucid_value::Name;
 use lucid_why::{Why, show_why};
 use lucid_words::Words;

@@ -7,9 +7,9 @@ ghost use Rattle.lucid_words.specs.Numbers.{MadeIsFromTo};
 ghost use Rattle.lucid_top.specs.Sources.{first_place};
 ghost use Rattle.lucid_top.specs.Places.{KeepsNames, CountsNoRead, IsSourceFront, ReadsSource, ReadsPlace, IsReadStop, AreKept, AreFresh, HasReached, read_stop};
 
-use crate::stop::Stop;
 use lucid_make::make_source;
 use lucid_ports::{Places, PortFault, read_at_most};
+use lucid_report::Stop;
 use lucid_words::Source;
 use std::alloc::Global;
 

@@ -18,10 +18,10 @@ ghost use Rattle.lucid_top.specs.Programs.{program_subject, program_counted};
 ghost use Rattle.lucid_top.specs.Runs.{policy_named, policy_asked, viewed, most_input_bytes, table_program, RanSo};
 ghost use Rattle.lucid_top.specs.Running.{RunComesOnly, IsRunStop, IsLargeStop};
 
-use crate::stop::{Done, Stop};
 use lucid_equations::Program;
 use lucid_inputs::{Inputs, fresh_fits};
 use lucid_ports::{Places, RunFault, Sink, Summary};
+use lucid_report::{Done, Stop};
 use lucid_retire::{Ages, Keep, Last, Nothing, Policy};
 use lucid_schedule::Newest;
 use lucid_session::{run, run_columns};

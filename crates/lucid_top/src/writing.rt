@@ -11,12 +11,12 @@ ghost use Rattle.lucid_top.specs.Places.{CountsNoWrite};
 ghost use Rattle.lucid_top.specs.Texts.{IsFlatForm};
 ghost use Rattle.lucid_top.specs.Writing.{WritesOnly};
 
-use crate::stop::{Done, Stop};
 use lucid_compile::compile;
 use lucid_cycles::Judgment;
 use lucid_flat::show_flat;
 use lucid_ports::{PortFault, Sink, write_whole};
 use lucid_print::print_tree;
+use lucid_report::{Done, Stop};
 use lucid_scope::Scoped;
 use lucid_tree::Tree;
 use std::alloc::Global;

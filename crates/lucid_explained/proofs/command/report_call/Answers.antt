@@ -1,6 +1,6 @@
 use Rattle.lucid_explained.proofs.Common.{Result, subst, told}
 use Rattle.lucid_ports.specs.declared.fault.PortFault.{PortFault}
-use Rattle.lucid_top.specs.Telling.{WritesLine}
+use Rattle.lucid_report.specs.Telling.{WritesLine}
 use Rattle.lucid_explained.specs.Explained.{cut_off, whole}
 use Rattle.lucid_explained.proofs.command.report_call.Goals as goal
 

@@ -1,7 +1,7 @@
 use Rattle.lucid_top.proofs.Common.{◌≡◌, ◌≢◌, ◌+◌, length, map, Some, refl, sym, ap, subst, ◌∙◌, arith, AllPairs, length-range_with_len, err_from_is_err_and, table_of, plain_words, Call, told, IsRefusalOf, RefusesGiven, FitsGiven, files_for, AreFresh, viewed, Checks, CheckComesOnly, HeldCertificate, RefusesCertificate, IsSourceStop, file, most_certificate_bytes}
 use Rattle.lucid_session.specs.Subject.{table_stream}
 use Rattle.lucid_top.specs.Call.{call}
-use Rattle.lucid_top.specs.declared.stop.Stop.TheVariants as stop
+use Rattle.lucid_report.specs.declared.stop.Stop.TheVariants as stop
 use Rattle.lucid_top.specs.declared.task.Task.TheVariants as task
 use Rattle.lucid_top.proofs.Certifying.{given_stops}
 use Rattle.lucid_top.proofs.CheckEnds.{certificate_stop, reaching_stop, check_ends}

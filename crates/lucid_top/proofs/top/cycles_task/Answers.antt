@@ -1,6 +1,6 @@
 use Rattle.lucid_top.proofs.Common.{◌≡◌, Some, refl, inr, err_from_is_err_and, scoped_tree, scoped_inputs, scoped_binding, plain_words, told, Call, judges, IsTextFor}
 use Rattle.lucid_cycles.specs.JudgmentLine.{judgment_line}
-use Rattle.lucid_top.specs.declared.stop.Stop.TheVariants as stop
+use Rattle.lucid_report.specs.declared.stop.Stop.TheVariants as stop
 use Rattle.lucid_top.specs.Call.{call}
 use Rattle.lucid_top.proofs.Counting.{none_at_ok}
 use Rattle.lucid_top.proofs.Ending.{Begins, within_text, cycles_not_print, judging_stops, inputs_of, names_of, as_text}

@@ -2,7 +2,7 @@ use Rattle.lucid_top.proofs.Common.{◌≡◌, ◌≢◌, length, map, Some, ref
 use Rattle.lucid_top.specs.Call.{call}
 use Rattle.lucid_top.proofs.Ending.{given_stops, reaching_stops}
 use Rattle.lucid_top.proofs.RunEnds.{source_stays, source_run, carried, refs_are, refs_long, files_long, reached_of, range_differs, all_unread, runs}
-use Rattle.lucid_top.specs.declared.stop.Stop.TheVariants as stop
+use Rattle.lucid_report.specs.declared.stop.Stop.TheVariants as stop
 use Rattle.lucid_top.proofs.Counting.{none_at_ok, handed_on, counts_then}
 use Rattle.lucid_top.proofs.top.run_inputs.Goals as goal
 

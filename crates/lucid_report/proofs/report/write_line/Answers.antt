@@ -1,6 +1,6 @@
-use Rattle.lucid_top.proofs.Common.{arith, err_from_is_err_and, told}
-use Rattle.lucid_top.proofs.Pieces.{more_parts, stops_in_part}
-use Rattle.lucid_top.proofs.report.write_line.Goals as goal
+use Rattle.lucid_report.proofs.Common.{arith, err_from_is_err_and, told}
+use Rattle.lucid_report.proofs.Pieces.{more_parts, stops_in_part}
+use Rattle.lucid_report.proofs.report.write_line.Goals as goal
 
 pub returns-in_err-write_part : goal.returns-in_err-write_part
 returns-in_err-write_part g c =

@@ -1,6 +1,6 @@
-use Rattle.lucid_top.proofs.Common.{◌≤◌, told, line_of, WritesWhole}
+use Rattle.lucid_report.proofs.Common.{◌≤◌, told, line_of, WritesWhole}
 use Rattle.std.proofs.Common.{take}
-use Rattle.lucid_top.proofs.report.write_line.Given as goal
+use Rattle.lucid_report.proofs.report.write_line.Given as goal
 
 abbrev pub invariant-loop-part : goal.invariant-loop-part
 invariant-loop-part g l = record {

@@ -1,4 +1,4 @@
-use Rattle.lucid_top.proofs.report.write_refusal.Goals as goal
+use Rattle.lucid_report.proofs.report.write_refusal.Goals as goal
 
 pub returns-in-BigNumber : goal.returns-in-BigNumber
 returns-in-BigNumber g c = rw (c.in-BigNumber.is, ← c.from-in-BigNumber.ensures) c.write_at-in-BigNumber.ensures

@@ -1,7 +1,7 @@
 //! What comes of a call.
 ghost use Rattle.std.specs.Prelude.{◌≡◌};
-ghost use Rattle.lucid_top.specs.declared.stop.Stop.TheVariants.{NoMemory};
-ghost use Rattle.lucid_top.specs.Refusals.{words_stop, scan_stop, parse_stop, scope_stop, judge_stop, flat_stop, build_stop, why_stop};
+ghost use Rattle.lucid_report.specs.declared.stop.Stop.TheVariants.{NoMemory};
+ghost use Rattle.lucid_report.specs.Refusals.{words_stop, scan_stop, parse_stop, scope_stop, judge_stop, flat_stop, build_stop, why_stop};
 
 use crate::refusal::Refusal;
 use lucid_cycles::JudgeRefusal;

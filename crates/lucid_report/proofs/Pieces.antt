@@ -1,14 +1,14 @@
 -- Parts of a line written one behind the other.
-use Rattle.lucid_top.proofs.Common.{◌≡◌, ℕ, ◌+◌, ◌≤◌, ◌<◌, List, [], ◌∷◌, ◌++◌, length, get_or, Option, Some, None, Err, refl, ap, sym, subst, ◌∙◌, drop, arith, Failed, with_all, rises_from, Told, line_of, WritesWhole, WritesFront, append_assoc, take-append-le, take-append-drop, take_more, decimal}
+use Rattle.lucid_report.proofs.Common.{◌≡◌, ℕ, ◌+◌, ◌≤◌, ◌<◌, List, [], ◌∷◌, ◌++◌, length, get_or, Option, Some, None, Err, refl, ap, sym, subst, ◌∙◌, drop, arith, Failed, with_all, rises_from, Told, line_of, WritesWhole, WritesFront, append_assoc, take-append-le, take-append-drop, take_more, decimal}
 use Rattle.std.proofs.Common.{take, Result}
 use Rattle.std.proofs.lemmas.List.{length-append}
 use Rattle.lucid_ports.specs.declared.fault.PortFault.{PortFault}
 use Rattle.lucid_ports.specs.declared.fault.PortFault.TheVariants.{NoMemory}
 use Rattle.lucid_ports.specs.Writing.{with_front}
 use Rattle.lucid_ports.proofs.WritingLemmas.{all_all, front_all}
-use Rattle.lucid_top.specs.declared.report.Part.{Part}
-use Rattle.lucid_top.specs.declared.report.Part.TheVariants.{Text, Number}
-use Rattle.lucid_top.specs.Telling.{WritesLine}
+use Rattle.lucid_report.specs.declared.report.Part.{Part}
+use Rattle.lucid_report.specs.declared.report.Part.TheVariants.{Text, Number}
+use Rattle.lucid_report.specs.Telling.{WritesLine}
 
 -- a call that stopped so
 abbrev pub stopped : {T : Type 0} → PortFault → Result T PortFault

@@ -1,12 +1,12 @@
 -- The status of each outcome, and the exit code of each status.
 use Rattle.std.specs.Prelude.{ℕ, Result, Ok, Err}
-use Rattle.lucid_top.specs.declared.refusal.Refusal.{Refusal}
-use Rattle.lucid_top.specs.declared.refusal.Refusal.TheVariants as refusal
-use Rattle.lucid_top.specs.declared.stop.Done.{Done}
-use Rattle.lucid_top.specs.declared.stop.Stop.{Stop}
-use Rattle.lucid_top.specs.declared.stop.Stop.TheVariants as stop
-use Rattle.lucid_top.specs.declared.status.Status.{Status}
-use Rattle.lucid_top.specs.declared.status.Status.TheVariants as status
+use Rattle.lucid_report.specs.declared.refusal.Refusal.{Refusal}
+use Rattle.lucid_report.specs.declared.refusal.Refusal.TheVariants as refusal
+use Rattle.lucid_report.specs.declared.stop.Done.{Done}
+use Rattle.lucid_report.specs.declared.stop.Stop.{Stop}
+use Rattle.lucid_report.specs.declared.stop.Stop.TheVariants as stop
+use Rattle.lucid_report.specs.declared.status.Status.{Status}
+use Rattle.lucid_report.specs.declared.status.Status.TheVariants as status
 
 -- What comes of a call: what it has done, or why it stopped.
 abbrev pub Outcome : Type 0

@@ -15,10 +15,10 @@ use Rattle.lucid_sound.specs.declared.program.BuildRefusal.{BuildRefusal}
 use Rattle.lucid_sound.specs.declared.program.BuildRefusal.TheVariants as build
 use Rattle.lucid_why.specs.declared.read.WhyRefusal.{WhyRefusal}
 use Rattle.lucid_why.specs.declared.read.WhyRefusal.TheVariants as why
-use Rattle.lucid_top.specs.declared.refusal.Refusal.{Refusal}
-use Rattle.lucid_top.specs.declared.refusal.Refusal.TheVariants as refusal
-use Rattle.lucid_top.specs.declared.stop.Stop.{Stop}
-use Rattle.lucid_top.specs.declared.stop.Stop.TheVariants as stop
+use Rattle.lucid_report.specs.declared.refusal.Refusal.{Refusal}
+use Rattle.lucid_report.specs.declared.refusal.Refusal.TheVariants as refusal
+use Rattle.lucid_report.specs.declared.stop.Stop.{Stop}
+use Rattle.lucid_report.specs.declared.stop.Stop.TheVariants as stop
 
 abbrev pub words_stop : WordsRefusal → Stop
 words_stop words.Usage = stop.Refused refusal.Usage

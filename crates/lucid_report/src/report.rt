@@ -1,8 +1,8 @@
 //! The report: one line of fixed texts, names and digits, which takes no memory.
 ghost use Rattle.std.specs.Prelude.{◌≤◌, ◌++◌, ◌∷◌, [], codes};
 ghost use Rattle.lucid_session.specs.Runs.{told};
-ghost use Rattle.lucid_top.specs.Lines.{line_of, line_at, line_with, refusal_line, depth_line, figures_line, stop_line, outcome_line};
-ghost use Rattle.lucid_top.specs.Telling.{WritesLine, Tells};
+ghost use Rattle.lucid_report.specs.Lines.{line_of, line_at, line_with, refusal_line, depth_line, figures_line, stop_line, outcome_line};
+ghost use Rattle.lucid_report.specs.Telling.{WritesLine, Tells};
 
 use crate::refusal::Refusal;
 use crate::status::Status;

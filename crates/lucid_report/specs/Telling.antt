@@ -5,10 +5,10 @@ use Rattle.lucid_ports.specs.declared.fault.PortFault.TheVariants.{Failed, NoMem
 use Rattle.lucid_ports.specs.Faults.{Rises}
 use Rattle.lucid_ports.specs.Writing.{with_front, with_all}
 use Rattle.lucid_session.specs.Runs.{Told}
-use Rattle.lucid_top.specs.declared.status.Status.{Status}
-use Rattle.lucid_top.specs.declared.status.Status.TheVariants as status
-use Rattle.lucid_top.specs.Status.{Outcome, status_of}
-use Rattle.lucid_top.specs.Lines.{outcome_line}
+use Rattle.lucid_report.specs.declared.status.Status.{Status}
+use Rattle.lucid_report.specs.declared.status.Status.TheVariants as status
+use Rattle.lucid_report.specs.Status.{Outcome, status_of}
+use Rattle.lucid_report.specs.Lines.{outcome_line}
 
 -- the bytes are written whole; the first of them are written, and nothing else
 abbrev pub WritesWhole : List ℕ → (before after : Told) → Type 0

@@ -1,14 +1,14 @@
 -- The line that reports each outcome. The texts are this language's own.
 use Rattle.std.specs.Prelude.{ℕ, Bool, true, false, List, [], ◌∷◌, ◌++◌, codes, decimal, Ok, Err, if◌then◌else◌}
 use Rattle.lucid_ports.specs.declared.run.Summary.{Summary}
-use Rattle.lucid_top.specs.declared.refusal.Refusal.{Refusal}
-use Rattle.lucid_top.specs.declared.refusal.Refusal.TheVariants as refusal
-use Rattle.lucid_top.specs.declared.stop.Done.TheVariants as done
-use Rattle.lucid_top.specs.declared.stop.Stop.{Stop}
-use Rattle.lucid_top.specs.declared.stop.Stop.TheVariants as stop
-use Rattle.lucid_top.specs.declared.report.Part.{Part}
-use Rattle.lucid_top.specs.declared.report.Part.TheVariants as part
-use Rattle.lucid_top.specs.Status.{Outcome}
+use Rattle.lucid_report.specs.declared.refusal.Refusal.{Refusal}
+use Rattle.lucid_report.specs.declared.refusal.Refusal.TheVariants as refusal
+use Rattle.lucid_report.specs.declared.stop.Done.TheVariants as done
+use Rattle.lucid_report.specs.declared.stop.Stop.{Stop}
+use Rattle.lucid_report.specs.declared.stop.Stop.TheVariants as stop
+use Rattle.lucid_report.specs.declared.report.Part.{Part}
+use Rattle.lucid_report.specs.declared.report.Part.TheVariants as part
+use Rattle.lucid_report.specs.Status.{Outcome}
 
 -- a text, a number and a line feed
 abbrev pub line_at : List ℕ → ℕ → List ℕ

@@ -1,6 +1,6 @@
 //! How a call ends.
 ghost use Rattle.std.specs.Prelude.{◌≡◌};
-ghost use Rattle.lucid_top.specs.Status.{code_of, refusal_status, stop_status, status_of};
+ghost use Rattle.lucid_report.specs.Status.{code_of, refusal_status, stop_status, status_of};
 
 use crate::refusal::Refusal;
 use crate::stop::{Done, Stop};

@@ -1,0 +1,4 @@
+pub mod Refusals
+pub mod Status
+pub mod Lines
+pub mod Telling
