@@ -5,3 +5,4 @@ pub mod Drawing
 pub mod Judging
 pub mod Following
 pub mod Going
+pub mod RightOnes

@@ -3,3 +3,4 @@ pub mod Checks
 pub mod Faults
 pub mod Reads
 pub mod Checked
+pub mod Laws

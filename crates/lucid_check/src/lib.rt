@@ -8,4 +8,5 @@ pub use crate::uses::{applied, told};
 mod check;
 mod elements;
 mod fault;
+pub mod laws;
 mod uses;
