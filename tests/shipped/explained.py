@@ -40,18 +40,28 @@ def a_column_that_is_missing(run):
     run.explaining().lucid("p", "--columns=y").must("", 1, "no column y\n" + said)
 
 
-@case
-def a_terminal_is_told_of(run):
+def at_a_terminal(run, words, output):
+    """The call reads the line 7 from a terminal, and tells before it which input that is."""
     run.source("a + 1")
     keyboard, terminal = pty.openpty()
     explaining = run.explaining()
-    child = explaining.start(["p"], stdin=terminal)
+    child = explaining.start(words, stdin=terminal)
     os.close(terminal)
     said = child.stderr.readline()
     os.write(keyboard, b"7\n\x04")
-    ended = explaining.ended(child).must("8\n", 0, "")
+    ended = explaining.ended(child).must(output, 0, "")
     os.close(keyboard)
     check(said == b"The input a is read from here, a value on each line.\n", shown(said) + ended.words)
+
+
+@case
+def a_terminal_is_told_of_before_a_run(run):
+    at_a_terminal(run, ["p"], lines(8))
+
+
+@case
+def a_terminal_is_told_of_before_a_certificate_is_made(run):
+    at_a_terminal(run, ["--why=0", "p"], lines("j 0 0 0 0 0 7", "j 1 0 0 0 0 1", "j 2 0 0 0 2 0 1 8"))
 
 
 @case

@@ -1,21 +1,21 @@
 -- What is said before a call, where the standard input is a terminal.
-use Rattle.std.specs.Prelude.{◌≡◌, ℕ, Bool, ◌||◌, not, List, [], ◌∷◌, Option, Some, None, is_some, if◌then◌else◌}
+use Rattle.std.specs.Prelude.{◌≡◌, ℕ, Bool, ◌||◌, not, List, [], ◌∷◌, Option, Some, None, if◌then◌else◌}
 use Rattle.clap.specs.Words.{Text}
 use Rattle.lucid_words.specs.Asked.{PlainWords, words_asked}
 use Rattle.lucid_causes.specs.Prompts.{TellsPrompt}
 use Rattle.lucid_explained.specs.Files.{Files, Held, holds, unread, gone, IsSeen}
 use Rattle.lucid_explained.specs.Said.{past_source, names_given, is_none_of, source_file}
 
--- The words ask for a text of the program; or for columns, or for a certificate.
+-- The words ask for a text of the program; or for columns.
 abbrev pub asks_text : PlainWords → Bool
 asks_text asked = asked.print || asked.cycles || asked.flat || asked.from_flat
 
-abbrev pub asks_more : PlainWords → Bool
-asks_more asked = not (is_none_of asked.columns) || is_some asked.why
+abbrev pub asks_columns : PlainWords → Bool
+asks_columns asked = not (is_none_of asked.columns)
 
--- the file of the program whose one stream is run, or checked
+-- the file of the program whose one stream is run, or of whose value a certificate is made or checked
 abbrev pub run_file : PlainWords → Option Text
-run_file asked = if asks_text asked then None else if asks_more asked then None else source_file asked.source
+run_file asked = if asks_text asked then None else if asks_columns asked then None else source_file asked.source
 
 -- The text tells the only input without a file of a program that is seen so; nothing is said of a file that isn't read.
 abbrev pub PromptsBy : (asked : PlainWords) → (seen : Held) → (text : List ℕ) → Type 0

@@ -5,7 +5,7 @@ ghost use Rattle.lucid_words.specs.Asked.{plain_words, words_asked};
 ghost use Rattle.lucid_causes.specs.Prompts.{TellsPrompt};
 ghost use Rattle.lucid_explained.specs.Files.{plain_again};
 ghost use Rattle.lucid_explained.specs.Said.{names_given};
-ghost use Rattle.lucid_explained.specs.Prompted.{asks_text, asks_more, run_file, PromptsBy, IsPrompt};
+ghost use Rattle.lucid_explained.specs.Prompted.{asks_text, asks_columns, run_file, PromptsBy, IsPrompt};
 
 use crate::causes::PAST_SOURCE;
 use crate::outlook::{Again, Outlook};
@@ -21,11 +21,11 @@ fn asks_text(asked: &Words) -> bool
     asked.print || asked.cycles || asked.flat || asked.from_flat
 }
 
-// Whether they ask for columns, or for a certificate.
-fn asks_more(asked: &Words) -> bool
-    ensures { result ≡ asks_more (plain_words asked.now) }
+// Whether they ask for columns.
+fn asks_columns(asked: &Words) -> bool
+    ensures { result ≡ asks_columns (plain_words asked.now) }
 {
-    !asked.columns.is_empty() || asked.why.is_some()
+    !asked.columns.is_empty()
 }
 
 // What is said of a source before it is run with these words.
@@ -77,7 +77,7 @@ fn prompt_of_none<F: Outlook>(
     Vec::new(alloc)
 }
 
-// What is said of a call that runs a program.
+// What is said of a call that runs a program, or makes or checks a certificate of it.
 fn prompt_of_run<F: Outlook>(
     alloc: Global,
     words: &[String],
@@ -86,7 +86,7 @@ fn prompt_of_run<F: Outlook>(
 ) -> Result<Vec<u8>, AllocError>
     requires read { words_asked (map string_bytes words.now) ≡ Some (plain_words asked.now) }
     requires no_text { asks_text (plain_words asked.now) ≡ false }
-    requires no_more { asks_more (plain_words asked.now) ≡ false }
+    requires no_columns { asks_columns (plain_words asked.now) ≡ false }
     ensures { IfOk result (λ text. IsPrompt (F.files outlook.now) (map string_bytes words.now) text.items) }
 {
     match &asked.source {
@@ -107,7 +107,7 @@ fn prompt_of_call<F: Outlook>(
 {
     if asks_text(asked) {
         Ok(prompt_of_none(alloc, words, asked, outlook))
-    } else if asks_more(asked) {
+    } else if asks_columns(asked) {
         Ok(prompt_of_none(alloc, words, asked, outlook))
     } else {
         prompt_of_run(alloc, words, asked, outlook)

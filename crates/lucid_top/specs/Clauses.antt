@@ -110,7 +110,7 @@ places_before w r = first_place w.source
 
 -- How many places are reached: none where the words are refused; that of the source alone where the call is refused or writes a text, and of a
 -- certificate that is refused; in a run, a check or a making of a certificate those and one for each input, so that no input is read
--- through a second place, and all of them before the program is evaluated.
+-- through a second place; and in a run all of them before the program is evaluated.
 pub record ReachesOnly (c : Call) (o : Outcome) : Type 0 where
   pub unasked : (Asks c → ⊥) → c.after.reached ≡ 0
   pub refused : (a : Asks c) (why : Refusal) (r : Refuses c why) → TellsFiles c → c.after.reached ≤ places_before a.words r
