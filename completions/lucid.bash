@@ -21,6 +21,8 @@ _lucid() {
             return ;;
         --count | --depth | --age | --room | --columns | --why | --make)
             return ;;
+        --check)
+            is_value=yes ;;
     esac
     # the first word that is no option and no option's value
     for ((i = 1; i < COMP_CWORD; i++)); do
