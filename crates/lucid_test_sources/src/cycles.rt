@@ -3,11 +3,10 @@
 ghost use Rattle.lucid_scope.specs.Scoped.{scoped_tree};
 ghost use Rattle.lucid_cycles.specs.Judged.{IsJudged};
 
+use crate::tree::tree_of;
 use lucid_cycles::{Judgment, enough, judge};
 use lucid_lists::Numbers;
-use lucid_parse::parse;
-use lucid_scan::scan;
-use lucid_scope::{Scoped, resolve};
+use lucid_scope::{Scoped, resolve_owned};
 use std::alloc::{AllocError, Global};
 use std::process::Abort;
 use std::test::Fail;
@@ -16,9 +15,7 @@ use std::test::Fail;
 type Row = (&'static str, &'static str);
 
 fn scoped_of(alloc: Global, source: &[u8]) -> Result<Scoped, Fail> {
-    let tokens = scan(alloc, source)?;
-    let tree = parse(alloc, source, &tokens)?;
-    Ok(resolve(alloc, &tree)?)
+    Ok(resolve_owned(alloc, tree_of(alloc, source)?)?)
 }
 
 fn told(alloc: Global, judgment: &Judgment) -> Result<String, AllocError> {

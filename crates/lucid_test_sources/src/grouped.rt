@@ -1,8 +1,7 @@
 //! Sources and the trees that they spell: each spells the tree of its fully parenthesised text, and its printed text spells it again, up
 //! to places. Trees are the same up to places exactly where their canonical sources are.
-use lucid_parse::parse;
+use crate::tree::tree_of;
 use lucid_print::print_tree;
-use lucid_scan::scan;
 use lucid_test_programs::{IN_CONTEXTS, OVER_INPUTS, OVER_SPACE, OVER_TIME, UNDEFINED, Worked};
 use std::alloc::Global;
 use std::process::Abort;
@@ -10,8 +9,7 @@ use std::test::Fail;
 
 // The canonical source of the tree that a source spells.
 fn canonical(alloc: Global, source: &str) -> Result<String, Fail> {
-    let tokens = scan(alloc, source.as_bytes())?;
-    let tree = parse(alloc, source.as_bytes(), &tokens)?;
+    let tree = tree_of(alloc, source.as_bytes())?;
     let mut text = Vec::new(alloc);
     print_tree(alloc, &tree, &mut text)?;
     Ok(String::from_utf8(text)?)

@@ -11,3 +11,5 @@ mod names;
 mod parsed;
 #[cfg(test)]
 mod printed;
+#[cfg(test)]
+mod tree;

@@ -1,7 +1,6 @@
 //! What the names of sources belong to. Each row is worked out by hand from the rules of scopes.
-use lucid_parse::parse;
-use lucid_scan::scan;
-use lucid_scope::{Binding, ScopeRefusal, Scoped, resolve};
+use crate::tree::tree_of;
+use lucid_scope::{Binding, ScopeRefusal, Scoped, resolve_owned};
 use std::alloc::{AllocError, Global};
 use std::process::Abort;
 use std::test::Fail;
@@ -45,9 +44,7 @@ fn names(alloc: Global, scoped: &Scoped, end: u32) -> Result<String, Fail> {
 
 // The names of a source are resolved.
 fn scoped(alloc: Global, source: &[u8]) -> Result<Result<Scoped, ScopeRefusal>, Fail> {
-    let tokens = scan(alloc, source)?;
-    let tree = parse(alloc, source, &tokens)?;
-    Ok(resolve(alloc, &tree))
+    Ok(resolve_owned(alloc, tree_of(alloc, source)?))
 }
 
 // What the names of a source belong to, or the fault.

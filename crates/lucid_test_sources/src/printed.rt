@@ -1,7 +1,6 @@
 //! Sources and their canonical sources, worked out by hand from the grammar.
-use lucid_parse::parse;
+use crate::tree::tree_of;
 use lucid_print::print_tree;
-use lucid_scan::scan;
 use lucid_test_programs::{
     ADVANCE, COUNTING, DOUBLING_TEXT, FACTORIAL, FALSE_AND, FIBONACCI, GROWING_LIST, LAST_TIME,
     MADE_NAMES, NESTED_CURRENT, NESTED_ITERATION, SALES, THIRDS, TWO_SUMS, VALUE_AT_A_TIME,
@@ -11,10 +10,8 @@ use std::test::Fail;
 
 /// The canonical source of a source, without its line end.
 fn canonical(alloc: Global, source: &[u8]) -> Result<Vec<u8>, Fail> {
-    let tokens = scan(alloc, source)?;
-    let tree = parse(alloc, source, &tokens)?;
     let mut text = Vec::new(alloc);
-    print_tree(alloc, &tree, &mut text)?;
+    print_tree(alloc, &tree_of(alloc, source)?, &mut text)?;
     match text.pop() {
         Some(b'\n') => Ok(text),
         _ => Err(Fail::new("no line end")),

@@ -1,20 +1,15 @@
 //! Sources as programs: where the rows of a small one stand, and that large ones are compiled. The crate of the compiler has no
 //! tests of its own: its trees come from sources, so its tests stand here.
+use crate::tables::scoped;
 use lucid_compile::compile;
 use lucid_equations::{Entry, Node, Program, ScopeKind, Table};
-use lucid_parse::parse;
-use lucid_scan::scan;
-use lucid_scope::resolve;
 use std::alloc::{AllocError, Global};
 use std::process::Abort;
 use std::test::Fail;
 
 // The program of a source.
 fn program_of(alloc: Global, source: &[u8]) -> Result<Program, Fail> {
-    let tokens = scan(alloc, source)?;
-    let tree = parse(alloc, source, &tokens)?;
-    let scoped = resolve(alloc, &tree)?;
-    Ok(compile(alloc, &scoped)?)
+    Ok(compile(alloc, &scoped(alloc, source)?)?)
 }
 
 // Whether it is the call of a function that is defined in one frame.

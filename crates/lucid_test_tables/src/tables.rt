@@ -7,7 +7,7 @@ use lucid_equations::Program;
 use lucid_parse::parse;
 use lucid_plain::approximation;
 use lucid_scan::scan;
-use lucid_scope::{Scoped, resolve};
+use lucid_scope::{Scoped, resolve_owned};
 use lucid_test_programs::{DOUBLING_TEXT, IN_CONTEXTS, OVER_SPACE, OVER_TIME, UNDEFINED, Worked};
 use lucid_tree::Tree;
 use lucid_value::Value;
@@ -60,11 +60,10 @@ fn table_values(alloc: Global, program: &Program, count: u32, limit: u32) -> Res
     Ok(text)
 }
 
-// The names of a source are resolved.
-fn scoped(alloc: Global, source: &[u8]) -> Result<Scoped, Fail> {
+/// The names of a source are resolved.
+pub(crate) fn scoped(alloc: Global, source: &[u8]) -> Result<Scoped, Fail> {
     let tokens = scan(alloc, source)?;
-    let tree = parse(alloc, source, &tokens)?;
-    Ok(resolve(alloc, &tree)?)
+    Ok(resolve_owned(alloc, parse(alloc, source, &tokens)?)?)
 }
 
 // The values of the tree at a limit, which are those of the table.

@@ -2,10 +2,11 @@
 ghost use Rattle.std.specs.Prelude.{◌≡◌, IfOk};
 ghost use Rattle.lucid_tree.specs.Tree.{name, call, no_trees, tree};
 
-use lucid_scope::{Binding, ScopeRefusal, resolve};
+use lucid_scope::{Binding, ScopeRefusal, Scoped, resolve, resolve_owned};
 use lucid_tree::{Kind, Tree, Trees};
 use lucid_value::{MakeRefusal, Name};
 use std::alloc::{AllocError, Global};
+use std::process::Abort;
 use std::test::Fail;
 
 fn name_at(alloc: Global, at: u32, bytes: &[u8]) -> Result<Tree, MakeRefusal>
@@ -31,16 +32,20 @@ fn call_at(alloc: Global, at: u32, bytes: &[u8], argument: Tree) -> Result<Tree,
     })
 }
 
-// y
-#[test]
-fn a_free_name_is_an_input(rt: HostRuntime) -> Result<(), Fail> {
-    let tree = name_at(rt.alloc(), 3, b"y")?;
-    let scoped = resolve(rt.alloc(), &tree)?;
+// The tree is the name `y` at byte 3, which is the one input.
+fn is_the_input<A: Abort>(rt: &A, scoped: &Scoped) {
     assert_eq!(rt; scoped.tree().at, 3);
     assert_eq!(rt; scoped.inputs().len(), 1);
     assert_eq!(rt; scoped.inputs()[0].bytes(), b"y".as_slice());
     assert_eq!(rt; scoped.binding(3), Some(Binding::Input { stream: 0 }));
     assert_eq!(rt; scoped.binding(0), None);
+}
+
+// y
+#[test]
+fn a_free_name_is_an_input(rt: HostRuntime) -> Result<(), Fail> {
+    let tree = name_at(rt.alloc(), 3, b"y")?;
+    is_the_input(&rt, &resolve_owned(rt.alloc(), tree)?);
     Ok(())
 }
 
@@ -49,7 +54,7 @@ fn a_free_name_is_an_input(rt: HostRuntime) -> Result<(), Fail> {
 fn a_free_name_is_no_function(rt: HostRuntime) -> Result<(), Fail> {
     let argument = name_at(rt.alloc(), 2, b"y")?;
     let called = call_at(rt.alloc(), 0, b"f", argument)?;
-    let refused = resolve(rt.alloc(), &called);
-    assert!(rt; matches!(refused, Err(ScopeRefusal::NoFunction { at: 0 })));
+    let refused = resolve(rt.alloc(), &called).err();
+    assert!(rt; matches!(refused, Some(ScopeRefusal::NoFunction { at: 0 })));
     Ok(())
 }

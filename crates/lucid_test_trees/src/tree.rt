@@ -171,13 +171,17 @@ fn choices_are_copied(rt: HostRuntime) -> Result<(), Fail> {
     Ok(())
 }
 
-// The number of arguments of a call's copy.
-fn copied_arguments(alloc: Global, call: Tree) -> Result<usize, Fail> {
-    let copied = call.copy(alloc)?;
-    let Kind::Call { args, .. } = &copied.kind else {
+// The number of arguments of a call.
+fn arguments(tree: &Tree) -> Result<usize, Fail> {
+    let Kind::Call { args, .. } = &tree.kind else {
         return Err(Fail::new("a call"));
     };
     Ok(args.items().len())
+}
+
+// The number of arguments of a call's copy.
+fn copied_arguments(alloc: Global, call: Tree) -> Result<usize, Fail> {
+    arguments(&call.copy(alloc)?)
 }
 
 #[test]
@@ -189,6 +193,16 @@ fn calls_are_copied(rt: HostRuntime) -> Result<(), Fail> {
     Ok(())
 }
 
+// A block with these definitions.
+fn block_over(alloc: Global, defs: Defs) -> Result<Tree, AllocError> {
+    let subject = integer(0, 1);
+    let block = Box::new(alloc, Block { subject, defs })?;
+    Ok(Tree {
+        at: 2,
+        kind: Kind::Scope(block),
+    })
+}
+
 // A block with this one definition.
 fn block_of(alloc: Global, kind: DefKind) -> Result<Tree, MakeRefusal> {
     let name = Name::make(alloc, b"f")?;
@@ -196,14 +210,7 @@ fn block_of(alloc: Global, kind: DefKind) -> Result<Tree, MakeRefusal> {
     items
         .push(Def { at: 9, name, kind })
         .map_err(AllocError::from)?;
-    let block = Block {
-        subject: integer(0, 1),
-        defs: Defs::from_vec(items),
-    };
-    Ok(Tree {
-        at: 2,
-        kind: Kind::Scope(Box::new(alloc, block).map_err(AllocError::from)?),
-    })
+    Ok(block_over(alloc, Defs::from_vec(items))?)
 }
 
 #[test]
@@ -229,7 +236,8 @@ fn current_definitions_are_copied(rt: HostRuntime) -> Result<(), Fail> {
 
 // The depths of a constant and of the counting program.
 fn depths(alloc: Global) -> Result<(u32, u32), MakeRefusal> {
-    Ok((integer(0, 1).depth(), counting_up(alloc)?.depth()))
+    let constant = integer(0, 1).depth();
+    Ok((constant, counting_up(alloc)?.depth()))
 }
 
 #[test]
