@@ -1,7 +1,7 @@
 #!/usr/bin/env python3
 """Times `lucid` on the programs beside this file, and prints seconds, lines a second and peak memory for each.
 
-  bench/run.py [LUCID] [--beside NAME=BINARY].. [--beside-hand] [--times N] [--only NAME,..] [--growth] [--certificates]
+  bench/run.py [LUCID] [--beside NAME=BINARY].. [--beside-hand] [--times N] [--only NAME,..] [--policies] [--growth] [--certificates]
 
 LUCID          the built command; without it crates/lucid/out/lucid, which `rt run -- data/p` in crates/lucid leaves there
 --beside       another interpreter that takes the same words: both run in turns, and ratios of processor time are printed
@@ -9,6 +9,7 @@ LUCID          the built command; without it crates/lucid/out/lucid, which `rt r
                as Rust iterators, each with a line written at once, as lucid does, and with lines gathered (`blocks`). It needs rustc
 --times        how many runs of each; the median is printed (5)
 --only         these programs alone, or these kinds of growth
+--policies     each program under `keep`, `last` and `age` in turns, in place of `keep` alone: ratios are to `keep`
 --growth       each kind of growth at half and at full size in place of the programs: what twice the work costs
 --certificates making and checking certificates of half a million and of a million judgments in place of the programs
 
@@ -18,6 +19,7 @@ Output goes to the null device. Times are of the whole process, from its start t
 """
 import argparse
 import os
+import random
 import shutil
 import statistics
 import subprocess
@@ -33,6 +35,44 @@ NUMBERS = {"running_sum": 1, "input_whenever": 2, "input_upon": 2, "input_asa": 
 
 # Programs that ask backwards from the time that stands in the one line of their input: that of the last line they write.
 FALLING = {"falling_whenever", "falling_upon", "falling_asa"}
+
+
+def walk(chosen, count):
+    """Numbers from 0 to 999, each near the one before."""
+    at = 500
+    for _ in range(count):
+        at = max(0, min(999, at + chosen.randint(-40, 40)))
+        yield at
+
+
+def signal(chosen, count):
+    """A signal of 0 and 1 with wrong values between: one in twenty."""
+    at = 0
+    for _ in range(count):
+        at ^= chosen.random() < 0.1
+        yield at ^ (chosen.random() < 0.05)
+
+
+def states(chosen, count):
+    """Words, each up to twelve times in a row."""
+    for _ in range(count):
+        yield from [chosen.choice(["up", "down", "idle"])] * chosen.randint(1, 12)
+
+
+def users(chosen, count):
+    """Words out of 301."""
+    return (f"u{chosen.randint(0, 300)}" for _ in range(count))
+
+
+# Filters: what makes their inputs, and how many lines these have for a line that is written.
+FILTERS = {
+    "median3": (walk, 2),
+    "moving_average": (walk, 1),
+    "variance": (walk, 2),
+    "debounce": (signal, 2),
+    "rle": (states, 2),
+    "dedupe": (users, 8),
+}
 
 # The most lines that are compared before what stands beside is timed.
 COMPARED = 100
@@ -58,7 +98,16 @@ PROGRAMS = {
     "input_asa": ("input_asa", 100_000, DEEP),
     "input_nested": ("input_nested", 100_000, DEEP),
     "deep": ("deep", 1, DEEP),
+    "median3": ("median3", 100_000, []),
+    "moving_average": ("moving_average", 100_000, []),
+    "variance": ("variance", 100_000, []),
+    "debounce": ("debounce", 100_000, []),
+    "rle": ("rle", 20_000, []),
+    "dedupe": ("dedupe", 250, []),
 }
+
+# The policies that are compared, and the words that ask for each.
+POLICIES = {"keep": [], "last": ["--policy", "last"], "age": ["--policy", "age"]}
 
 
 def twice(program, lines, more=(), width=0):
@@ -164,6 +213,9 @@ def input_of(room, program, lines, width):
     with open(path, "w", encoding="ascii") as out:
         if program in NUMBERS:
             out.writelines(f"{i * 7919 % 1000}\n" for i in range(lines * NUMBERS[program]))
+        elif program in FILTERS:
+            make, times = FILTERS[program]
+            out.writelines(f"{line}\n" for line in make(random.Random(7), lines * times))
         elif program in FALLING:
             out.write(f"{lines - 1}\n")
         elif width:
@@ -198,6 +250,23 @@ def programs(binaries, by_hand, only, times, room):
     for who, its in ratios.items():
         if who != "lucid":
             print(f"processor time of lucid to {who}, geometric mean over {len(its)} programs: {statistics.geometric_mean(its):.2f}")
+
+
+def policies(binary, only, times, room):
+    """Each program under each policy, in turns."""
+    print(f"{'program':14} {'lines':>9} {'policy':6} {'cpu':>8} {'ratio':>6} {'MiB':>7}")
+    ratios = {}
+    for name in only or PROGRAMS:
+        program, lines, more = PROGRAMS[name]
+        given = input_of(room, program, lines, 0)
+        calls = {policy: words_of(binary, program, lines, [*more, *asked]) for policy, asked in POLICIES.items()}
+        found = medians(calls, given, times)
+        for policy, (_, work) in found.items():
+            ratio = work / found["keep"][1]
+            ratios.setdefault(policy, []).append(ratio)
+            print(f"{name:14} {lines:9} {policy:6} {work:8.3f} {ratio:6.2f} {peak(calls[policy], given, room):7.1f}", flush=True)
+    for policy, its in ratios.items():
+        print(f"processor time of {policy} to keep, geometric mean over {len(its)} programs: {statistics.geometric_mean(its):.2f}")
 
 
 def growth(binary, only, times, room):
@@ -236,6 +305,7 @@ def main():
     words.add_argument("--beside-hand", action="store_true")
     words.add_argument("--times", type=int, default=5)
     words.add_argument("--only", default="")
+    words.add_argument("--policies", action="store_true")
     words.add_argument("--growth", action="store_true")
     words.add_argument("--certificates", action="store_true")
     words = words.parse_args()
@@ -246,6 +316,8 @@ def main():
             certificates(words.lucid, words.times, room)
         elif words.growth:
             growth(words.lucid, only, words.times, room)
+        elif words.policies:
+            policies(words.lucid, only, words.times, room)
         else:
             programs(binaries, hands(room) if words.beside_hand else {}, only, words.times, room)
 
