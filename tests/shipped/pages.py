@@ -1,49 +1,67 @@
 """The programs that the pages show, run as they stand there.
 
-A fence is what its first line says:
+A fence is what its first line says, in a form that pandoc reads too:
 
-  ```lucid WORDS        a program; WORDS are the command's words behind its file, and may be none
-  ```input NAME         a file of that name for the programs up to the next heading; `-` is the standard input
-  ```output STATUS      what the program above it writes, and the status where it isn't 0; each program has one
-  ```report             what it writes on the standard error
-  ```explained          what `lucid_explain` writes there with the same words
-  ```antt FILE          the file of definitions, whole but for its first comment and the lines that import names
+  ```lucid                       a program
+  ```{.lucid words="WORDS"}      a program that is run with these words behind its file
+  ```{.input file=NAME}          a file of that name for the programs up to the next heading; `-` is the standard input
+  ```output                      what the program above it writes; each program has one
+  ```{.output status=N}          the same of a program that ends with status N, which isn't 0
+  ```report                      what it writes on the standard error
+  ```explained                   what `lucid_explain` writes there with the same words
+  ```{.antt file=FILE}           the file of definitions, whole but for its first comment and the lines that import names
 
-All other fences are text. Tables whose columns have these names are run too, a row a program: `source`, `words`, `output` and
-`status`; `example` and `its values`, of the streams `n` and `p`; `example` and `value`; `program` and `line`, of `--cycles`.
+The first lines `lucid WORDS`, `output N`, `input NAME` and `antt FILE` are read as well, though not by pandoc. All other fences are
+text. Where the line above a program has a call in code, as `lucid --count=3 program.lucid`, the call's words are the program's.
+Where it has a link to a file of examples/, the program is that file's, but for the comment that the file begins with.
+
+Tables whose columns have these names are run too, a row a program: `source`, `words`, `output` and `status`; `example` and `its
+values`, of the streams `n` and `p`; `example` and `value`; `program` and `line`, of `--cycles`.
 """
+import json
 import os
 import re
 import shlex
+import shutil
+import subprocess
 from itertools import zip_longest
 
-from harness import Case, Failed, check, lines, shown
+from harness import Case, Failed, Skipped, check, lines, shown
 
 STREAMS = " where n = 0 fby n + 1; p = true fby false fby p; end"
 
 
 class Fence:
-    """A fenced text: its first line's words, its text, the line it begins on, and the headings before it."""
+    """A fenced text: its first line's words, its text, the line it begins on, the headings before it and the line above it."""
 
-    def __init__(self, kind, words, at, section):
-        self.kind, self.words, self.at, self.section, self.text = kind, words, at, section, ""
+    def __init__(self, kind, words, at, section, above):
+        self.kind, self.words, self.at, self.section, self.above, self.text = kind, words, at, section, above, ""
+
+
+def first_line(text):
+    """The kind of a fence and its words, of its first line without the grave accents."""
+    in_braces = re.fullmatch(r'\{\.(\w+) \w+=("?)([^"]*?)\2\}', text)
+    if in_braces:
+        return in_braces[1], in_braces[3]
+    check("{" not in text, f"a fence's first line isn't understood: {text}")
+    kind, _, words = text.partition(" ")
+    return kind, words.strip()
 
 
 def fences(page):
     """The fences of a page, in order."""
-    found, inside, section = [], None, 0
+    found, inside, section, above = [], None, 0, ""
     for number, line in enumerate(page.splitlines(), 1):
         if inside:
             if line.strip() == "```":
-                inside = None
+                inside, above = None, ""
             else:
                 inside.text += line + "\n"
         elif line.startswith("```"):
-            kind, _, words = line[3:].strip().partition(" ")
-            inside = Fence(kind, words, number, section)
+            inside = Fence(*first_line(line[3:].strip()), number, section, above)
             found.append(inside)
-        elif line.startswith("#"):
-            section += 1
+        else:
+            section, above = section + line.startswith("#"), line.strip() or above
     check(inside is None, "a fence isn't closed")
     return found
 
@@ -52,7 +70,7 @@ class Shown:
     """A program of a page, with what is said of it."""
 
     def __init__(self, fence, inputs):
-        self.source, self.words, self.at = fence.text, shlex.split(fence.words), fence.at
+        self.source, self.words, self.at, self.above = fence.text, shlex.split(fence.words), fence.at, fence.above
         self.inputs, self.out, self.status, self.report, self.explained = dict(inputs), None, 0, None, None
 
 
@@ -65,7 +83,7 @@ def programs(page):
         if it.kind == "lucid":
             found.append(Shown(it, inputs))
         elif it.kind == "input":
-            inputs[it.words.strip()] = it.text
+            inputs[it.words] = it.text
         elif it.kind in ("output", "report", "explained"):
             check(found, f"line {it.at}: no program stands before it")
             kind = "out" if it.kind == "output" else it.kind
@@ -76,9 +94,26 @@ def programs(page):
     return found
 
 
+def call_above(line):
+    """The words of the last call in a line, without the command and the program's file, or none."""
+    calls = [shlex.split(it) for it in spans(line) if re.match(r"lucid(_explain)? ", it) and "|" not in it]
+    return [it for it in calls[-1][1:] if it != "program.lucid"] if calls else None
+
+
+def is_example(run, it):
+    """Compares a program with the example that the line above it names."""
+    for link in re.findall(r"\(\.\./(examples/\w+\.lucid)\)", it.above):
+        with open(os.path.join(run.top, link), encoding="utf-8") as example:
+            text = re.sub(r"\A(//.*\n)+", "", example.read())
+        check(it.source == text, f"line {it.at}: {link} says {shown(first_other(text, it.source))}")
+
+
 def one(name, shown_program):
     def work(run):
         it = shown_program
+        is_example(run, it)
+        call = call_above(it.above)
+        check(call is None or sorted(call) == sorted(it.words), f"line {it.at}: the call above it has the words {shown(call)}")
         check(it.out is not None, f"line {it.at}: no fence says what it writes")
         for file, text in it.inputs.items():
             if file != "-":
@@ -93,10 +128,29 @@ def one(name, shown_program):
 def quoted(name, fence):
     """The case that a fence quotes its file."""
     def work(run):
-        with open(os.path.join(run.top, fence.words.strip()), encoding="utf-8") as it:
+        with open(os.path.join(run.top, fence.words), encoding="utf-8") as it:
             text = re.split(r"^use .*\n\n", it.read(), flags=re.MULTILINE)[-1]
         check(fence.text == text, f"line {fence.at}: the file says {shown(first_other(text, fence.text))}")
     return Case(f"{name} line {fence.at} of definitions", work)
+
+
+def by_pandoc(name, page):
+    """The case that pandoc finds the page's fences, each with its kind and its text."""
+    def blocks(part):
+        if isinstance(part, dict) and part.get("t") == "CodeBlock":
+            return [(kind, part["c"][1].rstrip("\n")) for kind in part["c"][0][1]]
+        parts = part.values() if isinstance(part, dict) else part if isinstance(part, list) else ()
+        return [it for more in parts for it in blocks(more)]
+
+    def work(run):
+        if shutil.which("pandoc") is None:
+            raise Skipped("pandoc")
+        call = ["pandoc", "--preserve-tabs", "-f", "markdown", "-t", "json"]
+        read = subprocess.run(call, input=page, capture_output=True, timeout=60, check=True, encoding="utf-8")
+        wanted = [(it.kind, it.text.rstrip("\n")) for it in fences(page) if it.kind]
+        other = next((a for a, b in zip_longest(wanted, blocks(json.loads(read.stdout))) if a != b), None)
+        check(other is None, f"pandoc doesn't find this fence: {shown(other)}")
+    return Case(f"{name} by pandoc", work)
 
 
 def first_other(text, other):
@@ -207,7 +261,7 @@ def in_page(top, name):
         page = it.read()
     try:
         quotes = [quoted(name, it) for it in fences(page) if it.kind == "antt"]
-        return [one(name, it) for it in programs(page)] + quotes + rows(name, page)
+        return [one(name, it) for it in programs(page)] + quotes + rows(name, page) + [by_pandoc(name, page)]
     except Failed as trouble:
         def work(_, trouble=trouble):
             raise trouble
@@ -221,6 +275,6 @@ def cases(top):
     found = {name: in_page(top, name) for name in names}
 
     def whole(_):
-        lost = [it for it in ("README.md", "docs/LANGUAGE.md") if not found[it]]
+        lost = [it for it in ("README.md", "docs/LANGUAGE.md", "docs/FILTERS.md") if len(found[it]) < 2]  # one is by pandoc
         check(not lost, f"no program is found in {shown(lost)}")
     return [it for its in found.values() for it in its] + [Case("pages: programs are found", whole)]
