@@ -1,4 +1,4 @@
-# Completion of the words of lucid in fish: copy this file into ~/.config/fish/completions/
+# Completion of the words of lucid in fish: copy the files *.fish of this folder into ~/.config/fish/completions/
 
 # The file of the program among the words so far, or nothing.
 function __lucid_program
@@ -40,4 +40,3 @@ complete -c lucid -l flat -d 'write the program as a table'
 complete -c lucid -l from-flat -d 'run such a table'
 complete -c lucid -l make -x -d 'run a made program of N + 1 names'
 complete -c lucid -n __lucid_program -a '(__lucid_inputs)' -d input
-complete -c lucid_explain -w lucid

@@ -7,6 +7,7 @@ printf '#!/bin/sh\nprintf "lucid flat 1\\\\ninput sales\\\\nroot 0\\\\n"\n' >$wo
 chmod +x $work/lucid
 set -gx PATH $work $PATH
 source completions/lucid.fish
+and source completions/lucid_explain.fish
 or exit 1
 
 # what completes a line, without the explanations
@@ -20,6 +21,7 @@ end
 
 same 'lucid --pol' --policy
 same 'lucid --cy' --cycles
+same 'lucid_explain --cy' --cycles
 same 'lucid --policy l' last
 same 'lucid --policy=l' --policy=last
 same 'lucid READ' README.md

@@ -1,5 +1,6 @@
 #!/usr/bin/env python3
-"""The TextMate grammar is one: each pattern compiles, each inclusion is there, and a line has the scopes that it should.
+"""The TextMate grammar is one: each pattern compiles, each inclusion is there, and a line has the scopes that it should; and the
+problem matcher of Visual Studio Code finds the places that lucid_explain tells, and its tasks use it.
 Run from the top of the repository; silent with status 0 where all is right."""
 import json
 import re
@@ -8,6 +9,24 @@ import sys
 FOLDER = "editors/textmate/"
 RESERVED = """where end is current if then else fi first next fby whenever wvr asa upon attime and or not true false eod error div mod eq
 ne hd tl length substr nth mkword mkstring isint isword isstring islist istruth isnull isatom iseod iserror abs cmp initial succ sby atspace"""
+
+EXPLAINED = """syntax at 16
+my program.lucid:2:9:
+  x = 1 end
+        ^
+Here stands `end`.
+wrong number of arguments at 0: 1 wanted, 2 given
+p:1:1:
+f(1, 2) where
+^
+A call has as many arguments as the function has parameters.
+judgment 2 does not follow
+p:1:3:
+3 + 4
+  ^
+too deep at time 0
+`--cycles` says: cycle x at 8: sum 0
+"""
 
 
 def first_match(grammar, patterns, line, at):
@@ -51,7 +70,29 @@ def scopes(grammar, line):
     return found
 
 
+def places(matcher, text):
+    """What a problem matcher finds in a text: message, file, line and column. Its patterns match lines one after another."""
+    found, lines = [], text.splitlines()
+    for above, line in zip(lines, lines[1:]):
+        report, place = (re.search(it["regexp"], text) for it, text in zip(matcher["pattern"], (above, line)))
+        if report and place:
+            first, second = matcher["pattern"]
+            found.append((report[first["message"]], place[second["file"]], place[second["line"]], place[second["column"]]))
+    return found
+
+
+def matchers():
+    with open(FOLDER + "package.json", encoding="utf-8") as it:
+        matcher, = json.load(it)["contributes"]["problemMatchers"]
+    with open(FOLDER + "tasks.json", encoding="utf-8") as it:
+        assert {task["problemMatcher"] for task in json.load(it)["tasks"]} == {"$" + matcher["name"]}
+    got = places(matcher, EXPLAINED)
+    assert got == [("syntax at 16", "my program.lucid", "2", "9"), ("wrong number of arguments at 0: 1 wanted, 2 given", "p", "1", "1"),
+                   ("judgment 2 does not follow", "p", "1", "3")], got
+
+
 def main():
+    matchers()
     with open(FOLDER + "lucid.tmLanguage.json", encoding="utf-8") as it:
         grammar = json.load(it)
     with open(FOLDER + "package.json", encoding="utf-8") as it:

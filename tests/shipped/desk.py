@@ -12,9 +12,9 @@ from harness import Case, Skipped, check, shown
 TOOLS = {".sh": "bash", ".fish": "fish", ".zsh": "zsh", ".py": sys.executable}
 
 
-def silent(top, call):
-    """Runs words from the top; they must say nothing and end with status 0."""
-    ran = subprocess.run(call, cwd=top, capture_output=True, timeout=60, check=False, stdin=subprocess.DEVNULL)
+def silent(folder, call):
+    """Runs words in a folder; they must say nothing and end with status 0."""
+    ran = subprocess.run(call, cwd=folder, capture_output=True, timeout=60, check=False, stdin=subprocess.DEVNULL)
     check(ran.returncode == 0 and not ran.stdout + ran.stderr, f"status {ran.returncode}: {shown(ran.stdout + ran.stderr)}")
 
 
@@ -33,7 +33,7 @@ def manual(name):
     def work(run):
         if shutil.which("mandoc") is None:
             raise Skipped("mandoc")
-        silent(run.top, ["mandoc", "-T", "lint", f"man/{name}"])
+        silent(os.path.join(run.top, "man"), ["mandoc", "-T", "lint", name])
     return Case(f"man/{name}", work)
 
 
