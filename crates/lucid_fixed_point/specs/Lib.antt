@@ -1,0 +1,12 @@
+pub mod Streams
+pub mod Denotation
+pub mod Order
+pub mod Laws
+pub mod Nothing
+pub mod Tests
+pub mod Search
+pub mod Families
+pub mod Contexts
+pub mod Programs
+pub mod Equalities
+pub mod Unfolding
