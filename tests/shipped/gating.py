@@ -6,7 +6,7 @@ import sys
 
 from harness import Skipped, case, check, shown
 
-RT = '''
+RT = '''#!/usr/bin/env python3
 import glob, os, sys
 def main(words):
     bad = 0
