@@ -134,3 +134,11 @@ def all_edits_refused_are_noted_with_their_commit(run):
     said, status = small.gate("--whole")
     check(status == 0 and said.endswith("\n4 passed, 0 failed\n"), f"{status}: {shown(said)}")
     check(small.tried() == [], f"after all were refused tried: {small.tried()}")
+
+
+@case
+def without_git_all_edits_are_tried(run):
+    small = Small(run)
+    shutil.rmtree(os.path.join(small.top, ".git"))
+    said, status = small.gate()
+    check(status == 0 and said.endswith("\n4 passed, 0 failed\n"), f"{status}: {shown(said)}")
