@@ -3,6 +3,10 @@ pub mod ContentsLemmas
 pub mod FilesLemmas
 pub mod MemoryLemmas
 pub mod EndlessLemmas
+pub mod WindowLemmas
+pub mod SupplyLemmas
+pub mod StandardInputLemmas
+pub mod RealPlacesLemmas
 pub mod WorldLemmas
 pub mod WritingLemmas
 pub mod OutputLemmas

@@ -1,12 +1,23 @@
 -- Places in memory after a call.
 use Rattle.lucid_ports.proofs.Common.{◌≡◌, ◌⊎◌, ℕ, ◌+◌, ◌-◌, ◌≤◌, List, [], length, take, Option, None, Some, Contains, Ok, IfSome, inl, inr, sym, ap, subst, ◌∙◌, arith, le_refl, take_all, take-add, drop-drop, MemoryFile, FailAt, MemoryPlace, bytes_at, fail_at, memory_place, Contents, IsShown, advanced, ◌↔◌, IsSomeAnd, length-take-le, nil_from_length, StartsWith}
+use Rattle.std.proofs.Common.{min, drop, ◌++◌}
+use Rattle.std.proofs.lemmas.List.{take_min, drop_min}
 use denote.Ref.{Bor}
+use Rattle.lucid_ports.proofs.SupplyLemmas.{same_contents}
 use Rattle.lucid_ports.specs.Memory.{ShowsUpToFailure}
 use Rattle.lucid_ports.specs.MemoryView.{read_to}
 use Rattle.lucid_ports.specs.World.{IsConsumed}
 
 advanced-read_to : (position n : ℕ) (bytes : List ℕ) → read_to (position + n) bytes ≡ advanced n (read_to position bytes)
 advanced-read_to position n bytes = cc (take-add position n bytes, drop-drop n position bytes)
+
+-- as many bytes more as there are
+pub read_to-min : (position n few : ℕ) (bytes : List ℕ) → few ≡ min n (length (drop position bytes))
+    → read_to (position + few) bytes ≡ advanced n (read_to position bytes)
+read_to-min position n few bytes is =
+    let left = drop position bytes in
+    advanced-read_to position few bytes ∙ ap (λ k. advanced k (read_to position bytes)) is
+    ∙ same_contents _ _ _ _ (ap (λ l. take position bytes ++ l) (take_min n left)) (drop_min n left)
 
 -- the place p is q after n bytes more
 pub place_consumed : (files : List MemoryFile) (old new : Option MemoryPlace) (p q : MemoryPlace) (n : ℕ) → old ≡ Some p → new ≡ Some q

@@ -1,6 +1,7 @@
 -- A piece that is written in parts, and pieces one behind the other.
-use Rattle.lucid_ports.proofs.Common.{◌≡◌, ℕ, ◌+◌, List, ◌++◌, take, drop, Option, None, Some, refl, sym, ap, ◌∙◌, append_assoc, take-add, [], length, with_front, append-nil, take-append-add}
-use Rattle.lucid_ports.specs.Writing.{with_all}
+use Rattle.lucid_ports.proofs.Common.{◌≡◌, ℕ, ◌+◌, List, ◌++◌, take, drop, Option, None, Some, refl, sym, ap, ◌∙◌, append_assoc, take-add, [], length, with_front, append-nil, take-append-add, suc, subst, Result, Ok}
+use Rattle.lucid_ports.specs.Writing.{Writes, with_all}
+use Rattle.lucid_ports.specs.declared.fault.PortFault.{PortFault}
 
 -- the first n bytes, and then m of the rest
 with_front-with_front : (n m : ℕ) (piece : List ℕ) (o : Option (List ℕ)) → with_front m (drop n piece) (with_front n piece o) ≡ with_front (n + m) piece o
@@ -28,3 +29,8 @@ all_all a b (Some bytes) = ap Some (append_assoc bytes a b)
 pub front_all : (n : ℕ) (a b : List ℕ) (o : Option (List ℕ)) → with_front n b (with_all a o) ≡ with_front (length a + n) (a ++ b) o
 front_all n a b None = refl
 front_all n a b (Some bytes) = ap Some (append_assoc bytes a (take n b) ∙ ap (λ front. bytes ++ front) (sym (take-append-add a b n)))
+
+-- one write more that doesn't fail
+pub writes_more : {K : Type 0} (gives : K → List ℕ → Result ℕ PortFault → K → Type 0) (n : ℕ) (old middle new : K) (piece : List ℕ) (r : Result ℕ PortFault)
+    (taken : ℕ) → Writes gives n old middle → gives middle piece r new → r ≡ Ok taken → (m : ℕ) × Writes gives m old new
+writes_more gives n old middle new piece r taken so wrote is = (suc n, (middle, piece, taken, so, subst (λ q. gives middle piece q new) is wrote))

@@ -12,4 +12,9 @@ pub mod Sink
 pub mod Endless
 pub mod EndlessView
 pub mod RealSinkView
+pub mod Supply
+pub mod MemoryOutsideView
+pub mod Window
+pub mod StandardInput
+pub mod Source
 pub mod RealPlacesView

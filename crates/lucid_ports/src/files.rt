@@ -41,7 +41,7 @@ pub(crate) fn position_in(files: &[MemoryFile], file: usize, position: usize) ->
     position.min(bytes_of(files, file).len())
 }
 
-fn bytes_of(files: &[MemoryFile], file: usize) -> &[u8]
+pub(crate) fn bytes_of(files: &[MemoryFile], file: usize) -> &[u8]
     ensures { result.now ≡ bytes_at files.now file }
 {
     match files.get(file) {

@@ -1,73 +1,87 @@
 // The real places.
-ghost use Rattle.std.specs.Prelude.{◌≡◌, ◌+◌, ◌-◌, ◌≤◌, IfSome, IfNone, length};
+ghost use Rattle.std.specs.Prelude.{◌≡◌, [], IfSome, IfNone, IsErrOf, option_map};
 ghost use Rattle.lucid_ports.specs.Faults.{faults_after};
-ghost use Rattle.lucid_ports.specs.RealPlacesView.{real_world};
+ghost use Rattle.lucid_ports.specs.RealPlacesView.{AsksWhereNone, PlaceAsks, place_at, real_faults, real_outside, real_reached, real_world, source_of};
+ghost use Rattle.lucid_ports.specs.Source.{source_contents, source_shown};
+ghost use Rattle.lucid_ports.specs.World.{unread};
 
+use crate::host::{Host, HostReader};
+use crate::real_place::RealPlace;
+use crate::source::Source;
 use crate::standard_input::StandardInput;
+use crate::supply::{Outside, Preview, Supply};
 use crate::window::Window;
 use crate::{Places, PortFault};
 use std::alloc::Global;
-use std::io::{BufRead, Read};
+use std::io::Input;
 use std::rt::Files;
-use std::{fs, io};
 
 /// The name that stands for standard input.
 const STANDARD_INPUT: &str = "-";
 
-/// Files by their paths, and standard input under the name `-`. They tell nothing of contents.
+/// Files by their paths, and standard input under the name `-`. They tell what their outside tells: of a runtime nothing of contents.
 ///
 /// A file that can't be opened is a fault, and so is a failed read. Where standard input can seek, what was shown of it and not consumed is
 /// given back when the places are dropped.
 #[derive(Drop)]
-pub struct RealPlaces<R, F, I> {
-    rt: R,
+pub struct RealPlaces<O, F: Supply, I: Preview> {
+    outside: O,
     places: Vec<RealPlace<F, I>>,
     faults: u64,
 }
 
-#[derive(Drop)]
-struct RealPlace<F, I> {
-    source: Source<F, I>,
-    window: Window,
-}
-
-#[derive(Drop)]
-enum Source<F, I> {
-    File(F),
-    Input(StandardInput<I>),
-}
-
-impl<R: Files + Input> RealPlaces<R, <R as Files>::File, <R as Input>::Reader> {
-    /// No place is reached.
+impl<R: Files + Input> RealPlaces<
+    Host<R>,
+    HostReader<<R as Files>::File>,
+    HostReader<<R as Input>::Reader>,
+> {
+    /// Over a runtime. No place is reached.
     pub fn make(alloc: Global, rt: R) -> Self
-        ensures none { (real_world result).reached ≡ 0 }
-        ensures faults { (real_world result).faults ≡ 0 }
+        ensures none { real_reached result ≡ 0 }
+        ensures faults { real_faults result ≡ 0 }
+    {
+        RealPlaces::over(alloc, Host::make(rt))
+    }
+}
+
+impl<O: Outside> RealPlaces<O, <O as Outside>::File, <O as Outside>::Input> {
+    /// Over what opens files and standard input. No place is reached.
+    pub fn over(alloc: Global, outside: O) -> Self
+        ensures names { (real_world O.holds O.File.contents O.Input.contents result).holds ≡ O.holds outside }
+        ensures none { real_reached result ≡ 0 }
+        ensures faults { real_faults result ≡ 0 }
     {
         RealPlaces {
-            rt,
+            outside,
             places: Vec::new(alloc),
             faults: 0,
         }
     }
 }
 
-impl<R: Files + Input> Places for RealPlaces<R, <R as Files>::File, <R as Input>::Reader> {
-    ghost world = { real_world };
+impl<O: Outside> Places for RealPlaces<O, <O as Outside>::File, <O as Outside>::Input> {
+    ghost use Rattle.lucid_ports.specs.declared.fault.PortFault.{PortFault};
 
-    ghost reach_gives = { λ old name result new. (real_world new).faults ≡ faults_after (real_world old).faults result };
+    ghost world = { real_world O.holds O.File.contents O.Input.contents };
 
-    ghost fill_gives = { λ old place result new. (real_world new).faults ≡ faults_after (real_world old).faults result };
+    // A fault is one of what opens the name.
+    ghost reach_gives = { λ old name result new. (real_faults new ≡ faults_after (real_faults old) result)
+        × (IsErrOf result PortFault.Failed → O.refuses (real_outside old) name) };
 
-    ghost consume_gives = { λ old place n new. (real_world new).faults ≡ (real_world old).faults };
+    // A fault is one of the reader, which is asked where nothing is shown, and then once.
+    ghost fill_gives = { λ old place result new. (real_faults new ≡ faults_after (real_faults old) result)
+        × AsksWhereNone ((real_world O.holds O.File.contents O.Input.contents old).place place).shown
+        (λ answer. PlaceAsks O.File.read_gives O.Input.read_gives O.Input.show_gives (place_at old place) answer (place_at new place))
+        (source_of (place_at new place) ≡ source_of (place_at old place)) result };
 
     fn reach(&mut self, alloc: Global, name: &str) -> Result<u32, PortFault> {
         let number = self.places.len() as u32;
-        let Ok(source) = open(&self.rt, name) else {
+        let Some(source) = open(&self.outside, name) else {
             self.faults = self.faults.saturating_add(1);
             return Err(PortFault::Failed);
         };
         let window = Window::make(alloc)?;
-        self.places.push(RealPlace { source, window })?;
+        self.places.push(RealPlace::make(source, window))?;
         Ok(number)
     }
 
@@ -77,7 +91,7 @@ impl<R: Files + Input> Places for RealPlaces<R, <R as Files>::File, <R as Input>
             self.faults = self.faults.saturating_add(1);
             return Err(PortFault::Failed);
         }
-        Ok(self.places[number].window.as_slice())
+        Ok(self.places[number].as_slice())
     }
 
     fn consume(&mut self, place: u32, n: usize) {
@@ -85,37 +99,17 @@ impl<R: Files + Input> Places for RealPlaces<R, <R as Files>::File, <R as Input>
     }
 }
 
-impl<F: Read, I: BufRead> RealPlace<F, I> {
-    // Shows what is there, or else what one more read gives; none where that fails.
-    fn fill(&mut self) -> Option<()>
-        ensures used { IfSome result (λ _. self.new.window.used ≡ 0) }
-        ensures shown { IfNone result (self.new.window.end - self.new.window.start ≡ self.old.window.end - self.old.window.start) }
-        ensures kept { IfNone result (self.new.window.used ≡ self.old.window.used) }
-    {
-        match &mut self.source {
-            Source::File(file) => self.window.fill(file),
-            Source::Input(input) => input.fill(&mut self.window),
-        }
-    }
-
-    fn consume(&mut self, count: usize)
-        requires { count ≤ self.old.window.end - self.old.window.start }
-        ensures shown { self.new.window.end - self.new.window.start ≡ self.old.window.end - self.old.window.start - count }
-        ensures used { self.new.window.used ≡ self.old.window.used + count }
-    {
-        if let Source::Input(input) = &mut self.source {
-            input.consume(count);
-        }
-        self.window.consume(count);
-    }
-}
-
-fn open<R: Files + Input>(
-    rt: &R,
+// Opens the source of a name, of which nothing is read or shown.
+fn open<O: Outside>(
+    outside: &O,
     name: &str,
-) -> io::Result<Source<<R as Files>::File, <R as Input>::Reader>> {
+) -> Option<Source<<O as Outside>::File, <O as Outside>::Input>>
+    ensures shown { IfSome result (λ source. source_shown O.File.contents O.Input.contents source [] ≡ []) }
+    ensures opened { IfSome result (λ source. source_contents O.File.contents O.Input.contents source [] ≡ option_map unread (O.holds outside.now name.now)) }
+    ensures refused { IfNone result (O.refuses outside.now name.now) }
+{
     if name == STANDARD_INPUT {
-        return Ok(Source::Input(StandardInput::make(rt.reader())));
+        return Some(Source::Input(StandardInput::make(outside.input()?)));
     }
-    Ok(Source::File(fs::open(rt, name)?))
+    Some(Source::File(outside.open(name)?))
 }

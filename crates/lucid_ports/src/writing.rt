@@ -1,7 +1,7 @@
 // Writing a piece whole.
 ghost use Rattle.std.specs.Prelude.{◌≡◌, ◌≤◌, ℕ, length, OnOk, IsErrOf};
 ghost use Rattle.lucid_ports.specs.Faults.{CountsNoFaultUnless, Rises};
-ghost use Rattle.lucid_ports.specs.Writing.{with_all, with_front};
+ghost use Rattle.lucid_ports.specs.Writing.{EndsAtFault, with_all, with_front};
 
 use crate::{PortFault, Sink};
 
@@ -11,6 +11,9 @@ pub fn write_whole<K: Sink>(sink: &mut K, piece: &[u8]) -> Result<(), PortFault>
 
     // Whatever the answer, the first bytes of the piece were appended, and nothing else.
     ensures front { (n : ℕ) × (n ≤ length piece.now) × (K.written sink.new ≡ with_front n piece.now (K.written sink.old)) }
+
+    // No write comes after one that failed.
+    ensures ends { EndsAtFault K.write_gives sink.old result sink.new }
 
     ensures failed { IsErrOf result PortFault.Failed → Rises (K.faults sink.old) (K.faults sink.new) }
     ensures counts_no_fault { CountsNoFaultUnless (IsErrOf result PortFault.Failed) (K.faults sink.old) (K.faults sink.new) }

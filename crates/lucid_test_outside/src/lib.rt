@@ -8,4 +8,8 @@ mod make;
 #[cfg(test)]
 mod ports;
 #[cfg(test)]
+mod real_places;
+#[cfg(test)]
+mod scripted;
+#[cfg(test)]
 mod words;
