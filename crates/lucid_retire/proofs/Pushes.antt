@@ -1,5 +1,5 @@
 -- What a push leaves in the cache of the listed keys, and what falls out of it.
-use Rattle.lucid_retire.proofs.Common.{◌≡◌, ℕ, zero, suc, ◌-◌, ◌≤◌, ◌<◌, Bool, true, false, cond, List, [], ◌∷◌, length, take, Option, Some, None, IsSome, is_some, refl, ap, sym, ◌∙◌, arith, slice_get, option_map, lookup, keys_of, remove_key, slice_get_past, length-keys_of, is_some-lookup, displaced, Key, same_key, same_key_is_equality, same_key_equiv, is_listed, to_front, brought, pushed_out, fallen_of, option_map_or, lookup_entry, remove_entry, take_all, take-map, slice_get-map, length-remove_key}
+use Rattle.lucid_retire.proofs.Common.{◌≡◌, ℕ, zero, suc, ◌-◌, ◌≤◌, ◌<◌, Bool, true, false, cond, List, [], ◌∷◌, length, take, Option, Some, None, IsSome, is_some, refl, ap, subst, sym, ◌∙◌, arith, slice_get, option_map, lookup, keys_of, remove_key, slice_get_past, length-keys_of, is_some-lookup, displaced, Key, same_key, same_key_is_equality, same_key_equiv, is_listed, is_the, to_front, brought, pushed_out, fallen_of, option_map_or, lookup_entry, remove_entry, take_all, take-map, slice_get-map, length-remove_key}
 use Rattle.lru.specs.LruCache.{lru_cache, put_entries}
 use Rattle.lru.proofs.CallerLemmas.{Contains-lookup_entry}
 use Rattle.lucid_retire.proofs.Lists.{remove-unlisted, apart_from_unlisted, apart_item}
@@ -19,6 +19,22 @@ keys_of-remove_entry test (e ∷ es) = let rest = keys_of-remove_entry test es i
       | true ↦ refl
       | false ↦ ap (λ ks. e.0 ∷ ks) rest
     ]
+
+front_by_parts : (k : Key) (ks : List Key) (key : Key) → k ≡ key → to_front key (k ∷ ks) ≡ k ∷ ks
+front_by_parts k ks key same =
+    subst (λ x. to_front x (k ∷ ks) ≡ k ∷ ks) same (ap (λ t. k ∷ cond t ks (k ∷ remove_key (same_key k) ks)) (same_key_equiv.refl k))
+
+-- the key at the front stays there
+front_same : (keys : List Key) (key : Key) → is_the (slice_get keys 0) key ≡ true → to_front key keys ≡ keys
+front_same [] key is = absurd (grind (arith, is))
+front_same (k ∷ ks) key is = front_by_parts k ks key ((same_key_is_equality k key).0 is)
+
+pub front_stays : (keys : List Key) (room : ℕ) (key : Key) → length keys ≤ room → is_the (slice_get keys 0) key ≡ true → brought room key keys ≡ keys
+front_stays keys room key few is = ap (take room) (front_same keys key is) ∙ take_all room keys few
+
+pub front_pushes_nothing : (keys : List Key) (room : ℕ) (key : Key) → length keys ≤ room → is_the (slice_get keys 0) key ≡ true
+    → pushed_out room key keys ≡ None
+front_pushes_nothing keys room key few is = ap (λ ks. slice_get ks room) (front_same keys key is) ∙ slice_get_past keys room few
 
 -- a room of at least one
 take_front : (room : ℕ) (key : Key) (ks : List Key) → 0 < room → key ∷ take (room - 1) ks ≡ take room (key ∷ ks)

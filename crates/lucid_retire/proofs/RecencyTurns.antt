@@ -1,5 +1,5 @@
 -- A whole turn of the policy that keeps what was touched last.
-use Rattle.lucid_retire.proofs.Common.{◌≡◌, ◌≤◌, ◌<◌, Bool, true, false, cond, ◌||◌, ◌⊎◌, inl, inr, [], ◌∷◌, length, Option, Some, None, IsSome, is_some, refl, ap, sym, ◌∙◌, subst, arith, nat_lt, MatchBool, le-ltb, Key, Stored, entry_at, count_of, cleared, IsOneForEach, Recency, is_listed, is_the, last_of, AreHeld, AreRecent, DropsKey, IfSome}
+use Rattle.lucid_retire.proofs.Common.{◌≡◌, ◌≤◌, ◌<◌, Bool, true, false, cond, ◌||◌, ◌⊎◌, inl, inr, [], length, Option, Some, None, IsSome, is_some, refl, ap, sym, ◌∙◌, subst, arith, nat_lt, MatchBool, le-ltb, Key, Stored, entry_at, count_of, cleared, IsOneForEach, Recency, is_listed, is_the, last_of, AreHeld, AreRecent, DropsKey, IfSome}
 use Rattle.lucid_retire.specs.Recency.{with_touched, Agrees, IsNoted, IsRefusedAt, IsRecencyTurn}
 use Rattle.lucid_retire.proofs.Brought.{held_after, held_refused, falls_out, length-take-le, count-listed}
 

@@ -1,14 +1,16 @@
 //! The policy that keeps what was touched last.
 
-ghost use Rattle.std.specs.Prelude.{◌≡◌, ◌≤◌, ◌<◌, ◌⊎◌, Bool, false, [], Option, Some, None, IfOk, OnOk, OnErr};
+ghost use Rattle.std.specs.Prelude.{◌≡◌, ◌≤◌, ◌<◌, ◌⊎◌, Bool, false, [], Option, Some, None, IfOk, OnOk, OnErr, slice_get};
 ghost use Rattle.lucid_store.specs.Entries.{count_of};
 ghost use Rattle.lucid_retire.specs.Turns.{IsTurn};
-ghost use Rattle.lucid_retire.specs.Recency.{brought, pushed_out, fallen_of, is_listed, AreRecent, IsNoted, IsRecencyTurn};
+ghost use Rattle.lucid_retire.specs.Recency.{brought, pushed_out, fallen_of, is_listed, is_the, AreRecent, IsNoted, IsRecencyTurn};
 
 use crate::Retire;
 use lru::LruCache;
 use lucid_store::{Key, Warehouse};
+use lucid_tags::KeyHasher;
 use std::alloc::{AllocError, Global};
+use std::hash::BuildHasherDefault;
 use std::marker::Model;
 use std::num::NonZeroUsize;
 
@@ -20,7 +22,7 @@ use std::num::NonZeroUsize;
 /// counts that. Where more than the room are still held, the list and the warehouse are both emptied.
 #[derive(Drop)]
 pub struct Last {
-    recent: LruCache<Key, ()>,
+    recent: LruCache<Key, (), BuildHasherDefault<KeyHasher>>,
     // How many touched keys were dropped for want of memory in the list, up to the greatest u64.
     unlisted: u64,
 }
@@ -52,8 +54,11 @@ impl Last {
         ensures { IfOk result (λ last. last ≡ record { keys = []; room = room; unlisted = 0 }) }
     {
         let room = NonZeroUsize::new(room as usize).unwrap();
+        // It reserves no memory for its room.
+        let mut recent = LruCache::unbounded_with_hasher(alloc, BuildHasherDefault::new())?;
+        recent.resize(room);
         Ok(Last {
-            recent: LruCache::sparse(alloc, room)?,
+            recent,
             unlisted: 0,
         })
     }
@@ -87,6 +92,16 @@ impl Last {
         self.recent.clear();
     }
 
+    // Whether a key is at the front of the list.
+    fn is_front(&self, key: Key) -> bool
+        ensures { result ≡ is_the (slice_get self.now.keys 0) key }
+    {
+        match self.recent.peek_mru() {
+            Some((front, ())) => *front == key,
+            None => false,
+        }
+    }
+
     // Brings a key to the front of the list, and gives the key that falls out of it. A key that is listed takes no memory.
     fn bring(&mut self, key: Key) -> Result<Option<Key>, AllocError>
         ensures front { OnOk result (self.new ≡ record self.old { keys = brought self.old.room key self.old.keys }) }
@@ -95,6 +110,10 @@ impl Last {
         ensures unlisted { OnErr result (is_listed self.old.keys key ≡ false) }
     {
         let _count = self.recent.len();
+        // A value that was just computed is mostly what is looked for next.
+        if self.is_front(key) {
+            return Ok(None);
+        }
         let pushed = self.recent.push(key, ())?;
         Ok(fallen(pushed, key))
     }

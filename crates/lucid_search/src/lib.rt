@@ -9,9 +9,10 @@ ghost use Rattle.lucid_search.specs.Numbered.{number_in, SetsOne};
 ghost use Rattle.lucid_search.specs.Noted.{number_at, number_of_site, nothing_noted, IsBest, NotesSite, SameSites, NotesOrMisses};
 
 use indexmap::IndexMap;
-use lucid_tags::Tag;
+use lucid_tags::{KeyHasher, Tag};
 use notes::Notes;
 use std::alloc::{AllocError, Global};
+use std::hash::BuildHasherDefault;
 use std::marker::Model;
 
 mod notes;
@@ -28,7 +29,7 @@ pub(crate) struct Site {
 #[derive(Drop)]
 pub struct Positions {
     alloc: Global,
-    sites: IndexMap<Site, Notes>,
+    sites: IndexMap<Site, Notes, BuildHasherDefault<KeyHasher>>,
     missed: u64,
 }
 
@@ -46,7 +47,7 @@ impl Model for Positions {
 // Notes a number at a site and a key.
 fn add_note(
     alloc: Global,
-    sites: &mut IndexMap<Site, Notes>,
+    sites: &mut IndexMap<Site, Notes, BuildHasherDefault<KeyHasher>>,
     site: Site,
     key: u64,
     number: u64,
@@ -71,7 +72,7 @@ impl Positions {
     {
         Positions {
             alloc,
-            sites: IndexMap::new(alloc),
+            sites: IndexMap::with_hasher(alloc, BuildHasherDefault::new()),
             missed: 0,
         }
     }

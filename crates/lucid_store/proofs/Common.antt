@@ -11,9 +11,7 @@ pub use Rattle.std.proofs.Common.{Bool, IfSome, List, None, Option, Some, [], ap
 pub use Rattle.std.proofs.lemmas.Bool.Decides.{nat_tests}
 pub use Rattle.std.proofs.lemmas.List.{append-nil, get_or-set_other, get_or-set_same, get_or-take, get_or_default, length-append, length-map, length-set, length-take-le}
 pub use Rattle.std.proofs.lemmas.List.Edits.{map_over_more}
-pub use Rattle.std.proofs.lemmas.Nat.{from_le_bytes-to_le_bytes_4, from_le_bytes-to_le_bytes_8}
 pub use Rattle.std.proofs.lemmas.Option.{get_or_from_slice_get, slice_get-map, slice_get_within}
-unfoldable pub use Rattle.std.specs.Hash.{le_bytes}
 pub use Rattle.std.specs.List.{AllWithin, IsDistinct, position_or_len, swap_remove}
 pub use Rattle.std.specs.Map.{keys_of, lookup, lookup_key, values_of}
 pub use Rattle.std.specs.Option.{option_to_list}

@@ -4,4 +4,3 @@ pub mod StoredCode
 pub mod Beside
 pub mod Entries
 pub mod Lending
-pub mod Hashing

@@ -11,8 +11,8 @@ ghost use Rattle.lucid_store.specs.Entries.{fresh, renewed, older, swept, within
 
 use crate::Key;
 use crate::ages::Ages;
-use crate::hashing::KeyHasher;
 use indexmap::IndexMap;
+use lucid_tags::KeyHasher;
 use lucid_value::Value;
 use std::alloc::Global;
 use std::hash::BuildHasherDefault;

@@ -9,7 +9,6 @@ pub use warehouse::Warehouse;
 
 mod ages;
 mod datons;
-mod hashing;
 #[cfg(test)]
 mod tests;
 mod warehouse;

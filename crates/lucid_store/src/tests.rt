@@ -1,6 +1,5 @@
 use super::*;
-use crate::hashing::KeyHasher;
-use lucid_tags::{Tag, Tags};
+use lucid_tags::{KeyHasher, Tag, Tags};
 use std::hash::{BuildHasher, BuildHasherDefault};
 
 // How many groups a hash can name.

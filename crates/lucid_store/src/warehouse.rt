@@ -148,6 +148,8 @@ impl Warehouse {
     }
 
     /// Every age rises by one, up to the greatest u32; then exactly the keys with an age over the limit are removed.
+    // It comes seldom, and would make each turn of a policy longer.
+    #[inline(never)]
     pub fn sweep(&mut self, limit: u32)
         ensures { IsSwept limit self.old self.new }
     {
@@ -172,6 +174,7 @@ impl Warehouse {
     }
 
     /// Removes all. How many values were lost stays.
+    #[inline(never)]
     pub fn clear(&mut self)
         ensures { self.new ≡ cleared self.old }
     {

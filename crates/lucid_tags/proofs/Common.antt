@@ -10,7 +10,9 @@ pub use Rattle.std.proofs.Common.{Bool, IfNone, IfSome, List, None, Option, ap, 
 pub use Rattle.std.proofs.lemmas.Bool.Decides.{nat_tests}
 pub use Rattle.std.proofs.lemmas.List.{get_or_append_left}
 pub use Rattle.std.proofs.lemmas.Map.Made.{IfSome-find_same}
+pub use Rattle.std.proofs.lemmas.Nat.{from_le_bytes-to_le_bytes_4, from_le_bytes-to_le_bytes_8}
 pub use Rattle.std.proofs.lemmas.Option.{slice_get-get_or, slice_get_read, slice_get_within}
 pub use Rattle.std.specs.Bool.{Decides}
+unfoldable pub use Rattle.std.specs.Hash.{le_bytes}
 pub use Rattle.std.specs.List.{find, list_any}
 pub use Rattle.std.specs.Prelude.{slice_get}

@@ -4,3 +4,4 @@ pub mod Known
 pub mod Keys
 pub mod EqualityDecides
 pub mod Rows
+pub mod Hashing

@@ -7,9 +7,11 @@
 ghost use Rattle.std.specs.Prelude.{◌≡◌, ◌<◌, ◌≤◌, ◌*◌, ◌+◌, ◌^◌, ◌↔◌, ◌∷◌, [], length, IsNone, IfSome, IfOk, OnOk, OnErr};
 
 use crate::rows::{Row, RowFrame, Table};
+pub use hashing::KeyHasher;
 use std::alloc::{AllocError, Global};
 use std::marker::Model;
 
+mod hashing;
 pub mod laws;
 mod rows;
 

@@ -5,8 +5,10 @@ ghost use Rattle.lucid_tags.specs.Contexts.{context_at, frames, IsOuter, cut};
 ghost use Rattle.lucid_tags.specs.Known.{AddsAtMost, IsUnknown};
 ghost use Rattle.lucid_tags.specs.Rows.{contexts, row_context, CallerBelow, IsRow, IsDepth, AreDepths, AreRows};
 
+use crate::hashing::KeyHasher;
 use indexmap::IndexSet;
 use std::alloc::{AllocError, Global};
+use std::hash::BuildHasherDefault;
 
 // A frame whose caller is given by its number.
 #[derive(Clone, Copy, PartialEq, Eq, Hash)]
@@ -33,7 +35,7 @@ pub(crate) struct Depth {
 // The known contexts but the empty one: a row for each, in the order in which they became known, and beside it how deep it is.
 #[derive(Drop)]
 pub(crate) struct Table {
-    rows: IndexSet<Row>,
+    rows: IndexSet<Row, BuildHasherDefault<KeyHasher>>,
     depths: Vec<Depth>,
 }
 
@@ -43,7 +45,7 @@ impl Table {
         ensures depths { result.depths.items ≡ [] }
     {
         Table {
-            rows: IndexSet::new(alloc),
+            rows: IndexSet::with_hasher(alloc, BuildHasherDefault::new()),
             depths: Vec::new(alloc),
         }
     }

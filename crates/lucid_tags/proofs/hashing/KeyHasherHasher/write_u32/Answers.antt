@@ -1,7 +1,7 @@
 -- A number is what its bytes are read as.
-use Rattle.lucid_store.proofs.Common.{ap, sym, ◌∙◌, le_bytes, from_le_bytes-to_le_bytes_4}
-use Rattle.lucid_store.specs.Hashing as hashing
-use Rattle.lucid_store.proofs.hashing.KeyHasherHasher.write_u32.Goals as goal
+use Rattle.lucid_tags.proofs.Common.{ap, sym, ◌∙◌, le_bytes, from_le_bytes-to_le_bytes_4}
+use Rattle.lucid_tags.specs.Hashing as hashing
+use Rattle.lucid_tags.proofs.hashing.KeyHasherHasher.write_u32.Goals as goal
 
 pub returns : goal.returns
 unfolding le_bytes

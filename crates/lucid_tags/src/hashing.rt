@@ -1,9 +1,9 @@
-//! How a warehouse hashes keys.
+//! How keys are hashed, and contexts by their rows.
 //!
 //! Most programs need a name at one time after another. So four times in a row of one name in one context hash to one group of a map's
 //! index, which is one line of a processor's cache, each with a tag of its own. The groups themselves are spread.
 ghost use Rattle.std.specs.Prelude.{◌≡◌};
-ghost use Rattle.lucid_store.specs.Hashing as hashing;
+ghost use Rattle.lucid_tags.specs.Hashing as hashing;
 
 use std::hash::Hasher;
 
@@ -18,9 +18,9 @@ const TIMES: u64 = 4;
 // What a tag is worth in a hash.
 const TAG: u64 = 1 << 24;
 
-/// A hasher for keys. It isn't cryptographic: whoever picks the keys can make them collide, which costs time alone.
+/// A hasher for keys, and for all that is made of some numbers. It isn't cryptographic: whoever picks the keys can make them collide, which costs time alone.
 #[derive(Clone, Copy)]
-pub(crate) struct KeyHasher {
+pub struct KeyHasher {
     state: u64,
 }
 

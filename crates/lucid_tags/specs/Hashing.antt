@@ -2,7 +2,7 @@
 -- context, the two halves of its space and, as the last one, its time. Only how long a look takes depends on it.
 use Rattle.std.specs.Prelude.{ℕ, ◌+◌, ◌*◌, ◌/◌, ◌%◌, ◌^◌, List, length, if◌then◌else◌, nat_eq, bit_xor}
 use Rattle.std.specs.Int.{from_le_bytes, w32, w64}
-use Rattle.lucid_store.specs.declared.hashing.KeyHasher.{KeyHasher}
+use Rattle.lucid_tags.specs.declared.hashing.KeyHasher.{KeyHasher}
 
 abbrev pub added : KeyHasher → ℕ → KeyHasher
 added h number = record { state = ((h.state * 0xf135_7aea_2e62_a9c5) % 2 ^ 64 + number) % 2 ^ 64 }
