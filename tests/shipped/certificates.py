@@ -1,6 +1,6 @@
 """Certificates of made programs: what `--why` writes is checked with Ok and holds the line that a run prints, and no changed one has another value told.
 
-The programs are made of the forms with holes that the crate lucid_test_made_programs has, with a seed of their own for each case.
+The programs are made of the forms with holes that the crate lucid_test_engine has, with a seed of their own for each case.
 """
 import os
 import random
@@ -17,7 +17,7 @@ FILES = {"a": [3, 1, 4, 1, 5, 9, 2, 6, 5, 3], "b": ["true", "[% 1 dog %]", "fals
 def forms_of(top):
     """The forms by the hole that each fills, with how many nodes it has beyond one."""
     found = {}
-    with open(os.path.join(top, "crates/lucid_test_made_programs/src/maker.rt"), encoding="utf-8") as it:
+    with open(os.path.join(top, "crates/lucid_test_engine/src/made_programs/maker.rt"), encoding="utf-8") as it:
         for hole, more, text in FORM.findall(it.read()):
             found.setdefault(hole, []).append((int(more), text.replace('\\"', '"').replace("\\\\", "\\")))
     check(len(found) == 7 and sum(map(len, found.values())) > 100, f"forms were read for {shown(found)}")

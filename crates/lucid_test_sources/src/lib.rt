@@ -1,4 +1,5 @@
-//! Worked rows of sources as text: the trees that they spell, what their names belong to, and what is judged of their cycles.
+//! Tests alone, of trees made by hand, and of sources as text: their tokens, the trees that they spell, what their names belong to, and what is
+//! judged of their cycles.
 #![tactic(auto)]
 
 #[cfg(test)]
@@ -12,4 +13,10 @@ mod parsed;
 #[cfg(test)]
 mod printed;
 #[cfg(test)]
+mod scan;
+#[cfg(test)]
+mod scope;
+#[cfg(test)]
 mod tree;
+#[cfg(test)]
+mod trees;
