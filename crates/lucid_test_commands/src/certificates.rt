@@ -364,8 +364,7 @@ fn report_of<R: Abort + AllocGlobal>(rt: &R, text: &str, report: &str) -> Result
     let alloc = rt.alloc();
     let mut places = places_of(alloc, FACTORIALS.as_bytes(), &[("w", text)], &[])?;
     let answer = call(alloc, "--check w p", &mut places, 100, &[])?;
-    assert_eq!(rt; answer.status, Status::Refused);
-    assert_eq!(rt; answer.report.as_str(), report);
+    assert!(rt; answer.tells(Status::Refused, "", report), "{report}");
     Ok(())
 }
 
@@ -387,7 +386,6 @@ fn a_certificate_too_long(rt: HostRuntime) -> Result<(), Fail> {
     let piece = vec![in alloc; 108; 1_048_576]?;
     let mut places = Endless::make(alloc, files, piece);
     let answer = call(alloc, "--check w p", &mut places, 100, &[])?;
-    assert_eq!(rt; answer.status, Status::Refused);
-    assert_eq!(rt; answer.report.as_str(), "certificate too long\n");
+    assert!(rt; answer.tells(Status::Refused, "", "certificate too long\n"));
     Ok(())
 }

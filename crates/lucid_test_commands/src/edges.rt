@@ -18,9 +18,7 @@ fn depth_of_a_tree(rt: HostRuntime) -> Result<(), Fail> {
         source.push_str("true")?;
         let mut places = places_of(alloc, source.as_bytes(), &[], &[])?;
         let answer = call(alloc, "--count 1 p", &mut places, 100, &[])?;
-        assert_eq!(rt; answer.status, status, "{times} times not");
-        assert_eq!(rt; answer.out.as_str(), out, "{times} times not");
-        assert_eq!(rt; answer.report.as_str(), report, "{times} times not");
+        assert!(rt; answer.tells(status, out, report), "{times} times not");
     }
     Ok(())
 }
@@ -40,7 +38,6 @@ fn weight_of_a_text(rt: HostRuntime) -> Result<(), Fail> {
     wanted.push_str("error\nerror\n")?;
     let mut places = places_of(alloc, DOUBLING_TEXT.as_bytes(), &[], &[])?;
     let answer = call(alloc, "--count 18 p", &mut places, 100, &[])?;
-    assert_eq!(rt; answer.status, Status::Done);
-    assert!(rt; answer.out == wanted);
+    assert!(rt; answer.tells(Status::Done, &wanted, ""));
     Ok(())
 }

@@ -20,11 +20,9 @@ fn read_fails<R: Abort + AllocGlobal>(
     let source = RUNNING_SUM.as_bytes();
     let mut places = places_of(alloc, source, &[("-", "3\n4\n5")], &[failure])?;
     let answer = call(alloc, "p", &mut places, 100, &[])?;
-    assert_eq!(rt; answer.status, Status::ReadFault, "{failure:?}");
-    assert_eq!(rt; answer.out.as_str(), out, "{failure:?}");
-    assert_eq!(rt; answer.report.as_str(), "read fault\n", "{failure:?}");
-    let taken = taken(alloc, &mut places)?;
-    assert_eq!(rt; taken.as_slice(), consumed, "{failure:?}");
+    let told = answer.tells(Status::ReadFault, out, "read fault\n");
+    let fails = told && taken(alloc, &mut places)?.as_slice() == consumed;
+    assert!(rt; fails, "{failure:?}");
     Ok(())
 }
 
@@ -63,9 +61,8 @@ fn write_fails<R: Abort + AllocGlobal>(
     let alloc = rt.alloc();
     let mut places = places_of(alloc, COUNTING.as_bytes(), &[], &[])?;
     let answer = call(alloc, "--count 5 p", &mut places, most, &[number])?;
-    assert_eq!(rt; answer.status, Status::WriteFault, "{most}, {number}");
-    assert_eq!(rt; answer.out.as_str(), out, "{most}, {number}");
-    assert_eq!(rt; answer.report.as_str(), "write fault\n", "{most}, {number}");
+    let told = answer.tells(Status::WriteFault, out, "write fault\n");
+    assert!(rt; told, "{most}, {number}");
     Ok(())
 }
 

@@ -222,7 +222,6 @@ fn a_flat_source_too_long(rt: HostRuntime) -> Result<(), Fail> {
     let piece = vec![in alloc; 108; 65_536]?;
     let mut places = Endless::make(alloc, Vec::new(alloc), piece);
     let answer = call(alloc, "--from-flat p", &mut places, 100, &[])?;
-    assert_eq!(rt; answer.status, Status::Refused);
-    assert_eq!(rt; answer.report.as_str(), "source too long\n");
+    assert!(rt; answer.tells(Status::Refused, "", "source too long\n"));
     Ok(())
 }

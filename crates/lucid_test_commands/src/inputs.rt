@@ -77,8 +77,7 @@ fn sales_byte_by_byte(rt: HostRuntime) -> Result<(), Fail> {
     let alloc = rt.alloc();
     let places = places_of(alloc, SALES.as_bytes(), &[("-", THREE_SALES)], &[])?;
     let answer = call(alloc, "p", &mut Narrow::make(places, 1), 100, &[])?;
-    assert_eq!(rt; answer.status, Status::Done);
-    assert_eq!(rt; answer.out.as_str(), TOTALS);
+    assert!(rt; answer.tells(Status::Done, TOTALS, ""));
     Ok(())
 }
 
@@ -91,8 +90,6 @@ fn an_input_too_large(rt: HostRuntime) -> Result<(), Fail> {
     let piece = vec![in alloc; 49; 65_536]?;
     let mut places = Endless::make(alloc, files, piece);
     let answer = call(alloc, "p", &mut places, 100, &[])?;
-    assert_eq!(rt; answer.status, Status::TooLarge);
-    assert_eq!(rt; answer.out.as_str(), "");
-    assert_eq!(rt; answer.report.as_str(), "input a too large\n");
+    assert!(rt; answer.tells(Status::TooLarge, "", "input a too large\n"));
     Ok(())
 }

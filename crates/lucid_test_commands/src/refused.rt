@@ -124,7 +124,6 @@ fn a_source_too_long(rt: HostRuntime) -> Result<(), Fail> {
     let source = " ".repeat(alloc, 1_048_577)?;
     let mut places = places_of(alloc, source.as_bytes(), &[], &[])?;
     let answer = call(alloc, "p", &mut places, 100, &[])?;
-    assert_eq!(rt; answer.status, Status::Refused);
-    assert_eq!(rt; answer.report.as_str(), "source too long\n");
+    assert!(rt; answer.tells(Status::Refused, "", "source too long\n"));
     Ok(())
 }

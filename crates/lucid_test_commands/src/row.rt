@@ -82,6 +82,13 @@ pub(crate) struct Answer {
     pub(crate) report: String,
 }
 
+impl Answer {
+    /// Whether these are its status, what it wrote, and what it reported.
+    pub(crate) fn tells(&self, status: Status, out: &str, report: &str) -> bool {
+        self.status == status && self.out.as_str() == out && self.report.as_str() == report
+    }
+}
+
 // What was written to a sink.
 fn written(alloc: Global, sink: &MemorySink) -> Result<String, Fail> {
     let bytes = Vec::from_slice(alloc, sink.written())?;
@@ -151,26 +158,6 @@ pub(crate) fn taken(alloc: Global, places: &mut MemoryPlaces) -> Result<Vec<u64>
     Ok(taken)
 }
 
-// The call does what the row says.
-fn passes<R: Abort + AllocGlobal>(rt: &R, row: &Row) -> Result<(), Fail> {
-    let alloc = rt.alloc();
-    let (name, words, source) = (row.name, row.words, row.source);
-    let mut places = places_of(alloc, source.as_bytes(), row.inputs, row.reads)?;
-    let answer = call(alloc, words, &mut places, 100, row.writes)?;
-    assert_eq!(rt; answer.status, row.status, "{name} {words}: {source}");
-    assert_eq!(rt; answer.out.as_str(), row.out, "{name} {words}: {source}");
-    assert_eq!(rt;
-        answer.report.as_str(),
-        row.report,
-        "{name} {words}: {source}"
-    );
-    if let Some(wanted) = row.taken {
-        let taken = taken(alloc, &mut places)?;
-        assert_eq!(rt; taken.as_slice(), wanted, "{name} {words}: {source}");
-    }
-    Ok(())
-}
-
 // What the command answers that is asked for the flat form of a source.
 fn flat_form(alloc: Global, source: &str) -> Result<Answer, Fail> {
     let mut places = places_of(alloc, source.as_bytes(), &[], &[])?;
@@ -179,9 +166,32 @@ fn flat_form(alloc: Global, source: &str) -> Result<Answer, Fail> {
 
 // Whether the command answered, wrote and reported what the row says.
 fn is_as_told(answer: &Answer, row: &Row) -> bool {
-    answer.status == row.status
-        && answer.out.as_str() == row.out
-        && answer.report.as_str() == row.report
+    answer.tells(row.status, row.out, row.report)
+}
+
+// Whether what was consumed is what the row says, where it says so.
+fn takes(alloc: Global, places: &mut MemoryPlaces, row: &Row) -> Result<bool, Fail>
+    requires { (memory_world places.old).reached ≤ 1048578 }
+{
+    match row.taken {
+        Some(wanted) => Ok(taken(alloc, places)?.as_slice() == wanted),
+        None => Ok(true),
+    }
+}
+
+// Whether the command that is asked by these words, of this text as `p`, does what the row says.
+fn does_so(alloc: Global, words: &str, text: &[u8], row: &Row) -> Result<bool, Fail> {
+    let mut places = places_of(alloc, text, row.inputs, row.reads)?;
+    let answer = call(alloc, words, &mut places, 100, row.writes)?;
+    Ok(is_as_told(&answer, row) && takes(alloc, &mut places, row)?)
+}
+
+// The call does what the row says.
+fn passes<R: Abort + AllocGlobal>(rt: &R, row: &Row) -> Result<(), Fail> {
+    let (name, words, source) = (row.name, row.words, row.source);
+    let does = does_so(rt.alloc(), words, source.as_bytes(), row)?;
+    assert!(rt; does, "{name} {words}: {source}");
+    Ok(())
 }
 
 // The flat form of the row's program runs as the program does.
@@ -189,15 +199,9 @@ fn passes_flat<R: Abort + AllocGlobal>(rt: &R, row: &Row) -> Result<(), Fail> {
     let alloc = rt.alloc();
     let (name, source) = (row.name, row.source);
     let flat = flat_form(alloc, source)?;
-    assert_eq!(rt; flat.status, Status::Done, "{name}: {source}");
     let words = format!(in alloc; "--from-flat {}", row.words)?;
-    let mut places = places_of(alloc, flat.out.as_bytes(), row.inputs, row.reads)?;
-    let answer = call(alloc, &words, &mut places, 100, row.writes)?;
-    assert!(rt; is_as_told(&answer, row), "{name}: {source}");
-    if let Some(wanted) = row.taken {
-        let taken = taken(alloc, &mut places)?;
-        assert_eq!(rt; taken.as_slice(), wanted, "{name}: {source}");
-    }
+    let does = flat.status == Status::Done && does_so(alloc, &words, flat.out.as_bytes(), row)?;
+    assert!(rt; does, "{name}: {source}");
     Ok(())
 }
 
@@ -223,13 +227,8 @@ fn passes_alone<R: Abort + AllocGlobal>(rt: &R, row: &Row) -> Result<(), Fail> {
         return Ok(());
     };
     let words = format!(in alloc; "--columns {name} {}", row.words)?;
-    let mut places = places_of(alloc, row.source.as_bytes(), row.inputs, row.reads)?;
-    let answer = call(alloc, &words, &mut places, 100, row.writes)?;
-    assert!(rt; is_as_told(&answer, row), "{words}: {}", row.source);
-    if let Some(wanted) = row.taken {
-        let taken = taken(alloc, &mut places)?;
-        assert_eq!(rt; taken.as_slice(), wanted, "{words}: {}", row.source);
-    }
+    let does = does_so(alloc, &words, row.source.as_bytes(), row)?;
+    assert!(rt; does, "{words}: {}", row.source);
     Ok(())
 }
 

@@ -44,6 +44,13 @@ pub(crate) struct Answer {
     pub(crate) report: String,
 }
 
+impl Answer {
+    /// Whether these are its status and what it reported.
+    pub(crate) fn tells(&self, status: Status, report: &str) -> bool {
+        self.status == status && self.report.as_str() == report
+    }
+}
+
 /// A file of that name.
 pub(crate) fn file(alloc: Global, name: &str, bytes: &[u8]) -> Result<MemoryFile, AllocError> {
     Ok(MemoryFile {

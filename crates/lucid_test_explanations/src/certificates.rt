@@ -78,9 +78,8 @@ static JUDGMENTS: [(Certified, &str); 3] = [
 fn judgments_are_told_by_their_pieces(rt: HostRuntime) -> Result<(), Fail> {
     for (certified, report) in &JUDGMENTS {
         let answer = check(rt.alloc(), certified)?;
-        assert_eq!(rt; answer.status, Status::Refused, "{report}");
         let wanted = format!(in rt.alloc(); "{report}{OTHERWISE}")?;
-        assert_eq!(rt; answer.report.as_str(), wanted.as_str());
+        assert!(rt; answer.tells(Status::Refused, &wanted), "{report}");
     }
     Ok(())
 }

@@ -7,7 +7,6 @@ use lucid_inputs::*;
 use lucid_ports::{Endless, FailAt, MemoryFile, MemoryPlaces, Narrow, Places, read_at_most};
 use lucid_value::Value;
 use std::alloc::{AllocError, Global};
-use std::process::Abort;
 use std::test::Fail;
 
 // The bytes that the shipped program reads of an input at most.
@@ -89,8 +88,9 @@ fn limit_of_an_input(rt: HostRuntime) -> Result<(), Fail> {
         let bytes = Vec::from_slice(alloc, b"12345\n")?;
         let mut places = file_a(alloc, bytes, &[])?;
         let mut inputs = input_a(alloc, &mut places, most)?;
-        assert_eq!(rt; ask(&mut inputs, &mut places, index), answer, "of {most}");
-        assert_eq!(rt; places.consumed(0), consumed, "of {most}");
+        let answered = ask(&mut inputs, &mut places, index);
+        let taken = places.consumed(0);
+        assert_eq!(rt; (answered, taken), (answer, consumed), "of {most}");
     }
     Ok(())
 }
@@ -114,27 +114,20 @@ fn a_failure_loses_nothing(rt: HostRuntime) -> Result<(), Fail> {
         let mut places = file_a(alloc, bytes, &[FailAt { place: 0, position }])?;
         let mut inputs = input_a(alloc, &mut places, MOST)?;
         let failed = ask(&mut inputs, &mut places, 1);
-        assert_eq!(rt;
+        let consumed = places.consumed(0);
+        let seen = [
             failed,
-            Seen::Refused(InputFault::ReadFault),
-            "at {position}"
-        );
-        assert_eq!(rt; places.consumed(0), position);
-        assert_eq!(rt;
             ask(&mut inputs, &mut places, 1),
-            Seen::Int(89),
-            "at {position}"
-        );
-        assert_eq!(rt;
             ask(&mut inputs, &mut places, 0),
-            Seen::Int(7),
-            "at {position}"
-        );
-        assert_eq!(rt;
             ask(&mut inputs, &mut places, 2),
+        ];
+        let wanted = [
+            Seen::Refused(InputFault::ReadFault),
+            Seen::Int(89),
+            Seen::Int(7),
             Seen::Eod,
-            "at {position}"
-        );
+        ];
+        assert_eq!(rt; (consumed, seen), (position, wanted), "at {position}");
     }
     Ok(())
 }
@@ -147,17 +140,19 @@ fn look_up(inputs: &Inputs, index: u64) -> Option<Seen>
 }
 
 // Of the lines 7 and 89 the second is asked for, and then what lies past it.
-fn look_up_lines<A: Abort, P: Places>(rt: &A, inputs: &mut Inputs, places: &mut P)
+fn look_up_lines<P: Places>(inputs: &mut Inputs, places: &mut P) -> [Option<Seen>; 8]
     requires { IsAskable inputs.old 0 (P.world places.old) }
 {
-    assert_eq!(rt; look_up(inputs, 0), None);
-    assert_eq!(rt; ask(inputs, places, 1), Seen::Int(89));
-    assert_eq!(rt; look_up(inputs, 0), Some(Seen::Int(7)));
-    assert_eq!(rt; look_up(inputs, 1), Some(Seen::Int(89)));
-    assert_eq!(rt; look_up(inputs, 2), None);
-    assert_eq!(rt; ask(inputs, places, 2), Seen::Eod);
-    assert_eq!(rt; look_up(inputs, 2), Some(Seen::Eod));
-    assert_eq!(rt; look_up(inputs, 3), Some(Seen::Eod));
+    [
+        look_up(inputs, 0),
+        Some(ask(inputs, places, 1)),
+        look_up(inputs, 0),
+        look_up(inputs, 1),
+        look_up(inputs, 2),
+        Some(ask(inputs, places, 2)),
+        look_up(inputs, 2),
+        look_up(inputs, 3),
+    ]
 }
 
 #[test]
@@ -166,7 +161,17 @@ fn what_was_read_is_known(rt: HostRuntime) -> Result<(), Fail> {
     let bytes = Vec::from_slice(alloc, b"7\n89\n")?;
     let mut places = file_a(alloc, bytes, &[])?;
     let mut inputs = input_a(alloc, &mut places, MOST)?;
-    look_up_lines(&rt, &mut inputs, &mut places);
+    let wanted = [
+        None,
+        Some(Seen::Int(89)),
+        Some(Seen::Int(7)),
+        Some(Seen::Int(89)),
+        None,
+        Some(Seen::Eod),
+        Some(Seen::Eod),
+        Some(Seen::Eod),
+    ];
+    assert_eq!(rt; look_up_lines(&mut inputs, &mut places), wanted);
     Ok(())
 }
 

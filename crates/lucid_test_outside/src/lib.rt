@@ -12,4 +12,6 @@ mod real_places;
 #[cfg(test)]
 mod scripted;
 #[cfg(test)]
+mod told;
+#[cfg(test)]
 mod words;

@@ -44,10 +44,13 @@ fn a_call_fails_once_at_each_position(rt: HostRuntime) -> Result<(), Fail> {
         let mut places = two_lines(alloc, &[FailAt { place: 0, position }])?;
         let place = places.reach(alloc, "a")?;
         let failed = read_at_most(alloc, &mut places, place, 9).err();
-        assert_eq!(rt; failed, Some(PortFault::Failed), "at {position}");
-        assert_eq!(rt; places.consumed(place), position);
-        let rest = read_at_most(alloc, &mut places, place, 9)?;
-        assert_eq!(rt; rest.len() as u64 + position, 4, "at {position}");
+        let consumed = places.consumed(place);
+        let rest = read_at_most(alloc, &mut places, place, 9)?.len();
+        assert_eq!(rt;
+            (failed, consumed, rest as u64 + position),
+            (Some(PortFault::Failed), position, 4),
+            "at {position}"
+        );
     }
     Ok(())
 }

@@ -1,3 +1,4 @@
+use crate::told::first_false;
 use lucid_words::*;
 use std::alloc::{AllocError, Global};
 use std::test::Fail;
@@ -38,199 +39,218 @@ fn no_words_are_refused(rt: HostRuntime) {
     assert!(rt; matches!(read_words(rt.alloc(), &none), Err(WordsRefusal::Usage)));
 }
 
-#[test]
-fn numbers_out_of_range_are_refused(rt: HostRuntime) {
-    let lines = [
-        "--count 0 p",
-        "--count 1000001 p",
-        "--depth 0 p",
-        "--depth 1000001 p",
-        "--age 0 p",
-        "--age 1000001 p",
-        "--room 0 p",
-        "--room 1000001 p",
-        "--make 0",
-        "--make 10001",
-        "--why 9223372036854775808 p",
-        "--count=-1 p",
-        "--count 4294967297 p",
-        "--make 18446744073709551617",
-    ];
-    assert_eq!(rt; first_taken(rt.alloc(), &lines), None);
-}
+static OUT_OF_RANGE: [&str; 14] = [
+    "--count 0 p",
+    "--count 1000001 p",
+    "--depth 0 p",
+    "--depth 1000001 p",
+    "--age 0 p",
+    "--age 1000001 p",
+    "--room 0 p",
+    "--room 1000001 p",
+    "--make 0",
+    "--make 10001",
+    "--why 9223372036854775808 p",
+    "--count=-1 p",
+    "--count 4294967297 p",
+    "--make 18446744073709551617",
+];
+
+static OF_NO_FORM: [&str; 14] = [
+    "--count x p",
+    "--count",
+    "--count= p",
+    "--count -1 p",
+    "--count ++1 p",
+    "--why -1 p",
+    "--why=-0 p",
+    "--why 1.0 p",
+    "--policy all p",
+    "--policy Keep p",
+    "--policy _ p",
+    "--policy p",
+    "p --count -x",
+    "p --check --stats",
+];
+
+static OTHERS: [&str; 11] = [
+    "--stats=x p",
+    "--print=true p",
+    "--stat p",
+    "--form-flat p",
+    "--help",
+    "--help p",
+    "--version p",
+    "-h",
+    "-V",
+    "-x p",
+    "-c 5 p",
+];
+
+static REPEATED: [&str; 14] = [
+    "--count 1 --count 1 p",
+    "--depth 1 --depth=2 p",
+    "--policy keep --policy keep p",
+    "--age 1 p --age 1",
+    "--room 1 --room 1 p",
+    "--stats --stats p",
+    "--print --print p",
+    "--make 1 --make 1",
+    "--columns a --columns b p",
+    "--cycles --cycles p",
+    "--why 1 --why 1 p",
+    "--check f --check f p",
+    "--flat --flat p",
+    "--from-flat --from-flat p",
+];
+
+static EXCLUDED: [&str; 12] = [
+    "--print --columns a p",
+    "--print --cycles p",
+    "--columns a --why 1 p",
+    "--cycles --check f p",
+    "--why 1 --check f p",
+    "--flat --from-flat p",
+    "--flat --cycles p",
+    "--from-flat --print p",
+    "--why 0 --from-flat p",
+    "--print --cycles --flat p",
+    "--make 5 --from-flat",
+    "--make 5 --flat --print",
+];
+
+static SOURCES: [&str; 10] = [
+    "--count 5",
+    "--from-flat",
+    "--make 5 p",
+    "--make 5 a=f",
+    "--make 5 -- p",
+    "-",
+    "_",
+    "--stats -",
+    "--",
+    "-- -",
+];
+
+static INPUTS: [&str; 14] = [
+    "p -",
+    "p _",
+    "p a",
+    "p =f",
+    "p a=",
+    "p a=-",
+    "p 1=f",
+    "p a-b=f",
+    "p _a=f",
+    "p if=f",
+    "p atspace=f",
+    "p a=f b",
+    "p -- -x=f",
+    "p -- --stats",
+];
+
+static LISTS_AND_FILES: [&str; 11] = [
+    "--columns a, p",
+    "--columns ,a p",
+    "--columns a,,b p",
+    "--columns _ p",
+    "--columns a,if p",
+    "--columns a,1 p",
+    "--columns a;b p",
+    "--columns a,b,c,d,e,f,g,h,i,j,k,l,m,n,o,p,q p",
+    "--check - p",
+    "--check _ p",
+    "--check= p",
+];
 
 #[test]
-fn values_of_no_form_are_refused(rt: HostRuntime) {
-    let lines = [
-        "--count x p",
-        "--count",
-        "--count= p",
-        "--count -1 p",
-        "--count ++1 p",
-        "--why -1 p",
-        "--why=-0 p",
-        "--why 1.0 p",
-        "--policy all p",
-        "--policy Keep p",
-        "--policy _ p",
-        "--policy p",
-        "p --count -x",
-        "p --check --stats",
-    ];
-    assert_eq!(rt; first_taken(rt.alloc(), &lines), None);
+fn lines_are_refused(rt: HostRuntime) {
+    for (why, lines) in [
+        ("numbers out of range", OUT_OF_RANGE.as_slice()),
+        ("values of no form", OF_NO_FORM.as_slice()),
+        ("other options", OTHERS.as_slice()),
+        ("repeated options", REPEATED.as_slice()),
+        ("options that exclude each other", EXCLUDED.as_slice()),
+        ("sources", SOURCES.as_slice()),
+        ("inputs", INPUTS.as_slice()),
+        ("lists and files", LISTS_AND_FILES.as_slice()),
+    ] {
+        assert_eq!(rt; first_taken(rt.alloc(), lines), None, "{why}");
+    }
 }
 
-#[test]
-fn other_options_are_refused(rt: HostRuntime) {
-    let lines = [
-        "--stats=x p",
-        "--print=true p",
-        "--stat p",
-        "--form-flat p",
-        "--help",
-        "--help p",
-        "--version p",
-        "-h",
-        "-V",
-        "-x p",
-        "-c 5 p",
-    ];
-    assert_eq!(rt; first_taken(rt.alloc(), &lines), None);
+// Which of the flags --stats, --print, --cycles, --flat and --from-flat are set.
+fn flags_of(words: &Words) -> [bool; 5] {
+    [
+        words.stats,
+        words.print,
+        words.cycles,
+        words.flat,
+        words.from_flat,
+    ]
 }
 
-#[test]
-fn repeated_options_are_refused(rt: HostRuntime) {
-    let lines = [
-        "--count 1 --count 1 p",
-        "--depth 1 --depth=2 p",
-        "--policy keep --policy keep p",
-        "--age 1 p --age 1",
-        "--room 1 --room 1 p",
-        "--stats --stats p",
-        "--print --print p",
-        "--make 1 --make 1",
-        "--columns a --columns b p",
-        "--cycles --cycles p",
-        "--why 1 --why 1 p",
-        "--check f --check f p",
-        "--flat --flat p",
-        "--from-flat --from-flat p",
-    ];
-    assert_eq!(rt; first_taken(rt.alloc(), &lines), None);
+// The numbers of --count, --depth, --age and --room.
+fn numbers_of(words: &Words) -> [u32; 4] {
+    [
+        words.options.count,
+        words.options.depth,
+        words.age,
+        words.room,
+    ]
 }
 
-#[test]
-fn exclusions_are_refused(rt: HostRuntime) {
-    let lines = [
-        "--print --columns a p",
-        "--print --cycles p",
-        "--columns a --why 1 p",
-        "--cycles --check f p",
-        "--why 1 --check f p",
-        "--flat --from-flat p",
-        "--flat --cycles p",
-        "--from-flat --print p",
-        "--why 0 --from-flat p",
-        "--print --cycles --flat p",
-        "--make 5 --from-flat",
-        "--make 5 --flat --print",
-    ];
-    assert_eq!(rt; first_taken(rt.alloc(), &lines), None);
+fn is_file(words: &Words, wanted: &str) -> bool {
+    matches!(&words.source, Source::File(file) if file.as_str() == wanted)
 }
 
-#[test]
-fn sources_are_refused(rt: HostRuntime) {
-    let lines = [
-        "--count 5",
-        "--from-flat",
-        "--make 5 p",
-        "--make 5 a=f",
-        "--make 5 -- p",
-        "-",
-        "_",
-        "--stats -",
-        "--",
-        "-- -",
-    ];
-    assert_eq!(rt; first_taken(rt.alloc(), &lines), None);
+// Whether the input of that number has this name and this file.
+fn is_given(words: &Words, number: usize, name: &str, file: &str) -> bool {
+    match words.given.get(number) {
+        Some(given) => given.name.bytes() == name.as_bytes() && given.file.as_str() == file,
+        None => false,
+    }
 }
 
-#[test]
-fn inputs_are_refused(rt: HostRuntime) {
-    let lines = [
-        "p -",
-        "p _",
-        "p a",
-        "p =f",
-        "p a=",
-        "p a=-",
-        "p 1=f",
-        "p a-b=f",
-        "p _a=f",
-        "p if=f",
-        "p atspace=f",
-        "p a=f b",
-        "p -- -x=f",
-        "p -- --stats",
-    ];
-    assert_eq!(rt; first_taken(rt.alloc(), &lines), None);
-}
-
-#[test]
-fn lists_and_files_are_refused(rt: HostRuntime) {
-    let lines = [
-        "--columns a, p",
-        "--columns ,a p",
-        "--columns a,,b p",
-        "--columns _ p",
-        "--columns a,if p",
-        "--columns a,1 p",
-        "--columns a;b p",
-        "--columns a,b,c,d,e,f,g,h,i,j,k,l,m,n,o,p,q p",
-        "--check - p",
-        "--check _ p",
-        "--check= p",
-    ];
-    assert_eq!(rt; first_taken(rt.alloc(), &lines), None);
+// The first of the defaults that another value stands for.
+fn first_other(words: &Words) -> Option<usize> {
+    first_false(&[
+        is_file(words, "p"),
+        words.given.len() == 1,
+        is_given(words, 0, "a", "f"),
+        numbers_of(words) == [20, 100_000, 10, 10_000],
+        words.policy == PolicyWord::Keep,
+        flags_of(words) == [false; 5],
+        words.columns.is_empty(),
+        words.why.is_none(),
+        words.check.is_empty(),
+    ])
 }
 
 #[test]
 fn defaults(rt: HostRuntime) -> Result<(), Fail> {
-    let words = read_line(rt.alloc(), "p a=f")?;
-    assert!(rt; matches!(&words.source, Source::File(file) if file.as_str() == "p"));
-    assert_eq!(rt; words.given.len(), 1);
-    assert_eq!(rt; words.given[0].name.bytes(), b"a".as_slice());
-    assert_eq!(rt; words.given[0].file.as_str(), "f");
-    assert_eq!(rt; words.options.count, 20);
-    assert_eq!(rt; words.options.depth, 100_000);
-    assert_eq!(rt; words.policy, PolicyWord::Keep);
-    assert_eq!(rt; words.age, 10);
-    assert_eq!(rt; words.room, 10_000);
-    assert!(rt; !words.stats && !words.print && !words.cycles && !words.flat && !words.from_flat);
-    assert!(rt; words.columns.is_empty() && words.why.is_none() && words.check.is_empty());
+    let other = first_other(&read_line(rt.alloc(), "p a=f")?);
+    assert_eq!(rt; other, None);
     Ok(())
 }
 
 #[test]
 fn numbers(rt: HostRuntime) -> Result<(), Fail> {
     let lines = [
-        ("--count 1 p", 1, 100_000, 10, 10_000),
-        ("--count=1000000 p", 1_000_000, 100_000, 10, 10_000),
-        ("p --count +5", 5, 100_000, 10, 10_000),
-        ("--depth 1 p", 20, 1, 10, 10_000),
-        ("--depth 1000000 p", 20, 1_000_000, 10, 10_000),
-        ("--depth=007 p", 20, 7, 10, 10_000),
-        ("--age 1 p", 20, 100_000, 1, 10_000),
-        ("--age 1000000 p", 20, 100_000, 1_000_000, 10_000),
-        ("--room 1 p", 20, 100_000, 10, 1),
-        ("--room 1000000 p", 20, 100_000, 10, 1_000_000),
+        ("--count 1 p", [1, 100_000, 10, 10_000]),
+        ("--count=1000000 p", [1_000_000, 100_000, 10, 10_000]),
+        ("p --count +5", [5, 100_000, 10, 10_000]),
+        ("--depth 1 p", [20, 1, 10, 10_000]),
+        ("--depth 1000000 p", [20, 1_000_000, 10, 10_000]),
+        ("--depth=007 p", [20, 7, 10, 10_000]),
+        ("--age 1 p", [20, 100_000, 1, 10_000]),
+        ("--age 1000000 p", [20, 100_000, 1_000_000, 10_000]),
+        ("--room 1 p", [20, 100_000, 10, 1]),
+        ("--room 1000000 p", [20, 100_000, 10, 1_000_000]),
     ];
-    for (line, count, depth, age, room) in lines {
-        let words = read_line(rt.alloc(), line)?;
-        assert_eq!(rt; words.options.count, count, "{line}");
-        assert_eq!(rt; words.options.depth, depth, "{line}");
-        assert_eq!(rt; words.age, age, "{line}");
-        assert_eq!(rt; words.room, room, "{line}");
+    for (line, wanted) in lines {
+        let numbers = numbers_of(&read_line(rt.alloc(), line)?);
+        assert_eq!(rt; numbers, wanted, "{line}");
     }
     Ok(())
 }
@@ -251,11 +271,17 @@ fn policies(rt: HostRuntime) -> Result<(), Fail> {
 
 #[test]
 fn flags(rt: HostRuntime) -> Result<(), Fail> {
-    assert!(rt; read_line(rt.alloc(), "p --stats")?.stats);
-    assert!(rt; read_line(rt.alloc(), "--print p")?.print);
-    assert!(rt; read_line(rt.alloc(), "--cycles p")?.cycles);
-    assert!(rt; read_line(rt.alloc(), "--flat p")?.flat);
-    assert!(rt; read_line(rt.alloc(), "--from-flat p a=f")?.from_flat);
+    let lines = [
+        ("p --stats", [true, false, false, false, false]),
+        ("--print p", [false, true, false, false, false]),
+        ("--cycles p", [false, false, true, false, false]),
+        ("--flat p", [false, false, false, true, false]),
+        ("--from-flat p a=f", [false, false, false, false, true]),
+    ];
+    for (line, wanted) in lines {
+        let flags = flags_of(&read_line(rt.alloc(), line)?);
+        assert_eq!(rt; flags, wanted, "{line}");
+    }
     Ok(())
 }
 
@@ -268,13 +294,14 @@ fn files_of_a_program(rt: HostRuntime) -> Result<(), Fail> {
         ("a=f", "a=f"),
     ];
     for (line, wanted) in lines {
-        let words = read_line(rt.alloc(), line)?;
-        assert!(rt;
-            matches!(&words.source, Source::File(file) if file.as_str() == wanted),
-            "{line}"
-        );
+        let is_so = is_file(&read_line(rt.alloc(), line)?, wanted);
+        assert!(rt; is_so, "{line}");
     }
     Ok(())
+}
+
+fn is_made(words: &Words, wanted: u32) -> bool {
+    matches!(&words.source, Source::Made(number) if *number == wanted)
 }
 
 #[test]
@@ -285,44 +312,70 @@ fn made_programs(rt: HostRuntime) -> Result<(), Fail> {
         ("--make 5 --print", 5),
     ];
     for (line, wanted) in lines {
-        let words = read_line(rt.alloc(), line)?;
-        assert!(rt;
-            matches!(&words.source, Source::Made(number) if *number == wanted),
-            "{line}"
-        );
+        let is_so = is_made(&read_line(rt.alloc(), line)?, wanted);
+        assert!(rt; is_so, "{line}");
     }
     Ok(())
 }
 
 #[test]
 fn times_and_certificates(rt: HostRuntime) -> Result<(), Fail> {
-    assert_eq!(rt; read_line(rt.alloc(), "--why 0 p")?.why, Some(0));
-    let last = read_line(rt.alloc(), "--why=9223372036854775807 p")?;
-    assert_eq!(rt; last.why, Some(9_223_372_036_854_775_807));
-    assert_eq!(rt; read_line(rt.alloc(), "--check f p")?.check.as_str(), "f");
-    assert_eq!(rt; read_line(rt.alloc(), "--check=-f p")?.check.as_str(), "-f");
+    for (line, why, check) in [
+        ("--why 0 p", Some(0), ""),
+        (
+            "--why=9223372036854775807 p",
+            Some(9_223_372_036_854_775_807),
+            "",
+        ),
+        ("--check f p", None, "f"),
+        ("--check=-f p", None, "-f"),
+    ] {
+        let words = read_line(rt.alloc(), line)?;
+        let is_so = words.why == why && words.check.as_str() == check;
+        assert!(rt; is_so, "{line}");
+    }
     Ok(())
+}
+
+fn is_column(words: &Words, number: usize, name: &str) -> bool {
+    match words.columns.get(number) {
+        Some(column) => column.bytes() == name.as_bytes(),
+        None => false,
+    }
+}
+
+// What is not so of three columns.
+fn wrong_columns(words: &Words) -> Option<usize> {
+    first_false(&[
+        words.columns.len() == 3,
+        is_column(words, 1, "b_1"),
+        is_column(words, 2, "a"),
+    ])
 }
 
 #[test]
 fn columns(rt: HostRuntime) -> Result<(), Fail> {
-    let most = read_line(rt.alloc(), "--columns a,b,c,d,e,f,g,h,i,j,k,l,m,n,o,p p")?;
-    assert_eq!(rt; most.columns.len(), 16);
-    let words = read_line(rt.alloc(), "--columns=a,b_1,a p")?;
-    assert_eq!(rt; words.columns.len(), 3);
-    assert_eq!(rt; words.columns[1].bytes(), b"b_1".as_slice());
-    assert_eq!(rt; words.columns[2].bytes(), b"a".as_slice());
+    let line = "--columns a,b,c,d,e,f,g,h,i,j,k,l,m,n,o,p p";
+    assert_eq!(rt; read_line(rt.alloc(), line)?.columns.len(), 16);
+    let wrong = wrong_columns(&read_line(rt.alloc(), "--columns=a,b_1,a p")?);
+    assert_eq!(rt; wrong, None);
     Ok(())
+}
+
+// What is not so of options and inputs in any order.
+fn wrong_mix(words: &Words) -> Option<usize> {
+    first_false(&[
+        words.stats,
+        words.options.count == 5,
+        words.given.len() == 2,
+        is_given(words, 0, "a", "f=g"),
+        is_given(words, 1, "b", "-h"),
+    ])
 }
 
 #[test]
 fn options_and_inputs_in_any_order(rt: HostRuntime) -> Result<(), Fail> {
-    let words = read_line(rt.alloc(), "x --count 5 a=f=g --stats -- b=-h")?;
-    assert!(rt; words.stats && words.options.count == 5);
-    assert_eq!(rt; words.given.len(), 2);
-    assert_eq!(rt; words.given[0].name.bytes(), b"a".as_slice());
-    assert_eq!(rt; words.given[0].file.as_str(), "f=g");
-    assert_eq!(rt; words.given[1].name.bytes(), b"b".as_slice());
-    assert_eq!(rt; words.given[1].file.as_str(), "-h");
+    let wrong = wrong_mix(&read_line(rt.alloc(), "x --count 5 a=f=g --stats -- b=-h")?);
+    assert_eq!(rt; wrong, None);
     Ok(())
 }

@@ -17,6 +17,8 @@ mod scan;
 #[cfg(test)]
 mod scope;
 #[cfg(test)]
+mod told;
+#[cfg(test)]
 mod tree;
 #[cfg(test)]
 mod trees;

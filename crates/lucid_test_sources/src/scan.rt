@@ -3,36 +3,53 @@ use lucid_scan::{MAX_SOURCE_BYTES, ScanRefusal, Token, TokenKind, scan};
 use std::alloc::{AllocError, Global};
 use std::test::Fail;
 
-fn token(kind: TokenKind, from: u32, to: u32) -> Token {
-    Token { kind, from, to }
+/// A source, and its tokens: the kind of each, where it begins and where it ends.
+type Row = (&'static str, &'static [(TokenKind, u32, u32)]);
+
+static SPELLED: [Row; 3] = [
+    // the longest match
+    (
+        "a<>b",
+        &[
+            (TokenKind::Name, 0, 1),
+            (TokenKind::Fixed, 1, 3),
+            (TokenKind::Name, 3, 4),
+        ],
+    ),
+    // each kind
+    (
+        "x1_y 007\t\"dog\"// a \" in a comment\r\n`it is' [%1 dog [% %]%] [] end",
+        &[
+            (TokenKind::Name, 0, 4),
+            (TokenKind::Int, 5, 8),
+            (TokenKind::Quoted, 9, 14),
+            (TokenKind::Text, 35, 42),
+            (TokenKind::ListText, 43, 58),
+            (TokenKind::Fixed, 59, 61),
+            (TokenKind::Fixed, 62, 65),
+        ],
+    ),
+    // the greatest integer
+    (
+        "00170141183460469231731687303715884105727",
+        &[(TokenKind::Int, 0, 41)],
+    ),
+];
+
+fn are(tokens: &[Token], wanted: &[(TokenKind, u32, u32)]) -> bool {
+    tokens.len() == wanted.len()
+        && tokens
+            .iter()
+            .zip(wanted)
+            .all(|(token, row)| (token.kind, token.from, token.to) == *row)
 }
 
 #[test]
-fn longest_match(rt: HostRuntime) -> Result<(), Fail> {
-    let tokens = scan(rt.alloc(), b"a<>b")?;
-    let wanted = [
-        token(TokenKind::Name, 0, 1),
-        token(TokenKind::Fixed, 1, 3),
-        token(TokenKind::Name, 3, 4),
-    ];
-    assert_eq!(rt; tokens.as_slice(), wanted.as_slice());
-    Ok(())
-}
-
-#[test]
-fn each_kind(rt: HostRuntime) -> Result<(), Fail> {
-    let source = b"x1_y 007\t\"dog\"// a \" in a comment\r\n`it is' [%1 dog [% %]%] [] end";
-    let tokens = scan(rt.alloc(), source)?;
-    let wanted = [
-        token(TokenKind::Name, 0, 4),
-        token(TokenKind::Int, 5, 8),
-        token(TokenKind::Quoted, 9, 14),
-        token(TokenKind::Text, 35, 42),
-        token(TokenKind::ListText, 43, 58),
-        token(TokenKind::Fixed, 59, 61),
-        token(TokenKind::Fixed, 62, 65),
-    ];
-    assert_eq!(rt; tokens.as_slice(), wanted.as_slice());
+fn tokens_of_sources(rt: HostRuntime) -> Result<(), Fail> {
+    for (source, wanted) in &SPELLED {
+        let tokens = scan(rt.alloc(), source.as_bytes())?;
+        assert!(rt; are(&tokens, wanted), "{source}");
+    }
     Ok(())
 }
 
@@ -44,16 +61,10 @@ fn marks_and_reserved_words(rt: HostRuntime) -> Result<(), Fail> {
         substr nth mkword mkstring isint isword isstring islist istruth isnull isatom iseod iserror abs \
         cmp initial succ sby atspace";
     let tokens = scan(rt.alloc(), source)?;
-    assert_eq!(rt; tokens.len(), 17 + 49);
-    for token in tokens.iter() {
-        assert_eq!(rt;
-            token.kind,
-            TokenKind::Fixed,
-            "from {} to {}",
-            token.from,
-            token.to
-        );
-    }
+    let other = tokens
+        .iter()
+        .position(|token| token.kind != TokenKind::Fixed);
+    assert_eq!(rt; (tokens.len(), other), (17 + 49, None));
     Ok(())
 }
 
@@ -97,16 +108,6 @@ fn messages(rt: HostRuntime) -> Result<(), Fail> {
 }
 
 #[test]
-fn greatest_integer(rt: HostRuntime) -> Result<(), Fail> {
-    let tokens = scan(rt.alloc(), b"00170141183460469231731687303715884105727")?;
-    assert_eq!(rt;
-        tokens.as_slice(),
-        [token(TokenKind::Int, 0, 41)].as_slice()
-    );
-    Ok(())
-}
-
-#[test]
 fn cut_sources(rt: HostRuntime) {
     let source = b"total :: largest :: [] where // sales\n\
         total = sale fby total + next sale; \
@@ -124,14 +125,21 @@ fn cut_sources(rt: HostRuntime) {
     }
 }
 
+// How many tokens a source of so many times this byte has.
+fn count(alloc: Global, byte: u8, times: usize) -> Result<usize, ScanRefusal> {
+    let source = vec![in alloc; byte; times]?;
+    Ok(scan(alloc, &source)?.len())
+}
+
 #[test]
-fn long_sources(rt: HostRuntime) -> Result<(), Fail> {
-    let blanks = vec![in rt.alloc(); b' '; MAX_SOURCE_BYTES + 1]?;
-    assert_eq!(rt; scan(rt.alloc(), &blanks).err(), Some(ScanRefusal::TooLong));
-    assert_eq!(rt; scan(rt.alloc(), &blanks[1..])?.len(), 0);
-    let marks = vec![in rt.alloc(); b'('; 1_048_576]?;
-    assert_eq!(rt; scan(rt.alloc(), &marks)?.len(), 1_048_576);
-    Ok(())
+fn long_sources(rt: HostRuntime) {
+    for (byte, times, tokens) in [
+        (b' ', MAX_SOURCE_BYTES + 1, Err(ScanRefusal::TooLong)),
+        (b' ', MAX_SOURCE_BYTES, Ok(0)),
+        (b'(', 1_048_576, Ok(1_048_576)),
+    ] {
+        assert_eq!(rt; count(rt.alloc(), byte, times), tokens, "{times} times");
+    }
 }
 
 // What opens a text, what is repeated in it and how often, and what closes it.

@@ -2,11 +2,11 @@
 ghost use Rattle.std.specs.Prelude.{◌≡◌, IfOk};
 ghost use Rattle.lucid_tree.specs.Tree.{name, call, no_trees, tree};
 
+use crate::told::first_false;
 use lucid_scope::{Binding, ScopeRefusal, Scoped, resolve, resolve_owned};
 use lucid_tree::{Kind, Tree, Trees};
 use lucid_value::{MakeRefusal, Name};
 use std::alloc::{AllocError, Global};
-use std::process::Abort;
 use std::test::Fail;
 
 fn name_at(alloc: Global, at: u32, bytes: &[u8]) -> Result<Tree, MakeRefusal>
@@ -32,20 +32,26 @@ fn call_at(alloc: Global, at: u32, bytes: &[u8], argument: Tree) -> Result<Tree,
     })
 }
 
-// The tree is the name `y` at byte 3, which is the one input.
-fn is_the_input<A: Abort>(rt: &A, scoped: &Scoped) {
-    assert_eq!(rt; scoped.tree().at, 3);
-    assert_eq!(rt; scoped.inputs().len(), 1);
-    assert_eq!(rt; scoped.inputs()[0].bytes(), b"y".as_slice());
-    assert_eq!(rt; scoped.binding(3), Some(Binding::Input { stream: 0 }));
-    assert_eq!(rt; scoped.binding(0), None);
+// What is not so of a tree that is the name `y` at byte 3, which is the one input.
+fn first_wrong(scoped: &Scoped) -> Option<usize> {
+    let is_y = match scoped.inputs() {
+        [only] => only.bytes() == b"y".as_slice(),
+        _ => false,
+    };
+    first_false(&[
+        scoped.tree().at == 3,
+        is_y,
+        scoped.binding(3) == Some(Binding::Input { stream: 0 }),
+        scoped.binding(0).is_none(),
+    ])
 }
 
 // y
 #[test]
 fn a_free_name_is_an_input(rt: HostRuntime) -> Result<(), Fail> {
     let tree = name_at(rt.alloc(), 3, b"y")?;
-    is_the_input(&rt, &resolve_owned(rt.alloc(), tree)?);
+    let wrong = first_wrong(&resolve_owned(rt.alloc(), tree)?);
+    assert_eq!(rt; wrong, None);
     Ok(())
 }
 

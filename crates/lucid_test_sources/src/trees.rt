@@ -101,10 +101,7 @@ fn copied_counting(alloc: Global) -> Result<(u32, u32, usize), Fail> {
 
 #[test]
 fn copies_are_equal(rt: HostRuntime) -> Result<(), Fail> {
-    let (depth, at, defs) = copied_counting(rt.alloc())?;
-    assert_eq!(rt; depth, 4);
-    assert_eq!(rt; defs, 1);
-    assert_eq!(rt; at, 0);
+    assert_eq!(rt; copied_counting(rt.alloc())?, (4, 0, 1));
     Ok(())
 }
 
@@ -242,9 +239,7 @@ fn depths(alloc: Global) -> Result<(u32, u32), MakeRefusal> {
 
 #[test]
 fn depth_of_a_tree(rt: HostRuntime) -> Result<(), Fail> {
-    let (constant, counting) = depths(rt.alloc())?;
-    assert_eq!(rt; constant, 1);
-    assert_eq!(rt; counting, 4);
+    assert_eq!(rt; depths(rt.alloc())?, (1, 4));
     Ok(())
 }
 

@@ -1,10 +1,10 @@
 //! Sources as programs: where the rows of a small one stand, and that large ones are compiled. The crate of the compiler has no
 //! tests of its own: its trees come from sources, so its tests stand here.
 use crate::tables::scoped;
+use crate::told::first_false;
 use lucid_compile::compile;
 use lucid_equations::{Entry, Node, Program, ScopeKind, Table};
 use std::alloc::{AllocError, Global};
-use std::process::Abort;
 use std::test::Fail;
 
 // The program of a source.
@@ -18,36 +18,32 @@ fn is_call(node: Node, called: u32, from: u32) -> bool {
 }
 
 // How many nodes, names and call places a program has.
-fn has_rows<A: Abort + AllocGlobal>(
-    rt: &A,
-    program: &Program,
-    nodes: u32,
-    names: u32,
-    places: u32,
-) {
-    assert_eq!(rt; program.nodes(), nodes);
-    assert_eq!(rt; program.names(), names);
-    assert_eq!(rt; program.places(), places);
+fn rows_of(program: &Program) -> (u32, u32, u32) {
+    (program.nodes(), program.names(), program.places())
 }
 
 // The parts of the nodes of the first source below, and the places of its calls.
-fn has_its_parts<A: Abort + AllocGlobal>(rt: &A, program: &Program) {
-    assert_eq!(rt; program.nodes(), 8);
-    assert_eq!(rt; program.streams(), 1);
-    assert_eq!(rt; program.root(), 7);
-    assert!(rt; matches!(program.node(7), Node::Freeze { subject: 1 }));
-    assert!(rt; is_call(program.node(1), 2, 0));
-    assert!(rt; is_call(program.node(4), 3, 1));
-    assert!(rt; matches!(program.node(5), Node::Fby { left: 2, right: 4 }));
-    assert!(rt; matches!(program.node(6), Node::Input { stream: 0 }));
+fn first_wrong(program: &Program) -> Option<usize> {
+    if program.nodes() != 8 {
+        return Some(0);
+    }
+    first_false(&[
+        program.streams() == 1,
+        program.root() == 7,
+        matches!(program.node(7), Node::Freeze { subject: 1 }),
+        is_call(program.node(1), 2, 0),
+        is_call(program.node(4), 3, 1),
+        matches!(program.node(5), Node::Fby { left: 2, right: 4 }),
+        matches!(program.node(6), Node::Input { stream: 0 }),
+    ])
 }
 
 // The parts of a node stand before it, the subject before the definitions, and the calls after all other names.
 #[test]
 fn a_function_and_a_current_name(rt: HostRuntime) -> Result<(), Fail> {
     let source = b"f(5) where f(a) = a fby f(x); x is current y; end";
-    let program = program_of(rt.alloc(), source)?;
-    has_its_parts(&rt, &program);
+    let wrong = first_wrong(&program_of(rt.alloc(), source)?);
+    assert_eq!(rt; wrong, None);
     Ok(())
 }
 
@@ -178,26 +174,27 @@ static ROWS: [Row; 6] = [
     ),
 ];
 
-fn stands_in_its_scopes<A: Abort + AllocGlobal>(
-    rt: &A,
-    program: &Program,
-    row: &Row,
-) -> Result<(), Fail> {
-    let (source, scopes, nodes, names, places) = *row;
-    let alloc = rt.alloc();
-    let table = program.table();
-    assert_eq!(rt; scopes_of(alloc, table)?.as_str(), scopes, "{source}");
-    assert_eq!(rt; nodes_of(alloc, table)?.as_str(), nodes, "{source}");
-    assert_eq!(rt; names_of(alloc, table)?.as_str(), names, "{source}");
-    assert_eq!(rt; places_of(alloc, table)?.as_str(), places, "{source}");
-    Ok(())
+fn is_text(text: String, wanted: &str) -> bool {
+    text.as_str() == wanted
+}
+
+// Which of the texts isn't the table's: of its scopes, its nodes, its names, its places.
+fn wrong_text(alloc: Global, table: &Table, row: &Row) -> Result<Option<usize>, Fail> {
+    let (_, scopes, nodes, names, places) = *row;
+    Ok(first_false(&[
+        is_text(scopes_of(alloc, table)?, scopes),
+        is_text(nodes_of(alloc, table)?, nodes),
+        is_text(names_of(alloc, table)?, names),
+        is_text(places_of(alloc, table)?, places),
+    ]))
 }
 
 #[test]
 fn rows_in_their_scopes(rt: HostRuntime) -> Result<(), Fail> {
     for row in &ROWS {
         let program = program_of(rt.alloc(), row.0.as_bytes())?;
-        stands_in_its_scopes(&rt, &program, row)?;
+        let wrong = wrong_text(rt.alloc(), program.table(), row)?;
+        assert_eq!(rt; wrong, None, "{}", row.0);
     }
     Ok(())
 }
@@ -230,8 +227,8 @@ fn functions(alloc: Global, count: u32) -> Result<String, AllocError> {
 #[test]
 fn many_names(rt: HostRuntime) -> Result<(), Fail> {
     let source = names(rt.alloc(), 48_000)?;
-    let program = program_of(rt.alloc(), source.as_bytes())?;
-    has_rows(&rt, &program, 144_000 - 1, 48_000, 0);
+    let rows = rows_of(&program_of(rt.alloc(), source.as_bytes())?);
+    assert_eq!(rt; rows, (144_000 - 1, 48_000, 0));
     Ok(())
 }
 
@@ -240,8 +237,8 @@ fn many_names(rt: HostRuntime) -> Result<(), Fail> {
 #[test]
 fn many_functions(rt: HostRuntime) -> Result<(), Fail> {
     let source = functions(rt.alloc(), 10_000)?;
-    let program = program_of(rt.alloc(), source.as_bytes())?;
-    has_rows(&rt, &program, 40_000 - 1, 20_000, 10_000);
+    let rows = rows_of(&program_of(rt.alloc(), source.as_bytes())?);
+    assert_eq!(rt; rows, (40_000 - 1, 20_000, 10_000));
     Ok(())
 }
 
@@ -255,7 +252,7 @@ fn deepest(alloc: Global) -> Result<String, AllocError> {
 #[test]
 fn deepest_tree(rt: HostRuntime) -> Result<(), Fail> {
     let source = deepest(rt.alloc())?;
-    let program = program_of(rt.alloc(), source.as_bytes())?;
-    has_rows(&rt, &program, 400, 0, 0);
+    let rows = rows_of(&program_of(rt.alloc(), source.as_bytes())?);
+    assert_eq!(rt; rows, (400, 0, 0));
     Ok(())
 }

@@ -36,50 +36,63 @@ fn table(alloc: Global, inputs: Vec<Name>, root: u32) -> Result<Table, Fail> {
     })
 }
 
-#[test]
-fn inputs_of_one_name_and_a_root_that_is_not_there(rt: HostRuntime) -> Result<(), Fail> {
-    let alloc = rt.alloc();
-    let program = Program::make(alloc, table(alloc, named(alloc, &[b"x", b"y"])?, 0)?)?;
-    match program {
-        Some(program) => {
-            assert_eq!(rt; program.streams(), 2);
-            assert_eq!(rt; program.nodes(), 1);
-            let Node::Const { constant } = program.node(program.root()) else {
-                assert!(rt; false, "the root is a constant");
-                return Ok(());
-            };
-            assert!(rt; matches!(program.constant(constant), Value::Int(1)));
-        }
-        None => assert!(rt; false, "two names are two inputs"),
+// The program of the constant 1, where these inputs and this root make one.
+fn made(alloc: Global, names: &[&[u8]], root: u32) -> Result<Option<Program>, Fail> {
+    let inputs = named(alloc, names)?;
+    Ok(Program::make(alloc, table(alloc, inputs, root)?)?)
+}
+
+// Whether the root is the constant 1.
+fn is_one(program: &Program) -> bool {
+    match program.node(program.root()) {
+        Node::Const { constant } => matches!(program.constant(constant), Value::Int(1)),
+        _ => false,
     }
-    let twice = Program::make(alloc, table(alloc, named(alloc, &[b"x", b"x"])?, 0)?)?;
-    assert!(rt; twice.is_none(), "one name is one input");
-    let beyond = Program::make(alloc, table(alloc, named(alloc, &[b"x", b"y"])?, 1)?)?;
-    assert!(rt; beyond.is_none(), "the root is a node");
+}
+
+// How many inputs and nodes a program has, and whether its root is the constant 1.
+fn of_program(program: Option<Program>) -> Option<(u32, u32, bool)> {
+    let program = program?;
+    Some((program.streams(), program.nodes(), is_one(&program)))
+}
+
+#[test]
+fn a_program_of_one_node(rt: HostRuntime) -> Result<(), Fail> {
+    let program = made(rt.alloc(), &[b"x", b"y"], 0)?;
+    assert_eq!(rt; of_program(program), Some((2, 1, true)));
     Ok(())
 }
 
 #[test]
 fn inputs_are_told_apart_by_all_their_bytes(rt: HostRuntime) -> Result<(), Fail> {
     let alloc = rt.alloc();
-    let rows: [(&[&[u8]], bool, &str); 5] = [
-        (&[b"rate1", b"rate2"], true, "the last byte differs"),
+    let rows: [(&[&[u8]], u32, bool, &str); 7] = [
+        (&[b"x", b"x"], 0, false, "one name is one input"),
+        (&[b"x", b"y"], 1, false, "the root is a node"),
+        (&[b"rate1", b"rate2"], 0, true, "the last byte differs"),
         (
             &[b"rate", b"ra", b"rates"],
+            0,
             true,
             "one is a front of another",
         ),
-        (&[b"rate", b"Rate"], true, "a capital is another byte"),
-        (&[b"rate", b"ra", b"rates", b"ra"], false, "a front twice"),
+        (&[b"rate", b"Rate"], 0, true, "a capital is another byte"),
+        (
+            &[b"rate", b"ra", b"rates", b"ra"],
+            0,
+            false,
+            "a front twice",
+        ),
         (
             &[b"x", b"c", b"a", b"d", b"b", b"x"],
+            0,
             false,
             "the first is the last",
         ),
     ];
-    for (names, differ, why) in rows {
-        let program = Program::make(alloc, table(alloc, named(alloc, names)?, 0)?)?;
-        assert_eq!(rt; program.is_some(), differ, "{why}");
+    for (names, root, is_program, why) in rows {
+        let program = made(alloc, names, root)?;
+        assert_eq!(rt; program.is_some(), is_program, "{why}");
     }
     Ok(())
 }

@@ -1,6 +1,8 @@
 //! Texts that are tables', the text of rows that are made by hand, and texts that break, each with the line at which it does.
+ghost use Rattle.std.specs.Prelude.{IfOk};
 ghost use Rattle.lucid_flat.specs.FlatTables.{HasOneRoot};
 
+use crate::told::first_false;
 use lucid_equations::{
     Entry, NameRow, NameRows, Node, NodeRow, NodeRows, Numbers32, PlaceRow, PlaceRows, ScopeKind,
     Table,
@@ -113,7 +115,7 @@ const OPS: [OpWord; 35] = [
 ];
 
 // The nodes above, and one of each operator; their lines are appended.
-fn each_node(alloc: Global, rt: &impl Abort, lines: &mut String) -> Result<NodeRows, Fail> {
+fn each_node(alloc: Global, lines: &mut String) -> Result<NodeRows, Fail> {
     let mut nodes = Vec::new(alloc);
     for (node, words) in NODES {
         nodes.push(NodeRow { scope: 2, node })?;
@@ -127,7 +129,9 @@ fn each_node(alloc: Global, rt: &impl Abort, lines: &mut String) -> Result<NodeR
         nodes.push(NodeRow { scope: 1, node })?;
         writeln!(lines, "node 1 apply {word} 12 13 14")?;
     }
-    assert!(rt; nodes.len() < 100);
+    if nodes.len() > 100 {
+        return Err(Fail::new("too many nodes"));
+    }
     Ok(NodeRows::from_vec(nodes))
 }
 
@@ -175,24 +179,51 @@ const FRONT: &str = "lucid flat 1\nscope 23 called\nscope 24 frozen\ninput x\nco
 
 const ROOT: &str = "root 26\n";
 
+// The table of the first lines and the last one.
+fn front(alloc: Global) -> Result<Table, Fail>
+    ensures { IfOk result (λ table. HasOneRoot table) }
+{
+    let text = format!(in alloc; "{FRONT}{ROOT}")?;
+    Ok(read_flat(alloc, text.as_bytes())?)
+}
+
+// The number of the first scope that isn't as these lines say, or 3 where the root isn't.
+fn wrong_scope(table: &Table) -> Option<usize> {
+    match table.scopes.items() {
+        [root, called, frozen] => first_false(&[
+            root.parent == 0 && matches!(root.kind, ScopeKind::Root),
+            called.parent == 23 && matches!(called.kind, ScopeKind::Called),
+            frozen.parent == 24 && matches!(frozen.kind, ScopeKind::Frozen),
+            table.root == 26,
+        ]),
+        _ => Some(4),
+    }
+}
+
+#[test]
+fn scopes_and_the_root(rt: HostRuntime) -> Result<(), Fail> {
+    assert_eq!(rt; wrong_scope(&front(rt.alloc())?), None);
+    Ok(())
+}
+
+// The text of the table with a node of each form, a name of each kind and a call place; their lines are appended.
+fn text_with_rows(alloc: Global, table: Table, lines: &mut String) -> Result<Vec<u8>, Fail>
+    requires { HasOneRoot table }
+{
+    let nodes = each_node(alloc, lines)?;
+    let names = each_name(alloc, lines)?;
+    let places = one_place(alloc, lines)?;
+    let mut text = Vec::new(alloc);
+    show_flat(alloc, &with_rows(table, nodes, names, places), &mut text)?;
+    Ok(text)
+}
+
 #[test]
 fn fields_in_their_order(rt: HostRuntime) -> Result<(), Fail> {
     let alloc = rt.alloc();
     let mut lines = String::from_str(alloc, FRONT)?;
-    let nodes = each_node(alloc, &rt, &mut lines)?;
-    let names = each_name(alloc, &mut lines)?;
-    let places = one_place(alloc, &mut lines)?;
+    let text = text_with_rows(alloc, front(alloc)?, &mut lines)?;
     lines.push_str(ROOT)?;
-    let table = read_flat(alloc, format!(in alloc; "{FRONT}{ROOT}")?.as_bytes())?;
-    let scopes = table.scopes.items();
-    assert_eq!(rt; scopes.len(), 3);
-    let (root, called, frozen) = (scopes[0], scopes[1], scopes[2]);
-    assert!(rt; root.parent == 0 && matches!(root.kind, ScopeKind::Root));
-    assert!(rt; called.parent == 23 && matches!(called.kind, ScopeKind::Called));
-    assert!(rt; frozen.parent == 24 && matches!(frozen.kind, ScopeKind::Frozen));
-    assert_eq!(rt; table.root, 26);
-    let mut text = Vec::new(alloc);
-    show_flat(alloc, &with_rows(table, nodes, names, places), &mut text)?;
     assert_eq!(rt; text.as_slice(), lines.as_bytes());
     Ok(())
 }
@@ -245,6 +276,7 @@ fn a_refusal_in_words(rt: HostRuntime) -> Result<(), Fail> {
     let refusal = FlatRefusal::Form { line: 3 };
     let words = refusal.to_string(rt.alloc())?;
     assert_eq!(rt; words.as_str(), "line 3 is no flat line");
+    drop(words);
     let words = FlatRefusal::NoMemory.to_string(rt.alloc())?;
     assert_eq!(rt; words.as_str(), "no memory");
     Ok(())

@@ -18,4 +18,6 @@ mod table_value;
 #[cfg(test)]
 mod tables;
 #[cfg(test)]
+mod told;
+#[cfg(test)]
 mod values;

@@ -1,10 +1,10 @@
 //! Runs of sources by the plain evaluator. Each row is worked out by hand.
+use crate::values::{streams_of, text_at};
 use lucid_parse::parse;
-use lucid_plain::{Stream, approximation, run};
+use lucid_plain::run;
 use lucid_ports::{MemorySink, Options, RunFault, Summary};
 use lucid_scan::scan;
 use lucid_test_programs::{COUNTING, DEEP_TREE, NO_VALUE};
-use lucid_value::{Name, Value};
 use std::alloc::Global;
 use std::test::Fail;
 
@@ -71,17 +71,12 @@ fn lines_ends_and_faults(rt: HostRuntime) -> Result<(), Fail> {
 // The last element, end of data past it, and an input that isn't there.
 #[test]
 fn an_input(rt: HostRuntime) -> Result<(), Fail> {
-    let alloc = rt.alloc();
-    let name = Name::make(alloc, b"x")?;
-    let elements = Vec::from_array(alloc, [Value::Int(7), Value::Int(8)])?;
-    let streams = [Stream { name, elements }];
-    let tokens = scan(alloc, b"x")?;
-    let tree = parse(alloc, b"x", &tokens)?;
-    let last = approximation(alloc, &streams, &tree, 1, 0, 1)?;
-    assert!(rt; matches!(last, Some(Value::Int(8))));
-    let past = approximation(alloc, &streams, &tree, 2, 0, 1)?;
-    assert!(rt; matches!(past, Some(Value::Eod)));
-    let absent = approximation(alloc, &[], &tree, 0, 0, 1)?;
+    let streams = streams_of(rt.alloc(), &[("x", "7\n8\n")])?;
+    for (time, text) in [(1, "8"), (2, "eod")] {
+        let shown = text_at(rt.alloc(), &streams, "x", time, 1)?;
+        assert_eq!(rt; shown.as_deref(), Some(text), "at {time}");
+    }
+    let absent = text_at(rt.alloc(), &[], "x", 0, 1)?;
     assert!(rt; absent.is_none());
     Ok(())
 }
@@ -89,11 +84,7 @@ fn an_input(rt: HostRuntime) -> Result<(), Fail> {
 // As deep as the tree, as often as the limit.
 #[test]
 fn a_deep_tree_at_a_deep_limit(rt: HostRuntime) -> Result<(), Fail> {
-    let alloc = rt.alloc();
-    let source = DEEP_TREE;
-    let tokens = scan(alloc, source.as_bytes())?;
-    let tree = parse(alloc, source.as_bytes(), &tokens)?;
-    let value = approximation(alloc, &[], &tree, 0, 0, 100)?;
-    assert!(rt; value.is_none());
+    let shown = text_at(rt.alloc(), &[], DEEP_TREE, 0, 100)?;
+    assert!(rt; shown.is_none());
     Ok(())
 }

@@ -1,4 +1,6 @@
 //! Tables that are made by hand: a sound one, and for each rule of a sound table one that breaks it alone.
+ghost use Rattle.std.specs.Prelude.{◌<◌};
+
 use lucid_equations::{
     Entry, NameRow, NameRows, Node, NodeRow, NodeRows, Numbers32, PlaceRow, PlaceRows, ScopeKind,
     ScopeRow, ScopeRows, Table, Values,
@@ -105,88 +107,131 @@ fn table(alloc: Global, rows: &Rows) -> Result<Table, Fail> {
     })
 }
 
+// Why the table is no program's, if it isn't.
+fn refusal_of(alloc: Global, rows: &Rows) -> Result<Option<BuildRefusal>, Fail> {
+    Ok(build(alloc, table(alloc, rows)?).err())
+}
+
 // The table is refused, in these words.
-fn is_refused(alloc: Global, rt: &impl Abort, rows: &Rows, words: &str) -> Result<(), Fail> {
-    match build(alloc, table(alloc, rows)?) {
-        Ok(_) => assert!(rt; false, "{words}"),
-        Err(refusal) => assert_eq!(rt; refusal.to_string(alloc)?.as_str(), words),
-    }
+fn is_refused<A: Abort + AllocGlobal>(
+    rt: &A,
+    rows: &Rows,
+    why: &str,
+    words: &str,
+) -> Result<(), Fail> {
+    let Some(refusal) = refusal_of(rt.alloc(), rows)? else {
+        return Err(Fail::new(why));
+    };
+    let told = refusal.to_string(rt.alloc())?;
+    assert_eq!(rt; told.as_str(), words, "{why}");
     Ok(())
+}
+
+// The root of the program of a table, and how many nodes it has; nothing where the table is refused.
+fn of_program(alloc: Global, rows: &Rows) -> Result<Option<(u32, u32)>, Fail> {
+    let Ok(program) = build(alloc, table(alloc, rows)?) else {
+        return Ok(None);
+    };
+    Ok(Some((program.root(), program.nodes())))
 }
 
 #[test]
 fn a_sound_table(rt: HostRuntime) -> Result<(), Fail> {
-    let alloc = rt.alloc();
-    match build(alloc, table(alloc, &sound())?) {
-        Ok(program) => {
-            assert_eq!(rt; program.root(), 6);
-            assert_eq!(rt; program.nodes(), 7);
-        }
-        Err(_) => assert!(rt; false, "the table is sound"),
-    }
+    assert_eq!(rt; of_program(rt.alloc(), &sound())?, Some((6, 7)));
     Ok(())
 }
 
-#[test]
-fn scopes_nest(rt: HostRuntime) -> Result<(), Fail> {
+// The sound table with another node of a number.
+fn with_node(number: usize, row: NodeRow) -> Rows
+    requires { number < 7 }
+{
     let mut rows = sound();
-    rows.scopes[3].kind = ScopeKind::Root;
-    is_refused(rt.alloc(), &rt, &rows, "scope 3 is wrong")
+    rows.nodes[number] = row;
+    rows
 }
 
-#[test]
-fn the_numbers_past_an_arity_are_0(rt: HostRuntime) -> Result<(), Fail> {
+// The sound table with another fourth scope.
+fn with_scope(row: ScopeRow) -> Rows {
     let mut rows = sound();
-    rows.nodes[6].node = sum(4, 5, 1);
-    is_refused(rt.alloc(), &rt, &rows, "node 6 is wrong")
+    rows.scopes[3] = row;
+    rows
 }
 
-#[test]
-fn a_reference_has_the_depth_of_its_name(rt: HostRuntime) -> Result<(), Fail> {
+// The sound table with another first name.
+fn with_name(row: NameRow) -> Rows {
     let mut rows = sound();
-    rows.nodes[5].node = Node::Refer { name: 0, level: 1 };
-    is_refused(rt.alloc(), &rt, &rows, "node 5 is wrong")
+    rows.names[0] = row;
+    rows
 }
 
+// The scopes and the nodes.
 #[test]
-fn a_call_leads_to_a_called_name(rt: HostRuntime) -> Result<(), Fail> {
-    let mut rows = sound();
-    rows.nodes[2].node = call(0);
-    is_refused(rt.alloc(), &rt, &rows, "node 2 is wrong")
+fn rules_of_scopes_and_nodes(rt: HostRuntime) -> Result<(), Fail> {
+    let nested = with_scope(scope(2, ScopeKind::Root));
+    is_refused(&rt, &nested, "scopes nest", "scope 3 is wrong")?;
+    for (number, row, why, words) in [
+        (
+            6usize,
+            node(0, sum(4, 5, 1)),
+            "the numbers past an arity are 0",
+            "node 6 is wrong",
+        ),
+        (
+            5,
+            node(0, Node::Refer { name: 0, level: 1 }),
+            "a reference has the depth of its name",
+            "node 5 is wrong",
+        ),
+        (
+            2,
+            node(0, call(0)),
+            "a call leads to a called name",
+            "node 2 is wrong",
+        ),
+    ] {
+        if number < 7 {
+            is_refused(&rt, &with_node(number, row), why, words)?;
+        }
+    }
+    let rows = Rows {
+        root: 5,
+        ..with_node(6, node(4, Node::Const { constant: 0 }))
+    };
+    is_refused(&rt, &rows, "the scope of a row is there", "node 6 is wrong")
 }
 
+// The names, the actuals, the root and the inputs.
 #[test]
-fn a_body_stands_in_the_scope_of_its_name(rt: HostRuntime) -> Result<(), Fail> {
-    let mut rows = sound();
-    rows.names[0].kind = Entry::Plain { body: 1 };
-    is_refused(rt.alloc(), &rt, &rows, "name 0 is wrong")
-}
-
-#[test]
-fn an_actual_stands_in_the_scope_of_its_place(rt: HostRuntime) -> Result<(), Fail> {
-    let mut rows = sound();
-    rows.actual = 1;
-    is_refused(rt.alloc(), &rt, &rows, "place 0 is wrong")
-}
-
-#[test]
-fn the_root_stands_in_scope_0(rt: HostRuntime) -> Result<(), Fail> {
-    let mut rows = sound();
-    rows.root = 1;
-    is_refused(rt.alloc(), &rt, &rows, "the root is wrong")
-}
-
-#[test]
-fn the_names_of_inputs_differ(rt: HostRuntime) -> Result<(), Fail> {
-    let mut rows = sound();
-    rows.second_input = b'x';
-    is_refused(rt.alloc(), &rt, &rows, "the root is wrong")
-}
-
-#[test]
-fn the_scope_of_a_row_is_there(rt: HostRuntime) -> Result<(), Fail> {
-    let mut rows = sound();
-    rows.root = 5;
-    rows.nodes[6] = node(4, Node::Const { constant: 0 });
-    is_refused(rt.alloc(), &rt, &rows, "node 6 is wrong")
+fn other_rules(rt: HostRuntime) -> Result<(), Fail> {
+    for (rows, why, words) in [
+        (
+            with_name(name(0, Entry::Plain { body: 1 })),
+            "a body stands in the scope of its name",
+            "name 0 is wrong",
+        ),
+        (
+            Rows {
+                actual: 1,
+                ..sound()
+            },
+            "an actual stands in the scope of its place",
+            "place 0 is wrong",
+        ),
+        (
+            Rows { root: 1, ..sound() },
+            "the root stands in scope 0",
+            "the root is wrong",
+        ),
+        (
+            Rows {
+                second_input: b'x',
+                ..sound()
+            },
+            "the names of inputs differ",
+            "the root is wrong",
+        ),
+    ] {
+        is_refused(&rt, &rows, why, words)?;
+    }
+    Ok(())
 }

@@ -16,4 +16,6 @@ mod tags;
 #[cfg(test)]
 mod tasks;
 #[cfg(test)]
+mod told;
+#[cfg(test)]
 mod value;

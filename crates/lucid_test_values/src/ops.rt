@@ -1,5 +1,8 @@
 //! Worked rows of every operator. What is expected comes from the language's table of operators.
+ghost use Rattle.std.specs.Prelude.{◌<◌};
+
 use crate::ops::Sample::{Bare, Eod, Error, Int, Ints, Quoted, Truth};
+use crate::told::first_false;
 use lucid_ops::{Form, Op, OpTable, Side, apply, standard};
 use lucid_value::{List, Text, Value, Word, cons};
 use std::alloc::Global;
@@ -75,11 +78,6 @@ static EDGES: [Row; 8] = [
     (Op::Lt, &[Truth(true), Truth(false)], "error"),
 ];
 
-#[test]
-fn operators_at_their_edges(rt: HostRuntime) -> Result<(), Fail> {
-    each_holds(&rt, &EDGES)
-}
-
 // Sums, differences, products, quotients and remainders.
 static ARITHMETIC: [Row; 22] = [
     (Op::Add, &[Int(1), Int(2)], "3"),
@@ -117,11 +115,6 @@ static ARITHMETIC: [Row; 22] = [
     (Op::Mod, &[Int(1), Int(0)], "error"),
     (Op::Mod, &[Int(i128::MIN), Int(-1)], "0"),
 ];
-
-#[test]
-fn arithmetic_at_its_edges(rt: HostRuntime) -> Result<(), Fail> {
-    each_holds(&rt, &ARITHMETIC)
-}
 
 // Powers, opposites and sizes.
 static POWERS: [Row; 21] = [
@@ -172,11 +165,6 @@ static POWERS: [Row; 21] = [
     ),
 ];
 
-#[test]
-fn powers_at_their_edges(rt: HostRuntime) -> Result<(), Fail> {
-    each_holds(&rt, &POWERS)
-}
-
 // Equality, the order as a number, and negation.
 static EQUALITY: [Row; 12] = [
     (Op::Eq, &[Int(1), Truth(true)], "false"),
@@ -192,11 +180,6 @@ static EQUALITY: [Row; 12] = [
     (Op::Cmp, &[Ints(&[1]), Ints(&[1])], "error"),
     (Op::Not, &[Truth(true)], "false"),
 ];
-
-#[test]
-fn equality_at_its_edges(rt: HostRuntime) -> Result<(), Fail> {
-    each_holds(&rt, &EQUALITY)
-}
 
 // The four tests of order.
 static ORDER: [Row; 15] = [
@@ -217,11 +200,6 @@ static ORDER: [Row; 15] = [
     (Op::Ge, &[Int(1), Int(2)], "false"),
 ];
 
-#[test]
-fn order_at_its_edges(rt: HostRuntime) -> Result<(), Fail> {
-    each_holds(&rt, &ORDER)
-}
-
 // Lists.
 static LISTS: [Row; 14] = [
     (Op::Head, &[Ints(&[1, 2])], "1"),
@@ -239,11 +217,6 @@ static LISTS: [Row; 14] = [
     (Op::IsNull, &[Ints(&[])], "true"),
     (Op::IsNull, &[Ints(&[1])], "false"),
 ];
-
-#[test]
-fn lists_at_their_edges(rt: HostRuntime) -> Result<(), Fail> {
-    each_holds(&rt, &LISTS)
-}
 
 // Strings, words, and what has a length.
 static STRINGS: [Row; 19] = [
@@ -272,11 +245,6 @@ static STRINGS: [Row; 19] = [
     ),
 ];
 
-#[test]
-fn strings_at_their_edges(rt: HostRuntime) -> Result<(), Fail> {
-    each_holds(&rt, &STRINGS)
-}
-
 // End of data and errors.
 static ENDS: [Row; 9] = [
     (Op::Add, &[Error, Eod], "eod"),
@@ -291,8 +259,20 @@ static ENDS: [Row; 9] = [
 ];
 
 #[test]
-fn end_of_data_goes_before_errors(rt: HostRuntime) -> Result<(), Fail> {
-    each_holds(&rt, &ENDS)
+fn operators_at_their_edges(rt: HostRuntime) -> Result<(), Fail> {
+    for rows in [
+        EDGES.as_slice(),
+        ARITHMETIC.as_slice(),
+        POWERS.as_slice(),
+        EQUALITY.as_slice(),
+        ORDER.as_slice(),
+        LISTS.as_slice(),
+        STRINGS.as_slice(),
+        ENDS.as_slice(),
+    ] {
+        each_holds(&rt, rows)?;
+    }
+    Ok(())
 }
 
 // A value of each kind.
@@ -384,93 +364,88 @@ fn by_rule(at: &[usize], row: &'static str) -> &'static str {
     }
 }
 
+// The operator gives what its row says, where an argument isn't the end of data or an error.
+fn gives<R: Abort + AllocGlobal>(
+    rt: &R,
+    op: Op,
+    at: &[usize],
+    args: &[Sample],
+    row: &'static str,
+) -> Result<(), Fail> {
+    let text = answer(rt.alloc(), op, args)?;
+    assert_eq!(rt;
+        text.as_slice(),
+        by_rule(at, row).as_bytes(),
+        "{op:?} at {at:?}"
+    );
+    Ok(())
+}
+
+// `iseod` and `iserror` are true of their own sample alone, and `by_rule` says nothing of them.
+fn tells<R: Abort + AllocGlobal>(rt: &R, op: Op, args: &[Sample], truth: bool) -> Result<(), Fail> {
+    let text = answer(rt.alloc(), op, args)?;
+    let wanted = if truth { "true" } else { "false" };
+    assert_eq!(rt; text.as_slice(), wanted.as_bytes(), "{op:?}");
+    Ok(())
+}
+
 #[test]
 fn each_kind_at_operators_of_one(rt: HostRuntime) -> Result<(), Fail> {
     for i in 0..SAMPLES.len() {
         let args = [SAMPLES[i]];
         for (op, results) in &ONE {
             let row = if i < 5 { results[i] } else { "" };
-            let text = answer(rt.alloc(), *op, &args)?;
-            assert_eq!(rt;
-                text.as_slice(),
-                by_rule(&[i], row).as_bytes(),
-                "{op:?} at {i}"
-            );
+            gives(&rt, *op, &[i], &args, row)?;
         }
-        let end = answer(rt.alloc(), Op::IsEod, &args)?;
-        assert_eq!(rt;
-            end.as_slice(),
-            if i == 5 { "true" } else { "false" }.as_bytes(),
-            "iseod at {i}"
-        );
-        let error = answer(rt.alloc(), Op::IsError, &args)?;
-        assert_eq!(rt;
-            error.as_slice(),
-            if i == 6 { "true" } else { "false" }.as_bytes(),
-            "iserror at {i}"
-        );
+        tells(&rt, Op::IsEod, &args, i == 5)?;
+        tells(&rt, Op::IsError, &args, i == 6)?;
+    }
+    Ok(())
+}
+
+// Two samples, at each operator of two.
+fn each_of_two<R: Abort + AllocGlobal>(rt: &R, i: usize, j: usize) -> Result<(), Fail>
+    requires first { i < 7 }
+    requires second { j < 7 }
+{
+    let args = [SAMPLES[i], SAMPLES[j]];
+    for (op, same, across) in &TWO {
+        let row = if i == j && i < 5 { same[i] } else { *across };
+        gives(rt, *op, &[i, j], &args, row)?;
+    }
+    let row = if i < 5 && j == 4 {
+        IN_FRONT[i]
+    } else {
+        "error"
+    };
+    gives(rt, Op::Cons, &[i, j], &args, row)?;
+    let row = if i == 4 && j == 0 { "2" } else { "error" };
+    gives(rt, Op::Nth, &[i, j], &args, row)
+}
+
+// Three samples, at the operator of three.
+fn each_of_three<R: Abort + AllocGlobal>(rt: &R, i: usize, j: usize) -> Result<(), Fail>
+    requires first { i < 7 }
+    requires second { j < 7 }
+{
+    for k in 0..SAMPLES.len() {
+        let row = if i == 3 && j == 0 && k == 0 {
+            "`'"
+        } else {
+            "error"
+        };
+        let args = [SAMPLES[i], SAMPLES[j], SAMPLES[k]];
+        gives(rt, Op::Substr, &[i, j, k], &args, row)?;
     }
     Ok(())
 }
 
 #[test]
-fn each_kind_at_operators_of_two(rt: HostRuntime) -> Result<(), Fail> {
+fn each_kind_at_operators_of_more(rt: HostRuntime) -> Result<(), Fail> {
     for i in 0..SAMPLES.len() {
         for j in 0..SAMPLES.len() {
-            let args = [SAMPLES[i], SAMPLES[j]];
-            for (op, same, across) in &TWO {
-                let row = if i == j && i < 5 { same[i] } else { *across };
-                let text = answer(rt.alloc(), *op, &args)?;
-                assert_eq!(rt;
-                    text.as_slice(),
-                    by_rule(&[i, j], row).as_bytes(),
-                    "{op:?} at {i}, {j}"
-                );
-            }
-            let row = if i < 5 && j == 4 {
-                IN_FRONT[i]
-            } else {
-                "error"
-            };
-            let text = answer(rt.alloc(), Op::Cons, &args)?;
-            assert_eq!(rt;
-                text.as_slice(),
-                by_rule(&[i, j], row).as_bytes(),
-                ":: at {i}, {j}"
-            );
-            let row = if i == 4 && j == 0 { "2" } else { "error" };
-            let text = answer(rt.alloc(), Op::Nth, &args)?;
-            assert_eq!(rt;
-                text.as_slice(),
-                by_rule(&[i, j], row).as_bytes(),
-                "nth at {i}, {j}"
-            );
-        }
-    }
-    Ok(())
-}
-
-#[test]
-fn each_kind_at_substr(rt: HostRuntime) -> Result<(), Fail> {
-    for i in 0..SAMPLES.len() {
-        for j in 0..SAMPLES.len() {
-            for k in 0..SAMPLES.len() {
-                let row = if i == 3 && j == 0 && k == 0 {
-                    "`'"
-                } else {
-                    "error"
-                };
-                let text = answer(
-                    rt.alloc(),
-                    Op::Substr,
-                    &[SAMPLES[i], SAMPLES[j], SAMPLES[k]],
-                )?;
-                assert_eq!(rt;
-                    text.as_slice(),
-                    by_rule(&[i, j, k], row).as_bytes(),
-                    "at {i}, {j}, {k}"
-                );
-            }
+            each_of_two(&rt, i, j)?;
+            each_of_three(&rt, i, j)?;
         }
     }
     Ok(())
@@ -493,32 +468,36 @@ fn rows_are_found(rt: HostRuntime) {
     let table = standard();
     for (form, spelling, op, level, side) in &FOUND {
         let row = table.find(*form, *spelling);
-        assert_eq!(rt;
-            row.map(|row| (row.op, row.level, row.side)),
-            Some((*op, *level, *side)),
-            "{op:?}"
-        );
-        assert_eq!(rt; row, Some(op.row()), "{op:?}");
-        assert_eq!(rt; Op::find(*form, *spelling), Some(*op), "{op:?}");
+        let facts = [
+            row.map(|row| (row.op, row.level, row.side)) == Some((*op, *level, *side)),
+            row == Some(op.row()),
+            Op::find(*form, *spelling) == Some(*op),
+        ];
+        assert_eq!(rt; first_false(&facts), None, "{op:?}");
     }
-    assert!(rt; table.find(Form::Called, b"-").is_none());
-    assert!(rt; table.find(Form::Between, b"").is_none());
-    assert!(rt; Op::find(Form::Before, b"**").is_none());
+    let facts = [
+        table.find(Form::Called, b"-").is_none(),
+        table.find(Form::Between, b"").is_none(),
+        Op::find(Form::Before, b"**").is_none(),
+    ];
+    assert_eq!(rt; first_false(&facts), None);
 }
 
 #[test]
 fn levels_of_arguments(rt: HostRuntime) {
     let left = [Side::Left, Side::Right, Side::Single].map(|side| side.left_level(7));
-    assert_eq!(rt; left, [7, 8, 8]);
     let right = [Side::Left, Side::Right, Side::Single].map(|side| side.right_level(7));
-    assert_eq!(rt; right, [8, 7, 8]);
+    assert_eq!(rt; (left, right), ([7, 8, 8], [8, 7, 8]));
 }
 
 #[test]
 fn rows_of_a_table_rise(rt: HostRuntime) {
     let (first, second) = (Op::Neg.row(), Op::Abs.row());
-    assert!(rt; OpTable::make([first, second]).is_some());
-    assert!(rt; OpTable::make([second, first]).is_none());
-    assert!(rt; OpTable::make([first, first]).is_none());
-    assert!(rt; OpTable::make([]).is_some());
+    let facts = [
+        OpTable::make([first, second]).is_some(),
+        OpTable::make([second, first]).is_none(),
+        OpTable::make([first, first]).is_none(),
+        OpTable::make([]).is_some(),
+    ];
+    assert_eq!(rt; first_false(&facts), None);
 }

@@ -1,9 +1,9 @@
+use crate::told::first_false;
 use lucid_retire::*;
 use lucid_store::{Key, Warehouse};
 use lucid_tags::Tags;
 use lucid_value::Value;
 use std::alloc::Global;
-use std::process::Abort;
 use std::test::Fail;
 
 // A key of its own for each time.
@@ -12,19 +12,21 @@ fn key_at(alloc: Global, time: u64) -> Key {
     Key { name: 1, tag, time }
 }
 
-// Puts a value under a key, and has one turn.
-fn put_and_turn<A: Abort, R: Retire>(rt: &A, policy: &mut R, warehouse: &mut Warehouse, key: Key) {
-    assert!(rt; warehouse.put(key, Value::Int(7)).is_ok());
+// Puts a value under a key, and has one turn: how many are held then. A value that came back is counted.
+fn put_and_turn<R: Retire>(policy: &mut R, warehouse: &mut Warehouse, key: Key) -> u64 {
+    let lost = u64::from(warehouse.put(key, Value::Int(7)).is_err());
     policy.turn(warehouse);
+    warehouse.len().saturating_add(lost)
 }
 
 // How many of the first keys are held. It owns the policy and lets it go.
-fn count_after<A: Abort, R: Retire>(rt: &A, alloc: Global, mut policy: R, keys: u64) -> u64 {
+fn count_after<R: Retire>(alloc: Global, mut policy: R, keys: u64) -> u64 {
     let mut warehouse = Warehouse::make(alloc);
+    let mut held = 0;
     for time in 0..keys {
-        put_and_turn(rt, &mut policy, &mut warehouse, key_at(alloc, time));
+        held = put_and_turn(&mut policy, &mut warehouse, key_at(alloc, time));
     }
-    warehouse.len()
+    held
 }
 
 #[test]
@@ -33,15 +35,16 @@ fn the_room_of_the_last_policy(rt: HostRuntime) -> Result<(), Fail> {
     let (a, b, c) = (key_at(alloc, 0), key_at(alloc, 1), key_at(alloc, 2));
     let mut last = Last::make(alloc, 2)?;
     let mut warehouse = Warehouse::make(alloc);
-    put_and_turn(&rt, &mut last, &mut warehouse, a);
-    assert_eq!(rt; warehouse.len(), 1);
-    put_and_turn(&rt, &mut last, &mut warehouse, b);
-    assert_eq!(rt; warehouse.len(), 2);
-    put_and_turn(&rt, &mut last, &mut warehouse, c);
-    assert!(rt; !warehouse.remove(a));
-    assert!(rt; warehouse.remove(b));
-    assert!(rt; warehouse.remove(c));
-    assert_eq!(rt; last.unlisted(), 0);
+    let facts = [
+        put_and_turn(&mut last, &mut warehouse, a) == 1,
+        put_and_turn(&mut last, &mut warehouse, b) == 2,
+        put_and_turn(&mut last, &mut warehouse, c) == 2,
+        !warehouse.remove(a),
+        warehouse.remove(b),
+        warehouse.remove(c),
+        last.unlisted() == 0,
+    ];
+    assert_eq!(rt; first_false(&facts), None);
     Ok(())
 }
 
@@ -53,7 +56,7 @@ fn each_policy_has_its_turns(rt: HostRuntime) -> Result<(), Fail> {
         key: key_at(alloc, 1),
     };
     let scripted = Scripted::make(alloc, vec![in alloc; scrap]?);
-    assert_eq!(rt; count_after(&rt, alloc, scripted, 5), 4);
+    assert_eq!(rt; count_after(alloc, scripted, 5), 4);
     let policies = [
         (Policy::Keep(Keep), 5),
         (Policy::Nothing(Nothing), 0),
@@ -61,8 +64,11 @@ fn each_policy_has_its_turns(rt: HostRuntime) -> Result<(), Fail> {
         (Policy::Last(Last::make(alloc, 3)?), 3),
     ];
     for (policy, want) in policies {
-        assert_eq!(rt; policy.is_emptying(), want == 0);
-        assert_eq!(rt; count_after(&rt, alloc, policy, 5), want);
+        let emptying = policy.is_emptying() == (want == 0);
+        assert!(rt;
+            emptying && count_after(alloc, policy, 5) == want,
+            "{want} are held"
+        );
     }
     Ok(())
 }

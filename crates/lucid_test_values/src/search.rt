@@ -1,3 +1,4 @@
+use crate::told::first_false;
 use lucid_search::*;
 use lucid_tags::Tags;
 
@@ -8,8 +9,11 @@ fn best_noted_position(rt: HostRuntime) {
     let root = Tags::make(rt.alloc()).root();
     let mut positions = Positions::make(rt.alloc());
     positions.note(1, root, 3, 7);
-    assert_eq!(rt; positions.best(1, root, 5), Some((3, 7)));
-    assert_eq!(rt; positions.best(1, root, 2), None);
+    let facts = [
+        positions.best(1, root, 5) == Some((3, 7)),
+        positions.best(1, root, 2).is_none(),
+    ];
+    assert_eq!(rt; first_false(&facts), None);
 }
 
 #[test]
@@ -22,13 +26,16 @@ fn calls_with_ample_memory(rt: HostRuntime) {
     positions.note(1, root, 5, 8);
     positions.note(2, root, 6, 10);
     positions.note(1, root.at_space(1), 6, 11);
-    assert_eq!(rt; positions.best(1, root, 7), Some((5, 8)));
-    assert_eq!(rt; positions.best(1, root, 8), Some((8, 9)));
-    assert_eq!(rt; positions.best(1, root.at_space(1), 9), Some((6, 11)));
-    assert_eq!(rt; positions.best(2, root, 9), Some((6, 10)));
-    assert_eq!(rt; positions.missed(), 0);
+    let facts = [
+        positions.best(1, root, 7) == Some((5, 8)),
+        positions.best(1, root, 8) == Some((8, 9)),
+        positions.best(1, root.at_space(1), 9) == Some((6, 11)),
+        positions.best(2, root, 9) == Some((6, 10)),
+        positions.missed() == 0,
+    ];
+    assert_eq!(rt; first_false(&facts), None);
     positions.clear();
-    assert_eq!(rt; positions.best(1, root, 9), None);
+    assert!(rt; positions.best(1, root, 9).is_none());
 }
 
 #[test]
@@ -57,6 +64,6 @@ fn notes_in_rising_order(rt: HostRuntime) {
     let mut positions = Positions::make(rt.alloc());
     for key in 0..MANY {
         positions.note(1, root, key, key);
-        assert_eq!(rt; positions.best(1, root, MANY), Some((key, key)));
+        assert!(rt; positions.best(1, root, MANY) == Some((key, key)));
     }
 }

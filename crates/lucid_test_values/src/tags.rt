@@ -1,10 +1,10 @@
 ghost use Rattle.std.specs.Prelude.{IfOk};
 ghost use Rattle.lucid_tags.specs.Known.{IsKnown};
 
+use crate::told::first_false;
 use indexmap::IndexMap;
 use lucid_tags::*;
 use std::alloc::{AllocError, Global};
-use std::process::Abort;
 use std::test::Fail;
 
 const MANY: u64 = 1_000_000;
@@ -17,60 +17,76 @@ struct Key {
     time: u64,
 }
 
-fn check_one_tag_for_one_context(rt: &impl Abort, tags: &mut Tags) -> Result<(), Fail> {
+fn one_tag(tags: &mut Tags) -> Result<[bool; 3], AllocError> {
     let root = tags.root();
     let call = tags.enter_call(root, 3, root)?;
     let again = tags.enter_call(root, 3, root)?;
-    assert_eq!(rt; again, call);
     let frozen = tags.enter_frozen(root, 5)?;
-    assert_ne!(rt; frozen, call);
-    assert_eq!(rt; tags.frame(frozen), Some(Frame::Frozen { time: 5 }));
-    Ok(())
+    Ok([
+        again == call,
+        frozen != call,
+        tags.frame(frozen) == Some(Frame::Frozen { time: 5 }),
+    ])
 }
 
 #[test]
 fn one_tag_for_one_context(rt: HostRuntime) -> Result<(), Fail> {
-    check_one_tag_for_one_context(&rt, &mut Tags::make(rt.alloc()))
+    let facts = one_tag(&mut Tags::make(rt.alloc()))?;
+    assert_eq!(rt; first_false(&facts), None);
+    Ok(())
 }
 
-fn check_frames_of_a_call(rt: &impl Abort, tags: &mut Tags) -> Result<(), Fail> {
+fn frames(tags: &mut Tags) -> Result<[bool; 7], AllocError> {
     let root = tags.root();
     let outer = tags.enter_frozen(root, 7)?;
     let caller = tags.enter_frozen(outer, 8)?;
     let inner = tags.enter_call(outer.at_space(4), 3, caller.at_space(9))?;
-    assert_eq!(rt; inner.space(), 4);
-    assert_eq!(rt; tags.level(inner), 2);
-    assert_eq!(rt; tags.frame(inner), Some(Frame::Call { place: 3, caller }));
-    assert_eq!(rt; tags.cut(inner, 1), outer.at_space(4));
-    assert_eq!(rt; tags.cut(inner, 0), root.at_space(4));
-    assert_eq!(rt; tags.frame(root), None);
-    assert_eq!(rt; tags.count(), 4);
-    tags.reset();
-    assert_eq!(rt; tags.count(), 1);
-    assert_eq!(rt; tags.root(), root);
-    Ok(())
+    let level = tags.level(inner);
+    let cut = if level == 2 {
+        tags.cut(inner, 1)
+    } else {
+        inner
+    };
+    Ok([
+        inner.space() == 4,
+        level == 2,
+        tags.frame(inner) == Some(Frame::Call { place: 3, caller }),
+        cut == outer.at_space(4),
+        tags.cut(inner, 0) == root.at_space(4),
+        tags.frame(root).is_none(),
+        tags.count() == 4,
+    ])
 }
 
 #[test]
 fn frames_of_a_call(rt: HostRuntime) -> Result<(), Fail> {
-    check_frames_of_a_call(&rt, &mut Tags::make(rt.alloc()))
+    let mut tags = Tags::make(rt.alloc());
+    let facts = frames(&mut tags)?;
+    assert_eq!(rt; first_false(&facts), None);
+    let root = tags.root();
+    tags.reset();
+    assert!(rt; tags.count() == 1 && tags.root() == root);
+    Ok(())
 }
 
-fn check_numbers(rt: &impl Abort, tags: &mut Tags) -> Result<(), Fail> {
+fn numbers(tags: &mut Tags) -> Result<[bool; 5], AllocError> {
     let root = tags.root();
-    assert_eq!(rt; root.number(), 0);
     let outer = tags.enter_frozen(root, 7)?;
-    assert_eq!(rt; outer.number(), 1);
     let inner = tags.enter_call(root, 3, outer)?;
-    assert_eq!(rt; inner.at_space(4).number(), 2);
-    assert_eq!(rt; tags.numbered(2), inner);
-    assert_eq!(rt; tags.cut(inner, 0).number(), 0);
-    Ok(())
+    Ok([
+        root.number() == 0,
+        outer.number() == 1,
+        inner.at_space(4).number() == 2,
+        tags.count() > 2 && tags.numbered(2) == inner,
+        tags.cut(inner, 0).number() == 0,
+    ])
 }
 
 #[test]
 fn numbers_in_order(rt: HostRuntime) -> Result<(), Fail> {
-    check_numbers(&rt, &mut Tags::make(rt.alloc()))
+    let facts = numbers(&mut Tags::make(rt.alloc()))?;
+    assert_eq!(rt; first_false(&facts), None);
+    Ok(())
 }
 
 // The value of the context frozen at 5, where that of each context is its key's.
@@ -122,31 +138,39 @@ fn spread(tags: &mut Tags, many: u32) -> Result<Tag, AllocError> {
     Ok(tag)
 }
 
-fn check_a_million_nested(rt: &impl Abort, tags: &mut Tags) -> Result<(), Fail> {
+fn nested_twice(tags: &mut Tags) -> Result<[bool; 4], AllocError> {
     let first = nest(tags, MANY)?;
     let tag = nest(tags, MANY)?;
-    assert_eq!(rt; tag, first);
-    assert_eq!(rt; tags.count(), MANY + 1);
     let level = tags.level(tag);
-    assert_eq!(rt; level, MANY);
-    let half = tags.cut(tag, 500_000);
-    assert_eq!(rt; tags.frame(half), Some(Frame::Frozen { time: 499_999 }));
-    Ok(())
+    let half = if level == MANY {
+        tags.cut(tag, 500_000)
+    } else {
+        tag
+    };
+    Ok([
+        tag == first,
+        tags.count() == MANY + 1,
+        level == MANY,
+        tags.frame(half) == Some(Frame::Frozen { time: 499_999 }),
+    ])
 }
 
 #[test]
 fn a_million_nested(rt: HostRuntime) -> Result<(), Fail> {
-    check_a_million_nested(&rt, &mut Tags::make(rt.alloc()))
+    let facts = nested_twice(&mut Tags::make(rt.alloc()))?;
+    assert_eq!(rt; first_false(&facts), None);
+    Ok(())
 }
 
-fn check_a_million_side_by_side(rt: &impl Abort, tags: &mut Tags) -> Result<(), Fail> {
+fn spread_twice(tags: &mut Tags) -> Result<[bool; 2], AllocError> {
     let first = spread(tags, 1_000_000)?;
-    assert_eq!(rt; spread(tags, 1_000_000)?, first);
-    assert_eq!(rt; tags.count(), MANY + 1);
-    Ok(())
+    let again = spread(tags, 1_000_000)?;
+    Ok([again == first, tags.count() == MANY + 1])
 }
 
 #[test]
 fn a_million_side_by_side(rt: HostRuntime) -> Result<(), Fail> {
-    check_a_million_side_by_side(&rt, &mut Tags::make(rt.alloc()))
+    let facts = spread_twice(&mut Tags::make(rt.alloc()))?;
+    assert_eq!(rt; first_false(&facts), None);
+    Ok(())
 }
