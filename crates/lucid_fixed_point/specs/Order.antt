@@ -1,5 +1,5 @@
--- The order of streams, inclusion: to be defined at more points, with the same values where both are. Chains, and what lies within their unions:
--- monotone and continuous functions.
+-- The order of streams, inclusion; of streams of at most one value at a point it is to be defined at more points, with the same values where both are.
+-- Chains, and what lies within their unions: monotone and continuous functions.
 use Rattle.std.specs.Prelude.{◌≡◌, ℕ, suc, List}
 use Rattle.lucid_value.specs.Plain.{PlainValue}
 use Rattle.lucid_fixed_point.specs.Streams.{Stream, Streams, Map, Meanings}

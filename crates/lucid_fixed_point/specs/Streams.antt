@@ -1,5 +1,5 @@
--- Streams, maps of streams, and what names mean. A stream is the graph of a partial function from points to values: where it has no value, it is
--- undefined, which others write as a bottom element.
+-- Streams, maps of streams, and what names mean. A stream says which values stand at which points: where none stands it is undefined, which others
+-- write as a bottom element. What a program denotes has at most one value at a point, which laws say; not each stream has.
 use Rattle.std.specs.Prelude.{◌≡◌, ℕ, zero, suc, Bool, true, false, List, Option, Some, None}
 use Rattle.lucid_value.specs.Plain.{PlainValue}
 use Rattle.lucid_tree.specs.Tree.{Head}

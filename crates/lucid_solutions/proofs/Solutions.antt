@@ -11,6 +11,7 @@ use Rattle.lucid_top.specs.Call.{Call}
 use Rattle.lucid_top.specs.Headline.{RunsProgram, Headline, Has, elements, Lines, no_lines, one_line_more}
 use Rattle.lucid_solutions.specs.Solutions.{SolvesProgram, WritesItsLines, stream_by, HasItsStream}
 use Rattle.lucid_solutions.specs.LeastFamily.{has-denotation}
+use Rattle.lucid_solutions.proofs.Once.{lines-once}
 
 module _ (c : Call) (r : RunsProgram c) (F : Family) (solves : SolvesProgram r F) where
   lines-by : (k : ℕ) (bytes : List ℕ) → Lines r k bytes → LinesOf (stream_by r F) k bytes
@@ -22,6 +23,7 @@ module _ (c : Call) (r : RunsProgram c) (F : Family) (solves : SolvesProgram r F
   writes-its-lines s h =
       record {
         lines = lines-by h.whole h.lines h.are_lines;
+        only = λ single bytes l. lines-once (stream_by r F) single h.whole bytes h.lines l (lines-by h.whole h.lines h.are_lines);
         done = λ e. elim (h.done e) [ inl o ↦ inl o | inr o ↦ inr (derived-by-family F (elements r) r.program solves h.whole 0 eod o.1) ];
       }
 

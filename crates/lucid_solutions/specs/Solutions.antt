@@ -1,9 +1,10 @@
 -- The headline said of any solution of the program's equations: what was written are the first lines of its stream. And the solution that a program
 -- has: what its names mean.
-use Rattle.std.specs.Prelude.{◌≡◌, ◌⊎◌, ℕ, ◌↔◌}
+use Rattle.std.specs.Prelude.{◌≡◌, ◌⊎◌, ℕ, List, ◌↔◌}
 use Rattle.lucid_value.specs.Plain.{PlainValue, eod}
 use Rattle.lucid_tree.specs.Env.{empty}
 use Rattle.lucid_fixed_point.specs.Streams.{Stream, least}
+use Rattle.lucid_fixed_point.specs.Order.{IsSingle}
 use Rattle.lucid_fixed_point.specs.Denotation.{equations, meanings}
 use Rattle.lucid_fixed_point.specs.Families.{Family, by_family, Solves, LinesOf}
 use Rattle.lucid_report.specs.declared.status.Status.{Status}
@@ -19,10 +20,11 @@ SolvesProgram r F = Solves F r.program (meanings (elements r) empty)
 abbrev pub stream_by : {c : Call} → RunsProgram c → Family → Stream
 stream_by r F = by_family F r.program (meanings (elements r) empty)
 
--- The whole lines that were written are the first lines of the program's stream by the family; a run that is done before the count ended at its end
--- of data.
+-- Of the program's stream by the family: at each time of a whole line that was written it has the line's value, and where it has at most one value at a
+-- point, it has no other lines. A run that is done before the count stopped where it has end of data.
 pub record WritesItsLines {c : Call} (r : RunsProgram c) (s : Status) (h : Headline r s) (F : Family) : Type 0 where
   pub lines : LinesOf (stream_by r F) h.whole h.lines
+  pub only : IsSingle (stream_by r F) → (bytes : List ℕ) → LinesOf (stream_by r F) h.whole bytes → bytes ≡ h.lines
   pub done : s ≡ status.Done → (h.whole ≡ r.words.count) ⊎ stream_by r F h.whole 0 eod
 
 -- What the names of each block mean: the union of the iterates of its equations from nothing.
