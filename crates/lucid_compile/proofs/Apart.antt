@@ -1,16 +1,10 @@
 -- The scopes of a resolved tree differ: a block has the place of its first definition, and a function that of its first parameter.
-use Rattle.lucid_compile.proofs.Common.{◌≡◌, ℕ, zero, suc, ◌+◌, ◌<◌, ◌≤◌, Bool, true, false, ◌&&◌, IsTrue, length, List, [], ◌∷◌, ◌++◌, map, get_or, slice_get, nat_eq, nat_lt, Some, inl, inr, refl, ap, ◌∙◌, subst, arith, nat_tests, map-append, none-some, PlainTree, form, name, call, block, PlainTrees, no_trees, tree, PlainDefs, no_defs, defines, defines_function, defines_current, In, AllDiffer, places, places_in_defs, is_shaped, are_shaped, defs_are_shaped, IsWellMade, times, times-append, once-differ, differ-once, plain_entry, current_entry, freezes, in_body, Stand, Numbered, bound_node, block_scopes, FunctionStand, Log, no_log, with_stand, with_function, opened_block, opened_function, with_parameters, added, added_all, added_defs, first_true, second_true}
+use Rattle.lucid_compile.proofs.Common.{◌≡◌, ℕ, zero, suc, ◌+◌, ◌<◌, ◌≤◌, Bool, true, false, ◌&&◌, IsTrue, length, List, [], ◌∷◌, ◌++◌, map, get_or, slice_get, nat_eq, nat_lt, Some, inl, inr, refl, ap, ◌∙◌, subst, arith, nat_tests, map-append, none-some, PlainTree, form, name, call, block, PlainTrees, no_trees, tree, PlainDefs, no_defs, defines, defines_function, defines_current, In, AllDiffer, places, places_in_defs, is_shaped, are_shaped, defs_are_shaped, IsWellMade, times, times-append, once-differ, differ-once, freezes, in_body, Note, block_scopes, FunctionStand, Log, no_log, with_stand, with_function, opened_block, opened_function, with_parameters, added, added_all, added_defs, first_true, second_true, current_right, note, plain_right}
 use Rattle.std.proofs.lemmas.List.{append-nil}
 use Rattle.lucid_tree.specs.WellMade.{places_in}
-use Rattle.lucid_compile.specs.Static.{Static, outermost, in_block, in_function}
+use Rattle.lucid_compile.specs.Static.{Static, outermost, in_block}
+use Rattle.lucid_compile.specs.Settled.{definition_place, own}
 use Rattle.lucid_compile.proofs.Opening.{parameters-scopes}
-
--- the place of the first definition
-abbrev first_of : PlainDefs → ℕ
-first_of no_defs = 0
-first_of (defines at x e ds) = at
-first_of (defines_function at x ns ats e ds) = at
-first_of (defines_current at x e ds) = at
 
 abbrev front_of : PlainDefs → List ℕ
 front_of no_defs = []
@@ -18,13 +12,7 @@ front_of (defines at x e ds) = at ∷ []
 front_of (defines_function at x ns ats e ds) = at ∷ []
 front_of (defines_current at x e ds) = at ∷ []
 
--- by what a scope is told: 0, or one more than a place
-abbrev own : Static → ℕ
-own outermost = 0
-own (in_block ds k) = suc (first_of ds)
-own (in_function d ns ats k) = suc (get_or ats 0 0)
-
-abbrev owns : Log → List ℕ
+abbrev pub owns : Log → List ℕ
 owns l = map own l.scopes
 
 -- how often a number is one more than a place
@@ -34,7 +22,7 @@ taken x ps = times x (map suc ps)
 taken-append : (x : ℕ) (xs ys : List ℕ) → taken x (xs ++ ys) ≡ taken x xs + taken x ys
 taken-append x xs ys = ap (times x) (map-append suc xs ys) ∙ times-append x (map suc xs) (map suc ys)
 
-no-front : (x : ℕ) (ds : PlainDefs) → freezes ds ≡ true → times x (suc (first_of ds) ∷ []) ≤ taken x (front_of ds)
+no-front : (x : ℕ) (ds : PlainDefs) → freezes ds ≡ true → times x (suc (definition_place ds) ∷ []) ≤ taken x (front_of ds)
 no-front x no_defs e =
     let q : false ≡ true = e in
     absurd (cc)
@@ -45,7 +33,7 @@ no-front x (defines_current at n e ds) q = omega arith
 block-owns : (x : ℕ) (ds : PlainDefs) (k : Static) (l : Log) (b : Bool) → freezes ds ≡ b
     → times x (map own (l.scopes ++ block_scopes b (in_block ds k))) ≤ times x (owns l) + taken x (front_of ds)
 block-owns x ds k l true e =
-    omega (arith, ap (times x) (map-append own l.scopes (in_block ds k ∷ [])), times-append x (owns l) (suc (first_of ds) ∷ []), no-front x ds e)
+    omega (arith, ap (times x) (map-append own l.scopes (in_block ds k ∷ [])), times-append x (owns l) (suc (definition_place ds) ∷ []), no-front x ds e)
 block-owns x ds k l false e = omega (arith, ap (λ xs. times x (map own xs)) (append-nil l.scopes))
 
 front-taken : (x : ℕ) (ats : List ℕ) → 0 < length ats → times x (suc (get_or ats 0 0) ∷ []) ≤ taken x ats
@@ -70,15 +58,15 @@ has-first n m h =
     let b : IsTrue (nat_eq m n) = second_true (nat_lt 0 n) _ h in
     grind (arith, nat_tests, a, b)
 
-module _ (w : Numbered) (x : ℕ) where
+module _ (x : ℕ) where
   mutual
-    owns-tree : (k : Static) (e : PlainTree) (l : Log) → IsTrue (is_shaped e) → times x (owns (added w k e l)) ≤ times x (owns l) + taken x (places e)
+    owns-tree : (k : Static) (e : PlainTree) (l : Log) → IsTrue (is_shaped e) → times x (owns (added k e l)) ≤ times x (owns l) + taken x (places e)
     owns-tree k (form at f es) l t = omega (arith, owns-trees k es l (second_true _ (are_shaped es) t))
     owns-tree k (name at n) l t = omega arith
     owns-tree k (call at n es) l t = omega (arith, owns-trees k es l t)
     owns-tree k (block at e ds) l t =
         let u : Log = opened_block ds k l in
-        let b : Log = added w (in_block ds k) e u in
+        let b : Log = added (in_block ds k) e u in
         omega (
           arith,
           taken-append x (places e) (places_in_defs ds),
@@ -89,28 +77,28 @@ module _ (w : Numbered) (x : ℕ) where
         )
 
     owns-trees : (k : Static) (es : PlainTrees) (l : Log) → IsTrue (are_shaped es)
-        → times x (owns (added_all w k es l)) ≤ times x (owns l) + taken x (places_in es)
+        → times x (owns (added_all k es l)) ≤ times x (owns l) + taken x (places_in es)
     owns-trees k no_trees l t = omega arith
     owns-trees k (tree e es) l t =
         omega (
           arith,
           taken-append x (places e) (places_in es),
           owns-tree k e l (first_true (is_shaped e) _ t),
-          owns-trees k es (added w k e l)
+          owns-trees k es (added k e l)
               (second_true (is_shaped e) _ t),
         )
 
     owns-defs : (k o : Static) (ds : PlainDefs) (l : Log) → IsTrue (defs_are_shaped ds)
-        → times x (owns (added_defs w k o ds l)) + taken x (front_of ds) ≤ times x (owns l) + taken x (places_in_defs ds)
+        → times x (owns (added_defs k o ds l)) + taken x (front_of ds) ≤ times x (owns l) + taken x (places_in_defs ds)
     owns-defs k o no_defs l t = omega arith
     owns-defs k o (defines at n e ds) l t =
-        let s : Stand = record { at = at; home = k; entry = plain_entry (bound_node w e) } in
+        let s : Note = note at k (plain_right e) in
         omega (
           arith,
           taken-append x (places e) (places_in_defs ds),
           owns-tree k e l (first_true (is_shaped e) _ t),
           owns-defs k o ds
-              (with_stand s (added w k e l)) (second_true (is_shaped e) _ t),
+              (with_stand s (added k e l)) (second_true (is_shaped e) _ t),
         )
     owns-defs k o (defines_function at n ns ats e ds) l t =
         let y : Static = in_body ns ats k in
@@ -127,16 +115,16 @@ module _ (w : Numbered) (x : ℕ) where
           function-owns x ns ats k l first,
           owns-tree y e b
               shape,
-          owns-defs k o ds (with_function f (added w y e b)) rest,
+          owns-defs k o ds (with_function f (added y e b)) rest,
         )
     owns-defs k o (defines_current at n e ds) l t =
-        let s : Stand = record { at = at; home = k; entry = current_entry (bound_node w e) } in
+        let s : Note = note at k (current_right e) in
         omega (
           arith,
           taken-append x (places e) (places_in_defs ds),
           owns-tree o e l (first_true (is_shaped e) _ t),
           owns-defs k o ds
-              (with_stand s (added w o e l)) (second_true (is_shaped e) _ t),
+              (with_stand s (added o e l)) (second_true (is_shaped e) _ t),
         )
 
 -- numbers that differ differ when each is one more
@@ -154,11 +142,11 @@ one-more : (xs : List ℕ) → AllDiffer xs → AllDiffer (map suc xs)
 one-more [] h = tt
 one-more (x ∷ xs) h = ((λ i. h.0 (one-less x xs i)), one-more xs h.1)
 
-owns-differ : (w : Numbered) (e : PlainTree) → IsWellMade e → AllDiffer (owns (added w outermost e no_log))
-owns-differ w e made =
+pub owns-differ : (e : PlainTree) → IsWellMade e → AllDiffer (owns (added outermost e no_log))
+owns-differ e made =
     let all : AllDiffer (0 ∷ map suc (places e)) = (not-zero (places e), one-more (places e) made.placed) in
-    once-differ (owns (added w outermost e no_log))
-    (λ x. omega (arith, owns-tree w x outermost e no_log made.shaped, differ-once (0 ∷ map suc (places e)) all x))
+    once-differ (owns (added outermost e no_log))
+    (λ x. omega (arith, owns-tree x outermost e no_log made.shaped, differ-once (0 ∷ map suc (places e)) all x))
 
 -- what differs stands at one index
 module _ {A : Type 0} (f : A → ℕ) where
@@ -184,5 +172,5 @@ module _ {A : Type 0} (f : A → ℕ) where
 abbrev pub AreApart : List Static → Type 0
 AreApart ks = (i j : ℕ) (k : Static) → slice_get ks i ≡ Some k → slice_get ks j ≡ Some k → i ≡ j
 
-pub scopes-apart : (w : Numbered) (e : PlainTree) → IsWellMade e → AreApart (added w outermost e no_log).scopes
-scopes-apart w e made i j k = one-index own (added w outermost e no_log).scopes i j k (owns-differ w e made)
+pub scopes-apart : (e : PlainTree) → IsWellMade e → AreApart (added outermost e no_log).scopes
+scopes-apart e made i j k = one-index own (added outermost e no_log).scopes i j k (owns-differ e made)

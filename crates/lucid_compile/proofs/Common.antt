@@ -1,12 +1,15 @@
 -- What the proofs of this crate take of std and of other crates, and what two of them or more cite of its own, passed on from one place. Declares nothing.
-pub use Rattle.lucid_compile.specs.Bound.{CallStand, FunctionStand, Log, NodeStand, Numbered, Stand, Target, added, added_all, added_defs, block_scopes, block_stands, bound_node, bound_nodes, call_stand, callee_place, form_stand, name_node, name_stand, no_log, no_target, node_by, numbers_in, of_call, of_name, opened_block, opened_function, reference_by, with_call, with_function, with_nodes, with_parameters, with_scopes, with_stand}
+pub use Rattle.lucid_compile.specs.Bound.{FunctionStand, Log, Numbered, Target, added, added_all, added_defs, block_scopes, bound_entry, bound_node, bound_nodes, callee_place, constant_notes, name_node, no_log, no_target, node_by, numbers_in, of_call, of_name, opened_block, opened_function, reference_by, piece_target, with_call, with_constants, with_function, with_nodes, with_parameters, with_scopes, with_stand}
 pub use Rattle.lucid_compile.specs.Building.{Lists, OneConstant, OneNode, OneScope, lists, with_body, with_name, with_place}
 pub use Rattle.lucid_compile.specs.Compiles.{Actuals, AllKept, Callable, Compiles, DefsKept, Good, HasRow, Kept, Parameters, Shape}
 pub use Rattle.lucid_compile.specs.Counts.{valued_entries}
 pub use Rattle.lucid_compile.specs.Forms.{HasFirst, IsForm, node_of}
-pub use Rattle.lucid_compile.specs.Holds.{AddsDefs, AddsTree, AddsTrees, AreKnown, Begins, BodyFits, EachRow, FunctionsHold, Grown, GrownTo, HasTarget, Holds, IsBody, IsEntry, IsKnown, IsNameRow, IsNodeRow, IsOpen, IsPlaceRow, IsScopeRow, NameFits, NamesHold, NodeFits, NodesHold, OneForOne, PlaceFits, PlacesHold, ScopesHold, StandsAt}
+pub use Rattle.lucid_compile.specs.Holds.{AddsDefs, AddsTree, AddsTrees, AreKnown, Begins, BodyFits, EachRow, FunctionsHold, Grown, GrownTo, HasTarget, Holds, IsBody, IsEntry, IsNameRow, IsNodeRow, IsOpen, IsPlaceRow, IsScopeRow, NameFits, NamesHold, NodeFits, NodesHold, PlaceFits, PlacesHold, ScopesHold, StandsAt}
 pub use Rattle.lucid_compile.specs.Keys.{IsNumberingOf, KeyLists, call_key, key_of_function, keys_of, place_key, plain_key, stand_key, with_call_key, with_function_key, with_name_key}
+pub use Rattle.lucid_compile.specs.Known.{IsKnown, NamesNothing}
 pub use Rattle.lucid_compile.specs.Linked.{link, linked, linked_node, linked_place, linked_row}
+pub use Rattle.lucid_compile.specs.Noted.{AreNumbers, HasBody, HasNumbers, HasParts, IsNotedAt, IsNumber, OneForOne}
+pub use Rattle.lucid_compile.specs.Notes.{Kind, Note, block_piece, called_right, current_right, node_place, note, noted_actuals, noted_name, noted_tree, noted_value, opening, parameter_notes, parameter_number, piece, plain_right}
 pub use Rattle.lucid_compile.specs.Numbered.{AreMarked, call_number, function_mark, key_at, mark_by, name_mark, or_no_mark}
 pub use Rattle.lucid_compile.specs.Places.{first_place, place_of}
 pub use Rattle.lucid_compile.specs.Promise.{KeepsTree}

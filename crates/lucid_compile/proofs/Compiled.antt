@@ -1,5 +1,5 @@
 -- Lists that hold what a resolved tree adds, and the rows of its calls, are a table that is the tree compiled.
-use Rattle.lucid_compile.proofs.Common.{◌≡◌, ℕ, zero, suc, ◌+◌, ◌<◌, if◌then◌else◌, length, List, [], ◌∷◌, ◌++◌, Some, None, get_or, slice_get, refl, sym, ap, ◌∙◌, subst, inl, inr, arith, PlainTree, form, name, call, block, PlainTrees, no_trees, tree, PlainDefs, no_defs, defines, defines_function, defines_current, position_or_len, same_name, count, In, in_left, in_right, free, meaning, named, again, site_at, sites, sites_in, outside_sites, inside_sites, Earlier, also, no_names, again_if, repeats, binding_for, fault_of, scoped_binding, scoped_inputs, row, freeze, reference, invoke, node, Equations, plain_entry, called_entry, current_entry, parameter_entry, freezes, level, Origin, Source, call_level, node_for, nodes_for, in_body, HasRow, Parameters, Actuals, Callable, Kept, AllKept, DefsKept, first_place, name_mark, function_mark, call_number, Stand, Numbered, numbers_in, bound_node, bound_nodes, callee_place, CallStand, FunctionStand, NodeStand, Log, with_nodes, with_scopes, opened_block, opened_function, with_stand, with_call, with_function, with_parameters, added, added_all, added_defs}
+use Rattle.lucid_compile.proofs.Common.{◌≡◌, ℕ, zero, suc, ◌+◌, ◌<◌, if◌then◌else◌, length, List, [], ◌∷◌, ◌++◌, Some, None, get_or, slice_get, refl, sym, ap, ◌∙◌, subst, inl, inr, arith, PlainTree, form, name, call, block, PlainTrees, no_trees, tree, PlainDefs, no_defs, defines, defines_function, defines_current, position_or_len, same_name, count, In, in_left, in_right, free, meaning, named, again, site_at, sites, sites_in, outside_sites, inside_sites, Earlier, also, no_names, again_if, repeats, binding_for, fault_of, scoped_binding, scoped_inputs, row, freeze, reference, invoke, node, Equations, plain_entry, called_entry, current_entry, parameter_entry, freezes, level, Origin, Source, call_level, node_for, nodes_for, in_body, HasRow, Parameters, Actuals, Callable, Kept, AllKept, DefsKept, first_place, name_mark, function_mark, call_number, Note, Numbered, numbers_in, bound_node, bound_nodes, callee_place, FunctionStand, Log, with_nodes, with_scopes, opened_block, opened_function, with_stand, with_call, with_function, with_parameters, added, added_all, added_defs, current_right, note, noted_actuals, parameter_number, piece, plain_right, bound_entry, constant_notes, with_constants}
 use Rattle.lucid_scope.specs.Sites.{Site as NameSite, called}
 use Rattle.lucid_compile.specs.Static.{Static, in_block, in_function, reference_of, outermost}
 use Rattle.lucid_compile.proofs.Spots.{spots_for, all_spots, def_spots}
@@ -7,8 +7,8 @@ use Rattle.lucid_compile.proofs.Scoping.{not_some, forget, meaning-bare, IsListe
 
 -- what stands in a log stands in another
 pub record Within (a b : Log) : Type 0 where
-  pub names : (s : Stand) → In s a.names → In s b.names
-  pub calls : (c : CallStand) → In c a.calls → In c b.calls
+  pub names : (s : Note) → In s a.names → In s b.names
+  pub calls : (c : Note) → In c a.calls → In c b.calls
   pub functions : (f : FunctionStand) → In f a.functions → In f b.functions
 
 pub within-itself : (a : Log) → Within a a
@@ -21,19 +21,25 @@ within-then a b c h g = record {
   functions = λ s i. g.functions s (h.functions s i);
 }
 
-pub within-stand : (s : Stand) (a : Log) → Within a (with_stand s a)
+pub within-stand : (s : Note) (a : Log) → Within a (with_stand s a)
 within-stand s a = record { names = λ x i. in_left x a.names (s ∷ []) i; calls = λ x i. i; functions = λ x i. i }
 
-pub within-nodes : (ss : List NodeStand) (a : Log) → Within a (with_nodes ss a)
+pub within-nodes : (ss : List Note) (a : Log) → Within a (with_nodes ss a)
 within-nodes ss a = record { names = λ x i. i; calls = λ x i. i; functions = λ x i. i }
 
 pub within-scopes : (ks : List Static) (a : Log) → Within a (with_scopes ks a)
 within-scopes ks a = record { names = λ x i. i; calls = λ x i. i; functions = λ x i. i }
 
-pub before-nodes : (ss : List NodeStand) (a z : Log) → Within (with_nodes ss a) z → Within a z
+pub before-nodes : (ss : List Note) (a z : Log) → Within (with_nodes ss a) z → Within a z
 before-nodes ss a z i = within-then a (with_nodes ss a) z (within-nodes ss a) i
 
-pub within-call : (c : CallStand) (a : Log) → Within a (with_call c a)
+pub within-constants : (cs : List Note) (a : Log) → Within a (with_constants cs a)
+within-constants cs a = record { names = λ x i. i; calls = λ x i. i; functions = λ x i. i }
+
+pub before-form : (ss cs : List Note) (a z : Log) → Within (with_nodes ss (with_constants cs a)) z → Within a z
+before-form ss cs a z i = within-then a (with_constants cs a) z (within-constants cs a) (before-nodes ss (with_constants cs a) z i)
+
+pub within-call : (c : Note) (a : Log) → Within a (with_call c a)
 within-call c a = record { names = λ x i. i; calls = λ x i. in_left x a.calls (c ∷ []) i; functions = λ x i. i }
 
 pub within-function : (f : FunctionStand) (a : Log) → Within a (with_function f a)
@@ -42,52 +48,54 @@ within-function f a = record { names = λ x i. i; calls = λ x i. i; functions =
 within-parameters : (k : Static) (i : ℕ) (ats : List ℕ) (a : Log) → Within a (with_parameters k i ats a)
 within-parameters k i [] a = within-itself a
 within-parameters k i (at ∷ ats) a =
-    let s : Stand = record { at = at; home = k; entry = parameter_entry i } in
+    let s : Note = note at k (parameter_number i) in
     within-then a (with_stand s a) _ (within-stand s a) (within-parameters k (suc i) ats (with_stand s a))
 
-module _ (w : Numbered) where
-  mutual
-    pub within-tree : (k : Static) (e : PlainTree) (a : Log) → Within a (added w k e a)
-    within-tree k (form at f es) a = within-then a (added_all w k es a) _ (within-trees k es a) (within-nodes _ (added_all w k es a))
-    within-tree k (name at x) a = within-nodes _ a
-    within-tree k (call at x es) a =
-        let b : Log = with_call (record { at = at; actuals = es; home = k }) (added_all w k es a) in
-        within-then a (added_all w k es a) _ (within-trees k es a)
-        (within-then (added_all w k es a) b _ (within-call _ (added_all w k es a)) (within-nodes _ b))
-    within-tree k (block at e ds) a =
-        let o : Log = opened_block ds k a in
-        let b : Log = added w (in_block ds k) e o in
-        let c : Log = added_defs w (in_block ds k) k ds b in
-        within-then a b _ (within-then a o b (within-scopes _ a) (within-tree (in_block ds k) e o))
-        (within-then b c _ (within-defs (in_block ds k) k ds b) (within-nodes _ c))
+mutual
+  pub within-tree : (k : Static) (e : PlainTree) (a : Log) → Within a (added k e a)
+  within-tree k (form at f es) a =
+      let b : Log = added_all k es a in
+      let c : Log = with_constants (constant_notes k at f es) b in
+      within-then a b _ (within-trees k es a) (within-then b c _ (within-constants _ b) (within-nodes _ c))
+  within-tree k (name at x) a = within-nodes _ a
+  within-tree k (call at x es) a =
+      let b : Log = with_call (note at k (piece (call at x es))) (added_all k es a) in
+      within-then a (added_all k es a) _ (within-trees k es a)
+      (within-then (added_all k es a) b _ (within-call _ (added_all k es a)) (within-nodes _ b))
+  within-tree k (block at e ds) a =
+      let o : Log = opened_block ds k a in
+      let b : Log = added (in_block ds k) e o in
+      let c : Log = added_defs (in_block ds k) k ds b in
+      within-then a b _ (within-then a o b (within-scopes _ a) (within-tree (in_block ds k) e o))
+      (within-then b c _ (within-defs (in_block ds k) k ds b) (within-nodes _ c))
 
-    pub within-trees : (k : Static) (es : PlainTrees) (a : Log) → Within a (added_all w k es a)
-    within-trees k no_trees a = within-itself a
-    within-trees k (tree e es) a = within-then a (added w k e a) _ (within-tree k e a) (within-trees k es (added w k e a))
+  pub within-trees : (k : Static) (es : PlainTrees) (a : Log) → Within a (added_all k es a)
+  within-trees k no_trees a = within-itself a
+  within-trees k (tree e es) a = within-then a (added k e a) _ (within-tree k e a) (within-trees k es (added k e a))
 
-    pub within-defs : (k o : Static) (ds : PlainDefs) (a : Log) → Within a (added_defs w k o ds a)
-    within-defs k o no_defs a = within-itself a
-    within-defs k o (defines at x e ds) a =
-        let s : Stand = record { at = at; home = k; entry = plain_entry (bound_node w e) } in
-        within-then a (added w k e a) _ (within-tree k e a)
-        (within-then (added w k e a) (with_stand s (added w k e a)) _ (within-stand s (added w k e a)) (within-defs k o ds (with_stand s (added w k e a))))
-    within-defs k o (defines_function at x ns ats e ds) a =
-        let h : Static = in_body ns ats k in
-        let f : FunctionStand = record { at = at; first = length a.names; names = ns; places = ats; right = e; home = k } in
-        let u : Log = opened_function ns ats k a in
-        let b : Log = with_parameters h 0 ats u in
-        within-then a b _ (within-then a u b (within-scopes _ a) (within-parameters h 0 ats u))
-        (within-then b (added w h e b) _ (within-tree h e b)
-        (within-then (added w h e b) (with_function f (added w h e b)) _ (within-function f (added w h e b))
-        (within-defs k o ds (with_function f (added w h e b)))))
-    within-defs k o (defines_current at x e ds) a =
-        let s : Stand = record { at = at; home = k; entry = current_entry (bound_node w e) } in
-        within-then a (added w o e a) _ (within-tree o e a)
-        (within-then (added w o e a) (with_stand s (added w o e a)) _ (within-stand s (added w o e a)) (within-defs k o ds (with_stand s (added w o e a))))
+  pub within-defs : (k o : Static) (ds : PlainDefs) (a : Log) → Within a (added_defs k o ds a)
+  within-defs k o no_defs a = within-itself a
+  within-defs k o (defines at x e ds) a =
+      let s : Note = note at k (plain_right e) in
+      within-then a (added k e a) _ (within-tree k e a)
+      (within-then (added k e a) (with_stand s (added k e a)) _ (within-stand s (added k e a)) (within-defs k o ds (with_stand s (added k e a))))
+  within-defs k o (defines_function at x ns ats e ds) a =
+      let h : Static = in_body ns ats k in
+      let f : FunctionStand = record { at = at; first = length a.names; names = ns; places = ats; right = e; home = k } in
+      let u : Log = opened_function ns ats k a in
+      let b : Log = with_parameters h 0 ats u in
+      within-then a b _ (within-then a u b (within-scopes _ a) (within-parameters h 0 ats u))
+      (within-then b (added h e b) _ (within-tree h e b)
+      (within-then (added h e b) (with_function f (added h e b)) _ (within-function f (added h e b))
+      (within-defs k o ds (with_function f (added h e b)))))
+  within-defs k o (defines_current at x e ds) a =
+      let s : Note = note at k (current_right e) in
+      within-then a (added o e a) _ (within-tree o e a)
+      (within-then (added o e a) (with_stand s (added o e a)) _ (within-stand s (added o e a)) (within-defs k o ds (with_stand s (added o e a))))
 
 -- What a whole log `z` has, by the lists that hold it: each name its level, each function its mark.
 pub record IsWhole (w : Numbered) (z : Log) : Type 0 where
-  pub names : (s : Stand) → In s z.names → IsListed w.numbering z.names s.at s.home
+  pub names : (s : Note) → In s z.names → IsListed w.numbering z.names s.at s.home
   pub functions : (f : FunctionStand) → In f z.functions → IsThere w.numbering z.names z.functions (λ _ _. Unit {0}) f
 
 read : (xs : List (List ℕ)) (j : ℕ) (x : List ℕ) → slice_get xs j ≡ Some x → get_or xs j [] ≡ x
@@ -132,7 +140,7 @@ module _ (w : Numbered) (z : Log) (whole : IsWhole w z) where
   no-rights k (defines_function at x ns ats e ds) = (tt, no-rights k ds)
   no-rights k (defines_current at x e ds) = no-rights k ds
 
-  last-name : (s : Stand) (a b : Log) → Within (with_stand s a) b → In s b.names
+  last-name : (s : Note) (a b : Log) → Within (with_stand s a) b → In s b.names
   last-name s a b h = h.names s (in_right s a.names (s ∷ []) (inl refl))
 
   last-function : (f : FunctionStand) (a b : Log) → Within (with_function f a) b → In f b.functions
@@ -142,25 +150,25 @@ module _ (w : Numbered) (z : Log) (whole : IsWhole w z) where
       → IsThere w.numbering z.names z.functions R f
   there-with R f i r = let h = whole.functions f i in record { depth = h.depth; parameters = h.parameters; found = h.found; counts = h.counts; right_is = r }
 
-  pub defs-known : (R : PlainTree → Static → Type 0) (k o : Static) (ds : PlainDefs) (a : Log) → Within (added_defs w k o ds a) z → Rights R k ds
+  pub defs-known : (R : PlainTree → Static → Type 0) (k o : Static) (ds : PlainDefs) (a : Log) → Within (added_defs k o ds a) z → Rights R k ds
       → DefsKnown w.numbering z.names z.functions R k ds
   defs-known R k o no_defs a h r = tt
   defs-known R k o (defines at x e ds) a h r =
-      let s : Stand = record { at = at; home = k; entry = plain_entry (bound_node w e) } in
-      let b : Log = with_stand s (added w k e a) in
-      (whole.names s (last-name s (added w k e a) z (within-then b (added_defs w k o ds b) z (within-defs w k o ds b) h)), defs-known R k o ds b h r)
+      let s : Note = note at k (plain_right e) in
+      let b : Log = with_stand s (added k e a) in
+      (whole.names s (last-name s (added k e a) z (within-then b (added_defs k o ds b) z (within-defs k o ds b) h)), defs-known R k o ds b h r)
   defs-known R k o (defines_function at x ns ats e ds) a h r =
       let f : FunctionStand = record { at = at; first = length a.names; names = ns; places = ats; right = e; home = k } in
-      let c : Log = added w (in_body ns ats k) e (with_parameters (in_body ns ats k) 0 ats (opened_function ns ats k a)) in
+      let c : Log = added (in_body ns ats k) e (with_parameters (in_body ns ats k) 0 ats (opened_function ns ats k a)) in
       let b : Log = with_function f c in (
-        (length a.names, there-with R f (last-function f c z (within-then b (added_defs w k o ds b) z (within-defs w k o ds b) h)) r.0),
+        (length a.names, there-with R f (last-function f c z (within-then b (added_defs k o ds b) z (within-defs k o ds b) h)) r.0),
         defs-known R k o ds b h
             r.1,
       )
   defs-known R k o (defines_current at x e ds) a h r =
-      let s : Stand = record { at = at; home = k; entry = current_entry (bound_node w e) } in
-      let b : Log = with_stand s (added w o e a) in
-      (whole.names s (last-name s (added w o e a) z (within-then b (added_defs w k o ds b) z (within-defs w k o ds b) h)), defs-known R k o ds b h r)
+      let s : Note = note at k (current_right e) in
+      let b : Log = with_stand s (added o e a) in
+      (whole.names s (last-name s (added o e a) z (within-then b (added_defs k o ds b) z (within-defs k o ds b) h)), defs-known R k o ds b h r)
 
   pub function-known : (R : PlainTree → Static → Type 0) (k : Static) (at n : ℕ) (ns : List (List ℕ)) (ats : List ℕ) (e : PlainTree)
       → IsThere w.numbering z.names z.functions R (record { at = at; first = n; names = ns; places = ats; right = e; home = forget k })
@@ -169,8 +177,8 @@ module _ (w : Numbered) (z : Log) (whole : IsWhole w z) where
 
   mutual
     pub node-is : (k : Static) (e : PlainTree) (a : Log) → AreFit w (sites k e) → Known w.numbering z.names z.functions Nothing k
-        → Within (added w (forget k) e a) z → bound_node w e ≡ node_for (numbers_in w) (forget k) e
-    node-is k (form at f es) a h s i = ap (row f) (nodes-are k es a h s (before-nodes _ _ z i))
+        → Within (added (forget k) e a) z → bound_node w e ≡ node_for (numbers_in w) (forget k) e
+    node-is k (form at f es) a h s i = ap (row f) (nodes-are k es a h s (before-form _ _ _ z i))
     node-is k (name at x) a h s i =
         let fit = h (named at x k) (inl refl) in
         ap reference (name-is w z.names z.functions Nothing (level (forget k)) at x (scoped_inputs w.scoped) (scoped_binding w.scoped at) (meaning x k) fit.0
@@ -186,26 +194,26 @@ module _ (w : Numbered) (z : Log) (whole : IsWhole w z) where
     node-is k (block at e ds) a h s i =
         let q : Static = in_block ds k in
         let u : Log = opened_block ds (forget k) a in
-        let b : Log = added w (forget q) e u in
+        let b : Log = added (forget q) e u in
         let inside = fit-right w (outside_sites k ds) _ h in
-        let on : Within (added_defs w (forget q) (forget k) ds b) z = before-nodes _ _ z i in
+        let on : Within (added_defs (forget q) (forget k) ds b) z = before-nodes _ _ z i in
         let known : Known w.numbering z.names z.functions Nothing q = (defs-known Nothing (forget q) (forget k) ds b on (no-rights (forget q) ds), s) in
         let part : bound_node w e ≡ node_for (numbers_in w) (forget q) e =
-        node-is q e u (fit-left w (sites q e) _ inside) known (within-then b _ z (within-defs w (forget q) (forget k) ds b) on) in
+        node-is q e u (fit-left w (sites q e) _ inside) known (within-then b _ z (within-defs (forget q) (forget k) ds b) on) in
         λ j. if freezes ds then freeze (part j) else part j
 
     nodes-are : (k : Static) (es : PlainTrees) (a : Log) → AreFit w (sites_in k es) → Known w.numbering z.names z.functions Nothing k
-        → Within (added_all w (forget k) es a) z → bound_nodes w es ≡ nodes_for (numbers_in w) (forget k) es
+        → Within (added_all (forget k) es a) z → bound_nodes w es ≡ nodes_for (numbers_in w) (forget k) es
     nodes-are k no_trees a h s i = refl
     nodes-are k (tree e es) a h s i =
-        let b : Log = added w (forget k) e a in
-        λ j. node (node-is k e a (fit-left w (sites k e) (sites_in k es) h) s (within-then b _ z (within-trees w (forget k) es b) i) j)
+        let b : Log = added (forget k) e a in
+        λ j. node (node-is k e a (fit-left w (sites k e) (sites_in k es) h) s (within-then b _ z (within-trees (forget k) es b) i) j)
         (nodes-are k es b (fit-right w (sites k e) (sites_in k es) h) s i j)
 
   -- the right sides of a block's functions are what they become
   rights-are : (k : Static) (o : Static) (earlier : Earlier) (ds : PlainDefs) (a : Log) → AreFit w (inside_sites k earlier ds)
       → Known w.numbering z.names z.functions Nothing k → DefsKnown w.numbering z.names z.functions Nothing (forget k) ds
-      → Within (added_defs w (forget k) o ds a) z → Rights (Same w) (forget k) ds
+      → Within (added_defs (forget k) o ds a) z → Rights (Same w) (forget k) ds
   rights-are k o earlier no_defs a h s d i = tt
   rights-are k o earlier (defines at x e ds) a h s d i =
       rights-are k o (also x earlier) ds _ (fit-right w (sites k e) _ (fit-right w (again_if (earlier x) at) _ h)) s d.1 i
@@ -214,9 +222,9 @@ module _ (w : Numbered) (z : Log) (whole : IsWhole w z) where
       let q : Static = in_function at ns ats k in
       let f : FunctionStand = record { at = at; first = length a.names; names = ns; places = ats; right = e; home = forget k } in
       let b : Log = with_parameters (forget q) 0 ats (opened_function ns ats (forget k) a) in
-      let c : Log = added w (forget q) e b in
+      let c : Log = added (forget q) e b in
       let on : Within c z = within-then c (with_function f c) z (within-function f c)
-      (within-then (with_function f c) _ z (within-defs w (forget k) o ds (with_function f c)) i) in (
+      (within-then (with_function f c) _ z (within-defs (forget k) o ds (with_function f c)) i) in (
         node-is q e b (fit-right w (repeats no_names ns ats) (sites q e) (fit-left w _ (inside_sites k (also x earlier) ds) own))
             (function-known Nothing k at d.0.0 ns ats e d.0.1 s) on,
         rights-are k o (also x earlier) ds _ (fit-right w _ (inside_sites k (also x earlier) ds) own)
@@ -240,12 +248,12 @@ module _ (w : Numbered) (z : Log) (whole : IsWhole w z) where
   less-known (in_function d ns ats k) h = (h.0, h.1, less-known k h.2)
 
   module _ (so : Source) (p : Equations)
-      (have : (s : Stand) → In s z.names → HasRow (numbers_in w) so p s.at s.home s.entry)
-      (have-call : (c : CallStand) (f : FunctionStand) → In c z.calls → callee_place (scoped_binding w.scoped c.at) ≡ f.at
+      (have : (s : Note) → In s z.names → HasRow (numbers_in w) so p s.at s.home (bound_entry w s.kind))
+      (have-call : (c : Note) (f : FunctionStand) → In c z.calls → callee_place (scoped_binding w.scoped c.at) ≡ f.at
       → IsThere w.numbering z.names z.functions (Same w) f
       → HasRow (numbers_in w) so p c.at (in_body f.names f.places f.home) (called_entry (bound_node w f.right)))
-      (have-place : (c : CallStand) → In c z.calls → bound_nodes w c.actuals ≡ nodes_for (numbers_in w) c.home c.actuals
-      → Actuals (numbers_in w) so p c.home c.actuals) where
+      (have-place : (c : Note) → In c z.calls → bound_nodes w (noted_actuals c.kind) ≡ nodes_for (numbers_in w) c.home (noted_actuals c.kind)
+      → Actuals (numbers_in w) so p c.home (noted_actuals c.kind)) where
     abbrev HaveSpots : List Origin → Type 0
     HaveSpots os = (o : Origin) → In o os → so.scope_at o.at ≡ o.home
 
@@ -262,7 +270,7 @@ module _ (w : Numbered) (z : Log) (whole : IsWhole w z) where
         → HasRow (numbers_in w) so p (get_or ats j 0) k (parameter_entry (i + j))
     parameters-from k i [] a h j b = absurd (omega arith)
     parameters-from k i (at ∷ ats) a h zero b =
-        let s : Stand = record { at = at; home = k; entry = parameter_entry i } in
+        let s : Note = note at k (parameter_number i) in
         let e : i ≡ i + 0 = omega arith in
         subst (λ y. HasRow (numbers_in w) so p at k (parameter_entry y)) e
         (have s (last-name s a z (within-then (with_stand s a) _ z (within-parameters k (suc i) ats (with_stand s a)) h)))
@@ -276,7 +284,7 @@ module _ (w : Numbered) (z : Log) (whole : IsWhole w z) where
         let e : 0 + j ≡ j = omega arith in
         subst (λ y. HasRow (numbers_in w) so p (get_or ats j 0) k (parameter_entry y)) e (parameters-from k 0 ats a h j (omega (arith, b, count)))
 
-    call-kept : (k : Static) (at : ℕ) (x : List ℕ) (c : CallStand) → c.at ≡ at → In c z.calls
+    call-kept : (k : Static) (at : ℕ) (x : List ℕ) (c : Note) → c.at ≡ at → In c z.calls
         → Calls w z.names z.functions (Same w) (scoped_binding w.scoped at) (meaning x k) → Callable (numbers_in w) so p at (meaning x (forget k))
     call-kept k at x c e i q =
         subst (Callable (numbers_in w) so p at) (sym (meaning-bare x k ∙ q.is))
@@ -286,13 +294,13 @@ module _ (w : Numbered) (z : Log) (whole : IsWhole w z) where
 
     mutual
       pub kept-bound : (k : Static) (e : PlainTree) (a : Log) → AreFit w (sites k e) → Known w.numbering z.names z.functions (Same w) k
-          → Within (added w (forget k) e a) z → HaveSpots (spots_for (forget k) e) → Kept (numbers_in w) so p (forget k) e
-      kept-bound k (form at f es) a h s i o = (all-bound k es a h s (before-nodes _ _ z i) (spots-later _ _ o), o _ (inl refl))
+          → Within (added (forget k) e a) z → HaveSpots (spots_for (forget k) e) → Kept (numbers_in w) so p (forget k) e
+      kept-bound k (form at f es) a h s i o = (all-bound k es a h s (before-form _ _ _ z i) (spots-later _ _ o), o _ (inl refl))
       kept-bound k (name at x) a h s i o = o _ (inl refl)
       kept-bound k (call at x es) a h s i o =
           let fit = h (called at x (count es) k) (inl refl) in
-          let c : CallStand = record { at = at; actuals = es; home = forget k } in
-          let b : Log = added_all w (forget k) es a in
+          let c : Note = note at (forget k) (piece (call at x es)) in
+          let b : Log = added_all (forget k) es a in
           let parts = λ (y : NameSite) (q : In y (sites_in k es)). h y (inr q) in
           let q = call-is w z.names z.functions (Same w) at (count es) x (scoped_inputs w.scoped) (scoped_binding w.scoped at) (meaning x k) fit.0 fit.1
           (meaning-known w.numbering z.names z.functions (Same w) x k s) in
@@ -307,16 +315,16 @@ module _ (w : Numbered) (z : Log) (whole : IsWhole w z) where
       kept-bound k (block at e ds) a h s i o =
           let q : Static = in_block ds k in
           let u : Log = opened_block ds (forget k) a in
-          let b : Log = added w (forget q) e u in
+          let b : Log = added (forget q) e u in
           let outside = fit-left w (outside_sites k ds) _ h in
           let inside = fit-right w (outside_sites k ds) _ h in
           let defs = fit-right w (sites q e) _ inside in
-          let on : Within (added_defs w (forget q) (forget k) ds b) z = before-nodes _ _ z i in
+          let on : Within (added_defs (forget q) (forget k) ds b) z = before-nodes _ _ z i in
           let less : Known w.numbering z.names z.functions Nothing q =
           (defs-known Nothing (forget q) (forget k) ds b on (no-rights (forget q) ds), less-known k s) in
           let rights = rights-are q (forget k) no_names ds b defs less less.0 on in
           let known : Known w.numbering z.names z.functions (Same w) q = (defs-known (Same w) (forget q) (forget k) ds b on rights, s) in (
-            kept-bound q e u (fit-left w (sites q e) _ inside) known (within-then b _ z (within-defs w (forget q) (forget k) ds b) on)
+            kept-bound q e u (fit-left w (sites q e) _ inside) known (within-then b _ z (within-defs (forget q) (forget k) ds b) on)
                 (spots-left (spots_for (forget q) e) _ (spots-later _ _ o)),
             defs-bound q k no_names ds b outside defs known known.0 s on
                 (spots-right (spots_for (forget q) e) _ (spots-later _ _ o)),
@@ -324,11 +332,11 @@ module _ (w : Numbered) (z : Log) (whole : IsWhole w z) where
           )
 
       all-bound : (k : Static) (es : PlainTrees) (a : Log) → AreFit w (sites_in k es) → Known w.numbering z.names z.functions (Same w) k
-          → Within (added_all w (forget k) es a) z → HaveSpots (all_spots (forget k) es) → AllKept (numbers_in w) so p (forget k) es
+          → Within (added_all (forget k) es a) z → HaveSpots (all_spots (forget k) es) → AllKept (numbers_in w) so p (forget k) es
       all-bound k no_trees a h s i o = tt
       all-bound k (tree e es) a h s i o =
-          let b : Log = added w (forget k) e a in (
-            kept-bound k e a (fit-left w (sites k e) (sites_in k es) h) s (within-then b _ z (within-trees w (forget k) es b) i)
+          let b : Log = added (forget k) e a in (
+            kept-bound k e a (fit-left w (sites k e) (sites_in k es) h) s (within-then b _ z (within-trees (forget k) es b) i)
                 (spots-left (spots_for (forget k) e) _ o),
             all-bound k es b (fit-right w (sites k e) (sites_in k es) h) s i
                 (spots-right (spots_for (forget k) e) _ o),
@@ -337,14 +345,14 @@ module _ (w : Numbered) (z : Log) (whole : IsWhole w z) where
       defs-bound : (k q : Static) (earlier : Earlier) (ds : PlainDefs) (a : Log) → AreFit w (outside_sites q ds) → AreFit w (inside_sites k earlier ds)
           → Known w.numbering z.names z.functions (Same w) k → DefsKnown w.numbering z.names z.functions (Same w) (forget k) ds
           → Known w.numbering z.names z.functions (Same w) q
-          → Within (added_defs w (forget k) (forget q) ds a) z → HaveSpots (def_spots (forget k) (forget q) ds)
+          → Within (added_defs (forget k) (forget q) ds a) z → HaveSpots (def_spots (forget k) (forget q) ds)
           → DefsKept (numbers_in w) so p (forget k) (forget q) ds
       defs-bound k q earlier no_defs a out h s d t i o = tt
       defs-bound k q earlier (defines at x e ds) a out h s d t i o =
-          let v : Stand = record { at = at; home = forget k; entry = plain_entry (bound_node w e) } in
-          let c : Log = added w (forget k) e a in
+          let v : Note = note at (forget k) (plain_right e) in
+          let c : Log = added (forget k) e a in
           let b : Log = with_stand v c in
-          let on : Within b z = within-then b _ z (within-defs w (forget k) (forget q) ds b) i in
+          let on : Within b z = within-then b _ z (within-defs (forget k) (forget q) ds b) i in
           let own = fit-right w (again_if (earlier x) at) _ h in
           let part = fit-left w (sites k e) _ own in
           let before : Within c z = within-then c b z (within-stand v c) on in (
@@ -358,11 +366,11 @@ module _ (w : Numbered) (z : Log) (whole : IsWhole w z) where
           let f : FunctionStand = record { at = at; first = length a.names; names = ns; places = ats; right = e; home = forget k } in
           let u : Log = opened_function ns ats (forget k) a in
           let c : Log = with_parameters (forget v) 0 ats u in
-          let l : Log = added w (forget v) e c in
+          let l : Log = added (forget v) e c in
           let b : Log = with_function f l in
-          let on : Within b z = within-then b _ z (within-defs w (forget k) (forget q) ds b) i in
+          let on : Within b z = within-then b _ z (within-defs (forget k) (forget q) ds b) i in
           let before : Within l z = within-then l b z (within-function f l) on in
-          let first : Within c z = within-then c l z (within-tree w (forget v) e c) before in
+          let first : Within c z = within-then c l z (within-tree (forget v) e c) before in
           let own = fit-right w (again_if (earlier x) at) _ h in
           let part = fit-right w (repeats no_names ns ats) (sites v e) (fit-left w _ (inside_sites k (also x earlier) ds) own) in (
             parameters-kept ats (forget v) ns u d.0.1.counts first,
@@ -372,10 +380,10 @@ module _ (w : Numbered) (z : Log) (whole : IsWhole w z) where
                 t i (spots-right (spots_for (forget v) e) _ o),
           )
       defs-bound k q earlier (defines_current at x e ds) a out h s d t i o =
-          let v : Stand = record { at = at; home = forget k; entry = current_entry (bound_node w e) } in
-          let c : Log = added w (forget q) e a in
+          let v : Note = note at (forget k) (current_right e) in
+          let c : Log = added (forget q) e a in
           let b : Log = with_stand v c in
-          let on : Within b z = within-then b _ z (within-defs w (forget k) (forget q) ds b) i in
+          let on : Within b z = within-then b _ z (within-defs (forget k) (forget q) ds b) i in
           let part = fit-left w (sites q e) _ out in
           let before : Within c z = within-then c b z (within-stand v c) on in (
             subst (λ n. HasRow (numbers_in w) so p at (forget k) (current_entry n)) (node-is q e a part (less-known q t) before) (have v (last-name v c z on)),

@@ -1,5 +1,5 @@
 -- The table of the lists keeps the tree, and is sound.
-use Rattle.lucid_compile.proofs.Common.{◌≡◌, ℕ, suc, ◌+◌, ◌<◌, ◌≤◌, length, Option, List, [], ◌∷◌, ◌++◌, map, Some, None, get_or, slice_get, refl, sym, ap, ◌∙◌, subst, inl, inr, arith, length-append, option_map, length-map, slice_get-map, PlainTree, no_trees, In, AllDiffer, IsWellMade, named, again, site_at, binding_for, fault_of, scoped_tree, scoped_binding, scoped_inputs, Binding, PlainEntry, Equations, called_entry, sizes, IsInRange, at, all_at, grow, nodes_of, equations_of, StandsIn, IsSound, Root, Entry, Plain, Parameter, Current, Called, Table, Mark, Origin, Source, nodes_for, in_body, HasRow, Actuals, first_place, KeepsTree, or_no_mark, name_mark, function_mark, call_number, mark_by, key_of_function, KeyLists, keys_of, IsNumberingOf, Lists, OneScope, link, Stand, Numbered, numbers_in, bound_node, bound_nodes, callee_place, CallStand, FunctionStand, Log, no_log, added, AreKnown, EachRow, NodeFits, NameFits, PlaceFits, ScopesHold, NodesHold, NamesHold, PlacesHold, IsEntry, IsNameRow, IsPlaceRow, Holds, GrownTo, AddsTree, row_of_call, call_row, rows_of_calls, with_calls, All, ∥∥₁_elim, Coded-set, coded_option, coded_list, IsResolved, FreeNamesAreInputs, entry_by}
+use Rattle.lucid_compile.proofs.Common.{◌≡◌, ℕ, suc, ◌+◌, ◌<◌, ◌≤◌, length, Option, List, [], ◌∷◌, ◌++◌, map, Some, None, get_or, slice_get, refl, sym, ap, ◌∙◌, subst, inl, inr, arith, length-append, option_map, length-map, slice_get-map, PlainTree, no_trees, In, AllDiffer, IsWellMade, named, again, site_at, binding_for, fault_of, scoped_tree, scoped_binding, scoped_inputs, Binding, PlainEntry, Equations, called_entry, sizes, IsInRange, at, all_at, grow, nodes_of, equations_of, StandsIn, IsSound, Root, Entry, Plain, Parameter, Current, Called, Table, Mark, Origin, Source, nodes_for, in_body, HasRow, Actuals, first_place, KeepsTree, or_no_mark, name_mark, function_mark, call_number, mark_by, key_of_function, KeyLists, keys_of, IsNumberingOf, Lists, OneScope, link, Note, Numbered, numbers_in, bound_node, bound_nodes, callee_place, FunctionStand, Log, no_log, added, AreKnown, EachRow, NodeFits, NameFits, PlaceFits, ScopesHold, NodesHold, NamesHold, PlacesHold, IsEntry, IsNameRow, IsPlaceRow, Holds, GrownTo, AddsTree, row_of_call, call_row, rows_of_calls, with_calls, All, ∥∥₁_elim, Coded-set, coded_option, coded_list, IsResolved, FreeNamesAreInputs, entry_by, noted_actuals, bound_entry, node_place, AreNumbers, HasBody, HasParts, IsNumber, OneForOne}
 use Rattle.std.proofs.lemmas.Option.{slice_get_within as index-below}
 use base.Stored.{coded_ℕ}
 use Rattle.lucid_lemmas.proofs.Lists.{slice_get-append_left as some-left}
@@ -25,7 +25,9 @@ use Rattle.lucid_compile.proofs.Passing.{NoFaults}
 use Rattle.lucid_compile.proofs.Scoping.{IsListed, IsThere}
 use Rattle.lucid_compile.proofs.Stands.{LogFits, parameter_stand, fits-tree, home-tree}
 use Rattle.lucid_compile.proofs.Compiled.{IsWhole, Leads, AreFit, Same, node-is, kept-bound, within-itself}
-use Rattle.lucid_compile.proofs.Calling.{calls-held}
+use Rattle.lucid_compile.proofs.Calling.{calls-held, bodies-held}
+use Rattle.lucid_compile.proofs.Exact.{exact}
+use Rattle.lucid_compile.specs.Settled.{table_of as settled}
 use Rattle.lucid_compile.proofs.Meeting.{AreMet, tree-met}
 use Rattle.lucid_compile.proofs.Apart.{scopes-apart}
 use Rattle.lucid_compile.proofs.Ranged.{nodes-in_range, names-in_range, places-in_range}
@@ -33,10 +35,10 @@ use Rattle.lucid_compile.proofs.Sounding.{scopes-nest, nodes-nest}
 use Rattle.lucid_compile.proofs.Leading.{names-fit, bodies-stand, references-lead, calls-lead, places-pass}
 
 module _ (w : Numbered) (z : Log) (fits : LogFits z) (n : IsNumberingOf (keys_of z) w.numbering) where
-  listed-at : (i : ℕ) (s : Stand) → slice_get z.names i ≡ Some s → ((name_mark w.numbering s.at).number ≡ i) × IsListed w.numbering z.names s.at s.home
+  listed-at : (i : ℕ) (s : Note) → slice_get z.names i ≡ Some s → ((name_mark w.numbering s.at).number ≡ i) × IsListed w.numbering z.names s.at s.home
   listed-at i s e =
       let m = name-numbers w z i s n e in
-      (m.number, record { depth = m.depth; entry = s.entry; found = ap (slice_get z.names) m.number ∙ e })
+      (m.number, record { depth = m.depth; kind = s.kind; found = ap (slice_get z.names) m.number ∙ e })
 
   there : (f : FunctionStand) → In f z.functions → IsThere w.numbering z.names z.functions (λ _ _. Unit {0}) f
   there f i =
@@ -108,30 +110,31 @@ or_no_site (Some s) = s
 
 -- what is known of the table of a tree
 pub record IsMade (w : Numbered) (e : PlainTree) (t : Table) : Type 0 where
+  pub exact : t ≡ settled e (scoped_inputs w.scoped)
   pub keeps : KeepsTree (equations_of t) e
-  pub rows : HasRows w (added w outermost e no_log) t
+  pub rows : HasRows w (added outermost e no_log) t
   pub in_range : IsInRange t
   pub sound : AllDiffer t.inputs → length t.inputs ≤ 1048576 → IsSound t
 
 module _ (w : Numbered) (e : PlainTree) (o n : Lists) (root : ℕ) (t : Table)
     (made : IsWellMade e) (law : FreeNamesAreInputs) (r : ∥ IsResolved e (scoped_inputs w.scoped) (scoped_binding w.scoped) ∥₁)
-    (numbers : IsNumberingOf (keys_of (added w outermost e no_log)) w.numbering)
-    (grown : GrownTo w begun o (added w outermost e no_log) (bound_node w e) 0 root)
+    (numbers : IsNumberingOf (keys_of (added outermost e no_log)) w.numbering)
+    (grown : GrownTo w begun o (added outermost e no_log) (bound_node w e) (node_place e) 0 root)
     (others : n ≡ with_calls w o) (is : IsTableOf n (scoped_inputs w.scoped) root t) where
   abbrev z : Log
-  z = added w outermost e no_log
+  z = added outermost e no_log
 
-  abbrev stands : List Stand
+  abbrev stands : List Note
   stands = z.names ++ map (λ c. call_row w z.functions c.at) z.calls
 
   abbrev p : Equations
   p = equations_of t
 
-  abbrev origin_of : Stand → Origin
+  abbrev origin_of : Note → Origin
   origin_of s = record { at = s.at; home = s.home }
 
-  abbrev site_of : CallStand → Site
-  site_of c = record { actuals = c.actuals; caller = c.home }
+  abbrev site_of : Note → Site
+  site_of c = record { actuals = (noted_actuals c.kind); caller = c.home }
 
   abbrev so : Source
   so = record {
@@ -163,49 +166,49 @@ module _ (w : Numbered) (e : PlainTree) (o n : Lists) (root : ℕ) (t : Table)
   rows = record {
     scopes = subst (λ rs. ScopesHold z.scopes rs z.scopes) (sym scopes-same) held.scopes;
     nodes = subst (λ rs. NodesHold w z.scopes rs z.nodes) (sym rows-same) held.nodes;
-    names = subst (λ rs. NamesHold z.scopes (nodes_of t) rs stands) (sym names-same)
-        (subst (λ ts. NamesHold z.scopes ts (with_calls w o).names stands) (sym nodes-same) (calls-held w o z held));
+    names = subst (λ rs. NamesHold w z.scopes (nodes_of t) rs stands) (sym names-same)
+        (subst (λ ts. NamesHold w z.scopes ts (with_calls w o).names stands) (sym nodes-same) (calls-held w o z held));
     places = subst (λ rs. PlacesHold w z.scopes (nodes_of t) rs z.calls) (sym places-same)
         (subst (λ ts. PlacesHold w z.scopes ts o.places z.calls) (sym nodes-same) held.places);
   }
 
   all : IsWhole w z
-  all = whole w z (fits-tree w outermost e no_log made.shaped (λ f i. absurd i)) numbers
+  all = whole w z (fits-tree outermost e no_log made.shaped (λ f i. absurd i)) numbers
 
-  row-is : (k : ℕ) (s : Stand) → slice_get stands k ≡ Some s → (name_mark w.numbering s.at).number ≡ k → HasRow (numbers_in w) so p s.at s.home s.entry
+  row-is : (k : ℕ) (s : Note) → slice_get stands k ≡ Some s → (name_mark w.numbering s.at).number ≡ k → HasRow (numbers_in w) so p s.at s.home (bound_entry w s.kind)
   row-is k s stand number =
-      let f = row-at (λ i r s. IsNameRow z.scopes (nodes_of t) r s) 0 t.names stands k s rows.names stand in (
+      let f = row-at (λ i r s. IsNameRow w z.scopes (nodes_of t) r s) 0 t.names stands k s rows.names stand in (
         ap p.entry number ∙ ap (λ x. option_map (entry_by t) (option_map (λ x. x.kind) x)) f.there
-            ∙ ap Some (entry-read t f.row.kind s.entry f.is.0),
+            ∙ ap Some (entry-read t f.row.kind (bound_entry w s.kind) f.is.0),
         ap so.origin number
             ∙ ap or_nowhere (slice_get-map origin_of stands k ∙ ap (option_map origin_of) stand),
       )
 
-  row-there : (s : Stand) → In s z.names → HasRow (numbers_in w) so p s.at s.home s.entry
+  row-there : (s : Note) → In s z.names → HasRow (numbers_in w) so p s.at s.home (bound_entry w s.kind)
   row-there s i =
       let f = index-of z.names s i in
       row-is f.0 s (some-left z.names _ f.0 s f.1) (name-numbers w z f.0 s numbers f.1).number
 
-  call-there : (c : CallStand) (f : FunctionStand) → In c z.calls → callee_place (scoped_binding w.scoped c.at) ≡ f.at
+  call-there : (c : Note) (f : FunctionStand) → In c z.calls → callee_place (scoped_binding w.scoped c.at) ≡ f.at
       → IsThere w.numbering z.names z.functions (Same w) f
       → HasRow (numbers_in w) so p c.at (in_body f.names f.places f.home) (called_entry (bound_node w f.right))
   call-there c f i q h =
-      let same : call_row w z.functions c.at ≡ row_of_call w c.at (Some f) =
-      ap (λ a. row_of_call w c.at (slice_get z.functions (function_mark w.numbering a).number)) q ∙ ap (row_of_call w c.at) h.found in
+      let same : call_row w z.functions c.at ≡ row_of_call c.at (Some f) =
+      ap (λ a. row_of_call c.at (slice_get z.functions (function_mark w.numbering a).number)) q ∙ ap (row_of_call c.at) h.found in
       let m = index-of z.calls c i in
-      let stand : slice_get stands (length z.names + m.0) ≡ Some (row_of_call w c.at (Some f)) = slice-past z.names _ m.0
+      let stand : slice_get stands (length z.names + m.0) ≡ Some (row_of_call c.at (Some f)) = slice-past z.names _ m.0
       ∙ slice_get-map (λ c. call_row w z.functions c.at) z.calls m.0 ∙ ap (option_map (λ c. call_row w z.functions c.at)) m.1 ∙ ap Some same in
-      row-is (length z.names + m.0) (row_of_call w c.at (Some f)) stand (call-numbers w z m.0 c numbers m.1).name
+      row-is (length z.names + m.0) (row_of_call c.at (Some f)) stand (call-numbers w z m.0 c numbers m.1).name
 
-  place-there : (c : CallStand) → In c z.calls → bound_nodes w c.actuals ≡ nodes_for (numbers_in w) c.home c.actuals
-      → Actuals (numbers_in w) so p c.home c.actuals
+  place-there : (c : Note) → In c z.calls → bound_nodes w (noted_actuals c.kind) ≡ nodes_for (numbers_in w) c.home (noted_actuals c.kind)
+      → Actuals (numbers_in w) so p c.home (noted_actuals c.kind)
   place-there c i same =
       let m = index-of z.calls c i in
-      let number : call_number w.numbering (first_place c.actuals) ≡ m.0 = (call-numbers w z m.0 c numbers m.1).place in
+      let number : call_number w.numbering (first_place (noted_actuals c.kind)) ≡ m.0 = (call-numbers w z m.0 c numbers m.1).place in
       let f = row-at (λ i r c. IsPlaceRow w z.scopes (nodes_of t) r c) 0 t.places z.calls m.0 c rows.places m.1 in (
         λ j. ap (λ q. p.actual q j) number ∙ actuals-read (nodes_of t) (slice_get t.places m.0) j
             ∙ ap (λ x. at_number_of (option_map (λ r. all_at (nodes_of t) r.actuals) x) j) f.there ∙ ap (λ x. at_number x j) (f.is.1 ∙ same)
-            ∙ sym (at_number-nodes_for (numbers_in w) c.home c.actuals j),
+            ∙ sym (at_number-nodes_for (numbers_in w) c.home (noted_actuals c.kind) j),
         ap so.site number
             ∙ ap or_no_site (slice_get-map site_of z.calls m.0 ∙ ap (option_map site_of) m.1),
       )
@@ -223,10 +226,10 @@ module _ (w : Numbered) (e : PlainTree) (o n : Lists) (root : ℕ) (t : Table)
 
   -- what names and calls lead to
   met : AreMet w z z
-  met = tree-met w z all outermost e no_log (fit w e law r) tt (within-itself z) (record { calls = tt; nodes = tt })
+  met = tree-met w z all outermost e no_log (fit w e law r) tt (within-itself z) (record { calls = tt; nodes = tt; reads = tt })
 
-  call-leads : (c : CallStand) → In c z.calls → ((name_mark w.numbering c.at).number < length t.names)
-      × (call_number w.numbering (first_place c.actuals) < length t.places)
+  call-leads : (c : Note) → In c z.calls → ((name_mark w.numbering c.at).number < length t.names)
+      × (call_number w.numbering (first_place (noted_actuals c.kind)) < length t.places)
   call-leads c i =
       let m = index-of z.calls c i in
       let k = call-numbers w z m.0 c numbers m.1 in
@@ -235,7 +238,7 @@ module _ (w : Numbered) (e : PlainTree) (o n : Lists) (root : ℕ) (t : Table)
           arith,
           k.name,
           below,
-          pairs-count (λ i r s. IsNameRow z.scopes (nodes_of t) r s) 0 t.names stands rows.names,
+          pairs-count (λ i r s. IsNameRow w z.scopes (nodes_of t) r s) 0 t.names stands rows.names,
           length-append z.names
               (map (λ c. call_row w z.functions c.at) z.calls),
           length-map z.calls (λ c. call_row w z.functions c.at),
@@ -249,7 +252,7 @@ module _ (w : Numbered) (e : PlainTree) (o n : Lists) (root : ℕ) (t : Table)
       let long : length (nodes_of t) ≡ length t.nodes = omega (arith, grow-count t.constants t.inputs [] t.nodes) in
       let more : length z.names ≤ length t.names = omega (
         arith,
-        pairs-count (λ i r s. IsNameRow z.scopes (nodes_of t) r s) 0 t.names stands rows.names,
+        pairs-count (λ i r s. IsNameRow w z.scopes (nodes_of t) r s) 0 t.names stands rows.names,
         length-append z.names
             (map (λ c. call_row w z.functions c.at) z.calls),
       ) in
@@ -259,15 +262,15 @@ module _ (w : Numbered) (e : PlainTree) (o n : Lists) (root : ℕ) (t : Table)
         omega (arith, is.root_is, grown.within, grow-count o.constants (scoped_inputs w.scoped) [] o.nodes, ap length rows-same),
         omega (arith, is.few_inputs, ap length is.inputs_are),
         nodes-in_range w z (sizes t) more (ap length is.inputs_are) call-leads z.scopes 0 t.nodes z.nodes known rows.nodes met.nodes,
-        names-in_range z.scopes (sizes t) (nodes_of t) 0 t.names stands long rows.names,
+        names-in_range w z.scopes (sizes t) (nodes_of t) 0 t.names stands long rows.names,
         places-in_range w z.scopes (sizes t) (nodes_of t) 0 t.places z.calls long rows.places,
       )
 
   -- it is sound
   sound : AllDiffer t.inputs → length t.inputs ≤ 1048576 → IsSound t
   sound differ few =
-      let apart = scopes-apart w e made in
-      let homes = home-tree w outermost e no_log tt in
+      let apart = scopes-apart e made in
+      let homes = home-tree outermost e no_log tt in
       let nodes : EachRow (NodeFits t.scopes t.nodes) t.nodes =
       subst (λ xs. EachRow (NodeFits xs t.nodes) t.nodes) (sym scopes-same) (subst (λ rs. EachRow (NodeFits o.scopes rs) rs) (sym rows-same) held.parts) in
       let names : EachRow (NameFits o.scopes o.nodes) (with_calls w o).names =
@@ -294,8 +297,18 @@ module _ (w : Numbered) (e : PlainTree) (o n : Lists) (root : ℕ) (t : Table)
         homes = have-scopes t w z rows;
       }
 
+  -- it is the table of the tree
+  exactly : t ≡ settled e (scoped_inputs w.scoped)
+  exactly =
+      exact w e t made (no-faults e (scoped_inputs w.scoped) (scoped_binding w.scoped) r) numbers rows met held.outer is.inputs_are
+      (is.constants ∙ ap (λ (l : Lists). l.constants) others ∙ held.numbers.constants)
+      (subst (λ rs. OneForOne (λ i r n. HasParts z.constants z.nodes r.node n.kind) 0 rs z.nodes) (sym rows-same) held.numbers.parts)
+      (subst (λ rs. OneForOne (λ i r n. HasBody z.nodes r.kind n.kind) 0 rs stands) (sym names-same) (bodies-held w o z held))
+      (subst (λ rs. OneForOne (λ i r c. AreNumbers z.nodes r.actuals (noted_actuals c.kind)) 0 rs z.calls) (sym places-same) held.numbers.actuals)
+      (subst (λ i. IsNumber z.nodes i e) (sym is.root_is) grown.noted)
+
   is-made : IsMade w e t
-  is-made = record { keeps = keeps; rows = rows; in_range = ranged; sound = sound }
+  is-made = record { exact = exactly; keeps = keeps; rows = rows; in_range = ranged; sound = sound }
 
 -- nothing was added to a list of the outermost scope
 nothing-held : (w : Numbered) → Holds w begun no_log
@@ -308,6 +321,7 @@ nothing-held w = record {
   places = tt;
   functions = tt;
   keys = refl;
+  numbers = record { constants = refl; parts = tt; bodies = tt; actuals = tt; rights = tt };
   parts = tt;
   entries = tt;
   actuals = tt;
@@ -319,7 +333,7 @@ module _ (w : Numbered) (b o m : Lists) (x : PlainTree) (scope root : ℕ) (made
     (r : ∥ IsResolved (scoped_tree w.scoped) (scoped_inputs w.scoped) (scoped_binding w.scoped) ∥₁)
     (empty : b ≡ no_lists) (start : OneScope b o (record { parent = 0; kind = Root }) scope) (whole_tree : x ≡ scoped_tree w.scoped)
     (adds : (w : Numbered) → AddsTree w (link w o) (link w m) (record { scope = scope; level = 0 }) x root) where
-  begin-held : GrownTo w begun (link w m) (added w outermost (scoped_tree w.scoped) no_log) (bound_node w (scoped_tree w.scoped)) 0 root
+  begin-held : GrownTo w begun (link w m) (added outermost (scoped_tree w.scoped) no_log) (bound_node w (scoped_tree w.scoped)) (node_place (scoped_tree w.scoped)) 0 root
   begin-held =
       let begins : OneScope no_lists (link w o) (record { parent = 0; kind = Root }) scope =
       subst (λ l. OneScope (link w l) (link w o) (record { parent = 0; kind = Root }) scope) empty
@@ -333,7 +347,7 @@ module _ (w : Numbered) (b o m : Lists) (x : PlainTree) (scope root : ℕ) (made
 
   -- their keys differ
   pub keys-apart : DifferingKeys m.keys
-  keys-apart = keys-differ w (scoped_tree w.scoped) m.keys made (no-faults (scoped_tree w.scoped) (scoped_inputs w.scoped) (scoped_binding w.scoped) r)
+  keys-apart = keys-differ (scoped_tree w.scoped) m.keys made (no-faults (scoped_tree w.scoped) (scoped_inputs w.scoped) (scoped_binding w.scoped) r)
       begin-held.grown.holds.keys
 
   -- what is known of the table that they are, with numbers by the keys, and then the rows of the calls

@@ -1,11 +1,12 @@
 -- Lists that hold what was added hold it with one thing more.
-use Rattle.lucid_compile.proofs.Common.{◌≡◌, ℕ, zero, suc, ◌+◌, ◌<◌, ◌≤◌, length, List, [], ◌∷◌, ◌++◌, get_or, Some, None, slice_get, refl, sym, ap, ◌∙◌, subst, arith, length-append, append_assoc, PlainValue, const, scoped_inputs, PlainNode, PlainEntry, row, no_nodes, plain_entry, called_entry, current_entry, at-kept, frame, in_body, name_mark, ScopeRow, ScopeIs, StandsIn, EachStandsIn, PartsStand, IsFilled, ScopeKind, option_map, EachBelow, at, all_at, parts, as_node, grow, Node, Const, Freeze, Entry, Plain, Parameter, Current, Called, NodeRow, NameRow, PlaceRow, Body, Key, stand_key, call_key, place_key, key_of_function, with_name_key, with_function_key, with_call_key, Lists, with_name, with_body, with_place, OneScope, OneConstant, OneNode, Stand, Numbered, bound_node, bound_nodes, CallStand, FunctionStand, NodeStand, Log, with_nodes, with_scopes, with_stand, with_call, with_function, IsKnown, AreKnown, EachRow, NodeFits, NameFits, PlaceFits, BodyFits, IsOpen, IsScopeRow, ScopesHold, HasTarget, IsNodeRow, NodesHold, IsEntry, IsNameRow, NamesHold, IsPlaceRow, PlacesHold, IsBody, FunctionsHold, Holds, Begins, Grown, GrownTo, get_or-append_seam, get_or_append_left, fault, all_at-kept, EntryStands, no_node}
+use Rattle.lucid_compile.proofs.Common.{◌≡◌, ℕ, zero, suc, ◌+◌, ◌<◌, ◌≤◌, length, List, [], ◌∷◌, ◌++◌, get_or, Some, None, slice_get, refl, sym, ap, ◌∙◌, subst, arith, length-append, append_assoc, PlainValue, const, scoped_inputs, PlainNode, PlainEntry, row, no_nodes, plain_entry, called_entry, current_entry, at-kept, frame, in_body, name_mark, ScopeRow, ScopeIs, StandsIn, EachStandsIn, PartsStand, IsFilled, ScopeKind, option_map, EachBelow, at, all_at, parts, as_node, grow, Node, Const, Freeze, Entry, Plain, Parameter, Current, Called, NodeRow, NameRow, PlaceRow, Body, Key, stand_key, call_key, place_key, key_of_function, with_name_key, with_function_key, with_call_key, Lists, with_name, with_body, with_place, OneScope, OneConstant, OneNode, Note, Numbered, bound_node, bound_nodes, FunctionStand, Log, with_nodes, with_scopes, with_stand, with_call, with_function, IsKnown, AreKnown, EachRow, NodeFits, NameFits, PlaceFits, BodyFits, IsOpen, IsScopeRow, ScopesHold, HasTarget, IsNodeRow, NodesHold, IsEntry, IsNameRow, NamesHold, IsPlaceRow, PlacesHold, IsBody, FunctionsHold, Holds, Begins, Grown, GrownTo, get_or-append_seam, get_or_append_left, fault, all_at-kept, EntryStands, no_node, noted_actuals, bound_entry, piece_target, with_constants, noted_value, AreNumbers, HasBody, HasNumbers, HasParts, IsNotedAt, IsNumber, length-map}
 use Rattle.std.proofs.lemmas.List.{append-nil}
 use Rattle.std.proofs.lemmas.Option.{slice_get_within as index-below}
 use Rattle.lucid_lemmas.proofs.Lists.{slice_get-append_left as some-left, slice_get-push_same as some-last}
 use Rattle.lucid_equations.proofs.NumbersRead.{grown-count as grow-count}
 use Rattle.lucid_compile.specs.Static.{Static, outermost, in_block, in_function}
 use Rattle.lucid_equations.specs.declared.rows.ScopeKind.TheVariants.{Called as CalledScope, Frozen as FrozenScope}
+use Rattle.lucid_compile.proofs.Noting.{node-noted, constant-noted, scope-noted, name-noted, body-noted, place-noted}
 use Rattle.lucid_compile.proofs.Keyed.{stand-keys, call-keys, function-keys}
 use Rattle.lucid_compile.specs.Holds.{nodes_in}
 use Rattle.lucid_compile.proofs.Pairs.{pairs-one, pairs-count, pairs-kept}
@@ -104,10 +105,11 @@ module _ (ts us : List PlainNode) (b : Begins ts us) where
   entry-kept (Current a) e h = (within-kept a h.0, ap current_entry (at-kept ts us a b h.0) ∙ h.1)
   entry-kept (Called a) e h = (within-kept a h.0, ap called_entry (at-kept ts us a b h.0) ∙ h.1)
 
-  pub names-kept : (ks : List Static) (rs : List NameRow) (ss : List Stand) → NamesHold ks ts rs ss → NamesHold ks us rs ss
-  names-kept ks rs ss h = pairs-kept (λ i r s. IsNameRow ks ts r s) (λ i r s. IsNameRow ks us r s) (λ i r s x. (entry-kept r.kind s.entry x.0, x.1)) 0 rs ss h
+  pub names-kept : (w : Numbered) (ks : List Static) (rs : List NameRow) (ss : List Note) → NamesHold w ks ts rs ss → NamesHold w ks us rs ss
+  names-kept w ks rs ss h =
+      pairs-kept (λ i r s. IsNameRow w ks ts r s) (λ i r s. IsNameRow w ks us r s) (λ i r s x. (entry-kept r.kind (bound_entry w s.kind) x.0, x.1)) 0 rs ss h
 
-  places-kept : (w : Numbered) (ks : List Static) (rs : List PlaceRow) (cs : List CallStand) → PlacesHold w ks ts rs cs → PlacesHold w ks us rs cs
+  places-kept : (w : Numbered) (ks : List Static) (rs : List PlaceRow) (cs : List Note) → PlacesHold w ks ts rs cs → PlacesHold w ks us rs cs
   places-kept w ks rs cs h =
       pairs-kept (λ i r c. IsPlaceRow w ks ts r c) (λ i r c. IsPlaceRow w ks us r c)
       (λ i r c x. (each-kept r.actuals x.0, all_at-kept ts us r.actuals b x.0 ∙ x.1, x.2, x.3)) 0 rs cs h
@@ -127,14 +129,14 @@ module _ (ks more : List Static) where
   scopes-open : (rs : List ScopeRow) (ss : List Static) → ScopesHold ks rs ss → ScopesHold (ks ++ more) rs ss
   scopes-open rs ss h = pairs-kept (IsScopeRow ks) (IsScopeRow (ks ++ more)) scope-row-open 0 rs ss h
 
-  nodes-open : (w : Numbered) (rs : List NodeRow) (ss : List NodeStand) → NodesHold w ks rs ss → NodesHold w (ks ++ more) rs ss
+  nodes-open : (w : Numbered) (rs : List NodeRow) (ss : List Note) → NodesHold w ks rs ss → NodesHold w (ks ++ more) rs ss
   nodes-open w rs ss h = pairs-kept (IsNodeRow w ks) (IsNodeRow w (ks ++ more)) (λ i r s x. (x.0, x.1, some-left ks more r.scope (frame s.home) x.2)) 0 rs ss h
 
-  names-open : (ts : List PlainNode) (rs : List NameRow) (ss : List Stand) → NamesHold ks ts rs ss → NamesHold (ks ++ more) ts rs ss
-  names-open ts rs ss h = pairs-kept (λ i r s. IsNameRow ks ts r s) (λ i r s. IsNameRow (ks ++ more) ts r s)
+  names-open : (w : Numbered) (ts : List PlainNode) (rs : List NameRow) (ss : List Note) → NamesHold w ks ts rs ss → NamesHold w (ks ++ more) ts rs ss
+  names-open w ts rs ss h = pairs-kept (λ i r s. IsNameRow w ks ts r s) (λ i r s. IsNameRow w (ks ++ more) ts r s)
       (λ i r s x. (x.0, some-left ks more r.scope (frame s.home) x.1)) 0 rs ss h
 
-  places-open : (w : Numbered) (ts : List PlainNode) (rs : List PlaceRow) (cs : List CallStand) → PlacesHold w ks ts rs cs → PlacesHold w (ks ++ more) ts rs cs
+  places-open : (w : Numbered) (ts : List PlainNode) (rs : List PlaceRow) (cs : List Note) → PlacesHold w ks ts rs cs → PlacesHold w (ks ++ more) ts rs cs
   places-open w ts rs cs h =
       pairs-kept (λ i r c. IsPlaceRow w ks ts r c) (λ i r c. IsPlaceRow w (ks ++ more) ts r c)
       (λ i r c x. (x.0, x.1, some-left ks more r.scope (frame c.home) x.2, x.3)) 0 rs cs h
@@ -146,10 +148,13 @@ module _ (ks more : List Static) where
       (λ i x f y. (y.0, y.1, some-left ks more x.scope (in_body f.names f.places f.home) y.2)) 0 bs fs h
 
 pub no-nodes : (g : Log) → with_nodes [] g ≡ g
-no-nodes g = λ j. record { names = g.names; calls = g.calls; functions = g.functions; nodes = append-nil g.nodes j; scopes = g.scopes }
+no-nodes g = λ j. record g { nodes = append-nil g.nodes j }
+
+pub no-constants : (g : Log) → with_constants [] g ≡ g
+no-constants g = λ j. record g { constants = append-nil g.constants j }
 
 pub no-scopes : (g : Log) → with_scopes [] g ≡ g
-no-scopes g = λ j. record { names = g.names; calls = g.calls; functions = g.functions; nodes = g.nodes; scopes = append-nil g.scopes j }
+no-scopes g = λ j. record g { scopes = append-nil g.scopes j }
 
 module _ (w : Numbered) where
   pub grown-none : (o : Lists) (g : Log) → Holds w o g → Grown w o o g
@@ -163,12 +168,12 @@ module _ (w : Numbered) where
     outer = begins-then o.scopes m.scopes n.scopes a.outer b.outer;
   }
 
-  -- what is held, with other nodes
-  with-more : (o n : Lists) (g : Log) (more : List NodeStand) → Holds w o g → Begins (nodes_in w o) (nodes_in w n) → AreKnown (length n.constants) n.nodes
-      → NodesHold w g.scopes n.nodes (g.nodes ++ more) → Begins o.nodes n.nodes → EachRow (NodeFits n.scopes n.nodes) n.nodes → n.scopes ≡ o.scopes
+  -- what is held, with other nodes and constants
+  with-more : (o n : Lists) (g : Log) (ms cs : List Note) → Holds w o g → Begins (nodes_in w o) (nodes_in w n) → AreKnown (length n.constants) n.nodes
+      → NodesHold w g.scopes n.nodes ms → Begins o.nodes n.nodes → EachRow (NodeFits n.scopes n.nodes) n.nodes → n.scopes ≡ o.scopes
       → n.names ≡ o.names
-      → n.places ≡ o.places → n.bodies ≡ o.bodies → n.keys ≡ o.keys → Grown w o n (with_nodes more g)
-  with-more o n g more h b k nodes later parts scopes names places bodies keys =
+      → n.places ≡ o.places → n.bodies ≡ o.bodies → n.keys ≡ o.keys → HasNumbers n (record g { nodes = ms; constants = cs }) → Grown w o n (record g { nodes = ms; constants = cs })
+  with-more o n g ms cs h b k nodes later parts scopes names places bodies keys numbers =
       let outer : Begins o.scopes n.scopes = ([], scopes ∙ sym (append-nil o.scopes)) in
       record {
         begins = b;
@@ -179,10 +184,11 @@ module _ (w : Numbered) where
           outer = h.outer;
           scopes = rw scopes h.scopes;
           nodes = nodes;
-          names = rw names (names-kept (nodes_in w o) (nodes_in w n) b g.scopes o.names g.names h.names);
+          names = rw names (names-kept (nodes_in w o) (nodes_in w n) b w g.scopes o.names g.names h.names);
           places = rw places (places-kept (nodes_in w o) (nodes_in w n) b w g.scopes o.places g.calls h.places);
           functions = rw bodies (functions-kept (nodes_in w o) (nodes_in w n) b w g.scopes o.bodies g.functions h.functions);
           keys = keys ∙ h.keys;
+          numbers = numbers;
           parts = parts;
           entries = rw names (each-row (NameFits o.scopes o.nodes) (NameFits n.scopes n.nodes) o.names
               (λ r x. entry-stands-kept o.scopes n.scopes o.nodes n.nodes outer later r.scope r.kind x) h.entries);
@@ -193,11 +199,11 @@ module _ (w : Numbered) where
         };
       }
 
-  pub push-grown : (o n : Lists) (g : Log) (r : NodeRow) (v : NodeStand) (id : ℕ) → Holds w o g → OneNode o n r id → IsKnown (length o.constants) r.node
-      → EachBelow (length (nodes_in w o)) (parts r.node) → HasTarget w r.node v.target → IsOpen g.scopes r.scope v.home
-      → PartsStand o.scopes o.nodes r.scope r.node → IsFilled r.node
-      → GrownTo w o n (with_nodes (v ∷ []) g) (as_node o.constants (scoped_inputs w.scoped) (nodes_in w o) r.node) r.scope id
-  push-grown o n g r v id h s k b a c q z =
+  pub push-grown : (o n : Lists) (g : Log) (r : NodeRow) (v : Note) (id : ℕ) → Holds w o g → OneNode o n r id → IsKnown (length o.constants) r.node
+      → EachBelow (length (nodes_in w o)) (parts r.node) → HasTarget w r.node (piece_target v.kind) → IsOpen g.scopes r.scope v.home
+      → PartsStand o.scopes o.nodes r.scope r.node → IsFilled r.node → HasParts g.constants g.nodes r.node v.kind
+      → GrownTo w o n (with_nodes (v ∷ []) g) (as_node o.constants (scoped_inputs w.scoped) (nodes_in w o) r.node) v.at r.scope id
+  push-grown o n g r v id h s k b a c q z own =
       let x : PlainNode = as_node o.constants (scoped_inputs w.scoped) (nodes_in w o) r.node in
       let more : nodes_in w n ≡ nodes_in w o ++ x ∷ [] = ap (nodes_in w) s.lists ∙ grow-one o.constants (scoped_inputs w.scoped) [] o.nodes r in
       let count : length (nodes_in w o) ≡ length o.nodes = omega (arith, grow-count o.constants (scoped_inputs w.scoped) [] o.nodes) in
@@ -211,26 +217,34 @@ module _ (w : Numbered) where
       each-one (NodeFits o.scopes (o.nodes ++ r ∷ [])) o.nodes r
       (each-row (NodeFits o.scopes o.nodes) (NodeFits o.scopes (o.nodes ++ r ∷ [])) o.nodes kept h.parts) (kept r (q, z)) in
       record {
-        grown = with-more o n g (v ∷ []) h (x ∷ [], more) (rw s.lists (known-one (length o.constants) o.nodes r h.known k))
+        grown = with-more o n g (g.nodes ++ v ∷ []) g.constants h (x ∷ [], more) (rw s.lists (known-one (length o.constants) o.nodes r h.known k))
             (rw s.lists (pairs-one (IsNodeRow w g.scopes) 0 o.nodes g.nodes r v h.nodes (subst (λ c. EachBelow c (parts r.node)) zero_more b, a, c))) later
             (rw s.lists fitting) (ap (λ (l : Lists). l.scopes) s.lists) (ap (λ l. l.names) s.lists) (ap (λ l. l.places) s.lists) (ap (λ l. l.bodies) s.lists)
-            (ap (λ l. l.keys) s.lists);
+            (ap (λ l. l.keys) s.lists) (rw s.lists (node-noted o g h.numbers r v own));
         within = omega (arith, s.number, count, ap length more, length-append (nodes_in w o) (x ∷ []));
         is = ap (λ l. at l id) more ∙ ap (λ i. at (nodes_in w o ++ x ∷ []) i) (s.number ∙ sym count) ∙ get_or-append_seam (nodes_in w o) x [] no_node;
+        noted = ap (λ i. option_map (λ n. n.at) (slice_get (g.nodes ++ v ∷ []) i)) (s.number ∙ pairs-count (IsNodeRow w g.scopes) 0 o.nodes g.nodes h.nodes)
+            ∙ ap (option_map (λ n. n.at)) (some-last g.nodes v);
         stands = ap (λ (l : Lists). option_map (λ y. y.scope) (slice_get l.nodes id)) s.lists
             ∙ ap (λ i. option_map (λ y. y.scope) (slice_get (o.nodes ++ r ∷ []) i)) s.number ∙ ap (option_map (λ y. y.scope)) (some-last o.nodes r);
       }
 
-  pub keep-grown : (o n : Lists) (g : Log) (v : PlainValue) (id : ℕ) → Holds w o g → OneConstant o n v id → Grown w o n g
-  keep-grown o n g v id h s =
+  pub keep-grown : (o n : Lists) (g : Log) (c : Note) (v : PlainValue) (id : ℕ) → Holds w o g → OneConstant o n v id → v ≡ noted_value c.kind
+      → Grown w o n (with_constants (c ∷ []) g)
+  keep-grown o n g c v id h s own =
       let same : nodes_in w n ≡ nodes_in w o = ap (nodes_in w) s.lists ∙ grow-more o.constants (v ∷ []) (scoped_inputs w.scoped) [] o.nodes h.known in
       let count : length (o.constants ++ v ∷ []) ≡ length o.constants + 1 = length-append o.constants (v ∷ []) in
-      subst (Grown w o n) (no-nodes g)
-      (with-more o n g [] h ([], same ∙ sym (append-nil (nodes_in w o)))
+      with-more o n g g.nodes (g.constants ++ c ∷ []) h ([], same ∙ sym (append-nil (nodes_in w o)))
       (rw s.lists (all_known-less (length o.constants) (length (o.constants ++ v ∷ [])) o.nodes (omega (arith, count)) h.known))
-      (rw s.lists (subst (NodesHold w g.scopes o.nodes) (sym (append-nil g.nodes)) h.nodes))
+      (rw s.lists h.nodes)
       (subst (Begins o.nodes) (sym (ap (λ (l : Lists). l.nodes) s.lists)) (begins-itself o.nodes)) (rw s.lists h.parts) (ap (λ (l : Lists). l.scopes) s.lists)
-      (ap (λ l. l.names) s.lists) (ap (λ l. l.places) s.lists) (ap (λ l. l.bodies) s.lists) (ap (λ l. l.keys) s.lists))
+      (ap (λ l. l.names) s.lists) (ap (λ l. l.places) s.lists) (ap (λ l. l.bodies) s.lists) (ap (λ l. l.keys) s.lists)
+      (rw s.lists (constant-noted o g h.numbers v c own))
+
+  pub keep-noted : (o n : Lists) (g : Log) (c : Note) (v : PlainValue) (id : ℕ) → Holds w o g → OneConstant o n v id → IsNotedAt (g.constants ++ c ∷ []) id c.at
+  keep-noted o n g c v id h s =
+      let count : length o.constants ≡ length g.constants = ap length h.numbers.constants ∙ length-map g.constants (λ n. noted_value n.kind) in
+      ap (λ i. option_map (λ n. n.at) (slice_get (g.constants ++ c ∷ []) i)) (s.number ∙ count) ∙ ap (option_map (λ n. n.at)) (some-last g.constants c)
 
   pub keep-constant : (o n : Lists) (v : PlainValue) (id : ℕ) → OneConstant o n v id → get_or n.constants id fault ≡ v
   keep-constant o n v id s = ap (λ l. get_or l.constants id fault) s.lists ∙ ap (λ i. get_or (o.constants ++ v ∷ []) i fault) s.number
@@ -255,10 +269,11 @@ module _ (w : Numbered) where
           scopes = pairs-one (IsScopeRow (g.scopes ++ more)) 0 o.scopes g.scopes r k (scopes-open g.scopes more o.scopes g.scopes h.scopes)
               (subst (λ i. IsScopeRow (g.scopes ++ more) i r k) number (scope-row-open g.scopes more id r k x));
           nodes = nodes-open g.scopes more w o.nodes g.nodes h.nodes;
-          names = names-open g.scopes more (nodes_in w o) o.names g.names h.names;
+          names = names-open g.scopes more w (nodes_in w o) o.names g.names h.names;
           places = places-open g.scopes more w (nodes_in w o) o.places g.calls h.places;
           functions = functions-open g.scopes more w (nodes_in w o) o.bodies g.functions h.functions;
           keys = h.keys;
+          numbers = scope-noted o g h.numbers r (k ∷ []);
           parts = each-row (NodeFits o.scopes o.nodes) (NodeFits (o.scopes ++ r ∷ []) o.nodes) o.nodes
               (λ y u. (parts-kept o.scopes (o.scopes ++ r ∷ []) o.nodes o.nodes (r ∷ [], refl) (begins-itself o.nodes) y.scope y.node u.0, u.1)) h.parts;
           entries = each-row (NameFits o.scopes o.nodes) (NameFits (o.scopes ++ r ∷ []) o.nodes) o.names
@@ -288,9 +303,10 @@ module _ (w : Numbered) where
         g.scopes h.scopes,
   )
 
-  pub define-grown : (o n : Lists) (g : Log) (s : Stand) (k : Key) (r : NameRow) → Holds w o g → n ≡ with_name k r o → k ≡ stand_key s
-      → IsEntry (nodes_in w o) r.kind s.entry → IsOpen g.scopes r.scope s.home → EntryStands o.scopes o.nodes r.scope r.kind → Grown w o n (with_stand s g)
-  define-grown o n g s k r h x own e c q =
+  pub define-grown : (o n : Lists) (g : Log) (s : Note) (k : Key) (r : NameRow) → Holds w o g → n ≡ with_name k r o → k ≡ stand_key s
+      → IsEntry (nodes_in w o) r.kind (bound_entry w s.kind) → IsOpen g.scopes r.scope s.home → EntryStands o.scopes o.nodes r.scope r.kind → HasBody g.nodes r.kind s.kind
+      → Grown w o n (with_stand s g)
+  define-grown o n g s k r h x own e c q body =
       subst (λ z. Grown w o z (with_stand s g)) (sym x) (record {
         begins = begins-itself (nodes_in w o);
         rows = begins-itself o.nodes;
@@ -300,10 +316,11 @@ module _ (w : Numbered) where
           outer = h.outer;
           scopes = h.scopes;
           nodes = h.nodes;
-          names = pairs-one (λ i r s. IsNameRow g.scopes (nodes_in w o) r s) 0 o.names g.names r s h.names (e, c);
+          names = pairs-one (λ i r s. IsNameRow w g.scopes (nodes_in w o) r s) 0 o.names g.names r s h.names (e, c);
           places = h.places;
           functions = h.functions;
           keys = (λ j. with_name_key (own j) (h.keys j)) ∙ stand-keys s g;
+          numbers = name-noted o g h.numbers k r s body;
           parts = h.parts;
           entries = each-one (NameFits o.scopes o.nodes) o.names r h.entries q;
           actuals = h.actuals;
@@ -313,8 +330,8 @@ module _ (w : Numbered) where
 
   pub close-grown : (o n : Lists) (g : Log) (f : FunctionStand) (k : Key) (b : Body) → Holds w o g → n ≡ with_body k b o → k ≡ key_of_function f
       → b.body < length (nodes_in w o) → at (nodes_in w o) b.body ≡ bound_node w f.right → IsOpen g.scopes b.scope (in_body f.names f.places f.home)
-      → EntryStands o.scopes o.nodes b.scope (Called b.body) → Grown w o n (with_function f g)
-  close-grown o n g f k b h x own l e c q =
+      → EntryStands o.scopes o.nodes b.scope (Called b.body) → IsNumber g.nodes b.body f.right → Grown w o n (with_function f g)
+  close-grown o n g f k b h x own l e c q number =
       subst (λ z. Grown w o z (with_function f g)) (sym x) (record {
         begins = begins-itself (nodes_in w o);
         rows = begins-itself o.nodes;
@@ -328,6 +345,7 @@ module _ (w : Numbered) where
           places = h.places;
           functions = pairs-one (λ i x f. IsBody w g.scopes (nodes_in w o) x f) 0 o.bodies g.functions b f h.functions (l, e, c);
           keys = (λ j. with_function_key (own j) (h.keys j)) ∙ function-keys f g;
+          numbers = body-noted o g h.numbers k b f number;
           parts = h.parts;
           entries = h.entries;
           actuals = h.actuals;
@@ -335,10 +353,11 @@ module _ (w : Numbered) where
         };
       })
 
-  pub place-grown : (o n : Lists) (g : Log) (c : CallStand) (k p : Key) (r : PlaceRow) → Holds w o g → n ≡ with_place k p r o → k ≡ call_key c → p ≡ place_key c
-      → EachBelow (length (nodes_in w o)) r.actuals → all_at (nodes_in w o) r.actuals ≡ bound_nodes w c.actuals → IsOpen g.scopes r.scope c.home
-      → r.name ≡ (name_mark w.numbering c.at).number → EachStandsIn o.nodes r.scope r.actuals → Grown w o n (with_call c g)
-  place-grown o n g c k p r h x own first l e i is_name q =
+  pub place-grown : (o n : Lists) (g : Log) (c : Note) (k p : Key) (r : PlaceRow) → Holds w o g → n ≡ with_place k p r o → k ≡ call_key c → p ≡ place_key c
+      → EachBelow (length (nodes_in w o)) r.actuals → all_at (nodes_in w o) r.actuals ≡ bound_nodes w (noted_actuals c.kind) → IsOpen g.scopes r.scope c.home
+      → r.name ≡ (name_mark w.numbering c.at).number → EachStandsIn o.nodes r.scope r.actuals → AreNumbers g.nodes r.actuals (noted_actuals c.kind)
+      → Grown w o n (with_call c g)
+  place-grown o n g c k p r h x own first l e i is_name q given =
       subst (λ z. Grown w o z (with_call c g)) (sym x) (record {
         begins = begins-itself (nodes_in w o);
         rows = begins-itself o.nodes;
@@ -352,6 +371,7 @@ module _ (w : Numbered) where
           places = pairs-one (λ i r c. IsPlaceRow w g.scopes (nodes_in w o) r c) 0 o.places g.calls r c h.places (l, e, i, is_name);
           functions = h.functions;
           keys = (λ j. with_call_key (own j) (first j) (h.keys j)) ∙ call-keys c g;
+          numbers = place-noted o g h.numbers k p r c given;
           parts = h.parts;
           entries = h.entries;
           actuals = each-one (PlaceFits o.nodes) o.places r h.actuals q;

@@ -10,7 +10,7 @@ use Rattle.lucid_compile.proofs.Pairs.{pairs-count, thing-at}
 pub record HasRows (w : Numbered) (g : Log) (t : Table) : Type 0 where
   pub scopes : ScopesHold g.scopes t.scopes g.scopes
   pub nodes : NodesHold w g.scopes t.nodes g.nodes
-  pub names : NamesHold g.scopes (nodes_of t) t.names (g.names ++ map (λ c. call_row w g.functions c.at) g.calls)
+  pub names : NamesHold w g.scopes (nodes_of t) t.names (g.names ++ map (λ c. call_row w g.functions c.at) g.calls)
   pub places : PlacesHold w g.scopes (nodes_of t) t.places g.calls
 
 -- So the scope of each row is there.
@@ -21,7 +21,7 @@ module _ (t : Table) (w : Numbered) (z : Log) (rows : HasRows w z t) where
   pub have-scopes : RowsHaveScopes t
   have-scopes = record {
     nodes = λ id r at. (let f = thing-at (IsNodeRow w z.scopes) 0 t.nodes z.nodes id r rows.nodes at in open-there r.scope f.thing.home f.is.2);
-    names = λ n r at. (let f = thing-at (λ i r s. IsNameRow z.scopes (nodes_of t) r s) 0 t.names (z.names ++ map (λ c. call_row w z.functions c.at) z.calls) n r
+    names = λ n r at. (let f = thing-at (λ i r s. IsNameRow w z.scopes (nodes_of t) r s) 0 t.names (z.names ++ map (λ c. call_row w z.functions c.at) z.calls) n r
         rows.names at in open-there r.scope f.thing.home f.is.1);
     places = λ q r at. (let f = thing-at (λ i r c. IsPlaceRow w z.scopes (nodes_of t) r c) 0 t.places z.calls q r rows.places at in
         open-there r.scope f.thing.home f.is.2);

@@ -11,8 +11,10 @@ pub mod Held
 pub mod Promised
 pub mod Spots
 pub mod Actuals
+pub mod Walking
 pub mod Opening
 pub mod Pairs
+pub mod Noting
 pub mod Growing
 pub mod Shapes
 pub mod Formed
@@ -38,3 +40,5 @@ pub mod Passing
 pub mod Keying
 pub mod LinkedRows
 pub mod Waiting
+pub mod Noticed
+pub mod Exact

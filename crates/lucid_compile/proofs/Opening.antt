@@ -1,5 +1,5 @@
 -- Scopes that are open stay where they are while more is added.
-use Rattle.lucid_compile.proofs.Common.{◌≡◌, ℕ, suc, ◌+◌, length, List, [], ◌∷◌, ◌++◌, slice_get, refl, sym, ap, ◌∙◌, subst, arith, PlainTree, form, name, call, block, PlainTrees, no_trees, tree, PlainDefs, no_defs, defines, defines_function, defines_current, freezes, frame, in_body, Numbered, Log, block_scopes, with_scopes, with_parameters, added, added_all, added_defs, IsOpen, StandsAt, Here}
+use Rattle.lucid_compile.proofs.Common.{◌≡◌, ℕ, suc, ◌+◌, length, List, [], ◌∷◌, ◌++◌, slice_get, refl, sym, ap, ◌∙◌, subst, arith, PlainTree, form, name, call, block, PlainTrees, no_trees, tree, PlainDefs, no_defs, defines, defines_function, defines_current, freezes, frame, in_body, Log, block_scopes, with_scopes, with_parameters, added, added_all, added_defs, IsOpen, StandsAt, Here}
 use Rattle.lucid_lemmas.proofs.Lists.{slice_get-append_left as some-left}
 use Rattle.lucid_compile.specs.Static.{Static, in_block}
 
@@ -16,9 +16,9 @@ parameters-scopes k i (at ∷ ats) l = parameters-scopes k (suc i) ats _
 pub scope-parameters : (k : Static) (i : ℕ) (ats : List ℕ) (l : Log) (n : ℕ) (q : Static) → IsOpen l.scopes n q → IsOpen (with_parameters k i ats l).scopes n q
 scope-parameters k i ats l n q h = subst (λ ks. IsOpen ks n q) (sym (parameters-scopes k i ats l)) h
 
-module _ (w : Numbered) (n : ℕ) (q : Static) where
+module _ (n : ℕ) (q : Static) where
   mutual
-    pub scope-tree : (k : Static) (e : PlainTree) (l : Log) → IsOpen l.scopes n q → IsOpen (added w k e l).scopes n q
+    pub scope-tree : (k : Static) (e : PlainTree) (l : Log) → IsOpen l.scopes n q → IsOpen (added k e l).scopes n q
     scope-tree k (form at f es) l h = scope-trees k es l h
     scope-tree k (name at x) l h = h
     scope-tree k (call at x es) l h = scope-trees k es l h
@@ -26,11 +26,11 @@ module _ (w : Numbered) (n : ℕ) (q : Static) where
         let own : List Static = block_scopes (freezes ds) (in_block ds k) in
         scope-defs (in_block ds k) k ds _ (scope-tree (in_block ds k) e (with_scopes own l) (some-left l.scopes own n (frame q) h))
 
-    pub scope-trees : (k : Static) (es : PlainTrees) (l : Log) → IsOpen l.scopes n q → IsOpen (added_all w k es l).scopes n q
+    pub scope-trees : (k : Static) (es : PlainTrees) (l : Log) → IsOpen l.scopes n q → IsOpen (added_all k es l).scopes n q
     scope-trees k no_trees l h = h
-    scope-trees k (tree e es) l h = scope-trees k es (added w k e l) (scope-tree k e l h)
+    scope-trees k (tree e es) l h = scope-trees k es (added k e l) (scope-tree k e l h)
 
-    pub scope-defs : (k o : Static) (ds : PlainDefs) (l : Log) → IsOpen l.scopes n q → IsOpen (added_defs w k o ds l).scopes n q
+    pub scope-defs : (k o : Static) (ds : PlainDefs) (l : Log) → IsOpen l.scopes n q → IsOpen (added_defs k o ds l).scopes n q
     scope-defs k o no_defs l h = h
     scope-defs k o (defines at x e ds) l h = scope-defs k o ds _ (scope-tree k e l h)
     scope-defs k o (defines_function at x ns ats e ds) l h =
@@ -40,15 +40,15 @@ module _ (w : Numbered) (n : ℕ) (q : Static) where
     scope-defs k o (defines_current at x e ds) l h = scope-defs k o ds _ (scope-tree o e l h)
 
 -- what is in scope stays at its level and scope
-module _ (w : Numbered) (q : Static) (d : Here) where
-  pub here-tree : (k : Static) (e : PlainTree) (l : Log) → StandsAt l q d → StandsAt (added w k e l) q d
-  here-tree k e l h = (h.0, scope-tree w d.scope q k e l h.1)
+module _ (q : Static) (d : Here) where
+  pub here-tree : (k : Static) (e : PlainTree) (l : Log) → StandsAt l q d → StandsAt (added k e l) q d
+  here-tree k e l h = (h.0, scope-tree d.scope q k e l h.1)
 
-  pub here-trees : (k : Static) (es : PlainTrees) (l : Log) → StandsAt l q d → StandsAt (added_all w k es l) q d
-  here-trees k es l h = (h.0, scope-trees w d.scope q k es l h.1)
+  pub here-trees : (k : Static) (es : PlainTrees) (l : Log) → StandsAt l q d → StandsAt (added_all k es l) q d
+  here-trees k es l h = (h.0, scope-trees d.scope q k es l h.1)
 
-  pub here-defs : (k o : Static) (ds : PlainDefs) (l : Log) → StandsAt l q d → StandsAt (added_defs w k o ds l) q d
-  here-defs k o ds l h = (h.0, scope-defs w d.scope q k o ds l h.1)
+  pub here-defs : (k o : Static) (ds : PlainDefs) (l : Log) → StandsAt l q d → StandsAt (added_defs k o ds l) q d
+  here-defs k o ds l h = (h.0, scope-defs d.scope q k o ds l h.1)
 
   pub here-parameters : (k : Static) (i : ℕ) (ats : List ℕ) (l : Log) → StandsAt l q d → StandsAt (with_parameters k i ats l) q d
   here-parameters k i ats l h = (h.0, scope-parameters k i ats l d.scope q h.1)

@@ -1,5 +1,5 @@
 -- Rows that stand for things, one for one.
-use Rattle.lucid_compile.proofs.Common.{◌≡◌, ℕ, zero, suc, ◌+◌, length, List, [], ◌∷◌, ◌++◌, map, Some, slice_get, refl, ap, subst, arith, none-some, OneForOne}
+use Rattle.lucid_compile.proofs.Common.{◌≡◌, ℕ, zero, suc, ◌+◌, length, List, [], ◌∷◌, ◌++◌, map, Some, slice_get, refl, ap, subst, inl, inr, In, arith, none-some, OneForOne}
 
 -- the row of a thing, and the thing of a row
 pub record RowAt {A B : Type 0} (P : ℕ → A → B → Type 0) (rs : List A) (i j : ℕ) (s : B) : Type 0 where
@@ -72,3 +72,19 @@ pairs-kept P Q f i [] [] h = tt
 pairs-kept P Q f i [] (_ ∷ ss) h = absurd h
 pairs-kept P Q f i (_ ∷ rs) [] h = absurd h
 pairs-kept P Q f i (r ∷ rs) (s ∷ ss) h = (f i r s h.0, pairs-kept P Q f (suc i) rs ss h.1)
+
+-- both of each
+pub pairs-both : {A B : Type 0} (P Q : ℕ → A → B → Type 0) (i : ℕ) (rs : List A) (ss : List B) → OneForOne P i rs ss → OneForOne Q i rs ss
+    → OneForOne (λ i r s. P i r s × Q i r s) i rs ss
+pairs-both P Q i [] [] h g = tt
+pairs-both P Q i [] (_ ∷ ss) h g = h
+pairs-both P Q i (_ ∷ rs) [] h g = h
+pairs-both P Q i (r ∷ rs) (s ∷ ss) h g = ((h.0, g.0), pairs-both P Q (suc i) rs ss h.1 g.1)
+
+-- rows that are made of their things alone
+pub rows-map : {A B : Type 0} (P : ℕ → A → B → Type 0) (f : B → A) (i : ℕ) (rs : List A) (ss : List B)
+    → ((i : ℕ) (r : A) (s : B) → In s ss → P i r s → r ≡ f s) → OneForOne P i rs ss → rs ≡ map f ss
+rows-map P f i [] [] h g = refl
+rows-map P f i [] (_ ∷ ss) h g = absurd g
+rows-map P f i (_ ∷ rs) [] h g = absurd g
+rows-map P f i (r ∷ rs) (s ∷ ss) h g = λ j. h i r s (inl refl) g.0 j ∷ rows-map P f (suc i) rs ss (λ n q x v. h n q x (inr v)) g.1 j

@@ -1,5 +1,5 @@
 -- Names in scope: what a name is bound to is what the tree's environments find, at the numbers and levels that the numbering has.
-use Rattle.lucid_compile.proofs.Common.{◌≡◌, ℕ, suc, ◌+◌, ◌<◌, Bool, true, false, if◌then◌else◌, length, List, [], Option, Some, None, get_or, slice_get, refl, sym, ap, ◌∙◌, position-Some, position_or_len, PlainTree, PlainDefs, no_defs, defines, defines_function, defines_current, Found, absent, plain_def, function_def, current_def, definition, param, same_name, Meaning, free, plain_name, parameter, current_name, function, meaning, defined_in, parameter_in, binding_of, name_fault, call_fault, Binding, PlainEntry, in_body, level, Numbering, name_mark, function_mark, Stand, Numbered, numbers_in, reference_by, callee_place, FunctionStand, input, refer}
+use Rattle.lucid_compile.proofs.Common.{◌≡◌, ℕ, suc, ◌+◌, ◌<◌, Bool, true, false, if◌then◌else◌, length, List, [], Option, Some, None, get_or, slice_get, refl, sym, ap, ◌∙◌, position-Some, position_or_len, PlainTree, PlainDefs, no_defs, defines, defines_function, defines_current, Found, absent, plain_def, function_def, current_def, definition, param, same_name, Meaning, free, plain_name, parameter, current_name, function, meaning, defined_in, parameter_in, binding_of, name_fault, call_fault, Binding, in_body, level, Numbering, name_mark, function_mark, Note, Numbered, numbers_in, reference_by, callee_place, FunctionStand, input, refer, Kind, note}
 use Rattle.lucid_compile.specs.Static.{Static, outermost, in_block, in_function, reference_of}
 
 pub not_some : {A : Type 0} (x : A) → Some x ≡ None → ⊥
@@ -35,19 +35,19 @@ meaning-bare x (in_block ds k) = ap (defined_in (definition x ds) (in_block ds (
 meaning-bare x (in_function d ns ats k) = ap (parameter_in (param x ns) 0 ats (in_body ns ats (forget k))) (meaning-bare x k)
     ∙ sym (parameter-bare (param x ns) d ats (in_function d ns ats k) (meaning x k))
 
-module _ (g : Numbering) (ns : List Stand) where
+module _ (g : Numbering) (ns : List Note) where
   -- what stands at a place is there, with its mark
   pub record IsListed (at : ℕ) (h : Static) : Type 0 where
     pub depth : (name_mark g at).level ≡ level h
-    pub entry : PlainEntry
-    pub found : slice_get ns (name_mark g at).number ≡ Some (record { at = at; home = h; entry = entry })
+    pub kind : Kind
+    pub found : slice_get ns (name_mark g at).number ≡ Some (note at h kind)
 
   -- a function's parameters are there, numbered on from the first
   abbrev pub AreListed : (first : ℕ) → (names : List (List ℕ)) → (places : List ℕ) → (outer : Static) → Type 0
   AreListed n xs ats k = (i : ℕ) → i < length xs → ((name_mark g (get_or ats i 0)).number ≡ n + i) × IsListed (get_or ats i 0) (in_body xs ats k)
 
 -- What is known of all that is in scope. `R` is what is known of a function's right side in what is in scope there.
-module _ (g : Numbering) (ns : List Stand) (fs : List FunctionStand) (R : PlainTree → Static → Type 0) where
+module _ (g : Numbering) (ns : List Note) (fs : List FunctionStand) (R : PlainTree → Static → Type 0) where
   -- a function is there, with its mark
   pub record IsThere (f : FunctionStand) : Type 0 where
     pub depth : (function_mark g f.at).level ≡ level f.home
@@ -112,7 +112,7 @@ module _ (g : Numbering) (ns : List Stand) (fs : List FunctionStand) (R : PlainT
   meaning-known x (in_function d xs ats k) h =
       parameter-known (param x xs) d xs ats k (meaning x k) (λ i e. (position-Some (λ y. same_name x y) xs i [] e).0) h.0 h.1 (meaning-known x k h.2)
 
-module _ (w : Numbered) (ns : List Stand) (fs : List FunctionStand) (R : PlainTree → Static → Type 0) where
+module _ (w : Numbered) (ns : List Note) (fs : List FunctionStand) (R : PlainTree → Static → Type 0) where
   -- a name whose meaning is known, and which is at no fault
   pub name-is : (top at : ℕ) (x : List ℕ) (inputs : List (List ℕ)) (b : Option Binding) (m : Meaning) → b ≡ Some (binding_of inputs x m)
       → name_fault at m ≡ None → (m ≡ free → get_or inputs (position_or_len (same_name x) inputs) [] ≡ x) → MeaningKnown w.numbering ns fs R m

@@ -1,5 +1,5 @@
 -- The scopes and the nodes of a table nest.
-use Rattle.lucid_compile.proofs.Common.{◌≡◌, ℕ, zero, suc, ◌+◌, ◌<◌, List, [], ◌∷◌, Some, slice_get, sym, ap, ◌∙◌, subst, arith, none-some, ScopeKind, Root, ScopeRow, NodeRow, Table, parts, EachBelow, Sizes, sizes, NodeNames, NodesAreInRange, IsInRange, Numbered, NodeStand, EachRow, IsOpen, IsScopeRow, ScopesHold, IsNodeRow, NodesHold, NodeFits, ScopesNest, NodesNest}
+use Rattle.lucid_compile.proofs.Common.{◌≡◌, ℕ, zero, suc, ◌+◌, ◌<◌, List, [], ◌∷◌, Some, slice_get, sym, ap, ◌∙◌, subst, arith, none-some, ScopeKind, Root, ScopeRow, NodeRow, Table, parts, EachBelow, Sizes, sizes, NodeNames, NodesAreInRange, IsInRange, Numbered, Note, EachRow, IsOpen, IsScopeRow, ScopesHold, IsNodeRow, NodesHold, NodeFits, ScopesNest, NodesNest}
 use Rattle.lucid_equations.specs.declared.rows.ScopeKind.TheVariants.{Called as CalledScope, Frozen as FrozenScope}
 use Rattle.lucid_compile.specs.Static.{Static, outermost, in_block, in_function}
 use Rattle.lucid_compile.proofs.Pairs.{thing-at}
@@ -44,7 +44,7 @@ there-at z i (x ∷ rs) zero r h e =
     subst (λ y. NodeNames z y.node) same h.0.1
 there-at z i (x ∷ rs) (suc j) r h e = there-at z (suc i) rs j r h.1 e
 
-pub nodes-nest : (t : Table) (w : Numbered) (ks : List Static) (ss : List NodeStand) → IsInRange t → NodesHold w ks t.nodes ss
+pub nodes-nest : (t : Table) (w : Numbered) (ks : List Static) (ss : List Note) → IsInRange t → NodesHold w ks t.nodes ss
     → EachRow (NodeFits t.scopes t.nodes) t.nodes → NodesNest t
 nodes-nest t w ks ss ranged h f = λ id r e.
     let fit : NodeFits t.scopes t.nodes r = each-at (NodeFits t.scopes t.nodes) t.nodes id r f e in

@@ -71,7 +71,7 @@ abbrev pub index : List ℕ → ℕ → ℕ
 index [] a = 0
 index (k ∷ ks) a = if nat_eq k a then 0 else suc (index ks a)
 
-eq-false : (a b : ℕ) → (a ≡ b → ⊥) → nat_eq a b ≡ false
+pub eq-false : (a b : ℕ) → (a ≡ b → ⊥) → nat_eq a b ≡ false
 eq-false a b h = grind (arith, nat_tests)
 
 module _ {A : Type 0} (f : A → ℕ) where

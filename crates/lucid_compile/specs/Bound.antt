@@ -1,14 +1,15 @@
 -- What a tree becomes by its names' bindings and a numbering, and all that it adds to a table, in order.
 use Rattle.std.specs.Prelude.{ℕ, suc, ◌+◌, List, [], ◌∷◌, ◌++◌, length, Bool, Option, Some, None, get_or, if◌then◌else◌}
-use Rattle.lucid_tree.specs.Tree.{PlainTree, form, name, call, block, PlainTrees, no_trees, tree, PlainDefs, no_defs, defines, defines_function, defines_current}
+use Rattle.lucid_tree.specs.Tree.{Head, const, PlainTree, form, name, call, block, PlainTrees, no_trees, tree, PlainDefs, no_defs, defines, defines_function, defines_current}
 use Rattle.lucid_scope.specs.declared.scoped.Scoped.{Scoped}
 use Rattle.lucid_scope.specs.Scoped.{scoped_inputs, scoped_binding}
 use Rattle.lucid_scope.specs.declared.scoped.Binding.{Binding}
 use Rattle.lucid_scope.specs.declared.scoped.Binding.TheVariants.{Plain, Parameter, Current, Function, Input}
-use Rattle.lucid_equations.specs.Nodes.{Reference, input, refer, PlainNode, row, freeze, reference, invoke, PlainNodes, no_nodes, node, PlainEntry, plain_entry, current_entry, parameter_entry}
+use Rattle.lucid_equations.specs.Nodes.{Reference, input, refer, PlainNode, row, freeze, reference, invoke, PlainNodes, no_nodes, node, PlainEntry, plain_entry, called_entry, current_entry, parameter_entry}
 use Rattle.lucid_equations.specs.declared.rows.Node.{Node}
 use Rattle.lucid_equations.specs.declared.rows.Node.TheVariants.{Input as InputNode, Refer, Call}
 use Rattle.lucid_compile.specs.Static.{Static, outermost, in_block, freezes, Numbers, in_body}
+use Rattle.lucid_compile.specs.Notes.{Kind, piece, plain_right, current_right, called_right, parameter_number, Note, note, block_piece}
 use Rattle.lucid_compile.specs.Places.{first_place}
 use Rattle.lucid_compile.specs.declared.numbering.Numbering.{Numbering}
 use Rattle.lucid_compile.specs.Numbered.{name_mark, function_mark, call_number}
@@ -68,17 +69,13 @@ abbrev mutual
   bound_nodes w no_trees = no_nodes
   bound_nodes w (tree e es) = node (bound_node w e) (bound_nodes w es)
 
--- a row of a name, with the place that it comes from and what is in scope from its entry on
-pub record Stand : Type 0 where
-  pub at : ℕ
-  pub home : Static
-  pub entry : PlainEntry
-
--- a call, with its actual trees and what is in scope there
-pub record CallStand : Type 0 where
-  pub at : ℕ
-  pub actuals : PlainTrees
-  pub home : Static
+-- the entry of a name's row, by what was noted of it
+abbrev pub bound_entry : Numbered → Kind → PlainEntry
+bound_entry w (plain_right e) = plain_entry (bound_node w e)
+bound_entry w (current_right e) = current_entry (bound_node w e)
+bound_entry w (called_right e) = called_entry (bound_node w e)
+bound_entry w (parameter_number i) = parameter_entry i
+bound_entry w _ = parameter_entry 0
 
 -- a function, with the number of its first parameter and what is in scope from its block on
 pub record FunctionStand : Type 0 where
@@ -89,61 +86,57 @@ pub record FunctionStand : Type 0 where
   pub right : PlainTree
   pub home : Static
 
--- what a node names besides its parts: nothing, what the name at a place belongs to, or the call at a place, with its first actual's
+-- what a piece's node names besides its parts: nothing, what the name at a place belongs to, or the call at a place, with its first actual's
 pub data Target : Type 0 where
   no_target : Target
   of_name : (at : ℕ) → Target
   of_call : (at first : ℕ) → Target
 
--- a node, with what is in scope there
-pub record NodeStand : Type 0 where
-  pub target : Target
-  pub home : Static
+abbrev pub piece_target : Kind → Target
+piece_target (piece (name at x)) = of_name at
+piece_target (piece (call at x es)) = of_call at (first_place es)
+piece_target _ = no_target
 
-abbrev pub form_stand : Static → NodeStand
-form_stand k = record { target = no_target; home = k }
+-- the constant of a form
+abbrev pub constant_notes : Static → (at : ℕ) → Head → PlainTrees → List Note
+constant_notes k at (const v) es = note at k (piece (form at (const v) es)) ∷ []
+constant_notes k at _ es = []
 
-abbrev pub name_stand : Static → (at : ℕ) → NodeStand
-name_stand k at = record { target = of_name at; home = k }
-
-abbrev pub call_stand : Static → (at first : ℕ) → NodeStand
-call_stand k at first = record { target = of_call at first; home = k }
-
--- a block that freezes the time has a node of its own
-abbrev pub block_stands : Bool → Static → List NodeStand
-block_stands b k = if b then form_stand k ∷ [] else []
-
--- such a block has a scope of its own
+-- a block with a current definition has a scope of its own
 abbrev pub block_scopes : Bool → Static → List Static
 block_scopes b k = if b then k ∷ [] else []
 
--- what trees added to a table, in order: the rows of names but for calls, the calls, the functions, the nodes, and the scopes by what is in
--- scope there; each call has a call place
+-- what trees added to a table, in order, as it was noted: the rows of names but for calls, the calls, the nodes and the constants; the functions; and
+-- the scopes by what is in scope there. Each call has a call place.
 pub record Log : Type 0 where
-  pub names : List Stand
-  pub calls : List CallStand
+  pub names : List Note
+  pub calls : List Note
   pub functions : List FunctionStand
-  pub nodes : List NodeStand
+  pub nodes : List Note
+  pub constants : List Note
   pub scopes : List Static
 
 -- before any tree there is the outermost scope alone
 abbrev pub no_log : Log
-no_log = record { names = []; calls = []; functions = []; nodes = []; scopes = outermost ∷ [] }
+no_log = record { names = []; calls = []; functions = []; nodes = []; constants = []; scopes = outermost ∷ [] }
 
-abbrev pub with_nodes : List NodeStand → Log → Log
-with_nodes ss l = record { names = l.names; calls = l.calls; functions = l.functions; nodes = l.nodes ++ ss; scopes = l.scopes }
+abbrev pub with_nodes : List Note → Log → Log
+with_nodes ns l = record l { nodes = l.nodes ++ ns }
+
+abbrev pub with_constants : List Note → Log → Log
+with_constants ns l = record l { constants = l.constants ++ ns }
 
 abbrev pub with_scopes : List Static → Log → Log
-with_scopes ks l = record { names = l.names; calls = l.calls; functions = l.functions; nodes = l.nodes; scopes = l.scopes ++ ks }
+with_scopes ks l = record l { scopes = l.scopes ++ ks }
 
-abbrev pub with_stand : Stand → Log → Log
-with_stand s l = record { names = l.names ++ s ∷ []; calls = l.calls; functions = l.functions; nodes = l.nodes; scopes = l.scopes }
+abbrev pub with_stand : Note → Log → Log
+with_stand s l = record l { names = l.names ++ s ∷ [] }
 
-abbrev pub with_call : CallStand → Log → Log
-with_call c l = record { names = l.names; calls = l.calls ++ c ∷ []; functions = l.functions; nodes = l.nodes; scopes = l.scopes }
+abbrev pub with_call : Note → Log → Log
+with_call c l = record l { calls = l.calls ++ c ∷ [] }
 
 abbrev pub with_function : FunctionStand → Log → Log
-with_function f l = record { names = l.names; calls = l.calls; functions = l.functions ++ f ∷ []; nodes = l.nodes; scopes = l.scopes }
+with_function f l = record l { functions = l.functions ++ f ∷ [] }
 
 -- the scope of a block that freezes the time, and that of a function
 abbrev pub opened_block : PlainDefs → Static → Log → Log
@@ -155,23 +148,24 @@ opened_function ns ats k l = with_scopes (in_body ns ats k ∷ []) l
 -- a function's parameters, from number i on
 abbrev pub with_parameters : Static → (i : ℕ) → (places : List ℕ) → Log → Log
 with_parameters k i [] l = l
-with_parameters k i (at ∷ ats) l = with_parameters k (suc i) ats (with_stand (record { at = at; home = k; entry = parameter_entry i }) l)
+with_parameters k i (at ∷ ats) l = with_parameters k (suc i) ats (with_stand (note at k (parameter_number i)) l)
 
 -- what a tree adds
 abbrev mutual
-  pub added : Numbered → Static → PlainTree → Log → Log
-  added w k (form at f es) l = with_nodes (form_stand k ∷ []) (added_all w k es l)
-  added w k (name at x) l = with_nodes (name_stand k at ∷ []) l
-  added w k (call at x es) l = with_nodes (call_stand k at (first_place es) ∷ []) (with_call (record { at = at; actuals = es; home = k }) (added_all w k es l))
-  added w k (block at e ds) l = with_nodes (block_stands (freezes ds) k) (added_defs w (in_block ds k) k ds (added w (in_block ds k) e (opened_block ds k l)))
+  pub added : Static → PlainTree → Log → Log
+  added k (form at f es) l = with_nodes (note at k (piece (form at f es)) ∷ []) (with_constants (constant_notes k at f es) (added_all k es l))
+  added k (name at x) l = with_nodes (note at k (piece (name at x)) ∷ []) l
+  added k (call at x es) l =
+      with_nodes (note at k (piece (call at x es)) ∷ []) (with_call (note at k (piece (call at x es))) (added_all k es l))
+  added k (block at e ds) l = with_nodes (block_piece e ds at k) (added_defs (in_block ds k) k ds (added (in_block ds k) e (opened_block ds k l)))
 
-  pub added_all : Numbered → Static → PlainTrees → Log → Log
-  added_all w k no_trees l = l
-  added_all w k (tree e es) l = added_all w k es (added w k e l)
+  pub added_all : Static → PlainTrees → Log → Log
+  added_all k no_trees l = l
+  added_all k (tree e es) l = added_all k es (added k e l)
 
-  pub added_defs : Numbered → (inside outside : Static) → PlainDefs → Log → Log
-  added_defs w k o no_defs l = l
-  added_defs w k o (defines at x e ds) l = added_defs w k o ds (with_stand (record { at = at; home = k; entry = plain_entry (bound_node w e) }) (added w k e l))
-  added_defs w k o (defines_function at x ns ats e ds) l =
-      added_defs w k o ds (with_function (record { at = at; first = length l.names; names = ns; places = ats; right = e; home = k }) (added w (in_body ns ats k) e (with_parameters (in_body ns ats k) 0 ats (opened_function ns ats k l))))
-  added_defs w k o (defines_current at x e ds) l = added_defs w k o ds (with_stand (record { at = at; home = k; entry = current_entry (bound_node w e) }) (added w o e l))
+  pub added_defs : (inside outside : Static) → PlainDefs → Log → Log
+  added_defs k o no_defs l = l
+  added_defs k o (defines at x e ds) l = added_defs k o ds (with_stand (note at k (plain_right e)) (added k e l))
+  added_defs k o (defines_function at x ns ats e ds) l =
+      added_defs k o ds (with_function (record { at = at; first = length l.names; names = ns; places = ats; right = e; home = k }) (added (in_body ns ats k) e (with_parameters (in_body ns ats k) 0 ats (opened_function ns ats k l))))
+  added_defs k o (defines_current at x e ds) l = added_defs k o ds (with_stand (note at k (current_right e)) (added o e l))

@@ -8,7 +8,7 @@ use Rattle.lucid_equations.specs.Sound.{IsFilled}
 use Rattle.lucid_equations.specs.declared.rows.Node.{Node}
 use Rattle.lucid_equations.specs.declared.rows.Node.TheVariants.{Const, Apply, If, And, Or, First, Next, Fby, Whenever, Asa, Upon, Attime, Initial, Succ, Sby, Atspace, Freeze}
 use Rattle.lucid_compile.specs.Building.{Lists, OneConstant}
-use Rattle.lucid_compile.specs.Holds.{IsKnown, NamesNothing}
+use Rattle.lucid_compile.specs.Known.{IsKnown, NamesNothing}
 
 -- the node of a form with these numbers: those of its parts in order, or of a constant its own first
 abbrev pub node_of : Head → (a b c : ℕ) → Node

@@ -1,15 +1,14 @@
 -- What the lists of a table hold while it is built: for each thing that was added its row, in order.
-use Rattle.std.specs.Prelude.{◌≡◌, ℕ, suc, true, ◌<◌, Some, slice_get, List, [], ◌∷◌, ◌++◌, length, IsTrue}
+use Rattle.std.specs.Prelude.{◌≡◌, ℕ, true, ◌<◌, Some, slice_get, List, [], ◌∷◌, ◌++◌, length, IsTrue}
 use Rattle.lucid_tree.specs.Tree.{PlainTree, PlainTrees, PlainDefs}
 use Rattle.lucid_tree.specs.WellMade.{is_shaped, are_shaped, defs_are_shaped}
 use Rattle.lucid_scope.specs.Scoped.{scoped_inputs}
-use Rattle.lucid_equations.specs.Nodes.{PlainNode, PlainNodes, PlainEntry, plain_entry, called_entry, current_entry, parameter_entry}
+use Rattle.lucid_equations.specs.Nodes.{PlainNode, PlainEntry, plain_entry, called_entry, current_entry, parameter_entry}
 use Rattle.lucid_compile.specs.Static.{Static, outermost, in_block, in_function, freezes, frame, level, in_body}
 use Rattle.lucid_equations.specs.Ranges.{EachBelow}
 use Rattle.lucid_equations.specs.Sound.{ScopeIs, StandsIn, EachStandsIn, PartsStand, EntryStands, IsFilled}
 use Rattle.lucid_equations.specs.Rows.{at, all_at, parts, grow}
 use Rattle.lucid_equations.specs.declared.rows.Node.{Node}
-use Rattle.lucid_equations.specs.declared.rows.Node.TheVariants.{Const, Input, Refer, Call}
 use Rattle.lucid_equations.specs.declared.rows.Entry.{Entry}
 use Rattle.lucid_equations.specs.declared.rows.Entry.TheVariants.{Plain, Parameter, Current, Called}
 use Rattle.lucid_equations.specs.declared.rows.ScopeKind.TheVariants.{Root, Called as CalledScope, Frozen as FrozenScope}
@@ -22,17 +21,16 @@ use Rattle.lucid_compile.specs.declared.building.Body.{Body}
 use Rattle.lucid_compile.specs.Numbered.{name_mark}
 use Rattle.lucid_compile.specs.Keys.{keys_of}
 use Rattle.lucid_compile.specs.Building.{Lists}
-use Rattle.lucid_compile.specs.Bound.{Stand, Numbered, bound_node, bound_nodes, name_node, call_node, Target, no_target, of_name, of_call, CallStand, FunctionStand, NodeStand, Log, added, added_all, added_defs}
+use Rattle.lucid_compile.specs.Known.{IsKnown, NamesNothing}
+use Rattle.lucid_compile.specs.Noted.{OneForOne, IsNotedAt, AreNumbers, HasNumbers}
+use Rattle.lucid_compile.specs.Notes.{Note, node_place, noted_actuals}
+use Rattle.lucid_compile.specs.Bound.{Numbered, bound_node, bound_nodes, bound_entry, name_node, call_node, Target, no_target, of_name, of_call, piece_target, FunctionStand, Log, added, added_all, added_defs}
 
 -- the nodes of the rows
 abbrev pub nodes_in : Numbered → Lists → List PlainNode
 nodes_in w l = grow l.constants (scoped_inputs w.scoped) [] l.nodes
 
--- a node's constant is there
-abbrev pub IsKnown : ℕ → Node → Type 0
-IsKnown n (Const k) = k < n
-IsKnown n _ = Unit {0}
-
+-- each node's constant is there
 abbrev pub AreKnown : ℕ → List NodeRow → Type 0
 AreKnown n [] = Unit {0}
 AreKnown n (r ∷ rs) = IsKnown n r.node × AreKnown n rs
@@ -41,13 +39,6 @@ AreKnown n (r ∷ rs) = IsKnown n r.node × AreKnown n rs
 abbrev pub EachRow : {A : Type 0} → (A → Type 0) → List A → Type 0
 EachRow P [] = Unit {0}
 EachRow P (r ∷ rs) = P r × EachRow P rs
-
--- the rows, from a number on, stand for these things, one for one
-abbrev pub OneForOne : {A B : Type 0} → (ℕ → A → B → Type 0) → (first : ℕ) → List A → List B → Type 0
-OneForOne P i [] [] = Unit {0}
-OneForOne P i [] (s ∷ ss) = ⊥
-OneForOne P i (r ∷ rs) [] = ⊥
-OneForOne P i (r ∷ rs) (s ∷ ss) = P i r s × OneForOne P (suc i) rs ss
 
 -- the scope of a number is that of what is in scope
 abbrev pub IsOpen : (scopes : List Static) → (scope : ℕ) → Static → Type 0
@@ -62,13 +53,6 @@ IsScopeRow ks id r (in_function d ns ats k) = (r.kind ≡ CalledScope) × (r.par
 abbrev pub ScopesHold : (scopes : List Static) → List ScopeRow → List Static → Type 0
 ScopesHold ks rs ss = OneForOne (IsScopeRow ks) 0 rs ss
 
--- a node that names nothing besides its parts and a constant
-abbrev pub NamesNothing : Node → Type 0
-NamesNothing (Input k) = ⊥
-NamesNothing (Refer n l) = ⊥
-NamesNothing (Call n q l) = ⊥
-NamesNothing _ = Unit {0}
-
 -- a node names this besides its parts
 abbrev pub HasTarget : Numbered → Node → Target → Type 0
 HasTarget w n no_target = NamesNothing n
@@ -76,10 +60,10 @@ HasTarget w n (of_name at) = n ≡ name_node w at
 HasTarget w n (of_call at first) = n ≡ call_node w at first
 
 -- a node's row, of a number: each part has a lower number
-abbrev pub IsNodeRow : Numbered → (scopes : List Static) → (id : ℕ) → NodeRow → NodeStand → Type 0
-IsNodeRow w ks id r s = EachBelow id (parts r.node) × HasTarget w r.node s.target × IsOpen ks r.scope s.home
+abbrev pub IsNodeRow : Numbered → (scopes : List Static) → (id : ℕ) → NodeRow → Note → Type 0
+IsNodeRow w ks id r s = EachBelow id (parts r.node) × HasTarget w r.node (piece_target s.kind) × IsOpen ks r.scope s.home
 
-abbrev pub NodesHold : Numbered → (scopes : List Static) → List NodeRow → List NodeStand → Type 0
+abbrev pub NodesHold : Numbered → (scopes : List Static) → List NodeRow → List Note → Type 0
 NodesHold w ks rs ss = OneForOne (IsNodeRow w ks) 0 rs ss
 
 -- a row of a name is this entry, and its body is there
@@ -90,17 +74,17 @@ IsEntry ts (Current a) e = (a < length ts) × (current_entry (at ts a) ≡ e)
 IsEntry ts (Called a) e = (a < length ts) × (called_entry (at ts a) ≡ e)
 
 -- a name's row: its entry, in the scope of what is in scope from the entry on
-abbrev pub IsNameRow : (scopes : List Static) → List PlainNode → NameRow → Stand → Type 0
-IsNameRow ks ts r s = IsEntry ts r.kind s.entry × IsOpen ks r.scope s.home
+abbrev pub IsNameRow : Numbered → (scopes : List Static) → List PlainNode → NameRow → Note → Type 0
+IsNameRow w ks ts r s = IsEntry ts r.kind (bound_entry w s.kind) × IsOpen ks r.scope s.home
 
-abbrev pub NamesHold : (scopes : List Static) → List PlainNode → List NameRow → List Stand → Type 0
-NamesHold ks ts rs ss = OneForOne (λ id r s. IsNameRow ks ts r s) 0 rs ss
+abbrev pub NamesHold : Numbered → (scopes : List Static) → List PlainNode → List NameRow → List Note → Type 0
+NamesHold w ks ts rs ss = OneForOne (λ id r s. IsNameRow w ks ts r s) 0 rs ss
 
 -- a call place's row: its actuals, where it stands, and the number of the call's own name
-abbrev pub IsPlaceRow : Numbered → (scopes : List Static) → List PlainNode → PlaceRow → CallStand → Type 0
-IsPlaceRow w ks ts r c = EachBelow (length ts) r.actuals × (all_at ts r.actuals ≡ bound_nodes w c.actuals) × IsOpen ks r.scope c.home × (r.name ≡ (name_mark w.numbering c.at).number)
+abbrev pub IsPlaceRow : Numbered → (scopes : List Static) → List PlainNode → PlaceRow → Note → Type 0
+IsPlaceRow w ks ts r c = EachBelow (length ts) r.actuals × (all_at ts r.actuals ≡ bound_nodes w (noted_actuals c.kind)) × IsOpen ks r.scope c.home × (r.name ≡ (name_mark w.numbering c.at).number)
 
-abbrev pub PlacesHold : Numbered → (scopes : List Static) → List PlainNode → List PlaceRow → List CallStand → Type 0
+abbrev pub PlacesHold : Numbered → (scopes : List Static) → List PlainNode → List PlaceRow → List Note → Type 0
 PlacesHold w ks ts rs cs = OneForOne (λ id r c. IsPlaceRow w ks ts r c) 0 rs cs
 
 -- a function's right side
@@ -129,10 +113,11 @@ pub record Holds (w : Numbered) (l : Lists) (g : Log) : Type 0 where
   pub outer : IsOpen g.scopes 0 outermost
   pub scopes : ScopesHold g.scopes l.scopes g.scopes
   pub nodes : NodesHold w g.scopes l.nodes g.nodes
-  pub names : NamesHold g.scopes (nodes_in w l) l.names g.names
+  pub names : NamesHold w g.scopes (nodes_in w l) l.names g.names
   pub places : PlacesHold w g.scopes (nodes_in w l) l.places g.calls
   pub functions : FunctionsHold w g.scopes (nodes_in w l) l.bodies g.functions
   pub keys : l.keys ≡ keys_of g
+  pub numbers : HasNumbers l g
   pub parts : EachRow (NodeFits l.scopes l.nodes) l.nodes
   pub entries : EachRow (NameFits l.scopes l.nodes) l.names
   pub actuals : EachRow (PlaceFits l.nodes) l.places
@@ -149,18 +134,20 @@ pub record Grown (w : Numbered) (o n : Lists) (g : Log) : Type 0 where
   pub rows : Begins o.nodes n.nodes
   pub outer : Begins o.scopes n.scopes
 
--- and the node of that number is this one, and stands in the scope
-pub record GrownTo (w : Numbered) (o n : Lists) (g : Log) (x : PlainNode) (scope id : ℕ) : Type 0 where
+-- and the node of that number is this one, was noted at the place, and stands in the scope
+pub record GrownTo (w : Numbered) (o n : Lists) (g : Log) (x : PlainNode) (place scope id : ℕ) : Type 0 where
   pub grown : Grown w o n g
   pub within : id < length (nodes_in w n)
   pub is : at (nodes_in w n) id ≡ x
+  pub noted : IsNotedAt g.nodes id place
   pub stands : StandsIn n.nodes scope id
 
--- and the nodes of those numbers are these, and stand in the scope
-pub record AllGrownTo (w : Numbered) (o n : Lists) (g : Log) (xs : PlainNodes) (scope : ℕ) (ids : List ℕ) : Type 0 where
+-- and the nodes of those numbers are those of these trees, and stand in the scope
+pub record AllGrownTo (w : Numbered) (o n : Lists) (g : Log) (es : PlainTrees) (scope : ℕ) (ids : List ℕ) : Type 0 where
   pub grown : Grown w o n g
   pub within : EachBelow (length (nodes_in w n)) ids
-  pub are : all_at (nodes_in w n) ids ≡ xs
+  pub are : all_at (nodes_in w n) ids ≡ bound_nodes w es
+  pub noted : AreNumbers g.nodes ids es
   pub stand : EachStandsIn n.nodes scope ids
 
 -- what is in scope has this level and this scope
@@ -169,10 +156,10 @@ StandsAt g k d = (level k ≡ d.level) × IsOpen g.scopes d.scope k
 
 -- whatever the lists held before, they hold with what was added at this level and scope, where it is shaped
 abbrev pub AddsTree : Numbered → (o n : Lists) → (here : Here) → PlainTree → (id : ℕ) → Type 0
-AddsTree w o n d e id = (k : Static) (g : Log) → StandsAt g k d → IsTrue (is_shaped e) → Holds w o g → GrownTo w o n (added w k e g) (bound_node w e) d.scope id
+AddsTree w o n d e id = (k : Static) (g : Log) → StandsAt g k d → IsTrue (is_shaped e) → Holds w o g → GrownTo w o n (added k e g) (bound_node w e) (node_place e) d.scope id
 
 abbrev pub AddsTrees : Numbered → (o n : Lists) → (here : Here) → PlainTrees → (ids : List ℕ) → Type 0
-AddsTrees w o n d es ids = (k : Static) (g : Log) → StandsAt g k d → IsTrue (are_shaped es) → Holds w o g → AllGrownTo w o n (added_all w k es g) (bound_nodes w es) d.scope ids
+AddsTrees w o n d es ids = (k : Static) (g : Log) → StandsAt g k d → IsTrue (are_shaped es) → Holds w o g → AllGrownTo w o n (added_all k es g) es d.scope ids
 
 abbrev pub AddsDefs : Numbered → (o n : Lists) → (inside outside : Here) → PlainDefs → Type 0
-AddsDefs w o n i d ds = (k q : Static) (g : Log) → StandsAt g k i → StandsAt g q d → (freezes ds ≡ true → ScopeIs o.scopes i.scope d.scope FrozenScope) → IsTrue (defs_are_shaped ds) → Holds w o g → Grown w o n (added_defs w k q ds g)
+AddsDefs w o n i d ds = (k q : Static) (g : Log) → StandsAt g k i → StandsAt g q d → (freezes ds ≡ true → ScopeIs o.scopes i.scope d.scope FrozenScope) → IsTrue (defs_are_shaped ds) → Holds w o g → Grown w o n (added_defs k q ds g)

@@ -6,7 +6,8 @@ use Rattle.lucid_compile.specs.declared.numbering.Key.{Key}
 use Rattle.lucid_compile.specs.declared.numbering.Keys.{Keys}
 use Rattle.lucid_compile.specs.declared.numbering.Numbering.{Numbering}
 use Rattle.lucid_compile.specs.Numbered.{mark_of, function_of, call_of, AreMarked}
-use Rattle.lucid_compile.specs.Bound.{Stand, CallStand, FunctionStand, Log}
+use Rattle.lucid_compile.specs.Notes.{Note, noted_actuals}
+use Rattle.lucid_compile.specs.Bound.{FunctionStand, Log}
 
 -- the key of what stands at a place, and that of a function
 abbrev pub plain_key : (at level : ℕ) → Key
@@ -16,14 +17,14 @@ abbrev pub function_key : (at first level : ℕ) → Key
 function_key at n l = record { at = at; first = n; level = l }
 
 -- the keys of what was added
-abbrev pub stand_key : Stand → Key
+abbrev pub stand_key : Note → Key
 stand_key s = plain_key s.at (level s.home)
 
-abbrev pub call_key : CallStand → Key
+abbrev pub call_key : Note → Key
 call_key c = plain_key c.at (level c.home)
 
-abbrev pub place_key : CallStand → Key
-place_key c = plain_key (first_place c.actuals) (level c.home)
+abbrev pub place_key : Note → Key
+place_key c = plain_key (first_place (noted_actuals c.kind)) (level c.home)
 
 abbrev pub key_of_function : FunctionStand → Key
 key_of_function f = function_key f.at f.first (level f.home)

@@ -4,10 +4,14 @@ pub mod Places
 pub mod Counts
 pub mod Promise
 pub mod Numbered
+pub mod Notes
 pub mod Bound
 pub mod Building
-pub mod Holds
+pub mod Known
 pub mod Forms
+pub mod Noted
+pub mod Holds
 pub mod Steps
+pub mod Settled
 pub mod Keys
 pub mod Linked

@@ -7,7 +7,6 @@ use Rattle.lucid_tree.specs.declared.tree.DefKind.TheVariants.{Plain as PlainKin
 use Rattle.lucid_tree.specs.Size.{count}
 use Rattle.lucid_tree.specs.Shape.{FitsHead}
 use Rattle.lucid_scope.specs.Scoped.{scoped_binding}
-use Rattle.lucid_equations.specs.Nodes.{called_entry, parameter_entry}
 use Rattle.lucid_compile.specs.Static.{Static, outermost, in_body}
 use Rattle.lucid_compile.specs.Places.{first_place}
 use Rattle.lucid_equations.specs.declared.rows.NameRow.{NameRow}
@@ -22,7 +21,8 @@ use Rattle.lucid_compile.specs.declared.numbering.Key.{Key}
 use Rattle.lucid_compile.specs.Numbered.{function_mark}
 use Rattle.lucid_compile.specs.Keys.{plain_key, function_key}
 use Rattle.lucid_compile.specs.Building.{Lists, with_name, with_body, OneScope}
-use Rattle.lucid_compile.specs.Bound.{Stand, Numbered, bound_node, callee_place, FunctionStand, Log, with_parameters}
+use Rattle.lucid_compile.specs.Notes.{Note, note, opening, called_right}
+use Rattle.lucid_compile.specs.Bound.{Numbered, callee_place, FunctionStand, Log, with_parameters}
 use Rattle.lucid_compile.specs.Holds.{StandsAt, Holds, Grown, AddsTree, AddsTrees}
 
 abbrev pub numbered : Source → Numbered
@@ -70,12 +70,12 @@ abbrev pub callee_number : Numbered → (at : ℕ) → ℕ
 callee_number w at = (function_mark w.numbering (callee_place (scoped_binding w.scoped at))).number
 
 -- the row of a call of that function
-abbrev pub row_of_call : Numbered → (at : ℕ) → Option FunctionStand → Stand
-row_of_call w at None = record { at = at; home = outermost; entry = parameter_entry 0 }
-row_of_call w at (Some f) = record { at = at; home = in_body f.names f.places f.home; entry = called_entry (bound_node w f.right) }
+abbrev pub row_of_call : (at : ℕ) → Option FunctionStand → Note
+row_of_call at None = note at outermost opening
+row_of_call at (Some f) = note at (in_body f.names f.places f.home) (called_right f.right)
 
-abbrev pub call_row : Numbered → List FunctionStand → (at : ℕ) → Stand
-call_row w fs at = row_of_call w at (slice_get fs (callee_number w at))
+abbrev pub call_row : Numbered → List FunctionStand → (at : ℕ) → Note
+call_row w fs at = row_of_call at (slice_get fs (callee_number w at))
 
 -- with other names
 abbrev pub with_names : List NameRow → Lists → Lists

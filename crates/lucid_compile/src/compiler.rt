@@ -6,6 +6,7 @@ ghost use Rattle.lucid_scope.specs.Scoped.{scoped_tree, scoped_inputs};
 ghost use Rattle.lucid_compile.specs.Promise.{KeepsTree};
 ghost use Rattle.lucid_equations.specs.Sound.{IsSound, most_inputs};
 ghost use Rattle.lucid_equations.specs.Programs.{table_of as table_in, program_equations};
+ghost use Rattle.lucid_compile.specs.Settled.{table_of as settled};
 ghost use Rattle.lucid_compile.specs.Static.{freezes};
 ghost use Rattle.lucid_compile.specs.Places.{first_place as place_of_first};
 ghost use Rattle.lucid_compile.specs.Bound.{Numbered};
@@ -301,6 +302,7 @@ fn copied(alloc: Global, names: &[Name]) -> Result<Vec<Name>, AllocError>
 /// the tree's, in their order. The walk is linear in the tree. The one refusal is want of memory, also where a list of rows would pass
 /// 2^32 - 2 rows.
 pub fn compile(alloc: Global, scoped: &Scoped) -> Result<Program, AllocError>
+    ensures exact { IfOk result (λ program. table_in program ≡ settled (scoped_tree scoped.now) (scoped_inputs scoped.now)) }
     ensures keeps { IfOk result (λ program. KeepsTree (program_equations program) (scoped_tree scoped.now)) }
     ensures sound { IfOk result (λ program. length (scoped_inputs scoped.now) ≤ most_inputs → IsSound (table_in program)) }
     ensures inputs { IfOk result (λ program. (table_in program).inputs ≡ scoped_inputs scoped.now) }

@@ -45,6 +45,7 @@ returns c =
     let sound : length (scoped_inputs c.args.scoped.now) ≤ 1048576
     → IsSound t = λ few. made.sound (subst AllDiffer (sym names) c.inputs.ensures.differ) (omega (arith, ap length names, few)) in
     record {
+      exact = same ∙ made.exact;
       keeps = subst (λ t. KeepsTree (equations_of t) (scoped_tree c.args.scoped.now)) (sym same) made.keeps;
       sound = subst (λ t. length (scoped_inputs c.args.scoped.now) ≤ 1048576 → IsSound t) (sym same) sound;
       inputs = ap (λ (x : Table). x.inputs) same ∙ names;
