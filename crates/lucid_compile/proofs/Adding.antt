@@ -101,11 +101,10 @@ module _ (w : Numbered) where
       grown-on o m n _ _ _ _ _ id p.grown
       (subst (λ y. GrownTo w m n (with_nodes (v ∷ []) y) (row f (bound_nodes w es)) at d.scope id)
       (sym (ap (λ cs. with_constants cs (added_all k es g)) (none k) ∙ no-constants (added_all k es g)))
-      (subst (λ z. GrownTo w m n (with_nodes (v ∷ []) (added_all k es g)) z at d.scope id)
-      (is.means m.constants (scoped_inputs w.scoped) (nodes_in w m) ∙ ap (row f) p.are)
-      (push-grown w m n (added_all k es g) (record { scope = d.scope; node = x }) v id p.grown.holds s (is.known (length m.constants))
+      (push-grown w m n (added_all k es g) (record { scope = d.scope; node = x }) v id p.grown.holds s
+      (is.means m.constants (scoped_inputs w.scoped) (nodes_in w m) ∙ ap (row f) p.are) (is.known (length m.constants))
       (subst (EachBelow (length (nodes_in w m))) (sym is.parts_are) p.within) is.alone (here-trees k d k es g l).1
-      (parts-own m.scopes m.nodes d.scope x is.own (subst (EachStandsIn m.nodes d.scope) (sym is.parts_are) p.stand)) is.filled (own (added_all k es g).constants (added_all k es g).nodes p.noted))))
+      (parts-own m.scopes m.nodes d.scope x is.own (subst (EachStandsIn m.nodes d.scope) (sym is.parts_are) p.stand)) is.filled (own (added_all k es g).constants (added_all k es g).nodes p.noted)))
 
   const-added : (o m l n : Lists) (d : Here) (at : ℕ) (v : PlainValue) (es : PlainTrees) (ids : List ℕ) (c id : ℕ) → count es ≡ 0 → AddsTrees w o m d es ids
       → OneConstant m l v c → OneNode l n (record { scope = d.scope; node = Const c }) id → AddsTree w o n d (form at (const v) es) id
@@ -114,10 +113,9 @@ module _ (w : Numbered) where
       let y : Note = note at k (piece (form at (const v) no_trees)) in
       let r : Grown w m l (with_constants (y ∷ []) g) = keep-grown w m l g y v c p.grown.holds b refl in
       grown-on o l n _ _ _ _ _ id (grown-then w o m l _ _ p.grown r)
-      (subst (λ z. GrownTo w l n (with_nodes (y ∷ []) (with_constants (y ∷ []) g)) z at d.scope id)
-      (ap (λ x. row (const x) no_nodes) (keep-constant w m l v c b))
-      (push-grown w l n (with_constants (y ∷ []) g) (record { scope = d.scope; node = Const c }) y id r.holds s (keep-known w m l v c b) tt tt q.1 tt tt
-      (c, refl, keep-noted w m l g y v c p.grown.holds b)))
+      (push-grown w l n (with_constants (y ∷ []) g) (record { scope = d.scope; node = Const c }) y id r.holds s
+      (ap (λ x. row (const x) no_nodes) (keep-constant w m l v c b)) (keep-known w m l v c b) tt tt q.1 tt tt
+      (c, refl, keep-noted w m l g y v c p.grown.holds b))
   const-added o m l n d at v (tree e es) ids c id z a b s = absurd (omega (arith, z))
 
   pub form-added : (o m l n : Lists) (d : Here) (at : ℕ) (f : Head) (es : PlainTrees) (ids : List ℕ) (a id : ℕ) → FitsHead f (count es)
@@ -136,11 +134,10 @@ module _ (w : Numbered) where
       let b = scoped_binding w.scoped at in
       let p : AllGrownTo w o m g no_trees d.scope ids = a k g l t h in
       grown-on o m n _ _ _ _ _ id p.grown
-      (subst (λ z. GrownTo w m n (with_nodes (note at k (piece (name at x)) ∷ []) g) z at d.scope id)
-      (named-means m.constants (scoped_inputs w.scoped) (nodes_in w m) w.numbering b)
       (push-grown w m n g (record { scope = d.scope; node = name_node w at }) (note at k (piece (name at x))) id p.grown.holds s
+      (named-means m.constants (scoped_inputs w.scoped) (nodes_in w m) w.numbering b)
       (named-known (length m.constants) w.numbering b) (named-parts (length (nodes_in w m)) w.numbering b) refl l.1
-      (named-stands m.scopes m.nodes d.scope w.numbering b) (named-filled w.numbering b) tt))
+      (named-stands m.scopes m.nodes d.scope w.numbering b) (named-filled w.numbering b) tt)
 
   pub call-added : (m l n : Lists) (d : Here) (at first : ℕ) (ids : List ℕ) (id : ℕ)
       → l ≡ with_place (plain_key at d.level) (plain_key first d.level) (record { scope = d.scope; name = (name_mark w.numbering at).number; actuals = ids }) m
@@ -154,10 +151,9 @@ module _ (w : Numbered) where
       (record { scope = d.scope; name = (name_mark w.numbering at).number; actuals = ids }) r.grown.holds b (ap (plain_key at) (sym e.0))
       (λ j. plain_key (f j) (sym e.0 j)) r.within r.are on.1 refl r.stand r.noted in
       grown-on o l n _ _ _ _ _ id (grown-then w o m l _ _ r.grown y)
-      (subst (λ b. GrownTo w l n (with_nodes (c ∷ []) z) b at d.scope id)
+      (push-grown w l n z (record { scope = d.scope; node = call_node w at first }) c id y.holds s
       (λ j. invoke (name_mark w.numbering at).number (call_number w.numbering (f j))
-      (function_mark w.numbering (callee_place (scoped_binding w.scoped at))).level)
-      (push-grown w l n z (record { scope = d.scope; node = call_node w at first }) c id y.holds s tt tt (λ j. call_node w at (f j)) on.1 tt tt tt))
+      (function_mark w.numbering (callee_place (scoped_binding w.scoped at))).level) tt tt (λ j. call_node w at (f j)) on.1 tt tt tt)
 
   level-frozen : (b : Bool) (n m : ℕ) → b ≡ true → n ≡ m → (if b then suc n else n) ≡ m + 1
   level-frozen b n m e h = rw e (omega (arith, h))
@@ -194,8 +190,9 @@ module _ (w : Numbered) where
       subst (λ c. GrownTo w o n (with_nodes (if c then here ∷ [] else []) (added_defs y k ds (added y e (with_scopes (block_scopes c y) g))))
       (if c then freeze (bound_node w e) else bound_node w e) (if c then at else node_place e) d.scope id) (sym f)
       (grown-on o l n _ _ _ _ _ id (grown-then w o p l _ _ v (grown-then w p m l _ _ r.grown t))
-      (subst (λ c. GrownTo w l n (with_nodes (here ∷ []) z) c at d.scope id) (ap freeze (at-kept (nodes_in w m) (nodes_in w l) i t.begins r.within ∙ r.is))
-      (push-grown w l n z (record { scope = d.scope; node = Freeze i }) here id t.holds s tt
+      (subst (λ x. GrownTo w l n (with_nodes (here ∷ []) z) x at d.scope id) (ap (λ b. if b then freeze (bound_node w e) else bound_node w e) f)
+      (push-grown w l n z (record { scope = d.scope; node = Freeze i }) here id t.holds s
+      (ap freeze (at-kept (nodes_in w m) (nodes_in w l) i t.begins r.within ∙ r.is) ∙ ap (λ b. if b then freeze (bound_node w e) else bound_node w e) (sym f)) tt
       (within-kept (nodes_in w m) (nodes_in w l) t.begins i r.within, tt) tt last.1 (
         inner.scope,
         scope-kept p.scopes l.scopes (begins-then p.scopes m.scopes l.scopes r.grown.outer t.outer) inner.scope d.scope FrozenScope row,

@@ -7,7 +7,7 @@ use Rattle.lucid_compile.proofs.Same.{opened}
 use Rattle.lucid_compile.proofs.One.{ctx-one}
 
 module _ (nu : Numbers) (so : Source) (p : Equations) where
-  kept-place : (k : Static) (e : PlainTree) → Kept nu so p k e → so.scope_at (place_of e) ≡ k
+  pub kept-place : (k : Static) (e : PlainTree) → Kept nu so p k e → so.scope_at (place_of e) ≡ k
   kept-place k (form at f es) h = h.1
   kept-place k (name at x) h = h
   kept-place k (call at x es) h = h.3
@@ -17,7 +17,7 @@ module _ (nu : Numbers) (so : Source) (p : Equations) where
   among-kept k x es h first_among = h.0
   among-kept k x es h (later_among i) = among-kept k x _ h.1 i
 
-  abbrev IsMet : PlainTree → Env → Type 0
+  abbrev pub IsMet : PlainTree → Env → Type 0
   IsMet x f = Good nu so p f × Kept nu so p (static_of f) x
 
   subject-met : (at : ℕ) (x : PlainTree) (ds : PlainDefs) (env : Env) (t : ℕ) → IsMet (block at x ds) env → IsMet x (scope ds (frozen_at ds t) env)
@@ -28,7 +28,7 @@ module _ (nu : Numbers) (so : Source) (p : Equations) where
       ]
 
   module _ (e : PlainTree) (c : Compiles nu so p e) where
-    evaluated-met : (x : PlainTree) (f : Env) → IsEvaluated e x f → IsMet x f
+    pub evaluated-met : (x : PlainTree) (f : Env) → IsEvaluated e x f → IsMet x f
     evaluated-met x f the_program = (tt, c.kept)
     evaluated-met x f (a_part {at = at} {f = g} {es = es} h i) =
         let m : IsMet (form at g es) f = evaluated-met (form at g es) f h in (m.0, among-kept (static_of f) x es m.1.0 i)

@@ -19,7 +19,9 @@ use Rattle.lucid_compile.specs.Notes.{notes}
 use Rattle.lucid_scope.specs.Sites.{sites as name_sites}
 use Rattle.lucid_compile.proofs.HeldRows.{HasRows}
 use Rattle.lucid_compile.proofs.Passing.{NoFaults}
-use Rattle.lucid_compile.proofs.Meeting.{AreMet, HasCallee, TargetMet, NodeMet, NodeRead, IsRead, Agrees}
+use Rattle.lucid_compile.proofs.Scoping.{Agrees}
+use Rattle.lucid_compile.proofs.Compiled.{GoesBy}
+use Rattle.lucid_compile.proofs.Meeting.{AreMet, HasCallee, TargetMet, NodeMet, NodeRead, IsRead}
 use Rattle.lucid_compile.proofs.Sounding.{each-at}
 
 -- numbers that differ stand at one index each
@@ -137,15 +139,15 @@ module _ (w : Numbered) (e : PlainTree) (t : Table) (made : IsWellMade e) (sure 
       ∙ each-in (λ c. (row_of_note c).at) (λ c. c.at) z.calls (λ c _. row-place c.at (slice_get z.functions (callee_number w c.at)))) in
       subst AllDiffer (sym same ∙ ap (map (λ n. n.at)) stands-are) (names-apart e made)
 
-  name-number : (i : ℕ) (s : Note) → slice_get stands i ≡ Some s → (numbers_of e).name s.at ≡ i
+  pub name-number : (i : ℕ) (s : Note) → slice_get stands i ≡ Some s → (numbers_of e).name s.at ≡ i
   name-number i s h =
       first-at (λ n. n.at) (names e) i s.at names-differ
       (slice_get-map (λ n. n.at) (names e) i ∙ ap (λ ns. option_map (λ n. n.at) (slice_get ns i)) (sym stands-are) ∙ ap (option_map (λ n. n.at)) h)
 
-  agrees : Agrees (numbers_of e) z
+  agrees : Agrees (numbers_of e) z.names
   agrees i s h = name-number i s (some-left z.names (map row_of_note z.calls) i s h)
 
-  call-number : (i : ℕ) (c : Note) → slice_get z.calls i ≡ Some c → (numbers_of e).name c.at ≡ length z.names + i
+  pub call-number : (i : ℕ) (c : Note) → slice_get z.calls i ≡ Some c → (numbers_of e).name c.at ≡ length z.names + i
   call-number i c h =
       ap (numbers_of e).name (sym (row-place c.at (slice_get z.functions (callee_number w c.at))))
       ∙ name-number (length z.names + i) (row_of_note c)
@@ -154,10 +156,17 @@ module _ (w : Numbered) (e : PlainTree) (t : Table) (made : IsWellMade e) (sure 
   abbrev site_of : Note → ℕ
   site_of c = first_place (noted_actuals c.kind)
 
-  place-number : (i : ℕ) (c : Note) → slice_get z.calls i ≡ Some c → (numbers_of e).place (noted_actuals c.kind) ≡ i
+  pub place-number : (i : ℕ) (c : Note) → slice_get z.calls i ≡ Some c → (numbers_of e).place (noted_actuals c.kind) ≡ i
   place-number i c h =
       first-at site_of (calls e) i (site_of c) (subst (λ l. AllDiffer (map site_of l)) walk.calls (sites-apart e made sure))
       (slice_get-map site_of (calls e) i ∙ ap (λ ns. option_map site_of (slice_get ns i)) (sym walk.calls) ∙ ap (option_map site_of) h)
+
+  pub goes-by : GoesBy w z (numbers_of e)
+  goes-by = record {
+    names = agrees;
+    calls = λ c v. (let m = index-of z.calls c v in call-number m.0 c m.1 ∙ sym (call-numbers w z m.0 c numbers m.1).name);
+    places = λ c v. (let m = index-of z.calls c v in place-number m.0 c m.1 ∙ sym (call-numbers w z m.0 c numbers m.1).place);
+  }
 
   -- the rows of nodes
 

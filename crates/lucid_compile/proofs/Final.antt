@@ -1,5 +1,5 @@
 -- The table of the lists keeps the tree, and is sound.
-use Rattle.lucid_compile.proofs.Common.{◌≡◌, ℕ, suc, ◌+◌, ◌<◌, ◌≤◌, length, Option, List, [], ◌∷◌, ◌++◌, map, Some, None, get_or, slice_get, refl, sym, ap, ◌∙◌, subst, inl, inr, arith, length-append, option_map, length-map, slice_get-map, PlainTree, no_trees, In, AllDiffer, IsWellMade, named, again, site_at, binding_for, fault_of, scoped_tree, scoped_binding, scoped_inputs, Binding, PlainEntry, Equations, called_entry, sizes, IsInRange, at, all_at, grow, nodes_of, equations_of, StandsIn, IsSound, Root, Entry, Plain, Parameter, Current, Called, Table, Mark, Origin, Source, nodes_for, in_body, HasRow, Actuals, first_place, KeepsTree, or_no_mark, name_mark, function_mark, call_number, mark_by, key_of_function, KeyLists, keys_of, IsNumberingOf, Lists, OneScope, link, Note, Numbered, numbers_in, bound_node, bound_nodes, callee_place, FunctionStand, Log, no_log, added, AreKnown, EachRow, NodeFits, NameFits, PlaceFits, ScopesHold, NodesHold, NamesHold, PlacesHold, IsEntry, IsNameRow, IsPlaceRow, Holds, GrownTo, AddsTree, row_of_call, call_row, rows_of_calls, with_calls, All, ∥∥₁_elim, Coded-set, coded_option, coded_list, IsResolved, FreeNamesAreInputs, entry_by, noted_actuals, bound_entry, node_place, AreNumbers, HasBody, HasParts, IsNumber, OneForOne}
+use Rattle.lucid_compile.proofs.Common.{◌≡◌, ℕ, suc, ◌+◌, ◌<◌, ◌≤◌, length, Option, List, [], ◌∷◌, ◌++◌, map, Some, None, get_or, slice_get, refl, sym, ap, ◌∙◌, subst, inl, inr, arith, length-append, option_map, length-map, slice_get-map, PlainTree, no_trees, In, AllDiffer, IsWellMade, named, again, site_at, binding_for, fault_of, scoped_tree, scoped_binding, scoped_inputs, Binding, PlainEntry, Equations, called_entry, sizes, IsInRange, at, all_at, grow, nodes_of, equations_of, StandsIn, IsSound, Root, Entry, Plain, Parameter, Current, Called, Table, Mark, Origin, Source, nodes_for, in_body, HasRow, Actuals, first_place, KeepsTree, or_no_mark, name_mark, function_mark, call_number, mark_by, key_of_function, KeyLists, keys_of, IsNumberingOf, Lists, OneScope, link, Note, Numbered, bound_node, bound_nodes, callee_place, FunctionStand, Log, no_log, added, AreKnown, EachRow, NodeFits, NameFits, PlaceFits, ScopesHold, NodesHold, NamesHold, PlacesHold, IsEntry, IsNameRow, IsPlaceRow, Holds, GrownTo, AddsTree, row_of_call, call_row, rows_of_calls, with_calls, All, ∥∥₁_elim, Coded-set, coded_option, coded_list, IsResolved, FreeNamesAreInputs, entry_by, noted_actuals, bound_entry, node_place, AreNumbers, HasBody, HasParts, IsNumber, OneForOne, noted_tree, Numbers, no_node, Compiles}
 use Rattle.std.proofs.lemmas.Option.{slice_get_within as index-below}
 use base.Stored.{coded_ℕ}
 use Rattle.lucid_lemmas.proofs.Lists.{slice_get-append_left as some-left}
@@ -24,11 +24,18 @@ use Rattle.lucid_compile.proofs.Promised.{compiled-keeps}
 use Rattle.lucid_compile.proofs.Passing.{NoFaults}
 use Rattle.lucid_compile.proofs.Scoping.{IsListed, IsThere}
 use Rattle.lucid_compile.proofs.Stands.{LogFits, parameter_stand, fits-tree, home-tree}
-use Rattle.lucid_compile.proofs.Compiled.{IsWhole, Leads, AreFit, Same, node-is, kept-bound, within-itself}
+use Rattle.lucid_compile.proofs.Compiled.{IsWhole, Leads, AreFit, Same, GoesBy, node-is, kept-bound, within-itself}
 use Rattle.lucid_compile.proofs.Calling.{calls-held, bodies-held}
-use Rattle.lucid_compile.proofs.Exact.{exact}
-use Rattle.lucid_compile.specs.Settled.{table_of as settled}
-use Rattle.lucid_compile.proofs.Meeting.{AreMet, tree-met}
+use Rattle.lucid_compile.proofs.Exact.{exact, goes-by, call-number, place-number}
+use Rattle.lucid_compile.proofs.Meant.{pieces-mean}
+use Rattle.lucid_compile.specs.Meant.{NodesMeanTheirPieces}
+use Rattle.lucid_equations.specs.Rows.{node_at}
+use Rattle.std.proofs.lemmas.Option.{get_or_from_slice_get}
+use Rattle.lucid_compile.proofs.Sounding.{each-at}
+use Rattle.lucid_compile.proofs.Walking.{Logs, logs-tree}
+use Rattle.lucid_compile.specs.Notes.{notes}
+use Rattle.lucid_compile.specs.Settled.{numbers_of, table_of as settled}
+use Rattle.lucid_compile.proofs.Meeting.{AreMet, NodeBecomes, tree-met}
 use Rattle.lucid_compile.proofs.Apart.{scopes-apart}
 use Rattle.lucid_compile.proofs.Ranged.{nodes-in_range, names-in_range, places-in_range}
 use Rattle.lucid_compile.proofs.Sounding.{scopes-nest, nodes-nest}
@@ -112,6 +119,7 @@ or_no_site (Some s) = s
 pub record IsMade (w : Numbered) (e : PlainTree) (t : Table) : Type 0 where
   pub exact : t ≡ settled e (scoped_inputs w.scoped)
   pub keeps : KeepsTree (equations_of t) e
+  pub means : NodesMeanTheirPieces e (equations_of t) (node_at t)
   pub rows : HasRows w (added outermost e no_log) t
   pub in_range : IsInRange t
   pub sound : AllDiffer t.inputs → length t.inputs ≤ 1048576 → IsSound t
@@ -142,6 +150,9 @@ module _ (w : Numbered) (e : PlainTree) (o n : Lists) (root : ℕ) (t : Table)
     site = λ q. or_no_site (slice_get (map site_of z.calls) q);
     scope_at = λ a. (or_nowhere (slice_get (spots e) (index (spot_keys e) a))).home;
   }
+
+  abbrev walk : Logs no_log z (notes outermost e)
+  walk = logs-tree outermost e no_log
 
   abbrev held : Holds w o z
   held = grown.grown.holds
@@ -175,7 +186,21 @@ module _ (w : Numbered) (e : PlainTree) (o n : Lists) (root : ℕ) (t : Table)
   all : IsWhole w z
   all = whole w z (fits-tree outermost e no_log made.shaped (λ f i. absurd i)) numbers
 
-  row-is : (k : ℕ) (s : Note) → slice_get stands k ≡ Some s → (name_mark w.numbering s.at).number ≡ k → HasRow (numbers_in w) so p s.at s.home (bound_entry w s.kind)
+  -- what names and calls lead to
+  met : AreMet w z z
+  met = tree-met w z all outermost e no_log (fit w e law r) tt (within-itself z) (record { calls = tt; nodes = tt; reads = tt; becomes = tt })
+
+  sure : NoFaults (name_sites outermost e)
+  sure = no-faults e (scoped_inputs w.scoped) (scoped_binding w.scoped) r
+
+  -- the tree's numbers
+  abbrev nu : Numbers
+  nu = numbers_of e
+
+  by : GoesBy w z nu
+  by = goes-by w e t made sure numbers rows met held.outer
+
+  row-is : (k : ℕ) (s : Note) → slice_get stands k ≡ Some s → nu.name s.at ≡ k → HasRow nu so p s.at s.home (bound_entry w s.kind)
   row-is k s stand number =
       let f = row-at (λ i r s. IsNameRow w z.scopes (nodes_of t) r s) 0 t.names stands k s rows.names stand in (
         ap p.entry number ∙ ap (λ x. option_map (entry_by t) (option_map (λ x. x.kind) x)) f.there
@@ -184,31 +209,31 @@ module _ (w : Numbered) (e : PlainTree) (o n : Lists) (root : ℕ) (t : Table)
             ∙ ap or_nowhere (slice_get-map origin_of stands k ∙ ap (option_map origin_of) stand),
       )
 
-  row-there : (s : Note) → In s z.names → HasRow (numbers_in w) so p s.at s.home (bound_entry w s.kind)
+  row-there : (s : Note) → In s z.names → HasRow nu so p s.at s.home (bound_entry w s.kind)
   row-there s i =
       let f = index-of z.names s i in
-      row-is f.0 s (some-left z.names _ f.0 s f.1) (name-numbers w z f.0 s numbers f.1).number
+      row-is f.0 s (some-left z.names _ f.0 s f.1) (by.names f.0 s f.1)
 
   call-there : (c : Note) (f : FunctionStand) → In c z.calls → callee_place (scoped_binding w.scoped c.at) ≡ f.at
-      → IsThere w.numbering z.names z.functions (Same w) f
-      → HasRow (numbers_in w) so p c.at (in_body f.names f.places f.home) (called_entry (bound_node w f.right))
+      → IsThere w.numbering z.names z.functions (Same w nu) f
+      → HasRow nu so p c.at (in_body f.names f.places f.home) (called_entry (bound_node w f.right))
   call-there c f i q h =
       let same : call_row w z.functions c.at ≡ row_of_call c.at (Some f) =
       ap (λ a. row_of_call c.at (slice_get z.functions (function_mark w.numbering a).number)) q ∙ ap (row_of_call c.at) h.found in
       let m = index-of z.calls c i in
       let stand : slice_get stands (length z.names + m.0) ≡ Some (row_of_call c.at (Some f)) = slice-past z.names _ m.0
       ∙ slice_get-map (λ c. call_row w z.functions c.at) z.calls m.0 ∙ ap (option_map (λ c. call_row w z.functions c.at)) m.1 ∙ ap Some same in
-      row-is (length z.names + m.0) (row_of_call c.at (Some f)) stand (call-numbers w z m.0 c numbers m.1).name
+      row-is (length z.names + m.0) (row_of_call c.at (Some f)) stand (call-number w e t made sure numbers rows met held.outer m.0 c m.1)
 
-  place-there : (c : Note) → In c z.calls → bound_nodes w (noted_actuals c.kind) ≡ nodes_for (numbers_in w) c.home (noted_actuals c.kind)
-      → Actuals (numbers_in w) so p c.home (noted_actuals c.kind)
+  place-there : (c : Note) → In c z.calls → bound_nodes w (noted_actuals c.kind) ≡ nodes_for nu c.home (noted_actuals c.kind)
+      → Actuals nu so p c.home (noted_actuals c.kind)
   place-there c i same =
       let m = index-of z.calls c i in
-      let number : call_number w.numbering (first_place (noted_actuals c.kind)) ≡ m.0 = (call-numbers w z m.0 c numbers m.1).place in
+      let number : nu.place (noted_actuals c.kind) ≡ m.0 = place-number w e t made sure numbers rows met held.outer m.0 c m.1 in
       let f = row-at (λ i r c. IsPlaceRow w z.scopes (nodes_of t) r c) 0 t.places z.calls m.0 c rows.places m.1 in (
         λ j. ap (λ q. p.actual q j) number ∙ actuals-read (nodes_of t) (slice_get t.places m.0) j
             ∙ ap (λ x. at_number_of (option_map (λ r. all_at (nodes_of t) r.actuals) x) j) f.there ∙ ap (λ x. at_number x j) (f.is.1 ∙ same)
-            ∙ sym (at_number-nodes_for (numbers_in w) c.home (noted_actuals c.kind) j),
+            ∙ sym (at_number-nodes_for nu c.home (noted_actuals c.kind) j),
         ap so.site number
             ∙ ap or_no_site (slice_get-map site_of z.calls m.0 ∙ ap (option_map site_of) m.1),
       )
@@ -216,17 +241,24 @@ module _ (w : Numbered) (e : PlainTree) (o n : Lists) (root : ℕ) (t : Table)
   spot-there : (x : Origin) → In x (spots e) → so.scope_at x.at ≡ x.home
   spot-there x i = ap (λ y. (or_nowhere y).home) (spot-at e made x i)
 
-  keeps : KeepsTree p e
-  keeps =
-      compiled-keeps (numbers_in w) so p e (record {
-        root = ap (at (nodes_of t)) is.root_is ∙ ap (λ ts. at ts root) nodes-same ∙ grown.is
-            ∙ node-is w z all outermost e no_log (fit w e law r) tt (within-itself z);
-        kept = kept-bound w z all so p row-there call-there place-there outermost e no_log (fit w e law r) tt (within-itself z) spot-there;
-      })
+  compiled : Compiles nu so p e
+  compiled = record {
+    root = ap (at (nodes_of t)) is.root_is ∙ ap (λ ts. at ts root) nodes-same ∙ grown.is
+        ∙ node-is w z all nu by outermost e no_log (fit w e law r) tt (within-itself z);
+    kept = kept-bound w z all nu by so p row-there call-there place-there outermost e no_log (fit w e law r) tt (within-itself z) spot-there;
+  }
 
-  -- what names and calls lead to
-  met : AreMet w z z
-  met = tree-met w z all outermost e no_log (fit w e law r) tt (within-itself z) (record { calls = tt; nodes = tt; reads = tt })
+  keeps : KeepsTree p e
+  keeps = compiled-keeps nu so p e compiled
+
+  -- its nodes mean their pieces
+  means : NodesMeanTheirPieces e p (node_at t)
+  means = pieces-mean e t so made compiled spot-there (λ i n there.
+      let x = row-at (λ i y n. y ≡ bound_node w (noted_tree n.kind)) 0 (nodes_of t) z.nodes i n
+      (subst (λ ts. OneForOne (λ i y n. y ≡ bound_node w (noted_tree n.kind)) 0 ts z.nodes) (sym nodes-same) held.becomes)
+      (ap (λ ns. slice_get ns i) walk.nodes ∙ there) in
+      get_or_from_slice_get (nodes_of t) i x.row no_node x.there ∙ x.is
+      ∙ each-at (NodeBecomes w z) z.nodes i n met.becomes (ap (λ ns. slice_get ns i) walk.nodes ∙ there) nu by)
 
   call-leads : (c : Note) → In c z.calls → ((name_mark w.numbering c.at).number < length t.names)
       × (call_number w.numbering (first_place (noted_actuals c.kind)) < length t.places)
@@ -300,7 +332,7 @@ module _ (w : Numbered) (e : PlainTree) (o n : Lists) (root : ℕ) (t : Table)
   -- it is the table of the tree
   exactly : t ≡ settled e (scoped_inputs w.scoped)
   exactly =
-      exact w e t made (no-faults e (scoped_inputs w.scoped) (scoped_binding w.scoped) r) numbers rows met held.outer is.inputs_are
+      exact w e t made sure numbers rows met held.outer is.inputs_are
       (is.constants ∙ ap (λ (l : Lists). l.constants) others ∙ held.numbers.constants)
       (subst (λ rs. OneForOne (λ i r n. HasParts z.constants z.nodes r.node n.kind) 0 rs z.nodes) (sym rows-same) held.numbers.parts)
       (subst (λ rs. OneForOne (λ i r n. HasBody z.nodes r.kind n.kind) 0 rs stands) (sym names-same) (bodies-held w o z held))
@@ -308,7 +340,7 @@ module _ (w : Numbered) (e : PlainTree) (o n : Lists) (root : ℕ) (t : Table)
       (subst (λ i. IsNumber z.nodes i e) (sym is.root_is) grown.noted)
 
   is-made : IsMade w e t
-  is-made = record { exact = exactly; keeps = keeps; rows = rows; in_range = ranged; sound = sound }
+  is-made = record { exact = exactly; keeps = keeps; means = means; rows = rows; in_range = ranged; sound = sound }
 
 -- nothing was added to a list of the outermost scope
 nothing-held : (w : Numbered) → Holds w begun no_log
@@ -322,6 +354,7 @@ nothing-held w = record {
   functions = tt;
   keys = refl;
   numbers = record { constants = refl; parts = tt; bodies = tt; actuals = tt; rights = tt };
+  becomes = tt;
   parts = tt;
   entries = tt;
   actuals = tt;

@@ -1,5 +1,5 @@
 -- Lists that hold what was added hold it with one thing more.
-use Rattle.lucid_compile.proofs.Common.{◌≡◌, ℕ, zero, suc, ◌+◌, ◌<◌, ◌≤◌, length, List, [], ◌∷◌, ◌++◌, get_or, Some, None, slice_get, refl, sym, ap, ◌∙◌, subst, arith, length-append, append_assoc, PlainValue, const, scoped_inputs, PlainNode, PlainEntry, row, no_nodes, plain_entry, called_entry, current_entry, at-kept, frame, in_body, name_mark, ScopeRow, ScopeIs, StandsIn, EachStandsIn, PartsStand, IsFilled, ScopeKind, option_map, EachBelow, at, all_at, parts, as_node, grow, Node, Const, Freeze, Entry, Plain, Parameter, Current, Called, NodeRow, NameRow, PlaceRow, Body, Key, stand_key, call_key, place_key, key_of_function, with_name_key, with_function_key, with_call_key, Lists, with_name, with_body, with_place, OneScope, OneConstant, OneNode, Note, Numbered, bound_node, bound_nodes, FunctionStand, Log, with_nodes, with_scopes, with_stand, with_call, with_function, IsKnown, AreKnown, EachRow, NodeFits, NameFits, PlaceFits, BodyFits, IsOpen, IsScopeRow, ScopesHold, HasTarget, IsNodeRow, NodesHold, IsEntry, IsNameRow, NamesHold, IsPlaceRow, PlacesHold, IsBody, FunctionsHold, Holds, Begins, Grown, GrownTo, get_or-append_seam, get_or_append_left, fault, all_at-kept, EntryStands, no_node, noted_actuals, bound_entry, piece_target, with_constants, noted_value, AreNumbers, HasBody, HasNumbers, HasParts, IsNotedAt, IsNumber, length-map}
+use Rattle.lucid_compile.proofs.Common.{◌≡◌, ℕ, zero, suc, ◌+◌, ◌<◌, ◌≤◌, length, List, [], ◌∷◌, ◌++◌, get_or, Some, None, slice_get, refl, sym, ap, ◌∙◌, subst, arith, length-append, append_assoc, PlainValue, const, scoped_inputs, PlainNode, PlainEntry, row, no_nodes, plain_entry, called_entry, current_entry, at-kept, frame, in_body, name_mark, ScopeRow, ScopeIs, StandsIn, EachStandsIn, PartsStand, IsFilled, ScopeKind, option_map, EachBelow, at, all_at, parts, as_node, grow, Node, Const, Freeze, Entry, Plain, Parameter, Current, Called, NodeRow, NameRow, PlaceRow, Body, Key, stand_key, call_key, place_key, key_of_function, with_name_key, with_function_key, with_call_key, Lists, with_name, with_body, with_place, OneScope, OneConstant, OneNode, Note, Numbered, bound_node, bound_nodes, FunctionStand, Log, with_nodes, with_scopes, with_stand, with_call, with_function, IsKnown, AreKnown, EachRow, NodeFits, NameFits, PlaceFits, BodyFits, IsOpen, IsScopeRow, ScopesHold, HasTarget, IsNodeRow, NodesHold, IsEntry, IsNameRow, NamesHold, IsPlaceRow, PlacesHold, IsBody, FunctionsHold, Holds, Begins, Grown, GrownTo, get_or-append_seam, get_or_append_left, fault, all_at-kept, EntryStands, no_node, noted_actuals, bound_entry, piece_target, with_constants, noted_value, AreNumbers, HasBody, HasNumbers, HasParts, IsNotedAt, IsNumber, length-map, noted_tree, OneForOne}
 use Rattle.std.proofs.lemmas.List.{append-nil}
 use Rattle.std.proofs.lemmas.Option.{slice_get_within as index-below}
 use Rattle.lucid_lemmas.proofs.Lists.{slice_get-append_left as some-left, slice_get-push_same as some-last}
@@ -172,8 +172,9 @@ module _ (w : Numbered) where
   with-more : (o n : Lists) (g : Log) (ms cs : List Note) → Holds w o g → Begins (nodes_in w o) (nodes_in w n) → AreKnown (length n.constants) n.nodes
       → NodesHold w g.scopes n.nodes ms → Begins o.nodes n.nodes → EachRow (NodeFits n.scopes n.nodes) n.nodes → n.scopes ≡ o.scopes
       → n.names ≡ o.names
-      → n.places ≡ o.places → n.bodies ≡ o.bodies → n.keys ≡ o.keys → HasNumbers n (record g { nodes = ms; constants = cs }) → Grown w o n (record g { nodes = ms; constants = cs })
-  with-more o n g ms cs h b k nodes later parts scopes names places bodies keys numbers =
+      → n.places ≡ o.places → n.bodies ≡ o.bodies → n.keys ≡ o.keys → HasNumbers n (record g { nodes = ms; constants = cs })
+      → OneForOne (λ i x n. x ≡ bound_node w (noted_tree n.kind)) 0 (nodes_in w n) ms → Grown w o n (record g { nodes = ms; constants = cs })
+  with-more o n g ms cs h b k nodes later parts scopes names places bodies keys numbers becomes =
       let outer : Begins o.scopes n.scopes = ([], scopes ∙ sym (append-nil o.scopes)) in
       record {
         begins = b;
@@ -189,6 +190,7 @@ module _ (w : Numbered) where
           functions = rw bodies (functions-kept (nodes_in w o) (nodes_in w n) b w g.scopes o.bodies g.functions h.functions);
           keys = keys ∙ h.keys;
           numbers = numbers;
+          becomes = becomes;
           parts = parts;
           entries = rw names (each-row (NameFits o.scopes o.nodes) (NameFits n.scopes n.nodes) o.names
               (λ r x. entry-stands-kept o.scopes n.scopes o.nodes n.nodes outer later r.scope r.kind x) h.entries);
@@ -199,13 +201,15 @@ module _ (w : Numbered) where
         };
       }
 
-  pub push-grown : (o n : Lists) (g : Log) (r : NodeRow) (v : Note) (id : ℕ) → Holds w o g → OneNode o n r id → IsKnown (length o.constants) r.node
+  pub push-grown : (o n : Lists) (g : Log) (r : NodeRow) (v : Note) (id : ℕ) → Holds w o g → OneNode o n r id
+      → as_node o.constants (scoped_inputs w.scoped) (nodes_in w o) r.node ≡ bound_node w (noted_tree v.kind) → IsKnown (length o.constants) r.node
       → EachBelow (length (nodes_in w o)) (parts r.node) → HasTarget w r.node (piece_target v.kind) → IsOpen g.scopes r.scope v.home
       → PartsStand o.scopes o.nodes r.scope r.node → IsFilled r.node → HasParts g.constants g.nodes r.node v.kind
-      → GrownTo w o n (with_nodes (v ∷ []) g) (as_node o.constants (scoped_inputs w.scoped) (nodes_in w o) r.node) v.at r.scope id
-  push-grown o n g r v id h s k b a c q z own =
-      let x : PlainNode = as_node o.constants (scoped_inputs w.scoped) (nodes_in w o) r.node in
-      let more : nodes_in w n ≡ nodes_in w o ++ x ∷ [] = ap (nodes_in w) s.lists ∙ grow-one o.constants (scoped_inputs w.scoped) [] o.nodes r in
+      → GrownTo w o n (with_nodes (v ∷ []) g) (bound_node w (noted_tree v.kind)) v.at r.scope id
+  push-grown o n g r v id h s same k b a c q z own =
+      let x : PlainNode = bound_node w (noted_tree v.kind) in
+      let more : nodes_in w n ≡ nodes_in w o ++ x ∷ [] = ap (nodes_in w) s.lists ∙ grow-one o.constants (scoped_inputs w.scoped) [] o.nodes r
+      ∙ ap (λ y. nodes_in w o ++ y ∷ []) same in
       let count : length (nodes_in w o) ≡ length o.nodes = omega (arith, grow-count o.constants (scoped_inputs w.scoped) [] o.nodes) in
       let zero_more : length (nodes_in w o) ≡ 0 + length o.nodes = omega (arith, count) in
       let later : Begins o.nodes n.nodes = (r ∷ [], ap (λ (l : Lists). l.nodes) s.lists) in
@@ -220,7 +224,9 @@ module _ (w : Numbered) where
         grown = with-more o n g (g.nodes ++ v ∷ []) g.constants h (x ∷ [], more) (rw s.lists (known-one (length o.constants) o.nodes r h.known k))
             (rw s.lists (pairs-one (IsNodeRow w g.scopes) 0 o.nodes g.nodes r v h.nodes (subst (λ c. EachBelow c (parts r.node)) zero_more b, a, c))) later
             (rw s.lists fitting) (ap (λ (l : Lists). l.scopes) s.lists) (ap (λ l. l.names) s.lists) (ap (λ l. l.places) s.lists) (ap (λ l. l.bodies) s.lists)
-            (ap (λ l. l.keys) s.lists) (rw s.lists (node-noted o g h.numbers r v own));
+            (ap (λ l. l.keys) s.lists) (rw s.lists (node-noted o g h.numbers r v own))
+            (subst (λ ts. OneForOne (λ i y n. y ≡ bound_node w (noted_tree n.kind)) 0 ts (g.nodes ++ v ∷ [])) (sym more)
+            (pairs-one (λ i y n. y ≡ bound_node w (noted_tree n.kind)) 0 (nodes_in w o) g.nodes x v h.becomes refl));
         within = omega (arith, s.number, count, ap length more, length-append (nodes_in w o) (x ∷ []));
         is = ap (λ l. at l id) more ∙ ap (λ i. at (nodes_in w o ++ x ∷ []) i) (s.number ∙ sym count) ∙ get_or-append_seam (nodes_in w o) x [] no_node;
         noted = ap (λ i. option_map (λ n. n.at) (slice_get (g.nodes ++ v ∷ []) i)) (s.number ∙ pairs-count (IsNodeRow w g.scopes) 0 o.nodes g.nodes h.nodes)
@@ -240,6 +246,7 @@ module _ (w : Numbered) where
       (subst (Begins o.nodes) (sym (ap (λ (l : Lists). l.nodes) s.lists)) (begins-itself o.nodes)) (rw s.lists h.parts) (ap (λ (l : Lists). l.scopes) s.lists)
       (ap (λ l. l.names) s.lists) (ap (λ l. l.places) s.lists) (ap (λ l. l.bodies) s.lists) (ap (λ l. l.keys) s.lists)
       (rw s.lists (constant-noted o g h.numbers v c own))
+      (subst (λ ts. OneForOne (λ i x n. x ≡ bound_node w (noted_tree n.kind)) 0 ts g.nodes) (sym same) h.becomes)
 
   pub keep-noted : (o n : Lists) (g : Log) (c : Note) (v : PlainValue) (id : ℕ) → Holds w o g → OneConstant o n v id → IsNotedAt (g.constants ++ c ∷ []) id c.at
   keep-noted o n g c v id h s =
@@ -274,6 +281,7 @@ module _ (w : Numbered) where
           functions = functions-open g.scopes more w (nodes_in w o) o.bodies g.functions h.functions;
           keys = h.keys;
           numbers = scope-noted o g h.numbers r (k ∷ []);
+          becomes = h.becomes;
           parts = each-row (NodeFits o.scopes o.nodes) (NodeFits (o.scopes ++ r ∷ []) o.nodes) o.nodes
               (λ y u. (parts-kept o.scopes (o.scopes ++ r ∷ []) o.nodes o.nodes (r ∷ [], refl) (begins-itself o.nodes) y.scope y.node u.0, u.1)) h.parts;
           entries = each-row (NameFits o.scopes o.nodes) (NameFits (o.scopes ++ r ∷ []) o.nodes) o.names
@@ -321,6 +329,7 @@ module _ (w : Numbered) where
           functions = h.functions;
           keys = (λ j. with_name_key (own j) (h.keys j)) ∙ stand-keys s g;
           numbers = name-noted o g h.numbers k r s body;
+          becomes = h.becomes;
           parts = h.parts;
           entries = each-one (NameFits o.scopes o.nodes) o.names r h.entries q;
           actuals = h.actuals;
@@ -346,6 +355,7 @@ module _ (w : Numbered) where
           functions = pairs-one (λ i x f. IsBody w g.scopes (nodes_in w o) x f) 0 o.bodies g.functions b f h.functions (l, e, c);
           keys = (λ j. with_function_key (own j) (h.keys j)) ∙ function-keys f g;
           numbers = body-noted o g h.numbers k b f number;
+          becomes = h.becomes;
           parts = h.parts;
           entries = h.entries;
           actuals = h.actuals;
@@ -372,6 +382,7 @@ module _ (w : Numbered) where
           functions = h.functions;
           keys = (λ j. with_call_key (own j) (first j) (h.keys j)) ∙ call-keys c g;
           numbers = place-noted o g h.numbers k p r c given;
+          becomes = h.becomes;
           parts = h.parts;
           entries = h.entries;
           actuals = each-one (PlaceFits o.nodes) o.places r h.actuals q;

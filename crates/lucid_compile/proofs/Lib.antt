@@ -42,3 +42,4 @@ pub mod LinkedRows
 pub mod Waiting
 pub mod Noticed
 pub mod Exact
+pub mod Meant

@@ -1,5 +1,5 @@
 -- What the names and the calls of a resolved tree lead to: rows of what is in scope there, at its level.
-use Rattle.lucid_compile.proofs.Common.{◌≡◌, ℕ, ◌<◌, Bool, true, false, if◌then◌else◌, length, nat_eq, List, [], ◌∷◌, ◌++◌, Option, Some, None, slice_get, refl, sym, ap, ◌∙◌, subst, inl, inr, arith, nat_tests, position_or_len, PlainTree, form, name, call, block, PlainTrees, no_trees, tree, PlainDefs, no_defs, defines, defines_function, defines_current, Found, absent, plain_def, function_def, current_def, definition, param, same_name, count, In, in_right, Meaning, free, plain_name, parameter, current_name, function, meaning, defined_in, parameter_in, named, Earlier, also, no_names, again_if, repeats, sites, sites_in, outside_sites, inside_sites, binding_of, name_fault, call_fault, scoped_binding, scoped_inputs, Binding, Arity, Node, Input, Refer, freezes, level, in_body, first_place, function_mark, Note, Numbered, node_by, name_node, callee_place, Target, no_target, of_name, of_call, FunctionStand, Log, with_stand, with_call, with_function, opened_block, opened_function, with_parameters, added, added_all, added_defs, EachRow, callee_number, current_right, note, noted_actuals, piece, plain_right, piece_target, Kind, noted_name, call_level, Numbers}
+use Rattle.lucid_compile.proofs.Common.{◌≡◌, ℕ, ◌<◌, Bool, true, false, if◌then◌else◌, length, nat_eq, List, [], ◌∷◌, ◌++◌, Option, Some, None, slice_get, refl, sym, ap, ◌∙◌, subst, inl, inr, arith, nat_tests, position_or_len, PlainTree, form, name, call, block, PlainTrees, no_trees, tree, PlainDefs, no_defs, defines, defines_function, defines_current, Found, absent, plain_def, function_def, current_def, definition, param, same_name, count, In, in_right, Meaning, free, plain_name, parameter, current_name, function, meaning, defined_in, parameter_in, named, Earlier, also, no_names, again_if, repeats, sites, sites_in, outside_sites, inside_sites, binding_of, name_fault, call_fault, scoped_binding, scoped_inputs, Binding, Arity, Node, Input, Refer, freezes, level, in_body, first_place, function_mark, Note, Numbered, node_by, name_node, callee_place, Target, no_target, of_name, of_call, FunctionStand, Log, with_stand, with_call, with_function, opened_block, opened_function, with_parameters, added, added_all, added_defs, EachRow, callee_number, current_right, note, noted_actuals, piece, plain_right, piece_target, Kind, noted_name, call_level, Numbers, noted_tree, node_for, bound_node}
 use Rattle.std.proofs.lemmas.Option.{slice_get_within as index-below}
 use Rattle.lucid_scope.specs.Sites.{called}
 use Rattle.std.proofs.lemmas.List.{append-nil}
@@ -9,8 +9,8 @@ use Rattle.lucid_compile.specs.Settled.{reference_row}
 use Rattle.lucid_compile.proofs.Growing.{each-one}
 use Rattle.lucid_compile.proofs.Stands.{parameters-calls, parameters-nodes}
 use Rattle.lucid_compile.proofs.Depths.{IsOutside}
-use Rattle.lucid_compile.proofs.Scoping.{not_some, forget, bare, meaning-bare, Known, DefsKnown, MeaningKnown, meaning-known}
-use Rattle.lucid_compile.proofs.Compiled.{Within, within-then, before-nodes, before-form, within-trees, within-defs, within-stand, within-call, within-function, IsWhole, AreFit, fit-left, fit-right, Nothing, defs-known, no-rights, function-known}
+use Rattle.lucid_compile.proofs.Scoping.{Agrees, not_some, forget, bare, meaning-bare, Known, DefsKnown, MeaningKnown, meaning-known}
+use Rattle.lucid_compile.proofs.Compiled.{Within, within-then, before-nodes, before-form, within-trees, within-defs, within-stand, within-call, within-function, IsWhole, AreFit, fit-left, fit-right, Nothing, defs-known, no-rights, function-known, GoesBy, node-is}
 
 -- What a name belongs to stands in scope.
 abbrev pub MeaningOutside : Static → Meaning → Type 0
@@ -78,19 +78,19 @@ one-or-none : (P : Note → Type 0) (b : Bool) (n : Note) (ss : List Note) → P
 one-or-none P true n ss m h = each-one P ss n h m
 one-or-none P false n ss m h = subst (EachRow P) (sym (append-nil ss)) h
 
--- numbers that go by the log
-abbrev pub Agrees : Numbers → Log → Type 0
-Agrees nu z = (i : ℕ) (s : Note) → slice_get z.names i ≡ Some s → nu.name s.at ≡ i
-
 -- what is said by the bindings of a name or a call is said by what its name belongs to
 abbrev pub IsRead : Numbered → Log → Kind → (home : Static) → Type 0
 IsRead w z (piece (name at x)) k =
-    (nu : Numbers) → Agrees nu z → name_node w at ≡ reference_row (scoped_inputs w.scoped) (reference_of nu (level k) x (meaning x k))
+    (nu : Numbers) → Agrees nu z.names → name_node w at ≡ reference_row (scoped_inputs w.scoped) (reference_of nu (level k) x (meaning x k))
 IsRead w z (piece (call at x es)) k = (function_mark w.numbering (callee_place (scoped_binding w.scoped at))).level ≡ call_level (level k) (meaning x k)
 IsRead w z _ k = Unit {0}
 
 abbrev pub NodeRead : Numbered → Log → Note → Type 0
 NodeRead w z n = IsRead w z n.kind n.home
+
+-- a node becomes what its piece does, by numbers that go by the log
+abbrev pub NodeBecomes : Numbered → Log → Note → Type 0
+NodeBecomes w z n = (nu : Numbers) → GoesBy w z nu → bound_node w (noted_tree n.kind) ≡ node_for nu n.home (noted_tree n.kind)
 
 -- a call that stands in the log
 pub record CallStands (z : Log) (home : Static) (at first : ℕ) : Type 0 where
@@ -124,7 +124,7 @@ module _ (w : Numbered) (z : Log) where
   name-met at x k b (function d ns ats t q) e f l h o = absurd (not_some _ f)
 
   name-read : (top at : ℕ) (x : List ℕ) (b : Option Binding) (m : Meaning) → b ≡ Some (binding_of (scoped_inputs w.scoped) x m) → name_fault at m ≡ None
-      → MeaningKnown w.numbering z.names z.functions Nothing m → (nu : Numbers) → Agrees nu z
+      → MeaningKnown w.numbering z.names z.functions Nothing m → (nu : Numbers) → Agrees nu z.names
       → node_by w.numbering b ≡ reference_row (scoped_inputs w.scoped) (reference_of nu top x (bare m))
   name-read top at x b free e f h nu a = ap (node_by w.numbering) e
   name-read top at x b (plain_name d t q) e f h nu a = ap (node_by w.numbering) e ∙ (λ j. Refer (sym (a _ (note d (forget q) h.kind) h.found) j) (h.depth j))
@@ -171,6 +171,7 @@ module _ (w : Numbered) (z : Log) where
     pub calls : EachRow (HasCallee w z) a.calls
     pub nodes : EachRow NodeMet a.nodes
     pub reads : EachRow (NodeRead w z) a.nodes
+    pub becomes : EachRow (NodeBecomes w z) a.nodes
 
 module _ (w : Numbered) (z : Log) (whole : IsWhole w z) where
   parameters-met : (k : Static) (ats : List ℕ) (l : Log) → AreMet w z l → AreMet w z (with_parameters k 0 ats l)
@@ -178,6 +179,7 @@ module _ (w : Numbered) (z : Log) (whole : IsWhole w z) where
     calls = subst (EachRow (HasCallee w z)) (sym (parameters-calls k 0 ats l)) m.calls;
     nodes = subst (EachRow (NodeMet w z)) (sym (parameters-nodes k 0 ats l)) m.nodes;
     reads = subst (EachRow (NodeRead w z)) (sym (parameters-nodes k 0 ats l)) m.reads;
+    becomes = subst (EachRow (NodeBecomes w z)) (sym (parameters-nodes k 0 ats l)) m.becomes;
   }
 
   mutual
@@ -186,7 +188,12 @@ module _ (w : Numbered) (z : Log) (whole : IsWhole w z) where
     tree-met k (form at f es) a h s i m =
         let r = trees-met k es a h s (before-form _ _ _ z i) m in
         let n : Note = note at (forget k) (piece (form at f es)) in
-        record { calls = r.calls; nodes = each-one (NodeMet w z) _ n r.nodes tt; reads = each-one (NodeRead w z) _ n r.reads tt }
+        record {
+          calls = r.calls;
+          nodes = each-one (NodeMet w z) _ n r.nodes tt;
+          reads = each-one (NodeRead w z) _ n r.reads tt;
+          becomes = each-one (NodeBecomes w z) _ n r.becomes (λ nu by. node-is w z whole nu by k (form at f es) a h s i);
+        }
     tree-met k (name at x) a h s i m =
         let fit = h (named at x k) (inl refl) in
         record {
@@ -194,6 +201,8 @@ module _ (w : Numbered) (z : Log) (whole : IsWhole w z) where
           nodes = each-one (NodeMet w z) a.nodes (note at (forget k) (piece (name at x))) m.nodes
               (name-met w z at x (forget k) (scoped_binding w.scoped at) (meaning x k) fit.0 fit.1 fit.2
               (meaning-known w.numbering z.names z.functions Nothing x k s) (meaning-outside x k));
+          becomes = each-one (NodeBecomes w z) a.nodes (note at (forget k) (piece (name at x))) m.becomes (λ nu by.
+              node-is w z whole nu by k (name at x) a h s i);
           reads = each-one (NodeRead w z) a.nodes (note at (forget k) (piece (name at x))) m.reads (λ nu agrees.
               name-read w z (level (forget k)) at x (scoped_binding w.scoped at) (meaning x k) fit.0 fit.1
               (meaning-known w.numbering z.names z.functions Nothing x k s) nu agrees
@@ -209,6 +218,7 @@ module _ (w : Numbered) (z : Log) (whole : IsWhole w z) where
         (meaning-known w.numbering z.names z.functions Nothing x k s) (meaning-outside x k) (meaning-bare x k) in
         record {
           calls = each-one (HasCallee w z) b.calls c r.calls callee;
+          becomes = each-one (NodeBecomes w z) b.nodes c r.becomes (λ nu by. node-is w z whole nu by k (call at x es) a h s i);
           reads = each-one (NodeRead w z) b.nodes c r.reads (callee.deep ∙ sym (ap (call_level (level (forget k))) callee.is));
           nodes = each-one (NodeMet w z) b.nodes c r.nodes
               (record { call = c; inside = j.calls c (in_right c b.calls (c ∷ []) (inl refl)); place = refl; first_is = refl; home_is = refl });
@@ -223,13 +233,14 @@ module _ (w : Numbered) (z : Log) (whole : IsWhole w z) where
         let known : Known w.numbering z.names z.functions Nothing q =
         (defs-known w z whole Nothing (forget q) (forget k) ds b on (no-rights w z whole (forget q) ds), s) in
         let first : AreMet w z b = tree-met q e u (fit-left w (sites q e) _ inside) known (within-then b _ z (within-defs (forget q) (forget k) ds b) on)
-        (record { calls = m.calls; nodes = m.nodes; reads = m.reads }) in
+        (record { calls = m.calls; nodes = m.nodes; reads = m.reads; becomes = m.becomes }) in
         let r = defs-met q k no_names ds b outside (fit-right w (sites q e) _ inside) known s known.0 on first in
         let n : Note = note at (forget k) (piece (block at e ds)) in
         record {
           calls = r.calls;
           nodes = one-or-none (NodeMet w z) (freezes ds) n _ tt r.nodes;
           reads = one-or-none (NodeRead w z) (freezes ds) n _ tt r.reads;
+          becomes = one-or-none (NodeBecomes w z) (freezes ds) n _ (λ nu by. node-is w z whole nu by k (block at e ds) a h s i) r.becomes;
         }
 
     trees-met : (k : Static) (es : PlainTrees) (a : Log) → AreFit w (sites_in k es) → Known w.numbering z.names z.functions Nothing k
@@ -252,7 +263,7 @@ module _ (w : Numbered) (z : Log) (whole : IsWhole w z) where
         let on : Within b z = within-then b _ z (within-defs (forget k) (forget q) ds b) i in
         let own = fit-right w (again_if (earlier x) at) _ h in
         let r = tree-met k e a (fit-left w (sites k e) _ own) s (within-then c b z (within-stand v c) on) m in
-        defs-met k q (also x earlier) ds b out (fit-right w (sites k e) _ own) s t d.1 i (record { calls = r.calls; nodes = r.nodes; reads = r.reads })
+        defs-met k q (also x earlier) ds b out (fit-right w (sites k e) _ own) s t d.1 i (record { calls = r.calls; nodes = r.nodes; reads = r.reads; becomes = r.becomes })
     defs-met k q earlier (defines_function at x ns ats e ds) a out h s t d i m =
         let v : Static = in_function at ns ats k in
         let f : FunctionStand = record { at = at; first = length a.names; names = ns; places = ats; right = e; home = forget k } in
@@ -263,9 +274,9 @@ module _ (w : Numbered) (z : Log) (whole : IsWhole w z) where
         let on : Within b z = within-then b _ z (within-defs (forget k) (forget q) ds b) i in
         let own = fit-right w (again_if (earlier x) at) _ h in
         let part = fit-right w (repeats no_names ns ats) (sites v e) (fit-left w _ (inside_sites k (also x earlier) ds) own) in
-        let before : AreMet w z c = parameters-met (forget v) ats u (record { calls = m.calls; nodes = m.nodes; reads = m.reads }) in
+        let before : AreMet w z c = parameters-met (forget v) ats u (record { calls = m.calls; nodes = m.nodes; reads = m.reads; becomes = m.becomes }) in
         let r = tree-met v e c part (function-known w z whole Nothing k at d.0.0 ns ats e d.0.1 s) (within-then l b z (within-function f l) on) before in
-        defs-met k q (also x earlier) ds b out (fit-right w _ (inside_sites k (also x earlier) ds) own) s t d.1 i (record { calls = r.calls; nodes = r.nodes; reads = r.reads })
+        defs-met k q (also x earlier) ds b out (fit-right w _ (inside_sites k (also x earlier) ds) own) s t d.1 i (record { calls = r.calls; nodes = r.nodes; reads = r.reads; becomes = r.becomes })
     defs-met k q earlier (defines_current at x e ds) a out h s t d i m =
         let v : Note = note at (forget k) (current_right e) in
         let c : Log = added (forget q) e a in
@@ -273,4 +284,4 @@ module _ (w : Numbered) (z : Log) (whole : IsWhole w z) where
         let on : Within b z = within-then b _ z (within-defs (forget k) (forget q) ds b) i in
         let r = tree-met q e a (fit-left w (sites q e) _ out) t (within-then c b z (within-stand v c) on) m in
         defs-met k q (also x earlier) ds b (fit-right w (sites q e) _ out) (fit-right w (again_if (earlier x) at) _ h) s t d.1 i
-        (record { calls = r.calls; nodes = r.nodes; reads = r.reads })
+        (record { calls = r.calls; nodes = r.nodes; reads = r.reads; becomes = r.becomes })

@@ -82,7 +82,7 @@ module _ (nu : Numbers) (so : Source) (p : Equations) (e : PlainTree) (c : Compi
   abbrev node_values : ℕ → NodePosition → (t s : ℕ) → Option PlainValue
   node_values m x t s = node_val p b m x.node x.context t s
 
-  value-same : (m : ℕ) (x : Position) (u s : ℕ) → Good nu so p x.env → Kept nu so p (static_of x.env) x.tree
+  pub value-same : (m : ℕ) (x : Position) (u s : ℕ) → Good nu so p x.env → Kept nu so p (static_of x.env) x.tree
       → node_values m (position_for nu x) u s ≡ tree_values m x u s
   value-same m x u s g k = sym (hval-same nu so p b (λ j r. None) (λ j r. None) (λ j r i. refl) m x.tree x.env u s g k)
 

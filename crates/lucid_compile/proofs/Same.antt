@@ -1,5 +1,5 @@
 -- The table that is compiled from a tree has its approximations, and visits what it visits.
-use Rattle.lucid_compile.proofs.Common.{◌≡◌, ℕ, zero, suc, ◌+◌, Bool, true, false, List, [], ◌∷◌, ◌++◌, map, Option, Some, None, refl, sym, ap, ◌∙◌, if◌then◌else◌, nat_le, ◌⊎◌, inl, inr, map-append, PlainValue, PlainTree, form, name, call, block, PlainTrees, no_trees, tree, PlainDefs, no_defs, defines, defines_function, defines_current, Look, Plan, gives, nothing, looks, plan, Reader, trace, gather, all_values, with_values, Env, empty, scope, args, frozen_at, Found, absent, plain_def, function_def, current_def, definition, param, Referent, Position, Aim, name_target, unless_param, call_target, element_of, goes_to, nowhere, Event, looked_up, referred, entered, Equations, Daton, NodePosition, NodeAim, reference_aim, call_aim, node_val, Context, root, meaning, freezes, level, Numbers, Source, call_level, node_for, nodes_for, static_of, context_for, daton_of, position_for, event_of, Kept, AllKept, Good, Compiles, run, or_else, value_at, node_value, eqval, context_of, node_walk, node_visits, visits}
+use Rattle.lucid_compile.proofs.Common.{◌≡◌, ℕ, zero, suc, ◌+◌, Bool, true, false, List, [], ◌∷◌, ◌++◌, map, Option, Some, None, refl, sym, ap, ◌∙◌, if◌then◌else◌, nat_le, ◌⊎◌, inl, inr, map-append, PlainValue, PlainTree, form, name, call, block, PlainTrees, no_trees, tree, PlainDefs, no_defs, defines, defines_function, defines_current, Look, Plan, gives, nothing, looks, plan, Reader, trace, gather, all_values, with_values, Env, empty, scope, args, frozen_at, Found, absent, plain_def, function_def, current_def, definition, param, Referent, Position, Aim, name_target, unless_param, call_target, element_of, goes_to, nowhere, Event, referred, entered, Equations, Daton, NodePosition, NodeAim, reference_aim, call_aim, node_val, Context, root, meaning, freezes, level, Numbers, Source, call_level, node_for, nodes_for, static_of, context_for, daton_of, position_for, event_of, Kept, AllKept, Good, Compiles, run, value_at, node_value, eqval, context_of, node_walk, node_visits, visits}
 use Rattle.lucid_tree.specs.Env.{called}
 use Rattle.lucid_tree.specs.Meaning as of_trees
 use Rattle.lucid_tree.specs.Demand as seen_of_trees

@@ -1,5 +1,5 @@
 -- Names in scope: what a name is bound to is what the tree's environments find, at the numbers and levels that the numbering has.
-use Rattle.lucid_compile.proofs.Common.{◌≡◌, ℕ, suc, ◌+◌, ◌<◌, Bool, true, false, if◌then◌else◌, length, List, [], Option, Some, None, get_or, slice_get, refl, sym, ap, ◌∙◌, position-Some, position_or_len, PlainTree, PlainDefs, no_defs, defines, defines_function, defines_current, Found, absent, plain_def, function_def, current_def, definition, param, same_name, Meaning, free, plain_name, parameter, current_name, function, meaning, defined_in, parameter_in, binding_of, name_fault, call_fault, Binding, in_body, level, Numbering, name_mark, function_mark, Note, Numbered, numbers_in, reference_by, callee_place, FunctionStand, input, refer, Kind, note}
+use Rattle.lucid_compile.proofs.Common.{◌≡◌, ℕ, suc, ◌+◌, ◌<◌, Bool, true, false, if◌then◌else◌, length, List, [], Option, Some, None, get_or, slice_get, refl, sym, ap, ◌∙◌, position-Some, position_or_len, PlainTree, PlainDefs, no_defs, defines, defines_function, defines_current, Found, absent, plain_def, function_def, current_def, definition, param, same_name, Meaning, free, plain_name, parameter, current_name, function, meaning, defined_in, parameter_in, binding_of, name_fault, call_fault, Binding, in_body, level, Numbering, name_mark, function_mark, Note, Numbered, reference_by, callee_place, FunctionStand, input, refer, Kind, note, Numbers}
 use Rattle.lucid_compile.specs.Static.{Static, outermost, in_block, in_function, reference_of}
 
 pub not_some : {A : Type 0} (x : A) → Some x ≡ None → ⊥
@@ -112,16 +112,23 @@ module _ (g : Numbering) (ns : List Note) (fs : List FunctionStand) (R : PlainTr
   meaning-known x (in_function d xs ats k) h =
       parameter-known (param x xs) d xs ats k (meaning x k) (λ i e. (position-Some (λ y. same_name x y) xs i [] e).0) h.0 h.1 (meaning-known x k h.2)
 
+-- numbers of names that go by a list of them
+abbrev pub Agrees : Numbers → List Note → Type 0
+Agrees nu ns = (i : ℕ) (s : Note) → slice_get ns i ≡ Some s → nu.name s.at ≡ i
+
 module _ (w : Numbered) (ns : List Note) (fs : List FunctionStand) (R : PlainTree → Static → Type 0) where
   -- a name whose meaning is known, and which is at no fault
   pub name-is : (top at : ℕ) (x : List ℕ) (inputs : List (List ℕ)) (b : Option Binding) (m : Meaning) → b ≡ Some (binding_of inputs x m)
       → name_fault at m ≡ None → (m ≡ free → get_or inputs (position_or_len (same_name x) inputs) [] ≡ x) → MeaningKnown w.numbering ns fs R m
-      → reference_by w.numbering inputs b ≡ reference_of (numbers_in w) top x (bare m)
-  name-is top at x inputs b free e f l k = ap (reference_by w.numbering inputs) e ∙ ap input (l refl)
-  name-is top at x inputs b (plain_name d t h) e f l k = ap (reference_by w.numbering inputs) e ∙ ap (refer (name_mark w.numbering d).number) k.depth
-  name-is top at x inputs b (parameter d i p h) e f l k = ap (reference_by w.numbering inputs) e ∙ (λ j. refer (sym k.0 j) (k.1 j))
-  name-is top at x inputs b (current_name d t h o) e f l k = ap (reference_by w.numbering inputs) e ∙ ap (refer (name_mark w.numbering d).number) k.depth
-  name-is top at x inputs b (function d xs ats t h) e f l k = absurd (not_some _ f)
+      → (nu : Numbers) → Agrees nu ns → reference_by w.numbering inputs b ≡ reference_of nu top x (bare m)
+  name-is top at x inputs b free e f l k nu a = ap (reference_by w.numbering inputs) e ∙ ap input (l refl)
+  name-is top at x inputs b (plain_name d t h) e f l k nu a =
+      ap (reference_by w.numbering inputs) e ∙ (λ j. refer (sym (a _ (note d (forget h) k.kind) k.found) j) (k.depth j))
+  name-is top at x inputs b (parameter d i p h) e f l k nu a =
+      ap (reference_by w.numbering inputs) e ∙ (λ j. refer ((sym k.0 ∙ sym (a _ (note p (forget h) k.2.kind) k.2.found)) j) (k.1 j))
+  name-is top at x inputs b (current_name d t h o) e f l k nu a =
+      ap (reference_by w.numbering inputs) e ∙ (λ j. refer (sym (a _ (note d (forget h) k.kind) k.found) j) (k.depth j))
+  name-is top at x inputs b (function d xs ats t h) e f l k nu a = absurd (not_some _ f)
 
   -- what is called
   pub record Calls (b : Option Binding) (m : Meaning) : Type 0 where

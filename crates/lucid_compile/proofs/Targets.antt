@@ -1,5 +1,5 @@
 -- What a reference goes on with, on trees and in the table.
-use Rattle.lucid_compile.proofs.Common.{◌≡◌, ℕ, zero, suc, ◌<◌, length, Bool, true, false, List, [], Option, Some, None, refl, get_or, if◌then◌else◌, option_map, position-Some, PlainTree, PlainTrees, no_trees, tree, PlainDefs, no_defs, defines, defines_function, defines_current, Env, empty, scope, args, Found, absent, plain_def, function_def, current_def, same_name, definition, param, Referent, tree_at, name_target, unless_param, call_target, Aim, element_of, goes_to, nowhere, Equations, plain_entry, current_entry, reference_aim, call_aim, NodeAim, Context, frames, cut, Meaning, meaning, defined_in, parameter_in, in_body, freezes, Numbers, Source, call_level, node_for, static_of, context_for, daton_of, position_for, HasRow, Parameters, Actuals, Callable, Kept, AllKept, DefsKept, Shape, Good, to_actual, in_scope, in_args, by_entry, name_aim, called_from, to_node}
+use Rattle.lucid_compile.proofs.Common.{◌≡◌, ℕ, zero, suc, ◌<◌, length, Bool, true, false, List, [], Option, Some, None, refl, get_or, if◌then◌else◌, option_map, position-Some, PlainTree, PlainTrees, no_trees, tree, PlainDefs, no_defs, defines, defines_function, defines_current, Env, empty, scope, args, Found, absent, plain_def, function_def, current_def, same_name, definition, param, Referent, tree_at, name_target, unless_param, call_target, Aim, element_of, goes_to, nowhere, Equations, plain_entry, current_entry, reference_aim, call_aim, NodeAim, Context, frames, cut, Meaning, meaning, defined_in, parameter_in, in_body, freezes, Numbers, Source, call_level, node_for, static_of, context_for, daton_of, position_for, HasRow, Parameters, Actuals, Callable, Kept, AllKept, DefsKept, Shape, Good, to_actual, in_scope, in_args, name_aim}
 use Rattle.lucid_tree.specs.Env.{called}
 use Rattle.lucid_equations.specs.Datons as of_nodes
 use Rattle.lucid_compile.specs.Static.{Static, in_block, reference_of}

@@ -23,7 +23,7 @@ use Rattle.lucid_compile.specs.Keys.{keys_of}
 use Rattle.lucid_compile.specs.Building.{Lists}
 use Rattle.lucid_compile.specs.Known.{IsKnown, NamesNothing}
 use Rattle.lucid_compile.specs.Noted.{OneForOne, IsNotedAt, AreNumbers, HasNumbers}
-use Rattle.lucid_compile.specs.Notes.{Note, node_place, noted_actuals}
+use Rattle.lucid_compile.specs.Notes.{Note, node_place, noted_tree, noted_actuals}
 use Rattle.lucid_compile.specs.Bound.{Numbered, bound_node, bound_nodes, bound_entry, name_node, call_node, Target, no_target, of_name, of_call, piece_target, FunctionStand, Log, added, added_all, added_defs}
 
 -- the nodes of the rows
@@ -118,6 +118,7 @@ pub record Holds (w : Numbered) (l : Lists) (g : Log) : Type 0 where
   pub functions : FunctionsHold w g.scopes (nodes_in w l) l.bodies g.functions
   pub keys : l.keys ≡ keys_of g
   pub numbers : HasNumbers l g
+  pub becomes : OneForOne (λ i x n. x ≡ bound_node w (noted_tree n.kind)) 0 (nodes_in w l) g.nodes
   pub parts : EachRow (NodeFits l.scopes l.nodes) l.nodes
   pub entries : EachRow (NameFits l.scopes l.nodes) l.names
   pub actuals : EachRow (PlaceFits l.nodes) l.places

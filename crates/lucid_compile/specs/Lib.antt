@@ -13,5 +13,6 @@ pub mod Noted
 pub mod Holds
 pub mod Steps
 pub mod Settled
+pub mod Meant
 pub mod Keys
 pub mod Linked

@@ -7,6 +7,8 @@ ghost use Rattle.lucid_compile.specs.Promise.{KeepsTree};
 ghost use Rattle.lucid_equations.specs.Sound.{IsSound, most_inputs};
 ghost use Rattle.lucid_equations.specs.Programs.{table_of as table_in, program_equations};
 ghost use Rattle.lucid_compile.specs.Settled.{table_of as settled};
+ghost use Rattle.lucid_compile.specs.Meant.{NodesMeanTheirPieces};
+ghost use Rattle.lucid_equations.specs.Rows.{node_at};
 ghost use Rattle.lucid_compile.specs.Static.{freezes};
 ghost use Rattle.lucid_compile.specs.Places.{first_place as place_of_first};
 ghost use Rattle.lucid_compile.specs.Bound.{Numbered};
@@ -303,6 +305,7 @@ fn copied(alloc: Global, names: &[Name]) -> Result<Vec<Name>, AllocError>
 /// 2^32 - 2 rows.
 pub fn compile(alloc: Global, scoped: &Scoped) -> Result<Program, AllocError>
     ensures exact { IfOk result (λ program. table_in program ≡ settled (scoped_tree scoped.now) (scoped_inputs scoped.now)) }
+    ensures means { IfOk result (λ program. NodesMeanTheirPieces (scoped_tree scoped.now) (program_equations program) (node_at (table_in program))) }
     ensures keeps { IfOk result (λ program. KeepsTree (program_equations program) (scoped_tree scoped.now)) }
     ensures sound { IfOk result (λ program. length (scoped_inputs scoped.now) ≤ most_inputs → IsSound (table_in program)) }
     ensures inputs { IfOk result (λ program. (table_in program).inputs ≡ scoped_inputs scoped.now) }

@@ -1,4 +1,6 @@
 use Rattle.lucid_compile.proofs.Common.{◌≡◌, ◌≤◌, length, arith, true, false, Option, Some, None, ap, sym, ◌∙◌, subst, AllDiffer, scoped_tree, scoped_inputs, Table, IsInRange, equations_of, IsSound, lists, Numbered, KeepsTree, ◌↔◌, is_some, IfSome, Program, table_of}
+use Rattle.lucid_equations.specs.Rows.{node_at}
+use Rattle.lucid_compile.specs.Meant.{NodesMeanTheirPieces}
 use Rattle.lucid_compile.proofs.Final.{IsMade, keys-apart, table-made}
 use Rattle.lucid_compile.proofs.compiler.compile.Goals as goal
 
@@ -46,6 +48,7 @@ returns c =
     → IsSound t = λ few. made.sound (subst AllDiffer (sym names) c.inputs.ensures.differ) (omega (arith, ap length names, few)) in
     record {
       exact = same ∙ made.exact;
+      means = subst (λ t. NodesMeanTheirPieces (scoped_tree c.args.scoped.now) (equations_of t) (node_at t)) (sym same) made.means;
       keeps = subst (λ t. KeepsTree (equations_of t) (scoped_tree c.args.scoped.now)) (sym same) made.keeps;
       sound = subst (λ t. length (scoped_inputs c.args.scoped.now) ≤ 1048576 → IsSound t) (sym same) sound;
       inputs = ap (λ (x : Table). x.inputs) same ∙ names;
