@@ -43,3 +43,4 @@ pub mod Waiting
 pub mod Noticed
 pub mod Exact
 pub mod Meant
+pub mod Traced

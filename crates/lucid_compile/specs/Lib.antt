@@ -14,5 +14,6 @@ pub mod Holds
 pub mod Steps
 pub mod Settled
 pub mod Meant
+pub mod Origins
 pub mod Keys
 pub mod Linked

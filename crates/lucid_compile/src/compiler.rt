@@ -160,7 +160,7 @@ fn add_call(
 }
 
 // Whether a block has a current definition, and so a frame.
-fn has_frame(defs: &Defs) -> bool
+pub(crate) fn has_frame(defs: &Defs) -> bool
     ensures { result ≡ freezes defs.now }
 {
     let items = defs.items();

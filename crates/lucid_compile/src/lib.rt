@@ -2,6 +2,7 @@
 #![tactic(auto)]
 
 pub use crate::compiler::compile;
+pub use crate::tracing::{Origins, find_origins};
 
 mod building;
 mod compiler;
@@ -9,3 +10,4 @@ mod forms;
 pub mod laws;
 mod linking;
 mod numbering;
+mod tracing;
