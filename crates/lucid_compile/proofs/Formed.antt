@@ -1,6 +1,12 @@
 -- The node of a form is this form of its parts.
 use Rattle.lucid_compile.proofs.Common.{◌≡◌, ℕ, ◌≤◌, IsTrue, List, [], ◌∷◌, length, take, drop, get_or, refl, sym, ap, ◌∙◌, subst, arith, Head, const, PlainTrees, count, FitsHead, fits_arity, row, all_at, node_of, IsForm, apply, arity, AreZero}
 use Rattle.lucid_ops.proofs.OperatorRows.{arity_few as few}
+use Rattle.lucid_streams.specs.declared.form.Form.{Form}
+use Rattle.lucid_streams.specs.Forms.{part_count}
+use Rattle.lucid_streams.specs.declared.form.Form.TheVariants as forms
+use Rattle.lucid_streams.proofs.FormRows.{few as few-parts}
+use Rattle.lucid_tree.specs.Tree.{stream}
+use Rattle.lucid_equations.specs.Rows.{made}
 use Rattle.lucid_compile.proofs.Shapes.{as_many}
 
 -- the three numbers of a node: those that are there, and 0 past them
@@ -26,6 +32,11 @@ abbrev pub HasParts : Head → Type 0
 HasParts (const v) = ⊥
 HasParts _ = Unit {0}
 
+-- the node that is made of a form over streams is this form of its parts
+made-is : (f : Form) (a b c : ℕ) → IsForm (stream f) (take (part_count f) (a ∷ b ∷ c ∷ [])) (made f a b c)
+made-is forms.If a b c = record { means = λ vs ns ts. refl; known = λ n. tt; parts_are = refl; alone = tt; own = tt; filled = tt }
+made-is _ a b c = record { means = λ vs ns ts. refl; known = λ n. tt; parts_are = refl; alone = tt; own = tt; filled = tt }
+
 pub is-form : (f : Head) (es : PlainTrees) (ids : List ℕ) → HasParts f → FitsHead f (count es) → length ids ≡ count es → IsTrue (fits_arity f es)
     → IsForm f ids (node_of f (get_or ids 0 0) (get_or ids 1 0) (get_or ids 2 0))
 is-form (const v) es ids x h e t = absurd x
@@ -42,7 +53,7 @@ is-form (apply op n) es ids x h e t =
       own = tt;
       filled = subst (λ z. AreZero (drop z (three ids))) fits (rest-zero ids within);
     }
-is-form f es ids x h e t =
-    subst (λ l. IsForm f l (node_of f (get_or ids 0 0) (get_or ids 1 0) (get_or ids 2 0))) (front-is ids (omega (arith, e, h)))
-    (subst (λ n. IsForm f (take n (three ids)) (node_of f (get_or ids 0 0) (get_or ids 1 0) (get_or ids 2 0))) (sym (e ∙ h))
-    (record { means = λ vs ns ts. refl; known = λ n. tt; parts_are = refl; alone = tt; own = tt; filled = tt }))
+is-form (stream f) es ids x h e t =
+    subst (λ l. IsForm (stream f) l (made f (get_or ids 0 0) (get_or ids 1 0) (get_or ids 2 0))) (front-is ids (omega (arith, e, h, (few-parts f).1)))
+    (subst (λ n. IsForm (stream f) (take n (three ids)) (made f (get_or ids 0 0) (get_or ids 1 0) (get_or ids 2 0))) (sym (e ∙ h))
+    (made-is f (get_or ids 0 0) (get_or ids 1 0) (get_or ids 2 0)))

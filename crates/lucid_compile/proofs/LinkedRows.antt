@@ -1,5 +1,7 @@
 -- Rows with numbers for places, one by one and in lists.
 use Rattle.lucid_compile.proofs.Common.{◌≡◌, ℕ, zero, suc, ◌+◌, ◌<◌, length, List, [], ◌∷◌, ◌++◌, map, take, drop, get_or, refl, sym, ap, ◌∙◌, arith, map-append, length-map, Head, const, ScopeRow, NodeRow, PlaceRow, Key, Numbered, with_call_key, Lists, with_place, OneScope, OneNode, node_of, HasFirst, linked_node, linked_row, linked_place, link, slice_set}
+use Rattle.lucid_streams.specs.declared.form.Form.TheVariants as forms
+use Rattle.lucid_tree.specs.Tree.{stream}
 
 -- the item at an index, where those before it were overwritten
 get-over : {A : Type 0} (f : A → A) (xs : List A) (i : ℕ) (d : A) → i < length xs → get_or (map f (take i xs) ++ drop i xs) i d ≡ get_or xs i d
@@ -24,6 +26,7 @@ over-more f xs ys i y d is within made =
 -- the node of a form has no places
 pub form-linked : (w : Numbered) (f : Head) (a b c : ℕ) → linked_node w (node_of f a b c) ≡ node_of f a b c
 form-linked w (const v) a b c = refl
+form-linked w (stream forms.If) a b c = refl
 form-linked w f a b c = refl
 
 module _ (w : Numbered) (o n : Lists) where

@@ -1,12 +1,12 @@
 -- What the node of a form is.
 use Rattle.std.specs.Prelude.{◌≡◌, ℕ, List, [], ◌∷◌, get_or}
 use Rattle.lucid_value.specs.Plain.{PlainValue}
-use Rattle.lucid_tree.specs.Tree.{Head, const, apply, choose, both, either, first, next, fby, whenever, asa, upon, attime, initial, succ, sby, atspace}
+use Rattle.lucid_tree.specs.Tree.{Head, const, apply, stream}
 use Rattle.lucid_equations.specs.Nodes.{PlainNode, row}
-use Rattle.lucid_equations.specs.Rows.{all_at, parts, as_node}
+use Rattle.lucid_equations.specs.Rows.{all_at, made, parts, as_node}
 use Rattle.lucid_equations.specs.Sound.{IsFilled}
 use Rattle.lucid_equations.specs.declared.rows.Node.{Node}
-use Rattle.lucid_equations.specs.declared.rows.Node.TheVariants.{Const, Apply, If, And, Or, First, Next, Fby, Whenever, Asa, Upon, Attime, Initial, Succ, Sby, Atspace, Freeze}
+use Rattle.lucid_equations.specs.declared.rows.Node.TheVariants.{Const, Apply, Freeze}
 use Rattle.lucid_compile.specs.Building.{Lists, OneConstant}
 use Rattle.lucid_compile.specs.Known.{IsKnown, NamesNothing}
 
@@ -14,20 +14,7 @@ use Rattle.lucid_compile.specs.Known.{IsKnown, NamesNothing}
 abbrev pub node_of : Head → (a b c : ℕ) → Node
 node_of (const v) a b c = Const a
 node_of (apply op n) a b c = Apply op (a ∷ b ∷ c ∷ [])
-node_of choose a b c = If a b c
-node_of both a b c = And a b
-node_of either a b c = Or a b
-node_of first a b c = First a
-node_of next a b c = Next a
-node_of fby a b c = Fby a b
-node_of whenever a b c = Whenever a b
-node_of asa a b c = Asa a b
-node_of upon a b c = Upon a b
-node_of attime a b c = Attime a b
-node_of initial a b c = Initial a
-node_of succ a b c = Succ a
-node_of sby a b c = Sby a b
-node_of atspace a b c = Atspace a b
+node_of (stream f) a b c = made f a b c
 
 -- the first number in the node of a form: of a constant its own, which is then kept; else that of the first part
 abbrev pub HasFirst : (o n : Lists) → Head → (ids : List ℕ) → (number : ℕ) → Type 0

@@ -1,7 +1,10 @@
 -- The references of a judged program as a graph: its nodes are the plain names, and its edges have delays. The test of cycles by sums
 -- of delays is this language's own.
 use Rattle.std.specs.Prelude.{ℕ, max, List, [], ◌∷◌, ◌++◌, map, count_by, nat_lt, Option, Some, None, option_map, ℤ, pos, ◌+ℤ◌, ◌-ℤ◌}
-use Rattle.lucid_tree.specs.Tree.{Head, first, next, fby, PlainTree, form, name, call, block, PlainTrees, no_trees, tree, PlainDefs, no_defs, defines, defines_function, defines_current}
+use Rattle.lucid_streams.specs.declared.form.Delay.{Delay}
+use Rattle.lucid_streams.specs.Forms.{form_row}
+use Rattle.lucid_streams.specs.declared.form.Delay.TheVariants.{Zero, Less, More}
+use Rattle.lucid_tree.specs.Tree.{Head, stream, PlainTree, form, name, call, block, PlainTrees, no_trees, tree, PlainDefs, no_defs, defines, defines_function, defines_current}
 use Rattle.lucid_scope.specs.declared.scoped.Binding.{Binding}
 use Rattle.lucid_scope.specs.declared.scoped.Binding.TheVariants.{Plain}
 use Rattle.lucid_cycles.specs.declared.edge.Edge.{Edge}
@@ -16,16 +19,24 @@ abbrev pub edge_to : (from : Option ℕ) → (delay : ℤ) → Option Binding �
 edge_to x w (Some (Plain d)) = record { from = x; to = d; delay = w } ∷ []
 edge_to x w _ = []
 
--- The delay at which the first part of a form is met, where the form is met at w, and that at which its later parts are: it becomes 0 in
--- `first`, falls by 1 in `next`, and rises by 1 in the right part of `fby`.
+-- The delay at which the first part of a form is met, where the form is met at w, and that at which its later parts are, as its row says: it
+-- becomes 0 in `first`, falls by 1 in `next`, and rises by 1 in the right part of `fby`.
+abbrev pub first_by : Delay → ℤ → ℤ
+first_by Zero w = pos 0
+first_by Less w = w -ℤ pos 1
+first_by _ w = w
+
+abbrev pub later_by : Delay → ℤ → ℤ
+later_by More w = w +ℤ pos 1
+later_by d w = first_by d w
+
 abbrev pub first_delay : Head → ℤ → ℤ
-first_delay first w = pos 0
-first_delay next w = w -ℤ pos 1
+first_delay (stream f) w = first_by (form_row f).delay w
 first_delay _ w = w
 
 abbrev pub later_delay : Head → ℤ → ℤ
-later_delay fby w = w +ℤ pos 1
-later_delay f w = first_delay f w
+later_delay (stream f) w = later_by (form_row f).delay w
+later_delay _ w = w
 
 -- The edges of a tree's references, names being told by the places of their definitions. An edge goes from the name in whose right
 -- side the reference stands, or from the program (none) where it stands in no right side; a block's subject belongs to what the block

@@ -12,6 +12,7 @@ ghost use Rattle.lucid_cycles.specs.Walks.{Marks, Goes, marked, own_marks, marks
 
 use crate::edge::Edge;
 use lucid_scope::{Binding, Scoped};
+use lucid_streams::Delay;
 use lucid_tree::{Def, DefKind, Definitions, Head, Parts, Shape, Tree};
 use lucid_value::Name;
 
@@ -44,9 +45,11 @@ fn is_judged(head: Head<'_>) -> bool
     ensures { result ≡ is_judged (head_of head.entry) }
 {
     match head {
-        Head::Const(_) | Head::Apply { .. } | Head::Choose | Head::Both => true,
-        Head::Either | Head::First | Head::Next | Head::Fby => true,
-        _ => false,
+        Head::Const(_) | Head::Apply { .. } => true,
+        Head::Stream(form) => match form.delay() {
+            Delay::Unjudged => false,
+            _ => true,
+        },
     }
 }
 
@@ -57,10 +60,13 @@ fn delays(head: Head<'_>, delay: i64) -> (i64, i64)
     ensures later { result.1 ≡ later_delay (head_of head.entry) delay }
 {
     match head {
-        Head::First => (0, 0),
-        Head::Next => (delay - 1, delay - 1),
-        Head::Fby => (delay, delay + 1),
-        _ => (delay, delay),
+        Head::Const(_) | Head::Apply { .. } => (delay, delay),
+        Head::Stream(form) => match form.delay() {
+            Delay::Zero => (0, 0),
+            Delay::Less => (delay - 1, delay - 1),
+            Delay::More => (delay, delay + 1),
+            Delay::Same | Delay::Unjudged => (delay, delay),
+        },
     }
 }
 

@@ -15,6 +15,7 @@ pub mod Looked
 pub mod Reached
 pub mod Needs
 pub mod FormNeeds
+pub mod Formed
 pub mod ByStep
 pub mod VisitsGrow
 mod Names

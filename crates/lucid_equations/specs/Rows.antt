@@ -1,12 +1,16 @@
 -- What a table's rows are: nodes as trees of nodes, in order, each by those before it; and the equations of a table.
-use Rattle.std.specs.Prelude.{ℕ, List, [], ◌∷◌, ◌++◌, take, Option, Some, None, get_or, slice_get}
+use Rattle.std.specs.Prelude.{◌≡◌, ℕ, List, [], ◌∷◌, ◌++◌, take, Option, Some, None, get_or, slice_get}
 use Rattle.std.specs.Option.{option_map, option_and_then}
 use Rattle.lucid_value.specs.Plain.{PlainValue, fault}
 use Rattle.lucid_ops.specs.Arity.{arity}
-use Rattle.lucid_tree.specs.Tree.{const, apply, choose, both, either, first, next, fby, whenever, asa, upon, attime, initial, succ, sby, atspace}
+use Rattle.lucid_streams.specs.declared.form.Form.{Form}
+use Rattle.lucid_streams.specs.Forms.{form_row, part_count}
+use Rattle.lucid_streams.specs.declared.form.Form.TheVariants as forms
+use Rattle.lucid_tree.specs.Tree.{const, apply, stream}
 use Rattle.lucid_equations.specs.Nodes.{PlainNode, row, freeze, reference, invoke, PlainNodes, no_nodes, node, PlainEntry, plain_entry, called_entry, current_entry, parameter_entry, input, refer, Equations}
 use Rattle.lucid_equations.specs.declared.rows.Node.{Node}
-use Rattle.lucid_equations.specs.declared.rows.Node.TheVariants.{Const, Input, Apply, If, And, Or, First, Next, Fby, Whenever, Asa, Upon, Attime, Initial, Succ, Sby, Atspace, Freeze, Refer, Call}
+use Rattle.lucid_equations.specs.declared.rows.Node.TheVariants as rows
+use Rattle.lucid_equations.specs.declared.rows.Node.TheVariants.{Const, Input, Apply, Freeze, Refer, Call}
 use Rattle.lucid_equations.specs.declared.rows.Entry.{Entry}
 use Rattle.lucid_equations.specs.declared.rows.Entry.TheVariants.{Plain, Parameter, Current, Called}
 use Rattle.lucid_equations.specs.declared.rows.NodeRow.{NodeRow}
@@ -15,7 +19,7 @@ use Rattle.lucid_equations.specs.declared.table.Table.{Table}
 
 -- where no number leads
 abbrev pub no_node : PlainNode
-no_node = row choose no_nodes
+no_node = row (stream forms.If) no_nodes
 
 -- the nodes at some numbers
 abbrev pub at : List PlainNode → ℕ → PlainNode
@@ -25,51 +29,76 @@ abbrev pub all_at : List PlainNode → List ℕ → PlainNodes
 all_at ts [] = no_nodes
 all_at ts (i ∷ is) = node (at ts i) (all_at ts is)
 
--- the parts of a node, by their numbers; a subject and a reference are no parts
+-- a form over streams with its parts, by their numbers, where the node is one
+abbrev pub read : Node → Option (Form × List ℕ)
+read (rows.If a b c) = Some (forms.If, a ∷ b ∷ c ∷ [])
+read (rows.And a b) = Some (forms.And, a ∷ b ∷ [])
+read (rows.Or a b) = Some (forms.Or, a ∷ b ∷ [])
+read (rows.First a) = Some (forms.First, a ∷ [])
+read (rows.Next a) = Some (forms.Next, a ∷ [])
+read (rows.Fby a b) = Some (forms.Fby, a ∷ b ∷ [])
+read (rows.Whenever a b) = Some (forms.Whenever, a ∷ b ∷ [])
+read (rows.Asa a b) = Some (forms.Asa, a ∷ b ∷ [])
+read (rows.Upon a b) = Some (forms.Upon, a ∷ b ∷ [])
+read (rows.Attime a b) = Some (forms.Attime, a ∷ b ∷ [])
+read (rows.Initial a) = Some (forms.Initial, a ∷ [])
+read (rows.Succ a) = Some (forms.Succ, a ∷ [])
+read (rows.Sby a b) = Some (forms.Sby, a ∷ b ∷ [])
+read (rows.Atspace a b) = Some (forms.Atspace, a ∷ b ∷ [])
+read _ = None
+
+-- and back: the node of a form with these numbers, of which those past its parts aren't read
+abbrev pub made : Form → (a b c : ℕ) → Node
+made forms.If a b c = rows.If a b c
+made forms.And a b c = rows.And a b
+made forms.Or a b c = rows.Or a b
+made forms.First a b c = rows.First a
+made forms.Next a b c = rows.Next a
+made forms.Fby a b c = rows.Fby a b
+made forms.Whenever a b c = rows.Whenever a b
+made forms.Asa a b c = rows.Asa a b
+made forms.Upon a b c = rows.Upon a b
+made forms.Attime a b c = rows.Attime a b
+made forms.Initial a b c = rows.Initial a
+made forms.Succ a b c = rows.Succ a
+made forms.Sby a b c = rows.Sby a b
+made forms.Atspace a b c = rows.Atspace a b
+
+-- What is read of the node that is made of a form is the form with its parts, and the node that is made of what is read is the node.
+abbrev pub MadeIsRead : Type 0
+MadeIsRead = (f : Form) (a b c : ℕ) → read (made f a b c) ≡ Some (f, take (part_count f) (a ∷ b ∷ c ∷ []))
+
+abbrev pub ReadIsMade : Type 0
+ReadIsMade = (n : Node) (f : Form) (is : List ℕ) → read n ≡ Some (f, is) → made f (get_or is 0 0) (get_or is 1 0) (get_or is 2 0) ≡ n
+
+-- the word of the form that was read; none where none was
+abbrev pub read_word : Option (Form × List ℕ) → List ℕ
+read_word None = []
+read_word (Some p) = (form_row p.0).spelling
+
+-- the parts of a node, by their numbers; a reference has none
+abbrev pub parts_read : Option (Form × List ℕ) → List ℕ
+parts_read None = []
+parts_read (Some p) = p.1
+
 abbrev pub parts : Node → List ℕ
-parts (Const k) = []
-parts (Input k) = []
 parts (Apply op args) = take (arity op) args
-parts (If a b c) = a ∷ b ∷ c ∷ []
-parts (And a b) = a ∷ b ∷ []
-parts (Or a b) = a ∷ b ∷ []
-parts (First a) = a ∷ []
-parts (Next a) = a ∷ []
-parts (Fby a b) = a ∷ b ∷ []
-parts (Whenever a b) = a ∷ b ∷ []
-parts (Asa a b) = a ∷ b ∷ []
-parts (Upon a b) = a ∷ b ∷ []
-parts (Attime a b) = a ∷ b ∷ []
-parts (Initial a) = a ∷ []
-parts (Succ a) = a ∷ []
-parts (Sby a b) = a ∷ b ∷ []
-parts (Atspace a b) = a ∷ b ∷ []
 parts (Freeze a) = a ∷ []
-parts (Refer n l) = []
-parts (Call n q l) = []
+parts n = parts_read (read n)
 
 -- a row as a node, by constants, inputs and the nodes at its parts' numbers
+abbrev pub form_node : List PlainNode → Option (Form × List ℕ) → PlainNode
+form_node ts None = no_node
+form_node ts (Some p) = row (stream p.0) (all_at ts p.1)
+
 abbrev pub as_node : List PlainValue → List (List ℕ) → List PlainNode → Node → PlainNode
 as_node vs ns ts (Const k) = row (const (get_or vs k fault)) no_nodes
 as_node vs ns ts (Input k) = reference (input (get_or ns k []))
 as_node vs ns ts (Apply op args) = row (apply op (arity op)) (all_at ts (take (arity op) args))
-as_node vs ns ts (If a b c) = row choose (all_at ts (a ∷ b ∷ c ∷ []))
-as_node vs ns ts (And a b) = row both (all_at ts (a ∷ b ∷ []))
-as_node vs ns ts (Or a b) = row either (all_at ts (a ∷ b ∷ []))
-as_node vs ns ts (First a) = row first (all_at ts (a ∷ []))
-as_node vs ns ts (Next a) = row next (all_at ts (a ∷ []))
-as_node vs ns ts (Fby a b) = row fby (all_at ts (a ∷ b ∷ []))
-as_node vs ns ts (Whenever a b) = row whenever (all_at ts (a ∷ b ∷ []))
-as_node vs ns ts (Asa a b) = row asa (all_at ts (a ∷ b ∷ []))
-as_node vs ns ts (Upon a b) = row upon (all_at ts (a ∷ b ∷ []))
-as_node vs ns ts (Attime a b) = row attime (all_at ts (a ∷ b ∷ []))
-as_node vs ns ts (Initial a) = row initial (all_at ts (a ∷ []))
-as_node vs ns ts (Succ a) = row succ (all_at ts (a ∷ []))
-as_node vs ns ts (Sby a b) = row sby (all_at ts (a ∷ b ∷ []))
-as_node vs ns ts (Atspace a b) = row atspace (all_at ts (a ∷ b ∷ []))
 as_node vs ns ts (Freeze a) = freeze (at ts a)
 as_node vs ns ts (Refer n l) = reference (refer n l)
 as_node vs ns ts (Call n q l) = invoke n q l
+as_node vs ns ts n = form_node ts (read n)
 
 -- the rows in order, each by the nodes before it
 abbrev pub grow : List PlainValue → List (List ℕ) → List PlainNode → List NodeRow → List PlainNode

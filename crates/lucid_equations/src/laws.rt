@@ -4,6 +4,7 @@ ghost use Rattle.lucid_equations.specs.MoreElements.{MoreElementsKeepValues, Mor
 ghost use Rattle.lucid_equations.specs.Moving.{SixFormsOnlyMove, MovingKeepsValues, MovingVisitsTheSame, MovingNeedsTheSame, FreezingKeepsValues, FreezingEnters, FreezingNeedsTheSame};
 ghost use Rattle.lucid_equations.specs.Needs.{VisitedDatonsHaveValues, VisitedIsNeeded, NeedsOfDatonsAreNeeded, ReferencesHaveValues, ElementsHaveValues, NowhereHasNoValue, ReferencesVisit, ElementsAreLookedUp, ReferencesNeedNoMore, ReferencesNeedAll};
 ghost use Rattle.lucid_equations.specs.Parts.{PartsAreReadByNumber, PartsAreVisitedByNumber, LooksAreVisited, FormsNeedWhatLooksNeed};
+ghost use Rattle.lucid_equations.specs.Rows.{MadeIsRead, ReadIsMade};
 ghost use Rattle.lucid_equations.specs.RowParts.{RowsAreTheirNodes, PartsAreLower, PartsAreTheirNodes, PartsReadTheirNodes, PartsVisitTheirNodes};
 ghost use Rattle.lucid_equations.specs.NumberAims.{NodesGoByNumbers, DatonsGoByNumbers, AimsLeadToNodes};
 ghost use Rattle.lucid_equations.specs.Looks.{PartsNeverLose, PartsNeverDiffer, NextLooksAreVisited, NextLooksAreVisitedFromSomeOn, NeedsAreOfTheWay};
@@ -139,4 +140,11 @@ pub fn aims_go_by_numbers()
     ensures nodes { NodesGoByNumbers }
     ensures datons { DatonsGoByNumbers }
     ensures lead { AimsLeadToNodes }
+{}
+
+/// What is read of the node that is made of a form is the form with its parts, and the node that is made of what is read is the node.
+#[tactic(auto, using(crate::proofs::Formed::made_is_read, crate::proofs::Formed::read_is_made))]
+pub fn forms_are_read_as_made()
+    ensures read { MadeIsRead }
+    ensures made { ReadIsMade }
 {}

@@ -1,5 +1,5 @@
 -- What a call makes of the rows that have tags, it makes of the plain rows.
-use Rattle.lucid_facts.proofs.Common.{◌≡◌, ℕ, List, Option, Some, None, refl, ap, ◌∙◌, Value, plain, Context, Key, Part, Task, Cursor, TaskRow, Idle, Asked, Got, PlainRow, got, all_idle, new_row, plain_task, plain_key, plain_state, plain_row, plain_rows, with_part, at_cursor, given_to, SetsRow, ChangesRow, AsksRow, SettlesRow, map-set}
+use Rattle.lucid_facts.proofs.Common.{◌≡◌, ℕ, List, Option, Some, None, refl, ap, ◌∙◌, Value, plain, Context, Key, Part, Task, Cursor, TaskRow, Asked, Got, PlainRow, got, all_idle, new_row, plain_task, plain_key, plain_state, plain_row, plain_rows, with_part, at_cursor, given_to, SetsRow, ChangesRow, AsksRow, SettlesRow, map-set}
 use Rattle.std.proofs.Common.{◌==◌, Bool, true, false}
 use Rattle.std.specs.Prelude.{◌≢◌, if◌then◌else◌, option_map, option_and_then}
 use Rattle.lucid_tasks.specs.Rows as rows

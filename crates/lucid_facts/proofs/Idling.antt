@@ -1,5 +1,6 @@
 -- Which parts of a row that waits for none are idle.
 use Rattle.lucid_facts.proofs.Common.{◌≡◌, ℕ, zero, suc, ◌<◌, List, [], ◌∷◌, Some, None, refl, sym, ap, ◌∙◌, subst, arith, list_all, PlainValue, Head, const, Elements, Look, row, PlainNodes, Table, PlainTask, PlainRow, PartState, idle, asked, got, is_free, waits_for_none, all_idle, state_at, value_in, value_of_part, node_of, look_of_row, IsPart, part_by_look, part_by_reference, Holding, is_search, Demand, table_of, RowFacts, and_parts}
+use Rattle.lucid_tree.specs.Tree.{choose}
 use Rattle.std.proofs.Common.{length}
 use Rattle.std.specs.Prelude.{true}
 
@@ -25,6 +26,7 @@ one-form f g es gs e = cc
 -- a search has no look but at its parts 0 and 1
 no_third : (f : Head) (r : PlainRow) (l : Look) → is_search f ≡ true → look_of_row f r 2 ≡ Some l → ⊥
 no_third (const v) r l s e = absurd (cc)
+no_third choose r l s e = absurd (cc)
 no_third _ r l s e = absurd (cc)
 
 no_third_part : (T : Table) (r : PlainRow) (f : Head) (es : PlainNodes) (j : ℕ) (x : PlainTask) → node_of T r.task ≡ row f es → is_search f ≡ true → j ≡ 2

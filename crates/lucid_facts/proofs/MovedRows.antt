@@ -1,5 +1,5 @@
 -- What only moves the point, by the row that a table has for the node.
-use Rattle.lucid_facts.proofs.Common.{◌≡◌, ℕ, zero, suc, ◌<◌, ◌≤◌, ◌-◌, Option, Some, None, refl, sym, ap, ◌∙◌, arith, nat_tests, frozen_frame, PlainNode, row, freeze, reference, invoke, Onward, onward, node_by, parts, Node, Freeze, Table, PlainTask, node_of, moved, moved_by}
+use Rattle.lucid_facts.proofs.Common.{◌≡◌, ℕ, zero, suc, ◌<◌, ◌≤◌, Option, Some, None, refl, sym, ap, ◌∙◌, arith, nat_tests, frozen_frame, PlainNode, row, freeze, reference, invoke, Onward, onward, node_by, parts, Node, Freeze, Table, PlainTask, node_of, moved, moved_by}
 use Rattle.std.proofs.Common.{Bool, true, false, if◌then◌else◌, nat_lt, option_map, option_and_then, slice_get}
 use Rattle.lucid_tree.specs.Rows.{last}
 use Rattle.lucid_equations.specs.Rows.{row_at}

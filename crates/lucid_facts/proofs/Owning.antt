@@ -1,6 +1,6 @@
 -- What is true of all that is owned stays true at each change that a step makes: a value is put, values are dropped, a search's position
 -- is noted, contexts become known.
-use Rattle.lucid_facts.proofs.Common.{◌≡◌, ℕ, ◌+◌, ◌≤◌, List, [], ◌∷◌, ◌++◌, Option, Some, None, ◌⊎◌, refl, sym, subst, arith, le_refl, IsTrue, PlainValue, plain, Value, In, Head, Elements, Context, IsKnown, IsOneForOne, KeepsKnown, space_of, Tag, Key, Stored, held, count_of, SetsOnly, fresh, Noted, number_at, NotesOrMisses, World, PlainNodes, row, DatonAt, PlainRow, plain_key, node_of, held_in, AreKeysKnown, is_search, key_noted, EngineView, holding, MayHave, GoesOn, HoldsFew, Demand, table_of, IsEntered, MayPut, RowFacts, StockFacts, Daton, PutsDaton, IsDemand, Owns, WithinRoom}
+use Rattle.lucid_facts.proofs.Common.{◌≡◌, ℕ, ◌+◌, ◌≤◌, List, Option, Some, None, ◌⊎◌, refl, sym, subst, arith, le_refl, IsTrue, PlainValue, plain, Value, In, Head, Elements, Context, IsKnown, IsOneForOne, KeepsKnown, space_of, Tag, Key, Stored, held, count_of, SetsOnly, fresh, Noted, number_at, NotesOrMisses, World, PlainNodes, row, DatonAt, PlainRow, plain_key, node_of, held_in, AreKeysKnown, is_search, key_noted, EngineView, holding, MayHave, GoesOn, HoldsFew, Demand, table_of, IsEntered, MayPut, RowFacts, StockFacts, Daton, PutsDaton, IsDemand, Owns, WithinRoom}
 use Rattle.std.proofs.Common.{true}
 use Rattle.lucid_tags.specs.Known.{context_of}
 use Rattle.lucid_facts.proofs.HeldByKey.{held_drops, held_stays, held_as_tags_grow, put_by_key}

@@ -1,5 +1,6 @@
 -- A task of a row's part stays that of the part, whatever other part gets a value or is asked.
 use Rattle.lucid_facts.proofs.Common.{◌≡◌, ℕ, zero, suc, List, [], ◌∷◌, Option, Some, None, refl, sym, ap, ◌∙◌, subst, slice_set, PlainValue, Head, const, Look, Cursor, Table, PlainTask, PlainRow, PartState, idle, asked, got, state_at, value_in, value_of_part, look_of_row, IsPart, part_by_look, part_by_reference, with_part}
+use Rattle.lucid_tree.specs.Tree.{choose}
 use Rattle.lucid_facts.specs.Parts.{look_of}
 
 -- a write at a part that has no value leaves each value where it was
@@ -19,8 +20,10 @@ kept_at (p ∷ ps) (suc i) (suc k) y v n e = kept_at ps i k y v n e
 -- a look that is there without a value of part 1 is there with any
 any_place : (i : ℕ) (f : Head) (c : Cursor) (p : Option PlainValue) (t s : ℕ) (l : Look) → look_of f c None t s i ≡ Some l → look_of f c p t s i ≡ Some l
 any_place zero (const v) c p t s l e = e
+any_place zero choose c p t s l e = e
 any_place zero f c p t s l e = cc
 any_place (suc i) (const v) c p t s l e = e
+any_place (suc i) choose c p t s l e = e
 any_place (suc i) f c p t s l e = e
 
 -- so it stays where a value of part 1 stays

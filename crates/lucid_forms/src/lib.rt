@@ -1,9 +1,8 @@
-//! The operators of a source, over data and over streams: the one row of each, its form from parts, and back.
+//! The operators of a source, over data and over streams: the one row of each, and its form from parts.
 #![tactic(auto)]
 
-pub use crate::operator::{Operator, OperatorRow, StreamOp};
+pub use crate::operator::{Operator, OperatorRow};
 
-mod head;
 pub mod laws;
 mod make;
 mod operator;

@@ -1,46 +1,16 @@
 //! Operators, and the row of each.
 ghost use Rattle.std.specs.Prelude.{◌≡◌, ◌≤◌};
-ghost use Rattle.lucid_value.specs.Plain.{same_bytes};
-ghost use Rattle.lucid_forms.specs.Operators.{before, between, row_of, plain_row, stream_row, stream_spelled, data_spelled, spelled, left, right};
+ghost use Rattle.lucid_ops.specs.Rows.{level_side};
+ghost use Rattle.lucid_forms.specs.Operators.{row_of, plain_row, fixity, data_spelled, spelled, left, right};
 
-use lucid_ops::{Form, Op, OpRow, Side};
+use lucid_ops::{Form as Fixity, Op, OpRow, Side};
+use lucid_streams::{Form, FormRow};
 
-/// An operator over streams. Its result at a point may depend on its parts at other ones.
-#[derive(Clone, Copy)]
-pub enum StreamOp {
-    /// `left fby right`.
-    Fby,
-    /// `left sby right`.
-    Sby,
-    /// `left whenever right`.
-    Whenever,
-    /// `left asa right`.
-    Asa,
-    /// `left upon right`.
-    Upon,
-    /// `left attime right`.
-    Attime,
-    /// `left atspace right`.
-    Atspace,
-    /// `left or right`.
-    Or,
-    /// `left and right`.
-    And,
-    /// `first part`.
-    First,
-    /// `next part`.
-    Next,
-    /// `initial part`.
-    Initial,
-    /// `succ part`.
-    Succ,
-}
-
-/// An operator of a source: a data operator, or one over streams.
+/// An operator of a source: a data operator, or a form over streams.
 #[derive(Clone, Copy)]
 pub enum Operator {
     Data(Op),
-    Stream(StreamOp),
+    Stream(Form),
 }
 
 /// What the row of an operator says.
@@ -48,8 +18,8 @@ pub enum Operator {
 pub struct OperatorRow {
     /// The bytes that stand for it in a source.
     pub spelling: &'static [u8],
-    /// How it stands to its parts.
-    pub form: Form,
+    /// How it stands to its parts; `if` has words of its own round them.
+    pub form: Option<Fixity>,
     /// How tightly it binds, from 0, the loosest, to 12.
     pub level: u8,
     /// To which side it groups among operators of its level.
@@ -58,83 +28,79 @@ pub struct OperatorRow {
     pub arity: u8,
 }
 
-// The operators over streams.
-const STREAM_OPERATORS: [StreamOp; 13] = [
-    StreamOp::Fby,
-    StreamOp::Sby,
-    StreamOp::Whenever,
-    StreamOp::Asa,
-    StreamOp::Upon,
-    StreamOp::Attime,
-    StreamOp::Atspace,
-    StreamOp::Or,
-    StreamOp::And,
-    StreamOp::First,
-    StreamOp::Next,
-    StreamOp::Initial,
-    StreamOp::Succ,
+// The side to which what stands at each level groups.
+const SIDES: [Side; 13] = [
+    Side::Left,
+    Side::Right,
+    Side::Left,
+    Side::Left,
+    Side::Left,
+    Side::Single,
+    Side::Single,
+    Side::Right,
+    Side::Left,
+    Side::Left,
+    Side::Right,
+    Side::Single,
+    Side::Single,
 ];
 
-// The row of an operator between two parts.
-fn between(spelling: &'static [u8], level: u8, side: Side) -> OperatorRow
-    ensures { plain_row result ≡ between spelling.now level side }
+fn level_side(level: u8) -> Side
+    ensures { result ≡ level_side level }
 {
-    OperatorRow {
+    SIDES.get(level as usize).copied().unwrap_or(Side::Single)
+}
+
+// How a form over streams with so many parts stands to them.
+fn fixity(parts: u8) -> Option<Fixity>
+    ensures { result ≡ fixity parts }
+{
+    if parts == 1 {
+        return Some(Fixity::Before);
+    }
+    if parts == 2 {
+        return Some(Fixity::Between);
+    }
+    None
+}
+
+// The row of a data operator.
+fn data_row(op: Op) -> OperatorRow
+    ensures { plain_row result ≡ row_of (Operator.Data op) }
+{
+    let OpRow {
         spelling,
-        form: Form::Between,
+        form,
         level,
         side,
-        arity: 2,
-    }
-}
-
-// The row of an operator before one part.
-fn before(spelling: &'static [u8], level: u8) -> OperatorRow
-    ensures { plain_row result ≡ before spelling.now level }
-{
+        arity,
+        ..
+    } = op.row();
     OperatorRow {
         spelling,
-        form: Form::Before,
+        form: Some(form),
         level,
-        side: Side::Single,
-        arity: 1,
+        side,
+        arity,
     }
 }
 
-impl StreamOp {
-    // Its row.
-    fn row(self) -> OperatorRow
-        ensures { plain_row result ≡ stream_row self }
-    {
-        match self {
-            StreamOp::Fby => between(b"fby", 1, Side::Right),
-            StreamOp::Sby => between(b"sby", 1, Side::Right),
-            StreamOp::Whenever => between(b"whenever", 2, Side::Left),
-            StreamOp::Asa => between(b"asa", 2, Side::Left),
-            StreamOp::Upon => between(b"upon", 2, Side::Left),
-            StreamOp::Attime => between(b"attime", 2, Side::Left),
-            StreamOp::Atspace => between(b"atspace", 2, Side::Left),
-            StreamOp::Or => between(b"or", 3, Side::Left),
-            StreamOp::And => between(b"and", 4, Side::Left),
-            StreamOp::First => before(b"first", 11),
-            StreamOp::Next => before(b"next", 11),
-            StreamOp::Initial => before(b"initial", 11),
-            StreamOp::Succ => before(b"succ", 11),
-        }
-    }
-
-    // The first of these operators with this spelling.
-    fn find(operators: &[StreamOp], spelling: &[u8]) -> Option<StreamOp>
-        ensures { result ≡ stream_spelled spelling.now operators.now }
-    {
-        operators.iter().find(|op| op.is_spelled(spelling)).copied()
-    }
-
-    // This is its spelling.
-    fn is_spelled(self, spelling: &[u8]) -> bool
-        ensures { result ≡ same_bytes (stream_row self).spelling spelling.now }
-    {
-        self.row().spelling == spelling
+// The row of a form over streams.
+fn stream_row(form: Form) -> OperatorRow
+    ensures { plain_row result ≡ row_of (Operator.Stream form) }
+{
+    let FormRow {
+        spelling,
+        level,
+        parts,
+        ..
+    } = form.row();
+    OperatorRow {
+        spelling,
+        form: fixity(parts),
+        level,
+        side: level_side(level),
+        arity: parts,
     }
 }
 
@@ -142,12 +108,12 @@ impl StreamOp {
 fn data_operator(spelling: &[u8]) -> Option<Op>
     ensures { result ≡ data_spelled spelling.now }
 {
-    if let Some(op) = Op::find(Form::Between, spelling) {
+    if let Some(op) = Op::find(Fixity::Between, spelling) {
         return Some(op);
     }
-    match Op::find(Form::Before, spelling) {
+    match Op::find(Fixity::Before, spelling) {
         Some(op) => Some(op),
-        None => Op::find(Form::Called, spelling),
+        None => Op::find(Fixity::Called, spelling),
     }
 }
 
@@ -159,24 +125,8 @@ impl Operator {
         ensures level { result.level ≤ 12 }
     {
         match self {
-            Operator::Data(op) => {
-                let OpRow {
-                    spelling,
-                    form,
-                    level,
-                    side,
-                    arity,
-                    ..
-                } = op.row();
-                OperatorRow {
-                    spelling,
-                    form,
-                    level,
-                    side,
-                    arity,
-                }
-            }
-            Operator::Stream(op) => op.row(),
+            Operator::Data(op) => data_row(op),
+            Operator::Stream(form) => stream_row(form),
         }
     }
 
@@ -200,8 +150,8 @@ impl Operator {
     pub fn find(spelling: &[u8]) -> Option<Operator>
         ensures { result ≡ spelled spelling.now }
     {
-        match StreamOp::find(&STREAM_OPERATORS, spelling) {
-            Some(op) => Some(Operator::Stream(op)),
+        match Form::of_word(spelling) {
+            Some(form) => Some(Operator::Stream(form)),
             None => data_operator(spelling).map(Operator::Data),
         }
     }

@@ -11,6 +11,8 @@ use Rattle.lucid_parse.specs.Build.{piles, definition}
 use Rattle.lucid_parse.proofs.Levels.{infix_arity, prefix_arity, node-operator}
 use Rattle.lucid_parse.proofs.Complete.{written_parts-and, written_all-and, written_defs-and}
 use Rattle.lucid_parse.proofs.Exact.{spelled_nodes}
+use Rattle.lucid_forms.specs.declared.operator.Operator.TheVariants.{Stream}
+use Rattle.lucid_streams.specs.declared.form.Form.TheVariants as forms
 
 over : (f g : PlainPiles → Option PlainPiles) (h : PlainPiles → Option PlainPiles) (o : Option PlainPiles)
     → ((now : PlainPiles) → f now ≡ option_and_then h (g now))
@@ -152,7 +154,7 @@ mutual
       (put_operator operator at (tree x no_trees) now (sym (prefix_arity terminal operator is)))
   built-written (Grammar.spells_inner close_at sx) out from now e = built-written sx out from now e
   built-written (Grammar.spells_if {at = at} then_at else_at fi_at {x = x} {y = y} {z = z} sx sy sz) out from now e =
-      grow (written (written (written out x) y) z) (item.If at) from (with_tree z (with_tree y (with_tree x now))) _
+      grow (written (written (written out x) y) z) (item.Operator (Stream forms.If) at) from (with_tree z (with_tree y (with_tree x now))) _
       (built-written sz (written (written out x) y) from (with_tree y (with_tree x now))
       (built-written sy (written out x) from (with_tree x now) (built-written sx out from now e))) refl
   built-written (Grammar.spells_call {at = at} close_at {n = n} {args = args} sa) out from now e =

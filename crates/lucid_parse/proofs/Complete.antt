@@ -10,6 +10,8 @@ use Rattle.lucid_parse.specs.Grammar
 use Rattle.lucid_parse.specs.Grammar.{parameter}
 use Rattle.lucid_parse.specs.Flat.{kind_of, listed, headed}
 use Rattle.lucid_parse.proofs.Levels.{prefix_level_most, left_most, right_most, left_least, right_least, right_positive, level_positive, arity_positive, before_not_called, apart, apart_prefix, node-operator}
+use Rattle.lucid_forms.specs.declared.operator.Operator.TheVariants.{Stream}
+use Rattle.lucid_streams.specs.declared.form.Form.TheVariants as forms
 
 -- the terminal leaves no operand of this level or a tighter one open, when it comes next
 abbrev pub ClosesAs : ℕ → Option Operator → Type 0
@@ -308,7 +310,7 @@ chosen_of : (wanted allowed at then_at else_at fi_at : ℕ) (xs ys zs : List Pla
     → Operand 0 (state (focus.Await 0) (frame.No at allowed ∷ frames) oy) zs 0 (frame.No at allowed ∷ frames) oz
     → Operand wanted (state (focus.Await allowed) frames out)
     (terminal_at terminal.If at ∷ (xs ++ terminal_at terminal.Then
-    then_at ∷ (ys ++ terminal_at terminal.Else else_at ∷ (zs ++ terminal_at terminal.Fi fi_at ∷ [])))) allowed frames (oz ++ item.If at ∷ [])
+    then_at ∷ (ys ++ terminal_at terminal.Else else_at ∷ (zs ++ terminal_at terminal.Fi fi_at ∷ [])))) allowed frames (oz ++ item.Operator (Stream forms.If) at ∷ [])
 chosen_of wanted allowed at then_at else_at fi_at xs ys zs frames out ox oy oz top a b c =
     whole wanted allowed _ _ frames _ top
     (through xs _ (terminal_at terminal.Then then_at) (state (focus.Await 0) (frame.Test at allowed ∷ frames) out) a.done.after
@@ -318,7 +320,7 @@ chosen_of wanted allowed at then_at else_at fi_at xs ys zs frames out ox oy oz t
     (state (focus.Await 0) (frame.No at allowed ∷ frames) oy) _
     b.done.reads (b.done.next terminal.Else else_at tt)
     (through zs [] (terminal_at terminal.Fi fi_at) (state (focus.Await 0) (frame.No at allowed ∷ frames) oy) c.done.after
-    (state (focus.Have 12 allowed) frames (oz ++ item.If at ∷ [])) _
+    (state (focus.Have 12 allowed) frames (oz ++ item.Operator (Stream forms.If) at ∷ [])) _
     c.done.reads (c.done.next terminal.Fi fi_at tt) refl)))
 
 called : (wanted allowed at : ℕ) (n : List ℕ) (open_at close_at : ℕ) (xs : List PlacedTerminal) (args : PlainTrees) (frames : List PlainFrame)

@@ -8,6 +8,8 @@ use Rattle.lucid_parse.specs.Grammar
 use Rattle.lucid_parse.specs.Depth.{here, at_depth_in, at_depth_in_defs, lesser, found, below}
 use Rattle.lucid_parse.proofs.Levels.{infix_arity, prefix_arity, node-operator}
 use Rattle.lucid_parse.proofs.Complete.{written_parts-and, written_all-and, written_defs-and, count-and}
+use Rattle.lucid_forms.specs.declared.operator.Operator.TheVariants.{Stream}
+use Rattle.lucid_streams.specs.declared.form.Form.TheVariants as forms
 
 least_in-append : (best : Option ℕ) (xs ys : List ℕ) → least_in best (xs ++ ys) ≡ least_in (least_in best ys) xs
 least_in-append best [] ys = refl
@@ -74,7 +76,7 @@ mutual
       ∙ ap (from_end out ds) (sym (simp least_in-append))
   searched (Grammar.spells_inner close_at sx) out d ds best = searched sx out d ds best
   searched (Grammar.spells_if {at = at} then_at else_at fi_at {x = x} {y = y} {z = z} sx sy sz) out d ds best =
-      from_end-push (written (written (written out x) y) z) (item.If at) d ds best
+      from_end-push (written (written (written out x) y) z) (item.Operator (Stream forms.If) at) d ds best
       ∙ searched sz (written (written out x) y) (pred d) (pred d ∷ pred d ∷ ds) (least_in best (here d at))
       ∙ searched sy (written out x) (pred d) (pred d ∷ ds) (least_in (least_in best (here d at)) (at_depth (pred d) z))
       ∙ searched sx out (pred d) ds (least_in (least_in (least_in best (here d at)) (at_depth (pred d) z)) (at_depth (pred d) y))
@@ -284,14 +286,12 @@ module _ {M N V W : Type 0} (f : M → N) (g : V → W) where
   found-filled (item.Const at v) d best = refl
   found-filled (item.Name at n) d best = refl
   found-filled (item.Operator operator at) d best = refl
-  found-filled (item.If at) d best = refl
   found-filled (item.Call at n) d best = refl
   found-filled (item.Block at) d best = refl
   found-filled _ d best = refl
 
   below-filled : (i : Item M V) (d : ℕ) (ds : List ℕ) → below (fill_item f g i) d ds ≡ below i d ds
   below-filled (item.Operator operator at) d ds = refl
-  below-filled (item.If at) d ds = refl
   below-filled (item.Call at n) d ds = refl
   below-filled (item.Block at) d ds = refl
   below-filled item.More d ds = refl

@@ -7,6 +7,8 @@ use Rattle.lucid_parse.specs.declared.state.Focus.TheVariants as focus
 use Rattle.lucid_parse.specs.declared.state.Item.TheVariants as item
 use Rattle.lucid_parse.specs.Machine.{close_top}
 use Rattle.lucid_parse.specs.Fill.{fill_definition, fill_frame, fill_focus}
+use Rattle.lucid_forms.specs.declared.operator.Operator.TheVariants.{Stream}
+use Rattle.lucid_streams.specs.declared.form.Form.TheVariants as forms
 
 module _ {M N V W : Type 0} (f : M → N) (g : V → W) where
   abbrev frames_of : List (Frame M) → List (Frame N)
@@ -55,7 +57,7 @@ module _ {M N V W : Type 0} (f : M → N) (g : V → W) where
   filled_after (frame.Parenthesis allowed) terminal.Close frames out = refl
   filled_after (frame.Test place allowed) terminal.Then frames out = refl
   filled_after (frame.Yes place allowed) terminal.Else frames out = refl
-  filled_after (frame.No place allowed) terminal.Fi frames out = one_more _ _ out (item.If place)
+  filled_after (frame.No place allowed) terminal.Fi frames out = one_more _ _ out (item.Operator (Stream forms.If) place)
   filled_after (frame.Arguments place n allowed) terminal.Comma frames out = one_more _ _ out item.More
   filled_after (frame.Arguments place n allowed) terminal.Close frames out =
       ap (λ o. Some (state (focus.Have 12 allowed) (frames_of frames) (o ++ item.Call place (f n) ∷ []))) (push out item.More)

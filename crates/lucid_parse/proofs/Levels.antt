@@ -1,40 +1,44 @@
 -- Laws of the levels.
-use Rattle.lucid_parse.proofs.Common.{◌≡◌, ℕ, ◌+◌, ◌≤◌, ◌<◌, Bool, true, false, cond, Some, None, refl, sym, ◌∙◌, ap, subst, arith, nat_eq, and_parts, ltb-true, eqb-true, Form, Before, Between, Called, Data, node, Operator, PlainTerminal, level_of, arity_of, left, right, head, operator_in, nat_lt, ◌&&◌}
+use Rattle.lucid_parse.proofs.Common.{◌≡◌, ℕ, ◌+◌, ◌≤◌, ◌<◌, Bool, true, false, cond, Option, Some, None, refl, sym, ◌∙◌, ap, subst, arith, nat_eq, and_parts, ltb-true, eqb-true, Form, Before, Between, Called, Data, node, Operator, PlainTerminal, level_of, arity_of, left, right, head, operator_in, nat_lt, ◌&&◌}
 use Rattle.lucid_ops.specs.declared.op.Op.TheVariants as op
 use Rattle.lucid_ops.specs.declared.op.Side.{Side}
 use Rattle.lucid_ops.specs.declared.op.Side.TheVariants.{Left, Single}
 use Rattle.lucid_ops.specs.Row.{left_level, right_level}
 use Rattle.lucid_ops.specs.Rows.{form_number, level_side, fits_form}
 use Rattle.lucid_ops.proofs.OperatorRows.{form_is}
-use Rattle.lucid_forms.proofs.Rows.{row_stands, known}
+use Rattle.lucid_forms.specs.Operators.{fits_fixity}
+use Rattle.lucid_forms.specs.declared.operator.Operator.TheVariants.{Stream}
+use Rattle.lucid_forms.proofs.Rows.{row_stands}
 use Rattle.lucid_parse.specs.declared.terminal.Terminal.TheVariants as terminal
 use Rattle.lucid_parse.specs.declared.state.Item.TheVariants as item
-use Rattle.lucid_parse.specs.Flat.{node_of}
-use Rattle.lucid_parse.specs.Grammar.{row_of, as_form}
+use Rattle.lucid_parse.specs.Grammar.{row_of, is_form, as_form}
 
 -- A terminal that is an operator in a form is one whose row has that form.
-of_form : (wanted : Form) (o found : Operator) → as_form wanted o ≡ Some found → ((row_of o).form ≡ wanted) × (o ≡ found)
-of_form wanted o found e = of (nat_eq (form_number (row_of o).form) (form_number wanted)) refl e
+of_form : (wanted : Form) (o found : Operator) → as_form wanted o ≡ Some found → ((row_of o).form ≡ Some wanted) × (o ≡ found)
+of_form wanted o found e = of (row_of o).form e
   where
-    of : (b : Bool) → nat_eq (form_number (row_of o).form) (form_number wanted) ≡ b → cond b (Some o) None ≡ Some found
-        → ((row_of o).form ≡ wanted) × (o ≡ found)
-    of true s f = (form_is _ _ s, cc)
-    of false s f = cc
+    by : (f : Form) (b : Bool) → nat_eq (form_number f) (form_number wanted) ≡ b → cond b (Some o) None ≡ Some found → (f ≡ wanted) × (o ≡ found)
+    by f true s g = (form_is _ _ s, cc)
+    by f false s g = cc
 
-pub stands : (wanted : Form) (terminal : PlainTerminal) (found : Operator) → operator_in wanted terminal ≡ Some found → (row_of found).form ≡ wanted
-stands wanted (terminal.Operator o) found e = let is = of_form wanted o found e in subst (λ x. (row_of x).form ≡ wanted) is.1 is.0
-stands Between terminal.Minus found e = let same : Data op.Sub ≡ found = cc in subst (λ x. (row_of x).form ≡ Between) same refl
-stands Before terminal.Minus found e = let same : Data op.Neg ≡ found = cc in subst (λ x. (row_of x).form ≡ Before) same refl
+    of : (x : Option Form) → cond (is_form wanted x) (Some o) None ≡ Some found → (x ≡ Some wanted) × (o ≡ found)
+    of None g = cc
+    of (Some f) g = let is = by f (nat_eq (form_number f) (form_number wanted)) refl g in (ap Some is.0, is.1)
+
+pub stands : (wanted : Form) (terminal : PlainTerminal) (found : Operator) → operator_in wanted terminal ≡ Some found → (row_of found).form ≡ Some wanted
+stands wanted (terminal.Operator o) found e = let is = of_form wanted o found e in subst (λ x. (row_of x).form ≡ Some wanted) is.1 is.0
+stands Between terminal.Minus found e = let same : Data op.Sub ≡ found = cc in subst (λ x. (row_of x).form ≡ Some Between) same refl
+stands Before terminal.Minus found e = let same : Data op.Neg ≡ found = cc in subst (λ x. (row_of x).form ≡ Some Before) same refl
 stands _ _ found e = cc
 
 pub before_not_called : (terminal : PlainTerminal) (operator : Operator) → operator_in Before terminal ≡ Some operator → operator_in Called terminal ≡ None
-before_not_called (terminal.Operator o) operator e = ap (λ f. cond (nat_eq (form_number f) (form_number Called)) (Some o) None) (of_form Before o operator e).0
+before_not_called (terminal.Operator o) operator e = ap (λ f. cond (is_form Called f) (Some o) None) (of_form Before o operator e).0
 before_not_called terminal.Minus operator e = refl
 before_not_called _ operator e = cc
 
 -- what the row of an operator in a form says
-fits_as : (o : Operator) (f : Form) → (row_of o).form ≡ f → fits_form f (row_of o).side (level_of o) (arity_of o) ≡ true
-fits_as o f e = subst (λ x. fits_form x (row_of o).side (level_of o) (arity_of o) ≡ true) e (row_stands o).fits
+fits_as : (o : Operator) (f : Form) → (row_of o).form ≡ Some f → fits_form f (row_of o).side (level_of o) (arity_of o) ≡ true
+fits_as o f e = subst (λ x. fits_fixity x (row_of o).side (level_of o) (arity_of o) ≡ true) e (row_stands o).fits
 
 both_fit : (level arity n : ℕ) → (nat_lt level 12 && nat_eq arity n) ≡ true → (level < 12) × (arity ≡ n)
 both_fit level arity n e = let two = and_parts (nat_lt level 12) (nat_eq arity n) e in (ltb-true level 12 two.0, eqb-true arity n two.1)
@@ -113,4 +117,5 @@ arity_positive o = (row_stands o).some
 
 -- each operator has a node of its own
 pub node-operator : (o : Operator) (at : ℕ) → node (head o) at ≡ item.Operator o at
-node-operator o at = ap (λ x. node_of x (head o) at) (known o)
+node-operator (Data o) at = refl
+node-operator (Stream f) at = refl

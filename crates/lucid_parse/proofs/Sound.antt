@@ -10,6 +10,8 @@ use Rattle.lucid_parse.specs.Grammar
 use Rattle.lucid_parse.specs.Machine.{taken}
 use Rattle.lucid_parse.proofs.Levels.{prefix_level_most, right_most, arity_positive, node-operator}
 use Rattle.lucid_parse.proofs.Complete.{written_parts-and, written_all-and, written_defs-and, with_parameters-and, count-and}
+use Rattle.lucid_forms.specs.declared.operator.Operator.TheVariants.{Stream}
+use Rattle.lucid_streams.specs.declared.form.Form.TheVariants as forms
 
 -- what was read up to where an operand of a level is awaited, and what was written
 pub data Context : List PlainFrame → ℕ → List PlacedTerminal → List PlainItem → Type 0 where
@@ -276,7 +278,7 @@ closed_yes place allowed at frames out ts (inside (in_yes then_at c x) s) = awai
 
 closed_no : (place allowed at : ℕ) (frames : List PlainFrame) (out : List PlainItem) (ts : List PlacedTerminal)
     → Inside (frame.No place allowed ∷ frames) out ts
-    → MeansAt (state (focus.Have 12 allowed) frames (out ++ item.If place ∷ [])) (ts ++ terminal_at terminal.Fi at ∷ [])
+    → MeansAt (state (focus.Have 12 allowed) frames (out ++ item.Operator (Stream forms.If) place ∷ [])) (ts ++ terminal_at terminal.Fi at ∷ [])
 unfolding written
 closed_no place allowed at frames out ts (inside (in_no then_at else_at c x y) s) =
     holds (subst (Has _ _ _ _) (simp append_assoc) (has {level = 12} c (context_most c) (Grammar.spells_if {at = place} then_at else_at at x y s)))

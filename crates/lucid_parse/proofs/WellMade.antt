@@ -3,7 +3,6 @@ use Rattle.lucid_parse.proofs.Common.{◌≡◌, ℕ, suc, ◌+◌, ◌≤◌, �
 use Rattle.lucid_tree.specs.WellMade.{places_in, places_in_defs, fits_arity, is_shaped, are_shaped, defs_are_shaped, In, AllDiffer}
 use Rattle.lucid_ops.specs.Arity.{arity}
 use Rattle.lucid_forms.specs.declared.operator.Operator.TheVariants.{Stream}
-use Rattle.lucid_forms.specs.declared.operator.StreamOp.TheVariants.{Fby}
 use Rattle.lucid_parse.proofs.Levels.{infix_arity, prefix_arity}
 use Rattle.lucid_parse.specs.Grammar
 
@@ -11,8 +10,7 @@ use Rattle.lucid_parse.specs.Grammar
 
 fits-operator : (operator : Operator) (args : PlainTrees) → count args ≡ arity_of operator → fits_arity (head operator) args ≡ true
 fits-operator (Data op) args e = eq-eqb (count args) (arity op) e
-fits-operator (Stream Fby) args e = refl
-fits-operator (Stream _) args e = refl
+fits-operator (Stream f) args e = refl
 
 are_shaped-and : (ts : PlainTrees) (t : PlainTree) → are_shaped ts ≡ true → is_shaped t ≡ true → are_shaped (trees_and ts t) ≡ true
 are_shaped-and no_trees t h s = and_from _ _ s refl

@@ -1,7 +1,7 @@
 -- A tree from its nodes: each node takes its parts from piles.
 use Rattle.std.specs.Prelude.{◌≡◌, ℕ, zero, suc, List, [], ◌∷◌, ◌++◌, Option, Some, None, option_and_then, map, Result, Ok, Err, Bool, MatchBool, MatchOption, length, Vec}
 use Rattle.std.specs.Global.{Global}
-use Rattle.lucid_tree.specs.Tree.{const, choose, PlainTree, form, name, call, block, PlainTrees, no_trees, tree}
+use Rattle.lucid_tree.specs.Tree.{const, PlainTree, form, name, call, block, PlainTrees, no_trees, tree}
 use Rattle.lucid_tree.specs.Lists.{trees_of}
 use Rattle.lucid_tree.specs.DefsView.{defs_of}
 use Rattle.lucid_tree.specs.declared.tree.Def.{Def}
@@ -49,7 +49,6 @@ put (item.Const at value) trees lists names places blocks = Some (piles (form at
 put (item.Name at n) trees lists names places blocks = Some (piles (name at n ∷ trees) lists names places blocks)
 put (item.Operator operator at) trees lists names places blocks =
     option_and_then (λ taken. Some (piles (form at (head operator) taken.0 ∷ taken.1) lists names places blocks)) (gather (arity_of operator) trees no_trees)
-put (item.If at) (z ∷ y ∷ x ∷ trees) lists names places blocks = Some (piles (form at choose (tree x (tree y (tree z no_trees))) ∷ trees) lists names places blocks)
 put item.NoTrees trees lists names places blocks = Some (piles trees ([] ∷ lists) names places blocks)
 put item.More (last ∷ trees) (list ∷ lists) names places blocks = Some (piles trees ((list ++ last ∷ []) ∷ lists) names places blocks)
 put (item.Call at n) trees (list ∷ lists) names places blocks = Some (piles (call at n (trees_of list) ∷ trees) lists names places blocks)

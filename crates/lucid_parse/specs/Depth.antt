@@ -47,7 +47,6 @@ abbrev pub found : {N V : Type 0} → Item N V → ℕ → Option ℕ → Option
 found (item.Const at value) sought best = least_in best (here sought at)
 found (item.Name at n) sought best = least_in best (here sought at)
 found (item.Operator operator at) sought best = least_in best (here sought at)
-found (item.If at) sought best = least_in best (here sought at)
 found (item.Call at n) sought best = least_in best (here sought at)
 found (item.Block at) sought best = least_in best (here sought at)
 found _ sought best = best
@@ -60,7 +59,6 @@ copies (suc n) sought rest = sought ∷ copies n sought rest
 -- the depths of its parts, the last first
 abbrev pub below : {N V : Type 0} → Item N V → ℕ → List ℕ → List ℕ
 below (item.Operator operator at) sought rest = copies (arity_of operator) (pred sought) rest
-below (item.If at) sought rest = copies 3 (pred sought) rest
 below (item.Call at n) sought rest = copies 1 (pred sought) rest
 below (item.Block at) sought rest = copies 2 (pred sought) rest
 below item.More sought rest = copies 2 sought rest

@@ -59,7 +59,6 @@ abbrev pub fill_item : {M N V W : Type 0} → (M → N) → (V → W) → Item M
 fill_item on_name on_value (item.Const at value) = item.Const at (on_value value)
 fill_item on_name on_value (item.Name at name) = item.Name at (on_name name)
 fill_item on_name on_value (item.Operator operator at) = item.Operator operator at
-fill_item on_name on_value (item.If at) = item.If at
 fill_item on_name on_value item.NoTrees = item.NoTrees
 fill_item on_name on_value item.More = item.More
 fill_item on_name on_value (item.Call at name) = item.Call at (on_name name)

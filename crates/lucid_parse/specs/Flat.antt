@@ -1,22 +1,18 @@
 -- A tree as a list of nodes, each behind its parts.
-use Rattle.std.specs.Prelude.{ℕ, List, [], ◌∷◌, ◌++◌, Option, Some, None}
-use Rattle.lucid_tree.specs.Tree.{Head, const, PlainTree, form, name, call, block, PlainTrees, no_trees, tree, PlainDefs, no_defs, defines, defines_function, defines_current}
-use Rattle.lucid_forms.specs.declared.operator.Operator.{Operator}
-use Rattle.lucid_forms.specs.Operators.{operator_of}
+use Rattle.std.specs.Prelude.{ℕ, List, [], ◌∷◌, ◌++◌}
+use Rattle.lucid_tree.specs.Tree.{Head, const, apply, stream, PlainTree, form, name, call, block, PlainTrees, no_trees, tree, PlainDefs, no_defs, defines, defines_function, defines_current}
+use Rattle.lucid_forms.specs.declared.operator.Operator.TheVariants.{Data, Stream}
 use Rattle.lucid_parse.specs.declared.state.Item.TheVariants as item
 use Rattle.lucid_parse.specs.declared.state.Defines.{Defines}
 use Rattle.lucid_parse.specs.declared.state.Defines.TheVariants as kind
 use Rattle.lucid_parse.specs.Grammar.{Defined, Plain, Function, Current, Parameter}
 use Rattle.lucid_parse.specs.Machine.{PlainItem}
 
--- the node of a form with this head, by the operator that makes it: constants and `if` are made by none
-abbrev pub node_of : Option Operator → Head → ℕ → PlainItem
-node_of (Some operator) head at = item.Operator operator at
-node_of None (const value) at = item.Const at value
-node_of None head at = item.If at
-
+-- the node of a form with this head: a constant, or the operator that makes it
 abbrev pub node : Head → ℕ → PlainItem
-node head at = node_of (operator_of head) head at
+node (const value) at = item.Const at value
+node (apply op n) at = item.Operator (Data op) at
+node (stream f) at = item.Operator (Stream f) at
 
 -- the kind of a definition, and the list with its parameters at its end
 abbrev pub kind_of : Defined → Defines

@@ -1,5 +1,5 @@
 -- The grammar: which terminals spell which tree. It is this language's own.
-use Rattle.std.specs.Prelude.{◌≡◌, ℕ, ◌≤◌, List, [], ◌∷◌, ◌++◌, Option, Some, None, nat_eq, if◌then◌else◌}
+use Rattle.std.specs.Prelude.{◌≡◌, ℕ, ◌≤◌, Bool, false, List, [], ◌∷◌, ◌++◌, Option, Some, None, nat_eq, if◌then◌else◌}
 use Rattle.lucid_value.specs.Plain.{PlainValue}
 use Rattle.lucid_ops.specs.declared.op.Op.TheVariants as op
 use Rattle.lucid_ops.specs.declared.op.Form.{Form}
@@ -26,8 +26,12 @@ abbrev pub terminal_at : PlainTerminal → ℕ → PlacedTerminal
 terminal_at terminal at = record { terminal = terminal; at = at }
 
 -- The operator, where its row has this form.
+abbrev pub is_form : Form → Option Form → Bool
+is_form wanted None = false
+is_form wanted (Some f) = nat_eq (form_number f) (form_number wanted)
+
 abbrev pub as_form : Form → Operator → Option Operator
-as_form wanted operator = if nat_eq (form_number (row_of operator).form) (form_number wanted) then Some operator else None
+as_form wanted operator = if is_form wanted (row_of operator).form then Some operator else None
 
 -- The operator that a terminal is in a form. `-` is one between two operands and one before one.
 abbrev pub operator_in : {N V : Type 0} → Form → Terminal N V → Option Operator

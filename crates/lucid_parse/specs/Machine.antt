@@ -14,6 +14,8 @@ use Rattle.lucid_parse.specs.declared.state.Focus.TheVariants as focus
 use Rattle.lucid_parse.specs.declared.state.Item.{Item}
 use Rattle.lucid_parse.specs.declared.state.Item.TheVariants as item
 use Rattle.lucid_forms.specs.declared.operator.Operator.{Operator}
+use Rattle.lucid_forms.specs.declared.operator.Operator.TheVariants.{Stream}
+use Rattle.lucid_streams.specs.declared.form.Form.TheVariants as forms
 use Rattle.lucid_parse.specs.Grammar.{PlacedTerminal, level_of, arity_of, left, right, operator_in}
 
 -- what comes next, what is open (the innermost first), what is written
@@ -71,7 +73,7 @@ abbrev pub after_frame : {N V : Type 0} → Frame N → Terminal N V → List (F
 after_frame (frame.Parenthesis allowed) terminal.Close frames out = Some (state (focus.Have 12 allowed) frames out)
 after_frame (frame.Test at allowed) terminal.Then frames out = Some (state (focus.Await 0) (frame.Yes at allowed ∷ frames) out)
 after_frame (frame.Yes at allowed) terminal.Else frames out = Some (state (focus.Await 0) (frame.No at allowed ∷ frames) out)
-after_frame (frame.No at allowed) terminal.Fi frames out = Some (state (focus.Have 12 allowed) frames (out ++ item.If at ∷ []))
+after_frame (frame.No at allowed) terminal.Fi frames out = Some (state (focus.Have 12 allowed) frames (out ++ item.Operator (Stream forms.If) at ∷ []))
 after_frame (frame.Arguments at name allowed) terminal.Comma frames out = Some (state (focus.Await 0) (frame.Arguments at name allowed ∷ frames) (out ++ item.More ∷ []))
 after_frame (frame.Arguments at name allowed) terminal.Close frames out = Some (state (focus.Have 12 allowed) frames ((out ++ item.More ∷ []) ++ item.Call at name ∷ []))
 after_frame (frame.Operands called more) terminal.Comma frames out = cond (nat_eq more 0) None (Some (state (focus.Await 0) (frame.Operands called (more - 1) ∷ frames) out))

@@ -106,27 +106,6 @@ impl Piles {
         Ok(true)
     }
 
-    fn put_if(&mut self, alloc: Global, at: u32) -> Result<bool, AllocError>
-        ensures { Puts result self.new (put_on (Item.If at) (plain_piles self.old)) }
-    {
-        let Some(no) = self.trees.pop() else {
-            return Ok(false);
-        };
-        let Some(yes) = self.trees.pop() else {
-            return Ok(false);
-        };
-        let Some(test) = self.trees.pop() else {
-            return Ok(false);
-        };
-        let kind = Kind::If {
-            test: Box::new(alloc, test)?,
-            yes: Box::new(alloc, yes)?,
-            no: Box::new(alloc, no)?,
-        };
-        self.trees.push(Tree { at, kind })?;
-        Ok(true)
-    }
-
     fn put_no_trees(&mut self, alloc: Global) -> Result<bool, AllocError>
         ensures { Puts result self.new (put_on Item.NoTrees (plain_piles self.old)) }
     {
@@ -222,7 +201,6 @@ impl Piles {
             Item::Const { at, value } => self.put_const(alloc, at, value),
             Item::Name { at, name } => self.put_name(at, name),
             Item::Operator { op, at } => self.put_operator(alloc, op, at),
-            Item::If { at } => self.put_if(alloc, at),
             Item::NoTrees => self.put_no_trees(alloc),
             Item::More => self.put_more(),
             Item::Call { at, name } => self.put_call(at, name),

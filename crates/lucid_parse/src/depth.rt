@@ -28,7 +28,6 @@ fn push_below<N: Copy, V: Copy>(
     let inner = depth.saturating_sub(1);
     match item {
         Item::Operator { op, .. } => push_times(depths, op.row().arity, inner),
-        Item::If { .. } => push_times(depths, 3, inner),
         Item::Block { .. } => push_times(depths, 2, inner),
         Item::Call { .. } => push_times(depths, 1, inner),
         Item::Def {
@@ -62,7 +61,6 @@ fn found_with<N: Copy, V: Copy>(best: Option<u32>, item: Item<N, V>, depth: u32)
         Item::Const { at, .. }
         | Item::Name { at, .. }
         | Item::Operator { at, .. }
-        | Item::If { at }
         | Item::Call { at, .. }
         | Item::Block { at } => lesser_of(best, depth, at),
         _ => best,

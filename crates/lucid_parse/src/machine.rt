@@ -10,6 +10,7 @@ use crate::terminal::Terminal;
 use lucid_forms::Operator;
 use lucid_lists::Stack;
 use lucid_ops::Form;
+use lucid_streams::Form as StreamForm;
 use std::alloc::AllocError;
 
 /// What follows a terminal, or none where no program goes on so.
@@ -146,10 +147,10 @@ impl<N: Copy, V: Copy> Machine<N, V> {
                 0,
             ),
             (Frame::Yes { at, allowed }, Terminal::Else) => self.open(Frame::No { at, allowed }, 0),
-            (Frame::No { at, allowed }, Terminal::Fi) => self.write(
-                Item::If { at },
-                whole(allowed),
-            ),
+            (Frame::No { at, allowed }, Terminal::Fi) => {
+                let op = Operator::Stream(StreamForm::If);
+                self.write(Item::Operator { op, at }, whole(allowed))
+            }
             (Frame::Arguments { at, name, allowed }, _) => self.close_argument(
                 at, name, allowed, terminal,
             ),

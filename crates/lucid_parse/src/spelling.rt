@@ -9,7 +9,8 @@ ghost use Rattle.lucid_parse.specs.Terminals.{terminal_in, fixed_terminal};
 ghost use Rattle.lucid_parse.specs.Spellings.{fixed_value, fixed_plain, pair_of};
 
 use crate::terminal::Terminal;
-use lucid_forms::{Operator, StreamOp};
+use lucid_forms::Operator;
+use lucid_streams::Form;
 use lucid_value::{List, Name, Value};
 use std::alloc::Global;
 use std::convert::Infallible;
@@ -60,10 +61,7 @@ const FORMS: [Spelling; 20] = [
     spelling!(b"then", Terminal::Then),
     spelling!(b"else", Terminal::Else),
     spelling!(b"fi", Terminal::Fi),
-    spelling!(
-        b"wvr",
-        Terminal::Operator(Operator::Stream(StreamOp::Whenever))
-    ),
+    spelling!(b"wvr", Terminal::Operator(Operator::Stream(Form::Whenever))),
     spelling!(b"true", Terminal::Const(FixedValue::True)),
     spelling!(b"false", Terminal::Const(FixedValue::False)),
     spelling!(b"eod", Terminal::Const(FixedValue::Eod)),

@@ -80,10 +80,8 @@ pub enum Focus<N> {
 pub enum Item<N, V> {
     Const { at: u32, value: V },
     Name { at: u32, name: N },
-    /// An operator of as many trees before it as it has operands.
+    /// An operator, or `if`, of as many trees before it as it has operands.
     Operator { op: Operator, at: u32 },
-    /// An `if` of the three trees before it.
-    If { at: u32 },
     /// An empty list of arguments.
     NoTrees,
     /// The tree before it goes to the end of the list of arguments before that.

@@ -37,7 +37,10 @@ impl<N: Copy, V: Copy> Terminal<N, V> {
         ensures { result ≡ operator_in wanted self }
     {
         match (self, wanted) {
-            (Terminal::Operator(op), _) if op.row().form == wanted => Some(op),
+            (Terminal::Operator(op), _) => match op.row().form {
+                Some(form) if form == wanted => Some(op),
+                _ => None,
+            },
             (Terminal::Minus, Form::Between) => Some(Operator::Data(Op::Sub)),
             (Terminal::Minus, Form::Before) => Some(Operator::Data(Op::Neg)),
             _ => None,

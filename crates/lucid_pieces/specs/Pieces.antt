@@ -2,9 +2,11 @@
 use Rattle.std.specs.Prelude.{ℕ, Bool, List, [], ◌∷◌, ◌++◌, map, codes, if◌then◌else◌}
 use Rattle.std.specs.Borrow.{Bor}
 use Rattle.lucid_ops.specs.Rows.{operator_row}
-use Rattle.lucid_tree.specs.Tree.{Head, const, apply, choose, both, either, first, next, fby, whenever, asa, upon, attime, initial, succ, sby, atspace, PlainTree, form, name, call, block, PlainTrees, no_trees, tree, PlainDefs, no_defs, defines, defines_function, defines_current}
+use Rattle.lucid_streams.specs.Forms.{form_row}
+use Rattle.lucid_tree.specs.Tree.{Head, const, apply, stream, PlainTree, form, name, call, block, PlainTrees, no_trees, tree, PlainDefs, no_defs, defines, defines_function, defines_current}
 use Rattle.lucid_equations.specs.declared.rows.Node.{Node}
-use Rattle.lucid_equations.specs.declared.rows.Node.TheVariants.{Const, Input, Apply, If, And, Or, First, Next, Fby, Whenever, Asa, Upon, Attime, Initial, Succ, Sby, Atspace, Freeze, Refer, Call}
+use Rattle.lucid_equations.specs.declared.rows.Node.TheVariants.{Const, Input, Apply, Freeze, Refer, Call}
+use Rattle.lucid_equations.specs.Rows.{read, read_word}
 use Rattle.lucid_compile.specs.Static.{freezes}
 
 -- what lent pieces are
@@ -36,20 +38,7 @@ abbrev mutual
 abbrev pub head_word : Head → List ℕ
 head_word (const v) = codes "constant"
 head_word (apply op n) = (operator_row op).spelling
-head_word choose = codes "if"
-head_word both = codes "and"
-head_word either = codes "or"
-head_word first = codes "first"
-head_word next = codes "next"
-head_word fby = codes "fby"
-head_word whenever = codes "whenever"
-head_word asa = codes "asa"
-head_word upon = codes "upon"
-head_word attime = codes "attime"
-head_word initial = codes "initial"
-head_word succ = codes "succ"
-head_word sby = codes "sby"
-head_word atspace = codes "atspace"
+head_word (stream f) = (form_row f).spelling
 
 -- what a piece is
 abbrev pub piece_word : PlainTree → List ℕ
@@ -63,20 +52,7 @@ abbrev pub node_word : Node → List ℕ
 node_word (Const k) = codes "constant"
 node_word (Input k) = codes "name"
 node_word (Apply op args) = (operator_row op).spelling
-node_word (If a b c) = codes "if"
-node_word (And a b) = codes "and"
-node_word (Or a b) = codes "or"
-node_word (First a) = codes "first"
-node_word (Next a) = codes "next"
-node_word (Fby a b) = codes "fby"
-node_word (Whenever a b) = codes "whenever"
-node_word (Asa a b) = codes "asa"
-node_word (Upon a b) = codes "upon"
-node_word (Attime a b) = codes "attime"
-node_word (Initial a) = codes "initial"
-node_word (Succ a) = codes "succ"
-node_word (Sby a b) = codes "sby"
-node_word (Atspace a b) = codes "atspace"
 node_word (Freeze a) = codes "where"
 node_word (Refer n l) = codes "name"
 node_word (Call n q l) = codes "call"
+node_word n = read_word (read n)

@@ -9,7 +9,7 @@ pub use Rattle.lucid_print.specs.Again.{all_unplaced, defs_unplaced, unplaced}
 unfoldable pub use Rattle.lucid_print.specs.Canonical.{definitions, source}
 pub use Rattle.lucid_print.specs.Canonical.{form_text, parted, parted_more, parts, placed, texts}
 pub use Rattle.lucid_print.specs.Pieces.{sign, steps_left, work, work_in}
-pub use Rattle.lucid_print.specs.Styles.{made_style, style}
+pub use Rattle.lucid_print.specs.Styles.{style}
 pub use Rattle.lucid_print.specs.Views.{part_of}
 pub use Rattle.lucid_scan.specs.declared.token.TokenKind.{TokenKind}
 pub use Rattle.lucid_tree.specs.Tree.{PlainDefs, PlainTree, PlainTrees, block, call, defines, defines_current, defines_function, form, name, no_defs, no_trees, tree}

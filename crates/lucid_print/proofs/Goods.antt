@@ -11,7 +11,7 @@ use Rattle.lucid_scan.specs.Laws.{Stops}
 use Rattle.lucid_parse.specs.declared.terminal.Terminal.TheVariants as terminal
 use Rattle.lucid_ops.specs.declared.op.Op.TheVariants as op
 use Rattle.lucid_forms.specs.declared.operator.Operator.TheVariants.{Stream}
-use Rattle.lucid_forms.specs.declared.operator.StreamOp.TheVariants.{Fby}
+use Rattle.lucid_streams.specs.declared.form.Form.TheVariants as forms
 use Rattle.lucid_forms.specs.Operators.{spelled}
 use Rattle.lucid_parse.specs.Terminals.{terminal_in, fixed_terminal, form_terminals}
 use Rattle.lucid_print.proofs.Terminals.{terminal_of, terminal_text, is_open, not_open}
@@ -156,14 +156,14 @@ two_mark bytes = eqb (length bytes) 2 && is_mark bytes
 operator_stands : (o : Operator) → fixed_terminal (terminal_text (terminal_of o)) ≡ Some (terminal_of o)
 unfolding form_terminals
 operator_stands (Data op.Sub) = refl
-operator_stands (Stream Fby) = refl
+operator_stands (Stream forms.If) = refl
 operator_stands o = refl
 
 operator_token : (o : Operator)
     → (is_reserved (terminal_text (terminal_of o)) || (one_mark (terminal_text (terminal_of o)) || two_mark (terminal_text (terminal_of o)))) ≡ true
 unfolding reserved_words one_mark two_mark
 operator_token (Data op.Sub) = refl
-operator_token (Stream Fby) = refl
+operator_token (Stream forms.If) = refl
 operator_token o = refl
 
 one_mark_good : (s : PlainTerminal) (bytes : List ℕ) → terminal_text s ≡ bytes → one_mark bytes ≡ true → fixed_terminal (terminal_text s) ≡ Some s

@@ -1,13 +1,13 @@
 -- The text of terminals: each terminal's own, and a blank between two or none.
-use Rattle.lucid_print.proofs.Common.{◌≡◌, ℕ, List, [], ◌∷◌, ◌++◌, Some, None, Bool, true, false, cond, ◌&&◌, ◌||◌, refl, sym, ◌∙◌, ap, append_assoc, codes, cond-true, cond-false, Before, Between, Called, Operator, Data, PlainTerminal, as_form, style, made_style, nat_eq}
+use Rattle.lucid_print.proofs.Common.{◌≡◌, ℕ, List, [], ◌∷◌, ◌++◌, Some, None, Bool, true, false, cond, ◌&&◌, ◌||◌, refl, sym, ◌∙◌, ap, append_assoc, codes, cond-true, cond-false, Before, Between, Called, Operator, Data, PlainTerminal, as_form, style}
 use Rattle.lucid_parse.specs.declared.terminal.Terminal.TheVariants as terminal
 use Rattle.lucid_ops.specs.declared.op.Op.TheVariants as op
 use Rattle.lucid_ops.specs.declared.op.Form.{Form}
-use Rattle.lucid_ops.specs.Rows.{form_number}
 use Rattle.lucid_forms.specs.Operators.{row_of, level_of, left, right, head}
-use Rattle.lucid_forms.proofs.Rows.{known}
+use Rattle.lucid_forms.specs.declared.operator.Operator.TheVariants.{Stream}
+use Rattle.lucid_streams.specs.declared.form.Form.TheVariants as forms
 use Rattle.lucid_parse.proofs.Levels.{stands}
-use Rattle.lucid_parse.specs.Grammar.{operator_in}
+use Rattle.lucid_parse.specs.Grammar.{operator_in, is_form}
 use Rattle.lucid_print.specs.Styles as styles
 use Rattle.lucid_print.specs.Styles.{row_style}
 use Rattle.lucid_print.specs.Canonical.{constant_text}
@@ -16,13 +16,14 @@ use Rattle.lucid_print.specs.Canonical.{constant_text}
 abbrev pub terminal_of : Operator → PlainTerminal
 terminal_of (Data op.Sub) = terminal.Minus
 terminal_of (Data op.Neg) = terminal.Minus
+terminal_of (Stream forms.If) = terminal.If
 terminal_of o = terminal.Operator o
 
 -- an operator that a terminal is in a form has this form
 pub stands_as : (wanted : Form) (s : PlainTerminal) (o : Operator) → operator_in wanted s ≡ Some o → as_form wanted o ≡ Some o
-stands_as Between s o e = ap (λ f. cond (nat_eq (form_number f) 1) (Some o) None) (stands Between s o e)
-stands_as Before s o e = ap (λ f. cond (nat_eq (form_number f) 0) (Some o) None) (stands Before s o e)
-stands_as Called s o e = ap (λ f. cond (nat_eq (form_number f) 2) (Some o) None) (stands Called s o e)
+stands_as Between s o e = ap (λ f. cond (is_form Between f) (Some o) None) (stands Between s o e)
+stands_as Before s o e = ap (λ f. cond (is_form Before f) (Some o) None) (stands Before s o e)
+stands_as Called s o e = ap (λ f. cond (is_form Called f) (Some o) None) (stands Called s o e)
 
 pub terminal_is : (wanted : Form) (o : Operator) → as_form wanted o ≡ Some o → operator_in wanted (terminal_of o) ≡ Some o
 terminal_is Between (Data op.Sub) w = refl
@@ -31,6 +32,7 @@ terminal_is Called (Data op.Sub) w = cc
 terminal_is Between (Data op.Neg) w = cc
 terminal_is Before (Data op.Neg) w = refl
 terminal_is Called (Data op.Neg) w = cc
+terminal_is wanted (Stream forms.If) w = cc
 terminal_is wanted o w = w
 
 abbrev pub terminal_text : PlainTerminal → List ℕ
@@ -56,10 +58,12 @@ terminal_text terminal.Equals = codes "="
 operator_text : (o : Operator) → terminal_text (terminal_of o) ≡ (row_of o).spelling
 operator_text (Data op.Sub) = refl
 operator_text (Data op.Neg) = refl
+operator_text (Stream forms.If) = refl
 operator_text o = refl
 
-style-row : (wanted : Form) (o : Operator) → as_form wanted o ≡ Some o → style (head o) ≡ row_style wanted (row_of o)
-style-row wanted o w = ap (λ x. made_style x (head o)) (known o) ∙ ap (λ f. row_style f (row_of o)) (stands wanted (terminal.Operator o) o w)
+style-row : (wanted : Form) (o : Operator) → as_form wanted o ≡ Some o → style (head o) ≡ row_style (Some wanted) (row_of o)
+style-row wanted (Data p) w = ap (λ f. row_style f (row_of (Data p))) (stands wanted (terminal.Operator (Data p)) (Data p) w)
+style-row wanted (Stream f) w = ap (λ x. row_style x (row_of (Stream f))) (stands wanted (terminal.Operator (Stream f)) (Stream f) w)
 
 pub style-between : (o : Operator) → as_form Between o ≡ Some o
     → style (head o) ≡ styles.between (terminal_text (terminal_of o)) (level_of o) (left o) (right o)
@@ -83,35 +87,39 @@ is_closer _ = false
 
 abbrev pub is_callable : PlainTerminal → Bool
 is_callable (terminal.Name n) = true
-is_callable (terminal.Operator o) = nat_eq (form_number (row_of o).form) (form_number Called)
+is_callable (terminal.Operator o) = is_form Called (row_of o).form
 is_callable _ = false
 
 -- the terminal of an operator is no parenthesis and no closer, and is called where the operator is
 pub not_open : (o : Operator) → is_open (terminal_of o) ≡ false
 not_open (Data op.Sub) = refl
 not_open (Data op.Neg) = refl
+not_open (Stream forms.If) = refl
 not_open o = refl
 
 pub not_closer : (o : Operator) → is_closer (terminal_of o) ≡ false
 not_closer (Data op.Sub) = refl
 not_closer (Data op.Neg) = refl
+not_closer (Stream forms.If) = refl
 not_closer o = refl
 
-not_callable : (o : Operator) → nat_eq (form_number (row_of o).form) (form_number Called) ≡ false → is_callable (terminal_of o) ≡ false
+not_callable : (o : Operator) → is_form Called (row_of o).form ≡ false → is_callable (terminal_of o) ≡ false
 not_callable (Data op.Sub) h = refl
 not_callable (Data op.Neg) h = refl
+not_callable (Stream forms.If) h = refl
 not_callable o h = h
 
 pub between_not_callable : (o : Operator) → as_form Between o ≡ Some o → is_callable (terminal_of o) ≡ false
-between_not_callable o w = not_callable o (ap (λ f. nat_eq (form_number f) (form_number Called)) (stands Between (terminal.Operator o) o w))
+between_not_callable o w = not_callable o (ap (is_form Called) (stands Between (terminal.Operator o) o w))
 
 pub before_not_callable : (o : Operator) → as_form Before o ≡ Some o → is_callable (terminal_of o) ≡ false
-before_not_callable o w = not_callable o (ap (λ f. nat_eq (form_number f) (form_number Called)) (stands Before (terminal.Operator o) o w))
+before_not_callable o w = not_callable o (ap (is_form Called) (stands Before (terminal.Operator o) o w))
 
 pub callable : (o : Operator) → as_form Called o ≡ Some o → is_callable (terminal_of o) ≡ true
 callable (Data op.Sub) w = cc
 callable (Data op.Neg) w = cc
-callable o w = ap (λ f. nat_eq (form_number f) (form_number Called)) (stands Called (terminal.Operator o) o w)
+callable (Stream forms.If) w = cc
+callable o w = ap (is_form Called) (stands Called (terminal.Operator o) o w)
 
 -- no blank stands between the two terminals
 abbrev pub is_tight : PlainTerminal → PlainTerminal → Bool

@@ -7,8 +7,9 @@ use Rattle.lucid_ops.specs.declared.op.Form.TheVariants.{Before, Between, Called
 use Rattle.lucid_ops.specs.declared.op.Side.{Side}
 use Rattle.lucid_ops.specs.Row.{left_level, right_level}
 use Rattle.lucid_forms.specs.declared.operator.Operator.{Operator}
-use Rattle.lucid_forms.specs.Operators.{Row, row_of, operator_of}
-use Rattle.lucid_tree.specs.Tree.{Head, const, PlainTree, form, name, call, block}
+use Rattle.lucid_forms.specs.declared.operator.Operator.TheVariants.{Data, Stream}
+use Rattle.lucid_forms.specs.Operators.{Row, row_of}
+use Rattle.lucid_tree.specs.Tree.{Head, const, apply, stream, PlainTree, form, name, call, block}
 
 pub data Style : Type 0 where
   constant : PlainValue → Style
@@ -25,23 +26,21 @@ pub data Style : Type 0 where
 abbrev pub grouped : Side → ℕ → List ℕ → Style
 grouped side k s = between s k (left_level side k) (right_level side k)
 
--- An operator, by its row.
-abbrev pub row_style : Form → Row → Style
-row_style Before r = before r.spelling r.level
-row_style Between r = grouped r.side r.level r.spelling
-row_style Called r = called r.spelling
+-- An operator, by its row; `if` has words of its own.
+abbrev pub row_style : Option Form → Row → Style
+row_style (Some Before) r = before r.spelling r.level
+row_style (Some Between) r = grouped r.side r.level r.spelling
+row_style (Some Called) r = called r.spelling
+row_style None r = conditional
 
 abbrev pub operator : Operator → Style
 operator o = row_style (row_of o).form (row_of o)
 
--- All forms: each by the operator that makes it, but constants and `if`, which are made by none.
-abbrev pub made_style : Option Operator → Head → Style
-made_style (Some o) h = operator o
-made_style None (const v) = constant v
-made_style None h = conditional
-
+-- All forms: a constant, or by the operator that makes it.
 abbrev pub style : Head → Style
-style h = made_style (operator_of h) h
+style (const v) = constant v
+style (apply op n) = operator (Data op)
+style (stream f) = operator (Stream f)
 
 -- The level of a form: what is no operator and no block binds tightest.
 abbrev pub style_level : Style → ℕ

@@ -84,22 +84,21 @@ fn written(op: Operator) -> Style<'static>
 {
     let row = op.row();
     match row.form {
-        Form::Between => Style::Infix(Infix::grouped(row.side, row.level, row.spelling)),
-        Form::Before => Style::Prefix(Prefix::at(row.level, row.spelling)),
-        Form::Called => Style::Called(row.spelling),
+        Some(Form::Between) => Style::Infix(Infix::grouped(row.side, row.level, row.spelling)),
+        Some(Form::Before) => Style::Prefix(Prefix::at(row.level, row.spelling)),
+        Some(Form::Called) => Style::Called(row.spelling),
+        None => Style::Conditional,
     }
 }
 
-/// How a form with this head is written: by the operator that makes it, if one does.
+/// How a form with this head is written: a constant, or by the operator that makes it.
 pub(crate) fn style_of(head: Head<'_>) -> Style<'_>
     ensures { seen_style result ≡ style (head_of head.entry) }
 {
-    match Operator::of_head(head) {
-        Some(op) => written(op),
-        None => match head {
-            Head::Const(value) => Style::Constant(value),
-            _ => Style::Conditional,
-        },
+    match head {
+        Head::Const(value) => Style::Constant(value),
+        Head::Apply { op, .. } => written(Operator::Data(op)),
+        Head::Stream(form) => written(Operator::Stream(form)),
     }
 }
 

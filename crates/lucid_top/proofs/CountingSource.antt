@@ -13,7 +13,7 @@ use Rattle.lucid_tree.proofs.Growth.{meant-once}
 use Rattle.lucid_least.proofs.Rules.{derives-means}
 use Rattle.lucid_scope.specs.Sites.{site_at}
 use Rattle.lucid_forms.specs.declared.operator.Operator.TheVariants as operator
-use Rattle.lucid_forms.specs.declared.operator.StreamOp.TheVariants as stream
+use Rattle.lucid_streams.specs.declared.form.Form.TheVariants as stream
 use Rattle.lucid_parse.specs.declared.terminal.Terminal.TheVariants as terminal
 use Rattle.lucid_parse.specs.Grammar.{PlainTerminal, terminal_at, spells_const, spells_name, spells_infix, spells_block, spells_none, spells_def}
 use Rattle.lucid_parse.specs.Terminals.{terminals_none, terminals_next, StandsFor}

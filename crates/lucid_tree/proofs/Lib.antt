@@ -11,6 +11,7 @@ pub mod Walks
 pub mod Exact
 pub mod RunsMeant
 pub mod LevelMeant
+pub mod Made
 pub mod Meant
 pub mod Ways
 pub mod RestsDefined

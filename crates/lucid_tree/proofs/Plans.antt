@@ -1,5 +1,5 @@
 -- The plans of a greater approximation go on where those of a less one end, and give the same values.
-use Rattle.lucid_tree.proofs.Common.{◌≡◌, ℕ, zero, suc, List, [], ◌∷◌, Option, Some, None, refl, nat_le, if◌then◌else◌, arith, nat_tests, PlainValue, truth, Head, const, first, whenever, asa, upon, Look, Plan, gives, nothing, looks, single, gives_part, by_test, at_zero, find_true, count_true, plan, Reader, all_values, add_value, with_values, run}
+use Rattle.lucid_tree.proofs.Common.{◌≡◌, ℕ, zero, suc, List, [], ◌∷◌, Option, Some, None, refl, nat_le, if◌then◌else◌, arith, nat_tests, PlainValue, truth, Head, const, whenever, asa, upon, Look, Plan, gives, nothing, looks, single, gives_part, by_test, at_zero, find_true, count_true, plan, Reader, all_values, add_value, with_values, run}
 use Rattle.std.proofs.Common.{Bool, true, false}
 
 -- the second plan is the first, or goes on where the first has nothing

@@ -1,11 +1,10 @@
 -- Lists of trees and of definitions, from their items on.
-use Rattle.lucid_tree.proofs.Common.{◌≡◌, ℕ, List, [], ◌∷◌, ◌++◌, refl, ap, PlainTree, PlainTrees, no_trees, tree, PlainDefs, no_defs, trees_of, listed, defs_of, rights, Def, Plain, Function, Current}
+use Rattle.lucid_tree.proofs.Common.{◌≡◌, ℕ, List, [], ◌∷◌, ◌++◌, length, refl, sym, ap, subst, ◌∙◌, count, Head, form, PlainTree, PlainTrees, no_trees, tree, PlainDefs, no_defs, trees_of, listed, defs_of, rights, Def, Plain, Function, Current}
 use Rattle.lucid_tree.specs.DefsView.{one_def}
 use Rattle.lucid_tree.specs.Rights.{right_of}
-use Rattle.lucid_tree.specs.View.{tree_of}
 use Rattle.lucid_tree.specs.Parts.{parts_of}
-use Rattle.lucid_tree.specs.declared.tree.Kind.{Kind}
-use Rattle.lucid_tree.specs.declared.tree.Kind.TheVariants.{Const, Name, Call, Apply, If, And, Or, First, Next, Fby, Whenever, Asa, Upon, Attime, Initial, Succ, Sby, Atspace, Scope}
+use Rattle.lucid_tree.specs.Shape.{FitsHead}
+use Rattle.lucid_tree.proofs.Counts.{count_listed}
 
 pub trees_of_listed : (es : PlainTrees) → trees_of (listed es) ≡ es
 trees_of_listed no_trees = refl
@@ -28,24 +27,11 @@ pub rights_more : (d : Def) (es : PlainDefs) → rights (one_def d es) ≡ right
 rights_more d es = elim d.kind as (λ k. rights (one_def (record d { kind = k }) es) ≡ right_of k ∷ rights es)
     [ Plain e ↦ refl | Function ps ats e ↦ refl | Current e ↦ refl ]
 
--- The place of a node is no matter to its parts.
-pub parts_anywhere : (k : Kind) (at : ℕ) → parts_of (tree_of at k) ≡ parts_of (tree_of 0 k)
-parts_anywhere (Const a) at = refl
-parts_anywhere (Name a) at = refl
-parts_anywhere (Call a b) at = refl
-parts_anywhere (Apply a b) at = refl
-parts_anywhere (If a b c) at = refl
-parts_anywhere (And a b) at = refl
-parts_anywhere (Or a b) at = refl
-parts_anywhere (First a) at = refl
-parts_anywhere (Next a) at = refl
-parts_anywhere (Fby a b) at = refl
-parts_anywhere (Whenever a b) at = refl
-parts_anywhere (Asa a b) at = refl
-parts_anywhere (Upon a b) at = refl
-parts_anywhere (Attime a b) at = refl
-parts_anywhere (Initial a) at = refl
-parts_anywhere (Succ a) at = refl
-parts_anywhere (Sby a b) at = refl
-parts_anywhere (Atspace a b) at = refl
-parts_anywhere (Scope a) at = refl
+-- A form over the copies of its parts is the form, and fits its head as it does.
+pub copied_form : (h : Head) (at : ℕ) (es : PlainTrees) (e : PlainTree) (xs : List PlainTree) → form at h es ≡ e → xs ≡ parts_of e → form at h (trees_of xs) ≡ e
+copied_form h at es e xs s p = ap (form at h) (ap trees_of (p ∙ sym (ap parts_of s)) ∙ trees_of_listed es) ∙ s
+
+pub copies_fit : (h : Head) (at : ℕ) (es : PlainTrees) (e : PlainTree) (xs : List PlainTree) → form at h es ≡ e → xs ≡ parts_of e → FitsHead h (count es)
+    → FitsHead h (length xs)
+copies_fit h at es e xs s p f =
+    subst (FitsHead h) (sym (ap count (trees_of_listed es)) ∙ count_listed (listed es) ∙ ap length (sym (p ∙ sym (ap parts_of s)))) f

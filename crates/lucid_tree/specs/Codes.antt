@@ -1,57 +1,32 @@
 -- How the logic stores a plain tree: as a tree of numbers that gives it back.
-use Rattle.std.proofs.Common.{◌≡◌, ℕ, zero, suc, List, [], ◌∷◌, refl, ap, get_or}
+use Rattle.std.proofs.Common.{◌≡◌, ℕ, zero, suc, List, [], ◌∷◌, refl, ap, ◌∙◌, get_or}
+use Rattle.std.specs.Option.{unwrap_or}
 use Rattle.std.specs.Coded.{Coded, code_by}
 use base.Stored.{Gv, gnil, gnum, gcons}
 use denote.Struct.Codes.{itself}
 use Rattle.lucid_value.specs.Codes.{value_code, value_back, value_there, bytes_code, bytes_back, bytes_there}
 use Rattle.lucid_ops.specs.declared.op.Op.TheVariants.{Add}
 use Rattle.lucid_ops.specs.Codes.{operators, operator_number, operator_there}
-use Rattle.lucid_tree.specs.Tree.{Head, const, apply, choose, both, either, first, next, fby, whenever, asa, upon, attime, initial, succ, sby, atspace, PlainTree, form, name, call, block, PlainTrees, no_trees, tree, PlainDefs, no_defs, defines, defines_function, defines_current}
+use Rattle.lucid_streams.specs.Forms.{form_row, spelled, found}
+use Rattle.lucid_streams.specs.declared.form.Form.TheVariants.{If}
+use Rattle.lucid_tree.specs.Tree.{Head, const, apply, stream, PlainTree, form, name, call, block, PlainTrees, no_trees, tree, PlainDefs, no_defs, defines, defines_function, defines_current}
 
-abbrev simple_heads : List Head
-simple_heads = choose ∷ both ∷ either ∷ first ∷ next ∷ fby ∷ whenever ∷ asa ∷ upon ∷ attime ∷ initial ∷ succ ∷ sby ∷ atspace ∷ []
-
+-- a form over streams by its word
 abbrev head_code : Head → Gv
 head_code (const v) = gcons gnil (value_code v)
 head_code (apply op n) = gcons (gnum (operator_number op)) (gnum n)
-head_code choose = gnum 0
-head_code both = gnum 1
-head_code either = gnum 2
-head_code first = gnum 3
-head_code next = gnum 4
-head_code fby = gnum 5
-head_code whenever = gnum 6
-head_code asa = gnum 7
-head_code upon = gnum 8
-head_code attime = gnum 9
-head_code initial = gnum 10
-head_code succ = gnum 11
-head_code sby = gnum 12
-head_code atspace = gnum 13
+head_code (stream f) = gcons (gcons gnil gnil) (bytes_code (form_row f).spelling)
 
 abbrev head_back : Gv → Head
-head_back (gnum k) = get_or simple_heads k choose
 head_back (gcons (gnum o) (gnum n)) = apply (get_or operators o Add) n
 head_back (gcons gnil v) = const (value_back v)
-head_back _ = choose
+head_back (gcons (gcons a b) w) = stream (unwrap_or (spelled (bytes_back w)) If)
+head_back _ = stream If
 
 head_there : (f : Head) → head_back (head_code f) ≡ f
 head_there (const v) = ap const (value_there v)
 head_there (apply op n) = ap (λ o. apply o n) (operator_there op)
-head_there choose = refl
-head_there both = refl
-head_there either = refl
-head_there first = refl
-head_there next = refl
-head_there fby = refl
-head_there whenever = refl
-head_there asa = refl
-head_there upon = refl
-head_there attime = refl
-head_there initial = refl
-head_there succ = refl
-head_there sby = refl
-head_there atspace = refl
+head_there (stream f) = ap (λ w. stream (unwrap_or (spelled w) If)) (bytes_there (form_row f).spelling) ∙ ap (λ o. stream (unwrap_or o If)) (found f)
 
 abbrev names_code : List (List ℕ) → Gv
 names_code [] = gnil

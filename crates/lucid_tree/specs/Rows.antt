@@ -4,7 +4,8 @@
 -- A plan says nothing of who looks: approximations, demands and held values all read the same plans.
 use Rattle.std.specs.Prelude.{ℕ, zero, suc, pos, true, false, List, [], ◌∷◌, ◌++◌, Option, Some, None, nat_lt, nat_le, if◌then◌else◌}
 use Rattle.lucid_value.specs.Plain.{PlainValue, int, truth, eod, fault}
-use Rattle.lucid_tree.specs.Tree.{Head, const, apply, choose, both, either, first, next, fby, whenever, asa, upon, attime, initial, succ, sby, atspace}
+use Rattle.lucid_streams.specs.declared.form.Form.TheVariants as forms
+use Rattle.lucid_tree.specs.Tree.{Head, const, apply, stream}
 use Rattle.lucid_ops.specs.Algebra.{algebra}
 
 -- A look at a part, by its number, at a time and a space; approximations below `least` do not take it. Only what is demanded
@@ -86,20 +87,20 @@ count_true (suc left) j n s l = look 1 j s l (λ p. by_test p (count_true left (
 abbrev pub plan : (m : ℕ) → Head → (time space : ℕ) → Plan
 plan m (const v) t s = gives v
 plan m (apply op n) t s = looks (arguments n 0 t s) (λ vs. gives (algebra op vs))
-plan m choose t s = look 0 t s 0 (λ c. by_test c (gives_part 1 t s) (gives_part 2 t s))
-plan m both t s = look 0 t s 0 (λ a. by_test a (look 1 t s 0 (λ b. gives (only_truth b))) (gives (truth false)))
-plan m either t s = look 0 t s 0 (λ a. by_test a (gives (truth true)) (look 1 t s 0 (λ b. gives (only_truth b))))
-plan m first t s = gives_part 0 0 s
-plan m next t s = below_last t (gives_part 0 (suc t) s)
-plan m fby t s = at_zero t (gives_part 0 0 s) (λ u. gives_part 1 u s)
-plan m whenever t s = find_true m 0 t s
-plan m asa t s = find_true m 0 0 s
-plan m upon t s = if nat_le t m then count_true t 0 0 s t else nothing
-plan m attime t s = look 1 t s 0 (λ y. by_place y (λ u. gives_part 0 u s))
-plan m initial t s = gives_part 0 t 0
-plan m succ t s = below_last s (gives_part 0 t (suc s))
-plan m sby t s = at_zero s (gives_part 0 t 0) (λ r. gives_part 1 t r)
-plan m atspace t s = look 1 t s 0 (λ y. by_place y (λ r. gives_part 0 t r))
+plan m (stream forms.If) t s = look 0 t s 0 (λ c. by_test c (gives_part 1 t s) (gives_part 2 t s))
+plan m (stream forms.And) t s = look 0 t s 0 (λ a. by_test a (look 1 t s 0 (λ b. gives (only_truth b))) (gives (truth false)))
+plan m (stream forms.Or) t s = look 0 t s 0 (λ a. by_test a (gives (truth true)) (look 1 t s 0 (λ b. gives (only_truth b))))
+plan m (stream forms.First) t s = gives_part 0 0 s
+plan m (stream forms.Next) t s = below_last t (gives_part 0 (suc t) s)
+plan m (stream forms.Fby) t s = at_zero t (gives_part 0 0 s) (λ u. gives_part 1 u s)
+plan m (stream forms.Whenever) t s = find_true m 0 t s
+plan m (stream forms.Asa) t s = find_true m 0 0 s
+plan m (stream forms.Upon) t s = if nat_le t m then count_true t 0 0 s t else nothing
+plan m (stream forms.Attime) t s = look 1 t s 0 (λ y. by_place y (λ u. gives_part 0 u s))
+plan m (stream forms.Initial) t s = gives_part 0 t 0
+plan m (stream forms.Succ) t s = below_last s (gives_part 0 t (suc s))
+plan m (stream forms.Sby) t s = at_zero s (gives_part 0 t 0) (λ r. gives_part 1 t r)
+plan m (stream forms.Atspace) t s = look 1 t s 0 (λ y. by_place y (λ r. gives_part 0 t r))
 
 -- what reads the parts: a part's number, a time and a space
 abbrev pub Reader : Type 0 → Type 0

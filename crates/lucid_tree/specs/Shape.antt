@@ -2,9 +2,10 @@
 use Rattle.std.specs.Prelude.{◌≡◌, ℕ}
 use Rattle.lucid_tree.specs.Size.{count}
 use Rattle.lucid_value.specs.View.{plain as plain_value}
-use Rattle.lucid_tree.specs.Tree.{Head, const, apply, choose, both, either, first, next, fby, whenever, asa, upon, attime, initial, succ, sby, atspace, PlainTree, form, name, call, block}
+use Rattle.lucid_streams.specs.Forms.{part_count}
+use Rattle.lucid_tree.specs.Tree.{Head, const, apply, stream, PlainTree, form, name, call, block}
 use Rattle.lucid_tree.specs.declared.shape.Head.{Head as Reader}
-use Rattle.lucid_tree.specs.declared.shape.Head.TheVariants.{Const, Apply, Choose, Both, Either, First, Next, Fby, Whenever, Asa, Upon, Attime, Initial, Succ, Sby, Atspace}
+use Rattle.lucid_tree.specs.declared.shape.Head.TheVariants.{Const, Apply, Stream}
 use Rattle.lucid_tree.specs.declared.shape.Shape.{Shape}
 use Rattle.lucid_tree.specs.declared.shape.Shape.TheVariants.{Form, Name, Call, Scope}
 
@@ -12,20 +13,7 @@ use Rattle.lucid_tree.specs.declared.shape.Shape.TheVariants.{Form, Name, Call, 
 abbrev pub head_of : Reader → Head
 head_of (Const v) = const (plain_value v.now)
 head_of (Apply op n) = apply op n
-head_of Choose = choose
-head_of Both = both
-head_of Either = either
-head_of First = first
-head_of Next = next
-head_of Fby = fby
-head_of Whenever = whenever
-head_of Asa = asa
-head_of Upon = upon
-head_of Attime = attime
-head_of Initial = initial
-head_of Succ = succ
-head_of Sby = sby
-head_of Atspace = atspace
+head_of (Stream f) = stream f
 
 -- the plain tree of a shape
 abbrev pub shape_tree : Shape → PlainTree
@@ -34,16 +22,11 @@ shape_tree (Name at n) = name at n.now
 shape_tree (Call at n es) = call at n.now es.now
 shape_tree (Scope at e ds) = block at e.now ds.now
 
--- A form of this head has so many parts as its row looks at; a data operator as many as its head tells.
+-- A form of this head has so many parts as its row says; a data operator as many as its head tells, and a constant none.
 abbrev pub FitsHead : Head → ℕ → Type 0
 FitsHead (const v) n = n ≡ 0
 FitsHead (apply op k) n = k ≡ n
-FitsHead choose n = n ≡ 3
-FitsHead first n = n ≡ 1
-FitsHead next n = n ≡ 1
-FitsHead initial n = n ≡ 1
-FitsHead succ n = n ≡ 1
-FitsHead _ n = n ≡ 2
+FitsHead (stream f) n = n ≡ part_count f
 
 -- A shape that is a form has the number of parts of its head.
 abbrev pub FitsShape : Shape → Type 0

@@ -1,15 +1,13 @@
--- Expressions without the four forms over space, and environments all of whose trees are without them.
-use Rattle.std.specs.Prelude.{◌≡◌, Bool, true, false}
-use Rattle.lucid_tree.specs.Tree.{Head, initial, succ, sby, atspace, PlainTree, PlainTrees, PlainDefs}
+-- Expressions without forms over space, and environments all of whose trees are without them.
+use Rattle.std.specs.Prelude.{◌≡◌, Bool, false}
+use Rattle.lucid_streams.specs.Forms.{form_row}
+use Rattle.lucid_tree.specs.Tree.{Head, stream, PlainTree, PlainTrees, PlainDefs}
 use Rattle.lucid_tree.specs.Each.{EachForm, EachFormIn, EachFormInDefs}
 use Rattle.lucid_tree.specs.Env.{Env, empty, scope, args}
 
--- `initial`, `succ`, `sby` and `atspace`
+-- a form that looks at other spaces, by its row
 abbrev pub is_over_space : Head → Bool
-is_over_space initial = true
-is_over_space succ = true
-is_over_space sby = true
-is_over_space atspace = true
+is_over_space (stream f) = (form_row f).over_space
 is_over_space _ = false
 
 -- no form over space stands in the tree

@@ -2,13 +2,14 @@
 use Rattle.std.specs.Prelude.{ℕ, List}
 use Rattle.lucid_value.specs.Plain.{PlainValue}
 use Rattle.lucid_ops.specs.declared.op.Op.{Op}
+use Rattle.lucid_streams.specs.declared.form.Form.{Form}
+use Rattle.lucid_streams.specs.declared.form.Form.TheVariants as forms
 
--- What a form is, apart from its parts: a constant, a data operator with the number of its arguments,
--- `if` (choose), `and` (both), `or` (either), or one of the forms over time and space.
+-- What a form is, apart from its parts: a constant, a data operator with the number of its arguments, or a form over streams.
 pub data Head : Type 0 where
   const : PlainValue → Head
   apply : Op → (arity : ℕ) → Head
-  choose both either first next fby whenever asa upon attime initial succ sby atspace : Head
+  stream : Form → Head
 
 mutual
   -- A tree: each node has the place of its own token.
@@ -28,6 +29,49 @@ mutual
     defines : (at : ℕ) → (name : List ℕ) → (right : PlainTree) → PlainDefs → PlainDefs
     defines_function : (at : ℕ) → (name : List ℕ) → (parameters : List (List ℕ)) → (places : List ℕ) → (right : PlainTree) → PlainDefs → PlainDefs
     defines_current : (at : ℕ) → (name : List ℕ) → (right : PlainTree) → PlainDefs → PlainDefs
+
+-- The heads of the forms over streams, where one is treated apart: `if` (choose), `and` (both), `or` (either), and the others by their words.
+pattern abbrev pub choose : Head
+choose = stream forms.If
+
+pattern abbrev pub both : Head
+both = stream forms.And
+
+pattern abbrev pub either : Head
+either = stream forms.Or
+
+pattern abbrev pub first : Head
+first = stream forms.First
+
+pattern abbrev pub next : Head
+next = stream forms.Next
+
+pattern abbrev pub fby : Head
+fby = stream forms.Fby
+
+pattern abbrev pub whenever : Head
+whenever = stream forms.Whenever
+
+pattern abbrev pub asa : Head
+asa = stream forms.Asa
+
+pattern abbrev pub upon : Head
+upon = stream forms.Upon
+
+pattern abbrev pub attime : Head
+attime = stream forms.Attime
+
+pattern abbrev pub initial : Head
+initial = stream forms.Initial
+
+pattern abbrev pub succ : Head
+succ = stream forms.Succ
+
+pattern abbrev pub sby : Head
+sby = stream forms.Sby
+
+pattern abbrev pub atspace : Head
+atspace = stream forms.Atspace
 
 -- The forms by their own names.
 pattern abbrev pub constant : ℕ → PlainValue → PlainTree

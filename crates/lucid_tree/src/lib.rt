@@ -16,6 +16,7 @@ mod definitions;
 mod depth;
 pub mod laws;
 mod lists;
+mod make;
 mod parts;
 mod rebuild;
 pub mod samples;

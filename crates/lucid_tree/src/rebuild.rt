@@ -1,82 +1,74 @@
 //! The copy of a node over copies of its parts.
-ghost use Rattle.std.specs.Prelude.{◌≡◌, ℕ, IfOk, ◌∷◌, [], ◌≢◌};
+ghost use Rattle.std.specs.Prelude.{◌≡◌, ℕ, IfOk, ◌∷◌, length};
 ghost use Rattle.std.specs.Vec.Iter.{into_iter_items};
-ghost use Rattle.lucid_tree.specs.View.{tree_of};
-ghost use Rattle.lucid_tree.specs.Rights.{right_of, rights};
+ghost use Rattle.lucid_tree.specs.Lists.{trees_of};
 ghost use Rattle.lucid_tree.specs.Parts.{parts_of};
+ghost use Rattle.lucid_tree.specs.Rights.{right_of, rights};
+ghost use Rattle.lucid_tree.specs.Shape.{head_of, FitsHead};
+ghost use Rattle.lucid_tree.specs.Tree.{PlainTree, form, block};
+ghost use Rattle.lucid_tree.specs.View.{tree_of};
 
 use crate::lists::{Names, Places32};
+use crate::shape::{Head, Shape};
 use crate::tree::{Block, Def, DefKind, Defs, Kind, Tree, Trees};
 use std::alloc::{AllocError, Global};
 use std::vec::IntoIter;
 
 /// The copy of a node whose parts have these copies.
-#[tactic(auto, using(crate::proofs::Rebuilt::parts_anywhere))]
+#[tactic(auto, using(crate::proofs::Rebuilt::trees_of_listed, crate::proofs::Rebuilt::copied_form, crate::proofs::Rebuilt::copies_fit))]
 pub(crate) fn copy_node(alloc: Global, tree: &Tree, parts: Vec<Tree>) -> Result<Tree, AllocError>
     requires { parts.items ≡ parts_of tree.now }
     ensures { IfOk result (λ copy. copy ≡ tree.now) }
 {
-    let kind = copy_kind(alloc, &tree.kind, parts)?;
-    Ok(Tree { at: tree.at, kind })
-}
-
-#[tactic(auto, using(crate::proofs::Rebuilt::trees_of_listed))]
-fn copy_kind(alloc: Global, kind: &Kind, mut parts: Vec<Tree>) -> Result<Kind, AllocError>
-    requires { parts.items ≡ parts_of (tree_of 0 kind.now) }
-    ensures { IfOk result (λ copy. (at : ℕ) → tree_of at copy ≡ tree_of at kind.now) }
-{
-    match kind {
-        Kind::Const(value) => Ok(Kind::Const(value.copy(alloc)?)),
-        Kind::Name(name) => Ok(Kind::Name(name.copy()?)),
-        Kind::Call { name, .. } => Ok(Kind::Call {
-            name: name.copy()?,
-            args: Trees::from_vec(parts),
-        }),
-        Kind::Apply { op, .. } => Ok(Kind::Apply {
-            op: *op,
-            args: Trees::from_vec(parts),
-        }),
-        Kind::If { .. } => Ok(Kind::If {
-            test: one(alloc, &mut parts)?,
-            yes: one(alloc, &mut parts)?,
-            no: one(alloc, &mut parts)?,
-        }),
-        Kind::And(..) => Ok(Kind::And(one(alloc, &mut parts)?, one(alloc, &mut parts)?)),
-        Kind::Or(..) => Ok(Kind::Or(one(alloc, &mut parts)?, one(alloc, &mut parts)?)),
-        Kind::First(..) => Ok(Kind::First(one(alloc, &mut parts)?)),
-        Kind::Next(..) => Ok(Kind::Next(one(alloc, &mut parts)?)),
-        Kind::Fby(..) => Ok(Kind::Fby(one(alloc, &mut parts)?, one(alloc, &mut parts)?)),
-        Kind::Whenever(..) => Ok(Kind::Whenever(one(alloc, &mut parts)?, one(alloc, &mut parts)?)),
-        Kind::Asa(..) => Ok(Kind::Asa(one(alloc, &mut parts)?, one(alloc, &mut parts)?)),
-        Kind::Upon(..) => Ok(Kind::Upon(one(alloc, &mut parts)?, one(alloc, &mut parts)?)),
-        Kind::Attime(..) => Ok(Kind::Attime(one(alloc, &mut parts)?, one(alloc, &mut parts)?)),
-        Kind::Initial(..) => Ok(Kind::Initial(one(alloc, &mut parts)?)),
-        Kind::Succ(..) => Ok(Kind::Succ(one(alloc, &mut parts)?)),
-        Kind::Sby(..) => Ok(Kind::Sby(one(alloc, &mut parts)?, one(alloc, &mut parts)?)),
-        Kind::Atspace(..) => Ok(Kind::Atspace(one(alloc, &mut parts)?, one(alloc, &mut parts)?)),
-        Kind::Scope(block) => Ok(Kind::Scope(copy_block(alloc, block, parts)?)),
+    match tree.shape() {
+        Shape::Form { at, head, .. } => {
+            let kind = copy_form(alloc, head, parts)?;
+            Ok(Tree { at, kind })
+        }
+        Shape::Name { at, name } => {
+            let kind = Kind::Name(name.copy()?);
+            Ok(Tree { at, kind })
+        }
+        Shape::Call { at, name, .. } => {
+            let name = name.copy()?;
+            let args = Trees::from_vec(parts);
+            let kind = Kind::Call { name, args };
+            Ok(Tree { at, kind })
+        }
+        Shape::Scope { at, defs, .. } => {
+            let kind = copy_block(alloc, defs, parts)?;
+            Ok(Tree { at, kind })
+        }
     }
 }
 
-// The first of the parts, taken off.
-fn one(alloc: Global, parts: &mut Vec<Tree>) -> Result<Box<Tree>, AllocError>
-    requires { parts.old.items ≢ [] }
-    ensures { IfOk result (λ part. parts.old.items ≡ part.value ∷ parts.new.items) }
+// The node of a form over copies of its parts.
+#[tactic(auto, using(crate::proofs::Counts::count_listed))]
+fn copy_form(alloc: Global, head: Head<'_>, parts: Vec<Tree>) -> Result<Kind, AllocError>
+    requires { FitsHead (head_of head) (length parts.items) }
+    ensures { IfOk result (λ copy. (at : ℕ) → tree_of at copy ≡ form at (head_of head.entry) (trees_of parts.items)) }
 {
-    Ok(Box::new(alloc, parts.remove(0))?)
+    match head {
+        Head::Const(value) => Ok(Kind::Const(value.copy(alloc)?)),
+        Head::Apply { op, .. } => {
+            let args = Trees::from_vec(parts);
+            Ok(Kind::Apply { op, args })
+        }
+        Head::Stream(which) => Kind::of_form(alloc, which, parts),
+    }
 }
 
-fn copy_block(alloc: Global, block: &Block, parts: Vec<Tree>) -> Result<Box<Block>, AllocError>
-    requires { parts.items ≡ block.now.subject ∷ rights block.now.defs }
-    ensures subject { IfOk result (λ copy. copy.value.subject ≡ block.now.subject) }
-    ensures defs { IfOk result (λ copy. copy.value.defs ≡ block.now.defs) }
+// The block whose subject and right sides have these copies.
+fn copy_block(alloc: Global, defs: &Defs, parts: Vec<Tree>) -> Result<Kind, AllocError>
+    requires { (subject : PlainTree) × (parts.items ≡ subject ∷ rights defs.now) }
+    ensures { IfOk result (λ copy. (at : ℕ) (subject : PlainTree) → parts.items ≡ subject ∷ rights defs.now → tree_of at copy ≡ block at subject defs.now) }
 {
     let mut parts = parts.into_iter();
     let Some(subject) = parts.next() else {
         unreachable!()
     };
-    let defs = copy_defs(alloc, &block.defs, parts)?;
-    Ok(Box::new(alloc, Block { subject, defs })?)
+    let defs = copy_defs(alloc, defs, parts)?;
+    Ok(Kind::Scope(Box::new(alloc, Block { subject, defs })?))
 }
 
 // The copies of definitions whose right sides have these copies.

@@ -8,27 +8,18 @@ ghost use Rattle.lucid_tree.specs.Tree.{no_trees, tree};
 use crate::parts::Parts;
 use crate::tree::{Defs, Kind, Tree, Trees};
 use lucid_ops::Op;
+use lucid_streams::Form;
 use lucid_value::{Name, Value};
 
 /// What a form is, apart from its parts.
 #[derive(Clone, Copy)]
 pub enum Head<'a> {
+    /// A constant.
     Const(&'a Value),
+    /// A data operator, with the number of its arguments.
     Apply { op: Op, arity: usize },
-    Choose,
-    Both,
-    Either,
-    First,
-    Next,
-    Fby,
-    Whenever,
-    Asa,
-    Upon,
-    Attime,
-    Initial,
-    Succ,
-    Sby,
-    Atspace,
+    /// A form over streams.
+    Stream(Form),
 }
 
 /// What a node is, in the four cases of plain trees, with the place of its token. A walk that treats all forms alike has an arm for each of
@@ -69,20 +60,20 @@ impl Tree {
             Kind::Name(name) => Shape::Name { at, name },
             Kind::Call { name, args } => Shape::Call { at, name, args },
             Kind::Apply { op, args } => apply(at, *op, args),
-            Kind::If { test, yes, no } => three(at, Head::Choose, test, yes, no),
-            Kind::And(a, b) => two(at, Head::Both, a, b),
-            Kind::Or(a, b) => two(at, Head::Either, a, b),
-            Kind::First(a) => one(at, Head::First, a),
-            Kind::Next(a) => one(at, Head::Next, a),
-            Kind::Fby(a, b) => two(at, Head::Fby, a, b),
-            Kind::Whenever(a, b) => two(at, Head::Whenever, a, b),
-            Kind::Asa(a, b) => two(at, Head::Asa, a, b),
-            Kind::Upon(a, b) => two(at, Head::Upon, a, b),
-            Kind::Attime(a, b) => two(at, Head::Attime, a, b),
-            Kind::Initial(a) => one(at, Head::Initial, a),
-            Kind::Succ(a) => one(at, Head::Succ, a),
-            Kind::Sby(a, b) => two(at, Head::Sby, a, b),
-            Kind::Atspace(a, b) => two(at, Head::Atspace, a, b),
+            Kind::If { test, yes, no } => three(at, Form::If, test, yes, no),
+            Kind::And(a, b) => two(at, Form::And, a, b),
+            Kind::Or(a, b) => two(at, Form::Or, a, b),
+            Kind::First(a) => one(at, Form::First, a),
+            Kind::Next(a) => one(at, Form::Next, a),
+            Kind::Fby(a, b) => two(at, Form::Fby, a, b),
+            Kind::Whenever(a, b) => two(at, Form::Whenever, a, b),
+            Kind::Asa(a, b) => two(at, Form::Asa, a, b),
+            Kind::Upon(a, b) => two(at, Form::Upon, a, b),
+            Kind::Attime(a, b) => two(at, Form::Attime, a, b),
+            Kind::Initial(a) => one(at, Form::Initial, a),
+            Kind::Succ(a) => one(at, Form::Succ, a),
+            Kind::Sby(a, b) => two(at, Form::Sby, a, b),
+            Kind::Atspace(a, b) => two(at, Form::Atspace, a, b),
             Kind::Scope(block) => Shape::Scope {
                 at,
                 subject: &block.subject,
@@ -113,25 +104,28 @@ fn none(at: u32, head: Head<'_>) -> Shape<'_>
 }
 
 // A form with one part.
-fn one<'a>(at: u32, head: Head<'a>, a: &'a Tree) -> Shape<'a>
-    ensures { result ≡ Shape.Form at head.entry (tree a.now no_trees) }
+fn one(at: u32, form: Form, a: &Tree) -> Shape<'_>
+    ensures { result ≡ Shape.Form at (Head.Stream form) (tree a.now no_trees) }
 {
+    let head = Head::Stream(form);
     let parts = Parts::one(a);
     Shape::Form { at, head, parts }
 }
 
 // A form with two parts.
-fn two<'a>(at: u32, head: Head<'a>, a: &'a Tree, b: &'a Tree) -> Shape<'a>
-    ensures { result ≡ Shape.Form at head.entry (tree a.now (tree b.now no_trees)) }
+fn two<'a>(at: u32, form: Form, a: &'a Tree, b: &'a Tree) -> Shape<'a>
+    ensures { result ≡ Shape.Form at (Head.Stream form) (tree a.now (tree b.now no_trees)) }
 {
+    let head = Head::Stream(form);
     let parts = Parts::two(a, b);
     Shape::Form { at, head, parts }
 }
 
 // A form with three parts.
-fn three<'a>(at: u32, head: Head<'a>, a: &'a Tree, b: &'a Tree, c: &'a Tree) -> Shape<'a>
-    ensures { result ≡ Shape.Form at head.entry (tree a.now (tree b.now (tree c.now no_trees))) }
+fn three<'a>(at: u32, form: Form, a: &'a Tree, b: &'a Tree, c: &'a Tree) -> Shape<'a>
+    ensures { result ≡ Shape.Form at (Head.Stream form) (tree a.now (tree b.now (tree c.now no_trees))) }
 {
+    let head = Head::Stream(form);
     let parts = Parts::three(a, b, c);
     Shape::Form { at, head, parts }
 }

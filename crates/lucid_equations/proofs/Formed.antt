@@ -1,0 +1,28 @@
+-- Forms over streams, read from nodes and made into nodes.
+use Rattle.lucid_equations.proofs.Common.{◌≡◌, ℕ, List, [], ◌∷◌, Option, None, Some, refl, subst, take, get_or, Node, Const}
+use Rattle.lucid_streams.specs.declared.form.Form.{Form}
+use Rattle.lucid_streams.specs.Forms.{part_count}
+use Rattle.lucid_streams.specs.declared.form.Form.TheVariants as forms
+use Rattle.lucid_equations.specs.Rows.{read, made}
+use Rattle.lucid_equations.specs.declared.rows.Node.TheVariants.{Input, Apply, Freeze, Refer, Call}
+
+pub made_is_read : (f : Form) (a b c : ℕ) → read (made f a b c) ≡ Some (f, take (part_count f) (a ∷ b ∷ c ∷ []))
+made_is_read forms.If a b c = refl
+made_is_read _ a b c = refl
+
+-- the node is made of what was read
+abbrev IsMadeOf : Node → Option (Form × List ℕ) → Type 0
+IsMadeOf n None = Unit {0}
+IsMadeOf n (Some p) = made p.0 (get_or p.1 0 0) (get_or p.1 1 0) (get_or p.1 2 0) ≡ n
+
+is_made : (n : Node) → IsMadeOf n (read n)
+is_made (Const k) = tt
+is_made (Input k) = tt
+is_made (Apply op args) = tt
+is_made (Freeze a) = tt
+is_made (Refer n l) = tt
+is_made (Call n q l) = tt
+is_made _ = refl
+
+pub read_is_made : (n : Node) (f : Form) (is : List ℕ) → read n ≡ Some (f, is) → made f (get_or is 0 0) (get_or is 1 0) (get_or is 2 0) ≡ n
+read_is_made n f is h = subst (IsMadeOf n) h (is_made n)
