@@ -1,7 +1,11 @@
 -- The node of some words is the one that has them: what is read has the words that it is read from, and what has words is read from them.
-use Rattle.lucid_flat.proofs.Common.{◌≡◌, ℕ, false, List, [], ◌∷◌, map, length, take, Some, ◌⊎◌, inl, inr, refl, sym, ap, ◌∙◌, subst, arith, decimal, codes, ◌==◌, AllByRecursion, option_and_then, bytes_eq, and_parts, eqb-true, option_and_then_some, same_Some, bytes_eq-Decides, Op, Add, Node, Apply, Three, op_word, form_word, node_numbers, node_words, Are32, NodeFits, three_of, exactly, listed, op_of, has_form, form_node}
+use Rattle.lucid_flat.proofs.Common.{◌≡◌, ℕ, false, List, [], ◌∷◌, map, length, take, Option, Some, None, ◌⊎◌, inl, inr, refl, sym, ap, ◌∙◌, subst, arith, decimal, codes, ◌==◌, AllByRecursion, option_and_then, bytes_eq, and_parts, eqb-true, option_and_then_some, same_Some, bytes_eq-Decides, Op, Add, Node, Apply, Three, op_word, form_word, node_numbers, node_words, Are32, NodeFits, three_of, exactly, listed, op_of, has_form, form_node}
 use Rattle.lucid_ops.specs.Codes.{operators}
-use Rattle.lucid_flat.specs.FlatText.{forms_with}
+use Rattle.lucid_streams.specs.declared.form.Form.{Form}
+use Rattle.lucid_streams.specs.Forms.{spelled}
+use Rattle.lucid_streams.specs.declared.form.Form.TheVariants as forms
+use Rattle.lucid_equations.specs.Rows.{made}
+use Rattle.lucid_flat.specs.FlatText.{nodes_by, nodes_with}
 use Rattle.lucid_flat.specs.FlatTables.{HasPlaces}
 use Rattle.lucid_flat.specs.Forms.{apply_node, node_of}
 use Rattle.lucid_flat.proofs.Chosen.{by_word, found, found_among}
@@ -75,67 +79,21 @@ HasWords n ws = (ws ≡ node_words n) × NodeFits n
 abbrev IsMade : (a b c : ℕ) → Node → Type 0
 IsMade a b c n = IsForm n × (node_numbers n ≡ take (length (node_numbers n)) (a ∷ b ∷ c ∷ []))
 
-all_made : (a b c : ℕ) → AllByRecursion (IsMade a b c) (forms_with a b c)
-all_made a b c = (
-  (tt, refl),
-  (
-    (tt, refl),
-    (
-      (tt, refl),
-      (
-        (tt, refl),
-        (
-          (tt, refl),
-          (
-            (tt, refl),
-            (
-              (tt, refl),
-              (
-                (tt, refl),
-                (
-                  (tt, refl),
-                  (
-                    (tt, refl),
-                    (
-                      (tt, refl),
-                      (
-                        (tt, refl),
-                        (
-                          (tt, refl),
-                          (
-                            (tt, refl),
-                            (
-                              (tt, refl),
-                              (
-                                (tt, refl),
-                                (
-                                  (tt, refl),
-                                  ((tt, refl), ((tt, refl), tt)),
-                                ),
-                              ),
-                            ),
-                          ),
-                        ),
-                      ),
-                    ),
-                  ),
-                ),
-              ),
-            ),
-          ),
-        ),
-      ),
-    ),
-  ),
-)
+made_made : (f : Form) (a b c : ℕ) → IsMade a b c (made f a b c)
+made_made forms.If a b c = (tt, refl)
+made_made _ a b c = (tt, refl)
+
+all_made : (o : Option Form) (a b c : ℕ) → AllByRecursion (IsMade a b c) (nodes_by o a b c)
+all_made (Some f) a b c = (made_made f a b c, tt)
+all_made None a b c = ((tt, refl), ((tt, refl), ((tt, refl), ((tt, refl), ((tt, refl), tt)))))
 
 -- a node that was found by its form and its numbers has them
 form_read : (w : List ℕ) (ws : List (List ℕ)) (ns : Three) (n : Node) → AreWordsOf ws ns → form_node w ns ≡ Some n → HasWords n (w ∷ ws)
 unfolding form_node
 form_read w ws ns n h e =
-    let forms = forms_with ns.first ns.second ns.third in
-    let t = and_parts (bytes_eq (form_word n) w) (length (node_numbers n) == ns.count) (found (has_form w ns.count) forms n e) in
-    let m = found_among (IsMade ns.first ns.second ns.third) (has_form w ns.count) forms n (all_made ns.first ns.second ns.third) e in
+    let nodes = nodes_with w ns.first ns.second ns.third in
+    let t = and_parts (bytes_eq (form_word n) w) (length (node_numbers n) == ns.count) (found (has_form w ns.count) nodes n e) in
+    let m = found_among (IsMade ns.first ns.second ns.third) (has_form w ns.count) nodes n (all_made (spelled w) ns.first ns.second ns.third) e in
     let word : form_word n ≡ w = (bytes_eq-Decides (form_word n) w).0 t.0 in
     let count : length (node_numbers n) ≡ ns.count = eqb-true (length (node_numbers n)) ns.count t.1 in
     let numbers : node_numbers n ≡ listed ns = m.1 ∙ ap (λ k. take k (ns.first ∷ ns.second ∷ ns.third ∷ [])) count in

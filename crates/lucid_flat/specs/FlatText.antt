@@ -1,18 +1,20 @@
 -- The flat form: the text of an equation table. It has a first line, and then a line for each row, in the order of the lists; scope 0, which
 -- is the same in each table that has a text, has none. The words are this language's own.
-use Rattle.std.specs.Prelude.{ℕ, List, [], ◌∷◌, ◌++◌, map, drop, codes, decimal}
+use Rattle.std.specs.Prelude.{ℕ, List, [], ◌∷◌, ◌++◌, Option, Some, None, map, drop, codes, decimal}
 use Rattle.std.specs.List.{join_with_byte}
 use Rattle.lucid_value.specs.Plain.{PlainValue}
 use Rattle.lucid_value.specs.ValueText.{value_text}
 use Rattle.lucid_texts.specs.TextLines.{text_of}
 use Rattle.lucid_ops.specs.declared.op.Op.{Op}
 use Rattle.lucid_ops.specs.declared.op.Op.TheVariants.{Add, Sub, Mul, Div, Mod, Pow, Neg, Abs, Eq, Ne, Lt, Le, Gt, Ge, Cmp, Not, Head, Tail, Cons, Append, Join, Length, Substr, Nth, MakeWord, MakeString, IsInt, IsWord, IsString, IsList, IsTruth, IsNull, IsAtom, IsEod, IsError}
-use Rattle.lucid_equations.specs.Rows.{parts}
+use Rattle.lucid_streams.specs.declared.form.Form.{Form}
+use Rattle.lucid_streams.specs.Forms.{spelled}
+use Rattle.lucid_equations.specs.Rows.{read, read_word, made, parts}
 use Rattle.lucid_equations.specs.declared.rows.ScopeKind.{ScopeKind}
 use Rattle.lucid_equations.specs.declared.rows.ScopeKind.TheVariants.{Root, Called as CalledScope, Frozen as FrozenScope}
 use Rattle.lucid_equations.specs.declared.rows.ScopeRow.{ScopeRow}
 use Rattle.lucid_equations.specs.declared.rows.Node.{Node}
-use Rattle.lucid_equations.specs.declared.rows.Node.TheVariants.{Const, Input, Apply, If, And, Or, First, Next, Fby, Whenever, Asa, Upon, Attime, Initial, Succ, Sby, Atspace, Freeze, Refer, Call}
+use Rattle.lucid_equations.specs.declared.rows.Node.TheVariants.{Const, Input, Apply, Freeze, Refer, Call}
 use Rattle.lucid_equations.specs.declared.rows.Entry.{Entry}
 use Rattle.lucid_equations.specs.declared.rows.Entry.TheVariants.{Plain, Parameter, Current, Called}
 use Rattle.lucid_equations.specs.declared.rows.NodeRow.{NodeRow}
@@ -89,29 +91,18 @@ abbrev pub form_word : Node → List ℕ
 form_word (Const k) = codes "const"
 form_word (Input k) = codes "input"
 form_word (Apply op args) = codes "apply"
-form_word (If a b c) = codes "if"
-form_word (And a b) = codes "and"
-form_word (Or a b) = codes "or"
-form_word (First a) = codes "first"
-form_word (Next a) = codes "next"
-form_word (Fby a b) = codes "fby"
-form_word (Whenever a b) = codes "whenever"
-form_word (Asa a b) = codes "asa"
-form_word (Upon a b) = codes "upon"
-form_word (Attime a b) = codes "attime"
-form_word (Initial a) = codes "initial"
-form_word (Succ a) = codes "succ"
-form_word (Sby a b) = codes "sby"
-form_word (Atspace a b) = codes "atspace"
 form_word (Freeze a) = codes "freeze"
 form_word (Refer n l) = codes "refer"
 form_word (Call n q l) = codes "call"
+form_word n = read_word (read n)
 
--- a node of each form but a data operator's, with these numbers
-abbrev pub forms_with : (a b c : ℕ) → List Node
-forms_with a b c =
-    Const a ∷ Input a ∷ If a b c ∷ And a b ∷ Or a b ∷ First a ∷ Next a ∷ Fby a b ∷ Whenever a b ∷ Asa a b ∷ Upon a b ∷ Attime a b ∷ Initial a ∷ Succ a
-    ∷ Sby a b ∷ Atspace a b ∷ Freeze a ∷ Refer a b ∷ Call a b c ∷ []
+-- the nodes with these numbers that the word can stand for, but a data operator's
+abbrev pub nodes_by : Option Form → (a b c : ℕ) → List Node
+nodes_by (Some f) a b c = made f a b c ∷ []
+nodes_by None a b c = Const a ∷ Input a ∷ Freeze a ∷ Refer a b ∷ Call a b c ∷ []
+
+abbrev pub nodes_with : List ℕ → (a b c : ℕ) → List Node
+nodes_with w a b c = nodes_by (spelled w) a b c
 
 -- a node's numbers in the order of its fields: its parts, but of a data operator also those past its arity, and what has no parts has others
 abbrev pub node_numbers : Node → List ℕ

@@ -8,7 +8,7 @@ use Rattle.lucid_equations.specs.declared.rows.Node.{Node}
 use Rattle.lucid_equations.specs.declared.rows.Node.TheVariants.{Apply}
 use Rattle.lucid_flat.specs.declared.ops.OpWord.{OpWord}
 use Rattle.lucid_flat.specs.declared.words.Three.{Three}
-use Rattle.lucid_flat.specs.FlatText.{op_word, form_word, forms_with, node_numbers}
+use Rattle.lucid_flat.specs.FlatText.{op_word, form_word, nodes_with, node_numbers}
 use Rattle.lucid_texts.specs.Words.{◌>>=◌, take_word}
 use Rattle.lucid_flat.specs.Words.{three_of, exactly}
 
@@ -29,7 +29,7 @@ has_form w k n = bytes_eq (form_word n) w && (length (node_numbers n) == k)
 
 -- the node of a form's word and some numbers
 unfoldable pub form_node : List ℕ → Three → Option Node
-form_node w ns = find (has_form w ns.count) (forms_with ns.first ns.second ns.third)
+form_node w ns = find (has_form w ns.count) (nodes_with w ns.first ns.second ns.third)
 
 -- the node of an operator's word and three numbers
 unfoldable pub apply_node : List (List ℕ) → Option Node

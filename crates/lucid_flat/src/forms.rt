@@ -1,8 +1,8 @@
 //! The words of nodes in the flat form: how a node is appended to a text, and read from its words.
-ghost use Rattle.std.specs.Prelude.{◌≡◌, ◌∷◌, ◌++◌, [], OnOk, map, decimal, length};
+ghost use Rattle.std.specs.Prelude.{◌≡◌, ◌∷◌, ◌++◌, [], None, OnOk, map, decimal, length};
 ghost use Rattle.std.specs.List.{find};
 ghost use Rattle.std.specs.Option.{option_copied};
-ghost use Rattle.lucid_flat.specs.FlatText.{form_word, forms_with, node_numbers, node_words};
+ghost use Rattle.lucid_flat.specs.FlatText.{form_word, nodes_by, node_numbers, node_words};
 ghost use Rattle.lucid_flat.specs.FlatTables.{NodeFits};
 ghost use Rattle.lucid_texts.specs.Words.{words_left, spaced};
 ghost use Rattle.lucid_flat.specs.Forms.{has_form, form_node, apply_node, node_of};
@@ -11,6 +11,7 @@ use crate::ops::{op_of, op_word};
 use crate::put::put_numbers;
 use crate::words::{Three, exactly, next_three};
 use lucid_equations::Node;
+use lucid_streams::Form;
 use lucid_texts::{next_word, put_word};
 use std::alloc::AllocError;
 
@@ -22,51 +23,20 @@ fn form_word(node: Node) -> &'static [u8]
         Node::Const { .. } => b"const",
         Node::Input { .. } => b"input",
         Node::Apply { .. } => b"apply",
-        Node::If { .. } => b"if",
-        Node::And { .. } => b"and",
-        Node::Or { .. } => b"or",
-        Node::First { .. } => b"first",
-        Node::Next { .. } => b"next",
-        Node::Fby { .. } => b"fby",
-        Node::Whenever { .. } => b"whenever",
-        Node::Asa { .. } => b"asa",
-        Node::Upon { .. } => b"upon",
-        Node::Attime { .. } => b"attime",
-        Node::Initial { .. } => b"initial",
-        Node::Succ { .. } => b"succ",
-        Node::Sby { .. } => b"sby",
-        Node::Atspace { .. } => b"atspace",
         Node::Freeze { .. } => b"freeze",
         Node::Refer { .. } => b"refer",
         Node::Call { .. } => b"call",
+        _ => node.form_word(),
     }
 }
 
-// A node of each form but a data operator's, with these numbers.
-fn forms_with(a: u32, b: u32, c: u32) -> [Node; 19]
-    ensures { result ≡ forms_with a b c }
+// A node of each kind but a form's and a data operator's, with these numbers.
+fn others_with(a: u32, b: u32, c: u32) -> [Node; 5]
+    ensures { result ≡ nodes_by None a b c }
 {
     [
         Node::Const { constant: a },
         Node::Input { stream: a },
-        Node::If {
-            test: a,
-            yes: b,
-            no: c,
-        },
-        Node::And { left: a, right: b },
-        Node::Or { left: a, right: b },
-        Node::First { of: a },
-        Node::Next { of: a },
-        Node::Fby { left: a, right: b },
-        Node::Whenever { left: a, right: b },
-        Node::Asa { left: a, right: b },
-        Node::Upon { left: a, right: b },
-        Node::Attime { left: a, right: b },
-        Node::Initial { of: a },
-        Node::Succ { of: a },
-        Node::Sby { left: a, right: b },
-        Node::Atspace { left: a, right: b },
         Node::Freeze { subject: a },
         Node::Refer { name: a, level: b },
         Node::Call {
@@ -110,8 +80,11 @@ fn node_among(word: &[u8], count: usize, nodes: &[Node]) -> Option<Node>
 fn form_node(word: &[u8], numbers: Three) -> Option<Node>
     ensures { result ≡ form_node word.now numbers }
 {
-    let nodes = forms_with(numbers.first, numbers.second, numbers.third);
-    node_among(word, numbers.count, &nodes)
+    let (a, b, c) = (numbers.first, numbers.second, numbers.third);
+    match Form::of_word(word) {
+        Some(form) => node_among(word, numbers.count, &[Node::of_form(form, a, b, c)]),
+        None => node_among(word, numbers.count, &others_with(a, b, c)),
+    }
 }
 
 // The node of a data operator with the three numbers that are left behind its word.

@@ -1,14 +1,15 @@
 -- The plans that what is left of a form stands for, and what the looks on the way were.
-use Rattle.std.specs.Prelude.{◌≡◌, ℕ, true, false, suc, ◌+◌, ◌-◌, ◌<◌, ◌≤◌, ◌^◌, List, [], ◌∷◌, ◌++◌, length, Option}
+use Rattle.std.specs.Prelude.{◌≡◌, ℕ, true, false, suc, ◌+◌, ◌-◌, ◌<◌, ◌≤◌, ◌^◌, List, [], ◌∷◌, ◌++◌, length, Option, Some, None}
 use Rattle.lucid_value.specs.Plain.{PlainValue, truth, eod, fault}
 use Rattle.lucid_value.specs.View.{plain}
 use Rattle.lucid_ops.specs.Algebra.{algebra}
 use Rattle.lucid_ops.specs.Arity.{arity}
-use Rattle.lucid_tree.specs.Tree.{Head, const, apply, choose, both, either, first, next, fby, whenever, asa, upon, attime, initial, succ, sby, atspace}
+use Rattle.lucid_streams.specs.declared.form.Form.{Form}
+use Rattle.lucid_tree.specs.Tree.{Head, const, apply, stream}
 use Rattle.lucid_tree.specs.Members.{Inside}
 use Rattle.lucid_tree.specs.Rows.{Plan, last, gives, looks, look, gives_part, by_test, by_place, only_truth, at_zero, arguments, find_true, count_true, Reader}
 use Rattle.lucid_tree.specs.PlanLaws.{points_of}
-use Rattle.lucid_equations.specs.Rows.{constant_at}
+use Rattle.lucid_equations.specs.Rows.{constant_at, read}
 use Rattle.lucid_equations.specs.declared.rows.Node.{Node}
 use Rattle.lucid_equations.specs.declared.rows.Node.TheVariants as node
 use Rattle.lucid_equations.specs.declared.table.Table.{Table}
@@ -19,25 +20,16 @@ use Rattle.lucid_follow.specs.declared.rest.Look.{Look}
 use Rattle.lucid_follow.specs.declared.rest.Rest.{Rest}
 use Rattle.lucid_follow.specs.declared.rest.Rest.TheVariants as rest
 
+-- the form over streams that was read
+abbrev pub IsRead : Option (Form × List ℕ) → Head → Type 0
+IsRead None f = ⊥
+IsRead (Some p) f = f ≡ stream p.0
+
 -- the form of a node that has one
 abbrev pub HasHead : Table → Node → Head → Type 0
 HasHead T (node.Const k) f = f ≡ const (constant_at T k)
 HasHead T (node.Apply op args) f = f ≡ apply op (arity op)
-HasHead T (node.If a b c) f = f ≡ choose
-HasHead T (node.And a b) f = f ≡ both
-HasHead T (node.Or a b) f = f ≡ either
-HasHead T (node.First a) f = f ≡ first
-HasHead T (node.Next a) f = f ≡ next
-HasHead T (node.Fby a b) f = f ≡ fby
-HasHead T (node.Whenever a b) f = f ≡ whenever
-HasHead T (node.Asa a b) f = f ≡ asa
-HasHead T (node.Upon a b) f = f ≡ upon
-HasHead T (node.Attime a b) f = f ≡ attime
-HasHead T (node.Initial a) f = f ≡ initial
-HasHead T (node.Succ a) f = f ≡ succ
-HasHead T (node.Sby a b) f = f ≡ sby
-HasHead T (node.Atspace a b) f = f ≡ atspace
-HasHead T _ f = ⊥
+HasHead T n f = IsRead (read n) f
 
 -- the node is a form
 abbrev pub IsForm : Node → Type 0
