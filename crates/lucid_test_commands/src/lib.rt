@@ -17,6 +17,8 @@ mod failures;
 #[cfg(test)]
 mod flat;
 #[cfg(test)]
+mod given;
+#[cfg(test)]
 mod inputs;
 #[cfg(test)]
 mod large;

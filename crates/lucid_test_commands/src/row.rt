@@ -89,8 +89,17 @@ impl Answer {
     }
 }
 
-// What was written to a sink.
-fn written(alloc: Global, sink: &MemorySink) -> Result<String, Fail> {
+/// The words, parted by blanks.
+pub(crate) fn word_list(alloc: Global, words: &str) -> Result<Vec<String>, AllocError> {
+    let mut list = Vec::new(alloc);
+    for word in words.split_whitespace() {
+        list.push(String::from_str(alloc, word)?)?;
+    }
+    Ok(list)
+}
+
+/// What was written to a sink.
+pub(crate) fn written(alloc: Global, sink: &MemorySink) -> Result<String, Fail> {
     let bytes = Vec::from_slice(alloc, sink.written())?;
     Ok(String::from_utf8(bytes)?)
 }
@@ -107,10 +116,7 @@ pub(crate) fn call<P: Places>(
     requires some { 1 ≤ most }
     ensures few { OnOk result ((P.world places.new).reached ≤ 1048578) }
 {
-    let mut list = Vec::new(alloc);
-    for word in words.split_whitespace() {
-        list.push(String::from_str(alloc, word)?)?;
-    }
+    let list = word_list(alloc, words)?;
     let mut out = MemorySink::make(alloc, most, Vec::from_slice(alloc, writes)?);
     let mut report = MemorySink::make(alloc, 100, Vec::new(alloc));
     let status = lucid(alloc, &list, places, &mut out, &mut report);

@@ -11,7 +11,7 @@ use Rattle.lucid_session.specs.Laws.{StandsFor, SameStreamsRunAlike, FiguresCarr
 use Rattle.lucid_report.specs.declared.stop.Stop.TheVariants as stop
 use Rattle.lucid_top.specs.declared.task.Task.TheVariants as task
 use Rattle.lucid_top.specs.Programs.{of_spaces, column_streams, tree_counted}
-use Rattle.lucid_top.specs.Runs.{policy_named}
+use Rattle.lucid_top.specs.Runs.{under}
 use Rattle.lucid_top.proofs.FewColumns.{no_columns, some_columns}
 use Rattle.lucid_top.proofs.Begun.{RanWith, ran_with, want_of_memory}
 
@@ -153,13 +153,13 @@ parts count depth w v o p policy names places most = record {
 -- a run seen with the same parts
 pub seen_same : (prog : Program) (words : PlainWords) (w v : World) (o p : Told) (result : Result Summary RunFault) (policy : PolicyView)
     (names free : List (List ℕ)) (places numbers : List ℕ)
-    (most : ℕ) → policy ≡ policy_named words.policy words.age words.room → names ≡ free → places ≡ numbers → most ≡ most_input_bytes
-    → RanWith prog (parts words.count words.depth w v o p policy names places most) result → RanWith prog (viewed words free numbers w v o p) result
-seen_same prog words w v o p result policy names free places numbers most by_policy by_names by_places by_most h =
-    subst (λ m. RanWith prog (parts words.count words.depth w v o p (policy_named words.policy words.age words.room) free numbers m) result) by_most
-    (subst (λ ps. RanWith prog (parts words.count words.depth w v o p (policy_named words.policy words.age words.room) free ps most) result) by_places
-    (subst (λ ns. RanWith prog (parts words.count words.depth w v o p (policy_named words.policy words.age words.room) ns places most) result) by_names
-    (subst (λ y. RanWith prog (parts words.count words.depth w v o p y names places most) result) by_policy h)))
+    (most : ℕ) → names ≡ free → places ≡ numbers → most ≡ most_input_bytes
+    → RanWith prog (parts words.count words.depth w v o p policy names places most) result
+    → RanWith prog (under policy (viewed words free numbers w v o p)) result
+seen_same prog words w v o p result policy names free places numbers most by_names by_places by_most h =
+    subst (λ m. RanWith prog (parts words.count words.depth w v o p policy free numbers m) result) by_most
+    (subst (λ ps. RanWith prog (parts words.count words.depth w v o p policy free ps most) result) by_places
+    (subst (λ ns. RanWith prog (parts words.count words.depth w v o p policy ns places most) result) by_names h))
 
 -- the outcome of a run that stopped
 pub stopped_run : (prog : Program) (r : RunView) (free : List (List ℕ)) (stats : Bool) (f : RunFault) (s : Stop) → IsRunStop free stats f s

@@ -1,18 +1,20 @@
 -- What a call does: it stops early, or it writes or runs behind a source that was read.
-use Rattle.lucid_top.proofs.Common.{◌≡◌, ◌≢◌, ℕ, ◌+◌, List, Some, Ok, Err, inr, refl, sym, ap, subst, arith, IsErrOf, CountsNoFaultUnless, World, most_source_bytes, PlainSource, file, made, PlainWords, plain_words, words_asked, Told, Stop, Task, Outcome, Call, task_of, form_of, IsWriting, IsTextFor, ReadsSource, most_read, IsProgramStop, WritesOnly, Comes, MayBegin, ReadsCertificate, first_place, HasReached, ◌≤◌, ◌∙◌, ReadsPlace, most_certificate_bytes}
+use Rattle.lucid_top.proofs.Common.{◌≡◌, ◌≢◌, ℕ, ◌+◌, List, Some, Ok, Err, None, inr, refl, sym, ap, subst, arith, IsErrOf, CountsNoFaultUnless, World, most_source_bytes, PlainSource, file, made, PlainWords, plain_words, words_asked, Told, Stop, Task, Outcome, Call, task_of, form_of, IsWriting, IsTextFor, ReadsSource, most_read, IsProgramStop, WritesOnly, Comes, MayBegin, ReadsCertificate, first_place, HasReached, ◌≤◌, ◌∙◌, ReadsPlace, most_certificate_bytes}
 use Rattle.std.proofs.Common.{Result, ◌^◌, ◌-◌}
 use Rattle.clap.proofs.BuiltLemmas.{on_ok_always}
 use Rattle.lucid_words.specs.declared.Words.{Words}
-use Rattle.lucid_words.specs.Numbers.{IsFromTo, IsFromToIfGiven, MadeIsFromTo}
-use Rattle.lucid_ports.specs.Limits.{most_asked}
+use Rattle.lucid_words.specs.declared.WordsRefusal.{WordsRefusal}
+use Rattle.lucid_words.specs.declared.WordsRefusal.TheVariants as words
+use Rattle.lucid_words.specs.Numbers.{IsFromToIfGiven, MadeIsFromTo}
 use Rattle.lucid_report.specs.declared.stop.Stop.TheVariants as stop
+use Rattle.lucid_report.specs.Refusals.{words_stop}
 use Rattle.lucid_top.specs.declared.task.Task.TheVariants as task
 use Rattle.lucid_top.specs.Places.{HasRead, CountsNoRead, CountsNoWrite}
 use Rattle.lucid_top.specs.Coming.{Does}
 use Rattle.lucid_top.proofs.FewColumns.{few_columns}
 use Rattle.lucid_top.proofs.TextsOnly.{texts_only}
 use Rattle.lucid_top.proofs.Counting.{none_at_ok, handed_on, counts_then}
-use Rattle.lucid_top.proofs.Ending.{Begins, IsText, within_text, program_stops, memory_stops, writes}
+use Rattle.lucid_top.proofs.Ending.{Begins, IsText, within_text, words_stops, program_stops, memory_stops, writes}
 
 -- the source is read so, and then something else comes of it; or what stopped its reading is handed on
 pub has_read : {T U : Type 0} (x : T) (most : ℕ) (s : PlainSource) (v w : World) (r : Result U Stop) → HasRead {T = T} most s v w (Ok x) → HasRead most s v w r
@@ -58,11 +60,9 @@ reaching_stopped e most v w h = record {
 
 -- what the words ask for may begin
 pub may_begin : (texts : List (List ℕ)) (words : Words) (t : Task) (v : World) → words_asked texts ≡ Some (plain_words words)
-    → MadeIsFromTo 1 10000 words.source → IsFromTo 1 most_asked words.room
-    → IsFromToIfGiven 0 (2 ^ 63 - 1) words.why → t ≡ task_of (plain_words words) → v.reached ≡ 0 → MayBegin words t v
-may_begin texts words t v asked given room time is none = record {
+    → MadeIsFromTo 1 10000 words.source → IsFromToIfGiven 0 (2 ^ 63 - 1) words.why → t ≡ task_of (plain_words words) → v.reached ≡ 0 → MayBegin words t v
+may_begin texts words t v asked given time is none = record {
   made = given;
-  room = room;
   columns = few_columns texts (plain_words words) asked;
   task = sym is;
   text = λ other. texts_only texts (plain_words words) asked (λ run. other (is ∙ run));
@@ -77,6 +77,26 @@ none_read most (made n) w none = tt
 
 pub no_certificate : (w : PlainWords) (v : World) → v.reached ≡ 0 → ReadsCertificate w v
 no_certificate w v none task lt = absurd (omega (arith, none, lt))
+
+-- words that are refused stop the call, or want of memory does once they are read, before anything else is
+pub words_do : (c : Call) (e : WordsRefusal) → (e ≡ words.Usage → c.asked ≡ None) → c.after ≡ c.before → c.out_after ≡ c.out_before → c.after.reached ≡ 0
+    → Does c (Err (words_stop e))
+words_do c e refused same silent none = record {
+  comes = words_stops c e refused (ap (λ (t : Told). t.bytes) silent) none;
+  counts_no_read = inr (ap (λ (w : World). w.faults) same);
+  counts_no_write = inr (ap (λ (t : Told). t.faults) silent);
+  within = λ v asked. none_read _ v.source c.after none;
+  certificate = λ v asked. no_certificate v c.after none;
+}
+
+pub want_does : (c : Call) (w : PlainWords) → Begins c w → c.after ≡ c.before → c.out_after ≡ c.out_before → c.after.reached ≡ 0 → Does c (Err stop.NoMemory)
+want_does c w b same silent none = record {
+  comes = memory_stops c w b (ap (λ (t : Told). t.bytes) silent) (omega (arith, none));
+  counts_no_read = inr (ap (λ (w : World). w.faults) same);
+  counts_no_write = inr (ap (λ (t : Told). t.faults) silent);
+  within = λ v asked. none_read _ v.source c.after none;
+  certificate = λ v asked. no_certificate v c.after none;
+}
 
 -- nor is a certificate read, where no place but the source's is reached, or none is asked for
 pub unread_certificate : (c : Call) (w : PlainWords) → c.asked ≡ Some w → c.after.reached ≤ first_place w.source → (v : PlainWords) → c.asked ≡ Some v

@@ -1,7 +1,8 @@
 -- The headline, from the clauses of a call.
-use Rattle.lucid_top.proofs.Common.{◌≡◌, ◌≢◌, ℕ, suc, ◌+◌, ◌-◌, ◌<◌, ◌≤◌, ◌⊎◌, List, [], ◌∷◌, ◌++◌, length, Option, Some, None, Ok, Err, Bool, true, false, inl, inr, refl, sym, ◌∙◌, ap, subst, arith, IfSome, IsSome, IsSomeAnd, slice_get, unwrap_or, option_map, codes, range_with_len, lt-ltb, length-range_with_len, get_or-range_with_len, slice_get-map, slice_get-get_or, slice_get_within, PlainValue, eod, IsOverlong, Elements, empty, line, Derives, Contents, with_all, Summary, RunFault, all_bytes, file, PlainWords, stream_subject, tree_stream, Told, RunView, HasElements, Ran, IsDone, IsTooDeep, Figures, Status, Outcome, Call, of_tree, program_counted, task_of, form_of, file_given, files_for, IsSource, IsTold, Asks, HasNames, by_tree, IsRun, run_of, view_of, run_result, most_input_bytes, first_place, ReadFails, TellsFiles, ComesOnly, MeetsClauses, RunsProgram, elements, Lines, one_line_more, Headline, certificate_places, first_input, ForSomeAdded}
+use Rattle.lucid_top.proofs.Common.{◌≡◌, ◌≢◌, ℕ, suc, ◌+◌, ◌-◌, ◌<◌, ◌≤◌, ◌⊎◌, List, [], ◌∷◌, ◌++◌, length, Option, Some, None, Ok, Err, Bool, true, false, inl, inr, refl, sym, ◌∙◌, ap, subst, arith, IfSome, IsSome, is_some, IsSomeAnd, slice_get, unwrap_or, option_map, codes, range_with_len, lt-ltb, length-range_with_len, get_or-range_with_len, slice_get-map, slice_get-get_or, slice_get_within, PlainValue, eod, IsOverlong, Elements, empty, line, Derives, Contents, with_all, Summary, RunFault, all_bytes, file, PlainWords, stream_subject, tree_stream, Told, RunView, HasElements, Ran, IsDone, IsTooDeep, Figures, Status, Outcome, Call, of_tree, program_counted, task_of, form_of, file_given, files_for, IsSource, IsTold, Asks, HasNames, by_tree, IsRun, run_of, view_of, run_result, most_input_bytes, first_place, ReadFails, TellsFiles, ComesOnly, MeetsClauses, RunsProgram, elements, Lines, one_line_more, Headline, certificate_places, first_input, ForSomeAdded}
 use Rattle.std.proofs.Common.{take, Result, cond}
 use Rattle.lucid_tree.specs.Meaning.{val}
+use Rattle.lucid_tree.proofs.Growth.{val-up}
 use Rattle.lucid_least.proofs.Rules.{means-derives}
 use Rattle.lucid_ports.specs.World.{unread}
 use Rattle.lucid_ports.specs.declared.run.RunFault.TheVariants as fault
@@ -17,7 +18,8 @@ use Rattle.lucid_top.specs.declared.task.Form.TheVariants as form
 use Rattle.lucid_report.specs.Status.{status_of}
 use Rattle.lucid_top.specs.Tasks.{form_for}
 use Rattle.lucid_top.specs.Clauses.{WriteFails}
-use Rattle.lucid_top.specs.Headline.{Has, no_lines, IsConsulted, ConsultsOverlong, ConsumesWithin, HeadlineFollows}
+use Rattle.lucid_top.specs.Runs.{under}
+use Rattle.lucid_top.specs.Headline.{Has, at_limit, no_lines, IsConsulted, ConsultsOverlong, ConsumesWithin, HeadlineFollows}
 use Rattle.lucid_top.proofs.OneCall.{same_words, one_task}
 use Rattle.lucid_top.proofs.RunEnds.{in_range}
 
@@ -63,7 +65,7 @@ module _ (c : Call) (g : RunsProgram c) where
   )
 
   abbrev view : RunView
-  view = view_of c (run_of is_run)
+  view = under c.policy (view_of c (run_of is_run))
 
   -- the place of an input: its file is told before the run
   first_is : first_input g.words ≡ 1
@@ -162,6 +164,11 @@ module _ (c : Call) (g : RunsProgram c) where
           of [] le = refl
           of (x ∷ xs) le = absurd (omega (arith, le))
 
+  -- what a limit defines, a greater one does
+  defined_up : (m n t : ℕ) → m ≤ n → (o : Option PlainValue) → at_limit g m t ≡ o → IsSome o → IsSome (at_limit g n t)
+  defined_up m n t le (Some v) is some = ap is_some (val-up b m n le g.program empty t 0 v is)
+  defined_up m n t le None is some = absurd (cc some)
+
   -- how a run that is done ended
   ends_of : (ended : Bool) (whole : ℕ) → EndsAt (stream_subject (tree_stream g.program)) b view ended whole
       → (whole ≡ g.words.count) ⊎ ((whole < g.words.count) × Derives b g.program empty whole 0 eod)
@@ -180,23 +187,29 @@ module _ (c : Call) (g : RunsProgram c) where
         → (s ≡ status.ReadFault → ReadFails c) → (s ≡ status.WriteFault → WriteFails c) → ((s ≡ status.Refused) ⊎ (s ≡ status.Usage) → ⊥)
         → (IsEndedOrNoMemory result → (s ≡ status.Done) ⊎ (s ≡ status.NoMemory)) → Headline g s
     from s cut when_done when_deep when_large read write accepted ok = record {
-      whole = whole;
-      lines = ran.out.bytes;
-      front = ran.out.front;
-      within = ran.out.within;
-      are_lines = lines_of whole ran.out.bytes ran.out.output;
-      begun = begun_of whole ran.out.front ((s ≡ status.WriteFault) ⊎ (s ≡ status.NoMemory)) ran.out.begun
-          (elim ran.cut_off [ inl none ↦ inl none | inr is ↦ inr (cut is) ]);
-      written = ran.out.written ∙ ap (with_all (ran.out.bytes ++ ran.out.front)) g.told;
-      done = λ is. let x = when_done is in ends_of x.0.ended whole x.1.ends;
-      too_deep = λ is. let x = when_deep is in
-          (subst (λ t. t < g.words.count) x.1.lines x.1.within, subst (λ t. val b g.words.depth g.program empty t 0 ≡ None) x.1.lines x.1.undefined);
-      complete = λ lt defined reads writes short.
-          ok (ran.stops lt defined (record { no_read_failed = reads; no_write_failed = writes; none_overlong = λ k x. short (overlong_too whole k x) }));
-      too_large = λ is. let x = when_large is in overlong_too whole x.0 x.1;
-      read_fault = read;
-      write_fault = write;
-      accepted = accepted;
+      lines = record {
+        whole = whole;
+        lines = ran.out.bytes;
+        front = ran.out.front;
+        within = ran.out.within;
+        are_lines = lines_of whole ran.out.bytes ran.out.output;
+        begun = begun_of whole ran.out.front ((s ≡ status.WriteFault) ⊎ (s ≡ status.NoMemory)) ran.out.begun
+            (elim ran.cut_off [ inl none ↦ inl none | inr is ↦ inr (cut is) ]);
+        written = ran.out.written ∙ ap (with_all (ran.out.bytes ++ ran.out.front)) g.told;
+      };
+      stops = record {
+        done = λ is. let x = when_done is in ends_of x.0.ended whole x.1.ends;
+        too_deep = λ is. let x = when_deep is in
+            (subst (λ t. t < g.words.count) x.1.lines x.1.within, subst (λ t. val b g.words.depth g.program empty t 0 ≡ None) x.1.lines x.1.undefined);
+        complete = λ lt m le defined reads writes short.
+            ok
+                (ran.stops lt (defined_up m g.words.depth whole le (at_limit g m whole) refl defined)
+                (record { no_read_failed = reads; no_write_failed = writes; none_overlong = λ k x. short (overlong_too whole k x) }));
+        too_large = λ is. let x = when_large is in overlong_too whole x.0 x.1;
+        read_fault = read;
+        write_fault = write;
+        accepted = accepted;
+      };
       consumed = some_added (run.ConsumesWithin (stream_subject (tree_stream g.program)) b view whole) (ConsumesWithin g whole) (consumes whole) ran.consumed;
     }
 

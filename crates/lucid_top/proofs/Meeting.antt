@@ -7,6 +7,7 @@ use Rattle.lucid_report.specs.declared.stop.Stop.TheVariants as stop
 use Rattle.lucid_report.specs.Telling.{Tells}
 use Rattle.lucid_top.specs.Stages.{Refuses}
 use Rattle.lucid_top.specs.Clauses.{IsRefusedSo, Writes, TellsFaults, IsEvaluated, places_before}
+use Rattle.lucid_top.specs.Runs.{under}
 use Rattle.lucid_top.specs.Coming.{Reaches, StopsEarly, EndsRun, EndsWriting, Checked, Made}
 use Rattle.lucid_top.proofs.RunEnds.{in_range}
 use Rattle.lucid_top.proofs.Begun.{ran_with, never_read, never_made, same_contents}
@@ -116,17 +117,17 @@ module _ (l : OneVerdict) (c : Call) (told : TellsFiles c) where
   refused_silent o why refused (inr (inr (inr (inl check)))) = absurd (check_not_refused l c told check.0 why refused (inl check.1))
   refused_silent o why refused (inr (inr (inr (inr made)))) = absurd (making_not_refused l c told made.0 why refused (inl made.1))
 
-  runs_so : (r : IsRun c) (o : Outcome) → ComesOnly c o → How c o → RanSo (run_of r).program (view_of c (run_of r)) o
+  runs_so : (r : IsRun c) (o : Outcome) → ComesOnly c o → How c o → RanSo (run_of r).program (under c.policy (view_of c (run_of r))) o
   runs_so r (Err (stop.Refused v)) only (inl early) = absurd (run_not_stopped l c told r v early.0.0 early.0.1)
   runs_so r (Err stop.ReadFault) only (inl early) =
-      let view = view_of c (run_of r) in
+      let view = under c.policy (view_of c (run_of r)) in
       ran_with (run_of r).program view (Err stop.ReadFault) (Err fault.ReadFault) refl
       (never_read (run_of r).program view early.1.silent (consumes_nothing c (run_of r) (asks_for r.program).read early.1) only)
   runs_so r (Err stop.NoMemory) only (inl early) =
-      let view = view_of c (run_of r) in
+      let view = under c.policy (view_of c (run_of r)) in
       ran_with (run_of r).program view (Err stop.NoMemory) (Err fault.NoMemory) refl
       (never_made (run_of r).program view early.1.silent (consumes_nothing c (run_of r) (asks_for r.program).read early.1))
-  runs_so r o only (inr (inl run)) = subst (λ p. RanSo p.program (view_of c p) o) (same_run l c told r run.0 run.1) run.2
+  runs_so r o only (inr (inl run)) = subst (λ p. RanSo p.program (under c.policy (view_of c p)) o) (same_run l c told r run.0 run.1) run.2
   runs_so r o only (inr (inr (inl writing))) = absurd (run_or_text r writing.0)
   runs_so r o only (inr (inr (inr (inl check)))) = absurd (run_or_certificate r check.0.may refl)
   runs_so r o only (inr (inr (inr (inr made)))) = absurd (run_or_certificate r made.0 refl)

@@ -6,7 +6,7 @@ use Rattle.lucid_ports.specs.World.{Place, unread}
 use Rattle.lucid_words.specs.declared.Given.{Given as Word}
 use Rattle.lucid_report.specs.declared.stop.Done.TheVariants as done
 use Rattle.lucid_report.specs.declared.stop.Stop.TheVariants as stop
-use Rattle.lucid_top.specs.Runs.{input_places, world_before, world_after}
+use Rattle.lucid_top.specs.Runs.{input_places, under, world_before, world_after}
 use Rattle.lucid_top.proofs.Ending.{words_of, first_place_le, first_of_run, run_of_table, places_of_table}
 use Rattle.lucid_top.proofs.Views.{TellAlike, ran_alike}
 
@@ -140,7 +140,7 @@ tells_alike c w p free v u first kept kept' fresh reached same mono = record {
 
 -- what a run has for its outcome, the call has
 run_only : (c : Call) (r : IsRun c) (u : World) (o : Outcome) → c.before.faults ≤ u.faults → u.faults ≤ c.after.faults
-    → RunComesOnly (run_of r).words (run_of r).inputs u.faults c.after.faults c.out_before.faults c.out_after.faults o → ComesOnly c o
+    → RunComesOnly c.policy (run_of r).words (run_of r).inputs u.faults c.after.faults c.out_before.faults c.out_after.faults o → ComesOnly c o
 run_only c r u (Ok (done.Ran summary stats)) le mono h = (r, h.0, h.1)
 run_only c r u (Ok done.Written) le mono h = absurd h
 run_only c r u (Err (stop.Refused why)) le mono h = absurd h
@@ -158,8 +158,8 @@ pub record Ended (c : Call) (w : PlainWords) (t : Table) (v u : World) (numbers 
   pub few : length t.inputs ≤ most_source_bytes
   pub same_reached : c.after.reached ≡ u.reached
   pub faults : u.faults ≤ c.after.faults
-  pub ran : RanSo (table_program w t) (viewed w t.inputs numbers u c.after c.out_before c.out_after) o
-  pub only : RunComesOnly w t.inputs u.faults c.after.faults c.out_before.faults c.out_after.faults o
+  pub ran : RanSo (table_program w t) (under c.policy (viewed w t.inputs numbers u c.after c.out_before c.out_after)) o
+  pub only : RunComesOnly c.policy w t.inputs u.faults c.after.faults c.out_before.faults c.out_after.faults o
 
 -- a run of these words, of this program, with inputs of these names
 abbrev pub run_with : PlainWords → Program → List (List ℕ) → Run
@@ -179,18 +179,18 @@ runs c w t v u numbers o b fits e =
     let first_here : v.reached ≡ first_input w = b.first ∙ sym (first_of_run c w t v b) in
     let places : numbers ≡ range_with_len (first_input w) (length t.inputs) =
     e.inputs.numbers_are ∙ ap (λ n. range_with_len n (length (files_for t.inputs w.given))) first_here ∙ ap (range_with_len (first_input w)) long in
-    let seen : RanSo p (viewed w t.inputs (range_with_len (first_input w) (length t.inputs)) u c.after c.out_before c.out_after) o =
-    subst (λ qs. RanSo p (viewed w t.inputs qs u c.after c.out_before c.out_after) o) places (b.runs _ o e.ran) in
+    let seen : RanSo p (under c.policy (viewed w t.inputs (range_with_len (first_input w) (length t.inputs)) u c.after c.out_before c.out_after)) o =
+    subst (λ qs. RanSo p (under c.policy (viewed w t.inputs qs u c.after c.out_before c.out_after)) o) places (b.runs _ o e.ran) in
     let alike = tells_alike c w p t.inputs v u first_here b.kept e.kept_on e.inputs.fresh e.inputs.reached e.same_reached e.faults in
     let one = first_place_le w.source in
     let first = b.first in
     let few = e.few in
     let reached = places_of_table c w t v b fits in
-    let ran : RanSo p (view_of c (run_with w p t.inputs)) o =
-    ran_alike w t.inputs (range_with_len (first_input w) (length t.inputs)) u c.after (world_before c (run_with w p t.inputs))
+    let ran : RanSo p (under c.policy (view_of c (run_with w p t.inputs))) o =
+    ran_alike c.policy w t.inputs (range_with_len (first_input w) (length t.inputs)) u c.after (world_before c (run_with w p t.inputs))
     (world_after c (run_with w p t.inputs)) c.out_before c.out_after alike p o seen in
-    let only : RunComesOnly (run_of r).words (run_of r).inputs u.faults c.after.faults c.out_before.faults c.out_after.faults o =
-    subst (λ (x : Run). RunComesOnly x.words x.inputs u.faults c.after.faults c.out_before.faults c.out_after.faults o) same e.only in
+    let only : RunComesOnly c.policy (run_of r).words (run_of r).inputs u.faults c.after.faults c.out_before.faults c.out_after.faults o =
+    subst (λ (x : Run). RunComesOnly c.policy x.words x.inputs u.faults c.after.faults c.out_before.faults c.out_after.faults o) same e.only in
     record {
       only = run_only c r u o (omega (arith, b.kept.faults, e.kept_on.faults)) e.faults only;
       how =
@@ -198,7 +198,7 @@ runs c w t v u numbers o b fits e =
           (inl (
             r,
             b.made,
-            subst (λ (x : Run). RanSo x.program (view_of c x) o) same ran,
+            subst (λ (x : Run). RanSo x.program (under c.policy (view_of c x)) o) same ran,
             omega
                 (arith, e.same_reached, e.inputs.reached, long, first, reached),
           ));

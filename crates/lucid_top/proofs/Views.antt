@@ -2,8 +2,9 @@
 use Rattle.lucid_top.proofs.Common.{◌≡◌, ℕ, List, Option, Some, None, Ok, Err, sym, subst, ◌∙◌, IsSomeAnd, IfOk, IfSome, slice_get, IsOverlong, World, Rises, Summary, RunFault, all_bytes, Elements, PlainWords, Subject, Told, HasElements, IsDone, IsTooDeep, OnTooLarge, Ran, Figures, Outcome, Program, program_subject, program_counted, viewed, most_input_bytes, run_result, RanSo, IfErr}
 use Rattle.std.proofs.Common.{Result}
 use Rattle.lucid_ports.specs.declared.run.RunFault.TheVariants as fault
-use Rattle.lucid_session.specs.Runs.{Written, ForSomeAdded, ConsultsOverlong, OnTooDeep, IsUndisturbed}
+use Rattle.lucid_session.specs.Runs.{PolicyView, Written, ForSomeAdded, ConsultsOverlong, OnTooDeep, IsUndisturbed}
 use Rattle.lucid_session.specs.Figures.{Counted, OnClearings}
+use Rattle.lucid_top.specs.Runs.{under}
 
 -- what is said of the input that is too large, of the time that is too deep and of clearings, weakened
 large_weaker : (result : Result Summary RunFault) (P Q : ℕ → Type 0) → ((k : ℕ) → P k → Q k) → IfErr result (λ e. OnTooLarge e P)
@@ -31,12 +32,12 @@ pub record TellAlike (qs : List ℕ) (u v u' v' : World) : Type 0 where
   pub after : (k q : ℕ) → slice_get qs k ≡ Some q → (v'.place q).contents ≡ (v.place q).contents
   pub faults : Rises u.faults v.faults → Rises u'.faults v'.faults
 
-module _ (w : PlainWords) (free : List (List ℕ)) (qs : List ℕ) (u v u' v' : World) (o p : Told) (a : TellAlike qs u v u' v') where
-  added_too : (P : ℕ → Type 0) → ForSomeAdded (viewed w free qs u v o p) P → ForSomeAdded (viewed w free qs u' v' o p) P
+module _ (policy : PolicyView) (w : PlainWords) (free : List (List ℕ)) (qs : List ℕ) (u v u' v' : World) (o p : Told) (a : TellAlike qs u v u' v') where
+  added_too : (P : ℕ → Type 0) → ForSomeAdded (under policy (viewed w free qs u v o p)) P → ForSomeAdded (under policy (viewed w free qs u' v' o p)) P
   added_too P x = record { added = x.added; none = x.none; holds = x.holds }
 
-  overlong_too : (S : Subject) (b : Elements) (whole k : ℕ) → ConsultsOverlong S b (viewed w free qs u v o p) whole k
-      → ConsultsOverlong S b (viewed w free qs u' v' o p) whole k
+  overlong_too : (S : Subject) (b : Elements) (whole k : ℕ) → ConsultsOverlong S b (under policy (viewed w free qs u v o p)) whole k
+      → ConsultsOverlong S b (under policy (viewed w free qs u' v' o p)) whole k
   overlong_too S b whole k x = record {
     name = x.name;
     place = x.place;
@@ -46,26 +47,26 @@ module _ (w : PlainWords) (free : List (List ℕ)) (qs : List ℕ) (u v u' v' : 
     overlong = subst (λ c. IfSome c (λ bytes. IsOverlong (all_bytes bytes) x.index most_input_bytes)) (sym (a.before k x.place x.is.1)) x.overlong;
   }
 
-  written_too : (S : Subject) (b : Elements) → Written S b (viewed w free qs u v o p) → Written S b (viewed w free qs u' v' o p)
+  written_too : (S : Subject) (b : Elements) → Written S b (under policy (viewed w free qs u v o p)) → Written S b (under policy (viewed w free qs u' v' o p))
   written_too S b x = record { whole = x.whole; within = x.within; bytes = x.bytes; output = x.output; front = x.front; begun = x.begun; written = x.written }
 
-  quiet_back : (S : Subject) (b : Elements) (whole : ℕ) → IsUndisturbed S b (viewed w free qs u' v' o p) whole
-      → IsUndisturbed S b (viewed w free qs u v o p) whole
+  quiet_back : (S : Subject) (b : Elements) (whole : ℕ) → IsUndisturbed S b (under policy (viewed w free qs u' v' o p)) whole
+      → IsUndisturbed S b (under policy (viewed w free qs u v o p)) whole
   quiet_back S b whole quiet = record {
     no_read_failed = λ rises. quiet.no_read_failed (a.faults rises);
     no_write_failed = quiet.no_write_failed;
     none_overlong = λ k long. quiet.none_overlong k (overlong_too S b whole k long);
   }
 
-  ran_too : (S : Subject) (b : Elements) (result : Result Summary RunFault) → Ran S b (viewed w free qs u v o p) result
-      → Ran S b (viewed w free qs u' v' o p) result
+  ran_too : (S : Subject) (b : Elements) (result : Result Summary RunFault) → Ran S b (under policy (viewed w free qs u v o p)) result
+      → Ran S b (under policy (viewed w free qs u' v' o p)) result
   unfolding written_too
   ran_too S b result x = record {
     out = written_too S b x.out;
     cut_off = x.cut_off;
-    done = ok_weaker result (IsDone S b (viewed w free qs u v o p) x.out) (IsDone S b (viewed w free qs u' v' o p) (written_too S b x.out))
+    done = ok_weaker result (IsDone S b (under policy (viewed w free qs u v o p)) x.out) (IsDone S b (under policy (viewed w free qs u' v' o p)) (written_too S b x.out))
         (λ s h. record { lines = h.lines; ends = h.ends }) x.done;
-    deep = deep_weaker result (IsTooDeep S b (viewed w free qs u v o p) x.out) (IsTooDeep S b (viewed w free qs u' v' o p) (written_too S b x.out))
+    deep = deep_weaker result (IsTooDeep S b (under policy (viewed w free qs u v o p)) x.out) (IsTooDeep S b (under policy (viewed w free qs u' v' o p)) (written_too S b x.out))
         (λ t h. record { lines = h.lines; within = h.within; undefined = h.undefined }) x.deep;
     exact = x.exact;
     stops = λ early defined quiet. x.stops early defined (quiet_back S b x.out.whole quiet);
@@ -76,27 +77,27 @@ module _ (w : PlainWords) (free : List (List ℕ)) (qs : List ℕ) (u v u' v' : 
       holds = λ d le k n q is old new before after. x.consumed.holds d le k n q is old new (sym (a.before k q is.1) ∙ before) (sym (a.after k q is.1) ∙ after);
     };
     within = λ k n q is old new before after. x.within k n q is old new (sym (a.before k q is.1) ∙ before) (sym (a.after k q is.1) ∙ after);
-    too_large = large_weaker result (ConsultsOverlong S b (viewed w free qs u v o p) x.out.whole)
-        (ConsultsOverlong S b (viewed w free qs u' v' o p) x.out.whole)
+    too_large = large_weaker result (ConsultsOverlong S b (under policy (viewed w free qs u v o p)) x.out.whole)
+        (ConsultsOverlong S b (under policy (viewed w free qs u' v' o p)) x.out.whole)
         (λ k long. overlong_too S b x.out.whole k long) x.too_large;
   }
 
-  figures_too : {K E : Type 0} (C : Counted K E) (b : Elements) (result : Result Summary RunFault) → Figures C b (viewed w free qs u v o p) result
-      → Figures C b (viewed w free qs u' v' o p) result
+  figures_too : {K E : Type 0} (C : Counted K E) (b : Elements) (result : Result Summary RunFault) → Figures C b (under policy (viewed w free qs u v o p)) result
+      → Figures C b (under policy (viewed w free qs u' v' o p)) result
   figures_too C b result x = record {
     held = x.held;
     deep = x.deep;
     cleared = clearings_weaker result _ _ (λ t c h some. added_too _ (h some)) x.cleared;
   }
 
-  elements_back : (b : Elements) → HasElements (viewed w free qs u' v' o p) b → HasElements (viewed w free qs u v o p) b
+  elements_back : (b : Elements) → HasElements (under policy (viewed w free qs u' v' o p)) b → HasElements (under policy (viewed w free qs u v o p)) b
   elements_back b has k n q is = let x = has k n q is in (x.0, sym (a.before k q is.1) ∙ x.1, x.2)
 
   some_ran : (prog : Program) (b : Elements) (x : Option (Result Summary RunFault))
-      → IsSomeAnd x (λ y. Ran (program_subject prog) b (viewed w free qs u v o p) y × Figures (program_counted prog) b (viewed w free qs u v o p) y)
-      → IsSomeAnd x (λ y. Ran (program_subject prog) b (viewed w free qs u' v' o p) y × Figures (program_counted prog) b (viewed w free qs u' v' o p) y)
+      → IsSomeAnd x (λ y. Ran (program_subject prog) b (under policy (viewed w free qs u v o p)) y × Figures (program_counted prog) b (under policy (viewed w free qs u v o p)) y)
+      → IsSomeAnd x (λ y. Ran (program_subject prog) b (under policy (viewed w free qs u' v' o p)) y × Figures (program_counted prog) b (under policy (viewed w free qs u' v' o p)) y)
   some_ran prog b None h = absurd h
   some_ran prog b (Some y) h = (ran_too (program_subject prog) b y h.0, figures_too (program_counted prog) b y h.1)
 
-  pub ran_alike : (prog : Program) (out : Outcome) → RanSo prog (viewed w free qs u v o p) out → RanSo prog (viewed w free qs u' v' o p) out
+  pub ran_alike : (prog : Program) (out : Outcome) → RanSo prog (under policy (viewed w free qs u v o p)) out → RanSo prog (under policy (viewed w free qs u' v' o p)) out
   ran_alike prog out h b has = some_ran prog b (run_result out) (h b (elements_back b has))

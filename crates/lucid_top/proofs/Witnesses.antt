@@ -66,14 +66,14 @@ module _ (longest : TextsAreLongest) (read : TextIsRead) (c : Call) (is : Counts
       ap (λ x. x ++ line v) (lines_are k bytes before (omega (arith, le)))
       ∙ ap (λ w. first_lines k ++ line w) (counting-value (elements runs) k v (omega (arith, le)) d)
 
-  three : (s : Status) (h : Headline runs s) → s ≡ status.Done → h.whole ≡ 3
-  three s h e = elim (h.done e) [
+  three : (s : Status) (h : Headline runs s) → s ≡ status.Done → h.lines.whole ≡ 3
+  three s h e = elim (h.stops.done e) [
     | inl all ↦ all
-    | inr ends ↦ let never : eod ≡ number h.whole = counting-value (elements runs) h.whole eod ends.0 ends.1 in absurd (cc never)
+    | inr ends ↦ let never : eod ≡ number h.lines.whole = counting-value (elements runs) h.lines.whole eod ends.0 ends.1 in absurd (cc never)
   ]
 
-  none_begun : (s : Status) (h : Headline runs s) → s ≡ status.Done → h.front ≡ []
-  none_begun s h e = elim h.begun [
+  none_begun : (s : Status) (h : Headline runs s) → s ≡ status.Done → h.lines.front ≡ []
+  none_begun s h e = elim h.lines.begun [
     | inl none ↦ none
     | inr cut ↦ elim cut.0 [ inl f ↦ absurd (cc (e, f)) | inr f ↦ absurd (cc (e, f)) ]
   ]
@@ -81,9 +81,9 @@ module _ (longest : TextsAreLongest) (read : TextIsRead) (c : Call) (is : Counts
   writes : (s : Status) → Headline runs s → s ≡ status.Done → c.out_after.bytes ≡ Some three_numbers
   unfolding digits
   writes s h e =
-      h.written
-      ∙ ap (λ f. Some (h.lines ++ f)) (none_begun s h e)
-      ∙ ap (λ l. Some (l ++ [])) (lines_are h.whole h.lines h.are_lines h.within ∙ ap first_lines (three s h e))
+      h.lines.written
+      ∙ ap (λ f. Some (h.lines.lines ++ f)) (none_begun s h e)
+      ∙ ap (λ l. Some (l ++ [])) (lines_are h.lines.whole h.lines.lines h.lines.are_lines h.lines.within ∙ ap first_lines (three s h e))
 
 pub counting-witness : TextsAreLongest → TextIsRead → CountingIsAWitness
 counting-witness longest read c is = record { runs = runs longest read c is; writes = writes longest read c is }

@@ -19,7 +19,7 @@ use Rattle.lucid_top.specs.Writing.{WritesSome, WritesSomeFront}
 use Rattle.lucid_top.specs.Sources.{IsTold, first_place}
 use Rattle.lucid_top.specs.Stages.{Asks, IsWriting, IsTextFor, IsRun, IsMaking, IsCheck, Refuses, by_certificate}
 use Rattle.lucid_top.specs.Places.{CountsNoRead, CountsNoWrite, ReadsSource, ReadsCertificate, most_read}
-use Rattle.lucid_top.specs.Runs.{most_places, first_input, run_places, run_of, certificate_of, view_of, RanSo}
+use Rattle.lucid_top.specs.Runs.{most_places, first_input, run_places, run_of, certificate_of, view_of, under, RanSo}
 use Rattle.lucid_top.specs.Checks.{ChecksTree}
 use Rattle.lucid_top.specs.Makes.{MakesTree}
 use Rattle.lucid_top.specs.Running.{HoldsWithin}
@@ -43,7 +43,7 @@ TellsFiles c = (a : Asks c) → IsTold a.words.source c.before × (task_of a.wor
 -- Each outcome comes only where this holds.
 abbrev pub ComesOnly : Call → Outcome → Type 0
 ComesOnly c (Ok (done.Ran summary stats)) =
-    (r : IsRun c) × (stats ≡ wants_figures (run_of r).words) × HoldsWithin (run_of r).words summary.held
+    (r : IsRun c) × (stats ≡ wants_figures (run_of r).words) × HoldsWithin c.policy summary.held
 ComesOnly c (Ok done.Written) = IsWriting c ⊎ (IsCheck c ⊎ IsMaking c)
 ComesOnly c (Err (stop.Refused why)) = Refuses c why × WritesNothing c
 ComesOnly c (Err stop.ReadFault) = ReadFails c
@@ -132,7 +132,7 @@ pub record MeetsClauses (c : Call) (report_before report_after : Told) (s : Stat
   -- Nothing is written but by a run or a check, or where a text or a certificate is asked for.
   pub silent : WritesNothing c ⊎ (IsRun c ⊎ (IsWriting c ⊎ (IsCheck c ⊎ IsMaking c)))
   -- The headline: a program that is accepted is run, be it a tree, columns of it or a table. What is written are the values of its least fixed point, in order and without gaps.
-  pub headline : (r : IsRun c) → TellsFiles c → RanSo (run_of r).program (view_of c (run_of r)) outcome
+  pub headline : (r : IsRun c) → TellsFiles c → RanSo (run_of r).program (under c.policy (view_of c (run_of r))) outcome
   -- Where a text is asked for, of the tree that the source spells, that text is written.
   pub written : (x : IsWriting c) → TellsFiles c → Writes c outcome (IsTextFor x)
   -- Where a certificate is checked, its value and time are written only where it is right, and so only what the program has; and it is refused

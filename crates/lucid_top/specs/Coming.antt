@@ -2,10 +2,9 @@
 use Rattle.std.specs.Prelude.{◌≡◌, ◌≢◌, ℕ, ◌<◌, ◌≤◌, ◌⊎◌, ◌-◌, ◌^◌, [], length, Some, Err}
 use Rattle.lucid_ports.specs.World.{World, Contents}
 use Rattle.lucid_tree.specs.WellMade.{IsWellMade}
-use Rattle.lucid_ports.specs.Limits.{most_asked}
 use Rattle.lucid_words.specs.declared.Words.{Words}
 use Rattle.lucid_words.specs.Asked.{PlainWords, plain_words}
-use Rattle.lucid_words.specs.Numbers.{IsFromTo, IsFromToIfGiven, MadeIsFromTo}
+use Rattle.lucid_words.specs.Numbers.{IsFromToIfGiven, MadeIsFromTo}
 use Rattle.lucid_top.specs.declared.task.Task.{Task}
 use Rattle.lucid_report.specs.declared.refusal.Refusal.{Refusal}
 use Rattle.lucid_report.specs.declared.stop.Stop.TheVariants as stop
@@ -22,7 +21,7 @@ use Rattle.lucid_top.specs.declared.task.Form.TheVariants as form
 use Rattle.lucid_top.specs.declared.task.Task.TheVariants as task
 use Rattle.lucid_top.specs.Call.{Call}
 use Rattle.lucid_top.specs.Stages.{Asks, IsWriting, IsTextFor, HasProgram, by_tree, by_columns, by_table, columns_named, task_for, program_in, inputs_in, IsRun, IsMaking, MayCheck, IsCheck, HasNames, Refuses, by_words, by_text, by_flat, by_names, by_missing, by_judging, by_given, by_certificate}
-use Rattle.lucid_top.specs.Runs.{most_places, first_input, run_places, run_of, certificate_of, view_of, table_program, RanSo}
+use Rattle.lucid_top.specs.Runs.{most_places, first_input, run_places, run_of, certificate_of, view_of, under, table_program, RanSo}
 use Rattle.lucid_top.specs.Clauses.{WritesNothing, ComesOnly, Writes}
 
 -- The tree of a program that is run is well made.
@@ -69,7 +68,7 @@ StopsEarly c _ = ⊥
 
 -- A run, whose inputs are all reached; or a text, for which the source alone is; or a check or a certificate, whose inputs are all reached.
 abbrev pub EndsRun : Call → Outcome → Type 0
-EndsRun c o = (r : IsRun c) × IsMade r.program × RanSo (run_of r).program (view_of c (run_of r)) o × (c.after.reached ≡ run_places (run_of r))
+EndsRun c o = (r : IsRun c) × IsMade r.program × RanSo (run_of r).program (under c.policy (view_of c (run_of r))) o × (c.after.reached ≡ run_places (run_of r))
 
 abbrev pub EndsWriting : Call → Outcome → Type 0
 EndsWriting c o = (x : IsWriting c) × Writes c o (IsTextFor x) × ((a : Asks c) × (c.after.reached ≤ first_place a.words.source))
@@ -92,7 +91,6 @@ pub record Comes (c : Call) (o : Outcome) : Type 0 where
 -- What the words ask for may begin: they were read, they ask for this, of a text where it is no run, and no place is reached yet.
 pub record MayBegin (words : Words) (t : Task) (v : World) : Type 0 where
   pub made : MadeIsFromTo 1 10000 words.source
-  pub room : IsFromTo 1 most_asked words.room
   pub columns : length (plain_words words).columns ≤ 16
   pub text : t ≢ task.Run → form_of (plain_words words) ≢ form.Flat
   pub time : IsFromToIfGiven 0 (2 ^ 63 - 1) words.why

@@ -4,6 +4,7 @@ pub mod Flat
 pub mod Texts
 pub mod Programs
 pub mod Files
+pub mod Policies
 pub mod Call
 pub mod Sources
 pub mod Certificates

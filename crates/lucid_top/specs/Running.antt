@@ -9,24 +9,24 @@ use Rattle.lucid_report.specs.declared.stop.Stop.{Stop}
 use Rattle.lucid_report.specs.declared.stop.Stop.TheVariants as stop
 use Rattle.lucid_report.specs.Status.{Outcome}
 use Rattle.lucid_top.specs.Tasks.{wants_figures}
-use Rattle.lucid_top.specs.Runs.{policy_named}
+use Rattle.lucid_session.specs.Runs.{PolicyView}
 
--- the number of held values is at most one more than the policy of the words leaves
-abbrev pub HoldsWithin : PlainWords → (held : ℕ) → Type 0
-HoldsWithin w held = IfSome (policy_named w.policy w.age w.room).room (λ most. held ≤ most + 1)
+-- the number of held values is at most one more than the policy leaves
+abbrev pub HoldsWithin : PolicyView → (held : ℕ) → Type 0
+HoldsWithin policy held = IfSome policy.room (λ most. held ≤ most + 1)
 
--- A run by these words, of a program with inputs of these names, has such outcomes alone. The counts of faults are those of the places and
+-- A run under this policy by these words, of a program with inputs of these names, has such outcomes alone. The counts of faults are those of the places and
 -- of the output.
-abbrev pub RunComesOnly : PlainWords → (free : List (List ℕ)) → (faults faults' out_faults out_faults' : ℕ) → Outcome → Type 0
-RunComesOnly w free f f' g g' (Ok (done.Ran summary stats)) = (stats ≡ wants_figures w) × HoldsWithin w summary.held
-RunComesOnly w free f f' g g' (Ok done.Written) = ⊥
-RunComesOnly w free f f' g g' (Err (stop.Refused why)) = ⊥
-RunComesOnly w free f f' g g' (Err stop.ReadFault) = Rises f f'
-RunComesOnly w free f f' g g' (Err stop.WriteFault) = Rises g g'
-RunComesOnly w free f f' g g' (Err (stop.TooDeep time lost cleared stats)) = stats ≡ wants_figures w
-RunComesOnly w free f f' g g' (Err (stop.TooLarge stream name)) = slice_get free stream ≡ Some name
-RunComesOnly w free f f' g g' (Err (stop.Wrong judgment)) = ⊥
-RunComesOnly w free f f' g g' (Err stop.NoMemory) = Unit {0}
+abbrev pub RunComesOnly : PolicyView → PlainWords → (free : List (List ℕ)) → (faults faults' out_faults out_faults' : ℕ) → Outcome → Type 0
+RunComesOnly y w free f f' g g' (Ok (done.Ran summary stats)) = (stats ≡ wants_figures w) × HoldsWithin y summary.held
+RunComesOnly y w free f f' g g' (Ok done.Written) = ⊥
+RunComesOnly y w free f f' g g' (Err (stop.Refused why)) = ⊥
+RunComesOnly y w free f f' g g' (Err stop.ReadFault) = Rises f f'
+RunComesOnly y w free f f' g g' (Err stop.WriteFault) = Rises g g'
+RunComesOnly y w free f f' g g' (Err (stop.TooDeep time lost cleared stats)) = stats ≡ wants_figures w
+RunComesOnly y w free f f' g g' (Err (stop.TooLarge stream name)) = slice_get free stream ≡ Some name
+RunComesOnly y w free f f' g g' (Err (stop.Wrong judgment)) = ⊥
+RunComesOnly y w free f f' g g' (Err stop.NoMemory) = Unit {0}
 
 -- the input of that number is too large, by its name, or there was no memory
 abbrev pub IsLargeStop : (free : List (List ℕ)) → (stream : ℕ) → Stop → Type 0

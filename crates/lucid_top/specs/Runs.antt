@@ -1,5 +1,5 @@
 -- A run of the command, as runs are seen from outside; and what is counted of its program.
-use Rattle.std.specs.Prelude.{ℕ, ◌+◌, ◌-◌, ◌*◌, ◌==◌, true, false, List, [], length, Option, Some, None, Result, Ok, Err, option_map, unwrap_or, nat_lt, if◌then◌else◌, slice_get, IsSomeAnd}
+use Rattle.std.specs.Prelude.{ℕ, ◌+◌, ◌-◌, ◌==◌, List, [], length, Option, Some, None, Result, Ok, Err, option_map, unwrap_or, nat_lt, if◌then◌else◌, slice_get, IsSomeAnd}
 use Rattle.std.specs.List.{range_with_len}
 use Rattle.lucid_ports.specs.World.{World, Place, unread}
 use Rattle.lucid_ports.specs.declared.run.Summary.{Summary}
@@ -9,15 +9,12 @@ use Rattle.lucid_tree.specs.Levels.{Elements}
 use Rattle.lucid_scan.specs.Refusals.{most_source_bytes}
 use Rattle.lucid_session.specs.Runs.{PolicyView, RunView, Told, HasElements, Ran}
 use Rattle.lucid_session.specs.Figures.{Figures}
-use Rattle.lucid_retire.specs.declared.policy.Policy.{Policy}
-use Rattle.lucid_retire.specs.declared.policy.Policy.TheVariants as retire
-use Rattle.lucid_words.specs.declared.PolicyWord.{PolicyWord}
-use Rattle.lucid_words.specs.declared.PolicyWord.TheVariants as policy
 use Rattle.lucid_words.specs.Asked.{PlainWords}
 use Rattle.lucid_report.specs.declared.stop.Done.TheVariants as done
 use Rattle.lucid_report.specs.declared.stop.Stop.TheVariants as stop
 use Rattle.lucid_report.specs.Status.{Outcome}
 use Rattle.lucid_top.specs.Call.{Call}
+use Rattle.lucid_top.specs.Policies.{policy_named}
 use Rattle.lucid_equations.specs.declared.table.Table.{Table}
 use Rattle.lucid_top.specs.Programs.{Program, of_tree, of_table, of_spaces, program_subject, program_counted}
 use Rattle.lucid_top.specs.declared.task.Task.{Task}
@@ -35,25 +32,6 @@ most_places = most_source_bytes + 2
 -- how many bytes of each input may be read: one more than an input may have
 abbrev pub most_input_bytes : ℕ
 most_input_bytes = 268435456
-
--- how many turns of the policy by age there are from one sweep to the next
-abbrev pub turns_between_sweeps : ℕ
-turns_between_sweeps = 1000
-
--- What the policy that a word names does. That by age leaves no more than was touched since the last sweeps; the last one as many as there is
--- room for.
-abbrev pub policy_named : PolicyWord → (age room : ℕ) → PolicyView
-policy_named policy.Keep age room = record { keeps = true; empties = false; room = None }
-policy_named policy.Nothing age room = record { keeps = false; empties = true; room = Some 0 }
-policy_named policy.Ages age room = record { keeps = false; empties = false; room = Some (turns_between_sweeps * (age + 1)) }
-policy_named policy.Last age room = record { keeps = false; empties = false; room = Some room }
-
--- The policy itself, with its numbers, as it is before its first turn.
-abbrev pub policy_asked : PolicyWord → (age room : ℕ) → Policy
-policy_asked policy.Keep age room = retire.Keep (record {})
-policy_asked policy.Nothing age room = retire.Nothing (record {})
-policy_asked policy.Ages age room = retire.Ages (record { every = turns_between_sweeps; limit = age; since = 0 })
-policy_asked policy.Last age room = retire.Last (record { keys = []; room = room; unlisted = 0 })
 
 -- how many places are reached for a certificate that is read: that of its file
 abbrev pub certificate_places : Task → ℕ
@@ -117,6 +95,10 @@ viewed w names places before after o p = record {
   out_before = o;
   out_after = p;
 }
+
+-- the same run under this policy
+abbrev pub under : PolicyView → RunView → RunView
+under policy r = record r { policy = policy }
 
 -- the run of a call, from outside
 abbrev pub view_of : Call → Run → RunView

@@ -4,7 +4,7 @@
 #![tactic(auto)]
 
 pub use crate::arguments::lucid_from_arguments;
-pub use crate::top::lucid;
+pub use crate::top::{lucid, lucid_under};
 
 mod arguments;
 mod checking;

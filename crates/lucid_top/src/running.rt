@@ -15,15 +15,16 @@ ghost use Rattle.lucid_session.specs.Sessions.{Promises};
 ghost use Rattle.lucid_top.specs.Tasks.{wants_figures};
 ghost use Rattle.lucid_top.specs.Places.{AreUnread, CountsNoRead, CountsNoWrite};
 ghost use Rattle.lucid_top.specs.Programs.{program_subject, program_counted};
-ghost use Rattle.lucid_top.specs.Runs.{policy_named, policy_asked, viewed, most_input_bytes, table_program, RanSo};
+ghost use Rattle.lucid_top.specs.Policies.{policy_named, policy_asked};
+ghost use Rattle.lucid_top.specs.Runs.{viewed, under, most_input_bytes, table_program, RanSo};
 ghost use Rattle.lucid_top.specs.Running.{RunComesOnly, IsRunStop, IsLargeStop};
 
 use lucid_equations::Program;
 use lucid_inputs::{Inputs, fresh_fits};
 use lucid_ports::{Places, RunFault, Sink, Summary};
 use lucid_report::{Done, Stop};
-use lucid_retire::{Ages, Keep, Last, Nothing, Policy};
-use lucid_schedule::Newest;
+use lucid_retire::{Ages, Keep, Last, Nothing, Policy, Retire};
+use lucid_schedule::Pick;
 use lucid_session::{run, run_columns};
 use lucid_value::Name;
 use lucid_words::{PolicyWord, Source, Words};
@@ -44,8 +45,8 @@ pub fn unread_inputs(alloc: Global, numbers: Vec<u32>) -> Result<Inputs, AllocEr
     Inputs::make(alloc, numbers, MOST_INPUT_BYTES)
 }
 
-// The policy that the words ask for.
-fn policy_of(alloc: Global, words: &Words) -> Result<Policy, AllocError>
+/// The policy that the words ask for.
+pub fn policy_of(alloc: Global, words: &Words) -> Result<Policy, AllocError>
     requires { IsFromTo 1 most_asked words.now.room }
     ensures asked { IfOk result (λ policy. policy ≡ policy_asked words.now.policy words.now.age words.now.room) }
     ensures named { IfOk result (λ policy. policy_view keeps_all empties_all most_held policy ≡ policy_named words.now.policy words.now.age words.now.room) }
@@ -103,12 +104,13 @@ fn run_stop(inputs: &[Name], fault: RunFault, stats: bool) -> Stop
 }
 
 // Runs the program's root; or where the words name columns, its root at as many spaces, side by side.
-fn run_streams<P: Places, K: Sink>(
+fn run_streams<R: Retire, S: Pick, P: Places, K: Sink>(
     alloc: Global,
     words: &Words,
     program: Program,
     inputs: Inputs,
-    policy: Policy,
+    policy: R,
+    pick: S,
     places: &mut P,
     out: &mut K,
 ) -> Result<Summary, RunFault>
@@ -116,39 +118,40 @@ fn run_streams<P: Places, K: Sink>(
     requires streams { length (streams inputs) ≡ length (table_of program).inputs }
     requires askable { AreAskable (streams inputs) (P.world places.old) }
     ensures { Promises (program_subject (table_program (plain_words words.now) (table_of program))) (program_counted (table_program (plain_words words.now) (table_of program)))
-        (run_view words.now.options (policy_view keeps_all empties_all most_held policy) (table_of program) inputs (P.world places.old) (P.world places.new) (told K.written K.faults out.old) (told K.written K.faults out.new)) result }
+        (run_view words.now.options (policy_view R.keeps R.empties R.most policy) (table_of program) inputs (P.world places.old) (P.world places.new) (told K.written K.faults out.old) (told K.written K.faults out.new)) result }
 {
     let options = &words.options;
     if words.columns.is_empty() {
-        run(alloc, program, places, inputs, out, policy, Newest, options)
+        run(alloc, program, places, inputs, out, policy, pick, options)
     } else {
         let columns = words.columns.len() as u32;
         run_columns(
-            alloc, program, columns, places, inputs, out, policy, Newest, options,
+            alloc, program, columns, places, inputs, out, policy, pick, options,
         )
     }
 }
 
 /// Runs the program over the places of its inputs, which have these names.
-pub fn run_program<P: Places, K: Sink>(
+pub fn run_program<R: Retire, S: Pick, P: Places, K: Sink>(
     alloc: Global,
     words: &Words,
     names: &[Name],
     program: Program,
     numbers: Vec<u32>,
+    policy: R,
+    pick: S,
     places: &mut P,
     out: &mut K,
 ) -> Result<Done, Stop>
-    requires room { IsFromTo 1 most_asked words.now.room }
     requires columns { length (plain_words words.now).columns ≤ 16 }
     requires names { names.now ≡ (table_of program).inputs }
     requires count { length numbers.items ≡ length names.now }
     requires differ { AllPairs (λ a b. a ≢ b) numbers.items }
     requires unread { AreUnread numbers.items (P.world places.old) }
     ensures ran { RanSo (table_program (plain_words words.now) (table_of program))
-        (viewed (plain_words words.now) names.now numbers.items (P.world places.old) (P.world places.new) (told K.written K.faults out.old) (told K.written K.faults out.new))
+        (under (policy_view R.keeps R.empties R.most policy) (viewed (plain_words words.now) names.now numbers.items (P.world places.old) (P.world places.new) (told K.written K.faults out.old) (told K.written K.faults out.new)))
         result }
-    ensures comes_only { RunComesOnly (plain_words words.now) names.now (P.world places.old).faults (P.world places.new).faults (K.faults out.old) (K.faults out.new) result }
+    ensures comes_only { RunComesOnly (policy_view R.keeps R.empties R.most policy) (plain_words words.now) names.now (P.world places.old).faults (P.world places.new).faults (K.faults out.old) (K.faults out.new) result }
     ensures reached { (P.world places.new).reached ≡ (P.world places.old).reached }
     ensures others { (k : ℕ) → In k numbers.items ⊎ ((P.world places.new).place k ≡ (P.world places.old).place k) }
     ensures faults { (P.world places.old).faults ≤ (P.world places.new).faults }
@@ -157,9 +160,8 @@ pub fn run_program<P: Places, K: Sink>(
 {
     fresh_fits();
     let inputs = unread_inputs(alloc, numbers)?;
-    let policy = policy_of(alloc, words)?;
     let stats = wants_figures(words);
-    match run_streams(alloc, words, program, inputs, policy, places, out) {
+    match run_streams(alloc, words, program, inputs, policy, pick, places, out) {
         Ok(summary) => Ok(Done::Ran { summary, stats }),
         Err(fault) => Err(run_stop(names, fault, stats)),
     }

@@ -6,9 +6,9 @@ ghost use Rattle.lucid_tree.specs.WellMade.{places as all_places, IsWellMade};
 ghost use Rattle.lucid_words.specs.Asked.{PlainWords, plain_words, words_asked};
 ghost use Rattle.lucid_words.specs.Plain.{plain_source};
 ghost use Rattle.lucid_words.specs.Numbers.{IsFromTo, IsFromToIfGiven, MadeIsFromTo};
-ghost use Rattle.lucid_top.specs.Call.{call};
-ghost use Rattle.lucid_session.specs.Runs.{told};
-ghost use Rattle.lucid_top.specs.Tasks.{form_of};
+ghost use Rattle.lucid_top.specs.Call.{call, call_under};
+ghost use Rattle.lucid_session.specs.Runs.{told, policy_view, PolicyView};
+ghost use Rattle.lucid_top.specs.Tasks.{form_of, task_of};
 ghost use Rattle.lucid_top.specs.Sources.{first_place};
 ghost use Rattle.lucid_scope.specs.Scoped.{scoped_tree, scoped_inputs};
 ghost use Rattle.lucid_ports.specs.Limits.{most_asked};
@@ -20,6 +20,7 @@ ghost use Rattle.lucid_top.specs.Certificates.{most_certificate_bytes};
 ghost use Rattle.lucid_top.specs.Places.{CountsNoRead, CountsNoWrite, ReadsSource, ReadsPlace, AreKept, HasRead, SpeltBySource, FlatBySource, IsAccepted, IsAcceptedBeside, IsSourceStop, IsProgramStop, IsColumnsStop};
 ghost use Rattle.lucid_top.specs.Coming.{Comes, Does, MayBegin, RunsTable, ProvesTable};
 ghost use Rattle.lucid_top.specs.Clauses.{MeetsClauses};
+ghost use Rattle.lucid_top.specs.Headline.{HasHeadline};
 
 use crate::checking::{check_program, read_certificate};
 use crate::files::{copied_names, input_files};
@@ -28,7 +29,7 @@ use crate::judging::{read_tree, resolve_beside, resolve_names};
 use crate::laws::one_verdict;
 use crate::making::make_program;
 use crate::places::{reach_files, read_source};
-use crate::running::run_program;
+use crate::running::{policy_of, run_program};
 use crate::task::{Form, Task};
 use crate::writing::{print_program, write_flat, write_judgment};
 use lucid_columns::laws::columns_are_spaces;
@@ -37,6 +38,8 @@ use lucid_cycles::judge;
 use lucid_equations::Program;
 use lucid_ports::{Places, Sink};
 use lucid_report::{Done, Status, Stop, tell};
+use lucid_retire::Retire;
+use lucid_schedule::{Newest, Pick};
 use lucid_scope::Scoped;
 use lucid_session::laws::{figures_carry, same_streams_run_alike};
 use lucid_tree::Tree;
@@ -105,22 +108,23 @@ fn flat_program<P: Places>(alloc: Global, words: &Words, places: &mut P) -> Resu
 }
 
 // Runs the program over the files that the words give its inputs, which have these names.
-fn run_inputs<P: Places, K: Sink>(
+fn run_inputs<R: Retire, S: Pick, P: Places, K: Sink>(
     alloc: Global,
     words: &Words,
     names: &[Name],
     program: Program,
+    policy: R,
+    pick: S,
     places: &mut P,
     out: &mut K,
 ) -> Result<Done, Stop>
-    requires room { IsFromTo 1 most_asked words.now.room }
     requires columns { length (plain_words words.now).columns ≤ 16 }
     requires names { names.now ≡ (table_of program).inputs }
     requires few { length names.now ≤ most_source_bytes }
     requires one { (P.world places.old).reached ≤ 1 }
     ensures comes { (before : World)
-        → RunsTable (call (Some (plain_words words.now)) before (P.world places.new) (told K.written K.faults out.old) (told K.written K.faults out.new)) (plain_words words.now) (table_of program) (P.world places.old)
-        → Comes (call (Some (plain_words words.now)) before (P.world places.new) (told K.written K.faults out.old) (told K.written K.faults out.new)) result }
+        → RunsTable (call_under (policy_view R.keeps R.empties R.most policy) (Some (plain_words words.now)) before (P.world places.new) (told K.written K.faults out.old) (told K.written K.faults out.new)) (plain_words words.now) (table_of program) (P.world places.old)
+        → Comes (call_under (policy_view R.keeps R.empties R.most policy) (Some (plain_words words.now)) before (P.world places.new) (told K.written K.faults out.old) (told K.written K.faults out.new)) result }
     ensures counts_no_read { CountsNoRead result (P.world places.old) (P.world places.new) }
     ensures counts_no_write { CountsNoWrite result (K.faults out.old) (K.faults out.new) }
     ensures within { (most : ℕ) → (P.world places.old).reached ≡ first_place (plain_source words.now.source)
@@ -128,73 +132,101 @@ fn run_inputs<P: Places, K: Sink>(
 {
     let files = input_files(alloc, names, &words.given)?;
     let numbers = reach_files(alloc, places, &files)?;
-    run_program(alloc, words, names, program, numbers, places, out)
+    run_program(
+        alloc, words, names, program, numbers, policy, pick, places, out,
+    )
 }
 
 // Runs the tree of the source that the words name.
-fn run_tree<P: Places, K: Sink>(
+fn run_tree<R: Retire, S: Pick, P: Places, K: Sink>(
     alloc: Global,
     words: &Words,
+    policy: R,
+    pick: S,
     places: &mut P,
     out: &mut K,
 ) -> Result<Done, Stop>
     requires may { MayBegin words.now Task.Run (P.world places.old) }
     requires form { form_of (plain_words words.now) ≢ Form.Flat }
-    ensures { Does (call (Some (plain_words words.now)) (P.world places.old) (P.world places.new) (told K.written K.faults out.old) (told K.written K.faults out.new)) result }
+    ensures { Does (call_under (policy_view R.keeps R.empties R.most policy) (Some (plain_words words.now)) (P.world places.old) (P.world places.new) (told K.written K.faults out.old) (told K.written K.faults out.new)) result }
 {
     same_streams_run_alike();
     figures_carry();
     let scoped = program_of(alloc, words, places)?;
     let program = compile(alloc, &scoped)?;
-    run_inputs(alloc, words, scoped.inputs(), program, places, out)
+    run_inputs(
+        alloc,
+        words,
+        scoped.inputs(),
+        program,
+        policy,
+        pick,
+        places,
+        out,
+    )
 }
 
 // Runs the columns of the tree of the source that the words name.
-fn columns_task<P: Places, K: Sink>(
+fn columns_task<R: Retire, S: Pick, P: Places, K: Sink>(
     alloc: Global,
     words: &Words,
+    policy: R,
+    pick: S,
     places: &mut P,
     out: &mut K,
 ) -> Result<Done, Stop>
     requires { MayBegin words.now Task.Columns (P.world places.old) }
-    ensures { Does (call (Some (plain_words words.now)) (P.world places.old) (P.world places.new) (told K.written K.faults out.old) (told K.written K.faults out.new)) result }
+    ensures { Does (call_under (policy_view R.keeps R.empties R.most policy) (Some (plain_words words.now)) (P.world places.old) (P.world places.new) (told K.written K.faults out.old) (told K.written K.faults out.new)) result }
 {
     figures_carry();
     columns_are_spaces();
     let scoped = columns_of(alloc, words, places)?;
     let program = compile(alloc, &scoped)?;
-    run_inputs(alloc, words, scoped.inputs(), program, places, out)
+    run_inputs(
+        alloc,
+        words,
+        scoped.inputs(),
+        program,
+        policy,
+        pick,
+        places,
+        out,
+    )
 }
 
 // Runs the table of the source that the words name.
-fn run_table<P: Places, K: Sink>(
+fn run_table<R: Retire, S: Pick, P: Places, K: Sink>(
     alloc: Global,
     words: &Words,
+    policy: R,
+    pick: S,
     places: &mut P,
     out: &mut K,
 ) -> Result<Done, Stop>
     requires may { MayBegin words.now Task.Run (P.world places.old) }
     requires form { form_of (plain_words words.now) ≡ Form.Flat }
-    ensures { Does (call (Some (plain_words words.now)) (P.world places.old) (P.world places.new) (told K.written K.faults out.old) (told K.written K.faults out.new)) result }
+    ensures { Does (call_under (policy_view R.keeps R.empties R.most policy) (Some (plain_words words.now)) (P.world places.old) (P.world places.new) (told K.written K.faults out.old) (told K.written K.faults out.new)) result }
 {
     let program = flat_program(alloc, words, places)?;
     let names = copied_names(alloc, program.table().inputs.items())?;
-    run_inputs(alloc, words, &names, program, places, out)
+    run_inputs(alloc, words, &names, program, policy, pick, places, out)
 }
 
 // Runs the program that the words name.
-fn run_task<P: Places, K: Sink>(
+fn run_task<R: Retire, S: Pick, P: Places, K: Sink>(
     alloc: Global,
     words: &Words,
+    policy: R,
+    pick: S,
     places: &mut P,
     out: &mut K,
 ) -> Result<Done, Stop>
     requires { MayBegin words.now Task.Run (P.world places.old) }
-    ensures { Does (call (Some (plain_words words.now)) (P.world places.old) (P.world places.new) (told K.written K.faults out.old) (told K.written K.faults out.new)) result }
+    ensures { Does (call_under (policy_view R.keeps R.empties R.most policy) (Some (plain_words words.now)) (P.world places.old) (P.world places.new) (told K.written K.faults out.old) (told K.written K.faults out.new)) result }
 {
     match Form::of(words) {
-        Form::Flat => run_table(alloc, words, places, out),
-        Form::Text | Form::Made => run_tree(alloc, words, places, out),
+        Form::Flat => run_table(alloc, words, policy, pick, places, out),
+        Form::Text | Form::Made => run_tree(alloc, words, policy, pick, places, out),
     }
 }
 
@@ -206,7 +238,7 @@ fn print_task<P: Places, K: Sink>(
     out: &mut K,
 ) -> Result<Done, Stop>
     requires { MayBegin words.now Task.Print (P.world places.old) }
-    ensures { Does (call (Some (plain_words words.now)) (P.world places.old) (P.world places.new) (told K.written K.faults out.old) (told K.written K.faults out.new)) result }
+    ensures { (policy : PolicyView) → Does (call_under policy (Some (plain_words words.now)) (P.world places.old) (P.world places.new) (told K.written K.faults out.old) (told K.written K.faults out.new)) result }
 {
     let tree = tree_of(alloc, words, places)?;
     print_program(alloc, &tree, out)
@@ -220,7 +252,7 @@ fn cycles_task<P: Places, K: Sink>(
     out: &mut K,
 ) -> Result<Done, Stop>
     requires { MayBegin words.now Task.Cycles (P.world places.old) }
-    ensures { Does (call (Some (plain_words words.now)) (P.world places.old) (P.world places.new) (told K.written K.faults out.old) (told K.written K.faults out.new)) result }
+    ensures { (policy : PolicyView) → Does (call_under policy (Some (plain_words words.now)) (P.world places.old) (P.world places.new) (told K.written K.faults out.old) (told K.written K.faults out.new)) result }
 {
     let scoped = program_of(alloc, words, places)?;
     let judgment = judge(alloc, &scoped)?;
@@ -235,7 +267,7 @@ fn flat_task<P: Places, K: Sink>(
     out: &mut K,
 ) -> Result<Done, Stop>
     requires { MayBegin words.now Task.Flat (P.world places.old) }
-    ensures { Does (call (Some (plain_words words.now)) (P.world places.old) (P.world places.new) (told K.written K.faults out.old) (told K.written K.faults out.new)) result }
+    ensures { (policy : PolicyView) → Does (call_under policy (Some (plain_words words.now)) (P.world places.old) (P.world places.new) (told K.written K.faults out.old) (told K.written K.faults out.new)) result }
 {
     let scoped = program_of(alloc, words, places)?;
     write_flat(alloc, &scoped, out)
@@ -255,9 +287,9 @@ fn make_inputs<P: Places, K: Sink>(
     requires names { names.now ≡ (table_of program.now).inputs }
     requires few { length names.now ≤ most_source_bytes }
     requires one { (P.world places.old).reached ≤ 1 }
-    ensures comes { (before : World)
-        → ProvesTable (call (Some (plain_words words.now)) before (P.world places.new) (told K.written K.faults out.old) (told K.written K.faults out.new)) Task.Why (plain_words words.now) (table_of program.now) (P.world places.old)
-        → Comes (call (Some (plain_words words.now)) before (P.world places.new) (told K.written K.faults out.old) (told K.written K.faults out.new)) result }
+    ensures comes { (policy : PolicyView) (before : World)
+        → ProvesTable (call_under policy (Some (plain_words words.now)) before (P.world places.new) (told K.written K.faults out.old) (told K.written K.faults out.new)) Task.Why (plain_words words.now) (table_of program.now) (P.world places.old)
+        → Comes (call_under policy (Some (plain_words words.now)) before (P.world places.new) (told K.written K.faults out.old) (told K.written K.faults out.new)) result }
     ensures counts_no_read { CountsNoRead result (P.world places.old) (P.world places.new) }
     ensures counts_no_write { CountsNoWrite result (K.faults out.old) (K.faults out.new) }
     ensures others { AreKept (P.world places.old) (P.world places.new) }
@@ -275,7 +307,7 @@ fn why_task<P: Places, K: Sink>(
     out: &mut K,
 ) -> Result<Done, Stop>
     requires { MayBegin words.now Task.Why (P.world places.old) }
-    ensures { Does (call (Some (plain_words words.now)) (P.world places.old) (P.world places.new) (told K.written K.faults out.old) (told K.written K.faults out.new)) result }
+    ensures { (policy : PolicyView) → Does (call_under policy (Some (plain_words words.now)) (P.world places.old) (P.world places.new) (told K.written K.faults out.old) (told K.written K.faults out.new)) result }
 {
     let scoped = program_of(alloc, words, places)?;
     let program = compile(alloc, &scoped)?;
@@ -295,9 +327,9 @@ fn check_inputs<P: Places, K: Sink>(
     requires names { names.now ≡ (table_of program.now).inputs }
     requires few { length names.now ≤ most_source_bytes }
     requires one { (P.world places.old).reached ≤ 1 }
-    ensures comes { (before : World)
-        → ProvesTable (call (Some (plain_words words.now)) before (P.world places.new) (told K.written K.faults out.old) (told K.written K.faults out.new)) Task.Check (plain_words words.now) (table_of program.now) (P.world places.old)
-        → Comes (call (Some (plain_words words.now)) before (P.world places.new) (told K.written K.faults out.old) (told K.written K.faults out.new)) result }
+    ensures comes { (policy : PolicyView) (before : World)
+        → ProvesTable (call_under policy (Some (plain_words words.now)) before (P.world places.new) (told K.written K.faults out.old) (told K.written K.faults out.new)) Task.Check (plain_words words.now) (table_of program.now) (P.world places.old)
+        → Comes (call_under policy (Some (plain_words words.now)) before (P.world places.new) (told K.written K.faults out.old) (told K.written K.faults out.new)) result }
     ensures counts_no_read { CountsNoRead result (P.world places.old) (P.world places.new) }
     ensures counts_no_write { CountsNoWrite result (K.faults out.old) (K.faults out.new) }
     ensures others { AreKept (P.world places.old) (P.world places.new) }
@@ -317,14 +349,37 @@ fn check_task<P: Places, K: Sink>(
     out: &mut K,
 ) -> Result<Done, Stop>
     requires { MayBegin words.now Task.Check (P.world places.old) }
-    ensures { Does (call (Some (plain_words words.now)) (P.world places.old) (P.world places.new) (told K.written K.faults out.old) (told K.written K.faults out.new)) result }
+    ensures { (policy : PolicyView) → Does (call_under policy (Some (plain_words words.now)) (P.world places.old) (P.world places.new) (told K.written K.faults out.old) (told K.written K.faults out.new)) result }
 {
     let scoped = program_of(alloc, words, places)?;
     let program = compile(alloc, &scoped)?;
     check_inputs(alloc, words, scoped.inputs(), &program, places, out)
 }
 
-// Does what the words ask for.
+// Does what the words ask for, which were read; a run goes by this policy and this pick.
+fn do_words<R: Retire, S: Pick, P: Places, K: Sink>(
+    alloc: Global,
+    words: &Words,
+    policy: R,
+    pick: S,
+    places: &mut P,
+    out: &mut K,
+) -> Result<Done, Stop>
+    requires { MayBegin words.now (task_of (plain_words words.now)) (P.world places.old) }
+    ensures { Does (call_under (policy_view R.keeps R.empties R.most policy) (Some (plain_words words.now)) (P.world places.old) (P.world places.new) (told K.written K.faults out.old) (told K.written K.faults out.new)) result }
+{
+    match Task::of(words) {
+        Task::Run => run_task(alloc, words, policy, pick, places, out),
+        Task::Print => print_task(alloc, words, places, out),
+        Task::Cycles => cycles_task(alloc, words, places, out),
+        Task::Columns => columns_task(alloc, words, policy, pick, places, out),
+        Task::Check => check_task(alloc, words, places, out),
+        Task::Flat => flat_task(alloc, words, places, out),
+        Task::Why => why_task(alloc, words, places, out),
+    }
+}
+
+// Does what the words ask for, by the policy that they name. The task that was made last steps next.
 fn do_task<P: Places, K: Sink>(
     alloc: Global,
     words: &[String],
@@ -335,15 +390,24 @@ fn do_task<P: Places, K: Sink>(
     ensures { Does (call (words_asked (map string_bytes words.now)) (P.world places.old) (P.world places.new) (told K.written K.faults out.old) (told K.written K.faults out.new)) result }
 {
     let words = read_words(alloc, words)?;
-    match Task::of(&words) {
-        Task::Run => run_task(alloc, &words, places, out),
-        Task::Print => print_task(alloc, &words, places, out),
-        Task::Cycles => cycles_task(alloc, &words, places, out),
-        Task::Columns => columns_task(alloc, &words, places, out),
-        Task::Check => check_task(alloc, &words, places, out),
-        Task::Flat => flat_task(alloc, &words, places, out),
-        Task::Why => why_task(alloc, &words, places, out),
-    }
+    let policy = policy_of(alloc, &words)?;
+    do_words(alloc, &words, policy, Newest, places, out)
+}
+
+// Does what the words ask for, by a policy and a pick that are given.
+fn do_task_under<R: Retire, S: Pick, P: Places, K: Sink>(
+    alloc: Global,
+    words: &[String],
+    policy: R,
+    pick: S,
+    places: &mut P,
+    out: &mut K,
+) -> Result<Done, Stop>
+    requires { (P.world places.old).reached ≡ 0 }
+    ensures { Does (call_under (policy_view R.keeps R.empties R.most policy) (words_asked (map string_bytes words.now)) (P.world places.old) (P.world places.new) (told K.written K.faults out.old) (told K.written K.faults out.new)) result }
+{
+    let words = read_words(alloc, words)?;
+    do_words(alloc, &words, policy, pick, places, out)
 }
 
 /// The command: does what the words ask for, writes to `out`, and reports on `report` how it ended. The words are those after the
@@ -362,5 +426,29 @@ pub fn lucid<P: Places, K: Sink, E: Sink>(
 {
     one_verdict();
     let outcome = do_task(alloc, words, places, out);
+    tell(report, &outcome)
+}
+
+/// The same call, whose run goes by this policy and this pick in place of the policy of the words. So the clauses and the headline are those of
+/// every policy and every pick.
+pub fn lucid_under<R: Retire, S: Pick, P: Places, K: Sink, E: Sink>(
+    alloc: Global,
+    words: &[String],
+    policy: R,
+    pick: S,
+    places: &mut P,
+    out: &mut K,
+    report: &mut E,
+) -> Status
+    requires { (P.world places.old).reached ≡ 0 }
+    ensures clauses { MeetsClauses
+        (call_under (policy_view R.keeps R.empties R.most policy) (words_asked (map string_bytes words.now)) (P.world places.old) (P.world places.new) (told K.written K.faults out.old) (told K.written K.faults out.new))
+        (told E.written E.faults report.old) (told E.written E.faults report.new) result }
+    ensures headline { HasHeadline
+        (call_under (policy_view R.keeps R.empties R.most policy) (words_asked (map string_bytes words.now)) (P.world places.old) (P.world places.new) (told K.written K.faults out.old) (told K.written K.faults out.new))
+        result }
+{
+    one_verdict();
+    let outcome = do_task_under(alloc, words, policy, pick, places, out);
     tell(report, &outcome)
 }

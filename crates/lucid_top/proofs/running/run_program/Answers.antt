@@ -1,7 +1,8 @@
 use Rattle.lucid_top.proofs.Common.{◌≡◌, ◌<◌, ◌⊎◌, Ok, Err, refl, sym, subst, length, err_from_is_err_and, In, table_of, plain_words, told, OnTooLarge, viewed, table_program}
 use Rattle.lucid_inputs.specs.Inputs.{streams, most_bytes}
 use Rattle.lucid_facts.specs.Engine.{places_of}
-use Rattle.lucid_retire.specs.Policies.{keeps_all, empties_all, most_held}
+use Rattle.lucid_session.specs.Runs.{policy_view}
+use Rattle.lucid_top.specs.Runs.{under}
 use Rattle.lucid_top.proofs.Asking.{askable, places_are}
 use Rattle.lucid_top.proofs.Begun.{no_memory, same_contents}
 use Rattle.lucid_top.proofs.Carrying.{seen_same, stopped_run}
@@ -12,17 +13,10 @@ pub returns-in_err-inputs-clause-ran : goal.returns-in_err-inputs-clause-ran
 returns-in_err-inputs-clause-ran g c =
     let p = err_from_is_err_and c.from_residual.result c.from_residual.ensures.1 in
     no_memory (table_program (plain_words c.args.words.now) (table_of c.args.program))
+    (under (policy_view g.R.Retire.keeps g.R.Retire.empties g.R.Retire.most c.args.policy)
     (viewed (plain_words c.args.words.now) (c.args.names.now) c.args.numbers.items (g.P.Places.world c.args.places.now) (g.P.Places.world c.args.places.now)
-    (told g.K.Sink.written g.K.Sink.faults c.args.out.now) (told g.K.Sink.written g.K.Sink.faults c.args.out.now))
+    (told g.K.Sink.written g.K.Sink.faults c.args.out.now) (told g.K.Sink.written g.K.Sink.faults c.args.out.now)))
     c.from_residual.result p.0 p.1 p.2 refl (λ k n q is old new a b. same_contents _ old new a b)
-
-pub returns-in_err-policy-clause-ran : goal.returns-in_err-policy-clause-ran
-returns-in_err-policy-clause-ran g c =
-    let p = err_from_is_err_and c.from_residual-in_err-policy.result c.from_residual-in_err-policy.ensures.1 in
-    no_memory (table_program (plain_words c.args.words.now) (table_of c.args.program))
-    (viewed (plain_words c.args.words.now) (c.args.names.now) c.args.numbers.items (g.P.Places.world c.args.places.now) (g.P.Places.world c.args.places.now)
-    (told g.K.Sink.written g.K.Sink.faults c.args.out.now) (told g.K.Sink.written g.K.Sink.faults c.args.out.now))
-    c.from_residual-in_err-policy.result p.0 p.1 p.2 refl (λ k n q is old new a b. same_contents _ old new a b)
 
 pub run_streams-requires-clause-askable : goal.run_streams-requires-clause-askable
 run_streams-requires-clause-askable g c =
@@ -34,25 +28,26 @@ returns-in-Ok-clause-ran g c =
     seen_same (table_program (plain_words c.args.words.now) (table_of c.args.program)) (plain_words c.args.words.now) (g.P.Places.world c.args.places.now)
     (g.P.Places.world c.run_streams.new.places)
     (told g.K.Sink.written g.K.Sink.faults c.args.out.now) (told g.K.Sink.written g.K.Sink.faults c.run_streams.new.out) (Ok c.in-Ok.summary)
-    (record { keeps = keeps_all c.in_ok-policy.policy; empties = empties_all c.in_ok-policy.policy; room = most_held c.in_ok-policy.policy })
+    (policy_view g.R.Retire.keeps g.R.Retire.empties g.R.Retire.most c.args.policy)
     (table_of c.args.program).inputs c.args.names.now (places_of (streams c.in_ok-inputs.inputs)) c.args.numbers.items (most_bytes c.in_ok-inputs.inputs)
-    c.in_ok-policy.ensures.named (sym c.requires.names) (places_are (streams c.in_ok-inputs.inputs) c.args.numbers.items c.in_ok-inputs.ensures.streams)
+    (sym c.requires.names) (places_are (streams c.in_ok-inputs.inputs) c.args.numbers.items c.in_ok-inputs.ensures.streams)
     c.in_ok-inputs.ensures.most
     (λ b has. (c.in-Ok.ensures.headline b has, c.in-Ok.ensures.figures b has))
 
 pub returns-in-Err-clause-ran : goal.returns-in-Err-clause-ran
 returns-in-Err-clause-ran g c =
     stopped_run (table_program (plain_words c.args.words.now) (table_of c.args.program))
+    (under (policy_view g.R.Retire.keeps g.R.Retire.empties g.R.Retire.most c.args.policy)
     (viewed (plain_words c.args.words.now) (c.args.names.now) c.args.numbers.items (g.P.Places.world c.args.places.now)
     (g.P.Places.world c.run_streams.new.places) (told g.K.Sink.written g.K.Sink.faults c.args.out.now)
-    (told g.K.Sink.written g.K.Sink.faults c.run_streams.new.out))
+    (told g.K.Sink.written g.K.Sink.faults c.run_streams.new.out)))
     c.args.names.now c.wants_figures-stats.result c.in-Err.fault c.run_stop.result c.run_stop.ensures
     (seen_same (table_program (plain_words c.args.words.now) (table_of c.args.program)) (plain_words c.args.words.now) (g.P.Places.world c.args.places.now)
     (g.P.Places.world c.run_streams.new.places)
     (told g.K.Sink.written g.K.Sink.faults c.args.out.now) (told g.K.Sink.written g.K.Sink.faults c.run_streams.new.out) (Err c.in-Err.fault)
-    (record { keeps = keeps_all c.in_ok-policy.policy; empties = empties_all c.in_ok-policy.policy; room = most_held c.in_ok-policy.policy })
+    (policy_view g.R.Retire.keeps g.R.Retire.empties g.R.Retire.most c.args.policy)
     (table_of c.args.program).inputs c.args.names.now (places_of (streams c.in_ok-inputs.inputs)) c.args.numbers.items (most_bytes c.in_ok-inputs.inputs)
-    c.in_ok-policy.ensures.named (sym c.requires.names) (places_are (streams c.in_ok-inputs.inputs) c.args.numbers.items c.in_ok-inputs.ensures.streams)
+    (sym c.requires.names) (places_are (streams c.in_ok-inputs.inputs) c.args.numbers.items c.in_ok-inputs.ensures.streams)
     c.in_ok-inputs.ensures.most
     (λ b has. (c.in-Err.ensures.headline b has, c.in-Err.ensures.figures b has)))
 

@@ -1,6 +1,6 @@
 use Rattle.lucid_top.proofs.Common.{◌≡◌, ◌≢◌, ◌+◌, length, map, Some, refl, sym, ap, subst, ◌∙◌, arith, AllPairs, length-range_with_len, err_from_is_err_and, table_of, plain_words, Call, told, IsRefusalOf, RefusesGiven, FitsGiven, files_for, AreFresh, viewed, Checks, CheckComesOnly, HeldCertificate, RefusesCertificate, IsSourceStop, file, most_certificate_bytes}
 use Rattle.lucid_session.specs.Subject.{table_stream}
-use Rattle.lucid_top.specs.Call.{call}
+use Rattle.lucid_top.specs.Call.{call_under}
 use Rattle.lucid_report.specs.declared.stop.Stop.TheVariants as stop
 use Rattle.lucid_top.specs.declared.task.Task.TheVariants as task
 use Rattle.lucid_top.proofs.Certifying.{given_stops}
@@ -11,26 +11,26 @@ use Rattle.lucid_top.proofs.Reaching.{kept_then, reads_still}
 use Rattle.lucid_top.proofs.top.check_inputs.Goals as goal
 
 pub returns-in_err-files-clause-comes : goal.returns-in_err-files-clause-comes
-returns-in_err-files-clause-comes g c before b =
+returns-in_err-files-clause-comes g c policy before b =
     let p = err_from_is_err_and c.from_residual.result c.from_residual.ensures.1 in
     let t = table_of c.args.program.now in
     let world = g.P.Places.world c.args.places.now in
     let out = told g.K.Sink.written g.K.Sink.faults c.args.out.now in
-    let the_call : Call = call (Some (plain_words c.args.words.now)) before world out out in
+    let the_call : Call = call_under policy (Some (plain_words c.args.words.now)) before world out out in
     let refused = carried (λ names given. IsRefusalOf (RefusesGiven names given) c.in_err-files.field-0.0) c.args.names.now t.inputs c.deref.result.now
     c.args.words.now.given.items
     c.requires.names c.deref.ensures.value c.in_err-files.ensures.refused in
     rw (p.1, p.2) (given_stops the_call task.Check (plain_words c.args.words.now) t world b refl c.in_err-files.field-0.0 refused refl (omega (arith, b.first)))
 
 pub returns-in_err-why-clause-comes : goal.returns-in_err-why-clause-comes
-returns-in_err-why-clause-comes g c before b =
+returns-in_err-why-clause-comes g c policy before b =
     let p = err_from_is_err_and c.from_residual-in_err-why.result c.from_residual-in_err-why.ensures.1 in
     let t = table_of c.args.program.now in
     let world = g.P.Places.world c.args.places.now in
     let out = told g.K.Sink.written g.K.Sink.faults c.args.out.now in
     let fits = carried FitsGiven c.args.names.now t.inputs c.deref.result.now c.args.words.now.given.items c.requires.names c.deref.ensures.value
     c.in_ok-files.ensures.fits in
-    let the_call : Call = call (Some (plain_words c.args.words.now)) before (g.P.Places.world c.read_certificate.new.places) out out in
+    let the_call : Call = call_under policy (Some (plain_words c.args.words.now)) before (g.P.Places.world c.read_certificate.new.places) out out in
     let read = c.in_err-why.ensures in
     rw (p.1, p.2) (certificate_stop the_call (plain_words c.args.words.now) t world b fits c.in_err-why.field-0.0 read.reading.keeps
     (subst (λ name. IsSourceStop RefusesCertificate (file name) world (g.P.Places.world c.read_certificate.new.places) c.in_err-why.field-0.0)
@@ -48,7 +48,7 @@ reach_files-requires g c =
     omega (arith, long, as_many, same, c.requires.few, c.requires.one, c.in_ok-why.ensures.reading.few)
 
 pub returns-in_err-numbers-clause-comes : goal.returns-in_err-numbers-clause-comes
-returns-in_err-numbers-clause-comes g c before b =
+returns-in_err-numbers-clause-comes g c policy before b =
     let p = err_from_is_err_and c.from_residual-in_err-numbers.result c.from_residual-in_err-numbers.ensures.1 in
     let world = g.P.Places.world c.args.places.now in
     let read_world = g.P.Places.world c.read_certificate.new.places in
@@ -63,7 +63,7 @@ returns-in_err-numbers-clause-comes g c before b =
     let names_long = ap length c.requires.names in
     let fits = carried FitsGiven c.args.names.now t.inputs c.deref.result.now c.args.words.now.given.items c.requires.names c.deref.ensures.value
     c.in_ok-files.ensures.fits in
-    let the_call : Call = call (Some (plain_words c.args.words.now)) before (g.P.Places.world c.reach_files.new.places) out out in
+    let the_call : Call = call_under policy (Some (plain_words c.args.words.now)) before (g.P.Places.world c.reach_files.new.places) out out in
     let read = c.in_ok-why.ensures in
     rw (p.1, p.2) (
     reaching_stop the_call (plain_words c.args.words.now) t world b fits read_world c.in_ok-why.why
@@ -106,7 +106,7 @@ pub check_program-requires-clause-some : goal.check_program-requires-clause-some
 check_program-requires-clause-some g c = c.in_ok-why.ensures.held.holds.text.has.some
 
 pub returns-clause-comes : goal.returns-clause-comes
-returns-clause-comes g c before b =
+returns-clause-comes g c policy before b =
     let w = plain_words c.args.words.now in
     let world = g.P.Places.world c.args.places.now in
     let read_world = g.P.Places.world c.read_certificate.new.places in
@@ -123,7 +123,7 @@ returns-clause-comes g c before b =
     let fits = carried FitsGiven c.args.names.now t.inputs c.deref.result.now c.args.words.now.given.items c.requires.names c.deref.ensures.value
     c.in_ok-files.ensures.fits in
     let names_long = ap length c.requires.names in
-    let the_call : Call = call (Some w) before after out out_after in
+    let the_call : Call = call_under policy (Some w) before after out out_after in
     let read = c.in_ok-why.ensures in
     check_ends the_call w t world b fits read_world c.in_ok-why.why (subst (λ name. HeldCertificate name world c.in_ok-why.why) c.deref-2.ensures read.held)
     read.reading.keeps read.reading.reached

@@ -1,17 +1,17 @@
 use Rattle.lucid_top.proofs.Common.{◌≡◌, Some, refl, inr, err_from_is_err_and, scoped_tree, scoped_inputs, scoped_binding, plain_words, told, Call, judges, IsTextFor}
 use Rattle.lucid_cycles.specs.JudgmentLine.{judgment_line}
 use Rattle.lucid_report.specs.declared.stop.Stop.TheVariants as stop
-use Rattle.lucid_top.specs.Call.{call}
+use Rattle.lucid_top.specs.Call.{call_under}
 use Rattle.lucid_top.proofs.Counting.{none_at_ok}
 use Rattle.lucid_top.proofs.Ending.{Begins, within_text, cycles_not_print, judging_stops, inputs_of, names_of, as_text}
 use Rattle.lucid_top.proofs.Doing.{reads_for, program_does, writing_does, unread_certificate}
 use Rattle.lucid_top.proofs.top.cycles_task.Goals as goal
 
 pub returns-in_err-scoped : goal.returns-in_err-scoped
-returns-in_err-scoped g c =
+returns-in_err-scoped g c policy =
     let p = err_from_is_err_and c.from_residual.result c.from_residual.ensures.1 in
     let w = plain_words c.args.words.now in
-    let here : Call = call (Some w) (g.P.Places.world c.args.places.now) (g.P.Places.world c.program_of.new.places)
+    let here : Call = call_under policy (Some w) (g.P.Places.world c.args.places.now) (g.P.Places.world c.program_of.new.places)
     (told g.K.Sink.written g.K.Sink.faults c.args.out.now) (told g.K.Sink.written g.K.Sink.faults c.args.out.now) in
     let begins : Begins here w = refl in
     let read = c.in_err-scoped.ensures in
@@ -19,10 +19,10 @@ returns-in_err-scoped g c =
     read.stopped read.reading)
 
 pub returns-in_err-judgment : goal.returns-in_err-judgment
-returns-in_err-judgment g c =
+returns-in_err-judgment g c policy =
     let p = err_from_is_err_and c.from_residual-in_err-judgment.result c.from_residual-in_err-judgment.ensures.1 in
     let w = plain_words c.args.words.now in
-    let here : Call = call (Some w) (g.P.Places.world c.args.places.now) (g.P.Places.world c.program_of.new.places)
+    let here : Call = call_under policy (Some w) (g.P.Places.world c.args.places.now) (g.P.Places.world c.program_of.new.places)
     (told g.K.Sink.written g.K.Sink.faults c.args.out.now) (told g.K.Sink.written g.K.Sink.faults c.args.out.now) in
     let begins : Begins here w = refl in
     let text = c.requires.text (λ e. absurd (cc e)) in
@@ -39,9 +39,9 @@ returns-in_err-judgment g c =
     })
 
 pub returns : goal.returns
-returns g c =
+returns g c policy =
     let w = plain_words c.args.words.now in
-    let here : Call = call (Some w) (g.P.Places.world c.args.places.now) (g.P.Places.world c.program_of.new.places)
+    let here : Call = call_under policy (Some w) (g.P.Places.world c.args.places.now) (g.P.Places.world c.program_of.new.places)
     (told g.K.Sink.written g.K.Sink.faults c.args.out.now) (told g.K.Sink.written g.K.Sink.faults c.write_judgment.new.out) in
     let begins : Begins here w = refl in
     let text = c.requires.text (λ e. absurd (cc e)) in

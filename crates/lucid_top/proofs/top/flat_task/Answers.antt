@@ -1,14 +1,14 @@
 use Rattle.lucid_top.proofs.Common.{Some, refl, arith, err_from_is_err_and, scoped_tree, scoped_inputs, scoped_binding, plain_words, told, Call, flattens}
-use Rattle.lucid_top.specs.Call.{call}
+use Rattle.lucid_top.specs.Call.{call_under}
 use Rattle.lucid_top.proofs.Ending.{Begins, flat_not_print, inputs_of, names_of}
 use Rattle.lucid_top.proofs.Doing.{program_does, writing_does}
 use Rattle.lucid_top.proofs.top.flat_task.Goals as goal
 
 pub returns-in_err-scoped : goal.returns-in_err-scoped
-returns-in_err-scoped g c =
+returns-in_err-scoped g c policy =
     let p = err_from_is_err_and c.from_residual.result c.from_residual.ensures.1 in
     let w = plain_words c.args.words.now in
-    let here : Call = call (Some w) (g.P.Places.world c.args.places.now) (g.P.Places.world c.program_of.new.places)
+    let here : Call = call_under policy (Some w) (g.P.Places.world c.args.places.now) (g.P.Places.world c.program_of.new.places)
     (told g.K.Sink.written g.K.Sink.faults c.args.out.now) (told g.K.Sink.written g.K.Sink.faults c.args.out.now) in
     let begins : Begins here w = refl in
     let read = c.in_err-scoped.ensures in
@@ -19,9 +19,9 @@ pub write_flat-requires-clause-few : goal.write_flat-requires-clause-few
 write_flat-requires-clause-few g c = omega (arith, c.in_ok-scoped.ensures.resolved.few, c.in_ok-scoped.ensures.accepted.few)
 
 pub returns : goal.returns
-returns g c =
+returns g c policy =
     let w = plain_words c.args.words.now in
-    let here : Call = call (Some w) (g.P.Places.world c.args.places.now) (g.P.Places.world c.program_of.new.places)
+    let here : Call = call_under policy (Some w) (g.P.Places.world c.args.places.now) (g.P.Places.world c.program_of.new.places)
     (told g.K.Sink.written g.K.Sink.faults c.args.out.now) (told g.K.Sink.written g.K.Sink.faults c.write_flat.new.out) in
     let begins : Begins here w = refl in
     let text = c.requires.text (λ e. absurd (cc e)) in

@@ -1,6 +1,6 @@
 use Rattle.lucid_top.proofs.Common.{◌≡◌, ◌≢◌, length, map, Some, refl, sym, ap, subst, ◌∙◌, arith, AllPairs, length-range_with_len, err_from_is_err_and, table_of, plain_words, Call, told, IsRefusalOf, RefusesGiven, FitsGiven, files_for, AreFresh, viewed, le_refl, Makes, MakingComesOnly, time_asked}
 use Rattle.lucid_session.specs.Subject.{table_stream}
-use Rattle.lucid_top.specs.Call.{call}
+use Rattle.lucid_top.specs.Call.{call_under}
 use Rattle.lucid_report.specs.declared.stop.Stop.TheVariants as stop
 use Rattle.lucid_top.specs.declared.task.Task.TheVariants as task
 use Rattle.lucid_top.proofs.Certifying.{given_stops}
@@ -10,12 +10,12 @@ use Rattle.lucid_top.proofs.RunEnds.{carried, refs_are, refs_long, files_long, r
 use Rattle.lucid_top.proofs.top.make_inputs.Goals as goal
 
 pub returns-in_err-files-clause-comes : goal.returns-in_err-files-clause-comes
-returns-in_err-files-clause-comes g c before b =
+returns-in_err-files-clause-comes g c policy before b =
     let p = err_from_is_err_and c.from_residual.result c.from_residual.ensures.1 in
     let t = table_of c.args.program.now in
     let world = g.P.Places.world c.args.places.now in
     let out = told g.K.Sink.written g.K.Sink.faults c.args.out.now in
-    let the_call : Call = call (Some (plain_words c.args.words.now)) before world out out in
+    let the_call : Call = call_under policy (Some (plain_words c.args.words.now)) before world out out in
     let refused = carried (λ names given. IsRefusalOf (RefusesGiven names given) c.in_err-files.field-0.0) c.args.names.now t.inputs c.deref.result.now
     c.args.words.now.given.items
     c.requires.names c.deref.ensures.value c.in_err-files.ensures.refused in
@@ -33,7 +33,7 @@ reach_files-requires g c =
     omega (arith, long, as_many, same, c.requires.few, c.requires.one)
 
 pub returns-in_err-numbers-clause-comes : goal.returns-in_err-numbers-clause-comes
-returns-in_err-numbers-clause-comes g c before b =
+returns-in_err-numbers-clause-comes g c policy before b =
     let p = err_from_is_err_and c.from_residual-in_err-numbers.result c.from_residual-in_err-numbers.ensures.1 in
     let t = table_of c.args.program.now in
     let world = g.P.Places.world c.args.places.now in
@@ -47,7 +47,7 @@ returns-in_err-numbers-clause-comes g c before b =
     let names_long = ap length c.requires.names in
     let fits = carried FitsGiven c.args.names.now t.inputs c.deref.result.now c.args.words.now.given.items c.requires.names c.deref.ensures.value
     c.in_ok-files.ensures.fits in
-    let the_call : Call = call (Some (plain_words c.args.words.now)) before (g.P.Places.world c.reach_files.new.places) out out in
+    let the_call : Call = call_under policy (Some (plain_words c.args.words.now)) before (g.P.Places.world c.reach_files.new.places) out out in
     rw (p.1, p.2) (
     reaching_stop the_call (plain_words c.args.words.now) t world b fits (files_for t.inputs (plain_words c.args.words.now).given) c.in_err-numbers.field-0.0
     as_many c.in_err-numbers.ensures.keeps
@@ -84,7 +84,7 @@ make_program-requires-clause-unread g c =
     c.in_ok-numbers.numbers.items reached.fresh reached.reached reached.numbers_are
 
 pub returns-clause-comes : goal.returns-clause-comes
-returns-clause-comes g c before b =
+returns-clause-comes g c policy before b =
     let t = table_of c.args.program.now in
     let w = plain_words c.args.words.now in
     let world = g.P.Places.world c.args.places.now in
@@ -100,7 +100,7 @@ returns-clause-comes g c before b =
     let fits = carried FitsGiven c.args.names.now t.inputs c.deref.result.now c.args.words.now.given.items c.requires.names c.deref.ensures.value
     c.in_ok-files.ensures.fits in
     let names_long = ap length c.requires.names in
-    let the_call : Call = call (Some w) before after out out_after in
+    let the_call : Call = call_under policy (Some w) before after out out_after in
     making_ends the_call w t world b fits c.in_ok-numbers.numbers.items reached_world c.make_program.result c.in_ok-numbers.ensures.keeps reached
     (omega (arith, names_long, c.requires.few))
     c.make_program.ensures.reached c.make_program.ensures.faults

@@ -1,14 +1,14 @@
 use Rattle.lucid_top.proofs.Common.{Some, refl, err_from_is_err_and, plain_words, told, Call, prints}
-use Rattle.lucid_top.specs.Call.{call}
+use Rattle.lucid_top.specs.Call.{call_under}
 use Rattle.lucid_top.proofs.Ending.{Begins, within_text, source_stops, tree_of}
 use Rattle.lucid_top.proofs.Doing.{stops, writing_does}
 use Rattle.lucid_top.proofs.top.print_task.Goals as goal
 
 pub returns-in_err-tree : goal.returns-in_err-tree
-returns-in_err-tree g c =
+returns-in_err-tree g c policy =
     let p = err_from_is_err_and c.from_residual.result c.from_residual.ensures.1 in
     let w = plain_words c.args.words.now in
-    let here : Call = call (Some w) (g.P.Places.world c.args.places.now) (g.P.Places.world c.tree_of.new.places)
+    let here : Call = call_under policy (Some w) (g.P.Places.world c.args.places.now) (g.P.Places.world c.tree_of.new.places)
     (told g.K.Sink.written g.K.Sink.faults c.args.out.now) (told g.K.Sink.written g.K.Sink.faults c.args.out.now) in
     let begins : Begins here w = refl in
     let text = c.requires.text (λ e. absurd (cc e)) in
@@ -18,9 +18,9 @@ returns-in_err-tree g c =
     (within_text w w.source here.after text read.reading.within))
 
 pub returns : goal.returns
-returns g c =
+returns g c policy =
     let w = plain_words c.args.words.now in
-    let here : Call = call (Some w) (g.P.Places.world c.args.places.now) (g.P.Places.world c.tree_of.new.places)
+    let here : Call = call_under policy (Some w) (g.P.Places.world c.args.places.now) (g.P.Places.world c.tree_of.new.places)
     (told g.K.Sink.written g.K.Sink.faults c.args.out.now) (told g.K.Sink.written g.K.Sink.faults c.print_program.new.out) in
     let begins : Begins here w = refl in
     let text = c.requires.text (λ e. absurd (cc e)) in

@@ -1,5 +1,7 @@
 use Rattle.lucid_top.proofs.Common.{◌≡◌, ◌≢◌, length, map, Some, refl, sym, ap, subst, ◌∙◌, arith, AllPairs, length-range_with_len, err_from_is_err_and, table_of, plain_source, plain_words, Call, told, IsRefusalOf, RefusesGiven, FitsGiven, files_for, AreFresh, viewed, table_program, RanSo, RunComesOnly}
-use Rattle.lucid_top.specs.Call.{call}
+use Rattle.lucid_session.specs.Runs.{policy_view}
+use Rattle.lucid_top.specs.Runs.{under}
+use Rattle.lucid_top.specs.Call.{call_under}
 use Rattle.lucid_top.proofs.Ending.{given_stops, reaching_stops}
 use Rattle.lucid_top.proofs.RunEnds.{source_stays, source_run, carried, refs_are, refs_long, files_long, reached_of, range_differs, all_unread, runs}
 use Rattle.lucid_report.specs.declared.stop.Stop.TheVariants as stop
@@ -12,7 +14,7 @@ returns-in_err-files-clause-comes g c before b =
     let t = table_of c.args.program in
     let world = g.P.Places.world c.args.places.now in
     let out = told g.K.Sink.written g.K.Sink.faults c.args.out.now in
-    let the_call : Call = call (Some (plain_words c.args.words.now)) before world out out in
+    let the_call : Call = call_under (policy_view g.R.Retire.keeps g.R.Retire.empties g.R.Retire.most c.args.policy) (Some (plain_words c.args.words.now)) before world out out in
     let refused = carried (λ names given. IsRefusalOf (RefusesGiven names given) c.in_err-files.field-0.0) c.args.names.now t.inputs c.deref.result.now
     c.args.words.now.given.items
     c.requires.names c.deref.ensures.value c.in_err-files.ensures.refused in
@@ -44,7 +46,7 @@ returns-in_err-numbers-clause-comes g c before b =
     let names_long = ap length c.requires.names in
     let fits = carried FitsGiven c.args.names.now t.inputs c.deref.result.now c.args.words.now.given.items c.requires.names c.deref.ensures.value
     c.in_ok-files.ensures.fits in
-    let the_call : Call = call (Some (plain_words c.args.words.now)) before (g.P.Places.world c.reach_files.new.places) out out in
+    let the_call : Call = call_under (policy_view g.R.Retire.keeps g.R.Retire.empties g.R.Retire.most c.args.policy) (Some (plain_words c.args.words.now)) before (g.P.Places.world c.reach_files.new.places) out out in
     rw (p.1, p.2) (
     reaching_stops the_call (plain_words c.args.words.now) t (files_for t.inputs (plain_words c.args.words.now).given) world c.in_err-numbers.field-0.0 b fits
     as_many c.in_err-numbers.ensures.keeps
@@ -97,7 +99,7 @@ returns-clause-comes g c before b =
     let fits = carried FitsGiven c.args.names.now t.inputs c.deref.result.now c.args.words.now.given.items c.requires.names c.deref.ensures.value
     c.in_ok-files.ensures.fits in
     let names_long = ap length c.requires.names in
-    let the_call : Call = call (Some w) before after out out_after in
+    let the_call : Call = call_under (policy_view g.R.Retire.keeps g.R.Retire.empties g.R.Retire.most c.args.policy) (Some w) before after out out_after in
     runs the_call w t world reached_world c.in_ok-numbers.numbers.items c.run_program.result b fits
     (record {
       kept_on = c.in_ok-numbers.ensures.keeps;
@@ -105,9 +107,10 @@ returns-clause-comes g c before b =
       few = omega (arith, names_long, c.requires.few);
       same_reached = c.run_program.ensures.reached;
       faults = c.run_program.ensures.faults;
-      ran = subst (λ names. RanSo (table_program w t) (viewed w names c.in_ok-numbers.numbers.items reached_world after out out_after) c.run_program.result)
+      ran = subst (λ names. RanSo (table_program w t) (under the_call.policy (viewed w names c.in_ok-numbers.numbers.items reached_world after out out_after))
+          c.run_program.result)
           c.requires.names c.run_program.ensures.ran;
-      only = subst (λ names. RunComesOnly w names reached_world.faults after.faults (g.K.Sink.faults c.args.out.now) (g.K.Sink.faults c.run_program.new.out)
+      only = subst (λ names. RunComesOnly the_call.policy w names reached_world.faults after.faults (g.K.Sink.faults c.args.out.now) (g.K.Sink.faults c.run_program.new.out)
           c.run_program.result) c.requires.names c.run_program.ensures.comes_only;
     })
 

@@ -1,5 +1,6 @@
 use Rattle.lucid_top.proofs.Common.{◌+◌, Some, refl, sym, ap, subst, ◌∙◌, length, arith, err_from_is_err_and, table_of, most_source_bytes, scoped_tree, scoped_inputs, scoped_binding, plain_words, told, Call, RanSo, by_tree}
-use Rattle.lucid_top.specs.Call.{call}
+use Rattle.lucid_session.specs.Runs.{policy_view}
+use Rattle.lucid_top.specs.Call.{call_under}
 use Rattle.lucid_top.proofs.Ending.{Begins, within_text, run_not_print, inputs_of, names_of, first_place_le}
 use Rattle.lucid_top.proofs.Doing.{program_does, memory_does, run_does}
 use Rattle.lucid_top.proofs.Carrying.{runs_tree, one_table}
@@ -9,7 +10,7 @@ pub returns-in_err-scoped : goal.returns-in_err-scoped
 returns-in_err-scoped g c =
     let p = err_from_is_err_and c.from_residual.result c.from_residual.ensures.1 in
     let w = plain_words c.args.words.now in
-    let here : Call = call (Some w) (g.P.Places.world c.args.places.now) (g.P.Places.world c.program_of.new.places)
+    let here : Call = call_under (policy_view g.R.Retire.keeps g.R.Retire.empties g.R.Retire.most c.args.policy) (Some w) (g.P.Places.world c.args.places.now) (g.P.Places.world c.program_of.new.places)
     (told g.K.Sink.written g.K.Sink.faults c.args.out.now) (told g.K.Sink.written g.K.Sink.faults c.args.out.now) in
     let begins : Begins here w = refl in
     let read = c.in_err-scoped.ensures in
@@ -19,7 +20,7 @@ pub returns-in_err-program : goal.returns-in_err-program
 returns-in_err-program g c =
     let p = err_from_is_err_and c.from_residual-in_err-program.result c.from_residual-in_err-program.ensures.1 in
     let w = plain_words c.args.words.now in
-    let here : Call = call (Some w) (g.P.Places.world c.args.places.now) (g.P.Places.world c.program_of.new.places)
+    let here : Call = call_under (policy_view g.R.Retire.keeps g.R.Retire.empties g.R.Retire.most c.args.policy) (Some w) (g.P.Places.world c.args.places.now) (g.P.Places.world c.program_of.new.places)
     (told g.K.Sink.written g.K.Sink.faults c.args.out.now) (told g.K.Sink.written g.K.Sink.faults c.args.out.now) in
     let begins : Begins here w = refl in
     let read = c.in_ok-scoped.ensures in
@@ -42,7 +43,7 @@ run_inputs-requires-clause-one g c =
 pub returns : goal.returns
 returns g c =
     let w = plain_words c.args.words.now in
-    let here : Call = call (Some w) (g.P.Places.world c.args.places.now) (g.P.Places.world c.run_inputs.new.places)
+    let here : Call = call_under (policy_view g.R.Retire.keeps g.R.Retire.empties g.R.Retire.most c.args.policy) (Some w) (g.P.Places.world c.args.places.now) (g.P.Places.world c.run_inputs.new.places)
     (told g.K.Sink.written g.K.Sink.faults c.args.out.now) (told g.K.Sink.written g.K.Sink.faults c.run_inputs.new.out) in
     let begins : Begins here w = refl in
     let read = c.in_ok-scoped.ensures in

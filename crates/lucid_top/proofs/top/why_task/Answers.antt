@@ -1,15 +1,15 @@
 use Rattle.lucid_top.proofs.Common.{◌+◌, Some, refl, sym, ap, ◌∙◌, length, arith, err_from_is_err_and, most_source_bytes, scoped_tree, scoped_inputs, scoped_binding, plain_words, told, Call}
-use Rattle.lucid_top.specs.Call.{call}
+use Rattle.lucid_top.specs.Call.{call_under}
 use Rattle.lucid_top.proofs.Ending.{Begins, within_text, why_not_print, inputs_of, names_of, first_place_le}
 use Rattle.lucid_top.proofs.Doing.{program_does, memory_does, run_does}
 use Rattle.lucid_top.proofs.RunEnds.{source_stays}
 use Rattle.lucid_top.proofs.top.why_task.Goals as goal
 
 pub returns-in_err-scoped : goal.returns-in_err-scoped
-returns-in_err-scoped g c =
+returns-in_err-scoped g c policy =
     let p = err_from_is_err_and c.from_residual.result c.from_residual.ensures.1 in
     let w = plain_words c.args.words.now in
-    let here : Call = call (Some w) (g.P.Places.world c.args.places.now) (g.P.Places.world c.program_of.new.places)
+    let here : Call = call_under policy (Some w) (g.P.Places.world c.args.places.now) (g.P.Places.world c.program_of.new.places)
     (told g.K.Sink.written g.K.Sink.faults c.args.out.now) (told g.K.Sink.written g.K.Sink.faults c.args.out.now) in
     let begins : Begins here w = refl in
     let read = c.in_err-scoped.ensures in
@@ -17,10 +17,10 @@ returns-in_err-scoped g c =
     read.stopped read.reading)
 
 pub returns-in_err-program : goal.returns-in_err-program
-returns-in_err-program g c =
+returns-in_err-program g c policy =
     let p = err_from_is_err_and c.from_residual-in_err-program.result c.from_residual-in_err-program.ensures.1 in
     let w = plain_words c.args.words.now in
-    let here : Call = call (Some w) (g.P.Places.world c.args.places.now) (g.P.Places.world c.program_of.new.places)
+    let here : Call = call_under policy (Some w) (g.P.Places.world c.args.places.now) (g.P.Places.world c.program_of.new.places)
     (told g.K.Sink.written g.K.Sink.faults c.args.out.now) (told g.K.Sink.written g.K.Sink.faults c.args.out.now) in
     let begins : Begins here w = refl in
     let read = c.in_ok-scoped.ensures in
@@ -41,9 +41,9 @@ make_inputs-requires-clause-one g c =
     omega (arith, one, c.in_ok-scoped.ensures.reading.few)
 
 pub returns : goal.returns
-returns g c =
+returns g c policy =
     let w = plain_words c.args.words.now in
-    let here : Call = call (Some w) (g.P.Places.world c.args.places.now) (g.P.Places.world c.make_inputs.new.places)
+    let here : Call = call_under policy (Some w) (g.P.Places.world c.args.places.now) (g.P.Places.world c.make_inputs.new.places)
     (told g.K.Sink.written g.K.Sink.faults c.args.out.now) (told g.K.Sink.written g.K.Sink.faults c.make_inputs.new.out) in
     let begins : Begins here w = refl in
     let text = c.requires.text (λ e. absurd (cc e)) in
@@ -53,7 +53,7 @@ returns g c =
     let few = c.inputs.ensures.few in
     let short = read.accepted.few in
     run_does c.in_ok-scoped.scoped here w (g.P.Places.world c.program_of.new.places) c.make_inputs.result refl (λ e. absurd (cc (e, c.requires.task)))
-    (c.make_inputs.ensures.comes here.before (record {
+    (c.make_inputs.ensures.comes policy here.before (record {
       read = refl;
       names = names_of here w tree (scoped_inputs c.in_ok-scoped.scoped) begins text (why_not_print w c.requires.task) read.accepted inputs;
       task = c.requires.task;
