@@ -384,22 +384,6 @@ place_stops c a v stop.ReadFault kept kept' rises rests few =
 place_stops c a v stop.NoMemory kept kept' rises rests few = record { only = tt; how = inl (tt, rests); few_places = few }
 place_stops c a v _ kept kept' rises rests few = absurd rises
 
--- the places of the inputs stop the call
-pub reaching_stops : (c : Call) (w : PlainWords) (t : Table) (files : List (List ℕ)) (v : World) (s : Stop) → RunsTable c w t v → FitsGiven t.inputs w.given
-    → length files ≡ length t.inputs → KeepsNames v c.after → AreFresh files v c.after → c.after.reached ≤ v.reached + length files
-    → length files ≤ most_source_bytes
-    → IsReadStop v c.after s → WritesNothing c → Comes c (Err s)
-reaching_stops c w t files v s b fits as_many kept fresh few short why silent =
-    let one = first_place_le w.source in
-    let first = b.first in
-    let places = places_of_table c w t v b fits in
-    let rests : Rests c = record {
-      reaches = reaches_inputs (run_of_table c w t v b fits) b.made (omega (arith, few, first, as_many, places));
-      silent = silent;
-      unread = inputs_unread c w files v b.read (first ∙ sym (first_of_run c w t v b)) fresh few;
-    } in
-    place_stops c (asks_for b.program) v s b.kept kept why rests (omega (arith, few, short, first, one))
-
 -- where nothing is reached, nothing is read
 nothing_reached : (c : Call) → WritesNothing c → c.after.reached ≡ 0 → Rests c
 nothing_reached c silent none = record { reaches = reaches_nothing none; silent = silent; unread = λ v asked q le lt new is. absurd (omega (arith, lt, none)) }

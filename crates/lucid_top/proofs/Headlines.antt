@@ -18,7 +18,7 @@ use Rattle.lucid_top.specs.declared.task.Form.TheVariants as form
 use Rattle.lucid_report.specs.Status.{status_of}
 use Rattle.lucid_top.specs.Tasks.{form_for}
 use Rattle.lucid_top.specs.Clauses.{WriteFails}
-use Rattle.lucid_top.specs.Runs.{under}
+use Rattle.lucid_top.specs.Runs.{under, GivesBytes}
 use Rattle.lucid_top.specs.Headline.{Has, at_limit, no_lines, IsConsulted, ConsultsOverlong, ConsumesWithin, HeadlineFollows}
 use Rattle.lucid_top.proofs.OneCall.{same_words, one_task}
 use Rattle.lucid_top.proofs.RunEnds.{in_range}
@@ -147,16 +147,22 @@ module _ (c : Call) (g : RunsProgram c) where
   after_is : (q : ℕ) → q < c.after.reached → view.after.place q ≡ c.after.place q
   after_is q lt = ap (λ t. cond t (c.after.place q) (view.before.place q)) (lt-ltb q c.after.reached lt)
 
-  consumes : (whole d : ℕ) → run.ConsumesWithin (stream_subject (tree_stream g.program)) b view whole d → ConsumesWithin g whole d
-  consumes whole d h k n new is lt told =
+  consumes : GivesBytes view → (whole d : ℕ) → run.ConsumesWithin (stream_subject (tree_stream g.program)) b view whole d → ConsumesWithin g whole d
+  consumes gives whole d h k n new is lt told =
       let at : slice_get view.places k ≡ Some (1 + k) = place_of k n is in
       let was = file_is k n (1 + k) is at in
       let now : (view.after.place (1 + k)).contents ≡ Some new = ap (λ p. p.contents) (after_is (1 + k) lt) ∙ told in
-      elim (h k n (1 + k) (is, at) (unread (g.bytes_of n)) new was now) [
-        | inl few ↦ inl (nothing new few)
-        | inr some ↦ inr (some.0, consulted_too whole d n some.0 some.1, some.2)
-      ]
+      let bytes = sym (ap (option_map all_bytes) now) ∙ gives k n (1 + k) (is, at) ∙ ap (option_map all_bytes) was in (
+        same_bytes new (g.bytes_of n) bytes,
+        elim (h k n (1 + k) (is, at) (unread (g.bytes_of n)) new was now) [
+          | inl few ↦ inl (nothing new few)
+          | inr some ↦ inr (some.0, consulted_too whole d n some.0 some.1, some.2)
+        ],
+      )
     where
+      same_bytes : (new : Contents) (held : List ℕ) → Some (new.consumed ++ new.left) ≡ Some held → new.consumed ++ new.left ≡ held
+      same_bytes new held e = cc e
+
       nothing : (new : Contents) → length new.consumed ≤ 0 → new.consumed ≡ []
       nothing new few = of new.consumed few
         where
@@ -175,7 +181,7 @@ module _ (c : Call) (g : RunsProgram c) where
   ends_of true whole h = inr (h.0, means-derives b g.program empty whole 0 eod h.1)
   ends_of false whole h = inl h
 
-  module _ (result : Result Summary RunFault) (ran : Ran (stream_subject (tree_stream g.program)) b view result) where
+  module _ (gives : GivesBytes view) (result : Result Summary RunFault) (ran : Ran (stream_subject (tree_stream g.program)) b view result) where
     abbrev whole : ℕ
     whole = ran.out.whole
 
@@ -210,7 +216,7 @@ module _ (c : Call) (g : RunsProgram c) where
         write_fault = write;
         accepted = accepted;
       };
-      consumed = some_added (run.ConsumesWithin (stream_subject (tree_stream g.program)) b view whole) (ConsumesWithin g whole) (consumes whole) ran.consumed;
+      consumed = some_added (run.ConsumesWithin (stream_subject (tree_stream g.program)) b view whole) (ConsumesWithin g whole) (consumes gives whole) ran.consumed;
     }
 
     -- where the report found no memory
@@ -223,41 +229,40 @@ module _ (c : Call) (g : RunsProgram c) where
         refused (inr e) = absurd (cc e)
 
   -- by the outcome: its status, or that there was no memory to report it
-  by_outcome : (o : Outcome) → ComesOnly c o → (ran : IsSomeAnd (run_result o) (λ result. Ran (stream_subject (tree_stream g.program)) b view result))
+  by_outcome : GivesBytes view → (o : Outcome) → ComesOnly c o → (ran : IsSomeAnd (run_result o) (λ result. Ran (stream_subject (tree_stream g.program)) b view result))
       → Headline g (status_of o) × Headline g status.NoMemory
-  by_outcome (Ok (done.Ran summary stats)) only ran = (
-    from (Ok summary) ran status.Done (λ is. absurd is) (λ is. (summary, ran.done)) (λ is. absurd (cc is)) (λ is. absurd (cc is)) (λ is. absurd (cc is))
+  by_outcome gives (Ok (done.Ran summary stats)) only ran = (
+    from gives (Ok summary) ran status.Done (λ is. absurd is) (λ is. (summary, ran.done)) (λ is. absurd (cc is)) (λ is. absurd (cc is)) (λ is. absurd (cc is))
         (λ is. absurd (cc is)) (λ is. elim is [ inl e ↦ absurd (cc e) | inr e ↦ absurd (cc e) ]) (λ ok. inl refl),
-    no_memory (Ok summary) ran,
+    no_memory gives (Ok summary) ran,
   )
-  by_outcome (Ok done.Written) only ran = absurd ran
-  by_outcome (Err (stop.Refused why)) only ran = absurd ran
-  by_outcome (Err stop.ReadFault) only ran = (
-    from (Err fault.ReadFault) ran status.ReadFault (λ is. elim is [ inl e ↦ absurd (cc e) | inr e ↦ absurd (cc e) ]) (λ is. absurd (cc is))
+  by_outcome gives (Ok done.Written) only ran = absurd ran
+  by_outcome gives (Err (stop.Refused why)) only ran = absurd ran
+  by_outcome gives (Err stop.ReadFault) only ran = (
+    from gives (Err fault.ReadFault) ran status.ReadFault (λ is. elim is [ inl e ↦ absurd (cc e) | inr e ↦ absurd (cc e) ]) (λ is. absurd (cc is))
         (λ is. absurd (cc is)) (λ is. absurd (cc is)) (λ is. only) (λ is. absurd (cc is)) (λ is. elim is [ inl e ↦ absurd (cc e) | inr e ↦ absurd (cc e) ])
         (λ ok. absurd (cc ok)),
-    no_memory (Err fault.ReadFault) ran,
+    no_memory gives (Err fault.ReadFault) ran,
   )
-  by_outcome (Err stop.WriteFault) only ran = (
-    from (Err fault.WriteFault) ran status.WriteFault (λ is. inl refl) (λ is. absurd (cc is)) (λ is. absurd (cc is)) (λ is. absurd (cc is))
+  by_outcome gives (Err stop.WriteFault) only ran = (
+    from gives (Err fault.WriteFault) ran status.WriteFault (λ is. inl refl) (λ is. absurd (cc is)) (λ is. absurd (cc is)) (λ is. absurd (cc is))
         (λ is. absurd (cc is)) (λ is. only) (λ is. elim is [ inl e ↦ absurd (cc e) | inr e ↦ absurd (cc e) ]) (λ ok. absurd (cc ok)),
-    no_memory
-        (Err fault.WriteFault) ran,
+    no_memory gives (Err fault.WriteFault) ran,
   )
-  by_outcome (Err (stop.TooDeep time lost cleared stats)) only ran = (
-    from (Err (fault.TooDeep time lost cleared)) ran status.TooDeep (λ is. elim is [ inl e ↦ absurd (cc e) | inr e ↦ absurd (cc e) ]) (λ is. absurd (cc is))
+  by_outcome gives (Err (stop.TooDeep time lost cleared stats)) only ran = (
+    from gives (Err (fault.TooDeep time lost cleared)) ran status.TooDeep (λ is. elim is [ inl e ↦ absurd (cc e) | inr e ↦ absurd (cc e) ]) (λ is. absurd (cc is))
         (λ is. (time, ran.deep)) (λ is. absurd (cc is)) (λ is. absurd (cc is)) (λ is. absurd (cc is))
         (λ is. elim is [ inl e ↦ absurd (cc e) | inr e ↦ absurd (cc e) ]) (λ ok. absurd (cc ok)),
-    no_memory (Err (fault.TooDeep time lost cleared)) ran,
+    no_memory gives (Err (fault.TooDeep time lost cleared)) ran,
   )
-  by_outcome (Err (stop.TooLarge k n)) only ran = (
-    from (Err (fault.TooLarge k)) ran status.TooLarge (λ is. elim is [ inl e ↦ absurd (cc e) | inr e ↦ absurd (cc e) ]) (λ is. absurd (cc is))
+  by_outcome gives (Err (stop.TooLarge k n)) only ran = (
+    from gives (Err (fault.TooLarge k)) ran status.TooLarge (λ is. elim is [ inl e ↦ absurd (cc e) | inr e ↦ absurd (cc e) ]) (λ is. absurd (cc is))
         (λ is. absurd (cc is)) (λ is. (k, ran.too_large)) (λ is. absurd (cc is)) (λ is. absurd (cc is))
         (λ is. elim is [ inl e ↦ absurd (cc e) | inr e ↦ absurd (cc e) ]) (λ ok. absurd (cc ok)),
-    no_memory (Err (fault.TooLarge k)) ran,
+    no_memory gives (Err (fault.TooLarge k)) ran,
   )
-  by_outcome (Err (stop.Wrong judgment)) only ran = absurd ran
-  by_outcome (Err stop.NoMemory) only ran = (no_memory (Err fault.NoMemory) ran, no_memory (Err fault.NoMemory) ran)
+  by_outcome gives (Err (stop.Wrong judgment)) only ran = absurd ran
+  by_outcome gives (Err stop.NoMemory) only ran = (no_memory gives (Err fault.NoMemory) ran, no_memory gives (Err fault.NoMemory) ran)
 
   -- without the figures
   plainly : (o : Option (Result Summary RunFault)) (P Q : Result Summary RunFault → Type 0) → IsSomeAnd o (λ x. P x × Q x) → IsSomeAnd o P
@@ -266,7 +271,7 @@ module _ (c : Call) (g : RunsProgram c) where
 
   pub headline : (p q : Told) (s : Status) → MeetsClauses c p q s → Headline g s
   headline p q s m =
-      let both = by_outcome m.outcome m.comes_only (plainly (run_result m.outcome) (λ result. Ran (stream_subject (tree_stream g.program)) b view result)
+      let both = by_outcome (m.gives is_run tells) m.outcome m.comes_only (plainly (run_result m.outcome) (λ result. Ran (stream_subject (tree_stream g.program)) b view result)
       (λ result. Figures (program_counted (of_tree g.program)) b view result) (m.headline is_run tells b has_elements)) in
       elim m.report [
         | inl whole_line ↦ subst (Headline g) (sym whole_line.0) both.0

@@ -1,5 +1,5 @@
 -- From how a call comes to its outcome to the clauses of the command.
-use Rattle.lucid_top.proofs.Common.{◌≡◌, ℕ, ◌≤◌, Bool, true, false, nat_lt, List, [], length, Some, None, Err, ◌⊎◌, inl, inr, refl, ap, subst, arith, Contents, PlainWords, Told, Refusal, Status, Outcome, Call, form_of, is_certificate, time_asked, Asks, IsWriting, IsTextFor, asks_for, IsRun, by_words, by_text, by_flat, by_names, by_missing, by_judging, by_given, first_place, run_places, run_of, unread_place, view_of, RanSo, ReadsSource, most_read, WritesNothing, TellsFiles, ReadFails, ComesOnly, MeetsClauses, IsMade, reaches_nothing, reaches_source, reaches_inputs, Rests, Comes, ltb-true, ChecksTree, ConsumesNothing, EndsCheck, EndsMaking, HasFiles, IsCheck, IsMaking, IsWellMade, MakesTree, MayCheck, Task, ReadsCertificate, Run, before_checking, before_making, by_certificate, by_checking, by_making, certificate_of, first_input, reaches_certificate, reaches_checked, reaches_made}
+use Rattle.lucid_top.proofs.Common.{option_map, all_bytes, ◌≡◌, ℕ, ◌≤◌, Bool, true, false, nat_lt, List, [], length, Some, None, Err, ◌⊎◌, inl, inr, refl, ap, subst, arith, Contents, PlainWords, Told, Refusal, Status, Outcome, Call, form_of, is_certificate, time_asked, Asks, IsWriting, IsTextFor, asks_for, IsRun, by_words, by_text, by_flat, by_names, by_missing, by_judging, by_given, first_place, run_places, run_of, unread_place, view_of, RanSo, ReadsSource, most_read, WritesNothing, TellsFiles, ReadFails, ComesOnly, MeetsClauses, IsMade, reaches_nothing, reaches_source, reaches_inputs, Rests, Comes, ltb-true, ChecksTree, ConsumesNothing, EndsCheck, EndsMaking, HasFiles, IsCheck, IsMaking, IsWellMade, MakesTree, MayCheck, Task, ReadsCertificate, Run, before_checking, before_making, by_certificate, by_checking, by_making, certificate_of, first_input, reaches_certificate, reaches_checked, reaches_made}
 use Rattle.std.proofs.Common.{cond}
 use Rattle.lucid_ports.specs.declared.run.RunFault.TheVariants as fault
 use Rattle.lucid_report.specs.declared.refusal.Refusal.TheVariants as refusal
@@ -7,8 +7,8 @@ use Rattle.lucid_report.specs.declared.stop.Stop.TheVariants as stop
 use Rattle.lucid_report.specs.Telling.{Tells}
 use Rattle.lucid_top.specs.Stages.{Refuses}
 use Rattle.lucid_top.specs.Clauses.{IsRefusedSo, Writes, TellsFaults, IsEvaluated, places_before}
-use Rattle.lucid_top.specs.Runs.{under}
-use Rattle.lucid_top.specs.Coming.{Reaches, StopsEarly, EndsRun, EndsWriting, Checked, Made}
+use Rattle.lucid_top.specs.Runs.{under, GivesBytes}
+use Rattle.lucid_top.specs.Coming.{AreJustReached, Reaches, StopsEarly, EndsRun, EndsWriting, Checked, Made}
 use Rattle.lucid_top.proofs.RunEnds.{in_range}
 use Rattle.lucid_top.proofs.Begun.{ran_with, never_read, never_made, same_contents}
 use Rattle.lucid_top.proofs.OneCall.{OneVerdict, same_words, not_asked, run_or_text, run_or_certificate, certificate_or_text, made_or_checked, asks_in, same_tree, same_inputs, same_run, same_text, same_certificate, same_why, one_refusal, run_not_refused, run_not_stopped, text_not_refused, may_refused, check_not_refused, making_not_refused, OfCertificate}
@@ -57,7 +57,7 @@ none_reached c o asks (inl early) = of_early early.1.reaches
     of_early : Reaches c → c.after.reached ≡ 0
     of_early (reaches_nothing none) = none
     of_early (reaches_source a few) = absurd (asks a)
-    of_early (reaches_inputs r is_made few) = absurd (asks (asks_for r.program))
+    of_early (reaches_inputs r is_made few fresh) = absurd (asks (asks_for r.program))
     of_early (reaches_certificate m is_made few) = absurd (asks (asks_in m))
     of_early (reaches_checked k is_made few) = absurd (asks (asks_in k.may))
     of_early (reaches_made m is_made few) = absurd (asks (asks_in m))
@@ -71,7 +71,7 @@ few_reached : (c : Call) (a : Asks c) → ((r : IsRun c) → IsMade r.program �
     → c.after.reached ≤ first_place a.words.source
 few_reached c a no_run no_check none_made (reaches_nothing none) = omega (arith, none)
 few_reached c a no_run no_check none_made (reaches_source b few) = subst (λ (w : PlainWords). c.after.reached ≤ first_place w.source) (same_words b a) few
-few_reached c a no_run no_check none_made (reaches_inputs r is_made few) = absurd (no_run r is_made)
+few_reached c a no_run no_check none_made (reaches_inputs r is_made few fresh) = absurd (no_run r is_made)
 few_reached c a no_run no_check none_made (reaches_certificate m is_made few) = absurd (no_check m)
 few_reached c a no_run no_check none_made (reaches_checked k is_made few) = absurd (no_check k.may)
 few_reached c a no_run no_check none_made (reaches_made m is_made few) = absurd (none_made m)
@@ -133,6 +133,33 @@ module _ (l : OneVerdict) (c : Call) (told : TellsFiles c) where
   runs_so r o only (inr (inr (inr (inr made)))) = absurd (run_or_certificate r made.0 refl)
   runs_so r _ only (inl early) = absurd early.0
 
+  -- what is consumed of an input and what is left are the bytes of its file, also where it was reached alone
+  still : (r : IsRun c) → Reaches c → AreJustReached c (run_of r)
+  still r (reaches_nothing none) q le lt = absurd (omega (arith, none, lt))
+  still r (reaches_source a few) q le lt =
+      let few' : c.after.reached ≤ first_place (run_of r).words.source =
+      subst (λ (w : PlainWords). c.after.reached ≤ first_place w.source) (same_words a (asks_for r.program)) few in
+      absurd (omega (arith, few', le, lt))
+  still r (reaches_certificate m is_made few) q le lt = absurd (run_or_certificate r m refl)
+  still r (reaches_checked k is_made few) q le lt = absurd (run_or_certificate r k.may refl)
+  still r (reaches_made m is_made few) q le lt = absurd (run_or_certificate r m refl)
+  still r (reaches_inputs s is_made few fresh) = subst (AreJustReached c) (same_run l c told r s is_made) fresh
+
+  rested_bytes : (p : Run) (q : ℕ) (b : Bool) → nat_lt q c.after.reached ≡ b
+      → (q < c.after.reached → (c.after.place q).contents ≡ (unread_place c p q).contents)
+      → option_map all_bytes (cond b (c.after.place q) (unread_place c p q)).contents ≡ option_map all_bytes (unread_place c p q).contents
+  rested_bytes p q true lt same = ap (option_map all_bytes) (same (ltb-true q c.after.reached lt))
+  rested_bytes p q false lt same = refl
+
+  gives_so : (r : IsRun c) (o : Outcome) → How c o → GivesBytes (view_of c (run_of r))
+  gives_so r o (inl early) k n q is =
+      let at = in_range (first_input (run_of r).words) (length (run_of r).inputs) k q is.1 in
+      rested_bytes (run_of r) q (nat_lt q c.after.reached) refl (still r early.1.reaches q (omega (arith, at.0)))
+  gives_so r o (inr (inl run)) = subst (λ p. GivesBytes (view_of c p)) (same_run l c told r run.0 run.1) run.4
+  gives_so r o (inr (inr (inl writing))) = absurd (run_or_text r writing.0)
+  gives_so r o (inr (inr (inr (inl check)))) = absurd (run_or_certificate r check.0.may refl)
+  gives_so r o (inr (inr (inr (inr made)))) = absurd (run_or_certificate r made.0 refl)
+
   writes_so : (x : IsWriting c) (o : Outcome) → ComesOnly c o → How c o → Writes c o (IsTextFor x)
   writes_so x (Err (stop.Refused v)) only (inl early) = absurd (text_not_refused l c told x v early.0.0)
   writes_so x (Err stop.ReadFault) only (inl early) =
@@ -191,7 +218,7 @@ module _ (l : OneVerdict) (c : Call) (told : TellsFiles c) where
       of_early (reaches_source b few) =
           let few' : c.after.reached ≤ first_place a.words.source = subst (λ (w : PlainWords). c.after.reached ≤ first_place w.source) (same_words b a) few in
           let before = source_before a.words x in omega (arith, few', before)
-      of_early (reaches_inputs r is_made few) = absurd
+      of_early (reaches_inputs r is_made few fresh) = absurd
           (run_not_refused l c told r why x (λ q asked. same_inputs l c told r.program q (inl r.task) asked is_made))
       of_early (reaches_certificate m is_made few) =
           let few' : c.after.reached ≤ first_input a.words = subst (λ (w : PlainWords). c.after.reached ≤ first_input w) (same_words (asks_in m) a) few in
@@ -222,7 +249,7 @@ module _ (l : OneVerdict) (c : Call) (told : TellsFiles c) where
   begun_reaches r (reaches_certificate m is_made few) = absurd (run_or_certificate r m refl)
   begun_reaches r (reaches_checked k is_made few) = absurd (run_or_certificate r k.may refl)
   begun_reaches r (reaches_made m is_made few) = absurd (run_or_certificate r m refl)
-  begun_reaches r (reaches_inputs s is_made few) = subst (λ p. c.after.reached ≤ run_places p) (same_run l c told r s is_made) few
+  begun_reaches r (reaches_inputs s is_made few fresh) = subst (λ p. c.after.reached ≤ run_places p) (same_run l c told r s is_made) few
 
   run_reaches : (r : IsRun c) (o : Outcome) → How c o → c.after.reached ≤ run_places (run_of r)
   run_reaches r o (inl early) = begun_reaches r early.1.reaches
@@ -237,7 +264,7 @@ module _ (l : OneVerdict) (c : Call) (told : TellsFiles c) where
   certificate_begins m one (reaches_source a few) =
       let few' : c.after.reached ≤ first_place (asks_in m).words.source =
       subst (λ (w : PlainWords). c.after.reached ≤ first_place w.source) (same_words a (asks_in m)) few in omega (arith, few')
-  certificate_begins m one (reaches_inputs r is_made few) = absurd (run_or_certificate r m one)
+  certificate_begins m one (reaches_inputs r is_made few fresh) = absurd (run_or_certificate r m one)
   certificate_begins m one (reaches_certificate k is_made few) =
       let few' : c.after.reached ≤ first_input (asks_in m).words =
       subst (λ (w : PlainWords). c.after.reached ≤ first_input w) (same_words (asks_in k) (asks_in m)) few in omega (arith, few')
@@ -307,6 +334,7 @@ meets l c before after o s h within certificate faults tells = record {
   };
   silent = silent_or c o h.how;
   headline = λ r told. runs_so l c told r o h.only h.how;
+  gives = λ r told. gives_so l c told r o h.how;
   written = λ x told. writes_so l c told x o h.only h.how;
   checked = λ k told. checks_so l c told k o h.how;
   made = λ m told. makes_so l c told m o h.how;

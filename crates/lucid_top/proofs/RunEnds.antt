@@ -1,13 +1,14 @@
 -- How a call comes to its outcome that runs its program.
-use Rattle.lucid_top.proofs.Common.{◌≡◌, ◌≢◌, ℕ, zero, suc, ◌⊎◌, ◌+◌, ◌-◌, ◌<◌, ◌≤◌, Bool, true, List, [], length, map, get_or, nat_lt, Some, Ok, Err, inl, inr, sym, ap, subst, ◌∙◌, arith, IfSome, slice_get, unwrap_or, option_map, AllPairs, codes, lt-ltb, range_with_len, length-map, length-range_with_len, get_or-range_with_len, slice_get-get_or, slice_get_within, World, IsFresh, In, Table, most_source_bytes, rises_from, PlainSource, file, made, plain_given, PlainWords, Outcome, Call, Program, Given, FitsGiven, file_given, files_for, asks_for, program_in, IsRun, KeepsNames, ReadsSource, AreFresh, AreUnread, Run, first_place, run_of, unread_place, viewed, view_of, table_program, RanSo, RunComesOnly, ComesOnly, RunsTable, Comes, get_or_from_slice_get, unwrap_or-slice_get, AreKept, first_input, le_refl}
+use Rattle.lucid_top.proofs.Common.{◌≡◌, ◌≢◌, ℕ, zero, suc, ◌⊎◌, ◌+◌, ◌-◌, ◌<◌, ◌≤◌, Bool, true, List, [], length, map, get_or, nat_lt, Some, Ok, Err, inl, inr, sym, ap, subst, ◌∙◌, arith, IfSome, slice_get, unwrap_or, option_map, AllPairs, codes, lt-ltb, range_with_len, length-map, length-range_with_len, get_or-range_with_len, slice_get-get_or, slice_get_within, World, IsFresh, In, Table, most_source_bytes, rises_from, PlainSource, file, made, plain_given, PlainWords, Outcome, Call, Program, Given, FitsGiven, file_given, files_for, asks_for, program_in, IsRun, KeepsNames, ReadsSource, AreFresh, AreUnread, Run, first_place, run_of, unread_place, viewed, view_of, table_program, RanSo, RunComesOnly, ComesOnly, RunsTable, Comes, Rests, WritesNothing, IsReadStop, Stop, all_bytes, reaches_inputs, get_or_from_slice_get, unwrap_or-slice_get, AreKept, first_input, le_refl}
 use Rattle.std.proofs.Common.{cond}
 use denote.Ref.{Bor}
 use Rattle.lucid_ports.specs.World.{Place, unread}
 use Rattle.lucid_words.specs.declared.Given.{Given as Word}
 use Rattle.lucid_report.specs.declared.stop.Done.TheVariants as done
 use Rattle.lucid_report.specs.declared.stop.Stop.TheVariants as stop
-use Rattle.lucid_top.specs.Runs.{input_places, under, world_before, world_after}
-use Rattle.lucid_top.proofs.Ending.{words_of, first_place_le, first_of_run, run_of_table, places_of_table}
+use Rattle.lucid_top.specs.Runs.{input_places, under, world_before, world_after, GivesBytes}
+use Rattle.lucid_top.specs.Coming.{AreJustReached}
+use Rattle.lucid_top.proofs.Ending.{words_of, first_place_le, first_of_run, run_of_table, places_of_table, inputs_unread, place_stops}
 use Rattle.lucid_top.proofs.Views.{TellAlike, ran_alike}
 
 -- a number of a range
@@ -103,23 +104,29 @@ reached_of free given refs refs' v u numbers same are fresh reached numbers_are 
       numbers_are = numbers_are ∙ ap (range_with_len v.reached) long;
     }
 
--- what the places tell of the inputs before the run, told from the files
+-- what the place of an input tells that was just reached, told from its file
+told_there : (c : Call) (w : PlainWords) (p : Program) (free : List (List ℕ)) (v u : World) → v.reached ≡ first_input w → KeepsNames c.before v
+    → AreFresh (files_for free w.given) v u → (k q : ℕ) → q ≡ first_input w + k → k < length (files_for free w.given) → q < u.reached
+    → (unread_place c (record { words = w; program = p; inputs = free }) q).contents ≡ (u.place q).contents
+told_there c w p free v u first kept fresh k q is below lt =
+    let files : List (List ℕ) = files_for free w.given in
+    let file : List ℕ = get_or files k [] in
+    let at_place : q ≡ v.reached + k = omega (arith, is, first) in
+    let back : q - first_input w ≡ k = omega (arith, is) in
+    let place : IsFresh (v.holds file) (u.place (v.reached + k)) = fresh k file (slice_get-get_or files k [] below) (omega (arith, at_place, lt)) in
+    let name : unwrap_or (slice_get files (q - first_input w)) [] ≡ file = ap (λ j. unwrap_or (slice_get files j) []) back ∙ unwrap_or-slice_get files k [] in
+    ap (λ n. option_map unread (c.before.holds n)) name ∙ ap (option_map unread) (sym (kept.names file)) ∙ sym place.contents
+    ∙ ap (λ n. (u.place n).contents) (sym at_place)
+
+-- so it is of all of them before the run
 told_before : (c : Call) (w : PlainWords) (p : Program) (free : List (List ℕ)) (v u : World) → v.reached ≡ first_input w → KeepsNames c.before v
     → AreFresh (files_for free w.given) v u → u.reached ≡ v.reached + length (files_for free w.given)
     → (k q : ℕ) → slice_get (range_with_len (first_input w) (length free)) k ≡ Some q
     → (unread_place c (record { words = w; program = p; inputs = free }) q).contents ≡ (u.place q).contents
 told_before c w p free v u first kept fresh reached k q at =
-    let files : List (List ℕ) = files_for free w.given in
-    let long : length files ≡ length free = files_long free w.given in
+    let long : length (files_for free w.given) ≡ length free = files_long free w.given in
     let here = in_range (first_input w) (length free) k q at in
-    let below : k < length files = omega (arith, here.1, long) in
-    let file : List ℕ = get_or files k [] in
-    let at_place : q ≡ v.reached + k = omega (arith, here.0, first) in
-    let back : q - first_input w ≡ k = omega (arith, here.0) in
-    let place : IsFresh (v.holds file) (u.place (v.reached + k)) = fresh k file (slice_get-get_or files k [] below) (omega (arith, below, reached)) in
-    let name : unwrap_or (slice_get files (q - first_input w)) [] ≡ file = ap (λ j. unwrap_or (slice_get files j) []) back ∙ unwrap_or-slice_get files k [] in
-    ap (λ n. option_map unread (c.before.holds n)) name ∙ ap (option_map unread) (sym (kept.names file)) ∙ sym place.contents
-    ∙ ap (λ n. (u.place n).contents) (sym at_place)
+    told_there c w p free v u first kept fresh k q here.0 (omega (arith, here.1, long)) (omega (arith, here.0, here.1, long, first, reached))
 
 -- the command's own view of its inputs tells the same as their places
 pub tells_alike : (c : Call) (w : PlainWords) (p : Program) (free : List (List ℕ)) (v u : World) → v.reached ≡ first_input w → KeepsNames c.before v
@@ -158,6 +165,7 @@ pub record Ended (c : Call) (w : PlainWords) (t : Table) (v u : World) (numbers 
   pub few : length t.inputs ≤ most_source_bytes
   pub same_reached : c.after.reached ≡ u.reached
   pub faults : u.faults ≤ c.after.faults
+  pub bytes : (k : ℕ) → option_map all_bytes (c.after.place k).contents ≡ option_map all_bytes (u.place k).contents
   pub ran : RanSo (table_program w t) (under c.policy (viewed w t.inputs numbers u c.after c.out_before c.out_after)) o
   pub only : RunComesOnly c.policy w t.inputs u.faults c.after.faults c.out_before.faults c.out_after.faults o
 
@@ -167,6 +175,38 @@ run_with w p names = record { words = w; program = p; inputs = names }
 
 pub one_run : {v w : PlainWords} (p : Program) {f g : List (List ℕ)} → v ≡ w → f ≡ g → run_with v p f ≡ run_with w p g
 one_run p a b = cc (a, b)
+
+-- the places of the inputs stop the call
+just_reached : (c : Call) (w : PlainWords) (p : Program) (free : List (List ℕ)) (v : World) → v.reached ≡ first_input w → KeepsNames c.before v
+    → AreFresh (files_for free w.given) v c.after → c.after.reached ≤ v.reached + length (files_for free w.given) → AreJustReached c (run_with w p free)
+just_reached c w p free v first kept fresh few q le lt =
+    sym (told_there c w p free v c.after first kept fresh (q - first_input w) q (omega (arith, le)) (omega (arith, le, lt, few, first)) lt)
+
+pub reaching_stops : (c : Call) (w : PlainWords) (t : Table) (v : World) (s : Stop) → RunsTable c w t v → FitsGiven t.inputs w.given
+    → KeepsNames v c.after → AreFresh (files_for t.inputs w.given) v c.after → c.after.reached ≤ v.reached + length (files_for t.inputs w.given)
+    → length (files_for t.inputs w.given) ≤ most_source_bytes → IsReadStop v c.after s → WritesNothing c → Comes c (Err s)
+reaching_stops c w t v s b fits kept fresh few short why silent =
+    let one = first_place_le w.source in
+    let first = b.first in
+    let as_many = files_long t.inputs w.given in
+    let places = places_of_table c w t v b fits in
+    let p : Program = program_in b.program in
+    let r : IsRun c = run_of_table c w t v b fits in
+    let same : run_with w p t.inputs ≡ run_of r = one_run p (sym (words_of c w t v b)) (sym b.inputs) in
+    let first_here : v.reached ≡ first_input w = b.first ∙ sym (first_of_run c w t v b) in
+    let rests : Rests c = record {
+      reaches = reaches_inputs r b.made (omega (arith, few, first, as_many, places))
+          (subst (AreJustReached c) same (just_reached c w p t.inputs v first_here b.kept fresh few));
+      silent = silent;
+      unread = inputs_unread c w (files_for t.inputs w.given) v b.read first_here fresh few;
+    } in
+    place_stops c (asks_for b.program) v s b.kept kept why rests (omega (arith, few, short, first, one))
+
+-- what is consumed of the inputs and what is left of them are the bytes of their files
+gives_bytes : (c : Call) (p : Run) (u : World) → TellAlike (input_places p) u c.after (world_before c p) (world_after c p)
+    → ((k : ℕ) → option_map all_bytes (c.after.place k).contents ≡ option_map all_bytes (u.place k).contents) → GivesBytes (view_of c p)
+gives_bytes c p u alike same k n q is =
+    ap (option_map all_bytes) (alike.after k q is.1) ∙ same q ∙ sym (ap (option_map all_bytes) (alike.before k q is.1))
 
 pub runs : (c : Call) (w : PlainWords) (t : Table) (v u : World) (numbers : List ℕ) (o : Outcome) → RunsTable c w t v → FitsGiven t.inputs w.given
     → Ended c w t v u numbers o → Comes c o
@@ -199,8 +239,8 @@ runs c w t v u numbers o b fits e =
             r,
             b.made,
             subst (λ (x : Run). RanSo x.program (under c.policy (view_of c x)) o) same ran,
-            omega
-                (arith, e.same_reached, e.inputs.reached, long, first, reached),
+            omega (arith, e.same_reached, e.inputs.reached, long, first, reached),
+            subst (λ (x : Run). GivesBytes (view_of c x)) same (gives_bytes c (run_with w p t.inputs) u alike e.bytes),
           ));
       few_places = omega (arith, e.same_reached, e.inputs.reached, long, few, first, one);
     }

@@ -19,7 +19,7 @@ use Rattle.lucid_top.specs.Writing.{WritesSome, WritesSomeFront}
 use Rattle.lucid_top.specs.Sources.{IsTold, first_place}
 use Rattle.lucid_top.specs.Stages.{Asks, IsWriting, IsTextFor, IsRun, IsMaking, IsCheck, Refuses, by_certificate}
 use Rattle.lucid_top.specs.Places.{CountsNoRead, CountsNoWrite, ReadsSource, ReadsCertificate, most_read}
-use Rattle.lucid_top.specs.Runs.{most_places, first_input, run_places, run_of, certificate_of, view_of, under, RanSo}
+use Rattle.lucid_top.specs.Runs.{most_places, first_input, run_places, run_of, certificate_of, view_of, under, RanSo, GivesBytes}
 use Rattle.lucid_top.specs.Checks.{ChecksTree}
 use Rattle.lucid_top.specs.Makes.{MakesTree}
 use Rattle.lucid_top.specs.Running.{HoldsWithin}
@@ -133,6 +133,8 @@ pub record MeetsClauses (c : Call) (report_before report_after : Told) (s : Stat
   pub silent : WritesNothing c ⊎ (IsRun c ⊎ (IsWriting c ⊎ (IsCheck c ⊎ IsMaking c)))
   -- The headline: a program that is accepted is run, be it a tree, columns of it or a table. What is written are the values of its least fixed point, in order and without gaps.
   pub headline : (r : IsRun c) → TellsFiles c → RanSo (run_of r).program (under c.policy (view_of c (run_of r))) outcome
+  -- What a run consumes of an input and leaves of it are the bytes of its file.
+  pub gives : (r : IsRun c) → TellsFiles c → GivesBytes (view_of c (run_of r))
   -- Where a text is asked for, of the tree that the source spells, that text is written.
   pub written : (x : IsWriting c) → TellsFiles c → Writes c outcome (IsTextFor x)
   -- Where a certificate is checked, its value and time are written only where it is right, and so only what the program has; and it is refused

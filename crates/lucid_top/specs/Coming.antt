@@ -21,7 +21,7 @@ use Rattle.lucid_top.specs.declared.task.Form.TheVariants as form
 use Rattle.lucid_top.specs.declared.task.Task.TheVariants as task
 use Rattle.lucid_top.specs.Call.{Call}
 use Rattle.lucid_top.specs.Stages.{Asks, IsWriting, IsTextFor, HasProgram, by_tree, by_columns, by_table, columns_named, task_for, program_in, inputs_in, IsRun, IsMaking, MayCheck, IsCheck, HasNames, Refuses, by_words, by_text, by_flat, by_names, by_missing, by_judging, by_given, by_certificate}
-use Rattle.lucid_top.specs.Runs.{most_places, first_input, run_places, run_of, certificate_of, view_of, under, table_program, RanSo}
+use Rattle.lucid_top.specs.Runs.{Run, most_places, first_input, run_places, run_of, certificate_of, unread_place, view_of, under, table_program, RanSo, GivesBytes}
 use Rattle.lucid_top.specs.Clauses.{WritesNothing, ComesOnly, Writes}
 
 -- The tree of a program that is run is well made.
@@ -30,13 +30,17 @@ IsMade (by_tree n) = IsWellMade n.program.tree
 IsMade (by_columns h) = IsWellMade (beside h.names.program.tree (columns_named h.names))
 IsMade (by_table f) = Unit {0}
 
+-- Nothing is read of the places of the inputs that are reached: each has what its file holds.
+abbrev pub AreJustReached : Call → Run → Type 0
+AreJustReached c p = (q : ℕ) → first_input p.words ≤ q → q < c.after.reached → (c.after.place q).contents ≡ (unread_place c p q).contents
+
 -- No place is reached; or, where the words are read, at most that of the source; or, in a run or where a certificate is made, at most those
 -- of the source and the inputs; or, of a tree for which a certificate may be checked, at most that of its file too, and in a check those of
 -- the inputs too.
 pub data Reaches (c : Call) : Type 0 where
   reaches_nothing : c.after.reached ≡ 0 → Reaches c
   reaches_source : (a : Asks c) → c.after.reached ≤ first_place a.words.source → Reaches c
-  reaches_inputs : (r : IsRun c) → IsMade r.program → c.after.reached ≤ run_places (run_of r) → Reaches c
+  reaches_inputs : (r : IsRun c) → IsMade r.program → c.after.reached ≤ run_places (run_of r) → AreJustReached c (run_of r) → Reaches c
   reaches_certificate : (m : MayCheck c) → IsWellMade m.names.program.tree → c.after.reached ≤ first_input m.names.program.source.asks.words → Reaches c
   reaches_checked : (k : IsCheck c) → IsWellMade k.may.names.program.tree → c.after.reached ≤ run_places (certificate_of k.may) → Reaches c
   reaches_made : (m : IsMaking c) → IsWellMade m.names.program.tree → c.after.reached ≤ run_places (certificate_of m) → Reaches c
@@ -66,9 +70,11 @@ StopsEarly c (Err stop.ReadFault) = Asks c
 StopsEarly c (Err stop.NoMemory) = Unit {0}
 StopsEarly c _ = ⊥
 
--- A run, whose inputs are all reached; or a text, for which the source alone is; or a check or a certificate, whose inputs are all reached.
+-- A run, whose inputs are all reached and give the bytes of their files; or a text, for which the source alone is; or a check or a certificate, whose inputs are all reached.
 abbrev pub EndsRun : Call → Outcome → Type 0
-EndsRun c o = (r : IsRun c) × IsMade r.program × RanSo (run_of r).program (under c.policy (view_of c (run_of r))) o × (c.after.reached ≡ run_places (run_of r))
+EndsRun c o =
+    (r : IsRun c) × IsMade r.program × RanSo (run_of r).program (under c.policy (view_of c (run_of r))) o × (c.after.reached ≡ run_places (run_of r))
+    × GivesBytes (view_of c (run_of r))
 
 abbrev pub EndsWriting : Call → Outcome → Type 0
 EndsWriting c o = (x : IsWriting c) × Writes c o (IsTextFor x) × ((a : Asks c) × (c.after.reached ≤ first_place a.words.source))

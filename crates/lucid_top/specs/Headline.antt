@@ -113,10 +113,12 @@ pub record Stops {c : Call} (r : RunsProgram c) (whole : ℕ) (s : Status) : Typ
   pub write_fault : s ≡ status.WriteFault → WriteFails c
   pub accepted : (s ≡ status.Refused) ⊎ (s ≡ status.Usage) → ⊥
 
--- Of each input that was reached no more is consumed than through the end of the line of an element that is consulted.
+-- Of each input that was reached, what is consumed and what is left are together the bytes of its file; and no more is consumed than through
+-- the end of the line of an element that is consulted.
 abbrev pub ConsumesWithin : {c : Call} → RunsProgram c → (whole added : ℕ) → Type 0
 ConsumesWithin {c} r whole d = (k : ℕ) (n : List ℕ) (new : Contents) → slice_get r.inputs k ≡ Some n → 1 + k < c.after.reached → (c.after.place (1 + k)).contents ≡ Some new
-    → (new.consumed ≡ []) ⊎ ((j : ℕ) × IsConsulted r whole d n j × (length new.consumed ≤ end_of_line (r.bytes_of n) j))
+    → (new.consumed ++ new.left ≡ r.bytes_of n)
+    × ((new.consumed ≡ []) ⊎ ((j : ℕ) × IsConsulted r whole d n j × (length new.consumed ≤ end_of_line (r.bytes_of n) j)))
 
 -- Consumes. No input is consumed past the last element that is consulted.
 abbrev pub Consumes : {c : Call} → RunsProgram c → (whole : ℕ) → Type 0

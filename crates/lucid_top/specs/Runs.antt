@@ -1,5 +1,5 @@
 -- A run of the command, as runs are seen from outside; and what is counted of its program.
-use Rattle.std.specs.Prelude.{ℕ, ◌+◌, ◌-◌, ◌==◌, List, [], length, Option, Some, None, Result, Ok, Err, option_map, unwrap_or, nat_lt, if◌then◌else◌, slice_get, IsSomeAnd}
+use Rattle.std.specs.Prelude.{◌≡◌, ℕ, ◌+◌, ◌-◌, ◌==◌, List, [], length, Option, Some, None, Result, Ok, Err, option_map, unwrap_or, nat_lt, if◌then◌else◌, slice_get, IsSomeAnd}
 use Rattle.std.specs.List.{range_with_len}
 use Rattle.lucid_ports.specs.World.{World, Place, unread}
 use Rattle.lucid_ports.specs.declared.run.Summary.{Summary}
@@ -7,7 +7,8 @@ use Rattle.lucid_ports.specs.declared.run.RunFault.{RunFault}
 use Rattle.lucid_ports.specs.declared.run.RunFault.TheVariants as fault
 use Rattle.lucid_tree.specs.Levels.{Elements}
 use Rattle.lucid_scan.specs.Refusals.{most_source_bytes}
-use Rattle.lucid_session.specs.Runs.{PolicyView, RunView, Told, HasElements, Ran}
+use Rattle.lucid_inputs.specs.Streams.{all_bytes}
+use Rattle.lucid_session.specs.Runs.{PolicyView, RunView, Told, IsInput, HasElements, Ran}
 use Rattle.lucid_session.specs.Figures.{Figures}
 use Rattle.lucid_words.specs.Asked.{PlainWords}
 use Rattle.lucid_report.specs.declared.stop.Done.TheVariants as done
@@ -125,3 +126,8 @@ run_result (Err stop.NoMemory) = Some (Err fault.NoMemory)
 abbrev pub RanSo : Program → RunView → Outcome → Type 0
 RanSo p r o = (b : Elements) → HasElements r b
     → IsSomeAnd (run_result o) (λ result. Ran (program_subject p) b r result × Figures (program_counted p) b r result)
+
+-- Of each input what is consumed and what is left are together the bytes that its file holds, where that is told.
+abbrev pub GivesBytes : RunView → Type 0
+GivesBytes r = (k : ℕ) (n : List ℕ) (q : ℕ) → IsInput r k n q
+    → option_map all_bytes (r.after.place q).contents ≡ option_map all_bytes (r.before.place q).contents

@@ -1,5 +1,5 @@
 //! Running a program.
-ghost use Rattle.std.specs.Prelude.{◌≡◌, ◌≢◌, ◌≤◌, ◌<◌, ◌⊎◌, ℕ, AllPairs, length, map, IfOk};
+ghost use Rattle.std.specs.Prelude.{◌≡◌, ◌≢◌, ◌≤◌, ◌<◌, ◌⊎◌, ℕ, AllPairs, length, map, option_map, IfOk};
 ghost use Rattle.lucid_tree.specs.Members.{In};
 ghost use Rattle.lucid_ports.specs.Limits.{most_asked};
 ghost use Rattle.lucid_ports.specs.World.{World};
@@ -8,7 +8,7 @@ ghost use Rattle.lucid_words.specs.Asked.{plain_words};
 ghost use Rattle.lucid_words.specs.Numbers.{IsFromTo};
 ghost use Rattle.lucid_retire.specs.Policies.{keeps_all, empties_all, most_held};
 ghost use Rattle.lucid_inputs.specs.Inputs.{streams, most_bytes};
-ghost use Rattle.lucid_inputs.specs.Streams.{fresh_stream};
+ghost use Rattle.lucid_inputs.specs.Streams.{all_bytes, fresh_stream};
 ghost use Rattle.lucid_facts.specs.Engine.{AreAskable};
 ghost use Rattle.lucid_session.specs.Runs.{told, policy_view, run_view, OnTooLarge};
 ghost use Rattle.lucid_session.specs.Sessions.{Promises};
@@ -154,6 +154,7 @@ pub fn run_program<R: Retire, S: Pick, P: Places, K: Sink>(
     ensures comes_only { RunComesOnly (policy_view R.keeps R.empties R.most policy) (plain_words words.now) names.now (P.world places.old).faults (P.world places.new).faults (K.faults out.old) (K.faults out.new) result }
     ensures reached { (P.world places.new).reached ≡ (P.world places.old).reached }
     ensures others { (k : ℕ) → In k numbers.items ⊎ ((P.world places.new).place k ≡ (P.world places.old).place k) }
+    ensures bytes { (k : ℕ) → option_map all_bytes ((P.world places.new).place k).contents ≡ option_map all_bytes ((P.world places.old).place k).contents }
     ensures faults { (P.world places.old).faults ≤ (P.world places.new).faults }
     ensures counts_no_read { CountsNoRead result (P.world places.old) (P.world places.new) }
     ensures counts_no_write { CountsNoWrite result (K.faults out.old) (K.faults out.new) }

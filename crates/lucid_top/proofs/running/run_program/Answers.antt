@@ -64,6 +64,12 @@ returns-in-Err-clause-others g c k =
     subst (λ ns. In k ns ⊎ ((g.P.Places.world c.run_streams.new.places).place k ≡ (g.P.Places.world c.args.places.now).place k))
     (places_are (streams c.in_ok-inputs.inputs) c.args.numbers.items c.in_ok-inputs.ensures.streams) (c.in-Err.ensures.reads_only.others k)
 
+pub returns-in-Ok-clause-bytes : goal.returns-in-Ok-clause-bytes
+returns-in-Ok-clause-bytes g c k = c.in-Ok.ensures.reads_only.bytes k
+
+pub returns-in-Err-clause-bytes : goal.returns-in-Err-clause-bytes
+returns-in-Err-clause-bytes g c k = c.in-Err.ensures.reads_only.bytes k
+
 pub returns-in-Err-clause-counts_no_read : goal.returns-in-Err-clause-counts_no_read
 returns-in-Err-clause-counts_no_read g c =
     run_read c.args.names.now c.wants_figures-stats.result c.in-Err.fault c.run_stop.result (g.P.Places.world c.args.places.now).faults

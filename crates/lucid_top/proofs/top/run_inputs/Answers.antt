@@ -2,8 +2,8 @@ use Rattle.lucid_top.proofs.Common.{◌≡◌, ◌≢◌, length, map, Some, ref
 use Rattle.lucid_session.specs.Runs.{policy_view}
 use Rattle.lucid_top.specs.Runs.{under}
 use Rattle.lucid_top.specs.Call.{call_under}
-use Rattle.lucid_top.proofs.Ending.{given_stops, reaching_stops}
-use Rattle.lucid_top.proofs.RunEnds.{source_stays, source_run, carried, refs_are, refs_long, files_long, reached_of, range_differs, all_unread, runs}
+use Rattle.lucid_top.proofs.Ending.{given_stops}
+use Rattle.lucid_top.proofs.RunEnds.{reaching_stops, source_stays, source_run, carried, refs_are, refs_long, files_long, reached_of, range_differs, all_unread, runs}
 use Rattle.lucid_report.specs.declared.stop.Stop.TheVariants as stop
 use Rattle.lucid_top.proofs.Counting.{none_at_ok, handed_on, counts_then}
 use Rattle.lucid_top.proofs.top.run_inputs.Goals as goal
@@ -48,8 +48,7 @@ returns-in_err-numbers-clause-comes g c before b =
     c.in_ok-files.ensures.fits in
     let the_call : Call = call_under (policy_view g.R.Retire.keeps g.R.Retire.empties g.R.Retire.most c.args.policy) (Some (plain_words c.args.words.now)) before (g.P.Places.world c.reach_files.new.places) out out in
     rw (p.1, p.2) (
-    reaching_stops the_call (plain_words c.args.words.now) t (files_for t.inputs (plain_words c.args.words.now).given) world c.in_err-numbers.field-0.0 b fits
-    as_many c.in_err-numbers.ensures.keeps
+    reaching_stops the_call (plain_words c.args.words.now) t world c.in_err-numbers.field-0.0 b fits c.in_err-numbers.ensures.keeps
     (subst (λ fs. AreFresh fs world (g.P.Places.world c.reach_files.new.places)) same c.in_err-numbers.ensures.fresh)
     (omega (arith, c.in_err-numbers.ensures.few, long)) (omega (arith, as_many, names_long, c.requires.few)) c.in_err-numbers.ensures.stopped refl
     )
@@ -107,6 +106,7 @@ returns-clause-comes g c before b =
       few = omega (arith, names_long, c.requires.few);
       same_reached = c.run_program.ensures.reached;
       faults = c.run_program.ensures.faults;
+      bytes = c.run_program.ensures.bytes;
       ran = subst (λ names. RanSo (table_program w t) (under the_call.policy (viewed w names c.in_ok-numbers.numbers.items reached_world after out out_after))
           c.run_program.result)
           c.requires.names c.run_program.ensures.ran;
