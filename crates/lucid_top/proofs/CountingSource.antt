@@ -1,11 +1,10 @@
 -- The counting program: its source spells its tree, whose names are not at fault; and what it has at the first times.
-use Rattle.lucid_top.proofs.Common.{◌≡◌, ℕ, zero, suc, ◌+◌, ◌<◌, List, [], ◌∷◌, ◌++◌, length, drop, true, refl, sym, ◌∙◌, ap, subst, arith, codes, digits, PlainValue, TextIsRead, Token, TextsAreLongest, name, no_defs, defines, number, counting, Elements, empty, Derives, HasNoFault, all_sites, PlacedTerminal, Spells, SpellsDefs, Terminals, Spelt, HasInputs, counting_source, ◌||◌, slice_range, pos, IsNonDecreasingBy, drop-append_seam}
+use Rattle.lucid_top.proofs.Common.{◌≡◌, ℕ, zero, suc, ◌+◌, ◌<◌, List, [], ◌∷◌, ◌++◌, length, drop, true, refl, sym, ◌∙◌, ap, subst, arith, codes, digits, PlainValue, TextIsRead, TextsAreLongest, name, no_defs, defines, number, counting, Elements, empty, Derives, HasNoFault, all_sites, PlacedTerminal, Spells, SpellsDefs, Terminals, Spelt, HasInputs, counting_source, pos, IsNonDecreasingBy}
 use Rattle.lucid_value.specs.Plain.{int}
 use Rattle.lucid_value.specs.Names.{reserved_words}
 use Rattle.lucid_ops.specs.declared.op.Op.TheVariants as op
-use Rattle.lucid_scan.specs.declared.token.TokenKind.{TokenKind}
 use Rattle.lucid_scan.specs.declared.token.TokenKind.TheVariants as kind
-use Rattle.lucid_scan.specs.Tokens.{IsLongest, gap, past_gap, token, Tokens, tokens_end, tokens_next}
+use Rattle.lucid_scan.specs.Tokens.{tokens_end}
 use Rattle.lucid_tree.specs.WellMade.{depth}
 use Rattle.lucid_tree.specs.Tree.{fby_of}
 use Rattle.lucid_tree.specs.SamplePrograms.{integer, between}
@@ -15,10 +14,10 @@ use Rattle.lucid_scope.specs.Sites.{site_at}
 use Rattle.lucid_forms.specs.declared.operator.Operator.TheVariants as operator
 use Rattle.lucid_streams.specs.declared.form.Form.TheVariants as stream
 use Rattle.lucid_parse.specs.declared.terminal.Terminal.TheVariants as terminal
-use Rattle.lucid_parse.specs.Grammar.{PlainTerminal, terminal_at, spells_const, spells_name, spells_infix, spells_block, spells_none, spells_def}
-use Rattle.lucid_parse.specs.Terminals.{terminals_none, terminals_next, StandsFor}
-use Rattle.lucid_print.proofs.Terminals.{terminal_text, is_open}
-use Rattle.lucid_print.proofs.Goods.{Good, among, stoppers, where_good, end_good, equals_good, semicolon_good, name_good, operator_good, const_good}
+use Rattle.lucid_parse.specs.Grammar.{terminal_at, spells_const, spells_name, spells_infix, spells_block, spells_none, spells_def}
+use Rattle.lucid_parse.specs.Terminals.{terminals_none}
+use Rattle.lucid_top.proofs.Spelling.{ReadFrom, step}
+use Rattle.lucid_print.proofs.Goods.{Good, where_good, end_good, equals_good, semicolon_good, name_good, operator_good, const_good}
 
 -- its terminals, in order, each with its place; and those from a number on
 abbrev pub counting_words : List PlacedTerminal
@@ -29,37 +28,10 @@ abbrev words_from : ℕ → List PlacedTerminal
 words_from k = drop k counting_words
 
 -- the tokens from a place of the source on, and their terminals
-record Read (bytes : List ℕ) (at : ℕ) (words : List PlacedTerminal) : Type 0 where
-  tokens : List Token
-  are_tokens : Tokens bytes at tokens
-  are_words : Terminals counting_source tokens words
-
-next_by : (bytes : List ℕ) (at g n : ℕ) (k : TokenKind) (here rest : List ℕ) (ts : List Token) → gap bytes ≡ g → drop g bytes ≡ here → IsLongest here k n
-    → drop n here ≡ rest
-    → Tokens rest ((at + g) + n) ts → Tokens bytes at (token k (at + g) ((at + g) + n) ∷ ts)
-next_by bytes at g n k here rest ts e f l d more =
-    let there : past_gap bytes ≡ here = ap (λ i. drop i bytes) e ∙ f in
-    subst (λ h. Tokens bytes at (token k (at + h) ((at + h) + n) ∷ ts)) e
-    (tokens_next k n (subst (λ x. IsLongest x k n) (sym there) l)
-    (subst (λ x. Tokens x ((at + gap bytes) + n) ts) (sym (ap (drop n) there ∙ d)) (subst (λ i. Tokens rest ((at + i) + n) ts) (sym e) more)))
+abbrev Read : List ℕ → ℕ → List PlacedTerminal → Type 0
+Read = ReadFrom counting_source
 
 module _ (longest : TextsAreLongest) (read : TextIsRead) where
-  -- one terminal in front, behind a gap and before a byte that ends it
-  step : (bytes : List ℕ) (at g : ℕ) (s : PlainTerminal) → Good s → (b : ℕ) (after : List ℕ) (ws : List PlacedTerminal) → (is_open s || among b stoppers) ≡ true
-      → gap bytes ≡ g → drop g bytes ≡ terminal_text s ++ b ∷ after
-      → slice_range counting_source (at + g) ((at + g) + length (terminal_text s)) ≡ terminal_text s
-      → Read (b ∷ after) ((at + g) + length (terminal_text s)) ws → Read bytes at (terminal_at s (at + g) ∷ ws)
-  step bytes at g s good b after ws fits e f is r =
-      let n : ℕ = length (terminal_text s) in
-      let long : IsLongest (terminal_text s ++ b ∷ after) good.kind n =
-      longest good.kind (terminal_text s) (b ∷ after) (good.token b after fits) (good.stops b after fits) in
-      record {
-        tokens = token good.kind (at + g) ((at + g) + n) ∷ r.tokens;
-        are_tokens = next_by bytes at g n good.kind (terminal_text s ++ b ∷ after) (b ∷ after) r.tokens e f long
-            (drop-append_seam (terminal_text s) (b ∷ after)) r.are_tokens;
-        are_words = terminals_next (token good.kind (at + g) ((at + g) + n)) s (subst (λ x. StandsFor good.kind x s) (sym is) good.stands) r.are_words;
-      }
-
   name_x : Good (terminal.Name (codes "x"))
   unfolding reserved_words
   name_x = name_good (codes "x") refl
@@ -75,39 +47,39 @@ module _ (longest : TextsAreLongest) (read : TextIsRead) where
   at_28 = record { tokens = []; are_tokens = tokens_end (omega arith); are_words = terminals_none }
 
   at_24 : Read (codes " end\n") 24 (words_from 10)
-  at_24 = step (codes " end\n") 24 1 terminal.End end_good 10 (codes "") (words_from 11) refl refl refl refl at_28
+  at_24 = step counting_source longest (codes " end\n") 24 1 terminal.End end_good 10 (codes "") (words_from 11) refl refl refl refl at_28
 
   at_23 : Read (codes "; end\n") 23 (words_from 9)
-  at_23 = step (codes "; end\n") 23 0 terminal.Semicolon semicolon_good 32 (codes "end\n") (words_from 10) refl refl refl refl at_24
+  at_23 = step counting_source longest (codes "; end\n") 23 0 terminal.Semicolon semicolon_good 32 (codes "end\n") (words_from 10) refl refl refl refl at_24
 
   at_21 : Read (codes " 1; end\n") 21 (words_from 8)
   unfolding digits
-  at_21 = step (codes " 1; end\n") 21 1 (terminal.Const (int (pos 1))) one_good 59 (codes " end\n") (words_from 9) refl refl refl refl at_23
+  at_21 = step counting_source longest (codes " 1; end\n") 21 1 (terminal.Const (int (pos 1))) one_good 59 (codes " end\n") (words_from 9) refl refl refl refl at_23
 
   at_19 : Read (codes " + 1; end\n") 19 (words_from 7)
-  at_19 = step (codes " + 1; end\n") 19 1 (terminal.Operator (operator.Data op.Add)) (operator_good (operator.Data op.Add)) 32 (codes "1; end\n") (words_from 8) refl refl refl refl at_21
+  at_19 = step counting_source longest (codes " + 1; end\n") 19 1 (terminal.Operator (operator.Data op.Add)) (operator_good (operator.Data op.Add)) 32 (codes "1; end\n") (words_from 8) refl refl refl refl at_21
 
   at_17 : Read (codes " x + 1; end\n") 17 (words_from 6)
-  at_17 = step (codes " x + 1; end\n") 17 1 (terminal.Name (codes "x")) name_x 32 (codes "+ 1; end\n") (words_from 7) refl refl refl refl at_19
+  at_17 = step counting_source longest (codes " x + 1; end\n") 17 1 (terminal.Name (codes "x")) name_x 32 (codes "+ 1; end\n") (words_from 7) refl refl refl refl at_19
 
   at_13 : Read (codes " fby x + 1; end\n") 13 (words_from 5)
-  at_13 = step (codes " fby x + 1; end\n") 13 1 (terminal.Operator (operator.Stream stream.Fby)) (operator_good (operator.Stream stream.Fby)) 32 (codes "x + 1; end\n") (words_from 6) refl refl refl refl at_17
+  at_13 = step counting_source longest (codes " fby x + 1; end\n") 13 1 (terminal.Operator (operator.Stream stream.Fby)) (operator_good (operator.Stream stream.Fby)) 32 (codes "x + 1; end\n") (words_from 6) refl refl refl refl at_17
 
   at_11 : Read (codes " 0 fby x + 1; end\n") 11 (words_from 4)
   unfolding digits
-  at_11 = step (codes " 0 fby x + 1; end\n") 11 1 (terminal.Const (int (pos 0))) zero_good 32 (codes "fby x + 1; end\n") (words_from 5) refl refl refl refl at_13
+  at_11 = step counting_source longest (codes " 0 fby x + 1; end\n") 11 1 (terminal.Const (int (pos 0))) zero_good 32 (codes "fby x + 1; end\n") (words_from 5) refl refl refl refl at_13
 
   at_9 : Read (codes " = 0 fby x + 1; end\n") 9 (words_from 3)
-  at_9 = step (codes " = 0 fby x + 1; end\n") 9 1 terminal.Equals equals_good 32 (codes "0 fby x + 1; end\n") (words_from 4) refl refl refl refl at_11
+  at_9 = step counting_source longest (codes " = 0 fby x + 1; end\n") 9 1 terminal.Equals equals_good 32 (codes "0 fby x + 1; end\n") (words_from 4) refl refl refl refl at_11
 
   at_7 : Read (codes " x = 0 fby x + 1; end\n") 7 (words_from 2)
-  at_7 = step (codes " x = 0 fby x + 1; end\n") 7 1 (terminal.Name (codes "x")) name_x 32 (codes "= 0 fby x + 1; end\n") (words_from 3) refl refl refl refl at_9
+  at_7 = step counting_source longest (codes " x = 0 fby x + 1; end\n") 7 1 (terminal.Name (codes "x")) name_x 32 (codes "= 0 fby x + 1; end\n") (words_from 3) refl refl refl refl at_9
 
   at_1 : Read (codes " where x = 0 fby x + 1; end\n") 1 (words_from 1)
-  at_1 = step (codes " where x = 0 fby x + 1; end\n") 1 1 terminal.Where where_good 32 (codes "x = 0 fby x + 1; end\n") (words_from 2) refl refl refl refl at_7
+  at_1 = step counting_source longest (codes " where x = 0 fby x + 1; end\n") 1 1 terminal.Where where_good 32 (codes "x = 0 fby x + 1; end\n") (words_from 2) refl refl refl refl at_7
 
   at_0 : Read (codes "x where x = 0 fby x + 1; end\n") 0 (words_from 0)
-  at_0 = step (codes "x where x = 0 fby x + 1; end\n") 0 0 (terminal.Name (codes "x")) name_x 32 (codes "where x = 0 fby x + 1; end\n") (words_from 1) refl refl refl refl at_1
+  at_0 = step counting_source longest (codes "x where x = 0 fby x + 1; end\n") 0 0 (terminal.Name (codes "x")) name_x 32 (codes "where x = 0 fby x + 1; end\n") (words_from 1) refl refl refl refl at_1
 
 -- x + 1
 spells_sum : Spells 1 (terminal_at (terminal.Name (codes "x")) 18 ∷ terminal_at (terminal.Operator (operator.Data op.Add)) 20 ∷ terminal_at (terminal.Const (int (pos 1))) 22 ∷ []) (between 20 op.Add (name 18 (codes "x")) (integer 22 1))

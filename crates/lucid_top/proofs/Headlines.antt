@@ -136,8 +136,10 @@ module _ (c : Call) (g : RunsProgram c) where
 
   overlong_too : (whole k : ℕ) → run.ConsultsOverlong (stream_subject (tree_stream g.program)) b view whole k → ConsultsOverlong g whole
   overlong_too whole k x = (
+    k,
     x.name,
     x.index,
+    x.is.0,
     some_added (λ d. run.IsConsulted (stream_subject (tree_stream g.program)) b view whole d (x.name, x.index)) (λ d. IsConsulted g whole d x.name x.index)
         (λ d. consulted_too whole d x.name x.index) x.consulted,
     subst (λ o. IfSome o (λ y. IsOverlong (all_bytes y) x.index most_input_bytes)) (file_is k x.name x.place x.is.0 x.is.1) x.overlong,
@@ -209,8 +211,8 @@ module _ (c : Call) (g : RunsProgram c) where
             (subst (λ t. t < g.words.count) x.1.lines x.1.within, subst (λ t. val b g.words.depth g.program empty t 0 ≡ None) x.1.lines x.1.undefined);
         complete = λ lt m le defined reads writes short.
             ok
-                (ran.stops lt (defined_up m g.words.depth whole le (at_limit g m whole) refl defined)
-                (record { no_read_failed = reads; no_write_failed = writes; none_overlong = λ k x. short (overlong_too whole k x) }));
+            (ran.stops lt (defined_up m g.words.depth whole le (at_limit g m whole) refl defined)
+            (record { no_read_failed = reads; no_write_failed = writes; none_overlong = λ k x. short (overlong_too whole k x) }));
         too_large = λ is. let x = when_large is in overlong_too whole x.0 x.1;
         read_fault = read;
         write_fault = write;

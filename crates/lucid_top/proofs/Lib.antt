@@ -33,5 +33,8 @@ pub mod CheckEnds
 pub mod MakingEnds
 pub mod Meeting
 mod Headlines
+mod Spelling
 mod CountingSource
+mod InputSource
 mod Witnesses
+mod InputWitnesses

@@ -93,9 +93,9 @@ at_limit r m t = val (elements r) m r.program empty t 0
 abbrev pub IsConsulted : {c : Call} → RunsProgram c → (whole added : ℕ) → (input : List ℕ) → (index : ℕ) → Type 0
 IsConsulted r whole d n j = (t : ℕ) × (t < r.words.count) × (t ≤ whole) × In (n, j) (consults (elements r) r.words.depth d r.program empty t 0)
 
--- an element that is consulted lies past the bytes of its input that may be read
+-- an element of an input that is consulted lies past the bytes of it that may be read
 abbrev pub ConsultsOverlong : {c : Call} → RunsProgram c → (whole : ℕ) → Type 0
-ConsultsOverlong r whole = (n : List ℕ) × (j : ℕ) × ForSomeAdded (λ d. IsConsulted r whole d n j) × IsOverlong (r.bytes_of n) j most_input_bytes
+ConsultsOverlong r whole = (k : ℕ) × (n : List ℕ) × (j : ℕ) × (slice_get r.inputs k ≡ Some n) × ForSomeAdded (λ d. IsConsulted r whole d n j) × IsOverlong (r.bytes_of n) j most_input_bytes
 
 -- Stops. How a call stops, at the time after so many whole lines.
 pub record Stops {c : Call} (r : RunsProgram c) (whole : ℕ) (s : Status) : Type 0 where
