@@ -1,13 +1,20 @@
 //! The command `lucid`: runs a pLucid program and prints the values of its stream, one a line.
 #![tactic(auto)]
 
-ghost use Rattle.std.specs.Prelude.{◌≡◌, ◌≢◌};
+ghost use Rattle.std.specs.Prelude.{◌≡◌, ◌≢◌, Err, IfErr, IfOk, OnErr, drop, map};
 ghost use Rattle.std.specs.Process.{exit_status};
+ghost use Rattle.std.specs.String.{string_bytes};
+ghost use Rattle.lucid_words.specs.Asked.{words_asked};
+ghost use Rattle.lucid_session.specs.Runs.{told};
 ghost use Rattle.lucid_report.specs.Status.{code_of};
+ghost use Rattle.lucid_report.specs.Telling.{Tells};
+ghost use Rattle.lucid_top.specs.Call.{call};
+ghost use Rattle.lucid_top.specs.Clauses.{MeetsClauses};
 
-use lucid_ports::{RealPlaces, RealSink};
+use lucid_ports::{Places, RealPlaces, RealSink, Sink};
 use lucid_report::{Refusal, Status, Stop, tell};
 use lucid_top::lucid_from_arguments;
+use std::alloc::Global;
 use std::fs::File;
 use std::io::ErrorKind;
 use std::process::ExitCode;
@@ -31,16 +38,39 @@ fn all_arguments(rt: &HostRuntime) -> Result<Vec<String>, Stop> {
     Ok(arguments)
 }
 
+// The status of a call by all arguments of the command line, the command's own name first; or by none, where they couldn't be read.
+fn status_by<P: Places, K: Sink, E: Sink>(
+    alloc: Global,
+    arguments: Result<Vec<String>, Stop>,
+    places: &mut P,
+    out: &mut K,
+    report: &mut E,
+) -> Status
+    requires { (P.world places.old).reached ≡ 0 }
+    ensures call { IfOk arguments (λ words. MeetsClauses
+        (call (words_asked (map string_bytes (drop 1 words.items))) (P.world places.old) (P.world places.new) (told K.written K.faults out.old) (told K.written K.faults out.new))
+        (told E.written E.faults report.old) (told E.written E.faults report.new) result) }
+    ensures told { IfErr arguments (λ stop. Tells (Err stop) result (told E.written E.faults report.old) (told E.written E.faults report.new)) }
+    ensures untouched { OnErr arguments ((places.new ≡ places.old) × (out.new ≡ out.old)) }
+{
+    match arguments {
+        Ok(arguments) => lucid_from_arguments(alloc, &arguments, places, out, report),
+        Err(stop) => tell(report, &Err(stop)),
+    }
+}
+
 // The status of a call over the real files and streams.
 fn real_status(rt: &HostRuntime) -> Status {
-    let mut report = RealSink::make(rt.stderr());
-    let arguments = match all_arguments(rt) {
-        Ok(arguments) => arguments,
-        Err(stop) => return tell(&mut report, &Err(stop)),
-    };
     let mut places = RealPlaces::make(rt.alloc(), rt);
     let mut out = RealSink::make(rt.stdout());
-    lucid_from_arguments(rt.alloc(), &arguments, &mut places, &mut out, &mut report)
+    let mut report = RealSink::make(rt.stderr());
+    status_by(
+        rt.alloc(),
+        all_arguments(rt),
+        &mut places,
+        &mut out,
+        &mut report,
+    )
 }
 
 // The null device, where there is one.
