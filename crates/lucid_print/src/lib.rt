@@ -1,7 +1,7 @@
 //! The canonical source of a tree: one line, with the least parentheses that the grammar needs.
 #![tactic(auto)]
 
-pub use crate::print::print_tree;
+pub use crate::print::{print_tree, put_tree};
 
 pub mod laws;
 mod print;

@@ -294,8 +294,8 @@ fn put_piece<'a>(
     }
 }
 
-// Writes a tree.
-fn put_tree(alloc: Global, tree: &Tree, to: &mut Vec<u8>) -> Result<(), AllocError>
+/// Appends the text of a tree, without the end of its line: of a part of a program too. The time is linear in the text.
+pub fn put_tree(alloc: Global, tree: &Tree, to: &mut Vec<u8>) -> Result<(), AllocError>
     ensures { OnOk result (to.new.items ≡ to.old.items ++ source tree.now) }
 {
     let mut pieces = Stack::new(alloc);

@@ -67,8 +67,8 @@ fn tree_of<P: Places>(alloc: Global, words: &Words, places: &mut P) -> Result<Tr
     read_tree(alloc, &source)
 }
 
-// The tree of the source that the words name, with what its names belong to.
-fn program_of<P: Places>(alloc: Global, words: &Words, places: &mut P) -> Result<Scoped, Stop>
+/// The tree of the source that the words name, with what its names belong to.
+pub fn program_of<P: Places>(alloc: Global, words: &Words, places: &mut P) -> Result<Scoped, Stop>
     requires made { MadeIsFromTo 1 10000 words.now.source }
     requires none { (P.world places.old).reached ≡ 0 }
     ensures accepted { IfOk result (λ scoped. IsAccepted (plain_source words.now.source) (P.world places.old) (scoped_tree scoped)) }
