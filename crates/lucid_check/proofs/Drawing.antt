@@ -21,6 +21,7 @@ pub its_place : (now next : Inputs) (q x : ℕ) (mid after : World) → q < leng
     → ReadsOnly (places_of (streams now)) mid after
 its_place now next q x mid after there r = record {
   names = r.asked.others.names;
+  asked = r.asked.others.asked;
   reached = r.asked.reached;
   others = λ k. elim (cases_eq k (stream_at now q).place) [
     | inl e ↦ inl (subst (λ p. In p (places_of (streams now))) (sym e) (place_in (streams now) q (stream_at now q) (stream_there now q there)))
@@ -92,7 +93,7 @@ module _ (T : Table) (cs : List (Option Context)) (js : List PlainJudgment) wher
       drawn = λ k l. low k (before.place (stream_at old k).place).contents;
       elements = λ n j v e. e;
       askable = ask;
-      reads_only = record { names = λ n. refl; reached = refl; others = λ k. inr refl; bytes = λ k. refl; faults = omega arith };
+      reads_only = record { names = λ n. refl; asked = refl; reached = refl; others = λ k. inr refl; bytes = λ k. refl; faults = omega arith };
       places = refl;
       count = refl;
       most = refl;

@@ -41,6 +41,7 @@ goes_on_itself a = record {
 pub reads_only_then : (places : List ℕ) (u v w : World) → ReadsOnly places u v → ReadsOnly places v w → ReadsOnly places u w
 reads_only_then places u v w f g = record {
   names = λ name. g.names name ∙ f.names name;
+  asked = g.asked ∙ f.asked;
   reached = g.reached ∙ f.reached;
   others = λ k. either k (f.others k) (g.others k);
   bytes = λ k. g.bytes k ∙ f.bytes k;
@@ -53,7 +54,7 @@ reads_only_then places u v w f g = record {
     either k (inr e) (inr f) = inr (f ∙ e)
 
 pub reads_only_itself : (places : List ℕ) (w : World) → ReadsOnly places w w
-reads_only_itself places w = record { names = λ name. refl; reached = refl; others = λ k. inr refl; bytes = λ k. refl; faults = omega arith }
+reads_only_itself places w = record { names = λ name. refl; asked = refl; reached = refl; others = λ k. inr refl; bytes = λ k. refl; faults = omega arith }
 
 -- A count that rose in one of several steps rose over all of them.
 pub rises_later : (u v w : World) → u.faults ≤ v.faults → v.faults ≤ w.faults → Rises v.faults w.faults → Rises u.faults w.faults

@@ -180,6 +180,7 @@ module _ (d : Demand) (of_root : IsOfRoot d) (now later : EngineView) (number in
     reads_only_its : ReadsOnly (places_of now.streams) before after
     reads_only_its = record {
       names = r.streams.reads.others.names;
+      asked = r.streams.reads.others.asked;
       reached = r.streams.reads.reached;
       others = λ k. elim (cases_eq k r.streams.from.place) [
         | inl z ↦ inl (subst (λ p. In p (places_of now.streams)) (sym z) (place_in now.streams number r.streams.from r.streams.there))

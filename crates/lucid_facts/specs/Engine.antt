@@ -143,10 +143,11 @@ pub record GoesOn (old new : EngineView) : Type 0 where
   pub lost : old.stored.lost ≤ new.stored.lost
   pub places : places_of new.streams ≡ places_of old.streams
 
--- No name holds anything else, no place is reached, no place but these changes, and of each the bytes are those that they were,
+-- No name holds anything else or is asked for, no place is reached, no place but these changes, and of each the bytes are those that they were,
 -- consumed or left; faults are only counted.
 pub record ReadsOnly (places : List ℕ) (before after : World) : Type 0 where
   pub names : (name : List ℕ) → after.holds name ≡ before.holds name
+  pub asked : after.asked ≡ before.asked
   pub reached : after.reached ≡ before.reached
   pub others : (k : ℕ) → In k places ⊎ (after.place k ≡ before.place k)
   pub bytes : (k : ℕ) → option_map all_bytes (after.place k).contents ≡ option_map all_bytes (before.place k).contents

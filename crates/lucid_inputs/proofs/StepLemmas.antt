@@ -161,7 +161,7 @@ reads_none index s w f = record {
   consumed = omega arith;
   contents = none_consumed (w.place s.place).contents;
   reached = refl;
-  others = record { names = λ name. refl; others = λ k other. refl; faults = le_refl _ };
+  others = record { names = λ name. refl; asked = refl; others = λ k other. refl; faults = le_refl _ };
   bound = own_bound (w.place s.place).contents;
   fits = f;
 }

@@ -1,12 +1,12 @@
 -- Places in memory after a call.
-use Rattle.lucid_ports.proofs.Common.{◌≡◌, ◌⊎◌, ℕ, ◌+◌, ◌-◌, ◌≤◌, List, [], length, take, Option, None, Some, Contains, Ok, IfSome, inl, inr, sym, ap, subst, ◌∙◌, arith, le_refl, take_all, take-add, drop-drop, MemoryFile, FailAt, MemoryPlace, bytes_at, fail_at, memory_place, Contents, IsShown, advanced, ◌↔◌, IsSomeAnd, length-take-le, nil_from_length, StartsWith}
+use Rattle.lucid_ports.proofs.Common.{◌≡◌, ◌⊎◌, ℕ, ◌+◌, ◌-◌, ◌≤◌, List, [], length, take, Option, None, Some, Contains, Ok, IfSome, inl, inr, sym, ap, subst, ◌∙◌, arith, le_refl, take_all, take-add, drop-drop, option_map, MemoryFile, FailAt, MemoryPlace, bytes_at, bytes_named, fail_at, memory_place, Contents, IsShown, advanced, ◌↔◌, IsSomeAnd, length-take-le, nil_from_length, StartsWith}
 use Rattle.std.proofs.Common.{min, drop, ◌++◌}
 use Rattle.std.proofs.lemmas.List.{take_min, drop_min}
 use denote.Ref.{Bor}
 use Rattle.lucid_ports.proofs.SupplyLemmas.{same_contents}
 use Rattle.lucid_ports.specs.Memory.{ShowsUpToFailure}
 use Rattle.lucid_ports.specs.MemoryView.{read_to}
-use Rattle.lucid_ports.specs.World.{IsConsumed}
+use Rattle.lucid_ports.specs.World.{IsConsumed, IsFresh, unread}
 
 advanced-read_to : (position n : ℕ) (bytes : List ℕ) → read_to (position + n) bytes ≡ advanced n (read_to position bytes)
 advanced-read_to position n bytes = cc (take-add position n bytes, drop-drop n position bytes)
@@ -29,6 +29,19 @@ place_consumed files old new p q n was is file position shown used =
       contents = ap (λ k. Some (read_to q.mark.position (bytes_at files k))) file
           ∙ ap (λ k. Some (read_to k (bytes_at files p.file))) position
           ∙ ap Some (advanced-read_to p.mark.position n (bytes_at files p.file));
+      shown = shown;
+      used = used;
+    }
+    )
+
+-- a place just reached, of the file of that name
+pub place_fresh : (files : List MemoryFile) (name : List ℕ) (place : Option MemoryPlace) (p : MemoryPlace) → place ≡ Some p
+    → bytes_named files name ≡ Some (bytes_at files p.file) → p.mark.position ≡ 0 → p.mark.shown ≡ 0 → p.mark.used ≡ 0
+    → IsFresh (bytes_named files name) (memory_place files place)
+place_fresh files name place p is named position shown used =
+    rw is (
+    record {
+      contents = ap (λ k. Some (read_to k (bytes_at files p.file))) position ∙ sym (ap (option_map unread) named);
       shown = shown;
       used = used;
     }

@@ -1,6 +1,7 @@
 -- What places without end tell, and where they stand.
-use Rattle.std.specs.Prelude.{◌≡◌, ℕ, List, length, Option, None, Some, Result, IfOk, IfSome, IsOkAnd, option_map, vec_len}
+use Rattle.std.specs.Prelude.{◌≡◌, ℕ, List, map, length, Option, None, Some, Result, IfOk, IfSome, IsOkAnd, option_map, vec_len}
 use Rattle.std.specs.List.{slice_get}
+use Rattle.std.specs.String.{string_bytes}
 use denote.Ref.{Bor}
 use Rattle.lucid_ports.specs.declared.fault.PortFault.{PortFault}
 use Rattle.lucid_ports.specs.declared.files.MemoryFile.{MemoryFile}
@@ -31,10 +32,11 @@ abbrev pub endless_place : Option EndlessPlace → Place
 endless_place None = record { contents = None; shown = 0; used = 0 }
 endless_place (Some p) = record { contents = None; shown = p.mark.shown; used = p.mark.used }
 
--- nothing of contents, and no fault
+-- the names that were asked for, nothing of contents, and no fault
 abbrev pub endless_world : Endless → World
 endless_world e = record {
   holds = λ name. None;
+  asked = map string_bytes e.names.items;
   reached = vec_len e.places;
   place = λ k. endless_place (slice_get e.places.items k);
   faults = 0;

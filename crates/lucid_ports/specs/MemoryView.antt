@@ -1,6 +1,7 @@
 -- What places in memory tell.
-use Rattle.std.specs.Prelude.{◌≡◌, ◌↔◌, ℕ, List, take, drop, Option, None, Some, Result, IsErrOf, IsSomeAnd, vec_len}
+use Rattle.std.specs.Prelude.{◌≡◌, ℕ, List, map, take, drop, Option, None, Some, Result, IsErr, IsErrOf, IsSomeAnd, vec_len}
 use Rattle.std.specs.List.{slice_get}
+use Rattle.std.specs.String.{string_bytes}
 use denote.Ref.{Bor}
 use Rattle.lucid_ports.specs.declared.fault.PortFault.{PortFault}
 use Rattle.lucid_ports.specs.declared.fault.PortFault.TheVariants.{Failed}
@@ -22,10 +23,11 @@ abbrev pub memory_place : List MemoryFile → Option MemoryPlace → Place
 memory_place files None = record { contents = None; shown = 0; used = 0 }
 memory_place files (Some p) = record { contents = Some (read_to p.mark.position (bytes_at files p.file)); shown = p.mark.shown; used = p.mark.used }
 
--- the files' names, the places reached and the count of faults
+-- the files' names, those that were asked for, the places reached and the count of faults
 abbrev pub memory_world : MemoryPlaces → World
 memory_world m = record {
   holds = bytes_named m.files.items;
+  asked = map string_bytes m.names.items;
   reached = vec_len m.places;
   place = λ k. memory_place m.files.items (slice_get m.places.items k);
   faults = m.faults;
@@ -35,9 +37,10 @@ memory_world m = record {
 abbrev pub memory_failures : MemoryPlaces → List FailAt
 memory_failures m = m.failures.items
 
--- A name is reached unless no file has it.
+-- A name is reached unless no file has it, or there is no memory; it is a fault only where no file has it.
 pub record ReachesMemory (old : MemoryPlaces) (name : List ℕ) (result : Result ℕ PortFault) (new : MemoryPlaces) : Type 0 where
-  pub missing : IsErrOf result Failed ↔ ((memory_world old).holds name ≡ None)
+  pub missing : (memory_world old).holds name ≡ None → IsErr result
+  pub failed : IsErrOf result Failed → (memory_world old).holds name ≡ None
   pub failures : memory_failures new ≡ memory_failures old
   pub faults : (memory_world new).faults ≡ faults_after (memory_world old).faults result
 

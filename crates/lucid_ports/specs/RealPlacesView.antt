@@ -1,6 +1,7 @@
--- What real places tell: what names hold, how many places are reached, the contents of each and how much it shows, and how often they failed.
-use Rattle.std.specs.Prelude.{◌≡◌, ◌<◌, ℕ, List, length, Option, None, Some, option_map, Result, Ok, Err, IsOk, vec_len}
+-- What real places tell: what names hold, which were asked for, how many places are reached, the contents of each and how much it shows, and how often they failed.
+use Rattle.std.specs.Prelude.{◌≡◌, ◌<◌, ℕ, List, length, map, Option, None, Some, option_map, Result, Ok, Err, IsOk, vec_len}
 use Rattle.std.specs.List.{slice_get}
+use Rattle.std.specs.String.{string_bytes}
 use denote.Ref.{Bor}
 use Rattle.lucid_ports.specs.declared.fault.PortFault.{PortFault}
 use Rattle.lucid_ports.specs.declared.real_place.RealPlace.{RealPlace}
@@ -22,6 +23,7 @@ abbrev pub real_world : {O F I : Type 0} {g : _} {h : _} {k : _} → (O → List
     → RealPlaces O F I g h k → World
 real_world holds of_file of_input r = record {
   holds = holds r.outside;
+  asked = map string_bytes r.names.items;
   reached = vec_len r.places;
   place = λ k. real_place of_file of_input (slice_get r.places.items k);
   faults = r.faults;
@@ -30,6 +32,10 @@ real_world holds of_file of_input r = record {
 -- what opens files and standard input
 abbrev pub real_outside : {O F I : Type 0} {g : _} {h : _} {k : _} → RealPlaces O F I g h k → O
 real_outside r = r.outside
+
+-- the names that were asked for
+abbrev pub real_names : {O F I : Type 0} {g : _} {h : _} {k : _} → RealPlaces O F I g h k → List (List ℕ)
+real_names r = map string_bytes r.names.items
 
 -- how many places are reached
 abbrev pub real_reached : {O F I : Type 0} {g : _} {h : _} {k : _} → RealPlaces O F I g h k → ℕ

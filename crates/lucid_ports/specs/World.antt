@@ -1,5 +1,5 @@
 -- What an object that reads the outside can tell: values of contracts alone, which no code holds.
-use Rattle.std.specs.Prelude.{◌≡◌, ◌≢◌, ℕ, ◌+◌, ◌-◌, ◌≤◌, List, [], ◌++◌, take, drop, Option, option_map}
+use Rattle.std.specs.Prelude.{◌≡◌, ◌≢◌, ◌⊎◌, ℕ, ◌+◌, ◌-◌, ◌≤◌, List, [], ◌∷◌, ◌++◌, take, drop, Option, option_map}
 
 -- the bytes of a place: those that were consumed, in order, and those that are left
 pub record Contents : Type 0 where
@@ -13,10 +13,11 @@ pub record Place : Type 0 where
   pub shown : ℕ
   pub used : ℕ
 
--- All that is read from: the bytes that each name holds, where that is told; how many places are reached; the place of each number
--- below that; and how often a call has failed.
+-- All that is read from: the bytes that each name holds, where that is told; the names that were asked for, in order; how many places are
+-- reached; the place of each number below that; and how often a call has failed.
 pub record World : Type 0 where
   pub holds : List ℕ → Option (List ℕ)
+  pub asked : List (List ℕ)
   pub reached : ℕ
   pub place : ℕ → Place
   pub faults : ℕ
@@ -47,8 +48,17 @@ pub record IsConsumed (n : ℕ) (old new : Place) : Type 0 where
   pub shown : new.shown ≡ old.shown - n
   pub used : new.used ≡ old.used + n
 
--- no name holds anything else, no place but the one of this number changes, and the count of faults doesn't fall
+-- no name holds anything else or is asked for, no place but the one of this number changes, and the count of faults doesn't fall
 pub record KeepsOthers (number : ℕ) (old new : World) : Type 0 where
   pub names : (name : List ℕ) → new.holds name ≡ old.holds name
+  pub asked : new.asked ≡ old.asked
   pub others : (k : ℕ) → k ≢ number → new.place k ≡ old.place k
+  pub faults : old.faults ≤ new.faults
+
+-- A name is asked for: it stands behind those that were, unless the call lacks memory to ask. No name holds anything else, no place that was
+-- reached changes, and the count of faults doesn't fall.
+pub record AsksName (name : List ℕ) (lacks : Type 0) (old new : World) : Type 0 where
+  pub asked : (new.asked ≡ old.asked ++ name ∷ []) ⊎ (lacks × (new.asked ≡ old.asked))
+  pub names : (n : List ℕ) → new.holds n ≡ old.holds n
+  pub others : (k : ℕ) → k ≢ old.reached → new.place k ≡ old.place k
   pub faults : old.faults ≤ new.faults

@@ -1,5 +1,5 @@
 // Places without end.
-ghost use Rattle.std.specs.Prelude.{◌≡◌, ◌<◌, length};
+ghost use Rattle.std.specs.Prelude.{◌≡◌, ◌<◌, [], length};
 ghost use Rattle.lucid_ports.specs.EndlessView.{ConsumesEndless, ReachesEndless, ShowsEndless, endless_files, endless_piece, endless_world};
 
 use crate::files::{MemoryFile, find_file};
@@ -13,6 +13,7 @@ use std::alloc::Global;
 #[derive(Drop)]
 pub struct Endless {
     sources: Sources,
+    names: Vec<String>,
     places: Vec<EndlessPlace>,
 }
 
@@ -28,10 +29,12 @@ impl Endless {
         requires { 0 < length piece.items }
         ensures files { endless_files result ≡ files.items }
         ensures piece { endless_piece result ≡ piece.items }
+        ensures unasked { (endless_world result).asked ≡ [] }
         ensures none { (endless_world result).reached ≡ 0 }
     {
         Endless {
             sources: Sources { files, piece },
+            names: Vec::new(alloc),
             places: Vec::new(alloc),
         }
     }
@@ -46,7 +49,8 @@ impl Places for Endless {
 
     ghost consume_gives = { ConsumesEndless };
 
-    fn reach(&mut self, _alloc: Global, name: &str) -> Result<u32, PortFault> {
+    fn reach(&mut self, alloc: Global, name: &str) -> Result<u32, PortFault> {
+        self.names.push(String::from_str(alloc, name)?)?;
         let number = self.places.len() as u32;
         let file = find_file(&self.sources.files, name);
         self.places.push(EndlessPlace {

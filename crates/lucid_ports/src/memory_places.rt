@@ -1,5 +1,5 @@
 // Places in memory.
-ghost use Rattle.std.specs.Prelude.{◌≡◌, ◌⊎◌, ◌↔◌, ◌+◌, ◌<◌, ◌≤◌, ℕ, length, Contains, MatchOption, IsSomeAnd, IsTrue, Some};
+ghost use Rattle.std.specs.Prelude.{◌≡◌, ◌⊎◌, ◌↔◌, ◌+◌, ◌<◌, ◌≤◌, ℕ, [], length, Contains, MatchOption, IsSomeAnd, IsTrue, Some};
 ghost use Rattle.std.specs.Bool.{OnTrue, OnFalse};
 ghost use Rattle.std.specs.List.{slice_get};
 ghost use Rattle.lucid_ports.specs.Files.{bytes_named};
@@ -49,6 +49,7 @@ impl FailAt {
 pub struct MemoryPlaces {
     files: Vec<MemoryFile>,
     failures: Vec<FailAt>,
+    names: Vec<String>,
     places: Vec<MemoryPlace>,
     faults: u64,
 }
@@ -63,6 +64,7 @@ impl MemoryPlaces {
     /// No place is reached. A name holds the bytes of the first file of that name, and each failure is still to come.
     pub fn make(alloc: Global, files: Vec<MemoryFile>, failures: Vec<FailAt>) -> MemoryPlaces
         ensures names { (memory_world result).holds ≡ bytes_named files.items }
+        ensures unasked { (memory_world result).asked ≡ [] }
         ensures none { (memory_world result).reached ≡ 0 }
         ensures faults { (memory_world result).faults ≡ 0 }
         ensures failures { memory_failures result ≡ failures.items }
@@ -70,6 +72,7 @@ impl MemoryPlaces {
         MemoryPlaces {
             files,
             failures,
+            names: Vec::new(alloc),
             places: Vec::new(alloc),
             faults: 0,
         }
@@ -101,7 +104,8 @@ impl Places for MemoryPlaces {
 
     ghost consume_gives = { ConsumesMemory };
 
-    fn reach(&mut self, _alloc: Global, name: &str) -> Result<u32, PortFault> {
+    fn reach(&mut self, alloc: Global, name: &str) -> Result<u32, PortFault> {
+        self.names.push(String::from_str(alloc, name)?)?;
         let Some(file) = find_file(&self.files, name) else {
             self.faults = self.faults.saturating_add(1);
             return Err(PortFault::Failed);

@@ -7,7 +7,7 @@ ghost use denote.Ref.{Bor};
 ghost use Rattle.lucid_ports.specs.declared.fault.PortFault.{PortFault as Fault};
 ghost use Rattle.lucid_ports.specs.Faults.{CountsNoFaultUnless, Rises};
 ghost use Rattle.lucid_ports.specs.Reading.{Fills};
-ghost use Rattle.lucid_ports.specs.World.{World, IsFresh, IsConsumed, KeepsOthers};
+ghost use Rattle.lucid_ports.specs.World.{World, IsFresh, IsConsumed, KeepsOthers, AsksName};
 
 use crate::PortFault;
 use std::alloc::Global;
@@ -17,7 +17,7 @@ use std::alloc::Global;
 /// A place shows a piece of the bytes that are left, and the reader says how many of them it consumes. What is said of
 /// contents holds where the object tells them; what is said of faults holds for every object.
 pub trait Places {
-    /// What the names hold, the places reached and the count of faults.
+    /// What the names hold, those that were asked for, the places reached and the count of faults.
     ghost world: { Self → World };
 
     /// What more is known of a call of `reach` on such an object: of the object before, the name, the answer and the object after.
@@ -29,7 +29,7 @@ pub trait Places {
     /// What more is known of a call of `consume`, of the place and the number of bytes.
     ghost consume_gives: { Self → ℕ → ℕ → Self → Type 0 } = { λ _ _ _ _. Unit {0} };
 
-    /// Reaches the place of a name, and gives its number. A name that isn't there is a fault.
+    /// Asks for a name, reaches its place, and gives the place's number. A name that isn't there is a fault.
     fn reach(&mut self, alloc: Global, name: &str) -> Result<u32, PortFault>
         requires { (world self.old).reached < 2000000 }
 
@@ -41,7 +41,7 @@ pub trait Places {
         ensures refused { OnErr result ((world self.new).reached ≡ (world self.old).reached) }
         ensures failed { IsErrOf result PortFault.Failed → Rises (world self.old).faults (world self.new).faults }
         ensures counts_no_fault { CountsNoFaultUnless (IsErrOf result PortFault.Failed) (world self.old).faults (world self.new).faults }
-        ensures others { KeepsOthers (world self.old).reached (world self.old) (world self.new) }
+        ensures others { AsksName name.now (IsErrOf result PortFault.NoMemory) (world self.old) (world self.new) }
         ensures gives { reach_gives self.old name.now result self.new };
 
     /// Shows a piece of what is left at a place, and consumes nothing.

@@ -1,7 +1,7 @@
 // The real places.
 ghost use Rattle.std.specs.Prelude.{◌≡◌, [], IfSome, IfNone, IsErrOf, option_map};
 ghost use Rattle.lucid_ports.specs.Faults.{faults_after};
-ghost use Rattle.lucid_ports.specs.RealPlacesView.{AsksWhereNone, PlaceAsks, place_at, real_faults, real_outside, real_reached, real_world, source_of};
+ghost use Rattle.lucid_ports.specs.RealPlacesView.{AsksWhereNone, PlaceAsks, place_at, real_faults, real_names, real_outside, real_reached, real_world, source_of};
 ghost use Rattle.lucid_ports.specs.Source.{source_contents, source_shown};
 ghost use Rattle.lucid_ports.specs.World.{unread};
 
@@ -26,6 +26,7 @@ const STANDARD_INPUT: &str = "-";
 #[derive(Drop)]
 pub struct RealPlaces<O, F: Supply, I: Preview> {
     outside: O,
+    names: Vec<String>,
     places: Vec<RealPlace<F, I>>,
     faults: u64,
 }
@@ -37,6 +38,7 @@ impl<R: Files + Input> RealPlaces<
 > {
     /// Over a runtime. No place is reached.
     pub fn make(alloc: Global, rt: R) -> Self
+        ensures unasked { real_names result ≡ [] }
         ensures none { real_reached result ≡ 0 }
         ensures faults { real_faults result ≡ 0 }
     {
@@ -48,11 +50,13 @@ impl<O: Outside> RealPlaces<O, <O as Outside>::File, <O as Outside>::Input> {
     /// Over what opens files and standard input. No place is reached.
     pub fn over(alloc: Global, outside: O) -> Self
         ensures names { (real_world O.holds O.File.contents O.Input.contents result).holds ≡ O.holds outside }
+        ensures unasked { real_names result ≡ [] }
         ensures none { real_reached result ≡ 0 }
         ensures faults { real_faults result ≡ 0 }
     {
         RealPlaces {
             outside,
+            names: Vec::new(alloc),
             places: Vec::new(alloc),
             faults: 0,
         }
@@ -75,6 +79,7 @@ impl<O: Outside> Places for RealPlaces<O, <O as Outside>::File, <O as Outside>::
         (source_of (place_at new place) ≡ source_of (place_at old place)) result };
 
     fn reach(&mut self, alloc: Global, name: &str) -> Result<u32, PortFault> {
+        self.names.push(String::from_str(alloc, name)?)?;
         let number = self.places.len() as u32;
         let Some(source) = open(&self.outside, name) else {
             self.faults = self.faults.saturating_add(1);

@@ -2,7 +2,7 @@
 use Rattle.lucid_top.proofs.Common.{◌≡◌, ℕ, zero, suc, ◌+◌, ◌<◌, ◌≤◌, ◌≢◌, List, [], ◌∷◌, ◌++◌, length, map, get_or, Option, Some, None, Ok, Err, ap, sym, subst, ◌∙◌, inl, inr, arith, add-one, IfSome, IfOk, slice_get, option_map, range_with_len, cases_lt, slice_get-map, slice_get-get_or, World, Contents, IsFresh, KeepsNames, AreFresh, IsErrAnd, OnErr, MatchResult, AreKept, ReadsPlace}
 use Rattle.std.proofs.Common.{Result, take}
 use denote.Ref.{Bor}
-use Rattle.lucid_ports.specs.World.{KeepsOthers, Place, unread, advanced}
+use Rattle.lucid_ports.specs.World.{AsksName, KeepsOthers, Place, unread, advanced}
 use Rattle.lucid_session.proofs.Subjects.{range_more as range_suc}
 
 -- its first bytes are those of its name
@@ -40,11 +40,11 @@ read_within most place q held old new is fresh read =
     (consumed_within most read.0 held (old.place place).contents (new.place place).contents fresh read.1 read.2)
 
 -- what was kept is kept, where the next place is reached or changes
-pub kept_on : (w v u : World) → AreKept w v → w.reached ≤ v.reached → KeepsOthers v.reached v u → AreKept w u
+pub kept_on : (w v u : World) {name : List ℕ} {lacks : Type 0} → AreKept w v → w.reached ≤ v.reached → AsksName name lacks v u → AreKept w u
 kept_on w v u stays le o q lt = o.others q (λ e. absurd (omega (arith, e, le, lt))) ∙ stays q lt
 
 -- reaching a place and reading it changes no place that was reached
-pub read_kept : (w v u : World) (number : ℕ) → number ≡ w.reached → KeepsOthers w.reached w v → KeepsOthers number v u → AreKept w u
+pub read_kept : (w v u : World) (number : ℕ) {name : List ℕ} {lacks : Type 0} → number ≡ w.reached → AsksName name lacks w v → KeepsOthers number v u → AreKept w u
 read_kept w v u number is o p q lt = p.others q (λ e. absurd (omega (arith, e, is, lt))) ∙ o.others q (λ e. absurd (omega (arith, e, lt)))
 
 -- what was kept is kept on, and of a place that is kept no more is read
@@ -55,17 +55,18 @@ pub reads_still : (most q : ℕ) (v u : World) → ReadsPlace most q v → q < v
 reads_still most q v u reads lt kept more = subst (λ (p : Place). IfSome p.contents (λ s. length s.consumed ≤ most)) (sym (kept q lt)) (reads lt)
 
 -- names stay from call to call
-pub keeps_on : (w v u : World) (number : ℕ) → KeepsNames w v → KeepsOthers number v u → KeepsNames w u
-keeps_on w v u number k o = record { names = λ name. o.names name ∙ k.names name; faults = omega (arith, k.faults, o.faults) }
+pub keeps_on : (w v u : World) {name : List ℕ} {lacks : Type 0} → KeepsNames w v → AsksName name lacks v u → KeepsNames w u
+keeps_on w v u k o = record { names = λ name. o.names name ∙ k.names name; faults = omega (arith, k.faults, o.faults) }
 
 -- where no place was reached since, what was fresh is
-fresh_still : (files : List (List ℕ)) (w v u : World) → AreFresh files w v → KeepsOthers v.reached v u
+fresh_still : (files : List (List ℕ)) (w v u : World) {name : List ℕ} {lacks : Type 0} → AreFresh files w v → AsksName name lacks v u
     → (k : ℕ) (file : List ℕ) → slice_get files k ≡ Some file → w.reached + k < v.reached → IsFresh (w.holds file) (u.place (w.reached + k))
 fresh_still files w v u fresh o k file is lt =
     let differ : w.reached + k ≢ v.reached = λ e. absurd (omega (arith, e, lt)) in
     subst (IsFresh (w.holds file)) (sym (o.others (w.reached + k) differ)) (fresh k file is lt)
 
-pub fresh_after : (files : List (List ℕ)) (w v u : World) → AreFresh files w v → KeepsOthers v.reached v u → u.reached ≡ v.reached → AreFresh files w u
+pub fresh_after : (files : List (List ℕ)) (w v u : World) {name : List ℕ} {lacks : Type 0} → AreFresh files w v → AsksName name lacks v u → u.reached ≡ v.reached
+    → AreFresh files w u
 fresh_after files w v u fresh o same k file is lt = fresh_still files w v u fresh o k file is (omega (arith, lt, same))
 
 -- and the place of the next file is, once that is reached
@@ -78,9 +79,9 @@ last_fresh files w v u i k name file at is same is' keeps fresh =
     let place : v.reached ≡ w.reached + k = omega (arith, at, same) in
     subst (λ q. IsFresh (w.holds file) (u.place q)) place (subst (λ h. IsFresh h (u.place v.reached)) (ap v.holds names ∙ keeps.names file) fresh)
 
-pub fresh_more : (files : List (List ℕ)) (w v u : World) (i : ℕ) (name : List ℕ) → v.reached ≡ w.reached + i → slice_get files i ≡ Some name
+pub fresh_more : (files : List (List ℕ)) (w v u : World) (i : ℕ) (name : List ℕ) {asked : List ℕ} {lacks : Type 0} → v.reached ≡ w.reached + i → slice_get files i ≡ Some name
     → AreFresh files w v → KeepsNames w v
-    → KeepsOthers v.reached v u → u.reached ≡ v.reached + 1 → (q : ℕ) → q ≡ v.reached → IsFresh (v.holds name) (u.place q) → AreFresh files w u
+    → AsksName asked lacks v u → u.reached ≡ v.reached + 1 → (q : ℕ) → q ≡ v.reached → IsFresh (v.holds name) (u.place q) → AreFresh files w u
 fresh_more files w v u i name at is fresh keeps o more q number new k file is' lt =
     elim (cases_lt k i) [
       | inl before ↦ fresh_still files w v u fresh o k file is' (omega (arith, before, at))

@@ -55,6 +55,5 @@ loop-file-preserved g c =
       no_read_failed = none_at_ok c.in_ok-place.place Failed (g.P.Places.world c.loop-file.places).faults (g.P.Places.world c.reach.new.self).faults counted
           ∙ c.loop-file.invariant.no_read_failed;
       keeps = keeps_on (g.P.Places.world c.args.places.now) (g.P.Places.world c.loop-file.places) (g.P.Places.world c.reach.new.self)
-          (g.P.Places.world c.loop-file.places).reached
           c.loop-file.invariant.keeps c.reach.ensures.others;
     }

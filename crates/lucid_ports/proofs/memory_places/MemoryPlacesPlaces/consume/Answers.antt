@@ -13,6 +13,7 @@ returns-clause-consumed c =
 pub returns-clause-others : goal.returns-clause-others
 returns-clause-others c = record {
   names = λ _. refl;
+  asked = refl;
   others = λ k other. ap (memory_place c.args.self.now.files.items) (slice_get-set_other c.args.self.now.places.items c.args.place k _ other);
   faults = le_refl _;
 }

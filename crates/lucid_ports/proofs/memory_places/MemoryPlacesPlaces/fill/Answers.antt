@@ -37,6 +37,7 @@ returns c =
           record {
             others = record {
               names = λ _. refl;
+              asked = refl;
               others = λ k other. ap (memory_place files) (slice_get-set_other places.items c.args.place k q other);
               faults = le_refl _;
             };

@@ -29,6 +29,7 @@ returns g c =
           record {
             others = record {
               names = λ _. refl;
+              asked = refl;
               others = λ k other. ap (real_place of_file of_input) (slice_get-set_other places.items c.args.place k q other);
               faults = le_refl _;
             };
@@ -70,6 +71,7 @@ returns-then-is_none g c =
           record {
             others = record {
               names = λ _. refl;
+              asked = refl;
               others = λ k other. ap (real_place of_file of_input) (slice_get-set_other places.items c.args.place k q other);
               faults = omega (arith, c.saturating_add-self.ensures);
             };
