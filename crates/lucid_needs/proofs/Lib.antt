@@ -1,0 +1,5 @@
+pub mod Common
+pub mod SameCells
+pub mod Walking
+pub mod Lines
+pub mod Reaching
