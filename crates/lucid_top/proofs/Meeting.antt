@@ -1,5 +1,5 @@
 -- From how a call comes to its outcome to the clauses of the command.
-use Rattle.lucid_top.proofs.Common.{option_map, all_bytes, ◌≡◌, ℕ, ◌≤◌, Bool, true, false, nat_lt, List, [], length, Some, None, Err, ◌⊎◌, inl, inr, refl, ap, subst, arith, Contents, PlainWords, Told, Refusal, Status, Outcome, Call, form_of, is_certificate, time_asked, Asks, IsWriting, IsTextFor, asks_for, IsRun, by_words, by_text, by_flat, by_names, by_missing, by_judging, by_given, first_place, run_places, run_of, unread_place, view_of, RanSo, ReadsSource, most_read, WritesNothing, TellsFiles, ReadFails, ComesOnly, MeetsClauses, IsMade, reaches_nothing, reaches_source, reaches_inputs, Rests, Comes, ltb-true, ChecksTree, ConsumesNothing, EndsCheck, EndsMaking, HasFiles, IsCheck, IsMaking, IsWellMade, MakesTree, MayCheck, Task, ReadsCertificate, Run, before_checking, before_making, by_certificate, by_checking, by_making, certificate_of, first_input, reaches_certificate, reaches_checked, reaches_made}
+use Rattle.lucid_top.proofs.Common.{option_map, all_bytes, ◌≡◌, ℕ, ◌<◌, ◌≤◌, Bool, true, false, nat_lt, List, [], length, Some, None, Err, ◌⊎◌, inl, inr, refl, ap, subst, arith, Contents, PlainWords, Told, Refusal, Status, Outcome, Call, form_of, is_certificate, time_asked, Asks, IsWriting, IsTextFor, asks_for, IsRun, by_words, by_text, by_flat, by_names, by_missing, by_judging, by_given, first_place, run_places, run_of, unread_place, view_of, RanSo, ReadsSource, most_read, WritesNothing, TellsFiles, ReadFails, ComesOnly, MeetsClauses, IsMade, reaches_nothing, reaches_source, reaches_inputs, Rests, Comes, ltb-true, ChecksTree, ConsumesNothing, EndsCheck, EndsMaking, HasFiles, IsCheck, IsMaking, IsWellMade, MakesTree, MayCheck, Task, ReadsCertificate, Run, before_checking, before_making, by_certificate, by_checking, by_making, certificate_of, first_input, reaches_certificate, reaches_checked, reaches_made}
 use Rattle.std.proofs.Common.{cond}
 use Rattle.lucid_ports.specs.declared.run.RunFault.TheVariants as fault
 use Rattle.lucid_report.specs.declared.refusal.Refusal.TheVariants as refusal
@@ -143,7 +143,7 @@ module _ (l : OneVerdict) (c : Call) (told : TellsFiles c) where
   still r (reaches_certificate m is_made few) q le lt = absurd (run_or_certificate r m refl)
   still r (reaches_checked k is_made few) q le lt = absurd (run_or_certificate r k.may refl)
   still r (reaches_made m is_made few) q le lt = absurd (run_or_certificate r m refl)
-  still r (reaches_inputs s is_made few fresh) = subst (AreJustReached c) (same_run l c told r s is_made) fresh
+  still r (reaches_inputs s is_made few fresh) q le lt = subst (AreJustReached c) (same_run l c told r s is_made) fresh q le lt
 
   rested_bytes : (p : Run) (q : ℕ) (b : Bool) → nat_lt q c.after.reached ≡ b
       → (q < c.after.reached → (c.after.place q).contents ≡ (unread_place c p q).contents)
@@ -155,10 +155,10 @@ module _ (l : OneVerdict) (c : Call) (told : TellsFiles c) where
   gives_so r o (inl early) k n q is =
       let at = in_range (first_input (run_of r).words) (length (run_of r).inputs) k q is.1 in
       rested_bytes (run_of r) q (nat_lt q c.after.reached) refl (still r early.1.reaches q (omega (arith, at.0)))
-  gives_so r o (inr (inl run)) = subst (λ p. GivesBytes (view_of c p)) (same_run l c told r run.0 run.1) run.4
-  gives_so r o (inr (inr (inl writing))) = absurd (run_or_text r writing.0)
-  gives_so r o (inr (inr (inr (inl check)))) = absurd (run_or_certificate r check.0.may refl)
-  gives_so r o (inr (inr (inr (inr made)))) = absurd (run_or_certificate r made.0 refl)
+  gives_so r o (inr (inl run)) k n q is = subst (λ p. GivesBytes (view_of c p)) (same_run l c told r run.0 run.1) run.4 k n q is
+  gives_so r o (inr (inr (inl writing))) k n q is = absurd (run_or_text r writing.0)
+  gives_so r o (inr (inr (inr (inl check)))) k n q is = absurd (run_or_certificate r check.0.may refl)
+  gives_so r o (inr (inr (inr (inr made)))) k n q is = absurd (run_or_certificate r made.0 refl)
 
   writes_so : (x : IsWriting c) (o : Outcome) → ComesOnly c o → How c o → Writes c o (IsTextFor x)
   writes_so x (Err (stop.Refused v)) only (inl early) = absurd (text_not_refused l c told x v early.0.0)
