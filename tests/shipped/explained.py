@@ -49,7 +49,8 @@ def at_a_terminal(run, words, output):
     os.close(terminal)
     said = child.stderr.readline()
     os.write(keyboard, b"7\n\x04")
-    ended = explaining.ended(child).must(output, 0, "")
+    meant = 'If no input is meant: define the name, or write a word between two ", as in "red".\n'
+    ended = explaining.ended(child).must(output, 0, meant)
     os.close(keyboard)
     check(said == b"The input a is read from here, a value on each line.\n", shown(said) + ended.words)
 
@@ -83,7 +84,7 @@ def a_line_of_a_mebibyte(run):
 @case
 def bytes_that_are_no_text(run):
     run.source(b"\xff\x00\x1b[31m")
-    text = "bad byte at 0\np:1:1:\n???[31m\n^\nOnly in comments may other bytes stand than printable ASCII, tabs and line ends.\n"
+    text = "bad byte at 0\np:1:1:\n???[31m\n^\nOnly in comments may other bytes stand than printable ASCII, tabs and line ends. A name has the letters a to z and A to Z, digits and `_`.\n"
     run.explaining().lucid("p").must("", 1, text)
 
 
@@ -113,7 +114,7 @@ def a_full_disk_is_told_of(run):
         raise Skipped("/dev/full")
     with open("/dev/full", "wb") as full:
         ended = run.explaining().lucid("p", stdout=full)
-    said = "write fault\nThe standard output can't be written: the disk may be full, or the pipe closed.\n"
+    said = "write fault\nThe standard output can't be written: the disk may be full. Or a program that reads it has ended, as `head` does: that is no mistake.\n"
     check((ended.status, ended.report) == (4, said.encode()), f"{ended.status}, {shown(ended.report)}")
 
 
@@ -121,3 +122,14 @@ def a_full_disk_is_told_of(run):
 def a_directory_is_no_program(run):
     os.mkdir(run.path("d"))
     run.explaining().lucid("d").must("", 3)
+
+
+@case
+def help_and_version_stand_alone(run):
+    explaining = run.explaining()
+    ended = explaining.lucid("--help").must(None, 0)
+    check(ended.out.startswith(b"lucid_explain runs a pLucid program"), shown(ended.out))
+    with open(os.path.join(run.top, "VERSION"), encoding="utf-8") as version:
+        explaining.lucid("--version").must(f"lucid_explain {version.read().strip()}\n")
+    run.source("1")
+    explaining.lucid("p", "--help").must("", 2)

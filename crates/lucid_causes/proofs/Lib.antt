@@ -1,3 +1,2 @@
-pub mod Only
 pub mod Flat
 pub mod First

@@ -1,9 +1,11 @@
 -- What is said of inputs that have no file: the name of each, where it stands first, and a definition in scope there whose name differs by little.
-use Rattle.std.specs.Prelude.{◌≡◌, ℕ, suc, ◌+◌, ◌*◌, ◌<◌, List, [], ◌∷◌, ◌++◌, length, find, min, max, Bool, ◌&&◌, nat_le, nat_lt, Option, None, Some, Contains, codes, nat_eq}
+use Rattle.std.specs.Prelude.{◌≡◌, ℕ, suc, ◌+◌, ◌*◌, ◌<◌, List, [], ◌∷◌, ◌++◌, length, map, find, min, max, Bool, ◌&&◌, ◌||◌, nat_le, nat_lt, Option, None, Some, Contains, codes, nat_eq}
 use Rattle.std.specs.Borrow.{Bor}
 use Rattle.std.specs.List.{slice_get, flat_map}
 use Rattle.std.specs.Option.{option_or, option_copied}
+use Rattle.std.specs.Char.{to_ascii_lowercase}
 use Rattle.strsim.specs.Edits.{levenshtein_row}
+use Rattle.lucid_value.specs.Plain.{same_bytes}
 use Rattle.lucid_tree.specs.declared.tree.Def.{Def}
 use Rattle.lucid_scope.specs.declared.scoped.Scoped.{Scoped}
 use Rattle.lucid_scope.specs.declared.scoped.Binding.TheVariants.{Input}
@@ -27,12 +29,19 @@ pub record StandsFirst (scoped : Scoped) (stream at : ℕ) : Type 0 where
 abbrev pub edits : (name other : List ℕ) → ℕ
 edits name other = levenshtein_row nat_eq name other (length other)
 
--- They differ by so many letters at most, and each has more than twice as many as they differ by. Names of more than 40 bytes aren't compared.
-abbrev pub is_near : (most : ℕ) → (name other : List ℕ) → Bool
-is_near most name other =
-    nat_le (max (length name) (length other)) 40 && (nat_le (edits name other) most && nat_lt (2 * edits name other) (min (length name) (length other)))
+-- they differ by capital letters alone
+abbrev pub is_alike : (name other : List ℕ) → Bool
+is_alike name other = same_bytes (map to_ascii_lowercase name) (map to_ascii_lowercase other)
 
--- the first definition whose name differs by one letter at most, or else by two
+-- They differ by so many letters at most, and each has more than twice as many as they differ by.
+abbrev pub is_edited : (most : ℕ) → (name other : List ℕ) → Bool
+is_edited most name other = nat_le (edits name other) most && nat_lt (2 * edits name other) (min (length name) (length other))
+
+-- They differ by little. Names of more than 40 bytes aren't compared.
+abbrev pub is_near : (most : ℕ) → (name other : List ℕ) → Bool
+is_near most name other = nat_le (max (length name) (length other)) 40 && (is_alike name other || is_edited most name other)
+
+-- the first definition whose name differs by capitals or one letter at most, or else by two
 abbrev pub nearest : (name : List ℕ) → List Def → Option Def
 nearest name defs = option_or (find (λ d. is_near 1 name d.name) defs) (find (λ d. is_near 2 name d.name) defs)
 
@@ -84,8 +93,11 @@ word_text l = codes " " ++ (name_text l.name.now ++ codes "=FILE")
 abbrev pub lacking_advice : List ℕ
 lacking_advice = codes "A name that nothing defines is an input. One of them may be read from the standard input; give each other a file:"
 
+abbrev pub quoted_advice : List ℕ
+quoted_advice = codes "If a word is meant, it stands between two \", as in \"red\".\n"
+
 abbrev pub inputs_text : (source : List ℕ) → List Lacking → List ℕ
-inputs_text source those = lacking_advice ++ (flat_map word_text those ++ (codes "\n" ++ flat_map (lacking_text source) those))
+inputs_text source those = lacking_advice ++ (flat_map word_text those ++ (codes "\n" ++ (flat_map (lacking_text source) those ++ quoted_advice)))
 
 -- The text tells the inputs of the source that have no file among those given, or the first six; or nothing, where the source is refused.
 pub data TellsInputs (source : List ℕ) (given : List (List ℕ)) (text : List ℕ) : Type 0 where

@@ -1,26 +1,30 @@
 -- What is said before a run reads an input from a terminal.
-use Rattle.std.specs.Prelude.{◌≡◌, ℕ, List, [], ◌++◌, codes, Contains, ◌⊎◌}
+use Rattle.std.specs.Prelude.{◌≡◌, List, ℕ, [], ◌∷◌, ◌++◌, length, codes, Option, None, Some}
+use Rattle.std.specs.Borrow.{Bor}
+use Rattle.lucid_tree.specs.declared.tree.Def.{Def}
 use Rattle.lucid_scope.specs.declared.scoped.Scoped.{Scoped}
-use Rattle.lucid_scope.specs.Scoped.{scoped_tree, scoped_inputs}
+use Rattle.lucid_scope.specs.Scoped.{scoped_tree}
+use Rattle.lucid_causes.specs.declared.inputs.Lacking.{Lacking}
 use Rattle.lucid_explanations.specs.Accepted.{IsProgram, IsTurnedDown}
 use Rattle.lucid_explanations.specs.Definitions.{name_text}
+use Rattle.lucid_causes.specs.Inputs.{AreLacking, near_text}
 
--- Of these inputs the name is one, and the only one without a file among those given.
-pub record IsOnly (inputs given : List (List ℕ)) (name : List ℕ) : Type 0 where
-  pub among : Contains inputs name
-  pub free : Contains given name → ⊥
-  pub others : (n : List ℕ) → Contains inputs n → Contains given n ⊎ (n ≡ name)
+-- what may be meant by a name that nothing defines
+abbrev pub meant_text : (source : List ℕ) → Option (Bor Def) → List ℕ
+meant_text source None = codes "If no input is meant: define the name, or write a word between two \", as in \"red\".\n"
+meant_text source (Some d) = near_text source (Some d)
 
--- None of these inputs is the only one without a file.
-abbrev pub IsNoneOnly : (inputs given : List (List ℕ)) → Type 0
-IsNoneOnly inputs given = (name : List ℕ) → IsOnly inputs given name → ⊥
+abbrev pub prompt_text : (source : List ℕ) → Lacking → List ℕ
+prompt_text source l = codes "The input " ++ (name_text l.name.now ++ (codes " is read from here, a value on each line.\n" ++ meant_text source l.near))
 
-abbrev pub prompt_text : (name : List ℕ) → List ℕ
-prompt_text name = codes "The input " ++ (name_text name ++ codes " is read from here, a value on each line.\n")
+-- what is said of the only input without a file
+abbrev pub only_text : (source : List ℕ) → List Lacking → List ℕ
+only_text source [] = []
+only_text source (l ∷ []) = prompt_text source l
+only_text source (l ∷ other ∷ more) = []
 
--- The text tells the only input of the source without a file; or nothing, where there is no such input or the source is refused.
+-- The text tells the only input of the source without a file, if there is one alone; or nothing, where the source is refused.
 pub data TellsPrompt (source : List ℕ) (given : List (List ℕ)) (text : List ℕ) : Type 0 where
   nothing : IsTurnedDown source → text ≡ [] → TellsPrompt source given text
-  not_one : (scoped : Scoped) → IsProgram source (scoped_tree scoped) → IsNoneOnly (scoped_inputs scoped) given → text ≡ [] → TellsPrompt source given text
-  only : (scoped : Scoped) (name : List ℕ) → IsProgram source (scoped_tree scoped) → IsOnly (scoped_inputs scoped) given name
-      → text ≡ prompt_text name → TellsPrompt source given text
+  lacking : (scoped : Scoped) (those : List Lacking) → IsProgram source (scoped_tree scoped)
+      → AreLacking scoped given (length source) those → text ≡ only_text source those → TellsPrompt source given text

@@ -1,16 +1,17 @@
 //! What is said of a value that is too deep.
-ghost use Rattle.std.specs.Prelude.{◌≡◌, ◌≢◌, ◌+◌, ◌*◌, ◌≤◌, ◌++◌, codes, decimal, IfOk, OnOk};
+ghost use Rattle.std.specs.Prelude.{◌≡◌, ◌≢◌, ◌+◌, ◌*◌, ◌≤◌, ◌++◌, length, codes, decimal, IfOk, OnOk};
 ghost use Rattle.std.specs.Option.{SomeIff};
 ghost use Rattle.lucid_scope.specs.Scoped.{scoped_tree, scoped_binding};
 ghost use Rattle.lucid_cycles.specs.Judgments.{IsJudgment, IsJudgeRefusal};
 ghost use Rattle.lucid_cycles.specs.Laws.{IsDefinedAsJudged};
 ghost use Rattle.lucid_explanations.specs.Accepted.{IsProgram};
-ghost use Rattle.lucid_causes.specs.Depths.{enough_text, cycle_advice, unjudged_advice, meaning_text, judged_text, refusal_text, unjudged_text, TellsDepth};
+ghost use Rattle.lucid_causes.specs.Depths.{enough_text, cycle_advice, is_search, is_call, place_advice, unjudged_advice, meaning_text, judged_text, refusal_text, unjudged_text, TellsDepth};
 
 use lucid_cycles::{JudgeRefusal, Judgment, judge};
 use lucid_expected::put_number;
-use lucid_explanations::scoped_of;
+use lucid_explanations::{begins, name_front, scoped_of};
 use lucid_scope::Scoped;
+use lucid_value::is_reserved;
 use std::alloc::{AllocError, Global};
 
 const MOST_DEPTH: u64 = 1_000_000;
@@ -58,14 +59,53 @@ fn put_enough(text: &mut Vec<u8>, factor: u64, add: u64, time: u64) -> Result<()
 fn cycle_advice() -> &'static [u8]
     ensures { result.now ≡ cycle_advice }
 {
-    b"These names refer to each other without delay: no depth may be enough. An `fby` on the way gives one.\n"
+    b"A value of these names needs one of them at the same time or at a later one: so there may be no depth that is enough. An `fby` leads back by one time, and a `next` forward.\n"
 }
 
-// What is said of a program that isn't judged.
-fn unjudged_advice() -> &'static [u8]
-    ensures { result.now ≡ unjudged_advice }
+// Whether the word is a search.
+fn is_search(word: &[u8]) -> bool
+    ensures { result ≡ is_search word.now }
 {
-    b"\nSo no depth is told for this program. A greater --depth may be enough, up to 1000000.\n"
+    word == b"whenever".as_slice()
+        || word == b"wvr".as_slice()
+        || word == b"asa".as_slice()
+        || word == b"upon".as_slice()
+}
+
+// Whether the rest of a source begins with a name, which is the word, and directly behind it a parenthesis.
+fn is_call(word: &[u8], rest: &[u8]) -> bool
+    requires { length word.now ≤ length rest.now }
+    ensures { result ≡ is_call word.now rest.now }
+{
+    !word.is_empty() && !is_reserved(word) && begins(&rest[word.len()..], b"(")
+}
+
+// What is said of a depth by the word with which the rest of a source begins where it isn't judged.
+fn place_advice(word: &[u8], rest: &[u8]) -> &'static [u8]
+    requires { length word.now ≤ length rest.now }
+    ensures { result.now ≡ place_advice word.now rest.now }
+{
+    if is_search(word) {
+        b"\nHere is a search: it looks at times below the depth limit alone. If its test isn't true often enough there, there may be no depth that is enough.\n"
+    } else if is_call(word, rest) {
+        b"\nHere is a function: one that calls itself without an end has no value at any depth. An `if` that doesn't call it gives an end.\n"
+    } else {
+        b"\nSo no depth is told for this program.\n"
+    }
+}
+
+// What is said of a depth by why a program isn't judged.
+fn unjudged_advice(source: &[u8], refusal: &JudgeRefusal) -> &'static [u8]
+    ensures { result.now ≡ unjudged_advice source.now refusal.now }
+{
+    match refusal {
+        JudgeRefusal::Outside { at } => {
+            let rest = &source[source.len().min(*at as usize)..];
+            place_advice(name_front(rest), rest)
+        }
+        JudgeRefusal::TooMany => b"\nSo no depth is told for this program.\n",
+        JudgeRefusal::NoMemory => b"",
+    }
 }
 
 // Appends what a judgment means for the value at the time.
@@ -105,12 +145,13 @@ fn put_refusal(text: &mut Vec<u8>, refusal: &JudgeRefusal) -> Result<(), AllocEr
 }
 
 // Appends why a program isn't judged, and what that means.
-fn put_unjudged(text: &mut Vec<u8>, refusal: &JudgeRefusal) -> Result<(), AllocError>
-    ensures { OnOk result (text.new.items ≡ text.old.items ++ unjudged_text refusal.now) }
+fn put_unjudged(text: &mut Vec<u8>, source: &[u8], refusal: &JudgeRefusal) -> Result<(), AllocError>
+    ensures { OnOk result (text.new.items ≡ text.old.items ++ unjudged_text source.now refusal.now) }
 {
     text.extend_from_slice(b"`--cycles` says: ")?;
     put_refusal(text, refusal)?;
-    text.extend_from_slice(unjudged_advice())
+    text.extend_from_slice(unjudged_advice(source, refusal))?;
+    text.extend_from_slice(b"A greater --depth may be enough, up to 1000000.\n")
 }
 
 // What is said of a source by its judgment.
@@ -145,7 +186,7 @@ fn text_of_refusal(
     ensures { IfOk result (λ text. TellsDepth source.now time text.items) }
 {
     let mut text = Vec::new(alloc);
-    put_unjudged(&mut text, refusal)?;
+    put_unjudged(&mut text, source, refusal)?;
     Ok(text)
 }
 

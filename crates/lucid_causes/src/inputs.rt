@@ -5,7 +5,7 @@ ghost use Rattle.std.specs.List.{slice_get, flat_map};
 ghost use Rattle.lucid_scope.specs.Scoped.{scoped_tree, scoped_inputs};
 ghost use Rattle.lucid_explanations.specs.Accepted.{IsProgram};
 ghost use Rattle.lucid_causes.specs.declared.inputs.Lacking.{Lacking as Told};
-ghost use Rattle.lucid_causes.specs.Inputs.{StandsAt, StandsFirst, is_near, nearest, IsLacking, IsWanted, AreFirst, AreLacking, near_text, first_text, lacking_text, word_text, inputs_text, TellsInputs};
+ghost use Rattle.lucid_causes.specs.Inputs.{StandsAt, StandsFirst, is_alike, is_edited, is_near, nearest, IsLacking, IsWanted, AreFirst, AreLacking, near_text, first_text, lacking_text, word_text, inputs_text, TellsInputs};
 ghost use Rattle.lucid_explanations.specs.Definitions.{name_text};
 ghost use Rattle.lucid_explanations.specs.Scopes.{lent};
 
@@ -57,7 +57,27 @@ fn first_place(scoped: &Scoped, stream: u32, end: u32) -> Option<u32>
     None
 }
 
+// Whether the two names differ by capital letters alone.
+fn is_alike(alloc: Global, name: &[u8], other: &[u8]) -> Result<bool, AllocError>
+    ensures { IfOk result (λ b. b ≡ is_alike name.now other.now) }
+{
+    let small = name.to_ascii_lowercase(alloc)?;
+    let other_small = other.to_ascii_lowercase(alloc)?;
+    Ok(small.as_slice() == other_small.as_slice())
+}
+
 // Whether the two names differ by so many letters at most, and both have others besides.
+fn is_edited(alloc: Global, name: &[u8], other: &[u8], most: usize) -> Result<bool, AllocError>
+    requires few { most ≤ 2 }
+    requires short { length name.now ≤ 40 }
+    requires other_short { length other.now ≤ 40 }
+    ensures { IfOk result (λ b. b ≡ is_edited most name.now other.now) }
+{
+    let edits = generic_levenshtein(alloc, name, other)?;
+    Ok(edits <= most && 2 * edits < name.len().min(other.len()))
+}
+
+// Whether the two names differ by little.
 fn is_near(alloc: Global, name: &[u8], other: &[u8], most: usize) -> Result<bool, AllocError>
     requires { most ≤ 2 }
     ensures { IfOk result (λ b. b ≡ is_near most name.now other.now) }
@@ -65,8 +85,7 @@ fn is_near(alloc: Global, name: &[u8], other: &[u8], most: usize) -> Result<bool
     if name.len().max(other.len()) > MOST_COMPARED {
         return Ok(false);
     }
-    let edits = generic_levenshtein(alloc, name, other)?;
-    Ok(edits <= most && 2 * edits < name.len().min(other.len()))
+    Ok(is_alike(alloc, name, other)? || is_edited(alloc, name, other, most)?)
 }
 
 // The first definition whose name differs by so many letters at most.
@@ -126,8 +145,8 @@ fn lacking_of<'a>(
     Ok(Some(Lacking { name, at, near }))
 }
 
-/// Whether a file is given for the name.
-pub(crate) fn is_given(given: &[Name], name: &Name) -> bool
+// Whether a file is given for the name.
+fn is_given(given: &[Name], name: &Name) -> bool
     ensures { IsTrue result ↔ Contains given.now name.now }
 {
     given.iter().any(|other| other.same(name))
@@ -177,8 +196,8 @@ fn add_lacking<'a>(
     }
 }
 
-// The inputs without a file among those given that stand before the end, or the first six of them.
-fn all_lacking<'a>(
+/// The inputs without a file among those given that stand before the end, or the first six of them.
+pub(crate) fn all_lacking<'a>(
     alloc: Global,
     scoped: &'a Scoped,
     end: u32,
@@ -198,8 +217,12 @@ fn all_lacking<'a>(
     Ok(those)
 }
 
-// Appends a definition that may be meant.
-fn put_near(text: &mut Vec<u8>, source: &[u8], near: Option<&Def>) -> Result<(), AllocError>
+/// Appends a definition that may be meant.
+pub(crate) fn put_near(
+    text: &mut Vec<u8>,
+    source: &[u8],
+    near: Option<&Def>,
+) -> Result<(), AllocError>
     requires { length source.now ≤ 1048576 }
     ensures { OnOk result (text.new.items ≡ text.old.items ++ near_text source.now near.entry) }
 {
@@ -264,7 +287,8 @@ fn put_inputs(text: &mut Vec<u8>, source: &[u8], those: &[Lacking<'_>]) -> Resul
     )?;
     put_words(text, those)?;
     text.extend_from_slice(b"\n")?;
-    put_all(text, source, those)
+    put_all(text, source, those)?;
+    text.extend_from_slice(b"If a word is meant, it stands between two \", as in \"red\".\n")
 }
 
 // What is said of the inputs of a source by what its names belong to.

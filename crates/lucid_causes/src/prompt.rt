@@ -1,68 +1,49 @@
 //! What is said before a run reads an input from a terminal.
-ghost use Rattle.std.specs.Prelude.{◌≡◌, ◌≤◌, ◌++◌, length, IfOk, IfSome, IfNone, OnOk};
+ghost use Rattle.std.specs.Prelude.{◌≡◌, ◌≤◌, ◌++◌, length, IfOk, OnOk};
 ghost use Rattle.lucid_scope.specs.Scoped.{scoped_tree, scoped_inputs};
-ghost use Rattle.lucid_tree.specs.Members.{AllDiffer};
 ghost use Rattle.lucid_explanations.specs.Accepted.{IsProgram};
-ghost use Rattle.lucid_causes.specs.Prompts.{IsOnly, IsNoneOnly, prompt_text, TellsPrompt};
+ghost use Rattle.lucid_causes.specs.Prompts.{meant_text, prompt_text, only_text, TellsPrompt};
 
-use crate::inputs::is_given;
+use crate::inputs::{Lacking, all_lacking, put_near};
 use lucid_explanations::{put_name, scoped_of};
 use lucid_scope::Scoped;
+use lucid_tree::Def;
 use lucid_value::Name;
 use std::alloc::{AllocError, Global};
 
-// The only one of these inputs without a file among those given; none where there are several, or there is none.
-#[tactic(auto, using(crate::proofs::Only::passed_seconded))]
-fn only_lacking<'a>(inputs: &'a [Name], given: &[Name]) -> Option<&'a Name>
-    requires { AllDiffer inputs.now }
-    ensures only { IfSome result (λ name. IsOnly inputs.entry.now given.now name.now) }
-    ensures none { IfNone result (IsNoneOnly inputs.entry.now given.now) }
+// Appends what may be meant by a name that nothing defines.
+fn put_meant(text: &mut Vec<u8>, source: &[u8], near: Option<&Def>) -> Result<(), AllocError>
+    requires { length source.now ≤ 1048576 }
+    ensures { OnOk result (text.new.items ≡ text.old.items ++ meant_text source.now near.entry) }
 {
-    let mut only = None;
-    for name in inputs {
-        if !is_given(given, name) {
-            if only.is_some() {
-                return None;
-            }
-            only = Some(name);
-        }
+    if near.is_none() {
+        return text.extend_from_slice(
+            b"If no input is meant: define the name, or write a word between two \", as in \"red\".\n",
+        );
     }
-    only
+    put_near(text, source, near)
 }
 
 // Appends that the input is read.
-fn put_prompt(text: &mut Vec<u8>, name: &Name) -> Result<(), AllocError>
-    ensures { OnOk result (text.new.items ≡ text.old.items ++ prompt_text name.now) }
+fn put_prompt(text: &mut Vec<u8>, source: &[u8], lacking: &Lacking<'_>) -> Result<(), AllocError>
+    requires { length source.now ≤ 1048576 }
+    ensures { OnOk result (text.new.items ≡ text.old.items ++ prompt_text source.now lacking.now) }
 {
     text.extend_from_slice(b"The input ")?;
-    put_name(text, name.bytes())?;
-    text.extend_from_slice(b" is read from here, a value on each line.\n")
+    put_name(text, lacking.name.bytes())?;
+    text.extend_from_slice(b" is read from here, a value on each line.\n")?;
+    put_meant(text, source, lacking.near)
 }
 
-// What is said of the input of this name, which is the only one without a file.
-fn text_of_prompt(
-    alloc: Global,
-    source: &[u8],
-    scoped: &Scoped,
-    given: &[Name],
-    name: &Name,
-) -> Result<Vec<u8>, AllocError>
-    requires program { IsProgram source.now (scoped_tree scoped.now) }
-    requires only { IsOnly (scoped_inputs scoped.now) given.now name.now }
-    ensures { IfOk result (λ text. TellsPrompt source.now given.now text.items) }
+// Appends what is said of the only input without a file.
+fn put_only(text: &mut Vec<u8>, source: &[u8], those: &[Lacking<'_>]) -> Result<(), AllocError>
+    requires { length source.now ≤ 1048576 }
+    ensures { OnOk result (text.new.items ≡ text.old.items ++ only_text source.now those.now) }
 {
-    let mut text = Vec::new(alloc);
-    put_prompt(&mut text, name)?;
-    Ok(text)
-}
-
-// What is said of a source of whose inputs none is the only one without a file.
-fn text_of_none(alloc: Global, source: &[u8], scoped: &Scoped, given: &[Name]) -> Vec<u8>
-    requires program { IsProgram source.now (scoped_tree scoped.now) }
-    requires none { IsNoneOnly (scoped_inputs scoped.now) given.now }
-    ensures { TellsPrompt source.now given.now result.items }
-{
-    Vec::new(alloc)
+    match those {
+        [lacking] => put_prompt(text, source, lacking),
+        _ => Ok(()),
+    }
 }
 
 // What is said of a source by what its names belong to.
@@ -72,17 +53,19 @@ fn text_of_scoped(
     scoped: &Scoped,
     given: &[Name],
 ) -> Result<Vec<u8>, AllocError>
-    requires { IsProgram source.now (scoped_tree scoped.now) }
+    requires short { length source.now ≤ 1048576 }
+    requires program { IsProgram source.now (scoped_tree scoped.now) }
+    requires few { length (scoped_inputs scoped.now) ≤ 1048576 }
     ensures { IfOk result (λ text. TellsPrompt source.now given.now text.items) }
 {
-    match only_lacking(scoped.inputs(), given) {
-        Some(name) => text_of_prompt(alloc, source, scoped, given, name),
-        None => Ok(text_of_none(alloc, source, scoped, given)),
-    }
+    let those = all_lacking(alloc, scoped, source.len() as u32, given)?;
+    let mut text = Vec::new(alloc);
+    put_only(&mut text, source, &those)?;
+    Ok(text)
 }
 
-/// What is said before the standard input is read, which is a terminal: the name of the only input of a source for which no file is given.
-/// Nothing where there is no such input, or of a source that is refused.
+/// What is said before the standard input is read, which is a terminal: the name of the only input of a source for which no file is given, and
+/// what may be meant by it. Nothing where there is no such input, or of a source that is refused.
 pub fn explain_prompt(alloc: Global, source: &[u8], given: &[Name]) -> Result<Vec<u8>, AllocError>
     ensures { IfOk result (λ text. TellsPrompt source.now given.now text.items) }
 {

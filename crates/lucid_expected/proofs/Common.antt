@@ -1,5 +1,5 @@
 -- What the proofs of this crate take of std, and what two of them or more cite of other modules, passed on from one place. Declares nothing.
-pub use Rattle.lucid_expected.specs.Syntax.{read_at, syntax_text}
+pub use Rattle.lucid_expected.specs.Syntax.{syntax_text}
 pub use Rattle.std.proofs.Common.{Bool, Err, List, Ok, Result, [], ap, arith, codes, drop, false, get_or, inl, inr, length, length-drop, map, refl, replicate, subst, suc, sym, take, true, zero, ℕ, ◌*◌, ◌++◌, ◌+◌, ◌-◌, ◌<◌, ◌∙◌, ◌∷◌, ◌≡◌, ◌≤◌}
 pub use Rattle.std.proofs.lemmas.Bool.{cases_lt}
 pub use Rattle.std.proofs.lemmas.Grind.{common_steps}

@@ -13,8 +13,8 @@ const MOST_SHOWN: usize = 160;
 
 const MOST_BEFORE: usize = 80;
 
-// How many bytes stand before the next line end.
-fn len_in_line(rest: &[u8]) -> usize
+/// How many bytes stand before the next line end.
+pub(crate) fn len_in_line(rest: &[u8]) -> usize
     ensures value { result ≡ prefix_len stands_in_line rest.now }
     ensures within { result ≤ length rest.now }
 {

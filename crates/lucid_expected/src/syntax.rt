@@ -1,42 +1,20 @@
 //! What is said of tokens that spell no program.
-ghost use Rattle.std.specs.Prelude.{◌≡◌, ◌≤◌, ◌++◌, List, length, slice_range, codes, OnOk};
+ghost use Rattle.std.specs.Prelude.{◌≡◌, ◌≤◌, ◌++◌, List, length, codes, OnOk};
 ghost use Rattle.std.specs.List.{join_by};
 ghost use Rattle.lucid_scan.specs.Tokens.{Tokens};
 ghost use Rattle.lucid_expected.specs.declared.candidates.Candidate.{Candidate as Told};
 ghost use Rattle.lucid_expected.specs.Standing.{AreStanding};
-ghost use Rattle.lucid_expected.specs.Syntax.{read_at, read_line, told_of, standing_line, has, is_closing, definition_slip, slip, syntax_text};
+ghost use Rattle.lucid_expected.specs.Around.{plain_around, around_at};
+ghost use Rattle.lucid_expected.specs.Syntax.{read_line, told_of, standing_line, syntax_text};
 
+use crate::around::{Around, around_at};
 use crate::candidates::{Candidate, standing};
+use crate::hints::hint;
 use crate::shown::{put_place, put_shown};
 use lucid_scan::Token;
-use lucid_scan::laws::tokens_are_in_order;
-use lucid_value::is_reserved;
 use std::alloc::{AllocError, Global};
 
 const MOST_READ: usize = 40;
-
-// The text of a token.
-fn text_of<'a>(source: &'a [u8], token: &Token) -> &'a [u8]
-    requires order { token.now.from ≤ token.now.to }
-    requires within { token.now.to ≤ length source.now }
-    ensures { result.now ≡ slice_range source.entry.now token.now.from token.now.to }
-{
-    &source[token.from as usize..token.to as usize]
-}
-
-// The text of the token that begins at the place; none at the end of the source.
-fn read_at<'a>(source: &'a [u8], tokens: &[Token], at: u32) -> &'a [u8]
-    requires { Tokens source.now 0 tokens.now }
-    ensures { result.now ≡ read_at source.entry.now tokens.now at }
-{
-    tokens_are_in_order();
-    for token in tokens {
-        if token.from == at {
-            return text_of(source, token);
-        }
-    }
-    &[]
-}
 
 // Appends what stands at the place.
 fn put_read(text: &mut Vec<u8>, read: &[u8]) -> Result<(), AllocError>
@@ -76,69 +54,24 @@ fn put_standing(text: &mut Vec<u8>, those: &[Candidate]) -> Result<(), AllocErro
     text.extend_from_slice(b".\n")
 }
 
-// Whether a token with the text is one of those.
-fn has(text: &[u8], those: &[Candidate]) -> bool
-    ensures { result ≡ has text.now those.now }
-{
-    those.iter().any(|candidate| candidate.text == text)
-}
-
-// Whether this ends an expression, or is the end of the source.
-fn is_closing(read: &[u8]) -> bool
-    ensures { result ≡ is_closing read.now }
-{
-    matches!(read, b";" | b"end" | b")" | b"," | b"fi" | b"")
-}
-
-// A hint at a common slip in a definition.
-fn definition_slip(read: &[u8], those: &[Candidate]) -> &'static [u8]
-    ensures { result.now ≡ definition_slip read.now those.now }
-{
-    let closes = is_closing(read);
-    if closes && has(b";", those) {
-        b"Each definition ends with `;`, the last one before `end` too.\n"
-    } else if closes && has(b"end", those) {
-        b"Behind `where` come the definitions, and then `end`.\n"
-    } else if has(b"end", those) && is_reserved(read) {
-        b"This word is reserved: no name is spelled so.\n"
-    } else {
-        b""
-    }
-}
-
-// A hint at a common slip.
-fn slip(read: &[u8], those: &[Candidate]) -> &'static [u8]
-    ensures { result.now ≡ slip read.now those.now }
-{
-    let closes = is_closing(read);
-    if read == b"=".as_slice() {
-        b"`=` stands in definitions alone: to compare, write `eq`.\n"
-    } else if closes && has(b"fi", those) {
-        b"An `if` ends with `fi`.\n"
-    } else if closes && has(b"else", those) {
-        b"An `if` has an `else`, and ends with `fi`.\n"
-    } else {
-        definition_slip(read, those)
-    }
-}
-
-// Appends what is said of a place at which this is read, and those may stand.
+// Appends what is said of a place about which this stands, and at which those may stand.
 fn put_said(
+    alloc: Global,
     text: &mut Vec<u8>,
     file: &[u8],
     source: &[u8],
     at: u32,
-    read: &[u8],
+    around: &Around<'_>,
     those: &[Candidate],
 ) -> Result<(), AllocError>
     requires within { at ≤ length source.now }
     requires short { length source.now ≤ 1048576 }
-    ensures { OnOk result (text.new.items ≡ text.old.items ++ syntax_text file.now source.now at read.now those.now) }
+    ensures { OnOk result (text.new.items ≡ text.old.items ++ syntax_text file.now source.now at (plain_around around.now) those.now) }
 {
     put_place(text, file, source, at as usize)?;
-    put_read(text, read)?;
+    put_read(text, around.read)?;
     put_standing(text, those)?;
-    text.extend_from_slice(slip(read, those))
+    text.extend_from_slice(hint(alloc, around, those)?)
 }
 
 /// Appends what is said of the tokens of a source that go wrong at the place: what stands there; some of the tokens that may stand there, at
@@ -155,9 +88,9 @@ pub fn put_syntax(
     requires short { length source.now ≤ 1048576 }
     requires scanned { Tokens source.now 0 tokens.now }
     ensures { OnOk result ((those : List Told) × AreStanding source.now at those
-        × (text.new.items ≡ text.old.items ++ syntax_text file.now source.now at (read_at source.now tokens.now at) those)) }
+        × (text.new.items ≡ text.old.items ++ syntax_text file.now source.now at (around_at source.now tokens.now at) those)) }
 {
-    let read = read_at(source, tokens, at);
+    let around = around_at(source, tokens, at);
     let those = standing(alloc, source, at as usize)?;
-    put_said(text, file, source, at, read, &those)
+    put_said(alloc, text, file, source, at, &around, &those)
 }

@@ -1,13 +1,13 @@
 //! The command `lucid_explain`: does what `lucid` does, and explains what it reports.
 #![tactic(auto)]
 
-ghost use Rattle.std.specs.Prelude.{◌≡◌, ◌≢◌};
+ghost use Rattle.std.specs.Prelude.{◌≡◌, ◌≢◌, Ok, Err, OnOk};
 ghost use Rattle.std.specs.Process.{exit_status};
 ghost use Rattle.lucid_report.specs.Status.{code_of};
 
-use lucid_explained::{RealOutlook, lucid_explain_from_arguments};
-use lucid_ports::{RealPlaces, RealSink};
-use lucid_report::{Refusal, Status, Stop, tell};
+use lucid_explained::{RealOutlook, lucid_explain_from_arguments, text_asked};
+use lucid_ports::{PortFault, RealPlaces, RealSink, write_whole};
+use lucid_report::{Done, Refusal, Status, Stop, tell};
 use std::fs::File;
 use std::io::ErrorKind;
 use std::process::ExitCode;
@@ -31,6 +31,19 @@ fn all_arguments(rt: &HostRuntime) -> Result<Vec<String>, Stop> {
     Ok(arguments)
 }
 
+// What comes of writing a text that is asked for.
+fn outcome_of(written: Result<(), PortFault>) -> Result<Done, Stop>
+    ensures whole { OnOk written (result ≡ Ok Done.Written) }
+    ensures failed { written ≡ Err PortFault.Failed → result ≡ Err Stop.WriteFault }
+    ensures memory { written ≡ Err PortFault.NoMemory → result ≡ Err Stop.NoMemory }
+{
+    match written {
+        Ok(()) => Ok(Done::Written),
+        Err(PortFault::Failed) => Err(Stop::WriteFault),
+        Err(PortFault::NoMemory) => Err(Stop::NoMemory),
+    }
+}
+
 // The status of a call over the real files and streams.
 fn real_status(rt: &HostRuntime) -> Status {
     let mut report = RealSink::make(rt.stderr());
@@ -38,9 +51,13 @@ fn real_status(rt: &HostRuntime) -> Status {
         Ok(arguments) => arguments,
         Err(stop) => return tell(&mut report, &Err(stop)),
     };
+    let mut out = RealSink::make(rt.stdout());
+    if let Some(text) = text_asked(&arguments) {
+        let outcome = outcome_of(write_whole(&mut out, text));
+        return tell(&mut report, &outcome);
+    }
     let mut places = RealPlaces::make(rt.alloc(), rt);
     let outlook = RealOutlook::make(rt);
-    let mut out = RealSink::make(rt.stdout());
     lucid_explain_from_arguments(
         rt.alloc(),
         &arguments,

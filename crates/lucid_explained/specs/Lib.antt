@@ -3,3 +3,4 @@ pub mod Lines
 pub mod Said
 pub mod Prompted
 pub mod Explained
+pub mod Help

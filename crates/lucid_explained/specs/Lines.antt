@@ -15,7 +15,7 @@ is_blank b = b == 32
 
 abbrev pub store_text : (line : List ℕ) → List ℕ
 store_text line =
-    if nat_lt (count_by is_blank line) 5 then codes "With --stats the report of a run tells whether the store was cleared.\n"
+    if nat_lt (count_by is_blank line) 5 then []
     else if ends line (codes " cleared 0\n") then codes "The store wasn't cleared.\n"
     else codes "The store was cleared on the way: more than 1,000,000 contexts were known. So values were computed anew, which wants more depth.\n"
 
@@ -51,7 +51,7 @@ run_text line =
     if begins line (codes "no input is named ") then codes "A word gives a file for this name, but in the program it isn't free: leave the word out, or mend the name.\n"
     else if begins line (codes "no input for two names") then codes "A name that nothing defines is an input. One of them may be read from the standard input; give each other a file, as in NAME=FILE. Often such a name is misspelt.\n"
     else if begins line (codes "input ") then codes "An element of this input that is needed ends past the bytes of it that may be read, 268,435,456.\n"
-    else if begins line (codes "write fault") then codes "The standard output can't be written: the disk may be full, or the pipe closed.\n"
+    else if begins line (codes "write fault") then codes "The standard output can't be written: the disk may be full. Or a program that reads it has ended, as `head` does: that is no mistake.\n"
     else if begins line (codes "no memory") then codes "There is not memory enough. A smaller --depth needs less, and so does --policy last with a small --room.\n"
     else program_text line
 

@@ -4,6 +4,7 @@ use Rattle.std.specs.Borrow.{Bor}
 use Rattle.std.specs.Char.{is_ascii_digit}
 use Rattle.std.specs.List.{flat_map, list_any, prefix_len, slice_get}
 use Rattle.clap.specs.Words.{Text}
+use Rattle.lucid_value.specs.Plain.{same_bytes}
 use Rattle.lucid_texts.specs.Words.{number_of}
 use Rattle.lucid_words.specs.Plain.{PlainSource, file, made}
 use Rattle.lucid_words.specs.Asked.{PlainWords, words_asked}
@@ -214,10 +215,21 @@ is_right_with words end = is_some (words_asked (words ++ end))
 abbrev pub goes_on : (words : List Text) → Bool
 goes_on words = list_any (is_right_with words) tried
 
+-- what stands before the `=` of a word
+abbrev pub option_of : (word : Text) → List ℕ
+option_of word = take (prefix_len (λ b. not (b == 61)) word) word
+
+-- an option with a number of this range
+abbrev pub is_number_option : (option : List ℕ) → Bool
+is_number_option option =
+    same_bytes option (codes "--count") || same_bytes option (codes "--depth") || same_bytes option (codes "--age") || same_bytes option (codes "--room")
+
 abbrev pub word_advice : (word : Text) → List ℕ
 word_advice word =
-    if begins word (codes "-") then codes "The line above has the options, each of which is given once at most; of --print, --columns, --cycles, --why, --check, --flat and --from-flat one alone is given.\n"
-    else codes "What an option wants stands behind it, in the range that the manual gives. Then comes the program's file, and then NAME=FILE for each input that has a file.\n"
+    if is_number_option (option_of word) then codes "This option has a number from 1 to 1,000,000, and is given once at most.\n"
+    else if same_bytes (option_of word) (codes "--policy") then codes "The policies are keep, none, age and last, and the option is given once at most.\n"
+    else if begins word (codes "-") then codes "The line above has the options, each of which is given once at most; of --print, --columns, --cycles, --why, --check, --flat and --from-flat one alone is given.\n"
+    else codes "What an option wants stands behind it: of --count, --depth, --age and --room a number from 1 to 1,000,000. Then comes the program's file, and then NAME=FILE for each input that has a file.\n"
 
 abbrev pub wrong_text : (word : Text) → List ℕ
 wrong_text word = codes "This word doesn't go with those before it: " ++ (shown_text word ++ (codes "\n" ++ word_advice word))

@@ -2,12 +2,14 @@
 #![tactic(auto)]
 
 pub use crate::command::{lucid_explain, lucid_explain_from_arguments};
+pub use crate::help::text_asked;
 pub use crate::lines::line_text;
 pub use crate::outlook::{Again, Outlook, RealOutlook};
 
 mod causes;
 mod command;
 mod faults;
+mod help;
 mod judgments;
 mod lines;
 mod outlook;

@@ -30,7 +30,7 @@ fn store_text(line: &[u8]) -> &'static [u8]
     ensures { result.now ≡ store_text line.now }
 {
     if count_blanks(line) < 5 {
-        b"With --stats the report of a run tells whether the store was cleared.\n"
+        b""
     } else if ends(line, b" cleared 0\n") {
         b"The store wasn't cleared.\n"
     } else {
@@ -98,7 +98,7 @@ fn run_text(line: &[u8]) -> &'static [u8]
     } else if begins(line, b"input ") {
         b"An element of this input that is needed ends past the bytes of it that may be read, 268,435,456.\n"
     } else if begins(line, b"write fault") {
-        b"The standard output can't be written: the disk may be full, or the pipe closed.\n"
+        b"The standard output can't be written: the disk may be full. Or a program that reads it has ended, as `head` does: that is no mistake.\n"
     } else if begins(line, b"no memory") {
         b"There is not memory enough. A smaller --depth needs less, and so does --policy last with a small --room.\n"
     } else {

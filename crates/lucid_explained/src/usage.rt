@@ -1,8 +1,9 @@
 //! What is said of words that are refused.
-ghost use Rattle.std.specs.Prelude.{◌≡◌, ℕ, ◌<◌, ◌+◌, ◌++◌, length, min, map, take, true, false, IfOk, IfSome, IfNone, OnOk};
+ghost use Rattle.std.specs.Prelude.{◌≡◌, ℕ, ◌<◌, ◌+◌, ◌++◌, length, min, map, take, true, false, not, ◌==◌, IfOk, IfSome, IfNone, OnOk};
 ghost use Rattle.std.specs.String.{string_bytes};
+ghost use Rattle.std.specs.List.{prefix_len};
 ghost use Rattle.clap.specs.Words.{Text as Word};
-ghost use Rattle.lucid_explained.specs.Said.{goes_on, is_right_with, word_advice, wrong_text, lacking_text, texts_of, SaysWords};
+ghost use Rattle.lucid_explained.specs.Said.{goes_on, is_right_with, option_of, is_number_option, word_advice, wrong_text, lacking_text, texts_of, SaysWords};
 
 use crate::faults::put_front;
 use crate::lines::begins;
@@ -75,14 +76,44 @@ fn first_wrong(alloc: Global, words: &[String]) -> Result<Option<usize>, AllocEr
     Ok(None)
 }
 
+// How many bytes stand before the `=` of a word.
+fn len_of_option(word: &[u8]) -> usize
+    ensures value { result ≡ prefix_len (λ b. not (b == 61)) word.now }
+    ensures within { result ≤ length word.now }
+{
+    word.iter().take_while(|byte| **byte != b'=').count()
+}
+
+// What stands before the `=` of a word.
+fn option_of(word: &[u8]) -> &[u8]
+    ensures { result.now ≡ option_of word.now }
+{
+    &word[..len_of_option(word)]
+}
+
+// Whether this is an option with a number from 1 to 1,000,000.
+fn is_number_option(option: &[u8]) -> bool
+    ensures { result ≡ is_number_option option.now }
+{
+    option == b"--count".as_slice()
+        || option == b"--depth".as_slice()
+        || option == b"--age".as_slice()
+        || option == b"--room".as_slice()
+}
+
 // What is said of a word, by its beginning.
 fn word_advice(word: &[u8]) -> &'static [u8]
     ensures { result.now ≡ word_advice word.now }
 {
-    if begins(word, b"-") {
+    let option = option_of(word);
+    if is_number_option(option) {
+        b"This option has a number from 1 to 1,000,000, and is given once at most.\n"
+    } else if option == b"--policy".as_slice() {
+        b"The policies are keep, none, age and last, and the option is given once at most.\n"
+    } else if begins(word, b"-") {
         b"The line above has the options, each of which is given once at most; of --print, --columns, --cycles, --why, --check, --flat and --from-flat one alone is given.\n"
     } else {
-        b"What an option wants stands behind it, in the range that the manual gives. Then comes the program's file, and then NAME=FILE for each input that has a file.\n"
+        b"What an option wants stands behind it: of --count, --depth, --age and --room a number from 1 to 1,000,000. Then comes the program's file, and then NAME=FILE for each input that has a file.\n"
     }
 }
 

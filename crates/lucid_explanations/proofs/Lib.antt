@@ -5,3 +5,4 @@ pub mod Rising
 pub mod Again
 pub mod Twice
 pub mod Verdicts
+pub mod CharacterLemmas

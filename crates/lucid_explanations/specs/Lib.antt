@@ -1,3 +1,4 @@
+pub mod Characters
 pub mod Advice
 pub mod Reported
 pub mod Sources

@@ -15,7 +15,8 @@ use Rattle.lucid_expected.specs.Shown.{place_text}
 use Rattle.lucid_expected.specs.Standing.{AreStanding}
 use Rattle.lucid_explanations.specs.Reported.{scan_line, syntax_line, nested_line, names_line}
 use Rattle.lucid_explanations.specs.Advice.{scan_text}
-use Rattle.lucid_expected.specs.Syntax.{read_at, syntax_text}
+use Rattle.lucid_expected.specs.Around.{around_at}
+use Rattle.lucid_expected.specs.Syntax.{syntax_text}
 use Rattle.lucid_explanations.specs.Names.{names_text}
 
 abbrev pub nested_advice : List ℕ
@@ -30,7 +31,7 @@ depth_text file source at = place_text file source (min (length source) at) ++ n
 pub data Explains (file source line text : List ℕ) : Type 0 where
   by_scan : (why : ScanRefusal) → why ≢ scanned.NoMemory → Refuses source why → line ≡ scan_line why → text ≡ scan_text file source why → Explains file source line text
   by_syntax : (tokens : List Token) (at : ℕ) (those : List Candidate) → HasTokens source tokens → IsRefused source tokens (refusal.Syntax at) → AreStanding source at those
-      → line ≡ syntax_line at → text ≡ syntax_text file source at (read_at source tokens at) those → Explains file source line text
+      → line ≡ syntax_line at → text ≡ syntax_text file source at (around_at source tokens at) those → Explains file source line text
   by_depth : (tokens : List Token) (at : ℕ) → HasTokens source tokens → IsRefused source tokens (refusal.TooNested at)
       → line ≡ nested_line at → text ≡ depth_text file source at → Explains file source line text
   by_names : (tree : PlainTree) (why : ScopeRefusal) → IsSpelt source tree → IsLeastFault tree why

@@ -3,13 +3,16 @@
 
 pub use crate::accepted::scoped_of;
 pub use crate::advice::put_scan;
+pub use crate::characters::begins;
 pub use crate::columns::explain_columns;
 pub use crate::definitions::{put_definition, put_name};
+pub use crate::names::name_front;
 pub use crate::scopes::find_in_scope;
 pub use crate::sources::{Explanation, explain_source};
 
 mod accepted;
 mod advice;
+mod characters;
 mod columns;
 mod definitions;
 pub mod laws;

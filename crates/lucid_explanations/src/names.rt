@@ -55,9 +55,10 @@ fn len_of_name(rest: &[u8]) -> usize
     rest.iter().take_while(|byte| is_name_byte(**byte)).count()
 }
 
-// The bytes of a name with which the rest of a source begins.
-fn name_front(rest: &[u8]) -> &[u8]
-    ensures { result.now ≡ name_front rest.now }
+/// The bytes of a name with which the rest of a source begins.
+pub fn name_front(rest: &[u8]) -> &[u8]
+    ensures value { result.now ≡ name_front rest.entry.now }
+    ensures within { length result.now ≤ length rest.entry.now }
 {
     &rest[..len_of_name(rest)]
 }

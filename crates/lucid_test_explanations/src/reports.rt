@@ -37,7 +37,7 @@ static BYTES: [Row; 10] = [
         words: "p",
         source: "[% 1, 2 %]",
         status: Status::Refused,
-        report: "open text at 0\np:1:1:\n[% 1, 2 %]\n^\nA list of constants is written `[% 1 2 3 %]`, with blanks between its items and no commas.\n",
+        report: "open text at 0\np:1:1:\n[% 1, 2 %]\n^\nA list of constants is written `[% 1 2 3 %]`, with blanks between its items and no commas. Of computed items it is `a :: b :: []`.\n",
     },
     Row {
         words: "p",
@@ -55,7 +55,7 @@ static BYTES: [Row; 10] = [
         words: "p",
         source: "[1, 2]",
         status: Status::Refused,
-        report: "bad byte at 0\np:1:1:\n[1, 2]\n^\nA list of constants is written `[% 1 2 3 %]`, with blanks between its items and no commas.\n",
+        report: "bad byte at 0\np:1:1:\n[1, 2]\n^\nA list of constants is written `[% 1 2 3 %]`, with blanks between its items and no commas. Of computed items it is `a :: b :: []`.\n",
     },
     Row {
         words: "p",
@@ -95,7 +95,7 @@ static TOKENS: [Row; 7] = [
         words: "p",
         source: "if 1 < 2 then 3 else 4\n;",
         status: Status::Refused,
-        report: "syntax at 23\np:2:1:\n;\n^\nHere stands `;`.\nWhat may stand here: `fi`, `where`, an operator.\nAn `if` ends with `fi`.\n",
+        report: "syntax at 23\np:2:1:\n;\n^\nHere stands `;`.\nWhat may stand here: `fi`, `where`, an operator.\nEach `if` ends with a `fi` of its own.\n",
     },
     Row {
         words: "p",
@@ -119,7 +119,303 @@ static TOKENS: [Row; 7] = [
         words: "p",
         source: "",
         status: Status::Refused,
-        report: "syntax at 0\np:1:1:\n\n^\nHere the source ends.\nWhat may stand here: a name, a number, `(`, `if`.\n",
+        report: "syntax at 0\np:1:1:\n\n^\nHere the source ends.\nWhat may stand here: a name, a number, `(`, `if`.\nA program begins with an expression, and its definitions stand behind `where`: `n where n = 1; end`.\n",
+    },
+];
+
+// A source, how its report begins, and how it ends.
+#[derive(Clone, Copy)]
+struct Ends {
+    source: &'static [u8],
+    begin: &'static str,
+    end: &'static str,
+}
+
+// Tokens that go wrong, with the hint that ends the report.
+static HINTS: [Ends; 42] = [
+    Ends {
+        source: b"n = 0 fby n + 1;",
+        begin: "syntax at 2\n",
+        end: ".\nA program begins with an expression, and its definitions stand behind `where`: `n where n = 1; end`. To compare, write `eq`.\n",
+    },
+    Ends {
+        source: b"if x == 1 then 2 else 3 fi",
+        begin: "syntax at 5\n",
+        end: ".\n`=` stands in definitions alone: to compare, write `eq`.\n",
+    },
+    Ends {
+        source: b"n => 3",
+        begin: "syntax at 2\n",
+        end: ".\nTo compare, write `>=`.\n",
+    },
+    Ends {
+        source: b"n =< 3",
+        begin: "syntax at 2\n",
+        end: ".\nTo compare, write `<=`.\n",
+    },
+    Ends {
+        source: b"k where k = current n; end",
+        begin: "syntax at 12\n",
+        end: ".\nWrite `k is current n;`, without `=`.\n",
+    },
+    Ends {
+        source: b"1 < n < 5",
+        begin: "syntax at 6\n",
+        end: ".\nComparisons don't chain: write `1 < n and n < 5`.\n",
+    },
+    Ends {
+        source: b"p eq not p",
+        begin: "syntax at 5\n",
+        end: ".\nHere `not` stands in parentheses, as in `a eq (not b)`.\n",
+    },
+    Ends {
+        source: b"1 if n < 3 else 2",
+        begin: "syntax at 2\n",
+        end: ".\nA choice is written `if .. then .. else .. fi`.\n",
+    },
+    Ends {
+        source: b"if a then 1 elif b then 2 else 3 fi",
+        begin: "syntax at 12\n",
+        end: ".\nWrite `else if .. then .. else .. fi fi`: each `if` ends with a `fi` of its own.\n",
+    },
+    Ends {
+        source: b"n where -- a clock\n n = 1; end",
+        begin: "syntax at 8\n",
+        end: ".\nA comment begins with `//`.\n",
+    },
+    Ends {
+        source: b"n where n = 0 fby n++; end",
+        begin: "syntax at 20\n",
+        end: ".\nThere is no `++`: write `n + 1`.\n",
+    },
+    Ends {
+        source: b"f() where f() = 3; end",
+        begin: "syntax at 2\n",
+        end: ".\nA function has one argument at least: what has none is a plain name, without parentheses.\n",
+    },
+    Ends {
+        source: b"n where n is 0 fby n + 1; end",
+        begin: "syntax at 13\n",
+        end: ".\nBehind `is` stands `current`: a definition is written with `=`.\n",
+    },
+    Ends {
+        source: b"f(1) where f(x) = return x * 2; end",
+        begin: "syntax at 25\n",
+        end: ".\nThere is no `return`: the right side of `=` is the value.\n",
+    },
+    Ends {
+        source: b"2n",
+        begin: "syntax at 1\n",
+        end: ".\nA product is written with `*`, as in `2 * n`.\n",
+    },
+    Ends {
+        source: b"where n = 1; end",
+        begin: "syntax at 0\n",
+        end: ".\nA program begins with an expression, and its definitions stand behind `where`: `n where n = 1; end`.\n",
+    },
+    Ends {
+        source: b"// clock\r1\r",
+        begin: "syntax at 11\n",
+        end: ".\nA comment goes on to a byte 10: here a byte 13 alone ends the lines.\n",
+    },
+    Ends {
+        source: b"n where n += 1; end",
+        begin: "syntax at 10\n",
+        end: ".\nA name is defined once, for all times: `n = 0 fby n + 1;`.\n",
+    },
+    Ends {
+        source: b"n where my-sum = 1; end",
+        begin: "syntax at 10\n",
+        end: ".\nA name has letters, digits and `_` alone.\n",
+    },
+    Ends {
+        source: b"n where let n = 1; end",
+        begin: "syntax at 12\n",
+        end: ".\nA definition begins with the name that it defines, and then `=`: `n = 1;`.\n",
+    },
+    Ends {
+        source: b"f(1) where f(0) = 1; end",
+        begin: "syntax at 13\n",
+        end: ".\nA parameter is a name. A value that depends on it is written with `if`.\n",
+    },
+    Ends {
+        source: b"length where length = 3; end",
+        begin: "syntax at 7\n",
+        end: ".\nThe word before this is an operator, behind which an expression stands. It is reserved: no name is spelled so.\n",
+    },
+    Ends {
+        source: b"1 where n = 1; end;",
+        begin: "syntax at 18\n",
+        end: ".\nBefore this the program is whole: leave out what stands behind.\n",
+    },
+    Ends {
+        source: b"1 where n = 1; end\n2",
+        begin: "syntax at 19\n",
+        end: ".\nBefore this the program is whole: leave out what stands behind.\n",
+    },
+    Ends {
+        source: b"(1))",
+        begin: "syntax at 3\n",
+        end: ".\nBefore this no `(` is open: leave it out.\n",
+    },
+    Ends {
+        source: b"x, y where x = 1; y = 2; end",
+        begin: "syntax at 1\n",
+        end: ".\nA program has one subject. Names of its block are written side by side by `--columns x,y`.\n",
+    },
+    Ends {
+        source: b"(1, 2)",
+        begin: "syntax at 2\n",
+        end: ".\nParentheses that are no call have one expression in them: a list is `x :: y :: []`.\n",
+    },
+    Ends {
+        source: b"f(1) where f(x = x; end",
+        begin: "syntax at 15\n",
+        end: ".\nA `(` stands open before this: its `)` is missing.\n",
+    },
+    Ends {
+        source: b"n where not = 1; end",
+        begin: "syntax at 8\n",
+        end: ".\nThis word is reserved: no name is spelled so.\n",
+    },
+    Ends {
+        source: b"f(1) where f(not) = 1; end",
+        begin: "syntax at 13\n",
+        end: ".\nThis word is reserved: no name is spelled so.\n",
+    },
+    Ends {
+        source: b"n where n = 3end",
+        begin: "syntax at 13\n",
+        end: ".\nEach definition ends with `;`, the last one before `end` too.\n",
+    },
+    Ends {
+        source: b"// clock\r\n",
+        begin: "syntax at 10\n",
+        end: ".\nA program begins with an expression, and its definitions stand behind `where`: `n where n = 1; end`.\n",
+    },
+    Ends {
+        source: b"n n = 1; end",
+        begin: "syntax at 2\n",
+        end: ".\nIs `where` missing before the definitions?\n",
+    },
+    Ends {
+        source: b"(n + 1 where n = 1; end",
+        begin: "syntax at 23\n",
+        end: ".\nA `(` stands open before this: its `)` is missing.\n",
+    },
+    Ends {
+        source: b"x + y where\n  x = 1\n  y = 2;\nend",
+        begin: "syntax at 22\n",
+        end: ".\nIs the `;` missing at the end of the line before?\n",
+    },
+    Ends {
+        source: b"h where\n  h = n // 2;\n  n = 1;\nend",
+        begin: "syntax at 24\n",
+        end: ".\nIs the `;` missing at the end of the line before? A comment begins there with `//`: whole division is `div`.\n",
+    },
+    Ends {
+        source: b"n\n  n = 1;\nend",
+        begin: "syntax at 4\n",
+        end: ".\nIs `where` missing before the definitions?\n",
+    },
+    Ends {
+        source: b"if n < 3 1 else 2 fi",
+        begin: "syntax at 9\n",
+        end: ".\nBehind the test of an `if` stands `then`.\n",
+    },
+    Ends {
+        source: b"square n where square(x) = x * x; end",
+        begin: "syntax at 7\n",
+        end: ".\nIs an operator or `where` missing before this? Arguments stand in parentheses: `f(x)`.\n",
+    },
+    Ends {
+        source: b"x + y where x = y y = 2; end",
+        begin: "syntax at 18\n",
+        end: ".\nEach definition ends with `;`, the last one before `end` too.\n",
+    },
+    Ends {
+        source: b"n Where n = 1; end",
+        begin: "syntax at 2\n",
+        end: ".\nReserved words are spelled in small letters, as `where` and `if`.\n",
+    },
+    Ends {
+        source: b"If n > 3 Then 1 Else 0 Fi",
+        begin: "syntax at 3\n",
+        end: ".\nReserved words are spelled in small letters, as `where` and `if`.\n",
+    },
+];
+
+// Bytes that are no tokens, the same.
+static CHARACTERS: [Ends; 14] = [
+    Ends {
+        source: b"\xef\xbb\xbf1",
+        begin: "bad byte at 0\n",
+        end: "^\nA byte order mark stands here: save the file without it.\n",
+    },
+    Ends {
+        source: b"\xff\xfe1\x00",
+        begin: "bad byte at 0\n",
+        end: "^\nThis file is UTF-16: save it as ASCII or UTF-8.\n",
+    },
+    Ends {
+        source: b"1 +\xc2\xa02",
+        begin: "bad byte at 3\n",
+        end: "^\nA blank that doesn't break stands here: write a plain one.\n",
+    },
+    Ends {
+        source: b"\xe2\x80\x9cred\xe2\x80\x9d",
+        begin: "bad byte at 0\n",
+        end: "^\nHere stands a typographic quotation mark: a word stands between two plain \", as in \"red\".\n",
+    },
+    Ends {
+        source: b"\xe2\x80\x98two words\xe2\x80\x99",
+        begin: "bad byte at 0\n",
+        end: "^\nHere stands a typographic quotation mark: a string begins with a backquote and ends with a plain ', as `two words'.\n",
+    },
+    Ends {
+        source: b"n \xe2\x80\x93 1",
+        begin: "bad byte at 2\n",
+        end: "^\nHere stands a dash: minus is the plain `-`.\n",
+    },
+    Ends {
+        source: b"n \xe2\x89\xa4 3",
+        begin: "bad byte at 2\n",
+        end: "^\nWrite `<=`.\n",
+    },
+    Ends {
+        source: b"n \xe2\x89\xa0 3",
+        begin: "bad byte at 2\n",
+        end: "^\nWrite `ne`.\n",
+    },
+    Ends {
+        source: b"n \xc3\x97 3",
+        begin: "bad byte at 2\n",
+        end: "^\nA product is written with `*`.\n",
+    },
+    Ends {
+        source: b"n \xc3\xb7 3",
+        begin: "bad byte at 2\n",
+        end: "^\nWhole division is `div`, and what it leaves over is `mod`.\n",
+    },
+    Ends {
+        source: b"gr\xc3\xb6sse",
+        begin: "bad byte at 2\n",
+        end: "^\nOnly in comments may other bytes stand than printable ASCII, tabs and line ends. A name has the letters a to z and A to Z, digits and `_`.\n",
+    },
+    Ends {
+        source: b"x' where x' = 1; end",
+        begin: "bad byte at 1\n",
+        end: "^\nA name has letters, digits and `_` alone.\n",
+    },
+    Ends {
+        source: b"n[0]",
+        begin: "bad byte at 1\n",
+        end: "^\nThe value of n at time 2 is `n attime 2`, and item 2 of a list l, from 0, is `nth(l, 2)`.\n",
+    },
+    Ends {
+        source: b"1 + 'dog'",
+        begin: "bad byte at 4\n",
+        end: "^\nA string begins with a backquote and ends with ' in one line, as `two words'. It has printable ASCII alone, without these two.\n",
     },
 ];
 
@@ -193,13 +489,13 @@ static INPUTS: [Row; 6] = [
         words: "p",
         source: "a + b",
         status: Status::Refused,
-        report: "no input for two names\nA name that nothing defines is an input. One of them may be read from the standard input; give each other a file: a=FILE b=FILE\na stands first in line 1, column 1.\nb stands first in line 1, column 5.\n",
+        report: "no input for two names\nA name that nothing defines is an input. One of them may be read from the standard input; give each other a file: a=FILE b=FILE\na stands first in line 1, column 1.\nb stands first in line 1, column 5.\nIf a word is meant, it stands between two \", as in \"red\".\n",
     },
     Row {
         words: "p",
         source: "summ + b where sum = 1; end",
         status: Status::Refused,
-        report: "no input for two names\nA name that nothing defines is an input. One of them may be read from the standard input; give each other a file: summ=FILE b=FILE\nsumm stands first in line 1, column 1.\nIt may be misspelt: sum is defined in line 1, column 16.\nb stands first in line 1, column 8.\n",
+        report: "no input for two names\nA name that nothing defines is an input. One of them may be read from the standard input; give each other a file: summ=FILE b=FILE\nsumm stands first in line 1, column 1.\nIt may be misspelt: sum is defined in line 1, column 16.\nb stands first in line 1, column 8.\nIf a word is meant, it stands between two \", as in \"red\".\n",
     },
     Row {
         words: "p b=p",
@@ -228,7 +524,7 @@ static INPUTS: [Row; 6] = [
 ];
 
 // Words that are refused.
-static WORDS: [Row; 4] = [
+static WORDS: [Row; 7] = [
     Row {
         words: "p --print --cycles",
         source: "1",
@@ -239,13 +535,13 @@ static WORDS: [Row; 4] = [
         words: "--count 0 p",
         source: "1",
         status: Status::Usage,
-        report: "usage: lucid [--count N] [--depth N] [--policy keep|none|age|last] [--age K] [--room N] [--stats] [--print] [--columns LIST] [--cycles] [--why T] [--check FILE] [--flat] [--from-flat] PROGRAM [NAME=FILE]... | lucid --make N\nThis word doesn't go with those before it: 0\nWhat an option wants stands behind it, in the range that the manual gives. Then comes the program's file, and then NAME=FILE for each input that has a file.\n",
+        report: "usage: lucid [--count N] [--depth N] [--policy keep|none|age|last] [--age K] [--room N] [--stats] [--print] [--columns LIST] [--cycles] [--why T] [--check FILE] [--flat] [--from-flat] PROGRAM [NAME=FILE]... | lucid --make N\nThis word doesn't go with those before it: 0\nWhat an option wants stands behind it: of --count, --depth, --age and --room a number from 1 to 1,000,000. Then comes the program's file, and then NAME=FILE for each input that has a file.\n",
     },
     Row {
         words: "p p a=f",
         source: "1",
         status: Status::Usage,
-        report: "usage: lucid [--count N] [--depth N] [--policy keep|none|age|last] [--age K] [--room N] [--stats] [--print] [--columns LIST] [--cycles] [--why T] [--check FILE] [--flat] [--from-flat] PROGRAM [NAME=FILE]... | lucid --make N\nThis word doesn't go with those before it: p\nWhat an option wants stands behind it, in the range that the manual gives. Then comes the program's file, and then NAME=FILE for each input that has a file.\n",
+        report: "usage: lucid [--count N] [--depth N] [--policy keep|none|age|last] [--age K] [--room N] [--stats] [--print] [--columns LIST] [--cycles] [--why T] [--check FILE] [--flat] [--from-flat] PROGRAM [NAME=FILE]... | lucid --make N\nThis word doesn't go with those before it: p\nWhat an option wants stands behind it: of --count, --depth, --age and --room a number from 1 to 1,000,000. Then comes the program's file, and then NAME=FILE for each input that has a file.\n",
     },
     Row {
         words: "p a=f --depth",
@@ -253,10 +549,28 @@ static WORDS: [Row; 4] = [
         status: Status::Usage,
         report: "usage: lucid [--count N] [--depth N] [--policy keep|none|age|last] [--age K] [--room N] [--stats] [--print] [--columns LIST] [--cycles] [--why T] [--check FILE] [--flat] [--from-flat] PROGRAM [NAME=FILE]... | lucid --make N\nBehind these words something lacks: the program's file, or what an option wants.\n",
     },
+    Row {
+        words: "p --count=all",
+        source: "1",
+        status: Status::Usage,
+        report: "usage: lucid [--count N] [--depth N] [--policy keep|none|age|last] [--age K] [--room N] [--stats] [--print] [--columns LIST] [--cycles] [--why T] [--check FILE] [--flat] [--from-flat] PROGRAM [NAME=FILE]... | lucid --make N\nThis word doesn't go with those before it: --count=all\nThis option has a number from 1 to 1,000,000, and is given once at most.\n",
+    },
+    Row {
+        words: "p --policy=lru",
+        source: "1",
+        status: Status::Usage,
+        report: "usage: lucid [--count N] [--depth N] [--policy keep|none|age|last] [--age K] [--room N] [--stats] [--print] [--columns LIST] [--cycles] [--why T] [--check FILE] [--flat] [--from-flat] PROGRAM [NAME=FILE]... | lucid --make N\nThis word doesn't go with those before it: --policy=lru\nThe policies are keep, none, age and last, and the option is given once at most.\n",
+    },
+    Row {
+        words: "p --counter=3",
+        source: "1",
+        status: Status::Usage,
+        report: "usage: lucid [--count N] [--depth N] [--policy keep|none|age|last] [--age K] [--room N] [--stats] [--print] [--columns LIST] [--cycles] [--why T] [--check FILE] [--flat] [--from-flat] PROGRAM [NAME=FILE]... | lucid --make N\nThis word doesn't go with those before it: --counter=3\nThe line above has the options, each of which is given once at most; of --print, --columns, --cycles, --why, --check, --flat and --from-flat one alone is given.\n",
+    },
 ];
 
 // Runs that don't end well.
-static RUNS: [Row; 5] = [
+static RUNS: [Row; 7] = [
     Row {
         words: "p a=none",
         source: "a",
@@ -267,25 +581,37 @@ static RUNS: [Row; 5] = [
         words: "--depth 9 p",
         source: "x where x = x; end",
         status: Status::TooDeep,
-        report: "too deep at time 0\n`--cycles` says: cycle x at 8: sum 0\nThese names refer to each other without delay: no depth may be enough. An `fby` on the way gives one.\nWith --stats the report of a run tells whether the store was cleared.\n",
+        report: "too deep at time 0\n`--cycles` says: cycle x at 8: sum 0\nA value of these names needs one of them at the same time or at a later one: so there may be no depth that is enough. An `fby` leads back by one time, and a `next` forward.\n",
     },
     Row {
         words: "--depth 9 --stats p",
         source: "x where x = x; end",
         status: Status::TooDeep,
-        report: "too deep at time 0 lost 0 cleared 0\n`--cycles` says: cycle x at 8: sum 0\nThese names refer to each other without delay: no depth may be enough. An `fby` on the way gives one.\nThe store wasn't cleared.\n",
+        report: "too deep at time 0 lost 0 cleared 0\n`--cycles` says: cycle x at 8: sum 0\nA value of these names needs one of them at the same time or at a later one: so there may be no depth that is enough. An `fby` leads back by one time, and a `next` forward.\nThe store wasn't cleared.\n",
     },
     Row {
         words: "--depth 1 p",
         source: "x where x = y + 1; y = 0 fby x; end",
         status: Status::TooDeep,
-        report: "too deep at time 0\n`--cycles` says: depth 2 * t + 3\nSo --depth 3 is enough for time 0.\nWith --stats the report of a run tells whether the store was cleared.\n",
+        report: "too deep at time 0\n`--cycles` says: depth 2 * t + 3\nSo --depth 3 is enough for time 0.\n",
     },
     Row {
         words: "--depth 3 p",
         source: "x attime 9 where x = 0 fby x + 1; end",
         status: Status::TooDeep,
-        report: "too deep at time 0\n`--cycles` says: not judged at 2\nSo no depth is told for this program. A greater --depth may be enough, up to 1000000.\nWith --stats the report of a run tells whether the store was cleared.\n",
+        report: "too deep at time 0\n`--cycles` says: not judged at 2\nSo no depth is told for this program.\nA greater --depth may be enough, up to 1000000.\n",
+    },
+    Row {
+        words: "--depth 9 p",
+        source: "n whenever n < 0 where n = 0 fby n + 1; end",
+        status: Status::TooDeep,
+        report: "too deep at time 0\n`--cycles` says: not judged at 2\nHere is a search: it looks at times below the depth limit alone. If its test isn't true often enough there, there may be no depth that is enough.\nA greater --depth may be enough, up to 1000000.\n",
+    },
+    Row {
+        words: "--depth 9 p",
+        source: "f(1) where f(x) = x * f(x - 1); end",
+        status: Status::TooDeep,
+        report: "too deep at time 0\n`--cycles` says: not judged at 0\nHere is a function: one that calls itself without an end has no value at any depth. An `if` that doesn't call it gives an end.\nA greater --depth may be enough, up to 1000000.\n",
     },
 ];
 
@@ -337,7 +663,7 @@ static OTHERS: [Row; 10] = [
         words: "--why 0 p",
         source: "x where x = x; end",
         status: Status::TooDeep,
-        report: "too deep at time 0\n`--cycles` says: cycle x at 8: sum 0\nThese names refer to each other without delay: no depth may be enough. An `fby` on the way gives one.\nWith --stats the report of a run tells whether the store was cleared.\n",
+        report: "too deep at time 0\n`--cycles` says: cycle x at 8: sum 0\nA value of these names needs one of them at the same time or at a later one: so there may be no depth that is enough. An `fby` leads back by one time, and a `next` forward.\n",
     },
     Row {
         words: "p",
@@ -371,6 +697,27 @@ fn bytes_are_explained(rt: HostRuntime) -> Result<(), Fail> {
 #[test]
 fn tokens_are_explained(rt: HostRuntime) -> Result<(), Fail> {
     each_passes(&rt, &TOKENS)
+}
+
+// The reports begin and end so.
+fn each_ends<R: Abort + AllocGlobal>(rt: &R, rows: &[Ends]) -> Result<(), Fail> {
+    for row in rows {
+        let answer = plain_call(rt.alloc(), "p", row.source)?;
+        let report = answer.report.as_str();
+        assert!(rt; report.starts_with(row.begin), "{report}");
+        assert!(rt; report.ends_with(row.end), "{report}");
+    }
+    Ok(())
+}
+
+#[test]
+fn hints_are_given(rt: HostRuntime) -> Result<(), Fail> {
+    each_ends(&rt, &HINTS)
+}
+
+#[test]
+fn characters_are_told(rt: HostRuntime) -> Result<(), Fail> {
+    each_ends(&rt, &CHARACTERS)
 }
 
 #[test]
@@ -431,7 +778,7 @@ fn a_write_fault_is_explained(rt: HostRuntime) -> Result<(), Fail> {
     };
     let answer = call(rt.alloc(), "p", b"1", &[0], &outlook)?;
     let wanted =
-        "write fault\nThe standard output can't be written: the disk may be full, or the pipe closed.\n";
+        "write fault\nThe standard output can't be written: the disk may be full. Or a program that reads it has ended, as `head` does: that is no mistake.\n";
     assert!(rt; answer.tells(Status::WriteFault, wanted));
     Ok(())
 }
@@ -442,12 +789,17 @@ fn a_terminal_is_told_of(rt: HostRuntime) -> Result<(), Fail> {
         (
             "p",
             "a",
-            "The input a is read from here, a value on each line.\nread fault\n",
+            "The input a is read from here, a value on each line.\nIf no input is meant: define the name, or write a word between two \", as in \"red\".\nread fault\n",
         ),
         (
             "p a=p",
             "a + b",
-            "The input b is read from here, a value on each line.\nread fault\n",
+            "The input b is read from here, a value on each line.\nIf no input is meant: define the name, or write a word between two \", as in \"red\".\nread fault\n",
+        ),
+        (
+            "p",
+            "N where n = 1; end",
+            "The input N is read from here, a value on each line.\nIt may be misspelt: n is defined in line 1, column 9.\nread fault\n",
         ),
         ("p", "eod", ""),
         ("--print p", "a", ""),

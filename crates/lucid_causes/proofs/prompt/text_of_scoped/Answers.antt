@@ -1,7 +1,11 @@
-use Rattle.std.proofs.Common.{ℕ, List, subst}
-use Rattle.lucid_causes.specs.Prompts.{IsNoneOnly}
+use Rattle.std.proofs.Common.{ℕ, List, ◌++◌, ap, ◌∙◌}
+use Rattle.lucid_causes.specs.declared.inputs.Lacking.{Lacking}
+use Rattle.lucid_causes.specs.Prompts.{only_text, lacking}
 use Rattle.lucid_causes.proofs.prompt.text_of_scoped.Goals as goal
 
-pub text_of_none-requires-clause-none : goal.text_of_none-requires-clause-none
-text_of_none-requires-clause-none c =
-    let P : List (List ℕ) → Type 0 = λ names. IsNoneOnly names c.args.given.now in subst P c.inputs.ensures.value c.in-None.ensures.none
+pub returns : goal.returns
+returns c =
+    lacking c.args.scoped.now c.in_ok-those.those.items c.requires.program c.in_ok-those.ensures
+    (c.in_ok-put_only.ensures
+    ∙ ap (λ (z : List ℕ). z ++ only_text c.args.source.now c.deref.result.now) c.new-text.ensures.items
+    ∙ ap (λ (those : List Lacking). only_text c.args.source.now those) c.deref.ensures.value)

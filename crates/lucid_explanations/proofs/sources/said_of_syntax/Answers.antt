@@ -1,6 +1,7 @@
 use Rattle.std.proofs.Common.{ℕ, List, ◌++◌, ap, ◌∙◌}
 use Rattle.lucid_expected.proofs.Begun.{fault_within}
-use Rattle.lucid_expected.specs.Syntax.{read_at, syntax_text}
+use Rattle.lucid_expected.specs.Around.{around_at}
+use Rattle.lucid_expected.specs.Syntax.{syntax_text}
 use Rattle.lucid_explanations.specs.Reported.{syntax_line}
 use Rattle.lucid_explanations.specs.Sources.{by_syntax}
 use Rattle.lucid_explanations.proofs.sources.said_of_syntax.Goals as goal
@@ -15,5 +16,5 @@ returns c =
     by_syntax c.args.tokens.now c.args.at said.0 (record { short = c.requires.short; listed = c.requires.scanned }) c.requires.refused said.1
     (c.in_ok-put_line_at.ensures ∙ ap (λ (z : List ℕ). z ++ syntax_line c.args.at) c.new-line.ensures.items)
     (said.2
-    ∙ ap (λ (z : List ℕ). z ++ syntax_text c.args.file.now c.args.source.now c.args.at (read_at c.args.source.now c.args.tokens.now c.args.at) said.0)
+    ∙ ap (λ (z : List ℕ). z ++ syntax_text c.args.file.now c.args.source.now c.args.at (around_at c.args.source.now c.args.tokens.now c.args.at) said.0)
     c.new-text.ensures.items)
