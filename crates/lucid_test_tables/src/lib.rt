@@ -10,6 +10,8 @@ mod flat;
 #[cfg(test)]
 mod flat_texts;
 #[cfg(test)]
+mod origins;
+#[cfg(test)]
 mod runs;
 #[cfg(test)]
 mod sound;

@@ -1,11 +1,13 @@
 -- How a call comes to its outcome that checks a certificate.
 use Rattle.lucid_top.proofs.Common.{◌≡◌, ℕ, ◌+◌, ◌≤◌, List, length, Some, Ok, Err, inl, inr, sym, ap, subst, ◌∙◌, arith, IfSome, slice_get, World, most_source_bytes, rises_from, file, PlainWords, Stop, Outcome, Call, of_tree, FitsGiven, files_for, Asks, by_certificate, MayCheck, IsCheck, IsSource, IsSourceStop, IsReadStop, KeepsNames, AreFresh, Run, first_place, first_input, certificate_of, run_places, viewed, view_of, Why, HeldCertificate, RefusesCertificate, Checks, CheckComesOnly, IsStopped, PlainTree, Table, ComesOnly, WritesNothing, reaches_certificate, reaches_checked, Rests, ProvesTable, Comes, range_with_len}
+use Rattle.lucid_compile.specs.Settled.{table_of as tree_table}
 use Rattle.lucid_session.specs.Subject.{table_stream, tree_stream}
 use Rattle.lucid_report.specs.declared.stop.Done.TheVariants as done
 use Rattle.lucid_report.specs.declared.stop.Stop.TheVariants as stop
 use Rattle.lucid_top.specs.declared.task.Task.TheVariants as task
 use Rattle.lucid_top.specs.Runs.{most_places, world_before, world_after}
-use Rattle.lucid_top.proofs.Certifying.{words_are, first_is, has_files, places_are}
+use Rattle.lucid_top.proofs.TreeTables.{keeps_it}
+use Rattle.lucid_top.proofs.Certifying.{words_are, inputs_are, first_is, has_files, places_are}
 use Rattle.lucid_top.proofs.Ending.{first_place_le, inputs_unread, place_stops}
 use Rattle.lucid_top.proofs.RunEnds.{Reached, run_with, one_run, files_long, tells_alike}
 use Rattle.lucid_top.proofs.Proving.{by_the_tree, checks_alike}
@@ -16,6 +18,9 @@ module _ (c : Call) (w : PlainWords) (t : Table) (v : World) (b : ProvesTable c 
 
   words : asks.words ≡ w
   words = words_are c task.Check w t v b
+
+  named : t.inputs ≡ b.names.free
+  named = inputs_are c task.Check w t v b
 
   -- the place of the certificate comes behind the source's
   one_more : first_input w ≡ first_place w.source + 1
@@ -97,7 +102,7 @@ module _ (c : Call) (w : PlainWords) (t : Table) (v : World) (b : ProvesTable c 
           → CheckComesOnly t.inputs x.faults c.after.faults c.out_before.faults c.out_after.faults o → (IsStopped o → WritesNothing c) → ComesOnly c o
       only x (Ok done.Written) le mono h silent = inr (inl is_check)
       only x (Err (stop.Wrong n)) le mono h silent = (is_check, silent tt)
-      only x (Err (stop.TooLarge stream name)) le mono h silent = inr (inl (is_check, subst (λ names. slice_get names stream ≡ Some name) b.table.names h))
+      only x (Err (stop.TooLarge stream name)) le mono h silent = inr (inl (is_check, subst (λ names. slice_get names stream ≡ Some name) named h))
       only x (Err stop.ReadFault) le mono h silent = rises_from c.before.faults x.faults c.after.faults le mono h
       only x (Err stop.WriteFault) le mono h silent = h
       only x (Err stop.NoMemory) le mono h silent = tt
@@ -119,13 +124,16 @@ module _ (c : Call) (w : PlainWords) (t : Table) (v : World) (b : ProvesTable c 
           let by_tree_checks : Checks t (tree_stream tree) why
           (viewed w t.inputs (range_with_len (first_input w) (length t.inputs)) x c.after c.out_before c.out_after) o =
           subst (λ qs. Checks t (tree_stream tree) why (viewed w t.inputs qs x c.after c.out_before c.out_after) o) numbers_are
-          (by_the_tree t tree why (viewed w t.inputs numbers x c.after c.out_before c.out_after) o b.table.keeps checks) in
+          (by_the_tree t tree why (viewed w t.inputs numbers x c.after c.out_before c.out_after) o
+          (keeps_it tree free t b.is b.table) checks) in
           let there : Checks t (tree_stream tree) why (view_of c run) o =
           checks_alike t (tree_stream tree) why w t.inputs (range_with_len (first_input w) (length t.inputs)) x c.after (world_before c run) (world_after c run)
           c.out_before c.out_after alike o by_tree_checks in
-          let same_run : run ≡ certificate_of may = one_run (of_tree tree) (sym words) b.table.names in
+          let same_run : run ≡ certificate_of may = one_run (of_tree tree) (sym words) named in
           let here : Checks t (tree_stream tree) why (view_of c (certificate_of may)) o =
           subst (λ p. Checks t (tree_stream tree) why (view_of c p) o) same_run there in
+          let by_its_table : Checks (tree_table tree free) (tree_stream tree) why (view_of c (certificate_of may)) o =
+          subst (λ (u : Table). Checks u (tree_stream tree) why (view_of c (certificate_of may)) o) b.is here in
           let one = first_place_le w.source in
           let more = one_more in
           let first_at = first_here in
@@ -135,6 +143,6 @@ module _ (c : Call) (w : PlainWords) (t : Table) (v : World) (b : ProvesTable c 
           let kept_before = kept_all.faults in
           record {
             only = only x o (omega (arith, kept_before, kept_faults)) mono outcomes checks.silent;
-            how = inr (inr (inr (inl (is_check, b.made, (t, b.table, here), omega (arith, same, reach, long, first_at, all)))));
+            how = inr (inr (inr (inl (is_check, b.made, (b.table, by_its_table), omega (arith, same, reach, long, first_at, all)))));
             few_places = omega (arith, same, reach, long, few, first_at, more, one);
           }

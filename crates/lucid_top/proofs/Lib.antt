@@ -28,6 +28,7 @@ pub mod LastLine
 pub mod Unread
 pub mod Proving
 pub mod Promising
+pub mod TreeTables
 pub mod Certifying
 pub mod CheckEnds
 pub mod MakingEnds

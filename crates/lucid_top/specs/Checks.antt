@@ -7,10 +7,8 @@ use Rattle.lucid_tree.specs.Levels.{Elements}
 use Rattle.lucid_ports.specs.World.{Contents}
 use Rattle.lucid_ports.specs.Faults.{Rises}
 use Rattle.lucid_inputs.specs.Streams.{all_bytes}
-use Rattle.lucid_equations.specs.Rows.{equations_of}
-use Rattle.lucid_equations.specs.Sound.{IsSound}
 use Rattle.lucid_equations.specs.declared.table.Table.{Table}
-use Rattle.lucid_compile.specs.Promise.{KeepsTree}
+use Rattle.lucid_compile.specs.Settled.{table_of as tree_table}
 use Rattle.lucid_why.specs.Certificates.{PlainJudgment}
 use Rattle.lucid_why.specs.declared.rows.Why.{Why}
 use Rattle.lucid_follow.specs.Follows.{contexts, AllFollow, IsRight}
@@ -26,13 +24,8 @@ use Rattle.lucid_report.specs.declared.stop.Stop.TheVariants as stop
 use Rattle.lucid_report.specs.Status.{Outcome}
 use Rattle.lucid_report.specs.Lines.{line_at}
 use Rattle.lucid_top.specs.Running.{IsLargeStop}
+use Rattle.lucid_top.specs.Tables.{HasSoundTable}
 use Rattle.lucid_top.specs.Writing.{WritesSome, WritesOnly}
-
--- The table of a tree: it is sound, keeps the tree, and has inputs of these names.
-pub record IsTableOf (p : PlainTree) (inputs : List (List ℕ)) (T : Table) : Type 0 where
-  pub sound : IsSound T
-  pub keeps : KeepsTree (equations_of T) p
-  pub names : T.inputs ≡ inputs
 
 -- the last judgment of a certificate
 abbrev pub IsLast : Why → PlainJudgment → Type 0
@@ -106,9 +99,9 @@ pub record Checks (T : Table) (x : OneStream) (w : Why) (r : RunView) (o : Outco
   pub consumed : ConsumesFor T w r (looked_at w o)
   pub within : ReadsWithin r
 
--- It is a check by a table of the tree.
+-- It is a check by the table of the tree.
 abbrev pub ChecksTree : PlainTree → Why → RunView → Outcome → Type 0
-ChecksTree p w r o = (T : Table) × IsTableOf p r.names T × Checks T (tree_stream p) w r o
+ChecksTree p w r o = HasSoundTable p r.names × Checks (tree_table p r.names) (tree_stream p) w r o
 
 -- A check over inputs of these names has such outcomes alone. The counts of faults are those of the places and of the output.
 abbrev pub CheckComesOnly : (inputs : List (List ℕ)) → (faults faults' out_faults out_faults' : ℕ) → Outcome → Type 0

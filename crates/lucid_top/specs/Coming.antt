@@ -9,13 +9,15 @@ use Rattle.lucid_top.specs.declared.task.Task.{Task}
 use Rattle.lucid_report.specs.declared.refusal.Refusal.{Refusal}
 use Rattle.lucid_report.specs.declared.stop.Stop.TheVariants as stop
 use Rattle.lucid_equations.specs.declared.table.Table.{Table}
+use Rattle.lucid_compile.specs.Settled.{table_of as tree_table}
 use Rattle.lucid_session.specs.Runs.{RunView}
 use Rattle.lucid_report.specs.Status.{Outcome}
 use Rattle.lucid_top.specs.Tasks.{task_of, form_of, time_asked}
 use Rattle.lucid_top.specs.Programs.{beside}
+use Rattle.lucid_top.specs.Tables.{HasSoundTable}
 use Rattle.lucid_top.specs.Places.{KeepsNames, CountsNoRead, CountsNoWrite, ReadsSource, ReadsCertificate, most_read}
 use Rattle.lucid_top.specs.Sources.{first_place}
-use Rattle.lucid_top.specs.Checks.{IsTableOf, ChecksTree}
+use Rattle.lucid_top.specs.Checks.{ChecksTree}
 use Rattle.lucid_top.specs.Makes.{MakesTree}
 use Rattle.lucid_top.specs.declared.task.Form.TheVariants as form
 use Rattle.lucid_top.specs.declared.task.Task.TheVariants as task
@@ -124,13 +126,13 @@ pub record RunsTable (c : Call) (w : PlainWords) (t : Table) (v : World) : Type 
   pub kept : KeepsNames c.before v
   pub first : v.reached ≡ first_place w.source
 
--- A call is about to make or to check a certificate by a table, its source being read: it has a tree that the table keeps, with the table's
--- inputs, and its words ask for that.
+-- A call is about to make or to check a certificate by a table, its source being read: it is that of the tree, and the words ask for that.
 pub record ProvesTable (c : Call) (k : Task) (w : PlainWords) (t : Table) (v : World) : Type 0 where
   pub read : c.asked ≡ Some w
   pub names : HasNames c
   pub task : task_of w ≡ k
   pub made : IsWellMade names.program.tree
-  pub table : IsTableOf names.program.tree names.free t
+  pub is : t ≡ tree_table names.program.tree names.free
+  pub table : HasSoundTable names.program.tree names.free
   pub kept : KeepsNames c.before v
   pub first : v.reached ≡ first_place w.source

@@ -1,6 +1,7 @@
 pub mod Tasks
 pub mod Judged
 pub mod Flat
+pub mod Tables
 pub mod Texts
 pub mod Programs
 pub mod Files

@@ -8,6 +8,7 @@ use Rattle.lucid_ports.specs.World.{Contents}
 use Rattle.lucid_ports.specs.Faults.{Rises}
 use Rattle.lucid_inputs.specs.Streams.{all_bytes}
 use Rattle.lucid_equations.specs.declared.table.Table.{Table}
+use Rattle.lucid_compile.specs.Settled.{table_of as tree_table}
 use Rattle.lucid_demand.specs.declared.fault.DemandFault.{DemandFault}
 use Rattle.lucid_demand.specs.declared.fault.DemandFault.TheVariants as fault
 use Rattle.lucid_why.specs.Certificates.{PlainJudgment}
@@ -22,7 +23,8 @@ use Rattle.lucid_report.specs.declared.stop.Stop.TheVariants as stop
 use Rattle.lucid_report.specs.Status.{Outcome}
 use Rattle.lucid_top.specs.Running.{IsLargeStop}
 use Rattle.lucid_top.specs.Writing.{WritesOnly}
-use Rattle.lucid_top.specs.Checks.{IsTableOf, IsLast, Proves, LiesPast}
+use Rattle.lucid_top.specs.Checks.{IsLast, Proves, LiesPast}
+use Rattle.lucid_top.specs.Tables.{HasSoundTable}
 
 -- it holds for each added number from some on
 abbrev pub ForSomeAdded : (ℕ → Type 0) → Type 0
@@ -81,9 +83,9 @@ pub record Makes (T : Table) (x : OneStream) (r : RunView) (time : ℕ) (o : Out
   pub consumed : (b : Elements) → HasElements r b → ForSomeAdded (ConsumesAt x b r time)
   pub within : ReadsWithin r
 
--- It is made by a table of the tree.
+-- It is made by the table of the tree.
 abbrev pub MakesTree : PlainTree → RunView → (time : ℕ) → Outcome → Type 0
-MakesTree p r t o = (T : Table) × IsTableOf p r.names T × Makes T (tree_stream p) r t o
+MakesTree p r t o = HasSoundTable p r.names × Makes (tree_table p r.names) (tree_stream p) r t o
 
 -- Making one at a time over inputs of these names has such outcomes alone. The counts of faults are those of the places and of the output.
 abbrev pub MakingComesOnly : (inputs : List (List ℕ)) → (time faults faults' out_faults out_faults' : ℕ) → Outcome → Type 0

@@ -3,6 +3,7 @@ use Rattle.lucid_top.specs.Call.{call_under}
 use Rattle.lucid_top.proofs.Ending.{Begins, within_text, check_not_print, inputs_of, names_of, first_place_le}
 use Rattle.lucid_top.proofs.Doing.{program_does, memory_does, check_does}
 use Rattle.lucid_top.proofs.RunEnds.{source_stays}
+use Rattle.lucid_top.proofs.TreeTables.{has_table}
 use Rattle.lucid_top.proofs.top.check_task.Goals as goal
 
 pub returns-in_err-scoped : goal.returns-in_err-scoped
@@ -53,17 +54,15 @@ returns g c policy =
     let inputs = inputs_of tree (scoped_inputs c.in_ok-scoped.scoped) (scoped_binding c.in_ok-scoped.scoped) c.inputs.ensures.resolved in
     let few = c.inputs.ensures.few in
     let short = read.accepted.few in
+    let made = c.in_ok-program.ensures in
     check_does c.in_ok-scoped.scoped here w (g.P.Places.world c.program_of.new.places) c.check_inputs.result refl
     (c.check_inputs.ensures.comes policy here.before (record {
       read = refl;
       names = names_of here w tree (scoped_inputs c.in_ok-scoped.scoped) begins text (check_not_print w c.requires.task) read.accepted inputs;
       task = c.requires.task;
       made = read.accepted.well_made;
-      table = record {
-        sound = c.in_ok-program.ensures.sound (omega (arith, few, short));
-        keeps = c.in_ok-program.ensures.keeps;
-        names = c.in_ok-program.ensures.inputs;
-      };
+      is = made.exact;
+      table = has_table tree (scoped_inputs c.in_ok-scoped.scoped) table made.exact (made.sound (omega (arith, few, short))) made.keeps made.means;
       kept = read.reading.keeps;
       first = read.reading.reached;
     }))

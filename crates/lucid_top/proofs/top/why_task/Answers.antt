@@ -1,8 +1,9 @@
-use Rattle.lucid_top.proofs.Common.{◌+◌, Some, refl, sym, ap, ◌∙◌, length, arith, err_from_is_err_and, most_source_bytes, scoped_tree, scoped_inputs, scoped_binding, plain_words, told, Call}
+use Rattle.lucid_top.proofs.Common.{◌+◌, Some, refl, sym, ap, ◌∙◌, length, arith, err_from_is_err_and, table_of, most_source_bytes, scoped_tree, scoped_inputs, scoped_binding, plain_words, told, Call}
 use Rattle.lucid_top.specs.Call.{call_under}
 use Rattle.lucid_top.proofs.Ending.{Begins, within_text, why_not_print, inputs_of, names_of, first_place_le}
 use Rattle.lucid_top.proofs.Doing.{program_does, memory_does, run_does}
 use Rattle.lucid_top.proofs.RunEnds.{source_stays}
+use Rattle.lucid_top.proofs.TreeTables.{has_table}
 use Rattle.lucid_top.proofs.top.why_task.Goals as goal
 
 pub returns-in_err-scoped : goal.returns-in_err-scoped
@@ -48,21 +49,20 @@ returns g c policy =
     let begins : Begins here w = refl in
     let text = c.requires.text (λ e. absurd (cc e)) in
     let read = c.in_ok-scoped.ensures in
+    let table = table_of c.in_ok-program.program in
     let tree = scoped_tree c.in_ok-scoped.scoped in
     let inputs = inputs_of tree (scoped_inputs c.in_ok-scoped.scoped) (scoped_binding c.in_ok-scoped.scoped) c.inputs.ensures.resolved in
     let few = c.inputs.ensures.few in
     let short = read.accepted.few in
+    let made = c.in_ok-program.ensures in
     run_does c.in_ok-scoped.scoped here w (g.P.Places.world c.program_of.new.places) c.make_inputs.result refl (λ e. absurd (cc (e, c.requires.task)))
     (c.make_inputs.ensures.comes policy here.before (record {
       read = refl;
       names = names_of here w tree (scoped_inputs c.in_ok-scoped.scoped) begins text (why_not_print w c.requires.task) read.accepted inputs;
       task = c.requires.task;
       made = read.accepted.well_made;
-      table = record {
-        sound = c.in_ok-program.ensures.sound (omega (arith, few, short));
-        keeps = c.in_ok-program.ensures.keeps;
-        names = c.in_ok-program.ensures.inputs;
-      };
+      is = made.exact;
+      table = has_table tree (scoped_inputs c.in_ok-scoped.scoped) table made.exact (made.sound (omega (arith, few, short))) made.keeps made.means;
       kept = read.reading.keeps;
       first = read.reading.reached;
     }))
