@@ -1,27 +1,25 @@
 //! What is said of a judgment that doesn't follow.
-ghost use Rattle.std.specs.Prelude.{◌≡◌, ◌≤◌, ◌++◌, length, slice_get, IfOk, OnOk};
+ghost use Rattle.std.specs.Prelude.{◌≡◌, ◌≤◌, ◌++◌, length, IfOk, OnOk};
 ghost use Rattle.std.specs.Option.{option_copied};
 ghost use Rattle.lucid_scope.specs.Scoped.{scoped_tree};
-ghost use Rattle.lucid_equations.specs.Rows.{row_at};
-ghost use Rattle.lucid_compile.specs.Places.{place_of};
 ghost use Rattle.lucid_explanations.specs.Accepted.{IsProgram};
-ghost use Rattle.lucid_pieces.specs.Pieces.{lent};
-ghost use Rattle.lucid_pieces.specs.Judgments.{IsRow, numbers_text, told_text, piece_text, found_text, node_text, TellsJudgment};
+ghost use Rattle.lucid_parts.specs.Parts.{own_place};
+ghost use Rattle.lucid_pieces.specs.Pieces.{piece_of};
+ghost use Rattle.lucid_pieces.specs.Judgments.{IsRow, numbers_text, told_text, piece_text, found_text, TellsJudgment};
 
-use crate::pieces::find_pieces;
 use crate::rows::{Row, row_of};
-use crate::words::{node_word, piece_word};
-use lucid_compile::compile;
-use lucid_equations::{Node, Table};
+use crate::words::piece_word;
+use lucid_compile::find_origins;
 use lucid_expected::{put_number, put_place};
 use lucid_explanations::scoped_of;
+use lucid_parts::part_at;
 use lucid_scope::Scoped;
 use lucid_tree::Tree;
 use std::alloc::{AllocError, Global};
 
 // A piece's own place.
-fn place_of(piece: &Tree) -> u32
-    ensures { result ≡ place_of piece.now }
+fn own_place(piece: &Tree) -> u32
+    ensures { result ≡ own_place piece.now }
 {
     piece.at
 }
@@ -59,73 +57,37 @@ fn put_piece(
     requires { length source.now ≤ 1048576 }
     ensures { OnOk result (text.new.items ≡ text.old.items ++ piece_text file.now source.now row.node row.line piece.now) }
 {
-    let at = source.len().min(place_of(piece) as usize);
+    let at = source.len().min(own_place(piece) as usize);
     put_place(text, file, source, at)?;
     put_told(text, row, piece_word(piece))
 }
 
-// Appends it, where the node is what the piece is.
+// Appends the piece, where there is one.
 fn put_found(
     text: &mut Vec<u8>,
     file: &[u8],
     source: &[u8],
     row: Row,
-    node: Option<Node>,
     piece: Option<&Tree>,
 ) -> Result<(), AllocError>
     requires { length source.now ≤ 1048576 }
-    ensures { OnOk result (text.new.items ≡ text.old.items ++ found_text file.now source.now row.node row.line node (option_copied piece.entry)) }
+    ensures { OnOk result (text.new.items ≡ text.old.items ++ found_text file.now source.now row.node row.line (option_copied piece.entry)) }
 {
-    match (node, piece) {
-        (Some(node), Some(piece)) => {
-            if node_word(&node) == piece_word(piece) {
-                put_piece(text, file, source, row, piece)
-            } else {
-                Ok(())
-            }
-        }
-        (Some(_), None) | (None, _) => Ok(()),
+    match piece {
+        Some(piece) => put_piece(text, file, source, row, piece),
+        None => Ok(()),
     }
 }
 
-// The node of a number.
-fn node_at(table: &Table, number: u32) -> Option<Node>
-    ensures { result ≡ row_at table.now number }
+// The piece from which the node of a number comes.
+fn piece_of(alloc: Global, scoped: &Scoped, node: u32) -> Result<Option<&Tree>, AllocError>
+    ensures { IfOk result (λ piece. option_copied piece ≡ piece_of (scoped_tree scoped.now) node) }
 {
-    let row = table.nodes.items().get(number as usize)?;
-    Some(row.node)
-}
-
-// The piece of a number.
-fn piece_at<'a>(pieces: &[&'a Tree], number: u32) -> Option<&'a Tree>
-    ensures { option_copied result ≡ slice_get (lent pieces.now) number }
-{
-    pieces.get(number as usize).copied()
-}
-
-// Appends the piece of the same number as the judgment's node.
-fn put_node(
-    alloc: Global,
-    text: &mut Vec<u8>,
-    file: &[u8],
-    source: &[u8],
-    table: &Table,
-    tree: &Tree,
-    row: Row,
-) -> Result<(), AllocError>
-    requires { length source.now ≤ 1048576 }
-    ensures { OnOk result (text.new.items ≡ text.old.items ++ node_text file.now source.now table.now tree.now row.node row.line) }
-{
-    let mut pieces = Vec::new(alloc);
-    find_pieces(&mut pieces, tree)?;
-    put_found(
-        text,
-        file,
-        source,
-        row,
-        node_at(table, row.node),
-        piece_at(&pieces, row.node),
-    )
+    let origins = find_origins(alloc, scoped)?;
+    match origins.nodes.get(node as usize) {
+        Some(at) => Ok(part_at(scoped.tree(), *at)),
+        None => Ok(None),
+    }
 }
 
 // What is said by what the names of the source belong to.
@@ -143,17 +105,9 @@ fn text_of_scoped(
     requires row { IsRow certificate.now number row.node row.line }
     ensures { IfOk result (λ text. TellsJudgment file.now source.now certificate.now number text.items) }
 {
-    let program = compile(alloc, scoped)?;
+    let piece = piece_of(alloc, scoped, row.node)?;
     let mut text = Vec::new(alloc);
-    put_node(
-        alloc,
-        &mut text,
-        file,
-        source,
-        program.table(),
-        scoped.tree(),
-        row,
-    )?;
+    put_found(&mut text, file, source, row, piece)?;
     Ok(text)
 }
 
@@ -175,8 +129,8 @@ fn text_of_row(
     }
 }
 
-/// What is said of the judgment of this number of a certificate, from 0, that doesn't follow: its line, its node, and the piece of the source that
-/// has this node. Nothing where the certificate hasn't the judgment, of a source that is refused, and where the piece isn't what the node is.
+/// What is said of the judgment of this number of a certificate, from 0, that doesn't follow: its line, its node, and the piece of the source from
+/// which the node comes. Nothing where the certificate hasn't the judgment, of a source that is refused, and where its table hasn't the node.
 pub fn explain_judgment(
     alloc: Global,
     file: &[u8],

@@ -1,9 +1,9 @@
-//! The pieces of a source that the nodes of its table stand for, and what explains a judgment of a certificate that doesn't follow.
+//! What explains a judgment of a certificate that doesn't follow: its line, its node, and the piece of the source from which the node comes.
 #![tactic(auto)]
 
 pub use crate::judgment::explain_judgment;
 
 mod judgment;
-mod pieces;
+pub mod laws;
 mod rows;
 mod words;

@@ -1,9 +1,8 @@
-//! The words for what pieces and nodes are.
+//! The words for what pieces are.
 ghost use Rattle.std.specs.Prelude.{◌≡◌};
 ghost use Rattle.lucid_tree.specs.Shape.{head_of};
-ghost use Rattle.lucid_pieces.specs.Pieces.{head_word, piece_word, node_word};
+ghost use Rattle.lucid_pieces.specs.Pieces.{head_word, piece_word};
 
-use lucid_equations::Node;
 use lucid_tree::{Head, Shape, Tree};
 
 // What a form is.
@@ -26,19 +25,5 @@ pub(crate) fn piece_word(piece: &Tree) -> &'static [u8]
         Shape::Name { .. } => b"name",
         Shape::Call { .. } => b"call",
         Shape::Scope { .. } => b"where",
-    }
-}
-
-/// What a node is.
-pub(crate) fn node_word(node: &Node) -> &'static [u8]
-    ensures { result.now ≡ node_word node.now }
-{
-    match node {
-        Node::Const { .. } => b"constant",
-        Node::Input { .. } | Node::Refer { .. } => b"name",
-        Node::Apply { op, .. } => op.row().spelling,
-        Node::Freeze { .. } => b"where",
-        Node::Call { .. } => b"call",
-        _ => node.form_word(),
     }
 }
