@@ -5,7 +5,7 @@ ghost use Rattle.lucid_scope.specs.Scoped.{scoped_tree, scoped_binding};
 ghost use Rattle.lucid_cycles.specs.Judgments.{IsJudgment, IsJudgeRefusal};
 ghost use Rattle.lucid_cycles.specs.Laws.{IsDefinedAsJudged};
 ghost use Rattle.lucid_explanations.specs.Accepted.{IsProgram};
-ghost use Rattle.lucid_causes.specs.Depths.{enough_text, cycle_advice, is_search, is_call, place_advice, unjudged_advice, meaning_text, judged_text, refusal_text, unjudged_text, TellsDepth};
+ghost use Rattle.lucid_causes.specs.Depths.{enough_text, cycle_advice, is_search, is_call, place_advice, unjudged_advice, greater_advice, meaning_text, judged_text, refusal_text, unjudged_text, TellsDepth};
 
 use lucid_cycles::{JudgeRefusal, Judgment, judge};
 use lucid_expected::put_number;
@@ -144,14 +144,21 @@ fn put_refusal(text: &mut Vec<u8>, refusal: &JudgeRefusal) -> Result<(), AllocEr
     }
 }
 
+// Appends what it means for a depth that a program isn't judged.
+fn put_advice(text: &mut Vec<u8>, source: &[u8], refusal: &JudgeRefusal) -> Result<(), AllocError>
+    ensures { OnOk result (text.new.items ≡ text.old.items ++ (unjudged_advice source.now refusal.now ++ greater_advice)) }
+{
+    text.extend_from_slice(unjudged_advice(source, refusal))?;
+    text.extend_from_slice(b"A greater --depth may be enough, up to 1000000.\n")
+}
+
 // Appends why a program isn't judged, and what that means.
 fn put_unjudged(text: &mut Vec<u8>, source: &[u8], refusal: &JudgeRefusal) -> Result<(), AllocError>
     ensures { OnOk result (text.new.items ≡ text.old.items ++ unjudged_text source.now refusal.now) }
 {
     text.extend_from_slice(b"`--cycles` says: ")?;
     put_refusal(text, refusal)?;
-    text.extend_from_slice(unjudged_advice(source, refusal))?;
-    text.extend_from_slice(b"A greater --depth may be enough, up to 1000000.\n")
+    put_advice(text, source, refusal)
 }
 
 // What is said of a source by its judgment.
