@@ -22,9 +22,9 @@ module _ (c : Call) (r : RunsProgram c) (F : Family) (solves : SolvesProgram r F
   pub writes-its-lines : (s : Status) (h : Headline r s) → WritesItsLines r s h F
   writes-its-lines s h =
       record {
-        lines = lines-by h.whole h.lines h.are_lines;
-        only = λ single bytes l. lines-once (stream_by r F) single h.whole bytes h.lines l (lines-by h.whole h.lines h.are_lines);
-        done = λ e. elim (h.done e) [ inl o ↦ inl o | inr o ↦ inr (derived-by-family F (elements r) r.program solves h.whole 0 eod o.1) ];
+        lines = lines-by h.lines.whole h.lines.lines h.lines.are_lines;
+        only = λ single bytes l. lines-once (stream_by r F) single h.lines.whole bytes h.lines.lines l (lines-by h.lines.whole h.lines.lines h.lines.are_lines);
+        done = λ e. elim (h.stops.done e) [ inl o ↦ inl o | inr o ↦ inr (derived-by-family F (elements r) r.program solves h.lines.whole 0 eod o.1) ];
       }
 
 module _ (c : Call) (r : RunsProgram c) where

@@ -23,9 +23,9 @@ stream_by r F = by_family F r.program (meanings (elements r) empty)
 -- Of the program's stream by the family: at each time of a whole line that was written it has the line's value, and where it has at most one value at a
 -- point, it has no other lines. A run that is done before the count stopped where it has end of data.
 pub record WritesItsLines {c : Call} (r : RunsProgram c) (s : Status) (h : Headline r s) (F : Family) : Type 0 where
-  pub lines : LinesOf (stream_by r F) h.whole h.lines
-  pub only : IsSingle (stream_by r F) → (bytes : List ℕ) → LinesOf (stream_by r F) h.whole bytes → bytes ≡ h.lines
-  pub done : s ≡ status.Done → (h.whole ≡ r.words.count) ⊎ stream_by r F h.whole 0 eod
+  pub lines : LinesOf (stream_by r F) h.lines.whole h.lines.lines
+  pub only : IsSingle (stream_by r F) → (bytes : List ℕ) → LinesOf (stream_by r F) h.lines.whole bytes → bytes ≡ h.lines.lines
+  pub done : s ≡ status.Done → (h.lines.whole ≡ r.words.count) ⊎ stream_by r F h.lines.whole 0 eod
 
 -- What the names of each block mean: the union of the iterates of its equations from nothing.
 abbrev pub least_family : Family
