@@ -144,12 +144,19 @@ fn put_refusal(text: &mut Vec<u8>, refusal: &JudgeRefusal) -> Result<(), AllocEr
     }
 }
 
+// That a depth may be given which is greater.
+fn greater_advice() -> &'static [u8]
+    ensures { result.now ≡ greater_advice }
+{
+    b"A greater --depth may be enough, up to 1000000.\n"
+}
+
 // Appends what it means for a depth that a program isn't judged.
 fn put_advice(text: &mut Vec<u8>, source: &[u8], refusal: &JudgeRefusal) -> Result<(), AllocError>
     ensures { OnOk result (text.new.items ≡ text.old.items ++ (unjudged_advice source.now refusal.now ++ greater_advice)) }
 {
     text.extend_from_slice(unjudged_advice(source, refusal))?;
-    text.extend_from_slice(b"A greater --depth may be enough, up to 1000000.\n")
+    text.extend_from_slice(greater_advice())
 }
 
 // Appends why a program isn't judged, and what that means.
