@@ -1,5 +1,5 @@
 //! What is said of words that are refused.
-ghost use Rattle.std.specs.Prelude.{◌≡◌, ℕ, ◌<◌, ◌+◌, ◌++◌, length, min, map, take, true, false, not, ◌==◌, IfOk, IfSome, IfNone, OnOk};
+ghost use Rattle.std.specs.Prelude.{◌≡◌, ℕ, ◌<◌, ◌≤◌, ◌+◌, ◌++◌, length, min, map, take, true, false, not, ◌==◌, IfOk, IfSome, IfNone, OnOk};
 ghost use Rattle.std.specs.String.{string_bytes};
 ghost use Rattle.std.specs.List.{prefix_len};
 ghost use Rattle.clap.specs.Words.{Text as Word};
