@@ -10,11 +10,11 @@ fn bytes_that_are_no_text(rt: HostRuntime) -> Result<(), Fail> {
     let table: [(&[u8], &str); 4] = [
         (
             b"\xff\x00\x1b[31m",
-            "bad byte at 0\np:1:1:\n???[31m\n^\nOnly in comments may other bytes stand than printable ASCII, tabs and line ends.\n",
+            "bad byte at 0\np:1:1:\n???[31m\n^\nOnly in comments may other bytes stand than printable ASCII, tabs and line ends. A name has the letters a to z and A to Z, digits and `_`.\n",
         ),
         (
             b"// \xc3\xa4\n1 +\t\xc3\xa4\r\n",
-            "bad byte at 10\np:2:5:\n1 + ?? \n    ^\nOnly in comments may other bytes stand than printable ASCII, tabs and line ends.\n",
+            "bad byte at 10\np:2:5:\n1 + ?? \n    ^\nOnly in comments may other bytes stand than printable ASCII, tabs and line ends. A name has the letters a to z and A to Z, digits and `_`.\n",
         ),
         (
             b"1 +\n",
@@ -162,7 +162,7 @@ fn names_that_are_long(rt: HostRuntime) -> Result<(), Fail> {
     source.push_str(" + y")?;
     let shown = many(alloc, "x", 160)?;
     let wanted = format!(in alloc;
-        "no input for two names\nA name that nothing defines is an input. One of them may be read from the standard input; give each other a file: {shown}..=FILE y=FILE\n{shown}.. stands first in line 1, column 1.\ny stands first in line 1, column 204.\n"
+        "no input for two names\nA name that nothing defines is an input. One of them may be read from the standard input; give each other a file: {shown}..=FILE y=FILE\n{shown}.. stands first in line 1, column 1.\ny stands first in line 1, column 204.\nIf a word is meant, it stands between two \", as in \"red\".\n"
     )?;
     let answer = plain_call(alloc, "p", source.as_bytes())?;
     assert_eq!(rt; answer.report.as_str(), wanted.as_str());
