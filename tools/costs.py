@@ -12,10 +12,10 @@ KINDS = ("proof", "tests", "edits")
 
 
 def ticks_of(pid):
-    """The parent of a process and the time that it took, in seconds."""
+    """The parent of a process, when it began, and the time that it took, in seconds."""
     with open(f"/proc/{pid}/stat", encoding="utf-8", errors="replace") as file:
         fields = file.read().rpartition(")")[2].split()
-    return int(fields[1]), (int(fields[11]) + int(fields[12])) / os.sysconf("SC_CLK_TCK")
+    return int(fields[1]), fields[19], (int(fields[11]) + int(fields[12])) / os.sysconf("SC_CLK_TCK")
 
 
 def processor():
@@ -45,14 +45,15 @@ class Watch:
             parents, times = {}, {}
             for it in filter(str.isdigit, os.listdir("/proc")):
                 try:
-                    parents[int(it)], times[int(it)] = ticks_of(it)
+                    parents[int(it)], begun, times[int(it), begun] = ticks_of(it)
                 except (OSError, ValueError, IndexError):
                     continue
+            # (a number is given to another process later, so it is known by its beginning too)
             for it, took in times.items():
-                above = it
+                above = it[0]
                 while above in parents and above != self.pid:
                     above = parents[above]
-                what = self.seen[it][0] if it in self.seen else self.what(it) if above == self.pid else None
+                what = self.seen[it][0] if it in self.seen else self.what(it[0]) if above == self.pid else None
                 if what:
                     self.seen[it] = what, took
 
