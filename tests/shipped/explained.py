@@ -133,3 +133,33 @@ def help_and_version_stand_alone(run):
         explaining.lucid("--version").must(f"lucid_explain {version.read().strip()}\n")
     run.source("1")
     explaining.lucid("p", "--help").must("", 2)
+
+
+# Programs, certificates, and what is said of the judgment that doesn't follow. The second program has the nodes x, 2, f(2), x, 1, +, fby, y,
+# y, *; the third hasn't so many nodes.
+JUDGMENTS = [
+    (
+        "3 + 4",
+        "j 0 0 0 0 0 3\nj 1 0 0 0 0 4\nj 2 0 0 0 2 0 1 8\n",
+        "judgment 2 does not follow\np:1:3:\n3 + 4\n  ^\nLine 3 of the certificate has this judgment, of node 2, which stands here: +.\n",
+    ),
+    (
+        "x where\n  x = f(2) fby x + 1;\n  f(y) = y * y; end",
+        "c 0 0 0\nj 9 1 0 0 0 5\n",
+        "judgment 0 does not follow\np:3:12:\n  f(y) = y * y; end\n           ^\nLine 2 of the certificate has this judgment, of node 9, which stands here: *.\n",
+    ),
+    ("3 + 4", "j 7 0 0 0 0 3\n", "judgment 0 does not follow\n"),
+]
+
+OTHERWISE = (
+    "The judgment of this number, from 0, isn't what its node gives from the judgments that it uses, or it is the last one and not that of the "
+    "program itself. The certificate is false, or it is one of another program or of other inputs.\n"
+)
+
+
+@case
+def judgments_are_told_by_their_pieces(run):
+    for source, certificate, report in JUDGMENTS:
+        run.source(source)
+        run.write("c", certificate)
+        run.explaining().lucid("--check", "c", "p").must("", 1, report + OTHERWISE)
