@@ -1,14 +1,14 @@
 //! Tests alone, of the engine: programs over files in memory, demands on their engines under each policy and each pick, programs made at
-//! random, runs, and certificates.
+//! random, and runs.
 #![tactic(auto)]
 
-#[cfg(test)]
-mod certificates;
 #[cfg(test)]
 mod demands;
 #[cfg(test)]
 mod made_programs;
 #[cfg(test)]
 mod sessions;
+#[cfg(test)]
+mod told;
 #[cfg(test)]
 mod trials;

@@ -2,6 +2,5 @@
 
 mod choices;
 mod columns;
-mod large;
 mod pieces;
 mod program_run;

@@ -4,7 +4,7 @@ use crate::demands::wanted::Wanted;
 use crate::trials::{Demand, MOST_BYTES, ORDERS, Order, PLANS, Plan, Setup};
 use lucid_ports::FailAt;
 use lucid_test_programs::{COUNTING, RUNNING_SUM, SEARCH_WITHOUT_END};
-use std::process::Abort;
+use std::alloc::Global;
 use std::test::Fail;
 
 /// Demands on one engine, one after another: the time and the limit of each, and what it gives.
@@ -15,6 +15,8 @@ struct Row {
     answers: &'static [(u32, u32, &'static str)],
     /// How many bytes of each input are consumed at the end.
     consumed: [u64; 2],
+    /// How many values are held at the end, where that is said.
+    held: Option<u64>,
 }
 
 // A program over files that are read without a failure, as a static names it.
@@ -29,20 +31,23 @@ macro_rules! setup {
     };
 }
 
-fn answers_so<A: Abort + AllocGlobal>(rt: &A, row: &Row) -> Result<(), Fail> {
-    let mut demands = Vec::new(rt.alloc());
-    let mut answers = Vec::new(rt.alloc());
+fn answers_so(alloc: Global, row: &Row) -> Result<(), Fail> {
+    let mut demands = Vec::new(alloc);
+    let mut answers = Vec::new(alloc);
     for (time, limit, answer) in row.answers {
         demands.push(Demand::at(*time, *limit))?;
         answers.push(*answer)?;
     }
-    let wanted = Wanted::of(row.setup, &demands, &answers, row.consumed);
-    wanted.by_each(rt, row.plans, row.orders)
+    let wanted = Wanted {
+        held: row.held,
+        ..Wanted::of(row.setup, &demands, &answers, row.consumed)
+    };
+    wanted.by_each(alloc, row.plans, row.orders)
 }
 
-fn each_answers_so<A: Abort + AllocGlobal>(rt: &A, rows: &[Row]) -> Result<(), Fail> {
+fn each_answers_so(alloc: Global, rows: &[Row]) -> Result<(), Fail> {
     for row in rows {
-        answers_so(rt, row)?;
+        answers_so(alloc, row)?;
     }
     Ok(())
 }
@@ -55,6 +60,7 @@ static REFUSED: [Row; 6] = [
         setup: setup!(COUNTING, &[]),
         answers: &[(3, 3, "too deep"), (3, 4, "3"), (0, 1, "0")],
         consumed: [0, 0],
+        held: None,
     },
     Row {
         plans: &PLANS,
@@ -62,6 +68,7 @@ static REFUSED: [Row; 6] = [
         setup: setup!(SEARCH_WITHOUT_END, &[]),
         answers: &[(0, 50, "too deep"), (1, 20, "too deep")],
         consumed: [0, 0],
+        held: None,
     },
     // a read that fails
     Row {
@@ -78,6 +85,7 @@ static REFUSED: [Row; 6] = [
         },
         answers: &[(2, 9, "read fault"), (2, 9, "12"), (0, 9, "3"), (1, 9, "7")],
         consumed: [5, 0],
+        held: None,
     },
     Row {
         plans: &PLANS,
@@ -105,6 +113,7 @@ static REFUSED: [Row; 6] = [
             (2, 9, "eod"),
         ],
         consumed: [4, 6],
+        held: None,
     },
     // an element past the bytes that may be read
     Row {
@@ -123,6 +132,7 @@ static REFUSED: [Row; 6] = [
             (2, 9, "too large"),
         ],
         consumed: [4, 0],
+        held: None,
     },
     Row {
         plans: &PLANS,
@@ -135,13 +145,9 @@ static REFUSED: [Row; 6] = [
         },
         answers: &[(1, 9, "true"), (0, 9, "12345"), (2, 9, "eod")],
         consumed: [11, 6],
+        held: None,
     },
 ];
-
-#[test]
-fn after_refusals(rt: HostRuntime) -> Result<(), Fail> {
-    each_answers_so(&rt, &REFUSED)
-}
 
 // What p says at time 0 needs a limit of 6, and later 1.
 const DEEP_TEST: &str =
@@ -163,6 +169,7 @@ static DEPTHS: [Row; 5] = [
             (5, 2, "5"),
         ],
         consumed: [0, 0],
+        held: None,
     },
     // Where nothing is held, each demand needs what the first one would.
     Row {
@@ -177,6 +184,7 @@ static DEPTHS: [Row; 5] = [
             (2, 3, "2"),
         ],
         consumed: [0, 0],
+        held: None,
     },
     // A search that begins at a noted position doesn't look at what comes before. Where nothing is held, no position is either.
     Row {
@@ -192,6 +200,7 @@ static DEPTHS: [Row; 5] = [
             (4, 5, "4"),
         ],
         consumed: [0, 0],
+        held: None,
     },
     Row {
         plans: &[Plan::Nothing],
@@ -205,6 +214,7 @@ static DEPTHS: [Row; 5] = [
             (2, 5, "too deep"),
         ],
         consumed: [0, 0],
+        held: None,
     },
     // With a limit that is enough, whatever is dropped.
     Row {
@@ -220,13 +230,9 @@ static DEPTHS: [Row; 5] = [
             (4, 9, "4"),
         ],
         consumed: [0, 0],
+        held: None,
     },
 ];
-
-#[test]
-fn depths(rt: HostRuntime) -> Result<(), Fail> {
-    each_answers_so(&rt, &DEPTHS)
-}
 
 // The name x has no value, and each demand of it is refused. Which of the others were demanded before tells who was picked.
 static PICKED: [Row; 3] = [
@@ -236,6 +242,7 @@ static PICKED: [Row; 3] = [
         setup: setup!("a + x where x = x; end", &[("a", "1\n")]),
         answers: &[(0, 5, "too deep")],
         consumed: [0, 0],
+        held: None,
     },
     Row {
         plans: &[Plan::Keep, Plan::Nothing],
@@ -243,6 +250,7 @@ static PICKED: [Row; 3] = [
         setup: setup!("a + x where x = x; end", &[("a", "1\n")]),
         answers: &[(0, 5, "too deep")],
         consumed: [2, 0],
+        held: None,
     },
     // No argument is evaluated to its end before the other begins.
     Row {
@@ -254,10 +262,25 @@ static PICKED: [Row; 3] = [
         ),
         answers: &[(0, 5, "too deep")],
         consumed: [2, 2],
+        held: None,
     },
 ];
 
+// A task waits for each reference, so the machine's stack isn't used.
+static DEEP: [Row; 1] = [Row {
+    plans: &[Plan::Keep],
+    orders: &[Order::Newest],
+    setup: setup!("x attime 500000 where x = 0 fby x + 1; end", &[]),
+    answers: &[(0, 500_000, "too deep"), (0, 500_001, "500000")],
+    consumed: [0, 0],
+    held: Some(500_001),
+}];
+
 #[test]
-fn picks(rt: HostRuntime) -> Result<(), Fail> {
-    each_answers_so(&rt, &PICKED)
+fn demands_one_after_another(rt: HostRuntime) -> Result<(), Fail> {
+    let alloc = rt.alloc();
+    each_answers_so(alloc, &REFUSED)?;
+    each_answers_so(alloc, &DEPTHS)?;
+    each_answers_so(alloc, &PICKED)?;
+    each_answers_so(alloc, &DEEP)
 }

@@ -2,7 +2,7 @@
 use crate::demands::wanted::Wanted;
 use crate::trials::{ORDERS, PLANS, Setup, times_below};
 use lucid_test_programs::{IN_CONTEXTS, OVER_INPUTS, OVER_SPACE, OVER_TIME, Worked};
-use std::process::Abort;
+use std::alloc::Global;
 use std::test::Fail;
 
 /// A program without names, a limit, and what the demands at the times from 0 on give by it.
@@ -12,8 +12,8 @@ type LimitedRow = (&'static str, u32, &'static [&'static str]);
 const ENOUGH: u32 = 100;
 
 // The demands at the times from 0 on give the program's values, whatever is dropped and whatever is picked.
-fn answers_alike<A: Abort + AllocGlobal>(rt: &A, program: &Worked) -> Result<(), Fail> {
-    let times = times_below(rt.alloc(), u32::try_from(program.values.len())?, ENOUGH)?;
+fn answers_alike(alloc: Global, program: &Worked) -> Result<(), Fail> {
+    let times = times_below(alloc, u32::try_from(program.values.len())?, ENOUGH)?;
     let wanted = Wanted {
         name: program.name,
         held: Some(program.held),
@@ -24,34 +24,23 @@ fn answers_alike<A: Abort + AllocGlobal>(rt: &A, program: &Worked) -> Result<(),
             program.consumed,
         )
     };
-    wanted.by_each(rt, &PLANS, &ORDERS)
+    wanted.by_each(alloc, &PLANS, &ORDERS)
 }
 
-fn each_alike<A: Abort + AllocGlobal>(rt: &A, programs: &[Worked]) -> Result<(), Fail> {
+fn each_alike(alloc: Global, programs: &[Worked]) -> Result<(), Fail> {
     for program in programs {
-        answers_alike(rt, program)?;
+        answers_alike(alloc, program)?;
     }
     Ok(())
 }
 
 #[test]
-fn over_time(rt: HostRuntime) -> Result<(), Fail> {
-    each_alike(&rt, &OVER_TIME)
-}
-
-#[test]
-fn over_space(rt: HostRuntime) -> Result<(), Fail> {
-    each_alike(&rt, &OVER_SPACE)
-}
-
-#[test]
-fn in_contexts(rt: HostRuntime) -> Result<(), Fail> {
-    each_alike(&rt, &IN_CONTEXTS)
-}
-
-#[test]
-fn over_inputs(rt: HostRuntime) -> Result<(), Fail> {
-    each_alike(&rt, &OVER_INPUTS)
+fn worked_programs(rt: HostRuntime) -> Result<(), Fail> {
+    let alloc = rt.alloc();
+    each_alike(alloc, &OVER_TIME)?;
+    each_alike(alloc, &OVER_SPACE)?;
+    each_alike(alloc, &IN_CONTEXTS)?;
+    each_alike(alloc, &OVER_INPUTS)
 }
 
 // Where no name is needed, nothing is held, and too deep comes alike under each policy.
@@ -72,20 +61,20 @@ static LIMITED: [LimitedRow; 7] = [
 ];
 
 // The demands at the times from 0 on give these answers by the limit, and nothing is held.
-fn answers_by_limit<A: Abort + AllocGlobal>(rt: &A, row: &LimitedRow) -> Result<(), Fail> {
+fn answers_by_limit(alloc: Global, row: &LimitedRow) -> Result<(), Fail> {
     let (source, limit, answers) = *row;
-    let times = times_below(rt.alloc(), u32::try_from(answers.len())?, limit)?;
+    let times = times_below(alloc, u32::try_from(answers.len())?, limit)?;
     let wanted = Wanted {
         held: Some(0),
         ..Wanted::of(Setup::of(source, &[]), &times, answers, [0, 0])
     };
-    wanted.by_each(rt, &PLANS, &ORDERS)
+    wanted.by_each(alloc, &PLANS, &ORDERS)
 }
 
 #[test]
 fn limits(rt: HostRuntime) -> Result<(), Fail> {
     for row in &LIMITED {
-        answers_by_limit(&rt, row)?;
+        answers_by_limit(rt.alloc(), row)?;
     }
     Ok(())
 }

@@ -1,6 +1,7 @@
 //! What demands are to give by each of some policies and picks.
+use crate::told::all_hold;
 use crate::trials::{Demand, Demands, Order, Outcome, Plan, Setup};
-use std::process::Abort;
+use std::alloc::Global;
 use std::test::Fail;
 
 /// Demands on one engine, and what they are to give.
@@ -37,51 +38,45 @@ impl<'a> Wanted<'a> {
         }
     }
 
-    fn is_met(&self, plan: Plan, outcome: &Outcome) -> bool {
-        let all_held = plan != Plan::Keep || self.held.is_none_or(|held| held == outcome.held);
-        let last = outcome.consumed.last();
-        all_held
-            && last.is_some_and(|consumed| *consumed == self.consumed)
-            && are_texts(&outcome.answers, self.answers)
+    fn holds(&self, plan: Plan, held: u64) -> bool {
+        match self.held {
+            Some(wanted) => plan != Plan::Keep || held == wanted,
+            None => true,
+        }
     }
 
-    fn by<A: Abort + AllocGlobal>(&self, rt: &A, plan: Plan, order: Order) -> Result<(), Fail> {
-        let outcome = self.demands.outcome_by(rt.alloc(), plan, order, 1)?;
-        let met = self.is_met(plan, &outcome);
+    // What was given is what is wanted.
+    fn is_met(&self, plan: Plan, order: Order, outcome: &Outcome) -> Result<(), Fail> {
+        if all_hold(&[
+            self.holds(plan, outcome.held),
+            outcome.consumed.last() == Some(&self.consumed),
+            are_texts(&outcome.answers, self.answers),
+        ]) {
+            return Ok(());
+        }
         let (name, source) = (self.name, self.demands.setup.source);
-        let Outcome {
-            answers,
-            consumed,
-            held,
-        } = outcome;
-        assert!(rt;
-            met,
+        let (answers, consumed, held) = (&outcome.answers, &outcome.consumed, outcome.held);
+        Err(Fail::new(format_args!(
             "{name}: {source} by {plan:?}, {order:?}: {answers:?}, {consumed:?}, {held}"
-        );
-        Ok(())
+        )))
     }
 
-    fn by_each_order<A: Abort + AllocGlobal>(
-        &self,
-        rt: &A,
-        plan: Plan,
-        orders: &[Order],
-    ) -> Result<(), Fail> {
+    fn by(&self, alloc: Global, plan: Plan, order: Order) -> Result<(), Fail> {
+        let outcome = self.demands.outcome_by(alloc, plan, order, 1)?;
+        self.is_met(plan, order, &outcome)
+    }
+
+    fn by_each_order(&self, alloc: Global, plan: Plan, orders: &[Order]) -> Result<(), Fail> {
         for order in orders {
-            self.by(rt, plan, *order)?;
+            self.by(alloc, plan, *order)?;
         }
         Ok(())
     }
 
     /// They give it by each of these policies and picks.
-    pub fn by_each<A: Abort + AllocGlobal>(
-        &self,
-        rt: &A,
-        plans: &[Plan],
-        orders: &[Order],
-    ) -> Result<(), Fail> {
+    pub fn by_each(&self, alloc: Global, plans: &[Plan], orders: &[Order]) -> Result<(), Fail> {
         for plan in plans {
-            self.by_each_order(rt, *plan, orders)?;
+            self.by_each_order(alloc, *plan, orders)?;
         }
         Ok(())
     }

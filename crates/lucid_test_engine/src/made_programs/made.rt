@@ -2,11 +2,11 @@
 //! no value, and reads what the values need.
 use crate::made_programs::maker::{FORMS, Maker};
 use crate::made_programs::plainly::{Files, POINTS, Plainly};
+use crate::told::must;
 use crate::trials::{
     Demand, Demands, ORDERS, Order, Outcome, PLANS, Plan, Random, Setup, TOO_DEEP, scoped_of,
 };
 use std::alloc::Global;
-use std::process::Abort;
 use std::test::Fail;
 
 // How many programs are made.
@@ -83,51 +83,51 @@ impl Made {
         demands.outcome_by(alloc, plan, order, self.seed)
     }
 
-    fn agrees_by<A: Abort + AllocGlobal>(
+    // What was given is what the plain evaluator gives.
+    fn is_allowed(
         &self,
-        rt: &A,
+        plainly: &Plainly,
+        plan: Plan,
+        order: Order,
+        outcome: &Outcome,
+    ) -> Result<(), Fail> {
+        let (answers, consumed) = (&outcome.answers, &outcome.consumed);
+        if plainly.allows(plan, answers) && plainly.consumes(consumed) {
+            return Ok(());
+        }
+        let (source, limit) = (&self.source, self.limit);
+        Err(Fail::new(format_args!(
+            "{source} by limit {limit}, {plan:?}, {order:?}: {answers:?}, {consumed:?}"
+        )))
+    }
+
+    fn agrees_by(
+        &self,
+        alloc: Global,
         plainly: &Plainly,
         plan: Plan,
         order: Order,
     ) -> Result<(), Fail> {
-        let outcome = self.outcome(rt.alloc(), plan, order)?;
-        let agrees = plainly.allows(plan, &outcome.answers) && plainly.consumes(&outcome.consumed);
-        let Made { source, limit, .. } = self;
-        let Outcome {
-            answers,
-            consumed,
-            ..
-        } = outcome;
-        assert!(rt;
-            agrees,
-            "{source} by limit {limit}, {plan:?}, {order:?}: {answers:?}, {consumed:?}"
-        );
-        Ok(())
+        let outcome = self.outcome(alloc, plan, order)?;
+        self.is_allowed(plainly, plan, order, &outcome)
     }
 
-    fn agrees_by_each<A: Abort + AllocGlobal>(
-        &self,
-        rt: &A,
-        plainly: &Plainly,
-        plan: Plan,
-    ) -> Result<(), Fail> {
-        for order in ORDERS {
-            self.agrees_by(rt, plainly, plan, order)?;
+    fn agrees_by_each(&self, alloc: Global, plainly: &Plainly) -> Result<(), Fail> {
+        for plan in PLANS {
+            for order in ORDERS {
+                self.agrees_by(alloc, plainly, plan, order)?;
+            }
         }
         Ok(())
     }
 
     // By each policy and each pick the engine gives what the plain evaluator gives.
-    fn agrees<A: Abort + AllocGlobal>(&self, rt: &A) -> Result<(), Fail> {
-        let alloc = rt.alloc();
+    fn agrees(&self, alloc: Global) -> Result<(), Fail> {
         let scoped = scoped_of(alloc, &self.source)?;
         let plainly = self
             .files
             .plainly(alloc, &self.source, &scoped, self.limit)?;
-        for plan in PLANS {
-            self.agrees_by_each(rt, &plainly, plan)?;
-        }
-        Ok(())
+        self.agrees_by_each(alloc, &plainly)
     }
 }
 
@@ -159,25 +159,20 @@ impl Plainly {
     }
 }
 
+// Each form stands in one of the programs.
+fn each_is_used(maker: &Maker) -> Result<(), Fail> {
+    for ((_, _, form), uses) in FORMS.iter().zip(&maker.uses) {
+        must(*uses > 0, form)?;
+    }
+    Ok(())
+}
+
 #[test]
 fn made_programs(rt: HostRuntime) -> Result<(), Fail> {
     let mut maker = Maker::of(1);
     for _ in 0..PROGRAMS {
         let made = Made::next(rt.alloc(), &mut maker)?;
-        made.agrees(&rt)?;
+        made.agrees(rt.alloc())?;
     }
-    Ok(())
-}
-
-// Each form stands in one of the programs.
-#[test]
-fn each_form_is_used(rt: HostRuntime) -> Result<(), Fail> {
-    let mut maker = Maker::of(1);
-    for _ in 0..PROGRAMS {
-        let _ = Made::next(rt.alloc(), &mut maker)?;
-    }
-    for ((_, _, form), uses) in FORMS.iter().zip(&maker.uses) {
-        assert!(rt; *uses > 0, "{form}");
-    }
-    Ok(())
+    each_is_used(&maker)
 }

@@ -11,6 +11,9 @@ use std::test::Fail;
 /// byte.
 const HOLES: [u8; 7] = *b"#?@$~!|";
 
+/// What each program defines, and the hole that its right side fills.
+const DEFINED: [(&str, u8); 4] = [("x", b'~'), ("y", b'!'), ("f(x)", b'|'), ("g(x, y)", b'?')];
+
 /// A form: the hole that it fills, how many nodes it has beyond one, each of its holes counted as one, and its text.
 pub type Form = (u8, u32, &'static str);
 
@@ -242,15 +245,13 @@ impl Maker {
     /// A program: a block with two names and two functions, of at most thirty nodes.
     pub fn program(&mut self, alloc: Global) -> Result<String, Fail> {
         let mut left = 24;
-        let nodes = self.share(&mut left);
-        let x = self.expression(alloc, b'~', nodes)?;
-        let nodes = self.share(&mut left);
-        let y = self.expression(alloc, b'!', nodes)?;
-        let nodes = self.share(&mut left);
-        let f = self.expression(alloc, b'|', nodes)?;
-        let nodes = self.share(&mut left);
-        let g = self.expression(alloc, b'?', nodes)?;
+        let mut definitions = String::new(alloc);
+        for (name, hole) in DEFINED {
+            let nodes = self.share(&mut left);
+            let right = self.expression(alloc, hole, nodes)?;
+            write!(definitions, "{name} = {right}; ")?;
+        }
         let subject = self.expression(alloc, b'#', left.saturating_add(1))?;
-        Ok(format!(in alloc; "{subject} where x = {x}; y = {y}; f(x) = {f}; g(x, y) = {g}; end")?)
+        Ok(format!(in alloc; "{subject} where {definitions}end")?)
     }
 }

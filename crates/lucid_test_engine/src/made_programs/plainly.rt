@@ -171,6 +171,27 @@ impl Files {
         Err(Fail::new("with all lines the texts are others"))
     }
 
+    // How many bytes of each input the values at the first points need.
+    fn needed(
+        self,
+        alloc: Global,
+        scoped: &Scoped,
+        texts: &[String],
+        limit: u32,
+    ) -> Result<Vec<u64>, Fail> {
+        let mut needed = Vec::new(alloc);
+        for input in scoped.inputs() {
+            needed.push(self.bytes_needed(alloc, scoped.tree(), input, texts, limit)?)?;
+        }
+        Ok(needed)
+    }
+
+    // The texts at all points by the approximation of a limit.
+    fn texts(self, alloc: Global, scoped: &Scoped, limit: u32) -> Result<Vec<String>, Fail> {
+        let streams = self.streams(alloc, ALL, ALL)?;
+        texts_of(alloc, &streams, scoped.tree(), POINTS.len(), limit)
+    }
+
     /// What the plain evaluator gives of a source.
     pub fn plainly(
         self,
@@ -179,17 +200,11 @@ impl Files {
         scoped: &Scoped,
         limit: u32,
     ) -> Result<Plainly, Fail> {
-        let tree = scoped.tree();
-        let streams = self.streams(alloc, ALL, ALL)?;
-        let all = POINTS.len();
-        let texts = texts_of(alloc, &streams, tree, all, limit)?;
-        let greater = texts_of(alloc, &streams, tree, all, limit.saturating_add(MORE))?;
+        let texts = self.texts(alloc, scoped, limit)?;
+        let greater = self.texts(alloc, scoped, limit.saturating_add(MORE))?;
         let first = before_end(source, &texts);
         let before = texts.get(..first).unwrap_or(&texts);
-        let mut needed = Vec::new(alloc);
-        for input in scoped.inputs() {
-            needed.push(self.bytes_needed(alloc, tree, input, before, limit)?)?;
-        }
+        let needed = self.needed(alloc, scoped, before, limit)?;
         Ok(Plainly {
             texts,
             greater,

@@ -1,6 +1,6 @@
 //! Whatever drops values and whatever is picked, a run of a worked program writes its lines.
-use crate::sessions::columns::options_of;
-use crate::sessions::program_run::run_of;
+use crate::sessions::program_run::{options_of, run_of};
+use crate::told::{all_hold, must};
 use crate::trials::Setup;
 use lucid_ports::{MemorySink, Summary};
 use lucid_retire::{Keep, Last, Nothing, Retire, Scrap, Scripted};
@@ -9,7 +9,6 @@ use lucid_store::Key;
 use lucid_tags::Tags;
 use lucid_test_programs::{IN_CONTEXTS, OVER_INPUTS, OVER_TIME, Worked};
 use std::alloc::{AllocError, Global};
-use std::process::Abort;
 use std::test::Fail;
 
 // The summary of the program's run by a policy and a pick.
@@ -25,21 +24,21 @@ fn summary_of<R: Retire, S: Pick>(
     Ok(run_of(alloc, &setup, &options, out, policy, pick)??)
 }
 
-// The run by a policy and a pick writes the program's lines.
-fn passes_by<A: Abort + AllocGlobal, R: Retire, S: Pick>(
-    rt: &A,
+// The run by a policy and a pick writes the program's lines, and ends where the program does.
+fn passes_by<R: Retire, S: Pick>(
+    alloc: Global,
     program: &Worked,
+    lines: &str,
     policy: R,
     pick: S,
 ) -> Result<(), Fail> {
-    let alloc = rt.alloc();
-    let (name, source) = (program.name, program.source);
     let mut out = MemorySink::make(alloc, 100, Vec::new(alloc));
     let summary = summary_of(alloc, program, &mut out, policy, pick)?;
-    let lines = program.lines(alloc)?;
-    assert_eq!(rt; out.written(), lines.as_bytes(), "{name}: {source}");
-    assert_eq!(rt; summary.ended, program.ends(), "{name}: {source}");
-    Ok(())
+    let facts = [
+        out.written() == lines.as_bytes(),
+        summary.ended == program.ends(),
+    ];
+    must(all_hold(&facts), program.name)
 }
 
 // A thousand numbers below 11.
@@ -69,59 +68,44 @@ fn scraps(alloc: Global) -> Result<Vec<Scrap>, AllocError> {
 }
 
 // The program passes by each policy.
-fn passes_by_each_policy<A: Abort + AllocGlobal, S: Pick + Copy>(
-    rt: &A,
+fn passes_by_each_policy<S: Pick + Copy>(
+    alloc: Global,
     program: &Worked,
+    lines: &str,
     pick: S,
 ) -> Result<(), Fail> {
-    let alloc = rt.alloc();
-    passes_by(rt, program, Keep, pick)?;
-    passes_by(rt, program, Nothing, pick)?;
-    passes_by(rt, program, Last::make(alloc, 1)?, pick)?;
-    passes_by(rt, program, Scripted::make(alloc, scraps(alloc)?), pick)
+    passes_by(alloc, program, lines, Keep, pick)?;
+    passes_by(alloc, program, lines, Nothing, pick)?;
+    passes_by(alloc, program, lines, Last::make(alloc, 1)?, pick)?;
+    let policy = Scripted::make(alloc, scraps(alloc)?);
+    passes_by(alloc, program, lines, policy, pick)
 }
 
-fn each_passes_by_each_policy<A: Abort + AllocGlobal, S: Pick + Copy>(
-    rt: &A,
-    programs: &[Worked],
-    pick: S,
-) -> Result<(), Fail> {
+// The same by listed numbers, where all is held, and where some is dropped.
+fn passes_by_listed_numbers(alloc: Global, program: &Worked, lines: &str) -> Result<(), Fail> {
+    passes_by(alloc, program, lines, Keep, Listed::make(numbers(alloc)?))?;
+    let policy = Scripted::make(alloc, scraps(alloc)?);
+    passes_by(alloc, program, lines, policy, Listed::make(numbers(alloc)?))
+}
+
+fn passes(alloc: Global, program: &Worked, lines: &str) -> Result<(), Fail> {
+    passes_by_each_policy(alloc, program, lines, Newest)?;
+    passes_by_each_policy(alloc, program, lines, Oldest)?;
+    passes_by_listed_numbers(alloc, program, lines)
+}
+
+fn each_passes(alloc: Global, programs: &[Worked]) -> Result<(), Fail> {
     for program in programs {
-        passes_by_each_policy(rt, program, pick)?;
+        let lines = program.lines(alloc)?;
+        passes(alloc, program, &lines)?;
     }
     Ok(())
 }
 
 #[test]
-fn newest_first(rt: HostRuntime) -> Result<(), Fail> {
-    each_passes_by_each_policy(&rt, &OVER_TIME, Newest)?;
-    each_passes_by_each_policy(&rt, &IN_CONTEXTS, Newest)?;
-    each_passes_by_each_policy(&rt, &OVER_INPUTS, Newest)
-}
-
-#[test]
-fn oldest_first(rt: HostRuntime) -> Result<(), Fail> {
-    each_passes_by_each_policy(&rt, &OVER_TIME, Oldest)?;
-    each_passes_by_each_policy(&rt, &IN_CONTEXTS, Oldest)?;
-    each_passes_by_each_policy(&rt, &OVER_INPUTS, Oldest)
-}
-
-fn each_passes_by_listed_numbers<A: Abort + AllocGlobal>(
-    rt: &A,
-    programs: &[Worked],
-) -> Result<(), Fail> {
+fn worked_programs(rt: HostRuntime) -> Result<(), Fail> {
     let alloc = rt.alloc();
-    for program in programs {
-        passes_by(rt, program, Keep, Listed::make(numbers(alloc)?))?;
-        let policy = Scripted::make(alloc, scraps(alloc)?);
-        passes_by(rt, program, policy, Listed::make(numbers(alloc)?))?;
-    }
-    Ok(())
-}
-
-#[test]
-fn listed_numbers(rt: HostRuntime) -> Result<(), Fail> {
-    each_passes_by_listed_numbers(&rt, &OVER_TIME)?;
-    each_passes_by_listed_numbers(&rt, &IN_CONTEXTS)?;
-    each_passes_by_listed_numbers(&rt, &OVER_INPUTS)
+    each_passes(alloc, &OVER_TIME)?;
+    each_passes(alloc, &IN_CONTEXTS)?;
+    each_passes(alloc, &OVER_INPUTS)
 }
