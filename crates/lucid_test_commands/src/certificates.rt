@@ -1,9 +1,7 @@
 //! Certificates that are made and checked: a value that they tell, a judgment that doesn't follow, and the order of what is looked at.
-use crate::row::{DONE, REFUSED, Row, TOO_DEEP, USAGE, call, each_passes, places_of};
-use lucid_ports::{Endless, FailAt};
+use crate::row::{DONE, REFUSED, Row, TOO_DEEP, USAGE};
+use lucid_ports::FailAt;
 use lucid_report::Status;
-use std::process::Abort;
-use std::test::Fail;
 
 // Factorials, each by an iteration of its own; and a certificate of the value at time 3.
 const FACTORIALS: &str =
@@ -50,7 +48,7 @@ const NINE: &str =
 const END: &str = "j 0 0 2 0 0 eod\nj 1 0 2 0 0 3\nj 2 0 2 0 2 0 1 eod\n";
 
 // What is made; the rows of RIGHT check the first two again.
-static MADE: [Row<'static>; 7] = [
+pub(crate) static MADE: [Row<'static>; 7] = [
     Row {
         words: "--why 3 p",
         source: FACTORIALS,
@@ -104,7 +102,7 @@ static MADE: [Row<'static>; 7] = [
 ];
 
 // Too deep, without figures; a limit that is just enough; and what is refused before: words, source, names, files.
-static NOT_MADE: [Row<'static>; 9] = [
+pub(crate) static NOT_MADE: [Row<'static>; 9] = [
     Row {
         words: "--why 0 p",
         source: "x where x = x; end",
@@ -159,7 +157,7 @@ static NOT_MADE: [Row<'static>; 9] = [
     },
 ];
 
-static RIGHT: [Row<'static>; 6] = [
+pub(crate) static RIGHT: [Row<'static>; 6] = [
     Row {
         words: "--check w p",
         source: FACTORIALS,
@@ -216,7 +214,7 @@ static RIGHT: [Row<'static>; 6] = [
     },
 ];
 
-static WRONG: [Row<'static>; 5] = [
+pub(crate) static WRONG: [Row<'static>; 5] = [
     Row {
         words: "--check w p",
         source: "7",
@@ -262,7 +260,7 @@ static WRONG: [Row<'static>; 5] = [
 ];
 
 // What is looked at first: the words, the source and its names, the files of the inputs, the certificate, the inputs.
-static ORDER: [Row<'static>; 8] = [
+pub(crate) static ORDER: [Row<'static>; 8] = [
     Row {
         words: "--check w --why 3 p",
         source: "7",
@@ -315,7 +313,7 @@ static ORDER: [Row<'static>; 8] = [
     },
 ];
 
-static FAILURES: [Row<'static>; 5] = [
+pub(crate) static FAILURES: [Row<'static>; 5] = [
     Row {
         words: "--why 1 p",
         source: "a",
@@ -372,48 +370,3 @@ static FAILURES: [Row<'static>; 5] = [
         ..DONE
     },
 ];
-
-#[test]
-fn certificates_are_made(rt: HostRuntime) -> Result<(), Fail> {
-    each_passes(&rt, &MADE)?;
-    each_passes(&rt, &NOT_MADE)
-}
-
-#[test]
-fn certificates_are_checked(rt: HostRuntime) -> Result<(), Fail> {
-    each_passes(&rt, &RIGHT)?;
-    each_passes(&rt, &WRONG)?;
-    each_passes(&rt, &ORDER)?;
-    each_passes(&rt, &FAILURES)
-}
-
-// The report of a check of this text, as a certificate of the factorials.
-fn report_of<R: Abort + AllocGlobal>(rt: &R, text: &str, report: &str) -> Result<(), Fail> {
-    let alloc = rt.alloc();
-    let mut places = places_of(alloc, FACTORIALS.as_bytes(), &[("w", text)], &[])?;
-    let answer = call(alloc, "--check w p", &mut places, 100, &[])?;
-    assert!(rt; answer.tells(Status::Refused, "", report), "{report}");
-    Ok(())
-}
-
-#[test]
-fn a_false_and_a_short_certificate(rt: HostRuntime) -> Result<(), Fail> {
-    let alloc = rt.alloc();
-    let short = SIX.trim_end();
-    report_of(&rt, short, "line 65 is no judgment\n")?;
-    let mut other = String::from_str(alloc, short.trim_end_matches('6'))?;
-    other.push_str("7\n")?;
-    report_of(&rt, &other, "judgment 63 does not follow\n")
-}
-
-#[test]
-fn a_certificate_too_long(rt: HostRuntime) -> Result<(), Fail> {
-    let alloc = rt.alloc();
-    let mut files = Vec::new(alloc);
-    files.push(crate::row::file(alloc, "p", b"7")?)?;
-    let piece = vec![in alloc; 108; 1_048_576]?;
-    let mut places = Endless::make(alloc, files, piece);
-    let answer = call(alloc, "--check w p", &mut places, 100, &[])?;
-    assert!(rt; answer.tells(Status::Refused, "", "certificate too long\n"));
-    Ok(())
-}

@@ -1,14 +1,12 @@
 //! Columns: several names of the outermost block side by side, and what is refused as a column.
-use crate::inputs::LINES;
-use crate::row::{DONE, REFUSED, Row, TOO_DEEP, USAGE, Way, each_passes, each_passes_by};
+use crate::row::{DONE, REFUSED, Row, TOO_DEEP, USAGE};
 use lucid_test_programs::THREE_NAMES;
-use std::test::Fail;
 
 const THREE_LINES: &str = "1\t1\t5\n2\t4\t\n3\t9\t\n";
 
 const SUM_AND_DOUBLE: &str = "s where s = a fby s + next a; d = a * 2; end";
 
-static SHOWN: [Row<'static>; 9] = [
+pub(crate) static SHOWN: [Row<'static>; 9] = [
     // three columns, of which the last ends early
     Row {
         words: "--columns a,b,c --count 3 p",
@@ -73,7 +71,7 @@ static SHOWN: [Row<'static>; 9] = [
     },
 ];
 
-static INPUTS: [Row<'static>; 5] = [
+pub(crate) static INPUTS: [Row<'static>; 5] = [
     // an input that two columns share is read once
     Row {
         words: "--columns s,d p",
@@ -118,7 +116,7 @@ static INPUTS: [Row<'static>; 5] = [
     },
 ];
 
-static POLICIES: [Row<'static>; 6] = [
+pub(crate) static POLICIES: [Row<'static>; 6] = [
     Row {
         words: "--columns a,b,c --count 3 --policy none p",
         source: THREE_NAMES,
@@ -162,7 +160,7 @@ static POLICIES: [Row<'static>; 6] = [
     },
 ];
 
-static DEEP: [Row<'static>; 5] = [
+pub(crate) static DEEP: [Row<'static>; 5] = [
     // the second column is too deep at once: no part of the line is written
     Row {
         words: "--columns a,b --depth 50 p",
@@ -201,7 +199,7 @@ static DEEP: [Row<'static>; 5] = [
     },
 ];
 
-static NONE: [Row<'static>; 12] = [
+pub(crate) static NONE: [Row<'static>; 12] = [
     Row {
         words: "--columns a,z p",
         source: THREE_NAMES,
@@ -280,25 +278,3 @@ static NONE: [Row<'static>; 12] = [
         ..USAGE
     },
 ];
-
-#[test]
-fn columns_side_by_side(rt: HostRuntime) -> Result<(), Fail> {
-    each_passes(&rt, &SHOWN)?;
-    each_passes(&rt, &INPUTS)
-}
-
-#[test]
-fn columns_over_one_store(rt: HostRuntime) -> Result<(), Fail> {
-    each_passes(&rt, &POLICIES)?;
-    each_passes(&rt, &DEEP)
-}
-
-#[test]
-fn what_is_no_column(rt: HostRuntime) -> Result<(), Fail> {
-    each_passes(&rt, &NONE)
-}
-
-#[test]
-fn one_column_is_the_program(rt: HostRuntime) -> Result<(), Fail> {
-    each_passes_by(&rt, &LINES, Way::Alone)
-}

@@ -1,11 +1,10 @@
 //! Judgments by the delays along cycles of references.
-use crate::row::{DONE, REFUSED, Row, each_passes};
+use crate::row::{DONE, REFUSED, Row};
 use lucid_report::Status;
 use lucid_test_programs::{COUNTING, FIBONACCI, SEARCH_WITHOUT_END};
-use std::test::Fail;
 
 // A depth that is enough, or a cycle. Words that a run would look at are not looked at.
-static JUDGED: [Row<'static>; 8] = [
+pub(crate) static JUDGED: [Row<'static>; 8] = [
     Row {
         words: "--cycles p",
         source: COUNTING,
@@ -60,7 +59,7 @@ static JUDGED: [Row<'static>; 8] = [
     },
 ];
 
-static NOT_JUDGED: [Row<'static>; 4] = [
+pub(crate) static NOT_JUDGED: [Row<'static>; 4] = [
     Row {
         words: "--cycles p",
         source: SEARCH_WITHOUT_END,
@@ -87,9 +86,3 @@ static NOT_JUDGED: [Row<'static>; 4] = [
         ..REFUSED
     },
 ];
-
-#[test]
-fn judgments_and_refused_ones(rt: HostRuntime) -> Result<(), Fail> {
-    each_passes(&rt, &JUDGED)?;
-    each_passes(&rt, &NOT_JUDGED)
-}

@@ -5,25 +5,17 @@ use crate::row::{call, places_of, taken};
 use lucid_ports::FailAt;
 use lucid_report::Status;
 use lucid_test_programs::{COUNTING, RUNNING_SUM};
-use std::process::Abort;
+use std::alloc::Global;
 use std::test::Fail;
 
-// The running sum of three elements, where the call that would look at that position of that place fails: what is written, and how many
+// The running sum of three elements, where the call that would look at that position of that place fails: whether this is written, and so many
 // bytes of each input that is reached are consumed.
-fn read_fails<R: Abort + AllocGlobal>(
-    rt: &R,
-    failure: FailAt,
-    out: &str,
-    consumed: &[u64],
-) -> Result<(), Fail> {
-    let alloc = rt.alloc();
+fn read_fails(alloc: Global, failure: FailAt, out: &str, consumed: &[u64]) -> Result<bool, Fail> {
     let source = RUNNING_SUM.as_bytes();
     let mut places = places_of(alloc, source, &[("-", "3\n4\n5")], &[failure])?;
     let answer = call(alloc, "p", &mut places, 100, &[])?;
     let told = answer.tells(Status::ReadFault, out, "read fault\n");
-    let fails = told && taken(alloc, &mut places)?.as_slice() == consumed;
-    assert!(rt; fails, "{failure:?}");
-    Ok(())
+    Ok(told && taken(alloc, &mut places)?.as_slice() == consumed)
 }
 
 // A position of the input, what is written, and the bytes consumed.
@@ -36,34 +28,33 @@ const OF_INPUT: [(u64, &str, u64); 6] = [
     (5, "3\n7\n", 5),
 ];
 
-// Of the source the position of its end is one of them, and then no input is reached.
-#[test]
-fn each_read_fails(rt: HostRuntime) -> Result<(), Fail> {
+// The first position of the input at which a failure goes otherwise.
+fn wrong_of_input(alloc: Global) -> Result<Option<u64>, Fail> {
     for (position, out, consumed) in OF_INPUT {
-        read_fails(&rt, FailAt { place: 1, position }, out, &[consumed])?;
+        if !read_fails(alloc, FailAt { place: 1, position }, out, &[consumed])? {
+            return Ok(Some(position));
+        }
     }
-    assert_eq!(rt; RUNNING_SUM.len(), 33);
-    for position in 0..34 {
-        read_fails(&rt, FailAt { place: 0, position }, "", &[])?;
-    }
-    Ok(())
+    Ok(None)
 }
 
-// Counting up, where the write of that number fails and each write takes at most `most` bytes: what was written before.
-fn write_fails<R: Abort + AllocGlobal>(
-    rt: &R,
-    most: usize,
-    number: u64,
-    out: &str,
-) -> Result<(), Fail>
+// The same of the source, of which the position of its end is one of them; then no input is reached.
+fn wrong_of_source(alloc: Global) -> Result<Option<u64>, Fail> {
+    for position in 0..34 {
+        if !read_fails(alloc, FailAt { place: 0, position }, "", &[])? {
+            return Ok(Some(position));
+        }
+    }
+    Ok(None)
+}
+
+// Counting up, where the write of that number fails and each write takes at most `most` bytes: whether this was written before.
+fn write_fails(alloc: Global, most: usize, number: u64, out: &str) -> Result<bool, Fail>
     requires { 1 ≤ most }
 {
-    let alloc = rt.alloc();
     let mut places = places_of(alloc, COUNTING.as_bytes(), &[], &[])?;
     let answer = call(alloc, "--count 5 p", &mut places, most, &[number])?;
-    let told = answer.tells(Status::WriteFault, out, "write fault\n");
-    assert!(rt; told, "{most}, {number}");
-    Ok(())
+    Ok(answer.tells(Status::WriteFault, out, "write fault\n"))
 }
 
 // The number of the write that fails, and what was written before where a write takes one byte, and where it takes a line.
@@ -75,11 +66,24 @@ const OF_OUT: [(u64, &str, &str); 5] = [
     (4, "0\n1\n", "0\n1\n2\n3\n"),
 ];
 
-#[test]
-fn each_write_fails(rt: HostRuntime) -> Result<(), Fail> {
+// The first write whose failure goes otherwise.
+fn wrong_write(alloc: Global) -> Result<Option<u64>, Fail> {
     for (number, bytes, lines) in OF_OUT {
-        write_fails(&rt, 1, number, bytes)?;
-        write_fails(&rt, 100, number, lines)?;
+        if !write_fails(alloc, 1, number, bytes)? || !write_fails(alloc, 100, number, lines)? {
+            return Ok(Some(number));
+        }
     }
+    Ok(None)
+}
+
+#[test]
+fn each_read_and_each_write_fails(rt: HostRuntime) -> Result<(), Fail> {
+    let alloc = rt.alloc();
+    let wrong = [
+        wrong_of_input(alloc)?,
+        wrong_of_source(alloc)?,
+        wrong_write(alloc)?,
+    ];
+    assert_eq!(rt; (RUNNING_SUM.len(), wrong), (33, [None, None, None]));
     Ok(())
 }

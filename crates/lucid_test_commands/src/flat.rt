@@ -1,12 +1,8 @@
 //! The flat form: what is written of a program, and what runs and is refused as a source. Its rules are those of the form: a line for each
 //! row, and each row's names lead somewhere.
-use crate::inputs::{FAULTS, LINES};
-use crate::row::{DONE, REFUSED, Row, USAGE, Way, call, each_passes, each_passes_by};
-use crate::streams::{DEEP, POLICIES, UNCOUNTED};
-use lucid_ports::Endless;
+use crate::row::{DONE, REFUSED, Row, USAGE};
 use lucid_report::Status;
 use lucid_test_programs::COUNTING;
-use std::test::Fail;
 
 const ONE: &str = "lucid flat 1\nconst 1\nnode 0 const 0\nroot 0\n";
 
@@ -14,7 +10,7 @@ const ONE: &str = "lucid flat 1\nconst 1\nnode 0 const 0\nroot 0\n";
 const SUM: &str =
     "lucid flat 1\ninput b\ninput a\nnode 0 input 0\nnode 0 input 1\nnode 0 apply add 0 1 0\nroot 2\n";
 
-static WRITTEN: [Row<'static>; 4] = [
+pub(crate) static WRITTEN: [Row<'static>; 4] = [
     Row {
         words: "--flat p",
         source: "1",
@@ -44,7 +40,7 @@ static WRITTEN: [Row<'static>; 4] = [
     },
 ];
 
-static RUN: [Row<'static>; 6] = [
+pub(crate) static RUN: [Row<'static>; 6] = [
     Row {
         words: "--from-flat --count 2 p",
         source: ONE,
@@ -93,7 +89,7 @@ static RUN: [Row<'static>; 6] = [
 ];
 
 // The files of the inputs.
-static INPUTS: [Row<'static>; 4] = [
+pub(crate) static INPUTS: [Row<'static>; 4] = [
     Row {
         words: "--from-flat p",
         source: SUM,
@@ -121,7 +117,7 @@ static INPUTS: [Row<'static>; 4] = [
 ];
 
 // The first wrong row of a table, and the first line with which no text goes on.
-static WRONG: [Row<'static>; 12] = [
+pub(crate) static WRONG: [Row<'static>; 12] = [
     Row {
         words: "--from-flat p",
         source: "lucid flat 1\nscope 1 called\nconst 1\nnode 0 const 0\nroot 0\n",
@@ -198,30 +194,3 @@ static WRONG: [Row<'static>; 12] = [
         ..REFUSED
     },
 ];
-
-#[test]
-fn flat_forms(rt: HostRuntime) -> Result<(), Fail> {
-    each_passes(&rt, &WRITTEN)?;
-    each_passes(&rt, &RUN)?;
-    each_passes(&rt, &INPUTS)?;
-    each_passes(&rt, &WRONG)
-}
-
-#[test]
-fn rows_by_their_flat_forms(rt: HostRuntime) -> Result<(), Fail> {
-    each_passes_by(&rt, &UNCOUNTED, Way::Flat)?;
-    each_passes_by(&rt, &POLICIES, Way::Flat)?;
-    each_passes_by(&rt, &DEEP, Way::Flat)?;
-    each_passes_by(&rt, &LINES, Way::Flat)?;
-    each_passes_by(&rt, &FAULTS, Way::Flat)
-}
-
-#[test]
-fn a_flat_source_too_long(rt: HostRuntime) -> Result<(), Fail> {
-    let alloc = rt.alloc();
-    let piece = vec![in alloc; 108; 65_536]?;
-    let mut places = Endless::make(alloc, Vec::new(alloc), piece);
-    let answer = call(alloc, "--from-flat p", &mut places, 100, &[])?;
-    assert!(rt; answer.tells(Status::Refused, "", "source too long\n"));
-    Ok(())
-}

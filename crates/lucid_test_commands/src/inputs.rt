@@ -1,17 +1,18 @@
 //! Programs over inputs: their lines, and how many bytes they consume.
-use crate::row::{DONE, Row, call, each_passes, file, places_of};
-use lucid_ports::{Endless, FailAt, Narrow};
+use crate::row::{DONE, Row, call, places_of};
+use lucid_ports::{FailAt, Narrow};
 use lucid_report::Status;
 use lucid_test_programs::{COUNTING, RUNNING_SUM};
+use std::alloc::Global;
 use std::test::Fail;
 
 /// The total and the largest of sales, with a comment.
-pub(crate) const SALES: &str =
+const SALES: &str =
     "total :: largest :: [] where // sales\ntotal = sale fby total + next sale; largest = sale fby if next sale > largest then next sale else largest fi; end";
 
-pub(crate) const THREE_SALES: &str = "120\r\n80\r\n200\r\n";
+const THREE_SALES: &str = "120\r\n80\r\n200\r\n";
 
-pub(crate) const TOTALS: &str = "[% 120 120 %]\n[% 200 120 %]\n[% 400 200 %]\n";
+const TOTALS: &str = "[% 120 120 %]\n[% 200 120 %]\n[% 400 200 %]\n";
 
 pub(crate) static LINES: [Row<'static>; 2] = [
     // two inputs, of which one ends first
@@ -66,30 +67,18 @@ pub(crate) static FAULTS: [Row<'static>; 3] = [
     },
 ];
 
-#[test]
-fn programs_over_inputs(rt: HostRuntime) -> Result<(), Fail> {
-    each_passes(&rt, &LINES)?;
-    each_passes(&rt, &FAULTS)
+// The sales, where a byte is shown at a time.
+fn byte_by_byte(alloc: Global) -> Result<bool, Fail> {
+    let places = places_of(alloc, SALES.as_bytes(), &[("-", THREE_SALES)], &[])?;
+    let answer = call(alloc, "p", &mut Narrow::make(places, 1), 100, &[])?;
+    Ok(answer.tells(Status::Done, TOTALS, ""))
 }
 
 #[test]
 fn sales_byte_by_byte(rt: HostRuntime) -> Result<(), Fail> {
-    let alloc = rt.alloc();
-    let places = places_of(alloc, SALES.as_bytes(), &[("-", THREE_SALES)], &[])?;
-    let answer = call(alloc, "p", &mut Narrow::make(places, 1), 100, &[])?;
-    assert!(rt; answer.tells(Status::Done, TOTALS, ""));
-    Ok(())
-}
-
-// The input gives the byte `1` without end.
-#[test]
-fn an_input_too_large(rt: HostRuntime) -> Result<(), Fail> {
-    let alloc = rt.alloc();
-    let mut files = Vec::new(alloc);
-    files.push(file(alloc, "p", b"a")?)?;
-    let piece = vec![in alloc; 49; 65_536]?;
-    let mut places = Endless::make(alloc, files, piece);
-    let answer = call(alloc, "p", &mut places, 100, &[])?;
-    assert!(rt; answer.tells(Status::TooLarge, "", "input a too large\n"));
-    Ok(())
+    if byte_by_byte(rt.alloc())? {
+        Ok(())
+    } else {
+        Err(Fail::new("the sales, byte by byte"))
+    }
 }

@@ -7,11 +7,7 @@ mod certificates;
 #[cfg(test)]
 mod columns;
 #[cfg(test)]
-mod cut;
-#[cfg(test)]
 mod cycles;
-#[cfg(test)]
-mod edges;
 #[cfg(test)]
 mod failures;
 #[cfg(test)]
@@ -21,8 +17,6 @@ mod given;
 #[cfg(test)]
 mod inputs;
 #[cfg(test)]
-mod large;
-#[cfg(test)]
 mod programs;
 #[cfg(test)]
 mod refused;
@@ -30,3 +24,5 @@ mod refused;
 mod row;
 #[cfg(test)]
 mod streams;
+#[cfg(test)]
+mod tables;

@@ -1,9 +1,8 @@
 //! The worked programs by the command.
-use crate::row::{Row, Way, passes_by};
+use crate::row::{Answer, Row, Way, call, passes_by, places_of};
 use lucid_report::Status;
-use lucid_test_programs::{IN_CONTEXTS, OVER_INPUTS, OVER_SPACE, OVER_TIME, Worked};
+use lucid_test_programs::{IN_CONTEXTS, OVER_INPUTS, OVER_SPACE, OVER_TIME, UNDEFINED, Worked};
 use std::alloc::{AllocError, Global};
-use std::process::Abort;
 use std::test::Fail;
 
 // The words that run the program: to its end where that is told, and else for as many lines as values are told. Where it has two inputs, each
@@ -43,54 +42,79 @@ fn row_of<'a>(
     }
 }
 
-fn passes_over<R: Abort + AllocGlobal>(
-    rt: &R,
+fn passes_over(
+    alloc: Global,
     program: &Worked,
     files: &[(&str, &str)],
+    lines: &str,
     way: Way,
 ) -> Result<(), Fail> {
-    let words = words_of(rt.alloc(), program)?;
-    let lines = program.lines(rt.alloc())?;
-    let row = row_of(program, files, words.as_str(), lines.as_str());
-    passes_by(rt, &row, way)
+    let words = words_of(alloc, program)?;
+    passes_by(alloc, &row_of(program, files, &words, lines), way)
 }
 
 // The only input is the standard input.
-fn passes<R: Abort + AllocGlobal>(rt: &R, program: &Worked, way: Way) -> Result<(), Fail> {
+fn passes(alloc: Global, program: &Worked, lines: &str, way: Way) -> Result<(), Fail> {
     match program.inputs {
-        [(_, bytes)] => passes_over(rt, program, &[("-", *bytes)], way),
-        files => passes_over(rt, program, files, way),
+        [(_, bytes)] => passes_over(alloc, program, &[("-", *bytes)], lines, way),
+        files => passes_over(alloc, program, files, lines, way),
     }
 }
 
-fn each_passes<R: Abort + AllocGlobal>(rt: &R, programs: &[Worked], way: Way) -> Result<(), Fail> {
+// Each of the programs passes by these ways.
+fn each_passes(alloc: Global, programs: &[Worked], ways: &[Way]) -> Result<(), Fail> {
     for program in programs {
-        passes(rt, program, way)?;
+        let lines = program.lines(alloc)?;
+        for way in ways {
+            passes(alloc, program, &lines, *way)?;
+        }
     }
     Ok(())
 }
 
-fn all_pass<R: Abort + AllocGlobal>(rt: &R, way: Way) -> Result<(), Fail> {
-    each_passes(rt, &OVER_TIME, way)?;
-    each_passes(rt, &OVER_SPACE, way)?;
-    each_passes(rt, &IN_CONTEXTS, way)?;
-    each_passes(rt, &OVER_INPUTS, way)
-}
-
-#[test]
-fn worked_programs(rt: HostRuntime) -> Result<(), Fail> {
-    all_pass(&rt, Way::Source)
-}
-
-#[test]
-fn worked_programs_by_their_flat_forms(rt: HostRuntime) -> Result<(), Fail> {
-    all_pass(&rt, Way::Flat)
-}
-
 // Of those in contexts one has a subject that belongs to an inner block, which is no column.
 #[test]
-fn worked_programs_as_one_column(rt: HostRuntime) -> Result<(), Fail> {
-    each_passes(&rt, &OVER_TIME, Way::Alone)?;
-    each_passes(&rt, &OVER_SPACE, Way::Alone)?;
-    each_passes(&rt, &OVER_INPUTS, Way::Alone)
+fn worked_programs(rt: HostRuntime) -> Result<(), Fail> {
+    let alloc = rt.alloc();
+    let ways = [Way::Source, Way::Flat, Way::Alone];
+    each_passes(alloc, &OVER_TIME, &ways)?;
+    each_passes(alloc, &OVER_SPACE, &ways)?;
+    each_passes(alloc, &IN_CONTEXTS, &[Way::Source, Way::Flat])?;
+    each_passes(alloc, &OVER_INPUTS, &ways)
+}
+
+// What is printed of a text.
+fn printed(alloc: Global, text: &[u8]) -> Result<Answer, Fail> {
+    let mut places = places_of(alloc, text, &[], &[])?;
+    call(alloc, "--print p", &mut places, 100, &[])
+}
+
+// Whether the printed text of a source spells the same tree: it is printed as it is.
+fn is_printed_again(alloc: Global, source: &str) -> Result<bool, Fail> {
+    let text = printed(alloc, source.as_bytes())?;
+    let again = printed(alloc, text.out.written())?;
+    Ok(
+        text.status == Status::Done
+            && again.status == Status::Done
+            && again.out.written() == text.out.written(),
+    )
+}
+
+fn each_is_printed_again(alloc: Global, programs: &[Worked]) -> Result<(), Fail> {
+    for program in programs {
+        if !is_printed_again(alloc, program.source)? {
+            return Err(Fail::new(format_args!("{} printed", program.name)));
+        }
+    }
+    Ok(())
+}
+
+#[test]
+fn worked_programs_printed(rt: HostRuntime) -> Result<(), Fail> {
+    let alloc = rt.alloc();
+    each_is_printed_again(alloc, &OVER_TIME)?;
+    each_is_printed_again(alloc, &OVER_SPACE)?;
+    each_is_printed_again(alloc, &IN_CONTEXTS)?;
+    each_is_printed_again(alloc, &OVER_INPUTS)?;
+    each_is_printed_again(alloc, &UNDEFINED)
 }

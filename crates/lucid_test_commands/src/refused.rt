@@ -1,11 +1,9 @@
 //! Sources and words that are refused.
-use crate::row::{REFUSED, Row, USAGE, call, each_passes, places_of};
-use lucid_report::Status;
+use crate::row::{REFUSED, Row, USAGE};
 use lucid_test_programs::COUNTING;
-use std::test::Fail;
 
 // Bytes that are no tokens, and tokens that spell no program.
-static SOURCES: [Row<'static>; 6] = [
+pub(crate) static SOURCES: [Row<'static>; 6] = [
     Row {
         source: "",
         report: "syntax at 0\n",
@@ -39,7 +37,7 @@ static SOURCES: [Row<'static>; 6] = [
     },
 ];
 
-static NAMES: [Row<'static>; 6] = [
+pub(crate) static NAMES: [Row<'static>; 6] = [
     Row {
         source: "x where x = 1; x = 2; end",
         report: "defined twice at 15\n",
@@ -73,7 +71,7 @@ static NAMES: [Row<'static>; 6] = [
     },
 ];
 
-static WORDS: [Row<'static>; 6] = [
+pub(crate) static WORDS: [Row<'static>; 6] = [
     // no words
     Row {
         words: "",
@@ -110,20 +108,3 @@ static WORDS: [Row<'static>; 6] = [
         ..USAGE
     },
 ];
-
-#[test]
-fn refused_sources_names_and_words(rt: HostRuntime) -> Result<(), Fail> {
-    each_passes(&rt, &SOURCES)?;
-    each_passes(&rt, &NAMES)?;
-    each_passes(&rt, &WORDS)
-}
-
-#[test]
-fn a_source_too_long(rt: HostRuntime) -> Result<(), Fail> {
-    let alloc = rt.alloc();
-    let source = " ".repeat(alloc, 1_048_577)?;
-    let mut places = places_of(alloc, source.as_bytes(), &[], &[])?;
-    let answer = call(alloc, "p", &mut places, 100, &[])?;
-    assert!(rt; answer.tells(Status::Refused, "", "source too long\n"));
-    Ok(())
-}

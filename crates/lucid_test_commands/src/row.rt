@@ -6,7 +6,6 @@ use lucid_ports::{FailAt, MemoryFile, MemoryPlaces, MemorySink, Places};
 use lucid_report::Status;
 use lucid_top::lucid;
 use std::alloc::{AllocError, Global};
-use std::process::Abort;
 use std::test::Fail;
 
 /// A row. The file `p` has the source.
@@ -31,7 +30,7 @@ pub(crate) struct Row<'a> {
 }
 
 /// A way to run a row's program.
-#[derive(Clone, Copy)]
+#[derive(Clone, Copy, Debug)]
 pub(crate) enum Way {
     /// By its source.
     Source,
@@ -74,18 +73,20 @@ pub(crate) const TOO_DEEP: Row<'static> = Row {
     ..DONE
 };
 
-/// What a call of the command answered, wrote and reported.
+/// What a call of the command answered, and the sinks to which it wrote and reported.
 #[derive(Drop)]
 pub(crate) struct Answer {
     pub(crate) status: Status,
-    pub(crate) out: String,
-    pub(crate) report: String,
+    pub(crate) out: MemorySink,
+    pub(crate) report: MemorySink,
 }
 
 impl Answer {
     /// Whether these are its status, what it wrote, and what it reported.
     pub(crate) fn tells(&self, status: Status, out: &str, report: &str) -> bool {
-        self.status == status && self.out.as_str() == out && self.report.as_str() == report
+        self.status == status
+            && self.out.written() == out.as_bytes()
+            && self.report.written() == report.as_bytes()
     }
 }
 
@@ -96,12 +97,6 @@ pub(crate) fn word_list(alloc: Global, words: &str) -> Result<Vec<String>, Alloc
         list.push(String::from_str(alloc, word)?)?;
     }
     Ok(list)
-}
-
-/// What was written to a sink.
-pub(crate) fn written(alloc: Global, sink: &MemorySink) -> Result<String, Fail> {
-    let bytes = Vec::from_slice(alloc, sink.written())?;
-    Ok(String::from_utf8(bytes)?)
 }
 
 /// Calls the command. A write takes at most `most` bytes of its piece, and the listed ones fail.
@@ -122,13 +117,13 @@ pub(crate) fn call<P: Places>(
     let status = lucid(alloc, &list, places, &mut out, &mut report);
     Ok(Answer {
         status,
-        out: written(alloc, &out)?,
-        report: written(alloc, &report)?,
+        out,
+        report,
     })
 }
 
-/// A file of that name.
-pub(crate) fn file(alloc: Global, name: &str, bytes: &[u8]) -> Result<MemoryFile, AllocError> {
+// A file of that name.
+fn file(alloc: Global, name: &str, bytes: &[u8]) -> Result<MemoryFile, AllocError> {
     Ok(MemoryFile {
         name: String::from_str(alloc, name)?,
         bytes: Vec::from_slice(alloc, bytes)?,
@@ -193,22 +188,16 @@ fn does_so(alloc: Global, words: &str, text: &[u8], row: &Row) -> Result<bool, F
 }
 
 // The call does what the row says.
-fn passes<R: Abort + AllocGlobal>(rt: &R, row: &Row) -> Result<(), Fail> {
-    let (name, words, source) = (row.name, row.words, row.source);
-    let does = does_so(rt.alloc(), words, source.as_bytes(), row)?;
-    assert!(rt; does, "{name} {words}: {source}");
-    Ok(())
+fn passes(alloc: Global, row: &Row) -> Result<bool, Fail> {
+    does_so(alloc, row.words, row.source.as_bytes(), row)
 }
 
 // The flat form of the row's program runs as the program does.
-fn passes_flat<R: Abort + AllocGlobal>(rt: &R, row: &Row) -> Result<(), Fail> {
-    let alloc = rt.alloc();
-    let (name, source) = (row.name, row.source);
-    let flat = flat_form(alloc, source)?;
+fn passes_flat(alloc: Global, row: &Row) -> Result<bool, Fail> {
+    let flat = flat_form(alloc, row.source)?;
     let words = format!(in alloc; "--from-flat {}", row.words)?;
-    let does = flat.status == Status::Done && does_so(alloc, &words, flat.out.as_bytes(), row)?;
-    assert!(rt; does, "{name}: {source}");
-    Ok(())
+    let does = does_so(alloc, &words, flat.out.written(), row)?;
+    Ok(does && flat.status == Status::Done)
 }
 
 // The name that is the subject of a source, where it begins with a name and `where`.
@@ -227,37 +216,31 @@ fn subject_of(source: &str) -> Option<&str> {
 }
 
 // The program does the same by its subject as the only column.
-fn passes_alone<R: Abort + AllocGlobal>(rt: &R, row: &Row) -> Result<(), Fail> {
-    let alloc = rt.alloc();
+fn passes_alone(alloc: Global, row: &Row) -> Result<bool, Fail> {
     let Some(name) = subject_of(row.source) else {
-        return Ok(());
+        return Ok(true);
     };
     let words = format!(in alloc; "--columns {name} {}", row.words)?;
-    let does = does_so(alloc, &words, row.source.as_bytes(), row)?;
-    assert!(rt; does, "{words}: {}", row.source);
-    Ok(())
+    does_so(alloc, &words, row.source.as_bytes(), row)
 }
 
 /// The row passes by a way.
-pub(crate) fn passes_by<R: Abort + AllocGlobal>(rt: &R, row: &Row, way: Way) -> Result<(), Fail> {
-    match way {
-        Way::Source => passes(rt, row),
-        Way::Flat => passes_flat(rt, row),
-        Way::Alone => passes_alone(rt, row),
+pub(crate) fn passes_by(alloc: Global, row: &Row, way: Way) -> Result<(), Fail> {
+    let passed = match way {
+        Way::Source => passes(alloc, row)?,
+        Way::Flat => passes_flat(alloc, row)?,
+        Way::Alone => passes_alone(alloc, row)?,
+    };
+    if passed {
+        return Ok(());
     }
+    let (name, words, source) = (row.name, row.words, row.source);
+    Err(Fail::new(format_args!("{name} {way:?} {words}: {source}")))
 }
 
-pub(crate) fn each_passes_by<R: Abort + AllocGlobal>(
-    rt: &R,
-    rows: &[Row],
-    way: Way,
-) -> Result<(), Fail> {
+pub(crate) fn each_passes_by(alloc: Global, rows: &[Row], way: Way) -> Result<(), Fail> {
     for row in rows {
-        passes_by(rt, row, way)?;
+        passes_by(alloc, row, way)?;
     }
     Ok(())
-}
-
-pub(crate) fn each_passes<R: Abort + AllocGlobal>(rt: &R, rows: &[Row]) -> Result<(), Fail> {
-    each_passes_by(rt, rows, Way::Source)
 }

@@ -1,7 +1,6 @@
 //! Programs without inputs: their lines by default and by the policies, values that are too deep, and what is printed and made.
-use crate::row::{DONE, Row, TOO_DEEP, each_passes};
+use crate::row::{DONE, Row, TOO_DEEP};
 use lucid_test_programs::{COUNTING, DEEP_TREE, NO_VALUE, SEARCH_WITHOUT_END, THIRDS};
-use std::test::Fail;
 
 // Twenty lines where no count is given.
 pub(crate) static UNCOUNTED: [Row<'static>; 1] = [Row {
@@ -72,7 +71,7 @@ pub(crate) static DEEP: [Row<'static>; 5] = [
 ];
 
 // Canonical sources, and a made program with its figures.
-static PRINTED_AND_MADE: [Row<'static>; 3] = [
+pub(crate) static PRINTED_AND_MADE: [Row<'static>; 3] = [
     Row {
         words: "--print p",
         source: "a+b*c wvr(p)",
@@ -92,11 +91,3 @@ static PRINTED_AND_MADE: [Row<'static>; 3] = [
         ..DONE
     },
 ];
-
-#[test]
-fn programs_without_inputs(rt: HostRuntime) -> Result<(), Fail> {
-    each_passes(&rt, &UNCOUNTED)?;
-    each_passes(&rt, &POLICIES)?;
-    each_passes(&rt, &DEEP)?;
-    each_passes(&rt, &PRINTED_AND_MADE)
-}
