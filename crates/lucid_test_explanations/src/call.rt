@@ -1,11 +1,11 @@
 //! Calls of the command that explains its reports, over one file in memory.
-ghost use Rattle.std.specs.Prelude.{◌≡◌};
+ghost use Rattle.std.specs.Prelude.{◌≡◌, IfOk};
+ghost use Rattle.lucid_ports.specs.MemoryView.{memory_world};
 
 use lucid_explained::{Again, Outlook, lucid_explain};
-use lucid_ports::{MemoryFile, MemoryPlaces, MemorySink, Places, Sink};
+use lucid_ports::{MemoryFile, MemoryPlaces, MemorySink, Sink};
 use lucid_report::Status;
 use std::alloc::{AllocError, Global};
-use std::test::Fail;
 
 /// What comes again of the file `p`, and whether the standard input is a terminal.
 #[derive(Drop)]
@@ -37,30 +37,34 @@ impl<'a> Outlook for OneFile<'a> {
     }
 }
 
-/// What a call answered and reported.
+/// What a call answered, and the sink to which it reported.
 #[derive(Drop)]
 pub(crate) struct Answer {
     pub(crate) status: Status,
-    pub(crate) report: String,
+    pub(crate) report: MemorySink,
 }
 
 impl Answer {
     /// Whether these are its status and what it reported.
     pub(crate) fn tells(&self, status: Status, report: &str) -> bool {
-        self.status == status && self.report.as_str() == report
+        self.status == status && self.report.written() == report.as_bytes()
     }
 }
 
-/// A file of that name.
-pub(crate) fn file(alloc: Global, name: &str, bytes: &[u8]) -> Result<MemoryFile, AllocError> {
-    Ok(MemoryFile {
-        name: String::from_str(alloc, name)?,
-        bytes: Vec::from_slice(alloc, bytes)?,
-    })
+// The file `p` with the source.
+fn places_of(alloc: Global, source: &[u8]) -> Result<MemoryPlaces, AllocError>
+    ensures { IfOk result (λ places. (memory_world places).reached ≡ 0) }
+{
+    let mut files = Vec::new(alloc);
+    files.push(MemoryFile {
+        name: String::from_str(alloc, "p")?,
+        bytes: Vec::from_slice(alloc, source)?,
+    })?;
+    Ok(MemoryPlaces::make(alloc, files, Vec::new(alloc)))
 }
 
-/// The words, parted by blanks.
-pub(crate) fn words_of(alloc: Global, words: &str) -> Result<Vec<String>, AllocError> {
+// The words, parted by blanks.
+fn words_of(alloc: Global, words: &str) -> Result<Vec<String>, AllocError> {
     let mut list = Vec::new(alloc);
     for word in words.split_whitespace() {
         list.push(String::from_str(alloc, word)?)?;
@@ -68,46 +72,37 @@ pub(crate) fn words_of(alloc: Global, words: &str) -> Result<Vec<String>, AllocE
     Ok(list)
 }
 
-/// Calls the command with the words over these places.
-pub(crate) fn call_over<P: Places, K: Sink, F: Outlook>(
+/// Calls the command with the words, parted by blanks, over the file `p`, with an output.
+pub(crate) fn call_into<K: Sink>(
     alloc: Global,
-    words: &[String],
-    places: &mut P,
+    words: &str,
+    source: &[u8],
     out: &mut K,
-    outlook: &F,
-) -> Result<Answer, Fail>
-    requires { (P.world places.old).reached ≡ 0 }
-{
+    outlook: &OneFile<'_>,
+) -> Result<Answer, AllocError> {
+    let words = words_of(alloc, words)?;
+    let mut places = places_of(alloc, source)?;
     let mut report = MemorySink::make(alloc, 100, Vec::new(alloc));
-    let status = lucid_explain(alloc, words, places, outlook, out, &mut report);
-    let report = Vec::from_slice(alloc, report.written())?;
-    Ok(Answer {
-        status,
-        report: String::from_utf8(report)?,
-    })
+    let status = lucid_explain(alloc, &words, &mut places, outlook, out, &mut report);
+    Ok(Answer { status, report })
 }
 
-/// Calls the command with the words, parted by blanks, over the file `p`. The listed writes to the output fail.
+/// The same with an output in memory.
 pub(crate) fn call(
     alloc: Global,
     words: &str,
     source: &[u8],
-    writes: &[u64],
     outlook: &OneFile<'_>,
-) -> Result<Answer, Fail> {
-    let mut files = Vec::new(alloc);
-    files.push(file(alloc, "p", source)?)?;
-    let words = words_of(alloc, words)?;
-    let mut places = MemoryPlaces::make(alloc, files, Vec::new(alloc));
-    let mut out = MemorySink::make(alloc, 100, Vec::from_slice(alloc, writes)?);
-    call_over(alloc, &words, &mut places, &mut out, outlook)
+) -> Result<Answer, AllocError> {
+    let mut out = MemorySink::make(alloc, 100, Vec::new(alloc));
+    call_into(alloc, words, source, &mut out, outlook)
 }
 
 /// The same where the file comes again, and there is no terminal.
-pub(crate) fn plain_call(alloc: Global, words: &str, source: &[u8]) -> Result<Answer, Fail> {
+pub(crate) fn plain_call(alloc: Global, words: &str, source: &[u8]) -> Result<Answer, AllocError> {
     let outlook = OneFile {
         source: Some(source),
         terminal: false,
     };
-    call(alloc, words, source, &[], &outlook)
+    call(alloc, words, source, &outlook)
 }

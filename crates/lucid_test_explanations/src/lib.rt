@@ -4,8 +4,6 @@
 #[cfg(test)]
 mod call;
 #[cfg(test)]
-mod certificates;
-#[cfg(test)]
 mod hostile;
 #[cfg(test)]
 mod reports;

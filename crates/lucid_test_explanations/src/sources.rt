@@ -1,34 +1,40 @@
-//! Places by line and column, and as they are shown.
-use crate::call::plain_call;
+//! Places by line and column, and as they are shown; what may stand at a place; what is said of lines of certificates.
 use lucid_expected::{Position, position_of, put_place, standing};
-use std::alloc::Global;
-use std::process::Abort;
+use lucid_explained::line_text;
+use std::alloc::{AllocError, Global};
 use std::test::Fail;
 
-#[test]
-fn places_have_lines_and_columns(rt: HostRuntime) -> Result<(), Fail> {
+// The bytes of a source, and the line and the column of each.
+const PLACES: [(usize, Position); 7] = [
+    (0, Position { line: 1, column: 1 }),
+    (1, Position { line: 1, column: 2 }),
+    (2, Position { line: 1, column: 3 }),
+    (3, Position { line: 2, column: 1 }),
+    (4, Position { line: 3, column: 1 }),
+    (5, Position { line: 3, column: 2 }),
+    (7, Position { line: 3, column: 4 }),
+];
+
+// The first byte that has another place.
+fn other_place() -> Option<usize> {
     let source = b"a\r\n\n bc";
-    let table = [
-        (0, 1, 1),
-        (1, 1, 2),
-        (2, 1, 3),
-        (3, 2, 1),
-        (4, 3, 1),
-        (5, 3, 2),
-        (7, 3, 4),
-    ];
-    for (at, line, column) in table {
-        assert!(rt; at <= 7);
-        assert_eq!(rt; position_of(source, at), Position { line, column }, "{at}");
+    for (at, position) in PLACES {
+        if at > 7 || position_of(source, at) != position {
+            return Some(at);
+        }
     }
-    Ok(())
+    None
+}
+
+fn is_shown(alloc: Global) -> Result<bool, AllocError> {
+    let mut text = Vec::new(alloc);
+    put_place(&mut text, b"p", b"x where\n\tx = \x1b1\r\nend", 13)?;
+    Ok(text.as_slice() == b"p:2:6:\n x = ?1 \n     ^\n".as_slice())
 }
 
 #[test]
-fn a_place_is_shown(rt: HostRuntime) -> Result<(), Fail> {
-    let mut text = Vec::new(rt.alloc());
-    put_place(&mut text, b"p", b"x where\n\tx = \x1b1\r\nend", 13)?;
-    assert_eq!(rt; text.as_slice(), b"p:2:6:\n x = ?1 \n     ^\n".as_slice());
+fn places_have_lines_and_columns_and_are_shown(rt: HostRuntime) -> Result<(), Fail> {
+    assert_eq!(rt; (other_place(), is_shown(rt.alloc())?), (None, true));
     Ok(())
 }
 
@@ -44,76 +50,53 @@ fn told(alloc: Global, source: &str, at: usize) -> Result<String, Fail> {
     Ok(told)
 }
 
+// Sources, places in them, and what may stand there.
+const STANDING: [(&str, usize, &str); 7] = [
+    ("x where x = ; end", 12, "a name a number `(` `if` "),
+    ("x where x = 1 end", 14, "`;` `where` an operator "),
+    (
+        "if x = 1 then 2 else 3 fi",
+        5,
+        "`then` `where` an operator `(` ",
+    ),
+    ("x where // x", 12, "`end` a name "),
+    ("x where first = 1; end", 8, "`end` a name "),
+    ("if 1 then 2", 11, "`else` `where` an operator "),
+    (") 1", 0, "a name a number `(` `if` "),
+];
+
+fn is_told(alloc: Global, source: &str, at: usize, wanted: &str) -> Result<bool, Fail> {
+    Ok(told(alloc, source, at)?.as_str() == wanted)
+}
+
 #[test]
 fn what_may_stand(rt: HostRuntime) -> Result<(), Fail> {
-    let table = [
-        ("x where x = ; end", 12, "a name a number `(` `if` "),
-        ("x where x = 1 end", 14, "`;` `where` an operator "),
-        (
-            "if x = 1 then 2 else 3 fi",
-            5,
-            "`then` `where` an operator `(` ",
-        ),
-        ("x where // x", 12, "`end` a name "),
-        ("x where first = 1; end", 8, "`end` a name "),
-        ("if 1 then 2", 11, "`else` `where` an operator "),
-        (") 1", 0, "a name a number `(` `if` "),
-    ];
-    for (source, at, wanted) in table {
-        assert_eq!(rt; told(rt.alloc(), source, at)?.as_str(), wanted, "{source}");
+    for (source, at, wanted) in STANDING {
+        let is_so = is_told(rt.alloc(), source, at, wanted)?;
+        assert!(rt; is_so, "{source}");
     }
     Ok(())
 }
 
-// What is reported of a source, of which at most so many bytes are.
-fn report_of<R: Abort + AllocGlobal>(rt: &R, source: &str, most: usize) -> Result<String, Fail> {
-    let answer = plain_call(rt.alloc(), "p", source.as_bytes())?;
-    assert!(rt; answer.report.len() <= most);
-    Ok(answer.report)
-}
-
-// So many blanks and a byte that begins no token.
-fn long_source(alloc: Global, blanks: usize) -> Result<String, Fail> {
-    let mut source = String::from_utf8(vec![in alloc; b' '; blanks]?)?;
-    source.push_str("/")?;
-    Ok(source)
-}
-
-#[test]
-fn a_line_of_a_mebibyte(rt: HostRuntime) -> Result<(), Fail> {
-    let source = long_source(rt.alloc(), 1_048_575)?;
-    let report = report_of(&rt, &source, 500)?;
-    assert!(rt; report.starts_with("bad byte at 1048575\np:1:1048576:\n"));
-    Ok(())
-}
+// Lines that are reported of certificates, and what is said of them.
+const LINES: [(&[u8], &[u8]); 3] = [
+    (
+        b"certificate too long\n",
+        b"A certificate has at most 268,435,456 bytes.\n",
+    ),
+    (
+        b"line 7 is no judgment\n",
+        b"No certificate's text goes on with this line: a context stands in a line as `c BASE PLACE CALLER` or `z BASE TIME`, and behind all of these a judgment as `j NODE CONTEXT TIME SPACE K U .. VALUE`.\n",
+    ),
+    (
+        b"judgment 12 does not follow\n",
+        b"The judgment of this number, from 0, isn't what its node gives from the judgments that it uses, or it is the last one and not that of the program itself. The certificate is false, or it is one of another program or of other inputs.\n",
+    ),
+];
 
 #[test]
-fn a_source_too_long(rt: HostRuntime) -> Result<(), Fail> {
-    let source = long_source(rt.alloc(), 1_048_576)?;
-    let report = report_of(&rt, &source, 500)?;
-    assert_eq!(rt;
-        report.as_str(),
-        "source too long\nA source has at most 1,048,576 bytes.\n"
-    );
-    Ok(())
-}
-
-#[test]
-fn a_tree_too_deep(rt: HostRuntime) -> Result<(), Fail> {
-    let alloc = rt.alloc();
-    let mut source = String::new(alloc);
-    for _level in 0..400 {
-        source.push_str("not ")?;
+fn lines_of_certificates(rt: HostRuntime) {
+    for (line, text) in LINES {
+        assert!(rt; line_text(line) == text, "{line:?}");
     }
-    source.push_str("true")?;
-    let report = report_of(&rt, &source, 500)?;
-    assert!(rt;
-        report.starts_with("too nested at 1600\np:1:1601:\n"),
-        "{report}"
-    );
-    assert!(rt;
-        report.ends_with("give an inner part a name of its own behind `where`.\n"),
-        "{report}"
-    );
-    Ok(())
 }
