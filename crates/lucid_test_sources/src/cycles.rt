@@ -3,12 +3,12 @@
 ghost use Rattle.lucid_scope.specs.Scoped.{scoped_tree};
 ghost use Rattle.lucid_cycles.specs.Judged.{IsJudged};
 
+use crate::told::must;
 use crate::tree::tree_of;
 use lucid_cycles::{Judgment, enough, judge};
 use lucid_lists::Numbers;
 use lucid_scope::{Scoped, resolve_owned};
 use std::alloc::{AllocError, Global};
-use std::process::Abort;
 use std::test::Fail;
 
 /// A source, and its judgment as text: the depth and the potentials, the numbers of a cycle's names and its delays, or the refusal.
@@ -53,15 +53,13 @@ fn judged(alloc: Global, source: &[u8]) -> Result<String, Fail> {
     }
 }
 
-fn is_judged_so<R: Abort + AllocGlobal>(rt: &R, source: &str, expected: &str) -> Result<(), Fail> {
-    let text = judged(rt.alloc(), source.as_bytes())?;
-    assert_eq!(rt; text.as_str(), expected, "{source}");
-    Ok(())
+fn is_judged_so(alloc: Global, source: &str, expected: &str) -> Result<bool, Fail> {
+    Ok(judged(alloc, source.as_bytes())?.as_str() == expected)
 }
 
-fn each_is_judged<R: Abort + AllocGlobal>(rt: &R, rows: &[Row]) -> Result<(), Fail> {
+fn each_is_judged(alloc: Global, rows: &[Row]) -> Result<(), Fail> {
     for (source, expected) in rows {
-        is_judged_so(rt, source, expected)?;
+        must(is_judged_so(alloc, source, expected)?, source)?;
     }
     Ok(())
 }
@@ -107,11 +105,6 @@ static ENOUGH: [Row; 9] = [
     ),
 ];
 
-#[test]
-fn a_depth_is_enough(rt: HostRuntime) -> Result<(), Fail> {
-    each_is_judged(&rt, &ENOUGH)
-}
-
 // A cycle has a sum of at most 0.
 static CYCLES: [Row; 8] = [
     (
@@ -138,11 +131,6 @@ static CYCLES: [Row; 8] = [
     ),
 ];
 
-#[test]
-fn a_cycle_has_no_delay(rt: HostRuntime) -> Result<(), Fail> {
-    each_is_judged(&rt, &CYCLES)
-}
-
 static OUTSIDE: [Row; 6] = [
     ("1 asa false", "not judged at 2"),
     ("(initial 1) asa true", "not judged at 1"),
@@ -151,11 +139,6 @@ static OUTSIDE: [Row; 6] = [
     ("1 where f(y) = y; end", "not judged at 8"),
     ("x where x is current 1; end", "not judged at 8"),
 ];
-
-#[test]
-fn some_programs_are_not_judged(rt: HostRuntime) -> Result<(), Fail> {
-    each_is_judged(&rt, &OUTSIDE)
-}
 
 fn line_of(alloc: Global, source: &[u8]) -> Result<String, Fail> {
     let scoped = scoped_of(alloc, source)?;
@@ -190,11 +173,18 @@ static LINES: [Row; 6] = [
     ),
 ];
 
+fn has_line(alloc: Global, source: &str, expected: &str) -> Result<bool, Fail> {
+    Ok(line_of(alloc, source.as_bytes())?.as_str() == expected)
+}
+
 #[test]
-fn a_judgment_has_a_line(rt: HostRuntime) -> Result<(), Fail> {
+fn judgments_and_their_lines(rt: HostRuntime) -> Result<(), Fail> {
+    let alloc = rt.alloc();
+    each_is_judged(alloc, &ENOUGH)?;
+    each_is_judged(alloc, &CYCLES)?;
+    each_is_judged(alloc, &OUTSIDE)?;
     for (source, expected) in &LINES {
-        let line = line_of(rt.alloc(), source.as_bytes())?;
-        assert_eq!(rt; line.as_str(), *expected, "{source}");
+        must(has_line(alloc, source, expected)?, source)?;
     }
     Ok(())
 }
@@ -220,11 +210,14 @@ fn rising(alloc: Global, names: u32, add: u32) -> Result<String, AllocError> {
     Ok(text)
 }
 
-#[test]
-fn two_thousand_names_are_judged(rt: HostRuntime) -> Result<(), Fail> {
-    let expected = rising(rt.alloc(), 2000, 2)?;
-    is_judged_so(&rt, &chain(rt.alloc(), 2000)?, &expected)?;
-    is_judged_so(&rt, &chain(rt.alloc(), 2001)?, "too many names")
+// Whether so many names of a source are judged so.
+fn is_rising(alloc: Global, source: String, names: u32, add: u32) -> Result<bool, Fail> {
+    let expected = rising(alloc, names, add)?;
+    is_judged_so(alloc, &source, &expected)
+}
+
+fn is_too_long(alloc: Global) -> Result<bool, Fail> {
+    is_judged_so(alloc, &chain(alloc, 2001)?, "too many names")
 }
 
 // x0 where x0 = LAST; x1 = x0 + x0 + x0 + x0 + x0; x2 = x1 + x1 + x0 + x0 + x0; .. end: each name has five references of lesser ones
@@ -242,15 +235,9 @@ fn wide(alloc: Global, count: u32, last: &str) -> Result<String, AllocError> {
     Ok(text)
 }
 
-// Each name needs the one before it, so potentials rise in as many rounds as there are names; with the last name in the place of 0
-// there are cycles without delay.
-#[test]
-fn ten_thousand_references_are_judged(rt: HostRuntime) -> Result<(), Fail> {
-    let expected = rising(rt.alloc(), 2000, 2)?;
-    is_judged_so(&rt, &wide(rt.alloc(), 2000, "0")?, &expected)?;
-    let text = judged(rt.alloc(), wide(rt.alloc(), 2000, "x1999")?.as_bytes())?;
-    assert!(rt; text.starts_with("cycle"));
-    Ok(())
+fn is_cycle(alloc: Global) -> Result<bool, Fail> {
+    let source = wide(alloc, 2000, "x1999")?;
+    Ok(judged(alloc, source.as_bytes())?.starts_with("cycle"))
 }
 
 // v1000 where v0 = 1 fby (v0 + 1) mod 1000; v1 = v0 fby (v1 + v0) mod 1000; .. end
@@ -268,10 +255,16 @@ fn made(alloc: Global, last: u32) -> Result<String, AllocError> {
     Ok(text)
 }
 
+// Where each name of a wide program needs the one before it, potentials rise in as many rounds as there are names; with the last name in the
+// place of 0 there are cycles without delay.
 #[test]
-fn a_made_program_is_judged(rt: HostRuntime) -> Result<(), Fail> {
-    let expected = rising(rt.alloc(), 1001, 1002)?;
-    is_judged_so(&rt, &made(rt.alloc(), 1000)?, &expected)
+fn large_programs_are_judged(rt: HostRuntime) -> Result<(), Fail> {
+    let alloc = rt.alloc();
+    must(is_rising(alloc, chain(alloc, 2000)?, 2000, 2)?, "a chain")?;
+    must(is_too_long(alloc)?, "a chain of 2,001 names")?;
+    must(is_rising(alloc, wide(alloc, 2000, "0")?, 2000, 2)?, "wide")?;
+    must(is_cycle(alloc)?, "a wide cycle")?;
+    must(is_rising(alloc, made(alloc, 1000)?, 1001, 1002)?, "made")
 }
 
 /// A factor, a number that is added, the potentials of two names, and whether that is enough.
@@ -285,23 +278,37 @@ static DEPTHS: [Depth; 5] = [
     (2, 3, [0, 0], false),
 ];
 
-fn is_checked<R: Abort + AllocGlobal>(rt: &R, scoped: &Scoped, depth: &Depth) -> Result<(), Fail>
+// Whether a depth is enough for a program.
+fn is_enough(alloc: Global, scoped: &Scoped, depth: &Depth) -> Result<bool, Fail>
     requires { IsJudged (scoped_tree scoped.now) }
 {
-    let (factor, add, potentials, expected) = *depth;
-    let mut items = Vec::new(rt.alloc());
+    let (factor, add, potentials, _) = *depth;
+    let mut items = Vec::new(alloc);
     items.extend_from_slice(&potentials)?;
-    let answer = enough(scoped, factor, add, &Numbers::from_vec(items));
-    assert_eq!(rt; answer, expected, "{factor} * t + {add}");
-    Ok(())
+    Ok(enough(scoped, factor, add, &Numbers::from_vec(items)))
+}
+
+// The number of the first depth that is checked otherwise.
+fn wrong_depth(alloc: Global, scoped: &Scoped) -> Result<Option<usize>, Fail>
+    requires { IsJudged (scoped_tree scoped.now) }
+{
+    for (number, depth) in DEPTHS.iter().enumerate() {
+        if is_enough(alloc, scoped, depth)? != depth.3 {
+            return Ok(Some(number));
+        }
+    }
+    Ok(None)
+}
+
+// The same of a program that is judged first.
+fn wrong_of_program(alloc: Global) -> Result<Option<usize>, Fail> {
+    let scoped = scoped_of(alloc, b"x where x = y where y = 0 fby x; end; end")?;
+    judge(alloc, &scoped)?;
+    wrong_depth(alloc, &scoped)
 }
 
 #[test]
 fn a_depth_is_checked(rt: HostRuntime) -> Result<(), Fail> {
-    let scoped = scoped_of(rt.alloc(), b"x where x = y where y = 0 fby x; end; end")?;
-    judge(rt.alloc(), &scoped)?;
-    for depth in &DEPTHS {
-        is_checked(&rt, &scoped, depth)?;
-    }
+    assert_eq!(rt; wrong_of_program(rt.alloc())?, None);
     Ok(())
 }

@@ -5,13 +5,9 @@
 #[cfg(test)]
 mod cycles;
 #[cfg(test)]
-mod grouped;
-#[cfg(test)]
 mod names;
 #[cfg(test)]
 mod parsed;
-#[cfg(test)]
-mod printed;
 #[cfg(test)]
 mod scan;
 #[cfg(test)]

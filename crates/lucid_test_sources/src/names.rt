@@ -1,8 +1,8 @@
 //! What the names of sources belong to. Each row is worked out by hand from the rules of scopes.
+use crate::told::must;
 use crate::tree::tree_of;
 use lucid_scope::{Binding, ScopeRefusal, Scoped, resolve_owned};
 use std::alloc::{AllocError, Global};
-use std::process::Abort;
 use std::test::Fail;
 
 /// A source, and as text what its names belong to, with the inputs, or the fault. So `4 plain 12` says that the name at byte 4 is
@@ -56,10 +56,13 @@ fn resolved(alloc: Global, source: &[u8]) -> Result<String, Fail> {
     }
 }
 
-fn each_resolves<R: Abort + AllocGlobal>(rt: &R, rows: &[Row]) -> Result<(), Fail> {
+fn resolves_so(alloc: Global, source: &str, expected: &str) -> Result<bool, Fail> {
+    Ok(resolved(alloc, source.as_bytes())?.as_str() == expected)
+}
+
+fn each_resolves(alloc: Global, rows: &[Row]) -> Result<(), Fail> {
     for (source, expected) in rows {
-        let text = resolved(rt.alloc(), source.as_bytes())?;
-        assert_eq!(rt; text.as_str(), *expected, "{source}");
+        must(resolves_so(alloc, source, expected)?, source)?;
     }
     Ok(())
 }
@@ -121,11 +124,6 @@ static NESTED: [Row; 18] = [
         "3 input 0; 10 input 1; 17 input 2; 30 input 3; 33 input 4; 40 input 0; inputs a b c l i",
     ),
 ];
-
-#[test]
-fn nested_blocks(rt: HostRuntime) -> Result<(), Fail> {
-    each_resolves(&rt, &NESTED)
-}
 
 // Parameters are seen in their function's right side alone, where they hide outer names.
 static FUNCTIONS: [Row; 18] = [
@@ -203,11 +201,6 @@ static FUNCTIONS: [Row; 18] = [
     ),
 ];
 
-#[test]
-fn functions_and_parameters(rt: HostRuntime) -> Result<(), Fail> {
-    each_resolves(&rt, &FUNCTIONS)
-}
-
 // The right side of a current name stands outside the block of its definition.
 static CURRENTS: [Row; 15] = [
     (
@@ -272,11 +265,6 @@ static CURRENTS: [Row; 15] = [
     ),
 ];
 
-#[test]
-fn current_names(rt: HostRuntime) -> Result<(), Fail> {
-    each_resolves(&rt, &CURRENTS)
-}
-
 // Names that are no functions or functions of other numbers of arguments, and names that are defined twice.
 static FAULTS: [Row; 12] = [
     ("f(1)", "no such function at 0"),
@@ -298,11 +286,6 @@ static FAULTS: [Row; 12] = [
         "defined twice at 25",
     ),
 ];
-
-#[test]
-fn faults(rt: HostRuntime) -> Result<(), Fail> {
-    each_resolves(&rt, &FAULTS)
-}
 
 // Faults inside blocks and arguments, and the least of several.
 static MORE_FAULTS: [Row; 12] = [
@@ -344,11 +327,6 @@ static MORE_FAULTS: [Row; 12] = [
     ),
 ];
 
-#[test]
-fn faults_inside(rt: HostRuntime) -> Result<(), Fail> {
-    each_resolves(&rt, &MORE_FAULTS)
-}
-
 // The head of 390 blocks one in another, each in the right side of a definition.
 fn heads(alloc: Global) -> Result<String, AllocError> {
     let mut source = String::from_str(alloc, "x where x = 1; y = ")?;
@@ -359,22 +337,38 @@ fn heads(alloc: Global) -> Result<String, AllocError> {
     Ok(source)
 }
 
-fn is_the_outermost<R: Abort>(rt: &R, scoped: &Scoped, last: u32) {
-    assert_eq!(rt; scoped.binding(last), Some(Binding::Plain { def: 8 }));
-    assert_eq!(rt; scoped.inputs().len(), 0);
-}
-
-// The innermost block has 100,000 definitions, and in each stands a name of the outermost one.
-#[test]
-fn many_definitions_in_deep_blocks(rt: HostRuntime) -> Result<(), Fail> {
-    let mut source = heads(rt.alloc())?;
+// The innermost block has 100,000 definitions, and in each stands a name of the outermost one. The source, and the place of the last of them.
+fn deep_source(alloc: Global) -> Result<(String, u32), Fail> {
+    let mut source = heads(alloc)?;
     for i in 0..100_000 {
         write!(source, "v{i}=x;")?;
     }
     let last = u32::try_from(source.len().saturating_sub(2))?;
     source.push_str("end")?;
-    source.push_str(&"; end".repeat(rt.alloc(), 389)?)?;
-    let scoped = scoped(rt.alloc(), source.as_bytes())??;
-    is_the_outermost(&rt, &scoped, last);
-    Ok(())
+    source.push_str(&"; end".repeat(alloc, 389)?)?;
+    Ok((source, last))
+}
+
+// Whether the name at that place is the outermost one, and there is no input.
+fn is_the_outermost(scoped: &Scoped, last: u32) -> bool {
+    scoped.binding(last) == Some(Binding::Plain { def: 8 }) && scoped.inputs().is_empty()
+}
+
+fn finds_the_outermost(alloc: Global) -> Result<bool, Fail> {
+    let (source, last) = deep_source(alloc)?;
+    Ok(is_the_outermost(&scoped(alloc, source.as_bytes())??, last))
+}
+
+#[test]
+fn names_are_resolved(rt: HostRuntime) -> Result<(), Fail> {
+    let alloc = rt.alloc();
+    each_resolves(alloc, &NESTED)?;
+    each_resolves(alloc, &FUNCTIONS)?;
+    each_resolves(alloc, &CURRENTS)?;
+    each_resolves(alloc, &FAULTS)?;
+    each_resolves(alloc, &MORE_FAULTS)?;
+    must(
+        finds_the_outermost(alloc)?,
+        "many definitions in deep blocks",
+    )
 }

@@ -6,7 +6,7 @@ use std::alloc::{AllocError, Global};
 use std::test::Fail;
 
 // What becomes of a source: a tree, of which this is the root's place, or a refusal with its place.
-#[derive(Clone, Copy, Debug, PartialEq, Eq)]
+#[derive(Clone, Copy, PartialEq, Eq)]
 enum Answer {
     Root(u32),
     Syntax(u32),
@@ -14,6 +14,8 @@ enum Answer {
     BadByte(u32),
     Other,
 }
+
+use Answer::{Root, Syntax, TooNested};
 
 fn outcome(alloc: Global, source: &[u8]) -> Answer {
     let tokens = match scan(alloc, source) {
@@ -40,98 +42,83 @@ fn repeated(alloc: Global, piece: &[u8], times: usize, end: &[u8]) -> Result<Vec
 }
 
 /// Sources that spell a tree, with the place of the operator that binds loosest.
-const ROOTS: [(&[u8], u32); 22] = [
-    (b"x where x = 1; x = 2; end", 2),
-    (b"a fby b where end", 8),
-    (b"a where end where end", 12),
-    (b"a fby b sby c", 2),
-    (b"a fby b asa c", 2),
-    (b"a wvr b upon c", 8),
-    (b"a or b or c", 7),
-    (b"a or b and c", 2),
-    (b"a and not b eq c", 2),
-    (b"not a eq b", 0),
-    (b"a eq b :: c", 2),
-    (b"a :: b ^ c", 2),
-    (b"a - b - c", 6),
-    (b"a - b * c", 2),
-    (b"2 ** 3 ** 2", 2),
-    (b"- 2 ** 2", 4),
-    (b"2 ** - 2", 2),
-    (b"((first (a fby b)))", 2),
-    (b"if a then f(b, c) else nth(d, 1) fi", 0),
-    (b"substr(`lucid', 1, 3)", 0),
-    (b"[% 1 b %] <> []", 10),
-    (b"n where f(x, y) = x; n is current f(1, eod); end", 2),
+const ROOTS: [(&[u8], Answer); 22] = [
+    (b"x where x = 1; x = 2; end", Root(2)),
+    (b"a fby b where end", Root(8)),
+    (b"a where end where end", Root(12)),
+    (b"a fby b sby c", Root(2)),
+    (b"a fby b asa c", Root(2)),
+    (b"a wvr b upon c", Root(8)),
+    (b"a or b or c", Root(7)),
+    (b"a or b and c", Root(2)),
+    (b"a and not b eq c", Root(2)),
+    (b"not a eq b", Root(0)),
+    (b"a eq b :: c", Root(2)),
+    (b"a :: b ^ c", Root(2)),
+    (b"a - b - c", Root(6)),
+    (b"a - b * c", Root(2)),
+    (b"2 ** 3 ** 2", Root(2)),
+    (b"- 2 ** 2", Root(4)),
+    (b"2 ** - 2", Root(2)),
+    (b"((first (a fby b)))", Root(2)),
+    (b"if a then f(b, c) else nth(d, 1) fi", Root(0)),
+    (b"substr(`lucid', 1, 3)", Root(0)),
+    (b"[% 1 b %] <> []", Root(10)),
+    (b"n where f(x, y) = x; n is current f(1, eod); end", Root(2)),
 ];
-
-#[test]
-fn loosest_operators(rt: HostRuntime) {
-    for (source, at) in ROOTS {
-        assert_eq!(rt; outcome(rt.alloc(), source), Answer::Root(at), "{source:?}");
-    }
-}
 
 /// Sources that spell none, with the place of the first token that no program goes on with.
-const FAULTS: [(&[u8], u32); 18] = [
-    (b"", 0),
-    (b"// nothing", 10),
-    (b"x where x = ; end", 12),
-    (b"succ where succ = 1; end", 5),
-    (b"a eq not b", 5),
-    (b"1 + not b", 4),
-    (b"a < b < c", 6),
-    (b"f()", 2),
-    (b"f(a,)", 4),
-    (b"nth(l)", 5),
-    (b"nth(l, 1, 2)", 8),
-    (b"substr", 6),
-    (b"a b", 2),
-    (b"a where end fby b", 12),
-    (b"x where x = 1 end", 14),
-    (b"x where f() = 1; end", 10),
-    (b"x where x is 1; end", 13),
-    (b"if a then b fi", 12),
+const FAULTS: [(&[u8], Answer); 18] = [
+    (b"", Syntax(0)),
+    (b"// nothing", Syntax(10)),
+    (b"x where x = ; end", Syntax(12)),
+    (b"succ where succ = 1; end", Syntax(5)),
+    (b"a eq not b", Syntax(5)),
+    (b"1 + not b", Syntax(4)),
+    (b"a < b < c", Syntax(6)),
+    (b"f()", Syntax(2)),
+    (b"f(a,)", Syntax(4)),
+    (b"nth(l)", Syntax(5)),
+    (b"nth(l, 1, 2)", Syntax(8)),
+    (b"substr", Syntax(6)),
+    (b"a b", Syntax(2)),
+    (b"a where end fby b", Syntax(12)),
+    (b"x where x = 1 end", Syntax(14)),
+    (b"x where f() = 1; end", Syntax(10)),
+    (b"x where x is 1; end", Syntax(13)),
+    (b"if a then b fi", Syntax(12)),
 ];
 
-#[test]
-fn refused_sources(rt: HostRuntime) {
-    for (source, at) in FAULTS {
-        assert_eq!(rt;
-            outcome(rt.alloc(), source),
-            Answer::Syntax(at),
-            "{source:?}"
-        );
+// The first of the sources of which something else becomes.
+fn wrong_source<'a>(alloc: Global, rows: &[(&'a [u8], Answer)]) -> Option<&'a [u8]> {
+    for (source, answer) in rows {
+        if outcome(alloc, source) != *answer {
+            return Some(source);
+        }
     }
-}
-
-#[test]
-fn depth_of_a_tree(rt: HostRuntime) -> Result<(), Fail> {
-    let alloc = rt.alloc();
-    let deep = repeated(alloc, b"not ", 399, b"true")?;
-    assert_eq!(rt; outcome(alloc, &deep), Answer::Root(0));
-    let deeper = repeated(alloc, b"not ", 400, b"true")?;
-    assert_eq!(rt; outcome(alloc, &deeper), Answer::TooNested(1600));
-    let right = repeated(alloc, b"1 fby ", 400, b"1")?;
-    assert_eq!(rt; outcome(alloc, &right), Answer::TooNested(2394));
-    Ok(())
+    None
 }
 
 /// Pieces that are repeated, how often, what comes behind them, and what becomes of that.
-const LARGE: [(&[u8], usize, &[u8], Answer); 4] = [
-    (b"(", 1_048_576, b"", Answer::Syntax(1_048_576)),
-    (b"not ", 262_144, b"", Answer::Syntax(1_048_576)),
-    (b"1+", 524_287, b"11", Answer::TooNested(1_047_773)),
-    (b"f(", 524_288, b"", Answer::Syntax(1_048_576)),
+const REPEATED: [(&[u8], usize, &[u8], Answer); 7] = [
+    (b"not ", 399, b"true", Root(0)),
+    (b"not ", 400, b"true", TooNested(1600)),
+    (b"1 fby ", 400, b"1", TooNested(2394)),
+    (b"(", 1_048_576, b"", Syntax(1_048_576)),
+    (b"not ", 262_144, b"", Syntax(1_048_576)),
+    (b"1+", 524_287, b"11", TooNested(1_047_773)),
+    (b"f(", 524_288, b"", Syntax(1_048_576)),
 ];
 
-#[test]
-fn large_sources(rt: HostRuntime) -> Result<(), Fail> {
-    for (piece, times, end, answer) in LARGE {
-        let source = repeated(rt.alloc(), piece, times, end)?;
-        assert_eq!(rt; outcome(rt.alloc(), &source), answer, "{piece:?}");
+// The number of the first of which something else becomes.
+fn wrong_repeated(alloc: Global) -> Result<Option<usize>, AllocError> {
+    for (number, (piece, times, end, answer)) in REPEATED.iter().enumerate() {
+        let source = repeated(alloc, piece, *times, end)?;
+        if outcome(alloc, &source) != *answer {
+            return Ok(Some(number));
+        }
     }
-    Ok(())
+    Ok(None)
 }
 
 /// The total and the largest of sales.
@@ -161,14 +148,24 @@ fn cut(len: u32) -> Answer {
     }
 }
 
-#[test]
-fn cut_sources(rt: HostRuntime) {
-    assert_eq!(rt; SALES.len(), 151);
-    for len in 1..152usize {
-        assert_eq!(rt;
-            outcome(rt.alloc(), &SALES[..len]),
-            cut(len as u32),
-            "{len} bytes"
-        );
+// The first number of bytes of which something else becomes.
+fn wrong_cut(alloc: Global) -> Option<usize> {
+    if SALES.len() != 151 {
+        return Some(0);
     }
+    for len in 1..152usize {
+        if outcome(alloc, &SALES[..len]) != cut(len as u32) {
+            return Some(len);
+        }
+    }
+    None
+}
+
+#[test]
+fn sources_are_parsed(rt: HostRuntime) -> Result<(), Fail> {
+    let alloc = rt.alloc();
+    assert_eq!(rt; wrong_source(alloc, &ROOTS), None);
+    assert_eq!(rt; wrong_source(alloc, &FAULTS), None);
+    assert_eq!(rt; (wrong_repeated(alloc)?, wrong_cut(alloc)), (None, None));
+    Ok(())
 }

@@ -1,4 +1,5 @@
 //! Sources with their tokens or their refusals, up to the limits.
+use crate::told::must;
 use lucid_scan::{MAX_SOURCE_BYTES, ScanRefusal, Token, TokenKind, scan};
 use std::alloc::{AllocError, Global};
 use std::test::Fail;
@@ -44,76 +45,75 @@ fn are(tokens: &[Token], wanted: &[(TokenKind, u32, u32)]) -> bool {
             .all(|(token, row)| (token.kind, token.from, token.to) == *row)
 }
 
-#[test]
-fn tokens_of_sources(rt: HostRuntime) -> Result<(), Fail> {
-    for (source, wanted) in &SPELLED {
-        let tokens = scan(rt.alloc(), source.as_bytes())?;
-        assert!(rt; are(&tokens, wanted), "{source}");
-    }
-    Ok(())
+fn has_tokens(alloc: Global, row: &Row) -> Result<bool, ScanRefusal> {
+    Ok(are(&scan(alloc, row.0.as_bytes())?, row.1))
 }
 
-#[test]
-fn marks_and_reserved_words(rt: HostRuntime) -> Result<(), Fail> {
-    let source =
-        b"( ) , ; = [] + - * ** < <= > >= :: <> ^ where end is current if then else fi first \
-        next fby whenever wvr asa upon attime and or not true false eod error div mod eq ne hd tl length \
-        substr nth mkword mkstring isint isword isstring islist istruth isnull isatom iseod iserror abs \
-        cmp initial succ sby atspace";
-    let tokens = scan(rt.alloc(), source)?;
+const WORDS: &[u8] =
+    b"( ) , ; = [] + - * ** < <= > >= :: <> ^ where end is current if then else fi first \
+    next fby whenever wvr asa upon attime and or not true false eod error div mod eq ne hd tl length \
+    substr nth mkword mkstring isint isword isstring islist istruth isnull isatom iseod iserror abs \
+    cmp initial succ sby atspace";
+
+// How many tokens the marks and the reserved words are, and the first that is no fixed one.
+fn fixed_words(alloc: Global) -> Result<(usize, Option<usize>), ScanRefusal> {
+    let tokens = scan(alloc, WORDS)?;
     let other = tokens
         .iter()
         .position(|token| token.kind != TokenKind::Fixed);
-    assert_eq!(rt; (tokens.len(), other), (17 + 49, None));
+    Ok((tokens.len(), other))
+}
+
+#[test]
+fn sources_have_tokens(rt: HostRuntime) -> Result<(), Fail> {
+    for row in &SPELLED {
+        must(has_tokens(rt.alloc(), row)?, row.0)?;
+    }
+    assert_eq!(rt; fixed_words(rt.alloc())?, (17 + 49, None));
     Ok(())
 }
 
-#[test]
-fn refusals(rt: HostRuntime) {
-    let table = [
-        ("`abc", ScanRefusal::OpenText { at: 0 }),
-        ("x where x = 1 ? 2; end", ScanRefusal::BadByte { at: 14 }),
-        (") ?", ScanRefusal::BadByte { at: 2 }),
-        ("[% 1 // 2 %]", ScanRefusal::OpenText { at: 0 }),
-        ("a :: [x]", ScanRefusal::BadByte { at: 5 }),
-        ("a \"eod\"", ScanRefusal::BadByte { at: 2 }),
-        (
-            "170141183460469231731687303715884105728",
-            ScanRefusal::BigNumber { at: 0 },
-        ),
-    ];
-    for (source, refusal) in table {
-        assert_eq!(rt;
-            scan(rt.alloc(), source.as_bytes()).err(),
-            Some(refusal),
-            "{source:?}"
-        );
-    }
+// Sources that are refused.
+static REFUSED: [(&str, ScanRefusal); 7] = [
+    ("`abc", ScanRefusal::OpenText { at: 0 }),
+    ("x where x = 1 ? 2; end", ScanRefusal::BadByte { at: 14 }),
+    (") ?", ScanRefusal::BadByte { at: 2 }),
+    ("[% 1 // 2 %]", ScanRefusal::OpenText { at: 0 }),
+    ("a :: [x]", ScanRefusal::BadByte { at: 5 }),
+    ("a \"eod\"", ScanRefusal::BadByte { at: 2 }),
+    (
+        "170141183460469231731687303715884105728",
+        ScanRefusal::BigNumber { at: 0 },
+    ),
+];
+
+// Refusals, and their messages.
+static MESSAGES: [(ScanRefusal, &str); 5] = [
+    (ScanRefusal::TooLong, "source too long"),
+    (ScanRefusal::BadByte { at: 14 }, "bad byte at 14"),
+    (ScanRefusal::OpenText { at: 0 }, "open text at 0"),
+    (ScanRefusal::BigNumber { at: 0 }, "number too big at 0"),
+    (ScanRefusal::NoMemory, "no memory"),
+];
+
+fn refusal_of(alloc: Global, source: &[u8]) -> Option<ScanRefusal> {
+    scan(alloc, source).err()
 }
 
-#[test]
-fn messages(rt: HostRuntime) -> Result<(), Fail> {
-    let table = [
-        (ScanRefusal::TooLong, "source too long"),
-        (ScanRefusal::BadByte { at: 14 }, "bad byte at 14"),
-        (ScanRefusal::OpenText { at: 0 }, "open text at 0"),
-        (ScanRefusal::BigNumber { at: 0 }, "number too big at 0"),
-        (ScanRefusal::NoMemory, "no memory"),
-    ];
-    for (refusal, wanted) in table {
-        let message = format!(in rt.alloc(); "{refusal}")?;
-        assert_eq!(rt; message.as_str(), wanted, "{refusal:?}");
-    }
-    Ok(())
+fn is_told_so(alloc: Global, refusal: &ScanRefusal, wanted: &str) -> Result<bool, AllocError> {
+    Ok(format!(in alloc; "{refusal}")?.as_str() == wanted)
 }
 
-#[test]
-fn cut_sources(rt: HostRuntime) {
-    let source = b"total :: largest :: [] where // sales\n\
-        total = sale fby total + next sale; \
-        largest = sale fby if next sale > largest then next sale else largest fi; end";
-    assert_eq!(rt; source.len(), 151);
-    for n in 0..152 {
+const SALES: &[u8] = b"total :: largest :: [] where // sales\n\
+    total = sale fby total + next sale; \
+    largest = sale fby if next sale > largest then next sale else largest fi; end";
+
+// The first number of bytes of the source that is refused otherwise, or not.
+fn wrong_cut(alloc: Global) -> Option<usize> {
+    if SALES.len() != 151 {
+        return Some(0);
+    }
+    for n in 0..152usize {
         let wanted = match n {
             7 => Some(ScanRefusal::BadByte { at: 6 }),
             18 => Some(ScanRefusal::BadByte { at: 17 }),
@@ -121,8 +121,27 @@ fn cut_sources(rt: HostRuntime) {
             30 => Some(ScanRefusal::BadByte { at: 29 }),
             _ => None,
         };
-        assert_eq!(rt; scan(rt.alloc(), &source[..n]).err(), wanted, "{n} bytes");
+        if refusal_of(alloc, &SALES[..n]) != wanted {
+            return Some(n);
+        }
     }
+    None
+}
+
+#[test]
+fn sources_are_refused(rt: HostRuntime) -> Result<(), Fail> {
+    let alloc = rt.alloc();
+    for (source, refusal) in REFUSED {
+        must(
+            refusal_of(alloc, source.as_bytes()) == Some(refusal),
+            source,
+        )?;
+    }
+    for (refusal, wanted) in MESSAGES {
+        must(is_told_so(alloc, &refusal, wanted)?, wanted)?;
+    }
+    assert_eq!(rt; wrong_cut(alloc), None);
+    Ok(())
 }
 
 // How many tokens a source of so many times this byte has.
@@ -131,16 +150,12 @@ fn count(alloc: Global, byte: u8, times: usize) -> Result<usize, ScanRefusal> {
     Ok(scan(alloc, &source)?.len())
 }
 
-#[test]
-fn long_sources(rt: HostRuntime) {
-    for (byte, times, tokens) in [
-        (b' ', MAX_SOURCE_BYTES + 1, Err(ScanRefusal::TooLong)),
-        (b' ', MAX_SOURCE_BYTES, Ok(0)),
-        (b'(', 1_048_576, Ok(1_048_576)),
-    ] {
-        assert_eq!(rt; count(rt.alloc(), byte, times), tokens, "{times} times");
-    }
-}
+// A byte, how often it stands, and how many tokens that has.
+const LONG: [(u8, usize, Result<usize, ScanRefusal>); 3] = [
+    (b' ', MAX_SOURCE_BYTES + 1, Err(ScanRefusal::TooLong)),
+    (b' ', MAX_SOURCE_BYTES, Ok(0)),
+    (b'(', 1_048_576, Ok(1_048_576)),
+];
 
 // What opens a text, what is repeated in it and how often, and what closes it.
 type Repeated = (&'static str, &'static str, u32, &'static str);
@@ -170,32 +185,42 @@ fn whole(alloc: Global, source: &[u8]) -> Result<Option<TokenKind>, ScanRefusal>
     }
 }
 
+// Texts at their limits.
+const LIMITS: [(Repeated, Result<Option<TokenKind>, ScanRefusal>); 6] = [
+    (("\"", "a", 65_535, "\""), Ok(Some(TokenKind::Quoted))),
+    (
+        ("\"", "a", 65_536, "\""),
+        Err(ScanRefusal::BadByte { at: 0 }),
+    ),
+    (("`", "a", 65_535, "'"), Ok(Some(TokenKind::Text))),
+    (
+        ("`", "a", 65_536, "'"),
+        Err(ScanRefusal::OpenText { at: 0 }),
+    ),
+    (("[%", " 1", 65_535, "%]"), Ok(Some(TokenKind::ListText))),
+    (
+        ("[%", " 1", 65_536, "%]"),
+        Err(ScanRefusal::OpenText { at: 0 }),
+    ),
+];
+
+// What the text of a row is.
+fn whole_of(
+    alloc: Global,
+    row: Repeated,
+) -> Result<Result<Option<TokenKind>, ScanRefusal>, AllocError> {
+    let source = source_of(alloc, row)?;
+    Ok(whole(alloc, &source))
+}
+
 #[test]
-fn texts_at_their_limits(rt: HostRuntime) -> Result<(), Fail> {
-    let table = [
-        (("\"", "a", 65_535, "\""), Ok(Some(TokenKind::Quoted))),
-        (
-            ("\"", "a", 65_536, "\""),
-            Err(ScanRefusal::BadByte { at: 0 }),
-        ),
-        (("`", "a", 65_535, "'"), Ok(Some(TokenKind::Text))),
-        (
-            ("`", "a", 65_536, "'"),
-            Err(ScanRefusal::OpenText { at: 0 }),
-        ),
-        (("[%", " 1", 65_535, "%]"), Ok(Some(TokenKind::ListText))),
-        (
-            ("[%", " 1", 65_536, "%]"),
-            Err(ScanRefusal::OpenText { at: 0 }),
-        ),
-    ];
-    for (repeated, wanted) in table {
-        let source = source_of(rt.alloc(), repeated)?;
-        assert_eq!(rt;
-            whole(rt.alloc(), source.as_slice()),
-            wanted,
-            "{repeated:?}"
-        );
+fn long_sources_and_texts(rt: HostRuntime) -> Result<(), Fail> {
+    let alloc = rt.alloc();
+    for (byte, times, tokens) in LONG {
+        assert_eq!(rt; count(alloc, byte, times), tokens, "{times} times");
+    }
+    for (row, wanted) in LIMITS {
+        assert_eq!(rt; whole_of(alloc, row)?, wanted, "{row:?}");
     }
     Ok(())
 }

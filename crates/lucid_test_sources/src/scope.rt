@@ -47,20 +47,24 @@ fn first_wrong(scoped: &Scoped) -> Option<usize> {
 }
 
 // y
-#[test]
-fn a_free_name_is_an_input(rt: HostRuntime) -> Result<(), Fail> {
-    let tree = name_at(rt.alloc(), 3, b"y")?;
-    let wrong = first_wrong(&resolve_owned(rt.alloc(), tree)?);
-    assert_eq!(rt; wrong, None);
-    Ok(())
+fn wrong_name(alloc: Global) -> Result<Option<usize>, Fail> {
+    let tree = name_at(alloc, 3, b"y")?;
+    Ok(first_wrong(&resolve_owned(alloc, tree)?))
 }
 
 // f(y)
+fn refused_call(alloc: Global) -> Result<Option<ScopeRefusal>, Fail> {
+    let argument = name_at(alloc, 2, b"y")?;
+    let called = call_at(alloc, 0, b"f", argument)?;
+    Ok(resolve(alloc, &called).err())
+}
+
+// A free name is an input, and no function.
 #[test]
-fn a_free_name_is_no_function(rt: HostRuntime) -> Result<(), Fail> {
-    let argument = name_at(rt.alloc(), 2, b"y")?;
-    let called = call_at(rt.alloc(), 0, b"f", argument)?;
-    let refused = resolve(rt.alloc(), &called).err();
-    assert!(rt; matches!(refused, Some(ScopeRefusal::NoFunction { at: 0 })));
+fn free_names(rt: HostRuntime) -> Result<(), Fail> {
+    let wrong = wrong_name(rt.alloc())?;
+    let refused = refused_call(rt.alloc())?;
+    let is_so = wrong.is_none() && matches!(refused, Some(ScopeRefusal::NoFunction { at: 0 }));
+    assert!(rt; is_so);
     Ok(())
 }

@@ -5,6 +5,7 @@ ghost use Rattle.lucid_tree.specs.SamplePrograms.{counting};
 ghost use Rattle.lucid_tree.specs.WellMade.{IsWellMade};
 ghost use Rattle.lucid_value.specs.Plain.{int};
 
+use crate::told::first_false;
 use lucid_ops::Op;
 use lucid_tree::{Block, Def, DefKind, Defs, Kind, Names, Places32, Shape, Tree, Trees};
 use lucid_value::{MakeRefusal, Name, Value};
@@ -99,12 +100,6 @@ fn copied_counting(alloc: Global) -> Result<(u32, u32, usize), Fail> {
     Ok((copied.depth(), at, defs))
 }
 
-#[test]
-fn copies_are_equal(rt: HostRuntime) -> Result<(), Fail> {
-    assert_eq!(rt; copied_counting(rt.alloc())?, (4, 0, 1));
-    Ok(())
-}
-
 // The place of a copy of the tree.
 fn copied_at(alloc: Global, tree: Tree) -> Result<u32, AllocError> {
     Ok(tree.copy(alloc)?.at)
@@ -139,33 +134,35 @@ fn of_two_parts(number: u32, x: Box<Tree>, y: Box<Tree>) -> Kind {
     }
 }
 
-#[test]
-fn forms_of_one_part_are_copied(rt: HostRuntime) -> Result<(), Fail> {
+// The number of the first form of one part whose copy has another place.
+fn wrong_of_one_part(alloc: Global) -> Result<Option<u32>, AllocError> {
     for at in 0..4 {
-        let kind = of_one_part(at, one_box(rt.alloc())?);
-        assert_eq!(rt; copied_at(rt.alloc(), Tree { at, kind })?, at);
+        let kind = of_one_part(at, one_box(alloc)?);
+        if copied_at(alloc, Tree { at, kind })? != at {
+            return Ok(Some(at));
+        }
     }
-    Ok(())
+    Ok(None)
 }
 
-#[test]
-fn forms_of_two_parts_are_copied(rt: HostRuntime) -> Result<(), Fail> {
+// The same of the forms of two parts.
+fn wrong_of_two_parts(alloc: Global) -> Result<Option<u32>, AllocError> {
     for at in 0..9 {
-        let x = one_box(rt.alloc())?;
-        let kind = of_two_parts(at, x, one_box(rt.alloc())?);
-        assert_eq!(rt; copied_at(rt.alloc(), Tree { at, kind })?, at);
+        let x = one_box(alloc)?;
+        let kind = of_two_parts(at, x, one_box(alloc)?);
+        if copied_at(alloc, Tree { at, kind })? != at {
+            return Ok(Some(at));
+        }
     }
-    Ok(())
+    Ok(None)
 }
 
-#[test]
-fn choices_are_copied(rt: HostRuntime) -> Result<(), Fail> {
-    let test = one_box(rt.alloc())?;
-    let yes = one_box(rt.alloc())?;
-    let no = one_box(rt.alloc())?;
+fn choice(alloc: Global) -> Result<Tree, AllocError> {
+    let test = one_box(alloc)?;
+    let yes = one_box(alloc)?;
+    let no = one_box(alloc)?;
     let kind = Kind::If { test, yes, no };
-    assert_eq!(rt; copied_at(rt.alloc(), Tree { at: 7, kind })?, 7);
-    Ok(())
+    Ok(Tree { at: 7, kind })
 }
 
 // The number of arguments of a call.
@@ -181,13 +178,11 @@ fn copied_arguments(alloc: Global, call: Tree) -> Result<usize, Fail> {
     arguments(&call.copy(alloc)?)
 }
 
-#[test]
-fn calls_are_copied(rt: HostRuntime) -> Result<(), Fail> {
-    let name = Name::make(rt.alloc(), b"f")?;
-    let args = two(rt.alloc(), integer(2, 1), integer(5, 2))?;
+fn call_of_two(alloc: Global) -> Result<Tree, MakeRefusal> {
+    let name = Name::make(alloc, b"f")?;
+    let args = two(alloc, integer(2, 1), integer(5, 2))?;
     let kind = Kind::Call { name, args };
-    assert_eq!(rt; copied_arguments(rt.alloc(), Tree { at: 0, kind })?, 2);
-    Ok(())
+    Ok(Tree { at: 0, kind })
 }
 
 // A block with these definitions.
@@ -210,24 +205,39 @@ fn block_of(alloc: Global, kind: DefKind) -> Result<Tree, MakeRefusal> {
     Ok(block_over(alloc, Defs::from_vec(items))?)
 }
 
-#[test]
-fn functions_are_copied(rt: HostRuntime) -> Result<(), Fail> {
-    let mut parameters = Vec::new(rt.alloc());
-    parameters.push(Name::make(rt.alloc(), b"x")?)?;
-    let kind = DefKind::Function {
+fn function(alloc: Global) -> Result<DefKind, MakeRefusal> {
+    let mut parameters = Vec::new(alloc);
+    let name = Name::make(alloc, b"x")?;
+    parameters.push(name).map_err(AllocError::from)?;
+    let places = Vec::from_array(alloc, [11]).map_err(AllocError::from)?;
+    Ok(DefKind::Function {
         parameters: Names::from_vec(parameters),
-        places: Places32::from_vec(Vec::from_array(rt.alloc(), [11])?),
+        places: Places32::from_vec(places),
         right: integer(14, 1),
-    };
-    assert_eq!(rt; copied_at(rt.alloc(), block_of(rt.alloc(), kind)?)?, 2);
-    Ok(())
+    })
+}
+
+// The places of copies of blocks, of a function and of a current name.
+fn copied_blocks(alloc: Global) -> Result<(u32, u32), MakeRefusal> {
+    let right = integer(14, 1);
+    let current = block_of(alloc, DefKind::Current { right })?;
+    let current = copied_at(alloc, current)?;
+    let called = block_of(alloc, function(alloc)?)?;
+    Ok((copied_at(alloc, called)?, current))
 }
 
 #[test]
-fn current_definitions_are_copied(rt: HostRuntime) -> Result<(), Fail> {
-    let right = integer(14, 1);
-    let block = block_of(rt.alloc(), DefKind::Current { right })?;
-    assert_eq!(rt; copied_at(rt.alloc(), block)?, 2);
+fn trees_are_copied(rt: HostRuntime) -> Result<(), Fail> {
+    let alloc = rt.alloc();
+    let facts = [
+        copied_counting(alloc)? == (4, 0, 1),
+        wrong_of_one_part(alloc)?.is_none(),
+        wrong_of_two_parts(alloc)?.is_none(),
+        copied_at(alloc, choice(alloc)?)? == 7,
+        copied_arguments(alloc, call_of_two(alloc)?)? == 2,
+        copied_blocks(alloc)? == (2, 2),
+    ];
+    assert_eq!(rt; first_false(&facts), None);
     Ok(())
 }
 
@@ -237,27 +247,22 @@ fn depths(alloc: Global) -> Result<(u32, u32), MakeRefusal> {
     Ok((constant, counting_up(alloc)?.depth()))
 }
 
-#[test]
-fn depth_of_a_tree(rt: HostRuntime) -> Result<(), Fail> {
-    assert_eq!(rt; depths(rt.alloc())?, (1, 4));
-    Ok(())
-}
-
 // The number of names in a list, and the first byte of the last.
 fn of_names(names: Names) -> Option<(usize, u8)> {
     let last = names.items().last()?;
     Some((names.items().len(), *last.bytes().first()?))
 }
 
-#[test]
-fn lists_give_their_items(rt: HostRuntime) -> Result<(), Fail> {
-    let mut names = Vec::new(rt.alloc());
-    names.push(Name::make(rt.alloc(), b"f")?)?;
-    names.push(Name::make(rt.alloc(), b"g")?)?;
-    assert_eq!(rt; of_names(Names::from_vec(names)), Some((2, b'g')));
-    let places = Places32::from_vec(Vec::from_array(rt.alloc(), [3, 5])?);
-    assert_eq!(rt; places.items(), [3, 5].as_slice());
-    Ok(())
+fn two_names(alloc: Global) -> Result<Names, Fail> {
+    let mut names = Vec::new(alloc);
+    names.push(Name::make(alloc, b"f")?)?;
+    names.push(Name::make(alloc, b"g")?)?;
+    Ok(Names::from_vec(names))
+}
+
+fn gives_places(alloc: Global) -> Result<bool, AllocError> {
+    let places = Places32::from_vec(Vec::from_array(alloc, [3, 5])?);
+    Ok(places.items() == [3, 5].as_slice())
 }
 
 // The places of the parts of a form.
@@ -276,22 +281,32 @@ fn places_in_block(tree: &Tree) -> Option<(u32, u32)> {
     places_of(defs.definitions().next()?.right())
 }
 
-#[test]
-fn shapes_give_their_parts(rt: HostRuntime) -> Result<(), Fail> {
-    let places = places_in_block(&counting_up(rt.alloc())?);
-    assert_eq!(rt; places, Some((12, 20)));
-    Ok(())
-}
-
 // The places of two trees in a list.
 fn places_in(trees: &Trees) -> Option<(u32, u32)> {
     let mut parts = trees.parts();
     Some((parts.next()?.at, parts.next()?.at))
 }
 
+// The same of a list of two.
+fn places_in_two(alloc: Global) -> Result<Option<(u32, u32)>, AllocError> {
+    Ok(places_in(&two(alloc, integer(3, 1), integer(5, 2))?))
+}
+
+// The places of the parts of the counting program's definition.
+fn places_in_counting(alloc: Global) -> Result<Option<(u32, u32)>, MakeRefusal> {
+    Ok(places_in_block(&counting_up(alloc)?))
+}
+
 #[test]
-fn lists_give_their_trees(rt: HostRuntime) -> Result<(), Fail> {
-    let places = places_in(&two(rt.alloc(), integer(3, 1), integer(5, 2))?);
-    assert_eq!(rt; places, Some((3, 5)));
+fn trees_and_lists_give_their_parts(rt: HostRuntime) -> Result<(), Fail> {
+    let alloc = rt.alloc();
+    let facts = [
+        depths(alloc)? == (1, 4),
+        of_names(two_names(alloc)?) == Some((2, b'g')),
+        gives_places(alloc)?,
+        places_in_counting(alloc)? == Some((12, 20)),
+        places_in_two(alloc)? == Some((3, 5)),
+    ];
+    assert_eq!(rt; first_false(&facts), None);
     Ok(())
 }
