@@ -1,16 +1,17 @@
-//! Texts that are tables', the text of rows that are made by hand, and texts that break, each with the line at which it does.
+//! Texts that are tables' or certificates', the text of rows that are made by hand, and scopes that nest.
 ghost use Rattle.std.specs.Prelude.{IfOk};
 ghost use Rattle.lucid_flat.specs.FlatTables.{HasOneRoot};
 
 use crate::told::first_false;
 use lucid_equations::{
     Entry, NameRow, NameRows, Node, NodeRow, NodeRows, Numbers32, PlaceRow, PlaceRows, ScopeKind,
-    Table,
+    ScopeRow, ScopeRows, Table,
 };
 use lucid_flat::{FlatRefusal, read_flat, show_flat};
 use lucid_ops::Op;
+use lucid_sound::build;
+use lucid_why::{read_why, show_why};
 use std::alloc::Global;
-use std::process::Abort;
 use std::test::Fail;
 
 // Texts of tables, sound or not. In the first the one node is a constant, in the second a reference to a name that isn't there.
@@ -23,13 +24,39 @@ const TEXTS: [&[u8]; 6] = [
     b"lucid flat 1\nconst -170141183460469231731687303715884105727\nconst true\nconst dog\nconst `it is'\nconst [% 1 [% %] %]\nconst eod\nconst error\nroot 0\n",
 ];
 
+// Whether the table of a text has this text again.
+fn is_shown_again(alloc: Global, text: &[u8]) -> Result<bool, Fail> {
+    let table = read_flat(alloc, text)?;
+    let mut again = Vec::new(alloc);
+    show_flat(alloc, &table, &mut again)?;
+    Ok(again.as_slice() == text)
+}
+
+// Texts of certificates, right or not.
+const CERTIFICATES: [&[u8]; 4] = [
+    b"j 0 0 0 0 0 5\n",
+    b"c 0 4294967295 0\nz 1 9223372036854775807\nj 7 2 9223372036854775807 0 0 [% 1 `a b' [% %] %]\nj 8 0 3 0 2 0 0 eod\n",
+    b"j 1 1 0 0 1 4294967295 error\n",
+    b"z 0 0\nj 0 9 0 0 0 `j 0'\n",
+];
+
+// The same of a certificate.
+fn is_certificate_again(alloc: Global, text: &[u8]) -> Result<bool, Fail> {
+    let why = read_why(alloc, text)?;
+    let mut again = Vec::new(alloc);
+    show_why(alloc, &why, &mut again)?;
+    Ok(again.as_slice() == text)
+}
+
 #[test]
 fn texts_are_shown_again(rt: HostRuntime) -> Result<(), Fail> {
     for text in TEXTS {
-        let table = read_flat(rt.alloc(), text)?;
-        let mut again = Vec::new(rt.alloc());
-        show_flat(rt.alloc(), &table, &mut again)?;
-        assert_eq!(rt; again.as_slice(), text);
+        let again = is_shown_again(rt.alloc(), text)?;
+        assert!(rt; again, "{text:?}");
+    }
+    for text in CERTIFICATES {
+        let again = is_certificate_again(rt.alloc(), text)?;
+        assert!(rt; again, "{text:?}");
     }
     Ok(())
 }
@@ -200,10 +227,9 @@ fn wrong_scope(table: &Table) -> Option<usize> {
     }
 }
 
-#[test]
-fn scopes_and_the_root(rt: HostRuntime) -> Result<(), Fail> {
-    assert_eq!(rt; wrong_scope(&front(rt.alloc())?), None);
-    Ok(())
+// The same of the table of those lines alone.
+fn wrong_front(alloc: Global) -> Result<Option<usize>, Fail> {
+    Ok(wrong_scope(&front(alloc)?))
 }
 
 // The text of the table with a node of each form, a name of each kind and a call place; their lines are appended.
@@ -218,66 +244,71 @@ fn text_with_rows(alloc: Global, table: Table, lines: &mut String) -> Result<Vec
     Ok(text)
 }
 
-#[test]
-fn fields_in_their_order(rt: HostRuntime) -> Result<(), Fail> {
-    let alloc = rt.alloc();
+// Whether the text of that table has its lines between the first ones and the last one.
+fn has_lines(alloc: Global) -> Result<bool, Fail> {
     let mut lines = String::from_str(alloc, FRONT)?;
     let text = text_with_rows(alloc, front(alloc)?, &mut lines)?;
     lines.push_str(ROOT)?;
-    assert_eq!(rt; text.as_slice(), lines.as_bytes());
-    Ok(())
+    Ok(text.as_slice() == lines.as_bytes())
 }
 
-/// Why a text breaks, the text, and the line.
-type BrokenRow = (&'static str, &'static [u8], u64);
+// A sound table of four scopes: a plain name that is a call of a function, whose right side is its parameter; a frozen time with a current name;
+// their sum. The fourth scope has no rows.
+const SOUND: &[u8] =
+    b"lucid flat 1\nscope 0 called\nscope 0 frozen\nscope 2 called\ninput x\ninput y\nconst 1\nnode 0 input 1\n\
+    node 1 refer 1 1\nnode 0 call 2 0 0\nnode 2 refer 3 1\nnode 0 freeze 3\nnode 0 refer 0 0\nnode 0 apply add 4 5 0\nplain 0 2\n\
+    parameter 1 0\ncalled 1 1\ncurrent 2 0\nplace 0 2 0\nroot 6\n";
 
-const BROKEN: [BrokenRow; 20] = [
-    ("an empty file", b"", 1),
-    ("another first line", b"lucid flat 2\nroot 0\n", 1),
-    ("nothing behind the first line", b"lucid flat 1\n", 2),
-    ("an empty line", b"lucid flat 1\n\nroot 0\n", 2),
-    ("no line feed at the end", b"lucid flat 1\nroot 0", 2),
-    ("no root", b"lucid flat 1\nconst 1\n", 3),
-    ("a second root", b"lucid flat 1\nroot 0\nroot 0\n", 3),
-    ("a byte behind the root", b"lucid flat 1\nroot 0\nr", 3),
-    ("an input too late", b"lucid flat 1\nconst 1\ninput x\n", 3),
-    ("a leading zero", b"lucid flat 1\nroot 00\n", 2),
-    ("the number 2^32", b"lucid flat 1\nroot 4294967296\n", 2),
-    ("two blanks", b"lucid flat 1\nroot  0\n", 2),
-    ("a carriage return", b"lucid flat 1\nroot 0\r\n", 2),
-    ("another root scope", b"lucid flat 1\nscope 0 root\n", 2),
-    ("a text of -0", b"lucid flat 1\nconst -0\n", 2),
-    ("a reserved word", b"lucid flat 1\ninput first\n", 2),
-    ("a capital letter", b"lucid flat 1\nnode 0 Const 0\n", 2),
-    ("a mark", b"lucid flat 1\nnode 0 apply + 0 1 0\n", 2),
-    ("too many", b"lucid flat 1\nnode 0 fby 1 2 3\n", 2),
-    ("too few", b"lucid flat 1\nplain 0\n", 2),
-];
+// The root of the program of that table, and how many nodes it has; nothing where the table is refused.
+fn of_sound(alloc: Global) -> Result<Option<(u32, u32)>, Fail> {
+    let Ok(program) = build(alloc, read_flat(alloc, SOUND)?) else {
+        return Ok(None);
+    };
+    Ok(Some((program.root(), program.nodes())))
+}
 
-// The text is no table's from this line on.
-fn breaks_at(alloc: Global, rt: &impl Abort, row: &BrokenRow) {
-    let (why, text, wanted) = *row;
-    match read_flat(alloc, text) {
-        Ok(_) => assert!(rt; false, "{why}: no table has this text"),
-        Err(FlatRefusal::Form { line }) => assert_eq!(rt; line, wanted, "{why}"),
-        Err(FlatRefusal::NoMemory) => assert!(rt; false, "{why}: there is memory"),
+// That table with a root scope in the place of the fourth: no text has a second one.
+fn with_second_root(alloc: Global) -> Result<Table, Fail> {
+    let table = read_flat(alloc, SOUND)?;
+    let mut scopes = Vec::from_slice(alloc, table.scopes.items())?;
+    scopes.pop();
+    scopes.push(ScopeRow {
+        parent: 2,
+        kind: ScopeKind::Root,
+    })?;
+    Ok(Table {
+        scopes: ScopeRows::from_vec(scopes),
+        ..table
+    })
+}
+
+// Whether scopes nest: that table is refused in these words.
+fn is_refused(alloc: Global) -> Result<bool, Fail> {
+    match build(alloc, with_second_root(alloc)?) {
+        Ok(_) => Ok(false),
+        Err(why) => Ok(why.to_string(alloc)?.as_str() == "scope 3 is wrong"),
     }
 }
 
-#[test]
-fn texts_that_break(rt: HostRuntime) {
-    for row in BROKEN {
-        breaks_at(rt.alloc(), &rt, &row);
-    }
+fn is_told_so(alloc: Global, refusal: &FlatRefusal, wanted: &str) -> Result<bool, Fail> {
+    Ok(refusal.to_string(alloc)?.as_str() == wanted)
 }
 
 #[test]
-fn a_refusal_in_words(rt: HostRuntime) -> Result<(), Fail> {
-    let refusal = FlatRefusal::Form { line: 3 };
-    let words = refusal.to_string(rt.alloc())?;
-    assert_eq!(rt; words.as_str(), "line 3 is no flat line");
-    drop(words);
-    let words = FlatRefusal::NoMemory.to_string(rt.alloc())?;
-    assert_eq!(rt; words.as_str(), "no memory");
+fn fields_in_their_order_and_scopes_that_nest(rt: HostRuntime) -> Result<(), Fail> {
+    let alloc = rt.alloc();
+    let facts = [
+        wrong_front(alloc)?.is_none(),
+        has_lines(alloc)?,
+        is_told_so(
+            alloc,
+            &FlatRefusal::Form { line: 3 },
+            "line 3 is no flat line",
+        )?,
+        is_told_so(alloc, &FlatRefusal::NoMemory, "no memory")?,
+        of_sound(alloc)? == Some((6, 7)),
+        is_refused(alloc)?,
+    ];
+    assert_eq!(rt; first_false(&facts), None);
     Ok(())
 }

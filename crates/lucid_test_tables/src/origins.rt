@@ -89,12 +89,16 @@ fn wrong_list(alloc: Global, found: &Origins, row: &Row) -> Result<Option<usize>
     ]))
 }
 
+// The same of the row's source.
+fn wrong_of_row(alloc: Global, row: &Row) -> Result<Option<usize>, Fail> {
+    let found = find_origins(alloc, &scoped(alloc, row.0.as_bytes())?)?;
+    wrong_list(alloc, &found, row)
+}
+
 #[test]
 fn rows_come_from_their_places(rt: HostRuntime) -> Result<(), Fail> {
     for row in &ROWS {
-        let found = find_origins(rt.alloc(), &scoped(rt.alloc(), row.0.as_bytes())?)?;
-        let wrong = wrong_list(rt.alloc(), &found, row)?;
-        assert_eq!(rt; wrong, None, "{}", row.0);
+        assert_eq!(rt; wrong_of_row(rt.alloc(), row)?, None, "{}", row.0);
     }
     Ok(())
 }

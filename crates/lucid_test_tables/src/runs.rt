@@ -1,5 +1,6 @@
 //! Runs of sources by the plain evaluator. Each row is worked out by hand.
-use crate::values::{streams_of, text_at};
+use crate::told::{first_false, must};
+use crate::values::{shows, streams_of};
 use lucid_parse::parse;
 use lucid_plain::run;
 use lucid_ports::{MemorySink, Options, RunFault, Summary};
@@ -33,15 +34,21 @@ fn three_lines(
     Ok((answer, out))
 }
 
-const fn done(lines: u32, ended: bool) -> Result<Summary, RunFault> {
-    Ok(Summary {
-        lines,
-        ended,
-        held: 0,
-        lost: 0,
-        cleared: 0,
-    })
-}
+const THREE_LINES: Result<Summary, RunFault> = Ok(Summary {
+    lines: 3,
+    ended: false,
+    held: 0,
+    lost: 0,
+    cleared: 0,
+});
+
+const ENDED: Result<Summary, RunFault> = Ok(Summary {
+    lines: 0,
+    ended: true,
+    held: 0,
+    lost: 0,
+    cleared: 0,
+});
 
 const TOO_DEEP: Result<Summary, RunFault> = Err(RunFault::TooDeep {
     time: 0,
@@ -49,42 +56,48 @@ const TOO_DEEP: Result<Summary, RunFault> = Err(RunFault::TooDeep {
     cleared: 0,
 });
 
-#[test]
-fn lines_ends_and_faults(rt: HostRuntime) -> Result<(), Fail> {
-    let rows: [Row; 7] = [
-        ("1", [9], done(3, false), "1\n1\n1\n"),
-        ("1 whenever 5", [9], done(3, false), "error\nerror\nerror\n"),
-        ("1 asa false", [9], TOO_DEEP, ""),
-        ("eod + error", [9], done(0, true), ""),
-        (COUNTING, [9], done(3, false), "0\n1\n2\n"),
-        (COUNTING, [1], Err(RunFault::WriteFault), "0\n"),
-        (NO_VALUE, [9], TOO_DEEP, ""),
-    ];
-    for (source, failures, answer, written) in rows {
-        let (answered, out) = three_lines(rt.alloc(), source, &failures)?;
-        assert_eq!(rt; answered, answer, "{source}");
-        assert_eq!(rt; out.written(), written.as_bytes(), "{source}");
-    }
-    Ok(())
+static ROWS: [Row; 7] = [
+    ("1", [9], THREE_LINES, "1\n1\n1\n"),
+    ("1 whenever 5", [9], THREE_LINES, "error\nerror\nerror\n"),
+    ("1 asa false", [9], TOO_DEEP, ""),
+    ("eod + error", [9], ENDED, ""),
+    (COUNTING, [9], THREE_LINES, "0\n1\n2\n"),
+    (COUNTING, [1], Err(RunFault::WriteFault), "0\n"),
+    (NO_VALUE, [9], TOO_DEEP, ""),
+];
+
+// Whether a run answers and writes so.
+fn runs_so(alloc: Global, row: &Row) -> Result<bool, Fail> {
+    let (source, failures, answer, written) = *row;
+    let (answered, out) = three_lines(alloc, source, &failures)?;
+    let facts = [answered == answer, out.written() == written.as_bytes()];
+    Ok(first_false(&facts).is_none())
 }
 
 // The last element, end of data past it, and an input that isn't there.
+fn reads_its_input(alloc: Global) -> Result<bool, Fail> {
+    let streams = streams_of(alloc, &[("x", "7\n8\n")])?;
+    let facts = [
+        shows(alloc, &streams, "x", (1, 1), Some("8"))?,
+        shows(alloc, &streams, "x", (2, 1), Some("eod"))?,
+        shows(alloc, &[], "x", (0, 1), None)?,
+    ];
+    Ok(first_false(&facts).is_none())
+}
+
 #[test]
-fn an_input(rt: HostRuntime) -> Result<(), Fail> {
-    let streams = streams_of(rt.alloc(), &[("x", "7\n8\n")])?;
-    for (time, text) in [(1, "8"), (2, "eod")] {
-        let shown = text_at(rt.alloc(), &streams, "x", time, 1)?;
-        assert_eq!(rt; shown.as_deref(), Some(text), "at {time}");
+fn lines_ends_and_faults(rt: HostRuntime) -> Result<(), Fail> {
+    for row in &ROWS {
+        must(runs_so(rt.alloc(), row)?, row.0)?;
     }
-    let absent = text_at(rt.alloc(), &[], "x", 0, 1)?;
-    assert!(rt; absent.is_none());
-    Ok(())
+    must(reads_its_input(rt.alloc())?, "an input")
 }
 
 // As deep as the tree, as often as the limit.
 #[test]
 fn a_deep_tree_at_a_deep_limit(rt: HostRuntime) -> Result<(), Fail> {
-    let shown = text_at(rt.alloc(), &[], DEEP_TREE, 0, 100)?;
-    assert!(rt; shown.is_none());
-    Ok(())
+    must(
+        shows(rt.alloc(), &[], DEEP_TREE, (0, 100), None)?,
+        DEEP_TREE,
+    )
 }

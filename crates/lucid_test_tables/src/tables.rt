@@ -2,6 +2,7 @@
 ghost use Rattle.lucid_tree.specs.WellMade.{IsWellMade};
 
 use crate::table_value::{Context, Evaluator, Point};
+use crate::told::must;
 use lucid_compile::compile;
 use lucid_equations::Program;
 use lucid_parse::parse;
@@ -12,7 +13,6 @@ use lucid_test_programs::{DOUBLING_TEXT, IN_CONTEXTS, OVER_SPACE, OVER_TIME, UND
 use lucid_tree::Tree;
 use lucid_value::Value;
 use std::alloc::Global;
-use std::process::Abort;
 use std::test::Fail;
 
 // A value's text behind those before it.
@@ -66,39 +66,60 @@ pub(crate) fn scoped(alloc: Global, source: &[u8]) -> Result<Scoped, Fail> {
     Ok(resolve_owned(alloc, parse(alloc, source, &tokens)?)?)
 }
 
-// The values of the tree at a limit, which are those of the table.
-fn same_values<R: Abort + AllocGlobal>(
-    rt: &R,
-    source: &str,
+// The values of the tree at a limit, if they are those of the table.
+fn same_values(
+    alloc: Global,
     scoped: &Scoped,
     program: &Program,
     count: u32,
     limit: u32,
-) -> Result<String, Fail> {
-    let of_tree = tree_values(rt.alloc(), scoped.tree(), count, limit)?;
-    let of_table = table_values(rt.alloc(), program, count, limit)?;
-    assert_eq!(rt;
-        of_table.as_str(),
-        of_tree.as_str(),
-        "{source} at limit {limit}"
-    );
-    Ok(of_tree)
+) -> Result<Option<String>, Fail> {
+    let of_tree = tree_values(alloc, scoped.tree(), count, limit)?;
+    let of_table = table_values(alloc, program, count, limit)?;
+    if of_table == of_tree {
+        Ok(Some(of_tree))
+    } else {
+        Ok(None)
+    }
 }
 
-// The values of a source at a limit, if its tree and its table have the same ones at each limit from the least one to it.
-fn values_of<R: Abort + AllocGlobal>(
-    rt: &R,
+// The same if they are so at each limit from the least one to the greatest.
+fn same_at_each(
+    alloc: Global,
+    scoped: &Scoped,
+    program: &Program,
+    count: u32,
+    (least, greatest): (u32, u32),
+) -> Result<Option<String>, Fail> {
+    for limit in least..greatest {
+        if same_values(alloc, scoped, program, count, limit)?.is_none() {
+            return Ok(None);
+        }
+    }
+    same_values(alloc, scoped, program, count, greatest)
+}
+
+// The same of a source.
+fn values_of(
+    alloc: Global,
     source: &str,
     count: u32,
-    least: u32,
-    limit: u32,
-) -> Result<String, Fail> {
-    let scoped = scoped(rt.alloc(), source.as_bytes())?;
-    let program = compile(rt.alloc(), &scoped)?;
-    for lower in least..limit {
-        same_values(rt, source, &scoped, &program, count, lower)?;
-    }
-    same_values(rt, source, &scoped, &program, count, limit)
+    limits: (u32, u32),
+) -> Result<Option<String>, Fail> {
+    let scoped = scoped(alloc, source.as_bytes())?;
+    let program = compile(alloc, &scoped)?;
+    same_at_each(alloc, &scoped, &program, count, limits)
+}
+
+// Whether the values of a source are so.
+fn are(
+    alloc: Global,
+    source: &str,
+    count: u32,
+    limits: (u32, u32),
+    wanted: &str,
+) -> Result<bool, Fail> {
+    Ok(values_of(alloc, source, count, limits)?.as_deref() == Some(wanted))
 }
 
 // The texts of the values, each behind those before it.
@@ -113,62 +134,61 @@ fn add_texts(text: &mut String, values: &[&str]) -> Result<(), Fail> {
 }
 
 // The tree and the table have the program's values at a limit that is enough, and the same ones at each lower limit.
-fn keeps_values<R: Abort + AllocGlobal>(rt: &R, program: &Worked) -> Result<(), Fail> {
-    let (name, source) = (program.name, program.source);
-    let count = u32::try_from(program.count())?;
-    let text = values_of(rt, source, count, 0, program.enough)?;
-    let mut wanted = String::new(rt.alloc());
+fn keeps_values(alloc: Global, program: &Worked) -> Result<bool, Fail> {
+    let mut wanted = String::new(alloc);
     add_texts(&mut wanted, program.values)?;
     add_texts(&mut wanted, program.later)?;
-    assert_eq!(rt; text, wanted, "{name}: {source}");
-    Ok(())
+    let count = u32::try_from(program.count())?;
+    are(alloc, program.source, count, (0, program.enough), &wanted)
 }
 
-fn each_keeps_values<R: Abort + AllocGlobal>(rt: &R, programs: &[Worked]) -> Result<(), Fail> {
+fn each_keeps_values(alloc: Global, programs: &[Worked]) -> Result<(), Fail> {
     for program in programs {
-        keeps_values(rt, program)?;
+        must(keeps_values(alloc, program)?, program.name)?;
+    }
+    Ok(())
+}
+
+fn each_is_undefined(alloc: Global, programs: &[Worked]) -> Result<(), Fail> {
+    for program in programs {
+        must(
+            are(alloc, program.source, 1, (0, 20), "undefined")?,
+            program.name,
+        )?;
     }
     Ok(())
 }
 
 #[test]
-fn over_time(rt: HostRuntime) -> Result<(), Fail> {
-    each_keeps_values(&rt, &OVER_TIME)
+fn worked_programs(rt: HostRuntime) -> Result<(), Fail> {
+    let alloc = rt.alloc();
+    each_keeps_values(alloc, &OVER_TIME)?;
+    each_keeps_values(alloc, &OVER_SPACE)?;
+    each_keeps_values(alloc, &IN_CONTEXTS)?;
+    each_is_undefined(alloc, &UNDEFINED)
 }
 
-#[test]
-fn over_space(rt: HostRuntime) -> Result<(), Fail> {
-    each_keeps_values(&rt, &OVER_SPACE)
-}
-
-#[test]
-fn in_contexts(rt: HostRuntime) -> Result<(), Fail> {
-    each_keeps_values(&rt, &IN_CONTEXTS)
-}
-
-#[test]
-fn without_a_value(rt: HostRuntime) -> Result<(), Fail> {
-    for program in &UNDEFINED {
-        let text = values_of(&rt, program.source, 1, 0, 20)?;
-        assert_eq!(rt; text.as_str(), "undefined", "{}", program.name);
-    }
-    Ok(())
-}
-
-// A text that doubles at each time, and is too heavy from time 16 on: the texts of the sixteen strings and of two errors.
-#[test]
-fn weight_of_a_text(rt: HostRuntime) -> Result<(), Fail> {
-    let text = values_of(&rt, DOUBLING_TEXT, 18, 18, 18)?;
-    assert_eq!(rt; text.len(), 65_535 + 16 * 2 + 2 * 5 + 17 * 3);
-    Ok(())
+// The length of the text of the values of a text that doubles at each time.
+fn weight(alloc: Global) -> Result<Option<usize>, Fail> {
+    let text = values_of(alloc, DOUBLING_TEXT, 18, (18, 18))?;
+    Ok(text.map(|text| text.len()))
 }
 
 // not not .. true, as deep as a tree may be.
-#[test]
-fn deepest_tree(rt: HostRuntime) -> Result<(), Fail> {
-    let mut source = "not ".repeat(rt.alloc(), 399)?;
+fn is_deep(alloc: Global) -> Result<bool, Fail> {
+    let mut source = "not ".repeat(alloc, 399)?;
     source.push_str("true")?;
-    let text = values_of(&rt, &source, 1, 1, 1)?;
-    assert_eq!(rt; text.as_str(), "false");
+    are(alloc, &source, 1, (1, 1), "false")
+}
+
+// A text that doubles at each time is too heavy from time 16 on: so there are the texts of the sixteen strings and of two errors.
+#[test]
+fn weight_and_depth(rt: HostRuntime) -> Result<(), Fail> {
+    let weight = weight(rt.alloc())?;
+    let is_deep = is_deep(rt.alloc())?;
+    assert_eq!(rt;
+        (weight, is_deep),
+        (Some(65_535 + 16 * 2 + 2 * 5 + 17 * 3), true)
+    );
     Ok(())
 }

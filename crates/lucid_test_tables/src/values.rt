@@ -1,11 +1,11 @@
 //! The values of the worked programs by the plain evaluator.
+use crate::told::must;
 use lucid_parse::parse;
 use lucid_plain::{Stream, approximation};
 use lucid_scan::{ScanRefusal, scan};
 use lucid_test_programs::{IN_CONTEXTS, OVER_INPUTS, OVER_SPACE, OVER_TIME, UNDEFINED, Worked};
 use lucid_value::{Name, ReadRefusal, Value, read_value};
 use std::alloc::Global;
-use std::process::Abort;
 use std::test::Fail;
 
 /// A limit that is enough for each program.
@@ -53,8 +53,8 @@ fn value_at(
     Ok(value)
 }
 
-/// The text of that value.
-pub(crate) fn text_at(
+// The text of that value.
+fn text_at(
     alloc: Global,
     streams: &[Stream],
     source: &str,
@@ -69,98 +69,90 @@ pub(crate) fn text_at(
     Ok(Some(String::from_utf8(bytes)?))
 }
 
-// The program has its values over the inputs.
-fn shows_over<R: Abort + AllocGlobal>(
-    rt: &R,
+/// Whether that is the value's text, or nothing, at a time and by a limit.
+pub(crate) fn shows(
+    alloc: Global,
     streams: &[Stream],
-    program: &Worked,
-) -> Result<(), Fail> {
-    let (name, source) = (program.name, program.source);
+    source: &str,
+    (time, limit): (u32, u32),
+    wanted: Option<&str>,
+) -> Result<bool, Fail> {
+    Ok(text_at(alloc, streams, source, time, limit)?.as_deref() == wanted)
+}
+
+// The program has its values over the inputs.
+fn shows_over(alloc: Global, streams: &[Stream], program: &Worked) -> Result<(), Fail> {
     for (time, text) in program.values.iter().enumerate() {
-        let shown = text_at(rt.alloc(), streams, source, u32::try_from(time)?, ENOUGH)?;
-        assert_eq!(rt; shown.as_deref(), Some(*text), "{name} at {time}: {source}");
+        let at = (u32::try_from(time)?, ENOUGH);
+        must(
+            shows(alloc, streams, program.source, at, Some(*text))?,
+            program.name,
+        )?;
     }
     Ok(())
 }
 
-fn each_shows<R: Abort + AllocGlobal>(rt: &R, programs: &[Worked]) -> Result<(), Fail> {
+fn each_shows(alloc: Global, programs: &[Worked]) -> Result<(), Fail> {
     for program in programs {
-        let streams = streams_of(rt.alloc(), program.inputs)?;
-        shows_over(rt, &streams, program)?;
+        let streams = streams_of(alloc, program.inputs)?;
+        shows_over(alloc, &streams, program)?;
+    }
+    Ok(())
+}
+
+// Neither of these limits gives the program a value at time 0.
+fn are_undefined(alloc: Global, programs: &[Worked]) -> Result<(), Fail> {
+    for program in programs {
+        must(
+            shows(alloc, &[], program.source, (0, 50), None)?,
+            program.name,
+        )?;
+        must(
+            shows(alloc, &[], program.source, (0, 100), None)?,
+            program.name,
+        )?;
+    }
+    Ok(())
+}
+
+// The program has each of its values by its least limit, and none just below that.
+fn needs_its_limits(alloc: Global, program: &Worked) -> Result<(), Fail> {
+    for (time, (limit, text)) in program.least.iter().zip(program.values).enumerate() {
+        let time = u32::try_from(time)?;
+        let below = (time, limit.saturating_sub(1));
+        must(
+            shows(alloc, &[], program.source, (time, *limit), Some(*text))?,
+            program.name,
+        )?;
+        must(
+            shows(alloc, &[], program.source, below, None)?,
+            program.name,
+        )?;
+    }
+    Ok(())
+}
+
+fn each_needs_its_limits(alloc: Global, programs: &[Worked]) -> Result<(), Fail> {
+    for program in programs {
+        needs_its_limits(alloc, program)?;
     }
     Ok(())
 }
 
 #[test]
-fn over_time(rt: HostRuntime) -> Result<(), Fail> {
-    each_shows(&rt, &OVER_TIME)
-}
-
-#[test]
-fn over_space(rt: HostRuntime) -> Result<(), Fail> {
-    each_shows(&rt, &OVER_SPACE)
-}
-
-#[test]
-fn in_contexts(rt: HostRuntime) -> Result<(), Fail> {
-    each_shows(&rt, &IN_CONTEXTS)
-}
-
-#[test]
-fn over_inputs(rt: HostRuntime) -> Result<(), Fail> {
-    each_shows(&rt, &OVER_INPUTS)
+fn worked_programs(rt: HostRuntime) -> Result<(), Fail> {
+    let alloc = rt.alloc();
+    each_shows(alloc, &OVER_TIME)?;
+    each_shows(alloc, &OVER_SPACE)?;
+    each_shows(alloc, &IN_CONTEXTS)?;
+    each_shows(alloc, &OVER_INPUTS)?;
+    are_undefined(alloc, &UNDEFINED)?;
+    each_needs_its_limits(alloc, &OVER_TIME)?;
+    each_needs_its_limits(alloc, &OVER_SPACE)
 }
 
 #[test]
 fn an_integer_past_the_widest_is_refused(rt: HostRuntime) {
     let refused = scan(rt.alloc(), b"170141183460469231731687303715884105728").err();
     assert_eq!(rt; refused, Some(ScanRefusal::BigNumber { at: 0 }));
-}
-
-// The source has no value at time 0 by the approximation of the limit.
-fn is_undefined<R: Abort + AllocGlobal>(rt: &R, source: &str, limit: u32) -> Result<(), Fail> {
-    let shown = text_at(rt.alloc(), &[], source, 0, limit)?;
-    assert_eq!(rt; shown.as_deref(), None, "{source} at limit {limit}");
-    Ok(())
-}
-
-#[test]
-fn without_a_value(rt: HostRuntime) -> Result<(), Fail> {
-    for program in &UNDEFINED {
-        is_undefined(&rt, program.source, 50)?;
-        is_undefined(&rt, program.source, 100)?;
-    }
-    Ok(())
-}
-
-// The source has the value at the limit, and none just below it.
-fn needs<R: Abort + AllocGlobal>(
-    rt: &R,
-    source: &str,
-    time: u32,
-    limit: u32,
-    text: &str,
-) -> Result<(), Fail> {
-    let shown = text_at(rt.alloc(), &[], source, time, limit)?;
-    let below = text_at(rt.alloc(), &[], source, time, limit.saturating_sub(1))?;
-    let needs = shown.as_deref() == Some(text) && below.is_none();
-    assert!(rt; needs, "{source} at {time} with limit {limit} and below");
-    Ok(())
-}
-
-fn each_needs<R: Abort + AllocGlobal>(rt: &R, programs: &[Worked]) -> Result<(), Fail> {
-    for program in programs {
-        for (time, limit) in program.least.iter().enumerate() {
-            if let Some(text) = program.values.get(time) {
-                needs(rt, program.source, u32::try_from(time)?, *limit, text)?;
-            }
-        }
-    }
-    Ok(())
-}
-
-#[test]
-fn least_limits(rt: HostRuntime) -> Result<(), Fail> {
-    each_needs(&rt, &OVER_TIME)?;
-    each_needs(&rt, &OVER_SPACE)
 }
