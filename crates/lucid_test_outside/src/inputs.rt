@@ -1,5 +1,5 @@
 // What no clause says: that the calls succeed with ample memory, and that large inputs take bounded memory and little time.
-ghost use Rattle.std.specs.Prelude.{◌≡◌, ◌<◌, length, IfOk};
+ghost use Rattle.std.specs.Prelude.{◌≡◌, ◌<◌, ◌≤◌, length, IfOk};
 ghost use Rattle.lucid_ports.specs.MemoryView.{memory_world};
 ghost use Rattle.lucid_inputs.specs.Inputs.{AreAskable, IsAskable, streams};
 
@@ -71,64 +71,81 @@ fn long_number(alloc: Global, zeros: usize) -> Result<Vec<u8>, AllocError> {
     Ok(bytes)
 }
 
-#[test]
-fn limit_of_an_input(rt: HostRuntime) -> Result<(), Fail> {
-    let alloc = rt.alloc();
-    for (most, index, answer, consumed) in [
-        (
-            4u64,
-            0u64,
-            Seen::Refused(InputFault::TooLarge { stream: 0 }),
-            4u64,
-        ),
-        (6, 0, Seen::Int(12345), 6),
-        (6, 1, Seen::Refused(InputFault::TooLarge { stream: 0 }), 6),
-        (7, 1, Seen::Eod, 6),
-    ] {
-        let bytes = Vec::from_slice(alloc, b"12345\n")?;
-        let mut places = file_a(alloc, bytes, &[])?;
-        let mut inputs = input_a(alloc, &mut places, most)?;
-        let answered = ask(&mut inputs, &mut places, index);
-        let taken = places.consumed(0);
-        assert_eq!(rt; (answered, taken), (answer, consumed), "of {most}");
-    }
-    Ok(())
+// What the file `12345` answers for an element where at most so many bytes are read, and how many are consumed.
+fn limited(alloc: Global, most: u64, index: u64) -> Result<(Seen, u64), Fail> {
+    let bytes = Vec::from_slice(alloc, b"12345\n")?;
+    let mut places = file_a(alloc, bytes, &[])?;
+    let mut inputs = input_a(alloc, &mut places, most)?;
+    let answered = ask(&mut inputs, &mut places, index);
+    Ok((answered, places.consumed(0)))
 }
 
-#[test]
-fn limit_of_a_line(rt: HostRuntime) -> Result<(), Fail> {
-    let alloc = rt.alloc();
-    for (zeros, answer) in [(4_194_303usize, Seen::Int(1)), (4_194_304, Seen::Fault)] {
-        let mut places = file_a(alloc, long_number(alloc, zeros)?, &[])?;
-        let mut inputs = input_a(alloc, &mut places, 5_000_000)?;
-        assert_eq!(rt; ask(&mut inputs, &mut places, 0), answer, "with {zeros}");
+const TOO_LARGE: Seen = Seen::Refused(InputFault::TooLarge { stream: 0 });
+
+// How many bytes are read at most, the number of an element, what is answered, and how many bytes are consumed.
+static LIMITS: [(u64, u64, Seen, u64); 4] = [
+    (4, 0, TOO_LARGE, 4),
+    (6, 0, Seen::Int(12345), 6),
+    (6, 1, TOO_LARGE, 6),
+    (7, 1, Seen::Eod, 6),
+];
+
+// The first of the limits by which it goes otherwise.
+fn wrong_limit(alloc: Global) -> Result<Option<u64>, Fail> {
+    for (most, index, answer, consumed) in LIMITS {
+        if limited(alloc, most, index)? != (answer, consumed) {
+            return Ok(Some(most));
+        }
     }
-    Ok(())
+    Ok(None)
 }
 
-#[test]
-fn a_failure_loses_nothing(rt: HostRuntime) -> Result<(), Fail> {
-    let alloc = rt.alloc();
+// What a line of zeros and a one answers.
+fn of_zeros(alloc: Global, zeros: usize) -> Result<Seen, Fail> {
+    let mut places = file_a(alloc, long_number(alloc, zeros)?, &[])?;
+    let mut inputs = input_a(alloc, &mut places, 5_000_000)?;
+    Ok(ask(&mut inputs, &mut places, 0))
+}
+
+// How much is consumed where the call at a position fails, and what is answered then for the elements 1, 1, 0 and 2.
+fn failing(alloc: Global, position: u64) -> Result<(u64, [Seen; 4]), Fail> {
+    let bytes = Vec::from_slice(alloc, b"7\n89")?;
+    let mut places = file_a(alloc, bytes, &[FailAt { place: 0, position }])?;
+    let mut inputs = input_a(alloc, &mut places, MOST)?;
+    let failed = ask(&mut inputs, &mut places, 1);
+    let consumed = places.consumed(0);
+    let seen = [
+        failed,
+        ask(&mut inputs, &mut places, 1),
+        ask(&mut inputs, &mut places, 0),
+        ask(&mut inputs, &mut places, 2),
+    ];
+    Ok((consumed, seen))
+}
+
+// The first position at which a failure loses something.
+fn wrong_position(alloc: Global) -> Result<Option<u64>, Fail> {
+    let wanted = [
+        Seen::Refused(InputFault::ReadFault),
+        Seen::Int(89),
+        Seen::Int(7),
+        Seen::Eod,
+    ];
     for position in [0u64, 1, 3, 4] {
-        let bytes = Vec::from_slice(alloc, b"7\n89")?;
-        let mut places = file_a(alloc, bytes, &[FailAt { place: 0, position }])?;
-        let mut inputs = input_a(alloc, &mut places, MOST)?;
-        let failed = ask(&mut inputs, &mut places, 1);
-        let consumed = places.consumed(0);
-        let seen = [
-            failed,
-            ask(&mut inputs, &mut places, 1),
-            ask(&mut inputs, &mut places, 0),
-            ask(&mut inputs, &mut places, 2),
-        ];
-        let wanted = [
-            Seen::Refused(InputFault::ReadFault),
-            Seen::Int(89),
-            Seen::Int(7),
-            Seen::Eod,
-        ];
-        assert_eq!(rt; (consumed, seen), (position, wanted), "at {position}");
+        if failing(alloc, position)? != (position, wanted) {
+            return Ok(Some(position));
+        }
     }
+    Ok(None)
+}
+
+#[test]
+fn limits_and_failures(rt: HostRuntime) -> Result<(), Fail> {
+    let alloc = rt.alloc();
+    let zeros = [of_zeros(alloc, 4_194_303)?, of_zeros(alloc, 4_194_304)?];
+    assert_eq!(rt; zeros, [Seen::Int(1), Seen::Fault]);
+    let wrong = [wrong_limit(alloc)?, wrong_position(alloc)?];
+    assert_eq!(rt; wrong, [None, None]);
     Ok(())
 }
 
@@ -155,12 +172,65 @@ fn look_up_lines<P: Places>(inputs: &mut Inputs, places: &mut P) -> [Option<Seen
     ]
 }
 
-#[test]
-fn what_was_read_is_known(rt: HostRuntime) -> Result<(), Fail> {
-    let alloc = rt.alloc();
+fn known(alloc: Global) -> Result<[Option<Seen>; 8], Fail> {
     let bytes = Vec::from_slice(alloc, b"7\n89\n")?;
     let mut places = file_a(alloc, bytes, &[])?;
     let mut inputs = input_a(alloc, &mut places, MOST)?;
+    Ok(look_up_lines(&mut inputs, &mut places))
+}
+
+// Whether an element is answered so, and this is left behind it, where so many bytes are shown at a time.
+fn leaves(alloc: Global, most: usize, index: u64, answer: Seen, left: &[u8]) -> Result<bool, Fail>
+    requires { 1 ≤ most }
+{
+    let bytes = Vec::from_slice(alloc, b"12\n\n-3 \nx y\n45")?;
+    let mut places = Narrow::make(file_a(alloc, bytes, &[])?, most);
+    let mut inputs = input_a(alloc, &mut places, MOST)?;
+    let answered = ask(&mut inputs, &mut places, index);
+    let rest = read_at_most(alloc, &mut places, 0, 100)?;
+    Ok(answered == answer && rest.as_slice() == left)
+}
+
+// The number of an element, what is answered, and what is left.
+static PIECES: [(u64, Seen, &[u8]); 6] = [
+    (0, Seen::Int(12), b"\n-3 \nx y\n45"),
+    (1, Seen::Fault, b"-3 \nx y\n45"),
+    (2, Seen::Int(-3), b"x y\n45"),
+    (3, Seen::Fault, b"45"),
+    (4, Seen::Int(45), b""),
+    (5, Seen::Eod, b""),
+];
+
+// The first element that is answered otherwise where so many bytes are shown at a time.
+fn wrong_element(alloc: Global, most: usize) -> Result<Option<u64>, Fail>
+    requires { 1 ≤ most }
+{
+    for (index, answer, left) in PIECES {
+        if !leaves(alloc, most, index, answer, left)? {
+            return Ok(Some(index));
+        }
+    }
+    Ok(None)
+}
+
+// What an input without end answers, and its next byte. Whole turns of the piece are consumed: it begins anew.
+fn endless(alloc: Global) -> Result<(Seen, Option<u8>), Fail> {
+    let mut piece = vec![in alloc; b'1'; 65_536]?;
+    if let Some(first) = piece.get_mut(0) {
+        *first = b'2';
+    }
+    if piece.is_empty() {
+        return Err(Fail::new("an empty piece"));
+    }
+    let mut places = Endless::make(alloc, Vec::new(alloc), piece);
+    let mut inputs = input_a(alloc, &mut places, MOST)?;
+    let answer = ask(&mut inputs, &mut places, 0);
+    Ok((answer, places.fill(0)?.first().copied()))
+}
+
+#[test]
+fn what_is_read_and_known(rt: HostRuntime) -> Result<(), Fail> {
+    let alloc = rt.alloc();
     let wanted = [
         None,
         Some(Seen::Int(89)),
@@ -171,47 +241,11 @@ fn what_was_read_is_known(rt: HostRuntime) -> Result<(), Fail> {
         Some(Seen::Eod),
         Some(Seen::Eod),
     ];
-    assert_eq!(rt; look_up_lines(&mut inputs, &mut places), wanted);
-    Ok(())
-}
-
-#[test]
-fn pieces_of_any_length(rt: HostRuntime) -> Result<(), Fail> {
-    let alloc = rt.alloc();
+    assert_eq!(rt; known(alloc)?, wanted);
     for most in [1usize, 2, 7, 100] {
-        for (index, answer, left) in [
-            (0u64, Seen::Int(12), b"\n-3 \nx y\n45".as_slice()),
-            (1, Seen::Fault, b"-3 \nx y\n45".as_slice()),
-            (2, Seen::Int(-3), b"x y\n45".as_slice()),
-            (3, Seen::Fault, b"45".as_slice()),
-            (4, Seen::Int(45), b"".as_slice()),
-            (5, Seen::Eod, b"".as_slice()),
-        ] {
-            let bytes = Vec::from_slice(alloc, b"12\n\n-3 \nx y\n45")?;
-            let mut places = Narrow::make(file_a(alloc, bytes, &[])?, most);
-            let mut inputs = input_a(alloc, &mut places, MOST)?;
-            assert_eq!(rt; ask(&mut inputs, &mut places, index), answer, "with {most}");
-            let rest = read_at_most(alloc, &mut places, 0, 100)?;
-            assert_eq!(rt; rest.as_slice(), left, "with {most}");
-        }
+        assert_eq!(rt; wrong_element(alloc, most)?, None, "with {most}");
     }
-    Ok(())
-}
-
-#[test]
-fn an_input_without_end(rt: HostRuntime) -> Result<(), Fail> {
-    let alloc = rt.alloc();
-    let mut piece = vec![in alloc; b'1'; 65_536]?;
-    if let Some(first) = piece.get_mut(0) {
-        *first = b'2';
-    }
-    assert!(rt; !piece.is_empty());
-    let mut places = Endless::make(alloc, Vec::new(alloc), piece);
-    let mut inputs = input_a(alloc, &mut places, MOST)?;
-    let answer = ask(&mut inputs, &mut places, 0);
-    assert_eq!(rt; answer, Seen::Refused(InputFault::TooLarge { stream: 0 }));
-    // Whole turns of the piece are consumed: it begins anew.
-    assert_eq!(rt; places.fill(0)?.first().copied(), Some(b'2'));
+    assert_eq!(rt; endless(alloc)?, (TOO_LARGE, Some(b'2')));
     Ok(())
 }
 
@@ -237,13 +271,17 @@ fn sevens<P: Places>(inputs: &mut Inputs, places: &mut P, count: u64) -> u64
     count
 }
 
-#[test]
-fn a_million_lines(rt: HostRuntime) -> Result<(), Fail> {
-    let alloc = rt.alloc();
+// How many of a million lines are seven, and what comes behind them.
+fn million(alloc: Global) -> Result<(u64, Seen), Fail> {
     let mut places = file_a(alloc, lines_of_seven(alloc, 1_000_000)?, &[])?;
     let mut inputs = input_a(alloc, &mut places, MOST)?;
-    assert_eq!(rt; sevens(&mut inputs, &mut places, 2_000_000), 1_000_000);
-    assert_eq!(rt; ask(&mut inputs, &mut places, 1_000_000), Seen::Eod);
+    let sevens = sevens(&mut inputs, &mut places, 2_000_000);
+    Ok((sevens, ask(&mut inputs, &mut places, 1_000_000)))
+}
+
+#[test]
+fn a_million_lines(rt: HostRuntime) -> Result<(), Fail> {
+    assert_eq!(rt; million(rt.alloc())?, (1_000_000, Seen::Eod));
     Ok(())
 }
 
@@ -338,9 +376,16 @@ fn first_wrong(inputs: &mut Inputs, places: &mut MemoryPlaces, turns: &[Turn]) -
     None
 }
 
+// How many inputs there are, and the number of the first turn that goes otherwise.
+fn in_turns(alloc: Global, turns: &[Turn]) -> Result<(u64, Option<usize>), Fail> {
+    let mut places = two_files(alloc)?;
+    let mut inputs = input_both(alloc, &mut places)?;
+    let count = inputs.count();
+    Ok((count, first_wrong(&mut inputs, &mut places, turns)))
+}
+
 #[test]
 fn two_streams_in_turns(rt: HostRuntime) -> Result<(), Fail> {
-    let alloc = rt.alloc();
     for (row, turns) in [
         (
             "line by line",
@@ -376,14 +421,8 @@ fn two_streams_in_turns(rt: HostRuntime) -> Result<(), Fail> {
             ],
         ),
     ] {
-        let mut places = two_files(alloc)?;
-        let mut inputs = input_both(alloc, &mut places)?;
-        assert_eq!(rt; inputs.count(), 2);
-        assert_eq!(rt;
-            first_wrong(&mut inputs, &mut places, turns.as_slice()),
-            None,
-            "{row}"
-        );
+        let wrong = in_turns(rt.alloc(), turns.as_slice())?;
+        assert_eq!(rt; wrong, (2, None), "{row}");
     }
     Ok(())
 }

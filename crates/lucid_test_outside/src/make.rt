@@ -1,22 +1,33 @@
+use crate::told::first_false;
 use lucid_make::*;
+use std::alloc::{AllocError, Global};
 use std::test::Fail;
 
-#[test]
-fn the_program_with_two_names(rt: HostRuntime) -> Result<(), Fail> {
-    let source = make_source(rt.alloc(), 1)?;
+fn is_the_program_with_two_names(alloc: Global) -> Result<bool, AllocError> {
+    let source = make_source(alloc, 1)?;
     let want = b"v1 where
 v0 = 1 fby (v0 + 1) mod 1000;
 v1 = v0 fby (v1 + v0) mod 1000;
 end
 ";
-    assert_eq!(rt; source.as_slice(), want.as_slice());
-    Ok(())
+    Ok(source.as_slice() == want.as_slice())
+}
+
+fn is_the_longest_program(alloc: Global) -> Result<bool, AllocError> {
+    let source = make_source(alloc, 10_000)?;
+    Ok(
+        source.starts_with(b"v10000 where\n")
+            && source.ends_with(b"v10000 = v9999 fby (v10000 + v9999) mod 1000;\nend\n"),
+    )
 }
 
 #[test]
-fn the_longest_program(rt: HostRuntime) -> Result<(), Fail> {
-    let source = make_source(rt.alloc(), 10_000)?;
-    assert!(rt; source.starts_with(b"v10000 where\n"));
-    assert!(rt; source.ends_with(b"v10000 = v9999 fby (v10000 + v9999) mod 1000;\nend\n"));
+fn the_shortest_and_the_longest_program(rt: HostRuntime) -> Result<(), Fail> {
+    let alloc = rt.alloc();
+    let facts = [
+        is_the_program_with_two_names(alloc)?,
+        is_the_longest_program(alloc)?,
+    ];
+    assert_eq!(rt; first_false(&facts), None);
     Ok(())
 }

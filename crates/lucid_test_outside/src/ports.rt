@@ -1,12 +1,12 @@
 // What no clause says: that the calls succeed with ample memory, and the real objects.
-ghost use Rattle.std.specs.Prelude.{◌≡◌, ◌++◌, IfOk, OnOk};
+ghost use Rattle.std.specs.Prelude.{◌≡◌, ◌≤◌, ◌++◌, IfOk, OnOk};
 ghost use Rattle.lucid_ports.specs.MemoryView.{memory_world};
 ghost use Rattle.lucid_ports.specs.RealSinkView.{sink_writer};
 
+use crate::told::first_false;
 use lucid_ports::*;
 use std::alloc::{AllocError, Global};
 use std::io::{self, ErrorKind, Write};
-use std::process::Abort;
 use std::test::Fail;
 
 // The file `a` with the bytes `7\n8\n`, and these failures to come.
@@ -22,117 +22,149 @@ fn two_lines(alloc: Global, failures: &[FailAt]) -> Result<MemoryPlaces, AllocEr
     Ok(MemoryPlaces::make(alloc, files, Vec::from_slice(alloc, failures)?))
 }
 
-#[test]
-fn a_file_in_memory_is_read(rt: HostRuntime) -> Result<(), Fail> {
-    let alloc = rt.alloc();
+fn wrong_of_a_file(alloc: Global) -> Result<Option<usize>, Fail> {
     let mut places = two_lines(alloc, &[])?;
     let place = places.reach(alloc, "a")?;
-    assert_eq!(rt; place, 0);
     let bytes = read_at_most(alloc, &mut places, place, 3)?;
-    assert_eq!(rt; bytes.as_slice(), b"7\n8".as_slice());
-    assert_eq!(rt; places.consumed(place), 3);
+    let consumed = places.consumed(place);
     let rest = read_at_most(alloc, &mut places, place, 3)?;
-    assert_eq!(rt; rest.as_slice(), b"\n".as_slice());
-    assert_eq!(rt; places.reach(alloc, "b"), Err(PortFault::Failed));
-    Ok(())
+    Ok(first_false(&[
+        place == 0,
+        bytes.as_slice() == b"7\n8".as_slice(),
+        consumed == 3,
+        rest.as_slice() == b"\n".as_slice(),
+        places.reach(alloc, "b") == Err(PortFault::Failed),
+    ]))
 }
 
-#[test]
-fn a_call_fails_once_at_each_position(rt: HostRuntime) -> Result<(), Fail> {
-    let alloc = rt.alloc();
-    for position in [0u64, 1, 3, 4] {
-        let mut places = two_lines(alloc, &[FailAt { place: 0, position }])?;
-        let place = places.reach(alloc, "a")?;
-        let failed = read_at_most(alloc, &mut places, place, 9).err();
-        let consumed = places.consumed(place);
-        let rest = read_at_most(alloc, &mut places, place, 9)?.len();
-        assert_eq!(rt;
-            (failed, consumed, rest as u64 + position),
-            (Some(PortFault::Failed), position, 4),
-            "at {position}"
-        );
+// What a call that fails at a position answers, how much is consumed then, and how much is left.
+fn failing(alloc: Global, position: u64) -> Result<(Option<PortFault>, u64, u64), Fail> {
+    let mut places = two_lines(alloc, &[FailAt { place: 0, position }])?;
+    let place = places.reach(alloc, "a")?;
+    let failed = read_at_most(alloc, &mut places, place, 9).err();
+    let consumed = places.consumed(place);
+    let rest = read_at_most(alloc, &mut places, place, 9)?;
+    Ok((failed, consumed, rest.len() as u64))
+}
+
+// How much is shown of a file where so many bytes are shown at a time, and whether the rest is read.
+fn narrow(alloc: Global, most: usize) -> Result<(usize, bool), Fail>
+    requires { 1 ≤ most }
+{
+    let mut places = Narrow::make(two_lines(alloc, &[])?, most);
+    let place = places.reach(alloc, "a")?;
+    let shown = places.fill(place)?.len();
+    if shown < 1 {
+        return Err(Fail::new("nothing is shown"));
     }
-    Ok(())
+    places.consume(place, 1);
+    let bytes = read_at_most(alloc, &mut places, place, 9)?;
+    Ok((shown, bytes.as_slice() == b"\n8\n".as_slice()))
 }
 
-#[test]
-fn little_is_shown_at_a_time(rt: HostRuntime) -> Result<(), Fail> {
-    let alloc = rt.alloc();
-    for most in [1usize, 2, 3, 7] {
-        let mut places = Narrow::make(two_lines(alloc, &[])?, most);
-        let place = places.reach(alloc, "a")?;
-        assert_eq!(rt; places.fill(place)?.len(), most.min(4));
-        places.consume(place, 1);
-        let bytes = read_at_most(alloc, &mut places, place, 9)?;
-        assert_eq!(rt; bytes.as_slice(), b"\n8\n".as_slice(), "with {most}");
-    }
-    Ok(())
-}
-
-#[test]
-fn a_piece_comes_again_and_again(rt: HostRuntime) -> Result<(), Fail> {
-    let alloc = rt.alloc();
+// The file `a` with the bytes `7\n`.
+fn one_line(alloc: Global) -> Result<Vec<MemoryFile>, AllocError> {
     let file = MemoryFile {
         name: String::from_str(alloc, "a")?,
         bytes: Vec::from_slice(alloc, b"7\n")?,
     };
     let mut files = Vec::new(alloc);
     files.push(file)?;
-    let mut places = Endless::make(alloc, files, vec![in alloc; 48, 49, 50]?);
+    Ok(files)
+}
+
+// What is wrong of a piece that comes again and again.
+fn wrong_of_a_piece(alloc: Global) -> Result<Option<usize>, Fail> {
+    let mut places = Endless::make(alloc, one_line(alloc)?, vec![in alloc; 48, 49, 50]?);
     let file = places.reach(alloc, "a")?;
     let piece = places.reach(alloc, "b")?;
-    let bytes = read_at_most(alloc, &mut places, file, 9)?;
-    assert_eq!(rt; bytes.as_slice(), b"7\n".as_slice());
+    let line = read_at_most(alloc, &mut places, file, 9)?;
     let bytes = read_at_most(alloc, &mut places, piece, 5)?;
-    assert_eq!(rt; bytes.as_slice(), b"01201".as_slice());
-    assert_eq!(rt; places.fill(piece)?, b"2".as_slice());
-    Ok(())
+    Ok(first_false(&[
+        line.as_slice() == b"7\n".as_slice(),
+        bytes.as_slice() == b"01201".as_slice(),
+        places.fill(piece)? == b"2".as_slice(),
+    ]))
 }
 
-#[test]
-fn listed_writes_fail(rt: HostRuntime) -> Result<(), Fail> {
-    let alloc = rt.alloc();
-    let mut sink = MemorySink::make(alloc, 2, vec![in alloc; 1, 3]?);
-    for (piece, answer) in [
-        (b"abc".as_slice(), Ok(2)),
-        (b"c".as_slice(), Err(PortFault::Failed)),
-        (b"c".as_slice(), Ok(1)),
-        (b"".as_slice(), Err(PortFault::Failed)),
-        (b"".as_slice(), Ok(0)),
-    ] {
-        assert_eq!(rt; sink.write(piece), answer);
+// Pieces that are written, and what is answered.
+static WRITES: [(&[u8], Result<usize, PortFault>); 5] = [
+    (b"abc", Ok(2)),
+    (b"c", Err(PortFault::Failed)),
+    (b"c", Ok(1)),
+    (b"", Err(PortFault::Failed)),
+    (b"", Ok(0)),
+];
+
+// The number of the first piece of which a sink answers otherwise.
+fn wrong_answer(sink: &mut MemorySink) -> Option<usize> {
+    for (number, (piece, answer)) in WRITES.iter().enumerate() {
+        if sink.write(*piece) != *answer {
+            return Some(number);
+        }
     }
+    None
+}
+
+// What is answered otherwise where the writes 1 and 3 fail, and whether all that wasn't refused is written.
+fn listed_writes(alloc: Global) -> Result<(Option<usize>, bool), Fail> {
+    let mut sink = MemorySink::make(alloc, 2, vec![in alloc; 1, 3]?);
+    let wrong = wrong_answer(&mut sink);
     write_whole(&mut sink, b"defgh")?;
-    assert_eq!(rt; sink.written(), b"abcdefgh".as_slice());
-    Ok(())
+    Ok((wrong, sink.written() == b"abcdefgh".as_slice()))
 }
 
 #[test]
-fn real_places_are_read(rt: HostRuntime) -> Result<(), Fail> {
+fn places_and_sinks_in_memory(rt: HostRuntime) -> Result<(), Fail> {
+    let alloc = rt.alloc();
+    let wrong = [wrong_of_a_file(alloc)?, wrong_of_a_piece(alloc)?];
+    assert_eq!(rt; wrong, [None, None]);
+    for position in [0u64, 1, 3, 4] {
+        let (failed, consumed, rest) = failing(alloc, position)?;
+        let seen = (failed, consumed, rest.saturating_add(position));
+        assert_eq!(rt;
+            seen,
+            (Some(PortFault::Failed), position, 4),
+            "at {position}"
+        );
+    }
+    for most in [1usize, 2, 3, 7] {
+        assert_eq!(rt; narrow(alloc, most)?, (most.min(4), true), "with {most}");
+    }
+    assert_eq!(rt; listed_writes(alloc)?, (None, true));
+    Ok(())
+}
+
+// What is wrong of real files.
+fn wrong_of_real_places(rt: HostRuntime) -> Result<Option<usize>, Fail> {
     let alloc = rt.alloc();
     let mut places = RealPlaces::make(alloc, rt);
     let zeros = places.reach(alloc, "/dev/zero")?;
     let bytes = read_at_most(alloc, &mut places, zeros, 100_000)?;
-    assert_eq!(rt; bytes.len(), 100_000);
-    assert!(rt; bytes.iter().all(|byte| *byte == 0));
     let empty = places.reach(alloc, "/dev/null")?;
-    assert_eq!(rt; places.fill(empty)?.len(), 0);
+    let nothing = places.fill(empty)?.len();
     let folder = places.reach(alloc, "/")?;
-    assert_eq!(rt; places.fill(folder).err(), Some(PortFault::Failed));
-    assert_eq!(rt;
-        places.reach(alloc, "/dev/null/none"),
-        Err(PortFault::Failed)
-    );
-    assert_eq!(rt; places.reach(alloc, "-")?, 3);
-    Ok(())
+    Ok(first_false(&[
+        bytes.len() == 100_000,
+        bytes.iter().all(|byte| *byte == 0),
+        nothing == 0,
+        places.fill(folder).err() == Some(PortFault::Failed),
+        places.reach(alloc, "/dev/null/none") == Err(PortFault::Failed),
+        places.reach(alloc, "-") == Ok(3),
+    ]))
+}
+
+// What is answered of writes to the standard output, and to a full device.
+fn real_writes(rt: HostRuntime) -> Result<[Result<usize, PortFault>; 2], Fail> {
+    let mut sink = RealSink::make(rt.stdout());
+    let mut full = RealSink::make(std::fs::create(&rt, "/dev/full")?);
+    Ok([sink.write(b"written\n"), full.write(b"lost")])
 }
 
 #[test]
-fn real_sinks_are_written(rt: HostRuntime) -> Result<(), Fail> {
-    let mut sink = RealSink::make(rt.stdout());
-    assert_eq!(rt; sink.write(b"written\n"), Ok(8));
-    let mut full = RealSink::make(std::fs::create(&rt, "/dev/full")?);
-    assert_eq!(rt; full.write(b"lost"), Err(PortFault::Failed));
+fn real_places_and_sinks(rt: HostRuntime) -> Result<(), Fail> {
+    assert_eq!(rt; wrong_of_real_places(rt)?, None);
+    assert_eq!(rt; real_writes(rt)?, [Ok(8), Err(PortFault::Failed)]);
     Ok(())
 }
 
@@ -143,17 +175,13 @@ fn write_told(sink: &mut RealSink<Vec<u8>>, piece: &[u8]) -> Result<(), PortFaul
     write_whole(sink, piece)
 }
 
-fn write_two<A: Abort>(rt: &A, sink: &mut RealSink<Vec<u8>>) {
-    assert_eq!(rt; write_told(sink, b"ab\n"), Ok(()));
-    assert_eq!(rt; write_told(sink, b"c"), Ok(()));
-    assert_eq!(rt; sink.writer().as_slice(), b"ab\nc".as_slice());
-}
-
-#[test]
-fn a_vector_holds_what_is_written(rt: HostRuntime) -> Result<(), Fail> {
-    let mut sink = RealSink::make(Vec::new(rt.alloc()));
-    write_two(&rt, &mut sink);
-    Ok(())
+// What is wrong of a vector that is written to.
+fn wrong_of_a_vector(sink: &mut RealSink<Vec<u8>>) -> Option<usize> {
+    first_false(&[
+        write_told(sink, b"ab\n") == Ok(()),
+        write_told(sink, b"c") == Ok(()),
+        sink.writer().as_slice() == b"ab\nc".as_slice(),
+    ])
 }
 
 // A vector that can't be flushed.
@@ -180,16 +208,19 @@ impl Output for Stuck {
     ghost settled = { λ _ _ told. told };
 }
 
-fn write_stuck<A: Abort>(rt: &A, sink: &mut RealSink<Stuck>) {
-    assert_eq!(rt; sink.write(b"ab"), Ok(2));
-    assert_eq!(rt; sink.write(b"c"), Err(PortFault::Failed));
-    assert_eq!(rt; sink.writer().bytes.as_slice(), b"ab".as_slice());
+// What is wrong of such a vector: a failed flush is a fault of the next write.
+fn wrong_of_a_stuck(sink: &mut RealSink<Stuck>) -> Option<usize> {
+    first_false(&[
+        sink.write(b"ab") == Ok(2),
+        sink.write(b"c") == Err(PortFault::Failed),
+        sink.writer().bytes.as_slice() == b"ab".as_slice(),
+    ])
 }
 
 #[test]
-fn a_failed_flush_is_a_fault_of_the_next_write(rt: HostRuntime) -> Result<(), Fail> {
+fn vectors_hold_what_is_written(rt: HostRuntime) {
+    let wrong = wrong_of_a_vector(&mut RealSink::make(Vec::new(rt.alloc())));
     let bytes = Vec::new(rt.alloc());
-    let mut sink = RealSink::make(Stuck { bytes });
-    write_stuck(&rt, &mut sink);
-    Ok(())
+    let stuck = wrong_of_a_stuck(&mut RealSink::make(Stuck { bytes }));
+    assert_eq!(rt; [wrong, stuck], [None, None]);
 }

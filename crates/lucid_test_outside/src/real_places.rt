@@ -1,11 +1,11 @@
 // Real places over a runtime that gives what is written down for it: the order of the bytes, ends, failures, and what is taken of standard input.
-ghost use Rattle.std.specs.Prelude.{◌≡◌, ◌<◌, OnOk};
+ghost use Rattle.std.specs.Prelude.{◌≡◌, ◌<◌, ◌≤◌, OnOk};
 
 use crate::scripted::{Scripted, Step};
+use crate::told::all_hold;
 use lucid_ports::{MemoryFile, MemoryOutside, Places, PortFault, RealPlaces, read_at_most};
-use std::alloc::Global;
+use std::alloc::{AllocError, Global};
 use std::cell::Cell;
-use std::process::Abort;
 use std::test::Fail;
 
 const BYTES: &[u8] = b"1\n22\n333\n4444\n";
@@ -20,97 +20,126 @@ const PARTED: &[Step] = &[
     Step::Bytes(b"4444\n"),
 ];
 
-// All bytes of a place, by two calls, and then its end twice.
-fn read_whole<P: Places, A: Abort>(
-    rt: &A,
-    alloc: Global,
-    places: &mut P,
-    place: u32,
-) -> Result<(), PortFault>
+// Whether all bytes of a place come, by two calls, and then its end twice.
+fn is_read_whole<P: Places>(alloc: Global, places: &mut P, place: u32) -> Result<bool, PortFault>
     requires { place < (P.world places.old).reached }
     ensures { OnOk result ((P.world places.new).reached ≡ (P.world places.old).reached) }
 {
     let first = read_at_most(alloc, places, place, 4)?;
-    assert_eq!(rt; first.as_slice(), b"1\n22".as_slice());
     let rest = read_at_most(alloc, places, place, 99)?;
-    assert_eq!(rt; rest.as_slice(), b"\n333\n4444\n".as_slice());
-    assert_eq!(rt; places.fill(place)?.len(), 0);
-    assert_eq!(rt; places.fill(place)?.len(), 0);
-    Ok(())
+    let ends = [places.fill(place)?.len(), places.fill(place)?.len()];
+    Ok(all_hold(&[
+        first.as_slice() == b"1\n22".as_slice(),
+        rest.as_slice() == b"\n333\n4444\n".as_slice(),
+        ends == [0, 0],
+    ]))
+}
+
+// Whether they come of a file and of the standard input.
+fn come_in_order(alloc: Global, steps: &'static [Step], ahead: usize) -> Result<bool, Fail> {
+    let taken = Cell::new(0);
+    let script = Scripted {
+        steps,
+        ahead,
+        taken: &taken,
+    };
+    let mut places = RealPlaces::make(alloc, script);
+    let file = places.reach(alloc, "a")?;
+    let input = places.reach(alloc, "-")?;
+    let facts = [
+        is_read_whole(alloc, &mut places, file)?,
+        is_read_whole(alloc, &mut places, input)?,
+    ];
+    Ok(facts == [true, true])
+}
+
+// Steps, and how many bytes are shown ahead.
+const PIECES: [(&[Step], usize); 5] = [
+    (WHOLE, 1),
+    (WHOLE, 2),
+    (WHOLE, 99),
+    (PARTED, 1),
+    (PARTED, 99),
+];
+
+const FAULT: &[Step] = &[Step::Bytes(b"1\n2"), Step::Fault, Step::Bytes(b"2\n")];
+
+// Whether a fault in mid-stream loses nothing.
+fn loses_nothing(alloc: Global, name: &str, ahead: usize) -> Result<bool, Fail> {
+    let taken = Cell::new(0);
+    let script = Scripted {
+        steps: FAULT,
+        ahead,
+        taken: &taken,
+    };
+    let mut places = RealPlaces::make(alloc, script);
+    let place = places.reach(alloc, name)?;
+    let first = read_at_most(alloc, &mut places, place, 3)?;
+    let failed = places.fill(place).err();
+    let rest = read_at_most(alloc, &mut places, place, 99)?;
+    Ok(all_hold(&[
+        first.as_slice() == b"1\n2".as_slice(),
+        failed == Some(PortFault::Failed),
+        rest.as_slice() == b"2\n".as_slice(),
+    ]))
+}
+
+const TYPED: &[Step] = &[Step::Bytes(b"1\n"), Step::End, Step::Bytes(b"2\n")];
+
+// Whether more comes after an end, as of a terminal, where an end was typed and then more.
+fn goes_on(alloc: Global, ahead: usize) -> Result<bool, Fail> {
+    let taken = Cell::new(0);
+    let script = Scripted {
+        steps: TYPED,
+        ahead,
+        taken: &taken,
+    };
+    let mut places = RealPlaces::make(alloc, script);
+    let place = places.reach(alloc, "-")?;
+    let first = read_at_most(alloc, &mut places, place, 99)?;
+    let rest = read_at_most(alloc, &mut places, place, 99)?;
+    Ok(all_hold(&[
+        first.as_slice() == b"1\n".as_slice(),
+        rest.as_slice() == b"2\n".as_slice(),
+    ]))
 }
 
 #[test]
 fn bytes_come_in_order_by_pieces_of_any_length(rt: HostRuntime) -> Result<(), Fail> {
     let alloc = rt.alloc();
-    let taken = Cell::new(0);
-    for (steps, ahead) in [
-        (WHOLE, 1usize),
-        (WHOLE, 2),
-        (WHOLE, 99),
-        (PARTED, 1),
-        (PARTED, 99),
-    ] {
-        let mut places = RealPlaces::make(
-            alloc,
-            Scripted {
-                steps,
-                ahead,
-                taken: &taken,
-            },
-        );
-        let file = places.reach(alloc, "a")?;
-        let input = places.reach(alloc, "-")?;
-        read_whole(&rt, alloc, &mut places, file)?;
-        read_whole(&rt, alloc, &mut places, input)?;
+    for (steps, ahead) in PIECES {
+        assert!(rt; come_in_order(alloc, steps, ahead)?, "{ahead} ahead");
     }
-    Ok(())
-}
-
-#[test]
-fn a_fault_in_mid_stream_loses_nothing(rt: HostRuntime) -> Result<(), Fail> {
-    let alloc = rt.alloc();
-    let steps = &[Step::Bytes(b"1\n2"), Step::Fault, Step::Bytes(b"2\n")];
-    let taken = Cell::new(0);
     for (name, ahead) in [("a", 1usize), ("-", 1), ("-", 99)] {
-        let mut places = RealPlaces::make(
-            alloc,
-            Scripted {
-                steps,
-                ahead,
-                taken: &taken,
-            },
-        );
-        let place = places.reach(alloc, name)?;
-        let first = read_at_most(alloc, &mut places, place, 3)?;
-        assert_eq!(rt; first.as_slice(), b"1\n2".as_slice());
-        assert_eq!(rt; places.fill(place).err(), Some(PortFault::Failed));
-        let rest = read_at_most(alloc, &mut places, place, 99)?;
-        assert_eq!(rt; rest.as_slice(), b"2\n".as_slice());
+        assert!(rt; loses_nothing(alloc, name, ahead)?, "{name}, {ahead} ahead");
+    }
+    for ahead in [1usize, 99] {
+        assert!(rt; goes_on(alloc, ahead)?, "an end, {ahead} ahead");
     }
     Ok(())
 }
 
-// As a terminal, where an end was typed and then more.
-#[test]
-fn more_comes_after_an_end(rt: HostRuntime) -> Result<(), Fail> {
-    let alloc = rt.alloc();
-    let steps = &[Step::Bytes(b"1\n"), Step::End, Step::Bytes(b"2\n")];
-    let taken = Cell::new(0);
-    for ahead in [1usize, 99] {
-        let mut places = RealPlaces::make(
-            alloc,
-            Scripted {
-                steps,
-                ahead,
-                taken: &taken,
-            },
-        );
-        let place = places.reach(alloc, "-")?;
-        let first = read_at_most(alloc, &mut places, place, 99)?;
-        assert_eq!(rt; first.as_slice(), b"1\n".as_slice());
-        let rest = read_at_most(alloc, &mut places, place, 99)?;
-        assert_eq!(rt; rest.as_slice(), b"2\n".as_slice());
-    }
+// How many bytes are shown ahead, how many are read at most, and how many are taken then.
+const TAKEN: [(usize, usize, usize); 6] = [
+    (99, 0, 0),
+    (99, 1, 1),
+    (99, 6, 6),
+    (2, 3, 3),
+    (1, 1, 1),
+    (1, 2, 14),
+];
+
+// Reads so many bytes at most of the standard input, and lets go of it.
+fn read_some(alloc: Global, ahead: usize, most: usize, taken: &Cell<usize>) -> Result<(), Fail> {
+    let script = Scripted {
+        steps: WHOLE,
+        ahead,
+        taken,
+    };
+    let mut places = RealPlaces::make(alloc, script);
+    let place = places.reach(alloc, "-")?;
+    places.fill(place)?;
+    read_at_most(alloc, &mut places, place, most)?;
     Ok(())
 }
 
@@ -119,36 +148,16 @@ fn more_comes_after_an_end(rt: HostRuntime) -> Result<(), Fail> {
 fn no_more_is_taken_of_an_input_that_shows_ahead_than_is_consumed(
     rt: HostRuntime,
 ) -> Result<(), Fail> {
-    let alloc = rt.alloc();
     let taken = Cell::new(0);
-    for (ahead, most, count) in [
-        (99usize, 0usize, 0usize),
-        (99, 1, 1),
-        (99, 6, 6),
-        (2, 3, 3),
-        (1, 1, 1),
-        (1, 2, 14),
-    ] {
-        let mut places = RealPlaces::make(
-            alloc,
-            Scripted {
-                steps: WHOLE,
-                ahead,
-                taken: &taken,
-            },
-        );
-        let place = places.reach(alloc, "-")?;
-        places.fill(place)?;
-        read_at_most(alloc, &mut places, place, most)?;
-        drop(places);
+    for (ahead, most, count) in TAKEN {
+        read_some(rt.alloc(), ahead, most, &taken)?;
         assert_eq!(rt; taken.get(), count, "{most} at {ahead}");
     }
     Ok(())
 }
 
-#[test]
-fn files_in_memory_serve(rt: HostRuntime) -> Result<(), Fail> {
-    let alloc = rt.alloc();
+// The files `a` and `-`.
+fn two_files(alloc: Global) -> Result<Vec<MemoryFile>, AllocError> {
     let mut files = Vec::new(alloc);
     for name in ["a", "-"] {
         files.push(MemoryFile {
@@ -156,24 +165,45 @@ fn files_in_memory_serve(rt: HostRuntime) -> Result<(), Fail> {
             bytes: Vec::from_slice(alloc, BYTES)?,
         })?;
     }
+    Ok(files)
+}
+
+// Whether files in memory serve that show so many bytes at most.
+fn memory_serves(alloc: Global, files: &[MemoryFile], most: usize) -> Result<bool, Fail>
+    requires { 1 ≤ most }
+{
+    let mut places = RealPlaces::over(alloc, MemoryOutside::make(files, most));
+    let file = places.reach(alloc, "a")?;
+    let input = places.reach(alloc, "-")?;
+    let facts = [
+        is_read_whole(alloc, &mut places, file)?,
+        is_read_whole(alloc, &mut places, input)?,
+        places.reach(alloc, "b") == Err(PortFault::Failed),
+    ];
+    Ok(facts == [true, true, true])
+}
+
+#[test]
+fn files_in_memory_serve(rt: HostRuntime) -> Result<(), Fail> {
+    let files = two_files(rt.alloc())?;
     for most in [1usize, 2, 3, 100] {
-        let mut places = RealPlaces::over(alloc, MemoryOutside::make(&files, most));
-        let file = places.reach(alloc, "a")?;
-        let input = places.reach(alloc, "-")?;
-        read_whole(&rt, alloc, &mut places, file)?;
-        read_whole(&rt, alloc, &mut places, input)?;
-        assert_eq!(rt; places.reach(alloc, "b"), Err(PortFault::Failed));
+        assert!(rt; memory_serves(rt.alloc(), &files, most)?, "{most}");
     }
     Ok(())
 }
 
-#[test]
-fn the_real_runtime_serves(rt: HostRuntime) -> Result<(), Fail> {
+// How much is shown of an empty file by a runtime that is lent, and the first place of one that is owned.
+fn real_runtime(rt: HostRuntime) -> Result<(usize, u32), Fail> {
     let alloc = rt.alloc();
     let mut lent = RealPlaces::make(alloc, &rt);
     let empty = lent.reach(alloc, "/dev/null")?;
-    assert_eq!(rt; lent.fill(empty)?.len(), 0);
+    let shown = lent.fill(empty)?.len();
     let mut owned = RealPlaces::make(alloc, rt);
-    assert_eq!(rt; owned.reach(alloc, "-")?, 0);
+    Ok((shown, owned.reach(alloc, "-")?))
+}
+
+#[test]
+fn the_real_runtime_serves(rt: HostRuntime) -> Result<(), Fail> {
+    assert_eq!(rt; real_runtime(rt)?, (0, 0));
     Ok(())
 }
