@@ -6,7 +6,6 @@ use crate::told::first_false;
 use lucid_ops::{Form, Op, OpTable, Side, apply, standard};
 use lucid_value::{List, Text, Value, Word, cons};
 use std::alloc::Global;
-use std::process::Abort;
 use std::test::Fail;
 
 // A value, as a test writes it: an integer, a truth, a word, a string, a list of integers, end of data or an error.
@@ -58,10 +57,17 @@ fn answer(alloc: Global, op: Op, samples: &[Sample]) -> Result<Vec<u8>, Fail> {
 
 type Row = (Op, &'static [Sample], &'static str);
 
-fn each_holds<R: Abort + AllocGlobal>(rt: &R, rows: &[Row]) -> Result<(), Fail> {
+// The operator gives a value with this text.
+fn holds(alloc: Global, op: Op, samples: &[Sample], expected: &str) -> Result<(), Fail> {
+    if answer(alloc, op, samples)?.as_slice() == expected.as_bytes() {
+        return Ok(());
+    }
+    Err(Fail::new(format_args!("{op:?} doesn't give {expected}")))
+}
+
+fn each_holds(alloc: Global, rows: &[Row]) -> Result<(), Fail> {
     for (op, samples, expected) in rows {
-        let text = answer(rt.alloc(), *op, samples)?;
-        assert_eq!(rt; text.as_slice(), expected.as_bytes(), "{op:?}");
+        holds(alloc, *op, samples, expected)?;
     }
     Ok(())
 }
@@ -270,7 +276,7 @@ fn operators_at_their_edges(rt: HostRuntime) -> Result<(), Fail> {
         STRINGS.as_slice(),
         ENDS.as_slice(),
     ] {
-        each_holds(&rt, rows)?;
+        each_holds(rt.alloc(), rows)?;
     }
     Ok(())
 }
@@ -365,66 +371,56 @@ fn by_rule(at: &[usize], row: &'static str) -> &'static str {
 }
 
 // The operator gives what its row says, where an argument isn't the end of data or an error.
-fn gives<R: Abort + AllocGlobal>(
-    rt: &R,
+fn gives(
+    alloc: Global,
     op: Op,
     at: &[usize],
     args: &[Sample],
     row: &'static str,
 ) -> Result<(), Fail> {
-    let text = answer(rt.alloc(), op, args)?;
-    assert_eq!(rt;
-        text.as_slice(),
-        by_rule(at, row).as_bytes(),
-        "{op:?} at {at:?}"
-    );
-    Ok(())
+    holds(alloc, op, args, by_rule(at, row))
 }
 
 // `iseod` and `iserror` are true of their own sample alone, and `by_rule` says nothing of them.
-fn tells<R: Abort + AllocGlobal>(rt: &R, op: Op, args: &[Sample], truth: bool) -> Result<(), Fail> {
-    let text = answer(rt.alloc(), op, args)?;
-    let wanted = if truth { "true" } else { "false" };
-    assert_eq!(rt; text.as_slice(), wanted.as_bytes(), "{op:?}");
-    Ok(())
+fn tells(alloc: Global, op: Op, args: &[Sample], truth: bool) -> Result<(), Fail> {
+    holds(alloc, op, args, if truth { "true" } else { "false" })
 }
 
-#[test]
-fn each_kind_at_operators_of_one(rt: HostRuntime) -> Result<(), Fail> {
-    for i in 0..SAMPLES.len() {
-        let args = [SAMPLES[i]];
-        for (op, results) in &ONE {
-            let row = if i < 5 { results[i] } else { "" };
-            gives(&rt, *op, &[i], &args, row)?;
-        }
-        tells(&rt, Op::IsEod, &args, i == 5)?;
-        tells(&rt, Op::IsError, &args, i == 6)?;
+// A sample, at each operator of one.
+fn each_of_one(alloc: Global, i: usize) -> Result<(), Fail>
+    requires { i < 7 }
+{
+    let args = [SAMPLES[i]];
+    for (op, results) in &ONE {
+        let row = if i < 5 { results[i] } else { "" };
+        gives(alloc, *op, &[i], &args, row)?;
     }
-    Ok(())
+    tells(alloc, Op::IsEod, &args, i == 5)?;
+    tells(alloc, Op::IsError, &args, i == 6)
 }
 
 // Two samples, at each operator of two.
-fn each_of_two<R: Abort + AllocGlobal>(rt: &R, i: usize, j: usize) -> Result<(), Fail>
+fn each_of_two(alloc: Global, i: usize, j: usize) -> Result<(), Fail>
     requires first { i < 7 }
     requires second { j < 7 }
 {
     let args = [SAMPLES[i], SAMPLES[j]];
     for (op, same, across) in &TWO {
         let row = if i == j && i < 5 { same[i] } else { *across };
-        gives(rt, *op, &[i, j], &args, row)?;
+        gives(alloc, *op, &[i, j], &args, row)?;
     }
     let row = if i < 5 && j == 4 {
         IN_FRONT[i]
     } else {
         "error"
     };
-    gives(rt, Op::Cons, &[i, j], &args, row)?;
+    gives(alloc, Op::Cons, &[i, j], &args, row)?;
     let row = if i == 4 && j == 0 { "2" } else { "error" };
-    gives(rt, Op::Nth, &[i, j], &args, row)
+    gives(alloc, Op::Nth, &[i, j], &args, row)
 }
 
 // Three samples, at the operator of three.
-fn each_of_three<R: Abort + AllocGlobal>(rt: &R, i: usize, j: usize) -> Result<(), Fail>
+fn each_of_three(alloc: Global, i: usize, j: usize) -> Result<(), Fail>
     requires first { i < 7 }
     requires second { j < 7 }
 {
@@ -435,17 +431,19 @@ fn each_of_three<R: Abort + AllocGlobal>(rt: &R, i: usize, j: usize) -> Result<(
             "error"
         };
         let args = [SAMPLES[i], SAMPLES[j], SAMPLES[k]];
-        gives(rt, Op::Substr, &[i, j, k], &args, row)?;
+        gives(alloc, Op::Substr, &[i, j, k], &args, row)?;
     }
     Ok(())
 }
 
 #[test]
-fn each_kind_at_operators_of_more(rt: HostRuntime) -> Result<(), Fail> {
+fn each_kind_at_each_operator(rt: HostRuntime) -> Result<(), Fail> {
+    let alloc = rt.alloc();
     for i in 0..SAMPLES.len() {
+        each_of_one(alloc, i)?;
         for j in 0..SAMPLES.len() {
-            each_of_two(&rt, i, j)?;
-            each_of_three(&rt, i, j)?;
+            each_of_two(alloc, i, j)?;
+            each_of_three(alloc, i, j)?;
         }
     }
     Ok(())
@@ -483,11 +481,20 @@ fn rows_are_found(rt: HostRuntime) {
     assert_eq!(rt; first_false(&facts), None);
 }
 
-#[test]
-fn levels_of_arguments(rt: HostRuntime) {
-    let left = [Side::Left, Side::Right, Side::Single].map(|side| side.left_level(7));
-    let right = [Side::Left, Side::Right, Side::Single].map(|side| side.right_level(7));
-    assert_eq!(rt; (left, right), ([7, 8, 8], [8, 7, 8]));
+// The levels of the arguments of an operator of level 7, by its side.
+const LEVELS: [(Side, u8, u8); 3] = [
+    (Side::Left, 7, 8),
+    (Side::Right, 8, 7),
+    (Side::Single, 8, 8),
+];
+
+fn wrong_level() -> Option<usize> {
+    for (number, (side, left, right)) in LEVELS.iter().enumerate() {
+        if side.left_level(7) != *left || side.right_level(7) != *right {
+            return Some(number);
+        }
+    }
+    None
 }
 
 #[test]
@@ -498,6 +505,7 @@ fn rows_of_a_table_rise(rt: HostRuntime) {
         OpTable::make([second, first]).is_none(),
         OpTable::make([first, first]).is_none(),
         OpTable::make([]).is_some(),
+        wrong_level().is_none(),
     ];
     assert_eq!(rt; first_false(&facts), None);
 }

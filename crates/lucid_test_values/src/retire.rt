@@ -29,9 +29,8 @@ fn count_after<R: Retire>(alloc: Global, mut policy: R, keys: u64) -> u64 {
     held
 }
 
-#[test]
-fn the_room_of_the_last_policy(rt: HostRuntime) -> Result<(), Fail> {
-    let alloc = rt.alloc();
+// What is wrong of a policy that holds the last two.
+fn wrong_of_last(alloc: Global) -> Result<Option<usize>, Fail> {
     let (a, b, c) = (key_at(alloc, 0), key_at(alloc, 1), key_at(alloc, 2));
     let mut last = Last::make(alloc, 2)?;
     let mut warehouse = Warehouse::make(alloc);
@@ -44,31 +43,36 @@ fn the_room_of_the_last_policy(rt: HostRuntime) -> Result<(), Fail> {
         warehouse.remove(c),
         last.unlisted() == 0,
     ];
-    assert_eq!(rt; first_false(&facts), None);
-    Ok(())
+    Ok(first_false(&facts))
+}
+
+// How many of five keys are held by a policy that drops one of them at the turn after the third.
+fn scripted(alloc: Global) -> Result<u64, Fail> {
+    let scrap = Scrap {
+        turn: 3,
+        key: key_at(alloc, 1),
+    };
+    let policy = Scripted::make(alloc, vec![in alloc; scrap]?);
+    Ok(count_after(alloc, policy, 5))
+}
+
+// Whether so many of five keys are held by a policy, and whether it is one that empties the store.
+fn holds(alloc: Global, policy: Policy, want: u64) -> bool {
+    let emptying = policy.is_emptying() == (want == 0);
+    count_after(alloc, policy, 5) == want && emptying
 }
 
 #[test]
 fn each_policy_has_its_turns(rt: HostRuntime) -> Result<(), Fail> {
     let alloc = rt.alloc();
-    let scrap = Scrap {
-        turn: 3,
-        key: key_at(alloc, 1),
-    };
-    let scripted = Scripted::make(alloc, vec![in alloc; scrap]?);
-    assert_eq!(rt; count_after(alloc, scripted, 5), 4);
-    let policies = [
-        (Policy::Keep(Keep), 5),
-        (Policy::Nothing(Nothing), 0),
-        (Policy::Ages(Ages::make(2, 1)), 3),
-        (Policy::Last(Last::make(alloc, 3)?), 3),
+    let facts = [
+        wrong_of_last(alloc)?.is_none(),
+        scripted(alloc)? == 4,
+        holds(alloc, Policy::Keep(Keep), 5),
+        holds(alloc, Policy::Nothing(Nothing), 0),
+        holds(alloc, Policy::Ages(Ages::make(2, 1)), 3),
+        holds(alloc, Policy::Last(Last::make(alloc, 3)?), 3),
     ];
-    for (policy, want) in policies {
-        let emptying = policy.is_emptying() == (want == 0);
-        assert!(rt;
-            emptying && count_after(alloc, policy, 5) == want,
-            "{want} are held"
-        );
-    }
+    assert_eq!(rt; first_false(&facts), None);
     Ok(())
 }

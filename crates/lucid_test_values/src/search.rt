@@ -1,25 +1,20 @@
 use crate::told::first_false;
 use lucid_search::*;
-use lucid_tags::Tags;
+use lucid_tags::{Tag, Tags};
 
 const MANY: u64 = 100_000;
 
-#[test]
-fn best_noted_position(rt: HostRuntime) {
-    let root = Tags::make(rt.alloc()).root();
-    let mut positions = Positions::make(rt.alloc());
+// What is wrong of positions in which one is noted.
+fn wrong_of_one(positions: &mut Positions, root: Tag) -> Option<usize> {
     positions.note(1, root, 3, 7);
-    let facts = [
+    first_false(&[
         positions.best(1, root, 5) == Some((3, 7)),
         positions.best(1, root, 2).is_none(),
-    ];
-    assert_eq!(rt; first_false(&facts), None);
+    ])
 }
 
-#[test]
-fn calls_with_ample_memory(rt: HostRuntime) {
-    let root = Tags::make(rt.alloc()).root();
-    let mut positions = Positions::make(rt.alloc());
+// The same where several are, of two sites and at two spaces.
+fn wrong_of_several(positions: &mut Positions, root: Tag) -> Option<usize> {
     positions.note(1, root, 3, 7);
     positions.note(1, root, 8, 9);
     positions.note(1, root, 5, 1);
@@ -33,37 +28,54 @@ fn calls_with_ample_memory(rt: HostRuntime) {
         positions.best(2, root, 9) == Some((6, 10)),
         positions.missed() == 0,
     ];
-    assert_eq!(rt; first_false(&facts), None);
     positions.clear();
-    assert!(rt; positions.best(1, root, 9).is_none());
+    first_false(&[
+        first_false(&facts).is_none(),
+        positions.best(1, root, 9).is_none(),
+    ])
 }
 
-#[test]
-fn notes_of_a_site_out_of_order(rt: HostRuntime) {
-    let root = Tags::make(rt.alloc()).root();
-    let mut positions = Positions::make(rt.alloc());
+// What is asked for, and what is the best, of notes of a site out of order.
+static BEST: [(u64, Option<(u64, u64)>); 6] = [
+    (0, Some((0, 1))),
+    (1, Some((0, 1))),
+    (2, Some((2, 21))),
+    (5, Some((4, 40))),
+    (8, Some((6, 60))),
+    (99, Some((9, 90))),
+];
+
+fn wrong_out_of_order(positions: &mut Positions, root: Tag) -> Option<u64> {
     for (key, number) in [(6, 60), (2, 20), (9, 90), (4, 40), (2, 21), (0, 1)] {
         positions.note(3, root, key, number);
     }
-    let rows = [
-        (0, Some((0, 1))),
-        (1, Some((0, 1))),
-        (2, Some((2, 21))),
-        (5, Some((4, 40))),
-        (8, Some((6, 60))),
-        (99, Some((9, 90))),
-    ];
-    for (key, best) in rows {
-        assert_eq!(rt; positions.best(3, root, key), best);
+    for (key, best) in BEST {
+        if positions.best(3, root, key) != best {
+            return Some(key);
+        }
     }
+    None
+}
+
+fn wrong_in_rising_order(positions: &mut Positions, root: Tag) -> Option<u64> {
+    for key in 0..MANY {
+        positions.note(1, root, key, key);
+        if positions.best(1, root, MANY) != Some((key, key)) {
+            return Some(key);
+        }
+    }
+    None
 }
 
 #[test]
-fn notes_in_rising_order(rt: HostRuntime) {
-    let root = Tags::make(rt.alloc()).root();
-    let mut positions = Positions::make(rt.alloc());
-    for key in 0..MANY {
-        positions.note(1, root, key, key);
-        assert!(rt; positions.best(1, root, MANY) == Some((key, key)));
-    }
+fn noted_positions(rt: HostRuntime) {
+    let alloc = rt.alloc();
+    let root = Tags::make(alloc).root();
+    let facts = [
+        wrong_of_one(&mut Positions::make(alloc), root).is_none(),
+        wrong_of_several(&mut Positions::make(alloc), root).is_none(),
+        wrong_out_of_order(&mut Positions::make(alloc), root).is_none(),
+        wrong_in_rising_order(&mut Positions::make(alloc), root).is_none(),
+    ];
+    assert_eq!(rt; first_false(&facts), None);
 }

@@ -1,9 +1,10 @@
 //! Calls of a warehouse, one after another, with what each answers; and a million keys.
 use crate::told::first_false;
 use lucid_store::*;
-use lucid_tags::{Tag, Tags};
+use lucid_tags::{KeyHasher, Tag, Tags};
 use lucid_value::Value;
 use std::alloc::Global;
+use std::hash::{BuildHasher, BuildHasherDefault};
 
 const MANY: u64 = 1_000_000;
 
@@ -106,15 +107,13 @@ static EACH_CALL: [Step; 14] = [
     Lost(0),
 ];
 
-#[test]
-fn calls_with_ample_memory(rt: HostRuntime) {
-    for (name, steps) in [
-        ("swept untouched", UNTOUCHED.as_slice()),
-        ("touched between sweeps", AGAIN.as_slice()),
-        ("each call", EACH_CALL.as_slice()),
-    ] {
-        assert_eq!(rt; first_wrong(rt.alloc(), steps), None, "{name}");
-    }
+// What is wrong of the steps: of a value that isn't touched, of one that is touched between sweeps, of each call.
+fn wrong_steps(alloc: Global) -> [Option<usize>; 3] {
+    [
+        first_wrong(alloc, &UNTOUCHED),
+        first_wrong(alloc, &AGAIN),
+        first_wrong(alloc, &EACH_CALL),
+    ]
 }
 
 // Puts a value at each of the first times. Once one came back, each further one does, though there is memory again: the time of the first that
@@ -177,11 +176,47 @@ fn first_refused(warehouse: &mut Warehouse, tag: Tag, times: u64) -> Option<u64>
     None
 }
 
+// The first of a million keys that isn't taken, the first that isn't held, and how many are held.
+fn of_a_million(warehouse: &mut Warehouse, root: Tag) -> (Option<u64>, Option<u64>, u64) {
+    let refused = first_refused(warehouse, root, MANY);
+    let missing = first_missing(warehouse, root, MANY);
+    (refused, missing, warehouse.len())
+}
+
+// How many groups a hash can name.
+const GROUPS: u64 = 1 << 24;
+
+fn hash_at(tag: Tag, time: u64) -> u64 {
+    let key = Key { name: 0, tag, time };
+    BuildHasherDefault::<KeyHasher>::new().hash_one(key)
+}
+
+// Whether two times are in one group, each with a tag of its own.
+fn are_beside(root: Tag, one: u64, other: u64) -> bool {
+    let (one, other) = (hash_at(root, one), hash_at(root, other));
+    one % GROUPS == other % GROUPS && one / GROUPS != other / GROUPS
+}
+
+// Of the name 0 in the empty context the times from a multiple of four on are in one group: the first that isn't, or that is in the one before.
+fn first_apart(root: Tag) -> Option<u64> {
+    for first in [0, 4, 1_000_000] {
+        for time in first + 1..first + 4 {
+            if !are_beside(root, first, time) {
+                return Some(time);
+            }
+        }
+        if hash_at(root, first + 4) % GROUPS == hash_at(root, first) % GROUPS {
+            return Some(first);
+        }
+    }
+    None
+}
+
 #[test]
-fn a_million_keys(rt: HostRuntime) {
+fn steps_groups_and_a_million_keys(rt: HostRuntime) {
     let root = Tags::make(rt.alloc()).root();
-    let mut warehouse = Warehouse::make(rt.alloc());
-    assert_eq!(rt; first_refused(&mut warehouse, root, MANY), None);
-    assert_eq!(rt; first_missing(&mut warehouse, root, MANY), None);
-    assert_eq!(rt; warehouse.len(), MANY);
+    assert_eq!(rt; first_apart(root), None);
+    let million = of_a_million(&mut Warehouse::make(rt.alloc()), root);
+    assert_eq!(rt; million, (None, None, MANY));
+    assert_eq!(rt; wrong_steps(rt.alloc()), [None, None, None]);
 }

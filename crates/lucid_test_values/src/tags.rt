@@ -29,13 +29,6 @@ fn one_tag(tags: &mut Tags) -> Result<[bool; 3], AllocError> {
     ])
 }
 
-#[test]
-fn one_tag_for_one_context(rt: HostRuntime) -> Result<(), Fail> {
-    let facts = one_tag(&mut Tags::make(rt.alloc()))?;
-    assert_eq!(rt; first_false(&facts), None);
-    Ok(())
-}
-
 fn frames(tags: &mut Tags) -> Result<[bool; 7], AllocError> {
     let root = tags.root();
     let outer = tags.enter_frozen(root, 7)?;
@@ -58,15 +51,15 @@ fn frames(tags: &mut Tags) -> Result<[bool; 7], AllocError> {
     ])
 }
 
-#[test]
-fn frames_of_a_call(rt: HostRuntime) -> Result<(), Fail> {
-    let mut tags = Tags::make(rt.alloc());
-    let facts = frames(&mut tags)?;
-    assert_eq!(rt; first_false(&facts), None);
+// The same, and that nothing is known but the root once all is reset.
+fn frames_and_a_reset(tags: &mut Tags) -> Result<[bool; 2], AllocError> {
+    let facts = frames(tags)?;
     let root = tags.root();
     tags.reset();
-    assert!(rt; tags.count() == 1 && tags.root() == root);
-    Ok(())
+    Ok([
+        first_false(&facts).is_none(),
+        (tags.count(), tags.root()) == (1, root),
+    ])
 }
 
 fn numbers(tags: &mut Tags) -> Result<[bool; 5], AllocError> {
@@ -82,15 +75,9 @@ fn numbers(tags: &mut Tags) -> Result<[bool; 5], AllocError> {
     ])
 }
 
-#[test]
-fn numbers_in_order(rt: HostRuntime) -> Result<(), Fail> {
-    let facts = numbers(&mut Tags::make(rt.alloc()))?;
-    assert_eq!(rt; first_false(&facts), None);
-    Ok(())
-}
-
 // The value of the context frozen at 5, where that of each context is its key's.
-fn value_of_a_key(alloc: Global, tags: &mut Tags) -> Result<Option<u64>, AllocError> {
+fn value_of_a_key(alloc: Global) -> Result<Option<u64>, AllocError> {
+    let mut tags = Tags::make(alloc);
     let mut values = IndexMap::new(alloc);
     let root = tags.root();
     let tag = tags.enter_frozen(root, 5)?;
@@ -110,10 +97,28 @@ fn value_of_a_key(alloc: Global, tags: &mut Tags) -> Result<Option<u64>, AllocEr
     Ok(values.get(&key).copied())
 }
 
+fn wrong_tag(alloc: Global) -> Result<Option<usize>, AllocError> {
+    Ok(first_false(&one_tag(&mut Tags::make(alloc))?))
+}
+
+fn wrong_frame(alloc: Global) -> Result<Option<usize>, AllocError> {
+    Ok(first_false(&frames_and_a_reset(&mut Tags::make(alloc))?))
+}
+
+fn wrong_number(alloc: Global) -> Result<Option<usize>, AllocError> {
+    Ok(first_false(&numbers(&mut Tags::make(alloc))?))
+}
+
 #[test]
-fn key_of_a_map(rt: HostRuntime) -> Result<(), Fail> {
-    let value = value_of_a_key(rt.alloc(), &mut Tags::make(rt.alloc()))?;
-    assert_eq!(rt; value, Some(1));
+fn contexts(rt: HostRuntime) -> Result<(), Fail> {
+    let alloc = rt.alloc();
+    let facts = [
+        wrong_tag(alloc)?.is_none(),
+        wrong_frame(alloc)?.is_none(),
+        wrong_number(alloc)?.is_none(),
+        value_of_a_key(alloc)? == Some(1),
+    ];
+    assert_eq!(rt; first_false(&facts), None);
     Ok(())
 }
 
@@ -155,22 +160,24 @@ fn nested_twice(tags: &mut Tags) -> Result<[bool; 4], AllocError> {
     ])
 }
 
-#[test]
-fn a_million_nested(rt: HostRuntime) -> Result<(), Fail> {
-    let facts = nested_twice(&mut Tags::make(rt.alloc()))?;
-    assert_eq!(rt; first_false(&facts), None);
-    Ok(())
-}
-
 fn spread_twice(tags: &mut Tags) -> Result<[bool; 2], AllocError> {
     let first = spread(tags, 1_000_000)?;
     let again = spread(tags, 1_000_000)?;
     Ok([again == first, tags.count() == MANY + 1])
 }
 
+// What is wrong of a million contexts in one another, and side by side.
+fn wrong_nested(alloc: Global) -> Result<Option<usize>, AllocError> {
+    Ok(first_false(&nested_twice(&mut Tags::make(alloc))?))
+}
+
+fn wrong_spread(alloc: Global) -> Result<Option<usize>, AllocError> {
+    Ok(first_false(&spread_twice(&mut Tags::make(alloc))?))
+}
+
 #[test]
-fn a_million_side_by_side(rt: HostRuntime) -> Result<(), Fail> {
-    let facts = spread_twice(&mut Tags::make(rt.alloc()))?;
-    assert_eq!(rt; first_false(&facts), None);
+fn a_million_contexts(rt: HostRuntime) -> Result<(), Fail> {
+    let wrong = [wrong_nested(rt.alloc())?, wrong_spread(rt.alloc())?];
+    assert_eq!(rt; wrong, [None, None]);
     Ok(())
 }

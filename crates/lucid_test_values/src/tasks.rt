@@ -73,116 +73,112 @@ fn took(tasks: &mut Tasks, index: u32) -> Option<i128>
     }
 }
 
-#[test]
-fn settling_a_part(rt: HostRuntime) {
-    let tag = Tags::make(rt.alloc()).root();
-    let mut tasks = Tasks::make(rt.alloc());
+// What is wrong of a part of a root that is asked for and settled, of its child and then of the root; nothing where a row isn't there.
+fn wrong_of_settling(tasks: &mut Tasks, tag: Tag) -> Option<[Option<usize>; 2]> {
     let begun = tasks.ask(None, task_at(tag, 0), None).ok();
-    let root = newest_idle(&tasks, 1).expect(&rt, "a root");
-    let part = Part {
-        slot: root,
-        index: 1,
-    };
+    let slot = newest_idle(tasks, 1)?;
+    let part = Part { slot, index: 1 };
     let asked = tasks.ask(Some(part), task_at(tag, 1), None).ok();
-    let child = newest(&tasks).expect(&rt, "a child");
+    let child = newest(tasks)?;
     let of_child = [
-        begun == Some(root),
+        begun == Some(slot),
         asked == Some(child),
         tasks.parent(child) == Some(part),
         tasks.key(child).is_none(),
         tasks.settle(child, Value::Int(5)).is_none(),
     ];
-    assert_eq!(rt; first_false(&of_child), None, "the child");
-    let again = newest(&tasks).expect(&rt, "a root");
+    let again = newest(tasks)?;
     let of_root = [
-        again == root,
+        again == slot,
         tasks.parent(again).is_none(),
         number(tasks.got(again, 1)) == Some(5),
         number(tasks.got(again, 0)).is_none(),
     ];
-    assert_eq!(rt; first_false(&of_root), None, "the root");
+    Some([first_false(&of_child), first_false(&of_root)])
 }
 
-#[test]
-fn a_part_given_without_a_row(rt: HostRuntime) {
-    let tag = Tags::make(rt.alloc()).root();
-    let mut tasks = Tasks::make(rt.alloc());
+// What is wrong of parts that are given without a row.
+fn wrong_of_given(tasks: &mut Tasks, tag: Tag) -> Option<Option<usize>> {
     let asked = tasks.ask(None, task_at(tag, 0), None).is_ok();
-    let first = given(&mut tasks, 0, 7);
+    let first = given(tasks, 0, 7);
     let ready = tasks.ready().len() == 1;
-    let third = given(&mut tasks, 2, 8);
-    let slot = newest(&tasks).expect(&rt, "a root");
-    let facts = [
+    let third = given(tasks, 2, 8);
+    let slot = newest(tasks)?;
+    Some(first_false(&[
         asked,
         first,
         ready,
         third,
-        newest_idle(&tasks, 0).is_none(),
+        newest_idle(tasks, 0).is_none(),
         number(tasks.got(slot, 0)) == Some(7),
         number(tasks.got(slot, 1)).is_none(),
         number(tasks.got(slot, 2)) == Some(8),
-    ];
-    assert_eq!(rt; first_false(&facts), None);
+    ]))
 }
 
-#[test]
-fn values_moved_out(rt: HostRuntime) {
-    let tag = Tags::make(rt.alloc()).root();
-    let mut tasks = Tasks::make(rt.alloc());
-    let facts = [
+// What is wrong of values that are moved out.
+fn wrong_of_taken(tasks: &mut Tasks, tag: Tag) -> Option<usize> {
+    first_false(&[
         tasks.ask(None, task_at(tag, 0), None).is_ok(),
-        given(&mut tasks, 0, 0),
-        given(&mut tasks, 1, 1),
-        given(&mut tasks, 2, 2),
-        took(&mut tasks, 1) == Some(1),
-        took(&mut tasks, 0) == Some(0),
-        took(&mut tasks, 2) == Some(2),
-    ];
-    assert_eq!(rt; first_false(&facts), None);
+        given(tasks, 0, 0),
+        given(tasks, 1, 1),
+        given(tasks, 2, 2),
+        took(tasks, 1) == Some(1),
+        took(tasks, 0) == Some(0),
+        took(tasks, 2) == Some(2),
+    ])
 }
 
-#[test]
-fn a_row_with_a_key(rt: HostRuntime) {
-    let tag = Tags::make(rt.alloc()).root();
-    let mut tasks = Tasks::make(rt.alloc());
+// What is wrong of a row with a key.
+fn wrong_of_a_key(tasks: &mut Tasks, tag: Tag) -> Option<Option<usize>> {
     let key = Key {
         name: 4,
         tag,
         time: 6,
     };
     let asked = tasks.ask(None, task_at(tag, 6), Some(key)).is_ok();
-    let slot = newest(&tasks).expect(&rt, "a root");
-    let facts = [
+    let slot = newest(tasks)?;
+    Some(first_false(&[
         asked,
         tasks.task(slot) == task_at(tag, 6),
         tasks.cursor(slot) == Cursor { time: 0, count: 0 },
         tasks.key(slot) == Some(key),
         tasks.ready().len() == 1,
-    ];
-    assert_eq!(rt; first_false(&facts), None);
+    ]))
 }
 
-#[test]
-fn calls_with_ample_memory(rt: HostRuntime) {
-    let tag = Tags::make(rt.alloc()).root();
-    let mut tasks = Tasks::make(rt.alloc());
+// What is wrong of a cursor that is set, of a root that is settled, and of a forest that is cleared.
+fn wrong_of_a_cursor(tasks: &mut Tasks, tag: Tag) -> Option<Option<usize>> {
     let asked = tasks.ask(None, task_at(tag, 0), None).is_ok();
-    let root = newest(&tasks).expect(&rt, "a root");
+    let root = newest(tasks)?;
     let cursor = Cursor { time: 3, count: 2 };
     tasks.set_cursor(root, cursor);
-    let root = newest(&tasks).expect(&rt, "a root");
+    let root = newest(tasks)?;
     let kept = tasks.cursor(root) == cursor;
     let value = tasks.settle(root, Value::Int(4));
     let settled = [
         asked,
         kept,
         number(value.as_ref()) == Some(4),
-        newest(&tasks).is_none(),
+        newest(tasks).is_none(),
         tasks.ask(None, task_at(tag, 1), None).is_ok(),
     ];
-    assert_eq!(rt; first_false(&settled), None);
     tasks.clear();
-    assert!(rt; tasks.ready().is_empty());
+    Some(first_false(&[first_false(&settled).is_none(), tasks.ready().is_empty()]))
+}
+
+#[test]
+fn rows_of_tasks(rt: HostRuntime) {
+    let alloc = rt.alloc();
+    let tag = Tags::make(alloc).root();
+    let facts = [
+        wrong_of_settling(&mut Tasks::make(alloc), tag) == Some([None, None]),
+        wrong_of_given(&mut Tasks::make(alloc), tag) == Some(None),
+        wrong_of_taken(&mut Tasks::make(alloc), tag).is_none(),
+        wrong_of_a_key(&mut Tasks::make(alloc), tag) == Some(None),
+        wrong_of_a_cursor(&mut Tasks::make(alloc), tag) == Some(None),
+    ];
+    assert_eq!(rt; first_false(&facts), None);
 }
 
 // Asks for a task at each time from 1 on, each below the one before: the first time that is refused.
@@ -213,14 +209,25 @@ fn settled(tasks: &mut Tasks) -> Option<u64> {
     None
 }
 
+// Whether so many tasks are asked for and settled, and then the root, behind which there is none.
+fn million(tasks: &mut Tasks, tag: Tag) -> Option<[bool; 5]> {
+    let begun = tasks.ask(None, task_at(tag, 0), None).is_ok();
+    let nested = nested(tasks, tag).is_none();
+    let settled = settled(tasks).is_none();
+    let root = newest(tasks)?;
+    let value = tasks.settle(root, Value::Int(2));
+    Some([
+        begun,
+        nested,
+        settled,
+        value.is_some(),
+        newest(tasks).is_none(),
+    ])
+}
+
 #[test]
 fn a_million_tasks_one_below_the_other(rt: HostRuntime) {
     let tag = Tags::make(rt.alloc()).root();
-    let mut tasks = Tasks::make(rt.alloc());
-    assert!(rt; tasks.ask(None, task_at(tag, 0), None).is_ok());
-    assert_eq!(rt; nested(&mut tasks, tag), None);
-    assert_eq!(rt; settled(&mut tasks), None);
-    let root = newest(&tasks).expect(&rt, "the root");
-    assert!(rt; tasks.settle(root, Value::Int(2)).is_some());
-    assert_eq!(rt; newest(&tasks), None);
+    let facts = million(&mut Tasks::make(rt.alloc()), tag);
+    assert_eq!(rt; facts, Some([true; 5]));
 }

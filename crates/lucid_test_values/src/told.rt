@@ -1,6 +1,13 @@
-//! Several facts at once: a test that asserts each of them costs as many branches to prove.
+//! What fails a test: a row that isn't so, told by its name or its source; several facts at once. Rows are looked at by functions that own what
+//! they need and give back a truth, for a test that asserts each row pays for each assertion with all that is owned then.
+use std::test::Fail;
 
 /// The number of the first that doesn't hold, from 0.
 pub(crate) fn first_false(facts: &[bool]) -> Option<usize> {
     facts.iter().position(|fact| !*fact)
+}
+
+/// A row that isn't so fails the test, which tells its name.
+pub(crate) fn must(holds: bool, name: &str) -> Result<(), Fail> {
+    if holds { Ok(()) } else { Err(Fail::new(name)) }
 }
