@@ -14,10 +14,10 @@ const DEPTH: u32 = 100_000;
 const LONG: u32 = 100_000;
 
 // Whether demands on a program without inputs give these answers where all is held, and so many values are held then.
-fn gives(
+fn gives<'a>(
     alloc: Global,
-    source: &str,
-    demands: &[Demand],
+    source: &'a str,
+    demands: &'a [Demand],
     answers: &[String],
     held: u64,
 ) -> Result<bool, Fail> {
