@@ -9,6 +9,4 @@ pub use warehouse::Warehouse;
 
 mod ages;
 mod datons;
-#[cfg(test)]
-mod tests;
 mod warehouse;
