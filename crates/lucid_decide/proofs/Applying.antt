@@ -9,7 +9,7 @@ use Rattle.lucid_equations.specs.declared.rows.Node.TheVariants as node
 use Rattle.lucid_equations.specs.declared.rows.Node.TheVariants.{Const}
 use Rattle.lucid_decide.specs.Ready.{argument_of}
 use Rattle.lucid_decide.specs.Justified.{argument_by, argument_at, HaveValues}
-use Rattle.lucid_decide.proofs.Answers.{value_is_got}
+use Rattle.lucid_decide.proofs.Got.{value_is_got}
 use Rattle.lucid_decide.proofs.OperatorParts.{argument_is_part}
 
 -- An argument that has a value answers the look at it: by its part, or by a constant.

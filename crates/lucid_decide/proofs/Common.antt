@@ -1,12 +1,10 @@
 -- What the proofs of this crate take of std, and what two of them or more cite of other modules, passed on from one place. Declares nothing.
 pub use Rattle.lucid_decide.specs.Aims.{plain_aim}
-pub use Rattle.lucid_decide.specs.Answers.{DecidesFor, answer_of, part_or_ask, truth_or_ask}
+pub use Rattle.lucid_decide.specs.Taken.{DecidesFor}
 pub use Rattle.lucid_decide.specs.Justified.{Justified}
 pub use Rattle.lucid_decide.specs.Ready.{IsReadyRow}
 pub use Rattle.lucid_decide.specs.declared.aim.Aim.{Aim}
-pub use Rattle.lucid_decide.specs.declared.decision.Answer.{Answer}
-pub use Rattle.lucid_decide.specs.declared.decision.Answer.TheVariants.{Absent, At, Ended, Holds, Other}
-pub use Rattle.lucid_decide.specs.declared.decision.Decision.TheVariants.{Apply, Ask, AskAll, Constant, End, Fault, LookOn, Read, Refuse}
+pub use Rattle.lucid_decide.specs.declared.decision.Decision.TheVariants.{Apply, AskAll, Constant, LookOn, Read, Refuse}
 pub use Rattle.lucid_equations.specs.Datons.{NodeAim}
 pub use Rattle.lucid_equations.specs.Nodes.{PlainNodes, row}
 pub use Rattle.lucid_equations.specs.Programs.{program_equations}
@@ -14,7 +12,6 @@ pub use Rattle.lucid_equations.specs.Ranges.{IsInRange, NodeIsInRange, sizes}
 pub use Rattle.lucid_equations.specs.Rows.{constant_at, node_at, node_by, part_number, parts}
 pub use Rattle.lucid_equations.specs.declared.rows.Node.{Node}
 pub use Rattle.lucid_equations.specs.declared.table.Table.{Table}
-pub use Rattle.lucid_facts.proofs.FormWays.{Way, on_by}
 pub use Rattle.lucid_facts.specs.Decisions.{LookHas}
 pub use Rattle.lucid_facts.specs.Held.{is_search}
 pub use Rattle.lucid_facts.specs.Parts.{aim_of_task, look_of_row, node_of, part_by_look, passed_contexts}
@@ -31,13 +28,13 @@ pub use Rattle.lucid_tasks.specs.declared.Task.{Task}
 pub use Rattle.lucid_tree.specs.Levels.{nowhere}
 pub use Rattle.lucid_tree.specs.Members.{In}
 pub use Rattle.lucid_tree.specs.Rests.{CanStandAt, at_start}
-pub use Rattle.lucid_tree.specs.Rows.{Plan, by_place, gives, gives_part, last, only_truth}
+pub use Rattle.lucid_tree.specs.Rows.{Plan, gives, last}
 pub use Rattle.lucid_tree.specs.Tree.{Head, apply, asa, upon, whenever}
-pub use Rattle.lucid_value.specs.Plain.{PlainValue, eod, fault, int, truth}
+pub use Rattle.lucid_value.specs.Plain.{PlainValue, truth}
 pub use Rattle.lucid_value.specs.View.{plain}
 pub use Rattle.lucid_value.specs.declared.Value.{Value}
 pub use Rattle.std.proofs.Common.{List, None, Option, [], ap, arith, inl, inr, refl, rules, subst, suc, sym, zero, ℕ, ◌+◌, ◌-◌, ◌∙◌, ◌∷◌, ◌≢◌}
 pub use Rattle.std.proofs.lemmas.Bool.Decides.{nat_tests}
 pub use Rattle.std.proofs.lemmas.Option.{none-some, same_Some, slice_get-get_or}
 pub use Rattle.std.specs.List.{list_all}
-pub use Rattle.std.specs.Prelude.{get_or, if◌then◌else◌, is_none, map, nat_le, nat_lt, option_and_then, pos, slice_get, slice_index_or, take}
+pub use Rattle.std.specs.Prelude.{get_or, if◌then◌else◌, is_none, map, nat_le, nat_lt, option_and_then, slice_get, slice_index_or, take}

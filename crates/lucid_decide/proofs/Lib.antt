@@ -1,12 +1,14 @@
 mod Common
 mod Aims
-mod Answers
 mod Applying
 mod Deciding
-mod DecidingPlaces
-mod DecidingSearches
-mod Ending
+mod FormNodes
 pub mod FoundAims
+mod Got
+mod Leaves
 pub mod OperatorParts
 mod Passes
 pub mod SearchForms
+mod Starting
+mod Taking
+mod Within

@@ -1,5 +1,5 @@
 pub mod Aims
-pub mod Answers
 pub mod Justified
 pub mod Ready
 pub mod Searches
+pub mod Taken

@@ -1,19 +1,26 @@
 //! What a ready row does next. It is decided by the row alone, and takes no memory.
-ghost use Rattle.std.specs.Prelude.{◌≡◌, ℕ, ◌<◌, length, List, Option, Some, option_map, option_copied, is_none, slice_get};
+ghost use Rattle.std.specs.Prelude.{◌≡◌, ℕ, ◌<◌, ◌≤◌, length, List, Option, Some, option_map, option_copied, is_none, get_or, slice_get};
 ghost use Rattle.lucid_ops.specs.Arity.{arity};
 ghost use Rattle.lucid_value.specs.View.{plain};
+ghost use Rattle.lucid_streams.specs.Forms.{part_count};
+ghost use Rattle.lucid_tree.specs.Rows.{last};
+ghost use Rattle.lucid_steps.specs.Steps.{StepLooks};
 ghost use Rattle.lucid_tags.specs.Contexts.{Context};
 ghost use Rattle.lucid_tasks.specs.Rows.{TaskRow, IsRow, row_at, got_of};
 ghost use Rattle.lucid_equations.specs.Programs.{table_of};
+ghost use Rattle.lucid_equations.specs.declared.table.Table.{Table};
 ghost use Rattle.lucid_facts.specs.Tasks.{plain_row};
 ghost use Rattle.lucid_decide.specs.Justified.{Justified};
 ghost use Rattle.lucid_decide.specs.Ready.{MayDecide, argument_of};
+ghost use Rattle.lucid_decide.specs.Taken.{settled};
 ghost use Rattle.lucid_equations.specs.declared.rows.Node.TheVariants as node;
 
+use crate::moving::at_point;
 use lucid_equations::{Node, Program};
 use lucid_ops::Op;
+use lucid_steps::{Answer, Given, PartAt, Place, Start, Step, after, begin, judged};
+use lucid_streams::Form;
 use lucid_tasks::{Task, Tasks};
-use lucid_tree::LAST;
 use lucid_value::Value;
 
 /// What a ready row does next.
@@ -75,16 +82,6 @@ pub enum Decision {
     Refuse,
 }
 
-// What a decision tells of a part: no value yet, a truth, a time or a space, the end of data, or any other value.
-#[derive(Clone, Copy)]
-enum Answer {
-    Absent,
-    Holds(bool),
-    At(u64),
-    Ended,
-    Other,
-}
-
 /// The value of an operator's argument, if it is there: the part's, or a constant's, where it stands in the table.
 #[inline(always)]
 pub fn argument<'a>(
@@ -108,6 +105,18 @@ pub fn argument<'a>(
     }
 }
 
+// A row settles with what its form gives by itself.
+#[inline(always)]
+fn settled(given: Given) -> Decision
+    ensures { result ≡ settled given }
+{
+    match given {
+        Given::Truth(holds) => Decision::Truth(holds),
+        Given::End => Decision::End,
+        Given::Fault => Decision::Fault,
+    }
+}
+
 // A ready row: its slot and its task.
 #[derive(Clone, Copy)]
 struct Ready {
@@ -116,291 +125,78 @@ struct Ready {
 }
 
 impl Ready {
-    ghost use Rattle.lucid_decide.specs.Answers.{answer_of, part_or_ask, truth_or_ask, DecidesFor, DecidesIn};
+    ghost use Rattle.lucid_decide.specs.Taken.{place_of, IsAskFor, IsFormRow, MayTake, DecidesFor, DecidesIn};
 
+    // Where the row is taken, and where its search stands.
     #[inline(always)]
-    fn answer(self, tasks: &Tasks, index: u32) -> Answer
+    fn place(self, tasks: &Tasks) -> Place
+        requires { IsRow tasks.now self.slot }
+        ensures row { (known : List Context) (its : TaskRow) → row_at tasks.now self.slot ≡ Some its → its.task ≡ self.task → result ≡ place_of (plain_row known its) }
+        ensures space { result.space ≤ last }
+    {
+        let cursor = tasks.cursor(self.slot);
+        Place {
+            time: self.task.time,
+            space: self.task.tag.space(),
+            limit: u64::from(self.task.depth),
+            reached: cursor.time,
+            count: cursor.count,
+        }
+    }
+
+    // Asks for a part, at a time and a space.
+    #[inline(always)]
+    fn ask(self, parts: &[u32], at: PartAt) -> Decision
+        requires part { at.part < length parts.now }
+        requires space { at.space ≤ last }
+        ensures { IsAskFor self.task (get_or parts.now at.part 0) at result }
+    {
+        let node = parts[at.part as usize];
+        Decision::Ask {
+            index: at.part,
+            task: at_point(self.task, node, at.time, at.space),
+        }
+    }
+
+    // What the row does whose form takes a step.
+    #[inline(always)]
+    fn take(self, tasks: &Tasks, parts: &[u32], step: Step) -> Decision
         requires row { IsRow tasks.now self.slot }
-        requires index { index < 3 }
-        ensures { result ≡ answer_of (option_map plain (got_of tasks.now (record { slot = self.slot; index = index }))) }
+        requires few { length parts.now ≤ 3 }
+        requires looks { StepLooks (length parts.now) step }
+        ensures { (T : Table) (known : List Context) (its : TaskRow) (f : Form) → IsFormRow T known tasks.now self.slot self.task its f parts.now
+            → MayTake f (plain_row known its) step → Justified T known (plain_row known its) result }
     {
-        match tasks.got(self.slot, index) {
-            None => Answer::Absent,
-            Some(Value::Truth(holds)) => Answer::Holds(*holds),
-            Some(Value::Int(n)) if *n >= 0 && *n <= i128::from(LAST) => Answer::At(*n as u64),
-            Some(Value::Eod) => Answer::Ended,
-            Some(_) => Answer::Other,
+        match step {
+            Step::Part(at) => match tasks.got(self.slot, at.part) {
+                Some(_) => Decision::Part { index: at.part },
+                None => self.ask(parts, at),
+            },
+            Step::Judge(at) => match tasks.got(self.slot, at.part) {
+                Some(value) => settled(judged(Answer::of(value))),
+                None => self.ask(parts, at),
+            },
+            Step::Give(given) => settled(given),
+            Step::On { seen } => Decision::LookOn { seen },
+            Step::Nothing => Decision::Refuse,
         }
     }
 
-    // The value of the part, once it is there.
+    // What the row of a form over streams does, by the form's step where its search stands.
     #[inline(always)]
-    fn part_or_ask(self, tasks: &Tasks, index: u32, task: Task) -> Decision
+    fn stream(self, tasks: &Tasks, form: Form, parts: &[u32]) -> Decision
         requires row { IsRow tasks.now self.slot }
-        requires index { index < 3 }
-        ensures { result ≡ part_or_ask (got_of tasks.now (record { slot = self.slot; index = index })) index task }
+        requires count { length parts.now ≡ part_count form }
+        ensures { (T : Table) (known : List Context) (its : TaskRow) → IsFormRow T known tasks.now self.slot self.task its form parts.now
+            → Justified T known (plain_row known its) result }
     {
-        match tasks.got(self.slot, index) {
-            Some(_) => Decision::Part { index },
-            None => Decision::Ask { index, task },
-        }
-    }
-
-    #[inline(always)]
-    fn choose(self, tasks: &Tasks, test: u32, yes: u32, no: u32) -> Decision
-        requires { IsRow tasks.now self.slot }
-        ensures { DecidesFor tasks.now self.slot self.task (node.If test yes no) result }
-    {
-        match self.answer(tasks, 0) {
-            Answer::Absent => Decision::Ask {
-                index: 0,
-                task: Task {
-                    node: test,
-                    ..self.task
-                },
+        let place = self.place(tasks);
+        match begin(form, place) {
+            Start::Look(at) => match tasks.got(self.slot, at.part) {
+                Some(value) => self.take(tasks, parts, after(form, place, Answer::of(value))),
+                None => self.ask(parts, at),
             },
-            Answer::Holds(true) => self.part_or_ask(
-                tasks,
-                1,
-                Task {
-                    node: yes,
-                    ..self.task
-                },
-            ),
-            Answer::Holds(false) => self.part_or_ask(
-                tasks,
-                2,
-                Task {
-                    node: no,
-                    ..self.task
-                },
-            ),
-            Answer::Ended => Decision::End,
-            Answer::At(_) | Answer::Other => Decision::Fault,
-        }
-    }
-
-    // The second side of `and` and `or`, where the first doesn't decide.
-    #[inline(always)]
-    fn right_side(self, tasks: &Tasks, right: u32) -> Decision
-        requires { IsRow tasks.now self.slot }
-        ensures { result ≡ truth_or_ask (answer_of (option_map plain (got_of tasks.now (record { slot = self.slot; index = 1 })))) (record self.task { node = right }) }
-    {
-        match self.answer(tasks, 1) {
-            Answer::Absent => Decision::Ask {
-                index: 1,
-                task: Task {
-                    node: right,
-                    ..self.task
-                },
-            },
-            Answer::Holds(holds) => Decision::Truth(holds),
-            Answer::Ended => Decision::End,
-            Answer::At(_) | Answer::Other => Decision::Fault,
-        }
-    }
-
-    #[inline(always)]
-    fn both(self, tasks: &Tasks, left: u32, right: u32) -> Decision
-        requires { IsRow tasks.now self.slot }
-        ensures { DecidesFor tasks.now self.slot self.task (node.And left right) result }
-    {
-        match self.answer(tasks, 0) {
-            Answer::Absent => Decision::Ask {
-                index: 0,
-                task: Task {
-                    node: left,
-                    ..self.task
-                },
-            },
-            Answer::Holds(true) => self.right_side(tasks, right),
-            Answer::Holds(false) => Decision::Truth(false),
-            Answer::Ended => Decision::End,
-            Answer::At(_) | Answer::Other => Decision::Fault,
-        }
-    }
-
-    #[inline(always)]
-    fn either(self, tasks: &Tasks, left: u32, right: u32) -> Decision
-        requires { IsRow tasks.now self.slot }
-        ensures { DecidesFor tasks.now self.slot self.task (node.Or left right) result }
-    {
-        match self.answer(tasks, 0) {
-            Answer::Absent => Decision::Ask {
-                index: 0,
-                task: Task {
-                    node: left,
-                    ..self.task
-                },
-            },
-            Answer::Holds(true) => Decision::Truth(true),
-            Answer::Holds(false) => self.right_side(tasks, right),
-            Answer::Ended => Decision::End,
-            Answer::At(_) | Answer::Other => Decision::Fault,
-        }
-    }
-
-    // The part at the time that another part gives.
-    #[inline(always)]
-    fn attime(self, tasks: &Tasks, left: u32, right: u32) -> Decision
-        requires { IsRow tasks.now self.slot }
-        ensures { DecidesFor tasks.now self.slot self.task (node.Attime left right) result }
-    {
-        match self.answer(tasks, 1) {
-            Answer::Absent => Decision::Ask {
-                index: 1,
-                task: Task {
-                    node: right,
-                    ..self.task
-                },
-            },
-            Answer::At(time) => self.part_or_ask(
-                tasks,
-                0,
-                Task {
-                    node: left,
-                    time,
-                    ..self.task
-                },
-            ),
-            Answer::Ended => Decision::End,
-            Answer::Holds(_) | Answer::Other => Decision::Fault,
-        }
-    }
-
-    // The part at the space that another part gives.
-    fn atspace(self, tasks: &Tasks, left: u32, right: u32) -> Decision
-        requires { IsRow tasks.now self.slot }
-        ensures { DecidesFor tasks.now self.slot self.task (node.Atspace left right) result }
-    {
-        match self.answer(tasks, 1) {
-            Answer::Absent => Decision::Ask {
-                index: 1,
-                task: Task {
-                    node: right,
-                    ..self.task
-                },
-            },
-            Answer::At(space) => {
-                let tag = self.task.tag.at_space(space);
-                self.part_or_ask(
-                    tasks,
-                    0,
-                    Task {
-                        node: left,
-                        tag,
-                        ..self.task
-                    },
-                )
-            }
-            Answer::Ended => Decision::End,
-            Answer::Holds(_) | Answer::Other => Decision::Fault,
-        }
-    }
-
-    #[inline(always)]
-    fn whenever(self, tasks: &Tasks, left: u32, right: u32) -> Decision
-        requires { IsRow tasks.now self.slot }
-        ensures { DecidesFor tasks.now self.slot self.task (node.Whenever left right) result }
-    {
-        let cursor = tasks.cursor(self.slot);
-        if cursor.time >= u64::from(self.task.depth) {
-            return Decision::Refuse;
-        }
-        match self.answer(tasks, 1) {
-            Answer::Absent => Decision::Ask {
-                index: 1,
-                task: Task {
-                    node: right,
-                    time: cursor.time,
-                    ..self.task
-                },
-            },
-            Answer::Holds(true) => {
-                if cursor.count >= self.task.time {
-                    return self.part_or_ask(
-                        tasks,
-                        0,
-                        Task {
-                            node: left,
-                            time: cursor.time,
-                            ..self.task
-                        },
-                    );
-                }
-                Decision::LookOn { seen: true }
-            }
-            Answer::Holds(false) => Decision::LookOn { seen: false },
-            Answer::Ended => Decision::End,
-            Answer::At(_) | Answer::Other => Decision::Fault,
-        }
-    }
-
-    #[inline(always)]
-    fn asa(self, tasks: &Tasks, left: u32, right: u32) -> Decision
-        requires { IsRow tasks.now self.slot }
-        ensures { DecidesFor tasks.now self.slot self.task (node.Asa left right) result }
-    {
-        let cursor = tasks.cursor(self.slot);
-        if cursor.time >= u64::from(self.task.depth) {
-            return Decision::Refuse;
-        }
-        match self.answer(tasks, 1) {
-            Answer::Absent => Decision::Ask {
-                index: 1,
-                task: Task {
-                    node: right,
-                    time: cursor.time,
-                    ..self.task
-                },
-            },
-            Answer::Holds(true) => self.part_or_ask(
-                tasks,
-                0,
-                Task {
-                    node: left,
-                    time: cursor.time,
-                    ..self.task
-                },
-            ),
-            Answer::Holds(false) => Decision::LookOn { seen: false },
-            Answer::Ended => Decision::End,
-            Answer::At(_) | Answer::Other => Decision::Fault,
-        }
-    }
-
-    #[inline(always)]
-    fn upon(self, tasks: &Tasks, left: u32, right: u32) -> Decision
-        requires { IsRow tasks.now self.slot }
-        ensures { DecidesFor tasks.now self.slot self.task (node.Upon left right) result }
-    {
-        let cursor = tasks.cursor(self.slot);
-        if self.task.time > u64::from(self.task.depth) {
-            return Decision::Refuse;
-        }
-        if cursor.time >= self.task.time {
-            return self.part_or_ask(
-                tasks,
-                0,
-                Task {
-                    node: left,
-                    time: cursor.count,
-                    ..self.task
-                },
-            );
-        }
-        match self.answer(tasks, 1) {
-            Answer::Absent => Decision::Ask {
-                index: 1,
-                task: Task {
-                    node: right,
-                    time: cursor.time,
-                    ..self.task
-                },
-            },
-            Answer::Holds(holds) => Decision::LookOn { seen: holds },
-            Answer::Ended => Decision::End,
-            Answer::At(_) | Answer::Other => Decision::Fault,
+            Start::Step(step) => self.take(tasks, parts, step),
         }
     }
 
@@ -484,25 +280,17 @@ pub fn decide(program: &Program, tasks: &Tasks, slot: usize) -> Decision
 {
     let task = tasks.task(slot);
     let ready = Ready { slot, task };
-    match program.node(task.node) {
+    let node = program.node(task.node);
+    match node {
         Node::Const { constant } => Decision::Constant { constant },
         Node::Input { stream } => ready.read(stream),
         Node::Apply { op, args } => ready.apply(program, tasks, op, args),
-        Node::If { test, yes, no } => ready.choose(tasks, test, yes, no),
-        Node::And { left, right } => ready.both(tasks, left, right),
-        Node::Or { left, right } => ready.either(tasks, left, right),
-        Node::Whenever { left, right } => ready.whenever(tasks, left, right),
-        Node::Asa { left, right } => ready.asa(tasks, left, right),
-        Node::Upon { left, right } => ready.upon(tasks, left, right),
-        Node::Attime { left, right } => ready.attime(tasks, left, right),
-        Node::Atspace { left, right } => ready.atspace(tasks, left, right),
-        // Only the last time and the last space are not passed.
-        Node::Next { .. } | Node::Succ { .. } => Decision::Fault,
         Node::Refer { .. } | Node::Call { .. } => ready.refer(tasks),
-        Node::First { .. }
-        | Node::Fby { .. }
-        | Node::Initial { .. }
-        | Node::Sby { .. }
-        | Node::Freeze { .. } => unreachable!(),
+        // A frozen time is passed before a row is made.
+        Node::Freeze { .. } => unreachable!(),
+        _ => match node.read() {
+            Some((form, parts)) => ready.stream(tasks, form, parts.as_slice()),
+            None => unreachable!(),
+        },
     }
 }

@@ -26,16 +26,17 @@ fn at_time(task: Task, part: u32, time: u64) -> Task
     }
 }
 
-// The task of a part, at another space.
+// The task of a part, at a time and a space.
 #[inline(always)]
-fn at_space(task: Task, part: u32, space: u64) -> Task
+pub(crate) fn at_point(task: Task, part: u32, time: u64, space: u64) -> Task
     requires { space < 2 ^ 63 }
-    ensures task { (known : List Context) → plain_task known result ≡ record (plain_task known task) { node = part; space = space } }
+    ensures task { (known : List Context) → plain_task known result ≡ record (plain_task known task) { node = part; time = time; space = space } }
     ensures known { (known : List Context) → IsKnown known task.tag → IsKnown known result.tag }
 {
     Task {
         node: part,
         tag: task.tag.at_space(space),
+        time,
         ..task
     }
 }
@@ -59,10 +60,10 @@ fn moved(program: &Program, tags: &mut Tags, task: Task) -> Result<Option<Task>,
         Node::Next { of } if time < LAST => Some(at_time(task, of, time + 1)),
         Node::Fby { left, .. } if time == 0 => Some(at_time(task, left, 0)),
         Node::Fby { right, .. } => Some(at_time(task, right, time - 1)),
-        Node::Initial { of } => Some(at_space(task, of, 0)),
-        Node::Succ { of } if space < LAST => Some(at_space(task, of, space + 1)),
-        Node::Sby { left, .. } if space == 0 => Some(at_space(task, left, 0)),
-        Node::Sby { right, .. } => Some(at_space(task, right, space - 1)),
+        Node::Initial { of } => Some(at_point(task, of, time, 0)),
+        Node::Succ { of } if space < LAST => Some(at_point(task, of, time, space + 1)),
+        Node::Sby { left, .. } if space == 0 => Some(at_point(task, left, time, 0)),
+        Node::Sby { right, .. } => Some(at_point(task, right, time, space - 1)),
         Node::Freeze { subject } => Some(Task {
             node: subject,
             tag: tags.enter_frozen(task.tag, time)?,

@@ -2,7 +2,7 @@ use Rattle.lucid_decide.proofs.Common.{arith, Refuse, Read}
 use Rattle.std.specs.Prelude.{◌≡◌, ◌<◌}
 use Rattle.lucid_equations.specs.declared.rows.Node.TheVariants as node
 use Rattle.lucid_decide.proofs.Deciding.{decides_where}
-use Rattle.lucid_decide.proofs.DecidingPlaces.{input_reads, input_refuses}
+use Rattle.lucid_decide.proofs.Leaves.{input_reads, input_refuses}
 use Rattle.lucid_decide.proofs.decision.Ready.read.Goals as goal
 
 pub returns-then-self-eq0 : goal.returns-then-self-eq0

@@ -2,7 +2,7 @@ use Rattle.lucid_decide.proofs.Common.{sym, ◌∙◌}
 use Rattle.lucid_equations.specs.declared.rows.Node.TheVariants as node
 use Rattle.lucid_decide.specs.declared.decision.Decision.TheVariants.{Part}
 use Rattle.lucid_decide.proofs.Deciding.{decides_for}
-use Rattle.lucid_decide.proofs.DecidingPlaces.{reference_has, name_is, call_is}
+use Rattle.lucid_decide.proofs.Leaves.{reference_has, name_is, call_is}
 use Rattle.lucid_decide.proofs.decision.Ready.refer.Goals as goal
 
 pub returns-else-lacks-clause-names : goal.returns-else-lacks-clause-names
