@@ -1,14 +1,12 @@
 -- Plans that are alike: for the same uses, and where they look.
-use Rattle.lucid_follow.proofs.Common.{◌≡◌, ℕ, zero, suc, ◌+◌, ◌-◌, ◌<◌, ◌≤◌, Bool, true, false, cond, List, [], ◌∷◌, ◌++◌, length, Option, Some, None, refl, sym, ap, ◌∙◌, subst, arith, nat_le, option_and_then, PlainValue, truth, fault, arity, Op, last, Look, Plan, gives, looks, gives_part, by_test, at_zero, find_true, count_true, Uses, take_values, fed, look_plan, AreFedAlike, answer_of, by_answer, truth_by, place_by, append_assoc, pos, negsuc, append-nil}
-use Rattle.lucid_value.specs.Plain.{int, word, text, list, eod}
+use Rattle.lucid_follow.proofs.Common.{◌≡◌, ℕ, zero, suc, ◌+◌, ◌-◌, ◌<◌, ◌≤◌, List, [], ◌∷◌, ◌++◌, length, Option, Some, None, refl, sym, ap, subst, arith, nat_le, option_and_then, PlainValue, arity, Op, Look, Plan, gives, looks, find_true, Uses, take_values, fed, look_plan, AreFedAlike, append_assoc, append-nil}
 use Rattle.lucid_ops.specs.Algebra.{algebra}
 use Rattle.std.proofs.Common.{inl, inr}
 use Rattle.std.specs.Prelude.{if◌then◌else◌}
 use Rattle.lucid_tree.specs.Members.{In}
 use Rattle.lucid_tree.specs.PlanLaws.{points_of}
-use Rattle.lucid_tree.specs.Rows.{single, look, by_place, only_truth, arguments, Reader, all_values, add_value, with_values, gather}
+use Rattle.lucid_tree.specs.Rows.{single, look, arguments, Reader, all_values, add_value, with_values, gather}
 use Rattle.lucid_tree.proofs.Members.{in_left, in_right, in_either}
-use Rattle.lucid_follow.specs.declared.rest.Answer.TheVariants.{At, Other}
 use Rattle.lucid_follow.specs.declared.rest.Then.TheVariants as then
 
 -- one plan
@@ -25,60 +23,6 @@ alike_then most p q r e h =
 alike_end : (most : ℕ) (p q r : Plan) → AreFedAlike most p q → q ≡ r → AreFedAlike most p r
 alike_end most p q r h e =
     let P : Plan → Type 0 = λ x. AreFedAlike most p x in subst P e h
-
--- what a value tells decides as it does
-other_test : (b : Bool) (n : ℕ) (on off : Plan) → gives fault ≡ by_answer (cond b (At n) Other) on off
-other_test true n on off = refl
-other_test false n on off = refl
-
-pub told_test : (v : PlainValue) (on off : Plan) → by_test v on off ≡ by_answer (answer_of v) on off
-told_test (int (pos n)) on off = other_test (nat_le n last) n on off
-told_test (int (negsuc n)) on off = refl
-told_test (truth true) on off = refl
-told_test (truth false) on off = refl
-told_test (word bs) on off = refl
-told_test (text bs) on off = refl
-told_test (list vs) on off = refl
-told_test eod on off = refl
-told_test fault on off = refl
-
-place_test : (b : Bool) (n : ℕ) (k : ℕ → Plan) → cond b (k n) (gives fault) ≡ place_by (cond b (At n) Other) k
-place_test true n k = refl
-place_test false n k = refl
-
-pub told_place : (v : PlainValue) (k : ℕ → Plan) → by_place v k ≡ place_by (answer_of v) k
-told_place (int (pos n)) k = place_test (nat_le n last) n k
-told_place (int (negsuc n)) k = refl
-told_place (truth true) k = refl
-told_place (truth false) k = refl
-told_place (word bs) k = refl
-told_place (text bs) k = refl
-told_place (list vs) k = refl
-told_place eod k = refl
-told_place fault k = refl
-
-other_truth : (b : Bool) (n : ℕ) → fault ≡ truth_by (cond b (At n) Other)
-other_truth true n = refl
-other_truth false n = refl
-
-pub told_truth : (v : PlainValue) → only_truth v ≡ truth_by (answer_of v)
-told_truth (int (pos n)) = other_truth (nat_le n last) n
-told_truth (int (negsuc n)) = refl
-told_truth (truth b) = refl
-told_truth (word bs) = refl
-told_truth (text bs) = refl
-told_truth (list vs) = refl
-told_truth eod = refl
-told_truth fault = refl
-
--- the true value that is wanted, or one fewer
-pub at_none : (n : ℕ) (a : Plan) (b : ℕ → Plan) → n ≡ 0 → at_zero n a b ≡ a
-at_none zero a b e = refl
-at_none (suc n) a b e = absurd (omega (arith, e))
-
-pub at_more : (n k : ℕ) (a : Plan) (b : ℕ → Plan) → n ≡ suc k → at_zero n a b ≡ b k
-at_more zero k a b e = absurd (omega (arith, e))
-at_more (suc n) k a b e = let q : n ≡ k = omega (arith, e) in ap b q
 
 -- a search that has looks is one look, and what is done with it
 none_found : (value : Uses) (x t w s : ℕ) → fed value (find_true x t w s) [] ≡ None
@@ -109,16 +53,6 @@ find_next m most vs t w s h =
     let e : t + 1 ≡ suc t = omega arith in
     let P : ℕ → Type 0 = λ x. AreFedAlike most (find_true (m - x) x w s) (look_plan m vs (record { part = 1; time = t + 1; space = s; then = then.Find w })) in
     subst P e (find_alike m most vs (t + 1) w s h)
-
--- a count below its time is one look, and what is done with it
-pub count_look : (m : ℕ) (vs : List PlainValue) (t n s until : ℕ) → t < until
-    → look_plan m vs (record { part = 1; time = t; space = s; then = then.Count n until }) ≡ count_true (until - t) t n s until
-count_look m vs t n s until h =
-    let e : suc (until - suc t) ≡ until - t = omega (arith, h) in ap (λ (x : ℕ). count_true x t n s until) e
-
-pub count_none : (t n s until : ℕ) → until ≤ t → gives_part 0 n s ≡ count_true (until - t) t n s until
-count_none t n s until h =
-    let e : 0 ≡ until - t = omega (arith, h) in ap (λ (x : ℕ). count_true x t n s until) e
 
 -- looks are one look and the others
 pairs : (value : Uses) (k : List PlainValue → Plan) (v : PlainValue) (o : Option (List PlainValue × List ℕ))

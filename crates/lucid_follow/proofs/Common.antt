@@ -10,7 +10,6 @@ pub use Rattle.lucid_follow.specs.Fed.{Uses, fed, take_values}
 unfoldable pub use Rattle.lucid_follow.specs.Follows.{given, used}
 pub use Rattle.lucid_follow.specs.Follows.{FollowsIn, by_node, by_onward, context_in, contexts_behind, of_part, only, onward}
 pub use Rattle.lucid_follow.specs.RestPlans.{AreFedAlike, HasHead, look_plan}
-pub use Rattle.lucid_follow.specs.Told.{answer_of, by_answer, place_by, truth_by}
 pub use Rattle.lucid_follow.specs.declared.rest.Then.{Then}
 pub use Rattle.lucid_ops.specs.Arity.{arity}
 pub use Rattle.lucid_ops.specs.declared.op.Op.{Op}
@@ -19,11 +18,11 @@ pub use Rattle.lucid_tags.specs.Known.{context_of}
 pub use Rattle.lucid_tree.specs.Levels.{Elements, element_of, goes_to, nowhere}
 pub use Rattle.lucid_tree.specs.Rows.{Look, Plan, at_zero, by_test, count_true, find_true, gives, gives_part, last, looks, plan}
 pub use Rattle.lucid_tree.specs.Tree.{Head, apply, fby, next, sby, succ, upon}
-pub use Rattle.lucid_value.specs.Plain.{PlainValue, fault, truth}
+pub use Rattle.lucid_value.specs.Plain.{PlainValue}
 pub use Rattle.lucid_why.specs.Certificates.{PlainJudgment}
-pub use Rattle.std.proofs.Common.{Bool, List, None, Option, Some, [], add-one, ap, append_assoc, arith, cond, drop, false, get_or, inl, inr, length, negsuc, pos, refl, subst, suc, sym, true, zero, ℕ, ◌++◌, ◌+◌, ◌-◌, ◌<◌, ◌↔◌, ◌∙◌, ◌∷◌, ◌≡◌, ◌≤◌, ◌⊎◌}
+pub use Rattle.std.proofs.Common.{Bool, List, None, Option, Some, [], add-one, ap, append_assoc, arith, cond, drop, false, get_or, inl, inr, length, refl, subst, suc, sym, true, zero, ℕ, ◌++◌, ◌+◌, ◌-◌, ◌<◌, ◌↔◌, ◌∙◌, ◌∷◌, ◌≡◌, ◌≤◌, ◌⊎◌}
 pub use Rattle.std.proofs.Math.Seq.{drop-cons}
-pub use Rattle.std.proofs.lemmas.Bool.{and_parts, cases_order, eqb-true, le-leb, le-ltb, lt-ltb, ltb-true}
+pub use Rattle.std.proofs.lemmas.Bool.{and_parts, cases_order, eqb-true, le-leb, ltb-true}
 pub use Rattle.std.proofs.lemmas.List.{append-nil, map-append}
 pub use Rattle.std.proofs.lemmas.Option.{cond_some, option_and_then_some, same_Some}
 pub use Rattle.std.specs.Option.{option_and_then}

@@ -3,6 +3,7 @@ pub mod FedRuns
 pub mod Alike
 pub mod Begins
 pub mod GoesOn
+pub mod Ending
 pub mod ContextTags
 pub mod RowsOf
 pub mod Inside

@@ -1,45 +1,44 @@
--- What a value tells of a choice, and what a plan goes on with by that.
-use Rattle.std.specs.Prelude.{ℕ, suc, ◌-◌, ◌≤◌, true, false, pos, nat_le, if◌then◌else◌}
-use Rattle.lucid_value.specs.Plain.{PlainValue, int, truth, eod, fault}
-use Rattle.lucid_tree.specs.Rows.{last, Plan, gives, gives_part, at_zero, find_true, count_true}
-use Rattle.lucid_follow.specs.declared.rest.Answer.{Answer}
-use Rattle.lucid_follow.specs.declared.rest.Answer.TheVariants.{Holds, At, Ended, Other}
+-- What a value tells of a look: the step of the form that looked, where no search goes on, and the plan of the step.
+use Rattle.std.specs.Prelude.{ℕ, ◌<◌, ◌≤◌}
+use Rattle.lucid_streams.specs.declared.form.Form.{Form}
+use Rattle.lucid_streams.specs.declared.form.Form.TheVariants as forms
+use Rattle.lucid_tree.specs.Rows.{Plan, last}
+use Rattle.lucid_steps.specs.declared.answer.Answer.{Answer}
+use Rattle.lucid_steps.specs.declared.step.Place.{Place}
+use Rattle.lucid_steps.specs.declared.step.Step.{Step}
+use Rattle.lucid_steps.specs.declared.step.Step.TheVariants as step
+use Rattle.lucid_steps.specs.Steps.{step_after, step_plan}
+use Rattle.lucid_follow.specs.declared.rest.Look.{Look}
 
--- a truth, a time or a space, the end of data, or any other value
-abbrev pub answer_of : PlainValue → Answer
-answer_of (truth b) = Holds b
-answer_of (int (pos n)) = if nat_le n last then At n else Other
-answer_of eod = Ended
-answer_of _ = Other
+-- where a form stands that looked so, at its own time and with so many true values before
+abbrev pub looked_from : Look → (time count : ℕ) → Place
+looked_from l t n = record { time = t; space = l.space; limit = t; reached = l.time; count = n }
 
--- a time or a space is at most the last
-abbrev pub IsPoint : Answer → Type 0
-IsPoint (At n) = n ≤ last
-IsPoint _ = Unit {0}
+-- the same for an approximation
+abbrev pub at_limit : (limit : ℕ) → Place → Place
+at_limit m p = record p { limit = m }
 
--- on by a truth
-abbrev pub by_answer : Answer → (on off : Plan) → Plan
-by_answer (Holds true) on off = on
-by_answer (Holds false) on off = off
-by_answer Ended on off = gives eod
-by_answer _ on off = gives fault
+-- the plan of a form's step by what a value tells
+abbrev pub told_plan : Form → Place → Answer → Plan
+told_plan f p a = step_plan f p (step_after f p a)
 
--- a truth or the end of data as it is
-abbrev pub truth_by : Answer → PlainValue
-truth_by (Holds b) = truth b
-truth_by Ended = eod
-truth_by _ = fault
+-- the form looks at its point, and its value decides
+abbrev pub IsDecided : Form → Type 0
+IsDecided forms.If = Unit {0}
+IsDecided forms.And = Unit {0}
+IsDecided forms.Or = Unit {0}
+IsDecided forms.Attime = Unit {0}
+IsDecided forms.Atspace = Unit {0}
+IsDecided _ = ⊥
 
--- on to a time or a space
-abbrev pub place_by : Answer → (ℕ → Plan) → Plan
-place_by (At n) k = k n
-place_by Ended k = gives eod
-place_by _ k = gives fault
+-- no search goes on after a step
+abbrev pub EndsSearch : Step → Type 0
+EndsSearch (step.On seen) = ⊥
+EndsSearch step.Nothing = ⊥
+EndsSearch _ = Unit {0}
 
--- a search on, after a look at a time
-abbrev pub found_by : (limit : ℕ) → Answer → (wanted time space : ℕ) → Plan
-found_by m a n t s = by_answer a (at_zero n (gives_part 0 t s) (λ k. find_true (m - suc t) (suc t) k s)) (find_true (m - suc t) (suc t) n s)
-
--- a count on, after a look at a time
-abbrev pub counted_by : Answer → (seen until time space : ℕ) → Plan
-counted_by a n until t s = by_answer a (count_true (until - suc t) (suc t) (suc n) s until) (count_true (until - suc t) (suc t) n s until)
+-- what a step looks at is one of so many parts, at a time and a space
+abbrev pub StepInside : (count : ℕ) → Step → Type 0
+StepInside n (step.Part x) = (x.part < n) × (x.time ≤ last) × (x.space ≤ last)
+StepInside n (step.Judge x) = (x.part < n) × (x.time ≤ last) × (x.space ≤ last)
+StepInside n _ = Unit {0}

@@ -1,21 +1,25 @@
 //! The plan of a form, as a small value: what it looks at next and what is done with that, or what it gives.
-ghost use Rattle.std.specs.Prelude.{◌≡◌, ℕ, suc, true, false, ◌+◌, ◌-◌, ◌<◌, ◌≤◌, ◌^◌, List, [], ◌∷◌, ◌++◌, length};
-ghost use Rattle.lucid_value.specs.Plain.{PlainValue, truth};
+ghost use Rattle.std.specs.Prelude.{◌≡◌, ℕ, suc, ◌+◌, ◌-◌, ◌<◌, ◌≤◌, ◌^◌, List, [], ◌∷◌, ◌++◌, length};
+ghost use Rattle.lucid_value.specs.Plain.{PlainValue};
 ghost use Rattle.lucid_value.specs.View.{plain};
 ghost use Rattle.lucid_ops.specs.Arity.{arity};
+ghost use Rattle.lucid_streams.specs.declared.form.Form.TheVariants as forms;
 ghost use Rattle.lucid_tree.specs.Tree.{Head};
 ghost use Rattle.lucid_tree.specs.Rows.{gives, gives_part, count_true, find_true, last, plan};
+ghost use Rattle.lucid_steps.specs.Steps.{given_value, step_after, step_plan};
 ghost use Rattle.lucid_equations.specs.Programs.{table_of};
 ghost use Rattle.lucid_equations.specs.Ranges.{NodeNames, sizes};
 ghost use Rattle.lucid_equations.specs.Rows.{parts};
 ghost use Rattle.lucid_equations.specs.declared.table.Table.{Table};
-ghost use Rattle.lucid_follow.specs.RestPlans.{IsForm, OnlyMoves, HasHead, second_side, by_then, rest_plan, CanGoOn, MayGoOn, Stands, IsLookOf, LooksInside, AreFedAlike};
-ghost use Rattle.lucid_follow.specs.Told.{answer_of, IsPoint, by_answer, truth_by, place_by, found_by, counted_by};
+ghost use Rattle.lucid_follow.specs.RestPlans.{IsForm, OnlyMoves, HasHead, by_then, rest_plan, CanGoOn, MayGoOn, Stands, IsLookOf, LooksInside, AreFedAlike};
+ghost use Rattle.lucid_follow.specs.Told.{EndsSearch, IsDecided, StepInside, at_limit, looked_from, told_plan};
 ghost use Rattle.lucid_follow.specs.declared.rest.Then.TheVariants as then;
 ghost use Rattle.lucid_follow.specs.declared.rest.Rest.TheVariants as rest;
 
 use lucid_equations::{Node, Program};
 use lucid_ops::Op;
+use lucid_steps::{Answer, Given, Place, Step, after, judged};
+use lucid_streams::Form;
 use lucid_tree::LAST;
 use lucid_value::Value;
 
@@ -68,27 +72,6 @@ pub enum Rest<'a> {
     Apply(Op),
 }
 
-/// What a value tells of a choice: a truth, a time or a space, the end of data, or any other.
-#[derive(Clone, Copy)]
-enum Answer {
-    Holds(bool),
-    At(u64),
-    Ended,
-    Other,
-}
-
-fn tell(value: &Value) -> Answer
-    ensures answer { result ≡ answer_of (plain value.now) }
-    ensures point { IsPoint result }
-{
-    match value {
-        Value::Truth(holds) => Answer::Holds(*holds),
-        Value::Int(n) if *n >= 0 && *n <= i128::from(LAST) => Answer::At(*n as u64),
-        Value::Eod => Answer::Ended,
-        _ => Answer::Other,
-    }
-}
-
 // A look at a part whose value is the form's.
 fn give(part: u32, time: u64, space: u64) -> Rest<'static>
     ensures plan { (m : ℕ) (vs : List PlainValue) → rest_plan m vs result ≡ gives_part part time space }
@@ -103,97 +86,56 @@ fn give(part: u32, time: u64, space: u64) -> Rest<'static>
     })
 }
 
-// The second side of `and` and `or`: a truth or the end of data as it is, else an error.
-fn judge(answer: Answer) -> Rest<'static>
-    ensures plan { (m : ℕ) (vs : List PlainValue) → rest_plan m vs result ≡ gives (truth_by answer) }
+// What a form gives by itself.
+fn settled(given: Given) -> Rest<'static>
+    ensures plan { (m : ℕ) (vs : List PlainValue) → rest_plan m vs result ≡ gives (given_value given) }
     ensures stands { (k : ℕ) → Stands k result }
     ensures inside { (n : ℕ) → LooksInside n result }
 {
-    match answer {
-        Answer::Holds(holds) => Rest::Truth(holds),
-        Answer::Ended => Rest::End,
-        Answer::At(_) | Answer::Other => Rest::Fault,
+    match given {
+        Given::Truth(holds) => Rest::Truth(holds),
+        Given::End => Rest::End,
+        Given::Fault => Rest::Fault,
+    }
+}
+
+// A step after which no search goes on.
+fn taken(step: Step) -> Rest<'static>
+    requires { EndsSearch step }
+    ensures plan { (f : Form) (p : Place) (m : ℕ) (vs : List PlainValue) → rest_plan m vs result ≡ step_plan f p step }
+    ensures stands { (k : ℕ) → Stands k result }
+    ensures inside { (n : ℕ) → StepInside n step → LooksInside n result }
+{
+    match step {
+        Step::Part(at) => give(at.part, at.time, at.space),
+        Step::Judge(at) => here(at.part, at.time, at.space, Then::Judge),
+        Step::Give(given) => settled(given),
+        Step::On { .. } | Step::Nothing => unreachable!(),
     }
 }
 
 impl Look {
-    fn choose(self, answer: Answer) -> Rest<'static>
-        ensures plan { (m : ℕ) (vs : List PlainValue) → rest_plan m vs result ≡ by_answer answer (gives_part 1 self.time self.space) (gives_part 2 self.time self.space) }
-        ensures stands { (k : ℕ) → Stands k result }
-        ensures inside { (n : ℕ) → 2 < n → self.time ≤ last → self.space ≤ last → LooksInside n result }
+    // Where a form stands that looked here: at its own time, with so many true values before.
+    fn place(self, time: u64, count: u64) -> Place
+        ensures { result ≡ looked_from self time count }
     {
-        match answer {
-            Answer::Holds(true) => give(1, self.time, self.space),
-            Answer::Holds(false) => give(2, self.time, self.space),
-            Answer::Ended => Rest::End,
-            Answer::At(_) | Answer::Other => Rest::Fault,
-        }
-    }
-
-    // The second side of `and` or `or` decides.
-    fn second_side(self) -> Rest<'static>
-        ensures plan { (m : ℕ) (vs : List PlainValue) → rest_plan m vs result ≡ second_side self.time self.space }
-        ensures stands { (k : ℕ) → Stands k result }
-        ensures inside { (n : ℕ) → 1 < n → self.time ≤ last → self.space ≤ last → LooksInside n result }
-    {
-        Rest::Look(Look {
-            part: 1,
-            time: self.time,
+        Place {
+            time,
             space: self.space,
-            then: Then::Judge,
-        })
-    }
-
-    fn both(self, answer: Answer) -> Rest<'static>
-        ensures plan { (m : ℕ) (vs : List PlainValue) → rest_plan m vs result ≡ by_answer answer (second_side self.time self.space) (gives (truth false)) }
-        ensures stands { (k : ℕ) → Stands k result }
-        ensures inside { (n : ℕ) → 1 < n → self.time ≤ last → self.space ≤ last → LooksInside n result }
-    {
-        match answer {
-            Answer::Holds(true) => self.second_side(),
-            Answer::Holds(false) => Rest::Truth(false),
-            Answer::Ended => Rest::End,
-            Answer::At(_) | Answer::Other => Rest::Fault,
+            limit: time,
+            reached: self.time,
+            count,
         }
     }
 
-    fn either(self, answer: Answer) -> Rest<'static>
-        ensures plan { (m : ℕ) (vs : List PlainValue) → rest_plan m vs result ≡ by_answer answer (gives (truth true)) (second_side self.time self.space) }
+    // The step of a form that looked at its point, by what the value tells.
+    fn decide(self, form: Form, answer: Answer) -> Rest<'static>
+        requires { IsDecided form }
+        ensures plan { (m : ℕ) (vs : List PlainValue) → rest_plan m vs result ≡ told_plan form (looked_from self self.time 0) answer }
         ensures stands { (k : ℕ) → Stands k result }
-        ensures inside { (n : ℕ) → 1 < n → self.time ≤ last → self.space ≤ last → LooksInside n result }
+        ensures inside { (n : ℕ) → StepInside n (step_after form (looked_from self self.time 0) answer) → LooksInside n result }
     {
-        match answer {
-            Answer::Holds(true) => Rest::Truth(true),
-            Answer::Holds(false) => self.second_side(),
-            Answer::Ended => Rest::End,
-            Answer::At(_) | Answer::Other => Rest::Fault,
-        }
-    }
-
-    // Part 0 at the time that was looked at.
-    fn at_time(self, answer: Answer) -> Rest<'static>
-        ensures plan { (m : ℕ) (vs : List PlainValue) → rest_plan m vs result ≡ place_by answer (λ u. gives_part 0 u self.space) }
-        ensures stands { (k : ℕ) → Stands k result }
-        ensures inside { (n : ℕ) → 0 < n → IsPoint answer → self.space ≤ last → LooksInside n result }
-    {
-        match answer {
-            Answer::At(time) => give(0, time, self.space),
-            Answer::Ended => Rest::End,
-            Answer::Holds(_) | Answer::Other => Rest::Fault,
-        }
-    }
-
-    // Part 0 at the space that was looked at.
-    fn at_space(self, answer: Answer) -> Rest<'static>
-        ensures plan { (m : ℕ) (vs : List PlainValue) → rest_plan m vs result ≡ place_by answer (λ r. gives_part 0 self.time r) }
-        ensures stands { (k : ℕ) → Stands k result }
-        ensures inside { (n : ℕ) → 0 < n → IsPoint answer → self.time ≤ last → LooksInside n result }
-    {
-        match answer {
-            Answer::At(space) => give(0, self.time, space),
-            Answer::Ended => Rest::End,
-            Answer::Holds(_) | Answer::Other => Rest::Fault,
-        }
+        taken(after(form, self.place(self.time, 0), answer))
     }
 
     // The search at the next time.
@@ -213,20 +155,19 @@ impl Look {
 
     fn find(self, answer: Answer, wanted: u64) -> Rest<'static>
         requires { self.time + 1 < 2 ^ 64 }
-        ensures plan { (m most : ℕ) (vs : List PlainValue) → self.time + 1 + most ≤ m → AreFedAlike most (found_by m answer wanted self.time self.space) (rest_plan m vs result) }
+        ensures plan { (m most : ℕ) (vs : List PlainValue) → self.time + 1 + most ≤ m
+            → AreFedAlike most (told_plan forms.Whenever (at_limit m (looked_from self wanted 0)) answer) (rest_plan m vs result) }
         ensures stands { (k : ℕ) → self.time ≡ k → Stands (k + 1) result }
         ensures inside { (n : ℕ) → 1 < n → self.time ≤ last → self.space ≤ last → LooksInside n result }
     {
-        match answer {
-            Answer::Holds(true) => {
-                if wanted == 0 {
-                    return give(0, self.time, self.space);
+        match after(Form::Whenever, self.place(wanted, 0), answer) {
+            Step::On { seen } => {
+                if seen {
+                    return self.search_on(wanted - 1);
                 }
-                self.search_on(wanted - 1)
+                self.search_on(wanted)
             }
-            Answer::Holds(false) => self.search_on(wanted),
-            Answer::Ended => Rest::End,
-            Answer::At(_) | Answer::Other => Rest::Fault,
+            step => taken(step),
         }
     }
 
@@ -254,15 +195,18 @@ impl Look {
         requires below { self.time < until }
         requires few { seen ≤ self.time }
         requires until { until < 2 ^ 63 }
-        ensures plan { (m : ℕ) (vs : List PlainValue) → rest_plan m vs result ≡ counted_by answer seen until self.time self.space }
+        ensures plan { (m : ℕ) (vs : List PlainValue) → rest_plan m vs result ≡ told_plan forms.Upon (looked_from self until seen) answer }
         ensures stands { (k : ℕ) → Stands k result }
         ensures inside { (n : ℕ) → 1 < n → self.space ≤ last → LooksInside n result }
     {
-        match answer {
-            Answer::Holds(true) => self.count_on(seen + 1, until),
-            Answer::Holds(false) => self.count_on(seen, until),
-            Answer::Ended => Rest::End,
-            Answer::At(_) | Answer::Other => Rest::Fault,
+        match after(Form::Upon, self.place(until, seen), answer) {
+            Step::On { seen: holds } => {
+                if holds {
+                    return self.count_on(seen + 1, until);
+                }
+                self.count_on(seen, until)
+            }
+            step => taken(step),
         }
     }
 
@@ -293,15 +237,15 @@ impl Look {
         ensures stands { (k : ℕ) → CanGoOn k self → Stands (k + 1) result }
         ensures inside { (n : ℕ) → self.time ≤ last → IsLookOf n self → LooksInside n result }
     {
-        let answer = tell(value);
+        let answer = Answer::of(value);
         match self.then {
             Then::Give => Rest::Value(value),
-            Then::Choose => self.choose(answer),
-            Then::Both => self.both(answer),
-            Then::Either => self.either(answer),
-            Then::Judge => judge(answer),
-            Then::Time => self.at_time(answer),
-            Then::Space => self.at_space(answer),
+            Then::Choose => self.decide(Form::If, answer),
+            Then::Both => self.decide(Form::And, answer),
+            Then::Either => self.decide(Form::Or, answer),
+            Then::Judge => settled(judged(answer)),
+            Then::Time => self.decide(Form::Attime, answer),
+            Then::Space => self.decide(Form::Atspace, answer),
             Then::Find { wanted } => self.find(answer, wanted),
             Then::Count { seen, until } => self.count(answer, seen, until),
             Then::Argument { op } => self.argument(op),
