@@ -11,6 +11,7 @@ RIGHT = [
     ("7", "", "j 0 0 5 0 0 7\n"),
     ("7", "", "j 0 0 5 0 0 7\nj 0 0 5 0 0 7\n"),
     ("7", "", "z 2 0\nj 0 0 5 0 0 7\n"),
+    ("7", "", "c 0 0 0\nj 0 0 5 0 0 7\n"),
     ("first next a", "a", "j 0 0 1 0 0 5\nj 1 0 0 0 1 0 5\nj 2 0 3 0 1 1 5\n"),
     ("a + b", "ab", "j 0 0 2 0 0 eod\nj 1 0 2 0 0 3\nj 2 0 2 0 2 0 1 eod\n"),
     ("1 + 1", "", "j 0 0 0 0 0 1\nj 1 0 0 0 0 1\nj 2 0 0 0 2 0 1 2\n"),
@@ -53,10 +54,11 @@ WRONG = [
     # an element that isn't the input's; with a use
     ("a + b", "ab", "j 0 0 1 0 0 4\n", 0),
     ("first a", "a", "j 0 0 0 0 0 4\nj 0 0 0 0 1 0 4\n", 1),
-    # a node that isn't the program's; a context that isn't there, or isn't good
+    # a node that isn't the program's; a context that isn't there, or isn't good, or has a call place that isn't the program's
     ("7", "", "j 1 0 5 0 0 7\n", 0),
     ("7", "", "j 0 1 5 0 0 7\n", 0),
     ("7", "", "z 2 0\nz 0 0\nj 0 1 5 0 0 7\n", 0),
+    ("7", "", "c 0 0 0\nj 0 1 5 0 0 7\nj 0 0 5 0 0 7\n", 0),
     # the last isn't the root, in the empty context, at space 0
     ("1 + 1", "", "j 0 0 0 0 0 1\nj 1 0 0 0 0 1\n", 1),
     ("7", "", "z 0 0\nj 0 1 5 0 0 7\n", 0),

@@ -31,7 +31,7 @@ pub use Rattle.lucid_facts.specs.Engine.{AreAskable, ConsultsOverlong, places_of
 pub use Rattle.lucid_facts.specs.Parts.{look_task, node_of}
 pub use Rattle.lucid_facts.specs.Stands.{task_val, task_visits, visits_of}
 pub use Rattle.lucid_facts.specs.Tasks.{PlainTask}
-pub use Rattle.lucid_follow.specs.Checking.{AreTimes, IsOfContext, PassesOn, going, row_onward}
+pub use Rattle.lucid_follow.specs.Checking.{ArePlaces, AreTimes, IsOfContext, PassesOn, going, row_onward}
 pub use Rattle.lucid_follow.specs.Fed.{Uses, fed}
 pub use Rattle.lucid_follow.specs.Follows.{FollowsIn, Judged, Onward, context_in, contexts_behind, given, is_context, of_part}
 unfoldable pub use Rattle.lucid_follow.specs.Follows.{used}

@@ -10,9 +10,10 @@ use Rattle.lucid_lemmas.proofs.Lists.{slice_get-append_left}
 use Rattle.lucid_cert.proofs.Growing.{follow_in_front, in_known, left_of}
 
 -- the first context is the empty one
-first_stays : (c : Option Context) (cs : List (Option Context)) (rs : List ContextRow) → context_in (contexts_behind (c ∷ cs) rs) 0 ≡ c
-first_stays c cs [] = refl
-first_stays c cs (r ∷ rs) = first_stays c (cs ++ row_context (c ∷ cs) r ∷ []) rs
+first_stays : (places : ℕ) (c : Option Context) (cs : List (Option Context)) (rs : List ContextRow)
+    → context_in (contexts_behind places (c ∷ cs) rs) 0 ≡ c
+first_stays places c cs [] = refl
+first_stays places c cs (r ∷ rs) = first_stays places c (cs ++ row_context places (c ∷ cs) r ∷ []) rs
 
 -- the length of a front
 front_length : {X : Type 0} (xs : List X) (n : ℕ) → n < length xs → length (take (n + 1) xs) ≡ n + 1
@@ -31,9 +32,9 @@ rows_shown (c ∷ cs) js h k = (h.0, rows_shown cs js h.1 k)
 
 module _ (T : Table) (known : List Context) (keys : List Key) (js : List PlainJudgment) (waiting : List Making) (s : IsSoundBy T known keys js waiting)
     (at : Position) (is_root : IsRoot T at) (n : ℕ)
-    (it : IsJudgmentAt js (spot_at at 0) n) (w : Why) (rows : contexts_behind (Some root ∷ []) w.contexts ≡ map Some known)
+    (it : IsJudgmentAt js (spot_at at 0) n) (w : Why) (rows : contexts_behind (length T.places) (Some root ∷ []) w.contexts ≡ map Some known)
     (front : w.judgments ≡ take (n + 1) js) where
-  its_contexts : contexts w ≡ map Some known
+  its_contexts : contexts T w ≡ map Some known
   unfolding contexts
   its_contexts = rows
 
@@ -57,12 +58,12 @@ module _ (T : Table) (known : List Context) (keys : List Key) (js : List PlainJu
   last_there : slice_get w.judgments n ≡ Some it.judgment
   last_there = sym (left_of w.judgments behind n (omega (arith, count))) ∙ (ap (λ (xs : List PlainJudgment). slice_get xs n) whole ∙ it.there)
 
-  empty_context : context_in (contexts w) it.judgment.context ≡ Some root
+  empty_context : context_in (contexts T w) it.judgment.context ≡ Some root
   empty_context =
-      ap (context_in (contexts w)) (ap (λ (x : Spot). x.context) it.its_spot ∙ ap (λ (t : Tag). number_of t) is_root.context)
-      ∙ (ap (λ (cs : List (Option Context)). context_in cs 0) (its_contexts ∙ sym rows) ∙ first_stays (Some root) [] w.contexts)
+      ap (context_in (contexts T w)) (ap (λ (x : Spot). x.context) it.its_spot ∙ ap (λ (t : Tag). number_of t) is_root.context)
+      ∙ (ap (λ (cs : List (Option Context)). context_in cs 0) (its_contexts ∙ sym rows) ∙ first_stays (length T.places) (Some root) [] w.contexts)
 
-  of_root : IsOfRoot T (contexts w) w.judgments n
+  of_root : IsOfRoot T (contexts T w) w.judgments n
   of_root = record {
     judgment = it.judgment;
     there = last_there;
@@ -71,7 +72,7 @@ module _ (T : Table) (known : List Context) (keys : List Key) (js : List PlainJu
     space = ap (λ (x : Spot). x.space) it.its_spot;
   }
 
-  all_follow : (b : Elements) → FollowAmong T b known js → (i : ℕ) → i < length w.judgments → FollowsIn T b (contexts w) w.judgments i
+  all_follow : (b : Elements) → FollowAmong T b known js → (i : ℕ) → i < length w.judgments → FollowsIn T b (contexts T w) w.judgments i
   all_follow b follow i l =
       subst (λ (cs : List (Option Context)). FollowsIn T b cs w.judgments i) (sym its_contexts)
       (follow_in_front T b (map Some known) w.judgments behind i l
@@ -79,14 +80,14 @@ module _ (T : Table) (known : List Context) (keys : List Key) (js : List PlainJu
 
   -- no two judgments are of one node in one context at one point
   one_number : (i k : ℕ) (j l : PlainJudgment) → slice_get js i ≡ Some j → slice_get js k ≡ Some l
-      → context_in (contexts w) j.context ≡ context_in (contexts w) l.context → j.context ≡ l.context
+      → context_in (contexts T w) j.context ≡ context_in (contexts T w) l.context → j.context ≡ l.context
   one_number i k j l e f same =
       s.once.places j.context l.context (s.contexts i j e) (s.contexts k l f)
       (same_Some (context_at known j.context) (context_at known l.context)
       (sym (in_known known j.context (s.contexts i j e)) ∙ (ap (λ (cs : List (Option Context)). context_in cs j.context) (sym its_contexts)
       ∙ (same ∙ (ap (λ (cs : List (Option Context)). context_in cs l.context) its_contexts ∙ in_known known l.context (s.contexts k l f))))))
 
-  is_apart : AreApart w
+  is_apart : AreApart T w
   is_apart i k j l e f node context time space =
       let a = from_front i j e in
       let b = from_front k l f in

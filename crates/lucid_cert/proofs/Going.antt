@@ -1,5 +1,5 @@
 -- What each step makes of a certificate in the making.
-use Rattle.lucid_cert.proofs.Common.{◌≡◌, ℕ, ◌<◌, true, false, List, [], ◌∷◌, ◌++◌, map, length, Some, refl, sym, ap, ◌∙◌, inl, inr, subst, arith, append_assoc, length-append, ◌^◌, list_any, AllByRecursion, append-nil, slice_get-push_same, Elements, Context, same_key, IsOneForOne, KeepsKnown, context_of, number_of, tag_of, Key, Table, PlainJudgment, MayShowJudgment, FollowsIn, Judged, context_in, given, used, AreTimes, Position, AreFollowing, Each, FollowAmong, GivesBy, Goes, Grows, IsJudgmentAt, IsMade, IsSound, IsSoundBy, IsWaiting, MayJudge, RootStands, Settles, Spot, judgments_of, spot_at, spot_by, spot_of, table_in, Maker, Making}
+use Rattle.lucid_cert.proofs.Common.{◌≡◌, ℕ, ◌<◌, true, false, List, [], ◌∷◌, ◌++◌, map, length, Some, refl, sym, ap, ◌∙◌, inl, inr, subst, arith, append_assoc, length-append, ◌^◌, list_any, AllByRecursion, append-nil, slice_get-push_same, Elements, Context, same_key, IsOneForOne, KeepsKnown, context_of, number_of, tag_of, Key, Table, PlainJudgment, MayShowJudgment, FollowsIn, Judged, context_in, given, used, ArePlaces, AreTimes, Position, AreFollowing, Each, FollowAmong, GivesBy, Goes, Grows, IsJudgmentAt, IsMade, IsSound, IsSoundBy, IsWaiting, MayJudge, RootStands, Settles, Spot, judgments_of, spot_at, spot_by, spot_of, table_in, Maker, Making}
 use Rattle.lucid_lemmas.proofs.Numbers.{below_or_last}
 use Rattle.lucid_texts.specs.Words.{AreBelow}
 use Rattle.lucid_cert.specs.Makers.{made, waits}
@@ -37,10 +37,11 @@ module _ (T : Table) (old new : List Context) (keeps : KeepsKnown old new) (keys
   same_waits : Each (IsWaiting T new js) waiting
   same_waits = subst (λ (x : List PlainJudgment). Each (IsWaiting T new x) waiting) (append-nil js) (still_waits T old new keeps js [] waiting s.waits)
 
-  pub sound_known : IsOneForOne new → AreTimes new → IsSoundBy T new keys js waiting
-  sound_known once times = record {
+  pub sound_known : IsOneForOne new → AreTimes new → ArePlaces (length T.places) new → IsSoundBy T new keys js waiting
+  sound_known once times places = record {
     once = once;
     times = times;
+    places = places;
     keys_of = s.keys_of;
     apart = s.apart;
     shown = s.shown;
@@ -58,6 +59,7 @@ pub sound_waiting : (T : Table) (known : List Context) (keys : List Key) (js : L
 sound_waiting T known keys js waiting w s h = record {
   once = s.once;
   times = s.times;
+  places = s.places;
   keys_of = s.keys_of;
   apart = s.apart;
   shown = s.shown;
@@ -120,6 +122,7 @@ module _ (T : Table) (known : List Context) (keys : List Key) (js : List PlainJu
   sound_made waiting s key spot absent few fewer earlier = record {
     once = s.once;
     times = s.times;
+    places = s.places;
     keys_of = keys_more keys js s.keys_of key j (its ∙ sym spot);
     apart = apart_more keys js s.keys_of key j (its ∙ sym spot) absent s.apart;
     shown = each_more MayShowJudgment js j s.shown

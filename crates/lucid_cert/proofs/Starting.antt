@@ -1,16 +1,21 @@
 -- A maker as it begins, what waits innermost, and what keys are found.
-use Rattle.lucid_cert.proofs.Common.{◌≡◌, ℕ, zero, suc, ◌≤◌, Bool, true, false, cond, not, List, [], ◌∷◌, ◌++◌, length, Option, Some, None, refl, sym, ap, ◌∙◌, subst, arith, Result, Ok, Err, IfErr, IfSome, IsErrAnd, option_to_list, slice_get, find, same_Some, slice_get-push_same, Context, root, same_key, IsOneForOne, number_of, space_of, Key, EachBelow, Table, DemandFault, NoMemory, PlainJudgment, AreTimes, Position, AreKeysOf, Each, IsJudgmentAt, IsSoundBy, Spot, spot_at, spot_by, spot_of, IsOwn, Making}
+use Rattle.lucid_cert.proofs.Common.{◌≡◌, ℕ, zero, suc, ◌≤◌, Bool, true, false, cond, not, List, [], ◌∷◌, ◌++◌, length, Option, Some, None, refl, sym, ap, ◌∙◌, subst, arith, Result, Ok, Err, IfErr, IfSome, IsErrAnd, option_to_list, slice_get, find, same_Some, slice_get-push_same, Context, root, same_key, IsOneForOne, number_of, space_of, Key, EachBelow, Table, DemandFault, NoMemory, PlainJudgment, ArePlaces, AreTimes, Position, AreKeysOf, Each, IsJudgmentAt, IsSoundBy, Spot, spot_at, spot_by, spot_of, IsOwn, Making}
 use Rattle.lucid_cert.proofs.Keeping.{each_fewer, judgment_of_key, same_spot}
 
--- the empty context alone has no frozen time
+-- the empty context alone has no frozen time and no call place
 root_times : AreTimes (root ∷ [])
 root_times zero t c e = absurd (cc)
 root_times (suc i) t c e = absurd (cc)
+
+root_places : (places : ℕ) → ArePlaces places (root ∷ [])
+root_places places zero at c d e = absurd (cc)
+root_places places (suc i) at c d e = absurd (cc)
 
 nothing_sound : (T : Table) → IsOneForOne (root ∷ []) → IsSoundBy T (root ∷ []) [] [] []
 nothing_sound T once = record {
   once = once;
   times = root_times;
+  places = root_places (length T.places);
   keys_of = refl;
   apart = λ i k j l e f same. absurd (cc);
   shown = λ i j e. absurd (cc);
@@ -31,6 +36,7 @@ pub fewer_sound : (T : Table) (known : List Context) (keys : List Key) (js : Lis
 fewer_sound T known keys js waiting fewer more e s = record {
   once = s.once;
   times = s.times;
+  places = s.places;
   keys_of = s.keys_of;
   apart = s.apart;
   shown = s.shown;

@@ -19,16 +19,16 @@ use Rattle.lucid_follow.specs.Follows.{context_in, contexts, IsRight}
 use Rattle.lucid_check.specs.Checked.{MayBe}
 
 -- No two judgments are of one node in one context at one point.
-abbrev pub AreApart : Why → Type 0
-AreApart w =
+abbrev pub AreApart : Table → Why → Type 0
+AreApart T w =
     (i k : ℕ) (j l : PlainJudgment) → slice_get w.judgments i ≡ Some j → slice_get w.judgments k ≡ Some l → j.node ≡ l.node
-    → context_in (contexts w) j.context ≡ context_in (contexts w) l.context → j.time ≡ l.time → j.space ≡ l.space → i ≡ k
+    → context_in (contexts T w) j.context ≡ context_in (contexts T w) l.context → j.time ≡ l.time → j.space ≡ l.space → i ≡ k
 
 -- A certificate of the root's value at a time: it is right, no judgment stands twice, and it may be shown.
 pub record IsCertificate (T : Table) (b : Elements) (w : Why) (time : ℕ) : Type 0 where
   pub right : IsRight T b w
   pub at_time : (i : ℕ) (j : PlainJudgment) → length w.judgments ≡ i + 1 → slice_get w.judgments i ≡ Some j → j.time ≡ time
-  pub apart : AreApart w
+  pub apart : AreApart T w
   pub shown : MayBeShown w
 
 -- What is made, by all elements that there may be, and what making it does to the inputs, whatever the answer: elements that were read stay,

@@ -17,7 +17,7 @@ use Rattle.lucid_why.specs.WhyTexts.{MayShowJudgment}
 use Rattle.lucid_follow.specs.Fed.{Uses}
 use Rattle.lucid_follow.specs.Follows.{FollowsIn, given, of_part, used}
 use Rattle.lucid_follow.specs.RestPlans.{HasHead, IsForm, LooksInside, Stands, least_of}
-use Rattle.lucid_follow.specs.Checking.{AreTimes, IsOfContext, IsWithin, PassesOn, going, row_onward}
+use Rattle.lucid_follow.specs.Checking.{ArePlaces, AreTimes, IsOfContext, IsWithin, PassesOn, going, row_onward}
 use Rattle.lucid_follow.specs.declared.passing.Position.{Position}
 use Rattle.lucid_follow.specs.declared.rest.Rest.{Rest}
 use Rattle.lucid_follow.specs.declared.rest.Rest.TheVariants as rest
@@ -121,11 +121,12 @@ WantsBy T w (next.Position on references) at s r = (at ≡ on) × (s ≡ w.space
 pub record Wants (T : Table) (w : Making) (at : Position) (space references : ℕ) : Type 0 where
   pub by : WantsBy T w w.next at space references
 
--- A certificate in the making is sound: contexts are known once each, frozen times are times, keys are those of the judgments, no judgment
--- stands twice, each is of a known context and may be shown, and what waits does.
+-- A certificate in the making is sound: contexts are known once each, frozen times are times, call places are the table's, keys are those of the
+-- judgments, no judgment stands twice, each is of a known context and may be shown, and what waits does.
 pub record IsSoundBy (T : Table) (known : List Context) (keys : List Key) (js : List PlainJudgment) (waiting : List Making) : Type 0 where
   pub once : IsOneForOne known
   pub times : AreTimes known
+  pub places : ArePlaces (length T.places) known
   pub keys_of : AreKeysOf keys js
   pub apart : AreSpotsApart js
   pub shown : Each MayShowJudgment js

@@ -23,7 +23,7 @@ unfoldable pub use Rattle.lucid_follow.specs.Follows.{contexts, used}
 pub use Rattle.lucid_follow.specs.Follows.{FollowsIn, IsOfRoot, by_onward, of_part}
 pub use Rattle.lucid_follow.specs.RestPlans.{HasHead}
 pub use Rattle.lucid_follow.specs.declared.rest.Rest.{Rest}
-pub use Rattle.lucid_inputs.specs.Inputs.{stream_at, streams}
+pub use Rattle.lucid_inputs.specs.Inputs.{most_bytes, stream_at, streams}
 pub use Rattle.lucid_inputs.specs.declared.on_demand.Inputs.{Inputs}
 pub use Rattle.lucid_ports.specs.World.{World}
 pub use Rattle.lucid_tags.specs.Contexts.{Context, root}

@@ -1,10 +1,10 @@
 -- What the judgments through one read of the inputs.
-use Rattle.lucid_check.proofs.Common.{◌≡◌, ℕ, ◌+◌, ◌<◌, ◌≤◌, List, length, Option, Some, None, ◌⊎◌, inl, inr, refl, sym, ap, ◌∙◌, subst, arith, IfSome, Result, slice_get, option_map, cases_eq, same_Some, slice_get-get_or, AllDiffer, World, Inputs, streams, stream_at, Extends, Node, Input, Table, row_at, elements_read, AreAskable, places_of, extends_then, streams_read, read_more, Context, PlainJudgment, CheckFault, LiesWithin, TellsElement, DrawsFor, ReadsFor, nothing_read, element_read, ◌≢◌, max, cases_lt, unwrap_or-slice_get}
+use Rattle.lucid_check.proofs.Common.{◌≡◌, ℕ, ◌+◌, ◌<◌, ◌≤◌, List, length, Option, Some, None, ◌⊎◌, inl, inr, refl, sym, ap, ◌∙◌, subst, arith, IfSome, Result, slice_get, option_map, cases_eq, same_Some, slice_get-get_or, AllDiffer, World, Inputs, most_bytes, streams, stream_at, Extends, Node, Input, Table, row_at, elements_read, AreAskable, places_of, extends_then, streams_read, read_more, Context, PlainJudgment, CheckFault, LiesWithin, TellsElement, DrawsFor, ReadsFor, nothing_read, element_read, ◌≢◌, max, cases_lt, unwrap_or-slice_get}
 use Rattle.std.specs.Prelude.{Bool}
 use Rattle.lucid_value.specs.Lines.{end_of_line, IsOverlong}
 use Rattle.lucid_tree.specs.Members.{In}
 use Rattle.lucid_ports.specs.World.{Contents}
-use Rattle.lucid_inputs.specs.Inputs.{ReadsStream, most_bytes}
+use Rattle.lucid_inputs.specs.Inputs.{ReadsStream}
 use Rattle.lucid_inputs.specs.Streams.{Stream, all_bytes, fresh_stream}
 use Rattle.lucid_facts.specs.Engine.{ReadsOnly}
 use Rattle.lucid_facts.proofs.History.{reads_only_then}

@@ -13,20 +13,20 @@ pub record GoesOn (T : Table) (w : Why) (old : Inputs) (before : World) (n : ℕ
   pub sound : IsSound c
   pub table : table_of c.program.now ≡ T
   pub judgments : judgments_of c ≡ w.judgments
-  pub contexts : contexts_in c ≡ contexts w
+  pub contexts : contexts_in c ≡ contexts T w
   pub so_far : FollowSoFar T w old before n now mid
 
 -- None is looked at yet.
 pub begins : (T : Table) (w : Why) (old : Inputs) (before : World) (c : Check) (rows : List ContextRow) → IsSound c → table_of c.program.now ≡ T
     → judgments_of c ≡ w.judgments
-    → contexts_in c ≡ contexts_behind (Some root ∷ []) rows → rows ≡ w.contexts → AreAskable (streams old) before → GoesOn T w old before 0 c old before
+    → contexts_in c ≡ contexts_behind (length T.places) (Some root ∷ []) rows → rows ≡ w.contexts → AreAskable (streams old) before → GoesOn T w old before 0 c old before
 unfolding contexts
 begins T w old before c rows sound table js cs rows_are ask = record {
   sound = sound;
   table = table;
   judgments = js;
-  contexts = cs ∙ ap (contexts_behind (Some root ∷ [])) rows_are;
-  so_far = none_so_far T w old before (nothing_yet T (contexts w) w.judgments old before ask);
+  contexts = cs ∙ ap (contexts_behind (length T.places) (Some root ∷ [])) rows_are;
+  so_far = none_so_far T w old before (nothing_yet T (contexts T w) w.judgments old before ask);
 }
 
 -- the refusal is that of the call
@@ -38,9 +38,9 @@ module _ (T : Table) (w : Why) (old : Inputs) (before : World) (n : ℕ) (c : Ch
     (differ : PlacesDiffer) where
   -- what is said of the check is said of the certificate
   by_check : (P : Table → List (Option Context) → List PlainJudgment → Type 0) → P (table_of c.program.now) (contexts_in c) (judgments_of c)
-      → P T (contexts w) w.judgments
+      → P T (contexts T w) w.judgments
   by_check P h =
-      subst (λ x. P T (contexts w) x) g.judgments (subst (λ x. P T x (judgments_of c)) g.contexts (subst (λ x. P x (contexts_in c) (judgments_of c)) g.table h))
+      subst (λ x. P T (contexts T w) x) g.judgments (subst (λ x. P T x (judgments_of c)) g.contexts (subst (λ x. P x (contexts_in c) (judgments_of c)) g.table h))
 
   module _ (d : Check) (next : Inputs) (after : World) (sound : IsSound d) (same : IsSameCheck c d) (result : Result Bool CheckFault)
       (follows : IfOk result (λ it. (b : Elements) → MayBe (table_of c.program.now) next b
@@ -49,7 +49,7 @@ module _ (T : Table) (w : Why) (old : Inputs) (before : World) (n : ℕ) (c : Ch
     looks : LooksAt T w old before n now next mid after result
     looks = by_check (λ U cs js. ReadsFor U cs js n now next mid after result) reads
 
-    decided : IfOk result (λ it. (b : Elements) → MayBe T next b → (it ≡ true) ↔ FollowsIn T b (contexts w) w.judgments n)
+    decided : IfOk result (λ it. (b : Elements) → MayBe T next b → (it ≡ true) ↔ FollowsIn T b (contexts T w) w.judgments n)
     decided = by_check (λ U cs js. IfOk result (λ it. (b : Elements) → MayBe U next b → (it ≡ true) ↔ FollowsIn U b cs js n)) follows
 
     -- it follows, and the next one is looked at;
@@ -61,7 +61,7 @@ module _ (T : Table) (w : Why) (old : Inputs) (before : World) (n : ℕ) (c : Ch
       contexts = same.contexts ∙ g.contexts;
       so_far = one_follows T w old before n now next mid after (inputs_apart differ now) g.so_far
           (subst (λ r. LooksAt T w old before n now next mid after r) e looks)
-          (λ b m. (subst (λ r. IfOk r (λ it. (b : Elements) → MayBe T next b → (it ≡ true) ↔ FollowsIn T b (contexts w) w.judgments n)) e decided b m).0 refl);
+          (λ b m. (subst (λ r. IfOk r (λ it. (b : Elements) → MayBe T next b → (it ≡ true) ↔ FollowsIn T b (contexts T w) w.judgments n)) e decided b m).0 refl);
     }
 
     -- it doesn't;
@@ -69,7 +69,7 @@ module _ (T : Table) (w : Why) (old : Inputs) (before : World) (n : ℕ) (c : Ch
     stops lt e = one_is_wrong T w old before n now next mid after (inputs_apart differ now) g.so_far lt
         (subst (λ r. LooksAt T w old before n now next mid after r) e looks)
         (λ b m f.
-        not_both ((subst (λ r. IfOk r (λ it. (b : Elements) → MayBe T next b → (it ≡ true) ↔ FollowsIn T b (contexts w) w.judgments n)) e decided b m).1 f))
+        not_both ((subst (λ r. IfOk r (λ it. (b : Elements) → MayBe T next b → (it ≡ true) ↔ FollowsIn T b (contexts T w) w.judgments n)) e decided b m).1 f))
       where
         not_both : false ≡ true → ⊥
         not_both q = cc
@@ -86,9 +86,9 @@ module _ (T : Table) (w : Why) (old : Inputs) (before : World) (n k : ℕ) (c : 
   so_far : FollowSoFar T w old before (length w.judgments) now mid
   so_far = subst (λ m. FollowSoFar T w old before m now mid) all g.so_far
 
-  of_root : (it ≡ true) ↔ IsOfRoot T (contexts w) w.judgments k
+  of_root : (it ≡ true) ↔ IsOfRoot T (contexts T w) w.judgments k
   of_root =
-      subst (λ x. (it ≡ true) ↔ IsOfRoot T (contexts w) x k) g.judgments
+      subst (λ x. (it ≡ true) ↔ IsOfRoot T (contexts T w) x k) g.judgments
       (subst (λ x. (it ≡ true) ↔ IsOfRoot T x (judgments_of c) k) g.contexts
       (subst (λ x. (it ≡ true) ↔ IsOfRoot x (contexts_in c) (judgments_of c) k) g.table root))
 

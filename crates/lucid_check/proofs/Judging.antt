@@ -1,5 +1,5 @@
 -- A check judgment by judgment, and how it ends.
-use Rattle.lucid_check.proofs.Common.{◌≡◌, ℕ, ◌+◌, ◌<◌, ◌≤◌, true, false, length, inl, inr, refl, sym, ap, ◌∙◌, subst, arith, Result, Ok, Err, cases_eq, Elements, AllDiffer, World, Inputs, streams, Extends, Table, elements_read, places_of, extends_then, streams_read, read_more, Why, contexts, IsOfRoot, MayBe, Checked, LiesWithin, TellsElement, DrawsFor, ReadsFor, nothing_read, element_read, CheckFault, Wrong, NoMemory}
+use Rattle.lucid_check.proofs.Common.{◌≡◌, ℕ, ◌+◌, ◌<◌, ◌≤◌, true, false, length, inl, inr, refl, sym, ap, ◌∙◌, subst, arith, Result, Ok, Err, cases_eq, Elements, AllDiffer, World, Inputs, most_bytes, stream_at, streams, Extends, Table, elements_read, places_of, extends_then, streams_read, read_more, Why, contexts, IsOfRoot, MayBe, Checked, LiesWithin, TellsElement, DrawsFor, ReadsFor, nothing_read, element_read, CheckFault, Wrong, NoMemory}
 use Rattle.std.proofs.Common.{Bool}
 use Rattle.lucid_ports.specs.Faults.{Rises, CountsNoFaultUnless}
 use Rattle.lucid_follow.specs.Follows.{Follows, AllFollow}
@@ -9,14 +9,14 @@ use Rattle.lucid_check.proofs.Drawing.{tells_one, HaveRead, read_more_of, lay_pa
 
 module _ (T : Table) (w : Why) (old : Inputs) (before : World) where
   abbrev Read : ℕ → Inputs → World → Type 0
-  Read n now mid = HaveRead T (contexts w) w.judgments old before n now mid
+  Read n now mid = HaveRead T (contexts T w) w.judgments old before n now mid
 
   abbrev pub LooksAt : ℕ → (now next : Inputs) → (mid after : World) → Result Bool CheckFault → Type 0
-  LooksAt n now next mid after result = ReadsFor T (contexts w) w.judgments n now next mid after result
+  LooksAt n now next mid after result = ReadsFor T (contexts T w) w.judgments n now next mid after result
 
   has_looked : (n : ℕ) (now : Inputs) (mid : World) → n ≤ length w.judgments → Read n now mid → HasLooked T w old now before mid
   has_looked n now mid l r = record {
-    drawn = read_more_of T (contexts w) w.judgments old before n (length w.judgments) now mid l r;
+    drawn = read_more_of T (contexts T w) w.judgments old before n (length w.judgments) now mid l r;
     elements = r.elements;
     askable = r.askable;
     places = r.places;
@@ -31,6 +31,7 @@ module _ (T : Table) (w : Why) (old : Inputs) (before : World) where
     right = tt;
     wrong = tt;
     too_large = tt;
+    full = tt;
     within = (tt, tt);
     failed = λ q. absurd (cc);
     counts = inr same;
@@ -64,21 +65,21 @@ module _ (T : Table) (w : Why) (old : Inputs) (before : World) where
     followed result l b m = s.follow b (extends_then _ _ b (extends result l) m)
 
     on : (result : Result Bool CheckFault) → LooksAt n now next mid after result → Read (n + 1) next after
-    on result l = read_on T (contexts w) w.judgments old before n now next mid after apart s.read result l
+    on result l = read_on T (contexts T w) w.judgments old before n now next mid after apart s.read result l
 
     -- no judgment through this one tells an element past
     none_past : (it : Bool) → LooksAt n now next mid after (Ok it) → NoneTellsPast T w old before (n + 1)
     none_past it l i k j lt t =
-        below_or (λ i. (k j : ℕ) → TellsElement T (contexts w) w.judgments i k j → LiesWithin old before k j) n (λ i m k j. s.within i k j m) (here it l) i lt k
+        below_or (λ i. (k j : ℕ) → TellsElement T (contexts T w) w.judgments i k j → LiesWithin old before k j) n (λ i m k j. s.within i k j m) (here it l) i lt k
         j t
       where
-        here : (it : Bool) → LooksAt n now next mid after (Ok it) → (k j : ℕ) → TellsElement T (contexts w) w.judgments n k j → LiesWithin old before k j
+        here : (it : Bool) → LooksAt n now next mid after (Ok it) → (k j : ℕ) → TellsElement T (contexts T w) w.judgments n k j → LiesWithin old before k j
         here it (nothing_read none e f own) k j t = absurd (none k j t)
         here it (element_read q x u r) k j t =
-            let same = tells_one T (contexts w) w.judgments n k j q x t u in
+            let same = tells_one T (contexts T w) w.judgments n k j q x t u in
             let P : ℕ → Type 0 = λ a. LiesWithin old before a x in
             let Q : ℕ → Type 0 = λ a. LiesWithin old before k a in
-            subst Q same.1 (subst P same.0 (lay_within T (contexts w) w.judgments old before n now mid s.read q x r.within))
+            subst Q same.1 (subst P same.0 (lay_within T (contexts T w) w.judgments old before n now mid s.read q x r.within))
 
     no_fault : (it : Bool) → LooksAt n now next mid after (Ok it) → after.faults ≡ before.faults
     no_fault it (nothing_read none e f own) = ap (λ (x : World). x.faults) f ∙ s.faults
@@ -107,6 +108,7 @@ module _ (T : Table) (w : Why) (old : Inputs) (before : World) where
       right = tt;
       wrong = λ b m. not_following lt (followed (Ok false) l b m) (f b m);
       too_large = tt;
+      full = tt;
       within = (tt, none_past false l);
       failed = λ q. absurd (cc);
       counts = inr (no_fault false l);
@@ -128,8 +130,13 @@ module _ (T : Table) (w : Why) (old : Inputs) (before : World) where
             index = x;
             follow = followed (Err (TooLarge k)) (element_read q x t r) b m;
             tells = t;
-            past = lay_past T (contexts w) w.judgments old before n now mid s.read q x r.too_large.1;
+            past = lay_past T (contexts T w) w.judgments old before n now mid s.read q x r.too_large.1;
           })
+
+      filled : (k : ℕ) → LooksAt n now next mid after (Err (TooLarge k)) → (stream_at next k).consumed ≡ most_bytes old
+      filled k (nothing_read none e f own) = absurd (cc)
+      filled k (element_read q x t r) =
+          subst (λ i. (stream_at next i).consumed ≡ most_bytes old) (sym r.too_large.0) (r.too_large.2 ∙ s.read.most)
 
       not_counted : (e : CheckFault) → (e ≡ ReadFault → ⊥) → LooksAt n now next mid after (Err e) → after.faults ≡ before.faults
       not_counted e other (nothing_read none i f own) = ap (λ (x : World). x.faults) f ∙ s.faults
@@ -152,6 +159,7 @@ module _ (T : Table) (w : Why) (old : Inputs) (before : World) where
         right = tt;
         wrong = tt;
         too_large = tt;
+        full = tt;
         within = (tt, tt);
         failed = λ q. no_read l;
         counts = inl refl;
@@ -162,6 +170,7 @@ module _ (T : Table) (w : Why) (old : Inputs) (before : World) where
         right = tt;
         wrong = tt;
         too_large = past k l;
+        full = filled k l;
         within = (tt, tt);
         failed = λ q. absurd (cc);
         counts = inr (not_counted (TooLarge k) (λ q. absurd (cc)) l);
@@ -175,11 +184,12 @@ module _ (T : Table) (w : Why) (old : Inputs) (before : World) where
     at_end : HasLooked T w old now before mid
     at_end = has_looked (length w.judgments) now mid (omega arith) s.read
 
-    pub all_right : IsOfRoot T (contexts w) w.judgments n → Checked T w old now before mid (Ok tt)
+    pub all_right : IsOfRoot T (contexts T w) w.judgments n → Checked T w old now before mid (Ok tt)
     all_right root = record {
       right = λ b m. record { all = s.follow b m; before = n; last_number = count; of_root = root };
       wrong = tt;
       too_large = tt;
+      full = tt;
       within = (s.within, tt);
       failed = λ q. absurd (cc);
       counts = inr s.faults;
@@ -187,14 +197,15 @@ module _ (T : Table) (w : Why) (old : Inputs) (before : World) where
       drawn = tt;
     }
 
-    pub not_the_root : (IsOfRoot T (contexts w) w.judgments n → ⊥) → Checked T w old now before mid (Err (Wrong n))
+    pub not_the_root : (IsOfRoot T (contexts T w) w.judgments n → ⊥) → Checked T w old now before mid (Err (Wrong n))
     not_the_root other = record {
       right = tt;
       wrong = λ b m. not_of_root count (s.follow b m) other;
       too_large = tt;
+      full = tt;
       within = (tt, λ i k j l. s.within i k j (omega (arith, l, count)));
       failed = λ q. absurd (cc);
       counts = inr s.faults;
       looked = at_end;
-      drawn = subst (λ k. DrawsFor T (contexts w) w.judgments k old now mid) count s.read.drawn;
+      drawn = subst (λ k. DrawsFor T (contexts T w) w.judgments k old now mid) count s.read.drawn;
     }

@@ -33,11 +33,12 @@ LiesPast inputs w k j = IfSome (w.place (stream_at inputs k).place).contents (λ
 abbrev pub LiesWithin : Inputs → World → (stream index : ℕ) → Type 0
 LiesWithin inputs w k j = IfSome (w.place (stream_at inputs k).place).contents (λ c. IsOverlong (all_bytes c) j (most_bytes inputs) → ⊥)
 
--- The stream is read on for an element, and it is too large exactly where that lies past the bytes that may be read.
+-- The stream is read on for an element, and it is too large exactly where that lies past the bytes that may be read. These are consumed then,
+-- whatever its place tells.
 pub record ReadsElement (old new : Inputs) (stream index : ℕ) (before after : World) (result : Result Bool CheckFault) : Type 0 where
   pub there : stream < length (streams old)
   pub reads : ReadsStream old stream index new before after
-  pub too_large : IfErr result (λ e. OnTooLarge e (λ k. (k ≡ stream) × LiesPast old before stream index))
+  pub too_large : IfErr result (λ e. OnTooLarge e (λ k. (k ≡ stream) × LiesPast old before stream index × ((stream_at new stream).consumed ≡ most_bytes old)))
   pub within : OnOk result (LiesWithin old before stream index)
   pub right : IfErr result (λ e. OnWrong e (λ i. ⊥))
   pub failed : IsErrOf result ReadFault → Rises before.faults after.faults

@@ -283,7 +283,7 @@ pub fn check_why<P: Places>(
     let _ = program.table();
     lucid_inputs::places_differ();
     let mut tags = Tags::make(alloc);
-    let contexts = enter_all(alloc, &mut tags, why.contexts.items())?;
+    let contexts = enter_all(alloc, program, &mut tags, why.contexts.items())?;
     let judgments = why.judgments.items();
     let mut check = Check {
         alloc,

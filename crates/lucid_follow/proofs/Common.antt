@@ -22,7 +22,7 @@ pub use Rattle.lucid_value.specs.Plain.{PlainValue}
 pub use Rattle.lucid_why.specs.Certificates.{PlainJudgment}
 pub use Rattle.std.proofs.Common.{Bool, List, None, Option, Some, [], add-one, ap, append_assoc, arith, cond, drop, false, get_or, inl, inr, length, refl, subst, suc, sym, true, zero, ℕ, ◌++◌, ◌+◌, ◌-◌, ◌<◌, ◌↔◌, ◌∙◌, ◌∷◌, ◌≡◌, ◌≤◌, ◌⊎◌}
 pub use Rattle.std.proofs.Math.Seq.{drop-cons}
-pub use Rattle.std.proofs.lemmas.Bool.{and_parts, cases_order, eqb-true, le-leb, ltb-true}
+pub use Rattle.std.proofs.lemmas.Bool.{and_parts, cases_order, eqb-true, le-leb, lt-ltb, ltb-true}
 pub use Rattle.std.proofs.lemmas.List.{append-nil, map-append}
 pub use Rattle.std.proofs.lemmas.Option.{cond_some, option_and_then_some, same_Some}
 pub use Rattle.std.specs.Option.{option_and_then}

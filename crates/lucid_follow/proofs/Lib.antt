@@ -7,6 +7,7 @@ pub mod Ending
 pub mod ContextTags
 pub mod RowsOf
 pub mod Inside
+pub mod CallPlaces
 pub mod Going
 pub mod GivenBy
 pub mod Meant

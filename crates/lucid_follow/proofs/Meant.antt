@@ -186,4 +186,4 @@ module _ (T : Table) (in_range : IsInRange T) (laws : Laws) (b : Elements) (cs :
 
 pub what_follows_is_meant : Laws → WhatFollowsIsMeant
 what_follows_is_meant laws T r b w n most all within i j c l there context =
-    all_meant T r laws b (contexts w) w.judgments most n all within n (omega arith) i l j c there context
+    all_meant T r laws b (contexts T w) w.judgments most n all within n (omega arith) i l j c there context

@@ -2,7 +2,7 @@
 use Rattle.std.proofs.Common.{◌≡◌, ℕ, zero, suc, ◌+◌, ◌-◌, ◌<◌, ◌≤◌, List, [], ◌∷◌, ◌++◌, map, take, length, Option, Some, None, refl, sym, ap, ◌∙◌, subst, arith, add-one, cond}
 use Rattle.std.specs.List.{AllByRecursion}
 use Rattle.std.proofs.Math.Seq.{take-suc, take-length}
-use Rattle.std.proofs.lemmas.Bool.{le-leb}
+use Rattle.std.proofs.lemmas.Bool.{le-leb, lt-ltb}
 use Rattle.std.proofs.lemmas.List.{map-append}
 use Rattle.std.proofs.lemmas.Option.{same_Some}
 use Rattle.lucid_tree.specs.Rows.{last}
@@ -17,7 +17,7 @@ use Rattle.lucid_why.specs.WhyTexts.{MayShow}
 use Rattle.lucid_why.specs.declared.rows.ContextRow.{ContextRow}
 use Rattle.lucid_why.specs.declared.rows.ContextRow.TheVariants.{Call, Frozen}
 use Rattle.lucid_follow.specs.Follows.{context_in, with_call, with_frozen, row_context, contexts_behind}
-use Rattle.lucid_follow.specs.Checking.{AreTimes, known_before}
+use Rattle.lucid_follow.specs.Checking.{ArePlaces, AreTimes, known_before}
 
 -- an earlier one by its number
 earlier : (known : List Context) (k n : ℕ) → n < k → k ≤ length known → context_in (known_before known k) n ≡ Some (context_at known n)
@@ -27,31 +27,34 @@ earlier (c ∷ cs) (suc k) zero l m = refl
 earlier (c ∷ cs) (suc k) (suc n) l m = earlier cs k n (omega (arith, l)) (omega (arith, m))
 
 -- one context more is behind the others
-behind_push : (cs : List (Option Context)) (rs : List ContextRow) (r : ContextRow)
-    → contexts_behind cs (rs ++ r ∷ []) ≡ contexts_behind cs rs ++ row_context (contexts_behind cs rs) r ∷ []
-behind_push cs [] r = refl
-behind_push cs (x ∷ rs) r = behind_push (cs ++ row_context cs x ∷ []) rs r
+behind_push : (places : ℕ) (cs : List (Option Context)) (rs : List ContextRow) (r : ContextRow)
+    → contexts_behind places cs (rs ++ r ∷ []) ≡ contexts_behind places cs rs ++ row_context places (contexts_behind places cs rs) r ∷ []
+behind_push places cs [] r = refl
+behind_push places cs (x ∷ rs) r = behind_push places (cs ++ row_context places cs x ∷ []) rs r
 
-pub one_row_more : (known : List Context) (k : ℕ) (rs more : List ContextRow) (r : ContextRow) → k < length known
-    → contexts_behind (Some root ∷ []) rs ≡ known_before known k
-    → row_context (known_before known k) r ≡ Some (context_at known k) → more ≡ rs ++ r ∷ []
-    → contexts_behind (Some root ∷ []) more ≡ known_before known (k + 1)
-one_row_more known k rs more r l so_far is m =
-    ap (contexts_behind (Some root ∷ [])) m ∙ (behind_push (Some root ∷ []) rs r ∙ (ap (λ (cs : List (Option Context)). cs ++ row_context cs r ∷ []) so_far
+pub one_row_more : (places : ℕ) (known : List Context) (k : ℕ) (rs more : List ContextRow) (r : ContextRow) → k < length known
+    → contexts_behind places (Some root ∷ []) rs ≡ known_before known k
+    → row_context places (known_before known k) r ≡ Some (context_at known k) → more ≡ rs ++ r ∷ []
+    → contexts_behind places (Some root ∷ []) more ≡ known_before known (k + 1)
+one_row_more places known k rs more r l so_far is m =
+    ap (contexts_behind places (Some root ∷ [])) m ∙ (behind_push places (Some root ∷ []) rs r
+    ∙ (ap (λ (cs : List (Option Context)). cs ++ row_context places cs r ∷ []) so_far
     ∙ (ap (λ (c : Option Context). known_before known k ++ c ∷ []) is
     ∙ sym (rw add-one (ap (map Some) (take-suc known k root l) ∙ map-append Some (take k known) (context_at known k ∷ []))))))
 
 -- the row of a call's frame, and that of a frozen time's
-pub row_of_call : (known : List Context) (k b place c : ℕ) → k < length known → b < k → c < k
+pub row_of_call : (places : ℕ) (known : List Context) (k b place c : ℕ) → k < length known → b < k → c < k → place < places
     → context_at known k ≡ call_frame place (context_at known c) (context_at known b)
-    → row_context (known_before known k) (Call b place c) ≡ Some (context_at known k)
-row_of_call known k b place c l lb lc is =
-    ap (λ (x : Option Context). with_call place x (context_in (known_before known k) b)) (earlier known k c lc (omega (arith, l)))
-    ∙ (ap (with_call place (Some (context_at known c))) (earlier known k b lb (omega (arith, l))) ∙ ap Some (sym is))
+    → row_context places (known_before known k) (Call b place c) ≡ Some (context_at known k)
+row_of_call places known k b place c l lb lc lp is =
+    ap (λ (x : Option Context). with_call places place x (context_in (known_before known k) b)) (earlier known k c lc (omega (arith, l)))
+    ∙ (ap (with_call places place (Some (context_at known c))) (earlier known k b lb (omega (arith, l)))
+    ∙ (ap (λ x. cond x (Some (call_frame place (context_at known c) (context_at known b))) None) (lt-ltb place places lp) ∙ ap Some (sym is)))
 
-pub row_of_frozen : (known : List Context) (k b t : ℕ) → k < length known → b < k → t ≤ last → context_at known k ≡ frozen_frame t (context_at known b)
-    → row_context (known_before known k) (Frozen b t) ≡ Some (context_at known k)
-row_of_frozen known k b t l lb time is =
+pub row_of_frozen : (places : ℕ) (known : List Context) (k b t : ℕ) → k < length known → b < k → t ≤ last
+    → context_at known k ≡ frozen_frame t (context_at known b)
+    → row_context places (known_before known k) (Frozen b t) ≡ Some (context_at known k)
+row_of_frozen places known k b t l lb time is =
     ap (with_frozen t) (earlier known k b lb (omega (arith, l)))
     ∙ (ap (λ x. cond x (Some (frozen_frame t (context_at known b))) None) (le-leb t last time) ∙ ap Some (sym is))
 
@@ -69,23 +72,24 @@ module _ (known : List Context) (tag outer : Tag) (level b : ℕ) (there : IsKno
   base_below : 0 < frames (context_of known tag) → b < number_of tag
   base_below h = omega (arith, number, lower (omega (arith, levels, h)))
 
-  pub call_is_good : (frame : Frame) (place d : ℕ) (caller : Tag) → IsInnermost known frame (context_of known tag) → HasLowerCaller (number_of tag) frame
-      → frame ≡ tags.Call place caller → d ≡ number_of caller
-      → row_context (known_before known (number_of tag)) (Call b place d) ≡ Some (context_of known tag)
-  call_is_good frame place d caller inner low e f =
+  pub call_is_good : (places : ℕ) → ArePlaces places known → (frame : Frame) (place d : ℕ) (caller : Tag) → IsInnermost known frame (context_of known tag)
+      → HasLowerCaller (number_of tag) frame → frame ≡ tags.Call place caller → d ≡ number_of caller
+      → row_context places (known_before known (number_of tag)) (Call b place d) ≡ Some (context_of known tag)
+  call_is_good places are frame place d caller inner low e f =
       let i = subst (λ x. IsInnermost known x (context_of known tag)) e inner in
       let l = subst (λ x. HasLowerCaller (number_of tag) x) e low in
       let some : 0 < frames (context_of known tag) = omega (arith, ap frames i.2) in
-      row_of_call known (number_of tag) b place d there (base_below some) (omega (arith, f, l))
+      row_of_call places known (number_of tag) b place d there (base_below some) (omega (arith, f, l))
+      (are (number_of tag) place (context_of known caller) (base_of (context_of known tag)) i.2)
       (i.2 ∙ (ap (λ (x : Context). call_frame place x (base_of (context_of known tag))) (ap (context_at known) (sym f))
       ∙ ap (call_frame place (context_at known d)) (its_base some)))
 
-  pub frozen_is_good : (frame : Frame) (t : ℕ) → IsInnermost known frame (context_of known tag) → frame ≡ tags.Frozen t → AreTimes known
-      → row_context (known_before known (number_of tag)) (Frozen b t) ≡ Some (context_of known tag)
-  frozen_is_good frame t inner e times =
+  pub frozen_is_good : (places : ℕ) (frame : Frame) (t : ℕ) → IsInnermost known frame (context_of known tag) → frame ≡ tags.Frozen t → AreTimes known
+      → row_context places (known_before known (number_of tag)) (Frozen b t) ≡ Some (context_of known tag)
+  frozen_is_good places frame t inner e times =
       let i = subst (λ x. IsInnermost known x (context_of known tag)) e inner in
       let some : 0 < frames (context_of known tag) = omega (arith, ap frames i) in
-      row_of_frozen known (number_of tag) b t there (base_below some) (times (number_of tag) t (base_of (context_of known tag)) i)
+      row_of_frozen places known (number_of tag) b t there (base_below some) (times (number_of tag) t (base_of (context_of known tag)) i)
       (i ∙ ap (frozen_frame t) (its_base some))
 
 -- The rows of all known contexts: the first, which is empty, has none;
@@ -98,13 +102,22 @@ pub not_first : (known : List Context) (tag : Tag) → IsOneForOne known → IsK
 not_first known tag one there some first e =
     let same : 0 ≡ number_of tag = one.places 0 (number_of tag) (omega (arith, there, some)) there (first ∙ sym e) in omega (arith, same, some)
 
+pub no_rows : (known : List Context) (rows : List ContextRow) → rows ≡ [] → 0 < length known → context_at known 0 ≡ root
+    → ((places : ℕ) → ArePlaces places known → contexts_behind places (Some root ∷ []) rows ≡ known_before known 1)
+    × AllByRecursion (λ x. MayShow (context_row x)) rows
+no_rows known rows none l first = (
+  λ places are. ap (contexts_behind places (Some root ∷ [])) none ∙ first_known known l first,
+  subst (AllByRecursion (λ x. MayShow (context_row x))) (sym none) tt,
+)
+
 -- one more,
-pub row_pushed : (known : List Context) (k : ℕ) (tag : Tag) (rs more : List ContextRow) (r : ContextRow) → number_of tag ≡ k → k < length known
-    → contexts_behind (Some root ∷ []) rs ≡ known_before known k
-    → row_context (known_before known (number_of tag)) r ≡ Some (context_of known tag) → more ≡ rs ++ r ∷ []
-    → contexts_behind (Some root ∷ []) more ≡ known_before known (k + 1)
-row_pushed known k tag rs more r e l so_far is m =
-    let P : ℕ → Type 0 = λ x. row_context (known_before known x) r ≡ Some (context_at known x) in one_row_more known k rs more r l so_far (subst P e is) m
+pub row_pushed : (places : ℕ) (known : List Context) (k : ℕ) (tag : Tag) (rs more : List ContextRow) (r : ContextRow) → number_of tag ≡ k
+    → k < length known → contexts_behind places (Some root ∷ []) rs ≡ known_before known k
+    → row_context places (known_before known (number_of tag)) r ≡ Some (context_of known tag) → more ≡ rs ++ r ∷ []
+    → contexts_behind places (Some root ∷ []) more ≡ known_before known (k + 1)
+row_pushed places known k tag rs more r e l so_far is m =
+    let P : ℕ → Type 0 = λ x. row_context places (known_before known x) r ≡ Some (context_at known x) in
+    one_row_more places known k rs more r l so_far (subst P e is) m
 
 -- and all of them.
 pub all_known : (known : List Context) (k : ℕ) → k ≡ length known → known_before known k ≡ map Some known

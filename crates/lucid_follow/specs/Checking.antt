@@ -2,7 +2,7 @@
 use Rattle.std.specs.Prelude.{◌≡◌, ℕ, ◌<◌, ◌≤◌, List, Option, Some, None, map, take, length, option_map, slice_get}
 use Rattle.lucid_tree.specs.Rows.{last}
 use Rattle.lucid_tree.specs.Levels.{goes_to, nowhere}
-use Rattle.lucid_tags.specs.Contexts.{Context, frozen_frame, context_at}
+use Rattle.lucid_tags.specs.Contexts.{Context, call_frame, frozen_frame, context_at}
 use Rattle.lucid_tags.specs.Known.{IsKnown, context_of, space_of}
 use Rattle.lucid_tags.specs.declared.Tag.{Tag}
 use Rattle.lucid_equations.specs.NumberAims.{row_aim}
@@ -31,6 +31,10 @@ known_before known n = map Some (take n known)
 -- the frozen times of known contexts are times
 abbrev pub AreTimes : List Context → Type 0
 AreTimes known = (i t : ℕ) (c : Context) → context_at known i ≡ frozen_frame t c → t ≤ last
+
+-- the call places of known contexts are of so many
+abbrev pub ArePlaces : (places : ℕ) → List Context → Type 0
+ArePlaces places known = (i at : ℕ) (caller base : Context) → context_at known i ≡ call_frame at caller base → at < places
 
 -- a node of the table at a time
 pub record IsWithin (T : Table) (at : Position) : Type 0 where

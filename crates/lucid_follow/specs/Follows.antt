@@ -1,5 +1,5 @@
 -- What follows: a judgment that is what its node's case gives from the values of the judgments that it uses. Certificates come from anybody:
--- contexts needn't be there, and uses may be any numbers.
+-- contexts needn't be there, call places may be none of the program's, and uses may be any numbers.
 use Rattle.std.specs.Prelude.{◌≡◌, ℕ, ◌+◌, ◌<◌, ◌≤◌, Bool, false, ◌==◌, ◌&&◌, nat_le, nat_lt, if◌then◌else◌, List, [], ◌∷◌, ◌++◌, length, Option, Some, None, get_or, slice_get}
 use Rattle.std.specs.Option.{option_and_then}
 use Rattle.lucid_value.specs.Plain.{PlainValue}
@@ -20,27 +20,27 @@ use Rattle.lucid_follow.specs.Fed.{fed}
 abbrev pub context_in : List (Option Context) → (number : ℕ) → Option Context
 context_in cs n = get_or cs n None
 
--- with the frame of a call added; with a frozen time, which is a time
-abbrev pub with_call : (place : ℕ) → (caller base : Option Context) → Option Context
-with_call at (Some caller) (Some base) = Some (call_frame at caller base)
-with_call at _ _ = None
+-- with the frame of a call added, at one of so many call places; with a frozen time, which is a time
+abbrev pub with_call : (places place : ℕ) → (caller base : Option Context) → Option Context
+with_call places at (Some caller) (Some base) = if nat_lt at places then Some (call_frame at caller base) else None
+with_call places at _ _ = None
 
 abbrev pub with_frozen : (time : ℕ) → (base : Option Context) → Option Context
 with_frozen t (Some base) = if nat_le t last then Some (frozen_frame t base) else None
 with_frozen t None = None
 
 -- the context of a row, by those of lower numbers: good where these are
-abbrev pub row_context : List (Option Context) → ContextRow → Option Context
-row_context cs (Call base place caller) = with_call place (context_in cs caller) (context_in cs base)
-row_context cs (Frozen base time) = with_frozen time (context_in cs base)
+abbrev pub row_context : (places : ℕ) → List (Option Context) → ContextRow → Option Context
+row_context places cs (Call base place caller) = with_call places place (context_in cs caller) (context_in cs base)
+row_context places cs (Frozen base time) = with_frozen time (context_in cs base)
 
-abbrev pub contexts_behind : List (Option Context) → List ContextRow → List (Option Context)
-contexts_behind cs [] = cs
-contexts_behind cs (r ∷ rs) = contexts_behind (cs ++ row_context cs r ∷ []) rs
+abbrev pub contexts_behind : (places : ℕ) → List (Option Context) → List ContextRow → List (Option Context)
+contexts_behind places cs [] = cs
+contexts_behind places cs (r ∷ rs) = contexts_behind places (cs ++ row_context places cs r ∷ []) rs
 
--- The contexts of a certificate by their numbers: the empty one, and those of its rows.
-unfoldable pub contexts : Why → List (Option Context)
-contexts w = contexts_behind (Some root ∷ []) w.contexts
+-- The contexts of a certificate by their numbers, over the call places of a table: the empty one, and those of its rows.
+unfoldable pub contexts : Table → Why → List (Option Context)
+contexts T w = contexts_behind (length T.places) (Some root ∷ []) w.contexts
 
 -- the context is there, and it is this one
 abbrev pub is_context : Option Context → Context → Bool
@@ -116,7 +116,7 @@ pub record FollowsIn (T : Table) (b : Elements) (cs : List (Option Context)) (js
 
 -- The judgment of a number of a certificate follows.
 abbrev pub Follows : Table → Elements → Why → (number : ℕ) → Type 0
-Follows T b w i = FollowsIn T b (contexts w) w.judgments i
+Follows T b w i = FollowsIn T b (contexts T w) w.judgments i
 
 -- all judgments below a number do
 abbrev pub AllFollow : Table → Elements → Why → (below : ℕ) → Type 0
@@ -135,4 +135,4 @@ pub record IsRight (T : Table) (b : Elements) (w : Why) : Type 0 where
   pub all : AllFollow T b w (length w.judgments)
   pub before : ℕ
   pub last_number : length w.judgments ≡ before + 1
-  pub of_root : IsOfRoot T (contexts w) w.judgments before
+  pub of_root : IsOfRoot T (contexts T w) w.judgments before

@@ -19,5 +19,5 @@ AreWithin w n most = (i : ℕ) (j : PlainJudgment) → i < n → slice_get w.jud
 abbrev pub WhatFollowsIsMeant : Type 0
 WhatFollowsIsMeant =
     (T : Table) → IsInRange T → (b : Elements) (w : Why) (n most : ℕ) → AllFollow T b w n → AreWithin w n most
-    → (i : ℕ) (j : PlainJudgment) (c : Context) → i < n → slice_get w.judgments i ≡ Some j → context_in (contexts w) j.context ≡ Some c
+    → (i : ℕ) (j : PlainJudgment) (c : Context) → i < n → slice_get w.judgments i ≡ Some j → context_in (contexts T w) j.context ≡ Some c
     → node_val (equations_of T) b (i + 1 + most) (node_at T j.node) c j.time j.space ≡ Some j.value

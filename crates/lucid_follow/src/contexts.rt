@@ -1,13 +1,15 @@
 //! The contexts of a certificate, as tags.
-ghost use Rattle.std.specs.Prelude.{◌≡◌, ◌∷◌, [], Some, None, IfOk, IfSome, map, option_map, get_or};
+ghost use Rattle.std.specs.Prelude.{◌≡◌, ℕ, ◌∷◌, [], Some, None, IfOk, IfSome, length, map, option_map, get_or};
 ghost use Rattle.std.specs.List.{AllByRecursion};
 ghost use Rattle.lucid_tags.specs.Contexts.{root};
 ghost use Rattle.lucid_tags.specs.Known.{HasLowerCaller, IsInnermost, IsKnown, IsOneForOne, KeepsKnown, context_of, number_of};
+ghost use Rattle.lucid_equations.specs.Programs.{table_of};
 ghost use Rattle.lucid_why.specs.WhyText.{context_row};
 ghost use Rattle.lucid_why.specs.WhyTexts.{MayShow};
 ghost use Rattle.lucid_follow.specs.Follows.{row_context, contexts_behind};
-ghost use Rattle.lucid_follow.specs.Checking.{IsOfContext, AreOfContexts, AreTimes, contexts_of, known_before};
+ghost use Rattle.lucid_follow.specs.Checking.{IsOfContext, AreOfContexts, AreTimes, ArePlaces, contexts_of, known_before};
 
+use lucid_equations::Program;
 use lucid_tags::{Frame, Tag, Tags};
 use lucid_tree::LAST;
 use lucid_why::ContextRow;
@@ -23,14 +25,15 @@ pub fn context_at(contexts: &[Option<Tag>], number: u32) -> Option<Tag>
     }
 }
 
-// The context of a row, by those of lower numbers.
+// The context of a row, by those of lower numbers, where there are so many call places.
 fn enter(
     tags: &mut Tags,
     contexts: &[Option<Tag>],
+    places: u32,
     row: ContextRow,
 ) -> Result<Option<Tag>, AllocError>
     requires { AreOfContexts tags.old contexts.now }
-    ensures context { IfOk result (λ made. option_map (context_of tags.new) made ≡ row_context (contexts_of tags.old contexts.now) row) }
+    ensures context { IfOk result (λ made. option_map (context_of tags.new) made ≡ row_context places (contexts_of tags.old contexts.now) row) }
     ensures there { IfOk result (λ made. IfSome made (IsOfContext tags.new)) }
     ensures keeps { KeepsKnown tags.old tags.new }
     ensures once { IsOneForOne tags.old → IsOneForOne tags.new }
@@ -41,7 +44,9 @@ fn enter(
             place,
             caller,
         } => match (context_at(contexts, base), context_at(contexts, caller)) {
-            (Some(base), Some(caller)) => Ok(Some(tags.enter_call(base, place, caller)?)),
+            (Some(base), Some(caller)) if place < places => {
+                Ok(Some(tags.enter_call(base, place, caller)?))
+            }
             _ => Ok(None),
         },
         ContextRow::Frozen { base, time } => match context_at(contexts, base) {
@@ -51,21 +56,23 @@ fn enter(
     }
 }
 
-/// The contexts of the rows, behind the empty one.
+/// The contexts of the rows, behind the empty one. A call's is one only at a call place of the program.
 pub fn enter_all(
     alloc: Global,
+    program: &Program,
     tags: &mut Tags,
     rows: &[ContextRow],
 ) -> Result<Vec<Option<Tag>>, AllocError>
     requires { IsOneForOne tags.old }
-    ensures contexts { IfOk result (λ made. contexts_of tags.new made.items ≡ contexts_behind (Some root ∷ []) rows.now) }
+    ensures contexts { IfOk result (λ made. contexts_of tags.new made.items ≡ contexts_behind (length (table_of program.now).places) (Some root ∷ []) rows.now) }
     ensures there { IfOk result (λ made. AreOfContexts tags.new made.items) }
     ensures once { IsOneForOne tags.new }
 {
+    let places = program.places();
     let mut contexts = Vec::new(alloc);
     contexts.push(Some(tags.root()))?;
     for row in rows {
-        let context = enter(tags, contexts.as_slice(), *row)?;
+        let context = enter(tags, contexts.as_slice(), places, *row)?;
         contexts.push(context)?;
     }
     Ok(contexts)
@@ -77,7 +84,7 @@ fn row_of(tags: &Tags, tag: Tag, frame: Frame) -> ContextRow
     requires innermost { IsInnermost tags.now frame (context_of tags.now tag) }
     requires lower { HasLowerCaller (number_of tag) frame }
     requires times { AreTimes tags.now }
-    ensures context { row_context (known_before tags.now (number_of tag)) result ≡ Some (context_of tags.now tag) }
+    ensures context { (places : ℕ) → ArePlaces places tags.now → row_context places (known_before tags.now (number_of tag)) result ≡ Some (context_of tags.now tag) }
     ensures shown { MayShow (context_row result) }
 {
     let base = tags.cut(tag, (tags.level(tag) - 1) as u32).number();
@@ -94,7 +101,7 @@ fn row_of(tags: &Tags, tag: Tag, frame: Frame) -> ContextRow
 /// The rows of the known contexts but the empty one, in the order in which they became known. More than have numbers are want of memory.
 pub fn rows_of(alloc: Global, tags: &Tags) -> Result<Vec<ContextRow>, AllocError>
     requires { AreTimes tags.now }
-    ensures contexts { IfOk result (λ rows. contexts_behind (Some root ∷ []) rows.items ≡ map Some tags.now) }
+    ensures contexts { IfOk result (λ rows. (places : ℕ) → ArePlaces places tags.now → contexts_behind places (Some root ∷ []) rows.items ≡ map Some tags.now) }
     ensures shown { IfOk result (λ rows. AllByRecursion (λ r. MayShow (context_row r)) rows.items) }
 {
     // The first known context is the empty one.

@@ -9,7 +9,7 @@ ghost use Rattle.lucid_equations.specs.Programs.{table_of};
 ghost use Rattle.lucid_equations.specs.Ranges.{EachBelow, NodeNames, sizes};
 ghost use Rattle.lucid_equations.specs.Rows.{actual_at, parts};
 ghost use Rattle.lucid_follow.specs.Follows.{onward};
-ghost use Rattle.lucid_follow.specs.Checking.{IsOfContext, AreTimes, IsWithin, PassesOn, going, row_onward};
+ghost use Rattle.lucid_follow.specs.Checking.{IsOfContext, AreTimes, ArePlaces, IsWithin, PassesOn, going, row_onward};
 
 use lucid_equations::{Entry, Node, Program};
 use lucid_tags::{Frame, Tag, Tags};
@@ -112,6 +112,8 @@ fn by_call(
     ensures keeps { KeepsKnown tags.old tags.new }
     ensures once { IsOneForOne tags.old → IsOneForOne tags.new }
     ensures times { AreTimes tags.old → OnOk result (AreTimes tags.new) }
+    ensures places { call.place < length (table_of program.now).places → ArePlaces (length (table_of program.now).places) tags.old
+        → OnOk result (ArePlaces (length (table_of program.now).places) tags.new) }
     ensures within { AreTimes tags.old → time ≤ last → IfOk result (λ at. IfSome at (IsWithin (table_of program.now))) }
 {
     if u64::from(call.level) > tags.level(context) {
@@ -138,6 +140,7 @@ pub fn onward(
     ensures keeps { KeepsKnown tags.old tags.new }
     ensures once { IsOneForOne tags.old → IsOneForOne tags.new }
     ensures times { AreTimes tags.old → time ≤ last → OnOk result (AreTimes tags.new) }
+    ensures places { ArePlaces (length (table_of program.now).places) tags.old → OnOk result (ArePlaces (length (table_of program.now).places) tags.new) }
     ensures within { AreTimes tags.old → time ≤ last → EachBelow (length (table_of program.now).nodes) (parts node) → IfOk result (λ at. IfSome at (IsWithin (table_of program.now))) }
 {
     match node {

@@ -89,7 +89,7 @@ module _ (T : Table) (range : IsInRange T) (w : Why) (names : List (List ℕ)) (
   may_be = may_read on T names o p words named
 
   -- what lies past what may be read did so for the check, and the other way round
-  lies_past : (b : Elements) → HasElements r b → (k j n : ℕ) → TellsElement T (contexts w) w.judgments n k j → check_reads.LiesPast old before k j
+  lies_past : (b : Elements) → HasElements r b → (k j n : ℕ) → TellsElement T (contexts T w) w.judgments n k j → check_reads.LiesPast old before k j
       → LiesPast r k j
   lies_past b has k j n tells lies =
       let lt : k < length names = subst (λ ns. k < length ns) (sym named) (input_there T range tells.judgment.node k tells.row) in
@@ -115,7 +115,7 @@ module _ (T : Table) (range : IsInRange T) (w : Why) (names : List (List ℕ)) (
   none_past n none i k j l tells y = lies_within k j (none i k j l tells) y
 
   -- what is consumed
-  consumes : (n : ℕ) → DrawsFor T (contexts w) w.judgments n old new after → ConsumesFor T w r n
+  consumes : (n : ℕ) → DrawsFor T (contexts T w) w.judgments n old new after → ConsumesFor T w r n
   consumes n draws k name q is was now first last =
       let s = is_at on k q is.1 in
       let lt : k < length (streams old) = slice_get_within (streams old) k (fresh_stream q) (was_there on k q is.1) in
@@ -128,7 +128,7 @@ module _ (T : Table) (range : IsInRange T) (w : Why) (names : List (List ℕ)) (
       let bytes : all_bytes now ≡ all_bytes was = ap all_bytes (sym one) ∙ later.2 in
       let drawn = of_told _ (after.place s.0.place).contents now
       (subst (λ (y : Stream). IfSome (after.place y.place).contents (λ c. (y.consumed ≤ (stream_at old k).consumed)
-      ⊎ ((i : ℕ) × (j : ℕ) × (i < n) × TellsElement T (contexts w) w.judgments i k j × (y.consumed ≤ end_of_line (all_bytes c) j)))) s.3 (draws k lt)) here in
+      ⊎ ((i : ℕ) × (j : ℕ) × (i < n) × TellsElement T (contexts T w) w.judgments i k j × (y.consumed ≤ end_of_line (all_bytes c) j)))) s.3 (draws k lt)) here in
       elim drawn [
         | inl few ↦ inl (omega (arith, few, none, read))
         | inr some ↦ inr (

@@ -53,19 +53,19 @@ pub record TellsPast (T : Table) (b : Elements) (w : Why) (r : RunView) (input :
   pub number : ℕ
   pub index : ℕ
   pub follow : AllFollow T b w number
-  pub tells : TellsElement T (contexts w) w.judgments number input index
+  pub tells : TellsElement T (contexts T w) w.judgments number input index
   pub past : LiesPast r input index
 
 -- no judgment below a number tells one that lies past them
 abbrev pub NoneTellsPast : Table → Why → RunView → (below : ℕ) → Type 0
-NoneTellsPast T w r n = (i k j : ℕ) → i < n → TellsElement T (contexts w) w.judgments i k j → LiesPast r k j → ⊥
+NoneTellsPast T w r n = (i k j : ℕ) → i < n → TellsElement T (contexts T w) w.judgments i k j → LiesPast r k j → ⊥
 
 -- Of each input no more is consumed than was, or through the end of an element that a judgment below a number tells.
 abbrev pub ConsumesFor : Table → Why → RunView → (below : ℕ) → Type 0
 ConsumesFor T w r n = (k : ℕ) (name : List ℕ) (q : ℕ) → IsInput r k name q
     → (old new : Contents) → (r.before.place q).contents ≡ Some old → (r.after.place q).contents ≡ Some new
     → (length new.consumed ≤ length old.consumed)
-    ⊎ ((i : ℕ) × (j : ℕ) × (i < n) × TellsElement T (contexts w) w.judgments i k j × (length new.consumed ≤ end_of_line (all_bytes old) j))
+    ⊎ ((i : ℕ) × (j : ℕ) × (i < n) × TellsElement T (contexts T w) w.judgments i k j × (length new.consumed ≤ end_of_line (all_bytes old) j))
 
 -- it is refused, or can't be read
 abbrev pub IsStopped : Outcome → Type 0

@@ -33,7 +33,7 @@ ForSomeAdded P = (a : ℕ) × ((d : ℕ) → a ≤ d → P d)
 -- A certificate that proves the stream's value at the time; no two of its judgments are of one node in one context at one point.
 pub record IsWhy (T : Table) (x : OneStream) (b : Elements) (time : ℕ) (w : Why) : Type 0 where
   pub proves : Proves T x b w
-  pub apart : AreApart w
+  pub apart : AreApart T w
   pub at_time : (j : PlainJudgment) → IsLast w j → j.time ≡ time
 
 -- The text of such a certificate, which is read again as it.

@@ -1,4 +1,5 @@
-use Rattle.lucid_follow.proofs.Common.{arith, context_of, table_of}
+use Rattle.lucid_follow.proofs.Common.{arith, length, context_of, table_of}
+use Rattle.lucid_follow.proofs.CallPlaces.{places_called}
 use Rattle.lucid_follow.proofs.Going.{few_to_call}
 use Rattle.lucid_follow.proofs.Inside.{times_called}
 use Rattle.lucid_follow.proofs.passing.by_call.Goals as goal
@@ -11,3 +12,8 @@ pub returns-clause-within : goal.returns-clause-within
 returns-clause-within c times time =
     c.by_frame.ensures.within (times_called c.args.tags.now c.enter_call.new.self c.args.call.place (context_of c.args.tags.now c.args.context)
     (context_of c.args.tags.now c.cut-base.result) c.in_ok-inner.ensures.added times) time
+
+pub returns-clause-places : goal.returns-clause-places
+returns-clause-places c below places =
+    places_called (length (table_of c.args.program.now).places) c.args.tags.now c.enter_call.new.self c.args.call.place
+    (context_of c.args.tags.now c.args.context) (context_of c.args.tags.now c.cut-base.result) c.in_ok-inner.ensures.added below places

@@ -1,4 +1,4 @@
-use Rattle.lucid_cert.proofs.Common.{[], ◌∷◌, ◌+◌, Some, sym, ap, ◌∙◌, map, subst, AllByRecursion, take-map, root, plain_judgment, context_row, MayShow, ContextRow, contexts_behind, judgments_of, table_in}
+use Rattle.lucid_cert.proofs.Common.{[], ◌∷◌, ◌+◌, length, Some, sym, ap, ◌∙◌, map, subst, AllByRecursion, take-map, root, plain_judgment, context_row, MayShow, ContextRow, contexts_behind, judgments_of, table_in}
 use Rattle.lucid_cert.proofs.Ending.{is_certificate}
 use Rattle.lucid_cert.proofs.maker.Maker.finish.Goals as goal
 
@@ -6,7 +6,8 @@ pub returns : goal.returns
 returns c b follow =
     is_certificate (table_in c.args.self) c.args.self.tags c.args.self.keys.keys (judgments_of c.args.self) c.args.self.waiting.items c.requires.sound
     c.args.root c.requires.root c.in-Some.number c.in-Some.ensures.there _
-    (ap (contexts_behind (Some root ∷ [])) c.from_vec.ensures ∙ c.in_ok-contexts.ensures.contexts)
+    (ap (contexts_behind (length (table_in c.args.self).places) (Some root ∷ [])) c.from_vec.ensures
+    ∙ c.in_ok-contexts.ensures.contexts (length (table_in c.args.self).places) c.requires.sound.places)
     (c.from_vec-2.ensures ∙ (ap (map plain_judgment) c.truncate.ensures.items
     ∙ sym (take-map plain_judgment (c.in-Some.number + 1) c.args.self.judgments.items)))
     (subst (AllByRecursion (λ (r : ContextRow). MayShow (context_row r))) (sym c.from_vec.ensures) c.in_ok-contexts.ensures.shown) b follow

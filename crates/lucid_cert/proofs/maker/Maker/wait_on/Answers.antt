@@ -10,6 +10,7 @@ wait-requires-clause-sound c =
     sound_known (table_in c.args.self.now) c.args.self.now.tags c.onward.new.tags c.onward.ensures.keeps c.args.self.now.keys.keys
     (judgments_of c.args.self.now) c.args.self.now.waiting.items c.requires.sound
     (c.onward.ensures.once c.requires.sound.once) (c.in_ok-at.ensures.times c.requires.sound.times c.requires.may.within.time)
+    (c.in_ok-at.ensures.places c.requires.sound.places)
 
 pub wait-requires-clause-waiting : goal.wait-requires-clause-waiting
 wait-requires-clause-waiting c = record {
