@@ -1,0 +1,19 @@
+//! The texts of a demand: the equations of its values with the names at their times, and its outline.
+#![tactic(auto)]
+
+pub use crate::outline::outline_text;
+pub use crate::source::Source;
+
+mod asked;
+mod does;
+mod equation;
+mod forms;
+pub mod laws;
+mod line;
+mod operators;
+mod outline;
+mod part;
+mod pieces;
+mod runs;
+mod source;
+mod value;
