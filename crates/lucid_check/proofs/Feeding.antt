@@ -1,12 +1,11 @@
 -- A plan that is fed use by use.
-use Rattle.lucid_check.proofs.Common.{◌≡◌, ℕ, ◌+◌, ◌<◌, ◌≤◌, List, [], ◌∷◌, map, length, Option, Some, None, get_or, refl, sym, ap, ◌∙◌, subst, arith, PlainValue, Head, plan, Context, row_at, Node, Table, PlainJudgment, Uses, fed, used, of_part, HasHead, told, Rest, ◌^◌, ◌++◌, take, drop, add-one, length-drop, AllByRecursion, take-suc, drop-cons, take-length, drop-length, map-append}
-use Rattle.lucid_follow.specs.RestPlans.{by_then, look_plan, least_of, rest_plan, IsAfter, IsSmall, CanGoOn, MayGoOn, Stands, AreFedAlike}
+use Rattle.lucid_check.proofs.Common.{◌≡◌, ℕ, ◌+◌, ◌<◌, ◌≤◌, List, [], ◌∷◌, map, length, Option, Some, None, get_or, refl, sym, ap, ◌∙◌, subst, arith, PlainValue, Head, plan, Context, row_at, Node, Table, PlainJudgment, Uses, fed, used, of_part, HasHead, told, Rest, ◌++◌, take, drop, add-one, length-drop, AllByRecursion, take-suc, drop-cons, take-length, drop-length, map-append}
+use Rattle.lucid_follow.specs.RestPlans.{by_then, look_plan, least_of, rest_plan, CanGoOn, Stands, AreFedAlike}
 use Rattle.lucid_check.specs.Uses.{gives_only, plain_look, FedTo, FeedsTo}
 use Rattle.lucid_follow.specs.declared.rest.Look.{Look}
-use Rattle.lucid_follow.specs.declared.rest.Then.{Then}
 use Rattle.lucid_follow.specs.declared.rest.Then.TheVariants as then
 use Rattle.lucid_follow.specs.declared.rest.Rest.TheVariants as rest
-use Rattle.lucid_check.proofs.Using.{fed_on, fed_nowhere}
+use Rattle.lucid_check.proofs.Using.{fed_on}
 
 -- one more use: it feeds the look that stands next
 pub feeds_on : (value : Uses) (o : Option PlainValue) (m most : ℕ) (vs : List PlainValue) (l : Look) (u : ℕ) (us : List ℕ) (v : PlainValue) (r : Rest)
@@ -15,11 +14,6 @@ pub feeds_on : (value : Uses) (o : Option PlainValue) (m most : ℕ) (vs : List 
     → o ≡ fed value (rest_plan m (vs ++ v ∷ []) r) us
 feeds_on value o m most vs l u us v r e h a n = e
     ∙ (fed_on value l.part l.time l.space (least_of l.then l.time) (by_then m vs l.then l.part l.time l.space) u us v h ∙ a.fed value us n)
-
--- or it doesn't
-pub feeds_nowhere : (value : Uses) (o : Option PlainValue) (m : ℕ) (vs : List PlainValue) (l : Look) (u : ℕ) (us : List ℕ)
-    → o ≡ fed value (look_plan m vs l) (u ∷ us) → value (plain_look l) u ≡ None → o ≡ None
-feeds_nowhere value o m vs l u us e h = e ∙ fed_nowhere value l.part l.time l.space (least_of l.then l.time) (by_then m vs l.then l.part l.time l.space) u us h
 
 -- what gives a value takes no use more
 abbrev pub IsNoLook : Rest → Type 0
@@ -44,15 +38,6 @@ gives_alone value m vs rest.End v h = ap Some h
 gives_alone value m vs rest.Fault v h = ap Some h
 gives_alone value m vs (rest.Apply op) v h = ap Some h
 
-pub alone_gives : (value : Uses) (m : ℕ) (vs : List PlainValue) (r : Rest) (v : PlainValue) → fed value (rest_plan m vs r) [] ≡ Some v
-    → gives_only (rest_plan m vs r) v
-alone_gives value m vs (rest.Look l) v h = absurd (cc)
-alone_gives value m vs (rest.Value w) v h = cc
-alone_gives value m vs (rest.Truth b) v h = cc
-alone_gives value m vs rest.End v h = cc
-alone_gives value m vs rest.Fault v h = cc
-alone_gives value m vs (rest.Apply op) v h = cc
-
 -- a rest that isn't a look
 pub no_look : (r : Rest) → ((l : Look) → r ≡ rest.Look l → ⊥) → IsNoLook r
 no_look (rest.Look l) h = h l refl
@@ -70,22 +55,6 @@ fed_alone value other m vs (rest.Truth b) = refl
 fed_alone value other m vs rest.End = refl
 fed_alone value other m vs rest.Fault = refl
 fed_alone value other m vs (rest.Apply op) = refl
-
--- what has a look standing next may go on, where few looks were taken
-small : (k : ℕ) (x : Then) (i t : ℕ) → IsAfter k x i t → k + 1 < 2 ^ 64 → IsSmall x i t
-small k (then.Find w) i t h n = omega (arith, h, n)
-small k (then.Count w until) i t h n = h
-small k (then.Argument op) i t h n = h.1
-small k then.Give i t h n = tt
-small k then.Choose i t h n = tt
-small k then.Both i t h n = tt
-small k then.Either i t h n = tt
-small k then.Judge i t h n = tt
-small k then.Time i t h n = tt
-small k then.Space i t h n = tt
-
-pub may_go_on : (k : ℕ) (l : Look) → CanGoOn k l → k + 1 < 2 ^ 64 → MayGoOn l
-may_go_on k l h n = small k l.then l.part l.time h n
 
 module _ (T : Table) (cs : List (Option Context)) (js : List PlainJudgment) (i : ℕ) (node : Node) (c : Context) (j : PlainJudgment) where
   -- the values that its uses have for a row
@@ -145,13 +114,6 @@ module _ (T : Table) (cs : List (Option Context)) (js : List PlainJudgment) (i :
           all_and : (us : List ℕ) → AllByRecursion (λ u. u < i) us → AllByRecursion (λ u. u < i) (us ++ next ∷ [])
           all_and [] h = (earlier, tt)
           all_and (u ∷ us) h = (h.0, all_and us h.1)
-
-    -- one that it doesn't take, and one more than there are looks.
-    pub no_more_fed : (l : Look) → FedSoFar k (rest.Look l) → ((id : ℕ) → row_at T id ≡ Some node → None ≡ value_of id (plain_look l) next)
-        → FedTo T cs js i node c j None
-    no_more_fed l s none id f there has =
-        feeds_nowhere (value_of id) (fed (value_of id) (plan most f j.time j.space) j.uses) most (map (told js) (take k j.uses)) l next (drop (k + 1) j.uses)
-        (s.plan id f there has ∙ ap (λ (x : List ℕ). fed (value_of id) (look_plan most (map (told js) (take k j.uses)) l) x) left) (sym (none id there))
 
     pub one_use_too_many : (r : Rest) → IsNoLook r → FedSoFar k r → FedTo T cs js i node c j None
     one_use_too_many r none s id f there has =

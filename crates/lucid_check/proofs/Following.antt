@@ -9,7 +9,7 @@ use Rattle.lucid_facts.proofs.Places.{reads_its_element}
 use Rattle.lucid_follow.specs.Follows.{given, HasForm}
 use Rattle.lucid_follow.specs.RestPlans.{IsForm}
 use Rattle.lucid_follow.specs.Checking.{PassesOn}
-use Rattle.lucid_follow.proofs.GivenBy.{form_gives, input_gives, passes_gives, follows_where, follows_not}
+use Rattle.lucid_follow.proofs.GivenBy.{form_gives, input_gives, passes_gives, follows_where}
 use Rattle.lucid_check.specs.Checks.{HasRow}
 use Rattle.lucid_check.specs.Reads.{TellsSame, ReadsElement}
 use Rattle.lucid_check.proofs.Drawing.{stream_there}
@@ -21,13 +21,6 @@ module _ (T : Table) (cs : List (Option Context)) (js : List PlainJudgment) (i :
 
   never : {A : Type 0} → (A → ⊥) → (false ≡ true) ↔ A
   never none = (λ e. absurd (cc), λ f. absurd (none f))
-
-  -- It has no form:
-  pub no_form_tells : ((c : Context) → HasForm T cs j c → ⊥) → (k t : ℕ) → TellsElement T cs js i k t → ⊥
-  no_form_tells none k t e = none e.context (subst (λ (x : PlainJudgment). HasForm T cs x e.context) (same e.judgment e.there) e.form)
-
-  pub no_form_follows : ((c : Context) → HasForm T cs j c → ⊥) → (b : Elements) → (false ≡ true) ↔ FollowsIn T b cs js i
-  no_form_follows none b = never (follows_not T b cs js i j there none)
 
   module _ (n : Node) (c : Context) (form : HasForm T cs j c) (row : row_at T j.node ≡ Some n) (is : node_at T j.node ≡ node_by T n) where
     -- what its node gives from its uses

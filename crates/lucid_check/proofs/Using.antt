@@ -134,11 +134,6 @@ pub fed_on : (value : Uses) (i t s l : ℕ) (k : PlainValue → Plan) (u : ℕ) 
     → fed value (look i t s l k) (u ∷ us) ≡ fed value (k v) us
 fed_on value i t s l k u us v e = rw e refl
 
-pub fed_nowhere : (value : Uses) (i t s l : ℕ) (k : PlainValue → Plan) (u : ℕ) (us : List ℕ)
-    → value (record { part = i; time = t; space = s; least = l }) u ≡ None
-    → fed value (look i t s l k) (u ∷ us) ≡ None
-fed_nowhere value i t s l k u us e = rw e refl
-
 -- The judgment of a number is of the root where it is of its node in the empty context at space 0.
 module _ (T : Table) (known : List Context) (tags : List (Option Tag)) (js : List PlainJudgment) (i : ℕ) (j : PlainJudgment) (there : slice_get js i ≡ Some j)
   where

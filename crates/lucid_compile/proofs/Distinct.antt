@@ -54,19 +54,6 @@ module _ {A B : Type 0} (f : A → B) where
         size = sym (length-map vs.0 f) ∙ ap length (sym vs.1) ∙ h.size;
       }
 
-module _ {A : Type 0} where
-  -- the number is the only one
-  pub distinct-one : (xs : List A) (n k : ℕ) → HasDistinct xs n → HasDistinct xs k → n ≡ k
-  distinct-one xs n k h g =
-      omega (
-        arith,
-        h.size,
-        g.size,
-        fewer h.items g.items h.once (λ x i. g.outside x (h.inside x i)),
-        fewer g.items h.items g.once
-            (λ x i. h.outside x (g.inside x i)),
-      )
-
 -- an image has at most as many
 pub image-fewer : {A B : Type 0} (f : A → B) (xs : List A) (n k : ℕ) → HasDistinct xs n → HasDistinct (map f xs) k → k ≤ n
 image-fewer {A} f xs n k h g =

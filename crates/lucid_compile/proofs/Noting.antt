@@ -25,9 +25,6 @@ numbers-left xs ys (i ∷ is) (tree e es) h = (number-left xs ys i e h.0, number
 pub number-kept : (xs ys : List Note) (i : ℕ) (e : PlainTree) → Begins xs ys → IsNumber xs i e → IsNumber ys i e
 number-kept xs ys i e b h = subst (λ l. IsNumber l i e) (sym b.1) (number-left xs b.0 i e h)
 
-pub numbers-kept : (xs ys : List Note) (is : List ℕ) (es : PlainTrees) → Begins xs ys → AreNumbers xs is es → AreNumbers ys is es
-numbers-kept xs ys is es b h = subst (λ l. AreNumbers l is es) (sym b.1) (numbers-left xs b.0 is es h)
-
 parts-nodes : (cs ns ms : List Note) (r : Node) (x : Kind) → HasParts cs ns r x → HasParts cs (ns ++ ms) r x
 parts-nodes cs ns ms r (piece (form at (const v) es)) h = h
 parts-nodes cs ns ms r (piece (form at f es)) h = (h.0, h.1, numbers-left ns ms h.0 es h.2)

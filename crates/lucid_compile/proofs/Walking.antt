@@ -136,9 +136,6 @@ mutual
       (logs-then b c _ (note at k (current_right e) ∷ []) (notes_in_defs k o ds) (logs-current at k e b) (logs-defs k o ds c))
 
 -- so the nodes of a log begin those of a later one
-pub nodes-tree : (k : Static) (e : PlainTree) (g : Log) → Begins g.nodes (added k e g).nodes
-nodes-tree k e g = (pieces_of (notes k e), (logs-tree k e g).nodes)
-
 pub nodes-trees : (k : Static) (es : PlainTrees) (g : Log) → Begins g.nodes (added_all k es g).nodes
 nodes-trees k es g = (pieces_of (notes_in k es), (logs-trees k es g).nodes)
 

@@ -9,9 +9,6 @@ use Rattle.lucid_demand.specs.Searching.{StandsAt}
 use Rattle.lucid_demand.proofs.SettledRows.{ready_is_there, on_going}
 use Rattle.lucid_demand.proofs.MayAsk.{part_may_be_asked}
 
-one_row : (o : Option TaskRow) (q r : TaskRow) → o ≡ Some q → o ≡ Some r → r ≡ q
-one_row o q r e f = let g : Some r ≡ Some q = sym f ∙ e in cc
-
 -- A row that stays where it is stands at a cursor.
 pub stands_still : (rs : List (Option TaskRow)) (slot : ℕ) → IsTrue (is_ready (row_at rs slot)) → StandsAt rs rs slot
 stands_still rs slot ready = record { cursor = (r.0).cursor; rows = λ q. go q (cases_eq q slot) }

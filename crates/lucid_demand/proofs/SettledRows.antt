@@ -1,5 +1,5 @@
 -- A ready row that settles takes a step: what it remembers is put, and its value is its parent's or answers the root.
-use Rattle.lucid_demand.proofs.Common.{cases_lt, inl, inr, ℕ, ◌-◌, arith, List, Option, None, refl, sym, ap, ◌∙◌, subst, IsTrue, IsSome, option_and_then, Value, PlainValue, plain, Op, Elements, Context, IsKnown, Key, TaskRow, got_of, is_ready, returned, Stored, World, Rises, PlainRow, DatonAt, plain_task, plain_key, plain_row, plain_rows, value_of_part, node_of, IsReference, EngineView, known_elements, holding, MayHave, Demand, RowFacts, Owns, Waits, at_it, plain_got, plain_of_row, ready_after_take, answers_over, work_over, cost_of, Evaluating, MayStep, Stepped, cost, DemandIn, MayAct, MayGive, Applies, value_of, IsTaken, Settling, MaySettle, at_rows, argument_by, argument_at, DemandFault, NoMemory, ◌^◌}
+use Rattle.lucid_demand.proofs.Common.{cases_lt, inl, inr, ℕ, ◌-◌, arith, List, Option, None, refl, sym, ap, ◌∙◌, subst, IsTrue, IsSome, option_and_then, Value, PlainValue, plain, Op, Elements, Context, IsKnown, Key, TaskRow, got_of, is_ready, returned, Stored, World, Rises, PlainRow, DatonAt, plain_task, plain_key, plain_row, plain_rows, value_of_part, node_of, IsReference, EngineView, known_elements, holding, MayHave, Demand, RowFacts, Owns, Waits, at_it, plain_got, plain_of_row, ready_after_take, answers_over, work_over, cost_of, Evaluating, MayStep, Stepped, cost, DemandIn, MayAct, MayGive, Applies, value_of, IsTaken, Settling, MaySettle, at_rows, argument_by, argument_at, DemandFault, ◌^◌}
 use Rattle.std.proofs.Common.{◌≡◌, ◌⊎◌, ◌<◌, ◌≤◌, Some}
 use Rattle.std.specs.Prelude.{IfSome, Result, Ok, Err, option_map}
 use Rattle.lucid_tasks.specs.Rows as rows
@@ -18,10 +18,6 @@ use Rattle.lucid_demand.specs.Evaluating.{OnGoingOn}
 use Rattle.lucid_demand.specs.Acting.{IsKept}
 use Rattle.lucid_demand.proofs.GoneRows.{row_goes}
 use Rattle.lucid_demand.proofs.TakenParts.{values_alike}
-
--- A step that is refused for want of memory keeps what is owned.
-pub refused : (d : Demand) (old new : Evaluating) (v w : World) → Owns d new.engine w → Stepped d old new v w (Err NoMemory)
-refused d old new v w owns = record { owns = owns; goes_on = tt; answers = tt; deep = λ e. absurd (cc); too_large = tt; failed = λ e. absurd (cc) }
 
 -- nothing was taken
 pub nothing_taken : (rs : List (Option TaskRow)) (slot : ℕ) → IsTrue (is_ready (row_at rs slot)) → IsTaken rs rs slot

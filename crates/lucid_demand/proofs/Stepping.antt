@@ -103,12 +103,6 @@ module _ (d : Demand) (e : Evaluating) (w : World) (slot : ℕ) where
             (value_there (argument_at (table_of d) (plain_row e.engine.known j.0)) args 0 vs.0 vs.2 i n many arg));
       }
 
-  -- A constant is there, and is given.
-  pub constant_is_there : (k : ℕ) → MayAct d e w slot (decision.Constant k) → k < length e.engine.table.constants
-  constant_is_there k act =
-      let j = justified_there (decision.Constant k) act in
-      subst (λ (T : Table). k < length T.constants) (sym (same_table d e w slot act.step)) j.2.0
-
   pub constant_gives : (k : ℕ) → MayAct d e w slot (decision.Constant k) → MayGive d e w slot (constant_at e.engine.table k)
   constant_gives k act =
       subst (λ T. MayGive d e w slot (constant_at T k)) (sym (same_table d e w slot act.step))

@@ -65,10 +65,6 @@ module _ (p : Equations) (b : Elements) where
             k among,
       )
 
--- what a reference has and visits
-no_aim : {a : NodeAim} (d : Daton) (x : NodePosition) (u : ℕ) → a ≡ nowhere → a ≡ goes_to d x u → ⊥
-no_aim d x u n h = let z : nowhere ≡ goes_to d x u = sym n ∙ h in absurd (cc)
-
 module _ (p : Equations) where
   -- the events of a reference are those of what it goes on with, behind the context that a call enters
   abbrev met : Elements → (m k : ℕ) → NodeAim → (space : ℕ) → NodeEvents

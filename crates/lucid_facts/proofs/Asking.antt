@@ -1,5 +1,5 @@
 -- What a row asks for may be asked, and a row that stands at nothing is refused rightly.
-use Rattle.lucid_facts.proofs.Common.{◌≡◌, ℕ, ◌+◌, ◌<◌, ◌≤◌, max, Some, refl, sym, ap, ◌∙◌, subst, arith, IsTrue, PlainValue, Head, In, Inside, Look, Plan, nothing, plan, Reads, ReadsAtSome, LeadsTo, Elements, nothing_held, goes_to, leads-maps, reader-up, row, PlainNodes, NodePosition, NodeAim, node_hval, node_visits, equations_of, reads_parts, visits_parts, parts-keep, PlainTask, PlainRow, node_of, rank, IsPart, Holding, given, hval_of, visits_of, task_visits, IsDefined, HoldsRight, ForSomeAdded, Demand, table_of, stays, IsSeen, LookAnswers, RowFacts, IsWanted, ComesTo, MayAsk, IsDemand}
+use Rattle.lucid_facts.proofs.Common.{◌≡◌, ℕ, ◌+◌, ◌<◌, ◌≤◌, max, Some, refl, sym, ap, ◌∙◌, subst, arith, IsTrue, PlainValue, Head, In, Inside, Look, Plan, nothing, plan, Reads, ReadsAtSome, LeadsTo, Elements, nothing_held, leads-maps, reader-up, row, PlainNodes, node_hval, node_visits, equations_of, reads_parts, visits_parts, parts-keep, PlainTask, PlainRow, node_of, rank, IsPart, Holding, given, hval_of, visits_of, task_visits, IsDefined, HoldsRight, ForSomeAdded, Demand, table_of, stays, IsSeen, LookAnswers, RowFacts, IsWanted, ComesTo, MayAsk, IsDemand}
 use Rattle.std.specs.Prelude.{Bool, true, false}
 use Rattle.lucid_tree.specs.Rows.{looks, run}
 use Rattle.lucid_tree.specs.PlanLaws.{NeverDiffers}
@@ -9,14 +9,6 @@ use Rattle.lucid_facts.proofs.Looking.{LooksAt, looks_at, look_value, look_visit
 use Rattle.lucid_facts.proofs.Leading.{row_came, part_is_of_its_look}
 use Rattle.lucid_facts.proofs.Giving.{answer_means, answer_is_exact}
 use Rattle.lucid_facts.proofs.MoreRead.{right_is_meant}
-
-abbrev position_in : NodePosition → NodeAim → NodePosition
-position_in z (goes_to k y u) = y
-position_in z _ = z
-
-abbrev time_in : NodeAim → ℕ
-time_in (goes_to k y u) = u
-time_in _ = 0
 
 both_ways : {e : Bool} → e ≡ false → e ≡ true → ⊥
 both_ways off on = let z : false ≡ true = sym off ∙ on in absurd (cc)

@@ -2,7 +2,7 @@
 -- reads, visits and needs of that part is what the task has, visits and needs.
 use Rattle.lucid_facts.proofs.Common.{◌≡◌, ℕ, ◌<◌, Option, Some, None, refl, sym, ap, ◌∙◌, subst, arith, none-some, Head, Look, Elements, Given, PlainNode, row, PlainNodes, part_of, Daton, node_hval, IsNeeded, parts, equations_of, HasPart, IsInRange, reads_parts, visits_parts, Node, Table, part-lower, part-node, PlainTask, DatonAt, node_of, part_number, rank, look_task, IsTask, visits_of, TaskNeeds}
 use Rattle.std.proofs.Common.{slice_get}
-use Rattle.std.specs.Prelude.{true, false, option_map, option_and_then}
+use Rattle.std.specs.Prelude.{option_map, option_and_then}
 use Rattle.lucid_equations.specs.Rows.{row_at}
 use Rattle.lucid_equations.proofs.PartsRead.{part-value, part-visits}
 
@@ -73,6 +73,3 @@ module _ (T : Table) (range : IsInRange T) (x : PlainTask) (l : Look) (y : Plain
         let here : IsNeeded (equations_of T) b (node_of T y) x.context l.time l.space k =
         subst (λ q. IsNeeded (equations_of T) b q x.context l.time l.space k) same n in
         subst (λ z. IsNeeded (equations_of T) b (node_of T y) z.context z.time z.space k) (sym at.is) here
-
-no : false ≡ true → ⊥
-no e = cc

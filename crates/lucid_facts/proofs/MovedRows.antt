@@ -1,5 +1,5 @@
 -- What only moves the point, by the row that a table has for the node.
-use Rattle.lucid_facts.proofs.Common.{◌≡◌, ℕ, zero, suc, ◌<◌, ◌≤◌, Option, Some, None, refl, sym, ap, ◌∙◌, arith, nat_tests, frozen_frame, PlainNode, row, freeze, reference, invoke, Onward, onward, node_by, parts, Node, Freeze, Table, PlainTask, node_of, moved, moved_by}
+use Rattle.lucid_facts.proofs.Common.{◌≡◌, ℕ, zero, suc, Option, Some, None, refl, sym, ap, ◌∙◌, frozen_frame, PlainNode, row, freeze, reference, invoke, Onward, onward, node_by, parts, Node, Freeze, Table, PlainTask, node_of, moved, moved_by}
 use Rattle.std.proofs.Common.{Bool, true, false, if◌then◌else◌, nat_lt, option_map, option_and_then, slice_get}
 use Rattle.lucid_tree.specs.Rows.{last}
 use Rattle.lucid_equations.specs.Rows.{row_at}
@@ -68,10 +68,3 @@ by-row T x _ = refl
 pub moved-by_row : (T : Table) (x : PlainTask) (n : Node) → row_at T x.node ≡ Some n → node_of T x ≡ node_by T n → moved_row x n ≡ moved T x
 moved-by_row T x n h is =
     sym (ap (moved_by T x) is ∙ same-with T x (node_by T n) ∙ ap (λ o. moved_with x o (node_by T n)) h ∙ by-row T x n)
-
--- where there is a last time or space, and where there is not
-pub before-last : {A : Type 0} (t : ℕ) (y : A) → t < last → Some y ≡ (if nat_lt t last then Some y else None)
-before-last t y low = let h : nat_lt t last ≡ true = grind (arith, nat_tests) in sym (ap (λ b. if b then Some y else None) h)
-
-pub at-last : {A : Type 0} (t : ℕ) (y : A) → last ≤ t → None ≡ (if nat_lt t last then Some y else None)
-at-last t y low = let h : nat_lt t last ≡ false = grind (arith, nat_tests) in sym (ap (λ b. if b then Some y else None) h)

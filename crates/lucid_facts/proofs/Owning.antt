@@ -1,10 +1,10 @@
 -- What is true of all that is owned stays true at each change that a step makes: a value is put, values are dropped, a search's position
 -- is noted, contexts become known.
-use Rattle.lucid_facts.proofs.Common.{◌≡◌, ℕ, ◌+◌, ◌≤◌, List, Option, Some, None, ◌⊎◌, refl, sym, subst, arith, le_refl, IsTrue, PlainValue, plain, Value, In, Head, Elements, Context, IsKnown, IsOneForOne, KeepsKnown, space_of, Tag, Key, Stored, held, count_of, SetsOnly, fresh, Noted, number_at, NotesOrMisses, World, PlainNodes, row, DatonAt, PlainRow, plain_key, node_of, held_in, AreKeysKnown, is_search, key_noted, EngineView, holding, MayHave, GoesOn, HoldsFew, Demand, table_of, IsEntered, MayPut, RowFacts, StockFacts, Daton, PutsDaton, IsDemand, Owns, WithinRoom}
+use Rattle.lucid_facts.proofs.Common.{◌≡◌, ℕ, ◌≤◌, List, Option, Some, None, ◌⊎◌, refl, sym, subst, arith, le_refl, IsTrue, PlainValue, In, Head, Elements, Context, IsKnown, IsOneForOne, KeepsKnown, space_of, Tag, Key, Stored, held, count_of, Noted, number_at, NotesOrMisses, World, PlainNodes, row, DatonAt, PlainRow, node_of, held_in, AreKeysKnown, is_search, key_noted, EngineView, holding, MayHave, GoesOn, HoldsFew, Demand, table_of, IsEntered, RowFacts, StockFacts, Daton, IsDemand, Owns}
 use Rattle.std.proofs.Common.{true}
 use Rattle.lucid_tags.specs.Known.{context_of}
-use Rattle.lucid_facts.proofs.HeldByKey.{held_drops, held_stays, held_as_tags_grow, put_by_key}
-use Rattle.lucid_facts.proofs.Stocking.{stock_puts, stock_drops, stock_enters}
+use Rattle.lucid_facts.proofs.HeldByKey.{held_drops, held_stays, held_as_tags_grow}
+use Rattle.lucid_facts.proofs.Stocking.{stock_drops, stock_enters}
 use Rattle.lucid_facts.proofs.Noting.{stock_notes}
 use Rattle.lucid_facts.proofs.History.{keeps_known_then}
 
@@ -29,31 +29,6 @@ pub known_itself : (known : List Context) → KeepsKnown known known
 known_itself known = record { known = λ tag h. h; same = λ tag h. refl }
 
 module _ (d : Demand) (now : EngineView) (w : World) (owns : Owns d now w) where
-  -- The value of a daton is put under its key, which every row and every later step then finds.
-  pub owns_puts : (k : Key) (v : Value) (stored : Stored) → IsKnown now.known k.tag → SetsOnly now.stored stored k (Some (fresh v))
-      → stored.lost ≡ now.stored.lost
-      → (HoldsFew d.first.room d.first.stored → HoldsFew d.first.room stored)
-      → ((b : Elements) → MayHave now b → MayPut d b (holding now) now.stored.lost (plain_key now.known k) (plain v))
-      → Owns d (record now { stored = stored }) w
-  owns_puts k v stored there sets same few may = record {
-    stock = record {
-      stock = λ b m. subst (λ n. StockFacts d b now.known (held_in now.known stored) n now.noted) (sym same)
-          (stock_puts d b now.known (holding now) (held_in now.known stored) now.stored.lost now.noted (plain_key now.known k) (plain v) (owns.stock.stock b m)
-          (may b m) puts.0).0;
-      drawn = owns.stock.drawn;
-      askable = owns.stock.askable;
-    };
-    keys = puts.1;
-    contexts = owns.contexts;
-    since = record {
-      goes_on = since_then d.first now owns.since.goes_on now.known stored now.noted (known_itself now.known) (omega (arith, same));
-      reads_only = owns.since.reads_only;
-      few = few;
-    };
-  }
-    where
-      puts : PutsDaton (held_in now.known now.stored) (held_in now.known stored) (plain_key now.known k) (plain v) × AreKeysKnown now.known stored
-      puts = put_by_key now.known now.stored stored k v owns.contexts owns.keys there sets
 
   -- Values are dropped, and noted positions with them: by a policy's turn, at a look-up, or at a put for which there is no memory.
   pub owns_drops : (stored : Stored) (noted : Noted) → ((k : Key) (v : PlainValue) → held stored k ≡ Some v → held now.stored k ≡ Some v)
@@ -128,11 +103,6 @@ module _ (d : Demand) (now : EngineView) (w : World) (owns : Owns d now w) where
 
       same : held_in known now.stored ≡ holding now
       same = λ i c s. grown.1 c s i
-
--- where at most as many are held as the policy leaves, a put leaves few
-pub few_after : (room : Option ℕ) (old new : Stored) → WithinRoom room old → count_of new ≤ count_of old + 1 → HoldsFew room new
-few_after None old new within more = tt
-few_after (Some r) old new within more = omega (arith, within, more)
 
 -- and where no more is held
 pub few_where_fewer : (room : Option ℕ) (old new : Stored) → count_of new ≤ count_of old → HoldsFew room old → HoldsFew room new

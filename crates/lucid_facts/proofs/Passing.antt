@@ -74,10 +74,6 @@ module _ (T : Table) (range : IsInRange T) where
       let p = moved-moves T range x y h in
       ap (λ o. on_with o [] (λ z. z.context ∷ passed_contexts T x.node z)) h ∙ ap (λ cs. y.context ∷ cs) (same-way x.node (suc y.node) y p.lower (omega arith))
 
-  -- A task that doesn't only move the point is itself the last.
-  pub passed-already : (x : PlainTask) → moved T x ≡ None → passed T x ≡ x
-  passed-already x h = ap (λ o. on_with o x (λ z. passed_in T x.node z)) h
-
   -- Each context on the way is the task's own, or one that it enters.
   module _ (b : Elements) (m e : ℕ) where
     through : (x y : PlainTask) (c : Context) → Moves T y x → (c ≡ y.context) ⊎ In c (filter_map entered_of (visits_of T b m e y))

@@ -42,9 +42,6 @@ int_stands bytes v h r = ap terminal.Const (r _ (int_reads bytes h.0 h.1))
 pub text_stands : (bytes : List ℕ) (v : PlainValue) → IsTokenOf kind.Text bytes → IsReading bytes v → StandsFor kind.Text bytes (terminal.Const v)
 text_stands bytes v h r = (h.1.0, h.1.1, ap terminal.Const (r (text h.1.0) (subst (λ b. Reads b (text h.1.0)) (sym h.1.1) (text_reads h.1.0 h.1.2))))
 
-pub list_stands : (bytes : List ℕ) (v : PlainValue) → IsTokenOf kind.ListText bytes → IsReading bytes v → StandsFor kind.ListText bytes (terminal.Const v)
-list_stands bytes v h r = (h.1.0, h.1.1, ap terminal.Const (r _ h.1.1))
-
 -- bytes with no blank around them, as a line
 as_line : (bytes : List ℕ) (v : PlainValue) → Reads bytes v → ReadsLine bytes v
 as_line bytes v r = record { before = []; bytes = bytes; after = []; parts = sym (append_nil bytes); blank_before = refl; blank_after = refl; reads = r }

@@ -1,5 +1,5 @@
 -- A whole turn of the policy that keeps what was touched last.
-use Rattle.lucid_retire.proofs.Common.{◌≡◌, ◌≤◌, ◌<◌, Bool, true, false, cond, ◌||◌, ◌⊎◌, inl, inr, [], length, Option, Some, None, IsSome, is_some, refl, ap, sym, ◌∙◌, subst, arith, nat_lt, MatchBool, le-ltb, Key, Stored, entry_at, count_of, cleared, IsOneForEach, Recency, is_listed, is_the, last_of, AreHeld, AreRecent, DropsKey, IfSome}
+use Rattle.lucid_retire.proofs.Common.{◌≡◌, ◌≤◌, ◌<◌, Bool, true, false, cond, ◌||◌, ◌⊎◌, inl, inr, [], length, Option, Some, None, is_some, refl, ap, sym, ◌∙◌, subst, arith, nat_lt, MatchBool, le-ltb, Key, Stored, entry_at, count_of, cleared, IsOneForEach, Recency, is_listed, is_the, last_of, AreHeld, AreRecent, DropsKey}
 use Rattle.lucid_retire.specs.Recency.{with_touched, Agrees, IsNoted, IsRefusedAt, IsRecencyTurn}
 use Rattle.lucid_retire.proofs.Brought.{held_after, held_refused, falls_out, length-take-le, count-listed}
 
@@ -83,7 +83,3 @@ module _ (r : Recency) (few : AreRecent r) (list : Recency) (old mid : Stored) w
       agreed = λ agrees. let fits = within_room agrees in cc;
       agrees = elim [ inl agrees ↦ (let fits = within_room agrees in cc) | inr none ↦ absurd (omega (arith, none, some)) ];
     }
-
-untouched : (w : Stored) → w.entries ≡ [] → (touched : Option Key) → IfSome touched (λ k. IsSome (entry_at w k)) → touched ≡ None
-untouched w none None h = refl
-untouched w none (Some k) h = let e : entry_at w k ≡ None = ap (λ es. entry_at (record w { entries = es }) k) none in cc

@@ -1,5 +1,5 @@
 -- Owners that are hidden and put back, and the scopes that hide them.
-use Rattle.lucid_scope.proofs.Common.{◌≡◌, ℕ, suc, ◌+◌, ◌<◌, Bool, true, false, cond, List, [], ◌∷◌, ◌++◌, length, drop, get_or, None, refl, sym, ap, ◌∙◌, drop-cons, arith, nat_lt, position_or_len, Found, same_name, param, or_outer, definition_owner, parameter_owner, with_owner, put_back, Owner, Saved, option_map}
+use Rattle.lucid_scope.proofs.Common.{◌≡◌, ℕ, suc, ◌+◌, ◌<◌, Bool, true, false, cond, List, [], ◌∷◌, ◌++◌, length, drop, get_or, None, refl, sym, ap, ◌∙◌, drop-cons, arith, nat_lt, position_or_len, same_name, param, or_outer, parameter_owner, with_owner, put_back, Owner, Saved, option_map}
 use Rattle.std.proofs.Common.{Option, Some, not}
 use Rattle.lucid_scope.specs.declared.table.Owner.TheVariants.{Parameter}
 use Rattle.lucid_scope.proofs.Names.{same_one}
@@ -25,11 +25,6 @@ pub saved_back : (ss : List Saved) (s : Saved) (o : Option Owner) (f g : Owners)
     → (n : List ℕ) → put_back (ss ++ s ∷ []) g n ≡ put_back ss f n
 saved_back ss s o f g e h n =
     put_back-snoc ss s g n ∙ put_back-alike ss (with_owner s.name s.owner g) f (λ m. hidden (same_name m s.name) m s.name o s.owner f g refl e (h m)) n
-
-pick : (b : Bool) (found rest : Found) (o : Owner) (outer : Option Owner) → Some o ≡ definition_owner found
-    → cond b (Some o) (or_outer (definition_owner rest) outer) ≡ or_outer (definition_owner (cond b found rest)) outer
-pick true found rest o outer e = ap (λ x. or_outer x outer) e
-pick false found rest o outer e = refl
 
 -- a parameter's owner, by its number among those from the i-th on
 abbrev pub later_parameter : (def i : ℕ) → Option ℕ → Option Owner

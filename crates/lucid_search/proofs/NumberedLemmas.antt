@@ -1,5 +1,5 @@
 -- What a search finds among pairs whose keys rise, and what an edit at that place does.
-use Rattle.lucid_search.proofs.Common.{◌≡◌, ℕ, ◌<◌, ◌≤◌, ◌==◌, true, false, cond, List, set, Some, None, IsSome, Result, Ok, Err, refl, sym, ap, subst, ◌∙◌, number_in, Rises, IsAt, IsGapFor, zero, suc, ◌+◌, ◌-◌, ◌≢◌, [], ◌∷◌, length, get_or, IfOk, IfErr, arith, true≢false, insert, IsSearchInRange, IsBinarySearchResult, IsNonDecreasingBy, nat_cmp, ordering_index, ranked, IsNonDecreasingBy-from_default, length-insert, get_or-insert_below, get_or-insert_at, get_or-insert_above, nat_tests, common_steps, eqb-true}
+use Rattle.lucid_search.proofs.Common.{◌≡◌, ℕ, ◌<◌, ◌≤◌, ◌==◌, true, false, cond, List, set, Some, None, IsSome, Result, Ok, Err, refl, sym, ap, ◌∙◌, number_in, Rises, IsAt, IsGapFor, zero, suc, ◌-◌, ◌≢◌, [], ◌∷◌, length, get_or, IfOk, IfErr, arith, true≢false, insert, IsSearchInRange, IsBinarySearchResult, IsNonDecreasingBy, nat_cmp, ordering_index, ranked, IsNonDecreasingBy-from_default, nat_tests, eqb-true}
 use Rattle.lucid_lemmas.proofs.Numbers.{number_itself, below_differs, equality_turned}
 use Rattle.lucid_search.specs.Numbered.{key_at, SetsOne}
 use Rattle.lucid_search.specs.Noted.{IsBestOf}
@@ -102,39 +102,10 @@ module _ (l : List (ℕ × ℕ)) (up : Rises l) where
     set_sets = has_set l key number i (0, 0) (λ j lt. let less = up (0, 0) j i lt at.in_range in let same = at.has (0, 0) in omega (arith, less, same))
         at.in_range (at.has (0, 0))
 
-    pub set_rises : Rises (set l i (key, number))
-    set_rises d a b lt in_range = grind (arith, common_steps, up d a b, up d a i, up d i b, at.in_range, at.has d)
-
   -- a new pair
   module _ (key i number : ℕ) (gap : IsGapFor l key i) where
     pub insert_sets : SetsOne (number_in l) (number_in (insert l i (key, number))) key number
     insert_sets = has_inserted l key number i (0, 0) (λ j lt. gap.smaller (0, 0) j lt) gap.in_range
-
-    pub insert_rises : Rises (insert l i (key, number))
-    insert_rises e a b lt in_range =
-        let new = insert l i (key, number) in
-        let len = length-insert l i (key, number) gap.in_range in
-        let first = λ (x : ℕ × ℕ). x.0 in
-        let below : (k : ℕ) → k < i → key_at e new k ≡ key_at e l k = λ k h. ap first (get_or-insert_below l i (key, number) e k h gap.in_range) in
-        let here : (k : ℕ) → k ≡ i → key_at e new k ≡ key = λ k h. rw h (ap first (get_or-insert_at l i (key, number) e gap.in_range)) in
-        let above : (k : ℕ) → i < k → key_at e new k ≡ key_at e l (k - 1) =
-        λ k h. subst (λ q. key_at e new q ≡ key_at e l (k - 1)) {x = k - 1 + 1} (omega arith)
-        (ap first (get_or-insert_above l i (key, number) e (k - 1) (omega arith) gap.in_range)) in
-        grind (
-          arith,
-          below a,
-          here a,
-          above a,
-          below b,
-          here b,
-          above b,
-          up e a b,
-          up e a (b - 1),
-          up e (a - 1) (b - 1),
-          gap.smaller e a,
-          gap.greater e
-              (b - 1),
-        )
 
 -- ---- the search
 

@@ -10,10 +10,6 @@ module _ (xs : List ScopeRow) (right : AllRight ScopeIsRight xs) (ds ls : List �
       omega (arith, none, deep)
   inner-some (suc s) level within deep = omega arith
 
-  -- a leap leads to a lower scope that is there
-  pub leap-lower : (s : ℕ) → s < length xs → 0 < s → slice_index ls s < s
-  leap-lower s within some = h.lower s some (omega (arith, within, h.all_leaps))
-
   -- a parent has one depth less
   pub parent-depth : (s : ℕ) → s < length xs → 0 < s → slice_index ds s ≡ suc (slice_index ds (get_or xs s no_row).parent)
   parent-depth s within some =

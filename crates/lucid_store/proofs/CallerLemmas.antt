@@ -1,9 +1,9 @@
 -- What a caller's proof cites of the words in `specs/Entries.antt`.
-use Rattle.lucid_store.proofs.Common.{◌≡◌, Bool, true, false, cond, Option, Some, None, refl, ap, sym, ◌∙◌, option_map, Key, Entry, same_key, renewed, same_key_is_equality, same_key_equiv, ◌⊎◌}
+use Rattle.lucid_store.proofs.Common.{◌≡◌, Bool, true, false, cond, Option, Some, None, refl, ap, sym, ◌∙◌, option_map, Key, Entry, same_key, renewed, same_key_is_equality, ◌⊎◌}
 use Rattle.std.proofs.Common.{◌≢◌}
 use Rattle.lucid_value.specs.View.{plain}
 use Rattle.lucid_store.specs.Stored.{Stored}
-use Rattle.lucid_store.specs.Entries.{entry_at, value_at, held, SetsOnly, IsTouched}
+use Rattle.lucid_store.specs.Entries.{entry_at, value_at, held, IsTouched}
 
 pub other_key : (a b : Key) → b ≢ a → same_key a b ≡ false
 other_key a b apart = by (same_key a b) refl
@@ -11,10 +11,6 @@ other_key a b apart = by (same_key a b) refl
     by : (t : Bool) → same_key a b ≡ t → t ≡ false
     by true h = absurd (apart (sym ((same_key_is_equality a b).0 h)))
     by false h = refl
-
--- what a key has that was set, and any other key
-pub set_here : (old new : Stored) (key : Key) (entry : Option Entry) → SetsOnly old new key entry → entry_at new key ≡ entry
-set_here old new key entry sets = sets key ∙ ap (λ t. cond t entry (entry_at old key)) (same_key_equiv.refl key)
 
 -- a look-up leaves each value as it was
 pub value_at-touched : (old new : Stored) (key : Key) → IsTouched old new key → (q : Key) → value_at new q ≡ value_at old q

@@ -1,23 +1,15 @@
 -- What tags stand for: one tag for one context and space, and known tags that stay known.
-use Rattle.lucid_tags.proofs.Common.{◌≡◌, suc, inl, inr, List, length, refl, ap, sym, subst, arith, Context, root, context_at, Row, Depth, contexts, AreDistinct, AreRows}
+use Rattle.lucid_tags.proofs.Common.{◌≡◌, suc, List, length, ap, sym, subst, Context, root, context_at, Row, Depth, contexts, AreDistinct, AreRows}
 use Rattle.std.proofs.Common.{[]}
-use Rattle.lucid_tags.specs.Known.{number_of, space_of, context_of, IsOneForOne, KeepsKnown, AddsAtMost}
+use Rattle.lucid_tags.specs.Known.{number_of, space_of, context_of, IsOneForOne}
 use Rattle.lucid_tags.specs.EqualityDecides.{tag_from_parts}
-use Rattle.lucid_tags.proofs.RowLemmas.{context_at-left, context_at-first, length-push, length-contexts, length-depths, AreRows-nil}
+use Rattle.lucid_tags.proofs.RowLemmas.{context_at-first, length-contexts, length-depths, AreRows-nil}
 
 pub one_for_one : (known : List Context) → AreDistinct known → IsOneForOne known
 one_for_one known one = record {
   places = one.same;
   tags = λ a b h k. (λ e. (ap (context_of known) e, ap space_of e), λ e. tag_from_parts a b (one.same (number_of a) (number_of b) h k e.0) e.1);
 }
-
--- where at most one context is added, known tags keep what they stand for
-pub keeps_known : (old new : List Context) (c : Context) → AddsAtMost old new c → KeepsKnown old new
-keeps_known old new c (inl e) = subst (KeepsKnown old) (sym e) (record { known = λ tag h. h; same = λ tag h. refl })
-keeps_known old new c (inr e) = subst (KeepsKnown old) (sym e) (record {
-  known = λ tag h. omega (arith, h, length-push old c);
-  same = λ tag h. context_at-left old c (number_of tag) h;
-})
 
 -- what the known contexts are like, seen from a table
 module _ (rows : List Row) (known : List Context) (seen : contexts rows ≡ known) where

@@ -339,14 +339,6 @@ module _ (rows : List (Option TaskRow)) (slot : ℕ) (ready left : List ℕ) (t 
     pub part_row : IsSome (row_at mid part.slot)
     part_row = subst IsSome (sym at_mid) refl
 
-    not_got : (s : PartState) → asked_slot s ≡ Some slot → got_value s ≡ None
-    not_got Idle e = refl
-    not_got (Asked c) e = refl
-    not_got (Got v) e = absurd (none-some slot e)
-
-    pub part_empty : got_of mid part ≡ None
-    part_empty = ap (λ o. option_and_then got_value (option_map (state_at part.index) o)) at_mid ∙ not_got (state_at part.index waiting_row.0) waiting_row.1.1
-
     -- the row that waited isn't listed
     pub part_waits : is_listed left part.slot ≡ false
     part_waits = left_listed part.slot ∙ ap is_ready (kept part.slot other_slot)
@@ -370,14 +362,6 @@ module _ (rows : List (Option TaskRow)) (slot : ℕ) (ready left : List ℕ) (t 
 
       others_left : (q : ℕ) → q ≢ slot → q ≢ part.slot → row_at new q ≡ row_at rows q
       others_left q ne other = elsewhere mid new part.slot (with_part part.index (Got value)) gave q other ∙ kept q ne
-
-      pub part_settles : Settles rows new slot value
-      part_settles q = chosen q slot (row_at new q) None (given (parent_of rows slot) value q (row_at rows q))
-          (λ e. ap (row_at new) e ∙ at_slot)
-          (λ ne. chosen q part.slot (row_at new q) (option_map (with_part part.index (Got value)) (row_at rows q)) (row_at rows q)
-          (λ e. ap (row_at new) e ∙ now_row ∙ ap (option_map (with_part part.index (Got value))) (sym waiting_row.1.0 ∙ ap (row_at rows) (sym e)))
-          (λ other. others_left q ne other)
-          ∙ ap (λ p. given p value q (row_at rows q)) (sym was))
 
       within_parts : part.index < length waiting_row.0.parts
       within_parts = let three = t.three part.slot waiting_row.0 waiting_row.1.0 in let low = part_index in omega (arith, low, three)

@@ -8,11 +8,9 @@ pub mod LevelGrowth
 pub mod LevelWalks
 pub mod Growth
 pub mod Walks
-pub mod Exact
 pub mod RunsMeant
 pub mod LevelMeant
 pub mod Made
-pub mod Meant
 pub mod Ways
 pub mod RestsDefined
 pub mod RestsTraced

@@ -73,17 +73,6 @@ context_is_row line w t (Some c) l h d e =
 context_is_row line w t None l h d e = λ r f k.
     let p = one_cut 32 w (row_head r) t (row_tail r) (recursion_from_All _ w h) (head_lacks r) (sym l ∙ (k ∙ line_parts r)) in none_by r w t f d e p.0 p.1
 
-no_tail : (r : WhyRow) (w t : List ℕ) → RowFits r → IsTailOf t None → w ≡ codes "j" → w ≡ row_head r → t ≡ row_tail r → ⊥
-no_tail (context_row c) w t f n d h k = no_judgment c (sym h ∙ d)
-no_tail (judgment_row j) w t f n d h k = n j f k
-
--- Where it is a judgment's, so is what is read behind it.
-pub judgment_is_row : (line w t : List ℕ) (o : Option PlainJudgment) → line ≡ w ++ 32 ∷ t → HasNone 32 w → w ≡ codes "j" → IsTailOf t o → IsRowOf line (option_map judgment_row o)
-judgment_is_row line w t (Some j) l h d e =
-    (e.0, l ∙ (ap (λ (x : List ℕ). x ++ 32 ∷ t) d ∙ (ap (λ (x : List ℕ). codes "j" ++ 32 ∷ x) e.1 ∙ sym (line_parts (judgment_row j)))))
-judgment_is_row line w t None l h d e = λ r f k.
-    let p = one_cut 32 w (row_head r) t (row_tail r) (recursion_from_All _ w h) (head_lacks r) (sym l ∙ (k ∙ line_parts r)) in no_tail r w t f e d p.0 p.1
-
 -- The bytes behind the first word are no judgment's where its front is none,
 pub no_front : (t : List ℕ) → None ≡ front_of (words_of t) → IsTailOf t None
 no_front t e = λ j h k. none-some (front_in j, behind_front j) (e ∙ (ap (λ (x : List ℕ). front_of (words_of x)) k ∙ front_of-tail j h))

@@ -91,10 +91,6 @@ pub take_uses-words : (us : List ℕ) (ws : List (List ℕ)) → AreBelow (2 ^ 3
 take_uses-words [] ws h = refl
 take_uses-words (u ∷ us) ws h = rw (take_number-decimal (2 ^ 32) u (map decimal us ++ ws) (omega arith) h.0, take_uses-words us ws h.1) refl
 
--- the front and the words behind it, of a pair
-abbrev front_part : Front × List (List ℕ) → Front
-front_part p = p.0
-
 -- Bytes behind a judgment's first word whose front was read are those of this judgment's front, uses and value.
 pub uses_of_tail : (t : List ℕ) (j : PlainJudgment) (f : Front) (ws : List (List ℕ)) → JudgmentFits j → t ≡ judgment_tail j
     → front_of (words_of t) ≡ Some (f, ws)
