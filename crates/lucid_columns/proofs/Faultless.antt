@@ -1,5 +1,6 @@
 -- The names of columns have no fault.
-use Rattle.lucid_columns.proofs.Common.{◌≡◌, ℕ, zero, suc, ◌+◌, ◌<◌, length, List, [], ◌∷◌, ◌++◌, Some, None, refl, sym, arith, true≢false, All, IsTrue, slice_get, block, PlainDefs, definition, is_plain, over_space, All-nil, All-cons, All-append}
+use Rattle.lucid_columns.proofs.Common.{◌≡◌, ℕ, suc, ◌+◌, List, [], ◌∷◌, ◌++◌, Some, None, refl, sym, arith, true≢false, All, IsTrue, slice_get, block, PlainDefs, definition, is_plain, over_space, All-nil, All-cons, All-append}
+use Rattle.std.proofs.lemmas.Option.{slice_get_within}
 use Rattle.lucid_tree.specs.Env.{Found, plain_def}
 use Rattle.lucid_scope.specs.Scope.{Static, outermost, in_block, meaning, defined_in}
 use Rattle.lucid_scope.specs.Sites.{Site, named, sites, outside_sites, inside_sites, no_names}
@@ -35,11 +36,6 @@ module _ (ds : PlainDefs) where
       (All-append Faultless (sites (in_block ds outermost) (over_space base (suc j) k ns)) [] (names_faultless base (suc j) k ns (λ i m e. plain (suc i) m e))
       (All-nil Faultless))
 
-within : {A : Type 0} (xs : List A) (i : ℕ) (x : A) → slice_get xs i ≡ Some x → i < length xs
-within [] i x e = absurd (cc e)
-within (y ∷ ys) zero x e = omega arith
-within (y ∷ ys) (suc i) x e = omega (arith, within ys i x e)
-
 -- So a program with its columns side by side has none where the program has none.
 pub have_no_fault : ColumnsHaveNoFault
 have_no_fault e base [] columns none = none
@@ -49,6 +45,6 @@ have_no_fault (block at x ds) base (n ∷ ns) columns none =
     All-append Faultless (outside_sites outermost ds) (sites k (over_space base 0 n ns) ++ inside_sites k no_names ds)
     (all_left (outside_sites outermost ds) (sites k x ++ inside_sites k no_names ds) none)
     (All-append Faultless (sites k (over_space base 0 n ns)) (inside_sites k no_names ds)
-    (names_faultless ds base 0 n ns (λ i m e. columns i m (within (n ∷ ns) i m e) e))
+    (names_faultless ds base 0 n ns (λ i m e. columns i m (slice_get_within (n ∷ ns) i m e) e))
     (all_right (sites k x) (inside_sites k no_names ds) inner))
 have_no_fault _ base (n ∷ ns) columns none = none

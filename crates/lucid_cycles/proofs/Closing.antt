@@ -1,10 +1,12 @@
 -- The way back through the levels, to a name that comes again.
 use Rattle.lucid_cycles.proofs.Common.{◌≡◌, ◌≢◌, ℕ, zero, suc, ◌+◌, ◌-◌, ◌<◌, ◌≤◌, Bool, true, false, List, [], ◌∷◌, ◌++◌, length, get_or, take, drop, ◌⊎◌, inl, inr, Vec, refl, sym, ap, subst, ◌∙◌, arith, add-one, length-append, ℤ, pos, ◌+ℤ◌, Global, All, get_or_past, take-append-drop, length-replicate, All-nil, All-head, All-tail, nat_tests, cases_lt, some_left, In, AllDiffer, Edge, factor_of, edge, first_or, total, Closed, potential, IsDue, AreLevels, levels_of, eqb, ◌||◌, list_any, get_or-map, length-map, All-push, IsDistinct-from_apart, length-le_from_distinct_below}
+use Rattle.std.proofs.lemmas.Bool.{eqb-true}
+use Rattle.std.proofs.lemmas.List.{get_or_default}
 use Rattle.lucid_cycles.specs.Cycles.{Leads}
 use Rattle.lucid_cycles.specs.Rounds.{IsDueEdge}
 use Rattle.lucid_cycles.proofs.Sums.{by, not-positive}
 use Rattle.lucid_cycles.proofs.Levels.{next-rises}
-use Rattle.lucid_cycles.proofs.Lists.{in-at, same-item}
+use Rattle.lucid_cycles.proofs.Lists.{in-at}
 use Rattle.lucid_cycles.proofs.Raising.{edge-is}
 use Rattle.lucid_cycles.proofs.Trails.{Down, Trail, trail-more, trail-drop, trail-length, trail-leads, closed-sum, differ-right, differ-join}
 
@@ -92,15 +94,12 @@ differ-apart : (xs : List ℕ) → AllDiffer xs → (i j d : ℕ) → i < j → 
 differ-apart [] h i j d l m e = absurd (omega (arith, m))
 differ-apart (x ∷ xs) h zero zero d l m e = absurd (omega (arith, l))
 differ-apart (x ∷ xs) h zero (suc j) d l m e = h.0
-    (subst (λ y. In y xs) (sym e) (in-at xs j (get_or xs j d) (omega (arith, m)) (same-item xs j d (get_or xs j d) (omega (arith, m)))))
+    (subst (λ y. In y xs) (sym e) (in-at xs j (get_or xs j d) (omega (arith, m)) (get_or_default xs j d (get_or xs j d) (omega (arith, m)))))
 differ-apart (x ∷ xs) h (suc i) zero d l m e = absurd (omega (arith, l))
 differ-apart (x ∷ xs) h (suc i) (suc j) d l m e = differ-apart xs h.1 i j d (omega (arith, l)) (omega (arith, m)) e
 
-eqb-same : (x y : ℕ) → eqb x y ≡ true → x ≡ y
-eqb-same x y h = grind (arith, nat_tests)
-
 any-below-by : (n q x : ℕ) (xs : List ℕ) (b : Bool) → eqb q x ≡ b → x < n → (list_any (eqb q) xs ≡ true → q < n) → (b || list_any (eqb q) xs) ≡ true → q < n
-any-below-by n q x xs true e l f h = let s = eqb-same q x e in omega (arith, s, l)
+any-below-by n q x xs true e l f h = let s = eqb-true q x e in omega (arith, s, l)
 any-below-by n q x xs false e l f h = f h
 
 any-below : (n : ℕ) (xs : List ℕ) → All (λ x. x < n) xs → (q : ℕ) → list_any (eqb q) xs ≡ true → q < n

@@ -23,11 +23,6 @@ all-in P x [] i h = absurd i
 all-in P x (y ∷ ys) (inl e) h = subst P (sym e) (All-head P y ys h)
 all-in P x (y ∷ ys) (inr i) h = all-in P x ys i (All-tail P y ys h)
 
-pub same-item : {X : Type 0} (xs : List X) (i : ℕ) (d e : X) → i < length xs → get_or xs i d ≡ get_or xs i e
-same-item [] i d e h = absurd (omega (arith, h))
-same-item (x ∷ xs) zero d e h = refl
-same-item (x ∷ xs) (suc i) d e h = same-item xs i d e (omega (arith, h))
-
 pub in-at : {X : Type 0} (xs : List X) (i : ℕ) (x : X) → i < length xs → x ≡ get_or xs i x → In x xs
 in-at [] i x h e = absurd (omega (arith, h))
 in-at (y ∷ xs) zero x h e = inl e

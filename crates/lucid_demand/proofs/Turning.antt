@@ -1,7 +1,8 @@
 -- A policy's turn keeps what is true of a demand's loop, and leaves what a step asks for.
-use Rattle.lucid_demand.proofs.Common.{ℕ, List, [], ◌∷◌, Option, None, refl, sym, ap, ◌∙◌, subst, arith, IsTrue, IsSome, is_some, Value, PlainValue, plain, Elements, TaskRow, is_ready, Stored, World, PlainTask, DatonAt, plain_rows, EngineView, known_elements, holding, Demand, Owns, Waits, held_stays, answers_over, work_over, owns_drops, Evaluating, MayStep, Stepped, cost, MayTurn, IsTurned, DemandFault, lookup}
-use Rattle.std.proofs.Common.{◌≡◌, Some, length}
+use Rattle.lucid_demand.proofs.Common.{ℕ, List, [], Option, None, sym, ap, ◌∙◌, subst, arith, IsTrue, IsSome, is_some, Value, PlainValue, plain, Elements, TaskRow, is_ready, Stored, World, PlainTask, DatonAt, plain_rows, EngineView, known_elements, holding, Demand, Owns, Waits, held_stays, answers_over, work_over, owns_drops, Evaluating, MayStep, Stepped, cost, MayTurn, IsTurned, DemandFault, lookup}
+use Rattle.std.proofs.Common.{◌≡◌, Some}
 use Rattle.std.specs.Prelude.{option_map, Result}
+use Rattle.std.proofs.lemmas.List.{nil_from_length}
 use Rattle.lucid_tasks.specs.Rows.{row_at}
 use Rattle.lucid_store.specs.Entries.{count_of}
 use Rattle.lucid_retire.specs.Turns.{HoldsAtMost}
@@ -11,10 +12,6 @@ use Rattle.lucid_facts.specs.Demands.{Answers}
 use Rattle.lucid_facts.specs.Stock.{IsEmptied}
 use Rattle.lucid_facts.specs.Going.{WithinRoom}
 use Rattle.lucid_demand.proofs.Beginning.{stepped_from_less}
-
-no_entries : {A : Type 0} (es : List A) → length es ≡ 0 → es ≡ []
-no_entries [] e = refl
-no_entries (x ∷ es) e = absurd (cc)
 
 -- at most as many as the policy leaves are within its room, and few
 within_room : (r : Option ℕ) (w : Stored) → HoldsAtMost r w → WithinRoom r w
@@ -78,7 +75,7 @@ module _ (d : Demand) (now later : EngineView) (w : World) (owns : Owns d now w)
   -- and under a policy that empties nothing is held or noted.
   pub emptied_turn : IsEmptied d (holding later) later.noted
   emptied_turn = subst (λ (e : EngineView). IsEmptied d (holding e) later.noted) (sym t.only) (record {
-    nothing = λ e k s. ap (λ es. option_map (λ x. plain x.value) (lookup (is_key_of now.known k s) es)) (no_entries later.stored.entries (none_left e));
+    nothing = λ e k s. ap (λ es. option_map (λ x. plain x.value) (lookup (is_key_of now.known k s) es)) (nil_from_length later.stored.entries (none_left e));
     unnoted = λ e. t.unnoted (empties_now e);
   })
 

@@ -1,5 +1,6 @@
 -- A row's node is what the row says by all nodes of the table, where its parts are lower.
 use Rattle.lucid_equations.proofs.Common.{◌≡◌, ℕ, zero, suc, ◌+◌, ◌<◌, length, List, [], ◌∷◌, ◌++◌, get_or, slice_get, Some, refl, sym, ap, ◌∙◌, arith, length-append, subst, append-nil, PlainValue, PlainNode, node, Node, Const, NodeRow, NameRow, PlaceRow, no_node, at, all_at, parts, as_node, grow, actuals_of, EachBelow, NodeIsInRange, NodesAreInRange, EntryIsInRange, NamesAreInRange, PlacesAreInRange, append_assoc, get_or_append_left, get_or-append_seam}
+use Rattle.std.proofs.lemmas.Option.{slice_get-get_or}
 use Rattle.lucid_equations.specs.Ranges.{Sizes}
 
 -- the second list begins with the first
@@ -74,17 +75,11 @@ actual-below n [] i d h b = absurd (omega arith)
 actual-below n (x ∷ is) zero d h b = h.0
 actual-below n (x ∷ is) (suc i) d h b = actual-below n is i d h.1 (omega arith)
 
--- what a list has at an index within it
-pub get-at : {A : Type 0} (xs : List A) (i : ℕ) (d : A) → i < length xs → slice_get xs i ≡ Some (get_or xs i d)
-get-at [] i d h = absurd (omega arith)
-get-at (x ∷ xs) zero d h = refl
-get-at (x ∷ xs) (suc i) d h = get-at xs i d (omega arith)
-
 -- an actual of a call place is there
 pub actual-in_range : (z : Sizes) (rs ps : List PlaceRow) (q : ℕ) (r : PlaceRow) (js : List ℕ) (i d : ℕ) → PlacesAreInRange z rs → ps ≡ rs → q < length rs
     → r ≡ get_or ps q r → js ≡ r.actuals → i < length (actuals_of (slice_get rs q)) → get_or js i d < z.nodes
 actual-in_range z rs ps q r js i d h e k is a few =
     let here : get_or rs q r ≡ r = sym (is ∙ ap (λ l. get_or l q r) e) in
     let each : EachBelow z.nodes r.actuals = subst (λ x. EachBelow z.nodes x.actuals) here (place-in_range z rs q r h k) in
-    let length_is : i < length r.actuals = subst (λ o. i < length (actuals_of o)) (get-at rs q r k ∙ ap Some here) few in
+    let length_is : i < length r.actuals = subst (λ o. i < length (actuals_of o)) (slice_get-get_or rs q r k ∙ ap Some here) few in
     actual-below z.nodes js i d (subst (EachBelow z.nodes) (sym a) each) (subst (λ l. i < length l) (sym a) length_is)

@@ -2,6 +2,7 @@
 use Rattle.lucid_inputs.proofs.Common.{◌≡◌, ℕ, zero, suc, ◌<◌, ◌≤◌, false, List, [], ◌∷◌, length, map, Option, None, Some, Ok, MatchOption, IfSome, option_map, slice_set, inl, inr, refl, sym, ap, subst, ◌∙◌, arith, IsTrue, Result, AllPairs, length-map, same_Some, slice_get-set_same, Contents, Place, World, advanced, IsOverlong, stream_at, IsWithin, ReadsOn, FitsPlace, Stream, all_bytes, fresh_stream, IsRead, stream_of, ◌⊎◌, Err, IfErr, IsSomeAnd, OnOk, unwrap_or, slice_index_or, length-set, slice_get-map, slice_get_within, cases_eq}
 use Rattle.std.proofs.Common.{◌≢◌, Bool}
 use Rattle.std.specs.List.{slice_get}
+use Rattle.std.proofs.lemmas.Bool.{cases_order}
 use Rattle.lucid_lemmas.proofs.Lists.{slice_get-set_other}
 use Rattle.lucid_ports.specs.World.{IsFresh}
 use Rattle.lucid_inputs.specs.declared.fault.InputFault.{InputFault}
@@ -45,10 +46,6 @@ pub places-set : (streams : List InputStream) (i : ℕ) (s t : InputStream) → 
     → map place_of (slice_set streams i t) ≡ map place_of streams
 places-set streams i s t was same = map-set_same place_of streams i t s was same
 
--- no two streams are read from one place
-in_order : (a b : ℕ) → (a ≡ b) ⊎ ((a < b) ⊎ (b < a))
-in_order a b = grind arith
-
 apart_at : (streams : List InputStream) → AllPairs (λ a b. a ≢ b) (map place_of streams) → (i k : ℕ) → i < length streams → k < length streams
     → slice_index_or (map place_of streams) i 0 ≡ slice_index_or (map place_of streams) k 0 → (i ≡ k) ⊎ ((i < k) ⊎ (k < i)) → i ≡ k
 apart_at streams apart i k within inside same (inl e) = e
@@ -61,7 +58,7 @@ places_differ inputs i k within inside same =
     let long = length-map items stream_of in
     let here : i < length items = omega (arith, within, long) in
     let there : k < length items = omega (arith, inside, long) in
-    apart_at items inputs.apart i k here there (sym (place-at items i here) ∙ same ∙ place-at items k there) (in_order i k)
+    apart_at items inputs.apart i k here there (sym (place-at items i here) ∙ same ∙ place-at items k there) (cases_order i k)
 
 -- the bytes of a place stay while they are consumed
 told_bytes : (n : ℕ) (o : Option Contents) → option_map all_bytes (option_map (advanced n) o) ≡ option_map all_bytes o

@@ -1,5 +1,5 @@
 -- What one piece after another does to a stream that is read on.
-use Rattle.lucid_inputs.proofs.Common.{cond, ◌≡◌, ℕ, ◌+◌, ◌-◌, ◌<◌, ◌≤◌, true, false, List, [], ◌∷◌, ◌++◌, length, take, drop, Option, None, Some, IfSome, option_map, refl, sym, ap, subst, ◌∙◌, arith, append_assoc, add-one, le_refl, IsTrue, ◌==◌, StartsWith, concat, append-nil, length-append, sum_by-append, PlainValue, line_value_of, lines_of, Contents, World, advanced, Stream, Fits, FitsPlace, all_bytes, line_ends, ReadsOn, IsWithin, Step, step_bytes, Takes, takes_part, takes_line, last_element, line_with, with_end, with_line, with_part, max, not, take-append-drop}
+use Rattle.lucid_inputs.proofs.Common.{cond, ◌≡◌, ℕ, ◌+◌, ◌-◌, ◌<◌, ◌≤◌, true, false, List, [], ◌∷◌, ◌++◌, length, take, drop, Option, None, Some, IfSome, option_map, refl, sym, ap, subst, ◌∙◌, arith, append_assoc, add-one, le_refl, IsTrue, ◌==◌, StartsWith, concat, append-nil, length-append, sum_by-append, PlainValue, line_value_of, lines_of, Contents, World, advanced, Stream, Fits, FitsPlace, all_bytes, line_ends, ReadsOn, IsWithin, Step, step_bytes, Takes, takes_part, takes_line, last_element, line_with, with_end, with_line, with_part, max, take-append-drop}
 use Rattle.std.specs.Prelude.{Bool}
 use Rattle.lucid_value.specs.Lines.{end_of_line}
 use Rattle.lucid_ports.specs.World.{KeepsOthers}
@@ -226,8 +226,3 @@ pub step_smaller : (old new : Stream) (before after : Option Contents) (most : �
 step_smaller old new before after most d going less =
     let smaller = smaller_at new.ended new.consumed old.consumed d.taken most d.consumed d.gets_on.0 d.gets_on.1 less in
     rw going smaller
-
--- the end isn't met
-pub not_ended : (ended : Bool) → not ended ≡ true → ended ≡ false
-not_ended true no_end = cc
-not_ended false no_end = refl

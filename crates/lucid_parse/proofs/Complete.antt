@@ -1,6 +1,7 @@
 -- Terminals that spell a tree lead the machine over them, and_from it writes the tree.
-use Rattle.lucid_parse.proofs.Common.{◌≡◌, ℕ, ◌+◌, ◌≤◌, ◌<◌, List, [], ◌∷◌, ◌++◌, Option, Some, None, Bool, true, false, cond, option_and_then, refl, sym, ◌∙◌, ap, subst, arith, leb, zero-le, le_refl, leb-true, eq-eqb, ne_eqb, and_from, and_parts, nat_eq, PlainTree, PlainTrees, no_trees, tree, PlainDefs, no_defs, defines, defines_function, defines_current, count, Before, Between, Called, Defines, Frame, Item, Operator, PlainTerminal, PlacedTerminal, terminal_at, trees_and, def_before, defs_and, Parameter, names_of, places_of, Defined, Plain, Function, Current, Spells, SpellsArgs, SpellsDefs, SpellsNames, level_of, arity_of, left, right, operator_in, PlainFrame, PlainItem, PlainState, state, called_at, definition_in, takes, shift, inner_frames, inner_out, settle_at, settle, prefixed, begun, begin, step_named, step, feeds, finished, finish, written, written_parts, written_all, written_defs, with_parameters, le-leb, false_from_ne_true}
+use Rattle.lucid_parse.proofs.Common.{◌≡◌, ℕ, ◌+◌, ◌≤◌, ◌<◌, List, [], ◌∷◌, ◌++◌, Option, Some, None, true, false, option_and_then, refl, sym, ◌∙◌, ap, subst, arith, leb, zero-le, le_refl, leb-true, eq-eqb, ne_eqb, and_from, and_parts, nat_eq, PlainTree, PlainTrees, no_trees, tree, PlainDefs, no_defs, defines, defines_function, defines_current, count, Before, Between, Called, Defines, Frame, Item, Operator, PlainTerminal, PlacedTerminal, terminal_at, trees_and, def_before, defs_and, Parameter, names_of, places_of, Defined, Plain, Function, Current, Spells, SpellsArgs, SpellsDefs, SpellsNames, level_of, arity_of, left, right, operator_in, PlainFrame, PlainItem, PlainState, state, called_at, definition_in, takes, shift, inner_frames, inner_out, settle_at, settle, prefixed, begun, begin, step_named, step, feeds, finished, finish, written, written_parts, written_all, written_defs, with_parameters, le-leb, false_from_ne_true}
 use Rattle.std.specs.Prelude.{◌-◌}
+use Rattle.std.proofs.lemmas.Bool.{cond-false, cond-true}
 use Rattle.lucid_parse.specs.declared.terminal.Terminal.TheVariants as terminal
 use Rattle.lucid_parse.specs.declared.state.Defines.TheVariants as kind
 use Rattle.lucid_parse.specs.declared.state.Frame.TheVariants as frame
@@ -69,19 +70,13 @@ settle_between : (terminal : PlainTerminal) (operator : Operator) (at level allo
     → settle terminal at level allowed frames out ≡ shift operator at level allowed frames out
 settle_between terminal operator at level allowed frames out e = ap (λ o. settle_at o terminal at level allowed frames out) e
 
-chosen : {A : Type 0} (b : Bool) (x y : A) → b ≡ true → cond b x y ≡ x
-chosen b x y e = ap (λ c. cond c x y) e
-
-not_chosen : {A : Type 0} (b : Bool) (x y : A) → b ≡ false → cond b x y ≡ y
-not_chosen b x y e = ap (λ c. cond c x y) e
-
 -- an operator that may take its left operand does
 pub shift-takes : {N V : Type 0} (operator : Operator) (at level allowed : ℕ) (frames : List (Frame N)) (out : List (Item N V))
     → takes operator level allowed ≡ true
     → shift operator at level allowed frames out ≡ Some (state (focus.Await (right operator)) (frame.Operator operator at allowed ∷ frames) out)
-shift-takes operator at level allowed (frame.Operator waiting place outer ∷ frames) out e = chosen _ _ _ e
-shift-takes operator at level allowed [] out e = chosen _ _ _ e
-shift-takes operator at level allowed (f ∷ frames) out e = chosen _ _ _ e
+shift-takes operator at level allowed (frame.Operator waiting place outer ∷ frames) out e = cond-true _ _ _ e
+shift-takes operator at level allowed [] out e = cond-true _ _ _ e
+shift-takes operator at level allowed (f ∷ frames) out e = cond-true _ _ _ e
 
 -- a terminal that closes an operator's level closes the operator first
 shift_after_left : (operator following : Operator) (at place level allowed : ℕ) (frames : List PlainFrame) (out : List PlainItem)
@@ -89,14 +84,14 @@ shift_after_left : (operator following : Operator) (at place level allowed : ℕ
     → shift following at level (right operator) (frame.Operator operator place allowed ∷ frames) out ≡ shift following at (level_of operator) allowed frames
     (out ++ item.Operator operator place ∷ [])
 shift_after_left operator following at place level allowed frames out h =
-    not_chosen _ _ _ (not_taken following level (right operator) (apart operator following h))
+    cond-false _ _ _ (not_taken following level (right operator) (apart operator following h))
 
 shift_after_before : (t : PlainTerminal) (operator : Operator) (following : Operator) (at place level allowed : ℕ) (frames : List PlainFrame)
     (out : List PlainItem) → operator_in Before t ≡ Some operator → left following ≤ level_of operator
     → shift following at level (level_of operator) (frame.Operator operator place allowed ∷ frames) out ≡ shift following at (level_of operator) allowed frames
     (out ++ item.Operator operator place ∷ [])
 shift_after_before t operator following at place level allowed frames out is h =
-    not_chosen _ _ _ (not_taken following level (level_of operator) (apart_prefix t operator following is h))
+    cond-false _ _ _ (not_taken following level (level_of operator) (apart_prefix t operator following is h))
 
 settle_as_left : (o : Option Operator) (terminal : PlainTerminal) (operator : Operator) (at place level allowed : ℕ) (frames : List PlainFrame)
     (out : List PlainItem) → ClosesAs (level_of operator) o
@@ -159,7 +154,7 @@ begins_before : (terminal : PlainTerminal) (operator : Operator) (at allowed : �
     → operator_in Before terminal ≡ Some operator → allowed ≤ level_of operator
     → begin terminal at allowed frames out ≡ Some (state (focus.Await (level_of operator)) (frame.Operator operator at allowed ∷ frames) out)
 begins_before terminal operator at allowed frames out e h = begins terminal operator at allowed frames out e
-    ∙ chosen _ _ _ (le-leb allowed (level_of operator) h)
+    ∙ cond-true _ _ _ (le-leb allowed (level_of operator) h)
 
 pub written_parts-and : (out : List PlainItem) (ts : PlainTrees) (t : PlainTree) → written_parts out (trees_and ts t) ≡ written (written_parts out ts) t
 unfolding written
@@ -423,7 +418,7 @@ more_parts comma_at operator at allowed xs ys all y frames out fits a l =
             (state (focus.Await 0) (frame.Operands (called_at operator at allowed) (a.more - 1) ∷ frames) (written_parts out all)) _
             a.done.reads
             (a.done.next terminal.Comma comma_at tt
-            ∙ not_chosen (nat_eq a.more 0) None
+            ∙ cond-false (nat_eq a.more 0) None
             (Some (state (focus.Await 0) (frame.Operands (called_at operator at allowed) (a.more - 1) ∷ frames) (written_parts out all)))
             (not_zero a.more some))
             r.done.reads;
@@ -448,7 +443,7 @@ operated wanted allowed at open_at close_at word operator xs args frames out top
     (state (focus.Have 12 allowed) frames (written_parts out args ++ item.Operator operator at ∷ [])) _
     a.done.reads
     (a.done.next terminal.Close close_at tt
-    ∙ chosen (nat_eq a.more 0) (Some (state (focus.Have 12 allowed) frames (written_parts out args ++ item.Operator operator at ∷ []))) None
+    ∙ cond-true (nat_eq a.more 0) (Some (state (focus.Have 12 allowed) frames (written_parts out args ++ item.Operator operator at ∷ []))) None
     (is_zero a.more (omega (arith, a.counts, all))))
     refl)
 

@@ -1,6 +1,7 @@
 -- Each state of the machine means a part of a derivation, so what it accepts is spelled, and what it has read begins a program.
-use Rattle.lucid_parse.proofs.Common.{◌≡◌, ℕ, ◌+◌, ◌≤◌, List, [], ◌∷◌, ◌++◌, Option, Some, None, Bool, true, false, cond, option_and_then, ◌⊎◌, inl, inr, refl, sym, ◌∙◌, ap, subst, arith, leb, zero-le, le_refl, append_assoc, append-nil, leb-true, eqb-true, eqb-false, and_parts, nat_eq, PlainTree, PlainTrees, PlainDefs, count, Before, Between, Called, Defines, CalledOperator, Definition, Operator, PlainTerminal, PlacedTerminal, terminal_at, Parameter, Plain, Function, Current, Spells, SpellsArgs, SpellsDefs, SpellsNames, level_of, arity_of, left, right, operator_in, head, PlainFrame, PlainFocus, PlainItem, PlainState, state, called_at, definition_in, takes, shift, inner_frames, inner_out, after_frame, close, settle_at, settle, prefixed, begun, begin, step_named, step_heads, step_headed, step_frozen, step_names, step_listed, step_ready, step_opens, step_at, step, feeds, finished, if_empty, finish_at, finish, start, written, written_parts, written_all, written_defs, with_parameters, node, cond_some, same_Some}
+use Rattle.lucid_parse.proofs.Common.{◌≡◌, ℕ, ◌+◌, ◌≤◌, List, [], ◌∷◌, ◌++◌, Option, Some, None, Bool, true, false, cond, option_and_then, inl, inr, refl, sym, ◌∙◌, ap, subst, arith, leb, zero-le, le_refl, append_assoc, append-nil, leb-true, eqb-true, eqb-false, and_parts, nat_eq, PlainTree, PlainTrees, PlainDefs, count, Before, Between, Called, Defines, CalledOperator, Definition, Operator, PlainTerminal, PlacedTerminal, terminal_at, Parameter, Plain, Function, Current, Spells, SpellsArgs, SpellsDefs, SpellsNames, level_of, arity_of, left, right, operator_in, head, PlainFrame, PlainFocus, PlainItem, PlainState, state, called_at, definition_in, takes, shift, inner_frames, inner_out, after_frame, close, settle_at, settle, prefixed, begun, begin, step_named, step_heads, step_headed, step_frozen, step_names, step_listed, step_ready, step_opens, step_at, step, feeds, finished, if_empty, finish_at, finish, start, written, written_parts, written_all, written_defs, with_parameters, node, cond_some, same_Some}
 use Rattle.std.specs.Prelude.{◌-◌}
+use Rattle.std.proofs.lemmas.Bool.{cases_Bool}
 use Rattle.lucid_parse.specs.declared.terminal.Terminal.TheVariants as terminal
 use Rattle.lucid_parse.specs.declared.state.Defines.TheVariants as kind
 use Rattle.lucid_parse.specs.declared.state.Frame.TheVariants as frame
@@ -189,10 +190,6 @@ inner_has (frame.RightSide d this ∷ frames) level allowed out ts (has (in_curr
 inner_has (frame.RightSide d this ∷ frames) level allowed out ts (has (in_function open_at close_at equals_at c x e ns) h s) =
     inside (in_function open_at close_at equals_at c x e ns) (looser s 0 zero-le)
 
-tests : (b : Bool) → (b ≡ true) ⊎ (b ≡ false)
-tests true = inl refl
-tests false = inr refl
-
 to : {A : Type 0} {x y : A} (P : A → Type 0) → P x → x ≡ y → P y
 to P h e = subst P e h
 
@@ -212,7 +209,7 @@ taken_means : (operator : Operator) (terminal : PlainTerminal) (at level allowed
     → Has level allowed frames out ts → (other ≡ Some g → MeansAt g (ts ++ terminal_at terminal at ∷ []))
     → taken operator at level allowed frames out other ≡ Some g → MeansAt g (ts ++ terminal_at terminal at ∷ [])
 taken_means operator terminal at level allowed frames out ts other g is h otherwise e =
-    elim (tests (takes operator level allowed)) [
+    elim (cases_Bool (takes operator level allowed)) [
       | inl t ↦ subst (λ x. MeansAt x (ts ++ terminal_at terminal at ∷ []))
           (same_Some _ _ (sym (ap (λ c. cond c (Some (state (focus.Await (right operator)) (frame.Operator operator at allowed ∷ frames) out)) other) t) ∙ e))
           (takes_means operator terminal at level allowed frames out ts is t h)
@@ -414,7 +411,7 @@ prefixed_means : (o : Option Operator) (terminal : PlainTerminal) (at allowed : 
 prefixed_means None terminal at allowed frames out ts g is c e = cc
 prefixed_means (Some operator) terminal at allowed frames out ts g is c e =
     let into = Some (state (focus.Await (level_of operator)) (frame.Operator operator at allowed ∷ frames) out) in
-    elim (tests (leb allowed (level_of operator))) [
+    elim (cases_Bool (leb allowed (level_of operator))) [
       | inl t ↦ to (λ x. MeansAt x (ts ++ terminal_at terminal at ∷ []))
           (awaits (in_before {at = at} terminal operator is (leb-true allowed (level_of operator) t) c))
           (same_Some _ _ (sym (ap (λ b. cond b into None) t) ∙ e))

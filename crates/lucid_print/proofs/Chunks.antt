@@ -1,5 +1,6 @@
 -- Texts made of terminals, and how they join.
 use Rattle.lucid_print.proofs.Common.{◌≡◌, ℕ, List, [], ◌∷◌, ◌++◌, Bool, true, false, cond, ◌&&◌, ◌||◌, refl, sym, ◌∙◌, ap, append_assoc, append-nil, PlainTerminal}
+use Rattle.std.proofs.lemmas.Bool.{and_left}
 use Rattle.lucid_parse.specs.declared.terminal.Terminal.TheVariants as terminal
 use Rattle.lucid_print.proofs.Terminals.{terminal_text, is_open, is_closer, is_callable, gap, after, last, after-append, last-append, blank, none, blank_behind}
 use Rattle.lucid_print.proofs.Goods.{Good, AllGood, good_append}
@@ -55,13 +56,9 @@ behind-text f rest more xs e =
     ∙ sym (append_assoc (terminal_text f) (after f rest) (after (last f rest) more))
     ∙ ap (λ t. t ++ after (last f rest) more) e
 
-pub false_left : (a b : Bool) → a ≡ false → (a && b) ≡ false
-false_left true b h = cc
-false_left false b h = refl
-
 pub behind_plain : (l s : PlainTerminal) (more : List PlainTerminal) → is_open l ≡ false → is_open s ≡ false → is_closer s ≡ false
     → after l (s ∷ more) ≡ 32 ∷ (terminal_text s ++ after s more)
-behind_plain l s more o p c = ap (λ g. g ++ (terminal_text s ++ after s more)) (blank l s o c (false_left (is_open s) (is_callable l) p))
+behind_plain l s more o p c = ap (λ g. g ++ (terminal_text s ++ after s more)) (blank l s o c (and_left (is_open s) (is_callable l) p))
 
 pub behind_closer : (l s : PlainTerminal) (more : List PlainTerminal) → is_open l ≡ false → is_closer s ≡ true
     → after l (s ∷ more) ≡ terminal_text s ++ after s more

@@ -1,5 +1,6 @@
 -- The text of terminals: each terminal's own, and a blank between two or none.
 use Rattle.lucid_print.proofs.Common.{◌≡◌, ℕ, List, [], ◌∷◌, ◌++◌, Some, None, Bool, true, false, cond, ◌&&◌, ◌||◌, refl, sym, ◌∙◌, ap, append_assoc, codes, cond-true, cond-false, Before, Between, Called, Operator, Data, PlainTerminal, as_form, style}
+use Rattle.std.proofs.lemmas.Bool.{and_right}
 use Rattle.lucid_parse.specs.declared.terminal.Terminal.TheVariants as terminal
 use Rattle.lucid_ops.specs.declared.op.Op.TheVariants as op
 use Rattle.lucid_ops.specs.declared.op.Form.{Form}
@@ -148,10 +149,6 @@ pub last-append : (l : PlainTerminal) (a b : List PlainTerminal) → last l (a +
 last-append l [] b = refl
 last-append l (s ∷ a) b = last-append s a b
 
-false_and : (a b : Bool) → b ≡ false → (a && b) ≡ false
-false_and true b h = h
-false_and false b h = refl
-
 tight_is : (l s : PlainTerminal) (c : Bool) → is_open l ≡ false → is_closer s ≡ c → (is_open s && is_callable l) ≡ false → is_tight l s ≡ (c || false)
 tight_is l s c o e t = ap (λ b. b || (is_closer s || (is_open s && is_callable l))) o ∙ ap (λ b. b || (is_open s && is_callable l)) e ∙ ap (λ b. c || b) t
 
@@ -166,4 +163,4 @@ none l s o c =
 
 -- a blank where the first terminal is never called
 pub blank_behind : (l s : PlainTerminal) → is_open l ≡ false → is_callable l ≡ false → is_closer s ≡ false → gap l s ≡ 32 ∷ []
-blank_behind l s o n c = blank l s o c (false_and (is_open s) (is_callable l) n)
+blank_behind l s o n c = blank l s o c (and_right (is_open s) (is_callable l) n)

@@ -1,5 +1,5 @@
 -- Notes of a descent: what it notes are the marks of the sites.
-use Rattle.lucid_scope.proofs.Common.{◌≡◌, ℕ, suc, ◌<◌, List, [], ◌∷◌, ◌++◌, length, drop, get_or, map, append_assoc, None, ◌⊎◌, inl, inr, refl, sym, ap, ◌∙◌, drop-cons, ◌+◌, ◌≤◌, append-nil, drop_all, PlainTree, form, name, call, block, PlainTrees, no_trees, tree, PlainDefs, no_defs, defines, defines_function, defines_current, Found, plain_def, function_def, current_def, definition, param, count, Static, in_block, in_function, Meaning, meaning, defined_in, parameter_in, Site, sites, sites_in, inside_sites, outside_sites, again_if, also, no_names, repeats, Earlier, owner_of, definition_owner, parameter_owner, or_outer, look, mark, Owned, in_block_owned, in_function_owned, marks, marks_in, outside_marks, inside_marks, Owner, Mark, Walk, add-one, map-append, Result, Ok, Err, OnOk}
+use Rattle.lucid_scope.proofs.Common.{◌≡◌, ℕ, suc, ◌<◌, List, [], ◌∷◌, ◌++◌, length, drop, get_or, map, append_assoc, None, ◌⊎◌, inl, inr, refl, sym, ap, ◌∙◌, drop-cons, ◌+◌, ◌≤◌, append-nil, drop_all, PlainTree, form, name, call, block, PlainTrees, no_trees, tree, PlainDefs, no_defs, defines, defines_function, defines_current, Found, plain_def, function_def, current_def, definition, param, count, Static, in_block, in_function, Meaning, meaning, defined_in, parameter_in, Site, sites, sites_in, inside_sites, outside_sites, again_if, also, no_names, repeats, Earlier, owner_of, definition_owner, parameter_owner, or_outer, look, mark, Owned, in_block_owned, in_function_owned, marks, marks_in, outside_marks, inside_marks, Owner, Mark, Walk, add-one, map-append}
 use Rattle.std.proofs.Common.{Option, Some}
 use Rattle.lucid_tree.specs.Env.{absent}
 use Rattle.lucid_scope.specs.Sites.{called}
@@ -115,8 +115,3 @@ pub repeats-end : (xs : List (List ℕ)) (ats : List ℕ) (i : ℕ) (earlier : E
     → repeats earlier (drop i xs) (drop i ats) ≡ []
 repeats-end xs ats i earlier (inl h) = ap (λ l. repeats earlier l (drop i ats)) (drop_all i xs h)
 repeats-end xs ats i earlier (inr h) = ap (λ l. repeats earlier (drop i xs) l) (drop_all i ats h) ∙ no-places (drop i xs) earlier
-
--- what follows on success
-pub on_ok : {T E : Type 0} (r : Result T E) {P Q : Type 0} → (P → Q) → OnOk r P → OnOk r Q
-on_ok (Ok x) f h = f h
-on_ok (Err e) f h = tt

@@ -1,16 +1,13 @@
 -- Items of lists.
-use Rattle.lucid_tags.proofs.Common.{◌≡◌, ℕ, zero, suc, ◌⊎◌, inl, inr, Bool, true, false, not, if◌then◌else◌, List, length, refl, ap, subst, slice_get, list_any, ◌||◌}
+use Rattle.lucid_tags.proofs.Common.{◌≡◌, ℕ, zero, suc, ◌⊎◌, inl, inr, Bool, true, false, not, if◌then◌else◌, List, length, refl, ap, subst, slice_get, list_any}
 use Rattle.std.proofs.Common.{[], ◌∷◌, ◌++◌, Some}
-
-neither : (a b : Bool) → (a || b) ≡ false → (a ≡ false) × (b ≡ false)
-neither true b h = absurd (cc)
-neither false b h = (refl, h)
+use Rattle.std.proofs.lemmas.Bool.{or_parts}
 
 -- where no item passes, each fails
 pub fails-list_any : {X : Type 0} (test : X → Bool) (xs : List X) → list_any test xs ≡ false → (i : ℕ) (x : X) → slice_get xs i ≡ Some x → test x ≡ false
 fails-list_any test [] h i x at = absurd (cc)
-fails-list_any test (y ∷ xs) h zero x at = let p : y ≡ x = cc in subst (λ q. test q ≡ false) p (neither (test y) (list_any test xs) h).0
-fails-list_any test (y ∷ xs) h (suc i) x at = fails-list_any test xs (neither (test y) (list_any test xs) h).1 i x at
+fails-list_any test (y ∷ xs) h zero x at = let p : y ≡ x = cc in subst (λ q. test q ≡ false) p (or_parts (test y) (list_any test xs) h).0
+fails-list_any test (y ∷ xs) h (suc i) x at = fails-list_any test xs (or_parts (test y) (list_any test xs) h).1 i x at
 
 pub none_passes : (b : Bool) → true ≡ not b → b ≡ false
 none_passes true h = absurd (cc)

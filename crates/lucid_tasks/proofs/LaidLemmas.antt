@@ -1,6 +1,7 @@
 -- Rows as they lie in memory, after a change of one of them.
 use Rattle.lucid_tasks.proofs.Common.{◌≡◌, ◌≢◌, ℕ, zero, suc, ◌+◌, ◌-◌, ◌*◌, ◌^◌, ◌<◌, ◌≤◌, ◌==◌, ◌&&◌, true, false, cond, List, [], ◌∷◌, ◌++◌, length, get_or, set, Option, Some, None, IsSome, IfSome, ◌⊎◌, inl, inr, refl, sym, ap, subst, ◌∙◌, arith, true≢false, option_map, option_and_then, list_all, none-some, cases_eq, above_differs, Value, Part, Task, Key, Row, value_at, SetsOne, PartState, Idle, Asked, Got, TaskRow, row_at, state_at, got_of, got_value, emptied, taken, fresh, with_part, all_idle, is_free, is_ready, IsRow, SetsOnly, ChangesOnly, Values, part_number, laid_from, Trims, slice_get_within}
 use Rattle.std.specs.Prelude.{slice_get}
+use Rattle.std.proofs.lemmas.List.{length_push, length-set}
 use Rattle.lucid_lemmas.proofs.Lists.{slice_get-push_same}
 use Rattle.lucid_tasks.specs.Rows.{start}
 use Rattle.lucid_tasks.specs.Laid.{named, state, laid_state, three_of, laid_parent, laid_key, laid, laid_row, HasIdle, AreLaid, live_at, Shows}
@@ -62,11 +63,6 @@ get_set_other (r ∷ rows) zero row (suc q) ne = refl
 get_set_other (r ∷ rows) (suc slot) row zero ne = refl
 get_set_other (r ∷ rows) (suc slot) row (suc q) ne = get_set_other rows slot row q (λ e. ne (ap suc e))
 
-pub set_length : {X : Type 0} (rows : List X) (q : ℕ) (row : X) → length (set rows q row) ≡ length rows
-set_length [] q row = refl
-set_length (r ∷ rows) zero row = refl
-set_length (r ∷ rows) (suc q) row = ap suc (set_length rows q row)
-
 get_past : {X : Type 0} (rows : List X) → slice_get rows (length rows) ≡ None
 get_past [] = refl
 get_past (r ∷ rows) = get_past rows
@@ -76,10 +72,6 @@ get_push_other [] row zero ne = absurd (ne refl)
 get_push_other [] row (suc q) ne = refl
 get_push_other (r ∷ rows) row zero ne = refl
 get_push_other (r ∷ rows) row (suc q) ne = get_push_other rows row q (λ e. ne (ap suc e))
-
-push_length : {X : Type 0} (rows : List X) (row : X) → length (rows ++ row ∷ []) ≡ length rows + 1
-push_length [] row = refl
-push_length (r ∷ rows) row = let rest = push_length rows row in omega (arith, rest)
 
 -- ---- numbers of parts
 
@@ -249,7 +241,7 @@ module _ (rows : List Row) (values : Values) (l : AreLaid rows values) (slot i :
 
     pub asked_changes : ChangesOnly (laid_from values.0 0 rows) (laid_from values.0 0 (set rows slot asks)) slot (with_part i (Asked child))
     asked_changes = changes rows (set rows slot asks) values values l slot row asks at_slot live (get_set rows slot asks in_range) live
-        (λ q ne. get_set_other rows slot asks q ne) (set_length rows slot asks) (λ q k ne m. refl) (with_part i (Asked child))
+        (λ q ne. get_set_other rows slot asks q ne) (length-set rows slot asks) (λ q k ne m. refl) (with_part i (Asked child))
         (ap (λ (ps : List PartState). laid_parts ps) (three_set (laid_state values.0 slot row) (laid_state values.0 slot asks) i (Asked child) h
         (ap (λ w. state (named w) (value_at values.0 (part_number slot i))) (word_set row.asked i word within)
         ∙ ap (λ o. state o (value_at values.0 (part_number slot i))) names)
@@ -260,7 +252,7 @@ module _ (rows : List Row) (values : Values) (l : AreLaid rows values) (slot i :
 
     pub asked_laid : AreLaid (set rows slot asks) values
     asked_laid = stays_laid rows (set rows slot asks) values values l slot row asks at_slot live (get_set rows slot asks in_range) live
-        (λ q ne. get_set_other rows slot asks q ne) (set_length rows slot asks) (λ q k ne m. refl)
+        (λ q ne. get_set_other rows slot asks q ne) (length-set rows slot asks) (λ q k ne m. refl)
         (words_length row.asked i word ∙ three) (omega arith) keep
       where
         keep : (k : ℕ) → k < 3 → IsSome (value_at values.0 (part_number slot k)) → get_or (set row.asked i word) k 0 ≡ 0
@@ -276,7 +268,7 @@ module _ (rows : List Row) (values : Values) (l : AreLaid rows values) (slot i :
 
     pub given_changes : ChangesOnly (laid_from values.0 0 rows) (laid_from after.0 0 (set rows slot gets)) slot (with_part i (Got v))
     given_changes = changes rows (set rows slot gets) values after l slot row gets at_slot live (get_set rows slot gets in_range) live
-        (λ q ne. get_set_other rows slot gets q ne) (set_length rows slot gets) (set_elsewhere values.0 after.0 slot i h (Some v) sets) (with_part i (Got v))
+        (λ q ne. get_set_other rows slot gets q ne) (length-set rows slot gets) (set_elsewhere values.0 after.0 slot i h (Some v) sets) (with_part i (Got v))
         (ap (λ (ps : List PartState). laid_parts ps) (three_set (laid_state values.0 slot row) (laid_state after.0 slot gets) i (Got v) h
         (ap (λ w. state (named w) (value_at after.0 (part_number slot i))) (word_set row.asked i 0 within)
         ∙ ap (state None) (set_here values.0 after.0 slot i h (Some v) sets))
@@ -288,7 +280,7 @@ module _ (rows : List Row) (values : Values) (l : AreLaid rows values) (slot i :
 
     pub given_laid : AreLaid (set rows slot gets) after
     given_laid = stays_laid rows (set rows slot gets) values after l slot row gets at_slot live (get_set rows slot gets in_range) live
-        (λ q ne. get_set_other rows slot gets q ne) (set_length rows slot gets) (set_elsewhere values.0 after.0 slot i h (Some v) sets)
+        (λ q ne. get_set_other rows slot gets q ne) (length-set rows slot gets) (set_elsewhere values.0 after.0 slot i h (Some v) sets)
         (words_length row.asked i 0 ∙ three) room keep
       where
         keep : (k : ℕ) → k < 3 → IsSome (value_at after.0 (part_number slot k)) → get_or (set row.asked i 0) k 0 ≡ 0
@@ -338,12 +330,12 @@ module _ (rows : List Row) (values : Values) (l : AreLaid rows values) (slot : �
       → ChangesOnly (laid_from values.0 0 rows) (laid_from values.0 0 (set rows slot changed)) slot change
   words_changes change is = changes rows (set rows slot changed) values values l slot row changed at_slot live
       (get_set rows slot changed (slice_get_within rows slot row at_slot)) (still ∙ live)
-      (λ q ne. get_set_other rows slot changed q ne) (set_length rows slot changed) (λ q k ne m. refl) change is
+      (λ q ne. get_set_other rows slot changed q ne) (length-set rows slot changed) (λ q k ne m. refl) change is
 
   pub words_laid : AreLaid (set rows slot changed) values
   words_laid = stays_laid rows (set rows slot changed) values values l slot row changed at_slot live
       (get_set rows slot changed (slice_get_within rows slot row at_slot)) (still ∙ live)
-      (λ q ne. get_set_other rows slot changed q ne) (set_length rows slot changed) (λ q k ne m. refl)
+      (λ q ne. get_set_other rows slot changed q ne) (length-set rows slot changed) (λ q k ne m. refl)
       (ap length words ∙ l.three slot row at_slot) (omega arith)
       (λ k m some. ap (λ (asked : List ℕ). get_or asked k 0) words ∙ idle_word rows values l slot row at_slot live k m some)
 
@@ -387,8 +379,8 @@ module _ (rows : List Row) (values after : Values) (l : AreLaid rows values) (sa
   added_laid room small = record {
     owned = λ s i h some. owned_case s i h (subst (λ vs. IsSome (value_at vs (part_number s i))) same_values some) (cases_eq s (length rows));
     three = λ s r e. three_case s r e (cases_eq s (length rows));
-    room = let len = push_length rows row in omega (arith, room, len);
-    words = subst (λ n. n < 2 ^ 32) (sym (push_length rows row)) small;
+    room = let len = length_push rows row in omega (arith, room, len);
+    words = subst (λ n. n < 2 ^ 32) (sym (length_push rows row)) small;
   }
     where
       owned_case : (s i : ℕ) → i < 3 → IsSome (value_at values.0 (part_number s i)) → (s ≡ length rows) ⊎ (s ≡ length rows → ⊥) → HasIdle (rows ++ row ∷ []) s i
@@ -425,12 +417,12 @@ module _ (rows new : List Row) (values : Values) (l : AreLaid rows values) (slot
   ended_laid = record {
     owned = λ s i h some. owned_case s i h some (cases_eq s slot);
     three = λ s r e. three_case s r (trims.same s r e) (cases_eq s slot);
-    room = let had = l.room in let less = trims.shorter in let len = set_length rows slot ended in omega (arith, had, less, len);
+    room = let had = l.room in let less = trims.shorter in let len = length-set rows slot ended in omega (arith, had, less, len);
     words = shorter l.words;
   }
     where
       shorter : length rows < 2 ^ 32 → length new < 2 ^ 32
-      shorter h = let less = trims.shorter in let len = set_length rows slot ended in omega (arith, h, less, len)
+      shorter h = let less = trims.shorter in let len = length-set rows slot ended in omega (arith, h, less, len)
 
       owned_case : (s i : ℕ) → i < 3 → IsSome (value_at values.0 (part_number s i)) → (s ≡ slot) ⊎ (s ≡ slot → ⊥) → HasIdle new s i
       owned_case s i h some (inl e) = absurd (true≢false (sym (subst IsSome (ap (λ n. value_at values.0 (part_number n i)) e ∙ empty i h) some)))
@@ -529,7 +521,7 @@ module _ (initial rest : List Row) (row : Row) (dead : row.live ≡ false) (t : 
   dropped = record {
     live = λ slot. live_left slot ∙ t.live slot;
     same = λ slot r e. let below = slice_get_within rest slot r e in t.same slot r (get_push_other rest row slot (λ is. omega (arith, below, is)) ∙ e);
-    shorter = let less = t.shorter in let len = push_length rest row in omega (arith, less, len);
+    shorter = let less = t.shorter in let len = length_push rest row in omega (arith, less, len);
   }
 
 pub named_next : (word slot : ℕ) → word ≡ slot + 1 → named word ≡ Some slot

@@ -1,6 +1,7 @@
 -- Which bytes words and lines don't have: no word of letters and digits has a blank (32), and no line of words without line ends (10) has one.
 -- Where bytes are cut at a byte.
-use Rattle.lucid_texts.proofs.Common.{◌≡◌, ℕ, ◌<◌, ◌≤◌, ◌^◌, Bool, true, false, ◌&&◌, List, [], ◌∷◌, ◌++◌, refl, sym, ap, ◌∙◌, arith, decimal, is_ascii_alphanumeric, AllByRecursion, list_all, join_with_byte, and_parts, ne_eqb, decimal_is_IsNumeral, HasNone, Lacks, map, IsInRange, AllDigits, eqb-false, le-leb, All-from_recursion, digit_from_value}
+use Rattle.lucid_texts.proofs.Common.{◌≡◌, ℕ, ◌<◌, ◌≤◌, ◌^◌, Bool, true, false, List, [], ◌∷◌, ◌++◌, refl, sym, ap, ◌∙◌, arith, decimal, is_ascii_alphanumeric, AllByRecursion, list_all, join_with_byte, and_parts, ne_eqb, decimal_is_IsNumeral, HasNone, Lacks, map, IsInRange, AllDigits, eqb-false, le-leb, All-from_recursion, digit_from_value}
+use Rattle.std.proofs.lemmas.Bool.{and_from}
 use Rattle.lucid_texts.specs.Words.{AreBelow}
 
 pub has_none : (c : ℕ) (bs : List ℕ) → Lacks c bs → HasNone c bs
@@ -39,11 +40,6 @@ pub all_solid_lack : (c : ℕ) → is_ascii_alphanumeric c ≡ false → (ws : L
 all_solid_lack c f [] h = tt
 all_solid_lack c f (w ∷ ws) h = (solid_lacks c f w h.0, all_solid_lack c f ws h.1)
 
-and_true : (a b : Bool) → a ≡ true → b ≡ true → (a && b) ≡ true
-and_true true true h k = refl
-and_true true false h k = absurd (cc)
-and_true false b h k = absurd (cc)
-
 digit_solid : (d : ℕ) → IsInRange 48 57 d → is_ascii_alphanumeric d ≡ true
 digit_solid d r = rw (le-leb 48 d r.0, le-leb d 57 r.1) refl
 
@@ -51,7 +47,7 @@ digits_solid : (ds : List ℕ) → AllDigits 10 ds → IsSolid ds
 digits_solid [] h = refl
 digits_solid (d ∷ ds) h =
     let r = digit_from_value d h.0 in
-    and_true (is_ascii_alphanumeric d) (list_all is_ascii_alphanumeric ds) (digit_solid d r) (digits_solid ds h.1)
+    and_from (is_ascii_alphanumeric d) (list_all is_ascii_alphanumeric ds) (digit_solid d r) (digits_solid ds h.1)
 
 -- the digits of a number are such a word
 pub decimal_solid : (n : ℕ) → n < 2 ^ 64 → IsSolid (decimal n)

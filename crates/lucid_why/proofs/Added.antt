@@ -1,7 +1,8 @@
 -- What is said of a line that is added to those of a text, or can't come.
 use Rattle.lucid_why.proofs.Common.{◌≡◌, ℕ, zero, suc, ◌<◌, Bool, true, false, List, [], ◌∷◌, ◌++◌, map, length, refl, sym, ap, ◌∙◌, subst, arith, AllByRecursion, append-nil, CanGoOn, CannotGoOn, OneValue, PlainJudgment, plain_judgment, WhyRow, context_row, judgment_row, why_rows, row_line, why_lines, RowFits, HasText, AreWhyLines, why_of, lines_in, AllFit, ContextRow, JudgmentRow, Why, all-append, ◌↔◌, not, ◌==◌, eqb-true, eqb-false, length-map}
+use Rattle.std.proofs.lemmas.List.{map-append}
 use Rattle.lucid_why.specs.declared.read.WhyLines.{WhyLines}
-use Rattle.lucid_why.proofs.OneText.{map-append, rows-push, begun_goes_on, no_context_here, is_whole}
+use Rattle.lucid_why.proofs.OneText.{rows-push, begun_goes_on, no_context_here, is_whole}
 
 -- the lines of the second are those of the first and this one, and a text goes on with them
 abbrev pub Adds : (v w : Why) → (line : List ℕ) → Type 0

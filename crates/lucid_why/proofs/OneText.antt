@@ -1,5 +1,6 @@
 -- Lines that begin a text, and what goes on with them; a text is one certificate's.
 use Rattle.lucid_why.proofs.Common.{◌≡◌, ℕ, ◌<◌, List, [], ◌∷◌, ◌++◌, map, length, None, refl, sym, ap, ◌∙◌, subst, arith, append_assoc, length-append, codes, decimal, AllByRecursion, value_text, Lacks, text_of, CanGoOn, CannotGoOn, OneValue, solid_lacks, decimal_solid, PlainJudgment, WhyRow, context_row, judgment_row, judgment_numbers, why_rows, row_head, row_rest, row_line, why_lines, RowFits, HasText, AreWhyLines, IsTextOf, IsRowOf, ContextRow, Call, Frozen, Why, all-append, pos}
+use Rattle.std.proofs.lemmas.List.{map-append}
 use Rattle.lucid_value.specs.Plain.{int}
 use Rattle.lucid_texts.specs.TextLines.{IsLine}
 use Rattle.lucid_texts.proofs.Bytes.{all_solid_lack, join_lacks}
@@ -8,10 +9,6 @@ use Rattle.lucid_texts.proofs.TextsRead.{text_lines}
 use Rattle.lucid_why.specs.Laws.{OneWhy}
 use Rattle.lucid_why.proofs.RowsGiven.{row_tail, line_parts, numbers_solid}
 use Rattle.lucid_why.proofs.RowLemmas.{one_row}
-
-pub map-append : {A B : Type 0} (f : A → B) (xs ys : List A) → map f (xs ++ ys) ≡ map f xs ++ map f ys
-map-append f [] ys = refl
-map-append f (x ∷ xs) ys = ap (λ (zs : List _). f x ∷ zs) (map-append f xs ys)
 
 -- no word of a row's line has a line end
 words_lack : (r : WhyRow) → RowFits r → AllByRecursion (Lacks 10) (row_head r ∷ row_rest r)

@@ -1,8 +1,9 @@
 use Rattle.lucid_compile.proofs.Common.{◌≡◌, ◌+◌, length, [], ◌∷◌, ◌++◌, drop, sym, ap, ◌∙◌, subst, arith, block, nodes_in_defs, operands, Freeze, ScopeRow, Here, lists, OneScope, linked, AddsTree, AddsTrees, AddsDefs, rules, tree_of, Block, Frozen}
 use Rattle.std.proofs.lemmas.List.{append-nil}
+use Rattle.std.proofs.lemmas.Result.{on_ok_weaker}
 use Rattle.lucid_tree.specs.Size.{nodes_in}
 use Rattle.lucid_compile.specs.declared.building.Rows.{Rows}
-use Rattle.lucid_compile.proofs.Adding.{if_ok, on_then, not-both, no_trees-added, tree-then, no_defs-added, defs-then, right-added, frozen-opened, open-added}
+use Rattle.lucid_compile.proofs.Adding.{if_ok, not-both, no_trees-added, tree-then, no_defs-added, defs-then, right-added, frozen-opened, open-added}
 use Rattle.lucid_compile.proofs.LinkedRows.{scope-linked, node-linked}
 use Rattle.lucid_compile.proofs.Waiting.{none-waits, all-before, one-waits, before-kept, still-within}
 use Rattle.lucid_compile.proofs.compiler.+compile.Goals.{add_block-then-frozen+in_ok-inside, add_block-else-frozen}
@@ -42,7 +43,7 @@ add_operands-loop-part-preserved t c =
 
 pub add_operands-returns : goal.add_operands-returns
 add_operands-returns t c = record {
-  waiting = on_then c.add_node.result (λ e. e ∙ c.loop-part.invariant.4) c.add_node.ensures.waiting;
+  waiting = on_ok_weaker c.add_node.result (λ e. e ∙ c.loop-part.invariant.4) c.add_node.ensures.waiting;
   adds = if_ok c.add_node.result _ _ c.add_node.ensures.adds (λ id s w.
       s w (linked w c.args.rows.now) (subst (AddsTrees w (linked w c.args.rows.now) (linked w c.loop-part.rows) c.args.here (operands c.args.tree.now))
       (append-nil (drop c.len-before.result c.loop-part.ids.items))

@@ -1,10 +1,11 @@
 use Rattle.lucid_cycles.proofs.Common.{refl, subst, All, take_all, All-more, Edge, edge, Makes}
-use Rattle.lucid_cycles.proofs.Lists.{all-in, in-at, same-item}
+use Rattle.std.proofs.lemmas.List.{get_or_default}
+use Rattle.lucid_cycles.proofs.Lists.{all-in, in-at}
 use Rattle.lucid_cycles.proofs.cycle.due.Goals as goal
 
 pub returns-then-makes : goal.returns-then-makes
 returns-then-makes c = record {
-  stands = in-at c.args.edges.now c.loop-edge.edge-index _ c.loop-edge-test.true (same-item c.args.edges.now c.loop-edge.edge-index _ _ c.loop-edge-test.true);
+  stands = in-at c.args.edges.now c.loop-edge.edge-index _ c.loop-edge-test.true (get_or_default c.args.edges.now c.loop-edge.edge-index _ _ c.loop-edge-test.true);
   makes = c.makes.ensures.0 c.if-makes.true;
 }
 

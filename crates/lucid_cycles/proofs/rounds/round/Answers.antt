@@ -1,5 +1,5 @@
 use Rattle.lucid_cycles.proofs.Common.{take_all}
-use Rattle.lucid_cycles.proofs.Lists.{same-item}
+use Rattle.std.proofs.lemmas.List.{get_or_default}
 use Rattle.lucid_cycles.proofs.Raising.{rounding-more, rounding-end}
 use Rattle.lucid_cycles.proofs.rounds.round.Goals as goal
 
@@ -7,7 +7,7 @@ pub loop-edge-preserved : goal.loop-edge-preserved
 loop-edge-preserved c =
     rounding-more c.args.edges.now c.args.factor c.args.before.now c.loop-edge.after.items c.raise.new.after.items c.loop-edge.edge-index _
     c.loop-edge-test.true
-    (same-item c.args.edges.now c.loop-edge.edge-index _ _ c.loop-edge-test.true) c.loop-edge.invariant c.raise.ensures
+    (get_or_default c.args.edges.now c.loop-edge.edge-index _ _ c.loop-edge-test.true) c.loop-edge.invariant c.raise.ensures
 
 pub returns : goal.returns
 returns c =

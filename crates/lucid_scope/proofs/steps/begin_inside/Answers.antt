@@ -1,5 +1,6 @@
 use Rattle.lucid_scope.proofs.Common.{◌++◌, map, refl, ap, sym, ◌∙◌, arith, look, repeats, no_names, mark, marks, inner_marks, in_function_owned, pending, inner_work, work_left}
-use Rattle.lucid_scope.proofs.Noting.{noted-then, on_ok}
+use Rattle.std.proofs.lemmas.Result.{on_ok_weaker}
+use Rattle.lucid_scope.proofs.Noting.{noted-then}
 use Rattle.lucid_scope.proofs.Stepping.{in-two, entered}
 use Rattle.lucid_scope.proofs.steps.begin_inside.Goals as goal
 
@@ -7,11 +8,11 @@ pub returns-in-Plain-clause-told : goal.returns-in-Plain-clause-told
 returns-in-Plain-clause-told c =
     let w = c.args.walk.now in
     let f = look w.table in
-    on_ok c.begin.result (λ b. b ∙ ap (λ k. w.marks.items ++ (inner_marks f c.args.def.now.at k ++ pending f c.args.steps.now)) (sym c.in-Plain.is))
+    on_ok_weaker c.begin.result (λ b. b ∙ ap (λ k. w.marks.items ++ (inner_marks f c.args.def.now.at k ++ pending f c.args.steps.now)) (sym c.in-Plain.is))
     c.begin.ensures.told
 
 pub returns-in-Plain-clause-work : goal.returns-in-Plain-clause-work
-returns-in-Plain-clause-work c = on_ok c.begin.result (λ b. omega (arith, b, ap inner_work c.in-Plain.is)) c.begin.ensures.work
+returns-in-Plain-clause-work c = on_ok_weaker c.begin.result (λ b. omega (arith, b, ap inner_work c.in-Plain.is)) c.begin.ensures.work
 
 pub returns-in_ok-push-in-Function-clause-told : goal.returns-in_ok-push-in-Function-clause-told
 returns-in_ok-push-in-Function-clause-told c =
@@ -25,7 +26,7 @@ returns-in_ok-push-in-Function-clause-told c =
     let e = c.in-Function.right in
     let st = c.args.steps.now in
     let again = map mark (repeats no_names ps c.in-Function.places) in
-    on_ok c.begin-in-Function.result
+    on_ok_weaker c.begin-in-Function.result
     (λ b.
     b ∙ ap (λ s. w.marks.items ++ (marks g e ++ pending g s)) c.in_ok-push-in-Function.ensures
     ∙ entered w.marks.items e st c.in_ok-saved-in-Function.saved.items h g (in_function_owned at ps h) c.in_ok-saved-in-Function.ensures.enters
@@ -37,5 +38,5 @@ returns-in_ok-push-in-Function-clause-told c =
 
 pub returns-in_ok-push-in-Function-clause-work : goal.returns-in_ok-push-in-Function-clause-work
 returns-in_ok-push-in-Function-clause-work c =
-    on_ok c.begin-in-Function.result (λ b. omega (arith, b, ap work_left c.in_ok-push-in-Function.ensures, ap inner_work c.in-Function.is))
+    on_ok_weaker c.begin-in-Function.result (λ b. omega (arith, b, ap work_left c.in_ok-push-in-Function.ensures, ap inner_work c.in-Function.is))
     c.begin-in-Function.ensures.work

@@ -1,6 +1,6 @@
 use Rattle.lucid_scope.proofs.Common.{◌∷◌, ◌++◌, ap, ◌∙◌, arith, look, put_back, marks, inside_marks, is_seen, pending, work_inside, work_left, is_some}
+use Rattle.std.proofs.lemmas.Result.{on_ok_weaker}
 use Rattle.lucid_scope.specs.declared.steps.Step.TheVariants.{Inside}
-use Rattle.lucid_scope.proofs.Noting.{on_ok}
 use Rattle.lucid_scope.proofs.Stepping.{opened}
 use Rattle.lucid_scope.proofs.steps.open.Goals as goal
 
@@ -13,7 +13,7 @@ returns-clause-told c =
     let st = c.args.steps.now in
     let seen = c.make-seen.result in
     let saved = c.in_ok-saved.saved.items in
-    on_ok c.begin.result
+    on_ok_weaker c.begin.result
     (λ b.
     b ∙ ap (λ s. w.marks.items ++ (marks g e ++ pending g s))
     (c.in_ok-push-2.ensures ∙ ap (λ s. Inside c.definitions-defs.result seen ∷ s) c.in_ok-push.ensures)
@@ -24,6 +24,6 @@ returns-clause-told c =
 
 pub returns-clause-work : goal.returns-clause-work
 returns-clause-work c =
-    on_ok c.begin.result
+    on_ok_weaker c.begin.result
     (λ b. omega (arith, b, ap work_left c.in_ok-push-2.ensures, ap work_left c.in_ok-push.ensures, ap work_inside c.definitions-defs.ensures))
     c.begin.ensures.work

@@ -1,5 +1,6 @@
 use Rattle.lucid_scope.proofs.Common.{◌++◌, map, ap, ◌∙◌, arith, look, again_if, mark, inner_marks, inside_marks, is_seen, pending, work_left}
-use Rattle.lucid_scope.proofs.Noting.{noted-then, on_ok}
+use Rattle.std.proofs.lemmas.Result.{on_ok_weaker}
+use Rattle.lucid_scope.proofs.Noting.{noted-then}
 use Rattle.lucid_scope.proofs.Stepping.{in-three, inside-next, inside-falls}
 use Rattle.lucid_scope.proofs.steps.take_inside.Goals as goal
 
@@ -14,7 +15,7 @@ returns-in_ok-push-in-Some-clause-told c =
     let before = is_seen c.args.seen in
     let after = is_seen c.note_repeat.new.seen in
     let again = map mark (again_if (before d.name) d.at) in
-    on_ok c.begin_inside.result
+    on_ok_weaker c.begin_inside.result
     (λ b.
     b ∙ ap (λ s. w.marks.items ++ (inner_marks (look w.table) d.at d.kind ++ pending (look w.table) s)) c.in_ok-push-in-Some.ensures
     ∙ noted-then v w again (λ x. inner_marks x d.at d.kind ++ (inside_marks x after es ++ pending x st)) c.in_ok-note_repeat-in-Some.ensures.noted
@@ -24,6 +25,6 @@ returns-in_ok-push-in-Some-clause-told c =
 
 pub returns-in_ok-push-in-Some-clause-work : goal.returns-in_ok-push-in-Some-clause-work
 returns-in_ok-push-in-Some-clause-work c =
-    on_ok c.begin_inside.result
+    on_ok_weaker c.begin_inside.result
     (λ b. omega (arith, b, ap work_left c.in_ok-push-in-Some.ensures, inside-falls c.in-Some.def.now c.args.defs c.next.new.self c.in-Some.ensures.steps))
     c.begin_inside.ensures.work

@@ -1,5 +1,5 @@
 use Rattle.lucid_scope.proofs.Common.{◌++◌, ap, ◌∙◌, arith, look, marks, marks_in, pending, work_in, work_left}
-use Rattle.lucid_scope.proofs.Noting.{on_ok}
+use Rattle.std.proofs.lemmas.Result.{on_ok_weaker}
 use Rattle.lucid_scope.proofs.Stepping.{in-two}
 use Rattle.lucid_scope.proofs.steps.take_part.Goals as goal
 
@@ -8,7 +8,7 @@ returns-in_ok-push-in-Some-clause-told c =
     let w = c.args.walk.now in
     let f = look w.table in
     let e = c.in-Some.part.now in
-    on_ok c.begin.result
+    on_ok_weaker c.begin.result
     (λ b.
     b ∙ ap (λ s. w.marks.items ++ (marks f e ++ pending f s)) c.in_ok-push-in-Some.ensures
     ∙ in-two w.marks.items (marks f e) (marks_in f c.next.new.self) (pending f c.args.steps.now) (marks_in f c.args.parts)
@@ -17,4 +17,4 @@ returns-in_ok-push-in-Some-clause-told c =
 
 pub returns-in_ok-push-in-Some-clause-work : goal.returns-in_ok-push-in-Some-clause-work
 returns-in_ok-push-in-Some-clause-work c =
-    on_ok c.begin.result (λ b. omega (arith, b, ap work_left c.in_ok-push-in-Some.ensures, ap work_in c.in-Some.ensures.steps)) c.begin.ensures.work
+    on_ok_weaker c.begin.result (λ b. omega (arith, b, ap work_left c.in_ok-push-in-Some.ensures, ap work_in c.in-Some.ensures.steps)) c.begin.ensures.work

@@ -1,5 +1,6 @@
 use Rattle.lucid_inputs.proofs.Common.{◌≡◌, false, refl, rules, arith, length-map, element_of}
-use Rattle.lucid_inputs.proofs.StepLemmas.{reads_none, reads_further, step_done, step_smaller, step_within, not_ended}
+use Rattle.std.proofs.lemmas.Bool.{not-true}
+use Rattle.lucid_inputs.proofs.StepLemmas.{reads_none, reads_further, step_done, step_smaller, step_within}
 use Rattle.lucid_inputs.proofs.stream.InputStream.read_on.Goals as goal
 
 pub pieces-init : goal.pieces-init
@@ -7,7 +8,7 @@ pieces-init g c = record { on = reads_none _ _ _ c.requires.fits; faults = refl;
 
 pub pieces-preserved : goal.pieces-preserved
 pieces-preserved g c =
-    let going : c.pieces.self.ended ≡ false = first_of (cc (c.pieces-test.true), grind (arith, not_ended, c.pieces-test.true)) in
+    let going : c.pieces.self.ended ≡ false = first_of (cc (c.pieces-test.true), grind (arith, not-true, c.pieces-test.true)) in
     let done = step_done _ _ _ _ going c.in_ok-read_piece.ensures.ok in
     let few = length-map c.pieces.self.elements.items element_of in
     record {
@@ -19,6 +20,6 @@ pieces-preserved g c =
 
 pub pieces-smaller : goal.pieces-smaller
 pieces-smaller g c =
-    let going : c.pieces.self.ended ≡ false = first_of (cc (c.pieces-test.true), grind (arith, not_ended, c.pieces-test.true)) in
+    let going : c.pieces.self.ended ≡ false = first_of (cc (c.pieces-test.true), grind (arith, not-true, c.pieces-test.true)) in
     let done = step_done _ _ _ _ going c.in_ok-read_piece.ensures.ok in
     step_smaller _ _ _ _ _ done going c.if-self-most.true
