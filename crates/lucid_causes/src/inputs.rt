@@ -2,6 +2,7 @@
 ghost use Rattle.std.specs.Prelude.{◌≡◌, ◌-◌, ◌+◌, ◌≤◌, ◌∷◌, ◌++◌, ◌↔◌, List, length, find, min, Contains, Some, ℕ, ◌<◌, IfOk, IfSome, IfNone, IsTrue, OnOk};
 ghost use Rattle.std.specs.Option.{option_copied, option_to_list};
 ghost use Rattle.std.specs.List.{slice_get, flat_map};
+ghost use Rattle.lucid_scan.specs.Refusals.{most_source_bytes};
 ghost use Rattle.lucid_scope.specs.Scoped.{scoped_tree, scoped_inputs};
 ghost use Rattle.lucid_explanations.specs.Accepted.{IsProgram};
 ghost use Rattle.lucid_causes.specs.declared.inputs.Lacking.{Lacking as Told};
@@ -203,7 +204,7 @@ pub(crate) fn all_lacking<'a>(
     end: u32,
     given: &[Name],
 ) -> Result<Vec<Lacking<'a>>, AllocError>
-    requires { length (scoped_inputs scoped.now) ≤ 1048576 }
+    requires { length (scoped_inputs scoped.now) ≤ most_source_bytes }
     ensures { IfOk result (λ those. AreLacking scoped.entry.now given.now end those.items) }
 {
     let mut those = Vec::new(alloc);
@@ -223,7 +224,7 @@ pub(crate) fn put_near(
     source: &[u8],
     near: Option<&Def>,
 ) -> Result<(), AllocError>
-    requires { length source.now ≤ 1048576 }
+    requires { length source.now ≤ most_source_bytes }
     ensures { OnOk result (text.new.items ≡ text.old.items ++ near_text source.now near.entry) }
 {
     match near {
@@ -237,7 +238,7 @@ pub(crate) fn put_near(
 
 // Appends the name of an input, and where it stands first.
 fn put_stands(text: &mut Vec<u8>, source: &[u8], name: &Name, at: u32) -> Result<(), AllocError>
-    requires { length source.now ≤ 1048576 }
+    requires { length source.now ≤ most_source_bytes }
     ensures { OnOk result (text.new.items ≡ text.old.items ++ (name_text name.now ++ first_text source.now (min (length source.now) at))) }
 {
     put_name(text, name.bytes())?;
@@ -247,7 +248,7 @@ fn put_stands(text: &mut Vec<u8>, source: &[u8], name: &Name, at: u32) -> Result
 
 // Appends what is said of an input.
 fn put_lacking(text: &mut Vec<u8>, source: &[u8], lacking: &Lacking<'_>) -> Result<(), AllocError>
-    requires { length source.now ≤ 1048576 }
+    requires { length source.now ≤ most_source_bytes }
     ensures { OnOk result (text.new.items ≡ text.old.items ++ lacking_text source.now lacking.now) }
 {
     put_stands(text, source, lacking.name, lacking.at)?;
@@ -268,7 +269,7 @@ fn put_words(text: &mut Vec<u8>, those: &[Lacking<'_>]) -> Result<(), AllocError
 
 // Appends what is said of each.
 fn put_all(text: &mut Vec<u8>, source: &[u8], those: &[Lacking<'_>]) -> Result<(), AllocError>
-    requires { length source.now ≤ 1048576 }
+    requires { length source.now ≤ most_source_bytes }
     ensures { OnOk result (text.new.items ≡ text.old.items ++ flat_map (lacking_text source.now) those.now) }
 {
     for lacking in those {
@@ -279,7 +280,7 @@ fn put_all(text: &mut Vec<u8>, source: &[u8], those: &[Lacking<'_>]) -> Result<(
 
 // Appends what is said of inputs without a file.
 fn put_inputs(text: &mut Vec<u8>, source: &[u8], those: &[Lacking<'_>]) -> Result<(), AllocError>
-    requires { length source.now ≤ 1048576 }
+    requires { length source.now ≤ most_source_bytes }
     ensures { OnOk result (text.new.items ≡ text.old.items ++ inputs_text source.now those.now) }
 {
     text.extend_from_slice(
@@ -298,9 +299,9 @@ fn text_of(
     scoped: &Scoped,
     given: &[Name],
 ) -> Result<Vec<u8>, AllocError>
-    requires short { length source.now ≤ 1048576 }
+    requires short { length source.now ≤ most_source_bytes }
     requires program { IsProgram source.now (scoped_tree scoped.now) }
-    requires few { length (scoped_inputs scoped.now) ≤ 1048576 }
+    requires few { length (scoped_inputs scoped.now) ≤ most_source_bytes }
     ensures { IfOk result (λ text. TellsInputs source.now given.now text.items) }
 {
     let those = all_lacking(alloc, scoped, source.len() as u32, given)?;

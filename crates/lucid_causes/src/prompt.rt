@@ -1,5 +1,6 @@
 //! What is said before a run reads an input from a terminal.
 ghost use Rattle.std.specs.Prelude.{◌≡◌, ◌≤◌, ◌++◌, length, IfOk, OnOk};
+ghost use Rattle.lucid_scan.specs.Refusals.{most_source_bytes};
 ghost use Rattle.lucid_scope.specs.Scoped.{scoped_tree, scoped_inputs};
 ghost use Rattle.lucid_explanations.specs.Accepted.{IsProgram};
 ghost use Rattle.lucid_causes.specs.Prompts.{meant_text, prompt_text, only_text, TellsPrompt};
@@ -13,7 +14,7 @@ use std::alloc::{AllocError, Global};
 
 // Appends what may be meant by a name that nothing defines.
 fn put_meant(text: &mut Vec<u8>, source: &[u8], near: Option<&Def>) -> Result<(), AllocError>
-    requires { length source.now ≤ 1048576 }
+    requires { length source.now ≤ most_source_bytes }
     ensures { OnOk result (text.new.items ≡ text.old.items ++ meant_text source.now near.entry) }
 {
     if near.is_none() {
@@ -26,7 +27,7 @@ fn put_meant(text: &mut Vec<u8>, source: &[u8], near: Option<&Def>) -> Result<()
 
 // Appends that the input is read.
 fn put_prompt(text: &mut Vec<u8>, source: &[u8], lacking: &Lacking<'_>) -> Result<(), AllocError>
-    requires { length source.now ≤ 1048576 }
+    requires { length source.now ≤ most_source_bytes }
     ensures { OnOk result (text.new.items ≡ text.old.items ++ prompt_text source.now lacking.now) }
 {
     text.extend_from_slice(b"The input ")?;
@@ -37,7 +38,7 @@ fn put_prompt(text: &mut Vec<u8>, source: &[u8], lacking: &Lacking<'_>) -> Resul
 
 // Appends what is said of the only input without a file.
 fn put_only(text: &mut Vec<u8>, source: &[u8], those: &[Lacking<'_>]) -> Result<(), AllocError>
-    requires { length source.now ≤ 1048576 }
+    requires { length source.now ≤ most_source_bytes }
     ensures { OnOk result (text.new.items ≡ text.old.items ++ only_text source.now those.now) }
 {
     match those {
@@ -53,9 +54,9 @@ fn text_of_scoped(
     scoped: &Scoped,
     given: &[Name],
 ) -> Result<Vec<u8>, AllocError>
-    requires short { length source.now ≤ 1048576 }
+    requires short { length source.now ≤ most_source_bytes }
     requires program { IsProgram source.now (scoped_tree scoped.now) }
-    requires few { length (scoped_inputs scoped.now) ≤ 1048576 }
+    requires few { length (scoped_inputs scoped.now) ≤ most_source_bytes }
     ensures { IfOk result (λ text. TellsPrompt source.now given.now text.items) }
 {
     let those = all_lacking(alloc, scoped, source.len() as u32, given)?;

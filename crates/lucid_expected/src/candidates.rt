@@ -1,6 +1,7 @@
 //! Which tokens may stand at a place.
 ghost use Rattle.std.specs.Prelude.{◌≡◌, ℕ, ◌-◌, ◌≤◌, List, ◌∷◌, ◌++◌, length, map, take, IfOk, OnOk, IsTrue, MatchOption};
 ghost use Rattle.std.specs.Option.{option_to_list};
+ghost use Rattle.lucid_scan.specs.Refusals.{most_source_bytes};
 ghost use Rattle.lucid_scan.specs.Tokens.{Tokens};
 ghost use Rattle.lucid_parse.specs.Spelled.{IsRefused};
 ghost use Rattle.lucid_expected.specs.declared.candidates.Candidate.{Candidate as Told};
@@ -91,7 +92,7 @@ const CANDIDATES: [Candidate; 16] = [
 
 // How the parser refuses the tokens of the bytes; none where it doesn't.
 fn refusal_of(alloc: Global, bytes: &[u8], tokens: &[Token]) -> Option<ParseRefusal>
-    requires short { length bytes.now ≤ 1048576 }
+    requires short { length bytes.now ≤ most_source_bytes }
     requires scanned { Tokens bytes.now 0 tokens.now }
     ensures { MatchOption result (GoesOn bytes.now) (λ refusal. IsRefused bytes.now tokens.now refusal) }
 {
@@ -101,7 +102,7 @@ fn refusal_of(alloc: Global, bytes: &[u8], tokens: &[Token]) -> Option<ParseRefu
 // Whether some program goes on with the bytes, which have these tokens.
 #[tactic(auto, using(crate::proofs::Begun::begun_at_end, crate::proofs::Begun::nested_goes_on, crate::proofs::Begun::begun_ends))]
 fn tokens_go_on(alloc: Global, bytes: &[u8], tokens: &[Token]) -> Result<bool, AllocError>
-    requires short { length bytes.now ≤ 1048576 }
+    requires short { length bytes.now ≤ most_source_bytes }
     requires scanned { Tokens bytes.now 0 tokens.now }
     ensures yes { IfOk result (λ b. IsTrue b → GoesOn bytes.now) }
     ensures no { IfOk result (λ b. GoesOn bytes.now → IsTrue b) }

@@ -1,6 +1,7 @@
 //! The line and the column of a place.
 ghost use Rattle.std.specs.Prelude.{◌≡◌, ◌+◌, ◌≤◌, length};
 ghost use Rattle.std.specs.List.{count_by, suffix_len};
+ghost use Rattle.lucid_scan.specs.Refusals.{most_source_bytes};
 ghost use Rattle.lucid_expected.specs.Positions.{ends_line, stands_in_line, line_of, column_of};
 
 /// Where a place is, by its line and its column in bytes, both from 1.
@@ -32,7 +33,7 @@ fn len_of_last(bytes: &[u8]) -> usize
 /// The line and the column of a place in a source, or of its end.
 pub fn position_of(source: &[u8], at: usize) -> Position
     requires within { at ≤ length source.now }
-    requires short { length source.now ≤ 1048576 }
+    requires short { length source.now ≤ most_source_bytes }
     ensures line { result.line ≡ line_of source.now at }
     ensures column { result.column ≡ column_of source.now at }
     ensures within { result.column ≤ at + 1 }

@@ -1,6 +1,7 @@
 //! A place as it is shown.
 ghost use Rattle.std.specs.Prelude.{◌≡◌, ◌≤◌, ◌++◌, length, map, replicate, codes, decimal, OnOk};
 ghost use Rattle.std.specs.List.{prefix_len};
+ghost use Rattle.lucid_scan.specs.Refusals.{most_source_bytes};
 ghost use Rattle.lucid_expected.specs.Positions.{stands_in_line};
 ghost use Rattle.lucid_expected.specs.Shown.{line_front, shown_byte, place_text};
 
@@ -80,7 +81,7 @@ pub fn put_place(
     at: usize,
 ) -> Result<(), AllocError>
     requires within { at ≤ length source.now }
-    requires short { length source.now ≤ 1048576 }
+    requires short { length source.now ≤ most_source_bytes }
     ensures { OnOk result (text.new.items ≡ text.old.items ++ place_text file.now source.now at) }
 {
     let position = position_of(source, at);

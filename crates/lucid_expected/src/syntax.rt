@@ -1,6 +1,7 @@
 //! What is said of tokens that spell no program.
 ghost use Rattle.std.specs.Prelude.{◌≡◌, ◌≤◌, ◌++◌, List, length, codes, OnOk};
 ghost use Rattle.std.specs.List.{join_by};
+ghost use Rattle.lucid_scan.specs.Refusals.{most_source_bytes};
 ghost use Rattle.lucid_scan.specs.Tokens.{Tokens};
 ghost use Rattle.lucid_expected.specs.declared.candidates.Candidate.{Candidate as Told};
 ghost use Rattle.lucid_expected.specs.Standing.{AreStanding};
@@ -65,7 +66,7 @@ fn put_said(
     those: &[Candidate],
 ) -> Result<(), AllocError>
     requires within { at ≤ length source.now }
-    requires short { length source.now ≤ 1048576 }
+    requires short { length source.now ≤ most_source_bytes }
     ensures { OnOk result (text.new.items ≡ text.old.items ++ syntax_text file.now source.now at (plain_around around.now) those.now) }
 {
     put_place(text, file, source, at as usize)?;
@@ -85,7 +86,7 @@ pub fn put_syntax(
     at: u32,
 ) -> Result<(), AllocError>
     requires within { at ≤ length source.now }
-    requires short { length source.now ≤ 1048576 }
+    requires short { length source.now ≤ most_source_bytes }
     requires scanned { Tokens source.now 0 tokens.now }
     ensures { OnOk result ((those : List Told) × AreStanding source.now at those
         × (text.new.items ≡ text.old.items ++ syntax_text file.now source.now at (around_at source.now tokens.now at) those)) }

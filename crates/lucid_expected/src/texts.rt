@@ -1,5 +1,6 @@
 //! Parts of what is said.
 ghost use Rattle.std.specs.Prelude.{◌≡◌, ◌≤◌, ◌++◌, length, decimal, OnOk};
+ghost use Rattle.lucid_scan.specs.Refusals.{most_source_bytes};
 ghost use Rattle.lucid_expected.specs.Positions.{where_text};
 
 use crate::position::position_of;
@@ -22,7 +23,7 @@ pub fn put_where(
     at: usize,
 ) -> Result<(), AllocError>
     requires within { at ≤ length source.now }
-    requires short { length source.now ≤ 1048576 }
+    requires short { length source.now ≤ most_source_bytes }
     ensures { OnOk result (text.new.items ≡ text.old.items ++ where_text before.now source.now at) }
 {
     let position = position_of(source, at);

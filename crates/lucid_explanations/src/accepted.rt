@@ -1,6 +1,6 @@
 //! Sources that are accepted.
 ghost use Rattle.std.specs.Prelude.{◌≡◌, ◌≢◌, ◌≤◌, length, IfOk, IfSome, IfNone, OnSome};
-ghost use Rattle.lucid_scan.specs.Refusals.{Refuses};
+ghost use Rattle.lucid_scan.specs.Refusals.{Refuses, most_source_bytes};
 ghost use Rattle.lucid_scan.specs.Tokens.{Tokens};
 ghost use Rattle.lucid_parse.specs.Spelled.{IsRefused};
 ghost use Rattle.lucid_scope.specs.Bindings.{IsLeastFault};
@@ -24,7 +24,7 @@ fn scanner_turns_down(source: &[u8], refusal: ScanRefusal)
 // A source is turned down whose tokens the parser refuses.
 fn parser_turns_down(source: &[u8], tokens: &[Token], refusal: &ParseRefusal)
     requires known { refusal.now ≢ ParseRefusal.NoMemory }
-    requires short { length source.now ≤ 1048576 }
+    requires short { length source.now ≤ most_source_bytes }
     requires scanned { Tokens source.now 0 tokens.now }
     requires refused { IsRefused source.now tokens.now refusal.now }
     ensures { IsTurnedDown source.now }
@@ -41,9 +41,9 @@ fn names_turn_down(source: &[u8], tree: &Tree, refusal: &ScopeRefusal)
 fn scoped_of_tree(alloc: Global, source: &[u8], tree: &Tree) -> Result<Option<Scoped>, AllocError>
     requires spelt { IsSpelt source.now tree.now }
     requires well_made { IsWellMade tree.now }
-    requires few { length (places tree.now) ≤ 1048576 }
+    requires few { length (places tree.now) ≤ most_source_bytes }
     ensures program { IfOk result (λ found. IfSome found (λ scoped. IsProgram source.now (scoped_tree scoped))) }
-    ensures few { IfOk result (λ found. IfSome found (λ scoped. length (scoped_inputs scoped) ≤ 1048576)) }
+    ensures few { IfOk result (λ found. IfSome found (λ scoped. length (scoped_inputs scoped) ≤ most_source_bytes)) }
     ensures refused { IfOk result (λ found. IfNone found (IsTurnedDown source.now)) }
 {
     match resolve(alloc, tree) {
@@ -65,10 +65,10 @@ fn scoped_of_tokens(
     source: &[u8],
     tokens: &[Token],
 ) -> Result<Option<Scoped>, AllocError>
-    requires short { length source.now ≤ 1048576 }
+    requires short { length source.now ≤ most_source_bytes }
     requires scanned { Tokens source.now 0 tokens.now }
     ensures program { IfOk result (λ found. IfSome found (λ scoped. IsProgram source.now (scoped_tree scoped))) }
-    ensures few { IfOk result (λ found. IfSome found (λ scoped. length (scoped_inputs scoped) ≤ 1048576)) }
+    ensures few { IfOk result (λ found. IfSome found (λ scoped. length (scoped_inputs scoped) ≤ most_source_bytes)) }
     ensures refused { IfOk result (λ found. IfNone found (IsTurnedDown source.now)) }
 {
     match parse(alloc, source, tokens) {
@@ -84,8 +84,8 @@ fn scoped_of_tokens(
 /// What the names of a source belong to; none where the source is refused.
 pub fn scoped_of(alloc: Global, source: &[u8]) -> Result<Option<Scoped>, AllocError>
     ensures program { IfOk result (λ found. IfSome found (λ scoped. IsProgram source.now (scoped_tree scoped))) }
-    ensures short { IfOk result (λ found. OnSome found (length source.now ≤ 1048576)) }
-    ensures few { IfOk result (λ found. IfSome found (λ scoped. length (scoped_inputs scoped) ≤ 1048576)) }
+    ensures short { IfOk result (λ found. OnSome found (length source.now ≤ most_source_bytes)) }
+    ensures few { IfOk result (λ found. IfSome found (λ scoped. length (scoped_inputs scoped) ≤ most_source_bytes)) }
     ensures refused { IfOk result (λ found. IfNone found (IsTurnedDown source.now)) }
 {
     match scan(alloc, source) {

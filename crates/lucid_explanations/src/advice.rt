@@ -2,7 +2,7 @@
 ghost use Rattle.std.specs.Prelude.{◌≡◌, ◌≤◌, ◌<◌, ◌++◌, length, take, drop, OnOk};
 ghost use Rattle.std.specs.List.{suffix_len};
 ghost use Rattle.lucid_value.specs.Names.{is_name_byte};
-ghost use Rattle.lucid_scan.specs.Refusals.{Refuses};
+ghost use Rattle.lucid_scan.specs.Refusals.{Refuses, most_source_bytes};
 ghost use Rattle.lucid_explanations.specs.Advice.{byte_advice, ends_name, behind_advice, ascii_advice, bad_advice, open_advice, big_advice, long_advice, scan_text};
 ghost use Rattle.lucid_expected.specs.Shown.{place_text};
 
@@ -153,7 +153,7 @@ fn put_advice(
     advice: &[u8],
 ) -> Result<(), AllocError>
     requires within { at ≤ length source.now }
-    requires short { length source.now ≤ 1048576 }
+    requires short { length source.now ≤ most_source_bytes }
     ensures { OnOk result (text.new.items ≡ text.old.items ++ (place_text file.now source.now at ++ advice.now)) }
 {
     put_place(text, file, source, at as usize)?;

@@ -1,5 +1,6 @@
 //! What is said of a column that a program hasn't.
 ghost use Rattle.std.specs.Prelude.{◌≡◌, ◌≤◌, ◌++◌, length, IfOk, OnOk};
+ghost use Rattle.lucid_scan.specs.Refusals.{most_source_bytes};
 ghost use Rattle.lucid_explanations.specs.Accepted.{IsProgram};
 ghost use Rattle.lucid_explanations.specs.Scopes.{lent};
 ghost use Rattle.lucid_explanations.specs.Columns.{outer_defs, outer_text, columns_text, TellsColumns};
@@ -25,7 +26,7 @@ fn find_outer<'a>(found: &mut Vec<&'a Def>, tree: &'a Tree) -> Result<(), AllocE
 
 // Appends what is said of columns by the definitions of the outermost block.
 fn put_outer(text: &mut Vec<u8>, source: &[u8], defs: &[&Def]) -> Result<(), AllocError>
-    requires { length source.now ≤ 1048576 }
+    requires { length source.now ≤ most_source_bytes }
     ensures { OnOk result (text.new.items ≡ text.old.items ++ outer_text source.now (lent defs.now)) }
 {
     put_advised(text, source, defs, 0, COLUMNS, Wanted::Columns, MOST_TOLD)
@@ -38,7 +39,7 @@ fn put_columns(
     source: &[u8],
     tree: &Tree,
 ) -> Result<(), AllocError>
-    requires { length source.now ≤ 1048576 }
+    requires { length source.now ≤ most_source_bytes }
     ensures { OnOk result (text.new.items ≡ text.old.items ++ columns_text source.now tree.now) }
 {
     let mut defs = Vec::new(alloc);
@@ -48,7 +49,7 @@ fn put_columns(
 
 // What is said of the columns of a source that spells the tree.
 fn text_of_columns(alloc: Global, source: &[u8], tree: &Tree) -> Result<Vec<u8>, AllocError>
-    requires short { length source.now ≤ 1048576 }
+    requires short { length source.now ≤ most_source_bytes }
     requires program { IsProgram source.now tree.now }
     ensures { IfOk result (λ text. TellsColumns source.now text.items) }
 {

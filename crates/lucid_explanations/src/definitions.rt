@@ -1,6 +1,7 @@
 //! The definitions of a tree, as they are told.
 ghost use Rattle.std.specs.Prelude.{◌≡◌, ◌≤◌, ◌++◌, length, take, min, codes, OnOk};
 ghost use Rattle.std.specs.List.{join_by};
+ghost use Rattle.lucid_scan.specs.Refusals.{most_source_bytes};
 ghost use Rattle.lucid_explanations.specs.Definitions.{cut_text, name_text, others_text, names_text, parameters_text, head_text, spot_text, definition_text};
 
 use lucid_expected::put_where;
@@ -105,7 +106,7 @@ fn put_head(text: &mut Vec<u8>, def: &Def) -> Result<(), AllocError>
 
 // Appends where a definition stands.
 fn put_spot(text: &mut Vec<u8>, source: &[u8], at: u32) -> Result<(), AllocError>
-    requires { length source.now ≤ 1048576 }
+    requires { length source.now ≤ most_source_bytes }
     ensures { OnOk result (text.new.items ≡ text.old.items ++ spot_text source.now (min (length source.now) at)) }
 {
     let at = source.len().min(at as usize);
@@ -114,7 +115,7 @@ fn put_spot(text: &mut Vec<u8>, source: &[u8], at: u32) -> Result<(), AllocError
 
 /// Appends a definition's head, and where it stands.
 pub fn put_definition(text: &mut Vec<u8>, source: &[u8], def: &Def) -> Result<(), AllocError>
-    requires { length source.now ≤ 1048576 }
+    requires { length source.now ≤ most_source_bytes }
     ensures { OnOk result (text.new.items ≡ text.old.items ++ definition_text source.now def.now) }
 {
     put_head(text, def)?;

@@ -5,6 +5,7 @@ ghost use Rattle.std.specs.List.{list_any, prefix_len};
 ghost use Rattle.lucid_value.specs.Plain.{same_bytes};
 ghost use Rattle.lucid_value.specs.Names.{is_name_byte};
 ghost use Rattle.lucid_tree.specs.declared.tree.Def.{Def as PlainDef};
+ghost use Rattle.lucid_scan.specs.Refusals.{most_source_bytes};
 ghost use Rattle.lucid_explanations.specs.Names.{name_front, name_at, is_function, is_plain, fits, told_text, advised_text, heads, is_before, earlier, headed, has_parameter, is_parameter, parameter_advice, found_text, again_text, twice_text, not_function_text, refusal_at, said_text, names_text};
 ghost use Rattle.lucid_explanations.specs.Scopes.{lent, in_scope};
 
@@ -108,7 +109,7 @@ fn put_one(
     is_told: bool,
     room: usize,
 ) -> Result<usize, AllocError>
-    requires { length source.now ≤ 1048576 }
+    requires { length source.now ≤ most_source_bytes }
     ensures { IfOk result (λ left. (fit : PlainDef → Bool) (rest : List PlainDef) → fit def.now ≡ is_told
         → text.new.items ++ told_text source.now fit left rest ≡ text.old.items ++ told_text source.now fit room (def.now ∷ rest)) }
 {
@@ -130,7 +131,7 @@ fn put_told(
     at: u32,
     most: usize,
 ) -> Result<(), AllocError>
-    requires { length source.now ≤ 1048576 }
+    requires { length source.now ≤ most_source_bytes }
     ensures { OnOk result (text.new.items ≡ text.old.items ++ told_text source.now (fits wanted (name_at source.now at)) most (lent defs.now)) }
 {
     let name = name_at(source, at);
@@ -151,7 +152,7 @@ pub(crate) fn put_advised(
     wanted: Wanted,
     most: usize,
 ) -> Result<(), AllocError>
-    requires { length source.now ≤ 1048576 }
+    requires { length source.now ≤ most_source_bytes }
     ensures { OnOk result (text.new.items ≡ text.old.items ++ advised_text source.now (lent defs.now) at advice.now wanted most) }
 {
     text.extend_from_slice(advice)?;
@@ -220,7 +221,7 @@ fn headed<'a>(defs: &[&'a Def], at: u32) -> Option<&'a Def>
 
 // Appends a definition, where one was found.
 fn put_found(text: &mut Vec<u8>, source: &[u8], found: Option<&Def>) -> Result<(), AllocError>
-    requires { length source.now ≤ 1048576 }
+    requires { length source.now ≤ most_source_bytes }
     ensures { OnOk result (text.new.items ≡ text.old.items ++ found_text source.now (option_copied found.entry)) }
 {
     match found {
@@ -231,7 +232,7 @@ fn put_found(text: &mut Vec<u8>, source: &[u8], found: Option<&Def>) -> Result<(
 
 // Appends that a name stands again among the parameters of a function.
 fn put_among(text: &mut Vec<u8>, source: &[u8], among: Option<&Def>) -> Result<(), AllocError>
-    requires { length source.now ≤ 1048576 }
+    requires { length source.now ≤ most_source_bytes }
     ensures { OnOk result (text.new.items ≡ text.old.items ++ (parameter_advice ++ found_text source.now (option_copied among.entry))) }
 {
     text.extend_from_slice(PARAMETER)?;
@@ -245,7 +246,7 @@ fn put_again(
     before: Option<&Def>,
     among: Option<&Def>,
 ) -> Result<(), AllocError>
-    requires { length source.now ≤ 1048576 }
+    requires { length source.now ≤ most_source_bytes }
     ensures { OnOk result (text.new.items ≡ text.old.items ++ again_text source.now (option_copied before.entry) (option_copied among.entry)) }
 {
     match before {
@@ -265,7 +266,7 @@ fn put_twice(
     defs: &[&Def],
     at: u32,
 ) -> Result<(), AllocError>
-    requires { length source.now ≤ 1048576 }
+    requires { length source.now ≤ most_source_bytes }
     ensures { OnOk result (text.new.items ≡ text.old.items ++ twice_text source.now (lent defs.now) at) }
 {
     let those = heads(alloc, defs, at)?;
@@ -319,7 +320,7 @@ fn put_not_function(
     defs: &[&Def],
     at: u32,
 ) -> Result<(), AllocError>
-    requires { length source.now ≤ 1048576 }
+    requires { length source.now ≤ most_source_bytes }
     ensures { OnOk result (text.new.items ≡ text.old.items ++ not_function_text source.now (lent defs.now) at) }
 {
     if is_parameter(defs, name_at(source, at)) {
@@ -337,7 +338,7 @@ fn put_said(
     defs: &[&Def],
     refusal: &ScopeRefusal,
 ) -> Result<(), AllocError>
-    requires { length source.now ≤ 1048576 }
+    requires { length source.now ≤ most_source_bytes }
     ensures { OnOk result (text.new.items ≡ text.old.items ++ said_text source.now (lent defs.now) refusal.now) }
 {
     match refusal {
@@ -388,7 +389,7 @@ pub(crate) fn put_names(
     tree: &Tree,
     refusal: &ScopeRefusal,
 ) -> Result<(), AllocError>
-    requires { length source.now ≤ 1048576 }
+    requires { length source.now ≤ most_source_bytes }
     ensures { OnOk result (text.new.items ≡ text.old.items ++ names_text file.now source.now tree.now refusal.now) }
 {
     let at = place_of(refusal);

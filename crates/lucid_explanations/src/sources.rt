@@ -1,6 +1,6 @@
 //! What is said of a source that is refused.
 ghost use Rattle.std.specs.Prelude.{◌≡◌, ◌≢◌, ◌≤◌, ◌++◌, length, IfOk, IfSome, IfNone, OnOk};
-ghost use Rattle.lucid_scan.specs.Refusals.{Refuses};
+ghost use Rattle.lucid_scan.specs.Refusals.{Refuses, most_source_bytes};
 ghost use Rattle.lucid_scan.specs.Tokens.{Tokens};
 ghost use Rattle.lucid_parse.specs.Spelled.{IsRefused};
 ghost use Rattle.lucid_scope.specs.Bindings.{IsLeastFault};
@@ -61,7 +61,7 @@ fn said_of_syntax(
     tokens: &[Token],
     at: u32,
 ) -> Result<Explanation, AllocError>
-    requires short { length source.now ≤ 1048576 }
+    requires short { length source.now ≤ most_source_bytes }
     requires scanned { Tokens source.now 0 tokens.now }
     requires refused { IsRefused source.now tokens.now (ParseRefusal.Syntax at) }
     ensures { IfOk result (λ said. Explains file.now source.now said.line.items said.text.items) }
@@ -76,7 +76,7 @@ fn said_of_syntax(
 
 // Appends what is said of a place at which a tree is too deep.
 fn put_depth(text: &mut Vec<u8>, file: &[u8], source: &[u8], at: u32) -> Result<(), AllocError>
-    requires { length source.now ≤ 1048576 }
+    requires { length source.now ≤ most_source_bytes }
     ensures { OnOk result (text.new.items ≡ text.old.items ++ depth_text file.now source.now at) }
 {
     put_place(text, file, source, source.len().min(at as usize))?;
@@ -91,7 +91,7 @@ fn said_of_depth(
     tokens: &[Token],
     at: u32,
 ) -> Result<Explanation, AllocError>
-    requires short { length source.now ≤ 1048576 }
+    requires short { length source.now ≤ most_source_bytes }
     requires scanned { Tokens source.now 0 tokens.now }
     requires refused { IsRefused source.now tokens.now (ParseRefusal.TooNested at) }
     ensures { IfOk result (λ said. Explains file.now source.now said.line.items said.text.items) }
@@ -111,7 +111,7 @@ fn said_of_parse(
     tokens: &[Token],
     refusal: &ParseRefusal,
 ) -> Result<Explanation, AllocError>
-    requires short { length source.now ≤ 1048576 }
+    requires short { length source.now ≤ most_source_bytes }
     requires scanned { Tokens source.now 0 tokens.now }
     requires refused { IsRefused source.now tokens.now refusal.now }
     ensures { IfOk result (λ said. Explains file.now source.now said.line.items said.text.items) }
@@ -131,7 +131,7 @@ fn said_of_names(
     tree: &Tree,
     refusal: &ScopeRefusal,
 ) -> Result<Explanation, AllocError>
-    requires short { length source.now ≤ 1048576 }
+    requires short { length source.now ≤ most_source_bytes }
     requires spelt { IsSpelt source.now tree.now }
     requires refused { IsLeastFault tree.now refusal.now }
     ensures { IfOk result (λ said. Explains file.now source.now said.line.items said.text.items) }
@@ -150,7 +150,7 @@ fn explain_tree(
     source: &[u8],
     tree: &Tree,
 ) -> Result<Option<Explanation>, AllocError>
-    requires short { length source.now ≤ 1048576 }
+    requires short { length source.now ≤ most_source_bytes }
     requires spelt { IsSpelt source.now tree.now }
     requires well_made { IsWellMade tree.now }
     ensures refused { IfOk result (λ found. IfSome found (λ said. Explains file.now source.now said.line.items said.text.items)) }
@@ -173,7 +173,7 @@ fn explain_tokens(
     source: &[u8],
     tokens: &[Token],
 ) -> Result<Option<Explanation>, AllocError>
-    requires short { length source.now ≤ 1048576 }
+    requires short { length source.now ≤ most_source_bytes }
     requires scanned { Tokens source.now 0 tokens.now }
     ensures refused { IfOk result (λ found. IfSome found (λ said. Explains file.now source.now said.line.items said.text.items)) }
     ensures accepted { IfOk result (λ found. IfNone found (IsAccepted source.now)) }

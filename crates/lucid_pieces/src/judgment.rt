@@ -4,6 +4,7 @@ ghost use Rattle.std.specs.Option.{option_copied};
 ghost use Rattle.lucid_scope.specs.Scoped.{scoped_tree};
 ghost use Rattle.lucid_explanations.specs.Accepted.{IsProgram};
 ghost use Rattle.lucid_parts.specs.Parts.{own_place};
+ghost use Rattle.lucid_scan.specs.Refusals.{most_source_bytes};
 ghost use Rattle.lucid_pieces.specs.Pieces.{piece_of};
 ghost use Rattle.lucid_pieces.specs.Judgments.{IsRow, numbers_text, told_text, piece_text, found_text, TellsJudgment};
 
@@ -54,7 +55,7 @@ fn put_piece(
     row: Row,
     piece: &Tree,
 ) -> Result<(), AllocError>
-    requires { length source.now ≤ 1048576 }
+    requires { length source.now ≤ most_source_bytes }
     ensures { OnOk result (text.new.items ≡ text.old.items ++ piece_text file.now source.now row.node row.line piece.now) }
 {
     let at = source.len().min(own_place(piece) as usize);
@@ -70,7 +71,7 @@ fn put_found(
     row: Row,
     piece: Option<&Tree>,
 ) -> Result<(), AllocError>
-    requires { length source.now ≤ 1048576 }
+    requires { length source.now ≤ most_source_bytes }
     ensures { OnOk result (text.new.items ≡ text.old.items ++ found_text file.now source.now row.node row.line (option_copied piece.entry)) }
 {
     match piece {
@@ -100,7 +101,7 @@ fn text_of_scoped(
     row: Row,
     scoped: &Scoped,
 ) -> Result<Vec<u8>, AllocError>
-    requires short { length source.now ≤ 1048576 }
+    requires short { length source.now ≤ most_source_bytes }
     requires program { IsProgram source.now (scoped_tree scoped.now) }
     requires row { IsRow certificate.now number row.node row.line }
     ensures { IfOk result (λ text. TellsJudgment file.now source.now certificate.now number text.items) }
