@@ -3,25 +3,7 @@ use Rattle.lucid_columns.proofs.Common.{ℕ, suc, ◌+◌, ◌<◌, ◌≤◌, l
 use Rattle.lucid_lemmas.proofs.Truths.{both_true, second_true}
 use Rattle.lucid_tree.specs.Members.{In, AllDiffer}
 use Rattle.lucid_tree.specs.WellMade.{places, places_in_defs, is_shaped, defs_are_shaped}
-use Rattle.lucid_tree.proofs.Members.{in_right, in_either}
-
-module _ {A : Type 0} where
-  differ_right : (xs ys : List A) → AllDiffer (xs ++ ys) → AllDiffer ys
-  differ_right [] ys all = all
-  differ_right (x ∷ xs) ys all = differ_right xs ys all.1
-
-  -- lists of different items that share none
-  differ_both : (xs ys : List A) → AllDiffer xs → AllDiffer ys → ((x : A) → In x xs → In x ys → ⊥) → AllDiffer (xs ++ ys)
-  differ_both [] ys one two apart = two
-  differ_both (x ∷ xs) ys one two apart = (
-    λ i. elim (in_either x xs ys i) [ inl j ↦ one.0 j | inr j ↦ apart x (inl refl) j ],
-    differ_both xs ys one.1 two (λ y i j. apart y (inr i) j),
-  )
-
-  in_all : (P : A → Type 0) (xs : List A) (x : A) → All P xs → In x xs → P x
-  in_all P [] x all i = absurd i
-  in_all P (y ∷ ys) x all (inl e) = subst P (sym e) (all 0 y (omega arith))
-  in_all P (y ∷ ys) x all (inr i) = in_all P ys x (λ k d lt. all (suc k) d (omega (arith, lt))) i
+use Rattle.lucid_tree.proofs.Members.{in_right, in_either, in_all, differ_right, differ_both}
 
 module _ (base : ℕ) where
   -- the places of names, and those of what stands between them

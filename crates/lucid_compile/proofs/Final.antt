@@ -1,5 +1,5 @@
 -- The table of the lists keeps the tree, and is sound.
-use Rattle.lucid_compile.proofs.Common.{◌≡◌, ℕ, suc, ◌+◌, ◌<◌, ◌≤◌, length, Option, List, [], ◌∷◌, ◌++◌, map, Some, None, get_or, slice_get, refl, sym, ap, ◌∙◌, subst, inl, inr, arith, length-append, option_map, length-map, slice_get-map, PlainTree, no_trees, In, AllDiffer, IsWellMade, named, again, site_at, binding_for, fault_of, scoped_tree, scoped_binding, scoped_inputs, Binding, PlainEntry, Equations, called_entry, sizes, IsInRange, at, all_at, grow, nodes_of, equations_of, StandsIn, IsSound, Root, Entry, Plain, Parameter, Current, Called, Table, Mark, Origin, Source, nodes_for, in_body, HasRow, Actuals, first_place, KeepsTree, or_no_mark, name_mark, function_mark, call_number, mark_by, key_of_function, KeyLists, keys_of, IsNumberingOf, Lists, OneScope, link, Note, Numbered, bound_node, bound_nodes, callee_place, FunctionStand, Log, no_log, added, AreKnown, EachRow, NodeFits, NameFits, PlaceFits, ScopesHold, NodesHold, NamesHold, PlacesHold, IsEntry, IsNameRow, IsPlaceRow, Holds, GrownTo, AddsTree, row_of_call, call_row, rows_of_calls, with_calls, All, ∥∥₁_elim, Coded-set, coded_option, coded_list, IsResolved, FreeNamesAreInputs, entry_by, noted_actuals, bound_entry, node_place, AreNumbers, HasBody, HasParts, IsNumber, OneForOne, noted_tree, Numbers, no_node, Compiles}
+use Rattle.lucid_compile.proofs.Common.{◌≡◌, ℕ, ◌+◌, ◌<◌, ◌≤◌, length, Option, List, [], ◌++◌, map, Some, None, get_or, slice_get, refl, sym, ap, ◌∙◌, subst, arith, length-append, option_map, length-map, slice_get-map, PlainTree, no_trees, In, AllDiffer, IsWellMade, named, again, site_at, binding_for, fault_of, scoped_tree, scoped_binding, scoped_inputs, Binding, PlainEntry, Equations, called_entry, sizes, IsInRange, at, all_at, grow, nodes_of, equations_of, StandsIn, IsSound, Root, Entry, Plain, Parameter, Current, Called, Table, Mark, Origin, Source, nodes_for, in_body, HasRow, Actuals, first_place, KeepsTree, or_no_mark, name_mark, function_mark, call_number, mark_by, key_of_function, KeyLists, keys_of, IsNumberingOf, Lists, OneScope, link, Note, Numbered, bound_node, bound_nodes, callee_place, FunctionStand, Log, no_log, added, AreKnown, EachRow, NodeFits, NameFits, PlaceFits, ScopesHold, NodesHold, NamesHold, PlacesHold, IsEntry, IsNameRow, IsPlaceRow, Holds, GrownTo, AddsTree, row_of_call, call_row, rows_of_calls, with_calls, ∥∥₁_elim, Coded-set, coded_option, coded_list, IsResolved, FreeNamesAreInputs, entry_by, noted_actuals, bound_entry, node_place, AreNumbers, HasBody, HasParts, IsNumber, OneForOne, noted_tree, Numbers, no_node, Compiles}
 use Rattle.std.proofs.lemmas.Option.{slice_get_within as index-below}
 use base.Stored.{coded_ℕ}
 use Rattle.lucid_lemmas.proofs.Lists.{slice_get-append_left as some-left}
@@ -31,6 +31,7 @@ use Rattle.lucid_compile.proofs.Meant.{pieces-mean}
 use Rattle.lucid_compile.specs.Meant.{NodesMeanTheirPieces}
 use Rattle.lucid_equations.specs.Rows.{node_at}
 use Rattle.std.proofs.lemmas.Option.{get_or_from_slice_get}
+use Rattle.lucid_tree.proofs.Members.{in_all}
 use Rattle.lucid_compile.proofs.Sounding.{each-at}
 use Rattle.lucid_compile.proofs.Walking.{Logs, logs-tree}
 use Rattle.lucid_compile.specs.Notes.{notes}
@@ -75,15 +76,9 @@ entry-read t (Parameter i) e h = h
 entry-read t (Current a) e h = h.1
 entry-read t (Called a) e h = h.1
 
--- each site of a resolved tree is bound and at no fault
-all-in : {A : Type 0} (P : A → Type 0) (xs : List A) (x : A) → All P xs → In x xs → P x
-all-in P [] x h i = absurd i
-all-in P (y ∷ xs) x h (inl e) = subst P (sym e) (h 0 y (omega arith))
-all-in P (y ∷ xs) x h (inr i) = all-in P xs x (λ k d b. h (suc k) d (omega (arith, b))) i
-
 -- no name of a resolved tree is at fault
 pub no-faults : (e : PlainTree) (inputs : List (List ℕ)) (bindings : ℕ → Option Binding) → ∥ IsResolved e inputs bindings ∥₁ → NoFaults (name_sites outermost e)
-no-faults e inputs bindings r s i = ∥∥₁_elim r (Coded-set (coded_option refusal.the_row.coded) _ _) (λ q. all-in (λ x. fault_of x ≡ None) _ s q.no_fault i)
+no-faults e inputs bindings r s i = ∥∥₁_elim r (Coded-set (coded_option refusal.the_row.coded) _ _) (λ q. in_all (λ x. fault_of x ≡ None) _ s q.no_fault i)
 
 leads : (inputs : List (List ℕ)) (e : PlainTree) → FreeNamesAreInputs → (bindings : ℕ → Option Binding) → ∥ IsResolved e inputs bindings ∥₁ → (s : NameSite)
     → In s (name_sites outermost e) → Leads inputs s
@@ -96,9 +91,9 @@ pub fit : (w : Numbered) (e : PlainTree) → FreeNamesAreInputs → ∥ IsResolv
     → AreFit w (name_sites outermost e)
 fit w e law r s i = (
   ∥∥₁_elim r (Coded-set (coded_option binding.the_row.coded) _ _)
-      (λ q. all-in (λ x. scoped_binding w.scoped (site_at x) ≡ binding_for (scoped_inputs w.scoped) x) _ s q.bindings_are.bound i),
+      (λ q. in_all (λ x. scoped_binding w.scoped (site_at x) ≡ binding_for (scoped_inputs w.scoped) x) _ s q.bindings_are.bound i),
   ∥∥₁_elim r
-      (Coded-set (coded_option refusal.the_row.coded) _ _) (λ q. all-in (λ x. fault_of x ≡ None) _ s q.no_fault i),
+      (Coded-set (coded_option refusal.the_row.coded) _ _) (λ q. in_all (λ x. fault_of x ≡ None) _ s q.no_fault i),
   leads (scoped_inputs w.scoped) e law (scoped_binding w.scoped) r s i,
 )
 

@@ -1,6 +1,7 @@
 -- The nodes of a tree's table mean their pieces.
-use Rattle.lucid_compile.proofs.Common.{◌≡◌, ℕ, suc, List, [], ◌∷◌, ◌++◌, Bool, true, false, if◌then◌else◌, Some, slice_get, zero, none-some, inl, inr, refl, sym, ap, ◌∙◌, subst, PlainTree, form, name, call, block, PlainTrees, no_trees, tree, PlainDefs, no_defs, defines, defines_function, defines_current, In, in_left, in_right, in_either, IsWellMade, Env, Elements, Context, Equations, equations_of, Table, Numbers, Origin, Source, static_of, node_for, node_val, val, Compiles, place_of, freezes, in_body, Note, note, opening, piece, plain_right, current_right, parameter_notes, block_piece, noted_tree}
+use Rattle.lucid_compile.proofs.Common.{◌≡◌, ℕ, suc, List, [], ◌∷◌, ◌++◌, Bool, true, false, if◌then◌else◌, Some, slice_get, inl, inr, refl, sym, ap, ◌∙◌, subst, PlainTree, form, name, call, block, PlainTrees, no_trees, tree, PlainDefs, no_defs, defines, defines_function, defines_current, In, in_left, in_right, in_either, IsWellMade, Env, Elements, Context, Equations, equations_of, Table, Numbers, Origin, Source, static_of, node_for, node_val, val, Compiles, place_of, freezes, in_body, Note, note, opening, piece, plain_right, current_right, parameter_notes, block_piece, noted_tree}
 use Rattle.std.proofs.lemmas.List.Elements.{filter-append}
+use Rattle.lucid_tree.proofs.Members.{found_in}
 use Rattle.lucid_equations.specs.Rows.{node_at}
 use Rattle.lucid_compile.specs.Static.{Static, outermost, in_block}
 use Rattle.lucid_compile.specs.Notes.{block_opens, notes, notes_in, notes_in_defs, is_piece}
@@ -96,13 +97,6 @@ mutual
       (in-front (spots_for o e) (def_spots k o ds) (notes o e) (tree-spots o e))
       (behind (spots_for o e) (def_spots k o ds) (notes_in_defs k o ds) (defs-spots k o ds))
 
-there-in : {A : Type 0} (xs : List A) (i : ℕ) (x : A) → slice_get xs i ≡ Some x → In x xs
-there-in [] i x e = absurd (none-some x e)
-there-in (y ∷ ys) zero x e =
-    let same : x ≡ y = cc in
-    inl same
-there-in (y ∷ ys) (suc i) x e = inr (there-in ys i x e)
-
 module _ (e : PlainTree) (t : Table) (so : Source) (made : IsWellMade e) (c : Compiles (numbers_of e) so (equations_of t) e)
     (homes : (o : Origin) → In o (spots e) → so.scope_at o.at ≡ o.home)
     (becomes : (i : ℕ) (n : Note) → slice_get (pieces e) i ≡ Some n → node_at t i ≡ node_for (numbers_of e) n.home (noted_tree n.kind)) where
@@ -116,7 +110,7 @@ module _ (e : PlainTree) (t : Table) (so : Source) (made : IsWellMade e) (c : Co
   node-there : (i : ℕ) (n : Note) → slice_get (pieces e) i ≡ Some n → (env : Env) → IsMet nu so p (noted_tree n.kind) env
       → node_at t i ≡ node_for nu (static_of env) (noted_tree n.kind)
   node-there i n there env m =
-      let s = tree-spots outermost e n (there-in (pieces e) i n there) in
+      let s = tree-spots outermost e n (found_in (pieces e) i n there) in
       let home : n.home ≡ static_of env = sym (homes (record { at = n.at; home = n.home }) s.there) ∙ ap so.scope_at (sym s.place)
       ∙ kept-place nu so p (static_of env) (noted_tree n.kind) m.1 in
       becomes i n there ∙ ap (λ k. node_for nu k (noted_tree n.kind)) home

@@ -2,13 +2,14 @@
 use Rattle.lucid_cycles.proofs.Common.{◌≡◌, ◌≢◌, ℕ, zero, suc, ◌+◌, ◌-◌, ◌<◌, ◌≤◌, Bool, true, false, List, [], ◌∷◌, ◌++◌, length, get_or, take, drop, ◌⊎◌, inl, inr, Vec, refl, sym, ap, subst, ◌∙◌, arith, add-one, length-append, ℤ, pos, ◌+ℤ◌, Global, All, get_or_past, take-append-drop, length-replicate, All-nil, All-head, All-tail, nat_tests, cases_lt, some_left, In, AllDiffer, Edge, factor_of, edge, first_or, total, Closed, potential, IsDue, AreLevels, levels_of, eqb, ◌||◌, list_any, get_or-map, length-map, All-push, IsDistinct-from_apart, length-le_from_distinct_below}
 use Rattle.std.proofs.lemmas.Bool.{eqb-true}
 use Rattle.std.proofs.lemmas.List.{get_or_default}
+use Rattle.lucid_tree.proofs.Members.{differ_right, differ_both}
 use Rattle.lucid_cycles.specs.Cycles.{Leads}
 use Rattle.lucid_cycles.specs.Rounds.{IsDueEdge}
 use Rattle.lucid_cycles.proofs.Sums.{by, not-positive}
 use Rattle.lucid_cycles.proofs.Levels.{next-rises}
 use Rattle.lucid_cycles.proofs.Lists.{in-at}
 use Rattle.lucid_cycles.proofs.Raising.{edge-is}
-use Rattle.lucid_cycles.proofs.Trails.{Down, Trail, trail-more, trail-drop, trail-length, trail-leads, closed-sum, differ-right, differ-join}
+use Rattle.lucid_cycles.proofs.Trails.{Down, Trail, trail-more, trail-drop, trail-length, trail-leads, closed-sum}
 
 -- the potentials of a level
 abbrev pub at_level : List (List ℕ) → ℕ → List ℕ
@@ -81,7 +82,7 @@ back-more g a n hs names delays level k name e l m q b new d =
           (subst (λ i. pos (potential (at_level hs i) e.to + 1) ≡ pos (potential (at_level hs level) name) +ℤ by a e.delay) s d.makes.is)
           (subst (λ i. potential (at_level hs i) name < potential (at_level hs level) name) s rose) in
           subst (λ i. potential (at_level hs j) e.to < potential (at_level hs i) e.to) (sym s) r;
-      once = differ-join names (name ∷ []) b.once ((λ i. i), tt) (λ x i j. elim j [ inl s ↦ new (subst (λ y. In y names) s i) | inr s ↦ s ]);
+      once = differ_both names (name ∷ []) b.once ((λ i. i), tt) (λ x i j. elim j [ inl s ↦ new (subst (λ y. In y names) s i) | inr s ↦ s ]);
       below = All-push (λ x. x < n) names name b.below
           (above (at_level hs level) n name (potential (at_level hs k) name) (length-of g a n hs l level (omega (arith, m, q, top))) rose (cases_lt name n));
     }
@@ -141,7 +142,7 @@ closed g a n hs names delays level name i e l m b h is =
       cycle = record {
         some = some;
         leads = subst (Leads g xs ws) (sym start) (trail-leads g a (at_level hs) t.0 xs ws level name t.2);
-        once = differ-right (take i names) xs (subst AllDiffer (sym (take-append-drop i names)) b.once);
+        once = differ_right (take i names) xs (subst AllDiffer (sym (take-append-drop i names)) b.once);
       };
       sum = not-positive a (length xs) (total ws)
           (closed-sum g a (at_level hs) t.0 xs ws level name t.2 some back (λ j k x q r. rise-to g a n hs l j k x q (omega (arith, m, r, t.1))))

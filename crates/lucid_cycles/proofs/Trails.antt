@@ -1,6 +1,6 @@
 -- Trails back through the levels, and the cycle that a trail closes.
 use Rattle.lucid_cycles.proofs.Common.{◌≡◌, ◌≢◌, ℕ, zero, suc, ◌+◌, ◌<◌, ◌≤◌, List, [], ◌∷◌, ◌++◌, length, get_or, take, drop, inl, inr, refl, sym, ap, subst, ◌∙◌, arith, ℤ, pos, ◌+ℤ◌, ◌≤ℤ◌, ◌<ℤ◌, All, ints, some_left, In, AllDiffer, in_left, in_right, Edge, take-append-drop, All-append, edge, first_or, total, Closed, potential, length-take-le, All-from_get_or, All-drop, All-take}
-use Rattle.lucid_tree.proofs.Members.{in_either}
+use Rattle.lucid_tree.proofs.Members.{differ_right, differ_both}
 use Rattle.lucid_cycles.specs.Cycles.{Leads, IsCycle, IsCycleWithoutDelay}
 use Rattle.lucid_cycles.proofs.Sums.{by, by-sum, by-none}
 
@@ -127,22 +127,13 @@ differ-left : {A : Type 0} (xs ys : List A) → AllDiffer (xs ++ ys) → AllDiff
 differ-left [] ys d = tt
 differ-left (x ∷ xs) ys d = ((λ i. d.0 (in_left x xs ys i)), differ-left xs ys d.1)
 
-pub differ-right : {A : Type 0} (xs ys : List A) → AllDiffer (xs ++ ys) → AllDiffer ys
-differ-right [] ys d = d
-differ-right (x ∷ xs) ys d = differ-right xs ys d.1
-
 apart : {A : Type 0} (xs ys : List A) → AllDiffer (xs ++ ys) → (x : A) → In x xs → In x ys → ⊥
 apart [] ys d x i j = i
 apart (y ∷ xs) ys d x (inl e) j = d.0 (in_right y xs ys (subst (λ z. In z ys) e j))
 apart (y ∷ xs) ys d x (inr i) j = apart xs ys d.1 x i j
 
-pub differ-join : {A : Type 0} (xs ys : List A) → AllDiffer xs → AllDiffer ys → ((x : A) → In x xs → In x ys → ⊥) → AllDiffer (xs ++ ys)
-differ-join [] ys d e f = e
-differ-join (x ∷ xs) ys d e f =
-    ((λ i. elim (in_either x xs ys i) [ inl j ↦ d.0 j | inr j ↦ f x (inl refl) j ]), differ-join xs ys d.1 e (λ z i j. f z (inr i) j))
-
 differ-turned : {A : Type 0} (xs ys : List A) → AllDiffer (xs ++ ys) → AllDiffer (ys ++ xs)
-differ-turned xs ys d = differ-join ys xs (differ-right xs ys d) (differ-left xs ys d) (λ x i j. apart xs ys d x j i)
+differ-turned xs ys d = differ_both ys xs (differ_right xs ys d) (differ-left xs ys d) (λ x i j. apart xs ys d x j i)
 
 first-some : (y z : ℕ) (xs : List ℕ) → xs ≢ [] → first_or y xs ≡ first_or z xs
 first-some y z [] s = absurd (s refl)

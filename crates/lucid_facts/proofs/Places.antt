@@ -2,6 +2,7 @@
 use Rattle.lucid_facts.proofs.Common.{◌≡◌, ℕ, zero, suc, cond, List, [], ◌∷◌, Option, Some, None, inl, inr, refl, sym, ap, ◌∙◌, subst, arith, IsTrue, Decides, Decides-eqb, cases_eq, same_Some, none-some, PlainValue, In, AllDiffer, World, Contents, Stream, all_bytes, ReadsOn, Extends, elements_read, EngineView, MayHave, AreAskable, places_of, MatchOption, slice_eq-Decides}
 use Rattle.std.proofs.Common.{◌≢◌, Bool, true, false, length}
 use Rattle.std.specs.Prelude.{slice_get}
+use Rattle.lucid_tree.proofs.Members.{found_in}
 use Rattle.lucid_lemmas.proofs.Lists.{slice_get-append_left}
 use Rattle.lucid_value.specs.Plain.{eod}
 use Rattle.lucid_value.specs.Elements.{element}
@@ -14,12 +15,6 @@ use Rattle.lucid_facts.specs.Elements.{or_end, read_in, told_in, elements_told}
 -- the test of names decides
 pub same_name_decides : (m n : List ℕ) → Decides (same_name m n) (m ≡ n)
 same_name_decides m n = slice_eq-Decides Decides-eqb m n (same_name m n) refl
-
--- what stands at a number stands in the list
-stands_in : {A : Type 0} (xs : List A) (k : ℕ) (x : A) → slice_get xs k ≡ Some x → In x xs
-stands_in [] k x e = absurd (none-some _ e)
-stands_in (y ∷ xs) zero x e = inl (same_Some _ _ (sym e))
-stands_in (y ∷ xs) (suc k) x e = inr (stands_in xs k x e)
 
 pub place_in : (streams : List Stream) (k : ℕ) (s : Stream) → slice_get streams k ≡ Some s → In s.place (places_of streams)
 place_in [] k s e = absurd (none-some _ e)
@@ -116,7 +111,7 @@ elements_at (m ∷ names) (t ∷ streams) zero n s differ e f j =
     ap (λ b. cond b (read_in t j) (elements_read names streams n j)) ((same_name_decides m n).1 (same_Some _ _ e)) ∙ ap (λ x. read_in x j) (same_Some _ _ f)
 elements_at (m ∷ names) (t ∷ streams) (suc number) n s differ e f j =
     (elim (same_name m n) as (λ b. same_name m n ≡ b → cond b (read_in t j) (elements_read names streams n j) ≡ read_in s j) [
-      | true ↦ λ h. absurd (differ.0 (subst (λ x. In x names) (sym ((same_name_decides m n).0 h)) (stands_in names number n e)))
+      | true ↦ λ h. absurd (differ.0 (subst (λ x. In x names) (sym ((same_name_decides m n).0 h)) (found_in names number n e)))
       | false ↦ λ h. elements_at names streams number n s differ.1 e f j
     ]) refl
 

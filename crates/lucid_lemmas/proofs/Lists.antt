@@ -20,6 +20,12 @@ pub slice_get-push_same : {A : Type 0} (xs : List A) (v : A) → slice_get (xs +
 slice_get-push_same [] v = refl
 slice_get-push_same (x ∷ xs) v = slice_get-push_same xs v
 
+pub slice_get-push_other : {A : Type 0} (xs : List A) (v : A) (k : ℕ) → k ≢ length xs → slice_get (xs ++ v ∷ []) k ≡ slice_get xs k
+slice_get-push_other [] v zero other = absurd (other refl)
+slice_get-push_other [] v (suc k) other = refl
+slice_get-push_other (x ∷ xs) v zero other = refl
+slice_get-push_other (x ∷ xs) v (suc k) other = slice_get-push_other xs v k (λ e. other (ap suc e))
+
 pub slice_get-append_left : {A : Type 0} (xs ys : List A) (i : ℕ) (x : A) → slice_get xs i ≡ Some x → slice_get (xs ++ ys) i ≡ Some x
 slice_get-append_left [] ys i x e = absurd (none-some x e)
 slice_get-append_left (y ∷ xs) ys zero x e = e

@@ -1,7 +1,7 @@
 -- What a walk finds is reached, and it finds all that is.
 use Rattle.lucid_needs.proofs.Common.{◌≡◌, ℕ, Bool, true, false, List, [], ◌∷◌, ◌++◌, ◌||◌, Some, None, ◌⊎◌, inl, inr, refl, sym, ap, subst, ◌∙◌}
-use Rattle.std.proofs.Common.{nat_eq, ◌==◌, ◌&&◌}
-use Rattle.std.proofs.lemmas.Bool.{eqb-true}
+use Rattle.std.proofs.Common.{nat_eq, ◌==◌}
+use Rattle.std.proofs.lemmas.Bool.{eqb-true, and_parts, or_cases}
 use Rattle.lucid_tree.specs.Members.{In}
 use Rattle.lucid_tree.proofs.Members.{in_left, in_right, in_either}
 use Rattle.lucid_equations.specs.declared.table.Table.{Table}
@@ -41,19 +41,10 @@ reached T js i found needs =
     sound T js (Leads T js i) needs (λ k none. absurd none)
     (λ m k there leads. subst (λ n. Leads T js n k) (the_one m i there) leads)
 
--- a truth of two is one of them
-either : (a b : Bool) → (a || b) ≡ true → (a ≡ true) ⊎ (b ≡ true)
-either true b h = inl refl
-either false b h = inr h
-
-both : (a b : Bool) → (a && b) ≡ true → (a ≡ true) × (b ≡ true)
-both true b h = (refl, h)
-both false b h = absurd (cc)
-
 -- what is found among numbers stands there
 one_of_there : (ns : List ℕ) (i : ℕ) → is_one_of ns i ≡ true → In i ns
 one_of_there [] i h = absurd (cc)
-one_of_there (n ∷ ns) i h = elim (either (nat_eq i n) (is_one_of ns i) h) [ inl e ↦ inl (eqb-true i n e) | inr e ↦ inr (one_of_there ns i e) ]
+one_of_there (n ∷ ns) i h = elim (or_cases (nat_eq i n) (is_one_of ns i) h) [ inl e ↦ inl (eqb-true i n e) | inr e ↦ inr (one_of_there ns i e) ]
 
 -- cells that the test calls one are one
 same_is_one : (c d : Cell) → same_cell c d ≡ true → c ≡ d
@@ -61,15 +52,15 @@ same_is_one (Named i) (Named j) h = ap Named (eqb-true i j h)
 same_is_one (Named i) (Element l u) h = absurd (cc)
 same_is_one (Element k t) (Named j) h = absurd (cc)
 same_is_one (Element k t) (Element l u) h =
-    let parts = both (k == l) (t == u) h in
+    let parts = and_parts (k == l) (t == u) h in
     let p = eqb-true k l parts.0 in
     let q = eqb-true t u parts.1 in cc
 
 -- a cell among more is among those, or the last
 among_more : (cs : List Cell) (c d : Cell) → is_among (cs ++ c ∷ []) d ≡ true → (is_among cs d ≡ true) ⊎ (d ≡ c)
-among_more [] c d h = elim (either (same_cell d c) false h) [ inl e ↦ inr (same_is_one d c e) | inr e ↦ absurd (cc) ]
+among_more [] c d h = elim (or_cases (same_cell d c) false h) [ inl e ↦ inr (same_is_one d c e) | inr e ↦ absurd (cc) ]
 among_more (x ∷ cs) c d h =
-    elim (either (same_cell d x) (is_among (cs ++ c ∷ []) d) h) [
+    elim (or_cases (same_cell d x) (is_among (cs ++ c ∷ []) d) h) [
       | inl e ↦ inl (ap (λ b. b || is_among cs d) e)
       | inr e ↦ elim (among_more cs c d e) [ inl g ↦ inl (ap (λ b. same_cell d x || b) g ∙ or_true (same_cell d x)) | inr g ↦ inr g ]
     ]

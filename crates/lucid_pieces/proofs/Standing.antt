@@ -1,12 +1,12 @@
 -- A piece that the walk notes is a part of the tree, and stands at the place at which it is noted.
-use Rattle.std.proofs.Common.{◌≡◌, ℕ, zero, suc, List, [], ◌∷◌, ◌++◌, Bool, true, false, if◌then◌else◌, filter, map, Some, inl, inr, refl, sym, ap, ◌∙◌, subst}
+use Rattle.std.proofs.Common.{◌≡◌, ℕ, suc, List, [], ◌∷◌, ◌++◌, Bool, true, false, if◌then◌else◌, filter, map, Some, inl, inr, refl, sym, ap, ◌∙◌, subst}
 use Rattle.std.specs.Prelude.{slice_get}
 use Rattle.std.specs.Option.{option_map, option_and_then}
 use Rattle.std.proofs.lemmas.List.Elements.{filter-append}
-use Rattle.std.proofs.lemmas.Option.{none-some, slice_get-map}
+use Rattle.std.proofs.lemmas.Option.{slice_get-map}
 use Rattle.lucid_tree.specs.Tree.{PlainTree, form, name, call, block, PlainTrees, no_trees, tree, PlainDefs, no_defs, defines, defines_function, defines_current}
 use Rattle.lucid_tree.specs.WellMade.{In, IsWellMade}
-use Rattle.lucid_tree.proofs.Members.{in_left, in_right, in_either}
+use Rattle.lucid_tree.proofs.Members.{in_left, in_right, in_either, found_in}
 use Rattle.lucid_parts.specs.Parts.{own_place, all_parts, parts_in, parts_in_defs, part_at}
 use Rattle.lucid_parts.proofs.Finding.{part-found}
 use Rattle.lucid_compile.specs.Static.{Static, outermost, in_block, in_body, freezes}
@@ -100,15 +100,8 @@ mutual
       (in-front (all_parts e) (parts_in_defs ds) (notes o e) (tree-parts o e))
       (behind (all_parts e) (parts_in_defs ds) (notes_in_defs k o ds) (defs-parts k o ds))
 
-there-in : {A : Type 0} (xs : List A) (i : ℕ) (x : A) → slice_get xs i ≡ Some x → In x xs
-there-in [] i x e = absurd (none-some x e)
-there-in (y ∷ ys) zero x e =
-    let same : x ≡ y = cc in
-    inl same
-there-in (y ∷ ys) (suc i) x e = inr (there-in ys i x e)
-
 pub own-piece : (e : PlainTree) → IsWellMade e → (node : ℕ) (n : Note) → slice_get (pieces e) node ≡ Some n → piece_of e node ≡ Some (noted_tree n.kind)
 own-piece e made node n there =
-    let s = tree-parts outermost e n (there-in (pieces e) node n there) in
+    let s = tree-parts outermost e n (found_in (pieces e) node n there) in
     let at : slice_get (origins_of e).nodes node ≡ Some n.at = slice_get-map (λ (m : Note). m.at) (pieces e) node ∙ ap (option_map (λ (m : Note). m.at)) there in
     ap (option_and_then (part_at e)) at ∙ ap (part_at e) (sym s.place) ∙ part-found e (noted_tree n.kind) made s.there

@@ -1,9 +1,9 @@
 -- What stays over several calls.
-use Rattle.lucid_ports.proofs.Common.{◌≡◌, ℕ, suc, ◌++◌, ◌∷◌, [], List, length, Some, ap, refl, ◌∙◌, arith, KeepsOthers}
-use Rattle.std.proofs.Common.{◌≢◌, zero, map}
+use Rattle.lucid_ports.proofs.Common.{◌≡◌, ℕ, ◌++◌, ◌∷◌, [], List, length, Some, ap, ◌∙◌, arith, KeepsOthers}
+use Rattle.std.proofs.Common.{◌≢◌, map}
 use Rattle.std.proofs.lemmas.List.{map_push}
 use Rattle.std.specs.List.{slice_get}
-use Rattle.lucid_lemmas.proofs.Lists.{slice_get-push_same}
+use Rattle.lucid_lemmas.proofs.Lists.{slice_get-push_same, slice_get-push_other}
 use Rattle.lucid_ports.specs.World.{World}
 
 -- two calls in a row on one place
@@ -21,14 +21,8 @@ pub asked_next : {X : Type 0} (bytes : X → List ℕ) (names later : List X) (n
 asked_next bytes names later next name more is = ap (map bytes) more ∙ map_push bytes names next ∙ ap (λ n. map bytes names ++ n ∷ []) is
 
 -- one more place is reached, and the others are where they were
-pushed_other : {X : Type 0} (xs : List X) (next : X) (k : ℕ) → k ≢ length xs → slice_get (xs ++ next ∷ []) k ≡ slice_get xs k
-pushed_other [] next zero other = absurd (other refl)
-pushed_other [] next (suc k) other = refl
-pushed_other (x ∷ xs) next zero other = refl
-pushed_other (x ∷ xs) next (suc k) other = pushed_other xs next k (λ e. other (ap suc e))
-
 pub place_added : {X : Type 0} (places later : List X) (next : X) (k : ℕ) → later ≡ places ++ next ∷ [] → k ≢ length places → slice_get later k ≡ slice_get places k
-place_added places later next k more other = ap (λ l. slice_get l k) more ∙ pushed_other places next k other
+place_added places later next k more other = ap (λ l. slice_get l k) more ∙ slice_get-push_other places next k other
 
 pub place_reached : {X : Type 0} (places later : List X) (next : X) (k : ℕ) → later ≡ places ++ next ∷ [] → k ≡ length places → slice_get later k ≡ Some next
 place_reached places later next k more last = ap (λ l. slice_get l k) more ∙ ap (slice_get (places ++ next ∷ [])) last ∙ slice_get-push_same places next

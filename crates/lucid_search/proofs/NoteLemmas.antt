@@ -1,5 +1,5 @@
 -- What is noted after the numbers of one site were written.
-use Rattle.lucid_search.proofs.Common.{◌≡◌, ℕ, ◌≤◌, true, false, cond, ◌==◌, List, Option, Some, None, Result, Ok, Err, IsSome, ap, sym, refl, subst, ◌∙◌, option_and_then, lookup, Site, number_in, same_site, number_of_site, ◌&&◌, OnErr, IfSome, IfNone}
+use Rattle.lucid_search.proofs.Common.{◌≡◌, ℕ, ◌≤◌, true, false, cond, ◌==◌, List, Option, Some, None, IsSome, ap, sym, refl, subst, ◌∙◌, option_and_then, lookup, Site, number_in, same_site, number_of_site, ◌&&◌, IfSome, IfNone}
 use Rattle.lucid_search.specs.Noted.{NotesSite, SameSites, IsGreatest}
 use Rattle.lucid_search.proofs.SiteLemmas.{site_from_same}
 
@@ -46,8 +46,3 @@ pub none_by : (f g : ℕ → Option ℕ) (key : ℕ) (r : Option (ℕ × ℕ)) �
     → IfNone r ((q : ℕ) → q ≤ key → g q ≡ None) → IfNone r ((q : ℕ) → q ≤ key → f q ≡ None)
 none_by f g key None same h = λ q low. same q ∙ h q low
 none_by f g key (Some pair) same h = h
-
--- a fact that holds holds at a refusal
-pub on_err : {T E : Type 0} {P : Type 0} (r : Result T E) → P → OnErr r P
-on_err (Ok x) p = tt
-on_err (Err e) p = p

@@ -2,7 +2,7 @@
 use Rattle.lucid_tasks.proofs.Common.{◌≡◌, ◌≢◌, ℕ, zero, suc, ◌+◌, ◌-◌, ◌*◌, ◌^◌, ◌<◌, ◌≤◌, ◌==◌, ◌&&◌, true, false, cond, List, [], ◌∷◌, ◌++◌, length, get_or, set, Option, Some, None, IsSome, IfSome, ◌⊎◌, inl, inr, refl, sym, ap, subst, ◌∙◌, arith, true≢false, option_map, option_and_then, list_all, none-some, cases_eq, above_differs, Value, Part, Task, Key, Row, value_at, SetsOne, PartState, Idle, Asked, Got, TaskRow, row_at, state_at, got_of, got_value, emptied, taken, fresh, with_part, all_idle, is_free, is_ready, IsRow, SetsOnly, ChangesOnly, Values, part_number, laid_from, Trims, slice_get_within}
 use Rattle.std.specs.Prelude.{slice_get}
 use Rattle.std.proofs.lemmas.List.{length_push, length-set}
-use Rattle.lucid_lemmas.proofs.Lists.{slice_get-push_same}
+use Rattle.lucid_lemmas.proofs.Lists.{slice_get-push_same, slice_get-push_other}
 use Rattle.lucid_tasks.specs.Rows.{start}
 use Rattle.lucid_tasks.specs.Laid.{named, state, laid_state, three_of, laid_parent, laid_key, laid, laid_row, HasIdle, AreLaid, live_at, Shows}
 use Rattle.lucid_tasks.proofs.Cases.{chosen, chosen_same, chosen_other, some_is}
@@ -66,12 +66,6 @@ get_set_other (r ∷ rows) (suc slot) row (suc q) ne = get_set_other rows slot r
 get_past : {X : Type 0} (rows : List X) → slice_get rows (length rows) ≡ None
 get_past [] = refl
 get_past (r ∷ rows) = get_past rows
-
-get_push_other : {X : Type 0} (rows : List X) (row : X) (q : ℕ) → q ≢ length rows → slice_get (rows ++ row ∷ []) q ≡ slice_get rows q
-get_push_other [] row zero ne = absurd (ne refl)
-get_push_other [] row (suc q) ne = refl
-get_push_other (r ∷ rows) row zero ne = refl
-get_push_other (r ∷ rows) row (suc q) ne = get_push_other rows row q (λ e. ne (ap suc e))
 
 -- ---- numbers of parts
 
@@ -367,7 +361,7 @@ module _ (rows : List Row) (values after : Values) (l : AreLaid rows values) (sa
       (chosen q (length rows) (row_at (laid_from values.0 0 (rows ++ row ∷ [])) q) (Some (fresh task parent key)) (row_at (laid_from values.0 0 rows) q)
       (λ e. ap (row_at (laid_from values.0 0 (rows ++ row ∷ []))) e ∙ shown_is values.0 (rows ++ row ∷ []) (length rows) row (slice_get-push_same rows row) live
       ∙ ap Some new_is)
-      (λ ne. at values.0 (rows ++ row ∷ []) q ∙ ap (option_and_then (laid_row values.0 q)) (get_push_other rows row q ne) ∙ sym (at values.0 rows q)))
+      (λ ne. at values.0 (rows ++ row ∷ []) q ∙ ap (option_and_then (laid_row values.0 q)) (slice_get-push_other rows row q ne) ∙ sym (at values.0 rows q)))
     where
       parts_are : three_of (laid_state values.0 (length rows) row) ≡ all_idle
       parts_are = three_same (λ _. Idle) (laid_state values.0 (length rows) row) idle_state
@@ -388,12 +382,12 @@ module _ (rows : List Row) (values after : Values) (l : AreLaid rows values) (sa
           absurd
           (true≢false
           (sym (subst IsSome (ap (λ n. value_at values.0 (part_number n i)) e ∙ no_value i h (value_at values.0 (part_number (length rows) i)) refl) some)))
-      owned_case s i h some (inr ne) = let had = l.owned s i h some in (had.0, (get_push_other rows row s ne ∙ had.1.0, had.1.1))
+      owned_case s i h some (inr ne) = let had = l.owned s i h some in (had.0, (slice_get-push_other rows row s ne ∙ had.1.0, had.1.1))
 
       three_case : (s : ℕ) (r : Row) → slice_get (rows ++ row ∷ []) s ≡ Some r → (s ≡ length rows) ⊎ (s ≡ length rows → ⊥) → length r.asked ≡ 3
       three_case s r e (inl is) =
           ap (λ (x : Row). length x.asked) (some_is r r row (sym e ∙ ap (slice_get (rows ++ row ∷ [])) is ∙ slice_get-push_same rows row)) ∙ ap length asked
-      three_case s r e (inr ne) = l.three s r (sym (get_push_other rows row s ne) ∙ e)
+      three_case s r e (inr ne) = l.three s r (sym (slice_get-push_other rows row s ne) ∙ e)
 
 -- ---- a row that ends
 
@@ -514,13 +508,13 @@ module _ (initial rest : List Row) (row : Row) (dead : row.live ≡ false) (t : 
     | inl e ↦ ap (λ s. live_at rest s) e ∙ ap (option_and_then (λ (r : Row). cond r.live (Some r) None)) (get_past rest)
         ∙ sym (ap (λ s. live_at (rest ++ row ∷ []) s) e ∙ ap (option_and_then (λ (r : Row). cond r.live (Some r) None)) (slice_get-push_same rest row)
         ∙ ap (λ b. cond b (Some row) None) dead)
-    | inr ne ↦ ap (option_and_then (λ (r : Row). cond r.live (Some r) None)) (sym (get_push_other rest row slot ne))
+    | inr ne ↦ ap (option_and_then (λ (r : Row). cond r.live (Some r) None)) (sym (slice_get-push_other rest row slot ne))
   ]
 
   dropped : Trims initial rest
   dropped = record {
     live = λ slot. live_left slot ∙ t.live slot;
-    same = λ slot r e. let below = slice_get_within rest slot r e in t.same slot r (get_push_other rest row slot (λ is. omega (arith, below, is)) ∙ e);
+    same = λ slot r e. let below = slice_get_within rest slot r e in t.same slot r (slice_get-push_other rest row slot (λ is. omega (arith, below, is)) ∙ e);
     shorter = let less = t.shorter in let len = length_push rest row in omega (arith, less, len);
   }
 

@@ -1,6 +1,8 @@
 -- What stands in a list, and lists that stand inside others: appended, chosen by a test, and read by a filter; and lists of different items.
 use Rattle.lucid_tree.proofs.Common.{◌≡◌, List, [], ◌∷◌, ◌++◌, Option, Some, None, refl, sym, ap, ◌∙◌, if◌then◌else◌, arith, ◌⊎◌, inl, inr, ℕ, zero, suc, ◌<◌, ◌≤◌, length, get_or, subst, In, Inside, AllDiffer, map, Contains, filter_map, cons_option}
 use Rattle.std.proofs.Common.{Bool, true, false}
+use Rattle.std.specs.Prelude.{All, slice_get}
+use Rattle.std.proofs.lemmas.Option.{none-some, same_Some}
 
 pub in_left : {A : Type 0} (x : A) (xs ys : List A) → In x xs → In x (xs ++ ys)
 in_left x [] ys h = absurd h
@@ -84,6 +86,30 @@ pub stands_at : {A : Type 0} (x : A) (xs : List A) (i : ℕ) → i < length xs �
 stands_at x [] i within is = absurd (omega (arith, within))
 stands_at x (y ∷ xs) zero within is = inl (sym is)
 stands_at x (y ∷ xs) (suc i) within is = inr (stands_at x xs i (omega (arith, within)) is)
+
+-- what holds of all items holds of each that stands there
+pub in_all : {A : Type 0} (P : A → Type 0) (xs : List A) (x : A) → All P xs → In x xs → P x
+in_all P [] x all i = absurd i
+in_all P (y ∷ xs) x all (inl e) = subst P (sym e) (all 0 y (omega arith))
+in_all P (y ∷ xs) x all (inr i) = in_all P xs x (λ k d lt. all (suc k) d (omega (arith, lt))) i
+
+-- what is found at a number stands there
+pub found_in : {A : Type 0} (xs : List A) (k : ℕ) (x : A) → slice_get xs k ≡ Some x → In x xs
+found_in [] k x e = absurd (none-some _ e)
+found_in (y ∷ xs) zero x e = inl (same_Some _ _ (sym e))
+found_in (y ∷ xs) (suc k) x e = inr (found_in xs k x e)
+
+pub differ_right : {A : Type 0} (xs ys : List A) → AllDiffer (xs ++ ys) → AllDiffer ys
+differ_right [] ys all = all
+differ_right (x ∷ xs) ys all = differ_right xs ys all.1
+
+-- lists of different items that share none
+pub differ_both : {A : Type 0} (xs ys : List A) → AllDiffer xs → AllDiffer ys → ((x : A) → In x xs → In x ys → ⊥) → AllDiffer (xs ++ ys)
+differ_both [] ys one two apart = two
+differ_both (x ∷ xs) ys one two apart = (
+  λ i. elim (in_either x xs ys i) [ inl j ↦ one.0 j | inr j ↦ apart x (inl refl) j ],
+  differ_both xs ys one.1 two (λ y i j. apart y (inr i) j),
+)
 
 -- another item behind different ones
 pub one_more-differs : {A : Type 0} (x : A) (xs : List A) → (In x xs → ⊥) → AllDiffer xs → AllDiffer (xs ++ x ∷ [])
