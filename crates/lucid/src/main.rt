@@ -5,7 +5,7 @@ ghost use Rattle.std.specs.Prelude.{◌≡◌, ◌≢◌, Err, IfErr, IfOk, OnEr
 ghost use Rattle.std.specs.Process.{exit_status};
 ghost use Rattle.std.specs.String.{string_bytes};
 ghost use Rattle.lucid_words.specs.Asked.{words_asked};
-ghost use Rattle.lucid_session.specs.Runs.{told};
+ghost use Rattle.lucid_ports.specs.Told.{told};
 ghost use Rattle.lucid_report.specs.Status.{code_of};
 ghost use Rattle.lucid_report.specs.Telling.{Tells};
 ghost use Rattle.lucid_top.specs.Call.{call};

@@ -5,10 +5,10 @@ use Rattle.lucid_tree.specs.Rows.{Look, gives, nothing, looks, look, single, add
 use Rattle.lucid_tree.proofs.Members.{in_left, in_right}
 use Rattle.lucid_tree.proofs.Plans.{Within, from_nothing, same_value, same_looks}
 use Rattle.lucid_tree.proofs.Settled.{AllTaken, none_taken, one_taken, Takes, takes_looks, added}
-use Rattle.lucid_follow.specs.Fed.{take_values}
-use Rattle.lucid_follow.specs.RestPlans.{look_plan}
-use Rattle.lucid_follow.specs.declared.rest.Look.{Look as NextLook}
-use Rattle.lucid_follow.specs.declared.rest.Rest.TheVariants as rest
+use Rattle.lucid_cert_rules.specs.Fed.{take_values}
+use Rattle.lucid_cert_rules.specs.RestPlans.{look_plan}
+use Rattle.lucid_cert_rules.specs.declared.rest.Look.{Look as NextLook}
+use Rattle.lucid_cert_rules.specs.declared.rest.Rest.TheVariants as rest
 use Rattle.lucid_cert.specs.Wanted.{ComesTo, begun}
 
 -- one use for each look, whatever their numbers

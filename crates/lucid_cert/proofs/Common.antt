@@ -9,11 +9,11 @@ pub use Rattle.lucid_cert.specs.Wanted.{AllMayWait, AreWanted, HasCome, IsWanted
 pub use Rattle.lucid_cert.specs.declared.maker.Maker.{Maker}
 pub use Rattle.lucid_cert.specs.declared.making.Making.{Making}
 pub use Rattle.lucid_cert.specs.declared.making.Next.{Next}
-pub use Rattle.lucid_check.proofs.Drawing.{stream_there}
-pub use Rattle.lucid_check.specs.Checked.{MayBe}
-pub use Rattle.lucid_check.specs.Uses.{gives_only, plain_look, told}
-pub use Rattle.lucid_demand.specs.declared.fault.DemandFault.{DemandFault}
-pub use Rattle.lucid_demand.specs.declared.fault.DemandFault.TheVariants.{NoMemory, ReadFault, TooDeep}
+pub use Rattle.lucid_cert.proofs.Drawing.{stream_there}
+pub use Rattle.lucid_cert.specs.Checked.{MayBe}
+pub use Rattle.lucid_cert.specs.Uses.{gives_only, plain_look, told}
+pub use Rattle.lucid_demand_steps.specs.declared.fault.DemandFault.{DemandFault}
+pub use Rattle.lucid_demand_steps.specs.declared.fault.DemandFault.TheVariants.{NoMemory, ReadFault, TooDeep}
 pub use Rattle.lucid_equations.proofs.NumbersRead.{nodes-by-numbers}
 pub use Rattle.lucid_equations.proofs.PartsRead.{row-node}
 pub use Rattle.lucid_equations.specs.Nodes.{PlainNode, row}
@@ -25,23 +25,23 @@ pub use Rattle.lucid_equations.specs.Visits.{node_visits}
 pub use Rattle.lucid_equations.specs.declared.rows.Node.{Node}
 pub use Rattle.lucid_equations.specs.declared.rows.Node.TheVariants.{Input}
 pub use Rattle.lucid_equations.specs.declared.table.Table.{Table}
-pub use Rattle.lucid_facts.proofs.History.{extends_then}
-pub use Rattle.lucid_facts.proofs.Reading.{inputs_apart, read_more, streams_read}
-pub use Rattle.lucid_facts.specs.Engine.{AreAskable, ConsultsOverlong, places_of}
-pub use Rattle.lucid_facts.specs.Parts.{look_task, node_of}
-pub use Rattle.lucid_facts.specs.Stands.{task_val, task_visits, visits_of}
-pub use Rattle.lucid_facts.specs.Tasks.{PlainTask}
-pub use Rattle.lucid_follow.specs.Checking.{ArePlaces, AreTimes, IsOfContext, PassesOn, going, row_onward}
-pub use Rattle.lucid_follow.specs.Fed.{Uses, fed}
-pub use Rattle.lucid_follow.specs.Follows.{FollowsIn, Judged, Onward, context_in, contexts_behind, given, is_context, of_part}
-unfoldable pub use Rattle.lucid_follow.specs.Follows.{used}
-pub use Rattle.lucid_follow.specs.RestPlans.{AreFedAlike, CanGoOn, HasHead, IsForm, LooksInside, Stands, by_then, least_of, rest_plan}
-pub use Rattle.lucid_follow.specs.declared.passing.Position.{Position}
-pub use Rattle.lucid_follow.specs.declared.rest.Rest.{Rest}
+pub use Rattle.lucid_demand_steps.proofs.History.{extends_then}
+pub use Rattle.lucid_demand_steps.proofs.Reading.{inputs_apart, read_more, streams_read}
+pub use Rattle.lucid_demand_steps.specs.Engine.{AreAskable, ConsultsOverlong, places_of}
+pub use Rattle.lucid_demand_steps.specs.Parts.{look_task, node_of}
+pub use Rattle.lucid_demand_steps.specs.Stands.{task_val, task_visits, visits_of}
+pub use Rattle.lucid_demand_steps.specs.Tasks.{PlainTask}
+pub use Rattle.lucid_cert_rules.specs.Checking.{ArePlaces, AreTimes, IsOfContext, PassesOn, going, row_onward}
+pub use Rattle.lucid_cert_rules.specs.Fed.{Uses, fed}
+pub use Rattle.lucid_cert_rules.specs.Follows.{FollowsIn, Judged, Onward, context_in, contexts_behind, given, is_context, of_part}
+unfoldable pub use Rattle.lucid_cert_rules.specs.Follows.{used}
+pub use Rattle.lucid_cert_rules.specs.RestPlans.{AreFedAlike, CanGoOn, HasHead, IsForm, LooksInside, Stands, by_then, least_of, rest_plan}
+pub use Rattle.lucid_cert_rules.specs.declared.passing.Position.{Position}
+pub use Rattle.lucid_cert_rules.specs.declared.rest.Rest.{Rest}
 pub use Rattle.lucid_inputs.specs.Inputs.{ReadsStream, stream_at, streams}
 pub use Rattle.lucid_inputs.specs.Laws.{PlacesDiffer}
 pub use Rattle.lucid_inputs.specs.declared.on_demand.Inputs.{Inputs}
-pub use Rattle.lucid_lemmas.proofs.Lists.{slice_get-append_left, slice_get-push_same}
+pub use Rattle.lucid_lists.proofs.Lists.{slice_get-append_left, slice_get-push_same}
 pub use Rattle.lucid_ports.specs.World.{World}
 pub use Rattle.lucid_tags.specs.Contexts.{Context, context_at, root}
 pub use Rattle.lucid_tags.specs.Keys.{same_key}
@@ -57,11 +57,11 @@ pub use Rattle.lucid_tree.specs.Tree.{Head}
 pub use Rattle.lucid_value.specs.Plain.{PlainValue}
 pub use Rattle.lucid_value.specs.View.{plain}
 pub use Rattle.lucid_value.specs.declared.Value.{Value}
-pub use Rattle.lucid_why.specs.Certificates.{PlainJudgment, plain_judgment}
-pub use Rattle.lucid_why.specs.WhyText.{context_row}
-pub use Rattle.lucid_why.specs.WhyTexts.{MayShow, MayShowJudgment}
-pub use Rattle.lucid_why.specs.declared.rows.ContextRow.{ContextRow}
-pub use Rattle.lucid_why.specs.declared.rows.Why.{Why}
+pub use Rattle.lucid_cert_rules.specs.Certificates.{PlainJudgment, plain_judgment}
+pub use Rattle.lucid_cert_rules.specs.WhyText.{context_row}
+pub use Rattle.lucid_cert_rules.specs.WhyTexts.{MayShow, MayShowJudgment}
+pub use Rattle.lucid_cert_rules.specs.declared.rows.ContextRow.{ContextRow}
+pub use Rattle.lucid_cert_rules.specs.declared.rows.Why.{Why}
 pub use Rattle.std.proofs.Common.{Bool, List, None, Option, Some, [], ap, append_assoc, arith, cond, eq-eqb, false, get_or, inl, inr, length, length-append, map, max, not, refl, subst, suc, sym, take, true, true≢false, zero, ℕ, ◌&&◌, ◌++◌, ◌+◌, ◌-◌, ◌<◌, ◌==◌, ◌^◌, ◌||◌, ◌∙◌, ◌∷◌, ◌≡◌, ◌≤◌, ◌⊎◌}
 pub use Rattle.std.proofs.lemmas.Bool.{cases_lt, le-leb, lt-ltb, ltb-true}
 pub use Rattle.std.proofs.lemmas.Bool.Decides.{nat_tests}

@@ -4,12 +4,12 @@ use Rattle.lucid_value.specs.Lines.{IsOverlong}
 use Rattle.lucid_inputs.specs.Inputs.{most_bytes}
 use Rattle.lucid_inputs.specs.Streams.{all_bytes}
 use Rattle.lucid_search.specs.Noted.{nothing_noted}
-use Rattle.lucid_facts.specs.Engine.{holding}
-use Rattle.lucid_facts.specs.Demands.{Demand, demand_of, IsConsulted}
-use Rattle.lucid_facts.specs.Stock.{StockFacts}
-use Rattle.lucid_facts.proofs.Reading.{EngineReads, stock_reads}
-use Rattle.lucid_check.specs.Reads.{LiesPast}
-use Rattle.lucid_check.proofs.Drawing.{of_bytes}
+use Rattle.lucid_demand_steps.specs.Engine.{holding}
+use Rattle.lucid_demand_steps.specs.Demands.{Demand, demand_of, IsConsulted}
+use Rattle.lucid_demand_steps.specs.Stock.{StockFacts}
+use Rattle.lucid_demand_steps.proofs.Reading.{EngineReads, stock_reads}
+use Rattle.lucid_cert.specs.CheckReads.{LiesPast}
+use Rattle.lucid_cert.proofs.Drawing.{of_bytes}
 use Rattle.lucid_cert.proofs.Wanting.{input_is_consulted}
 
 not_none : {P : Type 0} → true ≡ false → P

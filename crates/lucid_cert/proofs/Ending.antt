@@ -1,12 +1,12 @@
 -- The certificate that ends with the root's judgment.
 use Rattle.lucid_cert.proofs.Common.{◌≡◌, ℕ, suc, ◌+◌, ◌<◌, List, [], ◌∷◌, ◌++◌, map, take, length, Option, Some, refl, sym, ap, ◌∙◌, subst, arith, slice_get, AllByRecursion, length-take, same_Some, slice_get_within, Elements, Context, context_at, root, number_of, Key, Tag, Table, PlainJudgment, context_row, MayShow, MayShowJudgment, ContextRow, Why, FollowsIn, context_in, contexts_behind, Position, IsCertificate, Each, FollowAmong, IsJudgmentAt, IsRoot, IsSoundBy, Spot, spot_at, Making}
-use Rattle.lucid_why.specs.WhyText.{judgment_row}
-use Rattle.lucid_why.specs.WhyTexts.{MayBeShown}
-use Rattle.lucid_follow.specs.Follows.{IsOfRoot, contexts, row_context}
+use Rattle.lucid_cert_rules.specs.WhyText.{judgment_row}
+use Rattle.lucid_cert_rules.specs.WhyTexts.{MayBeShown}
+use Rattle.lucid_cert_rules.specs.Follows.{IsOfRoot, contexts, row_context}
 use Rattle.lucid_cert.specs.Certified.{AreApart}
 use Rattle.std.proofs.Common.{drop}
 use Rattle.std.proofs.lemmas.List.{take-append-drop}
-use Rattle.lucid_lemmas.proofs.Lists.{slice_get-append_left}
+use Rattle.lucid_lists.proofs.Lists.{slice_get-append_left}
 use Rattle.lucid_cert.proofs.Growing.{follow_in_front, in_known, left_of}
 
 -- the first context is the empty one

@@ -3,14 +3,14 @@ use Rattle.lucid_cert.proofs.Common.{◌≡◌, ℕ, ◌+◌, ◌<◌, ◌≤◌
 use Rattle.lucid_tags.specs.Contexts.{same_context}
 use Rattle.lucid_tags.specs.EqualityDecides.{same_context_is_equality}
 use Rattle.lucid_inputs.specs.Reading.{GivesElement}
-use Rattle.lucid_facts.proofs.Places.{reads_its_element}
-use Rattle.lucid_follow.specs.Follows.{by_onward}
-use Rattle.lucid_follow.specs.Checking.{IsWithin}
-use Rattle.lucid_follow.specs.declared.rest.Look.{Look}
-use Rattle.lucid_follow.specs.declared.rest.Rest.TheVariants as rest
-use Rattle.lucid_follow.proofs.ContextTags.{keeps_tag}
-use Rattle.lucid_follow.proofs.GivenBy.{form_gives, input_gives, passes_gives}
-use Rattle.lucid_check.proofs.Using.{told_there}
+use Rattle.lucid_demand_steps.proofs.Places.{reads_its_element}
+use Rattle.lucid_cert_rules.specs.Follows.{by_onward}
+use Rattle.lucid_cert_rules.specs.Checking.{IsWithin}
+use Rattle.lucid_cert_rules.specs.declared.rest.Look.{Look}
+use Rattle.lucid_cert_rules.specs.declared.rest.Rest.TheVariants as rest
+use Rattle.lucid_cert_rules.proofs.ContextTags.{keeps_tag}
+use Rattle.lucid_cert_rules.proofs.GivenBy.{form_gives, input_gives, passes_gives}
+use Rattle.lucid_cert.proofs.Using.{told_there}
 use Rattle.lucid_cert.specs.Traces.{begun}
 use Rattle.lucid_cert.specs.Makers.{values_for}
 use Rattle.lucid_cert.specs.declared.making.Next.TheVariants as next

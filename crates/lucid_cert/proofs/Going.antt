@@ -1,9 +1,9 @@
 -- What each step makes of a certificate in the making.
 use Rattle.lucid_cert.proofs.Common.{◌≡◌, ℕ, ◌<◌, true, false, List, [], ◌∷◌, ◌++◌, map, length, Some, refl, sym, ap, ◌∙◌, inl, inr, subst, arith, append_assoc, length-append, ◌^◌, list_any, AllByRecursion, append-nil, slice_get-push_same, Elements, Context, same_key, IsOneForOne, KeepsKnown, context_of, number_of, tag_of, Key, Table, PlainJudgment, MayShowJudgment, FollowsIn, Judged, context_in, given, used, ArePlaces, AreTimes, Position, AreFollowing, Each, FollowAmong, GivesBy, Goes, Grows, IsJudgmentAt, IsMade, IsSound, IsSoundBy, IsWaiting, MayJudge, RootStands, Settles, Spot, judgments_of, spot_at, spot_by, spot_of, table_in, Maker, Making}
-use Rattle.lucid_lemmas.proofs.Numbers.{below_or_last}
+use Rattle.lucid_lists.proofs.Numbers.{below_or_last}
 use Rattle.lucid_texts.specs.Words.{AreBelow}
 use Rattle.lucid_cert.specs.Makers.{made, waits}
-use Rattle.lucid_facts.proofs.Owning.{known_itself}
+use Rattle.lucid_demand_steps.proofs.Owning.{known_itself}
 use Rattle.lucid_cert.proofs.Growing.{follow_still, in_known, judged_alike, left_of}
 use Rattle.lucid_cert.proofs.Keeping.{apart_more, each_more, is_there, keys_more}
 use Rattle.lucid_cert.proofs.Forming.{waiting_still}

@@ -1,9 +1,9 @@
 -- What is used and what follows stays where judgments and contexts are added, and where judgments are cut off behind it.
 use Rattle.lucid_cert.proofs.Common.{◌≡◌, ℕ, zero, suc, ◌<◌, ◌≤◌, Bool, true, false, ◌==◌, ◌&&◌, List, [], ◌∷◌, ◌++◌, map, length, Option, Some, None, refl, sym, ap, ◌∙◌, inl, inr, subst, arith, length-append, slice_get, nat_lt, option_and_then, AllByRecursion, cases_lt, ltb-true, lt-ltb, option_and_then_some, cond_some, same_Some, slice_get_within, slice_get-append_left, PlainValue, Elements, Context, context_at, KeepsKnown, tag_of, part_number, Table, PlainJudgment, FollowsIn, Judged, context_in, given, is_context, of_part, used, told, FollowAmong}
 use Rattle.lucid_tree.specs.Rows.{Look}
-use Rattle.lucid_follow.specs.Follows.{is_of, value_if}
+use Rattle.lucid_cert_rules.specs.Follows.{is_of, value_if}
 use Rattle.std.proofs.lemmas.Bool.{and_parts}
-use Rattle.lucid_check.proofs.Using.{earlier_by, told_there, used_by, used_late}
+use Rattle.lucid_cert.proofs.Using.{earlier_by, told_there, used_by, used_late}
 
 -- the items of a list, in one that goes on behind it
 pub left_of : {X : Type 0} (xs ys : List X) (i : ℕ) → i < length xs → slice_get (xs ++ ys) i ≡ slice_get xs i

@@ -1,3 +1,11 @@
+pub mod CheckCommon
+pub mod Using
+pub mod Feeding
+pub mod Drawing
+pub mod Judging
+pub mod Following
+pub mod CheckGoing
+pub mod RightOnes
 pub mod Common
 pub mod Growing
 pub mod Tracing

@@ -9,11 +9,11 @@ use Rattle.lucid_tree.proofs.Settled.{takes_plan}
 use Rattle.lucid_equations.specs.Parts.{reads_parts, visits_parts}
 use Rattle.lucid_equations.proofs.ByStep.{parts-keep}
 use Rattle.lucid_equations.proofs.FormNeeds.{look-visited}
-use Rattle.lucid_facts.proofs.Looking.{LooksAt, looks_at, look_value, look_visits, look_keeps_limit}
-use Rattle.lucid_follow.specs.declared.rest.Look.{Look as NextLook}
-use Rattle.lucid_follow.specs.declared.rest.Rest.TheVariants as rest
-use Rattle.lucid_follow.proofs.GivenBy.{of_form}
-use Rattle.lucid_check.proofs.Using.{earlier_by}
+use Rattle.lucid_demand_steps.proofs.Looking.{LooksAt, looks_at, look_value, look_visits, look_keeps_limit}
+use Rattle.lucid_cert_rules.specs.declared.rest.Look.{Look as NextLook}
+use Rattle.lucid_cert_rules.specs.declared.rest.Rest.TheVariants as rest
+use Rattle.lucid_cert_rules.proofs.GivenBy.{of_form}
+use Rattle.lucid_cert.proofs.Using.{earlier_by}
 use Rattle.lucid_cert.specs.Wanted.{begun}
 use Rattle.lucid_cert.proofs.Wanting.{none_where}
 use Rattle.lucid_cert.proofs.ComingBy.{taken_by, runs_fed, fed_within, next_has, next_looked}

@@ -1,9 +1,9 @@
 -- What follows so far is meant.
 use Rattle.lucid_cert.proofs.Common.{slice_get_within, ◌≡◌, ℕ, zero, suc, ◌+◌, ◌<◌, ◌≤◌, max, List, [], ◌∷◌, length, Option, Some, refl, subst, arith, slice_get, same_Some, none-some, Elements, Context, NodeMeans, IsInRange, equations_of, node_at, Table, nodes-by-numbers, row-node, PlainJudgment, FollowsIn, context_in}
+use Rattle.lucid_cert_rules.proofs.Meant.{Laws, all_meant}
 use Rattle.lucid_equations.proofs.Needs as law
 use Rattle.lucid_equations.proofs.NodeGrowth.{node_hval-up}
 use Rattle.lucid_equations.proofs.PartsRead.{part-value}
-use Rattle.lucid_follow.proofs.Meant.{Laws, all_meant}
 
 laws : Laws
 laws = record {

@@ -2,11 +2,11 @@
 use Rattle.lucid_cert.proofs.Common.{◌≡◌, ℕ, ◌<◌, length, refl, sym, ap, ◌∙◌, inl, inr, subst, Result, Ok, Err, IfErr, AllDiffer, Value, World, ReadsStream, streams, Inputs, Table, AreAskable, places_of, extends_then, read_more, streams_read, DemandFault, NoMemory, ReadFault, TooDeep, Position, Why, Made, HasRead, IsOwn, ReadsElement, ReadsFor, element_read, nothing_read}
 use Rattle.lucid_ports.specs.Faults.{CountsNoFaultUnless, Rises}
 use Rattle.lucid_equations.specs.MoreElements.{Extends}
-use Rattle.lucid_facts.specs.Elements.{elements_read}
-use Rattle.lucid_facts.specs.Engine.{ReadsOnly}
-use Rattle.lucid_facts.proofs.History.{reads_only_itself, reads_only_then}
-use Rattle.lucid_facts.proofs.Reading.{StreamsRead, asked_again, read_places}
-use Rattle.lucid_check.proofs.Drawing.{its_place}
+use Rattle.lucid_demand_steps.specs.Elements.{elements_read}
+use Rattle.lucid_demand_steps.specs.Engine.{ReadsOnly}
+use Rattle.lucid_demand_steps.proofs.History.{reads_only_itself, reads_only_then}
+use Rattle.lucid_demand_steps.proofs.Reading.{StreamsRead, asked_again, read_places}
+use Rattle.lucid_cert.proofs.Drawing.{its_place}
 
 -- nothing is read yet
 pub nothing_yet : (T : Table) (old : Inputs) (before : World) → AreAskable (streams old) before → HasRead T old old before before

@@ -1,7 +1,7 @@
 -- What each step makes of what waits.
 use Rattle.lucid_cert.proofs.Common.{◌≡◌, ℕ, ◌+◌, ◌-◌, ◌<◌, ◌≤◌, List, [], ◌∷◌, ◌++◌, Some, None, ◌⊎◌, inl, inr, sym, ap, ◌∙◌, subst, arith, true≢false, Result, Ok, Err, OnOk, IsErrOf, Bool, true, false, IsTrue, ◌↔◌, cases_lt, PlainValue, Elements, nowhere, Context, IsKnown, KeepsKnown, context_of, IsInRange, row_at, Node, Input, Table, PlainTask, task_val, PassesOn, going, row_onward, by_then, least_of, rest_plan, AreFedAlike, CanGoOn, Stands, Position, Rest, told, DemandFault, TooDeep, HasUse, AreFollowing, IsJudgmentAt, MayJudge, IsSound, IsWaiting, Wants, Grows, spot_at, table_in, judgments_of, IsWanted, HasCome, MayWait, AllMayWait, AreWanted, StaysWanted, task_at, references_of, Maker, Making}
-use Rattle.lucid_follow.specs.declared.rest.Look.{Look}
-use Rattle.lucid_follow.specs.declared.rest.Rest.TheVariants as rest
+use Rattle.lucid_cert_rules.specs.declared.rest.Look.{Look}
+use Rattle.lucid_cert_rules.specs.declared.rest.Rest.TheVariants as rest
 use Rattle.lucid_cert.specs.declared.making.Next.TheVariants as next
 use Rattle.lucid_cert.proofs.Wanting.{passed_is_wanted, passed_nowhere, input_too_deep}
 use Rattle.lucid_cert.proofs.LookingOn.{look_too_deep}

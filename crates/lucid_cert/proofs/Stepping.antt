@@ -1,12 +1,12 @@
 -- Where a judgment that waits wants its next use, and what that use makes of it.
 use Rattle.lucid_cert.proofs.Common.{◌≡◌, ℕ, ◌+◌, ◌<◌, ◌≤◌, List, [], ◌∷◌, ◌++◌, length, Some, get_or, refl, sym, ap, ◌∙◌, subst, arith, slice_get, AllByRecursion, option_and_then, same_Some, slice_get-get_or, slice_get_within, PlainValue, Elements, Context, number_of, Tag, EachBelow, part_number, parts, row_at, Node, Table, PlainJudgment, IsOfContext, AreFedAlike, CanGoOn, LooksInside, Stands, by_then, rest_plan, Position, Rest, told, GivesBy, IsForming, IsJudgmentAt, IsPassing, IsWaiting, MayJudge, WaitsFor, Wants, WantsBy, spot_at, HasUse, Making, Next}
 use Rattle.lucid_tree.specs.Rows.{last}
-use Rattle.lucid_follow.specs.RestPlans.{IsAfter, IsAtPoint, IsLookOf, IsSmall, MayGoOn}
-use Rattle.lucid_follow.specs.declared.rest.Look.{Look}
+use Rattle.lucid_cert_rules.specs.RestPlans.{IsAfter, IsAtPoint, IsLookOf, IsSmall, MayGoOn}
+use Rattle.lucid_cert_rules.specs.declared.rest.Look.{Look}
 use Rattle.lucid_equations.proofs.PartsRead.{each-lower}
-use Rattle.lucid_follow.specs.declared.rest.Rest.TheVariants as rest
-use Rattle.lucid_follow.specs.declared.rest.Then.{Then}
-use Rattle.lucid_follow.specs.declared.rest.Then.TheVariants as then
+use Rattle.lucid_cert_rules.specs.declared.rest.Rest.TheVariants as rest
+use Rattle.lucid_cert_rules.specs.declared.rest.Then.{Then}
+use Rattle.lucid_cert_rules.specs.declared.rest.Then.TheVariants as then
 use Rattle.lucid_cert.specs.declared.making.Next.TheVariants as next
 use Rattle.lucid_cert.proofs.Forming.{forming_goes, part_there, passing_ends}
 

@@ -1,7 +1,7 @@
 -- The trace of a judgment in the making.
 use Rattle.lucid_cert.proofs.Common.{◌≡◌, ℕ, ◌+◌, ◌≤◌, List, [], ◌∷◌, ◌++◌, length, Some, sym, ap, ◌∙◌, subst, arith, append_assoc, length-append, append-nil, PlainValue, Plan, Uses, fed, Stands, rest_plan, Rest, gives_only, plain_look, Trace, gone}
 use Rattle.lucid_tree.specs.Rows.{Look}
-use Rattle.lucid_check.proofs.Feeding.{feeds_on, gives_alone}
+use Rattle.lucid_cert.proofs.Feeding.{feeds_on, gives_alone}
 use Rattle.lucid_cert.specs.Traces.{begun}
 
 pub push_length : (us : List ℕ) (u : ℕ) → length (us ++ u ∷ []) ≡ length us + 1

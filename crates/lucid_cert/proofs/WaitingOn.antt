@@ -1,10 +1,10 @@
 -- All that wait may wait: as contexts become known, with one more, and with one fewer. What one wants next is wanted, and with it it goes on.
 use Rattle.lucid_cert.proofs.Common.{◌≡◌, ℕ, ◌+◌, ◌-◌, ◌≤◌, List, [], ◌∷◌, ◌++◌, map, length, Option, Some, refl, sym, ap, ◌∙◌, subst, arith, get_or, slice_get, option_map, option_and_then, slice_get-get_or, PlainValue, slice_get-push_same, Elements, Context, IsKnown, KeepsKnown, context_of, number_of, NodeMeans, IsInRange, equations_of, node_at, part_number, parts, Node, Table, PlainTask, look_task, PlainJudgment, context_in, by_then, rest_plan, CanGoOn, Stands, AreFedAlike, Position, Rest, told, plain_look, Each, IsJudgmentAt, spot_at, Spot, MayJudge, IsWaiting, WaitsFor, Wants, WantsBy, FollowAmong, IsWanted, HasCome, MayWait, AllMayWait, task_at, Making, Next}
-use Rattle.lucid_follow.specs.declared.rest.Look.{Look}
-use Rattle.lucid_follow.specs.declared.rest.Rest.TheVariants as rest
+use Rattle.lucid_cert_rules.specs.declared.rest.Look.{Look}
+use Rattle.lucid_cert_rules.specs.declared.rest.Rest.TheVariants as rest
 use Rattle.lucid_cert.specs.Wanted.{MayWant}
 use Rattle.lucid_cert.specs.declared.making.Next.TheVariants as next
-use Rattle.lucid_check.proofs.Using.{told_there}
+use Rattle.lucid_cert.proofs.Using.{told_there}
 use Rattle.lucid_cert.proofs.Growing.{in_known}
 use Rattle.lucid_cert.proofs.LookingOn.{look_is_wanted, has_come_on}
 use Rattle.lucid_cert.proofs.MeantSoFar.{judgment_means}

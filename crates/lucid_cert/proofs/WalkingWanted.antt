@@ -3,8 +3,8 @@ use Rattle.lucid_cert.proofs.Common.{◌≡◌, ℕ, ◌-◌, ◌≤◌, List, [
 use Rattle.lucid_tags.specs.Contexts.{root as empty}
 use Rattle.lucid_ports.specs.World.{Contents}
 use Rattle.lucid_inputs.specs.Streams.{Stream}
-use Rattle.lucid_demand.specs.Demanded.{OnTooLarge}
-use Rattle.lucid_demand.specs.declared.fault.DemandFault.TheVariants.{TooLarge}
+use Rattle.lucid_demand_steps.specs.Faults.{OnTooLarge}
+use Rattle.lucid_demand_steps.specs.declared.fault.DemandFault.TheVariants.{TooLarge}
 use Rattle.lucid_cert.proofs.DrawingOn.{drawn_on, overlong_consulted}
 use Rattle.lucid_cert.proofs.Reading.{stay_read}
 use Rattle.lucid_cert.proofs.Keeping.{each_fewer}

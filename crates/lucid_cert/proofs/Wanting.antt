@@ -8,10 +8,10 @@ use Rattle.lucid_equations.specs.Datons.{Daton, node_aim}
 use Rattle.lucid_equations.specs.NumberAims.{NumberPosition, NumberAim, number_aim, plain_aim, plain_position, row_aim}
 use Rattle.lucid_equations.specs.declared.rows.Node.TheVariants as rows
 use Rattle.lucid_equations.proofs.Needs as law
-use Rattle.lucid_facts.specs.Parts.{IsReference}
-use Rattle.lucid_facts.specs.Stands.{val_of}
-use Rattle.lucid_facts.proofs.References.{input-consults}
-use Rattle.lucid_follow.specs.Follows.{onward}
+use Rattle.lucid_demand_steps.specs.Parts.{IsReference}
+use Rattle.lucid_demand_steps.specs.Stands.{val_of}
+use Rattle.lucid_demand_steps.proofs.References.{input-consults}
+use Rattle.lucid_cert_rules.specs.Follows.{onward}
 
 -- an option that has no value
 pub none_where : {A : Type 0} (o : Option A) → ((x : A) → o ≡ Some x → ⊥) → o ≡ None

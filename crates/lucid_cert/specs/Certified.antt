@@ -7,16 +7,16 @@ use Rattle.lucid_inputs.specs.declared.on_demand.Inputs.{Inputs}
 use Rattle.lucid_inputs.specs.Inputs.{streams, most_bytes}
 use Rattle.lucid_equations.specs.MoreElements.{Extends}
 use Rattle.lucid_equations.specs.declared.table.Table.{Table}
-use Rattle.lucid_facts.specs.Elements.{elements_read}
-use Rattle.lucid_facts.specs.Engine.{AreAskable, ReadsOnly, places_of}
-use Rattle.lucid_demand.specs.Faults.{CountsReadFaults}
-use Rattle.lucid_demand.specs.declared.fault.DemandFault.{DemandFault}
-use Rattle.lucid_demand.specs.declared.fault.DemandFault.TheVariants.{ReadFault}
-use Rattle.lucid_why.specs.Certificates.{PlainJudgment}
-use Rattle.lucid_why.specs.WhyTexts.{MayBeShown}
-use Rattle.lucid_why.specs.declared.rows.Why.{Why}
-use Rattle.lucid_follow.specs.Follows.{context_in, contexts, IsRight}
-use Rattle.lucid_check.specs.Checked.{MayBe}
+use Rattle.lucid_demand_steps.specs.Elements.{elements_read}
+use Rattle.lucid_demand_steps.specs.Engine.{AreAskable, ReadsOnly, places_of}
+use Rattle.lucid_demand_steps.specs.Faults.{CountsReadFaults}
+use Rattle.lucid_demand_steps.specs.declared.fault.DemandFault.{DemandFault}
+use Rattle.lucid_demand_steps.specs.declared.fault.DemandFault.TheVariants.{ReadFault}
+use Rattle.lucid_cert_rules.specs.Certificates.{PlainJudgment}
+use Rattle.lucid_cert_rules.specs.WhyTexts.{MayBeShown}
+use Rattle.lucid_cert_rules.specs.declared.rows.Why.{Why}
+use Rattle.lucid_cert_rules.specs.Follows.{context_in, contexts, IsRight}
+use Rattle.lucid_cert.specs.Checked.{MayBe}
 
 -- No two judgments are of one node in one context at one point.
 abbrev pub AreApart : Table → Why → Type 0

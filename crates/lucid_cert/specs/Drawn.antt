@@ -8,13 +8,13 @@ use Rattle.lucid_search.specs.Noted.{nothing_noted}
 use Rattle.lucid_inputs.specs.declared.on_demand.Inputs.{Inputs}
 use Rattle.lucid_inputs.specs.Inputs.{streams, most_bytes}
 use Rattle.lucid_equations.specs.declared.table.Table.{Table}
-use Rattle.lucid_facts.specs.Engine.{EngineView, root_val, DrawsWithin, ConsultsOverlong}
-use Rattle.lucid_facts.specs.Tasks.{PlainTask}
-use Rattle.lucid_demand.specs.Demanded.{OnTooLarge}
-use Rattle.lucid_demand.specs.declared.fault.DemandFault.{DemandFault}
-use Rattle.lucid_demand.specs.declared.fault.DemandFault.TheVariants.{TooDeep}
-use Rattle.lucid_why.specs.declared.rows.Why.{Why}
-use Rattle.lucid_check.specs.Checked.{MayBe}
+use Rattle.lucid_demand_steps.specs.Engine.{EngineView, root_val, DrawsWithin, ConsultsOverlong}
+use Rattle.lucid_demand_steps.specs.Tasks.{PlainTask}
+use Rattle.lucid_demand_steps.specs.Faults.{OnTooLarge}
+use Rattle.lucid_demand_steps.specs.declared.fault.DemandFault.{DemandFault}
+use Rattle.lucid_demand_steps.specs.declared.fault.DemandFault.TheVariants.{TooDeep}
+use Rattle.lucid_cert_rules.specs.declared.rows.Why.{Why}
+use Rattle.lucid_cert.specs.Checked.{MayBe}
 
 -- a program over inputs as an engine sees it that holds nothing, and may hold anything
 abbrev pub view_of : Table → Inputs → EngineView

@@ -1,3 +1,9 @@
+pub mod Uses
+pub mod Checks
+pub mod Faults
+pub mod CheckReads
+pub mod Checked
+pub mod Laws
 pub mod Traces
 pub mod Makings
 pub mod Makers

@@ -12,16 +12,16 @@ use Rattle.lucid_equations.specs.Programs.{table_of}
 use Rattle.lucid_equations.specs.Rows.{node_at, node_by, row_at, parts, part_number}
 use Rattle.lucid_equations.specs.declared.rows.Node.{Node}
 use Rattle.lucid_equations.specs.declared.table.Table.{Table}
-use Rattle.lucid_why.specs.Certificates.{PlainJudgment, plain_judgment}
-use Rattle.lucid_why.specs.WhyTexts.{MayShowJudgment}
-use Rattle.lucid_follow.specs.Fed.{Uses}
-use Rattle.lucid_follow.specs.Follows.{FollowsIn, given, of_part, used}
-use Rattle.lucid_follow.specs.RestPlans.{HasHead, IsForm, LooksInside, Stands, least_of}
-use Rattle.lucid_follow.specs.Checking.{ArePlaces, AreTimes, IsOfContext, IsWithin, PassesOn, going, row_onward}
-use Rattle.lucid_follow.specs.declared.passing.Position.{Position}
-use Rattle.lucid_follow.specs.declared.rest.Rest.{Rest}
-use Rattle.lucid_follow.specs.declared.rest.Rest.TheVariants as rest
-use Rattle.lucid_check.specs.Uses.{told}
+use Rattle.lucid_cert_rules.specs.Certificates.{PlainJudgment, plain_judgment}
+use Rattle.lucid_cert_rules.specs.WhyTexts.{MayShowJudgment}
+use Rattle.lucid_cert_rules.specs.Fed.{Uses}
+use Rattle.lucid_cert_rules.specs.Follows.{FollowsIn, given, of_part, used}
+use Rattle.lucid_cert_rules.specs.RestPlans.{HasHead, IsForm, LooksInside, Stands, least_of}
+use Rattle.lucid_cert_rules.specs.Checking.{ArePlaces, AreTimes, IsOfContext, IsWithin, PassesOn, going, row_onward}
+use Rattle.lucid_cert_rules.specs.declared.passing.Position.{Position}
+use Rattle.lucid_cert_rules.specs.declared.rest.Rest.{Rest}
+use Rattle.lucid_cert_rules.specs.declared.rest.Rest.TheVariants as rest
+use Rattle.lucid_cert.specs.Uses.{told}
 use Rattle.lucid_cert.specs.Traces.{Trace}
 use Rattle.lucid_cert.specs.declared.making.Making.{Making}
 use Rattle.lucid_cert.specs.declared.making.Next.{Next}

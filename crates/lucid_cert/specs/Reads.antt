@@ -8,13 +8,13 @@ use Rattle.lucid_equations.specs.MoreElements.{Extends}
 use Rattle.lucid_equations.specs.Rows.{row_at}
 use Rattle.lucid_equations.specs.declared.rows.Node.TheVariants.{Input}
 use Rattle.lucid_equations.specs.declared.table.Table.{Table}
-use Rattle.lucid_facts.specs.Elements.{elements_read}
-use Rattle.lucid_facts.specs.Engine.{AreAskable, ReadsOnly, places_of}
-use Rattle.lucid_demand.specs.Demanded.{OnTooLarge}
-use Rattle.lucid_demand.specs.declared.fault.DemandFault.{DemandFault}
-use Rattle.lucid_demand.specs.declared.fault.DemandFault.TheVariants.{TooDeep, ReadFault, NoMemory}
-use Rattle.lucid_follow.specs.declared.passing.Position.{Position}
-use Rattle.lucid_check.specs.Reads.{LiesPast}
+use Rattle.lucid_demand_steps.specs.Elements.{elements_read}
+use Rattle.lucid_demand_steps.specs.Engine.{AreAskable, ReadsOnly, places_of}
+use Rattle.lucid_demand_steps.specs.Faults.{OnTooLarge}
+use Rattle.lucid_demand_steps.specs.declared.fault.DemandFault.{DemandFault}
+use Rattle.lucid_demand_steps.specs.declared.fault.DemandFault.TheVariants.{TooDeep, ReadFault, NoMemory}
+use Rattle.lucid_cert_rules.specs.declared.passing.Position.{Position}
+use Rattle.lucid_cert.specs.CheckReads.{LiesPast}
 use Rattle.lucid_cert.specs.Makers.{Wants}
 use Rattle.lucid_cert.specs.declared.making.Making.{Making}
 

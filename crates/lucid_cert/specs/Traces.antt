@@ -2,12 +2,12 @@
 use Rattle.std.specs.Prelude.{◌≡◌, ℕ, ◌+◌, ◌≤◌, List, [], ◌∷◌, ◌++◌, Some}
 use Rattle.lucid_value.specs.Plain.{PlainValue}
 use Rattle.lucid_tree.specs.Rows.{Plan}
-use Rattle.lucid_follow.specs.Fed.{Uses}
-use Rattle.lucid_follow.specs.RestPlans.{AreFedAlike, CanGoOn, Stands, by_then, rest_plan}
-use Rattle.lucid_follow.specs.declared.rest.Look.{Look}
-use Rattle.lucid_follow.specs.declared.rest.Rest.{Rest}
-use Rattle.lucid_follow.specs.declared.rest.Rest.TheVariants as rest
-use Rattle.lucid_check.specs.Uses.{plain_look}
+use Rattle.lucid_cert_rules.specs.Fed.{Uses}
+use Rattle.lucid_cert_rules.specs.RestPlans.{AreFedAlike, CanGoOn, Stands, by_then, rest_plan}
+use Rattle.lucid_cert_rules.specs.declared.rest.Look.{Look}
+use Rattle.lucid_cert_rules.specs.declared.rest.Rest.{Rest}
+use Rattle.lucid_cert_rules.specs.declared.rest.Rest.TheVariants as rest
+use Rattle.lucid_cert.specs.Uses.{plain_look}
 
 -- The plan, by its limit, goes on to this rest with these uses, one for each look, which have these values: it begins as a rest, and each
 -- look goes on as one with the value of its use.

@@ -15,17 +15,17 @@ use Rattle.lucid_equations.specs.Rows.{equations_of}
 use Rattle.lucid_equations.specs.declared.rows.Node.{Node}
 use Rattle.lucid_equations.specs.declared.rows.Node.TheVariants.{Freeze}
 use Rattle.lucid_equations.specs.declared.table.Table.{Table}
-use Rattle.lucid_facts.specs.Tasks.{PlainTask}
-use Rattle.lucid_facts.specs.Parts.{node_of}
-use Rattle.lucid_facts.specs.Stands.{task_val, task_visits}
-use Rattle.lucid_follow.specs.RestPlans.{by_then, rest_plan, CanGoOn, Stands, AreFedAlike}
-use Rattle.lucid_follow.specs.declared.passing.Position.{Position}
-use Rattle.lucid_follow.specs.declared.rest.Look.{Look}
-use Rattle.lucid_follow.specs.declared.rest.Rest.{Rest}
-use Rattle.lucid_follow.specs.declared.rest.Rest.TheVariants as rest
-use Rattle.lucid_check.specs.Uses.{plain_look}
-use Rattle.lucid_demand.specs.declared.fault.DemandFault.{DemandFault}
-use Rattle.lucid_demand.specs.declared.fault.DemandFault.TheVariants.{TooDeep}
+use Rattle.lucid_demand_steps.specs.Tasks.{PlainTask}
+use Rattle.lucid_demand_steps.specs.Parts.{node_of}
+use Rattle.lucid_demand_steps.specs.Stands.{task_val, task_visits}
+use Rattle.lucid_cert_rules.specs.RestPlans.{by_then, rest_plan, CanGoOn, Stands, AreFedAlike}
+use Rattle.lucid_cert_rules.specs.declared.passing.Position.{Position}
+use Rattle.lucid_cert_rules.specs.declared.rest.Look.{Look}
+use Rattle.lucid_cert_rules.specs.declared.rest.Rest.{Rest}
+use Rattle.lucid_cert_rules.specs.declared.rest.Rest.TheVariants as rest
+use Rattle.lucid_cert.specs.Uses.{plain_look}
+use Rattle.lucid_demand_steps.specs.declared.fault.DemandFault.{DemandFault}
+use Rattle.lucid_demand_steps.specs.declared.fault.DemandFault.TheVariants.{TooDeep}
 use Rattle.lucid_cert.specs.Makers.{Each, table_in}
 use Rattle.lucid_cert.specs.declared.maker.Maker.{Maker}
 use Rattle.lucid_cert.specs.declared.making.Making.{Making}

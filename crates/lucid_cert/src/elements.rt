@@ -4,10 +4,10 @@ ghost use Rattle.lucid_value.specs.View.{plain};
 ghost use Rattle.lucid_value.specs.declared.Value.{Value as Element};
 ghost use Rattle.lucid_inputs.specs.Inputs.{streams, stream_at};
 ghost use Rattle.lucid_inputs.specs.Reading.{GivesElement};
-ghost use Rattle.lucid_facts.specs.Engine.{AreAskable};
+ghost use Rattle.lucid_demand_steps.specs.Engine.{AreAskable};
 ghost use Rattle.lucid_cert.specs.Reads.{ReadsElement};
 
-use lucid_demand::DemandFault;
+use lucid_demand_steps::DemandFault;
 use lucid_inputs::Inputs;
 use lucid_ports::Places;
 use lucid_value::Value;

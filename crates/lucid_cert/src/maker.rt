@@ -12,29 +12,30 @@ ghost use Rattle.lucid_equations.specs.Ranges.{IsInRange, NodeIsInRange, sizes};
 ghost use Rattle.lucid_equations.specs.Rows.{node_at, node_by, row_at};
 ghost use Rattle.lucid_equations.specs.declared.rows.Node.TheVariants.{Input};
 ghost use Rattle.lucid_inputs.specs.Inputs.{streams};
-ghost use Rattle.lucid_facts.specs.Engine.{AreAskable};
-ghost use Rattle.lucid_facts.specs.Tasks.{PlainTask};
-ghost use Rattle.lucid_follow.specs.Checking.{PassesOn};
-ghost use Rattle.lucid_follow.specs.RestPlans.{rest_plan, Stands};
-ghost use Rattle.lucid_follow.specs.declared.rest.Look.{Look as NextLook};
-ghost use Rattle.lucid_follow.specs.declared.rest.Rest.TheVariants as rests;
-ghost use Rattle.lucid_check.specs.Checked.{MayBe};
-ghost use Rattle.lucid_check.specs.Uses.{told, gives_only};
+ghost use Rattle.lucid_demand_steps.specs.Engine.{AreAskable};
+ghost use Rattle.lucid_demand_steps.specs.Tasks.{PlainTask};
+ghost use Rattle.lucid_cert_rules.specs.Checking.{PassesOn};
+ghost use Rattle.lucid_cert_rules.specs.RestPlans.{rest_plan, Stands};
+ghost use Rattle.lucid_cert_rules.specs.declared.rest.Look.{Look as NextLook};
+ghost use Rattle.lucid_cert_rules.specs.declared.rest.Rest.TheVariants as rests;
+ghost use Rattle.lucid_cert.specs.Checked.{MayBe};
+ghost use Rattle.lucid_cert.specs.Uses.{told, gives_only};
 ghost use Rattle.lucid_cert.specs.Makings.{HasUse};
 
 use crate::elements::element;
 use crate::making::{Making, Next, is_allowed};
+use crate::{applied, told};
 use indexmap::IndexSet;
-use lucid_check::{applied, told};
-use lucid_demand::DemandFault;
+use lucid_cert_rules::{
+    ContextRows, JudgmentRow, JudgmentRows, Look, Position, Rest, Why, begin, onward, rows_of,
+};
+use lucid_demand_steps::DemandFault;
 use lucid_equations::{Node, Program};
-use lucid_follow::{Look, Position, Rest, begin, onward, rows_of};
 use lucid_inputs::Inputs;
 use lucid_lists::Numbers;
 use lucid_ports::Places;
 use lucid_tags::{Key, Tags};
 use lucid_value::Value;
-use lucid_why::{ContextRows, JudgmentRow, JudgmentRows, Why};
 use std::alloc::{AllocError, Global};
 
 // How many judgments there may be, and how many uses of one.

@@ -1,9 +1,9 @@
 //! A judgment in the making.
 ghost use Rattle.std.specs.Prelude.{◌≤◌, ◌↔◌, IsTrue};
 ghost use Rattle.lucid_tree.specs.Rows.{last};
-ghost use Rattle.lucid_follow.specs.RestPlans.{IsAtPoint, least_of};
+ghost use Rattle.lucid_cert_rules.specs.RestPlans.{IsAtPoint, least_of};
 
-use lucid_follow::{Look, Position, Then};
+use lucid_cert_rules::{Look, Position, Then};
 
 /// What a judgment in the making wants next.
 #[derive(Clone, Copy)]

@@ -2,16 +2,16 @@
 ghost use Rattle.std.specs.Prelude.{◌≡◌, ◌<◌, ◌^◌, length};
 ghost use Rattle.lucid_equations.specs.Programs.{table_of};
 ghost use Rattle.lucid_inputs.specs.Inputs.{streams};
-ghost use Rattle.lucid_facts.specs.Engine.{AreAskable};
+ghost use Rattle.lucid_demand_steps.specs.Engine.{AreAskable};
 ghost use Rattle.lucid_cert.specs.Certified.{Made};
 ghost use Rattle.lucid_cert.specs.Drawn.{AsDemanded};
 
 use crate::maker::Maker;
-use lucid_demand::DemandFault;
+use lucid_cert_rules::Why;
+use lucid_demand_steps::DemandFault;
 use lucid_equations::Program;
 use lucid_inputs::Inputs;
 use lucid_ports::Places;
-use lucid_why::Why;
 use std::alloc::Global;
 
 /// The certificate of a program's value at a time, at space 0. `limit` is how many references deep it may look.

@@ -1,6 +1,6 @@
 -- A program with its columns as the subject is well made.
 use Rattle.lucid_columns.proofs.Common.{ℕ, suc, ◌+◌, ◌<◌, ◌≤◌, length, true, List, [], ◌∷◌, ◌++◌, refl, sym, ap, subst, arith, append-nil, inl, inr, All, IsTrue, PlainTree, block, PlainDefs, IsWellMade, over_space, with_columns, ◌*◌, ◌⊎◌, length-append}
-use Rattle.lucid_lemmas.proofs.Truths.{both_true, second_true}
+use Rattle.lucid_lists.proofs.Truths.{both_true, second_true}
 use Rattle.lucid_tree.specs.Members.{In, AllDiffer}
 use Rattle.lucid_tree.specs.WellMade.{places, places_in_defs, is_shaped, defs_are_shaped}
 use Rattle.lucid_tree.proofs.Members.{in_right, in_either, in_all, differ_right, differ_both}

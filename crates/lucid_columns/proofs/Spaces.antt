@@ -1,6 +1,6 @@
 -- A column at its space is the name at space 0.
 use Rattle.lucid_columns.proofs.Common.{◌≡◌, ℕ, zero, suc, ◌+◌, List, [], ◌∷◌, ◌++◌, Some, None, refl, sym, ap, ◌∙◌, append-nil, true≢false, slice_get, block, over_space, with_columns, Option, if◌then◌else◌, nat_le, filter_map}
-use Rattle.lucid_lemmas.proofs.Numbers.{zero_le}
+use Rattle.lucid_lists.proofs.Numbers.{zero_le}
 use Rattle.lucid_value.specs.Plain.{PlainValue}
 use Rattle.lucid_tree.specs.Tree.{name}
 use Rattle.lucid_tree.specs.Rows.{Reader, gives, add_value, with_values, single, run, trace}

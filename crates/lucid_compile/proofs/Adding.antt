@@ -1,6 +1,6 @@
 -- What a tree adds, from what its parts add.
 use Rattle.lucid_compile.proofs.Common.{◌≡◌, ℕ, suc, ◌+◌, ◌<◌, Bool, true, false, ◌&&◌, IsTrue, nat_eq, nat_lt, if◌then◌else◌, length, List, [], ◌∷◌, ◌++◌, take, get_or, slice_get, Some, refl, sym, ap, ◌∙◌, subst, arith, take_more, PlainValue, fits_arity, is_shaped, Head, const, PlainTree, form, name, call, block, PlainTrees, no_trees, tree, PlainDefs, no_defs, defines, defines_function, defines_current, count, FitsHead, def_of, one_def, Def, DefKind, scoped_inputs, scoped_binding, PlainNode, PlainNodes, row, freeze, invoke, no_nodes, node, plain_entry, current_entry, parameter_entry, at-kept, freezes, frame, level, in_body, EachBelow, all_at, Const, Freeze, ScopeIs, EachStandsIn, Plain, Parameter, Current, Node, Body, Here, ScopeRow, name_mark, function_mark, call_number, plain_key, Lists, with_name, with_place, with_body, OneScope, OneConstant, OneNode, Note, Numbered, name_node, callee_place, bound_node, bound_nodes, FunctionStand, Log, with_nodes, with_scopes, block_scopes, with_call, with_parameters, added, added_all, added_defs, node_of, HasFirst, IsForm, StandsAt, IsNameRow, Grown, GrownTo, AddsTree, AddsTrees, AddsDefs, link, AddsNode, AddsParameters, first_true, second_true, Result, Ok, Err, IfOk, add-zero, length-take-le, right_of, current_right, note, parameter_number, piece, plain_right, constant_notes, with_constants, node_place, AreNumbers, HasParts}
-use Rattle.lucid_lemmas.proofs.Lists.{slice_get-push_same as some-last}
+use Rattle.lucid_lists.proofs.Lists.{slice_get-push_same as some-last}
 use Rattle.lucid_tree.specs.declared.tree.DefKind.TheVariants.{Plain as PlainKind, Function as FunctionKind, Current as CurrentKind}
 use Rattle.lucid_compile.specs.Static.{Static, in_block}
 use Rattle.lucid_compile.proofs.Opening.{here-tree, here-trees, here-defs, here-parameters, here-scopes}

@@ -42,7 +42,7 @@ pub use Rattle.lucid_equations.specs.declared.rows.ScopeKind.{ScopeKind}
 pub use Rattle.lucid_equations.specs.declared.rows.ScopeKind.TheVariants.{Frozen, Root}
 pub use Rattle.lucid_equations.specs.declared.rows.ScopeRow.{ScopeRow}
 pub use Rattle.lucid_equations.specs.declared.table.Table.{Table}
-pub use Rattle.lucid_lemmas.proofs.Truths.{both_true, first_true, second_true}
+pub use Rattle.lucid_lists.proofs.Truths.{both_true, first_true, second_true}
 pub use Rattle.lucid_ops.specs.Arity.{arity}
 pub use Rattle.lucid_scope.specs.Bindings.{IsResolved, binding_for, binding_of, call_fault, fault_of, name_fault}
 pub use Rattle.lucid_scope.specs.Laws.{FreeNamesAreInputs}

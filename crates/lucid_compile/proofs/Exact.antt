@@ -2,7 +2,7 @@
 use Rattle.lucid_compile.proofs.Common.{◌≡◌, ℕ, zero, suc, ◌+◌, Bool, true, false, cond, length, List, [], ◌∷◌, ◌++◌, map, Option, Some, None, get_or, slice_get, nat_eq, refl, sym, ap, ◌∙◌, subst, inl, inr, arith, map-append, none-some, slice_get-map, option_map, position_or_len, const, PlainTree, form, name, call, block, PlainTrees, no_trees, tree, In, AllDiffer, IsWellMade, scoped_inputs, meaning, frame, first_place, node_of, Node, NodeRow, NameRow, PlaceRow, ScopeRow, Entry, Const, Call, Freeze, Plain, Current, Called, Root, Table, Kind, Note, piece, plain_right, current_right, called_right, noted_actuals, noted_name, noted_tree, noted_value, node_place, Numbered, name_mark, call_number, piece_target, Log, no_log, added, keys_of, IsNumberingOf, IsOpen, IsScopeRow, HasTarget, IsNodeRow, IsNameRow, IsPlaceRow, OneForOne, FunctionStand, call_row, row_of_call, callee_number, nodes_of}
 use Rattle.std.proofs.Common.{not}
 use Rattle.std.proofs.lemmas.Bool.{eq-eqb as eq-true}
-use Rattle.lucid_lemmas.proofs.Lists.{slice_get-append_left as some-left}
+use Rattle.lucid_lists.proofs.Lists.{slice_get-append_left as some-left}
 use Rattle.lucid_compile.specs.Static.{Static, outermost, in_block, in_function}
 use Rattle.lucid_compile.specs.Settled.{own, round, scope_kind, callee, scopes, pieces, constants, calls, names, index, node_number, node_numbers, scope_number, numbers_of, entry_of, row_of, table_of}
 use Rattle.lucid_compile.specs.Noted.{IsNotedAt, IsNumber, AreNumbers, HasParts, HasBody}

@@ -2,7 +2,7 @@
 use Rattle.lucid_compile.proofs.Common.{◌≡◌, ℕ, ◌+◌, ◌<◌, ◌≤◌, length, Option, List, [], ◌++◌, map, Some, None, get_or, slice_get, refl, sym, ap, ◌∙◌, subst, arith, length-append, option_map, length-map, slice_get-map, PlainTree, no_trees, In, AllDiffer, IsWellMade, named, again, site_at, binding_for, fault_of, scoped_tree, scoped_binding, scoped_inputs, Binding, PlainEntry, Equations, called_entry, sizes, IsInRange, at, all_at, grow, nodes_of, equations_of, StandsIn, IsSound, Root, Entry, Plain, Parameter, Current, Called, Table, Mark, Origin, Source, nodes_for, in_body, HasRow, Actuals, first_place, KeepsTree, or_no_mark, name_mark, function_mark, call_number, mark_by, key_of_function, KeyLists, keys_of, IsNumberingOf, Lists, OneScope, link, Note, Numbered, bound_node, bound_nodes, callee_place, FunctionStand, Log, no_log, added, AreKnown, EachRow, NodeFits, NameFits, PlaceFits, ScopesHold, NodesHold, NamesHold, PlacesHold, IsEntry, IsNameRow, IsPlaceRow, Holds, GrownTo, AddsTree, row_of_call, call_row, rows_of_calls, with_calls, ∥∥₁_elim, Coded-set, coded_option, coded_list, IsResolved, FreeNamesAreInputs, entry_by, noted_actuals, bound_entry, node_place, AreNumbers, HasBody, HasParts, IsNumber, OneForOne, noted_tree, Numbers, no_node, Compiles}
 use Rattle.std.proofs.lemmas.Option.{slice_get_within as index-below}
 use base.Stored.{coded_ℕ}
-use Rattle.lucid_lemmas.proofs.Lists.{slice_get-append_left as some-left}
+use Rattle.lucid_lists.proofs.Lists.{slice_get-append_left as some-left}
 use Rattle.lucid_scope.specs.Sites.{Site as NameSite, called, sites as name_sites}
 use Rattle.lucid_scope.specs.contracts.scoped.Binding as binding
 use Rattle.lucid_scope.specs.contracts.refusal.ScopeRefusal as refusal

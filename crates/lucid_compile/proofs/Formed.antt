@@ -1,10 +1,10 @@
 -- The node of a form is this form of its parts.
 use Rattle.lucid_compile.proofs.Common.{◌≡◌, ℕ, ◌≤◌, IsTrue, List, [], ◌∷◌, length, take, drop, get_or, refl, sym, ap, ◌∙◌, subst, arith, Head, const, PlainTrees, count, FitsHead, fits_arity, row, all_at, node_of, IsForm, apply, arity, AreZero}
 use Rattle.lucid_ops.proofs.OperatorRows.{arity_few as few}
-use Rattle.lucid_streams.specs.declared.form.Form.{Form}
-use Rattle.lucid_streams.specs.Forms.{part_count}
-use Rattle.lucid_streams.specs.declared.form.Form.TheVariants as forms
-use Rattle.lucid_streams.proofs.FormRows.{few as few-parts}
+use Rattle.lucid_tree.specs.declared.form.Form.{Form}
+use Rattle.lucid_tree.specs.Forms.{part_count}
+use Rattle.lucid_tree.specs.declared.form.Form.TheVariants as forms
+use Rattle.lucid_tree.proofs.FormRows.{few as few-parts}
 use Rattle.lucid_tree.specs.Tree.{stream}
 use Rattle.lucid_equations.specs.Rows.{made}
 use Rattle.lucid_compile.proofs.Shapes.{as_many}

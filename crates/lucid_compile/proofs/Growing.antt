@@ -2,7 +2,7 @@
 use Rattle.lucid_compile.proofs.Common.{◌≡◌, ℕ, zero, suc, ◌+◌, ◌<◌, ◌≤◌, length, List, [], ◌∷◌, ◌++◌, get_or, Some, None, slice_get, refl, sym, ap, ◌∙◌, subst, arith, length-append, append_assoc, PlainValue, const, scoped_inputs, PlainNode, PlainEntry, row, no_nodes, plain_entry, called_entry, current_entry, at-kept, frame, in_body, name_mark, ScopeRow, ScopeIs, StandsIn, EachStandsIn, PartsStand, IsFilled, ScopeKind, option_map, EachBelow, at, all_at, parts, as_node, grow, Node, Const, Freeze, Entry, Plain, Parameter, Current, Called, NodeRow, NameRow, PlaceRow, Body, Key, stand_key, call_key, place_key, key_of_function, with_name_key, with_function_key, with_call_key, Lists, with_name, with_body, with_place, OneScope, OneConstant, OneNode, Note, Numbered, bound_node, bound_nodes, FunctionStand, Log, with_nodes, with_scopes, with_stand, with_call, with_function, IsKnown, AreKnown, EachRow, NodeFits, NameFits, PlaceFits, BodyFits, IsOpen, IsScopeRow, ScopesHold, HasTarget, IsNodeRow, NodesHold, IsEntry, IsNameRow, NamesHold, IsPlaceRow, PlacesHold, IsBody, FunctionsHold, Holds, Begins, Grown, GrownTo, get_or-append_seam, get_or_append_left, fault, all_at-kept, EntryStands, no_node, noted_actuals, bound_entry, piece_target, with_constants, noted_value, AreNumbers, HasBody, HasNumbers, HasParts, IsNotedAt, IsNumber, length-map, noted_tree, OneForOne}
 use Rattle.std.proofs.lemmas.List.{append-nil}
 use Rattle.std.proofs.lemmas.Option.{slice_get_within as index-below}
-use Rattle.lucid_lemmas.proofs.Lists.{slice_get-append_left as some-left, slice_get-push_same as some-last}
+use Rattle.lucid_lists.proofs.Lists.{slice_get-append_left as some-left, slice_get-push_same as some-last}
 use Rattle.lucid_equations.proofs.NumbersRead.{grown-count as grow-count}
 use Rattle.lucid_compile.specs.Static.{Static, outermost, in_block, in_function}
 use Rattle.lucid_equations.specs.declared.rows.ScopeKind.TheVariants.{Called as CalledScope, Frozen as FrozenScope}

@@ -1,7 +1,7 @@
 -- In a table that has the rows of a resolved tree, references and calls lead to names in scope at their depth, bodies stand where they have
 -- to, and call places pass all parameters.
 use Rattle.lucid_compile.proofs.Common.{◌≡◌, ℕ, ◌+◌, ◌<◌, length, List, [], ◌∷◌, ◌++◌, map, Option, Some, None, slice_get, sym, ap, ◌∙◌, subst, arith, option_map, slice_get-map, In, scoped_binding, scoped_inputs, Binding, PlainNode, plain_entry, called_entry, current_entry, parameter_entry, nodes_of, HasDepth, Refer, Call, Entry, Plain, Parameter, Current, Called, ScopeRow, NodeRow, NameRow, Table, frame, in_body, first_place, Numbering, Body, name_mark, function_mark, call_number, Key, call_key, keys_of, IsNumberingOf, Note, Numbered, bound_node, node_by, callee_place, Target, no_target, of_name, of_call, Log, EachRow, IsOpen, HasTarget, IsNodeRow, IsEntry, IsNameRow, IsPlaceRow, IsBody, FunctionsHold, NameFits, PlaceFits, BodyFits, callee_number, row_of_call, call_row, row_by, rows_of_calls, IsReferable, NameIs, ReferenceLeads, ReferencesLead, CallLeads, CallsLead, BodiesStand, PlacesPass, noted_actuals, Kind, called_right, current_right, parameter_number, plain_right, bound_entry, piece_target, at}
-use Rattle.lucid_lemmas.proofs.Lists.{slice_get-append_left as some-left}
+use Rattle.lucid_lists.proofs.Lists.{slice_get-append_left as some-left}
 use Rattle.lucid_scope.specs.declared.scoped.Binding.TheVariants.{Plain as PlainName, Current as CurrentName, Parameter as ParameterName, Function as FunctionName, Input as InputName}
 use Rattle.lucid_compile.specs.Static.{Static, outermost, in_block, in_function}
 use Rattle.lucid_compile.proofs.HeldRows.{HasRows}

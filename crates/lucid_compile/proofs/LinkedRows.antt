@@ -1,7 +1,7 @@
 -- Rows with numbers for places, one by one and in lists.
 use Rattle.lucid_compile.proofs.Common.{◌≡◌, ℕ, zero, suc, ◌+◌, ◌<◌, length, List, [], ◌∷◌, ◌++◌, map, take, drop, get_or, refl, sym, ap, ◌∙◌, arith, map-append, length-map, Head, const, ScopeRow, NodeRow, PlaceRow, Key, Numbered, with_call_key, Lists, with_place, OneScope, OneNode, node_of, HasFirst, linked_node, linked_row, linked_place, link, slice_set}
-use Rattle.lucid_streams.specs.declared.form.Form.TheVariants as forms
 use Rattle.lucid_tree.specs.Tree.{stream}
+use Rattle.lucid_tree.specs.declared.form.Form.TheVariants as forms
 
 -- the item at an index, where those before it were overwritten
 get-over : {A : Type 0} (f : A → A) (xs : List A) (i : ℕ) (d : A) → i < length xs → get_or (map f (take i xs) ++ drop i xs) i d ≡ get_or xs i d

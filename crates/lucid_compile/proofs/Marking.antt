@@ -1,6 +1,6 @@
 -- Keys and their marks, one after another.
 use Rattle.lucid_compile.proofs.Common.{◌≡◌, ℕ, zero, suc, ◌+◌, ◌<◌, Bool, true, false, cond, length, List, [], ◌∷◌, ◌++◌, map, get_or, Option, Some, nat_eq, inl, inr, refl, sym, ap, ◌∙◌, subst, arith, nat_tests, get_or_default, map-append, In, AllDiffer, in_left, in_right, Key, Mark, key_at, mark_by, AreMarked}
-use Rattle.lucid_lemmas.proofs.Numbers.{below_or_last as at-last}
+use Rattle.lucid_lists.proofs.Numbers.{below_or_last as at-last}
 
 -- an item of a list stands in it
 pub stands : (ks : List Key) (i : ℕ) (d : Key) → i < length ks → In (get_or ks i d).at (map key_at ks)

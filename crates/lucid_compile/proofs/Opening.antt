@@ -1,6 +1,6 @@
 -- Scopes that are open stay where they are while more is added.
 use Rattle.lucid_compile.proofs.Common.{◌≡◌, ℕ, suc, ◌+◌, length, List, [], ◌∷◌, ◌++◌, slice_get, refl, sym, ap, ◌∙◌, subst, arith, PlainTree, form, name, call, block, PlainTrees, no_trees, tree, PlainDefs, no_defs, defines, defines_function, defines_current, freezes, frame, in_body, Log, block_scopes, with_scopes, with_parameters, added, added_all, added_defs, IsOpen, StandsAt, Here}
-use Rattle.lucid_lemmas.proofs.Lists.{slice_get-append_left as some-left}
+use Rattle.lucid_lists.proofs.Lists.{slice_get-append_left as some-left}
 use Rattle.lucid_compile.specs.Static.{Static, in_block}
 
 pub slice-past : {A : Type 0} (xs ys : List A) (i : ℕ) → slice_get (xs ++ ys) (length xs + i) ≡ slice_get ys i

@@ -1,7 +1,7 @@
 -- What stands in a log: the parameters of a function follow one another, and each row of a name goes with what is in scope from it on.
 use Rattle.lucid_compile.proofs.Common.{◌≡◌, ℕ, zero, suc, ◌+◌, ◌<◌, ◌&&◌, IsTrue, length, List, [], ◌∷◌, ◌++◌, get_or, slice_get, nat_eq, nat_lt, Some, inl, inr, refl, sym, ap, ◌∙◌, subst, arith, append_assoc, PlainTree, form, name, call, block, PlainTrees, no_trees, tree, PlainDefs, no_defs, defines, defines_function, defines_current, In, is_shaped, are_shaped, defs_are_shaped, in_body, Note, FunctionStand, Log, with_stand, with_function, opened_block, opened_function, with_parameters, added, added_all, added_defs, EachRow, Begins, first_true, second_true, in_either, current_right, note, parameter_number, plain_right, Kind, parameter_notes}
 use Rattle.std.proofs.lemmas.List.{append-nil}
-use Rattle.lucid_lemmas.proofs.Lists.{slice_get-append_left as some-left}
+use Rattle.lucid_lists.proofs.Lists.{slice_get-append_left as some-left}
 use Rattle.lucid_compile.specs.Static.{Static, outermost, in_block, in_function}
 use Rattle.lucid_compile.proofs.Opening.{slice-past}
 use Rattle.lucid_compile.proofs.Growing.{begins-itself, begins-then, each-one}

@@ -15,7 +15,7 @@ pub use Rattle.lucid_cycles.specs.declared.edge.Edge.{Edge}
 pub use Rattle.lucid_cycles.specs.declared.line.Definition.{Definition}
 pub use Rattle.lucid_cycles.specs.declared.names.Names.{Names}
 pub use Rattle.lucid_cycles.specs.declared.names.Survey.{Survey}
-pub use Rattle.lucid_lemmas.proofs.Lists.{some_left}
+pub use Rattle.lucid_lists.proofs.Lists.{some_left}
 pub use Rattle.lucid_scope.specs.Scoped.{scoped_binding, scoped_inputs, scoped_tree}
 pub use Rattle.lucid_scope.specs.declared.scoped.Binding.{Binding}
 pub use Rattle.lucid_scope.specs.declared.scoped.Binding.TheVariants.{Plain}

@@ -1,9 +1,9 @@
 -- The references of a judged program as a graph: its nodes are the plain names, and its edges have delays. The test of cycles by sums
 -- of delays is this language's own.
 use Rattle.std.specs.Prelude.{ℕ, max, List, [], ◌∷◌, ◌++◌, map, count_by, nat_lt, Option, Some, None, option_map, ℤ, pos, ◌+ℤ◌, ◌-ℤ◌}
-use Rattle.lucid_streams.specs.declared.form.Delay.{Delay}
-use Rattle.lucid_streams.specs.Forms.{form_row}
-use Rattle.lucid_streams.specs.declared.form.Delay.TheVariants.{Zero, Less, More}
+use Rattle.lucid_tree.specs.declared.form.Delay.{Delay}
+use Rattle.lucid_tree.specs.Forms.{form_row}
+use Rattle.lucid_tree.specs.declared.form.Delay.TheVariants.{Zero, Less, More}
 use Rattle.lucid_tree.specs.Tree.{Head, stream, PlainTree, form, name, call, block, PlainTrees, no_trees, tree, PlainDefs, no_defs, defines, defines_function, defines_current}
 use Rattle.lucid_scope.specs.declared.scoped.Binding.{Binding}
 use Rattle.lucid_scope.specs.declared.scoped.Binding.TheVariants.{Plain}

@@ -12,8 +12,7 @@ ghost use Rattle.lucid_cycles.specs.Walks.{Marks, Goes, marked, own_marks, marks
 
 use crate::edge::Edge;
 use lucid_scope::{Binding, Scoped};
-use lucid_streams::Delay;
-use lucid_tree::{Def, DefKind, Definitions, Head, Parts, Shape, Tree};
+use lucid_tree::{Def, DefKind, Definitions, Delay, Head, Parts, Shape, Tree};
 use lucid_value::Name;
 
 /// What is met. Names are told by the places of their definitions.

@@ -6,14 +6,14 @@ use Rattle.std.specs.Prelude.{IfSome, Result, Ok, Err, length, option_map}
 use Rattle.lucid_tasks.specs.declared.Part.{Part}
 use Rattle.lucid_tasks.specs.Rows as rows
 use Rattle.lucid_tasks.specs.Rows.{row_at}
-use Rattle.lucid_facts.specs.Tasks.{key_list, AreRowsKnown}
-use Rattle.lucid_facts.specs.Demands.{table_of, Answers}
-use Rattle.lucid_facts.specs.Decisions.{LooksTooDeep, IsConstant}
-use Rattle.lucid_facts.proofs.Standing.{stands-then, standing-answers}
-use Rattle.lucid_facts.proofs.NewRows.{standing-is_wanted}
-use Rattle.lucid_facts.proofs.Answering.{constant-answers}
-use Rattle.lucid_facts.proofs.Acting.{cost_as_tags_grow, asks_goes_down, gives_goes_down, begins_waiting}
-use Rattle.lucid_facts.specs.Parts.{IsTask}
+use Rattle.lucid_demand_steps.specs.Tasks.{key_list, AreRowsKnown}
+use Rattle.lucid_demand_steps.specs.Demands.{table_of, Answers}
+use Rattle.lucid_demand_steps.specs.Decisions.{LooksTooDeep, IsConstant}
+use Rattle.lucid_demand_steps.proofs.Standing.{stands-then, standing-answers}
+use Rattle.lucid_demand_steps.proofs.NewRows.{standing-is_wanted}
+use Rattle.lucid_demand_steps.proofs.Answering.{constant-answers}
+use Rattle.lucid_demand_steps.proofs.Acting.{cost_as_tags_grow, asks_goes_down, gives_goes_down, begins_waiting}
+use Rattle.lucid_demand_steps.specs.Parts.{IsTask}
 use Rattle.lucid_demand.proofs.GrownTags.{entered_by_root, way_is_entered, waits_grow, nothing_grown}
 use Rattle.lucid_demand.proofs.SettledRows.{changed_row, on_going}
 use Rattle.lucid_demand.proofs.TouchedKeys.{held_as_before, owns_touched, waits_touched}

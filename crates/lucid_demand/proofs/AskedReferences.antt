@@ -5,15 +5,15 @@ use Rattle.std.specs.Prelude.{IfOk, IfSome, Result, Ok, Err, length, option_map}
 use Rattle.lucid_tree.specs.Levels.{nowhere}
 use Rattle.lucid_tasks.specs.declared.Part.{Part}
 use Rattle.lucid_tasks.specs.Rows as rows
-use Rattle.lucid_facts.specs.Demands.{table_of, Answers}
-use Rattle.lucid_facts.specs.Decisions.{leads_nowhere, too_deep_for}
-use Rattle.lucid_facts.proofs.Seeing.{key_as_tags_grow}
-use Rattle.lucid_facts.proofs.Standing.{standing-is_seen}
-use Rattle.lucid_facts.proofs.References.{references-stand}
-use Rattle.lucid_facts.proofs.Answering.{held-answers}
-use Rattle.lucid_facts.proofs.NewRows.{StandsBelow, body-stands, body-is_wanted, body-remembers}
-use Rattle.lucid_facts.specs.Parts.{GoesTo}
-use Rattle.lucid_decide.proofs.FoundAims.{body_task, aim_refers, aim_goes, refers_to_one, refers_nowhere}
+use Rattle.lucid_demand_steps.specs.Demands.{table_of, Answers}
+use Rattle.lucid_demand_steps.specs.Decisions.{leads_nowhere, too_deep_for}
+use Rattle.lucid_demand_steps.proofs.Seeing.{key_as_tags_grow}
+use Rattle.lucid_demand_steps.proofs.Standing.{standing-is_seen}
+use Rattle.lucid_demand_steps.proofs.References.{references-stand}
+use Rattle.lucid_demand_steps.proofs.Answering.{held-answers}
+use Rattle.lucid_demand_steps.proofs.NewRows.{StandsBelow, body-stands, body-is_wanted, body-remembers}
+use Rattle.lucid_demand_steps.specs.Parts.{GoesTo}
+use Rattle.lucid_demand_steps.proofs.FoundAims.{body_task, aim_refers, aim_goes, refers_to_one, refers_nowhere}
 use Rattle.lucid_demand.proofs.TouchedKeys.{found_is_held, absent_is_no_stay}
 use Rattle.lucid_demand.proofs.GrownTags.{way_is_entered}
 use Rattle.lucid_demand.proofs.AskedParts.{EntersWay, may_ask_grown, may_ask_entered, may_ask_touched, costs_grown, asked_given, asked_row, asked_refused, asked_too_deep, asked_turned, only_set, given_sets, asked_sets}

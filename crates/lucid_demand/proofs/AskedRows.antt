@@ -7,12 +7,12 @@ use Rattle.lucid_tasks.specs.Rows.{row_at, state_of, IsRow, Asked}
 use Rattle.lucid_equations.specs.Rows as table
 use Rattle.lucid_equations.specs.declared.rows.Node.TheVariants as node
 use Rattle.lucid_equations.specs.Rows.{parts}
-use Rattle.lucid_facts.specs.Demands.{table_of}
-use Rattle.lucid_facts.proofs.Seeing.{plain_at}
-use Rattle.lucid_facts.proofs.Coming.{arguments_may_be_asked}
-use Rattle.lucid_facts.specs.Tasks.{plain_state}
-use Rattle.lucid_decide.specs.declared.decision.Decision.TheVariants as decision
-use Rattle.lucid_decide.proofs.OperatorParts.{operator_node, operator_part}
+use Rattle.lucid_demand_steps.specs.Demands.{table_of}
+use Rattle.lucid_demand_steps.proofs.Seeing.{plain_at}
+use Rattle.lucid_demand_steps.proofs.Coming.{arguments_may_be_asked}
+use Rattle.lucid_demand_steps.specs.Tasks.{plain_state}
+use Rattle.lucid_demand_steps.specs.declared.decision.Decision.TheVariants as decision
+use Rattle.lucid_demand_steps.proofs.OperatorParts.{operator_node, operator_part}
 use Rattle.lucid_demand.proofs.SettledRows.{ready_is_there, argument_value}
 use Rattle.lucid_demand.proofs.Beginning.{stepped_from_less}
 use Rattle.lucid_demand.proofs.AskedParts.{asked_steps}

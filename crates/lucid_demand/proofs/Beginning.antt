@@ -4,7 +4,7 @@ use Rattle.std.proofs.Common.{◌≡◌, ◌<◌, ◌≤◌, ◌⊎◌, Some}
 use Rattle.std.specs.Prelude.{Result, option_map}
 use Rattle.lucid_tasks.specs.Rows as rows
 use Rattle.lucid_tasks.specs.Rows.{row_at}
-use Rattle.lucid_decide.specs.declared.decision.Decision.TheVariants as decision
+use Rattle.lucid_demand_steps.specs.declared.decision.Decision.TheVariants as decision
 use Rattle.lucid_demand.specs.Searching.{StandsAt}
 use Rattle.lucid_demand.proofs.SettledRows.{ready_is_there, on_going}
 use Rattle.lucid_demand.proofs.MayAsk.{part_may_be_asked}

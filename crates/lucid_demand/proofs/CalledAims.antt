@@ -3,10 +3,10 @@ use Rattle.lucid_demand.proofs.Common.{ℕ, inl, inr, List, Option, None, refl, 
 use Rattle.std.proofs.Common.{◌≡◌, ◌⊎◌, Some, IfSome, Result, Ok, Err, IfOk}
 use Rattle.lucid_equations.specs.Nodes.{invoke}
 use Rattle.lucid_equations.specs.Datons.{node_aim, call_aim}
-use Rattle.lucid_facts.specs.Stands.{visits_of}
-use Rattle.lucid_facts.proofs.References.{call-enters}
-use Rattle.lucid_decide.specs.Aims.{IsOfDaton}
-use Rattle.lucid_decide.proofs.FoundAims.{aim_refers}
+use Rattle.lucid_demand_steps.specs.Stands.{visits_of}
+use Rattle.lucid_demand_steps.proofs.References.{call-enters}
+use Rattle.lucid_demand_steps.specs.Aims.{IsOfDaton}
+use Rattle.lucid_demand_steps.proofs.FoundAims.{aim_refers}
 
 module _ (T : Table) (old known : List Context) (x : Task) (n at l : ℕ) (is : node_of T (plain_task old x) ≡ invoke n at l) where
   aim_is : (o : Option Aim) → plain_aim T known o ≡ call_aim (equations_of T) n at l (context_of old x.tag) x.time

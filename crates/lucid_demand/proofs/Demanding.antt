@@ -3,10 +3,10 @@ use Rattle.lucid_demand.proofs.Common.{ℕ, [], ◌∷◌, ap, ◌∙◌, Value,
 use Rattle.std.proofs.Common.{◌≡◌, Some, Result, Ok, Err}
 use Rattle.std.specs.Prelude.{IfOk}
 use Rattle.lucid_equations.specs.Values.{eqval, eqhval}
-use Rattle.lucid_facts.specs.Stands.{given}
-use Rattle.lucid_facts.specs.Engine.{RootMeans, root_val, HoldsNeeded}
-use Rattle.lucid_facts.proofs.Places.{told_extends}
-use Rattle.lucid_facts.proofs.Ends.{engine_ends, engine_visits, kept_is_held, holds_what_is_needed, undefined}
+use Rattle.lucid_demand_steps.specs.Stands.{given}
+use Rattle.lucid_demand_steps.specs.Engine.{RootMeans, root_val, HoldsNeeded}
+use Rattle.lucid_demand_steps.proofs.Places.{told_extends}
+use Rattle.lucid_demand_steps.proofs.Ends.{engine_ends, engine_visits, kept_is_held, holds_what_is_needed, undefined}
 
 if_ok : (r : Result Value DemandFault) (P Q : Value → Type 0) → IfOk r P → ((v : Value) → P v → Q v) → IfOk r Q
 if_ok (Ok v) P Q h f = f v h

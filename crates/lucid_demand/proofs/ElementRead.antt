@@ -9,7 +9,7 @@ use Rattle.lucid_inputs.specs.declared.on_demand.Inputs.{Inputs}
 use Rattle.lucid_inputs.specs.Inputs.{streams, stream_at, most_bytes, Answers}
 use Rattle.lucid_inputs.specs.Faults as inputs
 use Rattle.lucid_inputs.specs.Streams.{FitsPlace, fresh_stream}
-use Rattle.lucid_facts.proofs.Reading.{streams_read}
+use Rattle.lucid_demand_steps.proofs.Reading.{streams_read}
 
 there_at : (ss : List Stream) (k : ℕ) (other : Stream) → k < length ss → slice_get ss k ≡ Some (unwrap_or (slice_get ss k) other)
 there_at [] k other l = absurd (omega (arith, l))

@@ -5,8 +5,8 @@ use Rattle.std.specs.Prelude.{Ok}
 use Rattle.lucid_tasks.specs.declared.Part.{Part}
 use Rattle.lucid_tasks.specs.Rows as rows
 use Rattle.lucid_tasks.specs.Rows.{row_at}
-use Rattle.lucid_facts.specs.Demands.{Answers}
-use Rattle.lucid_facts.proofs.Acting.{settles_goes_down, root_is_answered}
+use Rattle.lucid_demand_steps.specs.Demands.{Answers}
+use Rattle.lucid_demand_steps.proofs.Acting.{settles_goes_down, root_is_answered}
 
 -- The rows wait on, a value answers a ready row's task, and what the row remembers is held, or was lost.
 pub record Answered (d : Demand) (now : EngineView) (w : World) (before : List (Option TaskRow)) (r : TaskRow) (v : Value) : Type 0 where

@@ -4,12 +4,12 @@ use Rattle.std.proofs.Common.{◌≡◌, ◌<◌, ◌⊎◌, Bool, true, false, 
 use Rattle.lucid_tags.specs.Contexts.{same_context}
 use Rattle.lucid_tags.specs.EqualityDecides.{same_context_is_equality}
 use Rattle.lucid_equations.specs.Ranges.{IsInRange}
-use Rattle.lucid_facts.specs.Held.{AreKeysKnown}
-use Rattle.lucid_facts.specs.Demands.{table_of, IsSeen}
-use Rattle.lucid_facts.proofs.HeldByKey.{held_as_tags_grow}
-use Rattle.lucid_facts.proofs.Passing.{passing-enters}
-use Rattle.lucid_facts.proofs.Knowing.{rows_stay_known}
-use Rattle.lucid_facts.proofs.Working.{work_same}
+use Rattle.lucid_demand_steps.specs.Held.{AreKeysKnown}
+use Rattle.lucid_demand_steps.specs.Demands.{table_of, IsSeen}
+use Rattle.lucid_demand_steps.proofs.HeldByKey.{held_as_tags_grow}
+use Rattle.lucid_demand_steps.proofs.Passing.{passing-enters}
+use Rattle.lucid_demand_steps.proofs.Knowing.{rows_stay_known}
+use Rattle.lucid_demand_steps.proofs.Working.{work_same}
 
 -- What a task enters that the root sees, the root enters.
 pub entered_by_root : (d : Demand) (b : Elements) (x : PlainTask) (c : Context) → IsSeen d b x

@@ -4,12 +4,12 @@ use Rattle.std.proofs.Common.{◌≡◌, ◌<◌, ◌≤◌, Bool, true, false, 
 use Rattle.std.specs.Prelude.{Ok, option_map}
 use Rattle.lucid_tasks.specs.Rows as rows
 use Rattle.lucid_tasks.specs.Rows.{row_at}
-use Rattle.lucid_facts.specs.Demands.{table_of}
-use Rattle.lucid_facts.specs.Decisions.{MayMove, looked_on}
-use Rattle.lucid_facts.proofs.Noting.{stream_of_search}
-use Rattle.lucid_facts.proofs.Searching.{count-is_few}
-use Rattle.lucid_facts.proofs.Acting.{moves_goes_down}
-use Rattle.lucid_decide.specs.declared.decision.Decision.TheVariants as decision
+use Rattle.lucid_demand_steps.specs.Demands.{table_of}
+use Rattle.lucid_demand_steps.specs.Decisions.{MayMove, looked_on}
+use Rattle.lucid_demand_steps.proofs.Noting.{stream_of_search}
+use Rattle.lucid_demand_steps.proofs.Searching.{count-is_few}
+use Rattle.lucid_demand_steps.proofs.Acting.{moves_goes_down}
+use Rattle.lucid_demand_steps.specs.declared.decision.Decision.TheVariants as decision
 use Rattle.lucid_demand.specs.Searching.{CanLookOn}
 use Rattle.lucid_demand.proofs.GoneRows.{goes_on_step}
 use Rattle.lucid_demand.proofs.Beginning.{noted_costs}

@@ -1,7 +1,7 @@
 -- What a demand's loop leaves, by its last turn.
 use Rattle.lucid_demand.proofs.Common.{ℕ, suc, Option, None, inl, inr, refl, sym, subst, ◌∙◌, arith, ⊤, Value, World, EngineView, Demand, demand_of, Evaluating, Stepped, cost, CountsReadFaults, LoopEnds, MayTurn, Begins, DemandFault, TooDeep, ReadFault}
 use Rattle.std.proofs.Common.{◌≡◌, ◌<◌, ◌≤◌, Some, Result, Ok, Err}
-use Rattle.lucid_facts.proofs.History.{rises_later}
+use Rattle.lucid_demand_steps.proofs.History.{rises_later}
 use Rattle.lucid_demand.proofs.AskedParts.{not_too_large, not_failed}
 
 -- the same fault in another refusal

@@ -4,12 +4,12 @@ use Rattle.std.proofs.Common.{◌≡◌, ◌<◌, Some, length}
 use Rattle.std.specs.Prelude.{IfSome}
 use Rattle.lucid_tasks.specs.declared.Part.{Part}
 use Rattle.lucid_tasks.specs.Rows.{row_at, IsIdlePart}
-use Rattle.lucid_facts.specs.Parts.{part_by_reference}
-use Rattle.lucid_facts.specs.Demands.{table_of}
-use Rattle.lucid_facts.proofs.Listing.{row_of_plain}
-use Rattle.lucid_facts.proofs.Seeing.{plain_idle}
-use Rattle.lucid_facts.proofs.Asking.{asked_is_lower, asked_is_wanted}
-use Rattle.lucid_decide.specs.declared.decision.Decision.TheVariants as decision
+use Rattle.lucid_demand_steps.specs.Parts.{part_by_reference}
+use Rattle.lucid_demand_steps.specs.Demands.{table_of}
+use Rattle.lucid_demand_steps.proofs.Listing.{row_of_plain}
+use Rattle.lucid_demand_steps.proofs.Seeing.{plain_idle}
+use Rattle.lucid_demand_steps.proofs.Asking.{asked_is_lower, asked_is_wanted}
+use Rattle.lucid_demand_steps.specs.declared.decision.Decision.TheVariants as decision
 use Rattle.lucid_demand.proofs.SettledRows.{ready_is_there}
 use Rattle.lucid_demand.proofs.Stepping.{argument_in_table}
 

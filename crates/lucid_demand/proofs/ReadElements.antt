@@ -8,16 +8,16 @@ use Rattle.lucid_tasks.specs.Rows.{row_at}
 use Rattle.lucid_ports.specs.World.{Contents}
 use Rattle.lucid_equations.specs.MoreElements.{Extends}
 use Rattle.lucid_equations.specs.Visits.{consults_on_nodes}
-use Rattle.lucid_facts.specs.Engine.{ConsultsOverlong, places_of}
-use Rattle.lucid_facts.specs.Demands.{table_of, Answers, IsConsulted}
-use Rattle.lucid_facts.specs.Decisions.{MayRead}
-use Rattle.lucid_facts.proofs.References.{input-consults}
-use Rattle.lucid_facts.proofs.Answering.{element-answers}
-use Rattle.lucid_facts.proofs.Working.{work_later}
-use Rattle.lucid_facts.proofs.Places.{reads_its_element}
-use Rattle.lucid_facts.proofs.Reading.{EngineReads, later_elements, owns_reads}
-use Rattle.lucid_decide.specs.declared.decision.Decision.TheVariants as decision
-use Rattle.lucid_demand.specs.declared.fault.DemandFault.TheVariants.{TooLarge}
+use Rattle.lucid_demand_steps.specs.Engine.{ConsultsOverlong, places_of}
+use Rattle.lucid_demand_steps.specs.Demands.{table_of, Answers, IsConsulted}
+use Rattle.lucid_demand_steps.specs.Decisions.{MayRead}
+use Rattle.lucid_demand_steps.proofs.References.{input-consults}
+use Rattle.lucid_demand_steps.proofs.Answering.{element-answers}
+use Rattle.lucid_demand_steps.proofs.Working.{work_later}
+use Rattle.lucid_demand_steps.proofs.Places.{reads_its_element}
+use Rattle.lucid_demand_steps.proofs.Reading.{EngineReads, later_elements, owns_reads}
+use Rattle.lucid_demand_steps.specs.declared.decision.Decision.TheVariants as decision
+use Rattle.lucid_demand_steps.specs.declared.fault.DemandFault.TheVariants.{TooLarge}
 use Rattle.lucid_demand.proofs.SettledRows.{nothing_taken, stepped_from}
 
 overlong_again : (o p : Option Contents) (index most : ℕ) → option_map all_bytes p ≡ option_map all_bytes o

@@ -7,16 +7,16 @@ use Rattle.lucid_search.specs.Noted.{IsBest, NotesOrMisses}
 use Rattle.lucid_tasks.specs.Rows as rows
 use Rattle.lucid_tasks.specs.Rows.{row_at}
 use Rattle.lucid_equations.specs.Rows.{node_at, node_by}
-use Rattle.lucid_facts.specs.Tasks.{all_idle}
-use Rattle.lucid_facts.specs.Demands.{table_of}
-use Rattle.lucid_facts.specs.Changes.{at_cursor}
-use Rattle.lucid_facts.proofs.Idling.{search-is_all_idle}
-use Rattle.lucid_facts.proofs.Searching.{begun-facts}
-use Rattle.lucid_facts.proofs.Owning.{owns_notes}
-use Rattle.lucid_facts.proofs.Acting.{begins_goes_on}
-use Rattle.lucid_decide.specs.Searches.{search_for, noted_of, greatest_key}
-use Rattle.lucid_decide.specs.declared.searches.Search.{Search}
-use Rattle.lucid_decide.proofs.SearchForms.{SearchesBy, searches_by}
+use Rattle.lucid_demand_steps.specs.Tasks.{all_idle}
+use Rattle.lucid_demand_steps.specs.Demands.{table_of}
+use Rattle.lucid_demand_steps.specs.Changes.{at_cursor}
+use Rattle.lucid_demand_steps.proofs.Idling.{search-is_all_idle}
+use Rattle.lucid_demand_steps.proofs.Searching.{begun-facts}
+use Rattle.lucid_demand_steps.proofs.Owning.{owns_notes}
+use Rattle.lucid_demand_steps.proofs.Acting.{begins_goes_on}
+use Rattle.lucid_demand_steps.specs.Searches.{search_for, noted_of, greatest_key}
+use Rattle.lucid_demand_steps.specs.declared.searches.Search.{Search}
+use Rattle.lucid_demand_steps.proofs.SearchForms.{SearchesBy, searches_by}
 use Rattle.lucid_demand.proofs.SettledRows.{ready_is_there}
 
 -- A ready row of a node that searches.

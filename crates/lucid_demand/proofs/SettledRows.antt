@@ -5,15 +5,15 @@ use Rattle.std.specs.Prelude.{IfSome, Result, Ok, Err, option_map}
 use Rattle.lucid_tasks.specs.Rows as rows
 use Rattle.lucid_tasks.specs.Rows.{row_at, parent_of, key_of}
 use Rattle.lucid_equations.specs.Rows as table
-use Rattle.lucid_facts.specs.Demands.{table_of, Answers}
-use Rattle.lucid_facts.specs.Decisions.{GivesByPlan}
-use Rattle.lucid_facts.specs.Changes.{PutsOrLoses}
-use Rattle.lucid_facts.proofs.Listing.{same_elsewhere}
-use Rattle.lucid_facts.proofs.Changing.{settles_after_taking}
-use Rattle.lucid_facts.proofs.Putting.{remembered-is_put}
-use Rattle.lucid_facts.proofs.Giving.{plan_answers, reference_answers}
-use Rattle.lucid_facts.proofs.Storing.{AfterPut, after_put}
-use Rattle.lucid_decide.specs.declared.decision.Decision.TheVariants as decision
+use Rattle.lucid_demand_steps.specs.Demands.{table_of, Answers}
+use Rattle.lucid_demand_steps.specs.Decisions.{GivesByPlan}
+use Rattle.lucid_demand_steps.specs.Changes.{PutsOrLoses}
+use Rattle.lucid_demand_steps.proofs.Listing.{same_elsewhere}
+use Rattle.lucid_demand_steps.proofs.Changing.{settles_after_taking}
+use Rattle.lucid_demand_steps.proofs.Putting.{remembered-is_put}
+use Rattle.lucid_demand_steps.proofs.Giving.{plan_answers, reference_answers}
+use Rattle.lucid_demand_steps.proofs.Storing.{AfterPut, after_put}
+use Rattle.lucid_demand_steps.specs.declared.decision.Decision.TheVariants as decision
 use Rattle.lucid_demand.specs.Evaluating.{OnGoingOn}
 use Rattle.lucid_demand.specs.Acting.{IsKept}
 use Rattle.lucid_demand.proofs.GoneRows.{row_goes}

@@ -5,8 +5,8 @@ use Rattle.std.specs.Prelude.{Result, Ok, Err, Some}
 use Rattle.lucid_tags.specs.Contexts.{context_at}
 use Rattle.lucid_tags.specs.Known.{number_of}
 use Rattle.lucid_tags.specs.declared.Tag.{Tag}
-use Rattle.lucid_facts.specs.Demands.{table_of}
-use Rattle.lucid_facts.proofs.NewRows.{root-is_wanted}
+use Rattle.lucid_demand_steps.specs.Demands.{table_of}
+use Rattle.lucid_demand_steps.proofs.NewRows.{root-is_wanted}
 use Rattle.lucid_demand.proofs.Turning.{owns_turned, emptied_turn}
 
 -- What asking for the root gave is how the demand begins.

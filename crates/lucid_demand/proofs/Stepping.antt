@@ -8,14 +8,14 @@ use Rattle.lucid_tasks.specs.Rows.{row_at}
 use Rattle.lucid_equations.specs.Datons.{NodePosition, NodeAim, Daton}
 use Rattle.lucid_equations.specs.Rows as table
 use Rattle.lucid_equations.specs.declared.rows.Node.TheVariants as node
-use Rattle.lucid_facts.specs.Stands.{IsDefined}
-use Rattle.lucid_facts.specs.Demands.{table_of}
-use Rattle.lucid_facts.specs.Decisions.{element_too_deep}
-use Rattle.lucid_facts.proofs.Asking.{nothing_is_right}
-use Rattle.lucid_decide.specs.declared.decision.Decision.TheVariants as decision
-use Rattle.lucid_decide.specs.Ready.{MayDecide}
-use Rattle.lucid_decide.specs.declared.decision.Decision.{Decision}
-use Rattle.lucid_decide.proofs.OperatorParts.{argument_is_lower}
+use Rattle.lucid_demand_steps.specs.Stands.{IsDefined}
+use Rattle.lucid_demand_steps.specs.Demands.{table_of}
+use Rattle.lucid_demand_steps.specs.Decisions.{element_too_deep}
+use Rattle.lucid_demand_steps.proofs.Asking.{nothing_is_right}
+use Rattle.lucid_demand_steps.specs.declared.decision.Decision.TheVariants as decision
+use Rattle.lucid_demand_steps.specs.Ready.{MayDecide}
+use Rattle.lucid_demand_steps.specs.declared.decision.Decision.{Decision}
+use Rattle.lucid_demand_steps.proofs.OperatorParts.{argument_is_lower}
 use Rattle.lucid_demand.specs.Acting.{AreThere}
 use Rattle.lucid_demand.proofs.TakenParts.{value_there}
 use Rattle.lucid_demand.proofs.SettledRows.{ready_is_there, argument_value}

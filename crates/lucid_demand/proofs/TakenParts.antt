@@ -4,7 +4,7 @@ use Rattle.std.proofs.Common.{◌≡◌, ◌<◌, length, Some}
 use Rattle.std.specs.Prelude.{Result, Ok, Err, IfOk}
 use Rattle.lucid_ops.specs.Algebra.{algebra}
 use Rattle.lucid_tasks.specs.Rows as rows
-use Rattle.lucid_decide.specs.Justified.{HaveValues}
+use Rattle.lucid_demand_steps.specs.Justified.{HaveValues}
 
 -- another part than the one that is set stands as it did
 pub other_part : (ps : List rows.PartState) (i k : ℕ) (y : rows.PartState) → (k ≡ i → ⊥) → slice_index_or (slice_set ps i y) k Idle ≡ slice_index_or ps k Idle

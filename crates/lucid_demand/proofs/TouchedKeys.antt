@@ -3,8 +3,8 @@ use Rattle.lucid_demand.proofs.Common.{List, Option, None, refl, sym, ap, ◌∙
 use Rattle.std.proofs.Common.{◌≡◌, Some}
 use Rattle.std.specs.Prelude.{option_map}
 use Rattle.lucid_store.proofs.CallerLemmas.{held-touched}
-use Rattle.lucid_facts.proofs.HeldByKey.{held_by_key}
-use Rattle.lucid_facts.proofs.Owning.{few_where_fewer}
+use Rattle.lucid_demand_steps.proofs.HeldByKey.{held_by_key}
+use Rattle.lucid_demand_steps.proofs.Owning.{few_where_fewer}
 
 module _ (d : Demand) (now : EngineView) (w : World) (stored : Stored) (key : Key) (owns : Owns d now w) (touched : IsTouched now.stored stored key) where
   -- each daton is held as it was

@@ -6,11 +6,11 @@ use Rattle.std.proofs.lemmas.List.{nil_from_length}
 use Rattle.lucid_tasks.specs.Rows.{row_at}
 use Rattle.lucid_store.specs.Entries.{count_of}
 use Rattle.lucid_retire.specs.Turns.{HoldsAtMost}
-use Rattle.lucid_facts.specs.Held.{is_key_of}
-use Rattle.lucid_facts.specs.Engine.{HoldsFew}
-use Rattle.lucid_facts.specs.Demands.{Answers}
-use Rattle.lucid_facts.specs.Stock.{IsEmptied}
-use Rattle.lucid_facts.specs.Going.{WithinRoom}
+use Rattle.lucid_demand_steps.specs.Held.{is_key_of}
+use Rattle.lucid_demand_steps.specs.Engine.{HoldsFew}
+use Rattle.lucid_demand_steps.specs.Demands.{Answers}
+use Rattle.lucid_demand_steps.specs.Stock.{IsEmptied}
+use Rattle.lucid_demand_steps.specs.Going.{WithinRoom}
 use Rattle.lucid_demand.proofs.Beginning.{stepped_from_less}
 
 -- at most as many as the policy leaves are within its room, and few

@@ -10,15 +10,15 @@ use Rattle.lucid_tree.specs.Levels.{Elements}
 use Rattle.lucid_tags.specs.declared.Key.{Key}
 use Rattle.lucid_tasks.specs.Rows.{TaskRow, row_at, parent_of, key_of, is_ready}
 use Rattle.lucid_ports.specs.World.{World}
-use Rattle.lucid_facts.specs.Tasks.{plain_task, plain_row}
-use Rattle.lucid_facts.specs.Engine.{EngineView, MayHave, holding}
-use Rattle.lucid_facts.specs.Demands.{Demand, table_of, Answers}
-use Rattle.lucid_facts.specs.Decisions.{GivesByPlan}
-use Rattle.lucid_facts.specs.Going.{Waits, WithinRoom}
-use Rattle.lucid_facts.specs.Changes.{PutsOrLoses}
-use Rattle.lucid_decide.specs.Justified.{Justified, HaveValues}
-use Rattle.lucid_decide.specs.Ready.{argument_of}
-use Rattle.lucid_decide.specs.declared.decision.Decision.{Decision}
+use Rattle.lucid_demand_steps.specs.Tasks.{plain_task, plain_row}
+use Rattle.lucid_demand_steps.specs.Engine.{EngineView, MayHave, holding}
+use Rattle.lucid_demand_steps.specs.Demands.{Demand, table_of, Answers}
+use Rattle.lucid_demand_steps.specs.Decisions.{GivesByPlan}
+use Rattle.lucid_demand_steps.specs.Going.{Waits, WithinRoom}
+use Rattle.lucid_demand_steps.specs.Changes.{PutsOrLoses}
+use Rattle.lucid_demand_steps.specs.Justified.{Justified, HaveValues}
+use Rattle.lucid_demand_steps.specs.Ready.{argument_of}
+use Rattle.lucid_demand_steps.specs.declared.decision.Decision.{Decision}
 use Rattle.lucid_demand.specs.Evaluating.{Evaluating, MayStep}
 
 -- a demand, and the world in which its next step is taken

@@ -15,18 +15,18 @@ use Rattle.lucid_tasks.specs.Rows.{TaskRow, PartState, row_at, with_part, is_rea
 use Rattle.lucid_ports.specs.World.{World}
 use Rattle.lucid_equations.specs.declared.table.Table.{Table}
 use Rattle.lucid_equations.specs.Datons.{Daton}
-use Rattle.lucid_facts.specs.Tasks.{PlainTask, PlainRow, idle, state_at, plain_task, plain_rows}
-use Rattle.lucid_facts.specs.Parts.{node_of, rank, aim_of_task, IsReference, IsPart}
-use Rattle.lucid_facts.specs.Stands.{visits_of, IsDefined, StandsFor}
-use Rattle.lucid_facts.specs.Engine.{EngineView, holding, MayHave}
-use Rattle.lucid_facts.specs.Demands.{Demand, table_of, stays, Answers}
-use Rattle.lucid_facts.specs.Rows.{IsWanted}
-use Rattle.lucid_facts.specs.Going.{IsDemand, Owns, Waits}
-use Rattle.lucid_decide.specs.Aims.{plain_aim, IsAim}
-use Rattle.lucid_decide.specs.declared.aim.Aim.{Aim}
+use Rattle.lucid_demand_steps.specs.Tasks.{PlainTask, PlainRow, idle, state_at, plain_task, plain_rows}
+use Rattle.lucid_demand_steps.specs.Parts.{node_of, rank, aim_of_task, IsReference, IsPart}
+use Rattle.lucid_demand_steps.specs.Stands.{visits_of, IsDefined, StandsFor}
+use Rattle.lucid_demand_steps.specs.Engine.{EngineView, holding, MayHave}
+use Rattle.lucid_demand_steps.specs.Demands.{Demand, table_of, stays, Answers}
+use Rattle.lucid_demand_steps.specs.Rows.{IsWanted}
+use Rattle.lucid_demand_steps.specs.Going.{IsDemand, Owns, Waits}
+use Rattle.lucid_demand_steps.specs.Aims.{plain_aim, IsAim}
+use Rattle.lucid_demand_steps.specs.declared.aim.Aim.{Aim}
 use Rattle.lucid_demand.specs.Evaluating.{Evaluating, cost, OnAnswer, OnGoingOn}
-use Rattle.lucid_demand.specs.declared.fault.DemandFault.{DemandFault}
-use Rattle.lucid_demand.specs.declared.fault.DemandFault.TheVariants.{TooDeep, NoMemory}
+use Rattle.lucid_demand_steps.specs.declared.fault.DemandFault.{DemandFault}
+use Rattle.lucid_demand_steps.specs.declared.fault.DemandFault.TheVariants.{TooDeep, NoMemory}
 
 -- The part, if it is for one, is idle, and the task is one of the table's, in a known context.
 pub record CanAsk (e : Evaluating) (part : Option Part) (x : Task) : Type 0 where

@@ -5,16 +5,11 @@ use Rattle.lucid_value.specs.View.{plain}
 use Rattle.lucid_tree.specs.Levels.{Elements}
 use Rattle.lucid_ports.specs.World.{World}
 use Rattle.lucid_ports.specs.Faults.{Rises}
-use Rattle.lucid_facts.specs.Elements.{elements_told}
-use Rattle.lucid_facts.specs.Engine.{EngineView, IsSound, MayHave, RootMeans, root_val, root_hval, holding, DrawsWithin, ReadsWithin, ConsultsOverlong, VisitsNew, HoldsFew, StillHolds, HoldsNeeded, AreAskable, GoesOn, ReadsOnly, places_of}
-use Rattle.lucid_demand.specs.Faults.{CountsReadFaults}
-use Rattle.lucid_demand.specs.declared.fault.DemandFault.{DemandFault}
-use Rattle.lucid_demand.specs.declared.fault.DemandFault.TheVariants.{TooDeep, ReadFault, TooLarge}
-
--- what a refusal says of the stream that is too large
-abbrev pub OnTooLarge : DemandFault → (ℕ → Type 0) → Type 0
-OnTooLarge (TooLarge stream) P = P stream
-OnTooLarge _ P = Unit {0}
+use Rattle.lucid_demand_steps.specs.Elements.{elements_told}
+use Rattle.lucid_demand_steps.specs.Engine.{EngineView, IsSound, MayHave, RootMeans, root_val, root_hval, holding, DrawsWithin, ReadsWithin, ConsultsOverlong, VisitsNew, HoldsFew, StillHolds, HoldsNeeded, AreAskable, GoesOn, ReadsOnly, places_of}
+use Rattle.lucid_demand_steps.specs.Faults.{OnTooLarge, CountsReadFaults}
+use Rattle.lucid_demand_steps.specs.declared.fault.DemandFault.{DemandFault}
+use Rattle.lucid_demand_steps.specs.declared.fault.DemandFault.TheVariants.{TooDeep, ReadFault}
 
 -- The most contexts that may be known when a demand is made, the empty one included.
 abbrev pub most_known : ℕ

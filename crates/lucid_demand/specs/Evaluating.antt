@@ -6,16 +6,16 @@ use Rattle.lucid_tree.specs.Levels.{Elements}
 use Rattle.lucid_tasks.specs.Rows.{TaskRow, row_at, is_ready}
 use Rattle.lucid_ports.specs.World.{World}
 use Rattle.lucid_ports.specs.Faults.{Rises}
-use Rattle.lucid_facts.specs.Tasks.{plain_rows}
-use Rattle.lucid_facts.specs.Stands.{IsDefined}
-use Rattle.lucid_facts.specs.Engine.{EngineView, MayHave, ConsultsOverlong, holding}
-use Rattle.lucid_facts.specs.Demands.{Demand, table_of, stays, Answers}
-use Rattle.lucid_facts.specs.Measure.{total}
-use Rattle.lucid_facts.specs.Stock.{IsEmptied}
-use Rattle.lucid_facts.specs.Going.{IsDemand, Owns, Waits, WithinRoom}
-use Rattle.lucid_demand.specs.Demanded.{OnTooLarge}
-use Rattle.lucid_demand.specs.declared.fault.DemandFault.{DemandFault}
-use Rattle.lucid_demand.specs.declared.fault.DemandFault.TheVariants.{TooDeep, ReadFault}
+use Rattle.lucid_demand_steps.specs.Tasks.{plain_rows}
+use Rattle.lucid_demand_steps.specs.Stands.{IsDefined}
+use Rattle.lucid_demand_steps.specs.Engine.{EngineView, MayHave, ConsultsOverlong, holding}
+use Rattle.lucid_demand_steps.specs.Demands.{Demand, table_of, stays, Answers}
+use Rattle.lucid_demand_steps.specs.Measure.{total}
+use Rattle.lucid_demand_steps.specs.Stock.{IsEmptied}
+use Rattle.lucid_demand_steps.specs.Going.{IsDemand, Owns, Waits, WithinRoom}
+use Rattle.lucid_demand_steps.specs.Faults.{OnTooLarge}
+use Rattle.lucid_demand_steps.specs.declared.fault.DemandFault.{DemandFault}
+use Rattle.lucid_demand_steps.specs.declared.fault.DemandFault.TheVariants.{TooDeep, ReadFault}
 
 -- What an evaluation is: an engine's view, and the rows of the waiting tasks by their slots.
 pub record Evaluating : Type 0 where

@@ -3,8 +3,8 @@ use Rattle.std.specs.Prelude.{List, Option, refl}
 use Rattle.std.specs.Coded.{Coded, code_by, coded×}
 use Rattle.lucid_tasks.specs.Rows.{TaskRow}
 use Rattle.lucid_tasks.specs.RowsCode.{rows_code}
-use Rattle.lucid_facts.specs.Engine.{EngineView}
-use Rattle.lucid_facts.specs.EngineCode.{engine_code}
+use Rattle.lucid_demand_steps.specs.Engine.{EngineView}
+use Rattle.lucid_demand_steps.specs.EngineCode.{engine_code}
 use Rattle.lucid_demand.specs.Evaluating.{Evaluating}
 
 abbrev pub evaluating_code : Coded Evaluating

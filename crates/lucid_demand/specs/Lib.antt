@@ -3,7 +3,6 @@ pub mod Asking
 pub mod Demanded
 pub mod Evaluating
 pub mod EvaluatingCode
-pub mod Faults
 pub mod LoopEnds
 pub mod Reading
 pub mod Searching

@@ -5,14 +5,13 @@ use Rattle.lucid_value.specs.View.{plain}
 use Rattle.lucid_tree.specs.Levels.{Elements}
 use Rattle.lucid_ports.specs.World.{World}
 use Rattle.lucid_ports.specs.Faults.{Rises}
-use Rattle.lucid_facts.specs.Stands.{IsDefined}
-use Rattle.lucid_facts.specs.Engine.{EngineView, MayHave, holding, ConsultsOverlong}
-use Rattle.lucid_facts.specs.Demands.{demand_of, stays, Answers}
-use Rattle.lucid_facts.specs.Going.{Owns}
-use Rattle.lucid_demand.specs.declared.fault.DemandFault.{DemandFault}
-use Rattle.lucid_demand.specs.declared.fault.DemandFault.TheVariants.{TooDeep, ReadFault}
-use Rattle.lucid_demand.specs.Demanded.{OnTooLarge}
-use Rattle.lucid_demand.specs.Faults.{CountsReadFaults}
+use Rattle.lucid_demand_steps.specs.Stands.{IsDefined}
+use Rattle.lucid_demand_steps.specs.Engine.{EngineView, MayHave, holding, ConsultsOverlong}
+use Rattle.lucid_demand_steps.specs.Demands.{demand_of, stays, Answers}
+use Rattle.lucid_demand_steps.specs.Going.{Owns}
+use Rattle.lucid_demand_steps.specs.declared.fault.DemandFault.{DemandFault}
+use Rattle.lucid_demand_steps.specs.declared.fault.DemandFault.TheVariants.{TooDeep, ReadFault}
+use Rattle.lucid_demand_steps.specs.Faults.{OnTooLarge, CountsReadFaults}
 
 -- What is true when a demand's loop ends, whatever it answers.
 pub record LoopEnds (old new : EngineView) (before after : World) (time space limit : ℕ) (result : Result Value DemandFault) : Type 0 where

@@ -7,11 +7,10 @@ use Rattle.lucid_ports.specs.World.{World}
 use Rattle.lucid_ports.specs.Faults.{Rises}
 use Rattle.lucid_inputs.specs.Streams.{Stream, all_bytes}
 use Rattle.lucid_inputs.specs.Reading.{ReadsOn, GivesElement}
-use Rattle.lucid_facts.specs.Engine.{EngineView}
-use Rattle.lucid_demand.specs.Demanded.{OnTooLarge}
-use Rattle.lucid_demand.specs.Faults.{CountsReadFaults}
-use Rattle.lucid_demand.specs.declared.fault.DemandFault.{DemandFault}
-use Rattle.lucid_demand.specs.declared.fault.DemandFault.TheVariants.{TooDeep, ReadFault}
+use Rattle.lucid_demand_steps.specs.Engine.{EngineView}
+use Rattle.lucid_demand_steps.specs.Faults.{OnTooLarge, CountsReadFaults}
+use Rattle.lucid_demand_steps.specs.declared.fault.DemandFault.{DemandFault}
+use Rattle.lucid_demand_steps.specs.declared.fault.DemandFault.TheVariants.{TooDeep, ReadFault}
 
 -- The stream of that number is read on for an element, and nothing else changes. The element is the one that the stream gives. It is too
 -- large only where as many bytes are consumed as may be, and it lies past them.

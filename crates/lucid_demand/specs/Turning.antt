@@ -7,13 +7,13 @@ use Rattle.lucid_tags.specs.declared.Tag.{Tag}
 use Rattle.lucid_search.specs.Noted.{number_at}
 use Rattle.lucid_retire.specs.Turns.{IsTurn}
 use Rattle.lucid_ports.specs.World.{World}
-use Rattle.lucid_facts.specs.Engine.{EngineView, MayHave, holding}
-use Rattle.lucid_facts.specs.Demands.{Demand, table_of, stays, Answers}
-use Rattle.lucid_facts.specs.Going.{IsDemand, Owns, Waits}
-use Rattle.lucid_facts.specs.Stands.{IsDefined}
+use Rattle.lucid_demand_steps.specs.Engine.{EngineView, MayHave, holding}
+use Rattle.lucid_demand_steps.specs.Demands.{Demand, table_of, stays, Answers}
+use Rattle.lucid_demand_steps.specs.Going.{IsDemand, Owns, Waits}
+use Rattle.lucid_demand_steps.specs.Stands.{IsDefined}
 use Rattle.lucid_demand.specs.Evaluating.{Evaluating, OnAnswer, OnGoingOn}
-use Rattle.lucid_demand.specs.declared.fault.DemandFault.{DemandFault}
-use Rattle.lucid_demand.specs.declared.fault.DemandFault.TheVariants.{TooDeep, NoMemory}
+use Rattle.lucid_demand_steps.specs.declared.fault.DemandFault.{DemandFault}
+use Rattle.lucid_demand_steps.specs.declared.fault.DemandFault.TheVariants.{TooDeep, NoMemory}
 
 -- A turn may be taken: the demand's invariant holds.
 pub record MayTurn (d : Demand) (e : Evaluating) (w : World) : Type 0 where

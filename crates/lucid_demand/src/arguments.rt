@@ -1,14 +1,14 @@
 //! A task is asked for: what answers it at once is given, and else a row waits for it.
 ghost use Rattle.std.specs.Prelude.{◌≡◌, Some, None, OnOk, IfSome};
 ghost use Rattle.lucid_tasks.specs.Rows.{returned, Gives, IsIdlePart};
-ghost use Rattle.lucid_decide.specs.declared.decision.Decision.TheVariants as decision;
+ghost use Rattle.lucid_demand_steps.specs.declared.decision.Decision.TheVariants as decision;
 ghost use Rattle.lucid_demand.specs.Evaluating.{gave, Stepped};
 ghost use Rattle.lucid_demand.specs.Acting.{DemandIn, MayAct};
 ghost use Rattle.lucid_demand.specs.Asking.{CanAsk, CanAskAll, MayAskNow, AsksIn, SetsPart};
 
 use crate::DemandFault;
 use crate::turn::Evaluation;
-use lucid_decide::moved_on;
+use lucid_demand_steps::moved_on;
 use lucid_equations::Node;
 use lucid_ops::Op;
 use lucid_retire::Retire;

@@ -5,7 +5,7 @@ ghost use Rattle.lucid_store.specs.Entries.{count_of, cleared, empty_warehouse, 
 ghost use Rattle.lucid_search.specs.Noted.{nothing_noted};
 ghost use Rattle.lucid_inputs.specs.Inputs.{streams, most_bytes};
 ghost use Rattle.lucid_equations.specs.Programs.{table_of};
-ghost use Rattle.lucid_facts.specs.Engine.{IsSound};
+ghost use Rattle.lucid_demand_steps.specs.Engine.{IsSound};
 
 use crate::DemandFault;
 use crate::turn::Evaluation;
@@ -31,8 +31,8 @@ pub struct Engine<R: Retire, S: Pick> {
 
 impl<R: Retire, S: Pick> Model for Engine<R, S> {
     ghost use Rattle.std.specs.Prelude.{◌≡◌, []};
-    ghost use Rattle.lucid_facts.specs.Engine.{EngineView, IsSound};
-    ghost use Rattle.lucid_facts.specs.EngineCode.{engine_code};
+    ghost use Rattle.lucid_demand_steps.specs.Engine.{EngineView, IsSound};
+    ghost use Rattle.lucid_demand_steps.specs.EngineCode.{engine_code};
 
     ghost Value = { EngineView };
 

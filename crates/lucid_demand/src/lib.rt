@@ -18,11 +18,10 @@
 #![tactic(auto)]
 
 pub use crate::engine::Engine;
-pub use crate::fault::DemandFault;
+pub use lucid_demand_steps::DemandFault;
 
 mod arguments;
 mod engine;
-mod fault;
 mod references;
 mod searches;
 mod settling;

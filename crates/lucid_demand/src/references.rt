@@ -2,15 +2,15 @@
 ghost use Rattle.std.specs.Prelude.{◌≡◌, Some, None, IfOk, OnOk, IfSome, length, ◌<◌};
 ghost use Rattle.lucid_tags.specs.Known.{IsKnown};
 ghost use Rattle.lucid_store.specs.Entries.{value_at, IsTouched};
-ghost use Rattle.lucid_facts.specs.Tasks.{plain_task};
-ghost use Rattle.lucid_facts.specs.Parts.{node_of, IsReference};
+ghost use Rattle.lucid_demand_steps.specs.Tasks.{plain_task};
+ghost use Rattle.lucid_demand_steps.specs.Parts.{node_of, IsReference};
 ghost use Rattle.lucid_demand.specs.Evaluating.{gave};
 ghost use Rattle.lucid_demand.specs.Acting.{DemandIn};
 ghost use Rattle.lucid_demand.specs.Asking.{CanAsk, FindsAim, MayRefer, AsksIn, SetsPart};
 
 use crate::DemandFault;
 use crate::turn::Evaluation;
-use lucid_decide::{Aim, call_aim, moved_on, name_aim};
+use lucid_demand_steps::{Aim, call_aim, moved_on, name_aim};
 use lucid_equations::Node;
 use lucid_retire::Retire;
 use lucid_schedule::Pick;

@@ -1,7 +1,7 @@
 //! Searches begin at the best noted position, and note where they end.
 ghost use Rattle.std.specs.Prelude.{◌≡◌, ◌<◌, ◌≤◌, None, Some};
-ghost use Rattle.lucid_facts.specs.Going.{Owns};
-ghost use Rattle.lucid_decide.specs.declared.decision.Decision.TheVariants as decision;
+ghost use Rattle.lucid_demand_steps.specs.Going.{Owns};
+ghost use Rattle.lucid_demand_steps.specs.declared.decision.Decision.TheVariants as decision;
 ghost use Rattle.lucid_demand.specs.Evaluating.{MayStep, gave, Stepped, cost};
 ghost use Rattle.lucid_demand.specs.Acting.{DemandIn, MayAct, IsReadyTask};
 ghost use Rattle.lucid_demand.specs.Searching.{StandsAt, CanLookOn};
@@ -9,7 +9,7 @@ ghost use Rattle.lucid_demand.specs.Asking.{MayAskNow};
 
 use crate::DemandFault;
 use crate::turn::Evaluation;
-use lucid_decide::{is_search, search_of};
+use lucid_demand_steps::{is_search, search_of};
 use lucid_equations::Node;
 use lucid_retire::Retire;
 use lucid_schedule::Pick;

@@ -1,8 +1,8 @@
 -- Forms over streams, read from nodes and made into nodes.
 use Rattle.lucid_equations.proofs.Common.{◌≡◌, ℕ, List, [], ◌∷◌, Option, None, Some, refl, subst, take, get_or, Node, Const}
-use Rattle.lucid_streams.specs.declared.form.Form.{Form}
-use Rattle.lucid_streams.specs.Forms.{part_count}
-use Rattle.lucid_streams.specs.declared.form.Form.TheVariants as forms
+use Rattle.lucid_tree.specs.declared.form.Form.{Form}
+use Rattle.lucid_tree.specs.Forms.{part_count}
+use Rattle.lucid_tree.specs.declared.form.Form.TheVariants as forms
 use Rattle.lucid_equations.specs.Rows.{read, made}
 use Rattle.lucid_equations.specs.declared.rows.Node.TheVariants.{Input, Apply, Freeze, Refer, Call}
 

@@ -1,6 +1,6 @@
 -- A form whose plan gives one part at one point reads and visits what that part does there.
 use Rattle.lucid_equations.proofs.Common.{◌≡◌, ℕ, zero, suc, ◌+◌, Bool, true, false, List, [], ◌++◌, Option, Some, None, refl, sym, ap, ◌∙◌, subst, if◌then◌else◌, filter_map, append-nil, none-some, PlainValue, In, Head, Plan, Reader, gives, run, trace, with_values, Elements, Given, nothing_held, Below, below, deeper, reference_of, Context, frozen_frame, PlainNode, PlainNodes, no_nodes, node, row, freeze, part_of, Equations, Daton, NodePosition, NodeAim, node_hval, node_value, value_at, part_at, NodeEvents, node_visits, node_walk, walk_at, walk_part, IsNeeded, nat_lt}
-use Rattle.lucid_lemmas.proofs.Numbers.{zero_le}
+use Rattle.lucid_lists.proofs.Numbers.{zero_le}
 use Rattle.lucid_value.specs.Plain.{fault}
 use Rattle.lucid_tree.specs.Tree.{first, next, fby, initial, succ, sby}
 use Rattle.lucid_tree.specs.Rows.{gives_part, add_value, single, last}

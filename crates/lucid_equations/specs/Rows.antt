@@ -3,9 +3,9 @@ use Rattle.std.specs.Prelude.{◌≡◌, ℕ, List, [], ◌∷◌, ◌++◌, tak
 use Rattle.std.specs.Option.{option_map, option_and_then}
 use Rattle.lucid_value.specs.Plain.{PlainValue, fault}
 use Rattle.lucid_ops.specs.Arity.{arity}
-use Rattle.lucid_streams.specs.declared.form.Form.{Form}
-use Rattle.lucid_streams.specs.Forms.{form_row, part_count}
-use Rattle.lucid_streams.specs.declared.form.Form.TheVariants as forms
+use Rattle.lucid_tree.specs.declared.form.Form.{Form}
+use Rattle.lucid_tree.specs.Forms.{form_row, part_count}
+use Rattle.lucid_tree.specs.declared.form.Form.TheVariants as forms
 use Rattle.lucid_tree.specs.Tree.{const, apply, stream}
 use Rattle.lucid_equations.specs.Nodes.{PlainNode, row, freeze, reference, invoke, PlainNodes, no_nodes, node, PlainEntry, plain_entry, called_entry, current_entry, parameter_entry, input, refer, Equations}
 use Rattle.lucid_equations.specs.declared.rows.Node.{Node}

@@ -3,7 +3,7 @@ ghost use Rattle.std.specs.Prelude.{◌≡◌, ◌≤◌, ◌∷◌, [], take, l
 ghost use Rattle.lucid_equations.specs.Rows.{read, read_word, made, parts};
 
 use crate::rows::Node;
-use lucid_streams::Form;
+use lucid_tree::Form;
 use std::marker::Model;
 
 /// The numbers of a node's parts, in order, at most three. It takes no memory.

@@ -5,7 +5,7 @@ ghost use Rattle.std.specs.Prelude.{◌≡◌, ◌≢◌, Ok, Err, OnOk};
 ghost use Rattle.std.specs.Process.{exit_status};
 ghost use Rattle.lucid_report.specs.Status.{code_of};
 
-use lucid_explained::{RealOutlook, lucid_explain_from_arguments, text_asked};
+use lucid_explain_command::{RealOutlook, lucid_explain_from_arguments, text_asked};
 use lucid_ports::{PortFault, RealPlaces, RealSink, write_whole};
 use lucid_report::{Done, Refusal, Status, Stop, tell};
 use std::fs::File;

@@ -1,14 +1,14 @@
 -- What the proofs of this crate take of std, and what two of them or more cite of other modules, passed on from one place. Declares nothing.
 pub use Rattle.lucid_fixed_point.specs.Contexts.{Context, Contexts, DefContexts, block_of, call_of, context, fill, fill_all, fill_definitions, form_of, is_current, is_function, is_plain, name_of, no_contexts, no_definitions, place}
 pub use Rattle.lucid_fixed_point.specs.Denotation.{denotation, denotations, equations, meanings}
+pub use Rattle.lucid_fixed_point.specs.Equations.{AimHas, IsClosed, PartHas, Relation}
 pub use Rattle.lucid_fixed_point.specs.Families.{Solves, all_by_family, by_family}
 pub use Rattle.lucid_fixed_point.specs.Order.{EachWithin, IsChain, IsChainOfMeanings, IsContinuous, MapWithin, MeaningsApproached, MeaningsWithin, PointsWithin, Within}
+pub use Rattle.lucid_fixed_point.specs.Rules.{Derives}
 pub use Rattle.lucid_fixed_point.specs.Search.{Advance, Search, found, past_false, past_true}
 pub use Rattle.lucid_fixed_point.specs.Streams.{Map, Meanings, Stream, Streams, chosen, frozen, iterate, least, no_map, no_stream, numbered_or, operator, union, union_of, with_arguments, with_map, with_stream}
 pub use Rattle.lucid_fixed_point.specs.Tests.{AsTruth, HaveValues, IsNoTruth, Placed, Tested, Values, ends, fails, on_false, on_true}
 pub use Rattle.lucid_fixed_point.specs.Unfolding.{AllAvoid, Avoids, Clear, InsideClear, Names, bound, parameters}
-pub use Rattle.lucid_least.specs.Equations.{AimHas, IsClosed, PartHas, Relation}
-pub use Rattle.lucid_least.specs.Rules.{Derives}
 pub use Rattle.lucid_ops.specs.Algebra.{algebra}
 pub use Rattle.lucid_tree.proofs.Plans.{Keeps, run-keeps, within_itself}
 pub use Rattle.lucid_tree.proofs.Settled.{added, defined}

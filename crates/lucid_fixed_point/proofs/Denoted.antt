@@ -1,9 +1,9 @@
 -- What trees denote is closed under their equations; so what is derived is denoted, and exactly that.
 use Rattle.lucid_fixed_point.proofs.Common.{ℕ, zero, suc, Bool, true, false, List, Option, Some, None, if◌then◌else◌, get_or, PlainValue, PlainTree, form, name, call, block, PlainTrees, no_trees, tree, PlainDefs, no_defs, defines, defines_function, defines_current, Elements, Env, empty, scope, args, same_name, param, tree_at, Aim, Found, plain_def, function_def, current_def, definition, name_target, call_target, in_scope, in_args, frozen_target, to_actual, called, unless_param, Relation, PartHas, AimHas, IsClosed, Stream, Streams, Map, no_map, no_stream, chosen, numbered_or, with_arguments, frozen, denotation, denotations, equations, meanings, PointsWithin}
 use Rattle.lucid_tree.specs.Meaning.{Means}
-use Rattle.lucid_least.proofs.Rules.{means-derives, derives-means}
-use Rattle.lucid_least.proofs.Fixed.{meaning-is-fixed}
-use Rattle.lucid_least.proofs.Below.{means-has}
+use Rattle.lucid_fixed_point.proofs.Rules.{means-derives, derives-means}
+use Rattle.lucid_fixed_point.proofs.Fixed.{meaning-is-fixed}
+use Rattle.lucid_fixed_point.proofs.Below.{means-has}
 use Rattle.lucid_fixed_point.specs.Laws.{DenotationIsDerivation, DenotationIsMeaning}
 use Rattle.lucid_fixed_point.proofs.Solved.{block-solved, meanings-are-continuous}
 use Rattle.lucid_fixed_point.proofs.Stands.{denoted-stands}

@@ -1,3 +1,9 @@
+pub mod RuleCommon
+pub mod Below
+pub mod Fixed
+mod Parts
+pub mod Rules
+mod Loops
 pub mod Common
 pub mod Chains
 pub mod Monotone

@@ -8,7 +8,7 @@ use Rattle.lucid_tree.specs.Tree.{PlainTree, PlainDefs, block, const, apply, cho
 use Rattle.lucid_tree.specs.Levels.{Elements}
 use Rattle.lucid_tree.specs.Env.{Env, frozen_at}
 use Rattle.lucid_tree.specs.Meaning.{Means}
-use Rattle.lucid_least.specs.Rules.{Derives}
+use Rattle.lucid_fixed_point.specs.Rules.{Derives}
 use Rattle.lucid_fixed_point.specs.Streams.{Streams, Meanings, operator}
 use Rattle.lucid_fixed_point.specs.Search.{Search, Advance}
 use Rattle.lucid_fixed_point.specs.Tests.{Tested, AsTruth, Placed, HaveValues}

@@ -1,3 +1,6 @@
+pub mod Equations
+pub mod Rules
+pub mod RuleLaws
 pub mod Streams
 pub mod Denotation
 pub mod Order

@@ -6,7 +6,7 @@ use Rattle.lucid_ops.specs.declared.op.Op.TheVariants.{Not}
 use Rattle.lucid_tree.specs.Tree.{PlainTree, form, apply, name, call, block, no_trees, tree, no_defs, defines, defines_function, defines_current, constant, fby_of}
 use Rattle.lucid_tree.specs.Levels.{Elements}
 use Rattle.lucid_tree.specs.Env.{empty}
-use Rattle.lucid_least.specs.Rules.{Derives}
+use Rattle.lucid_fixed_point.specs.Rules.{Derives}
 use Rattle.lucid_fixed_point.specs.Streams.{Stream, Map, with_stream, with_map}
 use Rattle.lucid_fixed_point.specs.Families.{Family}
 

@@ -6,7 +6,7 @@ use Rattle.lucid_value.specs.Plain.{PlainValue}
 use Rattle.lucid_tree.specs.Tree.{PlainTree, form, name, call, block, PlainTrees, no_trees, tree, PlainDefs, no_defs, defines, defines_function, defines_current, first_of, fby_of}
 use Rattle.lucid_tree.specs.Levels.{Elements}
 use Rattle.lucid_tree.specs.Env.{Env, same_name, param, definition, function_def}
-use Rattle.lucid_least.specs.Rules.{Derives}
+use Rattle.lucid_fixed_point.specs.Rules.{Derives}
 use Rattle.lucid_fixed_point.specs.Contexts.{Context, place, form_of, name_of, call_of, block_of, Contexts, no_contexts, context, DefContexts, no_definitions, is_plain, is_function, is_current, fill, fill_definitions}
 
 -- Some names, as a test.

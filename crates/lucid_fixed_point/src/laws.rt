@@ -8,7 +8,7 @@ ghost use Rattle.lucid_fixed_point.specs.Streams.{Streams, Meanings, operator, l
 ghost use Rattle.lucid_fixed_point.specs.Denotation.{denotation, equations, meanings};
 ghost use Rattle.lucid_fixed_point.specs.Order.{EachWithin, Within, IsChain, IsContinuous, IsMonotone, PointsWithin, IsSingle, AreSingle};
 ghost use Rattle.lucid_tree.specs.Output.{Output};
-ghost use Rattle.lucid_least.specs.Rules.{Derives};
+ghost use Rattle.lucid_fixed_point.specs.Rules.{Derives};
 ghost use Rattle.lucid_fixed_point.specs.Equalities.{EquationsOfTheBook};
 ghost use Rattle.lucid_fixed_point.specs.Families.{Family, Solves, by_family, LinesOf};
 ghost use Rattle.lucid_fixed_point.specs.Contexts.{Context, fill, DenoteTheSame};

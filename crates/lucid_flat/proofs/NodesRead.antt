@@ -1,9 +1,9 @@
 -- The node of some words is the one that has them: what is read has the words that it is read from, and what has words is read from them.
 use Rattle.lucid_flat.proofs.Common.{◌≡◌, ℕ, false, List, [], ◌∷◌, map, length, take, Option, Some, None, ◌⊎◌, inl, inr, refl, sym, ap, ◌∙◌, subst, arith, decimal, codes, ◌==◌, AllByRecursion, option_and_then, bytes_eq, and_parts, eqb-true, option_and_then_some, same_Some, bytes_eq-Decides, Op, Add, Node, Apply, Three, op_word, form_word, node_numbers, node_words, Are32, NodeFits, three_of, exactly, listed, op_of, has_form, form_node}
 use Rattle.lucid_ops.specs.Codes.{operators}
-use Rattle.lucid_streams.specs.declared.form.Form.{Form}
-use Rattle.lucid_streams.specs.Forms.{spelled}
-use Rattle.lucid_streams.specs.declared.form.Form.TheVariants as forms
+use Rattle.lucid_tree.specs.declared.form.Form.{Form}
+use Rattle.lucid_tree.specs.Forms.{spelled}
+use Rattle.lucid_tree.specs.declared.form.Form.TheVariants as forms
 use Rattle.lucid_equations.specs.Rows.{made}
 use Rattle.lucid_flat.specs.FlatText.{nodes_by, nodes_with}
 use Rattle.lucid_flat.specs.FlatTables.{HasPlaces}

@@ -8,3 +8,11 @@ pub mod Shown
 pub mod Gathered
 pub mod LinesRead
 pub mod Laws
+pub mod WrongRows
+pub mod Nests
+pub mod SoundForms
+pub mod Wants
+pub mod Met
+pub mod Fits
+pub mod SoundLaws
+pub mod Astray

@@ -11,8 +11,8 @@ use crate::ops::{op_of, op_word};
 use crate::put::put_numbers;
 use crate::words::{Three, exactly, next_three};
 use lucid_equations::Node;
-use lucid_streams::Form;
 use lucid_texts::{next_word, put_word};
+use lucid_tree::Form;
 use std::alloc::AllocError;
 
 // The word of a node's form.

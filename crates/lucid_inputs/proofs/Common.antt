@@ -4,7 +4,7 @@ pub use Rattle.lucid_inputs.specs.Reading.{IsWithin, ReadsOn}
 pub use Rattle.lucid_inputs.specs.Steps.{Step, Takes, last_element, line_with, step_bytes, takes_line, takes_part, with_end, with_line, with_part}
 pub use Rattle.lucid_inputs.specs.Streams.{Fits, FitsPlace, Stream, all_bytes, fresh_stream, line_ends}
 pub use Rattle.lucid_inputs.specs.View.{IsRead, element_of, stream_of}
-pub use Rattle.lucid_lemmas.proofs.Lists.{slice_get-set_same}
+pub use Rattle.lucid_lists.proofs.Lists.{slice_get-set_same}
 pub use Rattle.lucid_ports.specs.World.{Contents, Place, World, advanced}
 unfoldable pub use Rattle.lucid_value.specs.Elements.{element, line_value_of}
 pub use Rattle.lucid_value.specs.Elements.{element_of_line}

@@ -3,7 +3,7 @@ use Rattle.lucid_inputs.proofs.Common.{◌≡◌, ℕ, zero, suc, ◌<◌, ◌�
 use Rattle.std.proofs.Common.{◌≢◌, Bool}
 use Rattle.std.specs.List.{slice_get}
 use Rattle.std.proofs.lemmas.Bool.{cases_order}
-use Rattle.lucid_lemmas.proofs.Lists.{slice_get-set_other}
+use Rattle.lucid_lists.proofs.Lists.{slice_get-set_other}
 use Rattle.lucid_ports.specs.World.{IsFresh}
 use Rattle.lucid_inputs.specs.declared.fault.InputFault.{InputFault}
 use Rattle.lucid_inputs.specs.declared.fault.InputFault.TheVariants.{TooLarge}

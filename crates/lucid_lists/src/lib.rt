@@ -1,4 +1,4 @@
-//! Lists and stacks, each seen as the list of its items.
+//! Lists and stacks, each seen as the list of its items; and lemmas of numbers, options, truths and lists as the standard library has them.
 #![tactic(auto)]
 
 pub use few::Few;

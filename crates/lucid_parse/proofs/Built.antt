@@ -11,8 +11,8 @@ use Rattle.lucid_parse.specs.Build.{piles, definition}
 use Rattle.lucid_parse.proofs.Levels.{infix_arity, prefix_arity, node-operator}
 use Rattle.lucid_parse.proofs.Complete.{written_parts-and, written_all-and, written_defs-and}
 use Rattle.lucid_parse.proofs.Exact.{spelled_nodes}
-use Rattle.lucid_forms.specs.declared.operator.Operator.TheVariants.{Stream}
-use Rattle.lucid_streams.specs.declared.form.Form.TheVariants as forms
+use Rattle.lucid_parse.specs.declared.operator.Operator.TheVariants.{Stream}
+use Rattle.lucid_tree.specs.declared.form.Form.TheVariants as forms
 
 over : (f g : PlainPiles → Option PlainPiles) (h : PlainPiles → Option PlainPiles) (o : Option PlainPiles)
     → ((now : PlainPiles) → f now ≡ option_and_then h (g now))

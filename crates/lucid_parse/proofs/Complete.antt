@@ -11,8 +11,8 @@ use Rattle.lucid_parse.specs.Grammar
 use Rattle.lucid_parse.specs.Grammar.{parameter}
 use Rattle.lucid_parse.specs.Flat.{kind_of, listed, headed}
 use Rattle.lucid_parse.proofs.Levels.{prefix_level_most, left_most, right_most, left_least, right_least, right_positive, level_positive, arity_positive, before_not_called, apart, apart_prefix, node-operator}
-use Rattle.lucid_forms.specs.declared.operator.Operator.TheVariants.{Stream}
-use Rattle.lucid_streams.specs.declared.form.Form.TheVariants as forms
+use Rattle.lucid_parse.specs.declared.operator.Operator.TheVariants.{Stream}
+use Rattle.lucid_tree.specs.declared.form.Form.TheVariants as forms
 
 -- the terminal leaves no operand of this level or a tighter one open, when it comes next
 abbrev pub ClosesAs : ℕ → Option Operator → Type 0

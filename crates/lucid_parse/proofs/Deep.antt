@@ -8,8 +8,8 @@ use Rattle.lucid_parse.specs.Grammar
 use Rattle.lucid_parse.specs.Depth.{here, at_depth_in, at_depth_in_defs, lesser, found, below}
 use Rattle.lucid_parse.proofs.Levels.{infix_arity, prefix_arity, node-operator}
 use Rattle.lucid_parse.proofs.Complete.{written_parts-and, written_all-and, written_defs-and, count-and}
-use Rattle.lucid_forms.specs.declared.operator.Operator.TheVariants.{Stream}
-use Rattle.lucid_streams.specs.declared.form.Form.TheVariants as forms
+use Rattle.lucid_parse.specs.declared.operator.Operator.TheVariants.{Stream}
+use Rattle.lucid_tree.specs.declared.form.Form.TheVariants as forms
 
 least_in-append : (best : Option ℕ) (xs ys : List ℕ) → least_in best (xs ++ ys) ≡ least_in (least_in best ys) xs
 least_in-append best [] ys = refl

@@ -7,8 +7,8 @@ use Rattle.lucid_parse.specs.declared.state.Focus.TheVariants as focus
 use Rattle.lucid_parse.specs.declared.state.Item.TheVariants as item
 use Rattle.lucid_parse.specs.Machine.{close_top}
 use Rattle.lucid_parse.specs.Fill.{fill_definition, fill_frame, fill_focus}
-use Rattle.lucid_forms.specs.declared.operator.Operator.TheVariants.{Stream}
-use Rattle.lucid_streams.specs.declared.form.Form.TheVariants as forms
+use Rattle.lucid_parse.specs.declared.operator.Operator.TheVariants.{Stream}
+use Rattle.lucid_tree.specs.declared.form.Form.TheVariants as forms
 
 module _ {M N V W : Type 0} (f : M → N) (g : V → W) where
   abbrev frames_of : List (Frame M) → List (Frame N)

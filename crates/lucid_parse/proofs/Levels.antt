@@ -6,9 +6,9 @@ use Rattle.lucid_ops.specs.declared.op.Side.TheVariants.{Left, Single}
 use Rattle.lucid_ops.specs.Row.{left_level, right_level}
 use Rattle.lucid_ops.specs.Rows.{form_number, level_side, fits_form}
 use Rattle.lucid_ops.proofs.OperatorRows.{form_is}
-use Rattle.lucid_forms.specs.Operators.{fits_fixity}
-use Rattle.lucid_forms.specs.declared.operator.Operator.TheVariants.{Stream}
-use Rattle.lucid_forms.proofs.Rows.{row_stands}
+use Rattle.lucid_parse.specs.Operators.{fits_fixity}
+use Rattle.lucid_parse.specs.declared.operator.Operator.TheVariants.{Stream}
+use Rattle.lucid_parse.proofs.OperatorRows.{row_stands}
 use Rattle.lucid_parse.specs.declared.terminal.Terminal.TheVariants as terminal
 use Rattle.lucid_parse.specs.declared.state.Item.TheVariants as item
 use Rattle.lucid_parse.specs.Grammar.{row_of, is_form, as_form}

@@ -1,3 +1,4 @@
+pub mod OperatorRows
 pub mod Common
 pub mod Levels
 pub mod Complete

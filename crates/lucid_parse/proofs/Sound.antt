@@ -11,8 +11,8 @@ use Rattle.lucid_parse.specs.Grammar
 use Rattle.lucid_parse.specs.Machine.{taken}
 use Rattle.lucid_parse.proofs.Levels.{prefix_level_most, right_most, arity_positive, node-operator}
 use Rattle.lucid_parse.proofs.Complete.{written_parts-and, written_all-and, written_defs-and, with_parameters-and, count-and}
-use Rattle.lucid_forms.specs.declared.operator.Operator.TheVariants.{Stream}
-use Rattle.lucid_streams.specs.declared.form.Form.TheVariants as forms
+use Rattle.lucid_parse.specs.declared.operator.Operator.TheVariants.{Stream}
+use Rattle.lucid_tree.specs.declared.form.Form.TheVariants as forms
 
 -- what was read up to where an operand of a level is awaited, and what was written
 pub data Context : List PlainFrame → ℕ → List PlacedTerminal → List PlainItem → Type 0 where

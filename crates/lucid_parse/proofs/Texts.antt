@@ -1,7 +1,7 @@
 -- What the bytes of tokens read as, and the terminals of tokens.
 use Rattle.lucid_parse.proofs.Common.{◌≡◌, ℕ, suc, ◌+◌, ◌<◌, ◌≤◌, List, [], ◌∷◌, ◌++◌, length, take, get_or, Option, Some, true, refl, sym, ◌∙◌, ap, subst, arith, ltb-true, and_parts, take_more, map-append, PlainValue, Token, TerminalAt, placed_of, terminals_of, PlainTerminal, PlacedTerminal, terminal_at, Terminals, length-drop, pos}
 use Rattle.std.proofs.Common.{◌-◌}
-use Rattle.lucid_lemmas.proofs.Lists.{same_between}
+use Rattle.lucid_lists.proofs.Lists.{same_between}
 use Rattle.lucid_value.specs.Plain.{int, word as word_value, text, list, is_text, is_light}
 use Rattle.lucid_value.specs.Reading.{number_of, Reads, ReadsLine, ReadsAsNone}
 use Rattle.lucid_value.specs.Reading

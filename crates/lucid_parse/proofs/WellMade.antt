@@ -2,7 +2,7 @@
 use Rattle.lucid_parse.proofs.Common.{◌≡◌, ℕ, suc, ◌+◌, ◌≤◌, ◌<◌, List, [], ◌∷◌, ◌++◌, length, Bool, true, false, cond, inl, inr, refl, sym, ◌∙◌, ap, arith, length-append, nat_eq, eq-eqb, eqb-true, and_from, and_parts, PlainTree, PlainTrees, no_trees, tree, PlainDefs, no_defs, defines, defines_function, defines_current, count, places, IsWellMade, Data, Operator, PlacedTerminal, trees_and, def_before, defs_and, Defined, Plain, Function, Current, Parameter, names_of, places_of, arity_of, head, Spells, SpellsArgs, SpellsDefs, SpellsNames, lt-ltb}
 use Rattle.lucid_tree.specs.WellMade.{places_in, places_in_defs, fits_arity, is_shaped, are_shaped, defs_are_shaped, In, AllDiffer}
 use Rattle.lucid_ops.specs.Arity.{arity}
-use Rattle.lucid_forms.specs.declared.operator.Operator.TheVariants.{Stream}
+use Rattle.lucid_parse.specs.declared.operator.Operator.TheVariants.{Stream}
 use Rattle.lucid_parse.proofs.Levels.{infix_arity, prefix_arity}
 use Rattle.lucid_parse.specs.Grammar
 

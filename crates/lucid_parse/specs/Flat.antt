@@ -1,7 +1,7 @@
 -- A tree as a list of nodes, each behind its parts.
 use Rattle.std.specs.Prelude.{ℕ, List, [], ◌∷◌, ◌++◌}
 use Rattle.lucid_tree.specs.Tree.{Head, const, apply, stream, PlainTree, form, name, call, block, PlainTrees, no_trees, tree, PlainDefs, no_defs, defines, defines_function, defines_current}
-use Rattle.lucid_forms.specs.declared.operator.Operator.TheVariants.{Data, Stream}
+use Rattle.lucid_parse.specs.declared.operator.Operator.TheVariants.{Data, Stream}
 use Rattle.lucid_parse.specs.declared.state.Item.TheVariants as item
 use Rattle.lucid_parse.specs.declared.state.Defines.{Defines}
 use Rattle.lucid_parse.specs.declared.state.Defines.TheVariants as kind

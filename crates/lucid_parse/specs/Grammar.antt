@@ -7,9 +7,9 @@ use Rattle.lucid_ops.specs.declared.op.Form.TheVariants.{Before, Between, Called
 use Rattle.lucid_ops.specs.Rows.{form_number}
 use Rattle.lucid_tree.specs.Tree.{const, choose, PlainTree, form, name, call, block, PlainTrees, no_trees, tree, PlainDefs, no_defs, defines, defines_function, defines_current}
 use Rattle.lucid_tree.specs.Size.{count}
-use Rattle.lucid_forms.specs.declared.operator.Operator.TheVariants.{Data}
-use Rattle.lucid_forms.specs.declared.operator.Operator.{Operator}
-pub use Rattle.lucid_forms.specs.Operators.{row_of, level_of, arity_of, left, right, head}
+use Rattle.lucid_parse.specs.declared.operator.Operator.TheVariants.{Data}
+use Rattle.lucid_parse.specs.declared.operator.Operator.{Operator}
+pub use Rattle.lucid_parse.specs.Operators.{row_of, level_of, arity_of, left, right, head}
 use Rattle.lucid_parse.specs.declared.terminal.Terminal.{Terminal}
 use Rattle.lucid_parse.specs.declared.terminal.Terminal.TheVariants as terminal
 

@@ -13,9 +13,9 @@ use Rattle.lucid_parse.specs.declared.state.Focus.{Focus}
 use Rattle.lucid_parse.specs.declared.state.Focus.TheVariants as focus
 use Rattle.lucid_parse.specs.declared.state.Item.{Item}
 use Rattle.lucid_parse.specs.declared.state.Item.TheVariants as item
-use Rattle.lucid_forms.specs.declared.operator.Operator.{Operator}
-use Rattle.lucid_forms.specs.declared.operator.Operator.TheVariants.{Stream}
-use Rattle.lucid_streams.specs.declared.form.Form.TheVariants as forms
+use Rattle.lucid_parse.specs.declared.operator.Operator.{Operator}
+use Rattle.lucid_parse.specs.declared.operator.Operator.TheVariants.{Stream}
+use Rattle.lucid_tree.specs.declared.form.Form.TheVariants as forms
 use Rattle.lucid_parse.specs.Grammar.{PlacedTerminal, level_of, arity_of, left, right, operator_in}
 
 -- what comes next, what is open (the innermost first), what is written

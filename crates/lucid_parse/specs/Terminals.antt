@@ -3,9 +3,9 @@ use Rattle.std.specs.Prelude.{◌≡◌, ℕ, List, [], ◌∷◌, ◌++◌, Opt
 use Rattle.lucid_value.specs.Plain.{int, truth, word as word_value, text as string, list, eod, fault, Items, no_items, same_bytes}
 use Rattle.lucid_value.specs.Reading.{number_of, Reads}
 use Rattle.std.specs.Option.{option_or, option_map}
-use Rattle.lucid_forms.specs.declared.operator.Operator.TheVariants.{Stream}
-use Rattle.lucid_streams.specs.declared.form.Form.TheVariants.{Whenever}
-use Rattle.lucid_forms.specs.Operators.{spelled}
+use Rattle.lucid_parse.specs.declared.operator.Operator.TheVariants.{Stream}
+use Rattle.lucid_tree.specs.declared.form.Form.TheVariants.{Whenever}
+use Rattle.lucid_parse.specs.Operators.{spelled}
 use Rattle.lucid_scan.specs.declared.token.TokenKind.{TokenKind}
 use Rattle.lucid_scan.specs.declared.token.TokenKind.TheVariants as kind
 use Rattle.lucid_scan.specs.declared.token.Token.{Token}

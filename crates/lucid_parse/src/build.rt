@@ -10,8 +10,8 @@ ghost use Rattle.lucid_parse.specs.Flat.{written};
 ghost use Rattle.lucid_parse.specs.Views.{items_of, name_now, value_now};
 ghost use Rattle.lucid_parse.specs.Build.{all_items, describe, Describes, Takes, no_piles, plain_piles, put_on, Puts};
 
+use crate::Operator;
 use crate::state::{BorrowedItem, Defines, Item};
-use lucid_forms::Operator;
 use lucid_lists::Stack;
 use lucid_tree::{Block, Def, DefKind, Defs, Kind, Names, Places32, Tree, Trees};
 use lucid_value::{Name, Value};

@@ -1,6 +1,8 @@
-//! The parser: from the tokens of a source to the tree that they spell.
+//! The parser: the operators of a source, over data and over streams, with the one row of each; and from the tokens of a source to the tree
+//! that they spell.
 #![tactic(auto)]
 
+pub use crate::operator::{Operator, OperatorRow};
 pub use crate::parser::parse;
 pub use crate::refusal::ParseRefusal;
 
@@ -8,7 +10,10 @@ mod build;
 mod depth;
 pub mod laws;
 mod machine;
+mod make;
 mod nodes;
+mod operator;
+pub mod operator_laws;
 mod parser;
 mod refusal;
 mod spelling;

@@ -5,12 +5,12 @@ ghost use Rattle.lucid_ops.specs.declared.op.Form.TheVariants.{Before, Called};
 ghost use Rattle.lucid_parse.specs.Grammar.{level_of, operator_in};
 ghost use Rattle.lucid_parse.specs.Machine.{State, state, takes, shift, inner_frames, inner_out, after_frame, close, settle, begun, begin, step_named, step_heads, step_headed, step_at, step, finished, finish, Steps, IsAtHead, IsAtParameters};
 
+use crate::Operator;
 use crate::state::{CalledOperator, Defines, Definition, Focus, Frame, Item};
 use crate::terminal::Terminal;
-use lucid_forms::Operator;
 use lucid_lists::Stack;
 use lucid_ops::Form;
-use lucid_streams::Form as StreamForm;
+use lucid_tree::Form as StreamForm;
 use std::alloc::AllocError;
 
 /// What follows a terminal, or none where no program goes on so.

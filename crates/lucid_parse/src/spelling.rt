@@ -8,9 +8,9 @@ ghost use Rattle.lucid_parse.specs.Views.{plain_terminal};
 ghost use Rattle.lucid_parse.specs.Terminals.{terminal_in, fixed_terminal};
 ghost use Rattle.lucid_parse.specs.Spellings.{fixed_value, fixed_plain, pair_of};
 
+use crate::Operator;
 use crate::terminal::Terminal;
-use lucid_forms::Operator;
-use lucid_streams::Form;
+use lucid_tree::Form;
 use lucid_value::{List, Name, Value};
 use std::alloc::Global;
 use std::convert::Infallible;

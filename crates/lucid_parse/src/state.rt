@@ -1,6 +1,6 @@
 //! What the parser keeps while it reads. `N` is what it holds of a name, and `V` of a constant's value.
 
-use lucid_forms::Operator;
+use crate::Operator;
 use lucid_value::{Name, Value};
 
 /// What a definition defines its name as.

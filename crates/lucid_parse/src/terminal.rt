@@ -1,6 +1,6 @@
 //! The terminals of the grammar: what tokens stand for.
 
-use lucid_forms::Operator;
+use crate::Operator;
 use lucid_ops::{Form, Op};
 use lucid_value::{Name, Value};
 

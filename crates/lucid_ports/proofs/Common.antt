@@ -1,5 +1,5 @@
 -- What the proofs of this crate take of std, and what two of them or more cite of other modules, passed on from one place. Declares nothing.
-pub use Rattle.lucid_lemmas.proofs.Lists.{slice_get-set_other, slice_get-set_same}
+pub use Rattle.lucid_lists.proofs.Lists.{slice_get-set_other, slice_get-set_same}
 pub use Rattle.lucid_ports.specs.Endless.{moved, position_in}
 pub use Rattle.lucid_ports.specs.EndlessView.{endless_place, spot_of}
 pub use Rattle.lucid_ports.specs.Files.{bytes_at, bytes_named}

@@ -3,7 +3,7 @@ use Rattle.lucid_ports.proofs.Common.{◌≡◌, ℕ, ◌++◌, ◌∷◌, [], L
 use Rattle.std.proofs.Common.{◌≢◌, map}
 use Rattle.std.proofs.lemmas.List.{map_push}
 use Rattle.std.specs.List.{slice_get}
-use Rattle.lucid_lemmas.proofs.Lists.{slice_get-push_same, slice_get-push_other}
+use Rattle.lucid_lists.proofs.Lists.{slice_get-push_same, slice_get-push_other}
 use Rattle.lucid_ports.specs.World.{World}
 
 -- two calls in a row on one place

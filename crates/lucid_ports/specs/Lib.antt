@@ -18,3 +18,4 @@ pub mod Window
 pub mod StandardInput
 pub mod Source
 pub mod RealPlacesView
+pub mod Told

@@ -1,6 +1,6 @@
 -- What the proofs of this crate take of std, and what two of them or more cite of other modules, passed on from one place. Declares nothing.
-pub use Rattle.lucid_forms.specs.declared.operator.Operator.{Operator}
-pub use Rattle.lucid_forms.specs.declared.operator.Operator.TheVariants.{Data}
+pub use Rattle.lucid_parse.specs.declared.operator.Operator.{Operator}
+pub use Rattle.lucid_parse.specs.declared.operator.Operator.TheVariants.{Data}
 pub use Rattle.lucid_ops.specs.declared.op.Form.TheVariants.{Before, Between, Called}
 pub use Rattle.lucid_parse.proofs.Sound.{looser}
 pub use Rattle.lucid_parse.specs.Grammar.{PlacedTerminal, PlainTerminal, Spells, as_form, terminal_at}

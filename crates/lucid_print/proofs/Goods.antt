@@ -1,6 +1,6 @@
 -- Terminals whose text is read as they are, before every byte that may come behind it.
 use Rattle.lucid_print.proofs.Common.{◌≡◌, ℕ, suc, ◌≤◌, List, [], ◌∷◌, ◌++◌, length, take, Some, Bool, true, false, cond, ◌&&◌, ◌||◌, inl, inr, refl, sym, ◌∙◌, ap, subst, arith, None, or_cases, and_parts, or_left, or_right, PlainValue, TextIsRead, TokenKind, Operator, Data, PlainTerminal, StandsFor, zero, ◌^◌, ◌<◌, not, eqb, Option, pos, neg_ℤ, decimal, is_ascii_digit, decimal_is_IsNumeral_wide, not-true, eqb-true, lt-ltb, le-leb, and_from, option_or, option_map}
-use Rattle.lucid_lemmas.proofs.Lists.{same_between}
+use Rattle.lucid_lists.proofs.Lists.{same_between}
 use Rattle.lucid_value.specs.Plain.{int, truth, word, text, list, eod, fault, Items, no_items, item, weight, nesting, may_be_held, well_formed, all_well_formed, in_range, all_in_range, is_i128, is_value, within_limits, same_bytes}
 use Rattle.lucid_value.specs.Names.{is_name, is_name_byte, is_reserved, reserved_words}
 use Rattle.lucid_value.specs.Reading.{is_number, number_of, Denotes, denotes_number, denotes_minus, denotes_word, denotes_text, denotes_list, DenotesItems, denotes_none, denotes_item, Reads}
@@ -10,9 +10,9 @@ use Rattle.lucid_scan.specs.Texts.{is_mark, is_word_value, is_text_value, IsToke
 use Rattle.lucid_scan.specs.Laws.{Stops}
 use Rattle.lucid_parse.specs.declared.terminal.Terminal.TheVariants as terminal
 use Rattle.lucid_ops.specs.declared.op.Op.TheVariants as op
-use Rattle.lucid_forms.specs.declared.operator.Operator.TheVariants.{Stream}
-use Rattle.lucid_streams.specs.declared.form.Form.TheVariants as forms
-use Rattle.lucid_forms.specs.Operators.{spelled}
+use Rattle.lucid_parse.specs.declared.operator.Operator.TheVariants.{Stream}
+use Rattle.lucid_tree.specs.declared.form.Form.TheVariants as forms
+use Rattle.lucid_parse.specs.Operators.{spelled}
 use Rattle.lucid_parse.specs.Terminals.{terminal_in, fixed_terminal, form_terminals}
 use Rattle.lucid_print.proofs.Terminals.{terminal_of, terminal_text, is_open, not_open}
 

@@ -4,9 +4,9 @@ use Rattle.std.proofs.lemmas.Bool.{and_right}
 use Rattle.lucid_parse.specs.declared.terminal.Terminal.TheVariants as terminal
 use Rattle.lucid_ops.specs.declared.op.Op.TheVariants as op
 use Rattle.lucid_ops.specs.declared.op.Form.{Form}
-use Rattle.lucid_forms.specs.Operators.{row_of, level_of, left, right, head}
-use Rattle.lucid_forms.specs.declared.operator.Operator.TheVariants.{Stream}
-use Rattle.lucid_streams.specs.declared.form.Form.TheVariants as forms
+use Rattle.lucid_parse.specs.Operators.{row_of, level_of, left, right, head}
+use Rattle.lucid_parse.specs.declared.operator.Operator.TheVariants.{Stream}
+use Rattle.lucid_tree.specs.declared.form.Form.TheVariants as forms
 use Rattle.lucid_parse.proofs.Levels.{stands}
 use Rattle.lucid_parse.specs.Grammar.{operator_in, is_form}
 use Rattle.lucid_print.specs.Styles as styles

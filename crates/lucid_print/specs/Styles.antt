@@ -6,9 +6,9 @@ use Rattle.lucid_ops.specs.declared.op.Form.{Form}
 use Rattle.lucid_ops.specs.declared.op.Form.TheVariants.{Before, Between, Called}
 use Rattle.lucid_ops.specs.declared.op.Side.{Side}
 use Rattle.lucid_ops.specs.Row.{left_level, right_level}
-use Rattle.lucid_forms.specs.declared.operator.Operator.{Operator}
-use Rattle.lucid_forms.specs.declared.operator.Operator.TheVariants.{Data, Stream}
-use Rattle.lucid_forms.specs.Operators.{Row, row_of}
+use Rattle.lucid_parse.specs.declared.operator.Operator.{Operator}
+use Rattle.lucid_parse.specs.declared.operator.Operator.TheVariants.{Data, Stream}
+use Rattle.lucid_parse.specs.Operators.{Row, row_of}
 use Rattle.lucid_tree.specs.Tree.{Head, const, apply, stream, PlainTree, form, name, call, block}
 
 pub data Style : Type 0 where

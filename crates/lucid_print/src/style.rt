@@ -4,8 +4,8 @@ ghost use Rattle.lucid_tree.specs.Shape.{head_of};
 ghost use Rattle.lucid_print.specs.Styles.{grouped, before as before_style, operator, style, level, style_level};
 ghost use Rattle.lucid_print.specs.Views.{infix_style, prefix_style, seen_style};
 
-use lucid_forms::Operator;
 use lucid_ops::{Form, Side};
+use lucid_parse::Operator;
 use lucid_tree::{Head, Shape, Tree};
 use lucid_value::Value;
 

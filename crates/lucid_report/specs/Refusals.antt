@@ -11,10 +11,10 @@ use Rattle.lucid_cycles.specs.declared.judgment.JudgeRefusal.{JudgeRefusal}
 use Rattle.lucid_cycles.specs.declared.judgment.JudgeRefusal.TheVariants as judge
 use Rattle.lucid_flat.specs.declared.read.FlatRefusal.{FlatRefusal}
 use Rattle.lucid_flat.specs.declared.read.FlatRefusal.TheVariants as flat
-use Rattle.lucid_sound.specs.declared.program.BuildRefusal.{BuildRefusal}
-use Rattle.lucid_sound.specs.declared.program.BuildRefusal.TheVariants as build
-use Rattle.lucid_why.specs.declared.read.WhyRefusal.{WhyRefusal}
-use Rattle.lucid_why.specs.declared.read.WhyRefusal.TheVariants as why
+use Rattle.lucid_flat.specs.declared.program.BuildRefusal.{BuildRefusal}
+use Rattle.lucid_flat.specs.declared.program.BuildRefusal.TheVariants as build
+use Rattle.lucid_cert_rules.specs.declared.read.WhyRefusal.{WhyRefusal}
+use Rattle.lucid_cert_rules.specs.declared.read.WhyRefusal.TheVariants as why
 use Rattle.lucid_report.specs.declared.refusal.Refusal.{Refusal}
 use Rattle.lucid_report.specs.declared.refusal.Refusal.TheVariants as refusal
 use Rattle.lucid_report.specs.declared.stop.Stop.{Stop}

@@ -4,7 +4,7 @@ use Rattle.lucid_ports.specs.declared.fault.PortFault.{PortFault}
 use Rattle.lucid_ports.specs.declared.fault.PortFault.TheVariants.{Failed, NoMemory}
 use Rattle.lucid_ports.specs.Faults.{Rises}
 use Rattle.lucid_ports.specs.Writing.{with_front, with_all}
-use Rattle.lucid_session.specs.Runs.{Told}
+use Rattle.lucid_ports.specs.Told.{Told}
 use Rattle.lucid_report.specs.declared.status.Status.{Status}
 use Rattle.lucid_report.specs.declared.status.Status.TheVariants as status
 use Rattle.lucid_report.specs.Status.{Outcome, status_of}

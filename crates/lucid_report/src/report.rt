@@ -1,6 +1,6 @@
 //! The report: one line of fixed texts, names and digits, which takes no memory.
 ghost use Rattle.std.specs.Prelude.{◌≤◌, ◌++◌, ◌∷◌, [], codes};
-ghost use Rattle.lucid_session.specs.Runs.{told};
+ghost use Rattle.lucid_ports.specs.Told.{told};
 ghost use Rattle.lucid_report.specs.Lines.{line_of, line_at, line_with, refusal_line, depth_line, figures_line, stop_line, outcome_line};
 ghost use Rattle.lucid_report.specs.Telling.{WritesLine, Tells};
 

@@ -4,15 +4,14 @@ ghost use Rattle.lucid_report.specs.declared.stop.Stop.TheVariants.{NoMemory};
 ghost use Rattle.lucid_report.specs.Refusals.{words_stop, scan_stop, parse_stop, scope_stop, judge_stop, flat_stop, build_stop, why_stop};
 
 use crate::refusal::Refusal;
+use lucid_cert_rules::WhyRefusal;
 use lucid_cycles::JudgeRefusal;
-use lucid_flat::FlatRefusal;
+use lucid_flat::{BuildRefusal, FlatRefusal};
 use lucid_parse::ParseRefusal;
 use lucid_ports::Summary;
 use lucid_scan::ScanRefusal;
 use lucid_scope::ScopeRefusal;
-use lucid_sound::BuildRefusal;
 use lucid_value::Name;
-use lucid_why::WhyRefusal;
 use lucid_words::WordsRefusal;
 use std::alloc::{AllocError, AllocFailed};
 

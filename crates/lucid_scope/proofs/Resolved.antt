@@ -2,7 +2,7 @@
 use Rattle.lucid_scope.proofs.Common.{◌≡◌, ℕ, ◌+◌, ◌<◌, ◌≤◌, ◌^◌, Bool, true, false, cond, List, [], ◌∷◌, ◌++◌, length, length-append, map, fold, sum_by, get_or, None, IsSome, nat_eq, ◌⊎◌, inl, inr, refl, sym, ap, subst, ◌∙◌, arith, zero, suc, All, list_any, IsPermutation, IsNonDecreasingBy, get_or-map, length-map, get_or_default, sum_by-cons, IsPermutation-sym, Contains-permutation, sum_by-IsPermutation, length_permutation, PlainTree, same_name, places, IsWellMade, outermost, Site, named, again, site_at, binding_for, fault_of, all_sites, HasNoFault, IsLeastFault, IsResolved, look, mark, marks, Walk, Fits, mark_fault, mark_binding, with_owner_input, with_mark, Binding, ScopeRefusal, Owner, Mark, Called, All-permutation, nat_eq_equiv}
 use Rattle.std.proofs.Common.{Option, Some}
 use Rattle.std.proofs.lemmas.Bool.{cases_lt as either_side}
-use Rattle.lucid_lemmas.proofs.Numbers.{below_or_last as at-last}
+use Rattle.lucid_lists.proofs.Numbers.{below_or_last as at-last}
 use Rattle.lucid_tree.specs.WellMade.{In, AllDiffer}
 use Rattle.lucid_tree.proofs.Times.{counts_one as counts}
 use Rattle.lucid_scope.specs.Sites.{called}

@@ -1,6 +1,6 @@
 -- What a search finds among pairs whose keys rise, and what an edit at that place does.
 use Rattle.lucid_search.proofs.Common.{◌≡◌, ℕ, ◌<◌, ◌≤◌, ◌==◌, true, false, cond, List, set, Some, None, IsSome, Result, Ok, Err, refl, sym, ap, ◌∙◌, number_in, Rises, IsAt, IsGapFor, zero, suc, ◌-◌, ◌≢◌, [], ◌∷◌, length, get_or, IfOk, IfErr, arith, true≢false, insert, IsSearchInRange, IsBinarySearchResult, IsNonDecreasingBy, nat_cmp, ordering_index, ranked, IsNonDecreasingBy-from_default, nat_tests, eqb-true}
-use Rattle.lucid_lemmas.proofs.Numbers.{number_itself, below_differs, equality_turned}
+use Rattle.lucid_lists.proofs.Numbers.{number_itself, below_differs, equality_turned}
 use Rattle.lucid_search.specs.Numbered.{key_at, SetsOne}
 use Rattle.lucid_search.specs.Noted.{IsBestOf}
 

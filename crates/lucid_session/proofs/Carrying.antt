@@ -1,7 +1,7 @@
 -- The figures of a table's run are those of what the table stands for.
 use Rattle.lucid_session.proofs.Common.{◌≡◌, ℕ, ◌<◌, Bool, true, false, cond, List, Option, None, refl, sym, ap, ◌∙◌, subst, inl, inr, arith, Result, Ok, Err, IsTrue, IsSome, IfOk, if◌then◌else◌, option_map, Decides, not_from_Decides, same_Some, PlainValue, In, Elements, HoldsExactly, referred, valued_of, Context, root, Daton, node_val, eqval, visits, visited_values, HasDistinct, Points, valued_datons, equations_of, Table, reached, Summary, RunFault, RunView, ForSomeAdded, Counted, root_counted, ArePointsBelow, ArePointsBefore, IsDefinedAt, IsUndefinedHeld, times_of, Figures, HasMoreThan, OnClearings, OnDepth, ◌==◌, ◌&&◌, filter_map, cons_option, Decides-eqb, Decides-and}
 use Rattle.std.proofs.Common.{[], ◌∷◌, Some}
-use Rattle.lucid_lemmas.proofs.Options.{value_there as some_value}
+use Rattle.lucid_lists.proofs.Options.{value_there as some_value}
 use Rattle.lucid_tree.specs.Levels.{goes_to, Event, looked_up, entered}
 use Rattle.lucid_tree.specs.Env.{Referent, Env}
 use Rattle.lucid_tags.specs.Contexts.{same_context}

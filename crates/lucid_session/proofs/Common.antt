@@ -1,6 +1,6 @@
 -- What the proofs of this crate take of std, and what two of them or more cite of other modules, passed on from one place. Declares nothing.
 pub use Rattle.lucid_demand.specs.Demanded.{Demanded, most_known}
-pub use Rattle.lucid_demand.specs.declared.fault.DemandFault.{DemandFault}
+pub use Rattle.lucid_demand_steps.specs.declared.fault.DemandFault.{DemandFault}
 pub use Rattle.lucid_equations.proofs.NodeGrowth.{node-meant_once}
 pub use Rattle.lucid_equations.proofs.NodeWalks.{needed-visited}
 pub use Rattle.lucid_equations.proofs.Reached.{reached}
@@ -11,10 +11,10 @@ pub use Rattle.lucid_equations.specs.Rows.{equations_of}
 pub use Rattle.lucid_equations.specs.Values.{eqval, node_val}
 pub use Rattle.lucid_equations.specs.Visits.{consults_on_nodes, visited_datons, visited_values, visits}
 pub use Rattle.lucid_equations.specs.declared.table.Table.{Table}
-pub use Rattle.lucid_facts.proofs.History.{reads_only_itself}
-pub use Rattle.lucid_facts.specs.Elements.{elements_told}
-pub use Rattle.lucid_facts.specs.Engine.{AreAskable, EngineView, HoldsNeeded, IsSound, MayHave, ReadsOnly, holding, places_of}
-pub use Rattle.lucid_facts.specs.Held.{HoldsRight}
+pub use Rattle.lucid_demand_steps.proofs.History.{reads_only_itself}
+pub use Rattle.lucid_demand_steps.specs.Elements.{elements_told}
+pub use Rattle.lucid_demand_steps.specs.Engine.{AreAskable, EngineView, HoldsNeeded, IsSound, MayHave, ReadsOnly, holding, places_of}
+pub use Rattle.lucid_demand_steps.specs.Held.{HoldsRight}
 pub use Rattle.lucid_inputs.specs.Streams.{Stream, all_bytes}
 pub use Rattle.lucid_ports.proofs.WritingLemmas.{with_nothing}
 pub use Rattle.lucid_ports.specs.Faults.{Rises}
@@ -27,7 +27,8 @@ pub use Rattle.lucid_session.specs.Faults.{of_demand}
 pub use Rattle.lucid_session.specs.Figures.{ArePointsBefore, ArePointsBelow, Counted, Demands, Figures, HasMoreThan, IsDefinedAt, IsUndefinedHeld, OnClearings, OnDepth, columns_counted, root_counted, table_counted, times_of}
 pub use Rattle.lucid_session.specs.Lines.{WritesLine}
 pub use Rattle.lucid_session.specs.Moments.{Added, Draws, Has, Holds, IsConsultedSoFar, IsEntered, IsNeededSoFar, MuchEntered, SoFar, Standing, Start, Visited, before, layout, of_run, seen, start_of, subject, with_point}
-pub use Rattle.lucid_session.specs.Runs.{Causes, ConsumesWithin, EndsAt, ForSomeAdded, IsShown, IsTooDeep, OnTooDeep, OnTooLarge, Ran, ReadsWithin, RunView, Told, Written}
+pub use Rattle.lucid_session.specs.Runs.{Causes, ConsumesWithin, EndsAt, ForSomeAdded, IsShown, IsTooDeep, OnTooDeep, OnTooLarge, Ran, ReadsWithin, RunView, Written}
+pub use Rattle.lucid_ports.specs.Told.{Told}
 pub use Rattle.lucid_session.specs.Sessions.{PromisesColumns}
 pub use Rattle.lucid_session.specs.Subject.{AreCells, HasEnded, IsCell, IsOpen, OfSome, OneStream, Output, StreamMeans, Subject, columns_subject, no_lines, one_line_more, parted, stream_subject, table_columns, table_stream_at}
 pub use Rattle.lucid_store.specs.Entries.{IsOneForEach, count_of, empty_warehouse}

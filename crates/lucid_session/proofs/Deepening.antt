@@ -2,14 +2,14 @@
 -- value.
 use Rattle.lucid_session.proofs.Common.{◌≡◌, ℕ, Option, refl, sym, ap, ◌∙◌, arith, IsSome, ◌↔◌, option_map, PlainValue, In, Elements, HoldsExactly, referred, valued_of, root, Daton, node_val, eqval, visits, visited_values, visited_datons, Points, valued_datons, equations_of, node-meant_once, needed-visited, reached, HoldsRight, table_counted, IsDefinedAt, Start, IsNeededSoFar}
 use Rattle.std.proofs.Common.{Some}
-use Rattle.lucid_lemmas.proofs.Options.{value_there as some_value, same_values}
+use Rattle.lucid_lists.proofs.Options.{value_there as some_value, same_values}
 use Rattle.lucid_tree.specs.Levels.{nothing_held, reference_of}
 use Rattle.lucid_tree.proofs.Members.{in_read}
 use Rattle.lucid_equations.specs.Values.{eqhval}
 use Rattle.lucid_equations.proofs.NodeGrowth.{node_hval-up}
 use Rattle.lucid_equations.proofs.Needs.{gone-to}
-use Rattle.lucid_facts.specs.Stands.{Holding}
-use Rattle.lucid_facts.proofs.MoreRead.{held_means}
+use Rattle.lucid_demand_steps.specs.Stands.{Holding}
+use Rattle.lucid_demand_steps.proofs.MoreRead.{held_means}
 use Rattle.lucid_session.proofs.Lists.{some_is, from_flat, in_flat}
 use Rattle.lucid_session.proofs.Carrying.{went-to, goes_on, values_at}
 

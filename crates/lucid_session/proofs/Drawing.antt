@@ -2,8 +2,8 @@
 use Rattle.lucid_session.proofs.Common.{◌≡◌, ℕ, ◌<◌, ◌≤◌, List, length, Option, None, refl, sym, ap, ◌∙◌, subst, arith, ◌⊎◌, inl, inr, slice_get, IfSome, same_Some, none-some, end_of_line, In, Elements, World, Contents, Stream, all_bytes, consults_on_nodes, equations_of, EngineView, AreAskable, ReadsOnly, places_of, ReadsWithin, Added, Start, seen, of_run, IsConsultedSoFar, Draws, with_point}
 use Rattle.std.proofs.Common.{Some}
 use Rattle.lucid_inputs.specs.Streams.{Fits}
-use Rattle.lucid_facts.specs.Engine.{DrawsWithin}
-use Rattle.lucid_facts.specs.Engine as facts
+use Rattle.lucid_demand_steps.specs.Engine.{DrawsWithin}
+use Rattle.lucid_demand_steps.specs.Engine as facts
 use Rattle.lucid_session.proofs.Added.{at_once, so, both, of_numbers}
 use Rattle.lucid_session.proofs.Told.{stream_at, tells_too}
 

@@ -4,9 +4,9 @@ use Rattle.std.proofs.Common.{[], Some}
 use Rattle.lucid_value.specs.Lines.{IsOverlong}
 use Rattle.lucid_ports.specs.Faults.{CountsNoFaultUnless}
 use Rattle.lucid_ports.specs.declared.run.RunFault.TheVariants as run
-use Rattle.lucid_facts.specs.Engine as facts
-use Rattle.lucid_demand.specs.Demanded as demand
-use Rattle.lucid_demand.specs.declared.fault.DemandFault.TheVariants.{TooDeep, ReadFault, TooLarge, NoMemory}
+use Rattle.lucid_demand_steps.specs.Engine as facts
+use Rattle.lucid_demand_steps.specs.Faults as faults
+use Rattle.lucid_demand_steps.specs.declared.fault.DemandFault.TheVariants.{TooDeep, ReadFault, TooLarge, NoMemory}
 use Rattle.lucid_session.specs.Runs as runs
 use Rattle.lucid_session.proofs.Stopped.{figures_nothing}
 use Rattle.lucid_session.proofs.Subjects.{no_end, undefined_there, not_defined, consults_there}
@@ -250,7 +250,7 @@ module _ (z : Start) (e : EngineView) (w : World) (o : Told) (t s c : ℕ) (no_w
       write TooDeep h = absurd (cc)
       write _ h = absurd (cc)
 
-      large : (f : DemandFault) → demand.OnTooLarge f (λ k. k < length z.table.inputs)
+      large : (f : DemandFault) → faults.OnTooLarge f (λ k. k < length z.table.inputs)
           → runs.OnTooLarge (of_demand t e.stored.lost c f) (λ k. k < length z.table.inputs)
       large (TooLarge k) h = h
       large _ h = tt

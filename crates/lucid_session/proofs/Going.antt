@@ -1,12 +1,12 @@
 -- How a run goes on: it begins, and a value is demanded.
 use Rattle.lucid_session.proofs.Common.{◌≡◌, ℕ, ◌+◌, ◌<◌, ◌≤◌, length, Option, None, refl, sym, ap, ◌∙◌, subst, arith, ◌⊎◌, inl, inr, IsTrue, IfSome, Result, Ok, Err, IfOk, IfErr, ◌↔◌, cases_lt, slice_get_within, same_Some, Value, plain, In, Elements, Context, root, count_of, empty_warehouse, Rises, World, eqval, equations_of, HoldsRight, elements_told, EngineView, IsSound, AreAskable, ReadsOnly, MayHave, HoldsNeeded, places_of, holding, reads_only_itself, Demanded, most_known, DemandFault, StreamMeans, table_stream_at, Found, Asked, Start, Has, of_run, Draws, IsEntered, MuchEntered, Visited, Holds, SoFar, with_point, Standing, ◌-◌, ◌^◌}
 use Rattle.std.proofs.Common.{[], ◌∷◌, Some}
-use Rattle.lucid_facts.specs.Engine.{ConsultsOverlong, GoesOn, known_elements}
-use Rattle.lucid_facts.proofs.History.{reads_only_then}
-use Rattle.lucid_facts.proofs.MoreRead.{right_over}
+use Rattle.lucid_demand_steps.specs.Engine.{ConsultsOverlong, GoesOn, known_elements}
+use Rattle.lucid_demand_steps.proofs.History.{reads_only_then}
+use Rattle.lucid_demand_steps.proofs.MoreRead.{right_over}
 use Rattle.lucid_demand.specs.Demanded.{MayDemand}
-use Rattle.lucid_demand.specs.Demanded as demand
-use Rattle.lucid_demand.specs.declared.fault.DemandFault.TheVariants.{TooLarge}
+use Rattle.lucid_demand_steps.specs.Faults as faults
+use Rattle.lucid_demand_steps.specs.declared.fault.DemandFault.TheVariants.{TooLarge}
 use Rattle.lucid_session.proofs.Added.{at_once, so}
 use Rattle.lucid_session.proofs.Told.{may_have}
 use Rattle.lucid_session.proofs.Drawing.{reads_within, drawn_more}
@@ -141,14 +141,14 @@ module _ (z : Start) (D : Elements → (time space : ℕ) → Type 0) (e f : Eng
     for_one (Err x) P b may h = tt
 
     large : (r : Result Value DemandFault) (b : Elements) → MayHave (of_run z f) b
-        → IfErr r (λ q. demand.OnTooLarge q (λ k. (b : Elements) → MayHave (of_run z f) b → ConsultsOverlong (of_run z f) b v k z.depth t s))
-        → IfErr r (λ q. demand.OnTooLarge q (λ k. ConsultsOverlong (of_run z f) b v k z.depth t s))
+        → IfErr r (λ q. faults.OnTooLarge q (λ k. (b : Elements) → MayHave (of_run z f) b → ConsultsOverlong (of_run z f) b v k z.depth t s))
+        → IfErr r (λ q. faults.OnTooLarge q (λ k. ConsultsOverlong (of_run z f) b v k z.depth t s))
     large (Err (TooLarge k)) b may h = h b may
     large _ b may h = tt
 
     -- a stream that is too large by some elements that there may be has a name
-    named : (r : Result Value DemandFault) (b : Elements) → IfErr r (λ q. demand.OnTooLarge q (λ k. ConsultsOverlong (of_run z f) b v k z.depth t s))
-        → IfErr r (λ q. demand.OnTooLarge q (λ k. k < length z.table.inputs))
+    named : (r : Result Value DemandFault) (b : Elements) → IfErr r (λ q. faults.OnTooLarge q (λ k. ConsultsOverlong (of_run z f) b v k z.depth t s))
+        → IfErr r (λ q. faults.OnTooLarge q (λ k. k < length z.table.inputs))
     named (Err (TooLarge k)) b h = slice_get_within z.table.inputs k h.name h.named
     named _ b h = tt
 

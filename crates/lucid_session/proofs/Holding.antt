@@ -1,7 +1,7 @@
 -- How many values an engine holds: as many as different datons are needed, where exactly these are held.
 use Rattle.lucid_session.proofs.Common.{◌≡◌, ℕ, ◌≤◌, Bool, true, false, cond, List, map, Option, None, refl, sym, ap, ◌∙◌, subst, arith, ◌⊎◌, inl, inr, true≢false, IsTrue, IsSome, option_map, ◌↔◌, length-map, PlainValue, plain, In, AllDiffer, Elements, in_map, Context, root, IsOneForOne, IsOneForEach, count_of, empty_warehouse, eqval, visited_datons, HasDistinct, Points, equations_of, needed-visited, EngineView, IsSound, HoldsNeeded, holding, table_counted, IsDefinedAt, Start, of_run, IsNeededSoFar, Holds, with_point, is_some, IsDistinct, AllByRecursion, lookup, keys_of, IsDistinct-head, IsDistinct-tail}
 use Rattle.std.proofs.Common.{[], ◌∷◌, Some}
-use Rattle.lucid_lemmas.proofs.Options.{value_there as some_value, some_still}
+use Rattle.lucid_lists.proofs.Options.{value_there as some_value, some_still}
 use Rattle.lucid_tags.specs.Known.{IsKnown}
 use Rattle.lucid_tags.specs.Keys.{same_key}
 use Rattle.lucid_tags.specs.EqualityDecides.{same_key_is_equality, same_key_equiv}
@@ -10,9 +10,9 @@ use Rattle.lucid_store.specs.Stored.{Stored, Entry}
 use Rattle.lucid_store.specs.Entries.{held, entry_at, IsHeld}
 use Rattle.lucid_equations.specs.Visits.{IsNeeded}
 use Rattle.lucid_equations.specs.Counts.{datons}
-use Rattle.lucid_facts.specs.Tasks.{DatonAt, plain_key}
-use Rattle.lucid_facts.specs.Held.{held_in, AreKeysKnown}
-use Rattle.lucid_facts.proofs.HeldByKey.{key_of_held, held_of_key}
+use Rattle.lucid_demand_steps.specs.Tasks.{DatonAt, plain_key}
+use Rattle.lucid_demand_steps.specs.Held.{held_in, AreKeysKnown}
+use Rattle.lucid_demand_steps.proofs.HeldByKey.{key_of_held, held_of_key}
 use Rattle.lucid_session.proofs.Lists.{some_is, from_flat, in_flat, from_map}
 
 -- the datons of entries, each at its space

@@ -4,8 +4,8 @@ use Rattle.std.proofs.Common.{[], ◌∷◌}
 use Rattle.lucid_tree.proofs.Members.{fewer}
 use Rattle.lucid_tags.specs.Contexts.{context_at}
 use Rattle.lucid_equations.specs.Visits.{visited_contexts}
-use Rattle.lucid_facts.specs.Engine.{VisitsNew}
-use Rattle.lucid_facts.specs.Engine as facts
+use Rattle.lucid_demand_steps.specs.Engine.{VisitsNew}
+use Rattle.lucid_demand_steps.specs.Engine as facts
 use Rattle.lucid_session.proofs.Lists.{in_flat}
 use Rattle.lucid_session.proofs.Added.{at_once, so, both, of_items}
 

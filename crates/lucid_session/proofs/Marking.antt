@@ -1,7 +1,7 @@
 -- The demands of a time, column by column: which points are demanded, which columns stay open, and the cells.
 use Rattle.lucid_session.proofs.Common.{◌≡◌, ℕ, zero, suc, ◌+◌, ◌<◌, ◌≤◌, Bool, true, false, List, ◌++◌, length, refl, sym, ap, ◌∙◌, subst, arith, ◌⊎◌, inl, inr, append-nil, add-one, true≢false, ◌↔◌, IsSome, slice_get, slice_set, nat_lt, if◌then◌else◌, flat_map, range_with_len, cases_lt, slice_get_within, same_Some, length-map, PlainValue, eod, value_text, Elements, root, World, eqval, equations_of, Table, node-meant_once, EngineView, OneStream, StreamMeans, table_stream_at, table_columns, HasEnded, IsOpen, IsCell, AreCells, parted, Demands, Start, Has, Standing, layout, before, with_point, GivesCell, IsMarked, AreMarked, HasCells, ◌||◌, append_assoc, MatchBool, flat_map-append, length-range_with_len}
 use Rattle.std.proofs.Common.{[], ◌∷◌, Some}
-use Rattle.lucid_lemmas.proofs.Numbers.{below_or_last}
+use Rattle.lucid_lists.proofs.Numbers.{below_or_last}
 use Rattle.lucid_session.proofs.Going.{stands_same}
 use Rattle.lucid_session.proofs.Subjects.{demands_open, open_demands, columns_more}
 

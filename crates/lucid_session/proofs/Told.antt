@@ -4,8 +4,8 @@ use Rattle.std.proofs.Common.{[], ◌∷◌, Some}
 use Rattle.lucid_value.specs.Elements.{element}
 use Rattle.lucid_tree.specs.Env.{same_name}
 use Rattle.lucid_equations.specs.MoreElements.{Extends}
-use Rattle.lucid_facts.specs.Elements.{told_in}
-use Rattle.lucid_facts.proofs.Places.{same_name_decides, told_extends}
+use Rattle.lucid_demand_steps.specs.Elements.{told_in}
+use Rattle.lucid_demand_steps.proofs.Places.{same_name_decides, told_extends}
 
 -- the place of a stream that has a number
 pub place_at : (streams : List Stream) (k : ℕ) (s : Stream) → slice_get streams k ≡ Some s → slice_get (places_of streams) k ≡ Some s.place

@@ -16,11 +16,12 @@ use Rattle.lucid_ports.specs.declared.run.RunFault.TheVariants as run
 use Rattle.lucid_equations.specs.Values.{eqval, eqhval}
 use Rattle.lucid_equations.specs.Counts.{Points, valued_datons}
 use Rattle.lucid_equations.specs.Rows.{equations_of}
-use Rattle.lucid_facts.specs.Stands.{Holding}
-use Rattle.lucid_facts.specs.Engine.{EngineView, IsSound, AreAskable, ReadsOnly, HoldsFew, ConsultsOverlong, places_of}
+use Rattle.lucid_demand_steps.specs.Stands.{Holding}
+use Rattle.lucid_demand_steps.specs.Engine.{EngineView, IsSound, AreAskable, ReadsOnly, HoldsFew, ConsultsOverlong, places_of}
 use Rattle.lucid_demand.specs.Demanded as demand
-use Rattle.lucid_demand.specs.declared.fault.DemandFault.{DemandFault}
-use Rattle.lucid_demand.specs.declared.fault.DemandFault.TheVariants.{TooDeep, ReadFault}
+use Rattle.lucid_demand_steps.specs.Faults as faults
+use Rattle.lucid_demand_steps.specs.declared.fault.DemandFault.{DemandFault}
+use Rattle.lucid_demand_steps.specs.declared.fault.DemandFault.TheVariants.{TooDeep, ReadFault}
 use Rattle.lucid_session.specs.Subject.{OneStream, StreamMeans, table_stream_at, table_columns, HasEnded, IsOpen, AreCells, parted}
 use Rattle.lucid_session.specs.Runs.{ReadsWithin}
 use Rattle.lucid_session.specs.Figures.{table_counted, IsDefinedAt, Demands}
@@ -38,7 +39,7 @@ pub record Found (z : Start) (b : Elements) (D : (time space : ℕ) → Type 0) 
       → (points : Points) → ((t s : ℕ) → In (t, s) points ↔ D t s) → (m : ℕ) → IsDefinedAt (table_counted z.table) b m points
       → (held : Holding) → HoldsExactly (valued_datons (equations_of z.table) b m points) held
       → eqhval (equations_of z.table) (record { element = b; held = held }) z.depth time space ≡ None
-  pub too_large : IfErr result (λ f. demand.OnTooLarge f (λ k. ConsultsOverlong (of_run z e) b w k z.depth time space))
+  pub too_large : IfErr result (λ f. faults.OnTooLarge f (λ k. ConsultsOverlong (of_run z e) b w k z.depth time space))
 
 -- What stands after that demand.
 pub record Asked (z : Start) (D : Elements → (time space : ℕ) → Type 0) (e : EngineView) (w : World) (cleared time space : ℕ) (result : Result Value DemandFault) : Type 0 where
@@ -51,7 +52,7 @@ pub record Asked (z : Start) (D : Elements → (time space : ℕ) → Type 0) (e
   pub few_held : HoldsFew z.policy.room e.stored
   pub failed : IsErrOf result ReadFault → Rises z.before.faults w.faults
   pub counts_no_fault : CountsNoFaultUnless (IsErrOf result ReadFault) z.before.faults w.faults
-  pub too_large : IfErr result (λ f. demand.OnTooLarge f (λ k. k < length z.table.inputs))
+  pub too_large : IfErr result (λ f. faults.OnTooLarge f (λ k. k < length z.table.inputs))
   pub found : (b : Elements) → Has z b → Found z b (D b) e w cleared time space result
 
 -- A demand of a time was refused, at a point where a value is demanded.

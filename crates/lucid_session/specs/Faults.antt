@@ -4,8 +4,8 @@ use Rattle.lucid_ports.specs.declared.fault.PortFault.{PortFault}
 use Rattle.lucid_ports.specs.declared.fault.PortFault.TheVariants as port
 use Rattle.lucid_ports.specs.declared.run.RunFault.{RunFault}
 use Rattle.lucid_ports.specs.declared.run.RunFault.TheVariants.{TooDeep, ReadFault, WriteFault, TooLarge, NoMemory}
-use Rattle.lucid_demand.specs.declared.fault.DemandFault.{DemandFault}
-use Rattle.lucid_demand.specs.declared.fault.DemandFault.TheVariants as demand
+use Rattle.lucid_demand_steps.specs.declared.fault.DemandFault.{DemandFault}
+use Rattle.lucid_demand_steps.specs.declared.fault.DemandFault.TheVariants as demand
 
 -- a refused demand at a time, with the counts of lost values and of clearings: by the same name
 abbrev pub of_demand : (time lost cleared : ℕ) → DemandFault → RunFault

@@ -4,7 +4,7 @@ use Rattle.lucid_ports.specs.Faults.{Rises, CountsNoFaultUnless}
 use Rattle.lucid_ports.specs.Writing.{with_front, with_all}
 use Rattle.lucid_ports.specs.declared.run.RunFault.{RunFault}
 use Rattle.lucid_ports.specs.declared.run.RunFault.TheVariants.{WriteFault, NoMemory}
-use Rattle.lucid_session.specs.Runs.{Told}
+use Rattle.lucid_ports.specs.Told.{Told}
 
 -- The first bytes of a line are written, and nothing else: all of them, unless a write failed or there was no memory.
 pub record WritesLine (line : List ℕ) (before after : Told) (result : Result (Unit {0}) RunFault) : Type 0 where

@@ -13,9 +13,10 @@ use Rattle.lucid_equations.specs.Visits.{consults_on_nodes, visited_contexts, Is
 use Rattle.lucid_equations.specs.Counts.{Points, contexts}
 use Rattle.lucid_equations.specs.Rows.{equations_of}
 use Rattle.lucid_equations.specs.declared.table.Table.{Table}
-use Rattle.lucid_facts.specs.Engine.{EngineView, IsSound, AreAskable, ReadsOnly, HoldsFew, places_of, holding}
+use Rattle.lucid_demand_steps.specs.Engine.{EngineView, IsSound, AreAskable, ReadsOnly, HoldsFew, places_of, holding}
 use Rattle.lucid_session.specs.Subject.{Subject, columns_subject, table_columns}
-use Rattle.lucid_session.specs.Runs.{Told, PolicyView, RunView, HasElements, ReadsWithin}
+use Rattle.lucid_session.specs.Runs.{PolicyView, RunView, HasElements, ReadsWithin}
+use Rattle.lucid_ports.specs.Told.{Told}
 use Rattle.lucid_session.specs.Figures.{Layout, side_by_side, Demands, HasMoreThan}
 
 -- what a run begins with; columns are the spaces that stand side by side

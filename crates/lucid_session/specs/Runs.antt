@@ -6,6 +6,7 @@ use Rattle.lucid_value.specs.Elements.{element}
 use Rattle.lucid_tree.specs.Levels.{Elements}
 use Rattle.lucid_ports.specs.World.{World, Contents}
 use Rattle.lucid_ports.specs.Faults.{Rises, CountsNoFaultUnless}
+use Rattle.lucid_ports.specs.Told.{Told}
 use Rattle.lucid_ports.specs.Writing.{with_all}
 use Rattle.lucid_ports.specs.declared.run.Options.{Options}
 use Rattle.lucid_ports.specs.declared.run.Summary.{Summary}
@@ -15,17 +16,8 @@ use Rattle.lucid_inputs.specs.Streams.{all_bytes}
 use Rattle.lucid_inputs.specs.Inputs.{streams, most_bytes}
 use Rattle.lucid_inputs.specs.declared.on_demand.Inputs.{Inputs}
 use Rattle.lucid_equations.specs.declared.table.Table.{Table}
-use Rattle.lucid_facts.specs.Engine.{places_of}
+use Rattle.lucid_demand_steps.specs.Engine.{places_of}
 use Rattle.lucid_session.specs.Subject.{Subject, Output}
-
--- the bytes written to a sink, where it tells them, and its count of faults
-pub record Told : Type 0 where
-  pub bytes : Option (List ℕ)
-  pub faults : ℕ
-
--- what a sink of any kind tells
-abbrev pub told : {K : Type 0} → (written : K → Option (List ℕ)) → (faults : K → ℕ) → K → Told
-told written faults sink = record { bytes = written sink; faults = faults sink }
 
 -- what a policy is said to do: to drop nothing, to drop all, and how many it leaves at most
 pub record PolicyView : Type 0 where

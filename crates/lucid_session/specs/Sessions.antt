@@ -8,9 +8,10 @@ use Rattle.lucid_ports.specs.declared.run.Options.{Options}
 use Rattle.lucid_ports.specs.declared.run.Summary.{Summary}
 use Rattle.lucid_ports.specs.declared.run.RunFault.{RunFault}
 use Rattle.lucid_equations.specs.declared.table.Table.{Table}
-use Rattle.lucid_facts.specs.Engine.{EngineView, IsSound, AreAskable, ReadsOnly, places_of}
+use Rattle.lucid_demand_steps.specs.Engine.{EngineView, IsSound, AreAskable, ReadsOnly, places_of}
 use Rattle.lucid_session.specs.Subject.{Subject, columns_subject, table_columns}
-use Rattle.lucid_session.specs.Runs.{Told, RunView, HasElements, Ran, Causes}
+use Rattle.lucid_session.specs.Runs.{RunView, HasElements, Ran, Causes}
+use Rattle.lucid_ports.specs.Told.{Told}
 use Rattle.lucid_session.specs.Figures.{Counted, columns_counted, Figures}
 
 -- The engine holds nothing and knows the empty context alone, and its inputs may be asked.

@@ -1,7 +1,7 @@
 //! The cells of a line: the values of all columns at one time.
 ghost use Rattle.std.specs.Prelude.{◌≡◌, ◌+◌, ◌-◌, ◌<◌, ◌≤◌, ◌^◌, ◌*◌, ◌∷◌, ◌++◌, [], length, if◌then◌else◌, nat_lt, MatchResult};
 ghost use Rattle.lucid_tree.specs.Levels.{Elements};
-ghost use Rattle.lucid_facts.specs.Engine.{AreAskable};
+ghost use Rattle.lucid_demand_steps.specs.Engine.{AreAskable};
 ghost use Rattle.lucid_session.specs.Figures.{Demands};
 ghost use Rattle.lucid_session.specs.Moments.{Start, Has, Standing, before, layout};
 ghost use Rattle.lucid_session.specs.Cells.{StopsAt, GivesCell, AreMarked, HasCells, ClearsMany};

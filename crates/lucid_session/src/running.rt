@@ -2,10 +2,11 @@
 ghost use Rattle.std.specs.Prelude.{◌≡◌, ◌≤◌, ◌<◌, ◌^◌, ◌-◌, ◌⊎◌, ℕ, length, Bool, true, slice_get, Some};
 ghost use Rattle.lucid_inputs.specs.Inputs.{streams};
 ghost use Rattle.lucid_equations.specs.Programs.{table_of};
-ghost use Rattle.lucid_facts.specs.Engine.{AreAskable};
+ghost use Rattle.lucid_demand_steps.specs.Engine.{AreAskable};
 ghost use Rattle.lucid_store.specs.Entries.{count_of, IsOneForEach};
 ghost use Rattle.lucid_session.specs.Subject.{stream_subject, table_stream, columns_subject, table_columns};
-ghost use Rattle.lucid_session.specs.Runs.{told, policy_view, run_view};
+ghost use Rattle.lucid_session.specs.Runs.{policy_view, run_view};
+ghost use Rattle.lucid_ports.specs.Told.{told};
 ghost use Rattle.lucid_session.specs.Figures.{table_counted, columns_counted};
 ghost use Rattle.lucid_session.specs.Cells.{ClearsMany};
 ghost use Rattle.lucid_session.specs.Sessions.{IsFresh, engine_run, Promises, PromisesColumns};

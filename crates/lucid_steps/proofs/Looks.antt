@@ -1,9 +1,9 @@
 -- What a form looks at is one of its parts, at a space.
 use Rattle.std.proofs.Common.{◌≡◌, ℕ, zero, suc, ◌<◌, ◌≤◌, Bool, true, false, refl, subst, arith, nat_lt, nat_le, if◌then◌else◌}
 use Rattle.std.proofs.lemmas.Bool.{ltb-true}
-use Rattle.lucid_streams.specs.declared.form.Form.{Form}
-use Rattle.lucid_streams.specs.declared.form.Form.TheVariants as forms
-use Rattle.lucid_streams.specs.Forms.{part_count}
+use Rattle.lucid_tree.specs.declared.form.Form.{Form}
+use Rattle.lucid_tree.specs.declared.form.Form.TheVariants as forms
+use Rattle.lucid_tree.specs.Forms.{part_count}
 use Rattle.lucid_tree.specs.Rows.{last}
 use Rattle.lucid_steps.specs.declared.answer.Answer.{Answer}
 use Rattle.lucid_steps.specs.declared.step.Place.{Place}

@@ -2,7 +2,7 @@
 use Rattle.std.proofs.Common.{◌≡◌, ℕ, Bool, true, false, nat_le, if◌then◌else◌, refl}
 use Rattle.std.specs.Prelude.{pos}
 use Rattle.lucid_value.specs.Plain.{PlainValue, int, truth, eod, fault}
-use Rattle.lucid_streams.specs.declared.form.Form.{Form}
+use Rattle.lucid_tree.specs.declared.form.Form.{Form}
 use Rattle.lucid_tree.specs.Rows.{Plan, gives, last, look, by_test, by_place, only_truth}
 use Rattle.lucid_steps.specs.declared.answer.Answer.{Answer}
 use Rattle.lucid_steps.specs.declared.answer.Answer.TheVariants.{Holds, At, Ended, Other}

@@ -2,8 +2,8 @@
 -- and that these are the steps of its plan.
 use Rattle.std.specs.Prelude.{◌≡◌, ℕ, zero, suc, ◌<◌, ◌≤◌, Bool, true, false, pos, nat_lt, nat_le, if◌then◌else◌}
 use Rattle.lucid_value.specs.Plain.{PlainValue, int, truth, eod, fault}
-use Rattle.lucid_streams.specs.declared.form.Form.{Form}
-use Rattle.lucid_streams.specs.declared.form.Form.TheVariants as forms
+use Rattle.lucid_tree.specs.declared.form.Form.{Form}
+use Rattle.lucid_tree.specs.declared.form.Form.TheVariants as forms
 use Rattle.lucid_tree.specs.Tree.{stream}
 use Rattle.lucid_tree.specs.Rows.{Plan, gives, nothing, last, look, gives_part, only_truth}
 use Rattle.lucid_tree.specs.Rests.{rest_at}

@@ -1,11 +1,10 @@
 //! What a form does first, and what it does by a look.
 ghost use Rattle.std.specs.Prelude.{◌≡◌};
-ghost use Rattle.lucid_streams.specs.declared.form.Form.TheVariants as forms;
+ghost use Rattle.lucid_tree.specs.declared.form.Form.TheVariants as forms;
 ghost use Rattle.lucid_steps.specs.Steps.{part_at, judged, by_truth, found, moved_step, searched, counted, start_of, step_after};
 
 use crate::answer::Answer;
-use lucid_streams::Form;
-use lucid_tree::LAST;
+use lucid_tree::{Form, LAST};
 
 /// Where a form is taken, and where its search stands.
 #[derive(Clone, Copy)]

@@ -1,7 +1,7 @@
 -- Contexts: cutting, and which contexts are further out.
 use Rattle.lucid_tags.proofs.Common.{◌≡◌, ℕ, suc, ◌<◌, ◌≤◌, ◌⊎◌, inl, inr, Bool, true, false, Option, None, ◌==◌, if◌then◌else◌, refl, ◌∙◌, ap, sym, subst, arith, nat_tests, Context, root, frozen_frame, frames, base_of, cut, IsOuter}
 use Rattle.std.proofs.Common.{Some}
-use Rattle.lucid_lemmas.proofs.Numbers.{number_itself, below_differs, above_differs}
+use Rattle.lucid_lists.proofs.Numbers.{number_itself, below_differs, above_differs}
 use Rattle.lucid_tags.specs.Contexts.{call_frame}
 
 -- below the innermost frame a cut is that of the base

@@ -1,5 +1,5 @@
 -- What the proofs of this crate take of std, and what two of them or more cite of other modules, passed on from one place. Declares nothing.
-pub use Rattle.lucid_lemmas.proofs.Numbers.{above_differs, below_differs, number_itself}
+pub use Rattle.lucid_lists.proofs.Numbers.{above_differs, below_differs, number_itself}
 pub use Rattle.lucid_tags.specs.declared.Key.{Key}
 pub use Rattle.lucid_tasks.specs.Laid.{Trims, Values, laid_from, part_number}
 pub use Rattle.lucid_tasks.specs.Numbered.{SetsOne, value_at}

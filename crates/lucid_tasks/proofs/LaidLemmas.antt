@@ -2,7 +2,7 @@
 use Rattle.lucid_tasks.proofs.Common.{◌≡◌, ◌≢◌, ℕ, zero, suc, ◌+◌, ◌-◌, ◌*◌, ◌^◌, ◌<◌, ◌≤◌, ◌==◌, ◌&&◌, true, false, cond, List, [], ◌∷◌, ◌++◌, length, get_or, set, Option, Some, None, IsSome, IfSome, ◌⊎◌, inl, inr, refl, sym, ap, subst, ◌∙◌, arith, true≢false, option_map, option_and_then, list_all, none-some, cases_eq, above_differs, Value, Part, Task, Key, Row, value_at, SetsOne, PartState, Idle, Asked, Got, TaskRow, row_at, state_at, got_of, got_value, emptied, taken, fresh, with_part, all_idle, is_free, is_ready, IsRow, SetsOnly, ChangesOnly, Values, part_number, laid_from, Trims, slice_get_within}
 use Rattle.std.specs.Prelude.{slice_get}
 use Rattle.std.proofs.lemmas.List.{length_push, length-set}
-use Rattle.lucid_lemmas.proofs.Lists.{slice_get-push_same, slice_get-push_other}
+use Rattle.lucid_lists.proofs.Lists.{slice_get-push_same, slice_get-push_other}
 use Rattle.lucid_tasks.specs.Rows.{start}
 use Rattle.lucid_tasks.specs.Laid.{named, state, laid_state, three_of, laid_parent, laid_key, laid, laid_row, HasIdle, AreLaid, live_at, Shows}
 use Rattle.lucid_tasks.proofs.Cases.{chosen, chosen_same, chosen_other, some_is}

@@ -2,7 +2,7 @@
 use Rattle.lucid_tasks.proofs.Common.{◌≡◌, ℕ, zero, suc, ◌+◌, ◌-◌, ◌<◌, ◌≤◌, ◌≢◌, ◌==◌, true, false, cond, List, [], ◌∷◌, length, get_or, Some, None, Ok, Err, refl, sym, ap, subst, ◌∙◌, arith, nat_tests, none-some, eqb-true, number_itself, below_differs, value_at, SetsOne, Result, IfOk, IfErr, IsSearchInRange, IsBinarySearchResult, IsNonDecreasingBy, nat_cmp, ordering_index, ranked, get_or_default, IsNonDecreasingBy-from_default, length-insert, length-remove, get_or-insert_below, get_or-insert_at, get_or-insert_above, get_or-remove_below, get_or-remove_above}
 use Rattle.std.proofs.Common.{slice_get}
 use Rattle.std.specs.List.{insert, remove}
-use Rattle.lucid_lemmas.proofs.Numbers.{equality_turned}
+use Rattle.lucid_lists.proofs.Numbers.{equality_turned}
 use Rattle.lucid_tasks.specs.Numbered.{number_at, Rises, AreBelow, IsAt, IsGapFor}
 use Rattle.lucid_tasks.proofs.Cases.{chosen}
 

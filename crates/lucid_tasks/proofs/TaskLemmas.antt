@@ -1,6 +1,6 @@
 -- What each call makes of the rows and of the list of ready ones.
 use Rattle.lucid_tasks.proofs.Common.{◌≡◌, ◌≢◌, ℕ, zero, suc, ◌<◌, true, false, cond, ◌==◌, List, [], ◌∷◌, ◌++◌, length, get_or, set, Option, Some, None, IsSome, ◌⊎◌, inl, inr, refl, ap, sym, subst, ◌∙◌, arith, option_and_then, option_map, list_all, none-some, cases_eq, Value, Part, Task, Key, is_listed, RiseFrom, PartState, Idle, Asked, Got, TaskRow, row_at, parent_of, child_of, state_at, asked_slot, got_value, got_of, is_free, is_ready, emptied, taken, fresh, with_part, AreTasks, IsRow, IsPast, SetsOnly, ChangesOnly}
-use Rattle.lucid_lemmas.proofs.Options.{value_there}
+use Rattle.lucid_lists.proofs.Options.{value_there}
 use Rattle.lucid_tasks.specs.Rows.{state_of, given, Asks, Settles}
 use Rattle.lucid_tasks.proofs.Cases.{chosen, chosen_same, chosen_other, other_index, some_is}
 use Rattle.lucid_tasks.proofs.SlotLemmas.{listed_push, rise_push}

@@ -4,7 +4,7 @@ use Rattle.std.proofs.lemmas.Option.{none-some, same_Some}
 use Rattle.lucid_ports.specs.World.{World, IsFresh}
 use Rattle.lucid_inputs.specs.Streams.{Stream, FitsPlace, fresh_stream}
 use Rattle.lucid_inputs.specs.Laws.{FreshFits}
-use Rattle.lucid_facts.specs.Engine.{AreAskable}
+use Rattle.lucid_demand_steps.specs.Engine.{AreAskable}
 
 pub none_askable : (streams : List Stream) (w : World) → streams ≡ [] → AreAskable streams w
 none_askable streams w same = subst (λ its. AreAskable its w) (sym same) at

@@ -2,7 +2,7 @@
 ghost use Rattle.std.specs.Prelude.{◌≡◌, IfOk};
 ghost use Rattle.lucid_ports.specs.MemoryView.{memory_world};
 
-use lucid_explained::{Again, Outlook, lucid_explain};
+use lucid_explain_command::{Again, Outlook, lucid_explain};
 use lucid_ports::{MemoryFile, MemoryPlaces, MemorySink, Sink};
 use lucid_report::Status;
 use std::alloc::{AllocError, Global};

@@ -1,6 +1,6 @@
 //! Places by line and column, and as they are shown; what may stand at a place; what is said of lines of certificates.
-use lucid_expected::{Position, position_of, put_place, standing};
-use lucid_explained::line_text;
+use lucid_explain_command::line_text;
+use lucid_explain_places::{Position, position_of, put_place, standing};
 use std::alloc::{AllocError, Global};
 use std::test::Fail;
 

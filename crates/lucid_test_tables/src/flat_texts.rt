@@ -3,14 +3,13 @@ ghost use Rattle.std.specs.Prelude.{IfOk};
 ghost use Rattle.lucid_flat.specs.FlatTables.{HasOneRoot};
 
 use crate::told::first_false;
+use lucid_cert_rules::{read_why, show_why};
 use lucid_equations::{
     Entry, NameRow, NameRows, Node, NodeRow, NodeRows, Numbers32, PlaceRow, PlaceRows, ScopeKind,
     ScopeRow, ScopeRows, Table,
 };
-use lucid_flat::{FlatRefusal, read_flat, show_flat};
+use lucid_flat::{FlatRefusal, build, read_flat, show_flat};
 use lucid_ops::Op;
-use lucid_sound::build;
-use lucid_why::{read_why, show_why};
 use std::alloc::Global;
 use std::test::Fail;
 

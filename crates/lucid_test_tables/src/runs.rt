@@ -2,10 +2,9 @@
 use crate::told::{first_false, must};
 use crate::values::{shows, streams_of};
 use lucid_parse::parse;
-use lucid_plain::run;
 use lucid_ports::{MemorySink, Options, RunFault, Summary};
 use lucid_scan::scan;
-use lucid_test_programs::{COUNTING, DEEP_TREE, NO_VALUE};
+use lucid_test_programs::{COUNTING, DEEP_TREE, NO_VALUE, run};
 use std::alloc::Global;
 use std::test::Fail;
 

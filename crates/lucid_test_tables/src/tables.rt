@@ -6,10 +6,11 @@ use crate::told::must;
 use lucid_compile::compile;
 use lucid_equations::Program;
 use lucid_parse::parse;
-use lucid_plain::approximation;
 use lucid_scan::scan;
 use lucid_scope::{Scoped, resolve_owned};
-use lucid_test_programs::{DOUBLING_TEXT, IN_CONTEXTS, OVER_SPACE, OVER_TIME, UNDEFINED, Worked};
+use lucid_test_programs::{
+    DOUBLING_TEXT, IN_CONTEXTS, OVER_SPACE, OVER_TIME, UNDEFINED, Worked, approximation,
+};
 use lucid_tree::Tree;
 use lucid_value::Value;
 use std::alloc::Global;

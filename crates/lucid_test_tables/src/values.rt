@@ -1,9 +1,10 @@
 //! The values of the worked programs by the plain evaluator.
 use crate::told::must;
 use lucid_parse::parse;
-use lucid_plain::{Stream, approximation};
 use lucid_scan::{ScanRefusal, scan};
-use lucid_test_programs::{IN_CONTEXTS, OVER_INPUTS, OVER_SPACE, OVER_TIME, UNDEFINED, Worked};
+use lucid_test_programs::{
+    IN_CONTEXTS, OVER_INPUTS, OVER_SPACE, OVER_TIME, Stream, UNDEFINED, Worked, approximation,
+};
 use lucid_value::{Name, ReadRefusal, Value, read_value};
 use std::alloc::Global;
 use std::test::Fail;

@@ -2,7 +2,7 @@
 use Rattle.lucid_top.proofs.Common.{◌≡◌, ℕ, ◌<◌, List, [], ◌∷◌, map, Option, Some, None, refl, sym, ap, subst, ◌∙◌, slice_get, option_map, slice_get-map, World, AreUnread}
 use Rattle.lucid_inputs.specs.Streams.{Stream, FitsPlace, fresh_stream}
 use Rattle.lucid_inputs.specs.Laws.{FreshFits}
-use Rattle.lucid_facts.specs.Engine.{AreAskable, places_of}
+use Rattle.lucid_demand_steps.specs.Engine.{AreAskable, places_of}
 
 -- the numbers of the places of fresh streams
 places_fresh : (numbers : List ℕ) → places_of (map fresh_stream numbers) ≡ numbers

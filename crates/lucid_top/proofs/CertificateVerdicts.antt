@@ -1,9 +1,9 @@
 -- The file of a certificate has one verdict: a certificate, or one refusal.
 use Rattle.lucid_top.proofs.Common.{ℕ, List, refl, ap, arith, Why, by_size, by_judgment, OneCertificate, CertificateIsNotRefused, OneCertificateRefusal}
 use Rattle.lucid_texts.proofs.TextsRead.{line_once}
-use Rattle.lucid_why.specs.WhyText.{why_lines}
-use Rattle.lucid_why.specs.WhyTexts.{AreWhyLines, IsTextOf, IsFirstWrongLine}
-use Rattle.lucid_why.specs.Laws.{OneWhy}
+use Rattle.lucid_cert_rules.specs.WhyText.{why_lines}
+use Rattle.lucid_cert_rules.specs.WhyTexts.{AreWhyLines, IsTextOf, IsFirstWrongLine}
+use Rattle.lucid_cert_rules.specs.Laws.{OneWhy}
 use Rattle.lucid_report.specs.declared.refusal.Refusal.TheVariants as refusal
 
 -- bytes with a wrong line are no certificate's text

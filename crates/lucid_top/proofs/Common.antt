@@ -10,7 +10,7 @@ pub use Rattle.lucid_equations.specs.Sound.{IsSound}
 pub use Rattle.lucid_equations.specs.declared.table.Table.{Table}
 pub use Rattle.lucid_flat.specs.FlatTables.{IsFirstWrongLine, IsTextOf}
 pub use Rattle.lucid_inputs.specs.Streams.{all_bytes}
-pub use Rattle.lucid_least.specs.Rules.{Derives}
+pub use Rattle.lucid_fixed_point.specs.Rules.{Derives}
 pub use Rattle.lucid_parse.specs.Grammar.{PlacedTerminal, Spells, SpellsDefs}
 pub use Rattle.lucid_parse.specs.Terminals.{Terminals}
 pub use Rattle.lucid_parse.specs.declared.refusal.ParseRefusal.{ParseRefusal}
@@ -30,11 +30,12 @@ pub use Rattle.lucid_scope.specs.Bindings.{HasNoFault, all_sites}
 pub use Rattle.lucid_scope.specs.Scoped.{scoped_binding, scoped_inputs, scoped_tree}
 pub use Rattle.lucid_scope.specs.declared.scoped.Scoped.{Scoped}
 pub use Rattle.lucid_session.specs.Figures.{Figures}
-pub use Rattle.lucid_session.specs.Runs.{HasElements, IsDone, IsTooDeep, OnTooLarge, Ran, RunView, Told, told}
+pub use Rattle.lucid_session.specs.Runs.{HasElements, IsDone, IsTooDeep, OnTooLarge, Ran, RunView}
+pub use Rattle.lucid_ports.specs.Told.{Told, told}
 pub use Rattle.lucid_session.specs.Subject.{Subject, stream_subject, tree_stream}
-pub use Rattle.lucid_sound.specs.WrongRows.{IsFirstWrongRow}
-pub use Rattle.lucid_sound.specs.declared.program.BuildRefusal.{BuildRefusal}
-pub use Rattle.lucid_follow.specs.Follows.{AllFollow, IsRight, contexts}
+pub use Rattle.lucid_flat.specs.WrongRows.{IsFirstWrongRow}
+pub use Rattle.lucid_flat.specs.declared.program.BuildRefusal.{BuildRefusal}
+pub use Rattle.lucid_cert_rules.specs.Follows.{AllFollow, IsRight, contexts}
 pub use Rattle.lucid_top.specs.Call.{Call}
 pub use Rattle.lucid_top.specs.Certificates.{HeldCertificate, HoldsCertificate, RefusesCertificate, by_judgment, by_size, most_certificate_bytes}
 pub use Rattle.lucid_top.specs.Checks.{CheckComesOnly, Checks, ChecksTree, ConsumesFor, EndsSo, IsCheckStop, IsLast, IsLastLine, IsProvedLine, IsStopped, LiesPast, NoneTellsPast, Proves, TellsPast, looked_at}
@@ -60,7 +61,7 @@ pub use Rattle.lucid_report.specs.Telling.{WritesFront, WritesWhole}
 pub use Rattle.lucid_top.specs.Texts.{IsFlatForm}
 pub use Rattle.lucid_top.specs.Witness.{counting_source}
 pub use Rattle.lucid_top.specs.Writing.{WritesOnly}
-pub use Rattle.lucid_why.specs.declared.rows.Why.{Why}
+pub use Rattle.lucid_cert_rules.specs.declared.rows.Why.{Why}
 pub use Rattle.lucid_report.specs.declared.refusal.Refusal.{Refusal}
 pub use Rattle.lucid_report.specs.declared.status.Status.{Status}
 pub use Rattle.lucid_report.specs.declared.stop.Stop.{Stop}

@@ -9,10 +9,10 @@ use Rattle.lucid_tree.specs.WellMade.{depth}
 use Rattle.lucid_tree.specs.Tree.{fby_of}
 use Rattle.lucid_tree.specs.SamplePrograms.{integer, between}
 use Rattle.lucid_tree.proofs.Growth.{meant-once}
-use Rattle.lucid_least.proofs.Rules.{derives-means}
+use Rattle.lucid_fixed_point.proofs.Rules.{derives-means}
 use Rattle.lucid_scope.specs.Sites.{site_at}
-use Rattle.lucid_forms.specs.declared.operator.Operator.TheVariants as operator
-use Rattle.lucid_streams.specs.declared.form.Form.TheVariants as stream
+use Rattle.lucid_parse.specs.declared.operator.Operator.TheVariants as operator
+use Rattle.lucid_tree.specs.declared.form.Form.TheVariants as stream
 use Rattle.lucid_parse.specs.declared.terminal.Terminal.TheVariants as terminal
 use Rattle.lucid_parse.specs.Grammar.{terminal_at, spells_const, spells_name, spells_infix, spells_block, spells_none, spells_def}
 use Rattle.lucid_parse.specs.Terminals.{terminals_none}

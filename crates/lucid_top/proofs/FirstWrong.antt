@@ -1,7 +1,7 @@
 -- One row of a table is the first that is wrong.
 use Rattle.lucid_top.proofs.Common.{◌≡◌, ℕ, ◌<◌, List, [], Some, ◌⊎◌, inl, inr, refl, ap, subst, slice_get, cases_order, Table, BuildRefusal, IsFirstWrongRow}
-use Rattle.lucid_sound.specs.declared.program.BuildRefusal.TheVariants as build
-use Rattle.lucid_sound.specs.WrongRows.{ScopeIsRight, NodeIsRight, NameIsRight, PlaceIsRight, AllRight, IsFirstWrong, no_scopes, wrong_scope, wrong_node, wrong_name, wrong_place, wrong_root}
+use Rattle.lucid_flat.specs.declared.program.BuildRefusal.TheVariants as build
+use Rattle.lucid_flat.specs.WrongRows.{ScopeIsRight, NodeIsRight, NameIsRight, PlaceIsRight, AllRight, IsFirstWrong, no_scopes, wrong_scope, wrong_node, wrong_name, wrong_place, wrong_root}
 
 -- where all rows are right, none is the first wrong one
 none_wrong : {A : Type 0} (Right : ℕ → A → Type 0) (rows : List A) (at : ℕ) → AllRight Right rows → IsFirstWrong Right rows at → ⊥

@@ -4,8 +4,8 @@ use Rattle.lucid_texts.proofs.TextsRead.{line_once}
 use Rattle.lucid_flat.specs.FlatText.{flat_lines}
 use Rattle.lucid_flat.specs.FlatTables.{AreTableLines}
 use Rattle.lucid_flat.specs.Laws.{OneTable}
-use Rattle.lucid_sound.specs.WrongRows.{IsRefused}
-use Rattle.lucid_sound.specs.declared.program.BuildRefusal.TheVariants as build
+use Rattle.lucid_flat.specs.WrongRows.{IsRefused}
+use Rattle.lucid_flat.specs.declared.program.BuildRefusal.TheVariants as build
 use Rattle.lucid_report.specs.declared.refusal.Refusal.TheVariants as refusal
 use Rattle.lucid_report.specs.declared.stop.Stop.TheVariants as stop
 use Rattle.lucid_top.proofs.FirstWrong.{one_wrong}

@@ -3,7 +3,7 @@ use Rattle.lucid_top.proofs.Common.{◌≡◌, ◌≢◌, ℕ, suc, ◌+◌, ◌
 use Rattle.std.proofs.Common.{take, Result, cond}
 use Rattle.lucid_tree.specs.Meaning.{val}
 use Rattle.lucid_tree.proofs.Growth.{val-up}
-use Rattle.lucid_least.proofs.Rules.{means-derives}
+use Rattle.lucid_fixed_point.proofs.Rules.{means-derives}
 use Rattle.lucid_ports.specs.World.{unread}
 use Rattle.lucid_ports.specs.declared.run.RunFault.TheVariants as fault
 use Rattle.lucid_session.specs.Subject.{Output}

@@ -6,7 +6,7 @@ use Rattle.lucid_tree.specs.Tree.{PlainTree}
 use Rattle.lucid_tree.specs.WellMade.{depth}
 use Rattle.lucid_tree.specs.Demand.{consults}
 use Rattle.lucid_tree.proofs.Growth.{meant-once}
-use Rattle.lucid_least.proofs.Rules.{derives-means}
+use Rattle.lucid_fixed_point.proofs.Rules.{derives-means}
 use Rattle.lucid_scope.specs.Sites.{site_at}
 use Rattle.lucid_parse.specs.declared.terminal.Terminal.TheVariants as terminal
 use Rattle.lucid_parse.specs.Grammar.{terminal_at, spells_name}

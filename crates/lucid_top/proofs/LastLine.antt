@@ -6,8 +6,8 @@ use Rattle.std.specs.Prelude.{decimal}
 use Rattle.lucid_value.specs.ValueText.{value_text}
 use Rattle.lucid_value.specs.View.{plain}
 use Rattle.lucid_texts.specs.Words.{spaced}
-use Rattle.lucid_why.specs.Certificates.{plain_judgment}
-use Rattle.lucid_why.specs.declared.rows.JudgmentRow.{JudgmentRow}
+use Rattle.lucid_cert_rules.specs.Certificates.{plain_judgment}
+use Rattle.lucid_cert_rules.specs.declared.rows.JudgmentRow.{JudgmentRow}
 
 -- a text, behind it a word, a blank and a number, and the end of the line
 spelled : (text digits : List ℕ) → ((text ++ codes " at") ++ spaced (digits ∷ [])) ++ codes "\n" ≡ text ++ (codes " at " ++ (digits ++ codes "\n"))

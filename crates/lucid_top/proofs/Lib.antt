@@ -39,3 +39,5 @@ mod CountingSource
 mod InputSource
 mod Witnesses
 mod InputWitnesses
+pub mod Once
+pub mod Solutions

@@ -7,15 +7,15 @@ use Rattle.lucid_inputs.specs.Streams.{Stream, fresh_stream}
 use Rattle.lucid_inputs.specs.declared.on_demand.Inputs.{Inputs}
 use Rattle.lucid_equations.specs.Ranges.{IsInRange}
 use Rattle.lucid_equations.specs.Visits.{consults_on_nodes}
-use Rattle.lucid_facts.specs.Elements.{elements_read}
-use Rattle.lucid_facts.specs.Engine.{places_of}
-use Rattle.lucid_facts.specs.Engine as facts
-use Rattle.lucid_demand.specs.Demanded.{OnTooLarge}
-use Rattle.lucid_demand.specs.declared.fault.DemandFault.{DemandFault}
-use Rattle.lucid_demand.specs.declared.fault.DemandFault.TheVariants as fault
-use Rattle.lucid_why.specs.WhyTexts.{IsTextOf}
-use Rattle.lucid_follow.specs.Meant.{WhatFollowsIsMeant}
-use Rattle.lucid_check.specs.Checked.{MayBe}
+use Rattle.lucid_demand_steps.specs.Elements.{elements_read}
+use Rattle.lucid_demand_steps.specs.Engine.{places_of}
+use Rattle.lucid_demand_steps.specs.Engine as facts
+use Rattle.lucid_demand_steps.specs.Faults.{OnTooLarge}
+use Rattle.lucid_demand_steps.specs.declared.fault.DemandFault.{DemandFault}
+use Rattle.lucid_demand_steps.specs.declared.fault.DemandFault.TheVariants as fault
+use Rattle.lucid_cert_rules.specs.WhyTexts.{IsTextOf}
+use Rattle.lucid_cert_rules.specs.Meant.{WhatFollowsIsMeant}
+use Rattle.lucid_cert.specs.Checked.{MayBe}
 use Rattle.lucid_cert.specs.Certified.{IsCertificate}
 use Rattle.lucid_cert.specs.Drawn.{AsDemanded, HasDrawn, view_of as seen_by}
 use Rattle.lucid_session.specs.Runs.{IsInput}

@@ -14,15 +14,15 @@ use Rattle.lucid_equations.specs.Values.{node_val}
 use Rattle.lucid_equations.specs.declared.rows.Node.TheVariants.{Input}
 use Rattle.lucid_equations.specs.declared.rows.NodeRow.{NodeRow}
 use Rattle.lucid_equations.proofs.Rising.{node-in_range}
-use Rattle.lucid_facts.specs.Elements.{elements_read}
-use Rattle.lucid_why.specs.Certificates.{PlainJudgment}
-use Rattle.lucid_follow.specs.Meant.{WhatFollowsIsMeant}
-use Rattle.lucid_check.specs.Checked.{Checked, MayBe}
-use Rattle.lucid_check.specs.Checked as check
-use Rattle.lucid_check.specs.Reads.{TellsElement, DrawsFor, OnTooLarge}
-use Rattle.lucid_check.specs.Reads as check_reads
-use Rattle.lucid_check.specs.declared.fault.CheckFault.{CheckFault}
-use Rattle.lucid_check.specs.declared.fault.CheckFault.TheVariants as fault
+use Rattle.lucid_demand_steps.specs.Elements.{elements_read}
+use Rattle.lucid_cert_rules.specs.Certificates.{PlainJudgment}
+use Rattle.lucid_cert_rules.specs.Meant.{WhatFollowsIsMeant}
+use Rattle.lucid_cert.specs.Checked.{Checked, MayBe}
+use Rattle.lucid_cert.specs.Checked as check
+use Rattle.lucid_cert.specs.CheckReads.{TellsElement, DrawsFor, OnTooLarge}
+use Rattle.lucid_cert.specs.CheckReads as check_reads
+use Rattle.lucid_cert.specs.declared.fault.CheckFault.{CheckFault}
+use Rattle.lucid_cert.specs.declared.fault.CheckFault.TheVariants as fault
 use Rattle.lucid_session.specs.Runs.{IsInput, ReadsWithin}
 use Rattle.lucid_session.specs.Subject.{OneStream, StreamMeans, table_stream}
 use Rattle.lucid_session.proofs.Told.{tells_too}

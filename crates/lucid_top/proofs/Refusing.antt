@@ -7,11 +7,11 @@ use Rattle.lucid_parse.specs.Spelled.{IsRefused}
 use Rattle.lucid_flat.specs.declared.read.FlatRefusal.{FlatRefusal}
 use Rattle.lucid_flat.specs.declared.read.FlatRefusal.TheVariants as flat
 use Rattle.lucid_flat.specs.LinesRead.{IsRefused as IsLineRefused}
-use Rattle.lucid_sound.specs.declared.program.BuildRefusal.TheVariants as build
-use Rattle.lucid_sound.specs.WrongRows.{IsRefused as IsTableRefused}
-use Rattle.lucid_why.specs.declared.read.WhyRefusal.{WhyRefusal}
-use Rattle.lucid_why.specs.declared.read.WhyRefusal.TheVariants as why
-use Rattle.lucid_why.specs.LinesRead.{IsRefused as IsJudgmentRefused}
+use Rattle.lucid_flat.specs.declared.program.BuildRefusal.TheVariants as build
+use Rattle.lucid_flat.specs.WrongRows.{IsRefused as IsTableRefused}
+use Rattle.lucid_cert_rules.specs.declared.read.WhyRefusal.{WhyRefusal}
+use Rattle.lucid_cert_rules.specs.declared.read.WhyRefusal.TheVariants as why
+use Rattle.lucid_cert_rules.specs.LinesRead.{IsRefused as IsJudgmentRefused}
 use Rattle.lucid_report.specs.Refusals.{flat_stop, why_stop}
 
 pub scan_refuses : (source : List ℕ) (e : ScanRefusal) → Refuses source e → IsRefusalOf (RefusesText source) (scan_stop e)

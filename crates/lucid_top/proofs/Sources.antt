@@ -5,7 +5,7 @@ use Rattle.lucid_scan.specs.declared.refusal.ScanRefusal.TheVariants as scan
 use Rattle.lucid_scan.specs.Refusals.{Refuses}
 use Rattle.lucid_parse.specs.Spelled.{IsRefused}
 use Rattle.lucid_report.specs.declared.stop.Stop.TheVariants as stop
-use Rattle.lucid_why.specs.WhyTexts as why
+use Rattle.lucid_cert_rules.specs.WhyTexts as why
 use Rattle.lucid_top.specs.Places.{IsSourceFront}
 
 short_whole : (most : ℕ) (source : List ℕ) → length (take (most + 1) source) ≤ most → take (most + 1) source ≡ source

@@ -6,8 +6,8 @@ use Rattle.lucid_inputs.specs.Inputs.{streams, stream_at, most_bytes}
 use Rattle.lucid_inputs.specs.Laws.{KeepsWithin}
 use Rattle.lucid_inputs.specs.Streams.{Stream, Fits, fresh_stream}
 use Rattle.lucid_inputs.specs.declared.on_demand.Inputs.{Inputs}
-use Rattle.lucid_facts.specs.Engine.{AreAskable, EngineView, ReadsOnly, places_of}
-use Rattle.lucid_check.specs.Checked.{MayBe}
+use Rattle.lucid_demand_steps.specs.Engine.{AreAskable, EngineView, ReadsOnly, places_of}
+use Rattle.lucid_cert.specs.Checked.{MayBe}
 use Rattle.lucid_session.specs.Moments.{Start}
 use Rattle.lucid_session.specs.Runs.{ReadsWithin}
 use Rattle.lucid_session.proofs.Told.{may_have, stream_at as stream_of_place}

@@ -3,7 +3,8 @@
 use Rattle.std.specs.Prelude.{Option}
 use Rattle.lucid_ports.specs.World.{World}
 use Rattle.lucid_words.specs.Asked.{PlainWords}
-use Rattle.lucid_session.specs.Runs.{Told, PolicyView}
+use Rattle.lucid_session.specs.Runs.{PolicyView}
+use Rattle.lucid_ports.specs.Told.{Told}
 use Rattle.lucid_top.specs.Policies.{policy_by}
 
 pub record Call : Type 0 where

@@ -2,8 +2,8 @@
 use Rattle.std.specs.Prelude.{ℕ, ◌<◌, ◌≤◌, List, length}
 use Rattle.lucid_ports.specs.World.{World}
 use Rattle.lucid_words.specs.Plain.{file}
-use Rattle.lucid_why.specs.WhyTexts.{IsTextOf, IsFirstWrongLine}
-use Rattle.lucid_why.specs.declared.rows.Why.{Why}
+use Rattle.lucid_cert_rules.specs.WhyTexts.{IsTextOf, IsFirstWrongLine}
+use Rattle.lucid_cert_rules.specs.declared.rows.Why.{Why}
 use Rattle.lucid_report.specs.declared.refusal.Refusal.{Refusal}
 use Rattle.lucid_report.specs.declared.refusal.Refusal.TheVariants as refusal
 use Rattle.lucid_top.specs.Sources.{IsSource}

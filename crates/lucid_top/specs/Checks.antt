@@ -9,13 +9,13 @@ use Rattle.lucid_ports.specs.Faults.{Rises}
 use Rattle.lucid_inputs.specs.Streams.{all_bytes}
 use Rattle.lucid_equations.specs.declared.table.Table.{Table}
 use Rattle.lucid_compile.specs.Settled.{table_of as tree_table}
-use Rattle.lucid_why.specs.Certificates.{PlainJudgment}
-use Rattle.lucid_why.specs.declared.rows.Why.{Why}
-use Rattle.lucid_follow.specs.Follows.{contexts, AllFollow, IsRight}
-use Rattle.lucid_check.specs.Checked.{IsWrong}
-use Rattle.lucid_check.specs.Reads.{TellsElement}
-use Rattle.lucid_check.specs.declared.fault.CheckFault.{CheckFault}
-use Rattle.lucid_check.specs.declared.fault.CheckFault.TheVariants as fault
+use Rattle.lucid_cert_rules.specs.Certificates.{PlainJudgment}
+use Rattle.lucid_cert_rules.specs.declared.rows.Why.{Why}
+use Rattle.lucid_cert_rules.specs.Follows.{contexts, AllFollow, IsRight}
+use Rattle.lucid_cert.specs.Checked.{IsWrong}
+use Rattle.lucid_cert.specs.CheckReads.{TellsElement}
+use Rattle.lucid_cert.specs.declared.fault.CheckFault.{CheckFault}
+use Rattle.lucid_cert.specs.declared.fault.CheckFault.TheVariants as fault
 use Rattle.lucid_session.specs.Subject.{OneStream, StreamMeans, tree_stream}
 use Rattle.lucid_session.specs.Runs.{RunView, IsInput, HasElements, ReadsWithin}
 use Rattle.lucid_report.specs.declared.stop.Done.TheVariants as done

@@ -4,7 +4,8 @@ use Rattle.lucid_ports.specs.Faults.{Rises}
 use Rattle.lucid_words.specs.Asked.{PlainWords}
 use Rattle.lucid_words.specs.Plain.{file}
 use Rattle.lucid_ports.specs.World.{Contents}
-use Rattle.lucid_session.specs.Runs.{Told, RunView, IsInput}
+use Rattle.lucid_session.specs.Runs.{RunView, IsInput}
+use Rattle.lucid_ports.specs.Told.{Told}
 use Rattle.lucid_top.specs.declared.task.Task.TheVariants as task
 use Rattle.lucid_report.specs.declared.refusal.Refusal.{Refusal}
 use Rattle.lucid_report.specs.declared.refusal.Refusal.TheVariants as refusal

@@ -3,8 +3,8 @@ use Rattle.std.specs.Prelude.{◌≡◌, ℕ, ◌<◌, ◌≤◌, List, length}
 use Rattle.lucid_equations.specs.Sound.{IsSound}
 use Rattle.lucid_equations.specs.declared.table.Table.{Table}
 use Rattle.lucid_flat.specs.FlatTables.{IsTextOf, IsFirstWrongLine}
-use Rattle.lucid_sound.specs.WrongRows.{IsRefused}
-use Rattle.lucid_sound.specs.declared.program.BuildRefusal.{BuildRefusal}
+use Rattle.lucid_flat.specs.WrongRows.{IsRefused}
+use Rattle.lucid_flat.specs.declared.program.BuildRefusal.{BuildRefusal}
 use Rattle.lucid_report.specs.declared.refusal.Refusal.{Refusal}
 use Rattle.lucid_report.specs.declared.refusal.Refusal.TheVariants as refusal
 use Rattle.lucid_report.specs.declared.stop.Stop.TheVariants as stop

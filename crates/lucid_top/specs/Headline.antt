@@ -22,12 +22,12 @@ use Rattle.lucid_tree.specs.Meaning.{val}
 use Rattle.lucid_tree.specs.Demand.{consults}
 use Rattle.lucid_tree.specs.Members.{In}
 use Rattle.lucid_tree.specs.Output.{line}
-use Rattle.lucid_least.specs.Rules.{Derives}
+use Rattle.lucid_fixed_point.specs.Rules.{Derives}
 use Rattle.lucid_scope.specs.Bindings.{HasNoFault}
 use Rattle.lucid_words.specs.Plain.{file}
 use Rattle.lucid_words.specs.Asked.{PlainWords}
 use Rattle.lucid_ports.specs.World.{Contents}
-use Rattle.lucid_session.specs.Runs.{Told}
+use Rattle.lucid_ports.specs.Told.{Told}
 use Rattle.lucid_report.specs.declared.status.Status.{Status}
 use Rattle.lucid_report.specs.declared.status.Status.TheVariants as status
 use Rattle.lucid_top.specs.declared.task.Task.TheVariants as task

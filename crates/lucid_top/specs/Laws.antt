@@ -7,7 +7,7 @@ use Rattle.lucid_report.specs.declared.refusal.Refusal.{Refusal}
 use Rattle.lucid_equations.specs.declared.table.Table.{Table}
 use Rattle.lucid_top.specs.Judged.{Spelt, RefusesText, RefusesNames, HasInputs}
 use Rattle.lucid_top.specs.Flat.{SpellsTable, RefusesFlat}
-use Rattle.lucid_why.specs.declared.rows.Why.{Why}
+use Rattle.lucid_cert_rules.specs.declared.rows.Why.{Why}
 use Rattle.lucid_top.specs.Certificates.{HoldsCertificate, RefusesCertificate}
 
 -- A source spells at most one tree, and none where its text is refused; and its text has at most one refusal.

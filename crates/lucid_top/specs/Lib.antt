@@ -21,3 +21,5 @@ pub mod Headline
 pub mod Witness
 pub mod Coming
 pub mod Laws
+pub mod Solutions
+pub mod LeastFamily

@@ -9,11 +9,11 @@ use Rattle.lucid_ports.specs.Faults.{Rises}
 use Rattle.lucid_inputs.specs.Streams.{all_bytes}
 use Rattle.lucid_equations.specs.declared.table.Table.{Table}
 use Rattle.lucid_compile.specs.Settled.{table_of as tree_table}
-use Rattle.lucid_demand.specs.declared.fault.DemandFault.{DemandFault}
-use Rattle.lucid_demand.specs.declared.fault.DemandFault.TheVariants as fault
-use Rattle.lucid_why.specs.Certificates.{PlainJudgment}
-use Rattle.lucid_why.specs.WhyTexts.{IsTextOf}
-use Rattle.lucid_why.specs.declared.rows.Why.{Why}
+use Rattle.lucid_demand_steps.specs.declared.fault.DemandFault.{DemandFault}
+use Rattle.lucid_demand_steps.specs.declared.fault.DemandFault.TheVariants as fault
+use Rattle.lucid_cert_rules.specs.Certificates.{PlainJudgment}
+use Rattle.lucid_cert_rules.specs.WhyTexts.{IsTextOf}
+use Rattle.lucid_cert_rules.specs.declared.rows.Why.{Why}
 use Rattle.lucid_cert.specs.Certified.{AreApart}
 use Rattle.lucid_session.specs.Subject.{OneStream, tree_stream}
 use Rattle.lucid_session.specs.Runs.{RunView, IsInput, HasElements, ReadsWithin}

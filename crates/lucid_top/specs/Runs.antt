@@ -8,7 +8,8 @@ use Rattle.lucid_ports.specs.declared.run.RunFault.TheVariants as fault
 use Rattle.lucid_tree.specs.Levels.{Elements}
 use Rattle.lucid_scan.specs.Refusals.{most_source_bytes}
 use Rattle.lucid_inputs.specs.Streams.{all_bytes}
-use Rattle.lucid_session.specs.Runs.{PolicyView, RunView, Told, IsInput, HasElements, Ran}
+use Rattle.lucid_session.specs.Runs.{PolicyView, RunView, IsInput, HasElements, Ran}
+use Rattle.lucid_ports.specs.Told.{Told}
 use Rattle.lucid_session.specs.Figures.{Figures}
 use Rattle.lucid_words.specs.Asked.{PlainWords}
 use Rattle.lucid_report.specs.declared.stop.Done.TheVariants as done

@@ -5,7 +5,7 @@ use Rattle.lucid_scope.specs.Bindings.{HasNoFault}
 use Rattle.lucid_equations.specs.declared.table.Table.{Table}
 use Rattle.lucid_words.specs.Plain.{file}
 use Rattle.lucid_words.specs.Asked.{PlainWords}
-use Rattle.lucid_why.specs.declared.rows.Why.{Why}
+use Rattle.lucid_cert_rules.specs.declared.rows.Why.{Why}
 use Rattle.lucid_report.specs.declared.refusal.Refusal.{Refusal}
 use Rattle.lucid_report.specs.declared.refusal.Refusal.TheVariants as refusal
 use Rattle.lucid_columns.specs.Columns.{AreColumns}

@@ -1,7 +1,7 @@
 -- What the outcome of writing a text says of the output.
 use Rattle.std.specs.Prelude.{◌≡◌, ℕ, ◌⊎◌, List, Ok, Err}
 use Rattle.lucid_ports.specs.Faults.{Rises}
-use Rattle.lucid_session.specs.Runs.{Told}
+use Rattle.lucid_ports.specs.Told.{Told}
 use Rattle.lucid_report.specs.declared.stop.Done.TheVariants as done
 use Rattle.lucid_report.specs.declared.stop.Stop.TheVariants as stop
 use Rattle.lucid_report.specs.Status.{Outcome}

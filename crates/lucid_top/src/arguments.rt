@@ -3,7 +3,7 @@ ghost use Rattle.std.specs.Prelude.{◌≡◌, drop, map};
 ghost use Rattle.std.specs.String.{string_bytes};
 ghost use Rattle.lucid_words.specs.Asked.{words_asked};
 ghost use Rattle.lucid_top.specs.Call.{call};
-ghost use Rattle.lucid_session.specs.Runs.{told};
+ghost use Rattle.lucid_ports.specs.Told.{told};
 ghost use Rattle.lucid_top.specs.Clauses.{MeetsClauses};
 
 use crate::top::lucid;

@@ -5,9 +5,8 @@ ghost use Rattle.lucid_top.specs.Flat.{SpellsTable, RefusesFlat};
 ghost use Rattle.lucid_report.specs.Refusals.{IsRefusalOf};
 
 use lucid_equations::Program;
-use lucid_flat::read_flat;
+use lucid_flat::{build, read_flat};
 use lucid_report::{Refusal, Stop};
-use lucid_sound::build;
 use std::alloc::Global;
 
 // How many bytes a source in the flat form may have.

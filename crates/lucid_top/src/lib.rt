@@ -21,6 +21,7 @@ mod laws;
 mod making;
 mod places;
 mod running;
+pub mod solution_laws;
 mod task;
 mod top;
 mod writing;

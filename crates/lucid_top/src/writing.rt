@@ -5,7 +5,7 @@ ghost use Rattle.lucid_print.specs.Canonical.{canonical};
 ghost use Rattle.lucid_scan.specs.Refusals.{most_source_bytes};
 ghost use Rattle.lucid_scope.specs.Scoped.{scoped_tree, scoped_inputs};
 ghost use Rattle.lucid_cycles.specs.JudgmentLine.{judgment_line};
-ghost use Rattle.lucid_session.specs.Runs.{told};
+ghost use Rattle.lucid_ports.specs.Told.{told};
 ghost use Rattle.lucid_top.specs.Judged.{AreResolved};
 ghost use Rattle.lucid_top.specs.Places.{CountsNoWrite};
 ghost use Rattle.lucid_top.specs.Texts.{IsFlatForm};

@@ -1,3 +1,4 @@
+pub mod FormRows
 pub mod Common
 pub mod Members
 pub mod Times

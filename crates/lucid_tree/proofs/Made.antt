@@ -1,8 +1,8 @@
 -- The parts from which a form is made.
 use Rattle.lucid_tree.proofs.Common.{◌≡◌, List, [], ◌∷◌, length, refl, arith, PlainTree}
-use Rattle.lucid_streams.proofs.FormRows.{few}
-use Rattle.lucid_streams.specs.declared.form.Form.{Form}
-use Rattle.lucid_streams.specs.Forms.{part_count}
+use Rattle.lucid_tree.proofs.FormRows.{few}
+use Rattle.lucid_tree.specs.declared.form.Form.{Form}
+use Rattle.lucid_tree.specs.Forms.{part_count}
 
 -- Of a form with three parts or more there is no fourth.
 pub no_fourth : (which : Form) (a b c : PlainTree) (rest : List PlainTree) → length (a ∷ b ∷ c ∷ rest) ≡ part_count which → (part_count which ≡ 3) × (rest ≡ [])

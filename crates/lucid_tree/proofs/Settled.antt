@@ -1,7 +1,7 @@
 -- What a plan with a value sees is what each plan that goes on further sees.
 use Rattle.lucid_tree.proofs.Common.{◌≡◌, ℕ, zero, suc, ◌+◌, ◌≤◌, List, [], ◌∷◌, Option, Some, None, refl, nat_le, nat_lt, if◌then◌else◌, arith, pos, nat_tests, PlainValue, int, truth, fault, Head, const, apply, choose, both, either, first, next, fby, whenever, asa, upon, Look, Plan, gives, nothing, looks, look, single, gives_part, by_test, by_place, at_zero, arguments, find_true, count_true, last, plan, Reader, add_value, all_values, with_values, run, gather, trace}
 use Rattle.std.proofs.Common.{Bool, true, false}
-use Rattle.lucid_lemmas.proofs.Numbers.{zero_le}
+use Rattle.lucid_lists.proofs.Numbers.{zero_le}
 use Rattle.lucid_tree.specs.Tree.{initial, succ, sby}
 use Rattle.lucid_tree.proofs.Plans.{Within, from_nothing, same_value, same_looks, Keeps, all_values-keeps}
 use Rattle.lucid_tree.proofs.Traces.{TakesMore}

@@ -7,8 +7,8 @@ use denote.Struct.Codes.{itself}
 use Rattle.lucid_value.specs.Codes.{value_code, value_back, value_there, bytes_code, bytes_back, bytes_there}
 use Rattle.lucid_ops.specs.declared.op.Op.TheVariants.{Add}
 use Rattle.lucid_ops.specs.Codes.{operators, operator_number, operator_there}
-use Rattle.lucid_streams.specs.Forms.{form_row, spelled, found}
-use Rattle.lucid_streams.specs.declared.form.Form.TheVariants.{If}
+use Rattle.lucid_tree.specs.Forms.{form_row, spelled, found}
+use Rattle.lucid_tree.specs.declared.form.Form.TheVariants.{If}
 use Rattle.lucid_tree.specs.Tree.{Head, const, apply, stream, PlainTree, form, name, call, block, PlainTrees, no_trees, tree, PlainDefs, no_defs, defines, defines_function, defines_current}
 
 -- a form over streams by its word

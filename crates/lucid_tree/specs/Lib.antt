@@ -1,3 +1,4 @@
+pub mod Forms
 pub mod Tree
 pub mod Size
 pub mod Codes

@@ -4,7 +4,7 @@
 -- A plan says nothing of who looks: approximations, demands and held values all read the same plans.
 use Rattle.std.specs.Prelude.{ℕ, zero, suc, pos, true, false, List, [], ◌∷◌, ◌++◌, Option, Some, None, nat_lt, nat_le, if◌then◌else◌}
 use Rattle.lucid_value.specs.Plain.{PlainValue, int, truth, eod, fault}
-use Rattle.lucid_streams.specs.declared.form.Form.TheVariants as forms
+use Rattle.lucid_tree.specs.declared.form.Form.TheVariants as forms
 use Rattle.lucid_tree.specs.Tree.{Head, const, apply, stream}
 use Rattle.lucid_ops.specs.Algebra.{algebra}
 

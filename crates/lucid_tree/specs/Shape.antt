@@ -2,7 +2,7 @@
 use Rattle.std.specs.Prelude.{◌≡◌, ℕ}
 use Rattle.lucid_tree.specs.Size.{count}
 use Rattle.lucid_value.specs.View.{plain as plain_value}
-use Rattle.lucid_streams.specs.Forms.{part_count}
+use Rattle.lucid_tree.specs.Forms.{part_count}
 use Rattle.lucid_tree.specs.Tree.{Head, const, apply, stream, PlainTree, form, name, call, block}
 use Rattle.lucid_tree.specs.declared.shape.Head.{Head as Reader}
 use Rattle.lucid_tree.specs.declared.shape.Head.TheVariants.{Const, Apply, Stream}

@@ -1,6 +1,6 @@
 -- Expressions without forms over space, and environments all of whose trees are without them.
 use Rattle.std.specs.Prelude.{◌≡◌, Bool, false}
-use Rattle.lucid_streams.specs.Forms.{form_row}
+use Rattle.lucid_tree.specs.Forms.{form_row}
 use Rattle.lucid_tree.specs.Tree.{Head, stream, PlainTree, PlainTrees, PlainDefs}
 use Rattle.lucid_tree.specs.Each.{EachForm, EachFormIn, EachFormInDefs}
 use Rattle.lucid_tree.specs.Env.{Env, empty, scope, args}

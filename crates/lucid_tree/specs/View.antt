@@ -1,8 +1,8 @@
 -- The plain form of a tree, one level at a time: the trees inside are seen as their plain forms.
 use Rattle.std.specs.Prelude.{ℕ}
 use Rattle.lucid_value.specs.View.{plain as plain_value}
-use Rattle.lucid_streams.specs.declared.form.Form.{Form}
-use Rattle.lucid_streams.specs.declared.form.Form.TheVariants as forms
+use Rattle.lucid_tree.specs.declared.form.Form.{Form}
+use Rattle.lucid_tree.specs.declared.form.Form.TheVariants as forms
 use Rattle.lucid_tree.specs.Tree.{const, apply, stream, PlainTree, form, name, call, block, no_trees, tree}
 use Rattle.lucid_tree.specs.Size.{count}
 use Rattle.lucid_tree.specs.declared.tree.Kind.{Kind}

@@ -1,8 +1,9 @@
-//! Trees and what they mean: the approximations of a program, and the laws that they obey.
+//! Trees and what they mean: the forms over streams, with one row of each, the approximations of a program, and the laws that they obey.
 #![tactic(auto)]
 
 pub use crate::definitions::Definitions;
 pub use crate::depth::MAX_TREE_DEPTH;
+pub use crate::form::{Delay, Form, FormRow};
 pub use crate::lists::{Names, Places32};
 pub use crate::parts::Parts;
 pub use crate::shape::{Head, Shape};
@@ -14,6 +15,9 @@ pub const LAST: u64 = (1 << 63) - 1;
 mod copy;
 mod definitions;
 mod depth;
+mod form;
+pub mod form_laws;
+mod form_rows;
 pub mod laws;
 mod lists;
 mod make;

@@ -1,12 +1,12 @@
 //! The node of a form over streams, made from its parts.
 ghost use Rattle.std.specs.Prelude.{◌≡◌, ℕ, IfOk, length};
-ghost use Rattle.lucid_streams.specs.Forms.{part_count};
+ghost use Rattle.lucid_tree.specs.Forms.{part_count};
 ghost use Rattle.lucid_tree.specs.Lists.{trees_of};
 ghost use Rattle.lucid_tree.specs.Tree.{form, stream, tree, no_trees};
 ghost use Rattle.lucid_tree.specs.View.{tree_of};
 
+use crate::Form;
 use crate::tree::{Kind, Tree};
-use lucid_streams::Form;
 use std::alloc::{AllocError, Global};
 
 // The node of a form with its one part.

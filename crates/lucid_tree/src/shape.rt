@@ -5,10 +5,10 @@ ghost use Rattle.lucid_tree.specs.Shape.{shape_tree, FitsShape};
 ghost use Rattle.lucid_tree.specs.Size.{count};
 ghost use Rattle.lucid_tree.specs.Tree.{no_trees, tree};
 
+use crate::Form;
 use crate::parts::Parts;
 use crate::tree::{Defs, Kind, Tree, Trees};
 use lucid_ops::Op;
-use lucid_streams::Form;
 use lucid_value::{Name, Value};
 
 /// What a form is, apart from its parts.

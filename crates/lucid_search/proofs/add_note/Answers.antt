@@ -1,5 +1,5 @@
 use Rattle.lucid_search.proofs.Common.{ℕ, List, Option, Some, IsSome, cond, ◌==◌, ap, refl, ◌∙◌, option_and_then, lookup, number_in, same_site}
-use Rattle.lucid_lemmas.proofs.Options.{on_err}
+use Rattle.lucid_lists.proofs.Options.{on_err}
 use Rattle.lucid_search.proofs.NoteLemmas.{noted_from, same_from}
 use Rattle.lucid_search.proofs.add_note.Goals as goal
 

@@ -2,8 +2,8 @@
 ghost use Rattle.lucid_tree.specs.WellMade.{IsWellMade};
 
 use crate::trials::{TOO_DEEP, value_text};
-use lucid_plain::{Stream, approximation};
 use lucid_scope::Scoped;
+use lucid_test_programs::{Stream, approximation};
 use lucid_tree::Tree;
 use lucid_value::{Name, ReadRefusal, Value, read_value};
 use std::alloc::Global;

@@ -42,7 +42,7 @@ pub struct OverFiles<R: Retire, S: Pick> {
 impl<R: Retire, S: Pick> Model for OverFiles<R, S> {
     ghost use Rattle.std.specs.Prelude.{◌≡◌, ℕ};
     ghost use Rattle.lucid_ports.specs.MemoryView.{memory_world};
-    ghost use Rattle.lucid_facts.specs.Engine.{AreAskable};
+    ghost use Rattle.lucid_demand_steps.specs.Engine.{AreAskable};
 
     ghost Value = { ℕ };
 

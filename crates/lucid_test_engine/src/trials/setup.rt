@@ -3,7 +3,7 @@ ghost use Rattle.std.specs.Prelude.{◌≡◌, length, IfOk, OnOk};
 ghost use Rattle.lucid_ports.specs.MemoryView.{memory_world};
 ghost use Rattle.lucid_inputs.specs.Inputs.{streams};
 ghost use Rattle.lucid_equations.specs.Programs.{table_of};
-ghost use Rattle.lucid_facts.specs.Engine.{AreAskable};
+ghost use Rattle.lucid_demand_steps.specs.Engine.{AreAskable};
 
 use crate::trials::texts::scoped_of;
 use lucid_compile::compile;

@@ -1,6 +1,6 @@
 -- The table of forms is the list of forms, and a mark or a reserved word that isn't in it spells an operator.
 use Rattle.lucid_parse.proofs.Common.{◌≡◌, ℕ, List, Option, None, sym, ◌∙◌, ap, option_map, Operator, form_terminals, terminal_in, fixed_terminal, option_or}
-use Rattle.lucid_forms.specs.Operators.{spelled}
+use Rattle.lucid_parse.specs.Operators.{spelled}
 use Rattle.lucid_parse.specs.declared.terminal.Terminal.TheVariants as terminal
 use Rattle.lucid_parse.proofs.Spellings.{has_terminal}
 use Rattle.lucid_parse.proofs.spelling.fixed_terminal.Goals as goal

@@ -1,6 +1,6 @@
 use Rattle.lucid_top.proofs.Common.{◌≡◌, ◌∙◌, ◌++◌, ap, told}
-use Rattle.lucid_why.specs.WhyText.{why_text}
-use Rattle.lucid_why.specs.WhyTexts.{IsTextOf}
+use Rattle.lucid_cert_rules.specs.WhyText.{why_text}
+use Rattle.lucid_cert_rules.specs.WhyTexts.{IsTextOf}
 use Rattle.lucid_top.proofs.Ending.{as_text}
 use Rattle.lucid_top.proofs.making.write_why.Goals as goal
 

@@ -1,6 +1,6 @@
 use Rattle.lucid_top.proofs.Common.{◌≡◌, ◌<◌, ◌⊎◌, Ok, Err, refl, sym, subst, length, err_from_is_err_and, In, table_of, plain_words, told, OnTooLarge, viewed, table_program}
 use Rattle.lucid_inputs.specs.Inputs.{streams, most_bytes}
-use Rattle.lucid_facts.specs.Engine.{places_of}
+use Rattle.lucid_demand_steps.specs.Engine.{places_of}
 use Rattle.lucid_session.specs.Runs.{policy_view}
 use Rattle.lucid_top.specs.Runs.{under}
 use Rattle.lucid_top.proofs.Asking.{askable, places_are}

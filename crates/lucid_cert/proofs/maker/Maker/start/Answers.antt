@@ -1,7 +1,7 @@
 use Rattle.lucid_cert.proofs.Common.{List, ℕ, Some, refl, sym, ap, ◌∙◌, subst, arith, node_by, Node, PassesOn, IsForming, judgments_of, table_in, element_read, nothing_read, references_of, task_at}
 use Rattle.std.proofs.lemmas.Result.{on_ok_weaker}
 use Rattle.lucid_equations.specs.Ranges.{NodeNames, sizes}
-use Rattle.lucid_check.proofs.Following.{is_form}
+use Rattle.lucid_cert.proofs.Following.{is_form}
 use Rattle.lucid_cert.proofs.Forming.{forming_begins}
 use Rattle.lucid_cert.proofs.LookingOn.{has_begun}
 use Rattle.lucid_cert.proofs.StayingWanted.{input_refused, stays_refused}

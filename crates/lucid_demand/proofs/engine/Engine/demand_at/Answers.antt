@@ -1,5 +1,5 @@
 use Rattle.lucid_demand.proofs.Common.{sym, ap, subst, EngineView, IsSound, AreAskable, ReadsWithin, Evaluating, Demanded}
-use Rattle.lucid_facts.proofs.Reading.{inputs_within}
+use Rattle.lucid_demand_steps.proofs.Reading.{inputs_within}
 use Rattle.lucid_demand.proofs.Demanding.{demanded}
 use Rattle.lucid_demand.proofs.engine.Engine.demand_at.Goals as goal
 

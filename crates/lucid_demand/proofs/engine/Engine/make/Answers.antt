@@ -1,6 +1,6 @@
 use Rattle.lucid_demand.proofs.Common.{ap}
-use Rattle.lucid_facts.proofs.Reading.{inputs_apart}
-use Rattle.lucid_facts.proofs.Nothing.{nothing_is_sound}
+use Rattle.lucid_demand_steps.proofs.Reading.{inputs_apart}
+use Rattle.lucid_demand_steps.proofs.Nothing.{nothing_is_sound}
 use Rattle.lucid_demand.proofs.engine.Engine.make.Goals as goal
 
 pub invariant_of-result : goal.invariant_of-result

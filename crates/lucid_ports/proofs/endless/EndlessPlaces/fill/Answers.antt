@@ -1,5 +1,5 @@
 use Rattle.lucid_ports.proofs.Common.{◌≡◌, ◌<◌, length, option_map, IfSome, inr, refl, sym, ap, subst, ◌∙◌, arith, le_refl, slice_get_read, slice_get-set_same, slice_get-set_other, EndlessPlace, position_in, spot_of, endless_place, bytes_at}
-use Rattle.lucid_lemmas.proofs.Lists.{map-set_same}
+use Rattle.lucid_lists.proofs.Lists.{map-set_same}
 use Rattle.lucid_ports.specs.Endless.{next_bytes}
 use Rattle.lucid_ports.proofs.EndlessLemmas.{spot_of-turned, endless_shown, untold}
 use Rattle.lucid_ports.proofs.endless.EndlessPlaces.fill.Goals as goal

@@ -1,7 +1,7 @@
 use Rattle.std.proofs.Common.{◌≡◌, ◌<◌, length, inr, refl, sym, ap, ◌∙◌, arith, le_refl, Ok, inl}
 use Rattle.std.specs.Prelude.{IsErrOf}
 use Rattle.lucid_ports.specs.declared.fault.PortFault.TheVariants.{Failed}
-use Rattle.lucid_lemmas.proofs.Lists.{slice_get-set_other, slice_get-set_same}
+use Rattle.lucid_lists.proofs.Lists.{slice_get-set_other, slice_get-set_same}
 use Rattle.std.proofs.lemmas.Option.{slice_get_read}
 use Rattle.std.proofs.lemmas.List.{get_or-set_same}
 use Rattle.lucid_ports.specs.RealPlacesView.{real_place}

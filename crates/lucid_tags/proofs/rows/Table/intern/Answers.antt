@@ -1,6 +1,6 @@
 use Rattle.lucid_tags.proofs.Common.{◌≡◌, ◌∙◌, ◌<◌, ◌^◌, suc, sym, subst, ap, inr, length, arith, slice_get, context_at, contexts, row_context, AreRows}
 use Rattle.std.specs.Prelude.{◌++◌, ◌∷◌, [], Some}
-use Rattle.lucid_lemmas.proofs.Options.{on_err}
+use Rattle.lucid_lists.proofs.Options.{on_err}
 use Rattle.lucid_tags.proofs.ListLemmas.{inserted-present, inserted-absent}
 use Rattle.lucid_tags.proofs.RowLemmas.{length-contexts, length-depths, contexts-push, context_of-row, stored_row, added_context, addable, AreDepths-push, IsDepthOver, IsDepthOver-before, AreRows-push, fresh-none}
 use Rattle.lucid_tags.proofs.rows.Table.intern.Goals as goal

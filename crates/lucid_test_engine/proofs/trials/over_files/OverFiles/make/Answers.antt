@@ -1,6 +1,6 @@
 use Rattle.std.proofs.Common.{ap, sym, subst, ◌∙◌}
 use Rattle.lucid_ports.specs.MemoryView.{memory_world}
-use Rattle.lucid_facts.specs.Engine.{AreAskable}
+use Rattle.lucid_demand_steps.specs.Engine.{AreAskable}
 use Rattle.lucid_test_engine.proofs.trials.over_files.OverFiles.make.Goals as goal
 
 pub invariant_of-result : goal.invariant_of-result

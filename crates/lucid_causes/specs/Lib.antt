@@ -1,3 +1,0 @@
-pub mod Inputs
-pub mod Prompts
-pub mod Depths

@@ -1,8 +1,0 @@
-pub mod Common
-pub mod Using
-pub mod Feeding
-pub mod Drawing
-pub mod Judging
-pub mod Following
-pub mod Going
-pub mod RightOnes

@@ -1,5 +1,0 @@
-use Rattle.lucid_check.proofs.RightOnes.{right_is_not_wrong}
-use Rattle.lucid_check.proofs.laws.right_is_not_wrong.Goals as goal
-
-pub returns : goal.returns
-returns c = right_is_not_wrong

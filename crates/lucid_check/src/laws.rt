@@ -1,7 +1,0 @@
-//! The law of checks, as the contract of a function that does nothing.
-ghost use Rattle.lucid_check.specs.Laws.{RightIsNotWrong};
-
-/// A certificate that is right is found wrong nowhere.
-pub fn right_is_not_wrong()
-    ensures { RightIsNotWrong }
-{}

@@ -1,5 +1,0 @@
-use Rattle.lucid_decide.proofs.Common.{refl}
-use Rattle.lucid_decide.proofs.decision.Ready.ask.Goals as goal
-
-pub returns : goal.returns
-returns c = record { asked = c.at_point.result; is = refl; moved = c.at_point.ensures.task; known_tag = c.at_point.ensures.known }

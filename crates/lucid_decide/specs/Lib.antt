@@ -1,5 +1,0 @@
-pub mod Aims
-pub mod Justified
-pub mod Ready
-pub mod Searches
-pub mod Taken

@@ -1,0 +1,30 @@
+use Rattle.lucid_demand_steps.proofs.DecidingCommon.{ℕ, List, sym, ap, ◌∙◌, subst, node_by, NodeIsInRange, sizes}
+use Rattle.std.proofs.Common.{Some}
+use Rattle.lucid_equations.specs.Programs.{table_of}
+use Rattle.lucid_demand_steps.proofs.Deciding.{its_ready}
+use Rattle.lucid_demand_steps.proofs.FormNodes.{form_count, form_row, is_read}
+use Rattle.lucid_demand_steps.proofs.Leaves.{constant_decides}
+use Rattle.lucid_demand_steps.proofs.decision.decide.Goals as goal
+
+pub returns-in-Const : goal.returns-in-Const
+returns-in-Const g c = λ its there.
+    constant_decides c.args.tasks.now c.args.slot c.task-task.result c.in-Const.constant (table_of c.args.program.now) g.known its
+    (its_ready (table_of c.args.program.now) g.known c.args.tasks.now c.args.slot c.requires its there c.task-task.result c.task-task.ensures)
+    (c.node-node.ensures.row ∙ ap Some c.in-Const.is) (c.node-node.ensures.meaning ∙ ap (node_by (table_of c.args.program.now)) c.in-Const.is)
+    (subst (NodeIsInRange (sizes (table_of c.args.program.now)) c.task-task.result.node) c.in-Const.is c.node-node.ensures.in_range)
+
+pub stream-requires-clause-count : goal.stream-requires-clause-count
+stream-requires-clause-count g c = form_count (table_of c.args.program.now) c.node-node.result c.in-Some.form c.as_slice.result.now (sym c.in-Some.ensures ∙ ap (λ (xs : List ℕ). Some (c.in-Some.form, xs)) (sym c.as_slice.ensures))
+
+pub returns-in-Some : goal.returns-in-Some
+returns-in-Some g c = λ its there.
+    c.stream.ensures (table_of c.args.program.now) g.known its
+    (form_row (table_of c.args.program.now) g.known c.args.tasks.now c.args.slot c.task-task.result its c.node-node.result c.in-Some.form
+    c.as_slice.result.now
+    (its_ready (table_of c.args.program.now) g.known c.args.tasks.now c.args.slot c.requires its there c.task-task.result c.task-task.ensures)
+    c.node-node.ensures.row c.node-node.ensures.meaning (sym c.in-Some.ensures ∙ ap (λ (xs : List ℕ). Some (c.in-Some.form, xs)) (sym c.as_slice.ensures)))
+
+pub unreachable-requires-in-None : goal.unreachable-requires-in-None
+unreachable-requires-in-None g c =
+    is_read c.node-node.result c.in_default.not-Const c.in_default.not-Input c.in_default.not-Apply c.in_default.not-Freeze c.in_default.not-Refer
+    c.in_default.not-Call (sym c.in-None.ensures)

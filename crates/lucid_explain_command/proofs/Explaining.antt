@@ -1,0 +1,24 @@
+-- A call with a report in memory, and a report with its line.
+use Rattle.lucid_explain_command.proofs.Common.{◌≡◌, ℕ, List, [], subst, Text}
+use Rattle.lucid_ports.specs.Told.{Told}
+use Rattle.lucid_report.specs.declared.status.Status.{Status}
+use Rattle.lucid_top.specs.Call.{Call}
+use Rattle.lucid_top.specs.Clauses.{MeetsClauses}
+use Rattle.lucid_explain_command.specs.Files.{Files}
+use Rattle.lucid_explain_command.specs.Explained.{in_memory, Reports}
+
+-- the report is empty before the call
+pub begun_empty : (c : Call) (bytes : List ℕ) (faults : ℕ) (after : Told) (s : Status) → bytes ≡ [] → faults ≡ 0
+    → MeetsClauses c (in_memory bytes faults) after s
+    → MeetsClauses c (in_memory [] 0) after s
+begun_empty c bytes faults after s e f clauses =
+    let P : List ℕ → Type 0 = λ z. MeetsClauses c (in_memory z faults) after s in
+    let Q : ℕ → Type 0 = λ n. MeetsClauses c (in_memory [] n) after s in
+    subst Q f (subst P e clauses)
+
+-- a line that is another one is reported as that
+pub reported_as : (files : Files) (words : List Text) (line other : List ℕ) (before after : Told) → line ≡ other → Reports files words line before after
+    → Reports files words other before after
+reported_as files words line other before after e reports =
+    let P : List ℕ → Type 0 = λ z. Reports files words z before after in
+    subst P e reports

@@ -1,0 +1,145 @@
+//! The command, with what explains its report.
+ghost use Rattle.std.specs.Prelude.{◌≡◌, drop, map};
+ghost use Rattle.std.specs.String.{string_bytes};
+ghost use Rattle.lucid_words.specs.Asked.{words_asked};
+ghost use Rattle.lucid_top.specs.Call.{call};
+ghost use Rattle.lucid_ports.specs.Told.{told};
+ghost use Rattle.lucid_report.specs.Telling.{WritesLine};
+ghost use Rattle.lucid_explain_command.specs.Said.{IsExplanation};
+ghost use Rattle.lucid_explain_command.specs.Prompted.{IsPrompt};
+ghost use Rattle.lucid_explain_command.specs.Explained.{unsaid_text, WritesText, Prompts, Reports, IsExplained};
+
+use crate::causes::explain;
+use crate::outlook::Outlook;
+use crate::prompt::text_of_prompt;
+use lucid_ports::{MemorySink, Places, PortFault, Sink, write_whole};
+use lucid_report::Status;
+use lucid_top::lucid;
+use std::alloc::{AllocError, Global};
+
+// Writes a line whole.
+fn write_line<E: Sink>(report: &mut E, line: &[u8]) -> Result<(), PortFault>
+    ensures { WritesLine line.now result (told E.written E.faults report.old) (told E.written E.faults report.new) }
+{
+    write_whole(report, line)
+}
+
+// Says that there was no memory for what would be said.
+fn report_unsaid<E: Sink>(report: &mut E) -> Result<(), PortFault>
+    ensures { WritesLine unsaid_text result (told E.written E.faults report.old) (told E.written E.faults report.new) }
+{
+    write_line(report, b"There is not memory enough to explain this.\n")
+}
+
+// Reports what is said before the call, or that there was no memory for it.
+fn report_prompt<E: Sink, F: Outlook>(alloc: Global, words: &[String], outlook: &F, report: &mut E)
+    ensures { WritesText (IsPrompt (F.files outlook.now) (map string_bytes words.now)) (told E.written E.faults report.old) (told E.written E.faults report.new) }
+{
+    match text_of_prompt(alloc, words, outlook) {
+        Ok(text) => {
+            let _ = write_line(report, &text);
+        }
+        Err(_) => {
+            let _ = report_unsaid(report);
+        }
+    }
+}
+
+// Says what is read of the standard input, where that is a terminal.
+fn prompt_terminal<E: Sink, F: Outlook>(
+    alloc: Global,
+    words: &[String],
+    outlook: &F,
+    report: &mut E,
+)
+    ensures { Prompts (F.files outlook.now) (map string_bytes words.now) (F.terminal outlook.now) (told E.written E.faults report.old) (told E.written E.faults report.new) }
+{
+    if outlook.is_terminal() {
+        report_prompt(alloc, words, outlook, report);
+    }
+}
+
+// Reports what explains the line, or that there was no memory for it.
+fn report_cause<E: Sink, F: Outlook>(
+    alloc: Global,
+    words: &[String],
+    line: &[u8],
+    outlook: &F,
+    report: &mut E,
+)
+    ensures { WritesText (IsExplanation (F.files outlook.now) (map string_bytes words.now) line.now) (told E.written E.faults report.old) (told E.written E.faults report.new) }
+{
+    match explain(alloc, words, line, outlook) {
+        Ok(text) => {
+            let _ = write_line(report, &text);
+        }
+        Err(_) => {
+            let _ = report_unsaid(report);
+        }
+    }
+}
+
+// Reports the line of a call that ended so, and behind it what explains the line.
+fn report_call<E: Sink, F: Outlook>(
+    alloc: Global,
+    words: &[String],
+    line: &[u8],
+    outlook: &F,
+    report: &mut E,
+)
+    ensures { Reports (F.files outlook.now) (map string_bytes words.now) line.now (told E.written E.faults report.old) (told E.written E.faults report.new) }
+{
+    match write_line(report, line) {
+        Ok(()) => report_cause(alloc, words, line, outlook, report),
+        Err(_) => {}
+    }
+}
+
+/// Does what the command does with these words, and answers its status. It reports the command's line, and behind it what explains the line,
+/// for which files may be read again. Where the standard input is a terminal, it says before the call which input is read from there.
+pub fn lucid_explain<P: Places, K: Sink, E: Sink, F: Outlook>(
+    alloc: Global,
+    words: &[String],
+    places: &mut P,
+    outlook: &F,
+    out: &mut K,
+    report: &mut E,
+) -> Status
+    requires { (P.world places.old).reached ≡ 0 }
+    ensures { IsExplained (F.files outlook.now) (F.terminal outlook.now) (map string_bytes words.now)
+        (call (words_asked (map string_bytes words.now)) (P.world places.old) (P.world places.new) (told K.written K.faults out.old) (told K.written K.faults out.new))
+        (told E.written E.faults report.old) (told E.written E.faults report.new) result }
+{
+    let mut line = MemorySink::make(alloc, usize::MAX, Vec::new(alloc));
+    prompt_terminal(alloc, words, outlook, report);
+    let status = lucid(alloc, words, places, out, &mut line);
+    report_call(alloc, words, line.written(), outlook, report);
+    status
+}
+
+// The words after the command's own name.
+fn words_of(arguments: &[String]) -> &[String]
+    ensures { result.now ≡ drop 1 arguments.now }
+{
+    match arguments {
+        [_, words @ ..] => words,
+        [] => &[],
+    }
+}
+
+/// The same by all arguments of a command line, of which the first is the command's own name.
+pub fn lucid_explain_from_arguments<P: Places, K: Sink, E: Sink, F: Outlook>(
+    alloc: Global,
+    arguments: &[String],
+    places: &mut P,
+    outlook: &F,
+    out: &mut K,
+    report: &mut E,
+) -> Status
+    requires { (P.world places.old).reached ≡ 0 }
+    ensures { IsExplained (F.files outlook.now) (F.terminal outlook.now) (map string_bytes (drop 1 arguments.now))
+        (call (words_asked (map string_bytes (drop 1 arguments.now))) (P.world places.old) (P.world places.new) (told K.written K.faults out.old) (told K.written K.faults out.new))
+        (told E.written E.faults report.old) (told E.written E.faults report.new) result }
+{
+    lucid_explain(alloc, words_of(arguments), places, outlook, out, report)
+}

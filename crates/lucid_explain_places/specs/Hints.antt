@@ -1,0 +1,238 @@
+-- What was probably meant at a place where the tokens go wrong: by the tokens about it, and by those that may stand there. Of the hints the first
+-- that fits is said.
+use Rattle.std.specs.Prelude.{ℕ, List, [], ◌∷◌, length, map, take, Bool, false, not, ◌&&◌, ◌||◌, ◌==◌, codes, if◌then◌else◌}
+use Rattle.std.specs.List.{list_any, prefix_len}
+use Rattle.std.specs.Char.{is_ascii_alphabetic, is_ascii_digit, to_ascii_lowercase}
+use Rattle.lucid_value.specs.Plain.{same_bytes}
+use Rattle.lucid_value.specs.Names.{is_reserved}
+use Rattle.lucid_explain_places.specs.declared.candidates.Candidate.{Candidate}
+use Rattle.lucid_explain_places.specs.Positions.{ends_line, stands_in_line}
+use Rattle.lucid_explain_places.specs.Around.{PlainAround}
+
+-- a token with this text may stand at the place
+abbrev pub has : (text : List ℕ) → List Candidate → Bool
+has text those = list_any (λ c. same_bytes c.text.now text) those
+
+-- a definition, an `if` or a parenthesis is open, and what ends it or goes on with it may stand there
+abbrev pub is_open : List Candidate → Bool
+is_open those =
+    has (codes ";") those || has (codes "then") those || has (codes "else") those || has (codes "fi") those || has (codes ")") those || has (codes ",") those
+
+-- an expression ends before the place, and nothing is open: so the program may end there
+abbrev pub is_whole : List Candidate → Bool
+is_whole those = has (codes "where") those && not (is_open those)
+
+-- what ends an expression, or the end of the source
+abbrev pub is_closing : List ℕ → Bool
+is_closing read = list_any (same_bytes read) (codes ";" ∷ codes "end" ∷ codes ")" ∷ codes "," ∷ codes "fi" ∷ [] ∷ [])
+
+abbrev pub is_comparison : List ℕ → Bool
+is_comparison read = list_any (same_bytes read) (codes "<" ∷ codes ">" ∷ codes "<=" ∷ codes ">=" ∷ codes "eq" ∷ codes "ne" ∷ [])
+
+-- how other languages write `else if`
+abbrev pub is_elif : List ℕ → Bool
+is_elif read = same_bytes read (codes "elif") || same_bytes read (codes "elsif") || same_bytes read (codes "elseif")
+
+-- what other languages write before a `=` that changes a value
+abbrev pub is_step : List ℕ → Bool
+is_step read = list_any (same_bytes read) (codes "+" ∷ codes "-" ∷ codes "*" ∷ [])
+
+-- the words behind which an expression stands, and which are no operators
+abbrev pub is_part_word : List ℕ → Bool
+is_part_word read =
+    same_bytes read (codes "if") || same_bytes read (codes "then") || same_bytes read (codes "else") || same_bytes read (codes "current")
+
+-- an operator that is a reserved word, behind which an expression may stand
+abbrev pub lacks_operand : (before : List ℕ) → List Candidate → Bool
+lacks_operand before those = has (codes "1") those && is_reserved before && not (is_part_word before)
+
+-- a reserved word but for capital letters
+abbrev pub is_capital : List ℕ → Bool
+is_capital text = is_reserved (map to_ascii_lowercase text) && not (is_reserved text)
+
+abbrev pub begins_with : (ℕ → Bool) → List ℕ → Bool
+begins_with fits [] = false
+begins_with fits (b ∷ bs) = fits b
+
+-- a number, and directly behind it a name
+abbrev pub is_product : PlainAround → Bool
+is_product a = length a.gap == 0 && begins_with is_ascii_digit a.before && begins_with is_ascii_alphabetic a.read && not (is_reserved a.read)
+
+-- A line ends there; or a byte 13; or a comment begins in the line of the token before.
+abbrev pub breaks_line : List ℕ → Bool
+breaks_line gap = list_any ends_line gap
+
+abbrev pub has_return : List ℕ → Bool
+has_return gap = list_any (λ b. b == 13) gap
+
+abbrev pub has_comment : List ℕ → Bool
+has_comment gap = list_any (λ b. b == 47) (take (prefix_len stands_in_line gap) gap)
+
+-- a comment that goes on past a byte 13, to the end of the source
+abbrev pub is_swallowed : (gap : List ℕ) → Bool
+is_swallowed gap = has_comment gap && has_return gap && not (breaks_line gap)
+
+-- behind a parameter
+abbrev pub is_behind_parameter : List Candidate → Bool
+is_behind_parameter those = has (codes ")") those && not (has (codes "+") those)
+
+-- a parenthesis that is open
+abbrev pub open_hint : (read : List ℕ) → List ℕ
+open_hint read =
+    if same_bytes read (codes ",") then codes "Parentheses that are no call have one expression in them: a list is `x :: y :: []`.\n"
+    else codes "A `(` stands open before this: its `)` is missing.\n"
+
+-- what ends nothing, where the program may end
+abbrev pub whole_hint : (read : List ℕ) → List ℕ
+whole_hint read =
+    if same_bytes read (codes ")") then codes "Before this no `(` is open: leave it out.\n"
+    else if same_bytes read (codes ",") then codes "A program has one subject. Names of its block are written side by side by `--columns x,y`.\n"
+    else codes "Before this the program is whole: leave out what stands behind.\n"
+
+-- of a `=` alone
+abbrev pub alone_hint : (read : List ℕ) → List Candidate → List ℕ
+alone_hint read those =
+    if is_whole those then codes "A program begins with an expression, and its definitions stand behind `where`: `n where n = 1; end`. To compare, write `eq`.\n"
+    else if is_behind_parameter those then open_hint read
+    else codes "`=` stands in definitions alone: to compare, write `eq`.\n"
+
+-- of a `=`
+abbrev pub equals_hint : PlainAround → List Candidate → List ℕ
+equals_hint a those =
+    if same_bytes a.after (codes ">") then codes "To compare, write `>=`.\n"
+    else if same_bytes a.after (codes "<") then codes "To compare, write `<=`.\n"
+    else alone_hint a.read those
+
+-- in a definition
+abbrev pub definition_hint : (read : List ℕ) → List Candidate → List ℕ
+definition_hint read those =
+    if has (codes ";") those then codes "Each definition ends with `;`, the last one before `end` too.\n"
+    else if is_closing read && has (codes "end") those then codes "Behind `where` come the definitions, and then `end`.\n"
+    else if has (codes "end") those && is_reserved read then codes "This word is reserved: no name is spelled so.\n"
+    else []
+
+-- of a `;` that lacks at the end of a line
+abbrev pub line_hint : (gap : List ℕ) → List ℕ
+line_hint gap =
+    if has_comment gap then codes "Is the `;` missing at the end of the line before? A comment begins there with `//`: whole division is `div`.\n"
+    else codes "Is the `;` missing at the end of the line before?\n"
+
+-- behind a name, and before no `=`: an argument was meant
+abbrev pub is_argument : PlainAround → List Candidate → Bool
+is_argument a those = has (codes "(") those && not (has (codes "1") those) && not (same_bytes a.after (codes "="))
+
+-- behind a block that may be the whole program
+abbrev pub is_ended : PlainAround → List Candidate → Bool
+is_ended a those = is_whole those && same_bytes a.before (codes "end")
+
+-- before a definition, where none may stand
+abbrev pub is_defining : PlainAround → List Candidate → Bool
+is_defining a those = is_whole those && (breaks_line a.gap || same_bytes a.after (codes "="))
+
+-- of a token that lacks before the place
+abbrev pub lacking_hint : PlainAround → List Candidate → List ℕ
+lacking_hint a those =
+    if has (codes ";") those && breaks_line a.gap then line_hint a.gap
+    else if is_ended a those then whole_hint a.read
+    else if is_defining a those then codes "Is `where` missing before the definitions?\n"
+    else if has (codes "then") those then codes "Behind the test of an `if` stands `then`.\n"
+    else if is_argument a those then codes "Is an operator or `where` missing before this? Arguments stand in parentheses: `f(x)`.\n"
+    else definition_hint a.read those
+
+-- where an expression ends that may not end there, or the program goes on that may end
+abbrev pub closing_hint : (read : List ℕ) → List Candidate → List ℕ
+closing_hint read those =
+    if has (codes "fi") those then codes "Each `if` ends with a `fi` of its own.\n"
+    else if has (codes "else") those then codes "An `if` has an `else`, and ends with `fi`.\n"
+    else if has (codes ")") those then open_hint read
+    else if is_whole those then whole_hint read
+    else definition_hint read those
+
+abbrev pub end_hint : PlainAround → List Candidate → List ℕ
+end_hint a those =
+    if lacks_operand a.before those then codes "The word before this is an operator, behind which an expression stands. It is reserved: no name is spelled so.\n"
+    else if is_closing a.read then closing_hint a.read those
+    else lacking_hint a those
+
+-- behind the name of a definition
+abbrev pub head_hint : PlainAround → List ℕ
+head_hint a =
+    if is_step a.read && same_bytes a.after (codes "=") then codes "A name is defined once, for all times: `n = 0 fby n + 1;`.\n"
+    else if same_bytes a.read (codes "-") then codes "A name has letters, digits and `_` alone.\n"
+    else codes "A definition begins with the name that it defines, and then `=`: `n = 1;`.\n"
+
+-- before the first token
+abbrev pub first_hint : PlainAround → List ℕ
+first_hint a =
+    if length a.read == 0 && is_swallowed a.gap then codes "A comment goes on to a byte 10: here a byte 13 alone ends the lines.\n"
+    else codes "A program begins with an expression, and its definitions stand behind `where`: `n where n = 1; end`.\n"
+
+-- the parameters of a function stand there
+abbrev pub is_parameter : List Candidate → Bool
+is_parameter those = has (codes "x") those && not (has (codes "1") those || has (codes "end") those)
+
+abbrev pub parameter_hint : (read : List ℕ) → List ℕ
+parameter_hint read =
+    if is_reserved read then codes "This word is reserved: no name is spelled so.\n"
+    else codes "A parameter is a name. A value that depends on it is written with `if`.\n"
+
+-- by where the place stands
+abbrev pub place_hint : PlainAround → List Candidate → List ℕ
+place_hint a those =
+    if length a.before == 0 then first_hint a
+    else if has (codes "is") those then head_hint a
+    else if is_parameter those then parameter_hint a.read
+    else end_hint a those
+
+-- by the token before
+abbrev pub behind_hint : PlainAround → List Candidate → List ℕ
+behind_hint a those =
+    if same_bytes a.before (codes "is") then codes "Behind `is` stands `current`: a definition is written with `=`.\n"
+    else if same_bytes a.before (codes "return") then codes "There is no `return`: the right side of `=` is the value.\n"
+    else if is_product a then codes "A product is written with `*`, as in `2 * n`.\n"
+    else place_hint a those
+
+-- by both
+abbrev pub are_both : PlainAround → (before read : List ℕ) → Bool
+are_both a before read = same_bytes a.before before && same_bytes a.read read
+
+abbrev pub pair_hint : PlainAround → List Candidate → List ℕ
+pair_hint a those =
+    if are_both a (codes "+") (codes "+") then codes "There is no `++`: write `n + 1`.\n"
+    else if are_both a (codes "(") (codes ")") then codes "A function has one argument at least: what has none is a plain name, without parentheses.\n"
+    else behind_hint a those
+
+-- by the token itself: it is the word, and another one may stand there
+abbrev pub reads : (read word other : List ℕ) → List Candidate → Bool
+reads read word other those = same_bytes read word && has other those
+
+abbrev pub continues : (read : List ℕ) → List Candidate → Bool
+continues read those = is_elif read && has (codes "else") those
+
+abbrev pub chains : (read : List ℕ) → List Candidate → Bool
+chains read those = is_comparison read && has (codes "+") those
+
+abbrev pub word_hint : PlainAround → List Candidate → List ℕ
+word_hint a those =
+    if reads a.read (codes "if") (codes "where") those then codes "A choice is written `if .. then .. else .. fi`.\n"
+    else if continues a.read those then codes "Write `else if .. then .. else .. fi fi`: each `if` ends with a `fi` of its own.\n"
+    else if reads a.read (codes "-") (codes "end") those then codes "A comment begins with `//`.\n"
+    else pair_hint a those
+
+-- of an operator
+abbrev pub operator_hint : PlainAround → List Candidate → List ℕ
+operator_hint a those =
+    if chains a.read those then codes "Comparisons don't chain: write `1 < n and n < 5`.\n"
+    else if reads a.read (codes "not") (codes "1") those then codes "Here `not` stands in parentheses, as in `a eq (not b)`.\n"
+    else word_hint a those
+
+abbrev pub token_hint : PlainAround → List Candidate → List ℕ
+token_hint a those =
+    if same_bytes a.read (codes "=") then equals_hint a those
+    else if same_bytes a.read (codes "current") then codes "Write `k is current n;`, without `=`.\n"
+    else operator_hint a those
+
+abbrev pub hint : PlainAround → List Candidate → List ℕ
+hint a those =
+    if is_capital a.before || is_capital a.read then codes "Reserved words are spelled in small letters, as `where` and `if`.\n"
+    else token_hint a those

@@ -1,0 +1,468 @@
+//! What was probably meant at a place where the tokens go wrong.
+ghost use Rattle.std.specs.Prelude.{◌≡◌, ◌==◌, ℕ, ◌||◌, IfOk};
+ghost use Rattle.std.specs.Char.{is_ascii_alphabetic, is_ascii_digit};
+ghost use Rattle.lucid_explain_places.specs.Around.{plain_around};
+ghost use Rattle.lucid_explain_places.specs.Hints.{has, is_open, is_whole, is_closing, is_comparison, is_elif, is_step, is_part_word, lacks_operand, is_capital, begins_with, is_product, breaks_line, has_return, has_comment, is_swallowed, is_behind_parameter, open_hint, whole_hint, alone_hint, equals_hint, line_hint, is_argument, definition_hint, is_ended, is_defining, lacking_hint, closing_hint, end_hint, head_hint, first_hint, is_parameter, parameter_hint, place_hint, behind_hint, are_both, pair_hint, reads, continues, chains, word_hint, operator_hint, token_hint, hint};
+
+use crate::around::Around;
+use crate::candidates::Candidate;
+use crate::shown::len_in_line;
+use lucid_value::is_reserved;
+use std::alloc::{AllocError, Global};
+
+// Whether a token with the text may stand at the place.
+fn has(text: &[u8], those: &[Candidate]) -> bool
+    ensures { result ≡ has text.now those.now }
+{
+    those.iter().any(|candidate| candidate.text == text)
+}
+
+// Whether a definition, an `if` or a parenthesis is open, and what ends it or goes on with it may stand there.
+fn is_open(those: &[Candidate]) -> bool
+    ensures { result ≡ is_open those.now }
+{
+    has(b";", those)
+        || has(b"then", those)
+        || has(b"else", those)
+        || has(b"fi", those)
+        || has(b")", those)
+        || has(b",", those)
+}
+
+// Whether an expression ends before the place, and nothing is open.
+fn is_whole(those: &[Candidate]) -> bool
+    ensures { result ≡ is_whole those.now }
+{
+    has(b"where", those) && !is_open(those)
+}
+
+// Whether this ends an expression, or is the end of the source.
+fn is_closing(read: &[u8]) -> bool
+    ensures { result ≡ is_closing read.now }
+{
+    matches!(read, b";" | b"end" | b")" | b"," | b"fi" | b"")
+}
+
+fn is_comparison(read: &[u8]) -> bool
+    ensures { result ≡ is_comparison read.now }
+{
+    matches!(read, b"<" | b">" | b"<=" | b">=" | b"eq" | b"ne")
+}
+
+// Whether this is how other languages write `else if`.
+fn is_elif(read: &[u8]) -> bool
+    ensures { result ≡ is_elif read.now }
+{
+    read == b"elif".as_slice() || read == b"elsif".as_slice() || read == b"elseif".as_slice()
+}
+
+// Whether other languages write this before a `=` that changes a value.
+fn is_step(read: &[u8]) -> bool
+    ensures { result ≡ is_step read.now }
+{
+    matches!(read, b"+" | b"-" | b"*")
+}
+
+// Whether an expression stands behind the word, and it is no operator.
+fn is_part_word(read: &[u8]) -> bool
+    ensures { result ≡ is_part_word read.now }
+{
+    read == b"if".as_slice()
+        || read == b"then".as_slice()
+        || read == b"else".as_slice()
+        || read == b"current".as_slice()
+}
+
+// Whether this is a reserved word and an operator, behind which an expression may stand.
+fn lacks_operand(before: &[u8], those: &[Candidate]) -> bool
+    ensures { result ≡ lacks_operand before.now those.now }
+{
+    has(b"1", those) && is_reserved(before) && !is_part_word(before)
+}
+
+// Whether this is a reserved word but for capital letters.
+fn is_capital(alloc: Global, text: &[u8]) -> Result<bool, AllocError>
+    ensures { IfOk result (λ b. b ≡ is_capital text.now) }
+{
+    let small = text.to_ascii_lowercase(alloc)?;
+    Ok(is_reserved(&small) && !is_reserved(text))
+}
+
+// Whether this begins with a digit.
+fn begins_number(text: &[u8]) -> bool
+    ensures { result ≡ begins_with is_ascii_digit text.now }
+{
+    match text {
+        [] => false,
+        [first, ..] => first.is_ascii_digit(),
+    }
+}
+
+// Whether this begins with a letter.
+fn begins_name(text: &[u8]) -> bool
+    ensures { result ≡ begins_with is_ascii_alphabetic text.now }
+{
+    match text {
+        [] => false,
+        [first, ..] => first.is_ascii_alphabetic(),
+    }
+}
+
+// Whether this is a number, and directly behind it a name.
+fn is_product(around: &Around<'_>) -> bool
+    ensures { result ≡ is_product (plain_around around.now) }
+{
+    around.gap.is_empty()
+        && begins_number(around.before)
+        && begins_name(around.read)
+        && !is_reserved(around.read)
+}
+
+// Whether a line ends there.
+fn breaks_line(gap: &[u8]) -> bool
+    ensures { result ≡ breaks_line gap.now }
+{
+    gap.iter().any(|byte| *byte == b'\n')
+}
+
+// Whether a byte 13 stands there.
+fn has_return(gap: &[u8]) -> bool
+    ensures { result ≡ has_return gap.now }
+{
+    gap.iter().any(|byte| *byte == b'\r')
+}
+
+// Whether a comment begins there in the line of the token before.
+fn has_comment(gap: &[u8]) -> bool
+    ensures { result ≡ has_comment gap.now }
+{
+    gap[..len_in_line(gap)].iter().any(|byte| *byte == b'/')
+}
+
+// Whether a comment begins there that goes on to the end of the source, past a byte 13.
+fn is_swallowed(gap: &[u8]) -> bool
+    ensures { result ≡ is_swallowed gap.now }
+{
+    has_comment(gap) && has_return(gap) && !breaks_line(gap)
+}
+
+// Whether this stands behind a parameter.
+fn is_behind_parameter(those: &[Candidate]) -> bool
+    ensures { result ≡ is_behind_parameter those.now }
+{
+    has(b")", those) && !has(b"+", those)
+}
+
+// A hint where a parenthesis is open.
+fn open_hint(read: &[u8]) -> &'static [u8]
+    ensures { result.now ≡ open_hint read.now }
+{
+    if read == b",".as_slice() {
+        b"Parentheses that are no call have one expression in them: a list is `x :: y :: []`.\n"
+    } else {
+        b"A `(` stands open before this: its `)` is missing.\n"
+    }
+}
+
+// A hint at what ends nothing, where the program may end.
+fn whole_hint(read: &[u8]) -> &'static [u8]
+    ensures { result.now ≡ whole_hint read.now }
+{
+    if read == b")".as_slice() {
+        b"Before this no `(` is open: leave it out.\n"
+    } else if read == b",".as_slice() {
+        b"A program has one subject. Names of its block are written side by side by `--columns x,y`.\n"
+    } else {
+        b"Before this the program is whole: leave out what stands behind.\n"
+    }
+}
+
+// A hint at a `=` alone.
+fn alone_hint(read: &[u8], those: &[Candidate]) -> &'static [u8]
+    ensures { result.now ≡ alone_hint read.now those.now }
+{
+    if is_whole(those) {
+        b"A program begins with an expression, and its definitions stand behind `where`: `n where n = 1; end`. To compare, write `eq`.\n"
+    } else if is_behind_parameter(those) {
+        open_hint(read)
+    } else {
+        b"`=` stands in definitions alone: to compare, write `eq`.\n"
+    }
+}
+
+// A hint at a `=`.
+fn equals_hint(around: &Around<'_>, those: &[Candidate]) -> &'static [u8]
+    ensures { result.now ≡ equals_hint (plain_around around.now) those.now }
+{
+    if around.after == b">".as_slice() {
+        b"To compare, write `>=`.\n"
+    } else if around.after == b"<".as_slice() {
+        b"To compare, write `<=`.\n"
+    } else {
+        alone_hint(around.read, those)
+    }
+}
+
+// A hint in a definition.
+fn definition_hint(read: &[u8], those: &[Candidate]) -> &'static [u8]
+    ensures { result.now ≡ definition_hint read.now those.now }
+{
+    if has(b";", those) {
+        b"Each definition ends with `;`, the last one before `end` too.\n"
+    } else if is_closing(read) && has(b"end", those) {
+        b"Behind `where` come the definitions, and then `end`.\n"
+    } else if has(b"end", those) && is_reserved(read) {
+        b"This word is reserved: no name is spelled so.\n"
+    } else {
+        b""
+    }
+}
+
+// A hint at a `;` that lacks at the end of a line.
+fn line_hint(gap: &[u8]) -> &'static [u8]
+    ensures { result.now ≡ line_hint gap.now }
+{
+    if has_comment(gap) {
+        b"Is the `;` missing at the end of the line before? A comment begins there with `//`: whole division is `div`.\n"
+    } else {
+        b"Is the `;` missing at the end of the line before?\n"
+    }
+}
+
+// Whether this stands behind a name, and before no `=`: an argument was meant.
+fn is_argument(around: &Around<'_>, those: &[Candidate]) -> bool
+    ensures { result ≡ is_argument (plain_around around.now) those.now }
+{
+    has(b"(", those) && !has(b"1", those) && around.after != b"=".as_slice()
+}
+
+// Whether this stands behind a block that may be the whole program.
+fn is_ended(around: &Around<'_>, those: &[Candidate]) -> bool
+    ensures { result ≡ is_ended (plain_around around.now) those.now }
+{
+    is_whole(those) && around.before == b"end".as_slice()
+}
+
+// Whether a definition stands there, where none may stand.
+fn is_defining(around: &Around<'_>, those: &[Candidate]) -> bool
+    ensures { result ≡ is_defining (plain_around around.now) those.now }
+{
+    is_whole(those) && (breaks_line(around.gap) || around.after == b"=".as_slice())
+}
+
+// A hint at a token that lacks before the place.
+fn lacking_hint(around: &Around<'_>, those: &[Candidate]) -> &'static [u8]
+    ensures { result.now ≡ lacking_hint (plain_around around.now) those.now }
+{
+    if has(b";", those) && breaks_line(around.gap) {
+        line_hint(around.gap)
+    } else if is_ended(around, those) {
+        whole_hint(around.read)
+    } else if is_defining(around, those) {
+        b"Is `where` missing before the definitions?\n"
+    } else if has(b"then", those) {
+        b"Behind the test of an `if` stands `then`.\n"
+    } else if is_argument(around, those) {
+        b"Is an operator or `where` missing before this? Arguments stand in parentheses: `f(x)`.\n"
+    } else {
+        definition_hint(around.read, those)
+    }
+}
+
+// A hint where an expression ends that may not end there, or the program goes on that may end.
+fn closing_hint(read: &[u8], those: &[Candidate]) -> &'static [u8]
+    ensures { result.now ≡ closing_hint read.now those.now }
+{
+    if has(b"fi", those) {
+        b"Each `if` ends with a `fi` of its own.\n"
+    } else if has(b"else", those) {
+        b"An `if` has an `else`, and ends with `fi`.\n"
+    } else if has(b")", those) {
+        open_hint(read)
+    } else if is_whole(those) {
+        whole_hint(read)
+    } else {
+        definition_hint(read, those)
+    }
+}
+
+// A hint where an operand lacks, something ends, or a token lacks.
+fn end_hint(around: &Around<'_>, those: &[Candidate]) -> &'static [u8]
+    ensures { result.now ≡ end_hint (plain_around around.now) those.now }
+{
+    if lacks_operand(around.before, those) {
+        b"The word before this is an operator, behind which an expression stands. It is reserved: no name is spelled so.\n"
+    } else if is_closing(around.read) {
+        closing_hint(around.read, those)
+    } else {
+        lacking_hint(around, those)
+    }
+}
+
+// A hint behind the name of a definition.
+fn head_hint(around: &Around<'_>) -> &'static [u8]
+    ensures { result.now ≡ head_hint (plain_around around.now) }
+{
+    if is_step(around.read) && around.after == b"=".as_slice() {
+        b"A name is defined once, for all times: `n = 0 fby n + 1;`.\n"
+    } else if around.read == b"-".as_slice() {
+        b"A name has letters, digits and `_` alone.\n"
+    } else {
+        b"A definition begins with the name that it defines, and then `=`: `n = 1;`.\n"
+    }
+}
+
+// A hint before the first token.
+fn first_hint(around: &Around<'_>) -> &'static [u8]
+    ensures { result.now ≡ first_hint (plain_around around.now) }
+{
+    if around.read.is_empty() && is_swallowed(around.gap) {
+        b"A comment goes on to a byte 10: here a byte 13 alone ends the lines.\n"
+    } else {
+        b"A program begins with an expression, and its definitions stand behind `where`: `n where n = 1; end`.\n"
+    }
+}
+
+// Whether the parameters of a function stand there.
+fn is_parameter(those: &[Candidate]) -> bool
+    ensures { result ≡ is_parameter those.now }
+{
+    has(b"x", those) && !(has(b"1", those) || has(b"end", those))
+}
+
+// A hint at a parameter.
+fn parameter_hint(read: &[u8]) -> &'static [u8]
+    ensures { result.now ≡ parameter_hint read.now }
+{
+    if is_reserved(read) {
+        b"This word is reserved: no name is spelled so.\n"
+    } else {
+        b"A parameter is a name. A value that depends on it is written with `if`.\n"
+    }
+}
+
+// A hint by where the place stands.
+fn place_hint(around: &Around<'_>, those: &[Candidate]) -> &'static [u8]
+    ensures { result.now ≡ place_hint (plain_around around.now) those.now }
+{
+    if around.before.is_empty() {
+        first_hint(around)
+    } else if has(b"is", those) {
+        head_hint(around)
+    } else if is_parameter(those) {
+        parameter_hint(around.read)
+    } else {
+        end_hint(around, those)
+    }
+}
+
+// A hint by the token before.
+fn behind_hint(around: &Around<'_>, those: &[Candidate]) -> &'static [u8]
+    ensures { result.now ≡ behind_hint (plain_around around.now) those.now }
+{
+    if around.before == b"is".as_slice() {
+        b"Behind `is` stands `current`: a definition is written with `=`.\n"
+    } else if around.before == b"return".as_slice() {
+        b"There is no `return`: the right side of `=` is the value.\n"
+    } else if is_product(around) {
+        b"A product is written with `*`, as in `2 * n`.\n"
+    } else {
+        place_hint(around, those)
+    }
+}
+
+// Whether these are the token before the place and the one at it.
+fn are_both(around: &Around<'_>, before: &[u8], read: &[u8]) -> bool
+    ensures { result ≡ are_both (plain_around around.now) before.now read.now }
+{
+    around.before == before && around.read == read
+}
+
+// A hint by both.
+fn pair_hint(around: &Around<'_>, those: &[Candidate]) -> &'static [u8]
+    ensures { result.now ≡ pair_hint (plain_around around.now) those.now }
+{
+    if are_both(around, b"+", b"+") {
+        b"There is no `++`: write `n + 1`.\n"
+    } else if are_both(around, b"(", b")") {
+        b"A function has one argument at least: what has none is a plain name, without parentheses.\n"
+    } else {
+        behind_hint(around, those)
+    }
+}
+
+// Whether this is the word, and the other one may stand there.
+fn reads(read: &[u8], word: &[u8], other: &[u8], those: &[Candidate]) -> bool
+    ensures { result ≡ reads read.now word.now other.now those.now }
+{
+    read == word && has(other, those)
+}
+
+// Whether an `else` may stand where this stands for `else if`.
+fn continues(read: &[u8], those: &[Candidate]) -> bool
+    ensures { result ≡ continues read.now those.now }
+{
+    is_elif(read) && has(b"else", those)
+}
+
+// Whether this compares what is compared already.
+fn chains(read: &[u8], those: &[Candidate]) -> bool
+    ensures { result ≡ chains read.now those.now }
+{
+    is_comparison(read) && has(b"+", those)
+}
+
+// A hint by the token, where it is a word.
+fn word_hint(around: &Around<'_>, those: &[Candidate]) -> &'static [u8]
+    ensures { result.now ≡ word_hint (plain_around around.now) those.now }
+{
+    if reads(around.read, b"if", b"where", those) {
+        b"A choice is written `if .. then .. else .. fi`.\n"
+    } else if continues(around.read, those) {
+        b"Write `else if .. then .. else .. fi fi`: each `if` ends with a `fi` of its own.\n"
+    } else if reads(around.read, b"-", b"end", those) {
+        b"A comment begins with `//`.\n"
+    } else {
+        pair_hint(around, those)
+    }
+}
+
+// A hint by the token, where it is an operator.
+fn operator_hint(around: &Around<'_>, those: &[Candidate]) -> &'static [u8]
+    ensures { result.now ≡ operator_hint (plain_around around.now) those.now }
+{
+    if chains(around.read, those) {
+        b"Comparisons don't chain: write `1 < n and n < 5`.\n"
+    } else if reads(around.read, b"not", b"1", those) {
+        b"Here `not` stands in parentheses, as in `a eq (not b)`.\n"
+    } else {
+        word_hint(around, those)
+    }
+}
+
+// A hint by the token.
+fn token_hint(around: &Around<'_>, those: &[Candidate]) -> &'static [u8]
+    ensures { result.now ≡ token_hint (plain_around around.now) those.now }
+{
+    if around.read == b"=".as_slice() {
+        equals_hint(around, those)
+    } else if around.read == b"current".as_slice() {
+        b"Write `k is current n;`, without `=`.\n"
+    } else {
+        operator_hint(around, those)
+    }
+}
+
+/// What was probably meant at the place.
+pub(crate) fn hint(
+    alloc: Global,
+    around: &Around<'_>,
+    those: &[Candidate],
+) -> Result<&'static [u8], AllocError>
+    ensures { IfOk result (λ text. text.now ≡ hint (plain_around around.now) those.now) }
+{
+    if is_capital(alloc, around.before)? || is_capital(alloc, around.read)? {
+        return Ok(b"Reserved words are spelled in small letters, as `where` and `if`.\n");
+    }
+    Ok(token_hint(around, those))
+}

@@ -1,0 +1,4 @@
+pub mod Flat
+pub mod First
+pub mod Finding
+pub mod Standing

@@ -1,0 +1,19 @@
+//! Explanations of what the command reports of a program that compiles: inputs that have no file, values that are too deep, and judgments of
+//! a certificate that don't follow, each with its piece of the source.
+#![tactic(auto)]
+
+pub use crate::depth::explain_depth;
+pub use crate::find::part_at;
+pub use crate::inputs::{Lacking, explain_inputs};
+pub use crate::judgment::explain_judgment;
+pub use crate::prompt::explain_prompt;
+
+mod depth;
+mod find;
+mod inputs;
+mod judgment;
+pub mod laws;
+pub mod piece_laws;
+mod prompt;
+mod rows;
+mod words;

@@ -1,0 +1,75 @@
+-- What is said of bytes that are no token, with what was probably meant.
+use Rattle.std.specs.Prelude.{ℕ, Bool, List, ◌++◌, take, drop, slice_index, codes, ◌==◌, ◌||◌, nat_lt, if◌then◌else◌}
+use Rattle.std.specs.List.{suffix_len}
+use Rattle.lucid_value.specs.Names.{is_name_byte}
+use Rattle.lucid_scan.specs.declared.refusal.ScanRefusal.{ScanRefusal}
+use Rattle.lucid_scan.specs.declared.refusal.ScanRefusal.TheVariants as refusal
+use Rattle.lucid_explain_places.specs.Shown.{place_text}
+use Rattle.lucid_explain_source.specs.Characters.{begins, character_advice}
+
+abbrev pub list_advice : List ℕ
+list_advice = codes "A list of constants is written `[% 1 2 3 %]`, with blanks between its items and no commas. Of computed items it is `a :: b :: []`.\n"
+
+abbrev pub string_advice : List ℕ
+string_advice = codes "A string begins with a backquote and ends with ' in one line, as `two words'. It has printable ASCII alone, without these two.\n"
+
+-- of a byte of ASCII with which no token begins
+abbrev pub byte_advice : ℕ → List ℕ
+byte_advice b =
+    if b == 47 then codes "Division is `div`, and what it leaves over is `mod`. A comment begins with `//`.\n"
+    else if b == 46 then codes "There are no real numbers: write integers.\n"
+    else if b == 34 then codes "Between two \" stands one word: a letter, then letters and digits. The truths `true` and `false` stand without \", and other texts between a backquote and '.\n"
+    else if b == 39 then string_advice
+    else if b == 33 then codes "Write `ne` for what differs, and `not` before a truth.\n"
+    else if b == 38 then codes "Write `and`.\n"
+    else if b == 124 then codes "Write `or`.\n"
+    else if b == 37 then codes "What a division leaves over is `mod`.\n"
+    else if b == 91 || b == 93 then list_advice
+    else if b == 123 || b == 125 then codes "Parentheses group, and definitions stand between `where` and `end`.\n"
+    else if b == 95 then codes "A name begins with a letter.\n"
+    else if b == 58 then codes "A definition is written with `=`, and `::` puts a value in front of a list.\n"
+    else if b == 63 then codes "A choice is written `if .. then .. else .. fi`.\n"
+    else if b == 35 then codes "A comment begins with `//`.\n"
+    else if b == 64 then codes "The value at another time is `X attime T`.\n"
+    else if nat_lt b 32 || nat_lt 126 b then codes "Only in comments may other bytes stand than printable ASCII, tabs and line ends.\n"
+    else codes "No token begins with this byte.\n"
+
+-- A name ends there; so what follows directly isn't meant to begin something new.
+abbrev pub ends_name : (before : List ℕ) → Bool
+ends_name before = nat_lt 0 (suffix_len is_name_byte before)
+
+-- of a byte directly behind a name
+abbrev pub behind_advice : ℕ → List ℕ
+behind_advice b =
+    if b == 39 then codes "A name has letters, digits and `_` alone.\n"
+    else if b == 91 then codes "The value of n at time 2 is `n attime 2`, and item 2 of a list l, from 0, is `nth(l, 2)`.\n"
+    else byte_advice b
+
+-- of a byte of ASCII, by what stands before it
+abbrev pub ascii_advice : (before : List ℕ) → ℕ → List ℕ
+ascii_advice before b = if ends_name before then behind_advice b else byte_advice b
+
+-- of bytes with which no token begins, by what stands before them
+abbrev pub bad_advice : (before rest : List ℕ) → List ℕ
+bad_advice before rest = if nat_lt 127 (slice_index rest 0) then character_advice rest else ascii_advice before (slice_index rest 0)
+
+-- of a string or a list that has no end, or is no value, which begins so
+abbrev pub open_advice : (rest : List ℕ) → List ℕ
+open_advice rest =
+    if begins rest (codes "```") then codes "The fence ``` of a page is no part of a program: leave it out.\n"
+    else if slice_index rest 0 == 96 then string_advice
+    else list_advice
+
+abbrev pub big_advice : List ℕ
+big_advice = codes "The largest integer is 170141183460469231731687303715884105727, that is 2^127 - 1.\n"
+
+abbrev pub long_advice : List ℕ
+long_advice = codes "A source has at most 1,048,576 bytes.\n"
+
+-- Of a source that is refused so: the place, and what is said of it.
+abbrev pub scan_text : (file source : List ℕ) → ScanRefusal → List ℕ
+scan_text file source refusal.TooLong = long_advice
+scan_text file source (refusal.BadByte at) = place_text file source at ++ bad_advice (take at source) (drop at source)
+scan_text file source (refusal.OpenText at) = place_text file source at ++ open_advice (drop at source)
+scan_text file source (refusal.BigNumber at) = place_text file source at ++ big_advice
+scan_text file source refusal.NoMemory = codes ""

@@ -1,0 +1,209 @@
+//! What is said of a source that the scanner refuses.
+ghost use Rattle.std.specs.Prelude.{◌≡◌, ◌≤◌, ◌<◌, ◌++◌, length, take, drop, OnOk};
+ghost use Rattle.std.specs.List.{suffix_len};
+ghost use Rattle.lucid_value.specs.Names.{is_name_byte};
+ghost use Rattle.lucid_scan.specs.Refusals.{Refuses, most_source_bytes};
+ghost use Rattle.lucid_explain_source.specs.Advice.{byte_advice, ends_name, behind_advice, ascii_advice, bad_advice, open_advice, big_advice, long_advice, scan_text};
+ghost use Rattle.lucid_explain_places.specs.Shown.{place_text};
+
+use crate::characters::{begins, character_advice};
+use lucid_explain_places::put_place;
+use lucid_scan::ScanRefusal;
+use lucid_value::is_name_byte;
+use std::alloc::AllocError;
+
+const LIST: &[u8] =
+    b"A list of constants is written `[% 1 2 3 %]`, with blanks between its items and no commas. Of computed items it is `a :: b :: []`.\n";
+
+const STRING: &[u8] =
+    b"A string begins with a backquote and ends with ' in one line, as `two words'. It has printable ASCII alone, without these two.\n";
+
+// What is said of a byte of ASCII with which no token begins.
+fn byte_advice(byte: u8) -> &'static [u8]
+    ensures { result.now ≡ byte_advice byte }
+{
+    match byte {
+        b'/' =>
+            b"Division is `div`, and what it leaves over is `mod`. A comment begins with `//`.\n",
+        b'.' => b"There are no real numbers: write integers.\n",
+        b'"' =>
+            b"Between two \" stands one word: a letter, then letters and digits. The truths `true` and `false` stand without \", and other texts between a backquote and '.\n",
+        b'\'' => STRING,
+        b'!' => b"Write `ne` for what differs, and `not` before a truth.\n",
+        b'&' => b"Write `and`.\n",
+        b'|' => b"Write `or`.\n",
+        b'%' => b"What a division leaves over is `mod`.\n",
+        b'[' | b']' => LIST,
+        b'{' | b'}' => b"Parentheses group, and definitions stand between `where` and `end`.\n",
+        b'_' => b"A name begins with a letter.\n",
+        b':' => b"A definition is written with `=`, and `::` puts a value in front of a list.\n",
+        b'?' => b"A choice is written `if .. then .. else .. fi`.\n",
+        b'#' => b"A comment begins with `//`.\n",
+        b'@' => b"The value at another time is `X attime T`.\n",
+        0..=31 | 127..=255 =>
+            b"Only in comments may other bytes stand than printable ASCII, tabs and line ends.\n",
+        _ => b"No token begins with this byte.\n",
+    }
+}
+
+// How many bytes of a name stand at the end.
+fn len_of_last(before: &[u8]) -> usize
+    ensures { result ≡ suffix_len is_name_byte before.now }
+{
+    before
+        .iter()
+        .rev()
+        .take_while(|byte| is_name_byte(**byte))
+        .count()
+}
+
+// Whether a name ends there.
+fn ends_name(before: &[u8]) -> bool
+    ensures { result ≡ ends_name before.now }
+{
+    len_of_last(before) > 0
+}
+
+// What is said of a byte directly behind a name.
+fn behind_advice(byte: u8) -> &'static [u8]
+    ensures { result.now ≡ behind_advice byte }
+{
+    match byte {
+        b'\'' => b"A name has letters, digits and `_` alone.\n",
+        b'[' =>
+            b"The value of n at time 2 is `n attime 2`, and item 2 of a list l, from 0, is `nth(l, 2)`.\n",
+        _ => byte_advice(byte),
+    }
+}
+
+// What is said of a byte of ASCII, by what stands before it.
+fn ascii_advice(before: &[u8], byte: u8) -> &'static [u8]
+    ensures { result.now ≡ ascii_advice before.now byte }
+{
+    if ends_name(before) {
+        behind_advice(byte)
+    } else {
+        byte_advice(byte)
+    }
+}
+
+// What is said of bytes with which no token begins, by what stands before them.
+fn bad_advice(before: &[u8], rest: &[u8]) -> &'static [u8]
+    requires { 0 < length rest.now }
+    ensures { result.now ≡ bad_advice before.now rest.now }
+{
+    let byte = rest[0];
+    if byte > 127 {
+        character_advice(rest)
+    } else {
+        ascii_advice(before, byte)
+    }
+}
+
+// What is said of a string or a list that has no end, or is no value, which begins so.
+fn open_advice(rest: &[u8]) -> &'static [u8]
+    requires { 0 < length rest.now }
+    ensures { result.now ≡ open_advice rest.now }
+{
+    if begins(rest, b"```") {
+        b"The fence ``` of a page is no part of a program: leave it out.\n"
+    } else if rest[0] == b'`' {
+        STRING
+    } else {
+        LIST
+    }
+}
+
+// What is said of the bytes at a place with which no token begins.
+fn bad_advice_at(source: &[u8], at: usize) -> &'static [u8]
+    requires { at < length source.now }
+    ensures { result.now ≡ bad_advice (take at source.now) (drop at source.now) }
+{
+    bad_advice(&source[..at], &source[at..])
+}
+
+// What is said of a string or a list at a place that has no end, or is no value.
+fn open_advice_at(source: &[u8], at: usize) -> &'static [u8]
+    requires { at < length source.now }
+    ensures { result.now ≡ open_advice (drop at source.now) }
+{
+    open_advice(&source[at..])
+}
+
+// What is said of an integer that is too big.
+fn big_advice() -> &'static [u8]
+    ensures { result.now ≡ big_advice }
+{
+    b"The largest integer is 170141183460469231731687303715884105727, that is 2^127 - 1.\n"
+}
+
+// What is said of a source that is too long.
+fn long_advice() -> &'static [u8]
+    ensures { result.now ≡ long_advice }
+{
+    b"A source has at most 1,048,576 bytes.\n"
+}
+
+// Appends a place and what is said of it.
+fn put_advice(
+    text: &mut Vec<u8>,
+    file: &[u8],
+    source: &[u8],
+    at: u32,
+    advice: &[u8],
+) -> Result<(), AllocError>
+    requires within { at ≤ length source.now }
+    requires short { length source.now ≤ most_source_bytes }
+    ensures { OnOk result (text.new.items ≡ text.old.items ++ (place_text file.now source.now at ++ advice.now)) }
+{
+    put_place(text, file, source, at as usize)?;
+    text.extend_from_slice(advice)
+}
+
+// Appends what is said of a byte with which no token begins.
+#[tactic(auto, using(crate::proofs::Stuck::bad_within))]
+fn put_bad_byte(text: &mut Vec<u8>, file: &[u8], source: &[u8], at: u32) -> Result<(), AllocError>
+    requires { Refuses source.now (ScanRefusal.BadByte at) }
+    ensures { OnOk result (text.new.items ≡ text.old.items ++ scan_text file.now source.now (ScanRefusal.BadByte at)) }
+{
+    let advice = bad_advice_at(source, at as usize);
+    put_advice(text, file, source, at, advice)
+}
+
+// Appends what is said of a string or a list that has no end, or is no value.
+#[tactic(auto, using(crate::proofs::Stuck::open_within))]
+fn put_open_text(text: &mut Vec<u8>, file: &[u8], source: &[u8], at: u32) -> Result<(), AllocError>
+    requires { Refuses source.now (ScanRefusal.OpenText at) }
+    ensures { OnOk result (text.new.items ≡ text.old.items ++ scan_text file.now source.now (ScanRefusal.OpenText at)) }
+{
+    let advice = open_advice_at(source, at as usize);
+    put_advice(text, file, source, at, advice)
+}
+
+// Appends what is said of an integer that is too big.
+#[tactic(auto, using(crate::proofs::Stuck::big_within))]
+fn put_big_number(text: &mut Vec<u8>, file: &[u8], source: &[u8], at: u32) -> Result<(), AllocError>
+    requires { Refuses source.now (ScanRefusal.BigNumber at) }
+    ensures { OnOk result (text.new.items ≡ text.old.items ++ scan_text file.now source.now (ScanRefusal.BigNumber at)) }
+{
+    put_advice(text, file, source, at, big_advice())
+}
+
+/// Appends what is said of a source that the scanner refuses.
+pub fn put_scan(
+    text: &mut Vec<u8>,
+    file: &[u8],
+    source: &[u8],
+    refusal: ScanRefusal,
+) -> Result<(), AllocError>
+    requires { Refuses source.now refusal }
+    ensures { OnOk result (text.new.items ≡ text.old.items ++ scan_text file.now source.now refusal) }
+{
+    match refusal {
+        ScanRefusal::TooLong => text.extend_from_slice(long_advice()),
+        ScanRefusal::BadByte { at } => put_bad_byte(text, file, source, at),
+        ScanRefusal::OpenText { at } => put_open_text(text, file, source, at),
+        ScanRefusal::BigNumber { at } => put_big_number(text, file, source, at),
+        ScanRefusal::NoMemory => Ok(()),
+    }
+}

@@ -1,0 +1,400 @@
+//! What is said of a tree whose names are refused.
+ghost use Rattle.std.specs.Prelude.{◌≡◌, ◌≤◌, ◌∷◌, ◌++◌, List, Bool, find, length, IfOk, OnOk};
+ghost use Rattle.std.specs.Option.{option_copied};
+ghost use Rattle.std.specs.List.{list_any, prefix_len};
+ghost use Rattle.lucid_value.specs.Plain.{same_bytes};
+ghost use Rattle.lucid_value.specs.Names.{is_name_byte};
+ghost use Rattle.lucid_tree.specs.declared.tree.Def.{Def as PlainDef};
+ghost use Rattle.lucid_scan.specs.Refusals.{most_source_bytes};
+ghost use Rattle.lucid_explain_source.specs.Names.{name_front, name_at, is_function, is_plain, fits, told_text, advised_text, heads, is_before, earlier, headed, has_parameter, is_parameter, parameter_advice, found_text, again_text, twice_text, not_function_text, refusal_at, said_text, names_text};
+ghost use Rattle.lucid_explain_source.specs.Scopes.{lent, in_scope};
+
+use crate::definitions::put_definition;
+use crate::scopes::{find_in_scope, is_headed};
+use lucid_explain_places::put_place;
+use lucid_scope::ScopeRefusal;
+use lucid_tree::{Def, DefKind, Tree};
+use lucid_value::{Name, is_name_byte};
+use std::alloc::{AllocError, Global};
+
+/// The most definitions that are told.
+pub(crate) const MOST_TOLD: usize = 6;
+
+const TWICE: &[u8] =
+    b"A block defines a name once. Before this place stands another definition of it:\n";
+
+const PARAMETER: &[u8] = b"A list of parameters has each name once.\n";
+
+const NO_FUNCTION: &[u8] =
+    b"No function of this name is in scope here: define it, or mend its spelling.\n";
+
+const NOT_FUNCTION: &[u8] =
+    b"What this name stands for here has no parameters: write it without arguments.\n";
+
+const IS_FUNCTION: &[u8] = b"This is a function: its arguments stand behind it in parentheses.\n";
+
+const ARITY: &[u8] = b"A call has as many arguments as the function has parameters.\n";
+
+/// Which definitions are told.
+#[derive(Clone, Copy)]
+pub(crate) enum Wanted {
+    /// The functions.
+    Functions,
+    /// Those of plain names, which may be columns.
+    Columns,
+    /// Those of the name.
+    Named,
+    /// Those of the name that are no functions.
+    Plainly,
+}
+
+// How many bytes of a name stand at the beginning.
+fn len_of_name(rest: &[u8]) -> usize
+    ensures value { result ≡ prefix_len is_name_byte rest.now }
+    ensures within { result ≤ length rest.now }
+{
+    rest.iter().take_while(|byte| is_name_byte(**byte)).count()
+}
+
+/// The bytes of a name with which the rest of a source begins.
+pub fn name_front(rest: &[u8]) -> &[u8]
+    ensures value { result.now ≡ name_front rest.entry.now }
+    ensures within { length result.now ≤ length rest.entry.now }
+{
+    &rest[..len_of_name(rest)]
+}
+
+// The name at the place.
+fn name_at(source: &[u8], at: u32) -> &[u8]
+    ensures { result.now ≡ name_at source.now at }
+{
+    name_front(&source[source.len().min(at as usize)..])
+}
+
+fn is_function(kind: &DefKind) -> bool
+    ensures { result ≡ is_function kind.now }
+{
+    match kind {
+        DefKind::Function { .. } => true,
+        DefKind::Plain { .. } | DefKind::Current { .. } => false,
+    }
+}
+
+fn is_plain(kind: &DefKind) -> bool
+    ensures { result ≡ is_plain kind.now }
+{
+    match kind {
+        DefKind::Plain { .. } => true,
+        DefKind::Function { .. } | DefKind::Current { .. } => false,
+    }
+}
+
+// Whether the definition is told.
+fn fits(wanted: Wanted, name: &[u8], def: &Def) -> bool
+    ensures { result ≡ fits wanted name.now def.now }
+{
+    match wanted {
+        Wanted::Functions => is_function(&def.kind),
+        Wanted::Columns => is_plain(&def.kind),
+        Wanted::Named => def.name.bytes() == name,
+        Wanted::Plainly => def.name.bytes() == name && !is_function(&def.kind),
+    }
+}
+
+// Appends the definition, where it is told and there is room; and answers how much room is left.
+fn put_one(
+    text: &mut Vec<u8>,
+    source: &[u8],
+    def: &Def,
+    is_told: bool,
+    room: usize,
+) -> Result<usize, AllocError>
+    requires { length source.now ≤ most_source_bytes }
+    ensures { IfOk result (λ left. (fit : PlainDef → Bool) (rest : List PlainDef) → fit def.now ≡ is_told
+        → text.new.items ++ told_text source.now fit left rest ≡ text.old.items ++ told_text source.now fit room (def.now ∷ rest)) }
+{
+    if room > 0 && is_told {
+        put_definition(text, source, def)?;
+        Ok(room - 1)
+    } else {
+        Ok(room)
+    }
+}
+
+// Appends the first of the definitions that are told, at most so many.
+#[tactic(auto, using(crate::proofs::Lent::told_more))]
+fn put_told(
+    text: &mut Vec<u8>,
+    source: &[u8],
+    defs: &[&Def],
+    wanted: Wanted,
+    at: u32,
+    most: usize,
+) -> Result<(), AllocError>
+    requires { length source.now ≤ most_source_bytes }
+    ensures { OnOk result (text.new.items ≡ text.old.items ++ told_text source.now (fits wanted (name_at source.now at)) most (lent defs.now)) }
+{
+    let name = name_at(source, at);
+    let mut room = most;
+    for def in defs {
+        room = put_one(text, source, def, fits(wanted, name, def), room)?;
+    }
+    Ok(())
+}
+
+/// Appends an advice at a place, and the first of the definitions that are told, at most so many.
+pub(crate) fn put_advised(
+    text: &mut Vec<u8>,
+    source: &[u8],
+    defs: &[&Def],
+    at: u32,
+    advice: &[u8],
+    wanted: Wanted,
+    most: usize,
+) -> Result<(), AllocError>
+    requires { length source.now ≤ most_source_bytes }
+    ensures { OnOk result (text.new.items ≡ text.old.items ++ advised_text source.now (lent defs.now) at advice.now wanted most) }
+{
+    text.extend_from_slice(advice)?;
+    put_told(text, source, defs, wanted, at, most)
+}
+
+// The definitions whose own name stands at the place.
+#[tactic(auto, using(crate::proofs::Lent::heads_more))]
+fn heads<'a>(alloc: Global, defs: &[&'a Def], at: u32) -> Result<Vec<&'a Def>, AllocError>
+    ensures { IfOk result (λ those. lent those.items ≡ heads at (lent defs.now)) }
+{
+    let mut those = Vec::new(alloc);
+    for def in defs {
+        if def.at == at {
+            those.push(*def)?;
+        }
+    }
+    Ok(those)
+}
+
+// Whether one of these has the name.
+#[tactic(auto, using(crate::proofs::Lent::any_more))]
+fn has_name(these: &[&Def], name: &[u8]) -> bool
+    ensures { result ≡ list_any (λ other. same_bytes other.name name.now) (lent these.now) }
+{
+    for other in these {
+        if other.name.bytes() == name {
+            return true;
+        }
+    }
+    false
+}
+
+// Whether the definition stands before the place, and one of these has its name too.
+fn is_before(these: &[&Def], at: u32, def: &Def) -> bool
+    ensures { result ≡ is_before at (lent these.now) def.now }
+{
+    def.at < at && has_name(these, def.name.bytes())
+}
+
+// The first that stands before the place, of a name that one of these has too.
+#[tactic(auto, using(crate::proofs::Lent::find_more))]
+fn find_before<'a>(defs: &[&'a Def], these: &[&Def], at: u32) -> Option<&'a Def>
+    ensures { option_copied result ≡ find (is_before at (lent these.now)) (lent defs.now) }
+{
+    for def in defs {
+        if is_before(these, at, def) {
+            return Some(*def);
+        }
+    }
+    None
+}
+
+// The first whose own name, or a parameter of which, stands at the place.
+#[tactic(auto, using(crate::proofs::Lent::find_more))]
+fn headed<'a>(defs: &[&'a Def], at: u32) -> Option<&'a Def>
+    ensures { option_copied result ≡ headed at (lent defs.now) }
+{
+    for def in defs {
+        if is_headed(def, at) {
+            return Some(*def);
+        }
+    }
+    None
+}
+
+// Appends a definition, where one was found.
+fn put_found(text: &mut Vec<u8>, source: &[u8], found: Option<&Def>) -> Result<(), AllocError>
+    requires { length source.now ≤ most_source_bytes }
+    ensures { OnOk result (text.new.items ≡ text.old.items ++ found_text source.now (option_copied found.entry)) }
+{
+    match found {
+        Some(def) => put_definition(text, source, def),
+        None => Ok(()),
+    }
+}
+
+// Appends that a name stands again among the parameters of a function.
+fn put_among(text: &mut Vec<u8>, source: &[u8], among: Option<&Def>) -> Result<(), AllocError>
+    requires { length source.now ≤ most_source_bytes }
+    ensures { OnOk result (text.new.items ≡ text.old.items ++ (parameter_advice ++ found_text source.now (option_copied among.entry))) }
+{
+    text.extend_from_slice(PARAMETER)?;
+    put_found(text, source, among)
+}
+
+// Appends that a name stands again: behind the definition of it that stands before, or among the parameters of a function.
+fn put_again(
+    text: &mut Vec<u8>,
+    source: &[u8],
+    before: Option<&Def>,
+    among: Option<&Def>,
+) -> Result<(), AllocError>
+    requires { length source.now ≤ most_source_bytes }
+    ensures { OnOk result (text.new.items ≡ text.old.items ++ again_text source.now (option_copied before.entry) (option_copied among.entry)) }
+{
+    match before {
+        Some(def) => {
+            text.extend_from_slice(TWICE)?;
+            put_definition(text, source, def)
+        }
+        None => put_among(text, source, among),
+    }
+}
+
+// Appends what is said of a place at which a name stands again.
+fn put_twice(
+    alloc: Global,
+    text: &mut Vec<u8>,
+    source: &[u8],
+    defs: &[&Def],
+    at: u32,
+) -> Result<(), AllocError>
+    requires { length source.now ≤ most_source_bytes }
+    ensures { OnOk result (text.new.items ≡ text.old.items ++ twice_text source.now (lent defs.now) at) }
+{
+    let those = heads(alloc, defs, at)?;
+    put_again(
+        text,
+        source,
+        find_before(defs, &those, at),
+        headed(defs, at),
+    )
+}
+
+// Whether the name is one of these.
+fn is_among(name: &[u8], names: &[Name]) -> bool
+    ensures { result ≡ list_any (λ n. same_bytes n name.now) names.now }
+{
+    for other in names {
+        if other.bytes() == name {
+            return true;
+        }
+    }
+    false
+}
+
+// Whether the definition is a function with a parameter of the name.
+fn has_parameter(kind: &DefKind, name: &[u8]) -> bool
+    ensures { result ≡ has_parameter name.now kind.now }
+{
+    match kind {
+        DefKind::Function { parameters, .. } => is_among(name, parameters.items()),
+        DefKind::Plain { .. } | DefKind::Current { .. } => false,
+    }
+}
+
+// Whether one of them is.
+#[tactic(auto, using(crate::proofs::Lent::any_more))]
+fn is_parameter(defs: &[&Def], name: &[u8]) -> bool
+    ensures { result ≡ is_parameter name.now (lent defs.now) }
+{
+    for def in defs {
+        if has_parameter(&def.kind, name) {
+            return true;
+        }
+    }
+    false
+}
+
+// Appends what is said of a call of what is no function.
+fn put_not_function(
+    text: &mut Vec<u8>,
+    source: &[u8],
+    defs: &[&Def],
+    at: u32,
+) -> Result<(), AllocError>
+    requires { length source.now ≤ most_source_bytes }
+    ensures { OnOk result (text.new.items ≡ text.old.items ++ not_function_text source.now (lent defs.now) at) }
+{
+    if is_parameter(defs, name_at(source, at)) {
+        text.extend_from_slice(NOT_FUNCTION)
+    } else {
+        put_advised(text, source, defs, at, NOT_FUNCTION, Wanted::Plainly, 1)
+    }
+}
+
+// Appends what is said of a refusal, by the definitions in scope at its place.
+fn put_said(
+    alloc: Global,
+    text: &mut Vec<u8>,
+    source: &[u8],
+    defs: &[&Def],
+    refusal: &ScopeRefusal,
+) -> Result<(), AllocError>
+    requires { length source.now ≤ most_source_bytes }
+    ensures { OnOk result (text.new.items ≡ text.old.items ++ said_text source.now (lent defs.now) refusal.now) }
+{
+    match refusal {
+        ScopeRefusal::Twice { at } => put_twice(alloc, text, source, defs, *at),
+        ScopeRefusal::NoFunction { at } => {
+            put_advised(
+                text,
+                source,
+                defs,
+                *at,
+                NO_FUNCTION,
+                Wanted::Functions,
+                MOST_TOLD,
+            )
+        }
+        ScopeRefusal::NotFunction { at } => put_not_function(text, source, defs, *at),
+        ScopeRefusal::IsFunction { at } => {
+            put_advised(text, source, defs, *at, IS_FUNCTION, Wanted::Named, 1)
+        }
+        ScopeRefusal::Arity { at, .. } => {
+            put_advised(text, source, defs, *at, ARITY, Wanted::Named, 1)
+        }
+        ScopeRefusal::NoMemory => Ok(()),
+    }
+}
+
+// The place of a refusal.
+fn place_of(refusal: &ScopeRefusal) -> u32
+    ensures { result ≡ refusal_at refusal.now }
+{
+    match refusal {
+        ScopeRefusal::Twice { at }
+        | ScopeRefusal::NoFunction { at }
+        | ScopeRefusal::NotFunction { at }
+        | ScopeRefusal::IsFunction { at }
+        | ScopeRefusal::Arity { at, .. } => *at,
+        ScopeRefusal::NoMemory => 0,
+    }
+}
+
+/// Appends what is said of a tree whose names are refused: the place; what is wrong there; and the definition with which it is at odds, or the
+/// functions in scope.
+pub(crate) fn put_names(
+    alloc: Global,
+    text: &mut Vec<u8>,
+    file: &[u8],
+    source: &[u8],
+    tree: &Tree,
+    refusal: &ScopeRefusal,
+) -> Result<(), AllocError>
+    requires { length source.now ≤ most_source_bytes }
+    ensures { OnOk result (text.new.items ≡ text.old.items ++ names_text file.now source.now tree.now refusal.now) }
+{
+    let at = place_of(refusal);
+    let mut defs = Vec::new(alloc);
+    find_in_scope(&mut defs, tree, at)?;
+    put_place(text, file, source, source.len().min(at as usize))?;
+    put_said(alloc, text, source, &defs, refusal)
+}

@@ -1,6 +1,0 @@
-use Rattle.lucid_explanations.proofs.Common.{◌≡◌, drop, map}
-use Rattle.lucid_explanations.specs.Characters.{bytes_and_advice, first_advice}
-use Rattle.lucid_explanations.proofs.characters.character_advice.Given as goal
-
-abbrev pub invariant-loop-character : goal.invariant-loop-character
-invariant-loop-character l = first_advice (map bytes_and_advice l.characters) l.rest ≡ first_advice (map bytes_and_advice (drop l.character-index l.characters)) l.rest

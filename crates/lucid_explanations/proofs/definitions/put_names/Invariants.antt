@@ -1,7 +1,0 @@
-use Rattle.lucid_explanations.proofs.Common.{◌≡◌, ◌++◌, take, codes, flat_map}
-use Rattle.lucid_explanations.specs.Definitions.{name_text}
-use Rattle.lucid_explanations.proofs.definitions.put_names.Given as goal
-
-abbrev pub invariant-loop-other : goal.invariant-loop-other
-invariant-loop-other l =
-    l.text.items ≡ l.initial.text.items ++ flat_map (λ n. codes ", " ++ name_text n) (take l.other-index l.others)

@@ -1,6 +1,0 @@
-use Rattle.lucid_explanations.proofs.Common.{◌≡◌, drop, find, lent}
-use Rattle.lucid_explanations.specs.Names.{is_before}
-use Rattle.lucid_explanations.proofs.names.find_before.Given as goal
-
-abbrev pub invariant-loop-def : goal.invariant-loop-def
-invariant-loop-def l = find (is_before l.at (lent l.these)) (lent l.defs) ≡ find (is_before l.at (lent l.these)) (lent (drop l.def-index l.defs))

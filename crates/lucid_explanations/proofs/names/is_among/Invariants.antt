@@ -1,6 +1,0 @@
-use Rattle.lucid_explanations.proofs.Common.{◌≡◌, drop, list_any}
-use Rattle.lucid_value.specs.Plain.{same_bytes}
-use Rattle.lucid_explanations.proofs.names.is_among.Given as goal
-
-abbrev pub invariant-loop-other : goal.invariant-loop-other
-invariant-loop-other l = list_any (λ n. same_bytes n l.name) l.names ≡ list_any (λ n. same_bytes n l.name) (drop l.other-index l.names)

@@ -1,7 +1,0 @@
-use Rattle.lucid_explanations.proofs.Common.{◌≡◌, ◌++◌, drop, fits, told_text, lent}
-use Rattle.lucid_explanations.proofs.names.put_told.Given as goal
-
-abbrev pub invariant-loop-def : goal.invariant-loop-def
-invariant-loop-def l =
-    l.text.items ++ told_text l.source (fits l.wanted l.name) l.room (lent (drop l.def-index l.defs))
-    ≡ l.initial.text.items ++ told_text l.source (fits l.wanted l.name) l.most (lent l.defs)

@@ -1,5 +1,0 @@
-use Rattle.lucid_explanations.proofs.Common.{◌≡◌, drop, nat_eq, list_any}
-use Rattle.lucid_explanations.proofs.scopes.is_among.Given as goal
-
-abbrev pub invariant-loop-place : goal.invariant-loop-place
-invariant-loop-place l = list_any (λ place. nat_eq place l.at) l.places ≡ list_any (λ place. nat_eq place l.at) (drop l.place-index l.places)

@@ -1,5 +1,0 @@
-use Rattle.lucid_follow.proofs.Common.{arith}
-use Rattle.lucid_follow.proofs.rest.Look.count_on.Goals as goal
-
-pub returns-then-self-until-clause-inside : goal.returns-then-self-until-clause-inside
-returns-then-self-until-clause-inside c n h s = c.give.ensures.inside n (omega (arith, h)) (omega (arith, c.requires.below, c.requires.few, c.requires.until)) s

@@ -1,4 +1,0 @@
-use Rattle.lucid_follow.proofs.rest.taken.Goals as goal
-
-pub returns-in-Give-clause-inside : goal.returns-in-Give-clause-inside
-returns-in-Give-clause-inside c n h = c.settled.ensures.inside n

@@ -1,6 +1,0 @@
-pub mod Fed
-pub mod Follows
-pub mod RestPlans
-pub mod Told
-pub mod Checking
-pub mod Meant

@@ -1,2 +1,0 @@
-//! General lemmas: of nothing but numbers, options, results and lists as the standard library has them. No code.
-#![tactic(auto)]

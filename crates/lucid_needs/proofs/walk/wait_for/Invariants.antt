@@ -1,7 +1,0 @@
-use Rattle.lucid_needs.proofs.Common.{◌≡◌, ◌++◌}
-use Rattle.std.proofs.Common.{drop}
-use Rattle.lucid_needs.proofs.walk.wait_for.Given as goal
-
--- the last numbers wait
-abbrev pub invariant-loop-i : goal.invariant-loop-i
-invariant-loop-i l = l.waiting ≡ drop l.i l.numbers ++ l.initial.waiting

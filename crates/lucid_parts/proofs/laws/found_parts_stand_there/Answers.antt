@@ -1,6 +1,0 @@
-use Rattle.lucid_parts.specs.Parts.{all_parts}
-use Rattle.lucid_parts.proofs.Finding.{found-stands}
-use Rattle.lucid_parts.proofs.laws.found_parts_stand_there.Goals as goal
-
-pub returns : goal.returns
-returns c e x at h = found-stands at (all_parts e) x h

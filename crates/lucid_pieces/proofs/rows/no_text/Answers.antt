@@ -1,5 +1,0 @@
-use Rattle.lucid_pieces.specs.Judgments.{no_text}
-use Rattle.lucid_pieces.proofs.rows.no_text.Goals as goal
-
-pub returns : goal.returns
-returns c = no_text c.args.line c.requires

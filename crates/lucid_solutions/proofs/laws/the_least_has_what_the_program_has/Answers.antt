@@ -1,5 +1,0 @@
-use Rattle.lucid_solutions.proofs.Solutions.{has-its-stream}
-use Rattle.lucid_solutions.proofs.laws.the_least_has_what_the_program_has.Goals as goal
-
-pub returns : goal.returns
-returns g c = has-its-stream g.R.Run.call g.R.Run.runs

@@ -1,7 +1,0 @@
-use Rattle.lucid_sound.proofs.Common.{ScopeIsRight}
-use Rattle.lucid_sound.proofs.RightRows.{RightBefore}
-use Rattle.lucid_sound.proofs.nest.first_wrong_scope.Given as goal
-
--- the scopes before this one are right
-abbrev pub invariant-loop-id : goal.invariant-loop-id
-invariant-loop-id l = RightBefore ScopeIsRight l.rows l.id

@@ -1,7 +1,0 @@
-use Rattle.lucid_sound.proofs.Common.{NodeIsRight}
-use Rattle.lucid_sound.proofs.RightRows.{RightBefore}
-use Rattle.lucid_sound.proofs.nodes.first_wrong_node.Given as goal
-
--- the rows before this one are right
-abbrev pub invariant-loop-id : goal.invariant-loop-id
-invariant-loop-id l = RightBefore (NodeIsRight l.table) l.rows l.id

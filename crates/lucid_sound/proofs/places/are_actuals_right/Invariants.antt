@@ -1,6 +1,0 @@
-use Rattle.lucid_sound.proofs.Common.{drop, ◌↔◌, EachStandsIn}
-use Rattle.lucid_sound.proofs.places.are_actuals_right.Given as goal
-
--- all stand there where those from this one on do
-abbrev pub invariant-loop-actual : goal.invariant-loop-actual
-invariant-loop-actual l = EachStandsIn l.rows l.scope (drop l.actual-index l.actuals) ↔ EachStandsIn l.rows l.scope l.actuals

@@ -1,5 +1,0 @@
-use Rattle.lucid_why.proofs.OneText.{one_why}
-use Rattle.lucid_why.proofs.laws.one_why.Goals as goal
-
-pub returns : goal.returns
-returns c = one_why c.one_value.ensures

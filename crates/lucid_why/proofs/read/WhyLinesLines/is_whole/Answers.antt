@@ -1,6 +1,0 @@
-use Rattle.lucid_why.proofs.Added.{whole_by}
-use Rattle.lucid_why.proofs.read.WhyLinesLines.is_whole.Goals as goal
-
-pub returns : goal.returns
-returns c = whole_by c.one_value.ensures c.args.self.now c.is_empty.result c.args.self.now.judgments.len c.args.self.now.judgments.ok.0 c.is_empty.ensures
-    c.requires

@@ -1,5 +1,0 @@
-use Rattle.lucid_why.proofs.OneText.{why_lines_are}
-use Rattle.lucid_why.proofs.read.WhyLinesLines.lines_of_texts.Goals as goal
-
-pub returns : goal.returns
-returns c = why_lines_are
