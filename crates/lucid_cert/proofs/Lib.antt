@@ -25,3 +25,4 @@ pub mod WaitingOn
 pub mod StayingWanted
 pub mod DrawingOn
 pub mod WalkingWanted
+pub mod FoundRight

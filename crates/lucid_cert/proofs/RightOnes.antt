@@ -1,7 +1,7 @@
 -- A certificate that is right is found wrong nowhere.
 use Rattle.lucid_cert.proofs.CheckCommon.{subst, arith, contexts, IsOfRoot}
 use Rattle.lucid_cert.specs.Checked.{not_following, not_of_root}
-use Rattle.lucid_cert.specs.Laws.{RightIsNotWrong}
+use Rattle.lucid_cert.specs.CheckLaws.{RightIsNotWrong}
 
 pub right_is_not_wrong : RightIsNotWrong
 right_is_not_wrong T b w number right (not_following below follow wrong) = wrong (right.all number below)

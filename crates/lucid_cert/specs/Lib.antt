@@ -3,7 +3,7 @@ pub mod Checks
 pub mod Faults
 pub mod CheckReads
 pub mod Checked
-pub mod Laws
+pub mod CheckLaws
 pub mod Traces
 pub mod Makings
 pub mod Makers
@@ -11,3 +11,4 @@ pub mod Reads
 pub mod Certified
 pub mod Wanted
 pub mod Drawn
+pub mod Laws

@@ -7,6 +7,7 @@ pub use crate::uses::{applied, told};
 pub use crate::walk::certify;
 
 mod check;
+pub mod check_laws;
 mod compared;
 mod elements;
 mod fault;

@@ -225,14 +225,17 @@ fresh_askable inputs place bytes w same reached fresh =
 -- a stream that stands at a number is within what may be read, and so is its partly read line
 kept_at : (inputs : Inputs) (number : ℕ) (o : Option InputStream) → slice_get inputs.streams.items number ≡ o
     → ((stream_at inputs number).consumed ≤ inputs.most) × (length (stream_at inputs number).partial ≤ 4194305)
+    × (IsTrue (stream_at inputs number).ended → (stream_at inputs number).consumed < inputs.most)
 kept_at inputs number None is =
     let here : stream_at inputs number ≡ fresh_stream 0 =
     ap (λ o. unwrap_or o (fresh_stream 0)) (slice_get-map stream_of inputs.streams.items number ∙ ap (option_map stream_of) is) in
-    subst (λ s. (s.consumed ≤ inputs.most) × (length s.partial ≤ 4194305)) (sym here) (omega arith, omega arith)
+    subst (λ s. (s.consumed ≤ inputs.most) × (length s.partial ≤ 4194305) × (IsTrue s.ended → s.consumed < inputs.most)) (sym here)
+    (omega arith, omega arith, λ t. cc)
 kept_at inputs number (Some s) is =
     let here = at_is inputs.streams.items number s is in
     let within = inputs.within number s is in
-    subst (λ t. (t.consumed ≤ inputs.most) × (length t.partial ≤ 4194305)) (sym here) (within.consumed, s.partial.short)
+    subst (λ t. (t.consumed ≤ inputs.most) × (length t.partial ≤ 4194305) × (IsTrue t.ended → t.consumed < inputs.most)) (sym here)
+    (within.consumed, s.partial.short, within.ended)
 
 pub keeps_within : KeepsWithin
 keeps_within inputs number = kept_at inputs number (slice_get inputs.streams.items number) refl

@@ -17,11 +17,12 @@ ElementsFit = (s : Stream) (c : Contents) → Fits s c → (j : ℕ)
 abbrev pub FreshFits : Type 0
 FreshFits = (number : ℕ) (bytes : Option (List ℕ)) (place : Place) → IsFresh bytes place → FitsPlace (fresh_stream number) place
 
--- Whatever the places tell: of each stream no more bytes are consumed than may be read, and of its partly read line no more than
--- the first 4,194,305 bytes are kept.
+-- Whatever the places tell: of each stream no more bytes are consumed than may be read, and fewer where its end was met; and of its partly
+-- read line no more than the first 4,194,305 bytes are kept.
 abbrev pub KeepsWithin : Type 0
 KeepsWithin = (inputs : Inputs) (number : ℕ)
     → ((stream_at inputs number).consumed ≤ most_bytes inputs) × (length (stream_at inputs number).partial ≤ 4194305)
+    × (IsTrue (stream_at inputs number).ended → (stream_at inputs number).consumed < most_bytes inputs)
 
 -- No two streams are read from one place.
 abbrev pub PlacesDiffer : Type 0

@@ -12,8 +12,8 @@ pub fn fresh_fits()
     ensures { FreshFits }
 {}
 
-/// Whatever the places tell, no more bytes of a stream are consumed than may be, and of a partly read line no more are kept
-/// than its first 4,194,305 bytes.
+/// Whatever the places tell, no more bytes of a stream are consumed than may be, and fewer where its end was met; and of a partly
+/// read line no more are kept than its first 4,194,305 bytes.
 pub fn keeps_within()
     ensures { KeepsWithin }
 {}

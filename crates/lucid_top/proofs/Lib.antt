@@ -39,5 +39,7 @@ mod CountingSource
 mod InputSource
 mod Witnesses
 mod InputWitnesses
+mod CertificateWitnesses
+mod ColumnWitnesses
 pub mod Once
 pub mod Solutions

@@ -1,19 +1,16 @@
 -- What a check of a certificate promises, as it is seen from outside.
+use Rattle.lucid_cert.proofs.FoundRight.{input_there}
 use Rattle.lucid_cert.proofs.MeantSoFar.{most_of, within_most}
-use Rattle.lucid_top.proofs.Common.{◌≡◌, ℕ, ◌+◌, ◌<◌, ◌≤◌, List, [], ◌∷◌, length, map, get_or, Option, Some, None, Ok, Err, ◌⊎◌, inl, inr, refl, sym, ap, subst, ◌∙◌, arith, zero, suc, IfSome, slice_get, option_map, slice_get_within, slice_get-get_or, World, all_bytes, Elements, Table, equations_of, IsOverlong, KeepsTree, PlainTree, tree_stream, PlainWords, Told, HasElements, RunView, Stop, Outcome, viewed, most_input_bytes, WritesOnly, Why, IsRight, contexts, Checks, ConsumesFor, ConsumesNothing, EndsSo, IsCheckStop, IsLast, IsLastLine, IsProvedLine, LiesPast, NoneTellsPast, IsStopped, Proves, TellsPast, looked_at}
+use Rattle.lucid_top.proofs.Common.{◌≡◌, ℕ, ◌+◌, ◌<◌, ◌≤◌, List, [], ◌∷◌, length, map, get_or, Option, Some, Ok, Err, ◌⊎◌, inl, inr, refl, sym, ap, subst, ◌∙◌, arith, zero, suc, IfSome, slice_get, slice_get_within, slice_get-get_or, World, all_bytes, Elements, Table, equations_of, IsOverlong, KeepsTree, PlainTree, tree_stream, PlainWords, Told, HasElements, RunView, Stop, Outcome, viewed, most_input_bytes, WritesOnly, Why, IsRight, contexts, Checks, ConsumesFor, ConsumesNothing, EndsSo, IsCheckStop, IsLast, IsLastLine, IsProvedLine, LiesPast, NoneTellsPast, IsStopped, Proves, TellsPast, looked_at}
 use Rattle.std.proofs.Common.{Result}
-use Rattle.std.proofs.lemmas.Option.{get_or_from_slice_get}
 use Rattle.lucid_value.specs.Lines.{end_of_line}
 use Rattle.lucid_inputs.specs.Inputs.{streams, stream_at, most_bytes}
 use Rattle.lucid_inputs.specs.Laws.{KeepsWithin}
 use Rattle.lucid_inputs.specs.Streams.{Stream, fresh_stream}
 use Rattle.lucid_inputs.specs.declared.on_demand.Inputs.{Inputs}
-use Rattle.lucid_equations.specs.Ranges.{IsInRange, NodeNames, sizes}
-use Rattle.lucid_equations.specs.Rows.{row_at, node_at}
+use Rattle.lucid_equations.specs.Ranges.{IsInRange}
+use Rattle.lucid_equations.specs.Rows.{node_at}
 use Rattle.lucid_equations.specs.Values.{node_val}
-use Rattle.lucid_equations.specs.declared.rows.Node.TheVariants.{Input}
-use Rattle.lucid_equations.specs.declared.rows.NodeRow.{NodeRow}
-use Rattle.lucid_equations.proofs.Rising.{node-in_range}
 use Rattle.lucid_demand_steps.specs.Elements.{elements_read}
 use Rattle.lucid_cert_rules.specs.Certificates.{PlainJudgment}
 use Rattle.lucid_cert_rules.specs.Meant.{WhatFollowsIsMeant}
@@ -61,17 +58,6 @@ module _ (meant : WhatFollowsIsMeant) (T : Table) (range : IsInRange T) (b : Ele
     right = right;
     means = λ j last. subst (λ (x : PlainJudgment). StreamMeans (table_stream T) b x.time x.value) (is_last j last) root_means;
   }
-
--- the input of a row is there
-pub input_there : (T : Table) → IsInRange T → (id k : ℕ) → row_at T id ≡ Some (Input k) → k < length T.inputs
-input_there T range id k row = by (slice_get T.nodes id) refl row
-  where
-    by : (o : Option NodeRow) → slice_get T.nodes id ≡ o → option_map (λ r. r.node) o ≡ Some (Input k) → k < length T.inputs
-    by None at is = absurd (cc is)
-    by (Some r) at is =
-        let names = (node-in_range (sizes T) T.nodes id r range.2 (slice_get_within T.nodes id r at)).1 in
-        let node : (get_or T.nodes id r).node ≡ Input k = ap (λ (x : NodeRow). x.node) (get_or_from_slice_get T.nodes id r r at) ∙ cc is in
-        subst (NodeNames (sizes T)) node names
 
 -- A check of a table over inputs of which nothing was read, at these places.
 module _ (T : Table) (range : IsInRange T) (w : Why) (names : List (List ℕ)) (qs : List ℕ) (old new : Inputs) (before after : World) (o p : Told)

@@ -1,6 +1,7 @@
-//! The headline of a program in source form, and calls of which it speaks. Each is the contract of a function that does nothing.
+//! The headline of a program in source form, and calls of which it and the other clauses speak. Each is the contract of a function that does
+//! nothing.
 ghost use Rattle.lucid_top.specs.Headline.{HeadlineFollows};
-ghost use Rattle.lucid_top.specs.Witness.{CountingIsAWitness, DepthIsAWitness, InputIsAWitness};
+ghost use Rattle.lucid_top.specs.Witness.{CountingIsAWitness, DepthIsAWitness, InputIsAWitness, CheckIsAWitness, MakingIsAWitness, ColumnsAreAWitness};
 
 use lucid_scan::laws::texts_are_longest;
 use lucid_value::text_is_read;
@@ -32,4 +33,26 @@ pub fn input_is_a_witness()
     ensures { InputIsAWitness }
 {
     texts_are_longest();
+}
+
+/// The clauses speak of a call that checks a certificate: they say which line it writes, and that it is done where no call fails.
+pub fn check_is_a_witness()
+    ensures { CheckIsAWitness }
+{
+    texts_are_longest();
+}
+
+/// The clauses speak of a call that makes a certificate: they say of which value its text is, and that it is done where no call fails.
+pub fn making_is_a_witness()
+    ensures { MakingIsAWitness }
+{
+    texts_are_longest();
+}
+
+/// The clauses speak of a call that runs two columns: they say which bytes it writes, and that it is done where no call fails.
+pub fn columns_are_a_witness()
+    ensures { ColumnsAreAWitness }
+{
+    texts_are_longest();
+    text_is_read();
 }
