@@ -29,15 +29,17 @@ module _ (nu : Numbers) (so : Source) (p : Equations) (e : PlainTree) (c : Compi
     alike : HeldAlike nu so p held kept
     alike k s g = same_values (held k s) (kept (daton_of nu k) s) (forth k s) (λ v h. back k s v g h)
 
-    -- with the listed values held, equal at every approximation and point
-    listed-same : (n t s : ℕ) → eqhval p (record { element = b; held = kept }) n t s ≡ of_trees.hval (record { element = b; held = held }) n e empty t s
-    listed-same n t s =
-        ap (λ r. node_hval p (record { element = b; held = kept }) n r root t s) c.root ∙ sym (hval-same nu so p b held kept alike n e empty t s tt c.kept)
+  -- with the values held of all that is referred to from a list of points, what is held of the table is what is held of the tree
+  pub points-alike : (m : ℕ) (points : Points) (held : Referent → ℕ → Option PlainValue) (kept : Daton → ℕ → Option PlainValue)
+      → HoldsExactly (valued_entries b m e points) held → HoldsExactly (valued_datons p b m points) kept → HeldAlike nu so p held kept
+  points-alike m points held kept lists also =
+      alike held kept (valued_entries b m e points) (values-placed nu so p e c b m points) lists
+      (subst (λ xs. HoldsExactly xs kept) (valued_datons-are nu so p e c b m points) also)
 
-  -- with the values held of all that is referred to from a list of points, equal at every approximation and point
+  -- and the approximations are equal, at every point
   pub held-same : (m : ℕ) (points : Points) (held : Referent → ℕ → Option PlainValue) (kept : Daton → ℕ → Option PlainValue)
       → HoldsExactly (valued_entries b m e points) held → HoldsExactly (valued_datons p b m points) kept → (n t s : ℕ)
       → eqhval p (record { element = b; held = kept }) n t s ≡ of_trees.hval (record { element = b; held = held }) n e empty t s
-  held-same m points held kept lists also =
-      listed-same held kept (valued_entries b m e points) (values-placed nu so p e c b m points) lists
-      (subst (λ xs. HoldsExactly xs kept) (valued_datons-are nu so p e c b m points) also)
+  held-same m points held kept lists also n t s =
+      ap (λ r. node_hval p (record { element = b; held = kept }) n r root t s) c.root
+      ∙ sym (hval-same nu so p b held kept (points-alike m points held kept lists also) n e empty t s tt c.kept)

@@ -1,16 +1,19 @@
 -- The nodes of a tree's table mean their pieces.
-use Rattle.lucid_compile.proofs.Common.{◌≡◌, ℕ, suc, List, [], ◌∷◌, ◌++◌, Bool, true, false, if◌then◌else◌, Some, slice_get, inl, inr, refl, sym, ap, ◌∙◌, subst, PlainTree, form, name, call, block, PlainTrees, no_trees, tree, PlainDefs, no_defs, defines, defines_function, defines_current, In, in_left, in_right, in_either, IsWellMade, Env, Elements, Context, Equations, equations_of, Table, Numbers, Origin, Source, static_of, node_for, node_val, val, Compiles, place_of, freezes, in_body, Note, note, opening, piece, plain_right, current_right, parameter_notes, block_piece, noted_tree}
+use Rattle.lucid_compile.proofs.Common.{◌≡◌, ℕ, suc, List, [], ◌∷◌, ◌++◌, Bool, true, false, if◌then◌else◌, Some, slice_get, inl, inr, refl, sym, ap, ◌∙◌, subst, PlainTree, form, name, call, block, PlainTrees, no_trees, tree, PlainDefs, no_defs, defines, defines_function, defines_current, In, in_left, in_right, in_either, IsWellMade, Env, Elements, Context, Equations, equations_of, Table, Numbers, Origin, Source, static_of, node_for, node_val, node_hval, val, Daton, Referent, PlainValue, Option, Compiles, place_of, freezes, in_body, Note, note, opening, piece, plain_right, current_right, parameter_notes, block_piece, noted_tree}
 use Rattle.std.proofs.lemmas.List.Elements.{filter-append}
+use Rattle.lucid_tree.specs.Meaning as of_trees
 use Rattle.lucid_tree.proofs.Members.{found_in}
 use Rattle.lucid_equations.specs.Rows.{node_at}
 use Rattle.lucid_compile.specs.Static.{Static, outermost, in_block}
 use Rattle.lucid_compile.specs.Notes.{block_opens, notes, notes_in, notes_in_defs, is_piece}
 use Rattle.lucid_compile.specs.Settled.{pieces, numbers_of}
-use Rattle.lucid_compile.specs.Meant.{Matches, NodesMeanTheirPieces}
+use Rattle.lucid_compile.specs.Meant.{Matches, AreHeldOverPoints, NodesMeanTheirPieces}
 use Rattle.lucid_compile.proofs.Walking.{pieces_of}
 use Rattle.lucid_compile.proofs.Spots.{spots_for, all_spots, def_spots, spots}
 use Rattle.lucid_compile.proofs.Evaluated.{IsMet, kept-place, evaluated-met, environment-one}
 use Rattle.lucid_compile.proofs.Numbers.{value-same}
+use Rattle.lucid_compile.proofs.Same.{HeldAlike, hval-same}
+use Rattle.lucid_compile.proofs.Held.{points-alike}
 
 -- a piece that is noted stands among the places of the tree's nodes
 pub record IsSpot (os : List Origin) (n : Note) : Type 0 where
@@ -122,8 +125,20 @@ module _ (e : PlainTree) (t : Table) (so : Source) (made : IsWellMade e) (c : Co
       (λ j. node_val p b m (node-there i n there env r j) (sym g.context j) u s)
       ∙ value-same nu so p e c b m (record { tree = noted_tree n.kind; env = env }) u s r.0 r.1
 
+  -- with held values too
+  held-there : (i : ℕ) (n : Note) → slice_get (pieces e) i ≡ Some n → (env : Env) (x : Context) → Matches e n env x → (b : Elements)
+      (held : Referent → ℕ → Option PlainValue) (kept : Daton → ℕ → Option PlainValue) → AreHeldOverPoints e p b held kept → (m u s : ℕ)
+      → node_hval p (record { element = b; held = kept }) m (node_at t i) x u s
+      ≡ of_trees.hval (record { element = b; held = held }) m (noted_tree n.kind) env u s
+  held-there i n there env x g b held kept h m u s =
+      let r : IsMet nu so p (noted_tree n.kind) env = evaluated-met nu so p e c (noted_tree n.kind) env g.evaluated in
+      let alike : HeldAlike nu so p held kept = points-alike nu so p e c b h.limit h.points held kept h.of_tree h.of_table in
+      (λ j. node_hval p (record { element = b; held = kept }) m (node-there i n there env r j) (sym g.context j) u s)
+      ∙ sym (hval-same nu so p b held kept alike m (noted_tree n.kind) env u s r.0 r.1)
+
   pub pieces-mean : NodesMeanTheirPieces e p (node_at t)
   pieces-mean i n there env x g = (
     values-there i n there env x g,
+    held-there i n there env x g,
     λ f h. environment-one nu so p e c (noted_tree n.kind) (noted_tree n.kind) f env h.evaluated g.evaluated refl (h.context ∙ sym g.context),
   )
