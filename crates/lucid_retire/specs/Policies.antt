@@ -5,7 +5,7 @@ use Rattle.lucid_store.specs.Entries.{cleared}
 use Rattle.lucid_retire.specs.declared.policy.Policy.{Policy}
 use Rattle.lucid_retire.specs.declared.policy.Policy.TheVariants.{Keep, Nothing, Ages, Last}
 use Rattle.lucid_retire.specs.Aging.{most_of, after_turn, IsAgesTurn}
-use Rattle.lucid_retire.specs.Recency.{Recency, IsRecencyTurn}
+use Rattle.lucid_retire.specs.Recency.{IsRecencyTurn}
 
 abbrev pub keeps_all : Policy → Bool
 keeps_all (Keep k) = true
@@ -30,4 +30,4 @@ abbrev pub IsPolicyTurn : Policy → Policy → Stored → Stored → Type 0
 IsPolicyTurn (Keep k) after old new = (after ≡ Keep k) × (new ≡ old)
 IsPolicyTurn (Nothing n) after old new = (after ≡ Nothing n) × (new ≡ cleared old)
 IsPolicyTurn (Ages a) after old new = (after ≡ Ages (after_turn a)) × IsAgesTurn a old new
-IsPolicyTurn (Last r) after old new = (list : Recency) × (after ≡ Last list) × (list.room ≡ r.room) × IsRecencyTurn r list old new
+IsPolicyTurn (Last r) after old new = (after ≡ Last r) × IsRecencyTurn r.room old new

@@ -51,6 +51,7 @@ impl Ages {
     }
 
     // How many keys a turn leaves at most.
+    #[inline(always)]
     fn most(&self) -> u64
         ensures { result ≡ most_of self.now }
     {
@@ -58,6 +59,7 @@ impl Ages {
     }
 
     // Counts a turn, and says whether it sweeps.
+    #[inline(always)]
     fn count(&mut self) -> bool
         ensures counted { self.new ≡ after_turn self.old }
         ensures sweeps { result ≡ is_sweeping self.old }
@@ -72,6 +74,7 @@ impl Ages {
     }
 
     // Counts a turn, and sweeps if it is the time.
+    #[inline(always)]
     fn sweep_in_time(&mut self, warehouse: &mut Warehouse)
         ensures counted { self.new ≡ after_turn self.old }
         ensures sweeps { IsSparingTurn self.old warehouse.old warehouse.new }
@@ -96,7 +99,8 @@ impl Retire for Ages {
         false
     }
 
-    #[inline(never)]
+    // Most turns only count.
+    #[inline(always)]
     fn turn(&mut self, warehouse: &mut Warehouse)
         ensures turn { IsTurn false false (Some (most_of self.old)) warehouse.old warehouse.new }
         ensures counted { self.new ≡ after_turn self.old }

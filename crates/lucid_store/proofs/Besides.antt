@@ -185,6 +185,28 @@ count-put k es fs ages bs o old len =
     let found : is_some (lookup (same_key k) (beside es ages)) ≡ is_some o = found-beside k es ages ∙ ap is_some (sym old) in
     length-beside fs bs ∙ len ∙ (λ j. sym (length-beside es ages) j + cond (sym found j) 0 1)
 
+-- the keys after an insertion
+cons_either : (t : Bool) (k : Key) (xs ys : List Key) → k ∷ cond t xs ys ≡ cond t (k ∷ xs) (k ∷ ys)
+cons_either true k xs ys = refl
+cons_either false k xs ys = refl
+
+keys-insert : (k : Key) (v : Value) (es : List (Key × Value))
+    → keys_of (insert_entry same_key es k v) ≡ cond (is_some (lookup (same_key k) es)) (keys_of es) (keys_of es ++ k ∷ [])
+keys-insert k v [] = refl
+keys-insert k v (e ∷ es) = let rest = keys-insert k v es in
+    elim (same_key k e.0) as (λ t. keys_of (cond t ((e.0, v) ∷ es) (e ∷ insert_entry same_key es k v))
+    ≡ cond (is_some (cond t (Some e.1) (lookup (same_key k) es))) (e.0 ∷ keys_of es) (e.0 ∷ keys_of es ++ k ∷ [])) [
+      | true ↦ refl
+      | false ↦ ap (λ l. e.0 ∷ l) rest ∙ cons_either (is_some (lookup (same_key k) es)) e.0 (keys_of es) (keys_of es ++ k ∷ [])
+    ]
+
+pub put-keys : (k : Key) (v : Value) (es : List (Key × Value)) (ages : List ℕ) (fs : List (Key × Value)) (bs : List ℕ) → fs ≡ insert_entry same_key es k v
+    → keys_of (beside fs bs)
+    ≡ cond (is_some (lookup (same_key k) (beside es ages))) (keys_of (beside es ages)) (keys_of (beside es ages) ++ k ∷ [])
+put-keys k v es ages fs bs put =
+    keys-beside fs bs ∙ ap keys_of put ∙ keys-insert k v es
+    ∙ (λ i. cond (sym (found-beside k es ages) i) (sym (keys-beside es ages) i) (sym (keys-beside es ages) i ++ k ∷ []))
+
 -- ---- a look-up that renews
 
 renewed_from : (o : Option Entry) (v : Value) → option_map (λ (x : Entry). x.value) o ≡ Some v → option_map renewed o ≡ Some (fresh v)
@@ -249,6 +271,12 @@ module _ (es : List (Key × Value)) (ages : List ℕ) (i : ℕ) (k : Key) (v : V
       let apart : IsDistinct same_key (keys_of l) = subst (IsDistinct same_key) (sym (keys-beside es ages)) distinct in
       let out = swap_out same_key same_key_equiv (same_key k) (same_key_equiv.congr k) l i p index e apart (beside fs bs) new in
       λ q. out.updated.0 q
+
+  pub remove-keys : (fs : List (Key × Value)) (bs : List ℕ) → fs ≡ swap_remove es i (k, v) → keys_of (beside fs bs) ≡ swap_remove (keys_of (beside es ages)) i k
+  remove-keys fs bs f =
+      let within : i < length es = slice_get_within es i (k, v) at in
+      let some : 0 < length es = omega (arith, within) in
+      keys-beside fs bs ∙ ap keys_of f ∙ map-swap_remove (λ (e : Key × Value). e.0) es i (k, v) some ∙ ap (λ l. swap_remove l i k) (sym (keys-beside es ages))
 
   pub remove-sets : length ages ≡ length es → (fs : List (Key × Value)) (bs : List ℕ) (a : ℕ) → fs ≡ swap_remove es i (k, v) → bs ≡ swap_remove ages i a
       → Sets (beside es ages) (beside fs bs) k None
@@ -335,8 +363,8 @@ passes_key test (e ∷ l) x h = (elim (test e.0) as (λ t. test e.0 ≡ t → co
   | false ↦ λ t h. passes_key test l x h
 ]) refl h
 
-key_placed : (k : Key) (l : List (Key × Entry)) (i : ℕ) (x : Key) → place_of l k ≡ Some i → slice_get (keys_of l) i ≡ Some x → k ≡ x
-key_placed k l i x at here = (same_key_is_equality k x).0 (passes_key (same_key k) l x ((Found-position (same_key k) l i at).key ∙ here))
+pub key_placed_at : (k : Key) (l : List (Key × Entry)) (i : ℕ) (x : Key) → place_of l k ≡ Some i → slice_get (keys_of l) i ≡ Some x → k ≡ x
+key_placed_at k l i x at here = (same_key_is_equality k x).0 (passes_key (same_key k) l x ((Found-position (same_key k) l i at).key ∙ here))
 
 -- one key stands at a place
 pub same_place : (a b : Key) (l : List (Key × Entry)) (i : ℕ) → place_of l a ≡ Some i → place_of l b ≡ Some i → a ≡ b
@@ -344,7 +372,7 @@ same_place a b l i at also =
     let within : i < length l = (Found-position (same_key a) l i at).within in
     let x = some_from_test (slice_get l i) (is_some_within l i within) in
     let here : slice_get (keys_of l) i ≡ Some x.0.0 = slice_get-map (λ (e : Key × Entry). e.0) l i ∙ ap (option_map (λ (e : Key × Entry). e.0)) x.1 in
-    key_placed a l i x.0.0 at here ∙ sym (key_placed b l i x.0.0 also here)
+    key_placed_at a l i x.0.0 at here ∙ sym (key_placed_at b l i x.0.0 also here)
 
 pub none_placed : (k : Key) (l : List (Key × Entry)) → place_of l k ≡ None → lookup (same_key k) l ≡ None
 none_placed k l none = none_from_test (lookup (same_key k) l) (sym (some_index (same_key k) l) ∙ ap is_some none)

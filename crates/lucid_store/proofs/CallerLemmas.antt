@@ -1,5 +1,5 @@
 -- What a caller's proof cites of the words in `specs/Entries.antt`.
-use Rattle.lucid_store.proofs.Common.{◌≡◌, Bool, true, false, cond, Option, Some, None, refl, ap, sym, ◌∙◌, option_map, Key, Entry, same_key, renewed, same_key_is_equality, ◌⊎◌}
+use Rattle.lucid_store.proofs.Common.{◌≡◌, Bool, true, false, cond, Option, Some, None, refl, ap, sym, ◌∙◌, option_map, Key, Entry, same_key, renewed, same_key_is_equality}
 use Rattle.std.proofs.Common.{◌≢◌}
 use Rattle.lucid_value.specs.View.{plain}
 use Rattle.lucid_store.specs.Stored.{Stored}

@@ -2,4 +2,8 @@ pub mod Common
 pub mod AgeLemmas
 pub mod Besides
 pub mod TouchedLemmas
+pub mod PlaceLemmas
+pub mod OrderLemmas
+pub mod KeyOrders
+pub mod OrderedViews
 pub mod CallerLemmas

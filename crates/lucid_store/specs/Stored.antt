@@ -8,8 +8,10 @@ pub record Entry : Type 0 where
   pub value : Value
   pub age : ℕ
 
--- what is held, each key with its value and its age, how many values were lost for want of memory, and the key last touched
+-- what is held, each key with its value and its age, how many values were lost for want of memory, and the key last touched; and the held keys
+-- in the order of their last touches, the latest last, where that order is known
 pub record Stored : Type 0 where
   pub entries : List (Key × Entry)
   pub lost : ℕ
   pub touched : Option Key
+  pub order : Option (List Key)

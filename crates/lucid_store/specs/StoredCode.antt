@@ -15,5 +15,6 @@ entries_code = coded_list (coded× key.the_row.coded entry_code)
 
 abbrev pub stored_code : Coded Stored
 stored_code =
-    code_by (List (Key × Entry) × (ℕ × Option Key)) (coded× entries_code (coded× coded_ℕ (coded_option key.the_row.coded)))
-    (λ w. (w.entries, (w.lost, w.touched))) (λ p. record { entries = p.0; lost = p.1.0; touched = p.1.1 }) (λ _. refl)
+    code_by (List (Key × Entry) × (ℕ × (Option Key × Option (List Key))))
+    (coded× entries_code (coded× coded_ℕ (coded× (coded_option key.the_row.coded) (coded_option (coded_list key.the_row.coded)))))
+    (λ w. (w.entries, (w.lost, (w.touched, w.order)))) (λ p. record { entries = p.0; lost = p.1.0; touched = p.1.1.0; order = p.1.1.1 }) (λ _. refl)

@@ -1,7 +1,7 @@
 //! Values by their keys, with their ages beside them.
 
-ghost use Rattle.std.specs.Prelude.{◌≡◌, ℕ, ◌+◌, ◌≤◌, ◌<◌, [], Some, None, OnOk, OnErr, IfErr, IfNone, if◌then◌else◌, is_some, length, option_map, option_and_then, option_copied};
-ghost use Rattle.std.specs.List.{AllWithin};
+ghost use Rattle.std.specs.Prelude.{◌≡◌, ℕ, ◌+◌, ◌++◌, ◌∷◌, ◌≤◌, ◌<◌, [], Some, None, OnOk, OnErr, IfOk, IfErr, IfNone, if◌then◌else◌, is_some, length, option_map, option_and_then, option_copied};
+ghost use Rattle.std.specs.List.{AllWithin, position_or_len, swap_remove};
 ghost use Rattle.std.specs.Map.{lookup, keys_of};
 ghost use Rattle.std.specs.List.{IsDistinct};
 ghost use Rattle.lucid_tags.specs.declared.Key.{Key};
@@ -95,28 +95,34 @@ impl Datons {
         ensures found { is_some result ≡ is_some (lookup (same_key key) self.old) }
         ensures kept { IfNone result (self.new ≡ self.old) }
         ensures value { option_and_then (value_in self.new) result ≡ option_map (λ e. e.value) (lookup (same_key key) self.old) }
+        ensures place { result ≡ place_of self.old key }
+        ensures keys { keys_of self.new ≡ keys_of self.old }
+        ensures one_for_each { IsDistinct same_key (keys_of self.old) }
     {
         let index = self.values.get_index_of(&key)?;
         self.ages.reset(index);
         Some(index)
     }
 
-    /// Holds a value under a key, with age 0. For want of memory it comes back and the entries stay; a key that has an entry
-    /// takes no memory.
-    pub(crate) fn put(&mut self, key: Key, value: Value) -> Result<(), Value>
+    /// Holds a value under a key, with age 0, and gives the key's place: its own, or the one behind the others. For want of memory
+    /// the value comes back and the entries stay; a key that has an entry takes no memory.
+    pub(crate) fn put(&mut self, key: Key, value: Value) -> Result<usize, Value>
         ensures entries { OnOk result (Sets self.old self.new key (Some (fresh value))) }
         ensures count { OnOk result (length self.new ≡ length self.old + (if is_some (lookup (same_key key) self.old) then 0 else 1)) }
         ensures value_returned { IfErr result (λ v. v ≡ value) }
         ensures err { OnErr result (self.new ≡ self.old) }
         ensures absent { OnErr result (lookup (same_key key) self.old ≡ None) }
+        ensures place { IfOk result (λ index. index ≡ position_or_len (same_key key) (keys_of self.old)) }
+        ensures keys { OnOk result (keys_of self.new ≡ (if is_some (lookup (same_key key) self.old) then keys_of self.old else keys_of self.old ++ key ∷ [])) }
+        ensures one_for_each { IsDistinct same_key (keys_of self.old) }
     {
         match self.values.insert_full(key, value) {
             Ok((index, Some(_))) => {
                 self.ages.reset(index);
-                Ok(())
+                Ok(index)
             }
-            Ok((_, None)) => match self.ages.add() {
-                Ok(()) => Ok(()),
+            Ok((index, None)) => match self.ages.add() {
+                Ok(()) => Ok(index),
                 // A value without room for its age goes again.
                 Err(_) => {
                     let (_, value) = self.values.pop().unwrap();
@@ -127,12 +133,14 @@ impl Datons {
         }
     }
 
-    // Removes the entry at a place, and gives its key. The last entry takes its place.
-    fn remove(&mut self, index: usize) -> Key
+    /// Removes the entry at a place, and gives its key. The last entry takes its place.
+    pub(crate) fn remove(&mut self, index: usize) -> Key
         requires { index < length self.old }
         ensures place { place_of self.old result ≡ Some index }
         ensures entries { Sets self.old self.new result None }
         ensures count { length self.new + 1 ≡ length self.old }
+        ensures keys { keys_of self.new ≡ swap_remove (keys_of self.old) index result }
+        ensures one_for_each { IsDistinct same_key (keys_of self.old) }
         ensures later { (most : ℕ) → AllWithin (λ age. age ≤ most) (ages_of self.old) (index + 1) (length self.old) → AllWithin (λ age. age ≤ most) (ages_of self.new) index (length self.new) }
     {
         let (key, _) = self.values.swap_remove_index(index).unwrap();

@@ -9,4 +9,5 @@ pub use warehouse::Warehouse;
 
 mod ages;
 mod datons;
+mod order;
 mod warehouse;

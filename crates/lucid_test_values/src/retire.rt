@@ -41,7 +41,7 @@ fn wrong_of_last(alloc: Global) -> Result<Option<usize>, Fail> {
         !warehouse.remove(a),
         warehouse.remove(b),
         warehouse.remove(c),
-        last.unlisted() == 0,
+        warehouse.lost() == 0,
     ];
     Ok(first_false(&facts))
 }

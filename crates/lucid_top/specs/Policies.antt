@@ -1,5 +1,5 @@
 -- The policy that the words name.
-use Rattle.std.specs.Prelude.{ℕ, ◌+◌, ◌*◌, true, false, [], Option, Some, None}
+use Rattle.std.specs.Prelude.{ℕ, ◌+◌, ◌*◌, true, false, Option, Some, None}
 use Rattle.lucid_session.specs.Runs.{PolicyView}
 use Rattle.lucid_retire.specs.declared.policy.Policy.{Policy}
 use Rattle.lucid_retire.specs.declared.policy.Policy.TheVariants as retire
@@ -24,7 +24,7 @@ abbrev pub policy_asked : PolicyWord → (age room : ℕ) → Policy
 policy_asked policy.Keep age room = retire.Keep (record {})
 policy_asked policy.Nothing age room = retire.Nothing (record {})
 policy_asked policy.Ages age room = retire.Ages (record { every = turns_between_sweeps; limit = age; since = 0 })
-policy_asked policy.Last age room = retire.Last (record { keys = []; room = room; unlisted = 0 })
+policy_asked policy.Last age room = retire.Last (record { room = room })
 
 -- What the policy of the words does. Where they are refused, nothing is run.
 abbrev pub policy_by : Option PlainWords → PolicyView

@@ -1,5 +1,5 @@
-use Rattle.lucid_store.proofs.Common.{◌≡◌, true, Some, None, is_some, sym, ap, ◌∙◌, lookup, same_key, beside}
-use Rattle.lucid_store.proofs.Besides.{put-known, put-new, put-popped, count-put, none-beside}
+use Rattle.lucid_store.proofs.Common.{◌≡◌, true, Some, None, is_some, sym, ap, ◌∙◌, lookup, position_or_len, same_key, beside}
+use Rattle.lucid_store.proofs.Besides.{put-known, put-new, put-popped, count-put, none-beside, keys-beside, put-keys}
 use Rattle.lucid_store.proofs.datons.Datons.put.Goals as goal
 
 pub returns-in-Ok-default-Some-clause-entries : goal.returns-in-Ok-default-Some-clause-entries
@@ -53,3 +53,33 @@ pub returns-in-Ok-default-None-clause-absent : goal.returns-in-Ok-default-None-c
 returns-in-Ok-default-None-clause-absent c =
     let none : lookup (same_key c.args.key) c.self.inside.values.entries ≡ None = sym c.in-Ok-default-None.ensures.old ∙ c.in-Ok-default-None.field-0-1-is in
     rw (← c.self.view_is) (none-beside c.args.key c.self.inside.values.entries c.self.inside.ages none)
+
+pub returns-in-Ok-default-Some-clause-place : goal.returns-in-Ok-default-Some-clause-place
+returns-in-Ok-default-Some-clause-place c = c.in-Ok-default-Some.ensures.index
+    ∙ rw (← c.self.view_is) (ap (position_or_len (same_key c.args.key)) (sym (keys-beside c.self.inside.values.entries c.self.inside.ages)))
+
+pub returns-in-Ok-default-Some-clause-keys : goal.returns-in-Ok-default-Some-clause-keys
+returns-in-Ok-default-Some-clause-keys c = rw (← c.self.view_is)
+    (put-keys c.args.key c.args.value c.self.inside.values.entries c.self.inside.ages c.insert_full.new.self.entries c.reset.new.self
+    c.in-Ok-default-Some.ensures.entries)
+
+pub returns-in-Ok-default-Some-clause-one_for_each : goal.returns-in-Ok-default-Some-clause-one_for_each
+returns-in-Ok-default-Some-clause-one_for_each c = rw (← c.self.view_is, keys-beside c.self.inside.values.entries c.self.inside.ages) c.self.invariant.1
+
+pub returns-in-Ok-clause-place : goal.returns-in-Ok-clause-place
+returns-in-Ok-clause-place c = c.in-Ok-default-None.ensures.index
+    ∙ rw (← c.self.view_is) (ap (position_or_len (same_key c.args.key)) (sym (keys-beside c.self.inside.values.entries c.self.inside.ages)))
+
+pub returns-in-Ok-clause-keys : goal.returns-in-Ok-clause-keys
+returns-in-Ok-clause-keys c = rw (← c.self.view_is)
+    (put-keys c.args.key c.args.value c.self.inside.values.entries c.self.inside.ages c.insert_full.new.self.entries c.add.new.self
+    c.in-Ok-default-None.ensures.entries)
+
+pub returns-in-Ok-clause-one_for_each : goal.returns-in-Ok-clause-one_for_each
+returns-in-Ok-clause-one_for_each c = rw (← c.self.view_is, keys-beside c.self.inside.values.entries c.self.inside.ages) c.self.invariant.1
+
+pub returns-in-Ok-default-None-clause-one_for_each : goal.returns-in-Ok-default-None-clause-one_for_each
+returns-in-Ok-default-None-clause-one_for_each c = rw (← c.self.view_is, keys-beside c.self.inside.values.entries c.self.inside.ages) c.self.invariant.1
+
+pub returns-clause-one_for_each : goal.returns-clause-one_for_each
+returns-clause-one_for_each c = rw (← c.self.view_is, keys-beside c.self.inside.values.entries c.self.inside.ages) c.self.invariant.1

@@ -1,6 +1,6 @@
 use Rattle.lucid_store.proofs.Common.{◌≡◌, ◌+◌, ◌≤◌, ◌<◌, length, slice_get, Some, IfSome, refl, ap, sym, subst, ◌∙◌, arith, position, is_some, AllWithin, swap_remove, beside, ages_of, same_key, if◌then◌else◌}
 use Rattle.lucid_store.proofs.AgeLemmas.{moved-last, moved-other, length-moved}
-use Rattle.lucid_store.proofs.Besides.{keys-beside, length-beside, ages-beside, place-removed, remove-sets, later_stays, is_some_within}
+use Rattle.lucid_store.proofs.Besides.{keys-beside, length-beside, ages-beside, place-removed, remove-keys, remove-sets, later_stays, is_some_within}
 use Rattle.lucid_store.proofs.datons.Datons.remove.Goals as goal
 
 pub unwrap-requires : goal.unwrap-requires
@@ -63,3 +63,16 @@ returns-clause-later c = λ most all.
     (subst (λ l. AllWithin (λ age. age ≤ most) l (c.args.index + 1) n) (ages-beside c.self.inside.values.entries c.self.inside.ages c.self.invariant.0)
     (subst (λ m. AllWithin (λ age. age ≤ most) (ages_of (beside c.self.inside.values.entries c.self.inside.ages)) (c.args.index + 1) m)
     (old ∙ sym c.self.invariant.0) (rw c.self.view_is all))) k d)
+
+pub returns-clause-keys : goal.returns-clause-keys
+returns-clause-keys c =
+    let at : slice_get c.self.inside.values.entries c.args.index ≡ Some (c.unwrap.result.0, c.unwrap.result.1) = sym c.swap_remove_index.ensures.entry
+    ∙ c.unwrap.ensures in
+    let left : c.swap_remove_index.new.self.entries ≡ swap_remove c.self.inside.values.entries c.args.index (c.unwrap.result.0, c.unwrap.result.1) =
+    subst (λ r. IfSome r (λ p. c.swap_remove_index.new.self.entries ≡ swap_remove c.self.inside.values.entries c.args.index p)) c.unwrap.ensures
+    c.swap_remove_index.ensures.entries in
+    rw (← c.self.view_is) (remove-keys c.self.inside.values.entries c.self.inside.ages c.args.index c.unwrap.result.0 c.unwrap.result.1 c.self.invariant.1 at
+    c.swap_remove_index.new.self.entries c.swap_remove.new.self left)
+
+pub returns-clause-one_for_each : goal.returns-clause-one_for_each
+returns-clause-one_for_each c = rw (← c.self.view_is, keys-beside c.self.inside.values.entries c.self.inside.ages) c.self.invariant.1

@@ -1,5 +1,5 @@
-use Rattle.lucid_store.proofs.Common.{◌≡◌, None, is_some, sym, ap, ◌∙◌, option_map, option_and_then, lookup, slice_get-map, Value, Key, Entry, same_key, beside, value_in, renewed}
-use Rattle.lucid_store.proofs.Besides.{absent-sets, none-beside, none_from_test, some_from_test, length-beside, value-beside, value_in-beside, found-beside, renew-sets}
+use Rattle.lucid_store.proofs.Common.{◌≡◌, None, is_some, position, sym, ap, ◌∙◌, option_map, option_and_then, lookup, slice_get-map, Value, Key, Entry, same_key, beside, value_in, renewed}
+use Rattle.lucid_store.proofs.Besides.{absent-sets, none-beside, none_from_test, some_from_test, length-beside, value-beside, value_in-beside, found-beside, renew-sets, keys-beside}
 use Rattle.lucid_store.proofs.datons.Datons.renew.Goals as goal
 
 pub returns-in_err-index-clause-entries : goal.returns-in_err-index-clause-entries
@@ -38,3 +38,20 @@ pub returns-clause-value : goal.returns-clause-value
 returns-clause-value c = rw (← c.self.view_is) (value_in-beside c.self.inside.values.entries c.reset.new.self c.in_ok-index.index
     ∙ sym (slice_get-map (λ (e : Key × Value). e.1) c.self.inside.values.entries c.in_ok-index.index) ∙ c.in_ok-index.ensures.value
     ∙ sym (value-beside c.args.key c.self.inside.values.entries c.self.inside.ages))
+
+pub returns-in_err-index-clause-place : goal.returns-in_err-index-clause-place
+returns-in_err-index-clause-place c = c.from_residual.ensures ∙ c.in_err-index.ensures.index
+    ∙ rw (← c.self.view_is) (ap (position (same_key c.args.key)) (sym (keys-beside c.self.inside.values.entries c.self.inside.ages)))
+
+pub returns-in_err-index-clause-one_for_each : goal.returns-in_err-index-clause-one_for_each
+returns-in_err-index-clause-one_for_each c = rw (← c.self.view_is, keys-beside c.self.inside.values.entries c.self.inside.ages) c.self.invariant.1
+
+pub returns-clause-place : goal.returns-clause-place
+returns-clause-place c = c.in_ok-index.ensures.index
+    ∙ rw (← c.self.view_is) (ap (position (same_key c.args.key)) (sym (keys-beside c.self.inside.values.entries c.self.inside.ages)))
+
+pub returns-clause-keys : goal.returns-clause-keys
+returns-clause-keys c = rw (← c.self.view_is) (keys-beside c.self.inside.values.entries c.reset.new.self ∙ sym (keys-beside c.self.inside.values.entries c.self.inside.ages))
+
+pub returns-clause-one_for_each : goal.returns-clause-one_for_each
+returns-clause-one_for_each c = rw (← c.self.view_is, keys-beside c.self.inside.values.entries c.self.inside.ages) c.self.invariant.1

@@ -7,4 +7,5 @@ returns c = rw (← c.self.view_is) (record {
   touched = c.held_only-self-inside.ensures;
   lost = refl;
   count = c.sweep.ensures.count;
+  order = refl;
 })
